@@ -1,0 +1,17 @@
+pub mod SequenceLemmas
+pub mod SegmentationLemmas
+pub mod DeterminedLemmas
+pub mod ByteLemmas
+pub mod Progress
+pub mod OutputLemmas
+pub mod CallLemmas
+pub mod ComingLemmas
+pub mod MachineLemmas
+pub mod Turns
+pub mod ReplacingLemmas
+pub mod DecoderLemmas
+pub mod Utf8Lemmas
+pub mod Utf8Undetermined
+pub mod Utf8Comes
+pub mod Utf8Texts
+pub mod Utf8Calls

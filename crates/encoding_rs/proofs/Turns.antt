@@ -1,0 +1,269 @@
+-- Calls, one behind another: what a loop keeps that goes on behind each malformed sequence.
+use Rattle.std.proofs.Common.{◌≡◌, ℕ, ◌+◌, ◌-◌, ◌<◌, ◌≤◌, Bool, true, false, List, [], ◌∷◌, ◌++◌, length, take, drop, refl, ap, ◌∙◌, sym, arith, append_assoc, ◌||◌, inl, inr, subst, ◌⊎◌, drop-drop, length-drop}
+use Rattle.std.proofs.lemmas.Bool.{false≢true}
+use Rattle.std.proofs.lemmas.List.{append-nil, take-append-drop, length-append}
+use Rattle.encoding_rs.specs.declared.decoder_result.DecoderResult.TheVariants.{InputEmpty, OutputFull, Malformed}
+use Rattle.encoding_rs.specs.Output.{units_of_text}
+use Rattle.encoding_rs.specs.Sequence.{Sequence, bytes_of, text_of, is_malformed, is_repeated_escape, any_malformed, set_after}
+use Rattle.encoding_rs.specs.Remainder.{Remainder, AreBytes, Begins, Determines, AreDetermined}
+use Rattle.encoding_rs.specs.Call.{Call, Replaced, Reported, ReadsReported}
+use Rattle.encoding_rs.proofs.SequenceLemmas.{bytes_of-append, units-append, any_malformed-append, set_after-append, units-one, or_false, or_true}
+use Rattle.encoding_rs.proofs.DeterminedLemmas.{begins_behind, determines_fewer}
+use Rattle.encoding_rs.proofs.ByteLemmas.{bytes-append, bytes-take, bytes-drop, determines_by_more}
+use Rattle.std.proofs.Math.Seq.{take-add}
+
+-- what has been done of an offer, so far
+pub record Turned (units_of : ℕ → List ℕ) (old : Remainder) (src : List ℕ) (last : Bool) (room read : ℕ) (now : Remainder) (wrote : List ℕ) (replaced : Bool) : Type 0 where
+  pub done : List Sequence
+  pub within : read ≤ length src
+  pub residual : (z : List ℕ) → (last ≡ true → z ≡ []) → old.sequences (src ++ z) ≡ done ++ now.sequences (drop read src ++ z)
+  pub goes_on : (y : List ℕ) → Begins done (old.sequences (take read src ++ y)) → old.sequences (take read src ++ y) ≡ done ++ now.sequences y
+  pub accounted : old.pending ++ take read src ≡ bytes_of done ++ now.pending
+  pub set : now.set ≡ set_after old.set done
+  pub text : wrote ≡ units_of_text units_of (text_of done)
+  pub fits : length wrote ≤ room
+  pub flag : replaced ≡ any_malformed done
+  pub determined : AreDetermined last old.sequences src done
+  pub shown_next : read < length src → Determines old.sequences (take (read + 1) src) done
+  pub none_behind : (read ≡ 0) ⊎ ((s : Sequence) → Determines old.sequences (take read src) (done ++ s ∷ []) → ⊥)
+
+nothing_determined : (last : Bool) (remaining : List ℕ → List Sequence) (x : List ℕ) → AreDetermined last remaining x []
+nothing_determined true remaining x = (remaining x, refl)
+nothing_determined false remaining x = λ z _. (remaining (x ++ z), refl)
+
+pub start : (units_of : ℕ → List ℕ) (old : Remainder) (src : List ℕ) (last : Bool) (room : ℕ) → Turned units_of old src last room 0 old [] false
+start units_of old src last room = record {
+  done = [];
+  within = omega arith;
+  residual = λ z n. refl;
+  goes_on = λ y b. refl;
+  accounted = append-nil old.pending;
+  set = refl;
+  text = refl;
+  fits = omega arith;
+  flag = refl;
+  determined = nothing_determined last old.sequences src;
+  shown_next = λ h z b. (old.sequences (take (0 + 1) src ++ z), refl);
+  none_behind = inl refl;
+}
+
+one_and : (m : ℕ) → m + 1 ≡ 1 + m
+one_and m = omega arith
+
+and_one : (m n : ℕ) → m + n + 1 ≡ m + (n + 1)
+and_one m n = omega arith
+
+no_more : (m n : ℕ) → n ≡ 0 → m + n ≡ m
+no_more m n e = omega arith
+
+still_full : {all : ℕ} (room wrote more next : ℕ) → wrote ≤ room → all ≡ wrote + more → room - wrote < more + next → room < all + next
+still_full room wrote more next h e f = omega arith
+
+first_of : (ss : List Sequence) (s : Sequence) → (f : Sequence) × (rest : List Sequence) × (ss ++ s ∷ [] ≡ f ∷ rest)
+first_of [] s = (s, [], refl)
+first_of (f ∷ ss) s = (f, ss ++ s ∷ [], refl)
+
+-- the byte that is next shows what is reported
+reads_next : (late : Bool) (remaining : List ℕ → List Sequence) (src : List ℕ) (ss : List Sequence) (n : ℕ) (pending : List ℕ) → AreBytes src
+    → ReadsReported late remaining src ss n pending → n < length src → Determines remaining (take (n + 1) src) ss
+reads_next true remaining src ss n pending b r h = determines_by_more remaining src n (n + 1) ss b (omega arith) r.shown
+reads_next false remaining src ss n pending b r h = r.shown_next h
+
+any_malformed-last : (ss : List Sequence) (s : Sequence) → is_malformed s.kind ≡ true → any_malformed (ss ++ s ∷ []) ≡ true
+any_malformed-last ss s e = any_malformed-append ss (s ∷ []) ∙ ap (λ b. any_malformed ss || (b || false)) e ∙ or_true (any_malformed ss)
+
+module _ (units_of : ℕ → List ℕ) (old : Remainder) (src : List ℕ) (bytes : AreBytes src) (last : Bool) (room read : ℕ) (now : Remainder) (wrote : List ℕ) (replaced : Bool)
+    (t : Turned units_of old src last room read now wrote replaced) where
+  abbrev rest : List ℕ
+  rest = drop read src
+
+  whole : (z : List ℕ) → take read src ++ (rest ++ z) ≡ src ++ z
+  whole z = sym (append_assoc (take read src) rest z) ∙ ap (λ x. x ++ z) (take-append-drop read src)
+
+  into : (n : ℕ) (y : List ℕ) → take (read + n) src ++ y ≡ take read src ++ (take n rest ++ y)
+  into n y = ap (λ x. x ++ y) (take-add read n src) ∙ append_assoc (take read src) (take n rest) y
+
+  join : (x : List ℕ) (ss : List Sequence) → Begins t.done (old.sequences (take read src ++ x)) → Begins ss (now.sequences x)
+      → Begins (t.done ++ ss) (old.sequences (take read src ++ x))
+  join x ss b g = (g.0, t.goes_on x b ∙ ap (λ u. t.done ++ u) g.1 ∙ sym (append_assoc t.done ss g.0))
+
+  begins_done : (x : List ℕ) (ss : List Sequence) → Begins (t.done ++ ss) (old.sequences (take read src ++ x)) → Begins t.done (old.sequences (take read src ++ x))
+  begins_done x ss b = (ss ++ b.0, b.1 ∙ append_assoc t.done ss b.0)
+
+  off : (x : List ℕ) (ss : List Sequence) → Begins (t.done ++ ss) (old.sequences (take read src ++ x)) → Begins ss (now.sequences x)
+  off x ss b = begins_behind t.done ss (now.sequences x) (old.sequences (take read src ++ x)) (t.goes_on x (begins_done x ss b)) b
+
+  determined_on : (l : Bool) (ss : List Sequence) → AreDetermined l old.sequences src t.done → AreDetermined l now.sequences rest ss → AreDetermined l old.sequences src (t.done ++ ss)
+  determined_on true ss d e =
+      let w : take read src ++ rest ≡ src = take-append-drop read src in
+      subst (λ x. Begins (t.done ++ ss) (old.sequences x)) w (join rest ss (subst (λ x. Begins t.done (old.sequences x)) (sym w) d) e)
+  determined_on false ss d e = λ z b.
+      subst (λ x. Begins (t.done ++ ss) (old.sequences x)) (whole z)
+      (join (rest ++ z) ss (subst (λ x. Begins t.done (old.sequences x)) (sym (whole z)) (d z b)) (e z b))
+
+  -- what bytes of the rest show
+  shown_on : (m : ℕ) (ss : List Sequence) → read < length src → Determines now.sequences (take (m + 1) rest) ss → Determines old.sequences (take (read + m + 1) src) (t.done ++ ss)
+  shown_on m ss h d z b =
+      let tail : List ℕ = take m (drop 1 rest) ++ z in
+      let next : take (m + 1) rest ≡ take 1 rest ++ take m (drop 1 rest) = ap (λ k. take k rest) (one_and m) ∙ take-add 1 m rest in
+      let split : take read src ++ (take (m + 1) rest ++ z) ≡ take (read + 1) src ++ tail =
+      ap (λ x. take read src ++ (x ++ z)) next ∙ ap (λ x. take read src ++ x) (append_assoc (take 1 rest) (take m (drop 1 rest)) z) ∙ sym (into 1 tail) in
+      let g : Begins t.done (old.sequences (take read src ++ (take (m + 1) rest ++ z))) =
+      subst (λ x. Begins t.done (old.sequences x)) (sym split)
+      (t.shown_next h tail (bytes-append (take m (drop 1 rest)) z (bytes-take m (drop 1 rest) (bytes-drop 1 rest (bytes-drop read src bytes))) b)) in
+      subst (λ x. Begins (t.done ++ ss) (old.sequences x)) (sym (ap (λ k. take k src ++ z) (and_one read m) ∙ into (m + 1) z))
+      (join (take (m + 1) rest ++ z) ss g (d z b))
+
+  shown_off : (m : ℕ) (ss : List Sequence) → Determines old.sequences (take (read + m) src) (t.done ++ ss) → Determines now.sequences (take m rest) ss
+  shown_off m ss d z b = off (take m rest ++ z) ss (subst (λ x. Begins (t.done ++ ss) (old.sequences x)) (into m z) (d z b))
+
+  -- one sequence more isn't determined by what was read: not where the last call read nothing, and not if it isn't by what that read
+
+  none_without : (m : ℕ) (ss : List Sequence) (s : Sequence) → m ≡ 0 → ((f : Sequence) → Determines old.sequences (take read src) (t.done ++ f ∷ []) → ⊥)
+      → Determines old.sequences (take (read + m) src) ((t.done ++ ss) ++ s ∷ []) → ⊥
+  none_without m ss s e v d =
+      let f = first_of ss s in
+      v f.0 (determines_fewer old.sequences (take read src) (t.done ++ f.0 ∷ []) f.1
+      (subst (λ x. Determines old.sequences (take read src) x) (append_assoc t.done ss (s ∷ []) ∙ ap (λ x. t.done ++ x) f.2 ∙ sym (append_assoc t.done (f.0 ∷ []) f.1))
+      (subst (λ k. Determines old.sequences (take k src) ((t.done ++ ss) ++ s ∷ [])) (no_more read m e) d)))
+
+  none_by_last : (m : ℕ) (ss : List Sequence) (s : Sequence) → (Determines now.sequences (take m rest) (ss ++ s ∷ []) → ⊥)
+      → Determines old.sequences (take (read + m) src) ((t.done ++ ss) ++ s ∷ []) → ⊥
+  none_by_last m ss s v d = v (shown_off m (ss ++ s ∷ []) (subst (λ x. Determines old.sequences (take (read + m) src) x) (append_assoc t.done ss (s ∷ [])) d))
+
+  not_shown_on : (m : ℕ) (ss : List Sequence) (s : Sequence) → (m ≡ 0) ⊎ (Determines now.sequences (take m rest) (ss ++ s ∷ []) → ⊥)
+      → (read + m ≡ 0) ⊎ (Determines old.sequences (take (read + m) src) ((t.done ++ ss) ++ s ∷ []) → ⊥)
+  not_shown_on m ss s u = elim u [
+    | inl e ↦ elim t.none_behind [ inl f ↦ inl (omega arith) | inr v ↦ inr (none_without m ss s e v) ]
+    | inr v ↦ inr (none_by_last m ss s v)
+  ]
+
+  none_behind_on : (m : ℕ) (ss : List Sequence) → (m ≡ 0) ⊎ ((s : Sequence) → Determines now.sequences (take m rest) (ss ++ s ∷ []) → ⊥)
+      → (read + m ≡ 0) ⊎ ((s : Sequence) → Determines old.sequences (take (read + m) src) ((t.done ++ ss) ++ s ∷ []) → ⊥)
+  none_behind_on m ss u = elim u [
+    | inl e ↦ elim t.none_behind [ inl f ↦ inl (omega arith) | inr v ↦ inr (λ s. none_without m ss s e v) ]
+    | inr v ↦ inr (λ s. none_by_last m ss s (v s))
+  ]
+
+  goes_on_behind : (new : Remainder) (n : ℕ) (ss : List Sequence) (end : Bool)
+      → ((y : List ℕ) → (end ≡ true → y ≡ []) → Begins ss (now.sequences (take n rest ++ y)) → now.sequences (take n rest ++ y) ≡ ss ++ new.sequences y)
+      → (y : List ℕ) → (end ≡ true → y ≡ []) → Begins (t.done ++ ss) (old.sequences (take (read + n) src ++ y)) → old.sequences (take (read + n) src ++ y) ≡ (t.done ++ ss) ++ new.sequences y
+  goes_on_behind new n ss end g y l b =
+      let b : Begins (t.done ++ ss) (old.sequences (take read src ++ (take n rest ++ y))) = subst (λ x. Begins (t.done ++ ss) (old.sequences x)) (into n y) b in
+      ap old.sequences (into n y) ∙ t.goes_on (take n rest ++ y) (begins_done (take n rest ++ y) ss b)
+      ∙ ap (λ u. t.done ++ u) (g y l (off (take n rest ++ y) ss b)) ∙ sym (append_assoc t.done ss (new.sequences y))
+
+  residual_on : (new : Remainder) (n : ℕ) (ss : List Sequence)
+      → ((z : List ℕ) → (last ≡ true → z ≡ []) → now.sequences (rest ++ z) ≡ ss ++ new.sequences (drop n rest ++ z))
+      → (z : List ℕ) → (last ≡ true → z ≡ []) → old.sequences (src ++ z) ≡ (t.done ++ ss) ++ new.sequences (drop (read + n) src ++ z)
+  residual_on new n ss r z l =
+      t.residual z l ∙ ap (λ u. t.done ++ u) (r z l) ∙ sym (append_assoc t.done ss (new.sequences (drop n rest ++ z)))
+      ∙ ap (λ x. (t.done ++ ss) ++ new.sequences (x ++ z)) (drop-drop n read src)
+
+  accounted_on : (new : Remainder) (n : ℕ) (ss : List Sequence) → now.pending ++ take n rest ≡ bytes_of ss ++ new.pending
+      → old.pending ++ take (read + n) src ≡ bytes_of (t.done ++ ss) ++ new.pending
+  accounted_on new n ss e =
+      ap (λ x. old.pending ++ x) (take-add read n src) ∙ sym (append_assoc old.pending (take read src) (take n rest)) ∙ ap (λ x. x ++ take n rest) t.accounted
+      ∙ append_assoc (bytes_of t.done) now.pending (take n rest) ∙ ap (λ x. bytes_of t.done ++ x) e ∙ sym (append_assoc (bytes_of t.done) (bytes_of ss) new.pending)
+      ∙ ap (λ x. x ++ new.pending) (sym (bytes_of-append t.done ss))
+
+  set_on : (new : Remainder) (ss : List Sequence) → new.set ≡ set_after now.set ss → new.set ≡ set_after old.set (t.done ++ ss)
+  set_on new ss e = e ∙ ap (λ s. set_after s ss) t.set ∙ sym (set_after-append old.set t.done ss)
+
+  text_on : (more : List ℕ) (ss : List Sequence) → more ≡ units_of_text units_of (text_of ss) → wrote ++ more ≡ units_of_text units_of (text_of (t.done ++ ss))
+  text_on more ss e = ap (λ x. x ++ more) t.text ∙ ap (λ x. units_of_text units_of (text_of t.done) ++ x) e ∙ sym (units-append units_of t.done ss)
+
+  flag_on : (ss : List Sequence) → false ≡ any_malformed ss → replaced ≡ any_malformed (t.done ++ ss)
+  flag_on ss e = sym (or_false replaced) ∙ ap (λ b. b || false) t.flag ∙ ap (λ b. any_malformed t.done || b) e ∙ sym (any_malformed-append t.done ss)
+
+  fits_on : (more : List ℕ) → length more ≤ room - length wrote → length (wrote ++ more) ≤ room
+  fits_on more h = let f = t.fits in rw (length-append wrote more) (omega arith)
+
+  within_on : (n : ℕ) → n ≤ length rest → read + n ≤ length src
+  within_on n h = let e = length-drop read src in omega (arith, t.within)
+
+  -- the last call comes to the end of the offer
+  pub empties : (new : Remainder) (n : ℕ) (more : List ℕ) → Call units_of now new rest last (Reported true) (room - length wrote) InputEmpty n more false
+      → Call units_of old new src last Replaced room InputEmpty (read + n) (wrote ++ more) replaced
+  empties new n more c =
+      let same : c.done ≡ c.put = c.stops.only_put in
+      record {
+        put = t.done ++ c.put;
+        done = t.done ++ c.done;
+        within = within_on n c.within;
+        residual = residual_on new n c.done c.residual;
+        goes_on = goes_on_behind new n c.done last c.goes_on;
+        accounted = accounted_on new n c.done c.accounted;
+        set = set_on new c.done c.set;
+        text = text_on more c.put c.text;
+        fits = fits_on more c.fits;
+        flag = flag_on c.put c.flag;
+        none_replaced = λ e. cc;
+        stops = record {
+          only_put = ap (λ x. t.done ++ x) same;
+          all_read = let e = length-drop read src in let f = c.stops.all_read in omega (arith, t.within);
+          none_determined = λ l s d. c.stops.none_determined l s (λ z b.
+              off (rest ++ z) (c.done ++ s ∷ []) (subst (λ x. Begins (t.done ++ (c.done ++ s ∷ [])) (old.sequences x)) (sym (whole z))
+              (subst (λ x. Begins x (old.sequences (src ++ z))) (append_assoc t.done c.done (s ∷ [])) (d z b))));
+          none_left = c.stops.none_left;
+          none_pending = c.stops.none_pending;
+        };
+      }
+
+  -- the last call stops for want of room
+  pub fills : (new : Remainder) (n : ℕ) (more : List ℕ) → Call units_of now new rest last (Reported true) (room - length wrote) OutputFull n more false
+      → Call units_of old new src last Replaced room OutputFull (read + n) (wrote ++ more) replaced
+  fills new n more c =
+      let same : c.done ≡ c.put = c.stops.only_put in
+      let next = c.stops.next in
+      let behind : t.done ++ (c.done ++ next ∷ []) ≡ (t.done ++ c.done) ++ next ∷ [] = sym (append_assoc t.done c.done (next ∷ [])) in
+      record {
+        put = t.done ++ c.put;
+        done = t.done ++ c.done;
+        within = within_on n c.within;
+        residual = residual_on new n c.done c.residual;
+        goes_on = goes_on_behind new n c.done false c.goes_on;
+        accounted = accounted_on new n c.done c.accounted;
+        set = set_on new c.done c.set;
+        text = text_on more c.put c.text;
+        fits = fits_on more c.fits;
+        flag = flag_on c.put c.flag;
+        none_replaced = λ e. cc;
+        stops = record {
+          only_put = ap (λ x. t.done ++ x) same;
+          next = next;
+          determined = subst (λ x. AreDetermined last old.sequences src x) behind (determined_on last (c.done ++ next ∷ []) t.determined c.stops.determined);
+          not_reported = λ e. cc;
+          full = still_full room (length wrote) (length (units_of_text units_of (text_of c.done))) (length (units_of_text units_of next.text)) t.fits
+              (sym (ap length (text_on (units_of_text units_of (text_of c.done)) c.done refl)) ∙ length-append wrote (units_of_text units_of (text_of c.done))) c.stops.full;
+          reads = record {
+            not_shown = not_shown_on n c.done next c.stops.reads.not_shown;
+            shown_next = λ h. subst (λ x. Determines old.sequences (take (read + n + 1) src) x) behind
+                (shown_on n (c.done ++ next ∷ []) (omega arith) (c.stops.reads.shown_next (let e = length-drop read src in omega arith)));
+          };
+        };
+      }
+
+  -- the last call reports a malformed sequence, and U+FFFD is put out for it
+  pub replaces : (new : Remainder) (n l a : ℕ) (more : List ℕ) → Call units_of now new rest last (Reported true) (room - length wrote) (Malformed l a) n more false
+      → Turned units_of old src last room (read + n) new ((wrote ++ more) ++ units_of 0xFFFD) true
+  replaces new n l a more c =
+      let m = c.stops in
+      record {
+        done = t.done ++ c.done;
+        within = within_on n c.within;
+        residual = residual_on new n c.done c.residual;
+        goes_on = λ y b. goes_on_behind new n c.done false c.goes_on y (λ e. absurd (false≢true e)) b;
+        accounted = accounted_on new n c.done c.accounted;
+        set = set_on new c.done c.set;
+        text = append_assoc wrote more (units_of 0xFFFD) ∙ text_on (more ++ units_of 0xFFFD) c.done
+            (ap (λ x. x ++ units_of 0xFFFD) c.text ∙ ap (λ x. units_of_text units_of (text_of c.put) ++ x) (sym (append-nil (units_of 0xFFFD)) ∙ ap (units_of_text units_of) (sym m.replacement))
+            ∙ sym (units-one units_of c.put m.next) ∙ ap (λ x. units_of_text units_of (text_of x)) (sym m.then_next));
+        fits = let e = ap length c.text in let k = m.room_kept refl in let f = t.fits in
+            rw (length-append (wrote ++ more) (units_of 0xFFFD), length-append wrote more) (omega arith);
+        flag = sym (any_malformed-append t.done c.done ∙ ap (λ b. any_malformed t.done || b) (ap any_malformed m.then_next ∙ any_malformed-last c.put m.next m.malformed)
+            ∙ or_true (any_malformed t.done));
+        determined = determined_on last c.done t.determined m.determined;
+        shown_next = λ h. shown_on n c.done (omega arith) (reads_next (is_repeated_escape m.next.kind) now.sequences rest c.done n new.pending (bytes-drop read src bytes) m.reads (let e = length-drop read src in omega arith));
+        none_behind = none_behind_on n c.done m.none_behind;
+      }
