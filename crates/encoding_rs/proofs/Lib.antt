@@ -15,3 +15,4 @@ pub mod Utf8Undetermined
 pub mod Utf8Comes
 pub mod Utf8Texts
 pub mod Utf8Calls
+pub mod RunLemmas

@@ -8,3 +8,4 @@ pub mod CodecLaw
 pub mod Utf8
 pub mod Utf8Pending
 pub mod Decoding
+pub mod Run

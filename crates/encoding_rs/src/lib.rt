@@ -8,6 +8,7 @@ mod decoder_result;
 mod encoding;
 mod machine;
 mod replacing;
+pub mod run;
 mod units;
 mod utf_8;
 
