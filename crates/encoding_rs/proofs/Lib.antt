@@ -10,9 +10,10 @@ pub mod MachineLemmas
 pub mod Turns
 pub mod ReplacingLemmas
 pub mod DecoderLemmas
+pub mod RuleLemmas
 pub mod Utf8Lemmas
 pub mod Utf8Undetermined
 pub mod Utf8Comes
 pub mod Utf8Texts
-pub mod Utf8Calls
+pub mod FullLemmas
 pub mod RunLemmas

@@ -1,5 +1,5 @@
 -- Decoders of an encoding (Encoding Standard 4.1 and 6.1, "decode without BOM").
-use Rattle.std.specs.Prelude.{◌≡◌, ℕ, Bool, true, false, List, [], ◌++◌, if◌then◌else◌}
+use Rattle.std.specs.Prelude.{◌≡◌, ℕ, Bool, true, false, List, [], ◌++◌, if◌then◌else◌, length, ◌≤◌}
 use Rattle.std.specs.Char.{encode_utf8}
 use Rattle.encoding_rs.specs.declared.encoding.Id.{Id}
 use Rattle.encoding_rs.specs.declared.encoding.Id.TheVariants.{Utf8}
@@ -9,7 +9,7 @@ use Rattle.encoding_rs.specs.declared.decoder_result.DecoderResult.TheVariants a
 use Rattle.encoding_rs.specs.declared.coder_result.CoderResult.{CoderResult}
 use Rattle.encoding_rs.specs.declared.coder_result.CoderResult.TheVariants.{InputEmpty, OutputFull}
 use Rattle.encoding_rs.specs.Output.{units_of_text}
-use Rattle.encoding_rs.specs.Sequence.{Sequence, text_of, any_malformed}
+use Rattle.encoding_rs.specs.Sequence.{Sequence, bytes_of, text_of, any_malformed, set_after}
 use Rattle.encoding_rs.specs.Segmentation.{Rule, sequences_of}
 use Rattle.encoding_rs.specs.Remainder.{Remainder}
 use Rattle.encoding_rs.specs.Call.{Call, Replaced, is_end}
@@ -62,6 +62,24 @@ pub record DecodesReplacing (units_of : ℕ → List ℕ) (old new : DecoderStat
   pub call : Call units_of (decoder_remainder old) (decoder_remainder new) src last Replaced room (stop_of result) read wrote replaced
   pub encoding : new.encoding ≡ old.encoding
   pub finished : new.finished ≡ is_end last (stop_of result)
+
+-- A decoder that is as it was, but for sequences without a text (escape sequences) that were pending, and are
+-- taken now that they are shown to come first.
+pub record IsAsBefore (old new : DecoderState) : Type 0 where
+  pub skipped : List Sequence
+  pub no_text : text_of skipped ≡ []
+  pub pending : old.pending ≡ bytes_of skipped ++ new.pending
+  pub set : new.set ≡ set_after old.set skipped
+  pub encoding : new.encoding ≡ old.encoding
+  pub finished : new.finished ≡ old.finished
+
+-- Each sequence that this rule tells has a text: none is skipped.
+abbrev pub HasTexts : Rule → Type 0
+HasTexts rule = (set b : ℕ) (z : List ℕ) → (rule set b z).text ≡ [] → ⊥
+
+-- Each has a text of at most four UTF-8 code units.
+abbrev pub HasSmallTexts : Rule → Type 0
+HasSmallTexts rule = (set b : ℕ) (z : List ℕ) → length (units_of_text encode_utf8 (rule set b z).text) ≤ 4
 
 -- What calls have made, of an encoding's decoder, of the bytes that they were given so far, of which these are
 -- unread; where `ended`, nothing follows them.

@@ -3,7 +3,7 @@
 ghost use Rattle.std.specs.Prelude.{◌≡◌, ℕ, ◌+◌, ◌-◌, ◌<◌, ◌≤◌, Bool, true, false, length, take, drop};
 ghost use Rattle.std.specs.Char.{encode_utf8};
 ghost use Rattle.encoding_rs.specs.Call.{is_end as ends};
-ghost use Rattle.encoding_rs.specs.Decoding.{fresh, stop_of, DecodesReplacing};
+ghost use Rattle.encoding_rs.specs.Decoding.{fresh, stop_of, rule_of, DecodesReplacing, IsAsBefore, HasTexts};
 
 use crate::coder_result::CoderResult;
 use crate::encoding::Encoding;
@@ -86,8 +86,11 @@ impl Decoder {
         ensures written { result.2 ≤ length dst.old }
         ensures behind { drop result.2 dst.new ≡ drop result.2 dst.old }
 
-        // Where nothing was read and nothing written, the decoder is as it was.
-        ensures unchanged { result.0 ≡ CoderResult.OutputFull → result.1 ≡ 0 → result.2 ≡ 0 → self.new ≡ self.old }
+        // Where nothing was read and nothing written, the decoder is as it was, but for a pending escape sequence
+        // that is shown to be skipped; in an encoding that has none, it is just as it was.
+        ensures unchanged { result.0 ≡ CoderResult.OutputFull → result.1 ≡ 0 → result.2 ≡ 0 → IsAsBefore self.old self.new }
+        ensures same { result.0 ≡ CoderResult.OutputFull → result.1 ≡ 0 → result.2 ≡ 0 → HasTexts (rule_of self.old.encoding) →
+            self.new ≡ self.old }
 
         // A room of four bytes is never too small to go on.
         ensures progress { result.0 ≡ CoderResult.OutputFull → 4 ≤ length dst.old →

@@ -6,6 +6,7 @@ mod coder_result;
 mod decoder;
 mod decoder_result;
 mod encoding;
+pub mod laws;
 mod machine;
 mod replacing;
 pub mod run;

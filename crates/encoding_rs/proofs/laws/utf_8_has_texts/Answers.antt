@@ -1,0 +1,5 @@
+use Rattle.encoding_rs.proofs.Utf8Texts as texts
+use Rattle.encoding_rs.proofs.laws.utf_8_has_texts.Goals as goal
+
+pub returns : goal.returns
+returns c = texts.utf_8_has_texts
