@@ -12,6 +12,7 @@ pub mod ReplacingLemmas
 pub mod DecoderLemmas
 pub mod RuleLemmas
 pub mod Utf8Lemmas
+pub mod PlainLemmas
 pub mod Utf8Undetermined
 pub mod Utf8Comes
 pub mod Utf8Texts

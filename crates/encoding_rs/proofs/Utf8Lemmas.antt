@@ -16,12 +16,12 @@ malformed_sequence bytes = record { bytes = bytes; text = 0xFFFD ∷ []; kind = 
 
 -- what stands first
 
-valid_head : (b : ℕ) (z : List ℕ) (m : ℕ) → reach b z ≡ m → eqb (m + 1) (sequence_len b) ≡ true
+pub valid_head : (b : ℕ) (z : List ℕ) (m : ℕ) → reach b z ≡ m → eqb (m + 1) (sequence_len b) ≡ true
     → utf_8_rule 0 b z ≡ record { more = m; text = scalar_of (b ∷ take m z) ∷ []; kind = Valid; set = 0 }
 unfolding utf_8_rule
 valid_head b z m r e = rw (r, e) refl
 
-malformed_head : (b : ℕ) (z : List ℕ) (m : ℕ) → reach b z ≡ m → eqb (m + 1) (sequence_len b) ≡ false
+pub malformed_head : (b : ℕ) (z : List ℕ) (m : ℕ) → reach b z ≡ m → eqb (m + 1) (sequence_len b) ≡ false
     → utf_8_rule 0 b z ≡ record { more = m; text = 0xFFFD ∷ []; kind = Malformed; set = 0 }
 unfolding utf_8_rule
 malformed_head b z m r e = rw (r, e) refl

@@ -8,8 +8,11 @@ mod decoder_result;
 mod encoding;
 pub mod laws;
 mod machine;
+pub mod plain;
 mod replacing;
 pub mod run;
+#[cfg(test)]
+mod tests;
 mod units;
 mod utf_8;
 

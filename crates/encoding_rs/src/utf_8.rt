@@ -50,7 +50,7 @@ impl Utf8Decoder {
 
 /// The length of the well-formed sequences that begin with a byte, 0 where none does.
 #[tactic(auto, unfolding(crate::specs::Utf8::sequence_len))]
-fn sequence_len(lead: u8) -> u8
+pub fn sequence_len(lead: u8) -> u8
     ensures { result ≡ len_by_lead lead }
 {
     match lead {
@@ -65,7 +65,7 @@ fn sequence_len(lead: u8) -> u8
 
 /// Whether a byte may follow a lead byte.
 #[tactic(auto, unfolding(crate::specs::Utf8::is_second))]
-fn is_second(lead: u8, byte: u8) -> bool
+pub fn is_second(lead: u8, byte: u8) -> bool
     ensures { result ≡ second_follows lead byte }
 {
     let lower = match lead {
@@ -81,15 +81,16 @@ fn is_second(lead: u8, byte: u8) -> bool
     lower <= byte && byte <= upper
 }
 
+/// Whether a byte may be the third or the fourth of a sequence.
 #[tactic(auto, unfolding(crate::specs::Utf8::is_continuation))]
-fn is_continuation(byte: u8) -> bool
+pub fn is_continuation(byte: u8) -> bool
     ensures { result ≡ continues byte }
 {
     byte >= 0x80 && byte <= 0xBF
 }
 
 /// The character of two bytes.
-fn two_byte_char(first: u8, second: u8) -> char
+pub fn two_byte_char(first: u8, second: u8) -> char
     requires len { len_by_lead first ≡ 2 }
     requires second { second_follows first second ≡ true }
     ensures { result ≡ scalar_of (first ∷ second ∷ []) }
@@ -99,7 +100,7 @@ fn two_byte_char(first: u8, second: u8) -> char
 }
 
 /// The character of three bytes.
-fn three_byte_char(first: u8, second: u8, third: u8) -> char
+pub fn three_byte_char(first: u8, second: u8, third: u8) -> char
     requires len { len_by_lead first ≡ 3 }
     requires second { second_follows first second ≡ true }
     requires third { continues third ≡ true }
@@ -110,7 +111,7 @@ fn three_byte_char(first: u8, second: u8, third: u8) -> char
 }
 
 /// The character of four bytes.
-fn four_byte_char(first: u8, second: u8, third: u8, fourth: u8) -> char
+pub fn four_byte_char(first: u8, second: u8, third: u8, fourth: u8) -> char
     requires len { len_by_lead first ≡ 4 }
     requires second { second_follows first second ≡ true }
     requires third { continues third ≡ true }

@@ -1,0 +1,4 @@
+use Rattle.encoding_rs.proofs.plain.+continuations.Given as goal
+
+abbrev pub decreases-continuations : goal.decreases-continuations
+decreases-continuations l = l.most
