@@ -1,0 +1,74 @@
+-- What sources and sinks tell, over several steps.
+use Rattle.std.proofs.Common.{◌≡◌, ℕ, ◌+◌, ◌-◌, ◌≤◌, List, [], ◌++◌, length, take, drop, Option, Some, None, refl, ap, ◌∙◌, sym, subst, append_assoc, append-nil, arith}
+use Rattle.std.proofs.Math.Seq.{take-add}
+use Rattle.std.proofs.lemmas.List.{take-take, take-append-drop}
+use Rattle.std.specs.declared.result.Result.{Result}
+use Rattle.std.specs.Prelude.{Ok, Err, OnErr, IfSome, option_map}
+use Rattle.std.specs.Io.KnownBytes.{prepend_known, append_known, IsAtEnd}
+use Rattle.recode.specs.Source.{TellsNext}
+use Rattle.recode.specs.Sink.{TakesMore, TakesPrefix}
+use Rattle.recode.specs.Run.{BeginsWith}
+
+pub append_known-nil : (known : Option (List ℕ)) → append_known known [] ≡ known
+append_known-nil None = refl
+append_known-nil (Some xs) = ap Some (append-nil xs)
+
+pub append_known-append : (known : Option (List ℕ)) (a b : List ℕ) → append_known (append_known known a) b ≡ append_known known (a ++ b)
+append_known-append None a b = refl
+append_known-append (Some xs) a b = ap Some (append_assoc xs a b)
+
+pub prepend_known-nil : (known : Option (List ℕ)) → prepend_known [] known ≡ known
+prepend_known-nil None = refl
+prepend_known-nil (Some xs) = refl
+
+pub prepend_known-append : (known : Option (List ℕ)) (a b : List ℕ) → prepend_known a (prepend_known b known) ≡ prepend_known (a ++ b) known
+prepend_known-append None a b = refl
+prepend_known-append (Some xs) a b = ap Some (sym (append_assoc a b xs))
+
+pub TakesMore-none : (known : Option (List ℕ)) → TakesMore known known []
+TakesMore-none known = sym (append_known-nil known)
+
+pub TakesMore-then : (k₀ k₁ k₂ : Option (List ℕ)) (a b : List ℕ) → TakesMore k₀ k₁ a → TakesMore k₁ k₂ b → TakesMore k₀ k₂ (a ++ b)
+TakesMore-then k₀ k₁ k₂ a b h₁ h₂ = h₂ ∙ ap (λ k. append_known k b) h₁ ∙ append_known-append k₀ a b
+
+pub TellsNext-none : (known : Option (List ℕ)) → TellsNext known known []
+TellsNext-none known = sym (prepend_known-nil known)
+
+pub TellsNext-then : (k₀ k₁ k₂ : Option (List ℕ)) (a b : List ℕ) → TellsNext k₀ k₁ a → TellsNext k₁ k₂ b → TellsNext k₀ k₂ (a ++ b)
+TellsNext-then k₀ k₁ k₂ a b h₁ h₂ = h₁ ∙ ap (λ k. prepend_known a k) h₂ ∙ prepend_known-append k₂ a b
+
+-- Bytes that came next stand in front of what was told.
+pub begins_told : (old new : Option (List ℕ)) (bytes : List ℕ) → TellsNext old new bytes → IfSome old (λ all. BeginsWith all bytes)
+begins_told old None bytes h = subst (λ (o : Option (List ℕ)). IfSome o (λ all. BeginsWith all bytes)) (sym h) tt
+begins_told old (Some xs) bytes h = subst (λ (o : Option (List ℕ)). IfSome o (λ all. BeginsWith all bytes)) (sym h) (xs, refl)
+
+-- At the end they are all that was told.
+pub all_told : (old new : Option (List ℕ)) (bytes : List ℕ) → TellsNext old new bytes → IsAtEnd new → IfSome old (λ all. bytes ≡ all)
+all_told old None bytes h end = subst (λ (o : Option (List ℕ)). IfSome o (λ all. bytes ≡ all)) (sym h) tt
+all_told old (Some xs) bytes h end =
+    subst (λ (o : Option (List ℕ)). IfSome o (λ all. bytes ≡ all)) (sym h) (sym (ap (λ t. bytes ++ t) end ∙ append-nil bytes))
+
+pub none_told : (old new : Option (List ℕ)) (bytes : List ℕ) → TellsNext old new bytes → IsAtEnd new → new ≡ option_map (λ _. []) old
+none_told old None bytes h end = ap (λ (o : Option (List ℕ)). option_map (λ _. []) o) (sym h)
+none_told old (Some xs) bytes h end = ap Some end ∙ ap (λ (o : Option (List ℕ)). option_map (λ _. []) o) (sym h)
+
+-- so many bytes are taken, and so many more
+pub TakesMore-push : (k₀ k₁ k₂ : Option (List ℕ)) (bytes : List ℕ) (at n : ℕ) → at + n ≤ length bytes
+    → TakesMore k₀ k₁ (take at bytes) → TakesMore k₁ k₂ (take n (take (length bytes - at) (drop at bytes))) → TakesMore k₀ k₂ (take (at + n) bytes)
+TakesMore-push k₀ k₁ k₂ bytes at n h t₁ t₂ =
+    rw (take-add at n bytes)
+    (TakesMore-then k₀ k₁ k₂ (take at bytes) (take n (drop at bytes)) t₁
+    (rw (take-take n (length bytes - at) (drop at bytes) (omega arith)) at t₂))
+
+-- so many bytes are taken, and then no more
+pub TakesPrefix-push : (k₀ k₁ k₂ : Option (List ℕ)) (bytes : List ℕ) (at : ℕ) → TakesMore k₀ k₁ (take at bytes) → k₂ ≡ k₁ → TakesPrefix k₀ k₂ bytes
+TakesPrefix-push k₀ k₁ k₂ bytes at t e = record {
+  wrote = take at bytes;
+  unwritten = drop at bytes;
+  prefix = sym (take-append-drop at bytes);
+  taken = e ∙ t;
+}
+
+pub on_err : {T E : Type 0} (r : Result T E) (P : Type 0) → P → OnErr r P
+on_err (Ok x) P h = tt
+on_err (Err e) P h = h

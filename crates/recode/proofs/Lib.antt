@@ -1,0 +1,4 @@
+pub mod KnownLemmas
+pub mod DecodingLemmas
+pub mod ChunkLemmas
+pub mod RunLemmas

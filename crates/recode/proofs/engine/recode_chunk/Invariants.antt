@@ -1,0 +1,13 @@
+use Rattle.std.proofs.Common.{◌≡◌, ◌+◌, length, false}
+use Rattle.recode.specs.Chunk.{HasRecoded}
+use Rattle.recode.proofs.engine.recode_chunk.Given as goal
+
+abbrev pub invariant-calls : goal.invariant-calls
+invariant-calls g l = record {
+  recoded : HasRecoded l.initial.decoder l.decoder l.src l.rest l.last (g.W.Sink.taken l.initial.writer) (g.W.Sink.taken l.writer) l.replaced;
+  open_still : l.decoder.finished ≡ false;
+  kept : g.W.Sink.has_failed l.writer ≡ g.W.Sink.has_failed l.initial.writer;
+}
+
+abbrev pub decreases-calls : goal.decreases-calls
+decreases-calls g l = length l.decoder.pending + length l.rest

@@ -1,0 +1,43 @@
+use Rattle.std.proofs.Common.{arith, rules, ◌≡◌, ◌<◌, eqb, length, take, true, false}
+use Rattle.std.proofs.lemmas.Bool.Decides.{nat_tests}
+use Rattle.std.proofs.lemmas.List.{length-take}
+use Rattle.recode.proofs.KnownLemmas.{on_err}
+use Rattle.recode.proofs.RunLemmas.{HasRun-start, HasRun-more, RunsToEnd-last, RunsToFault-between, RunsToFault-within}
+use Rattle.recode.proofs.engine.run_through.Goals as goal
+
+pub pulls-init : goal.pulls-init
+pulls-init g c = record {
+  ran = rw c.new_decoder_without_bom_handling-decoder.ensures (HasRun-start c.args.from _ _);
+  open_still = search rules;
+  reader_kept = search rules;
+  writer_kept = search rules;
+}
+
+pub returns-in_default-clause-err : goal.returns-in_default-clause-err
+returns-in_default-clause-err g c = RunsToFault-between _ _ _ _ _ _ _ _ c.pulls.invariant.ran
+
+pub returns-in_err-replaced-clause-err : goal.returns-in_err-replaced-clause-err
+returns-in_err-replaced-clause-err g c =
+    on_err c.from_residual.result _
+    (RunsToFault-within _ _ _ _ _ _ _ _ _ _ _ _ c.pulls.invariant.ran c.in-Ok.ensures.bytes
+    (λ (last : eqb c.in-Ok.n 0 ≡ true). c.in-Ok.ensures.end (grind (arith, nat_tests)) (search rules)) c.in_err-replaced.ensures.err)
+
+pub returns-then-n-eq0-clause-ok : goal.returns-then-n-eq0-clause-ok
+returns-then-n-eq0-clause-ok g c =
+    let last : eqb c.in-Ok.n 0 ≡ true = search rules in
+    RunsToEnd-last _ _ _ _ _ _ _ _ _ _ _ _ _ _ c.pulls.invariant.ran c.in-Ok.ensures.bytes
+    (c.in-Ok.ensures.end (search rules) (search rules)) c.in_ok-replaced.ensures.ok last c.in_ok-replaced.ensures.finished
+
+pub pulls-preserved : goal.pulls-preserved
+pulls-preserved g c =
+    let last : eqb c.in-Ok.n 0 ≡ false = search rules in
+    let some : 0 < length (take c.in-Ok.n c.pull.new.buf) = rw (length-take c.in-Ok.n c.pull.new.buf) (search rules) in
+    record {
+      ran = HasRun-more _ _ _ _ _ _ _ _ _ _ _ _ _ _ c.pulls.invariant.ran c.in-Ok.ensures.bytes c.in_ok-replaced.ensures.ok last some;
+      open_still = search rules;
+      reader_kept = search rules;
+      writer_kept = search rules;
+    }
+
+pub returns-clause-err : goal.returns-clause-err
+returns-clause-err g c = RunsToFault-between _ _ _ _ _ _ _ _ c.pulls.invariant.ran

@@ -1,0 +1,5 @@
+pub mod Source
+pub mod Sink
+pub mod Chunk
+pub mod Run
+pub mod Status

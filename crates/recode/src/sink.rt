@@ -1,0 +1,83 @@
+//! Sinks of bytes.
+
+ghost use Rattle.std.specs.Prelude.{◌≡◌, ℕ, List, ◌≤◌, ◌<◌, length, take, Option, Bool, true, false, None, IfOk, OnOk, OnErr};
+ghost use Rattle.std.specs.Io.KnownBytes.{WriteAppends};
+ghost use Rattle.recode.specs.Sink.{TakesMore};
+
+use std::io::Write;
+
+/// Where bytes go, a buffer at a time.
+pub trait Sink {
+    // The bytes that it has taken, where it tells them.
+    ghost taken: { Self → Option (List ℕ) };
+
+    // Whether a push has failed.
+    ghost has_failed: { Self → Bool };
+
+    /// Takes bytes from the front of `buf` and answers how many: at least one of a buffer that is not
+    /// empty. After an `Err` it has taken none of them, and has failed.
+    fn push(&mut self, buf: &[u8]) -> Result<usize, ()>
+        ensures bound { IfOk result (λ n. n ≤ length buf.now) }
+        ensures some { IfOk result (λ n. 0 < length buf.now → 0 < n) }
+        ensures bytes { IfOk result (λ n. TakesMore (taken self.old) (taken self.new) (take n buf.now)) }
+        ensures ok { OnOk result (has_failed self.new ≡ has_failed self.old) }
+        ensures none_taken { OnErr result (taken self.new ≡ taken self.old) }
+        ensures err { OnErr result (has_failed self.new ≡ true) };
+
+    /// Whether a push has failed.
+    fn failed(&self) -> bool
+        ensures { result ≡ has_failed self.now };
+}
+
+/// A sink over any writer. It tells no bytes, since a writer may not know them.
+#[derive(Drop)]
+pub struct FromWrite<W: Write> {
+    inner: W,
+    failed: bool,
+}
+
+impl<W: Write> FromWrite<W> {
+    /// A sink that writes to `inner`, and has not failed. It takes no memory.
+    pub fn new(inner: W) -> FromWrite<W>
+        ensures inner { result.inner ≡ inner }
+        ensures not_failed { result.failed ≡ false }
+    {
+        FromWrite {
+            inner,
+            failed: false,
+        }
+    }
+}
+
+impl<W: Write> Sink for FromWrite<W> {
+    ghost taken = { λ _. None };
+
+    ghost has_failed = { λ sink. sink.failed };
+
+    /// One `write` of the writer, of which any error is a fault, and so is that it takes 0 bytes of some.
+    fn push(&mut self, buf: &[u8]) -> Result<usize, ()>
+        ensures bound { IfOk result (λ n. n ≤ length buf.now) }
+        ensures some { IfOk result (λ n. 0 < length buf.now → 0 < n) }
+        ensures write { WriteAppends (W.contents self.old.inner) (W.contents self.new.inner) result buf.now }
+        ensures ok { OnOk result (self.new.failed ≡ self.old.failed) }
+        ensures err { OnErr result (self.new.failed ≡ true) }
+    {
+        match self.inner.write(buf) {
+            Ok(n) => {
+                if n == 0 && !buf.is_empty() {
+                    self.failed = true;
+                    return Err(());
+                }
+                Ok(n)
+            }
+            Err(_) => {
+                self.failed = true;
+                Err(())
+            }
+        }
+    }
+
+    fn failed(&self) -> bool {
+        self.failed
+    }
+}

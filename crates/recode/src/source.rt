@@ -1,0 +1,75 @@
+//! Sources of bytes.
+
+ghost use Rattle.std.specs.Prelude.{◌≡◌, ℕ, List, ◌≤◌, ◌<◌, length, take, Option, Bool, true, false, None, IfOk, OnOk, OnErr};
+ghost use Rattle.std.specs.Io.KnownBytes.{IsAtEnd, ReadConsumes};
+ghost use Rattle.recode.specs.Source.{TellsNext};
+
+use std::io::Read;
+
+/// Where bytes come from, a buffer at a time.
+pub trait Source {
+    // The bytes still to come, where it tells them.
+    ghost told: { Self → Option (List ℕ) };
+
+    // Whether a pull has failed.
+    ghost has_failed: { Self → Bool };
+
+    /// Puts the next bytes at the front of `buf` and answers how many they are: 0 of a buffer that is
+    /// not empty only at the end. After an `Err` it has failed.
+    fn pull(&mut self, buf: &mut [u8]) -> Result<usize, ()>
+        ensures bound { IfOk result (λ n. n ≤ length buf.new) }
+        ensures bytes { IfOk result (λ n. TellsNext (told self.old) (told self.new) (take n buf.new)) }
+        ensures end { IfOk result (λ n. n ≡ 0 → 0 < length buf.new → IsAtEnd (told self.new)) }
+        ensures ok { OnOk result (has_failed self.new ≡ has_failed self.old) }
+        ensures err { OnErr result (has_failed self.new ≡ true) };
+
+    /// Whether a pull has failed.
+    fn failed(&self) -> bool
+        ensures { result ≡ has_failed self.now };
+}
+
+/// A source over any reader. It tells no bytes, since a reader may not know them.
+#[derive(Drop)]
+pub struct FromRead<R: Read> {
+    inner: R,
+    failed: bool,
+}
+
+impl<R: Read> FromRead<R> {
+    /// A source that reads from `inner`, and has not failed. It takes no memory.
+    pub fn new(inner: R) -> FromRead<R>
+        ensures inner { result.inner ≡ inner }
+        ensures not_failed { result.failed ≡ false }
+    {
+        FromRead {
+            inner,
+            failed: false,
+        }
+    }
+}
+
+impl<R: Read> Source for FromRead<R> {
+    ghost told = { λ _. None };
+
+    ghost has_failed = { λ source. source.failed };
+
+    /// One `read` of the reader, of which any error is a fault.
+    fn pull(&mut self, buf: &mut [u8]) -> Result<usize, ()>
+        ensures bound { IfOk result (λ n. n ≤ length buf.new) }
+        ensures read { ReadConsumes (R.remaining self.old.inner) (R.remaining self.new.inner) result buf.new }
+        ensures ok { OnOk result (self.new.failed ≡ self.old.failed) }
+        ensures err { OnErr result (self.new.failed ≡ true) }
+    {
+        match self.inner.read(buf) {
+            Ok(n) => Ok(n),
+            Err(_) => {
+                self.failed = true;
+                Err(())
+            }
+        }
+    }
+
+    fn failed(&self) -> bool {
+        self.failed
+    }
+}

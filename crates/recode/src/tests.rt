@@ -1,0 +1,195 @@
+//! Values from outside, and readers and writers that fail.
+
+use crate::engine::{RecodeFault, run};
+use crate::sink::{FromWrite, Sink};
+use crate::source::{FromRead, Source};
+use crate::{labels, status};
+use encoding_rs::UTF_8;
+use std::io;
+use std::io::{Read, Write};
+use std::test::Fail;
+
+/// Gives one byte a read, and fails once it has given them all.
+#[derive(Drop)]
+struct FailingReader<'a> {
+    rest: &'a [u8],
+}
+
+impl<'a> Read for FailingReader<'a> {
+    fn read(&mut self, buf: &mut [u8]) -> io::Result<usize> {
+        if buf.is_empty() {
+            return Ok(0);
+        }
+        let Some((first, rest)) = self.rest.split_first() else {
+            return Err(io::Error::from(io::ErrorKind::ConnectionReset));
+        };
+        buf[0] = *first;
+        self.rest = rest;
+        Ok(1)
+    }
+}
+
+/// Takes one byte a call, so many times, and then fails or takes none.
+#[derive(Drop)]
+struct SlowWriter {
+    taken: Vec<u8>,
+    calls: usize,
+    fails: bool,
+}
+
+impl Write for SlowWriter {
+    fn write(&mut self, buf: &[u8]) -> io::Result<usize> {
+        if self.calls == 0 {
+            if self.fails {
+                return Err(io::Error::from(io::ErrorKind::BrokenPipe));
+            }
+            return Ok(0);
+        }
+        let Some(first) = buf.first() else {
+            return Ok(0);
+        };
+        self.taken.push(*first)?;
+        self.calls -= 1;
+        Ok(1)
+    }
+
+    fn flush(&mut self) -> io::Result<()> {
+        Err(io::Error::from(io::ErrorKind::Unsupported))
+    }
+}
+
+#[test]
+fn recodes(rt: HostRuntime) {
+    let rows: [(&[u8], &[u8], bool); 5] = [
+        (b"", b"", false),
+        (b"a\xFF", b"a\xEF\xBF\xBD", true),
+        (
+            b"a\xC3\xA9\xE2\x82\xAC\xF0\x9F\x92\xA9",
+            b"a\xC3\xA9\xE2\x82\xAC\xF0\x9F\x92\xA9",
+            false,
+        ),
+        (b"\xEF\xBB\xBFa", b"\xEF\xBB\xBFa", false),
+        (b"a\xE2\x82", b"a\xEF\xBF\xBD", true),
+    ];
+    for (input, want, replaced) in rows {
+        let mut written = Vec::new(rt.alloc());
+        let outcome = run(
+            &mut FromRead::new(input),
+            &mut FromWrite::new(&mut written),
+            UTF_8,
+            UTF_8,
+        );
+        assert_eq!(rt; outcome, Ok(replaced), "of {input:?}");
+        assert_eq!(rt; written.as_slice(), want, "of {input:?}");
+    }
+}
+
+#[test]
+fn read_fails(rt: HostRuntime) {
+    let rows: [(&[u8], &[u8]); 3] = [(b"", b""), (b"a", b"a"), (b"a\xE2\x82", b"a")];
+    for (rest, want) in rows {
+        let mut reader = FromRead::new(FailingReader { rest });
+        let mut written = Vec::new(rt.alloc());
+        let mut writer = FromWrite::new(&mut written);
+        assert_eq!(rt;
+            run(&mut reader, &mut writer, UTF_8, UTF_8),
+            Err(RecodeFault::Read)
+        );
+        assert_eq!(rt; reader.failed(), true);
+        assert_eq!(rt; writer.failed(), false);
+        assert_eq!(rt; written.as_slice(), want, "of {rest:?}");
+    }
+}
+
+#[test]
+fn write_fails(rt: HostRuntime) {
+    for fails in [true, false] {
+        let mut slow = SlowWriter {
+            taken: Vec::new(rt.alloc()),
+            calls: 2,
+            fails,
+        };
+        let text: &[u8] = b"a\xFFb";
+        let mut reader = FromRead::new(text);
+        let mut writer = FromWrite::new(&mut slow);
+        assert_eq!(rt;
+            run(&mut reader, &mut writer, UTF_8, UTF_8),
+            Err(RecodeFault::Write)
+        );
+        assert_eq!(rt; writer.failed(), true);
+        assert_eq!(rt; reader.failed(), false);
+        assert_eq!(rt; slow.taken.as_slice(), b"a\xEF".as_slice());
+    }
+}
+
+#[test]
+fn writes_in_small_parts(rt: HostRuntime) {
+    let mut slow = SlowWriter {
+        taken: Vec::new(rt.alloc()),
+        calls: 9,
+        fails: true,
+    };
+    let text: &[u8] = b"a\xFFb";
+    let outcome = run(
+        &mut FromRead::new(text),
+        &mut FromWrite::new(&mut slow),
+        UTF_8,
+        UTF_8,
+    );
+    assert_eq!(rt; outcome, Ok(true));
+    assert_eq!(rt; slow.taken.as_slice(), b"a\xEF\xBF\xBDb".as_slice());
+}
+
+#[test]
+fn recodes_many_chunks(rt: HostRuntime) -> Result<(), Fail> {
+    let long = vec![in rt.alloc(); 0xFFu8; 200_000]?;
+    let mut written = Vec::new(rt.alloc());
+    let outcome = run(
+        &mut FromRead::new(long.as_slice()),
+        &mut FromWrite::new(&mut written),
+        UTF_8,
+        UTF_8,
+    );
+    assert_eq!(rt; outcome, Ok(true));
+    assert_eq!(rt; written.len(), 600_000);
+    Ok(())
+}
+
+#[test]
+fn pulls_and_pushes(rt: HostRuntime) {
+    let text: &[u8] = b"abc";
+    let mut source = FromRead::new(text);
+    let mut buf = [0u8; 2];
+    assert_eq!(rt; source.pull(&mut buf), Ok(2));
+    assert_eq!(rt; buf, [97, 98]);
+    assert_eq!(rt; source.pull(&mut buf), Ok(1));
+    assert_eq!(rt; source.pull(&mut buf), Ok(0));
+    assert_eq!(rt; source.failed(), false);
+    let mut written = Vec::new(rt.alloc());
+    let mut sink = FromWrite::new(&mut written);
+    assert_eq!(rt; sink.push(b"ab"), Ok(2));
+    assert_eq!(rt; sink.push(b""), Ok(0));
+    assert_eq!(rt; sink.failed(), false);
+    assert_eq!(rt; written.as_slice(), b"ab".as_slice());
+}
+
+#[test]
+fn knows_labels(rt: HostRuntime) {
+    assert_eq!(rt; labels("utf-8", "utf-8"), Some((UTF_8, UTF_8)));
+    for (from, to) in [
+        ("utf8", "utf-8"),
+        ("utf-8", "UTF-8"),
+        (" utf-8", "utf-8"),
+        ("", ""),
+    ] {
+        assert_eq!(rt; labels(from, to), None, "{from} {to}");
+    }
+}
+
+#[test]
+fn tells_status(rt: HostRuntime) {
+    assert_eq!(rt; status(&Ok(false)), 0);
+    assert_eq!(rt; status(&Ok(true)), 1);
+    assert_eq!(rt; status(&Err(RecodeFault::Read)), 3);
+    assert_eq!(rt; status(&Err(RecodeFault::Write)), 3);
+}
