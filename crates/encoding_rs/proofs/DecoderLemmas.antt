@@ -2,16 +2,15 @@
 use Rattle.std.proofs.Common.{◌≡◌, ℕ, Bool, true, false, List, [], ◌++◌, drop, refl, ap, ◌∙◌, sym, arith, subst}
 use Rattle.std.proofs.Math.ListN.{drop_of_length-le}
 use Rattle.encoding_rs.specs.declared.encoding.Encoding.{Encoding}
-use Rattle.encoding_rs.specs.declared.coder_result.CoderResult.{CoderResult}
-use Rattle.encoding_rs.specs.declared.decoder_result.DecoderResult.{DecoderResult}
-use Rattle.encoding_rs.specs.declared.decoder_result.DecoderResult.TheVariants as raw
-use Rattle.encoding_rs.specs.declared.coder_result.CoderResult.TheVariants.{InputEmpty, OutputFull}
-use Rattle.encoding_rs.specs.Output.{Output}
-use Rattle.encoding_rs.specs.Segmentation.{Rule}
-use Rattle.encoding_rs.specs.Remainder.{Remainder}
-use Rattle.encoding_rs.specs.CodecState.{CodecState, remainder_of}
-use Rattle.encoding_rs.specs.Call.{Call, CallInto, Treatment, Replaced, is_end}
-use Rattle.encoding_rs.specs.Decoding.{DecoderState, decoder_remainder, rule_of, stop_of, DecodesReplacing}
+use Rattle.enc_codec.specs.declared.decoder_result.DecoderResult.{DecoderResult}
+use Rattle.enc_codec.specs.declared.decoder_result.DecoderResult.TheVariants.{InputEmpty, OutputFull, Malformed}
+use Rattle.enc_units.specs.Output.{Output}
+use Rattle.enc_codec.specs.Segmentation.{Rule}
+use Rattle.enc_codec.specs.Remainder.{Remainder}
+use Rattle.enc_codec.specs.CodecState.{CodecState, remainder_of}
+use Rattle.enc_codec.specs.Call.{Call, CallInto, Treatment, is_end}
+use Rattle.encoding_rs.specs.Encodings.{rule_of}
+use Rattle.encoding_rs.specs.Decoding.{DecoderState, decoder_remainder, Decodes}
 
 -- a decoder that hasn't ended has what its codec has still to give
 pub open_remainder : (r : Rule) (e : Encoding) (f : Bool) (s : ℕ) (p : List ℕ) → rule_of e ≡ r → f ≡ false
@@ -22,8 +21,8 @@ open_remainder r e f s p same fresh =
 
 -- at the end of the input nothing is left
 pub ended : (units_of : ℕ → List ℕ) (old new : Remainder) (src : List ℕ) (t : Treatment) (room read : ℕ) (wrote : List ℕ) (replaced : Bool)
-    → Call units_of old new src true t room raw.InputEmpty read wrote replaced
-    → Call units_of old (record new { sequences = λ _. [] }) src true t room raw.InputEmpty read wrote replaced
+    → Call units_of old new src true t room InputEmpty read wrote replaced
+    → Call units_of old (record new { sequences = λ _. [] }) src true t room InputEmpty read wrote replaced
 ended units_of old new src t room read wrote replaced c =
     let rest : drop read src ≡ [] = drop_of_length-le src (let e = c.stops.all_read in omega arith) in
     let left : new.sequences [] ≡ [] = c.stops.none_left refl in
@@ -55,31 +54,32 @@ state_of e f s p = record { encoding = e; finished = f; set = s; pending = p }
 abbrev pub codec_of : Rule → ℕ → List ℕ → CodecState
 codec_of r s p = record { rule = r; set = s; pending = p }
 
-module _ (units_of : ℕ → List ℕ) (r : Rule) (e : Encoding) (same : rule_of e ≡ r) (s t : ℕ) (p q : List ℕ) (src : List ℕ) (room : ℕ) (read : ℕ) (wrote : List ℕ) (replaced : Bool) where
+module _ (units_of : ℕ → List ℕ) (treatment : Treatment) (r : Rule) (e : Encoding) (same : rule_of e ≡ r) (s t : ℕ) (p q : List ℕ) (src : List ℕ) (room : ℕ) (read : ℕ) (wrote : List ℕ) (replaced : Bool) where
   -- a call of the codec
-  abbrev pub CodecCall : Bool → CoderResult → Type 0
+  abbrev pub CodecCall : Bool → DecoderResult → Type 0
   CodecCall last result =
-      Call units_of (remainder_of (codec_of r s p)) (remainder_of (codec_of r t q)) src last Replaced room (stop_of result) read wrote replaced
+      Call units_of (remainder_of (codec_of r s p)) (remainder_of (codec_of r t q)) src last treatment room result read wrote replaced
 
   -- the decoder is then what its codec is, and has ended where the end was reached
-  goes_on_open : (last : Bool) (result : CoderResult) (f g : Bool) → f ≡ false → g ≡ false → CodecCall last result
-      → Call units_of (decoder_remainder (state_of e f s p)) (decoder_remainder (state_of e g t q)) src last Replaced room (stop_of result) read wrote replaced
+  goes_on_open : (last : Bool) (result : DecoderResult) (f g : Bool) → f ≡ false → g ≡ false → CodecCall last result
+      → Call units_of (decoder_remainder (state_of e f s p)) (decoder_remainder (state_of e g t q)) src last treatment room result read wrote replaced
   goes_on_open last result f g h i c =
-      subst (λ x. Call units_of x (decoder_remainder (state_of e g t q)) src last Replaced room (stop_of result) read wrote replaced) (open_remainder r e f s p same h)
-      (subst (λ x. Call units_of (remainder_of (codec_of r s p)) x src last Replaced room (stop_of result) read wrote replaced) (open_remainder r e g t q same i) c)
+      subst (λ x. Call units_of x (decoder_remainder (state_of e g t q)) src last treatment room result read wrote replaced) (open_remainder r e f s p same h)
+      (subst (λ x. Call units_of (remainder_of (codec_of r s p)) x src last treatment room result read wrote replaced) (open_remainder r e g t q same i) c)
 
   comes_to_end : (f g : Bool) → f ≡ false → g ≡ true → CodecCall true InputEmpty
-      → Call units_of (decoder_remainder (state_of e f s p)) (decoder_remainder (state_of e g t q)) src true Replaced room (stop_of InputEmpty) read wrote replaced
+      → Call units_of (decoder_remainder (state_of e f s p)) (decoder_remainder (state_of e g t q)) src true treatment room InputEmpty read wrote replaced
   comes_to_end f g h i c =
-      subst (λ x. Call units_of x (decoder_remainder (state_of e g t q)) src true Replaced room (stop_of InputEmpty) read wrote replaced) (open_remainder r e f s p same h)
-      (subst (λ b. Call units_of (remainder_of (codec_of r s p)) (decoder_remainder (state_of e b t q)) src true Replaced room (stop_of InputEmpty) read wrote replaced) (sym i)
-      (ended units_of (remainder_of (codec_of r s p)) (remainder_of (codec_of r t q)) src Replaced room read wrote replaced c))
+      subst (λ x. Call units_of x (decoder_remainder (state_of e g t q)) src true treatment room InputEmpty read wrote replaced) (open_remainder r e f s p same h)
+      (subst (λ b. Call units_of (remainder_of (codec_of r s p)) (decoder_remainder (state_of e b t q)) src true treatment room InputEmpty read wrote replaced) (sym i)
+      (ended units_of (remainder_of (codec_of r s p)) (remainder_of (codec_of r t q)) src treatment room read wrote replaced c))
 
-  pub decodes : (last : Bool) (result : CoderResult) (f g : Bool) → f ≡ false → g ≡ is_end last (stop_of result) → CodecCall last result
-      → DecodesReplacing units_of (state_of e f s p) (state_of e g t q) src last room result read wrote replaced
+  pub decodes : (last : Bool) (result : DecoderResult) (f g : Bool) → f ≡ false → g ≡ is_end last result → CodecCall last result
+      → Decodes units_of treatment (state_of e f s p) (state_of e g t q) src last room result read wrote replaced
   decodes true InputEmpty f g h i c = record { call = comes_to_end f g h i c; encoding = refl; finished = i }
   decodes false InputEmpty f g h i c = record { call = goes_on_open false InputEmpty f g h i c; encoding = refl; finished = i }
   decodes last OutputFull f g h i c = record { call = goes_on_open last OutputFull f g h i c; encoding = refl; finished = i }
+  decodes last (Malformed l a) f g h i c = record { call = goes_on_open last (Malformed l a) f g h i c; encoding = refl; finished = i }
 
 -- a call over a slice that is empty as yet
 pub over_slice : (units_of : ℕ → List ℕ) (old new : Remainder) (src : List ℕ) (last : Bool) (t : Treatment) (before after : Output) (result : DecoderResult) (read : ℕ) (replaced : Bool)
@@ -90,6 +90,15 @@ over_slice units_of old new src last t before after result read replaced then ro
     subst (λ x. Call units_of old new src last t room result read x replaced) e
     (subst (λ n. Call units_of old new src last t n result read c.wrote replaced) r c.call)
 
--- a decoder whose pending bytes are what they were
-pub same_state : (e : Encoding) (f g : Bool) (s : ℕ) (p q : List ℕ) → q ≡ p → g ≡ false → f ≡ false → state_of e g s q ≡ state_of e f s p
-same_state e f g s p q h i j = cc
+-- the same, where the codec keeps its rule
+pub slice_call : (units_of : ℕ → List ℕ) (v w : CodecState) (src : List ℕ) (last : Bool) (t : Treatment) (before after : Output) (result : DecoderResult) (read : ℕ) (replaced : Bool)
+    (then : List ℕ) (room : ℕ) → CallInto units_of (remainder_of v) (remainder_of w) src last t before after result read replaced → w.rule ≡ v.rule
+    → before.written ≡ [] → before.room ≡ room → after.written ≡ then
+    → Call units_of (remainder_of v) (remainder_of (codec_of v.rule w.set w.pending)) src last t room result read then replaced
+slice_call units_of v w src last t before after result read replaced then room c k f r a =
+    subst (λ (q : Rule). Call units_of (remainder_of v) (remainder_of (codec_of q w.set w.pending)) src last t room result read then replaced) k
+    (over_slice units_of (remainder_of v) (remainder_of w) src last t before after result read replaced then room c f r a)
+
+-- a decoder that may be called hasn't ended
+pub was_open : (old now : DecoderState) → old ≡ now → now.finished ≡ false → old.finished ≡ false
+was_open old now e h = ap (λ (d : DecoderState). d.finished) e ∙ h

@@ -8,11 +8,11 @@ use Rattle.encoding_rs.specs.declared.encoding.Encoding.{Encoding}
 use Rattle.encoding_rs.specs.declared.coder_result.CoderResult.{CoderResult}
 use Rattle.encoding_rs.specs.declared.coder_result.CoderResult.TheVariants.{InputEmpty, OutputFull}
 use Rattle.encoding_rs.specs.declared.run.DecodeCall.{DecodeCall}
-use Rattle.encoding_rs.specs.Output.{units_of_text}
-use Rattle.encoding_rs.specs.Sequence.{text_of, any_malformed}
+use Rattle.enc_units.specs.Output.{units_of_text}
+use Rattle.enc_codec.specs.Sequence.{text_of, any_malformed}
 use Rattle.encoding_rs.specs.Decoding.{DecoderState, fresh, remaining_sequences, whole_sequences, whole_utf_8, whole_malformed, DecodesReplacing, HasDecoded}
 use Rattle.encoding_rs.specs.Run.{MakesCall, RunState, GoesOn, IsRun, Begun}
-use Rattle.encoding_rs.proofs.SequenceLemmas.{units-append, any_malformed-append}
+use Rattle.enc_codec.proofs.SequenceLemmas.{units-append, any_malformed-append}
 
 -- a call that replaces has put out all that it has done
 pub only_put : (old new : DecoderState) (src : List ℕ) (last : Bool) (room : ℕ) (result : CoderResult) (read : ℕ) (wrote : List ℕ) (replaced : Bool)

@@ -1,26 +1,18 @@
--- Decoders of an encoding (Encoding Standard 4.1 and 6.1, "decode without BOM").
-use Rattle.std.specs.Prelude.{◌≡◌, ℕ, Bool, true, false, List, [], ◌++◌, if◌then◌else◌, length, ◌≤◌}
+-- Decoders of an encoding that look for no byte order mark (Encoding Standard 4.1, "process a queue"; as 6, "UTF-8
+-- decode without BOM", for any encoding).
+use Rattle.std.specs.Prelude.{◌≡◌, ℕ, Bool, true, false, List, [], ◌++◌, if◌then◌else◌}
 use Rattle.std.specs.Char.{encode_utf8}
-use Rattle.encoding_rs.specs.declared.encoding.Id.{Id}
-use Rattle.encoding_rs.specs.declared.encoding.Id.TheVariants.{Utf8}
 use Rattle.encoding_rs.specs.declared.encoding.Encoding.{Encoding}
-use Rattle.encoding_rs.specs.declared.decoder_result.DecoderResult.{DecoderResult}
-use Rattle.encoding_rs.specs.declared.decoder_result.DecoderResult.TheVariants as raw
+use Rattle.enc_codec.specs.declared.decoder_result.DecoderResult.{DecoderResult}
+use Rattle.enc_codec.specs.declared.decoder_result.DecoderResult.TheVariants as raw
 use Rattle.encoding_rs.specs.declared.coder_result.CoderResult.{CoderResult}
 use Rattle.encoding_rs.specs.declared.coder_result.CoderResult.TheVariants.{InputEmpty, OutputFull}
-use Rattle.encoding_rs.specs.Output.{units_of_text}
-use Rattle.encoding_rs.specs.Sequence.{Sequence, bytes_of, text_of, any_malformed, set_after}
-use Rattle.encoding_rs.specs.Segmentation.{Rule, sequences_of}
-use Rattle.encoding_rs.specs.Remainder.{Remainder}
-use Rattle.encoding_rs.specs.Call.{Call, Replaced, is_end}
-use Rattle.encoding_rs.specs.Utf8.{utf_8_rule}
-
-abbrev pub rule_by_id : Id → Rule
-rule_by_id Utf8 = utf_8_rule
-
--- the rule of an encoding
-abbrev pub rule_of : Encoding → Rule
-rule_of e = rule_by_id e.id
+use Rattle.enc_units.specs.Output.{units_of_text}
+use Rattle.enc_codec.specs.Sequence.{Sequence, bytes_of, text_of, any_malformed, set_after}
+use Rattle.enc_codec.specs.Segmentation.{sequences_of}
+use Rattle.encoding_rs.specs.Encodings.{rule_of}
+use Rattle.enc_codec.specs.Remainder.{Remainder}
+use Rattle.enc_codec.specs.Call.{Call, Treatment, Replaced, Reported, is_end}
 
 -- the sequences of a whole input, and its text
 abbrev pub whole_sequences : Encoding → List ℕ → List Sequence
@@ -57,29 +49,32 @@ abbrev pub stop_of : CoderResult → DecoderResult
 stop_of InputEmpty = raw.InputEmpty
 stop_of OutputFull = raw.OutputFull
 
--- A call of a decoder that replaces what is malformed.
-pub record DecodesReplacing (units_of : ℕ → List ℕ) (old new : DecoderState) (src : List ℕ) (last : Bool) (room : ℕ) (result : CoderResult) (read : ℕ) (wrote : List ℕ) (replaced : Bool) : Type 0 where
-  pub call : Call units_of (decoder_remainder old) (decoder_remainder new) src last Replaced room (stop_of result) read wrote replaced
+-- A call of a decoder.
+pub record Decodes (units_of : ℕ → List ℕ) (treatment : Treatment) (old new : DecoderState) (src : List ℕ) (last : Bool) (room : ℕ) (result : DecoderResult) (read : ℕ) (wrote : List ℕ) (replaced : Bool) : Type 0 where
+  pub call : Call units_of (decoder_remainder old) (decoder_remainder new) src last treatment room result read wrote replaced
   pub encoding : new.encoding ≡ old.encoding
-  pub finished : new.finished ≡ is_end last (stop_of result)
+  pub finished : new.finished ≡ is_end last result
 
--- A decoder that is as it was, but for sequences without a text (escape sequences) that were pending, and are
--- taken now that they are shown to come first.
-pub record IsAsBefore (old new : DecoderState) : Type 0 where
+-- A call of a decoder that replaces what is malformed.
+abbrev pub DecodesReplacing : (ℕ → List ℕ) → DecoderState → DecoderState → List ℕ → Bool → ℕ → CoderResult → ℕ → List ℕ → Bool → Type 0
+DecodesReplacing units_of old new src last room result read wrote replaced =
+    Decodes units_of Replaced old new src last room (stop_of result) read wrote replaced
+
+-- A call of a decoder that reports what is malformed.
+abbrev pub DecodesReporting : (ℕ → List ℕ) → DecoderState → DecoderState → List ℕ → Bool → ℕ → DecoderResult → ℕ → List ℕ → Type 0
+DecodesReporting units_of old new src last room result read wrote =
+    Decodes units_of (Reported false) old new src last room result read wrote false
+
+-- A decoder that, offered src and having read nothing of it, is as it was, but for sequences without a text
+-- (escape sequences) that were pending: they come first, and are taken now that this is shown.
+pub record IsAsBefore (src : List ℕ) (last : Bool) (old new : DecoderState) : Type 0 where
   pub skipped : List Sequence
   pub no_text : text_of skipped ≡ []
+  pub come_first : (z : List ℕ) → (last ≡ true → z ≡ []) → remaining_sequences old (src ++ z) ≡ skipped ++ remaining_sequences new (src ++ z)
   pub pending : old.pending ≡ bytes_of skipped ++ new.pending
   pub set : new.set ≡ set_after old.set skipped
   pub encoding : new.encoding ≡ old.encoding
   pub finished : new.finished ≡ old.finished
-
--- Each sequence that this rule tells has a text: none is skipped.
-abbrev pub HasTexts : Rule → Type 0
-HasTexts rule = (set b : ℕ) (z : List ℕ) → (rule set b z).text ≡ [] → ⊥
-
--- Each has a text of at most four UTF-8 code units.
-abbrev pub HasSmallTexts : Rule → Type 0
-HasSmallTexts rule = (set b : ℕ) (z : List ℕ) → length (units_of_text encode_utf8 (rule set b z).text) ≤ 4
 
 -- What calls have made, of an encoding's decoder, of the bytes that they were given so far, of which these are
 -- unread; where `ended`, nothing follows them.

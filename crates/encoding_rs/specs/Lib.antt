@@ -1,11 +1,3 @@
-pub mod Output
-pub mod Sequence
-pub mod Segmentation
-pub mod Remainder
-pub mod Call
-pub mod CodecState
-pub mod CodecLaw
-pub mod Utf8
-pub mod Utf8Pending
+pub mod Encodings
 pub mod Decoding
 pub mod Run

@@ -1,3 +1,5 @@
+//! What calls with replacement answer.
+
 /// Why a call with replacement stopped.
 #[derive(Clone, Copy, PartialEq, Eq, Debug)]
 pub enum CoderResult {

@@ -1,12 +1,51 @@
 //! The encodings (Encoding Standard 4.2).
 
+ghost use Rattle.std.specs.Prelude.{◌≡◌};
+ghost use Rattle.enc_codec.specs.Codecs.{codec_rule};
+ghost use Rattle.encoding_rs.specs.Encodings.{rule_of};
+
+use enc_codec::Codec;
+use enc_codec::indexes::single_byte as index;
+
 /// Which encoding it is.
 #[derive(Clone, Copy, PartialEq, Eq, Hash, Debug)]
 enum Id {
     Utf8,
+    Ibm866,
+    Iso88592,
+    Iso88593,
+    Iso88594,
+    Iso88595,
+    Iso88596,
+    Iso88597,
+    Iso88598,
+    Iso88598I,
+    Iso885910,
+    Iso885913,
+    Iso885914,
+    Iso885915,
+    Iso885916,
+    Koi8R,
+    Koi8U,
+    Macintosh,
+    Windows874,
+    Windows1250,
+    Windows1251,
+    Windows1252,
+    Windows1253,
+    Windows1254,
+    Windows1255,
+    Windows1256,
+    Windows1257,
+    Windows1258,
+    XMacCyrillic,
+    Replacement,
+    Utf16be,
+    Utf16le,
+    XUserDefined,
 }
 
-/// An encoding of the Encoding Standard.
+/// An encoding of the Encoding Standard. Two are equal exactly where they are the same one.
 #[derive(Clone, Copy, PartialEq, Eq, Hash, Debug)]
 pub struct Encoding {
     id: Id,
@@ -17,3 +56,260 @@ pub const UTF_8: Encoding = Encoding { id: Id::Utf8 };
 
 /// The same as [`UTF_8`].
 pub const UTF_8_INIT: Encoding = UTF_8;
+
+/// IBM866 (Encoding Standard 9.1).
+pub const IBM866: Encoding = Encoding { id: Id::Ibm866 };
+
+/// The same as [`IBM866`].
+pub const IBM866_INIT: Encoding = IBM866;
+
+/// ISO-8859-2 (Encoding Standard 9.1).
+pub const ISO_8859_2: Encoding = Encoding { id: Id::Iso88592 };
+
+/// The same as [`ISO_8859_2`].
+pub const ISO_8859_2_INIT: Encoding = ISO_8859_2;
+
+/// ISO-8859-3 (Encoding Standard 9.1).
+pub const ISO_8859_3: Encoding = Encoding { id: Id::Iso88593 };
+
+/// The same as [`ISO_8859_3`].
+pub const ISO_8859_3_INIT: Encoding = ISO_8859_3;
+
+/// ISO-8859-4 (Encoding Standard 9.1).
+pub const ISO_8859_4: Encoding = Encoding { id: Id::Iso88594 };
+
+/// The same as [`ISO_8859_4`].
+pub const ISO_8859_4_INIT: Encoding = ISO_8859_4;
+
+/// ISO-8859-5 (Encoding Standard 9.1).
+pub const ISO_8859_5: Encoding = Encoding { id: Id::Iso88595 };
+
+/// The same as [`ISO_8859_5`].
+pub const ISO_8859_5_INIT: Encoding = ISO_8859_5;
+
+/// ISO-8859-6 (Encoding Standard 9.1).
+pub const ISO_8859_6: Encoding = Encoding { id: Id::Iso88596 };
+
+/// The same as [`ISO_8859_6`].
+pub const ISO_8859_6_INIT: Encoding = ISO_8859_6;
+
+/// ISO-8859-7 (Encoding Standard 9.1).
+pub const ISO_8859_7: Encoding = Encoding { id: Id::Iso88597 };
+
+/// The same as [`ISO_8859_7`].
+pub const ISO_8859_7_INIT: Encoding = ISO_8859_7;
+
+/// ISO-8859-8 (Encoding Standard 9.1).
+pub const ISO_8859_8: Encoding = Encoding { id: Id::Iso88598 };
+
+/// The same as [`ISO_8859_8`].
+pub const ISO_8859_8_INIT: Encoding = ISO_8859_8;
+
+/// ISO-8859-8-I (Encoding Standard 9.1).
+pub const ISO_8859_8_I: Encoding = Encoding { id: Id::Iso88598I };
+
+/// The same as [`ISO_8859_8_I`].
+pub const ISO_8859_8_I_INIT: Encoding = ISO_8859_8_I;
+
+/// ISO-8859-10 (Encoding Standard 9.1).
+pub const ISO_8859_10: Encoding = Encoding { id: Id::Iso885910 };
+
+/// The same as [`ISO_8859_10`].
+pub const ISO_8859_10_INIT: Encoding = ISO_8859_10;
+
+/// ISO-8859-13 (Encoding Standard 9.1).
+pub const ISO_8859_13: Encoding = Encoding { id: Id::Iso885913 };
+
+/// The same as [`ISO_8859_13`].
+pub const ISO_8859_13_INIT: Encoding = ISO_8859_13;
+
+/// ISO-8859-14 (Encoding Standard 9.1).
+pub const ISO_8859_14: Encoding = Encoding { id: Id::Iso885914 };
+
+/// The same as [`ISO_8859_14`].
+pub const ISO_8859_14_INIT: Encoding = ISO_8859_14;
+
+/// ISO-8859-15 (Encoding Standard 9.1).
+pub const ISO_8859_15: Encoding = Encoding { id: Id::Iso885915 };
+
+/// The same as [`ISO_8859_15`].
+pub const ISO_8859_15_INIT: Encoding = ISO_8859_15;
+
+/// ISO-8859-16 (Encoding Standard 9.1).
+pub const ISO_8859_16: Encoding = Encoding { id: Id::Iso885916 };
+
+/// The same as [`ISO_8859_16`].
+pub const ISO_8859_16_INIT: Encoding = ISO_8859_16;
+
+/// KOI8-R (Encoding Standard 9.1).
+pub const KOI8_R: Encoding = Encoding { id: Id::Koi8R };
+
+/// The same as [`KOI8_R`].
+pub const KOI8_R_INIT: Encoding = KOI8_R;
+
+/// KOI8-U (Encoding Standard 9.1).
+pub const KOI8_U: Encoding = Encoding { id: Id::Koi8U };
+
+/// The same as [`KOI8_U`].
+pub const KOI8_U_INIT: Encoding = KOI8_U;
+
+/// macintosh (Encoding Standard 9.1).
+pub const MACINTOSH: Encoding = Encoding { id: Id::Macintosh };
+
+/// The same as [`MACINTOSH`].
+pub const MACINTOSH_INIT: Encoding = MACINTOSH;
+
+/// windows-874 (Encoding Standard 9.1).
+pub const WINDOWS_874: Encoding = Encoding { id: Id::Windows874 };
+
+/// The same as [`WINDOWS_874`].
+pub const WINDOWS_874_INIT: Encoding = WINDOWS_874;
+
+/// windows-1250 (Encoding Standard 9.1).
+pub const WINDOWS_1250: Encoding = Encoding {
+    id: Id::Windows1250,
+};
+
+/// The same as [`WINDOWS_1250`].
+pub const WINDOWS_1250_INIT: Encoding = WINDOWS_1250;
+
+/// windows-1251 (Encoding Standard 9.1).
+pub const WINDOWS_1251: Encoding = Encoding {
+    id: Id::Windows1251,
+};
+
+/// The same as [`WINDOWS_1251`].
+pub const WINDOWS_1251_INIT: Encoding = WINDOWS_1251;
+
+/// windows-1252 (Encoding Standard 9.1).
+pub const WINDOWS_1252: Encoding = Encoding {
+    id: Id::Windows1252,
+};
+
+/// The same as [`WINDOWS_1252`].
+pub const WINDOWS_1252_INIT: Encoding = WINDOWS_1252;
+
+/// windows-1253 (Encoding Standard 9.1).
+pub const WINDOWS_1253: Encoding = Encoding {
+    id: Id::Windows1253,
+};
+
+/// The same as [`WINDOWS_1253`].
+pub const WINDOWS_1253_INIT: Encoding = WINDOWS_1253;
+
+/// windows-1254 (Encoding Standard 9.1).
+pub const WINDOWS_1254: Encoding = Encoding {
+    id: Id::Windows1254,
+};
+
+/// The same as [`WINDOWS_1254`].
+pub const WINDOWS_1254_INIT: Encoding = WINDOWS_1254;
+
+/// windows-1255 (Encoding Standard 9.1).
+pub const WINDOWS_1255: Encoding = Encoding {
+    id: Id::Windows1255,
+};
+
+/// The same as [`WINDOWS_1255`].
+pub const WINDOWS_1255_INIT: Encoding = WINDOWS_1255;
+
+/// windows-1256 (Encoding Standard 9.1).
+pub const WINDOWS_1256: Encoding = Encoding {
+    id: Id::Windows1256,
+};
+
+/// The same as [`WINDOWS_1256`].
+pub const WINDOWS_1256_INIT: Encoding = WINDOWS_1256;
+
+/// windows-1257 (Encoding Standard 9.1).
+pub const WINDOWS_1257: Encoding = Encoding {
+    id: Id::Windows1257,
+};
+
+/// The same as [`WINDOWS_1257`].
+pub const WINDOWS_1257_INIT: Encoding = WINDOWS_1257;
+
+/// windows-1258 (Encoding Standard 9.1).
+pub const WINDOWS_1258: Encoding = Encoding {
+    id: Id::Windows1258,
+};
+
+/// The same as [`WINDOWS_1258`].
+pub const WINDOWS_1258_INIT: Encoding = WINDOWS_1258;
+
+/// x-mac-cyrillic (Encoding Standard 9.1).
+pub const X_MAC_CYRILLIC: Encoding = Encoding {
+    id: Id::XMacCyrillic,
+};
+
+/// The same as [`X_MAC_CYRILLIC`].
+pub const X_MAC_CYRILLIC_INIT: Encoding = X_MAC_CYRILLIC;
+
+/// replacement (Encoding Standard 14.1).
+pub const REPLACEMENT: Encoding = Encoding {
+    id: Id::Replacement,
+};
+
+/// The same as [`REPLACEMENT`].
+pub const REPLACEMENT_INIT: Encoding = REPLACEMENT;
+
+/// UTF-16BE (Encoding Standard 14.3).
+pub const UTF_16BE: Encoding = Encoding { id: Id::Utf16be };
+
+/// The same as [`UTF_16BE`].
+pub const UTF_16BE_INIT: Encoding = UTF_16BE;
+
+/// UTF-16LE (Encoding Standard 14.4).
+pub const UTF_16LE: Encoding = Encoding { id: Id::Utf16le };
+
+/// The same as [`UTF_16LE`].
+pub const UTF_16LE_INIT: Encoding = UTF_16LE;
+
+/// x-user-defined (Encoding Standard 14.5).
+pub const X_USER_DEFINED: Encoding = Encoding {
+    id: Id::XUserDefined,
+};
+
+/// The same as [`X_USER_DEFINED`].
+pub const X_USER_DEFINED_INIT: Encoding = X_USER_DEFINED;
+
+/// Which decoder an encoding has.
+pub fn codec_of(encoding: Encoding) -> Codec
+    ensures { codec_rule result ≡ rule_of encoding }
+{
+    match encoding.id {
+        Id::Utf8 => Codec::Utf8,
+        Id::Ibm866 => Codec::SingleByte(index::IBM866),
+        Id::Iso88592 => Codec::SingleByte(index::ISO_8859_2),
+        Id::Iso88593 => Codec::SingleByte(index::ISO_8859_3),
+        Id::Iso88594 => Codec::SingleByte(index::ISO_8859_4),
+        Id::Iso88595 => Codec::SingleByte(index::ISO_8859_5),
+        Id::Iso88596 => Codec::SingleByte(index::ISO_8859_6),
+        Id::Iso88597 => Codec::SingleByte(index::ISO_8859_7),
+        Id::Iso88598 => Codec::SingleByte(index::ISO_8859_8),
+        Id::Iso88598I => Codec::SingleByte(index::ISO_8859_8),
+        Id::Iso885910 => Codec::SingleByte(index::ISO_8859_10),
+        Id::Iso885913 => Codec::SingleByte(index::ISO_8859_13),
+        Id::Iso885914 => Codec::SingleByte(index::ISO_8859_14),
+        Id::Iso885915 => Codec::SingleByte(index::ISO_8859_15),
+        Id::Iso885916 => Codec::SingleByte(index::ISO_8859_16),
+        Id::Koi8R => Codec::SingleByte(index::KOI8_R),
+        Id::Koi8U => Codec::SingleByte(index::KOI8_U),
+        Id::Macintosh => Codec::SingleByte(index::MACINTOSH),
+        Id::Windows874 => Codec::SingleByte(index::WINDOWS_874),
+        Id::Windows1250 => Codec::SingleByte(index::WINDOWS_1250),
+        Id::Windows1251 => Codec::SingleByte(index::WINDOWS_1251),
+        Id::Windows1252 => Codec::SingleByte(index::WINDOWS_1252),
+        Id::Windows1253 => Codec::SingleByte(index::WINDOWS_1253),
+        Id::Windows1254 => Codec::SingleByte(index::WINDOWS_1254),
+        Id::Windows1255 => Codec::SingleByte(index::WINDOWS_1255),
+        Id::Windows1256 => Codec::SingleByte(index::WINDOWS_1256),
+        Id::Windows1257 => Codec::SingleByte(index::WINDOWS_1257),
+        Id::Windows1258 => Codec::SingleByte(index::WINDOWS_1258),
+        Id::XMacCyrillic => Codec::SingleByte(index::X_MAC_CYRILLIC),
+        Id::Replacement => Codec::Replacement,
+        Id::Utf16be => Codec::Utf16Be,
+        Id::Utf16le => Codec::Utf16Le,
+        Id::XUserDefined => Codec::XUserDefined,
+    }
+}

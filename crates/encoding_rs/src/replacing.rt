@@ -1,32 +1,32 @@
 //! Calls that replace malformed sequences by U+FFFD (Encoding Standard 4.1, error mode "replacement").
 
 ghost use Rattle.std.specs.Prelude.{◌≡◌, true};
-ghost use Rattle.encoding_rs.specs.CodecState.{remainder_of};
-ghost use Rattle.encoding_rs.specs.Call.{CallInto, Replaced};
+ghost use Rattle.enc_codec.specs.CodecState.{remainder_of};
+ghost use Rattle.enc_codec.specs.Call.{CallInto, Replaced};
+ghost use Rattle.enc_codec.specs.RuleLaws.{IsLawful};
 ghost use Rattle.encoding_rs.specs.Decoding.{stop_of};
 
-use crate::codec::Codec;
 use crate::coder_result::CoderResult;
-use crate::decoder_result::DecoderResult;
-use crate::machine::decode;
-use crate::units::Units;
+use enc_codec::{DecoderResult, RawDecoder};
+use enc_units::Units;
 
 /// Decodes until all is read or the next sequence doesn't fit, U+FFFD for a malformed one.
-pub fn decode_replacing<C: Codec, U: Units>(
-    codec: &mut C,
+pub fn decode_replacing<D: RawDecoder, U: Units>(
+    decoder: &mut D,
     src: &[u8],
     out: &mut U,
     last: bool,
 ) -> (CoderResult, usize, bool)
-    ensures call { CallInto U.units_of (remainder_of (C.state codec.old)) (remainder_of (C.state codec.new)) src.now last
+    ensures call { CallInto U.units_of (remainder_of (D.state decoder.old)) (remainder_of (D.state decoder.new)) src.now last
         Replaced (U.output out.old) (U.output out.new) (stop_of result.0) result.1 result.2 }
-    ensures rule { (C.state codec.new).rule ≡ (C.state codec.old).rule }
+    ensures rule { (D.state decoder.new).rule ≡ (D.state decoder.old).rule }
+    ensures lawful { IsLawful (D.state decoder.old).rule }
 {
     let mut read = 0;
     let mut replaced = false;
     loop {
         let (_, rest) = src.split_at(read);
-        let (result, more) = decode(codec, rest, out, last, true);
+        let (result, more) = decoder.decode(rest, out, last, true);
         read += more;
         match result {
             DecoderResult::InputEmpty => return (CoderResult::InputEmpty, read, replaced),

@@ -11,7 +11,9 @@ use std::alloc::{AllocError, Global};
 /// One call of a run: how many bytes it is offered, and how many bytes of room its output has.
 #[derive(Clone, Copy)]
 pub struct DecodeCall {
+    /// How many bytes it is offered, if so many are left.
     pub offer: usize,
+    /// How many bytes its output can take.
     pub room: usize,
 }
 

@@ -107,8 +107,8 @@ fn run_through<R: Source, W: Sink>(
 }
 
 /// Reads all of a source, decodes it by `from`, looking for no byte order mark, and writes its text to
-/// a sink in the output encoding of `to`, which is UTF-8 for every encoding. A malformed sequence
-/// becomes U+FFFD, and the answer is whether there was one.
+/// a sink in UTF-8. `to` is for the encoding to write: there are no encoders yet, so it is UTF-8 whatever
+/// is given. A malformed sequence becomes U+FFFD, and the answer is whether there was one.
 ///
 /// On `Err` the side that it names has failed, and the sink has taken a prefix of the text. A source
 /// that gives bytes for 2^64 - 1 pulls is taken to have failed too.

@@ -1,14 +1,14 @@
 use Rattle.std.proofs.Common.{◌≡◌, ◌+◌, ◌-◌, length}
-use Rattle.encoding_rs.specs.CodecState.{remainder_of}
+use Rattle.enc_codec.specs.CodecState.{remainder_of}
 use Rattle.encoding_rs.proofs.ReplacingLemmas.{Turning}
 use Rattle.encoding_rs.proofs.replacing.decode_replacing.Given as goal
 
 abbrev pub invariant-loop-out : goal.invariant-loop-out
 invariant-loop-out g l = record {
-  turning : Turning g.U.Units.units_of (remainder_of (g.C.Codec.state l.initial.codec)) l.src l.last (g.U.Units.output l.initial.out) (g.U.Units.output l.out) l.read (remainder_of (g.C.Codec.state l.codec)) l.replaced;
-  rule : (g.C.Codec.state l.codec).rule ≡ (g.C.Codec.state l.initial.codec).rule;
+  turning : Turning g.U.Units.units_of (remainder_of (g.D.RawDecoder.state l.initial.decoder)) l.src l.last (g.U.Units.output l.initial.out) (g.U.Units.output l.out) l.read (remainder_of (g.D.RawDecoder.state l.decoder)) l.replaced;
+  rule : (g.D.RawDecoder.state l.decoder).rule ≡ (g.D.RawDecoder.state l.initial.decoder).rule;
 }
 
 -- the bytes that are pending or unread
 abbrev pub decreases-loop-out : goal.decreases-loop-out
-decreases-loop-out g l = length (g.C.Codec.state l.codec).pending + (length l.src - l.read)
+decreases-loop-out g l = length (g.D.RawDecoder.state l.decoder).pending + (length l.src - l.read)

@@ -1,0 +1,17 @@
+//! Worked examples of every encoding, each through every cut and every small room.
+//!
+//! This crate has tests alone. A codec's examples stand in a module of its own, as tables, and one harness runs
+//! them. What is expected comes from outside: the examples of the Encoding Standard, Unicode's tables, and the
+//! answers of other converters, as each table says.
+#![tactic(auto)]
+
+#[cfg(test)]
+mod harness;
+#[cfg(test)]
+mod single_byte;
+#[cfg(test)]
+mod stateless;
+#[cfg(test)]
+mod utf_16;
+#[cfg(test)]
+mod utf_8;

@@ -1,0 +1,127 @@
+//! UTF-16BE and UTF-16LE (Encoding Standard 14.2 to 14.4).
+
+use crate::harness::{
+    Call, StrictCall, compare_cuts, make_calls, make_strict_calls, malformed, valid,
+};
+use encoding_rs::{CoderResult, DecoderResult, UTF_16BE, UTF_16LE};
+use std::test::Fail;
+
+#[test]
+fn a_lead_before_another_unit_is_malformed(rt: HostRuntime) {
+    make_strict_calls(
+        &rt,
+        UTF_16LE,
+        &[
+            StrictCall {
+                src: &[0x3D, 0xD8, 0x41, 0x00],
+                last: true,
+                room: 8,
+                want: (DecoderResult::Malformed(2, 1), 3, 0),
+                text: &[],
+            },
+            StrictCall {
+                src: &[0x00],
+                last: true,
+                room: 8,
+                want: (DecoderResult::InputEmpty, 1, 1),
+                text: b"A",
+            },
+        ],
+    );
+}
+
+#[test]
+fn what_is_left_at_the_end_is_one_malformed_sequence(rt: HostRuntime) {
+    make_strict_calls(
+        &rt,
+        UTF_16LE,
+        &[StrictCall {
+            src: &[0x3D, 0xD8, 0x41],
+            last: true,
+            room: 8,
+            want: (DecoderResult::Malformed(3, 0), 3, 0),
+            text: &[],
+        }],
+    );
+    make_calls(
+        &rt,
+        UTF_16LE,
+        &[Call {
+            src: &[0x3D, 0xD8, 0xA9, 0xDC, 0x00],
+            last: true,
+            room: 8,
+            want: (CoderResult::InputEmpty, 5, 7, true),
+            text: "💩\u{FFFD}".as_bytes(),
+        }],
+    );
+}
+
+#[test]
+fn two_leads_wait_for_room(rt: HostRuntime) {
+    let replacement = "\u{FFFD}".as_bytes();
+    make_calls(
+        &rt,
+        UTF_16BE,
+        &[
+            Call {
+                src: &[0xD8, 0x00],
+                last: false,
+                room: 4,
+                want: (CoderResult::InputEmpty, 2, 0, false),
+                text: &[],
+            },
+            Call {
+                src: &[0xD8, 0x00],
+                last: true,
+                room: 4,
+                want: (CoderResult::OutputFull, 2, 3, true),
+                text: replacement,
+            },
+            Call {
+                src: &[],
+                last: true,
+                room: 4,
+                want: (CoderResult::InputEmpty, 0, 3, true),
+                text: replacement,
+            },
+        ],
+    );
+}
+
+#[test]
+fn cuts_and_rooms_change_nothing(rt: HostRuntime) -> Result<(), Fail> {
+    compare_cuts(
+        &rt,
+        rt.alloc(),
+        UTF_16LE,
+        &valid(&[0x61, 0x00, 0xAC, 0x20, 0x3D, 0xD8, 0xA9, 0xDC], "a€💩", 4),
+    )?;
+    compare_cuts(
+        &rt,
+        rt.alloc(),
+        UTF_16BE,
+        &valid(&[0x00, 0x61, 0x20, 0xAC, 0xD8, 0x3D, 0xDC, 0xA9], "a€💩", 4),
+    )?;
+    compare_cuts(
+        &rt,
+        rt.alloc(),
+        UTF_16LE,
+        &malformed(
+            &[0x3D, 0xD8, 0x41, 0x00, 0x00, 0xDC, 0x3D, 0xD8, 0x42],
+            "\u{FFFD}A\u{FFFD}\u{FFFD}",
+            3,
+        ),
+    )?;
+    compare_cuts(
+        &rt,
+        rt.alloc(),
+        UTF_16BE,
+        &malformed(&[0xD8, 0x00, 0xD8, 0x00], "\u{FFFD}\u{FFFD}", 3),
+    )?;
+    compare_cuts(
+        &rt,
+        rt.alloc(),
+        UTF_16LE,
+        &malformed(&[0x3D, 0xD8, 0xA9, 0xDC, 0x00], "💩\u{FFFD}", 4),
+    )
+}

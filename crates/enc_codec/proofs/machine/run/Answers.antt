@@ -1,0 +1,46 @@
+use Rattle.std.proofs.Common.{refl, ◌∙◌}
+use Rattle.enc_codec.proofs.ComingLemmas.{holds_rule}
+use Rattle.enc_codec.proofs.MachineLemmas.{begin, stays, holds, stops_full, puts_with, puts_before, reports_with, reports_before}
+use Rattle.enc_codec.proofs.machine.run.Goals as goal
+use Rattle.enc_codec.proofs.machine.run.Goals.{then-shown, else-shown}
+
+pub loop-state-init : goal.loop-state-init
+loop-state-init g c = record { writing = begin _ _ _ _ _; rule = refl }
+
+pub returns-in-Stay-clause-call : goal.returns-in-Stay-clause-call
+returns-in-Stay-clause-call g c =
+    stays _ g.C.ByteCodec.state _ c.loop-state.state _ _ c.args.fault_room _ _ _ c.loop-state.invariant.writing c.loop-state.invariant.rule c.in-Stay.ensures
+
+pub loop-state-preserved-in-Hold : goal.loop-state-preserved-in-Hold
+loop-state-preserved-in-Hold g c = record {
+  writing = holds _ g.C.ByteCodec.state _ c.loop-state.state _ _ c.args.fault_room _ _ _ c.loop-state.invariant.writing c.loop-state.invariant.rule _ c.in-Hold.ensures;
+  rule = holds_rule _ _ _ c.in-Hold.ensures.1.0 ∙ c.loop-state.invariant.rule;
+}
+
+pub returns-then-is_reported-clause-call : goal.returns-then-is_reported-clause-call
+returns-then-is_reported-clause-call g c =
+    let malformed = c.is_reported.ensures.malformed c.if-is_reported.true in
+    let room = c.is_reported.ensures.room c.if-is_reported.true in
+    elim c.if-shown.branch [
+      | then-shown w ↦ rw w.end-is (reports_with _ g.C.ByteCodec.state _ c.loop-state.state _ _ c.args.fault_room _ _ _ c.loop-state.invariant.writing c.loop-state.invariant.rule _ _ c.in-Next.ensures malformed w.if-shown.true c.pending_len.ensures room)
+      | else-shown w ↦ rw w.end-is (reports_before _ g.C.ByteCodec.state _ c.loop-state.state _ _ c.args.fault_room _ _ _ c.loop-state.invariant.writing c.loop-state.invariant.rule _ _ c.in-Next.ensures malformed w.if-shown.false c.pending_len.ensures room)
+    ]
+
+pub returns-then-not-put_out-clause-call : goal.returns-then-not-put_out-clause-call
+returns-then-not-put_out-clause-call g c =
+    stops_full _ g.C.ByteCodec.state _ c.loop-state.state _ _ c.args.fault_room _ _ _ c.loop-state.invariant.writing c.loop-state.invariant.rule _ _ c.in-Next.ensures
+    (c.put_out.ensures.unchanged c.if-not-put_out.true) (c.is_reported.ensures.asked c.if-is_reported.false) (c.is_reported.ensures.full c.if-is_reported.false)
+    (c.put_out.ensures.full c.if-not-put_out.true)
+
+pub loop-state-preserved : goal.loop-state-preserved
+loop-state-preserved g c =
+    let valid = c.put_out.ensures.valid c.if-not-put_out.false in
+    let fits = c.put_out.ensures.fits c.if-not-put_out.false in
+    let written = c.put_out.ensures.written c.if-not-put_out.false in
+    record {
+      writing = elim c.if-shown.branch [
+        | then-shown w ↦ rw w.end-is (puts_with _ g.C.ByteCodec.state _ c.loop-state.state _ _ c.args.fault_room _ _ _ c.loop-state.invariant.writing c.loop-state.invariant.rule _ _ c.in-Next.ensures valid w.if-shown.true fits written)
+        | else-shown w ↦ rw w.end-is (puts_before _ g.C.ByteCodec.state _ c.loop-state.state _ _ c.args.fault_room _ _ _ c.loop-state.invariant.writing c.loop-state.invariant.rule _ _ c.in-Next.ensures valid w.if-shown.false fits written)
+      ];
+      rule = c.in-Next.ensures.0.same_rule ∙ c.loop-state.invariant.rule;
+    }

@@ -1,0 +1,10 @@
+use Rattle.std.proofs.Common.{refl}
+use Rattle.enc_codec.specs.OneByte.{single_byte_char}
+use Rattle.enc_codec.specs.OneByteState.{single_byte_state}
+use Rattle.enc_codec.proofs.OneByteLemmas.{one_byte_acts}
+use Rattle.enc_codec.proofs.single_byte.SingleByteDecoderByteCodec.next_step.Goals as goal
+
+pub returns : goal.returns
+returns c =
+    rw c.show_byte.ensures (one_byte_acts (single_byte_char c.args.self.list.runs.now) (λ d. single_byte_state d.list)
+    c.args.self refl c.args.byte _ c.character_of.ensures)

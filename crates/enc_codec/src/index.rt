@@ -1,0 +1,62 @@
+//! Indexes (Encoding Standard 5): the characters of an encoding by pointers.
+
+ghost use Rattle.std.specs.Prelude.{◌≡◌, ◌+◌};
+ghost use Rattle.enc_codec.specs.Index.{index_at, entry_character};
+
+/// An index as runs of entries. A run (first pointer, last pointer, first code point) stands for the entries
+/// (first pointer, code point), (first pointer + 1, code point + 1) and so on to the last pointer.
+#[derive(Clone, Copy)]
+pub struct List {
+    /// The runs. Where two have the same pointer, the first of them counts.
+    pub runs: &'static [(u32, u32, u32)],
+}
+
+impl List {
+    /// The character of a pointer, by the first run that has it. `None` for an unmapped pointer: where no run has
+    /// it, or its code point is 0, a surrogate or past U+FFFF. Takes no memory.
+    pub fn at(&self, pointer: u32) -> Option<char>
+        ensures { result ≡ index_at self.now.runs.now pointer }
+    {
+        for (first, last, code_point) in self.runs {
+            if *first <= pointer && pointer <= *last {
+                return character(*code_point, pointer - *first);
+            }
+        }
+        None
+    }
+}
+
+/// The character so many code points behind another.
+fn character(code_point: u32, offset: u32) -> Option<char>
+    ensures { result ≡ entry_character (code_point + offset) }
+{
+    match code_point.checked_add(offset) {
+        Some(sum) => mapped(sum),
+        None => None,
+    }
+}
+
+/// The character of a code point, if an entry can have it.
+fn mapped(code_point: u32) -> Option<char>
+    ensures { result ≡ entry_character code_point }
+{
+    if code_point == 0 || code_point > 0xFFFF {
+        return None;
+    }
+    char::from_u32(code_point)
+}
+
+#[cfg(test)]
+mod tests {
+    use crate::indexes::single_byte::{WINDOWS_1252, WINDOWS_1257};
+    use std::test::Fail;
+
+    #[test]
+    fn finds_entries(rt: HostRuntime) -> Result<(), Fail> {
+        assert_eq!(rt; WINDOWS_1252.at(0), Some('€'));
+        assert_eq!(rt; WINDOWS_1252.at(0x7F), Some('ÿ'));
+        assert_eq!(rt; WINDOWS_1252.at(0x80), None);
+        assert_eq!(rt; WINDOWS_1257.at(0x21), None);
+        Ok(())
+    }
+}

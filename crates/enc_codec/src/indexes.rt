@@ -1,0 +1,3 @@
+//! The index data.
+
+pub mod single_byte;

@@ -1,0 +1,30 @@
+//! Decoders of single encodings.
+#![tactic(auto)]
+
+mod byte_codec;
+mod codec;
+mod decoder_result;
+mod index;
+pub mod indexes;
+mod machine;
+mod one_byte;
+mod pending;
+pub mod plain;
+mod raw_decoder;
+mod replacement;
+mod single_byte;
+mod utf_16;
+mod utf_8;
+mod variant;
+mod x_user_defined;
+
+pub use codec::Codec;
+pub use decoder_result::DecoderResult;
+pub use index::List;
+pub use raw_decoder::RawDecoder;
+pub use replacement::ReplacementDecoder;
+pub use single_byte::SingleByteDecoder;
+pub use utf_8::Utf8Decoder;
+pub use utf_16::Utf16Decoder;
+pub use variant::VariantDecoder;
+pub use x_user_defined::XUserDefinedDecoder;

@@ -1,0 +1,119 @@
+//! The legacy single-byte decoders (Encoding Standard 9.1).
+
+ghost use Rattle.std.specs.Prelude.{◌≡◌};
+ghost use Rattle.enc_codec.specs.OneByte.{single_byte_char};
+
+use crate::byte_codec::{ByteCodec, Shown, Step};
+use crate::decoder_result::DecoderResult;
+use crate::index::List;
+use crate::machine::run;
+use crate::one_byte::show_byte;
+use crate::raw_decoder::RawDecoder;
+use enc_units::Units;
+
+/// The decoder of a legacy single-byte encoding (Encoding Standard 9.1), by the encoding's index: a byte below
+/// 0x80 is its own character, and any other has that of the pointer 0x80 less, or is malformed where that is
+/// unmapped.
+#[derive(Clone, Copy)]
+pub struct SingleByteDecoder {
+    list: List,
+}
+
+impl SingleByteDecoder {
+    /// A decoder for the encoding with this index. Takes no memory.
+    pub fn new(list: List) -> SingleByteDecoder
+        ensures { result.list ≡ list }
+    {
+        SingleByteDecoder { list }
+    }
+}
+
+/// The character of a byte, if it has one.
+fn character_of(list: List, byte: u8) -> Option<char>
+    ensures { result ≡ single_byte_char list.runs.now byte }
+{
+    if byte < 0x80 {
+        Some(byte as char)
+    } else {
+        list.at(byte as u32 - 0x80)
+    }
+}
+
+impl ByteCodec for SingleByteDecoder {
+    ghost use Rattle.enc_codec.specs.OneByteState.{single_byte_state};
+
+    ghost state = { λ d. single_byte_state d.list };
+
+    fn next_step(self, byte: u8) -> Step<SingleByteDecoder> {
+        show_byte(self, character_of(self.list, byte))
+    }
+
+    fn ready(self) -> Option<Shown<SingleByteDecoder>> {
+        None
+    }
+
+    fn at_end(self) -> Option<Shown<SingleByteDecoder>> {
+        None
+    }
+
+    fn pending_len(self) -> u8 {
+        0
+    }
+}
+
+impl RawDecoder for SingleByteDecoder {
+    ghost use Rattle.enc_codec.specs.OneByteState.{single_byte_state};
+
+    ghost state = { λ d. single_byte_state d.list };
+
+    fn decode<U: Units>(
+        &mut self,
+        src: &[u8],
+        out: &mut U,
+        last: bool,
+        fault_room: bool,
+    ) -> (DecoderResult, usize) {
+        run(self, src, out, last, fault_room)
+    }
+
+    fn held(&self) -> usize {
+        self.pending_len() as usize
+    }
+}
+
+#[cfg(test)]
+mod tests {
+    use super::*;
+    use crate::indexes::single_byte::{WINDOWS_1252, WINDOWS_1257};
+    use enc_units::Utf8Slice;
+    use std::test::Fail;
+
+    #[test]
+    fn decodes_windows_1252(rt: HostRuntime) -> Result<(), Fail> {
+        let mut dst = [0; 16];
+        let mut decoder = SingleByteDecoder::new(WINDOWS_1252);
+        let mut out = Utf8Slice::new(&mut dst);
+        let end = decoder.decode(b"\x61\x80\xE9", &mut out, true, false);
+        assert_eq!(rt; end, (DecoderResult::InputEmpty, 3));
+        assert_eq!(rt; out.len(), 6);
+        assert_eq!(rt; &dst[..6], "a€é".as_bytes());
+        Ok(())
+    }
+
+    #[test]
+    fn reports_an_unmapped_byte(rt: HostRuntime) -> Result<(), Fail> {
+        let src = b"\x61\x62\x63\x80\xA1\xE4";
+        let mut dst = [0; 16];
+        let mut decoder = SingleByteDecoder::new(WINDOWS_1257);
+        let mut out = Utf8Slice::new(&mut dst);
+        let fault = decoder.decode(src, &mut out, true, false);
+        assert_eq!(rt; fault, (DecoderResult::Malformed(1, 0), 5));
+        assert_eq!(rt; out.len(), 6);
+        assert_eq!(rt; decoder.held(), 0);
+        let end = decoder.decode(&src[5..], &mut out, true, false);
+        assert_eq!(rt; end, (DecoderResult::InputEmpty, 1));
+        assert_eq!(rt; out.len(), 8);
+        assert_eq!(rt; &dst[..8], "abc€ä".as_bytes());
+        Ok(())
+    }
+}

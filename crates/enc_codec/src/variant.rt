@@ -1,0 +1,57 @@
+//! One decoder of any encoding.
+
+use crate::decoder_result::DecoderResult;
+use crate::raw_decoder::RawDecoder;
+use crate::replacement::ReplacementDecoder;
+use crate::single_byte::SingleByteDecoder;
+use crate::utf_8::Utf8Decoder;
+use crate::utf_16::Utf16Decoder;
+use crate::x_user_defined::XUserDefinedDecoder;
+use enc_units::Units;
+
+/// A decoder of any encoding. It is what the decoder in it is.
+#[derive(Clone, Copy)]
+pub enum VariantDecoder {
+    /// Of UTF-8.
+    Utf8(Utf8Decoder),
+    /// Of UTF-16, of either byte order.
+    Utf16(Utf16Decoder),
+    /// Of a legacy single-byte encoding.
+    SingleByte(SingleByteDecoder),
+    /// Of x-user-defined.
+    XUserDefined(XUserDefinedDecoder),
+    /// Of the replacement encoding.
+    Replacement(ReplacementDecoder),
+}
+
+impl RawDecoder for VariantDecoder {
+    ghost use Rattle.enc_codec.specs.Variant.{variant_state};
+
+    ghost state = { variant_state };
+
+    fn decode<U: Units>(
+        &mut self,
+        src: &[u8],
+        out: &mut U,
+        last: bool,
+        fault_room: bool,
+    ) -> (DecoderResult, usize) {
+        match self {
+            VariantDecoder::Utf8(decoder) => decoder.decode(src, out, last, fault_room),
+            VariantDecoder::Utf16(decoder) => decoder.decode(src, out, last, fault_room),
+            VariantDecoder::SingleByte(decoder) => decoder.decode(src, out, last, fault_room),
+            VariantDecoder::XUserDefined(decoder) => decoder.decode(src, out, last, fault_room),
+            VariantDecoder::Replacement(decoder) => decoder.decode(src, out, last, fault_room),
+        }
+    }
+
+    fn held(&self) -> usize {
+        match self {
+            VariantDecoder::Utf8(decoder) => decoder.held(),
+            VariantDecoder::Utf16(decoder) => decoder.held(),
+            VariantDecoder::SingleByte(decoder) => decoder.held(),
+            VariantDecoder::XUserDefined(decoder) => decoder.held(),
+            VariantDecoder::Replacement(decoder) => decoder.held(),
+        }
+    }
+}

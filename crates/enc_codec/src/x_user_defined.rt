@@ -1,0 +1,95 @@
+//! The x-user-defined decoder (Encoding Standard 14.5).
+
+ghost use Rattle.std.specs.Prelude.{◌≡◌, Some};
+ghost use Rattle.enc_codec.specs.OneByte.{x_user_defined_char};
+
+use crate::byte_codec::{ByteCodec, Shown, Step};
+use crate::decoder_result::DecoderResult;
+use crate::machine::run;
+use crate::one_byte::show_byte;
+use crate::raw_decoder::RawDecoder;
+use enc_units::Units;
+
+/// The x-user-defined decoder (Encoding Standard 14.5): a byte below 0x80 is its own character, and 0x80 to 0xFF
+/// are U+F780 to U+F7FF.
+#[derive(Clone, Copy)]
+pub struct XUserDefinedDecoder;
+
+impl XUserDefinedDecoder {
+    /// A decoder. Takes no memory.
+    pub fn new() -> XUserDefinedDecoder {
+        XUserDefinedDecoder
+    }
+}
+
+/// The character of a byte.
+fn character_of(byte: u8) -> char
+    ensures { Some result ≡ x_user_defined_char byte }
+{
+    if byte < 0x80 {
+        return byte as char;
+    }
+    char::from_u32(0xF780 + (byte as u32 - 0x80)).unwrap()
+}
+
+impl ByteCodec for XUserDefinedDecoder {
+    ghost use Rattle.enc_codec.specs.OneByteState.{x_user_defined_state};
+
+    ghost state = { λ _. x_user_defined_state };
+
+    fn next_step(self, byte: u8) -> Step<XUserDefinedDecoder> {
+        show_byte(self, Some(character_of(byte)))
+    }
+
+    fn ready(self) -> Option<Shown<XUserDefinedDecoder>> {
+        None
+    }
+
+    fn at_end(self) -> Option<Shown<XUserDefinedDecoder>> {
+        None
+    }
+
+    fn pending_len(self) -> u8 {
+        0
+    }
+}
+
+impl RawDecoder for XUserDefinedDecoder {
+    ghost use Rattle.enc_codec.specs.OneByteState.{x_user_defined_state};
+
+    ghost state = { λ _. x_user_defined_state };
+
+    fn decode<U: Units>(
+        &mut self,
+        src: &[u8],
+        out: &mut U,
+        last: bool,
+        fault_room: bool,
+    ) -> (DecoderResult, usize) {
+        run(self, src, out, last, fault_room)
+    }
+
+    fn held(&self) -> usize {
+        self.pending_len() as usize
+    }
+}
+
+#[cfg(test)]
+mod tests {
+    use super::*;
+    use enc_units::Utf8Slice;
+    use std::test::Fail;
+
+    #[test]
+    fn decodes_every_byte(rt: HostRuntime) -> Result<(), Fail> {
+        let mut dst = [0; 16];
+        let mut decoder = XUserDefinedDecoder::new();
+        let mut out = Utf8Slice::new(&mut dst);
+        let end = decoder.decode(b"\x80\xFF", &mut out, true, false);
+        assert_eq!(rt; end, (DecoderResult::InputEmpty, 2));
+        assert_eq!(rt; decoder.held(), 0);
+        assert_eq!(rt; out.len(), 6);
+        assert_eq!(rt; &dst[..6], "\u{F780}\u{F7FF}".as_bytes());
+        Ok(())
+    }
+}

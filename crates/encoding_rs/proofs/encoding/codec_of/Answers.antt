@@ -1,0 +1,88 @@
+-- An arm's index is that of the rule, whatever entries it has: no answer reads one.
+use Rattle.std.proofs.Common.{ap, sym}
+use Rattle.encoding_rs.specs.Encodings.{rule_by_id}
+use Rattle.encoding_rs.proofs.encoding.codec_of.Goals as goal
+
+pub returns-in-Ibm866 : goal.returns-in-Ibm866
+returns-in-Ibm866 c = sym (ap rule_by_id c.in-Ibm866.is)
+
+pub returns-in-Iso88592 : goal.returns-in-Iso88592
+returns-in-Iso88592 c = sym (ap rule_by_id c.in-Iso88592.is)
+
+pub returns-in-Iso88593 : goal.returns-in-Iso88593
+returns-in-Iso88593 c = sym (ap rule_by_id c.in-Iso88593.is)
+
+pub returns-in-Iso88594 : goal.returns-in-Iso88594
+returns-in-Iso88594 c = sym (ap rule_by_id c.in-Iso88594.is)
+
+pub returns-in-Iso88595 : goal.returns-in-Iso88595
+returns-in-Iso88595 c = sym (ap rule_by_id c.in-Iso88595.is)
+
+pub returns-in-Iso88596 : goal.returns-in-Iso88596
+returns-in-Iso88596 c = sym (ap rule_by_id c.in-Iso88596.is)
+
+pub returns-in-Iso88597 : goal.returns-in-Iso88597
+returns-in-Iso88597 c = sym (ap rule_by_id c.in-Iso88597.is)
+
+pub returns-in-Iso88598 : goal.returns-in-Iso88598
+returns-in-Iso88598 c = sym (ap rule_by_id c.in-Iso88598.is)
+
+pub returns-in-Iso88598I : goal.returns-in-Iso88598I
+returns-in-Iso88598I c = sym (ap rule_by_id c.in-Iso88598I.is)
+
+pub returns-in-Iso885910 : goal.returns-in-Iso885910
+returns-in-Iso885910 c = sym (ap rule_by_id c.in-Iso885910.is)
+
+pub returns-in-Iso885913 : goal.returns-in-Iso885913
+returns-in-Iso885913 c = sym (ap rule_by_id c.in-Iso885913.is)
+
+pub returns-in-Iso885914 : goal.returns-in-Iso885914
+returns-in-Iso885914 c = sym (ap rule_by_id c.in-Iso885914.is)
+
+pub returns-in-Iso885915 : goal.returns-in-Iso885915
+returns-in-Iso885915 c = sym (ap rule_by_id c.in-Iso885915.is)
+
+pub returns-in-Iso885916 : goal.returns-in-Iso885916
+returns-in-Iso885916 c = sym (ap rule_by_id c.in-Iso885916.is)
+
+pub returns-in-Koi8R : goal.returns-in-Koi8R
+returns-in-Koi8R c = sym (ap rule_by_id c.in-Koi8R.is)
+
+pub returns-in-Koi8U : goal.returns-in-Koi8U
+returns-in-Koi8U c = sym (ap rule_by_id c.in-Koi8U.is)
+
+pub returns-in-Macintosh : goal.returns-in-Macintosh
+returns-in-Macintosh c = sym (ap rule_by_id c.in-Macintosh.is)
+
+pub returns-in-Windows874 : goal.returns-in-Windows874
+returns-in-Windows874 c = sym (ap rule_by_id c.in-Windows874.is)
+
+pub returns-in-Windows1250 : goal.returns-in-Windows1250
+returns-in-Windows1250 c = sym (ap rule_by_id c.in-Windows1250.is)
+
+pub returns-in-Windows1251 : goal.returns-in-Windows1251
+returns-in-Windows1251 c = sym (ap rule_by_id c.in-Windows1251.is)
+
+pub returns-in-Windows1252 : goal.returns-in-Windows1252
+returns-in-Windows1252 c = sym (ap rule_by_id c.in-Windows1252.is)
+
+pub returns-in-Windows1253 : goal.returns-in-Windows1253
+returns-in-Windows1253 c = sym (ap rule_by_id c.in-Windows1253.is)
+
+pub returns-in-Windows1254 : goal.returns-in-Windows1254
+returns-in-Windows1254 c = sym (ap rule_by_id c.in-Windows1254.is)
+
+pub returns-in-Windows1255 : goal.returns-in-Windows1255
+returns-in-Windows1255 c = sym (ap rule_by_id c.in-Windows1255.is)
+
+pub returns-in-Windows1256 : goal.returns-in-Windows1256
+returns-in-Windows1256 c = sym (ap rule_by_id c.in-Windows1256.is)
+
+pub returns-in-Windows1257 : goal.returns-in-Windows1257
+returns-in-Windows1257 c = sym (ap rule_by_id c.in-Windows1257.is)
+
+pub returns-in-Windows1258 : goal.returns-in-Windows1258
+returns-in-Windows1258 c = sym (ap rule_by_id c.in-Windows1258.is)
+
+pub returns-in-XMacCyrillic : goal.returns-in-XMacCyrillic
+returns-in-XMacCyrillic c = sym (ap rule_by_id c.in-XMacCyrillic.is)

@@ -1,0 +1,6 @@
+use Rattle.std.proofs.Common.{refl}
+use Rattle.encoding_rs.proofs.EncodingLemmas as encodings
+use Rattle.encoding_rs.proofs.laws.has_texts.Goals as goal
+
+pub returns : goal.returns
+returns c = λ n. encodings.has_texts _ _ refl n
