@@ -24,7 +24,7 @@ pub struct Call<'a> {
 
 /// One call without replacement.
 #[derive(Clone, Copy)]
-pub struct StrictCall<'a> {
+pub struct ReportingCall<'a> {
     pub src: &'a [u8],
     pub last: bool,
     pub room: usize,
@@ -50,7 +50,7 @@ pub fn make_calls(rt: &impl Abort, encoding: Encoding, calls: &[Call<'_>]) {
 }
 
 /// Makes the calls without replacement with one decoder.
-pub fn make_strict_calls(rt: &impl Abort, encoding: Encoding, calls: &[StrictCall<'_>]) {
+pub fn make_reporting_calls(rt: &impl Abort, encoding: Encoding, calls: &[ReportingCall<'_>]) {
     let mut decoder = encoding.new_decoder_without_bom_handling();
     for call in calls {
         assert!(rt; !decoder.is_finished() && call.room <= MOST_ROOM);
@@ -70,31 +70,33 @@ pub fn make_strict_calls(rt: &impl Abort, encoding: Encoding, calls: &[StrictCal
     }
 }
 
-/// An input, the text that has to come of it, and the room in which a run of calls comes to its end.
+/// An input, and what has to come of it.
 #[derive(Clone, Copy)]
 pub struct Input<'a> {
     pub bytes: &'a [u8],
     pub text: &'a [u8],
-    pub had_errors: bool,
+    /// Where each malformed sequence starts in the whole input, and how many bytes it has.
+    pub malformed: &'a [(usize, usize)],
+    /// The room in which a run of calls comes to its end.
     pub room: usize,
 }
 
 /// An input that has nothing malformed.
 pub fn valid<'a>(bytes: &'a [u8], text: &'a str, room: usize) -> Input<'a> {
-    Input {
-        bytes,
-        text: text.as_bytes(),
-        had_errors: false,
-        room,
-    }
+    malformed(bytes, text, &[], room)
 }
 
-/// An input in which something is malformed.
-pub fn malformed<'a>(bytes: &'a [u8], text: &'a str, room: usize) -> Input<'a> {
+/// An input that has malformed sequences at these places.
+pub fn malformed<'a>(
+    bytes: &'a [u8],
+    text: &'a str,
+    places: &'a [(usize, usize)],
+    room: usize,
+) -> Input<'a> {
     Input {
         bytes,
         text: text.as_bytes(),
-        had_errors: true,
+        malformed: places,
         room,
     }
 }
@@ -103,23 +105,40 @@ pub fn malformed<'a>(bytes: &'a [u8], text: &'a str, room: usize) -> Input<'a> {
 #[derive(Drop)]
 struct Run {
     decoder: Decoder,
+    /// The calls are without replacement, and the caller puts U+FFFD where a malformed sequence is reported.
+    reporting: bool,
     text: Vec<u8>,
+    /// How many bytes were read in all.
+    read: usize,
     had_errors: bool,
+    /// Where each malformed sequence starts that was reported, and how many bytes it has.
+    malformed: Vec<(Option<usize>, usize)>,
     /// A call neither read nor wrote.
     is_stuck: bool,
 }
 
-fn start(alloc: Global, encoding: Encoding) -> Run {
+fn start(alloc: Global, encoding: Encoding, reporting: bool) -> Run {
     Run {
         decoder: encoding.new_decoder_without_bom_handling(),
+        reporting,
         text: Vec::new(alloc),
+        read: 0,
         had_errors: false,
+        malformed: Vec::new(alloc),
         is_stuck: false,
     }
 }
 
 /// Offers a chunk, and again what is unread of it, until all is read or a call neither reads nor writes.
 fn offer(run: &mut Run, chunk: &[u8], last: bool, room: usize) -> Result<(), AllocError> {
+    if run.reporting {
+        offer_reporting(run, chunk, last, room)
+    } else {
+        offer_replacing(run, chunk, last, room)
+    }
+}
+
+fn offer_replacing(run: &mut Run, chunk: &[u8], last: bool, room: usize) -> Result<(), AllocError> {
     let mut unread = chunk;
     for _ in 0..MOST_CALLS {
         if run.is_stuck || run.decoder.is_finished() {
@@ -140,8 +159,7 @@ fn offer(run: &mut Run, chunk: &[u8], last: bool, room: usize) -> Result<(), All
     Ok(())
 }
 
-/// The same without replacement, the caller putting U+FFFD where a malformed sequence is reported.
-fn offer_strictly(run: &mut Run, chunk: &[u8], last: bool, room: usize) -> Result<(), AllocError> {
+fn offer_reporting(run: &mut Run, chunk: &[u8], last: bool, room: usize) -> Result<(), AllocError> {
     let mut unread = chunk;
     for _ in 0..MOST_CALLS {
         if run.is_stuck || run.decoder.is_finished() {
@@ -153,18 +171,25 @@ fn offer_strictly(run: &mut Run, chunk: &[u8], last: bool, room: usize) -> Resul
             .decoder
             .decode_to_utf8_without_replacement(unread, dst, last);
         run.text.extend_from_slice(&buffer[..written])?;
+        run.read = run.read.saturating_add(read);
         unread = &unread[read..];
         match result {
             DecoderResult::InputEmpty => return Ok(()),
             DecoderResult::OutputFull => run.is_stuck = read == 0 && written == 0,
-            DecoderResult::Malformed(_, _) => {
-                run.text.extend_from_slice("\u{FFFD}".as_bytes())?;
-                run.had_errors = true;
-            }
+            DecoderResult::Malformed(len, after) => take_report(run, len as usize, after as usize)?,
         }
     }
     run.is_stuck = true;
     Ok(())
+}
+
+/// Takes the report of a malformed sequence: its length, and how many bytes were read behind it.
+fn take_report(run: &mut Run, len: usize, after: usize) -> Result<(), AllocError> {
+    let end = run.read.checked_sub(after);
+    let start = end.and_then(|end| end.checked_sub(len));
+    run.malformed.push((start, len))?;
+    run.had_errors = true;
+    run.text.extend_from_slice("\u{FFFD}".as_bytes())
 }
 
 /// How an input is cut: in two at a place, or into single bytes.
@@ -180,39 +205,25 @@ fn run_cut(
     bytes: &[u8],
     cut: Cut,
     room: usize,
-    strict: bool,
+    reporting: bool,
 ) -> Result<Run, AllocError> {
-    let mut run = start(alloc, encoding);
+    let mut run = start(alloc, encoding, reporting);
     let place = match cut {
         Cut::At(place) => place,
         Cut::Everywhere => 1,
     };
     let (front, back) = bytes.split_at(place.min(bytes.len()));
-    offer_by(&mut run, front, false, room, strict)?;
+    offer(&mut run, front, false, room)?;
     match cut {
-        Cut::At(_) => offer_by(&mut run, back, true, room, strict)?,
+        Cut::At(_) => offer(&mut run, back, true, room)?,
         Cut::Everywhere => {
             for chunk in back.chunks(1) {
-                offer_by(&mut run, chunk, false, room, strict)?;
+                offer(&mut run, chunk, false, room)?;
             }
-            offer_by(&mut run, &[], true, room, strict)?;
+            offer(&mut run, &[], true, room)?;
         }
     }
     Ok(run)
-}
-
-fn offer_by(
-    run: &mut Run,
-    chunk: &[u8],
-    last: bool,
-    room: usize,
-    strict: bool,
-) -> Result<(), AllocError> {
-    if strict {
-        offer_strictly(run, chunk, last, room)
-    } else {
-        offer(run, chunk, last, room)
-    }
 }
 
 /// What was put out begins the text, and is all of it where there is room enough.
@@ -224,7 +235,22 @@ fn compare(rt: &impl Abort, run: &Run, input: &Input<'_>, room: usize) {
     }
     if run.decoder.is_finished() {
         assert_eq!(rt; run.text.as_slice(), input.text, "{room}");
-        assert_eq!(rt; run.had_errors, input.had_errors, "{room}");
+        assert_eq!(rt; run.had_errors, !input.malformed.is_empty(), "{room}");
+    }
+    if run.reporting {
+        compare_places(rt, run, input, room);
+    }
+}
+
+/// The malformed sequences were reported in order, each at its place, and all of them in a finished run.
+fn compare_places(rt: &impl Abort, run: &Run, input: &Input<'_>, room: usize) {
+    let reported = run.malformed.as_slice();
+    assert!(rt; reported.len() <= input.malformed.len(), "{room}");
+    for ((start, len), place) in reported.iter().zip(input.malformed) {
+        assert_eq!(rt; (*start, *len), (Some(place.0), place.1), "{room}");
+    }
+    if run.decoder.is_finished() {
+        assert_eq!(rt; reported.len(), input.malformed.len(), "{room}");
     }
 }
 
@@ -235,19 +261,33 @@ pub fn compare_cuts(
     encoding: Encoding,
     input: &Input<'_>,
 ) -> Result<(), Fail> {
-    for strict in [false, true] {
+    for reporting in [false, true] {
         for room in 0..10 {
             for place in 0..input.bytes.len() + 1 {
                 compare(
                     rt,
-                    &run_cut(alloc, encoding, input.bytes, Cut::At(place), room, strict)?,
+                    &run_cut(
+                        alloc,
+                        encoding,
+                        input.bytes,
+                        Cut::At(place),
+                        room,
+                        reporting,
+                    )?,
                     input,
                     room,
                 );
             }
             compare(
                 rt,
-                &run_cut(alloc, encoding, input.bytes, Cut::Everywhere, room, strict)?,
+                &run_cut(
+                    alloc,
+                    encoding,
+                    input.bytes,
+                    Cut::Everywhere,
+                    room,
+                    reporting,
+                )?,
                 input,
                 room,
             );

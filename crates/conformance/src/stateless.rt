@@ -44,6 +44,12 @@ fn replacement_has_one_malformed_sequence(rt: HostRuntime) -> Result<(), Fail> {
         &rt,
         rt.alloc(),
         REPLACEMENT,
-        &malformed(&[0x41, 0x42, 0xFF], replacement, 3),
+        &malformed(&[0x41, 0x42], replacement, &[(0, 1)], 3),
+    )?;
+    compare_cuts(
+        &rt,
+        rt.alloc(),
+        REPLACEMENT,
+        &malformed(&[0x41, 0x42, 0xFF], replacement, &[(0, 1)], 3),
     )
 }

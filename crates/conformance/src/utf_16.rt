@@ -1,25 +1,25 @@
 //! UTF-16BE and UTF-16LE (Encoding Standard 14.2 to 14.4).
 
 use crate::harness::{
-    Call, StrictCall, compare_cuts, make_calls, make_strict_calls, malformed, valid,
+    Call, ReportingCall, compare_cuts, make_calls, make_reporting_calls, malformed, valid,
 };
 use encoding_rs::{CoderResult, DecoderResult, UTF_16BE, UTF_16LE};
 use std::test::Fail;
 
 #[test]
 fn a_lead_before_another_unit_is_malformed(rt: HostRuntime) {
-    make_strict_calls(
+    make_reporting_calls(
         &rt,
         UTF_16LE,
         &[
-            StrictCall {
+            ReportingCall {
                 src: &[0x3D, 0xD8, 0x41, 0x00],
                 last: true,
                 room: 8,
                 want: (DecoderResult::Malformed(2, 1), 3, 0),
                 text: &[],
             },
-            StrictCall {
+            ReportingCall {
                 src: &[0x00],
                 last: true,
                 room: 8,
@@ -32,10 +32,10 @@ fn a_lead_before_another_unit_is_malformed(rt: HostRuntime) {
 
 #[test]
 fn what_is_left_at_the_end_is_one_malformed_sequence(rt: HostRuntime) {
-    make_strict_calls(
+    make_reporting_calls(
         &rt,
         UTF_16LE,
-        &[StrictCall {
+        &[ReportingCall {
             src: &[0x3D, 0xD8, 0x41],
             last: true,
             room: 8,
@@ -109,19 +109,37 @@ fn cuts_and_rooms_change_nothing(rt: HostRuntime) -> Result<(), Fail> {
         &malformed(
             &[0x3D, 0xD8, 0x41, 0x00, 0x00, 0xDC, 0x3D, 0xD8, 0x42],
             "\u{FFFD}A\u{FFFD}\u{FFFD}",
+            &[(0, 2), (4, 2), (6, 3)],
             3,
         ),
     )?;
     compare_cuts(
         &rt,
         rt.alloc(),
-        UTF_16BE,
-        &malformed(&[0xD8, 0x00, 0xD8, 0x00], "\u{FFFD}\u{FFFD}", 3),
+        UTF_16LE,
+        &malformed(&[0x3D, 0xD8, 0x41, 0x00], "\u{FFFD}A", &[(0, 2)], 3),
     )?;
     compare_cuts(
         &rt,
         rt.alloc(),
         UTF_16LE,
-        &malformed(&[0x3D, 0xD8, 0xA9, 0xDC, 0x00], "💩\u{FFFD}", 4),
+        &malformed(&[0x3D, 0xD8, 0x41], "\u{FFFD}", &[(0, 3)], 3),
+    )?;
+    compare_cuts(
+        &rt,
+        rt.alloc(),
+        UTF_16BE,
+        &malformed(
+            &[0xD8, 0x00, 0xD8, 0x00],
+            "\u{FFFD}\u{FFFD}",
+            &[(0, 2), (2, 2)],
+            3,
+        ),
+    )?;
+    compare_cuts(
+        &rt,
+        rt.alloc(),
+        UTF_16LE,
+        &malformed(&[0x3D, 0xD8, 0xA9, 0xDC, 0x00], "💩\u{FFFD}", &[(4, 1)], 4),
     )
 }

@@ -44,3 +44,100 @@ impl Codec {
         }
     }
 }
+
+#[cfg(test)]
+mod tests {
+    use super::*;
+    use crate::decoder_result::DecoderResult;
+    use crate::indexes::single_byte::WINDOWS_1252;
+    use crate::raw_decoder::RawDecoder;
+    use enc_units::Utf8Slice;
+    use std::process::Abort;
+
+    /// A new decoder makes the text of a whole input.
+    fn decode_whole(rt: &impl Abort, codec: Codec, src: &[u8], text: &str) {
+        let mut dst = [0; 4];
+        let mut out = Utf8Slice::new(&mut dst);
+        let mut decoder = codec.new_decoder();
+        let outcome = decoder.decode(src, &mut out, true, false);
+        assert_eq!(rt; outcome, (DecoderResult::InputEmpty, src.len()));
+        assert_eq!(rt; decoder.held(), 0);
+        let len = out.len();
+        assert!(rt; len <= 4);
+        assert_eq!(rt; &dst[..len], text.as_bytes());
+    }
+
+    #[test]
+    fn each_decodes_a_character(rt: HostRuntime) {
+        decode_whole(&rt, Codec::Utf8, &[0xC3, 0xA9], "é");
+        decode_whole(&rt, Codec::Utf16Be, &[0x00, 0xE9], "é");
+        decode_whole(&rt, Codec::Utf16Le, &[0xE9, 0x00], "é");
+        decode_whole(&rt, Codec::SingleByte(WINDOWS_1252), &[0xE9], "é");
+        decode_whole(&rt, Codec::XUserDefined, &[0xE9], "\u{F7E9}");
+    }
+
+    /// Whether a call with a byte, which is not the last one, takes it and writes nothing.
+    fn takes_byte(decoder: &mut VariantDecoder, byte: u8) -> bool {
+        let mut dst = [0; 4];
+        let mut out = Utf8Slice::new(&mut dst);
+        let outcome = decoder.decode(&[byte], &mut out, false, false);
+        outcome == (DecoderResult::InputEmpty, 1) && out.len() == 0
+    }
+
+    /// The decoder holds each of the bytes.
+    fn hold_three(rt: &impl Abort, codec: Codec, bytes: [u8; 3]) {
+        let mut decoder = codec.new_decoder();
+        assert_eq!(rt; decoder.held(), 0);
+        assert!(rt; takes_byte(&mut decoder, bytes[0]));
+        assert_eq!(rt; decoder.held(), 1);
+        assert!(rt; takes_byte(&mut decoder, bytes[1]));
+        assert_eq!(rt; decoder.held(), 2);
+        assert!(rt; takes_byte(&mut decoder, bytes[2]));
+        assert_eq!(rt; decoder.held(), 3);
+    }
+
+    #[test]
+    fn counts_what_it_holds(rt: HostRuntime) {
+        hold_three(&rt, Codec::Utf8, [0xF0, 0x9F, 0x92]);
+        hold_three(&rt, Codec::Utf16Be, [0xD8, 0x3D, 0xDC]);
+        hold_three(&rt, Codec::Utf16Le, [0x3D, 0xD8, 0xA9]);
+    }
+
+    /// A call with malformed bytes reports them, or says that U+FFFD doesn't fit. It writes nothing.
+    fn call_with_malformed(
+        rt: &impl Abort,
+        codec: Codec,
+        src: &[u8],
+        room: usize,
+        fault_room: bool,
+        want: (DecoderResult, usize),
+    ) {
+        let mut dst = [0; 4];
+        assert!(rt; room <= 4);
+        let mut out = Utf8Slice::new(&mut dst[..room]);
+        let mut decoder = codec.new_decoder();
+        let outcome = decoder.decode(src, &mut out, true, fault_room);
+        assert_eq!(rt; outcome, want);
+        assert_eq!(rt; out.len(), 0);
+    }
+
+    #[test]
+    fn reports_where_the_replacement_fits(rt: HostRuntime) {
+        let full = DecoderResult::OutputFull;
+        let one = (DecoderResult::Malformed(1, 0), 1);
+        call_with_malformed(&rt, Codec::Utf8, &[0xFF], 2, true, (full, 0));
+        call_with_malformed(&rt, Codec::Utf8, &[0xFF], 3, true, one);
+        call_with_malformed(&rt, Codec::Utf8, &[0xFF], 0, false, one);
+        call_with_malformed(&rt, Codec::Replacement, &[0x41], 2, true, (full, 0));
+        call_with_malformed(&rt, Codec::Replacement, &[0x41], 3, true, one);
+        let two = (DecoderResult::Malformed(2, 0), 2);
+        call_with_malformed(&rt, Codec::Utf16Le, &[0x00, 0xDC], 2, true, (full, 1));
+        call_with_malformed(&rt, Codec::Utf16Le, &[0x00, 0xDC], 3, true, two);
+    }
+
+    #[test]
+    fn replacement_decodes_no_character(rt: HostRuntime) {
+        let one = (DecoderResult::Malformed(1, 0), 1);
+        call_with_malformed(&rt, Codec::Replacement, &[0xE9], 4, false, one);
+    }
+}
