@@ -6,11 +6,12 @@ use Rattle.enc_codec.specs.declared.byte_codec.Text.TheVariants.{One}
 use Rattle.enc_codec.specs.declared.byte_codec.Step.{Step}
 use Rattle.enc_codec.specs.declared.byte_codec.Step.TheVariants.{Show}
 use Rattle.enc_codec.specs.Segmentation.{Rule, Head}
+use Rattle.enc_codec.specs.declared.index.Planes.TheVariants.{Basic}
 use Rattle.enc_codec.specs.Index.{index_at}
 
--- a byte of a legacy single-byte encoding, by the encoding's index
+-- a byte of a legacy single-byte encoding, by the runs of the encoding's index
 abbrev pub single_byte_char : List (ℕ × ℕ × ℕ) → ℕ → Option ℕ
-single_byte_char runs b = if nat_lt b 0x80 then Some b else index_at runs (b - 0x80)
+single_byte_char runs b = if nat_lt b 0x80 then Some b else index_at Basic runs (b - 0x80)
 
 -- a byte of x-user-defined
 abbrev pub x_user_defined_char : ℕ → Option ℕ

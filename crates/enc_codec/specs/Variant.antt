@@ -10,6 +10,6 @@ use Rattle.enc_codec.specs.Replacement.{replacement_state}
 abbrev pub variant_state : VariantDecoder → CodecState
 variant_state (Utf8 d) = utf_8_state d
 variant_state (Utf16 d) = utf_16_state d
-variant_state (SingleByte d) = single_byte_state d.list
+variant_state (SingleByte d) = single_byte_state d.runs.now
 variant_state (XUserDefined d) = x_user_defined_state
 variant_state (Replacement d) = replacement_state d

@@ -20,7 +20,7 @@ mod x_user_defined;
 
 pub use codec::Codec;
 pub use decoder_result::DecoderResult;
-pub use index::List;
+pub use index::{List, Planes};
 pub use raw_decoder::RawDecoder;
 pub use replacement::ReplacementDecoder;
 pub use single_byte::SingleByteDecoder;

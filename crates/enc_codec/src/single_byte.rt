@@ -5,7 +5,7 @@ ghost use Rattle.enc_codec.specs.OneByte.{single_byte_char};
 
 use crate::byte_codec::{ByteCodec, Shown, Step};
 use crate::decoder_result::DecoderResult;
-use crate::index::List;
+use crate::index::{List, Planes};
 use crate::machine::run;
 use crate::one_byte::show_byte;
 use crate::raw_decoder::RawDecoder;
@@ -13,39 +13,42 @@ use enc_units::Units;
 
 /// The decoder of a legacy single-byte encoding (Encoding Standard 9.1), by the encoding's index: a byte below
 /// 0x80 is its own character, and any other has that of the pointer 0x80 less, or is malformed where that is
-/// unmapped.
+/// unmapped. An entry past U+FFFF doesn't count.
 #[derive(Clone, Copy)]
 pub struct SingleByteDecoder {
-    list: List,
+    runs: &'static [(u32, u32, u32)],
 }
 
 impl SingleByteDecoder {
     /// A decoder for the encoding with this index. Takes no memory.
     pub fn new(list: List) -> SingleByteDecoder
-        ensures { result.list ≡ list }
+        ensures { result.runs ≡ list.runs }
     {
-        SingleByteDecoder { list }
+        SingleByteDecoder { runs: list.runs }
     }
 }
 
 /// The character of a byte, if it has one.
-fn character_of(list: List, byte: u8) -> Option<char>
-    ensures { result ≡ single_byte_char list.runs.now byte }
+fn character_of(runs: &'static [(u32, u32, u32)], byte: u8) -> Option<char>
+    ensures { result ≡ single_byte_char runs.now byte }
 {
     if byte < 0x80 {
-        Some(byte as char)
-    } else {
-        list.at(byte as u32 - 0x80)
+        return Some(byte as char);
     }
+    let list = List {
+        runs,
+        planes: Planes::Basic,
+    };
+    list.at(byte as u32 - 0x80)
 }
 
 impl ByteCodec for SingleByteDecoder {
     ghost use Rattle.enc_codec.specs.OneByteState.{single_byte_state};
 
-    ghost state = { λ d. single_byte_state d.list };
+    ghost state = { λ d. single_byte_state d.runs.now };
 
     fn next_step(self, byte: u8) -> Step<SingleByteDecoder> {
-        show_byte(self, character_of(self.list, byte))
+        show_byte(self, character_of(self.runs, byte))
     }
 
     fn ready(self) -> Option<Shown<SingleByteDecoder>> {
@@ -64,7 +67,7 @@ impl ByteCodec for SingleByteDecoder {
 impl RawDecoder for SingleByteDecoder {
     ghost use Rattle.enc_codec.specs.OneByteState.{single_byte_state};
 
-    ghost state = { λ d. single_byte_state d.list };
+    ghost state = { λ d. single_byte_state d.runs.now };
 
     fn decode<U: Units>(
         &mut self,

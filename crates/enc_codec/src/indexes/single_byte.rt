@@ -8,7 +8,7 @@
 //! A pointer is a byte less 0x80. Each row is a run: its first pointer, its last pointer, and the code point of
 //! the first; the code points of the pointers behind it follow one by one.
 
-use crate::index::List;
+use crate::index::{List, Planes};
 
 /// The runs of the index of IBM866, complete.
 #[rattlefmt::skip]
@@ -28,7 +28,10 @@ pub const IBM866_RUNS: &[(u32, u32, u32)] = &[
 ];
 
 /// The index of IBM866, complete.
-pub const IBM866: List = List { runs: IBM866_RUNS };
+pub const IBM866: List = List {
+    runs: IBM866_RUNS,
+    planes: Planes::Basic,
+};
 
 /// The runs of the index of ISO-8859-2, in part.
 #[rattlefmt::skip]
@@ -39,6 +42,7 @@ pub const ISO_8859_2_RUNS: &[(u32, u32, u32)] = &[
 /// The index of ISO-8859-2, in part.
 pub const ISO_8859_2: List = List {
     runs: ISO_8859_2_RUNS,
+    planes: Planes::Basic,
 };
 
 /// The runs of the index of ISO-8859-3, in part.
@@ -50,6 +54,7 @@ pub const ISO_8859_3_RUNS: &[(u32, u32, u32)] = &[
 /// The index of ISO-8859-3, in part.
 pub const ISO_8859_3: List = List {
     runs: ISO_8859_3_RUNS,
+    planes: Planes::Basic,
 };
 
 /// The runs of the index of ISO-8859-4, in part.
@@ -61,6 +66,7 @@ pub const ISO_8859_4_RUNS: &[(u32, u32, u32)] = &[
 /// The index of ISO-8859-4, in part.
 pub const ISO_8859_4: List = List {
     runs: ISO_8859_4_RUNS,
+    planes: Planes::Basic,
 };
 
 /// The runs of the index of ISO-8859-5, complete.
@@ -73,6 +79,7 @@ pub const ISO_8859_5_RUNS: &[(u32, u32, u32)] = &[
 /// The index of ISO-8859-5, complete.
 pub const ISO_8859_5: List = List {
     runs: ISO_8859_5_RUNS,
+    planes: Planes::Basic,
 };
 
 /// The runs of the index of ISO-8859-6, in part.
@@ -84,6 +91,7 @@ pub const ISO_8859_6_RUNS: &[(u32, u32, u32)] = &[
 /// The index of ISO-8859-6, in part.
 pub const ISO_8859_6: List = List {
     runs: ISO_8859_6_RUNS,
+    planes: Planes::Basic,
 };
 
 /// The runs of the index of ISO-8859-7, in part.
@@ -95,6 +103,7 @@ pub const ISO_8859_7_RUNS: &[(u32, u32, u32)] = &[
 /// The index of ISO-8859-7, in part.
 pub const ISO_8859_7: List = List {
     runs: ISO_8859_7_RUNS,
+    planes: Planes::Basic,
 };
 
 /// The runs of the index of ISO-8859-8, in part.
@@ -106,6 +115,7 @@ pub const ISO_8859_8_RUNS: &[(u32, u32, u32)] = &[
 /// The index of ISO-8859-8, in part.
 pub const ISO_8859_8: List = List {
     runs: ISO_8859_8_RUNS,
+    planes: Planes::Basic,
 };
 
 /// The runs of the index of ISO-8859-10, in part.
@@ -117,6 +127,7 @@ pub const ISO_8859_10_RUNS: &[(u32, u32, u32)] = &[
 /// The index of ISO-8859-10, in part.
 pub const ISO_8859_10: List = List {
     runs: ISO_8859_10_RUNS,
+    planes: Planes::Basic,
 };
 
 /// The runs of the index of ISO-8859-13, in part.
@@ -128,6 +139,7 @@ pub const ISO_8859_13_RUNS: &[(u32, u32, u32)] = &[
 /// The index of ISO-8859-13, in part.
 pub const ISO_8859_13: List = List {
     runs: ISO_8859_13_RUNS,
+    planes: Planes::Basic,
 };
 
 /// The runs of the index of ISO-8859-14, in part.
@@ -139,6 +151,7 @@ pub const ISO_8859_14_RUNS: &[(u32, u32, u32)] = &[
 /// The index of ISO-8859-14, in part.
 pub const ISO_8859_14: List = List {
     runs: ISO_8859_14_RUNS,
+    planes: Planes::Basic,
 };
 
 /// The runs of the index of ISO-8859-15, complete.
@@ -152,6 +165,7 @@ pub const ISO_8859_15_RUNS: &[(u32, u32, u32)] = &[
 /// The index of ISO-8859-15, complete.
 pub const ISO_8859_15: List = List {
     runs: ISO_8859_15_RUNS,
+    planes: Planes::Basic,
 };
 
 /// The runs of the index of ISO-8859-16, in part.
@@ -163,19 +177,26 @@ pub const ISO_8859_16_RUNS: &[(u32, u32, u32)] = &[
 /// The index of ISO-8859-16, in part.
 pub const ISO_8859_16: List = List {
     runs: ISO_8859_16_RUNS,
+    planes: Planes::Basic,
 };
 
 /// The runs of the index of KOI8-R, empty so far.
 pub const KOI8_R_RUNS: &[(u32, u32, u32)] = &[];
 
 /// The index of KOI8-R, empty so far.
-pub const KOI8_R: List = List { runs: KOI8_R_RUNS };
+pub const KOI8_R: List = List {
+    runs: KOI8_R_RUNS,
+    planes: Planes::Basic,
+};
 
 /// The runs of the index of KOI8-U, empty so far.
 pub const KOI8_U_RUNS: &[(u32, u32, u32)] = &[];
 
 /// The index of KOI8-U, empty so far.
-pub const KOI8_U: List = List { runs: KOI8_U_RUNS };
+pub const KOI8_U: List = List {
+    runs: KOI8_U_RUNS,
+    planes: Planes::Basic,
+};
 
 /// The runs of the index of macintosh, empty so far.
 pub const MACINTOSH_RUNS: &[(u32, u32, u32)] = &[];
@@ -183,6 +204,7 @@ pub const MACINTOSH_RUNS: &[(u32, u32, u32)] = &[];
 /// The index of macintosh, empty so far.
 pub const MACINTOSH: List = List {
     runs: MACINTOSH_RUNS,
+    planes: Planes::Basic,
 };
 
 /// The runs of the index of windows-874, in part.
@@ -194,6 +216,7 @@ pub const WINDOWS_874_RUNS: &[(u32, u32, u32)] = &[
 /// The index of windows-874, in part.
 pub const WINDOWS_874: List = List {
     runs: WINDOWS_874_RUNS,
+    planes: Planes::Basic,
 };
 
 /// The runs of the index of windows-1250, in part.
@@ -205,6 +228,7 @@ pub const WINDOWS_1250_RUNS: &[(u32, u32, u32)] = &[
 /// The index of windows-1250, in part.
 pub const WINDOWS_1250: List = List {
     runs: WINDOWS_1250_RUNS,
+    planes: Planes::Basic,
 };
 
 /// The runs of the index of windows-1251, complete.
@@ -226,6 +250,7 @@ pub const WINDOWS_1251_RUNS: &[(u32, u32, u32)] = &[
 /// The index of windows-1251, complete.
 pub const WINDOWS_1251: List = List {
     runs: WINDOWS_1251_RUNS,
+    planes: Planes::Basic,
 };
 
 /// The runs of the index of windows-1252, complete.
@@ -242,6 +267,7 @@ pub const WINDOWS_1252_RUNS: &[(u32, u32, u32)] = &[
 /// The index of windows-1252, complete.
 pub const WINDOWS_1252: List = List {
     runs: WINDOWS_1252_RUNS,
+    planes: Planes::Basic,
 };
 
 /// The runs of the index of windows-1253, in part.
@@ -253,6 +279,7 @@ pub const WINDOWS_1253_RUNS: &[(u32, u32, u32)] = &[
 /// The index of windows-1253, in part.
 pub const WINDOWS_1253: List = List {
     runs: WINDOWS_1253_RUNS,
+    planes: Planes::Basic,
 };
 
 /// The runs of the index of windows-1254, in part.
@@ -264,6 +291,7 @@ pub const WINDOWS_1254_RUNS: &[(u32, u32, u32)] = &[
 /// The index of windows-1254, in part.
 pub const WINDOWS_1254: List = List {
     runs: WINDOWS_1254_RUNS,
+    planes: Planes::Basic,
 };
 
 /// The runs of the index of windows-1255, in part.
@@ -275,6 +303,7 @@ pub const WINDOWS_1255_RUNS: &[(u32, u32, u32)] = &[
 /// The index of windows-1255, in part.
 pub const WINDOWS_1255: List = List {
     runs: WINDOWS_1255_RUNS,
+    planes: Planes::Basic,
 };
 
 /// The runs of the index of windows-1256, empty so far.
@@ -283,6 +312,7 @@ pub const WINDOWS_1256_RUNS: &[(u32, u32, u32)] = &[];
 /// The index of windows-1256, empty so far.
 pub const WINDOWS_1256: List = List {
     runs: WINDOWS_1256_RUNS,
+    planes: Planes::Basic,
 };
 
 /// The runs of the index of windows-1257, in part.
@@ -296,6 +326,7 @@ pub const WINDOWS_1257_RUNS: &[(u32, u32, u32)] = &[
 /// The index of windows-1257, in part.
 pub const WINDOWS_1257: List = List {
     runs: WINDOWS_1257_RUNS,
+    planes: Planes::Basic,
 };
 
 /// The runs of the index of windows-1258, in part.
@@ -307,6 +338,7 @@ pub const WINDOWS_1258_RUNS: &[(u32, u32, u32)] = &[
 /// The index of windows-1258, in part.
 pub const WINDOWS_1258: List = List {
     runs: WINDOWS_1258_RUNS,
+    planes: Planes::Basic,
 };
 
 /// The runs of the index of x-mac-cyrillic, empty so far.
@@ -315,4 +347,5 @@ pub const X_MAC_CYRILLIC_RUNS: &[(u32, u32, u32)] = &[];
 /// The index of x-mac-cyrillic, empty so far.
 pub const X_MAC_CYRILLIC: List = List {
     runs: X_MAC_CYRILLIC_RUNS,
+    planes: Planes::Basic,
 };

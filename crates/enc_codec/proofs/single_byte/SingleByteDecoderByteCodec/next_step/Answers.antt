@@ -6,5 +6,5 @@ use Rattle.enc_codec.proofs.single_byte.SingleByteDecoderByteCodec.next_step.Goa
 
 pub returns : goal.returns
 returns c =
-    rw c.show_byte.ensures (one_byte_acts (single_byte_char c.args.self.list.runs.now) (λ d. single_byte_state d.list)
+    rw c.show_byte.ensures (one_byte_acts (single_byte_char c.args.self.runs.now) (λ d. single_byte_state d.runs.now)
     c.args.self refl c.args.byte _ c.character_of.ensures)
