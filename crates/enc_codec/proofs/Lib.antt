@@ -16,8 +16,12 @@ pub mod Utf8Comes
 pub mod Utf8Rule
 pub mod PlainLemmas
 pub mod OneByteLemmas
+pub mod MultiByteLemmas
 pub mod ReplacementLemmas
 pub mod Utf16Lemmas
 pub mod Utf16Rule
 pub mod Utf16Undetermined
 pub mod Utf16Comes
+pub mod MultiByteRule
+pub mod MultiByteComes
+pub mod DoubleByteLemmas

@@ -16,3 +16,6 @@ pub mod OneByteState
 pub mod Replacement
 pub mod Utf16
 pub mod Utf16State
+pub mod MultiByte
+pub mod DoubleByte
+pub mod EucKr

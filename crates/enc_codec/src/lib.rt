@@ -4,9 +4,12 @@
 mod byte_codec;
 mod codec;
 mod decoder_result;
+mod double_byte;
+mod euc_kr;
 mod index;
 pub mod indexes;
 mod machine;
+mod multi_byte;
 mod one_byte;
 mod pending;
 pub mod plain;

@@ -1,0 +1,99 @@
+//! The legacy encodings of one byte and two.
+
+ghost use Rattle.std.specs.Prelude.{◌≡◌, ℕ, ◌+◌, ◌<◌, Bool, Option, true};
+ghost use Rattle.enc_codec.specs.declared.byte_codec.Text.{Text};
+ghost use Rattle.enc_codec.specs.DoubleByte.{text_of_char, single_reading, first_reading, trail_reading, ArePairs};
+
+use crate::byte_codec::Text;
+use crate::multi_byte::{MultiByte, Reading};
+use crate::pending::Pending;
+use std::marker::PhantomData;
+
+/// An encoding of one byte and two: which bytes lead, the characters of bytes that stand alone, and the texts of
+/// pairs.
+pub trait DoubleByte: Copy {
+    // the bytes that a trail has to follow
+    ghost leads: { ℕ → Bool };
+
+    // the characters of all other bytes, where they have one
+    ghost singles: { ℕ → Option ℕ };
+
+    // the texts of a lead with the byte behind it, where they have one
+    ghost pairs: { ℕ → ℕ → Option Text };
+
+    /// Whether a byte leads.
+    fn is_lead(byte: u8) -> bool
+        ensures { result ≡ leads byte };
+
+    /// The character of a byte that stands alone.
+    fn single(byte: u8) -> Option<char>
+        ensures { result ≡ singles byte };
+
+    /// The text of a lead with the byte behind it.
+    fn pair(lead: u8, trail: u8) -> Option<Text>
+        requires { leads lead ≡ true }
+        ensures { result ≡ pairs lead trail };
+
+    /// What holds of all pairs. A call does nothing.
+    fn laws()
+        ensures { ArePairs pairs };
+}
+
+/// Such an encoding as one of the multi-byte encodings.
+#[derive(Clone, Copy)]
+pub struct Double<D> {
+    encoding: PhantomData<D>,
+}
+
+/// The text of a character.
+pub fn text_of(character: Option<char>) -> Option<Text>
+    ensures { result ≡ text_of_char character }
+{
+    match character {
+        Some(found) => Some(Text::One(found)),
+        None => None,
+    }
+}
+
+/// The first byte: a lead, or a byte that stands alone.
+pub fn read_first(leads: bool, single: Option<char>) -> Reading
+    ensures { result ≡ first_reading leads single }
+{
+    if leads {
+        return Reading::Unfinished;
+    }
+    match single {
+        Some(found) => Reading::Whole(Text::One(found)),
+        None => Reading::Broken(1),
+    }
+}
+
+/// A byte behind so many others, by their text: where they have none, an ASCII byte is read anew.
+pub fn read_trail(before: u8, byte: u8, text: Option<Text>) -> Reading
+    requires { before < 4 }
+    ensures { result ≡ trail_reading before byte text }
+{
+    match text {
+        Some(found) => Reading::Whole(found),
+        None if byte < 0x80 => Reading::Broken(before),
+        None => Reading::Broken(before + 1),
+    }
+}
+
+impl<D: DoubleByte> MultiByte for Double<D> {
+    ghost use Rattle.enc_codec.specs.DoubleByte.{double_byte_reading};
+
+    ghost reading = { double_byte_reading D.leads D.singles D.pairs };
+
+    fn read(pending: Pending, byte: u8) -> Reading {
+        match pending {
+            Pending::Nothing => read_first(D::is_lead(byte), D::single(byte)),
+            Pending::One(lead) => read_trail(1, byte, D::pair(lead, byte)),
+            _ => unreachable!(),
+        }
+    }
+
+    fn laws() {
+        D::laws();
+    }
+}

@@ -1,0 +1,47 @@
+//! The EUC-KR decoder (Encoding Standard 13.1.1).
+
+ghost use Rattle.std.specs.Prelude.{◌≡◌, Option};
+ghost use Rattle.enc_codec.specs.EucKr.{euc_kr_trail, euc_kr_pointer};
+
+use crate::byte_codec::Text;
+use crate::double_byte::{Double, DoubleByte, text_of};
+use crate::indexes::euc_kr::EUC_KR;
+use crate::multi_byte::MultiByteDecoder;
+
+/// EUC-KR (Encoding Standard 13.1): ASCII, and two bytes by index EUC-KR.
+#[derive(Clone, Copy)]
+pub struct EucKr;
+
+/// The EUC-KR decoder (Encoding Standard 13.1.1).
+pub type EucKrDecoder = MultiByteDecoder<Double<EucKr>>;
+
+impl DoubleByte for EucKr {
+    ghost use Rattle.enc_codec.specs.EucKr.{euc_kr_lead, euc_kr_single, euc_kr_pair};
+
+    ghost leads = { euc_kr_lead };
+
+    ghost singles = { euc_kr_single };
+
+    ghost pairs = { euc_kr_pair };
+
+    fn is_lead(byte: u8) -> bool {
+        byte >= 0x81 && byte <= 0xFE
+    }
+
+    fn single(byte: u8) -> Option<char> {
+        if byte < 0x80 {
+            Some(byte as char)
+        } else {
+            None
+        }
+    }
+
+    fn pair(lead: u8, trail: u8) -> Option<Text> {
+        if trail < 0x41 || trail > 0xFE {
+            return None;
+        }
+        text_of(EUC_KR.at((lead as u32 - 0x81) * 190 + (trail as u32 - 0x41)))
+    }
+
+    fn laws() {}
+}
