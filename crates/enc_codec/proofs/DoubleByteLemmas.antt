@@ -1,5 +1,5 @@
 -- What single bytes and trails make of the bytes in front, for all legacy multi-byte encodings.
-use Rattle.std.proofs.Common.{◌≡◌, ◌≢◌, ℕ, ◌+◌, ◌<◌, ◌≤◌, Bool, true, false, cond, nat_lt, Option, Some, None, List, [], ◌∷◌, ◌++◌, length, refl, ap, ◌∙◌, sym, arith, subst}
+use Rattle.std.proofs.Common.{◌≡◌, ◌≢◌, ℕ, ◌+◌, ◌<◌, ◌≤◌, Bool, true, false, cond, nat_lt, Option, Some, None, List, [], ◌∷◌, length, refl, ap, arith, subst}
 use Rattle.enc_codec.specs.declared.byte_codec.Text.{Text}
 use Rattle.enc_codec.specs.declared.byte_codec.Text.TheVariants.{One}
 use Rattle.enc_codec.specs.declared.multi_byte.Reading.{Reading}
@@ -54,6 +54,16 @@ trail_finished n b (Some t) e = cc
 -- FF is no trail, and is malformed with the n bytes before it
 pub trail_breaks : (n : ℕ) (t : Option Text) → t ≡ None → trail_reading n 0xFF t ≡ Broken (n + 1)
 trail_breaks n t e = ap (trail_reading n 0xFF) e
+
+-- what is not unfinished by a test
+
+pub unless_whole : (t : Bool) (r : Reading) (text : Text) → cond t Unfinished r ≡ Whole text → r ≡ Whole text
+unless_whole true r text e = cc
+unless_whole false r text e = e
+
+pub unless_broken : (t : Bool) (r : Reading) (n : ℕ) → cond t Unfinished r ≡ Broken n → r ≡ Broken n
+unless_broken true r n e = cc
+unless_broken false r n e = e
 
 -- encodings of one byte and two
 pub double_byte_laws : (is_lead : ℕ → Bool) (single : ℕ → Option ℕ) (pair : ℕ → ℕ → Option Text) → ArePairs pair

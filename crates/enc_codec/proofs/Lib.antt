@@ -25,3 +25,6 @@ pub mod Utf16Comes
 pub mod MultiByteRule
 pub mod MultiByteComes
 pub mod DoubleByteLemmas
+pub mod PairLemmas
+pub mod EucJpLemmas
+pub mod Gb18030Lemmas

@@ -1,11 +1,11 @@
 -- Legacy multi-byte encodings: what pending bytes and the byte behind them show.
-use Rattle.std.proofs.Common.{◌≡◌, ℕ, ◌+◌, ◌-◌, ◌<◌, ◌≤◌, suc, Bool, true, false, nat_lt, List, [], ◌∷◌, ◌++◌, length, take, drop, refl, ap, ◌∙◌, sym, arith, append-nil, append_assoc, Option, Some, None, IfSome, IsNone}
+use Rattle.std.proofs.Common.{◌≡◌, ℕ, ◌+◌, ◌-◌, ◌<◌, ◌≤◌, Bool, true, false, nat_lt, List, [], ◌∷◌, ◌++◌, length, take, drop, refl, ap, ◌∙◌, sym, arith, append-nil, append_assoc, Option, Some, None, IfSome, IsNone}
 use Rattle.std.proofs.lemmas.List.{length-append, length-drop, take-append-le, drop-append-le, take-append-drop, length-take-le}
 use Rattle.std.proofs.lemmas.Bool.Decides.{nat_tests}
 use Rattle.std.proofs.Math.Seq.{take-length, drop-length}
 use Rattle.std.proofs.Math.ListN.{drop_of_length-le}
 use Rattle.enc_codec.specs.declared.byte_codec.Kind.{Kind}
-use Rattle.enc_codec.specs.declared.byte_codec.Kind.TheVariants.{Valid, Malformed}
+use Rattle.enc_codec.specs.declared.byte_codec.Kind.TheVariants.{Malformed}
 use Rattle.enc_codec.specs.declared.byte_codec.Text.{Text}
 use Rattle.enc_codec.specs.declared.byte_codec.Text.TheVariants.{One as Character}
 use Rattle.enc_codec.specs.declared.pending.Pending.{Pending}
@@ -19,7 +19,7 @@ use Rattle.enc_codec.specs.Segmentation.{sequences_of}
 use Rattle.enc_codec.specs.CodecState.{CodecState}
 use Rattle.enc_codec.specs.CodecLaw.{chars_of, Comes, Acts, IsReady, IsAtEnd}
 use Rattle.enc_codec.specs.MultiByte.{multi_byte_rule, multi_byte_state, AreUnfinished, IsReading}
-use Rattle.enc_codec.proofs.SegmentationLemmas.{sequences_of-head, sequences_of-nil}
+use Rattle.enc_codec.proofs.SegmentationLemmas.{sequences_of-head}
 use Rattle.enc_codec.proofs.ShowLemmas.{shows_with, shows_at, shows_before}
 use Rattle.enc_codec.proofs.MultiByteLemmas.{one_more, Settles, settled_first, all_malformed}
 use Rattle.enc_codec.proofs.MultiByteRule.{undetermined}

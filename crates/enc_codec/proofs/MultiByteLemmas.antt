@@ -1,9 +1,6 @@
 -- Legacy multi-byte encodings: what bytes in front tell, and the laws of their rules.
-use Rattle.std.proofs.Common.{◌≡◌, ◌≢◌, ℕ, ◌+◌, ◌-◌, ◌<◌, ◌≤◌, zero, suc, Bool, true, false, List, [], ◌∷◌, ◌++◌, length, take, drop, refl, ap, ◌∙◌, sym, arith, subst, append-nil, append_assoc, ◌⊎◌, inl, inr}
-use Rattle.std.proofs.lemmas.List.{length-append, take-append-le, drop-append-le, take-append-drop, length-take-le}
-use Rattle.std.proofs.Math.Seq.{take-length}
-use Rattle.std.specs.Char.{encode_utf8}
-use Rattle.enc_units.specs.Output.{units_of_text}
+use Rattle.std.proofs.Common.{◌≡◌, ℕ, ◌-◌, ◌<◌, ◌≤◌, zero, suc, true, false, List, [], ◌∷◌, ◌++◌, length, take, drop, refl, ap, ◌∙◌, sym, arith, append-nil, append_assoc}
+use Rattle.std.proofs.lemmas.List.{take-append-le, drop-append-le}
 use Rattle.enc_codec.specs.declared.byte_codec.Kind.{Kind}
 use Rattle.enc_codec.specs.declared.byte_codec.Kind.TheVariants.{Valid, Malformed}
 use Rattle.enc_codec.specs.declared.byte_codec.Text.{Text}
@@ -11,7 +8,7 @@ use Rattle.enc_codec.specs.declared.byte_codec.Text.TheVariants.{One}
 use Rattle.enc_codec.specs.declared.multi_byte.Reading.{Reading}
 use Rattle.enc_codec.specs.declared.multi_byte.Reading.TheVariants.{Whole, Broken, Unfinished}
 use Rattle.enc_codec.specs.Sequence.{is_malformed, is_repeated_escape}
-use Rattle.enc_codec.specs.Segmentation.{Head, head_sequence, sequences_of}
+use Rattle.enc_codec.specs.Segmentation.{sequences_of}
 use Rattle.enc_codec.specs.CodecLaw.{chars_of}
 use Rattle.enc_codec.specs.MultiByte.{broken_head, head_of, multi_byte_rule, AreUnfinished, IsReading}
 use Rattle.enc_codec.proofs.SegmentationLemmas.{sequences_of-head}

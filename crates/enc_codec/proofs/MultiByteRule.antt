@@ -1,7 +1,6 @@
 -- Legacy multi-byte encodings: the laws of their rules, and that unfinished bytes determine nothing.
-use Rattle.std.proofs.Common.{◌≡◌, ◌≢◌, ℕ, ◌+◌, ◌-◌, ◌<◌, ◌≤◌, zero, suc, List, [], ◌∷◌, ◌++◌, length, take, drop, refl, ap, ◌∙◌, sym, arith, subst, append-nil, append_assoc, inl, inr}
-use Rattle.std.proofs.lemmas.List.{length-append, take-append-le}
-use Rattle.std.proofs.Math.Seq.{take-length}
+use Rattle.std.proofs.Common.{◌≡◌, ◌≢◌, ℕ, ◌+◌, ◌-◌, ◌≤◌, suc, List, [], ◌∷◌, ◌++◌, length, take, refl, ap, ◌∙◌, sym, arith, subst, append-nil, append_assoc, inl, inr}
+use Rattle.std.proofs.lemmas.List.{length-append}
 use Rattle.std.specs.Char.{encode_utf8}
 use Rattle.enc_units.specs.Output.{units_of_text}
 use Rattle.enc_codec.specs.declared.byte_codec.Kind.{Kind}
@@ -13,7 +12,6 @@ use Rattle.enc_codec.specs.declared.multi_byte.Reading.TheVariants.{Whole, Broke
 use Rattle.enc_codec.specs.Segmentation.{Head}
 use Rattle.enc_codec.specs.Remainder.{IsUndetermined}
 use Rattle.enc_codec.specs.CodecState.{CodecState, remainder_of}
-use Rattle.enc_codec.specs.CodecLaw.{chars_of}
 use Rattle.enc_codec.specs.RuleLaws.{HasTexts, HasSmallTexts, IsToldBy, IsToldByEnd, IsLawful}
 use Rattle.enc_codec.specs.MultiByte.{broken_head, head_of, multi_byte_rule, multi_byte_state, AreUnfinished, IsReading}
 use Rattle.enc_codec.proofs.RuleLemmas.{one_small}

@@ -1,12 +1,18 @@
 -- Which rule each codec has.
 use Rattle.std.specs.Prelude.{true, false, []}
 use Rattle.enc_codec.specs.declared.codec.Codec.{Codec}
-use Rattle.enc_codec.specs.declared.codec.Codec.TheVariants.{Utf8, Utf16Be, Utf16Le, SingleByte, XUserDefined, Replacement}
+use Rattle.enc_codec.specs.declared.codec.Codec.TheVariants.{Utf8, Utf16Be, Utf16Le, SingleByte, Big5, EucKr, ShiftJis, EucJp, Gbk, Gb18030, XUserDefined, Replacement}
 use Rattle.enc_codec.specs.Segmentation.{Rule}
 use Rattle.enc_codec.specs.CodecState.{CodecState}
 use Rattle.enc_codec.specs.Utf8.{utf_8_rule}
 use Rattle.enc_codec.specs.Utf16.{utf_16_rule}
 use Rattle.enc_codec.specs.OneByte.{one_byte_rule, single_byte_char, x_user_defined_char}
+use Rattle.enc_codec.specs.MultiByte.{multi_byte_rule}
+use Rattle.enc_codec.specs.Big5.{big5_reading}
+use Rattle.enc_codec.specs.EucKr.{euc_kr_reading}
+use Rattle.enc_codec.specs.ShiftJis.{shift_jis_reading}
+use Rattle.enc_codec.specs.EucJp.{euc_jp_reading}
+use Rattle.enc_codec.specs.Gb18030.{gb18030_reading}
 use Rattle.enc_codec.specs.Replacement.{replacement_rule}
 
 abbrev pub codec_rule : Codec → Rule
@@ -14,6 +20,12 @@ codec_rule Utf8 = utf_8_rule
 codec_rule Utf16Be = utf_16_rule true
 codec_rule Utf16Le = utf_16_rule false
 codec_rule (SingleByte list) = one_byte_rule (single_byte_char list.runs.now)
+codec_rule Big5 = multi_byte_rule big5_reading
+codec_rule EucKr = multi_byte_rule euc_kr_reading
+codec_rule ShiftJis = multi_byte_rule shift_jis_reading
+codec_rule EucJp = multi_byte_rule euc_jp_reading
+codec_rule Gbk = multi_byte_rule gb18030_reading
+codec_rule Gb18030 = multi_byte_rule gb18030_reading
 codec_rule XUserDefined = one_byte_rule x_user_defined_char
 codec_rule Replacement = replacement_rule
 

@@ -1,15 +1,27 @@
 -- The state of a decoder of any encoding.
 use Rattle.enc_codec.specs.declared.variant.VariantDecoder.{VariantDecoder}
-use Rattle.enc_codec.specs.declared.variant.VariantDecoder.TheVariants.{Utf8, Utf16, SingleByte, XUserDefined, Replacement}
+use Rattle.enc_codec.specs.declared.variant.VariantDecoder.TheVariants.{Utf8, Utf16, SingleByte, Big5, EucKr, ShiftJis, EucJp, Gb18030, XUserDefined, Replacement}
 use Rattle.enc_codec.specs.CodecState.{CodecState}
 use Rattle.enc_codec.specs.Utf8State.{utf_8_state}
 use Rattle.enc_codec.specs.Utf16State.{utf_16_state}
 use Rattle.enc_codec.specs.OneByteState.{single_byte_state, x_user_defined_state}
+use Rattle.enc_codec.specs.Pending.{pending_bytes}
+use Rattle.enc_codec.specs.MultiByte.{multi_byte_state}
+use Rattle.enc_codec.specs.Big5.{big5_reading}
+use Rattle.enc_codec.specs.EucKr.{euc_kr_reading}
+use Rattle.enc_codec.specs.ShiftJis.{shift_jis_reading}
+use Rattle.enc_codec.specs.EucJp.{euc_jp_reading}
+use Rattle.enc_codec.specs.Gb18030.{gb18030_reading}
 use Rattle.enc_codec.specs.Replacement.{replacement_state}
 
 abbrev pub variant_state : VariantDecoder → CodecState
 variant_state (Utf8 d) = utf_8_state d
 variant_state (Utf16 d) = utf_16_state d
 variant_state (SingleByte d) = single_byte_state d.runs.now
+variant_state (Big5 d) = multi_byte_state big5_reading (pending_bytes d.pending)
+variant_state (EucKr d) = multi_byte_state euc_kr_reading (pending_bytes d.pending)
+variant_state (ShiftJis d) = multi_byte_state shift_jis_reading (pending_bytes d.pending)
+variant_state (EucJp d) = multi_byte_state euc_jp_reading (pending_bytes d.pending)
+variant_state (Gb18030 d) = multi_byte_state gb18030_reading (pending_bytes d.pending)
 variant_state (XUserDefined d) = x_user_defined_state
 variant_state (Replacement d) = replacement_state d

@@ -4,8 +4,13 @@ ghost use Rattle.std.specs.Prelude.{◌≡◌};
 ghost use Rattle.enc_codec.specs.Codecs.{codec_rule, fresh_state};
 ghost use Rattle.enc_codec.specs.Variant.{variant_state};
 
+use crate::big5::Big5Decoder;
+use crate::euc_jp::EucJpDecoder;
+use crate::euc_kr::EucKrDecoder;
+use crate::gb18030::Gb18030Decoder;
 use crate::index::List;
 use crate::replacement::ReplacementDecoder;
+use crate::shift_jis::ShiftJisDecoder;
 use crate::single_byte::SingleByteDecoder;
 use crate::utf_8::Utf8Decoder;
 use crate::utf_16::Utf16Decoder;
@@ -23,6 +28,18 @@ pub enum Codec {
     Utf16Le,
     /// A legacy single-byte encoding (9), by its index.
     SingleByte(List),
+    /// Big5 (12.1).
+    Big5,
+    /// EUC-KR (13.1).
+    EucKr,
+    /// Shift_JIS (11.3).
+    ShiftJis,
+    /// EUC-JP (11.1).
+    EucJp,
+    /// GBK (10.1), which decodes as gb18030 does.
+    Gbk,
+    /// gb18030 (10.2).
+    Gb18030,
     /// x-user-defined (14.5).
     XUserDefined,
     /// The replacement encoding (14.1).
@@ -39,6 +56,12 @@ impl Codec {
             Codec::Utf16Be => VariantDecoder::Utf16(Utf16Decoder::new(true)),
             Codec::Utf16Le => VariantDecoder::Utf16(Utf16Decoder::new(false)),
             Codec::SingleByte(list) => VariantDecoder::SingleByte(SingleByteDecoder::new(list)),
+            Codec::Big5 => VariantDecoder::Big5(Big5Decoder::new()),
+            Codec::EucKr => VariantDecoder::EucKr(EucKrDecoder::new()),
+            Codec::ShiftJis => VariantDecoder::ShiftJis(ShiftJisDecoder::new()),
+            Codec::EucJp => VariantDecoder::EucJp(EucJpDecoder::new()),
+            Codec::Gbk => VariantDecoder::Gb18030(Gb18030Decoder::new()),
+            Codec::Gb18030 => VariantDecoder::Gb18030(Gb18030Decoder::new()),
             Codec::XUserDefined => VariantDecoder::XUserDefined(XUserDefinedDecoder::new()),
             Codec::Replacement => VariantDecoder::Replacement(ReplacementDecoder::new()),
         }

@@ -1,13 +1,17 @@
 //! Decoders of single encodings.
 #![tactic(auto)]
 
+mod big5;
 mod byte_codec;
 mod codec;
 mod decoder_result;
 mod double_byte;
+mod euc_jp;
 mod euc_kr;
+mod gb18030;
 mod index;
 pub mod indexes;
+mod katakana;
 mod machine;
 mod multi_byte;
 mod one_byte;
@@ -15,17 +19,23 @@ mod pending;
 pub mod plain;
 mod raw_decoder;
 mod replacement;
+mod shift_jis;
 mod single_byte;
 mod utf_16;
 mod utf_8;
 mod variant;
 mod x_user_defined;
 
+pub use big5::Big5Decoder;
 pub use codec::Codec;
 pub use decoder_result::DecoderResult;
+pub use euc_jp::EucJpDecoder;
+pub use euc_kr::EucKrDecoder;
+pub use gb18030::Gb18030Decoder;
 pub use index::{List, Planes};
 pub use raw_decoder::RawDecoder;
 pub use replacement::ReplacementDecoder;
+pub use shift_jis::ShiftJisDecoder;
 pub use single_byte::SingleByteDecoder;
 pub use utf_8::Utf8Decoder;
 pub use utf_16::Utf16Decoder;

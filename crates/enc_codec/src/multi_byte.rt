@@ -33,7 +33,7 @@ pub trait MultiByte: Copy {
 
     /// What unfinished bytes are with the byte behind them.
     fn read(pending: Pending, byte: u8) -> Reading
-        requires { reading (pending_bytes pending) ≡ Reading.Unfinished }
+        requires { AreUnfinished reading [] (pending_bytes pending) }
         ensures { result ≡ reading (pending_bytes pending ++ byte ∷ []) };
 
     /// What holds of all bytes in front. A call does nothing.

@@ -1,8 +1,13 @@
 //! One decoder of any encoding.
 
+use crate::big5::Big5Decoder;
 use crate::decoder_result::DecoderResult;
+use crate::euc_jp::EucJpDecoder;
+use crate::euc_kr::EucKrDecoder;
+use crate::gb18030::Gb18030Decoder;
 use crate::raw_decoder::RawDecoder;
 use crate::replacement::ReplacementDecoder;
+use crate::shift_jis::ShiftJisDecoder;
 use crate::single_byte::SingleByteDecoder;
 use crate::utf_8::Utf8Decoder;
 use crate::utf_16::Utf16Decoder;
@@ -18,6 +23,16 @@ pub enum VariantDecoder {
     Utf16(Utf16Decoder),
     /// Of a legacy single-byte encoding.
     SingleByte(SingleByteDecoder),
+    /// Of Big5.
+    Big5(Big5Decoder),
+    /// Of EUC-KR.
+    EucKr(EucKrDecoder),
+    /// Of Shift_JIS.
+    ShiftJis(ShiftJisDecoder),
+    /// Of EUC-JP.
+    EucJp(EucJpDecoder),
+    /// Of gb18030, and of GBK.
+    Gb18030(Gb18030Decoder),
     /// Of x-user-defined.
     XUserDefined(XUserDefinedDecoder),
     /// Of the replacement encoding.
@@ -40,6 +55,11 @@ impl RawDecoder for VariantDecoder {
             VariantDecoder::Utf8(decoder) => decoder.decode(src, out, last, fault_room),
             VariantDecoder::Utf16(decoder) => decoder.decode(src, out, last, fault_room),
             VariantDecoder::SingleByte(decoder) => decoder.decode(src, out, last, fault_room),
+            VariantDecoder::Big5(decoder) => decoder.decode(src, out, last, fault_room),
+            VariantDecoder::EucKr(decoder) => decoder.decode(src, out, last, fault_room),
+            VariantDecoder::ShiftJis(decoder) => decoder.decode(src, out, last, fault_room),
+            VariantDecoder::EucJp(decoder) => decoder.decode(src, out, last, fault_room),
+            VariantDecoder::Gb18030(decoder) => decoder.decode(src, out, last, fault_room),
             VariantDecoder::XUserDefined(decoder) => decoder.decode(src, out, last, fault_room),
             VariantDecoder::Replacement(decoder) => decoder.decode(src, out, last, fault_room),
         }
@@ -50,6 +70,11 @@ impl RawDecoder for VariantDecoder {
             VariantDecoder::Utf8(decoder) => decoder.held(),
             VariantDecoder::Utf16(decoder) => decoder.held(),
             VariantDecoder::SingleByte(decoder) => decoder.held(),
+            VariantDecoder::Big5(decoder) => decoder.held(),
+            VariantDecoder::EucKr(decoder) => decoder.held(),
+            VariantDecoder::ShiftJis(decoder) => decoder.held(),
+            VariantDecoder::EucJp(decoder) => decoder.held(),
+            VariantDecoder::Gb18030(decoder) => decoder.held(),
             VariantDecoder::XUserDefined(decoder) => decoder.held(),
             VariantDecoder::Replacement(decoder) => decoder.held(),
         }

@@ -4,8 +4,13 @@ use Rattle.enc_codec.specs.RuleLaws.{HasTexts}
 use Rattle.enc_codec.proofs.Utf8Rule.{utf_8_has_texts}
 use Rattle.enc_codec.proofs.Utf16Rule.{utf_16_has_texts}
 use Rattle.enc_codec.proofs.OneByteLemmas.{one_byte_has_texts}
+use Rattle.enc_codec.proofs.MultiByteRule.{multi_byte_has_texts}
+use Rattle.enc_codec.proofs.DoubleByteLemmas.{double_byte_laws}
+use Rattle.enc_codec.proofs.PairLemmas.{big5_pairs, euc_kr_pairs, shift_jis_pairs}
+use Rattle.enc_codec.proofs.EucJpLemmas.{euc_jp_laws}
+use Rattle.enc_codec.proofs.Gb18030Lemmas.{gb18030_laws}
 use Rattle.encoding_rs.specs.declared.encoding.Id.{Id}
-use Rattle.encoding_rs.specs.declared.encoding.Id.TheVariants.{Utf8, Ibm866, Iso88592, Iso88593, Iso88594, Iso88595, Iso88596, Iso88597, Iso88598, Iso88598I, Iso885910, Iso885913, Iso885914, Iso885915, Iso885916, Koi8R, Koi8U, Macintosh, Windows874, Windows1250, Windows1251, Windows1252, Windows1253, Windows1254, Windows1255, Windows1256, Windows1257, Windows1258, XMacCyrillic, Replacement, Utf16be, Utf16le, XUserDefined}
+use Rattle.encoding_rs.specs.declared.encoding.Id.TheVariants.{Utf8, Ibm866, Iso88592, Iso88593, Iso88594, Iso88595, Iso88596, Iso88597, Iso88598, Iso88598I, Iso885910, Iso885913, Iso885914, Iso885915, Iso885916, Koi8R, Koi8U, Macintosh, Windows874, Windows1250, Windows1251, Windows1252, Windows1253, Windows1254, Windows1255, Windows1256, Windows1257, Windows1258, XMacCyrillic, Gbk, Gb18030, Big5, EucJp, ShiftJis, EucKr, Replacement, Utf16be, Utf16le, XUserDefined}
 use Rattle.encoding_rs.specs.declared.encoding.Encoding.{Encoding}
 use Rattle.encoding_rs.specs.Encodings.{rule_by_id, rule_of}
 
@@ -40,6 +45,12 @@ has_texts_by_id Windows1256 n = one_byte_has_texts _
 has_texts_by_id Windows1257 n = one_byte_has_texts _
 has_texts_by_id Windows1258 n = one_byte_has_texts _
 has_texts_by_id XMacCyrillic n = one_byte_has_texts _
+has_texts_by_id Gbk n = multi_byte_has_texts _ gb18030_laws
+has_texts_by_id Gb18030 n = multi_byte_has_texts _ gb18030_laws
+has_texts_by_id Big5 n = multi_byte_has_texts _ (double_byte_laws _ _ _ big5_pairs)
+has_texts_by_id EucJp n = multi_byte_has_texts _ euc_jp_laws
+has_texts_by_id ShiftJis n = multi_byte_has_texts _ (double_byte_laws _ _ _ shift_jis_pairs)
+has_texts_by_id EucKr n = multi_byte_has_texts _ (double_byte_laws _ _ _ euc_kr_pairs)
 has_texts_by_id Replacement n = absurd (n refl)
 has_texts_by_id Utf16be n = utf_16_has_texts true
 has_texts_by_id Utf16le n = utf_16_has_texts false

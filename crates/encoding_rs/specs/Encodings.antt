@@ -4,10 +4,16 @@ use Rattle.enc_codec.specs.Segmentation.{Rule}
 use Rattle.enc_codec.specs.Utf8.{utf_8_rule}
 use Rattle.enc_codec.specs.Utf16.{utf_16_rule}
 use Rattle.enc_codec.specs.OneByte.{one_byte_rule, single_byte_char, x_user_defined_char}
+use Rattle.enc_codec.specs.MultiByte.{multi_byte_rule}
+use Rattle.enc_codec.specs.Gb18030.{gb18030_reading}
+use Rattle.enc_codec.specs.Big5.{big5_reading}
+use Rattle.enc_codec.specs.EucJp.{euc_jp_reading}
+use Rattle.enc_codec.specs.ShiftJis.{shift_jis_reading}
+use Rattle.enc_codec.specs.EucKr.{euc_kr_reading}
 use Rattle.enc_codec.specs.Replacement.{replacement_rule}
 use Rattle.std.specs.Prelude.{true, false}
 use Rattle.encoding_rs.specs.declared.encoding.Id.{Id}
-use Rattle.encoding_rs.specs.declared.encoding.Id.TheVariants.{Utf8, Ibm866, Iso88592, Iso88593, Iso88594, Iso88595, Iso88596, Iso88597, Iso88598, Iso88598I, Iso885910, Iso885913, Iso885914, Iso885915, Iso885916, Koi8R, Koi8U, Macintosh, Windows874, Windows1250, Windows1251, Windows1252, Windows1253, Windows1254, Windows1255, Windows1256, Windows1257, Windows1258, XMacCyrillic, Replacement, Utf16be, Utf16le, XUserDefined}
+use Rattle.encoding_rs.specs.declared.encoding.Id.TheVariants.{Utf8, Ibm866, Iso88592, Iso88593, Iso88594, Iso88595, Iso88596, Iso88597, Iso88598, Iso88598I, Iso885910, Iso885913, Iso885914, Iso885915, Iso885916, Koi8R, Koi8U, Macintosh, Windows874, Windows1250, Windows1251, Windows1252, Windows1253, Windows1254, Windows1255, Windows1256, Windows1257, Windows1258, XMacCyrillic, Gbk, Gb18030, Big5, EucJp, ShiftJis, EucKr, Replacement, Utf16be, Utf16le, XUserDefined}
 use Rattle.encoding_rs.specs.declared.encoding.Encoding.{Encoding}
 
 abbrev pub rule_by_id : Id → Rule
@@ -40,6 +46,12 @@ rule_by_id Windows1256 = one_byte_rule (single_byte_char WINDOWS_1256_RUNS.now)
 rule_by_id Windows1257 = one_byte_rule (single_byte_char WINDOWS_1257_RUNS.now)
 rule_by_id Windows1258 = one_byte_rule (single_byte_char WINDOWS_1258_RUNS.now)
 rule_by_id XMacCyrillic = one_byte_rule (single_byte_char X_MAC_CYRILLIC_RUNS.now)
+rule_by_id Gbk = multi_byte_rule gb18030_reading
+rule_by_id Gb18030 = multi_byte_rule gb18030_reading
+rule_by_id Big5 = multi_byte_rule big5_reading
+rule_by_id EucJp = multi_byte_rule euc_jp_reading
+rule_by_id ShiftJis = multi_byte_rule shift_jis_reading
+rule_by_id EucKr = multi_byte_rule euc_kr_reading
 rule_by_id Replacement = replacement_rule
 rule_by_id Utf16be = utf_16_rule true
 rule_by_id Utf16le = utf_16_rule false

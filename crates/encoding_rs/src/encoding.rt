@@ -39,6 +39,12 @@ enum Id {
     Windows1257,
     Windows1258,
     XMacCyrillic,
+    Gbk,
+    Gb18030,
+    Big5,
+    EucJp,
+    ShiftJis,
+    EucKr,
     Replacement,
     Utf16be,
     Utf16le,
@@ -245,6 +251,42 @@ pub const X_MAC_CYRILLIC: Encoding = Encoding {
 /// The same as [`X_MAC_CYRILLIC`].
 pub const X_MAC_CYRILLIC_INIT: Encoding = X_MAC_CYRILLIC;
 
+/// GBK (Encoding Standard 10.1).
+pub const GBK: Encoding = Encoding { id: Id::Gbk };
+
+/// The same as [`GBK`].
+pub const GBK_INIT: Encoding = GBK;
+
+/// gb18030 (Encoding Standard 10.2).
+pub const GB18030: Encoding = Encoding { id: Id::Gb18030 };
+
+/// The same as [`GB18030`].
+pub const GB18030_INIT: Encoding = GB18030;
+
+/// Big5 (Encoding Standard 12.1).
+pub const BIG5: Encoding = Encoding { id: Id::Big5 };
+
+/// The same as [`BIG5`].
+pub const BIG5_INIT: Encoding = BIG5;
+
+/// EUC-JP (Encoding Standard 11.1).
+pub const EUC_JP: Encoding = Encoding { id: Id::EucJp };
+
+/// The same as [`EUC_JP`].
+pub const EUC_JP_INIT: Encoding = EUC_JP;
+
+/// Shift_JIS (Encoding Standard 11.3).
+pub const SHIFT_JIS: Encoding = Encoding { id: Id::ShiftJis };
+
+/// The same as [`SHIFT_JIS`].
+pub const SHIFT_JIS_INIT: Encoding = SHIFT_JIS;
+
+/// EUC-KR (Encoding Standard 13.1).
+pub const EUC_KR: Encoding = Encoding { id: Id::EucKr };
+
+/// The same as [`EUC_KR`].
+pub const EUC_KR_INIT: Encoding = EUC_KR;
+
 /// replacement (Encoding Standard 14.1).
 pub const REPLACEMENT: Encoding = Encoding {
     id: Id::Replacement,
@@ -307,6 +349,12 @@ pub fn codec_of(encoding: Encoding) -> Codec
         Id::Windows1257 => Codec::SingleByte(index::WINDOWS_1257),
         Id::Windows1258 => Codec::SingleByte(index::WINDOWS_1258),
         Id::XMacCyrillic => Codec::SingleByte(index::X_MAC_CYRILLIC),
+        Id::Gbk => Codec::Gbk,
+        Id::Gb18030 => Codec::Gb18030,
+        Id::Big5 => Codec::Big5,
+        Id::EucJp => Codec::EucJp,
+        Id::ShiftJis => Codec::ShiftJis,
+        Id::EucKr => Codec::EucKr,
         Id::Replacement => Codec::Replacement,
         Id::Utf16be => Codec::Utf16Be,
         Id::Utf16le => Codec::Utf16Le,

@@ -1,4 +1,4 @@
-use Rattle.std.proofs.Common.{[], ◌∷◌, ◌++◌, length, ap, sym, ◌∙◌, refl, arith, drop}
+use Rattle.std.proofs.Common.{[], ◌∷◌, ◌++◌, ap, sym, ◌∙◌, refl, arith, drop}
 use Rattle.std.proofs.lemmas.List.{length-append}
 use Rattle.enc_codec.specs.Pending.{pending_bytes}
 use Rattle.enc_codec.specs.MultiByte.{multi_byte_state}

@@ -1,0 +1,62 @@
+//! The Big5 decoder (Encoding Standard 12.1.1).
+
+ghost use Rattle.std.specs.Prelude.{◌≡◌};
+ghost use Rattle.enc_codec.specs.Big5.{big5_text};
+
+use crate::byte_codec::Text;
+use crate::double_byte::{Double, DoubleByte, text_of};
+use crate::indexes::big5::BIG5;
+use crate::multi_byte::MultiByteDecoder;
+
+/// Big5 (Encoding Standard 12.1): ASCII, and two bytes by index Big5, of which four are two characters.
+#[derive(Clone, Copy)]
+pub struct Big5;
+
+/// The Big5 decoder (Encoding Standard 12.1.1).
+pub type Big5Decoder = MultiByteDecoder<Double<Big5>>;
+
+/// The text of a pointer.
+fn text_at(pointer: u32) -> Option<Text>
+    ensures { result ≡ big5_text pointer }
+{
+    match pointer {
+        1133 => Some(Text::Two('\u{CA}', '\u{304}')),
+        1135 => Some(Text::Two('\u{CA}', '\u{30C}')),
+        1164 => Some(Text::Two('\u{EA}', '\u{304}')),
+        1166 => Some(Text::Two('\u{EA}', '\u{30C}')),
+        _ => text_of(BIG5.at(pointer)),
+    }
+}
+
+impl DoubleByte for Big5 {
+    ghost use Rattle.enc_codec.specs.Big5.{big5_lead, big5_single, big5_pair};
+
+    ghost leads = { big5_lead };
+
+    ghost singles = { big5_single };
+
+    ghost pairs = { big5_pair };
+
+    fn is_lead(byte: u8) -> bool {
+        byte >= 0x81 && byte <= 0xFE
+    }
+
+    fn single(byte: u8) -> Option<char> {
+        if byte < 0x80 {
+            Some(byte as char)
+        } else {
+            None
+        }
+    }
+
+    fn pair(lead: u8, trail: u8) -> Option<Text> {
+        let offset = match trail {
+            0x40..=0x7E => 0x40,
+            0xA1..=0xFE => 0x62,
+            _ => return None,
+        };
+        text_at((lead as u32 - 0x81) * 157 + (trail as u32 - offset))
+    }
+
+    fn laws() {}
+}

@@ -1,0 +1,66 @@
+//! The Shift_JIS decoder (Encoding Standard 11.3.1).
+
+ghost use Rattle.std.specs.Prelude.{◌≡◌, ◌≤◌};
+ghost use Rattle.enc_codec.specs.ShiftJis.{shift_jis_char};
+
+use crate::byte_codec::Text;
+use crate::double_byte::{Double, DoubleByte, text_of};
+use crate::indexes::jis0208::JIS0208;
+use crate::katakana::katakana;
+use crate::multi_byte::MultiByteDecoder;
+
+/// Shift_JIS (Encoding Standard 11.3): ASCII and 80, half-width katakana, and two bytes by index jis0208 or in the
+/// private use area.
+#[derive(Clone, Copy)]
+pub struct ShiftJis;
+
+/// The Shift_JIS decoder (Encoding Standard 11.3.1).
+pub type ShiftJisDecoder = MultiByteDecoder<Double<ShiftJis>>;
+
+/// The character of a pointer.
+fn character_at(pointer: u32) -> Option<char>
+    ensures { result ≡ shift_jis_char pointer }
+{
+    match pointer {
+        8836..=10715 => char::from_u32(0xE000 + (pointer - 8836)),
+        _ => JIS0208.at(pointer),
+    }
+}
+
+impl DoubleByte for ShiftJis {
+    ghost use Rattle.enc_codec.specs.ShiftJis.{shift_jis_lead, shift_jis_single, shift_jis_pair};
+
+    ghost leads = { shift_jis_lead };
+
+    ghost singles = { shift_jis_single };
+
+    ghost pairs = { shift_jis_pair };
+
+    fn is_lead(byte: u8) -> bool {
+        match byte {
+            0x81..=0x9F => true,
+            0xE0..=0xFC => true,
+            _ => false,
+        }
+    }
+
+    fn single(byte: u8) -> Option<char> {
+        match byte {
+            0x00..=0x80 => Some(byte as char),
+            0xA1..=0xDF => Some(katakana(byte)),
+            _ => None,
+        }
+    }
+
+    fn pair(lead: u8, trail: u8) -> Option<Text> {
+        let first = if lead < 0xA0 { 0x81 } else { 0xC1 };
+        let offset = match trail {
+            0x40..=0x7E => 0x40,
+            0x80..=0xFC => 0x41,
+            _ => return None,
+        };
+        text_of(character_at((lead as u32 - first) * 188 + (trail as u32 - offset)))
+    }
+
+    fn laws() {}
+}
