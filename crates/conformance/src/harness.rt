@@ -6,7 +6,7 @@ use std::process::Abort;
 use std::test::Fail;
 
 /// No test gives more room.
-pub const MOST_ROOM: usize = 16;
+pub const MOST_ROOM: usize = 64;
 
 /// No input here takes so many calls for a chunk.
 const MOST_CALLS: usize = 64;
@@ -30,6 +30,22 @@ pub struct ReportingCall<'a> {
     pub room: usize,
     pub want: (DecoderResult, usize, usize),
     pub text: &'a [u8],
+}
+
+/// One call without replacement, with a room of eight bytes.
+pub fn reporting<'a>(
+    src: &'a [u8],
+    last: bool,
+    want: (DecoderResult, usize, usize),
+    text: &'a str,
+) -> ReportingCall<'a> {
+    ReportingCall {
+        src,
+        last,
+        room: 8,
+        want,
+        text: text.as_bytes(),
+    }
 }
 
 /// Makes the calls with one decoder.

@@ -6,6 +6,10 @@
 #![tactic(auto)]
 
 #[cfg(test)]
+mod double_byte;
+#[cfg(test)]
+mod gb18030;
+#[cfg(test)]
 mod harness;
 #[cfg(test)]
 mod single_byte;

@@ -209,3 +209,60 @@ impl<E: MultiByte> RawDecoder for MultiByteDecoder<E> {
         self.pending_len() as usize
     }
 }
+
+#[cfg(test)]
+mod tests {
+    use super::*;
+    use crate::big5::Big5Decoder;
+    use crate::euc_jp::EucJpDecoder;
+    use crate::euc_kr::EucKrDecoder;
+    use crate::gb18030::Gb18030Decoder;
+    use crate::shift_jis::ShiftJisDecoder;
+    use enc_units::Utf8Slice;
+    use std::process::Abort;
+
+    /// The decoder holds all bytes but the last, and then has a character.
+    fn decode_one(rt: &impl Abort, decoder: &mut impl RawDecoder, src: (&[u8], u8), text: &str) {
+        let (front, last) = src;
+        let mut dst = [0; 8];
+        let mut out = Utf8Slice::new(&mut dst);
+        let waits = decoder.decode(front, &mut out, false, false);
+        assert_eq!(rt; waits, (DecoderResult::InputEmpty, front.len()));
+        assert_eq!(rt; decoder.held(), front.len());
+        let ends = decoder.decode(&[last], &mut out, true, false);
+        assert_eq!(rt; ends, (DecoderResult::InputEmpty, 1));
+        assert_eq!(rt; decoder.held(), 0);
+        let len = out.len();
+        assert!(rt; len <= 8);
+        assert_eq!(rt; &dst[..len], text.as_bytes());
+    }
+
+    #[test]
+    fn each_decodes_a_character(rt: HostRuntime) {
+        decode_one(&rt, &mut Big5Decoder::new(), (b"\xA4", 0x40), "\u{4E00}");
+        decode_one(&rt, &mut EucKrDecoder::new(), (b"\xB0", 0xA1), "\u{AC00}");
+        decode_one(&rt, &mut ShiftJisDecoder::new(), (b"\x83", 0x6E), "ハ");
+        decode_one(
+            &rt,
+            &mut EucJpDecoder::new(),
+            (b"\x8F\xB0", 0xA1),
+            "\u{4E02}",
+        );
+        decode_one(
+            &rt,
+            &mut Gb18030Decoder::new(),
+            (b"\x90\x30\x81", 0x30),
+            "\u{10000}",
+        );
+    }
+
+    #[test]
+    fn a_wrong_fourth_byte_gives_two_bytes_back(rt: HostRuntime) {
+        let mut decoder = Gb18030Decoder::new();
+        let mut dst = [0; 8];
+        let mut out = Utf8Slice::new(&mut dst);
+        let fault = decoder.decode(b"\x81\x30\x81\xFF", &mut out, true, false);
+        assert_eq!(rt; fault, (DecoderResult::Malformed(1, 2), 3));
+        assert_eq!(rt; decoder.held(), 2);
+    }
+}
