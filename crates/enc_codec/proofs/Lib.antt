@@ -21,3 +21,7 @@ pub mod Utf16Lemmas
 pub mod Utf16Rule
 pub mod Utf16Undetermined
 pub mod Utf16Comes
+pub mod Iso2022JpLemmas
+pub mod Iso2022JpRule
+pub mod Iso2022JpUndetermined
+pub mod Iso2022JpComes

@@ -16,3 +16,5 @@ pub mod OneByteState
 pub mod Replacement
 pub mod Utf16
 pub mod Utf16State
+pub mod Iso2022Jp
+pub mod Iso2022JpState
