@@ -1,13 +1,14 @@
 -- Which rule each codec has.
 use Rattle.std.specs.Prelude.{true, false, []}
 use Rattle.enc_codec.specs.declared.codec.Codec.{Codec}
-use Rattle.enc_codec.specs.declared.codec.Codec.TheVariants.{Utf8, Utf16Be, Utf16Le, SingleByte, XUserDefined, Replacement}
+use Rattle.enc_codec.specs.declared.codec.Codec.TheVariants.{Utf8, Utf16Be, Utf16Le, SingleByte, XUserDefined, Replacement, Iso2022Jp}
 use Rattle.enc_codec.specs.Segmentation.{Rule}
 use Rattle.enc_codec.specs.CodecState.{CodecState}
 use Rattle.enc_codec.specs.Utf8.{utf_8_rule}
 use Rattle.enc_codec.specs.Utf16.{utf_16_rule}
 use Rattle.enc_codec.specs.OneByte.{one_byte_rule, single_byte_char, x_user_defined_char}
 use Rattle.enc_codec.specs.Replacement.{replacement_rule}
+use Rattle.enc_codec.specs.Iso2022Jp.{iso_2022_jp_rule}
 
 abbrev pub codec_rule : Codec → Rule
 codec_rule Utf8 = utf_8_rule
@@ -16,6 +17,7 @@ codec_rule Utf16Le = utf_16_rule false
 codec_rule (SingleByte list) = one_byte_rule (single_byte_char list.runs.now)
 codec_rule XUserDefined = one_byte_rule x_user_defined_char
 codec_rule Replacement = replacement_rule
+codec_rule Iso2022Jp = iso_2022_jp_rule
 
 -- a decoder of this rule that has read nothing
 abbrev pub fresh_state : Rule → CodecState

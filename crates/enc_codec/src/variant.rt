@@ -1,6 +1,7 @@
 //! One decoder of any encoding.
 
 use crate::decoder_result::DecoderResult;
+use crate::iso_2022_jp::Iso2022JpDecoder;
 use crate::raw_decoder::RawDecoder;
 use crate::replacement::ReplacementDecoder;
 use crate::single_byte::SingleByteDecoder;
@@ -22,6 +23,8 @@ pub enum VariantDecoder {
     XUserDefined(XUserDefinedDecoder),
     /// Of the replacement encoding.
     Replacement(ReplacementDecoder),
+    /// Of ISO-2022-JP.
+    Iso2022Jp(Iso2022JpDecoder),
 }
 
 impl RawDecoder for VariantDecoder {
@@ -42,6 +45,7 @@ impl RawDecoder for VariantDecoder {
             VariantDecoder::SingleByte(decoder) => decoder.decode(src, out, last, fault_room),
             VariantDecoder::XUserDefined(decoder) => decoder.decode(src, out, last, fault_room),
             VariantDecoder::Replacement(decoder) => decoder.decode(src, out, last, fault_room),
+            VariantDecoder::Iso2022Jp(decoder) => decoder.decode(src, out, last, fault_room),
         }
     }
 
@@ -52,6 +56,7 @@ impl RawDecoder for VariantDecoder {
             VariantDecoder::SingleByte(decoder) => decoder.held(),
             VariantDecoder::XUserDefined(decoder) => decoder.held(),
             VariantDecoder::Replacement(decoder) => decoder.held(),
+            VariantDecoder::Iso2022Jp(decoder) => decoder.held(),
         }
     }
 }
