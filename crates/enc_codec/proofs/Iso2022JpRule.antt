@@ -15,6 +15,7 @@ use Rattle.enc_codec.specs.OneByte.{one_byte_head}
 use Rattle.enc_codec.specs.Utf16.{character_head, malformed_head}
 use Rattle.enc_codec.specs.RuleLaws.{HasSmallTexts, IsToldBy, IsToldByEnd, IsLawful}
 use Rattle.enc_codec.specs.Iso2022Jp.{set_of, set_named, designated, escape_head, is_lead, one_byte_char, two_byte_char, two_byte_head, lead_head, iso_2022_jp_rule}
+use Rattle.enc_codec.specs.Iso2022JpLaws.{LooksBehindSkipped}
 use Rattle.enc_codec.proofs.RuleLemmas.{one_small}
 use Rattle.enc_codec.proofs.ToldLemmas.{true_or_false, told_by, IsToldInTime, lookahead_by}
 use Rattle.enc_codec.proofs.Iso2022JpLemmas.{escape_first, no_escape_first, lead_first, alone_first, lead_alone, lead_and_trail, has_form}
@@ -36,7 +37,7 @@ pub record MayBegin (w : List ℕ) : Type 0 where
   pub set : CharacterSet
   pub becomes : designated (w ++ more) ≡ Some set
 
-other_front : (a : ℕ) (z : List ℕ) → eqb a 0x1B ≡ false → designated (a ∷ z) ≡ None
+pub other_front : (a : ℕ) (z : List ℕ) → eqb a 0x1B ≡ false → designated (a ∷ z) ≡ None
 other_front a [] e = refl
 other_front a (b ∷ []) e = refl
 other_front a (b ∷ c ∷ z) e = rw e refl
@@ -86,7 +87,7 @@ shown_behind (b ∷ []) = elim (true_or_false (eqb b 0x28)) [
 ]
 shown_behind (b ∷ c ∷ z) = inl (2, record { few = omega arith; there = omega arith; same = λ y. refl })
 
-is_escape_byte : (a : ℕ) → eqb a 0x1B ≡ true → a ≡ 0x1B
+pub is_escape_byte : (a : ℕ) → eqb a 0x1B ≡ true → a ≡ 0x1B
 is_escape_byte a e = grind (arith, nat_tests)
 
 shown_or_begun : (w : List ℕ) → ((n : ℕ) × IsShownBy w n) ⊎ MayBegin w
@@ -194,7 +195,7 @@ named_told set b c s z e =
       | inr m ↦ inr (v, inr (escape_by_end set b c s z e m))
     ]
 
-found_or_not : (o : Option CharacterSet) → (o ≡ None) ⊎ ((s : CharacterSet) × (o ≡ Some s))
+pub found_or_not : (o : Option CharacterSet) → (o ≡ None) ⊎ ((s : CharacterSet) × (o ≡ Some s))
 found_or_not None = inl refl
 found_or_not (Some s) = inr (s, refl)
 
@@ -273,3 +274,66 @@ has_small_texts set b z = small (iso_2022_jp_rule set b z).text (has_form set b 
 
 pub iso_2022_jp_is_lawful : IsLawful iso_2022_jp_rule
 iso_2022_jp_is_lawful = record { lookahead = lookahead_by iso_2022_jp_rule told; small_texts = has_small_texts }
+
+-- An escape sequence that is skipped is not told by its own bytes: it is another if an escape sequence follows.
+
+skipped_differs : (h k : Head) → h.kind ≡ Skipped → (k.kind ≡ Skipped → ⊥) → h ≡ k → ⊥
+skipped_differs h k s n e = n (ap (λ (t : Head). t.kind) (sym e) ∙ s)
+
+one_byte_not_skipped : (set : ℕ) (found : Option ℕ) → (one_byte_head set found).kind ≡ Skipped → ⊥
+one_byte_not_skipped set None e = cc
+one_byte_not_skipped set (Some c) e = cc
+
+two_bytes_not_skipped : (set : ℕ) (found : Option ℕ) → (two_byte_head set found).kind ≡ Skipped → ⊥
+two_bytes_not_skipped set None e = cc
+two_bytes_not_skipped set (Some c) e = cc
+
+named_not_alone : (set b c : ℕ) (s : CharacterSet) (z : List ℕ) (another : Bool) → set_named b c ≡ Some s
+    → is_some (designated z) ≡ another → (iso_2022_jp_rule set 0x1B (b ∷ c ∷ z)).kind ≡ Skipped
+    → IsToldBy iso_2022_jp_rule set 0x1B (b ∷ c ∷ z) 0 → ⊥
+named_not_alone set b c s z true e f k t = skipped_differs _ _ k (λ q. cc) (named_first set s b c z true e f)
+named_not_alone set b c s z false e f k t =
+    let h = named_first set s b c z false e f in
+    let n : (iso_2022_jp_rule set 0x1B (b ∷ c ∷ z)).more ≡ 2 = ap (λ (x : Head). x.more) h in
+    let y = 0x1B ∷ 0x28 ∷ 0x42 ∷ [] in
+    let g = subst (λ m. iso_2022_jp_rule set 0x1B (take (m + 0) (b ∷ c ∷ z) ++ y) ≡ iso_2022_jp_rule set 0x1B (b ∷ c ∷ z)) n (t.same y) in
+    kind_differs _ _ _ _ (named_first set s b c y true e refl) h (λ q. cc) g
+
+escape_not_alone : (set : ℕ) (z : List ℕ) → (iso_2022_jp_rule set 0x1B z).kind ≡ Skipped → IsToldBy iso_2022_jp_rule set 0x1B z 0 → ⊥
+escape_not_alone set [] k t = skipped_differs _ _ k (λ q. cc) (no_escape_first set [] refl)
+escape_not_alone set (b ∷ []) k t = skipped_differs _ _ k (λ q. cc) (no_escape_first set (b ∷ []) refl)
+escape_not_alone set (b ∷ c ∷ z) k t = elim (found_or_not (set_named b c)) [
+  | inl n ↦ skipped_differs _ _ k (λ q. cc) (no_escape_first set (b ∷ c ∷ z) n)
+  | inr f ↦ named_not_alone set b c f.0 z (is_some (designated z)) f.1 refl k t
+]
+
+lead_not_skipped : (set b : ℕ) (z : List ℕ) → is_lead (set_of set) b ≡ true → (iso_2022_jp_rule set b z).kind ≡ Skipped → ⊥
+lead_not_skipped set b [] l k = skipped_differs _ _ k (λ q. cc) (lead_first set b [] l)
+lead_not_skipped set b (c ∷ z) l k = elim (true_or_false (eqb c 0x1B)) [
+  | inl t ↦ skipped_differs _ _ k (λ q. cc) (lead_first set b (c ∷ z) l ∙ lead_alone set b (c ∷ z) t)
+  | inr n ↦ skipped_differs _ _ k (two_bytes_not_skipped set (two_byte_char b c)) (lead_first set b (c ∷ z) l ∙ lead_and_trail set b c z n)
+]
+
+not_alone : (set b : ℕ) (z : List ℕ) → (iso_2022_jp_rule set b z).kind ≡ Skipped → IsToldBy iso_2022_jp_rule set b z 0 → ⊥
+not_alone set b z k t = elim (true_or_false (eqb b 0x1B)) [
+  | inl e ↦ (let q = is_escape_byte b e in
+    escape_not_alone set z (subst (λ (x : ℕ). (iso_2022_jp_rule set x z).kind ≡ Skipped) q k) (subst (λ (x : ℕ). IsToldBy iso_2022_jp_rule set x z 0) q t))
+  | inr n ↦ elim (true_or_false (is_lead (set_of set) b)) [
+    | inl l ↦ lead_not_skipped set b z l k
+    | inr l ↦ skipped_differs _ _ k (one_byte_not_skipped set (one_byte_char (set_of set) b)) (alone_first set b z l n)
+  ]
+]
+
+-- n bytes, and not none
+some_more : (set b : ℕ) (z : List ℕ) (n : ℕ) → (IsToldBy iso_2022_jp_rule set b z 0 → ⊥) → IsToldBy iso_2022_jp_rule set b z n → 1 ≤ n
+some_more set b z zero f t = absurd (f t)
+some_more set b z (suc n) f t = omega arith
+
+pub looks_behind_skipped : LooksBehindSkipped iso_2022_jp_rule
+looks_behind_skipped = record {
+  not_alone = not_alone;
+  soon = λ set b z k. elim (iso_2022_jp_is_lawful.lookahead.others set b z) [
+    | inl t ↦ inl (t.0, some_more set b z t.0 (not_alone set b z k) t.2, t.1, t.2)
+    | inr e ↦ inr e
+  ];
+}

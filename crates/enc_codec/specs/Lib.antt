@@ -18,3 +18,4 @@ pub mod Utf16
 pub mod Utf16State
 pub mod Iso2022Jp
 pub mod Iso2022JpState
+pub mod Iso2022JpLaws

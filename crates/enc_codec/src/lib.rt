@@ -7,6 +7,7 @@ mod decoder_result;
 mod index;
 pub mod indexes;
 mod iso_2022_jp;
+pub mod laws;
 mod machine;
 mod one_byte;
 mod pending;
