@@ -43,6 +43,7 @@ enum Id {
     Utf16be,
     Utf16le,
     XUserDefined,
+    Iso2022Jp,
 }
 
 /// An encoding of the Encoding Standard. Two are equal exactly where they are the same one.
@@ -273,6 +274,12 @@ pub const X_USER_DEFINED: Encoding = Encoding {
 /// The same as [`X_USER_DEFINED`].
 pub const X_USER_DEFINED_INIT: Encoding = X_USER_DEFINED;
 
+/// ISO-2022-JP (Encoding Standard 12.2).
+pub const ISO_2022_JP: Encoding = Encoding { id: Id::Iso2022Jp };
+
+/// The same as [`ISO_2022_JP`].
+pub const ISO_2022_JP_INIT: Encoding = ISO_2022_JP;
+
 /// Which decoder an encoding has.
 pub fn codec_of(encoding: Encoding) -> Codec
     ensures { codec_rule result ≡ rule_of encoding }
@@ -311,5 +318,6 @@ pub fn codec_of(encoding: Encoding) -> Codec
         Id::Utf16be => Codec::Utf16Be,
         Id::Utf16le => Codec::Utf16Le,
         Id::XUserDefined => Codec::XUserDefined,
+        Id::Iso2022Jp => Codec::Iso2022Jp,
     }
 }
