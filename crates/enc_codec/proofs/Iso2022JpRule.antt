@@ -243,7 +243,7 @@ lead_told : (set b : ℕ) (z : List ℕ) → is_lead (set_of set) b ≡ true →
 lead_told set b [] e = inr (not_valid _ _ (lead_first set b [] e) (λ v. cc), inr (lead_by_end set b e))
 lead_told set b (c ∷ z) e = elim (true_or_false (eqb c 0x1B)) [
   | inl t ↦ (let g = λ (y : List ℕ). lead_first set b (c ∷ y) e ∙ lead_alone set b (c ∷ y) t in
-    inr (not_valid _ _ (g z) (λ v. cc), inl (1, omega arith, told_at set b (c ∷ z) 1 1 _ (omega arith) (g z) (omega arith) g)))
+      inr (not_valid _ _ (g z) (λ v. cc), inl (1, omega arith, told_at set b (c ∷ z) 1 1 _ (omega arith) (g z) (omega arith) g)))
   | inr n ↦ inl (pair_told set b c z (two_byte_char b c) refl e n)
 ]
 
@@ -317,7 +317,7 @@ lead_not_skipped set b (c ∷ z) l k = elim (true_or_false (eqb c 0x1B)) [
 not_alone : (set b : ℕ) (z : List ℕ) → (iso_2022_jp_rule set b z).kind ≡ Skipped → IsToldBy iso_2022_jp_rule set b z 0 → ⊥
 not_alone set b z k t = elim (true_or_false (eqb b 0x1B)) [
   | inl e ↦ (let q = is_escape_byte b e in
-    escape_not_alone set z (subst (λ (x : ℕ). (iso_2022_jp_rule set x z).kind ≡ Skipped) q k) (subst (λ (x : ℕ). IsToldBy iso_2022_jp_rule set x z 0) q t))
+      escape_not_alone set z (subst (λ (x : ℕ). (iso_2022_jp_rule set x z).kind ≡ Skipped) q k) (subst (λ (x : ℕ). IsToldBy iso_2022_jp_rule set x z 0) q t))
   | inr n ↦ elim (true_or_false (is_lead (set_of set) b)) [
     | inl l ↦ lead_not_skipped set b z l k
     | inr l ↦ skipped_differs _ _ k (one_byte_not_skipped set (one_byte_char (set_of set) b)) (alone_first set b z l n)

@@ -114,7 +114,7 @@ escape_tells set (a ∷ []) = not_begun set (a ∷ []) refl
 escape_tells set (a ∷ c ∷ z) = elim (found_or_not (set_named a c)) [
   | inl n ↦ not_begun set (a ∷ c ∷ z) n
   | inr f ↦ (let t = is_some (designated z) in
-    tells_by set 0x1B (a ∷ c ∷ z) _ (escape_first set (a ∷ c ∷ z) (Some f.0) t f.1 refl) (escape set a c z f.0 t f.1))
+      tells_by set 0x1B (a ∷ c ∷ z) _ (escape_first set (a ∷ c ∷ z) (Some f.0) t f.1 refl) (escape set a c z f.0 t f.1))
 ]
 
 lead_tells : (set b : ℕ) (z : List ℕ) → is_lead (set_of set) b ≡ true → TellsSet set b z (iso_2022_jp_rule set b z)
@@ -161,8 +161,11 @@ sets set (b ∷ z) (s ∷ before) behind e =
     let k = sets h.set (drop h.more z) before behind (rest_of (head_sequence h b z) s _ (before ++ behind) g) in
     let w = bytes_of before in
     subst (λ (t : Sequence). HasSet set (b ∷ z) (t ∷ before)) (first_of (head_sequence h b z) s _ (before ++ behind) g) (
-      (k.0.0, ap (λ x. b ∷ x) (sym (take-append-drop h.more z) ∙ ap (λ x. take h.more z ++ x) k.0.1
-      ∙ sym (append_assoc (take h.more z) w k.0.0))),
+      (
+        k.0.0,
+        ap (λ x. b ∷ x) (sym (take-append-drop h.more z) ∙ ap (λ x. take h.more z ++ x) k.0.1
+            ∙ sym (append_assoc (take h.more z) w k.0.0)),
+      ),
       k.1 ∙ tells set b z w k.0.0 k.0.1,
     )
 

@@ -24,7 +24,7 @@ set_of set = if set == 1 then Roman else if set == 2 then Katakana else if set =
 abbrev pub set_named : ℕ → ℕ → Option CharacterSet
 set_named b c =
     if b == 0x28 then
-      if c == 0x42 then Some Ascii else if c == 0x4A then Some Roman else if c == 0x49 then Some Katakana else None
+    if c == 0x42 then Some Ascii else if c == 0x4A then Some Roman else if c == 0x49 then Some Katakana else None
     else if b == 0x24 && (c == 0x40 || c == 0x42) then Some Jis0208
     else None
 

@@ -1,7 +1,7 @@
 //! The ISO-2022-JP decoder (Encoding Standard 12.2.1).
 
 ghost use Rattle.std.specs.Prelude.{◌≡◌, ℕ, ◌+◌, ◌-◌, ◌≤◌, true, false, Option, IfSome, IfNone, List, [], ◌∷◌, length};
-ghost use Rattle.enc_codec.specs.Iso2022Jp.{set_named, one_byte_char as char_of_byte, two_byte_char, is_jis0208_byte as in_jis0208, is_lead as begins_pair};
+ghost use Rattle.enc_codec.specs.Iso2022Jp.{set_named, ascii_char as char_in_ascii, roman_char as char_in_roman, katakana_char as char_in_katakana, one_byte_char as char_alone, is_jis0208_byte as in_jis0208, is_lead as begins_pair, two_byte_char};
 ghost use Rattle.enc_codec.specs.Iso2022JpState.{Iso2022JpState, holding, intermediate_byte, escape_bytes, escape_set, held_bytes, CanHold, CutsOff, shown_char, iso_2022_jp_state};
 ghost use Rattle.enc_codec.specs.CodecLaw.{Comes, Acts, IsReady};
 
@@ -192,7 +192,7 @@ fn is_lead(set: CharacterSet, byte: u8) -> bool
 /// The character that a byte is by itself.
 #[tactic(auto, unfolding(crate::specs::Iso2022Jp::one_byte_char))]
 fn one_byte_char(set: CharacterSet, byte: u8) -> Option<char>
-    ensures { result ≡ char_of_byte set byte }
+    ensures { result ≡ char_alone set byte }
 {
     match set {
         CharacterSet::Ascii => ascii_char(byte),
@@ -204,7 +204,7 @@ fn one_byte_char(set: CharacterSet, byte: u8) -> Option<char>
 
 /// A byte in the set ASCII.
 fn ascii_char(byte: u8) -> Option<char>
-    ensures { result ≡ Rattle.enc_codec.specs.Iso2022Jp.ascii_char byte }
+    ensures { result ≡ char_in_ascii byte }
 {
     match byte {
         0x0E | 0x0F | 0x1B => None,
@@ -215,7 +215,7 @@ fn ascii_char(byte: u8) -> Option<char>
 
 /// A byte in the set Roman.
 fn roman_char(byte: u8) -> Option<char>
-    ensures { result ≡ Rattle.enc_codec.specs.Iso2022Jp.roman_char byte }
+    ensures { result ≡ char_in_roman byte }
 {
     match byte {
         0x5C => Some('\u{A5}'),
@@ -226,7 +226,7 @@ fn roman_char(byte: u8) -> Option<char>
 
 /// A byte in the set katakana.
 fn katakana_char(byte: u8) -> Option<char>
-    ensures { result ≡ Rattle.enc_codec.specs.Iso2022Jp.katakana_char byte }
+    ensures { result ≡ char_in_katakana byte }
 {
     match byte {
         0x21..=0x5F => Some(halfwidth_katakana(byte)),
@@ -256,7 +256,7 @@ fn char_of_pair(lead: u8, byte: u8) -> Option<char>
 }
 
 /// The state in a set with these bytes held.
-fn state(set: CharacterSet, held: Option<Held>) -> Iso2022JpDecoder
+fn with_held(set: CharacterSet, held: Option<Held>) -> Iso2022JpDecoder
     requires { CanHold set held }
     ensures { result ≡ holding set held }
 {
@@ -301,7 +301,7 @@ fn skip_escape(escape: Escape, held: Option<Held>) -> Shown<Iso2022JpDecoder>
         kind: Kind::Skipped,
         len: 3,
         takes_byte: false,
-        next: state(escape.set(), held),
+        next: with_held(escape.set(), held),
     }
 }
 
@@ -325,8 +325,13 @@ fn cut_off(set: CharacterSet, held: Held) -> Shown<Iso2022JpDecoder>
     ensures before { result.takes_byte ≡ false }
 {
     match held {
-        Held::GivenBack(byte) => show_char(one_byte_char(set, byte), 1, false, state(set, None)),
-        Held::Lead(_) => show_char(None, 1, false, state(set, None)),
+        Held::GivenBack(byte) => show_char(
+            one_byte_char(set, byte),
+            1,
+            false,
+            with_held(set, None),
+        ),
+        Held::Lead(_) => show_char(None, 1, false, with_held(set, None)),
         Held::Whole(escape) => skip_escape(escape, None),
         Held::Start(before) => cut_off_start(set, before),
         Held::Started(before, intermediate) => cut_off_started(set, before, intermediate),
@@ -340,7 +345,7 @@ fn cut_off_start(set: CharacterSet, before: Option<Escape>) -> Shown<Iso2022JpDe
 {
     match before {
         Some(escape) => skip_escape(escape, Some(Held::Start(None))),
-        None => show_char(None, 1, false, state(set, None)),
+        None => show_char(None, 1, false, with_held(set, None)),
     }
 }
 
@@ -357,7 +362,7 @@ fn cut_off_started(
     match before {
         Some(escape) => skip_escape(escape, Some(Held::Started(None, intermediate))),
         None => {
-            let next = state(set, Some(give_back(set, intermediate)));
+            let next = with_held(set, Some(give_back(set, intermediate)));
             show_char(None, 1, false, next)
         }
     }
@@ -378,11 +383,11 @@ fn step_first(set: CharacterSet, byte: u8) -> Step<Iso2022JpDecoder>
     ensures { Acts iso_2022_jp_state (holding set Option.None) byte result }
 {
     if byte == 0x1B {
-        Step::Wait(state(set, Some(Held::Start(None))))
+        Step::Wait(with_held(set, Some(Held::Start(None))))
     } else if is_lead(set, byte) {
-        Step::Wait(state(set, Some(Held::Lead(byte))))
+        Step::Wait(with_held(set, Some(Held::Lead(byte))))
     } else {
-        let next = state(set, None);
+        let next = with_held(set, None);
         Step::Show(show_char(one_byte_char(set, byte), 1, true, next))
     }
 }
@@ -394,7 +399,7 @@ fn step_trail(set: CharacterSet, lead: u8, byte: u8) -> Step<Iso2022JpDecoder>
     if byte == 0x1B {
         Step::Show(cut_off(set, Held::Lead(lead)))
     } else {
-        let next = state(set, None);
+        let next = with_held(set, None);
         Step::Show(show_char(char_of_pair(lead, byte), 2, true, next))
     }
 }
@@ -403,7 +408,7 @@ fn step_whole(set: CharacterSet, escape: Escape, byte: u8) -> Step<Iso2022JpDeco
     ensures { Acts iso_2022_jp_state (holding set (Option.Some (Held.Whole escape))) byte result }
 {
     if byte == 0x1B {
-        Step::Wait(state(set, Some(Held::Start(Some(escape)))))
+        Step::Wait(with_held(set, Some(Held::Start(Some(escape)))))
     } else {
         Step::Show(cut_off(set, Held::Whole(escape)))
     }
@@ -413,7 +418,7 @@ fn step_start(set: CharacterSet, before: Option<Escape>, byte: u8) -> Step<Iso20
     ensures { Acts iso_2022_jp_state (holding set (Option.Some (Held.Start before))) byte result }
 {
     match Intermediate::of_byte(byte) {
-        Some(intermediate) => Step::Wait(state(set, Some(Held::Started(before, intermediate)))),
+        Some(intermediate) => Step::Wait(with_held(set, Some(Held::Started(before, intermediate)))),
         None => Step::Show(cut_off(set, Held::Start(before))),
     }
 }
@@ -446,13 +451,13 @@ fn step_escape(
 {
     let held = Some(Held::Whole(escape));
     match before {
-        None => Step::Wait(state(set, held)),
+        None => Step::Wait(with_held(set, held)),
         Some(first) => Step::Show(Shown {
             text: Text::One('\u{FFFD}'),
             kind: Kind::RepeatedEscape,
             len: 3,
             takes_byte: true,
-            next: state(first.set(), held),
+            next: with_held(first.set(), held),
         }),
     }
 }

@@ -12,5 +12,5 @@ returns-in-Some-clause-comes c =
 
 pub returns-in-None-clause-comes : goal.returns-in-None-clause-comes
 returns-in-None-clause-comes c =
-    rw (c.in-None.is, c.show_char.ensures, c.state.ensures)
+    rw (c.in-None.is, c.show_char.ensures, c.with_held.ensures)
     (shows_malformed c.args.set (Start None) 0x1B None refl (omega arith) (λ y m. no_escape_first (set_number c.args.set) y m))

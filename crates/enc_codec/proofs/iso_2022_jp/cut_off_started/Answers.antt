@@ -14,6 +14,6 @@ returns-in-Some-clause-comes c =
 pub returns-in-None-clause-comes : goal.returns-in-None-clause-comes
 returns-in-None-clause-comes c =
     let b = c.give_back.ensures.bytes in
-    rw (c.in-None.is, c.show_char.ensures, c.state-next.ensures)
+    rw (c.in-None.is, c.show_char.ensures, c.with_held-next.ensures)
     (shows_malformed c.args.set (Started None c.args.intermediate) 0x1B (Some c.give_back.result) (rw b refl) (rw b (omega arith))
     (λ y m. rw b (no_escape_first (set_number c.args.set) _ m)))

@@ -7,6 +7,6 @@ char_of_pair-requires c = lead_in_jis0208 c.args.set c.args.lead c.requires
 
 pub returns-else-byte-eq27 : goal.returns-else-byte-eq27
 returns-else-byte-eq27 c =
-    rw (c.show_char.ensures, c.state-next.ensures)
+    rw (c.show_char.ensures, c.with_held-next.ensures)
     (shows_pair c.args.set c.args.lead c.args.byte _ c.char_of_pair.ensures c.requires
     (differs c.args.byte 0x1B c.if-byte-eq27.false))
