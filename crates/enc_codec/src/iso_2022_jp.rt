@@ -46,18 +46,18 @@ enum Escape {
     ToJis0208Of1983,
 }
 
-/// Bytes that were read and whose sequence is not shown yet.
+/// Bytes that were read and whose sequence is not shown yet, with the state that the standard's decoder is in then.
 #[derive(Clone, Copy)]
 enum Held {
     /// A byte that was given back behind a malformed sequence, and stands alone.
     GivenBack(u8),
-    /// The first byte of a character of two bytes.
+    /// The first byte of a character of two bytes ("trail byte").
     Lead(u8),
-    /// A whole escape sequence, which another may follow.
+    /// A whole escape sequence, which another may follow (that of its set).
     Whole(Escape),
-    /// 1B, behind a whole escape sequence or none.
+    /// 1B, behind a whole escape sequence or none ("escape start").
     Start(Option<Escape>),
-    /// 1B and the second byte of an escape sequence, behind a whole one or none.
+    /// 1B and the second byte of an escape sequence, behind a whole one or none ("escape").
     Started(Option<Escape>, Intermediate),
 }
 
@@ -305,6 +305,25 @@ fn skip_escape(escape: Escape, held: Option<Held>) -> Shown<Iso2022JpDecoder>
     }
 }
 
+/// An escape sequence that another follows directly, with the last byte of the other, which is held.
+fn report_escape(escape: Escape, another: Escape) -> Shown<Iso2022JpDecoder>
+    ensures { result ≡ record {
+      text = Text.One 0xFFFD;
+      kind = Kind.RepeatedEscape;
+      len = 3;
+      takes_byte = true;
+      next = holding (escape_set escape) (Option.Some (Held.Whole another));
+    } }
+{
+    Shown {
+        text: Text::One('\u{FFFD}'),
+        kind: Kind::RepeatedEscape,
+        len: 3,
+        takes_byte: true,
+        next: with_held(escape.set(), Some(Held::Whole(another))),
+    }
+}
+
 /// The second byte of what is no escape sequence, which is read anew in the set in force.
 fn give_back(set: CharacterSet, intermediate: Intermediate) -> Held
     ensures can_hold { CanHold set (Option.Some result) }
@@ -379,6 +398,7 @@ fn show_given_back(set: CharacterSet, held: Held) -> Option<Shown<Iso2022JpDecod
     }
 }
 
+/// A byte where none is held.
 fn step_first(set: CharacterSet, byte: u8) -> Step<Iso2022JpDecoder>
     ensures { Acts iso_2022_jp_state (holding set Option.None) byte result }
 {
@@ -392,6 +412,7 @@ fn step_first(set: CharacterSet, byte: u8) -> Step<Iso2022JpDecoder>
     }
 }
 
+/// A byte behind a lead byte.
 fn step_trail(set: CharacterSet, lead: u8, byte: u8) -> Step<Iso2022JpDecoder>
     requires { CanHold set (Option.Some (Held.Lead lead)) }
     ensures { Acts iso_2022_jp_state (holding set (Option.Some (Held.Lead lead))) byte result }
@@ -404,6 +425,7 @@ fn step_trail(set: CharacterSet, lead: u8, byte: u8) -> Step<Iso2022JpDecoder>
     }
 }
 
+/// A byte behind a whole escape sequence.
 fn step_whole(set: CharacterSet, escape: Escape, byte: u8) -> Step<Iso2022JpDecoder>
     ensures { Acts iso_2022_jp_state (holding set (Option.Some (Held.Whole escape))) byte result }
 {
@@ -414,6 +436,7 @@ fn step_whole(set: CharacterSet, escape: Escape, byte: u8) -> Step<Iso2022JpDeco
     }
 }
 
+/// A byte behind 1B.
 fn step_start(set: CharacterSet, before: Option<Escape>, byte: u8) -> Step<Iso2022JpDecoder>
     ensures { Acts iso_2022_jp_state (holding set (Option.Some (Held.Start before))) byte result }
 {
@@ -423,6 +446,7 @@ fn step_start(set: CharacterSet, before: Option<Escape>, byte: u8) -> Step<Iso20
     }
 }
 
+/// A byte behind 1B and the second byte of an escape sequence. Where a second escape sequence is whole then, it is held, and the one before it is malformed.
 fn step_started(
     set: CharacterSet,
     before: Option<Escape>,
@@ -431,34 +455,12 @@ fn step_started(
 ) -> Step<Iso2022JpDecoder>
     ensures { Acts iso_2022_jp_state (holding set (Option.Some (Held.Started before intermediate))) byte result }
 {
-    match Escape::of_bytes(intermediate, byte) {
-        Some(escape) => step_escape(set, before, intermediate, byte, escape),
-        None => Step::Show(cut_off(set, Held::Started(before, intermediate))),
-    }
-}
-
-/// The last byte of an escape sequence. Where it follows another directly, that one is malformed, and this one is
-/// held as a whole.
-fn step_escape(
-    set: CharacterSet,
-    before: Option<Escape>,
-    intermediate: Intermediate,
-    byte: u8,
-    escape: Escape,
-) -> Step<Iso2022JpDecoder>
-    requires { escape_bytes escape ≡ 0x1B ∷ intermediate_byte intermediate ∷ byte ∷ [] }
-    ensures { Acts iso_2022_jp_state (holding set (Option.Some (Held.Started before intermediate))) byte result }
-{
-    let held = Some(Held::Whole(escape));
+    let Some(escape) = Escape::of_bytes(intermediate, byte) else {
+        return Step::Show(cut_off(set, Held::Started(before, intermediate)));
+    };
     match before {
-        None => Step::Wait(with_held(set, held)),
-        Some(first) => Step::Show(Shown {
-            text: Text::One('\u{FFFD}'),
-            kind: Kind::RepeatedEscape,
-            len: 3,
-            takes_byte: true,
-            next: with_held(first.set(), held),
-        }),
+        Some(first) => Step::Show(report_escape(first, escape)),
+        None => Step::Wait(with_held(set, Some(Held::Whole(escape)))),
     }
 }
 
@@ -530,5 +532,73 @@ impl RawDecoder for Iso2022JpDecoder {
         ensures few { result ≤ 5 }
     {
         self.pending_len() as usize
+    }
+}
+
+#[cfg(test)]
+mod tests {
+    use super::*;
+    use enc_units::Utf8Slice;
+    use std::process::Abort;
+
+    /// A call that is not the last one takes all of its bytes, writes nothing, and leaves so many held.
+    fn hold(rt: &impl Abort, decoder: &mut Iso2022JpDecoder, src: &[u8], held: usize) {
+        let mut dst = [0; 8];
+        let mut out = Utf8Slice::new(&mut dst);
+        let outcome = decoder.decode(src, &mut out, false, false);
+        assert_eq!(rt; outcome, (DecoderResult::InputEmpty, src.len()));
+        assert_eq!(rt; decoder.held(), held);
+        assert_eq!(rt; out.len(), 0);
+    }
+
+    /// The last call reads all of its bytes and writes this text.
+    fn end(rt: &impl Abort, decoder: &mut Iso2022JpDecoder, src: &[u8], text: &str) {
+        let mut dst = [0; 8];
+        let mut out = Utf8Slice::new(&mut dst);
+        let outcome = decoder.decode(src, &mut out, true, false);
+        assert_eq!(rt; outcome, (DecoderResult::InputEmpty, src.len()));
+        assert_eq!(rt; decoder.held(), 0);
+        let len = out.len();
+        assert!(rt; len <= 8);
+        assert_eq!(rt; &dst[..len], text.as_bytes());
+    }
+
+    #[test]
+    fn decodes_each_set(rt: HostRuntime) {
+        end(&rt, &mut Iso2022JpDecoder::new(), b"\x5C\x7E", "\\~");
+        end(&rt, &mut Iso2022JpDecoder::new(), b"\x1B(J\x5C\x7E", "¥‾");
+        end(&rt, &mut Iso2022JpDecoder::new(), b"\x1B(I\x21\x5F", "｡ﾟ");
+        end(&rt, &mut Iso2022JpDecoder::new(), b"\x1B$@\x24\x22", "あ");
+        end(&rt, &mut Iso2022JpDecoder::new(), b"\x1B$B\x24\x22", "あ");
+    }
+
+    #[test]
+    fn holds_an_escape_until_the_next_is_told(rt: HostRuntime) {
+        let mut decoder = Iso2022JpDecoder::new();
+        hold(&rt, &mut decoder, b"\x1B", 1);
+        hold(&rt, &mut decoder, b"(", 2);
+        hold(&rt, &mut decoder, b"J", 3);
+        hold(&rt, &mut decoder, b"\x1B", 4);
+        hold(&rt, &mut decoder, b"$", 5);
+        let mut dst = [0; 8];
+        let mut out = Utf8Slice::new(&mut dst);
+        let fault = decoder.decode(b"B", &mut out, false, false);
+        assert_eq!(rt; fault, (DecoderResult::Malformed(3, 3), 1));
+        assert_eq!(rt; out.len(), 0);
+        assert_eq!(rt; decoder.held(), 3);
+        hold(&rt, &mut decoder, b"\x24", 1);
+        end(&rt, &mut decoder, b"\x22", "あ");
+    }
+
+    #[test]
+    fn reads_anew_in_the_set_in_force(rt: HostRuntime) {
+        let mut decoder = Iso2022JpDecoder::new();
+        hold(&rt, &mut decoder, b"\x1B$B\x1B$", 5);
+        let mut dst = [0; 8];
+        let mut out = Utf8Slice::new(&mut dst);
+        let fault = decoder.decode(b"\x22", &mut out, true, false);
+        assert_eq!(rt; fault, (DecoderResult::Malformed(1, 1), 0));
+        assert_eq!(rt; out.len(), 0);
+        end(&rt, &mut decoder, b"\x22", "あ");
     }
 }
