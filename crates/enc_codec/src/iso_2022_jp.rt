@@ -511,7 +511,6 @@ impl ByteCodec for Iso2022JpDecoder {
 }
 
 impl RawDecoder for Iso2022JpDecoder {
-    ghost use Rattle.std.specs.Prelude.{◌≡◌, ◌≤◌, length};
     ghost use Rattle.enc_codec.specs.Iso2022JpState.{iso_2022_jp_state};
 
     ghost state = { iso_2022_jp_state };
@@ -526,11 +525,7 @@ impl RawDecoder for Iso2022JpDecoder {
         run(self, src, out, last, fault_room)
     }
 
-    /// How many bytes are read whose sequence is not put out: five at most. Takes no memory.
-    fn held(&self) -> usize
-        ensures count { result ≡ length (iso_2022_jp_state self.now).pending }
-        ensures few { result ≤ 5 }
-    {
+    fn held(&self) -> usize {
         self.pending_len() as usize
     }
 }
