@@ -1,26 +1,22 @@
 -- What the ISO-2022-JP decoder shows comes first.
-use Rattle.std.proofs.Common.{◌≡◌, ℕ, ◌+◌, ◌<◌, ◌≤◌, Bool, true, false, eqb, Option, Some, None, List, [], ◌∷◌, ◌++◌, length, refl, ap, ◌∙◌, sym, arith, append_assoc, subst}
-use Rattle.std.proofs.lemmas.List.{append-nil}
-use Rattle.std.proofs.lemmas.Bool.{false≢true}
+use Rattle.std.proofs.Common.{◌≡◌, ℕ, ◌≤◌, true, false, eqb, Option, Some, None, List, [], ◌∷◌, ◌++◌, length, refl, ap, ◌∙◌, sym, arith, append_assoc}
 use Rattle.enc_codec.specs.declared.byte_codec.Kind.TheVariants.{Valid, Skipped, Malformed, RepeatedEscape}
 use Rattle.enc_codec.specs.declared.byte_codec.Text.TheVariants.{Nothing, One}
-use Rattle.enc_codec.specs.declared.byte_codec.Shown.{Shown}
 use Rattle.enc_codec.specs.declared.byte_codec.Step.TheVariants.{Show}
 use Rattle.enc_codec.specs.declared.iso_2022_jp.CharacterSet.{CharacterSet}
 use Rattle.enc_codec.specs.declared.iso_2022_jp.Intermediate.{Intermediate}
-use Rattle.enc_codec.specs.declared.iso_2022_jp.Intermediate.TheVariants.{Parenthesis, Dollar}
 use Rattle.enc_codec.specs.declared.iso_2022_jp.Escape.{Escape}
 use Rattle.enc_codec.specs.declared.iso_2022_jp.Escape.TheVariants.{ToAscii, ToRoman, ToKatakana, ToJis0208Of1978, ToJis0208Of1983}
 use Rattle.enc_codec.specs.declared.iso_2022_jp.Held.{Held}
-use Rattle.enc_codec.specs.declared.iso_2022_jp.Held.TheVariants.{GivenBack, Lead, Whole, Start, Started}
-use Rattle.enc_codec.specs.Segmentation.{Head, head_sequence, sequences_of}
-use Rattle.enc_codec.specs.CodecLaw.{taken, Comes, BeginsWith, Acts, IsAtEnd}
-use Rattle.enc_codec.specs.Iso2022Jp.{set_number, set_of, set_named, designated, is_lead, one_byte_char, two_byte_char, two_byte_head, iso_2022_jp_rule}
+use Rattle.enc_codec.specs.declared.iso_2022_jp.Held.TheVariants.{GivenBack, Lead, Whole, Started}
+use Rattle.enc_codec.specs.Segmentation.{sequences_of}
+use Rattle.enc_codec.specs.CodecLaw.{Comes, Acts}
+use Rattle.enc_codec.specs.Iso2022Jp.{set_number, designated, is_lead, one_byte_char, two_byte_char, two_byte_head, iso_2022_jp_rule}
 use Rattle.enc_codec.specs.OneByte.{one_byte_head}
-use Rattle.enc_codec.specs.Iso2022JpState.{Iso2022JpState, holding, intermediate_byte, escape_bytes, escape_set, behind, held_bytes, CanHold, CutsOff, ends_lead, shown_char, iso_2022_jp_state}
+use Rattle.enc_codec.specs.Iso2022JpState.{holding, intermediate_byte, escape_bytes, escape_set, behind, held_bytes, CanHold, CutsOff, ends_lead, shown_char, iso_2022_jp_state}
 use Rattle.enc_codec.proofs.SegmentationLemmas.{sequences_of-head}
 use Rattle.enc_codec.proofs.ShowLemmas.{shows_with, shows_before}
-use Rattle.enc_codec.proofs.Iso2022JpLemmas.{set_of_number, differs, lead_is_no_escape, no_escape_first, lead_first, alone_first, lead_alone, lead_and_trail, skipped_escape, repeated_escape, designated_by}
+use Rattle.enc_codec.proofs.Iso2022JpLemmas.{set_of_number, lead_first, alone_first, lead_alone, lead_and_trail, skipped_escape, repeated_escape, designated_by}
 use Rattle.enc_codec.proofs.Iso2022JpUndetermined.{undetermined}
 
 three : (e : Escape) → 3 ≡ length (escape_bytes e)

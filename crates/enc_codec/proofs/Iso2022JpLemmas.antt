@@ -9,7 +9,7 @@ use Rattle.enc_codec.specs.declared.iso_2022_jp.Escape.{Escape}
 use Rattle.enc_codec.specs.declared.iso_2022_jp.Escape.TheVariants.{ToAscii, ToRoman, ToKatakana, ToJis0208Of1978, ToJis0208Of1983}
 use Rattle.enc_codec.specs.Segmentation.{Head, head_sequence, sequences_of}
 use Rattle.enc_codec.specs.OneByte.{one_byte_head}
-use Rattle.enc_codec.specs.Utf16.{character_head, malformed_head}
+use Rattle.enc_codec.specs.Utf16.{malformed_head}
 use Rattle.enc_codec.specs.Iso2022Jp.{set_number, set_of, set_named, designated, escape_head, one_byte_char, is_lead, is_jis0208_byte, two_byte_char, two_byte_head, lead_head, iso_2022_jp_rule}
 use Rattle.enc_codec.specs.Iso2022JpState.{escape_bytes, escape_set, ends_lead}
 use Rattle.enc_codec.proofs.SegmentationLemmas.{sequences_of-head}

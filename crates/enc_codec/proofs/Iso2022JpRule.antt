@@ -1,20 +1,18 @@
 -- The laws of ISO-2022-JP's rule. A character is told by its own bytes; what is cut off, and an escape sequence, by
 -- as many bytes behind it as show that no escape sequence stands there, or one does, or by the end.
-use Rattle.std.proofs.Common.{◌≡◌, ℕ, ◌+◌, ◌<◌, ◌≤◌, zero, suc, Bool, true, false, eqb, Option, Some, None, List, [], ◌∷◌, ◌++◌, length, take, drop, refl, ap, ◌∙◌, sym, arith, subst, ◌⊎◌, inl, inr}
+use Rattle.std.proofs.Common.{◌≡◌, ℕ, ◌+◌, ◌≤◌, zero, suc, Bool, true, false, eqb, Option, Some, None, List, [], ◌∷◌, ◌++◌, length, take, drop, refl, ap, ◌∙◌, sym, arith, subst, ◌⊎◌, inl, inr}
 use Rattle.std.proofs.lemmas.Bool.Decides.{nat_tests}
 use Rattle.std.specs.Char.{encode_utf8}
 use Rattle.std.specs.Option.{is_some}
 use Rattle.enc_units.specs.Output.{units_of_text}
-use Rattle.enc_codec.specs.declared.byte_codec.Kind.{Kind}
-use Rattle.enc_codec.specs.declared.byte_codec.Kind.TheVariants.{Valid, Skipped, Malformed, RepeatedEscape}
+use Rattle.enc_codec.specs.declared.byte_codec.Kind.TheVariants.{Valid, Skipped}
 use Rattle.enc_codec.specs.declared.iso_2022_jp.CharacterSet.{CharacterSet}
 use Rattle.enc_codec.specs.declared.iso_2022_jp.CharacterSet.TheVariants.{Ascii, Jis0208}
 use Rattle.enc_codec.specs.Segmentation.{Head}
 use Rattle.enc_codec.specs.Remainder.{AreBytes}
 use Rattle.enc_codec.specs.OneByte.{one_byte_head}
-use Rattle.enc_codec.specs.Utf16.{character_head, malformed_head}
 use Rattle.enc_codec.specs.RuleLaws.{HasSmallTexts, IsToldBy, IsToldByEnd, IsLawful}
-use Rattle.enc_codec.specs.Iso2022Jp.{set_of, set_named, designated, escape_head, is_lead, one_byte_char, two_byte_char, two_byte_head, lead_head, iso_2022_jp_rule}
+use Rattle.enc_codec.specs.Iso2022Jp.{set_of, set_named, designated, escape_head, is_lead, one_byte_char, two_byte_char, two_byte_head, iso_2022_jp_rule}
 use Rattle.enc_codec.specs.Iso2022JpLaws.{LooksBehindSkipped}
 use Rattle.enc_codec.proofs.RuleLemmas.{one_small}
 use Rattle.enc_codec.proofs.ToldLemmas.{true_or_false, told_by, IsToldInTime, lookahead_by}

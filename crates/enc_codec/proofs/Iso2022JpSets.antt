@@ -1,6 +1,5 @@
 -- In ISO-2022-JP the set at a place is that of the last escape sequence before it.
-use Rattle.std.proofs.Common.{◌≡◌, ℕ, Bool, true, false, eqb, Option, Some, None, List, [], ◌∷◌, ◌++◌, take, drop, refl, ap, ◌∙◌, sym, arith, subst, append_assoc, ◌⊎◌, inl, inr}
-use Rattle.std.proofs.lemmas.Bool.Decides.{nat_tests}
+use Rattle.std.proofs.Common.{◌≡◌, ℕ, Bool, true, false, eqb, Option, Some, None, List, [], ◌∷◌, ◌++◌, take, drop, refl, ap, ◌∙◌, sym, subst, append_assoc, inl, inr}
 use Rattle.std.proofs.lemmas.List.{take-append-drop}
 use Rattle.std.specs.Option.{is_some}
 use Rattle.enc_codec.specs.declared.iso_2022_jp.CharacterSet.{CharacterSet}
@@ -8,7 +7,7 @@ use Rattle.enc_codec.specs.Sequence.{Sequence, bytes_of, set_after}
 use Rattle.enc_codec.specs.Segmentation.{Head, head_sequence, sequences_of}
 use Rattle.enc_codec.specs.OneByte.{one_byte_head}
 use Rattle.enc_codec.specs.Utf16.{malformed_head}
-use Rattle.enc_codec.specs.Iso2022Jp.{set_number, set_of, set_named, designated, escape_head, is_lead, one_byte_char, two_byte_char, two_byte_head, lead_head, iso_2022_jp_rule}
+use Rattle.enc_codec.specs.Iso2022Jp.{set_number, set_of, set_named, designated, escape_head, is_lead, one_byte_char, two_byte_char, two_byte_head, iso_2022_jp_rule}
 use Rattle.enc_codec.specs.Iso2022JpLaws.{later_or, last_designated, number_or, SetsAreOfLastEscapes}
 use Rattle.enc_codec.proofs.SegmentationLemmas.{sequences_of-cons, sequences_of-nil}
 use Rattle.enc_codec.proofs.ToldLemmas.{true_or_false}

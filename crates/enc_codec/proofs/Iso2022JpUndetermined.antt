@@ -1,5 +1,5 @@
 -- What the ISO-2022-JP decoder's held bytes determine by themselves: nothing, but for a byte that was given back.
-use Rattle.std.proofs.Common.{◌≡◌, ℕ, Option, Some, None, List, [], ◌∷◌, ◌++◌, refl, subst, sym}
+use Rattle.std.proofs.Common.{◌≡◌, ℕ, Some, None, List, [], ◌∷◌, ◌++◌, refl}
 use Rattle.enc_codec.specs.declared.iso_2022_jp.CharacterSet.{CharacterSet}
 use Rattle.enc_codec.specs.declared.iso_2022_jp.CharacterSet.TheVariants.{Ascii, Roman, Katakana, Jis0208}
 use Rattle.enc_codec.specs.declared.iso_2022_jp.Intermediate.{Intermediate}
@@ -12,7 +12,7 @@ use Rattle.enc_codec.specs.Segmentation.{sequences_of}
 use Rattle.enc_codec.specs.Remainder.{IsUndetermined}
 use Rattle.enc_codec.specs.CodecState.{remainder_of}
 use Rattle.enc_codec.specs.RuleLaws.{IsToldByEnd}
-use Rattle.enc_codec.specs.Iso2022Jp.{set_number, set_of, is_lead, iso_2022_jp_rule}
+use Rattle.enc_codec.specs.Iso2022Jp.{set_number, iso_2022_jp_rule}
 use Rattle.enc_codec.specs.Iso2022JpState.{holding, escape_bytes, intermediate_byte, CanHold, iso_2022_jp_state}
 use Rattle.enc_codec.proofs.ToldLemmas.{undetermined_by_end}
 use Rattle.enc_codec.proofs.Iso2022JpLemmas.{set_of_number, has_form}

@@ -1,10 +1,8 @@
-use Rattle.std.proofs.Common.{None, Some, ◌≡◌, ◌∷◌, ◌∙◌, [], length, ap, refl, arith, subst}
+use Rattle.std.proofs.Common.{None, Some, refl, subst}
 use Rattle.std.proofs.lemmas.List.{append-nil}
-use Rattle.enc_codec.specs.declared.iso_2022_jp.Held.TheVariants.{GivenBack, Lead, Whole, Start, Started}
-use Rattle.enc_codec.specs.Iso2022Jp.{set_number}
-use Rattle.enc_codec.specs.Iso2022JpState.{CanHold, held_bytes}
-use Rattle.enc_codec.proofs.Iso2022JpLemmas.{no_escape_first}
-use Rattle.enc_codec.proofs.Iso2022JpComes.{shows_given_back, shows_lead, shows_malformed, shows_skipped}
+use Rattle.enc_codec.specs.declared.iso_2022_jp.Held.TheVariants.{Whole}
+use Rattle.enc_codec.specs.Iso2022JpState.{CanHold}
+use Rattle.enc_codec.proofs.Iso2022JpComes.{shows_given_back, shows_lead, shows_skipped}
 use Rattle.enc_codec.proofs.iso_2022_jp.cut_off.Goals as goal
 
 pub returns-in-GivenBack-clause-comes : goal.returns-in-GivenBack-clause-comes

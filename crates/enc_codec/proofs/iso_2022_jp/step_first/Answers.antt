@@ -1,4 +1,4 @@
-use Rattle.std.proofs.Common.{Some, None, refl, sym, ◌∙◌}
+use Rattle.std.proofs.Common.{None, refl, sym, ◌∙◌}
 use Rattle.enc_codec.specs.declared.iso_2022_jp.Held.TheVariants.{Lead, Start}
 use Rattle.enc_codec.proofs.Iso2022JpLemmas.{differs}
 use Rattle.enc_codec.proofs.Iso2022JpUndetermined.{undetermined}

@@ -1,4 +1,4 @@
-use Rattle.std.proofs.Common.{Some, [], ◌∷◌, ap}
+use Rattle.std.proofs.Common.{[], ◌∷◌, ap}
 use Rattle.enc_codec.specs.declared.iso_2022_jp.Held.TheVariants.{Started}
 use Rattle.enc_codec.specs.Iso2022Jp.{set_number, iso_2022_jp_rule}
 use Rattle.enc_codec.specs.Iso2022JpState.{intermediate_byte}
