@@ -12,6 +12,8 @@ mod gb18030;
 #[cfg(test)]
 mod harness;
 #[cfg(test)]
+mod iso_2022_jp;
+#[cfg(test)]
 mod single_byte;
 #[cfg(test)]
 mod stateless;

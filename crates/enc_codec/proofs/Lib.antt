@@ -28,3 +28,8 @@ pub mod DoubleByteLemmas
 pub mod PairLemmas
 pub mod EucJpLemmas
 pub mod Gb18030Lemmas
+pub mod Iso2022JpLemmas
+pub mod Iso2022JpRule
+pub mod Iso2022JpUndetermined
+pub mod Iso2022JpComes
+pub mod Iso2022JpSets

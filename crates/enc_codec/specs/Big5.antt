@@ -1,4 +1,4 @@
--- Big5 (Encoding Standard 12.1).
+-- Big5 (Encoding Standard 11.1).
 use Rattle.std.specs.Prelude.{ℕ, ◌+◌, ◌-◌, ◌*◌, Bool, ◌&&◌, ◌||◌, ◌==◌, nat_le, nat_lt, Option, Some, None, List, if◌then◌else◌}
 use Rattle.enc_codec.specs.declared.byte_codec.Text.{Text}
 use Rattle.enc_codec.specs.declared.byte_codec.Text.TheVariants.{Two}

@@ -1,7 +1,7 @@
 -- Which rule each codec has.
 use Rattle.std.specs.Prelude.{true, false, []}
 use Rattle.enc_codec.specs.declared.codec.Codec.{Codec}
-use Rattle.enc_codec.specs.declared.codec.Codec.TheVariants.{Utf8, Utf16Be, Utf16Le, SingleByte, Big5, EucKr, ShiftJis, EucJp, Gbk, Gb18030, XUserDefined, Replacement}
+use Rattle.enc_codec.specs.declared.codec.Codec.TheVariants.{Utf8, Utf16Be, Utf16Le, SingleByte, Big5, EucKr, ShiftJis, EucJp, Gbk, Gb18030, Iso2022Jp, XUserDefined, Replacement}
 use Rattle.enc_codec.specs.Segmentation.{Rule}
 use Rattle.enc_codec.specs.CodecState.{CodecState}
 use Rattle.enc_codec.specs.Utf8.{utf_8_rule}
@@ -14,6 +14,7 @@ use Rattle.enc_codec.specs.ShiftJis.{shift_jis_reading}
 use Rattle.enc_codec.specs.EucJp.{euc_jp_reading}
 use Rattle.enc_codec.specs.Gb18030.{gb18030_reading}
 use Rattle.enc_codec.specs.Replacement.{replacement_rule}
+use Rattle.enc_codec.specs.Iso2022Jp.{iso_2022_jp_rule}
 
 abbrev pub codec_rule : Codec → Rule
 codec_rule Utf8 = utf_8_rule
@@ -28,6 +29,7 @@ codec_rule Gbk = multi_byte_rule gb18030_reading
 codec_rule Gb18030 = multi_byte_rule gb18030_reading
 codec_rule XUserDefined = one_byte_rule x_user_defined_char
 codec_rule Replacement = replacement_rule
+codec_rule Iso2022Jp = iso_2022_jp_rule
 
 -- a decoder of this rule that has read nothing
 abbrev pub fresh_state : Rule → CodecState

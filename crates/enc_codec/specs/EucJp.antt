@@ -1,4 +1,4 @@
--- EUC-JP (Encoding Standard 11.1).
+-- EUC-JP (Encoding Standard 12.1).
 use Rattle.std.specs.Prelude.{ℕ, ◌+◌, ◌-◌, ◌*◌, Bool, ◌&&◌, ◌||◌, ◌==◌, nat_le, nat_lt, Option, Some, None, List, [], ◌∷◌, if◌then◌else◌}
 use Rattle.enc_codec.specs.declared.indexes.jis0208.TheConstants.{JIS0208_RUNS}
 use Rattle.enc_codec.specs.declared.indexes.jis0212.TheConstants.{JIS0212_RUNS}

@@ -1,4 +1,4 @@
--- Half-width katakana in the Japanese encodings (Encoding Standard 11).
+-- Half-width katakana in the Japanese encodings (Encoding Standard 12).
 use Rattle.std.specs.Prelude.{ℕ, ◌+◌, ◌-◌, Bool, ◌&&◌, nat_le}
 
 abbrev pub is_katakana : ℕ → Bool

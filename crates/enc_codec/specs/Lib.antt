@@ -24,3 +24,6 @@ pub mod Katakana
 pub mod ShiftJis
 pub mod EucJp
 pub mod Gb18030
+pub mod Iso2022Jp
+pub mod Iso2022JpState
+pub mod Iso2022JpLaws

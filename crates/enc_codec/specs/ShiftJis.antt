@@ -1,4 +1,4 @@
--- Shift_JIS (Encoding Standard 11.3).
+-- Shift_JIS (Encoding Standard 12.3).
 use Rattle.std.specs.Prelude.{ℕ, ◌+◌, ◌-◌, ◌*◌, Bool, ◌&&◌, ◌||◌, nat_le, nat_lt, Option, Some, None, List, if◌then◌else◌}
 use Rattle.enc_codec.specs.declared.byte_codec.Text.{Text}
 use Rattle.enc_codec.specs.declared.indexes.jis0208.TheConstants.{JIS0208_RUNS}

@@ -1,6 +1,6 @@
 -- The state of a decoder of any encoding.
 use Rattle.enc_codec.specs.declared.variant.VariantDecoder.{VariantDecoder}
-use Rattle.enc_codec.specs.declared.variant.VariantDecoder.TheVariants.{Utf8, Utf16, SingleByte, Big5, EucKr, ShiftJis, EucJp, Gb18030, XUserDefined, Replacement}
+use Rattle.enc_codec.specs.declared.variant.VariantDecoder.TheVariants.{Utf8, Utf16, SingleByte, Big5, EucKr, ShiftJis, EucJp, Gb18030, Iso2022Jp, XUserDefined, Replacement}
 use Rattle.enc_codec.specs.CodecState.{CodecState}
 use Rattle.enc_codec.specs.Utf8State.{utf_8_state}
 use Rattle.enc_codec.specs.Utf16State.{utf_16_state}
@@ -13,6 +13,7 @@ use Rattle.enc_codec.specs.ShiftJis.{shift_jis_reading}
 use Rattle.enc_codec.specs.EucJp.{euc_jp_reading}
 use Rattle.enc_codec.specs.Gb18030.{gb18030_reading}
 use Rattle.enc_codec.specs.Replacement.{replacement_state}
+use Rattle.enc_codec.specs.Iso2022JpState.{iso_2022_jp_state}
 
 abbrev pub variant_state : VariantDecoder → CodecState
 variant_state (Utf8 d) = utf_8_state d
@@ -25,3 +26,4 @@ variant_state (EucJp d) = multi_byte_state euc_jp_reading (pending_bytes d.pendi
 variant_state (Gb18030 d) = multi_byte_state gb18030_reading (pending_bytes d.pending)
 variant_state (XUserDefined d) = x_user_defined_state
 variant_state (Replacement d) = replacement_state d
+variant_state (Iso2022Jp d) = iso_2022_jp_state d

@@ -1,4 +1,4 @@
-//! The Big5 decoder (Encoding Standard 12.1.1).
+//! The Big5 decoder (Encoding Standard 11.1.1).
 
 ghost use Rattle.std.specs.Prelude.{◌≡◌};
 ghost use Rattle.enc_codec.specs.Big5.{big5_text};
@@ -8,11 +8,11 @@ use crate::double_byte::{Double, DoubleByte, text_of};
 use crate::indexes::big5::BIG5;
 use crate::multi_byte::MultiByteDecoder;
 
-/// Big5 (Encoding Standard 12.1): ASCII, and two bytes by index Big5, of which four are two characters.
+/// Big5 (Encoding Standard 11.1): ASCII, and two bytes by index Big5, of which four are two characters.
 #[derive(Clone, Copy)]
 pub struct Big5;
 
-/// The Big5 decoder (Encoding Standard 12.1.1).
+/// The Big5 decoder (Encoding Standard 11.1.1).
 pub type Big5Decoder = MultiByteDecoder<Double<Big5>>;
 
 /// The text of a pointer.

@@ -9,6 +9,7 @@ use crate::euc_jp::EucJpDecoder;
 use crate::euc_kr::EucKrDecoder;
 use crate::gb18030::Gb18030Decoder;
 use crate::index::List;
+use crate::iso_2022_jp::Iso2022JpDecoder;
 use crate::replacement::ReplacementDecoder;
 use crate::shift_jis::ShiftJisDecoder;
 use crate::single_byte::SingleByteDecoder;
@@ -28,13 +29,13 @@ pub enum Codec {
     Utf16Le,
     /// A legacy single-byte encoding (9), by its index.
     SingleByte(List),
-    /// Big5 (12.1).
+    /// Big5 (11.1).
     Big5,
     /// EUC-KR (13.1).
     EucKr,
-    /// Shift_JIS (11.3).
+    /// Shift_JIS (12.3).
     ShiftJis,
-    /// EUC-JP (11.1).
+    /// EUC-JP (12.1).
     EucJp,
     /// GBK (10.1), which decodes as gb18030 does.
     Gbk,
@@ -44,6 +45,8 @@ pub enum Codec {
     XUserDefined,
     /// The replacement encoding (14.1).
     Replacement,
+    /// ISO-2022-JP (12.2).
+    Iso2022Jp,
 }
 
 impl Codec {
@@ -64,6 +67,7 @@ impl Codec {
             Codec::Gb18030 => VariantDecoder::Gb18030(Gb18030Decoder::new()),
             Codec::XUserDefined => VariantDecoder::XUserDefined(XUserDefinedDecoder::new()),
             Codec::Replacement => VariantDecoder::Replacement(ReplacementDecoder::new()),
+            Codec::Iso2022Jp => VariantDecoder::Iso2022Jp(Iso2022JpDecoder::new()),
         }
     }
 }
@@ -97,6 +101,7 @@ mod tests {
         decode_whole(&rt, Codec::Utf16Le, &[0xE9, 0x00], "é");
         decode_whole(&rt, Codec::SingleByte(WINDOWS_1252), &[0xE9], "é");
         decode_whole(&rt, Codec::XUserDefined, &[0xE9], "\u{F7E9}");
+        decode_whole(&rt, Codec::Iso2022Jp, &[0x1B, 0x28, 0x4A, 0x5C], "¥");
     }
 
     /// Whether a call with a byte, which is not the last one, takes it and writes nothing.
@@ -124,6 +129,7 @@ mod tests {
         hold_three(&rt, Codec::Utf8, [0xF0, 0x9F, 0x92]);
         hold_three(&rt, Codec::Utf16Be, [0xD8, 0x3D, 0xDC]);
         hold_three(&rt, Codec::Utf16Le, [0x3D, 0xD8, 0xA9]);
+        hold_three(&rt, Codec::Iso2022Jp, [0x1B, 0x28, 0x42]);
     }
 
     /// A call with malformed bytes reports them, or says that U+FFFD doesn't fit. It writes nothing.
@@ -153,6 +159,8 @@ mod tests {
         call_with_malformed(&rt, Codec::Utf8, &[0xFF], 0, false, one);
         call_with_malformed(&rt, Codec::Replacement, &[0x41], 2, true, (full, 0));
         call_with_malformed(&rt, Codec::Replacement, &[0x41], 3, true, one);
+        call_with_malformed(&rt, Codec::Iso2022Jp, &[0x0E], 2, true, (full, 0));
+        call_with_malformed(&rt, Codec::Iso2022Jp, &[0x0E], 3, true, one);
         let two = (DecoderResult::Malformed(2, 0), 2);
         call_with_malformed(&rt, Codec::Utf16Le, &[0x00, 0xDC], 2, true, (full, 1));
         call_with_malformed(&rt, Codec::Utf16Le, &[0x00, 0xDC], 3, true, two);

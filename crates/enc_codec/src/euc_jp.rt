@@ -1,4 +1,4 @@
-//! The EUC-JP decoder (Encoding Standard 11.1.1).
+//! The EUC-JP decoder (Encoding Standard 12.1.1).
 
 ghost use Rattle.std.specs.Prelude.{◌≡◌, [], ◌∷◌, true};
 ghost use Rattle.enc_codec.specs.EucJp.{is_euc as euc, euc_pointer, euc_jp_lead, euc_jp_single, euc_jp_pair, euc_jp_triple, euc_jp_reading};
@@ -10,12 +10,12 @@ use crate::katakana::katakana;
 use crate::multi_byte::{MultiByte, MultiByteDecoder, Reading};
 use crate::pending::Pending;
 
-/// EUC-JP (Encoding Standard 11.1): ASCII, half-width katakana behind 8E, two bytes by index jis0208, and two bytes
+/// EUC-JP (Encoding Standard 12.1): ASCII, half-width katakana behind 8E, two bytes by index jis0208, and two bytes
 /// behind 8F by index jis0212.
 #[derive(Clone, Copy)]
 pub struct EucJp;
 
-/// The EUC-JP decoder (Encoding Standard 11.1.1).
+/// The EUC-JP decoder (Encoding Standard 12.1.1).
 pub type EucJpDecoder = MultiByteDecoder<EucJp>;
 
 /// Whether a byte is one of two of a character.

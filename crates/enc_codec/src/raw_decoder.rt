@@ -1,6 +1,6 @@
 //! What every decoder has to keep to.
 
-ghost use Rattle.std.specs.Prelude.{◌≡◌, false, length};
+ghost use Rattle.std.specs.Prelude.{◌≡◌, ◌≤◌, false, length};
 ghost use Rattle.enc_codec.specs.CodecState.{CodecState, remainder_of};
 ghost use Rattle.enc_codec.specs.Call.{CallInto, Reported};
 ghost use Rattle.enc_codec.specs.RuleLaws.{IsLawful};
@@ -34,7 +34,8 @@ pub trait RawDecoder: Copy {
         // a text of four UTF-8 code units at most.
         ensures lawful { IsLawful (state self.old).rule };
 
-    /// How many bytes are read whose sequence is not put out. Takes no memory.
+    /// How many bytes are read whose sequence is not put out: five at most. Takes no memory.
     fn held(&self) -> usize
-        ensures { result ≡ length (state self.now).pending };
+        ensures count { result ≡ length (state self.now).pending }
+        ensures few { result ≤ 5 };
 }

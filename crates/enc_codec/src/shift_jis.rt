@@ -1,4 +1,4 @@
-//! The Shift_JIS decoder (Encoding Standard 11.3.1).
+//! The Shift_JIS decoder (Encoding Standard 12.3.1).
 
 ghost use Rattle.std.specs.Prelude.{◌≡◌, ◌≤◌};
 ghost use Rattle.enc_codec.specs.ShiftJis.{shift_jis_char};
@@ -9,12 +9,12 @@ use crate::indexes::jis0208::JIS0208;
 use crate::katakana::katakana;
 use crate::multi_byte::MultiByteDecoder;
 
-/// Shift_JIS (Encoding Standard 11.3): ASCII and 80, half-width katakana, and two bytes by index jis0208 or in the
+/// Shift_JIS (Encoding Standard 12.3): ASCII and 80, half-width katakana, and two bytes by index jis0208 or in the
 /// private use area.
 #[derive(Clone, Copy)]
 pub struct ShiftJis;
 
-/// The Shift_JIS decoder (Encoding Standard 11.3.1).
+/// The Shift_JIS decoder (Encoding Standard 12.3.1).
 pub type ShiftJisDecoder = MultiByteDecoder<Double<ShiftJis>>;
 
 /// The character of a pointer.

@@ -5,6 +5,7 @@ use crate::decoder_result::DecoderResult;
 use crate::euc_jp::EucJpDecoder;
 use crate::euc_kr::EucKrDecoder;
 use crate::gb18030::Gb18030Decoder;
+use crate::iso_2022_jp::Iso2022JpDecoder;
 use crate::raw_decoder::RawDecoder;
 use crate::replacement::ReplacementDecoder;
 use crate::shift_jis::ShiftJisDecoder;
@@ -37,6 +38,8 @@ pub enum VariantDecoder {
     XUserDefined(XUserDefinedDecoder),
     /// Of the replacement encoding.
     Replacement(ReplacementDecoder),
+    /// Of ISO-2022-JP.
+    Iso2022Jp(Iso2022JpDecoder),
 }
 
 impl RawDecoder for VariantDecoder {
@@ -62,6 +65,7 @@ impl RawDecoder for VariantDecoder {
             VariantDecoder::Gb18030(decoder) => decoder.decode(src, out, last, fault_room),
             VariantDecoder::XUserDefined(decoder) => decoder.decode(src, out, last, fault_room),
             VariantDecoder::Replacement(decoder) => decoder.decode(src, out, last, fault_room),
+            VariantDecoder::Iso2022Jp(decoder) => decoder.decode(src, out, last, fault_room),
         }
     }
 
@@ -77,6 +81,7 @@ impl RawDecoder for VariantDecoder {
             VariantDecoder::Gb18030(decoder) => decoder.held(),
             VariantDecoder::XUserDefined(decoder) => decoder.held(),
             VariantDecoder::Replacement(decoder) => decoder.held(),
+            VariantDecoder::Iso2022Jp(decoder) => decoder.held(),
         }
     }
 }

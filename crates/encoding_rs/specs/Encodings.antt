@@ -11,9 +11,10 @@ use Rattle.enc_codec.specs.EucJp.{euc_jp_reading}
 use Rattle.enc_codec.specs.ShiftJis.{shift_jis_reading}
 use Rattle.enc_codec.specs.EucKr.{euc_kr_reading}
 use Rattle.enc_codec.specs.Replacement.{replacement_rule}
+use Rattle.enc_codec.specs.Iso2022Jp.{iso_2022_jp_rule}
 use Rattle.std.specs.Prelude.{true, false}
 use Rattle.encoding_rs.specs.declared.encoding.Id.{Id}
-use Rattle.encoding_rs.specs.declared.encoding.Id.TheVariants.{Utf8, Ibm866, Iso88592, Iso88593, Iso88594, Iso88595, Iso88596, Iso88597, Iso88598, Iso88598I, Iso885910, Iso885913, Iso885914, Iso885915, Iso885916, Koi8R, Koi8U, Macintosh, Windows874, Windows1250, Windows1251, Windows1252, Windows1253, Windows1254, Windows1255, Windows1256, Windows1257, Windows1258, XMacCyrillic, Gbk, Gb18030, Big5, EucJp, ShiftJis, EucKr, Replacement, Utf16be, Utf16le, XUserDefined}
+use Rattle.encoding_rs.specs.declared.encoding.Id.TheVariants.{Utf8, Ibm866, Iso88592, Iso88593, Iso88594, Iso88595, Iso88596, Iso88597, Iso88598, Iso88598I, Iso885910, Iso885913, Iso885914, Iso885915, Iso885916, Koi8R, Koi8U, Macintosh, Windows874, Windows1250, Windows1251, Windows1252, Windows1253, Windows1254, Windows1255, Windows1256, Windows1257, Windows1258, XMacCyrillic, Gbk, Gb18030, Big5, EucJp, ShiftJis, EucKr, Iso2022Jp, Replacement, Utf16be, Utf16le, XUserDefined}
 use Rattle.encoding_rs.specs.declared.encoding.Encoding.{Encoding}
 
 abbrev pub rule_by_id : Id → Rule
@@ -56,6 +57,7 @@ rule_by_id Replacement = replacement_rule
 rule_by_id Utf16be = utf_16_rule true
 rule_by_id Utf16le = utf_16_rule false
 rule_by_id XUserDefined = one_byte_rule x_user_defined_char
+rule_by_id Iso2022Jp = iso_2022_jp_rule
 
 -- the rule of an encoding
 abbrev pub rule_of : Encoding → Rule

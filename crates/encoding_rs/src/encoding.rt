@@ -49,6 +49,7 @@ enum Id {
     Utf16be,
     Utf16le,
     XUserDefined,
+    Iso2022Jp,
 }
 
 /// An encoding of the Encoding Standard. Two are equal exactly where they are the same one.
@@ -263,19 +264,19 @@ pub const GB18030: Encoding = Encoding { id: Id::Gb18030 };
 /// The same as [`GB18030`].
 pub const GB18030_INIT: Encoding = GB18030;
 
-/// Big5 (Encoding Standard 12.1).
+/// Big5 (Encoding Standard 11.1).
 pub const BIG5: Encoding = Encoding { id: Id::Big5 };
 
 /// The same as [`BIG5`].
 pub const BIG5_INIT: Encoding = BIG5;
 
-/// EUC-JP (Encoding Standard 11.1).
+/// EUC-JP (Encoding Standard 12.1).
 pub const EUC_JP: Encoding = Encoding { id: Id::EucJp };
 
 /// The same as [`EUC_JP`].
 pub const EUC_JP_INIT: Encoding = EUC_JP;
 
-/// Shift_JIS (Encoding Standard 11.3).
+/// Shift_JIS (Encoding Standard 12.3).
 pub const SHIFT_JIS: Encoding = Encoding { id: Id::ShiftJis };
 
 /// The same as [`SHIFT_JIS`].
@@ -314,6 +315,12 @@ pub const X_USER_DEFINED: Encoding = Encoding {
 
 /// The same as [`X_USER_DEFINED`].
 pub const X_USER_DEFINED_INIT: Encoding = X_USER_DEFINED;
+
+/// ISO-2022-JP (Encoding Standard 12.2).
+pub const ISO_2022_JP: Encoding = Encoding { id: Id::Iso2022Jp };
+
+/// The same as [`ISO_2022_JP`].
+pub const ISO_2022_JP_INIT: Encoding = ISO_2022_JP;
 
 /// Which decoder an encoding has.
 pub fn codec_of(encoding: Encoding) -> Codec
@@ -359,5 +366,6 @@ pub fn codec_of(encoding: Encoding) -> Codec
         Id::Utf16be => Codec::Utf16Be,
         Id::Utf16le => Codec::Utf16Le,
         Id::XUserDefined => Codec::XUserDefined,
+        Id::Iso2022Jp => Codec::Iso2022Jp,
     }
 }

@@ -60,6 +60,7 @@ fn second_constants_are_equal(rt: HostRuntime) {
         (UTF_16BE, UTF_16BE_INIT),
         (UTF_16LE, UTF_16LE_INIT),
         (X_USER_DEFINED, X_USER_DEFINED_INIT),
+        (ISO_2022_JP, ISO_2022_JP_INIT),
     ];
     for (encoding, init) in pairs {
         assert_eq!(rt; encoding, init);

@@ -3,4 +3,4 @@ use Rattle.encoding_rs.proofs.EncodingLemmas as encodings
 use Rattle.encoding_rs.proofs.laws.has_texts.Goals as goal
 
 pub returns : goal.returns
-returns c = λ n. encodings.has_texts _ _ refl n
+returns c = λ n m. encodings.has_texts _ _ _ refl refl n m
