@@ -4,3 +4,4 @@ pub mod DecoderLemmas
 pub mod FullLemmas
 pub mod RunLemmas
 pub mod EncodingLemmas
+pub mod LabelLemmas

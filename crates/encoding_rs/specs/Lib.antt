@@ -1,3 +1,7 @@
 pub mod Encodings
 pub mod Decoding
 pub mod Run
+pub mod Names
+pub mod Labels
+pub mod Properties
+pub mod Bom

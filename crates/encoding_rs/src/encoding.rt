@@ -9,7 +9,7 @@ use enc_codec::indexes::single_byte as index;
 
 /// Which encoding it is.
 #[derive(Clone, Copy, PartialEq, Eq, Hash, Debug)]
-enum Id {
+pub(crate) enum Id {
     Utf8,
     Ibm866,
     Iso88592,
@@ -55,7 +55,7 @@ enum Id {
 /// An encoding of the Encoding Standard. Two are equal exactly where they are the same one.
 #[derive(Clone, Copy, PartialEq, Eq, Hash, Debug)]
 pub struct Encoding {
-    id: Id,
+    pub(crate) id: Id,
 }
 
 /// UTF-8 (Encoding Standard 8.1).

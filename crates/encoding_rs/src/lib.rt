@@ -2,14 +2,18 @@
 //! into text, in buffers of any size, for the encodings of the WHATWG Encoding Standard.
 #![tactic(auto)]
 
+mod bom;
 mod coder_result;
 mod decoder;
 mod encoding;
+mod labels;
 pub mod laws;
+mod properties;
 mod replacing;
 pub mod run;
 #[cfg(test)]
 mod tests;
+mod validity;
 
 pub use coder_result::CoderResult;
 pub use decoder::Decoder;
