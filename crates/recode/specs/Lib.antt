@@ -3,3 +3,4 @@ pub mod Sink
 pub mod Chunk
 pub mod Run
 pub mod Status
+pub mod Labels

@@ -1,7 +1,8 @@
 //! Recodes standard input to standard output: `recode FROM TO`.
 #![tactic(auto)]
 
-ghost use Rattle.std.specs.Prelude.{◌≡◌, ◌↔◌, IsTrue, IsSome, IfSome, codes};
+ghost use Rattle.std.specs.Prelude.{◌≡◌, IfSome, IfNone};
+ghost use Rattle.recode.specs.Labels.{Names, WritesUtf8, AreUnknown};
 ghost use Rattle.recode.specs.Status.{status_of};
 
 mod engine;
@@ -10,28 +11,26 @@ mod source;
 #[cfg(test)]
 mod tests;
 
-use encoding_rs::{Encoding, UTF_8};
+use encoding_rs::Encoding;
 use engine::{RecodeFault, run};
 use sink::{FromWrite, Sink};
 use source::{FromRead, Source};
 use std::process::ExitCode;
 use std::{env, io};
 
-/// Whether a text is the label of UTF-8, in lower case and with no blanks.
-fn is_utf_8(label: &str) -> bool
-    ensures { IsTrue result ↔ (label.now ≡ codes "utf-8") }
-{
-    label == "utf-8"
-}
-
-/// The encodings that two labels name, if both name one. The one label that there is so far is `utf-8`.
+/// The encodings that two labels name: the first to decode from, and the second to write in. `None` where one of
+/// them names none, or is a label of replacement, and where the output encoding of the second isn't UTF-8, which is
+/// the only one that is written so far.
 pub fn labels(from: &str, to: &str) -> Option<(Encoding, Encoding)>
-    ensures known { IsSome result ↔ ((from.now ≡ codes "utf-8") × (to.now ≡ codes "utf-8")) }
-    ensures from { IfSome result (λ encodings. encodings.0 ≡ UTF_8) }
-    ensures to { IfSome result (λ encodings. encodings.1 ≡ UTF_8) }
+    ensures from { IfSome result (λ encodings. Names from.now encodings.0) }
+    ensures to { IfSome result (λ encodings. Names to.now encodings.1) }
+    ensures writes { IfSome result (λ encodings. WritesUtf8 encodings.1) }
+    ensures none { IfNone result (AreUnknown from.now to.now) }
 {
-    if is_utf_8(from) && is_utf_8(to) {
-        Some((UTF_8, UTF_8))
+    let from = Encoding::for_label_no_replacement(from.as_bytes())?;
+    let to = Encoding::for_label_no_replacement(to.as_bytes())?;
+    if to.can_encode_everything() {
+        Some((from, to))
     } else {
         None
     }

@@ -4,7 +4,7 @@ use crate::engine::{RecodeFault, run};
 use crate::sink::{FromWrite, Sink};
 use crate::source::{FromRead, Source};
 use crate::{labels, status};
-use encoding_rs::UTF_8;
+use encoding_rs::{SHIFT_JIS, UTF_8, UTF_16BE, UTF_16LE, WINDOWS_1251, WINDOWS_1252};
 use std::io;
 use std::io::{Read, Write};
 use std::test::Fail;
@@ -176,14 +176,99 @@ fn pulls_and_pushes(rt: HostRuntime) {
 #[test]
 fn knows_labels(rt: HostRuntime) {
     assert_eq!(rt; labels("utf-8", "utf-8"), Some((UTF_8, UTF_8)));
+    assert_eq!(rt;
+        labels("\t Windows-1251\n", "UTF8"),
+        Some((WINDOWS_1251, UTF_8))
+    );
+    assert_eq!(rt; labels("latin1", "unicode"), Some((WINDOWS_1252, UTF_16LE)));
+    assert_eq!(rt; labels("sjis", "utf-16be"), Some((SHIFT_JIS, UTF_16BE)));
     for (from, to) in [
-        ("utf8", "utf-8"),
-        ("utf-8", "UTF-8"),
-        (" utf-8", "utf-8"),
-        ("", ""),
+        ("nonsense", "utf-8"),
+        ("utf-8", "nonsense"),
+        ("", "utf-8"),
+        ("utf-8", ""),
+        ("\u{B}utf-8", "utf-8"),
+        ("utf-8x", "utf-8"),
+        ("replacement", "utf-8"),
+        ("utf-8", "hz-gb-2312"),
+        ("utf-8", "windows-1251"),
+        ("utf-8", "shift_jis"),
+        ("utf-8", "x-user-defined"),
     ] {
         assert_eq!(rt; labels(from, to), None, "{from} {to}");
     }
+}
+
+/// What recoding some bytes comes to: the bytes written, and the status.
+fn recode_bytes(
+    rt: &HostRuntime,
+    (from, to): (&str, &str),
+    input: &[u8],
+) -> Result<(Vec<u8>, u8), Fail> {
+    let (from, to) = labels(from, to).ok_or("unknown label")?;
+    let mut written = Vec::new(rt.alloc());
+    let outcome = run(
+        &mut FromRead::new(input),
+        &mut FromWrite::new(&mut written),
+        from,
+        to,
+    );
+    Ok((written, status(&outcome)))
+}
+
+#[test]
+fn recodes_a_line_of_each_complete_encoding(rt: HostRuntime) -> Result<(), Fail> {
+    let rows: [(&str, &str, &[u8], &str, u8); 13] = [
+        ("windows-1251", "utf-8", b"\xCF\xF0\xE8", "При", 0),
+        (
+            "windows-1252",
+            "utf-8",
+            b"\x93caf\xE9\x94 \x80\xA05",
+            "“café” €\u{A0}5",
+            0,
+        ),
+        ("iso-8859-15", "utf-8", b"c\xBDur, \xA45", "cœur, €5", 0),
+        (
+            "iso-8859-5",
+            "utf-8",
+            b"\xBF\xE0\xD8\xD2\xD5\xE2",
+            "Привет",
+            0,
+        ),
+        ("ibm866", "utf-8", b"\x8F\xE0\xA8\xA2\xA5\xE2", "Привет", 0),
+        ("utf-8", "utf-8", "naïve €5 💩".as_bytes(), "naïve €5 💩", 0),
+        (
+            "utf-16le",
+            "utf-8",
+            b"\x1F\x04\x40\x04\x3D\xD8\xA9\xDC",
+            "Пр💩",
+            0,
+        ),
+        (
+            "utf-16be",
+            "utf-8",
+            b"\x04\x1F\x04\x40\xD8\x3D\xDC\xA9",
+            "Пр💩",
+            0,
+        ),
+        (
+            "x-user-defined",
+            "utf-8",
+            b"a\x80\xFF",
+            "a\u{F780}\u{F7FF}",
+            0,
+        ),
+        ("CP866 ", " Utf8", b"\x8F", "П", 0),
+        ("latin1", "utf-16", b"\xE9", "é", 0),
+        ("utf-8", "utf-8", b"a\xFF", "a\u{FFFD}", 1),
+        ("utf-16be", "utf-8", b"\x00a\xDC\x00", "a\u{FFFD}", 1),
+    ];
+    for (from, to, input, want, want_status) in rows {
+        let (written, status) = recode_bytes(&rt, (from, to), input)?;
+        assert_eq!(rt; written.as_slice(), want.as_bytes(), "of {from}");
+        assert_eq!(rt; status, want_status, "of {from}");
+    }
+    Ok(())
 }
 
 #[test]
