@@ -1,4 +1,4 @@
-//! Worked examples of every encoding, each through every cut and every small room.
+//! Worked examples of every encoding, each through every cut and every small room, and the table of names and labels.
 //!
 //! This crate has tests alone. A codec's examples stand in a module of its own, as tables, and one harness runs
 //! them. What is expected comes from outside: the examples of the Encoding Standard, Unicode's tables, and the
@@ -9,6 +9,7 @@
 mod double_byte;
 #[cfg(test)]
 mod gb18030;
+mod encodings;
 #[cfg(test)]
 mod harness;
 #[cfg(test)]

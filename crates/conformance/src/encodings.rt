@@ -1,0 +1,312 @@
+//! Names, labels, properties and byte order marks of the encodings (Encoding Standard 4.2, 4.3 and 6).
+
+use encoding_rs::{
+    BIG5, EUC_JP, EUC_KR, Encoding, GB18030, GBK, IBM866, ISO_2022_JP, ISO_8859_2, ISO_8859_3,
+    ISO_8859_4, ISO_8859_5, ISO_8859_6, ISO_8859_7, ISO_8859_8, ISO_8859_8_I, ISO_8859_10,
+    ISO_8859_13, ISO_8859_14, ISO_8859_15, ISO_8859_16, KOI8_R, KOI8_U, MACINTOSH, REPLACEMENT,
+    SHIFT_JIS, UTF_8, UTF_16BE, UTF_16LE, WINDOWS_874, WINDOWS_1250, WINDOWS_1251, WINDOWS_1252,
+    WINDOWS_1253, WINDOWS_1254, WINDOWS_1255, WINDOWS_1256, WINDOWS_1257, WINDOWS_1258,
+    X_MAC_CYRILLIC, X_USER_DEFINED,
+};
+use std::alloc::Global;
+use std::collections::HashSet;
+use std::process::Abort;
+use std::test::Fail;
+
+/// Each encoding with its name and its labels, as the standard's table of names and labels has them.
+const TABLE: [(Encoding, &str, &str); 40] = [
+    (
+        UTF_8,
+        "UTF-8",
+        "utf8 utf-8 unicode20utf8 unicode11utf8 x-unicode20utf8 unicode-1-1-utf-8",
+    ),
+    (IBM866, "IBM866", "866 cp866 ibm866 csibm866"),
+    (
+        ISO_8859_2,
+        "ISO-8859-2",
+        "l2 latin2 iso88592 iso8859-2 iso-ir-101 iso-8859-2 iso_8859-2 csisolatin2 iso_8859-2:1987",
+    ),
+    (
+        ISO_8859_3,
+        "ISO-8859-3",
+        "l3 latin3 iso88593 iso8859-3 iso-8859-3 iso_8859-3 iso-ir-109 csisolatin3 iso_8859-3:1988",
+    ),
+    (
+        ISO_8859_4,
+        "ISO-8859-4",
+        "l4 latin4 iso88594 iso8859-4 iso-ir-110 iso-8859-4 iso_8859-4 csisolatin4 iso_8859-4:1988",
+    ),
+    (
+        ISO_8859_5,
+        "ISO-8859-5",
+        "iso88595 cyrillic iso8859-5 iso-ir-144 iso-8859-5 iso_8859-5 iso_8859-5:1988 csisolatincyrillic",
+    ),
+    (
+        ISO_8859_6,
+        "ISO-8859-6",
+        "arabic ecma-114 iso88596 asmo-708 iso8859-6 iso-8859-6 iso_8859-6 iso-ir-127 csiso88596e csiso88596i iso-8859-6-e iso-8859-6-i iso_8859-6:1987 csisolatinarabic",
+    ),
+    (
+        ISO_8859_7,
+        "ISO-8859-7",
+        "greek greek8 iso88597 ecma-118 elot_928 iso8859-7 iso-ir-126 iso-8859-7 iso_8859-7 sun_eu_greek iso_8859-7:1987 csisolatingreek",
+    ),
+    (
+        ISO_8859_8,
+        "ISO-8859-8",
+        "visual hebrew iso88598 iso8859-8 iso-8859-8 iso_8859-8 iso-ir-138 csiso88598e iso-8859-8-e iso_8859-8:1988 csisolatinhebrew",
+    ),
+    (
+        ISO_8859_8_I,
+        "ISO-8859-8-I",
+        "logical csiso88598i iso-8859-8-i",
+    ),
+    (
+        ISO_8859_10,
+        "ISO-8859-10",
+        "l6 latin6 iso885910 iso8859-10 iso-ir-157 iso-8859-10 csisolatin6",
+    ),
+    (
+        ISO_8859_13,
+        "ISO-8859-13",
+        "iso885913 iso8859-13 iso-8859-13",
+    ),
+    (
+        ISO_8859_14,
+        "ISO-8859-14",
+        "iso885914 iso8859-14 iso-8859-14",
+    ),
+    (
+        ISO_8859_15,
+        "ISO-8859-15",
+        "l9 iso885915 iso8859-15 iso-8859-15 iso_8859-15 csisolatin9",
+    ),
+    (ISO_8859_16, "ISO-8859-16", "iso-8859-16"),
+    (KOI8_R, "KOI8-R", "koi koi8 koi8-r koi8_r cskoi8r"),
+    (KOI8_U, "KOI8-U", "koi8-u koi8-ru"),
+    (
+        MACINTOSH,
+        "macintosh",
+        "mac macintosh csmacintosh x-mac-roman",
+    ),
+    (
+        WINDOWS_874,
+        "windows-874",
+        "tis-620 dos-874 iso885911 iso8859-11 iso-8859-11 windows-874",
+    ),
+    (WINDOWS_1250, "windows-1250", "cp1250 x-cp1250 windows-1250"),
+    (WINDOWS_1251, "windows-1251", "cp1251 x-cp1251 windows-1251"),
+    (
+        WINDOWS_1252,
+        "windows-1252",
+        "l1 cp819 ascii latin1 cp1252 ibm819 iso88591 x-cp1252 us-ascii iso8859-1 iso-ir-100 iso-8859-1 iso_8859-1 csisolatin1 windows-1252 ansi_x3.4-1968 iso_8859-1:1987",
+    ),
+    (WINDOWS_1253, "windows-1253", "cp1253 x-cp1253 windows-1253"),
+    (
+        WINDOWS_1254,
+        "windows-1254",
+        "l5 cp1254 latin5 x-cp1254 iso88599 iso8859-9 iso-ir-148 iso-8859-9 iso_8859-9 csisolatin5 windows-1254 iso_8859-9:1989",
+    ),
+    (WINDOWS_1255, "windows-1255", "cp1255 x-cp1255 windows-1255"),
+    (WINDOWS_1256, "windows-1256", "cp1256 x-cp1256 windows-1256"),
+    (WINDOWS_1257, "windows-1257", "cp1257 x-cp1257 windows-1257"),
+    (WINDOWS_1258, "windows-1258", "cp1258 x-cp1258 windows-1258"),
+    (
+        X_MAC_CYRILLIC,
+        "x-mac-cyrillic",
+        "x-mac-cyrillic x-mac-ukrainian",
+    ),
+    (
+        GBK,
+        "GBK",
+        "gbk x-gbk gb2312 gb_2312 chinese csgb2312 iso-ir-58 gb_2312-80 csiso58gb231280",
+    ),
+    (GB18030, "gb18030", "gb18030"),
+    (BIG5, "Big5", "big5 csbig5 cn-big5 x-x-big5 big5-hkscs"),
+    (EUC_JP, "EUC-JP", "euc-jp x-euc-jp cseucpkdfmtjapanese"),
+    (ISO_2022_JP, "ISO-2022-JP", "iso-2022-jp csiso2022jp"),
+    (
+        SHIFT_JIS,
+        "Shift_JIS",
+        "sjis ms932 x-sjis ms_kanji shift-jis shift_jis csshiftjis windows-31j",
+    ),
+    (
+        EUC_KR,
+        "EUC-KR",
+        "korean euc-kr ksc5601 cseuckr ksc_5601 iso-ir-149 windows-949 csksc56011987 ks_c_5601-1987 ks_c_5601-1989",
+    ),
+    (
+        REPLACEMENT,
+        "replacement",
+        "hz-gb-2312 iso-2022-cn iso-2022-kr csiso2022kr replacement iso-2022-cn-ext",
+    ),
+    (UTF_16BE, "UTF-16BE", "utf-16be unicodefffe"),
+    (
+        UTF_16LE,
+        "UTF-16LE",
+        "ucs-2 utf-16 unicode utf-16le csunicode unicodefeff iso-10646-ucs-2",
+    ),
+    (X_USER_DEFINED, "x-user-defined", "x-user-defined"),
+];
+
+/// The encodings of which a byte is no character by itself.
+const MULTI_BYTE: [Encoding; 11] = [
+    BIG5,
+    EUC_JP,
+    EUC_KR,
+    GB18030,
+    GBK,
+    REPLACEMENT,
+    SHIFT_JIS,
+    UTF_8,
+    UTF_16BE,
+    UTF_16LE,
+    ISO_2022_JP,
+];
+
+/// What a label names: the same in capitals and with blanks round it, and nothing with a letter more.
+fn compare_label(
+    rt: &impl Abort,
+    alloc: Global,
+    label: &str,
+    want: Option<Encoding>,
+) -> Result<(), Fail> {
+    let capitals = label.to_ascii_uppercase(alloc)?;
+    let blanks = format!(in alloc; "\t\n\u{C}\r {label} \r\u{C}\n\t")?;
+    let longer = format!(in alloc; "{label}x")?;
+    assert_eq!(rt; Encoding::for_label(label.as_bytes()), want, "{label}");
+    assert_eq!(rt;
+        Encoding::for_label(capitals.as_bytes()),
+        want,
+        "{capitals}"
+    );
+    assert_eq!(rt; Encoding::for_label(blanks.as_bytes()), want, "{blanks}");
+    assert_eq!(rt; Encoding::for_label(longer.as_bytes()), None, "{longer}");
+    Ok(())
+}
+
+#[test]
+fn each_label_names_its_encoding(rt: HostRuntime) -> Result<(), Fail> {
+    let mut count = 0usize;
+    for (encoding, _, labels) in TABLE {
+        for label in labels.split(' ') {
+            compare_label(&rt, rt.alloc(), label, Some(encoding))?;
+            count = count.saturating_add(1);
+        }
+    }
+    assert_eq!(rt; count, 228);
+    Ok(())
+}
+
+#[test]
+fn only_labels_name_encodings(rt: HostRuntime) {
+    let padded = b"\x20\x09\x20\x0A\x20\x0C\x20\x0A\x20utf-8\x20\x0D\x20\x0A\x20\x09\x20\x0C\x20";
+    let rows: [(&[u8], Option<Encoding>); 16] = [
+        (padded, Some(UTF_8)),
+        (b"unicode11utf8", Some(UTF_8)),
+        (b"UTF-8", Some(UTF_8)),
+        (b"utf-16be", Some(UTF_16BE)),
+        (b"latin2", Some(ISO_8859_2)),
+        (b"hz-gb-2312", Some(REPLACEMENT)),
+        (b"bogus", None),
+        (b"unrecognized label", None),
+        (b"utf-8 _", None),
+        (b"", None),
+        (b" ", None),
+        (b"bogusbogusbogusbogus", None),
+        (b"\x0Butf-8", None),
+        (b"utf-8\x0B", None),
+        (b"utf\x00-8", None),
+        (b"\xC5\xBFjis", None),
+    ];
+    for (label, want) in rows {
+        assert_eq!(rt; Encoding::for_label(label), want, "{label:?}");
+    }
+}
+
+#[test]
+fn no_label_names_replacement_where_it_is_left_out(rt: HostRuntime) {
+    for (encoding, _, labels) in TABLE {
+        for label in labels.split(' ') {
+            let want = if encoding == REPLACEMENT {
+                None
+            } else {
+                Some(encoding)
+            };
+            let answer = Encoding::for_label_no_replacement(label.as_bytes());
+            assert_eq!(rt; answer, want, "{label}");
+        }
+    }
+    assert_eq!(rt; Encoding::for_label_no_replacement(b"hz-gb-2312"), None);
+    assert_eq!(rt; Encoding::for_label_no_replacement(b"bogus"), None);
+}
+
+/// The properties of an encoding, by the sets of those that have them.
+fn compare_properties(rt: &impl Abort, encoding: Encoding) {
+    let writes_utf_8 = [UTF_8, UTF_16BE, UTF_16LE, REPLACEMENT].contains(&encoding);
+    let output = if writes_utf_8 { UTF_8 } else { encoding };
+    assert_eq!(rt; encoding.output_encoding(), output);
+    assert_eq!(rt;
+        encoding.can_encode_everything(),
+        writes_utf_8,
+        "{encoding:?}"
+    );
+    let is_other = [REPLACEMENT, UTF_16BE, UTF_16LE, ISO_2022_JP].contains(&encoding);
+    assert_eq!(rt; encoding.is_ascii_compatible(), !is_other, "{encoding:?}");
+    let is_multi_byte = MULTI_BYTE.contains(&encoding);
+    assert_eq!(rt; encoding.is_single_byte(), !is_multi_byte, "{encoding:?}");
+}
+
+#[test]
+fn each_encoding_has_its_name_and_properties(rt: HostRuntime) {
+    for (encoding, name, _) in TABLE {
+        assert_eq!(rt; encoding.name(), name);
+        compare_properties(&rt, encoding);
+    }
+}
+
+#[test]
+fn marks_tell_their_encodings(rt: HostRuntime) {
+    let rows: [(&[u8], Option<(Encoding, usize)>); 11] = [
+        (b"", None),
+        (b"\xEF", None),
+        (b"\xEF\xBB", None),
+        (b"\xEF\xBB\xBF", Some((UTF_8, 3))),
+        (b"\xEF\xBB\xBFa", Some((UTF_8, 3))),
+        (b"\xEF\xBBa", None),
+        (b"\xFF\xFE", Some((UTF_16LE, 2))),
+        (b"\xFF\xFE\x00\x00", Some((UTF_16LE, 2))),
+        (b"\xFE\xFF\x00", Some((UTF_16BE, 2))),
+        (b"\xFE", None),
+        (b"a\xEF\xBB\xBF", None),
+    ];
+    for (bytes, want) in rows {
+        assert_eq!(rt; Encoding::for_bom(bytes), want, "{bytes:?}");
+    }
+}
+
+#[test]
+fn prefixes_end_before_what_is_invalid(rt: HostRuntime) {
+    assert_eq!(rt; Encoding::utf8_valid_up_to(b"\x61\xED\xA0\x80"), 1);
+    assert_eq!(rt; Encoding::utf8_valid_up_to(b"\xE2\x82"), 0);
+    assert_eq!(rt; Encoding::utf8_valid_up_to(b"\xE2\x82\xAC"), 3);
+    assert_eq!(rt; Encoding::ascii_valid_up_to(b"\x61\x80"), 1);
+    assert_eq!(rt; Encoding::ascii_valid_up_to(b"\x61\x0E\x7F"), 3);
+    assert_eq!(rt; Encoding::iso_2022_jp_ascii_valid_up_to(b"\x61\x0E"), 1);
+    assert_eq!(rt; Encoding::iso_2022_jp_ascii_valid_up_to(b"\x61\x7F"), 2);
+}
+
+#[test]
+fn a_set_holds_what_was_put_in(rt: HostRuntime) -> Result<(), Fail> {
+    let mut set = HashSet::new(rt.alloc());
+    set.insert(UTF_8)?;
+    set.insert(ISO_2022_JP)?;
+    assert!(rt; set.contains(&UTF_8));
+    assert!(rt; set.contains(&ISO_2022_JP));
+    assert!(rt; !set.contains(&WINDOWS_1252));
+    assert!(rt; set.remove(&ISO_2022_JP));
+    assert!(rt; set.contains(&UTF_8));
+    assert!(rt; !set.contains(&ISO_2022_JP));
+    assert_eq!(rt; set.len(), 1);
+    Ok(())
+}
