@@ -15,15 +15,15 @@ use Rattle.encoding_rs.specs.declared.encoding.Encoding.{Encoding}
 use Rattle.encoding_rs.specs.Labels.{labelled, matched_with, paired_with, pairs_of, trim_start, trim_end, get}
 
 -- at a row the walk ends, or goes on behind it
-walk_at : (table : List (Bor (List ℕ) × Encoding)) (i : ℕ) (d : Bor (List ℕ) × Encoding) (word : List ℕ) → i < length table
-    → matched_with (pairs_of (drop i table)) word
+walk_at : (table : List (Bor (List ℕ) × Encoding)) (i : ℕ) (d : Bor (List ℕ) × Encoding) (word : List ℕ)
+    → i < length table → matched_with (pairs_of (drop i table)) word
     ≡ (if str_eq_ignore_ascii_case (slice_index_or table i d).0.now word then Some (slice_index_or table i d).1
     else matched_with (pairs_of (drop (i + 1) table)) word)
 walk_at table i d word h = rw (drop-cons table i d h, add-one)
 
 -- what a test of a row's label and a word says, where nothing before the row was found
-module _ (table : List (Bor (List ℕ) × Encoding)) (i : ℕ) (d : Bor (List ℕ) × Encoding) (label word : List ℕ) (b : Bool)
-    (within : i < length table) (row : label ≡ (slice_index_or table i d).0.now)
+module _ (table : List (Bor (List ℕ) × Encoding)) (i : ℕ) (d : Bor (List ℕ) × Encoding) (label word : List ℕ)
+    (b : Bool) (within : i < length table) (row : label ≡ (slice_index_or table i d).0.now)
     (test : Decides b (map to_ascii_lowercase label ≡ map to_ascii_lowercase word))
     (before : matched_with (pairs_of (drop i table)) word ≡ matched_with (pairs_of table) word) where
   is_match : str_eq_ignore_ascii_case (slice_index_or table i d).0.now word ≡ b
@@ -44,7 +44,8 @@ pub matched_is_paired : (pairs : List (List ℕ × Encoding)) (word : List ℕ) 
 matched_is_paired [] word h = refl
 matched_is_paired (pair ∷ pairs) word h =
     let lower : map to_ascii_lowercase pair.0 ≡ pair.0 = (bytes_eq-Decides _ _).0 (first_so _ _ h) in
-    let rest : matched_with pairs word ≡ paired_with pairs (map to_ascii_lowercase word) = matched_is_paired pairs word (second_so _ _ h) in
+    let rest : matched_with pairs word ≡ paired_with pairs (map to_ascii_lowercase word) =
+    matched_is_paired pairs word (second_so _ _ h) in
     rw (lower, rest)
 
 labelled_in_lower_case : in_lower_case labelled ≡ true

@@ -105,14 +105,16 @@ abbrev pub pairs_of : List (Bor (List ℕ) × Encoding) → List (List ℕ × En
 pairs_of [] = []
 pairs_of (row ∷ rows) = (row.0.now, row.1) ∷ pairs_of rows
 
--- without the ASCII whitespace at both ends: tab, line feed, form feed, carriage return and space
+-- without the ASCII whitespace at the start: tab, line feed, form feed, carriage return and space
 abbrev pub trim_start : List ℕ → List ℕ
 trim_start bytes = drop (prefix_len is_ascii_whitespace bytes) bytes
 
+-- without the same at the end
 abbrev pub trim_end : List ℕ → List ℕ
 trim_end bytes = take (length bytes - suffix_len is_ascii_whitespace bytes) bytes
 
--- Get an encoding: the one paired with the label, without whitespace at both ends and in lower case.
+-- Get an encoding: the one that the label is paired with, once whitespace is removed at both ends and A to Z are
+-- a to z. Without one there is none.
 abbrev pub get : List ℕ → Option Encoding
 get label = paired_with labelled (map to_ascii_lowercase (trim_end (trim_start label)))
 

@@ -277,15 +277,11 @@ impl Encoding {
     pub fn for_label_no_replacement(label: &[u8]) -> Option<Encoding>
         ensures { result ≡ get_no_replacement label.now }
     {
-        match Encoding::for_label(label) {
-            Some(encoding) => {
-                if encoding == REPLACEMENT {
-                    None
-                } else {
-                    Some(encoding)
-                }
-            }
-            None => None,
+        let encoding = Encoding::for_label(label)?;
+        if encoding == REPLACEMENT {
+            None
+        } else {
+            Some(encoding)
         }
     }
 }

@@ -1,5 +1,6 @@
 //! Character encodings: the front layer, of which [`Decoder`] converts a stream of bytes, in chunks of any size,
-//! into text, in buffers of any size, for the encodings of the WHATWG Encoding Standard.
+//! into text, in buffers of any size, for the encodings of the WHATWG Encoding Standard. An [`Encoding`] is found by
+//! its constant, by a label or by a byte order mark.
 #![tactic(auto)]
 
 mod bom;

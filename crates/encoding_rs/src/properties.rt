@@ -56,8 +56,8 @@ impl Encoding {
         }
     }
 
-    /// The encoding that a text in it is answered in (Encoding Standard 4.3, "get an output encoding"): UTF-8 for
-    /// replacement, UTF-16BE and UTF-16LE, and itself for all others. Takes no memory.
+    /// The encoding that is written where this one is asked for (Encoding Standard 4.3, "get an output encoding"):
+    /// UTF-8 for replacement, UTF-16BE and UTF-16LE, and itself for all others. Takes no memory.
     pub fn output_encoding(self) -> Encoding
         ensures { result ≡ output_encoding_of self }
     {
@@ -74,8 +74,8 @@ impl Encoding {
         self.output_encoding() == UTF_8
     }
 
-    /// Whether its bytes below 0x80 are ASCII, and ASCII is written in these bytes: false for replacement,
-    /// UTF-16BE, UTF-16LE and ISO-2022-JP, and true for all others. Takes no memory.
+    /// Whether bytes below 0x80 are the ASCII characters of the same numbers, and these are written so: false for
+    /// replacement, UTF-16BE, UTF-16LE and ISO-2022-JP, and true for all others. Takes no memory.
     pub fn is_ascii_compatible(self) -> bool
         ensures { result ≡ is_ascii_compatible self }
     {

@@ -1,5 +1,5 @@
 -- Which pairs of labels name encodings that the program recodes between.
-use Rattle.std.specs.Prelude.{◌≡◌, ◌≢◌, ℕ, List, Some}
+use Rattle.std.specs.Prelude.{◌≡◌, ℕ, List, Some}
 use Rattle.encoding_rs.specs.declared.encoding.Encoding.{Encoding}
 use Rattle.encoding_rs.specs.declared.encoding.TheConstants.{UTF_8}
 use Rattle.encoding_rs.specs.Labels.{get_no_replacement}
