@@ -8,8 +8,9 @@
 #[cfg(test)]
 mod double_byte;
 #[cfg(test)]
-mod gb18030;
 mod encodings;
+#[cfg(test)]
+mod gb18030;
 #[cfg(test)]
 mod harness;
 #[cfg(test)]
