@@ -10,7 +10,7 @@ use Rattle.enc_codec.specs.declared.iso_2022_jp.Escape.TheVariants.{ToAscii, ToR
 use Rattle.enc_codec.specs.Segmentation.{Head, head_sequence, sequences_of}
 use Rattle.enc_codec.specs.OneByte.{one_byte_head}
 use Rattle.enc_codec.specs.Utf16.{malformed_head}
-use Rattle.enc_codec.specs.Iso2022Jp.{set_number, set_of, set_named, designated, escape_head, one_byte_char, is_lead, is_jis0208_byte, two_byte_char, two_byte_head, lead_head, iso_2022_jp_rule}
+use Rattle.enc_codec.specs.Iso2022Jp.{set_number, set_of, set_named, designated, escape_head, one_byte_char, is_lead, is_jis0208_byte, two_byte_char, two_byte_head, lead_head, iso_2022_jp_rule as jp_rule}
 use Rattle.enc_codec.specs.Iso2022JpState.{escape_bytes, escape_set, ends_lead}
 use Rattle.enc_codec.proofs.SegmentationLemmas.{sequences_of-head}
 
@@ -39,22 +39,24 @@ lead_is_no_escape s b e = in_jis0208 b (lead_in_jis0208 s b e)
 
 -- what stands first
 
-pub escape_first : (set : ℕ) (z : List ℕ) (found : Option CharacterSet) (another : Bool) → designated (0x1B ∷ z) ≡ found
-    → is_some (designated (drop 2 z)) ≡ another → iso_2022_jp_rule set 0x1B z ≡ escape_head set found another
-unfolding iso_2022_jp_rule
+pub escape_first : (set : ℕ) (z : List ℕ) (found : Option CharacterSet) (another : Bool)
+    → designated (0x1B ∷ z) ≡ found
+    → is_some (designated (drop 2 z)) ≡ another → jp_rule set 0x1B z ≡ escape_head set found another
+unfolding jp_rule
 escape_first set z found another e f =
     ap (λ o. escape_head set o (is_some (designated (drop 2 z)))) e ∙ ap (escape_head set found) f
 
-pub no_escape_first : (set : ℕ) (z : List ℕ) → designated (0x1B ∷ z) ≡ None → iso_2022_jp_rule set 0x1B z ≡ malformed_head set 0
+pub no_escape_first : (set : ℕ) (z : List ℕ) → designated (0x1B ∷ z) ≡ None
+    → jp_rule set 0x1B z ≡ malformed_head set 0
 no_escape_first set z e = escape_first set z None _ e refl
 
-pub lead_first : (set b : ℕ) (z : List ℕ) → is_lead (set_of set) b ≡ true → iso_2022_jp_rule set b z ≡ lead_head set b z
-unfolding iso_2022_jp_rule
+pub lead_first : (set b : ℕ) (z : List ℕ) → is_lead (set_of set) b ≡ true → jp_rule set b z ≡ lead_head set b z
+unfolding jp_rule
 lead_first set b z e = rw (lead_is_no_escape (set_of set) b e, e) refl
 
 pub alone_first : (set b : ℕ) (z : List ℕ) → is_lead (set_of set) b ≡ false → eqb b 0x1B ≡ false
-    → iso_2022_jp_rule set b z ≡ one_byte_head set (one_byte_char (set_of set) b)
-unfolding iso_2022_jp_rule
+    → jp_rule set b z ≡ one_byte_head set (one_byte_char (set_of set) b)
+unfolding jp_rule
 alone_first set b z l e = rw (e, l) refl
 
 -- a lead byte that nothing goes on with, and one with the byte behind it
@@ -63,22 +65,24 @@ pub lead_alone : (set b : ℕ) (z : List ℕ) → ends_lead z ≡ true → lead_
 lead_alone set b [] e = refl
 lead_alone set b (c ∷ z) e = rw e refl
 
-pub lead_and_trail : (set b c : ℕ) (z : List ℕ) → eqb c 0x1B ≡ false → lead_head set b (c ∷ z) ≡ two_byte_head set (two_byte_char b c)
+pub lead_and_trail : (set b c : ℕ) (z : List ℕ) → eqb c 0x1B ≡ false
+    → lead_head set b (c ∷ z) ≡ two_byte_head set (two_byte_char b c)
 lead_and_trail set b c z e = rw e refl
 
 -- an escape sequence, by whether another follows it
 
-escape_at : (set b c : ℕ) (s : CharacterSet) (z : List ℕ) (another : Bool) → set_named b c ≡ Some s → is_some (designated z) ≡ another
-    → sequences_of iso_2022_jp_rule set (0x1B ∷ b ∷ c ∷ z)
+escape_at : (set b c : ℕ) (s : CharacterSet) (z : List ℕ) (another : Bool) → set_named b c ≡ Some s
+    → is_some (designated z) ≡ another
+    → sequences_of jp_rule set (0x1B ∷ b ∷ c ∷ z)
     ≡ head_sequence (escape_head set (Some s) another) 0x1B (b ∷ c ∷ z)
-    ∷ sequences_of iso_2022_jp_rule (escape_head set (Some s) another).set (drop (escape_head set (Some s) another).more (b ∷ c ∷ z))
+    ∷ sequences_of jp_rule (escape_head set (Some s) another).set (drop (escape_head set (Some s) another).more (b ∷ c ∷ z))
 escape_at set b c s z another e f =
-    sequences_of-head iso_2022_jp_rule set 0x1B (b ∷ c ∷ z) _ (escape_first set (b ∷ c ∷ z) (Some s) another e f)
+    sequences_of-head jp_rule set 0x1B (b ∷ c ∷ z) _ (escape_first set (b ∷ c ∷ z) (Some s) another e f)
 
 pub skipped_escape : (set : ℕ) (e : Escape) (z : List ℕ) → designated z ≡ None
-    → sequences_of iso_2022_jp_rule set (escape_bytes e ++ z)
+    → sequences_of jp_rule set (escape_bytes e ++ z)
     ≡ record { bytes = escape_bytes e; text = []; kind = Skipped; set = set_number (escape_set e) }
-    ∷ sequences_of iso_2022_jp_rule (set_number (escape_set e)) z
+    ∷ sequences_of jp_rule (set_number (escape_set e)) z
 skipped_escape set ToAscii z n = escape_at set 0x28 0x42 _ z false refl (ap is_some n)
 skipped_escape set ToRoman z n = escape_at set 0x28 0x4A _ z false refl (ap is_some n)
 skipped_escape set ToKatakana z n = escape_at set 0x28 0x49 _ z false refl (ap is_some n)
@@ -86,9 +90,9 @@ skipped_escape set ToJis0208Of1978 z n = escape_at set 0x24 0x40 _ z false refl 
 skipped_escape set ToJis0208Of1983 z n = escape_at set 0x24 0x42 _ z false refl (ap is_some n)
 
 pub repeated_escape : (set : ℕ) (e : Escape) (z : List ℕ) (s : CharacterSet) → designated z ≡ Some s
-    → sequences_of iso_2022_jp_rule set (escape_bytes e ++ z)
+    → sequences_of jp_rule set (escape_bytes e ++ z)
     ≡ record { bytes = escape_bytes e; text = 0xFFFD ∷ []; kind = RepeatedEscape; set = set_number (escape_set e) }
-    ∷ sequences_of iso_2022_jp_rule (set_number (escape_set e)) z
+    ∷ sequences_of jp_rule (set_number (escape_set e)) z
 repeated_escape set ToAscii z s n = escape_at set 0x28 0x42 _ z true refl (ap is_some n)
 repeated_escape set ToRoman z s n = escape_at set 0x28 0x4A _ z true refl (ap is_some n)
 repeated_escape set ToKatakana z s n = escape_at set 0x28 0x49 _ z true refl (ap is_some n)
@@ -132,13 +136,14 @@ escape_form set None another b c z = (omega arith, inr (0xFFFD, refl))
 escape_form set (Some s) true b c z = (omega arith, inr (0xFFFD, refl))
 escape_form set (Some s) false b c z = (omega arith, inl refl)
 
-escaping_form : (set a : ℕ) (z : List ℕ) → HasForm z (escape_head set (designated (a ∷ z)) (is_some (designated (drop 2 z))))
+escaping_form : (set a : ℕ) (z : List ℕ)
+    → HasForm z (escape_head set (designated (a ∷ z)) (is_some (designated (drop 2 z))))
 escaping_form set a [] = (omega arith, inr (0xFFFD, refl))
 escaping_form set a (b ∷ []) = (omega arith, inr (0xFFFD, refl))
 escaping_form set a (b ∷ c ∷ z) = escape_form set (designated (a ∷ b ∷ c ∷ z)) (is_some (designated z)) b c z
 
-pub has_form : (set b : ℕ) (z : List ℕ) → HasForm z (iso_2022_jp_rule set b z)
-unfolding iso_2022_jp_rule
+pub has_form : (set b : ℕ) (z : List ℕ) → HasForm z (jp_rule set b z)
+unfolding jp_rule
 has_form set b z =
     either_form (eqb b 0x1B) _ _ z (escaping_form set b z)
     (either_form (is_lead (set_of set) b) _ _ z (lead_form set b z) (one_byte_form set (one_byte_char (set_of set) b) z))

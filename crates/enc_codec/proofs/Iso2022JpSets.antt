@@ -7,7 +7,7 @@ use Rattle.enc_codec.specs.Sequence.{Sequence, bytes_of, set_after}
 use Rattle.enc_codec.specs.Segmentation.{Head, head_sequence, sequences_of}
 use Rattle.enc_codec.specs.OneByte.{one_byte_head}
 use Rattle.enc_codec.specs.Utf16.{malformed_head}
-use Rattle.enc_codec.specs.Iso2022Jp.{set_number, set_of, set_named, designated, escape_head, is_lead, one_byte_char, two_byte_char, two_byte_head, iso_2022_jp_rule}
+use Rattle.enc_codec.specs.Iso2022Jp.{set_number, set_of, set_named, designated, escape_head, is_lead, one_byte_char, two_byte_char, two_byte_head, iso_2022_jp_rule as jp_rule}
 use Rattle.enc_codec.specs.Iso2022JpLaws.{later_or, last_designated, number_or, SetsAreOfLastEscapes}
 use Rattle.enc_codec.proofs.SegmentationLemmas.{sequences_of-cons, sequences_of-nil}
 use Rattle.enc_codec.proofs.ToldLemmas.{true_or_false}
@@ -58,7 +58,8 @@ whole_escape a c s w e =
     ap (λ o. later_or o (set_named a c)) (other_byte a (c ∷ w) (named_second a c s e) ∙ other_byte c w (named_third a c s e))
     ∙ ap (later_or (last_designated w)) e
 
-number_behind : (set : ℕ) (o : Option CharacterSet) (s : CharacterSet) → number_or set (later_or o (Some s)) ≡ number_or (set_number s) o
+number_behind : (set : ℕ) (o : Option CharacterSet) (s : CharacterSet)
+    → number_or set (later_or o (Some s)) ≡ number_or (set_number s) o
 number_behind set None s = refl
 number_behind set (Some t) s = refl
 
@@ -75,7 +76,8 @@ abbrev TellsSet : ℕ → ℕ → List ℕ → Head → Type 0
 TellsSet set b z h = (w v : List ℕ) → drop h.more z ≡ w ++ v
     → number_or h.set (last_designated w) ≡ number_or set (last_designated (b ∷ (take h.more z ++ w)))
 
-one_byte : (set b : ℕ) (z : List ℕ) (found : Option ℕ) → eqb b 0x1B ≡ false → TellsSet set b z (one_byte_head set found)
+one_byte : (set b : ℕ) (z : List ℕ) (found : Option ℕ) → eqb b 0x1B ≡ false
+    → TellsSet set b z (one_byte_head set found)
 one_byte set b z None n w v e = ap (number_or set) (sym (other_byte b w n))
 one_byte set b z (Some c) n w v e = ap (number_or set) (sym (other_byte b w n))
 
@@ -100,14 +102,14 @@ escape set a c z s false n w v e =
 
 -- every sequence
 
-tells_by : (set b : ℕ) (z : List ℕ) (h : Head) → iso_2022_jp_rule set b z ≡ h → TellsSet set b z h
-    → TellsSet set b z (iso_2022_jp_rule set b z)
+tells_by : (set b : ℕ) (z : List ℕ) (h : Head) → jp_rule set b z ≡ h → TellsSet set b z h
+    → TellsSet set b z (jp_rule set b z)
 tells_by set b z h e t = subst (TellsSet set b z) (sym e) t
 
-not_begun : (set : ℕ) (z : List ℕ) → designated (0x1B ∷ z) ≡ None → TellsSet set 0x1B z (iso_2022_jp_rule set 0x1B z)
+not_begun : (set : ℕ) (z : List ℕ) → designated (0x1B ∷ z) ≡ None → TellsSet set 0x1B z (jp_rule set 0x1B z)
 not_begun set z n = tells_by set 0x1B z _ (no_escape_first set z n) (escape_malformed set z n)
 
-escape_tells : (set : ℕ) (z : List ℕ) → TellsSet set 0x1B z (iso_2022_jp_rule set 0x1B z)
+escape_tells : (set : ℕ) (z : List ℕ) → TellsSet set 0x1B z (jp_rule set 0x1B z)
 escape_tells set [] = not_begun set [] refl
 escape_tells set (a ∷ []) = not_begun set (a ∷ []) refl
 escape_tells set (a ∷ c ∷ z) = elim (found_or_not (set_named a c)) [
@@ -116,19 +118,20 @@ escape_tells set (a ∷ c ∷ z) = elim (found_or_not (set_named a c)) [
       tells_by set 0x1B (a ∷ c ∷ z) _ (escape_first set (a ∷ c ∷ z) (Some f.0) t f.1 refl) (escape set a c z f.0 t f.1))
 ]
 
-lead_tells : (set b : ℕ) (z : List ℕ) → is_lead (set_of set) b ≡ true → TellsSet set b z (iso_2022_jp_rule set b z)
+lead_tells : (set b : ℕ) (z : List ℕ) → is_lead (set_of set) b ≡ true → TellsSet set b z (jp_rule set b z)
 lead_tells set b [] l =
     tells_by set b [] _ (lead_first set b [] l) (alone_malformed set b [] (lead_is_no_escape (set_of set) b l))
 lead_tells set b (c ∷ z) l =
     let n = lead_is_no_escape (set_of set) b l in elim (true_or_false (eqb c 0x1B)) [
-      | inl t ↦ tells_by set b (c ∷ z) _ (lead_first set b (c ∷ z) l ∙ lead_alone set b (c ∷ z) t) (alone_malformed set b (c ∷ z) n)
+      | inl t ↦ tells_by set b (c ∷ z) _ (lead_first set b (c ∷ z) l ∙ lead_alone set b (c ∷ z) t)
+          (alone_malformed set b (c ∷ z) n)
       | inr m ↦ tells_by set b (c ∷ z) _ (lead_first set b (c ∷ z) l ∙ lead_and_trail set b c z m)
           (two_bytes set b c z (two_byte_char b c) n m)
     ]
 
-tells : (set b : ℕ) (z : List ℕ) → TellsSet set b z (iso_2022_jp_rule set b z)
+tells : (set b : ℕ) (z : List ℕ) → TellsSet set b z (jp_rule set b z)
 tells set b z = elim (true_or_false (eqb b 0x1B)) [
-  | inl t ↦ subst (λ (e : ℕ). TellsSet set e z (iso_2022_jp_rule set e z)) (sym (is_escape_byte b t)) (escape_tells set z)
+  | inl t ↦ subst (λ (e : ℕ). TellsSet set e z (jp_rule set e z)) (sym (is_escape_byte b t)) (escape_tells set z)
   | inr n ↦ elim (true_or_false (is_lead (set_of set) b)) [
     | inl l ↦ lead_tells set b z l
     | inr l ↦ tells_by set b z _ (alone_first set b z l n) (one_byte set b z (one_byte_char (set_of set) b) n)
@@ -149,14 +152,14 @@ rest_of s t ss ts e = cc
 none_first : (s : Sequence) (ss : List Sequence) → [] ≡ s ∷ ss → ⊥
 none_first s ss e = cc
 
-sets : (set : ℕ) (z : List ℕ) (before behind : List Sequence) → sequences_of iso_2022_jp_rule set z ≡ before ++ behind
+sets : (set : ℕ) (z : List ℕ) (before behind : List Sequence) → sequences_of jp_rule set z ≡ before ++ behind
     → HasSet set z before
 unfolding last_designated
 sets set z [] behind e = ((z, refl), refl)
-sets set [] (s ∷ before) behind e = absurd (none_first s (before ++ behind) (sym (sequences_of-nil iso_2022_jp_rule set) ∙ e))
+sets set [] (s ∷ before) behind e = absurd (none_first s (before ++ behind) (sym (sequences_of-nil jp_rule set) ∙ e))
 sets set (b ∷ z) (s ∷ before) behind e =
-    let h : Head = iso_2022_jp_rule set b z in
-    let g = sym (sequences_of-cons iso_2022_jp_rule set b z) ∙ e in
+    let h : Head = jp_rule set b z in
+    let g = sym (sequences_of-cons jp_rule set b z) ∙ e in
     let k = sets h.set (drop h.more z) before behind (rest_of (head_sequence h b z) s _ (before ++ behind) g) in
     let w = bytes_of before in
     subst (λ (t : Sequence). HasSet set (b ∷ z) (t ∷ before)) (first_of (head_sequence h b z) s _ (before ++ behind) g) (
@@ -168,5 +171,5 @@ sets set (b ∷ z) (s ∷ before) behind e =
       k.1 ∙ tells set b z w k.0.0 k.0.1,
     )
 
-pub sets_are_of_last_escapes : SetsAreOfLastEscapes iso_2022_jp_rule
+pub sets_are_of_last_escapes : SetsAreOfLastEscapes jp_rule
 sets_are_of_last_escapes set z before behind e = (sets set z before behind e).1

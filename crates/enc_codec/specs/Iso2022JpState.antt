@@ -82,5 +82,7 @@ CutsOff (Started before i) z = designated (0x1B ∷ intermediate_byte i ∷ z) �
 
 -- a character of so many bytes, or where there is none, so many malformed bytes
 abbrev pub shown_char : Option ℕ → ℕ → Bool → Iso2022JpState → Shown Iso2022JpState
-shown_char (Some c) len takes_byte next = record { text = One c; kind = Valid; len = len; takes_byte = takes_byte; next = next }
-shown_char None len takes_byte next = record { text = One 0xFFFD; kind = Malformed; len = len; takes_byte = takes_byte; next = next }
+shown_char (Some c) len takes_byte next =
+    record { text = One c; kind = Valid; len = len; takes_byte = takes_byte; next = next }
+shown_char None len takes_byte next =
+    record { text = One 0xFFFD; kind = Malformed; len = len; takes_byte = takes_byte; next = next }

@@ -359,7 +359,8 @@ fn cut_off(set: CharacterSet, held: Held) -> Shown<Iso2022JpDecoder>
 
 /// The same of 1B.
 fn cut_off_start(set: CharacterSet, before: Option<Escape>) -> Shown<Iso2022JpDecoder>
-    ensures comes { Comes iso_2022_jp_state (holding set (Option.Some (Held.Start before))) (CutsOff (Held.Start before)) [] result }
+    ensures comes { Comes iso_2022_jp_state (holding set (Option.Some (Held.Start before)))
+        (CutsOff (Held.Start before)) [] result }
     ensures before { result.takes_byte ≡ false }
 {
     match before {
@@ -446,7 +447,8 @@ fn step_start(set: CharacterSet, before: Option<Escape>, byte: u8) -> Step<Iso20
     }
 }
 
-/// A byte behind 1B and the second byte of an escape sequence. Where a second escape sequence is whole then, it is held, and the one before it is malformed.
+/// A byte behind 1B and the second byte of an escape sequence. Where a second escape sequence is whole then, it is
+/// held, and the one before it is malformed.
 fn step_started(
     set: CharacterSet,
     before: Option<Escape>,
