@@ -5,3 +5,4 @@ pub mod FullLemmas
 pub mod RunLemmas
 pub mod EncodingLemmas
 pub mod LabelLemmas
+pub mod WellFormedLemmas

@@ -1,11 +1,13 @@
 //! Laws over the definitions, each the contract of a call that does nothing.
 
-ghost use Rattle.std.specs.Prelude.{◌≡◌, ◌≢◌, ◌↔◌, IsTrue, Some, map, length};
+ghost use Rattle.std.specs.Prelude.{◌≡◌, ◌≢◌, ◌↔◌, false, IsTrue, Some, map, length};
 ghost use Rattle.encoding_rs.specs.Encodings.{rule_of};
+ghost use Rattle.encoding_rs.specs.Decoding.{whole_malformed};
 ghost use Rattle.encoding_rs.specs.Labels.{labelled, get};
 ghost use Rattle.encoding_rs.specs.Names.{name_of};
 ghost use Rattle.encoding_rs.specs.Properties.{output_encoding_of};
 ghost use Rattle.enc_codec.specs.RuleLaws.{HasTexts};
+ghost use Rattle.enc_units.specs.Validity.{IsWellFormedUtf8};
 
 use crate::encoding::{
     BIG5, BIG5_INIT, EUC_JP, EUC_JP_INIT, EUC_KR, EUC_KR_INIT, Encoding, GB18030, GB18030_INIT,
@@ -37,6 +39,14 @@ pub fn has_texts(encoding: Encoding)
     ensures { (encoding ≡ REPLACEMENT → ⊥) → (encoding ≡ ISO_2022_JP → ⊥) → HasTexts (rule_of encoding) }
 {
     let _ = (encoding, REPLACEMENT, ISO_2022_JP);
+}
+
+/// Bytes are well-formed UTF-8 just where no sequence of theirs is malformed as UTF-8 is decoded (Unicode Standard 3.9,
+/// D92 and table 3-7).
+pub fn well_formed_utf_8(bytes: &[u8])
+    ensures { IsWellFormedUtf8 bytes.now ↔ (whole_malformed UTF_8 bytes.now ≡ false) }
+{
+    let _ = bytes;
 }
 
 /// Two encodings are equal exactly where they are the same one: whether they are.
