@@ -79,15 +79,17 @@ Front z =
     ⊎ (malformed_bytes z ≡ true)
 
 valid_front : (c : ℕ) (bytes rest : List ℕ) → InScalarRange c → encode_utf8 c ≡ bytes
-    → sequences_of utf_8_rule 0 (bytes ++ rest) ≡ valid_sequence bytes ∷ sequences_of utf_8_rule 0 rest → Front (bytes ++ rest)
-valid_front c bytes rest r e s = inl (c, rest, scalar_in_range c r, ap (λ front. front ++ rest) (sym e), ap any_malformed s)
+    → sequences_of utf_8_rule 0 (bytes ++ rest) ≡ valid_sequence bytes ∷ sequences_of utf_8_rule 0 rest
+    → Front (bytes ++ rest)
+valid_front c bytes rest r e s =
+    inl (c, rest, scalar_in_range c r, ap (λ front. front ++ rest) (sym e), ap any_malformed s)
 
 malformed_front : (z bytes : List ℕ) (ss : List Sequence)
     → sequences_of utf_8_rule 0 z ≡ malformed_sequence bytes ∷ ss → Front z
 malformed_front z bytes ss s = inr (ap any_malformed s)
 
-front_four : (t : Bool) (a b c d : ℕ) (z : List ℕ) → sequence_len a ≡ 4 → is_second a b ≡ true → is_continuation c ≡ true
-    → is_continuation d ≡ t → Front (a ∷ b ∷ c ∷ d ∷ z)
+front_four : (t : Bool) (a b c d : ℕ) (z : List ℕ)
+    → sequence_len a ≡ 4 → is_second a b ≡ true → is_continuation c ≡ true → is_continuation d ≡ t → Front (a ∷ b ∷ c ∷ d ∷ z)
 front_four false a b c d z s e f g = malformed_front _ _ _ (three_malformed a b c d z s e f g)
 front_four true a b c d z s e f g =
     valid_front _ (a ∷ b ∷ c ∷ d ∷ []) z
@@ -180,14 +182,16 @@ front_of_two : (c : ℕ) (rest : List ℕ) → 0x80 ≤ c → c < 0x800
 front_of_two c rest h k =
     ap (λ front. malformed_bytes (front ++ rest)) (encoded_two c h k)
     ∙ ap any_malformed (two_valid _ _ rest (len_two _ (omega arith) (omega arith))
-    (is_second_by _ _ (omega arith) (omega arith) (λ e. omega arith) (λ e. omega arith) (λ e. omega arith) (λ e. omega arith)))
+    (is_second_by _ _ (omega arith) (omega arith)
+    (λ e. omega arith) (λ e. omega arith) (λ e. omega arith) (λ e. omega arith)))
 
 front_of_three : (c : ℕ) (rest : List ℕ) → 0x800 ≤ c → c < 0x10000 → InScalarRange c
     → malformed_bytes (encode_utf8 c ++ rest) ≡ malformed_bytes rest
 front_of_three c rest h k r =
     ap (λ front. malformed_bytes (front ++ rest)) (encoded_three c h k)
     ∙ ap any_malformed (three_valid _ _ _ rest (len_three _ (omega arith) (omega arith))
-    (is_second_by _ _ (omega arith) (omega arith) (λ e. omega arith) (λ e. below_surrogates c r e) (λ e. omega arith) (λ e. omega arith))
+    (is_second_by _ _ (omega arith) (omega arith)
+    (λ e. omega arith) (λ e. below_surrogates c r e) (λ e. omega arith) (λ e. omega arith))
     (continues _ (omega arith) (omega arith)))
 
 front_of_four : (c : ℕ) (rest : List ℕ) → 0x10000 ≤ c → c < 0x110000
@@ -195,15 +199,18 @@ front_of_four : (c : ℕ) (rest : List ℕ) → 0x10000 ≤ c → c < 0x110000
 front_of_four c rest h k =
     ap (λ front. malformed_bytes (front ++ rest)) (encoded_four c h)
     ∙ ap any_malformed (four_valid _ _ _ _ rest (len_four _ (omega arith) (omega arith))
-    (is_second_by _ _ (omega arith) (omega arith) (λ e. omega arith) (λ e. omega arith) (λ e. omega arith) (λ e. omega arith))
+    (is_second_by _ _ (omega arith) (omega arith)
+    (λ e. omega arith) (λ e. omega arith) (λ e. omega arith) (λ e. omega arith))
     (continues _ (omega arith) (omega arith)) (continues _ (omega arith) (omega arith)))
 
 -- by the size of its number
-encoded_front : (c : ℕ) (rest : List ℕ) → InScalarRange c → malformed_bytes (encode_utf8 c ++ rest) ≡ malformed_bytes rest
+encoded_front : (c : ℕ) (rest : List ℕ) → InScalarRange c
+    → malformed_bytes (encode_utf8 c ++ rest) ≡ malformed_bytes rest
 encoded_front c rest r =
     elim (below_or_not c 0x80) [
       | inl h ↦
-          ap (λ front. malformed_bytes (front ++ rest)) (encode_ascii c h) ∙ ap any_malformed (one_valid c rest (len_one c h))
+          ap (λ front. malformed_bytes (front ++ rest)) (encode_ascii c h)
+          ∙ ap any_malformed (one_valid c rest (len_one c h))
       | inr h ↦ elim (below_or_not c 0x800) [
         | inl k ↦ front_of_two c rest h k
         | inr k ↦ elim (below_or_not c 0x10000) [
@@ -216,4 +223,5 @@ encoded_front c rest r =
 pub none_malformed_in : (text : List ℕ) → all_scalars text ≡ true → malformed_bytes (encode_utf8_all text) ≡ false
 none_malformed_in [] e = ap any_malformed (sequences_of-nil utf_8_rule 0)
 none_malformed_in (c ∷ text) e =
-    encoded_front c (encode_utf8_all text) (range_of_scalar c (first_so _ _ e)) ∙ none_malformed_in text (second_so _ _ e)
+    encoded_front c (encode_utf8_all text) (range_of_scalar c (first_so _ _ e))
+    ∙ none_malformed_in text (second_so _ _ e)

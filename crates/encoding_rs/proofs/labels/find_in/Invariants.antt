@@ -4,4 +4,5 @@ use Rattle.encoding_rs.proofs.labels.find_in.Given as goal
 
 -- No label passed so far is matched.
 abbrev pub invariant-loop-label : goal.invariant-loop-label
-invariant-loop-label l = matched_with (pairs_of (drop l.label-index l.table)) l.word ≡ matched_with (pairs_of l.table) l.word
+invariant-loop-label l =
+    matched_with (pairs_of (drop l.label-index l.table)) l.word ≡ matched_with (pairs_of l.table) l.word
