@@ -1,4 +1,5 @@
-//! Worked examples of every encoding, each through every cut and every small room, and the table of names and labels.
+//! Worked examples of every encoding, each through every cut and every small room; and the names, labels,
+//! properties and byte order marks of all of them.
 //!
 //! This crate has tests alone. A codec's examples stand in a module of its own, as tables, and one harness runs
 //! them. What is expected comes from outside: the examples of the Encoding Standard, Unicode's tables, and the
