@@ -2,10 +2,8 @@
 use Rattle.std.specs.Prelude.{ℕ, ◌+◌, ◌-◌, ◌*◌, Bool, ◌&&◌, ◌||◌, ◌==◌, nat_le, nat_lt, Option, Some, None, List, if◌then◌else◌}
 use Rattle.enc_codec.specs.declared.byte_codec.Text.{Text}
 use Rattle.enc_codec.specs.declared.byte_codec.Text.TheVariants.{Two}
-use Rattle.enc_codec.specs.declared.indexes.big5.TheConstants.{BIG5_RUNS}
-use Rattle.enc_codec.specs.declared.index.Planes.TheVariants.{All}
 use Rattle.enc_codec.specs.declared.multi_byte.Reading.{Reading}
-use Rattle.enc_codec.specs.Index.{index_at}
+use Rattle.enc_codec.specs.Lists.{big5_at}
 use Rattle.enc_codec.specs.DoubleByte.{text_of_char, double_byte_reading}
 
 abbrev pub big5_lead : ℕ → Bool
@@ -28,7 +26,7 @@ big5_text pointer =
     else if pointer == 1135 then Some (Two 0xCA 0x30C)
     else if pointer == 1164 then Some (Two 0xEA 0x304)
     else if pointer == 1166 then Some (Two 0xEA 0x30C)
-    else text_of_char (index_at All BIG5_RUNS.now pointer)
+    else text_of_char (big5_at pointer)
 
 -- a lead and the byte behind it
 abbrev pub big5_pair : ℕ → ℕ → Option Text

@@ -1,11 +1,8 @@
 -- EUC-JP (Encoding Standard 12.1).
 use Rattle.std.specs.Prelude.{ℕ, ◌+◌, ◌-◌, ◌*◌, Bool, ◌&&◌, ◌||◌, ◌==◌, nat_le, nat_lt, Option, Some, None, List, [], ◌∷◌, if◌then◌else◌}
-use Rattle.enc_codec.specs.declared.indexes.jis0208.TheConstants.{JIS0208_RUNS}
-use Rattle.enc_codec.specs.declared.indexes.jis0212.TheConstants.{JIS0212_RUNS}
-use Rattle.enc_codec.specs.declared.index.Planes.TheVariants.{Basic}
 use Rattle.enc_codec.specs.declared.multi_byte.Reading.{Reading}
 use Rattle.enc_codec.specs.declared.multi_byte.Reading.TheVariants.{Unfinished}
-use Rattle.enc_codec.specs.Index.{index_at}
+use Rattle.enc_codec.specs.Lists.{jis0208_at, jis0212_at}
 use Rattle.enc_codec.specs.Katakana.{is_katakana, katakana}
 use Rattle.enc_codec.specs.DoubleByte.{text_of_char, first_reading, trail_reading}
 
@@ -28,12 +25,12 @@ euc_jp_single b = if nat_lt b 0x80 then Some b else None
 abbrev pub euc_jp_pair : ℕ → ℕ → Option ℕ
 euc_jp_pair lead b =
     if lead == 0x8E then (if is_katakana b then Some (katakana b) else None)
-    else if is_euc lead && is_euc b then index_at Basic JIS0208_RUNS.now (euc_pointer lead b)
+    else if is_euc lead && is_euc b then jis0208_at (euc_pointer lead b)
     else None
 
 -- two bytes behind 8F
 abbrev pub euc_jp_triple : ℕ → ℕ → Option ℕ
-euc_jp_triple lead b = if is_euc b then index_at Basic JIS0212_RUNS.now (euc_pointer lead b) else None
+euc_jp_triple lead b = if is_euc b then jis0212_at (euc_pointer lead b) else None
 
 -- what the bytes in front are
 abbrev pub euc_jp_reading : List ℕ → Reading

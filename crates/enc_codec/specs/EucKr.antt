@@ -1,10 +1,8 @@
 -- EUC-KR (Encoding Standard 13.1).
 use Rattle.std.specs.Prelude.{ℕ, ◌+◌, ◌-◌, ◌*◌, Bool, ◌&&◌, nat_le, nat_lt, Option, Some, None, List, if◌then◌else◌}
 use Rattle.enc_codec.specs.declared.byte_codec.Text.{Text}
-use Rattle.enc_codec.specs.declared.indexes.euc_kr.TheConstants.{EUC_KR_RUNS}
-use Rattle.enc_codec.specs.declared.index.Planes.TheVariants.{Basic}
 use Rattle.enc_codec.specs.declared.multi_byte.Reading.{Reading}
-use Rattle.enc_codec.specs.Index.{index_at}
+use Rattle.enc_codec.specs.Lists.{euc_kr_at}
 use Rattle.enc_codec.specs.DoubleByte.{text_of_char, double_byte_reading}
 
 abbrev pub euc_kr_lead : ℕ → Bool
@@ -23,7 +21,7 @@ euc_kr_single b = if nat_lt b 0x80 then Some b else None
 -- a lead and the byte behind it
 abbrev pub euc_kr_pair : ℕ → ℕ → Option Text
 euc_kr_pair lead b =
-    text_of_char (if euc_kr_trail b then index_at Basic EUC_KR_RUNS.now (euc_kr_pointer lead b) else None)
+    text_of_char (if euc_kr_trail b then euc_kr_at (euc_kr_pointer lead b) else None)
 
 abbrev pub euc_kr_reading : List ℕ → Reading
 euc_kr_reading = double_byte_reading euc_kr_lead euc_kr_single euc_kr_pair

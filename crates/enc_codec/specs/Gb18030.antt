@@ -1,12 +1,9 @@
 -- gb18030, and GBK, whose decoder is the same (Encoding Standard 10.1, 10.2).
 use Rattle.std.specs.Prelude.{ℕ, ◌+◌, ◌-◌, ◌*◌, Bool, ◌&&◌, ◌||◌, ◌==◌, nat_le, nat_lt, Option, Some, None, List, [], ◌∷◌, if◌then◌else◌}
 use Rattle.enc_codec.specs.declared.byte_codec.Text.TheVariants.{One}
-use Rattle.enc_codec.specs.declared.indexes.gb18030.TheConstants.{GB18030_RUNS}
-use Rattle.enc_codec.specs.declared.indexes.gb18030_ranges.TheConstants.{GB18030_RANGES_RUNS}
-use Rattle.enc_codec.specs.declared.index.Planes.TheVariants.{Basic, All}
 use Rattle.enc_codec.specs.declared.multi_byte.Reading.{Reading}
 use Rattle.enc_codec.specs.declared.multi_byte.Reading.TheVariants.{Whole, Broken, Unfinished}
-use Rattle.enc_codec.specs.Index.{index_at}
+use Rattle.enc_codec.specs.Lists.{gb18030_at, gb18030_ranges_at}
 use Rattle.enc_codec.specs.DoubleByte.{text_of_char, first_reading, trail_reading}
 
 -- the first and the third byte
@@ -30,7 +27,7 @@ abbrev pub gb18030_pointer : ℕ → ℕ → ℕ
 gb18030_pointer lead trail = (lead - 0x81) * 190 + (trail - (if nat_lt trail 0x7F then 0x40 else 0x41))
 
 abbrev pub gb18030_pair : ℕ → ℕ → Option ℕ
-gb18030_pair lead b = if gb18030_trail b then index_at Basic GB18030_RUNS.now (gb18030_pointer lead b) else None
+gb18030_pair lead b = if gb18030_trail b then gb18030_at (gb18030_pointer lead b) else None
 
 -- four bytes (Encoding Standard 5, "index gb18030 ranges code point"): some pointers are of no character, and one
 -- is in no range
@@ -44,7 +41,7 @@ abbrev pub ranges_char : ℕ → Option ℕ
 ranges_char pointer =
     if is_beyond_ranges pointer then None
     else if pointer == 7457 then Some 0xE7C7
-    else index_at All GB18030_RANGES_RUNS.now pointer
+    else gb18030_ranges_at pointer
 
 abbrev pub four_reading : Option ℕ → Reading
 four_reading (Some c) = Whole (One c)

@@ -1,12 +1,10 @@
 -- ISO-2022-JP (Encoding Standard 12.2.1, "ISO-2022-JP decoder").
 use Rattle.std.specs.Prelude.{ℕ, ◌+◌, ◌-◌, ◌*◌, Bool, true, false, ◌==◌, ◌&&◌, ◌||◌, not, nat_lt, nat_le, Option, Some, None, is_some, List, [], ◌∷◌, drop, if◌then◌else◌}
 use Rattle.enc_codec.specs.declared.byte_codec.Kind.TheVariants.{Skipped, RepeatedEscape}
-use Rattle.enc_codec.specs.declared.index.Planes.TheVariants.{Basic}
-use Rattle.enc_codec.specs.declared.indexes.jis0208.TheConstants.{JIS0208_RUNS}
 use Rattle.enc_codec.specs.declared.iso_2022_jp.CharacterSet.{CharacterSet}
 use Rattle.enc_codec.specs.declared.iso_2022_jp.CharacterSet.TheVariants.{Ascii, Roman, Katakana, Jis0208}
 use Rattle.enc_codec.specs.Segmentation.{Head, Rule}
-use Rattle.enc_codec.specs.Index.{index_at}
+use Rattle.enc_codec.specs.Lists.{jis0208_at}
 use Rattle.enc_codec.specs.OneByte.{one_byte_head}
 use Rattle.enc_codec.specs.Utf16.{character_head, malformed_head}
 
@@ -74,7 +72,7 @@ is_lead Jis0208 b = is_jis0208_byte b
 -- the character of a lead byte and the byte behind it
 unfoldable pub two_byte_char : ℕ → ℕ → Option ℕ
 two_byte_char lead b =
-    if is_jis0208_byte b then index_at Basic JIS0208_RUNS.now ((lead - 0x21) * 94 + (b - 0x21)) else None
+    if is_jis0208_byte b then jis0208_at ((lead - 0x21) * 94 + (b - 0x21)) else None
 
 abbrev pub two_byte_head : ℕ → Option ℕ → Head
 two_byte_head set (Some c) = character_head set 1 c

@@ -11,6 +11,7 @@ pub mod Utf8State
 pub mod Variant
 pub mod Codecs
 pub mod Index
+pub mod Lists
 pub mod OneByte
 pub mod OneByteState
 pub mod Replacement

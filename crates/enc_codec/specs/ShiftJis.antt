@@ -1,10 +1,8 @@
 -- Shift_JIS (Encoding Standard 12.3).
 use Rattle.std.specs.Prelude.{ℕ, ◌+◌, ◌-◌, ◌*◌, Bool, ◌&&◌, ◌||◌, nat_le, nat_lt, Option, Some, None, List, if◌then◌else◌}
 use Rattle.enc_codec.specs.declared.byte_codec.Text.{Text}
-use Rattle.enc_codec.specs.declared.indexes.jis0208.TheConstants.{JIS0208_RUNS}
-use Rattle.enc_codec.specs.declared.index.Planes.TheVariants.{Basic}
 use Rattle.enc_codec.specs.declared.multi_byte.Reading.{Reading}
-use Rattle.enc_codec.specs.Index.{index_at}
+use Rattle.enc_codec.specs.Lists.{jis0208_at}
 use Rattle.enc_codec.specs.Katakana.{is_katakana, katakana}
 use Rattle.enc_codec.specs.DoubleByte.{text_of_char, double_byte_reading}
 
@@ -26,7 +24,7 @@ shift_jis_single b = if nat_le b 0x80 then Some b else if is_katakana b then Som
 abbrev pub shift_jis_char : ℕ → Option ℕ
 shift_jis_char pointer =
     if nat_le 8836 pointer && nat_le pointer 10715 then Some (0xE000 + (pointer - 8836))
-    else index_at Basic JIS0208_RUNS.now pointer
+    else jis0208_at pointer
 
 -- a lead and the byte behind it
 abbrev pub shift_jis_pair : ℕ → ℕ → Option Text

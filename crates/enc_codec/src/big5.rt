@@ -5,7 +5,7 @@ ghost use Rattle.enc_codec.specs.Big5.{big5_text};
 
 use crate::byte_codec::Text;
 use crate::double_byte::{Double, DoubleByte, text_of};
-use crate::indexes::big5::BIG5;
+use crate::lists;
 use crate::multi_byte::MultiByteDecoder;
 
 /// Big5 (Encoding Standard 11.1): ASCII, and two bytes by index Big5, of which four are two characters.
@@ -24,7 +24,7 @@ fn text_at(pointer: u32) -> Option<Text>
         1135 => Some(Text::Two('\u{CA}', '\u{30C}')),
         1164 => Some(Text::Two('\u{EA}', '\u{304}')),
         1166 => Some(Text::Two('\u{EA}', '\u{30C}')),
-        _ => text_of(BIG5.at(pointer)),
+        _ => text_of(lists::big5(pointer)),
     }
 }
 

@@ -4,9 +4,8 @@ ghost use Rattle.std.specs.Prelude.{◌≡◌, [], ◌∷◌, true};
 ghost use Rattle.enc_codec.specs.EucJp.{is_euc as euc, euc_pointer, euc_jp_lead, euc_jp_single, euc_jp_pair, euc_jp_triple, euc_jp_reading};
 
 use crate::double_byte::{read_first, read_trail, text_of};
-use crate::indexes::jis0208::JIS0208;
-use crate::indexes::jis0212::JIS0212;
 use crate::katakana::katakana;
+use crate::lists;
 use crate::multi_byte::{MultiByte, MultiByteDecoder, Reading};
 use crate::pending::Pending;
 
@@ -67,7 +66,7 @@ fn pair(lead: u8, trail: u8) -> Option<char>
         };
     }
     if is_euc(lead) && is_euc(trail) {
-        JIS0208.at(pointer(lead, trail))
+        lists::jis0208(pointer(lead, trail))
     } else {
         None
     }
@@ -79,7 +78,7 @@ fn triple(lead: u8, trail: u8) -> Option<char>
     ensures { result ≡ euc_jp_triple lead trail }
 {
     if is_euc(trail) {
-        JIS0212.at(pointer(lead, trail))
+        lists::jis0212(pointer(lead, trail))
     } else {
         None
     }

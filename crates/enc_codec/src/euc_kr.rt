@@ -5,7 +5,7 @@ ghost use Rattle.enc_codec.specs.EucKr.{euc_kr_trail, euc_kr_pointer};
 
 use crate::byte_codec::Text;
 use crate::double_byte::{Double, DoubleByte, text_of};
-use crate::indexes::euc_kr::EUC_KR;
+use crate::lists;
 use crate::multi_byte::MultiByteDecoder;
 
 /// EUC-KR (Encoding Standard 13.1): ASCII, and two bytes by index EUC-KR.
@@ -40,7 +40,7 @@ impl DoubleByte for EucKr {
         if trail < 0x41 || trail > 0xFE {
             return None;
         }
-        text_of(EUC_KR.at((lead as u32 - 0x81) * 190 + (trail as u32 - 0x41)))
+        text_of(lists::euc_kr((lead as u32 - 0x81) * 190 + (trail as u32 - 0x41)))
     }
 
     fn laws() {}

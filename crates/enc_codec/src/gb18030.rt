@@ -5,8 +5,7 @@ ghost use Rattle.enc_codec.specs.Gb18030.{gb18030_lead, is_digit as digit, gb180
 
 use crate::byte_codec::Text;
 use crate::double_byte::{read_first, read_trail, text_of};
-use crate::indexes::gb18030::GB18030;
-use crate::indexes::gb18030_ranges::GB18030_RANGES;
+use crate::lists;
 use crate::multi_byte::{MultiByte, MultiByteDecoder, Reading};
 use crate::pending::Pending;
 
@@ -53,7 +52,7 @@ fn pair(lead: u8, trail: u8) -> Option<char>
         0x80..=0xFE => 0x41,
         _ => return None,
     };
-    GB18030.at((lead as u32 - 0x81) * 190 + (trail as u32 - offset))
+    lists::gb18030((lead as u32 - 0x81) * 190 + (trail as u32 - offset))
 }
 
 /// The character of a pointer of four bytes.
@@ -64,7 +63,7 @@ fn character_at(pointer: u32) -> Option<char>
         39420..=188999 => None,
         1237576.. => None,
         7457 => Some('\u{E7C7}'),
-        _ => GB18030_RANGES.at(pointer),
+        _ => lists::gb18030_ranges(pointer),
     }
 }
 

@@ -14,6 +14,7 @@ pub mod indexes;
 mod iso_2022_jp;
 mod katakana;
 pub mod laws;
+mod lists;
 mod machine;
 mod multi_byte;
 mod one_byte;
