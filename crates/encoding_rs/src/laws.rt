@@ -1,4 +1,4 @@
-//! Laws over the definitions, each the contract of a call that does nothing.
+//! Laws over the definitions, each the contract of a function that does nothing, or only what the law speaks of.
 
 ghost use Rattle.std.specs.Prelude.{◌≡◌, ◌≢◌, ◌↔◌, false, IsTrue, Some, map, length};
 ghost use Rattle.encoding_rs.specs.Encodings.{rule_of};
