@@ -1,5 +1,5 @@
-//! gb18030 and GBK (Encoding Standard 10). The texts are those of Python's codec gb18030; what is malformed follows
-//! the Encoding Standard's decoder by hand.
+//! gb18030 and GBK (Encoding Standard 10). The texts are those of Python's codec gb18030, but that of byte 80, which
+//! it doesn't have; that one and what is malformed follow the Encoding Standard's decoder by hand.
 
 use crate::harness::{Input, compare_cuts, make_reporting_calls, malformed, reporting, valid};
 use encoding_rs::{DecoderResult, GB18030, GBK};
