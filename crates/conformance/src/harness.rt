@@ -1,5 +1,6 @@
 //! What runs the examples.
 
+use encoding_rs::run::BomHandling;
 use encoding_rs::{CoderResult, Decoder, DecoderResult, Encoding};
 use std::alloc::{AllocError, Global};
 use std::process::Abort;
@@ -48,9 +49,22 @@ pub fn reporting<'a>(
     }
 }
 
-/// Makes the calls with one decoder.
+/// A new decoder that looks for these byte order marks.
+pub fn new_decoder(encoding: Encoding, handling: BomHandling) -> Decoder {
+    match handling {
+        BomHandling::Off => encoding.new_decoder_without_bom_handling(),
+        BomHandling::Sniff => encoding.new_decoder(),
+        BomHandling::Remove => encoding.new_decoder_with_bom_removal(),
+    }
+}
+
+/// Makes the calls with one decoder that looks for no byte order mark.
 pub fn make_calls(rt: &impl Abort, encoding: Encoding, calls: &[Call<'_>]) {
-    let mut decoder = encoding.new_decoder_without_bom_handling();
+    make_calls_of(rt, &mut new_decoder(encoding, BomHandling::Off), calls);
+}
+
+/// Makes the calls with this decoder.
+pub fn make_calls_of(rt: &impl Abort, decoder: &mut Decoder, calls: &[Call<'_>]) {
     for call in calls {
         assert!(rt; !decoder.is_finished() && call.room <= MOST_ROOM);
         let mut buffer = [0; MOST_ROOM];
@@ -65,9 +79,17 @@ pub fn make_calls(rt: &impl Abort, encoding: Encoding, calls: &[Call<'_>]) {
     }
 }
 
-/// Makes the calls without replacement with one decoder.
+/// Makes the calls without replacement with one decoder that looks for no byte order mark.
 pub fn make_reporting_calls(rt: &impl Abort, encoding: Encoding, calls: &[ReportingCall<'_>]) {
-    let mut decoder = encoding.new_decoder_without_bom_handling();
+    make_reporting_calls_of(rt, &mut new_decoder(encoding, BomHandling::Off), calls);
+}
+
+/// Makes the calls without replacement with this decoder.
+pub fn make_reporting_calls_of(
+    rt: &impl Abort,
+    decoder: &mut Decoder,
+    calls: &[ReportingCall<'_>],
+) {
     for call in calls {
         assert!(rt; !decoder.is_finished() && call.room <= MOST_ROOM);
         let mut buffer = [0; MOST_ROOM];
@@ -117,37 +139,74 @@ pub fn malformed<'a>(
     }
 }
 
+/// How a decoder is used.
+#[derive(Clone, Copy)]
+pub struct Use {
+    pub encoding: Encoding,
+    pub handling: BomHandling,
+    /// The calls are without replacement, and the caller puts U+FFFD where a malformed sequence is reported.
+    pub reporting: bool,
+    /// A call that neither reads nor writes is made again, and then once more with room enough.
+    pub widens: bool,
+}
+
 /// What the calls of one decoder have come to.
 #[derive(Drop)]
-struct Run {
+pub struct Run {
     decoder: Decoder,
-    /// The calls are without replacement, and the caller puts U+FFFD where a malformed sequence is reported.
-    reporting: bool,
-    text: Vec<u8>,
+    way: Use,
+    pub text: Vec<u8>,
     /// How many bytes were read in all.
     read: usize,
-    had_errors: bool,
+    pub had_errors: bool,
     /// Where each malformed sequence starts that was reported, and how many bytes it has.
-    malformed: Vec<(Option<usize>, usize)>,
-    /// A call neither read nor wrote.
+    pub malformed: Vec<(Option<usize>, usize)>,
+    /// How many calls in a row have neither read nor written.
+    idle: usize,
+    /// It can't go on, or a call that was made again did something else.
     is_stuck: bool,
 }
 
-fn start(alloc: Global, encoding: Encoding, reporting: bool) -> Run {
+fn start(alloc: Global, way: Use) -> Run {
     Run {
-        decoder: encoding.new_decoder_without_bom_handling(),
-        reporting,
+        decoder: new_decoder(way.encoding, way.handling),
+        way,
         text: Vec::new(alloc),
         read: 0,
         had_errors: false,
         malformed: Vec::new(alloc),
+        idle: 0,
         is_stuck: false,
     }
 }
 
+/// The room of the next call.
+fn next_room(run: &Run, room: usize) -> usize {
+    if run.idle > 1 {
+        MOST_ROOM
+    } else {
+        room.min(MOST_ROOM)
+    }
+}
+
+/// Takes note of a call that may have been idle.
+fn take_note(run: &mut Run, is_idle: bool) {
+    let made_again = run.idle == 1;
+    run.idle = if is_idle {
+        run.idle.saturating_add(1)
+    } else {
+        0
+    };
+    run.is_stuck = if run.way.widens {
+        made_again && !is_idle
+    } else {
+        is_idle
+    };
+}
+
 /// Offers a chunk, and again what is unread of it, until all is read or a call neither reads nor writes.
 fn offer(run: &mut Run, chunk: &[u8], last: bool, room: usize) -> Result<(), AllocError> {
-    if run.reporting {
+    if run.way.reporting {
         offer_reporting(run, chunk, last, room)
     } else {
         offer_replacing(run, chunk, last, room)
@@ -161,14 +220,17 @@ fn offer_replacing(run: &mut Run, chunk: &[u8], last: bool, room: usize) -> Resu
             return Ok(());
         }
         let mut buffer = [0; MOST_ROOM];
-        let dst = &mut buffer[..room.min(MOST_ROOM)];
+        let dst = &mut buffer[..next_room(run, room).min(MOST_ROOM)];
         let (result, read, written, replaced) = run.decoder.decode_to_utf8(unread, dst, last);
         run.text.extend_from_slice(&buffer[..written])?;
         run.had_errors |= replaced;
         unread = &unread[read..];
-        match result {
-            CoderResult::InputEmpty => return Ok(()),
-            CoderResult::OutputFull => run.is_stuck = read == 0 && written == 0,
+        take_note(
+            run,
+            result == CoderResult::OutputFull && read == 0 && written == 0,
+        );
+        if result == CoderResult::InputEmpty {
+            return Ok(());
         }
     }
     run.is_stuck = true;
@@ -182,16 +244,20 @@ fn offer_reporting(run: &mut Run, chunk: &[u8], last: bool, room: usize) -> Resu
             return Ok(());
         }
         let mut buffer = [0; MOST_ROOM];
-        let dst = &mut buffer[..room.min(MOST_ROOM)];
+        let dst = &mut buffer[..next_room(run, room).min(MOST_ROOM)];
         let (result, read, written) = run
             .decoder
             .decode_to_utf8_without_replacement(unread, dst, last);
         run.text.extend_from_slice(&buffer[..written])?;
         run.read = run.read.saturating_add(read);
         unread = &unread[read..];
+        take_note(
+            run,
+            result == DecoderResult::OutputFull && read == 0 && written == 0,
+        );
         match result {
             DecoderResult::InputEmpty => return Ok(()),
-            DecoderResult::OutputFull => run.is_stuck = read == 0 && written == 0,
+            DecoderResult::OutputFull => (),
             DecoderResult::Malformed(len, after) => take_report(run, len as usize, after as usize)?,
         }
     }
@@ -208,6 +274,13 @@ fn take_report(run: &mut Run, len: usize, after: usize) -> Result<(), AllocError
     run.text.extend_from_slice("\u{FFFD}".as_bytes())
 }
 
+/// Offers the whole input at once, with room enough.
+pub fn run_whole(alloc: Global, way: Use, bytes: &[u8]) -> Result<Run, AllocError> {
+    let mut run = start(alloc, way);
+    offer(&mut run, bytes, true, MOST_ROOM)?;
+    Ok(run)
+}
+
 /// How an input is cut: in two at a place, or into single bytes.
 #[derive(Clone, Copy)]
 enum Cut {
@@ -217,13 +290,12 @@ enum Cut {
 
 fn run_cut(
     alloc: Global,
-    encoding: Encoding,
+    way: Use,
     bytes: &[u8],
     cut: Cut,
     room: usize,
-    reporting: bool,
 ) -> Result<Run, AllocError> {
-    let mut run = start(alloc, encoding, reporting);
+    let mut run = start(alloc, way);
     let place = match cut {
         Cut::At(place) => place,
         Cut::Everywhere => 1,
@@ -244,70 +316,117 @@ fn run_cut(
 
 /// What was put out begins the text, and is all of it where there is room enough.
 fn compare(rt: &impl Abort, run: &Run, input: &Input<'_>, room: usize) {
-    assert!(rt; input.text.starts_with(run.text.as_slice()), "{room}");
-    assert_eq!(rt; run.decoder.is_finished(), !run.is_stuck, "{room}");
-    if room >= input.room {
-        assert!(rt; run.decoder.is_finished(), "{room}");
+    let (encoding, bytes) = (run.way.encoding, input.bytes);
+    assert!(rt;
+        input.text.starts_with(run.text.as_slice()),
+        "{encoding:?} {bytes:?} {room}"
+    );
+    assert_eq!(rt;
+        run.decoder.is_finished(),
+        !run.is_stuck,
+        "{encoding:?} {bytes:?} {room}"
+    );
+    if room >= input.room || run.way.widens {
+        assert!(rt; run.decoder.is_finished(), "{encoding:?} {bytes:?} {room}");
     }
     if run.decoder.is_finished() {
-        assert_eq!(rt; run.text.as_slice(), input.text, "{room}");
-        assert_eq!(rt; run.had_errors, !input.malformed.is_empty(), "{room}");
+        assert_eq!(rt;
+            run.text.as_slice(),
+            input.text,
+            "{encoding:?} {bytes:?} {room}"
+        );
+        assert_eq!(rt;
+            run.had_errors,
+            !input.malformed.is_empty(),
+            "{encoding:?} {bytes:?} {room}"
+        );
     }
-    if run.reporting {
+    if run.way.reporting {
         compare_places(rt, run, input, room);
     }
 }
 
 /// The malformed sequences were reported in order, each at its place, and all of them in a finished run.
 fn compare_places(rt: &impl Abort, run: &Run, input: &Input<'_>, room: usize) {
+    let (encoding, bytes) = (run.way.encoding, input.bytes);
     let reported = run.malformed.as_slice();
-    assert!(rt; reported.len() <= input.malformed.len(), "{room}");
+    assert!(rt;
+        reported.len() <= input.malformed.len(),
+        "{encoding:?} {bytes:?} {room}"
+    );
     for ((start, len), place) in reported.iter().zip(input.malformed) {
-        assert_eq!(rt; (*start, *len), (Some(place.0), place.1), "{room}");
+        assert_eq!(rt;
+            (*start, *len),
+            (Some(place.0), place.1),
+            "{encoding:?} {bytes:?} {room}"
+        );
     }
     if run.decoder.is_finished() {
-        assert_eq!(rt; reported.len(), input.malformed.len(), "{room}");
+        assert_eq!(rt;
+            reported.len(),
+            input.malformed.len(),
+            "{encoding:?} {bytes:?} {room}"
+        );
     }
 }
 
-/// Runs an input through every cut, with rooms 0 to 9, with and without replacement.
+/// Runs an input through every cut.
+fn compare_each_cut(
+    rt: &impl Abort,
+    alloc: Global,
+    way: Use,
+    input: &Input<'_>,
+    room: usize,
+) -> Result<(), Fail> {
+    for place in 0..input.bytes.len() + 1 {
+        let run = run_cut(alloc, way, input.bytes, Cut::At(place), room)?;
+        compare(rt, &run, input, room);
+    }
+    let run = run_cut(alloc, way, input.bytes, Cut::Everywhere, room)?;
+    compare(rt, &run, input, room);
+    Ok(())
+}
+
+/// Runs an input through every cut, with each room below `rooms`, with and without replacement.
+pub fn compare_uses(
+    rt: &impl Abort,
+    alloc: Global,
+    way: Use,
+    input: &Input<'_>,
+    rooms: usize,
+) -> Result<(), Fail> {
+    for reporting in [false, true] {
+        for room in 0..rooms {
+            compare_each_cut(rt, alloc, Use { reporting, ..way }, input, room)?;
+        }
+    }
+    Ok(())
+}
+
+/// Runs an input through every cut, with rooms 0 to 9, with and without replacement, by a decoder that looks for these
+/// byte order marks.
+pub fn compare_cuts_of(
+    rt: &impl Abort,
+    alloc: Global,
+    encoding: Encoding,
+    handling: BomHandling,
+    input: &Input<'_>,
+) -> Result<(), Fail> {
+    let way = Use {
+        encoding,
+        handling,
+        reporting: false,
+        widens: false,
+    };
+    compare_uses(rt, alloc, way, input, 10)
+}
+
+/// The same by a decoder that looks for no byte order mark.
 pub fn compare_cuts(
     rt: &impl Abort,
     alloc: Global,
     encoding: Encoding,
     input: &Input<'_>,
 ) -> Result<(), Fail> {
-    for reporting in [false, true] {
-        for room in 0..10 {
-            for place in 0..input.bytes.len() + 1 {
-                compare(
-                    rt,
-                    &run_cut(
-                        alloc,
-                        encoding,
-                        input.bytes,
-                        Cut::At(place),
-                        room,
-                        reporting,
-                    )?,
-                    input,
-                    room,
-                );
-            }
-            compare(
-                rt,
-                &run_cut(
-                    alloc,
-                    encoding,
-                    input.bytes,
-                    Cut::Everywhere,
-                    room,
-                    reporting,
-                )?,
-                input,
-                room,
-            );
-        }
-    }
-    Ok(())
+    compare_cuts_of(rt, alloc, encoding, BomHandling::Off, input)
 }

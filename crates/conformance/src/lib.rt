@@ -7,6 +7,8 @@
 #![tactic(auto)]
 
 #[cfg(test)]
+mod bom;
+#[cfg(test)]
 mod double_byte;
 #[cfg(test)]
 mod encodings;

@@ -8,7 +8,7 @@ use Rattle.enc_units.specs.Output.{units_of_text}
 use Rattle.enc_codec.specs.Sequence.{Sequence, bytes_of, text_of, is_malformed, is_repeated_escape}
 use Rattle.enc_codec.specs.Remainder.{Remainder, Begins, Determines, IsUndetermined}
 use Rattle.enc_codec.specs.CodecLaw.{MayFollow}
-use Rattle.enc_codec.specs.Call.{Call, Reported, ReadsReported, AreBounded}
+use Rattle.enc_codec.specs.Call.{RawCall, Reported, ReadsReported, AreBounded}
 use Rattle.enc_codec.proofs.Progress.{Progress, residual_all, determined, shown, done_then, with_all, accounted_after, accounted_further, set_then, rest_follows, fewer_undetermined}
 use Rattle.enc_codec.proofs.DeterminedLemmas.{determined_at, none_determined}
 
@@ -26,57 +26,61 @@ module _ (units_of : ℕ → List ℕ) (old : Remainder) (src : List ℕ) (last 
   -- everything is read, and nothing is determined
   pub empty : ((y : List ℕ) → Begins p.done (old.sequences (take read src ++ y)) → old.sequences (take read src ++ y) ≡ p.done ++ now.sequences y)
       → length src ≤ read → (last ≡ true → now.pending ≡ []) → (last ≡ true → now.sequences [] ≡ []) → IsUndetermined now.sequences
-      → Call units_of old now src last (Reported keeps) room InputEmpty read wrote false
+      → RawCall units_of old now src last (Reported keeps) room InputEmpty read wrote false
   empty g h e l u = record {
-    put = p.done;
-    done = p.done;
-    within = p.within;
-    residual = residual_all units_of old src last room read now wrote p;
-    goes_on = λ y _. g y;
-    accounted = p.accounted;
-    set = p.set;
-    text = p.text;
-    fits = p.fits;
-    flag = sym p.none_malformed;
-    none_replaced = λ _. refl;
-    stops = record {
-      only_put = refl;
-      all_read = omega (arith, p.within);
-      none_determined = λ n s d. none_determined old.sequences now.sequences src p.done
-          (λ y. residual_all units_of old src last room read now wrote p y (λ m. absurd (false≢true (sym n ∙ m))) ∙ ap (λ x. p.done ++ now.sequences (x ++ y)) (drop_of_length-le src h)) u s d;
-      none_left = l;
-      none_pending = e;
+    call = record {
+      put = p.done;
+      done = p.done;
+      within = p.within;
+      residual = residual_all units_of old src last room read now wrote p;
+      set = p.set;
+      text = p.text;
+      fits = p.fits;
+      flag = sym p.none_malformed;
+      none_replaced = λ _. refl;
+      stops = record {
+        only_put = refl;
+        all_read = omega (arith, p.within);
+        none_determined = λ n s d. none_determined old.sequences now.sequences src p.done
+            (λ y. residual_all units_of old src last room read now wrote p y (λ m. absurd (false≢true (sym n ∙ m))) ∙ ap (λ x. p.done ++ now.sequences (x ++ y)) (drop_of_length-le src h)) u s d;
+        none_left = l;
+        none_pending = e;
+      };
     };
+    accounted = p.accounted;
+    goes_on = λ y _. g y;
   }
 
   -- a sequence comes that doesn't fit
   pub full : ((y : List ℕ) → Begins p.done (old.sequences (take read src ++ y)) → old.sequences (take read src ++ y) ≡ p.done ++ now.sequences y)
       → (q : Sequence) → ((y : List ℕ) → MayFollow src read last y → Begins (q ∷ []) (now.sequences y)) → (keeps ≡ false → is_malformed q.kind ≡ false)
       → room < length wrote + length (units_of_text units_of q.text)
-      → Call units_of old now src last (Reported keeps) room OutputFull read wrote false
+      → RawCall units_of old now src last (Reported keeps) room OutputFull read wrote false
   full goes q c g f = record {
-    put = p.done;
-    done = p.done;
-    within = p.within;
-    residual = residual_all units_of old src last room read now wrote p;
-    goes_on = λ y _. goes y;
-    accounted = p.accounted;
-    set = p.set;
-    text = p.text;
-    fits = p.fits;
-    flag = sym p.none_malformed;
-    none_replaced = λ _. refl;
-    stops = record {
-      only_put = refl;
-      next = q;
-      determined = determined units_of old src last room read now wrote p q c;
-      not_reported = g;
-      full = subst (λ (w : List ℕ). room < length w + length (units_of_text units_of q.text)) p.text f;
-      reads = record {
-        not_shown = elim p.undetermined [ inl z ↦ inl z | inr n ↦ inr (n q) ];
-        shown_next = shown units_of old src last room read now wrote p q c;
+    call = record {
+      put = p.done;
+      done = p.done;
+      within = p.within;
+      residual = residual_all units_of old src last room read now wrote p;
+      set = p.set;
+      text = p.text;
+      fits = p.fits;
+      flag = sym p.none_malformed;
+      none_replaced = λ _. refl;
+      stops = record {
+        only_put = refl;
+        next = q;
+        determined = determined units_of old src last room read now wrote p q c;
+        not_reported = g;
+        full = subst (λ (w : List ℕ). room < length w + length (units_of_text units_of q.text)) p.text f;
+        reads = record {
+          not_shown = elim p.undetermined [ inl z ↦ inl z | inr n ↦ inr (n q) ];
+          shown_next = shown units_of old src last room read now wrote p q c;
+        };
       };
     };
+    accounted = p.accounted;
+    goes_on = λ y _. goes y;
   }
 
   room_for_replacement : (w : List ℕ) → w ≡ units_of_text units_of (text_of p.done) → length w + length (units_of 0xFFFD) ≤ room
@@ -86,41 +90,43 @@ module _ (units_of : ℕ → List ℕ) (old : Remainder) (src : List ℕ) (last 
   -- a malformed sequence comes, and is reported; the byte that shows it is not its own
   pub report_before : (q : Sequence) (next : Remainder) (l a : ℕ) → ((y : List ℕ) → Begins (p.done ++ q ∷ []) (old.sequences (take read src ++ y)) → old.sequences (take read src ++ y) ≡ (p.done ++ q ∷ []) ++ next.sequences y)
       → is_malformed q.kind ≡ true → is_repeated_escape q.kind ≡ false → q.text ≡ 0xFFFD ∷ []
-      → l ≡ length q.bytes → 0 < l → AreBounded l a → a ≡ length next.pending → (keeps ≡ true → length wrote + length (units_of 0xFFFD) ≤ room)
+      → l ≡ length q.bytes → 0 < l → AreBounded q.kind l a → a ≡ length next.pending → (keeps ≡ true → length wrote + length (units_of 0xFFFD) ≤ room)
       → now.pending ≡ q.bytes ++ next.pending → next.set ≡ q.set
       → ((y : List ℕ) → MayFollow src read last y → now.sequences y ≡ q ∷ next.sequences y)
-      → Call units_of old next src last (Reported keeps) room (Malformed l a) read wrote false
+      → RawCall units_of old next src last (Reported keeps) room (Malformed l a) read wrote false
   report_before q next l a g b i t n ne bs k f e s c = record {
-    put = p.done;
-    done = p.done ++ q ∷ [];
-    within = p.within;
-    residual = λ z m. residual_all units_of old src last room read now wrote p z m
-        ∙ ap (λ ss. p.done ++ ss) (c (drop read src ++ z) (rest_follows src read last z m)) ∙ done_then units_of old src last room read now wrote p q (next.sequences (drop read src ++ z));
-    goes_on = λ y _. g y;
-    accounted = accounted_after units_of old src last room read now wrote p q (old.pending ++ take read src) next.pending (p.accounted ∙ ap (λ x. bytes_of p.done ++ x) e);
-    set = set_then units_of old src last room read now wrote p q next s;
-    text = p.text;
-    fits = p.fits;
-    flag = sym p.none_malformed;
-    none_replaced = λ _. refl;
-    stops = record {
-      next = q;
-      then_next = refl;
-      malformed = b;
-      replacement = t;
-      not_replaced = refl;
-      len = n;
-      not_empty = ne;
-      behind = k;
-      bounds = bs;
-      room_kept = λ m. room_for_replacement wrote p.text (f m);
-      determined = determined units_of old src last room read now wrote p q (λ y m. (_, c y m));
-      none_behind = fewer_undetermined units_of old src last room read now wrote p q p.undetermined;
-      reads = rw i (record {
-        not_shown = elim p.undetermined [ inl z ↦ inr (inl z) | inr u ↦ inr (inr (u q)) ];
-        shown_next = shown units_of old src last room read now wrote p q (λ y m. (_, c y m));
-      });
+    call = record {
+      put = p.done;
+      done = p.done ++ q ∷ [];
+      within = p.within;
+      residual = λ z m. residual_all units_of old src last room read now wrote p z m
+          ∙ ap (λ ss. p.done ++ ss) (c (drop read src ++ z) (rest_follows src read last z m)) ∙ done_then units_of old src last room read now wrote p q (next.sequences (drop read src ++ z));
+      set = set_then units_of old src last room read now wrote p q next s;
+      text = p.text;
+      fits = p.fits;
+      flag = sym p.none_malformed;
+      none_replaced = λ _. refl;
+      stops = record {
+        next = q;
+        then_next = refl;
+        malformed = b;
+        replacement = t;
+        not_replaced = refl;
+        len = n;
+        not_empty = ne;
+        behind = k;
+        bounds = bs;
+        room_kept = λ m. room_for_replacement wrote p.text (f m);
+        determined = determined units_of old src last room read now wrote p q (λ y m. (_, c y m));
+        none_behind = fewer_undetermined units_of old src last room read now wrote p q p.undetermined;
+        reads = rw i (record {
+          not_shown = elim p.undetermined [ inl z ↦ inr (inl z) | inr u ↦ inr (inr (u q)) ];
+          shown_next = shown units_of old src last room read now wrote p q (λ y m. (_, c y m));
+        });
+      };
     };
+    accounted = accounted_after units_of old src last room read now wrote p q (old.pending ++ take read src) next.pending (p.accounted ∙ ap (λ x. bytes_of p.done ++ x) e);
+    goes_on = λ y _. g y;
   }
 
   reads_with : (pending : List ℕ) (ss : List Sequence) (late : Bool) → (late ≡ false → pending ≡ []) → (late ≡ true → Determines old.sequences (take read src) ss → ⊥)
@@ -138,40 +144,42 @@ module _ (units_of : ℕ → List ℕ) (old : Remainder) (src : List ℕ) (last 
   pub report_with : (q : Sequence) (next : Remainder) (l a : ℕ) → ((y : List ℕ) → Begins (p.done ++ q ∷ []) (old.sequences (take (read + 1) src ++ y)) → old.sequences (take (read + 1) src ++ y) ≡ (p.done ++ q ∷ []) ++ next.sequences y)
       → IsUndetermined next.sequences → is_malformed q.kind ≡ true → q.text ≡ 0xFFFD ∷ []
       → (is_repeated_escape q.kind ≡ false → next.pending ≡ [])
-      → l ≡ length q.bytes → 0 < l → AreBounded l a → a ≡ length next.pending → (keeps ≡ true → length wrote + length (units_of 0xFFFD) ≤ room)
+      → l ≡ length q.bytes → 0 < l → AreBounded q.kind l a → a ≡ length next.pending → (keeps ≡ true → length wrote + length (units_of 0xFFFD) ≤ room)
       → read < length src → now.pending ++ get_or src read 0 ∷ [] ≡ q.bytes ++ next.pending → next.set ≡ q.set
       → ((y : List ℕ) → MayFollow src read last (get_or src read 0 ∷ y) → now.sequences (get_or src read 0 ∷ y) ≡ q ∷ next.sequences y)
       → (is_repeated_escape q.kind ≡ true → Determines old.sequences (take read src) (p.done ++ q ∷ []) → ⊥)
-      → Call units_of old next src last (Reported keeps) room (Malformed l a) (read + 1) wrote false
+      → RawCall units_of old next src last (Reported keeps) room (Malformed l a) (read + 1) wrote false
   report_with q next l a g d b t i n ne bs k f h e s c u =
       let all : (z : List ℕ) → old.sequences (take (read + 1) src ++ z) ≡ (p.done ++ q ∷ []) ++ next.sequences z = with_all units_of old src last room read now wrote p q next h c in
       let through : (z : List ℕ) → Begins (p.done ++ q ∷ []) (old.sequences (take (read + 1) src ++ z)) = λ z. (next.sequences z, all z) in
       record {
-        put = p.done;
-        done = p.done ++ q ∷ [];
-        within = omega arith;
-        residual = λ z _. sym (ap old.sequences (past src (read + 1) z)) ∙ all (drop (read + 1) src ++ z);
-        goes_on = λ y _. g y;
+        call = record {
+          put = p.done;
+          done = p.done ++ q ∷ [];
+          within = omega arith;
+          residual = λ z _. sym (ap old.sequences (past src (read + 1) z)) ∙ all (drop (read + 1) src ++ z);
+          set = set_then units_of old src last room read now wrote p q next s;
+          text = p.text;
+          fits = p.fits;
+          flag = sym p.none_malformed;
+          none_replaced = λ _. refl;
+          stops = record {
+            next = q;
+            then_next = refl;
+            malformed = b;
+            replacement = t;
+            not_replaced = refl;
+            len = n;
+            not_empty = ne;
+            behind = k;
+            bounds = bs;
+            room_kept = λ m. room_for_replacement wrote p.text (f m);
+            determined = determined_at last old.sequences src (p.done ++ q ∷ []) (λ z _. (next.sequences (drop (read + 1) src ++ z), sym (ap old.sequences (past src (read + 1) z)) ∙ all (drop (read + 1) src ++ z)));
+            none_behind = inr (none_determined old.sequences next.sequences (take (read + 1) src) (p.done ++ q ∷ []) all d);
+            reads = reads_with next.pending (p.done ++ q ∷ []) (is_repeated_escape q.kind) i u through;
+          };
+        };
         accounted = accounted_after units_of old src last room read now wrote p q (old.pending ++ take (read + 1) src) next.pending
             (accounted_further units_of old src last room read now wrote p h ∙ ap (λ x. bytes_of p.done ++ x) e);
-        set = set_then units_of old src last room read now wrote p q next s;
-        text = p.text;
-        fits = p.fits;
-        flag = sym p.none_malformed;
-        none_replaced = λ _. refl;
-        stops = record {
-          next = q;
-          then_next = refl;
-          malformed = b;
-          replacement = t;
-          not_replaced = refl;
-          len = n;
-          not_empty = ne;
-          behind = k;
-          bounds = bs;
-          room_kept = λ m. room_for_replacement wrote p.text (f m);
-          determined = determined_at last old.sequences src (p.done ++ q ∷ []) (λ z _. (next.sequences (drop (read + 1) src ++ z), sym (ap old.sequences (past src (read + 1) z)) ∙ all (drop (read + 1) src ++ z)));
-          none_behind = inr (none_determined old.sequences next.sequences (take (read + 1) src) (p.done ++ q ∷ []) all d);
-          reads = reads_with next.pending (p.done ++ q ∷ []) (is_repeated_escape q.kind) i u through;
-        };
+        goes_on = λ y _. g y;
       }

@@ -140,7 +140,7 @@ shows_repeated s e f i b h = (
         ∷ sequences_of jp_rule (set_number (escape_set e)) (x ++ y)) (sym h);
     same_rule = refl;
     replacement = λ _. refl;
-    bounds = λ _. (omega arith, (let n = three f in omega arith), (let n = three f in omega arith));
+    bounds = λ _. (refl, sym (three f));
     late = λ _. refl;
     clean = λ _ n. cc;
   },

@@ -151,7 +151,7 @@ module _ {C : Type 0} (units_of : ℕ → List ℕ) (state : C → CodecState) (
         (accounted_after units_of (remainder_of v) src last before.room read (remainder_of (state c)) w.wrote w.progress q (v.pending ++ take read src) (state s.next).pending
         (w.progress.accounted ∙ ap (λ x. bytes_of w.progress.done ++ x) (coming.parts_before state c src read last s e.0 t))) g)
         b (coming.not_late state c src read last s e.0 t) (e.0.replacement b)
-        e.0.len (some_len s e) (subst (AreBounded s.len) (sym k) (e.0.bounds b)) k (room_kept r) (coming.parts_before state c src read last s e.0 t) refl (coming.first_before state c src read last s e.0 t);
+        e.0.len (some_len s e) (subst (AreBounded s.kind s.len) (sym k) (e.0.bounds b)) k (room_kept r) (coming.parts_before state c src read last s e.0 t) refl (coming.first_before state c src read last s e.0 t);
   }
 
   pub reports_with : (s : Shown C) (a : ℕ) → IsComing state c src read last (Next s) → is_malformed s.kind ≡ true → s.takes_byte ≡ true
@@ -170,6 +170,6 @@ module _ {C : Type 0} (units_of : ℕ → List ℕ) (state : C → CodecState) (
             (accounted_further units_of (remainder_of v) src last before.room read (remainder_of (state c)) w.wrote w.progress h.0
             ∙ ap (λ x. bytes_of w.progress.done ++ x) (coming.parts_with state c src read last s e.0 t))) g)
             h.2 b (e.0.replacement b) (e.0.clean t)
-            e.0.len (some_len s e) (subst (AreBounded s.len) (sym k) (e.0.bounds b)) k (room_kept r) h.0 (coming.parts_with state c src read last s e.0 t) refl (coming.first_with state c src read last s e.0 t)
+            e.0.len (some_len s e) (subst (AreBounded s.kind s.len) (sym k) (e.0.bounds b)) k (room_kept r) h.0 (coming.parts_with state c src read last s e.0 t) refl (coming.first_with state c src read last s e.0 t)
             (λ _ d. coming.not_shown_yet units_of v (state c) src last before.room read w.wrote w.progress same h.1 (coming.sequence state c src read last s e.0) d);
       }

@@ -3,15 +3,23 @@ use Rattle.std.proofs.Common.{◌≡◌, ℕ, ◌+◌, ◌<◌, ◌≤◌, true,
 use Rattle.std.proofs.lemmas.List.{length-append}
 use Rattle.std.proofs.lemmas.Bool.{false≢true}
 use Rattle.enc_codec.specs.declared.byte_codec.Kind.{Kind}
+use Rattle.enc_codec.specs.declared.byte_codec.Kind.TheVariants.{Valid, Skipped, Malformed, RepeatedEscape}
 use Rattle.enc_codec.specs.declared.byte_codec.Text.{Text}
 use Rattle.enc_codec.specs.declared.byte_codec.Step.TheVariants.{Show}
 use Rattle.enc_codec.specs.Sequence.{Sequence, is_malformed, is_repeated_escape}
 use Rattle.enc_codec.specs.Segmentation.{sequences_of}
 use Rattle.enc_codec.specs.Remainder.{AreBytes, Begins, IsUndetermined}
 use Rattle.enc_codec.specs.CodecState.{CodecState, remainder_of}
-use Rattle.enc_codec.specs.Call.{AreBounded}
+use Rattle.enc_codec.specs.Call.{AreFew, AreBounded}
 use Rattle.enc_codec.specs.CodecLaw.{chars_of, Comes, Acts, BeginsWith}
 use Rattle.enc_codec.proofs.SegmentationLemmas.{sequences_of-nil}
+
+-- a sequence that is no repeated escape is at most so long, with at most so many bytes behind it
+are_bounded : (kind : Kind) (l a : ℕ) → is_repeated_escape kind ≡ false → AreFew l a → AreBounded kind l a
+are_bounded Valid l a e h = h
+are_bounded Skipped l a e h = h
+are_bounded Malformed l a e h = h
+are_bounded RepeatedEscape l a e h = absurd (false≢true (sym e))
 
 -- what determines nothing
 
@@ -50,7 +58,7 @@ module _ {C : Type 0} (state : C → CodecState) (c next : C) (text : Text) (kin
           first = λ y _. f y;
           same_rule = r;
           replacement = λ w. (m w).0;
-          bounds = λ w. let k = (m w).1 in (k, omega arith, omega arith);
+          bounds = λ w. let k = (m w).1 in are_bounded kind len (length (state next).pending) l (k, omega arith, omega arith);
           late = λ w. absurd (false≢true (sym l ∙ w));
           clean = λ _ _. p;
         },
@@ -60,7 +68,7 @@ module _ {C : Type 0} (state : C → CodecState) (c next : C) (text : Text) (kin
   -- pending bytes are a sequence, and what shows it isn't read; others may stay pending behind them
   pub shows_before : (may_follow : List ℕ → Type 0) (bytes : List ℕ) → (state next).rule ≡ (state c).rule → (state c).pending ≡ bytes ++ (state next).pending
       → len ≡ length bytes → 0 < len → is_repeated_escape kind ≡ false
-      → (is_malformed kind ≡ true → (chars_of text ≡ 0xFFFD ∷ []) × (AreBounded len (length (state next).pending)))
+      → (is_malformed kind ≡ true → (chars_of text ≡ 0xFFFD ∷ []) × (AreFew len (length (state next).pending)))
       → ((y : List ℕ) → may_follow y → (remainder_of (state c)).sequences y
       ≡ record { bytes = bytes; text = chars_of text; kind = kind; set = (state next).set } ∷ (remainder_of (state next)).sequences y)
       → Comes state c may_follow [] (record { text = text; kind = kind; len = len; takes_byte = false; next = next })
@@ -72,7 +80,7 @@ module _ {C : Type 0} (state : C → CodecState) (c next : C) (text : Text) (kin
     first = f;
     same_rule = r;
     replacement = λ w. (m w).0;
-    bounds = λ w. (m w).1;
+    bounds = λ w. are_bounded kind len (length (state next).pending) l (m w).1;
     late = λ w. absurd (false≢true (sym l ∙ w));
     clean = λ t. absurd (false≢true t);
   }
@@ -80,7 +88,7 @@ module _ {C : Type 0} (state : C → CodecState) (c next : C) (text : Text) (kin
   -- the next byte shows it
   pub shows_at : (b : ℕ) (bytes : List ℕ) → (state next).rule ≡ (state c).rule → (state c).pending ≡ bytes ++ (state next).pending
       → len ≡ length bytes → 0 < len → is_repeated_escape kind ≡ false
-      → (is_malformed kind ≡ true → (chars_of text ≡ 0xFFFD ∷ []) × (AreBounded len (length (state next).pending)))
+      → (is_malformed kind ≡ true → (chars_of text ≡ 0xFFFD ∷ []) × (AreFew len (length (state next).pending)))
       → ((z : List ℕ) → (remainder_of (state c)).sequences (b ∷ z)
       ≡ record { bytes = bytes; text = chars_of text; kind = kind; set = (state next).set } ∷ (remainder_of (state next)).sequences (b ∷ z))
       → Acts state c b (Show (record { text = text; kind = kind; len = len; takes_byte = false; next = next }))

@@ -1,7 +1,10 @@
 -- What one call of a decoder does (Encoding Standard 4.1, "process a queue", with a bounded output).
 use Rattle.std.specs.Prelude.{◌≡◌, ℕ, ◌+◌, ◌-◌, ◌<◌, ◌≤◌, ◌⊎◌, Bool, true, false, List, [], ◌∷◌, ◌++◌, length, take, drop}
 use Rattle.enc_codec.specs.declared.decoder_result.DecoderResult.{DecoderResult}
-use Rattle.enc_codec.specs.declared.decoder_result.DecoderResult.TheVariants.{InputEmpty, OutputFull, Malformed}
+use Rattle.enc_codec.specs.declared.decoder_result.DecoderResult.TheVariants.{InputEmpty, OutputFull}
+use Rattle.enc_codec.specs.declared.decoder_result.DecoderResult.TheVariants as stop
+use Rattle.enc_codec.specs.declared.byte_codec.Kind.{Kind}
+use Rattle.enc_codec.specs.declared.byte_codec.Kind.TheVariants.{Valid, Skipped, Malformed, RepeatedEscape}
 use Rattle.enc_units.specs.Output.{Output, appended, units_of_text}
 use Rattle.enc_codec.specs.Sequence.{Sequence, is_malformed, is_repeated_escape, bytes_of, text_of, any_malformed, set_after}
 use Rattle.enc_codec.specs.Remainder.{Remainder, Begins, Determines, AreDetermined}
@@ -42,8 +45,15 @@ ReadsReported true remaining src sequences read pending = ReadsThrough remaining
 ReadsReported false remaining src sequences read pending = ReadsToReport remaining src sequences read pending
 
 -- how long a malformed sequence is, and how many bytes are read behind it, at most
-abbrev pub AreBounded : ℕ → ℕ → Type 0
-AreBounded l a = (l ≤ 4) × (a ≤ 3) × (l + a ≤ 6)
+abbrev pub AreFew : ℕ → ℕ → Type 0
+AreFew l a = (l ≤ 4) × (a ≤ 3) × (l + a ≤ 6)
+
+-- the same, and of a repeated escape just so many
+abbrev pub AreBounded : Kind → ℕ → ℕ → Type 0
+AreBounded Valid l a = AreFew l a
+AreBounded Skipped l a = AreFew l a
+AreBounded Malformed l a = AreFew l a
+AreBounded RepeatedEscape l a = (l ≡ 3) × (a ≡ 3)
 
 -- Everything is read, and no sequence is left that is determined.
 pub record AtInputEmpty (old new : Remainder) (src : List ℕ) (last : Bool) (put done : List Sequence) (read : ℕ) : Type 0 where
@@ -73,7 +83,7 @@ pub record AtMalformed (units_of : ℕ → List ℕ) (old new : Remainder) (src 
   pub len : l ≡ length next.bytes
   pub not_empty : 0 < l
   pub behind : a ≡ length new.pending
-  pub bounds : AreBounded l a
+  pub bounds : AreBounded next.kind l a
   pub room_kept : keeps_room treatment ≡ true → length (units_of_text units_of (text_of put)) + length (units_of 0xFFFD) ≤ room
   pub determined : AreDetermined last old.sequences src done
   -- the bytes read determine nothing behind it
@@ -84,13 +94,13 @@ pub record AtMalformed (units_of : ℕ → List ℕ) (old new : Remainder) (src 
 abbrev pub Stops : (ℕ → List ℕ) → Remainder → Remainder → List ℕ → Bool → Treatment → ℕ → List Sequence → List Sequence → ℕ → DecoderResult → Type 0
 Stops units_of old new src last treatment room put done read InputEmpty = AtInputEmpty old new src last put done read
 Stops units_of old new src last treatment room put done read OutputFull = AtOutputFull units_of old src last treatment room put done read
-Stops units_of old new src last treatment room put done read (Malformed l a) = AtMalformed units_of old new src last treatment room put done read l a
+Stops units_of old new src last treatment room put done read (stop.Malformed l a) = AtMalformed units_of old new src last treatment room put done read l a
 
 -- whether a call has come to the end of the input
 abbrev pub is_end : Bool → DecoderResult → Bool
 is_end last InputEmpty = last
 is_end last OutputFull = false
-is_end last (Malformed l a) = false
+is_end last (stop.Malformed l a) = false
 
 -- A call that is offered src, and with `last` told that nothing follows it, over an output with so much room.
 -- It leaves off the sequences that it has put out, and the one that it reports, from what was still to come,
@@ -101,10 +111,6 @@ pub record Call (units_of : ℕ → List ℕ) (old new : Remainder) (src : List 
   pub within : read ≤ length src
   -- whatever follows the offer
   pub residual : (z : List ℕ) → (last ≡ true → z ≡ []) → old.sequences (src ++ z) ≡ done ++ new.sequences (drop read src ++ z)
-  -- and wherever the sequences that are done come first behind the bytes read, the new state tells the others
-  pub goes_on : (y : List ℕ) → (is_end last result ≡ true → y ≡ []) → Begins done (old.sequences (take read src ++ y)) → old.sequences (take read src ++ y) ≡ done ++ new.sequences y
-  -- the bytes read are those of the sequences and those pending
-  pub accounted : old.pending ++ take read src ≡ bytes_of done ++ new.pending
   pub set : new.set ≡ set_after old.set done
   pub text : wrote ≡ units_of_text units_of (text_of put)
   pub fits : length wrote ≤ room
@@ -112,8 +118,16 @@ pub record Call (units_of : ℕ → List ℕ) (old new : Remainder) (src : List 
   pub none_replaced : is_replaced treatment ≡ false → replaced ≡ false
   pub stops : Stops units_of old new src last treatment room put done read result
 
+-- A call of a decoder that looks for no byte order mark: all bytes are in sequences.
+pub record RawCall (units_of : ℕ → List ℕ) (old new : Remainder) (src : List ℕ) (last : Bool) (treatment : Treatment) (room : ℕ) (result : DecoderResult) (read : ℕ) (wrote : List ℕ) (replaced : Bool) : Type 0 where
+  pub call : Call units_of old new src last treatment room result read wrote replaced
+  -- the bytes read are those of the sequences and those pending
+  pub accounted : old.pending ++ take read src ≡ bytes_of call.done ++ new.pending
+  -- and wherever the sequences that are done come first behind the bytes read, the new state tells the others
+  pub goes_on : (y : List ℕ) → (is_end last result ≡ true → y ≡ []) → Begins call.done (old.sequences (take read src ++ y)) → old.sequences (take read src ++ y) ≡ call.done ++ new.sequences y
+
 -- the same, and what it wrote is appended to an output
 pub record CallInto (units_of : ℕ → List ℕ) (old new : Remainder) (src : List ℕ) (last : Bool) (treatment : Treatment) (before after : Output) (result : DecoderResult) (read : ℕ) (replaced : Bool) : Type 0 where
   pub wrote : List ℕ
   pub onto : after ≡ appended before wrote
-  pub call : Call units_of old new src last treatment before.room result read wrote replaced
+  pub call : RawCall units_of old new src last treatment before.room result read wrote replaced

@@ -33,7 +33,7 @@ pub record Comes {C : Type 0} (state : C → CodecState) (c : C) (may_follow : L
       ≡ record { bytes = bytes; text = chars_of s.text; kind = s.kind; set = (state s.next).set } ∷ (remainder_of (state s.next)).sequences y
   pub same_rule : (state s.next).rule ≡ (state c).rule
   pub replacement : is_malformed s.kind ≡ true → chars_of s.text ≡ 0xFFFD ∷ []
-  pub bounds : is_malformed s.kind ≡ true → AreBounded s.len (length (state s.next).pending)
+  pub bounds : is_malformed s.kind ≡ true → AreBounded s.kind s.len (length (state s.next).pending)
   -- a repeated escape is shown with its byte, and only behind one are bytes pending then
   pub late : is_repeated_escape s.kind ≡ true → s.takes_byte ≡ true
   pub clean : s.takes_byte ≡ true → is_repeated_escape s.kind ≡ false → (state s.next).pending ≡ []

@@ -85,6 +85,7 @@ impl<D: DoubleByte> MultiByte for Double<D> {
 
     ghost reading = { double_byte_reading D.leads D.singles D.pairs };
 
+    #[inline(always)]
     fn read(pending: Pending, byte: u8) -> Reading {
         match pending {
             Pending::Nothing => read_first(D::is_lead(byte), D::single(byte)),

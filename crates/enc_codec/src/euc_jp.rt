@@ -99,6 +99,7 @@ impl MultiByte for EucJp {
 
     ghost reading = { euc_jp_reading };
 
+    #[inline(always)]
     fn read(pending: Pending, byte: u8) -> Reading {
         match pending {
             Pending::Nothing => read_first(is_lead(byte), single(byte)),

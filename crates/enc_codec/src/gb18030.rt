@@ -123,6 +123,7 @@ impl MultiByte for Gb18030 {
 
     ghost reading = { gb18030_reading };
 
+    #[inline(always)]
     fn read(pending: Pending, byte: u8) -> Reading {
         match pending {
             Pending::Nothing => read_first(is_lead(byte), single(byte)),

@@ -59,6 +59,7 @@ fn width<U: Units>(text: Text) -> usize
 }
 
 /// Writes a text, or nothing where it doesn't fit as a whole.
+#[inline(always)]
 fn put_text<U: Units>(out: &mut U, text: Text) -> bool
     ensures fits { result ≡ nat_le (length (units_of_text U.units_of (chars_of text))) (U.output out.old).room }
     ensures written { IsTrue result → U.output out.new ≡ appended (U.output out.old) (units_of_text U.units_of (chars_of text)) }
@@ -75,6 +76,7 @@ fn put_text<U: Units>(out: &mut U, text: Text) -> bool
 }
 
 /// Writes the text of a sequence, or nothing where it is malformed or doesn't fit.
+#[inline(always)]
 fn put_out<U: Units>(out: &mut U, kind: Kind, text: Text) -> bool
     ensures valid { IsTrue result → malformed_kind kind ≡ false }
     ensures fits { IsTrue result → nat_le (length (units_of_text U.units_of (chars_of text))) (U.output out.old).room ≡ true }

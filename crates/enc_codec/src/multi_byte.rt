@@ -58,6 +58,7 @@ impl<E: MultiByte> MultiByteDecoder<E> {
     }
 
     /// What the pending bytes show by themselves. Nothing, where all of them are unfinished.
+    #[inline(always)]
     fn shown_first(self) -> Option<Shown<MultiByteDecoder<E>>>
         ensures shown { IfSome result (λ shown. IsReady (λ d. multi_byte_state E.reading (pending_bytes d.pending)) self (Some shown)) }
         ensures unfinished { IsNone result → AreUnfinished E.reading [] (pending_bytes self.pending) }

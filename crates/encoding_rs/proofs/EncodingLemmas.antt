@@ -1,10 +1,17 @@
--- Which encodings have a text for each sequence.
-use Rattle.std.proofs.Common.{◌≡◌, ◌∙◌, ap, sym, refl, true, false}
-use Rattle.enc_codec.specs.RuleLaws.{HasTexts}
-use Rattle.enc_codec.proofs.Utf8Rule.{utf_8_has_texts}
-use Rattle.enc_codec.proofs.Utf16Rule.{utf_16_has_texts}
-use Rattle.enc_codec.proofs.OneByteLemmas.{one_byte_has_texts}
-use Rattle.enc_codec.proofs.MultiByteRule.{multi_byte_has_texts}
+-- What the rule of each encoding keeps.
+use Rattle.std.proofs.Common.{◌≡◌, ◌∙◌, ap, sym, refl, true, false, inl, inr, ◌⊎◌}
+use Rattle.enc_codec.specs.Segmentation.{Rule}
+use Rattle.enc_codec.specs.RuleLaws.{HasTexts, HasSmallTexts, IsLawful}
+use Rattle.enc_codec.proofs.Utf8Rule.{utf_8_has_texts, utf_8_is_lawful}
+use Rattle.enc_codec.proofs.Utf16Rule.{utf_16_has_texts, utf_16_is_lawful}
+use Rattle.enc_codec.proofs.OneByteLemmas.{one_byte_has_texts, one_byte_is_lawful}
+use Rattle.enc_codec.proofs.MultiByteRule.{multi_byte_has_texts, multi_byte_is_lawful}
+use Rattle.enc_codec.proofs.ReplacementLemmas.{replacement_is_lawful}
+use Rattle.enc_codec.proofs.Iso2022JpRule.{iso_2022_jp_is_lawful}
+use Rattle.enc_codec.specs.OneByte.{one_byte_rule}
+use Rattle.enc_codec.specs.MultiByte.{multi_byte_rule, IsReading}
+use Rattle.enc_codec.specs.declared.multi_byte.Reading.{Reading}
+use Rattle.std.specs.Prelude.{ℕ, Option, List}
 use Rattle.enc_codec.proofs.DoubleByteLemmas.{double_byte_laws}
 use Rattle.enc_codec.proofs.PairLemmas.{big5_pairs, euc_kr_pairs, shift_jis_pairs}
 use Rattle.enc_codec.proofs.EucJpLemmas.{euc_jp_laws}
@@ -14,53 +21,72 @@ use Rattle.encoding_rs.specs.declared.encoding.Id.TheVariants.{Utf8, Ibm866, Iso
 use Rattle.encoding_rs.specs.declared.encoding.Encoding.{Encoding}
 use Rattle.encoding_rs.specs.Encodings.{rule_by_id, rule_of}
 
+-- Its texts are small, its lookahead is short, and each of its sequences has a text, but in two encodings.
+pub record KeepsLaws (may_lack : Type 0) (rule : Rule) : Type 0 where
+  pub lawful : IsLawful rule
+  pub texts : (may_lack → ⊥) → HasTexts rule
+
+one_byte_laws : (may_lack : Type 0) (character : ℕ → Option ℕ) → KeepsLaws may_lack (one_byte_rule character)
+one_byte_laws may_lack character = record { lawful = one_byte_is_lawful character; texts = λ _. one_byte_has_texts character }
+
+multi_byte_laws : (may_lack : Type 0) (reading : List ℕ → Reading) → IsReading reading → KeepsLaws may_lack (multi_byte_rule reading)
+multi_byte_laws may_lack reading h = record { lawful = multi_byte_is_lawful reading h; texts = λ _. multi_byte_has_texts reading h }
+
+abbrev MayLackTexts : Id → Type 0
+MayLackTexts id = (id ≡ Replacement) ⊎ (id ≡ Iso2022Jp)
+
 -- by which encoding it is; the one-byte encodings whatever their indexes have
-pub has_texts_by_id : (id : Id) → (id ≡ Replacement → ⊥) → (id ≡ Iso2022Jp → ⊥) → HasTexts (rule_by_id id)
-has_texts_by_id Utf8 n m = utf_8_has_texts
-has_texts_by_id Ibm866 n m = one_byte_has_texts _
-has_texts_by_id Iso88592 n m = one_byte_has_texts _
-has_texts_by_id Iso88593 n m = one_byte_has_texts _
-has_texts_by_id Iso88594 n m = one_byte_has_texts _
-has_texts_by_id Iso88595 n m = one_byte_has_texts _
-has_texts_by_id Iso88596 n m = one_byte_has_texts _
-has_texts_by_id Iso88597 n m = one_byte_has_texts _
-has_texts_by_id Iso88598 n m = one_byte_has_texts _
-has_texts_by_id Iso88598I n m = one_byte_has_texts _
-has_texts_by_id Iso885910 n m = one_byte_has_texts _
-has_texts_by_id Iso885913 n m = one_byte_has_texts _
-has_texts_by_id Iso885914 n m = one_byte_has_texts _
-has_texts_by_id Iso885915 n m = one_byte_has_texts _
-has_texts_by_id Iso885916 n m = one_byte_has_texts _
-has_texts_by_id Koi8R n m = one_byte_has_texts _
-has_texts_by_id Koi8U n m = one_byte_has_texts _
-has_texts_by_id Macintosh n m = one_byte_has_texts _
-has_texts_by_id Windows874 n m = one_byte_has_texts _
-has_texts_by_id Windows1250 n m = one_byte_has_texts _
-has_texts_by_id Windows1251 n m = one_byte_has_texts _
-has_texts_by_id Windows1252 n m = one_byte_has_texts _
-has_texts_by_id Windows1253 n m = one_byte_has_texts _
-has_texts_by_id Windows1254 n m = one_byte_has_texts _
-has_texts_by_id Windows1255 n m = one_byte_has_texts _
-has_texts_by_id Windows1256 n m = one_byte_has_texts _
-has_texts_by_id Windows1257 n m = one_byte_has_texts _
-has_texts_by_id Windows1258 n m = one_byte_has_texts _
-has_texts_by_id XMacCyrillic n m = one_byte_has_texts _
-has_texts_by_id Gbk n m = multi_byte_has_texts _ gb18030_laws
-has_texts_by_id Gb18030 n m = multi_byte_has_texts _ gb18030_laws
-has_texts_by_id Big5 n m = multi_byte_has_texts _ (double_byte_laws _ _ _ big5_pairs)
-has_texts_by_id EucJp n m = multi_byte_has_texts _ euc_jp_laws
-has_texts_by_id ShiftJis n m = multi_byte_has_texts _ (double_byte_laws _ _ _ shift_jis_pairs)
-has_texts_by_id EucKr n m = multi_byte_has_texts _ (double_byte_laws _ _ _ euc_kr_pairs)
-has_texts_by_id Iso2022Jp n m = absurd (m refl)
-has_texts_by_id Replacement n m = absurd (n refl)
-has_texts_by_id Utf16be n m = utf_16_has_texts true
-has_texts_by_id Utf16le n m = utf_16_has_texts false
-has_texts_by_id XUserDefined n m = one_byte_has_texts _
+laws_by_id : (id : Id) → KeepsLaws (MayLackTexts id) (rule_by_id id)
+laws_by_id Utf8 = record { lawful = utf_8_is_lawful; texts = λ _. utf_8_has_texts }
+laws_by_id Ibm866 = one_byte_laws _ _
+laws_by_id Iso88592 = one_byte_laws _ _
+laws_by_id Iso88593 = one_byte_laws _ _
+laws_by_id Iso88594 = one_byte_laws _ _
+laws_by_id Iso88595 = one_byte_laws _ _
+laws_by_id Iso88596 = one_byte_laws _ _
+laws_by_id Iso88597 = one_byte_laws _ _
+laws_by_id Iso88598 = one_byte_laws _ _
+laws_by_id Iso88598I = one_byte_laws _ _
+laws_by_id Iso885910 = one_byte_laws _ _
+laws_by_id Iso885913 = one_byte_laws _ _
+laws_by_id Iso885914 = one_byte_laws _ _
+laws_by_id Iso885915 = one_byte_laws _ _
+laws_by_id Iso885916 = one_byte_laws _ _
+laws_by_id Koi8R = one_byte_laws _ _
+laws_by_id Koi8U = one_byte_laws _ _
+laws_by_id Macintosh = one_byte_laws _ _
+laws_by_id Windows874 = one_byte_laws _ _
+laws_by_id Windows1250 = one_byte_laws _ _
+laws_by_id Windows1251 = one_byte_laws _ _
+laws_by_id Windows1252 = one_byte_laws _ _
+laws_by_id Windows1253 = one_byte_laws _ _
+laws_by_id Windows1254 = one_byte_laws _ _
+laws_by_id Windows1255 = one_byte_laws _ _
+laws_by_id Windows1256 = one_byte_laws _ _
+laws_by_id Windows1257 = one_byte_laws _ _
+laws_by_id Windows1258 = one_byte_laws _ _
+laws_by_id XMacCyrillic = one_byte_laws _ _
+laws_by_id Gbk = multi_byte_laws _ _ gb18030_laws
+laws_by_id Gb18030 = multi_byte_laws _ _ gb18030_laws
+laws_by_id Big5 = multi_byte_laws _ _ (double_byte_laws _ _ _ big5_pairs)
+laws_by_id EucJp = multi_byte_laws _ _ euc_jp_laws
+laws_by_id ShiftJis = multi_byte_laws _ _ (double_byte_laws _ _ _ shift_jis_pairs)
+laws_by_id EucKr = multi_byte_laws _ _ (double_byte_laws _ _ _ euc_kr_pairs)
+laws_by_id Iso2022Jp = record { lawful = iso_2022_jp_is_lawful; texts = λ n. absurd (n (inr refl)) }
+laws_by_id Replacement = record { lawful = replacement_is_lawful; texts = λ n. absurd (n (inl refl)) }
+laws_by_id Utf16be = record { lawful = utf_16_is_lawful true; texts = λ _. utf_16_has_texts true }
+laws_by_id Utf16le = record { lawful = utf_16_is_lawful false; texts = λ _. utf_16_has_texts false }
+laws_by_id XUserDefined = one_byte_laws _ _
+
+pub small_texts : (e : Encoding) → HasSmallTexts (rule_of e)
+small_texts e = (laws_by_id e.id).lawful.small_texts
 
 abbrev encoding_at : Id → Encoding
 encoding_at id = record { id = id }
 
 pub has_texts : (e replacement iso_2022_jp : Encoding) → replacement.id ≡ Replacement → iso_2022_jp.id ≡ Iso2022Jp
     → (e ≡ replacement → ⊥) → (e ≡ iso_2022_jp → ⊥) → HasTexts (rule_of e)
-has_texts e replacement iso_2022_jp r j n m =
-    has_texts_by_id e.id (λ i. n (ap encoding_at (i ∙ sym r))) (λ i. m (ap encoding_at (i ∙ sym j)))
+has_texts e replacement iso_2022_jp r j n m = (laws_by_id e.id).texts (λ h. elim h [
+  | inl i ↦ n (ap encoding_at (i ∙ sym r))
+  | inr i ↦ m (ap encoding_at (i ∙ sym j))
+])

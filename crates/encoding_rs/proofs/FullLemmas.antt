@@ -1,95 +1,190 @@
 -- What a full output says of a decoder.
-use Rattle.std.proofs.Common.{◌≡◌, ℕ, ◌+◌, ◌-◌, ◌<◌, ◌≤◌, Bool, true, false, List, [], ◌∷◌, ◌++◌, length, take, refl, ap, ◌∙◌, sym, arith, append_assoc, length-append, drop}
+use Rattle.std.proofs.Common.{◌≡◌, ℕ, ◌+◌, ◌-◌, ◌<◌, ◌≤◌, Bool, true, false, List, [], ◌∷◌, ◌++◌, length, take, drop, refl, ap, ◌∙◌, sym, arith, append_assoc, length-append, subst, Option, Some, None}
+use Rattle.std.specs.Prelude.{if◌then◌else◌}
 use Rattle.std.proofs.lemmas.List.{append-nil}
 use Rattle.std.proofs.Math.ListN.{length-take}
 use Rattle.std.specs.Char.{encode_utf8}
+use Rattle.encoding_rs.specs.declared.encoding.Encoding.{Encoding}
+use Rattle.encoding_rs.specs.declared.life_cycle.LifeCycle.{LifeCycle}
+use Rattle.encoding_rs.specs.declared.life_cycle.LifeCycle.TheVariants.{AtStart, AtUtf8Start, AtUtf16BeStart, AtUtf16LeStart, SeenUtf8First, SeenUtf8Second, SeenUtf16BeFirst, SeenUtf16LeFirst, ConvertingWithPendingBb, Converting, Finished}
+use Rattle.enc_codec.specs.declared.decoder_result.DecoderResult.{DecoderResult}
 use Rattle.enc_codec.specs.declared.decoder_result.DecoderResult.TheVariants.{OutputFull}
-use Rattle.enc_units.specs.Output.{units_of_text}
+use Rattle.enc_units.specs.Output.{Output, units_of_text}
 use Rattle.enc_codec.specs.Sequence.{Sequence, bytes_of, text_of, set_after}
 use Rattle.enc_codec.specs.Segmentation.{Rule, sequences_of}
-use Rattle.enc_codec.specs.Remainder.{Remainder, Begins, AreDetermined}
-use Rattle.enc_codec.specs.CodecState.{remainder_of}
-use Rattle.enc_codec.specs.Call.{Call, Treatment}
+use Rattle.enc_codec.specs.Remainder.{Begins, AreDetermined}
+use Rattle.enc_codec.specs.Call.{Treatment, Reported}
 use Rattle.enc_codec.specs.RuleLaws.{HasTexts, HasSmallTexts}
-use Rattle.encoding_rs.specs.declared.encoding.Encoding.{Encoding}
-use Rattle.encoding_rs.specs.Decoding.{IsAsBefore, remaining_sequences}
+use Rattle.enc_codec.specs.Utf8.{utf_8_rule}
+use Rattle.enc_codec.specs.Utf16.{utf_16_rule}
 use Rattle.encoding_rs.specs.Encodings.{rule_of}
-use Rattle.encoding_rs.proofs.DecoderLemmas.{codec_of, state_of, open_remainder}
+use Rattle.encoding_rs.specs.Bom.{Mark, sequences_by, utf_8_mark, utf_16be_mark, utf_16le_mark, find_mark}
+use Rattle.encoding_rs.specs.LifeCycle.{Phase, InFront, Within, Ended, phase_of, awaits_mark, mark_in, mark_bytes, encoding_by, sequences_in, held_bytes, fronts, state_at, state_behind, life_after}
+use Rattle.encoding_rs.specs.Decoding.{DecoderState, has_ended, finished, remaining_sequences, TellsHeld, Decodes, DecodesInto, IsAsBefore}
 use Rattle.enc_codec.proofs.RuleLemmas.{none_without_text, has_bytes, small_text, no_units}
+use Rattle.enc_codec.proofs.SegmentationLemmas.{sequences_of-nil}
+use Rattle.enc_codec.proofs.Utf8Rule.{utf_8_has_texts}
+use Rattle.enc_codec.proofs.Utf16Rule.{utf_16_has_texts}
+use Rattle.encoding_rs.proofs.EncodingLemmas.{small_texts}
+use Rattle.encoding_rs.proofs.TextLemmas.{held_unmarked, marked_sequences}
+use Rattle.encoding_rs.proofs.HeldLemmas.{own_state}
+use Rattle.encoding_rs.proofs.RunLemmas.{ends_at_end}
+
+-- The sequences still to come are those of a rule: the encoding's, or that of a mark.
+record ByRule (P : Rule → Type 0) (sequences : List Sequence) : Type 0 where
+  rule : Rule
+  set : ℕ
+  bytes : List ℕ
+  is : sequences ≡ sequences_of rule set bytes
+  holds : P rule
+
+module _ (P : Rule → Type 0) (utf_8 : P utf_8_rule) (utf_16be : P (utf_16_rule true)) (utf_16le : P (utf_16_rule false)) where
+  abbrev AllHave : List Mark → Type 0
+  AllHave [] = Unit {0}
+  AllHave (m ∷ others) = P (rule_of m.encoding) × AllHave others
+
+  if_found : (b : Bool) (m n : Mark) (other : Option Mark) → P (rule_of m.encoding) → (other ≡ Some n → P (rule_of n.encoding)) → (if b then Some m else other) ≡ Some n → P (rule_of n.encoding)
+  if_found true m n other h k e = subst (λ (x : Mark). P (rule_of x.encoding)) (same m n e) h
+    where
+      same : (x y : Mark) → Some x ≡ Some y → x ≡ y
+      same x y f = cc
+  if_found false m n other h k e = k e
+
+  found : (looked_for : List Mark) (x : List ℕ) (m : Mark) → AllHave looked_for → find_mark looked_for x ≡ Some m → P (rule_of m.encoding)
+  found [] x m h e = cc
+  found (n ∷ others) x m h e = if_found _ n m (find_mark others x) h.0 (λ f. found others x m h.1 f) e
+
+  abbrev PhaseHas : Phase → Type 0
+  PhaseHas (InFront looked_for) = AllHave looked_for
+  PhaseHas Within = Unit {0}
+  PhaseHas Ended = Unit {0}
+
+  phase_has : (life : LifeCycle) → PhaseHas (phase_of life)
+  phase_has AtStart = (utf_8, (utf_16be, (utf_16le, tt)))
+  phase_has AtUtf8Start = (utf_8, tt)
+  phase_has AtUtf16BeStart = (utf_16be, tt)
+  phase_has AtUtf16LeStart = (utf_16le, tt)
+  phase_has SeenUtf8First = (utf_8, (utf_16be, (utf_16le, tt)))
+  phase_has SeenUtf8Second = (utf_8, (utf_16be, (utf_16le, tt)))
+  phase_has SeenUtf16BeFirst = (utf_8, (utf_16be, (utf_16le, tt)))
+  phase_has SeenUtf16LeFirst = (utf_8, (utf_16be, (utf_16le, tt)))
+  phase_has ConvertingWithPendingBb = tt
+  phase_has Converting = tt
+  phase_has Finished = tt
+
+  by_phase : (p : Phase) (e : Encoding) (set : ℕ) (x : List ℕ) → PhaseHas p → P (rule_of e) → ByRule P (sequences_in p e set x)
+  by_phase (InFront looked_for) e set x h k = by_mark (find_mark looked_for x) refl
+    where
+      by_mark : (o : Option Mark) → find_mark looked_for x ≡ o → ByRule P (sequences_in (InFront looked_for) e set x)
+      by_mark None f = record { rule = rule_of e; set = 0; bytes = x; is = ap (λ o. sequences_by o e x) f; holds = k }
+      by_mark (Some m) f = record {
+        rule = rule_of m.encoding;
+        set = 0;
+        bytes = drop (length m.bytes) x;
+        is = marked_sequences (InFront looked_for) e set m x f;
+        holds = found looked_for x m h f;
+      }
+  by_phase Within e set x h k = record { rule = rule_of e; set = set; bytes = x; is = refl; holds = k }
+  by_phase Ended e set x h k = record { rule = rule_of e; set = set; bytes = []; is = sym (sequences_of-nil (rule_of e) set); holds = k }
+
+  by_rule : (d : DecoderState) (y : List ℕ) → P (rule_of d.encoding) → ByRule P (remaining_sequences d y)
+  by_rule d y h = by_phase (phase_of d.life) d.encoding d.set (d.pending ++ y) (phase_has d.life) h
 
 begins_at : (last : Bool) (remaining : List ℕ → List Sequence) (x : List ℕ) (ss : List Sequence) → AreDetermined last remaining x ss → (z : List ℕ) × (Begins ss (remaining z))
 begins_at true remaining x ss d = (x, d)
 begins_at false remaining x ss d = (x ++ [], d [] tt)
 
-module _ (rule : Rule) (s t : ℕ) (p q : List ℕ) (src : List ℕ) (last : Bool) (treatment : Treatment) (room read : ℕ) (wrote : List ℕ) (replaced : Bool)
-    (c : Call encode_utf8 (remainder_of (codec_of rule s p)) (remainder_of (codec_of rule t q)) src last treatment room OutputFull read wrote replaced) where
-  -- the sequences done and the next one, at the front of some input
-  front : (z : List ℕ) × (Begins (c.done ++ c.stops.next ∷ []) (sequences_of rule s z))
-  front = let f = begins_at last (remainder_of (codec_of rule s p)).sequences src (c.done ++ c.stops.next ∷ []) c.stops.determined in (p ++ f.0, f.1)
+no_length : (x : List ℕ) → length x ≡ 0 → x ≡ []
+no_length [] h = refl
+no_length (a ∷ x) h = absurd (omega arith)
 
-  cut : sequences_of rule s front.0 ≡ c.done ++ c.stops.next ∷ front.1.0
-  cut = front.1.1 ∙ append_assoc c.done (c.stops.next ∷ []) front.1.0
+-- the bytes pending are no mark
+own_unmarked : (p : Phase) (pending held : List ℕ) → mark_in p (held ++ []) ≡ None → (awaits_mark p ≡ true → pending ≡ held) → mark_in p pending ≡ None
+own_unmarked (InFront looked_for) pending held h f = ap (find_mark looked_for) (f refl ∙ sym (append-nil held)) ∙ h
+own_unmarked Within pending held h f = refl
+own_unmarked Ended pending held h f = refl
 
-  done_text : wrote ≡ units_of_text encode_utf8 (text_of c.done)
-  done_text = c.text ∙ ap (λ x. units_of_text encode_utf8 (text_of x)) (sym c.stops.only_put)
+same_state : (a b : DecoderState) → a.encoding ≡ b.encoding → a.life ≡ b.life → a.set ≡ b.set → a.pending ≡ b.pending → a ≡ b
+same_state a b e l s p =
+    let made : Encoding → LifeCycle → ℕ → List ℕ → DecoderState = λ w x y z. record { encoding = w; life = x; set = y; pending = z } in
+    ap (λ w. made w a.life a.set a.pending) e ∙ ap (λ x. made b.encoding x a.set a.pending) l ∙ ap (λ y. made b.encoding b.life y a.pending) s ∙ ap (made b.encoding b.life b.set) p
 
-  no_length : (x : List ℕ) → length x ≡ 0 → x ≡ []
-  no_length [] h = refl
-  no_length (a ∷ x) h = absurd (omega arith)
-
+module _ (treatment : Treatment) (old new : DecoderState) (src : List ℕ) (last : Bool) (room read : ℕ) (wrote : List ℕ) (replaced : Bool)
+    (d : Decodes encode_utf8 treatment old new src last room OutputFull read wrote replaced) where
   -- where nothing is written, nothing that has a text is done
-  pub no_text : length wrote ≡ 0 → text_of c.done ≡ []
-  no_text w = no_units (text_of c.done) (sym done_text ∙ no_length wrote w)
-
-  -- where nothing is read, what is done was pending
-  pub was_pending : read ≡ 0 → p ≡ bytes_of c.done ++ q
-  was_pending r = sym (append-nil p) ∙ ap (λ n. p ++ take n src) (sym r) ∙ c.accounted
-
-  pub none_done : HasTexts rule → length wrote ≡ 0 → c.done ≡ []
-  none_done has w = none_without_text rule has s front.0 c.done (c.stops.next ∷ front.1.0) cut (no_text w)
-
-  pub same_pending : HasTexts rule → read ≡ 0 → length wrote ≡ 0 → q ≡ p
-  same_pending has r w = sym (was_pending r ∙ ap (λ x. bytes_of x ++ q) (none_done has w))
-
-  pub same_set : HasTexts rule → length wrote ≡ 0 → t ≡ s
-  same_set has w = c.set ∙ ap (set_after s) (none_done has w)
+  no_text : length wrote ≡ 0 → text_of d.call.done ≡ []
+  no_text w = ap text_of d.call.stops.only_put ∙ no_units (text_of d.call.put) (sym d.call.text ∙ no_length wrote w)
 
   -- With room for four units something is done: fewer bytes are pending or unread.
-  pub less_at_hand : HasSmallTexts rule → 4 ≤ room → length q + (length src - read) < length p + length src
-  less_at_hand small h =
-      let e = ap length (c.accounted) in let f = length-append p (take read src) in let g = length-append (bytes_of c.done) q in let k = length-take read src in
-      let d : 0 < length (bytes_of c.done) = some_done c.done front.1.0 cut c.stops.full in
-      omega (arith, c.within)
+  pub less_at_hand : 4 ≤ room → length new.pending + (length src - read) < length old.pending + length src
+  less_at_hand h =
+      let b = begins_at last (remaining_sequences old) src (d.call.done ++ d.call.stops.next ∷ []) d.call.stops.determined in
+      let r = by_rule HasSmallTexts (small_texts utf_8_mark.encoding) (small_texts utf_16be_mark.encoding) (small_texts utf_16le_mark.encoding) old b.0 (small_texts old.encoding) in
+      let cut : sequences_of r.rule r.set r.bytes ≡ d.call.done ++ d.call.stops.next ∷ b.1.0 = sym r.is ∙ b.1.1 ∙ append_assoc d.call.done (d.call.stops.next ∷ []) b.1.0 in
+      let some = some_done r.rule r.holds r.set r.bytes d.call.done b.1.0 cut
+      d.call.stops.full in
+      let x : List ℕ = mark_bytes (mark_in (phase_of old.life) (old.pending ++ take read src)) in
+      let e = ap length d.accounted in let f = length-append old.pending (take read src) in let g = length-append x (bytes_of d.call.done ++ new.pending) in
+      let i = length-append (bytes_of d.call.done) new.pending in let k = length-take read src in let m = d.call.within in
+      omega arith
     where
-      some_done : (done rest : List Sequence) → sequences_of rule s front.0 ≡ done ++ c.stops.next ∷ rest
-          → room < length (units_of_text encode_utf8 (text_of done)) + length (units_of_text encode_utf8 c.stops.next.text) → 0 < length (bytes_of done)
-      some_done [] rest e f = let g = small_text rule small s front.0 [] c.stops.next rest e in absurd (omega arith)
-      some_done (x ∷ done) rest e f = let g = has_bytes rule s front.0 [] x (done ++ c.stops.next ∷ rest) e in let l = length-append x.bytes (bytes_of done) in omega arith
+      some_done : (rule : Rule) → HasSmallTexts rule → (set : ℕ) (z : List ℕ) (done rest : List Sequence) → sequences_of rule set z ≡ done ++ d.call.stops.next ∷ rest
+          → room < length (units_of_text encode_utf8 (text_of done)) + length (units_of_text encode_utf8 d.call.stops.next.text) → 0 < length (bytes_of done)
+      some_done rule small set z [] rest e f = let g = small_text rule small set z [] d.call.stops.next rest e in absurd (omega arith)
+      some_done rule small set z (x ∷ done) rest e f = let g = has_bytes rule set z [] x (done ++ d.call.stops.next ∷ rest) e in let l = length-append x.bytes (bytes_of done) in omega arith
 
--- What a call that stops for want of room leaves of a decoder.
-module _ (rule : Rule) (e : Encoding) (f g : Bool) (s t : ℕ) (p q : List ℕ) (src : List ℕ) (last : Bool) (treatment : Treatment) (room read : ℕ) (wrote : List ℕ) (replaced : Bool)
-    (c : Call encode_utf8 (remainder_of (codec_of rule s p)) (remainder_of (codec_of rule t q)) src last treatment room OutputFull read wrote replaced)
-    (fresh : f ≡ false) (unended : g ≡ false) where
-  -- what is still to come of the decoder, by its codec
-  still_to_come : (h : Bool) (n : ℕ) (b y : List ℕ) → rule_of e ≡ rule → h ≡ false
-      → (remainder_of (codec_of rule n b)).sequences y ≡ remaining_sequences (state_of e h n b) y
-  still_to_come h n b y same o = ap (λ (x : Remainder). x.sequences y) (open_remainder rule e h n b same o)
+  -- where each sequence has a text, nothing is done where nothing is written
+  none_done : HasTexts (rule_of old.encoding) → length wrote ≡ 0 → d.call.done ≡ []
+  none_done has w =
+      let r = by_rule HasTexts utf_8_has_texts (utf_16_has_texts true) (utf_16_has_texts false) old (src ++ []) has in
+      none_without_text r.rule r.holds r.set r.bytes d.call.done (remaining_sequences new (drop read src ++ [])) (sym r.is ∙ d.call.residual [] (λ _. refl)) (no_text w)
 
-  pub as_before : rule_of e ≡ rule → read ≡ 0 → length wrote ≡ 0 → IsAsBefore src last (state_of e f s p) (state_of e g t q)
-  as_before same r w = record {
-    skipped = c.done;
-    no_text = no_text rule s t p q src last treatment room read wrote replaced c w;
-    come_first = λ z l. sym (still_to_come f s p (src ++ z) same fresh) ∙ c.residual z l
-        ∙ ap (λ n. c.done ++ (remainder_of (codec_of rule t q)).sequences (drop n src ++ z)) r
-        ∙ ap (λ x. c.done ++ x) (still_to_come g t q (src ++ z) same unended);
-    pending = was_pending rule s t p q src last treatment room read wrote replaced c r;
-    set = c.set;
-    encoding = refl;
-    finished = unended ∙ sym fresh;
+-- A call that stops for want of room, and has read nothing and written nothing.
+module _ (treatment : Treatment) (old new : DecoderState) (tells : TellsHeld old) (going : finished old ≡ false) (src : List ℕ) (last : Bool) (room read : ℕ) (wrote : List ℕ) (replaced : Bool)
+    (d : Decodes encode_utf8 treatment old new src last room OutputFull read wrote replaced) (r : read ≡ 0) (w : length wrote ≡ 0) where
+  none_read : old.pending ++ take read src ≡ old.pending
+  none_read = ap (λ n. old.pending ++ take n src) r ∙ append-nil old.pending
+
+  unmarked : mark_in (phase_of old.life) (old.pending ++ take read src) ≡ None
+  unmarked = ap (mark_in (phase_of old.life)) none_read ∙ own_unmarked (phase_of old.life) old.pending (held_bytes old.life) (held_unmarked old.life) tells.in_front
+
+  was_pending : old.pending ≡ bytes_of d.call.done ++ new.pending
+  was_pending = sym none_read ∙ d.accounted ∙ ap (λ o. mark_bytes o ++ (bytes_of d.call.done ++ new.pending)) unmarked
+
+  same_encoding : new.encoding ≡ old.encoding
+  same_encoding = d.encoding ∙ ap (λ o. encoding_by o old.encoding) unmarked
+
+  same_by_done : d.call.done ≡ [] → new ≡ old
+  same_by_done f = same_state new old same_encoding
+      (d.life ∙ ap (λ x. life_after old.life false x d.call.done) none_read ∙ ap (state_behind (state_at (fronts old.life) old.pending)) f ∙ own_state old.life old.pending going tells.in_front tells.behind)
+      (d.call.set ∙ ap (set_after old.set) f) (sym (was_pending ∙ ap (λ x. bytes_of x ++ new.pending) f))
+
+  pub as_before : IsAsBefore src last old new
+  as_before = record {
+    skipped = d.call.done;
+    no_text = no_text treatment old new src last room read wrote replaced d w;
+    come_first = λ z l. d.call.residual z l ∙ ap (λ n. d.call.done ++ remaining_sequences new (drop n src ++ z)) r;
+    pending = was_pending;
+    set = d.call.set;
+    encoding = same_encoding;
+    unfinished = ap has_ended d.life ∙ ends_at_end old.life false (old.pending ++ take read src) d.call.done;
+    same = same_by_done;
   }
 
-  pub same_state : HasTexts rule → read ≡ 0 → length wrote ≡ 0 → state_of e g t q ≡ state_of e f s p
-  same_state has r w =
-      let h = same_pending rule s t p q src last treatment room read wrote replaced c has r w in
-      let i = same_set rule s t p q src last treatment room read wrote replaced c has w in
-      cc
+  pub just_the_same : HasTexts (rule_of old.encoding) → new ≡ old
+  just_the_same has = same_by_done (none_done treatment old new src last room read wrote replaced d has w)
+
+-- A call over a slice that is empty as yet.
+pub over_slice : (treatment : Treatment) (old new : DecoderState) (src : List ℕ) (last : Bool) (before after : Output) (result : DecoderResult) (read : ℕ) (replaced : Bool) (text : List ℕ) (room : ℕ)
+    → DecodesInto encode_utf8 treatment old new src last before after result read replaced → before.written ≡ [] → before.room ≡ room → after.written ≡ text
+    → Decodes encode_utf8 treatment old new src last room result read text replaced
+over_slice treatment old new src last before after result read replaced text room c w r a =
+    let e : c.wrote ≡ text = sym (ap (λ x. x ++ c.wrote) w) ∙ sym (ap (λ (o : Output). o.written) c.onto) ∙ a in
+    subst (λ x. Decodes encode_utf8 treatment old new src last room result read x replaced) e
+    (subst (λ n. Decodes encode_utf8 treatment old new src last n result read c.wrote replaced) r c.decodes)
+
+-- a call that reports replaces nothing
+pub reports : (old new : DecoderState) (src : List ℕ) (last : Bool) (room : ℕ) (result : DecoderResult) (read : ℕ) (wrote : List ℕ) (replaced : Bool)
+    → Decodes encode_utf8 (Reported false) old new src last room result read wrote replaced → Decodes encode_utf8 (Reported false) old new src last room result read wrote false
+reports old new src last room result read wrote replaced d =
+    subst (λ b. Decodes encode_utf8 (Reported false) old new src last room result read wrote b) (d.call.none_replaced refl) d

@@ -1,8 +1,14 @@
 pub mod Turns
 pub mod ReplacingLemmas
-pub mod DecoderLemmas
+pub mod CarryLemmas
+pub mod JoinLemmas
+pub mod TextLemmas
+pub mod HeldLemmas
+pub mod BehindLemmas
 pub mod FullLemmas
 pub mod RunLemmas
 pub mod EncodingLemmas
 pub mod LabelLemmas
 pub mod WellFormedLemmas
+pub mod FrontLemmas
+pub mod SettledLemmas

@@ -7,7 +7,7 @@ use Rattle.enc_codec.specs.declared.decoder_result.DecoderResult.TheVariants.{In
 use Rattle.enc_units.specs.Output.{Output, appended}
 use Rattle.enc_codec.specs.Sequence.{bytes_of}
 use Rattle.enc_codec.specs.Remainder.{Remainder, AreBytes}
-use Rattle.enc_codec.specs.Call.{Call, CallInto, Replaced, Reported}
+use Rattle.enc_codec.specs.Call.{RawCall, CallInto, Replaced, Reported}
 use Rattle.enc_codec.proofs.SequenceLemmas.{bytes_of-one}
 use Rattle.enc_units.proofs.OutputLemmas.{appended-nil, appended-appended, room_left}
 use Rattle.encoding_rs.proofs.Turns as turns
@@ -34,9 +34,9 @@ at_hand old new src bytes next n e h s =
 
 module _ (units_of : ℕ → List ℕ) (old : Remainder) (src : List ℕ) (bytes : AreBytes src) (last : Bool) (before after : Output) (read : ℕ) (now : Remainder) (replaced : Bool)
     (t : Turning units_of old src last before after read now replaced) where
-  room_at : {result : DecoderResult} (new : Remainder) (n : ℕ) (more : List ℕ) → Call units_of now new (drop read src) last (Reported true) after.room result n more false
-      → Call units_of now new (drop read src) last (Reported true) (before.room - length t.wrote) result n more false
-  room_at {result} new n more c = subst (λ r. Call units_of now new (drop read src) last (Reported true) r result n more false) (room_left before after t.wrote t.onto) c
+  room_at : {result : DecoderResult} (new : Remainder) (n : ℕ) (more : List ℕ) → RawCall units_of now new (drop read src) last (Reported true) after.room result n more false
+      → RawCall units_of now new (drop read src) last (Reported true) (before.room - length t.wrote) result n more false
+  room_at {result} new n more c = subst (λ r. RawCall units_of now new (drop read src) last (Reported true) r result n more false) (room_left before after t.wrote t.onto) c
 
   onto_on : (then : Output) (more : List ℕ) → then ≡ appended after more → then ≡ appended before (t.wrote ++ more)
   onto_on then more e = e ∙ ap (λ o. appended o more) t.onto ∙ appended-appended before t.wrote more
@@ -61,7 +61,7 @@ module _ (units_of : ℕ → List ℕ) (old : Remainder) (src : List ℕ) (bytes
     -- there is room for U+FFFD
     pub fits : nat_le (length (units_of 0xFFFD)) then.room ≡ true
     fits =
-        let e = room_left after then c.wrote c.onto in let f = ap length c.call.text in let g = c.call.stops.room_kept refl in
+        let e = room_left after then c.wrote c.onto in let f = ap length c.call.call.text in let g = c.call.call.stops.room_kept refl in
         fits_then (length (units_of 0xFFFD)) then.room (omega arith)
 
     pub replaces : (end : Output) → end ≡ appended then (units_of 0xFFFD) → Turning units_of old src last before end (read + n) new true
@@ -73,8 +73,8 @@ module _ (units_of : ℕ → List ℕ) (old : Remainder) (src : List ℕ) (bytes
 
     pub falls : length new.pending + (length src - (read + n)) < length now.pending + (length src - read)
     falls =
-        let s = c.call.stops in
-        let e = ap (λ x. x ++ new.pending) (ap bytes_of s.then_next ∙ bytes_of-one c.call.put s.next) in
-        let h = at_hand now.pending new.pending (drop read src) (bytes_of c.call.put) s.next.bytes n (c.call.accounted ∙ e) c.call.within (let f = s.not_empty in let g = s.len in omega arith) in
+        let s = c.call.call.stops in
+        let e = ap (λ x. x ++ new.pending) (ap bytes_of s.then_next ∙ bytes_of-one c.call.call.put s.next) in
+        let h = at_hand now.pending new.pending (drop read src) (bytes_of c.call.call.put) s.next.bytes n (c.call.accounted ∙ e) c.call.call.within (let f = s.not_empty in let g = s.len in omega arith) in
         let i = length-drop read src in
         omega (arith, t.turned.within)

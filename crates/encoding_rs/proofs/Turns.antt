@@ -6,7 +6,7 @@ use Rattle.enc_codec.specs.declared.decoder_result.DecoderResult.TheVariants.{In
 use Rattle.enc_units.specs.Output.{units_of_text}
 use Rattle.enc_codec.specs.Sequence.{Sequence, bytes_of, text_of, is_malformed, is_repeated_escape, any_malformed, set_after}
 use Rattle.enc_codec.specs.Remainder.{Remainder, AreBytes, Begins, Determines, AreDetermined}
-use Rattle.enc_codec.specs.Call.{Call, Replaced, Reported, ReadsReported}
+use Rattle.enc_codec.specs.Call.{RawCall, Replaced, Reported, ReadsReported}
 use Rattle.enc_codec.proofs.SequenceLemmas.{bytes_of-append, units-append, any_malformed-append, set_after-append, units-one, or_false, or_true}
 use Rattle.enc_codec.proofs.DeterminedLemmas.{begins_behind, determines_fewer}
 use Rattle.enc_codec.proofs.ByteLemmas.{bytes-append, bytes-take, bytes-drop, determines_by_more}
@@ -183,87 +183,91 @@ module _ (units_of : ℕ → List ℕ) (old : Remainder) (src : List ℕ) (bytes
   within_on n h = let e = length-drop read src in omega (arith, t.within)
 
   -- the last call comes to the end of the offer
-  pub empties : (new : Remainder) (n : ℕ) (more : List ℕ) → Call units_of now new rest last (Reported true) (room - length wrote) InputEmpty n more false
-      → Call units_of old new src last Replaced room InputEmpty (read + n) (wrote ++ more) replaced
+  pub empties : (new : Remainder) (n : ℕ) (more : List ℕ) → RawCall units_of now new rest last (Reported true) (room - length wrote) InputEmpty n more false
+      → RawCall units_of old new src last Replaced room InputEmpty (read + n) (wrote ++ more) replaced
   empties new n more c =
-      let same : c.done ≡ c.put = c.stops.only_put in
+      let same : c.call.done ≡ c.call.put = c.call.stops.only_put in
       record {
-        put = t.done ++ c.put;
-        done = t.done ++ c.done;
-        within = within_on n c.within;
-        residual = residual_on new n c.done c.residual;
-        goes_on = goes_on_behind new n c.done last c.goes_on;
-        accounted = accounted_on new n c.done c.accounted;
-        set = set_on new c.done c.set;
-        text = text_on more c.put c.text;
-        fits = fits_on more c.fits;
-        flag = flag_on c.put c.flag;
-        none_replaced = λ e. cc;
-        stops = record {
-          only_put = ap (λ x. t.done ++ x) same;
-          all_read = let e = length-drop read src in let f = c.stops.all_read in omega (arith, t.within);
-          none_determined = λ l s d. c.stops.none_determined l s (λ z b.
-              off (rest ++ z) (c.done ++ s ∷ []) (subst (λ x. Begins (t.done ++ (c.done ++ s ∷ [])) (old.sequences x)) (sym (whole z))
-              (subst (λ x. Begins x (old.sequences (src ++ z))) (append_assoc t.done c.done (s ∷ [])) (d z b))));
-          none_left = c.stops.none_left;
-          none_pending = c.stops.none_pending;
+        call = record {
+          put = t.done ++ c.call.put;
+          done = t.done ++ c.call.done;
+          within = within_on n c.call.within;
+          residual = residual_on new n c.call.done c.call.residual;
+          set = set_on new c.call.done c.call.set;
+          text = text_on more c.call.put c.call.text;
+          fits = fits_on more c.call.fits;
+          flag = flag_on c.call.put c.call.flag;
+          none_replaced = λ e. cc;
+          stops = record {
+            only_put = ap (λ x. t.done ++ x) same;
+            all_read = let e = length-drop read src in let f = c.call.stops.all_read in omega (arith, t.within);
+            none_determined = λ l s d. c.call.stops.none_determined l s (λ z b.
+                off (rest ++ z) (c.call.done ++ s ∷ []) (subst (λ x. Begins (t.done ++ (c.call.done ++ s ∷ [])) (old.sequences x)) (sym (whole z))
+                (subst (λ x. Begins x (old.sequences (src ++ z))) (append_assoc t.done c.call.done (s ∷ [])) (d z b))));
+            none_left = c.call.stops.none_left;
+            none_pending = c.call.stops.none_pending;
+          };
         };
+        accounted = accounted_on new n c.call.done c.accounted;
+        goes_on = goes_on_behind new n c.call.done last c.goes_on;
       }
 
   -- the last call stops for want of room
-  pub fills : (new : Remainder) (n : ℕ) (more : List ℕ) → Call units_of now new rest last (Reported true) (room - length wrote) OutputFull n more false
-      → Call units_of old new src last Replaced room OutputFull (read + n) (wrote ++ more) replaced
+  pub fills : (new : Remainder) (n : ℕ) (more : List ℕ) → RawCall units_of now new rest last (Reported true) (room - length wrote) OutputFull n more false
+      → RawCall units_of old new src last Replaced room OutputFull (read + n) (wrote ++ more) replaced
   fills new n more c =
-      let same : c.done ≡ c.put = c.stops.only_put in
-      let next = c.stops.next in
-      let behind : t.done ++ (c.done ++ next ∷ []) ≡ (t.done ++ c.done) ++ next ∷ [] = sym (append_assoc t.done c.done (next ∷ [])) in
+      let same : c.call.done ≡ c.call.put = c.call.stops.only_put in
+      let next = c.call.stops.next in
+      let behind : t.done ++ (c.call.done ++ next ∷ []) ≡ (t.done ++ c.call.done) ++ next ∷ [] = sym (append_assoc t.done c.call.done (next ∷ [])) in
       record {
-        put = t.done ++ c.put;
-        done = t.done ++ c.done;
-        within = within_on n c.within;
-        residual = residual_on new n c.done c.residual;
-        goes_on = goes_on_behind new n c.done false c.goes_on;
-        accounted = accounted_on new n c.done c.accounted;
-        set = set_on new c.done c.set;
-        text = text_on more c.put c.text;
-        fits = fits_on more c.fits;
-        flag = flag_on c.put c.flag;
-        none_replaced = λ e. cc;
-        stops = record {
-          only_put = ap (λ x. t.done ++ x) same;
-          next = next;
-          determined = subst (λ x. AreDetermined last old.sequences src x) behind (determined_on last (c.done ++ next ∷ []) t.determined c.stops.determined);
-          not_reported = λ e. cc;
-          full = still_full room (length wrote) (length (units_of_text units_of (text_of c.done))) (length (units_of_text units_of next.text)) t.fits
-              (sym (ap length (text_on (units_of_text units_of (text_of c.done)) c.done refl)) ∙ length-append wrote (units_of_text units_of (text_of c.done))) c.stops.full;
-          reads = record {
-            not_shown = not_shown_on n c.done next c.stops.reads.not_shown;
-            shown_next = λ h. subst (λ x. Determines old.sequences (take (read + n + 1) src) x) behind
-                (shown_on n (c.done ++ next ∷ []) (omega arith) (c.stops.reads.shown_next (let e = length-drop read src in omega arith)));
+        call = record {
+          put = t.done ++ c.call.put;
+          done = t.done ++ c.call.done;
+          within = within_on n c.call.within;
+          residual = residual_on new n c.call.done c.call.residual;
+          set = set_on new c.call.done c.call.set;
+          text = text_on more c.call.put c.call.text;
+          fits = fits_on more c.call.fits;
+          flag = flag_on c.call.put c.call.flag;
+          none_replaced = λ e. cc;
+          stops = record {
+            only_put = ap (λ x. t.done ++ x) same;
+            next = next;
+            determined = subst (λ x. AreDetermined last old.sequences src x) behind (determined_on last (c.call.done ++ next ∷ []) t.determined c.call.stops.determined);
+            not_reported = λ e. cc;
+            full = still_full room (length wrote) (length (units_of_text units_of (text_of c.call.done))) (length (units_of_text units_of next.text)) t.fits
+                (sym (ap length (text_on (units_of_text units_of (text_of c.call.done)) c.call.done refl)) ∙ length-append wrote (units_of_text units_of (text_of c.call.done))) c.call.stops.full;
+            reads = record {
+              not_shown = not_shown_on n c.call.done next c.call.stops.reads.not_shown;
+              shown_next = λ h. subst (λ x. Determines old.sequences (take (read + n + 1) src) x) behind
+                  (shown_on n (c.call.done ++ next ∷ []) (omega arith) (c.call.stops.reads.shown_next (let e = length-drop read src in omega arith)));
+            };
           };
         };
+        accounted = accounted_on new n c.call.done c.accounted;
+        goes_on = goes_on_behind new n c.call.done false c.goes_on;
       }
 
   -- the last call reports a malformed sequence, and U+FFFD is put out for it
-  pub replaces : (new : Remainder) (n l a : ℕ) (more : List ℕ) → Call units_of now new rest last (Reported true) (room - length wrote) (Malformed l a) n more false
+  pub replaces : (new : Remainder) (n l a : ℕ) (more : List ℕ) → RawCall units_of now new rest last (Reported true) (room - length wrote) (Malformed l a) n more false
       → Turned units_of old src last room (read + n) new ((wrote ++ more) ++ units_of 0xFFFD) true
   replaces new n l a more c =
-      let m = c.stops in
+      let m = c.call.stops in
       record {
-        done = t.done ++ c.done;
-        within = within_on n c.within;
-        residual = residual_on new n c.done c.residual;
-        goes_on = λ y b. goes_on_behind new n c.done false c.goes_on y (λ e. absurd (false≢true e)) b;
-        accounted = accounted_on new n c.done c.accounted;
-        set = set_on new c.done c.set;
-        text = append_assoc wrote more (units_of 0xFFFD) ∙ text_on (more ++ units_of 0xFFFD) c.done
-            (ap (λ x. x ++ units_of 0xFFFD) c.text ∙ ap (λ x. units_of_text units_of (text_of c.put) ++ x) (sym (append-nil (units_of 0xFFFD)) ∙ ap (units_of_text units_of) (sym m.replacement))
-            ∙ sym (units-one units_of c.put m.next) ∙ ap (λ x. units_of_text units_of (text_of x)) (sym m.then_next));
-        fits = let e = ap length c.text in let k = m.room_kept refl in let f = t.fits in
+        done = t.done ++ c.call.done;
+        within = within_on n c.call.within;
+        residual = residual_on new n c.call.done c.call.residual;
+        goes_on = λ y b. goes_on_behind new n c.call.done false c.goes_on y (λ e. absurd (false≢true e)) b;
+        accounted = accounted_on new n c.call.done c.accounted;
+        set = set_on new c.call.done c.call.set;
+        text = append_assoc wrote more (units_of 0xFFFD) ∙ text_on (more ++ units_of 0xFFFD) c.call.done
+            (ap (λ x. x ++ units_of 0xFFFD) c.call.text ∙ ap (λ x. units_of_text units_of (text_of c.call.put) ++ x) (sym (append-nil (units_of 0xFFFD)) ∙ ap (units_of_text units_of) (sym m.replacement))
+            ∙ sym (units-one units_of c.call.put m.next) ∙ ap (λ x. units_of_text units_of (text_of x)) (sym m.then_next));
+        fits = let e = ap length c.call.text in let k = m.room_kept refl in let f = t.fits in
             rw (length-append (wrote ++ more) (units_of 0xFFFD), length-append wrote more) (omega arith);
-        flag = sym (any_malformed-append t.done c.done ∙ ap (λ b. any_malformed t.done || b) (ap any_malformed m.then_next ∙ any_malformed-last c.put m.next m.malformed)
+        flag = sym (any_malformed-append t.done c.call.done ∙ ap (λ b. any_malformed t.done || b) (ap any_malformed m.then_next ∙ any_malformed-last c.call.put m.next m.malformed)
             ∙ or_true (any_malformed t.done));
-        determined = determined_on last c.done t.determined m.determined;
-        shown_next = λ h. shown_on n c.done (omega arith) (reads_next (is_repeated_escape m.next.kind) now.sequences rest c.done n new.pending (bytes-drop read src bytes) m.reads (let e = length-drop read src in omega arith));
-        none_behind = none_behind_on n c.done m.none_behind;
+        determined = determined_on last c.call.done t.determined m.determined;
+        shown_next = λ h. shown_on n c.call.done (omega arith) (reads_next (is_repeated_escape m.next.kind) now.sequences rest c.call.done n new.pending (bytes-drop read src bytes) m.reads (let e = length-drop read src in omega arith));
+        none_behind = none_behind_on n c.call.done m.none_behind;
       }

@@ -1,13 +1,55 @@
 -- Byte order marks (Encoding Standard 6, "BOM sniff").
-use Rattle.std.specs.Prelude.{ℕ, if◌then◌else◌, List, [], ◌∷◌, nat_eq, Option, Some, None}
+use Rattle.std.specs.Prelude.{ℕ, if◌then◌else◌, List, [], ◌∷◌, length, drop, nat_eq, Option, Some, None, option_map}
 use Rattle.std.specs.List.{starts_with}
+use Rattle.enc_codec.specs.Sequence.{Sequence}
+use Rattle.enc_codec.specs.Segmentation.{sequences_of}
+use Rattle.encoding_rs.specs.declared.encoding.Id.{Id}
 use Rattle.encoding_rs.specs.declared.encoding.Id.TheVariants.{Utf8, Utf16be, Utf16le}
 use Rattle.encoding_rs.specs.declared.encoding.Encoding.{Encoding}
+use Rattle.encoding_rs.specs.declared.bom.BomHandling.{BomHandling}
+use Rattle.encoding_rs.specs.declared.bom.BomHandling.TheVariants.{Off, Sniff, Remove}
+use Rattle.encoding_rs.specs.Encodings.{rule_of}
+
+-- a byte order mark, and the encoding that it tells
+pub record Mark : Type 0 where
+  pub bytes : List ℕ
+  pub encoding : Encoding
+
+abbrev pub utf_8_mark : Mark
+utf_8_mark = record { bytes = 0xEF ∷ 0xBB ∷ 0xBF ∷ []; encoding = record { id = Utf8 } }
+
+abbrev pub utf_16be_mark : Mark
+utf_16be_mark = record { bytes = 0xFE ∷ 0xFF ∷ []; encoding = record { id = Utf16be } }
+
+abbrev pub utf_16le_mark : Mark
+utf_16le_mark = record { bytes = 0xFF ∷ 0xFE ∷ []; encoding = record { id = Utf16le } }
+
+abbrev pub marks : List Mark
+marks = utf_8_mark ∷ utf_16be_mark ∷ utf_16le_mark ∷ []
+
+-- which of these marks the bytes begin with
+abbrev pub find_mark : List Mark → List ℕ → Option Mark
+find_mark [] bytes = None
+find_mark (m ∷ others) bytes = if starts_with nat_eq bytes m.bytes then Some m else find_mark others bytes
 
 -- The encoding whose byte order mark stands at the start, and the length of the mark, if one does.
 abbrev pub bom_of : List ℕ → Option (Encoding × ℕ)
-bom_of bytes =
-    if starts_with nat_eq bytes (0xEF ∷ 0xBB ∷ 0xBF ∷ []) then Some (record { id = Utf8 }, 3)
-    else if starts_with nat_eq bytes (0xFE ∷ 0xFF ∷ []) then Some (record { id = Utf16be }, 2)
-    else if starts_with nat_eq bytes (0xFF ∷ 0xFE ∷ []) then Some (record { id = Utf16le }, 2)
-    else None
+bom_of bytes = option_map (λ m. (m.encoding, length m.bytes)) (find_mark marks bytes)
+
+-- the mark of an encoding, if it has one
+abbrev pub own_marks : Id → List Mark
+own_marks Utf8 = utf_8_mark ∷ []
+own_marks Utf16be = utf_16be_mark ∷ []
+own_marks Utf16le = utf_16le_mark ∷ []
+own_marks _ = []
+
+-- The marks that are looked for: all three, the encoding's own, or none.
+abbrev pub marks_looked_for : BomHandling → Encoding → List Mark
+marks_looked_for Off e = []
+marks_looked_for Sniff e = marks
+marks_looked_for Remove e = own_marks e.id
+
+-- The sequences of bytes that begin with a mark: those behind it, by its encoding; or with none: by this one.
+abbrev pub sequences_by : Option Mark → Encoding → List ℕ → List Sequence
+sequences_by None e bytes = sequences_of (rule_of e) 0 bytes
+sequences_by (Some m) e bytes = sequences_of (rule_of m.encoding) 0 (drop (length m.bytes) bytes)

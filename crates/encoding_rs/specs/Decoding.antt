@@ -1,59 +1,127 @@
--- Decoders of an encoding that look for no byte order mark (Encoding Standard 4.1, "process a queue"; as 6, "UTF-8
--- decode without BOM", for any encoding).
-use Rattle.std.specs.Prelude.{◌≡◌, ℕ, Bool, true, false, List, [], ◌++◌, if◌then◌else◌}
+-- Decoders (Encoding Standard 4.1, "process a queue"; 6, "decode", "UTF-8 decode" and "UTF-8 decode without BOM", for
+-- any encoding).
+use Rattle.std.specs.Prelude.{◌≡◌, ℕ, Bool, true, false, List, [], ◌∷◌, ◌++◌, length, take, ◌==◌, if◌then◌else◌}
 use Rattle.std.specs.Char.{encode_utf8}
+use Rattle.encoding_rs.specs.declared.encoding.Id.{Id}
+use Rattle.encoding_rs.specs.declared.encoding.Id.TheVariants.{Utf8, Utf16be, Utf16le}
 use Rattle.encoding_rs.specs.declared.encoding.Encoding.{Encoding}
+use Rattle.encoding_rs.specs.declared.bom.BomHandling.{BomHandling}
+use Rattle.encoding_rs.specs.declared.bom.BomHandling.TheVariants.{Off, Sniff, Remove}
+use Rattle.encoding_rs.specs.declared.life_cycle.LifeCycle.{LifeCycle}
+use Rattle.encoding_rs.specs.declared.life_cycle.LifeCycle.TheVariants.{AtStart, AtUtf8Start, AtUtf16BeStart, AtUtf16LeStart, Converting, Finished}
 use Rattle.enc_codec.specs.declared.decoder_result.DecoderResult.{DecoderResult}
 use Rattle.enc_codec.specs.declared.decoder_result.DecoderResult.TheVariants as raw
 use Rattle.encoding_rs.specs.declared.coder_result.CoderResult.{CoderResult}
 use Rattle.encoding_rs.specs.declared.coder_result.CoderResult.TheVariants.{InputEmpty, OutputFull}
-use Rattle.enc_units.specs.Output.{units_of_text}
+use Rattle.enc_units.specs.Output.{Output, appended, units_of_text}
 use Rattle.enc_codec.specs.Sequence.{Sequence, bytes_of, text_of, any_malformed, set_after}
-use Rattle.enc_codec.specs.Segmentation.{sequences_of}
-use Rattle.encoding_rs.specs.Encodings.{rule_of}
+use Rattle.enc_codec.specs.CodecState.{CodecState}
 use Rattle.enc_codec.specs.Remainder.{Remainder}
 use Rattle.enc_codec.specs.Call.{Call, Treatment, Replaced, Reported, is_end}
+use Rattle.encoding_rs.specs.Encodings.{rule_of}
+use Rattle.encoding_rs.specs.Bom.{marks_looked_for, find_mark, sequences_by}
+use Rattle.encoding_rs.specs.LifeCycle.{phase_of, awaits_mark, mark_in, mark_bytes, encoding_by, sequences_in, held_bytes, life_after}
 
--- the sequences of a whole input, and its text
-abbrev pub whole_sequences : Encoding → List ℕ → List Sequence
-whole_sequences e bytes = sequences_of (rule_of e) 0 bytes
+-- the sequences of a whole input, behind a mark that is looked for, and its text
+abbrev pub whole_sequences : BomHandling → Encoding → List ℕ → List Sequence
+whole_sequences handling e bytes = sequences_by (find_mark (marks_looked_for handling e) bytes) e bytes
 
 -- The text of a whole input in UTF-8: what every way to decode it comes to.
-abbrev pub whole_utf_8 : Encoding → List ℕ → List ℕ
-whole_utf_8 e bytes = units_of_text encode_utf8 (text_of (whole_sequences e bytes))
+abbrev pub whole_utf_8 : BomHandling → Encoding → List ℕ → List ℕ
+whole_utf_8 handling e bytes = units_of_text encode_utf8 (text_of (whole_sequences handling e bytes))
 
 -- whether something in a whole input is malformed
-abbrev pub whole_malformed : Encoding → List ℕ → Bool
-whole_malformed e bytes = any_malformed (whole_sequences e bytes)
+abbrev pub whole_malformed : BomHandling → Encoding → List ℕ → Bool
+whole_malformed handling e bytes = any_malformed (whole_sequences handling e bytes)
 
--- A decoder as its caller knows it: its encoding, whether the end of the input was told and reached, the
--- designated character set, and the bytes that are read and whose sequence is not put out.
+-- A decoder as its caller knows it: its encoding, how far it has come with a mark, the designated character set, and
+-- the bytes that are read and whose sequence is not put out.
 pub record DecoderState : Type 0 where
   pub encoding : Encoding
-  pub finished : Bool
+  pub life : LifeCycle
   pub set : ℕ
   pub pending : List ℕ
 
+abbrev pub has_ended : LifeCycle → Bool
+has_ended Finished = true
+has_ended _ = false
+
+-- whether the end of the input was told and reached
+abbrev pub finished : DecoderState → Bool
+finished d = has_ended d.life
+
+-- where a decoder starts that looks for the mark of its own encoding
+abbrev pub removal_start : Id → LifeCycle
+removal_start Utf8 = AtUtf8Start
+removal_start Utf16be = AtUtf16BeStart
+removal_start Utf16le = AtUtf16LeStart
+removal_start _ = Converting
+
+abbrev pub start_life : BomHandling → Id → LifeCycle
+start_life Off id = Converting
+start_life Sniff id = AtStart
+start_life Remove id = removal_start id
+
 -- a decoder that has read nothing
-abbrev pub fresh : Encoding → DecoderState
-fresh e = record { encoding = e; finished = false; set = 0; pending = [] }
+abbrev pub fresh : BomHandling → Encoding → DecoderState
+fresh handling e = record { encoding = e; life = start_life handling e.id; set = 0; pending = [] }
 
 -- the sequences still to come out if these bytes are all that follows
 abbrev pub remaining_sequences : DecoderState → List ℕ → List Sequence
-remaining_sequences d y = if d.finished then [] else sequences_of (rule_of d.encoding) d.set (d.pending ++ y)
+remaining_sequences d y = sequences_in (phase_of d.life) d.encoding d.set (d.pending ++ y)
 
 abbrev pub decoder_remainder : DecoderState → Remainder
 decoder_remainder d = record { pending = d.pending; set = d.set; sequences = remaining_sequences d }
+
+-- the bytes pending: those of a mark that are held, or else those that the codec has
+abbrev pub pending_bytes : List ℕ → List ℕ → List ℕ
+pending_bytes [] of_codec = of_codec
+pending_bytes (b ∷ held) of_codec = b ∷ held
+
+-- What a decoder shows, by its codec.
+abbrev pub state_by : Encoding → LifeCycle → CodecState → DecoderState
+state_by e life codec =
+    record { encoding = e; life = life; set = codec.set; pending = pending_bytes (held_bytes life) codec.pending }
+
+-- the bytes of a mark that are held and that the codec hasn't read, by how many it has pending
+abbrev pub unread_bytes : LifeCycle → ℕ → List ℕ
+unread_bytes life pending = if pending == 0 then held_bytes life else []
+
+-- As long as a mark may come a codec has read nothing, and where bytes of one are held it has none, or just those.
+pub record HoldsBack (life : LifeCycle) (codec : CodecState) : Type 0 where
+  pub unread : awaits_mark (phase_of life) ≡ true → (codec.set ≡ 0) × (codec.pending ≡ [])
+  pub behind : pending_bytes (held_bytes life) codec.pending ≡ codec.pending ++ unread_bytes life (length codec.pending)
+
+-- the codec of a decoder: that of its encoding
+abbrev pub KeepsTo : Encoding → LifeCycle → CodecState → Type 0
+KeepsTo e life codec = (rule_of e ≡ codec.rule) × HoldsBack life codec
+
+-- The bytes of a mark that are held are just those pending.
+pub record TellsHeld (d : DecoderState) : Type 0 where
+  pub in_front : awaits_mark (phase_of d.life) ≡ true → d.pending ≡ held_bytes d.life
+  pub behind : (b : ℕ) (held : List ℕ) → held_bytes d.life ≡ b ∷ held → d.pending ≡ held_bytes d.life
 
 abbrev pub stop_of : CoderResult → DecoderResult
 stop_of InputEmpty = raw.InputEmpty
 stop_of OutputFull = raw.OutputFull
 
+-- what is done with malformed sequences
+abbrev pub treatment_of : Bool → Treatment
+treatment_of replace = if replace then Replaced else Reported false
+
 -- A call of a decoder.
 pub record Decodes (units_of : ℕ → List ℕ) (treatment : Treatment) (old new : DecoderState) (src : List ℕ) (last : Bool) (room : ℕ) (result : DecoderResult) (read : ℕ) (wrote : List ℕ) (replaced : Bool) : Type 0 where
   pub call : Call units_of (decoder_remainder old) (decoder_remainder new) src last treatment room result read wrote replaced
-  pub encoding : new.encoding ≡ old.encoding
-  pub finished : new.finished ≡ is_end last result
+  -- A mark is dropped, and tells the encoding. The other bytes read are those of the sequences and those pending.
+  pub accounted : old.pending ++ take read src ≡ mark_bytes (mark_in (phase_of old.life) (old.pending ++ take read src)) ++ (bytes_of call.done ++ new.pending)
+  pub encoding : new.encoding ≡ encoding_by (mark_in (phase_of old.life) (old.pending ++ take read src)) old.encoding
+  pub life : new.life ≡ life_after old.life (is_end last result) (old.pending ++ take read src) call.done
+
+-- the same, and what it wrote is appended to an output
+pub record DecodesInto (units_of : ℕ → List ℕ) (treatment : Treatment) (old new : DecoderState) (src : List ℕ) (last : Bool) (before after : Output) (result : DecoderResult) (read : ℕ) (replaced : Bool) : Type 0 where
+  pub wrote : List ℕ
+  pub onto : after ≡ appended before wrote
+  pub decodes : Decodes units_of treatment old new src last before.room result read wrote replaced
 
 -- A call of a decoder that replaces what is malformed.
 abbrev pub DecodesReplacing : (ℕ → List ℕ) → DecoderState → DecoderState → List ℕ → Bool → ℕ → CoderResult → ℕ → List ℕ → Bool → Type 0
@@ -74,13 +142,14 @@ pub record IsAsBefore (src : List ℕ) (last : Bool) (old new : DecoderState) : 
   pub pending : old.pending ≡ bytes_of skipped ++ new.pending
   pub set : new.set ≡ set_after old.set skipped
   pub encoding : new.encoding ≡ old.encoding
-  pub finished : new.finished ≡ old.finished
+  pub unfinished : finished new ≡ false
+  pub same : skipped ≡ [] → new ≡ old
 
 -- What calls have made, of an encoding's decoder, of the bytes that they were given so far, of which these are
 -- unread; where `ended`, nothing follows them.
-pub record HasDecoded (e : Encoding) (bytes unread : List ℕ) (ended : Bool) (state : DecoderState) (wrote : List ℕ) (replaced : Bool) : Type 0 where
+pub record HasDecoded (handling : BomHandling) (e : Encoding) (bytes unread : List ℕ) (ended : Bool) (state : DecoderState) (wrote : List ℕ) (replaced : Bool) : Type 0 where
   pub done : List Sequence
   -- The sequences of the whole input are those that are done and those still to come.
-  pub whole : (z : List ℕ) → (ended ≡ true → z ≡ []) → whole_sequences e (bytes ++ z) ≡ done ++ remaining_sequences state (unread ++ z)
+  pub whole : (z : List ℕ) → (ended ≡ true → z ≡ []) → whole_sequences handling e (bytes ++ z) ≡ done ++ remaining_sequences state (unread ++ z)
   pub text : wrote ≡ units_of_text encode_utf8 (text_of done)
   pub flag : replaced ≡ any_malformed done

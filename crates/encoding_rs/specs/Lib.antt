@@ -1,7 +1,11 @@
 pub mod Encodings
+pub mod Bom
+pub mod LifeCycle
+pub mod Front
+pub mod Converting
 pub mod Decoding
+pub mod MarkLaws
 pub mod Run
 pub mod Names
 pub mod Labels
 pub mod Properties
-pub mod Bom

@@ -2,11 +2,12 @@
 use Rattle.std.specs.Prelude.{◌≡◌, ℕ, ◌+◌, Bool, false, ◌||◌, nat_le, List, [], ◌∷◌, ◌++◌, length, take, drop}
 use Rattle.std.specs.Char.{encode_utf8}
 use Rattle.encoding_rs.specs.declared.encoding.Encoding.{Encoding}
+use Rattle.encoding_rs.specs.declared.bom.BomHandling.{BomHandling}
 use Rattle.encoding_rs.specs.declared.coder_result.CoderResult.{CoderResult}
 use Rattle.encoding_rs.specs.declared.run.DecodeCall.{DecodeCall}
 use Rattle.enc_units.specs.Output.{units_of_text}
 use Rattle.enc_codec.specs.Sequence.{Sequence, text_of}
-use Rattle.encoding_rs.specs.Decoding.{DecoderState, fresh, whole_sequences, DecodesReplacing}
+use Rattle.encoding_rs.specs.Decoding.{DecoderState, fresh, finished, whole_sequences, DecodesReplacing}
 
 -- A call of a run: it is offered the next bytes of those unread, or all of them where fewer are left, is told
 -- that nothing follows exactly where the offer reaches the end, and appends what it writes to the text.
@@ -23,14 +24,14 @@ pub record RunState : Type 0 where
   pub text : List ℕ
   pub had_errors : Bool
 
-abbrev pub run_start : Encoding → RunState
-run_start e = record { decoder = fresh e; read = 0; text = []; had_errors = false }
+abbrev pub run_start : BomHandling → Encoding → RunState
+run_start handling e = record { decoder = fresh handling e; read = 0; text = []; had_errors = false }
 
 -- a run goes on by one call, of a decoder that hasn't ended
 pub record GoesOn (bytes : List ℕ) (made : DecodeCall) (old new : RunState) : Type 0 where
   pub more : ℕ
   pub replaced : Bool
-  pub not_finished : old.decoder.finished ≡ false
+  pub not_finished : finished old.decoder ≡ false
   pub call : MakesCall made old.decoder new.decoder (drop old.read bytes) old.text new.text more replaced
   pub read : new.read ≡ old.read + more
   pub flag : new.had_errors ≡ (old.had_errors || replaced)
@@ -41,8 +42,8 @@ IsRun bytes [] old new = old ≡ new
 IsRun bytes (call ∷ calls) old new = (mid : RunState) × GoesOn bytes call old mid × IsRun bytes calls mid new
 
 -- The text is a beginning, in whole sequences, of the one text that the whole input has.
-pub record Begun (e : Encoding) (bytes text : List ℕ) : Type 0 where
+pub record Begun (handling : BomHandling) (e : Encoding) (bytes text : List ℕ) : Type 0 where
   pub done : List Sequence
   pub rest : List Sequence
-  pub sequences : whole_sequences e bytes ≡ done ++ rest
+  pub sequences : whole_sequences handling e bytes ≡ done ++ rest
   pub text_of_done : text ≡ units_of_text encode_utf8 (text_of done)

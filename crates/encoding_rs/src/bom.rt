@@ -5,6 +5,17 @@ ghost use Rattle.encoding_rs.specs.Bom.{bom_of};
 
 use crate::encoding::{Encoding, UTF_8, UTF_16BE, UTF_16LE};
 
+/// Which byte order marks a decoder looks for.
+#[derive(Clone, Copy)]
+pub enum BomHandling {
+    /// None.
+    Off,
+    /// All three; the mark tells the encoding.
+    Sniff,
+    /// That of its own encoding.
+    Remove,
+}
+
 impl Encoding {
     /// The encoding whose byte order mark the bytes begin with, and the length of the mark (Encoding Standard 6,
     /// "BOM sniff"). `None` where they begin with none. It looks at the first three bytes alone. Takes no memory.

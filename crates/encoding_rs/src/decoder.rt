@@ -2,85 +2,101 @@
 
 ghost use Rattle.std.specs.Prelude.{◌≡◌, ℕ, ◌+◌, ◌-◌, ◌<◌, ◌≤◌, Bool, true, false, length, take, drop};
 ghost use Rattle.std.specs.Char.{encode_utf8};
-ghost use Rattle.enc_codec.specs.Call.{is_end as ends};
-ghost use Rattle.encoding_rs.specs.Encodings.{rule_of};
-ghost use Rattle.encoding_rs.specs.Decoding.{fresh, stop_of, DecodesReplacing, DecodesReporting, IsAsBefore};
 ghost use Rattle.enc_codec.specs.RuleLaws.{HasTexts};
+ghost use Rattle.encoding_rs.specs.declared.bom.BomHandling.TheVariants as handling;
+ghost use Rattle.encoding_rs.specs.Encodings.{rule_of};
+ghost use Rattle.encoding_rs.specs.Front.{IsText};
+ghost use Rattle.encoding_rs.specs.Decoding.{fresh, finished, start_life, treatment_of, TellsHeld, DecodesInto, DecodesReplacing, DecodesReporting, IsAsBefore};
 
+use crate::bom::BomHandling;
 use crate::coder_result::CoderResult;
-use crate::encoding::{Encoding, codec_of};
-use crate::replacing::decode_replacing;
-use enc_codec::{DecoderResult, RawDecoder, VariantDecoder};
-use enc_units::Utf8Slice;
+use crate::convert::convert_text;
+use crate::encoding::{Encoding, Id, codec_of};
+use crate::front::{Front, find_front};
+use crate::life_cycle::LifeCycle;
+use enc_codec::{DecoderResult, VariantDecoder};
+use enc_units::{Units, Utf8Slice};
 use std::marker::Model;
 
-/// Converts a stream of bytes, in chunks of any size, into text, in buffers of any size (Encoding Standard 4.1).
+/// Converts a stream of bytes, in chunks of any size, into text, in buffers of any size (Encoding Standard 4.1 and 6).
 ///
 /// However the bytes are cut and whatever rooms the calls have, what has come out is a beginning of the one text
-/// that the whole input has. Bytes that were read and don't make a sequence yet are kept for the next call.
+/// that the whole input has. Bytes that were read and don't make a sequence yet are kept for the next call, and so are
+/// those of a byte order mark that may still come. A whole mark is no part of the text.
 #[derive(Drop)]
 pub struct Decoder {
     encoding: Encoding,
     codec: VariantDecoder,
-    finished: bool,
+    life: LifeCycle,
 }
 
 impl Model for Decoder {
-    ghost use Rattle.encoding_rs.specs.Decoding.{DecoderState};
+    ghost use Rattle.encoding_rs.specs.Decoding.{DecoderState, state_by, KeepsTo};
+    ghost use Rattle.enc_codec.specs.Variant.{variant_state};
 
     ghost Value = { DecoderState };
 
-    ghost use Rattle.std.specs.Prelude.{◌≡◌};
-    ghost use Rattle.enc_codec.specs.Variant.{variant_state};
-    ghost use Rattle.encoding_rs.specs.Encodings.{rule_of};
+    ghost view = { λ d. state_by d.encoding d.life (variant_state d.codec) };
 
-    ghost view = { λ d. record {
-      encoding = d.encoding;
-      finished = d.finished;
-      set = (variant_state d.codec).set;
-      pending = (variant_state d.codec).pending;
-    } };
-
-    ghost invariant = { λ d. rule_of d.encoding ≡ (variant_state d.codec).rule };
+    ghost invariant = { λ d. KeepsTo d.encoding d.life (variant_state d.codec) };
 }
 
-/// Whether a call without replacement has come to the end of the input.
-fn is_raw_end(last: bool, stop: DecoderResult) -> bool
-    ensures { result ≡ ends last stop }
+/// Where a decoder starts that looks for the mark of its own encoding.
+fn removal_start(id: Id) -> LifeCycle
+    ensures { result ≡ start_life handling.Remove id }
 {
-    match stop {
-        DecoderResult::InputEmpty => last,
-        DecoderResult::OutputFull => false,
-        DecoderResult::Malformed(_, _) => false,
-    }
-}
-
-/// Whether a call has come to the end of the input.
-fn is_end(last: bool, stop: CoderResult) -> bool
-    ensures { result ≡ ends last (stop_of stop) }
-{
-    match stop {
-        CoderResult::InputEmpty => last,
-        CoderResult::OutputFull => false,
+    match id {
+        Id::Utf8 => LifeCycle::AtUtf8Start,
+        Id::Utf16be => LifeCycle::AtUtf16BeStart,
+        Id::Utf16le => LifeCycle::AtUtf16LeStart,
+        _ => LifeCycle::Converting,
     }
 }
 
 impl Encoding {
+    /// A decoder that looks for all three byte order marks, and becomes one of the mark's encoding where there is one
+    /// (Encoding Standard 6, "decode"). It has read nothing. Takes no memory.
+    pub fn new_decoder(self) -> Decoder
+        ensures { result ≡ fresh handling.Sniff self }
+    {
+        Decoder::start(self, BomHandling::Sniff)
+    }
+
+    /// A decoder that looks for the byte order mark of its own encoding and drops it (Encoding Standard 6, "UTF-8
+    /// decode", for any encoding); only UTF-8, UTF-16BE and UTF-16LE have one. It has read nothing. Takes no memory.
+    pub fn new_decoder_with_bom_removal(self) -> Decoder
+        ensures { result ≡ fresh handling.Remove self }
+    {
+        Decoder::start(self, BomHandling::Remove)
+    }
+
     /// A decoder that looks for no byte order mark (Encoding Standard 6, "UTF-8 decode without BOM", for any
     /// encoding). It has read nothing. Takes no memory.
     pub fn new_decoder_without_bom_handling(self) -> Decoder
-        ensures { result ≡ fresh self }
+        ensures { result ≡ fresh handling.Off self }
     {
-        Decoder {
-            encoding: self,
-            codec: codec_of(self).new_decoder(),
-            finished: false,
-        }
+        Decoder::start(self, BomHandling::Off)
     }
 }
 
 impl Decoder {
-    /// The encoding that it decodes. It may be asked at any time.
+    /// A decoder that looks for these marks. It has read nothing.
+    pub(crate) fn start(encoding: Encoding, handling: BomHandling) -> Decoder
+        ensures { result ≡ fresh handling encoding }
+    {
+        let life = match handling {
+            BomHandling::Off => LifeCycle::Converting,
+            BomHandling::Sniff => LifeCycle::AtStart,
+            BomHandling::Remove => removal_start(encoding.id),
+        };
+        Decoder {
+            encoding,
+            codec: codec_of(encoding).new_decoder(),
+            life,
+        }
+    }
+
+    /// The encoding that it decodes. It may be asked at any time. A mark that is sniffed tells it anew.
     pub fn encoding(&self) -> Encoding
         ensures { result ≡ self.now.encoding }
     {
@@ -89,9 +105,61 @@ impl Decoder {
 
     /// Whether a call with `last` has answered `InputEmpty`. No more may be converted then.
     pub fn is_finished(&self) -> bool
-        ensures { result ≡ self.now.finished }
+        ensures { result ≡ finished self.now }
     {
-        self.finished
+        match self.life {
+            LifeCycle::Finished => true,
+            _ => false,
+        }
+    }
+
+    /// Decodes text: no mark comes in front of it.
+    fn convert_text<U: Units>(
+        &mut self,
+        src: &[u8],
+        out: &mut U,
+        last: bool,
+        replace: bool,
+    ) -> (DecoderResult, usize, bool)
+        requires open { finished self.old ≡ false }
+        requires text { IsText self.old.life src.now last }
+        ensures call { DecodesInto U.units_of (treatment_of replace) self.old self.new src.now last (U.output out.old) (U.output out.new)
+            result.0 result.1 result.2 }
+    {
+        convert_text(&mut self.life, &mut self.codec, src, out, last, replace)
+    }
+
+    /// Decodes until all is read, the next sequence doesn't fit, or, where they aren't replaced, one is malformed.
+    fn convert<U: Units>(
+        &mut self,
+        src: &[u8],
+        out: &mut U,
+        last: bool,
+        replace: bool,
+    ) -> (DecoderResult, usize, bool)
+        requires { finished self.old ≡ false }
+        ensures call { DecodesInto U.units_of (treatment_of replace) self.old self.new src.now last (U.output out.old) (U.output out.new)
+            result.0 result.1 result.2 }
+        ensures held { TellsHeld self.old }
+    {
+        let (front, len) = find_front(self.life, src, last);
+        let (_, rest) = src.split_at(len);
+        match front {
+            Front::Open(life) => {
+                self.life = life;
+                (DecoderResult::InputEmpty, len, false)
+            }
+            Front::Mark(encoding) => {
+                *self = Decoder::start(encoding, BomHandling::Off);
+                let (result, read, replaced) = self.convert_text(rest, out, last, replace);
+                (result, len + read, replaced)
+            }
+            Front::Text(life) => {
+                self.life = life;
+                let (result, read, replaced) = self.convert_text(rest, out, last, replace);
+                (result, len + read, replaced)
+            }
+        }
     }
 
     /// Decodes bytes into UTF-8, with U+FFFD for each malformed sequence (Encoding Standard 4.1, error mode
@@ -110,7 +178,7 @@ impl Decoder {
         dst: &mut [u8],
         last: bool,
     ) -> (CoderResult, usize, usize, bool)
-        requires { self.old.finished ≡ false }
+        requires { finished self.old ≡ false }
         ensures call { DecodesReplacing encode_utf8 self.old self.new src.now last (length dst.old)
             result.0 result.1 (take result.2 dst.new) result.3 }
         ensures written { result.2 ≤ length dst.old }
@@ -127,10 +195,13 @@ impl Decoder {
             length self.new.pending + (length src.now - result.1) < length self.old.pending + length src.now }
     {
         let mut out = Utf8Slice::new(dst);
-        let (result, read, replaced) = decode_replacing(&mut self.codec, src, &mut out, last);
+        let (result, read, replaced) = self.convert(src, &mut out, last, true);
         let written = out.len();
-        self.finished = is_end(last, result);
-        (result, read, written, replaced)
+        match result {
+            DecoderResult::InputEmpty => (CoderResult::InputEmpty, read, written, replaced),
+            DecoderResult::OutputFull => (CoderResult::OutputFull, read, written, replaced),
+            DecoderResult::Malformed(_, _) => unreachable!(),
+        }
     }
 
     /// The same without replacement: it stops at each malformed sequence and reports it (Encoding Standard 4.1,
@@ -148,7 +219,7 @@ impl Decoder {
         dst: &mut [u8],
         last: bool,
     ) -> (DecoderResult, usize, usize)
-        requires { self.old.finished ≡ false }
+        requires { finished self.old ≡ false }
         ensures call { DecodesReporting encode_utf8 self.old self.new src.now last (length dst.old)
             result.0 result.1 (take result.2 dst.new) }
         ensures written { result.2 ≤ length dst.old }
@@ -160,9 +231,7 @@ impl Decoder {
             length self.new.pending + (length src.now - result.1) < length self.old.pending + length src.now }
     {
         let mut out = Utf8Slice::new(dst);
-        let (result, read) = self.codec.decode(src, &mut out, last, false);
-        let written = out.len();
-        self.finished = is_raw_end(last, result);
-        (result, read, written)
+        let (result, read, _) = self.convert(src, &mut out, last, false);
+        (result, read, out.len())
     }
 }

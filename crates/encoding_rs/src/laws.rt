@@ -1,14 +1,22 @@
 //! Laws over the definitions, each the contract of a function that does nothing, or only what the law speaks of.
 
-ghost use Rattle.std.specs.Prelude.{◌≡◌, ◌≢◌, ◌↔◌, false, IsTrue, Some, map, length};
+ghost use Rattle.std.specs.Prelude.{◌≡◌, ◌≢◌, ◌↔◌, ℕ, false, IsTrue, List, ◌∷◌, ◌++◌, Some, map, length};
+ghost use Rattle.encoding_rs.specs.declared.bom.BomHandling.TheVariants as handling;
+ghost use Rattle.encoding_rs.specs.Bom.{marks_looked_for, find_mark};
 ghost use Rattle.encoding_rs.specs.Encodings.{rule_of};
-ghost use Rattle.encoding_rs.specs.Decoding.{whole_malformed};
+ghost use Rattle.encoding_rs.specs.LifeCycle.{encoding_by};
+ghost use Rattle.encoding_rs.specs.MarkLaws.{MayBeginMark, behind as behind_mark};
+ghost use Rattle.encoding_rs.specs.Decoding.{whole_sequences, whole_malformed};
 ghost use Rattle.encoding_rs.specs.Labels.{labelled, get};
 ghost use Rattle.encoding_rs.specs.Names.{name_of};
 ghost use Rattle.encoding_rs.specs.Properties.{output_encoding_of};
+ghost use Rattle.enc_codec.specs.Sequence.{Sequence};
+ghost use Rattle.enc_codec.specs.Segmentation.{sequences_of};
+ghost use Rattle.enc_codec.specs.Remainder.{Determines};
 ghost use Rattle.enc_codec.specs.RuleLaws.{HasTexts};
 ghost use Rattle.enc_units.specs.Validity.{IsWellFormedUtf8};
 
+use crate::bom::BomHandling;
 use crate::encoding::{
     BIG5, BIG5_INIT, EUC_JP, EUC_JP_INIT, EUC_KR, EUC_KR_INIT, Encoding, GB18030, GB18030_INIT,
     GBK, GBK_INIT, IBM866, IBM866_INIT, ISO_2022_JP, ISO_2022_JP_INIT, ISO_8859_2, ISO_8859_2_INIT,
@@ -44,9 +52,29 @@ pub fn has_texts(encoding: Encoding)
 /// Bytes are well-formed UTF-8 just where no sequence of theirs is malformed as UTF-8 is decoded (Unicode Standard 3.9,
 /// D92 and table 3-7).
 pub fn well_formed_utf_8(bytes: &[u8])
-    ensures { IsWellFormedUtf8 bytes.now ↔ (whole_malformed UTF_8 bytes.now ≡ false) }
+    ensures { IsWellFormedUtf8 bytes.now ↔ (whole_malformed handling.Off UTF_8 bytes.now ≡ false) }
 {
     let _ = bytes;
+}
+
+/// Whether a byte order mark stands in front comes first: a sequence is determined by as many bytes as settle that, or
+/// as the rule needs, whichever are more.
+pub fn mark_is_told_first(encoding: Encoding, handling: BomHandling)
+    // Bytes that are no proper prefix of a mark looked for tell which one stands in front, whatever follows.
+    ensures told { (x y : List ℕ) → (MayBeginMark (marks_looked_for handling encoding) x → ⊥)
+        → find_mark (marks_looked_for handling encoding) (x ++ y) ≡ find_mark (marks_looked_for handling encoding) x }
+
+    // Those that are one determine no sequence.
+    ensures first { (x : List ℕ) (s : Sequence) (ss : List Sequence) → MayBeginMark (marks_looked_for handling encoding) x
+        → Determines (whole_sequences handling encoding) x (s ∷ ss) → ⊥ }
+
+    // The others determine what the rule alone does of the bytes behind the mark.
+    ensures then { (x : List ℕ) (ss : List Sequence) → (MayBeginMark (marks_looked_for handling encoding) x → ⊥)
+        → Determines (whole_sequences handling encoding) x ss
+        ↔ Determines (sequences_of (rule_of (encoding_by (find_mark (marks_looked_for handling encoding) x) encoding)) 0)
+        (behind_mark (find_mark (marks_looked_for handling encoding) x) x) ss }
+{
+    let _ = (encoding, handling);
 }
 
 /// Two encodings are equal exactly where they are the same one: whether they are.

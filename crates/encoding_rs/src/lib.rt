@@ -5,10 +5,13 @@
 
 mod bom;
 mod coder_result;
+mod convert;
 mod decoder;
 mod encoding;
+mod front;
 mod labels;
 pub mod laws;
+mod life_cycle;
 mod properties;
 mod replacing;
 pub mod run;

@@ -1,9 +1,10 @@
 //! Whole runs of a decoder: what any list of calls comes to.
 
 ghost use Rattle.std.specs.Prelude.{◌≡◌, ℕ, ◌≤◌, ◌⊎◌, true, false, length, take, IfOk, vec_len};
-ghost use Rattle.encoding_rs.specs.Decoding.{DecoderState, whole_utf_8, whole_malformed};
+ghost use Rattle.encoding_rs.specs.Decoding.{DecoderState, finished, whole_utf_8, whole_malformed};
 ghost use Rattle.encoding_rs.specs.Run.{MakesCall, IsRun, Begun, run_start};
 
+pub use crate::bom::BomHandling;
 use crate::decoder::Decoder;
 use crate::encoding::Encoding;
 use std::alloc::{AllocError, Global};
@@ -61,7 +62,7 @@ fn make_call(
     call: DecodeCall,
     text: &mut Vec<u8>,
 ) -> Result<Made, AllocError>
-    requires { decoder.old.finished ≡ false }
+    requires { finished decoder.old ≡ false }
     ensures { IfOk result (λ made.
         MakesCall call decoder.old decoder.new unread.now text.old.items text.new.items made.read made.replaced) }
 {
@@ -76,22 +77,23 @@ fn make_call(
     Ok(Made { read, replaced })
 }
 
-/// Decodes the bytes by the calls, in turn. Each is offered the next bytes behind those that were read, or all
-/// that remain where these are fewer, and is told that nothing follows exactly where the offer reaches the end.
-/// Calls behind the end are not made.
+/// Decodes the bytes by the calls, in turn, with a new decoder that looks for the byte order marks that `handling`
+/// names. Each call is offered the next bytes behind those that were read, or all that remain where these are fewer,
+/// and is told that nothing follows exactly where the offer reaches the end. Calls behind the end are not made.
 ///
 /// However the calls cut the bytes and whatever rooms they have, the text is a beginning of the one text of the
-/// whole input, and all of it where the run is finished. Takes memory for the text and for each call's output,
-/// and answers [`RunError::Memory`] where it is refused.
+/// whole input, and all of it where the run is finished. A mark that is found is no part of the text. Takes memory
+/// for the text and for each call's output, and answers [`RunError::Memory`] where it is refused.
 pub fn decode_run(
     alloc: Global,
     encoding: Encoding,
+    handling: BomHandling,
     bytes: &[u8],
     calls: &[DecodeCall],
 ) -> Result<DecodeReport, RunError>
     // The report is that of the calls made, one after another.
-    ensures run { IfOk result (λ report. (decoder : DecoderState) × (decoder.finished ≡ report.finished)
-        × IsRun bytes.now (take report.calls calls.now) (run_start encoding)
+    ensures run { IfOk result (λ report. (decoder : DecoderState) × (finished decoder ≡ report.finished)
+        × IsRun bytes.now (take report.calls calls.now) (run_start handling encoding)
         (record { decoder = decoder; read = report.read; text = report.text.items; had_errors = report.had_errors })) }
 
     // All calls are made, unless the end is reached before.
@@ -99,14 +101,14 @@ pub fn decode_run(
     ensures calls { IfOk result (λ report. report.calls ≤ length calls.now) }
 
     // What has come out is always a beginning of the one text.
-    ensures beginning { IfOk result (λ report. Begun encoding bytes.now report.text.items) }
+    ensures beginning { IfOk result (λ report. Begun handling encoding bytes.now report.text.items) }
 
     // At the end it is all of it.
-    ensures text { IfOk result (λ report. report.finished ≡ true → report.text.items ≡ whole_utf_8 encoding bytes.now) }
-    ensures errors { IfOk result (λ report. report.finished ≡ true → report.had_errors ≡ whole_malformed encoding bytes.now) }
+    ensures text { IfOk result (λ report. report.finished ≡ true → report.text.items ≡ whole_utf_8 handling encoding bytes.now) }
+    ensures errors { IfOk result (λ report. report.finished ≡ true → report.had_errors ≡ whole_malformed handling encoding bytes.now) }
     ensures read { IfOk result (λ report. report.finished ≡ true → report.read ≡ length bytes.now) }
 {
-    let mut decoder = encoding.new_decoder_without_bom_handling();
+    let mut decoder = Decoder::start(encoding, handling);
     let mut text = Vec::new(alloc);
     let mut read = 0;
     let mut had_errors = false;

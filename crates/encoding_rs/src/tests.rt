@@ -1,6 +1,6 @@
 //! Each public call once; the worked examples of the encodings stand in the crate `conformance`.
 
-use crate::run::{DecodeCall, RunError, decode_run};
+use crate::run::{BomHandling, DecodeCall, RunError, decode_run};
 use crate::*;
 use std::test::Fail;
 
@@ -16,6 +16,29 @@ fn tells_its_encoding(rt: HostRuntime) -> Result<(), Fail> {
         "InputEmpty OutputFull"
     );
     Ok(())
+}
+
+#[test]
+fn looks_for_marks(rt: HostRuntime) {
+    let bytes = b"\xFE\xFF\x00a";
+    let mut buffer = [0; 8];
+    let mut decoder = UTF_8.new_decoder();
+    assert_eq!(rt; decoder.encoding(), UTF_8);
+    assert!(rt; !decoder.is_finished());
+    let outcome = decoder.decode_to_utf8(bytes, &mut buffer, true);
+    assert_eq!(rt; outcome, (CoderResult::InputEmpty, 4, 1, false));
+    assert_eq!(rt; buffer[0], b'a');
+    assert_eq!(rt; decoder.encoding(), UTF_16BE);
+    assert!(rt; decoder.is_finished());
+    let mut decoder = UTF_16BE.new_decoder_with_bom_removal();
+    assert!(rt; !decoder.is_finished());
+    let outcome = decoder.decode_to_utf8_without_replacement(bytes, &mut buffer, true);
+    assert_eq!(rt; outcome, (DecoderResult::InputEmpty, 4, 1));
+    let mut decoder = UTF_16LE.new_decoder_with_bom_removal();
+    assert!(rt; !decoder.is_finished());
+    let outcome = decoder.decode_to_utf8_without_replacement(bytes, &mut buffer, true);
+    assert_eq!(rt; outcome, (DecoderResult::InputEmpty, 4, 6));
+    assert_eq!(rt; decoder.encoding(), UTF_16LE);
 }
 
 #[test]
@@ -73,6 +96,23 @@ fn second_constants_are_equal(rt: HostRuntime) {
 }
 
 #[test]
+fn a_run_looks_for_marks(rt: HostRuntime) -> Result<(), Fail> {
+    let calls = [DecodeCall { offer: 1, room: 4 }; 4];
+    for (handling, want) in [
+        (BomHandling::Off, "ï»¿a"),
+        (BomHandling::Sniff, "a"),
+        (BomHandling::Remove, "ï»¿a"),
+    ] {
+        let bytes = b"\xEF\xBB\xBFa";
+        let report = decode_run(rt.alloc(), WINDOWS_1252, handling, bytes, &calls)?;
+        assert!(rt; report.finished && !report.had_errors);
+        assert_eq!(rt; report.text.as_slice(), want.as_bytes());
+        assert_eq!(rt; (report.read, report.calls), (4, 4));
+    }
+    Ok(())
+}
+
+#[test]
 fn a_run_makes_its_calls(rt: HostRuntime) -> Result<(), Fail> {
     let bytes = &[0x61, 0xE2, 0x82, 0xAC, 0xFF];
     let call = |offer: usize, room: usize| DecodeCall { offer, room };
@@ -84,11 +124,11 @@ fn a_run_makes_its_calls(rt: HostRuntime) -> Result<(), Fail> {
         call(9, 9),
         call(9, 9),
     ];
-    let report = decode_run(rt.alloc(), UTF_8, bytes, &calls)?;
+    let report = decode_run(rt.alloc(), UTF_8, BomHandling::Off, bytes, &calls)?;
     assert!(rt; report.finished && report.had_errors);
     assert_eq!(rt; report.text.as_slice(), "a€\u{FFFD}".as_bytes());
     assert_eq!(rt; (report.read, report.calls), (5, 5));
-    let report = decode_run(rt.alloc(), UTF_8, bytes, &calls[..3])?;
+    let report = decode_run(rt.alloc(), UTF_8, BomHandling::Off, bytes, &calls[..3])?;
     assert!(rt; !report.finished && !report.had_errors);
     assert_eq!(rt; report.text.as_slice(), b"a".as_slice());
     assert_eq!(rt; report.read, 3);

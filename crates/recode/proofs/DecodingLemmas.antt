@@ -2,13 +2,14 @@
 use Rattle.std.proofs.Common.{◌≡◌, ℕ, Bool, true, false, ◌||◌, List, [], ◌++◌, drop, refl, ap, ◌∙◌, sym, append_assoc}
 use Rattle.std.proofs.Math.Seq.{drop-length}
 use Rattle.std.specs.Char.{encode_utf8}
+use Rattle.encoding_rs.specs.declared.bom.BomHandling.{BomHandling}
 use Rattle.encoding_rs.specs.declared.encoding.Encoding.{Encoding}
 use Rattle.encoding_rs.specs.declared.coder_result.CoderResult.{CoderResult}
 use Rattle.encoding_rs.specs.declared.coder_result.CoderResult.TheVariants.{InputEmpty, OutputFull}
 use Rattle.enc_units.specs.Output.{units_of_text}
 use Rattle.enc_codec.specs.Sequence.{Sequence, text_of, any_malformed}
-use Rattle.encoding_rs.specs.Decoding.{DecoderState, fresh, remaining_sequences, whole_sequences, whole_utf_8, DecodesReplacing, HasDecoded}
-use Rattle.encoding_rs.proofs.RunLemmas.{only_put}
+use Rattle.encoding_rs.specs.Decoding.{DecoderState, finished, fresh, remaining_sequences, whole_sequences, whole_utf_8, DecodesReplacing, HasDecoded}
+use Rattle.encoding_rs.proofs.RunLemmas.{only_put, finishes, fresh_sequences}
 use Rattle.enc_codec.proofs.SequenceLemmas.{units-append, any_malformed-append}
 use Rattle.recode.specs.Chunk.{DecodesBytes, remaining_utf_8}
 
@@ -24,6 +25,17 @@ pub none_unread : (old new : DecoderState) (src : List ℕ) (last : Bool) (room 
     → DecodesReplacing encode_utf8 old new src last room result read wrote replaced → result ≡ InputEmpty → [] ≡ drop read src
 none_unread old new src last room InputEmpty read wrote replaced h e = sym (ap (λ n. drop n src) h.call.stops.all_read ∙ drop-length src)
 none_unread old new src last room OutputFull read wrote replaced h e = cc
+
+-- Such a call has finished just where nothing follows them, and no other has.
+pub finished_at_end : (old new : DecoderState) (src : List ℕ) (last : Bool) (room : ℕ) (result : CoderResult) (read : ℕ) (wrote : List ℕ) (replaced : Bool)
+    → DecodesReplacing encode_utf8 old new src last room result read wrote replaced → result ≡ InputEmpty → finished new ≡ last
+finished_at_end old new src last room InputEmpty read wrote replaced h e = finishes old new src last room InputEmpty read wrote replaced h
+finished_at_end old new src last room OutputFull read wrote replaced h e = cc
+
+pub still_open : (old new : DecoderState) (src : List ℕ) (last : Bool) (room : ℕ) (result : CoderResult) (read : ℕ) (wrote : List ℕ) (replaced : Bool)
+    → DecodesReplacing encode_utf8 old new src last room result read wrote replaced → ¬ (result ≡ InputEmpty) → finished new ≡ false
+still_open old new src last room InputEmpty read wrote replaced h e = absurd (e refl)
+still_open old new src last room OutputFull read wrote replaced h e = finishes old new src last room OutputFull read wrote replaced h
 
 -- one call
 pub DecodesBytes-call : (old new : DecoderState) (src : List ℕ) (last : Bool) (room : ℕ) (result : CoderResult) (read : ℕ) (wrote : List ℕ) (replaced : Bool)
@@ -53,23 +65,23 @@ pub not_ended : {P : Type 0} → false ≡ true → P
 not_ended e = cc
 
 -- a decoder that has read nothing
-pub HasDecoded-start : (e : Encoding) → HasDecoded e [] [] false (fresh e) [] false
-HasDecoded-start e = record { done = []; whole = λ z h. refl; text = refl; flag = refl }
+pub HasDecoded-start : (handling : BomHandling) (e : Encoding) → HasDecoded handling e [] [] false (fresh handling e) [] false
+HasDecoded-start handling e = record { done = []; whole = λ z h. fresh_sequences handling e z; text = refl; flag = refl }
 
 -- Calls go on with some bytes more and read them all.
-pub HasDecoded-more : (e : Encoding) (bytes x : List ℕ) (last : Bool) (old new : DecoderState) (w₁ w₂ : List ℕ) (r₁ r₂ : Bool)
-    → HasDecoded e bytes [] false old w₁ r₁ → DecodesBytes old new x [] last w₂ r₂ → HasDecoded e (bytes ++ x) [] last new (w₁ ++ w₂) (r₁ || r₂)
-HasDecoded-more e bytes x last old new w₁ w₂ r₁ r₂ p q = record {
+pub HasDecoded-more : (handling : BomHandling) (e : Encoding) (bytes x : List ℕ) (last : Bool) (old new : DecoderState) (w₁ w₂ : List ℕ) (r₁ r₂ : Bool)
+    → HasDecoded handling e bytes [] false old w₁ r₁ → DecodesBytes old new x [] last w₂ r₂ → HasDecoded handling e (bytes ++ x) [] last new (w₁ ++ w₂) (r₁ || r₂)
+HasDecoded-more handling e bytes x last old new w₁ w₂ r₁ r₂ p q = record {
   done = p.done ++ q.done;
-  whole = λ z h. ap (whole_sequences e) (append_assoc bytes x z) ∙ p.whole (x ++ z) (λ f. not_ended f)
+  whole = λ z h. ap (whole_sequences handling e) (append_assoc bytes x z) ∙ p.whole (x ++ z) (λ f. not_ended f)
       ∙ ap (λ t. p.done ++ t) (q.residual z h) ∙ sym (append_assoc p.done q.done (remaining_sequences new z));
   text = ap (λ t. t ++ w₂) p.text ∙ ap (λ t. utf_8_of p.done ++ t) q.text ∙ sym (utf_8_of-append p.done q.done);
   flag = ap (λ r. r || r₂) p.flag ∙ ap (λ r. any_malformed p.done || r) q.flag ∙ sym (any_malformed-append p.done q.done);
 }
 
 -- The text of the input begins with what calls wrote.
-pub HasDecoded-prefix : (e : Encoding) (bytes : List ℕ) (ended : Bool) (state : DecoderState) (wrote : List ℕ) (replaced : Bool)
-    → HasDecoded e bytes [] ended state wrote replaced → (z : List ℕ) → (ended ≡ true → z ≡ [])
-    → whole_utf_8 e (bytes ++ z) ≡ wrote ++ remaining_utf_8 state z
-HasDecoded-prefix e bytes ended state wrote replaced p z h =
+pub HasDecoded-prefix : (handling : BomHandling) (e : Encoding) (bytes : List ℕ) (ended : Bool) (state : DecoderState) (wrote : List ℕ) (replaced : Bool)
+    → HasDecoded handling e bytes [] ended state wrote replaced → (z : List ℕ) → (ended ≡ true → z ≡ [])
+    → whole_utf_8 handling e (bytes ++ z) ≡ wrote ++ remaining_utf_8 state z
+HasDecoded-prefix handling e bytes ended state wrote replaced p z h =
     ap utf_8_of (p.whole z h) ∙ utf_8_of-append p.done (remaining_sequences state z) ∙ ap (λ t. t ++ remaining_utf_8 state z) (sym p.text)

@@ -1,8 +1,9 @@
 -- A run, over its pulls.
 use Rattle.std.proofs.Common.{◌≡◌, ℕ, ◌+◌, ◌≤◌, ◌<◌, Bool, true, false, ◌||◌, List, [], ◌++◌, length, Option, ap, ◌∙◌, sym, append_assoc, length-append, arith}
 use Rattle.std.specs.Io.KnownBytes.{IsAtEnd}
+use Rattle.encoding_rs.specs.declared.bom.BomHandling.TheVariants.{Sniff}
 use Rattle.encoding_rs.specs.declared.encoding.Encoding.{Encoding}
-use Rattle.encoding_rs.specs.Decoding.{DecoderState, fresh, whole_utf_8, HasDecoded}
+use Rattle.encoding_rs.specs.Decoding.{DecoderState, finished, fresh, whole_utf_8, HasDecoded}
 use Rattle.encoding_rs.proofs.RunLemmas.{whole_text, whole_flag}
 use Rattle.recode.specs.Source.{TellsNext}
 use Rattle.recode.specs.Sink.{TakesMore}
@@ -15,16 +16,16 @@ use Rattle.recode.proofs.DecodingLemmas.{not_ended, HasDecoded-start, HasDecoded
 pub record HasRun (from : Encoding) (told_before told taken_before taken : Option (List ℕ)) (state : DecoderState) (replaced : Bool) (pulls : ℕ) : Type 0 where
   pub bytes : List ℕ
   pub wrote : List ℕ
-  pub decoded : HasDecoded from bytes [] false state wrote replaced
+  pub decoded : HasDecoded Sniff from bytes [] false state wrote replaced
   pub read : TellsNext told_before told bytes
   pub written : TakesMore taken_before taken wrote
   pub enough : pulls ≤ length bytes
 
-pub HasRun-start : (from : Encoding) (told taken : Option (List ℕ)) → HasRun from told told taken taken (fresh from) false 0
+pub HasRun-start : (from : Encoding) (told taken : Option (List ℕ)) → HasRun from told told taken taken (fresh Sniff from) false 0
 HasRun-start from told taken = record {
   bytes = [];
   wrote = [];
-  decoded = HasDecoded-start from;
+  decoded = HasDecoded-start Sniff from;
   read = TellsNext-none told;
   written = TakesMore-none taken;
   enough = omega arith;
@@ -38,7 +39,7 @@ HasRun-more from t₀ t₁ t₂ k₀ k₁ k₂ old new r₁ r₂ pulls x true p 
 HasRun-more from t₀ t₁ t₂ k₀ k₁ k₂ old new r₁ r₂ pulls x false p t q e some = record {
   bytes = p.bytes ++ x;
   wrote = p.wrote ++ q.wrote;
-  decoded = HasDecoded-more from p.bytes x false old new p.wrote q.wrote r₁ r₂ p.decoded q.decoded;
+  decoded = HasDecoded-more Sniff from p.bytes x false old new p.wrote q.wrote r₁ r₂ p.decoded q.decoded;
   read = TellsNext-then t₀ t₁ t₂ p.bytes x p.read t;
   written = TakesMore-then k₀ k₁ k₂ p.wrote q.wrote p.written q.taken;
   enough = rw (length-append p.bytes x) (omega (arith, p.enough));
@@ -46,18 +47,18 @@ HasRun-more from t₀ t₁ t₂ k₀ k₁ k₂ old new r₁ r₂ pulls x false p
 
 -- the end
 pub RunsToEnd-last : (from : Encoding) (t₀ t₁ t₂ k₀ k₁ k₂ : Option (List ℕ)) (old new : DecoderState) (r₁ r₂ : Bool) (pulls : ℕ) (x : List ℕ) (last : Bool)
-    → HasRun from t₀ t₁ k₀ k₁ old r₁ pulls → TellsNext t₁ t₂ x → IsAtEnd t₂ → HasRecoded old new x [] last k₁ k₂ r₂ → last ≡ true → new.finished ≡ last
+    → HasRun from t₀ t₁ k₀ k₁ old r₁ pulls → TellsNext t₁ t₂ x → IsAtEnd t₂ → HasRecoded old new x [] last k₁ k₂ r₂ → last ≡ true → finished new ≡ last
     → RunsToEnd from t₀ t₂ k₀ k₂ (r₁ || r₂)
-RunsToEnd-last from t₀ t₁ t₂ k₀ k₁ k₂ old new r₁ r₂ pulls x false p t end q e finished = not_ended e
-RunsToEnd-last from t₀ t₁ t₂ k₀ k₁ k₂ old new r₁ r₂ pulls x true p t end q e finished =
-    let decoded = HasDecoded-more from p.bytes x true old new p.wrote q.wrote r₁ r₂ p.decoded q.decoded in
+RunsToEnd-last from t₀ t₁ t₂ k₀ k₁ k₂ old new r₁ r₂ pulls x false p t end q e f = not_ended e
+RunsToEnd-last from t₀ t₁ t₂ k₀ k₁ k₂ old new r₁ r₂ pulls x true p t end q e f =
+    let decoded = HasDecoded-more Sniff from p.bytes x true old new p.wrote q.wrote r₁ r₂ p.decoded q.decoded in
     let read = TellsNext-then t₀ t₁ t₂ p.bytes x p.read t in
     record {
       bytes = p.bytes ++ x;
       all_read = all_told t₀ t₂ (p.bytes ++ x) read end;
       none_left = none_told t₀ t₂ (p.bytes ++ x) read end;
-      flag = whole_flag from (p.bytes ++ x) [] new (p.wrote ++ q.wrote) (r₁ || r₂) decoded finished;
-      written = rw (← (whole_text from (p.bytes ++ x) [] new (p.wrote ++ q.wrote) (r₁ || r₂) decoded finished))
+      flag = whole_flag Sniff from (p.bytes ++ x) [] new (p.wrote ++ q.wrote) (r₁ || r₂) decoded f;
+      written = rw (← (whole_text Sniff from (p.bytes ++ x) [] new (p.wrote ++ q.wrote) (r₁ || r₂) decoded f))
           (TakesMore-then k₀ k₁ k₂ p.wrote q.wrote p.written q.taken);
     }
 
@@ -71,7 +72,7 @@ RunsToFault-between from t₀ t₁ k₀ k₁ state r pulls p = record {
   all_read = λ f. not_ended f;
   wrote = p.wrote;
   written = p.written;
-  prefix = λ z h. (remaining_utf_8 state z, HasDecoded-prefix from p.bytes false state p.wrote r p.decoded z h);
+  prefix = λ z h. (remaining_utf_8 state z, HasDecoded-prefix Sniff from p.bytes false state p.wrote r p.decoded z h);
 }
 
 -- a fault within a chunk
@@ -89,8 +90,8 @@ RunsToFault-within from t₀ t₁ t₂ k₀ k₁ k₂ state r pulls x last p t e
       written = TakesMore-then k₀ k₁ k₂ p.wrote q.wrote p.written q.taken;
       prefix = λ z h. (
         q.unwritten z h,
-        ap (whole_utf_8 from) (append_assoc p.bytes x z)
-            ∙ HasDecoded-prefix from p.bytes false state p.wrote r p.decoded (x ++ z) (λ f. not_ended f)
+        ap (whole_utf_8 Sniff from) (append_assoc p.bytes x z)
+            ∙ HasDecoded-prefix Sniff from p.bytes false state p.wrote r p.decoded (x ++ z) (λ f. not_ended f)
             ∙ ap (λ w. p.wrote ++ w) (q.prefix z h)
             ∙ sym (append_assoc p.wrote q.wrote (q.unwritten z h)),
       );

@@ -1,5 +1,7 @@
--- What a run from a source to a sink does.
+-- What a run from a source to a sink does. Bytes are decoded by the encoding whose byte order mark stands in front of
+-- them, and else by `from`; the mark is no text.
 use Rattle.std.specs.Prelude.{◌≡◌, ℕ, Bool, true, List, [], ◌++◌, Option, IfSome, option_map}
+use Rattle.encoding_rs.specs.declared.bom.BomHandling.TheVariants.{Sniff}
 use Rattle.encoding_rs.specs.declared.encoding.Encoding.{Encoding}
 use Rattle.encoding_rs.specs.Decoding.{whole_utf_8, whole_malformed}
 use Rattle.recode.specs.Sink.{TakesMore}
@@ -17,9 +19,9 @@ pub record RunsToEnd (from : Encoding) (told_before told_after : Option (List �
   pub all_read : IfSome told_before (λ all. bytes ≡ all)
   pub none_left : told_after ≡ option_map (λ _. []) told_before
   -- whether something in them was malformed
-  pub flag : replaced ≡ whole_malformed from bytes
+  pub flag : replaced ≡ whole_malformed Sniff from bytes
   -- their text in UTF-8 is just what the sink has taken more
-  pub written : TakesMore taken_before taken_after (whole_utf_8 from bytes)
+  pub written : TakesMore taken_before taken_after (whole_utf_8 Sniff from bytes)
 
 -- A run that a fault has stopped.
 pub record RunsToFault (from : Encoding) (told_before : Option (List ℕ))
@@ -34,4 +36,4 @@ pub record RunsToFault (from : Encoding) (told_before : Option (List ℕ))
   -- nothing follows them where the source had come to its end.
   pub wrote : List ℕ
   pub written : TakesMore taken_before taken_after wrote
-  pub prefix : (z : List ℕ) → (ended ≡ true → z ≡ []) → BeginsWith (whole_utf_8 from (bytes ++ z)) wrote
+  pub prefix : (z : List ℕ) → (ended ≡ true → z ≡ []) → BeginsWith (whole_utf_8 Sniff from (bytes ++ z)) wrote

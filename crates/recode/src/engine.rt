@@ -1,6 +1,7 @@
 //! Recoding a source into a sink.
 
 ghost use Rattle.std.specs.Prelude.{◌≡◌, ℕ, ◌^◌, ◌<◌, ◌≤◌, length, [], true, false, Ok, Err, IfOk, IfErr, OnOk, OnErr, IfSome, IsErrOf};
+ghost use Rattle.encoding_rs.specs.Decoding.{finished};
 ghost use Rattle.recode.specs.Sink.{TakesMore, TakesPrefix};
 ghost use Rattle.recode.specs.Chunk.{HasRecoded, StopsWithin};
 ghost use Rattle.recode.specs.Run.{RunsToEnd, RunsToFault};
@@ -47,11 +48,11 @@ fn recode_chunk<W: Sink>(
     output: &mut [u8],
     last: bool,
 ) -> Result<bool, RecodeFault>
-    requires open { decoder.old.finished ≡ false }
+    requires open { finished decoder.old ≡ false }
     requires room { 4 ≤ length output.old }
     ensures ok { IfOk result (HasRecoded decoder.old decoder.new src.now [] last
         (W.taken writer.old) (W.taken writer.new)) }
-    ensures finished { OnOk result (decoder.new.finished ≡ last) }
+    ensures finished { OnOk result (finished decoder.new ≡ last) }
     ensures kept { OnOk result (W.has_failed writer.new ≡ W.has_failed writer.old) }
     ensures err { OnErr result (StopsWithin decoder.old src.now last
         (W.taken writer.old) (W.taken writer.new)) }
@@ -92,7 +93,7 @@ fn run_through<R: Source, W: Sink>(
         IfSome (R.told reader.old) (λ all. length all < 2 ^ 62 → R.has_failed reader.new ≡ true) }
     ensures write_fault { IsErrOf result RecodeFault.Write → W.has_failed writer.new ≡ true }
 {
-    let mut decoder = from.new_decoder_without_bom_handling();
+    let mut decoder = from.new_decoder();
     let mut replaced = false;
     'pulls: for _ in 0..u64::MAX {
         let Ok(n) = reader.pull(input) else {
@@ -106,9 +107,10 @@ fn run_through<R: Source, W: Sink>(
     Err(RecodeFault::Read)
 }
 
-/// Reads all of a source, decodes it by `from`, looking for no byte order mark, and writes its text to
-/// a sink in UTF-8. `to` is for the encoding to write: there are no encoders yet, so it is UTF-8 whatever
-/// is given. A malformed sequence becomes U+FFFD, and the answer is whether there was one.
+/// Reads all of a source, decodes it, and writes its text to a sink in UTF-8. Where the bytes begin with a byte order
+/// mark it is dropped, and the encoding that it tells decodes them; else `from` does. `to` is for the encoding to
+/// write: there are no encoders yet, so it is UTF-8 whatever is given. A malformed sequence becomes U+FFFD, and the
+/// answer is whether there was one.
 ///
 /// On `Err` the side that it names has failed, and the sink has taken a prefix of the text. A source
 /// that gives bytes for 2^64 - 1 pulls is taken to have failed too.

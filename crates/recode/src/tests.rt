@@ -9,19 +9,23 @@ use std::io;
 use std::io::{Read, Write};
 use std::test::Fail;
 
-/// Gives one byte a read, and fails once it has given them all.
+/// Gives one byte a read, and ends or fails once it has given them all.
 #[derive(Drop)]
-struct FailingReader<'a> {
+struct SlowReader<'a> {
     rest: &'a [u8],
+    fails: bool,
 }
 
-impl<'a> Read for FailingReader<'a> {
+impl<'a> Read for SlowReader<'a> {
     fn read(&mut self, buf: &mut [u8]) -> io::Result<usize> {
         if buf.is_empty() {
             return Ok(0);
         }
         let Some((first, rest)) = self.rest.split_first() else {
-            return Err(io::Error::from(io::ErrorKind::ConnectionReset));
+            if self.fails {
+                return Err(io::Error::from(io::ErrorKind::ConnectionReset));
+            }
+            return Ok(0);
         };
         buf[0] = *first;
         self.rest = rest;
@@ -68,7 +72,7 @@ fn recodes(rt: HostRuntime) {
             b"a\xC3\xA9\xE2\x82\xAC\xF0\x9F\x92\xA9",
             false,
         ),
-        (b"\xEF\xBB\xBFa", b"\xEF\xBB\xBFa", false),
+        (b"\xEF\xBB\xBFa", b"a", false),
         (b"a\xE2\x82", b"a\xEF\xBF\xBD", true),
     ];
     for (input, want, replaced) in rows {
@@ -88,7 +92,7 @@ fn recodes(rt: HostRuntime) {
 fn read_fails(rt: HostRuntime) {
     let rows: [(&[u8], &[u8]); 3] = [(b"", b""), (b"a", b"a"), (b"a\xE2\x82", b"a")];
     for (rest, want) in rows {
-        let mut reader = FromRead::new(FailingReader { rest });
+        let mut reader = FromRead::new(SlowReader { rest, fails: true });
         let mut written = Vec::new(rt.alloc());
         let mut writer = FromWrite::new(&mut written);
         assert_eq!(rt;
@@ -269,6 +273,64 @@ fn recodes_a_line_of_each_complete_encoding(rt: HostRuntime) -> Result<(), Fail>
         assert_eq!(rt; status, want_status, "of {from}");
     }
     Ok(())
+}
+
+#[test]
+fn looks_for_a_mark_in_front(rt: HostRuntime) -> Result<(), Fail> {
+    let utf_8 = "\u{FEFF}é\u{FEFF}".as_bytes();
+    let rows: [(&str, &[u8], &str, u8); 14] = [
+        // the mark of the encoding named
+        ("utf-8", utf_8, "é\u{FEFF}", 0),
+        ("utf-16be", b"\xFE\xFF\x04\x1F", "П", 0),
+        ("utf-16le", b"\xFF\xFE\x1F\x04", "П", 0),
+        // the mark of another
+        ("windows-1252", utf_8, "é\u{FEFF}", 0),
+        ("iso-2022-jp", utf_8, "é\u{FEFF}", 0),
+        ("utf-16le", b"\xFE\xFF\x04\x1F", "П", 0),
+        ("utf-8", b"\xFF\xFEa\x00", "a", 0),
+        (
+            "x-user-defined",
+            b"\xFE\xFF\x00\x61\xDC\x00",
+            "a\u{FFFD}",
+            1,
+        ),
+        // nothing behind it
+        ("utf-8", b"\xFF\xFE", "", 0),
+        // marks that break off
+        ("windows-1252", b"\xEF\xBBa", "ï»a", 0),
+        ("ibm866", b"\xEF\xBB", "я╗", 0),
+        ("utf-8", b"\xEF\xBB", "\u{FFFD}", 1),
+        ("utf-16be", b"\xFE\xFE", "\u{FEFE}", 0),
+        // a mark that doesn't stand in front
+        ("windows-1252", b"a\xFF\xFE", "aÿþ", 0),
+    ];
+    for (from, input, want, want_status) in rows {
+        let (written, status) = recode_bytes(&rt, (from, "utf-8"), input)?;
+        assert_eq!(rt; written.as_slice(), want.as_bytes(), "of {from} {input:?}");
+        assert_eq!(rt; status, want_status, "of {from} {input:?}");
+    }
+    Ok(())
+}
+
+#[test]
+fn joins_a_mark_that_comes_in_parts(rt: HostRuntime) {
+    let rows: [(&[u8], &str); 4] = [
+        (b"\xEF\xBB\xBF\xC3\xA9", "é"),
+        (b"\xFE\xFF\x00\xE9", "é"),
+        (b"\xFF\xFE\xE9\x00", "é"),
+        (b"\xEF\xBB\xE9", "ï»é"),
+    ];
+    for (rest, want) in rows {
+        let mut written = Vec::new(rt.alloc());
+        let outcome = run(
+            &mut FromRead::new(SlowReader { rest, fails: false }),
+            &mut FromWrite::new(&mut written),
+            WINDOWS_1252,
+            UTF_8,
+        );
+        assert_eq!(rt; outcome, Ok(false), "of {rest:?}");
+        assert_eq!(rt; written.as_slice(), want.as_bytes(), "of {rest:?}");
+    }
 }
 
 #[test]

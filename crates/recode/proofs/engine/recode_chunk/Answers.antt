@@ -1,7 +1,7 @@
 use Rattle.std.proofs.Common.{rules, ◌≡◌}
 use Rattle.encoding_rs.specs.declared.coder_result.CoderResult.TheVariants.{InputEmpty}
 use Rattle.recode.proofs.KnownLemmas.{on_err}
-use Rattle.recode.proofs.DecodingLemmas.{none_unread}
+use Rattle.recode.proofs.DecodingLemmas.{none_unread, finished_at_end, still_open}
 use Rattle.recode.proofs.ChunkLemmas.{HasRecoded-more, StopsWithin-more}
 use Rattle.recode.proofs.engine.recode_chunk.Goals as goal
 
@@ -15,10 +15,17 @@ returns-then-eq-clause-ok g c =
     HasRecoded-more _ _ _ _ _ _ _ _ _ _ _ _ _ _ _ _ c.calls.invariant.recoded c.decode_to_utf8-outcome.ensures.call
     (none_unread _ _ _ _ _ _ _ _ _ c.decode_to_utf8-outcome.ensures.call ended) c.in_ok-push_all.ensures.ok
 
+pub returns-then-eq-clause-finished : goal.returns-then-eq-clause-finished
+returns-then-eq-clause-finished g c =
+    let ended : c.decode_to_utf8-outcome.result.0 ≡ InputEmpty = search rules in
+    finished_at_end _ _ _ _ _ _ _ _ _ c.decode_to_utf8-outcome.ensures.call ended
+
 pub calls-preserved : goal.calls-preserved
-calls-preserved g c = record {
-  recoded = HasRecoded-more _ _ _ _ _ _ _ _ _ _ _ _ _ _ _ _ c.calls.invariant.recoded c.decode_to_utf8-outcome.ensures.call
-      c.split_at.ensures.back c.in_ok-push_all.ensures.ok;
-  open_still = search rules;
-  kept = search rules;
-}
+calls-preserved g c =
+    let goes_on : ¬ (c.decode_to_utf8-outcome.result.0 ≡ InputEmpty) = search rules in
+    record {
+      recoded = HasRecoded-more _ _ _ _ _ _ _ _ _ _ _ _ _ _ _ _ c.calls.invariant.recoded c.decode_to_utf8-outcome.ensures.call
+          c.split_at.ensures.back c.in_ok-push_all.ensures.ok;
+      open_still = still_open _ _ _ _ _ _ _ _ _ c.decode_to_utf8-outcome.ensures.call goes_on;
+      kept = search rules;
+    }

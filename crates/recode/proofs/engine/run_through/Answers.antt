@@ -1,14 +1,16 @@
 use Rattle.std.proofs.Common.{arith, rules, ◌≡◌, ◌<◌, eqb, length, take, true, false}
 use Rattle.std.proofs.lemmas.Bool.Decides.{nat_tests}
 use Rattle.std.proofs.lemmas.List.{length-take}
+use Rattle.encoding_rs.specs.declared.bom.BomHandling.TheVariants.{Sniff}
+use Rattle.encoding_rs.proofs.RunLemmas.{fresh_open}
 use Rattle.recode.proofs.KnownLemmas.{on_err}
 use Rattle.recode.proofs.RunLemmas.{HasRun-start, HasRun-more, RunsToEnd-last, RunsToFault-between, RunsToFault-within}
 use Rattle.recode.proofs.engine.run_through.Goals as goal
 
 pub pulls-init : goal.pulls-init
 pulls-init g c = record {
-  ran = rw c.new_decoder_without_bom_handling-decoder.ensures (HasRun-start c.args.from _ _);
-  open_still = search rules;
+  ran = rw c.new_decoder-decoder.ensures (HasRun-start c.args.from _ _);
+  open_still = rw c.new_decoder-decoder.ensures (fresh_open Sniff c.args.from);
   reader_kept = search rules;
   writer_kept = search rules;
 }

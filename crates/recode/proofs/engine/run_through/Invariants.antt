@@ -1,11 +1,12 @@
 use Rattle.std.proofs.Common.{◌≡◌, false}
+use Rattle.encoding_rs.specs.Decoding.{finished}
 use Rattle.recode.proofs.RunLemmas.{HasRun}
 use Rattle.recode.proofs.engine.run_through.Given as goal
 
 abbrev pub invariant-pulls : goal.invariant-pulls
 invariant-pulls g l = record {
   ran : HasRun l.fn.from (g.R.Source.told l.initial.reader) (g.R.Source.told l.reader) (g.W.Sink.taken l.initial.writer) (g.W.Sink.taken l.writer) l.decoder l.replaced l.counter;
-  open_still : l.decoder.finished ≡ false;
+  open_still : finished l.decoder ≡ false;
   reader_kept : g.R.Source.has_failed l.reader ≡ g.R.Source.has_failed l.initial.reader;
   writer_kept : g.W.Sink.has_failed l.writer ≡ g.W.Sink.has_failed l.initial.writer;
 }

@@ -1,0 +1,472 @@
+//! Byte order marks (Encoding Standard 6): those that are looked for, found or not, and those that break off.
+
+use crate::encodings::TABLE;
+use crate::harness::{
+    Call, Input, ReportingCall, Run, Use, compare_cuts_of, compare_uses, make_calls_of,
+    make_reporting_calls_of, malformed, new_decoder, reporting, run_whole, valid,
+};
+use encoding_rs::run::{BomHandling, DecodeCall, decode_run};
+use encoding_rs::{
+    CoderResult, Decoder, DecoderResult, Encoding, IBM866, ISO_2022_JP, REPLACEMENT, SHIFT_JIS,
+    UTF_8, UTF_16BE, UTF_16LE, WINDOWS_1252, X_USER_DEFINED,
+};
+use std::alloc::Global;
+use std::process::Abort;
+use std::test::Fail;
+
+/// A call with replacement.
+fn call<'a>(
+    src: &'a [u8],
+    last: bool,
+    room: usize,
+    want: (CoderResult, usize, usize, bool),
+    text: &'a str,
+) -> Call<'a> {
+    Call {
+        src,
+        last,
+        room,
+        want,
+        text: text.as_bytes(),
+    }
+}
+
+const EMPTY: CoderResult = CoderResult::InputEmpty;
+
+const FULL: CoderResult = CoderResult::OutputFull;
+
+#[test]
+fn a_byte_behind_a_broken_mark_waits_for_its_report(rt: HostRuntime) {
+    let empty = DecoderResult::InputEmpty;
+    make_reporting_calls_of(
+        &rt,
+        &mut ISO_2022_JP.new_decoder(),
+        &[
+            reporting(b"\xEF\xBB", false, (empty, 2, 0), ""),
+            reporting(b"\x61", true, (DecoderResult::Malformed(1, 1), 0, 0), ""),
+            reporting(b"\x61", true, (DecoderResult::Malformed(1, 0), 0, 0), ""),
+            reporting(b"\x61", true, (empty, 1, 1), "a"),
+        ],
+    );
+    make_reporting_calls_of(
+        &rt,
+        &mut UTF_8.new_decoder_with_bom_removal(),
+        &[
+            reporting(b"\xEF\xBB", false, (empty, 2, 0), ""),
+            reporting(b"", true, (DecoderResult::Malformed(2, 0), 0, 0), ""),
+            reporting(b"", true, (empty, 0, 0), ""),
+        ],
+    );
+}
+
+#[test]
+fn a_byte_behind_a_broken_mark_waits_for_room(rt: HostRuntime) {
+    make_calls_of(
+        &rt,
+        &mut X_USER_DEFINED.new_decoder(),
+        &[
+            call(b"\xEF\xBB", false, 4, (EMPTY, 2, 0, false), ""),
+            call(b"\x61\x62", true, 4, (FULL, 0, 3, false), "\u{F7EF}"),
+            call(b"\x61\x62", true, 4, (FULL, 1, 4, false), "\u{F7BB}a"),
+            call(b"\x62", true, 4, (EMPTY, 1, 1, false), "b"),
+        ],
+    );
+    // it comes out of a call that is offered nothing
+    make_calls_of(
+        &rt,
+        &mut X_USER_DEFINED.new_decoder(),
+        &[
+            call(b"\xEF\xBB", false, 4, (EMPTY, 2, 0, false), ""),
+            call(b"", false, 4, (EMPTY, 0, 0, false), ""),
+            call(b"\x61", false, 3, (FULL, 0, 3, false), "\u{F7EF}"),
+            call(b"", false, 2, (FULL, 0, 0, false), ""),
+            call(b"", false, 3, (EMPTY, 0, 3, false), "\u{F7BB}"),
+            call(b"\x61", true, 3, (EMPTY, 1, 1, false), "a"),
+        ],
+    );
+}
+
+#[test]
+fn without_room_a_decoder_stays_as_it_was(rt: HostRuntime) {
+    make_calls_of(
+        &rt,
+        &mut SHIFT_JIS.new_decoder(),
+        &[
+            call(b"\xEF", false, 0, (EMPTY, 1, 0, false), ""),
+            call(b"\x41", true, 0, (FULL, 0, 0, false), ""),
+            call(b"\x41", true, 0, (FULL, 0, 0, false), ""),
+            call(b"\x41", true, 4, (EMPTY, 1, 4, true), "\u{FFFD}A"),
+        ],
+    );
+    // BB isn't lost where EF is a lead
+    make_calls_of(
+        &rt,
+        &mut SHIFT_JIS.new_decoder(),
+        &[
+            call(b"\xEF\xBB", false, 0, (EMPTY, 2, 0, false), ""),
+            call(b"\xB1", true, 0, (FULL, 0, 0, false), ""),
+            call(b"\xB1", true, 0, (FULL, 0, 0, false), ""),
+            call(b"\xB1", true, 6, (EMPTY, 1, 6, true), "\u{FFFD}ｱ"),
+        ],
+    );
+    // it still looks for the mark where the bytes behind are others
+    make_calls_of(
+        &rt,
+        &mut SHIFT_JIS.new_decoder(),
+        &[
+            call(b"\xEF", false, 0, (EMPTY, 1, 0, false), ""),
+            call(b"\x41", false, 0, (FULL, 0, 0, false), ""),
+            call(b"\xBB\xBF\x41", true, 1, (EMPTY, 3, 1, false), "A"),
+        ],
+    );
+}
+
+#[test]
+fn a_mark_tells_the_encoding(rt: HostRuntime) {
+    let mut decoder = WINDOWS_1252.new_decoder();
+    let whole = call(b"\xEF\xBB\xBF\x61", false, 0, (FULL, 3, 0, false), "");
+    make_calls_of(&rt, &mut decoder, &[whole]);
+    assert_eq!(rt; decoder.encoding(), UTF_8);
+    make_calls_of(
+        &rt,
+        &mut decoder,
+        &[call(b"\x61", true, 1, (EMPTY, 1, 1, false), "a")],
+    );
+    assert_eq!(rt; decoder.encoding(), UTF_8);
+    make_calls_of(
+        &rt,
+        &mut UTF_16BE.new_decoder_with_bom_removal(),
+        &[
+            call(b"\xFE", false, 4, (EMPTY, 1, 0, false), ""),
+            call(b"\xFF\x00\x41", true, 4, (EMPTY, 3, 1, false), "A"),
+        ],
+    );
+}
+
+/// The three marks with the encodings that they tell.
+const MARKS: [(&[u8], Encoding); 3] = [
+    (b"\xEF\xBB\xBF", UTF_8),
+    (b"\xFE\xFF", UTF_16BE),
+    (b"\xFF\xFE", UTF_16LE),
+];
+
+/// The encoding that a decoder names once it was offered these bytes, each by itself, and then the end.
+fn encoding_behind(rt: &impl Abort, mut decoder: Decoder, bytes: &[u8]) -> Encoding {
+    let mut buffer = [0; 16];
+    for byte in bytes.chunks(1) {
+        assert!(rt; !decoder.is_finished());
+        let _ = decoder.decode_to_utf8(byte, &mut buffer, false);
+    }
+    assert!(rt; !decoder.is_finished());
+    let (result, _, _, _) = decoder.decode_to_utf8(&[], &mut buffer, true);
+    assert_eq!(rt; result, EMPTY);
+    decoder.encoding()
+}
+
+#[test]
+fn only_a_whole_mark_that_is_sniffed_tells_the_encoding(rt: HostRuntime) {
+    for (encoding, _, _) in TABLE {
+        for handling in [BomHandling::Off, BomHandling::Sniff, BomHandling::Remove] {
+            assert_eq!(rt; new_decoder(encoding, handling).encoding(), encoding);
+        }
+        for (mark, told) in MARKS {
+            let sniffed = encoding_behind(&rt, encoding.new_decoder(), mark);
+            assert_eq!(rt; sniffed, told);
+            let remover = encoding.new_decoder_with_bom_removal();
+            assert_eq!(rt; encoding_behind(&rt, remover, mark), encoding);
+            let other = encoding.new_decoder_without_bom_handling();
+            assert_eq!(rt; encoding_behind(&rt, other, mark), encoding);
+        }
+        for broken in BROKEN {
+            let decoder = encoding.new_decoder();
+            assert_eq!(rt; encoding_behind(&rt, decoder, broken), encoding);
+        }
+    }
+}
+
+/// Inputs that begin as a mark does, and go on in another way or not at all.
+const BROKEN: [&[u8]; 16] = [
+    b"",
+    b"\xEF",
+    b"\xEF\xBB",
+    b"\xFE",
+    b"\xFF",
+    b"ab",
+    b"\xEFab",
+    b"\xEF\xBBab",
+    b"\xFEab",
+    b"\xFFab",
+    b"\xEF\xEF\xBB\xBF",
+    b"\xEF\xBB\xEF\xBB\xBF",
+    b"\xEF\xBB\xBB\xBF",
+    b"\xEF\xFE\xFF",
+    b"\xFE\xFE\xFF",
+    b"\xFF\xFF\xFE",
+];
+
+/// What is behind a whole mark: nothing, what may be ASCII or one character of UTF-16, a mark again.
+const BEHIND: [&[u8]; 5] = [b"", b"a", b"ab", b"\xEF\xBB\xBF", b"\xFE\xFF\xFF\xFE"];
+
+/// The places of malformed sequences in an input of which so many bytes stand in front.
+fn places_behind(
+    rt: &impl Abort,
+    alloc: Global,
+    run: &Run,
+    front: usize,
+) -> Result<Vec<(usize, usize)>, Fail> {
+    let mut places = Vec::new(alloc);
+    for (start, len) in run.malformed.as_slice() {
+        assert!(rt; start.is_some());
+        places.push((start.unwrap_or(0).saturating_add(front), *len))?;
+    }
+    Ok(places)
+}
+
+/// Decoders of one encoding that look for some marks make, of each cut and in each room from 0 to 7, what a decoder of
+/// `by` that looks for none makes at once of the bytes from `front` on, with room enough. Calls that neither read nor
+/// write, in rooms from 0 to 3, answer the same when they are made again, and nothing is lost by them.
+fn compare_with_plain(
+    rt: &impl Abort,
+    alloc: Global,
+    (encoding, handling): (Encoding, BomHandling),
+    (by, front): (Encoding, usize),
+    bytes: &[u8],
+) -> Result<(), Fail> {
+    let plain = Use {
+        encoding: by,
+        handling: BomHandling::Off,
+        reporting: true,
+        widens: false,
+    };
+    let (_, behind) = bytes.split_at(front.min(bytes.len()));
+    let run = run_whole(alloc, plain, behind)?;
+    let replaced = run_whole(
+        alloc,
+        Use {
+            reporting: false,
+            ..plain
+        },
+        behind,
+    )?;
+    assert_eq!(rt; run.text.as_slice(), replaced.text.as_slice());
+    assert_eq!(rt; run.had_errors, replaced.had_errors);
+    let places = places_behind(rt, alloc, &run, front)?;
+    let input = Input {
+        bytes,
+        text: run.text.as_slice(),
+        malformed: places.as_slice(),
+        room: 4,
+    };
+    for (widens, rooms) in [(false, 8), (true, 4)] {
+        let way = Use {
+            encoding,
+            handling,
+            reporting: false,
+            widens,
+        };
+        compare_uses(rt, alloc, way, &input, rooms)?;
+    }
+    Ok(())
+}
+
+#[test]
+fn marks_that_break_off_are_text(rt: HostRuntime) -> Result<(), Fail> {
+    for (encoding, _, _) in TABLE {
+        for bytes in BROKEN {
+            let sniffing = (encoding, BomHandling::Sniff);
+            compare_with_plain(&rt, rt.alloc(), sniffing, (encoding, 0), bytes)?;
+        }
+    }
+    for encoding in [UTF_8, UTF_16BE, UTF_16LE] {
+        for bytes in BROKEN {
+            let removing = (encoding, BomHandling::Remove);
+            compare_with_plain(&rt, rt.alloc(), removing, (encoding, 0), bytes)?;
+        }
+    }
+    Ok(())
+}
+
+/// A decoder drops each mark that it looks for, and the rest is text by the mark's encoding. Any other mark is text.
+fn compare_marks(
+    rt: &impl Abort,
+    alloc: Global,
+    encoding: Encoding,
+    handling: BomHandling,
+    behind: &[u8],
+) -> Result<(), Fail> {
+    for (mark, told) in MARKS {
+        let mut bytes = Vec::new(alloc);
+        bytes.extend_from_slice(mark)?;
+        bytes.extend_from_slice(behind)?;
+        let is_looked_for = match handling {
+            BomHandling::Off => false,
+            BomHandling::Sniff => true,
+            BomHandling::Remove => encoding == told,
+        };
+        let by = if is_looked_for {
+            (told, mark.len())
+        } else {
+            (encoding, 0)
+        };
+        compare_with_plain(rt, alloc, (encoding, handling), by, bytes.as_slice())?;
+    }
+    Ok(())
+}
+
+#[test]
+fn whole_marks_are_dropped(rt: HostRuntime) -> Result<(), Fail> {
+    for (encoding, _, _) in TABLE {
+        for behind in BEHIND {
+            compare_marks(&rt, rt.alloc(), encoding, BomHandling::Sniff, behind)?;
+        }
+        compare_marks(&rt, rt.alloc(), encoding, BomHandling::Remove, b"ab")?;
+    }
+    for encoding in [UTF_8, UTF_16BE, UTF_16LE] {
+        for behind in BEHIND {
+            compare_marks(&rt, rt.alloc(), encoding, BomHandling::Remove, behind)?;
+        }
+    }
+    Ok(())
+}
+
+#[test]
+fn bytes_of_a_broken_mark_have_their_text(rt: HostRuntime) -> Result<(), Fail> {
+    let two = "\u{FFFD}\u{FFFD}ab";
+    let rows = [
+        (IBM866, valid(b"\xEF\xBBab", "\u{44F}\u{2557}ab", 3)),
+        (
+            X_USER_DEFINED,
+            valid(b"\xEF\xBBab", "\u{F7EF}\u{F7BB}ab", 3),
+        ),
+        (
+            ISO_2022_JP,
+            malformed(b"\xEF\xBBab", two, &[(0, 1), (1, 1)], 3),
+        ),
+        (X_USER_DEFINED, valid(b"\xFE\x80", "\u{F7FE}\u{F780}", 3)),
+        (WINDOWS_1252, valid(b"\xEF\xBB\xBE", "ï»¾", 2)),
+        (UTF_8, malformed(b"\xEF\xBBab", "\u{FFFD}ab", &[(0, 2)], 3)),
+        (UTF_8, valid(b"\xEF\xBB\xBE", "\u{FEFE}", 3)),
+        (UTF_16BE, valid(b"\xFE\xFE", "\u{FEFE}", 3)),
+        (
+            UTF_16LE,
+            malformed(b"\xFFab", "\u{61FF}\u{FFFD}", &[(2, 1)], 3),
+        ),
+        (SHIFT_JIS, malformed(b"\xEFA", "\u{FFFD}A", &[(0, 1)], 3)),
+        (
+            REPLACEMENT,
+            malformed(b"\xEF\xBBab", "\u{FFFD}", &[(0, 1)], 3),
+        ),
+    ];
+    for (encoding, input) in &rows {
+        compare_cuts_of(&rt, rt.alloc(), *encoding, BomHandling::Sniff, input)?;
+        compare_cuts_of(&rt, rt.alloc(), *encoding, BomHandling::Remove, input)?;
+    }
+    Ok(())
+}
+
+#[test]
+fn text_behind_a_mark_is_of_its_encoding(rt: HostRuntime) -> Result<(), Fail> {
+    let big = b"\xFE\xFF\x00a\x00\xE9\x20\xAC\xD8\x3D\xDC\xA9";
+    let little = b"\xFF\xFEa\x00\xE9\x00\xAC\x20\x3D\xD8\xA9\xDC";
+    let rows = [
+        (UTF_8, valid("\u{FEFF}aé€💩".as_bytes(), "aé€💩", 4)),
+        (UTF_16BE, valid(big, "aé€💩", 4)),
+        (UTF_16LE, valid(little, "aé€💩", 4)),
+        (
+            UTF_8,
+            malformed(b"\xEF\xBB\xBF\xEF\xBBa", "\u{FFFD}a", &[(3, 2)], 3),
+        ),
+        (UTF_8, valid("\u{FEFF}\u{FEFF}a".as_bytes(), "\u{FEFF}a", 3)),
+        (
+            UTF_16BE,
+            valid(b"\xFE\xFF\xFE\xFF\xFF\xFE", "\u{FEFF}\u{FFFE}", 3),
+        ),
+        (
+            UTF_16LE,
+            malformed(b"\xFF\xFEa\x00b", "a\u{FFFD}", &[(4, 1)], 3),
+        ),
+    ];
+    for (told, input) in &rows {
+        compare_cuts_of(&rt, rt.alloc(), *told, BomHandling::Remove, input)?;
+        for encoding in [
+            UTF_8,
+            UTF_16BE,
+            UTF_16LE,
+            IBM866,
+            X_USER_DEFINED,
+            ISO_2022_JP,
+            REPLACEMENT,
+        ] {
+            compare_cuts_of(&rt, rt.alloc(), encoding, BomHandling::Sniff, input)?;
+        }
+    }
+    Ok(())
+}
+
+#[test]
+fn removal_leaves_the_marks_of_other_encodings(rt: HostRuntime) -> Result<(), Fail> {
+    let two = "\u{FFFD}\u{FFFD}a";
+    let rows = [
+        (WINDOWS_1252, valid(b"\xEF\xBB\xBFa", "ï»¿a", 2)),
+        (WINDOWS_1252, valid(b"\xFE\xFF\xFF\xFE", "þÿÿþ", 2)),
+        (
+            IBM866,
+            valid(b"\xEF\xBB\xBFa", "\u{44F}\u{2557}\u{2510}a", 3),
+        ),
+        (UTF_8, malformed(b"\xFE\xFFa", two, &[(0, 1), (1, 1)], 3)),
+        (UTF_8, malformed(b"\xFF\xFEa", two, &[(0, 1), (1, 1)], 3)),
+        (UTF_16BE, valid(b"\xFF\xFE\x00a", "\u{FFFE}a", 3)),
+        (UTF_16BE, valid(b"\xEF\xBB\xBFa", "\u{EFBB}\u{BF61}", 3)),
+        (UTF_16LE, valid(b"\xFE\xFFa\x00", "\u{FFFE}a", 3)),
+        (UTF_16LE, valid(b"\xEF\xBB\xBFa", "\u{BBEF}\u{61BF}", 3)),
+    ];
+    for (encoding, input) in &rows {
+        compare_cuts_of(&rt, rt.alloc(), *encoding, BomHandling::Remove, input)?;
+        compare_cuts_of(&rt, rt.alloc(), *encoding, BomHandling::Off, input)?;
+    }
+    Ok(())
+}
+
+/// A run of calls, each offered one byte and given room for four, and then some with no room.
+fn compare_run(
+    rt: &impl Abort,
+    alloc: Global,
+    (encoding, handling): (Encoding, BomHandling),
+    bytes: &[u8],
+    (text, had_errors): (&str, bool),
+) -> Result<(), Fail> {
+    let calls = [DecodeCall { offer: 1, room: 4 }; 16];
+    let report = decode_run(alloc, encoding, handling, bytes, &calls)?;
+    assert!(rt; report.finished && report.calls <= 16);
+    assert_eq!(rt; report.text.as_slice(), text.as_bytes());
+    assert_eq!(rt; (report.read, report.had_errors), (bytes.len(), had_errors));
+    let report = decode_run(alloc, encoding, handling, bytes, &calls[..1])?;
+    assert_eq!(rt; (report.finished, report.calls, report.read), (false, 1, 1));
+    assert!(rt; text.as_bytes().starts_with(report.text.as_slice()));
+    Ok(())
+}
+
+#[test]
+fn runs_look_for_the_marks_that_they_are_told(rt: HostRuntime) -> Result<(), Fail> {
+    let (off, sniff, remove) = (BomHandling::Off, BomHandling::Sniff, BomHandling::Remove);
+    let big: &[u8] = b"\xFE\xFF\x00a";
+    let utf_8: &[u8] = b"\xEF\xBB\xBFa";
+    let rows: [((Encoding, BomHandling), &[u8], (&str, bool)); 12] = [
+        ((UTF_16BE, off), big, ("\u{FEFF}a", false)),
+        ((UTF_16BE, sniff), big, ("a", false)),
+        ((UTF_16BE, remove), big, ("a", false)),
+        ((UTF_16LE, off), big, ("\u{FFFE}\u{6100}", false)),
+        ((UTF_16LE, sniff), big, ("a", false)),
+        ((UTF_16LE, remove), big, ("\u{FFFE}\u{6100}", false)),
+        ((WINDOWS_1252, off), utf_8, ("ï»¿a", false)),
+        ((WINDOWS_1252, sniff), utf_8, ("a", false)),
+        ((WINDOWS_1252, remove), utf_8, ("ï»¿a", false)),
+        ((UTF_8, off), utf_8, ("\u{FEFF}a", false)),
+        ((UTF_8, remove), utf_8, ("a", false)),
+        ((UTF_8, sniff), b"\xEF\xBBa", ("\u{FFFD}a", true)),
+    ];
+    for (way, bytes, want) in rows {
+        compare_run(&rt, rt.alloc(), way, bytes, want)?;
+    }
+    Ok(())
+}

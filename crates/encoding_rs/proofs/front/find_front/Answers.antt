@@ -1,0 +1,40 @@
+-- Byte by byte: a state that holds one more, a mark's end, or what is in front of text.
+use Rattle.std.proofs.Common.{◌≡◌, inl, inr, length, arith, sym, ◌∙◌}
+use Rattle.std.proofs.lemmas.Bool.{true≢false}
+use Rattle.std.proofs.lemmas.List.{take_all}
+use Rattle.encoding_rs.proofs.FrontLemmas.{reaches_itself, reaches_next, ends_next, text_at, text_at_end}
+use Rattle.encoding_rs.proofs.front.find_front.Goals as goal
+
+pub loop-len-init : goal.loop-len-init
+loop-len-init c = record { within = omega arith; reaches = reaches_itself _ }
+
+pub loop-len-preserved : goal.loop-len-preserved
+loop-len-preserved c = record {
+  within = omega arith;
+  reaches = reaches_next _ _ _ _ _ c.loop-len-test.true c.loop-len.invariant.reaches c.in-Holds.ensures;
+}
+
+pub returns-in-Ends-clause-front : goal.returns-in-Ends-clause-front
+returns-in-Ends-clause-front c = ends_next _ _ _ _ _ c.loop-len-test.true c.loop-len.invariant.reaches c.in-Ends.ensures
+
+pub returns-in-Breaks-clause-front : goal.returns-in-Breaks-clause-front
+returns-in-Breaks-clause-front c =
+    (c.loop-len.invariant.reaches, text_at _ _ _ _ c.loop-len-test.true c.in-Breaks.ensures)
+
+pub returns-then-not-last-clause-front : goal.returns-then-not-last-clause-front
+returns-then-not-last-clause-front c =
+    let all : c.loop-len.len ≡ length c.args.src.now = omega arith in (
+      all,
+      c.if-not-last.true,
+      sym c.awaits_mark.ensures ∙ c.if-awaits_mark.true,
+      rw (take_all c.loop-len.len c.args.src.now c.loop-len-test.false) at c.loop-len.invariant.reaches,
+    )
+
+pub returns-clause-front : goal.returns-clause-front
+returns-clause-front c = (
+  c.loop-len.invariant.reaches,
+  text_at_end _ _ _ _ c.loop-len-test.false (λ awaits. elim c.else-awaits_mark.either [
+    | inl last ↦ last.1
+    | inr none ↦ absurd (true≢false (sym awaits ∙ sym c.awaits_mark.ensures ∙ none))
+  ]),
+)

@@ -1,0 +1,11 @@
+-- All bytes passed may begin a mark, and are held.
+use Rattle.std.proofs.Common.{◌≤◌, ◌-◌, length, take}
+use Rattle.encoding_rs.specs.Front.{Reaches}
+use Rattle.encoding_rs.proofs.front.find_front.Given as goal
+
+abbrev pub invariant-loop-len : goal.invariant-loop-len
+invariant-loop-len l = record { within : l.len ≤ length l.src; reaches : Reaches l.fn.life l.held (take l.len l.src) }
+
+-- the bytes ahead
+abbrev pub decreases-loop-len : goal.decreases-loop-len
+decreases-loop-len l = length l.src - l.len

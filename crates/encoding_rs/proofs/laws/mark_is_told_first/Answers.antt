@@ -1,0 +1,14 @@
+-- For any marks that are bytes and of which none begins another.
+use Rattle.std.proofs.Common.{refl}
+use Rattle.encoding_rs.specs.Bom.{marks_looked_for}
+use Rattle.encoding_rs.proofs.SettledLemmas as settled
+use Rattle.encoding_rs.proofs.laws.mark_is_told_first.Goals as goal
+
+pub returns-clause-told : goal.returns-clause-told
+returns-clause-told c = settled.told (marks_looked_for c.args.handling c.args.encoding)
+
+pub returns-clause-first : goal.returns-clause-first
+returns-clause-first c = settled.undetermined c.args.handling c.args.encoding
+
+pub returns-clause-then : goal.returns-clause-then
+returns-clause-then c = λ x ss n. settled.by_rule c.args.handling c.args.encoding x ss _ refl n

@@ -1,0 +1,51 @@
+-- What stands in front of the input, by bytes that come one at a time.
+use Rattle.std.specs.Prelude.{◌≡◌, ℕ, Bool, true, false, List, [], ◌∷◌, ◌++◌, length, take, drop, Some, None}
+use Rattle.encoding_rs.specs.declared.encoding.Encoding.{Encoding}
+use Rattle.encoding_rs.specs.declared.life_cycle.LifeCycle.{LifeCycle}
+use Rattle.encoding_rs.specs.declared.life_cycle.Step.{Step}
+use Rattle.encoding_rs.specs.declared.life_cycle.Step.TheVariants.{Holds, Ends, Breaks}
+use Rattle.encoding_rs.specs.declared.front.Front.{Front}
+use Rattle.encoding_rs.specs.declared.front.Front.TheVariants.{Open, Text}
+use Rattle.encoding_rs.specs.declared.front.Front.TheVariants as front
+use Rattle.encoding_rs.specs.Bom.{Mark}
+use Rattle.encoding_rs.specs.LifeCycle.{phase_of, awaits_mark, mark_in, held_bytes, fronts, state_at}
+
+-- These bytes lead from one state to another: it holds them too, and says the same of all that may follow.
+pub record Reaches (old new : LifeCycle) (x : List ℕ) : Type 0 where
+  pub held : held_bytes old ++ x ≡ held_bytes new
+  pub awaits : awaits_mark (phase_of new) ≡ awaits_mark (phase_of old)
+  pub marks : (y : List ℕ) → mark_in (phase_of old) (held_bytes new ++ y) ≡ mark_in (phase_of new) (held_bytes new ++ y)
+  pub states : (y : List ℕ) → state_at (fronts old) (held_bytes new ++ y) ≡ state_at (fronts new) (held_bytes new ++ y)
+  pub stays : awaits_mark (phase_of old) ≡ false → new ≡ old
+
+-- With these bytes a mark is whole, which tells this encoding.
+pub record EndsMark (life : LifeCycle) (x : List ℕ) (e : Encoding) : Type 0 where
+  pub mark : Mark
+  pub tells : mark.encoding ≡ e
+  pub whole : held_bytes life ++ x ≡ mark.bytes
+  pub found : (y : List ℕ) → mark_in (phase_of life) (mark.bytes ++ y) ≡ Some mark
+  pub no_front : (y : List ℕ) → state_at (fronts life) (mark.bytes ++ y) ≡ None
+  pub awaits : awaits_mark (phase_of life) ≡ true
+
+-- Behind the bytes held this byte belongs to no mark, whatever follows it.
+pub record BreaksOff (life : LifeCycle) (b : ℕ) : Type 0 where
+  pub no_mark : (y : List ℕ) → mark_in (phase_of life) (held_bytes life ++ b ∷ y) ≡ None
+  pub no_front : (y : List ℕ) → state_at (fronts life) (held_bytes life ++ b ∷ y) ≡ None
+
+-- No mark comes in front of these bytes, which nothing follows where `last`.
+pub record IsText (life : LifeCycle) (src : List ℕ) (last : Bool) : Type 0 where
+  pub breaks : (b : ℕ) (z : List ℕ) → src ≡ b ∷ z → BreaksOff life b
+  pub ends : src ≡ [] → awaits_mark (phase_of life) ≡ true → last ≡ true
+
+-- what a byte is
+abbrev pub IsStep : LifeCycle → ℕ → Step → Type 0
+IsStep life b (Holds new) = Reaches life new (b ∷ [])
+IsStep life b (Ends e) = EndsMark life (b ∷ []) e
+IsStep life b Breaks = BreaksOff life b
+
+-- what stands in front, and how many bytes of the offer that concerns
+abbrev pub IsFront : LifeCycle → List ℕ → Bool → Front → ℕ → Type 0
+IsFront life src last (Open new) n =
+    (n ≡ length src) × (last ≡ false) × (awaits_mark (phase_of new) ≡ true) × Reaches life new src
+IsFront life src last (front.Mark e) n = EndsMark life (take n src) e
+IsFront life src last (Text new) n = Reaches life new (take n src) × IsText new (drop n src) last

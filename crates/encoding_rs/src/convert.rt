@@ -1,0 +1,181 @@
+//! A codec over bytes that were held back and those that follow them.
+
+ghost use Rattle.std.specs.Prelude.{◌≡◌, ℕ, ◌+◌, ◌-◌, ◌≤◌, ◌++◌, false, length};
+ghost use Rattle.enc_codec.specs.CodecState.{remainder_of};
+ghost use Rattle.enc_codec.specs.Call.{CallInto, is_end as ends};
+ghost use Rattle.encoding_rs.specs.declared.encoding.Encoding.{Encoding};
+ghost use Rattle.encoding_rs.specs.Encodings.{rule_of};
+ghost use Rattle.encoding_rs.specs.Converting.{ConvertsInto, ReadsHeldFirst, placed_by};
+ghost use Rattle.encoding_rs.specs.Decoding.{has_ended, stop_of, treatment_of, unread_bytes, state_by, HoldsBack, DecodesInto};
+ghost use Rattle.encoding_rs.specs.Front.{IsText};
+
+use crate::coder_result::CoderResult;
+use crate::life_cycle::LifeCycle;
+use crate::replacing::decode_replacing;
+use enc_codec::{DecoderResult, RawDecoder};
+use enc_units::Units;
+
+/// What a conversion came to.
+#[derive(Clone, Copy)]
+pub(crate) struct Converted {
+    /// Why it stopped.
+    pub(crate) result: DecoderResult,
+    /// How many of the bytes held back it has not read.
+    pub(crate) left: usize,
+    /// How many of the other bytes it has read.
+    pub(crate) read: usize,
+    /// Whether something was replaced.
+    pub(crate) replaced: bool,
+}
+
+/// The same stop, for calls with replacement and without.
+fn raw_result(stop: CoderResult) -> DecoderResult
+    ensures { result ≡ stop_of stop }
+{
+    match stop {
+        CoderResult::InputEmpty => DecoderResult::InputEmpty,
+        CoderResult::OutputFull => DecoderResult::OutputFull,
+    }
+}
+
+/// Decodes until all is read, the next sequence doesn't fit, or, where they aren't replaced, one is malformed.
+fn decode_any<D: RawDecoder, U: Units>(
+    codec: &mut D,
+    src: &[u8],
+    out: &mut U,
+    last: bool,
+    replace: bool,
+) -> (DecoderResult, usize, bool)
+    ensures call { CallInto U.units_of (remainder_of (D.state codec.old)) (remainder_of (D.state codec.new)) src.now last
+        (treatment_of replace) (U.output out.old) (U.output out.new) result.0 result.1 result.2 }
+    ensures rule { (D.state codec.new).rule ≡ (D.state codec.old).rule }
+{
+    if replace {
+        let (stop, read, replaced) = decode_replacing(codec, src, out, last);
+        return (raw_result(stop), read, replaced);
+    }
+    let (stop, read) = codec.decode(src, out, last, false);
+    (stop, read, false)
+}
+
+/// The same of bytes that were held back and those of `src`, as if they were offered together.
+pub(crate) fn convert<D: RawDecoder, U: Units>(
+    codec: &mut D,
+    held: &[u8],
+    src: &[u8],
+    out: &mut U,
+    last: bool,
+    replace: bool,
+) -> Converted
+    ensures call { ConvertsInto U.units_of (remainder_of (D.state codec.old)) (remainder_of (D.state codec.new)) (held.now ++ src.now) last
+        (treatment_of replace) (U.output out.old) (U.output out.new) result.result (length held.now - result.left + result.read) result.replaced }
+    ensures reads { ReadsHeldFirst held.now src.now result.left result.read }
+    ensures rule { (D.state codec.new).rule ≡ (D.state codec.old).rule }
+{
+    if held.is_empty() {
+        let (result, read, replaced) = decode_any(codec, src, out, last, replace);
+        return Converted {
+            result,
+            left: 0,
+            read,
+            replaced,
+        };
+    }
+    if src.is_empty() {
+        let (result, given, replaced) = decode_any(codec, held, out, last, replace);
+        return Converted {
+            result,
+            left: held.len() - given,
+            read: 0,
+            replaced,
+        };
+    }
+    let (result, given, replaced) = decode_any(codec, held, out, false, replace);
+    if result != DecoderResult::InputEmpty {
+        return Converted {
+            result,
+            left: held.len() - given,
+            read: 0,
+            replaced,
+        };
+    }
+    let (result, read, also) = decode_any(codec, src, out, last, replace);
+    Converted {
+        result,
+        left: 0,
+        read,
+        replaced: replaced | also,
+    }
+}
+
+/// Whether a call has come to the end of the input.
+fn is_end(last: bool, stop: DecoderResult) -> bool
+    ensures { result ≡ ends last stop }
+{
+    match stop {
+        DecoderResult::InputEmpty => last,
+        DecoderResult::OutputFull => false,
+        DecoderResult::Malformed(_, _) => false,
+    }
+}
+
+/// The same stop, where so many bytes are held behind those that a codec has.
+fn placed(stop: DecoderResult, held: usize) -> DecoderResult
+    requires few { (l a : ℕ) → stop ≡ DecoderResult.Malformed l a → a + held ≤ 255 }
+    ensures { result ≡ placed_by stop held }
+{
+    match stop {
+        DecoderResult::InputEmpty => stop,
+        DecoderResult::OutputFull => stop,
+        DecoderResult::Malformed(len, behind) => DecoderResult::Malformed(len, behind + held as u8),
+    }
+}
+
+/// The bytes of a mark that are held and that a codec hasn't read which has so many pending.
+fn unread(life: LifeCycle, pending: usize) -> &'static [u8]
+    ensures { result.now ≡ unread_bytes life pending }
+{
+    if pending == 0 { life.held() } else { b"" }
+}
+
+/// Decodes text: the bytes of a mark that are held, and `src`. Where it puts out and reports nothing, and reads none of
+/// `src`, the codec is as it was.
+pub(crate) fn convert_text<D: RawDecoder, U: Units>(
+    life: &mut LifeCycle,
+    codec: &mut D,
+    src: &[u8],
+    out: &mut U,
+    last: bool,
+    replace: bool,
+) -> (DecoderResult, usize, bool)
+    requires open { has_ended life.old ≡ false }
+    requires text { IsText life.old src.now last }
+    requires holds { HoldsBack life.old (D.state codec.old) }
+    ensures call { (e : Encoding) → rule_of e ≡ (D.state codec.old).rule →
+        DecodesInto U.units_of (treatment_of replace) (state_by e life.old (D.state codec.old)) (state_by e life.new (D.state codec.new))
+        src.now last (U.output out.old) (U.output out.new) result.0 result.1 result.2 }
+    ensures rule { (D.state codec.new).rule ≡ (D.state codec.old).rule }
+    ensures holds { HoldsBack life.new (D.state codec.new) }
+{
+    let before = *codec;
+    let held = unread(*life, before.held());
+    let done = convert(codec, held, src, out, last, replace);
+    let stop = (placed(done.result, done.left), done.read, done.replaced);
+    if is_end(last, done.result) {
+        *life = LifeCycle::Finished;
+        return stop;
+    }
+    let pending = codec.held() + done.left;
+    let untouched = (done.read == 0) & (pending == before.held() + held.len());
+    if untouched {
+        *codec = before;
+        return stop;
+    }
+    let leaves_bb = (done.read == 0) & ((held.len() == 2) & (pending == 1));
+    if leaves_bb {
+        *life = LifeCycle::ConvertingWithPendingBb;
+        return stop;
+    }
+    *life = LifeCycle::Converting;
+    stop
+}
