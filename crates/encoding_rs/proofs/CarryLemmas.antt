@@ -15,6 +15,7 @@ use Rattle.enc_codec.specs.Call.{Call, Treatment, AreBounded, ReadsReported, is_
 use Rattle.enc_codec.proofs.SequenceLemmas.{bytes_of-one, units-append, any_malformed-append}
 use Rattle.enc_codec.proofs.DeterminedLemmas.{begins_behind}
 use Rattle.enc_codec.proofs.ByteLemmas.{determines_by_more}
+use Rattle.encoding_rs.proofs.Turns.{first_of}
 
 -- How the input of an inner decoder lies in that of an outer one. From some n on, what the outer one makes of the first n bytes is what is done before, and what the inner one makes of its first
 -- n + more - less bytes. With less than `below` bytes the outer one determines nothing more than that.
@@ -57,10 +58,6 @@ nothing_wrote units_of treatment room = record { text = refl; fits = omega arith
 none_of_both : (a b : Bool) → a ≡ false → b ≡ false → (a || b) ≡ false
 none_of_both a b e f = ap (λ x. x || b) e ∙ f
 
-first_of : (ss : List Sequence) (s : Sequence) → (f : Sequence) × (rest : List Sequence) × (ss ++ s ∷ [] ≡ f ∷ rest)
-first_of [] s = (s, [], refl)
-first_of (f ∷ ss) s = (f, ss ++ s ∷ [], refl)
-
 -- a sequence of one byte, and one more behind it
 one_and_one : (k : Kind) (l a left : ℕ) → l ≡ 1 → a ≡ 0 → left ≡ 1 → AreBounded k l a → AreBounded k l (a + left)
 one_and_one kind.Valid l a left e f g h = (omega arith, omega arith, omega arith)
@@ -74,8 +71,9 @@ is_six kind.Skipped l a e h = absurd (false≢true e)
 is_six kind.Malformed l a e h = absurd (false≢true e)
 is_six kind.RepeatedEscape l a e h = let f = h.0 in let g = h.1 in omega arith
 
-below_or_more : (m n : ℕ) → (m ≤ n) ⊎ (n + 1 ≤ m)
-below_or_more m n = grind (arith, nat_tests, leb_tells m n)
+-- one number is at most another, or more
+pub most_or_more : (m n : ℕ) → (m ≤ n) ⊎ (n < m)
+most_or_more m n = grind (arith, nat_tests, leb_tells m n)
 
 module _ (units_of : ℕ → List ℕ) (old inner : Remainder) (src bytes : List ℕ) (are : AreBytes bytes) (last : Bool) (treatment : Treatment) (room room_left : ℕ)
     (before : List Sequence) (wrote : List ℕ) (had : Bool) (more less from below n read left : ℕ) (then new : Remainder) (written : List ℕ) (replaced : Bool)
@@ -253,7 +251,7 @@ module _ (units_of : ℕ → List ℕ) (old inner : Remainder) (src bytes : List
           | inl i ↦ inr (unshown c.done some (read - 1) (omega arith))
           | inr i ↦ elim r.not_shown [
             | inl j ↦ elim (g.none j) [ inl k ↦ inl k | inr k ↦ inr (unshown c.done some (read - 1) (omega arith)) ]
-            | inr j ↦ elim (below_or_more read from) [
+            | inr j ↦ elim (most_or_more read from) [
               | inl k ↦ at_once k
               | inr k ↦ one_less i j k
             ]
@@ -264,9 +262,9 @@ module _ (units_of : ℕ → List ℕ) (old inner : Remainder) (src bytes : List
     }
       where
         at_once : read ≤ from → (read ≡ 0) ⊎ (Determines old.sequences (take (read - 1) src) (before ++ c.done) → ⊥)
-        at_once k = elim (below_or_more read 0) [ inl e ↦ inl (omega arith) | inr e ↦ inr (unshown c.done some (read - 1) (omega (arith, f.near))) ]
+        at_once k = elim (most_or_more read 0) [ inl e ↦ inl (omega arith) | inr e ↦ inr (unshown c.done some (read - 1) (omega (arith, f.near))) ]
 
-        one_less : (from ≤ read) × (read + more - less ≡ n) → (Determines inner.sequences (take (n - 1) bytes) c.done → ⊥) → from + 1 ≤ read
+        one_less : (from ≤ read) × (read + more - less ≡ n) → (Determines inner.sequences (take (n - 1) bytes) c.done → ⊥) → from < read
             → (read ≡ 0) ⊎ (Determines old.sequences (take (read - 1) src) (before ++ c.done) → ⊥)
         one_less i j k = inr (λ d. j (hidden (n - 1) (read - 1) c.done (omega arith) (omega (arith, g.within)) (let e = i.1 in omega (arith, f.shift)) d))
     reads_on false h p r = record {

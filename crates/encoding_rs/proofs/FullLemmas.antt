@@ -28,6 +28,7 @@ use Rattle.enc_codec.proofs.Utf16Rule.{utf_16_has_texts}
 use Rattle.encoding_rs.proofs.EncodingLemmas.{small_texts}
 use Rattle.encoding_rs.proofs.TextLemmas.{held_unmarked, marked_sequences}
 use Rattle.encoding_rs.proofs.HeldLemmas.{own_state}
+use Rattle.encoding_rs.proofs.JoinLemmas.{no_bytes}
 use Rattle.encoding_rs.proofs.RunLemmas.{ends_at_end}
 
 -- The sequences still to come are those of a rule: the encoding's, or that of a mark.
@@ -94,10 +95,6 @@ begins_at : (last : Bool) (remaining : List ℕ → List Sequence) (x : List ℕ
 begins_at true remaining x ss d = (x, d)
 begins_at false remaining x ss d = (x ++ [], d [] tt)
 
-no_length : (x : List ℕ) → length x ≡ 0 → x ≡ []
-no_length [] h = refl
-no_length (a ∷ x) h = absurd (omega arith)
-
 -- the bytes pending are no mark
 own_unmarked : (p : Phase) (pending held : List ℕ) → mark_in p (held ++ []) ≡ None → (awaits_mark p ≡ true → pending ≡ held) → mark_in p pending ≡ None
 own_unmarked (InFront looked_for) pending held h f = ap (find_mark looked_for) (f refl ∙ sym (append-nil held)) ∙ h
@@ -113,7 +110,7 @@ module _ (treatment : Treatment) (old new : DecoderState) (src : List ℕ) (last
     (d : Decodes encode_utf8 treatment old new src last room OutputFull read wrote replaced) where
   -- where nothing is written, nothing that has a text is done
   no_text : length wrote ≡ 0 → text_of d.call.done ≡ []
-  no_text w = ap text_of d.call.stops.only_put ∙ no_units (text_of d.call.put) (sym d.call.text ∙ no_length wrote w)
+  no_text w = ap text_of d.call.stops.only_put ∙ no_units (text_of d.call.put) (sym d.call.text ∙ no_bytes wrote w)
 
   -- With room for four units something is done: fewer bytes are pending or unread.
   pub less_at_hand : 4 ≤ room → length new.pending + (length src - read) < length old.pending + length src

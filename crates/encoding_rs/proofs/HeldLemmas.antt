@@ -2,7 +2,7 @@
 use Rattle.std.specs.Prelude.{if◌then◌else◌, bytes_eq}
 use Rattle.std.proofs.Common.{◌≡◌, ℕ, ◌+◌, ◌-◌, ◌<◌, ◌≤◌, zero, suc, Bool, true, false, ◌&&◌, eqb, List, [], ◌∷◌, ◌++◌, length, take, drop, refl, ap, ◌∙◌, sym, arith, append_assoc, inl, inr, ◌⊎◌, None}
 use Rattle.std.proofs.lemmas.Bool.{false≢true}
-use Rattle.std.proofs.lemmas.Bool.Decides.{nat_tests, leb_tells}
+use Rattle.std.proofs.lemmas.Bool.Decides.{nat_tests}
 use Rattle.std.proofs.lemmas.List.{append-nil, length-append, take-append-drop}
 use Rattle.std.proofs.lemmas.Slice.Eq.{bytes_eq-Decides}
 use Rattle.std.proofs.Math.ListN.{drop_of_length-le, length-take}
@@ -25,7 +25,8 @@ use Rattle.encoding_rs.specs.LifeCycle.{phase_of, awaits_mark, mark_bytes, encod
 use Rattle.encoding_rs.specs.Front.{IsText}
 use Rattle.encoding_rs.specs.Converting.{ReadsHeldFirst, placed_by}
 use Rattle.encoding_rs.specs.Decoding.{DecoderState, has_ended, remaining_sequences, decoder_remainder, pending_bytes, state_by, unread_bytes, HoldsBack, TellsHeld, DecodesInto}
-use Rattle.encoding_rs.proofs.CarryLemmas.{Follows, nothing_wrote, carries_empty, carries_full, carries_malformed}
+use Rattle.encoding_rs.proofs.CarryLemmas.{most_or_more, Follows, nothing_wrote, carries_empty, carries_full, carries_malformed}
+use Rattle.encoding_rs.proofs.JoinLemmas.{no_bytes}
 use Rattle.encoding_rs.proofs.TextLemmas.{settled_from, awaited_unless_settled, carries, reads_on, unmarked_read, by_codec, unmarked_all, bytes_unread, few_unread, at_hand, first_byte, pending_of_held}
 
 -- the end is the same however the stop is told
@@ -41,9 +42,6 @@ at_end last (Malformed l a) h = absurd (false≢true h)
 
 not_at_end : (last : Bool) (stop : DecoderResult) → is_end last stop ≡ false → last ≡ true → stop ≡ InputEmpty → ⊥
 not_at_end last stop h l s = false≢true (sym h ∙ ap (is_end last) s ∙ l)
-
-less_or_more : (m n : ℕ) → (m ≤ n) ⊎ (n < m)
-less_or_more m n = grind (arith, nat_tests, leb_tells m n)
 
 none_malformed : (done put : List Sequence) (s : Sequence) → done ≡ [] → done ≡ put ++ s ∷ [] → ⊥
 none_malformed done put s e f = let g = ap length (sym e ∙ f) in let h = length-append put (s ∷ []) in omega arith
@@ -156,7 +154,7 @@ module _ (units_of : ℕ → List ℕ) (e : Encoding) (life : LifeCycle) (v w : 
   module _ (r : ReadsHeldFirst held src left read) where
     -- all of the bytes held that the codec hasn't read are few
     near : (settled ≤ read) ⊎ ((total ≤ 5) × (v.pending ≡ []))
-    near = elim (less_or_more settled read) [
+    near = elim (most_or_more settled read) [
       | inl h ↦ inl h
       | inr h ↦ let f = awaited_unless_settled (phase_of life) read h in inr ((let g = few_unread life (length v.pending) in let i = f.0 in omega arith), (holds.unread f.1).1)
     ]
@@ -278,7 +276,7 @@ module _ (units_of : ℕ → List ℕ) (e : Encoding) (life : LifeCycle) (v w : 
       nothing_left : left ≡ 0
       nothing_left = elim r.first [
         | inl f ↦ f
-        | inr f ↦ elim (less_or_more left 0) [
+        | inr f ↦ elim (most_or_more left 0) [
           | inl i ↦ omega arith
           | inr i ↦ absurd (too_few f i)
         ]
@@ -289,7 +287,7 @@ module _ (units_of : ℕ → List ℕ) (e : Encoding) (life : LifeCycle) (v w : 
               let j = done_len c.done a in let k = r.most in let m = few_unread life (length v.pending) in
               elim (held_or_pending (eqb (length v.pending) 0) (held_bytes life) (length v.pending) refl) [
                 | inl n ↦ omega arith
-                | inr n ↦ elim (less_or_more (length (bytes_of c.done)) 0) [
+                | inr n ↦ elim (most_or_more (length (bytes_of c.done)) 0) [
                   | inl o ↦ touched f (omega arith)
                   | inr o ↦ no_bb f (omega arith) (omega arith)
                 ]
@@ -360,10 +358,6 @@ one_and_rest (x ∷ []) rest bytes b e h = (ap (λ n. n ∷ []) (heads x b rest 
     tails m n y z f = cc
 one_and_rest (x ∷ y ∷ front) rest bytes b e h = absurd (omega arith)
 
-no_length : (x : List ℕ) → length x ≡ 0 → x ≡ []
-no_length [] e = refl
-no_length (b ∷ x) e = absurd (omega arith)
-
 module _ (v w : CodecState) (src : List ℕ) (done : List Sequence) (left read : ℕ) where
   -- what the codec makes of EF BB
   pub record LeavesBb (life : LifeCycle) : Type 0 where
@@ -378,7 +372,7 @@ module _ (v w : CodecState) (src : List ℕ) (done : List Sequence) (left read :
       → read ≡ 0 → length (unread_bytes life (length v.pending)) ≡ 2 → length w.pending + left ≡ 1 → LeavesBb life
   leaves_bb life r a z two one =
       let t = two_bytes life (eqb (length v.pending) 0) two in
-      let none : v.pending ≡ [] = no_length v.pending (let f = t.1 in grind (arith, nat_tests)) in
+      let none : v.pending ≡ [] = no_bytes v.pending (let f = t.1 in grind (arith, nat_tests)) in
       let unread : unread_bytes life (length v.pending) ≡ 0xEF ∷ 0xBB ∷ [] = ap (λ n. unread_bytes life n) (ap length none) ∙ ap (λ l. unread_bytes l 0) t.0 in
       let n : ℕ = length (unread_bytes life (length v.pending)) - left + read in
       let f = ap length a in let g = length-append v.pending (take n (unread_bytes life (length v.pending) ++ src)) in let h = length-append (bytes_of done) w.pending in
@@ -421,7 +415,7 @@ module _ (units_of : ℕ → List ℕ) (e : Encoding) (life : LifeCycle) (v w : 
       let none_read : pending_bytes (held_bytes life) v.pending ++ take read src ≡ 0xEF ∷ 0xBB ∷ [] = ap (λ k. pending_bytes (held_bytes life) v.pending ++ take k src) z ∙ append-nil (pending_bytes (held_bytes life) v.pending) ∙ full in
       into units_of e life v w src also last treatment same kept going text holds before after left read written replaced r stop c.done (state_by e ConvertingWithPendingBb w) g
       (call_by units_of e life v w src also last treatment same kept going text holds before after left read written replaced r stop c a
-      (λ l m x. by_left (less_or_more left 0) b.none (omega arith)) (decoder_remainder (state_by e ConvertingWithPendingBb w))
+      (λ l m x. by_left (most_or_more left 0) b.none (omega arith)) (decoder_remainder (state_by e ConvertingWithPendingBb w))
       (record {
         after = λ y l.
             ap (λ x. sequences_of w.rule w.set x) (sym (append_assoc w.pending (drop (length (unread_bytes life (length v.pending)) - left + read) (unread_bytes life (length v.pending) ++ src)) y) ∙ ap (λ x. x ++ y) b.behind)

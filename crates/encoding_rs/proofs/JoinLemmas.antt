@@ -1,7 +1,6 @@
 -- A call over bytes that were held back, and one over those that follow them, are a call over all of them.
 use Rattle.std.proofs.Common.{◌≡◌, ℕ, ◌+◌, ◌-◌, ◌<◌, ◌≤◌, Bool, true, false, List, [], ◌∷◌, ◌++◌, length, take, drop, refl, ap, ◌∙◌, sym, arith, append_assoc, ◌||◌, inl, inr, subst, ◌⊎◌}
 use Rattle.std.proofs.lemmas.Bool.{false≢true}
-use Rattle.std.proofs.lemmas.Bool.Decides.{nat_tests, leb_tells}
 use Rattle.std.proofs.lemmas.List.{append-nil, length-append, take-append-le, drop-append-le}
 use Rattle.std.proofs.Math.ListN.{drop_of_length-le}
 use Rattle.std.proofs.Math.Seq.{take-append_seam, take-append-add, drop-append-add, take-length}
@@ -16,7 +15,7 @@ use Rattle.enc_codec.proofs.DeterminedLemmas.{determines_fewer}
 use Rattle.enc_codec.proofs.ByteLemmas.{bytes-append, determines_by_more}
 use Rattle.enc_units.proofs.OutputLemmas.{appended-appended, room_left}
 use Rattle.encoding_rs.specs.Converting.{ConvertsInto}
-use Rattle.encoding_rs.proofs.CarryLemmas.{Carries, Reads, Follows, Wrote, carries_empty, carries_full, carries_malformed}
+use Rattle.encoding_rs.proofs.CarryLemmas.{most_or_more, Carries, Reads, Follows, Wrote, carries_empty, carries_full, carries_malformed}
 
 -- no byte is left
 pub all_given : (units_of : ℕ → List ℕ) (old new : Remainder) (src : List ℕ) (last : Bool) (treatment : Treatment) (before after : Output) (result : DecoderResult) (read : ℕ) (replaced : Bool)
@@ -24,6 +23,7 @@ pub all_given : (units_of : ℕ → List ℕ) (old new : Remainder) (src : List 
 all_given units_of old new src last treatment before after result read replaced c =
     record { wrote = c.wrote; onto = c.onto; call = c.call.call; accounted = c.call.accounted }
 
+-- a list of no length is empty
 pub no_bytes : (x : List ℕ) → length x ≡ 0 → x ≡ []
 no_bytes [] e = refl
 no_bytes (b ∷ x) e = absurd (omega arith)
@@ -45,9 +45,6 @@ module _ (units_of : ℕ → List ℕ) (old new : Remainder) (held src : List �
       (subst (λ x. Of x read) (sym (append-nil held) ∙ ap (λ x. held ++ x) (sym e)) (all_given units_of old new held last treatment before after result read replaced c))
 
 -- a call that stops within the bytes held
-
-below_or_more : (m n : ℕ) → (m < n) ⊎ (n ≤ m)
-below_or_more m n = grind (arith, nat_tests, leb_tells n m)
 
 module _ (units_of : ℕ → List ℕ) (old new : Remainder) (held src : List ℕ) (are : AreBytes held) (also : AreBytes src) (last : Bool) (treatment : Treatment) (room read : ℕ) (wrote : List ℕ) (replaced : Bool) where
   given : (n : ℕ) → n ≤ length held → take n (held ++ src) ≡ take n held
@@ -72,9 +69,9 @@ module _ (units_of : ℕ → List ℕ) (old new : Remainder) (held src : List �
 
   next_known : (ss : List Sequence) → read ≤ length held → Determines old.sequences held ss → (read < length held → Determines old.sequences (take (read + 1) held) ss)
       → Determines old.sequences (take (read + 1) (held ++ src)) ss
-  next_known ss h d f = elim (below_or_more read (length held)) [
-    | inl i ↦ subst (λ x. Determines old.sequences x ss) (sym (given (read + 1) (omega arith))) (f i)
-    | inr i ↦ known ss d (read + 1) (omega arith)
+  next_known ss h d f = elim (most_or_more (length held) read) [
+    | inl i ↦ known ss d (read + 1) (omega arith)
+    | inr i ↦ subst (λ x. Determines old.sequences x ss) (sym (given (read + 1) (omega arith))) (f i)
   ]
 
   hidden_still : (ss : List Sequence) → read ≤ length held → (read ≡ 0) ⊎ (Determines old.sequences (take read held) ss → ⊥) → (read ≡ 0) ⊎ (Determines old.sequences (take read (held ++ src)) ss → ⊥)

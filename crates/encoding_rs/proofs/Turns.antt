@@ -59,7 +59,7 @@ no_more m n e = omega arith
 still_full : {all : ℕ} (room wrote more next : ℕ) → wrote ≤ room → all ≡ wrote + more → room - wrote < more + next → room < all + next
 still_full room wrote more next h e f = omega arith
 
-first_of : (ss : List Sequence) (s : Sequence) → (f : Sequence) × (rest : List Sequence) × (ss ++ s ∷ [] ≡ f ∷ rest)
+pub first_of : (ss : List Sequence) (s : Sequence) → (f : Sequence) × (rest : List Sequence) × (ss ++ s ∷ [] ≡ f ∷ rest)
 first_of [] s = (s, [], refl)
 first_of (f ∷ ss) s = (f, ss ++ s ∷ [], refl)
 
