@@ -1,0 +1,71 @@
+//! Entries of indexes (Encoding Standard 5), and tables of them by pointer.
+
+ghost use Rattle.std.specs.Prelude.{◌≡◌, ◌+◌, get_or};
+ghost use Rattle.enc_index.specs.Index.{entry_character, last_code_point};
+ghost use Rattle.enc_index.specs.declared.index.Planes.TheVariants.{All, Basic};
+
+/// The planes of Unicode that an index's entries are in.
+#[derive(Clone, Copy)]
+pub enum Planes {
+    /// The basic one, to U+FFFF.
+    Basic,
+    /// All of them, to U+10FFFF.
+    All,
+}
+
+/// The last code point of the planes.
+#[inline(always)]
+fn last_of(planes: Planes) -> u32
+    ensures { result ≡ last_code_point planes }
+{
+    match planes {
+        Planes::Basic => 0xFFFF,
+        Planes::All => 0x10FFFF,
+    }
+}
+
+/// The character of a code point, if an entry can have it.
+#[inline(always)]
+fn mapped(planes: Planes, code_point: u32) -> Option<char>
+    ensures { result ≡ entry_character planes code_point }
+{
+    if code_point == 0 || code_point > last_of(planes) {
+        return None;
+    }
+    char::from_u32(code_point)
+}
+
+/// The character so many code points behind another.
+#[inline(always)]
+pub(crate) fn character_behind(planes: Planes, code_point: u32, offset: u32) -> Option<char>
+    ensures { result ≡ entry_character planes (code_point + offset) }
+{
+    match code_point.checked_add(offset) {
+        Some(sum) => mapped(planes, sum),
+        None => None,
+    }
+}
+
+/// The character of a pointer in a table of code points of the basic plane.
+#[inline(always)]
+pub(crate) fn character_in(table: &[u16], pointer: u32) -> Option<char>
+    ensures { result ≡ entry_character Basic (get_or table.now pointer 0) }
+{
+    let place = pointer as usize;
+    if place < table.len() {
+        return mapped(Planes::Basic, table[place] as u32);
+    }
+    None
+}
+
+/// The character of a pointer in a table of code points of all planes.
+#[inline(always)]
+pub(crate) fn character_in_all(table: &[u32], pointer: u32) -> Option<char>
+    ensures { result ≡ entry_character All (get_or table.now pointer 0) }
+{
+    let place = pointer as usize;
+    if place < table.len() {
+        return mapped(Planes::All, table[place]);
+    }
+    None
+}

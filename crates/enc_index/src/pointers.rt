@@ -1,0 +1,76 @@
+//! The pointers of characters in the indexes of multi-byte encodings (Encoding Standard 5), as their encoders look
+//! them up. Each takes two loads, but that of gb18030 ranges a search by halves. None takes memory.
+
+ghost use Rattle.std.specs.Prelude.{◌≡◌};
+ghost use Rattle.enc_index.specs.Pointers.{big5_pointer, euc_kr_pointer, gb18030_pointer, gb18030_ranges_pointer, jis0208_pointer, shift_jis_pointer};
+
+use crate::indexes::big5::{BIG5_PAGE_OF, BIG5_POINTERS};
+use crate::indexes::euc_kr::{EUC_KR_PAGE_OF, EUC_KR_POINTERS};
+use crate::indexes::gb18030::{GB18030_PAGE_OF, GB18030_POINTERS};
+use crate::indexes::gb18030_ranges::GB18030_RANGES_BY_CODE_POINT;
+use crate::indexes::jis0208::{
+    JIS0208_PAGE_OF, JIS0208_POINTERS, SHIFT_JIS_PAGE_OF, SHIFT_JIS_POINTERS,
+};
+use crate::pages::pointer_in;
+use crate::search::run_with;
+
+/// The index Big5 pointer: the first from 5024 on, or the last for U+2550, U+255E, U+2561, U+256A, U+5341 and
+/// U+5345. `None` where there is none.
+#[inline(always)]
+#[tactic(auto, using(crate::proofs::MultiBytePages::big5_pages))]
+pub fn big5(c: char) -> Option<u32>
+    ensures { result ≡ big5_pointer c }
+{
+    pointer_in(&BIG5_PAGE_OF, &BIG5_POINTERS, 19782, c)
+}
+
+/// The index pointer in index EUC-KR: the first. `None` where there is none.
+#[inline(always)]
+#[tactic(auto, using(crate::proofs::MultiBytePages::euc_kr_pages))]
+pub fn euc_kr(c: char) -> Option<u32>
+    ensures { result ≡ euc_kr_pointer c }
+{
+    pointer_in(&EUC_KR_PAGE_OF, &EUC_KR_POINTERS, 23940, c)
+}
+
+/// The index pointer in index gb18030, for two bytes: the first. `None` where there is none.
+#[inline(always)]
+#[tactic(auto, using(crate::proofs::MultiBytePages::gb18030_pages))]
+pub fn gb18030(c: char) -> Option<u32>
+    ensures { result ≡ gb18030_pointer c }
+{
+    pointer_in(&GB18030_PAGE_OF, &GB18030_POINTERS, 23940, c)
+}
+
+/// The index gb18030 ranges pointer, for four bytes: 7457 for U+E7C7, and else the pointer in the range that has
+/// the character. `None` where none has it.
+pub fn gb18030_ranges(c: char) -> Option<u32>
+    ensures { result ≡ gb18030_ranges_pointer c }
+{
+    if c == '\u{E7C7}' {
+        return Some(7457);
+    }
+    match run_with(GB18030_RANGES_BY_CODE_POINT, c as u32) {
+        Some((first, _, pointer)) => Some(pointer + (c as u32 - first)),
+        None => None,
+    }
+}
+
+/// The index pointer in index jis0208, for EUC-JP and ISO-2022-JP: the first, if it is below 8836. `None` where
+/// there is none.
+#[inline(always)]
+#[tactic(auto, using(crate::proofs::MultiBytePages::jis0208_pages))]
+pub fn jis0208(c: char) -> Option<u32>
+    ensures { result ≡ jis0208_pointer c }
+{
+    pointer_in(&JIS0208_PAGE_OF, &JIS0208_POINTERS, 8836, c)
+}
+
+/// The index Shift_JIS pointer: the first in index jis0208 that is not 8272 to 8835. `None` where there is none.
+#[inline(always)]
+#[tactic(auto, using(crate::proofs::MultiBytePages::shift_jis_pages))]
+pub fn shift_jis(c: char) -> Option<u32>
+    ensures { result ≡ shift_jis_pointer c }
+{
+    pointer_in(&SHIFT_JIS_PAGE_OF, &SHIFT_JIS_POINTERS, 11280, c)
+}

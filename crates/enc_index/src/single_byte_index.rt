@@ -1,0 +1,180 @@
+//! The indexes of the legacy single-byte encodings by name (Encoding Standard 9, "index single-byte").
+
+ghost use Rattle.std.specs.Prelude.{◌≡◌, ◌<◌};
+ghost use Rattle.enc_index.specs.Index.{index_at};
+ghost use Rattle.enc_index.specs.Lists.{single_byte_runs};
+ghost use Rattle.enc_index.specs.Pointers.{single_byte_pointer};
+ghost use Rattle.enc_index.specs.SingleByteTables.{number_of};
+ghost use Rattle.enc_index.specs.declared.index.Planes.TheVariants.{Basic};
+
+use crate::index::character_in;
+use crate::indexes::single_byte::{
+    IBM866_RUNS, ISO_8859_2_RUNS, ISO_8859_3_RUNS, ISO_8859_4_RUNS, ISO_8859_5_RUNS,
+    ISO_8859_6_RUNS, ISO_8859_7_RUNS, ISO_8859_8_RUNS, ISO_8859_10_RUNS, ISO_8859_13_RUNS,
+    ISO_8859_14_RUNS, ISO_8859_15_RUNS, ISO_8859_16_RUNS, KOI8_R_RUNS, KOI8_U_RUNS, MACINTOSH_RUNS,
+    SINGLE_BYTE_PAGE_OF, SINGLE_BYTE_POINTERS, SINGLE_BYTE_TABLE, WINDOWS_874_RUNS,
+    WINDOWS_1250_RUNS, WINDOWS_1251_RUNS, WINDOWS_1252_RUNS, WINDOWS_1253_RUNS, WINDOWS_1254_RUNS,
+    WINDOWS_1255_RUNS, WINDOWS_1256_RUNS, WINDOWS_1257_RUNS, WINDOWS_1258_RUNS,
+    X_MAC_CYRILLIC_RUNS,
+};
+use crate::pages::pointer_in_bytes;
+
+/// The index of a legacy single-byte encoding, by name. A pointer is a byte less 0x80. ISO-8859-8-I has that of
+/// ISO-8859-8.
+#[derive(Clone, Copy)]
+pub enum SingleByteIndex {
+    /// Of IBM866.
+    Ibm866,
+    /// Of ISO-8859-2.
+    Iso88592,
+    /// Of ISO-8859-3.
+    Iso88593,
+    /// Of ISO-8859-4.
+    Iso88594,
+    /// Of ISO-8859-5.
+    Iso88595,
+    /// Of ISO-8859-6.
+    Iso88596,
+    /// Of ISO-8859-7.
+    Iso88597,
+    /// Of ISO-8859-8.
+    Iso88598,
+    /// Of ISO-8859-10.
+    Iso885910,
+    /// Of ISO-8859-13.
+    Iso885913,
+    /// Of ISO-8859-14.
+    Iso885914,
+    /// Of ISO-8859-15.
+    Iso885915,
+    /// Of ISO-8859-16.
+    Iso885916,
+    /// Of KOI8-R.
+    Koi8R,
+    /// Of KOI8-U.
+    Koi8U,
+    /// Of macintosh.
+    Macintosh,
+    /// Of windows-874.
+    Windows874,
+    /// Of windows-1250.
+    Windows1250,
+    /// Of windows-1251.
+    Windows1251,
+    /// Of windows-1252.
+    Windows1252,
+    /// Of windows-1253.
+    Windows1253,
+    /// Of windows-1254.
+    Windows1254,
+    /// Of windows-1255.
+    Windows1255,
+    /// Of windows-1256.
+    Windows1256,
+    /// Of windows-1257.
+    Windows1257,
+    /// Of windows-1258.
+    Windows1258,
+    /// Of x-mac-cyrillic.
+    XMacCyrillic,
+}
+
+impl SingleByteIndex {
+    /// The character of a pointer, by the first run that has it. `None` for an unmapped pointer, as every one from
+    /// 128 on is. It takes one load. Takes no memory.
+    #[inline(always)]
+    pub fn at(self, pointer: u32) -> Option<char>
+        ensures { result ≡ index_at Basic (single_byte_runs self) pointer }
+    {
+        let from = place_of(self) * 128;
+        character_in(&SINGLE_BYTE_TABLE[from..from + 128], pointer)
+    }
+
+    /// The index pointer: the first pointer of a character, for an encoder. `None` where there is none. It takes two
+    /// loads. Takes no memory.
+    #[inline(always)]
+    pub fn pointer(self, c: char) -> Option<u32>
+        ensures { result ≡ single_byte_pointer self c }
+    {
+        let from = place_of(self) * 1024;
+        pointer_in_bytes(
+            &SINGLE_BYTE_PAGE_OF[from..from + 1024],
+            &SINGLE_BYTE_POINTERS,
+            128,
+            c,
+        )
+    }
+
+    /// Its runs, in the order of their pointers. Takes no memory.
+    #[tactic(auto, unfolding(crate::specs::Lists::single_byte_runs))]
+    pub fn runs(self) -> &'static [(u32, u32, u32)]
+        ensures { result.now ≡ single_byte_runs self }
+    {
+        match self {
+            SingleByteIndex::Ibm866 => IBM866_RUNS,
+            SingleByteIndex::Iso88592 => ISO_8859_2_RUNS,
+            SingleByteIndex::Iso88593 => ISO_8859_3_RUNS,
+            SingleByteIndex::Iso88594 => ISO_8859_4_RUNS,
+            SingleByteIndex::Iso88595 => ISO_8859_5_RUNS,
+            SingleByteIndex::Iso88596 => ISO_8859_6_RUNS,
+            SingleByteIndex::Iso88597 => ISO_8859_7_RUNS,
+            SingleByteIndex::Iso88598 => ISO_8859_8_RUNS,
+            SingleByteIndex::Iso885910 => ISO_8859_10_RUNS,
+            SingleByteIndex::Iso885913 => ISO_8859_13_RUNS,
+            SingleByteIndex::Iso885914 => ISO_8859_14_RUNS,
+            SingleByteIndex::Iso885915 => ISO_8859_15_RUNS,
+            SingleByteIndex::Iso885916 => ISO_8859_16_RUNS,
+            SingleByteIndex::Koi8R => KOI8_R_RUNS,
+            SingleByteIndex::Koi8U => KOI8_U_RUNS,
+            SingleByteIndex::Macintosh => MACINTOSH_RUNS,
+            SingleByteIndex::Windows874 => WINDOWS_874_RUNS,
+            SingleByteIndex::Windows1250 => WINDOWS_1250_RUNS,
+            SingleByteIndex::Windows1251 => WINDOWS_1251_RUNS,
+            SingleByteIndex::Windows1252 => WINDOWS_1252_RUNS,
+            SingleByteIndex::Windows1253 => WINDOWS_1253_RUNS,
+            SingleByteIndex::Windows1254 => WINDOWS_1254_RUNS,
+            SingleByteIndex::Windows1255 => WINDOWS_1255_RUNS,
+            SingleByteIndex::Windows1256 => WINDOWS_1256_RUNS,
+            SingleByteIndex::Windows1257 => WINDOWS_1257_RUNS,
+            SingleByteIndex::Windows1258 => WINDOWS_1258_RUNS,
+            SingleByteIndex::XMacCyrillic => X_MAC_CYRILLIC_RUNS,
+        }
+    }
+}
+
+/// Where the tables of an index stand.
+#[inline(always)]
+fn place_of(index: SingleByteIndex) -> usize
+    ensures which { result ≡ number_of index }
+    ensures within { result < 27 }
+{
+    match index {
+        SingleByteIndex::Ibm866 => 0,
+        SingleByteIndex::Iso88592 => 1,
+        SingleByteIndex::Iso88593 => 2,
+        SingleByteIndex::Iso88594 => 3,
+        SingleByteIndex::Iso88595 => 4,
+        SingleByteIndex::Iso88596 => 5,
+        SingleByteIndex::Iso88597 => 6,
+        SingleByteIndex::Iso88598 => 7,
+        SingleByteIndex::Iso885910 => 8,
+        SingleByteIndex::Iso885913 => 9,
+        SingleByteIndex::Iso885914 => 10,
+        SingleByteIndex::Iso885915 => 11,
+        SingleByteIndex::Iso885916 => 12,
+        SingleByteIndex::Koi8R => 13,
+        SingleByteIndex::Koi8U => 14,
+        SingleByteIndex::Macintosh => 15,
+        SingleByteIndex::Windows874 => 16,
+        SingleByteIndex::Windows1250 => 17,
+        SingleByteIndex::Windows1251 => 18,
+        SingleByteIndex::Windows1252 => 19,
+        SingleByteIndex::Windows1253 => 20,
+        SingleByteIndex::Windows1254 => 21,
+        SingleByteIndex::Windows1255 => 22,
+        SingleByteIndex::Windows1256 => 23,
+        SingleByteIndex::Windows1257 => 24,
+        SingleByteIndex::Windows1258 => 25,
+        SingleByteIndex::XMacCyrillic => 26,
+    }
+}
