@@ -1,5 +1,6 @@
 //! Big5, EUC-JP, EUC-KR and Shift_JIS (Encoding Standard 11 to 13). The texts are those of Python's codecs big5hkscs,
-//! euc_jp, euc_kr and cp932; what is malformed follows the Encoding Standard's decoders by hand.
+//! euc_jp, cp949 and cp932. Those that euc_jp doesn't have are of Node's TextDecoder. What is malformed follows the
+//! Encoding Standard's decoders by hand.
 
 use crate::harness::{
     Call, Input, compare_cuts, make_calls, make_reporting_calls, malformed, reporting, valid,
@@ -64,13 +65,42 @@ fn shift_jis_decodes(rt: HostRuntime) -> Result<(), Fail> {
             valid(b"\x80\xA1\xDF", "\u{80}\u{FF61}\u{FF9F}", 3),
             // the first and the last of the private use area
             valid(b"\xF0\x40\xF9\xFC", "\u{E000}\u{E757}", 3),
-            // trails before and behind 7F, of pointers that index jis0208 doesn't have
+            // trails before and behind 7F, of unmapped pointers
             malformed(
                 b"\x82\x40\x82\x80",
                 "\u{FFFD}@\u{FFFD}",
                 &[(0, 1), (2, 2)],
                 3,
             ),
+        ],
+    )
+}
+
+#[test]
+fn shift_jis_has_words_and_rare_characters(rt: HostRuntime) -> Result<(), Fail> {
+    compare_all(
+        &rt,
+        rt.alloc(),
+        SHIFT_JIS,
+        &[
+            valid(
+                b"\x8C\xE1\x94\x79\x82\xCD\x94\x4C\x82\xC5\x82\xA0\x82\xE9\x81\x42",
+                "吾輩は猫である。",
+                3,
+            ),
+            valid(
+                b"\x96\xBC\x91\x4F\x82\xCD\x82\xDC\x82\xBE\x96\xB3\x82\xA2\x81\x42",
+                "名前はまだ無い。",
+                3,
+            ),
+            valid(b"\xB6\xC0\xB6\xC5\x81\x60\x81\x7C", "ｶﾀｶﾅ～－", 3),
+            // before and behind 7F
+            valid(b"\x83\x7E\x83\x80", "ミム", 3),
+            // the first and the last entry
+            valid(b"\x81\x40\xFC\x4B", "\u{3000}\u{9ED1}", 3),
+            // NEC row 13, and an IBM extension in both places
+            valid(b"\x87\x40\x87\x54\x87\x5F\x87\x8A\x87\x94", "①Ⅰ㍉㈱∑", 3),
+            valid(b"\xED\x40\xFA\x5C", "纊纊", 3),
         ],
     )
 }
@@ -104,8 +134,15 @@ fn shift_jis_tells_what_is_malformed(rt: HostRuntime) -> Result<(), Fail> {
                 &[(0, 1), (1, 1), (2, 1), (3, 1)],
                 3,
             ),
-            // the last lead, whose pointers are in no index
+            // the last lead and the last pointer, which is unmapped
             malformed(b"\xFC\xFC", "\u{FFFD}", &[(0, 2)], 3),
+            // unmapped pointers: in row 2, between the extensions, and behind the last entry
+            malformed(
+                b"\x81\xAD\xEF\x40\xFC\x4C",
+                "\u{FFFD}\u{FFFD}@\u{FFFD}L",
+                &[(0, 2), (2, 1), (4, 1)],
+                3,
+            ),
         ],
     )
 }
@@ -153,6 +190,39 @@ fn euc_jp_decodes(rt: HostRuntime) -> Result<(), Fail> {
 }
 
 #[test]
+fn euc_jp_has_words_and_rare_characters(rt: HostRuntime) -> Result<(), Fail> {
+    compare_all(
+        &rt,
+        rt.alloc(),
+        EUC_JP,
+        &[
+            valid(
+                b"\xB8\xE3\xC7\xDA\xA4\xCF\xC7\xAD\xA4\xC7\xA4\xA2\xA4\xEB\xA1\xA3",
+                "吾輩は猫である。",
+                3,
+            ),
+            valid(
+                b"\xCC\xBE\xC1\xB0\xA4\xCF\xA4\xDE\xA4\xC0\xCC\xB5\xA4\xA4\xA1\xA3",
+                "名前はまだ無い。",
+                3,
+            ),
+            // two characters of index jis0212, and its first and last entry
+            valid(
+                b"\xBF\xB9\x8F\xEC\xBF\xB3\xB0\xA4\xC8\xBF\xBC\x8F\xB7\xB7",
+                "森鷗外と深圳",
+                3,
+            ),
+            valid(b"\x8F\xA2\xAF\x8F\xED\xE3", "\u{2D8}\u{9FA5}", 3),
+            // by TextDecoder: the first entry of index jis0208 and the last that EUC-JP has, NEC row 13, an IBM extension, and the
+            // tilde of both indexes
+            valid(b"\xA1\xA1\xFC\xFE", "\u{3000}\u{FF02}", 3),
+            valid(b"\xAD\xA1\xAD\xB5\xAD\xEA\xF9\xA1", "①Ⅰ㈱纊", 3),
+            valid(b"\xA1\xC1\x8F\xA2\xB7", "\u{FF5E}\u{FF5E}", 3),
+        ],
+    )
+}
+
+#[test]
 fn euc_jp_tells_what_is_malformed(rt: HostRuntime) -> Result<(), Fail> {
     compare_all(
         &rt,
@@ -181,6 +251,13 @@ fn euc_jp_tells_what_is_malformed(rt: HostRuntime) -> Result<(), Fail> {
                 b"\x80\x8D\xA0\xFF",
                 "\u{FFFD}\u{FFFD}\u{FFFD}\u{FFFD}",
                 &[(0, 1), (1, 1), (2, 1), (3, 1)],
+                3,
+            ),
+            // unmapped pointers: in row 2, before the first entry of index jis0212, and in the last row but one
+            malformed(
+                b"\xA2\xAF\x8F\xA1\xA1\xFD\xA1",
+                "\u{FFFD}\u{FFFD}\u{FFFD}",
+                &[(0, 2), (2, 3), (5, 2)],
                 3,
             ),
         ],
@@ -230,6 +307,36 @@ fn big5_decodes(rt: HostRuntime) -> Result<(), Fail> {
 }
 
 #[test]
+fn big5_has_words_and_rare_characters(rt: HostRuntime) -> Result<(), Fail> {
+    compare_all(
+        &rt,
+        rt.alloc(),
+        BIG5,
+        &[
+            valid(
+                b"\xA4\x48\xA4\xA7\xAA\xEC\xA1\x41\xA9\xCA\xA5\xBB\xB5\xBD\xA1\x43",
+                "人之初，性本善。",
+                3,
+            ),
+            valid(
+                b"\xA9\xCA\xAC\xDB\xAA\xF1\xA1\x41\xB2\xDF\xAC\xDB\xBB\xB7\xA1\x43",
+                "性相近，習相遠。",
+                3,
+            ),
+            // characters of HKSCS, four of them beyond U+FFFF
+            valid(
+                b"\xCA\x5C\x92\x5D\x9D\xF6\xC3\xE4\xAB\xD7\xB7\x66\x9D\xF2\xA1\x48",
+                "佢哋喺邊度搭𨋢？",
+                4,
+            ),
+            valid(b"\x9F\x4D\xAE\x61\x9E\x63\xA5\x4A\x9E\x40", "𠵱家𡃁仔𠺢", 4),
+            // the first and the last entry
+            valid(b"\x87\x40\xFE\xFE", "\u{43F0}\u{79D4}", 3),
+        ],
+    )
+}
+
+#[test]
 fn big5_tells_what_is_malformed(rt: HostRuntime) -> Result<(), Fail> {
     compare_all(
         &rt,
@@ -250,6 +357,13 @@ fn big5_tells_what_is_malformed(rt: HostRuntime) -> Result<(), Fail> {
                 3,
             ),
             malformed(b"\x80\xFF", "\u{FFFD}\u{FFFD}", &[(0, 1), (1, 1)], 3),
+            // unmapped pointers: among those of HKSCS, between both levels, and before the first entry
+            malformed(
+                b"\x87\x66\xC8\xA5\x81\xFE",
+                "\u{FFFD}f\u{FFFD}\u{FFFD}",
+                &[(0, 1), (2, 2), (4, 2)],
+                3,
+            ),
         ],
     )
 }
@@ -262,6 +376,36 @@ fn euc_kr_decodes(rt: HostRuntime) -> Result<(), Fail> {
         rt.alloc(),
         EUC_KR,
         &[valid(b"a\xB0\xA1", "a\u{AC00}", 3)],
+    )
+}
+
+#[test]
+fn euc_kr_has_words_and_rare_characters(rt: HostRuntime) -> Result<(), Fail> {
+    compare_all(
+        &rt,
+        rt.alloc(),
+        EUC_KR,
+        &[
+            valid(
+                b"\xB8\xF0\xB5\xE7 \xC0\xCE\xB0\xA3\xC0\xBA \xC5\xC2\xBE\xEE\xB3\xAF",
+                "모든 인간은 태어날",
+                3,
+            ),
+            valid(
+                b"\xB6\xA7\xBA\xCE\xC5\xCD \xC0\xDA\xC0\xAF\xB7\xCE\xBF\xEC\xB8\xE7",
+                "때부터 자유로우며",
+                3,
+            ),
+            valid(b"\xD3\xDE\xF9\xDB\xDA\xC5\xCF\xD0", "大韓民國", 3),
+            // two syllables of the extension of windows-949
+            valid(
+                b"\x8C\x63\xB9\xE6\xB0\xA2\xC7\xCF, \x94\xEE!",
+                "똠방각하, 뷁!",
+                3,
+            ),
+            // the first and the last entry
+            valid(b"\x81\x41\xFD\xFE", "\u{AC02}\u{8A70}", 3),
+        ],
     )
 }
 
@@ -280,6 +424,13 @@ fn euc_kr_tells_what_is_malformed(rt: HostRuntime) -> Result<(), Fail> {
                 3,
             ),
             malformed(b"\x80\xFF", "\u{FFFD}\u{FFFD}", &[(0, 1), (1, 1)], 3),
+            // unmapped pointers: between the letters, and in the rows of the user
+            malformed(
+                b"\x81\x5B\xC9\xA1\xFE\xFE",
+                "\u{FFFD}[\u{FFFD}\u{FFFD}",
+                &[(0, 1), (2, 2), (4, 2)],
+                3,
+            ),
         ],
     )
 }

@@ -1,5 +1,6 @@
 //! gb18030 and GBK (Encoding Standard 10). The texts are those of Python's codec gb18030, but that of byte 80, which
-//! it doesn't have; that one and what is malformed follow the Encoding Standard's decoder by hand.
+//! it doesn't have; that one and what is malformed follow the Encoding Standard's decoder by hand. The characters that
+//! came with later editions than the codec's are of Node's TextDecoder.
 
 use crate::harness::{Input, compare_cuts, make_reporting_calls, malformed, reporting, valid};
 use encoding_rs::{DecoderResult, GB18030, GBK};
@@ -73,6 +74,86 @@ fn decodes_one_two_and_four_bytes(rt: HostRuntime) -> Result<(), Fail> {
 }
 
 #[test]
+fn decodes_words_and_rare_characters(rt: HostRuntime) -> Result<(), Fail> {
+    compare_all(
+        &rt,
+        rt.alloc(),
+        &[
+            valid(
+                b"\xC8\xCB\xC8\xCB\xC9\xFA\xB6\xF8\xD7\xD4\xD3\xC9\xA3\xAC",
+                "人人生而自由，",
+                3,
+            ),
+            valid(
+                b"\xD4\xDA\xD7\xF0\xD1\xCF\xBA\xCD\xC8\xA8\xC0\xFB\xC9\xCF",
+                "在尊严和权利上",
+                3,
+            ),
+            valid(b"\xD2\xBB\xC2\xC9\xC6\xBD\xB5\xC8\xA1\xA3", "一律平等。", 3),
+            valid(b"\x81\x39\xEE\x39\xA8\xA6\x81\x32\xD5\x36", "㐀éไ", 3),
+            valid(b"\x95\x32\x82\x36\x94\x39\xCA\x32", "𠀀🐈", 4),
+            // the first and the last entry of index gb18030
+            valid(b"\x81\x40\xFE\xFE", "\u{4E02}\u{E4C5}", 3),
+        ],
+    )
+}
+
+#[test]
+fn decodes_four_bytes_where_ranges_meet(rt: HostRuntime) -> Result<(), Fail> {
+    compare_all(
+        &rt,
+        rt.alloc(),
+        &[
+            valid(
+                b"\x81\x30\x84\x36\x81\x30\x84\x37\x81\x30\x84\x38",
+                "\u{A5}\u{A6}\u{A9}",
+                2,
+            ),
+            valid(
+                b"\x81\x37\xA8\x37\x81\x37\xA8\x38\x81\x37\xA8\x39",
+                "\u{263F}\u{2641}\u{2643}",
+                3,
+            ),
+            valid(b"\x81\x38\xFD\x38\x81\x38\xFD\x39", "\u{2E80}\u{2E82}", 3),
+            valid(b"\x82\x35\x8F\x32\x82\x35\x8F\x33", "\u{4DFF}\u{9FA6}", 3),
+            valid(b"\x84\x31\x95\x34\x84\x31\x95\x35", "\u{FF00}\u{FF5F}", 3),
+            valid(b"\x84\x31\xA2\x33\x84\x31\xA2\x34", "\u{FFDF}\u{FFE6}", 3),
+        ],
+    )
+}
+
+#[test]
+fn decodes_as_the_edition_of_2022(rt: HostRuntime) -> Result<(), Fail> {
+    compare_all(
+        &rt,
+        rt.alloc(),
+        &[
+            valid(
+                b"\xA6\xD9\xA6\xDA\xA6\xDB\xA6\xDC\xA6\xDD",
+                "\u{FE10}\u{FE12}\u{FE11}\u{FE13}\u{FE14}",
+                3,
+            ),
+            valid(
+                b"\xA6\xDE\xA6\xDF\xA6\xEC\xA6\xED\xA6\xF3",
+                "\u{FE15}\u{FE16}\u{FE17}\u{FE18}\u{FE19}",
+                3,
+            ),
+            valid(
+                b"\xFE\x59\xFE\x61\xFE\x66\xFE\x67",
+                "\u{9FB4}\u{9FB5}\u{9FB6}\u{9FB7}",
+                3,
+            ),
+            valid(
+                b"\xFE\x6D\xFE\x7E\xFE\x90\xFE\xA0",
+                "\u{9FB8}\u{9FB9}\u{9FBA}\u{9FBB}",
+                3,
+            ),
+            valid(b"\xA8\xBC\xA3\xA0", "\u{1E3F}\u{3000}", 3),
+        ],
+    )
+}
+
+#[test]
 fn tells_what_is_malformed(rt: HostRuntime) -> Result<(), Fail> {
     compare_all(
         &rt,
@@ -98,7 +179,14 @@ fn tells_what_is_malformed(rt: HostRuntime) -> Result<(), Fail> {
                 3,
             ),
             malformed(b"\x81\x30a", "\u{FFFD}0a", &[(0, 1)], 3),
-            malformed(b"\x81\x30\x81a", "\u{FFFD}0\u{FFFD}a", &[(0, 1), (2, 1)], 3),
+            malformed(
+                b"\x81\x30\x81\x7F",
+                "\u{FFFD}0\u{FFFD}\u{7F}",
+                &[(0, 1), (2, 1)],
+                3,
+            ),
+            // the third and the fourth byte are a pair of index gb18030
+            malformed(b"\x81\x30\x81a", "\u{FFFD}0\u{4E64}", &[(0, 1)], 3),
             malformed(
                 b"\x81\x30\x81\x3A",
                 "\u{FFFD}0\u{FFFD}:",

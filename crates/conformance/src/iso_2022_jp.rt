@@ -1,7 +1,7 @@
 //! ISO-2022-JP (Encoding Standard 12.2).
 //!
-//! The texts that have nothing malformed are those of Python's codecs iso2022_jp and iso2022_jp_ext. The others were
-//! written by the steps of the standard's decoder.
+//! The texts that have nothing malformed are those of Python's codecs iso2022_jp and iso2022_jp_ext. Those that neither
+//! has are of Node's TextDecoder. The others were written by the steps of the standard's decoder.
 
 use crate::harness::{
     Call, Input, ReportingCall, compare_cuts, make_calls, make_reporting_calls, malformed, valid,
@@ -203,6 +203,32 @@ fn cuts_and_rooms_change_no_text(rt: HostRuntime) -> Result<(), Fail> {
         valid(b"\x1B$@$\"", "あ", 3),
         valid(b"\x1B$B$!", "ぁ", 3),
         valid(b"\x1B$B", "", 0),
+    ];
+    for input in inputs {
+        compare(&rt, rt.alloc(), input)?;
+    }
+    Ok(())
+}
+
+#[test]
+fn cuts_and_rooms_change_no_words(rt: HostRuntime) -> Result<(), Fail> {
+    let inputs = [
+        valid(b"\x1B$B=U$O$\"$1$\\$N!#\x1B(B", "春はあけぼの。", 3),
+        valid(
+            b"\x1B$B7oL>\x1B(B: \x1B$B$3$s$K$A$O!\"@$3&\x1B(B!",
+            "件名: こんにちは、世界!",
+            3,
+        ),
+        // by TextDecoder: the first entry and the last that ISO-2022-JP has, NEC row 13, and an IBM extension
+        valid(b"\x1B$B!!|~", "\u{3000}\u{FF02}", 3),
+        valid(b"\x1B$B-!-5-jy!\x1B(B", "①Ⅰ㈱纊", 3),
+        // unmapped pointers: in row 2, and in the last row but one
+        malformed(
+            b"\x1B$B\x22\x2F$\"\x7D\x21",
+            "\u{FFFD}あ\u{FFFD}",
+            &[(3, 2), (7, 2)],
+            3,
+        ),
     ];
     for input in inputs {
         compare(&rt, rt.alloc(), input)?;

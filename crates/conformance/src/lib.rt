@@ -1,5 +1,5 @@
-//! Worked examples of every encoding, each through every cut and every small room; and the names, labels,
-//! properties and byte order marks of all of them.
+//! Worked examples of every encoding, each through every cut and every small room; the names, labels,
+//! properties and byte order marks of all of them; and look-ups in the indexes.
 //!
 //! This crate has tests alone. A codec's examples stand in a module of its own, as tables, and one harness runs
 //! them. What is expected comes from outside: the examples of the Encoding Standard, Unicode's tables, and the
@@ -17,9 +17,13 @@ mod gb18030;
 #[cfg(test)]
 mod harness;
 #[cfg(test)]
+mod indexes;
+#[cfg(test)]
 mod iso_2022_jp;
 #[cfg(test)]
 mod single_byte;
+#[cfg(test)]
+mod single_byte_tables;
 #[cfg(test)]
 mod stateless;
 #[cfg(test)]

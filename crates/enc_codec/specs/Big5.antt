@@ -3,7 +3,7 @@ use Rattle.std.specs.Prelude.{ℕ, ◌+◌, ◌-◌, ◌*◌, Bool, ◌&&◌, �
 use Rattle.enc_codec.specs.declared.byte_codec.Text.{Text}
 use Rattle.enc_codec.specs.declared.byte_codec.Text.TheVariants.{Two}
 use Rattle.enc_codec.specs.declared.multi_byte.Reading.{Reading}
-use Rattle.enc_codec.specs.Lists.{big5_at}
+use Rattle.enc_index.specs.Lists.{big5_at}
 use Rattle.enc_codec.specs.DoubleByte.{text_of_char, double_byte_reading}
 
 abbrev pub big5_lead : ℕ → Bool

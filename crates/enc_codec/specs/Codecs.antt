@@ -2,6 +2,7 @@
 use Rattle.std.specs.Prelude.{true, false, []}
 use Rattle.enc_codec.specs.declared.codec.Codec.{Codec}
 use Rattle.enc_codec.specs.declared.codec.Codec.TheVariants.{Utf8, Utf16Be, Utf16Le, SingleByte, Big5, EucKr, ShiftJis, EucJp, Gbk, Gb18030, Iso2022Jp, XUserDefined, Replacement}
+use Rattle.enc_index.specs.Lists.{single_byte_runs}
 use Rattle.enc_codec.specs.Segmentation.{Rule}
 use Rattle.enc_codec.specs.CodecState.{CodecState}
 use Rattle.enc_codec.specs.Utf8.{utf_8_rule}
@@ -20,7 +21,7 @@ abbrev pub codec_rule : Codec → Rule
 codec_rule Utf8 = utf_8_rule
 codec_rule Utf16Be = utf_16_rule true
 codec_rule Utf16Le = utf_16_rule false
-codec_rule (SingleByte list) = one_byte_rule (single_byte_char list.runs.now)
+codec_rule (SingleByte index) = one_byte_rule (single_byte_char (single_byte_runs index))
 codec_rule Big5 = multi_byte_rule big5_reading
 codec_rule EucKr = multi_byte_rule euc_kr_reading
 codec_rule ShiftJis = multi_byte_rule shift_jis_reading

@@ -3,7 +3,7 @@ use Rattle.std.specs.Prelude.{ℕ, ◌+◌, ◌-◌, ◌*◌, Bool, ◌&&◌, �
 use Rattle.enc_codec.specs.declared.byte_codec.Text.TheVariants.{One}
 use Rattle.enc_codec.specs.declared.multi_byte.Reading.{Reading}
 use Rattle.enc_codec.specs.declared.multi_byte.Reading.TheVariants.{Whole, Broken, Unfinished}
-use Rattle.enc_codec.specs.Lists.{gb18030_at, gb18030_ranges_at}
+use Rattle.enc_index.specs.Lists.{gb18030_at, gb18030_ranges_at}
 use Rattle.enc_codec.specs.DoubleByte.{text_of_char, first_reading, trail_reading}
 
 -- the first and the third byte

@@ -4,7 +4,7 @@ use Rattle.enc_codec.specs.declared.byte_codec.Kind.TheVariants.{Skipped, Repeat
 use Rattle.enc_codec.specs.declared.iso_2022_jp.CharacterSet.{CharacterSet}
 use Rattle.enc_codec.specs.declared.iso_2022_jp.CharacterSet.TheVariants.{Ascii, Roman, Katakana, Jis0208}
 use Rattle.enc_codec.specs.Segmentation.{Head, Rule}
-use Rattle.enc_codec.specs.Lists.{jis0208_at}
+use Rattle.enc_index.specs.Lists.{jis0208_at}
 use Rattle.enc_codec.specs.OneByte.{one_byte_head}
 use Rattle.enc_codec.specs.Utf16.{character_head, malformed_head}
 

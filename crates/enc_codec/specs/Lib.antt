@@ -10,8 +10,6 @@ pub mod Utf8
 pub mod Utf8State
 pub mod Variant
 pub mod Codecs
-pub mod Index
-pub mod Lists
 pub mod OneByte
 pub mod OneByteState
 pub mod Replacement

@@ -6,8 +6,8 @@ use Rattle.enc_codec.specs.declared.byte_codec.Text.TheVariants.{One}
 use Rattle.enc_codec.specs.declared.byte_codec.Step.{Step}
 use Rattle.enc_codec.specs.declared.byte_codec.Step.TheVariants.{Show}
 use Rattle.enc_codec.specs.Segmentation.{Rule, Head}
-use Rattle.enc_codec.specs.declared.index.Planes.TheVariants.{Basic}
-use Rattle.enc_codec.specs.Index.{index_at}
+use Rattle.enc_index.specs.declared.index.Planes.TheVariants.{Basic}
+use Rattle.enc_index.specs.Index.{index_at}
 
 -- a byte of a legacy single-byte encoding, by the runs of the encoding's index
 abbrev pub single_byte_char : List (ℕ × ℕ × ℕ) → ℕ → Option ℕ

@@ -2,7 +2,7 @@
 use Rattle.std.specs.Prelude.{ℕ, ◌+◌, ◌-◌, ◌*◌, Bool, ◌&&◌, ◌||◌, nat_le, nat_lt, Option, Some, None, List, if◌then◌else◌}
 use Rattle.enc_codec.specs.declared.byte_codec.Text.{Text}
 use Rattle.enc_codec.specs.declared.multi_byte.Reading.{Reading}
-use Rattle.enc_codec.specs.Lists.{jis0208_at}
+use Rattle.enc_index.specs.Lists.{jis0208_at}
 use Rattle.enc_codec.specs.Katakana.{is_katakana, katakana}
 use Rattle.enc_codec.specs.DoubleByte.{text_of_char, double_byte_reading}
 

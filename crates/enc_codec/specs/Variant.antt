@@ -4,6 +4,7 @@ use Rattle.enc_codec.specs.declared.variant.VariantDecoder.TheVariants.{Utf8, Ut
 use Rattle.enc_codec.specs.CodecState.{CodecState}
 use Rattle.enc_codec.specs.Utf8State.{utf_8_state}
 use Rattle.enc_codec.specs.Utf16State.{utf_16_state}
+use Rattle.enc_index.specs.Lists.{single_byte_runs}
 use Rattle.enc_codec.specs.OneByteState.{single_byte_state, x_user_defined_state}
 use Rattle.enc_codec.specs.Pending.{pending_bytes}
 use Rattle.enc_codec.specs.MultiByte.{multi_byte_state}
@@ -18,7 +19,7 @@ use Rattle.enc_codec.specs.Iso2022JpState.{iso_2022_jp_state}
 abbrev pub variant_state : VariantDecoder → CodecState
 variant_state (Utf8 d) = utf_8_state d
 variant_state (Utf16 d) = utf_16_state d
-variant_state (SingleByte d) = single_byte_state d.runs.now
+variant_state (SingleByte d) = single_byte_state (single_byte_runs d.index)
 variant_state (Big5 d) = multi_byte_state big5_reading (pending_bytes d.pending)
 variant_state (EucKr d) = multi_byte_state euc_kr_reading (pending_bytes d.pending)
 variant_state (ShiftJis d) = multi_byte_state shift_jis_reading (pending_bytes d.pending)

@@ -5,8 +5,8 @@ ghost use Rattle.enc_codec.specs.Big5.{big5_text};
 
 use crate::byte_codec::Text;
 use crate::double_byte::{Double, DoubleByte, text_of};
-use crate::lists;
 use crate::multi_byte::MultiByteDecoder;
+use enc_index::List;
 
 /// Big5 (Encoding Standard 11.1): ASCII, and two bytes by index Big5, of which four are two characters.
 #[derive(Clone, Copy)]
@@ -24,7 +24,7 @@ fn text_at(pointer: u32) -> Option<Text>
         1135 => Some(Text::Two('\u{CA}', '\u{30C}')),
         1164 => Some(Text::Two('\u{EA}', '\u{304}')),
         1166 => Some(Text::Two('\u{EA}', '\u{30C}')),
-        _ => text_of(lists::big5(pointer)),
+        _ => text_of(List::Big5.at(pointer)),
     }
 }
 

@@ -8,7 +8,6 @@ use crate::big5::Big5Decoder;
 use crate::euc_jp::EucJpDecoder;
 use crate::euc_kr::EucKrDecoder;
 use crate::gb18030::Gb18030Decoder;
-use crate::index::List;
 use crate::iso_2022_jp::Iso2022JpDecoder;
 use crate::replacement::ReplacementDecoder;
 use crate::shift_jis::ShiftJisDecoder;
@@ -17,6 +16,7 @@ use crate::utf_8::Utf8Decoder;
 use crate::utf_16::Utf16Decoder;
 use crate::variant::VariantDecoder;
 use crate::x_user_defined::XUserDefinedDecoder;
+use enc_index::SingleByteIndex;
 
 /// The codec of an encoding, by name; that of a legacy single-byte encoding with its index.
 #[derive(Clone, Copy)]
@@ -28,7 +28,7 @@ pub enum Codec {
     /// UTF-16LE (14.4).
     Utf16Le,
     /// A legacy single-byte encoding (9), by its index.
-    SingleByte(List),
+    SingleByte(SingleByteIndex),
     /// Big5 (11.1).
     Big5,
     /// EUC-KR (13.1).
@@ -58,7 +58,7 @@ impl Codec {
             Codec::Utf8 => VariantDecoder::Utf8(Utf8Decoder::new()),
             Codec::Utf16Be => VariantDecoder::Utf16(Utf16Decoder::new(true)),
             Codec::Utf16Le => VariantDecoder::Utf16(Utf16Decoder::new(false)),
-            Codec::SingleByte(list) => VariantDecoder::SingleByte(SingleByteDecoder::new(list)),
+            Codec::SingleByte(index) => VariantDecoder::SingleByte(SingleByteDecoder::new(index)),
             Codec::Big5 => VariantDecoder::Big5(Big5Decoder::new()),
             Codec::EucKr => VariantDecoder::EucKr(EucKrDecoder::new()),
             Codec::ShiftJis => VariantDecoder::ShiftJis(ShiftJisDecoder::new()),
@@ -76,7 +76,6 @@ impl Codec {
 mod tests {
     use super::*;
     use crate::decoder_result::DecoderResult;
-    use crate::indexes::single_byte::WINDOWS_1252;
     use crate::raw_decoder::RawDecoder;
     use enc_units::Utf8Slice;
     use std::process::Abort;
@@ -99,7 +98,12 @@ mod tests {
         decode_whole(&rt, Codec::Utf8, &[0xC3, 0xA9], "é");
         decode_whole(&rt, Codec::Utf16Be, &[0x00, 0xE9], "é");
         decode_whole(&rt, Codec::Utf16Le, &[0xE9, 0x00], "é");
-        decode_whole(&rt, Codec::SingleByte(WINDOWS_1252), &[0xE9], "é");
+        decode_whole(
+            &rt,
+            Codec::SingleByte(SingleByteIndex::Windows1252),
+            &[0xE9],
+            "é",
+        );
         decode_whole(&rt, Codec::XUserDefined, &[0xE9], "\u{F7E9}");
         decode_whole(&rt, Codec::Iso2022Jp, &[0x1B, 0x28, 0x4A, 0x5C], "¥");
     }

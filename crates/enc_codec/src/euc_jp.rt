@@ -5,9 +5,9 @@ ghost use Rattle.enc_codec.specs.EucJp.{is_euc as euc, euc_pointer, euc_jp_lead,
 
 use crate::double_byte::{read_first, read_trail, text_of};
 use crate::katakana::katakana;
-use crate::lists;
 use crate::multi_byte::{MultiByte, MultiByteDecoder, Reading};
 use crate::pending::Pending;
+use enc_index::List;
 
 /// EUC-JP (Encoding Standard 12.1): ASCII, half-width katakana behind 8E, two bytes by index jis0208, and two bytes
 /// behind 8F by index jis0212.
@@ -66,7 +66,7 @@ fn pair(lead: u8, trail: u8) -> Option<char>
         };
     }
     if is_euc(lead) && is_euc(trail) {
-        lists::jis0208(pointer(lead, trail))
+        List::Jis0208.at(pointer(lead, trail))
     } else {
         None
     }
@@ -78,7 +78,7 @@ fn triple(lead: u8, trail: u8) -> Option<char>
     ensures { result ≡ euc_jp_triple lead trail }
 {
     if is_euc(trail) {
-        lists::jis0212(pointer(lead, trail))
+        List::Jis0212.at(pointer(lead, trail))
     } else {
         None
     }

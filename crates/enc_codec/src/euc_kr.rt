@@ -5,8 +5,8 @@ ghost use Rattle.enc_codec.specs.EucKr.{euc_kr_trail, euc_kr_pointer};
 
 use crate::byte_codec::Text;
 use crate::double_byte::{Double, DoubleByte, text_of};
-use crate::lists;
 use crate::multi_byte::MultiByteDecoder;
+use enc_index::List;
 
 /// EUC-KR (Encoding Standard 13.1): ASCII, and two bytes by index EUC-KR.
 #[derive(Clone, Copy)]
@@ -40,7 +40,7 @@ impl DoubleByte for EucKr {
         if trail < 0x41 || trail > 0xFE {
             return None;
         }
-        text_of(lists::euc_kr((lead as u32 - 0x81) * 190 + (trail as u32 - 0x41)))
+        text_of(List::EucKr.at((lead as u32 - 0x81) * 190 + (trail as u32 - 0x41)))
     }
 
     fn laws() {}

@@ -5,9 +5,9 @@ ghost use Rattle.enc_codec.specs.Gb18030.{gb18030_lead, is_digit as digit, gb180
 
 use crate::byte_codec::Text;
 use crate::double_byte::{read_first, read_trail, text_of};
-use crate::lists;
 use crate::multi_byte::{MultiByte, MultiByteDecoder, Reading};
 use crate::pending::Pending;
+use enc_index::List;
 
 /// gb18030 (Encoding Standard 10.2), and GBK (10.1): ASCII and 80, two bytes by index gb18030, and four by its
 /// ranges.
@@ -52,7 +52,7 @@ fn pair(lead: u8, trail: u8) -> Option<char>
         0x80..=0xFE => 0x41,
         _ => return None,
     };
-    lists::gb18030((lead as u32 - 0x81) * 190 + (trail as u32 - offset))
+    List::Gb18030.at((lead as u32 - 0x81) * 190 + (trail as u32 - offset))
 }
 
 /// The character of a pointer of four bytes.
@@ -63,7 +63,7 @@ fn character_at(pointer: u32) -> Option<char>
         39420..=188999 => None,
         1237576.. => None,
         7457 => Some('\u{E7C7}'),
-        _ => lists::gb18030_ranges(pointer),
+        _ => List::Gb18030Ranges.at(pointer),
     }
 }
 

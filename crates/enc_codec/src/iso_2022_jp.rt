@@ -7,9 +7,9 @@ ghost use Rattle.enc_codec.specs.CodecLaw.{Comes, Acts, IsReady};
 
 use crate::byte_codec::{ByteCodec, Kind, Shown, Step, Text};
 use crate::decoder_result::DecoderResult;
-use crate::lists;
 use crate::machine::run;
 use crate::raw_decoder::RawDecoder;
+use enc_index::List;
 use enc_units::Units;
 use std::marker::Model;
 
@@ -252,7 +252,7 @@ fn char_of_pair(lead: u8, byte: u8) -> Option<char>
     if !is_jis0208_byte(byte) {
         return None;
     }
-    lists::jis0208((lead as u32 - 0x21) * 94 + (byte as u32 - 0x21))
+    List::Jis0208.at((lead as u32 - 0x21) * 94 + (byte as u32 - 0x21))
 }
 
 /// The state in a set with these bytes held.

@@ -6,8 +6,8 @@ ghost use Rattle.enc_codec.specs.ShiftJis.{shift_jis_char};
 use crate::byte_codec::Text;
 use crate::double_byte::{Double, DoubleByte, text_of};
 use crate::katakana::katakana;
-use crate::lists;
 use crate::multi_byte::MultiByteDecoder;
+use enc_index::List;
 
 /// Shift_JIS (Encoding Standard 12.3): ASCII and 80, half-width katakana, and two bytes by index jis0208 or in the
 /// private use area.
@@ -23,7 +23,7 @@ fn character_at(pointer: u32) -> Option<char>
 {
     match pointer {
         8836..=10715 => char::from_u32(0xE000 + (pointer - 8836)),
-        _ => lists::jis0208(pointer),
+        _ => List::Jis0208.at(pointer),
     }
 }
 

@@ -2,13 +2,14 @@
 
 ghost use Rattle.std.specs.Prelude.{◌≡◌};
 ghost use Rattle.enc_codec.specs.OneByte.{single_byte_char};
+ghost use Rattle.enc_index.specs.Lists.{single_byte_runs};
 
 use crate::byte_codec::{ByteCodec, Shown, Step};
 use crate::decoder_result::DecoderResult;
-use crate::index::{List, Planes};
 use crate::machine::run;
 use crate::one_byte::show_byte;
 use crate::raw_decoder::RawDecoder;
+use enc_index::SingleByteIndex;
 use enc_units::Units;
 
 /// The decoder of a legacy single-byte encoding (Encoding Standard 9.1), by the encoding's index: a byte below
@@ -16,39 +17,36 @@ use enc_units::Units;
 /// unmapped. An entry past U+FFFF doesn't count.
 #[derive(Clone, Copy)]
 pub struct SingleByteDecoder {
-    runs: &'static [(u32, u32, u32)],
+    index: SingleByteIndex,
 }
 
 impl SingleByteDecoder {
     /// A decoder for the encoding with this index. Takes no memory.
-    pub fn new(list: List) -> SingleByteDecoder
-        ensures { result.runs ≡ list.runs }
+    pub fn new(index: SingleByteIndex) -> SingleByteDecoder
+        ensures { result.index ≡ index }
     {
-        SingleByteDecoder { runs: list.runs }
+        SingleByteDecoder { index }
     }
 }
 
 /// The character of a byte, if it has one.
-fn character_of(runs: &'static [(u32, u32, u32)], byte: u8) -> Option<char>
-    ensures { result ≡ single_byte_char runs.now byte }
+#[inline(always)]
+fn character_of(index: SingleByteIndex, byte: u8) -> Option<char>
+    ensures { result ≡ single_byte_char (single_byte_runs index) byte }
 {
     if byte < 0x80 {
         return Some(byte as char);
     }
-    let list = List {
-        runs,
-        planes: Planes::Basic,
-    };
-    list.at(byte as u32 - 0x80)
+    index.at(byte as u32 - 0x80)
 }
 
 impl ByteCodec for SingleByteDecoder {
     ghost use Rattle.enc_codec.specs.OneByteState.{single_byte_state};
 
-    ghost state = { λ d. single_byte_state d.runs.now };
+    ghost state = { λ d. single_byte_state (single_byte_runs d.index) };
 
     fn next_step(self, byte: u8) -> Step<SingleByteDecoder> {
-        show_byte(self, character_of(self.runs, byte))
+        show_byte(self, character_of(self.index, byte))
     }
 
     fn ready(self) -> Option<Shown<SingleByteDecoder>> {
@@ -67,7 +65,7 @@ impl ByteCodec for SingleByteDecoder {
 impl RawDecoder for SingleByteDecoder {
     ghost use Rattle.enc_codec.specs.OneByteState.{single_byte_state};
 
-    ghost state = { λ d. single_byte_state d.runs.now };
+    ghost state = { λ d. single_byte_state (single_byte_runs d.index) };
 
     fn decode<U: Units>(
         &mut self,
@@ -87,14 +85,13 @@ impl RawDecoder for SingleByteDecoder {
 #[cfg(test)]
 mod tests {
     use super::*;
-    use crate::indexes::single_byte::{WINDOWS_1252, WINDOWS_1257};
     use enc_units::Utf8Slice;
     use std::test::Fail;
 
     #[test]
     fn decodes_windows_1252(rt: HostRuntime) -> Result<(), Fail> {
         let mut dst = [0; 16];
-        let mut decoder = SingleByteDecoder::new(WINDOWS_1252);
+        let mut decoder = SingleByteDecoder::new(SingleByteIndex::Windows1252);
         let mut out = Utf8Slice::new(&mut dst);
         let end = decoder.decode(b"\x61\x80\xE9", &mut out, true, false);
         assert_eq!(rt; end, (DecoderResult::InputEmpty, 3));
@@ -107,7 +104,7 @@ mod tests {
     fn reports_an_unmapped_byte(rt: HostRuntime) -> Result<(), Fail> {
         let src = b"\x61\x62\x63\x80\xA1\xE4";
         let mut dst = [0; 16];
-        let mut decoder = SingleByteDecoder::new(WINDOWS_1257);
+        let mut decoder = SingleByteDecoder::new(SingleByteIndex::Windows1257);
         let mut out = Utf8Slice::new(&mut dst);
         let fault = decoder.decode(src, &mut out, true, false);
         assert_eq!(rt; fault, (DecoderResult::Malformed(1, 0), 5));

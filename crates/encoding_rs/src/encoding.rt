@@ -5,7 +5,7 @@ ghost use Rattle.enc_codec.specs.Codecs.{codec_rule};
 ghost use Rattle.encoding_rs.specs.Encodings.{rule_of};
 
 use enc_codec::Codec;
-use enc_codec::indexes::single_byte as index;
+use enc_index::SingleByteIndex;
 
 /// Which encoding it is.
 #[derive(Clone, Copy, PartialEq, Eq, Hash, Debug)]
@@ -323,39 +323,40 @@ pub const ISO_2022_JP: Encoding = Encoding { id: Id::Iso2022Jp };
 pub const ISO_2022_JP_INIT: Encoding = ISO_2022_JP;
 
 /// Which decoder an encoding has.
+#[tactic(auto, unfolding(enc_index::specs::Lists::single_byte_runs))]
 pub fn codec_of(encoding: Encoding) -> Codec
     ensures { codec_rule result ≡ rule_of encoding }
 {
     match encoding.id {
         Id::Utf8 => Codec::Utf8,
-        Id::Ibm866 => Codec::SingleByte(index::IBM866),
-        Id::Iso88592 => Codec::SingleByte(index::ISO_8859_2),
-        Id::Iso88593 => Codec::SingleByte(index::ISO_8859_3),
-        Id::Iso88594 => Codec::SingleByte(index::ISO_8859_4),
-        Id::Iso88595 => Codec::SingleByte(index::ISO_8859_5),
-        Id::Iso88596 => Codec::SingleByte(index::ISO_8859_6),
-        Id::Iso88597 => Codec::SingleByte(index::ISO_8859_7),
-        Id::Iso88598 => Codec::SingleByte(index::ISO_8859_8),
-        Id::Iso88598I => Codec::SingleByte(index::ISO_8859_8),
-        Id::Iso885910 => Codec::SingleByte(index::ISO_8859_10),
-        Id::Iso885913 => Codec::SingleByte(index::ISO_8859_13),
-        Id::Iso885914 => Codec::SingleByte(index::ISO_8859_14),
-        Id::Iso885915 => Codec::SingleByte(index::ISO_8859_15),
-        Id::Iso885916 => Codec::SingleByte(index::ISO_8859_16),
-        Id::Koi8R => Codec::SingleByte(index::KOI8_R),
-        Id::Koi8U => Codec::SingleByte(index::KOI8_U),
-        Id::Macintosh => Codec::SingleByte(index::MACINTOSH),
-        Id::Windows874 => Codec::SingleByte(index::WINDOWS_874),
-        Id::Windows1250 => Codec::SingleByte(index::WINDOWS_1250),
-        Id::Windows1251 => Codec::SingleByte(index::WINDOWS_1251),
-        Id::Windows1252 => Codec::SingleByte(index::WINDOWS_1252),
-        Id::Windows1253 => Codec::SingleByte(index::WINDOWS_1253),
-        Id::Windows1254 => Codec::SingleByte(index::WINDOWS_1254),
-        Id::Windows1255 => Codec::SingleByte(index::WINDOWS_1255),
-        Id::Windows1256 => Codec::SingleByte(index::WINDOWS_1256),
-        Id::Windows1257 => Codec::SingleByte(index::WINDOWS_1257),
-        Id::Windows1258 => Codec::SingleByte(index::WINDOWS_1258),
-        Id::XMacCyrillic => Codec::SingleByte(index::X_MAC_CYRILLIC),
+        Id::Ibm866 => Codec::SingleByte(SingleByteIndex::Ibm866),
+        Id::Iso88592 => Codec::SingleByte(SingleByteIndex::Iso88592),
+        Id::Iso88593 => Codec::SingleByte(SingleByteIndex::Iso88593),
+        Id::Iso88594 => Codec::SingleByte(SingleByteIndex::Iso88594),
+        Id::Iso88595 => Codec::SingleByte(SingleByteIndex::Iso88595),
+        Id::Iso88596 => Codec::SingleByte(SingleByteIndex::Iso88596),
+        Id::Iso88597 => Codec::SingleByte(SingleByteIndex::Iso88597),
+        Id::Iso88598 => Codec::SingleByte(SingleByteIndex::Iso88598),
+        Id::Iso88598I => Codec::SingleByte(SingleByteIndex::Iso88598),
+        Id::Iso885910 => Codec::SingleByte(SingleByteIndex::Iso885910),
+        Id::Iso885913 => Codec::SingleByte(SingleByteIndex::Iso885913),
+        Id::Iso885914 => Codec::SingleByte(SingleByteIndex::Iso885914),
+        Id::Iso885915 => Codec::SingleByte(SingleByteIndex::Iso885915),
+        Id::Iso885916 => Codec::SingleByte(SingleByteIndex::Iso885916),
+        Id::Koi8R => Codec::SingleByte(SingleByteIndex::Koi8R),
+        Id::Koi8U => Codec::SingleByte(SingleByteIndex::Koi8U),
+        Id::Macintosh => Codec::SingleByte(SingleByteIndex::Macintosh),
+        Id::Windows874 => Codec::SingleByte(SingleByteIndex::Windows874),
+        Id::Windows1250 => Codec::SingleByte(SingleByteIndex::Windows1250),
+        Id::Windows1251 => Codec::SingleByte(SingleByteIndex::Windows1251),
+        Id::Windows1252 => Codec::SingleByte(SingleByteIndex::Windows1252),
+        Id::Windows1253 => Codec::SingleByte(SingleByteIndex::Windows1253),
+        Id::Windows1254 => Codec::SingleByte(SingleByteIndex::Windows1254),
+        Id::Windows1255 => Codec::SingleByte(SingleByteIndex::Windows1255),
+        Id::Windows1256 => Codec::SingleByte(SingleByteIndex::Windows1256),
+        Id::Windows1257 => Codec::SingleByte(SingleByteIndex::Windows1257),
+        Id::Windows1258 => Codec::SingleByte(SingleByteIndex::Windows1258),
+        Id::XMacCyrillic => Codec::SingleByte(SingleByteIndex::XMacCyrillic),
         Id::Gbk => Codec::Gbk,
         Id::Gb18030 => Codec::Gb18030,
         Id::Big5 => Codec::Big5,

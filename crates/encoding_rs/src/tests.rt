@@ -18,6 +18,21 @@ fn tells_its_encoding(rt: HostRuntime) -> Result<(), Fail> {
     Ok(())
 }
 
+// The README shows this.
+#[test]
+fn decodes_in_chunks(rt: HostRuntime) {
+    let mut text = [0; 8];
+    let mut decoder = SHIFT_JIS.new_decoder();
+    // half of a character: its first byte is read, and nothing is written
+    let outcome = decoder.decode_to_utf8(b"\x93", &mut text, false);
+    assert_eq!(rt; outcome, (CoderResult::InputEmpty, 1, 0, false));
+    // the rest, told to be the last: all is read, three bytes are written, and nothing was malformed
+    assert!(rt; !decoder.is_finished());
+    let outcome = decoder.decode_to_utf8(b"\xFA", &mut text, true);
+    assert_eq!(rt; outcome, (CoderResult::InputEmpty, 1, 3, false));
+    assert_eq!(rt; &text[..3], "日".as_bytes());
+}
+
 #[test]
 fn looks_for_marks(rt: HostRuntime) {
     let bytes = b"\xFE\xFF\x00a";

@@ -221,8 +221,8 @@ fn recode_bytes(
 }
 
 #[test]
-fn recodes_a_line_of_each_complete_encoding(rt: HostRuntime) -> Result<(), Fail> {
-    let rows: [(&str, &str, &[u8], &str, u8); 13] = [
+fn recodes_a_line_of_each_kind_of_encoding(rt: HostRuntime) -> Result<(), Fail> {
+    let rows: [(&str, &str, &[u8], &str, u8); 20] = [
         ("windows-1251", "utf-8", b"\xCF\xF0\xE8", "При", 0),
         (
             "windows-1252",
@@ -262,6 +262,14 @@ fn recodes_a_line_of_each_complete_encoding(rt: HostRuntime) -> Result<(), Fail>
             "a\u{F780}\u{F7FF}",
             0,
         ),
+        // the lines of the next seven are of Python's codecs
+        ("shift_jis", "utf-8", b"\x93\xFA\x96\x7B\x8C\xEA", "日本語", 0),
+        ("euc-jp", "utf-8", b"\xC6\xFC\xCB\xDC\xB8\xEC", "日本語", 0),
+        ("iso-2022-jp", "utf-8", b"\x1B$BF|K\\8l\x1B(B", "日本語", 0),
+        ("big5", "utf-8", b"\xB7\x66\x9D\xF2", "搭𨋢", 0),
+        ("euc-kr", "utf-8", b"\xC7\xD1\x94\xEE", "한뷁", 0),
+        ("gbk", "utf-8", b"\xC6\xBD\xB5\xC8", "平等", 0),
+        ("gb18030", "utf-8", b"\xC6\xBD\x95\x32\x82\x36", "平𠀀", 0),
         ("CP866 ", " Utf8", b"\x8F", "П", 0),
         ("latin1", "utf-16", b"\xE9", "é", 0),
         ("utf-8", "utf-8", b"a\xFF", "a\u{FFFD}", 1),

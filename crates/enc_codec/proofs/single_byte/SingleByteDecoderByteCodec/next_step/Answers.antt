@@ -1,4 +1,5 @@
 use Rattle.std.proofs.Common.{refl}
+use Rattle.enc_index.specs.Lists.{single_byte_runs}
 use Rattle.enc_codec.specs.OneByte.{single_byte_char}
 use Rattle.enc_codec.specs.OneByteState.{single_byte_state}
 use Rattle.enc_codec.proofs.OneByteLemmas.{one_byte_acts}
@@ -6,5 +7,5 @@ use Rattle.enc_codec.proofs.single_byte.SingleByteDecoderByteCodec.next_step.Goa
 
 pub returns : goal.returns
 returns c =
-    rw c.show_byte.ensures (one_byte_acts (single_byte_char c.args.self.runs.now) (λ d. single_byte_state d.runs.now)
+    rw c.show_byte.ensures (one_byte_acts (single_byte_char (single_byte_runs c.args.self.index)) (λ d. single_byte_state (single_byte_runs d.index))
     c.args.self refl c.args.byte _ c.character_of.ensures)
