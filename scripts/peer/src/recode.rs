@@ -1,0 +1,92 @@
+//! Running the program recode on an input.
+use crate::oracle::Answer;
+use std::fs::File;
+use std::io::{self, Read, Write};
+use std::path::PathBuf;
+use std::process::{Child, ChildStdin, Command, Stdio};
+use std::thread;
+use std::time::Duration;
+
+/// How the program is given its input.
+#[derive(Clone, Copy)]
+pub enum Delivery {
+    /// A file.
+    File,
+    /// A pipe, written at once.
+    Pipe,
+    /// A pipe, written in pieces of these sizes in turn.
+    Pieces(&'static [usize]),
+    /// The same, with a pause behind each piece, so that the program mostly reads one at a time.
+    Slow(&'static [usize]),
+}
+
+/// So many bytes fit into a pipe before anything is read.
+const PIPE: usize = 4096;
+
+/// The program, with a file of its own for its inputs.
+pub struct Recode {
+    pub program: PathBuf,
+    pub file: PathBuf,
+}
+
+impl Recode {
+    /// What `recode LABEL utf-8` makes of the input.
+    pub fn run(&self, label: &str, input: &[u8], delivery: Delivery) -> io::Result<Answer> {
+        match delivery {
+            Delivery::File => {
+                std::fs::write(&self.file, input)?;
+                finish(self.start(label, Stdio::from(File::open(&self.file)?))?)
+            }
+            Delivery::Pipe if input.len() <= PIPE => {
+                let mut child = self.start(label, Stdio::piped())?;
+                write_pieces(child.stdin.take(), input, &[PIPE], Duration::ZERO);
+                finish(child)
+            }
+            Delivery::Pipe => self.run_beside(label, input, &[usize::MAX], Duration::ZERO),
+            Delivery::Pieces(sizes) => self.run_beside(label, input, sizes, Duration::ZERO),
+            Delivery::Slow(sizes) => self.run_beside(label, input, sizes, Duration::from_micros(100)),
+        }
+    }
+
+    fn start(&self, label: &str, stdin: Stdio) -> io::Result<Child> {
+        let mut command = Command::new(&self.program);
+        command.args([label, "utf-8"]).stdin(stdin).stdout(Stdio::piped()).stderr(Stdio::null());
+        command.spawn()
+    }
+
+    /// Writes in a thread beside the one that reads, so that neither waits for ever.
+    fn run_beside(&self, label: &str, input: &[u8], sizes: &[usize], pause: Duration) -> io::Result<Answer> {
+        let mut child = self.start(label, Stdio::piped())?;
+        let stdin = child.stdin.take();
+        thread::scope(|scope| {
+            scope.spawn(|| write_pieces(stdin, input, sizes, pause));
+            finish(child)
+        })
+    }
+}
+
+/// Writes the input and closes the pipe. A program that reads no further is told by its answer.
+fn write_pieces(mut stdin: Option<ChildStdin>, input: &[u8], sizes: &[usize], pause: Duration) {
+    let mut rest = input;
+    for size in sizes.iter().cycle() {
+        let (piece, behind) = rest.split_at(rest.len().min(*size));
+        let written = stdin.as_mut().map(|pipe| pipe.write_all(piece));
+        if piece.is_empty() || !matches!(written, Some(Ok(()))) {
+            return;
+        }
+        rest = behind;
+        if !pause.is_zero() {
+            thread::sleep(pause);
+        }
+    }
+}
+
+fn finish(mut child: Child) -> io::Result<Answer> {
+    let mut text = Vec::new();
+    if let Some(stdout) = child.stdout.as_mut() {
+        stdout.read_to_end(&mut text)?;
+    }
+    // a signal is no status of recode's
+    let status = child.wait()?.code().unwrap_or(-1);
+    Ok(Answer { text, status })
+}
