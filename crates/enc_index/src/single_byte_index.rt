@@ -106,7 +106,6 @@ impl SingleByteIndex {
     }
 
     /// Its runs, in the order of their pointers. Takes no memory.
-    #[tactic(auto, unfolding(crate::specs::Lists::single_byte_runs))]
     pub fn runs(self) -> &'static [(u32, u32, u32)]
         ensures { result.now ≡ single_byte_runs self }
     {
