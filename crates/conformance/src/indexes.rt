@@ -2,7 +2,8 @@
 //! are computed by hand from the bytes of Python's codecs cp932, euc_jp, cp949, gb18030 and big5hkscs; those of U+7E8A,
 //! U+E7C7 and the ends of the indexes are the Encoding Standard's.
 
-use enc_index::{List, Planes, SingleByteIndex, pointers};
+use enc_index::{List, Planes, SingleByteIndex};
+use enc_pointers as pointers;
 use std::test::Fail;
 
 #[test]
@@ -108,12 +109,30 @@ fn finds_pointers_for_big5(rt: HostRuntime) -> Result<(), Fail> {
 
 #[test]
 fn finds_pointers_of_single_bytes(rt: HostRuntime) -> Result<(), Fail> {
-    assert_eq!(rt; SingleByteIndex::Windows1252.pointer('€'), Some(0));
-    assert_eq!(rt; SingleByteIndex::Windows1252.pointer('ÿ'), Some(0x7F));
-    assert_eq!(rt; SingleByteIndex::Windows1251.pointer('П'), Some(0x4F));
-    assert_eq!(rt; SingleByteIndex::Koi8R.pointer('П'), Some(0x70));
-    assert_eq!(rt; SingleByteIndex::Koi8R.pointer('€'), None);
-    assert_eq!(rt; SingleByteIndex::Iso88598.pointer('ש'), Some(0x79));
-    assert_eq!(rt; SingleByteIndex::Ibm866.pointer('\u{10FFFF}'), None);
+    assert_eq!(rt;
+        pointers::single_byte(SingleByteIndex::Windows1252, '€'),
+        Some(0)
+    );
+    assert_eq!(rt;
+        pointers::single_byte(SingleByteIndex::Windows1252, 'ÿ'),
+        Some(0x7F)
+    );
+    assert_eq!(rt;
+        pointers::single_byte(SingleByteIndex::Windows1251, 'П'),
+        Some(0x4F)
+    );
+    assert_eq!(rt;
+        pointers::single_byte(SingleByteIndex::Koi8R, 'П'),
+        Some(0x70)
+    );
+    assert_eq!(rt; pointers::single_byte(SingleByteIndex::Koi8R, '€'), None);
+    assert_eq!(rt;
+        pointers::single_byte(SingleByteIndex::Iso88598, 'ש'),
+        Some(0x79)
+    );
+    assert_eq!(rt;
+        pointers::single_byte(SingleByteIndex::Ibm866, '\u{10FFFF}'),
+        None
+    );
     Ok(())
 }

@@ -1,12 +1,6 @@
-mod BelowLemmas
 mod Computing
-mod HalvesLemmas
-pub mod MultiBytePages
-mod MultiByteTables
-mod PageLemmas
-mod RangeLemmas
-mod RangePointers
+pub mod HalvesLemmas
+pub mod MultiByteTables
 mod RunLemmas
-mod SingleByteLemmas
-mod TableLemmas
-mod TreeLemmas
+pub mod SingleByteLemmas
+pub mod TableLemmas

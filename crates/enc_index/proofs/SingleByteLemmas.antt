@@ -1,33 +1,22 @@
--- The tables and the pages of the single-byte indexes.
+-- The tables of the single-byte indexes have what their runs say.
 use Rattle.std.proofs.Common.{◌≡◌, ℕ, ◌+◌, ◌*◌, Bool, true, ◌&&◌, refl, get_or, List, slice_range}
 use Rattle.std.proofs.lemmas.Bool.{and_parts}
 use Rattle.enc_index.specs.declared.index.Planes.TheVariants.{Basic}
 use Rattle.enc_index.specs.declared.single_byte_index.SingleByteIndex.{SingleByteIndex}
 use Rattle.enc_index.specs.declared.single_byte_index.SingleByteIndex.TheVariants.{Ibm866, Iso88592, Iso88593, Iso88594, Iso88595, Iso88596, Iso88597, Iso88598, Iso885910, Iso885913, Iso885914, Iso885915, Iso885916, Koi8R, Koi8U, Macintosh, Windows874, Windows1250, Windows1251, Windows1252, Windows1253, Windows1254, Windows1255, Windows1256, Windows1257, Windows1258, XMacCyrillic}
-use Rattle.enc_index.specs.declared.indexes.single_byte.TheConstants.{SINGLE_BYTE_TABLE, SINGLE_BYTE_PAGE_OF, SINGLE_BYTE_POINTERS}
+use Rattle.enc_index.specs.declared.indexes.single_byte.TheConstants.{SINGLE_BYTE_TABLE}
 use Rattle.enc_index.specs.Index.{entry_character, index_at}
 use Rattle.enc_index.specs.Lists.{single_byte_runs}
-use Rattle.enc_index.specs.Pages.{pointer_in_pages}
-use Rattle.enc_index.specs.Pointers.{always, never, single_byte_pointer}
 use Rattle.enc_index.specs.Search.{are_ascending}
 use Rattle.enc_index.specs.SingleByteTables.{number_of}
 use Rattle.enc_index.proofs.TableLemmas.{table_ok, table_ok-true}
-use Rattle.enc_index.proofs.PageLemmas.{pages_ok, entries_ok, pointer_in_pages-pointer_of}
 use Rattle.enc_index.proofs.Computing.{tests}
 
 abbrev pub table_of : SingleByteIndex → List ℕ
 table_of index = slice_range SINGLE_BYTE_TABLE (number_of index * 128) (number_of index * 128 + 128)
 
-abbrev pub page_of : SingleByteIndex → List ℕ
-page_of index = slice_range SINGLE_BYTE_PAGE_OF (number_of index * 1024) (number_of index * 1024 + 1024)
-
 runs_ok : SingleByteIndex → Bool
 runs_ok index = are_ascending 0 (single_byte_runs index) && table_ok 0 (single_byte_runs index) (table_of index)
-
-pointers_ok : SingleByteIndex → Bool
-pointers_ok index =
-    pages_ok Basic always never 128 7 14 10 (table_of index) (page_of index) SINGLE_BYTE_POINTERS
-    && entries_ok Basic always never 128 14 10 (table_of index) (page_of index) SINGLE_BYTE_POINTERS
 
 all_tables : (index : SingleByteIndex) → runs_ok index ≡ true
 unfolding tests runs_ok
@@ -59,36 +48,6 @@ all_tables Windows1257 = refl
 all_tables Windows1258 = refl
 all_tables XMacCyrillic = refl
 
-all_pages : (index : SingleByteIndex) → pointers_ok index ≡ true
-unfolding tests pointers_ok
-all_pages Ibm866 = refl
-all_pages Iso88592 = refl
-all_pages Iso88593 = refl
-all_pages Iso88594 = refl
-all_pages Iso88595 = refl
-all_pages Iso88596 = refl
-all_pages Iso88597 = refl
-all_pages Iso88598 = refl
-all_pages Iso885910 = refl
-all_pages Iso885913 = refl
-all_pages Iso885914 = refl
-all_pages Iso885915 = refl
-all_pages Iso885916 = refl
-all_pages Koi8R = refl
-all_pages Koi8U = refl
-all_pages Macintosh = refl
-all_pages Windows874 = refl
-all_pages Windows1250 = refl
-all_pages Windows1251 = refl
-all_pages Windows1252 = refl
-all_pages Windows1253 = refl
-all_pages Windows1254 = refl
-all_pages Windows1255 = refl
-all_pages Windows1256 = refl
-all_pages Windows1257 = refl
-all_pages Windows1258 = refl
-all_pages XMacCyrillic = refl
-
 pub single_byte_table : (index : SingleByteIndex) (p : ℕ)
     → entry_character Basic (get_or (table_of index) p 0) ≡ index_at Basic (single_byte_runs index) p
 unfolding runs_ok
@@ -96,12 +55,3 @@ single_byte_table index p =
     let parts = and_parts (are_ascending 0 (single_byte_runs index))
     (table_ok 0 (single_byte_runs index) (table_of index)) (all_tables index) in
     table_ok-true Basic (single_byte_runs index) (table_of index) parts.0 parts.1 p
-
-pub single_byte_pages : (index : SingleByteIndex) (c : ℕ)
-    → pointer_in_pages (page_of index) SINGLE_BYTE_POINTERS 128 c ≡ single_byte_pointer index c
-unfolding pointers_ok single_byte_pointer
-single_byte_pages index c =
-    let parts = and_parts (pages_ok Basic always never 128 7 14 10 (table_of index) (page_of index) SINGLE_BYTE_POINTERS)
-    (entries_ok Basic always never 128 14 10 (table_of index) (page_of index) SINGLE_BYTE_POINTERS) (all_pages index) in
-    pointer_in_pages-pointer_of Basic always never 128 7 14 10 (table_of index) (page_of index) SINGLE_BYTE_POINTERS parts.0 parts.1
-    (λ p. index_at Basic (single_byte_runs index) p) (single_byte_table index) c

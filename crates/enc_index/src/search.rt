@@ -6,8 +6,10 @@ ghost use Rattle.enc_index.specs.Search.{are_ascending, run_at};
 
 use crate::index::{Planes, character_behind};
 
-/// The first run that has a number.
-pub(crate) fn run_with(runs: &[(u32, u32, u32)], number: u32) -> Option<(u32, u32, u32)>
+/// The first run that has a number. It takes a search by halves, and no memory.
+///
+/// - `runs`: ascend, and none overlaps another.
+pub fn run_with(runs: &[(u32, u32, u32)], number: u32) -> Option<(u32, u32, u32)>
     requires { are_ascending 0 runs.now ≡ true }
     ensures first { result ≡ run_at runs.now number }
     ensures begins { IfSome result (λ run. run.0 ≤ number) }

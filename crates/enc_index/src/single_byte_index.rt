@@ -3,7 +3,6 @@
 ghost use Rattle.std.specs.Prelude.{◌≡◌, ◌<◌};
 ghost use Rattle.enc_index.specs.Index.{index_at};
 ghost use Rattle.enc_index.specs.Lists.{single_byte_runs};
-ghost use Rattle.enc_index.specs.Pointers.{single_byte_pointer};
 ghost use Rattle.enc_index.specs.SingleByteTables.{number_of};
 ghost use Rattle.enc_index.specs.declared.index.Planes.TheVariants.{Basic};
 
@@ -12,12 +11,10 @@ use crate::indexes::single_byte::{
     IBM866_RUNS, ISO_8859_2_RUNS, ISO_8859_3_RUNS, ISO_8859_4_RUNS, ISO_8859_5_RUNS,
     ISO_8859_6_RUNS, ISO_8859_7_RUNS, ISO_8859_8_RUNS, ISO_8859_10_RUNS, ISO_8859_13_RUNS,
     ISO_8859_14_RUNS, ISO_8859_15_RUNS, ISO_8859_16_RUNS, KOI8_R_RUNS, KOI8_U_RUNS, MACINTOSH_RUNS,
-    SINGLE_BYTE_PAGE_OF, SINGLE_BYTE_POINTERS, SINGLE_BYTE_TABLE, WINDOWS_874_RUNS,
-    WINDOWS_1250_RUNS, WINDOWS_1251_RUNS, WINDOWS_1252_RUNS, WINDOWS_1253_RUNS, WINDOWS_1254_RUNS,
-    WINDOWS_1255_RUNS, WINDOWS_1256_RUNS, WINDOWS_1257_RUNS, WINDOWS_1258_RUNS,
-    X_MAC_CYRILLIC_RUNS,
+    SINGLE_BYTE_TABLE, WINDOWS_874_RUNS, WINDOWS_1250_RUNS, WINDOWS_1251_RUNS, WINDOWS_1252_RUNS,
+    WINDOWS_1253_RUNS, WINDOWS_1254_RUNS, WINDOWS_1255_RUNS, WINDOWS_1256_RUNS, WINDOWS_1257_RUNS,
+    WINDOWS_1258_RUNS, X_MAC_CYRILLIC_RUNS,
 };
-use crate::pages::pointer_in_bytes;
 
 /// The index of a legacy single-byte encoding, by name. A pointer is a byte less 0x80. ISO-8859-8-I has that of
 /// ISO-8859-8.
@@ -86,23 +83,8 @@ impl SingleByteIndex {
     pub fn at(self, pointer: u32) -> Option<char>
         ensures { result ≡ index_at Basic (single_byte_runs self) pointer }
     {
-        let from = place_of(self) * 128;
+        let from = self.number() * 128;
         character_in(&SINGLE_BYTE_TABLE[from..from + 128], pointer)
-    }
-
-    /// The index pointer: the first pointer of a character, for an encoder. `None` where there is none. It takes two
-    /// loads. Takes no memory.
-    #[inline(always)]
-    pub fn pointer(self, c: char) -> Option<u32>
-        ensures { result ≡ single_byte_pointer self c }
-    {
-        let from = place_of(self) * 1024;
-        pointer_in_bytes(
-            &SINGLE_BYTE_PAGE_OF[from..from + 1024],
-            &SINGLE_BYTE_POINTERS,
-            128,
-            c,
-        )
     }
 
     /// Its runs, in the order of their pointers. Takes no memory.
@@ -139,41 +121,41 @@ impl SingleByteIndex {
             SingleByteIndex::XMacCyrillic => X_MAC_CYRILLIC_RUNS,
         }
     }
-}
 
-/// Where the tables of an index stand.
-#[inline(always)]
-fn place_of(index: SingleByteIndex) -> usize
-    ensures which { result ≡ number_of index }
-    ensures within { result < 27 }
-{
-    match index {
-        SingleByteIndex::Ibm866 => 0,
-        SingleByteIndex::Iso88592 => 1,
-        SingleByteIndex::Iso88593 => 2,
-        SingleByteIndex::Iso88594 => 3,
-        SingleByteIndex::Iso88595 => 4,
-        SingleByteIndex::Iso88596 => 5,
-        SingleByteIndex::Iso88597 => 6,
-        SingleByteIndex::Iso88598 => 7,
-        SingleByteIndex::Iso885910 => 8,
-        SingleByteIndex::Iso885913 => 9,
-        SingleByteIndex::Iso885914 => 10,
-        SingleByteIndex::Iso885915 => 11,
-        SingleByteIndex::Iso885916 => 12,
-        SingleByteIndex::Koi8R => 13,
-        SingleByteIndex::Koi8U => 14,
-        SingleByteIndex::Macintosh => 15,
-        SingleByteIndex::Windows874 => 16,
-        SingleByteIndex::Windows1250 => 17,
-        SingleByteIndex::Windows1251 => 18,
-        SingleByteIndex::Windows1252 => 19,
-        SingleByteIndex::Windows1253 => 20,
-        SingleByteIndex::Windows1254 => 21,
-        SingleByteIndex::Windows1255 => 22,
-        SingleByteIndex::Windows1256 => 23,
-        SingleByteIndex::Windows1257 => 24,
-        SingleByteIndex::Windows1258 => 25,
-        SingleByteIndex::XMacCyrillic => 26,
+    /// Its number, from 0 to 26, in the order above: where it stands among tables of them all. Takes no memory.
+    #[inline(always)]
+    pub fn number(self) -> usize
+        ensures which { result ≡ number_of self }
+        ensures within { result < 27 }
+    {
+        match self {
+            SingleByteIndex::Ibm866 => 0,
+            SingleByteIndex::Iso88592 => 1,
+            SingleByteIndex::Iso88593 => 2,
+            SingleByteIndex::Iso88594 => 3,
+            SingleByteIndex::Iso88595 => 4,
+            SingleByteIndex::Iso88596 => 5,
+            SingleByteIndex::Iso88597 => 6,
+            SingleByteIndex::Iso88598 => 7,
+            SingleByteIndex::Iso885910 => 8,
+            SingleByteIndex::Iso885913 => 9,
+            SingleByteIndex::Iso885914 => 10,
+            SingleByteIndex::Iso885915 => 11,
+            SingleByteIndex::Iso885916 => 12,
+            SingleByteIndex::Koi8R => 13,
+            SingleByteIndex::Koi8U => 14,
+            SingleByteIndex::Macintosh => 15,
+            SingleByteIndex::Windows874 => 16,
+            SingleByteIndex::Windows1250 => 17,
+            SingleByteIndex::Windows1251 => 18,
+            SingleByteIndex::Windows1252 => 19,
+            SingleByteIndex::Windows1253 => 20,
+            SingleByteIndex::Windows1254 => 21,
+            SingleByteIndex::Windows1255 => 22,
+            SingleByteIndex::Windows1256 => 23,
+            SingleByteIndex::Windows1257 => 24,
+            SingleByteIndex::Windows1258 => 25,
+            SingleByteIndex::XMacCyrillic => 26,
+        }
     }
 }

@@ -3,15 +3,15 @@ use Rattle.std.proofs.Common.{◌≡◌, ℕ, ◌+◌, ◌-◌, ◌<◌, Bool, t
 use Rattle.std.proofs.lemmas.Bool.{cond-false, and_parts, and_from, false_from_ne_true}
 use Rattle.std.proofs.lemmas.Bool.Decides.{nat_tests}
 use Rattle.enc_index.specs.declared.list.List.TheVariants.{Gb18030Ranges}
-use Rattle.enc_index.specs.declared.indexes.gb18030_ranges.TheConstants.{GB18030_RANGES_BY_CODE_POINT}
+use Rattle.enc_pointers.specs.declared.pages.gb18030_ranges.TheConstants.{GB18030_RANGES_BY_CODE_POINT}
 use Rattle.enc_index.specs.Index.{Run}
 use Rattle.enc_index.specs.Lists.{runs_of, gb18030_ranges_at}
 use Rattle.enc_index.specs.Search.{are_ascending, run_at}
-use Rattle.enc_index.specs.Pointers.{first_below, is_character, is_ranges_pointer, gb18030_ranges_pointer}
-use Rattle.enc_index.proofs.BelowLemmas.{first_below-None, first_below-Some}
+use Rattle.enc_pointers.specs.Pointers.{first_below, is_character, is_ranges_pointer, gb18030_ranges_pointer}
+use Rattle.enc_pointers.proofs.BelowLemmas.{first_below-None, first_below-Some}
 use Rattle.enc_index.proofs.MultiByteTables.{gb18030_ranges_ascends}
-use Rattle.enc_index.proofs.RangeLemmas.{by_code_point, are_ranges, IsPointerOf, pointer_in_run, sound, complete}
-use Rattle.enc_index.proofs.Computing.{tests}
+use Rattle.enc_pointers.proofs.RangeLemmas.{by_code_point, are_ranges, IsPointerOf, pointer_in_run, sound, complete}
+use Rattle.enc_pointers.proofs.Computing.{tests}
 
 are_all_ranges : are_ranges (runs_of Gb18030Ranges) ≡ true
 unfolding tests

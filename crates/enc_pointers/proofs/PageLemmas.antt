@@ -3,10 +3,10 @@ use Rattle.std.proofs.Common.{◌≡◌, ℕ, zero, suc, ◌+◌, ◌*◌, ◌/�
 use Rattle.std.proofs.lemmas.Bool.{cond-true, cond-false, cases_lt, and_parts, and_from, cond_both, false_from_ne_true, true≢false}
 use Rattle.enc_index.specs.declared.index.Planes.{Planes}
 use Rattle.enc_index.specs.Index.{entry_character, is_entry_code_point}
-use Rattle.enc_index.specs.Pages.{number_in_pages, pointer_in_pages}
-use Rattle.enc_index.specs.Pointers.{pointer_of, is_character, first_below, last_below}
-use Rattle.enc_index.proofs.TreeLemmas.{Tree, plant, look, look-plant, get_or-past}
-use Rattle.enc_index.proofs.BelowLemmas.{first_below-None, first_below-Some, last_below-None, last_below-Some}
+use Rattle.enc_pointers.specs.Pages.{number_in_pages, pointer_in_pages}
+use Rattle.enc_pointers.specs.Pointers.{pointer_of, is_character, first_below, last_below}
+use Rattle.enc_pointers.proofs.TreeLemmas.{Tree, plant, look, look-plant, get_or-past}
+use Rattle.enc_pointers.proofs.BelowLemmas.{first_below-None, first_below-Some, last_below-None, last_below-Some}
 
 -- each number below n passes
 unfoldable pub all_below : (ℕ → Bool) → ℕ → Bool

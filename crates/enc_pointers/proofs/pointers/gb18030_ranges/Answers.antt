@@ -1,7 +1,7 @@
 use Rattle.std.proofs.Common.{◌∙◌, ap, sym, arith}
-use Rattle.enc_index.proofs.RangeLemmas.{pointer_in_run}
-use Rattle.enc_index.proofs.RangePointers.{by_code_point_ascends, found_is_below, private_use_pointer, ranges_pointer}
-use Rattle.enc_index.proofs.pointers.gb18030_ranges.Goals as goal
+use Rattle.enc_pointers.proofs.RangeLemmas.{pointer_in_run}
+use Rattle.enc_pointers.proofs.RangePointers.{by_code_point_ascends, found_is_below, private_use_pointer, ranges_pointer}
+use Rattle.enc_pointers.proofs.pointers.gb18030_ranges.Goals as goal
 
 pub returns-then-c-eq59335 : goal.returns-then-c-eq59335
 returns-then-c-eq59335 c = private_use_pointer c.args.c c.if-c-eq59335.true

@@ -1,7 +1,7 @@
 //! Tables in two levels, of pointers by characters: the page of each 64 code points, and the pages.
 
 ghost use Rattle.std.specs.Prelude.{◌≡◌, ◌≤◌};
-ghost use Rattle.enc_index.specs.Pages.{pointer_in_pages};
+ghost use Rattle.enc_pointers.specs.Pages.{pointer_in_pages};
 
 /// The pointer of a character below a bound.
 #[inline(always)]

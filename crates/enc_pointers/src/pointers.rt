@@ -1,18 +1,18 @@
-//! The pointers of characters in the indexes of multi-byte encodings (Encoding Standard 5), as their encoders look
-//! them up. Each takes two loads, but that of gb18030 ranges a search by halves. None takes memory.
+//! The pointers of characters in the indexes (Encoding Standard 5, "index pointer"), as encoders look them up. Each takes two loads, but that of gb18030 ranges a search by halves. None takes memory.
 
 ghost use Rattle.std.specs.Prelude.{◌≡◌};
-ghost use Rattle.enc_index.specs.Pointers.{big5_pointer, euc_kr_pointer, gb18030_pointer, gb18030_ranges_pointer, jis0208_pointer, shift_jis_pointer};
+ghost use Rattle.enc_pointers.specs.Pointers.{big5_pointer, euc_kr_pointer, gb18030_pointer, gb18030_ranges_pointer, jis0208_pointer, shift_jis_pointer, single_byte_pointer};
 
-use crate::indexes::big5::{BIG5_PAGE_OF, BIG5_POINTERS};
-use crate::indexes::euc_kr::{EUC_KR_PAGE_OF, EUC_KR_POINTERS};
-use crate::indexes::gb18030::{GB18030_PAGE_OF, GB18030_POINTERS};
-use crate::indexes::gb18030_ranges::GB18030_RANGES_BY_CODE_POINT;
-use crate::indexes::jis0208::{
+use crate::look_up::{pointer_in, pointer_in_bytes};
+use crate::pages::big5::{BIG5_PAGE_OF, BIG5_POINTERS};
+use crate::pages::euc_kr::{EUC_KR_PAGE_OF, EUC_KR_POINTERS};
+use crate::pages::gb18030::{GB18030_PAGE_OF, GB18030_POINTERS};
+use crate::pages::gb18030_ranges::GB18030_RANGES_BY_CODE_POINT;
+use crate::pages::jis0208::{
     JIS0208_PAGE_OF, JIS0208_POINTERS, SHIFT_JIS_PAGE_OF, SHIFT_JIS_POINTERS,
 };
-use crate::pages::pointer_in;
-use crate::search::run_with;
+use crate::pages::single_byte::{SINGLE_BYTE_PAGE_OF, SINGLE_BYTE_POINTERS};
+use enc_index::{SingleByteIndex, run_with};
 
 /// The index Big5 pointer: the first from 5024 on, or the last for U+2550, U+255E, U+2561, U+256A, U+5341 and
 /// U+5345. `None` where there is none.
@@ -73,4 +73,19 @@ pub fn shift_jis(c: char) -> Option<u32>
     ensures { result ≡ shift_jis_pointer c }
 {
     pointer_in(&SHIFT_JIS_PAGE_OF, &SHIFT_JIS_POINTERS, 11280, c)
+}
+
+/// The index pointer in the index of a legacy single-byte encoding: the first, which is a byte less 0x80. `None` where
+/// there is none.
+#[inline(always)]
+pub fn single_byte(index: SingleByteIndex, c: char) -> Option<u32>
+    ensures { result ≡ single_byte_pointer index c }
+{
+    let from = index.number() * 1024;
+    pointer_in_bytes(
+        &SINGLE_BYTE_PAGE_OF[from..from + 1024],
+        &SINGLE_BYTE_POINTERS,
+        128,
+        c,
+    )
 }

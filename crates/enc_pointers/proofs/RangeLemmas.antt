@@ -6,7 +6,7 @@ use Rattle.std.proofs.lemmas.Bool.Decides.{nat_tests}
 use Rattle.enc_index.specs.declared.index.Planes.TheVariants.{All}
 use Rattle.enc_index.specs.Index.{Run, entry_character, is_entry_code_point, index_at}
 use Rattle.enc_index.specs.Search.{are_ascending, run_at}
-use Rattle.enc_index.specs.Pointers.{is_ranges_pointer}
+use Rattle.enc_pointers.specs.Pointers.{is_ranges_pointer}
 use Rattle.enc_index.proofs.HalvesLemmas.{ascending_parts, outside}
 use Rattle.enc_index.proofs.TableLemmas.{index_at-before, index_at-after, index_at-within}
 
