@@ -1,5 +1,6 @@
 //! Worked examples of every encoding, each through every cut and every small room; the names, labels,
-//! properties and byte order marks of all of them; and look-ups in the indexes.
+//! properties and byte order marks of all of them; look-ups in the indexes; and the calls of the decoders and of the front
+//! by themselves.
 //!
 //! This crate has tests alone. A codec's examples stand in a module of its own, as tables, and one harness runs
 //! them. What is expected comes from outside: the examples of the Encoding Standard, Unicode's tables, and the
@@ -8,6 +9,10 @@
 
 #[cfg(test)]
 mod bom;
+#[cfg(test)]
+mod calls;
+#[cfg(test)]
+mod decoders;
 #[cfg(test)]
 mod double_byte;
 #[cfg(test)]

@@ -97,35 +97,3 @@ impl RawDecoder for ReplacementDecoder {
         self.pending_len() as usize
     }
 }
-
-#[cfg(test)]
-mod tests {
-    use super::*;
-    use enc_units::Utf8Slice;
-    use std::test::Fail;
-
-    #[test]
-    fn reports_the_first_byte_alone(rt: HostRuntime) -> Result<(), Fail> {
-        let mut dst = [0; 16];
-        let mut decoder = ReplacementDecoder::new();
-        let mut out = Utf8Slice::new(&mut dst);
-        let fault = decoder.decode(b"AB", &mut out, true, false);
-        assert_eq!(rt; fault, (DecoderResult::Malformed(1, 0), 1));
-        let end = decoder.decode(b"B", &mut out, true, false);
-        assert_eq!(rt; end, (DecoderResult::InputEmpty, 1));
-        assert_eq!(rt; decoder.held(), 0);
-        assert_eq!(rt; out.len(), 0);
-        Ok(())
-    }
-
-    #[test]
-    fn makes_nothing_of_nothing(rt: HostRuntime) -> Result<(), Fail> {
-        let mut dst = [0; 16];
-        let mut decoder = ReplacementDecoder::new();
-        let mut out = Utf8Slice::new(&mut dst);
-        let end = decoder.decode(b"", &mut out, true, false);
-        assert_eq!(rt; end, (DecoderResult::InputEmpty, 0));
-        assert_eq!(rt; out.len(), 0);
-        Ok(())
-    }
-}

@@ -81,39 +81,3 @@ impl RawDecoder for SingleByteDecoder {
         self.pending_len() as usize
     }
 }
-
-#[cfg(test)]
-mod tests {
-    use super::*;
-    use enc_units::Utf8Slice;
-    use std::test::Fail;
-
-    #[test]
-    fn decodes_windows_1252(rt: HostRuntime) -> Result<(), Fail> {
-        let mut dst = [0; 16];
-        let mut decoder = SingleByteDecoder::new(SingleByteIndex::Windows1252);
-        let mut out = Utf8Slice::new(&mut dst);
-        let end = decoder.decode(b"\x61\x80\xE9", &mut out, true, false);
-        assert_eq!(rt; end, (DecoderResult::InputEmpty, 3));
-        assert_eq!(rt; out.len(), 6);
-        assert_eq!(rt; &dst[..6], "a€é".as_bytes());
-        Ok(())
-    }
-
-    #[test]
-    fn reports_an_unmapped_byte(rt: HostRuntime) -> Result<(), Fail> {
-        let src = b"\x61\x62\x63\x80\xA1\xE4";
-        let mut dst = [0; 16];
-        let mut decoder = SingleByteDecoder::new(SingleByteIndex::Windows1257);
-        let mut out = Utf8Slice::new(&mut dst);
-        let fault = decoder.decode(src, &mut out, true, false);
-        assert_eq!(rt; fault, (DecoderResult::Malformed(1, 0), 5));
-        assert_eq!(rt; out.len(), 6);
-        assert_eq!(rt; decoder.held(), 0);
-        let end = decoder.decode(&src[5..], &mut out, true, false);
-        assert_eq!(rt; end, (DecoderResult::InputEmpty, 1));
-        assert_eq!(rt; out.len(), 8);
-        assert_eq!(rt; &dst[..8], "abc€ä".as_bytes());
-        Ok(())
-    }
-}

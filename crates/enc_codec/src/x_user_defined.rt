@@ -73,23 +73,3 @@ impl RawDecoder for XUserDefinedDecoder {
         self.pending_len() as usize
     }
 }
-
-#[cfg(test)]
-mod tests {
-    use super::*;
-    use enc_units::Utf8Slice;
-    use std::test::Fail;
-
-    #[test]
-    fn decodes_every_byte(rt: HostRuntime) -> Result<(), Fail> {
-        let mut dst = [0; 16];
-        let mut decoder = XUserDefinedDecoder::new();
-        let mut out = Utf8Slice::new(&mut dst);
-        let end = decoder.decode(b"\x80\xFF", &mut out, true, false);
-        assert_eq!(rt; end, (DecoderResult::InputEmpty, 2));
-        assert_eq!(rt; decoder.held(), 0);
-        assert_eq!(rt; out.len(), 6);
-        assert_eq!(rt; &dst[..6], "\u{F780}\u{F7FF}".as_bytes());
-        Ok(())
-    }
-}

@@ -15,8 +15,6 @@ mod life_cycle;
 mod properties;
 mod replacing;
 pub mod run;
-#[cfg(test)]
-mod tests;
 mod validity;
 
 pub use coder_result::CoderResult;

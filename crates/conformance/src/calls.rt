@@ -1,7 +1,7 @@
-//! Each public call once; the worked examples of the encodings stand in the crate `conformance`.
+//! The calls of `encoding_rs` by themselves, each once. What is expected is by hand from the Encoding Standard.
 
-use crate::run::{BomHandling, DecodeCall, RunError, decode_run};
-use crate::*;
+use encoding_rs::run::{BomHandling, DecodeCall, RunError, decode_run};
+use encoding_rs::*;
 use std::test::Fail;
 
 #[test]
