@@ -10,6 +10,7 @@ use enc_units::Utf8Slice;
 use std::process::Abort;
 
 /// A call with room for eight bytes: what it answers with how many bytes read, how many are held then, and its text.
+/// What lies behind the text stays.
 fn make_call(
     rt: &impl Abort,
     decoder: &mut impl RawDecoder,
@@ -24,6 +25,7 @@ fn make_call(
     assert_eq!(rt; (result, read, decoder.held()), want);
     assert!(rt; len <= 8);
     assert_eq!(rt; &dst[..len], text.as_bytes());
+    assert_eq!(rt; &dst[len..], &[0; 8][len..]);
 }
 
 /// The last call reads all of its bytes and writes this text.
@@ -114,6 +116,7 @@ fn reports_where_the_replacement_fits(rt: HostRuntime) {
         call_with_malformed(&rt, codec, &[byte], (3, true), one);
         call_with_malformed(&rt, codec, &[byte], (0, false), one);
     }
+    call_with_malformed(&rt, Codec::Replacement, &[0xE9], (4, false), one);
     let two = (DecoderResult::Malformed(2, 0), 2);
     call_with_malformed(&rt, Codec::Utf16Le, &[0x00, 0xDC], (2, true), (full, 1));
     call_with_malformed(&rt, Codec::Utf16Le, &[0x00, 0xDC], (3, true), two);
@@ -127,9 +130,18 @@ fn single_byte_decodes_windows_1252(rt: HostRuntime) {
 
 #[test]
 fn single_byte_reports_an_unmapped_byte(rt: HostRuntime) {
+    let src = b"\x61\x62\x63\x80\xA1\xE4";
+    let mut dst = [0; 16];
     let mut decoder = SingleByteDecoder::new(SingleByteIndex::Windows1257);
-    stop(&rt, &mut decoder, b"abc\x80\xA1\xE4", (1, 0), 5, "abc€");
-    end(&rt, &mut decoder, b"\xE4", "ä");
+    let mut out = Utf8Slice::new(&mut dst);
+    let fault = decoder.decode(src, &mut out, true, false);
+    assert_eq!(rt; fault, (DecoderResult::Malformed(1, 0), 5));
+    assert_eq!(rt; out.len(), 6);
+    assert_eq!(rt; decoder.held(), 0);
+    let end = decoder.decode(&src[5..], &mut out, true, false);
+    assert_eq!(rt; end, (DecoderResult::InputEmpty, 1));
+    assert_eq!(rt; out.len(), 8);
+    assert_eq!(rt; &dst[..8], "abc€ä".as_bytes());
 }
 
 #[test]

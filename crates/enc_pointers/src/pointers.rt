@@ -1,4 +1,5 @@
-//! The pointers of characters in the indexes (Encoding Standard 5, "index pointer"), as encoders look them up. Each takes two loads, but that of gb18030 ranges a search by halves. None takes memory.
+//! The pointers of characters in the indexes (Encoding Standard 5, "index pointer"), as encoders look them up. Each
+//! takes two loads, but that of gb18030 ranges a search by halves. None takes memory.
 
 ghost use Rattle.std.specs.Prelude.{◌≡◌};
 ghost use Rattle.enc_pointers.specs.Pointers.{big5_pointer, euc_kr_pointer, gb18030_pointer, gb18030_ranges_pointer, jis0208_pointer, shift_jis_pointer, single_byte_pointer};
