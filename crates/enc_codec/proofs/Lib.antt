@@ -33,3 +33,6 @@ pub mod Iso2022JpRule
 pub mod Iso2022JpUndetermined
 pub mod Iso2022JpComes
 pub mod Iso2022JpSets
+mod TakingLemmas
+mod PieceLemmas
+mod Utf8Pieces

@@ -12,6 +12,7 @@ use Rattle.enc_codec.specs.OneByte.{one_byte_head, one_byte_rule, one_byte_step}
 use Rattle.enc_codec.specs.OneByteState.{one_byte_state}
 use Rattle.enc_codec.proofs.SegmentationLemmas.{sequences_of-cons}
 use Rattle.enc_codec.proofs.ShowLemmas.{shows_with}
+use Rattle.enc_codec.specs.Taking.{IsPiece}
 use Rattle.enc_codec.proofs.RuleLemmas.{one_small}
 
 module _ (character : ℕ → Option ℕ) where
@@ -37,6 +38,10 @@ module _ (character : ℕ → Option ℕ) where
   one_byte_acts state c s b None e =
       shows_with state c c (One 0xFFFD) Malformed 1 b refl (rw s refl) (rw s refl) refl (λ _. (refl, omega arith))
       (λ z. rw s (first b None _ (sym e) refl z))
+
+  -- a byte that has a character
+  pub one_byte_piece : (b c : ℕ) → character b ≡ Some c → IsPiece (one_byte_rule character) 0 (b ∷ []) c
+  one_byte_piece b c e y = first b (Some c) _ e refl y
 
   no_more : (set : ℕ) (found : Option ℕ) → (one_byte_head set found).more ≡ 0
   no_more set (Some a) = refl

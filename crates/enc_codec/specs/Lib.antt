@@ -26,3 +26,4 @@ pub mod Gb18030
 pub mod Iso2022Jp
 pub mod Iso2022JpState
 pub mod Iso2022JpLaws
+pub mod Taking

@@ -1,6 +1,7 @@
 -- Legacy multi-byte encodings without escape sequences (Encoding Standard 10 to 13), by what the bytes in front are.
 use Rattle.std.specs.Prelude.{◌≡◌, ◌≢◌, ℕ, ◌-◌, ◌<◌, ◌≤◌, List, [], ◌∷◌, ◌++◌, length}
 use Rattle.enc_codec.specs.declared.byte_codec.Text.{Text}
+use Rattle.enc_codec.specs.declared.byte_codec.Text.TheVariants.{One}
 use Rattle.enc_codec.specs.declared.byte_codec.Kind.TheVariants.{Valid, Malformed}
 use Rattle.enc_codec.specs.declared.multi_byte.Reading.{Reading}
 use Rattle.enc_codec.specs.declared.multi_byte.Reading.TheVariants.{Whole, Broken, Unfinished}
@@ -48,3 +49,7 @@ pub record IsReading (reading : List ℕ → Reading) : Type 0 where
   pub broken : (front : List ℕ) (n : ℕ) → reading front ≡ Broken n → (0 < n) × (n ≤ length front)
   pub short : (front : List ℕ) → reading front ≡ Unfinished → length front ≤ 3
   pub can_break : (front : List ℕ) → 0 < length front → reading front ≡ Unfinished → CanBreak reading front
+
+-- an ASCII byte is its own character
+abbrev pub HasAscii : (List ℕ → Reading) → Type 0
+HasAscii reading = (b : ℕ) → b < 0x80 → reading (b ∷ []) ≡ Whole (One b)

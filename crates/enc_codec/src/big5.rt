@@ -59,4 +59,6 @@ impl DoubleByte for Big5 {
     }
 
     fn laws() {}
+
+    fn ascii() {}
 }

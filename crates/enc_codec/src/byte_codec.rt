@@ -3,7 +3,10 @@
 ghost use Rattle.std.specs.Prelude.{◌≡◌, length};
 ghost use Rattle.enc_codec.specs.CodecState.{CodecState};
 ghost use Rattle.enc_codec.specs.CodecLaw.{Acts, IsReady, IsAtEnd};
+ghost use Rattle.enc_codec.specs.Taking.{TakesRun};
 ghost use Rattle.enc_codec.specs.Sequence.{is_malformed as malformed_kind};
+
+use enc_units::Units;
 
 /// What a stretch of the input is.
 #[derive(Clone, Copy, PartialEq, Eq, Debug)]
@@ -71,6 +74,16 @@ pub enum Step<C> {
 pub trait ByteCodec: Copy {
     // its rule, the designated character set, and the pending bytes
     ghost state: { Self → CodecState };
+
+    /// Takes whole sequences from the front of `src`, of which none is malformed, as many as it likes, puts their text
+    /// out, and answers the state behind them and how many bytes they have. It may take none. Takes no memory.
+    fn take_run<U: Units>(self, src: &[u8], out: &mut U) -> (Self, usize)
+        ensures { TakesRun U.units_of state self result.0 src.now result.1 (U.output out.old) (U.output out.new) }
+    {
+        let _bytes = src;
+        let _output = out;
+        (self, 0)
+    }
 
     /// What the next byte does.
     fn next_step(self, byte: u8) -> Step<Self>

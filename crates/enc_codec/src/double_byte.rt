@@ -1,6 +1,6 @@
 //! The legacy encodings of one byte and two.
 
-ghost use Rattle.std.specs.Prelude.{◌≡◌, ℕ, ◌+◌, ◌<◌, Bool, Option, true};
+ghost use Rattle.std.specs.Prelude.{◌≡◌, ℕ, ◌+◌, ◌<◌, Bool, Option, Some, true, false};
 ghost use Rattle.enc_codec.specs.declared.byte_codec.Text.{Text};
 ghost use Rattle.enc_codec.specs.DoubleByte.{text_of_char, single_reading, first_reading, trail_reading, ArePairs};
 
@@ -37,6 +37,10 @@ pub trait DoubleByte: Copy {
     /// What holds of all pairs. A call does nothing.
     fn laws()
         ensures { ArePairs pairs };
+
+    /// An ASCII byte leads none, and is its own character. A call does nothing.
+    fn ascii()
+        ensures { (b : ℕ) → b < 0x80 → (leads b ≡ false) × (singles b ≡ Some b) };
 }
 
 /// Such an encoding as one of the multi-byte encodings.
@@ -96,5 +100,9 @@ impl<D: DoubleByte> MultiByte for Double<D> {
 
     fn laws() {
         D::laws();
+    }
+
+    fn ascii() {
+        D::ascii();
     }
 }

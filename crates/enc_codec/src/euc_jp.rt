@@ -110,4 +110,6 @@ impl MultiByte for EucJp {
     }
 
     fn laws() {}
+
+    fn ascii() {}
 }

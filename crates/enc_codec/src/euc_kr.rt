@@ -44,4 +44,6 @@ impl DoubleByte for EucKr {
     }
 
     fn laws() {}
+
+    fn ascii() {}
 }

@@ -134,4 +134,6 @@ impl MultiByte for Gb18030 {
     }
 
     fn laws() {}
+
+    fn ascii() {}
 }

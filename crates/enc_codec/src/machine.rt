@@ -124,6 +124,10 @@ pub fn run<C: ByteCodec, U: Units>(
     let mut state = *codec;
     let mut read = 0;
     loop {
+        let (_, rest) = src.split_at(read);
+        let (ahead, taken) = state.take_run(rest, out);
+        state = ahead;
+        read += taken;
         let shown = match what_comes(state, src, read, last) {
             Coming::Stay => {
                 *codec = state;

@@ -3,14 +3,14 @@
 ghost use Rattle.std.specs.Prelude.{◌≡◌, ℕ, ◌+◌, ◌<◌, List, [], ◌∷◌, ◌++◌, length, true, false, Some, IfSome, IsNone};
 ghost use Rattle.enc_codec.specs.Pending.{pending_bytes};
 ghost use Rattle.enc_codec.specs.CodecLaw.{Acts, IsReady, IsAtEnd};
-ghost use Rattle.enc_codec.specs.MultiByte.{multi_byte_state, AreUnfinished, IsReading};
+ghost use Rattle.enc_codec.specs.MultiByte.{multi_byte_state, AreUnfinished, IsReading, HasAscii};
 
 use crate::byte_codec::{ByteCodec, Kind, Shown, Step, Text};
 use crate::decoder_result::DecoderResult;
 use crate::machine::run;
 use crate::pending::Pending;
 use crate::raw_decoder::RawDecoder;
-use enc_units::Units;
+use enc_units::{Pieces, Units};
 use std::marker::PhantomData;
 
 /// What the bytes in front of the input are.
@@ -39,6 +39,10 @@ pub trait MultiByte: Copy {
     /// What holds of all bytes in front. A call does nothing.
     fn laws()
         ensures { IsReading reading };
+
+    /// An ASCII byte is its own character. A call does nothing.
+    fn ascii()
+        ensures { HasAscii reading };
 }
 
 /// The decoder of a legacy multi-byte encoding without escape sequences. It holds the bytes that are unfinished, or
@@ -159,11 +163,46 @@ fn broken<E: MultiByte>(len: u8, takes_byte: bool, behind: Pending) -> Shown<Mul
     }
 }
 
+impl<E: MultiByte> Pieces for MultiByteDecoder<E> {
+    ghost use Rattle.enc_codec.specs.MultiByte.{multi_byte_rule};
+    ghost use Rattle.enc_codec.specs.Taking.{IsPiece};
+
+    ghost means = { λ _. IsPiece (multi_byte_rule E.reading) 0 };
+
+    #[inline(always)]
+    fn piece(self, src: &[u8], at: usize) -> Option<(char, usize)> {
+        let lead = src[at];
+        match E::read(Pending::Nothing, lead) {
+            Reading::Whole(Text::One(character)) => Some((character, 1)),
+            Reading::Unfinished if at + 1 < src.len() => {
+                match E::read(Pending::One(lead), src[at + 1]) {
+                    Reading::Whole(Text::One(character)) => Some((character, 2)),
+                    _ => None,
+                }
+            }
+            _ => None,
+        }
+    }
+
+    fn has_ascii(self) -> bool {
+        E::ascii();
+        true
+    }
+}
+
 impl<E: MultiByte> ByteCodec for MultiByteDecoder<E> {
     ghost use Rattle.enc_codec.specs.Pending.{pending_bytes};
     ghost use Rattle.enc_codec.specs.MultiByte.{multi_byte_state};
 
     ghost state = { λ d. multi_byte_state E.reading (pending_bytes d.pending) };
+
+    #[inline(always)]
+    fn take_run<U: Units>(self, src: &[u8], out: &mut U) -> (MultiByteDecoder<E>, usize) {
+        match self.pending {
+            Pending::Nothing => (self, out.put_pieces(self, src)),
+            _ => (self, 0),
+        }
+    }
 
     fn next_step(self, byte: u8) -> Step<MultiByteDecoder<E>> {
         match self.shown_first() {

@@ -63,4 +63,6 @@ impl DoubleByte for ShiftJis {
     }
 
     fn laws() {}
+
+    fn ascii() {}
 }

@@ -10,7 +10,7 @@ use crate::machine::run;
 use crate::one_byte::show_byte;
 use crate::raw_decoder::RawDecoder;
 use enc_index::SingleByteIndex;
-use enc_units::Units;
+use enc_units::{Pieces, Units};
 
 /// The decoder of a legacy single-byte encoding (Encoding Standard 9.1), by the encoding's index: a byte below
 /// 0x80 is its own character, and any other has that of the pointer 0x80 less, or is malformed where that is
@@ -40,10 +40,35 @@ fn character_of(index: SingleByteIndex, byte: u8) -> Option<char>
     index.at(byte as u32 - 0x80)
 }
 
+impl Pieces for SingleByteDecoder {
+    ghost use Rattle.enc_codec.specs.OneByteState.{single_byte_state};
+    ghost use Rattle.enc_codec.specs.Taking.{IsPiece};
+
+    ghost means = { λ d. IsPiece (single_byte_state (single_byte_runs d.index)).rule 0 };
+
+    #[inline(always)]
+    fn piece(self, src: &[u8], at: usize) -> Option<(char, usize)> {
+        match character_of(self.index, src[at]) {
+            Some(character) => Some((character, 1)),
+            None => None,
+        }
+    }
+
+    fn has_ascii(self) -> bool {
+        let _index = self.index;
+        true
+    }
+}
+
 impl ByteCodec for SingleByteDecoder {
     ghost use Rattle.enc_codec.specs.OneByteState.{single_byte_state};
 
     ghost state = { λ d. single_byte_state (single_byte_runs d.index) };
+
+    #[inline(always)]
+    fn take_run<U: Units>(self, src: &[u8], out: &mut U) -> (SingleByteDecoder, usize) {
+        (self, out.put_pieces(self, src))
+    }
 
     fn next_step(self, byte: u8) -> Step<SingleByteDecoder> {
         show_byte(self, character_of(self.index, byte))

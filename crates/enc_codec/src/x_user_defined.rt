@@ -8,7 +8,7 @@ use crate::decoder_result::DecoderResult;
 use crate::machine::run;
 use crate::one_byte::show_byte;
 use crate::raw_decoder::RawDecoder;
-use enc_units::Units;
+use enc_units::{Pieces, Units};
 
 /// The x-user-defined decoder (Encoding Standard 14.5): a byte below 0x80 is its own character, and 0x80 to 0xFF
 /// are U+F780 to U+F7FF.
@@ -32,10 +32,31 @@ fn character_of(byte: u8) -> char
     char::from_u32(0xF780 + (byte as u32 - 0x80)).unwrap()
 }
 
+impl Pieces for XUserDefinedDecoder {
+    ghost use Rattle.enc_codec.specs.OneByteState.{x_user_defined_state};
+    ghost use Rattle.enc_codec.specs.Taking.{IsPiece};
+
+    ghost means = { λ _. IsPiece x_user_defined_state.rule 0 };
+
+    #[inline(always)]
+    fn piece(self, src: &[u8], at: usize) -> Option<(char, usize)> {
+        Some((character_of(src[at]), 1))
+    }
+
+    fn has_ascii(self) -> bool {
+        true
+    }
+}
+
 impl ByteCodec for XUserDefinedDecoder {
     ghost use Rattle.enc_codec.specs.OneByteState.{x_user_defined_state};
 
     ghost state = { λ _. x_user_defined_state };
+
+    #[inline(always)]
+    fn take_run<U: Units>(self, src: &[u8], out: &mut U) -> (XUserDefinedDecoder, usize) {
+        (self, out.put_pieces(self, src))
+    }
 
     fn next_step(self, byte: u8) -> Step<XUserDefinedDecoder> {
         show_byte(self, Some(character_of(byte)))

@@ -1,0 +1,74 @@
+-- Lanes of ASCII bytes.
+use Rattle.std.proofs.Common.{◌≡◌, ℕ, zero, suc, ◌+◌, ◌%◌, ◌^◌, ◌<◌, Bool, true, false, cond, eqb, leb, List, [], ◌∷◌, map, length, get_or, replicate, take, drop, refl, ap, ◌∙◌, sym, subst, arith, eqb-true, leb-false, take-add, drop-cons, append_assoc, drop-drop, length-append, length-take, length-drop, ◌++◌, ◌≤◌}
+use Rattle.std.proofs.lemmas.List.{length-map, take_more}
+use Rattle.std.proofs.lemmas.List.Elements.{All-append}
+use Rattle.std.proofs.Math.Seq.{take-append_seam, drop-append_seam, set-append_seam}
+use Rattle.std.proofs.Math.ListN.{set}
+use Rattle.std.proofs.lemmas.Simd.{length-zip2, mask_l-mod, put_chunk_is}
+use lib.Lanes.{zip2, mask_l, top, put_chunk}
+use Rattle.enc_units.specs.Validity.{AreAscii}
+
+abbrev at_least : ℕ → ℕ → ℕ
+at_least a b = cond (leb a b) 255 0
+
+none_high : (xs : List ℕ) → mask_l (map (top 7) (zip2 at_least (replicate (length xs) 128) xs)) ≡ 0 → AreAscii xs
+none_high [] e k d h = absurd (omega arith)
+none_high (x ∷ xs) e zero d h = go (leb 128 x) refl (omega arith)
+  where
+    go : (t : Bool) → leb 128 x ≡ t → ◌≡◌ {A = ℕ} (cond (top 7 (cond t 255 0)) 1 0) 0 → x < 128
+    go true p q = absurd (omega arith)
+    go false p q = leb-false _ _ p
+none_high (x ∷ xs) e (suc k) d h = none_high xs (omega arith) k d (omega arith)
+
+-- the mask of a comparison of sixteen lanes
+pub ascii_of_mask : (xs : List ℕ) → length xs ≡ 16 → eqb (mask_l (map (top 7) (zip2 at_least (replicate 16 128) xs)) % 2 ^ 64) 0 ≡ true → AreAscii xs
+ascii_of_mask xs long e =
+    none_high xs (ap (λ n. mask_l (map (top 7) (zip2 at_least (replicate n 128) xs))) long
+    ∙ sym (mask_l-mod _ 64 (omega (arith, length-map (zip2 at_least (replicate 16 128) xs) (top 7), length-zip2 at_least (replicate 16 128) xs (sym long)))) ∙ eqb-true _ _ e)
+
+-- so many bytes more are ASCII
+pub ascii_more : (i n : ℕ) (xs : List ℕ) → AreAscii (take i xs) → AreAscii (take n (drop i xs)) → AreAscii (take (i + n) xs)
+ascii_more i n xs a b = subst AreAscii (sym (take-add i n xs)) (All-append (λ b. b < 0x80) (take i xs) (take n (drop i xs)) a b)
+
+one_ascii : (x : ℕ) → x < 128 → AreAscii (x ∷ [])
+one_ascii x h zero d l = h
+one_ascii x h (suc k) d l = absurd (omega arith)
+
+pub ascii_one : (i : ℕ) (xs : List ℕ) → AreAscii (take i xs) → i < length xs → get_or xs i 0 < 128 → AreAscii (take (i + 1) xs)
+ascii_one i xs a h b =
+    subst AreAscii (sym (take_more xs i 0 h)) (All-append (λ b. b < 0x80) (take i xs) (get_or xs i 0 ∷ []) a (one_ascii (get_or xs i 0) b))
+
+taken : (i : ℕ) (xs : List ℕ) → i ≤ length xs → length (take i xs) ≡ i
+taken i xs h = omega (arith, length-take i xs)
+
+at_seam : (a b ys : List ℕ) → length ys ≤ length b → put_chunk (length a) (a ++ b) ys ≡ a ++ (ys ++ drop (length ys) b)
+at_seam a b ys h =
+    put_chunk_is (length a) (a ++ b) ys (omega (arith, length-append a b))
+    ∙ ap (λ x. x ++ (ys ++ drop (length ys) (drop (length a) (a ++ b)))) (take-append_seam a b)
+    ∙ ap (λ x. a ++ (ys ++ drop (length ys) x)) (drop-append_seam a b)
+
+-- what is copied, and what lies behind it
+pub copied_more : (i n : ℕ) (src dst old : List ℕ) → i + n ≤ length src → i + n ≤ length old → dst ≡ take i src ++ drop i old
+    → put_chunk i dst (take n (drop i src)) ≡ take (i + n) src ++ drop (i + n) old
+copied_more i n src dst old h k e =
+    let ys = take n (drop i src) in
+    let long : length ys ≡ n = omega (arith, length-take n (drop i src), length-drop i src) in
+    ap (λ x. put_chunk i x ys) e ∙ ap (λ m. put_chunk m (take i src ++ drop i old) ys) (sym (taken i src (omega arith)))
+    ∙ at_seam (take i src) (drop i old) ys (omega (arith, long, length-drop i old))
+    ∙ sym (append_assoc (take i src) ys (drop (length ys) (drop i old)))
+    ∙ ap (λ x. x ++ drop (length ys) (drop i old)) (sym (take-add i n src))
+    ∙ ap (λ x. take (i + n) src ++ x) (ap (λ m. drop m (drop i old)) long ∙ drop-drop n i old)
+
+pub copied_one : (i : ℕ) (src dst old : List ℕ) → i < length src → i < length old → dst ≡ take i src ++ drop i old
+    → set dst i (get_or src i 0) ≡ take (i + 1) src ++ drop (i + 1) old
+copied_one i src dst old h k e =
+    let b = get_or src i 0 in
+    ap (λ x. set x i b) (e ∙ ap (λ x. take i src ++ x) (drop-cons old i 0 k))
+    ∙ ap (λ m. set (take i src ++ get_or old i 0 ∷ drop (suc i) old) m b) (sym (taken i src (omega arith)))
+    ∙ set-append_seam (take i src) (get_or old i 0) (drop (suc i) old) b
+    ∙ sym (append_assoc (take i src) (b ∷ []) (drop (suc i) old))
+    ∙ ap (λ x. x ++ drop (suc i) old) (sym (take_more src i 0 h))
+    ∙ ap (λ m. take (i + 1) src ++ drop m old) next
+  where
+    next : suc i ≡ i + 1
+    next = omega arith

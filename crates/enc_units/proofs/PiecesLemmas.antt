@@ -1,0 +1,143 @@
+-- Pieces one behind another, and put out so.
+use Rattle.std.proofs.Common.{◌≡◌, ℕ, suc, ◌+◌, ◌<◌, ◌≤◌, true, List, [], ◌∷◌, ◌++◌, length, take, drop, refl, ap, ◌∙◌, sym, subst, arith, append_assoc, append-nil, length-append, length-drop, take-add, nat_le}
+use Rattle.std.proofs.lemmas.Bool.Decides.{nat_tests}
+use Rattle.enc_units.specs.Output.{Output, appended, units_of_text}
+use Rattle.enc_units.specs.Validity.{AreAscii}
+use Rattle.enc_units.specs.AsciiRun.{PutsAscii}
+use Rattle.enc_units.specs.Pieces.{Piece, bytes_of, chars_of, AllMean, Reads, PutsPieces}
+use Rattle.enc_units.proofs.OutputLemmas.{appended-nil, appended-appended, room_left}
+
+bytes_of-append : (ps qs : List Piece) → bytes_of (ps ++ qs) ≡ bytes_of ps ++ bytes_of qs
+bytes_of-append [] qs = refl
+bytes_of-append (p ∷ ps) qs = ap (λ z. p.bytes ++ z) (bytes_of-append ps qs) ∙ sym (append_assoc p.bytes (bytes_of ps) (bytes_of qs))
+
+chars_of-append : (ps qs : List Piece) → chars_of (ps ++ qs) ≡ chars_of ps ++ chars_of qs
+chars_of-append [] qs = refl
+chars_of-append (p ∷ ps) qs = ap (λ z. p.char ∷ z) (chars_of-append ps qs)
+
+pub units-append : (units_of : ℕ → List ℕ) (cs ds : List ℕ) → units_of_text units_of (cs ++ ds) ≡ units_of_text units_of cs ++ units_of_text units_of ds
+units-append units_of [] ds = refl
+units-append units_of (c ∷ cs) ds =
+    ap (λ t. units_of c ++ t) (units-append units_of cs ds) ∙ sym (append_assoc (units_of c) (units_of_text units_of cs) (units_of_text units_of ds))
+
+AllMean-append : (Means : List ℕ → ℕ → Type 0) (ps qs : List Piece) → AllMean Means ps → AllMean Means qs → AllMean Means (ps ++ qs)
+AllMean-append Means [] qs a b = b
+AllMean-append Means (p ∷ ps) qs a b = (a.0, AllMean-append Means ps qs a.1 b)
+
+-- none
+pub reads_none : (Means : List ℕ → ℕ → Type 0) (src : List ℕ) → Reads Means src 0 []
+reads_none Means src = record {
+  pieces = [];
+  within = omega arith;
+  bytes = refl;
+  chars = refl;
+  mean = tt;
+  none = λ _. refl;
+}
+
+-- more behind them
+pub reads_then : (Means : List ℕ → ℕ → Type 0) (src : List ℕ) (a n : ℕ) (s t : List ℕ) → Reads Means src a s → Reads Means (drop a src) n t → Reads Means src (a + n) (s ++ t)
+reads_then Means src a n s t p q = record {
+  pieces = p.pieces ++ q.pieces;
+  within = omega (arith, p.within, q.within, length-drop a src);
+  bytes = bytes_of-append p.pieces q.pieces ∙ ap (λ z. z ++ bytes_of q.pieces) p.bytes ∙ ap (λ z. take a src ++ z) q.bytes ∙ sym (take-add a n src);
+  chars = chars_of-append p.pieces q.pieces ∙ ap (λ z. z ++ chars_of q.pieces) p.chars ∙ ap (λ z. s ++ z) q.chars;
+  mean = AllMean-append Means p.pieces q.pieces p.mean q.mean;
+  none = λ z. ap (λ ps. ps ++ q.pieces) (p.none (omega arith)) ∙ q.none (omega arith);
+}
+
+-- one
+pub reads_one : (Means : List ℕ → ℕ → Type 0) (src : List ℕ) (n c : ℕ) → 0 < n → n ≤ length src → Means (take n src) c → Reads Means src n (c ∷ [])
+reads_one Means src n c h w m = record {
+  pieces = record { bytes = take n src; char = c } ∷ [];
+  within = w;
+  bytes = append-nil (take n src);
+  chars = refl;
+  mean = (m, tt);
+  none = λ z. absurd (omega arith);
+}
+
+abbrev alone : List ℕ → List Piece
+alone [] = []
+alone (b ∷ bs) = record { bytes = b ∷ []; char = b } ∷ alone bs
+
+alone_bytes : (bs : List ℕ) → bytes_of (alone bs) ≡ bs
+alone_bytes [] = refl
+alone_bytes (b ∷ bs) = ap (λ x. b ∷ x) (alone_bytes bs)
+
+alone_chars : (bs : List ℕ) → chars_of (alone bs) ≡ bs
+alone_chars [] = refl
+alone_chars (b ∷ bs) = ap (λ x. b ∷ x) (alone_chars bs)
+
+alone_mean : (Means : List ℕ → ℕ → Type 0) → ((b : ℕ) → b < 0x80 → Means (b ∷ []) b) → (bs : List ℕ) → AreAscii bs → AllMean Means (alone bs)
+alone_mean Means h [] a = tt
+alone_mean Means h (b ∷ bs) a = (h b (a 0 0 (omega arith)), alone_mean Means h bs (λ k d l. a (suc k) d (omega arith)))
+
+-- ASCII bytes
+pub reads_ascii : (Means : List ℕ → ℕ → Type 0) (src : List ℕ) (n : ℕ) → ((b : ℕ) → b < 0x80 → Means (b ∷ []) b) → n ≤ length src → AreAscii (take n src)
+    → Reads Means src n (take n src)
+reads_ascii Means src n h w a = record {
+  pieces = alone (take n src);
+  within = w;
+  bytes = alone_bytes (take n src);
+  chars = alone_chars (take n src);
+  mean = alone_mean Means h (take n src) a;
+  none = λ z. ap (λ k. alone (take k src)) z;
+}
+
+-- nothing is put out
+pub start : (units_of : ℕ → List ℕ) (Means : List ℕ → ℕ → Type 0) (o : Output) (src : List ℕ) → PutsPieces units_of Means o o src 0
+start units_of Means o src = record {
+  text = [];
+  reads = reads_none Means src;
+  fits = omega arith;
+  written = sym (appended-nil o);
+}
+
+-- more pieces put out behind them
+pub then : (units_of : ℕ → List ℕ) (Means : List ℕ → ℕ → Type 0) (before mid after : Output) (src : List ℕ) (a n : ℕ)
+    → PutsPieces units_of Means before mid src a → PutsPieces units_of Means mid after (drop a src) n → PutsPieces units_of Means before after src (a + n)
+then units_of Means before mid after src a n p q =
+    let x = units_of_text units_of p.text in
+    let y = units_of_text units_of q.text in
+    let both = units-append units_of p.text q.text in
+    record {
+      text = p.text ++ q.text;
+      reads = reads_then Means src a n p.text q.text p.reads q.reads;
+      fits = omega (arith, ap length both, length-append x y, p.fits, q.fits, room_left before mid x p.written);
+      written = q.written ∙ ap (λ o. appended o y) p.written ∙ appended-appended before x y ∙ ap (appended before) (sym both);
+    }
+
+-- ASCII bytes
+pub ascii_pieces : (units_of : ℕ → List ℕ) (Means : List ℕ → ℕ → Type 0) (before after : Output) (src : List ℕ) (n : ℕ)
+    → ((b : ℕ) → b < 0x80 → Means (b ∷ []) b) → PutsAscii units_of before after src n → PutsPieces units_of Means before after src n
+ascii_pieces units_of Means before after src n h p = record {
+  text = take n src;
+  reads = reads_ascii Means src n h p.within p.ascii;
+  fits = p.fits;
+  written = p.written;
+}
+
+-- one piece
+pub one_piece : (units_of : ℕ → List ℕ) (Means : List ℕ → ℕ → Type 0) (before after : Output) (src : List ℕ) (n c : ℕ)
+    → 0 < n → n ≤ length src → Means (take n src) c → nat_le (length (units_of c)) before.room ≡ true → after ≡ appended before (units_of c)
+    → PutsPieces units_of Means before after src n
+one_piece units_of Means before after src n c h w m f e =
+    let units = append-nil (units_of c) in
+    record {
+      text = c ∷ [];
+      reads = reads_one Means src n c h w m;
+      fits = let l : length (units_of c) ≤ before.room = grind (arith, nat_tests) in omega (arith, l, ap length units);
+      written = e ∙ ap (appended before) (sym units);
+    }
+
+-- the same of what is told of the bytes behind the first a
+pub then_rest : (units_of : ℕ → List ℕ) (Means : List ℕ → ℕ → Type 0) (before mid after : Output) (src : List ℕ) (a n : ℕ) (rest : List ℕ) → rest ≡ drop a src
+    → PutsPieces units_of Means before mid src a → PutsPieces units_of Means mid after rest n → PutsPieces units_of Means before after src (a + n)
+then_rest units_of Means before mid after src a n rest e p q =
+    then units_of Means before mid after src a n p (subst (λ z. PutsPieces units_of Means mid after z n) e q)
+
+-- where the output is told to be as it was
+pub same_then : (units_of : ℕ → List ℕ) (Means : List ℕ → ℕ → Type 0) (before mid after : Output) (src : List ℕ) (n : ℕ)
+    → after ≡ mid → PutsPieces units_of Means before mid src n → PutsPieces units_of Means before after src n
+same_then units_of Means before mid after src n e p = subst (λ (o : Output). PutsPieces units_of Means before o src n) (sym e) p

@@ -1,0 +1,45 @@
+-- What an output in UTF-8 shows.
+use Rattle.std.proofs.Common.{◌≡◌, ℕ, suc, ◌+◌, ◌-◌, ◌≤◌, List, [], ◌∷◌, ◌++◌, length, take, drop, refl, ap, ◌∙◌, sym, arith, append_assoc, append-nil, length-append, length-take, length-drop}
+use Rattle.std.proofs.lemmas.List.{take_all}
+use Rattle.std.proofs.lemmas.Str.{encode_ascii}
+use Rattle.std.proofs.Math.ListN.{drop_of_length-le}
+use Rattle.std.proofs.Math.Seq.{take-append_seam, drop-append_seam}
+use Rattle.std.specs.Borrow.{GName}
+use Rattle.std.specs.Char.{encode_utf8}
+use borrow.Rule.Slice.PartMut.{put_mid}
+use Rattle.enc_units.specs.Output.{Output, appended, units_of_text}
+use Rattle.enc_units.specs.Validity.{AreAscii}
+
+-- ASCII bytes are their own code units
+pub ascii_units : (bs : List ℕ) → AreAscii bs → units_of_text encode_utf8 bs ≡ bs
+ascii_units [] a = refl
+ascii_units (b ∷ bs) a = ap (λ x. x ++ units_of_text encode_utf8 bs) (encode_ascii b (a 0 0 (omega arith))) ∙ ap (λ x. b ∷ x) (ascii_units bs (λ k d h. a (suc k) d (omega arith)))
+
+seam_take : (m : ℕ) (x y : List ℕ) → length x ≡ m → take m (x ++ y) ≡ x
+seam_take m x y e = ap (λ k. take k (x ++ y)) (sym e) ∙ take-append_seam x y
+
+seam_drop : (m : ℕ) (x y : List ℕ) → length x ≡ m → drop m (x ++ y) ≡ y
+seam_drop m x y e = ap (λ k. drop k (x ++ y)) (sym e) ∙ drop-append_seam x y
+
+same_output : {w w' : List ℕ} {r r' : ℕ} {b b' : List ℕ} (n : GName) → w ≡ w' → r ≡ r' → b ≡ b'
+    → (let x : Output = record { written = w; room = r; behind = b; borrow = n } in let y : Output = record { written = w'; room = r'; behind = b'; borrow = n } in x ≡ y)
+same_output n e₁ e₂ e₃ = cc
+
+module _ (len n : ℕ) (dst src new : List ℕ) (borrow : GName) (within : len ≤ length dst) (read : n ≤ length src) (room : n ≤ length dst - len)
+    (copied : new ≡ take n src ++ drop n (take (length dst - len) (drop len dst))) where
+  whole : put_mid len (length dst - len) dst new ≡ (take len dst ++ take n src) ++ drop n (drop len dst)
+  whole =
+      ap (λ x. take len dst ++ (new ++ x)) (drop_of_length-le (drop len dst) (omega (arith, length-drop len dst)))
+      ∙ ap (λ x. take len dst ++ x) (append-nil new ∙ copied ∙ ap (λ x. take n src ++ drop n x) (take_all (length dst - len) (drop len dst) (omega (arith, length-drop len dst))))
+      ∙ sym (append_assoc (take len dst) (take n src) (drop n (drop len dst)))
+
+  long : length (take len dst ++ take n src) ≡ len + n
+  long = omega (arith, length-append (take len dst) (take n src), length-take len dst, length-take n src)
+
+  -- the slice once bytes are copied behind those written
+  pub grown : (let x : Output = record { written = take (len + n) (put_mid len (length dst - len) dst new); room = length (put_mid len (length dst - len) dst new) - (len + n); behind = drop (len + n) (put_mid len (length dst - len) dst new); borrow = borrow } in
+      let y : Output = record { written = take len dst; room = length dst - len; behind = drop len dst; borrow = borrow } in x ≡ appended y (take n src))
+  grown = same_output borrow
+      (ap (take (len + n)) whole ∙ seam_take (len + n) (take len dst ++ take n src) (drop n (drop len dst)) long)
+      (omega (arith, ap length whole, length-append (take len dst ++ take n src) (drop n (drop len dst)), long, length-drop n (drop len dst), length-drop len dst, length-take n src))
+      (ap (drop (len + n)) whole ∙ seam_drop (len + n) (take len dst ++ take n src) (drop n (drop len dst)) long ∙ ap (λ m. drop m (drop len dst)) (omega (arith, length-take n src)))

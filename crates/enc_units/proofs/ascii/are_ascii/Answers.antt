@@ -1,0 +1,5 @@
+use Rattle.enc_units.proofs.AsciiLemmas.{ascii_of_mask}
+use Rattle.enc_units.proofs.ascii.are_ascii.Goals as goal
+
+pub returns : goal.returns
+returns c = ascii_of_mask c.args.lanes c.fits-lanes.0

@@ -1,0 +1,77 @@
+//! Runs of ASCII bytes, sixteen at a time.
+
+ghost use Rattle.std.specs.Prelude.{◌≡◌, ◌≤◌, ◌<◌, ◌++◌, length, take, drop, slice_index, IsTrue};
+ghost use Rattle.enc_units.specs.Validity.{AreAscii};
+
+use std::simd::prelude::*;
+
+/// Whether all of sixteen bytes are ASCII.
+#[inline(always)]
+fn are_ascii(lanes: u8x16) -> bool
+    ensures { IsTrue result → AreAscii lanes }
+{
+    lanes.simd_ge(u8x16::splat(0x80)).to_bitmask() == 0
+}
+
+/// How many bytes in front are ASCII, in whole steps of sixteen.
+#[inline(always)]
+fn ascii_steps(bytes: &[u8]) -> usize
+    ensures within { result ≤ length bytes.now }
+    ensures ascii { AreAscii (take result bytes.now) }
+{
+    let mut at = 0;
+    while 16 <= bytes.len() - at {
+        if !are_ascii(u8x16::from_slice(&bytes[at..])) {
+            break;
+        }
+        at += 16;
+    }
+    at
+}
+
+/// How many bytes in front are ASCII: all, or those before one that isn't.
+#[inline(always)]
+pub fn ascii_len(bytes: &[u8]) -> usize
+    ensures within { result ≤ length bytes.now }
+    ensures ascii { AreAscii (take result bytes.now) }
+    ensures ends { result < length bytes.now → 0x80 ≤ slice_index bytes.now result }
+{
+    let mut at = ascii_steps(bytes);
+    while at < bytes.len() && bytes[at] < 0x80 {
+        at += 1;
+    }
+    at
+}
+
+/// Copies the ASCII bytes in front, as many as there is room for, and answers how many.
+#[inline(always)]
+pub fn copy_ascii(src: &[u8], dst: &mut [u8]) -> usize
+    ensures read { result ≤ length src.now }
+    ensures room { result ≤ length dst.old }
+    ensures ascii { AreAscii (take result src.now) }
+    ensures copied { dst.new ≡ take result src.now ++ drop result dst.old }
+    ensures ends { result < length src.now → result < length dst.old → 0x80 ≤ slice_index src.now result }
+{
+    let most = if src.len() < dst.len() {
+        src.len()
+    } else {
+        dst.len()
+    };
+    if most == 0 || src[0] >= 0x80 {
+        return 0;
+    }
+    let mut at = 0;
+    while 16 <= most - at {
+        let lanes = u8x16::from_slice(&src[at..]);
+        if !are_ascii(lanes) {
+            break;
+        }
+        lanes.copy_to_slice(&mut dst[at..]);
+        at += 16;
+    }
+    while at < most && src[at] < 0x80 {
+        dst[at] = src[at];
+        at += 1;
+    }
+    at
+}

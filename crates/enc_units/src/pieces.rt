@@ -1,0 +1,21 @@
+//! Pieces of an input: bytes that are a character.
+
+ghost use Rattle.std.specs.Prelude.{◌≡◌, ℕ, ◌+◌, ◌<◌, ◌≤◌, List, [], ◌∷◌, length, take, drop, IfSome, IsTrue};
+
+/// Which bytes of an input are which character, whatever stands behind them.
+pub trait Pieces: Copy {
+    // whether bytes are a character
+    ghost means: { Self → List ℕ → ℕ → Type 0 };
+
+    /// The character whose bytes begin at `at`, and how many they are, at least one. `None` where no character is
+    /// known to begin there. Takes no memory.
+    fn piece(self, src: &[u8], at: usize) -> Option<(char, usize)>
+        requires { at < length src.now }
+        ensures some { IfSome result (λ p. 0 < p.1) }
+        ensures within { IfSome result (λ p. p.1 ≤ length (drop at src.now)) }
+        ensures means { IfSome result (λ p. means self (take p.1 (drop at src.now)) p.0) };
+
+    /// Whether each byte below 0x80 is the ASCII character of that number. Takes no memory.
+    fn has_ascii(self) -> bool
+        ensures { IsTrue result → (b : ℕ) → b < 0x80 → means self (b ∷ []) b };
+}
