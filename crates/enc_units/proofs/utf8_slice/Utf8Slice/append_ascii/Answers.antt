@@ -3,7 +3,7 @@ use Rattle.std.proofs.lemmas.Bool.{cases_lt}
 use Rattle.enc_units.specs.Output.{appended}
 use Rattle.enc_units.proofs.AsciiLemmas.{ascii_one}
 use Rattle.enc_units.proofs.Utf8SliceLemmas.{ascii_units, grown}
-use Rattle.enc_units.proofs.utf8_slice.Utf8SliceUnits.put_ascii.Goals as goal
+use Rattle.enc_units.proofs.utf8_slice.Utf8Slice.append_ascii.Goals as goal
 
 pub returns : goal.returns
 returns c =

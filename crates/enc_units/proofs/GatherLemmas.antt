@@ -1,0 +1,160 @@
+-- What is gathered one behind another.
+use Rattle.std.proofs.Common.{◌≡◌, ℕ, zero, suc, ◌+◌, ◌-◌, ◌/◌, ◌%◌, ◌^◌, ◌<◌, ◌≤◌, Bool, true, false, not, cond, eqb, leb, List, [], ◌∷◌, ◌++◌, map, length, get_or, replicate, take, drop, refl, ap, ◌∙◌, sym, subst, arith, append_assoc, append-nil, length-append, length-take, length-drop, take-add, inl, inr}
+use Rattle.std.proofs.lemmas.Bool.{not-true, not-false, leb-true, leb-false, eq-eqb, ne_eqb, lt-ltb, le-ltb, cases_lt}
+use Rattle.std.proofs.lemmas.List.{length-map, get_or-take}
+use Rattle.std.proofs.lemmas.List.Sums.{prefix_len_passes, prefix_len_stops, prefix_len-le-length}
+use Rattle.std.proofs.lemmas.Simd.{map-map, mask_l-mod, put_chunk_is, zip2_splat_left, first_set_mask_l}
+use Rattle.std.proofs.Math.Seq.{take-append_seam, drop-append_seam}
+use Rattle.std.specs.Char.{encode_utf8}
+use Rattle.std.specs.List.{prefix_len}
+use lib.Count.{count_trailing_zeros}
+use lib.Lanes.{zip2, mask_l, top, put_chunk}
+use Rattle.enc_units.specs.Output.{Output, appended, units_of_text}
+use Rattle.enc_units.specs.Validity.{AreAscii}
+use Rattle.enc_units.specs.Pieces.{PutsPieces}
+use Rattle.enc_units.specs.Gathering.{Gathers}
+use Rattle.enc_units.proofs.PiecesLemmas.{reads_none, reads_then, reads_one, reads_ascii, units-append}
+use Rattle.enc_units.proofs.Utf8SliceLemmas.{ascii_units}
+
+-- lanes of ASCII
+
+abbrev at_least : ℕ → ℕ → ℕ
+at_least a b = cond (leb a b) 255 0
+
+abbrev is_other : ℕ → Bool
+is_other x = top 7 (at_least 128 x)
+
+other : (x : ℕ) → is_other x ≡ false → x < 128
+other x e = go (leb 128 x) refl e
+  where
+    go : (t : Bool) → leb 128 x ≡ t → top 7 (cond t 255 0) ≡ false → x < 128
+    go true p q = absurd (omega (arith, ap {B = ℕ} (λ t. cond t 1 0) q))
+    go false p q = leb-false _ _ p
+
+other_not : (x : ℕ) → is_other x ≡ true → 128 ≤ x
+other_not x e = go (leb 128 x) refl e
+  where
+    go : (t : Bool) → leb 128 x ≡ t → top 7 (cond t 255 0) ≡ true → 128 ≤ x
+    go true p q = leb-true _ _ p
+    go false p q = absurd (omega (arith, ap {B = ℕ} (λ t. cond t 1 0) q))
+
+module _ (xs : List ℕ) (long : length xs ≡ 16) where
+  abbrev mask : ℕ
+  mask = mask_l (map (top 7) (zip2 at_least (replicate 16 128) xs)) % 2 ^ 64
+
+  mask_is : mask ≡ mask_l (map is_other xs)
+  mask_is =
+      ap (λ l. mask_l l % 2 ^ 64) (ap (map (top 7)) (zip2_splat_left at_least 128 16 xs long) ∙ map-map (top 7) (at_least 128) xs)
+      ∙ mask_l-mod (map is_other xs) 64 (omega (arith, length-map xs is_other))
+
+  abbrev ascii_len : ℕ
+  ascii_len = prefix_len (λ x. not (is_other x)) xs
+
+  counted : cond (eqb mask 0) 16 (count_trailing_zeros 64 mask) ≡ ascii_len
+  counted = ap (λ m. cond (eqb m 0) 16 (count_trailing_zeros 64 m)) mask_is ∙ first_set_mask_l is_other xs 16 long (omega arith)
+
+  pub all_counted : mask ≡ 0 → 16 ≡ ascii_len
+  all_counted e = sym (ap (λ t. cond t 16 (count_trailing_zeros 64 mask)) (eq-eqb _ _ e)) ∙ counted
+
+  pub some_counted : (mask ≡ 0 → ⊥) → count_trailing_zeros 64 mask ≡ ascii_len
+  some_counted e = sym (ap (λ t. cond t 16 (count_trailing_zeros 64 mask)) (ne_eqb _ _ e)) ∙ counted
+
+  pub counted_bound : (n : ℕ) → n ≡ ascii_len → n ≤ 16
+  counted_bound n e = omega (arith, prefix_len-le-length (λ x. not (is_other x)) xs)
+
+  pub counted_ascii : (n : ℕ) → n ≡ ascii_len → AreAscii (take n xs)
+  counted_ascii n e k d h =
+      let l : k < n = omega (arith, length-take n xs) in
+      subst (λ x. x < 128) (sym (get_or-take n xs k d l)) (other _ (not-true _ (prefix_len_passes (λ x. not (is_other x)) xs k d (omega arith))))
+
+  pub counted_some : (n : ℕ) → n ≡ ascii_len → get_or xs 0 0 < 128 → 0 < n
+  counted_some n e h = elim (cases_lt 0 n) [
+    | inl l ↦ l
+    | inr l ↦
+        let none : ascii_len ≡ 0 = omega arith in
+        let stops = subst (λ k. not (is_other (get_or xs k 0)) ≡ false) none (prefix_len_stops (λ x. not (is_other x)) xs 0 (omega arith)) in
+        absurd (omega (arith, other_not _ (not-false _ stops)))
+  ]
+
+-- what is stored behind what was there
+
+take_front : (n : ℕ) (ys zs : List ℕ) → n ≤ length ys → take n (ys ++ zs) ≡ take n ys
+take_front zero ys zs h = refl
+take_front (suc n) [] zs h = absurd (omega arith)
+take_front (suc n) (y ∷ ys) zs h = ap (λ t. y ∷ t) (take_front n ys zs (omega arith))
+
+pub take_taken : (n m : ℕ) (xs : List ℕ) → n ≤ m → take n (take m xs) ≡ take n xs
+take_taken zero m xs h = refl
+take_taken (suc n) zero xs h = absurd (omega arith)
+take_taken (suc n) (suc m) [] h = refl
+take_taken (suc n) (suc m) (x ∷ xs) h = ap (λ t. x ∷ t) (take_taken n m xs (omega arith))
+
+taken : (i : ℕ) (xs : List ℕ) → i ≤ length xs → length (take i xs) ≡ i
+taken i xs h = omega (arith, length-take i xs)
+
+-- the first of what is stored
+pub stored_front : (at n : ℕ) (old ys zs : List ℕ) → at ≤ length old → n ≤ length ys → take (at + n) (take at old ++ (ys ++ zs)) ≡ take at old ++ take n ys
+stored_front at n old ys zs h k =
+    let xs = take at old ++ (ys ++ zs) in
+    let long = taken at old h in
+    take-add at n xs
+    ∙ ap (λ z. z ++ take n (drop at xs)) (ap (λ m. take m xs) (sym long) ∙ take-append_seam (take at old) (ys ++ zs))
+    ∙ ap (λ z. take at old ++ take n z) (ap (λ m. drop m xs) (sym long) ∙ drop-append_seam (take at old) (ys ++ zs))
+    ∙ ap (λ z. take at old ++ z) (take_front n ys zs k)
+
+pub stored_lanes : (at n : ℕ) (old ys : List ℕ) → at + length ys ≤ length old → n ≤ length ys → take (at + n) (put_chunk at old ys) ≡ take at old ++ take n ys
+stored_lanes at n old ys h k = ap (take (at + n)) (put_chunk_is at old ys h) ∙ stored_front at n old ys _ (omega arith) k
+
+-- the UTF-8 of a character (Unicode Standard 3.9, table 3-6)
+
+pub utf8_two : (c : ℕ) → 128 ≤ c → c < 2048 → encode_utf8 c ≡ (192 + c / 64) ∷ (128 + c % 64) ∷ []
+unfolding encode_utf8
+utf8_two c l h = rw (le-ltb c 128 l, lt-ltb c 2048 h) refl
+
+pub utf8_three : (c : ℕ) → 2048 ≤ c → c < 65536 → encode_utf8 c ≡ (224 + c / 4096) ∷ (128 + c / 64 % 64) ∷ (128 + c % 64) ∷ []
+unfolding encode_utf8
+utf8_three c l h = rw (le-ltb c 128 (omega arith), le-ltb c 2048 l, lt-ltb c 65536 h) refl
+
+pub utf8_four : (c : ℕ) → 65536 ≤ c → encode_utf8 c ≡ (240 + c / 262144) ∷ (128 + c / 4096 % 64) ∷ (128 + c / 64 % 64) ∷ (128 + c % 64) ∷ []
+unfolding encode_utf8
+utf8_four c l = rw (le-ltb c 128 (omega arith), le-ltb c 2048 (omega arith), le-ltb c 65536 l) refl
+
+-- what is gathered
+
+pub gathers_none : (Means : List ℕ → ℕ → Type 0) (src : List ℕ) → Gathers Means src 0 [] []
+gathers_none Means src = record { text = []; reads = reads_none Means src; written = refl }
+
+pub gathers_then : (Means : List ℕ → ℕ → Type 0) (src : List ℕ) (a n : ℕ) (before mid after : List ℕ)
+    → Gathers Means src a before mid → Gathers Means (drop a src) n mid after → Gathers Means src (a + n) before after
+gathers_then Means src a n before mid after p q = record {
+  text = p.text ++ q.text;
+  reads = reads_then Means src a n p.text q.text p.reads q.reads;
+  written = q.written ∙ ap (λ z. z ++ units_of_text encode_utf8 q.text) p.written
+      ∙ append_assoc before (units_of_text encode_utf8 p.text) (units_of_text encode_utf8 q.text) ∙ ap (λ z. before ++ z) (sym (units-append encode_utf8 p.text q.text));
+}
+
+pub gathers_ascii : (Means : List ℕ → ℕ → Type 0) (src : List ℕ) (n : ℕ) (before after : List ℕ) → ((b : ℕ) → b < 0x80 → Means (b ∷ []) b)
+    → n ≤ length src → AreAscii (take n src) → after ≡ before ++ take n src → Gathers Means src n before after
+gathers_ascii Means src n before after h w a e = record {
+  text = take n src;
+  reads = reads_ascii Means src n h w a;
+  written = e ∙ ap (λ z. before ++ z) (sym (ascii_units (take n src) a));
+}
+
+pub gathers_one : (Means : List ℕ → ℕ → Type 0) (src : List ℕ) (n c : ℕ) (before after : List ℕ) → 0 < n → n ≤ length src → Means (take n src) c
+    → after ≡ before ++ encode_utf8 c → Gathers Means src n before after
+gathers_one Means src n c before after h w m e = record {
+  text = c ∷ [];
+  reads = reads_one Means src n c h w m;
+  written = e ∙ ap (λ z. before ++ z) (sym (append-nil (encode_utf8 c)));
+}
+
+-- what is gathered is put out
+pub puts_gathered : (Means : List ℕ → ℕ → Type 0) (before after : Output) (src : List ℕ) (n : ℕ) (units : List ℕ) → Gathers Means src n [] units
+    → length units ≤ before.room → after ≡ appended before units → PutsPieces encode_utf8 Means before after src n
+puts_gathered Means before after src n units p f e = record {
+  text = p.text;
+  reads = p.reads;
+  fits = omega (arith, ap length p.written);
+  written = e ∙ ap (appended before) p.written;
+}

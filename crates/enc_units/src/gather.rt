@@ -1,0 +1,156 @@
+//! Characters gathered as UTF-8 in a buffer of fixed length, so that an output takes many of them at once.
+
+ghost use Rattle.std.specs.Prelude.{◌≡◌, ℕ, ◌+◌, ◌<◌, ◌≤◌, List, [], ◌∷◌, ◌++◌, length, take, drop, slice_index, IsTrue};
+ghost use Rattle.std.specs.Char.{encode_utf8};
+ghost use Rattle.enc_units.specs.Validity.{AreAscii};
+ghost use Rattle.enc_units.specs.Gathering.{Gathers};
+
+use crate::pieces::Pieces;
+use std::simd::prelude::*;
+
+/// The length of the buffer.
+pub(crate) const BUFFER: usize = 288;
+
+/// Once so many bytes are there, no more are gathered. What is written at once is at most sixteen bytes more.
+pub(crate) const ENOUGH: usize = 256;
+
+/// The UTF-8 of a character, or nothing: the first `len` of four bytes.
+#[derive(Clone, Copy)]
+pub(crate) struct Encoded {
+    pub(crate) bytes: [u8; 4],
+    pub(crate) len: u32,
+}
+
+/// The UTF-8 of a character (Unicode Standard 3.9, table 3-6).
+#[inline(always)]
+pub(crate) fn utf8_of(character: char) -> Encoded
+    ensures some { 1 ≤ result.len }
+    ensures bound { result.len ≤ 4 }
+    ensures bytes { take result.len result.bytes ≡ encode_utf8 character }
+{
+    let scalar = character as u32;
+    let low = 0x80 + (scalar % 64) as u8;
+    if scalar < 0x80 {
+        return Encoded {
+            bytes: [scalar as u8, 0, 0, 0],
+            len: 1,
+        };
+    }
+    if scalar < 0x800 {
+        return Encoded {
+            bytes: [0xC0 + (scalar / 64) as u8, low, 0, 0],
+            len: 2,
+        };
+    }
+    let second_low = 0x80 + (scalar / 64 % 64) as u8;
+    if scalar < 0x10000 {
+        return Encoded {
+            bytes: [0xE0 + (scalar / 4096) as u8, second_low, low, 0],
+            len: 3,
+        };
+    }
+    let third_low = 0x80 + (scalar / 4096 % 64) as u8;
+    Encoded {
+        bytes: [0xF0 + (scalar / 262144) as u8, third_low, second_low, low],
+        len: 4,
+    }
+}
+
+/// How many of sixteen bytes are ASCII, before one that isn't.
+#[inline(always)]
+fn ascii_in(lanes: u8x16) -> usize
+    ensures bound { result ≤ 16 }
+    ensures ascii { AreAscii (take result lanes) }
+    ensures some { slice_index lanes 0 < 0x80 → 0 < result }
+{
+    let others = lanes.simd_ge(u8x16::splat(0x80)).to_bitmask();
+    if others == 0 {
+        16
+    } else {
+        others.trailing_zeros() as usize
+    }
+}
+
+/// Stores the sixteen bytes of `src` from `from` on behind the first `at` of a buffer, and answers how many of them
+/// are ASCII before one that isn't.
+#[inline(always)]
+pub(crate) fn store_ascii(buffer: &mut [u8], at: usize, src: &[u8], from: usize) -> usize
+    requires from { from + 16 ≤ length src.now }
+    requires room { at + 16 ≤ length buffer.old }
+    ensures bound { result ≤ 16 }
+    ensures ascii { AreAscii (take result (drop from src.now)) }
+    ensures some { slice_index src.now from < 0x80 → 0 < result }
+    ensures len { length buffer.new ≡ length buffer.old }
+    ensures stored { take (at + result) buffer.new ≡ take at buffer.old ++ take result (drop from src.now) }
+{
+    let lanes = u8x16::from_slice(&src[from..]);
+    lanes.copy_to_slice(&mut buffer[at..]);
+    ascii_in(lanes)
+}
+
+/// Stores the UTF-8 of a character behind the first `at` bytes of a buffer, and answers how many bytes it has.
+#[inline(always)]
+fn store_char(buffer: &mut [u8], at: usize, character: char) -> usize
+    requires { at + 4 ≤ length buffer.old }
+    ensures bound { result ≤ 4 }
+    ensures len { length buffer.new ≡ length buffer.old }
+    ensures stored { take (at + result) buffer.new ≡ take at buffer.old ++ encode_utf8 character }
+{
+    let text = utf8_of(character);
+    buffer[at..at + 4].copy_from_slice(&text.bytes);
+    text.len as usize
+}
+
+/// A way to gather characters.
+pub(crate) trait Gather {
+    // whether bytes are a character
+    ghost means: { Self → List ℕ → ℕ → Type 0 };
+
+    /// Whether each byte below 0x80 is the ASCII character of that number.
+    fn has_ascii(&self) -> bool
+        ensures { IsTrue result → (b : ℕ) → b < 0x80 → means self.now (b ∷ []) b };
+
+    /// Gathers the characters that the bytes in front of `src` are, as many as it likes, and answers how many bytes
+    /// were read, and written from the start of the buffer on.
+    fn gather(&self, buffer: &mut [u8], src: &[u8]) -> (usize, usize)
+        requires { length buffer.old ≡ 288 }
+        ensures len { length buffer.new ≡ length buffer.old }
+        ensures bound { result.1 ≤ length buffer.new }
+        ensures gathers { Gathers (means self.now) src.now result.0 [] (take result.1 buffer.new) };
+}
+
+/// Characters one by one, and ASCII in steps of sixteen.
+#[derive(Clone, Copy)]
+pub(crate) struct OneByOne<P> {
+    pub(crate) pieces: P,
+}
+
+impl<P: Pieces> Gather for OneByOne<P> {
+    ghost means = { λ g. P.means g.pieces };
+
+    fn has_ascii(&self) -> bool {
+        self.pieces.has_ascii()
+    }
+
+    /// It leaves off where no character is known to begin, where the buffer has enough, and 32 bytes before the end.
+    #[inline(always)]
+    fn gather(&self, buffer: &mut [u8], src: &[u8]) -> (usize, usize) {
+        let has_ascii = self.pieces.has_ascii();
+        let mut read = 0;
+        let mut written = 0;
+        while written <= ENOUGH && 32 <= src.len() - read {
+            if has_ascii && src[read] < 0x80 {
+                let len = store_ascii(buffer, written, src, read);
+                read += len;
+                written += len;
+                continue;
+            }
+            let Some((character, len)) = self.pieces.piece(src, read) else {
+                break;
+            };
+            written += store_char(buffer, written, character);
+            read += len;
+        }
+        (read, written)
+    }
+}
