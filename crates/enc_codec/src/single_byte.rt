@@ -58,6 +58,11 @@ impl Pieces for SingleByteDecoder {
         let _index = self.index;
         true
     }
+
+    fn are_bytes(self) -> bool {
+        let _index = self.index;
+        true
+    }
 }
 
 impl ByteCodec for SingleByteDecoder {

@@ -46,6 +46,10 @@ impl Pieces for XUserDefinedDecoder {
     fn has_ascii(self) -> bool {
         true
     }
+
+    fn are_bytes(self) -> bool {
+        true
+    }
 }
 
 impl ByteCodec for XUserDefinedDecoder {

@@ -1,9 +1,9 @@
 -- What is gathered one behind another.
-use Rattle.std.proofs.Common.{◌≡◌, ℕ, zero, suc, ◌+◌, ◌-◌, ◌/◌, ◌%◌, ◌^◌, ◌<◌, ◌≤◌, Bool, true, false, not, cond, eqb, leb, List, [], ◌∷◌, ◌++◌, map, length, get_or, replicate, take, drop, refl, ap, ◌∙◌, sym, subst, arith, append_assoc, append-nil, length-append, length-take, length-drop, take-add, inl, inr}
+use Rattle.std.proofs.Common.{◌≡◌, ℕ, zero, suc, ◌+◌, ◌/◌, ◌%◌, ◌^◌, ◌<◌, ◌≤◌, Bool, true, false, not, cond, eqb, leb, List, [], ◌∷◌, ◌++◌, map, length, get_or, replicate, take, drop, refl, ap, ◌∙◌, sym, subst, arith, append_assoc, append-nil, length-take, length-drop, take-add, drop-cons, inl, inr}
 use Rattle.std.proofs.lemmas.Bool.{not-true, not-false, leb-true, leb-false, eq-eqb, ne_eqb, lt-ltb, le-ltb, cases_lt}
 use Rattle.std.proofs.lemmas.List.{length-map, get_or-take}
 use Rattle.std.proofs.lemmas.List.Sums.{prefix_len_passes, prefix_len_stops, prefix_len-le-length}
-use Rattle.std.proofs.lemmas.Simd.{map-map, mask_l-mod, put_chunk_is, zip2_splat_left, first_set_mask_l}
+use Rattle.std.proofs.lemmas.Simd.{map-map, mask_l-mod, put_chunk_is, zip2_splat_left, first_set_mask_l, length-replicate, get_or-replicate}
 use Rattle.std.proofs.Math.Seq.{take-append_seam, drop-append_seam}
 use Rattle.std.specs.Char.{encode_utf8}
 use Rattle.std.specs.List.{prefix_len}
@@ -12,7 +12,8 @@ use lib.Lanes.{zip2, mask_l, top, put_chunk}
 use Rattle.enc_units.specs.Output.{Output, appended, units_of_text}
 use Rattle.enc_units.specs.Validity.{AreAscii}
 use Rattle.enc_units.specs.Pieces.{PutsPieces}
-use Rattle.enc_units.specs.Gathering.{Gathers}
+use Rattle.enc_units.specs.Gathering.{Gathers, IsByteText, AreByteTexts}
+use Rattle.enc_units.specs.declared.gather.Encoded.{Encoded}
 use Rattle.enc_units.proofs.PiecesLemmas.{reads_none, reads_then, reads_one, reads_ascii, units-append}
 use Rattle.enc_units.proofs.Utf8SliceLemmas.{ascii_units}
 
@@ -83,12 +84,6 @@ take_front zero ys zs h = refl
 take_front (suc n) [] zs h = absurd (omega arith)
 take_front (suc n) (y ∷ ys) zs h = ap (λ t. y ∷ t) (take_front n ys zs (omega arith))
 
-pub take_taken : (n m : ℕ) (xs : List ℕ) → n ≤ m → take n (take m xs) ≡ take n xs
-take_taken zero m xs h = refl
-take_taken (suc n) zero xs h = absurd (omega arith)
-take_taken (suc n) (suc m) [] h = refl
-take_taken (suc n) (suc m) (x ∷ xs) h = ap (λ t. x ∷ t) (take_taken n m xs (omega arith))
-
 taken : (i : ℕ) (xs : List ℕ) → i ≤ length xs → length (take i xs) ≡ i
 taken i xs h = omega (arith, length-take i xs)
 
@@ -121,8 +116,8 @@ utf8_four c l = rw (le-ltb c 128 (omega arith), le-ltb c 2048 (omega arith), le-
 
 -- what is gathered
 
-pub gathers_none : (Means : List ℕ → ℕ → Type 0) (src : List ℕ) → Gathers Means src 0 [] []
-gathers_none Means src = record { text = []; reads = reads_none Means src; written = refl }
+pub gathers_nothing : (Means : List ℕ → ℕ → Type 0) (src before after : List ℕ) → after ≡ before → Gathers Means src 0 before after
+gathers_nothing Means src before after e = record { text = []; reads = reads_none Means src; written = e ∙ sym (append-nil before) }
 
 pub gathers_then : (Means : List ℕ → ℕ → Type 0) (src : List ℕ) (a n : ℕ) (before mid after : List ℕ)
     → Gathers Means src a before mid → Gathers Means (drop a src) n mid after → Gathers Means src (a + n) before after
@@ -148,6 +143,34 @@ gathers_one Means src n c before after h w m e = record {
   reads = reads_one Means src n c h w m;
   written = e ∙ ap (λ z. before ++ z) (sym (append-nil (encode_utf8 c)));
 }
+
+get_or_drop : (n i : ℕ) (xs : List ℕ) → get_or (drop n xs) i 0 ≡ get_or xs (n + i) 0
+get_or_drop zero i xs = ap (λ k. get_or xs k 0) (omega arith)
+get_or_drop (suc n) i [] = refl
+get_or_drop (suc n) i (x ∷ xs) = get_or_drop n i xs ∙ ap (λ k. get_or (x ∷ xs) k 0) behind
+  where
+    behind : suc (n + i) ≡ suc n + i
+    behind = omega arith
+
+-- a byte that has a text
+pub gathers_byte : (Means : List ℕ → ℕ → Type 0) (src : List ℕ) (from read : ℕ) (before mid after : List ℕ) (text : Encoded)
+    → IsByteText Means (get_or src (from + read) 0) text → 0 < text.len → from + read < length src → Gathers Means (drop from src) read before mid
+    → after ≡ mid ++ take text.len text.bytes → Gathers Means (drop from src) (read + 1) before after
+gathers_byte Means src from read before mid after text t some inside p e =
+    let rest = drop from src in
+    let long : read < length rest = omega (arith, length-drop from src) in
+    let byte = ap (take 1) (drop-cons rest read 0 long) ∙ ap (λ b. b ∷ []) (get_or_drop from read src) in
+    let found = t.char some in
+    gathers_then Means rest read 1 before mid after p
+    (gathers_one Means (drop read rest) 1 found.0 mid after (omega arith) (omega (arith, length-drop read rest)) (subst (λ z. Means z found.0) (sym byte) found.1)
+    (e ∙ ap (λ z. mid ++ z) found.2))
+
+-- no byte has a text
+pub no_texts : (Means : List ℕ → ℕ → Type 0) (text : Encoded) → text.len ≡ 0 → AreByteTexts Means (replicate 256 text)
+no_texts Means text e = (
+  length-replicate 256 text,
+  λ byte none h. subst (IsByteText Means byte) (sym (get_or-replicate 256 byte text none h)) (record { bound = omega arith; char = λ l. absurd (omega arith) }),
+)
 
 -- what is gathered is put out
 pub puts_gathered : (Means : List ℕ → ℕ → Type 0) (before after : Output) (src : List ℕ) (n : ℕ) (units : List ℕ) → Gathers Means src n [] units

@@ -88,23 +88,49 @@ pub(crate) fn store_ascii(buffer: &mut [u8], at: usize, src: &[u8], from: usize)
     ascii_in(lanes)
 }
 
-/// Stores the UTF-8 of a character behind the first `at` bytes of a buffer, and answers how many bytes it has.
+/// Stores a text behind the first `at` bytes of a buffer, and answers where it ends.
 #[inline(always)]
-fn store_char(buffer: &mut [u8], at: usize, character: char) -> usize
-    requires { at + 4 ≤ length buffer.old }
-    ensures bound { result ≤ 4 }
+pub(crate) fn store_text(buffer: &mut [u8], at: usize, text: Encoded) -> usize
+    requires room { at + 4 ≤ length buffer.old }
+    requires bound { text.len ≤ 4 }
+    ensures end { result ≡ at + text.len }
     ensures len { length buffer.new ≡ length buffer.old }
-    ensures stored { take (at + result) buffer.new ≡ take at buffer.old ++ encode_utf8 character }
+    ensures stored { take (at + text.len) buffer.new ≡ take at buffer.old ++ take text.len text.bytes }
 {
-    let text = utf8_of(character);
     buffer[at..at + 4].copy_from_slice(&text.bytes);
-    text.len as usize
+    at + text.len as usize
+}
+
+/// Stores the ASCII among the sixteen bytes of `src` from `from` on, before a byte that isn't, where ASCII bytes are
+/// characters, and answers how much.
+#[inline(always)]
+pub(crate) fn store_ascii_of<P: Pieces>(
+    pieces: P,
+    buffer: &mut [u8],
+    at: usize,
+    src: &[u8],
+    from: usize,
+) -> usize
+    requires from { from + 16 ≤ length src.now }
+    requires room { at + 16 ≤ length buffer.old }
+    ensures bound { result ≤ 16 }
+    ensures len { length buffer.new ≡ length buffer.old }
+    ensures gathers { Gathers (P.means pieces) (drop from src.now) result (take at buffer.old)
+        (take (at + result) buffer.new) }
+{
+    if !pieces.has_ascii() {
+        return 0;
+    }
+    store_ascii(buffer, at, src, from)
 }
 
 /// A way to gather characters.
 pub(crate) trait Gather {
     // whether bytes are a character
     ghost means: { Self → List ℕ → ℕ → Type 0 };
+
+    // what has to hold
+    ghost ready: { Self → Type 0 };
 
     /// Whether each byte below 0x80 is the ASCII character of that number.
     fn has_ascii(&self) -> bool
@@ -113,7 +139,8 @@ pub(crate) trait Gather {
     /// Gathers the characters that the bytes in front of `src` are, as many as it likes, and answers how many bytes
     /// were read, and written from the start of the buffer on.
     fn gather(&self, buffer: &mut [u8], src: &[u8]) -> (usize, usize)
-        requires { length buffer.old ≡ 288 }
+        requires buffer { length buffer.old ≡ 288 }
+        requires ready { ready self.now }
         ensures len { length buffer.new ≡ length buffer.old }
         ensures bound { result.1 ≤ length buffer.new }
         ensures gathers { Gathers (means self.now) src.now result.0 [] (take result.1 buffer.new) };
@@ -127,6 +154,8 @@ pub(crate) struct OneByOne<P> {
 
 impl<P: Pieces> Gather for OneByOne<P> {
     ghost means = { λ g. P.means g.pieces };
+
+    ghost ready = { λ _. Unit {0} };
 
     fn has_ascii(&self) -> bool {
         self.pieces.has_ascii()
@@ -148,7 +177,7 @@ impl<P: Pieces> Gather for OneByOne<P> {
             let Some((character, len)) = self.pieces.piece(src, read) else {
                 break;
             };
-            written += store_char(buffer, written, character);
+            written = store_text(buffer, written, utf8_of(character));
             read += len;
         }
         (read, written)

@@ -18,4 +18,11 @@ pub trait Pieces: Copy {
     /// Whether each byte below 0x80 is the ASCII character of that number. Takes no memory.
     fn has_ascii(self) -> bool
         ensures { IsTrue result → (b : ℕ) → b < 0x80 → means self (b ∷ []) b };
+
+    /// Whether it pays to look each byte up in a table: where most bytes are a character by themselves. What is
+    /// written is the same either way. Takes no memory.
+    fn are_bytes(self) -> bool {
+        let _pieces = self;
+        false
+    }
 }

@@ -1,6 +1,7 @@
 use Rattle.std.proofs.Common.{◌≡◌, ◌++◌, ◌∙◌, ap, subst, arith, take, drop, length, length-take, length-drop}
 use Rattle.enc_units.specs.Validity.{AreAscii}
-use Rattle.enc_units.proofs.GatherLemmas.{take_taken, stored_lanes}
+use Rattle.enc_units.proofs.PiecesLemmas.{take_taken}
+use Rattle.enc_units.proofs.GatherLemmas.{stored_lanes}
 use Rattle.enc_units.proofs.gather.store_ascii.Goals as goal
 
 pub returns-clause-ascii : goal.returns-clause-ascii

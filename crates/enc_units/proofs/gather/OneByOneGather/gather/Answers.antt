@@ -1,22 +1,24 @@
-use Rattle.std.proofs.Common.{◌∙◌, arith, length-drop}
+use Rattle.std.proofs.Common.{◌∙◌, ◌++◌, ap, arith, take, length-drop}
 use Rattle.enc_units.proofs.GatherLemmas.{gathers_then, gathers_ascii, gathers_one}
 use Rattle.enc_units.proofs.gather.OneByOneGather.gather.Goals as goal
 
 pub loop-written-preserved-then-src-read-lt128 : goal.loop-written-preserved-then-src-read-lt128
 loop-written-preserved-then-src-read-lt128 g c =
     let i = c.loop-written.invariant in
-    let e = c.store_ascii-len.ensures in (
+    let e = c.store_ascii-len.ensures in
+    let ascii = c.has_ascii-has_ascii.ensures c.if-has_ascii.true in (
       omega (arith, e.bound),
       e.len ∙ i.1,
-      gathers_then _ _ _ _ _ _ _ i.2 (gathers_ascii _ _ _ _ _ (c.has_ascii-has_ascii.ensures c.if-has_ascii.true) (omega (arith, e.bound, length-drop c.loop-written.read c.args.src.now)) e.ascii e.stored),
+      gathers_then _ _ _ _ _ _ _ i.2 (gathers_ascii _ _ _ _ _ ascii (omega (arith, e.bound, length-drop c.loop-written.read c.args.src.now)) e.ascii e.stored),
     )
 
 pub loop-written-preserved : goal.loop-written-preserved
 loop-written-preserved g c =
     let i = c.loop-written.invariant in
-    let e = c.store_char-written.ensures in
-    let p = c.in-Some.ensures in (
-      omega (arith, e.bound),
+    let e = c.store_text-written.ensures in
+    let p = c.in-Some.ensures in
+    let text = ap (λ n. take n c.store_text-written.new.buffer) e.end ∙ e.stored ∙ ap (λ z. take c.loop-written.written c.loop-written.buffer ++ z) c.utf8_of.ensures.bytes in (
+      omega (arith, e.end, c.utf8_of.ensures.bound),
       e.len ∙ i.1,
-      gathers_then _ _ _ _ _ _ _ i.2 (gathers_one _ _ _ _ _ _ p.some p.within p.means e.stored),
+      gathers_then _ _ _ _ _ _ _ i.2 (gathers_one _ _ _ _ _ _ p.some p.within p.means text),
     )
