@@ -1,7 +1,7 @@
 //! The Big5 decoder (Encoding Standard 11.1.1).
 
 ghost use Rattle.std.specs.Prelude.{◌≡◌};
-ghost use Rattle.enc_codec.specs.Big5.{big5_text};
+ghost use Rattle.enc_codec.specs.Big5.{big5_trail, big5_text};
 
 use crate::byte_codec::Text;
 use crate::double_byte::{Double, DoubleByte, text_of};
@@ -14,6 +14,14 @@ pub struct Big5;
 
 /// The Big5 decoder (Encoding Standard 11.1.1).
 pub type Big5Decoder = MultiByteDecoder<Double<Big5>>;
+
+/// Whether a byte can follow a lead. No branch stands between the two ranges, since text has bytes of both in an
+/// order that no processor predicts.
+fn is_trail(byte: u8) -> bool
+    ensures { result ≡ big5_trail byte }
+{
+    (byte >= 0x40 && byte <= 0x7E) | (byte >= 0xA1 && byte <= 0xFE)
+}
 
 /// The text of a pointer.
 fn text_at(pointer: u32) -> Option<Text>
@@ -50,11 +58,10 @@ impl DoubleByte for Big5 {
     }
 
     fn pair(lead: u8, trail: u8) -> Option<Text> {
-        let offset = match trail {
-            0x40..=0x7E => 0x40,
-            0xA1..=0xFE => 0x62,
-            _ => return None,
-        };
+        if !is_trail(trail) {
+            return None;
+        }
+        let offset = if trail < 0x7F { 0x40 } else { 0x62 };
         text_at((lead as u32 - 0x81) * 157 + (trail as u32 - offset))
     }
 

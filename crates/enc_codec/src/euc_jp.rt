@@ -37,11 +37,7 @@ fn pointer(lead: u8, trail: u8) -> u32
 fn is_lead(byte: u8) -> bool
     ensures { result ≡ euc_jp_lead byte }
 {
-    match byte {
-        0x8E => true,
-        0x8F => true,
-        _ => is_euc(byte),
-    }
+    (byte == 0x8E) | (byte == 0x8F) | is_euc(byte)
 }
 
 /// The character of a byte that stands alone.

@@ -1,7 +1,7 @@
 //! The gb18030 decoder, which is GBK's too (Encoding Standard 10.2.1).
 
 ghost use Rattle.std.specs.Prelude.{◌≡◌, [], ◌∷◌, true};
-ghost use Rattle.enc_codec.specs.Gb18030.{gb18030_lead, is_digit as digit, gb18030_single, gb18030_pair, ranges_pointer, ranges_char, four_reading, gb18030_reading};
+ghost use Rattle.enc_codec.specs.Gb18030.{gb18030_lead, gb18030_trail, is_digit as digit, gb18030_single, gb18030_pair, ranges_pointer, ranges_char, four_reading, gb18030_reading};
 
 use crate::byte_codec::Text;
 use crate::double_byte::{read_first, read_trail, text_of};
@@ -22,6 +22,14 @@ fn is_lead(byte: u8) -> bool
     ensures { result ≡ gb18030_lead byte }
 {
     byte >= 0x81 && byte <= 0xFE
+}
+
+/// Whether a byte can be the second of two. No branch stands between the two ranges, since text has bytes of both
+/// in an order that no processor predicts.
+fn is_trail(byte: u8) -> bool
+    ensures { result ≡ gb18030_trail byte }
+{
+    (byte >= 0x40 && byte <= 0x7E) | (byte >= 0x80 && byte <= 0xFE)
 }
 
 /// Whether a byte is the second or the fourth of four.
@@ -47,11 +55,10 @@ fn pair(lead: u8, trail: u8) -> Option<char>
     requires { gb18030_lead lead ≡ true }
     ensures { result ≡ gb18030_pair lead trail }
 {
-    let offset = match trail {
-        0x40..=0x7E => 0x40,
-        0x80..=0xFE => 0x41,
-        _ => return None,
-    };
+    if !is_trail(trail) {
+        return None;
+    }
+    let offset = if trail < 0x7F { 0x40 } else { 0x41 };
     List::Gb18030.at((lead as u32 - 0x81) * 190 + (trail as u32 - offset))
 }
 

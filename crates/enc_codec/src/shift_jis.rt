@@ -1,7 +1,7 @@
 //! The Shift_JIS decoder (Encoding Standard 12.3.1).
 
 ghost use Rattle.std.specs.Prelude.{◌≡◌, ◌≤◌};
-ghost use Rattle.enc_codec.specs.ShiftJis.{shift_jis_char};
+ghost use Rattle.enc_codec.specs.ShiftJis.{shift_jis_trail, shift_jis_char};
 
 use crate::byte_codec::Text;
 use crate::double_byte::{Double, DoubleByte, text_of};
@@ -16,6 +16,14 @@ pub struct ShiftJis;
 
 /// The Shift_JIS decoder (Encoding Standard 12.3.1).
 pub type ShiftJisDecoder = MultiByteDecoder<Double<ShiftJis>>;
+
+/// Whether a byte can follow a lead. No branch stands between the two ranges, since text has bytes of both in an
+/// order that no processor predicts.
+fn is_trail(byte: u8) -> bool
+    ensures { result ≡ shift_jis_trail byte }
+{
+    (byte >= 0x40 && byte <= 0x7E) | (byte >= 0x80 && byte <= 0xFC)
+}
 
 /// The character of a pointer.
 fn character_at(pointer: u32) -> Option<char>
@@ -37,11 +45,7 @@ impl DoubleByte for ShiftJis {
     ghost pairs = { shift_jis_pair };
 
     fn is_lead(byte: u8) -> bool {
-        match byte {
-            0x81..=0x9F => true,
-            0xE0..=0xFC => true,
-            _ => false,
-        }
+        (byte >= 0x81 && byte <= 0x9F) | (byte >= 0xE0 && byte <= 0xFC)
     }
 
     fn single(byte: u8) -> Option<char> {
@@ -53,12 +57,11 @@ impl DoubleByte for ShiftJis {
     }
 
     fn pair(lead: u8, trail: u8) -> Option<Text> {
+        if !is_trail(trail) {
+            return None;
+        }
         let first = if lead < 0xA0 { 0x81 } else { 0xC1 };
-        let offset = match trail {
-            0x40..=0x7E => 0x40,
-            0x80..=0xFC => 0x41,
-            _ => return None,
-        };
+        let offset = if trail < 0x7F { 0x40 } else { 0x41 };
         text_of(character_at((lead as u32 - first) * 188 + (trail as u32 - offset)))
     }
 
