@@ -36,3 +36,4 @@ pub mod Iso2022JpSets
 mod TakingLemmas
 mod PieceLemmas
 mod Utf8Pieces
+mod Utf16Pieces

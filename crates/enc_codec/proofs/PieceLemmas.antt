@@ -94,3 +94,14 @@ three_of src at h =
 
     then : suc (at + 1) ≡ at + 2
     then = omega arith
+
+next_of : (src : List ℕ) (at n behind : ℕ) → behind ≡ suc at → at < length src → take (suc n) (drop at src) ≡ get_or src at 0 ∷ take n (drop behind src)
+next_of src at n behind e h = ap (take (suc n)) (drop-cons src at 0 h) ∙ ap (λ k. get_or src at 0 ∷ take n (drop k src)) (sym e)
+
+pub four_of : (src : List ℕ) (at : ℕ) → at + 3 < length src
+    → take 4 (drop at src) ≡ get_or src at 0 ∷ get_or src (at + 1) 0 ∷ get_or src (at + 2) 0 ∷ get_or src (at + 3) 0 ∷ []
+four_of src at h =
+    next_of src at 3 (at + 1) (omega arith) (omega arith) ∙ ap (λ z. get_or src at 0 ∷ z)
+    (next_of src (at + 1) 2 (at + 2) (omega arith) (omega arith) ∙ ap (λ z. get_or src (at + 1) 0 ∷ z)
+    (next_of src (at + 2) 1 (at + 3) (omega arith) (omega arith) ∙ ap (λ z. get_or src (at + 2) 0 ∷ z)
+    (next_of src (at + 3) 0 (at + 4) (omega arith) h)))

@@ -10,7 +10,7 @@ use crate::decoder_result::DecoderResult;
 use crate::machine::run;
 use crate::pending::Pending;
 use crate::raw_decoder::RawDecoder;
-use enc_units::Units;
+use enc_units::{Pieces, Units};
 use std::marker::Model;
 
 /// The shared UTF-16 decoder (Encoding Standard 14.2), big-endian or little-endian. Its pending bytes are a
@@ -185,10 +185,53 @@ fn step_fourth(big_endian: bool, first: u8, second: u8, third: u8, byte: u8) -> 
     }
 }
 
+impl Pieces for Utf16Decoder {
+    ghost use Rattle.enc_codec.specs.Utf16.{utf_16_rule};
+    ghost use Rattle.enc_codec.specs.Taking.{IsPiece};
+
+    ghost means = { λ d. IsPiece (utf_16_rule d.big_endian) 0 };
+
+    #[inline(always)]
+    fn piece(self, src: &[u8], at: usize) -> Option<(char, usize)> {
+        let left = src.len() - at;
+        if left < 2 {
+            return None;
+        }
+        let unit = code_unit(self.big_endian, src[at], src[at + 1]);
+        if is_trail(unit) {
+            return None;
+        }
+        if !is_lead(unit) {
+            return Some((unit_char(unit), 2));
+        }
+        if left < 4 {
+            return None;
+        }
+        let trail = code_unit(self.big_endian, src[at + 2], src[at + 3]);
+        if !is_trail(trail) {
+            return None;
+        }
+        Some((pair_char(unit, trail), 4))
+    }
+
+    fn has_ascii(self) -> bool {
+        let _pending = self.pending;
+        false
+    }
+}
+
 impl ByteCodec for Utf16Decoder {
     ghost use Rattle.enc_codec.specs.Utf16State.{utf_16_state};
 
     ghost state = { utf_16_state };
+
+    #[inline(always)]
+    fn take_run<U: Units>(self, src: &[u8], out: &mut U) -> (Utf16Decoder, usize) {
+        match self.pending {
+            Pending::Nothing => (self, out.put_pieces(self, src)),
+            _ => (self, 0),
+        }
+    }
 
     fn next_step(self, byte: u8) -> Step<Utf16Decoder> {
         match self.pending {
