@@ -10,7 +10,7 @@ use crate::decoder_result::DecoderResult;
 use crate::machine::run;
 use crate::pending::Pending;
 use crate::raw_decoder::RawDecoder;
-use enc_units::{Pieces, Units};
+use enc_units::Units;
 use std::marker::Model;
 
 /// The UTF-8 decoder (Encoding Standard 8.1.1). Its pending bytes begin a well-formed sequence and want more.
@@ -212,43 +212,6 @@ fn step_fourth(first: u8, second: u8, third: u8, byte: u8) -> Step<Utf8Decoder>
     }
 }
 
-impl Pieces for Utf8Decoder {
-    ghost use Rattle.enc_codec.specs.Utf8.{utf_8_rule};
-    ghost use Rattle.enc_codec.specs.Taking.{IsPiece};
-
-    ghost means = { λ _. IsPiece utf_8_rule 0 };
-
-    #[inline(always)]
-    fn piece(self, src: &[u8], at: usize) -> Option<(char, usize)> {
-        let _pending = self.pending;
-        let lead = src[at];
-        let left = src.len() - at;
-        match sequence_len(lead) {
-            2 if left >= 2 => {
-                let second = src[at + 1];
-                if !is_second(lead, second) {
-                    return None;
-                }
-                Some((two_byte_char(lead, second), 2))
-            }
-            3 if left >= 3 => {
-                let second = src[at + 1];
-                let third = src[at + 2];
-                if !is_second(lead, second) || !is_continuation(third) {
-                    return None;
-                }
-                Some((three_byte_char(lead, second, third), 3))
-            }
-            _ => None,
-        }
-    }
-
-    fn has_ascii(self) -> bool {
-        let _pending = self.pending;
-        true
-    }
-}
-
 impl ByteCodec for Utf8Decoder {
     ghost use Rattle.enc_codec.specs.Utf8State.{utf_8_state};
 
@@ -257,7 +220,7 @@ impl ByteCodec for Utf8Decoder {
     #[inline(always)]
     fn take_run<U: Units>(self, src: &[u8], out: &mut U) -> (Utf8Decoder, usize) {
         match self.pending {
-            Pending::Nothing => (self, out.put_pieces(self, src)),
+            Pending::Nothing => (self, out.put_utf8(src)),
             _ => (self, 0),
         }
     }

@@ -4,7 +4,7 @@ use Rattle.std.proofs.lemmas.List.{length-map, take_more}
 use Rattle.std.proofs.lemmas.List.Elements.{All-append}
 use Rattle.std.proofs.Math.Seq.{take-append_seam, drop-append_seam, set-append_seam}
 use Rattle.std.proofs.Math.ListN.{set}
-use Rattle.std.proofs.lemmas.Simd.{length-zip2, mask_l-mod, put_chunk_is}
+use Rattle.std.proofs.lemmas.Simd.{length-zip2, length-replicate, mask_l-mod, put_chunk_is}
 use lib.Lanes.{zip2, mask_l, top, put_chunk}
 use Rattle.enc_units.specs.Validity.{AreAscii}
 
@@ -20,11 +20,11 @@ none_high (x ∷ xs) e zero d h = go (leb 128 x) refl (omega arith)
     go false p q = leb-false _ _ p
 none_high (x ∷ xs) e (suc k) d h = none_high xs (omega arith) k d (omega arith)
 
--- the mask of a comparison of sixteen lanes
-pub ascii_of_mask : (xs : List ℕ) → length xs ≡ 16 → eqb (mask_l (map (top 7) (zip2 at_least (replicate 16 128) xs)) % 2 ^ 64) 0 ≡ true → AreAscii xs
-ascii_of_mask xs long e =
+-- the mask of a comparison of so many lanes
+pub ascii_of_mask : (n : ℕ) (xs : List ℕ) → n ≤ 64 → length xs ≡ n → eqb (mask_l (map (top 7) (zip2 at_least (replicate n 128) xs)) % 2 ^ 64) 0 ≡ true → AreAscii xs
+ascii_of_mask n xs few long e =
     none_high xs (ap (λ n. mask_l (map (top 7) (zip2 at_least (replicate n 128) xs))) long
-    ∙ sym (mask_l-mod _ 64 (omega (arith, length-map (zip2 at_least (replicate 16 128) xs) (top 7), length-zip2 at_least (replicate 16 128) xs (sym long)))) ∙ eqb-true _ _ e)
+    ∙ sym (mask_l-mod _ 64 (omega (arith, length-map (zip2 at_least (replicate n 128) xs) (top 7), length-zip2 at_least (replicate n 128) xs (length-replicate {A = ℕ} n 128 ∙ sym long), length-replicate {A = ℕ} n 128))) ∙ eqb-true _ _ e)
 
 -- so many bytes more are ASCII
 pub ascii_more : (i n : ℕ) (xs : List ℕ) → AreAscii (take i xs) → AreAscii (take n (drop i xs)) → AreAscii (take (i + n) xs)

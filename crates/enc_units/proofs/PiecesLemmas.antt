@@ -169,6 +169,31 @@ puts_wider units_of Means before after src m n front e p = record {
 }
 
 -- where what bytes mean is told of another that is the same
-pub puts_as : (units_of : ℕ → List ℕ) {T : Type 0} (means : T → List ℕ → ℕ → Type 0) (a b : T) (before after : Output) (src : List ℕ) (n : ℕ) → a ≡ b
+pub puts_same : (units_of : ℕ → List ℕ) {T : Type 0} (means : T → List ℕ → ℕ → Type 0) (a b : T) (before after : Output) (src : List ℕ) (n : ℕ) → a ≡ b
     → PutsPieces units_of (means a) before after src n → PutsPieces units_of (means b) before after src n
-puts_as units_of means a b before after src n e p = subst (λ t. PutsPieces units_of (means t) before after src n) e p
+puts_same units_of means a b before after src n e p = subst (λ t. PutsPieces units_of (means t) before after src n) e p
+
+-- what the bytes mean by one reading, they mean by another
+
+AllMean-weaker : (Means Other : List ℕ → ℕ → Type 0) → ((bytes : List ℕ) (c : ℕ) → Means bytes c → Other bytes c) → (ps : List Piece) → AllMean Means ps
+    → AllMean Other ps
+AllMean-weaker Means Other h [] m = tt
+AllMean-weaker Means Other h (p ∷ ps) m = (h p.bytes p.char m.0, AllMean-weaker Means Other h ps m.1)
+
+pub puts_as : (units_of : ℕ → List ℕ) (Means Other : List ℕ → ℕ → Type 0) (before after : Output) (src : List ℕ) (n : ℕ)
+    → ((bytes : List ℕ) (c : ℕ) → Means bytes c → Other bytes c) → PutsPieces units_of Means before after src n → PutsPieces units_of Other before after src n
+puts_as units_of Means Other before after src n h p =
+    let r = p.reads in
+    record {
+      text = p.text;
+      reads = record {
+        pieces = r.pieces;
+        within = r.within;
+        bytes = r.bytes;
+        chars = r.chars;
+        mean = AllMean-weaker Means Other h r.pieces r.mean;
+        none = r.none;
+      };
+      fits = p.fits;
+      written = p.written;
+    }

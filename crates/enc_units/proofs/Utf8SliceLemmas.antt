@@ -15,13 +15,13 @@ pub ascii_units : (bs : List ℕ) → AreAscii bs → units_of_text encode_utf8 
 ascii_units [] a = refl
 ascii_units (b ∷ bs) a = ap (λ x. x ++ units_of_text encode_utf8 bs) (encode_ascii b (a 0 0 (omega arith))) ∙ ap (λ x. b ∷ x) (ascii_units bs (λ k d h. a (suc k) d (omega arith)))
 
-seam_take : (m : ℕ) (x y : List ℕ) → length x ≡ m → take m (x ++ y) ≡ x
+pub seam_take : (m : ℕ) (x y : List ℕ) → length x ≡ m → take m (x ++ y) ≡ x
 seam_take m x y e = ap (λ k. take k (x ++ y)) (sym e) ∙ take-append_seam x y
 
-seam_drop : (m : ℕ) (x y : List ℕ) → length x ≡ m → drop m (x ++ y) ≡ y
+pub seam_drop : (m : ℕ) (x y : List ℕ) → length x ≡ m → drop m (x ++ y) ≡ y
 seam_drop m x y e = ap (λ k. drop k (x ++ y)) (sym e) ∙ drop-append_seam x y
 
-same_output : {w w' : List ℕ} {r r' : ℕ} {b b' : List ℕ} (n : GName) → w ≡ w' → r ≡ r' → b ≡ b'
+pub same_output : {w w' : List ℕ} {r r' : ℕ} {b b' : List ℕ} (n : GName) → w ≡ w' → r ≡ r' → b ≡ b'
     → (let x : Output = record { written = w; room = r; behind = b; borrow = n } in let y : Output = record { written = w'; room = r'; behind = b'; borrow = n } in x ≡ y)
 same_output n e₁ e₂ e₃ = cc
 
@@ -43,3 +43,21 @@ module _ (len n : ℕ) (dst src new : List ℕ) (borrow : GName) (within : len �
       (ap (take (len + n)) whole ∙ seam_take (len + n) (take len dst ++ take n src) (drop n (drop len dst)) long)
       (omega (arith, ap length whole, length-append (take len dst ++ take n src) (drop n (drop len dst)), long, length-drop n (drop len dst), length-drop len dst, length-take n src))
       (ap (drop (len + n)) whole ∙ seam_drop (len + n) (take len dst ++ take n src) (drop n (drop len dst)) long ∙ ap (λ m. drop m (drop len dst)) (omega (arith, length-take n src)))
+
+-- the same where as many bytes take the place of those there
+module _ (len n : ℕ) (dst ys : List ℕ) (borrow : GName) (within : len + n ≤ length dst) (as_many : length ys ≡ n) where
+  put_whole : put_mid len (len + n - len) dst ys ≡ (take len dst ++ ys) ++ drop n (drop len dst)
+  put_whole =
+      let count : len + n - len ≡ n = omega arith in
+      ap (λ m. put_mid len m dst ys) count ∙ sym (append_assoc (take len dst) ys (drop n (drop len dst)))
+
+  put_long : length (take len dst ++ ys) ≡ len + n
+  put_long = omega (arith, length-append (take len dst) ys, length-take len dst)
+
+  pub grown_by : (let w = put_mid len (len + n - len) dst ys in
+      let x : Output = record { written = take (len + n) w; room = length w - (len + n); behind = drop (len + n) w; borrow = borrow } in
+      let y : Output = record { written = take len dst; room = length dst - len; behind = drop len dst; borrow = borrow } in x ≡ appended y ys)
+  grown_by = same_output borrow
+      (ap (take (len + n)) put_whole ∙ seam_take (len + n) (take len dst ++ ys) (drop n (drop len dst)) put_long)
+      (omega (arith, ap length put_whole, length-append (take len dst ++ ys) (drop n (drop len dst)), put_long, length-drop n (drop len dst), length-drop len dst))
+      (ap (drop (len + n)) put_whole ∙ seam_drop (len + n) (take len dst ++ ys) (drop n (drop len dst)) put_long ∙ ap (λ m. drop m (drop len dst)) (sym as_many))

@@ -1,5 +1,6 @@
 -- Characters of an input, by the bytes that each is made of.
 use Rattle.std.specs.Prelude.{◌≡◌, ℕ, ◌≤◌, List, [], ◌∷◌, ◌++◌, length, take}
+use Rattle.std.specs.Char.{IsScalar, encode_utf8}
 use Rattle.enc_units.specs.Output.{Output, appended, units_of_text}
 
 pub record Piece : Type 0 where
@@ -20,6 +21,10 @@ chars_of (p ∷ ps) = p.char ∷ chars_of ps
 abbrev pub AllMean : (List ℕ → ℕ → Type 0) → List Piece → Type 0
 AllMean Means [] = Unit {0}
 AllMean Means (p ∷ ps) = Means p.bytes p.char × AllMean Means ps
+
+-- These bytes are this character in UTF-8 (Unicode Standard 3.9, D92).
+abbrev pub IsUtf8Char : List ℕ → ℕ → Type 0
+IsUtf8Char bytes c = IsScalar c × (bytes ≡ encode_utf8 c)
 
 -- The first n bytes are pieces, and their characters are this text.
 pub record Reads (Means : List ℕ → ℕ → Type 0) (src : List ℕ) (n : ℕ) (text : List ℕ) : Type 0 where

@@ -13,6 +13,14 @@ fn are_ascii(lanes: u8x16) -> bool
     lanes.simd_ge(u8x16::splat(0x80)).to_bitmask() == 0
 }
 
+/// Whether all of 64 bytes are ASCII.
+#[inline(always)]
+pub fn are_all_ascii(lanes: u8x64) -> bool
+    ensures { IsTrue result → AreAscii lanes }
+{
+    lanes.simd_ge(u8x64::splat(0x80)).to_bitmask() == 0
+}
+
 /// How many bytes in front are ASCII, in whole steps of sixteen.
 #[inline(always)]
 fn ascii_steps(bytes: &[u8]) -> usize

@@ -1,0 +1,157 @@
+-- Sixteen lanes of bytes and of the three before each.
+use Rattle.std.proofs.Common.{true≢false, le-leb, leb-true, ltb-true, ◌≡◌, ℕ, suc, ◌+◌, ◌-◌, ◌%◌, ◌^◌, ◌<◌, ◌≤◌, Bool, true, false, not, ◌||◌, ◌&&◌, cond, eqb, leb, ltb, List, map, length, get_or, replicate, bit_and, bit_or, bit_xor, refl, ap, ◌∙◌, sym, subst, arith, eqb-true}
+use Rattle.std.proofs.lemmas.Bool.{and_parts}
+use Rattle.std.proofs.lemmas.Bool.Decides.{nat_tests}
+use Rattle.std.proofs.lemmas.List.FromFn.{get_or-range_with_len}
+use Rattle.std.proofs.lemmas.Simd.{map-map, mask_l-mod, zip2_of_maps, splat_is_map, pick_l_whole, none_from_empty_mask, get_or-chunk}
+use Rattle.std.specs.List.{range_with_len}
+use lib.Lanes.{zip2, mask_l, top, chunk}
+use Rattle.enc_units.specs.Utf8Run.{Follows, FollowsAt}
+
+abbrev places : List ℕ
+places = range_with_len 0 16
+
+abbrev flag : Bool → ℕ
+flag t = cond t 255 0
+
+abbrev differ : Bool → Bool → Bool
+differ true u = not u
+differ false u = u
+
+-- a mask that is set in the lanes of these places
+pub record IsFlags (m : List ℕ) (t : ℕ → Bool) : Type 0 where
+  pub is : m ≡ map (λ k. flag (t k)) places
+
+or_flag : (t u : Bool) → bit_or (flag t) (flag u) ≡ flag (t || u)
+or_flag true true = refl
+or_flag true false = refl
+or_flag false true = refl
+or_flag false false = refl
+
+and_flag : (t u : Bool) → bit_and (flag t) (flag u) ≡ flag (t && u)
+and_flag true true = refl
+and_flag true false = refl
+and_flag false true = refl
+and_flag false false = refl
+
+xor_flag : (t u : Bool) → bit_xor (flag t) (flag u) ≡ flag (differ t u)
+xor_flag true true = refl
+xor_flag true false = refl
+xor_flag false true = refl
+xor_flag false false = refl
+
+top_flag : (t : Bool) → top 7 (flag t) ≡ t
+top_flag true = refl
+top_flag false = refl
+
+module _ (f : ℕ → ℕ → ℕ) (g : Bool → Bool → Bool) (e : (t u : Bool) → f (flag t) (flag u) ≡ flag (g t u)) where
+  joined : {t u : ℕ → Bool} {a b : List ℕ} → IsFlags a t → IsFlags b u → IsFlags (zip2 f a b) (λ k. g (t k) (u k))
+  joined {t} {u} p q = record {
+    is = zip2_of_maps f (λ k. flag (t k)) (λ k. flag (u k)) places p.is q.is ∙ ap (λ h. map h places) (λ i k. e (t k) (u k) i);
+  }
+
+lanes : (vs : List ℕ) → length vs ≡ 16 → vs ≡ map (λ k. get_or vs k 0) places
+lanes vs long = sym (pick_l_whole 0 vs 16 long)
+
+pub either : {t u : ℕ → Bool} {a b : List ℕ} → IsFlags a t → IsFlags b u → IsFlags (zip2 bit_or a b) (λ k. t k || u k)
+either = joined bit_or (λ t u. t || u) or_flag
+
+pub both : {t u : ℕ → Bool} {a b : List ℕ} → IsFlags a t → IsFlags b u → IsFlags (zip2 bit_and a b) (λ k. t k && u k)
+both = joined bit_and (λ t u. t && u) and_flag
+
+pub unequal : {t u : ℕ → Bool} {a b : List ℕ} → IsFlags a t → IsFlags b u → IsFlags (zip2 bit_xor a b) (λ k. differ (t k) (u k))
+unequal = joined bit_xor differ xor_flag
+
+-- comparisons with one number
+
+pub at_least : (n : ℕ) (vs : List ℕ) → length vs ≡ 16 → IsFlags (zip2 (λ a b. flag (leb a b)) (replicate 16 n) vs) (λ k. leb n (get_or vs k 0))
+at_least n vs long = record { is = zip2_of_maps (λ a b. flag (leb a b)) (λ _. n) (λ k. get_or vs k 0) places (splat_is_map places 16 n refl) (lanes vs long) }
+
+pub below : (n : ℕ) (vs : List ℕ) → length vs ≡ 16 → IsFlags (zip2 (λ a b. flag (ltb a b)) vs (replicate 16 n)) (λ k. ltb (get_or vs k 0) n)
+below n vs long = record { is = zip2_of_maps (λ a b. flag (ltb a b)) (λ k. get_or vs k 0) (λ _. n) places (lanes vs long) (splat_is_map places 16 n refl) }
+
+pub same : (n : ℕ) (vs : List ℕ) → length vs ≡ 16 → IsFlags (zip2 (λ a b. flag (eqb a b)) vs (replicate 16 n)) (λ k. eqb (get_or vs k 0) n)
+same n vs long = record { is = zip2_of_maps (λ a b. flag (eqb a b)) (λ k. get_or vs k 0) (λ _. n) places (lanes vs long) (splat_is_map places 16 n refl) }
+
+-- where no lane is set
+none_set : (m : List ℕ) (t : ℕ → Bool) → IsFlags m t → eqb (mask_l (map (top 7) m) % 2 ^ 64) 0 ≡ true → (k : ℕ) → k < 16 → t k ≡ false
+none_set m t p e k h =
+    let tops : map (top 7) m ≡ map t places = ap (map (top 7)) p.is ∙ map-map (top 7) (λ j. flag (t j)) places ∙ ap (λ g. map g places) (λ i j. top_flag (t j) i) in
+    let empty : mask_l (map t places) ≡ 0 = sym (mask_l-mod (map t places) 64 (omega arith)) ∙ ap (λ l. mask_l l % 2 ^ 64) (sym tops) ∙ eqb-true _ _ e in
+    let place : k ≡ 0 + k = omega arith in
+    ap t (place ∙ sym (get_or-range_with_len 0 16 k 0 h)) ∙ none_from_empty_mask t places 0 16 0 (omega arith) empty k (omega arith) (omega arith)
+
+-- ---- the test of a byte
+
+abbrev wrong : ℕ → ℕ → ℕ → ℕ → Bool
+wrong z y x b =
+    ((differ ((leb 0xC0 x || leb 0xE0 y) || leb 0xF0 z) (leb 0x80 b && ltb b 0xC0) || ((leb 0xC0 b && ltb b 0xC2) || leb 0xF5 b))
+    || ((eqb x 0xE0 && ltb b 0xA0) || (eqb x 0xF0 && ltb b 0x90))) || ((eqb x 0xED && leb 0xA0 b) || (eqb x 0xF4 && leb 0x90 b))
+
+neither : (t u : Bool) → (t || u) ≡ false → (t ≡ false) × (u ≡ false)
+neither true u e = absurd (true≢false e)
+neither false u e = (refl, e)
+
+alike : (t u : Bool) → differ t u ≡ false → t ≡ u
+alike true true e = refl
+alike true false e = absurd (true≢false e)
+alike false u e = sym e
+
+or_true : (t u : Bool) → u ≡ true → (t || u) ≡ true
+or_true true u e = refl
+or_true false u e = e
+
+module _ (z y x b : ℕ) (e : wrong z y x b ≡ false) where
+  parts : (((leb 0xC0 x || leb 0xE0 y) || leb 0xF0 z) ≡ (leb 0x80 b && ltb b 0xC0)) × ((leb 0xC0 b && ltb b 0xC2) ≡ false) × (leb 0xF5 b ≡ false) × ((eqb x 0xE0 && ltb b 0xA0) ≡ false)
+      × ((eqb x 0xF0 && ltb b 0x90) ≡ false) × ((eqb x 0xED && leb 0xA0 b) ≡ false) × ((eqb x 0xF4 && leb 0x90 b) ≡ false)
+  parts =
+      let l = neither _ _ e in
+      let m = neither _ _ l.0 in
+      let n = neither _ _ m.0 in
+      let s = neither _ _ n.1 in
+      let o = neither _ _ m.1 in
+      let u = neither _ _ l.1 in
+      (alike _ _ n.0, s.0, s.1, o.0, o.1, u.0, u.1)
+
+  continues : (leb 0x80 b && ltb b 0xC0) ≡ true → (0x80 ≤ b) × (b < 0xC0)
+  continues h = let p = and_parts _ _ h in (leb-true _ _ p.0, ltb-true _ _ p.1)
+
+  follows : Follows z y x b
+  follows = record {
+    behind_first = λ h. continues (sym parts.0 ∙ rw (le-leb 0xC0 x h) refl);
+    behind_second = λ h. continues (sym parts.0 ∙ ap (λ t. t || leb 0xF0 z) (or_true (leb 0xC0 x) (leb 0xE0 y) (le-leb 0xE0 y h)));
+    behind_third = λ h. continues (sym parts.0 ∙ or_true (leb 0xC0 x || leb 0xE0 y) (leb 0xF0 z) (le-leb 0xF0 z h));
+    begins = λ f g h. let p = parts in grind (arith, nat_tests);
+    behind_0xe0 = λ h. let p = parts.3 in grind (arith, nat_tests);
+    behind_0xed = λ h. let p = parts.5 in grind (arith, nat_tests);
+    behind_0xf0 = λ h. let p = parts.4 in grind (arith, nat_tests);
+    behind_0xf4 = λ h. let p = parts.6 in grind (arith, nat_tests);
+  }
+
+module _ (zs ys xs bs : List ℕ) (lz : length zs ≡ 16) (ly : length ys ≡ 16) (lx : length xs ≡ 16) (lb : length bs ≡ 16) where
+  abbrev flags : (m : List ℕ) × IsFlags m (λ k. wrong (get_or zs k 0) (get_or ys k 0) (get_or xs k 0) (get_or bs k 0))
+  flags = (
+    _,
+    either
+        (either
+        (either (unequal (either (either (at_least 0xC0 xs lx) (at_least 0xE0 ys ly)) (at_least 0xF0 zs lz)) (both (at_least 0x80 bs lb) (below 0xC0 bs lb)))
+        (either (both (at_least 0xC0 bs lb) (below 0xC2 bs lb)) (at_least 0xF5 bs lb)))
+        (either (both (same 0xE0 xs lx) (below 0xA0 bs lb)) (both (same 0xF0 xs lx) (below 0x90 bs lb))))
+        (either (both (same 0xED xs lx) (at_least 0xA0 bs lb)) (both (same 0xF4 xs lx) (at_least 0x90 bs lb))),
+  )
+
+  pub lanes_follow : eqb (mask_l (map (top 7) flags.0) % 2 ^ 64) 0 ≡ true → (k : ℕ) → k < 16 → Follows (get_or zs k 0) (get_or ys k 0) (get_or xs k 0) (get_or bs k 0)
+  lanes_follow e k h = follows (get_or zs k 0) (get_or ys k 0) (get_or xs k 0) (get_or bs k 0) (none_set flags.0 _ flags.1 e k h)
+
+along : {z y x b z' y' x' b' : ℕ} → z ≡ z' → y ≡ y' → x ≡ x' → b ≡ b' → Follows z y x b → Follows z' y' x' b'
+along {z} {y} {x} {b} {z'} {y'} {x'} {b'} p q r s f =
+    subst (λ v. Follows z' y' x' v) s (subst (λ v. Follows z' y' v b) r (subst (λ v. Follows z' v x b) q (subst (λ v. Follows v y x b) p f)))
+
+pub block_follows : (src : List ℕ) (at : ℕ)
+    → ((j : ℕ) → j < 16 → Follows (get_or (chunk at 16 src) j 0) (get_or (chunk (at + 1) 16 src) j 0) (get_or (chunk (at + 2) 16 src) j 0) (get_or (chunk (at + 3) 16 src) j 0))
+    → (k : ℕ) → at ≤ k → k < at + 16 → FollowsAt src k
+block_follows src at h k from to =
+    let j = k - at in
+    let few : j < 16 = omega arith in
+    let lane : (i m : ℕ) → i + j ≡ m → get_or (chunk i 16 src) j 0 ≡ get_or src m 0 = λ i m e. get_or-chunk i 16 src j 0 few ∙ ap (λ n. get_or src n 0) e in
+    along (lane at k (omega arith)) (lane (at + 1) (suc k) (omega arith)) (lane (at + 2) (suc (suc k)) (omega arith)) (lane (at + 3) (suc (suc (suc k))) (omega arith)) (h j few)

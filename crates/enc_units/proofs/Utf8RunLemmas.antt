@@ -1,0 +1,178 @@
+-- Bytes that follow one another as in well-formed UTF-8 are well-formed.
+use Rattle.std.proofs.Common.{◌≡◌, ℕ, zero, suc, ◌+◌, ◌-◌, ◌<◌, ◌≤◌, ◌⊎◌, List, [], ◌∷◌, length, get_or, take, drop, sym, ap, subst, arith, ◌∙◌, inl, inr, take-add, drop-drop, length-take, length-drop}
+use Rattle.std.proofs.lemmas.Bool.{cases_lt, cases_eq}
+use Rattle.std.proofs.lemmas.List.{take_all}
+use Rattle.std.proofs.lemmas.Simd.{get_or-chunk}
+use Rattle.std.proofs.lemmas.Str.{IsUtf8-nil, IsUtf8-append}
+use Rattle.std.proofs.str.Valid.{of_one, of_two, of_three, of_four}
+use Rattle.enc_units.specs.Validity.{IsWellFormedUtf8, AreAscii}
+use Rattle.enc_units.specs.Utf8Run.{Follows, FollowsAt, IsBetween}
+
+abbrev AreBetween : ℕ → ℕ → ℕ → Type 0
+AreBetween z y x = (z < 0xF0) × (y < 0xE0) × (x < 0xC0)
+
+-- each of the bytes may stand behind the three before it, and at the end nothing is wanted
+abbrev AllFollow : ℕ → ℕ → ℕ → List ℕ → Type 0
+AllFollow z y x [] = AreBetween z y x
+AllFollow z y x (b ∷ bs) = Follows z y x b × AllFollow y x b bs
+
+unless : (a n : ℕ) {P : Type 0} → (a ≡ n → P) → (a ≡ n → ⊥) ⊎ P
+unless a n f = elim (cases_eq a n) [ inl e ↦ inr (f e) | inr e ↦ inl e ]
+
+-- the bytes of one character
+
+pub one : (a : ℕ) → a < 0x80 → IsWellFormedUtf8 (a ∷ [])
+one a h = of_one (a ∷ []) 0 (omega arith) h
+
+pub two : (a b : ℕ) → (0xC2 ≤ a) × (a < 0xE0) → (0x80 ≤ b) × (b < 0xC0) → IsWellFormedUtf8 (a ∷ b ∷ [])
+two a b h f = of_two (a ∷ b ∷ []) 0 (omega arith) h f
+
+pub three : (a b c : ℕ) → (0xE0 ≤ a) × (a < 0xF0) → (0x80 ≤ b) × (b < 0xC0) → (a ≡ 0xE0 → 0xA0 ≤ b) → (a ≡ 0xED → b < 0xA0) → (0x80 ≤ c) × (c < 0xC0)
+    → IsWellFormedUtf8 (a ∷ b ∷ c ∷ [])
+three a b c h f e d g =
+    let least = unless a 0xE0 e in
+    let most = unless a 0xED d in
+    of_three (a ∷ b ∷ c ∷ []) 0 (omega arith) h f g (omega arith) (elim (cases_lt a 0xED) [
+      | inl s ↦ inl (omega arith)
+      | inr s ↦ elim (cases_lt 0xED a) [ inl t ↦ inr (omega arith) | inr t ↦ inl (omega (arith, d (omega arith))) ]
+    ])
+
+pub four : (a b c d : ℕ) → (0xF0 ≤ a) × (a ≤ 0xF4) → (0x80 ≤ b) × (b < 0xC0) → (a ≡ 0xF0 → 0x90 ≤ b) → (a ≡ 0xF4 → b < 0x90) → (0x80 ≤ c) × (c < 0xC0)
+    → (0x80 ≤ d) × (d < 0xC0) → IsWellFormedUtf8 (a ∷ b ∷ c ∷ d ∷ [])
+four a b c d h f e g j k =
+    let least = unless a 0xF0 e in
+    let most = unless a 0xF4 g in
+    of_four (a ∷ b ∷ c ∷ d ∷ []) 0 (omega arith) h.0 f j k (omega arith)
+
+-- and of several
+
+module _ (n : ℕ) (rest : (z y x : ℕ) (bs : List ℕ) → length bs ≤ n → AreBetween z y x → AllFollow z y x bs → IsWellFormedUtf8 bs) where
+  fourth : (y z a b c : ℕ) (bs : List ℕ) → length bs ≤ n → (0xF0 ≤ a) × (a ≤ 0xF4) → (0x80 ≤ b) × (b < 0xC0) → Follows y z a b → (0x80 ≤ c) × (c < 0xC0)
+      → AllFollow a b c bs → IsWellFormedUtf8 (a ∷ b ∷ c ∷ bs)
+  fourth y z a b c [] l h f s e v = absurd (omega arith)
+  fourth y z a b c (d ∷ bs) l h f s e v =
+      IsUtf8-append (a ∷ b ∷ c ∷ d ∷ []) bs (four a b c d h f s.behind_0xf0 s.behind_0xf4 e (v.0.behind_third h.0)) (rest b c d bs (omega arith) (omega (arith, v.0.behind_third h.0)) v.1)
+
+  third : (y z a b : ℕ) (bs : List ℕ) → length bs ≤ n → (0xE0 ≤ a) × (a ≤ 0xF4) → (0x80 ≤ b) × (b < 0xC0) → Follows y z a b → AllFollow z a b bs
+      → IsWellFormedUtf8 (a ∷ b ∷ bs)
+  third y z a b [] l h f s v = absurd (omega arith)
+  third y z a b (c ∷ bs) l h f s v =
+      let e = v.0.behind_second h.0 in
+      elim (cases_lt a 0xF0) [
+        | inl u ↦ IsUtf8-append (a ∷ b ∷ c ∷ []) bs (three a b c (h.0, u) f s.behind_0xe0 s.behind_0xed e) (rest a b c bs (omega arith) (omega arith) v.1)
+        | inr u ↦ fourth y z a b c bs (omega arith) (u, h.1) f s e v.1
+      ]
+
+  second : (y z a : ℕ) (bs : List ℕ) → length bs ≤ n → z < 0xC0 → (0xC2 ≤ a) × (a ≤ 0xF4) → AllFollow y z a bs → IsWellFormedUtf8 (a ∷ bs)
+  second y z a [] l k h v = absurd (omega arith)
+  second y z a (b ∷ bs) l k h v =
+      let f = v.0.behind_first (omega arith) in
+      elim (cases_lt a 0xE0) [
+        | inl u ↦ IsUtf8-append (a ∷ b ∷ []) bs (two a b (h.0, u) f) (rest z a b bs (omega arith) (omega arith) v.1)
+        | inr u ↦ third y z a b bs (omega arith) (u, h.1) f v.0 v.1
+      ]
+
+  first : (z y x : ℕ) (bs : List ℕ) → length bs ≤ suc n → AreBetween z y x → AllFollow z y x bs → IsWellFormedUtf8 bs
+  first z y x [] l h v = IsUtf8-nil
+  first z y x (a ∷ bs) l h v =
+      elim (v.0.begins h.2 h.1 h.0) [
+        | inl u ↦ IsUtf8-append (a ∷ []) bs (one a u) (rest y x a bs (omega arith) (omega arith) v.1)
+        | inr u ↦ second y x a bs (omega arith) h.2 u v.1
+      ]
+
+all_utf8 : (n z y x : ℕ) (bs : List ℕ) → length bs ≤ n → AreBetween z y x → AllFollow z y x bs → IsWellFormedUtf8 bs
+all_utf8 zero z y x [] l h v = IsUtf8-nil
+all_utf8 zero z y x (b ∷ bs) l h v = absurd (omega arith)
+all_utf8 (suc n) z y x bs l h v = first n (all_utf8 n) z y x bs l h v
+
+-- the same told by places
+all_follow : (n z y x : ℕ) (bs : List ℕ) → n ≤ length bs → ((k : ℕ) → k < n → FollowsAt (z ∷ y ∷ x ∷ bs) k) → IsBetween (z ∷ y ∷ x ∷ bs) n
+    → AllFollow z y x (take n bs)
+all_follow zero z y x bs l h e = e
+all_follow (suc n) z y x [] l h e = absurd (omega arith)
+all_follow (suc n) z y x (b ∷ bs) l h e = (h 0 (omega arith), all_follow n y x b bs (omega arith) (λ k u. h (suc k) (omega arith)) e)
+
+pub blocks_utf8 : (n : ℕ) (src : List ℕ) → n + 3 ≤ length src → IsBetween src 0 → ((k : ℕ) → k < n → FollowsAt src k) → IsBetween src n
+    → IsWellFormedUtf8 (take n (drop 3 src))
+blocks_utf8 n [] l b h e = absurd (omega arith)
+blocks_utf8 n (z ∷ []) l b h e = absurd (omega arith)
+blocks_utf8 n (z ∷ y ∷ []) l b h e = absurd (omega arith)
+blocks_utf8 n (z ∷ y ∷ x ∷ bs) l b h e =
+    all_utf8 (length (take n bs)) z y x (take n bs) (omega arith) b (all_follow n z y x bs (omega arith) h e)
+
+-- the character in front
+
+pub one_front : (src : List ℕ) → 0 < length src → get_or src 0 0 < 0x80 → IsWellFormedUtf8 (take 1 src)
+one_front [] l h = absurd (omega arith)
+one_front (a ∷ bs) l h = one a h
+
+pub two_front : (src : List ℕ) → 1 < length src → (0xC2 ≤ get_or src 0 0) × (get_or src 0 0 < 0xE0) → (0x80 ≤ get_or src 1 0) × (get_or src 1 0 < 0xC0) → IsWellFormedUtf8 (take 2 src)
+two_front [] l h f = absurd (omega arith)
+two_front (a ∷ []) l h f = absurd (omega arith)
+two_front (a ∷ b ∷ bs) l h f = two a b h f
+
+pub three_front : (src : List ℕ) → 2 < length src → (0xE0 ≤ get_or src 0 0) × (get_or src 0 0 < 0xF0) → (0x80 ≤ get_or src 1 0) × (get_or src 1 0 < 0xC0)
+    → (get_or src 0 0 ≡ 0xE0 → 0xA0 ≤ get_or src 1 0) → (get_or src 0 0 ≡ 0xED → get_or src 1 0 < 0xA0) → (0x80 ≤ get_or src 2 0) × (get_or src 2 0 < 0xC0)
+    → IsWellFormedUtf8 (take 3 src)
+three_front [] l h f e d g = absurd (omega arith)
+three_front (a ∷ []) l h f e d g = absurd (omega arith)
+three_front (a ∷ b ∷ []) l h f e d g = absurd (omega arith)
+three_front (a ∷ b ∷ c ∷ bs) l h f e d g = three a b c h f e d g
+
+pub four_front : (src : List ℕ) → 3 < length src → (0xF0 ≤ get_or src 0 0) × (get_or src 0 0 ≤ 0xF4) → (0x80 ≤ get_or src 1 0) × (get_or src 1 0 < 0xC0)
+    → (get_or src 0 0 ≡ 0xF0 → 0x90 ≤ get_or src 1 0) → (get_or src 0 0 ≡ 0xF4 → get_or src 1 0 < 0x90) → (0x80 ≤ get_or src 2 0) × (get_or src 2 0 < 0xC0)
+    → (0x80 ≤ get_or src 3 0) × (get_or src 3 0 < 0xC0) → IsWellFormedUtf8 (take 4 src)
+four_front [] l h f e d g j = absurd (omega arith)
+four_front (a ∷ []) l h f e d g j = absurd (omega arith)
+four_front (a ∷ b ∷ []) l h f e d g j = absurd (omega arith)
+four_front (a ∷ b ∷ c ∷ []) l h f e d g j = absurd (omega arith)
+four_front (a ∷ b ∷ c ∷ d' ∷ bs) l h f e d g j = four a b c d' h f e d g j
+
+-- so many bytes more
+
+rest_is : (src : List ℕ) (at : ℕ) → take (length src - at) (drop at src) ≡ drop at src
+rest_is src at = take_all (length src - at) (drop at src) (omega (arith, length-drop at src))
+
+pub longer : (src : List ℕ) (at n : ℕ) → IsWellFormedUtf8 (take at src) → IsWellFormedUtf8 (take n (take (length src - at) (drop at src))) → IsWellFormedUtf8 (take (at + n) src)
+longer src at n a b =
+    subst IsWellFormedUtf8 (sym (take-add at n src)) (IsUtf8-append (take at src) (take n (drop at src)) a (subst (λ r. IsWellFormedUtf8 (take n r)) (rest_is src at) b))
+
+-- the same, where three bytes before them are looked at as well
+pub longer_from : (src : List ℕ) (at n : ℕ) → 3 ≤ at → IsWellFormedUtf8 (take at src) → IsWellFormedUtf8 (take n (drop 3 (take (length src - (at - 3)) (drop (at - 3) src))))
+    → IsWellFormedUtf8 (take (at + n) src)
+longer_from src at n h a b =
+    let place : at - 3 + 3 ≡ at = omega arith in
+    let rest = ap (drop 3) (rest_is src (at - 3)) ∙ drop-drop 3 (at - 3) src ∙ ap (λ m. drop m src) place ∙ sym (rest_is src at) in
+    longer src at n a (subst (λ r. IsWellFormedUtf8 (take n r)) rest b)
+
+-- behind three bytes that want nothing, ASCII follows
+module _ (src : List ℕ) (at n : ℕ) (l : at + 3 + n ≤ length src) (b : IsBetween src at) (a : AreAscii (take n (drop (at + 3) src))) where
+  low : (m : ℕ) → at + 3 ≤ m → m < at + 3 + n → get_or src m 0 < 0x80
+  low m from to =
+      let place : at + 3 + (m - (at + 3)) ≡ m = omega arith in
+      subst (λ v. v < 0x80) (get_or-chunk (at + 3) n src (m - (at + 3)) 0 (omega arith) ∙ ap (λ k. get_or src k 0) place)
+      (a (m - (at + 3)) 0 (omega (arith, length-take n (drop (at + 3) src), length-drop (at + 3) src)))
+
+  between : (d : ℕ) → d < n → IsBetween src (at + d)
+  between zero h = let e : at ≡ at + 0 = omega arith in subst (IsBetween src) e b
+  between (suc d) h =
+      let e : suc (at + d) ≡ at + suc d = omega arith in
+      let p = between d (omega arith) in
+      let q = low (suc (suc (suc (at + d)))) (omega arith) (omega arith) in
+      subst (IsBetween src) e (omega arith, omega arith, omega arith)
+
+  pub ascii_follows : (k : ℕ) → at ≤ k → k < at + n → FollowsAt src k
+  ascii_follows k from to =
+      let e : at + (k - at) ≡ k = omega arith in
+      let p : IsBetween src k = subst (IsBetween src) e (between (k - at) (omega arith)) in
+      let q = low (suc (suc (suc k))) (omega arith) (omega arith) in
+      record {
+        behind_first = λ w. absurd (omega arith);
+        behind_second = λ w. absurd (omega arith);
+        behind_third = λ w. absurd (omega arith);
+        begins = λ _ _ _. inl q;
+        behind_0xe0 = λ w. absurd (omega arith);
+        behind_0xed = λ w. absurd (omega arith);
+        behind_0xf0 = λ w. absurd (omega arith);
+        behind_0xf4 = λ w. absurd (omega arith);
+      }

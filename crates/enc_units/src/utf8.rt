@@ -1,0 +1,172 @@
+//! Runs of well-formed UTF-8, sixteen bytes at a time.
+
+ghost use Rattle.std.specs.Prelude.{ℕ, ◌+◌, ◌<◌, ◌≤◌, length, take, drop, slice_index, IsTrue};
+ghost use Rattle.enc_units.specs.Validity.{IsWellFormedUtf8};
+ghost use Rattle.enc_units.specs.Utf8Run.{Follows, FollowsAt, IsBetween};
+
+use crate::ascii::are_all_ascii;
+use std::simd::prelude::*;
+
+/// How many bytes the well-formed sequence in front of some has, 0 where none is shown to stand there (Unicode
+/// Standard 3.9, table 3-7).
+#[inline(always)]
+fn char_len(src: &[u8]) -> usize
+    ensures within { result ≤ length src.now }
+    ensures utf8 { IsWellFormedUtf8 (take result src.now) }
+{
+    if src.len() == 0 {
+        return 0;
+    }
+    let first = src[0];
+    if first < 0x80 {
+        return 1;
+    }
+    if first < 0xC2 || 0xF4 < first || src.len() < 2 {
+        return 0;
+    }
+    let second = src[1];
+    if second < 0x80 || 0xC0 <= second {
+        return 0;
+    }
+    if first < 0xE0 {
+        return 2;
+    }
+    if src.len() < 3 || src[2] < 0x80 || 0xC0 <= src[2] {
+        return 0;
+    }
+    if first < 0xF0 {
+        if first == 0xE0 && second < 0xA0 || first == 0xED && 0xA0 <= second {
+            return 0;
+        }
+        return 3;
+    }
+    if src.len() < 4 || src[3] < 0x80 || 0xC0 <= src[3] {
+        return 0;
+    }
+    if first == 0xF0 && second < 0x90 || first == 0xF4 && 0x90 <= second {
+        return 0;
+    }
+    4
+}
+
+/// How many bytes the well-formed sequences in front of some have that begin within the first sixteen bytes.
+#[inline(always)]
+fn chars_len(src: &[u8]) -> usize
+    ensures within { result ≤ length src.now }
+    ensures utf8 { IsWellFormedUtf8 (take result src.now) }
+{
+    let mut at = 0;
+    while at < 16 {
+        let len = char_len(&src[at..]);
+        if len == 0 {
+            break;
+        }
+        at += len;
+    }
+    at
+}
+
+/// Whether no sequence that begins in three bytes wants a byte behind them.
+#[inline(always)]
+fn is_between(src: &[u8], at: usize) -> bool
+    requires { at + 3 ≤ length src.now }
+    ensures { IsTrue result → IsBetween src.now at }
+{
+    src[at] < 0xF0 && src[at + 1] < 0xE0 && src[at + 2] < 0xC0
+}
+
+/// Whether each of sixteen bytes may follow the three before it.
+#[inline(always)]
+fn follow(third: u8x16, second: u8x16, first: u8x16, bytes: u8x16) -> bool
+    ensures { IsTrue result → (k : ℕ) → k < 16 →
+        Follows (slice_index third k) (slice_index second k) (slice_index first k) (slice_index bytes k) }
+{
+    let wanted = first.simd_ge(u8x16::splat(0xC0))
+        | second.simd_ge(u8x16::splat(0xE0))
+        | third.simd_ge(u8x16::splat(0xF0));
+    let continues = bytes.simd_ge(u8x16::splat(0x80)) & bytes.simd_lt(u8x16::splat(0xC0));
+    let never = bytes.simd_ge(u8x16::splat(0xC0)) & bytes.simd_lt(u8x16::splat(0xC2))
+        | bytes.simd_ge(u8x16::splat(0xF5));
+    let overlong = first.simd_eq(u8x16::splat(0xE0)) & bytes.simd_lt(u8x16::splat(0xA0))
+        | first.simd_eq(u8x16::splat(0xF0)) & bytes.simd_lt(u8x16::splat(0x90));
+    let beyond = first.simd_eq(u8x16::splat(0xED)) & bytes.simd_ge(u8x16::splat(0xA0))
+        | first.simd_eq(u8x16::splat(0xF4)) & bytes.simd_ge(u8x16::splat(0x90));
+    ((wanted ^ continues) | never | overlong | beyond).to_bitmask() == 0
+}
+
+/// Whether the sixteen bytes behind three may follow.
+#[inline(always)]
+fn block_follows(src: &[u8], at: usize) -> bool
+    requires { at + 19 ≤ length src.now }
+    ensures { IsTrue result → (k : ℕ) → at ≤ k → k < at + 16 → FollowsAt src.now k }
+{
+    follow(
+        u8x16::from_slice(&src[at..]),
+        u8x16::from_slice(&src[at + 1..]),
+        u8x16::from_slice(&src[at + 2..]),
+        u8x16::from_slice(&src[at + 3..]),
+    )
+}
+
+/// Whether the 64 bytes behind three are ASCII, and nothing else is wanted there.
+#[inline(always)]
+fn ascii_follows(src: &[u8], at: usize) -> bool
+    requires { at + 67 ≤ length src.now }
+    ensures { IsTrue result → (k : ℕ) → at ≤ k → k < at + 64 → FollowsAt src.now k }
+{
+    is_between(src, at) && are_all_ascii(u8x64::from_slice(&src[at + 3..]))
+}
+
+/// How many bytes behind the first three are seen in blocks to follow.
+#[inline(always)]
+fn following(src: &[u8]) -> usize
+    requires { 3 ≤ length src.now }
+    ensures within { result + 3 ≤ length src.now }
+    ensures follow { (k : ℕ) → k < result → FollowsAt src.now k }
+{
+    let mut at = 0;
+    while 19 <= src.len() - at {
+        if 67 <= src.len() - at && ascii_follows(src, at) {
+            at += 64;
+        } else if block_follows(src, at) {
+            at += 16;
+        } else {
+            break;
+        }
+    }
+    at
+}
+
+/// How many bytes behind the first three are seen in blocks to be well-formed, where those three end a character.
+#[inline(always)]
+fn blocks_len(src: &[u8]) -> usize
+    requires { 3 ≤ length src.now }
+    ensures within { result + 3 ≤ length src.now }
+    ensures utf8 { IsWellFormedUtf8 (take result (drop 3 src.now)) }
+{
+    if !is_between(src, 0) {
+        return 0;
+    }
+    let mut end = following(src);
+    while end > 0 && !is_between(src, end) {
+        end -= 1;
+    }
+    end
+}
+
+/// How many bytes in front are well-formed UTF-8. It may leave off before any character, as near the end.
+#[inline(always)]
+pub fn utf8_front(src: &[u8]) -> usize
+    ensures within { result ≤ length src.now }
+    ensures utf8 { IsWellFormedUtf8 (take result src.now) }
+{
+    let mut at = 0;
+    loop {
+        let len = chars_len(&src[at..]);
+        at += len;
+        if len < 16 {
+            return at;
+        }
+        at += blocks_len(&src[at - 3..]);
+    }
+}
