@@ -57,7 +57,7 @@ shows_skipped s held e next p f =
     (λ y m. rw p (rw append_assoc (skipped_escape (set_number s) e (held_bytes next ++ y) (f y m))))
 
 -- a byte that stands alone
-alone : (s : CharacterSet) (b : ℕ) (found : Option ℕ) → found ≡ one_byte_char s b → is_lead s b ≡ false
+pub alone : (s : CharacterSet) (b : ℕ) (found : Option ℕ) → found ≡ one_byte_char s b → is_lead s b ≡ false
     → eqb b 0x1B ≡ false
     → (y : List ℕ) → jp_rule (set_number s) b y ≡ one_byte_head (set_number s) found
 alone s b found e l n y =
@@ -94,7 +94,7 @@ pub shows_lead : (s : CharacterSet) (b : ℕ) → is_lead s b ≡ true
     → Comes jp_state (holding s (Some (Lead b))) (CutsOff (Lead b)) [] (shown_char None 1 false (holding s None))
 shows_lead s b l = shows_malformed s (Lead b) b None refl (omega arith) (lead_cut_off s b l)
 
-pair : (s : CharacterSet) (lead b : ℕ) (found : Option ℕ) → found ≡ two_byte_char lead b
+pub pair : (s : CharacterSet) (lead b : ℕ) (found : Option ℕ) → found ≡ two_byte_char lead b
     → is_lead s lead ≡ true → eqb b 0x1B ≡ false
     → (y : List ℕ) → jp_rule (set_number s) lead (b ∷ y) ≡ two_byte_head (set_number s) found
 pair s lead b found e l n y =

@@ -37,3 +37,4 @@ mod TakingLemmas
 mod PieceLemmas
 mod Utf8Pieces
 mod Utf16Pieces
+mod Iso2022JpPieces

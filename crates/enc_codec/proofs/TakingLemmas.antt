@@ -13,7 +13,7 @@ use Rattle.enc_codec.proofs.DeterminedLemmas.{none_determined}
 use Rattle.enc_codec.proofs.ShowLemmas.{nothing_pending}
 use Rattle.enc_codec.proofs.Progress.{Writing}
 
-front : (k : ℕ) (xs : List ℕ) (b : ℕ) (zs : List ℕ) → 0 < k → xs ≡ b ∷ zs → (z : List ℕ) × (take k xs ≡ b ∷ z)
+pub front : (k : ℕ) (xs : List ℕ) (b : ℕ) (zs : List ℕ) → 0 < k → xs ≡ b ∷ zs → (z : List ℕ) × (take k xs ≡ b ∷ z)
 front zero xs b zs h e = absurd (omega arith)
 front (suc k) xs b zs h e = (take k zs, ap (take (suc k)) e)
 
@@ -130,3 +130,30 @@ takes_none units_of state c src o = record {
   none_pending = λ h. absurd (omega arith);
   none_taken = λ _. refl;
 }
+
+-- A run is taken behind another.
+pub takes_both : {C : Type 0} (units_of : ℕ → List ℕ) (state : C → CodecState) (c m n : C) (src : List ℕ) (read more : ℕ) (before mid after : Output) (rest : List ℕ) → rest ≡ drop read src
+    → TakesRun units_of state c m src read before mid → TakesRun units_of state m n rest more mid after → TakesRun units_of state c n src (read + more) before after
+takes_both units_of state c m n src read more before mid after rest e p given =
+    let q = subst (λ z. TakesRun units_of state m n z more mid after) e given in
+    let bytes = take more (drop read src) in
+    let x = units_of_text units_of (text_of p.taken) in
+    let y = units_of_text units_of (text_of q.taken) in
+    let both = units-append units_of p.taken q.taken in
+    record {
+      taken = p.taken ++ q.taken;
+      within = omega (arith, p.within, q.within, length-drop read src);
+      bytes = bytes_of-append p.taken q.taken ∙ ap (λ z. z ++ bytes_of q.taken) p.bytes ∙ ap (λ z. take read src ++ z) q.bytes ∙ sym (take-add read more src);
+      first = λ w. ap (remainder_of (state c)).sequences (ap (λ z. z ++ w) (take-add read more src) ∙ append_assoc (take read src) bytes w)
+          ∙ p.first (bytes ++ w) ∙ ap (λ ss. p.taken ++ ss) (q.first w) ∙ sym (append_assoc p.taken q.taken ((remainder_of (state n)).sequences w));
+      behind = q.behind ∙ ap (λ (s : CodecState). record s { set = set_after s.set q.taken }) p.behind
+          ∙ ap (λ k. record (state c) { set = k }) (sym (set_after-append (state c).set p.taken q.taken));
+      none_malformed = any_malformed-append p.taken q.taken ∙ rw (p.none_malformed, q.none_malformed) refl;
+      fits = omega (arith, ap length both, length-append x y, p.fits, q.fits, room_left before mid x p.written);
+      written = q.written ∙ ap (λ o. appended o y) p.written ∙ appended-appended before x y ∙ ap (appended before) (sym both);
+      none_pending = λ h. elim (cases_lt 0 read) [
+        | inl r ↦ p.none_pending r
+        | inr r ↦ sym (ap (λ (s : CodecState). s.pending) p.behind) ∙ q.none_pending (omega arith)
+      ];
+      none_taken = λ z. ap (λ ss. ss ++ q.taken) (p.none_taken (omega arith)) ∙ q.none_taken (omega arith);
+    }

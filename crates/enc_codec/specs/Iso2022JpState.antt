@@ -86,3 +86,10 @@ shown_char (Some c) len takes_byte next =
     record { text = One c; kind = Valid; len = len; takes_byte = takes_byte; next = next }
 shown_char None len takes_byte next =
     record { text = One 0xFFFD; kind = Malformed; len = len; takes_byte = takes_byte; next = next }
+
+-- An escape sequence comes first, and behind it a byte that begins no other.
+pub record StandsAlone (src : List ℕ) (e : Escape) : Type 0 where
+  pub byte : ℕ
+  pub rest : List ℕ
+  pub bytes : src ≡ escape_bytes e ++ byte ∷ rest
+  pub other : (byte == 0x1B) ≡ false

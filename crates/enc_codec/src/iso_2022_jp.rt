@@ -2,15 +2,16 @@
 
 ghost use Rattle.std.specs.Prelude.{◌≡◌, ℕ, ◌+◌, ◌-◌, ◌≤◌, true, false, Option, IfSome, IfNone, List, [], ◌∷◌, length};
 ghost use Rattle.enc_codec.specs.Iso2022Jp.{set_named, ascii_char as char_in_ascii, roman_char as char_in_roman, katakana_char as char_in_katakana, one_byte_char as char_alone, is_jis0208_byte as in_jis0208, is_lead as begins_pair, two_byte_char};
-ghost use Rattle.enc_codec.specs.Iso2022JpState.{Iso2022JpState, holding, intermediate_byte, escape_bytes, escape_set, held_bytes, CanHold, CutsOff, shown_char, iso_2022_jp_state};
+ghost use Rattle.enc_codec.specs.Iso2022JpState.{Iso2022JpState, holding, intermediate_byte, escape_bytes, escape_set, held_bytes, CanHold, CutsOff, shown_char, StandsAlone, iso_2022_jp_state};
 ghost use Rattle.enc_codec.specs.CodecLaw.{Comes, Acts, IsReady};
+ghost use Rattle.enc_codec.specs.Taking.{TakesRun};
 
 use crate::byte_codec::{ByteCodec, Kind, Shown, Step, Text};
 use crate::decoder_result::DecoderResult;
 use crate::machine::run;
 use crate::raw_decoder::RawDecoder;
 use enc_index::List;
-use enc_units::Units;
+use enc_units::{Pieces, Units};
 use std::marker::Model;
 
 /// A character set that an escape sequence designates.
@@ -255,6 +256,17 @@ fn char_of_pair(lead: u8, byte: u8) -> Option<char>
     List::Jis0208.at((lead as u32 - 0x21) * 94 + (byte as u32 - 0x21))
 }
 
+/// The escape sequence in front, where a byte stands behind it that begins no other.
+fn escape_in_front(src: &[u8]) -> Option<Escape>
+    ensures { IfSome result (λ e. StandsAlone src.now e) }
+{
+    if src.len() < 4 || src[0] != 0x1B || src[3] == 0x1B {
+        return None;
+    }
+    let intermediate = Intermediate::of_byte(src[1])?;
+    Escape::of_bytes(intermediate, src[2])
+}
+
 /// The state in a set with these bytes held.
 fn with_held(set: CharacterSet, held: Option<Held>) -> Iso2022JpDecoder
     requires { CanHold set held }
@@ -466,10 +478,77 @@ fn step_started(
     }
 }
 
+impl Pieces for Iso2022JpDecoder {
+    ghost use Rattle.enc_codec.specs.Iso2022Jp.{set_number, iso_2022_jp_rule};
+    ghost use Rattle.enc_codec.specs.Taking.{IsPiece};
+
+    ghost means = { λ d. IsPiece iso_2022_jp_rule (set_number d.set) };
+
+    #[inline(always)]
+    fn piece(self, src: &[u8], at: usize) -> Option<(char, usize)> {
+        let byte = src[at];
+        if !is_lead(self.set, byte) {
+            let character = one_byte_char(self.set, byte)?;
+            return Some((character, 1));
+        }
+        if at + 1 >= src.len() {
+            return None;
+        }
+        let character = char_of_pair(byte, src[at + 1])?;
+        Some((character, 2))
+    }
+
+    fn has_ascii(self) -> bool {
+        let _set = self.set;
+        false
+    }
+}
+
+impl Iso2022JpDecoder {
+    /// Takes an escape sequence that no other follows directly, with the characters behind it, or nothing where there
+    /// are none.
+    #[inline(always)]
+    fn take_escape<U: Units>(self, src: &[u8], out: &mut U) -> (Iso2022JpDecoder, usize)
+        requires { self.held ≡ Option.None }
+        ensures run { TakesRun U.units_of iso_2022_jp_state self result.0 src.now result.1 (U.output out.old) (U.output out.new) }
+        ensures none_held { result.0.held ≡ Option.None }
+    {
+        let Some(escape) = escape_in_front(src) else {
+            return (self, 0);
+        };
+        let next = with_held(escape.set(), None);
+        let (_, behind) = src.split_at(3);
+        let taken = out.put_pieces(next, behind);
+        if taken == 0 {
+            return (self, 0);
+        }
+        (next, 3 + taken)
+    }
+}
+
 impl ByteCodec for Iso2022JpDecoder {
     ghost use Rattle.enc_codec.specs.Iso2022JpState.{iso_2022_jp_state};
 
     ghost state = { iso_2022_jp_state };
+
+    /// An escape sequence is taken with the characters behind it.
+    #[inline(always)]
+    fn take_run<U: Units>(self, src: &[u8], out: &mut U) -> (Iso2022JpDecoder, usize) {
+        let None = self.held else {
+            return (self, 0);
+        };
+        let mut state = self;
+        let mut read = out.put_pieces(self, src);
+        loop {
+            let (_, rest) = src.split_at(read);
+            let (next, taken) = state.take_escape(rest, out);
+            state = next;
+            read += taken;
+            if taken == 0 {
+                return (state, read);
+            }
+        }
+    }
 
     fn next_step(self, byte: u8) -> Step<Iso2022JpDecoder> {
         match self.held {
