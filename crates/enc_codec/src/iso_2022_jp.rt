@@ -256,6 +256,12 @@ fn char_of_pair(lead: u8, byte: u8) -> Option<char>
     List::Jis0208.at((lead as u32 - 0x21) * 94 + (byte as u32 - 0x21))
 }
 
+/// Whether it pays to look for a run: as in all that is well-formed, no byte of the first four has its high bit set.
+#[inline(always)]
+fn is_seven_bit(src: &[u8]) -> bool {
+    src.len() >= 4 && (src[0] | src[1] | src[2] | src[3]) < 0x80
+}
+
 /// The escape sequence in front, where a byte stands behind it that begins no other.
 fn escape_in_front(src: &[u8]) -> Option<Escape>
     ensures { IfSome result (λ e. StandsAlone src.now e) }
@@ -537,6 +543,9 @@ impl ByteCodec for Iso2022JpDecoder {
         let None = self.held else {
             return (self, 0);
         };
+        if !is_seven_bit(src) {
+            return (self, 0);
+        }
         let mut state = self;
         let mut read = out.put_pieces(self, src);
         loop {

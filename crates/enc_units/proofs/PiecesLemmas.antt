@@ -1,6 +1,7 @@
 -- Pieces one behind another, and put out so.
 use Rattle.std.proofs.Common.{◌≡◌, ℕ, zero, suc, ◌+◌, ◌<◌, ◌≤◌, true, List, [], ◌∷◌, ◌++◌, length, take, drop, refl, ap, ◌∙◌, sym, subst, arith, append_assoc, append-nil, length-append, length-drop, take-add, nat_le, length-take}
 use Rattle.std.proofs.lemmas.Bool.Decides.{nat_tests}
+use Rattle.std.proofs.lemmas.List.{take-take}
 use Rattle.enc_units.specs.Output.{Output, appended, units_of_text}
 use Rattle.enc_units.specs.Validity.{AreAscii}
 use Rattle.enc_units.specs.AsciiRun.{PutsAscii}
@@ -142,17 +143,11 @@ pub same_then : (units_of : ℕ → List ℕ) (Means : List ℕ → ℕ → Type
     → after ≡ mid → PutsPieces units_of Means before mid src n → PutsPieces units_of Means before after src n
 same_then units_of Means before mid after src n e p = subst (λ (o : Output). PutsPieces units_of Means before o src n) (sym e) p
 
-pub take_taken : (n m : ℕ) (xs : List ℕ) → n ≤ m → take n (take m xs) ≡ take n xs
-take_taken zero m xs h = refl
-take_taken (suc n) zero xs h = absurd (omega arith)
-take_taken (suc n) (suc m) [] h = refl
-take_taken (suc n) (suc m) (x ∷ xs) h = ap (λ t. x ∷ t) (take_taken n m xs (omega arith))
-
 reads_wider : (Means : List ℕ → ℕ → Type 0) (src : List ℕ) (m n : ℕ) (text : List ℕ) → Reads Means (take m src) n text → Reads Means src n text
 reads_wider Means src m n text r = record {
   pieces = r.pieces;
   within = omega (arith, r.within, length-take m src);
-  bytes = r.bytes ∙ take_taken n m src (omega (arith, r.within, length-take m src));
+  bytes = r.bytes ∙ take-take n m src (omega (arith, r.within, length-take m src));
   chars = r.chars;
   mean = r.mean;
   none = r.none;

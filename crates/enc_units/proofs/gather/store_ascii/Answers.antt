@@ -1,11 +1,11 @@
 use Rattle.std.proofs.Common.{◌≡◌, ◌++◌, ◌∙◌, ap, subst, arith, take, drop, length, length-take, length-drop}
 use Rattle.enc_units.specs.Validity.{AreAscii}
-use Rattle.enc_units.proofs.PiecesLemmas.{take_taken}
+use Rattle.std.proofs.lemmas.List.{take-take}
 use Rattle.enc_units.proofs.GatherLemmas.{stored_lanes}
 use Rattle.enc_units.proofs.gather.store_ascii.Goals as goal
 
 pub returns-clause-ascii : goal.returns-clause-ascii
-returns-clause-ascii c = subst AreAscii (take_taken _ 16 _ c.ascii_in.ensures.bound) c.ascii_in.ensures.ascii
+returns-clause-ascii c = subst AreAscii (take-take _ 16 _ c.ascii_in.ensures.bound) c.ascii_in.ensures.ascii
 
 pub returns-clause-stored : goal.returns-clause-stored
 returns-clause-stored c =
@@ -13,4 +13,4 @@ returns-clause-stored c =
     let rest = drop c.args.from c.args.src.now in
     let long : length (take 16 rest) ≡ 16 = omega (arith, length-take 16 rest, length-drop c.args.from c.args.src.now) in
     stored_lanes c.args.at n c.args.buffer.now (take 16 rest) (omega arith) (omega (arith, c.ascii_in.ensures.bound))
-    ∙ ap (λ z. take c.args.at c.args.buffer.now ++ z) (take_taken n 16 rest c.ascii_in.ensures.bound)
+    ∙ ap (λ z. take c.args.at c.args.buffer.now ++ z) (take-take n 16 rest c.ascii_in.ensures.bound)
