@@ -3,6 +3,9 @@
 BEGIN = "<!-- scripts/bench writes from here -->"
 END = "<!-- to here -->"
 
+TITLE = "How many times as fast as the crate encoding_rs recode is"
+PICTURE = f"![{TITLE}, for each text](speed.svg)"
+
 BAR = 16
 LEFT = 210
 WIDTH = 760
@@ -39,7 +42,7 @@ class Row:
 def table(rows, programs):
     """The table in Markdown: rates, and recode's by the crate's, and by its own before where that was measured."""
     compared = [program for program in ("encoding_rs", "before") if program in programs]
-    heads = ["Text"] + [f"{program}, MB/s" for program in programs] + [f"recode by {program}" for program in compared]
+    heads = ["Text", *programs] + [f"recode by {program}" for program in compared]
     made = ["| " + " | ".join(heads) + " |", "|---" * len(heads) + "|"]
     for row in rows:
         cells = [row.title] + [row.rate(program) for program in programs]
@@ -55,7 +58,7 @@ def picture(rows):
     height = 40 + (BAR + 8) * len(rows)
     made = [
         f'<svg xmlns="http://www.w3.org/2000/svg" viewBox="0 0 {WIDTH} {height}" role="img">',
-        "<title>How many times as fast as the crate encoding_rs recode is</title>",
+        f"<title>{TITLE}</title>",
         STYLE,
     ]
     for number in range(int(most) + 1):
