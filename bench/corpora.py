@@ -55,10 +55,9 @@ CORPORA = [
     Corpus("Big5, Chinese", ["zh_TW"], "big5", "big5", "big5", "big5"),
     Corpus("EUC-KR, Korean", ["ko"], "euc-kr", "cp949", "cp949", "windows-949"),
 ]
-CORPORA += [
-    Corpus(f"random bytes as {label}", [], label, None)
-    for label in ("UTF-8", "UTF-16LE", "windows-1252", "Shift_JIS", "EUC-JP", "ISO-2022-JP", "gb18030", "Big5", "EUC-KR")
-]
+# Random bytes are decoded as these. Most of them are malformed.
+HOSTILE = ["UTF-8", "UTF-16LE", "windows-1252", "Shift_JIS", "EUC-JP", "ISO-2022-JP", "gb18030", "Big5", "EUC-KR"]
+CORPORA += [Corpus(f"random bytes as {label}", [], label, None) for label in HOSTILE]
 
 
 def unpacked(cache, package):
@@ -66,8 +65,9 @@ def unpacked(cache, package):
     folder = f"{cache}/{package}"
     if not os.path.exists(f"{folder}/version"):
         os.makedirs(folder, exist_ok=True)
-        subprocess.run(["apt-get", "download", package], cwd=folder, check=True, stdout=subprocess.DEVNULL,
-                       stderr=subprocess.DEVNULL)
+        download = f"apt-get download {package}"
+        subprocess.run(["sh", "-c", f"{download} || {{ apt-get update && {download}; }}"], cwd=folder, check=True,
+                       stdout=subprocess.DEVNULL, stderr=subprocess.DEVNULL)
         [archive] = glob.glob(f"{folder}/*.deb")
         subprocess.run(["dpkg-deb", "-x", archive, folder], check=True)
         version = subprocess.run(["dpkg-deb", "-f", archive, "Version"], check=True, capture_output=True).stdout
@@ -125,7 +125,7 @@ def block(cache, corpus):
 
 
 def random_bytes(label, size):
-    """Random bytes. For gb18030 they have no lead of the characters that GB18030-2022 changed: the crate may be older."""
+    """Random bytes. For gb18030 they have no lead of what GB18030-2022 changed, for the crate may be older."""
     data = random.Random(SEED).randbytes(size)
     return data.replace(b"\xA6", b"\xA5").replace(b"\xFE", b"\xFD") if label == "gb18030" else data
 

@@ -1,6 +1,6 @@
-//! `peer FROM`: standard input from an encoding to UTF-8, as `recode FROM utf-8` does it, by the Rust crate encoding_rs.
-//! It has the same buffers: it reads 64 KiB at a time, decodes into 64 KiB, and writes what each call has made. The
-//! status is 0, 1 where something was malformed, and 2 where the label is unknown.
+//! `peer FROM`: standard input from an encoding to UTF-8, as `recode FROM utf-8` does it, by the Rust crate
+//! encoding_rs. It has the same buffers: it reads 64 KiB at a time, decodes into 64 KiB, and writes what each call has
+//! made. The status is 0, 1 where something was malformed, and 2 where the label is unknown.
 use encoding_rs::{CoderResult, Encoding};
 use std::fs::File;
 use std::io::{self, Read, Write};
