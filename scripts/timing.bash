@@ -1,4 +1,4 @@
-# What scripts/bench and scripts/bench-encodings share. Both source it, at the top of the repository.
+# What scripts/bench-encodings measures with. It sources it, at the top of the repository.
 rounds=${1:-$rounds}
 mib=${SIZE:-64}
 export PATH="$PATH:/usr/local/bin"

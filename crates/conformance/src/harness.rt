@@ -370,6 +370,34 @@ fn compare_places(rt: &impl Abort, run: &Run, input: &Input<'_>, room: usize) {
     }
 }
 
+/// One offer of the whole input, with this room for each call, comes to what offers of single bytes come to. With
+/// replacement where it isn't `reporting`.
+pub fn compare_offers(
+    rt: &impl Abort,
+    alloc: Global,
+    (encoding, reporting): (Encoding, bool),
+    input: &Input<'_>,
+    room: usize,
+) -> Result<(), Fail> {
+    let way = Use {
+        encoding,
+        handling: BomHandling::Off,
+        reporting,
+        widens: false,
+    };
+    let whole = run_cut(alloc, way, input.bytes, Cut::At(0), room)?;
+    let single = run_cut(alloc, way, input.bytes, Cut::Everywhere, room)?;
+    compare(rt, &whole, input, room);
+    compare(rt, &single, input, room);
+    assert_eq!(rt;
+        whole.text.as_slice(),
+        single.text.as_slice(),
+        "{encoding:?} {:?} {room}",
+        input.bytes
+    );
+    Ok(())
+}
+
 /// Runs an input through every cut.
 fn compare_each_cut(
     rt: &impl Abort,

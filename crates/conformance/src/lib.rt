@@ -26,6 +26,8 @@ mod indexes;
 #[cfg(test)]
 mod iso_2022_jp;
 #[cfg(test)]
+mod runs;
+#[cfg(test)]
 mod single_byte;
 #[cfg(test)]
 mod single_byte_tables;
