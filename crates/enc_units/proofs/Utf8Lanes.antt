@@ -5,7 +5,7 @@ use Rattle.std.proofs.lemmas.Bool.Decides.{nat_tests}
 use Rattle.std.proofs.lemmas.List.FromFn.{get_or-range_with_len}
 use Rattle.std.proofs.lemmas.Simd.{map-map, mask_l-mod, zip2_of_maps, splat_is_map, pick_l_whole, none_from_empty_mask, get_or-chunk}
 use Rattle.std.specs.List.{range_with_len}
-use lib.Lanes.{zip2, mask_l, top, chunk}
+use lib.Lanes.{zip2, mask_l, top, chunk, sel_l}
 use Rattle.enc_units.specs.Utf8Run.{Follows, FollowsAt}
 
 abbrev places : List ℕ
@@ -70,8 +70,15 @@ at_least n vs long = record { is = zip2_of_maps (λ a b. flag (leb a b)) (λ _. 
 pub below : (n : ℕ) (vs : List ℕ) → length vs ≡ 16 → IsFlags (zip2 (λ a b. flag (ltb a b)) vs (replicate 16 n)) (λ k. ltb (get_or vs k 0) n)
 below n vs long = record { is = zip2_of_maps (λ a b. flag (ltb a b)) (λ k. get_or vs k 0) (λ _. n) places (lanes vs long) (splat_is_map places 16 n refl) }
 
-pub same : (n : ℕ) (vs : List ℕ) → length vs ≡ 16 → IsFlags (zip2 (λ a b. flag (eqb a b)) vs (replicate 16 n)) (λ k. eqb (get_or vs k 0) n)
-same n vs long = record { is = zip2_of_maps (λ a b. flag (eqb a b)) (λ k. get_or vs k 0) (λ _. n) places (lanes vs long) (splat_is_map places 16 n refl) }
+-- and with one of two numbers, chosen in each lane
+
+chosen : {t : ℕ → Bool} {m : List ℕ} (a b : ℕ) → IsFlags m t → sel_l (map (top 7) m) (replicate 16 a) (replicate 16 b) ≡ map (λ k. cond (t k) a b) places
+chosen {t} {m} a b p =
+    ap (λ l. sel_l (map (top 7) l) (replicate 16 a) (replicate 16 b)) p.is ∙ ap (λ (g : ℕ → ℕ). map g places) (λ i k. cond (top_flag (t k) i) a b)
+
+pub same_as : {t : ℕ → Bool} {m : List ℕ} (a b : ℕ) (vs : List ℕ) → length vs ≡ 16 → IsFlags m t
+    → IsFlags (zip2 (λ a b. flag (eqb a b)) vs (sel_l (map (top 7) m) (replicate 16 a) (replicate 16 b))) (λ k. eqb (get_or vs k 0) (cond (t k) a b))
+same_as {t} {m} a b vs long p = record { is = zip2_of_maps (λ a b. flag (eqb a b)) (λ k. get_or vs k 0) (λ k. cond (t k) a b) places (lanes vs long) (chosen a b p) }
 
 -- where no lane is set
 none_set : (m : List ℕ) (t : ℕ → Bool) → IsFlags m t → eqb (mask_l (map (top 7) m) % 2 ^ 64) 0 ≡ true → (k : ℕ) → k < 16 → t k ≡ false
@@ -85,8 +92,8 @@ none_set m t p e k h =
 
 abbrev wrong : ℕ → ℕ → ℕ → ℕ → Bool
 wrong z y x b =
-    ((differ ((leb 0xC0 x || leb 0xE0 y) || leb 0xF0 z) (leb 0x80 b && ltb b 0xC0) || ((leb 0xC0 b && ltb b 0xC2) || leb 0xF5 b))
-    || ((eqb x 0xE0 && ltb b 0xA0) || (eqb x 0xF0 && ltb b 0x90))) || ((eqb x 0xED && leb 0xA0 b) || (eqb x 0xF4 && leb 0x90 b))
+    (differ ((leb 0xC0 x || leb 0xE0 y) || leb 0xF0 z) (leb 0x80 b && ltb b 0xC0) || ((leb 0xC0 b && ltb b 0xC2) || leb 0xF5 b))
+    || (eqb x (cond (leb 0xA0 b) 0xED 0xE0) || eqb x (cond (leb 0x90 b) 0xF4 0xF0))
 
 neither : (t u : Bool) → (t || u) ≡ false → (t ≡ false) × (u ≡ false)
 neither true u e = absurd (true≢false e)
@@ -102,16 +109,14 @@ or_true true u e = refl
 or_true false u e = e
 
 module _ (z y x b : ℕ) (e : wrong z y x b ≡ false) where
-  parts : (((leb 0xC0 x || leb 0xE0 y) || leb 0xF0 z) ≡ (leb 0x80 b && ltb b 0xC0)) × ((leb 0xC0 b && ltb b 0xC2) ≡ false) × (leb 0xF5 b ≡ false) × ((eqb x 0xE0 && ltb b 0xA0) ≡ false)
-      × ((eqb x 0xF0 && ltb b 0x90) ≡ false) × ((eqb x 0xED && leb 0xA0 b) ≡ false) × ((eqb x 0xF4 && leb 0x90 b) ≡ false)
+  parts : (((leb 0xC0 x || leb 0xE0 y) || leb 0xF0 z) ≡ (leb 0x80 b && ltb b 0xC0)) × ((leb 0xC0 b && ltb b 0xC2) ≡ false) × (leb 0xF5 b ≡ false)
+      × (eqb x (cond (leb 0xA0 b) 0xED 0xE0) ≡ false) × (eqb x (cond (leb 0x90 b) 0xF4 0xF0) ≡ false)
   parts =
       let l = neither _ _ e in
       let m = neither _ _ l.0 in
-      let n = neither _ _ m.0 in
-      let s = neither _ _ n.1 in
-      let o = neither _ _ m.1 in
-      let u = neither _ _ l.1 in
-      (alike _ _ n.0, s.0, s.1, o.0, o.1, u.0, u.1)
+      let n = neither _ _ m.1 in
+      let o = neither _ _ l.1 in
+      (alike _ _ m.0, n.0, n.1, o.0, o.1)
 
   continues : (leb 0x80 b && ltb b 0xC0) ≡ true → (0x80 ≤ b) × (b < 0xC0)
   continues h = let p = and_parts _ _ h in (leb-true _ _ p.0, ltb-true _ _ p.1)
@@ -123,9 +128,9 @@ module _ (z y x b : ℕ) (e : wrong z y x b ≡ false) where
     behind_third = λ h. continues (sym parts.0 ∙ or_true (leb 0xC0 x || leb 0xE0 y) (leb 0xF0 z) (le-leb 0xF0 z h));
     begins = λ f g h. let p = parts in grind (arith, nat_tests);
     behind_0xe0 = λ h. let p = parts.3 in grind (arith, nat_tests);
-    behind_0xed = λ h. let p = parts.5 in grind (arith, nat_tests);
+    behind_0xed = λ h. let p = parts.3 in grind (arith, nat_tests);
     behind_0xf0 = λ h. let p = parts.4 in grind (arith, nat_tests);
-    behind_0xf4 = λ h. let p = parts.6 in grind (arith, nat_tests);
+    behind_0xf4 = λ h. let p = parts.4 in grind (arith, nat_tests);
   }
 
 module _ (zs ys xs bs : List ℕ) (lz : length zs ≡ 16) (ly : length ys ≡ 16) (lx : length xs ≡ 16) (lb : length bs ≡ 16) where
@@ -133,11 +138,9 @@ module _ (zs ys xs bs : List ℕ) (lz : length zs ≡ 16) (ly : length ys ≡ 16
   flags = (
     _,
     either
-        (either
         (either (unequal (either (either (at_least 0xC0 xs lx) (at_least 0xE0 ys ly)) (at_least 0xF0 zs lz)) (both (at_least 0x80 bs lb) (below 0xC0 bs lb)))
         (either (both (at_least 0xC0 bs lb) (below 0xC2 bs lb)) (at_least 0xF5 bs lb)))
-        (either (both (same 0xE0 xs lx) (below 0xA0 bs lb)) (both (same 0xF0 xs lx) (below 0x90 bs lb))))
-        (either (both (same 0xED xs lx) (at_least 0xA0 bs lb)) (both (same 0xF4 xs lx) (at_least 0x90 bs lb))),
+        (either (same_as 0xED 0xE0 xs lx (at_least 0xA0 bs lb)) (same_as 0xF4 0xF0 xs lx (at_least 0x90 bs lb))),
   )
 
   pub lanes_follow : eqb (mask_l (map (top 7) flags.0) % 2 ^ 64) 0 ≡ true → (k : ℕ) → k < 16 → Follows (get_or zs k 0) (get_or ys k 0) (get_or xs k 0) (get_or bs k 0)

@@ -87,11 +87,14 @@ fn follow(third: u8x16, second: u8x16, first: u8x16, bytes: u8x16) -> bool
     let continues = bytes.simd_ge(u8x16::splat(0x80)) & bytes.simd_lt(u8x16::splat(0xC0));
     let never = bytes.simd_ge(u8x16::splat(0xC0)) & bytes.simd_lt(u8x16::splat(0xC2))
         | bytes.simd_ge(u8x16::splat(0xF5));
-    let overlong = first.simd_eq(u8x16::splat(0xE0)) & bytes.simd_lt(u8x16::splat(0xA0))
-        | first.simd_eq(u8x16::splat(0xF0)) & bytes.simd_lt(u8x16::splat(0x90));
-    let beyond = first.simd_eq(u8x16::splat(0xED)) & bytes.simd_ge(u8x16::splat(0xA0))
-        | first.simd_eq(u8x16::splat(0xF4)) & bytes.simd_ge(u8x16::splat(0x90));
-    ((wanted ^ continues) | never | overlong | beyond).to_bitmask() == 0
+    let three = bytes
+        .simd_ge(u8x16::splat(0xA0))
+        .select(u8x16::splat(0xED), u8x16::splat(0xE0));
+    let four = bytes
+        .simd_ge(u8x16::splat(0x90))
+        .select(u8x16::splat(0xF4), u8x16::splat(0xF0));
+    let outside = first.simd_eq(three) | first.simd_eq(four);
+    ((wanted ^ continues) | never | outside).to_bitmask() == 0
 }
 
 /// Whether the sixteen bytes behind three may follow.
@@ -108,13 +111,25 @@ fn block_follows(src: &[u8], at: usize) -> bool
     )
 }
 
+/// Whether the 64 bytes behind three may follow.
+#[inline(always)]
+fn four_blocks_follow(src: &[u8], at: usize) -> bool
+    requires { at + 67 ≤ length src.now }
+    ensures { IsTrue result → (k : ℕ) → at ≤ k → k < at + 64 → FollowsAt src.now k }
+{
+    block_follows(src, at)
+        && block_follows(src, at + 16)
+        && block_follows(src, at + 32)
+        && block_follows(src, at + 48)
+}
+
 /// Whether the 64 bytes behind three are ASCII, and nothing else is wanted there.
 #[inline(always)]
 fn ascii_follows(src: &[u8], at: usize) -> bool
     requires { at + 67 ≤ length src.now }
     ensures { IsTrue result → (k : ℕ) → at ≤ k → k < at + 64 → FollowsAt src.now k }
 {
-    is_between(src, at) && are_all_ascii(u8x64::from_slice(&src[at + 3..]))
+    are_all_ascii(u8x64::from_slice(&src[at + 3..])) && is_between(src, at)
 }
 
 /// How many bytes behind the first three are seen in blocks to follow.
@@ -125,14 +140,14 @@ fn following(src: &[u8]) -> usize
     ensures follow { (k : ℕ) → k < result → FollowsAt src.now k }
 {
     let mut at = 0;
-    while 19 <= src.len() - at {
-        if 67 <= src.len() - at && ascii_follows(src, at) {
-            at += 64;
-        } else if block_follows(src, at) {
-            at += 16;
-        } else {
+    while 67 <= src.len() - at {
+        if !ascii_follows(src, at) && !four_blocks_follow(src, at) {
             break;
         }
+        at += 64;
+    }
+    while 19 <= src.len() - at && block_follows(src, at) {
+        at += 16;
     }
     at
 }

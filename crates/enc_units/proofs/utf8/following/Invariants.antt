@@ -7,3 +7,9 @@ invariant-loop-at l = (l.at + 3 ≤ length l.src) × ((k : ℕ) → k < l.at →
 
 abbrev pub decreases-loop-at : goal.decreases-loop-at
 decreases-loop-at l = length l.src - l.at
+
+abbrev pub invariant-loop-at-2 : goal.invariant-loop-at-2
+invariant-loop-at-2 l = (l.at + 3 ≤ length l.src) × ((k : ℕ) → k < l.at → FollowsAt l.src k)
+
+abbrev pub decreases-loop-at-2 : goal.decreases-loop-at-2
+decreases-loop-at-2 l = length l.src - l.at
