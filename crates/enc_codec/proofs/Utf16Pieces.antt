@@ -1,5 +1,5 @@
 -- Code units of UTF-16 that are no surrogates, and surrogate pairs, are pieces.
-use Rattle.std.proofs.Common.{◌≡◌, ℕ, Bool, true, false, List, [], ◌∷◌}
+use Rattle.std.proofs.Common.{◌≡◌, ℕ, Bool, true, false, [], ◌∷◌}
 use Rattle.enc_codec.specs.Utf16.{code_unit, is_lead, is_trail, pair_scalar, utf_16_rule}
 use Rattle.enc_codec.specs.Taking.{IsPiece}
 use Rattle.enc_codec.proofs.SegmentationLemmas.{sequences_of-head}

@@ -53,3 +53,8 @@ pub record IsReading (reading : List ℕ → Reading) : Type 0 where
 -- an ASCII byte is its own character
 abbrev pub HasAscii : (List ℕ → Reading) → Type 0
 HasAscii reading = (b : ℕ) → b < 0x80 → reading (b ∷ []) ≡ Whole (One b)
+
+-- two bytes are a character, and the first of them is none by itself
+pub record IsPair (reading : List ℕ → Reading) (lead b c : ℕ) : Type 0 where
+  pub first : reading (lead ∷ []) ≡ Unfinished
+  pub both : reading (lead ∷ b ∷ []) ≡ Whole (One c)

@@ -98,6 +98,17 @@ impl<D: DoubleByte> MultiByte for Double<D> {
         }
     }
 
+    #[inline(always)]
+    fn pair_char(lead: u8, byte: u8) -> Option<char> {
+        if !D::is_lead(lead) {
+            return None;
+        }
+        match D::pair(lead, byte) {
+            Some(Text::One(character)) => Some(character),
+            _ => None,
+        }
+    }
+
     fn laws() {
         D::laws();
     }

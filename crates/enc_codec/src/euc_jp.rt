@@ -105,6 +105,11 @@ impl MultiByte for EucJp {
         }
     }
 
+    #[inline(always)]
+    fn pair_char(lead: u8, byte: u8) -> Option<char> {
+        pair(lead, byte)
+    }
+
     fn laws() {}
 
     fn ascii() {}

@@ -140,6 +140,14 @@ impl MultiByte for Gb18030 {
         }
     }
 
+    #[inline(always)]
+    fn pair_char(lead: u8, byte: u8) -> Option<char> {
+        if !is_lead(lead) {
+            return None;
+        }
+        pair(lead, byte)
+    }
+
     fn laws() {}
 
     fn ascii() {}

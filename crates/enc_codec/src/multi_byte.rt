@@ -3,7 +3,7 @@
 ghost use Rattle.std.specs.Prelude.{◌≡◌, ℕ, ◌+◌, ◌<◌, List, [], ◌∷◌, ◌++◌, length, true, false, Some, IfSome, IsNone};
 ghost use Rattle.enc_codec.specs.Pending.{pending_bytes};
 ghost use Rattle.enc_codec.specs.CodecLaw.{Acts, IsReady, IsAtEnd};
-ghost use Rattle.enc_codec.specs.MultiByte.{multi_byte_state, AreUnfinished, IsReading, HasAscii};
+ghost use Rattle.enc_codec.specs.MultiByte.{multi_byte_state, AreUnfinished, IsReading, HasAscii, IsPair};
 
 use crate::byte_codec::{ByteCodec, Kind, Shown, Step, Text};
 use crate::decoder_result::DecoderResult;
@@ -35,6 +35,11 @@ pub trait MultiByte: Copy {
     fn read(pending: Pending, byte: u8) -> Reading
         requires { AreUnfinished reading [] (pending_bytes pending) }
         ensures { result ≡ reading (pending_bytes pending ++ byte ∷ []) };
+
+    /// The character of two bytes, of which the first is none by itself: what `read` tells of one and then the other,
+    /// without a reading between. `None` where they are no character or two, or where it isn't known.
+    fn pair_char(lead: u8, byte: u8) -> Option<char>
+        ensures { IfSome result (λ c. IsPair reading lead byte c) };
 
     /// What holds of all bytes in front. A call does nothing.
     fn laws()
@@ -172,14 +177,13 @@ impl<E: MultiByte> Pieces for MultiByteDecoder<E> {
     #[inline(always)]
     fn piece(self, src: &[u8], at: usize) -> Option<(char, usize)> {
         let lead = src[at];
+        if at + 1 < src.len() {
+            if let Some(character) = E::pair_char(lead, src[at + 1]) {
+                return Some((character, 2));
+            }
+        }
         match E::read(Pending::Nothing, lead) {
             Reading::Whole(Text::One(character)) => Some((character, 1)),
-            Reading::Unfinished if at + 1 < src.len() => {
-                match E::read(Pending::One(lead), src[at + 1]) {
-                    Reading::Whole(Text::One(character)) => Some((character, 2)),
-                    _ => None,
-                }
-            }
             _ => None,
         }
     }
