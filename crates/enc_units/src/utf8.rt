@@ -10,7 +10,7 @@ use std::simd::prelude::*;
 /// How many bytes the well-formed sequence in front of some has, 0 where none is shown to stand there (Unicode
 /// Standard 3.9, table 3-7).
 #[inline(always)]
-fn char_len(src: &[u8]) -> usize
+pub fn char_len(src: &[u8]) -> usize
     ensures within { result ≤ length src.now }
     ensures utf8 { IsWellFormedUtf8 (take result src.now) }
 {
