@@ -1,6 +1,6 @@
 -- Lanes of ASCII bytes.
 use Rattle.std.proofs.Common.{◌≡◌, ℕ, zero, suc, ◌+◌, ◌%◌, ◌^◌, ◌<◌, Bool, true, false, cond, eqb, leb, List, [], ◌∷◌, map, length, get_or, replicate, take, drop, refl, ap, ◌∙◌, sym, subst, arith, eqb-true, leb-false, take-add, drop-cons, append_assoc, drop-drop, length-append, length-take, length-drop, ◌++◌, ◌≤◌}
-use Rattle.std.proofs.lemmas.List.{length-map, take_more}
+use Rattle.std.proofs.lemmas.List.{length-take-le, length-map, take_more}
 use Rattle.std.proofs.lemmas.List.Elements.{All-append}
 use Rattle.std.proofs.Math.Seq.{take-append_seam, drop-append_seam, set-append_seam}
 use Rattle.std.proofs.Math.ListN.{set}
@@ -38,9 +38,6 @@ pub ascii_one : (i : ℕ) (xs : List ℕ) → AreAscii (take i xs) → i < lengt
 ascii_one i xs a h b =
     subst AreAscii (sym (take_more xs i 0 h)) (All-append (λ b. b < 0x80) (take i xs) (get_or xs i 0 ∷ []) a (one_ascii (get_or xs i 0) b))
 
-taken : (i : ℕ) (xs : List ℕ) → i ≤ length xs → length (take i xs) ≡ i
-taken i xs h = omega (arith, length-take i xs)
-
 at_seam : (a b ys : List ℕ) → length ys ≤ length b → put_chunk (length a) (a ++ b) ys ≡ a ++ (ys ++ drop (length ys) b)
 at_seam a b ys h =
     put_chunk_is (length a) (a ++ b) ys (omega (arith, length-append a b))
@@ -53,7 +50,7 @@ pub copied_more : (i n : ℕ) (src dst old : List ℕ) → i + n ≤ length src 
 copied_more i n src dst old h k e =
     let ys = take n (drop i src) in
     let long : length ys ≡ n = omega (arith, length-take n (drop i src), length-drop i src) in
-    ap (λ x. put_chunk i x ys) e ∙ ap (λ m. put_chunk m (take i src ++ drop i old) ys) (sym (taken i src (omega arith)))
+    ap (λ x. put_chunk i x ys) e ∙ ap (λ m. put_chunk m (take i src ++ drop i old) ys) (sym (length-take-le i src (omega arith)))
     ∙ at_seam (take i src) (drop i old) ys (omega (arith, long, length-drop i old))
     ∙ sym (append_assoc (take i src) ys (drop (length ys) (drop i old)))
     ∙ ap (λ x. x ++ drop (length ys) (drop i old)) (sym (take-add i n src))
@@ -64,7 +61,7 @@ pub copied_one : (i : ℕ) (src dst old : List ℕ) → i < length src → i < l
 copied_one i src dst old h k e =
     let b = get_or src i 0 in
     ap (λ x. set x i b) (e ∙ ap (λ x. take i src ++ x) (drop-cons old i 0 k))
-    ∙ ap (λ m. set (take i src ++ get_or old i 0 ∷ drop (suc i) old) m b) (sym (taken i src (omega arith)))
+    ∙ ap (λ m. set (take i src ++ get_or old i 0 ∷ drop (suc i) old) m b) (sym (length-take-le i src (omega arith)))
     ∙ set-append_seam (take i src) (get_or old i 0) (drop (suc i) old) b
     ∙ sym (append_assoc (take i src) (b ∷ []) (drop (suc i) old))
     ∙ ap (λ x. x ++ drop (suc i) old) (sym (take_more src i 0 h))

@@ -1,7 +1,7 @@
 -- What is gathered one behind another.
 use Rattle.std.proofs.Common.{◌≡◌, ℕ, zero, suc, ◌+◌, ◌/◌, ◌%◌, ◌^◌, ◌<◌, ◌≤◌, Bool, true, false, not, cond, eqb, leb, List, [], ◌∷◌, ◌++◌, map, length, get_or, replicate, take, drop, refl, ap, ◌∙◌, sym, subst, arith, append_assoc, append-nil, length-take, length-drop, take-add, drop-cons, inl, inr}
 use Rattle.std.proofs.lemmas.Bool.{not-true, not-false, leb-true, leb-false, eq-eqb, ne_eqb, lt-ltb, le-ltb, cases_lt}
-use Rattle.std.proofs.lemmas.List.{length-map, get_or-take}
+use Rattle.std.proofs.lemmas.List.{length-take-le, length-map, get_or-take}
 use Rattle.std.proofs.lemmas.List.Sums.{prefix_len_passes, prefix_len_stops, prefix_len-le-length}
 use Rattle.std.proofs.lemmas.Simd.{map-map, mask_l-mod, put_chunk_is, zip2_splat_left, first_set_mask_l, length-replicate, get_or-replicate}
 use Rattle.std.proofs.Math.Seq.{take-append_seam, drop-append_seam}
@@ -84,14 +84,11 @@ take_front zero ys zs h = refl
 take_front (suc n) [] zs h = absurd (omega arith)
 take_front (suc n) (y ∷ ys) zs h = ap (λ t. y ∷ t) (take_front n ys zs (omega arith))
 
-taken : (i : ℕ) (xs : List ℕ) → i ≤ length xs → length (take i xs) ≡ i
-taken i xs h = omega (arith, length-take i xs)
-
 -- the first of what is stored
 pub stored_front : (at n : ℕ) (old ys zs : List ℕ) → at ≤ length old → n ≤ length ys → take (at + n) (take at old ++ (ys ++ zs)) ≡ take at old ++ take n ys
 stored_front at n old ys zs h k =
     let xs = take at old ++ (ys ++ zs) in
-    let long = taken at old h in
+    let long = length-take-le at old h in
     take-add at n xs
     ∙ ap (λ z. z ++ take n (drop at xs)) (ap (λ m. take m xs) (sym long) ∙ take-append_seam (take at old) (ys ++ zs))
     ∙ ap (λ z. take at old ++ take n z) (ap (λ m. drop m xs) (sym long) ∙ drop-append_seam (take at old) (ys ++ zs))

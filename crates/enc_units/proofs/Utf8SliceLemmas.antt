@@ -7,8 +7,9 @@ use Rattle.std.proofs.Math.Seq.{take-append_seam, drop-append_seam}
 use Rattle.std.specs.Borrow.{GName}
 use Rattle.std.specs.Char.{encode_utf8}
 use borrow.Rule.Slice.PartMut.{put_mid}
-use Rattle.enc_units.specs.Output.{Output, appended, units_of_text}
+use Rattle.enc_units.specs.Output.{appended, units_of_text, slice_output}
 use Rattle.enc_units.specs.Validity.{AreAscii}
+use Rattle.enc_units.proofs.OutputLemmas.{same_output}
 
 -- ASCII bytes are their own code units
 pub ascii_units : (bs : List ℕ) → AreAscii bs → units_of_text encode_utf8 bs ≡ bs
@@ -20,10 +21,6 @@ seam_take m x y e = ap (λ k. take k (x ++ y)) (sym e) ∙ take-append_seam x y
 
 pub seam_drop : (m : ℕ) (x y : List ℕ) → length x ≡ m → drop m (x ++ y) ≡ y
 seam_drop m x y e = ap (λ k. drop k (x ++ y)) (sym e) ∙ drop-append_seam x y
-
-pub same_output : {w w' : List ℕ} {r r' : ℕ} {b b' : List ℕ} (n : GName) → w ≡ w' → r ≡ r' → b ≡ b'
-    → (let x : Output = record { written = w; room = r; behind = b; borrow = n } in let y : Output = record { written = w'; room = r'; behind = b'; borrow = n } in x ≡ y)
-same_output n e₁ e₂ e₃ = cc
 
 module _ (len n : ℕ) (dst src new : List ℕ) (borrow : GName) (within : len ≤ length dst) (read : n ≤ length src) (room : n ≤ length dst - len)
     (copied : new ≡ take n src ++ drop n (take (length dst - len) (drop len dst))) where
@@ -37,8 +34,7 @@ module _ (len n : ℕ) (dst src new : List ℕ) (borrow : GName) (within : len �
   long = omega (arith, length-append (take len dst) (take n src), length-take len dst, length-take n src)
 
   -- the slice once bytes are copied behind those written
-  pub grown : (let x : Output = record { written = take (len + n) (put_mid len (length dst - len) dst new); room = length (put_mid len (length dst - len) dst new) - (len + n); behind = drop (len + n) (put_mid len (length dst - len) dst new); borrow = borrow } in
-      let y : Output = record { written = take len dst; room = length dst - len; behind = drop len dst; borrow = borrow } in x ≡ appended y (take n src))
+  pub grown : slice_output (len + n) (put_mid len (length dst - len) dst new) borrow ≡ appended (slice_output len dst borrow) (take n src)
   grown = same_output borrow
       (ap (take (len + n)) whole ∙ seam_take (len + n) (take len dst ++ take n src) (drop n (drop len dst)) long)
       (omega (arith, ap length whole, length-append (take len dst ++ take n src) (drop n (drop len dst)), long, length-drop n (drop len dst), length-drop len dst, length-take n src))
@@ -54,9 +50,7 @@ module _ (len n : ℕ) (dst ys : List ℕ) (borrow : GName) (within : len + n �
   put_long : length (take len dst ++ ys) ≡ len + n
   put_long = omega (arith, length-append (take len dst) ys, length-take len dst)
 
-  pub grown_by : (let w = put_mid len (len + n - len) dst ys in
-      let x : Output = record { written = take (len + n) w; room = length w - (len + n); behind = drop (len + n) w; borrow = borrow } in
-      let y : Output = record { written = take len dst; room = length dst - len; behind = drop len dst; borrow = borrow } in x ≡ appended y ys)
+  pub grown_by : slice_output (len + n) (put_mid len (len + n - len) dst ys) borrow ≡ appended (slice_output len dst borrow) ys
   grown_by = same_output borrow
       (ap (take (len + n)) put_whole ∙ seam_take (len + n) (take len dst ++ ys) (drop n (drop len dst)) put_long)
       (omega (arith, ap length put_whole, length-append (take len dst ++ ys) (drop n (drop len dst)), put_long, length-drop n (drop len dst), length-drop len dst))
