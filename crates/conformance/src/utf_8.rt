@@ -3,7 +3,7 @@
 use crate::harness::{
     Call, Input, ReportingCall, compare_cuts, make_calls, make_reporting_calls, malformed, valid,
 };
-use enc_codec::plain::decode_utf_8;
+use enc_utf::plain::decode_utf_8;
 use encoding_rs::{CoderResult, DecoderResult, UTF_8};
 use std::alloc::Global;
 use std::process::Abort;

@@ -3,19 +3,19 @@ use Rattle.std.specs.Prelude.{true, false, []}
 use Rattle.enc_codec.specs.declared.codec.Codec.{Codec}
 use Rattle.enc_codec.specs.declared.codec.Codec.TheVariants.{Utf8, Utf16Be, Utf16Le, SingleByte, Big5, EucKr, ShiftJis, EucJp, Gbk, Gb18030, Iso2022Jp, XUserDefined, Replacement}
 use Rattle.enc_index.specs.Lists.{single_byte_runs}
-use Rattle.enc_codec.specs.Segmentation.{Rule}
-use Rattle.enc_codec.specs.CodecState.{CodecState}
-use Rattle.enc_codec.specs.Utf8.{utf_8_rule}
-use Rattle.enc_codec.specs.Utf16.{utf_16_rule}
-use Rattle.enc_codec.specs.OneByte.{one_byte_rule, single_byte_char, x_user_defined_char}
-use Rattle.enc_codec.specs.MultiByte.{multi_byte_rule}
-use Rattle.enc_codec.specs.Big5.{big5_reading}
-use Rattle.enc_codec.specs.EucKr.{euc_kr_reading}
-use Rattle.enc_codec.specs.ShiftJis.{shift_jis_reading}
-use Rattle.enc_codec.specs.EucJp.{euc_jp_reading}
-use Rattle.enc_codec.specs.Gb18030.{gb18030_reading}
-use Rattle.enc_codec.specs.Replacement.{replacement_rule}
-use Rattle.enc_codec.specs.Iso2022Jp.{iso_2022_jp_rule}
+use Rattle.enc_machine.specs.Segmentation.{Rule}
+use Rattle.enc_machine.specs.CodecState.{CodecState}
+use Rattle.enc_utf.specs.Utf8.{utf_8_rule}
+use Rattle.enc_utf.specs.Utf16.{utf_16_rule}
+use Rattle.enc_single_byte.specs.OneByte.{one_byte_rule, single_byte_char, x_user_defined_char}
+use Rattle.enc_multi_byte.specs.MultiByte.{multi_byte_rule}
+use Rattle.enc_multi_byte.specs.Big5.{big5_reading}
+use Rattle.enc_multi_byte.specs.EucKr.{euc_kr_reading}
+use Rattle.enc_multi_byte.specs.ShiftJis.{shift_jis_reading}
+use Rattle.enc_multi_byte.specs.EucJp.{euc_jp_reading}
+use Rattle.enc_multi_byte.specs.Gb18030.{gb18030_reading}
+use Rattle.enc_single_byte.specs.Replacement.{replacement_rule}
+use Rattle.enc_iso_2022_jp.specs.Iso2022Jp.{iso_2022_jp_rule}
 
 abbrev pub codec_rule : Codec → Rule
 codec_rule Utf8 = utf_8_rule

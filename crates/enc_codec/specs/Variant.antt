@@ -1,20 +1,20 @@
 -- The state of a decoder of any encoding.
 use Rattle.enc_codec.specs.declared.variant.VariantDecoder.{VariantDecoder}
 use Rattle.enc_codec.specs.declared.variant.VariantDecoder.TheVariants.{Utf8, Utf16, SingleByte, Big5, EucKr, ShiftJis, EucJp, Gb18030, Iso2022Jp, XUserDefined, Replacement}
-use Rattle.enc_codec.specs.CodecState.{CodecState}
-use Rattle.enc_codec.specs.Utf8State.{utf_8_state}
-use Rattle.enc_codec.specs.Utf16State.{utf_16_state}
+use Rattle.enc_machine.specs.CodecState.{CodecState}
+use Rattle.enc_utf.specs.Utf8State.{utf_8_state}
+use Rattle.enc_utf.specs.Utf16State.{utf_16_state}
 use Rattle.enc_index.specs.Lists.{single_byte_runs}
-use Rattle.enc_codec.specs.OneByteState.{single_byte_state, x_user_defined_state}
-use Rattle.enc_codec.specs.Pending.{pending_bytes}
-use Rattle.enc_codec.specs.MultiByte.{multi_byte_state}
-use Rattle.enc_codec.specs.Big5.{big5_reading}
-use Rattle.enc_codec.specs.EucKr.{euc_kr_reading}
-use Rattle.enc_codec.specs.ShiftJis.{shift_jis_reading}
-use Rattle.enc_codec.specs.EucJp.{euc_jp_reading}
-use Rattle.enc_codec.specs.Gb18030.{gb18030_reading}
-use Rattle.enc_codec.specs.Replacement.{replacement_state}
-use Rattle.enc_codec.specs.Iso2022JpState.{iso_2022_jp_state}
+use Rattle.enc_single_byte.specs.OneByteState.{single_byte_state, x_user_defined_state}
+use Rattle.enc_machine.specs.Pending.{pending_bytes}
+use Rattle.enc_multi_byte.specs.MultiByte.{multi_byte_state}
+use Rattle.enc_multi_byte.specs.Big5.{big5_reading}
+use Rattle.enc_multi_byte.specs.EucKr.{euc_kr_reading}
+use Rattle.enc_multi_byte.specs.ShiftJis.{shift_jis_reading}
+use Rattle.enc_multi_byte.specs.EucJp.{euc_jp_reading}
+use Rattle.enc_multi_byte.specs.Gb18030.{gb18030_reading}
+use Rattle.enc_single_byte.specs.Replacement.{replacement_state}
+use Rattle.enc_iso_2022_jp.specs.Iso2022JpState.{iso_2022_jp_state}
 
 abbrev pub variant_state : VariantDecoder → CodecState
 variant_state (Utf8 d) = utf_8_state d

@@ -4,19 +4,12 @@ ghost use Rattle.std.specs.Prelude.{◌≡◌};
 ghost use Rattle.enc_codec.specs.Codecs.{codec_rule, fresh_state};
 ghost use Rattle.enc_codec.specs.Variant.{variant_state};
 
-use crate::big5::Big5Decoder;
-use crate::euc_jp::EucJpDecoder;
-use crate::euc_kr::EucKrDecoder;
-use crate::gb18030::Gb18030Decoder;
-use crate::iso_2022_jp::Iso2022JpDecoder;
-use crate::replacement::ReplacementDecoder;
-use crate::shift_jis::ShiftJisDecoder;
-use crate::single_byte::SingleByteDecoder;
-use crate::utf_8::Utf8Decoder;
-use crate::utf_16::Utf16Decoder;
 use crate::variant::VariantDecoder;
-use crate::x_user_defined::XUserDefinedDecoder;
 use enc_index::SingleByteIndex;
+use enc_iso_2022_jp::Iso2022JpDecoder;
+use enc_multi_byte::{Big5Decoder, EucJpDecoder, EucKrDecoder, Gb18030Decoder, ShiftJisDecoder};
+use enc_single_byte::{ReplacementDecoder, SingleByteDecoder, XUserDefinedDecoder};
+use enc_utf::{Utf8Decoder, Utf16Decoder};
 
 /// The codec of an encoding, by name; that of a legacy single-byte encoding with its index.
 #[derive(Clone, Copy)]

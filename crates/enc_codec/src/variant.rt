@@ -1,19 +1,11 @@
 //! One decoder of any encoding.
 
-use crate::big5::Big5Decoder;
-use crate::decoder_result::DecoderResult;
-use crate::euc_jp::EucJpDecoder;
-use crate::euc_kr::EucKrDecoder;
-use crate::gb18030::Gb18030Decoder;
-use crate::iso_2022_jp::Iso2022JpDecoder;
-use crate::raw_decoder::RawDecoder;
-use crate::replacement::ReplacementDecoder;
-use crate::shift_jis::ShiftJisDecoder;
-use crate::single_byte::SingleByteDecoder;
-use crate::utf_8::Utf8Decoder;
-use crate::utf_16::Utf16Decoder;
-use crate::x_user_defined::XUserDefinedDecoder;
+use enc_iso_2022_jp::Iso2022JpDecoder;
+use enc_machine::{DecoderResult, RawDecoder};
+use enc_multi_byte::{Big5Decoder, EucJpDecoder, EucKrDecoder, Gb18030Decoder, ShiftJisDecoder};
+use enc_single_byte::{ReplacementDecoder, SingleByteDecoder, XUserDefinedDecoder};
 use enc_units::Units;
+use enc_utf::{Utf8Decoder, Utf16Decoder};
 
 /// A decoder of any encoding. It is what the decoder in it is.
 #[derive(Clone, Copy)]

@@ -7,16 +7,16 @@ use Rattle.std.proofs.Math.Seq.{take-add, take-length, drop-append_seam}
 use Rattle.encoding_rs.specs.declared.encoding.Encoding.{Encoding}
 use Rattle.encoding_rs.specs.declared.life_cycle.LifeCycle.{LifeCycle}
 use Rattle.encoding_rs.specs.declared.life_cycle.LifeCycle.TheVariants.{AtStart, Converting, Finished}
-use Rattle.enc_codec.specs.declared.decoder_result.DecoderResult.{DecoderResult}
-use Rattle.enc_codec.specs.declared.decoder_result.DecoderResult.TheVariants.{InputEmpty, OutputFull, Malformed}
+use Rattle.enc_machine.specs.declared.decoder_result.DecoderResult.{DecoderResult}
+use Rattle.enc_machine.specs.declared.decoder_result.DecoderResult.TheVariants.{InputEmpty, OutputFull, Malformed}
 use Rattle.enc_units.specs.Output.{Output}
-use Rattle.enc_codec.specs.Sequence.{Sequence, bytes_of, set_after}
-use Rattle.enc_codec.specs.Segmentation.{sequences_of}
-use Rattle.enc_codec.specs.CodecState.{CodecState}
-use Rattle.enc_codec.specs.Remainder.{AreBytes, Begins, Determines}
-use Rattle.enc_codec.specs.Call.{Call, Treatment, is_end}
-use Rattle.enc_codec.proofs.SegmentationLemmas.{sequences_of-nil}
-use Rattle.enc_codec.proofs.ByteLemmas.{bytes-drop, determines_by_more}
+use Rattle.enc_machine.specs.Sequence.{Sequence, bytes_of, set_after}
+use Rattle.enc_machine.specs.Segmentation.{sequences_of}
+use Rattle.enc_machine.specs.CodecState.{CodecState}
+use Rattle.enc_machine.specs.Remainder.{AreBytes, Begins, Determines}
+use Rattle.enc_machine.specs.Call.{Call, Treatment, is_end}
+use Rattle.enc_machine.proofs.SegmentationLemmas.{sequences_of-nil}
+use Rattle.enc_machine.proofs.ByteLemmas.{bytes-drop, determines_by_more}
 use Rattle.enc_units.proofs.OutputLemmas.{appended-nil}
 use Rattle.encoding_rs.specs.Encodings.{rule_of}
 use Rattle.encoding_rs.specs.Bom.{sequences_by}

@@ -4,17 +4,17 @@ use Rattle.std.proofs.lemmas.Bool.{false≢true}
 use Rattle.std.proofs.lemmas.Bool.Decides.{nat_tests, leb_tells}
 use Rattle.std.proofs.lemmas.List.{append-nil, length-append}
 use Rattle.std.proofs.Math.ListN.{drop_of_length-le, length-take}
-use Rattle.enc_codec.specs.declared.byte_codec.Kind.{Kind}
-use Rattle.enc_codec.specs.declared.byte_codec.Kind.TheVariants as kind
-use Rattle.enc_codec.specs.declared.decoder_result.DecoderResult.{DecoderResult}
-use Rattle.enc_codec.specs.declared.decoder_result.DecoderResult.TheVariants.{InputEmpty, OutputFull, Malformed}
+use Rattle.enc_machine.specs.declared.byte_codec.Kind.{Kind}
+use Rattle.enc_machine.specs.declared.byte_codec.Kind.TheVariants as kind
+use Rattle.enc_machine.specs.declared.decoder_result.DecoderResult.{DecoderResult}
+use Rattle.enc_machine.specs.declared.decoder_result.DecoderResult.TheVariants.{InputEmpty, OutputFull, Malformed}
 use Rattle.enc_units.specs.Output.{units_of_text}
-use Rattle.enc_codec.specs.Sequence.{Sequence, bytes_of, text_of, is_repeated_escape, any_malformed, set_after}
-use Rattle.enc_codec.specs.Remainder.{Remainder, AreBytes, Begins, Determines, AreDetermined}
-use Rattle.enc_codec.specs.Call.{Call, Treatment, AreBounded, ReadsReported, is_replaced}
-use Rattle.enc_codec.proofs.SequenceLemmas.{bytes_of-one, units-append, any_malformed-append}
-use Rattle.enc_codec.proofs.DeterminedLemmas.{begins_behind}
-use Rattle.enc_codec.proofs.ByteLemmas.{determines_by_more}
+use Rattle.enc_machine.specs.Sequence.{Sequence, bytes_of, text_of, is_repeated_escape, any_malformed, set_after}
+use Rattle.enc_machine.specs.Remainder.{Remainder, AreBytes, Begins, Determines, AreDetermined}
+use Rattle.enc_machine.specs.Call.{Call, Treatment, AreBounded, ReadsReported, is_replaced}
+use Rattle.enc_machine.proofs.SequenceLemmas.{bytes_of-one, units-append, any_malformed-append}
+use Rattle.enc_machine.proofs.DeterminedLemmas.{begins_behind}
+use Rattle.enc_machine.proofs.ByteLemmas.{determines_by_more}
 use Rattle.encoding_rs.proofs.Turns.{first_of}
 
 -- How the input of an inner decoder lies in that of an outer one. From some n on, what the outer one makes of the first n bytes is what is done before, and what the inner one makes of its first

@@ -1,21 +1,21 @@
 -- What the rule of each encoding keeps.
 use Rattle.std.proofs.Common.{◌≡◌, ◌∙◌, ap, sym, refl, true, false, inl, inr, ◌⊎◌}
-use Rattle.enc_codec.specs.Segmentation.{Rule}
-use Rattle.enc_codec.specs.RuleLaws.{HasTexts, HasSmallTexts, IsLawful}
-use Rattle.enc_codec.proofs.Utf8Rule.{utf_8_has_texts, utf_8_is_lawful}
-use Rattle.enc_codec.proofs.Utf16Rule.{utf_16_has_texts, utf_16_is_lawful}
-use Rattle.enc_codec.proofs.OneByteLemmas.{one_byte_has_texts, one_byte_is_lawful}
-use Rattle.enc_codec.proofs.MultiByteRule.{multi_byte_has_texts, multi_byte_is_lawful}
-use Rattle.enc_codec.proofs.ReplacementLemmas.{replacement_is_lawful}
-use Rattle.enc_codec.proofs.Iso2022JpRule.{iso_2022_jp_is_lawful}
-use Rattle.enc_codec.specs.OneByte.{one_byte_rule}
-use Rattle.enc_codec.specs.MultiByte.{multi_byte_rule, IsReading}
-use Rattle.enc_codec.specs.declared.multi_byte.Reading.{Reading}
+use Rattle.enc_machine.specs.Segmentation.{Rule}
+use Rattle.enc_machine.specs.RuleLaws.{HasTexts, HasSmallTexts, IsLawful}
+use Rattle.enc_utf.proofs.Utf8Rule.{utf_8_has_texts, utf_8_is_lawful}
+use Rattle.enc_utf.proofs.Utf16Rule.{utf_16_has_texts, utf_16_is_lawful}
+use Rattle.enc_single_byte.proofs.OneByteLemmas.{one_byte_has_texts, one_byte_is_lawful}
+use Rattle.enc_multi_byte.proofs.MultiByteRule.{multi_byte_has_texts, multi_byte_is_lawful}
+use Rattle.enc_single_byte.proofs.ReplacementLemmas.{replacement_is_lawful}
+use Rattle.enc_iso_2022_jp.proofs.Iso2022JpRule.{iso_2022_jp_is_lawful}
+use Rattle.enc_single_byte.specs.OneByte.{one_byte_rule}
+use Rattle.enc_multi_byte.specs.MultiByte.{multi_byte_rule, IsReading}
+use Rattle.enc_multi_byte.specs.declared.multi_byte.Reading.{Reading}
 use Rattle.std.specs.Prelude.{ℕ, Option, List}
-use Rattle.enc_codec.proofs.DoubleByteLemmas.{double_byte_laws}
-use Rattle.enc_codec.proofs.PairLemmas.{big5_pairs, euc_kr_pairs, shift_jis_pairs}
-use Rattle.enc_codec.proofs.EucJpLemmas.{euc_jp_laws}
-use Rattle.enc_codec.proofs.Gb18030Lemmas.{gb18030_laws}
+use Rattle.enc_multi_byte.proofs.DoubleByteLemmas.{double_byte_laws}
+use Rattle.enc_multi_byte.proofs.PairLemmas.{big5_pairs, euc_kr_pairs, shift_jis_pairs}
+use Rattle.enc_multi_byte.proofs.EucJpLemmas.{euc_jp_laws}
+use Rattle.enc_multi_byte.proofs.Gb18030Lemmas.{gb18030_laws}
 use Rattle.encoding_rs.specs.declared.encoding.Id.{Id}
 use Rattle.encoding_rs.specs.declared.encoding.Id.TheVariants.{Utf8, Ibm866, Iso88592, Iso88593, Iso88594, Iso88595, Iso88596, Iso88597, Iso88598, Iso88598I, Iso885910, Iso885913, Iso885914, Iso885915, Iso885916, Koi8R, Koi8U, Macintosh, Windows874, Windows1250, Windows1251, Windows1252, Windows1253, Windows1254, Windows1255, Windows1256, Windows1257, Windows1258, XMacCyrillic, Gbk, Gb18030, Big5, EucJp, ShiftJis, EucKr, Iso2022Jp, Replacement, Utf16be, Utf16le, XUserDefined}
 use Rattle.encoding_rs.specs.declared.encoding.Encoding.{Encoding}

@@ -2,7 +2,7 @@
 use Rattle.std.proofs.Common.{◌≡◌, ℕ, ◌+◌, ◌<◌, ◌≤◌, Bool, true, false, if◌then◌else◌, List, [], ◌∷◌, ◌++◌, length, take, drop, get_or, refl, ap, sym, ◌∙◌, subst, inl, inr, eqb, eqb-true, append_assoc, append-nil, drop-cons}
 use Rattle.std.proofs.lemmas.Bool.{eqb-false, ne_eqb}
 use Rattle.std.proofs.lemmas.List.{take_more, drop_all}
-use Rattle.enc_codec.proofs.ToldLemmas.{true_or_false}
+use Rattle.enc_machine.proofs.ToldLemmas.{true_or_false}
 use Rattle.encoding_rs.specs.declared.encoding.Encoding.{Encoding}
 use Rattle.encoding_rs.specs.declared.life_cycle.LifeCycle.{LifeCycle}
 use Rattle.encoding_rs.specs.declared.life_cycle.LifeCycle.TheVariants.{SeenUtf8Second, SeenUtf16BeFirst, SeenUtf16LeFirst}

@@ -7,24 +7,24 @@ use Rattle.std.specs.Char.{encode_utf8}
 use Rattle.encoding_rs.specs.declared.encoding.Encoding.{Encoding}
 use Rattle.encoding_rs.specs.declared.life_cycle.LifeCycle.{LifeCycle}
 use Rattle.encoding_rs.specs.declared.life_cycle.LifeCycle.TheVariants.{AtStart, AtUtf8Start, AtUtf16BeStart, AtUtf16LeStart, SeenUtf8First, SeenUtf8Second, SeenUtf16BeFirst, SeenUtf16LeFirst, ConvertingWithPendingBb, Converting, Finished}
-use Rattle.enc_codec.specs.declared.decoder_result.DecoderResult.{DecoderResult}
-use Rattle.enc_codec.specs.declared.decoder_result.DecoderResult.TheVariants.{OutputFull}
+use Rattle.enc_machine.specs.declared.decoder_result.DecoderResult.{DecoderResult}
+use Rattle.enc_machine.specs.declared.decoder_result.DecoderResult.TheVariants.{OutputFull}
 use Rattle.enc_units.specs.Output.{Output, units_of_text}
-use Rattle.enc_codec.specs.Sequence.{Sequence, bytes_of, text_of, set_after}
-use Rattle.enc_codec.specs.Segmentation.{Rule, sequences_of}
-use Rattle.enc_codec.specs.Remainder.{Begins, AreDetermined}
-use Rattle.enc_codec.specs.Call.{Treatment, Reported}
-use Rattle.enc_codec.specs.RuleLaws.{HasTexts, HasSmallTexts}
-use Rattle.enc_codec.specs.Utf8.{utf_8_rule}
-use Rattle.enc_codec.specs.Utf16.{utf_16_rule}
+use Rattle.enc_machine.specs.Sequence.{Sequence, bytes_of, text_of, set_after}
+use Rattle.enc_machine.specs.Segmentation.{Rule, sequences_of}
+use Rattle.enc_machine.specs.Remainder.{Begins, AreDetermined}
+use Rattle.enc_machine.specs.Call.{Treatment, Reported}
+use Rattle.enc_machine.specs.RuleLaws.{HasTexts, HasSmallTexts}
+use Rattle.enc_utf.specs.Utf8.{utf_8_rule}
+use Rattle.enc_utf.specs.Utf16.{utf_16_rule}
 use Rattle.encoding_rs.specs.Encodings.{rule_of}
 use Rattle.encoding_rs.specs.Bom.{Mark, sequences_by, utf_8_mark, utf_16be_mark, utf_16le_mark, find_mark}
 use Rattle.encoding_rs.specs.LifeCycle.{Phase, InFront, Within, Ended, phase_of, awaits_mark, mark_in, mark_bytes, encoding_by, sequences_in, held_bytes, fronts, state_at, state_behind, life_after}
 use Rattle.encoding_rs.specs.Decoding.{DecoderState, has_ended, finished, remaining_sequences, TellsHeld, Decodes, DecodesInto, IsAsBefore}
-use Rattle.enc_codec.proofs.RuleLemmas.{none_without_text, has_bytes, small_text, no_units}
-use Rattle.enc_codec.proofs.SegmentationLemmas.{sequences_of-nil}
-use Rattle.enc_codec.proofs.Utf8Rule.{utf_8_has_texts}
-use Rattle.enc_codec.proofs.Utf16Rule.{utf_16_has_texts}
+use Rattle.enc_machine.proofs.RuleLemmas.{none_without_text, has_bytes, small_text, no_units}
+use Rattle.enc_machine.proofs.SegmentationLemmas.{sequences_of-nil}
+use Rattle.enc_utf.proofs.Utf8Rule.{utf_8_has_texts}
+use Rattle.enc_utf.proofs.Utf16Rule.{utf_16_has_texts}
 use Rattle.encoding_rs.proofs.EncodingLemmas.{small_texts}
 use Rattle.encoding_rs.proofs.TextLemmas.{held_unmarked, marked_sequences}
 use Rattle.encoding_rs.proofs.HeldLemmas.{own_state}

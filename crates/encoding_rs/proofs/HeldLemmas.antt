@@ -10,16 +10,16 @@ use Rattle.std.proofs.Math.Seq.{take-append-add, drop-append-add}
 use Rattle.encoding_rs.specs.declared.encoding.Encoding.{Encoding}
 use Rattle.encoding_rs.specs.declared.life_cycle.LifeCycle.{LifeCycle}
 use Rattle.encoding_rs.specs.declared.life_cycle.LifeCycle.TheVariants.{AtStart, AtUtf8Start, AtUtf16BeStart, AtUtf16LeStart, SeenUtf8First, SeenUtf8Second, SeenUtf16BeFirst, SeenUtf16LeFirst, ConvertingWithPendingBb, Converting, Finished}
-use Rattle.enc_codec.specs.declared.decoder_result.DecoderResult.{DecoderResult}
-use Rattle.enc_codec.specs.declared.decoder_result.DecoderResult.TheVariants.{InputEmpty, OutputFull, Malformed}
+use Rattle.enc_machine.specs.declared.decoder_result.DecoderResult.{DecoderResult}
+use Rattle.enc_machine.specs.declared.decoder_result.DecoderResult.TheVariants.{InputEmpty, OutputFull, Malformed}
 use Rattle.enc_units.specs.Output.{Output, appended}
-use Rattle.enc_codec.specs.Sequence.{Sequence, bytes_of, set_after}
-use Rattle.enc_codec.specs.Segmentation.{Rule, sequences_of}
-use Rattle.enc_codec.specs.CodecState.{CodecState, remainder_of}
-use Rattle.enc_codec.specs.Remainder.{Remainder, AreBytes}
-use Rattle.enc_codec.specs.Call.{Call, Treatment, is_end}
-use Rattle.enc_codec.proofs.RuleLemmas.{has_bytes}
-use Rattle.enc_codec.proofs.ByteLemmas.{bytes-append}
+use Rattle.enc_machine.specs.Sequence.{Sequence, bytes_of, set_after}
+use Rattle.enc_machine.specs.Segmentation.{Rule, sequences_of}
+use Rattle.enc_machine.specs.CodecState.{CodecState, remainder_of}
+use Rattle.enc_machine.specs.Remainder.{Remainder, AreBytes}
+use Rattle.enc_machine.specs.Call.{Call, Treatment, is_end}
+use Rattle.enc_machine.proofs.RuleLemmas.{has_bytes}
+use Rattle.enc_machine.proofs.ByteLemmas.{bytes-append}
 use Rattle.encoding_rs.specs.Encodings.{rule_of}
 use Rattle.encoding_rs.specs.LifeCycle.{phase_of, awaits_mark, mark_bytes, encoding_by, held_bytes, fronts, state_at, left_behind, state_behind, life_after}
 use Rattle.encoding_rs.specs.Front.{IsText}

@@ -4,15 +4,15 @@ use Rattle.std.proofs.lemmas.Bool.{false≢true}
 use Rattle.std.proofs.lemmas.List.{append-nil, length-append, take-append-le, drop-append-le}
 use Rattle.std.proofs.Math.ListN.{drop_of_length-le}
 use Rattle.std.proofs.Math.Seq.{take-append_seam, take-append-add, drop-append-add, take-length}
-use Rattle.enc_codec.specs.declared.decoder_result.DecoderResult.{DecoderResult}
-use Rattle.enc_codec.specs.declared.decoder_result.DecoderResult.TheVariants.{InputEmpty, OutputFull, Malformed}
+use Rattle.enc_machine.specs.declared.decoder_result.DecoderResult.{DecoderResult}
+use Rattle.enc_machine.specs.declared.decoder_result.DecoderResult.TheVariants.{InputEmpty, OutputFull, Malformed}
 use Rattle.enc_units.specs.Output.{Output, appended}
-use Rattle.enc_codec.specs.Sequence.{Sequence, bytes_of, set_after, is_repeated_escape}
-use Rattle.enc_codec.specs.Remainder.{Remainder, AreBytes, Determines, AreDetermined}
-use Rattle.enc_codec.specs.Call.{Call, RawCall, CallInto, Treatment, ReadsReported}
-use Rattle.enc_codec.proofs.SequenceLemmas.{bytes_of-append, set_after-append}
-use Rattle.enc_codec.proofs.DeterminedLemmas.{determines_fewer}
-use Rattle.enc_codec.proofs.ByteLemmas.{bytes-append, determines_by_more}
+use Rattle.enc_machine.specs.Sequence.{Sequence, bytes_of, set_after, is_repeated_escape}
+use Rattle.enc_machine.specs.Remainder.{Remainder, AreBytes, Determines, AreDetermined}
+use Rattle.enc_machine.specs.Call.{Call, RawCall, CallInto, Treatment, ReadsReported}
+use Rattle.enc_machine.proofs.SequenceLemmas.{bytes_of-append, set_after-append}
+use Rattle.enc_machine.proofs.DeterminedLemmas.{determines_fewer}
+use Rattle.enc_machine.proofs.ByteLemmas.{bytes-append, determines_by_more}
 use Rattle.enc_units.proofs.OutputLemmas.{appended-appended, room_left}
 use Rattle.encoding_rs.specs.Converting.{ConvertsInto}
 use Rattle.encoding_rs.proofs.CarryLemmas.{most_or_more, Carries, Reads, Follows, Wrote, carries_empty, carries_full, carries_malformed}

@@ -2,13 +2,13 @@
 use Rattle.std.proofs.Common.{◌≡◌, ℕ, ◌+◌, ◌-◌, ◌<◌, ◌≤◌, Bool, true, false, List, [], ◌++◌, length, take, drop, refl, ap, ◌∙◌, sym, arith, subst, nat_le, length-append, length-drop}
 use Rattle.std.proofs.Math.ListN.{length-take}
 use Rattle.std.proofs.lemmas.Bool.Decides.{nat_tests}
-use Rattle.enc_codec.specs.declared.decoder_result.DecoderResult.{DecoderResult}
-use Rattle.enc_codec.specs.declared.decoder_result.DecoderResult.TheVariants.{InputEmpty, OutputFull, Malformed}
+use Rattle.enc_machine.specs.declared.decoder_result.DecoderResult.{DecoderResult}
+use Rattle.enc_machine.specs.declared.decoder_result.DecoderResult.TheVariants.{InputEmpty, OutputFull, Malformed}
 use Rattle.enc_units.specs.Output.{Output, appended}
-use Rattle.enc_codec.specs.Sequence.{bytes_of}
-use Rattle.enc_codec.specs.Remainder.{Remainder, AreBytes}
-use Rattle.enc_codec.specs.Call.{RawCall, CallInto, Replaced, Reported}
-use Rattle.enc_codec.proofs.SequenceLemmas.{bytes_of-one}
+use Rattle.enc_machine.specs.Sequence.{bytes_of}
+use Rattle.enc_machine.specs.Remainder.{Remainder, AreBytes}
+use Rattle.enc_machine.specs.Call.{RawCall, CallInto, Replaced, Reported}
+use Rattle.enc_machine.proofs.SequenceLemmas.{bytes_of-one}
 use Rattle.enc_units.proofs.OutputLemmas.{appended-nil, appended-appended, room_left}
 use Rattle.encoding_rs.proofs.Turns as turns
 use Rattle.encoding_rs.proofs.Turns.{Turned}

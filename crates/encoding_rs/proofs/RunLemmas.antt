@@ -17,13 +17,13 @@ use Rattle.encoding_rs.specs.declared.coder_result.CoderResult.{CoderResult}
 use Rattle.encoding_rs.specs.declared.coder_result.CoderResult.TheVariants.{InputEmpty, OutputFull}
 use Rattle.encoding_rs.specs.declared.run.DecodeCall.{DecodeCall}
 use Rattle.enc_units.specs.Output.{units_of_text}
-use Rattle.enc_codec.specs.Sequence.{Sequence, bytes_of, text_of, any_malformed}
-use Rattle.enc_codec.specs.Call.{is_end}
+use Rattle.enc_machine.specs.Sequence.{Sequence, bytes_of, text_of, any_malformed}
+use Rattle.enc_machine.specs.Call.{is_end}
 use Rattle.encoding_rs.specs.Bom.{own_marks, find_mark, sequences_by}
 use Rattle.encoding_rs.specs.LifeCycle.{phase_of, sequences_in, fronts, state_at, left_behind, state_behind, life_after}
 use Rattle.encoding_rs.specs.Decoding.{DecoderState, has_ended, finished, removal_start, fresh, remaining_sequences, whole_sequences, whole_utf_8, whole_malformed, stop_of, DecodesReplacing, HasDecoded}
 use Rattle.encoding_rs.specs.Run.{MakesCall, RunState, GoesOn, IsRun, Begun}
-use Rattle.enc_codec.proofs.SequenceLemmas.{units-append, any_malformed-append}
+use Rattle.enc_machine.proofs.SequenceLemmas.{units-append, any_malformed-append}
 
 -- whether a state that may come next is the end
 any_ended : List (List ℕ × LifeCycle) → Bool

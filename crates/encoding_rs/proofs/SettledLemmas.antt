@@ -5,11 +5,11 @@ use Rattle.std.specs.List.{starts_with}
 use Rattle.std.proofs.lemmas.Bool.{false≢true}
 use Rattle.std.proofs.Math.Seq.{drop-length}
 use Rattle.std.proofs.lemmas.List.{drop-append-le}
-use Rattle.enc_codec.specs.Sequence.{Sequence}
-use Rattle.enc_codec.specs.Segmentation.{sequences_of}
-use Rattle.enc_codec.specs.Remainder.{AreBytes, Begins, Determines}
-use Rattle.enc_codec.proofs.SegmentationLemmas.{sequences_of-nil}
-use Rattle.enc_codec.proofs.ToldLemmas.{true_or_false}
+use Rattle.enc_machine.specs.Sequence.{Sequence}
+use Rattle.enc_machine.specs.Segmentation.{sequences_of}
+use Rattle.enc_machine.specs.Remainder.{AreBytes, Begins, Determines}
+use Rattle.enc_machine.proofs.SegmentationLemmas.{sequences_of-nil}
+use Rattle.enc_machine.proofs.ToldLemmas.{true_or_false}
 use Rattle.encoding_rs.specs.declared.encoding.Id.{Id}
 use Rattle.encoding_rs.specs.declared.encoding.Id.TheVariants.{Utf8, Utf16be, Utf16le}
 use Rattle.encoding_rs.specs.declared.encoding.Encoding.{Encoding}

@@ -7,11 +7,11 @@ use Rattle.std.proofs.Math.Seq.{take-append-add}
 use Rattle.encoding_rs.specs.declared.encoding.Encoding.{Encoding}
 use Rattle.encoding_rs.specs.declared.life_cycle.LifeCycle.{LifeCycle}
 use Rattle.encoding_rs.specs.declared.life_cycle.LifeCycle.TheVariants.{AtStart, AtUtf8Start, AtUtf16BeStart, AtUtf16LeStart, SeenUtf8First, SeenUtf8Second, SeenUtf16BeFirst, SeenUtf16LeFirst, ConvertingWithPendingBb, Converting, Finished}
-use Rattle.enc_codec.specs.Sequence.{Sequence}
-use Rattle.enc_codec.specs.Segmentation.{Rule, sequences_of}
-use Rattle.enc_codec.specs.CodecState.{CodecState, remainder_of}
-use Rattle.enc_codec.specs.Remainder.{AreBytes, Begins, Determines}
-use Rattle.enc_codec.proofs.SegmentationLemmas.{sequences_of-nil}
+use Rattle.enc_machine.specs.Sequence.{Sequence}
+use Rattle.enc_machine.specs.Segmentation.{Rule, sequences_of}
+use Rattle.enc_machine.specs.CodecState.{CodecState, remainder_of}
+use Rattle.enc_machine.specs.Remainder.{AreBytes, Begins, Determines}
+use Rattle.enc_machine.proofs.SegmentationLemmas.{sequences_of-nil}
 use Rattle.encoding_rs.specs.Encodings.{rule_of}
 use Rattle.encoding_rs.specs.Bom.{Mark, utf_8_mark, utf_16be_mark, utf_16le_mark, sequences_by}
 use Rattle.encoding_rs.specs.LifeCycle.{Phase, InFront, Within, Ended, phase_of, awaits_mark, mark_in, sequences_in, held_bytes}

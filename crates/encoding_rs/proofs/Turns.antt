@@ -2,14 +2,14 @@
 use Rattle.std.proofs.Common.{◌≡◌, ℕ, ◌+◌, ◌-◌, ◌<◌, ◌≤◌, Bool, true, false, List, [], ◌∷◌, ◌++◌, length, take, drop, refl, ap, ◌∙◌, sym, arith, append_assoc, ◌||◌, inl, inr, subst, ◌⊎◌, drop-drop, length-drop}
 use Rattle.std.proofs.lemmas.Bool.{false≢true}
 use Rattle.std.proofs.lemmas.List.{append-nil, take-append-drop, length-append}
-use Rattle.enc_codec.specs.declared.decoder_result.DecoderResult.TheVariants.{InputEmpty, OutputFull, Malformed}
+use Rattle.enc_machine.specs.declared.decoder_result.DecoderResult.TheVariants.{InputEmpty, OutputFull, Malformed}
 use Rattle.enc_units.specs.Output.{units_of_text}
-use Rattle.enc_codec.specs.Sequence.{Sequence, bytes_of, text_of, is_malformed, is_repeated_escape, any_malformed, set_after}
-use Rattle.enc_codec.specs.Remainder.{Remainder, AreBytes, Begins, Determines, AreDetermined}
-use Rattle.enc_codec.specs.Call.{RawCall, Replaced, Reported, ReadsReported}
-use Rattle.enc_codec.proofs.SequenceLemmas.{bytes_of-append, units-append, any_malformed-append, set_after-append, units-one, or_false, or_true}
-use Rattle.enc_codec.proofs.DeterminedLemmas.{begins_behind, determines_fewer}
-use Rattle.enc_codec.proofs.ByteLemmas.{bytes-append, bytes-take, bytes-drop, determines_by_more}
+use Rattle.enc_machine.specs.Sequence.{Sequence, bytes_of, text_of, is_malformed, is_repeated_escape, any_malformed, set_after}
+use Rattle.enc_machine.specs.Remainder.{Remainder, AreBytes, Begins, Determines, AreDetermined}
+use Rattle.enc_machine.specs.Call.{RawCall, Replaced, Reported, ReadsReported}
+use Rattle.enc_machine.proofs.SequenceLemmas.{bytes_of-append, units-append, any_malformed-append, set_after-append, units-one, or_false, or_true}
+use Rattle.enc_machine.proofs.DeterminedLemmas.{begins_behind, determines_fewer}
+use Rattle.enc_machine.proofs.ByteLemmas.{bytes-append, bytes-take, bytes-drop, determines_by_more}
 use Rattle.std.proofs.Math.Seq.{take-add}
 
 -- what has been done of an offer, so far

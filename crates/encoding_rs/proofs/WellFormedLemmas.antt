@@ -5,11 +5,11 @@ use Rattle.std.proofs.lemmas.Str.{encode_ascii, IsUtf8-nil, IsUtf8-append, IsUtf
 use Rattle.std.specs.Char.{encode_utf8, IsScalar, InScalarRange}
 use Rattle.std.specs.Str.{IsUtf8, all_scalars, encode_utf8_all}
 use Rattle.std.specs.Cmp.{first_so, second_so}
-use Rattle.enc_codec.specs.Sequence.{Sequence, any_malformed}
-use Rattle.enc_codec.specs.Segmentation.{sequences_of}
-use Rattle.enc_codec.specs.Utf8.{sequence_len, is_second, is_continuation, scalar_of, utf_8_rule}
-use Rattle.enc_codec.proofs.SegmentationLemmas.{sequences_of-nil}
-use Rattle.enc_codec.proofs.Utf8Lemmas.{valid_sequence, malformed_sequence, two_range, three_range, four_range, at_most_four, second_range, continuation_range, none_malformed, one_valid, one_malformed, one_end, two_valid, two_malformed, two_end, three_valid, three_malformed, three_end, four_valid, two_scalar, three_scalar, four_scalar}
+use Rattle.enc_machine.specs.Sequence.{Sequence, any_malformed}
+use Rattle.enc_machine.specs.Segmentation.{sequences_of}
+use Rattle.enc_utf.specs.Utf8.{sequence_len, is_second, is_continuation, scalar_of, utf_8_rule}
+use Rattle.enc_machine.proofs.SegmentationLemmas.{sequences_of-nil}
+use Rattle.enc_utf.proofs.Utf8Lemmas.{valid_sequence, malformed_sequence, two_range, three_range, four_range, at_most_four, second_range, continuation_range, none_malformed, one_valid, one_malformed, one_end, two_valid, two_malformed, two_end, three_valid, three_malformed, three_end, four_valid, two_scalar, three_scalar, four_scalar}
 
 -- whether a sequence of UTF-8 in these bytes is malformed
 abbrev pub malformed_bytes : List ℕ → Bool

@@ -1,8 +1,8 @@
 -- Byte order marks (Encoding Standard 6, "BOM sniff").
 use Rattle.std.specs.Prelude.{ℕ, if◌then◌else◌, List, [], ◌∷◌, length, drop, nat_eq, Option, Some, None, option_map}
 use Rattle.std.specs.List.{starts_with}
-use Rattle.enc_codec.specs.Sequence.{Sequence}
-use Rattle.enc_codec.specs.Segmentation.{sequences_of}
+use Rattle.enc_machine.specs.Sequence.{Sequence}
+use Rattle.enc_machine.specs.Segmentation.{sequences_of}
 use Rattle.encoding_rs.specs.declared.encoding.Id.{Id}
 use Rattle.encoding_rs.specs.declared.encoding.Id.TheVariants.{Utf8, Utf16be, Utf16le}
 use Rattle.encoding_rs.specs.declared.encoding.Encoding.{Encoding}

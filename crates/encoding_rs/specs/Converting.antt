@@ -1,11 +1,11 @@
 -- What a codec makes of bytes that were held back and those that follow them.
 use Rattle.std.specs.Prelude.{◌≡◌, ℕ, ◌+◌, ◌≤◌, ◌⊎◌, Bool, List, ◌++◌, length, take}
-use Rattle.enc_codec.specs.declared.decoder_result.DecoderResult.{DecoderResult}
-use Rattle.enc_codec.specs.declared.decoder_result.DecoderResult.TheVariants.{InputEmpty, OutputFull, Malformed}
+use Rattle.enc_machine.specs.declared.decoder_result.DecoderResult.{DecoderResult}
+use Rattle.enc_machine.specs.declared.decoder_result.DecoderResult.TheVariants.{InputEmpty, OutputFull, Malformed}
 use Rattle.enc_units.specs.Output.{Output, appended}
-use Rattle.enc_codec.specs.Sequence.{bytes_of}
-use Rattle.enc_codec.specs.Remainder.{Remainder}
-use Rattle.enc_codec.specs.Call.{Call, Treatment}
+use Rattle.enc_machine.specs.Sequence.{bytes_of}
+use Rattle.enc_machine.specs.Remainder.{Remainder}
+use Rattle.enc_machine.specs.Call.{Call, Treatment}
 
 -- A call over all of them, and what it wrote is appended to an output.
 pub record ConvertsInto (units_of : ℕ → List ℕ) (old new : Remainder) (src : List ℕ) (last : Bool) (treatment : Treatment) (before after : Output) (result : DecoderResult) (read : ℕ) (replaced : Bool) : Type 0 where

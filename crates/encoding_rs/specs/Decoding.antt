@@ -9,15 +9,15 @@ use Rattle.encoding_rs.specs.declared.bom.BomHandling.{BomHandling}
 use Rattle.encoding_rs.specs.declared.bom.BomHandling.TheVariants.{Off, Sniff, Remove}
 use Rattle.encoding_rs.specs.declared.life_cycle.LifeCycle.{LifeCycle}
 use Rattle.encoding_rs.specs.declared.life_cycle.LifeCycle.TheVariants.{AtStart, AtUtf8Start, AtUtf16BeStart, AtUtf16LeStart, Converting, Finished}
-use Rattle.enc_codec.specs.declared.decoder_result.DecoderResult.{DecoderResult}
-use Rattle.enc_codec.specs.declared.decoder_result.DecoderResult.TheVariants as raw
+use Rattle.enc_machine.specs.declared.decoder_result.DecoderResult.{DecoderResult}
+use Rattle.enc_machine.specs.declared.decoder_result.DecoderResult.TheVariants as raw
 use Rattle.encoding_rs.specs.declared.coder_result.CoderResult.{CoderResult}
 use Rattle.encoding_rs.specs.declared.coder_result.CoderResult.TheVariants.{InputEmpty, OutputFull}
 use Rattle.enc_units.specs.Output.{Output, appended, units_of_text}
-use Rattle.enc_codec.specs.Sequence.{Sequence, bytes_of, text_of, any_malformed, set_after}
-use Rattle.enc_codec.specs.CodecState.{CodecState}
-use Rattle.enc_codec.specs.Remainder.{Remainder}
-use Rattle.enc_codec.specs.Call.{Call, Treatment, Replaced, Reported, is_end}
+use Rattle.enc_machine.specs.Sequence.{Sequence, bytes_of, text_of, any_malformed, set_after}
+use Rattle.enc_machine.specs.CodecState.{CodecState}
+use Rattle.enc_machine.specs.Remainder.{Remainder}
+use Rattle.enc_machine.specs.Call.{Call, Treatment, Replaced, Reported, is_end}
 use Rattle.encoding_rs.specs.Encodings.{rule_of}
 use Rattle.encoding_rs.specs.Bom.{marks_looked_for, find_mark, sequences_by}
 use Rattle.encoding_rs.specs.LifeCycle.{phase_of, awaits_mark, mark_in, mark_bytes, encoding_by, sequences_in, held_bytes, life_after}

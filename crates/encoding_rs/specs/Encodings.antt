@@ -1,17 +1,17 @@
 -- The rule of each encoding (Encoding Standard 4.2, table of names).
 use Rattle.enc_index.specs.declared.indexes.single_byte.TheConstants.{IBM866_RUNS, ISO_8859_10_RUNS, ISO_8859_13_RUNS, ISO_8859_14_RUNS, ISO_8859_15_RUNS, ISO_8859_16_RUNS, ISO_8859_2_RUNS, ISO_8859_3_RUNS, ISO_8859_4_RUNS, ISO_8859_5_RUNS, ISO_8859_6_RUNS, ISO_8859_7_RUNS, ISO_8859_8_RUNS, KOI8_R_RUNS, KOI8_U_RUNS, MACINTOSH_RUNS, WINDOWS_1250_RUNS, WINDOWS_1251_RUNS, WINDOWS_1252_RUNS, WINDOWS_1253_RUNS, WINDOWS_1254_RUNS, WINDOWS_1255_RUNS, WINDOWS_1256_RUNS, WINDOWS_1257_RUNS, WINDOWS_1258_RUNS, WINDOWS_874_RUNS, X_MAC_CYRILLIC_RUNS}
-use Rattle.enc_codec.specs.Segmentation.{Rule}
-use Rattle.enc_codec.specs.Utf8.{utf_8_rule}
-use Rattle.enc_codec.specs.Utf16.{utf_16_rule}
-use Rattle.enc_codec.specs.OneByte.{one_byte_rule, single_byte_char, x_user_defined_char}
-use Rattle.enc_codec.specs.MultiByte.{multi_byte_rule}
-use Rattle.enc_codec.specs.Gb18030.{gb18030_reading}
-use Rattle.enc_codec.specs.Big5.{big5_reading}
-use Rattle.enc_codec.specs.EucJp.{euc_jp_reading}
-use Rattle.enc_codec.specs.ShiftJis.{shift_jis_reading}
-use Rattle.enc_codec.specs.EucKr.{euc_kr_reading}
-use Rattle.enc_codec.specs.Replacement.{replacement_rule}
-use Rattle.enc_codec.specs.Iso2022Jp.{iso_2022_jp_rule}
+use Rattle.enc_machine.specs.Segmentation.{Rule}
+use Rattle.enc_utf.specs.Utf8.{utf_8_rule}
+use Rattle.enc_utf.specs.Utf16.{utf_16_rule}
+use Rattle.enc_single_byte.specs.OneByte.{one_byte_rule, single_byte_char, x_user_defined_char}
+use Rattle.enc_multi_byte.specs.MultiByte.{multi_byte_rule}
+use Rattle.enc_multi_byte.specs.Gb18030.{gb18030_reading}
+use Rattle.enc_multi_byte.specs.Big5.{big5_reading}
+use Rattle.enc_multi_byte.specs.EucJp.{euc_jp_reading}
+use Rattle.enc_multi_byte.specs.ShiftJis.{shift_jis_reading}
+use Rattle.enc_multi_byte.specs.EucKr.{euc_kr_reading}
+use Rattle.enc_single_byte.specs.Replacement.{replacement_rule}
+use Rattle.enc_iso_2022_jp.specs.Iso2022Jp.{iso_2022_jp_rule}
 use Rattle.std.specs.Prelude.{true, false}
 use Rattle.encoding_rs.specs.declared.encoding.Id.{Id}
 use Rattle.encoding_rs.specs.declared.encoding.Id.TheVariants.{Utf8, Ibm866, Iso88592, Iso88593, Iso88594, Iso88595, Iso88596, Iso88597, Iso88598, Iso88598I, Iso885910, Iso885913, Iso885914, Iso885915, Iso885916, Koi8R, Koi8U, Macintosh, Windows874, Windows1250, Windows1251, Windows1252, Windows1253, Windows1254, Windows1255, Windows1256, Windows1257, Windows1258, XMacCyrillic, Gbk, Gb18030, Big5, EucJp, ShiftJis, EucKr, Iso2022Jp, Replacement, Utf16be, Utf16le, XUserDefined}

@@ -1,7 +1,7 @@
 -- The life cycle of a decoder (Encoding Standard 6, "decode", for a stream that comes in parts).
 use Rattle.std.specs.Prelude.{ℕ, Bool, true, false, if◌then◌else◌, List, [], ◌∷◌, Option, Some, None, bytes_eq}
-use Rattle.enc_codec.specs.Sequence.{Sequence, bytes_of}
-use Rattle.enc_codec.specs.Segmentation.{sequences_of}
+use Rattle.enc_machine.specs.Sequence.{Sequence, bytes_of}
+use Rattle.enc_machine.specs.Segmentation.{sequences_of}
 use Rattle.encoding_rs.specs.declared.encoding.Encoding.{Encoding}
 use Rattle.encoding_rs.specs.declared.life_cycle.LifeCycle.{LifeCycle}
 use Rattle.encoding_rs.specs.declared.life_cycle.LifeCycle.TheVariants.{AtStart, AtUtf8Start, AtUtf16BeStart, AtUtf16LeStart, SeenUtf8First, SeenUtf8Second, SeenUtf16BeFirst, SeenUtf16LeFirst, ConvertingWithPendingBb, Converting, Finished}

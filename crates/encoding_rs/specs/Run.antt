@@ -6,7 +6,7 @@ use Rattle.encoding_rs.specs.declared.bom.BomHandling.{BomHandling}
 use Rattle.encoding_rs.specs.declared.coder_result.CoderResult.{CoderResult}
 use Rattle.encoding_rs.specs.declared.run.DecodeCall.{DecodeCall}
 use Rattle.enc_units.specs.Output.{units_of_text}
-use Rattle.enc_codec.specs.Sequence.{Sequence, text_of}
+use Rattle.enc_machine.specs.Sequence.{Sequence, text_of}
 use Rattle.encoding_rs.specs.Decoding.{DecoderState, fresh, finished, whole_sequences, DecodesReplacing}
 
 -- A call of a run: it is offered the next bytes of those unread, or all of them where fewer are left, is told

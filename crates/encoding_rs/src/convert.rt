@@ -1,8 +1,8 @@
 //! A codec over bytes that were held back and those that follow them.
 
 ghost use Rattle.std.specs.Prelude.{◌≡◌, ℕ, ◌+◌, ◌-◌, ◌≤◌, ◌++◌, false, length};
-ghost use Rattle.enc_codec.specs.CodecState.{remainder_of};
-ghost use Rattle.enc_codec.specs.Call.{CallInto, is_end as ends};
+ghost use Rattle.enc_machine.specs.CodecState.{remainder_of};
+ghost use Rattle.enc_machine.specs.Call.{CallInto, is_end as ends};
 ghost use Rattle.encoding_rs.specs.declared.encoding.Encoding.{Encoding};
 ghost use Rattle.encoding_rs.specs.Encodings.{rule_of};
 ghost use Rattle.encoding_rs.specs.Converting.{ConvertsInto, ReadsHeldFirst, placed_by};

@@ -2,7 +2,7 @@
 
 ghost use Rattle.std.specs.Prelude.{◌≡◌, ℕ, ◌+◌, ◌-◌, ◌<◌, ◌≤◌, Bool, true, false, length, take, drop};
 ghost use Rattle.std.specs.Char.{encode_utf8};
-ghost use Rattle.enc_codec.specs.RuleLaws.{HasTexts};
+ghost use Rattle.enc_machine.specs.RuleLaws.{HasTexts};
 ghost use Rattle.encoding_rs.specs.declared.bom.BomHandling.TheVariants as handling;
 ghost use Rattle.encoding_rs.specs.Encodings.{rule_of};
 ghost use Rattle.encoding_rs.specs.Front.{IsText};

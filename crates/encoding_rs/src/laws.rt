@@ -10,10 +10,10 @@ ghost use Rattle.encoding_rs.specs.Decoding.{whole_sequences, whole_malformed};
 ghost use Rattle.encoding_rs.specs.Labels.{labelled, get};
 ghost use Rattle.encoding_rs.specs.Names.{name_of};
 ghost use Rattle.encoding_rs.specs.Properties.{output_encoding_of};
-ghost use Rattle.enc_codec.specs.Sequence.{Sequence};
-ghost use Rattle.enc_codec.specs.Segmentation.{sequences_of};
-ghost use Rattle.enc_codec.specs.Remainder.{Determines};
-ghost use Rattle.enc_codec.specs.RuleLaws.{HasTexts};
+ghost use Rattle.enc_machine.specs.Sequence.{Sequence};
+ghost use Rattle.enc_machine.specs.Segmentation.{sequences_of};
+ghost use Rattle.enc_machine.specs.Remainder.{Determines};
+ghost use Rattle.enc_machine.specs.RuleLaws.{HasTexts};
 ghost use Rattle.enc_units.specs.Validity.{IsWellFormedUtf8};
 
 use crate::bom::BomHandling;

@@ -1,9 +1,9 @@
 //! Calls that replace malformed sequences by U+FFFD (Encoding Standard 4.1, error mode "replacement").
 
 ghost use Rattle.std.specs.Prelude.{◌≡◌, true};
-ghost use Rattle.enc_codec.specs.CodecState.{remainder_of};
-ghost use Rattle.enc_codec.specs.Call.{CallInto, Replaced};
-ghost use Rattle.enc_codec.specs.RuleLaws.{IsLawful};
+ghost use Rattle.enc_machine.specs.CodecState.{remainder_of};
+ghost use Rattle.enc_machine.specs.Call.{CallInto, Replaced};
+ghost use Rattle.enc_machine.specs.RuleLaws.{IsLawful};
 ghost use Rattle.encoding_rs.specs.Decoding.{stop_of};
 
 use crate::coder_result::CoderResult;

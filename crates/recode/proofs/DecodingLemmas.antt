@@ -7,10 +7,10 @@ use Rattle.encoding_rs.specs.declared.encoding.Encoding.{Encoding}
 use Rattle.encoding_rs.specs.declared.coder_result.CoderResult.{CoderResult}
 use Rattle.encoding_rs.specs.declared.coder_result.CoderResult.TheVariants.{InputEmpty, OutputFull}
 use Rattle.enc_units.specs.Output.{units_of_text}
-use Rattle.enc_codec.specs.Sequence.{Sequence, text_of, any_malformed}
+use Rattle.enc_machine.specs.Sequence.{Sequence, text_of, any_malformed}
 use Rattle.encoding_rs.specs.Decoding.{DecoderState, finished, fresh, remaining_sequences, whole_sequences, whole_utf_8, DecodesReplacing, HasDecoded}
 use Rattle.encoding_rs.proofs.RunLemmas.{only_put, finishes, fresh_sequences}
-use Rattle.enc_codec.proofs.SequenceLemmas.{units-append, any_malformed-append}
+use Rattle.enc_machine.proofs.SequenceLemmas.{units-append, any_malformed-append}
 use Rattle.recode.specs.Chunk.{DecodesBytes, remaining_utf_8}
 
 -- the UTF-8 of sequences

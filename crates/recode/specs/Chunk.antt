@@ -2,7 +2,7 @@
 use Rattle.std.specs.Prelude.{◌≡◌, ℕ, Bool, true, List, [], ◌++◌, Option}
 use Rattle.std.specs.Char.{encode_utf8}
 use Rattle.enc_units.specs.Output.{units_of_text}
-use Rattle.enc_codec.specs.Sequence.{Sequence, text_of, any_malformed}
+use Rattle.enc_machine.specs.Sequence.{Sequence, text_of, any_malformed}
 use Rattle.encoding_rs.specs.Decoding.{DecoderState, remaining_sequences}
 use Rattle.recode.specs.Sink.{TakesMore}
 

@@ -1,6 +1,6 @@
 use Rattle.std.proofs.Common.{◌≡◌, rules}
-use Rattle.enc_codec.specs.declared.decoder_result.DecoderResult.TheVariants.{InputEmpty}
-use Rattle.enc_codec.proofs.ByteLemmas.{bytes_of_slice}
+use Rattle.enc_machine.specs.declared.decoder_result.DecoderResult.TheVariants.{InputEmpty}
+use Rattle.enc_machine.proofs.ByteLemmas.{bytes_of_slice}
 use Rattle.encoding_rs.proofs.JoinLemmas.{no_bytes, none_held, none_follow, stops_in_held, joins}
 use Rattle.encoding_rs.proofs.convert.convert.Goals as goal
 

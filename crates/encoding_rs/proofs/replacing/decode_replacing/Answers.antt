@@ -1,5 +1,5 @@
 use Rattle.std.proofs.Common.{refl, ◌∙◌}
-use Rattle.enc_codec.proofs.ByteLemmas.{bytes_of_slice}
+use Rattle.enc_machine.proofs.ByteLemmas.{bytes_of_slice}
 use Rattle.encoding_rs.proofs.ReplacingLemmas.{begin, empties, fills, fits, replaces, falls}
 use Rattle.encoding_rs.proofs.replacing.decode_replacing.Goals as goal
 

@@ -1,5 +1,5 @@
 use Rattle.std.proofs.Common.{◌≡◌, ◌+◌, ◌-◌, length}
-use Rattle.enc_codec.specs.CodecState.{remainder_of}
+use Rattle.enc_machine.specs.CodecState.{remainder_of}
 use Rattle.encoding_rs.proofs.ReplacingLemmas.{Turning}
 use Rattle.encoding_rs.proofs.replacing.decode_replacing.Given as goal
 

@@ -1,6 +1,6 @@
 use Rattle.std.proofs.Common.{refl, sym, ◌∙◌, ap, subst, take}
 use Rattle.std.proofs.Math.Seq.{take-length}
-use Rattle.enc_codec.proofs.ByteLemmas.{bytes_of_slice}
+use Rattle.enc_machine.proofs.ByteLemmas.{bytes_of_slice}
 use Rattle.encoding_rs.specs.Front.{Reaches}
 use Rattle.encoding_rs.proofs.HeldLemmas.{tells_held}
 use Rattle.encoding_rs.proofs.BehindLemmas.{behind_a_mark, behind_text, all_held, awaiting_goes_on}

@@ -1,0 +1,173 @@
+-- In ISO-2022-JP the set at a place is that of the last escape sequence before it.
+use Rattle.std.proofs.Common.{◌≡◌, ℕ, Bool, true, false, eqb, Option, Some, None, List, [], ◌∷◌, ◌++◌, take, drop, refl, ap, ◌∙◌, sym, subst, append_assoc, inl, inr}
+use Rattle.std.proofs.lemmas.List.{take-append-drop}
+use Rattle.std.specs.Option.{is_some}
+use Rattle.enc_iso_2022_jp.specs.declared.iso_2022_jp.CharacterSet.{CharacterSet}
+use Rattle.enc_machine.specs.Sequence.{Sequence, bytes_of, set_after}
+use Rattle.enc_machine.specs.Segmentation.{Head, head_sequence, sequences_of, one_byte_head, malformed_head}
+use Rattle.enc_iso_2022_jp.specs.Iso2022Jp.{set_number, set_of, set_named, designated, escape_head, is_lead, one_byte_char, two_byte_char, two_byte_head, iso_2022_jp_rule as jp_rule}
+use Rattle.enc_iso_2022_jp.specs.Iso2022JpLaws.{later_or, last_designated, number_or, SetsAreOfLastEscapes}
+use Rattle.enc_machine.proofs.SegmentationLemmas.{sequences_of-cons, sequences_of-nil}
+use Rattle.enc_machine.proofs.ToldLemmas.{true_or_false}
+use Rattle.enc_iso_2022_jp.proofs.Iso2022JpLemmas.{lead_is_no_escape, escape_first, no_escape_first, lead_first, alone_first, lead_alone, lead_and_trail}
+use Rattle.enc_iso_2022_jp.proofs.Iso2022JpRule.{is_escape_byte, other_front, found_or_not}
+
+-- the last escape sequence, by what stands in front
+
+later_or-none : (o : Option CharacterSet) → later_or o None ≡ o
+later_or-none None = refl
+later_or-none (Some s) = refl
+
+-- a byte where none begins
+no_escape : (b : ℕ) (w : List ℕ) → designated (b ∷ w) ≡ None → last_designated (b ∷ w) ≡ last_designated w
+unfolding last_designated
+no_escape b w e = ap (later_or (last_designated w)) e ∙ later_or-none (last_designated w)
+
+other_byte : (b : ℕ) (w : List ℕ) → eqb b 0x1B ≡ false → last_designated (b ∷ w) ≡ last_designated w
+other_byte b w n = no_escape b w (other_front b w n)
+
+-- 1B is neither the second byte of an escape sequence nor the third
+
+no_third : (a : ℕ) → set_named a 0x1B ≡ None
+no_third a = elim (true_or_false (eqb a 0x28)) [
+  | inl t ↦ rw t refl
+  | inr t ↦ elim (true_or_false (eqb a 0x24)) [ inl d ↦ rw (t, d) refl | inr d ↦ rw (t, d) refl ]
+]
+
+none_named : (s : CharacterSet) → None ≡ Some s → ⊥
+none_named s e = cc
+
+named_second : (a c : ℕ) (s : CharacterSet) → set_named a c ≡ Some s → eqb a 0x1B ≡ false
+named_second a c s e = elim (true_or_false (eqb a 0x1B)) [
+  | inl t ↦ absurd (none_named s (ap (λ x. set_named x c) (sym (is_escape_byte a t)) ∙ e))
+  | inr n ↦ n
+]
+
+named_third : (a c : ℕ) (s : CharacterSet) → set_named a c ≡ Some s → eqb c 0x1B ≡ false
+named_third a c s e = elim (true_or_false (eqb c 0x1B)) [
+  | inl t ↦ absurd (none_named s (sym (no_third a) ∙ ap (set_named a) (sym (is_escape_byte c t)) ∙ e))
+  | inr n ↦ n
+]
+
+whole_escape : (a c : ℕ) (s : CharacterSet) (w : List ℕ) → set_named a c ≡ Some s
+    → last_designated (0x1B ∷ a ∷ c ∷ w) ≡ later_or (last_designated w) (Some s)
+unfolding last_designated
+whole_escape a c s w e =
+    ap (λ o. later_or o (set_named a c)) (other_byte a (c ∷ w) (named_second a c s e) ∙ other_byte c w (named_third a c s e))
+    ∙ ap (later_or (last_designated w)) e
+
+number_behind : (set : ℕ) (o : Option CharacterSet) (s : CharacterSet)
+    → number_or set (later_or o (Some s)) ≡ number_or (set_number s) o
+number_behind set None s = refl
+number_behind set (Some t) s = refl
+
+-- fewer bytes name no escape sequence that more bytes don't
+fewer : (x y : List ℕ) → designated (x ++ y) ≡ None → designated x ≡ None
+fewer [] y e = refl
+fewer (a ∷ []) y e = refl
+fewer (a ∷ b ∷ []) y e = refl
+fewer (a ∷ b ∷ c ∷ x) y e = e
+
+-- Behind the sequence that stands first, the set is that of the last escape sequence, of those of its bytes and of
+-- the bytes w behind it.
+abbrev TellsSet : ℕ → ℕ → List ℕ → Head → Type 0
+TellsSet set b z h = (w v : List ℕ) → drop h.more z ≡ w ++ v
+    → number_or h.set (last_designated w) ≡ number_or set (last_designated (b ∷ (take h.more z ++ w)))
+
+one_byte : (set b : ℕ) (z : List ℕ) (found : Option ℕ) → eqb b 0x1B ≡ false
+    → TellsSet set b z (one_byte_head set found)
+one_byte set b z None n w v e = ap (number_or set) (sym (other_byte b w n))
+one_byte set b z (Some c) n w v e = ap (number_or set) (sym (other_byte b w n))
+
+two_bytes : (set b c : ℕ) (z : List ℕ) (found : Option ℕ) → eqb b 0x1B ≡ false → eqb c 0x1B ≡ false
+    → TellsSet set b (c ∷ z) (two_byte_head set found)
+two_bytes set b c z None n m w v e = ap (number_or set) (sym (other_byte b (c ∷ w) n ∙ other_byte c w m))
+two_bytes set b c z (Some d) n m w v e = ap (number_or set) (sym (other_byte b (c ∷ w) n ∙ other_byte c w m))
+
+alone_malformed : (set b : ℕ) (z : List ℕ) → eqb b 0x1B ≡ false → TellsSet set b z (malformed_head set 0)
+alone_malformed set b z n w v e = ap (number_or set) (sym (other_byte b w n))
+
+escape_malformed : (set : ℕ) (z : List ℕ) → designated (0x1B ∷ z) ≡ None → TellsSet set 0x1B z (malformed_head set 0)
+escape_malformed set z n w v e =
+    ap (number_or set) (sym (no_escape 0x1B w (fewer (0x1B ∷ w) v (ap (λ x. designated (0x1B ∷ x)) (sym e) ∙ n))))
+
+escape : (set a c : ℕ) (z : List ℕ) (s : CharacterSet) (another : Bool) → set_named a c ≡ Some s
+    → TellsSet set 0x1B (a ∷ c ∷ z) (escape_head set (Some s) another)
+escape set a c z s true n w v e =
+    sym (ap (number_or set) (whole_escape a c s w n) ∙ number_behind set (last_designated w) s)
+escape set a c z s false n w v e =
+    sym (ap (number_or set) (whole_escape a c s w n) ∙ number_behind set (last_designated w) s)
+
+-- every sequence
+
+tells_by : (set b : ℕ) (z : List ℕ) (h : Head) → jp_rule set b z ≡ h → TellsSet set b z h
+    → TellsSet set b z (jp_rule set b z)
+tells_by set b z h e t = subst (TellsSet set b z) (sym e) t
+
+not_begun : (set : ℕ) (z : List ℕ) → designated (0x1B ∷ z) ≡ None → TellsSet set 0x1B z (jp_rule set 0x1B z)
+not_begun set z n = tells_by set 0x1B z _ (no_escape_first set z n) (escape_malformed set z n)
+
+escape_tells : (set : ℕ) (z : List ℕ) → TellsSet set 0x1B z (jp_rule set 0x1B z)
+escape_tells set [] = not_begun set [] refl
+escape_tells set (a ∷ []) = not_begun set (a ∷ []) refl
+escape_tells set (a ∷ c ∷ z) = elim (found_or_not (set_named a c)) [
+  | inl n ↦ not_begun set (a ∷ c ∷ z) n
+  | inr f ↦ (let t = is_some (designated z) in
+      tells_by set 0x1B (a ∷ c ∷ z) _ (escape_first set (a ∷ c ∷ z) (Some f.0) t f.1 refl) (escape set a c z f.0 t f.1))
+]
+
+lead_tells : (set b : ℕ) (z : List ℕ) → is_lead (set_of set) b ≡ true → TellsSet set b z (jp_rule set b z)
+lead_tells set b [] l =
+    tells_by set b [] _ (lead_first set b [] l) (alone_malformed set b [] (lead_is_no_escape (set_of set) b l))
+lead_tells set b (c ∷ z) l =
+    let n = lead_is_no_escape (set_of set) b l in elim (true_or_false (eqb c 0x1B)) [
+      | inl t ↦ tells_by set b (c ∷ z) _ (lead_first set b (c ∷ z) l ∙ lead_alone set b (c ∷ z) t)
+          (alone_malformed set b (c ∷ z) n)
+      | inr m ↦ tells_by set b (c ∷ z) _ (lead_first set b (c ∷ z) l ∙ lead_and_trail set b c z m)
+          (two_bytes set b c z (two_byte_char b c) n m)
+    ]
+
+tells : (set b : ℕ) (z : List ℕ) → TellsSet set b z (jp_rule set b z)
+tells set b z = elim (true_or_false (eqb b 0x1B)) [
+  | inl t ↦ subst (λ (e : ℕ). TellsSet set e z (jp_rule set e z)) (sym (is_escape_byte b t)) (escape_tells set z)
+  | inr n ↦ elim (true_or_false (is_lead (set_of set) b)) [
+    | inl l ↦ lead_tells set b z l
+    | inr l ↦ tells_by set b z _ (alone_first set b z l n) (one_byte set b z (one_byte_char (set_of set) b) n)
+  ]
+]
+
+-- Sequences that come first: their bytes are in front, and the set behind them is that of their last escape sequence.
+abbrev HasSet : ℕ → List ℕ → List Sequence → Type 0
+HasSet set z before =
+    ((v : List ℕ) × (z ≡ bytes_of before ++ v)) × (set_after set before ≡ number_or set (last_designated (bytes_of before)))
+
+first_of : (s t : Sequence) (ss ts : List Sequence) → s ∷ ss ≡ t ∷ ts → s ≡ t
+first_of s t ss ts e = cc
+
+rest_of : (s t : Sequence) (ss ts : List Sequence) → s ∷ ss ≡ t ∷ ts → ss ≡ ts
+rest_of s t ss ts e = cc
+
+none_first : (s : Sequence) (ss : List Sequence) → [] ≡ s ∷ ss → ⊥
+none_first s ss e = cc
+
+sets : (set : ℕ) (z : List ℕ) (before behind : List Sequence) → sequences_of jp_rule set z ≡ before ++ behind
+    → HasSet set z before
+unfolding last_designated
+sets set z [] behind e = ((z, refl), refl)
+sets set [] (s ∷ before) behind e = absurd (none_first s (before ++ behind) (sym (sequences_of-nil jp_rule set) ∙ e))
+sets set (b ∷ z) (s ∷ before) behind e =
+    let h : Head = jp_rule set b z in
+    let g = sym (sequences_of-cons jp_rule set b z) ∙ e in
+    let k = sets h.set (drop h.more z) before behind (rest_of (head_sequence h b z) s _ (before ++ behind) g) in
+    let w = bytes_of before in
+    subst (λ (t : Sequence). HasSet set (b ∷ z) (t ∷ before)) (first_of (head_sequence h b z) s _ (before ++ behind) g) (
+      (
+        k.0.0,
+        ap (λ x. b ∷ x) (sym (take-append-drop h.more z) ∙ ap (λ x. take h.more z ++ x) k.0.1
+            ∙ sym (append_assoc (take h.more z) w k.0.0)),
+      ),
+      k.1 ∙ tells set b z w k.0.0 k.0.1,
+    )
+
+pub sets_are_of_last_escapes : SetsAreOfLastEscapes jp_rule
+sets_are_of_last_escapes set z before behind e = (sets set z before behind e).1

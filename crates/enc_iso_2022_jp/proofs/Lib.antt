@@ -1,0 +1,6 @@
+pub mod Iso2022JpLemmas
+pub mod Iso2022JpRule
+pub mod Iso2022JpUndetermined
+pub mod Iso2022JpComes
+pub mod Iso2022JpSets
+pub mod Iso2022JpPieces

@@ -1,0 +1,95 @@
+-- The state of the ISO-2022-JP decoder.
+use Rattle.std.specs.Prelude.{◌≡◌, ℕ, Bool, true, false, ◌==◌, Option, Some, None, List, [], ◌∷◌, ◌++◌}
+use Rattle.enc_machine.specs.declared.byte_codec.Kind.TheVariants.{Valid, Malformed}
+use Rattle.enc_machine.specs.declared.byte_codec.Text.TheVariants.{One}
+use Rattle.enc_machine.specs.declared.byte_codec.Shown.{Shown}
+use Rattle.enc_iso_2022_jp.specs.declared.iso_2022_jp.CharacterSet.{CharacterSet}
+use Rattle.enc_iso_2022_jp.specs.declared.iso_2022_jp.CharacterSet.TheVariants.{Ascii, Roman, Katakana, Jis0208}
+use Rattle.enc_iso_2022_jp.specs.declared.iso_2022_jp.Intermediate.{Intermediate}
+use Rattle.enc_iso_2022_jp.specs.declared.iso_2022_jp.Intermediate.TheVariants.{Parenthesis, Dollar}
+use Rattle.enc_iso_2022_jp.specs.declared.iso_2022_jp.Escape.{Escape}
+use Rattle.enc_iso_2022_jp.specs.declared.iso_2022_jp.Escape.TheVariants.{ToAscii, ToRoman, ToKatakana, ToJis0208Of1978, ToJis0208Of1983}
+use Rattle.enc_iso_2022_jp.specs.declared.iso_2022_jp.Held.{Held}
+use Rattle.enc_iso_2022_jp.specs.declared.iso_2022_jp.Held.TheVariants.{GivenBack, Lead, Whole, Start, Started}
+use Rattle.enc_machine.specs.CodecState.{CodecState}
+use Rattle.enc_iso_2022_jp.specs.Iso2022Jp.{set_number, designated, is_lead, iso_2022_jp_rule}
+
+-- the designated character set and the held bytes
+pub record Iso2022JpState : Type 0 where
+  pub set : CharacterSet
+  pub held : Option Held
+
+abbrev pub holding : CharacterSet → Option Held → Iso2022JpState
+holding set held = record { set = set; held = held }
+
+-- the second byte of an escape sequence
+abbrev pub intermediate_byte : Intermediate → ℕ
+intermediate_byte Parenthesis = 0x28
+intermediate_byte Dollar = 0x24
+
+abbrev pub escape_bytes : Escape → List ℕ
+escape_bytes ToAscii = 0x1B ∷ 0x28 ∷ 0x42 ∷ []
+escape_bytes ToRoman = 0x1B ∷ 0x28 ∷ 0x4A ∷ []
+escape_bytes ToKatakana = 0x1B ∷ 0x28 ∷ 0x49 ∷ []
+escape_bytes ToJis0208Of1978 = 0x1B ∷ 0x24 ∷ 0x40 ∷ []
+escape_bytes ToJis0208Of1983 = 0x1B ∷ 0x24 ∷ 0x42 ∷ []
+
+abbrev pub escape_set : Escape → CharacterSet
+escape_set ToAscii = Ascii
+escape_set ToRoman = Roman
+escape_set ToKatakana = Katakana
+escape_set ToJis0208Of1978 = Jis0208
+escape_set ToJis0208Of1983 = Jis0208
+
+-- a whole escape sequence, if there is one, and the bytes behind it
+abbrev pub behind : Option Escape → List ℕ → List ℕ
+behind None z = z
+behind (Some e) z = escape_bytes e ++ z
+
+abbrev pub held_bytes : Option Held → List ℕ
+held_bytes None = []
+held_bytes (Some (GivenBack b)) = b ∷ []
+held_bytes (Some (Lead b)) = b ∷ []
+held_bytes (Some (Whole e)) = escape_bytes e
+held_bytes (Some (Start before)) = behind before (0x1B ∷ [])
+held_bytes (Some (Started before i)) = behind before (0x1B ∷ intermediate_byte i ∷ [])
+
+-- A byte that was given back begins no escape sequence and no character of two bytes; a held lead byte does.
+abbrev pub CanHold : CharacterSet → Option Held → Type 0
+CanHold set None = Unit {0}
+CanHold set (Some (GivenBack b)) = (is_lead set b ≡ false) × ((b == 0x1B) ≡ false)
+CanHold set (Some (Lead b)) = is_lead set b ≡ true
+CanHold set (Some (Whole e)) = Unit {0}
+CanHold set (Some (Start before)) = Unit {0}
+CanHold set (Some (Started before i)) = Unit {0}
+
+abbrev pub iso_2022_jp_state : Iso2022JpState → CodecState
+iso_2022_jp_state s = record { rule = iso_2022_jp_rule; set = set_number s.set; pending = held_bytes s.held }
+
+-- a lead byte that no byte of its character follows
+abbrev pub ends_lead : List ℕ → Bool
+ends_lead [] = true
+ends_lead (b ∷ z) = b == 0x1B
+
+-- What follows cuts off what the held bytes begin: no byte goes on with a lead byte, and no escape sequence goes on
+-- with what is there of one, or follows a whole one.
+abbrev pub CutsOff : Held → List ℕ → Type 0
+CutsOff (GivenBack b) z = Unit {0}
+CutsOff (Lead b) z = ends_lead z ≡ true
+CutsOff (Whole e) z = designated z ≡ None
+CutsOff (Start before) z = designated (0x1B ∷ z) ≡ None
+CutsOff (Started before i) z = designated (0x1B ∷ intermediate_byte i ∷ z) ≡ None
+
+-- a character of so many bytes, or where there is none, so many malformed bytes
+abbrev pub shown_char : Option ℕ → ℕ → Bool → Iso2022JpState → Shown Iso2022JpState
+shown_char (Some c) len takes_byte next =
+    record { text = One c; kind = Valid; len = len; takes_byte = takes_byte; next = next }
+shown_char None len takes_byte next =
+    record { text = One 0xFFFD; kind = Malformed; len = len; takes_byte = takes_byte; next = next }
+
+-- An escape sequence comes first, and behind it a byte that begins no other.
+pub record StandsAlone (src : List ℕ) (e : Escape) : Type 0 where
+  pub byte : ℕ
+  pub rest : List ℕ
+  pub bytes : src ≡ escape_bytes e ++ byte ∷ rest
+  pub other : (byte == 0x1B) ≡ false

@@ -1,0 +1,3 @@
+pub mod Iso2022Jp
+pub mod Iso2022JpState
+pub mod Iso2022JpLaws

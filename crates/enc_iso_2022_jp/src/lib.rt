@@ -1,0 +1,7 @@
+//! The decoder of ISO-2022-JP.
+#![tactic(auto)]
+
+mod iso_2022_jp;
+pub mod laws;
+
+pub use iso_2022_jp::Iso2022JpDecoder;

@@ -1,0 +1,13 @@
+pub mod SequenceLemmas
+pub mod SegmentationLemmas
+pub mod DeterminedLemmas
+pub mod ByteLemmas
+pub mod Progress
+pub mod CallLemmas
+pub mod ComingLemmas
+pub mod MachineLemmas
+pub mod RuleLemmas
+pub mod ShowLemmas
+pub mod ToldLemmas
+pub mod TakingLemmas
+pub mod PieceLemmas

@@ -1,0 +1,56 @@
+-- Lists of sequences, one behind another.
+use Rattle.std.proofs.Common.{◌≡◌, ℕ, Bool, true, false, List, [], ◌∷◌, ◌++◌, refl, ap, ◌∙◌, sym, append_assoc, ◌||◌}
+use Rattle.std.proofs.lemmas.List.{append-nil}
+use Rattle.enc_units.specs.Output.{units_of_text}
+use Rattle.enc_machine.specs.Sequence.{Sequence, bytes_of, text_of, is_malformed, any_malformed, set_after}
+
+pub bytes_of-append : (ss ts : List Sequence) → bytes_of (ss ++ ts) ≡ bytes_of ss ++ bytes_of ts
+bytes_of-append [] ts = refl
+bytes_of-append (s ∷ ss) ts = ap (λ z. s.bytes ++ z) (bytes_of-append ss ts) ∙ sym (append_assoc s.bytes (bytes_of ss) (bytes_of ts))
+
+pub text_of-append : (ss ts : List Sequence) → text_of (ss ++ ts) ≡ text_of ss ++ text_of ts
+text_of-append [] ts = refl
+text_of-append (s ∷ ss) ts = ap (λ z. s.text ++ z) (text_of-append ss ts) ∙ sym (append_assoc s.text (text_of ss) (text_of ts))
+
+pub units_of_text-append : (units_of : ℕ → List ℕ) (a b : List ℕ) → units_of_text units_of (a ++ b) ≡ units_of_text units_of a ++ units_of_text units_of b
+units_of_text-append units_of [] b = refl
+units_of_text-append units_of (c ∷ cs) b =
+    ap (λ t. units_of c ++ t) (units_of_text-append units_of cs b) ∙ sym (append_assoc (units_of c) (units_of_text units_of cs) (units_of_text units_of b))
+
+-- the units of two lists of sequences
+pub units-append : (units_of : ℕ → List ℕ) (ss ts : List Sequence)
+    → units_of_text units_of (text_of (ss ++ ts)) ≡ units_of_text units_of (text_of ss) ++ units_of_text units_of (text_of ts)
+units-append units_of ss ts = ap (units_of_text units_of) (text_of-append ss ts) ∙ units_of_text-append units_of (text_of ss) (text_of ts)
+
+pub or_assoc : (a b c : Bool) → ((a || b) || c) ≡ (a || (b || c))
+or_assoc a b c = elim a as (λ a. ((a || b) || c) ≡ (a || (b || c))) [ true ↦ refl | false ↦ refl ]
+
+pub or_false : (a : Bool) → (a || false) ≡ a
+or_false a = elim a as (λ a. (a || false) ≡ a) [ true ↦ refl | false ↦ refl ]
+
+pub or_true : (a : Bool) → (a || true) ≡ true
+or_true a = elim a as (λ a. (a || true) ≡ true) [ true ↦ refl | false ↦ refl ]
+
+pub any_malformed-append : (ss ts : List Sequence) → any_malformed (ss ++ ts) ≡ (any_malformed ss || any_malformed ts)
+any_malformed-append [] ts = refl
+any_malformed-append (s ∷ ss) ts =
+    ap (λ z. is_malformed s.kind || z) (any_malformed-append ss ts) ∙ sym (or_assoc (is_malformed s.kind) (any_malformed ss) (any_malformed ts))
+
+pub set_after-append : (set : ℕ) (ss ts : List Sequence) → set_after set (ss ++ ts) ≡ set_after (set_after set ss) ts
+set_after-append set [] ts = refl
+set_after-append set (s ∷ ss) ts = set_after-append s.set ss ts
+
+-- one sequence more
+
+pub bytes_of-one : (ss : List Sequence) (s : Sequence) → bytes_of (ss ++ s ∷ []) ≡ bytes_of ss ++ s.bytes
+bytes_of-one ss s = bytes_of-append ss (s ∷ []) ∙ ap (λ t. bytes_of ss ++ t) (append-nil s.bytes)
+
+pub units-one : (units_of : ℕ → List ℕ) (ss : List Sequence) (s : Sequence)
+    → units_of_text units_of (text_of (ss ++ s ∷ [])) ≡ units_of_text units_of (text_of ss) ++ units_of_text units_of s.text
+units-one units_of ss s = units-append units_of ss (s ∷ []) ∙ ap (λ t. units_of_text units_of (text_of ss) ++ units_of_text units_of t) (append-nil s.text)
+
+pub any_malformed-one : (ss : List Sequence) (s : Sequence) → any_malformed (ss ++ s ∷ []) ≡ (any_malformed ss || is_malformed s.kind)
+any_malformed-one ss s = any_malformed-append ss (s ∷ []) ∙ ap (λ b. any_malformed ss || b) (or_false (is_malformed s.kind))
+
+pub set_after-one : (set : ℕ) (ss : List Sequence) (s : Sequence) → set_after set (ss ++ s ∷ []) ≡ s.set
+set_after-one set ss s = set_after-append set ss (s ∷ [])

@@ -1,0 +1,58 @@
+-- What tells the sequence that comes first, for every rule.
+use Rattle.std.proofs.Common.{◌≡◌, ℕ, ◌+◌, ◌≤◌, Bool, true, false, List, [], ◌∷◌, ◌++◌, length, take, refl, ap, ◌∙◌, sym, arith, subst, append-nil, ◌⊎◌, inl, inr}
+use Rattle.std.proofs.lemmas.List.{length-take-le}
+use Rattle.enc_machine.specs.declared.byte_codec.Kind.{Kind}
+use Rattle.enc_machine.specs.declared.byte_codec.Kind.TheVariants.{Valid}
+use Rattle.enc_machine.specs.Sequence.{Sequence}
+use Rattle.enc_machine.specs.Segmentation.{Rule, Head, head_sequence, sequences_of}
+use Rattle.enc_machine.specs.Remainder.{IsUndetermined}
+use Rattle.enc_machine.specs.RuleLaws.{IsToldBy, IsToldByEnd, IsToldSoon, HasLookahead}
+use Rattle.enc_machine.proofs.SegmentationLemmas.{sequences_of-cons}
+use Rattle.enc_machine.proofs.ShowLemmas.{undetermined_by}
+
+pub true_or_false : (t : Bool) → (t ≡ true) ⊎ (t ≡ false)
+true_or_false true = inl refl
+true_or_false false = inr refl
+
+-- the same head with whatever follows
+pub told_by : (rule : Rule) (set b : ℕ) (z : List ℕ) (n : ℕ) (h : Head) → rule set b z ≡ h → h.more + n ≤ length z
+    → ((y : List ℕ) → rule set b (take (h.more + n) z ++ y) ≡ h) → IsToldBy rule set b z n
+told_by rule set b z n h e l f = record {
+  there = subst (λ (k : Head). k.more + n ≤ length z) (sym e) l;
+  same = λ y. ap (λ (k : Head). rule set b (take (k.more + n) z ++ y)) e ∙ f y ∙ sym e;
+}
+
+-- What the law asks of one sequence: it is told by its own bytes, or it is not valid and is told soon.
+abbrev pub IsToldInTime : Rule → ℕ → ℕ → List ℕ → Type 0
+IsToldInTime rule set b z = IsToldBy rule set b z 0 ⊎ (((rule set b z).kind ≡ Valid → ⊥) × IsToldSoon rule set b z)
+
+pub lookahead_by : (rule : Rule) → ((set b : ℕ) (z : List ℕ) → IsToldInTime rule set b z) → HasLookahead rule
+lookahead_by rule h = record {
+  valid = λ set b z v. elim (h set b z) [ inl t ↦ t | inr u ↦ absurd (u.0 v) ];
+  others = λ set b z. elim (h set b z) [ inl t ↦ inl (0, omega arith, t) | inr u ↦ u.1 ];
+}
+
+same_head : (h k : Head) → h.more ≡ k.more → h.text ≡ k.text → h.kind ≡ k.kind → h.set ≡ k.set → h ≡ k
+same_head h k m t n s =
+    let made : ℕ → List ℕ → Kind → ℕ → Head = λ a b c d. record { more = a; text = b; kind = c; set = d } in
+    ap (λ a. made a h.text h.kind h.set) m ∙ ap (λ b. made k.more b h.kind h.set) t
+    ∙ ap (λ c. made k.more k.text c h.set) n ∙ ap (made k.more k.text k.kind) s
+
+tails : (a b : ℕ) (y z : List ℕ) → a ∷ y ≡ b ∷ z → y ≡ z
+tails a b y z e = cc
+
+same_by_sequence : (h k : Head) (b : ℕ) (y z : List ℕ) → h.more ≤ length y → k.more ≤ length z
+    → head_sequence h b y ≡ head_sequence k b z → h ≡ k
+same_by_sequence h k b y z m n e =
+    let t : take h.more y ≡ take k.more z = tails b b _ _ (ap (λ (s : Sequence). s.bytes) e) in
+    same_head h k (sym (length-take-le h.more y m) ∙ ap length t ∙ length-take-le k.more z n)
+    (ap (λ (s : Sequence). s.text) e) (ap (λ (s : Sequence). s.kind) e) (ap (λ (s : Sequence). s.set) e)
+
+-- Bytes that only the end of the input makes a sequence determine nothing.
+pub undetermined_by_end : (rule : Rule) (set b : ℕ) (z : List ℕ) → ((y : List ℕ) → (rule set b y).more ≤ length y)
+    → IsToldByEnd rule set b z → IsUndetermined (λ y. sequences_of rule set (b ∷ (z ++ y)))
+undetermined_by_end rule set b z within t =
+    undetermined_by (λ y. sequences_of rule set (b ∷ (z ++ y))) [] t.more _ _ _ _ tt t.bytes
+    (ap (λ y. sequences_of rule set (b ∷ y)) (append-nil z) ∙ sequences_of-cons rule set b z)
+    (sequences_of-cons rule set b (z ++ t.more))
+    (λ e. t.other (same_by_sequence _ _ b (z ++ t.more) z (within (z ++ t.more)) (within z) (sym e)))

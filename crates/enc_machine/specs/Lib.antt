@@ -1,0 +1,9 @@
+pub mod Sequence
+pub mod Segmentation
+pub mod Remainder
+pub mod Call
+pub mod CodecState
+pub mod CodecLaw
+pub mod RuleLaws
+pub mod Pending
+pub mod Taking

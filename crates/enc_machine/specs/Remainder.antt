@@ -1,0 +1,31 @@
+-- What is still to come out of a decoder, by the bytes that follow.
+use Rattle.std.specs.Prelude.{◌≡◌, ℕ, ◌<◌, Bool, true, false, List, [], ◌∷◌, ◌++◌}
+use Rattle.enc_machine.specs.Sequence.{Sequence}
+
+-- What is known of a decoder between two calls: the bytes that were read and whose sequence is not put out,
+-- the designated character set, and the sequences still to come if the given bytes are all that follows.
+pub record Remainder : Type 0 where
+  pub pending : List ℕ
+  pub set : ℕ
+  pub sequences : List ℕ → List Sequence
+
+abbrev pub AreBytes : List ℕ → Type 0
+AreBytes [] = Unit {0}
+AreBytes (b ∷ z) = (b < 256) × AreBytes z
+
+-- these sequences begin the list
+abbrev pub Begins : List Sequence → List Sequence → Type 0
+Begins ss all = (rest : List Sequence) × (all ≡ ss ++ rest)
+
+-- The bytes x determine that these sequences come first, whatever bytes follow.
+abbrev pub Determines : (List ℕ → List Sequence) → List ℕ → List Sequence → Type 0
+Determines remaining x ss = (z : List ℕ) → AreBytes z → Begins ss (remaining (x ++ z))
+
+-- the same where the end of the input may be known
+abbrev pub AreDetermined : Bool → (List ℕ → List Sequence) → List ℕ → List Sequence → Type 0
+AreDetermined true remaining x ss = Begins ss (remaining x)
+AreDetermined false remaining x ss = Determines remaining x ss
+
+-- With no byte more, no sequence is determined.
+abbrev pub IsUndetermined : (List ℕ → List Sequence) → Type 0
+IsUndetermined remaining = (s : Sequence) → Determines remaining [] (s ∷ []) → ⊥

@@ -1,0 +1,46 @@
+-- The one segmentation of a whole byte list into sequences (Encoding Standard 4.1, "process a queue").
+use Rattle.std.specs.Prelude.{ℕ, Option, Some, None, List, [], ◌∷◌, take}
+use Rattle.std.proofs.Common.{zero, suc}
+use Rattle.enc_machine.specs.declared.byte_codec.Kind.{Kind}
+use Rattle.enc_machine.specs.declared.byte_codec.Kind.TheVariants.{Valid, Malformed}
+use Rattle.enc_machine.specs.Sequence.{Sequence}
+
+-- What stands first: how many bytes after the first belong to it, its text and kind, and the character set
+-- designated behind it.
+pub record Head : Type 0 where
+  pub more : ℕ
+  pub text : List ℕ
+  pub kind : Kind
+  pub set : ℕ
+
+-- a character and what is malformed, by how many bytes after the first belong to it
+abbrev pub character_head : ℕ → ℕ → ℕ → Head
+character_head set more c = record { more = more; text = c ∷ []; kind = Valid; set = set }
+
+abbrev pub malformed_head : ℕ → ℕ → Head
+malformed_head set more = record { more = more; text = 0xFFFD ∷ []; kind = Malformed; set = set }
+
+-- a byte that stands alone: its character, or malformed where it has none
+abbrev pub one_byte_head : ℕ → Option ℕ → Head
+one_byte_head set (Some c) = record { more = 0; text = c ∷ []; kind = Valid; set = set }
+one_byte_head set None = record { more = 0; text = 0xFFFD ∷ []; kind = Malformed; set = set }
+
+-- An encoding's rule tells what stands first, by the designated character set, the first byte and all bytes
+-- after it, to the end of the input.
+abbrev pub Rule : Type 0
+Rule = ℕ → ℕ → List ℕ → Head
+
+-- the sequence that stands first
+abbrev pub head_sequence : Head → ℕ → List ℕ → Sequence
+head_sequence h b z = record { bytes = b ∷ take h.more z; text = h.text; kind = h.kind; set = h.set }
+
+-- the sequences behind the first k bytes
+unfoldable pub sequences_behind : Rule → ℕ → ℕ → List ℕ → List Sequence
+sequences_behind rule set k [] = []
+sequences_behind rule set zero (b ∷ z) =
+    head_sequence (rule set b z) b z ∷ sequences_behind rule (rule set b z).set (rule set b z).more z
+sequences_behind rule set (suc k) (b ∷ z) = sequences_behind rule set k z
+
+-- the sequences of a byte list, from a designated character set on
+abbrev pub sequences_of : Rule → ℕ → List ℕ → List Sequence
+sequences_of rule set z = sequences_behind rule set 0 z

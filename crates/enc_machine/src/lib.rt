@@ -1,0 +1,14 @@
+//! What a raw decoder promises, and the one loop over the bytes of a call that keeps it for every codec.
+#![tactic(auto)]
+
+mod byte_codec;
+mod decoder_result;
+mod machine;
+mod pending;
+mod raw_decoder;
+
+pub use byte_codec::{ByteCodec, Kind, Shown, Step, Text};
+pub use decoder_result::DecoderResult;
+pub use machine::run;
+pub use pending::Pending;
+pub use raw_decoder::RawDecoder;

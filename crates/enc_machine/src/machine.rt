@@ -1,0 +1,158 @@
+//! The loop over the bytes of one call, for every codec and every output.
+
+ghost use Rattle.std.specs.Prelude.{◌≡◌, ℕ, ◌<◌, ◌≤◌, true, false, length, nat_le, IsTrue, IsFalse};
+ghost use Rattle.enc_units.specs.Output.{appended, units_of_text};
+ghost use Rattle.enc_machine.specs.CodecState.{remainder_of};
+ghost use Rattle.enc_machine.specs.CodecLaw.{IsComing, chars_of};
+ghost use Rattle.enc_machine.specs.Call.{CallInto, Reported};
+ghost use Rattle.enc_machine.specs.Sequence.{is_malformed as malformed_kind};
+
+use crate::byte_codec::{ByteCodec, Kind, Shown, Step, Text};
+use crate::decoder_result::DecoderResult;
+use enc_units::Units;
+
+/// What comes next in a call.
+#[derive(Clone, Copy)]
+enum Coming<C> {
+    /// Nothing, until more is offered.
+    Stay,
+    /// A byte that is held.
+    Hold(C),
+    /// A sequence.
+    Next(Shown<C>),
+}
+
+/// What comes next: a sequence that the pending bytes, the next byte or the end shows, a byte to hold, or nothing.
+fn what_comes<C: ByteCodec>(codec: C, src: &[u8], read: usize, last: bool) -> Coming<C>
+    requires { read ≤ length src.now }
+    ensures { IsComing C.state codec src.now read last result }
+{
+    match codec.ready() {
+        Some(shown) => Coming::Next(shown),
+        None => {
+            if read < src.len() {
+                match codec.next_step(src[read]) {
+                    Step::Wait(next) => Coming::Hold(next),
+                    Step::Show(shown) => Coming::Next(shown),
+                }
+            } else if last {
+                match codec.at_end() {
+                    Some(shown) => Coming::Next(shown),
+                    None => Coming::Stay,
+                }
+            } else {
+                Coming::Stay
+            }
+        }
+    }
+}
+
+/// How many code units a text has.
+fn width<U: Units>(text: Text) -> usize
+    ensures { result ≡ length (units_of_text U.units_of (chars_of text)) }
+{
+    match text {
+        Text::Nothing => 0,
+        Text::One(first) => U::width(first),
+        Text::Two(first, second) => U::width(first) + U::width(second),
+    }
+}
+
+/// Writes a text, or nothing where it doesn't fit as a whole.
+#[inline(always)]
+fn put_text<U: Units>(out: &mut U, text: Text) -> bool
+    ensures fits { result ≡ nat_le (length (units_of_text U.units_of (chars_of text))) (U.output out.old).room }
+    ensures written { IsTrue result → U.output out.new ≡ appended (U.output out.old) (units_of_text U.units_of (chars_of text)) }
+    ensures unchanged { IsFalse result → U.output out.new ≡ U.output out.old }
+{
+    if width::<U>(text) > out.room() {
+        return false;
+    }
+    match text {
+        Text::Nothing => true,
+        Text::One(first) => out.put(first),
+        Text::Two(first, second) => out.put(first) && out.put(second),
+    }
+}
+
+/// Writes the text of a sequence, or nothing where it is malformed or doesn't fit.
+#[inline(always)]
+fn put_out<U: Units>(out: &mut U, kind: Kind, text: Text) -> bool
+    ensures valid { IsTrue result → malformed_kind kind ≡ false }
+    ensures fits { IsTrue result → nat_le (length (units_of_text U.units_of (chars_of text))) (U.output out.old).room ≡ true }
+    ensures written { IsTrue result → U.output out.new ≡ appended (U.output out.old) (units_of_text U.units_of (chars_of text)) }
+    ensures full { IsFalse result → malformed_kind kind ≡ false →
+        nat_le (length (units_of_text U.units_of (chars_of text))) (U.output out.old).room ≡ false }
+    ensures unchanged { IsFalse result → U.output out.new ≡ U.output out.old }
+{
+    if kind.is_malformed() {
+        return false;
+    }
+    put_text(out, text)
+}
+
+/// Whether a sequence is to be reported: it is malformed, and U+FFFD fits or its room isn't asked for.
+fn is_reported<U: Units>(out: &U, kind: Kind, fault_room: bool) -> bool
+    ensures malformed { IsTrue result → malformed_kind kind ≡ true }
+    ensures room { IsTrue result → fault_room ≡ true → length (U.units_of 0xFFFD) ≤ (U.output out.now).room }
+    ensures asked { IsFalse result → malformed_kind kind ≡ true → fault_room ≡ true }
+    ensures full { IsFalse result → malformed_kind kind ≡ true → (U.output out.now).room < length (U.units_of 0xFFFD) }
+{
+    if !kind.is_malformed() {
+        return false;
+    }
+    if !fault_room {
+        return true;
+    }
+    out.room() >= U::width('\u{FFFD}')
+}
+
+/// The call of every decoder that takes one byte at a time. It decodes until all is read, the next sequence
+/// doesn't fit, or is malformed. With `fault_room` a malformed sequence is reported only where U+FFFD fits, and
+/// else the output is full. Takes no memory.
+pub fn run<C: ByteCodec, U: Units>(
+    codec: &mut C,
+    src: &[u8],
+    out: &mut U,
+    last: bool,
+    fault_room: bool,
+) -> (DecoderResult, usize)
+    ensures call { CallInto U.units_of (remainder_of (C.state codec.old)) (remainder_of (C.state codec.new)) src.now last
+        (Reported fault_room) (U.output out.old) (U.output out.new) result.0 result.1 false }
+    ensures rule { (C.state codec.new).rule ≡ (C.state codec.old).rule }
+{
+    let mut state = *codec;
+    let mut read = 0;
+    loop {
+        let (_, rest) = src.split_at(read);
+        let (ahead, taken) = state.take_run(rest, out);
+        state = ahead;
+        read += taken;
+        let shown = match what_comes(state, src, read, last) {
+            Coming::Stay => {
+                *codec = state;
+                return (DecoderResult::InputEmpty, read);
+            }
+            Coming::Hold(next) => {
+                state = next;
+                read += 1;
+                continue;
+            }
+            Coming::Next(shown) => shown,
+        };
+        let end = if shown.takes_byte { read + 1 } else { read };
+        if is_reported(out, shown.kind, fault_room) {
+            *codec = shown.next;
+            return (
+                DecoderResult::Malformed(shown.len, shown.next.pending_len()),
+                end,
+            );
+        }
+        if !put_out(out, shown.kind, shown.text) {
+            *codec = state;
+            return (DecoderResult::OutputFull, read);
+        }
+        state = shown.next;
+        read = end;
+    }
+}

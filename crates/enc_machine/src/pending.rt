@@ -1,0 +1,65 @@
+//! Pending bytes, three at most.
+
+ghost use Rattle.std.specs.Prelude.{◌≡◌, ◌<◌, [], ◌∷◌, ◌++◌, length, drop};
+ghost use Rattle.enc_machine.specs.Pending.{pending_bytes, first_of};
+
+/// The bytes that were read and whose sequence is not shown yet.
+#[derive(Clone, Copy)]
+pub enum Pending {
+    Nothing,
+    One(u8),
+    Two(u8, u8),
+    Three(u8, u8, u8),
+}
+
+impl Pending {
+    /// How many they are.
+    pub fn len(self) -> u8
+        ensures { result ≡ length (pending_bytes self) }
+    {
+        match self {
+            Pending::Nothing => 0,
+            Pending::One(_) => 1,
+            Pending::Two(_, _) => 2,
+            Pending::Three(_, _, _) => 3,
+        }
+    }
+
+    /// The first of them.
+    pub fn first(self) -> Option<u8>
+        ensures { result ≡ first_of (pending_bytes self) }
+    {
+        match self {
+            Pending::Nothing => None,
+            Pending::One(first) => Some(first),
+            Pending::Two(first, _) => Some(first),
+            Pending::Three(first, _, _) => Some(first),
+        }
+    }
+
+    /// What is left of them behind so many.
+    pub fn behind(self, count: u8) -> Pending
+        ensures { pending_bytes result ≡ drop count (pending_bytes self) }
+    {
+        match (count, self) {
+            (0, _) => self,
+            (1, Pending::Two(_, second)) => Pending::One(second),
+            (1, Pending::Three(_, second, third)) => Pending::Two(second, third),
+            (2, Pending::Three(_, _, third)) => Pending::One(third),
+            _ => Pending::Nothing,
+        }
+    }
+
+    /// They and one more, where they are two at most.
+    pub fn with(self, byte: u8) -> Pending
+        requires { length (pending_bytes self) < 3 }
+        ensures { pending_bytes result ≡ pending_bytes self ++ byte ∷ [] }
+    {
+        match self {
+            Pending::Nothing => Pending::One(byte),
+            Pending::One(first) => Pending::Two(first, byte),
+            Pending::Two(first, second) => Pending::Three(first, second, byte),
+            Pending::Three(_, _, _) => unreachable!(),
+        }
+    }
+}

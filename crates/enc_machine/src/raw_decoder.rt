@@ -1,0 +1,41 @@
+//! What every decoder has to keep to.
+
+ghost use Rattle.std.specs.Prelude.{◌≡◌, ◌≤◌, false, length};
+ghost use Rattle.enc_machine.specs.CodecState.{CodecState, remainder_of};
+ghost use Rattle.enc_machine.specs.Call.{CallInto, Reported};
+ghost use Rattle.enc_machine.specs.RuleLaws.{IsLawful};
+
+use crate::decoder_result::DecoderResult;
+use enc_units::Units;
+
+/// A decoder of one encoding, behind any byte order mark (Encoding Standard 4.1): a rule by which it segments
+/// bytes, the designated character set, and the bytes that it has read and whose sequence it has not put out.
+/// A value of it is a state between two calls.
+pub trait RawDecoder: Copy {
+    // its rule, the designated character set, and the pending bytes
+    ghost state: { Self → CodecState };
+
+    /// Decodes until all of `src` is read, the next sequence doesn't fit into `out`, or is malformed, and answers
+    /// which, and how many bytes it has read. With `last` it is told that nothing follows `src`. With
+    /// `fault_room` a malformed sequence is reported only where U+FFFD fits into `out`, and else the output is
+    /// full. Takes no memory.
+    fn decode<U: Units>(
+        &mut self,
+        src: &[u8],
+        out: &mut U,
+        last: bool,
+        fault_room: bool,
+    ) -> (DecoderResult, usize)
+        ensures call { CallInto U.units_of (remainder_of (state self.old)) (remainder_of (state self.new)) src.now last
+            (Reported fault_room) (U.output out.old) (U.output out.new) result.0 result.1 false }
+        ensures rule { (state self.new).rule ≡ (state self.old).rule }
+
+        // A valid sequence is told by its own bytes, and any other by three more at most, or by the end; each has
+        // a text of four UTF-8 code units at most.
+        ensures lawful { IsLawful (state self.old).rule };
+
+    /// How many bytes are read whose sequence is not put out: five at most. Takes no memory.
+    fn held(&self) -> usize
+        ensures count { result ≡ length (state self.now).pending }
+        ensures few { result ≤ 5 };
+}

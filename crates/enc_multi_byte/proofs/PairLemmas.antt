@@ -1,0 +1,49 @@
+-- The pairs of Big5, EUC-KR and Shift_JIS.
+use Rattle.std.proofs.Common.{◌≡◌, ℕ, Bool, true, false, cond, Option, Some, None, [], ◌++◌, length, ◌==◌, refl, arith, subst}
+use Rattle.std.proofs.lemmas.List.{length-append}
+use Rattle.std.specs.Char.{encode_utf8}
+use Rattle.enc_machine.specs.declared.byte_codec.Text.{Text}
+use Rattle.enc_machine.specs.declared.byte_codec.Text.TheVariants.{Two}
+use Rattle.enc_multi_byte.specs.DoubleByte.{IsText, ArePairs}
+use Rattle.enc_multi_byte.specs.Big5.{big5_trail, big5_pointer, big5_text, big5_pair}
+use Rattle.enc_multi_byte.specs.EucKr.{euc_kr_pair}
+use Rattle.enc_multi_byte.specs.ShiftJis.{shift_jis_pair}
+use Rattle.enc_multi_byte.proofs.DoubleByteLemmas.{char_is_text}
+
+abbrev IsTextOf : Option Text → Type 0
+IsTextOf t = (text : Text) → t ≡ Some text → IsText text
+
+either : (t : Bool) (x y : Option Text) → IsTextOf x → IsTextOf y → IsTextOf (cond t x y)
+either true x y p q = p
+either false x y p q = q
+
+-- two characters of two code units each
+two_are_text : (a b : ℕ) → length (encode_utf8 a) ≡ 2 → length (encode_utf8 b) ≡ 2 → IsText (Two a b)
+two_are_text a b e f = record {
+  some = λ g. cc;
+  small = omega (arith, e, f, length-append (encode_utf8 a) (encode_utf8 b ++ []), length-append (encode_utf8 b) []);
+}
+
+two : (a b : ℕ) → IsText (Two a b) → IsTextOf (Some (Two a b))
+two a b h text e = subst IsText (let f : Two a b ≡ text = cc in f) h
+
+pair_is_text : (a b : ℕ) (text : Text) → big5_pair a b ≡ Some text → IsText text
+unfolding encode_utf8
+pair_is_text a b =
+    let p = big5_pointer a b in
+    either (big5_trail b) (big5_text p) None
+    (either (p == 1133) _ _ (two 0xCA 0x304 (two_are_text 0xCA 0x304 refl refl))
+    (either (p == 1135) _ _ (two 0xCA 0x30C (two_are_text 0xCA 0x30C refl refl))
+    (either (p == 1164) _ _ (two 0xEA 0x304 (two_are_text 0xEA 0x304 refl refl))
+    (either (p == 1166) _ _ (two 0xEA 0x30C (two_are_text 0xEA 0x30C refl refl))
+    (char_is_text _)))))
+    (λ text e. cc)
+
+pub big5_pairs : ArePairs big5_pair
+big5_pairs = record { texts = pair_is_text; no_trail = λ a. refl }
+
+pub euc_kr_pairs : ArePairs euc_kr_pair
+euc_kr_pairs = record { texts = λ a b. char_is_text _; no_trail = λ a. refl }
+
+pub shift_jis_pairs : ArePairs shift_jis_pair
+shift_jis_pairs = record { texts = λ a b. char_is_text _; no_trail = λ a. refl }

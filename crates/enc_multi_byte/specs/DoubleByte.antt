@@ -1,0 +1,45 @@
+-- Encodings of one byte and two (Encoding Standard 10 to 13): bytes that stand alone, and a lead with a trail.
+use Rattle.std.specs.Prelude.{◌≡◌, ◌≢◌, ℕ, ◌+◌, ◌≤◌, Bool, nat_lt, Option, Some, None, List, [], ◌∷◌, length, if◌then◌else◌}
+use Rattle.std.specs.Char.{encode_utf8}
+use Rattle.enc_units.specs.Output.{units_of_text}
+use Rattle.enc_machine.specs.declared.byte_codec.Text.{Text}
+use Rattle.enc_machine.specs.declared.byte_codec.Text.TheVariants.{One}
+use Rattle.enc_multi_byte.specs.declared.multi_byte.Reading.{Reading}
+use Rattle.enc_multi_byte.specs.declared.multi_byte.Reading.TheVariants.{Whole, Broken, Unfinished}
+use Rattle.enc_machine.specs.CodecLaw.{chars_of}
+
+-- the text of a character
+abbrev pub text_of_char : Option ℕ → Option Text
+text_of_char (Some c) = Some (One c)
+text_of_char None = None
+
+-- a byte that stands alone: its character, or it is malformed
+abbrev pub single_reading : Option ℕ → Reading
+single_reading (Some c) = Whole (One c)
+single_reading None = Broken 1
+
+-- the first byte: a lead, or it stands alone
+abbrev pub first_reading : Bool → Option ℕ → Reading
+first_reading leads single = if leads then Unfinished else single_reading single
+
+-- A byte behind n others: their text, or they are malformed, with that byte where it is no ASCII byte. An ASCII
+-- byte is read anew.
+abbrev pub trail_reading : ℕ → ℕ → Option Text → Reading
+trail_reading n b (Some text) = Whole text
+trail_reading n b None = Broken (if nat_lt b 0x80 then n else n + 1)
+
+-- the bytes in front, by which bytes lead, the characters of others, and the texts of a lead with the byte behind it
+abbrev pub double_byte_reading : (ℕ → Bool) → (ℕ → Option ℕ) → (ℕ → ℕ → Option Text) → List ℕ → Reading
+double_byte_reading is_lead single pair [] = Unfinished
+double_byte_reading is_lead single pair (a ∷ []) = first_reading (is_lead a) (single a)
+double_byte_reading is_lead single pair (a ∷ b ∷ z) = trail_reading 1 b (pair a b)
+
+-- texts have a character, and four UTF-8 code units at most
+pub record IsText (text : Text) : Type 0 where
+  pub some : chars_of text ≢ []
+  pub small : length (units_of_text encode_utf8 (chars_of text)) ≤ 4
+
+-- What pairs can be: texts, and FF is no trail.
+pub record ArePairs (pair : ℕ → ℕ → Option Text) : Type 0 where
+  pub texts : (a b : ℕ) (text : Text) → pair a b ≡ Some text → IsText text
+  pub no_trail : (a : ℕ) → pair a 0xFF ≡ None

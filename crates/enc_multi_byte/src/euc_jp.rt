@@ -1,0 +1,116 @@
+//! The EUC-JP decoder (Encoding Standard 12.1.1).
+
+ghost use Rattle.std.specs.Prelude.{◌≡◌, [], ◌∷◌, true};
+ghost use Rattle.enc_multi_byte.specs.EucJp.{is_euc as euc, euc_pointer, euc_jp_lead, euc_jp_single, euc_jp_pair, euc_jp_triple, euc_jp_reading};
+
+use crate::double_byte::{read_first, read_trail, text_of};
+use crate::katakana::katakana;
+use crate::multi_byte::{MultiByte, MultiByteDecoder, Reading};
+use enc_index::List;
+use enc_machine::Pending;
+
+/// EUC-JP (Encoding Standard 12.1): ASCII, half-width katakana behind 8E, two bytes by index jis0208, and two bytes
+/// behind 8F by index jis0212.
+#[derive(Clone, Copy)]
+pub struct EucJp;
+
+/// The EUC-JP decoder (Encoding Standard 12.1.1).
+pub type EucJpDecoder = MultiByteDecoder<EucJp>;
+
+/// Whether a byte is one of two of a character.
+fn is_euc(byte: u8) -> bool
+    ensures { result ≡ euc byte }
+{
+    byte >= 0xA1 && byte <= 0xFE
+}
+
+/// The pointer of two bytes.
+fn pointer(lead: u8, trail: u8) -> u32
+    requires lead { euc lead ≡ true }
+    requires trail { euc trail ≡ true }
+    ensures { result ≡ euc_pointer lead trail }
+{
+    (lead as u32 - 0xA1) * 94 + (trail as u32 - 0xA1)
+}
+
+/// Whether bytes follow a byte.
+fn is_lead(byte: u8) -> bool
+    ensures { result ≡ euc_jp_lead byte }
+{
+    (byte == 0x8E) | (byte == 0x8F) | is_euc(byte)
+}
+
+/// The character of a byte that stands alone.
+fn single(byte: u8) -> Option<char>
+    ensures { result ≡ euc_jp_single byte }
+{
+    if byte < 0x80 {
+        Some(byte as char)
+    } else {
+        None
+    }
+}
+
+/// The character of two bytes.
+fn pair(lead: u8, trail: u8) -> Option<char>
+    ensures { result ≡ euc_jp_pair lead trail }
+{
+    if lead == 0x8E {
+        return match trail {
+            0xA1..=0xDF => Some(katakana(trail)),
+            _ => None,
+        };
+    }
+    if is_euc(lead) && is_euc(trail) {
+        List::Jis0208.at(pointer(lead, trail))
+    } else {
+        None
+    }
+}
+
+/// The character of 8F and two bytes, of which the first is one of two.
+fn triple(lead: u8, trail: u8) -> Option<char>
+    requires { euc lead ≡ true }
+    ensures { result ≡ euc_jp_triple lead trail }
+{
+    if is_euc(trail) {
+        List::Jis0212.at(pointer(lead, trail))
+    } else {
+        None
+    }
+}
+
+/// A byte behind a lead.
+fn read_second(lead: u8, byte: u8) -> Reading
+    ensures { result ≡ euc_jp_reading (lead ∷ byte ∷ []) }
+{
+    if lead == 0x8F && is_euc(byte) {
+        return Reading::Unfinished;
+    }
+    read_trail(1, byte, text_of(pair(lead, byte)))
+}
+
+impl MultiByte for EucJp {
+    ghost use Rattle.enc_multi_byte.specs.EucJp.{euc_jp_reading};
+
+    ghost reading = { euc_jp_reading };
+
+    #[inline(always)]
+    fn read(pending: Pending, byte: u8) -> Reading {
+        match pending {
+            Pending::Nothing => read_first(is_lead(byte), single(byte)),
+            Pending::One(lead) => read_second(lead, byte),
+            Pending::Two(_, lead) => read_trail(2, byte, text_of(triple(lead, byte))),
+            Pending::Three(_, _, _) => unreachable!(),
+        }
+    }
+
+    #[inline(always)]
+    fn pair_char(lead: u8, byte: u8) -> Option<char> {
+        pair(lead, byte)
+    }
+
+    fn laws() {}
+
+    fn ascii() {}
+}

@@ -1,0 +1,49 @@
+//! The EUC-KR decoder (Encoding Standard 13.1.1).
+
+ghost use Rattle.std.specs.Prelude.{◌≡◌, Option};
+ghost use Rattle.enc_multi_byte.specs.EucKr.{euc_kr_trail, euc_kr_pointer};
+
+use crate::double_byte::{Double, DoubleByte, text_of};
+use crate::multi_byte::MultiByteDecoder;
+use enc_index::List;
+use enc_machine::Text;
+
+/// EUC-KR (Encoding Standard 13.1): ASCII, and two bytes by index EUC-KR.
+#[derive(Clone, Copy)]
+pub struct EucKr;
+
+/// The EUC-KR decoder (Encoding Standard 13.1.1).
+pub type EucKrDecoder = MultiByteDecoder<Double<EucKr>>;
+
+impl DoubleByte for EucKr {
+    ghost use Rattle.enc_multi_byte.specs.EucKr.{euc_kr_lead, euc_kr_single, euc_kr_pair};
+
+    ghost leads = { euc_kr_lead };
+
+    ghost singles = { euc_kr_single };
+
+    ghost pairs = { euc_kr_pair };
+
+    fn is_lead(byte: u8) -> bool {
+        byte >= 0x81 && byte <= 0xFE
+    }
+
+    fn single(byte: u8) -> Option<char> {
+        if byte < 0x80 {
+            Some(byte as char)
+        } else {
+            None
+        }
+    }
+
+    fn pair(lead: u8, trail: u8) -> Option<Text> {
+        if trail < 0x41 || trail > 0xFE {
+            return None;
+        }
+        text_of(List::EucKr.at((lead as u32 - 0x81) * 190 + (trail as u32 - 0x41)))
+    }
+
+    fn laws() {}
+
+    fn ascii() {}
+}

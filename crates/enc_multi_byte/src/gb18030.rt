@@ -1,0 +1,153 @@
+//! The gb18030 decoder, which is GBK's too (Encoding Standard 10.2.1).
+
+ghost use Rattle.std.specs.Prelude.{◌≡◌, [], ◌∷◌, true};
+ghost use Rattle.enc_multi_byte.specs.Gb18030.{gb18030_lead, gb18030_trail, is_digit as digit, gb18030_single, gb18030_pair, ranges_pointer, ranges_char, four_reading, gb18030_reading};
+
+use crate::double_byte::{read_first, read_trail, text_of};
+use crate::multi_byte::{MultiByte, MultiByteDecoder, Reading};
+use enc_index::List;
+use enc_machine::{Pending, Text};
+
+/// gb18030 (Encoding Standard 10.2), and GBK (10.1): ASCII and 80, two bytes by index gb18030, and four by its
+/// ranges.
+#[derive(Clone, Copy)]
+pub struct Gb18030;
+
+/// The gb18030 decoder (Encoding Standard 10.2.1).
+pub type Gb18030Decoder = MultiByteDecoder<Gb18030>;
+
+/// Whether a byte is the first, or the third of four.
+fn is_lead(byte: u8) -> bool
+    ensures { result ≡ gb18030_lead byte }
+{
+    byte >= 0x81 && byte <= 0xFE
+}
+
+/// Whether a byte can be the second of two. No branch stands between the two ranges, since text has bytes of both
+/// in an order that no processor predicts.
+fn is_trail(byte: u8) -> bool
+    ensures { result ≡ gb18030_trail byte }
+{
+    (byte >= 0x40 && byte <= 0x7E) | (byte >= 0x80 && byte <= 0xFE)
+}
+
+/// Whether a byte is the second or the fourth of four.
+fn is_digit(byte: u8) -> bool
+    ensures { result ≡ digit byte }
+{
+    byte >= 0x30 && byte <= 0x39
+}
+
+/// The character of a byte that stands alone.
+fn single(byte: u8) -> Option<char>
+    ensures { result ≡ gb18030_single byte }
+{
+    match byte {
+        0x00..=0x7F => Some(byte as char),
+        0x80 => Some('\u{20AC}'),
+        _ => None,
+    }
+}
+
+/// The character of two bytes.
+fn pair(lead: u8, trail: u8) -> Option<char>
+    requires { gb18030_lead lead ≡ true }
+    ensures { result ≡ gb18030_pair lead trail }
+{
+    if !is_trail(trail) {
+        return None;
+    }
+    let offset = if trail < 0x7F { 0x40 } else { 0x41 };
+    List::Gb18030.at((lead as u32 - 0x81) * 190 + (trail as u32 - offset))
+}
+
+/// The character of a pointer of four bytes.
+fn character_at(pointer: u32) -> Option<char>
+    ensures { result ≡ ranges_char pointer }
+{
+    match pointer {
+        39420..=188999 => None,
+        1237576.. => None,
+        7457 => Some('\u{E7C7}'),
+        _ => List::Gb18030Ranges.at(pointer),
+    }
+}
+
+/// The pointer of four bytes.
+fn pointer(first: u8, second: u8, third: u8, fourth: u8) -> u32
+    requires first { gb18030_lead first ≡ true }
+    requires second { digit second ≡ true }
+    requires third { gb18030_lead third ≡ true }
+    requires fourth { digit fourth ≡ true }
+    ensures { result ≡ ranges_pointer first second third fourth }
+{
+    let high = (first as u32 - 0x81) * 10 + (second as u32 - 0x30);
+    let low = (third as u32 - 0x81) * 10 + (fourth as u32 - 0x30);
+    high * 1260 + low
+}
+
+/// A byte behind a lead.
+fn read_second(lead: u8, byte: u8) -> Reading
+    requires { gb18030_lead lead ≡ true }
+    ensures { result ≡ gb18030_reading (lead ∷ byte ∷ []) }
+{
+    if is_digit(byte) {
+        return Reading::Unfinished;
+    }
+    read_trail(1, byte, text_of(pair(lead, byte)))
+}
+
+/// A byte behind two.
+fn read_third(first: u8, second: u8, byte: u8) -> Reading
+    ensures { result ≡ gb18030_reading (first ∷ second ∷ byte ∷ []) }
+{
+    if is_lead(byte) {
+        Reading::Unfinished
+    } else {
+        Reading::Broken(1)
+    }
+}
+
+/// A byte behind three.
+fn read_fourth(first: u8, second: u8, third: u8, byte: u8) -> Reading
+    requires first { gb18030_lead first ≡ true }
+    requires second { digit second ≡ true }
+    requires third { gb18030_lead third ≡ true }
+    ensures { result ≡ gb18030_reading (first ∷ second ∷ third ∷ byte ∷ []) }
+{
+    if !is_digit(byte) {
+        return Reading::Broken(1);
+    }
+    match character_at(pointer(first, second, third, byte)) {
+        Some(found) => Reading::Whole(Text::One(found)),
+        None => Reading::Broken(4),
+    }
+}
+
+impl MultiByte for Gb18030 {
+    ghost use Rattle.enc_multi_byte.specs.Gb18030.{gb18030_reading};
+
+    ghost reading = { gb18030_reading };
+
+    #[inline(always)]
+    fn read(pending: Pending, byte: u8) -> Reading {
+        match pending {
+            Pending::Nothing => read_first(is_lead(byte), single(byte)),
+            Pending::One(first) => read_second(first, byte),
+            Pending::Two(first, second) => read_third(first, second, byte),
+            Pending::Three(first, second, third) => read_fourth(first, second, third, byte),
+        }
+    }
+
+    #[inline(always)]
+    fn pair_char(lead: u8, byte: u8) -> Option<char> {
+        if !is_lead(lead) {
+            return None;
+        }
+        pair(lead, byte)
+    }
+
+    fn laws() {}
+
+    fn ascii() {}
+}

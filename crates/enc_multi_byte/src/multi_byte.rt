@@ -1,0 +1,251 @@
+//! The decoders of the legacy multi-byte encodings without escape sequences.
+
+ghost use Rattle.std.specs.Prelude.{◌≡◌, ℕ, ◌+◌, ◌<◌, List, [], ◌∷◌, ◌++◌, length, true, false, Some, IfSome, IsNone};
+ghost use Rattle.enc_machine.specs.Pending.{pending_bytes};
+ghost use Rattle.enc_machine.specs.CodecLaw.{Acts, IsReady, IsAtEnd};
+ghost use Rattle.enc_multi_byte.specs.MultiByte.{multi_byte_state, AreUnfinished, IsReading, HasAscii, IsPair};
+
+use enc_machine::{ByteCodec, DecoderResult, Kind, Pending, RawDecoder, Shown, Step, Text, run};
+use enc_units::{Pieces, Units};
+use std::marker::PhantomData;
+
+/// What the bytes in front of the input are.
+#[derive(Clone, Copy)]
+pub enum Reading {
+    /// A sequence, with its text.
+    Whole(Text),
+    /// Malformed, so many of them from the first on.
+    Broken(u8),
+    /// Neither, before the next byte tells.
+    Unfinished,
+}
+
+/// A legacy multi-byte encoding without escape sequences, by what bytes in front are.
+pub trait MultiByte: Copy {
+    ghost use Rattle.enc_multi_byte.specs.declared.multi_byte.Reading.{Reading};
+
+    // what the bytes in front are, where all fronts before are unfinished
+    ghost reading: { List ℕ → Reading };
+
+    /// What unfinished bytes are with the byte behind them.
+    fn read(pending: Pending, byte: u8) -> Reading
+        requires { AreUnfinished reading [] (pending_bytes pending) }
+        ensures { result ≡ reading (pending_bytes pending ++ byte ∷ []) };
+
+    /// The character of two bytes, of which the first is none by itself: what `read` tells of one and then the other,
+    /// without a reading between. `None` where they are no character or two, or where it isn't known.
+    fn pair_char(lead: u8, byte: u8) -> Option<char>
+        ensures { IfSome result (λ c. IsPair reading lead byte c) };
+
+    /// What holds of all bytes in front. A call does nothing.
+    fn laws()
+        ensures { IsReading reading };
+
+    /// An ASCII byte is its own character. A call does nothing.
+    fn ascii()
+        ensures { HasAscii reading };
+}
+
+/// The decoder of a legacy multi-byte encoding without escape sequences. It holds the bytes that are unfinished, or
+/// that were given back behind a malformed sequence.
+#[derive(Clone, Copy)]
+pub struct MultiByteDecoder<E> {
+    pending: Pending,
+    encoding: PhantomData<E>,
+}
+
+impl<E: MultiByte> MultiByteDecoder<E> {
+    /// A decoder that has read nothing. Takes no memory.
+    pub fn new() -> MultiByteDecoder<E>
+        ensures { result.pending ≡ Pending.Nothing }
+    {
+        MultiByteDecoder::holding(Pending::Nothing)
+    }
+
+    /// What the pending bytes show by themselves. Nothing, where all of them are unfinished.
+    #[inline(always)]
+    fn shown_first(self) -> Option<Shown<MultiByteDecoder<E>>>
+        ensures shown { IfSome result (λ shown. IsReady (λ d. multi_byte_state E.reading (pending_bytes d.pending)) self (Some shown)) }
+        ensures unfinished { IsNone result → AreUnfinished E.reading [] (pending_bytes self.pending) }
+    {
+        E::laws();
+        let mut front = Pending::Nothing;
+        let mut rest = self.pending;
+        while let Some(byte) = rest.first() {
+            match E::read(front, byte) {
+                Reading::Whole(text) => {
+                    let len = front.len() + 1;
+                    return Some(whole(text, len, false, self.pending.behind(len)));
+                }
+                Reading::Broken(len) => {
+                    return Some(broken(len, false, self.pending.behind(len)));
+                }
+                Reading::Unfinished => {
+                    front = front.with(byte);
+                    rest = rest.behind(1);
+                }
+            }
+        }
+        None
+    }
+
+    /// What the byte behind unfinished ones does.
+    fn step(self, byte: u8) -> Step<MultiByteDecoder<E>>
+        requires { AreUnfinished E.reading [] (pending_bytes self.pending) }
+        ensures { Acts (λ d. multi_byte_state E.reading (pending_bytes d.pending)) self byte result }
+    {
+        E::laws();
+        match E::read(self.pending, byte) {
+            Reading::Whole(text) => {
+                let len = self.pending.len() + 1;
+                Step::Show(whole(text, len, true, Pending::Nothing))
+            }
+            Reading::Broken(len) => {
+                let takes_byte = len > self.pending.len();
+                Step::Show(broken(len, takes_byte, self.pending.behind(len)))
+            }
+            Reading::Unfinished => Step::Wait(MultiByteDecoder::holding(self.pending.with(byte))),
+        }
+    }
+
+    /// Unfinished bytes at the end of the input are malformed, all together.
+    fn left_over(self) -> Option<Shown<MultiByteDecoder<E>>>
+        requires { AreUnfinished E.reading [] (pending_bytes self.pending) }
+        ensures { IsAtEnd (λ d. multi_byte_state E.reading (pending_bytes d.pending)) self result }
+    {
+        E::laws();
+        match self.pending {
+            Pending::Nothing => None,
+            pending => Some(broken(pending.len(), false, Pending::Nothing)),
+        }
+    }
+
+    /// A decoder that holds these bytes.
+    fn holding(pending: Pending) -> MultiByteDecoder<E>
+        ensures { result.pending ≡ pending }
+    {
+        MultiByteDecoder {
+            pending,
+            encoding: PhantomData,
+        }
+    }
+}
+
+/// A character or two, with the byte that shows it or before it.
+fn whole<E: MultiByte>(
+    text: Text,
+    len: u8,
+    takes_byte: bool,
+    behind: Pending,
+) -> Shown<MultiByteDecoder<E>>
+    ensures is { result ≡ record { text = text; kind = Kind.Valid; len = len; takes_byte = takes_byte; next = result.next } }
+    ensures next { result.next.pending ≡ behind }
+{
+    Shown {
+        text,
+        kind: Kind::Valid,
+        len,
+        takes_byte,
+        next: MultiByteDecoder::holding(behind),
+    }
+}
+
+/// A malformed sequence, with the byte that shows it or before it.
+fn broken<E: MultiByte>(len: u8, takes_byte: bool, behind: Pending) -> Shown<MultiByteDecoder<E>>
+    ensures is { result ≡ record { text = Text.One 0xFFFD; kind = Kind.Malformed; len = len; takes_byte = takes_byte; next = result.next } }
+    ensures next { result.next.pending ≡ behind }
+{
+    Shown {
+        text: Text::One('\u{FFFD}'),
+        kind: Kind::Malformed,
+        len,
+        takes_byte,
+        next: MultiByteDecoder::holding(behind),
+    }
+}
+
+impl<E: MultiByte> Pieces for MultiByteDecoder<E> {
+    ghost use Rattle.enc_multi_byte.specs.MultiByte.{multi_byte_rule};
+    ghost use Rattle.enc_machine.specs.Taking.{IsPiece};
+
+    ghost means = { λ _. IsPiece (multi_byte_rule E.reading) 0 };
+
+    #[inline(always)]
+    fn piece(self, src: &[u8], at: usize) -> Option<(char, usize)> {
+        let lead = src[at];
+        if at + 1 < src.len() {
+            if let Some(character) = E::pair_char(lead, src[at + 1]) {
+                return Some((character, 2));
+            }
+        }
+        match E::read(Pending::Nothing, lead) {
+            Reading::Whole(Text::One(character)) => Some((character, 1)),
+            _ => None,
+        }
+    }
+
+    fn has_ascii(self) -> bool {
+        E::ascii();
+        true
+    }
+}
+
+impl<E: MultiByte> ByteCodec for MultiByteDecoder<E> {
+    ghost use Rattle.enc_machine.specs.Pending.{pending_bytes};
+    ghost use Rattle.enc_multi_byte.specs.MultiByte.{multi_byte_state};
+
+    ghost state = { λ d. multi_byte_state E.reading (pending_bytes d.pending) };
+
+    #[inline(always)]
+    fn take_run<U: Units>(self, src: &[u8], out: &mut U) -> (MultiByteDecoder<E>, usize) {
+        match self.pending {
+            Pending::Nothing => (self, out.put_pieces(self, src)),
+            _ => (self, 0),
+        }
+    }
+
+    fn next_step(self, byte: u8) -> Step<MultiByteDecoder<E>> {
+        match self.shown_first() {
+            Some(shown) => Step::Show(shown),
+            None => self.step(byte),
+        }
+    }
+
+    fn ready(self) -> Option<Shown<MultiByteDecoder<E>>> {
+        E::laws();
+        self.shown_first()
+    }
+
+    fn at_end(self) -> Option<Shown<MultiByteDecoder<E>>> {
+        match self.shown_first() {
+            Some(shown) => Some(shown),
+            None => self.left_over(),
+        }
+    }
+
+    fn pending_len(self) -> u8 {
+        self.pending.len()
+    }
+}
+
+impl<E: MultiByte> RawDecoder for MultiByteDecoder<E> {
+    ghost use Rattle.enc_machine.specs.Pending.{pending_bytes};
+    ghost use Rattle.enc_multi_byte.specs.MultiByte.{multi_byte_state};
+
+    ghost state = { λ d. multi_byte_state E.reading (pending_bytes d.pending) };
+
+    fn decode<U: Units>(
+        &mut self,
+        src: &[u8],
+        out: &mut U,
+        last: bool,
+        fault_room: bool,
+    ) -> (DecoderResult, usize) {
+        E::laws();
+        run(self, src, out, last, fault_room)
+    }
+
+    fn held(&self) -> usize {
+        self.pending_len() as usize
+    }
+}

@@ -1,0 +1,71 @@
+//! The Shift_JIS decoder (Encoding Standard 12.3.1).
+
+ghost use Rattle.std.specs.Prelude.{◌≡◌, ◌≤◌};
+ghost use Rattle.enc_multi_byte.specs.ShiftJis.{shift_jis_trail, shift_jis_char};
+
+use crate::double_byte::{Double, DoubleByte, text_of};
+use crate::katakana::katakana;
+use crate::multi_byte::MultiByteDecoder;
+use enc_index::List;
+use enc_machine::Text;
+
+/// Shift_JIS (Encoding Standard 12.3): ASCII and 80, half-width katakana, and two bytes by index jis0208 or in the
+/// private use area.
+#[derive(Clone, Copy)]
+pub struct ShiftJis;
+
+/// The Shift_JIS decoder (Encoding Standard 12.3.1).
+pub type ShiftJisDecoder = MultiByteDecoder<Double<ShiftJis>>;
+
+/// Whether a byte can follow a lead. No branch stands between the two ranges, since text has bytes of both in an
+/// order that no processor predicts.
+fn is_trail(byte: u8) -> bool
+    ensures { result ≡ shift_jis_trail byte }
+{
+    (byte >= 0x40 && byte <= 0x7E) | (byte >= 0x80 && byte <= 0xFC)
+}
+
+/// The character of a pointer.
+fn character_at(pointer: u32) -> Option<char>
+    ensures { result ≡ shift_jis_char pointer }
+{
+    match pointer {
+        8836..=10715 => char::from_u32(0xE000 + (pointer - 8836)),
+        _ => List::Jis0208.at(pointer),
+    }
+}
+
+impl DoubleByte for ShiftJis {
+    ghost use Rattle.enc_multi_byte.specs.ShiftJis.{shift_jis_lead, shift_jis_single, shift_jis_pair};
+
+    ghost leads = { shift_jis_lead };
+
+    ghost singles = { shift_jis_single };
+
+    ghost pairs = { shift_jis_pair };
+
+    fn is_lead(byte: u8) -> bool {
+        (byte >= 0x81 && byte <= 0x9F) | (byte >= 0xE0 && byte <= 0xFC)
+    }
+
+    fn single(byte: u8) -> Option<char> {
+        match byte {
+            0x00..=0x80 => Some(byte as char),
+            0xA1..=0xDF => Some(katakana(byte)),
+            _ => None,
+        }
+    }
+
+    fn pair(lead: u8, trail: u8) -> Option<Text> {
+        if !is_trail(trail) {
+            return None;
+        }
+        let first = if lead < 0xA0 { 0x81 } else { 0xC1 };
+        let offset = if trail < 0x7F { 0x40 } else { 0x41 };
+        text_of(character_at((lead as u32 - first) * 188 + (trail as u32 - offset)))
+    }
+
+    fn laws() {}
+
+    fn ascii() {}
+}

@@ -1,0 +1,2 @@
+pub mod OneByteLemmas
+pub mod ReplacementLemmas

@@ -1,0 +1,79 @@
+-- Encodings in which each byte stands alone: what a byte shows, and the laws of their rules.
+use Rattle.std.proofs.Common.{◌≡◌, ℕ, ◌≤◌, Option, Some, None, List, [], ◌∷◌, length, drop, refl, ap, ◌∙◌, sym, arith, inl}
+use Rattle.std.specs.Char.{encode_utf8}
+use Rattle.enc_units.specs.Output.{units_of_text}
+use Rattle.enc_machine.specs.declared.byte_codec.Kind.TheVariants.{Valid, Malformed}
+use Rattle.enc_machine.specs.declared.byte_codec.Text.TheVariants.{One}
+use Rattle.enc_machine.specs.Segmentation.{Head, head_sequence, sequences_of, one_byte_head}
+use Rattle.enc_machine.specs.CodecState.{CodecState}
+use Rattle.enc_machine.specs.CodecLaw.{Acts}
+use Rattle.enc_machine.specs.RuleLaws.{HasTexts, HasLookahead, HasSmallTexts, IsToldBy, IsLawful}
+use Rattle.enc_single_byte.specs.OneByte.{one_byte_rule, one_byte_step}
+use Rattle.enc_single_byte.specs.OneByteState.{one_byte_state}
+use Rattle.enc_machine.proofs.SegmentationLemmas.{sequences_of-cons}
+use Rattle.enc_machine.proofs.ShowLemmas.{shows_with}
+use Rattle.enc_machine.specs.Taking.{IsPiece}
+use Rattle.enc_machine.proofs.RuleLemmas.{one_small}
+
+module _ (character : ℕ → Option ℕ) where
+  head_is : (set b : ℕ) (z : List ℕ) (found : Option ℕ) → character b ≡ found
+      → one_byte_rule character set b z ≡ one_byte_head set found
+  unfolding one_byte_rule
+  head_is set b z found e = ap (one_byte_head set) e
+
+  first : (b : ℕ) (found : Option ℕ) (h : Head) → character b ≡ found → one_byte_head 0 found ≡ h → (z : List ℕ)
+      → sequences_of (one_byte_rule character) 0 (b ∷ z)
+      ≡ head_sequence h b z ∷ sequences_of (one_byte_rule character) h.set (drop h.more z)
+  first b found h e f z =
+      sequences_of-cons (one_byte_rule character) 0 b z
+      ∙ ap (λ (t : Head). head_sequence t b z ∷ sequences_of (one_byte_rule character) t.set (drop t.more z))
+      (head_is 0 b z found e ∙ f)
+
+  -- a byte shows its character, or that it is malformed
+  pub one_byte_acts : {C : Type 0} (state : C → CodecState) (c : C) → state c ≡ one_byte_state character
+      → (b : ℕ) (found : Option ℕ) → found ≡ character b → Acts state c b (one_byte_step c found)
+  one_byte_acts state c s b (Some a) e =
+      shows_with state c c (One a) Valid 1 b refl (rw s refl) (rw s refl) refl (λ m. cc)
+      (λ z. rw s (first b (Some a) _ (sym e) refl z))
+  one_byte_acts state c s b None e =
+      shows_with state c c (One 0xFFFD) Malformed 1 b refl (rw s refl) (rw s refl) refl (λ _. (refl, omega arith))
+      (λ z. rw s (first b None _ (sym e) refl z))
+
+  -- a byte that has a character
+  pub one_byte_piece : (b c : ℕ) → character b ≡ Some c → IsPiece (one_byte_rule character) 0 (b ∷ []) c
+  one_byte_piece b c e y = first b (Some c) _ e refl y
+
+  no_more : (set : ℕ) (found : Option ℕ) → (one_byte_head set found).more ≡ 0
+  no_more set (Some a) = refl
+  no_more set None = refl
+
+  small : (set : ℕ) (found : Option ℕ) → length (units_of_text encode_utf8 (one_byte_head set found).text) ≤ 4
+  small set (Some a) = one_small a
+  small set None = one_small 0xFFFD
+
+  -- a byte is told by itself
+  told_by_itself : (set b : ℕ) (z : List ℕ) → IsToldBy (one_byte_rule character) set b z 0
+  unfolding one_byte_rule
+  told_by_itself set b z = record { there = (let e = no_more set (character b) in omega arith); same = λ y. refl }
+
+  has_lookahead : HasLookahead (one_byte_rule character)
+  has_lookahead = record {
+    valid = λ set b z _. told_by_itself set b z;
+    others = λ set b z. inl (0, omega arith, told_by_itself set b z);
+  }
+
+  has_small_texts : HasSmallTexts (one_byte_rule character)
+  unfolding one_byte_rule
+  has_small_texts set b z = small set (character b)
+
+  pub one_byte_is_lawful : IsLawful (one_byte_rule character)
+  one_byte_is_lawful = record { lookahead = has_lookahead; small_texts = has_small_texts }
+
+has_text : (set : ℕ) (character : Option ℕ) → (one_byte_head set character).text ≡ [] → ⊥
+has_text set None e = cc
+has_text set (Some c) e = cc
+
+-- every byte has a text
+pub one_byte_has_texts : (character : ℕ → Option ℕ) → HasTexts (one_byte_rule character)
+unfolding one_byte_rule
+one_byte_has_texts character set b z e = has_text set (character b) e

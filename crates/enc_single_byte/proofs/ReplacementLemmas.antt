@@ -1,0 +1,46 @@
+-- The replacement encoding: what a byte shows, and the laws of its rule.
+use Rattle.std.proofs.Common.{ℕ, zero, suc, true, false, List, refl, arith, inl}
+use Rattle.enc_machine.specs.declared.byte_codec.Kind.TheVariants.{Skipped, Malformed}
+use Rattle.enc_machine.specs.declared.byte_codec.Text.TheVariants.{Nothing, One}
+use Rattle.enc_machine.specs.declared.byte_codec.Step.TheVariants.{Show}
+use Rattle.enc_machine.specs.CodecLaw.{Acts}
+use Rattle.enc_machine.specs.RuleLaws.{HasLookahead, HasSmallTexts, IsToldBy, IsLawful}
+use Rattle.enc_single_byte.specs.Replacement.{replacement_rule, replacement_state}
+use Rattle.enc_machine.proofs.SegmentationLemmas.{sequences_of-cons}
+use Rattle.enc_machine.proofs.ShowLemmas.{shows_with}
+use Rattle.enc_machine.proofs.RuleLemmas.{one_small}
+
+-- the first byte
+pub first_acts : (b : ℕ)
+    → Acts replacement_state false b (Show (record { text = One 0xFFFD; kind = Malformed; len = 1; takes_byte = true; next = true }))
+unfolding replacement_rule
+first_acts b =
+    shows_with replacement_state false true (One 0xFFFD) Malformed 1 b refl refl refl refl (λ _. (refl, omega arith))
+    (λ z. sequences_of-cons replacement_rule 0 b z)
+
+-- another byte
+pub later_acts : (b : ℕ)
+    → Acts replacement_state true b (Show (record { text = Nothing; kind = Skipped; len = 1; takes_byte = true; next = true }))
+unfolding replacement_rule
+later_acts b =
+    shows_with replacement_state true true Nothing Skipped 1 b refl refl refl refl (λ m. cc)
+    (λ z. sequences_of-cons replacement_rule 1 b z)
+
+told_by_itself : (set b : ℕ) (z : List ℕ) → IsToldBy replacement_rule set b z 0
+unfolding replacement_rule
+told_by_itself zero b z = record { there = omega arith; same = λ y. refl }
+told_by_itself (suc set) b z = record { there = omega arith; same = λ y. refl }
+
+has_lookahead : HasLookahead replacement_rule
+has_lookahead = record {
+  valid = λ set b z _. told_by_itself set b z;
+  others = λ set b z. inl (0, omega arith, told_by_itself set b z);
+}
+
+has_small_texts : HasSmallTexts replacement_rule
+unfolding replacement_rule
+has_small_texts zero b z = one_small 0xFFFD
+has_small_texts (suc set) b z = omega arith
+
+pub replacement_is_lawful : IsLawful replacement_rule
+replacement_is_lawful = record { lookahead = has_lookahead; small_texts = has_small_texts }

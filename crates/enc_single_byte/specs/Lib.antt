@@ -1,0 +1,3 @@
+pub mod OneByte
+pub mod OneByteState
+pub mod Replacement

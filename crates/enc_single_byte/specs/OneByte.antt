@@ -1,0 +1,27 @@
+-- Encodings in which each byte stands alone: the legacy single-byte encodings (Encoding Standard 9.1) and
+-- x-user-defined (14.5).
+use Rattle.std.specs.Prelude.{ℕ, ◌+◌, ◌-◌, true, nat_lt, Option, Some, None, List, if◌then◌else◌}
+use Rattle.enc_machine.specs.declared.byte_codec.Kind.TheVariants.{Valid, Malformed}
+use Rattle.enc_machine.specs.declared.byte_codec.Text.TheVariants.{One}
+use Rattle.enc_machine.specs.declared.byte_codec.Step.{Step}
+use Rattle.enc_machine.specs.declared.byte_codec.Step.TheVariants.{Show}
+use Rattle.enc_machine.specs.Segmentation.{Rule, one_byte_head}
+use Rattle.enc_index.specs.declared.index.Planes.TheVariants.{Basic}
+use Rattle.enc_index.specs.Index.{index_at}
+
+-- a byte of a legacy single-byte encoding, by the runs of the encoding's index
+abbrev pub single_byte_char : List (ℕ × ℕ × ℕ) → ℕ → Option ℕ
+single_byte_char runs b = if nat_lt b 0x80 then Some b else index_at Basic runs (b - 0x80)
+
+-- a byte of x-user-defined
+abbrev pub x_user_defined_char : ℕ → Option ℕ
+x_user_defined_char b = if nat_lt b 0x80 then Some b else Some (0xF780 + (b - 0x80))
+
+-- A byte that has a character is valid, and any other is malformed, each by itself.
+unfoldable pub one_byte_rule : (ℕ → Option ℕ) → Rule
+one_byte_rule character set b z = one_byte_head set (character b)
+
+-- what such a byte shows
+abbrev pub one_byte_step : {C : Type 0} → C → Option ℕ → Step C
+one_byte_step c (Some a) = Show (record { text = One a; kind = Valid; len = 1; takes_byte = true; next = c })
+one_byte_step c None = Show (record { text = One 0xFFFD; kind = Malformed; len = 1; takes_byte = true; next = c })

@@ -1,0 +1,96 @@
+//! The replacement decoder (Encoding Standard 14.1).
+
+ghost use Rattle.std.specs.Prelude.{◌≡◌, true, false};
+
+use enc_machine::{ByteCodec, DecoderResult, Kind, RawDecoder, Shown, Step, Text, run};
+use enc_units::Units;
+use std::marker::Model;
+
+/// The replacement decoder (Encoding Standard 14.1), which keeps what can't be decoded safely from being decoded
+/// at all: the first byte is malformed, and all others are skipped.
+#[derive(Clone, Copy)]
+pub struct ReplacementDecoder {
+    error_reported: bool,
+}
+
+impl Model for ReplacementDecoder {
+    ghost use Rattle.std.specs.Prelude.{Bool};
+
+    ghost Value = { Bool };
+
+    ghost view = { λ d. d.error_reported };
+
+    ghost inverse = { λ b. record { error_reported = b } };
+}
+
+impl ReplacementDecoder {
+    /// A decoder that has read nothing. Takes no memory.
+    pub fn new() -> ReplacementDecoder
+        ensures { result ≡ false }
+    {
+        ReplacementDecoder {
+            error_reported: false,
+        }
+    }
+}
+
+/// What a byte shows. Behind it the first byte has been reported.
+fn show_byte(text: Text, kind: Kind) -> Step<ReplacementDecoder>
+    ensures { result ≡ Step.Show (record { text = text; kind = kind; len = 1; takes_byte = true; next = true }) }
+{
+    Step::Show(Shown {
+        text,
+        kind,
+        len: 1,
+        takes_byte: true,
+        next: ReplacementDecoder {
+            error_reported: true,
+        },
+    })
+}
+
+impl ByteCodec for ReplacementDecoder {
+    ghost use Rattle.enc_single_byte.specs.Replacement.{replacement_state};
+
+    ghost state = { replacement_state };
+
+    fn next_step(self, byte: u8) -> Step<ReplacementDecoder> {
+        if self.error_reported {
+            show_byte(Text::Nothing, Kind::Skipped)
+        } else {
+            show_byte(Text::One('\u{FFFD}'), Kind::Malformed)
+        }
+    }
+
+    fn ready(self) -> Option<Shown<ReplacementDecoder>> {
+        None
+    }
+
+    fn at_end(self) -> Option<Shown<ReplacementDecoder>> {
+        None
+    }
+
+    fn pending_len(self) -> u8 {
+        0
+    }
+}
+
+impl RawDecoder for ReplacementDecoder {
+    ghost use Rattle.enc_single_byte.specs.Replacement.{replacement_state};
+
+    ghost state = { replacement_state };
+
+    fn decode<U: Units>(
+        &mut self,
+        src: &[u8],
+        out: &mut U,
+        last: bool,
+        fault_room: bool,
+    ) -> (DecoderResult, usize) {
+        run(self, src, out, last, fault_room)
+    }
+
+    fn held(&self) -> usize {
+        self.pending_len() as usize
+    }
+}

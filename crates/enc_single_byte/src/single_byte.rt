@@ -1,0 +1,110 @@
+//! The legacy single-byte decoders (Encoding Standard 9.1).
+
+ghost use Rattle.std.specs.Prelude.{◌≡◌};
+ghost use Rattle.enc_single_byte.specs.OneByte.{single_byte_char};
+ghost use Rattle.enc_index.specs.Lists.{single_byte_runs};
+
+use crate::one_byte::show_byte;
+use enc_index::SingleByteIndex;
+use enc_machine::{ByteCodec, DecoderResult, RawDecoder, Shown, Step, run};
+use enc_units::{Pieces, Units};
+
+/// The decoder of a legacy single-byte encoding (Encoding Standard 9.1), by the encoding's index: a byte below
+/// 0x80 is its own character, and any other has that of the pointer 0x80 less, or is malformed where that is
+/// unmapped. An entry past U+FFFF doesn't count.
+#[derive(Clone, Copy)]
+pub struct SingleByteDecoder {
+    index: SingleByteIndex,
+}
+
+impl SingleByteDecoder {
+    /// A decoder for the encoding with this index. Takes no memory.
+    pub fn new(index: SingleByteIndex) -> SingleByteDecoder
+        ensures { result.index ≡ index }
+    {
+        SingleByteDecoder { index }
+    }
+}
+
+/// The character of a byte, if it has one.
+#[inline(always)]
+fn character_of(index: SingleByteIndex, byte: u8) -> Option<char>
+    ensures { result ≡ single_byte_char (single_byte_runs index) byte }
+{
+    if byte < 0x80 {
+        return Some(byte as char);
+    }
+    index.at(byte as u32 - 0x80)
+}
+
+impl Pieces for SingleByteDecoder {
+    ghost use Rattle.enc_single_byte.specs.OneByteState.{single_byte_state};
+    ghost use Rattle.enc_machine.specs.Taking.{IsPiece};
+
+    ghost means = { λ d. IsPiece (single_byte_state (single_byte_runs d.index)).rule 0 };
+
+    #[inline(always)]
+    fn piece(self, src: &[u8], at: usize) -> Option<(char, usize)> {
+        match character_of(self.index, src[at]) {
+            Some(character) => Some((character, 1)),
+            None => None,
+        }
+    }
+
+    fn has_ascii(self) -> bool {
+        let _index = self.index;
+        true
+    }
+
+    fn are_bytes(self) -> bool {
+        let _index = self.index;
+        true
+    }
+}
+
+impl ByteCodec for SingleByteDecoder {
+    ghost use Rattle.enc_single_byte.specs.OneByteState.{single_byte_state};
+
+    ghost state = { λ d. single_byte_state (single_byte_runs d.index) };
+
+    #[inline(always)]
+    fn take_run<U: Units>(self, src: &[u8], out: &mut U) -> (SingleByteDecoder, usize) {
+        (self, out.put_pieces(self, src))
+    }
+
+    fn next_step(self, byte: u8) -> Step<SingleByteDecoder> {
+        show_byte(self, character_of(self.index, byte))
+    }
+
+    fn ready(self) -> Option<Shown<SingleByteDecoder>> {
+        None
+    }
+
+    fn at_end(self) -> Option<Shown<SingleByteDecoder>> {
+        None
+    }
+
+    fn pending_len(self) -> u8 {
+        0
+    }
+}
+
+impl RawDecoder for SingleByteDecoder {
+    ghost use Rattle.enc_single_byte.specs.OneByteState.{single_byte_state};
+
+    ghost state = { λ d. single_byte_state (single_byte_runs d.index) };
+
+    fn decode<U: Units>(
+        &mut self,
+        src: &[u8],
+        out: &mut U,
+        last: bool,
+        fault_room: bool,
+    ) -> (DecoderResult, usize) {
+        run(self, src, out, last, fault_room)
+    }
+
+    fn held(&self) -> usize {
+        self.pending_len() as usize
+    }
+}

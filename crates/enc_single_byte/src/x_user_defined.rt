@@ -1,0 +1,97 @@
+//! The x-user-defined decoder (Encoding Standard 14.5).
+
+ghost use Rattle.std.specs.Prelude.{◌≡◌, Some};
+ghost use Rattle.enc_single_byte.specs.OneByte.{x_user_defined_char};
+
+use crate::one_byte::show_byte;
+use enc_machine::{ByteCodec, DecoderResult, RawDecoder, Shown, Step, run};
+use enc_units::{Pieces, Units};
+
+/// The x-user-defined decoder (Encoding Standard 14.5): a byte below 0x80 is its own character, and 0x80 to 0xFF
+/// are U+F780 to U+F7FF.
+#[derive(Clone, Copy)]
+pub struct XUserDefinedDecoder;
+
+impl XUserDefinedDecoder {
+    /// A decoder. Takes no memory.
+    pub fn new() -> XUserDefinedDecoder {
+        XUserDefinedDecoder
+    }
+}
+
+/// The character of a byte.
+fn character_of(byte: u8) -> char
+    ensures { Some result ≡ x_user_defined_char byte }
+{
+    if byte < 0x80 {
+        return byte as char;
+    }
+    char::from_u32(0xF780 + (byte as u32 - 0x80)).unwrap()
+}
+
+impl Pieces for XUserDefinedDecoder {
+    ghost use Rattle.enc_single_byte.specs.OneByteState.{x_user_defined_state};
+    ghost use Rattle.enc_machine.specs.Taking.{IsPiece};
+
+    ghost means = { λ _. IsPiece x_user_defined_state.rule 0 };
+
+    #[inline(always)]
+    fn piece(self, src: &[u8], at: usize) -> Option<(char, usize)> {
+        Some((character_of(src[at]), 1))
+    }
+
+    fn has_ascii(self) -> bool {
+        true
+    }
+
+    fn are_bytes(self) -> bool {
+        true
+    }
+}
+
+impl ByteCodec for XUserDefinedDecoder {
+    ghost use Rattle.enc_single_byte.specs.OneByteState.{x_user_defined_state};
+
+    ghost state = { λ _. x_user_defined_state };
+
+    #[inline(always)]
+    fn take_run<U: Units>(self, src: &[u8], out: &mut U) -> (XUserDefinedDecoder, usize) {
+        (self, out.put_pieces(self, src))
+    }
+
+    fn next_step(self, byte: u8) -> Step<XUserDefinedDecoder> {
+        show_byte(self, Some(character_of(byte)))
+    }
+
+    fn ready(self) -> Option<Shown<XUserDefinedDecoder>> {
+        None
+    }
+
+    fn at_end(self) -> Option<Shown<XUserDefinedDecoder>> {
+        None
+    }
+
+    fn pending_len(self) -> u8 {
+        0
+    }
+}
+
+impl RawDecoder for XUserDefinedDecoder {
+    ghost use Rattle.enc_single_byte.specs.OneByteState.{x_user_defined_state};
+
+    ghost state = { λ _. x_user_defined_state };
+
+    fn decode<U: Units>(
+        &mut self,
+        src: &[u8],
+        out: &mut U,
+        last: bool,
+        fault_room: bool,
+    ) -> (DecoderResult, usize) {
+        run(self, src, out, last, fault_room)
+    }
+
+    fn held(&self) -> usize {
+        self.pending_len() as usize
+    }
+}

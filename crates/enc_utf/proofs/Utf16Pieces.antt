@@ -1,0 +1,15 @@
+-- Code units of UTF-16 that are no surrogates, and surrogate pairs, are pieces.
+use Rattle.std.proofs.Common.{◌≡◌, ℕ, Bool, true, false, [], ◌∷◌}
+use Rattle.enc_utf.specs.Utf16.{code_unit, is_lead, is_trail, pair_scalar, utf_16_rule}
+use Rattle.enc_machine.specs.Taking.{IsPiece}
+use Rattle.enc_machine.proofs.SegmentationLemmas.{sequences_of-head}
+use Rattle.enc_utf.proofs.Utf16Lemmas.{character_first, pair_first}
+
+module _ (big : Bool) where
+  pub unit_piece : (a b c : ℕ) → c ≡ code_unit big a b → is_lead (code_unit big a b) ≡ false → is_trail (code_unit big a b) ≡ false
+      → IsPiece (utf_16_rule big) 0 (a ∷ b ∷ []) c
+  unit_piece a b c s l t y = rw s (sequences_of-head (utf_16_rule big) 0 a (b ∷ y) _ (character_first big 0 a b y l t))
+
+  pub pair_piece : (a b d e c : ℕ) → c ≡ pair_scalar (code_unit big a b) (code_unit big d e) → is_lead (code_unit big a b) ≡ true
+      → is_trail (code_unit big d e) ≡ true → IsPiece (utf_16_rule big) 0 (a ∷ b ∷ d ∷ e ∷ []) c
+  pair_piece a b d e c s l t y = rw s (sequences_of-head (utf_16_rule big) 0 a (b ∷ d ∷ e ∷ y) _ (pair_first big 0 a b d e y l t))

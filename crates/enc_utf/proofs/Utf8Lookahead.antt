@@ -1,0 +1,171 @@
+-- How far UTF-8 looks ahead: a whole sequence is told by its own bytes, and one that stops short by the byte
+-- behind it, or by the end of the input.
+use Rattle.std.proofs.Common.{◌≡◌, ℕ, ◌+◌, ◌-◌, ◌<◌, ◌≤◌, zero, suc, true, false, List, [], ◌∷◌, ◌++◌, length, take, eqb, cond, refl, ap, ◌∙◌, sym, arith, inl, inr}
+use Rattle.std.proofs.lemmas.Bool.Decides.{nat_tests, leb_tells}
+use Rattle.std.proofs.lemmas.List.{take-append-le, take-take, length-take-le}
+use Rattle.enc_machine.specs.declared.byte_codec.Kind.TheVariants.{Valid, Malformed}
+use Rattle.enc_machine.specs.Segmentation.{Head}
+use Rattle.enc_machine.specs.RuleLaws.{IsToldBy, IsToldByEnd, HasLookahead}
+use Rattle.enc_utf.specs.Utf8.{sequence_len, is_second, is_continuation, continuations, go_on, reach, lower_bound, scalar_of, utf_8_rule}
+use Rattle.enc_machine.proofs.ToldLemmas.{true_or_false, IsToldInTime, lookahead_by}
+use Rattle.enc_utf.proofs.Utf8Lemmas.{continuations-end}
+
+-- What shows how far the bytes reach is the byte behind those, or that no more are wanted.
+
+continuations-told : (n k : ℕ) (z y : List ℕ) → k ≤ length z → (k ≤ continuations n z → n ≤ k)
+    → continuations n (take k z ++ y) ≡ continuations n z
+continuations-told zero k z y l h = refl
+continuations-told (suc n) zero z y l h = absurd (let q = h (omega arith) in omega arith)
+continuations-told (suc n) (suc k) [] y l h = absurd (omega arith)
+continuations-told (suc n) (suc k) (c ∷ z) y l h = elim (true_or_false (is_continuation c)) [
+  | inl t ↦ rw t (ap suc (continuations-told n k z y (omega arith) (λ q. let m = (rw t at h) (omega arith) in omega arith)))
+  | inr f ↦ rw f refl
+]
+
+go_on-told : (b n k : ℕ) (z y : List ℕ) → k ≤ length z → (k ≤ go_on b n z → n ≤ k)
+    → go_on b n (take k z ++ y) ≡ go_on b n z
+go_on-told b zero k z y l h = refl
+go_on-told b (suc n) zero z y l h = absurd (let q = h (omega arith) in omega arith)
+go_on-told b (suc n) (suc k) [] y l h = absurd (omega arith)
+go_on-told b (suc n) (suc k) (c ∷ z) y l h = elim (true_or_false (is_second b c)) [
+  | inl t ↦ rw t (ap suc (continuations-told n k z y (omega arith) (λ q. let m = (rw t at h) (omega arith) in omega arith)))
+  | inr f ↦ rw f refl
+]
+
+-- They reach no further than they are there and wanted.
+
+continuations-within : (n : ℕ) (z : List ℕ) → (continuations n z ≤ n) × (continuations n z ≤ length z)
+continuations-within zero z = (omega arith, omega arith)
+continuations-within (suc n) [] = (omega arith, omega arith)
+continuations-within (suc n) (c ∷ z) = elim (true_or_false (is_continuation c)) [
+  | inl t ↦ rw t (let h = continuations-within n z in (omega arith, omega arith))
+  | inr f ↦ rw f (omega arith, omega arith)
+]
+
+go_on-within : (b n : ℕ) (z : List ℕ) → (go_on b n z ≤ n) × (go_on b n z ≤ length z)
+go_on-within b zero z = (omega arith, omega arith)
+go_on-within b (suc n) [] = (omega arith, omega arith)
+go_on-within b (suc n) (c ∷ z) = elim (true_or_false (is_second b c)) [
+  | inl t ↦ rw t (let h = continuations-within n z in (omega arith, omega arith))
+  | inr f ↦ rw f (omega arith, omega arith)
+]
+
+-- Where all bytes go on and more are wanted, a byte goes on with them.
+
+-- 0x80 is a continuation byte
+continues : is_continuation 0x80 ≡ true
+unfolding is_continuation
+continues = refl
+
+continuations-more : (n : ℕ) (z : List ℕ) → continuations n z ≡ length z → length z < n
+    → continuations n (z ++ 0x80 ∷ []) ≡ suc (length z)
+continuations-more zero z e l = absurd (omega arith)
+continuations-more (suc n) [] e l = rw continues (ap suc (continuations-end n))
+continuations-more (suc n) (c ∷ z) e l = elim (true_or_false (is_continuation c)) [
+  | inl t ↦ let f = rw t at e in rw t (ap suc (continuations-more n z (omega arith) (omega arith)))
+  | inr t ↦ let f = rw t at e in absurd (omega arith)
+]
+
+lower_follows : (a : ℕ) → is_second a (lower_bound a) ≡ true
+unfolding is_second
+lower_follows a = grind (arith, nat_tests)
+
+lower_is_byte : (a : ℕ) → lower_bound a < 256
+lower_is_byte a = grind (arith, nat_tests)
+
+-- the least byte that goes on
+next_byte : ℕ → List ℕ → ℕ
+next_byte b [] = lower_bound b
+next_byte b (c ∷ z) = 0x80
+
+next_is_byte : (b : ℕ) (z : List ℕ) → next_byte b z < 256
+unfolding next_byte
+next_is_byte b [] = lower_is_byte b
+next_is_byte b (c ∷ z) = omega arith
+
+go_on-more : (b n : ℕ) (z : List ℕ) → go_on b n z ≡ length z → length z < n
+    → go_on b n (z ++ next_byte b z ∷ []) ≡ suc (length z)
+unfolding next_byte
+go_on-more b zero z e l = absurd (omega arith)
+go_on-more b (suc n) [] e l = rw (lower_follows b) (ap suc (continuations-end n))
+go_on-more b (suc n) (c ∷ z) e l = elim (true_or_false (is_second b c)) [
+  | inl t ↦ let f = rw t at e in rw t (ap suc (continuations-more n z (omega arith) (omega arith)))
+  | inr t ↦ let f = rw t at e in absurd (omega arith)
+]
+
+-- the head by how far the bytes reach, and by those bytes
+
+abbrev head_of : ℕ → ℕ → ℕ → List ℕ → Head
+head_of set b m x =
+    cond (eqb (m + 1) (sequence_len b)) (record { more = m; text = scalar_of (b ∷ x) ∷ []; kind = Valid; set = set })
+    (record { more = m; text = 0xFFFD ∷ []; kind = Malformed; set = set })
+
+by_reach : (set b : ℕ) (z : List ℕ) → utf_8_rule set b z ≡ head_of set b (reach b z) (take (reach b z) z)
+unfolding utf_8_rule
+by_reach set b z = refl
+
+more_of : (set b m : ℕ) (x : List ℕ) → (head_of set b m x).more ≡ m
+more_of set b m x = elim (true_or_false (eqb (m + 1) (sequence_len b))) [ inl t ↦ rw t refl | inr f ↦ rw f refl ]
+
+more_is_reach : (set b : ℕ) (z : List ℕ) → (utf_8_rule set b z).more ≡ reach b z
+more_is_reach set b z = ap (λ (h : Head). h.more) (by_reach set b z) ∙ more_of set b (reach b z) (take (reach b z) z)
+
+pub within : (set b : ℕ) (z : List ℕ) → (utf_8_rule set b z).more ≤ length z
+within set b z = let w = go_on-within b (sequence_len b - 1) z in omega (arith, more_is_reach set b z, w.1)
+
+same_rule : (set b : ℕ) (y z : List ℕ) → reach b y ≡ reach b z → take (reach b z) y ≡ take (reach b z) z
+    → utf_8_rule set b y ≡ utf_8_rule set b z
+same_rule set b y z e t =
+    by_reach set b y ∙ ap (λ m. head_of set b m (take m y)) e ∙ ap (head_of set b (reach b z)) t ∙ sym (by_reach set b z)
+
+-- every sequence
+
+told_at : (set b k n : ℕ) (z : List ℕ) → k ≡ reach b z + n → k ≤ length z → (k ≤ reach b z → sequence_len b - 1 ≤ k)
+    → IsToldBy utf_8_rule set b z n
+told_at set b k n z e l h =
+    let m : (utf_8_rule set b z).more + n ≡ k = ap (λ j. j + n) (more_is_reach set b z) ∙ sym e in
+    let r : reach b z ≤ k = omega (arith, e) in
+    let q : length (take k z) ≡ k = length-take-le k z l in record {
+      there = omega (arith, m);
+      same = λ y. ap (λ j. utf_8_rule set b (take j z ++ y)) m
+          ∙ same_rule set b (take k z ++ y) z (go_on-told b (sequence_len b - 1) k z y l h)
+          (take-append-le (reach b z) (take k z) y (omega (arith, q, r)) ∙ take-take (reach b z) k z r);
+    }
+
+stops_short : (set b : ℕ) (z : List ℕ) → reach b z < sequence_len b - 1 → (utf_8_rule set b z).kind ≡ Valid → ⊥
+stops_short set b z l v =
+    let n : eqb (reach b z + 1) (sequence_len b) ≡ false = not_equal (reach b z) (sequence_len b) l in
+    let k = rw n at (by_reach set b z) in let m = ap (λ (h : Head). h.kind) k in cc
+  where
+    not_equal : (m n : ℕ) → m < n - 1 → eqb (m + 1) n ≡ false
+    not_equal m n l = grind (arith, nat_tests)
+
+pub by_end : (set b : ℕ) (z : List ℕ) → reach b z ≡ length z → length z < sequence_len b - 1
+    → IsToldByEnd utf_8_rule set b z
+by_end set b z e l = record {
+  more = next_byte b z ∷ [];
+  bytes = (next_is_byte b z, tt);
+  near = omega (arith, more_is_reach set b z, e);
+  other = λ q.
+      let m : reach b (z ++ next_byte b z ∷ []) ≡ suc (length z) = go_on-more b (sequence_len b - 1) z e l in
+      let n : reach b (z ++ next_byte b z ∷ []) ≡ reach b z =
+      sym (more_is_reach set b (z ++ next_byte b z ∷ [])) ∙ ap (λ (h : Head). h.more) q ∙ more_is_reach set b z in
+      let k : suc (length z) ≡ length z = sym m ∙ n ∙ e in omega (arith, k);
+}
+
+told : (set b : ℕ) (z : List ℕ) → IsToldInTime utf_8_rule set b z
+told set b z =
+    let w = go_on-within b (sequence_len b - 1) z in
+    elim (leb_tells (sequence_len b - 1) (reach b z)) [
+      | inl t ↦ inl (told_at set b (reach b z) 0 z (omega arith) w.1 (λ _. t.1))
+      | inr s ↦ inr (
+        stops_short set b z s.1,
+        elim (leb_tells (suc (reach b z)) (length z)) [
+          | inl l ↦ inl (1, omega arith, told_at set b (suc (reach b z)) 1 z (omega arith) l.1 (λ q. absurd (omega (arith, q))))
+          | inr g ↦ inr (by_end set b z (omega (arith, g.1, w.1)) (omega (arith, g.1, w.1, s.1)))
+        ],
+      )
+    ]
+
+pub utf_8_has_lookahead : HasLookahead utf_8_rule
+utf_8_has_lookahead = lookahead_by utf_8_rule told

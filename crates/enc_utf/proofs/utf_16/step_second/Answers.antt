@@ -1,0 +1,25 @@
+use Rattle.std.proofs.Common.{refl, sym, ◌∙◌}
+use Rattle.enc_machine.specs.declared.pending.Pending.TheVariants.{Two}
+use Rattle.enc_utf.proofs.Utf16Undetermined.{undetermined}
+use Rattle.enc_utf.proofs.Utf16Comes.{shows_character, shows_trail}
+use Rattle.enc_utf.proofs.utf_16.step_second.Goals as goal
+
+pub returns-then-is_lead : goal.returns-then-is_lead
+returns-then-is_lead c = (
+  refl,
+  undetermined c.args.big_endian (Two c.args.first c.args.byte)
+      (rw (← c.code_unit-unit.ensures) (sym c.is_lead.ensures ∙ c.if-is_lead.true)),
+)
+
+pub returns-then-is_trail : goal.returns-then-is_trail
+returns-then-is_trail c =
+    rw (c.malformed.ensures, c.new.ensures) (shows_trail c.args.big_endian c.args.first c.args.byte
+    (rw (← c.code_unit-unit.ensures) (sym c.is_lead.ensures ∙ c.if-is_lead.false))
+    (rw (← c.code_unit-unit.ensures) (sym c.is_trail.ensures ∙ c.if-is_trail.true)))
+
+pub returns-else-is_trail : goal.returns-else-is_trail
+returns-else-is_trail c =
+    rw c.valid.ensures (shows_character c.args.big_endian c.args.first c.args.byte _
+    (c.unit_char.ensures ∙ c.code_unit-unit.ensures)
+    (rw (← c.code_unit-unit.ensures) (sym c.is_lead.ensures ∙ c.if-is_lead.false))
+    (rw (← c.code_unit-unit.ensures) (sym c.is_trail.ensures ∙ c.if-is_trail.false)))

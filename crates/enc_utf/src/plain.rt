@@ -1,0 +1,139 @@
+//! A decoder of whole inputs of UTF-8, read off the definition, that tests compare the streaming decoder with. It
+//! is slow: at each place it looks at the bytes that follow, and it keeps nothing in between.
+
+ghost use Rattle.std.specs.Prelude.{◌≡◌, ℕ, ◌+◌, ◌<◌, ◌≤◌, [], ◌∷◌, ◌++◌, length, take, drop, slice_index, IfOk, OnOk};
+ghost use Rattle.std.specs.Char.{encode_utf8};
+ghost use Rattle.enc_units.specs.Output.{units_of_text};
+ghost use Rattle.enc_machine.specs.Sequence.{is_malformed as malformed_kind, text_of, any_malformed};
+ghost use Rattle.enc_machine.specs.Segmentation.{sequences_of};
+ghost use Rattle.enc_utf.specs.Utf8.{continuations as continuations_of, reach as reach_of, sequence_len as len_by_lead, scalar_of, utf_8_rule};
+
+use crate::utf_8::{
+    four_byte_char, is_continuation, is_second, sequence_len, three_byte_char, two_byte_char,
+};
+use std::alloc::{AllocError, Global};
+
+/// The text of a whole input.
+#[derive(Drop)]
+pub struct PlainText {
+    /// The text in UTF-8, with U+FFFD for each malformed sequence.
+    pub text: Vec<u8>,
+    /// Whether something was malformed.
+    pub had_errors: bool,
+}
+
+/// The sequence that stands at the front of some bytes.
+#[derive(Clone, Copy)]
+struct Found {
+    /// How many bytes it has.
+    len: usize,
+    character: char,
+    malformed: bool,
+}
+
+/// How many bytes in front are continuation bytes, at most so many.
+fn continuations(most: u8, bytes: &[u8]) -> u8
+    ensures value { result ≡ continuations_of most bytes.now }
+    ensures bound { result ≤ most }
+{
+    if most == 0 {
+        return 0;
+    }
+    match bytes.split_first() {
+        None => 0,
+        Some((first, rest)) => {
+            if !is_continuation(*first) {
+                return 0;
+            }
+            1 + continuations(most - 1, rest)
+        }
+    }
+}
+
+/// How many of the bytes after a lead byte begin a well-formed sequence with it.
+fn reach(lead: u8, after: &[u8]) -> u8
+    ensures value { result ≡ reach_of lead after.now }
+    ensures bound { result ≤ 3 }
+{
+    let len = sequence_len(lead);
+    if len < 2 {
+        return 0;
+    }
+    match after.split_first() {
+        None => 0,
+        Some((second, rest)) => {
+            if !is_second(lead, *second) {
+                return 0;
+            }
+            1 + continuations(len - 2, rest)
+        }
+    }
+}
+
+/// The character of a well-formed sequence.
+fn character_of(lead: u8, after: &[u8]) -> char
+    requires { reach_of lead after.now + 1 ≡ len_by_lead lead }
+    ensures { result ≡ scalar_of (lead ∷ take (reach_of lead after.now) after.now) }
+{
+    match sequence_len(lead) {
+        1 => lead as char,
+        2 => two_byte_char(lead, after[0]),
+        3 => three_byte_char(lead, after[0], after[1]),
+        _ => four_byte_char(lead, after[0], after[1], after[2]),
+    }
+}
+
+/// The sequence at the front: what the rule says of the first byte and the bytes after it.
+fn first_sequence(rest: &[u8]) -> Found
+    requires { 0 < length rest.now }
+    ensures len { result.len ≡ (utf_8_rule 0 (slice_index rest.now 0) (drop 1 rest.now)).more + 1 }
+    ensures character { (utf_8_rule 0 (slice_index rest.now 0) (drop 1 rest.now)).text ≡ result.character ∷ [] }
+    ensures malformed { result.malformed ≡ malformed_kind (utf_8_rule 0 (slice_index rest.now 0) (drop 1 rest.now)).kind }
+    ensures within { result.len ≤ length rest.now }
+{
+    let lead = rest[0];
+    let (_, after) = rest.split_at(1);
+    let more = reach(lead, after);
+    let len = more as usize + 1;
+    if more + 1 == sequence_len(lead) {
+        let character = character_of(lead, after);
+        return Found {
+            len,
+            character,
+            malformed: false,
+        };
+    }
+    Found {
+        len,
+        character: '\u{FFFD}',
+        malformed: true,
+    }
+}
+
+/// Appends the UTF-8 of a character.
+fn append(text: &mut Vec<u8>, character: char) -> Result<(), AllocError>
+    ensures { OnOk result (text.new.items ≡ text.old.items ++ encode_utf8 character) }
+{
+    let mut bytes = [0; 4];
+    let encoded = character.encode_utf8(&mut bytes).as_bytes();
+    text.extend_from_slice(encoded)
+}
+
+/// Decodes a whole input of UTF-8 (Encoding Standard 8.1.1). It fails only where memory does.
+pub fn decode_utf_8(alloc: Global, bytes: &[u8]) -> Result<PlainText, AllocError>
+    ensures text { IfOk result (λ plain.
+        plain.text.items ≡ units_of_text encode_utf8 (text_of (sequences_of utf_8_rule 0 bytes.now))) }
+    ensures had_errors { IfOk result (λ plain. plain.had_errors ≡ any_malformed (sequences_of utf_8_rule 0 bytes.now)) }
+{
+    let mut text = Vec::new(alloc);
+    let mut had_errors = false;
+    let mut read = 0;
+    while read < bytes.len() {
+        let (_, rest) = bytes.split_at(read);
+        let found = first_sequence(rest);
+        append(&mut text, found.character)?;
+        had_errors |= found.malformed;
+        read += found.len;
+    }
+    Ok(PlainText { text, had_errors })
+}
