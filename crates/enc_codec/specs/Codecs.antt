@@ -2,18 +2,18 @@
 use Rattle.std.specs.Prelude.{true, false, []}
 use Rattle.enc_codec.specs.declared.codec.Codec.{Codec}
 use Rattle.enc_codec.specs.declared.codec.Codec.TheVariants.{Utf8, Utf16Be, Utf16Le, SingleByte, Big5, EucKr, ShiftJis, EucJp, Gbk, Gb18030, Iso2022Jp, XUserDefined, Replacement}
-use Rattle.enc_index.specs.Lists.{single_byte_runs}
+use Rattle.enc_index.specs.Runs.{single_byte_runs}
 use Rattle.enc_machine.specs.Segmentation.{Rule}
 use Rattle.enc_machine.specs.CodecState.{CodecState}
 use Rattle.enc_utf.specs.Utf8.{utf_8_rule}
 use Rattle.enc_utf.specs.Utf16.{utf_16_rule}
 use Rattle.enc_single_byte.specs.OneByte.{one_byte_rule, single_byte_char, x_user_defined_char}
 use Rattle.enc_multi_byte.specs.MultiByte.{multi_byte_rule}
-use Rattle.enc_multi_byte.specs.Big5.{big5_reading}
-use Rattle.enc_multi_byte.specs.EucKr.{euc_kr_reading}
-use Rattle.enc_multi_byte.specs.ShiftJis.{shift_jis_reading}
-use Rattle.enc_multi_byte.specs.EucJp.{euc_jp_reading}
-use Rattle.enc_multi_byte.specs.Gb18030.{gb18030_reading}
+use Rattle.enc_multi_byte.specs.Big5.{big5_prefix}
+use Rattle.enc_multi_byte.specs.EucKr.{euc_kr_prefix}
+use Rattle.enc_multi_byte.specs.ShiftJis.{shift_jis_prefix}
+use Rattle.enc_multi_byte.specs.EucJp.{euc_jp_prefix}
+use Rattle.enc_multi_byte.specs.Gb18030.{gb18030_prefix}
 use Rattle.enc_single_byte.specs.Replacement.{replacement_rule}
 use Rattle.enc_iso_2022_jp.specs.Iso2022Jp.{iso_2022_jp_rule}
 
@@ -22,12 +22,12 @@ codec_rule Utf8 = utf_8_rule
 codec_rule Utf16Be = utf_16_rule true
 codec_rule Utf16Le = utf_16_rule false
 codec_rule (SingleByte index) = one_byte_rule (single_byte_char (single_byte_runs index))
-codec_rule Big5 = multi_byte_rule big5_reading
-codec_rule EucKr = multi_byte_rule euc_kr_reading
-codec_rule ShiftJis = multi_byte_rule shift_jis_reading
-codec_rule EucJp = multi_byte_rule euc_jp_reading
-codec_rule Gbk = multi_byte_rule gb18030_reading
-codec_rule Gb18030 = multi_byte_rule gb18030_reading
+codec_rule Big5 = multi_byte_rule big5_prefix
+codec_rule EucKr = multi_byte_rule euc_kr_prefix
+codec_rule ShiftJis = multi_byte_rule shift_jis_prefix
+codec_rule EucJp = multi_byte_rule euc_jp_prefix
+codec_rule Gbk = multi_byte_rule gb18030_prefix
+codec_rule Gb18030 = multi_byte_rule gb18030_prefix
 codec_rule XUserDefined = one_byte_rule x_user_defined_char
 codec_rule Replacement = replacement_rule
 codec_rule Iso2022Jp = iso_2022_jp_rule

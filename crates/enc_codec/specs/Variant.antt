@@ -4,15 +4,15 @@ use Rattle.enc_codec.specs.declared.variant.VariantDecoder.TheVariants.{Utf8, Ut
 use Rattle.enc_machine.specs.CodecState.{CodecState}
 use Rattle.enc_utf.specs.Utf8State.{utf_8_state}
 use Rattle.enc_utf.specs.Utf16State.{utf_16_state}
-use Rattle.enc_index.specs.Lists.{single_byte_runs}
+use Rattle.enc_index.specs.Runs.{single_byte_runs}
 use Rattle.enc_single_byte.specs.OneByteState.{single_byte_state, x_user_defined_state}
 use Rattle.enc_machine.specs.Pending.{pending_bytes}
 use Rattle.enc_multi_byte.specs.MultiByte.{multi_byte_state}
-use Rattle.enc_multi_byte.specs.Big5.{big5_reading}
-use Rattle.enc_multi_byte.specs.EucKr.{euc_kr_reading}
-use Rattle.enc_multi_byte.specs.ShiftJis.{shift_jis_reading}
-use Rattle.enc_multi_byte.specs.EucJp.{euc_jp_reading}
-use Rattle.enc_multi_byte.specs.Gb18030.{gb18030_reading}
+use Rattle.enc_multi_byte.specs.Big5.{big5_prefix}
+use Rattle.enc_multi_byte.specs.EucKr.{euc_kr_prefix}
+use Rattle.enc_multi_byte.specs.ShiftJis.{shift_jis_prefix}
+use Rattle.enc_multi_byte.specs.EucJp.{euc_jp_prefix}
+use Rattle.enc_multi_byte.specs.Gb18030.{gb18030_prefix}
 use Rattle.enc_single_byte.specs.Replacement.{replacement_state}
 use Rattle.enc_iso_2022_jp.specs.Iso2022JpState.{iso_2022_jp_state}
 
@@ -20,11 +20,11 @@ abbrev pub variant_state : VariantDecoder → CodecState
 variant_state (Utf8 d) = utf_8_state d
 variant_state (Utf16 d) = utf_16_state d
 variant_state (SingleByte d) = single_byte_state (single_byte_runs d.index)
-variant_state (Big5 d) = multi_byte_state big5_reading (pending_bytes d.pending)
-variant_state (EucKr d) = multi_byte_state euc_kr_reading (pending_bytes d.pending)
-variant_state (ShiftJis d) = multi_byte_state shift_jis_reading (pending_bytes d.pending)
-variant_state (EucJp d) = multi_byte_state euc_jp_reading (pending_bytes d.pending)
-variant_state (Gb18030 d) = multi_byte_state gb18030_reading (pending_bytes d.pending)
+variant_state (Big5 d) = multi_byte_state big5_prefix (pending_bytes d.pending)
+variant_state (EucKr d) = multi_byte_state euc_kr_prefix (pending_bytes d.pending)
+variant_state (ShiftJis d) = multi_byte_state shift_jis_prefix (pending_bytes d.pending)
+variant_state (EucJp d) = multi_byte_state euc_jp_prefix (pending_bytes d.pending)
+variant_state (Gb18030 d) = multi_byte_state gb18030_prefix (pending_bytes d.pending)
 variant_state (XUserDefined d) = x_user_defined_state
 variant_state (Replacement d) = replacement_state d
 variant_state (Iso2022Jp d) = iso_2022_jp_state d

@@ -1,14 +1,14 @@
 -- The tables of the multi-byte indexes have what their runs say.
 use Rattle.std.proofs.Common.{◌≡◌, ℕ, true, refl, get_or}
-use Rattle.enc_index.specs.declared.index.Planes.TheVariants.{Basic, All}
+use Rattle.enc_index.specs.declared.table.Planes.TheVariants.{Basic, All}
 use Rattle.enc_index.specs.declared.list.List.TheVariants.{Big5, EucKr, Gb18030, Gb18030Ranges, Jis0208, Jis0212}
-use Rattle.enc_index.specs.declared.indexes.big5.TheConstants.{BIG5_TABLE}
-use Rattle.enc_index.specs.declared.indexes.euc_kr.TheConstants.{EUC_KR_TABLE}
-use Rattle.enc_index.specs.declared.indexes.gb18030.TheConstants.{GB18030_TABLE}
-use Rattle.enc_index.specs.declared.indexes.jis0208.TheConstants.{JIS0208_TABLE}
-use Rattle.enc_index.specs.declared.indexes.jis0212.TheConstants.{JIS0212_TABLE}
+use Rattle.enc_index.specs.declared.data.big5.TheConstants.{BIG5_TABLE}
+use Rattle.enc_index.specs.declared.data.euc_kr.TheConstants.{EUC_KR_TABLE}
+use Rattle.enc_index.specs.declared.data.gb18030.TheConstants.{GB18030_TABLE}
+use Rattle.enc_index.specs.declared.data.jis0208.TheConstants.{JIS0208_TABLE}
+use Rattle.enc_index.specs.declared.data.jis0212.TheConstants.{JIS0212_TABLE}
 use Rattle.enc_index.specs.Index.{entry_character}
-use Rattle.enc_index.specs.Lists.{runs_of, big5_at, euc_kr_at, gb18030_at, jis0208_at, jis0212_at}
+use Rattle.enc_index.specs.Runs.{runs_of, big5_at, euc_kr_at, gb18030_at, jis0208_at, jis0212_at}
 use Rattle.enc_index.specs.Search.{are_ascending}
 use Rattle.enc_index.proofs.TableLemmas.{table_ok, table_ok-true}
 use Rattle.enc_index.proofs.Computing.{tests}

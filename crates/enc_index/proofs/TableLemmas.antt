@@ -1,7 +1,7 @@
 -- A table of code points has what the runs say, by a test that goes through both once.
 use Rattle.std.proofs.Common.{◌≡◌, ℕ, zero, suc, ◌+◌, ◌-◌, ◌<◌, ◌≤◌, Bool, true, false, refl, sym, ap, ◌∙◌, subst, cond, ◌&&◌, ◌==◌, nat_lt, List, [], ◌∷◌, get_or, None, arith, inl, inr, eqb-true, le-leb, lt-ltb, le-ltb}
 use Rattle.std.proofs.lemmas.Bool.{cond-true, cond-false, and_parts, and_left, and_right, and_from, cases_lt, lt-leb}
-use Rattle.enc_index.specs.declared.index.Planes.{Planes}
+use Rattle.enc_index.specs.declared.table.Planes.{Planes}
 use Rattle.enc_index.specs.Index.{Run, index_at, entry_character}
 use Rattle.enc_index.specs.Search.{are_ascending}
 use Rattle.enc_index.proofs.HalvesLemmas.{ascending_parts}

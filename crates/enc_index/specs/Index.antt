@@ -1,7 +1,7 @@
 -- Indexes (Encoding Standard 5): characters by pointers.
 use Rattle.std.specs.Prelude.{ℕ, ◌+◌, ◌-◌, Bool, ◌&&◌, ◌||◌, nat_le, nat_lt, Option, Some, None, List, [], ◌∷◌, if◌then◌else◌}
-use Rattle.enc_index.specs.declared.index.Planes.{Planes}
-use Rattle.enc_index.specs.declared.index.Planes.TheVariants.{Basic, All}
+use Rattle.enc_index.specs.declared.table.Planes.{Planes}
+use Rattle.enc_index.specs.declared.table.Planes.TheVariants.{Basic, All}
 
 -- a run of entries: first pointer, last pointer, and the code point of the first
 abbrev pub Run : Type 0

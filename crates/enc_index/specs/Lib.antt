@@ -1,4 +1,4 @@
 pub mod Index
-pub mod Lists
+pub mod Runs
 pub mod Search
 pub mod SingleByteTables

@@ -2,13 +2,13 @@
 //! proved equal to what the entries say.
 #![tactic(auto)]
 
-mod index;
-pub mod indexes;
+pub mod data;
 mod list;
 mod search;
 mod single_byte_index;
+mod table;
 
-pub use index::Planes;
 pub use list::List;
 pub use search::run_with;
 pub use single_byte_index::SingleByteIndex;
+pub use table::Planes;

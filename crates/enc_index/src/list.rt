@@ -2,17 +2,17 @@
 
 ghost use Rattle.std.specs.Prelude.{◌≡◌};
 ghost use Rattle.enc_index.specs.Index.{index_at};
-ghost use Rattle.enc_index.specs.Lists.{planes_of, runs_of};
+ghost use Rattle.enc_index.specs.Runs.{planes_of, runs_of};
 
-use crate::index::{Planes, character_in, character_in_all};
-use crate::indexes::big5::{BIG5_RUNS, BIG5_TABLE};
-use crate::indexes::euc_kr::{EUC_KR_RUNS, EUC_KR_TABLE};
-use crate::indexes::gb18030::{GB18030_RUNS, GB18030_TABLE};
-use crate::indexes::gb18030_ranges::GB18030_RANGES_RUNS;
-use crate::indexes::jis0208::{JIS0208_RUNS, JIS0208_TABLE};
-use crate::indexes::jis0212::{JIS0212_RUNS, JIS0212_TABLE};
+use crate::data::big5::{BIG5_RUNS, BIG5_TABLE};
+use crate::data::euc_kr::{EUC_KR_RUNS, EUC_KR_TABLE};
+use crate::data::gb18030::{GB18030_RUNS, GB18030_TABLE};
+use crate::data::gb18030_ranges::GB18030_RANGES_RUNS;
+use crate::data::jis0208::{JIS0208_RUNS, JIS0208_TABLE};
+use crate::data::jis0212::{JIS0212_RUNS, JIS0212_TABLE};
 use crate::search::character_among;
 use crate::single_byte_index::SingleByteIndex;
+use crate::table::{Planes, character_in, character_in_all};
 
 /// An index, by name. It stands for its entries: pairs of a pointer and the code point of a character. They are
 /// given as runs; a run (first pointer, last pointer, first code point) stands for the entries (first pointer,

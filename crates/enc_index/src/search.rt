@@ -4,7 +4,7 @@ ghost use Rattle.std.specs.Prelude.{◌≡◌, ◌≤◌, true, IfSome};
 ghost use Rattle.enc_index.specs.Index.{index_at};
 ghost use Rattle.enc_index.specs.Search.{are_ascending, run_at};
 
-use crate::index::{Planes, character_behind};
+use crate::table::{Planes, character_behind};
 
 /// The first run that has a number. It takes a search by halves, and no memory.
 ///

@@ -2,12 +2,11 @@
 
 ghost use Rattle.std.specs.Prelude.{◌≡◌, ◌<◌};
 ghost use Rattle.enc_index.specs.Index.{index_at};
-ghost use Rattle.enc_index.specs.Lists.{single_byte_runs};
+ghost use Rattle.enc_index.specs.Runs.{single_byte_runs};
 ghost use Rattle.enc_index.specs.SingleByteTables.{number_of};
-ghost use Rattle.enc_index.specs.declared.index.Planes.TheVariants.{Basic};
+ghost use Rattle.enc_index.specs.declared.table.Planes.TheVariants.{Basic};
 
-use crate::index::character_in;
-use crate::indexes::single_byte::{
+use crate::data::single_byte::{
     IBM866_RUNS, ISO_8859_2_RUNS, ISO_8859_3_RUNS, ISO_8859_4_RUNS, ISO_8859_5_RUNS,
     ISO_8859_6_RUNS, ISO_8859_7_RUNS, ISO_8859_8_RUNS, ISO_8859_10_RUNS, ISO_8859_13_RUNS,
     ISO_8859_14_RUNS, ISO_8859_15_RUNS, ISO_8859_16_RUNS, KOI8_R_RUNS, KOI8_U_RUNS, MACINTOSH_RUNS,
@@ -15,6 +14,7 @@ use crate::indexes::single_byte::{
     WINDOWS_1253_RUNS, WINDOWS_1254_RUNS, WINDOWS_1255_RUNS, WINDOWS_1256_RUNS, WINDOWS_1257_RUNS,
     WINDOWS_1258_RUNS, X_MAC_CYRILLIC_RUNS,
 };
+use crate::table::character_in;
 
 /// The index of a legacy single-byte encoding, by name. A pointer is a byte less 0x80. ISO-8859-8-I has that of
 /// ISO-8859-8.

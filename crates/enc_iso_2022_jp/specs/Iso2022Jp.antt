@@ -4,7 +4,7 @@ use Rattle.enc_machine.specs.declared.byte_codec.Kind.TheVariants.{Skipped, Repe
 use Rattle.enc_iso_2022_jp.specs.declared.iso_2022_jp.CharacterSet.{CharacterSet}
 use Rattle.enc_iso_2022_jp.specs.declared.iso_2022_jp.CharacterSet.TheVariants.{Ascii, Roman, Katakana, Jis0208}
 use Rattle.enc_machine.specs.Segmentation.{Head, Rule, one_byte_head, character_head, malformed_head}
-use Rattle.enc_index.specs.Lists.{jis0208_at}
+use Rattle.enc_index.specs.Runs.{jis0208_at}
 
 -- The number by which the segmentation knows a character set. At the start it is that of ASCII.
 abbrev pub set_number : CharacterSet → ℕ

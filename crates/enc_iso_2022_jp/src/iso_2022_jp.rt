@@ -1,6 +1,6 @@
 //! The ISO-2022-JP decoder (Encoding Standard 12.2.1).
 
-ghost use Rattle.std.specs.Prelude.{◌≡◌, ℕ, ◌+◌, ◌-◌, ◌≤◌, true, false, Option, IfSome, IfNone, List, [], ◌∷◌, length};
+ghost use Rattle.std.specs.Prelude.{◌≡◌, ℕ, ◌+◌, ◌-◌, ◌≤◌, true, false, Option, IfSome, IfNone, List, [], ◌∷◌};
 ghost use Rattle.enc_iso_2022_jp.specs.Iso2022Jp.{set_named, ascii_char as char_in_ascii, roman_char as char_in_roman, katakana_char as char_in_katakana, one_byte_char as char_alone, is_jis0208_byte as in_jis0208, is_lead as begins_pair, two_byte_char};
 ghost use Rattle.enc_iso_2022_jp.specs.Iso2022JpState.{Iso2022JpState, holding, intermediate_byte, escape_bytes, escape_set, held_bytes, CanHold, CutsOff, shown_char, StandsAlone, iso_2022_jp_state};
 ghost use Rattle.enc_machine.specs.CodecLaw.{Comes, Acts, IsReady};
@@ -583,7 +583,7 @@ impl ByteCodec for Iso2022JpDecoder {
         }
     }
 
-    fn pending_len(self) -> u8 {
+    fn held(self) -> u8 {
         match self.held {
             None => 0,
             Some(Held::GivenBack(_)) => 1,
@@ -602,6 +602,7 @@ impl RawDecoder for Iso2022JpDecoder {
 
     ghost state = { iso_2022_jp_state };
 
+    #[tactic(auto, using(crate::proofs::Iso2022JpRule::iso_2022_jp_is_lawful))]
     fn decode<U: Units>(
         &mut self,
         src: &[u8],
@@ -613,6 +614,6 @@ impl RawDecoder for Iso2022JpDecoder {
     }
 
     fn held(&self) -> usize {
-        self.pending_len() as usize
+        ByteCodec::held(*self) as usize
     }
 }

@@ -98,6 +98,6 @@ pub trait ByteCodec: Copy {
         ensures { IsAtEnd state self result };
 
     /// How many bytes are pending.
-    fn pending_len(self) -> u8
+    fn held(self) -> u8
         ensures { result ≡ length (state self).pending };
 }

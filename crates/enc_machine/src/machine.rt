@@ -1,6 +1,6 @@
 //! The loop over the bytes of one call, for every codec and every output.
 
-ghost use Rattle.std.specs.Prelude.{◌≡◌, ℕ, ◌<◌, ◌≤◌, true, false, length, nat_le, IsTrue, IsFalse};
+ghost use Rattle.std.specs.Prelude.{◌≡◌, ◌<◌, ◌≤◌, true, false, length, nat_le, IsTrue, IsFalse};
 ghost use Rattle.enc_units.specs.Output.{appended, units_of_text};
 ghost use Rattle.enc_machine.specs.CodecState.{remainder_of};
 ghost use Rattle.enc_machine.specs.CodecLaw.{IsComing, chars_of};
@@ -143,10 +143,7 @@ pub fn run<C: ByteCodec, U: Units>(
         let end = if shown.takes_byte { read + 1 } else { read };
         if is_reported(out, shown.kind, fault_room) {
             *codec = shown.next;
-            return (
-                DecoderResult::Malformed(shown.len, shown.next.pending_len()),
-                end,
-            );
+            return (DecoderResult::Malformed(shown.len, shown.next.held()), end);
         }
         if !put_out(out, shown.kind, shown.text) {
             *codec = state;

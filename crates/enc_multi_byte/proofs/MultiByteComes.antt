@@ -13,12 +13,12 @@ use Rattle.enc_machine.specs.declared.pending.Pending.TheVariants.{Nothing, One,
 use Rattle.enc_machine.specs.Pending.{pending_bytes, first_of}
 use Rattle.enc_machine.specs.declared.byte_codec.Shown.{Shown}
 use Rattle.enc_machine.specs.declared.byte_codec.Step.TheVariants.{Wait, Show}
-use Rattle.enc_multi_byte.specs.declared.multi_byte.Reading.{Reading}
-use Rattle.enc_multi_byte.specs.declared.multi_byte.Reading.TheVariants.{Unfinished}
+use Rattle.enc_multi_byte.specs.declared.multi_byte.Prefix.{Prefix}
+use Rattle.enc_multi_byte.specs.declared.multi_byte.Prefix.TheVariants.{Incomplete}
 use Rattle.enc_machine.specs.Segmentation.{sequences_of}
 use Rattle.enc_machine.specs.CodecState.{CodecState}
 use Rattle.enc_machine.specs.CodecLaw.{chars_of, Comes, Acts, IsReady, IsAtEnd}
-use Rattle.enc_multi_byte.specs.MultiByte.{multi_byte_rule, multi_byte_state, AreUnfinished, IsReading}
+use Rattle.enc_multi_byte.specs.MultiByte.{multi_byte_rule, multi_byte_state, AreIncomplete, ArePrefixes}
 use Rattle.enc_machine.proofs.SegmentationLemmas.{sequences_of-head}
 use Rattle.enc_machine.proofs.ShowLemmas.{shows_with, shows_at, shows_before}
 use Rattle.enc_multi_byte.proofs.MultiByteLemmas.{one_more, Settles, settled_first, all_malformed}
@@ -42,15 +42,15 @@ pub first_and_rest : (z : List ℕ) (a : ℕ) → first_of z ≡ Some a → z �
 first_and_rest [] a e = cc
 first_and_rest (b ∷ z) a e = cc
 
-module _ (reading : List ℕ → Reading) (laws : IsReading reading) {C : Type 0} (state : C → CodecState) (c next : C)
-    (p : List ℕ) (now : state c ≡ multi_byte_state reading p) where
-  rule_stays : (q : List ℕ) → state next ≡ multi_byte_state reading q → (state next).rule ≡ (state c).rule
+module _ (prefix : List ℕ → Prefix) (laws : ArePrefixes prefix) {C : Type 0} (state : C → CodecState) (c next : C)
+    (p : List ℕ) (now : state c ≡ multi_byte_state prefix p) where
+  rule_stays : (q : List ℕ) → state next ≡ multi_byte_state prefix q → (state next).rule ≡ (state c).rule
   rule_stays q then = ap (λ (s : CodecState). s.rule) then ∙ sym (ap (λ (s : CodecState). s.rule) now)
 
   -- the pending bytes show what the first of them are
   pub shows_pending : (may_follow : List ℕ → Type 0) (w : List ℕ) (x : ℕ) (rest : List ℕ) (n len : ℕ) (text : Text) (kind : Kind)
-      → p ≡ w ++ x ∷ rest → AreUnfinished reading [] w → Settles reading (w ++ x ∷ []) n text kind → length p ≤ 3 → len ≡ n
-      → state next ≡ multi_byte_state reading (drop n p)
+      → p ≡ w ++ x ∷ rest → AreIncomplete prefix [] w → Settles prefix (w ++ x ∷ []) n text kind → length p ≤ 3 → len ≡ n
+      → state next ≡ multi_byte_state prefix (drop n p)
       → Comes state c may_follow [] (record { text = text; kind = kind; len = len; takes_byte = false; next = next })
   shows_pending may_follow w x rest n len text kind e u s l m then =
       let f : p ≡ (w ++ x ∷ []) ++ rest = e ∙ sym (append_assoc w (x ∷ []) rest) in
@@ -68,16 +68,16 @@ module _ (reading : List ℕ → Reading) (laws : IsReading reading) {C : Type 0
             (omega (arith, k, s.own), omega arith, omega (arith, k, s.own))),
       ))
       (λ y _. rw (now, then)
-      (ap (λ z. sequences_of (multi_byte_rule reading) 0 (z ++ y)) e
-      ∙ ap (sequences_of (multi_byte_rule reading) 0) (append_assoc w (x ∷ rest) y)
-      ∙ settled_first reading 0 w x (rest ++ y) n text kind u s
-      ∙ ap (λ b. record { bytes = b; text = chars_of text; kind = kind; set = 0 } ∷ sequences_of (multi_byte_rule reading) 0 (drop n (w ++ x ∷ []) ++ (rest ++ y))) (sym t)
-      ∙ ap (λ z. record { bytes = take n p; text = chars_of text; kind = kind; set = 0 } ∷ sequences_of (multi_byte_rule reading) 0 z)
+      (ap (λ z. sequences_of (multi_byte_rule prefix) 0 (z ++ y)) e
+      ∙ ap (sequences_of (multi_byte_rule prefix) 0) (append_assoc w (x ∷ rest) y)
+      ∙ settled_first prefix 0 w x (rest ++ y) n text kind u s
+      ∙ ap (λ b. record { bytes = b; text = chars_of text; kind = kind; set = 0 } ∷ sequences_of (multi_byte_rule prefix) 0 (drop n (w ++ x ∷ []) ++ (rest ++ y))) (sym t)
+      ∙ ap (λ z. record { bytes = take n p; text = chars_of text; kind = kind; set = 0 } ∷ sequences_of (multi_byte_rule prefix) 0 z)
       (sym (append_assoc (drop n (w ++ x ∷ [])) rest y) ∙ ap (λ z. z ++ y) (sym d))))
 
   -- the byte behind them is the last of a sequence
-  pub shows_byte_with : (b n len : ℕ) (text : Text) (kind : Kind) → AreUnfinished reading [] p → Settles reading (p ++ b ∷ []) n text kind
-      → length p ≤ 3 → length p < n → len ≡ n → state next ≡ multi_byte_state reading []
+  pub shows_byte_with : (b n len : ℕ) (text : Text) (kind : Kind) → AreIncomplete prefix [] p → Settles prefix (p ++ b ∷ []) n text kind
+      → length p ≤ 3 → length p < n → len ≡ n → state next ≡ multi_byte_state prefix []
       → Acts state c b (Show (record { text = text; kind = kind; len = len; takes_byte = true; next = next }))
   shows_byte_with b n len text kind u s l k m then =
       let e : length (p ++ b ∷ []) ≡ length p + 1 = length-append p (b ∷ []) in
@@ -88,13 +88,13 @@ module _ (reading : List ℕ → Reading) (laws : IsReading reading) {C : Type 0
       (m ∙ f ∙ e ∙ ap (λ (s : CodecState). length s.pending + 1) (sym now)) s.no_escape
       (λ i. (s.replaced i, omega (arith, e)))
       (λ z. rw (now, then)
-      (settled_first reading 0 p b z n text kind u s
-      ∙ ap (λ y. record { bytes = y; text = chars_of text; kind = kind; set = 0 } ∷ sequences_of (multi_byte_rule reading) 0 (drop n (p ++ b ∷ []) ++ z)) t
-      ∙ ap (λ y. record { bytes = p ++ b ∷ []; text = chars_of text; kind = kind; set = 0 } ∷ sequences_of (multi_byte_rule reading) 0 (y ++ z)) d))
+      (settled_first prefix 0 p b z n text kind u s
+      ∙ ap (λ y. record { bytes = y; text = chars_of text; kind = kind; set = 0 } ∷ sequences_of (multi_byte_rule prefix) 0 (drop n (p ++ b ∷ []) ++ z)) t
+      ∙ ap (λ y. record { bytes = p ++ b ∷ []; text = chars_of text; kind = kind; set = 0 } ∷ sequences_of (multi_byte_rule prefix) 0 (y ++ z)) d))
 
   -- the byte behind them shows that the first of them are malformed, and isn't one of those
-  pub shows_byte_before : (b n len : ℕ) (text : Text) (kind : Kind) → AreUnfinished reading [] p → Settles reading (p ++ b ∷ []) n text kind
-      → length p ≤ 3 → n ≤ length p → len ≡ n → state next ≡ multi_byte_state reading (drop n p)
+  pub shows_byte_before : (b n len : ℕ) (text : Text) (kind : Kind) → AreIncomplete prefix [] p → Settles prefix (p ++ b ∷ []) n text kind
+      → length p ≤ 3 → n ≤ length p → len ≡ n → state next ≡ multi_byte_state prefix (drop n p)
       → Acts state c b (Show (record { text = text; kind = kind; len = len; takes_byte = false; next = next }))
   shows_byte_before b n len text kind u s l k m then =
       let t : take n (p ++ b ∷ []) ≡ take n p = take-append-le n p (b ∷ []) k in
@@ -106,37 +106,37 @@ module _ (reading : List ℕ → Reading) (laws : IsReading reading) {C : Type 0
       (m ∙ sym g) (omega (arith, s.some)) s.no_escape
       (λ i. (s.replaced i, (let j = ap (λ (s : CodecState). length s.pending) then in (omega arith, omega arith, omega (arith, length-drop n p)))))
       (λ z. rw (now, then)
-      (settled_first reading 0 p b z n text kind u s
-      ∙ ap (λ y. record { bytes = y; text = chars_of text; kind = kind; set = 0 } ∷ sequences_of (multi_byte_rule reading) 0 (drop n (p ++ b ∷ []) ++ z)) t
-      ∙ ap (λ y. record { bytes = take n p; text = chars_of text; kind = kind; set = 0 } ∷ sequences_of (multi_byte_rule reading) 0 y)
+      (settled_first prefix 0 p b z n text kind u s
+      ∙ ap (λ y. record { bytes = y; text = chars_of text; kind = kind; set = 0 } ∷ sequences_of (multi_byte_rule prefix) 0 (drop n (p ++ b ∷ []) ++ z)) t
+      ∙ ap (λ y. record { bytes = take n p; text = chars_of text; kind = kind; set = 0 } ∷ sequences_of (multi_byte_rule prefix) 0 y)
       (ap (λ y. y ++ z) d ∙ append_assoc (drop n p) (b ∷ []) z)))
 
   -- it shows one or the other
   pub shows_byte : (b n len : ℕ) (text : Text) (kind : Kind) (takes : Bool) → takes ≡ nat_lt (length p) n
-      → AreUnfinished reading [] p → Settles reading (p ++ b ∷ []) n text kind → length p ≤ 3 → len ≡ n
-      → state next ≡ multi_byte_state reading (drop n p)
+      → AreIncomplete prefix [] p → Settles prefix (p ++ b ∷ []) n text kind → length p ≤ 3 → len ≡ n
+      → state next ≡ multi_byte_state prefix (drop n p)
       → Acts state c b (Show (record { text = text; kind = kind; len = len; takes_byte = takes; next = next }))
   shows_byte b n len text kind true e u s l m then =
       let k : length p < n = grind (arith, nat_tests) in
-      shows_byte_with b n len text kind u s l k m (then ∙ ap (multi_byte_state reading) (drop_of_length-le p (omega arith)))
+      shows_byte_with b n len text kind u s l k m (then ∙ ap (multi_byte_state prefix) (drop_of_length-le p (omega arith)))
   shows_byte b n len text kind false e u s l m then = shows_byte_before b n len text kind u s l (grind (arith, nat_tests)) m then
 
   -- it is held
-  pub waits : (b : ℕ) → AreUnfinished reading [] p → reading (p ++ b ∷ []) ≡ Unfinished → state next ≡ multi_byte_state reading (p ++ b ∷ [])
+  pub waits : (b : ℕ) → AreIncomplete prefix [] p → prefix (p ++ b ∷ []) ≡ Incomplete → state next ≡ multi_byte_state prefix (p ++ b ∷ [])
       → Acts state c b (Wait next)
   waits b u e then = (
     then ∙ ap (λ (s : CodecState). record s { pending = s.pending ++ b ∷ [] }) (sym now),
-    undetermined reading laws (state next) (p ++ b ∷ []) then (one_more reading [] p b u e),
+    undetermined prefix laws (state next) (p ++ b ∷ []) then (one_more prefix [] p b u e),
   )
 
-  -- what they show by themselves, unless all of them are unfinished
-  pub ready_by : (r : Option (Shown C)) → IfSome r (λ shown. IsReady state c (Some shown)) → (IsNone r → AreUnfinished reading [] p)
+  -- what they show by themselves, unless all of them are incomplete
+  pub ready_by : (r : Option (Shown C)) → IfSome r (λ shown. IsReady state c (Some shown)) → (IsNone r → AreIncomplete prefix [] p)
       → IsReady state c r
-  ready_by None h u = undetermined reading laws (state c) p now (u refl)
+  ready_by None h u = undetermined prefix laws (state c) p now (u refl)
   ready_by (Some shown) h u = h
 
   -- the end of the input leaves all of them malformed
-  pub left_over : (len : ℕ) → AreUnfinished reading [] p → 0 < length p → length p ≤ 3 → len ≡ length p → state next ≡ multi_byte_state reading []
+  pub left_over : (len : ℕ) → AreIncomplete prefix [] p → 0 < length p → length p ≤ 3 → len ≡ length p → state next ≡ multi_byte_state prefix []
       → IsAtEnd state c (Some (record { text = Character 0xFFFD; kind = Malformed; len = len; takes_byte = false; next = next }))
   left_over len u s l m then = (
     shows_before state c next (Character 0xFFFD) Malformed len _ p (rule_stays _ then)
@@ -144,19 +144,19 @@ module _ (reading : List ℕ → Reading) (laws : IsReading reading) {C : Type 0
         m (omega arith) refl
         (λ _. (refl, (let j = ap (λ (s : CodecState). length s.pending) then in (omega arith, omega arith, omega arith))))
         (λ y e. rw (now, then)
-        (ap (λ z. sequences_of (multi_byte_rule reading) 0 (p ++ z)) e
-        ∙ ap (sequences_of (multi_byte_rule reading) 0) (append-nil p) ∙ malformed_first p u s
-        ∙ ap (λ z. record { bytes = p; text = 0xFFFD ∷ []; kind = Malformed; set = 0 } ∷ sequences_of (multi_byte_rule reading) 0 z) (sym e))),
+        (ap (λ z. sequences_of (multi_byte_rule prefix) 0 (p ++ z)) e
+        ∙ ap (sequences_of (multi_byte_rule prefix) 0) (append-nil p) ∙ malformed_first p u s
+        ∙ ap (λ z. record { bytes = p; text = 0xFFFD ∷ []; kind = Malformed; set = 0 } ∷ sequences_of (multi_byte_rule prefix) 0 z) (sym e))),
     refl,
   )
     where
-      malformed_first : (p : List ℕ) → AreUnfinished reading [] p → 0 < length p
-          → sequences_of (multi_byte_rule reading) 0 p
-          ≡ record { bytes = p; text = 0xFFFD ∷ []; kind = Malformed; set = 0 } ∷ sequences_of (multi_byte_rule reading) 0 []
+      malformed_first : (p : List ℕ) → AreIncomplete prefix [] p → 0 < length p
+          → sequences_of (multi_byte_rule prefix) 0 p
+          ≡ record { bytes = p; text = 0xFFFD ∷ []; kind = Malformed; set = 0 } ∷ sequences_of (multi_byte_rule prefix) 0 []
       malformed_first [] u s = absurd (omega arith)
       malformed_first (a ∷ w) u s =
           let m : length (a ∷ w) - 1 ≡ length w = omega arith in
-          sequences_of-head (multi_byte_rule reading) 0 a w _ (all_malformed reading 0 a w u)
-          ∙ ap (λ i. record { bytes = a ∷ take i w; text = 0xFFFD ∷ []; kind = Malformed; set = 0 } ∷ sequences_of (multi_byte_rule reading) 0 (drop i w)) m
-          ∙ ap (λ y. record { bytes = a ∷ y; text = 0xFFFD ∷ []; kind = Malformed; set = 0 } ∷ sequences_of (multi_byte_rule reading) 0 (drop (length w) w)) (take-length w)
-          ∙ ap (λ y. record { bytes = a ∷ w; text = 0xFFFD ∷ []; kind = Malformed; set = 0 } ∷ sequences_of (multi_byte_rule reading) 0 y) (drop-length w)
+          sequences_of-head (multi_byte_rule prefix) 0 a w _ (all_malformed prefix 0 a w u)
+          ∙ ap (λ i. record { bytes = a ∷ take i w; text = 0xFFFD ∷ []; kind = Malformed; set = 0 } ∷ sequences_of (multi_byte_rule prefix) 0 (drop i w)) m
+          ∙ ap (λ y. record { bytes = a ∷ y; text = 0xFFFD ∷ []; kind = Malformed; set = 0 } ∷ sequences_of (multi_byte_rule prefix) 0 (drop (length w) w)) (take-length w)
+          ∙ ap (λ y. record { bytes = a ∷ w; text = 0xFFFD ∷ []; kind = Malformed; set = 0 } ∷ sequences_of (multi_byte_rule prefix) 0 y) (drop-length w)

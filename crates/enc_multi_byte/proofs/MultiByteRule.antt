@@ -1,25 +1,26 @@
--- Legacy multi-byte encodings: the laws of their rules, and that unfinished bytes determine nothing.
+-- Legacy multi-byte encodings: the laws of their rules, and that incomplete bytes determine nothing.
 use Rattle.std.proofs.Common.{◌≡◌, ◌≢◌, ℕ, ◌+◌, ◌-◌, ◌≤◌, suc, List, [], ◌∷◌, ◌++◌, length, take, refl, ap, ◌∙◌, sym, arith, subst, append-nil, append_assoc, inl, inr}
 use Rattle.std.proofs.lemmas.List.{length-append}
 use Rattle.std.specs.Char.{encode_utf8}
 use Rattle.enc_units.specs.Output.{units_of_text}
 use Rattle.enc_machine.specs.declared.byte_codec.Kind.{Kind}
-use Rattle.enc_machine.specs.declared.byte_codec.Kind.TheVariants.{Valid, Malformed}
+use Rattle.enc_machine.specs.declared.byte_codec.Kind.TheVariants.{Valid}
+use Rattle.enc_machine.specs.declared.byte_codec.Kind.TheVariants as kinds
 use Rattle.enc_machine.specs.declared.byte_codec.Text.{Text}
 use Rattle.enc_machine.specs.declared.byte_codec.Text.TheVariants.{One}
-use Rattle.enc_multi_byte.specs.declared.multi_byte.Reading.{Reading}
-use Rattle.enc_multi_byte.specs.declared.multi_byte.Reading.TheVariants.{Whole, Broken, Unfinished}
+use Rattle.enc_multi_byte.specs.declared.multi_byte.Prefix.{Prefix}
+use Rattle.enc_multi_byte.specs.declared.multi_byte.Prefix.TheVariants.{Complete, Malformed, Incomplete}
 use Rattle.enc_machine.specs.Segmentation.{Head}
 use Rattle.enc_machine.specs.Remainder.{IsUndetermined}
 use Rattle.enc_machine.specs.CodecState.{CodecState, remainder_of}
 use Rattle.enc_machine.specs.RuleLaws.{HasTexts, HasSmallTexts, IsToldBy, IsToldByEnd, IsLawful}
-use Rattle.enc_multi_byte.specs.MultiByte.{broken_head, head_of, multi_byte_rule, multi_byte_state, AreUnfinished, IsReading}
+use Rattle.enc_multi_byte.specs.MultiByte.{malformed_front, head_of, multi_byte_rule, multi_byte_state, AreIncomplete, ArePrefixes}
 use Rattle.enc_machine.proofs.RuleLemmas.{one_small}
 use Rattle.enc_machine.proofs.ShowLemmas.{nothing_pending}
 use Rattle.enc_machine.proofs.ToldLemmas.{told_by, IsToldInTime, lookahead_by, undetermined_by_end}
-use Rattle.enc_multi_byte.proofs.MultiByteLemmas.{still_unfinished, one_more, rule_at, Settles, settles_whole, settles_broken, all_malformed}
+use Rattle.enc_multi_byte.proofs.MultiByteLemmas.{still_incomplete, one_more, rule_at, Settles, settles_complete, settles_malformed, all_malformed}
 
-module _ (reading : List ℕ → Reading) (laws : IsReading reading) where
+module _ (prefix : List ℕ → Prefix) (laws : ArePrefixes prefix) where
   -- each head is within the bytes that are there, and has a small text
 
   record HasForm (room : ℕ) (h : Head) : Type 0 where
@@ -27,73 +28,73 @@ module _ (reading : List ℕ → Reading) (laws : IsReading reading) where
     some : h.text ≢ []
     small : length (units_of_text encode_utf8 h.text) ≤ 4
 
-  broken_has_form : (room set n : ℕ) → n - 1 ≤ room → HasForm room (broken_head set n)
-  broken_has_form room set n l = record { within = l; some = λ e. cc; small = one_small 0xFFFD }
+  malformed_has_form : (room set n : ℕ) → n - 1 ≤ room → HasForm room (malformed_front set n)
+  malformed_has_form room set n l = record { within = l; some = λ e. cc; small = one_small 0xFFFD }
 
-  has_form : (set : ℕ) (front : List ℕ) (r : Reading) (z : List ℕ) → reading front ≡ r
-      → HasForm ((length front - 1) + length z) (head_of reading set front r z)
-  has_form set front (Whole text) z e = record {
+  has_form : (set : ℕ) (front : List ℕ) (r : Prefix) (z : List ℕ) → prefix front ≡ r
+      → HasForm ((length front - 1) + length z) (head_of prefix set front r z)
+  has_form set front (Complete text) z e = record {
     within = omega arith;
     some = (laws.texts front text e).some;
     small = (laws.texts front text e).small;
   }
-  has_form set front (Broken n) z e = let l = (laws.broken front n e).1 in broken_has_form _ set n (omega arith)
-  has_form set front Unfinished [] e = broken_has_form _ set (length front) (omega arith)
-  has_form set front Unfinished (c ∷ z) e =
-      let h = has_form set (front ++ c ∷ []) (reading (front ++ c ∷ [])) z refl in
+  has_form set front (Malformed n) z e = let l = (laws.malformed front n e).1 in malformed_has_form _ set n (omega arith)
+  has_form set front Incomplete [] e = malformed_has_form _ set (length front) (omega arith)
+  has_form set front Incomplete (c ∷ z) e =
+      let h = has_form set (front ++ c ∷ []) (prefix (front ++ c ∷ [])) z refl in
       record { within = let w = h.within in longer front c z _ w; some = h.some; small = h.small }
     where
       longer : (front : List ℕ) (c : ℕ) (z : List ℕ) (n : ℕ) → n ≤ (length (front ++ c ∷ []) - 1) + length z → n ≤ (length front - 1) + length (c ∷ z)
       longer [] c z n w = omega arith
       longer (a ∷ front) c z n w = omega (arith, w, length-append front (c ∷ []))
 
-  within : (set b : ℕ) (z : List ℕ) → (multi_byte_rule reading set b z).more ≤ length z
+  within : (set b : ℕ) (z : List ℕ) → (multi_byte_rule prefix set b z).more ≤ length z
   unfolding multi_byte_rule
-  within set b z = let w = (has_form set (b ∷ []) (reading (b ∷ [])) z refl).within in omega arith
+  within set b z = let w = (has_form set (b ∷ []) (prefix (b ∷ [])) z refl).within in omega arith
 
-  pub multi_byte_has_texts : HasTexts (multi_byte_rule reading)
+  pub multi_byte_has_texts : HasTexts (multi_byte_rule prefix)
   unfolding multi_byte_rule
-  multi_byte_has_texts set b z = (has_form set (b ∷ []) (reading (b ∷ [])) z refl).some
+  multi_byte_has_texts set b z = (has_form set (b ∷ []) (prefix (b ∷ [])) z refl).some
 
-  multi_byte_has_small_texts : HasSmallTexts (multi_byte_rule reading)
+  multi_byte_has_small_texts : HasSmallTexts (multi_byte_rule prefix)
   unfolding multi_byte_rule
-  multi_byte_has_small_texts set b z = (has_form set (b ∷ []) (reading (b ∷ [])) z refl).small
+  multi_byte_has_small_texts set b z = (has_form set (b ∷ []) (prefix (b ∷ [])) z refl).small
 
-  -- unfinished bytes at the end of the input
+  -- incomplete bytes at the end of the input
 
   more_differs : (h k x y : Head) → x ≡ h → y ≡ k → (h.more ≡ k.more → ⊥) → x ≡ y → ⊥
   more_differs h k x y e f n q = n (ap (λ (t : Head). t.more) (sym e ∙ q ∙ f))
 
-  all_unfinished : (a : ℕ) (w : List ℕ) → AreUnfinished reading [] (a ∷ w) → reading (a ∷ w) ≡ Unfinished
-  all_unfinished a w u = still_unfinished reading [] (a ∷ w) laws.nothing u
+  all_incomplete : (a : ℕ) (w : List ℕ) → AreIncomplete prefix [] (a ∷ w) → prefix (a ∷ w) ≡ Incomplete
+  all_incomplete a w u = still_incomplete prefix [] (a ∷ w) laws.nothing u
 
-  by_end : (set a : ℕ) (w : List ℕ) → AreUnfinished reading [] (a ∷ w) → IsToldByEnd (multi_byte_rule reading) set a w
+  by_end : (set a : ℕ) (w : List ℕ) → AreIncomplete prefix [] (a ∷ w) → IsToldByEnd (multi_byte_rule prefix) set a w
   by_end set a w u =
-      let k = laws.can_break (a ∷ w) (omega arith) (all_unfinished a w u) in
-      let s = settles_broken reading laws ((a ∷ w) ++ k.byte ∷ []) k.len k.broken in
+      let k = laws.can_be_malformed (a ∷ w) (omega arith) (all_incomplete a w u) in
+      let s = settles_malformed prefix laws ((a ∷ w) ++ k.byte ∷ []) k.len k.malformed in
       let o = k.other in
       let p = s.some in
       record {
         more = k.byte ∷ [];
         bytes = (k.is_byte, tt);
         other = more_differs _ _ _ _
-            (rule_at reading set (a ∷ w) k.byte [] a (w ++ k.byte ∷ []) u refl ∙ s.head set [])
-            (all_malformed reading set a w u)
+            (rule_at prefix set (a ∷ w) k.byte [] a (w ++ k.byte ∷ []) u refl ∙ s.head set [])
+            (all_malformed prefix set a w u)
             (λ e. o (omega arith));
-        near = let e = ap (λ (h : Head). h.more) (all_malformed reading set a w u) in omega arith;
+        near = let e = ap (λ (h : Head). h.more) (all_malformed prefix set a w u) in omega arith;
       }
 
-  pub undetermined : (v : CodecState) (w : List ℕ) → v ≡ multi_byte_state reading w → AreUnfinished reading [] w
+  pub undetermined : (v : CodecState) (w : List ℕ) → v ≡ multi_byte_state prefix w → AreIncomplete prefix [] w
       → IsUndetermined (remainder_of v).sequences
   undetermined v [] e u = nothing_pending v (ap (λ (s : CodecState). s.pending) e)
   undetermined v (a ∷ w) e u =
       subst (λ (s : CodecState). IsUndetermined (remainder_of s).sequences) (sym e)
-      (undetermined_by_end (multi_byte_rule reading) 0 a w (within 0 a) (by_end 0 a w u))
+      (undetermined_by_end (multi_byte_rule prefix) 0 a w (within 0 a) (by_end 0 a w u))
 
   -- what tells a sequence
 
-  at_most_three : (w : List ℕ) → AreUnfinished reading [] w → length w ≤ 3
-  at_most_three w u = laws.short w (still_unfinished reading [] w laws.nothing u)
+  at_most_three : (w : List ℕ) → AreIncomplete prefix [] w → length w ≤ 3
+  at_most_three w u = laws.short w (still_incomplete prefix [] w laws.nothing u)
 
   rest_of : (a b : ℕ) (y z : List ℕ) → a ∷ y ≡ b ∷ z → y ≡ z
   rest_of a b y z e = cc
@@ -103,51 +104,51 @@ module _ (reading : List ℕ → Reading) (laws : IsReading reading) where
   front_of (a ∷ w) c z = ap (λ x. a ∷ x) (front_of w c z)
 
   settled_told : (set : ℕ) (w : List ℕ) (c : ℕ) (z : List ℕ) (b : ℕ) (x : List ℕ) (n : ℕ) (text : Text) (kind : Kind)
-      → AreUnfinished reading [] w → b ∷ x ≡ w ++ c ∷ z → Settles reading (w ++ c ∷ []) n text kind
-      → IsToldBy (multi_byte_rule reading) set b x (length (w ++ c ∷ []) - n)
+      → AreIncomplete prefix [] w → b ∷ x ≡ w ++ c ∷ z → Settles prefix (w ++ c ∷ []) n text kind
+      → IsToldBy (multi_byte_rule prefix) set b x (length (w ++ c ∷ []) - n)
   settled_told set w c z b x n text kind u e s =
       let m : length (w ++ c ∷ []) ≡ length w + 1 = length-append w (c ∷ []) in
       let k : (n - 1) + (length (w ++ c ∷ []) - n) ≡ length w = omega (arith, s.own, s.some, m) in
       let l : length (b ∷ x) ≡ length w + length (c ∷ z) = ap length e ∙ length-append w (c ∷ z) in
       let f : b ∷ take (length w) x ≡ w ++ c ∷ [] = ap (take (suc (length w))) e ∙ front_of w c z in
-      told_by (multi_byte_rule reading) set b x (length (w ++ c ∷ []) - n) _
-      (rule_at reading set w c z b x u e ∙ s.head set z)
+      told_by (multi_byte_rule prefix) set b x (length (w ++ c ∷ []) - n) _
+      (rule_at prefix set w c z b x u e ∙ s.head set z)
       (omega (arith, k, l))
-      (λ y. rule_at reading set w c y b _ u (ap (λ i. b ∷ (take i x ++ y)) k ∙ ap (λ t. t ++ y) f ∙ append_assoc w (c ∷ []) y)
+      (λ y. rule_at prefix set w c y b _ u (ap (λ i. b ∷ (take i x ++ y)) k ∙ ap (λ t. t ++ y) f ∙ append_assoc w (c ∷ []) y)
       ∙ s.head set y)
 
-  told_with : (set : ℕ) (w : List ℕ) (c : ℕ) (z : List ℕ) (b : ℕ) (x : List ℕ) (r : Reading)
-      → AreUnfinished reading [] w → b ∷ x ≡ w ++ c ∷ z → reading (w ++ c ∷ []) ≡ r
-      → (r ≡ Unfinished → IsToldInTime (multi_byte_rule reading) set b x)
-      → IsToldInTime (multi_byte_rule reading) set b x
-  told_with set w c z b x (Whole text) u e q further =
+  told_with : (set : ℕ) (w : List ℕ) (c : ℕ) (z : List ℕ) (b : ℕ) (x : List ℕ) (r : Prefix)
+      → AreIncomplete prefix [] w → b ∷ x ≡ w ++ c ∷ z → prefix (w ++ c ∷ []) ≡ r
+      → (r ≡ Incomplete → IsToldInTime (multi_byte_rule prefix) set b x)
+      → IsToldInTime (multi_byte_rule prefix) set b x
+  told_with set w c z b x (Complete text) u e q further =
       let m : length (w ++ c ∷ []) ≡ length w + 1 = length-append w (c ∷ []) in
-      let t = settled_told set w c z b x _ text Valid u e (settles_whole reading (w ++ c ∷ []) text (omega (arith, m)) q) in
-      inl (subst (IsToldBy (multi_byte_rule reading) set b x) (omega arith) t)
-  told_with set w c z b x (Broken n) u e q further =
-      let s = settles_broken reading laws (w ++ c ∷ []) n q in
+      let t = settled_told set w c z b x _ text Valid u e (settles_complete prefix (w ++ c ∷ []) text (omega (arith, m)) q) in
+      inl (subst (IsToldBy (multi_byte_rule prefix) set b x) (omega arith) t)
+  told_with set w c z b x (Malformed n) u e q further =
+      let s = settles_malformed prefix laws (w ++ c ∷ []) n q in
       let m : length (w ++ c ∷ []) ≡ length w + 1 = length-append w (c ∷ []) in
       let l = at_most_three w u in
       inr (
-        (λ v. let k = ap (λ (h : Head). h.kind) (rule_at reading set w c z b x u e ∙ s.head set z) in cc),
-        inl (length (w ++ c ∷ []) - n, omega (arith, s.some, m, l), settled_told set w c z b x n (One 0xFFFD) Malformed u e s),
+        (λ v. let k = ap (λ (h : Head). h.kind) (rule_at prefix set w c z b x u e ∙ s.head set z) in cc),
+        inl (length (w ++ c ∷ []) - n, omega (arith, s.some, m, l), settled_told set w c z b x n (One 0xFFFD) kinds.Malformed u e s),
       )
-  told_with set w c z b x Unfinished u e q further = further refl
+  told_with set w c z b x Incomplete u e q further = further refl
 
-  told_from : (set : ℕ) (w z : List ℕ) (b : ℕ) (x : List ℕ) → AreUnfinished reading [] w → b ∷ x ≡ w ++ z
-      → IsToldInTime (multi_byte_rule reading) set b x
+  told_from : (set : ℕ) (w z : List ℕ) (b : ℕ) (x : List ℕ) → AreIncomplete prefix [] w → b ∷ x ≡ w ++ z
+      → IsToldInTime (multi_byte_rule prefix) set b x
   told_from set [] [] b x u e = absurd (let f = ap length e in omega arith)
   told_from set (a ∷ w) [] b x u e =
       let f : a ≡ b = cc in let g : w ≡ x = sym (rest_of b a x (w ++ []) e ∙ append-nil w) in
-      subst (IsToldInTime (multi_byte_rule reading) set b) g
-      (subst (λ n. IsToldInTime (multi_byte_rule reading) set n w) f
-      (inr ((λ v. let k = ap (λ (h : Head). h.kind) (all_malformed reading set a w u) in cc), inr (by_end set a w u))))
+      subst (IsToldInTime (multi_byte_rule prefix) set b) g
+      (subst (λ n. IsToldInTime (multi_byte_rule prefix) set n w) f
+      (inr ((λ v. let k = ap (λ (h : Head). h.kind) (all_malformed prefix set a w u) in cc), inr (by_end set a w u))))
   told_from set w (c ∷ z) b x u e =
-      told_with set w c z b x (reading (w ++ c ∷ [])) u e refl
-      (λ q. told_from set (w ++ c ∷ []) z b x (one_more reading [] w c u q) (e ∙ sym (append_assoc w (c ∷ []) z)))
+      told_with set w c z b x (prefix (w ++ c ∷ [])) u e refl
+      (λ q. told_from set (w ++ c ∷ []) z b x (one_more prefix [] w c u q) (e ∙ sym (append_assoc w (c ∷ []) z)))
 
-  pub multi_byte_is_lawful : IsLawful (multi_byte_rule reading)
+  pub multi_byte_is_lawful : IsLawful (multi_byte_rule prefix)
   multi_byte_is_lawful = record {
-    lookahead = lookahead_by (multi_byte_rule reading) (λ set b z. told_from set [] (b ∷ z) b z tt refl);
+    lookahead = lookahead_by (multi_byte_rule prefix) (λ set b z. told_from set [] (b ∷ z) b z tt refl);
     small_texts = multi_byte_has_small_texts;
   }

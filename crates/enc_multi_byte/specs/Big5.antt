@@ -2,9 +2,9 @@
 use Rattle.std.specs.Prelude.{ℕ, ◌+◌, ◌-◌, ◌*◌, Bool, ◌&&◌, ◌||◌, ◌==◌, nat_le, nat_lt, Option, Some, None, List, if◌then◌else◌}
 use Rattle.enc_machine.specs.declared.byte_codec.Text.{Text}
 use Rattle.enc_machine.specs.declared.byte_codec.Text.TheVariants.{Two}
-use Rattle.enc_multi_byte.specs.declared.multi_byte.Reading.{Reading}
-use Rattle.enc_index.specs.Lists.{big5_at}
-use Rattle.enc_multi_byte.specs.DoubleByte.{text_of_char, double_byte_reading}
+use Rattle.enc_multi_byte.specs.declared.multi_byte.Prefix.{Prefix}
+use Rattle.enc_index.specs.Runs.{big5_at}
+use Rattle.enc_multi_byte.specs.DoubleByte.{text_of_char, double_byte_prefix}
 
 abbrev pub big5_lead : ℕ → Bool
 big5_lead b = nat_le 0x81 b && nat_le b 0xFE
@@ -32,5 +32,5 @@ big5_text pointer =
 abbrev pub big5_pair : ℕ → ℕ → Option Text
 big5_pair lead b = if big5_trail b then big5_text (big5_pointer lead b) else None
 
-abbrev pub big5_reading : List ℕ → Reading
-big5_reading = double_byte_reading big5_lead big5_single big5_pair
+abbrev pub big5_prefix : List ℕ → Prefix
+big5_prefix = double_byte_prefix big5_lead big5_single big5_pair

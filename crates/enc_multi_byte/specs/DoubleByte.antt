@@ -4,8 +4,8 @@ use Rattle.std.specs.Char.{encode_utf8}
 use Rattle.enc_units.specs.Output.{units_of_text}
 use Rattle.enc_machine.specs.declared.byte_codec.Text.{Text}
 use Rattle.enc_machine.specs.declared.byte_codec.Text.TheVariants.{One}
-use Rattle.enc_multi_byte.specs.declared.multi_byte.Reading.{Reading}
-use Rattle.enc_multi_byte.specs.declared.multi_byte.Reading.TheVariants.{Whole, Broken, Unfinished}
+use Rattle.enc_multi_byte.specs.declared.multi_byte.Prefix.{Prefix}
+use Rattle.enc_multi_byte.specs.declared.multi_byte.Prefix.TheVariants.{Complete, Malformed, Incomplete}
 use Rattle.enc_machine.specs.CodecLaw.{chars_of}
 
 -- the text of a character
@@ -14,25 +14,25 @@ text_of_char (Some c) = Some (One c)
 text_of_char None = None
 
 -- a byte that stands alone: its character, or it is malformed
-abbrev pub single_reading : Option ℕ → Reading
-single_reading (Some c) = Whole (One c)
-single_reading None = Broken 1
+abbrev pub single_prefix : Option ℕ → Prefix
+single_prefix (Some c) = Complete (One c)
+single_prefix None = Malformed 1
 
 -- the first byte: a lead, or it stands alone
-abbrev pub first_reading : Bool → Option ℕ → Reading
-first_reading leads single = if leads then Unfinished else single_reading single
+abbrev pub first_prefix : Bool → Option ℕ → Prefix
+first_prefix leads single = if leads then Incomplete else single_prefix single
 
 -- A byte behind n others: their text, or they are malformed, with that byte where it is no ASCII byte. An ASCII
 -- byte is read anew.
-abbrev pub trail_reading : ℕ → ℕ → Option Text → Reading
-trail_reading n b (Some text) = Whole text
-trail_reading n b None = Broken (if nat_lt b 0x80 then n else n + 1)
+abbrev pub trail_prefix : ℕ → ℕ → Option Text → Prefix
+trail_prefix n b (Some text) = Complete text
+trail_prefix n b None = Malformed (if nat_lt b 0x80 then n else n + 1)
 
 -- the bytes in front, by which bytes lead, the characters of others, and the texts of a lead with the byte behind it
-abbrev pub double_byte_reading : (ℕ → Bool) → (ℕ → Option ℕ) → (ℕ → ℕ → Option Text) → List ℕ → Reading
-double_byte_reading is_lead single pair [] = Unfinished
-double_byte_reading is_lead single pair (a ∷ []) = first_reading (is_lead a) (single a)
-double_byte_reading is_lead single pair (a ∷ b ∷ z) = trail_reading 1 b (pair a b)
+abbrev pub double_byte_prefix : (ℕ → Bool) → (ℕ → Option ℕ) → (ℕ → ℕ → Option Text) → List ℕ → Prefix
+double_byte_prefix is_lead single pair [] = Incomplete
+double_byte_prefix is_lead single pair (a ∷ []) = first_prefix (is_lead a) (single a)
+double_byte_prefix is_lead single pair (a ∷ b ∷ z) = trail_prefix 1 b (pair a b)
 
 -- texts have a character, and four UTF-8 code units at most
 pub record IsText (text : Text) : Type 0 where

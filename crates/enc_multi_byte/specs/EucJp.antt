@@ -1,10 +1,10 @@
 -- EUC-JP (Encoding Standard 12.1).
 use Rattle.std.specs.Prelude.{ℕ, ◌+◌, ◌-◌, ◌*◌, Bool, ◌&&◌, ◌||◌, ◌==◌, nat_le, nat_lt, Option, Some, None, List, [], ◌∷◌, if◌then◌else◌}
-use Rattle.enc_multi_byte.specs.declared.multi_byte.Reading.{Reading}
-use Rattle.enc_multi_byte.specs.declared.multi_byte.Reading.TheVariants.{Unfinished}
-use Rattle.enc_index.specs.Lists.{jis0208_at, jis0212_at}
+use Rattle.enc_multi_byte.specs.declared.multi_byte.Prefix.{Prefix}
+use Rattle.enc_multi_byte.specs.declared.multi_byte.Prefix.TheVariants.{Incomplete}
+use Rattle.enc_index.specs.Runs.{jis0208_at, jis0212_at}
 use Rattle.enc_multi_byte.specs.Katakana.{is_katakana, katakana}
-use Rattle.enc_multi_byte.specs.DoubleByte.{text_of_char, first_reading, trail_reading}
+use Rattle.enc_multi_byte.specs.DoubleByte.{text_of_char, first_prefix, trail_prefix}
 
 -- a byte of a two-byte character of JIS X 0208, or one of JIS X 0212
 abbrev pub is_euc : ℕ → Bool
@@ -33,9 +33,9 @@ abbrev pub euc_jp_triple : ℕ → ℕ → Option ℕ
 euc_jp_triple lead b = if is_euc b then jis0212_at (euc_pointer lead b) else None
 
 -- what the bytes in front are
-abbrev pub euc_jp_reading : List ℕ → Reading
-euc_jp_reading [] = Unfinished
-euc_jp_reading (a ∷ []) = first_reading (euc_jp_lead a) (euc_jp_single a)
-euc_jp_reading (a ∷ b ∷ []) =
-    if a == 0x8F && is_euc b then Unfinished else trail_reading 1 b (text_of_char (euc_jp_pair a b))
-euc_jp_reading (a ∷ b ∷ c ∷ z) = trail_reading 2 c (text_of_char (euc_jp_triple b c))
+abbrev pub euc_jp_prefix : List ℕ → Prefix
+euc_jp_prefix [] = Incomplete
+euc_jp_prefix (a ∷ []) = first_prefix (euc_jp_lead a) (euc_jp_single a)
+euc_jp_prefix (a ∷ b ∷ []) =
+    if a == 0x8F && is_euc b then Incomplete else trail_prefix 1 b (text_of_char (euc_jp_pair a b))
+euc_jp_prefix (a ∷ b ∷ c ∷ z) = trail_prefix 2 c (text_of_char (euc_jp_triple b c))

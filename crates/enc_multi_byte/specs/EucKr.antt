@@ -1,9 +1,9 @@
 -- EUC-KR (Encoding Standard 13.1).
 use Rattle.std.specs.Prelude.{ℕ, ◌+◌, ◌-◌, ◌*◌, Bool, ◌&&◌, nat_le, nat_lt, Option, Some, None, List, if◌then◌else◌}
 use Rattle.enc_machine.specs.declared.byte_codec.Text.{Text}
-use Rattle.enc_multi_byte.specs.declared.multi_byte.Reading.{Reading}
-use Rattle.enc_index.specs.Lists.{euc_kr_at}
-use Rattle.enc_multi_byte.specs.DoubleByte.{text_of_char, double_byte_reading}
+use Rattle.enc_multi_byte.specs.declared.multi_byte.Prefix.{Prefix}
+use Rattle.enc_index.specs.Runs.{euc_kr_at}
+use Rattle.enc_multi_byte.specs.DoubleByte.{text_of_char, double_byte_prefix}
 
 abbrev pub euc_kr_lead : ℕ → Bool
 euc_kr_lead b = nat_le 0x81 b && nat_le b 0xFE
@@ -23,5 +23,5 @@ abbrev pub euc_kr_pair : ℕ → ℕ → Option Text
 euc_kr_pair lead b =
     text_of_char (if euc_kr_trail b then euc_kr_at (euc_kr_pointer lead b) else None)
 
-abbrev pub euc_kr_reading : List ℕ → Reading
-euc_kr_reading = double_byte_reading euc_kr_lead euc_kr_single euc_kr_pair
+abbrev pub euc_kr_prefix : List ℕ → Prefix
+euc_kr_prefix = double_byte_prefix euc_kr_lead euc_kr_single euc_kr_pair

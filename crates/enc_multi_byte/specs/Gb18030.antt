@@ -1,10 +1,10 @@
 -- gb18030, and GBK, whose decoder is the same (Encoding Standard 10.1, 10.2).
 use Rattle.std.specs.Prelude.{ℕ, ◌+◌, ◌-◌, ◌*◌, Bool, ◌&&◌, ◌||◌, ◌==◌, nat_le, nat_lt, Option, Some, None, List, [], ◌∷◌, if◌then◌else◌}
 use Rattle.enc_machine.specs.declared.byte_codec.Text.TheVariants.{One}
-use Rattle.enc_multi_byte.specs.declared.multi_byte.Reading.{Reading}
-use Rattle.enc_multi_byte.specs.declared.multi_byte.Reading.TheVariants.{Whole, Broken, Unfinished}
-use Rattle.enc_index.specs.Lists.{gb18030_at, gb18030_ranges_at}
-use Rattle.enc_multi_byte.specs.DoubleByte.{text_of_char, first_reading, trail_reading}
+use Rattle.enc_multi_byte.specs.declared.multi_byte.Prefix.{Prefix}
+use Rattle.enc_multi_byte.specs.declared.multi_byte.Prefix.TheVariants.{Complete, Malformed, Incomplete}
+use Rattle.enc_index.specs.Runs.{gb18030_at, gb18030_ranges_at}
+use Rattle.enc_multi_byte.specs.DoubleByte.{text_of_char, first_prefix, trail_prefix}
 
 -- the first and the third byte
 abbrev pub gb18030_lead : ℕ → Bool
@@ -43,14 +43,14 @@ ranges_char pointer =
     else if pointer == 7457 then Some 0xE7C7
     else gb18030_ranges_at pointer
 
-abbrev pub four_reading : Option ℕ → Reading
-four_reading (Some c) = Whole (One c)
-four_reading None = Broken 4
+abbrev pub four_prefix : Option ℕ → Prefix
+four_prefix (Some c) = Complete (One c)
+four_prefix None = Malformed 4
 
 -- What the bytes in front are. Where a third or a fourth byte is wrong, the first byte alone is malformed.
-abbrev pub gb18030_reading : List ℕ → Reading
-gb18030_reading [] = Unfinished
-gb18030_reading (a ∷ []) = first_reading (gb18030_lead a) (gb18030_single a)
-gb18030_reading (a ∷ b ∷ []) = if is_digit b then Unfinished else trail_reading 1 b (text_of_char (gb18030_pair a b))
-gb18030_reading (a ∷ b ∷ c ∷ []) = if gb18030_lead c then Unfinished else Broken 1
-gb18030_reading (a ∷ b ∷ c ∷ d ∷ z) = if is_digit d then four_reading (ranges_char (ranges_pointer a b c d)) else Broken 1
+abbrev pub gb18030_prefix : List ℕ → Prefix
+gb18030_prefix [] = Incomplete
+gb18030_prefix (a ∷ []) = first_prefix (gb18030_lead a) (gb18030_single a)
+gb18030_prefix (a ∷ b ∷ []) = if is_digit b then Incomplete else trail_prefix 1 b (text_of_char (gb18030_pair a b))
+gb18030_prefix (a ∷ b ∷ c ∷ []) = if gb18030_lead c then Incomplete else Malformed 1
+gb18030_prefix (a ∷ b ∷ c ∷ d ∷ z) = if is_digit d then four_prefix (ranges_char (ranges_pointer a b c d)) else Malformed 1

@@ -1,10 +1,10 @@
 -- Shift_JIS (Encoding Standard 12.3).
 use Rattle.std.specs.Prelude.{ℕ, ◌+◌, ◌-◌, ◌*◌, Bool, ◌&&◌, ◌||◌, nat_le, nat_lt, Option, Some, None, List, if◌then◌else◌}
 use Rattle.enc_machine.specs.declared.byte_codec.Text.{Text}
-use Rattle.enc_multi_byte.specs.declared.multi_byte.Reading.{Reading}
-use Rattle.enc_index.specs.Lists.{jis0208_at}
+use Rattle.enc_multi_byte.specs.declared.multi_byte.Prefix.{Prefix}
+use Rattle.enc_index.specs.Runs.{jis0208_at}
 use Rattle.enc_multi_byte.specs.Katakana.{is_katakana, katakana}
-use Rattle.enc_multi_byte.specs.DoubleByte.{text_of_char, double_byte_reading}
+use Rattle.enc_multi_byte.specs.DoubleByte.{text_of_char, double_byte_prefix}
 
 abbrev pub shift_jis_lead : ℕ → Bool
 shift_jis_lead b = (nat_le 0x81 b && nat_le b 0x9F) || (nat_le 0xE0 b && nat_le b 0xFC)
@@ -30,5 +30,5 @@ shift_jis_char pointer =
 abbrev pub shift_jis_pair : ℕ → ℕ → Option Text
 shift_jis_pair lead b = text_of_char (if shift_jis_trail b then shift_jis_char (shift_jis_pointer lead b) else None)
 
-abbrev pub shift_jis_reading : List ℕ → Reading
-shift_jis_reading = double_byte_reading shift_jis_lead shift_jis_single shift_jis_pair
+abbrev pub shift_jis_prefix : List ℕ → Prefix
+shift_jis_prefix = double_byte_prefix shift_jis_lead shift_jis_single shift_jis_pair

@@ -65,6 +65,7 @@ impl DoubleByte for Big5 {
         text_at((lead as u32 - 0x81) * 157 + (trail as u32 - offset))
     }
 
+    #[tactic(auto, using(crate::proofs::PairLemmas::big5_pairs))]
     fn laws() {}
 
     fn ascii() {}

@@ -2,9 +2,9 @@
 
 ghost use Rattle.std.specs.Prelude.{◌≡◌, ℕ, ◌+◌, ◌<◌, Bool, Option, Some, true, false};
 ghost use Rattle.enc_machine.specs.declared.byte_codec.Text.{Text};
-ghost use Rattle.enc_multi_byte.specs.DoubleByte.{text_of_char, single_reading, first_reading, trail_reading, ArePairs};
+ghost use Rattle.enc_multi_byte.specs.DoubleByte.{text_of_char, first_prefix, trail_prefix, ArePairs};
 
-use crate::multi_byte::{MultiByte, Reading};
+use crate::multi_byte::{MultiByte, Prefix};
 use enc_machine::{Pending, Text};
 use std::marker::PhantomData;
 
@@ -59,40 +59,40 @@ pub fn text_of(character: Option<char>) -> Option<Text>
 }
 
 /// The first byte: a lead, or a byte that stands alone.
-pub fn read_first(leads: bool, single: Option<char>) -> Reading
-    ensures { result ≡ first_reading leads single }
+pub fn classify_first(leads: bool, single: Option<char>) -> Prefix
+    ensures { result ≡ first_prefix leads single }
 {
     if leads {
-        return Reading::Unfinished;
+        return Prefix::Incomplete;
     }
     match single {
-        Some(found) => Reading::Whole(Text::One(found)),
-        None => Reading::Broken(1),
+        Some(found) => Prefix::Complete(Text::One(found)),
+        None => Prefix::Malformed(1),
     }
 }
 
 /// A byte behind so many others, by their text: where they have none, an ASCII byte is read anew.
-pub fn read_trail(before: u8, byte: u8, text: Option<Text>) -> Reading
+pub fn classify_trail(before: u8, byte: u8, text: Option<Text>) -> Prefix
     requires { before < 4 }
-    ensures { result ≡ trail_reading before byte text }
+    ensures { result ≡ trail_prefix before byte text }
 {
     match text {
-        Some(found) => Reading::Whole(found),
-        None if byte < 0x80 => Reading::Broken(before),
-        None => Reading::Broken(before + 1),
+        Some(found) => Prefix::Complete(found),
+        None if byte < 0x80 => Prefix::Malformed(before),
+        None => Prefix::Malformed(before + 1),
     }
 }
 
 impl<D: DoubleByte> MultiByte for Double<D> {
-    ghost use Rattle.enc_multi_byte.specs.DoubleByte.{double_byte_reading};
+    ghost use Rattle.enc_multi_byte.specs.DoubleByte.{double_byte_prefix};
 
-    ghost reading = { double_byte_reading D.leads D.singles D.pairs };
+    ghost prefix = { double_byte_prefix D.leads D.singles D.pairs };
 
     #[inline(always)]
-    fn read(pending: Pending, byte: u8) -> Reading {
+    fn classify(pending: Pending, byte: u8) -> Prefix {
         match pending {
-            Pending::Nothing => read_first(D::is_lead(byte), D::single(byte)),
-            Pending::One(lead) => read_trail(1, byte, D::pair(lead, byte)),
+            Pending::Nothing => classify_first(D::is_lead(byte), D::single(byte)),
+            Pending::One(lead) => classify_trail(1, byte, D::pair(lead, byte)),
             _ => unreachable!(),
         }
     }

@@ -1,11 +1,11 @@
 //! The EUC-JP decoder (Encoding Standard 12.1.1).
 
 ghost use Rattle.std.specs.Prelude.{◌≡◌, [], ◌∷◌, true};
-ghost use Rattle.enc_multi_byte.specs.EucJp.{is_euc as euc, euc_pointer, euc_jp_lead, euc_jp_single, euc_jp_pair, euc_jp_triple, euc_jp_reading};
+ghost use Rattle.enc_multi_byte.specs.EucJp.{is_euc as euc, euc_pointer, euc_jp_lead, euc_jp_single, euc_jp_pair, euc_jp_triple, euc_jp_prefix};
 
-use crate::double_byte::{read_first, read_trail, text_of};
+use crate::double_byte::{classify_first, classify_trail, text_of};
 use crate::katakana::katakana;
-use crate::multi_byte::{MultiByte, MultiByteDecoder, Reading};
+use crate::multi_byte::{MultiByte, MultiByteDecoder, Prefix};
 use enc_index::List;
 use enc_machine::Pending;
 
@@ -81,26 +81,26 @@ fn triple(lead: u8, trail: u8) -> Option<char>
 }
 
 /// A byte behind a lead.
-fn read_second(lead: u8, byte: u8) -> Reading
-    ensures { result ≡ euc_jp_reading (lead ∷ byte ∷ []) }
+fn read_second(lead: u8, byte: u8) -> Prefix
+    ensures { result ≡ euc_jp_prefix (lead ∷ byte ∷ []) }
 {
     if lead == 0x8F && is_euc(byte) {
-        return Reading::Unfinished;
+        return Prefix::Incomplete;
     }
-    read_trail(1, byte, text_of(pair(lead, byte)))
+    classify_trail(1, byte, text_of(pair(lead, byte)))
 }
 
 impl MultiByte for EucJp {
-    ghost use Rattle.enc_multi_byte.specs.EucJp.{euc_jp_reading};
+    ghost use Rattle.enc_multi_byte.specs.EucJp.{euc_jp_prefix};
 
-    ghost reading = { euc_jp_reading };
+    ghost prefix = { euc_jp_prefix };
 
     #[inline(always)]
-    fn read(pending: Pending, byte: u8) -> Reading {
+    fn classify(pending: Pending, byte: u8) -> Prefix {
         match pending {
-            Pending::Nothing => read_first(is_lead(byte), single(byte)),
+            Pending::Nothing => classify_first(is_lead(byte), single(byte)),
             Pending::One(lead) => read_second(lead, byte),
-            Pending::Two(_, lead) => read_trail(2, byte, text_of(triple(lead, byte))),
+            Pending::Two(_, lead) => classify_trail(2, byte, text_of(triple(lead, byte))),
             Pending::Three(_, _, _) => unreachable!(),
         }
     }
@@ -110,6 +110,7 @@ impl MultiByte for EucJp {
         pair(lead, byte)
     }
 
+    #[tactic(auto, using(crate::proofs::EucJpLemmas::euc_jp_laws))]
     fn laws() {}
 
     fn ascii() {}

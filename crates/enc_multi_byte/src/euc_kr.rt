@@ -1,7 +1,6 @@
 //! The EUC-KR decoder (Encoding Standard 13.1.1).
 
-ghost use Rattle.std.specs.Prelude.{◌≡◌, Option};
-ghost use Rattle.enc_multi_byte.specs.EucKr.{euc_kr_trail, euc_kr_pointer};
+ghost use Rattle.std.specs.Prelude.{Option};
 
 use crate::double_byte::{Double, DoubleByte, text_of};
 use crate::multi_byte::MultiByteDecoder;
@@ -43,6 +42,7 @@ impl DoubleByte for EucKr {
         text_of(List::EucKr.at((lead as u32 - 0x81) * 190 + (trail as u32 - 0x41)))
     }
 
+    #[tactic(auto, using(crate::proofs::PairLemmas::euc_kr_pairs))]
     fn laws() {}
 
     fn ascii() {}

@@ -1,10 +1,10 @@
 //! The gb18030 decoder, which is GBK's too (Encoding Standard 10.2.1).
 
 ghost use Rattle.std.specs.Prelude.{◌≡◌, [], ◌∷◌, true};
-ghost use Rattle.enc_multi_byte.specs.Gb18030.{gb18030_lead, gb18030_trail, is_digit as digit, gb18030_single, gb18030_pair, ranges_pointer, ranges_char, four_reading, gb18030_reading};
+ghost use Rattle.enc_multi_byte.specs.Gb18030.{gb18030_lead, gb18030_trail, is_digit as digit, gb18030_single, gb18030_pair, ranges_pointer, ranges_char, gb18030_prefix};
 
-use crate::double_byte::{read_first, read_trail, text_of};
-use crate::multi_byte::{MultiByte, MultiByteDecoder, Reading};
+use crate::double_byte::{classify_first, classify_trail, text_of};
+use crate::multi_byte::{MultiByte, MultiByteDecoder, Prefix};
 use enc_index::List;
 use enc_machine::{Pending, Text};
 
@@ -87,52 +87,52 @@ fn pointer(first: u8, second: u8, third: u8, fourth: u8) -> u32
 }
 
 /// A byte behind a lead.
-fn read_second(lead: u8, byte: u8) -> Reading
+fn read_second(lead: u8, byte: u8) -> Prefix
     requires { gb18030_lead lead ≡ true }
-    ensures { result ≡ gb18030_reading (lead ∷ byte ∷ []) }
+    ensures { result ≡ gb18030_prefix (lead ∷ byte ∷ []) }
 {
     if is_digit(byte) {
-        return Reading::Unfinished;
+        return Prefix::Incomplete;
     }
-    read_trail(1, byte, text_of(pair(lead, byte)))
+    classify_trail(1, byte, text_of(pair(lead, byte)))
 }
 
 /// A byte behind two.
-fn read_third(first: u8, second: u8, byte: u8) -> Reading
-    ensures { result ≡ gb18030_reading (first ∷ second ∷ byte ∷ []) }
+fn read_third(first: u8, second: u8, byte: u8) -> Prefix
+    ensures { result ≡ gb18030_prefix (first ∷ second ∷ byte ∷ []) }
 {
     if is_lead(byte) {
-        Reading::Unfinished
+        Prefix::Incomplete
     } else {
-        Reading::Broken(1)
+        Prefix::Malformed(1)
     }
 }
 
 /// A byte behind three.
-fn read_fourth(first: u8, second: u8, third: u8, byte: u8) -> Reading
+fn read_fourth(first: u8, second: u8, third: u8, byte: u8) -> Prefix
     requires first { gb18030_lead first ≡ true }
     requires second { digit second ≡ true }
     requires third { gb18030_lead third ≡ true }
-    ensures { result ≡ gb18030_reading (first ∷ second ∷ third ∷ byte ∷ []) }
+    ensures { result ≡ gb18030_prefix (first ∷ second ∷ third ∷ byte ∷ []) }
 {
     if !is_digit(byte) {
-        return Reading::Broken(1);
+        return Prefix::Malformed(1);
     }
     match character_at(pointer(first, second, third, byte)) {
-        Some(found) => Reading::Whole(Text::One(found)),
-        None => Reading::Broken(4),
+        Some(found) => Prefix::Complete(Text::One(found)),
+        None => Prefix::Malformed(4),
     }
 }
 
 impl MultiByte for Gb18030 {
-    ghost use Rattle.enc_multi_byte.specs.Gb18030.{gb18030_reading};
+    ghost use Rattle.enc_multi_byte.specs.Gb18030.{gb18030_prefix};
 
-    ghost reading = { gb18030_reading };
+    ghost prefix = { gb18030_prefix };
 
     #[inline(always)]
-    fn read(pending: Pending, byte: u8) -> Reading {
+    fn classify(pending: Pending, byte: u8) -> Prefix {
         match pending {
-            Pending::Nothing => read_first(is_lead(byte), single(byte)),
+            Pending::Nothing => classify_first(is_lead(byte), single(byte)),
             Pending::One(first) => read_second(first, byte),
             Pending::Two(first, second) => read_third(first, second, byte),
             Pending::Three(first, second, third) => read_fourth(first, second, third, byte),
@@ -147,6 +147,7 @@ impl MultiByte for Gb18030 {
         pair(lead, byte)
     }
 
+    #[tactic(auto, using(crate::proofs::Gb18030Lemmas::gb18030_laws))]
     fn laws() {}
 
     fn ascii() {}

@@ -1,9 +1,9 @@
 //! The decoders of the legacy multi-byte encodings without escape sequences.
 
-ghost use Rattle.std.specs.Prelude.{◌≡◌, ℕ, ◌+◌, ◌<◌, List, [], ◌∷◌, ◌++◌, length, true, false, Some, IfSome, IsNone};
+ghost use Rattle.std.specs.Prelude.{◌≡◌, ℕ, ◌+◌, ◌<◌, List, [], ◌∷◌, ◌++◌, true, false, Some, IfSome, IsNone};
 ghost use Rattle.enc_machine.specs.Pending.{pending_bytes};
 ghost use Rattle.enc_machine.specs.CodecLaw.{Acts, IsReady, IsAtEnd};
-ghost use Rattle.enc_multi_byte.specs.MultiByte.{multi_byte_state, AreUnfinished, IsReading, HasAscii, IsPair};
+ghost use Rattle.enc_multi_byte.specs.MultiByte.{multi_byte_state, AreIncomplete, ArePrefixes, HasAscii, IsPair};
 
 use enc_machine::{ByteCodec, DecoderResult, Kind, Pending, RawDecoder, Shown, Step, Text, run};
 use enc_units::{Pieces, Units};
@@ -11,42 +11,42 @@ use std::marker::PhantomData;
 
 /// What the bytes in front of the input are.
 #[derive(Clone, Copy)]
-pub enum Reading {
+pub enum Prefix {
     /// A sequence, with its text.
-    Whole(Text),
+    Complete(Text),
     /// Malformed, so many of them from the first on.
-    Broken(u8),
+    Malformed(u8),
     /// Neither, before the next byte tells.
-    Unfinished,
+    Incomplete,
 }
 
 /// A legacy multi-byte encoding without escape sequences, by what bytes in front are.
 pub trait MultiByte: Copy {
-    ghost use Rattle.enc_multi_byte.specs.declared.multi_byte.Reading.{Reading};
+    ghost use Rattle.enc_multi_byte.specs.declared.multi_byte.Prefix.{Prefix};
 
-    // what the bytes in front are, where all fronts before are unfinished
-    ghost reading: { List ℕ → Reading };
+    // what the bytes in front are, where all fronts before are incomplete
+    ghost prefix: { List ℕ → Prefix };
 
-    /// What unfinished bytes are with the byte behind them.
-    fn read(pending: Pending, byte: u8) -> Reading
-        requires { AreUnfinished reading [] (pending_bytes pending) }
-        ensures { result ≡ reading (pending_bytes pending ++ byte ∷ []) };
+    /// What incomplete bytes are with the byte behind them.
+    fn classify(pending: Pending, byte: u8) -> Prefix
+        requires { AreIncomplete prefix [] (pending_bytes pending) }
+        ensures { result ≡ prefix (pending_bytes pending ++ byte ∷ []) };
 
-    /// The character of two bytes, of which the first is none by itself: what `read` tells of one and then the other,
-    /// without a reading between. `None` where they are no character or two, or where it isn't known.
+    /// The character of two bytes, of which the first is none by itself: what `classify` tells of one and then the other,
+    /// without a prefix between. `None` where they are no character or two, or where it isn't known.
     fn pair_char(lead: u8, byte: u8) -> Option<char>
-        ensures { IfSome result (λ c. IsPair reading lead byte c) };
+        ensures { IfSome result (λ c. IsPair prefix lead byte c) };
 
     /// What holds of all bytes in front. A call does nothing.
     fn laws()
-        ensures { IsReading reading };
+        ensures { ArePrefixes prefix };
 
     /// An ASCII byte is its own character. A call does nothing.
     fn ascii()
-        ensures { HasAscii reading };
+        ensures { HasAscii prefix };
 }
 
-/// The decoder of a legacy multi-byte encoding without escape sequences. It holds the bytes that are unfinished, or
+/// The decoder of a legacy multi-byte encoding without escape sequences. It holds the bytes that are incomplete, or
 /// that were given back behind a malformed sequence.
 #[derive(Clone, Copy)]
 pub struct MultiByteDecoder<E> {
@@ -62,25 +62,25 @@ impl<E: MultiByte> MultiByteDecoder<E> {
         MultiByteDecoder::holding(Pending::Nothing)
     }
 
-    /// What the pending bytes show by themselves. Nothing, where all of them are unfinished.
+    /// What the pending bytes show by themselves. Nothing, where all of them are incomplete.
     #[inline(always)]
     fn shown_first(self) -> Option<Shown<MultiByteDecoder<E>>>
-        ensures shown { IfSome result (λ shown. IsReady (λ d. multi_byte_state E.reading (pending_bytes d.pending)) self (Some shown)) }
-        ensures unfinished { IsNone result → AreUnfinished E.reading [] (pending_bytes self.pending) }
+        ensures shown { IfSome result (λ shown. IsReady (λ d. multi_byte_state E.prefix (pending_bytes d.pending)) self (Some shown)) }
+        ensures incomplete { IsNone result → AreIncomplete E.prefix [] (pending_bytes self.pending) }
     {
         E::laws();
         let mut front = Pending::Nothing;
         let mut rest = self.pending;
         while let Some(byte) = rest.first() {
-            match E::read(front, byte) {
-                Reading::Whole(text) => {
+            match E::classify(front, byte) {
+                Prefix::Complete(text) => {
                     let len = front.len() + 1;
-                    return Some(whole(text, len, false, self.pending.behind(len)));
+                    return Some(complete(text, len, false, self.pending.behind(len)));
                 }
-                Reading::Broken(len) => {
-                    return Some(broken(len, false, self.pending.behind(len)));
+                Prefix::Malformed(len) => {
+                    return Some(malformed(len, false, self.pending.behind(len)));
                 }
-                Reading::Unfinished => {
+                Prefix::Incomplete => {
                     front = front.with(byte);
                     rest = rest.behind(1);
                 }
@@ -89,34 +89,34 @@ impl<E: MultiByte> MultiByteDecoder<E> {
         None
     }
 
-    /// What the byte behind unfinished ones does.
+    /// What the byte behind incomplete ones does.
     fn step(self, byte: u8) -> Step<MultiByteDecoder<E>>
-        requires { AreUnfinished E.reading [] (pending_bytes self.pending) }
-        ensures { Acts (λ d. multi_byte_state E.reading (pending_bytes d.pending)) self byte result }
+        requires { AreIncomplete E.prefix [] (pending_bytes self.pending) }
+        ensures { Acts (λ d. multi_byte_state E.prefix (pending_bytes d.pending)) self byte result }
     {
         E::laws();
-        match E::read(self.pending, byte) {
-            Reading::Whole(text) => {
+        match E::classify(self.pending, byte) {
+            Prefix::Complete(text) => {
                 let len = self.pending.len() + 1;
-                Step::Show(whole(text, len, true, Pending::Nothing))
+                Step::Show(complete(text, len, true, Pending::Nothing))
             }
-            Reading::Broken(len) => {
+            Prefix::Malformed(len) => {
                 let takes_byte = len > self.pending.len();
-                Step::Show(broken(len, takes_byte, self.pending.behind(len)))
+                Step::Show(malformed(len, takes_byte, self.pending.behind(len)))
             }
-            Reading::Unfinished => Step::Wait(MultiByteDecoder::holding(self.pending.with(byte))),
+            Prefix::Incomplete => Step::Wait(MultiByteDecoder::holding(self.pending.with(byte))),
         }
     }
 
-    /// Unfinished bytes at the end of the input are malformed, all together.
+    /// Incomplete bytes at the end of the input are malformed, all together.
     fn left_over(self) -> Option<Shown<MultiByteDecoder<E>>>
-        requires { AreUnfinished E.reading [] (pending_bytes self.pending) }
-        ensures { IsAtEnd (λ d. multi_byte_state E.reading (pending_bytes d.pending)) self result }
+        requires { AreIncomplete E.prefix [] (pending_bytes self.pending) }
+        ensures { IsAtEnd (λ d. multi_byte_state E.prefix (pending_bytes d.pending)) self result }
     {
         E::laws();
         match self.pending {
             Pending::Nothing => None,
-            pending => Some(broken(pending.len(), false, Pending::Nothing)),
+            pending => Some(malformed(pending.len(), false, Pending::Nothing)),
         }
     }
 
@@ -132,7 +132,7 @@ impl<E: MultiByte> MultiByteDecoder<E> {
 }
 
 /// A character or two, with the byte that shows it or before it.
-fn whole<E: MultiByte>(
+fn complete<E: MultiByte>(
     text: Text,
     len: u8,
     takes_byte: bool,
@@ -151,7 +151,7 @@ fn whole<E: MultiByte>(
 }
 
 /// A malformed sequence, with the byte that shows it or before it.
-fn broken<E: MultiByte>(len: u8, takes_byte: bool, behind: Pending) -> Shown<MultiByteDecoder<E>>
+fn malformed<E: MultiByte>(len: u8, takes_byte: bool, behind: Pending) -> Shown<MultiByteDecoder<E>>
     ensures is { result ≡ record { text = Text.One 0xFFFD; kind = Kind.Malformed; len = len; takes_byte = takes_byte; next = result.next } }
     ensures next { result.next.pending ≡ behind }
 {
@@ -168,7 +168,7 @@ impl<E: MultiByte> Pieces for MultiByteDecoder<E> {
     ghost use Rattle.enc_multi_byte.specs.MultiByte.{multi_byte_rule};
     ghost use Rattle.enc_machine.specs.Taking.{IsPiece};
 
-    ghost means = { λ _. IsPiece (multi_byte_rule E.reading) 0 };
+    ghost means = { λ _. IsPiece (multi_byte_rule E.prefix) 0 };
 
     #[inline(always)]
     fn piece(self, src: &[u8], at: usize) -> Option<(char, usize)> {
@@ -178,8 +178,8 @@ impl<E: MultiByte> Pieces for MultiByteDecoder<E> {
                 return Some((character, 2));
             }
         }
-        match E::read(Pending::Nothing, lead) {
-            Reading::Whole(Text::One(character)) => Some((character, 1)),
+        match E::classify(Pending::Nothing, lead) {
+            Prefix::Complete(Text::One(character)) => Some((character, 1)),
             _ => None,
         }
     }
@@ -194,7 +194,7 @@ impl<E: MultiByte> ByteCodec for MultiByteDecoder<E> {
     ghost use Rattle.enc_machine.specs.Pending.{pending_bytes};
     ghost use Rattle.enc_multi_byte.specs.MultiByte.{multi_byte_state};
 
-    ghost state = { λ d. multi_byte_state E.reading (pending_bytes d.pending) };
+    ghost state = { λ d. multi_byte_state E.prefix (pending_bytes d.pending) };
 
     #[inline(always)]
     fn take_run<U: Units>(self, src: &[u8], out: &mut U) -> (MultiByteDecoder<E>, usize) {
@@ -223,7 +223,7 @@ impl<E: MultiByte> ByteCodec for MultiByteDecoder<E> {
         }
     }
 
-    fn pending_len(self) -> u8 {
+    fn held(self) -> u8 {
         self.pending.len()
     }
 }
@@ -232,7 +232,7 @@ impl<E: MultiByte> RawDecoder for MultiByteDecoder<E> {
     ghost use Rattle.enc_machine.specs.Pending.{pending_bytes};
     ghost use Rattle.enc_multi_byte.specs.MultiByte.{multi_byte_state};
 
-    ghost state = { λ d. multi_byte_state E.reading (pending_bytes d.pending) };
+    ghost state = { λ d. multi_byte_state E.prefix (pending_bytes d.pending) };
 
     fn decode<U: Units>(
         &mut self,
@@ -246,6 +246,6 @@ impl<E: MultiByte> RawDecoder for MultiByteDecoder<E> {
     }
 
     fn held(&self) -> usize {
-        self.pending_len() as usize
+        ByteCodec::held(*self) as usize
     }
 }

@@ -1,6 +1,6 @@
 //! The Shift_JIS decoder (Encoding Standard 12.3.1).
 
-ghost use Rattle.std.specs.Prelude.{◌≡◌, ◌≤◌};
+ghost use Rattle.std.specs.Prelude.{◌≡◌};
 ghost use Rattle.enc_multi_byte.specs.ShiftJis.{shift_jis_trail, shift_jis_char};
 
 use crate::double_byte::{Double, DoubleByte, text_of};
@@ -65,6 +65,7 @@ impl DoubleByte for ShiftJis {
         text_of(character_at((lead as u32 - first) * 188 + (trail as u32 - offset)))
     }
 
+    #[tactic(auto, using(crate::proofs::PairLemmas::shift_jis_pairs))]
     fn laws() {}
 
     fn ascii() {}

@@ -1,6 +1,6 @@
 -- One name to unfold where a proof computes with pages.
 use Rattle.enc_index.specs.Search.{are_ascending}
-use Rattle.enc_index.specs.Lists.{runs_of}
+use Rattle.enc_index.specs.Runs.{runs_of}
 use Rattle.enc_pointers.proofs.TreeLemmas.{plant, pick, look}
 use Rattle.enc_pointers.proofs.PageLemmas.{pages_ok, entries_ok, all_below, all_at, place_ok, page_ok, blank_ok, number_in_tree, entry_ok}
 use Rattle.enc_pointers.proofs.RangeLemmas.{by_code_point, is_range, are_ranges}

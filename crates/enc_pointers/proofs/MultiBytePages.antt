@@ -1,15 +1,15 @@
 -- The pages of pointers give each character's pointer in the multi-byte indexes.
 use Rattle.std.proofs.Common.{◌≡◌, ℕ, true, refl}
-use Rattle.enc_index.specs.declared.index.Planes.TheVariants.{Basic, All}
-use Rattle.enc_index.specs.declared.indexes.big5.TheConstants.{BIG5_TABLE}
+use Rattle.enc_index.specs.declared.table.Planes.TheVariants.{Basic, All}
+use Rattle.enc_index.specs.declared.data.big5.TheConstants.{BIG5_TABLE}
 use Rattle.enc_pointers.specs.declared.pages.big5.TheConstants.{BIG5_PAGE_OF, BIG5_POINTERS}
-use Rattle.enc_index.specs.declared.indexes.euc_kr.TheConstants.{EUC_KR_TABLE}
+use Rattle.enc_index.specs.declared.data.euc_kr.TheConstants.{EUC_KR_TABLE}
 use Rattle.enc_pointers.specs.declared.pages.euc_kr.TheConstants.{EUC_KR_PAGE_OF, EUC_KR_POINTERS}
-use Rattle.enc_index.specs.declared.indexes.gb18030.TheConstants.{GB18030_TABLE}
+use Rattle.enc_index.specs.declared.data.gb18030.TheConstants.{GB18030_TABLE}
 use Rattle.enc_pointers.specs.declared.pages.gb18030.TheConstants.{GB18030_PAGE_OF, GB18030_POINTERS}
-use Rattle.enc_index.specs.declared.indexes.jis0208.TheConstants.{JIS0208_TABLE}
+use Rattle.enc_index.specs.declared.data.jis0208.TheConstants.{JIS0208_TABLE}
 use Rattle.enc_pointers.specs.declared.pages.jis0208.TheConstants.{JIS0208_PAGE_OF, JIS0208_POINTERS, SHIFT_JIS_PAGE_OF, SHIFT_JIS_POINTERS}
-use Rattle.enc_index.specs.Lists.{big5_at, euc_kr_at, gb18030_at, jis0208_at}
+use Rattle.enc_index.specs.Runs.{big5_at, euc_kr_at, gb18030_at, jis0208_at}
 use Rattle.enc_pointers.specs.Pages.{pointer_in_pages}
 use Rattle.enc_pointers.specs.Pointers.{always, never, is_big5_pointer, is_last_in_big5, is_shift_jis_pointer, big5_pointer, euc_kr_pointer, gb18030_pointer, jis0208_pointer, shift_jis_pointer}
 use Rattle.enc_index.proofs.MultiByteTables.{big5_table, euc_kr_table, gb18030_table, jis0208_table}

@@ -1,7 +1,7 @@
 -- Pages of pointers give each character's pointer, by a test that goes through the pages and the table once.
 use Rattle.std.proofs.Common.{◌≡◌, ℕ, zero, suc, ◌+◌, ◌*◌, ◌/◌, ◌%◌, ◌^◌, ◌<◌, ◌≤◌, Bool, true, false, refl, sym, ap, ◌∙◌, subst, cond, ◌&&◌, nat_lt, nat_le, List, [], ◌∷◌, get_or, length, Option, None, Some, arith, inl, inr, eqb-true, lt-ltb, le-ltb, leb-true, ltb-true}
 use Rattle.std.proofs.lemmas.Bool.{cond-true, cond-false, cases_lt, and_parts, and_from, cond_both, false_from_ne_true, true≢false}
-use Rattle.enc_index.specs.declared.index.Planes.{Planes}
+use Rattle.enc_index.specs.declared.table.Planes.{Planes}
 use Rattle.enc_index.specs.Index.{entry_character, is_entry_code_point}
 use Rattle.enc_pointers.specs.Pages.{number_in_pages, pointer_in_pages}
 use Rattle.enc_pointers.specs.Pointers.{pointer_of, is_character, first_below, last_below}

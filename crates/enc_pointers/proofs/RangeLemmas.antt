@@ -3,7 +3,7 @@ use Rattle.std.proofs.Common.{◌≡◌, ℕ, ◌+◌, ◌-◌, ◌<◌, ◌≤�
 use Rattle.std.specs.Prelude.{◌⊎◌}
 use Rattle.std.proofs.lemmas.Bool.{cond-true, cond-false, and_parts, and_from, cases_lt, true≢false}
 use Rattle.std.proofs.lemmas.Bool.Decides.{nat_tests}
-use Rattle.enc_index.specs.declared.index.Planes.TheVariants.{All}
+use Rattle.enc_index.specs.declared.table.Planes.TheVariants.{All}
 use Rattle.enc_index.specs.Index.{Run, entry_character, is_entry_code_point, index_at}
 use Rattle.enc_index.specs.Search.{are_ascending, run_at}
 use Rattle.enc_pointers.specs.Pointers.{is_ranges_pointer}

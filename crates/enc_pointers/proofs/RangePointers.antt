@@ -5,7 +5,7 @@ use Rattle.std.proofs.lemmas.Bool.Decides.{nat_tests}
 use Rattle.enc_index.specs.declared.list.List.TheVariants.{Gb18030Ranges}
 use Rattle.enc_pointers.specs.declared.pages.gb18030_ranges.TheConstants.{GB18030_RANGES_BY_CODE_POINT}
 use Rattle.enc_index.specs.Index.{Run}
-use Rattle.enc_index.specs.Lists.{runs_of, gb18030_ranges_at}
+use Rattle.enc_index.specs.Runs.{runs_of, gb18030_ranges_at}
 use Rattle.enc_index.specs.Search.{are_ascending, run_at}
 use Rattle.enc_pointers.specs.Pointers.{first_below, is_character, is_ranges_pointer, gb18030_ranges_pointer}
 use Rattle.enc_pointers.proofs.BelowLemmas.{first_below-None, first_below-Some}

@@ -1,9 +1,9 @@
 -- The pointers of characters (Encoding Standard 5, "index pointer" and those of single encodings).
 use Rattle.std.specs.Prelude.{ℕ, zero, suc, Bool, true, false, ◌&&◌, ◌||◌, ◌==◌, not, nat_le, Option, Some, None, if◌then◌else◌}
-use Rattle.enc_index.specs.declared.index.Planes.TheVariants.{Basic}
+use Rattle.enc_index.specs.declared.table.Planes.TheVariants.{Basic}
 use Rattle.enc_index.specs.declared.single_byte_index.SingleByteIndex.{SingleByteIndex}
 use Rattle.enc_index.specs.Index.{index_at}
-use Rattle.enc_index.specs.Lists.{single_byte_runs, big5_at, euc_kr_at, gb18030_at, gb18030_ranges_at, jis0208_at}
+use Rattle.enc_index.specs.Runs.{single_byte_runs, big5_at, euc_kr_at, gb18030_at, gb18030_ranges_at, jis0208_at}
 
 abbrev pub if_none : Option ℕ → Option ℕ → Option ℕ
 if_none (Some p) other = Some p

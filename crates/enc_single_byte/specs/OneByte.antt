@@ -6,7 +6,7 @@ use Rattle.enc_machine.specs.declared.byte_codec.Text.TheVariants.{One}
 use Rattle.enc_machine.specs.declared.byte_codec.Step.{Step}
 use Rattle.enc_machine.specs.declared.byte_codec.Step.TheVariants.{Show}
 use Rattle.enc_machine.specs.Segmentation.{Rule, one_byte_head}
-use Rattle.enc_index.specs.declared.index.Planes.TheVariants.{Basic}
+use Rattle.enc_index.specs.declared.table.Planes.TheVariants.{Basic}
 use Rattle.enc_index.specs.Index.{index_at}
 
 -- a byte of a legacy single-byte encoding, by the runs of the encoding's index

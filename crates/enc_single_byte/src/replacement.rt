@@ -62,6 +62,7 @@ impl ByteCodec for ReplacementDecoder {
         }
     }
 
+    #[tactic(auto, using(enc_machine::proofs::ShowLemmas::nothing_pending))]
     fn ready(self) -> Option<Shown<ReplacementDecoder>> {
         None
     }
@@ -70,7 +71,7 @@ impl ByteCodec for ReplacementDecoder {
         None
     }
 
-    fn pending_len(self) -> u8 {
+    fn held(self) -> u8 {
         0
     }
 }
@@ -80,6 +81,7 @@ impl RawDecoder for ReplacementDecoder {
 
     ghost state = { replacement_state };
 
+    #[tactic(auto, using(crate::proofs::ReplacementLemmas::replacement_is_lawful))]
     fn decode<U: Units>(
         &mut self,
         src: &[u8],
@@ -91,6 +93,6 @@ impl RawDecoder for ReplacementDecoder {
     }
 
     fn held(&self) -> usize {
-        self.pending_len() as usize
+        ByteCodec::held(*self) as usize
     }
 }

@@ -2,7 +2,7 @@
 
 ghost use Rattle.std.specs.Prelude.{◌≡◌};
 ghost use Rattle.enc_single_byte.specs.OneByte.{single_byte_char};
-ghost use Rattle.enc_index.specs.Lists.{single_byte_runs};
+ghost use Rattle.enc_index.specs.Runs.{single_byte_runs};
 
 use crate::one_byte::show_byte;
 use enc_index::SingleByteIndex;
@@ -76,6 +76,7 @@ impl ByteCodec for SingleByteDecoder {
         show_byte(self, character_of(self.index, byte))
     }
 
+    #[tactic(auto, using(enc_machine::proofs::ShowLemmas::nothing_pending))]
     fn ready(self) -> Option<Shown<SingleByteDecoder>> {
         None
     }
@@ -84,7 +85,7 @@ impl ByteCodec for SingleByteDecoder {
         None
     }
 
-    fn pending_len(self) -> u8 {
+    fn held(self) -> u8 {
         0
     }
 }
@@ -105,6 +106,6 @@ impl RawDecoder for SingleByteDecoder {
     }
 
     fn held(&self) -> usize {
-        self.pending_len() as usize
+        ByteCodec::held(*self) as usize
     }
 }

@@ -63,6 +63,7 @@ impl ByteCodec for XUserDefinedDecoder {
         show_byte(self, Some(character_of(byte)))
     }
 
+    #[tactic(auto, using(enc_machine::proofs::ShowLemmas::nothing_pending))]
     fn ready(self) -> Option<Shown<XUserDefinedDecoder>> {
         None
     }
@@ -71,7 +72,7 @@ impl ByteCodec for XUserDefinedDecoder {
         None
     }
 
-    fn pending_len(self) -> u8 {
+    fn held(self) -> u8 {
         0
     }
 }
@@ -92,6 +93,6 @@ impl RawDecoder for XUserDefinedDecoder {
     }
 
     fn held(&self) -> usize {
-        self.pending_len() as usize
+        ByteCodec::held(*self) as usize
     }
 }

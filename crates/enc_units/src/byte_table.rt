@@ -1,6 +1,6 @@
 //! Characters of single bytes, by a table of their UTF-8 that is made for a run.
 
-ghost use Rattle.std.specs.Prelude.{◌≡◌, ℕ, ◌+◌, ◌≤◌, List, length, take, drop};
+ghost use Rattle.std.specs.Prelude.{◌≡◌, ◌+◌, ◌≤◌, length, take, drop};
 ghost use Rattle.enc_units.specs.Gathering.{Gathers, AreByteTexts};
 
 use crate::gather::{Encoded, Gather, store_ascii_of, store_text, utf8_of};

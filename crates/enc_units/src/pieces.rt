@@ -1,6 +1,6 @@
 //! Pieces of an input: bytes that are a character.
 
-ghost use Rattle.std.specs.Prelude.{◌≡◌, ℕ, ◌+◌, ◌<◌, ◌≤◌, List, [], ◌∷◌, length, take, drop, IfSome, IsTrue};
+ghost use Rattle.std.specs.Prelude.{ℕ, ◌<◌, ◌≤◌, List, [], ◌∷◌, length, take, drop, IfSome, IsTrue};
 
 /// Which bytes of an input are which character, whatever stands behind them.
 pub trait Pieces: Copy {

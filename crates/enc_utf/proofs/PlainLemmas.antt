@@ -90,9 +90,9 @@ pub whole_head : (b : ℕ) (z : List ℕ) → reach b z + 1 ≡ sequence_len b
     → utf_8_rule 0 b z ≡ record { more = reach b z; text = scalar_of (b ∷ take (reach b z) z) ∷ []; kind = Valid; set = 0 }
 whole_head b z e = valid_head b z (reach b z) refl (grind (arith, nat_tests))
 
-pub broken_head : (b : ℕ) (z : List ℕ) → (reach b z + 1 ≡ sequence_len b → ⊥)
+pub malformed_first : (b : ℕ) (z : List ℕ) → (reach b z + 1 ≡ sequence_len b → ⊥)
     → utf_8_rule 0 b z ≡ record { more = reach b z; text = 0xFFFD ∷ []; kind = Malformed; set = 0 }
-broken_head b z e = malformed_head b z (reach b z) refl (grind (arith, nat_tests))
+malformed_first b z e = malformed_head b z (reach b z) refl (grind (arith, nat_tests))
 
 -- no sequence changes the designated character set
 

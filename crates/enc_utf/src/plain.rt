@@ -1,7 +1,7 @@
 //! A decoder of whole inputs of UTF-8, read off the definition, that tests compare the streaming decoder with. It
 //! is slow: at each place it looks at the bytes that follow, and it keeps nothing in between.
 
-ghost use Rattle.std.specs.Prelude.{◌≡◌, ℕ, ◌+◌, ◌<◌, ◌≤◌, [], ◌∷◌, ◌++◌, length, take, drop, slice_index, IfOk, OnOk};
+ghost use Rattle.std.specs.Prelude.{◌≡◌, ◌+◌, ◌<◌, ◌≤◌, [], ◌∷◌, ◌++◌, length, take, drop, slice_index, IfOk, OnOk};
 ghost use Rattle.std.specs.Char.{encode_utf8};
 ghost use Rattle.enc_units.specs.Output.{units_of_text};
 ghost use Rattle.enc_machine.specs.Sequence.{is_malformed as malformed_kind, text_of, any_malformed};

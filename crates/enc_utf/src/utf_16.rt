@@ -1,6 +1,6 @@
 //! The UTF-16 codecs (Encoding Standard 14.2 to 14.4).
 
-ghost use Rattle.std.specs.Prelude.{◌≡◌, ℕ, true, false, IsTrue};
+ghost use Rattle.std.specs.Prelude.{◌≡◌, true, false, IsTrue};
 ghost use Rattle.enc_utf.specs.Utf16.{code_unit as unit_of, is_lead as begins_pair, is_trail as ends_pair, pair_scalar};
 ghost use Rattle.enc_utf.specs.Utf16State.{with_pending, begins_with_lead, utf_16_state};
 ghost use Rattle.enc_machine.specs.CodecLaw.{Acts};
@@ -248,15 +248,11 @@ impl ByteCodec for Utf16Decoder {
     fn at_end(self) -> Option<Shown<Utf16Decoder>> {
         match self.pending {
             Pending::Nothing => None,
-            _ => Some(malformed(
-                self.pending_len(),
-                false,
-                Utf16Decoder::new(self.big_endian),
-            )),
+            _ => Some(malformed(self.held(), false, Utf16Decoder::new(self.big_endian))),
         }
     }
 
-    fn pending_len(self) -> u8 {
+    fn held(self) -> u8 {
         self.pending.len()
     }
 }
@@ -277,6 +273,6 @@ impl RawDecoder for Utf16Decoder {
     }
 
     fn held(&self) -> usize {
-        self.pending_len() as usize
+        ByteCodec::held(*self) as usize
     }
 }

@@ -1,6 +1,6 @@
 //! The UTF-8 codec (Encoding Standard 8.1.1).
 
-ghost use Rattle.std.specs.Prelude.{◌≡◌, ℕ, ◌<◌, ◌≤◌, [], ◌∷◌, true, false, IsTrue};
+ghost use Rattle.std.specs.Prelude.{◌≡◌, ◌<◌, [], ◌∷◌, true, false, IsTrue};
 ghost use Rattle.enc_utf.specs.Utf8.{sequence_len as len_by_lead, is_second as second_follows, is_continuation as continues, scalar_of};
 ghost use Rattle.enc_utf.specs.Utf8State.{wants_more, utf_8_state};
 ghost use Rattle.enc_machine.specs.CodecLaw.{Acts};
@@ -238,11 +238,11 @@ impl ByteCodec for Utf8Decoder {
     fn at_end(self) -> Option<Shown<Utf8Decoder>> {
         match self.pending {
             Pending::Nothing => None,
-            _ => Some(malformed(self.pending_len(), false)),
+            _ => Some(malformed(self.held(), false)),
         }
     }
 
-    fn pending_len(self) -> u8 {
+    fn held(self) -> u8 {
         self.pending.len()
     }
 }
@@ -252,6 +252,7 @@ impl RawDecoder for Utf8Decoder {
 
     ghost state = { utf_8_state };
 
+    #[tactic(auto, using(crate::proofs::Utf8Rule::utf_8_is_lawful))]
     fn decode<U: Units>(
         &mut self,
         src: &[u8],
@@ -263,6 +264,6 @@ impl RawDecoder for Utf8Decoder {
     }
 
     fn held(&self) -> usize {
-        self.pending_len() as usize
+        ByteCodec::held(*self) as usize
     }
 }

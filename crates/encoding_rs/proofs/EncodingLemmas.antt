@@ -9,8 +9,8 @@ use Rattle.enc_multi_byte.proofs.MultiByteRule.{multi_byte_has_texts, multi_byte
 use Rattle.enc_single_byte.proofs.ReplacementLemmas.{replacement_is_lawful}
 use Rattle.enc_iso_2022_jp.proofs.Iso2022JpRule.{iso_2022_jp_is_lawful}
 use Rattle.enc_single_byte.specs.OneByte.{one_byte_rule}
-use Rattle.enc_multi_byte.specs.MultiByte.{multi_byte_rule, IsReading}
-use Rattle.enc_multi_byte.specs.declared.multi_byte.Reading.{Reading}
+use Rattle.enc_multi_byte.specs.MultiByte.{multi_byte_rule, ArePrefixes}
+use Rattle.enc_multi_byte.specs.declared.multi_byte.Prefix.{Prefix}
 use Rattle.std.specs.Prelude.{ℕ, Option, List}
 use Rattle.enc_multi_byte.proofs.DoubleByteLemmas.{double_byte_laws}
 use Rattle.enc_multi_byte.proofs.PairLemmas.{big5_pairs, euc_kr_pairs, shift_jis_pairs}
@@ -29,8 +29,8 @@ pub record KeepsLaws (may_lack : Type 0) (rule : Rule) : Type 0 where
 one_byte_laws : (may_lack : Type 0) (character : ℕ → Option ℕ) → KeepsLaws may_lack (one_byte_rule character)
 one_byte_laws may_lack character = record { lawful = one_byte_is_lawful character; texts = λ _. one_byte_has_texts character }
 
-multi_byte_laws : (may_lack : Type 0) (reading : List ℕ → Reading) → IsReading reading → KeepsLaws may_lack (multi_byte_rule reading)
-multi_byte_laws may_lack reading h = record { lawful = multi_byte_is_lawful reading h; texts = λ _. multi_byte_has_texts reading h }
+multi_byte_laws : (may_lack : Type 0) (prefix : List ℕ → Prefix) → ArePrefixes prefix → KeepsLaws may_lack (multi_byte_rule prefix)
+multi_byte_laws may_lack prefix h = record { lawful = multi_byte_is_lawful prefix h; texts = λ _. multi_byte_has_texts prefix h }
 
 abbrev MayLackTexts : Id → Type 0
 MayLackTexts id = (id ≡ Replacement) ⊎ (id ≡ Iso2022Jp)

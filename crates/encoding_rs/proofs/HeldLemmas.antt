@@ -22,7 +22,7 @@ use Rattle.enc_machine.proofs.RuleLemmas.{has_bytes}
 use Rattle.enc_machine.proofs.ByteLemmas.{bytes-append}
 use Rattle.encoding_rs.specs.Encodings.{rule_of}
 use Rattle.encoding_rs.specs.LifeCycle.{phase_of, awaits_mark, mark_bytes, encoding_by, held_bytes, fronts, state_at, left_behind, state_behind, life_after}
-use Rattle.encoding_rs.specs.Front.{IsText}
+use Rattle.encoding_rs.specs.Sniffing.{IsText}
 use Rattle.encoding_rs.specs.Converting.{ReadsHeldFirst, placed_by}
 use Rattle.encoding_rs.specs.Decoding.{DecoderState, has_ended, remaining_sequences, decoder_remainder, pending_bytes, state_by, unread_bytes, HoldsBack, TellsHeld, DecodesInto}
 use Rattle.encoding_rs.proofs.CarryLemmas.{most_or_more, Follows, nothing_wrote, carries_empty, carries_full, carries_malformed}
@@ -309,7 +309,7 @@ module _ (units_of : ℕ → List ℕ) (e : Encoding) (life : LifeCycle) (v w : 
           let g = first_byte (suc n) src [] (omega arith) (let i = r.within in omega arith) in
           ap (λ o. state_behind o c.done)
           (ap (λ x. state_at (fronts life) (pending ++ x)) (sym (append-nil (take (suc n) src)) ∙ g.4)
-          ∙ no_front_at life v.pending (g.0 ∷ g.2) going (λ x. (holds.unread x).1) ((text.breaks g.0 g.1 g.3).no_front g.2))
+          ∙ no_front_at life v.pending (g.0 ∷ g.2) going (λ x. (holds.unread x).1) ((text.rules_out g.0 g.1 g.3).no_front g.2))
 
       pub goes_on : after ≡ appended before written
           → DecodesInto units_of treatment (state_by e life v) (state_by e Converting w) src last before after (placed_by stop left) read replaced

@@ -10,5 +10,5 @@ pub mod RunLemmas
 pub mod EncodingLemmas
 pub mod LabelLemmas
 pub mod WellFormedLemmas
-pub mod FrontLemmas
+pub mod SniffingLemmas
 pub mod SettledLemmas

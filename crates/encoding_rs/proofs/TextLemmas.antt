@@ -15,7 +15,7 @@ use Rattle.enc_machine.proofs.SegmentationLemmas.{sequences_of-nil}
 use Rattle.encoding_rs.specs.Encodings.{rule_of}
 use Rattle.encoding_rs.specs.Bom.{Mark, utf_8_mark, utf_16be_mark, utf_16le_mark, sequences_by}
 use Rattle.encoding_rs.specs.LifeCycle.{Phase, InFront, Within, Ended, phase_of, awaits_mark, mark_in, sequences_in, held_bytes}
-use Rattle.encoding_rs.specs.Front.{IsText}
+use Rattle.encoding_rs.specs.Sniffing.{IsText}
 use Rattle.encoding_rs.specs.Converting.{ReadsHeldFirst}
 use Rattle.encoding_rs.specs.Decoding.{has_ended, remaining_sequences, decoder_remainder, pending_bytes, state_by, unread_bytes, HoldsBack}
 use Rattle.encoding_rs.proofs.CarryLemmas.{Carries, Reads}
@@ -154,14 +154,14 @@ module _ (e : Encoding) (life : LifeCycle) (v : CodecState) (src : List ℕ) (al
   unmarked_behind : (n : ℕ) → (awaits_mark (phase_of life) ≡ true → 1 ≤ n) → n ≤ length src → (y : List ℕ) → mark_in (phase_of life) (pending ++ (take n src ++ y)) ≡ None
   unmarked_behind n h i y = unmarked_by (take n src ++ y) (λ a.
       let f = first_byte n src y (h a) i in
-      ap (λ x. mark_in (phase_of life) (held_bytes life ++ x)) f.4 ∙ (text.breaks f.0 f.1 f.3).no_mark f.2)
+      ap (λ x. mark_in (phase_of life) (held_bytes life ++ x)) f.4 ∙ (text.rules_out f.0 f.1 f.3).no_mark f.2)
 
   pub unmarked_all : (z : List ℕ) → (last ≡ true → z ≡ []) → mark_in (phase_of life) (pending ++ (src ++ z)) ≡ None
   unmarked_all z l = unmarked_by (src ++ z) (λ a. by_bytes src refl a)
     where
       by_bytes : (x : List ℕ) → src ≡ x → awaits_mark (phase_of life) ≡ true → mark_in (phase_of life) (held_bytes life ++ (src ++ z)) ≡ None
       by_bytes [] f a = ap (λ x. mark_in (phase_of life) (held_bytes life ++ (x ++ z))) f ∙ ap (λ x. mark_in (phase_of life) (held_bytes life ++ x)) (l (text.ends f a)) ∙ held_unmarked life
-      by_bytes (b ∷ x) f a = ap (λ t. mark_in (phase_of life) (held_bytes life ++ (t ++ z))) f ∙ (text.breaks b x f).no_mark (x ++ z)
+      by_bytes (b ∷ x) f a = ap (λ t. mark_in (phase_of life) (held_bytes life ++ (t ++ z))) f ∙ (text.rules_out b x f).no_mark (x ++ z)
 
   -- so the codec tells the sequences
   pub by_codec : (y : List ℕ) → mark_in (phase_of life) (pending ++ y) ≡ None → remaining_sequences (state_by e life v) y ≡ (remainder_of v).sequences (held ++ y)

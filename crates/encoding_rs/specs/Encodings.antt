@@ -1,15 +1,15 @@
 -- The rule of each encoding (Encoding Standard 4.2, table of names).
-use Rattle.enc_index.specs.declared.indexes.single_byte.TheConstants.{IBM866_RUNS, ISO_8859_10_RUNS, ISO_8859_13_RUNS, ISO_8859_14_RUNS, ISO_8859_15_RUNS, ISO_8859_16_RUNS, ISO_8859_2_RUNS, ISO_8859_3_RUNS, ISO_8859_4_RUNS, ISO_8859_5_RUNS, ISO_8859_6_RUNS, ISO_8859_7_RUNS, ISO_8859_8_RUNS, KOI8_R_RUNS, KOI8_U_RUNS, MACINTOSH_RUNS, WINDOWS_1250_RUNS, WINDOWS_1251_RUNS, WINDOWS_1252_RUNS, WINDOWS_1253_RUNS, WINDOWS_1254_RUNS, WINDOWS_1255_RUNS, WINDOWS_1256_RUNS, WINDOWS_1257_RUNS, WINDOWS_1258_RUNS, WINDOWS_874_RUNS, X_MAC_CYRILLIC_RUNS}
+use Rattle.enc_index.specs.declared.data.single_byte.TheConstants.{IBM866_RUNS, ISO_8859_10_RUNS, ISO_8859_13_RUNS, ISO_8859_14_RUNS, ISO_8859_15_RUNS, ISO_8859_16_RUNS, ISO_8859_2_RUNS, ISO_8859_3_RUNS, ISO_8859_4_RUNS, ISO_8859_5_RUNS, ISO_8859_6_RUNS, ISO_8859_7_RUNS, ISO_8859_8_RUNS, KOI8_R_RUNS, KOI8_U_RUNS, MACINTOSH_RUNS, WINDOWS_1250_RUNS, WINDOWS_1251_RUNS, WINDOWS_1252_RUNS, WINDOWS_1253_RUNS, WINDOWS_1254_RUNS, WINDOWS_1255_RUNS, WINDOWS_1256_RUNS, WINDOWS_1257_RUNS, WINDOWS_1258_RUNS, WINDOWS_874_RUNS, X_MAC_CYRILLIC_RUNS}
 use Rattle.enc_machine.specs.Segmentation.{Rule}
 use Rattle.enc_utf.specs.Utf8.{utf_8_rule}
 use Rattle.enc_utf.specs.Utf16.{utf_16_rule}
 use Rattle.enc_single_byte.specs.OneByte.{one_byte_rule, single_byte_char, x_user_defined_char}
 use Rattle.enc_multi_byte.specs.MultiByte.{multi_byte_rule}
-use Rattle.enc_multi_byte.specs.Gb18030.{gb18030_reading}
-use Rattle.enc_multi_byte.specs.Big5.{big5_reading}
-use Rattle.enc_multi_byte.specs.EucJp.{euc_jp_reading}
-use Rattle.enc_multi_byte.specs.ShiftJis.{shift_jis_reading}
-use Rattle.enc_multi_byte.specs.EucKr.{euc_kr_reading}
+use Rattle.enc_multi_byte.specs.Gb18030.{gb18030_prefix}
+use Rattle.enc_multi_byte.specs.Big5.{big5_prefix}
+use Rattle.enc_multi_byte.specs.EucJp.{euc_jp_prefix}
+use Rattle.enc_multi_byte.specs.ShiftJis.{shift_jis_prefix}
+use Rattle.enc_multi_byte.specs.EucKr.{euc_kr_prefix}
 use Rattle.enc_single_byte.specs.Replacement.{replacement_rule}
 use Rattle.enc_iso_2022_jp.specs.Iso2022Jp.{iso_2022_jp_rule}
 use Rattle.std.specs.Prelude.{true, false}
@@ -47,12 +47,12 @@ rule_by_id Windows1256 = one_byte_rule (single_byte_char WINDOWS_1256_RUNS.now)
 rule_by_id Windows1257 = one_byte_rule (single_byte_char WINDOWS_1257_RUNS.now)
 rule_by_id Windows1258 = one_byte_rule (single_byte_char WINDOWS_1258_RUNS.now)
 rule_by_id XMacCyrillic = one_byte_rule (single_byte_char X_MAC_CYRILLIC_RUNS.now)
-rule_by_id Gbk = multi_byte_rule gb18030_reading
-rule_by_id Gb18030 = multi_byte_rule gb18030_reading
-rule_by_id Big5 = multi_byte_rule big5_reading
-rule_by_id EucJp = multi_byte_rule euc_jp_reading
-rule_by_id ShiftJis = multi_byte_rule shift_jis_reading
-rule_by_id EucKr = multi_byte_rule euc_kr_reading
+rule_by_id Gbk = multi_byte_rule gb18030_prefix
+rule_by_id Gb18030 = multi_byte_rule gb18030_prefix
+rule_by_id Big5 = multi_byte_rule big5_prefix
+rule_by_id EucJp = multi_byte_rule euc_jp_prefix
+rule_by_id ShiftJis = multi_byte_rule shift_jis_prefix
+rule_by_id EucKr = multi_byte_rule euc_kr_prefix
 rule_by_id Replacement = replacement_rule
 rule_by_id Utf16be = utf_16_rule true
 rule_by_id Utf16le = utf_16_rule false

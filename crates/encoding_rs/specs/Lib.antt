@@ -1,7 +1,7 @@
 pub mod Encodings
 pub mod Bom
 pub mod LifeCycle
-pub mod Front
+pub mod Sniffing
 pub mod Converting
 pub mod Decoding
 pub mod MarkLaws

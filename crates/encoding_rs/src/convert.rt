@@ -7,7 +7,7 @@ ghost use Rattle.encoding_rs.specs.declared.encoding.Encoding.{Encoding};
 ghost use Rattle.encoding_rs.specs.Encodings.{rule_of};
 ghost use Rattle.encoding_rs.specs.Converting.{ConvertsInto, ReadsHeldFirst, placed_by};
 ghost use Rattle.encoding_rs.specs.Decoding.{has_ended, stop_of, treatment_of, unread_bytes, state_by, HoldsBack, DecodesInto};
-ghost use Rattle.encoding_rs.specs.Front.{IsText};
+ghost use Rattle.encoding_rs.specs.Sniffing.{IsText};
 
 use crate::coder_result::CoderResult;
 use crate::life_cycle::LifeCycle;

@@ -1,19 +1,19 @@
 //! Decoders.
 
-ghost use Rattle.std.specs.Prelude.{◌≡◌, ℕ, ◌+◌, ◌-◌, ◌<◌, ◌≤◌, Bool, true, false, length, take, drop};
+ghost use Rattle.std.specs.Prelude.{◌≡◌, ◌+◌, ◌-◌, ◌<◌, ◌≤◌, true, false, length, take, drop};
 ghost use Rattle.std.specs.Char.{encode_utf8};
 ghost use Rattle.enc_machine.specs.RuleLaws.{HasTexts};
 ghost use Rattle.encoding_rs.specs.declared.bom.BomHandling.TheVariants as handling;
 ghost use Rattle.encoding_rs.specs.Encodings.{rule_of};
-ghost use Rattle.encoding_rs.specs.Front.{IsText};
+ghost use Rattle.encoding_rs.specs.Sniffing.{IsText};
 ghost use Rattle.encoding_rs.specs.Decoding.{fresh, finished, start_life, treatment_of, TellsHeld, DecodesInto, DecodesReplacing, DecodesReporting, IsAsBefore};
 
 use crate::bom::BomHandling;
 use crate::coder_result::CoderResult;
 use crate::convert::convert_text;
 use crate::encoding::{Encoding, Id, codec_of};
-use crate::front::{Front, find_front};
 use crate::life_cycle::LifeCycle;
+use crate::sniffing::{Sniffed, sniff};
 use enc_codec::{DecoderResult, VariantDecoder};
 use enc_units::{Units, Utf8Slice};
 use std::marker::Model;
@@ -142,19 +142,19 @@ impl Decoder {
             result.0 result.1 result.2 }
         ensures held { TellsHeld self.old }
     {
-        let (front, len) = find_front(self.life, src, last);
+        let (sniffed, len) = sniff(self.life, src, last);
         let (_, rest) = src.split_at(len);
-        match front {
-            Front::Open(life) => {
+        match sniffed {
+            Sniffed::Open(life) => {
                 self.life = life;
                 (DecoderResult::InputEmpty, len, false)
             }
-            Front::Mark(encoding) => {
+            Sniffed::Mark(encoding) => {
                 *self = Decoder::start(encoding, BomHandling::Off);
                 let (result, read, replaced) = self.convert_text(rest, out, last, replace);
                 (result, len + read, replaced)
             }
-            Front::Text(life) => {
+            Sniffed::Text(life) => {
                 self.life = life;
                 let (result, read, replaced) = self.convert_text(rest, out, last, replace);
                 (result, len + read, replaced)

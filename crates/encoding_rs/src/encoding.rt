@@ -323,7 +323,7 @@ pub const ISO_2022_JP: Encoding = Encoding { id: Id::Iso2022Jp };
 pub const ISO_2022_JP_INIT: Encoding = ISO_2022_JP;
 
 /// Which decoder an encoding has.
-#[tactic(auto, unfolding(enc_index::specs::Lists::single_byte_runs))]
+#[tactic(auto, unfolding(enc_index::specs::Runs::single_byte_runs))]
 pub fn codec_of(encoding: Encoding) -> Codec
     ensures { codec_rule result ≡ rule_of encoding }
 {

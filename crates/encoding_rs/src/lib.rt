@@ -8,13 +8,13 @@ mod coder_result;
 mod convert;
 mod decoder;
 mod encoding;
-mod front;
 mod labels;
 pub mod laws;
 mod life_cycle;
 mod properties;
 mod replacing;
 pub mod run;
+mod sniffing;
 mod validity;
 
 pub use coder_result::CoderResult;

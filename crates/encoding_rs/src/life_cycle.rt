@@ -2,7 +2,7 @@
 
 ghost use Rattle.std.specs.Prelude.{◌≡◌, if◌then◌else◌};
 ghost use Rattle.encoding_rs.specs.LifeCycle.{phase_of, awaits_mark as awaits, held_bytes};
-ghost use Rattle.encoding_rs.specs.Front.{IsStep};
+ghost use Rattle.encoding_rs.specs.Sniffing.{IsMarkByte};
 
 use crate::encoding::{Encoding, UTF_8, UTF_16BE, UTF_16LE};
 
@@ -35,33 +35,33 @@ pub(crate) enum LifeCycle {
 
 /// What one byte more is to a mark that may still come.
 #[derive(Clone, Copy)]
-pub(crate) enum Step {
+pub(crate) enum MarkByte {
     /// It may belong to a mark: the state that holds it too.
     Holds(LifeCycle),
     /// It is the last byte of the mark of this encoding.
     Ends(Encoding),
-    /// It belongs to none.
-    Breaks,
+    /// No mark has it there.
+    RulesOut,
 }
 
-/// A step, on a condition.
-fn step_if(condition: bool, step: Step) -> Step
-    ensures { result ≡ (if condition then step else Step.Breaks) }
+/// What a byte is that meets a condition; another rules marks out.
+fn mark_byte_if(condition: bool, what: MarkByte) -> MarkByte
+    ensures { result ≡ (if condition then what else MarkByte.RulesOut) }
 {
-    if condition { step } else { Step::Breaks }
+    if condition { what } else { MarkByte::RulesOut }
 }
 
 /// What the first byte is to all three marks.
-fn first_step(byte: u8) -> Step
-    ensures { IsStep LifeCycle.AtStart byte result }
+fn first_mark_byte(byte: u8) -> MarkByte
+    ensures { IsMarkByte LifeCycle.AtStart byte result }
 {
     if byte == 0xEF {
-        return Step::Holds(LifeCycle::SeenUtf8First);
+        return MarkByte::Holds(LifeCycle::SeenUtf8First);
     }
     if byte == 0xFE {
-        return Step::Holds(LifeCycle::SeenUtf16BeFirst);
+        return MarkByte::Holds(LifeCycle::SeenUtf16BeFirst);
     }
-    step_if(byte == 0xFF, Step::Holds(LifeCycle::SeenUtf16LeFirst))
+    mark_byte_if(byte == 0xFF, MarkByte::Holds(LifeCycle::SeenUtf16LeFirst))
 }
 
 impl LifeCycle {
@@ -92,30 +92,33 @@ impl LifeCycle {
     }
 
     /// What one byte more is, behind those held.
-    pub(crate) fn step(self, byte: u8) -> Step
-        ensures { IsStep self byte result }
+    pub(crate) fn mark_byte(self, byte: u8) -> MarkByte
+        ensures { IsMarkByte self byte result }
     {
         match self {
-            LifeCycle::AtStart => first_step(byte),
-            LifeCycle::AtUtf8Start => step_if(byte == 0xEF, Step::Holds(LifeCycle::SeenUtf8First)),
-            LifeCycle::AtUtf16BeStart => step_if(
+            LifeCycle::AtStart => first_mark_byte(byte),
+            LifeCycle::AtUtf8Start => mark_byte_if(
+                byte == 0xEF,
+                MarkByte::Holds(LifeCycle::SeenUtf8First),
+            ),
+            LifeCycle::AtUtf16BeStart => mark_byte_if(
                 byte == 0xFE,
-                Step::Holds(LifeCycle::SeenUtf16BeFirst),
+                MarkByte::Holds(LifeCycle::SeenUtf16BeFirst),
             ),
-            LifeCycle::AtUtf16LeStart => step_if(
+            LifeCycle::AtUtf16LeStart => mark_byte_if(
                 byte == 0xFF,
-                Step::Holds(LifeCycle::SeenUtf16LeFirst),
+                MarkByte::Holds(LifeCycle::SeenUtf16LeFirst),
             ),
-            LifeCycle::SeenUtf8First => step_if(
+            LifeCycle::SeenUtf8First => mark_byte_if(
                 byte == 0xBB,
-                Step::Holds(LifeCycle::SeenUtf8Second),
+                MarkByte::Holds(LifeCycle::SeenUtf8Second),
             ),
-            LifeCycle::SeenUtf8Second => step_if(byte == 0xBF, Step::Ends(UTF_8)),
-            LifeCycle::SeenUtf16BeFirst => step_if(byte == 0xFF, Step::Ends(UTF_16BE)),
-            LifeCycle::SeenUtf16LeFirst => step_if(byte == 0xFE, Step::Ends(UTF_16LE)),
-            LifeCycle::ConvertingWithPendingBb => Step::Breaks,
-            LifeCycle::Converting => Step::Breaks,
-            LifeCycle::Finished => Step::Breaks,
+            LifeCycle::SeenUtf8Second => mark_byte_if(byte == 0xBF, MarkByte::Ends(UTF_8)),
+            LifeCycle::SeenUtf16BeFirst => mark_byte_if(byte == 0xFF, MarkByte::Ends(UTF_16BE)),
+            LifeCycle::SeenUtf16LeFirst => mark_byte_if(byte == 0xFE, MarkByte::Ends(UTF_16LE)),
+            LifeCycle::ConvertingWithPendingBb => MarkByte::RulesOut,
+            LifeCycle::Converting => MarkByte::RulesOut,
+            LifeCycle::Finished => MarkByte::RulesOut,
         }
     }
 }

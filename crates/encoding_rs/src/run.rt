@@ -1,6 +1,6 @@
 //! Whole runs of a decoder: what any list of calls comes to.
 
-ghost use Rattle.std.specs.Prelude.{◌≡◌, ℕ, ◌≤◌, ◌⊎◌, true, false, length, take, IfOk, vec_len};
+ghost use Rattle.std.specs.Prelude.{◌≡◌, ◌≤◌, ◌⊎◌, true, false, length, take, IfOk, vec_len};
 ghost use Rattle.encoding_rs.specs.Decoding.{DecoderState, finished, whole_utf_8, whole_malformed};
 ghost use Rattle.encoding_rs.specs.Run.{MakesCall, IsRun, Begun, run_start};
 

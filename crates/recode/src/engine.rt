@@ -1,6 +1,6 @@
 //! Recoding a source into a sink.
 
-ghost use Rattle.std.specs.Prelude.{◌≡◌, ℕ, ◌^◌, ◌<◌, ◌≤◌, length, [], true, false, Ok, Err, IfOk, IfErr, OnOk, OnErr, IfSome, IsErrOf};
+ghost use Rattle.std.specs.Prelude.{◌≡◌, ◌^◌, ◌<◌, ◌≤◌, length, [], true, false, Ok, Err, IfOk, IfErr, OnOk, OnErr, IfSome, IsErrOf};
 ghost use Rattle.encoding_rs.specs.Decoding.{finished};
 ghost use Rattle.recode.specs.Sink.{TakesMore, TakesPrefix};
 ghost use Rattle.recode.specs.Chunk.{HasRecoded, StopsWithin};

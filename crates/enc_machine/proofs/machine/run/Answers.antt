@@ -27,8 +27,8 @@ returns-then-is_reported-clause-call g c =
     let malformed = c.is_reported.ensures.malformed c.if-is_reported.true in
     let room = c.is_reported.ensures.room c.if-is_reported.true in
     elim c.if-shown.branch [
-      | then-shown w ↦ rw w.end-is (reports_with _ g.C.ByteCodec.state _ c.take_run-taken.result.0 _ _ c.args.fault_room _ _ _ a.writing a.rule _ _ c.in-Next.ensures malformed w.if-shown.true c.pending_len.ensures room)
-      | else-shown w ↦ rw w.end-is (reports_before _ g.C.ByteCodec.state _ c.take_run-taken.result.0 _ _ c.args.fault_room _ _ _ a.writing a.rule _ _ c.in-Next.ensures malformed w.if-shown.false c.pending_len.ensures room)
+      | then-shown w ↦ rw w.end-is (reports_with _ g.C.ByteCodec.state _ c.take_run-taken.result.0 _ _ c.args.fault_room _ _ _ a.writing a.rule _ _ c.in-Next.ensures malformed w.if-shown.true c.held.ensures room)
+      | else-shown w ↦ rw w.end-is (reports_before _ g.C.ByteCodec.state _ c.take_run-taken.result.0 _ _ c.args.fault_room _ _ _ a.writing a.rule _ _ c.in-Next.ensures malformed w.if-shown.false c.held.ensures room)
     ]
 
 pub returns-then-not-put_out-clause-call : goal.returns-then-not-put_out-clause-call

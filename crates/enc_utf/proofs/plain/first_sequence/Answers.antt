@@ -4,7 +4,7 @@ use Rattle.std.proofs.lemmas.List.{length-drop}
 use Rattle.enc_machine.specs.Sequence.{is_malformed}
 use Rattle.enc_machine.specs.Segmentation.{Head}
 use Rattle.enc_utf.specs.Utf8.{reach}
-use Rattle.enc_utf.proofs.PlainLemmas.{whole_head, broken_head, reach-within}
+use Rattle.enc_utf.proofs.PlainLemmas.{whole_head, malformed_first, reach-within}
 use Rattle.enc_utf.proofs.plain.first_sequence.Goals as goal
 
 pub returns-then-more-sequence_len-clause-len : goal.returns-then-more-sequence_len-clause-len
@@ -38,20 +38,20 @@ pub returns-clause-len : goal.returns-clause-len
 returns-clause-len c =
     let rest = c.args.rest.now in
     let r : c.reach-more.result ≡ reach (slice_index rest 0) (drop 1 rest) = rw c.split_at.ensures.back at c.reach-more.ensures.value in
-    let h = broken_head (slice_index rest 0) (drop 1 rest) (λ e. omega (arith, c.sequence_len.ensures, e)) in
+    let h = malformed_first (slice_index rest 0) (drop 1 rest) (λ e. omega (arith, c.sequence_len.ensures, e)) in
     rw h (omega arith)
 
 pub returns-clause-character : goal.returns-clause-character
 returns-clause-character c =
     let rest = c.args.rest.now in
     let r : c.reach-more.result ≡ reach (slice_index rest 0) (drop 1 rest) = rw c.split_at.ensures.back at c.reach-more.ensures.value in
-    ap (λ (h : Head). h.text) (broken_head (slice_index rest 0) (drop 1 rest) (λ e. omega (arith, c.sequence_len.ensures, e)))
+    ap (λ (h : Head). h.text) (malformed_first (slice_index rest 0) (drop 1 rest) (λ e. omega (arith, c.sequence_len.ensures, e)))
 
 pub returns-clause-malformed : goal.returns-clause-malformed
 returns-clause-malformed c =
     let rest = c.args.rest.now in
     let r : c.reach-more.result ≡ reach (slice_index rest 0) (drop 1 rest) = rw c.split_at.ensures.back at c.reach-more.ensures.value in
-    ap (λ (h : Head). is_malformed h.kind) (sym (broken_head (slice_index rest 0) (drop 1 rest) (λ e. omega (arith, c.sequence_len.ensures, e))))
+    ap (λ (h : Head). is_malformed h.kind) (sym (malformed_first (slice_index rest 0) (drop 1 rest) (λ e. omega (arith, c.sequence_len.ensures, e))))
 
 pub returns-clause-within : goal.returns-clause-within
 returns-clause-within c =

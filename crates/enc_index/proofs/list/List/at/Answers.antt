@@ -1,7 +1,7 @@
 use Rattle.std.proofs.Common.{◌≡◌, ◌∙◌, ℕ, ap, sym}
 use Rattle.enc_index.specs.declared.list.List.{List as Index}
 use Rattle.enc_index.specs.Index.{index_at}
-use Rattle.enc_index.specs.Lists.{planes_of, runs_of}
+use Rattle.enc_index.specs.Runs.{planes_of, runs_of}
 use Rattle.enc_index.proofs.MultiByteTables.{big5_table, euc_kr_table, gb18030_table, gb18030_ranges_ascends, jis0208_table, jis0212_table}
 use Rattle.enc_index.proofs.list.List.at.Goals as goal
 

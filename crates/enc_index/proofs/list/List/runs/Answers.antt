@@ -1,5 +1,5 @@
 use Rattle.std.proofs.Common.{◌∙◌, ap, sym}
-use Rattle.enc_index.specs.Lists.{runs_of}
+use Rattle.enc_index.specs.Runs.{runs_of}
 use Rattle.enc_index.proofs.list.List.runs.Goals as goal
 
 pub returns-in-SingleByte : goal.returns-in-SingleByte

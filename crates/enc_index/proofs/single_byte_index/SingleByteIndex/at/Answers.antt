@@ -1,6 +1,6 @@
 use Rattle.std.proofs.Common.{◌+◌, ◌*◌, ◌∙◌, ap, get_or, slice_range}
-use Rattle.enc_index.specs.declared.index.Planes.TheVariants.{Basic}
-use Rattle.enc_index.specs.declared.indexes.single_byte.TheConstants.{SINGLE_BYTE_TABLE}
+use Rattle.enc_index.specs.declared.table.Planes.TheVariants.{Basic}
+use Rattle.enc_index.specs.declared.data.single_byte.TheConstants.{SINGLE_BYTE_TABLE}
 use Rattle.enc_index.specs.Index.{entry_character}
 use Rattle.enc_index.proofs.SingleByteLemmas.{single_byte_table}
 use Rattle.enc_index.proofs.single_byte_index.SingleByteIndex.at.Goals as goal

@@ -1,6 +1,6 @@
 -- No answer reads an entry. (Search would, for more than a minute.)
 use Rattle.std.proofs.Common.{ap, sym}
-use Rattle.enc_index.specs.Lists.{single_byte_runs}
+use Rattle.enc_index.specs.Runs.{single_byte_runs}
 use Rattle.enc_index.proofs.single_byte_index.SingleByteIndex.runs.Goals as goal
 
 pub returns-in-Ibm866 : goal.returns-in-Ibm866

@@ -6,6 +6,6 @@ use Rattle.enc_multi_byte.proofs.multi_byte.MultiByteDecoder.left_over.Goals as 
 
 pub returns-in_default : goal.returns-in_default
 returns-in_default g c =
-    rw c.broken.ensures.is (left_over g.E.MultiByte.reading c.laws.ensures (λ d. multi_byte_state g.E.MultiByte.reading (pending_bytes d.pending))
-    c.args.self c.broken.result.next _ refl _ c.requires (some_pending c.args.self.pending c.in_default.not-Nothing) (at_most_three c.args.self.pending) c.len.ensures
-    (ap (λ p. multi_byte_state g.E.MultiByte.reading (pending_bytes p)) c.broken.ensures.next))
+    rw c.malformed.ensures.is (left_over g.E.MultiByte.prefix c.laws.ensures (λ d. multi_byte_state g.E.MultiByte.prefix (pending_bytes d.pending))
+    c.args.self c.malformed.result.next _ refl _ c.requires (some_pending c.args.self.pending c.in_default.not-Nothing) (at_most_three c.args.self.pending) c.len.ensures
+    (ap (λ p. multi_byte_state g.E.MultiByte.prefix (pending_bytes p)) c.malformed.ensures.next))

@@ -6,5 +6,5 @@ use Rattle.enc_multi_byte.proofs.multi_byte.MultiByteDecoderByteCodec.ready.Goal
 
 pub returns : goal.returns
 returns g c =
-    ready_by g.E.MultiByte.reading c.laws.ensures (λ d. multi_byte_state g.E.MultiByte.reading (pending_bytes d.pending))
-    c.args.self c.args.self _ refl _ c.shown_first.ensures.shown c.shown_first.ensures.unfinished
+    ready_by g.E.MultiByte.prefix c.laws.ensures (λ d. multi_byte_state g.E.MultiByte.prefix (pending_bytes d.pending))
+    c.args.self c.args.self _ refl _ c.shown_first.ensures.shown c.shown_first.ensures.incomplete

@@ -1,5 +1,5 @@
 use Rattle.std.proofs.Common.{refl}
-use Rattle.enc_index.specs.Lists.{single_byte_runs}
+use Rattle.enc_index.specs.Runs.{single_byte_runs}
 use Rattle.enc_single_byte.specs.OneByte.{single_byte_char}
 use Rattle.enc_single_byte.specs.OneByteState.{single_byte_state}
 use Rattle.enc_single_byte.proofs.OneByteLemmas.{one_byte_acts}

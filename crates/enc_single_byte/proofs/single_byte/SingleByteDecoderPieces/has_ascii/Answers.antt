@@ -1,6 +1,6 @@
 use Rattle.std.proofs.lemmas.Bool.{lt-ltb}
 use Rattle.std.proofs.Common.{refl}
-use Rattle.enc_index.specs.Lists.{single_byte_runs}
+use Rattle.enc_index.specs.Runs.{single_byte_runs}
 use Rattle.enc_single_byte.specs.OneByte.{single_byte_char}
 use Rattle.enc_single_byte.proofs.OneByteLemmas.{one_byte_piece}
 use Rattle.enc_single_byte.proofs.single_byte.SingleByteDecoderPieces.has_ascii.Goals as goal

@@ -10,5 +10,5 @@ returns-in_default c =
     ap (λ (s : Utf16State). s.big_endian) (c.self-in_default.view_is ∙ sym c.self.view_is) in
     rw (c.malformed.ensures, c.new.ensures, e, ← c.self.view_is)
     (shows_left_over c.self.inside.big_endian c.self.inside.pending _
-    (c.pending_len.ensures ∙ ap (λ (s : Utf16State). length (pending_bytes s.pending)) (sym c.self.view_is))
+    (c.held.ensures ∙ ap (λ (s : Utf16State). length (pending_bytes s.pending)) (sym c.self.view_is))
     c.self.invariant c.in_default.not-Nothing)

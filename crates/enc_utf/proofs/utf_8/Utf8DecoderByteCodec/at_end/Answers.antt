@@ -3,4 +3,4 @@ use Rattle.enc_utf.proofs.utf_8.Utf8DecoderByteCodec.at_end.Goals as goal
 
 pub returns-in_default : goal.returns-in_default
 returns-in_default c =
-    rw (c.malformed.ensures, ← c.self.view_is) (comes_at_end _ _ (rw c.self.view_is c.pending_len.ensures) c.self.invariant c.in_default.not-Nothing)
+    rw (c.malformed.ensures, ← c.self.view_is) (comes_at_end _ _ (rw c.self.view_is c.held.ensures) c.self.invariant c.in_default.not-Nothing)

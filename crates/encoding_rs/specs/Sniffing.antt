@@ -2,11 +2,11 @@
 use Rattle.std.specs.Prelude.{◌≡◌, ℕ, Bool, true, false, List, [], ◌∷◌, ◌++◌, length, take, drop, Some, None}
 use Rattle.encoding_rs.specs.declared.encoding.Encoding.{Encoding}
 use Rattle.encoding_rs.specs.declared.life_cycle.LifeCycle.{LifeCycle}
-use Rattle.encoding_rs.specs.declared.life_cycle.Step.{Step}
-use Rattle.encoding_rs.specs.declared.life_cycle.Step.TheVariants.{Holds, Ends, Breaks}
-use Rattle.encoding_rs.specs.declared.front.Front.{Front}
-use Rattle.encoding_rs.specs.declared.front.Front.TheVariants.{Open, Text}
-use Rattle.encoding_rs.specs.declared.front.Front.TheVariants as front
+use Rattle.encoding_rs.specs.declared.life_cycle.MarkByte.{MarkByte}
+use Rattle.encoding_rs.specs.declared.life_cycle.MarkByte.TheVariants.{Holds, Ends, RulesOut}
+use Rattle.encoding_rs.specs.declared.sniffing.Sniffed.{Sniffed}
+use Rattle.encoding_rs.specs.declared.sniffing.Sniffed.TheVariants.{Open, Text}
+use Rattle.encoding_rs.specs.declared.sniffing.Sniffed.TheVariants as sniffed
 use Rattle.encoding_rs.specs.Bom.{Mark}
 use Rattle.encoding_rs.specs.LifeCycle.{phase_of, awaits_mark, mark_in, held_bytes, fronts, state_at}
 
@@ -28,24 +28,24 @@ pub record EndsMark (life : LifeCycle) (x : List ℕ) (e : Encoding) : Type 0 wh
   pub awaits : awaits_mark (phase_of life) ≡ true
 
 -- Behind the bytes held this byte belongs to no mark, whatever follows it.
-pub record BreaksOff (life : LifeCycle) (b : ℕ) : Type 0 where
+pub record RulesOutMarks (life : LifeCycle) (b : ℕ) : Type 0 where
   pub no_mark : (y : List ℕ) → mark_in (phase_of life) (held_bytes life ++ b ∷ y) ≡ None
   pub no_front : (y : List ℕ) → state_at (fronts life) (held_bytes life ++ b ∷ y) ≡ None
 
 -- No mark comes in front of these bytes, which nothing follows where `last`.
 pub record IsText (life : LifeCycle) (src : List ℕ) (last : Bool) : Type 0 where
-  pub breaks : (b : ℕ) (z : List ℕ) → src ≡ b ∷ z → BreaksOff life b
+  pub rules_out : (b : ℕ) (z : List ℕ) → src ≡ b ∷ z → RulesOutMarks life b
   pub ends : src ≡ [] → awaits_mark (phase_of life) ≡ true → last ≡ true
 
 -- what a byte is
-abbrev pub IsStep : LifeCycle → ℕ → Step → Type 0
-IsStep life b (Holds new) = Reaches life new (b ∷ [])
-IsStep life b (Ends e) = EndsMark life (b ∷ []) e
-IsStep life b Breaks = BreaksOff life b
+abbrev pub IsMarkByte : LifeCycle → ℕ → MarkByte → Type 0
+IsMarkByte life b (Holds new) = Reaches life new (b ∷ [])
+IsMarkByte life b (Ends e) = EndsMark life (b ∷ []) e
+IsMarkByte life b RulesOut = RulesOutMarks life b
 
 -- what stands in front, and how many bytes of the offer that concerns
-abbrev pub IsFront : LifeCycle → List ℕ → Bool → Front → ℕ → Type 0
-IsFront life src last (Open new) n =
+abbrev pub IsSniffed : LifeCycle → List ℕ → Bool → Sniffed → ℕ → Type 0
+IsSniffed life src last (Open new) n =
     (n ≡ length src) × (last ≡ false) × (awaits_mark (phase_of new) ≡ true) × Reaches life new src
-IsFront life src last (front.Mark e) n = EndsMark life (take n src) e
-IsFront life src last (Text new) n = Reaches life new (take n src) × IsText new (drop n src) last
+IsSniffed life src last (sniffed.Mark e) n = EndsMark life (take n src) e
+IsSniffed life src last (Text new) n = Reaches life new (take n src) × IsText new (drop n src) last

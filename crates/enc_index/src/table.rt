@@ -2,7 +2,7 @@
 
 ghost use Rattle.std.specs.Prelude.{◌≡◌, ◌+◌, get_or};
 ghost use Rattle.enc_index.specs.Index.{entry_character, last_code_point};
-ghost use Rattle.enc_index.specs.declared.index.Planes.TheVariants.{All, Basic};
+ghost use Rattle.enc_index.specs.declared.table.Planes.TheVariants.{All, Basic};
 
 /// The planes of Unicode that an index's entries are in.
 #[derive(Clone, Copy)]

@@ -6,24 +6,24 @@ use Rattle.enc_machine.proofs.ToldLemmas.{true_or_false}
 use Rattle.encoding_rs.specs.declared.encoding.Encoding.{Encoding}
 use Rattle.encoding_rs.specs.declared.life_cycle.LifeCycle.{LifeCycle}
 use Rattle.encoding_rs.specs.declared.life_cycle.LifeCycle.TheVariants.{SeenUtf8Second, SeenUtf16BeFirst, SeenUtf16LeFirst}
-use Rattle.encoding_rs.specs.declared.life_cycle.Step.{Step}
-use Rattle.encoding_rs.specs.declared.life_cycle.Step.TheVariants.{Ends, Breaks}
+use Rattle.encoding_rs.specs.declared.life_cycle.MarkByte.{MarkByte}
+use Rattle.encoding_rs.specs.declared.life_cycle.MarkByte.TheVariants.{Ends, RulesOut}
 use Rattle.encoding_rs.specs.Bom.{utf_8_mark, utf_16be_mark, utf_16le_mark}
 use Rattle.encoding_rs.specs.LifeCycle.{phase_of, awaits_mark, mark_in, held_bytes, fronts, state_at}
-use Rattle.encoding_rs.specs.Front.{Reaches, EndsMark, BreaksOff, IsText, IsStep}
+use Rattle.encoding_rs.specs.Sniffing.{Reaches, EndsMark, RulesOutMarks, IsText, IsMarkByte}
 
--- a byte that ends a mark, or else breaks off
-ends_or_breaks : (life : LifeCycle) (byte last : ℕ) (e : Encoding) → EndsMark life (last ∷ []) e → (eqb last byte ≡ false → BreaksOff life byte)
-    → IsStep life byte (if eqb byte last then Ends e else Breaks)
-ends_or_breaks life byte last e ends breaks = elim (true_or_false (eqb byte last)) [
+-- a byte that ends a mark, or else rules marks out
+ends_or_rules_out : (life : LifeCycle) (byte last : ℕ) (e : Encoding) → EndsMark life (last ∷ []) e → (eqb last byte ≡ false → RulesOutMarks life byte)
+    → IsMarkByte life byte (if eqb byte last then Ends e else RulesOut)
+ends_or_rules_out life byte last e ends rules_out = elim (true_or_false (eqb byte last)) [
   | inl t ↦ rw t (rw (eqb-true byte last t) ends)
-  | inr f ↦ rw f (breaks (ne_eqb last byte (λ same. eqb-false byte last f (sym same))))
+  | inr f ↦ rw f (rules_out (ne_eqb last byte (λ same. eqb-false byte last f (sym same))))
 ]
 
 -- the last byte of each mark, for a state that is told by an equation
-pub step_behind_ef_bb : (life : LifeCycle) (byte : ℕ) (step : Step) → life ≡ SeenUtf8Second
-    → step ≡ (if eqb byte 0xBF then Ends utf_8_mark.encoding else Breaks) → IsStep life byte step
-step_behind_ef_bb life byte step l s = rw (l, s) (ends_or_breaks SeenUtf8Second byte 0xBF utf_8_mark.encoding
+pub mark_byte_behind_ef_bb : (life : LifeCycle) (byte : ℕ) (what : MarkByte) → life ≡ SeenUtf8Second
+    → what ≡ (if eqb byte 0xBF then Ends utf_8_mark.encoding else RulesOut) → IsMarkByte life byte what
+mark_byte_behind_ef_bb life byte what l s = rw (l, s) (ends_or_rules_out SeenUtf8Second byte 0xBF utf_8_mark.encoding
     (record {
       mark = utf_8_mark;
       tells = refl;
@@ -34,9 +34,9 @@ step_behind_ef_bb life byte step l s = rw (l, s) (ends_or_breaks SeenUtf8Second 
     })
     (λ f. record { no_mark = λ y. rw f refl; no_front = λ y. refl }))
 
-pub step_behind_fe : (life : LifeCycle) (byte : ℕ) (step : Step) → life ≡ SeenUtf16BeFirst
-    → step ≡ (if eqb byte 0xFF then Ends utf_16be_mark.encoding else Breaks) → IsStep life byte step
-step_behind_fe life byte step l s = rw (l, s) (ends_or_breaks SeenUtf16BeFirst byte 0xFF utf_16be_mark.encoding
+pub mark_byte_behind_fe : (life : LifeCycle) (byte : ℕ) (what : MarkByte) → life ≡ SeenUtf16BeFirst
+    → what ≡ (if eqb byte 0xFF then Ends utf_16be_mark.encoding else RulesOut) → IsMarkByte life byte what
+mark_byte_behind_fe life byte what l s = rw (l, s) (ends_or_rules_out SeenUtf16BeFirst byte 0xFF utf_16be_mark.encoding
     (record {
       mark = utf_16be_mark;
       tells = refl;
@@ -47,9 +47,9 @@ step_behind_fe life byte step l s = rw (l, s) (ends_or_breaks SeenUtf16BeFirst b
     })
     (λ f. record { no_mark = λ y. rw f refl; no_front = λ y. refl }))
 
-pub step_behind_ff : (life : LifeCycle) (byte : ℕ) (step : Step) → life ≡ SeenUtf16LeFirst
-    → step ≡ (if eqb byte 0xFE then Ends utf_16le_mark.encoding else Breaks) → IsStep life byte step
-step_behind_ff life byte step l s = rw (l, s) (ends_or_breaks SeenUtf16LeFirst byte 0xFE utf_16le_mark.encoding
+pub mark_byte_behind_ff : (life : LifeCycle) (byte : ℕ) (what : MarkByte) → life ≡ SeenUtf16LeFirst
+    → what ≡ (if eqb byte 0xFE then Ends utf_16le_mark.encoding else RulesOut) → IsMarkByte life byte what
+mark_byte_behind_ff life byte what l s = rw (l, s) (ends_or_rules_out SeenUtf16LeFirst byte 0xFE utf_16le_mark.encoding
     (record {
       mark = utf_16le_mark;
       tells = refl;
@@ -104,11 +104,11 @@ pub ends_next : (a b : LifeCycle) (src : List ℕ) (n : ℕ) (e : Encoding) → 
     → EndsMark b (get_or src n 0 ∷ []) e → EndsMark a (take (n + 1) src) e
 ends_next a b src n e h r m = rw (take_more src n 0 h) (ends_behind a b (take n src) (get_or src n 0 ∷ []) e r m)
 
--- a byte that breaks off is in front of text
-pub text_at : (life : LifeCycle) (src : List ℕ) (n : ℕ) (last : Bool) → n < length src → BreaksOff life (get_or src n 0)
+-- a byte that rules marks out is in front of text
+pub text_at : (life : LifeCycle) (src : List ℕ) (n : ℕ) (last : Bool) → n < length src → RulesOutMarks life (get_or src n 0)
     → IsText life (drop n src) last
 text_at life src n last h off = rw (drop-cons src n 0) (record {
-  breaks = λ b z e. let same : get_or src n 0 ≡ b = cc in subst (BreaksOff life) same off;
+  rules_out = λ b z e. let same : get_or src n 0 ≡ b = cc in subst (RulesOutMarks life) same off;
   ends = λ e a. absurd (let no : ⊥ = cc in no);
 })
 
@@ -116,6 +116,6 @@ text_at life src n last h off = rw (drop-cons src n 0) (record {
 pub text_at_end : (life : LifeCycle) (src : List ℕ) (n : ℕ) (last : Bool) → length src ≤ n → (awaits_mark (phase_of life) ≡ true → last ≡ true)
     → IsText life (drop n src) last
 text_at_end life src n last h l = rw (drop_all n src h) (record {
-  breaks = λ b z e. absurd (let no : ⊥ = cc in no);
+  rules_out = λ b z e. absurd (let no : ⊥ = cc in no);
   ends = λ e a. l a;
 })

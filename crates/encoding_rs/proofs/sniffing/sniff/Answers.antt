@@ -2,8 +2,8 @@
 use Rattle.std.proofs.Common.{◌≡◌, inl, inr, length, arith, sym, ◌∙◌}
 use Rattle.std.proofs.lemmas.Bool.{true≢false}
 use Rattle.std.proofs.lemmas.List.{take_all}
-use Rattle.encoding_rs.proofs.FrontLemmas.{reaches_itself, reaches_next, ends_next, text_at, text_at_end}
-use Rattle.encoding_rs.proofs.front.find_front.Goals as goal
+use Rattle.encoding_rs.proofs.SniffingLemmas.{reaches_itself, reaches_next, ends_next, text_at, text_at_end}
+use Rattle.encoding_rs.proofs.sniffing.sniff.Goals as goal
 
 pub loop-len-init : goal.loop-len-init
 loop-len-init c = record { within = omega arith; reaches = reaches_itself _ }
@@ -14,15 +14,15 @@ loop-len-preserved c = record {
   reaches = reaches_next _ _ _ _ _ c.loop-len-test.true c.loop-len.invariant.reaches c.in-Holds.ensures;
 }
 
-pub returns-in-Ends-clause-front : goal.returns-in-Ends-clause-front
-returns-in-Ends-clause-front c = ends_next _ _ _ _ _ c.loop-len-test.true c.loop-len.invariant.reaches c.in-Ends.ensures
+pub returns-in-Ends-clause-sniffed : goal.returns-in-Ends-clause-sniffed
+returns-in-Ends-clause-sniffed c = ends_next _ _ _ _ _ c.loop-len-test.true c.loop-len.invariant.reaches c.in-Ends.ensures
 
-pub returns-in-Breaks-clause-front : goal.returns-in-Breaks-clause-front
-returns-in-Breaks-clause-front c =
-    (c.loop-len.invariant.reaches, text_at _ _ _ _ c.loop-len-test.true c.in-Breaks.ensures)
+pub returns-in-RulesOut-clause-sniffed : goal.returns-in-RulesOut-clause-sniffed
+returns-in-RulesOut-clause-sniffed c =
+    (c.loop-len.invariant.reaches, text_at _ _ _ _ c.loop-len-test.true c.in-RulesOut.ensures)
 
-pub returns-then-not-last-clause-front : goal.returns-then-not-last-clause-front
-returns-then-not-last-clause-front c =
+pub returns-then-not-last-clause-sniffed : goal.returns-then-not-last-clause-sniffed
+returns-then-not-last-clause-sniffed c =
     let all : c.loop-len.len ≡ length c.args.src.now = omega arith in (
       all,
       c.if-not-last.true,
@@ -30,8 +30,8 @@ returns-then-not-last-clause-front c =
       rw (take_all c.loop-len.len c.args.src.now c.loop-len-test.false) at c.loop-len.invariant.reaches,
     )
 
-pub returns-clause-front : goal.returns-clause-front
-returns-clause-front c = (
+pub returns-clause-sniffed : goal.returns-clause-sniffed
+returns-clause-sniffed c = (
   c.loop-len.invariant.reaches,
   text_at_end _ _ _ _ c.loop-len-test.false (λ awaits. elim c.else-awaits_mark.either [
     | inl last ↦ last.1

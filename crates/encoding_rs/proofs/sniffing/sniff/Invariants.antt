@@ -1,7 +1,7 @@
 -- All bytes passed may begin a mark, and are held.
 use Rattle.std.proofs.Common.{◌≤◌, ◌-◌, length, take}
-use Rattle.encoding_rs.specs.Front.{Reaches}
-use Rattle.encoding_rs.proofs.front.find_front.Given as goal
+use Rattle.encoding_rs.specs.Sniffing.{Reaches}
+use Rattle.encoding_rs.proofs.sniffing.sniff.Given as goal
 
 abbrev pub invariant-loop-len : goal.invariant-loop-len
 invariant-loop-len l = record { within : l.len ≤ length l.src; reaches : Reaches l.fn.life l.held (take l.len l.src) }

@@ -1,18 +1,18 @@
 -- The indexes by name (Encoding Standard 5). Their runs don't unfold: no proof of an encoding reads an entry.
 use Rattle.std.specs.Prelude.{ℕ, Option, List}
-use Rattle.enc_index.specs.declared.index.Planes.{Planes}
-use Rattle.enc_index.specs.declared.index.Planes.TheVariants.{Basic, All}
+use Rattle.enc_index.specs.declared.table.Planes.{Planes}
+use Rattle.enc_index.specs.declared.table.Planes.TheVariants.{Basic, All}
 use Rattle.enc_index.specs.declared.list.List.{List as Index}
 use Rattle.enc_index.specs.declared.list.List.TheVariants.{SingleByte, Big5, EucKr, Gb18030, Gb18030Ranges, Jis0208, Jis0212}
 use Rattle.enc_index.specs.declared.single_byte_index.SingleByteIndex.{SingleByteIndex}
 use Rattle.enc_index.specs.declared.single_byte_index.SingleByteIndex.TheVariants.{Ibm866, Iso88592, Iso88593, Iso88594, Iso88595, Iso88596, Iso88597, Iso88598, Iso885910, Iso885913, Iso885914, Iso885915, Iso885916, Koi8R, Koi8U, Macintosh, Windows874, Windows1250, Windows1251, Windows1252, Windows1253, Windows1254, Windows1255, Windows1256, Windows1257, Windows1258, XMacCyrillic}
-use Rattle.enc_index.specs.declared.indexes.single_byte.TheConstants.{IBM866_RUNS, ISO_8859_2_RUNS, ISO_8859_3_RUNS, ISO_8859_4_RUNS, ISO_8859_5_RUNS, ISO_8859_6_RUNS, ISO_8859_7_RUNS, ISO_8859_8_RUNS, ISO_8859_10_RUNS, ISO_8859_13_RUNS, ISO_8859_14_RUNS, ISO_8859_15_RUNS, ISO_8859_16_RUNS, KOI8_R_RUNS, KOI8_U_RUNS, MACINTOSH_RUNS, WINDOWS_874_RUNS, WINDOWS_1250_RUNS, WINDOWS_1251_RUNS, WINDOWS_1252_RUNS, WINDOWS_1253_RUNS, WINDOWS_1254_RUNS, WINDOWS_1255_RUNS, WINDOWS_1256_RUNS, WINDOWS_1257_RUNS, WINDOWS_1258_RUNS, X_MAC_CYRILLIC_RUNS}
-use Rattle.enc_index.specs.declared.indexes.big5.TheConstants.{BIG5_RUNS}
-use Rattle.enc_index.specs.declared.indexes.euc_kr.TheConstants.{EUC_KR_RUNS}
-use Rattle.enc_index.specs.declared.indexes.gb18030.TheConstants.{GB18030_RUNS}
-use Rattle.enc_index.specs.declared.indexes.gb18030_ranges.TheConstants.{GB18030_RANGES_RUNS}
-use Rattle.enc_index.specs.declared.indexes.jis0208.TheConstants.{JIS0208_RUNS}
-use Rattle.enc_index.specs.declared.indexes.jis0212.TheConstants.{JIS0212_RUNS}
+use Rattle.enc_index.specs.declared.data.single_byte.TheConstants.{IBM866_RUNS, ISO_8859_2_RUNS, ISO_8859_3_RUNS, ISO_8859_4_RUNS, ISO_8859_5_RUNS, ISO_8859_6_RUNS, ISO_8859_7_RUNS, ISO_8859_8_RUNS, ISO_8859_10_RUNS, ISO_8859_13_RUNS, ISO_8859_14_RUNS, ISO_8859_15_RUNS, ISO_8859_16_RUNS, KOI8_R_RUNS, KOI8_U_RUNS, MACINTOSH_RUNS, WINDOWS_874_RUNS, WINDOWS_1250_RUNS, WINDOWS_1251_RUNS, WINDOWS_1252_RUNS, WINDOWS_1253_RUNS, WINDOWS_1254_RUNS, WINDOWS_1255_RUNS, WINDOWS_1256_RUNS, WINDOWS_1257_RUNS, WINDOWS_1258_RUNS, X_MAC_CYRILLIC_RUNS}
+use Rattle.enc_index.specs.declared.data.big5.TheConstants.{BIG5_RUNS}
+use Rattle.enc_index.specs.declared.data.euc_kr.TheConstants.{EUC_KR_RUNS}
+use Rattle.enc_index.specs.declared.data.gb18030.TheConstants.{GB18030_RUNS}
+use Rattle.enc_index.specs.declared.data.gb18030_ranges.TheConstants.{GB18030_RANGES_RUNS}
+use Rattle.enc_index.specs.declared.data.jis0208.TheConstants.{JIS0208_RUNS}
+use Rattle.enc_index.specs.declared.data.jis0212.TheConstants.{JIS0212_RUNS}
 use Rattle.enc_index.specs.Index.{Run, index_at}
 
 -- the runs of a single-byte index

@@ -1,6 +1,0 @@
-use Rattle.std.proofs.Common.{refl}
-use Rattle.enc_machine.proofs.ShowLemmas.{nothing_pending}
-use Rattle.enc_single_byte.proofs.x_user_defined.XUserDefinedDecoderByteCodec.ready.Goals as goal
-
-pub returns : goal.returns
-returns c = nothing_pending _ refl
