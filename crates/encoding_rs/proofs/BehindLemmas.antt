@@ -23,7 +23,7 @@ use Rattle.encoding_rs.specs.Bom.{sequences_by}
 use Rattle.encoding_rs.specs.LifeCycle.{Phase, InFront, Within, Ended, phase_of, awaits_mark, mark_in, mark_bytes, encoding_by, sequences_in, held_bytes, fronts, state_at, state_behind, life_after}
 use Rattle.encoding_rs.specs.Sniffing.{Reaches, EndsMark}
 use Rattle.encoding_rs.specs.Decoding.{DecoderState, has_ended, remaining_sequences, decoder_remainder, state_by, HoldsBack, DecodesInto}
-use Rattle.encoding_rs.proofs.CarryLemmas.{Carries, Reads, Follows, nothing_wrote, carries_empty, carries_full, carries_malformed}
+use Rattle.enc_calls.proofs.CarryLemmas.{Carries, Reads, Follows, nothing_wrote, carries_empty, carries_full, carries_malformed}
 use Rattle.encoding_rs.proofs.TextLemmas.{held_unmarked, marked_sequences, undetermined_in_front, none_begins, pending_of_held}
 use Rattle.encoding_rs.proofs.HeldLemmas.{own_state}
 

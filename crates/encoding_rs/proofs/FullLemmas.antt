@@ -28,7 +28,7 @@ use Rattle.enc_utf.proofs.Utf16Rule.{utf_16_has_texts}
 use Rattle.encoding_rs.proofs.EncodingLemmas.{small_texts}
 use Rattle.encoding_rs.proofs.TextLemmas.{held_unmarked, marked_sequences}
 use Rattle.encoding_rs.proofs.HeldLemmas.{own_state}
-use Rattle.encoding_rs.proofs.JoinLemmas.{no_bytes}
+use Rattle.enc_calls.proofs.JoinLemmas.{no_bytes}
 use Rattle.encoding_rs.proofs.RunLemmas.{ends_at_end}
 
 -- The sequences still to come are those of a rule: the encoding's, or that of a mark.

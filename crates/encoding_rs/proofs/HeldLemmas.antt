@@ -23,10 +23,10 @@ use Rattle.enc_machine.proofs.ByteLemmas.{bytes-append}
 use Rattle.encoding_rs.specs.Encodings.{rule_of}
 use Rattle.encoding_rs.specs.LifeCycle.{phase_of, awaits_mark, mark_bytes, encoding_by, held_bytes, fronts, state_at, left_behind, state_behind, life_after}
 use Rattle.encoding_rs.specs.Sniffing.{IsText}
-use Rattle.encoding_rs.specs.Converting.{ReadsHeldFirst, placed_by}
+use Rattle.enc_calls.specs.Converting.{ReadsHeldFirst, placed_by}
 use Rattle.encoding_rs.specs.Decoding.{DecoderState, has_ended, remaining_sequences, decoder_remainder, pending_bytes, state_by, unread_bytes, HoldsBack, TellsHeld, DecodesInto}
-use Rattle.encoding_rs.proofs.CarryLemmas.{most_or_more, Follows, nothing_wrote, carries_empty, carries_full, carries_malformed}
-use Rattle.encoding_rs.proofs.JoinLemmas.{no_bytes}
+use Rattle.enc_calls.proofs.CarryLemmas.{most_or_more, Follows, nothing_wrote, carries_empty, carries_full, carries_malformed}
+use Rattle.enc_calls.proofs.JoinLemmas.{no_bytes}
 use Rattle.encoding_rs.proofs.TextLemmas.{settled_from, awaited_unless_settled, carries, reads_on, unmarked_read, by_codec, unmarked_all, bytes_unread, few_unread, at_hand, first_byte, pending_of_held}
 
 -- the end is the same however the stop is told

@@ -1,7 +1,3 @@
-pub mod Turns
-pub mod ReplacingLemmas
-pub mod CarryLemmas
-pub mod JoinLemmas
 pub mod TextLemmas
 pub mod HeldLemmas
 pub mod BehindLemmas

@@ -13,15 +13,16 @@ use Rattle.encoding_rs.specs.declared.encoding.Id.{Id}
 use Rattle.encoding_rs.specs.declared.encoding.Id.TheVariants.{Utf8, Utf16be, Utf16le}
 use Rattle.encoding_rs.specs.declared.life_cycle.LifeCycle.{LifeCycle}
 use Rattle.encoding_rs.specs.declared.life_cycle.LifeCycle.TheVariants.{AtStart, SeenUtf8Second, ConvertingWithPendingBb, Converting, Finished}
-use Rattle.encoding_rs.specs.declared.coder_result.CoderResult.{CoderResult}
-use Rattle.encoding_rs.specs.declared.coder_result.CoderResult.TheVariants.{InputEmpty, OutputFull}
+use Rattle.enc_calls.specs.declared.coder_result.CoderResult.{CoderResult}
+use Rattle.enc_calls.specs.declared.coder_result.CoderResult.TheVariants.{InputEmpty, OutputFull}
 use Rattle.encoding_rs.specs.declared.run.DecodeCall.{DecodeCall}
 use Rattle.enc_units.specs.Output.{units_of_text}
 use Rattle.enc_machine.specs.Sequence.{Sequence, bytes_of, text_of, any_malformed}
 use Rattle.enc_machine.specs.Call.{is_end}
 use Rattle.encoding_rs.specs.Bom.{own_marks, find_mark, sequences_by}
 use Rattle.encoding_rs.specs.LifeCycle.{phase_of, sequences_in, fronts, state_at, left_behind, state_behind, life_after}
-use Rattle.encoding_rs.specs.Decoding.{DecoderState, has_ended, finished, removal_start, fresh, remaining_sequences, whole_sequences, whole_utf_8, whole_malformed, stop_of, DecodesReplacing, HasDecoded}
+use Rattle.enc_calls.specs.Replacing.{stop_of}
+use Rattle.encoding_rs.specs.Decoding.{DecoderState, has_ended, finished, removal_start, fresh, remaining_sequences, whole_sequences, whole_utf_8, whole_malformed, DecodesReplacing, HasDecoded}
 use Rattle.encoding_rs.specs.Run.{MakesCall, RunState, GoesOn, IsRun, Begun}
 use Rattle.enc_machine.proofs.SequenceLemmas.{units-append, any_malformed-append}
 

@@ -16,9 +16,9 @@ use Rattle.encoding_rs.specs.Encodings.{rule_of}
 use Rattle.encoding_rs.specs.Bom.{Mark, utf_8_mark, utf_16be_mark, utf_16le_mark, sequences_by}
 use Rattle.encoding_rs.specs.LifeCycle.{Phase, InFront, Within, Ended, phase_of, awaits_mark, mark_in, sequences_in, held_bytes}
 use Rattle.encoding_rs.specs.Sniffing.{IsText}
-use Rattle.encoding_rs.specs.Converting.{ReadsHeldFirst}
+use Rattle.enc_calls.specs.Converting.{ReadsHeldFirst}
 use Rattle.encoding_rs.specs.Decoding.{has_ended, remaining_sequences, decoder_remainder, pending_bytes, state_by, unread_bytes, HoldsBack}
-use Rattle.encoding_rs.proofs.CarryLemmas.{Carries, Reads}
+use Rattle.enc_calls.proofs.CarryLemmas.{Carries, Reads}
 
 -- The states.
 

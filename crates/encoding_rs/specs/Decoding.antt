@@ -2,6 +2,7 @@
 -- any encoding).
 use Rattle.std.specs.Prelude.{◌≡◌, ℕ, Bool, true, false, List, [], ◌∷◌, ◌++◌, length, take, ◌==◌, if◌then◌else◌}
 use Rattle.std.specs.Char.{encode_utf8}
+use Rattle.enc_calls.specs.Replacing.{stop_of}
 use Rattle.encoding_rs.specs.declared.encoding.Id.{Id}
 use Rattle.encoding_rs.specs.declared.encoding.Id.TheVariants.{Utf8, Utf16be, Utf16le}
 use Rattle.encoding_rs.specs.declared.encoding.Encoding.{Encoding}
@@ -11,8 +12,8 @@ use Rattle.encoding_rs.specs.declared.life_cycle.LifeCycle.{LifeCycle}
 use Rattle.encoding_rs.specs.declared.life_cycle.LifeCycle.TheVariants.{AtStart, AtUtf8Start, AtUtf16BeStart, AtUtf16LeStart, Converting, Finished}
 use Rattle.enc_machine.specs.declared.decoder_result.DecoderResult.{DecoderResult}
 use Rattle.enc_machine.specs.declared.decoder_result.DecoderResult.TheVariants as raw
-use Rattle.encoding_rs.specs.declared.coder_result.CoderResult.{CoderResult}
-use Rattle.encoding_rs.specs.declared.coder_result.CoderResult.TheVariants.{InputEmpty, OutputFull}
+use Rattle.enc_calls.specs.declared.coder_result.CoderResult.{CoderResult}
+use Rattle.enc_calls.specs.declared.coder_result.CoderResult.TheVariants.{InputEmpty, OutputFull}
 use Rattle.enc_units.specs.Output.{Output, appended, units_of_text}
 use Rattle.enc_machine.specs.Sequence.{Sequence, bytes_of, text_of, any_malformed, set_after}
 use Rattle.enc_machine.specs.CodecState.{CodecState}
@@ -100,14 +101,6 @@ KeepsTo e life codec = (rule_of e ≡ codec.rule) × HoldsBack life codec
 pub record TellsHeld (d : DecoderState) : Type 0 where
   pub in_front : awaits_mark (phase_of d.life) ≡ true → d.pending ≡ held_bytes d.life
   pub behind : (b : ℕ) (held : List ℕ) → held_bytes d.life ≡ b ∷ held → d.pending ≡ held_bytes d.life
-
-abbrev pub stop_of : CoderResult → DecoderResult
-stop_of InputEmpty = raw.InputEmpty
-stop_of OutputFull = raw.OutputFull
-
--- what is done with malformed sequences
-abbrev pub treatment_of : Bool → Treatment
-treatment_of replace = if replace then Replaced else Reported false
 
 -- A call of a decoder.
 pub record Decodes (units_of : ℕ → List ℕ) (treatment : Treatment) (old new : DecoderState) (src : List ℕ) (last : Bool) (room : ℕ) (result : DecoderResult) (read : ℕ) (wrote : List ℕ) (replaced : Bool) : Type 0 where

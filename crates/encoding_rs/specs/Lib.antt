@@ -2,7 +2,6 @@ pub mod Encodings
 pub mod Bom
 pub mod LifeCycle
 pub mod Sniffing
-pub mod Converting
 pub mod Decoding
 pub mod MarkLaws
 pub mod Run

@@ -3,7 +3,7 @@ use Rattle.std.specs.Prelude.{◌≡◌, ℕ, ◌+◌, Bool, false, ◌||◌, na
 use Rattle.std.specs.Char.{encode_utf8}
 use Rattle.encoding_rs.specs.declared.encoding.Encoding.{Encoding}
 use Rattle.encoding_rs.specs.declared.bom.BomHandling.{BomHandling}
-use Rattle.encoding_rs.specs.declared.coder_result.CoderResult.{CoderResult}
+use Rattle.enc_calls.specs.declared.coder_result.CoderResult.{CoderResult}
 use Rattle.encoding_rs.specs.declared.run.DecodeCall.{DecodeCall}
 use Rattle.enc_units.specs.Output.{units_of_text}
 use Rattle.enc_machine.specs.Sequence.{Sequence, text_of}

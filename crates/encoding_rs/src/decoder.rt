@@ -6,11 +6,12 @@ ghost use Rattle.enc_machine.specs.RuleLaws.{HasTexts};
 ghost use Rattle.encoding_rs.specs.declared.bom.BomHandling.TheVariants as handling;
 ghost use Rattle.encoding_rs.specs.Encodings.{rule_of};
 ghost use Rattle.encoding_rs.specs.Sniffing.{IsText};
-ghost use Rattle.encoding_rs.specs.Decoding.{fresh, finished, start_life, treatment_of, TellsHeld, DecodesInto, DecodesReplacing, DecodesReporting, IsAsBefore};
+ghost use Rattle.enc_calls.specs.Replacing.{treatment_of};
+ghost use Rattle.encoding_rs.specs.Decoding.{fresh, finished, start_life, TellsHeld, DecodesInto, DecodesReplacing, DecodesReporting, IsAsBefore};
 
 use crate::bom::BomHandling;
-use crate::coder_result::CoderResult;
-use crate::convert::convert_text;
+use enc_calls::CoderResult;
+use crate::text::convert_text;
 use crate::encoding::{Encoding, Id, codec_of};
 use crate::life_cycle::LifeCycle;
 use crate::sniffing::{Sniffed, sniff};

@@ -4,21 +4,19 @@
 #![tactic(auto)]
 
 mod bom;
-mod coder_result;
-mod convert;
 mod decoder;
 mod encoding;
 mod labels;
 pub mod laws;
 mod life_cycle;
 mod properties;
-mod replacing;
 pub mod run;
 mod sniffing;
+mod text;
 mod validity;
 
-pub use coder_result::CoderResult;
 pub use decoder::Decoder;
+pub use enc_calls::CoderResult;
 pub use enc_codec::DecoderResult;
 pub use encoding::{
     BIG5, BIG5_INIT, EUC_JP, EUC_JP_INIT, EUC_KR, EUC_KR_INIT, Encoding, GB18030, GB18030_INIT,

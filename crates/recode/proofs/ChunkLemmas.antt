@@ -1,7 +1,7 @@
 -- A chunk, over several calls of a decoder whose text a sink takes.
 use Rattle.std.proofs.Common.{◌≡◌, ℕ, Bool, ◌||◌, List, ◌++◌, drop, Option, ap, ◌∙◌, append_assoc}
 use Rattle.std.specs.Char.{encode_utf8}
-use Rattle.encoding_rs.specs.declared.coder_result.CoderResult.{CoderResult}
+use Rattle.enc_calls.specs.declared.coder_result.CoderResult.{CoderResult}
 use Rattle.encoding_rs.specs.Decoding.{DecoderState, DecodesReplacing}
 use Rattle.recode.specs.Sink.{TakesMore, TakesPrefix}
 use Rattle.recode.specs.Chunk.{HasRecoded, StopsWithin, remaining_utf_8}

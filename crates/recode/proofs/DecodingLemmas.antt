@@ -4,8 +4,8 @@ use Rattle.std.proofs.Math.Seq.{drop-length}
 use Rattle.std.specs.Char.{encode_utf8}
 use Rattle.encoding_rs.specs.declared.bom.BomHandling.{BomHandling}
 use Rattle.encoding_rs.specs.declared.encoding.Encoding.{Encoding}
-use Rattle.encoding_rs.specs.declared.coder_result.CoderResult.{CoderResult}
-use Rattle.encoding_rs.specs.declared.coder_result.CoderResult.TheVariants.{InputEmpty, OutputFull}
+use Rattle.enc_calls.specs.declared.coder_result.CoderResult.{CoderResult}
+use Rattle.enc_calls.specs.declared.coder_result.CoderResult.TheVariants.{InputEmpty, OutputFull}
 use Rattle.enc_units.specs.Output.{units_of_text}
 use Rattle.enc_machine.specs.Sequence.{Sequence, text_of, any_malformed}
 use Rattle.encoding_rs.specs.Decoding.{DecoderState, finished, fresh, remaining_sequences, whole_sequences, whole_utf_8, DecodesReplacing, HasDecoded}

@@ -1,5 +1,5 @@
 use Rattle.std.proofs.Common.{rules, ◌≡◌}
-use Rattle.encoding_rs.specs.declared.coder_result.CoderResult.TheVariants.{InputEmpty}
+use Rattle.enc_calls.specs.declared.coder_result.CoderResult.TheVariants.{InputEmpty}
 use Rattle.recode.proofs.KnownLemmas.{on_err}
 use Rattle.recode.proofs.DecodingLemmas.{none_unread, finished_at_end, still_open}
 use Rattle.recode.proofs.ChunkLemmas.{HasRecoded-more, StopsWithin-more}

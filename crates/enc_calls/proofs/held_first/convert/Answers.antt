@@ -1,8 +1,8 @@
 use Rattle.std.proofs.Common.{◌≡◌, rules}
 use Rattle.enc_machine.specs.declared.decoder_result.DecoderResult.TheVariants.{InputEmpty}
 use Rattle.enc_machine.proofs.ByteLemmas.{bytes_of_slice}
-use Rattle.encoding_rs.proofs.JoinLemmas.{no_bytes, none_held, none_follow, stops_in_held, joins}
-use Rattle.encoding_rs.proofs.convert.convert.Goals as goal
+use Rattle.enc_calls.proofs.JoinLemmas.{no_bytes, none_held, none_follow, stops_in_held, joins}
+use Rattle.enc_calls.proofs.held_first.convert.Goals as goal
 
 pub returns-then-is_empty-clause-call : goal.returns-then-is_empty-clause-call
 returns-then-is_empty-clause-call g c = none_held _ _ _ _ _ _ _ _ _ _ _ _ (no_bytes _ (search rules)) c.decode_any-result.ensures.call

@@ -1,7 +1,7 @@
 use Rattle.std.proofs.Common.{◌≡◌, ◌+◌, ◌-◌, length}
 use Rattle.enc_machine.specs.CodecState.{remainder_of}
-use Rattle.encoding_rs.proofs.ReplacingLemmas.{Turning}
-use Rattle.encoding_rs.proofs.replacing.decode_replacing.Given as goal
+use Rattle.enc_calls.proofs.ReplacingLemmas.{Turning}
+use Rattle.enc_calls.proofs.replacing.decode_replacing.Given as goal
 
 abbrev pub invariant-loop-out : goal.invariant-loop-out
 invariant-loop-out g l = record {

@@ -1,31 +1,27 @@
 //! A codec over bytes that were held back and those that follow them.
 
-ghost use Rattle.std.specs.Prelude.{◌≡◌, ℕ, ◌+◌, ◌-◌, ◌≤◌, ◌++◌, false, length};
+ghost use Rattle.std.specs.Prelude.{◌≡◌, ℕ, ◌+◌, ◌-◌, ◌≤◌, ◌++◌, length};
 ghost use Rattle.enc_machine.specs.CodecState.{remainder_of};
 ghost use Rattle.enc_machine.specs.Call.{CallInto, is_end as ends};
-ghost use Rattle.encoding_rs.specs.declared.encoding.Encoding.{Encoding};
-ghost use Rattle.encoding_rs.specs.Encodings.{rule_of};
-ghost use Rattle.encoding_rs.specs.Converting.{ConvertsInto, ReadsHeldFirst, placed_by};
-ghost use Rattle.encoding_rs.specs.Decoding.{has_ended, stop_of, treatment_of, unread_bytes, state_by, HoldsBack, DecodesInto};
-ghost use Rattle.encoding_rs.specs.Sniffing.{IsText};
+ghost use Rattle.enc_calls.specs.Converting.{ConvertsInto, ReadsHeldFirst, placed_by};
+ghost use Rattle.enc_calls.specs.Replacing.{stop_of, treatment_of};
 
 use crate::coder_result::CoderResult;
-use crate::life_cycle::LifeCycle;
 use crate::replacing::decode_replacing;
-use enc_codec::{DecoderResult, RawDecoder};
+use enc_machine::{DecoderResult, RawDecoder};
 use enc_units::Units;
 
 /// What a conversion came to.
 #[derive(Clone, Copy)]
-pub(crate) struct Converted {
+pub struct Converted {
     /// Why it stopped.
-    pub(crate) result: DecoderResult,
+    pub result: DecoderResult,
     /// How many of the bytes held back it has not read.
-    pub(crate) left: usize,
+    pub left: usize,
     /// How many of the other bytes it has read.
-    pub(crate) read: usize,
+    pub read: usize,
     /// Whether something was replaced.
-    pub(crate) replaced: bool,
+    pub replaced: bool,
 }
 
 /// The same stop, for calls with replacement and without.
@@ -59,7 +55,7 @@ fn decode_any<D: RawDecoder, U: Units>(
 }
 
 /// The same of bytes that were held back and those of `src`, as if they were offered together.
-pub(crate) fn convert<D: RawDecoder, U: Units>(
+pub fn convert<D: RawDecoder, U: Units>(
     codec: &mut D,
     held: &[u8],
     src: &[u8],
@@ -109,7 +105,7 @@ pub(crate) fn convert<D: RawDecoder, U: Units>(
 }
 
 /// Whether a call has come to the end of the input.
-fn is_end(last: bool, stop: DecoderResult) -> bool
+pub fn is_end(last: bool, stop: DecoderResult) -> bool
     ensures { result ≡ ends last stop }
 {
     match stop {
@@ -120,7 +116,7 @@ fn is_end(last: bool, stop: DecoderResult) -> bool
 }
 
 /// The same stop, where so many bytes are held behind those that a codec has.
-fn placed(stop: DecoderResult, held: usize) -> DecoderResult
+pub fn placed(stop: DecoderResult, held: usize) -> DecoderResult
     requires few { (l a : ℕ) → stop ≡ DecoderResult.Malformed l a → a + held ≤ 255 }
     ensures { result ≡ placed_by stop held }
 {
@@ -129,53 +125,4 @@ fn placed(stop: DecoderResult, held: usize) -> DecoderResult
         DecoderResult::OutputFull => stop,
         DecoderResult::Malformed(len, behind) => DecoderResult::Malformed(len, behind + held as u8),
     }
-}
-
-/// The bytes of a mark that are held and that a codec hasn't read which has so many pending.
-fn unread(life: LifeCycle, pending: usize) -> &'static [u8]
-    ensures { result.now ≡ unread_bytes life pending }
-{
-    if pending == 0 { life.held() } else { b"" }
-}
-
-/// Decodes text: the bytes of a mark that are held, and `src`. Where it puts out and reports nothing, and reads none of
-/// `src`, the codec is as it was.
-pub(crate) fn convert_text<D: RawDecoder, U: Units>(
-    life: &mut LifeCycle,
-    codec: &mut D,
-    src: &[u8],
-    out: &mut U,
-    last: bool,
-    replace: bool,
-) -> (DecoderResult, usize, bool)
-    requires open { has_ended life.old ≡ false }
-    requires text { IsText life.old src.now last }
-    requires holds { HoldsBack life.old (D.state codec.old) }
-    ensures call { (e : Encoding) → rule_of e ≡ (D.state codec.old).rule →
-        DecodesInto U.units_of (treatment_of replace) (state_by e life.old (D.state codec.old)) (state_by e life.new (D.state codec.new))
-        src.now last (U.output out.old) (U.output out.new) result.0 result.1 result.2 }
-    ensures rule { (D.state codec.new).rule ≡ (D.state codec.old).rule }
-    ensures holds { HoldsBack life.new (D.state codec.new) }
-{
-    let before = *codec;
-    let held = unread(*life, before.held());
-    let done = convert(codec, held, src, out, last, replace);
-    let stop = (placed(done.result, done.left), done.read, done.replaced);
-    if is_end(last, done.result) {
-        *life = LifeCycle::Finished;
-        return stop;
-    }
-    let pending = codec.held() + done.left;
-    let untouched = (done.read == 0) & (pending == before.held() + held.len());
-    if untouched {
-        *codec = before;
-        return stop;
-    }
-    let leaves_bb = (done.read == 0) & ((held.len() == 2) & (pending == 1));
-    if leaves_bb {
-        *life = LifeCycle::ConvertingWithPendingBb;
-        return stop;
-    }
-    *life = LifeCycle::Converting;
-    stop
 }

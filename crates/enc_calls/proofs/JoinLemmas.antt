@@ -14,8 +14,8 @@ use Rattle.enc_machine.proofs.SequenceLemmas.{bytes_of-append, set_after-append}
 use Rattle.enc_machine.proofs.DeterminedLemmas.{determines_fewer}
 use Rattle.enc_machine.proofs.ByteLemmas.{bytes-append, determines_by_more}
 use Rattle.enc_units.proofs.OutputLemmas.{appended-appended, room_left}
-use Rattle.encoding_rs.specs.Converting.{ConvertsInto}
-use Rattle.encoding_rs.proofs.CarryLemmas.{most_or_more, Carries, Reads, Follows, Wrote, carries_empty, carries_full, carries_malformed}
+use Rattle.enc_calls.specs.Converting.{ConvertsInto}
+use Rattle.enc_calls.proofs.CarryLemmas.{most_or_more, Carries, Reads, Follows, Wrote, carries_empty, carries_full, carries_malformed}
 
 -- no byte is left
 pub all_given : (units_of : ℕ → List ℕ) (old new : Remainder) (src : List ℕ) (last : Bool) (treatment : Treatment) (before after : Output) (result : DecoderResult) (read : ℕ) (replaced : Bool)

@@ -4,10 +4,10 @@ ghost use Rattle.std.specs.Prelude.{◌≡◌, true};
 ghost use Rattle.enc_machine.specs.CodecState.{remainder_of};
 ghost use Rattle.enc_machine.specs.Call.{CallInto, Replaced};
 ghost use Rattle.enc_machine.specs.RuleLaws.{IsLawful};
-ghost use Rattle.encoding_rs.specs.Decoding.{stop_of};
+ghost use Rattle.enc_calls.specs.Replacing.{stop_of};
 
 use crate::coder_result::CoderResult;
-use enc_codec::{DecoderResult, RawDecoder};
+use enc_machine::{DecoderResult, RawDecoder};
 use enc_units::Units;
 
 /// Decodes until all is read or the next sequence doesn't fit, U+FFFD for a malformed one.

@@ -1,7 +1,7 @@
 use Rattle.std.proofs.Common.{◌≡◌, ◌+◌, sym, ◌∙◌, ap, arith, length}
 use Rattle.enc_machine.proofs.ByteLemmas.{bytes_of_slice}
 use Rattle.encoding_rs.proofs.HeldLemmas.{ends, stays, goes_on, stays_bb, leaves_bb, holds_bb, both_equal, not_both_equal, all_equal, not_all_equal}
-use Rattle.encoding_rs.proofs.convert.convert_text.Goals as goal
+use Rattle.encoding_rs.proofs.text.convert_text.Goals as goal
 
 pub returns-then-is_end-clause-call : goal.returns-then-is_end-clause-call
 returns-then-is_end-clause-call g c = λ e same.

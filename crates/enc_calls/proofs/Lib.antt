@@ -1,0 +1,4 @@
+pub mod Turns
+pub mod ReplacingLemmas
+pub mod CarryLemmas
+pub mod JoinLemmas

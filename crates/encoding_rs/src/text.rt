@@ -1,0 +1,62 @@
+//! Text that a codec decodes, where the first of its bytes may be held as those of a mark.
+
+ghost use Rattle.std.specs.Prelude.{◌≡◌, ℕ, ◌+◌, ◌-◌, ◌≤◌, ◌++◌, false, length};
+ghost use Rattle.encoding_rs.specs.declared.encoding.Encoding.{Encoding};
+ghost use Rattle.encoding_rs.specs.Encodings.{rule_of};
+ghost use Rattle.enc_calls.specs.Replacing.{treatment_of};
+ghost use Rattle.encoding_rs.specs.Decoding.{has_ended, unread_bytes, state_by, HoldsBack, DecodesInto};
+ghost use Rattle.encoding_rs.specs.Sniffing.{IsText};
+
+use crate::life_cycle::LifeCycle;
+use enc_calls::{convert, is_end, placed};
+use enc_codec::{DecoderResult, RawDecoder};
+use enc_units::Units;
+
+/// The bytes of a mark that are held and that a codec hasn't read which has so many pending.
+fn unread(life: LifeCycle, pending: usize) -> &'static [u8]
+    ensures { result.now ≡ unread_bytes life pending }
+{
+    if pending == 0 { life.held() } else { b"" }
+}
+
+/// Decodes text: the bytes of a mark that are held, and `src`. Where it puts out and reports nothing, and reads none of
+/// `src`, the codec is as it was.
+pub(crate) fn convert_text<D: RawDecoder, U: Units>(
+    life: &mut LifeCycle,
+    codec: &mut D,
+    src: &[u8],
+    out: &mut U,
+    last: bool,
+    replace: bool,
+) -> (DecoderResult, usize, bool)
+    requires open { has_ended life.old ≡ false }
+    requires text { IsText life.old src.now last }
+    requires holds { HoldsBack life.old (D.state codec.old) }
+    ensures call { (e : Encoding) → rule_of e ≡ (D.state codec.old).rule →
+        DecodesInto U.units_of (treatment_of replace) (state_by e life.old (D.state codec.old)) (state_by e life.new (D.state codec.new))
+        src.now last (U.output out.old) (U.output out.new) result.0 result.1 result.2 }
+    ensures rule { (D.state codec.new).rule ≡ (D.state codec.old).rule }
+    ensures holds { HoldsBack life.new (D.state codec.new) }
+{
+    let before = *codec;
+    let held = unread(*life, before.held());
+    let done = convert(codec, held, src, out, last, replace);
+    let stop = (placed(done.result, done.left), done.read, done.replaced);
+    if is_end(last, done.result) {
+        *life = LifeCycle::Finished;
+        return stop;
+    }
+    let pending = codec.held() + done.left;
+    let untouched = (done.read == 0) & (pending == before.held() + held.len());
+    if untouched {
+        *codec = before;
+        return stop;
+    }
+    let leaves_bb = (done.read == 0) & ((held.len() == 2) & (pending == 1));
+    if leaves_bb {
+        *life = LifeCycle::ConvertingWithPendingBb;
+        return stop;
+    }
+    *life = LifeCycle::Converting;
+    stop
+}
