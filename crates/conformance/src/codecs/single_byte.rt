@@ -1,7 +1,7 @@
 //! The legacy single-byte encodings (Encoding Standard 9).
 
+use crate::codecs::single_byte_tables::*;
 use crate::harness::{Call, compare_cuts, make_calls, malformed, valid};
-use crate::single_byte_tables::*;
 use encoding_rs::{
     CoderResult, Encoding, IBM866, ISO_8859_2, ISO_8859_3, ISO_8859_4, ISO_8859_5, ISO_8859_6,
     ISO_8859_7, ISO_8859_8, ISO_8859_8_I, ISO_8859_10, ISO_8859_13, ISO_8859_14, ISO_8859_15,
