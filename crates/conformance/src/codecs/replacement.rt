@@ -1,21 +1,13 @@
-//! x-user-defined and replacement (Encoding Standard 14.5 and 14.1).
+//! replacement (Encoding Standard 14.1).
 
-use crate::harness::{Call, compare_cuts, make_calls, malformed, valid};
-use encoding_rs::{CoderResult, REPLACEMENT, X_USER_DEFINED};
+use crate::harness::raw_calls::{end, stop};
+use crate::harness::{Call, compare_all, make_calls, malformed};
+use enc_codec::ReplacementDecoder;
+use encoding_rs::{CoderResult, REPLACEMENT};
 use std::test::Fail;
 
 #[test]
-fn x_user_defined_maps_to_private_use(rt: HostRuntime) -> Result<(), Fail> {
-    compare_cuts(
-        &rt,
-        rt.alloc(),
-        X_USER_DEFINED,
-        &valid(&[0x61, 0x7F, 0x80, 0xFF], "a\u{7F}\u{F780}\u{F7FF}", 3),
-    )
-}
-
-#[test]
-fn replacement_has_one_malformed_sequence(rt: HostRuntime) -> Result<(), Fail> {
+fn has_one_malformed_sequence(rt: HostRuntime) -> Result<(), Fail> {
     let empty = CoderResult::InputEmpty;
     let replacement = "\u{FFFD}";
     make_calls(
@@ -40,16 +32,21 @@ fn replacement_has_one_malformed_sequence(rt: HostRuntime) -> Result<(), Fail> {
             text: &[],
         }],
     );
-    compare_cuts(
+    compare_all(
         &rt,
         rt.alloc(),
-        REPLACEMENT,
-        &malformed(&[0x41, 0x42], replacement, &[(0, 1)], 3),
-    )?;
-    compare_cuts(
-        &rt,
-        rt.alloc(),
-        REPLACEMENT,
-        &malformed(&[0x41, 0x42, 0xFF], replacement, &[(0, 1)], 3),
+        (REPLACEMENT, ReplacementDecoder::new()),
+        &[
+            malformed(&[0x41, 0x42], replacement, &[(0, 1)], 3),
+            malformed(&[0x41, 0x42, 0xFF], replacement, &[(0, 1)], 3),
+        ],
     )
+}
+
+#[test]
+fn the_decoder_reports_the_first_byte_alone(rt: HostRuntime) {
+    let mut decoder = ReplacementDecoder::new();
+    stop(&rt, &mut decoder, b"AB", (1, 0), 1, "");
+    end(&rt, &mut decoder, b"B", "");
+    end(&rt, &mut ReplacementDecoder::new(), b"", "");
 }
