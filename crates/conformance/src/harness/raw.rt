@@ -1,4 +1,5 @@
-//! What runs the examples over a decoder of one encoding by itself. It takes any `RawDecoder`, and asks for no `Encoding` of it.
+//! What runs the examples over a decoder of one encoding by itself. It takes any `RawDecoder`, and asks for no `Encoding`
+//! of it.
 
 use crate::harness::rows::{Cut, Input, MOST_ROOM, REPLACEMENT_CHARACTER};
 use enc_machine::{DecoderResult, RawDecoder};
@@ -35,7 +36,8 @@ struct Outcome {
     held: usize,
 }
 
-/// How far the calls of one decoder have come in an example. The caller puts U+FFFD where a malformed sequence is reported.
+/// How far the calls of one decoder have come in an example. The caller puts U+FFFD where a malformed sequence is
+/// reported.
 #[derive(Clone, Copy)]
 struct Progress<'a> {
     input: Input<'a>,
@@ -70,8 +72,8 @@ fn take_bytes(rt: &impl Abort, progress: &mut Progress<'_>, outcome: Outcome) {
     progress.done = done;
 }
 
-/// A malformed sequence of so many bytes is reported: it is the next one, it ends where what is held begins, and that many
-/// bytes were read behind it.
+/// A malformed sequence of so many bytes is reported: it is the next one, and ends where what is held begins, so many
+/// bytes before the last that was read.
 fn take_report(rt: &impl Abort, progress: &mut Progress<'_>, len: usize, behind: usize) {
     let (bytes, way) = (progress.input.bytes, progress.way);
     let end = progress.read.checked_sub(behind);
@@ -86,18 +88,17 @@ fn take_report(rt: &impl Abort, progress: &mut Progress<'_>, len: usize, behind:
     take_text(rt, progress, REPLACEMENT_CHARACTER.as_bytes());
 }
 
-/// A call stopped since something doesn't fit. A malformed sequence has to fit only where room is kept for U+FFFD.
+/// The output is full: what comes next doesn't fit. That is a malformed sequence only where room is kept for U+FFFD.
 fn compare_full(rt: &impl Abort, progress: &Progress<'_>, left: usize) {
     let (to_come, bytes, way) = (progress.text, progress.input.bytes, progress.way);
-    assert!(rt;
-        left < progress.input.room && left < to_come.len(),
-        "{left} {bytes:?} {way:?}"
-    );
-    let may_be_report = !way.fault_room && !progress.malformed.is_empty();
-    assert!(rt;
-        !(may_be_report && to_come.starts_with(REPLACEMENT_CHARACTER.as_bytes())),
-        "{left} {bytes:?} {way:?}"
-    );
+    let is_malformed = !progress.malformed.is_empty()
+        && to_come.starts_with(REPLACEMENT_CHARACTER.as_bytes());
+    let may_stop = if is_malformed {
+        way.fault_room && left < REPLACEMENT_CHARACTER.len()
+    } else {
+        left < progress.input.room && left < to_come.len()
+    };
+    assert!(rt; may_stop, "{left} {bytes:?} {way:?}");
 }
 
 /// The call had to stop where it did, and no malformed sequence was passed over.
@@ -158,8 +159,8 @@ fn make_call(
     }
 }
 
-/// Offers a chunk, and again what is unread of it, until all is read. Where a call neither reads nor writes, the next one
-/// has room enough.
+/// Offers a chunk, and again what is unread of it, until all is read. Where a call neither reads nor writes, the next
+/// one has room enough.
 fn offer(
     rt: &impl Abort,
     decoder: &mut impl RawDecoder,
@@ -219,8 +220,8 @@ fn run(rt: &impl Abort, mut decoder: impl RawDecoder, input: &Input<'_>, way: Wa
     );
 }
 
-/// Runs an input through every cut, by copies of a new decoder: with rooms 0 to 9 and room enough, and with room kept for
-/// U+FFFD and without.
+/// Runs an input through every cut, by copies of a new decoder: with rooms 0 to 9 and room enough, and with room kept
+/// for U+FFFD and without.
 pub fn compare_raw_cuts(rt: &impl Abort, decoder: impl RawDecoder, input: &Input<'_>) {
     assert_eq!(rt; decoder.held(), 0);
     for fault_room in [false, true] {

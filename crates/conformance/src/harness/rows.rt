@@ -1,4 +1,5 @@
-//! The form of an example: an input, its text, and the places of its malformed sequences. Every decoder is run over the same.
+//! The form of an example: an input, its text, and the places of its malformed sequences. All decoders are run over the
+//! same.
 
 /// No test gives more room.
 pub const MOST_ROOM: usize = 64;
@@ -10,6 +11,7 @@ pub const REPLACEMENT_CHARACTER: &str = "\u{FFFD}";
 #[derive(Clone, Copy)]
 pub struct Input<'a> {
     pub bytes: &'a [u8],
+    /// Its text, with U+FFFD for each malformed sequence, and nowhere else.
     pub text: &'a [u8],
     /// Where each malformed sequence starts in the whole input, and how many bytes it has.
     pub malformed: &'a [(usize, usize)],
