@@ -1,13 +1,18 @@
-//! What runs the examples.
+//! What runs the examples: over decoders of encodings here, and over a decoder by itself in `raw`.
 
+mod raw;
+pub mod raw_calls;
+mod rows;
+
+use enc_machine::RawDecoder;
 use encoding_rs::run::BomHandling;
 use encoding_rs::{CoderResult, Decoder, DecoderResult, Encoding};
+pub use raw::{compare_raw_all, compare_raw_cuts};
+pub use rows::{Input, MOST_ROOM, malformed, valid};
+use rows::{Cut, REPLACEMENT_CHARACTER};
 use std::alloc::{AllocError, Global};
 use std::process::Abort;
 use std::test::Fail;
-
-/// No test gives more room.
-pub const MOST_ROOM: usize = 64;
 
 /// No input here takes so many calls for a chunk.
 const MOST_CALLS: usize = 64;
@@ -79,6 +84,21 @@ pub fn make_calls_of(rt: &impl Abort, decoder: &mut Decoder, calls: &[Call<'_>])
     }
 }
 
+/// One call with much room reads all and replaces nothing.
+pub fn decode_whole(rt: &impl Abort, encoding: Encoding, src: &[u8], text: &str) {
+    make_calls(
+        rt,
+        encoding,
+        &[Call {
+            src,
+            last: true,
+            room: MOST_ROOM,
+            want: (CoderResult::InputEmpty, src.len(), text.len(), false),
+            text: text.as_bytes(),
+        }],
+    );
+}
+
 /// Makes the calls without replacement with one decoder that looks for no byte order mark.
 pub fn make_reporting_calls(rt: &impl Abort, encoding: Encoding, calls: &[ReportingCall<'_>]) {
     make_reporting_calls_of(rt, &mut new_decoder(encoding, BomHandling::Off), calls);
@@ -105,37 +125,6 @@ pub fn make_reporting_calls_of(
             decoder.is_finished(),
             call.last && outcome.0 == DecoderResult::InputEmpty
         );
-    }
-}
-
-/// An input, and what has to come of it.
-#[derive(Clone, Copy)]
-pub struct Input<'a> {
-    pub bytes: &'a [u8],
-    pub text: &'a [u8],
-    /// Where each malformed sequence starts in the whole input, and how many bytes it has.
-    pub malformed: &'a [(usize, usize)],
-    /// The room in which a run of calls comes to its end.
-    pub room: usize,
-}
-
-/// An input that has nothing malformed.
-pub fn valid<'a>(bytes: &'a [u8], text: &'a str, room: usize) -> Input<'a> {
-    malformed(bytes, text, &[], room)
-}
-
-/// An input that has malformed sequences at these places.
-pub fn malformed<'a>(
-    bytes: &'a [u8],
-    text: &'a str,
-    places: &'a [(usize, usize)],
-    room: usize,
-) -> Input<'a> {
-    Input {
-        bytes,
-        text: text.as_bytes(),
-        malformed: places,
-        room,
     }
 }
 
@@ -271,21 +260,12 @@ fn take_report(run: &mut Run, len: usize, after: usize) -> Result<(), AllocError
     let start = end.and_then(|end| end.checked_sub(len));
     run.malformed.push((start, len))?;
     run.had_errors = true;
-    run.text.extend_from_slice("\u{FFFD}".as_bytes())
+    run.text.extend_from_slice(REPLACEMENT_CHARACTER.as_bytes())
 }
 
 /// Offers the whole input at once, with room enough.
 pub fn run_whole(alloc: Global, way: Use, bytes: &[u8]) -> Result<Run, AllocError> {
-    let mut run = start(alloc, way);
-    offer(&mut run, bytes, true, MOST_ROOM)?;
-    Ok(run)
-}
-
-/// How an input is cut: in two at a place, or into single bytes.
-#[derive(Clone, Copy)]
-enum Cut {
-    At(usize),
-    Everywhere,
+    run_cut(alloc, way, bytes, Cut::Nowhere, MOST_ROOM)
 }
 
 fn run_cut(
@@ -296,16 +276,15 @@ fn run_cut(
     room: usize,
 ) -> Result<Run, AllocError> {
     let mut run = start(alloc, way);
-    let place = match cut {
-        Cut::At(place) => place,
-        Cut::Everywhere => 1,
-    };
-    let (front, back) = bytes.split_at(place.min(bytes.len()));
-    offer(&mut run, front, false, room)?;
     match cut {
-        Cut::At(_) => offer(&mut run, back, true, room)?,
+        Cut::Nowhere => offer(&mut run, bytes, true, room)?,
+        Cut::At(place) => {
+            let (front, back) = bytes.split_at(place.min(bytes.len()));
+            offer(&mut run, front, false, room)?;
+            offer(&mut run, back, true, room)?;
+        }
         Cut::Everywhere => {
-            for chunk in back.chunks(1) {
+            for chunk in bytes.chunks(1) {
                 offer(&mut run, chunk, false, room)?;
             }
             offer(&mut run, &[], true, room)?;
@@ -406,12 +385,14 @@ fn compare_each_cut(
     input: &Input<'_>,
     room: usize,
 ) -> Result<(), Fail> {
+    for cut in [Cut::Nowhere, Cut::Everywhere] {
+        let run = run_cut(alloc, way, input.bytes, cut, room)?;
+        compare(rt, &run, input, room);
+    }
     for place in 0..input.bytes.len() + 1 {
         let run = run_cut(alloc, way, input.bytes, Cut::At(place), room)?;
         compare(rt, &run, input, room);
     }
-    let run = run_cut(alloc, way, input.bytes, Cut::Everywhere, room)?;
-    compare(rt, &run, input, room);
     Ok(())
 }
 
@@ -457,4 +438,18 @@ pub fn compare_cuts(
     input: &Input<'_>,
 ) -> Result<(), Fail> {
     compare_cuts_of(rt, alloc, encoding, BomHandling::Off, input)
+}
+
+/// Runs each input through every cut and room, by the encoding and by a new decoder of it by itself.
+pub fn compare_all(
+    rt: &impl Abort,
+    alloc: Global,
+    (encoding, decoder): (Encoding, impl RawDecoder),
+    inputs: &[Input<'_>],
+) -> Result<(), Fail> {
+    for input in inputs {
+        compare_cuts(rt, alloc, encoding, input)?;
+    }
+    compare_raw_all(rt, decoder, inputs);
+    Ok(())
 }

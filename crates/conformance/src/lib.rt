@@ -12,28 +12,14 @@ mod bom;
 #[cfg(test)]
 mod calls;
 #[cfg(test)]
+mod codecs;
+#[cfg(test)]
 mod decoders;
 #[cfg(test)]
-mod double_byte;
-#[cfg(test)]
 mod encodings;
-#[cfg(test)]
-mod gb18030;
 #[cfg(test)]
 mod harness;
 #[cfg(test)]
 mod indexes;
 #[cfg(test)]
-mod iso_2022_jp;
-#[cfg(test)]
 mod runs;
-#[cfg(test)]
-mod single_byte;
-#[cfg(test)]
-mod single_byte_tables;
-#[cfg(test)]
-mod stateless;
-#[cfg(test)]
-mod utf_16;
-#[cfg(test)]
-mod utf_8;

@@ -1,8 +1,10 @@
 //! UTF-16BE and UTF-16LE (Encoding Standard 14.2 to 14.4).
 
+use crate::harness::raw_calls::{end, stop};
 use crate::harness::{
-    Call, ReportingCall, compare_cuts, make_calls, make_reporting_calls, malformed, valid,
+    Call, ReportingCall, compare_all, make_calls, make_reporting_calls, malformed, valid,
 };
+use enc_codec::Utf16Decoder;
 use encoding_rs::{CoderResult, DecoderResult, UTF_16BE, UTF_16LE};
 use std::test::Fail;
 
@@ -90,56 +92,56 @@ fn two_leads_wait_for_room(rt: HostRuntime) {
 
 #[test]
 fn cuts_and_rooms_change_nothing(rt: HostRuntime) -> Result<(), Fail> {
-    compare_cuts(
+    compare_all(
         &rt,
         rt.alloc(),
-        UTF_16LE,
-        &valid(&[0x61, 0x00, 0xAC, 0x20, 0x3D, 0xD8, 0xA9, 0xDC], "a€💩", 4),
+        (UTF_16LE, Utf16Decoder::new(false)),
+        &[
+            valid(&[0x61, 0x00, 0xAC, 0x20, 0x3D, 0xD8, 0xA9, 0xDC], "a€💩", 4),
+            malformed(
+                &[0x3D, 0xD8, 0x41, 0x00, 0x00, 0xDC, 0x3D, 0xD8, 0x42],
+                "\u{FFFD}A\u{FFFD}\u{FFFD}",
+                &[(0, 2), (4, 2), (6, 3)],
+                3,
+            ),
+            malformed(&[0x3D, 0xD8, 0x41, 0x00], "\u{FFFD}A", &[(0, 2)], 3),
+            malformed(&[0x3D, 0xD8, 0x41], "\u{FFFD}", &[(0, 3)], 3),
+            malformed(&[0x3D, 0xD8, 0xA9, 0xDC, 0x00], "💩\u{FFFD}", &[(4, 1)], 4),
+        ],
     )?;
-    compare_cuts(
+    compare_all(
         &rt,
         rt.alloc(),
-        UTF_16BE,
-        &valid(&[0x00, 0x61, 0x20, 0xAC, 0xD8, 0x3D, 0xDC, 0xA9], "a€💩", 4),
-    )?;
-    compare_cuts(
-        &rt,
-        rt.alloc(),
-        UTF_16LE,
-        &malformed(
-            &[0x3D, 0xD8, 0x41, 0x00, 0x00, 0xDC, 0x3D, 0xD8, 0x42],
-            "\u{FFFD}A\u{FFFD}\u{FFFD}",
-            &[(0, 2), (4, 2), (6, 3)],
-            3,
-        ),
-    )?;
-    compare_cuts(
-        &rt,
-        rt.alloc(),
-        UTF_16LE,
-        &malformed(&[0x3D, 0xD8, 0x41, 0x00], "\u{FFFD}A", &[(0, 2)], 3),
-    )?;
-    compare_cuts(
-        &rt,
-        rt.alloc(),
-        UTF_16LE,
-        &malformed(&[0x3D, 0xD8, 0x41], "\u{FFFD}", &[(0, 3)], 3),
-    )?;
-    compare_cuts(
-        &rt,
-        rt.alloc(),
-        UTF_16BE,
-        &malformed(
-            &[0xD8, 0x00, 0xD8, 0x00],
-            "\u{FFFD}\u{FFFD}",
-            &[(0, 2), (2, 2)],
-            3,
-        ),
-    )?;
-    compare_cuts(
-        &rt,
-        rt.alloc(),
-        UTF_16LE,
-        &malformed(&[0x3D, 0xD8, 0xA9, 0xDC, 0x00], "💩\u{FFFD}", &[(4, 1)], 4),
+        (UTF_16BE, Utf16Decoder::new(true)),
+        &[
+            valid(&[0x00, 0x61, 0x20, 0xAC, 0xD8, 0x3D, 0xDC, 0xA9], "a€💩", 4),
+            malformed(
+                &[0xD8, 0x00, 0xD8, 0x00],
+                "\u{FFFD}\u{FFFD}",
+                &[(0, 2), (2, 2)],
+                3,
+            ),
+        ],
     )
+}
+
+#[test]
+fn the_decoder_decodes_a_pair(rt: HostRuntime) {
+    end(&rt, &mut Utf16Decoder::new(false), b"\x3D\xD8\xA9\xDC", "💩");
+    end(&rt, &mut Utf16Decoder::new(true), b"\xD8\x3D\xDC\xA9", "💩");
+}
+
+#[test]
+fn the_decoder_reads_anew_behind_a_lead_surrogate(rt: HostRuntime) {
+    let mut decoder = Utf16Decoder::new(false);
+    stop(&rt, &mut decoder, b"\x3D\xD8A\0", (2, 1), 3, "");
+    end(&rt, &mut decoder, b"\0", "A");
+}
+
+#[test]
+fn the_decoder_reports_what_is_unfinished(rt: HostRuntime) {
+    let mut decoder = Utf16Decoder::new(false);
+    stop(&rt, &mut decoder, b"\x3D\xD8A", (3, 0), 3, "");
+    stop(&rt, &mut decoder, b"\x00\xDC", (2, 0), 2, "");
+    stop(&rt, &mut decoder, b"A", (1, 0), 1, "");
 }

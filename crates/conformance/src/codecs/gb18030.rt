@@ -2,7 +2,11 @@
 //! it doesn't have; that one and what is malformed follow the Encoding Standard's decoder by hand. The characters that
 //! came with later editions than the codec's are of Node's TextDecoder.
 
-use crate::harness::{Input, compare_cuts, make_reporting_calls, malformed, reporting, valid};
+use crate::harness::raw_calls::{decode_one, stop};
+use crate::harness::{
+    Input, compare_all, compare_cuts, make_reporting_calls, malformed, reporting, valid,
+};
+use enc_codec::Gb18030Decoder;
 use encoding_rs::{DecoderResult, GB18030, GBK};
 use std::alloc::Global;
 use std::process::Abort;
@@ -43,17 +47,16 @@ fn four_bytes_between_the_ranges_are_malformed(rt: HostRuntime) {
 }
 
 /// Runs each input through every cut and room, for both encodings.
-fn compare_all(rt: &impl Abort, alloc: Global, inputs: &[Input<'_>]) -> Result<(), Fail> {
+fn compare_both(rt: &impl Abort, alloc: Global, inputs: &[Input<'_>]) -> Result<(), Fail> {
     for input in inputs {
-        compare_cuts(rt, alloc, GB18030, input)?;
         compare_cuts(rt, alloc, GBK, input)?;
     }
-    Ok(())
+    compare_all(rt, alloc, (GB18030, Gb18030Decoder::new()), inputs)
 }
 
 #[test]
 fn decodes_one_two_and_four_bytes(rt: HostRuntime) -> Result<(), Fail> {
-    compare_all(
+    compare_both(
         &rt,
         rt.alloc(),
         &[
@@ -75,7 +78,7 @@ fn decodes_one_two_and_four_bytes(rt: HostRuntime) -> Result<(), Fail> {
 
 #[test]
 fn decodes_words_and_rare_characters(rt: HostRuntime) -> Result<(), Fail> {
-    compare_all(
+    compare_both(
         &rt,
         rt.alloc(),
         &[
@@ -100,7 +103,7 @@ fn decodes_words_and_rare_characters(rt: HostRuntime) -> Result<(), Fail> {
 
 #[test]
 fn decodes_four_bytes_where_ranges_meet(rt: HostRuntime) -> Result<(), Fail> {
-    compare_all(
+    compare_both(
         &rt,
         rt.alloc(),
         &[
@@ -124,7 +127,7 @@ fn decodes_four_bytes_where_ranges_meet(rt: HostRuntime) -> Result<(), Fail> {
 
 #[test]
 fn decodes_as_the_edition_of_2022(rt: HostRuntime) -> Result<(), Fail> {
-    compare_all(
+    compare_both(
         &rt,
         rt.alloc(),
         &[
@@ -155,7 +158,7 @@ fn decodes_as_the_edition_of_2022(rt: HostRuntime) -> Result<(), Fail> {
 
 #[test]
 fn tells_what_is_malformed(rt: HostRuntime) -> Result<(), Fail> {
-    compare_all(
+    compare_both(
         &rt,
         rt.alloc(),
         &[
@@ -196,4 +199,16 @@ fn tells_what_is_malformed(rt: HostRuntime) -> Result<(), Fail> {
             malformed(b"\xFF", "\u{FFFD}", &[(0, 1)], 3),
         ],
     )
+}
+
+#[test]
+fn the_decoder_decodes_a_character(rt: HostRuntime) {
+    let src = (b"\x90\x30\x81".as_slice(), 0x30);
+    decode_one(&rt, &mut Gb18030Decoder::new(), src, "\u{10000}");
+}
+
+#[test]
+fn the_decoder_gives_two_bytes_back(rt: HostRuntime) {
+    let mut decoder = Gb18030Decoder::new();
+    stop(&rt, &mut decoder, b"\x81\x30\x81\xFF", (1, 2), 3, "");
 }

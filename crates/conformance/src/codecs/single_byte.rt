@@ -1,7 +1,10 @@
 //! The legacy single-byte encodings (Encoding Standard 9).
 
-use crate::harness::{Call, compare_cuts, make_calls, malformed, valid};
-use crate::single_byte_tables::*;
+use crate::codecs::single_byte_tables::*;
+use crate::harness::raw_calls::end;
+use crate::harness::{Call, compare_all, make_calls, malformed, valid};
+use enc_codec::{DecoderResult, RawDecoder, SingleByteDecoder, SingleByteIndex};
+use enc_units::Utf8Slice;
 use encoding_rs::{
     CoderResult, Encoding, IBM866, ISO_8859_2, ISO_8859_3, ISO_8859_4, ISO_8859_5, ISO_8859_6,
     ISO_8859_7, ISO_8859_8, ISO_8859_8_I, ISO_8859_10, ISO_8859_13, ISO_8859_14, ISO_8859_15,
@@ -94,26 +97,51 @@ fn an_unmapped_byte_is_malformed(rt: HostRuntime) -> Result<(), Fail> {
             text: text.as_bytes(),
         }],
     );
-    compare_cuts(
+    let decoder = SingleByteDecoder::new(SingleByteIndex::Windows1257);
+    compare_all(
         &rt,
         rt.alloc(),
-        WINDOWS_1257,
-        &malformed(bytes, text, &[(4, 1)], 3),
+        (WINDOWS_1257, decoder),
+        &[malformed(bytes, text, &[(4, 1)], 3)],
     )
 }
 
 #[test]
 fn cuts_and_rooms_change_nothing(rt: HostRuntime) -> Result<(), Fail> {
-    compare_cuts(
+    let decoder = SingleByteDecoder::new(SingleByteIndex::Windows1252);
+    compare_all(
         &rt,
         rt.alloc(),
-        WINDOWS_1252,
-        &valid(b"na\xEFve \x80", "naïve €", 3),
+        (WINDOWS_1252, decoder),
+        &[valid(b"na\xEFve \x80", "naïve €", 3)],
     )?;
-    compare_cuts(
+    let decoder = SingleByteDecoder::new(SingleByteIndex::Ibm866);
+    compare_all(
         &rt,
         rt.alloc(),
-        IBM866,
-        &valid(&[0x8F, 0xE0, 0xA8, 0xA2, 0xA5, 0xE2], "Привет", 2),
+        (IBM866, decoder),
+        &[valid(&[0x8F, 0xE0, 0xA8, 0xA2, 0xA5, 0xE2], "Привет", 2)],
     )
+}
+
+#[test]
+fn the_decoder_decodes_windows_1252(rt: HostRuntime) {
+    let mut decoder = SingleByteDecoder::new(SingleByteIndex::Windows1252);
+    end(&rt, &mut decoder, b"\x61\x80\xE9", "a€é");
+}
+
+#[test]
+fn the_decoder_reports_an_unmapped_byte(rt: HostRuntime) {
+    let src = b"\x61\x62\x63\x80\xA1\xE4";
+    let mut dst = [0; 16];
+    let mut decoder = SingleByteDecoder::new(SingleByteIndex::Windows1257);
+    let mut out = Utf8Slice::new(&mut dst);
+    let fault = decoder.decode(src, &mut out, true, false);
+    assert_eq!(rt; fault, (DecoderResult::Malformed(1, 0), 5));
+    assert_eq!(rt; out.len(), 6);
+    assert_eq!(rt; decoder.held(), 0);
+    let end = decoder.decode(&src[5..], &mut out, true, false);
+    assert_eq!(rt; end, (DecoderResult::InputEmpty, 1));
+    assert_eq!(rt; out.len(), 8);
+    assert_eq!(rt; &dst[..8], "abc€ä".as_bytes());
 }

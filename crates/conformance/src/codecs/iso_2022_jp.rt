@@ -3,9 +3,11 @@
 //! The texts that have nothing malformed are those of Python's codecs iso2022_jp and iso2022_jp_ext. Those that neither
 //! has are of Node's TextDecoder. The others were written by the steps of the standard's decoder.
 
+use crate::harness::raw_calls::{end, hold, make_call, stop};
 use crate::harness::{
-    Call, Input, ReportingCall, compare_cuts, make_calls, make_reporting_calls, malformed, valid,
+    Call, Input, ReportingCall, compare_all, make_calls, make_reporting_calls, malformed, valid,
 };
+use enc_codec::Iso2022JpDecoder;
 use encoding_rs::{CoderResult, DecoderResult, ISO_2022_JP};
 use std::alloc::Global;
 use std::process::Abort;
@@ -28,9 +30,9 @@ fn call<'a>(
     }
 }
 
-/// An input through every cut and every room.
-fn compare(rt: &impl Abort, alloc: Global, input: Input<'_>) -> Result<(), Fail> {
-    compare_cuts(rt, alloc, ISO_2022_JP, &input)
+/// Runs each input through every cut and room.
+fn compare(rt: &impl Abort, alloc: Global, inputs: &[Input<'_>]) -> Result<(), Fail> {
+    compare_all(rt, alloc, (ISO_2022_JP, Iso2022JpDecoder::new()), inputs)
 }
 
 const EMPTY: DecoderResult = DecoderResult::InputEmpty;
@@ -204,10 +206,7 @@ fn cuts_and_rooms_change_no_text(rt: HostRuntime) -> Result<(), Fail> {
         valid(b"\x1B$B$!", "ぁ", 3),
         valid(b"\x1B$B", "", 0),
     ];
-    for input in inputs {
-        compare(&rt, rt.alloc(), input)?;
-    }
-    Ok(())
+    compare(&rt, rt.alloc(), &inputs)
 }
 
 #[test]
@@ -230,10 +229,7 @@ fn cuts_and_rooms_change_no_words(rt: HostRuntime) -> Result<(), Fail> {
             3,
         ),
     ];
-    for input in inputs {
-        compare(&rt, rt.alloc(), input)?;
-    }
-    Ok(())
+    compare(&rt, rt.alloc(), &inputs)
 }
 
 #[test]
@@ -254,10 +250,7 @@ fn cuts_and_rooms_change_no_escape(rt: HostRuntime) -> Result<(), Fail> {
         malformed(b"\x1B$B\x1B$\"$", "\u{FFFD}あ\u{FFFD}", &[(3, 1), (6, 1)], 3),
         malformed(b"\x1B$B$\x1B(BA", "\u{FFFD}A", &[(3, 1)], 3),
     ];
-    for input in inputs {
-        compare(&rt, rt.alloc(), input)?;
-    }
-    Ok(())
+    compare(&rt, rt.alloc(), &inputs)
 }
 
 #[test]
@@ -279,8 +272,36 @@ fn cuts_and_rooms_change_no_set(rt: HostRuntime) -> Result<(), Fail> {
             3,
         ),
     ];
-    for input in inputs {
-        compare(&rt, rt.alloc(), input)?;
-    }
-    Ok(())
+    compare(&rt, rt.alloc(), &inputs)
+}
+
+#[test]
+fn the_decoder_decodes_each_set(rt: HostRuntime) {
+    end(&rt, &mut Iso2022JpDecoder::new(), b"\x5C\x7E", "\\~");
+    end(&rt, &mut Iso2022JpDecoder::new(), b"\x1B(J\x5C\x7E", "¥‾");
+    end(&rt, &mut Iso2022JpDecoder::new(), b"\x1B(I\x21\x5F", "｡ﾟ");
+    end(&rt, &mut Iso2022JpDecoder::new(), b"\x1B$@\x24\x22", "あ");
+    end(&rt, &mut Iso2022JpDecoder::new(), b"\x1B$B\x24\x22", "あ");
+}
+
+#[test]
+fn the_decoder_holds_an_escape_until_the_next_is_told(rt: HostRuntime) {
+    let mut decoder = Iso2022JpDecoder::new();
+    hold(&rt, &mut decoder, b"\x1B", 1);
+    hold(&rt, &mut decoder, b"(", 2);
+    hold(&rt, &mut decoder, b"J", 3);
+    hold(&rt, &mut decoder, b"\x1B", 4);
+    hold(&rt, &mut decoder, b"$", 5);
+    let want = (DecoderResult::Malformed(3, 3), 1, 3);
+    make_call(&rt, &mut decoder, (b"B", false), want, "");
+    hold(&rt, &mut decoder, b"\x24", 1);
+    end(&rt, &mut decoder, b"\x22", "あ");
+}
+
+#[test]
+fn the_decoder_reads_anew_in_the_set_in_force(rt: HostRuntime) {
+    let mut decoder = Iso2022JpDecoder::new();
+    hold(&rt, &mut decoder, b"\x1B$B\x1B$", 5);
+    stop(&rt, &mut decoder, b"\x22", (1, 1), 0, "");
+    end(&rt, &mut decoder, b"\x22", "あ");
 }

@@ -1,8 +1,9 @@
 //! UTF-8 (Encoding Standard 8.1). The malformed ones are those of Unicode's table 3-7 and definition D93b.
 
 use crate::harness::{
-    Call, Input, ReportingCall, compare_cuts, make_calls, make_reporting_calls, malformed, valid,
+    Call, Input, ReportingCall, compare_all, make_calls, make_reporting_calls, malformed, valid,
 };
+use enc_codec::Utf8Decoder;
 use enc_utf::plain::decode_utf_8;
 use encoding_rs::{CoderResult, DecoderResult, UTF_8};
 use std::alloc::Global;
@@ -209,8 +210,8 @@ fn cuts_and_rooms_change_nothing(rt: HostRuntime) -> Result<(), Fail> {
             3,
         ),
     ];
+    compare_all(&rt, rt.alloc(), (UTF_8, Utf8Decoder::new()), &inputs)?;
     for input in &inputs {
-        compare_cuts(&rt, rt.alloc(), UTF_8, input)?;
         compare_plain(&rt, rt.alloc(), input)?;
     }
     Ok(())
