@@ -253,10 +253,10 @@ fn char_of_pair(lead: u8, byte: u8) -> Option<char>
     List::Jis0208.at((lead as u32 - 0x21) * 94 + (byte as u32 - 0x21))
 }
 
-/// Whether it pays to look for a run: as in all that is well-formed, no byte of the first four has its high bit set.
+/// Whether it pays to look for a run: as in all that is well-formed, the first two bytes have no high bit set.
 #[inline(always)]
 fn is_seven_bit(src: &[u8]) -> bool {
-    src.len() >= 4 && (src[0] | src[1] | src[2] | src[3]) < 0x80
+    src.len() >= 2 && (src[0] | src[1]) < 0x80
 }
 
 /// The escape sequence in front, where a byte stands behind it that begins no other.

@@ -1,7 +1,8 @@
 -- The characters of well-formed UTF-8.
-use Rattle.std.proofs.Common.{◌≡◌, ℕ, ◌≤◌, true, List, [], ◌∷◌, ◌++◌, length, take, refl, ap, ◌∙◌, sym, arith, length-append, length-take}
+use Rattle.std.proofs.Common.{◌≡◌, ℕ, ◌<◌, ◌≤◌, true, List, [], ◌∷◌, ◌++◌, length, take, refl, ap, ◌∙◌, sym, arith, length-append, length-take}
 use Rattle.std.proofs.lemmas.Bool.{and_parts}
-use Rattle.std.proofs.lemmas.Str.{length-encode, len_utf8_bounds}
+use Rattle.std.proofs.Math.Utf8.{low_scalar}
+use Rattle.std.proofs.lemmas.Str.{length-encode, len_utf8_bounds, encode_ascii}
 use Rattle.std.specs.Char.{encode_utf8}
 use Rattle.std.specs.Str.{all_scalars, encode_utf8_all}
 use Rattle.enc_units.specs.Output.{Output, appended, units_of_text}
@@ -31,6 +32,10 @@ they_mean (c ∷ cs) e = let p = and_parts _ _ e in ((p.0, refl), they_mean cs p
 none_of : (cs : List ℕ) → length (encode_utf8_all cs) ≡ 0 → pieces_of cs ≡ []
 none_of [] e = refl
 none_of (c ∷ cs) e = absurd (omega (arith, length-append (encode_utf8 c) (encode_utf8_all cs), length-encode c, len_utf8_bounds c))
+
+-- an ASCII byte is its own character
+pub ascii_char : (b : ℕ) → b < 0x80 → IsUtf8Char (b ∷ []) b
+ascii_char b h = (low_scalar b (omega arith), sym (encode_ascii b h))
 
 -- they are read
 reads_utf8 : (src : List ℕ) (n : ℕ) → n ≤ length src → (u : IsWellFormedUtf8 (take n src)) → Reads IsUtf8Char src n u.0

@@ -1,20 +1,9 @@
-use Rattle.std.proofs.Common.{◌≡◌, ◌≤◌, length, take, ap, ◌∙◌, subst, arith, length-take}
-use Rattle.std.proofs.lemmas.List.{take-take}
-use Rattle.enc_units.specs.Output.{appended}
-use Rattle.enc_units.specs.Validity.{IsWellFormedUtf8}
-use Rattle.enc_units.proofs.Utf8CharsLemmas.{puts_utf8}
-use Rattle.enc_units.proofs.Utf8SliceLemmas.{grown_by}
+use Rattle.enc_units.proofs.PiecesLemmas.{then_rest, ascii_pieces}
+use Rattle.enc_units.proofs.Utf8CharsLemmas.{ascii_char}
 use Rattle.enc_units.proofs.utf8_slice.Utf8SliceUnits.put_utf8.Goals as goal
 
+pub returns-then-char_len-eq0 : goal.returns-then-char_len-eq0
+returns-then-char_len-eq0 c = ascii_pieces _ _ _ _ _ _ ascii_char c.append_ascii-at.ensures
+
 pub returns : goal.returns
-returns c =
-    let slice = c.args.self.now in
-    let src = c.args.src.now in
-    let n = c.utf8_front-taken.result in
-    let told = c.utf8_front-taken.ensures in
-    let most = c.min-most.result in
-    let least = c.min-most.ensures in
-    let few : n ≤ most = omega (arith, told.within, length-take most src) in
-    let copied : c.copy_from_slice.new.self ≡ take n src = c.copy_from_slice.ensures.after in
-    puts_utf8 _ _ src n (omega arith) (omega arith) (subst IsWellFormedUtf8 (take-take n most src few) told.utf8)
-    (grown_by slice.len n slice.dst.now c.copy_from_slice.new.self slice.dst.ghost_name (omega arith) (omega (arith, ap length copied, length-take n src)) ∙ ap (appended _) copied)
+returns c = then_rest _ _ _ _ _ _ _ _ _ c.split_at.ensures.back (ascii_pieces _ _ _ _ _ _ ascii_char c.append_ascii-at.ensures) c.append_utf8.ensures

@@ -1,0 +1,20 @@
+use Rattle.std.proofs.Common.{◌≡◌, ◌≤◌, length, take, ap, ◌∙◌, subst, arith, length-take}
+use Rattle.std.proofs.lemmas.List.{take-take}
+use Rattle.enc_units.specs.Output.{appended}
+use Rattle.enc_units.specs.Validity.{IsWellFormedUtf8}
+use Rattle.enc_units.proofs.Utf8CharsLemmas.{puts_utf8}
+use Rattle.enc_units.proofs.Utf8SliceLemmas.{grown_by}
+use Rattle.enc_units.proofs.utf8_slice.Utf8Slice.append_part.Goals as goal
+
+pub returns : goal.returns
+returns c =
+    let slice = c.args.self.now in
+    let src = c.args.src.now in
+    let n = c.utf8_front-taken.result in
+    let told = c.utf8_front-taken.ensures in
+    let most = c.min-most.result in
+    let least = c.min-most.ensures in
+    let few : n ≤ most = omega (arith, told.within, length-take most src) in
+    let copied : c.copy_from_slice.new.self ≡ take n src = c.copy_from_slice.ensures.after in
+    puts_utf8 _ _ src n (omega arith) (omega arith) (subst IsWellFormedUtf8 (take-take n most src few) told.utf8)
+    (grown_by slice.len n slice.dst.now c.copy_from_slice.new.self slice.dst.ghost_name (omega arith) (omega (arith, ap length copied, length-take n src)) ∙ ap (appended _) copied)
