@@ -2,9 +2,9 @@
 //! properties and byte order marks of all of them; look-ups in the indexes; and the calls of the decoders and of the front
 //! by themselves.
 //!
-//! This crate has tests alone. A codec's examples stand in a module of its own, as tables, and one harness runs
-//! them. What is expected comes from outside: the examples of the Encoding Standard, Unicode's tables, and the
-//! answers of other converters, as each table says.
+//! This crate has tests alone. A codec's examples stand in a module of its own in `codecs`, as tables, and one call
+//! runs them over the encoding and over the codec's decoder by itself. What is expected comes from outside: the
+//! examples of the Encoding Standard, Unicode's tables, and the answers of other converters, as each table says.
 #![tactic(auto)]
 
 #[cfg(test)]
