@@ -10,11 +10,11 @@ ghost use Rattle.enc_calls.specs.Replacing.{treatment_of};
 ghost use Rattle.encoding_rs.specs.Decoding.{fresh, finished, start_life, TellsHeld, DecodesInto, DecodesReplacing, DecodesReporting, IsAsBefore};
 
 use crate::bom::BomHandling;
-use enc_calls::CoderResult;
-use crate::text::convert_text;
 use crate::encoding::{Encoding, Id, codec_of};
 use crate::life_cycle::LifeCycle;
 use crate::sniffing::{Sniffed, sniff};
+use crate::text::convert_text;
+use enc_calls::CoderResult;
 use enc_codec::{DecoderResult, VariantDecoder};
 use enc_units::{Units, Utf8Slice};
 use std::marker::Model;
