@@ -57,6 +57,7 @@ impl DoubleByte for Big5 {
         }
     }
 
+    #[inline(always)]
     fn pair(lead: u8, trail: u8) -> Option<Text> {
         if !is_trail(trail) {
             return None;

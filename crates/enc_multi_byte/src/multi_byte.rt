@@ -6,7 +6,7 @@ ghost use Rattle.enc_machine.specs.CodecLaw.{Acts, IsReady, IsAtEnd};
 ghost use Rattle.enc_multi_byte.specs.MultiByte.{multi_byte_state, AreIncomplete, ArePrefixes, HasAscii, IsPair};
 
 use enc_machine::{ByteCodec, DecoderResult, Kind, Pending, RawDecoder, Shown, Step, Text, run};
-use enc_units::{Pieces, Units};
+use enc_units::{Pieces, Units, put_run};
 use std::marker::PhantomData;
 
 /// What the bytes in front of the input are.
@@ -199,7 +199,7 @@ impl<E: MultiByte> ByteCodec for MultiByteDecoder<E> {
     #[inline(always)]
     fn take_run<U: Units>(self, src: &[u8], out: &mut U) -> (MultiByteDecoder<E>, usize) {
         match self.pending {
-            Pending::Nothing => (self, out.put_pieces(self, src)),
+            Pending::Nothing => (self, put_run(out, self, src)),
             _ => (self, 0),
         }
     }

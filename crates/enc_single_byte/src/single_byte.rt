@@ -7,7 +7,7 @@ ghost use Rattle.enc_index.specs.Runs.{single_byte_runs};
 use crate::one_byte::show_byte;
 use enc_index::SingleByteIndex;
 use enc_machine::{ByteCodec, DecoderResult, RawDecoder, Shown, Step, run};
-use enc_units::{Pieces, Units};
+use enc_units::{Pieces, Units, put_run};
 
 /// The decoder of a legacy single-byte encoding (Encoding Standard 9.1), by the encoding's index: a byte below
 /// 0x80 is its own character, and any other has that of the pointer 0x80 less, or is malformed where that is
@@ -69,7 +69,7 @@ impl ByteCodec for SingleByteDecoder {
 
     #[inline(always)]
     fn take_run<U: Units>(self, src: &[u8], out: &mut U) -> (SingleByteDecoder, usize) {
-        (self, out.put_pieces(self, src))
+        (self, put_run(out, self, src))
     }
 
     fn next_step(self, byte: u8) -> Step<SingleByteDecoder> {

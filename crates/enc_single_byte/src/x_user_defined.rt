@@ -5,7 +5,7 @@ ghost use Rattle.enc_single_byte.specs.OneByte.{x_user_defined_char};
 
 use crate::one_byte::show_byte;
 use enc_machine::{ByteCodec, DecoderResult, RawDecoder, Shown, Step, run};
-use enc_units::{Pieces, Units};
+use enc_units::{Pieces, Units, put_run};
 
 /// The x-user-defined decoder (Encoding Standard 14.5): a byte below 0x80 is its own character, and 0x80 to 0xFF
 /// are U+F780 to U+F7FF.
@@ -56,7 +56,7 @@ impl ByteCodec for XUserDefinedDecoder {
 
     #[inline(always)]
     fn take_run<U: Units>(self, src: &[u8], out: &mut U) -> (XUserDefinedDecoder, usize) {
-        (self, out.put_pieces(self, src))
+        (self, put_run(out, self, src))
     }
 
     fn next_step(self, byte: u8) -> Step<XUserDefinedDecoder> {

@@ -1,6 +1,9 @@
 //! Pieces of an input: bytes that are a character.
 
 ghost use Rattle.std.specs.Prelude.{ℕ, ◌<◌, ◌≤◌, List, [], ◌∷◌, length, take, drop, IfSome, IsTrue};
+ghost use Rattle.enc_units.specs.Pieces.{PutsPieces};
+
+use crate::units::Units;
 
 /// Which bytes of an input are which character, whatever stands behind them.
 pub trait Pieces: Copy {
@@ -25,4 +28,14 @@ pub trait Pieces: Copy {
         let _pieces = self;
         false
     }
+}
+
+/// Writes the characters that the bytes in front of `src` are, as `put_pieces` of the output does, and answers how many
+/// bytes they have. It is a function by itself, and no part of the loop over bytes that calls it: so that one stays small
+/// enough to be compiled into the loop that replaces what is malformed. Takes no memory.
+#[inline(never)]
+pub fn put_run<U: Units, P: Pieces>(out: &mut U, pieces: P, src: &[u8]) -> usize
+    ensures { PutsPieces U.units_of (P.means pieces) (U.output out.old) (U.output out.new) src.now result }
+{
+    out.put_pieces(pieces, src)
 }

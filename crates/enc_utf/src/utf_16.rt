@@ -6,7 +6,7 @@ ghost use Rattle.enc_utf.specs.Utf16State.{with_pending, begins_with_lead, utf_1
 ghost use Rattle.enc_machine.specs.CodecLaw.{Acts};
 
 use enc_machine::{ByteCodec, DecoderResult, Kind, Pending, RawDecoder, Shown, Step, Text, run};
-use enc_units::{Pieces, Units};
+use enc_units::{Pieces, Units, put_run};
 use std::marker::Model;
 
 /// The shared UTF-16 decoder (Encoding Standard 14.2), big-endian or little-endian. Its pending bytes are a
@@ -224,7 +224,7 @@ impl ByteCodec for Utf16Decoder {
     #[inline(always)]
     fn take_run<U: Units>(self, src: &[u8], out: &mut U) -> (Utf16Decoder, usize) {
         match self.pending {
-            Pending::Nothing => (self, out.put_pieces(self, src)),
+            Pending::Nothing => (self, put_run(out, self, src)),
             _ => (self, 0),
         }
     }

@@ -6,4 +6,4 @@ use Rattle.enc_multi_byte.proofs.multi_byte.MultiByteDecoderByteCodec.take_run.G
 
 pub returns-in-Nothing : goal.returns-in-Nothing
 returns-in-Nothing g c =
-    takes_pieces g.U.Units.units_of (λ d. multi_byte_state g.E.MultiByte.prefix (pending_bytes d.pending)) c.args.self _ _ _ _ (ap pending_bytes c.in-Nothing.is) c.put_pieces.ensures
+    takes_pieces g.U.Units.units_of (λ d. multi_byte_state g.E.MultiByte.prefix (pending_bytes d.pending)) c.args.self _ _ _ _ (ap pending_bytes c.in-Nothing.is) c.put_run.ensures

@@ -5,4 +5,4 @@ use Rattle.enc_machine.proofs.PieceLemmas.{takes_pieces}
 use Rattle.enc_single_byte.proofs.single_byte.SingleByteDecoderByteCodec.take_run.Goals as goal
 
 pub returns : goal.returns
-returns g c = takes_pieces g.U.Units.units_of (λ d. single_byte_state (single_byte_runs d.index)) c.args.self _ _ _ _ refl c.put_pieces.ensures
+returns g c = takes_pieces g.U.Units.units_of (λ d. single_byte_state (single_byte_runs d.index)) c.args.self _ _ _ _ refl c.put_run.ensures

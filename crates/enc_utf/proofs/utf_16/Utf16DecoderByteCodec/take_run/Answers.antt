@@ -7,4 +7,4 @@ use Rattle.enc_utf.proofs.utf_16.Utf16DecoderByteCodec.take_run.Goals as goal
 pub returns-in-Nothing : goal.returns-in-Nothing
 returns-in-Nothing g c =
     takes_pieces g.U.Units.units_of utf_16_state c.args.self _ _ _ _
-    (ap (λ (s : Utf16State). pending_bytes s.pending) (sym c.self.view_is) ∙ ap pending_bytes c.in-Nothing.is) c.put_pieces.ensures
+    (ap (λ (s : Utf16State). pending_bytes s.pending) (sym c.self.view_is) ∙ ap pending_bytes c.in-Nothing.is) c.put_run.ensures
