@@ -3,17 +3,16 @@ use Rattle.std.specs.Prelude.{◌≡◌, ◌≢◌, ℕ, ◌-◌, ◌<◌, ◌�
 use Rattle.enc_machine.specs.declared.byte_codec.Text.{Text}
 use Rattle.enc_machine.specs.declared.byte_codec.Text.TheVariants.{One}
 use Rattle.enc_machine.specs.declared.byte_codec.Kind.TheVariants.{Valid}
-use Rattle.enc_machine.specs.declared.byte_codec.Kind.TheVariants as kinds
 use Rattle.enc_multi_byte.specs.declared.multi_byte.Prefix.{Prefix}
 use Rattle.enc_multi_byte.specs.declared.multi_byte.Prefix.TheVariants.{Complete, Malformed, Incomplete}
-use Rattle.enc_machine.specs.Segmentation.{Head, Rule}
+use Rattle.enc_machine.specs.Segmentation.{Head, Rule, malformed_head}
 use Rattle.enc_machine.specs.CodecLaw.{chars_of}
 use Rattle.enc_multi_byte.specs.DoubleByte.{IsText}
 use Rattle.enc_machine.specs.CodecState.{CodecState}
 
 -- the first n bytes are malformed
 abbrev pub malformed_front : ℕ → ℕ → Head
-malformed_front set n = record { more = n - 1; text = 0xFFFD ∷ []; kind = kinds.Malformed; set = set }
+malformed_front set n = malformed_head set (n - 1)
 
 -- What stands first, by what the bytes in front are and all bytes behind them: where they are incomplete, one byte
 -- more tells, and where there is none, all of them are malformed together.

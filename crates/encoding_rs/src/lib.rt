@@ -1,4 +1,4 @@
-//! Character encodings: the front layer, of which [`Decoder`] converts a stream of bytes, in chunks of any size,
+//! Character encodings, as callers use them: a [`Decoder`] converts a stream of bytes, in chunks of any size,
 //! into text, in buffers of any size, for the encodings of the WHATWG Encoding Standard. An [`Encoding`] is found by
 //! its constant, by a label or by a byte order mark.
 #![tactic(auto)]
