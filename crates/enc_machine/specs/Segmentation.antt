@@ -22,8 +22,8 @@ malformed_head set more = record { more = more; text = 0xFFFD ∷ []; kind = Mal
 
 -- a byte that stands alone: its character, or malformed where it has none
 abbrev pub one_byte_head : ℕ → Option ℕ → Head
-one_byte_head set (Some c) = record { more = 0; text = c ∷ []; kind = Valid; set = set }
-one_byte_head set None = record { more = 0; text = 0xFFFD ∷ []; kind = Malformed; set = set }
+one_byte_head set (Some c) = character_head set 0 c
+one_byte_head set None = malformed_head set 0
 
 -- An encoding's rule tells what stands first, by the designated character set, the first byte and all bytes
 -- after it, to the end of the input.
