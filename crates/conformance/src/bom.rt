@@ -2,8 +2,8 @@
 
 use crate::encodings::TABLE;
 use crate::harness::{
-    Call, Input, ReportingCall, Run, Use, compare_cuts_of, compare_uses, make_calls_of,
-    make_reporting_calls_of, malformed, new_decoder, reporting, run_whole, valid,
+    Call, Input, Others, ReportingCall, Row, Run, Use, compare_cuts_of, compare_mixed,
+    compare_uses, input_of, make_calls_of, make_reporting_calls_of, new_decoder, run_whole,
 };
 use encoding_rs::run::{BomHandling, DecodeCall, decode_run};
 use encoding_rs::{
@@ -14,132 +14,110 @@ use std::alloc::Global;
 use std::process::Abort;
 use std::test::Fail;
 
-/// A call with replacement.
-fn call<'a>(
-    src: &'a [u8],
-    last: bool,
-    room: usize,
-    want: (CoderResult, usize, usize, bool),
-    text: &'a str,
-) -> Call<'a> {
-    Call {
-        src,
-        last,
-        room,
-        want,
-        text: text.as_bytes(),
-    }
-}
-
 const EMPTY: CoderResult = CoderResult::InputEmpty;
 
 const FULL: CoderResult = CoderResult::OutputFull;
 
+const REPORTS_IN_TURN: &[ReportingCall<'static>] = &[
+    (b"\xEF\xBB", false, 8, (DecoderResult::InputEmpty, 2, 0), ""),
+    (b"\x61", true, 8, (DecoderResult::Malformed(1, 1), 0, 0), ""),
+    (b"\x61", true, 8, (DecoderResult::Malformed(1, 0), 0, 0), ""),
+    (b"\x61", true, 8, (DecoderResult::InputEmpty, 1, 1), "a"),
+];
+
+const REPORT_AT_THE_END: &[ReportingCall<'static>] = &[
+    (b"\xEF\xBB", false, 8, (DecoderResult::InputEmpty, 2, 0), ""),
+    (b"", true, 8, (DecoderResult::Malformed(2, 0), 0, 0), ""),
+    (b"", true, 8, (DecoderResult::InputEmpty, 0, 0), ""),
+];
+
 #[test]
 fn a_byte_behind_a_broken_mark_waits_for_its_report(rt: HostRuntime) {
-    let empty = DecoderResult::InputEmpty;
-    make_reporting_calls_of(
-        &rt,
-        &mut ISO_2022_JP.new_decoder(),
-        &[
-            reporting(b"\xEF\xBB", false, (empty, 2, 0), ""),
-            reporting(b"\x61", true, (DecoderResult::Malformed(1, 1), 0, 0), ""),
-            reporting(b"\x61", true, (DecoderResult::Malformed(1, 0), 0, 0), ""),
-            reporting(b"\x61", true, (empty, 1, 1), "a"),
-        ],
-    );
+    make_reporting_calls_of(&rt, &mut ISO_2022_JP.new_decoder(), REPORTS_IN_TURN);
     make_reporting_calls_of(
         &rt,
         &mut UTF_8.new_decoder_with_bom_removal(),
-        &[
-            reporting(b"\xEF\xBB", false, (empty, 2, 0), ""),
-            reporting(b"", true, (DecoderResult::Malformed(2, 0), 0, 0), ""),
-            reporting(b"", true, (empty, 0, 0), ""),
-        ],
+        REPORT_AT_THE_END,
     );
 }
+
+const ROOM_FOR_ONE: &[Call<'static>] = &[
+    (b"\xEF\xBB", false, 4, (EMPTY, 2, 0, false), ""),
+    (b"\x61\x62", true, 4, (FULL, 0, 3, false), "\u{F7EF}"),
+    (b"\x61\x62", true, 4, (FULL, 1, 4, false), "\u{F7BB}a"),
+    (b"\x62", true, 4, (EMPTY, 1, 1, false), "b"),
+];
+
+const NOTHING_OFFERED: &[Call<'static>] = &[
+    (b"\xEF\xBB", false, 4, (EMPTY, 2, 0, false), ""),
+    (b"", false, 4, (EMPTY, 0, 0, false), ""),
+    (b"\x61", false, 3, (FULL, 0, 3, false), "\u{F7EF}"),
+    (b"", false, 2, (FULL, 0, 0, false), ""),
+    (b"", false, 3, (EMPTY, 0, 3, false), "\u{F7BB}"),
+    (b"\x61", true, 3, (EMPTY, 1, 1, false), "a"),
+];
 
 #[test]
 fn a_byte_behind_a_broken_mark_waits_for_room(rt: HostRuntime) {
-    make_calls_of(
-        &rt,
-        &mut X_USER_DEFINED.new_decoder(),
-        &[
-            call(b"\xEF\xBB", false, 4, (EMPTY, 2, 0, false), ""),
-            call(b"\x61\x62", true, 4, (FULL, 0, 3, false), "\u{F7EF}"),
-            call(b"\x61\x62", true, 4, (FULL, 1, 4, false), "\u{F7BB}a"),
-            call(b"\x62", true, 4, (EMPTY, 1, 1, false), "b"),
-        ],
-    );
+    make_calls_of(&rt, &mut X_USER_DEFINED.new_decoder(), ROOM_FOR_ONE);
     // it comes out of a call that is offered nothing
-    make_calls_of(
-        &rt,
-        &mut X_USER_DEFINED.new_decoder(),
-        &[
-            call(b"\xEF\xBB", false, 4, (EMPTY, 2, 0, false), ""),
-            call(b"", false, 4, (EMPTY, 0, 0, false), ""),
-            call(b"\x61", false, 3, (FULL, 0, 3, false), "\u{F7EF}"),
-            call(b"", false, 2, (FULL, 0, 0, false), ""),
-            call(b"", false, 3, (EMPTY, 0, 3, false), "\u{F7BB}"),
-            call(b"\x61", true, 3, (EMPTY, 1, 1, false), "a"),
-        ],
-    );
+    make_calls_of(&rt, &mut X_USER_DEFINED.new_decoder(), NOTHING_OFFERED);
 }
+
+const NO_ROOM: &[Call<'static>] = &[
+    (b"\xEF", false, 0, (EMPTY, 1, 0, false), ""),
+    (b"\x41", true, 0, (FULL, 0, 0, false), ""),
+    (b"\x41", true, 0, (FULL, 0, 0, false), ""),
+    (b"\x41", true, 4, (EMPTY, 1, 4, true), "\u{FFFD}A"),
+];
+
+const NO_ROOM_FOR_A_LEAD: &[Call<'static>] = &[
+    (b"\xEF\xBB", false, 0, (EMPTY, 2, 0, false), ""),
+    (b"\xB1", true, 0, (FULL, 0, 0, false), ""),
+    (b"\xB1", true, 0, (FULL, 0, 0, false), ""),
+    (b"\xB1", true, 6, (EMPTY, 1, 6, true), "\u{FFFD}ｱ"),
+];
+
+const OTHER_BYTES_BEHIND: &[Call<'static>] = &[
+    (b"\xEF", false, 0, (EMPTY, 1, 0, false), ""),
+    (b"\x41", false, 0, (FULL, 0, 0, false), ""),
+    (b"\xBB\xBF\x41", true, 1, (EMPTY, 3, 1, false), "A"),
+];
 
 #[test]
 fn without_room_a_decoder_stays_as_it_was(rt: HostRuntime) {
-    make_calls_of(
-        &rt,
-        &mut SHIFT_JIS.new_decoder(),
-        &[
-            call(b"\xEF", false, 0, (EMPTY, 1, 0, false), ""),
-            call(b"\x41", true, 0, (FULL, 0, 0, false), ""),
-            call(b"\x41", true, 0, (FULL, 0, 0, false), ""),
-            call(b"\x41", true, 4, (EMPTY, 1, 4, true), "\u{FFFD}A"),
-        ],
-    );
+    make_calls_of(&rt, &mut SHIFT_JIS.new_decoder(), NO_ROOM);
     // BB isn't lost where EF is a lead
-    make_calls_of(
-        &rt,
-        &mut SHIFT_JIS.new_decoder(),
-        &[
-            call(b"\xEF\xBB", false, 0, (EMPTY, 2, 0, false), ""),
-            call(b"\xB1", true, 0, (FULL, 0, 0, false), ""),
-            call(b"\xB1", true, 0, (FULL, 0, 0, false), ""),
-            call(b"\xB1", true, 6, (EMPTY, 1, 6, true), "\u{FFFD}ｱ"),
-        ],
-    );
+    make_calls_of(&rt, &mut SHIFT_JIS.new_decoder(), NO_ROOM_FOR_A_LEAD);
     // it still looks for the mark where the bytes behind are others
-    make_calls_of(
-        &rt,
-        &mut SHIFT_JIS.new_decoder(),
-        &[
-            call(b"\xEF", false, 0, (EMPTY, 1, 0, false), ""),
-            call(b"\x41", false, 0, (FULL, 0, 0, false), ""),
-            call(b"\xBB\xBF\x41", true, 1, (EMPTY, 3, 1, false), "A"),
-        ],
-    );
+    make_calls_of(&rt, &mut SHIFT_JIS.new_decoder(), OTHER_BYTES_BEHIND);
 }
+
+const BEHIND_THE_MARK: &[Call<'static>] = &[(b"\x61", true, 1, (EMPTY, 1, 1, false), "a")];
+
+const MARK_IN_TWO: &[Call<'static>] = &[
+    (b"\xFE", false, 4, (EMPTY, 1, 0, false), ""),
+    (b"\xFF\x00\x41", true, 4, (EMPTY, 3, 1, false), "A"),
+];
 
 #[test]
 fn a_mark_tells_the_encoding(rt: HostRuntime) {
     let mut decoder = WINDOWS_1252.new_decoder();
-    let whole = call(b"\xEF\xBB\xBF\x61", false, 0, (FULL, 3, 0, false), "");
+    let whole = (
+        b"\xEF\xBB\xBF\x61".as_slice(),
+        false,
+        0,
+        (FULL, 3, 0, false),
+        "",
+    );
     make_calls_of(&rt, &mut decoder, &[whole]);
     assert_eq!(rt; decoder.encoding(), UTF_8);
-    make_calls_of(
-        &rt,
-        &mut decoder,
-        &[call(b"\x61", true, 1, (EMPTY, 1, 1, false), "a")],
-    );
+    make_calls_of(&rt, &mut decoder, BEHIND_THE_MARK);
     assert_eq!(rt; decoder.encoding(), UTF_8);
     make_calls_of(
         &rt,
         &mut UTF_16BE.new_decoder_with_bom_removal(),
-        &[
-            call(b"\xFE", false, 4, (EMPTY, 1, 0, false), ""),
-            call(b"\xFF\x00\x41", true, 4, (EMPTY, 3, 1, false), "A"),
-        ],
+        MARK_IN_TWO,
     );
 }
 
@@ -222,6 +200,16 @@ fn places_behind(
     Ok(places)
 }
 
+/// The encodings whose decoders are run into other outputs than UTF-8 and through mixed calls too, behind each mark.
+const INTO_ALL: [Encoding; 6] = [
+    UTF_8,
+    UTF_16LE,
+    WINDOWS_1252,
+    SHIFT_JIS,
+    ISO_2022_JP,
+    REPLACEMENT,
+];
+
 /// Decoders of one encoding that look for some marks make, of each cut and in each room from 0 to 7, what a decoder of
 /// `by` that looks for none makes at once of the bytes from `front` on, with room enough. Calls that neither read nor
 /// write, in rooms from 0 to 3, answer the same when they are made again, and nothing is lost by them.
@@ -232,22 +220,14 @@ fn compare_with_plain(
     (by, front): (Encoding, usize),
     bytes: &[u8],
 ) -> Result<(), Fail> {
-    let plain = Use {
-        encoding: by,
-        handling: BomHandling::Off,
+    let plain = Use::new(by, BomHandling::Off);
+    let reporting = Use {
         reporting: true,
-        widens: false,
+        ..plain
     };
     let (_, behind) = bytes.split_at(front.min(bytes.len()));
-    let run = run_whole(alloc, plain, behind)?;
-    let replaced = run_whole(
-        alloc,
-        Use {
-            reporting: false,
-            ..plain
-        },
-        behind,
-    )?;
+    let run = run_whole(rt, alloc, reporting, behind)?;
+    let replaced = run_whole(rt, alloc, plain, behind)?;
     assert_eq!(rt; run.text.as_slice(), replaced.text.as_slice());
     assert_eq!(rt; run.had_errors, replaced.had_errors);
     let places = places_behind(rt, alloc, &run, front)?;
@@ -257,16 +237,17 @@ fn compare_with_plain(
         malformed: places.as_slice(),
         room: 4,
     };
-    for (widens, rooms) in [(false, 8), (true, 4)] {
-        let way = Use {
-            encoding,
-            handling,
-            reporting: false,
-            widens,
-        };
-        compare_uses(rt, alloc, way, &input, rooms)?;
+    let way = Use::new(encoding, handling);
+    let widening = Use {
+        widens: true,
+        ..way
+    };
+    compare_uses(rt, alloc, (widening, Others::No), &input, 4)?;
+    if INTO_ALL.contains(&encoding) {
+        compare_uses(rt, alloc, (way, Others::Few), &input, 8)?;
+        return compare_mixed(rt, alloc, way, &input);
     }
-    Ok(())
+    compare_uses(rt, alloc, (way, Others::No), &input, 8)
 }
 
 #[test]
@@ -329,65 +310,81 @@ fn whole_marks_are_dropped(rt: HostRuntime) -> Result<(), Fail> {
     Ok(())
 }
 
+const BROKEN_ROWS: &[(Encoding, Row)] = &[
+    (IBM866, (b"\xEF\xBBab", "\u{44F}\u{2557}ab", &[], 3)),
+    (
+        X_USER_DEFINED,
+        (b"\xEF\xBBab", "\u{F7EF}\u{F7BB}ab", &[], 3),
+    ),
+    (
+        ISO_2022_JP,
+        (b"\xEF\xBBab", "\u{FFFD}\u{FFFD}ab", &[(0, 1), (1, 1)], 3),
+    ),
+    (X_USER_DEFINED, (b"\xFE\x80", "\u{F7FE}\u{F780}", &[], 3)),
+    (WINDOWS_1252, (b"\xEF\xBB\xBE", "ï»¾", &[], 2)),
+    (UTF_8, (b"\xEF\xBBab", "\u{FFFD}ab", &[(0, 2)], 3)),
+    (UTF_8, (b"\xEF\xBB\xBE", "\u{FEFE}", &[], 3)),
+    (UTF_16BE, (b"\xFE\xFE", "\u{FEFE}", &[], 3)),
+    (UTF_16LE, (b"\xFFab", "\u{61FF}\u{FFFD}", &[(2, 1)], 3)),
+    (SHIFT_JIS, (b"\xEFA", "\u{FFFD}A", &[(0, 1)], 3)),
+    (REPLACEMENT, (b"\xEF\xBBab", "\u{FFFD}", &[(0, 1)], 3)),
+];
+
 #[test]
 fn bytes_of_a_broken_mark_have_their_text(rt: HostRuntime) -> Result<(), Fail> {
-    let two = "\u{FFFD}\u{FFFD}ab";
-    let rows = [
-        (IBM866, valid(b"\xEF\xBBab", "\u{44F}\u{2557}ab", 3)),
-        (
-            X_USER_DEFINED,
-            valid(b"\xEF\xBBab", "\u{F7EF}\u{F7BB}ab", 3),
-        ),
-        (
-            ISO_2022_JP,
-            malformed(b"\xEF\xBBab", two, &[(0, 1), (1, 1)], 3),
-        ),
-        (X_USER_DEFINED, valid(b"\xFE\x80", "\u{F7FE}\u{F780}", 3)),
-        (WINDOWS_1252, valid(b"\xEF\xBB\xBE", "ï»¾", 2)),
-        (UTF_8, malformed(b"\xEF\xBBab", "\u{FFFD}ab", &[(0, 2)], 3)),
-        (UTF_8, valid(b"\xEF\xBB\xBE", "\u{FEFE}", 3)),
-        (UTF_16BE, valid(b"\xFE\xFE", "\u{FEFE}", 3)),
-        (
-            UTF_16LE,
-            malformed(b"\xFFab", "\u{61FF}\u{FFFD}", &[(2, 1)], 3),
-        ),
-        (SHIFT_JIS, malformed(b"\xEFA", "\u{FFFD}A", &[(0, 1)], 3)),
-        (
-            REPLACEMENT,
-            malformed(b"\xEF\xBBab", "\u{FFFD}", &[(0, 1)], 3),
-        ),
-    ];
-    for (encoding, input) in &rows {
-        compare_cuts_of(&rt, rt.alloc(), *encoding, BomHandling::Sniff, input)?;
-        compare_cuts_of(&rt, rt.alloc(), *encoding, BomHandling::Remove, input)?;
+    for (encoding, row) in BROKEN_ROWS {
+        let input = input_of(row);
+        for handling in [BomHandling::Sniff, BomHandling::Remove] {
+            let way = Use::new(*encoding, handling);
+            compare_cuts_of(&rt, rt.alloc(), (way, Others::All), &input)?;
+        }
     }
     Ok(())
 }
 
+const MARKED_ROWS: &[(Encoding, Row)] = &[
+    (
+        UTF_8,
+        (
+            b"\xEF\xBB\xBFa\xC3\xA9\xE2\x82\xAC\xF0\x9F\x92\xA9",
+            "aé€💩",
+            &[],
+            4,
+        ),
+    ),
+    (
+        UTF_16BE,
+        (
+            b"\xFE\xFF\x00a\x00\xE9\x20\xAC\xD8\x3D\xDC\xA9",
+            "aé€💩",
+            &[],
+            4,
+        ),
+    ),
+    (
+        UTF_16LE,
+        (
+            b"\xFF\xFEa\x00\xE9\x00\xAC\x20\x3D\xD8\xA9\xDC",
+            "aé€💩",
+            &[],
+            4,
+        ),
+    ),
+    (UTF_8, (b"\xEF\xBB\xBF\xEF\xBBa", "\u{FFFD}a", &[(3, 2)], 3)),
+    (UTF_8, (b"\xEF\xBB\xBF\xEF\xBB\xBFa", "\u{FEFF}a", &[], 3)),
+    (
+        UTF_16BE,
+        (b"\xFE\xFF\xFE\xFF\xFF\xFE", "\u{FEFF}\u{FFFE}", &[], 3),
+    ),
+    (UTF_16LE, (b"\xFF\xFEa\x00b", "a\u{FFFD}", &[(4, 1)], 3)),
+];
+
 #[test]
 fn text_behind_a_mark_is_of_its_encoding(rt: HostRuntime) -> Result<(), Fail> {
-    let big = b"\xFE\xFF\x00a\x00\xE9\x20\xAC\xD8\x3D\xDC\xA9";
-    let little = b"\xFF\xFEa\x00\xE9\x00\xAC\x20\x3D\xD8\xA9\xDC";
-    let rows = [
-        (UTF_8, valid("\u{FEFF}aé€💩".as_bytes(), "aé€💩", 4)),
-        (UTF_16BE, valid(big, "aé€💩", 4)),
-        (UTF_16LE, valid(little, "aé€💩", 4)),
-        (
-            UTF_8,
-            malformed(b"\xEF\xBB\xBF\xEF\xBBa", "\u{FFFD}a", &[(3, 2)], 3),
-        ),
-        (UTF_8, valid("\u{FEFF}\u{FEFF}a".as_bytes(), "\u{FEFF}a", 3)),
-        (
-            UTF_16BE,
-            valid(b"\xFE\xFF\xFE\xFF\xFF\xFE", "\u{FEFF}\u{FFFE}", 3),
-        ),
-        (
-            UTF_16LE,
-            malformed(b"\xFF\xFEa\x00b", "a\u{FFFD}", &[(4, 1)], 3),
-        ),
-    ];
-    for (told, input) in &rows {
-        compare_cuts_of(&rt, rt.alloc(), *told, BomHandling::Remove, input)?;
+    for (told, row) in MARKED_ROWS {
+        let input = input_of(row);
+        let removing = Use::new(*told, BomHandling::Remove);
+        compare_cuts_of(&rt, rt.alloc(), (removing, Others::All), &input)?;
         for encoding in [
             UTF_8,
             UTF_16BE,
@@ -397,32 +394,42 @@ fn text_behind_a_mark_is_of_its_encoding(rt: HostRuntime) -> Result<(), Fail> {
             ISO_2022_JP,
             REPLACEMENT,
         ] {
-            compare_cuts_of(&rt, rt.alloc(), encoding, BomHandling::Sniff, input)?;
+            let sniffing = Use::new(encoding, BomHandling::Sniff);
+            compare_cuts_of(&rt, rt.alloc(), (sniffing, Others::Few), &input)?;
         }
     }
     Ok(())
 }
 
+const OTHER_MARKS: &[(Encoding, Row)] = &[
+    (WINDOWS_1252, (b"\xEF\xBB\xBFa", "ï»¿a", &[], 2)),
+    (WINDOWS_1252, (b"\xFE\xFF\xFF\xFE", "þÿÿþ", &[], 2)),
+    (
+        IBM866,
+        (b"\xEF\xBB\xBFa", "\u{44F}\u{2557}\u{2510}a", &[], 3),
+    ),
+    (
+        UTF_8,
+        (b"\xFE\xFFa", "\u{FFFD}\u{FFFD}a", &[(0, 1), (1, 1)], 3),
+    ),
+    (
+        UTF_8,
+        (b"\xFF\xFEa", "\u{FFFD}\u{FFFD}a", &[(0, 1), (1, 1)], 3),
+    ),
+    (UTF_16BE, (b"\xFF\xFE\x00a", "\u{FFFE}a", &[], 3)),
+    (UTF_16BE, (b"\xEF\xBB\xBFa", "\u{EFBB}\u{BF61}", &[], 3)),
+    (UTF_16LE, (b"\xFE\xFFa\x00", "\u{FFFE}a", &[], 3)),
+    (UTF_16LE, (b"\xEF\xBB\xBFa", "\u{BBEF}\u{61BF}", &[], 3)),
+];
+
 #[test]
 fn removal_leaves_the_marks_of_other_encodings(rt: HostRuntime) -> Result<(), Fail> {
-    let two = "\u{FFFD}\u{FFFD}a";
-    let rows = [
-        (WINDOWS_1252, valid(b"\xEF\xBB\xBFa", "ï»¿a", 2)),
-        (WINDOWS_1252, valid(b"\xFE\xFF\xFF\xFE", "þÿÿþ", 2)),
-        (
-            IBM866,
-            valid(b"\xEF\xBB\xBFa", "\u{44F}\u{2557}\u{2510}a", 3),
-        ),
-        (UTF_8, malformed(b"\xFE\xFFa", two, &[(0, 1), (1, 1)], 3)),
-        (UTF_8, malformed(b"\xFF\xFEa", two, &[(0, 1), (1, 1)], 3)),
-        (UTF_16BE, valid(b"\xFF\xFE\x00a", "\u{FFFE}a", 3)),
-        (UTF_16BE, valid(b"\xEF\xBB\xBFa", "\u{EFBB}\u{BF61}", 3)),
-        (UTF_16LE, valid(b"\xFE\xFFa\x00", "\u{FFFE}a", 3)),
-        (UTF_16LE, valid(b"\xEF\xBB\xBFa", "\u{BBEF}\u{61BF}", 3)),
-    ];
-    for (encoding, input) in &rows {
-        compare_cuts_of(&rt, rt.alloc(), *encoding, BomHandling::Remove, input)?;
-        compare_cuts_of(&rt, rt.alloc(), *encoding, BomHandling::Off, input)?;
+    for (encoding, row) in OTHER_MARKS {
+        let input = input_of(row);
+        for handling in [BomHandling::Remove, BomHandling::Off] {
+            let way = Use::new(*encoding, handling);
+            compare_cuts_of(&rt, rt.alloc(), (way, Others::Few), &input)?;
+        }
     }
     Ok(())
 }
@@ -435,38 +442,85 @@ fn compare_run(
     bytes: &[u8],
     (text, had_errors): (&str, bool),
 ) -> Result<(), Fail> {
-    let calls = [DecodeCall { offer: 1, room: 4 }; 16];
+    let calls = [DecodeCall {
+        utf16: false,
+        replace: true,
+        offer: 1,
+        room: 4,
+    }; 16];
     let report = decode_run(alloc, encoding, handling, bytes, &calls)?;
     assert!(rt; report.finished && report.calls <= 16);
-    assert_eq!(rt; report.text.as_slice(), text.as_bytes());
+    assert_eq!(rt; report.text.as_bytes(), text.as_bytes());
     assert_eq!(rt; (report.read, report.had_errors), (bytes.len(), had_errors));
     let report = decode_run(alloc, encoding, handling, bytes, &calls[..1])?;
     assert_eq!(rt; (report.finished, report.calls, report.read), (false, 1, 1));
-    assert!(rt; text.as_bytes().starts_with(report.text.as_slice()));
+    assert!(rt; text.as_bytes().starts_with(report.text.as_bytes()));
     Ok(())
 }
 
+const RUN_ROWS: &[((Encoding, BomHandling), &[u8], (&str, bool))] = &[
+    (
+        (UTF_16BE, BomHandling::Off),
+        b"\xFE\xFF\x00a",
+        ("\u{FEFF}a", false),
+    ),
+    (
+        (UTF_16BE, BomHandling::Sniff),
+        b"\xFE\xFF\x00a",
+        ("a", false),
+    ),
+    (
+        (UTF_16BE, BomHandling::Remove),
+        b"\xFE\xFF\x00a",
+        ("a", false),
+    ),
+    (
+        (UTF_16LE, BomHandling::Off),
+        b"\xFE\xFF\x00a",
+        ("\u{FFFE}\u{6100}", false),
+    ),
+    (
+        (UTF_16LE, BomHandling::Sniff),
+        b"\xFE\xFF\x00a",
+        ("a", false),
+    ),
+    (
+        (UTF_16LE, BomHandling::Remove),
+        b"\xFE\xFF\x00a",
+        ("\u{FFFE}\u{6100}", false),
+    ),
+    (
+        (WINDOWS_1252, BomHandling::Off),
+        b"\xEF\xBB\xBFa",
+        ("ï»¿a", false),
+    ),
+    (
+        (WINDOWS_1252, BomHandling::Sniff),
+        b"\xEF\xBB\xBFa",
+        ("a", false),
+    ),
+    (
+        (WINDOWS_1252, BomHandling::Remove),
+        b"\xEF\xBB\xBFa",
+        ("ï»¿a", false),
+    ),
+    (
+        (UTF_8, BomHandling::Off),
+        b"\xEF\xBB\xBFa",
+        ("\u{FEFF}a", false),
+    ),
+    ((UTF_8, BomHandling::Remove), b"\xEF\xBB\xBFa", ("a", false)),
+    (
+        (UTF_8, BomHandling::Sniff),
+        b"\xEF\xBBa",
+        ("\u{FFFD}a", true),
+    ),
+];
+
 #[test]
 fn runs_look_for_the_marks_that_they_are_told(rt: HostRuntime) -> Result<(), Fail> {
-    let (off, sniff, remove) = (BomHandling::Off, BomHandling::Sniff, BomHandling::Remove);
-    let big: &[u8] = b"\xFE\xFF\x00a";
-    let utf_8: &[u8] = b"\xEF\xBB\xBFa";
-    let rows: [((Encoding, BomHandling), &[u8], (&str, bool)); 12] = [
-        ((UTF_16BE, off), big, ("\u{FEFF}a", false)),
-        ((UTF_16BE, sniff), big, ("a", false)),
-        ((UTF_16BE, remove), big, ("a", false)),
-        ((UTF_16LE, off), big, ("\u{FFFE}\u{6100}", false)),
-        ((UTF_16LE, sniff), big, ("a", false)),
-        ((UTF_16LE, remove), big, ("\u{FFFE}\u{6100}", false)),
-        ((WINDOWS_1252, off), utf_8, ("ï»¿a", false)),
-        ((WINDOWS_1252, sniff), utf_8, ("a", false)),
-        ((WINDOWS_1252, remove), utf_8, ("ï»¿a", false)),
-        ((UTF_8, off), utf_8, ("\u{FEFF}a", false)),
-        ((UTF_8, remove), utf_8, ("a", false)),
-        ((UTF_8, sniff), b"\xEF\xBBa", ("\u{FFFD}a", true)),
-    ];
-    for (way, bytes, want) in rows {
-        compare_run(&rt, rt.alloc(), way, bytes, want)?;
+    for (way, bytes, want) in RUN_ROWS {
+        compare_run(&rt, rt.alloc(), *way, bytes, *want)?;
     }
     Ok(())
 }

@@ -1,5 +1,7 @@
-//! What runs the examples: over decoders of encodings here, and over a decoder by itself in `raw`.
+//! What runs the examples: over decoders of encodings here, into each output, and over a decoder by itself in `raw`.
 
+mod mixed;
+mod outputs;
 mod raw;
 pub mod raw_calls;
 mod rows;
@@ -7,9 +9,11 @@ mod rows;
 use enc_machine::RawDecoder;
 use encoding_rs::run::BomHandling;
 use encoding_rs::{CoderResult, Decoder, DecoderResult, Encoding};
-pub use raw::{compare_raw_all, compare_raw_cuts};
-pub use rows::{Input, MOST_ROOM, malformed, valid};
-use rows::{Cut, REPLACEMENT_CHARACTER};
+pub use mixed::compare_mixed;
+pub use outputs::{ALL_OUTPUTS, Answer, Given, Output, call_into};
+pub use raw::compare_raw_cuts;
+use rows::REPLACEMENT_CHARACTER;
+pub use rows::{Cut, Input, MOST_ROOM, Row, input_of};
 use std::alloc::{AllocError, Global};
 use std::process::Abort;
 use std::test::Fail;
@@ -17,42 +21,24 @@ use std::test::Fail;
 /// No input here takes so many calls for a chunk.
 const MOST_CALLS: usize = 64;
 
-/// One call with replacement, and what has to come of it: result, bytes read, bytes written, whether something
-/// was replaced, and the text.
-#[derive(Clone, Copy)]
-pub struct Call<'a> {
-    pub src: &'a [u8],
-    pub last: bool,
-    pub room: usize,
-    pub want: (CoderResult, usize, usize, bool),
-    pub text: &'a [u8],
-}
+/// One call with replacement: its bytes, whether they are the last ones, and its room; and what has to come of it: result,
+/// bytes read, bytes written, whether something was replaced; and the text.
+pub type Call<'a> = (
+    &'a [u8],
+    bool,
+    usize,
+    (CoderResult, usize, usize, bool),
+    &'a str,
+);
 
 /// One call without replacement.
-#[derive(Clone, Copy)]
-pub struct ReportingCall<'a> {
-    pub src: &'a [u8],
-    pub last: bool,
-    pub room: usize,
-    pub want: (DecoderResult, usize, usize),
-    pub text: &'a [u8],
-}
-
-/// One call without replacement, with a room of eight bytes.
-pub fn reporting<'a>(
-    src: &'a [u8],
-    last: bool,
-    want: (DecoderResult, usize, usize),
-    text: &'a str,
-) -> ReportingCall<'a> {
-    ReportingCall {
-        src,
-        last,
-        room: 8,
-        want,
-        text: text.as_bytes(),
-    }
-}
+pub type ReportingCall<'a> = (
+    &'a [u8],
+    bool,
+    usize,
+    (DecoderResult, usize, usize),
+    &'a str,
+);
 
 /// A new decoder that looks for these byte order marks.
 pub fn new_decoder(encoding: Encoding, handling: BomHandling) -> Decoder {
@@ -70,33 +56,24 @@ pub fn make_calls(rt: &impl Abort, encoding: Encoding, calls: &[Call<'_>]) {
 
 /// Makes the calls with this decoder.
 pub fn make_calls_of(rt: &impl Abort, decoder: &mut Decoder, calls: &[Call<'_>]) {
-    for call in calls {
-        assert!(rt; !decoder.is_finished() && call.room <= MOST_ROOM);
+    for (src, last, room, want, text) in calls {
+        assert!(rt; !decoder.is_finished() && *room <= MOST_ROOM);
         let mut buffer = [0; MOST_ROOM];
-        let outcome = decoder.decode_to_utf8(call.src, &mut buffer[..call.room], call.last);
-        assert_eq!(rt; outcome, call.want);
+        let outcome = decoder.decode_to_utf8(src, &mut buffer[..*room], *last);
+        assert_eq!(rt; outcome, *want);
         assert!(rt; outcome.2 <= MOST_ROOM);
-        assert_eq!(rt; &buffer[..outcome.2], call.text);
+        assert_eq!(rt; &buffer[..outcome.2], text.as_bytes());
         assert_eq!(rt;
             decoder.is_finished(),
-            call.last && outcome.0 == CoderResult::InputEmpty
+            *last && outcome.0 == CoderResult::InputEmpty
         );
     }
 }
 
 /// One call with much room reads all and replaces nothing.
 pub fn decode_whole(rt: &impl Abort, encoding: Encoding, src: &[u8], text: &str) {
-    make_calls(
-        rt,
-        encoding,
-        &[Call {
-            src,
-            last: true,
-            room: MOST_ROOM,
-            want: (CoderResult::InputEmpty, src.len(), text.len(), false),
-            text: text.as_bytes(),
-        }],
-    );
+    let want = (CoderResult::InputEmpty, src.len(), text.len(), false);
+    make_calls(rt, encoding, &[(src, true, MOST_ROOM, want, text)]);
 }
 
 /// Makes the calls without replacement with one decoder that looks for no byte order mark.
@@ -110,20 +87,17 @@ pub fn make_reporting_calls_of(
     decoder: &mut Decoder,
     calls: &[ReportingCall<'_>],
 ) {
-    for call in calls {
-        assert!(rt; !decoder.is_finished() && call.room <= MOST_ROOM);
+    for (src, last, room, want, text) in calls {
+        assert!(rt; !decoder.is_finished() && *room <= MOST_ROOM);
         let mut buffer = [0; MOST_ROOM];
-        let outcome = decoder.decode_to_utf8_without_replacement(
-            call.src,
-            &mut buffer[..call.room],
-            call.last,
-        );
-        assert_eq!(rt; outcome, call.want);
+        let dst = &mut buffer[..*room];
+        let outcome = decoder.decode_to_utf8_without_replacement(src, dst, *last);
+        assert_eq!(rt; outcome, *want);
         assert!(rt; outcome.2 <= MOST_ROOM);
-        assert_eq!(rt; &buffer[..outcome.2], call.text);
+        assert_eq!(rt; &buffer[..outcome.2], text.as_bytes());
         assert_eq!(rt;
             decoder.is_finished(),
-            call.last && outcome.0 == DecoderResult::InputEmpty
+            *last && outcome.0 == DecoderResult::InputEmpty
         );
     }
 }
@@ -133,10 +107,24 @@ pub fn make_reporting_calls_of(
 pub struct Use {
     pub encoding: Encoding,
     pub handling: BomHandling,
+    pub output: Output,
     /// The calls are without replacement, and the caller puts U+FFFD where a malformed sequence is reported.
     pub reporting: bool,
     /// A call that neither reads nor writes is made again, and then once more with room enough.
     pub widens: bool,
+}
+
+impl Use {
+    /// Decodes into UTF-8 with replacement, by a decoder that looks for these byte order marks.
+    pub fn new(encoding: Encoding, handling: BomHandling) -> Use {
+        Use {
+            encoding,
+            handling,
+            output: Output::Utf8,
+            reporting: false,
+            widens: false,
+        }
+    }
 }
 
 /// What the calls of one decoder have come to.
@@ -194,52 +182,37 @@ fn take_note(run: &mut Run, is_idle: bool) {
 }
 
 /// Offers a chunk, and again what is unread of it, until all is read or a call neither reads nor writes.
-fn offer(run: &mut Run, chunk: &[u8], last: bool, room: usize) -> Result<(), AllocError> {
-    if run.way.reporting {
-        offer_reporting(run, chunk, last, room)
-    } else {
-        offer_replacing(run, chunk, last, room)
-    }
-}
-
-fn offer_replacing(run: &mut Run, chunk: &[u8], last: bool, room: usize) -> Result<(), AllocError> {
+fn offer(
+    rt: &impl Abort,
+    alloc: Global,
+    run: &mut Run,
+    (chunk, last): (&[u8], bool),
+    room: usize,
+) -> Result<(), AllocError> {
     let mut unread = chunk;
     for _ in 0..MOST_CALLS {
         if run.is_stuck || run.decoder.is_finished() {
             return Ok(());
         }
-        let mut buffer = [0; MOST_ROOM];
-        let dst = &mut buffer[..next_room(run, room).min(MOST_ROOM)];
-        let (result, read, written, replaced) = run.decoder.decode_to_utf8(unread, dst, last);
-        run.text.extend_from_slice(&buffer[..written])?;
-        run.had_errors |= replaced;
+        let given = Given {
+            src: unread,
+            last,
+            room: next_room(run, room),
+            reporting: run.way.reporting,
+        };
+        let output = run.way.output;
+        let (result, read, written, replaced) = call_into(
+            rt,
+            alloc,
+            &mut run.decoder,
+            output,
+            given,
+            &mut run.text,
+        )?;
+        assert!(rt; read <= unread.len());
         unread = &unread[read..];
-        take_note(
-            run,
-            result == CoderResult::OutputFull && read == 0 && written == 0,
-        );
-        if result == CoderResult::InputEmpty {
-            return Ok(());
-        }
-    }
-    run.is_stuck = true;
-    Ok(())
-}
-
-fn offer_reporting(run: &mut Run, chunk: &[u8], last: bool, room: usize) -> Result<(), AllocError> {
-    let mut unread = chunk;
-    for _ in 0..MOST_CALLS {
-        if run.is_stuck || run.decoder.is_finished() {
-            return Ok(());
-        }
-        let mut buffer = [0; MOST_ROOM];
-        let dst = &mut buffer[..next_room(run, room).min(MOST_ROOM)];
-        let (result, read, written) = run
-            .decoder
-            .decode_to_utf8_without_replacement(unread, dst, last);
-        run.text.extend_from_slice(&buffer[..written])?;
         run.read = run.read.saturating_add(read);
-        unread = &unread[read..];
+        run.had_errors |= replaced;
         take_note(
             run,
             result == DecoderResult::OutputFull && read == 0 && written == 0,
@@ -263,34 +236,78 @@ fn take_report(run: &mut Run, len: usize, after: usize) -> Result<(), AllocError
     run.text.extend_from_slice(REPLACEMENT_CHARACTER.as_bytes())
 }
 
-/// Offers the whole input at once, with room enough.
-pub fn run_whole(alloc: Global, way: Use, bytes: &[u8]) -> Result<Run, AllocError> {
-    run_cut(alloc, way, bytes, Cut::Nowhere, MOST_ROOM)
+impl Run {
+    /// The encoding that the decoder names.
+    pub fn encoding(&self) -> Encoding {
+        self.decoder.encoding()
+    }
+
+    /// Whether the end of the input was told and reached.
+    pub fn is_finished(&self) -> bool {
+        self.decoder.is_finished()
+    }
 }
 
-fn run_cut(
+/// Offers the whole input at once, with room enough.
+pub fn run_whole(
+    rt: &impl Abort,
+    alloc: Global,
+    way: Use,
+    bytes: &[u8],
+) -> Result<Run, AllocError> {
+    run_chunks(rt, alloc, way, &[bytes], MOST_ROOM)
+}
+
+/// Offers the chunks, the last one of which is told to be the last.
+pub fn run_chunks(
+    rt: &impl Abort,
+    alloc: Global,
+    way: Use,
+    chunks: &[&[u8]],
+    room: usize,
+) -> Result<Run, AllocError> {
+    let mut run = start(alloc, way);
+    let mut to_come = chunks.len();
+    for chunk in chunks {
+        to_come = to_come.saturating_sub(1);
+        offer(rt, alloc, &mut run, (chunk, to_come == 0), room)?;
+    }
+    Ok(run)
+}
+
+/// Offers an input cut in this way.
+pub fn run_cut(
+    rt: &impl Abort,
     alloc: Global,
     way: Use,
     bytes: &[u8],
     cut: Cut,
     room: usize,
 ) -> Result<Run, AllocError> {
-    let mut run = start(alloc, way);
     match cut {
-        Cut::Nowhere => offer(&mut run, bytes, true, room)?,
+        Cut::Nowhere => run_chunks(rt, alloc, way, &[bytes], room),
         Cut::At(place) => {
             let (front, back) = bytes.split_at(place.min(bytes.len()));
-            offer(&mut run, front, false, room)?;
-            offer(&mut run, back, true, room)?;
+            run_chunks(rt, alloc, way, &[front, back], room)
         }
         Cut::Everywhere => {
+            let mut run = start(alloc, way);
             for chunk in bytes.chunks(1) {
-                offer(&mut run, chunk, false, room)?;
+                offer(rt, alloc, &mut run, (chunk, false), room)?;
             }
-            offer(&mut run, &[], true, room)?;
+            offer(rt, alloc, &mut run, (&[], true), room)?;
+            Ok(run)
         }
     }
-    Ok(run)
+}
+
+/// In so many code units of the output an input comes to its end, which does in `input.room` bytes of UTF-8.
+fn room_enough(output: Output, input: &Input<'_>) -> usize {
+    match output {
+        Output::Utf16 if input.room > 3 => 2,
+        Output::Utf16 => input.room.min(1),
+        _ => input.room,
+    }
 }
 
 /// What was put out begins the text, and is all of it where there is room enough.
@@ -305,7 +322,7 @@ fn compare(rt: &impl Abort, run: &Run, input: &Input<'_>, room: usize) {
         !run.is_stuck,
         "{encoding:?} {bytes:?} {room}"
     );
-    if room >= input.room || run.way.widens {
+    if room >= room_enough(run.way.output, input) || run.way.widens {
         assert!(rt; run.decoder.is_finished(), "{encoding:?} {bytes:?} {room}");
     }
     if run.decoder.is_finished() {
@@ -349,107 +366,131 @@ fn compare_places(rt: &impl Abort, run: &Run, input: &Input<'_>, room: usize) {
     }
 }
 
-/// One offer of the whole input, with this room for each call, comes to what offers of single bytes come to. With
-/// replacement where it isn't `reporting`.
+/// One offer of the whole input, with this room for each call, comes to what offers of single bytes come to.
 pub fn compare_offers(
     rt: &impl Abort,
     alloc: Global,
-    (encoding, reporting): (Encoding, bool),
+    way: Use,
     input: &Input<'_>,
     room: usize,
 ) -> Result<(), Fail> {
-    let way = Use {
-        encoding,
-        handling: BomHandling::Off,
-        reporting,
-        widens: false,
-    };
-    let whole = run_cut(alloc, way, input.bytes, Cut::At(0), room)?;
-    let single = run_cut(alloc, way, input.bytes, Cut::Everywhere, room)?;
+    let whole = run_cut(rt, alloc, way, input.bytes, Cut::At(0), room)?;
+    let single = run_cut(rt, alloc, way, input.bytes, Cut::Everywhere, room)?;
     compare(rt, &whole, input, room);
     compare(rt, &single, input, room);
     assert_eq!(rt;
         whole.text.as_slice(),
         single.text.as_slice(),
-        "{encoding:?} {:?} {room}",
+        "{:?} {:?} {room}",
+        way.encoding,
         input.bytes
     );
     Ok(())
 }
 
-/// Runs an input through every cut.
+/// Runs an input through every cut, or, if not `wide`, uncut, in single bytes, and cut in the middle.
 fn compare_each_cut(
     rt: &impl Abort,
     alloc: Global,
-    way: Use,
+    (way, wide): (Use, bool),
     input: &Input<'_>,
     room: usize,
 ) -> Result<(), Fail> {
     for cut in [Cut::Nowhere, Cut::Everywhere] {
-        let run = run_cut(alloc, way, input.bytes, cut, room)?;
+        let run = run_cut(rt, alloc, way, input.bytes, cut, room)?;
         compare(rt, &run, input, room);
     }
-    for place in 0..input.bytes.len() + 1 {
-        let run = run_cut(alloc, way, input.bytes, Cut::At(place), room)?;
+    let places = if wide {
+        0..input.bytes.len() + 1
+    } else {
+        let middle = input.bytes.len() / 2;
+        middle..middle + 1
+    };
+    for place in places {
+        let run = run_cut(rt, alloc, way, input.bytes, Cut::At(place), room)?;
         compare(rt, &run, input, room);
     }
     Ok(())
 }
 
-/// Runs an input through every cut, with each room below `rooms`, with and without replacement.
-pub fn compare_uses(
+/// Runs an input through cuts with each room below `rooms`.
+fn compare_each_room(
     rt: &impl Abort,
     alloc: Global,
-    way: Use,
+    (way, wide): (Use, bool),
     input: &Input<'_>,
     rooms: usize,
 ) -> Result<(), Fail> {
-    for reporting in [false, true] {
-        for room in 0..rooms {
-            compare_each_cut(rt, alloc, Use { reporting, ..way }, input, room)?;
+    for room in 0..rooms {
+        compare_each_cut(rt, alloc, (way, wide), input, room)?;
+    }
+    Ok(())
+}
+
+/// How an input is run into other outputs than UTF-8.
+#[derive(Clone, Copy, PartialEq, Eq, Debug)]
+pub enum Others {
+    /// Not at all.
+    No,
+    /// Through few cuts, with rooms of less than four units.
+    Few,
+    /// As into UTF-8.
+    All,
+}
+
+/// Runs an input with each room below `rooms`, with and without replacement: into UTF-8 through every cut, and so into the
+/// other outputs as it is said.
+pub fn compare_uses(
+    rt: &impl Abort,
+    alloc: Global,
+    (way, others): (Use, Others),
+    input: &Input<'_>,
+    rooms: usize,
+) -> Result<(), Fail> {
+    for output in ALL_OUTPUTS {
+        let wide = output == Output::Utf8 || others == Others::All;
+        let rooms = if wide { rooms } else { rooms.min(4) };
+        if wide || others == Others::Few {
+            for reporting in [false, true] {
+                let way = Use {
+                    output,
+                    reporting,
+                    ..way
+                };
+                compare_each_room(rt, alloc, (way, wide), input, rooms)?;
+            }
         }
     }
     Ok(())
 }
 
-/// Runs an input through every cut, with rooms 0 to 9, with and without replacement, by a decoder that looks for these
-/// byte order marks.
+/// Runs an input through cuts, with rooms 0 to 9, with and without replacement, into all outputs, and through runs of mixed
+/// calls.
 pub fn compare_cuts_of(
     rt: &impl Abort,
     alloc: Global,
-    encoding: Encoding,
-    handling: BomHandling,
+    (way, others): (Use, Others),
     input: &Input<'_>,
 ) -> Result<(), Fail> {
-    let way = Use {
-        encoding,
-        handling,
-        reporting: false,
-        widens: false,
-    };
-    compare_uses(rt, alloc, way, input, 10)
+    compare_uses(rt, alloc, (way, others), input, 10)?;
+    compare_mixed(rt, alloc, way, input)
 }
 
-/// The same by a decoder that looks for no byte order mark.
-pub fn compare_cuts(
-    rt: &impl Abort,
-    alloc: Global,
-    encoding: Encoding,
-    input: &Input<'_>,
-) -> Result<(), Fail> {
-    compare_cuts_of(rt, alloc, encoding, BomHandling::Off, input)
-}
-
-/// Runs each input through every cut and room, by the encoding and by a new decoder of it by itself.
+/// Runs the input of each row through every cut and room, by the encoding and by a new decoder of it by itself. The first one goes
+/// into all outputs so.
 pub fn compare_all(
     rt: &impl Abort,
     alloc: Global,
     (encoding, decoder): (Encoding, impl RawDecoder),
-    inputs: &[Input<'_>],
+    rows: &[Row],
 ) -> Result<(), Fail> {
-    for input in inputs {
-        compare_cuts(rt, alloc, encoding, input)?;
+    let way = Use::new(encoding, BomHandling::Off);
+    let mut others = Others::All;
+    for row in rows {
+        let input = input_of(row);
+        compare_cuts_of(rt, alloc, (way, others), &input)?;
+        compare_raw_cuts(rt, decoder, &input);
+        others = Others::Few;
     }
-    compare_raw_all(rt, decoder, inputs);
     Ok(())
 }

@@ -22,4 +22,6 @@ mod harness;
 #[cfg(test)]
 mod indexes;
 #[cfg(test)]
+mod outputs;
+#[cfg(test)]
 mod runs;

@@ -2,7 +2,9 @@
 //! it answers has to be what it answers where each byte is offered by itself, whatever room there is. The texts are by
 //! hand from the Encoding Standard.
 
-use crate::harness::{Call, Input, MOST_ROOM, compare_offers, make_calls, new_decoder};
+use crate::harness::{
+    ALL_OUTPUTS, Input, MOST_ROOM, Output, Use, compare_offers, make_calls, new_decoder,
+};
 use encoding_rs::run::BomHandling;
 use encoding_rs::*;
 use std::alloc::{AllocError, Global};
@@ -151,6 +153,27 @@ fn compare_fills(
     }
 }
 
+/// So it is where each call has this room of its own: in UTF-8, and in a room of four units in every output.
+fn compare_outputs(
+    rt: &impl Abort,
+    alloc: Global,
+    (encoding, reporting): (Encoding, bool),
+    input: &Input<'_>,
+    room: usize,
+) -> Result<(), Fail> {
+    for output in ALL_OUTPUTS {
+        let way = Use {
+            output,
+            reporting,
+            ..Use::new(encoding, BomHandling::Off)
+        };
+        if output == Output::Utf8 || room == 4 {
+            compare_offers(rt, alloc, way, input, room)?;
+        }
+    }
+    Ok(())
+}
+
 /// The same with every room, with and without replacement. So it is where each call has a small room of its own.
 fn compare_rooms(
     rt: &impl Abort,
@@ -164,7 +187,7 @@ fn compare_rooms(
         for room in 0..ROOMS {
             compare_fills(rt, encoding, input, room, reporting);
             if room <= SMALL_ROOM {
-                compare_offers(rt, alloc, (encoding, reporting), input, room)?;
+                compare_outputs(rt, alloc, (encoding, reporting), input, room)?;
             }
         }
     }
@@ -225,47 +248,49 @@ fn compare_places(rt: &impl Abort, alloc: Global, among: &Among<'_>) -> Result<(
     Ok(())
 }
 
+const BYTES: &[(Encoding, &str, usize)] = &[
+    (UTF_8, "\u{FFFD}", 1),
+    (WINDOWS_1252, "€", 0),
+    (X_USER_DEFINED, "\u{F780}", 0),
+    (BIG5, "\u{FFFD}", 1),
+    (EUC_KR, "\u{FFFD}", 1),
+    (SHIFT_JIS, "\u{80}", 0),
+    (EUC_JP, "\u{FFFD}", 1),
+    (GB18030, "€", 0),
+];
+
 #[test]
 fn a_byte_among_ascii_is_met_at_each_place(rt: HostRuntime) -> Result<(), Fail> {
-    let rows = [
-        (UTF_8, "\u{FFFD}", 1),
-        (WINDOWS_1252, "€", 0),
-        (X_USER_DEFINED, "\u{F780}", 0),
-        (BIG5, "\u{FFFD}", 1),
-        (EUC_KR, "\u{FFFD}", 1),
-        (SHIFT_JIS, "\u{80}", 0),
-        (EUC_JP, "\u{FFFD}", 1),
-        (GB18030, "€", 0),
-    ];
-    for (encoding, text, malformed) in rows {
+    for (encoding, text, malformed) in BYTES {
         let among = Among {
-            encoding,
+            encoding: *encoding,
             unit: b"a",
             bytes: b"\x80",
             text,
-            malformed,
+            malformed: *malformed,
         };
         compare_places(&rt, rt.alloc(), &among)?;
     }
     Ok(())
 }
 
+const CHARACTERS: &[(Encoding, &[u8], &str)] = &[
+    (UTF_8, b"\xC3\xA9", "é"),
+    (UTF_8, b"\xE2\x82\xAC", "€"),
+    (UTF_8, b"\xF0\x9F\x92\xA9", "💩"),
+    (BIG5, b"\xA4\x40", "一"),
+    (EUC_KR, b"\xB0\xA1", "가"),
+    (SHIFT_JIS, b"\x83\x6E", "ハ"),
+    (EUC_JP, b"\x8F\xB0\xA1", "丂"),
+    (GB18030, b"\xD6\xD0", "中"),
+    (GB18030, b"\x90\x30\x81\x30", "\u{10000}"),
+];
+
 #[test]
 fn a_character_among_ascii_is_met_at_each_place(rt: HostRuntime) -> Result<(), Fail> {
-    let rows = [
-        (UTF_8, b"\xC3\xA9".as_slice(), "é"),
-        (UTF_8, b"\xE2\x82\xAC", "€"),
-        (UTF_8, b"\xF0\x9F\x92\xA9", "💩"),
-        (BIG5, b"\xA4\x40", "一"),
-        (EUC_KR, b"\xB0\xA1", "가"),
-        (SHIFT_JIS, b"\x83\x6E", "ハ"),
-        (EUC_JP, b"\x8F\xB0\xA1", "丂"),
-        (GB18030, b"\xD6\xD0", "中"),
-        (GB18030, b"\x90\x30\x81\x30", "\u{10000}"),
-    ];
-    for (encoding, bytes, text) in rows {
+    for (encoding, bytes, text) in CHARACTERS {
         let among = Among {
-            encoding,
+            encoding: *encoding,
             unit: b"a",
             bytes,
             text,
@@ -276,51 +301,51 @@ fn a_character_among_ascii_is_met_at_each_place(rt: HostRuntime) -> Result<(), F
     Ok(())
 }
 
+const SURROGATES: &[(Encoding, &[u8], &[u8], &str, usize)] = &[
+    (UTF_16LE, b"a\0", b"\x3D\xD8", "\u{FFFD}", 2),
+    (UTF_16LE, b"a\0", b"\xA9\xDC", "\u{FFFD}", 2),
+    (UTF_16LE, b"a\0", b"\x3D\xD8\xA9\xDC", "💩", 0),
+    (UTF_16BE, b"\0a", b"\xD8\x3D", "\u{FFFD}", 2),
+    (UTF_16BE, b"\0a", b"\xDC\xA9", "\u{FFFD}", 2),
+    (UTF_16BE, b"\0a", b"\xD8\x3D\xDC\xA9", "💩", 0),
+];
+
 #[test]
 fn a_surrogate_among_units_is_met_at_each_place(rt: HostRuntime) -> Result<(), Fail> {
-    let little = b"a\0".as_slice();
-    let big = b"\0a".as_slice();
-    let rows = [
-        (UTF_16LE, little, b"\x3D\xD8".as_slice(), "\u{FFFD}", 2),
-        (UTF_16LE, little, b"\xA9\xDC", "\u{FFFD}", 2),
-        (UTF_16LE, little, b"\x3D\xD8\xA9\xDC", "💩", 0),
-        (UTF_16BE, big, b"\xD8\x3D", "\u{FFFD}", 2),
-        (UTF_16BE, big, b"\xDC\xA9", "\u{FFFD}", 2),
-        (UTF_16BE, big, b"\xD8\x3D\xDC\xA9", "💩", 0),
-    ];
-    for (encoding, unit, bytes, text, malformed) in rows {
+    for (encoding, unit, bytes, text, malformed) in SURROGATES {
         let among = Among {
-            encoding,
+            encoding: *encoding,
             unit,
             bytes,
             text,
-            malformed,
+            malformed: *malformed,
         };
         compare_places(&rt, rt.alloc(), &among)?;
     }
     Ok(())
 }
 
+const ESCAPES: &[(&[u8], &str, usize)] = &[
+    // to the Roman set and to katakana, and back
+    (b"\x1B(J\\\x1B(B", "¥", 0),
+    (b"\x1B(I1\x1B(B", "ｱ", 0),
+    // to JIS X 0208 and back
+    (b"\x1B$B$\"\x1B(B", "あ", 0),
+    // to the Roman set, where it stays
+    (b"\x1B(J", "", 0),
+    // no escape sequence
+    (b"\x1B", "\u{FFFD}", 1),
+];
+
 #[test]
 fn an_escape_among_ascii_is_met_at_each_place(rt: HostRuntime) -> Result<(), Fail> {
-    let rows = [
-        // to the Roman set and to katakana, and back
-        (b"\x1B(J\\\x1B(B".as_slice(), "¥", 0),
-        (b"\x1B(I1\x1B(B", "ｱ", 0),
-        // to JIS X 0208 and back
-        (b"\x1B$B$\"\x1B(B", "あ", 0),
-        // to the Roman set, where it stays
-        (b"\x1B(J", "", 0),
-        // no escape sequence
-        (b"\x1B", "\u{FFFD}", 1),
-    ];
-    for (bytes, text, malformed) in rows {
+    for (bytes, text, malformed) in ESCAPES {
         let among = Among {
             encoding: ISO_2022_JP,
             unit: b"a",
             bytes,
             text,
-            malformed,
+            malformed: *malformed,
         };
         compare_places(&rt, rt.alloc(), &among)?;
     }
@@ -330,24 +355,12 @@ fn an_escape_among_ascii_is_met_at_each_place(rt: HostRuntime) -> Result<(), Fai
 #[test]
 fn a_run_stops_before_what_does_not_fit(rt: HostRuntime) {
     let bytes = b"aaaaaaaaaaaaaaaaaaaa\x80";
-    let text = "aaaaaaaaaaaaaaaaaaaa€".as_bytes();
-    let (empty, full) = (CoderResult::InputEmpty, CoderResult::OutputFull);
     for room in [20, 21, 22] {
-        let stopped = Call {
-            src: bytes,
-            last: true,
-            room,
-            want: (full, 20, 20, false),
-            text: &text[..20],
-        };
+        let want = (CoderResult::OutputFull, 20, 20, false);
+        let stopped = (bytes.as_slice(), true, room, want, "aaaaaaaaaaaaaaaaaaaa");
         make_calls(&rt, WINDOWS_1252, &[stopped]);
     }
-    let ended = Call {
-        src: bytes,
-        last: true,
-        room: 23,
-        want: (empty, 21, 23, false),
-        text,
-    };
+    let want = (CoderResult::InputEmpty, 21, 23, false);
+    let ended = (bytes.as_slice(), true, 23, want, "aaaaaaaaaaaaaaaaaaaa€");
     make_calls(&rt, WINDOWS_1252, &[ended]);
 }

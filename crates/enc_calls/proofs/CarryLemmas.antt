@@ -8,11 +8,11 @@ use Rattle.enc_machine.specs.declared.byte_codec.Kind.{Kind}
 use Rattle.enc_machine.specs.declared.byte_codec.Kind.TheVariants as kind
 use Rattle.enc_machine.specs.declared.decoder_result.DecoderResult.{DecoderResult}
 use Rattle.enc_machine.specs.declared.decoder_result.DecoderResult.TheVariants.{InputEmpty, OutputFull, Malformed}
-use Rattle.enc_units.specs.Output.{units_of_text}
+use Rattle.enc_units.specs.Output.{AreScalars, units_of_text}
 use Rattle.enc_machine.specs.Sequence.{Sequence, bytes_of, text_of, is_repeated_escape, any_malformed, set_after}
 use Rattle.enc_machine.specs.Remainder.{Remainder, AreBytes, Begins, Determines, AreDetermined}
 use Rattle.enc_machine.specs.Call.{Call, Treatment, AreBounded, ReadsReported, is_replaced}
-use Rattle.enc_machine.proofs.SequenceLemmas.{bytes_of-one, units-append, any_malformed-append}
+use Rattle.enc_machine.proofs.SequenceLemmas.{bytes_of-one, units-append, any_malformed-append, scalars_of-append}
 use Rattle.enc_machine.proofs.DeterminedLemmas.{begins_behind}
 use Rattle.enc_machine.proofs.ByteLemmas.{determines_by_more}
 use Rattle.enc_calls.proofs.Turns.{first_of}
@@ -47,13 +47,14 @@ pub record Follows (old then new : Remainder) (src bytes : List ℕ) (last : Boo
 -- What has been written before, so that the inner one has so much room.
 pub record Wrote (units_of : ℕ → List ℕ) (treatment : Treatment) (room room_left : ℕ) (before : List Sequence) (wrote : List ℕ) (replaced : Bool) : Type 0 where
   pub text : wrote ≡ units_of_text units_of (text_of before)
+  pub scalars : AreScalars (text_of before)
   pub fits : length wrote ≤ room
   pub at : room_left ≡ room - length wrote
   pub flag : replaced ≡ any_malformed before
   pub none : is_replaced treatment ≡ false → replaced ≡ false
 
 pub nothing_wrote : (units_of : ℕ → List ℕ) (treatment : Treatment) (room : ℕ) → Wrote units_of treatment room room [] [] false
-nothing_wrote units_of treatment room = record { text = refl; fits = omega arith; at = omega arith; flag = refl; none = λ _. refl }
+nothing_wrote units_of treatment room = record { text = refl; scalars = refl; fits = omega arith; at = omega arith; flag = refl; none = λ _. refl }
 
 none_of_both : (a b : Bool) → a ≡ false → b ≡ false → (a || b) ≡ false
 none_of_both a b e f = ap (λ x. x || b) e ∙ f
@@ -157,6 +158,7 @@ module _ (units_of : ℕ → List ℕ) (old inner : Remainder) (src bytes : List
       residual = residual_on c h;
       set = h.set;
       text = text_on c.put c.text;
+      scalars = scalars_of-append before c.put w.scalars c.scalars;
       fits = fits_on c.fits;
       flag = flag_on c.put c.flag;
       none_replaced = λ e. none_of_both had replaced (w.none e) (c.none_replaced e);
@@ -187,6 +189,7 @@ module _ (units_of : ℕ → List ℕ) (old inner : Remainder) (src bytes : List
       residual = residual_on c h;
       set = h.set;
       text = text_on c.put c.text;
+      scalars = scalars_of-append before c.put w.scalars c.scalars;
       fits = fits_on c.fits;
       flag = flag_on c.put c.flag;
       none_replaced = λ e. none_of_both had replaced (w.none e) (c.none_replaced e);
@@ -286,6 +289,7 @@ module _ (units_of : ℕ → List ℕ) (old inner : Remainder) (src bytes : List
         residual = residual_on c h;
         set = h.set;
         text = text_on c.put c.text;
+        scalars = scalars_of-append before c.put w.scalars c.scalars;
         fits = fits_on c.fits;
         flag = flag_on c.put c.flag;
         none_replaced = λ e. none_of_both had replaced (w.none e) (c.none_replaced e);

@@ -87,6 +87,7 @@ module _ (units_of : ℕ → List ℕ) (old new : Remainder) (held src : List �
       residual = longer_residual c.done c.within c.residual;
       set = c.set;
       text = c.text;
+      scalars = c.scalars;
       fits = c.fits;
       flag = c.flag;
       none_replaced = c.none_replaced;
@@ -126,6 +127,7 @@ module _ (units_of : ℕ → List ℕ) (old new : Remainder) (held src : List �
       residual = longer_residual c.done c.within c.residual;
       set = c.set;
       text = c.text;
+      scalars = c.scalars;
       fits = c.fits;
       flag = c.flag;
       none_replaced = c.none_replaced;
@@ -235,7 +237,7 @@ pub joins : (units_of : ℕ → List ℕ) (old mid new : Remainder) (held src : 
 joins units_of old mid new held src last treatment before between after result given n had replaced are also c d =
     let all_put : c.call.call.put ≡ c.call.call.done = sym c.call.call.stops.only_put in
     let e = joined units_of old mid new held src are also last treatment before.room between.room given n c.wrote d.wrote had replaced c.call.call result
-    (record { text = rw all_put at c.call.call.text; fits = c.call.call.fits; at = room_left before between c.wrote c.onto; flag = rw all_put at c.call.call.flag; none = c.call.call.none_replaced })
+    (record { text = rw all_put at c.call.call.text; scalars = rw all_put at c.call.call.scalars; fits = c.call.call.fits; at = room_left before between c.wrote c.onto; flag = rw all_put at c.call.call.flag; none = c.call.call.none_replaced })
     d.call in
     subst (λ k. ConvertsInto units_of old new (held ++ src) last treatment before after result k (had || replaced)) (let k : length held + n ≡ length held - 0 + n = omega arith in k) (record {
       wrote = c.wrote ++ d.wrote;

@@ -3,11 +3,11 @@ use Rattle.std.proofs.Common.{◌≡◌, ℕ, ◌+◌, ◌-◌, ◌<◌, ◌≤�
 use Rattle.std.proofs.lemmas.Bool.{false≢true}
 use Rattle.std.proofs.lemmas.List.{append-nil, take-append-drop, length-append}
 use Rattle.enc_machine.specs.declared.decoder_result.DecoderResult.TheVariants.{InputEmpty, OutputFull, Malformed}
-use Rattle.enc_units.specs.Output.{units_of_text}
+use Rattle.enc_units.specs.Output.{AreScalars, units_of_text}
 use Rattle.enc_machine.specs.Sequence.{Sequence, bytes_of, text_of, is_malformed, is_repeated_escape, any_malformed, set_after}
 use Rattle.enc_machine.specs.Remainder.{Remainder, AreBytes, Begins, Determines, AreDetermined}
 use Rattle.enc_machine.specs.Call.{RawCall, Replaced, Reported, ReadsReported}
-use Rattle.enc_machine.proofs.SequenceLemmas.{bytes_of-append, units-append, any_malformed-append, set_after-append, units-one, or_false, or_true}
+use Rattle.enc_machine.proofs.SequenceLemmas.{bytes_of-append, units-append, any_malformed-append, set_after-append, units-one, scalars_of-append, scalars_of-one, or_false, or_true}
 use Rattle.enc_machine.proofs.DeterminedLemmas.{begins_behind, determines_fewer}
 use Rattle.enc_machine.proofs.ByteLemmas.{bytes-append, bytes-take, bytes-drop, determines_by_more}
 use Rattle.std.proofs.Math.Seq.{take-add}
@@ -21,6 +21,7 @@ pub record Turned (units_of : ℕ → List ℕ) (old : Remainder) (src : List �
   pub accounted : old.pending ++ take read src ≡ bytes_of done ++ now.pending
   pub set : now.set ≡ set_after old.set done
   pub text : wrote ≡ units_of_text units_of (text_of done)
+  pub scalars : AreScalars (text_of done)
   pub fits : length wrote ≤ room
   pub flag : replaced ≡ any_malformed done
   pub determined : AreDetermined last old.sequences src done
@@ -40,6 +41,7 @@ start units_of old src last room = record {
   accounted = append-nil old.pending;
   set = refl;
   text = refl;
+  scalars = refl;
   fits = omega arith;
   flag = refl;
   determined = nothing_determined last old.sequences src;
@@ -195,6 +197,7 @@ module _ (units_of : ℕ → List ℕ) (old : Remainder) (src : List ℕ) (bytes
           residual = residual_on new n c.call.done c.call.residual;
           set = set_on new c.call.done c.call.set;
           text = text_on more c.call.put c.call.text;
+          scalars = scalars_of-append t.done c.call.put t.scalars c.call.scalars;
           fits = fits_on more c.call.fits;
           flag = flag_on c.call.put c.call.flag;
           none_replaced = λ e. cc;
@@ -227,6 +230,7 @@ module _ (units_of : ℕ → List ℕ) (old : Remainder) (src : List ℕ) (bytes
           residual = residual_on new n c.call.done c.call.residual;
           set = set_on new c.call.done c.call.set;
           text = text_on more c.call.put c.call.text;
+          scalars = scalars_of-append t.done c.call.put t.scalars c.call.scalars;
           fits = fits_on more c.call.fits;
           flag = flag_on c.call.put c.call.flag;
           none_replaced = λ e. cc;
@@ -263,6 +267,8 @@ module _ (units_of : ℕ → List ℕ) (old : Remainder) (src : List ℕ) (bytes
         text = append_assoc wrote more (units_of 0xFFFD) ∙ text_on (more ++ units_of 0xFFFD) c.call.done
             (ap (λ x. x ++ units_of 0xFFFD) c.call.text ∙ ap (λ x. units_of_text units_of (text_of c.call.put) ++ x) (sym (append-nil (units_of 0xFFFD)) ∙ ap (units_of_text units_of) (sym m.replacement))
             ∙ sym (units-one units_of c.call.put m.next) ∙ ap (λ x. units_of_text units_of (text_of x)) (sym m.then_next));
+        scalars = scalars_of-append t.done c.call.done t.scalars
+            (subst (λ x. AreScalars (text_of x)) (sym m.then_next) (scalars_of-one c.call.put m.next c.call.scalars (subst AreScalars (sym m.replacement) refl)));
         fits = let e = ap length c.call.text in let k = m.room_kept refl in let f = t.fits in
             rw (length-append (wrote ++ more) (units_of 0xFFFD), length-append wrote more) (omega arith);
         flag = sym (any_malformed-append t.done c.call.done ∙ ap (λ b. any_malformed t.done || b) (ap any_malformed m.then_next ∙ any_malformed-last c.call.put m.next m.malformed)

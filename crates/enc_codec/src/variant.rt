@@ -76,4 +76,20 @@ impl RawDecoder for VariantDecoder {
             VariantDecoder::Iso2022Jp(decoder) => decoder.held(),
         }
     }
+
+    fn latin1_byte_compatible_up_to(&self, bytes: &[u8]) -> Option<usize> {
+        match self {
+            VariantDecoder::Utf8(decoder) => decoder.latin1_byte_compatible_up_to(bytes),
+            VariantDecoder::Utf16(decoder) => decoder.latin1_byte_compatible_up_to(bytes),
+            VariantDecoder::SingleByte(decoder) => decoder.latin1_byte_compatible_up_to(bytes),
+            VariantDecoder::Big5(decoder) => decoder.latin1_byte_compatible_up_to(bytes),
+            VariantDecoder::EucKr(decoder) => decoder.latin1_byte_compatible_up_to(bytes),
+            VariantDecoder::ShiftJis(decoder) => decoder.latin1_byte_compatible_up_to(bytes),
+            VariantDecoder::EucJp(decoder) => decoder.latin1_byte_compatible_up_to(bytes),
+            VariantDecoder::Gb18030(decoder) => decoder.latin1_byte_compatible_up_to(bytes),
+            VariantDecoder::XUserDefined(decoder) => decoder.latin1_byte_compatible_up_to(bytes),
+            VariantDecoder::Replacement(decoder) => decoder.latin1_byte_compatible_up_to(bytes),
+            VariantDecoder::Iso2022Jp(decoder) => decoder.latin1_byte_compatible_up_to(bytes),
+        }
+    }
 }

@@ -104,6 +104,7 @@ behind_escape units_of s e n src more before after a h t =
           ∙ ap (λ ss. skipped e ∷ ss) (t.first y);
       behind = t.behind;
       none_malformed = t.none_malformed;
+      scalars = t.scalars;
       fits = t.fits;
       written = t.written;
       none_pending = λ _. refl;

@@ -2,18 +2,18 @@
 -- as many bytes behind it as show that no escape sequence stands there, or one does, or by the end.
 use Rattle.std.proofs.Common.{◌≡◌, ℕ, ◌+◌, ◌≤◌, zero, suc, Bool, true, false, eqb, Option, Some, None, List, [], ◌∷◌, ◌++◌, length, take, drop, refl, ap, ◌∙◌, sym, arith, subst, ◌⊎◌, inl, inr}
 use Rattle.std.proofs.lemmas.Bool.Decides.{nat_tests}
-use Rattle.std.specs.Char.{encode_utf8}
 use Rattle.std.specs.Option.{is_some}
-use Rattle.enc_units.specs.Output.{units_of_text}
 use Rattle.enc_machine.specs.declared.byte_codec.Kind.TheVariants.{Valid, Skipped}
 use Rattle.enc_iso_2022_jp.specs.declared.iso_2022_jp.CharacterSet.{CharacterSet}
 use Rattle.enc_iso_2022_jp.specs.declared.iso_2022_jp.CharacterSet.TheVariants.{Ascii, Jis0208}
 use Rattle.enc_machine.specs.Segmentation.{Head, one_byte_head}
 use Rattle.enc_machine.specs.Remainder.{AreBytes}
-use Rattle.enc_machine.specs.RuleLaws.{HasSmallTexts, IsToldBy, IsToldByEnd, IsLawful}
+use Rattle.enc_machine.specs.Latin1.{HasNoBytes}
+use Rattle.enc_machine.specs.RuleLaws.{IsSmallText, HasSmallTexts, IsToldBy, IsToldByEnd, IsLawful}
 use Rattle.enc_iso_2022_jp.specs.Iso2022Jp.{set_of, set_named, designated, escape_head, is_lead, one_byte_char, two_byte_char, two_byte_head, iso_2022_jp_rule as jp_rule}
 use Rattle.enc_iso_2022_jp.specs.Iso2022JpLaws.{LooksBehindSkipped}
-use Rattle.enc_machine.proofs.RuleLemmas.{one_small}
+use Rattle.enc_machine.proofs.RuleLemmas.{none_small, one_small}
+use Rattle.enc_machine.proofs.Latin1Lemmas.{has_bytes_by}
 use Rattle.enc_machine.proofs.ToldLemmas.{true_or_false, told_by, IsToldInTime, lookahead_by}
 use Rattle.enc_iso_2022_jp.proofs.Iso2022JpLemmas.{escape_first, no_escape_first, lead_first, alone_first, lead_alone, lead_and_trail, has_form}
 
@@ -269,8 +269,8 @@ told set b z = elim (true_or_false (eqb b 0x1B)) [
   ]
 ]
 
-small : (t : List ℕ) → (t ≡ []) ⊎ ((c : ℕ) × (t ≡ c ∷ [])) → length (units_of_text encode_utf8 t) ≤ 4
-small t (inl e) = rw e (omega arith)
+small : (t : List ℕ) → (t ≡ []) ⊎ ((c : ℕ) × (t ≡ c ∷ [])) → IsSmallText t
+small t (inl e) = rw e none_small
 small t (inr f) = rw f.1 (one_small f.0)
 
 has_small_texts : HasSmallTexts jp_rule
@@ -343,3 +343,8 @@ looks_behind_skipped = record {
     | inr e ↦ inr e
   ];
 }
+
+-- an ASCII byte is a character by itself at the start
+pub iso_2022_jp_has_bytes : ¬ (HasNoBytes jp_rule)
+unfolding jp_rule is_lead one_byte_char
+iso_2022_jp_has_bytes = has_bytes_by jp_rule 0x61 [] refl refl

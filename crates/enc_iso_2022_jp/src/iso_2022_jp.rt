@@ -7,7 +7,9 @@ ghost use Rattle.enc_machine.specs.CodecLaw.{Comes, Acts, IsReady};
 ghost use Rattle.enc_machine.specs.Taking.{TakesRun};
 
 use enc_index::List;
-use enc_machine::{ByteCodec, DecoderResult, Kind, RawDecoder, Shown, Step, Text, run};
+use enc_machine::{
+    ByteCodec, DecoderResult, Kind, RawDecoder, Shown, Step, Text, latin1_up_to, run,
+};
 use enc_units::{Pieces, Units};
 use std::marker::Model;
 
@@ -615,5 +617,12 @@ impl RawDecoder for Iso2022JpDecoder {
 
     fn held(&self) -> usize {
         ByteCodec::held(*self) as usize
+    }
+
+    fn latin1_byte_compatible_up_to(&self, bytes: &[u8]) -> Option<usize> {
+        match self.set {
+            CharacterSet::Ascii => latin1_up_to(*self, bytes),
+            _ => None,
+        }
     }
 }

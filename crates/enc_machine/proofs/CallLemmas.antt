@@ -35,6 +35,7 @@ module _ (units_of : ℕ → List ℕ) (old : Remainder) (src : List ℕ) (last 
       residual = residual_all units_of old src last room read now wrote p;
       set = p.set;
       text = p.text;
+      scalars = p.scalars;
       fits = p.fits;
       flag = sym p.none_malformed;
       none_replaced = λ _. refl;
@@ -64,6 +65,7 @@ module _ (units_of : ℕ → List ℕ) (old : Remainder) (src : List ℕ) (last 
       residual = residual_all units_of old src last room read now wrote p;
       set = p.set;
       text = p.text;
+      scalars = p.scalars;
       fits = p.fits;
       flag = sym p.none_malformed;
       none_replaced = λ _. refl;
@@ -103,6 +105,7 @@ module _ (units_of : ℕ → List ℕ) (old : Remainder) (src : List ℕ) (last 
           ∙ ap (λ ss. p.done ++ ss) (c (drop read src ++ z) (rest_follows src read last z m)) ∙ done_then units_of old src last room read now wrote p q (next.sequences (drop read src ++ z));
       set = set_then units_of old src last room read now wrote p q next s;
       text = p.text;
+      scalars = p.scalars;
       fits = p.fits;
       flag = sym p.none_malformed;
       none_replaced = λ _. refl;
@@ -160,6 +163,7 @@ module _ (units_of : ℕ → List ℕ) (old : Remainder) (src : List ℕ) (last 
           residual = λ z _. sym (ap old.sequences (past src (read + 1) z)) ∙ all (drop (read + 1) src ++ z);
           set = set_then units_of old src last room read now wrote p q next s;
           text = p.text;
+          scalars = p.scalars;
           fits = p.fits;
           flag = sym p.none_malformed;
           none_replaced = λ _. refl;

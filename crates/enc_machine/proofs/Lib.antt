@@ -11,3 +11,4 @@ pub mod ShowLemmas
 pub mod ToldLemmas
 pub mod TakingLemmas
 pub mod PieceLemmas
+pub mod Latin1Lemmas

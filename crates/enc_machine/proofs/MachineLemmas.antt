@@ -5,7 +5,7 @@ use Rattle.std.proofs.lemmas.Bool.Decides.{nat_tests}
 use Rattle.enc_machine.specs.declared.byte_codec.Shown.{Shown}
 use Rattle.enc_machine.specs.declared.machine.Coming.TheVariants.{Stay, Hold, Next}
 use Rattle.enc_machine.specs.declared.decoder_result.DecoderResult.TheVariants.{InputEmpty, OutputFull, Malformed}
-use Rattle.enc_units.specs.Output.{Output, appended, units_of_text}
+use Rattle.enc_units.specs.Output.{Output, AreScalars, appended, units_of_text}
 use Rattle.enc_machine.specs.Sequence.{is_malformed, bytes_of}
 use Rattle.enc_machine.specs.Segmentation.{sequences_of}
 use Rattle.enc_machine.specs.Remainder.{Begins}
@@ -105,29 +105,29 @@ module _ {C : Type 0} (units_of : ℕ → List ℕ) (state : C → CodecState) (
   onto_after : (text : List ℕ) (then : Output) → then ≡ appended after (units_of_text units_of text) → then ≡ appended before (w.wrote ++ units_of_text units_of text)
   onto_after text then e = e ∙ ap (λ o. appended o (units_of_text units_of text)) w.onto ∙ appended-appended before w.wrote (units_of_text units_of text)
 
-  pub puts_with : (s : Shown C) (then : Output) → IsComing state c src read last (Next s) → is_malformed s.kind ≡ false → s.takes_byte ≡ true
+  pub puts_with : (s : Shown C) (then : Output) → IsComing state c src read last (Next s) → is_malformed s.kind ≡ false → s.takes_byte ≡ true → AreScalars (chars_of s.text)
       → nat_le (length (units_of_text units_of (chars_of s.text))) after.room ≡ true → then ≡ appended after (units_of_text units_of (chars_of s.text))
       → Writing units_of (remainder_of v) src last before then (read + 1) (remainder_of (state s.next))
-  puts_with s then e g t f o =
+  puts_with s then e g t i f o =
       let h = e.1 t in
       record {
         wrote = w.wrote ++ units_of_text units_of (chars_of s.text);
         onto = onto_after (chars_of s.text) then o;
         progress = put_with units_of (remainder_of v) src last before.room read (remainder_of (state c)) w.wrote w.progress
             (coming.sequence state c src read last s e.0) (remainder_of (state s.next)) h.0 (coming.parts_with state c src read last s e.0 t) refl
-            (coming.first_with state c src read last s e.0 t) h.2 g (fits (chars_of s.text) f);
+            (coming.first_with state c src read last s e.0 t) h.2 g i (fits (chars_of s.text) f);
       }
 
-  pub puts_before : (s : Shown C) (then : Output) → IsComing state c src read last (Next s) → is_malformed s.kind ≡ false → s.takes_byte ≡ false
+  pub puts_before : (s : Shown C) (then : Output) → IsComing state c src read last (Next s) → is_malformed s.kind ≡ false → s.takes_byte ≡ false → AreScalars (chars_of s.text)
       → nat_le (length (units_of_text units_of (chars_of s.text))) after.room ≡ true → then ≡ appended after (units_of_text units_of (chars_of s.text))
       → Writing units_of (remainder_of v) src last before then read (remainder_of (state s.next))
-  puts_before s then e g t f o =
+  puts_before s then e g t i f o =
       record {
         wrote = w.wrote ++ units_of_text units_of (chars_of s.text);
         onto = onto_after (chars_of s.text) then o;
         progress = put_before units_of (remainder_of v) src last before.room read (remainder_of (state c)) w.wrote w.progress
             (coming.sequence state c src read last s e.0) (remainder_of (state s.next)) (coming.parts_before state c src read last s e.0 t) refl
-            (coming.first_before state c src read last s e.0 t) g (fits (chars_of s.text) f);
+            (coming.first_before state c src read last s e.0 t) g i (fits (chars_of s.text) f);
       }
 
   -- the sequence is malformed, and is reported

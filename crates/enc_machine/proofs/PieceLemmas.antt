@@ -1,6 +1,6 @@
 -- Pieces that a codec takes at once.
 use Rattle.std.proofs.Common.{◌≡◌, ℕ, suc, ◌+◌, ◌<◌, false, List, [], ◌∷◌, ◌++◌, length, take, drop, refl, ap, ◌∙◌, sym, subst, arith, append_assoc, drop-cons, get_or}
-use Rattle.enc_units.specs.Output.{Output, appended, units_of_text}
+use Rattle.enc_units.specs.Output.{Output, AreScalars, appended, units_of_text}
 use Rattle.enc_units.specs.Pieces.{Piece, chars_of, AllMean, PutsPieces}
 use Rattle.enc_units.specs.Pieces as piece
 use Rattle.enc_machine.specs.declared.byte_codec.Kind.TheVariants.{Valid}
@@ -51,6 +51,7 @@ takes_pieces units_of state c src n before after e p =
           ∙ whole_first v.rule v.set r.pieces y r.mean ∙ ap (λ q. ss ++ sequences_of v.rule v.set (q ++ y)) (sym e);
       behind = ap (λ s. record v { set = s }) (sym (whole_set v.set r.pieces));
       none_malformed = whole_valid v.set r.pieces;
+      scalars = subst AreScalars (sym (whole_text v.set r.pieces ∙ r.chars)) p.scalars;
       fits = omega (arith, p.fits, ap length units);
       written = p.written ∙ ap (appended before) (sym units);
       none_pending = λ _. e;

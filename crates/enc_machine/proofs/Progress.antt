@@ -2,11 +2,11 @@
 use Rattle.std.proofs.Common.{◌≡◌, ℕ, ◌+◌, ◌<◌, ◌≤◌, suc, Bool, true, false, List, [], ◌∷◌, ◌++◌, length, get_or, take, drop, refl, ap, ◌∙◌, sym, arith, append_assoc, drop-cons, ◌⊎◌, inl, inr}
 use Rattle.std.proofs.lemmas.List.{take_more, append-nil, take-append-drop, length-append}
 use Rattle.std.proofs.Math.ListN.{drop_of_length-le}
-use Rattle.enc_units.specs.Output.{Output, appended, units_of_text}
+use Rattle.enc_units.specs.Output.{Output, AreScalars, appended, units_of_text}
 use Rattle.enc_machine.specs.Sequence.{Sequence, bytes_of, text_of, is_malformed, any_malformed, set_after}
 use Rattle.enc_machine.specs.Remainder.{Remainder, Begins, Determines, AreDetermined, IsUndetermined}
 use Rattle.enc_machine.specs.CodecLaw.{MayFollow}
-use Rattle.enc_machine.proofs.SequenceLemmas.{bytes_of-one, units-one, any_malformed-one, set_after-one}
+use Rattle.enc_machine.proofs.SequenceLemmas.{bytes_of-one, units-one, any_malformed-one, set_after-one, scalars_of-one}
 use Rattle.enc_machine.proofs.DeterminedLemmas.{determined_at, determines_fewer, none_determined}
 
 pub record Progress (units_of : ℕ → List ℕ) (old : Remainder) (src : List ℕ) (last : Bool) (room read : ℕ) (now : Remainder) (wrote : List ℕ) : Type 0 where
@@ -18,6 +18,7 @@ pub record Progress (units_of : ℕ → List ℕ) (old : Remainder) (src : List 
   pub text : wrote ≡ units_of_text units_of (text_of done)
   pub fits : length wrote ≤ room
   pub none_malformed : any_malformed done ≡ false
+  pub scalars : AreScalars (text_of done)
   pub undetermined : (read ≡ 0) ⊎ ((s : Sequence) → Determines old.sequences (take read src) (done ++ s ∷ []) → ⊥)
 
 pub start : (units_of : ℕ → List ℕ) (old : Remainder) (src : List ℕ) (last : Bool) (room : ℕ) → Progress units_of old src last room 0 old []
@@ -30,6 +31,7 @@ start units_of old src last room = record {
   text = refl;
   fits = omega arith;
   none_malformed = refl;
+  scalars = refl;
   undetermined = inl refl;
 }
 
@@ -78,6 +80,7 @@ module _ (units_of : ℕ → List ℕ) (old : Remainder) (src : List ℕ) (last 
         text = p.text;
         fits = p.fits;
         none_malformed = p.none_malformed;
+        scalars = p.scalars;
         undetermined = inr (none_determined old.sequences next.sequences (take (read + 1) src) p.done r u);
       }
 
@@ -109,9 +112,9 @@ module _ (units_of : ℕ → List ℕ) (old : Remainder) (src : List ℕ) (last 
   -- the byte completes a sequence, which is put out
   pub put_with : (q : Sequence) (next : Remainder) → read < length src → now.pending ++ get_or src read 0 ∷ [] ≡ q.bytes ++ next.pending → next.set ≡ q.set
       → ((y : List ℕ) → MayFollow src read last (get_or src read 0 ∷ y) → now.sequences (get_or src read 0 ∷ y) ≡ q ∷ next.sequences y)
-      → IsUndetermined next.sequences → is_malformed q.kind ≡ false → length wrote + length (units_of_text units_of q.text) ≤ room
+      → IsUndetermined next.sequences → is_malformed q.kind ≡ false → AreScalars q.text → length wrote + length (units_of_text units_of q.text) ≤ room
       → Progress units_of old src last room (read + 1) next (wrote ++ units_of_text units_of q.text)
-  put_with q next h e s c u v f =
+  put_with q next h e s c u v i f =
       let r : (y : List ℕ) → old.sequences (take (read + 1) src ++ y) ≡ (p.done ++ q ∷ []) ++ next.sequences y = with_all q next h c in
       record {
         done = p.done ++ q ∷ [];
@@ -122,6 +125,7 @@ module _ (units_of : ℕ → List ℕ) (old : Remainder) (src : List ℕ) (last 
         text = text_after q;
         fits = fits_after q f;
         none_malformed = valid_after q v;
+        scalars = scalars_of-one p.done q p.scalars i;
         undetermined = inr (none_determined old.sequences next.sequences (take (read + 1) src) (p.done ++ q ∷ []) r u);
       }
 
@@ -135,9 +139,9 @@ module _ (units_of : ℕ → List ℕ) (old : Remainder) (src : List ℕ) (last 
   -- a sequence that the next byte doesn't belong to is put out
   pub put_before : (q : Sequence) (next : Remainder) → now.pending ≡ q.bytes ++ next.pending → next.set ≡ q.set
       → ((y : List ℕ) → MayFollow src read last y → now.sequences y ≡ q ∷ next.sequences y)
-      → is_malformed q.kind ≡ false → length wrote + length (units_of_text units_of q.text) ≤ room
+      → is_malformed q.kind ≡ false → AreScalars q.text → length wrote + length (units_of_text units_of q.text) ≤ room
       → Progress units_of old src last room read next (wrote ++ units_of_text units_of q.text)
-  put_before q next e s c v f =
+  put_before q next e s c v i f =
       record {
         done = p.done ++ q ∷ [];
         within = p.within;
@@ -147,6 +151,7 @@ module _ (units_of : ℕ → List ℕ) (old : Remainder) (src : List ℕ) (last 
         text = text_after q;
         fits = fits_after q f;
         none_malformed = valid_after q v;
+        scalars = scalars_of-one p.done q p.scalars i;
         undetermined = fewer_undetermined q p.undetermined;
       }
 

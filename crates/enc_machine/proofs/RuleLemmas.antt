@@ -1,12 +1,13 @@
 -- What holds of each sequence that a rule tells.
-use Rattle.std.proofs.Common.{◌≡◌, ℕ, ◌<◌, ◌≤◌, zero, suc, List, [], ◌∷◌, ◌++◌, length, refl, ap, sym, arith, subst}
+use Rattle.std.proofs.Common.{◌≡◌, ℕ, ◌<◌, ◌≤◌, zero, suc, Bool, true, false, cond, nat_lt, List, [], ◌∷◌, ◌++◌, length, refl, ap, sym, arith, subst}
 use Rattle.std.proofs.lemmas.List.{length-append}
 use Rattle.std.proofs.lemmas.Str.{length-encode, len_utf8_bounds}
 use Rattle.std.specs.Char.{encode_utf8}
+use Rattle.std.specs.Char.Escape.{encode_utf16}
 use Rattle.enc_units.specs.Output.{units_of_text}
 use Rattle.enc_machine.specs.Sequence.{Sequence, text_of}
 use Rattle.enc_machine.specs.Segmentation.{Rule, head_sequence, sequences_behind, sequences_of}
-use Rattle.enc_machine.specs.RuleLaws.{HasTexts, HasSmallTexts}
+use Rattle.enc_machine.specs.RuleLaws.{HasTexts, IsSmallText, HasSmallTexts}
 
 record IsTold (rule : Rule) (s : Sequence) : Type 0 where
   set : ℕ
@@ -52,17 +53,29 @@ none_without_text rule has set z (s ∷ done) rest e t = absurd (no_text rule ha
 
 -- where each has a small text, so has this one
 pub small_text : (rule : Rule) → HasSmallTexts rule → (set : ℕ) (z : List ℕ) (done : List Sequence) (s : Sequence) (rest : List Sequence) → sequences_of rule set z ≡ done ++ s ∷ rest
-    → length (units_of_text encode_utf8 s.text) ≤ 4
+    → IsSmallText s.text
 small_text rule small set z done s rest e =
     let h = told rule set z done s rest e in
-    subst (λ (t : Sequence). length (units_of_text encode_utf8 t.text) ≤ 4) (sym h.is) (small h.set h.first h.behind)
+    subst (λ (t : Sequence). IsSmallText t.text) (sym h.is) (small h.set h.first h.behind)
 
 units_bounds : (c : ℕ) → (1 ≤ length (encode_utf8 c)) × (length (encode_utf8 c) ≤ 4)
 units_bounds c = rw length-encode (len_utf8_bounds c)
 
--- one character has at most four units
-pub one_small : (c : ℕ) → length (units_of_text encode_utf8 (c ∷ [])) ≤ 4
-one_small c = let b = units_bounds c in omega (arith, length-append (encode_utf8 c) [])
+pub utf_16_bounds : (c : ℕ) → (1 ≤ length (encode_utf16 c)) × (length (encode_utf16 c) ≤ 2)
+utf_16_bounds c = by_plane _ _ _ (nat_lt c 0x1_0000)
+  where
+    by_plane : (a b d : ℕ) (t : Bool) → (1 ≤ length (cond t (a ∷ []) (b ∷ d ∷ []))) × (length (cond t (a ∷ []) (b ∷ d ∷ [])) ≤ 2)
+    by_plane a b d true = (omega arith, omega arith)
+    by_plane a b d false = (omega arith, omega arith)
+
+-- one character is a small text, and so is none
+pub one_small : (c : ℕ) → IsSmallText (c ∷ [])
+one_small c =
+    let b = units_bounds c in let d = utf_16_bounds c in
+    record { utf_8 = omega (arith, length-append (encode_utf8 c) []); utf_16 = omega (arith, d.1, length-append (encode_utf16 c) []) }
+
+pub none_small : IsSmallText []
+none_small = record { utf_8 = omega arith; utf_16 = omega arith }
 
 -- a text without units is empty
 pub no_units : (text : List ℕ) → units_of_text encode_utf8 text ≡ [] → text ≡ []

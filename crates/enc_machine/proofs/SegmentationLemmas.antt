@@ -2,7 +2,7 @@
 use Rattle.std.proofs.Common.{◌≡◌, ℕ, zero, suc, List, [], ◌∷◌, ◌++◌, take, drop, refl, ap, ◌∙◌, sym, append_assoc}
 use Rattle.std.proofs.lemmas.List.{append_cancel_left, take-append-drop}
 use Rattle.enc_machine.specs.Sequence.{Sequence, bytes_of, set_after}
-use Rattle.enc_machine.specs.Segmentation.{Rule, Head, head_sequence, sequences_behind, sequences_of}
+use Rattle.enc_machine.specs.Segmentation.{Rule, Head, head_sequence, sequences_behind, sequences_of, IsSegmentation}
 use Rattle.enc_machine.specs.Remainder.{Begins}
 use Rattle.enc_machine.specs.CodecState.{CodecState, remainder_of}
 
@@ -67,3 +67,34 @@ goes_on v w x y done r s p b =
     (behind v.rule v.set (v.pending ++ (x ++ y)) (w.pending ++ y) done b.0 b.1
     (sym (append_assoc v.pending x y) ∙ ap (λ t. t ++ y) p ∙ append_assoc (bytes_of done) w.pending y)
     ∙ ap (λ n. sequences_of v.rule n (w.pending ++ y)) (sym s) ∙ ap (λ (t : Rule). sequences_of t w.set (w.pending ++ y)) (sym r))
+
+-- the sequences, joined, are the bytes
+
+joined_behind : (rule : Rule) (set k : ℕ) (z : List ℕ) → bytes_of (sequences_behind rule set k z) ≡ drop k z
+unfolding sequences_behind
+joined_behind rule set zero [] = refl
+joined_behind rule set (suc k) [] = refl
+joined_behind rule set zero (b ∷ z) =
+    ap (λ x. b ∷ (take (rule set b z).more z ++ x)) (joined_behind rule (rule set b z).set (rule set b z).more z) ∙ ap (λ x. b ∷ x) (take-append-drop (rule set b z).more z)
+joined_behind rule set (suc k) (b ∷ z) = joined_behind rule set k z
+
+pub all_bytes : (rule : Rule) (set : ℕ) (z : List ℕ) → bytes_of (sequences_of rule set z) ≡ z
+all_bytes rule set z = joined_behind rule set 0 z
+
+-- and they are the one segmentation of them
+
+pub is_one : (rule : Rule) (set : ℕ) (z : List ℕ) (ss : List Sequence) → IsSegmentation rule set z ss → ss ≡ sequences_of rule set z
+is_one rule set z [] h = sym (ap (sequences_of rule set) h ∙ sequences_of-nil rule set)
+is_one rule set [] (s ∷ ss) h = absurd h
+is_one rule set (b ∷ z) (s ∷ ss) h =
+    ap (λ t. t ∷ ss) h.0 ∙ ap (λ ts. head_sequence (rule set b z) b z ∷ ts) (is_one rule (rule set b z).set (drop (rule set b z).more z) ss h.1) ∙ sym (sequences_of-cons rule set b z)
+
+told_behind : (rule : Rule) (set k : ℕ) (z : List ℕ) → IsSegmentation rule set (drop k z) (sequences_behind rule set k z)
+unfolding sequences_behind
+told_behind rule set zero [] = refl
+told_behind rule set (suc k) [] = refl
+told_behind rule set zero (b ∷ z) = (refl, told_behind rule (rule set b z).set (rule set b z).more z)
+told_behind rule set (suc k) (b ∷ z) = told_behind rule set k z
+
+pub is_told : (rule : Rule) (set : ℕ) (z : List ℕ) → IsSegmentation rule set z (sequences_of rule set z)
+is_told rule set z = told_behind rule set 0 z

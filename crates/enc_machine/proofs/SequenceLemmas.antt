@@ -1,8 +1,9 @@
 -- Lists of sequences, one behind another.
-use Rattle.std.proofs.Common.{◌≡◌, ℕ, Bool, true, false, List, [], ◌∷◌, ◌++◌, refl, ap, ◌∙◌, sym, append_assoc, ◌||◌}
+use Rattle.std.proofs.Common.{◌≡◌, ℕ, Bool, true, false, List, [], ◌∷◌, ◌++◌, refl, ap, ◌∙◌, sym, subst, append_assoc, ◌||◌}
 use Rattle.std.proofs.lemmas.List.{append-nil}
-use Rattle.enc_units.specs.Output.{units_of_text}
+use Rattle.enc_units.specs.Output.{AreScalars, units_of_text}
 use Rattle.enc_machine.specs.Sequence.{Sequence, bytes_of, text_of, is_malformed, any_malformed, set_after}
+use Rattle.enc_units.proofs.ScalarLemmas.{scalars-append}
 
 pub bytes_of-append : (ss ts : List Sequence) → bytes_of (ss ++ ts) ≡ bytes_of ss ++ bytes_of ts
 bytes_of-append [] ts = refl
@@ -40,7 +41,13 @@ pub set_after-append : (set : ℕ) (ss ts : List Sequence) → set_after set (ss
 set_after-append set [] ts = refl
 set_after-append set (s ∷ ss) ts = set_after-append s.set ss ts
 
+pub scalars_of-append : (ss ts : List Sequence) → AreScalars (text_of ss) → AreScalars (text_of ts) → AreScalars (text_of (ss ++ ts))
+scalars_of-append ss ts h k = subst AreScalars (sym (text_of-append ss ts)) (scalars-append (text_of ss) (text_of ts) h k)
+
 -- one sequence more
+
+pub scalars_of-one : (ss : List Sequence) (s : Sequence) → AreScalars (text_of ss) → AreScalars s.text → AreScalars (text_of (ss ++ s ∷ []))
+scalars_of-one ss s h k = scalars_of-append ss (s ∷ []) h (subst AreScalars (sym (append-nil s.text)) k)
 
 pub bytes_of-one : (ss : List Sequence) (s : Sequence) → bytes_of (ss ++ s ∷ []) ≡ bytes_of ss ++ s.bytes
 bytes_of-one ss s = bytes_of-append ss (s ∷ []) ∙ ap (λ t. bytes_of ss ++ t) (append-nil s.bytes)

@@ -8,7 +8,7 @@ use Rattle.enc_machine.specs.CodecState.{CodecState, remainder_of}
 use Rattle.enc_machine.specs.CodecLaw.{MayFollow, Comes, taken}
 use Rattle.enc_machine.specs.declared.byte_codec.Shown.{Shown}
 use Rattle.enc_machine.specs.Taking.{TakesRun}
-use Rattle.enc_machine.proofs.SequenceLemmas.{bytes_of-append, units-append, any_malformed-append, set_after-append}
+use Rattle.enc_machine.proofs.SequenceLemmas.{bytes_of-append, units-append, any_malformed-append, set_after-append, scalars_of-append}
 use Rattle.enc_machine.proofs.DeterminedLemmas.{none_determined}
 use Rattle.enc_machine.proofs.ShowLemmas.{nothing_pending}
 use Rattle.enc_machine.proofs.Progress.{Writing}
@@ -85,6 +85,7 @@ module _ {C : Type 0} (units_of : ℕ → List ℕ) (state : C → CodecState) (
       text = ap (λ x. x ++ units) w.progress.text ∙ sym (units-append units_of w.progress.done t.taken);
       fits = omega (arith, length-append w.wrote units, w.progress.fits, t.fits, room_left before at w.wrote w.onto);
       none_malformed = any_malformed-append w.progress.done t.taken ∙ rw (w.progress.none_malformed, t.none_malformed) refl;
+      scalars = scalars_of-append w.progress.done t.taken w.progress.scalars t.scalars;
       undetermined = inr (none_determined (remainder_of v).sequences (remainder_of (state n)).sequences (take (read + took) src) done (residual h) (nothing_pending (state n) (pending_behind h)));
     };
   }
@@ -125,6 +126,7 @@ takes_none units_of state c src o = record {
   first = λ y. refl;
   behind = refl;
   none_malformed = refl;
+  scalars = refl;
   fits = omega arith;
   written = sym (appended-nil o);
   none_pending = λ h. absurd (omega arith);
@@ -149,6 +151,7 @@ takes_both units_of state c m n src read more before mid after rest e p given =
       behind = q.behind ∙ ap (λ (s : CodecState). record s { set = set_after s.set q.taken }) p.behind
           ∙ ap (λ k. record (state c) { set = k }) (sym (set_after-append (state c).set p.taken q.taken));
       none_malformed = any_malformed-append p.taken q.taken ∙ rw (p.none_malformed, q.none_malformed) refl;
+      scalars = scalars_of-append p.taken q.taken p.scalars q.scalars;
       fits = omega (arith, ap length both, length-append x y, p.fits, q.fits, room_left before mid x p.written);
       written = q.written ∙ ap (λ o. appended o y) p.written ∙ appended-appended before x y ∙ ap (appended before) (sym both);
       none_pending = λ h. elim (cases_lt 0 read) [

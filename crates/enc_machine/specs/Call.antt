@@ -5,7 +5,7 @@ use Rattle.enc_machine.specs.declared.decoder_result.DecoderResult.TheVariants.{
 use Rattle.enc_machine.specs.declared.decoder_result.DecoderResult.TheVariants as stop
 use Rattle.enc_machine.specs.declared.byte_codec.Kind.{Kind}
 use Rattle.enc_machine.specs.declared.byte_codec.Kind.TheVariants.{Valid, Skipped, Malformed, RepeatedEscape}
-use Rattle.enc_units.specs.Output.{Output, appended, units_of_text}
+use Rattle.enc_units.specs.Output.{Output, AreScalars, appended, units_of_text}
 use Rattle.enc_machine.specs.Sequence.{Sequence, is_malformed, is_repeated_escape, bytes_of, text_of, any_malformed, set_after}
 use Rattle.enc_machine.specs.Remainder.{Remainder, Begins, Determines, AreDetermined}
 
@@ -113,6 +113,7 @@ pub record Call (units_of : ℕ → List ℕ) (old new : Remainder) (src : List 
   pub residual : (z : List ℕ) → (last ≡ true → z ≡ []) → old.sequences (src ++ z) ≡ done ++ new.sequences (drop read src ++ z)
   pub set : new.set ≡ set_after old.set done
   pub text : wrote ≡ units_of_text units_of (text_of put)
+  pub scalars : AreScalars (text_of put)
   pub fits : length wrote ≤ room
   pub flag : replaced ≡ any_malformed put
   pub none_replaced : is_replaced treatment ≡ false → replaced ≡ false

@@ -7,3 +7,4 @@ pub mod CodecLaw
 pub mod RuleLaws
 pub mod Pending
 pub mod Taking
+pub mod Latin1

@@ -1,6 +1,7 @@
 -- What the rule of each encoding keeps.
 use Rattle.std.specs.Prelude.{◌≡◌, ℕ, ◌+◌, ◌≤◌, ◌⊎◌, List, [], ◌++◌, length, take}
 use Rattle.std.specs.Char.{encode_utf8}
+use Rattle.std.specs.Char.Escape.{encode_utf16}
 use Rattle.enc_units.specs.Output.{units_of_text}
 use Rattle.enc_machine.specs.declared.byte_codec.Kind.TheVariants.{Valid}
 use Rattle.enc_machine.specs.Segmentation.{Rule}
@@ -10,9 +11,14 @@ use Rattle.enc_machine.specs.Remainder.{AreBytes}
 abbrev pub HasTexts : Rule → Type 0
 HasTexts rule = (set b : ℕ) (z : List ℕ) → (rule set b z).text ≡ [] → ⊥
 
--- Each has a text of at most four UTF-8 code units.
+-- A text of at most four UTF-8 code units, and two of UTF-16.
+pub record IsSmallText (text : List ℕ) : Type 0 where
+  pub utf_8 : length (units_of_text encode_utf8 text) ≤ 4
+  pub utf_16 : length (units_of_text encode_utf16 text) ≤ 2
+
+-- Each has such a text.
 abbrev pub HasSmallTexts : Rule → Type 0
-HasSmallTexts rule = (set b : ℕ) (z : List ℕ) → length (units_of_text encode_utf8 (rule set b z).text) ≤ 4
+HasSmallTexts rule = (set b : ℕ) (z : List ℕ) → IsSmallText (rule set b z).text
 
 -- The sequence that comes first is told by its own bytes and the next n: it is the same whatever follows those.
 pub record IsToldBy (rule : Rule) (set b : ℕ) (z : List ℕ) (n : ℕ) : Type 0 where

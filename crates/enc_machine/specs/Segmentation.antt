@@ -1,5 +1,5 @@
 -- The one segmentation of a whole byte list into sequences (Encoding Standard 4.1, "process a queue").
-use Rattle.std.specs.Prelude.{ℕ, Option, Some, None, List, [], ◌∷◌, take}
+use Rattle.std.specs.Prelude.{◌≡◌, ℕ, Option, Some, None, List, [], ◌∷◌, take, drop}
 use Rattle.std.proofs.Common.{zero, suc}
 use Rattle.enc_machine.specs.declared.byte_codec.Kind.{Kind}
 use Rattle.enc_machine.specs.declared.byte_codec.Kind.TheVariants.{Valid, Malformed}
@@ -44,3 +44,9 @@ sequences_behind rule set (suc k) (b ∷ z) = sequences_behind rule set k z
 -- the sequences of a byte list, from a designated character set on
 abbrev pub sequences_of : Rule → ℕ → List ℕ → List Sequence
 sequences_of rule set z = sequences_behind rule set 0 z
+
+-- These sequences are the bytes, each told by the rule at its place, and nothing is left.
+abbrev pub IsSegmentation : Rule → ℕ → List ℕ → List Sequence → Type 0
+IsSegmentation rule set z [] = z ≡ []
+IsSegmentation rule set [] (s ∷ ss) = ⊥
+IsSegmentation rule set (b ∷ z) (s ∷ ss) = (s ≡ head_sequence (rule set b z) b z) × IsSegmentation rule (rule set b z).set (drop (rule set b z).more z) ss

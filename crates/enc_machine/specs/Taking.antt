@@ -1,6 +1,6 @@
 -- What a codec takes at once.
 use Rattle.std.specs.Prelude.{◌≡◌, ℕ, ◌<◌, ◌≤◌, false, List, [], ◌∷◌, ◌++◌, length, take}
-use Rattle.enc_units.specs.Output.{Output, appended, units_of_text}
+use Rattle.enc_units.specs.Output.{Output, AreScalars, appended, units_of_text}
 use Rattle.enc_machine.specs.Sequence.{Sequence, bytes_of, text_of, any_malformed, set_after}
 use Rattle.enc_machine.specs.declared.byte_codec.Kind.TheVariants.{Valid}
 use Rattle.enc_machine.specs.Segmentation.{Rule, sequences_of}
@@ -19,6 +19,7 @@ pub record TakesRun {C : Type 0} (units_of : ℕ → List ℕ) (state : C → Co
   pub first : (y : List ℕ) → (remainder_of (state c)).sequences (take read src ++ y) ≡ taken ++ (remainder_of (state n)).sequences y
   pub behind : state n ≡ record (state c) { set = set_after (state c).set taken }
   pub none_malformed : any_malformed taken ≡ false
+  pub scalars : AreScalars (text_of taken)
   pub fits : length (units_of_text units_of (text_of taken)) ≤ before.room
   pub written : after ≡ appended before (units_of_text units_of (text_of taken))
   pub none_pending : 0 < read → (state c).pending ≡ []

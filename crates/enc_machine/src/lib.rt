@@ -3,12 +3,14 @@
 
 mod byte_codec;
 mod decoder_result;
+mod latin1;
 mod machine;
 mod pending;
 mod raw_decoder;
 
 pub use byte_codec::{ByteCodec, Kind, Shown, Step, Text};
 pub use decoder_result::DecoderResult;
+pub use latin1::latin1_up_to;
 pub use machine::run;
 pub use pending::Pending;
 pub use raw_decoder::RawDecoder;

@@ -1,7 +1,7 @@
 //! The loop over the bytes of one call, for every codec and every output.
 
 ghost use Rattle.std.specs.Prelude.{◌≡◌, ◌<◌, ◌≤◌, true, false, length, nat_le, IsTrue, IsFalse};
-ghost use Rattle.enc_units.specs.Output.{appended, units_of_text};
+ghost use Rattle.enc_units.specs.Output.{AreScalars, appended, units_of_text};
 ghost use Rattle.enc_machine.specs.CodecState.{remainder_of};
 ghost use Rattle.enc_machine.specs.CodecLaw.{IsComing, chars_of};
 ghost use Rattle.enc_machine.specs.Call.{CallInto, Reported};
@@ -62,6 +62,7 @@ fn width<U: Units>(text: Text) -> usize
 #[inline(always)]
 fn put_text<U: Units>(out: &mut U, text: Text) -> bool
     ensures fits { result ≡ nat_le (length (units_of_text U.units_of (chars_of text))) (U.output out.old).room }
+    ensures scalars { IsTrue result → AreScalars (chars_of text) }
     ensures written { IsTrue result → U.output out.new ≡ appended (U.output out.old) (units_of_text U.units_of (chars_of text)) }
     ensures unchanged { IsFalse result → U.output out.new ≡ U.output out.old }
 {
@@ -79,6 +80,7 @@ fn put_text<U: Units>(out: &mut U, text: Text) -> bool
 #[inline(always)]
 fn put_out<U: Units>(out: &mut U, kind: Kind, text: Text) -> bool
     ensures valid { IsTrue result → malformed_kind kind ≡ false }
+    ensures scalars { IsTrue result → AreScalars (chars_of text) }
     ensures fits { IsTrue result → nat_le (length (units_of_text U.units_of (chars_of text))) (U.output out.old).room ≡ true }
     ensures written { IsTrue result → U.output out.new ≡ appended (U.output out.old) (units_of_text U.units_of (chars_of text)) }
     ensures full { IsFalse result → malformed_kind kind ≡ false →

@@ -3,6 +3,7 @@
 ghost use Rattle.std.specs.Prelude.{◌≡◌, ◌≤◌, false, length};
 ghost use Rattle.enc_machine.specs.CodecState.{CodecState, remainder_of};
 ghost use Rattle.enc_machine.specs.Call.{CallInto, Reported};
+ghost use Rattle.enc_machine.specs.Latin1.{TellsLatin1};
 ghost use Rattle.enc_machine.specs.RuleLaws.{IsLawful};
 
 use crate::decoder_result::DecoderResult;
@@ -38,4 +39,11 @@ pub trait RawDecoder: Copy {
     fn held(&self) -> usize
         ensures count { result ≡ length (state self.now).pending }
         ensures few { result ≤ 5 };
+
+    /// How many bytes in front of `bytes` are the characters of their own numbers, each a valid sequence by itself, so
+    /// that text of Latin-1 would do for them. `None` where that can't be of any byte: where bytes are held, where another
+    /// character set is designated than at the start, and in an encoding in which no byte is a character by itself. Takes
+    /// no memory.
+    fn latin1_byte_compatible_up_to(&self, bytes: &[u8]) -> Option<usize>
+        ensures { TellsLatin1 (state self.now) bytes.now result };
 }

@@ -1,8 +1,6 @@
 -- Legacy multi-byte encodings: the laws of their rules, and that incomplete bytes determine nothing.
 use Rattle.std.proofs.Common.{◌≡◌, ◌≢◌, ℕ, ◌+◌, ◌-◌, ◌≤◌, suc, List, [], ◌∷◌, ◌++◌, length, take, refl, ap, ◌∙◌, sym, arith, subst, append-nil, append_assoc, inl, inr}
 use Rattle.std.proofs.lemmas.List.{length-append}
-use Rattle.std.specs.Char.{encode_utf8}
-use Rattle.enc_units.specs.Output.{units_of_text}
 use Rattle.enc_machine.specs.declared.byte_codec.Kind.{Kind}
 use Rattle.enc_machine.specs.declared.byte_codec.Kind.TheVariants.{Valid}
 use Rattle.enc_machine.specs.declared.byte_codec.Kind.TheVariants as kinds
@@ -13,9 +11,11 @@ use Rattle.enc_multi_byte.specs.declared.multi_byte.Prefix.TheVariants.{Complete
 use Rattle.enc_machine.specs.Segmentation.{Head}
 use Rattle.enc_machine.specs.Remainder.{IsUndetermined}
 use Rattle.enc_machine.specs.CodecState.{CodecState, remainder_of}
-use Rattle.enc_machine.specs.RuleLaws.{HasTexts, HasSmallTexts, IsToldBy, IsToldByEnd, IsLawful}
+use Rattle.enc_machine.specs.Latin1.{HasNoBytes}
+use Rattle.enc_machine.specs.RuleLaws.{HasTexts, IsSmallText, HasSmallTexts, IsToldBy, IsToldByEnd, IsLawful}
 use Rattle.enc_multi_byte.specs.MultiByte.{malformed_front, head_of, multi_byte_rule, multi_byte_state, AreIncomplete, ArePrefixes}
 use Rattle.enc_machine.proofs.RuleLemmas.{one_small}
+use Rattle.enc_machine.proofs.Latin1Lemmas.{has_bytes_by}
 use Rattle.enc_machine.proofs.ShowLemmas.{nothing_pending}
 use Rattle.enc_machine.proofs.ToldLemmas.{told_by, IsToldInTime, lookahead_by, undetermined_by_end}
 use Rattle.enc_multi_byte.proofs.MultiByteLemmas.{still_incomplete, one_more, rule_at, Settles, settles_complete, settles_malformed, all_malformed}
@@ -26,7 +26,7 @@ module _ (prefix : List ℕ → Prefix) (laws : ArePrefixes prefix) where
   record HasForm (room : ℕ) (h : Head) : Type 0 where
     within : h.more ≤ room
     some : h.text ≢ []
-    small : length (units_of_text encode_utf8 h.text) ≤ 4
+    small : IsSmallText h.text
 
   malformed_has_form : (room set n : ℕ) → n - 1 ≤ room → HasForm room (malformed_front set n)
   malformed_has_form room set n l = record { within = l; some = λ e. cc; small = one_small 0xFFFD }
@@ -152,3 +152,9 @@ module _ (prefix : List ℕ → Prefix) (laws : ArePrefixes prefix) where
     lookahead = lookahead_by (multi_byte_rule prefix) (λ set b z. told_from set [] (b ∷ z) b z tt refl);
     small_texts = multi_byte_has_small_texts;
   }
+
+-- a byte that is complete is valid by itself
+pub multi_byte_has_bytes : (prefix : List ℕ → Prefix) (b : ℕ) (text : Text) → prefix (b ∷ []) ≡ Complete text → ¬ (HasNoBytes (multi_byte_rule prefix))
+multi_byte_has_bytes prefix b text e =
+    let h = rule_at prefix 0 [] b [] b [] tt refl ∙ ap (λ r. head_of prefix 0 (b ∷ []) r []) e in
+    has_bytes_by (multi_byte_rule prefix) b [] (ap (λ (t : Head). t.kind) h) (ap (λ (t : Head). t.more) h)

@@ -2,6 +2,7 @@
 use Rattle.std.proofs.Common.{◌≡◌, ℕ, Bool, true, false, cond, Option, Some, None, [], ◌++◌, length, ◌==◌, refl, arith, subst}
 use Rattle.std.proofs.lemmas.List.{length-append}
 use Rattle.std.specs.Char.{encode_utf8}
+use Rattle.std.specs.Char.Escape.{encode_utf16}
 use Rattle.enc_machine.specs.declared.byte_codec.Text.{Text}
 use Rattle.enc_machine.specs.declared.byte_codec.Text.TheVariants.{Two}
 use Rattle.enc_multi_byte.specs.DoubleByte.{IsText, ArePairs}
@@ -17,11 +18,14 @@ either : (t : Bool) (x y : Option Text) → IsTextOf x → IsTextOf y → IsText
 either true x y p q = p
 either false x y p q = q
 
--- two characters of two code units each
-two_are_text : (a b : ℕ) → length (encode_utf8 a) ≡ 2 → length (encode_utf8 b) ≡ 2 → IsText (Two a b)
-two_are_text a b e f = record {
-  some = λ g. cc;
-  small = omega (arith, e, f, length-append (encode_utf8 a) (encode_utf8 b ++ []), length-append (encode_utf8 b) []);
+-- two characters of two code units each in UTF-8, and one in UTF-16
+two_are_text : (a b : ℕ) → length (encode_utf8 a) ≡ 2 → length (encode_utf8 b) ≡ 2 → length (encode_utf16 a) ≡ 1 → length (encode_utf16 b) ≡ 1 → IsText (Two a b)
+two_are_text a b e f g h = record {
+  some = λ x. cc;
+  small = record {
+    utf_8 = omega (arith, e, f, length-append (encode_utf8 a) (encode_utf8 b ++ []), length-append (encode_utf8 b) []);
+    utf_16 = omega (arith, g, h, length-append (encode_utf16 a) (encode_utf16 b ++ []), length-append (encode_utf16 b) []);
+  };
 }
 
 two : (a b : ℕ) → IsText (Two a b) → IsTextOf (Some (Two a b))
@@ -32,10 +36,10 @@ unfolding encode_utf8
 pair_is_text a b =
     let p = big5_pointer a b in
     either (big5_trail b) (big5_text p) None
-    (either (p == 1133) _ _ (two 0xCA 0x304 (two_are_text 0xCA 0x304 refl refl))
-    (either (p == 1135) _ _ (two 0xCA 0x30C (two_are_text 0xCA 0x30C refl refl))
-    (either (p == 1164) _ _ (two 0xEA 0x304 (two_are_text 0xEA 0x304 refl refl))
-    (either (p == 1166) _ _ (two 0xEA 0x30C (two_are_text 0xEA 0x30C refl refl))
+    (either (p == 1133) _ _ (two 0xCA 0x304 (two_are_text 0xCA 0x304 refl refl refl refl))
+    (either (p == 1135) _ _ (two 0xCA 0x30C (two_are_text 0xCA 0x30C refl refl refl refl))
+    (either (p == 1164) _ _ (two 0xEA 0x304 (two_are_text 0xEA 0x304 refl refl refl refl))
+    (either (p == 1166) _ _ (two 0xEA 0x30C (two_are_text 0xEA 0x30C refl refl refl refl))
     (char_is_text _)))))
     (λ text e. cc)
 

@@ -1,12 +1,11 @@
 -- Encodings of one byte and two (Encoding Standard 10 to 13): bytes that stand alone, and a lead with a trail.
-use Rattle.std.specs.Prelude.{◌≡◌, ◌≢◌, ℕ, ◌+◌, ◌≤◌, Bool, nat_lt, Option, Some, None, List, [], ◌∷◌, length, if◌then◌else◌}
-use Rattle.std.specs.Char.{encode_utf8}
-use Rattle.enc_units.specs.Output.{units_of_text}
+use Rattle.std.specs.Prelude.{◌≡◌, ◌≢◌, ℕ, ◌+◌, Bool, nat_lt, Option, Some, None, List, [], ◌∷◌, if◌then◌else◌}
 use Rattle.enc_machine.specs.declared.byte_codec.Text.{Text}
 use Rattle.enc_machine.specs.declared.byte_codec.Text.TheVariants.{One}
 use Rattle.enc_multi_byte.specs.declared.multi_byte.Prefix.{Prefix}
 use Rattle.enc_multi_byte.specs.declared.multi_byte.Prefix.TheVariants.{Complete, Malformed, Incomplete}
 use Rattle.enc_machine.specs.CodecLaw.{chars_of}
+use Rattle.enc_machine.specs.RuleLaws.{IsSmallText}
 
 -- the text of a character
 abbrev pub text_of_char : Option ℕ → Option Text
@@ -34,10 +33,10 @@ double_byte_prefix is_lead single pair [] = Incomplete
 double_byte_prefix is_lead single pair (a ∷ []) = first_prefix (is_lead a) (single a)
 double_byte_prefix is_lead single pair (a ∷ b ∷ z) = trail_prefix 1 b (pair a b)
 
--- texts have a character, and four UTF-8 code units at most
+-- texts have a character, and are small
 pub record IsText (text : Text) : Type 0 where
   pub some : chars_of text ≢ []
-  pub small : length (units_of_text encode_utf8 (chars_of text)) ≤ 4
+  pub small : IsSmallText (chars_of text)
 
 -- What pairs can be: texts, and FF is no trail.
 pub record ArePairs (pair : ℕ → ℕ → Option Text) : Type 0 where

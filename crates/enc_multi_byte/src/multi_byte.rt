@@ -5,7 +5,9 @@ ghost use Rattle.enc_machine.specs.Pending.{pending_bytes};
 ghost use Rattle.enc_machine.specs.CodecLaw.{Acts, IsReady, IsAtEnd};
 ghost use Rattle.enc_multi_byte.specs.MultiByte.{multi_byte_state, AreIncomplete, ArePrefixes, HasAscii, IsPair};
 
-use enc_machine::{ByteCodec, DecoderResult, Kind, Pending, RawDecoder, Shown, Step, Text, run};
+use enc_machine::{
+    ByteCodec, DecoderResult, Kind, Pending, RawDecoder, Shown, Step, Text, latin1_up_to, run,
+};
 use enc_units::{Pieces, Units, put_run};
 use std::marker::PhantomData;
 
@@ -247,5 +249,10 @@ impl<E: MultiByte> RawDecoder for MultiByteDecoder<E> {
 
     fn held(&self) -> usize {
         ByteCodec::held(*self) as usize
+    }
+
+    fn latin1_byte_compatible_up_to(&self, bytes: &[u8]) -> Option<usize> {
+        E::ascii();
+        latin1_up_to(*self, bytes)
     }
 }

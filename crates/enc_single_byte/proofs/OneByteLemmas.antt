@@ -1,19 +1,19 @@
 -- Encodings in which each byte stands alone: what a byte shows, and the laws of their rules.
-use Rattle.std.proofs.Common.{◌≡◌, ℕ, ◌≤◌, Option, Some, None, List, [], ◌∷◌, length, drop, refl, ap, ◌∙◌, sym, arith, inl}
-use Rattle.std.specs.Char.{encode_utf8}
-use Rattle.enc_units.specs.Output.{units_of_text}
+use Rattle.std.proofs.Common.{◌≡◌, ℕ, Option, Some, None, List, [], ◌∷◌, drop, refl, ap, ◌∙◌, sym, arith, inl}
 use Rattle.enc_machine.specs.declared.byte_codec.Kind.TheVariants.{Valid, Malformed}
 use Rattle.enc_machine.specs.declared.byte_codec.Text.TheVariants.{One}
 use Rattle.enc_machine.specs.Segmentation.{Head, head_sequence, sequences_of, one_byte_head}
 use Rattle.enc_machine.specs.CodecState.{CodecState}
 use Rattle.enc_machine.specs.CodecLaw.{Acts}
-use Rattle.enc_machine.specs.RuleLaws.{HasTexts, HasLookahead, HasSmallTexts, IsToldBy, IsLawful}
-use Rattle.enc_single_byte.specs.OneByte.{one_byte_rule, one_byte_step}
+use Rattle.enc_machine.specs.RuleLaws.{HasTexts, HasLookahead, IsSmallText, HasSmallTexts, IsToldBy, IsLawful}
+use Rattle.enc_single_byte.specs.OneByte.{one_byte_rule, one_byte_step, single_byte_char, x_user_defined_char}
 use Rattle.enc_single_byte.specs.OneByteState.{one_byte_state}
 use Rattle.enc_machine.proofs.SegmentationLemmas.{sequences_of-cons}
 use Rattle.enc_machine.proofs.ShowLemmas.{shows_with}
 use Rattle.enc_machine.specs.Taking.{IsPiece}
+use Rattle.enc_machine.specs.Latin1.{HasNoBytes}
 use Rattle.enc_machine.proofs.RuleLemmas.{one_small}
+use Rattle.enc_machine.proofs.Latin1Lemmas.{has_bytes_by}
 
 module _ (character : ℕ → Option ℕ) where
   head_is : (set b : ℕ) (z : List ℕ) (found : Option ℕ) → character b ≡ found
@@ -43,11 +43,17 @@ module _ (character : ℕ → Option ℕ) where
   pub one_byte_piece : (b c : ℕ) → character b ≡ Some c → IsPiece (one_byte_rule character) 0 (b ∷ []) c
   one_byte_piece b c e y = first b (Some c) _ e refl y
 
+  -- such a byte is a character by itself
+  pub one_byte_has_bytes : (b c : ℕ) → character b ≡ Some c → ¬ (HasNoBytes (one_byte_rule character))
+  one_byte_has_bytes b c e =
+      let h = head_is 0 b [] (Some c) e in
+      has_bytes_by (one_byte_rule character) b [] (ap (λ (t : Head). t.kind) h) (ap (λ (t : Head). t.more) h)
+
   no_more : (set : ℕ) (found : Option ℕ) → (one_byte_head set found).more ≡ 0
   no_more set (Some a) = refl
   no_more set None = refl
 
-  small : (set : ℕ) (found : Option ℕ) → length (units_of_text encode_utf8 (one_byte_head set found).text) ≤ 4
+  small : (set : ℕ) (found : Option ℕ) → IsSmallText (one_byte_head set found).text
   small set (Some a) = one_small a
   small set None = one_small 0xFFFD
 
@@ -77,3 +83,11 @@ has_text set (Some c) e = cc
 pub one_byte_has_texts : (character : ℕ → Option ℕ) → HasTexts (one_byte_rule character)
 unfolding one_byte_rule
 one_byte_has_texts character set b z e = has_text set (character b) e
+
+-- an ASCII byte is a character by itself
+
+pub single_byte_has_bytes : (runs : List (ℕ × ℕ × ℕ)) → ¬ (HasNoBytes (one_byte_rule (single_byte_char runs)))
+single_byte_has_bytes runs = one_byte_has_bytes (single_byte_char runs) 0x61 0x61 refl
+
+pub x_user_defined_has_bytes : ¬ (HasNoBytes (one_byte_rule x_user_defined_char))
+x_user_defined_has_bytes = one_byte_has_bytes x_user_defined_char 0x61 0x61 refl

@@ -4,11 +4,12 @@ use Rattle.enc_machine.specs.declared.byte_codec.Kind.TheVariants.{Skipped, Malf
 use Rattle.enc_machine.specs.declared.byte_codec.Text.TheVariants.{Nothing, One}
 use Rattle.enc_machine.specs.declared.byte_codec.Step.TheVariants.{Show}
 use Rattle.enc_machine.specs.CodecLaw.{Acts}
+use Rattle.enc_machine.specs.Latin1.{HasNoBytes}
 use Rattle.enc_machine.specs.RuleLaws.{HasLookahead, HasSmallTexts, IsToldBy, IsLawful}
 use Rattle.enc_single_byte.specs.Replacement.{replacement_rule, replacement_state}
 use Rattle.enc_machine.proofs.SegmentationLemmas.{sequences_of-cons}
 use Rattle.enc_machine.proofs.ShowLemmas.{shows_with}
-use Rattle.enc_machine.proofs.RuleLemmas.{one_small}
+use Rattle.enc_machine.proofs.RuleLemmas.{one_small, none_small}
 
 -- the first byte
 pub first_acts : (b : ℕ)
@@ -40,7 +41,12 @@ has_lookahead = record {
 has_small_texts : HasSmallTexts replacement_rule
 unfolding replacement_rule
 has_small_texts zero b z = one_small 0xFFFD
-has_small_texts (suc set) b z = omega arith
+has_small_texts (suc set) b z = none_small
 
 pub replacement_is_lawful : IsLawful replacement_rule
 replacement_is_lawful = record { lookahead = has_lookahead; small_texts = has_small_texts }
+
+-- no byte is valid
+pub replacement_has_no_bytes : HasNoBytes replacement_rule
+unfolding replacement_rule
+replacement_has_no_bytes b z v = absurd (cc)

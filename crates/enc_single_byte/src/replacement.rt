@@ -95,4 +95,9 @@ impl RawDecoder for ReplacementDecoder {
     fn held(&self) -> usize {
         ByteCodec::held(*self) as usize
     }
+
+    fn latin1_byte_compatible_up_to(&self, bytes: &[u8]) -> Option<usize> {
+        let _bytes = bytes;
+        None
+    }
 }

@@ -6,7 +6,7 @@ ghost use Rattle.enc_index.specs.Runs.{single_byte_runs};
 
 use crate::one_byte::show_byte;
 use enc_index::SingleByteIndex;
-use enc_machine::{ByteCodec, DecoderResult, RawDecoder, Shown, Step, run};
+use enc_machine::{ByteCodec, DecoderResult, RawDecoder, Shown, Step, latin1_up_to, run};
 use enc_units::{Pieces, Units, put_run};
 
 /// The decoder of a legacy single-byte encoding (Encoding Standard 9.1), by the encoding's index: a byte below
@@ -107,5 +107,10 @@ impl RawDecoder for SingleByteDecoder {
 
     fn held(&self) -> usize {
         ByteCodec::held(*self) as usize
+    }
+
+    #[tactic(auto, using(crate::proofs::OneByteLemmas::single_byte_has_bytes))]
+    fn latin1_byte_compatible_up_to(&self, bytes: &[u8]) -> Option<usize> {
+        latin1_up_to(*self, bytes)
     }
 }

@@ -4,7 +4,7 @@ ghost use Rattle.std.specs.Prelude.{◌≡◌, Some};
 ghost use Rattle.enc_single_byte.specs.OneByte.{x_user_defined_char};
 
 use crate::one_byte::show_byte;
-use enc_machine::{ByteCodec, DecoderResult, RawDecoder, Shown, Step, run};
+use enc_machine::{ByteCodec, DecoderResult, RawDecoder, Shown, Step, latin1_up_to, run};
 use enc_units::{Pieces, Units, put_run};
 
 /// The x-user-defined decoder (Encoding Standard 14.5): a byte below 0x80 is its own character, and 0x80 to 0xFF
@@ -94,5 +94,10 @@ impl RawDecoder for XUserDefinedDecoder {
 
     fn held(&self) -> usize {
         ByteCodec::held(*self) as usize
+    }
+
+    #[tactic(auto, using(crate::proofs::OneByteLemmas::x_user_defined_has_bytes))]
+    fn latin1_byte_compatible_up_to(&self, bytes: &[u8]) -> Option<usize> {
+        latin1_up_to(*self, bytes)
     }
 }

@@ -5,7 +5,7 @@ use Rattle.std.proofs.lemmas.List.{length-take-le, length-map, get_or-take}
 use Rattle.std.proofs.lemmas.List.Sums.{prefix_len_passes, prefix_len_stops, prefix_len-le-length}
 use Rattle.std.proofs.lemmas.Simd.{map-map, mask_l-mod, put_chunk_is, zip2_splat_left, first_set_mask_l, length-replicate, get_or-replicate}
 use Rattle.std.proofs.Math.Seq.{take-append_seam, drop-append_seam}
-use Rattle.std.specs.Char.{encode_utf8}
+use Rattle.std.specs.Char.{IsScalar, encode_utf8}
 use Rattle.std.specs.List.{prefix_len}
 use lib.Count.{count_trailing_zeros}
 use lib.Lanes.{zip2, mask_l, top, put_chunk}
@@ -15,6 +15,7 @@ use Rattle.enc_units.specs.Pieces.{PutsPieces}
 use Rattle.enc_units.specs.Gathering.{Gathers, IsByteText, AreByteTexts}
 use Rattle.enc_units.specs.declared.gather.Encoded.{Encoded}
 use Rattle.enc_units.proofs.PiecesLemmas.{reads_none, reads_then, reads_one, reads_ascii, units-append}
+use Rattle.enc_units.proofs.ScalarLemmas.{one_scalar, scalars-append, ascii_scalars}
 use Rattle.enc_units.proofs.Utf8SliceLemmas.{ascii_units}
 
 -- lanes of ASCII
@@ -114,12 +115,13 @@ utf8_four c l = rw (le-ltb c 128 (omega arith), le-ltb c 2048 (omega arith), le-
 -- what is gathered
 
 pub gathers_nothing : (Means : List ℕ → ℕ → Type 0) (src before after : List ℕ) → after ≡ before → Gathers Means src 0 before after
-gathers_nothing Means src before after e = record { text = []; reads = reads_none Means src; written = e ∙ sym (append-nil before) }
+gathers_nothing Means src before after e = record { text = []; scalars = refl; reads = reads_none Means src; written = e ∙ sym (append-nil before) }
 
 pub gathers_then : (Means : List ℕ → ℕ → Type 0) (src : List ℕ) (a n : ℕ) (before mid after : List ℕ)
     → Gathers Means src a before mid → Gathers Means (drop a src) n mid after → Gathers Means src (a + n) before after
 gathers_then Means src a n before mid after p q = record {
   text = p.text ++ q.text;
+  scalars = scalars-append p.text q.text p.scalars q.scalars;
   reads = reads_then Means src a n p.text q.text p.reads q.reads;
   written = q.written ∙ ap (λ z. z ++ units_of_text encode_utf8 q.text) p.written
       ∙ append_assoc before (units_of_text encode_utf8 p.text) (units_of_text encode_utf8 q.text) ∙ ap (λ z. before ++ z) (sym (units-append encode_utf8 p.text q.text));
@@ -129,14 +131,16 @@ pub gathers_ascii : (Means : List ℕ → ℕ → Type 0) (src : List ℕ) (n : 
     → n ≤ length src → AreAscii (take n src) → after ≡ before ++ take n src → Gathers Means src n before after
 gathers_ascii Means src n before after h w a e = record {
   text = take n src;
+  scalars = ascii_scalars (take n src) a;
   reads = reads_ascii Means src n h w a;
   written = e ∙ ap (λ z. before ++ z) (sym (ascii_units (take n src) a));
 }
 
-pub gathers_one : (Means : List ℕ → ℕ → Type 0) (src : List ℕ) (n c : ℕ) (before after : List ℕ) → 0 < n → n ≤ length src → Means (take n src) c
-    → after ≡ before ++ encode_utf8 c → Gathers Means src n before after
-gathers_one Means src n c before after h w m e = record {
+pub gathers_one : (Means : List ℕ → ℕ → Type 0) (src : List ℕ) (n c : ℕ) (before after : List ℕ) → 0 < n → n ≤ length src → IsScalar c
+    → Means (take n src) c → after ≡ before ++ encode_utf8 c → Gathers Means src n before after
+gathers_one Means src n c before after h w i m e = record {
   text = c ∷ [];
+  scalars = one_scalar c i;
   reads = reads_one Means src n c h w m;
   written = e ∙ ap (λ z. before ++ z) (sym (append-nil (encode_utf8 c)));
 }
@@ -159,8 +163,8 @@ gathers_byte Means src from read before mid after text t some inside p e =
     let byte = ap (take 1) (drop-cons rest read 0 long) ∙ ap (λ b. b ∷ []) (get_or_drop from read src) in
     let found = t.char some in
     gathers_then Means rest read 1 before mid after p
-    (gathers_one Means (drop read rest) 1 found.0 mid after (omega arith) (omega (arith, length-drop read rest)) (subst (λ z. Means z found.0) (sym byte) found.1)
-    (e ∙ ap (λ z. mid ++ z) found.2))
+    (gathers_one Means (drop read rest) 1 found.0 mid after (omega arith) (omega (arith, length-drop read rest)) found.1 (subst (λ z. Means z found.0) (sym byte) found.2)
+    (e ∙ ap (λ z. mid ++ z) found.3))
 
 -- no byte has a text
 pub no_texts : (Means : List ℕ → ℕ → Type 0) (text : Encoded) → text.len ≡ 0 → AreByteTexts Means (replicate 256 text)
@@ -174,6 +178,7 @@ pub puts_gathered : (Means : List ℕ → ℕ → Type 0) (before after : Output
     → length units ≤ before.room → after ≡ appended before units → PutsPieces encode_utf8 Means before after src n
 puts_gathered Means before after src n units p f e = record {
   text = p.text;
+  scalars = p.scalars;
   reads = p.reads;
   fits = omega (arith, ap length p.written);
   written = e ∙ ap (appended before) p.written;

@@ -2,11 +2,13 @@
 use Rattle.std.proofs.Common.{◌≡◌, ℕ, suc, ◌+◌, ◌<◌, ◌≤◌, true, List, [], ◌∷◌, ◌++◌, length, take, drop, refl, ap, ◌∙◌, sym, subst, arith, append_assoc, append-nil, length-append, length-drop, take-add, nat_le, length-take}
 use Rattle.std.proofs.lemmas.Bool.Decides.{nat_tests}
 use Rattle.std.proofs.lemmas.List.{take-take}
+use Rattle.std.specs.Char.{IsScalar}
 use Rattle.enc_units.specs.Output.{Output, appended, units_of_text}
 use Rattle.enc_units.specs.Validity.{AreAscii}
 use Rattle.enc_units.specs.AsciiRun.{PutsAscii}
 use Rattle.enc_units.specs.Pieces.{Piece, bytes_of, chars_of, AllMean, Reads, PutsPieces}
 use Rattle.enc_units.proofs.OutputLemmas.{appended-nil, appended-appended, room_left}
+use Rattle.enc_units.proofs.ScalarLemmas.{one_scalar, scalars-append, ascii_scalars}
 
 bytes_of-append : (ps qs : List Piece) → bytes_of (ps ++ qs) ≡ bytes_of ps ++ bytes_of qs
 bytes_of-append [] qs = refl
@@ -90,6 +92,7 @@ reads_ascii Means src n h w a = record {
 pub start : (units_of : ℕ → List ℕ) (Means : List ℕ → ℕ → Type 0) (o : Output) (src : List ℕ) → PutsPieces units_of Means o o src 0
 start units_of Means o src = record {
   text = [];
+  scalars = refl;
   reads = reads_none Means src;
   fits = omega arith;
   written = sym (appended-nil o);
@@ -104,6 +107,7 @@ then units_of Means before mid after src a n p q =
     let both = units-append units_of p.text q.text in
     record {
       text = p.text ++ q.text;
+      scalars = scalars-append p.text q.text p.scalars q.scalars;
       reads = reads_then Means src a n p.text q.text p.reads q.reads;
       fits = omega (arith, ap length both, length-append x y, p.fits, q.fits, room_left before mid x p.written);
       written = q.written ∙ ap (λ o. appended o y) p.written ∙ appended-appended before x y ∙ ap (appended before) (sym both);
@@ -114,6 +118,7 @@ pub ascii_pieces : (units_of : ℕ → List ℕ) (Means : List ℕ → ℕ → T
     → ((b : ℕ) → b < 0x80 → Means (b ∷ []) b) → PutsAscii units_of before after src n → PutsPieces units_of Means before after src n
 ascii_pieces units_of Means before after src n h p = record {
   text = take n src;
+  scalars = ascii_scalars (take n src) p.ascii;
   reads = reads_ascii Means src n h p.within p.ascii;
   fits = p.fits;
   written = p.written;
@@ -121,12 +126,13 @@ ascii_pieces units_of Means before after src n h p = record {
 
 -- one piece
 pub one_piece : (units_of : ℕ → List ℕ) (Means : List ℕ → ℕ → Type 0) (before after : Output) (src : List ℕ) (n c : ℕ)
-    → 0 < n → n ≤ length src → Means (take n src) c → nat_le (length (units_of c)) before.room ≡ true → after ≡ appended before (units_of c)
+    → 0 < n → n ≤ length src → IsScalar c → Means (take n src) c → nat_le (length (units_of c)) before.room ≡ true → after ≡ appended before (units_of c)
     → PutsPieces units_of Means before after src n
-one_piece units_of Means before after src n c h w m f e =
+one_piece units_of Means before after src n c h w i m f e =
     let units = append-nil (units_of c) in
     record {
       text = c ∷ [];
+      scalars = one_scalar c i;
       reads = reads_one Means src n c h w m;
       fits = let l : length (units_of c) ≤ before.room = grind (arith, nat_tests) in omega (arith, l, ap length units);
       written = e ∙ ap (appended before) (sym units);
@@ -158,6 +164,7 @@ pub puts_wider : (units_of : ℕ → List ℕ) (Means : List ℕ → ℕ → Typ
     → PutsPieces units_of Means before after front n → PutsPieces units_of Means before after src n
 puts_wider units_of Means before after src m n front e p = record {
   text = p.text;
+  scalars = p.scalars;
   reads = reads_wider Means src m n p.text (subst (λ z. Reads Means z n p.text) e p.reads);
   fits = p.fits;
   written = p.written;
@@ -181,6 +188,7 @@ puts_as units_of Means Other before after src n h p =
     let r = p.reads in
     record {
       text = p.text;
+      scalars = p.scalars;
       reads = record {
         pieces = r.pieces;
         within = r.within;

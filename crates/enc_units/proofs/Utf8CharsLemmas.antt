@@ -21,7 +21,7 @@ their_chars : (cs : List ℕ) → chars_of (pieces_of cs) ≡ cs
 their_chars [] = refl
 their_chars (c ∷ cs) = ap (λ x. c ∷ x) (their_chars cs)
 
-their_units : (cs : List ℕ) → units_of_text encode_utf8 cs ≡ encode_utf8_all cs
+pub their_units : (cs : List ℕ) → units_of_text encode_utf8 cs ≡ encode_utf8_all cs
 their_units [] = refl
 their_units (c ∷ cs) = ap (λ x. encode_utf8 c ++ x) (their_units cs)
 
@@ -55,6 +55,7 @@ puts_utf8 before after src n l f u e =
     let units = their_units u.0 ∙ u.1.1 in
     record {
       text = u.0;
+      scalars = u.1.0;
       reads = reads_utf8 src n l u;
       fits = omega (arith, ap length units, length-take n src);
       written = e ∙ ap (appended before) (sym units);

@@ -1,7 +1,7 @@
 -- Characters of an input, by the bytes that each is made of.
 use Rattle.std.specs.Prelude.{◌≡◌, ℕ, ◌≤◌, List, [], ◌∷◌, ◌++◌, length, take}
 use Rattle.std.specs.Char.{IsScalar, encode_utf8}
-use Rattle.enc_units.specs.Output.{Output, appended, units_of_text}
+use Rattle.enc_units.specs.Output.{Output, AreScalars, appended, units_of_text}
 
 pub record Piece : Type 0 where
   pub bytes : List ℕ
@@ -38,6 +38,7 @@ pub record Reads (Means : List ℕ → ℕ → Type 0) (src : List ℕ) (n : ℕ
 -- The first n bytes are pieces whose characters fit and are put out in turn.
 pub record PutsPieces (units_of : ℕ → List ℕ) (Means : List ℕ → ℕ → Type 0) (before after : Output) (src : List ℕ) (n : ℕ) : Type 0 where
   pub text : List ℕ
+  pub scalars : AreScalars text
   pub reads : Reads Means src n text
   pub fits : length (units_of_text units_of text) ≤ before.room
   pub written : after ≡ appended before (units_of_text units_of text)

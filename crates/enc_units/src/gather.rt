@@ -1,7 +1,7 @@
 //! Characters gathered as UTF-8 in a buffer of fixed length, so that an output takes many of them at once.
 
 ghost use Rattle.std.specs.Prelude.{◌≡◌, ℕ, ◌+◌, ◌<◌, ◌≤◌, List, [], ◌∷◌, ◌++◌, length, take, drop, slice_index, IsTrue};
-ghost use Rattle.std.specs.Char.{encode_utf8};
+ghost use Rattle.std.specs.Char.{IsScalar, encode_utf8};
 ghost use Rattle.enc_units.specs.Validity.{AreAscii};
 ghost use Rattle.enc_units.specs.Gathering.{Gathers};
 
@@ -27,6 +27,7 @@ pub(crate) fn utf8_of(character: char) -> Encoded
     ensures some { 1 ≤ result.len }
     ensures bound { result.len ≤ 4 }
     ensures bytes { take result.len result.bytes ≡ encode_utf8 character }
+    ensures scalar { IsScalar character }
 {
     let scalar = character as u32;
     let low = 0x80 + (scalar % 64) as u8;

@@ -68,7 +68,7 @@ module _ (big : Bool) where
 abbrev HasForm : List ℕ → Head → Type 0
 HasForm z h = (h.more ≤ length z) × ((c : ℕ) × (h.text ≡ c ∷ []))
 
-either_head : (P : Head → Type 0) (t : Bool) (x y : Head) → P x → P y → P (cond t x y)
+pub either_head : (P : Head → Type 0) (t : Bool) (x y : Head) → P x → P y → P (cond t x y)
 either_head P true x y p q = p
 either_head P false x y p q = q
 

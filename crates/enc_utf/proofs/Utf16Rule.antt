@@ -1,15 +1,14 @@
 -- The laws of UTF-16's rule. Each sequence is told by its own bytes, but a lead surrogate that no trail follows by
 -- the code unit behind it, and what is left over at the end of the input by the end.
-use Rattle.std.proofs.Common.{◌≡◌, ℕ, ◌<◌, ◌≤◌, Bool, true, false, List, [], ◌∷◌, length, refl, ap, ◌∙◌, sym, arith, subst, inl, inr}
-use Rattle.std.specs.Char.{encode_utf8}
-use Rattle.enc_units.specs.Output.{units_of_text}
+use Rattle.std.proofs.Common.{◌≡◌, ℕ, ◌<◌, Bool, true, false, List, [], ◌∷◌, refl, ap, ◌∙◌, sym, arith, subst, inl, inr}
 use Rattle.enc_machine.specs.declared.byte_codec.Kind.TheVariants.{Valid, Malformed}
 use Rattle.enc_machine.specs.Segmentation.{Head}
-use Rattle.enc_machine.specs.RuleLaws.{HasTexts, HasSmallTexts, IsToldBy, IsToldByEnd, IsLawful}
-use Rattle.enc_utf.specs.Utf16.{code_unit, is_lead, is_trail, utf_16_rule}
+use Rattle.enc_machine.specs.RuleLaws.{HasTexts, IsSmallText, HasSmallTexts, IsToldBy, IsToldByEnd, IsLawful}
+use Rattle.enc_machine.specs.Latin1.{HasNoBytes}
+use Rattle.enc_utf.specs.Utf16.{code_unit, is_lead, is_trail, lead_head, utf_16_rule}
 use Rattle.enc_machine.proofs.RuleLemmas.{one_small}
 use Rattle.enc_machine.proofs.ToldLemmas.{true_or_false, told_by, IsToldInTime, lookahead_by}
-use Rattle.enc_utf.proofs.Utf16Lemmas.{one_head, character_first, trail_first, lead_at_end, lead_and_byte, pair_first, lead_alone, has_form}
+use Rattle.enc_utf.proofs.Utf16Lemmas.{either_head, one_head, character_first, trail_first, lead_at_end, lead_and_byte, pair_first, lead_alone, has_form}
 
 -- heads that differ
 
@@ -102,10 +101,27 @@ module _ (big : Bool) where
   pub utf_16_has_small_texts : HasSmallTexts (utf_16_rule big)
   utf_16_has_small_texts set b z =
       let f = (has_form big set b z).1 in
-      subst (λ (t : List ℕ). length (units_of_text encode_utf8 t) ≤ 4) (sym f.1) (one_small f.0)
+      subst IsSmallText (sym f.1) (one_small f.0)
 
   pub utf_16_has_texts : HasTexts (utf_16_rule big)
   utf_16_has_texts set b z e = let f = (has_form big set b z).1.1 in cc
 
   pub utf_16_is_lawful : IsLawful (utf_16_rule big)
   utf_16_is_lawful = record { lookahead = lookahead_by (utf_16_rule big) told; small_texts = utf_16_has_small_texts }
+
+-- a character has two bytes or four
+
+abbrev HasMore : Head → Type 0
+HasMore h = h.kind ≡ Valid → 0 < h.more
+
+lead_has_more : (big : Bool) (set lead : ℕ) (z : List ℕ) → HasMore (lead_head big set lead z)
+lead_has_more big set lead [] v = omega arith
+lead_has_more big set lead (d ∷ []) v = omega arith
+lead_has_more big set lead (d ∷ e ∷ z) v = either_head HasMore (is_trail (code_unit big d e)) _ _ (λ _. omega arith) (λ _. omega arith) v
+
+pub utf_16_has_no_bytes : (big : Bool) → HasNoBytes (utf_16_rule big)
+unfolding utf_16_rule
+utf_16_has_no_bytes big b [] v = absurd (cc)
+utf_16_has_no_bytes big b (c ∷ z) v =
+    let u = code_unit big b c in
+    either_head HasMore (is_lead u) _ _ (lead_has_more big 0 u z) (either_head HasMore (is_trail u) _ _ (λ _. omega arith) (λ _. omega arith)) v

@@ -1,11 +1,11 @@
 -- The laws of UTF-8's rule. The text of each sequence is one character.
-use Rattle.std.proofs.Common.{◌≡◌, ℕ, ◌+◌, ◌≤◌, List, [], ◌∷◌, length, Bool, true, false, eqb, cond, refl, subst, sym}
-use Rattle.std.specs.Char.{encode_utf8}
-use Rattle.enc_units.specs.Output.{units_of_text}
+use Rattle.std.proofs.Common.{◌≡◌, ℕ, ◌+◌, List, [], ◌∷◌, Bool, true, false, eqb, cond, refl, subst, sym}
 use Rattle.enc_machine.specs.Segmentation.{Head}
 use Rattle.enc_utf.specs.Utf8.{reach, sequence_len, utf_8_rule}
-use Rattle.enc_machine.specs.RuleLaws.{HasTexts, HasSmallTexts, IsLawful}
+use Rattle.enc_machine.specs.RuleLaws.{HasTexts, IsSmallText, HasSmallTexts, IsLawful}
+use Rattle.enc_machine.specs.Latin1.{HasNoBytes}
 use Rattle.enc_machine.proofs.RuleLemmas.{one_small}
+use Rattle.enc_machine.proofs.Latin1Lemmas.{has_bytes_by}
 use Rattle.enc_utf.proofs.Utf8Lookahead.{utf_8_has_lookahead}
 
 either_text : (t : Bool) (x y : Head) (c d : ℕ) → x.text ≡ c ∷ [] → y.text ≡ d ∷ [] → (e : ℕ) × ((cond t x y).text ≡ e ∷ [])
@@ -22,7 +22,12 @@ utf_8_has_texts set b z e = let f = (one_character set b z).1 in cc
 pub utf_8_has_small_texts : HasSmallTexts utf_8_rule
 utf_8_has_small_texts set b z =
     let f = one_character set b z in
-    subst (λ (t : List ℕ). length (units_of_text encode_utf8 t) ≤ 4) (sym f.1) (one_small f.0)
+    subst IsSmallText (sym f.1) (one_small f.0)
 
 pub utf_8_is_lawful : IsLawful utf_8_rule
 utf_8_is_lawful = record { lookahead = utf_8_has_lookahead; small_texts = utf_8_has_small_texts }
+
+-- an ASCII byte is a character by itself
+pub utf_8_has_bytes : ¬ (HasNoBytes utf_8_rule)
+unfolding utf_8_rule sequence_len
+utf_8_has_bytes = has_bytes_by utf_8_rule 0x61 [] refl refl

@@ -275,4 +275,9 @@ impl RawDecoder for Utf16Decoder {
     fn held(&self) -> usize {
         ByteCodec::held(*self) as usize
     }
+
+    fn latin1_byte_compatible_up_to(&self, bytes: &[u8]) -> Option<usize> {
+        let _bytes = bytes;
+        None
+    }
 }

@@ -5,7 +5,9 @@ ghost use Rattle.enc_utf.specs.Utf8.{sequence_len as len_by_lead, is_second as s
 ghost use Rattle.enc_utf.specs.Utf8State.{wants_more, utf_8_state};
 ghost use Rattle.enc_machine.specs.CodecLaw.{Acts};
 
-use enc_machine::{ByteCodec, DecoderResult, Kind, Pending, RawDecoder, Shown, Step, Text, run};
+use enc_machine::{
+    ByteCodec, DecoderResult, Kind, Pending, RawDecoder, Shown, Step, Text, latin1_up_to, run,
+};
 use enc_units::Units;
 use std::marker::Model;
 
@@ -265,5 +267,10 @@ impl RawDecoder for Utf8Decoder {
 
     fn held(&self) -> usize {
         ByteCodec::held(*self) as usize
+    }
+
+    #[tactic(auto, using(crate::proofs::Utf8Rule::utf_8_has_bytes))]
+    fn latin1_byte_compatible_up_to(&self, bytes: &[u8]) -> Option<usize> {
+        latin1_up_to(*self, bytes)
     }
 }

@@ -230,6 +230,7 @@ module _ (e : Encoding) (life now : LifeCycle) (v : CodecState) (src : List ℕ)
             residual = λ z l. ap (λ x. remaining_sequences from (x ++ z)) (sym whole) ∙ behind_held z ∙ ap (λ x. remaining_sequences held (x ++ z)) (sym (drop_of_length-le src (omega arith)));
             set = refl;
             text = refl;
+            scalars = refl;
             fits = omega arith;
             flag = refl;
             none_replaced = λ _. refl;

@@ -3,13 +3,15 @@ use Rattle.std.proofs.Common.{◌≡◌, ℕ, ◌+◌, ◌-◌, ◌<◌, ◌≤�
 use Rattle.std.specs.Prelude.{if◌then◌else◌}
 use Rattle.std.proofs.lemmas.List.{append-nil}
 use Rattle.std.proofs.Math.ListN.{length-take}
+use Rattle.std.proofs.Math.Seq.{take-append_seam, drop-append_seam}
 use Rattle.std.specs.Char.{encode_utf8}
+use Rattle.std.specs.Char.Escape.{encode_utf16}
 use Rattle.encoding_rs.specs.declared.encoding.Encoding.{Encoding}
 use Rattle.encoding_rs.specs.declared.life_cycle.LifeCycle.{LifeCycle}
 use Rattle.encoding_rs.specs.declared.life_cycle.LifeCycle.TheVariants.{AtStart, AtUtf8Start, AtUtf16BeStart, AtUtf16LeStart, SeenUtf8First, SeenUtf8Second, SeenUtf16BeFirst, SeenUtf16LeFirst, ConvertingWithPendingBb, Converting, Finished}
 use Rattle.enc_machine.specs.declared.decoder_result.DecoderResult.{DecoderResult}
 use Rattle.enc_machine.specs.declared.decoder_result.DecoderResult.TheVariants.{OutputFull}
-use Rattle.enc_units.specs.Output.{Output, units_of_text}
+use Rattle.enc_units.specs.Output.{Output, DetermineTexts, units_of_text}
 use Rattle.enc_machine.specs.Sequence.{Sequence, bytes_of, text_of, set_after}
 use Rattle.enc_machine.specs.Segmentation.{Rule, sequences_of}
 use Rattle.enc_machine.specs.Remainder.{Begins, AreDetermined}
@@ -20,8 +22,8 @@ use Rattle.enc_utf.specs.Utf16.{utf_16_rule}
 use Rattle.encoding_rs.specs.Encodings.{rule_of}
 use Rattle.encoding_rs.specs.Bom.{Mark, sequences_by, utf_8_mark, utf_16be_mark, utf_16le_mark, find_mark}
 use Rattle.encoding_rs.specs.LifeCycle.{Phase, InFront, Within, Ended, phase_of, awaits_mark, mark_in, mark_bytes, encoding_by, sequences_in, held_bytes, fronts, state_at, state_behind, life_after}
-use Rattle.encoding_rs.specs.Decoding.{DecoderState, has_ended, finished, remaining_sequences, TellsHeld, Decodes, DecodesInto, IsAsBefore}
-use Rattle.enc_machine.proofs.RuleLemmas.{none_without_text, has_bytes, small_text, no_units}
+use Rattle.encoding_rs.specs.Decoding.{DecoderState, has_ended, finished, remaining_sequences, TellsHeld, Decodes, DecodesInto, TakesSmallTexts, Converts, ConvertsInto, IsAsBefore}
+use Rattle.enc_machine.proofs.RuleLemmas.{none_without_text, has_bytes, small_text}
 use Rattle.enc_machine.proofs.SegmentationLemmas.{sequences_of-nil}
 use Rattle.enc_utf.proofs.Utf8Rule.{utf_8_has_texts}
 use Rattle.enc_utf.proofs.Utf16Rule.{utf_16_has_texts}
@@ -29,7 +31,7 @@ use Rattle.encoding_rs.proofs.EncodingLemmas.{small_texts}
 use Rattle.encoding_rs.proofs.TextLemmas.{held_unmarked, marked_sequences}
 use Rattle.encoding_rs.proofs.HeldLemmas.{own_state}
 use Rattle.enc_calls.proofs.JoinLemmas.{no_bytes}
-use Rattle.encoding_rs.proofs.RunLemmas.{ends_at_end}
+use Rattle.encoding_rs.proofs.EndLemmas.{ends_at_end}
 
 -- The sequences still to come are those of a rule: the encoding's, or that of a mark.
 record ByRule (P : Rule → Type 0) (sequences : List Sequence) : Type 0 where
@@ -106,15 +108,15 @@ same_state a b e l s p =
     let made : Encoding → LifeCycle → ℕ → List ℕ → DecoderState = λ w x y z. record { encoding = w; life = x; set = y; pending = z } in
     ap (λ w. made w a.life a.set a.pending) e ∙ ap (λ x. made b.encoding x a.set a.pending) l ∙ ap (λ y. made b.encoding b.life y a.pending) s ∙ ap (made b.encoding b.life b.set) p
 
-module _ (treatment : Treatment) (old new : DecoderState) (src : List ℕ) (last : Bool) (room read : ℕ) (wrote : List ℕ) (replaced : Bool)
-    (d : Decodes encode_utf8 treatment old new src last room OutputFull read wrote replaced) where
+module _ (units_of : ℕ → List ℕ) (determine : DetermineTexts units_of) (treatment : Treatment) (old new : DecoderState) (src : List ℕ) (last : Bool) (room read : ℕ) (wrote : List ℕ) (replaced : Bool)
+    (d : Decodes units_of treatment old new src last room OutputFull read wrote replaced) where
   -- where nothing is written, nothing that has a text is done
   no_text : length wrote ≡ 0 → text_of d.call.done ≡ []
-  no_text w = ap text_of d.call.stops.only_put ∙ no_units (text_of d.call.put) (sym d.call.text ∙ no_bytes wrote w)
+  no_text w = ap text_of d.call.stops.only_put ∙ determine (text_of d.call.put) [] d.call.scalars refl (sym d.call.text ∙ no_bytes wrote w)
 
-  -- With room for four units something is done: fewer bytes are pending or unread.
-  pub less_at_hand : 4 ≤ room → length new.pending + (length src - read) < length old.pending + length src
-  less_at_hand h =
+  -- With room for a small text something is done: fewer bytes are pending or unread.
+  less_at_hand : (least : ℕ) → TakesSmallTexts units_of least → least ≤ room → length new.pending + (length src - read) < length old.pending + length src
+  less_at_hand least takes h =
       let b = begins_at last (remaining_sequences old) src (d.call.done ++ d.call.stops.next ∷ []) d.call.stops.determined in
       let r = by_rule HasSmallTexts (small_texts utf_8_mark.encoding) (small_texts utf_16be_mark.encoding) (small_texts utf_16le_mark.encoding) old b.0 (small_texts old.encoding) in
       let cut : sequences_of r.rule r.set r.bytes ≡ d.call.done ++ d.call.stops.next ∷ b.1.0 = sym r.is ∙ b.1.1 ∙ append_assoc d.call.done (d.call.stops.next ∷ []) b.1.0 in
@@ -126,8 +128,8 @@ module _ (treatment : Treatment) (old new : DecoderState) (src : List ℕ) (last
       omega arith
     where
       some_done : (rule : Rule) → HasSmallTexts rule → (set : ℕ) (z : List ℕ) (done rest : List Sequence) → sequences_of rule set z ≡ done ++ d.call.stops.next ∷ rest
-          → room < length (units_of_text encode_utf8 (text_of done)) + length (units_of_text encode_utf8 d.call.stops.next.text) → 0 < length (bytes_of done)
-      some_done rule small set z [] rest e f = let g = small_text rule small set z [] d.call.stops.next rest e in absurd (omega arith)
+          → room < length (units_of_text units_of (text_of done)) + length (units_of_text units_of d.call.stops.next.text) → 0 < length (bytes_of done)
+      some_done rule small set z [] rest e f = let g = takes d.call.stops.next.text (small_text rule small set z [] d.call.stops.next rest e) in absurd (omega arith)
       some_done rule small set z (x ∷ done) rest e f = let g = has_bytes rule set z [] x (done ++ d.call.stops.next ∷ rest) e in let l = length-append x.bytes (bytes_of done) in omega arith
 
   -- where each sequence has a text, nothing is done where nothing is written
@@ -137,8 +139,8 @@ module _ (treatment : Treatment) (old new : DecoderState) (src : List ℕ) (last
       none_without_text r.rule r.holds r.set r.bytes d.call.done (remaining_sequences new (drop read src ++ [])) (sym r.is ∙ d.call.residual [] (λ _. refl)) (no_text w)
 
 -- A call that stops for want of room, and has read nothing and written nothing.
-module _ (treatment : Treatment) (old new : DecoderState) (tells : TellsHeld old) (going : finished old ≡ false) (src : List ℕ) (last : Bool) (room read : ℕ) (wrote : List ℕ) (replaced : Bool)
-    (d : Decodes encode_utf8 treatment old new src last room OutputFull read wrote replaced) (r : read ≡ 0) (w : length wrote ≡ 0) where
+module _ (units_of : ℕ → List ℕ) (determine : DetermineTexts units_of) (treatment : Treatment) (old new : DecoderState) (tells : TellsHeld old) (going : finished old ≡ false) (src : List ℕ) (last : Bool) (room read : ℕ)
+    (wrote : List ℕ) (replaced : Bool) (d : Decodes units_of treatment old new src last room OutputFull read wrote replaced) (r : read ≡ 0) (w : length wrote ≡ 0) where
   none_read : old.pending ++ take read src ≡ old.pending
   none_read = ap (λ n. old.pending ++ take n src) r ∙ append-nil old.pending
 
@@ -156,10 +158,10 @@ module _ (treatment : Treatment) (old new : DecoderState) (tells : TellsHeld old
       (d.life ∙ ap (λ x. life_after old.life false x d.call.done) none_read ∙ ap (state_behind (state_at (fronts old.life) old.pending)) f ∙ own_state old.life old.pending going tells.in_front tells.behind)
       (d.call.set ∙ ap (set_after old.set) f) (sym (was_pending ∙ ap (λ x. bytes_of x ++ new.pending) f))
 
-  pub as_before : IsAsBefore src last old new
+  as_before : IsAsBefore src last old new
   as_before = record {
     skipped = d.call.done;
-    no_text = no_text treatment old new src last room read wrote replaced d w;
+    no_text = no_text units_of determine treatment old new src last room read wrote replaced d w;
     come_first = λ z l. d.call.residual z l ∙ ap (λ n. d.call.done ++ remaining_sequences new (drop n src ++ z)) r;
     pending = was_pending;
     set = d.call.set;
@@ -168,20 +170,68 @@ module _ (treatment : Treatment) (old new : DecoderState) (tells : TellsHeld old
     same = same_by_done;
   }
 
-  pub just_the_same : HasTexts (rule_of old.encoding) → new ≡ old
-  just_the_same has = same_by_done (none_done treatment old new src last room read wrote replaced d has w)
+  just_the_same : HasTexts (rule_of old.encoding) → new ≡ old
+  just_the_same has = same_by_done (none_done units_of determine treatment old new src last room read wrote replaced d has w)
 
--- A call over a slice that is empty as yet.
-pub over_slice : (treatment : Treatment) (old new : DecoderState) (src : List ℕ) (last : Bool) (before after : Output) (result : DecoderResult) (read : ℕ) (replaced : Bool) (text : List ℕ) (room : ℕ)
-    → DecodesInto encode_utf8 treatment old new src last before after result read replaced → before.written ≡ [] → before.room ≡ room → after.written ≡ text
-    → Decodes encode_utf8 treatment old new src last room result read text replaced
-over_slice treatment old new src last before after result read replaced text room c w r a =
-    let e : c.wrote ≡ text = sym (ap (λ x. x ++ c.wrote) w) ∙ sym (ap (λ (o : Output). o.written) c.onto) ∙ a in
-    subst (λ x. Decodes encode_utf8 treatment old new src last room result read x replaced) e
-    (subst (λ n. Decodes encode_utf8 treatment old new src last n result read c.wrote replaced) r c.decodes)
+-- what a call does, and what that says where it stops for want of room
+pub converts : (units_of : ℕ → List ℕ) (least : ℕ) (treatment : Treatment) (old new : DecoderState) (src : List ℕ) (last : Bool) (room : ℕ) (result : DecoderResult) (read : ℕ) (wrote : List ℕ) (replaced : Bool)
+    → DetermineTexts units_of → TakesSmallTexts units_of least → TellsHeld old → finished old ≡ false
+    → Decodes units_of treatment old new src last room result read wrote replaced → Converts units_of least treatment old new src last room result read wrote replaced
+converts units_of least treatment old new src last room result read wrote replaced determine takes tells going d = record {
+  decodes = d;
+  unchanged = λ f r w. as_before units_of determine treatment old new tells going src last room read wrote replaced (full f) r (ap length w);
+  same = λ f r w has. just_the_same units_of determine treatment old new tells going src last room read wrote replaced (full f) r (ap length w) has;
+  progress = λ f h. less_at_hand units_of determine treatment old new src last room read wrote replaced (full f) least takes h;
+}
+  where
+    full : result ≡ OutputFull → Decodes units_of treatment old new src last room OutputFull read wrote replaced
+    full f = subst (λ x. Decodes units_of treatment old new src last room x read wrote replaced) f d
+
+pub converts_into : (units_of : ℕ → List ℕ) (treatment : Treatment) (old new : DecoderState) (src : List ℕ) (last : Bool) (before after : Output) (result : DecoderResult) (read : ℕ) (replaced : Bool)
+    → DetermineTexts units_of → TellsHeld old → finished old ≡ false
+    → DecodesInto units_of treatment old new src last before after result read replaced → ConvertsInto units_of treatment old new src last before after result read replaced
+converts_into units_of treatment old new src last before after result read replaced determine tells going d = record {
+  wrote = d.wrote;
+  onto = d.onto;
+  converts = λ least takes. converts units_of least treatment old new src last before.room result read d.wrote replaced determine takes tells going d.decodes;
+}
 
 -- a call that reports replaces nothing
-pub reports : (old new : DecoderState) (src : List ℕ) (last : Bool) (room : ℕ) (result : DecoderResult) (read : ℕ) (wrote : List ℕ) (replaced : Bool)
-    → Decodes encode_utf8 (Reported false) old new src last room result read wrote replaced → Decodes encode_utf8 (Reported false) old new src last room result read wrote false
-reports old new src last room result read wrote replaced d =
-    subst (λ b. Decodes encode_utf8 (Reported false) old new src last room result read wrote b) (d.call.none_replaced refl) d
+pub reports_into : (units_of : ℕ → List ℕ) (old new : DecoderState) (src : List ℕ) (last : Bool) (before after : Output) (result : DecoderResult) (read : ℕ) (replaced : Bool)
+    → DetermineTexts units_of → TellsHeld old → finished old ≡ false
+    → DecodesInto units_of (Reported false) old new src last before after result read replaced → ConvertsInto units_of (Reported false) old new src last before after result read false
+reports_into units_of old new src last before after result read replaced determine tells going d =
+    subst (ConvertsInto units_of (Reported false) old new src last before after result read) (d.decodes.call.none_replaced refl)
+    (converts_into units_of (Reported false) old new src last before after result read replaced determine tells going d)
+
+-- A call over an output that is empty as yet.
+pub over_slice : (units_of : ℕ → List ℕ) (least : ℕ) (treatment : Treatment) (old new : DecoderState) (src : List ℕ) (last : Bool) (before after : Output) (result : DecoderResult) (read : ℕ) (replaced : Bool) (text : List ℕ) (room : ℕ)
+    → TakesSmallTexts units_of least → ConvertsInto units_of treatment old new src last before after result read replaced → before.written ≡ [] → before.room ≡ room → after.written ≡ text
+    → Converts units_of least treatment old new src last room result read text replaced
+over_slice units_of least treatment old new src last before after result read replaced text room takes c w r a =
+    let e : c.wrote ≡ text = sym (ap (λ x. x ++ c.wrote) w) ∙ sym (ap (λ (o : Output). o.written) c.onto) ∙ a in
+    subst (λ x. Converts units_of least treatment old new src last room result read x replaced) e
+    (subst (λ n. Converts units_of least treatment old new src last n result read c.wrote replaced) r (c.converts least takes))
+
+-- A call over an output that has a text already.
+pub over_text : (units_of : ℕ → List ℕ) (least : ℕ) (treatment : Treatment) (old new : DecoderState) (src : List ℕ) (last : Bool) (before after : Output) (result : DecoderResult) (read : ℕ) (replaced : Bool) (text now : List ℕ) (len room : ℕ)
+    → TakesSmallTexts units_of least → ConvertsInto units_of treatment old new src last before after result read replaced → before.written ≡ text → length text ≡ len → before.room ≡ room → after.written ≡ now
+    → Converts units_of least treatment old new src last room result read (drop len now) replaced
+over_text units_of least treatment old new src last before after result read replaced text now len room takes c w l r a =
+    let all : now ≡ text ++ c.wrote = sym a ∙ ap (λ (o : Output). o.written) c.onto ∙ ap (λ x. x ++ c.wrote) w in
+    let e : c.wrote ≡ drop len now = sym (drop-append_seam text c.wrote) ∙ ap (λ n. drop n (text ++ c.wrote)) l ∙ ap (drop len) (sym all) in
+    subst (λ x. Converts units_of least treatment old new src last room result read x replaced) e
+    (subst (λ n. Converts units_of least treatment old new src last n result read c.wrote replaced) r (c.converts least takes))
+
+-- what was there stays in front
+pub in_front : (units_of : ℕ → List ℕ) (treatment : Treatment) (old new : DecoderState) (src : List ℕ) (last : Bool) (before after : Output) (result : DecoderResult) (read : ℕ) (replaced : Bool) (text now : List ℕ) (len : ℕ)
+    → ConvertsInto units_of treatment old new src last before after result read replaced → before.written ≡ text → length text ≡ len → after.written ≡ now → take len now ≡ text
+in_front units_of treatment old new src last before after result read replaced text now len c w l a =
+    ap (take len) (sym a ∙ ap (λ (o : Output). o.written) c.onto ∙ ap (λ x. x ++ c.wrote) w) ∙ ap (λ n. take n (text ++ c.wrote)) (sym l) ∙ take-append_seam text c.wrote
+
+-- small texts fit into four units of UTF-8, and two of UTF-16
+pub four_bytes : TakesSmallTexts encode_utf8 4
+four_bytes text s = s.utf_8
+
+pub two_units : TakesSmallTexts encode_utf16 2
+two_units text s = s.utf_16

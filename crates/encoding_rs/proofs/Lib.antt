@@ -2,8 +2,11 @@ pub mod TextLemmas
 pub mod HeldLemmas
 pub mod BehindLemmas
 pub mod FullLemmas
+pub mod EndLemmas
+pub mod WholeLemmas
 pub mod RunLemmas
 pub mod EncodingLemmas
+pub mod Latin1Lemmas
 pub mod LabelLemmas
 pub mod WellFormedLemmas
 pub mod SniffingLemmas

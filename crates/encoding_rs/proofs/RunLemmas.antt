@@ -1,11 +1,15 @@
 -- A run goes on by one call.
-use Rattle.std.proofs.Common.{◌≡◌, ℕ, ◌+◌, ◌<◌, ◌≤◌, Bool, true, false, true≢false, List, [], ◌∷◌, ◌++◌, length, take, drop, refl, ap, ◌∙◌, sym, arith, append_assoc, ◌||◌, subst, nat_le, append-nil, get_or}
+use Rattle.std.proofs.Common.{◌≡◌, ℕ, ◌+◌, ◌-◌, ◌<◌, ◌≤◌, Bool, true, false, true≢false, List, [], ◌∷◌, ◌++◌, map, length, take, drop, refl, ap, ◌∙◌, sym, arith, append_assoc, ◌||◌, ◌&&◌, subst, nat_le, append-nil, get_or}
+use Rattle.std.proofs.lemmas.Bool.{and_parts, not-true}
 use Rattle.std.proofs.lemmas.Bool.Decides.{nat_tests}
-use Rattle.std.proofs.lemmas.List.{take-append-drop, drop-append-le, drop-drop, take_more, take_min}
+use Rattle.std.proofs.lemmas.List.{take-append-drop, drop-append-le, drop-drop, take_more, take_min, length-append}
 use Rattle.std.proofs.Math.ListN.{drop_of_length-le, length-drop, length-take}
 use Rattle.std.proofs.Math.Seq.{take-append_seam}
-use Rattle.std.specs.Prelude.{min, Option, Some, if◌then◌else◌, bytes_eq}
+use Rattle.std.specs.Prelude.{min, Option, Some, None, if◌then◌else◌, bytes_eq}
 use Rattle.std.specs.Char.{encode_utf8}
+use Rattle.std.specs.Char.Escape.{encode_utf16}
+use Rattle.std.specs.Char.Utf16.{utf16_lossy_chars}
+use Rattle.std.specs.Str.{encode_utf8_all}
 use Rattle.encoding_rs.specs.declared.bom.BomHandling.{BomHandling}
 use Rattle.encoding_rs.specs.declared.bom.BomHandling.TheVariants.{Off, Sniff, Remove}
 use Rattle.encoding_rs.specs.declared.encoding.Encoding.{Encoding}
@@ -13,83 +17,35 @@ use Rattle.encoding_rs.specs.declared.encoding.Id.{Id}
 use Rattle.encoding_rs.specs.declared.encoding.Id.TheVariants.{Utf8, Utf16be, Utf16le}
 use Rattle.encoding_rs.specs.declared.life_cycle.LifeCycle.{LifeCycle}
 use Rattle.encoding_rs.specs.declared.life_cycle.LifeCycle.TheVariants.{AtStart, SeenUtf8Second, ConvertingWithPendingBb, Converting, Finished}
-use Rattle.enc_calls.specs.declared.coder_result.CoderResult.{CoderResult}
-use Rattle.enc_calls.specs.declared.coder_result.CoderResult.TheVariants.{InputEmpty, OutputFull}
+use Rattle.enc_machine.specs.declared.decoder_result.DecoderResult.{DecoderResult}
+use Rattle.enc_machine.specs.declared.decoder_result.DecoderResult.TheVariants.{InputEmpty, OutputFull, Malformed}
 use Rattle.encoding_rs.specs.declared.run.DecodeCall.{DecodeCall}
-use Rattle.enc_units.specs.Output.{units_of_text}
-use Rattle.enc_machine.specs.Sequence.{Sequence, bytes_of, text_of, any_malformed}
-use Rattle.enc_machine.specs.Call.{is_end}
-use Rattle.encoding_rs.specs.Bom.{own_marks, find_mark, sequences_by}
-use Rattle.encoding_rs.specs.LifeCycle.{phase_of, sequences_in, fronts, state_at, left_behind, state_behind, life_after}
-use Rattle.enc_calls.specs.Replacing.{stop_of}
-use Rattle.encoding_rs.specs.Decoding.{DecoderState, has_ended, finished, removal_start, fresh, remaining_sequences, whole_sequences, whole_utf_8, whole_malformed, DecodesReplacing, HasDecoded}
-use Rattle.encoding_rs.specs.Run.{MakesCall, RunState, GoesOn, IsRun, Begun}
-use Rattle.enc_machine.proofs.SequenceLemmas.{units-append, any_malformed-append}
-
--- whether a state that may come next is the end
-any_ended : List (List ℕ × LifeCycle) → Bool
-any_ended [] = false
-any_ended (front ∷ others) = has_ended front.1 || any_ended others
-
-none_ended : (life : LifeCycle) → any_ended (fronts life) ≡ false
-unfolding any_ended
-none_ended AtStart = refl
-none_ended _ = refl
-
-first_open : (a b : Bool) → (a || b) ≡ false → a ≡ false
-first_open true b h = h
-first_open false b h = refl
-
-others_open : (a b : Bool) → (a || b) ≡ false → b ≡ false
-others_open true b h = absurd (true≢false h)
-others_open false b h = h
-
-open_bb : (b : Bool) → has_ended (if b then ConvertingWithPendingBb else Converting) ≡ false
-open_bb true = refl
-open_bb false = refl
-
-open_left : (life : LifeCycle) (bytes : List ℕ) → has_ended (left_behind life bytes) ≡ false
-open_left SeenUtf8Second bytes = open_bb (bytes_eq (0xEF ∷ []) bytes)
-open_left _ bytes = refl
-
-open_some : (life : LifeCycle) (done : List Sequence) → has_ended life ≡ false → has_ended (state_behind (Some life) done) ≡ false
-open_some life [] h = h
-open_some life (s ∷ ss) h = open_left life (bytes_of (s ∷ ss))
-
-open_if : (b : Bool) (life : LifeCycle) (other : Option LifeCycle) (done : List Sequence) → has_ended life ≡ false → has_ended (state_behind other done) ≡ false
-    → has_ended (state_behind (if b then Some life else other) done) ≡ false
-open_if true life other done h k = open_some life done h
-open_if false life other done h k = k
-
-open_at : (states : List (List ℕ × LifeCycle)) (bytes : List ℕ) (done : List Sequence) → any_ended states ≡ false → has_ended (state_behind (state_at states bytes) done) ≡ false
-unfolding any_ended
-open_at [] bytes done h = refl
-open_at (front ∷ others) bytes done h =
-    open_if _ front.1 (state_at others bytes) done (first_open (has_ended front.1) (any_ended others) h)
-    (open_at others bytes done (others_open (has_ended front.1) (any_ended others) h))
-
--- only the end leads to the end
-pub ends_at_end : (life : LifeCycle) (end : Bool) (bytes : List ℕ) (done : List Sequence) → has_ended (life_after life end bytes done) ≡ end
-ends_at_end life true bytes done = refl
-ends_at_end life false bytes done = open_at (fronts life) bytes done (none_ended life)
-
--- so a call has finished just where it came to the end
-pub finishes : (old new : DecoderState) (src : List ℕ) (last : Bool) (room : ℕ) (result : CoderResult) (read : ℕ) (wrote : List ℕ) (replaced : Bool)
-    → DecodesReplacing encode_utf8 old new src last room result read wrote replaced → finished new ≡ is_end last (stop_of result)
-finishes old new src last room result read wrote replaced h =
-    ap has_ended h.life ∙ ends_at_end old.life (is_end last (stop_of result)) (old.pending ++ take read src) h.call.done
-
--- a call that replaces has put out all that it has done
-pub only_put : (old new : DecoderState) (src : List ℕ) (last : Bool) (room : ℕ) (result : CoderResult) (read : ℕ) (wrote : List ℕ) (replaced : Bool)
-    (h : DecodesReplacing encode_utf8 old new src last room result read wrote replaced) → h.call.put ≡ h.call.done
-only_put old new src last room InputEmpty read wrote replaced h = sym h.call.stops.only_put
-only_put old new src last room OutputFull read wrote replaced h = sym h.call.stops.only_put
+use Rattle.enc_units.specs.Output.{AreScalars, DetermineTexts, units_of_text}
+use Rattle.enc_machine.specs.Sequence.{Sequence, bytes_of, text_of, is_malformed, any_malformed}
+use Rattle.enc_machine.specs.Call.{Treatment, Replaced, Reported, is_end, is_replaced, Stops}
+use Rattle.encoding_rs.specs.Encodings.{rule_of}
+use Rattle.encoding_rs.specs.Bom.{own_marks, marks_looked_for, find_mark, sequences_by}
+use Rattle.encoding_rs.specs.LifeCycle.{Within, phase_of, mark_bytes, sequences_in, fronts, state_at, left_behind, state_behind, life_after}
+use Rattle.enc_calls.specs.Replacing.{treatment_of}
+use Rattle.encoding_rs.specs.Decoding.{DecoderState, has_ended, finished, removal_start, fresh, remaining_sequences, decoder_remainder, whole_sequences, whole_utf_8, whole_malformed, Decodes}
+use Rattle.encoding_rs.specs.Run.{units_by, is_reported, text_for, fault_of, AnswersCall, MakesCall, RunState, GoesOn, IsRun, faults_from, whole_start, whole_faults, Part, done_of, reported_from, all_report, HasRun}
+use Rattle.enc_units.proofs.UnitsLemmas.{utf_8_determines, utf_16_determines, utf_16_read_back}
+use Rattle.enc_units.proofs.Utf8CharsLemmas.{their_units}
+use Rattle.enc_calls.proofs.Turns.{first_of}
+use Rattle.enc_machine.proofs.SegmentationLemmas.{all_bytes}
+use Rattle.enc_machine.proofs.SequenceLemmas.{bytes_of-append, bytes_of-one, units-append, units-one, any_malformed-append, any_malformed-one, or_false}
+use Rattle.encoding_rs.proofs.EndLemmas.{first_open, others_open, finishes_by, fresh_sequences, none_left}
+use Rattle.encoding_rs.proofs.WholeLemmas.{joined}
 
 -- a call that came to the end has read everything
-ends_read : (old new : DecoderState) (src : List ℕ) (last : Bool) (room : ℕ) (result : CoderResult) (read : ℕ) (wrote : List ℕ) (replaced : Bool)
-    → DecodesReplacing encode_utf8 old new src last room result read wrote replaced → finished new ≡ true → (last ≡ true) × (read ≡ length src)
-ends_read old new src last room InputEmpty read wrote replaced h e = (sym (finishes old new src last room InputEmpty read wrote replaced h) ∙ e, h.call.stops.all_read)
-ends_read old new src last room OutputFull read wrote replaced h e = let f = finishes old new src last room OutputFull read wrote replaced h in cc
+ends_read : (units_of : ℕ → List ℕ) (treatment : Treatment) (old new : DecoderState) (src : List ℕ) (last : Bool) (room : ℕ) (result : DecoderResult) (read : ℕ) (wrote : List ℕ) (replaced : Bool)
+    → Decodes units_of treatment old new src last room result read wrote replaced → finished new ≡ true → (last ≡ true) × (read ≡ length src)
+ends_read units_of treatment old new src last room InputEmpty read wrote replaced h e =
+    (sym (finishes_by units_of treatment old new src last room InputEmpty read wrote replaced h) ∙ e, h.call.stops.all_read)
+ends_read units_of treatment old new src last room OutputFull read wrote replaced h e =
+    absurd (true≢false (sym e ∙ finishes_by units_of treatment old new src last room OutputFull read wrote replaced h))
+ends_read units_of treatment old new src last room (Malformed l a) read wrote replaced h e =
+    absurd (true≢false (sym e ∙ finishes_by units_of treatment old new src last room (Malformed l a) read wrote replaced h))
 
 -- what is offered: so many bytes, or all where there are fewer
 pub offered : (n k : ℕ) (bytes chunk : List ℕ) → chunk ≡ take k bytes → k ≡ min n (length bytes) → chunk ≡ take n bytes
@@ -102,33 +58,93 @@ refilled n all new behind h e = h ∙ ap (λ k. take k (new ++ behind)) (sym e) 
 reaches : (n offer : ℕ) → nat_le n offer ≡ true → n ≤ offer
 reaches n offer h = grind (arith, nat_tests)
 
-removal_sequences : (id : Id) (e : Encoding) (bytes : List ℕ) → sequences_by (find_mark (own_marks id) bytes) e bytes ≡ sequences_in (phase_of (removal_start id)) e 0 bytes
-removal_sequences Utf8 e bytes = refl
-removal_sequences Utf16be e bytes = refl
-removal_sequences Utf16le e bytes = refl
-removal_sequences _ e bytes = refl
+-- the units of either kind determine a text
+determined_by : (utf16 : Bool) → DetermineTexts (units_by utf16)
+determined_by true = utf_16_determines
+determined_by false = utf_8_determines
 
-removal_open : (id : Id) → has_ended (removal_start id) ≡ false
-removal_open Utf8 = refl
-removal_open _ = refl
+-- What the calls of a run have come to: what is done, in a part for each, and what is still to come.
+pub record HasDone (handling : BomHandling) (e : Encoding) (bytes unread : List ℕ) (calls : List DecodeCall) (state : DecoderState) (text : List ℕ) (faults : List (ℕ × ℕ)) (had : Bool) : Type 0 where
+  pub parts : List Part
+  pub whole : whole_sequences handling e bytes ≡ done_of parts ++ remaining_sequences state unread
+  pub calls_are : map (λ (p : Part). p.replaces) parts ≡ map (λ (c : DecodeCall). c.replace) calls
+  pub text_is : text ≡ units_of_text encode_utf8 (text_of (done_of parts))
+  pub reported : faults ≡ reported_from (whole_start handling e bytes) parts
+  pub flag : had ≡ any_malformed (done_of parts)
 
--- before the first call the end isn't reached
-pub fresh_open : (handling : BomHandling) (e : Encoding) → finished (fresh handling e) ≡ false
-fresh_open Off e = refl
-fresh_open Sniff e = refl
-fresh_open Remove e = removal_open e.id
+pub start : (handling : BomHandling) (e : Encoding) (bytes : List ℕ) → HasDone handling e bytes (drop 0 bytes) [] (fresh handling e) [] [] false
+start handling e bytes = record { parts = []; whole = fresh_sequences handling e bytes; calls_are = refl; text_is = refl; reported = refl; flag = refl }
 
--- and all is still to come
-pub fresh_sequences : (handling : BomHandling) (e : Encoding) (bytes : List ℕ) → whole_sequences handling e bytes ≡ remaining_sequences (fresh handling e) bytes
-fresh_sequences Off e bytes = refl
-fresh_sequences Sniff e bytes = refl
-fresh_sequences Remove e bytes = removal_sequences e.id e bytes
+-- one part more
 
-pub start : (handling : BomHandling) (e : Encoding) (bytes : List ℕ) → HasDecoded handling e bytes (drop 0 bytes) true (fresh handling e) [] false
-start handling e bytes = record { done = []; whole = λ z h. fresh_sequences handling e (bytes ++ z); text = refl; flag = refl }
+done_of-one : (ps : List Part) (p : Part) → done_of (ps ++ p ∷ []) ≡ done_of ps ++ p.done
+done_of-one [] p = append-nil p.done
+done_of-one (q ∷ ps) p = ap (λ x. q.done ++ x) (done_of-one ps p) ∙ sym (append_assoc q.done (done_of ps) p.done)
 
-module _ (handling : BomHandling) (e : Encoding) (bytes : List ℕ) (read : ℕ) (made : DecodeCall) (old new : DecoderState) (before after : List ℕ) (had : Bool) (more : ℕ) (replaced : Bool)
-    (m : MakesCall made old new (drop read bytes) before after more replaced) where
+map-one : {A B : Type 0} (f : A → B) (xs : List A) (x : A) → map f (xs ++ x ∷ []) ≡ map f xs ++ f x ∷ []
+map-one f [] x = refl
+map-one f (y ∷ xs) x = ap (λ z. f y ∷ z) (map-one f xs x)
+
+pub reported_by : ℕ → Part → List (ℕ × ℕ)
+reported_by at p = if p.replaces then [] else faults_from at p.done
+
+plus_assoc : (a b c : ℕ) → a + b + c ≡ a + (b + c)
+plus_assoc a b c = omega arith
+
+reported-one : (at : ℕ) (ps : List Part) (p : Part) → reported_from at (ps ++ p ∷ []) ≡ reported_from at ps ++ reported_by (at + length (bytes_of (done_of ps))) p
+unfolding reported_by
+reported-one at [] p = append-nil _ ∙ ap (λ n. reported_by n p) (let e : at ≡ at + 0 = omega arith in e)
+reported-one at (q ∷ ps) p =
+    ap (λ x. reported_by at q ++ x) (reported-one (at + length (bytes_of q.done)) ps p)
+    ∙ sym (append_assoc (reported_by at q) (reported_from (at + length (bytes_of q.done)) ps) (reported_by (at + length (bytes_of q.done) + length (bytes_of (done_of ps))) p))
+    ∙ ap (λ n. (reported_by at q ++ reported_from (at + length (bytes_of q.done)) ps) ++ reported_by n p)
+    (plus_assoc at (length (bytes_of q.done)) (length (bytes_of (done_of ps))) ∙ ap (λ n. at + n) (sym (length-append (bytes_of q.done) (bytes_of (done_of ps)))
+    ∙ ap length (sym (bytes_of-append q.done (done_of ps)))))
+
+-- where nothing is malformed there is no place of it
+
+cond_first : {A : Type 0} (b : Bool) (x y : A) → b ≡ false → (if b then x else y) ≡ y
+cond_first true x y e = absurd (true≢false e)
+cond_first false x y e = refl
+
+no_faults : (at : ℕ) (ss : List Sequence) → any_malformed ss ≡ false → faults_from at ss ≡ []
+no_faults at [] e = refl
+no_faults at (s ∷ ss) e =
+    cond_first (is_malformed s.kind) _ _ (first_open (is_malformed s.kind) (any_malformed ss) e)
+    ∙ no_faults (at + length s.bytes) ss (others_open (is_malformed s.kind) (any_malformed ss) e)
+
+cond_then : {A : Type 0} (b : Bool) (x y : A) → b ≡ true → (if b then x else y) ≡ x
+cond_then true x y e = refl
+cond_then false x y e = absurd (true≢false (sym e))
+
+last_fault : (at : ℕ) (ss : List Sequence) (s : Sequence) → any_malformed ss ≡ false → is_malformed s.kind ≡ true
+    → faults_from at (ss ++ s ∷ []) ≡ (at + length (bytes_of ss), length s.bytes) ∷ []
+last_fault at [] s e f = cond_then (is_malformed s.kind) _ _ f ∙ ap (λ n. (n, length s.bytes) ∷ []) (let g : at ≡ at + 0 = omega arith in g)
+last_fault at (t ∷ ss) s e f =
+    cond_first (is_malformed t.kind) _ _ (first_open (is_malformed t.kind) (any_malformed ss) e)
+    ∙ last_fault (at + length t.bytes) ss s (others_open (is_malformed t.kind) (any_malformed ss) e) f
+    ∙ ap (λ n. (n, length s.bytes) ∷ []) (plus_assoc at (length t.bytes) (length (bytes_of ss)) ∙ ap (λ n. at + n) (sym (length-append t.bytes (bytes_of ss))))
+
+-- where a sequence is done, no mark may come any more
+
+within_if : (b : Bool) → phase_of (if b then ConvertingWithPendingBb else Converting) ≡ Within
+within_if true = refl
+within_if false = refl
+
+within_left : (life : LifeCycle) (bytes : List ℕ) → phase_of (left_behind life bytes) ≡ Within
+within_left SeenUtf8Second bytes = within_if (bytes_eq (0xEF ∷ []) bytes)
+within_left _ bytes = refl
+
+within_behind : (front : Option LifeCycle) (s : Sequence) (ss : List Sequence) → phase_of (state_behind front (s ∷ ss)) ≡ Within
+within_behind None s ss = refl
+within_behind (Some front) s ss = within_left front (bytes_of (s ∷ ss))
+
+-- then the bytes pending and those unread are those of the sequences still to come
+within_bytes : (d : DecoderState) (y : List ℕ) → phase_of d.life ≡ Within → bytes_of (remaining_sequences d y) ≡ d.pending ++ y
+within_bytes d y e = ap (λ p. bytes_of (sequences_in p d.encoding d.set (d.pending ++ y))) e ∙ all_bytes (rule_of d.encoding) d.set (d.pending ++ y)
+
+module _ (handling : BomHandling) (e : Encoding) (bytes : List ℕ) (read : ℕ) (inside : read ≤ length bytes) (calls : List DecodeCall) (made : DecodeCall) (old new : DecoderState) (before after : List ℕ) (faults : List (ℕ × ℕ)) (had : Bool)
+    (result : DecoderResult) (more : ℕ) (replaced : Bool) (m : MakesCall made old new (drop read bytes) before after result more replaced) where
   abbrev unread : List ℕ
   unread = drop read bytes
 
@@ -138,38 +154,164 @@ module _ (handling : BomHandling) (e : Encoding) (bytes : List ℕ) (read : ℕ)
   abbrev behind : List ℕ
   behind = drop made.offer unread
 
-  parts : (z : List ℕ) → unread ++ z ≡ chunk ++ (behind ++ z)
-  parts z = ap (λ x. x ++ z) (sym (take-append-drop made.offer unread)) ∙ append_assoc chunk behind z
+  abbrev last : Bool
+  last = nat_le (length unread) made.offer
 
-  left : (z : List ℕ) → drop more chunk ++ (behind ++ z) ≡ drop (read + more) bytes ++ z
-  left z =
-      sym (append_assoc (drop more chunk) behind z)
-      ∙ ap (λ x. x ++ z) (sym (drop-append-le more chunk behind m.decodes.call.within) ∙ ap (drop more) (take-append-drop made.offer unread) ∙ drop-drop more read bytes)
+  d : Decodes (units_by made.utf16) (treatment_of made.replace) old new chunk last made.room result more (units_of_text (units_by made.utf16) m.answers.text) replaced
+  d = m.answers.decodes
 
-  nothing_behind : (z : List ℕ) → z ≡ [] → nat_le (length unread) made.offer ≡ true → behind ++ z ≡ []
-  nothing_behind z f h = ap (λ x. x ++ z) (drop_of_length-le unread (reaches (length unread) made.offer h)) ∙ f
+  left : drop more chunk ++ behind ≡ drop (read + more) bytes
+  left = sym (drop-append-le more chunk behind d.call.within) ∙ ap (drop more) (take-append-drop made.offer unread) ∙ drop-drop more read bytes
 
-  pub decodes_on : HasDecoded handling e bytes unread true old before had → HasDecoded handling e bytes (drop (read + more) bytes) true new after (had || replaced)
-  decodes_on h =
-      let d = m.decodes in
-      let put = only_put old new chunk (nat_le (length unread) made.offer) made.room m.result more m.wrote replaced d in
-      record {
-        done = h.done ++ d.call.done;
-        whole = λ z f. h.whole z f ∙ ap (λ x. h.done ++ remaining_sequences old x) (parts z) ∙ ap (λ x. h.done ++ x) (d.call.residual (behind ++ z) (nothing_behind z (f refl)))
-            ∙ sym (append_assoc h.done d.call.done (remaining_sequences new (drop more chunk ++ (behind ++ z)))) ∙ ap (λ x. (h.done ++ d.call.done) ++ remaining_sequences new x) (left z);
-        text = m.text ∙ ap (λ x. x ++ m.wrote) h.text ∙ ap (λ x. units_of_text encode_utf8 (text_of h.done) ++ x) (d.call.text ∙ ap (λ x. units_of_text encode_utf8 (text_of x)) put)
-            ∙ sym (units-append encode_utf8 h.done d.call.done);
-        flag = ap (λ b. b || replaced) h.flag ∙ ap (λ b. any_malformed h.done || b) (d.call.flag ∙ ap any_malformed put) ∙ sym (any_malformed-append h.done d.call.done);
-      }
+  nothing_behind : last ≡ true → behind ≡ []
+  nothing_behind h = drop_of_length-le unread (reaches (length unread) made.offer h)
 
-  pub within_on : read ≤ length bytes → read + more ≤ length bytes
-  within_on h = let w = m.decodes.call.within in let f = length-take made.offer unread in let g = length-drop read bytes in omega arith
+  goes : remaining_sequences old unread ≡ d.call.done ++ remaining_sequences new (drop (read + more) bytes)
+  goes = ap (remaining_sequences old) (sym (take-append-drop made.offer unread)) ∙ d.call.residual behind nothing_behind ∙ ap (λ x. d.call.done ++ remaining_sequences new x) left
 
-  pub all_read : read ≤ length bytes → finished new ≡ true → read + more ≡ length bytes
-  all_read h f =
-      let g = ends_read old new chunk (nat_le (length unread) made.offer) made.room m.result more m.wrote replaced m.decodes f in
+  -- the text that was put out is that whose units were written
+  abbrev put : List ℕ
+  put = text_of d.call.put
+
+  text_is_put : m.answers.text ≡ put
+  text_is_put = determined_by made.utf16 m.answers.text put m.answers.scalars d.call.scalars d.call.text
+
+  pub within_on : read + more ≤ length bytes
+  within_on = let w = d.call.within in let f = length-take made.offer unread in let g = length-drop read bytes in omega arith
+
+  pub all_read : finished new ≡ true → read + more ≡ length bytes
+  all_read h =
+      let g = ends_read (units_by made.utf16) (treatment_of made.replace) old new chunk last made.room result more (units_of_text (units_by made.utf16) m.answers.text) replaced d h in
       let k = reaches (length unread) made.offer g.0 in let i = g.1 in
       let l = length-take made.offer unread in let j = length-drop read bytes in omega arith
+
+  -- what is done is what was put out, and what is reported
+
+  text_done : units_of_text encode_utf8 (text_of d.call.done) ≡ units_of_text encode_utf8 put ++ units_of_text encode_utf8 (text_for result)
+  text_done = by_result result d.call.stops
+    where
+      by_result : (r : DecoderResult) → Stops (units_by made.utf16) (decoder_remainder old) (decoder_remainder new) chunk last (treatment_of made.replace) made.room d.call.put d.call.done more r
+          → units_of_text encode_utf8 (text_of d.call.done) ≡ units_of_text encode_utf8 put ++ units_of_text encode_utf8 (text_for r)
+      by_result InputEmpty s = ap (λ x. units_of_text encode_utf8 (text_of x)) s.only_put ∙ sym (append-nil _)
+      by_result OutputFull s = ap (λ x. units_of_text encode_utf8 (text_of x)) s.only_put ∙ sym (append-nil _)
+      by_result (Malformed l a) s =
+          ap (λ x. units_of_text encode_utf8 (text_of x)) s.then_next ∙ units-one encode_utf8 d.call.put s.next ∙ ap (λ x. units_of_text encode_utf8 put ++ units_of_text encode_utf8 x) s.replacement
+
+  flag_done : any_malformed d.call.done ≡ (replaced || is_reported result)
+  flag_done = by_result result d.call.stops
+    where
+      by_result : (r : DecoderResult) → Stops (units_by made.utf16) (decoder_remainder old) (decoder_remainder new) chunk last (treatment_of made.replace) made.room d.call.put d.call.done more r
+          → any_malformed d.call.done ≡ (replaced || is_reported r)
+      by_result InputEmpty s = ap any_malformed s.only_put ∙ sym d.call.flag ∙ sym (or_false replaced)
+      by_result OutputFull s = ap any_malformed s.only_put ∙ sym d.call.flag ∙ sym (or_false replaced)
+      by_result (Malformed l a) s =
+          ap any_malformed s.then_next ∙ any_malformed-one d.call.put s.next ∙ ap (λ b. any_malformed d.call.put || b) s.malformed ∙ ap (λ b. b || true) (sym d.call.flag)
+
+  -- where the calls before have come to, this one goes on
+  module _ (h : HasDone handling e bytes unread calls old before faults had) where
+    abbrev part : Part
+    part = record { replaces = made.replace; done = d.call.done }
+
+    abbrev all : List Sequence
+    all = done_of h.parts ++ d.call.done
+
+    whole_on : whole_sequences handling e bytes ≡ all ++ remaining_sequences new (drop (read + more) bytes)
+    whole_on = h.whole ∙ ap (λ x. done_of h.parts ++ x) goes ∙ sym (append_assoc (done_of h.parts) d.call.done (remaining_sequences new (drop (read + more) bytes)))
+
+    -- what is read is the mark, what is done, and what is pending
+    placed : phase_of new.life ≡ Within → read + more ≡ whole_start handling e bytes + length (bytes_of all) + length new.pending
+    placed p =
+        let r = drop (read + more) bytes in
+        let i = ap length (sym (joined handling e bytes) ∙ ap (λ ss. mark_bytes (find_mark (marks_looked_for handling e) bytes) ++ bytes_of ss) whole_on
+        ∙ ap (λ x. mark_bytes (find_mark (marks_looked_for handling e) bytes) ++ x) (bytes_of-append all (remaining_sequences new r) ∙ ap (λ x. bytes_of all ++ x) (within_bytes new r p))) in
+        let j = length-append (mark_bytes (find_mark (marks_looked_for handling e) bytes)) (bytes_of all ++ (new.pending ++ r)) in
+        let k = length-append (bytes_of all) (new.pending ++ r) in
+        let l = length-append new.pending r in
+        let o = length-drop (read + more) bytes in
+        let w = within_on in
+        omega arith
+
+    reports_at : (b : Bool) (r : DecoderResult) → made.replace ≡ b → result ≡ r
+        → Stops (units_by made.utf16) (decoder_remainder old) (decoder_remainder new) chunk last (treatment_of b) made.room d.call.put d.call.done more r
+        → (is_replaced (treatment_of b) ≡ false → any_malformed d.call.put ≡ false)
+        → fault_of r (read + more) ≡ reported_by (whole_start handling e bytes + length (bytes_of (done_of h.parts))) (record { replaces = b; done = d.call.done })
+    unfolding reported_by
+    reports_at true InputEmpty f g s n = refl
+    reports_at true OutputFull f g s n = refl
+    reports_at true (Malformed l a) f g s n = absurd (true≢false s.not_replaced)
+    reports_at false InputEmpty f g s n = sym (ap (faults_from _) s.only_put ∙ no_faults _ d.call.put (n refl))
+    reports_at false OutputFull f g s n = sym (ap (faults_from _) s.only_put ∙ no_faults _ d.call.put (n refl))
+    reports_at false (Malformed l a) f g s n =
+        let phase = ap phase_of (d.life ∙ ap (λ x. life_after old.life (is_end last x) (old.pending ++ take more chunk) d.call.done) g
+        ∙ ap (λ x. life_after old.life false (old.pending ++ take more chunk) x) some.2) ∙ within_behind _ some.0 some.1 in
+        let p = placed phase in
+        let i = ap length (bytes_of-append (done_of h.parts) d.call.done) in
+        let j = length-append (bytes_of (done_of h.parts)) (bytes_of d.call.done) in
+        let k = ap length (ap bytes_of s.then_next ∙ bytes_of-one d.call.put s.next) in
+        let o = length-append (bytes_of d.call.put) s.next.bytes in
+        let q = s.len in let t = s.behind in
+        pair_is _ _ _ _ (omega arith) q ∙ sym (ap (faults_from (whole_start handling e bytes + length (bytes_of (done_of h.parts)))) s.then_next ∙ last_fault _ d.call.put s.next (n refl) s.malformed)
+      where
+        pair_is : (x y l k : ℕ) → x ≡ y → l ≡ k → ◌≡◌ {A = List (ℕ × ℕ)} ((x, l) ∷ []) ((y, k) ∷ [])
+        pair_is x y l k f g = ap (λ z. (z, l) ∷ []) f ∙ ap (λ z. (y, z) ∷ []) g
+
+        some : (x : Sequence) × (rest : List Sequence) × (d.call.done ≡ x ∷ rest)
+        some = let b = first_of d.call.put s.next in (b.0, b.1, s.then_next ∙ b.2)
+
+    none_put : is_replaced (treatment_of made.replace) ≡ false → any_malformed d.call.put ≡ false
+    none_put f = sym d.call.flag ∙ d.call.none_replaced f
+
+    pub decodes_on : HasDone handling e bytes (drop (read + more) bytes) (calls ++ made ∷ []) new after (faults ++ fault_of result (read + more)) (had || (replaced || is_reported result))
+    decodes_on = record {
+      parts = h.parts ++ part ∷ [];
+      whole = whole_on ∙ ap (λ x. x ++ remaining_sequences new (drop (read + more) bytes)) (sym (done_of-one h.parts part));
+      calls_are = map-one (λ (p : Part). p.replaces) h.parts part ∙ ap (λ x. x ++ made.replace ∷ []) h.calls_are ∙ sym (map-one (λ (c : DecodeCall). c.replace) calls made);
+      text_is = m.text ∙ append_assoc before m.wrote (units_of_text encode_utf8 (text_for result)) ∙ ap (λ x. before ++ (x ++ units_of_text encode_utf8 (text_for result))) (m.answers.is ∙ ap (units_of_text encode_utf8) text_is_put)
+          ∙ ap (λ x. before ++ x) (sym text_done) ∙ ap (λ x. x ++ units_of_text encode_utf8 (text_of d.call.done)) h.text_is ∙ sym (units-append encode_utf8 (done_of h.parts) d.call.done)
+          ∙ ap (λ x. units_of_text encode_utf8 (text_of x)) (sym (done_of-one h.parts part));
+      reported = ap (λ x. x ++ fault_of result (read + more)) h.reported ∙ ap (λ x. reported_from (whole_start handling e bytes) h.parts ++ x) (reports_at made.replace result refl refl d.call.stops none_put)
+          ∙ sym (reported-one (whole_start handling e bytes) h.parts part);
+      flag = ap (λ b. b || (replaced || is_reported result)) h.flag ∙ ap (λ b. any_malformed (done_of h.parts) || b) (sym flag_done) ∙ sym (any_malformed-append (done_of h.parts) d.call.done)
+          ∙ ap any_malformed (sym (done_of-one h.parts part));
+    }
+
+-- what is appended for a malformed sequence that is reported
+
+pub nothing_for : (r : DecoderResult) → is_reported r ≡ false → units_of_text encode_utf8 (text_for r) ≡ []
+nothing_for InputEmpty e = refl
+nothing_for OutputFull e = refl
+nothing_for (Malformed l a) e = absurd (true≢false e)
+
+pub replacement_for : (r : DecoderResult) → is_reported r ≡ true → units_of_text encode_utf8 (text_for r) ≡ encode_utf8 0xFFFD
+replacement_for InputEmpty e = absurd (true≢false (sym e))
+replacement_for OutputFull e = absurd (true≢false (sym e))
+replacement_for (Malformed l a) e = append-nil (encode_utf8 0xFFFD)
+
+-- what a call answers, by the text that it has put out
+pub answers : (units_of : ℕ → List ℕ) (call : DecodeCall) (treatment : Treatment) (old new : DecoderState) (chunk : List ℕ) (last : Bool) (room : ℕ) (result : DecoderResult) (read : ℕ) (wrote : List ℕ) (replaced : Bool) (utf_8 : List ℕ)
+    → treatment ≡ treatment_of call.replace → room ≡ call.room → (d : Decodes units_of treatment old new chunk last room result read wrote replaced)
+    → ((text : List ℕ) → AreScalars text → wrote ≡ units_of_text units_of text → utf_8 ≡ units_of_text encode_utf8 text) → AnswersCall units_of call old new chunk last result read replaced utf_8
+answers units_of call treatment old new chunk last room result read wrote replaced utf_8 t r d e = record {
+  text = text_of d.call.put;
+  scalars = d.call.scalars;
+  is = e (text_of d.call.put) d.call.scalars d.call.text;
+  decodes =
+      subst (λ w. Decodes units_of (treatment_of call.replace) old new chunk last call.room result read w replaced) d.call.text
+      (subst (λ n. Decodes units_of (treatment_of call.replace) old new chunk last n result read wrote replaced) r
+      (subst (λ u. Decodes units_of u old new chunk last room result read wrote replaced) t d));
+}
+
+pub replaces : (call : DecodeCall) → call.replace ≡ true → Replaced ≡ treatment_of call.replace
+replaces call e = sym (ap treatment_of e)
+
+pub reporting : (call : DecodeCall) → call.replace ≡ false → Reported false ≡ treatment_of call.replace
+reporting call e = sym (ap treatment_of e)
+
+-- the UTF-8 of a text by its UTF-16
+pub by_utf_16 : (units wrote utf_8 : List ℕ) → wrote ≡ units → utf_8 ≡ encode_utf8_all (utf16_lossy_chars units) → (text : List ℕ) → AreScalars text → wrote ≡ units_of_text encode_utf16 text
+    → utf_8 ≡ units_of_text encode_utf8 text
+by_utf_16 units wrote utf_8 w e text s u =
+    e ∙ ap (λ x. encode_utf8_all (utf16_lossy_chars x)) (sym w ∙ u) ∙ ap encode_utf8_all (utf_16_read_back text s) ∙ sym (their_units text)
 
 -- the calls of a run, and one more
 pub runs_on : (bytes : List ℕ) (calls : List DecodeCall) (made : DecodeCall) (a b c : RunState) → IsRun bytes calls a b → GoesOn bytes made b c → IsRun bytes (calls ++ made ∷ []) a c
@@ -177,36 +319,66 @@ runs_on bytes [] made a b c r g = (c, subst (λ (x : RunState). GoesOn bytes mad
 runs_on bytes (call ∷ calls) made a b c r g = (r.0, r.1, runs_on bytes calls made r.0 b c r.2 g)
 
 -- what has come out begins the text of the whole input
-pub begun : (handling : BomHandling) (e : Encoding) (bytes unread : List ℕ) (state : DecoderState) (text : List ℕ) (had : Bool) → HasDecoded handling e bytes unread true state text had
-    → Begun handling e bytes text
-begun handling e bytes unread state text had h = record {
-  done = h.done;
-  rest = remaining_sequences state (unread ++ []);
-  sequences = ap (whole_sequences handling e) (sym (append-nil bytes)) ∙ h.whole [] (λ _. refl);
-  text_of_done = h.text;
+pub has_run : (handling : BomHandling) (e : Encoding) (bytes unread : List ℕ) (calls : List DecodeCall) (state : DecoderState) (text : List ℕ) (faults : List (ℕ × ℕ)) (had : Bool)
+    → HasDone handling e bytes unread calls state text faults had → HasRun handling e bytes calls text faults had
+has_run handling e bytes unread calls state text faults had h = record {
+  parts = h.parts;
+  rest = remaining_sequences state unread;
+  sequences = h.whole;
+  calls_are = h.calls_are;
+  text_of_done = h.text_is;
+  reported = h.reported;
+  flag = h.flag;
 }
 
--- at the end nothing is still to come
-none_left : (life : LifeCycle) (e : Encoding) (set : ℕ) (bytes : List ℕ) → has_ended life ≡ true → sequences_in (phase_of life) e set bytes ≡ []
-none_left Finished e set bytes h = refl
-none_left _ e set bytes h = absurd (true≢false (sym h))
+-- where all calls report, all places are those of the malformed sequences
 
--- so it is all of the text
-finished_sequences : (handling : BomHandling) (e : Encoding) (bytes unread : List ℕ) (state : DecoderState) (text : List ℕ) (had : Bool) (h : HasDecoded handling e bytes unread true state text had)
-    → finished state ≡ true → whole_sequences handling e bytes ≡ h.done
-finished_sequences handling e bytes unread state text had h f =
-    ap (whole_sequences handling e) (sym (append-nil bytes)) ∙ h.whole [] (λ _. refl)
-    ∙ ap (λ ss. h.done ++ ss) (none_left state.life state.encoding state.set (state.pending ++ (unread ++ [])) f)
-    ∙ append-nil h.done
+faults-append : (at : ℕ) (ss ts : List Sequence) → faults_from at (ss ++ ts) ≡ faults_from at ss ++ faults_from (at + length (bytes_of ss)) ts
+faults-append at [] ts = ap (λ n. faults_from n ts) (let e : at ≡ at + 0 = omega arith in e)
+faults-append at (s ∷ ss) ts =
+    ap (λ x. if is_malformed s.kind then (at, length s.bytes) ∷ x else x)
+    (faults-append (at + length s.bytes) ss ts ∙ ap (λ n. faults_from (at + length s.bytes) ss ++ faults_from n ts)
+    (plus_assoc at (length s.bytes) (length (bytes_of ss)) ∙ ap (λ n. at + n) (sym (length-append s.bytes (bytes_of ss)))))
+    ∙ one_front (is_malformed s.kind) (at, length s.bytes) (faults_from (at + length s.bytes) ss) (faults_from (at + length (s.bytes ++ bytes_of ss)) ts)
+  where
+    one_front : {A : Type 0} (b : Bool) (x : A) (y z : List A) → (if b then x ∷ (y ++ z) else y ++ z) ≡ (if b then x ∷ y else y) ++ z
+    one_front true x y z = refl
+    one_front false x y z = refl
 
-pub whole_text : (handling : BomHandling) (e : Encoding) (bytes unread : List ℕ) (state : DecoderState) (text : List ℕ) (had : Bool) → HasDecoded handling e bytes unread true state text had
-    → finished state ≡ true → text ≡ whole_utf_8 handling e bytes
-whole_text handling e bytes unread state text had h f =
-    h.text ∙ ap (λ x. units_of_text encode_utf8 (text_of x)) (sym (finished_sequences handling e bytes unread state text had h f))
+first_flag : (a b : Bool) (x y : List Bool) → a ∷ x ≡ b ∷ y → a ≡ b
+first_flag a b x y e = cc
 
-pub whole_flag : (handling : BomHandling) (e : Encoding) (bytes unread : List ℕ) (state : DecoderState) (text : List ℕ) (had : Bool) → HasDecoded handling e bytes unread true state text had
-    → finished state ≡ true → had ≡ whole_malformed handling e bytes
-whole_flag handling e bytes unread state text had h f = h.flag ∙ ap any_malformed (sym (finished_sequences handling e bytes unread state text had h f))
+rest_flags : (a b : Bool) (x y : List Bool) → a ∷ x ≡ b ∷ y → x ≡ y
+rest_flags a b x y e = cc
+
+no_flags : (a : Bool) (x : List Bool) → a ∷ x ≡ [] → ⊥
+no_flags a x e = cc
+
+all_reported : (at : ℕ) (ps : List Part) (cs : List DecodeCall) → map (λ (p : Part). p.replaces) ps ≡ map (λ (c : DecodeCall). c.replace) cs → all_report cs ≡ true
+    → reported_from at ps ≡ faults_from at (done_of ps)
+all_reported at [] cs g r = refl
+all_reported at (p ∷ ps) [] g r = absurd (no_flags p.replaces (map (λ (q : Part). q.replaces) ps) g)
+all_reported at (p ∷ ps) (c ∷ cs) g r =
+    let both = and_parts _ _ r in
+    let off : p.replaces ≡ false = first_flag _ _ _ _ g ∙ not-true c.replace both.0 in
+    ap (λ x. x ++ reported_from (at + length (bytes_of p.done)) ps) (cond_first p.replaces [] (faults_from at p.done) off)
+    ∙ ap (λ x. faults_from at p.done ++ x) (all_reported (at + length (bytes_of p.done)) ps cs (rest_flags _ _ _ _ g) both.1)
+    ∙ sym (faults-append at p.done (done_of ps))
+
+module _ (handling : BomHandling) (e : Encoding) (bytes unread : List ℕ) (calls : List DecodeCall) (state : DecoderState) (text : List ℕ) (faults : List (ℕ × ℕ)) (had : Bool)
+    (h : HasDone handling e bytes unread calls state text faults had) (f : finished state ≡ true) where
+  -- so it is all of the text
+  finished_sequences : whole_sequences handling e bytes ≡ done_of h.parts
+  finished_sequences = h.whole ∙ ap (λ ss. done_of h.parts ++ ss) (none_left state.life state.encoding state.set (state.pending ++ unread) f) ∙ append-nil (done_of h.parts)
+
+  pub whole_text : text ≡ whole_utf_8 handling e bytes
+  whole_text = h.text_is ∙ ap (λ x. units_of_text encode_utf8 (text_of x)) (sym finished_sequences)
+
+  pub whole_flag : had ≡ whole_malformed handling e bytes
+  whole_flag = h.flag ∙ ap any_malformed (sym finished_sequences)
+
+  pub whole_places : all_report calls ≡ true → faults ≡ whole_faults handling e bytes
+  whole_places r = h.reported ∙ all_reported (whole_start handling e bytes) h.parts calls h.calls_are r ∙ ap (faults_from (whole_start handling e bytes)) (sym finished_sequences)
 
 -- the same, for the calls of a list
 pub runs_next : (bytes : List ℕ) (calls : List DecodeCall) (n k : ℕ) (d : DecodeCall) (a b c : RunState) → n ≡ k → k < length calls → IsRun bytes (take n calls) a b
@@ -214,3 +386,9 @@ pub runs_next : (bytes : List ℕ) (calls : List DecodeCall) (n k : ℕ) (d : De
 runs_next bytes calls n k d a b c e h r g =
     subst (λ (x : List DecodeCall). IsRun bytes x a c) (sym (take_more calls n d (rw e h)))
     (runs_on bytes (take n calls) (get_or calls n d) a b c r (subst (λ i. GoesOn bytes (get_or calls i d) b c) (sym e) g))
+
+pub takes_next : (handling : BomHandling) (e : Encoding) (bytes unread : List ℕ) (calls : List DecodeCall) (n k : ℕ) (d : DecodeCall) (state : DecoderState) (text : List ℕ) (faults : List (ℕ × ℕ)) (had : Bool) → n ≡ k → k < length calls
+    → HasDone handling e bytes unread (take n calls ++ get_or calls k d ∷ []) state text faults had → HasDone handling e bytes unread (take (n + 1) calls) state text faults had
+takes_next handling e bytes unread calls n k d state text faults had f h r =
+    subst (λ x. HasDone handling e bytes unread x state text faults had)
+    (ap (λ i. take n calls ++ get_or calls i d ∷ []) (sym f) ∙ sym (take_more calls n d (rw f h))) r

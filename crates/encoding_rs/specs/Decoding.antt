@@ -1,6 +1,6 @@
 -- Decoders (Encoding Standard 4.1, "process a queue"; 6, "decode", "UTF-8 decode" and "UTF-8 decode without BOM", for
 -- any encoding).
-use Rattle.std.specs.Prelude.{◌≡◌, ℕ, Bool, true, false, List, [], ◌∷◌, ◌++◌, length, take, ◌==◌, if◌then◌else◌}
+use Rattle.std.specs.Prelude.{◌≡◌, ℕ, ◌+◌, ◌-◌, ◌<◌, ◌≤◌, Bool, true, false, List, [], ◌∷◌, ◌++◌, length, take, ◌==◌, if◌then◌else◌}
 use Rattle.std.specs.Char.{encode_utf8}
 use Rattle.enc_calls.specs.Replacing.{stop_of}
 use Rattle.encoding_rs.specs.declared.encoding.Id.{Id}
@@ -19,6 +19,7 @@ use Rattle.enc_machine.specs.Sequence.{Sequence, bytes_of, text_of, any_malforme
 use Rattle.enc_machine.specs.CodecState.{CodecState}
 use Rattle.enc_machine.specs.Remainder.{Remainder}
 use Rattle.enc_machine.specs.Call.{Call, Treatment, Replaced, Reported, is_end}
+use Rattle.enc_machine.specs.RuleLaws.{HasTexts, IsSmallText}
 use Rattle.encoding_rs.specs.Encodings.{rule_of}
 use Rattle.encoding_rs.specs.Bom.{marks_looked_for, find_mark, sequences_by}
 use Rattle.encoding_rs.specs.LifeCycle.{phase_of, awaits_mark, mark_in, mark_bytes, encoding_by, sequences_in, held_bytes, life_after}
@@ -137,6 +138,37 @@ pub record IsAsBefore (src : List ℕ) (last : Bool) (old new : DecoderState) : 
   pub encoding : new.encoding ≡ old.encoding
   pub unfinished : finished new ≡ false
   pub same : skipped ≡ [] → new ≡ old
+
+-- A small text has at most so many units.
+abbrev pub TakesSmallTexts : (ℕ → List ℕ) → ℕ → Type 0
+TakesSmallTexts units_of least = (text : List ℕ) → IsSmallText text → length (units_of_text units_of text) ≤ least
+
+-- What a call of a decoder answers and does, whatever it writes to, in these units, of which `least` are enough for what
+-- comes next.
+pub record Converts (units_of : ℕ → List ℕ) (least : ℕ) (treatment : Treatment) (old new : DecoderState) (src : List ℕ) (last : Bool) (room : ℕ) (result : DecoderResult) (read : ℕ) (wrote : List ℕ) (replaced : Bool) : Type 0 where
+  pub decodes : Decodes units_of treatment old new src last room result read wrote replaced
+  -- Where nothing was read and nothing written, the decoder is as it was, but for a pending escape sequence that is
+  -- shown to be skipped; in an encoding that has none, it is just as it was.
+  pub unchanged : result ≡ raw.OutputFull → read ≡ 0 → wrote ≡ [] → IsAsBefore src last old new
+  pub same : result ≡ raw.OutputFull → read ≡ 0 → wrote ≡ [] → HasTexts (rule_of old.encoding) → new ≡ old
+  -- A room of that many units is never too small to go on.
+  pub progress : result ≡ raw.OutputFull → least ≤ room → length new.pending + (length src - read) < length old.pending + length src
+
+-- the same of a call that replaces what is malformed
+abbrev pub ConvertsReplacing : (ℕ → List ℕ) → ℕ → DecoderState → DecoderState → List ℕ → Bool → ℕ → CoderResult → ℕ → List ℕ → Bool → Type 0
+ConvertsReplacing units_of least old new src last room result read wrote replaced =
+    Converts units_of least Replaced old new src last room (stop_of result) read wrote replaced
+
+-- and of one that reports it
+abbrev pub ConvertsReporting : (ℕ → List ℕ) → ℕ → DecoderState → DecoderState → List ℕ → Bool → ℕ → DecoderResult → ℕ → List ℕ → Type 0
+ConvertsReporting units_of least old new src last room result read wrote =
+    Converts units_of least (Reported false) old new src last room result read wrote false
+
+-- the same, and what it wrote is appended to an output
+pub record ConvertsInto (units_of : ℕ → List ℕ) (treatment : Treatment) (old new : DecoderState) (src : List ℕ) (last : Bool) (before after : Output) (result : DecoderResult) (read : ℕ) (replaced : Bool) : Type 0 where
+  pub wrote : List ℕ
+  pub onto : after ≡ appended before wrote
+  pub converts : (least : ℕ) → TakesSmallTexts units_of least → Converts units_of least treatment old new src last before.room result read wrote replaced
 
 -- What calls have made, of an encoding's decoder, of the bytes that they were given so far, of which these are
 -- unread; where `ended`, nothing follows them.

@@ -4,6 +4,7 @@ pub mod LifeCycle
 pub mod Sniffing
 pub mod Decoding
 pub mod MarkLaws
+pub mod Latin1
 pub mod Run
 pub mod Names
 pub mod Labels

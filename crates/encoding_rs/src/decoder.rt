@@ -2,12 +2,16 @@
 
 ghost use Rattle.std.specs.Prelude.{◌≡◌, ◌+◌, ◌-◌, ◌<◌, ◌≤◌, true, false, length, take, drop};
 ghost use Rattle.std.specs.Char.{encode_utf8};
-ghost use Rattle.enc_machine.specs.RuleLaws.{HasTexts};
+ghost use Rattle.std.specs.Char.Escape.{encode_utf16};
+ghost use Rattle.std.specs.String.{string_bytes, string_len, string_capacity};
+ghost use Rattle.enc_units.specs.Validity.{IsWellFormedUtf8};
+ghost use Rattle.enc_machine.specs.Call.{Replaced, Reported};
 ghost use Rattle.encoding_rs.specs.declared.bom.BomHandling.TheVariants as handling;
-ghost use Rattle.encoding_rs.specs.Encodings.{rule_of};
+ghost use Rattle.enc_units.specs.Rest.{without_rest};
+ghost use Rattle.encoding_rs.specs.Latin1.{TellsLatin1};
 ghost use Rattle.encoding_rs.specs.Sniffing.{IsText};
-ghost use Rattle.enc_calls.specs.Replacing.{treatment_of};
-ghost use Rattle.encoding_rs.specs.Decoding.{fresh, finished, start_life, TellsHeld, DecodesInto, DecodesReplacing, DecodesReporting, IsAsBefore};
+ghost use Rattle.enc_calls.specs.Replacing.{stop_of, treatment_of};
+ghost use Rattle.encoding_rs.specs.Decoding.{fresh, finished, start_life, TellsHeld, DecodesInto, ConvertsInto, ConvertsReplacing, ConvertsReporting};
 
 use crate::bom::BomHandling;
 use crate::encoding::{Encoding, Id, codec_of};
@@ -15,8 +19,8 @@ use crate::life_cycle::LifeCycle;
 use crate::sniffing::{Sniffed, sniff};
 use crate::text::convert_text;
 use enc_calls::CoderResult;
-use enc_codec::{DecoderResult, VariantDecoder};
-use enc_units::{Units, Utf8Slice};
+use enc_codec::{DecoderResult, RawDecoder, VariantDecoder};
+use enc_units::{StringTail, Units, Utf8Slice, Utf16Slice, clear_rest};
 use std::marker::Model;
 
 /// Converts a stream of bytes, in chunks of any size, into text, in buffers of any size (Encoding Standard 4.1 and 6).
@@ -114,6 +118,20 @@ impl Decoder {
         }
     }
 
+    /// How many bytes in front of `bytes` are the characters of their own numbers, each a valid sequence by itself: so many
+    /// can be taken for Latin-1 as they stand, where they are what is offered next. `None` where that can't be of any
+    /// byte: as long as a byte order mark may come, where bytes are pending or the decoder is finished, where another
+    /// character set than ASCII is designated (ISO-2022-JP), and for UTF-16LE, UTF-16BE and replacement. In Shift_JIS the
+    /// byte 0x80 counts, which is U+0080. The decoder stays as it is. Takes no memory.
+    pub fn latin1_byte_compatible_up_to(&self, bytes: &[u8]) -> Option<usize>
+        ensures { TellsLatin1 self.now bytes.now result }
+    {
+        match self.life {
+            LifeCycle::Converting => self.codec.latin1_byte_compatible_up_to(bytes),
+            _ => None,
+        }
+    }
+
     /// Decodes text: no mark comes in front of it.
     fn convert_text<U: Units>(
         &mut self,
@@ -163,6 +181,42 @@ impl Decoder {
         }
     }
 
+    /// Decodes until all is read or the next sequence doesn't fit, with U+FFFD for each malformed one.
+    fn convert_replacing<U: Units>(
+        &mut self,
+        src: &[u8],
+        out: &mut U,
+        last: bool,
+    ) -> (CoderResult, usize, bool)
+        requires { finished self.old ≡ false }
+        ensures { ConvertsInto U.units_of Replaced self.old self.new src.now last (U.output out.old) (U.output out.new)
+            (stop_of result.0) result.1 result.2 }
+    {
+        U::laws();
+        let (result, read, replaced) = self.convert(src, out, last, true);
+        match result {
+            DecoderResult::InputEmpty => (CoderResult::InputEmpty, read, replaced),
+            DecoderResult::OutputFull => (CoderResult::OutputFull, read, replaced),
+            DecoderResult::Malformed(_, _) => unreachable!(),
+        }
+    }
+
+    /// Decodes until all is read, the next sequence doesn't fit, or one is malformed.
+    fn convert_reporting<U: Units>(
+        &mut self,
+        src: &[u8],
+        out: &mut U,
+        last: bool,
+    ) -> (DecoderResult, usize)
+        requires { finished self.old ≡ false }
+        ensures { ConvertsInto U.units_of (Reported false) self.old self.new src.now last (U.output out.old) (U.output out.new)
+            result.0 result.1 false }
+    {
+        U::laws();
+        let (result, read, _) = self.convert(src, out, last, false);
+        (result, read)
+    }
+
     /// Decodes bytes into UTF-8, with U+FFFD for each malformed sequence (Encoding Standard 4.1, error mode
     /// "replacement"). Condition: the decoder is not finished.
     ///
@@ -172,7 +226,8 @@ impl Decoder {
     /// the decoder is finished then. `OutputFull`: the next character, or U+FFFD, doesn't fit; it is put out whole
     /// by a later call, to which the bytes of `src` that weren't read are offered again.
     ///
-    /// Any room will do, 0 too. The bytes of `dst` behind those written stay. Takes no memory.
+    /// Any room will do, 0 too; four bytes are enough to go on. The bytes of `dst` behind those written stay. Takes no
+    /// memory.
     pub fn decode_to_utf8(
         &mut self,
         src: &[u8],
@@ -180,29 +235,14 @@ impl Decoder {
         last: bool,
     ) -> (CoderResult, usize, usize, bool)
         requires { finished self.old ≡ false }
-        ensures call { DecodesReplacing encode_utf8 self.old self.new src.now last (length dst.old)
+        ensures call { ConvertsReplacing encode_utf8 4 self.old self.new src.now last (length dst.old)
             result.0 result.1 (take result.2 dst.new) result.3 }
         ensures written { result.2 ≤ length dst.old }
         ensures behind { drop result.2 dst.new ≡ drop result.2 dst.old }
-
-        // Where nothing was read and nothing written, the decoder is as it was, but for a pending escape sequence
-        // that is shown to be skipped; in an encoding that has none, it is just as it was.
-        ensures unchanged { result.0 ≡ CoderResult.OutputFull → result.1 ≡ 0 → result.2 ≡ 0 → IsAsBefore src.now last self.old self.new }
-        ensures same { result.0 ≡ CoderResult.OutputFull → result.1 ≡ 0 → result.2 ≡ 0 → HasTexts (rule_of self.old.encoding) →
-            self.new ≡ self.old }
-
-        // A room of four bytes is never too small to go on.
-        ensures progress { result.0 ≡ CoderResult.OutputFull → 4 ≤ length dst.old →
-            length self.new.pending + (length src.now - result.1) < length self.old.pending + length src.now }
     {
         let mut out = Utf8Slice::new(dst);
-        let (result, read, replaced) = self.convert(src, &mut out, last, true);
-        let written = out.len();
-        match result {
-            DecoderResult::InputEmpty => (CoderResult::InputEmpty, read, written, replaced),
-            DecoderResult::OutputFull => (CoderResult::OutputFull, read, written, replaced),
-            DecoderResult::Malformed(_, _) => unreachable!(),
-        }
+        let (result, read, replaced) = self.convert_replacing(src, &mut out, last);
+        (result, read, out.len(), replaced)
     }
 
     /// The same without replacement: it stops at each malformed sequence and reports it (Encoding Standard 4.1,
@@ -213,7 +253,8 @@ impl Decoder {
     /// who puts U+FFFD in its place gets the text that replacing calls give. It is reported whether or not U+FFFD
     /// would fit.
     ///
-    /// Any room will do, 0 too. The bytes of `dst` behind those written stay. Takes no memory.
+    /// Any room will do, 0 too; four bytes are enough to go on. The bytes of `dst` behind those written stay. Takes no
+    /// memory.
     pub fn decode_to_utf8_without_replacement(
         &mut self,
         src: &[u8],
@@ -221,18 +262,142 @@ impl Decoder {
         last: bool,
     ) -> (DecoderResult, usize, usize)
         requires { finished self.old ≡ false }
-        ensures call { DecodesReporting encode_utf8 self.old self.new src.now last (length dst.old)
+        ensures call { ConvertsReporting encode_utf8 4 self.old self.new src.now last (length dst.old)
             result.0 result.1 (take result.2 dst.new) }
         ensures written { result.2 ≤ length dst.old }
         ensures behind { drop result.2 dst.new ≡ drop result.2 dst.old }
-        ensures unchanged { result.0 ≡ DecoderResult.OutputFull → result.1 ≡ 0 → result.2 ≡ 0 → IsAsBefore src.now last self.old self.new }
-        ensures same { result.0 ≡ DecoderResult.OutputFull → result.1 ≡ 0 → result.2 ≡ 0 → HasTexts (rule_of self.old.encoding) →
-            self.new ≡ self.old }
-        ensures progress { result.0 ≡ DecoderResult.OutputFull → 4 ≤ length dst.old →
-            length self.new.pending + (length src.now - result.1) < length self.old.pending + length src.now }
     {
         let mut out = Utf8Slice::new(dst);
-        let (result, read, _) = self.convert(src, &mut out, last, false);
+        let (result, read) = self.convert_reporting(src, &mut out, last);
         (result, read, out.len())
+    }
+
+    /// Decodes bytes into UTF-16, with U+FFFD for each malformed sequence: the same as [`Decoder::decode_to_utf8`], but
+    /// that what is written is counted in code units. Condition: the decoder is not finished.
+    ///
+    /// Any room will do, 0 too; two code units are enough to go on. The code units of `dst` behind those written stay.
+    /// Takes no memory.
+    pub fn decode_to_utf16(
+        &mut self,
+        src: &[u8],
+        dst: &mut [u16],
+        last: bool,
+    ) -> (CoderResult, usize, usize, bool)
+        requires { finished self.old ≡ false }
+        ensures call { ConvertsReplacing encode_utf16 2 self.old self.new src.now last (length dst.old)
+            result.0 result.1 (take result.2 dst.new) result.3 }
+        ensures written { result.2 ≤ length dst.old }
+        ensures behind { drop result.2 dst.new ≡ drop result.2 dst.old }
+    {
+        let mut units = Utf16Slice::new(dst);
+        let (result, read, replaced) = self.convert_replacing(src, &mut units, last);
+        (result, read, units.len(), replaced)
+    }
+
+    /// The same without replacement: it stops at each malformed sequence and reports it, as
+    /// [`Decoder::decode_to_utf8_without_replacement`] does. Condition: the decoder is not finished.
+    ///
+    /// Any room will do, 0 too; two code units are enough to go on. The code units of `dst` behind those written stay.
+    /// Takes no memory.
+    pub fn decode_to_utf16_without_replacement(
+        &mut self,
+        src: &[u8],
+        dst: &mut [u16],
+        last: bool,
+    ) -> (DecoderResult, usize, usize)
+        requires { finished self.old ≡ false }
+        ensures call { ConvertsReporting encode_utf16 2 self.old self.new src.now last (length dst.old)
+            result.0 result.1 (take result.2 dst.new) }
+        ensures written { result.2 ≤ length dst.old }
+        ensures behind { drop result.2 dst.new ≡ drop result.2 dst.old }
+    {
+        let mut units = Utf16Slice::new(dst);
+        let (result, read) = self.convert_reporting(src, &mut units, last);
+        (result, read, units.len())
+    }
+
+    /// Decodes bytes into text in place of other text: the same as [`Decoder::decode_to_utf8`], but that all of `dst` is
+    /// well-formed UTF-8 afterwards, so that it can be taken for a `str`. Conditions: the decoder is not finished, and
+    /// `dst` is well-formed UTF-8.
+    ///
+    /// What is written may end within a character that was there: of the bytes behind what is written, those from 0x80 to
+    /// 0xBF that follow directly become 00. All later ones stay. Takes no memory.
+    pub fn decode_to_str(
+        &mut self,
+        src: &[u8],
+        dst: &mut [u8],
+        last: bool,
+    ) -> (CoderResult, usize, usize, bool)
+        requires open { finished self.old ≡ false }
+        requires utf8 { IsWellFormedUtf8 dst.old }
+        ensures call { ConvertsReplacing encode_utf8 4 self.old self.new src.now last (length dst.old)
+            result.0 result.1 (take result.2 dst.new) result.3 }
+        ensures written { result.2 ≤ length dst.old }
+        ensures behind { drop result.2 dst.new ≡ without_rest (drop result.2 dst.old) }
+        ensures utf8 { IsWellFormedUtf8 dst.new }
+    {
+        let (result, read, written, replaced) = self.decode_to_utf8(src, dst, last);
+        clear_rest(dst, written);
+        (result, read, written, replaced)
+    }
+
+    /// The same without replacement: it stops at each malformed sequence and reports it, as
+    /// [`Decoder::decode_to_utf8_without_replacement`] does. Conditions: the decoder is not finished, and `dst` is
+    /// well-formed UTF-8. Takes no memory.
+    pub fn decode_to_str_without_replacement(
+        &mut self,
+        src: &[u8],
+        dst: &mut [u8],
+        last: bool,
+    ) -> (DecoderResult, usize, usize)
+        requires open { finished self.old ≡ false }
+        requires utf8 { IsWellFormedUtf8 dst.old }
+        ensures call { ConvertsReporting encode_utf8 4 self.old self.new src.now last (length dst.old)
+            result.0 result.1 (take result.2 dst.new) }
+        ensures written { result.2 ≤ length dst.old }
+        ensures behind { drop result.2 dst.new ≡ without_rest (drop result.2 dst.old) }
+        ensures utf8 { IsWellFormedUtf8 dst.new }
+    {
+        let (result, read, len) = self.decode_to_utf8_without_replacement(src, dst, last);
+        clear_rest(dst, len);
+        (result, read, len)
+    }
+
+    /// Decodes bytes and appends their text to a String, with U+FFFD for each malformed sequence: the same as
+    /// [`Decoder::decode_to_utf8`] into a slice of as many bytes as the String's capacity has more than its length.
+    /// Condition: the decoder is not finished.
+    ///
+    /// It appends within the capacity, moves nothing else, and takes no memory. Without spare capacity it answers as for
+    /// a slice of length 0.
+    pub fn decode_to_string(
+        &mut self,
+        src: &[u8],
+        dst: &mut String,
+        last: bool,
+    ) -> (CoderResult, usize, bool)
+        requires { finished self.old ≡ false }
+        ensures call { ConvertsReplacing encode_utf8 4 self.old self.new src.now last (string_capacity dst.old - string_len dst.old)
+            result.0 result.1 (drop (length (string_bytes dst.old)) (string_bytes dst.new)) result.2 }
+        ensures appended { take (length (string_bytes dst.old)) (string_bytes dst.new) ≡ string_bytes dst.old }
+    {
+        let mut tail = StringTail::new(dst);
+        self.convert_replacing(src, &mut tail, last)
+    }
+
+    /// The same without replacement: it stops at each malformed sequence and reports it, as
+    /// [`Decoder::decode_to_utf8_without_replacement`] does. Condition: the decoder is not finished.
+    pub fn decode_to_string_without_replacement(
+        &mut self,
+        src: &[u8],
+        dst: &mut String,
+        last: bool,
+    ) -> (DecoderResult, usize)
+        requires { finished self.old ≡ false }
+        ensures call { ConvertsReporting encode_utf8 4 self.old self.new src.now last (string_capacity dst.old - string_len dst.old)
+            result.0 result.1 (drop (length (string_bytes dst.old)) (string_bytes dst.new)) }
+        ensures appended { take (length (string_bytes dst.old)) (string_bytes dst.new) ≡ string_bytes dst.old }
+    {
+        let mut tail = StringTail::new(dst);
+        self.convert_reporting(src, &mut tail, last)
     }
 }

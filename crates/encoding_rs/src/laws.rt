@@ -4,14 +4,14 @@ ghost use Rattle.std.specs.Prelude.{◌≡◌, ◌≢◌, ◌↔◌, ℕ, false,
 ghost use Rattle.encoding_rs.specs.declared.bom.BomHandling.TheVariants as handling;
 ghost use Rattle.encoding_rs.specs.Bom.{marks_looked_for, find_mark};
 ghost use Rattle.encoding_rs.specs.Encodings.{rule_of};
-ghost use Rattle.encoding_rs.specs.LifeCycle.{encoding_by};
+ghost use Rattle.encoding_rs.specs.LifeCycle.{mark_bytes, encoding_by};
 ghost use Rattle.encoding_rs.specs.MarkLaws.{MayBeginMark, behind as behind_mark};
 ghost use Rattle.encoding_rs.specs.Decoding.{whole_sequences, whole_malformed};
 ghost use Rattle.encoding_rs.specs.Labels.{labelled, get};
 ghost use Rattle.encoding_rs.specs.Names.{name_of};
 ghost use Rattle.encoding_rs.specs.Properties.{output_encoding_of};
-ghost use Rattle.enc_machine.specs.Sequence.{Sequence};
-ghost use Rattle.enc_machine.specs.Segmentation.{sequences_of};
+ghost use Rattle.enc_machine.specs.Sequence.{Sequence, bytes_of};
+ghost use Rattle.enc_machine.specs.Segmentation.{sequences_of, IsSegmentation};
 ghost use Rattle.enc_machine.specs.Remainder.{Determines};
 ghost use Rattle.enc_machine.specs.RuleLaws.{HasTexts};
 ghost use Rattle.enc_units.specs.Validity.{IsWellFormedUtf8};
@@ -73,6 +73,21 @@ pub fn mark_is_told_first(encoding: Encoding, handling: BomHandling)
         → Determines (whole_sequences handling encoding) x ss
         ↔ Determines (sequences_of (rule_of (encoding_by (find_mark (marks_looked_for handling encoding) x) encoding)) 0)
         (behind_mark (find_mark (marks_looked_for handling encoding) x) x) ss }
+{
+    let _ = (encoding, handling);
+}
+
+/// The sequences of a whole input, joined, are the bytes behind the byte order mark, if one is found; and there is one such
+/// segmentation.
+pub fn sequences_are_the_bytes(encoding: Encoding, handling: BomHandling)
+    ensures joined { (bytes : List ℕ) → mark_bytes (find_mark (marks_looked_for handling encoding) bytes)
+        ++ bytes_of (whole_sequences handling encoding bytes) ≡ bytes }
+
+    // They are told by the rule, each at its place, and no others are.
+    ensures told { (bytes : List ℕ) → IsSegmentation (rule_of (encoding_by (find_mark (marks_looked_for handling encoding) bytes) encoding)) 0
+        (behind_mark (find_mark (marks_looked_for handling encoding) bytes) bytes) (whole_sequences handling encoding bytes) }
+    ensures one { (bytes : List ℕ) (ss : List Sequence) → IsSegmentation (rule_of (encoding_by (find_mark (marks_looked_for handling encoding) bytes) encoding)) 0
+        (behind_mark (find_mark (marks_looked_for handling encoding) bytes) bytes) ss → ss ≡ whole_sequences handling encoding bytes }
 {
     let _ = (encoding, handling);
 }

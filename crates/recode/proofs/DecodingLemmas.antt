@@ -9,7 +9,7 @@ use Rattle.enc_calls.specs.declared.coder_result.CoderResult.TheVariants.{InputE
 use Rattle.enc_units.specs.Output.{units_of_text}
 use Rattle.enc_machine.specs.Sequence.{Sequence, text_of, any_malformed}
 use Rattle.encoding_rs.specs.Decoding.{DecoderState, finished, fresh, remaining_sequences, whole_sequences, whole_utf_8, DecodesReplacing, HasDecoded}
-use Rattle.encoding_rs.proofs.RunLemmas.{only_put, finishes, fresh_sequences}
+use Rattle.encoding_rs.proofs.EndLemmas.{only_put, finishes, fresh_sequences}
 use Rattle.enc_machine.proofs.SequenceLemmas.{units-append, any_malformed-append}
 use Rattle.recode.specs.Chunk.{DecodesBytes, remaining_utf_8}
 

@@ -4,7 +4,7 @@ use Rattle.std.specs.Io.KnownBytes.{IsAtEnd}
 use Rattle.encoding_rs.specs.declared.bom.BomHandling.TheVariants.{Sniff}
 use Rattle.encoding_rs.specs.declared.encoding.Encoding.{Encoding}
 use Rattle.encoding_rs.specs.Decoding.{DecoderState, finished, fresh, whole_utf_8, HasDecoded}
-use Rattle.encoding_rs.proofs.RunLemmas.{whole_text, whole_flag}
+use Rattle.encoding_rs.proofs.EndLemmas.{whole_text, whole_flag}
 use Rattle.recode.specs.Source.{TellsNext}
 use Rattle.recode.specs.Sink.{TakesMore}
 use Rattle.recode.specs.Chunk.{HasRecoded, StopsWithin, remaining_utf_8}

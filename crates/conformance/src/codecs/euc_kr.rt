@@ -2,76 +2,70 @@
 //! Standard's decoder by hand.
 
 use crate::harness::raw_calls::decode_one;
-use crate::harness::{compare_all, decode_whole, malformed, valid};
+use crate::harness::{Row, compare_all, decode_whole};
 use enc_codec::EucKrDecoder;
 use encoding_rs::EUC_KR;
 use std::test::Fail;
 
+const CHARACTERS: &[Row] = &[(b"a\xB0\xA1", "a\u{AC00}", &[], 3)];
+
 #[test]
 fn decodes(rt: HostRuntime) -> Result<(), Fail> {
     decode_whole(&rt, EUC_KR, b"\xB0\xA1", "\u{AC00}");
-    compare_all(
-        &rt,
-        rt.alloc(),
-        (EUC_KR, EucKrDecoder::new()),
-        &[valid(b"a\xB0\xA1", "a\u{AC00}", 3)],
-    )
+    compare_all(&rt, rt.alloc(), (EUC_KR, EucKrDecoder::new()), CHARACTERS)
 }
+
+const WORDS: &[Row] = &[
+    (
+        b"\xB8\xF0\xB5\xE7 \xC0\xCE\xB0\xA3\xC0\xBA \xC5\xC2\xBE\xEE\xB3\xAF",
+        "모든 인간은 태어날",
+        &[],
+        3,
+    ),
+    (
+        b"\xB6\xA7\xBA\xCE\xC5\xCD \xC0\xDA\xC0\xAF\xB7\xCE\xBF\xEC\xB8\xE7",
+        "때부터 자유로우며",
+        &[],
+        3,
+    ),
+    (b"\xD3\xDE\xF9\xDB\xDA\xC5\xCF\xD0", "大韓民國", &[], 3),
+    // two syllables of the extension of windows-949
+    (
+        b"\x8C\x63\xB9\xE6\xB0\xA2\xC7\xCF, \x94\xEE!",
+        "똠방각하, 뷁!",
+        &[],
+        3,
+    ),
+    // the first and the last entry
+    (b"\x81\x41\xFD\xFE", "\u{AC02}\u{8A70}", &[], 3),
+];
 
 #[test]
 fn has_words_and_rare_characters(rt: HostRuntime) -> Result<(), Fail> {
-    compare_all(
-        &rt,
-        rt.alloc(),
-        (EUC_KR, EucKrDecoder::new()),
-        &[
-            valid(
-                b"\xB8\xF0\xB5\xE7 \xC0\xCE\xB0\xA3\xC0\xBA \xC5\xC2\xBE\xEE\xB3\xAF",
-                "모든 인간은 태어날",
-                3,
-            ),
-            valid(
-                b"\xB6\xA7\xBA\xCE\xC5\xCD \xC0\xDA\xC0\xAF\xB7\xCE\xBF\xEC\xB8\xE7",
-                "때부터 자유로우며",
-                3,
-            ),
-            valid(b"\xD3\xDE\xF9\xDB\xDA\xC5\xCF\xD0", "大韓民國", 3),
-            // two syllables of the extension of windows-949
-            valid(
-                b"\x8C\x63\xB9\xE6\xB0\xA2\xC7\xCF, \x94\xEE!",
-                "똠방각하, 뷁!",
-                3,
-            ),
-            // the first and the last entry
-            valid(b"\x81\x41\xFD\xFE", "\u{AC02}\u{8A70}", 3),
-        ],
-    )
+    compare_all(&rt, rt.alloc(), (EUC_KR, EucKrDecoder::new()), WORDS)
 }
+
+const MALFORMED: &[Row] = &[
+    (b"\xB0", "\u{FFFD}", &[(0, 1)], 3),
+    (
+        b"\xB0\x40\xB0\xFF",
+        "\u{FFFD}@\u{FFFD}",
+        &[(0, 1), (2, 2)],
+        3,
+    ),
+    (b"\x80\xFF", "\u{FFFD}\u{FFFD}", &[(0, 1), (1, 1)], 3),
+    // unmapped pointers: between the letters, and in the rows of the user
+    (
+        b"\x81\x5B\xC9\xA1\xFE\xFE",
+        "\u{FFFD}[\u{FFFD}\u{FFFD}",
+        &[(0, 1), (2, 2), (4, 2)],
+        3,
+    ),
+];
 
 #[test]
 fn tells_what_is_malformed(rt: HostRuntime) -> Result<(), Fail> {
-    compare_all(
-        &rt,
-        rt.alloc(),
-        (EUC_KR, EucKrDecoder::new()),
-        &[
-            malformed(b"\xB0", "\u{FFFD}", &[(0, 1)], 3),
-            malformed(
-                b"\xB0\x40\xB0\xFF",
-                "\u{FFFD}@\u{FFFD}",
-                &[(0, 1), (2, 2)],
-                3,
-            ),
-            malformed(b"\x80\xFF", "\u{FFFD}\u{FFFD}", &[(0, 1), (1, 1)], 3),
-            // unmapped pointers: between the letters, and in the rows of the user
-            malformed(
-                b"\x81\x5B\xC9\xA1\xFE\xFE",
-                "\u{FFFD}[\u{FFFD}\u{FFFD}",
-                &[(0, 1), (2, 2), (4, 2)],
-                3,
-            ),
-        ],
-    )
+    compare_all(&rt, rt.alloc(), (EUC_KR, EucKrDecoder::new()), MALFORMED)
 }
 
 #[test]

@@ -4,275 +4,260 @@
 //! has are of Node's TextDecoder. The others were written by the steps of the standard's decoder.
 
 use crate::harness::raw_calls::{end, hold, make_call, stop};
-use crate::harness::{
-    Call, Input, ReportingCall, compare_all, make_calls, make_reporting_calls, malformed, valid,
-};
+use crate::harness::{Call, ReportingCall, Row, compare_all, make_calls, make_reporting_calls};
 use enc_codec::Iso2022JpDecoder;
 use encoding_rs::{CoderResult, DecoderResult, ISO_2022_JP};
 use std::alloc::Global;
 use std::process::Abort;
 use std::test::Fail;
 
-/// A call with room for eight bytes and what has to come of it.
-fn call<'a>(
-    src: &'a [u8],
-    last: bool,
-    stop: DecoderResult,
-    read: usize,
-    text: &'a str,
-) -> ReportingCall<'a> {
-    ReportingCall {
-        src,
-        last,
-        room: 8,
-        want: (stop, read, text.len()),
-        text: text.as_bytes(),
-    }
-}
-
 /// Runs each input through every cut and room.
-fn compare(rt: &impl Abort, alloc: Global, inputs: &[Input<'_>]) -> Result<(), Fail> {
-    compare_all(rt, alloc, (ISO_2022_JP, Iso2022JpDecoder::new()), inputs)
+fn compare(rt: &impl Abort, alloc: Global, rows: &[Row]) -> Result<(), Fail> {
+    compare_all(rt, alloc, (ISO_2022_JP, Iso2022JpDecoder::new()), rows)
 }
 
 const EMPTY: DecoderResult = DecoderResult::InputEmpty;
 
 const ONE: DecoderResult = DecoderResult::Malformed(1, 0);
 
+const GIVEN_BACK: &[ReportingCall<'static>] = &[
+    (&[0x1B, 0x24], false, 8, (EMPTY, 2, 0), ""),
+    (&[0x41], true, 8, (DecoderResult::Malformed(1, 1), 0, 0), ""),
+    (&[0x41], true, 8, (EMPTY, 1, 2), "$A"),
+];
+
+const GIVEN_BACK_AT_THE_END: &[ReportingCall<'static>] = &[
+    (
+        &[0x1B, 0x28],
+        true,
+        8,
+        (DecoderResult::Malformed(1, 1), 2, 0),
+        "",
+    ),
+    (&[], true, 8, (EMPTY, 0, 1), "("),
+];
+
+const GIVEN_BACK_IN_JIS_X_0208: &[ReportingCall<'static>] = &[
+    (
+        &[0x1B, 0x24, 0x42, 0x1B, 0x24],
+        true,
+        8,
+        (DecoderResult::Malformed(1, 1), 5, 0),
+        "",
+    ),
+    (&[], true, 8, (ONE, 0, 0), ""),
+    (&[], true, 8, (EMPTY, 0, 0), ""),
+];
+
 #[test]
 fn an_intermediate_byte_is_given_back(rt: HostRuntime) {
-    let one_and_one = DecoderResult::Malformed(1, 1);
-    make_reporting_calls(
-        &rt,
-        ISO_2022_JP,
-        &[
-            call(&[0x1B, 0x24], false, EMPTY, 2, ""),
-            call(&[0x41], true, one_and_one, 0, ""),
-            call(&[0x41], true, EMPTY, 1, "$A"),
-        ],
-    );
-    make_reporting_calls(
-        &rt,
-        ISO_2022_JP,
-        &[
-            call(&[0x1B, 0x28], true, one_and_one, 2, ""),
-            call(&[], true, EMPTY, 0, "("),
-        ],
-    );
-    make_reporting_calls(
-        &rt,
-        ISO_2022_JP,
-        &[
-            call(&[0x1B, 0x24, 0x42, 0x1B, 0x24], true, one_and_one, 5, ""),
-            call(&[], true, ONE, 0, ""),
-            call(&[], true, EMPTY, 0, ""),
-        ],
-    );
+    make_reporting_calls(&rt, ISO_2022_JP, GIVEN_BACK);
+    make_reporting_calls(&rt, ISO_2022_JP, GIVEN_BACK_AT_THE_END);
+    make_reporting_calls(&rt, ISO_2022_JP, GIVEN_BACK_IN_JIS_X_0208);
 }
+
+const TWO_ESCAPES: &[ReportingCall<'static>] = &[
+    (
+        &[0x1B, 0x28, 0x42, 0x1B, 0x28, 0x4A, 0x5C],
+        true,
+        8,
+        (DecoderResult::Malformed(3, 3), 6, 0),
+        "",
+    ),
+    (&[0x5C], true, 8, (EMPTY, 1, 2), "¥"),
+];
 
 #[test]
 fn an_escape_before_another_is_malformed(rt: HostRuntime) {
-    make_reporting_calls(
-        &rt,
-        ISO_2022_JP,
-        &[
-            call(
-                &[0x1B, 0x28, 0x42, 0x1B, 0x28, 0x4A, 0x5C],
-                true,
-                DecoderResult::Malformed(3, 3),
-                6,
-                "",
-            ),
-            call(&[0x5C], true, EMPTY, 1, "¥"),
-        ],
-    );
+    make_reporting_calls(&rt, ISO_2022_JP, TWO_ESCAPES);
 }
+
+const LEAD_AND_ESCAPE: &[ReportingCall<'static>] = &[
+    (
+        &[0x1B, 0x24, 0x42, 0x24, 0x1B, 0x28, 0x42, 0x41],
+        true,
+        8,
+        (ONE, 4, 0),
+        "",
+    ),
+    (&[0x1B, 0x28, 0x42, 0x41], true, 8, (EMPTY, 4, 1), "A"),
+];
 
 #[test]
 fn an_escape_may_follow_a_lead_byte(rt: HostRuntime) {
-    make_reporting_calls(
-        &rt,
-        ISO_2022_JP,
-        &[
-            call(
-                &[0x1B, 0x24, 0x42, 0x24, 0x1B, 0x28, 0x42, 0x41],
-                true,
-                ONE,
-                4,
-                "",
-            ),
-            call(&[0x1B, 0x28, 0x42, 0x41], true, EMPTY, 4, "A"),
-        ],
-    );
+    make_reporting_calls(&rt, ISO_2022_JP, LEAD_AND_ESCAPE);
 }
+
+const ESCAPE_AND_1B: &[ReportingCall<'static>] = &[
+    (&[0x1B, 0x28, 0x42, 0x1B, 0x41], true, 8, (ONE, 4, 0), ""),
+    (&[0x41], true, 8, (EMPTY, 1, 1), "A"),
+];
 
 #[test]
 fn an_escape_before_1b_is_skipped(rt: HostRuntime) {
-    make_reporting_calls(
-        &rt,
-        ISO_2022_JP,
-        &[
-            call(&[0x1B, 0x28, 0x42, 0x1B, 0x41], true, ONE, 4, ""),
-            call(&[0x41], true, EMPTY, 1, "A"),
-        ],
-    );
+    make_reporting_calls(&rt, ISO_2022_JP, ESCAPE_AND_1B);
 }
+
+const TEXT_BEHIND_ESCAPE: &[ReportingCall<'static>] = &[(
+    &[0x1B, 0x24, 0x42, 0x24, 0x21],
+    true,
+    8,
+    (EMPTY, 5, 3),
+    "ぁ",
+)];
+
+const NOTHING_BEHIND_ESCAPE: &[ReportingCall<'static>] = &[(
+    &[0x1B, 0x24, 0x42],
+    true,
+    8,
+    (EMPTY, 3, 0),
+    "",
+)];
 
 #[test]
 fn an_escape_may_end_the_input(rt: HostRuntime) {
-    make_reporting_calls(
-        &rt,
-        ISO_2022_JP,
-        &[call(&[0x1B, 0x24, 0x42, 0x24, 0x21], true, EMPTY, 5, "ぁ")],
-    );
-    make_reporting_calls(
-        &rt,
-        ISO_2022_JP,
-        &[call(&[0x1B, 0x24, 0x42], true, EMPTY, 3, "")],
-    );
+    make_reporting_calls(&rt, ISO_2022_JP, TEXT_BEHIND_ESCAPE);
+    make_reporting_calls(&rt, ISO_2022_JP, NOTHING_BEHIND_ESCAPE);
 }
+
+const HELD_ESCAPE: &[Call<'static>] = &[
+    (
+        &[0x1B, 0x28, 0x4A],
+        false,
+        0,
+        (CoderResult::InputEmpty, 3, 0, false),
+        "",
+    ),
+    (&[0x5C], true, 1, (CoderResult::OutputFull, 0, 0, false), ""),
+    (
+        &[0x5C],
+        true,
+        2,
+        (CoderResult::InputEmpty, 1, 2, false),
+        "¥",
+    ),
+];
 
 #[test]
 fn a_held_escape_is_taken_where_it_is_skipped(rt: HostRuntime) {
-    let full = CoderResult::OutputFull;
-    make_calls(
-        &rt,
-        ISO_2022_JP,
-        &[
-            Call {
-                src: &[0x1B, 0x28, 0x4A],
-                last: false,
-                room: 0,
-                want: (CoderResult::InputEmpty, 3, 0, false),
-                text: &[],
-            },
-            Call {
-                src: &[0x5C],
-                last: true,
-                room: 1,
-                want: (full, 0, 0, false),
-                text: &[],
-            },
-            Call {
-                src: &[0x5C],
-                last: true,
-                room: 2,
-                want: (CoderResult::InputEmpty, 1, 2, false),
-                text: "¥".as_bytes(),
-            },
-        ],
-    );
+    make_calls(&rt, ISO_2022_JP, HELD_ESCAPE);
 }
+
+const SECOND_ESCAPE: &[Call<'static>] = &[
+    (
+        &[0x1B, 0x28, 0x42, 0x1B, 0x28, 0x4A, 0x5C],
+        true,
+        2,
+        (CoderResult::OutputFull, 5, 0, false),
+        "",
+    ),
+    (
+        &[0x4A, 0x5C],
+        true,
+        3,
+        (CoderResult::OutputFull, 1, 3, true),
+        "\u{FFFD}",
+    ),
+    (
+        &[0x5C],
+        true,
+        3,
+        (CoderResult::InputEmpty, 1, 2, false),
+        "¥",
+    ),
+];
 
 #[test]
 fn a_second_escape_waits_for_room(rt: HostRuntime) {
-    let full = CoderResult::OutputFull;
-    make_calls(
-        &rt,
-        ISO_2022_JP,
-        &[
-            Call {
-                src: &[0x1B, 0x28, 0x42, 0x1B, 0x28, 0x4A, 0x5C],
-                last: true,
-                room: 2,
-                want: (full, 5, 0, false),
-                text: &[],
-            },
-            Call {
-                src: &[0x4A, 0x5C],
-                last: true,
-                room: 3,
-                want: (full, 1, 3, true),
-                text: "\u{FFFD}".as_bytes(),
-            },
-            Call {
-                src: &[0x5C],
-                last: true,
-                room: 3,
-                want: (CoderResult::InputEmpty, 1, 2, false),
-                text: "¥".as_bytes(),
-            },
-        ],
-    );
+    make_calls(&rt, ISO_2022_JP, SECOND_ESCAPE);
 }
+
+const TEXTS: &[Row] = &[
+    (b"A\x1B$B$\"0l\x1B(BB", "Aあ一B", &[], 3),
+    (b"a\x1B(J\\\x1B(Bb\x1B(J~\x1B(Bc", "a¥b‾c", &[], 3),
+    (b"\x1B(I1_\x1B(B", "ｱﾟ", &[], 3),
+    (b"\x1B$@$\"", "あ", &[], 3),
+    (b"\x1B$B$!", "ぁ", &[], 3),
+    (b"\x1B$B", "", &[], 0),
+];
 
 #[test]
 fn cuts_and_rooms_change_no_text(rt: HostRuntime) -> Result<(), Fail> {
-    let inputs = [
-        valid(b"A\x1B$B$\"0l\x1B(BB", "Aあ一B", 3),
-        valid(b"a\x1B(J\\\x1B(Bb\x1B(J~\x1B(Bc", "a¥b‾c", 3),
-        valid(b"\x1B(I1_\x1B(B", "ｱﾟ", 3),
-        valid(b"\x1B$@$\"", "あ", 3),
-        valid(b"\x1B$B$!", "ぁ", 3),
-        valid(b"\x1B$B", "", 0),
-    ];
-    compare(&rt, rt.alloc(), &inputs)
+    compare(&rt, rt.alloc(), TEXTS)
 }
+
+const WORDS: &[Row] = &[
+    (b"\x1B$B=U$O$\"$1$\\$N!#\x1B(B", "春はあけぼの。", &[], 3),
+    (
+        b"\x1B$B7oL>\x1B(B: \x1B$B$3$s$K$A$O!\"@$3&\x1B(B!",
+        "件名: こんにちは、世界!",
+        &[],
+        3,
+    ),
+    // by TextDecoder: the first entry and the last that ISO-2022-JP has, NEC row 13, and an IBM extension
+    (b"\x1B$B!!|~", "\u{3000}\u{FF02}", &[], 3),
+    (b"\x1B$B-!-5-jy!\x1B(B", "①Ⅰ㈱纊", &[], 3),
+    // unmapped pointers: in row 2, and in the last row but one
+    (
+        b"\x1B$B\x22\x2F$\"\x7D\x21",
+        "\u{FFFD}あ\u{FFFD}",
+        &[(3, 2), (7, 2)],
+        3,
+    ),
+];
 
 #[test]
 fn cuts_and_rooms_change_no_words(rt: HostRuntime) -> Result<(), Fail> {
-    let inputs = [
-        valid(b"\x1B$B=U$O$\"$1$\\$N!#\x1B(B", "春はあけぼの。", 3),
-        valid(
-            b"\x1B$B7oL>\x1B(B: \x1B$B$3$s$K$A$O!\"@$3&\x1B(B!",
-            "件名: こんにちは、世界!",
-            3,
-        ),
-        // by TextDecoder: the first entry and the last that ISO-2022-JP has, NEC row 13, and an IBM extension
-        valid(b"\x1B$B!!|~", "\u{3000}\u{FF02}", 3),
-        valid(b"\x1B$B-!-5-jy!\x1B(B", "①Ⅰ㈱纊", 3),
-        // unmapped pointers: in row 2, and in the last row but one
-        malformed(
-            b"\x1B$B\x22\x2F$\"\x7D\x21",
-            "\u{FFFD}あ\u{FFFD}",
-            &[(3, 2), (7, 2)],
-            3,
-        ),
-    ];
-    compare(&rt, rt.alloc(), &inputs)
+    compare(&rt, rt.alloc(), WORDS)
 }
+
+const ESCAPES: &[Row] = &[
+    (b"\x1B$A", "\u{FFFD}$A", &[(0, 1)], 3),
+    (b"\x1B(B\x1B(J\\", "\u{FFFD}¥", &[(0, 3)], 3),
+    (
+        b"\x1B(J\x1B$B\x1B(J\\",
+        "\u{FFFD}\u{FFFD}¥",
+        &[(0, 3), (3, 3)],
+        3,
+    ),
+    (b"\x1B(", "\u{FFFD}(", &[(0, 1)], 3),
+    (b"\x1B(B\x1B(", "\u{FFFD}(", &[(3, 1)], 3),
+    (b"\x1B(B\x1BA", "\u{FFFD}A", &[(3, 1)], 3),
+    (b"\x1B(I\x1B$1", "\u{FFFD}､ｱ", &[(3, 1)], 3),
+    (b"\x1B$B\x1B$\"$", "\u{FFFD}あ\u{FFFD}", &[(3, 1), (6, 1)], 3),
+    (b"\x1B$B$\x1B(BA", "\u{FFFD}A", &[(3, 1)], 3),
+];
 
 #[test]
 fn cuts_and_rooms_change_no_escape(rt: HostRuntime) -> Result<(), Fail> {
-    let inputs = [
-        malformed(b"\x1B$A", "\u{FFFD}$A", &[(0, 1)], 3),
-        malformed(b"\x1B(B\x1B(J\\", "\u{FFFD}¥", &[(0, 3)], 3),
-        malformed(
-            b"\x1B(J\x1B$B\x1B(J\\",
-            "\u{FFFD}\u{FFFD}¥",
-            &[(0, 3), (3, 3)],
-            3,
-        ),
-        malformed(b"\x1B(", "\u{FFFD}(", &[(0, 1)], 3),
-        malformed(b"\x1B(B\x1B(", "\u{FFFD}(", &[(3, 1)], 3),
-        malformed(b"\x1B(B\x1BA", "\u{FFFD}A", &[(3, 1)], 3),
-        malformed(b"\x1B(I\x1B$1", "\u{FFFD}､ｱ", &[(3, 1)], 3),
-        malformed(b"\x1B$B\x1B$\"$", "\u{FFFD}あ\u{FFFD}", &[(3, 1), (6, 1)], 3),
-        malformed(b"\x1B$B$\x1B(BA", "\u{FFFD}A", &[(3, 1)], 3),
-    ];
-    compare(&rt, rt.alloc(), &inputs)
+    compare(&rt, rt.alloc(), ESCAPES)
 }
+
+const SETS: &[Row] = &[
+    (
+        b"\x0E\x0F\x1B\x7F",
+        "\u{FFFD}\u{FFFD}\u{FFFD}\u{7F}",
+        &[(0, 1), (1, 1), (2, 1)],
+        3,
+    ),
+    (b"\x1B(J\x80\\", "\u{FFFD}¥", &[(3, 1)], 3),
+    (
+        b"\x1B(I\x20!_\x60",
+        "\u{FFFD}｡ﾟ\u{FFFD}",
+        &[(3, 1), (6, 1)],
+        3,
+    ),
+    (
+        b"\x1B$B$\x80\x29\x21\x20$\"",
+        "\u{FFFD}\u{FFFD}\u{FFFD}あ",
+        &[(3, 2), (5, 2), (7, 1)],
+        3,
+    ),
+];
 
 #[test]
 fn cuts_and_rooms_change_no_set(rt: HostRuntime) -> Result<(), Fail> {
-    let three = "\u{FFFD}\u{FFFD}\u{FFFD}\u{7F}";
-    let inputs = [
-        malformed(b"\x0E\x0F\x1B\x7F", three, &[(0, 1), (1, 1), (2, 1)], 3),
-        malformed(b"\x1B(J\x80\\", "\u{FFFD}¥", &[(3, 1)], 3),
-        malformed(
-            b"\x1B(I\x20!_\x60",
-            "\u{FFFD}｡ﾟ\u{FFFD}",
-            &[(3, 1), (6, 1)],
-            3,
-        ),
-        malformed(
-            b"\x1B$B$\x80\x29\x21\x20$\"",
-            "\u{FFFD}\u{FFFD}\u{FFFD}あ",
-            &[(3, 2), (5, 2), (7, 1)],
-            3,
-        ),
-    ];
-    compare(&rt, rt.alloc(), &inputs)
+    compare(&rt, rt.alloc(), SETS)
 }
 
 #[test]

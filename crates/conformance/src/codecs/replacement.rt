@@ -1,45 +1,35 @@
 //! replacement (Encoding Standard 14.1).
 
 use crate::harness::raw_calls::{end, stop};
-use crate::harness::{Call, compare_all, make_calls, malformed};
+use crate::harness::{Call, Row, compare_all, make_calls};
 use enc_codec::ReplacementDecoder;
 use encoding_rs::{CoderResult, REPLACEMENT};
 use std::test::Fail;
 
+const INPUTS: &[Row] = &[
+    (&[0x41, 0x42], "\u{FFFD}", &[(0, 1)], 3),
+    (&[0x41, 0x42, 0xFF], "\u{FFFD}", &[(0, 1)], 3),
+];
+
+const SOME_BYTES: &[Call<'static>] = &[(
+    &[0x41, 0x42],
+    true,
+    3,
+    (CoderResult::InputEmpty, 2, 3, true),
+    "\u{FFFD}",
+)];
+
+const NO_BYTES: &[Call<'static>] = &[(&[], true, 3, (CoderResult::InputEmpty, 0, 0, false), "")];
+
 #[test]
 fn has_one_malformed_sequence(rt: HostRuntime) -> Result<(), Fail> {
-    let empty = CoderResult::InputEmpty;
-    let replacement = "\u{FFFD}";
-    make_calls(
-        &rt,
-        REPLACEMENT,
-        &[Call {
-            src: &[0x41, 0x42],
-            last: true,
-            room: 3,
-            want: (empty, 2, 3, true),
-            text: replacement.as_bytes(),
-        }],
-    );
-    make_calls(
-        &rt,
-        REPLACEMENT,
-        &[Call {
-            src: &[],
-            last: true,
-            room: 3,
-            want: (empty, 0, 0, false),
-            text: &[],
-        }],
-    );
+    make_calls(&rt, REPLACEMENT, SOME_BYTES);
+    make_calls(&rt, REPLACEMENT, NO_BYTES);
     compare_all(
         &rt,
         rt.alloc(),
         (REPLACEMENT, ReplacementDecoder::new()),
-        &[
-            malformed(&[0x41, 0x42], replacement, &[(0, 1)], 3),
-            malformed(&[0x41, 0x42, 0xFF], replacement, &[(0, 1)], 3),
-        ],
+        INPUTS,
     )
 }
 

@@ -2,7 +2,7 @@
 
 use crate::codecs::single_byte_tables::*;
 use crate::harness::raw_calls::end;
-use crate::harness::{Call, compare_all, make_calls, malformed, valid};
+use crate::harness::{Row, compare_all, make_calls};
 use enc_codec::{DecoderResult, RawDecoder, SingleByteDecoder, SingleByteIndex};
 use enc_units::Utf8Slice;
 use encoding_rs::{
@@ -81,6 +81,13 @@ fn bytes_agree_with_another_converter(rt: HostRuntime) {
     }
 }
 
+const UNMAPPED: &[Row] = &[(
+    &[0x61, 0x62, 0x63, 0x80, 0xA1, 0xE4],
+    "abc€\u{FFFD}ä",
+    &[(4, 1)],
+    3,
+)];
+
 #[test]
 fn an_unmapped_byte_is_malformed(rt: HostRuntime) -> Result<(), Fail> {
     let bytes = &[0x61, 0x62, 0x63, 0x80, 0xA1, 0xE4];
@@ -89,39 +96,22 @@ fn an_unmapped_byte_is_malformed(rt: HostRuntime) -> Result<(), Fail> {
     make_calls(
         &rt,
         WINDOWS_1257,
-        &[Call {
-            src: bytes,
-            last: true,
-            room: 16,
-            want,
-            text: text.as_bytes(),
-        }],
+        &[(bytes.as_slice(), true, 16, want, text)],
     );
     let decoder = SingleByteDecoder::new(SingleByteIndex::Windows1257);
-    compare_all(
-        &rt,
-        rt.alloc(),
-        (WINDOWS_1257, decoder),
-        &[malformed(bytes, text, &[(4, 1)], 3)],
-    )
+    compare_all(&rt, rt.alloc(), (WINDOWS_1257, decoder), UNMAPPED)
 }
+
+const WINDOWS_1252_ROWS: &[Row] = &[(b"na\xEFve \x80", "naïve €", &[], 3)];
+
+const IBM866_ROWS: &[Row] = &[(&[0x8F, 0xE0, 0xA8, 0xA2, 0xA5, 0xE2], "Привет", &[], 2)];
 
 #[test]
 fn cuts_and_rooms_change_nothing(rt: HostRuntime) -> Result<(), Fail> {
     let decoder = SingleByteDecoder::new(SingleByteIndex::Windows1252);
-    compare_all(
-        &rt,
-        rt.alloc(),
-        (WINDOWS_1252, decoder),
-        &[valid(b"na\xEFve \x80", "naïve €", 3)],
-    )?;
+    compare_all(&rt, rt.alloc(), (WINDOWS_1252, decoder), WINDOWS_1252_ROWS)?;
     let decoder = SingleByteDecoder::new(SingleByteIndex::Ibm866);
-    compare_all(
-        &rt,
-        rt.alloc(),
-        (IBM866, decoder),
-        &[valid(&[0x8F, 0xE0, 0xA8, 0xA2, 0xA5, 0xE2], "Привет", 2)],
-    )
+    compare_all(&rt, rt.alloc(), (IBM866, decoder), IBM866_ROWS)
 }
 
 #[test]

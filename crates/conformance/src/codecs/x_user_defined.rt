@@ -1,10 +1,12 @@
 //! x-user-defined (Encoding Standard 14.5).
 
 use crate::harness::raw_calls::end;
-use crate::harness::{compare_all, valid};
+use crate::harness::{Row, compare_all};
 use enc_codec::XUserDefinedDecoder;
 use encoding_rs::X_USER_DEFINED;
 use std::test::Fail;
+
+const INPUTS: &[Row] = &[(&[0x61, 0x7F, 0x80, 0xFF], "a\u{7F}\u{F780}\u{F7FF}", &[], 3)];
 
 #[test]
 fn maps_to_private_use(rt: HostRuntime) -> Result<(), Fail> {
@@ -12,7 +14,7 @@ fn maps_to_private_use(rt: HostRuntime) -> Result<(), Fail> {
         &rt,
         rt.alloc(),
         (X_USER_DEFINED, XUserDefinedDecoder::new()),
-        &[valid(&[0x61, 0x7F, 0x80, 0xFF], "a\u{7F}\u{F780}\u{F7FF}", 3)],
+        INPUTS,
     )
 }
 

@@ -239,10 +239,3 @@ pub fn compare_raw_cuts(rt: &impl Abort, decoder: impl RawDecoder, input: &Input
         }
     }
 }
-
-/// Runs each input through every cut and room.
-pub fn compare_raw_all(rt: &impl Abort, decoder: impl RawDecoder, inputs: &[Input<'_>]) {
-    for input in inputs {
-        compare_raw_cuts(rt, decoder, input);
-    }
-}

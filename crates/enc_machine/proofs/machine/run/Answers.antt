@@ -43,11 +43,12 @@ loop-state-preserved g c =
     let a = ahead _ g.C.ByteCodec.state _ _ _ _ _ _ _ _ _ _ c.loop-state.invariant.writing _ c.split_at.ensures.back c.take_run-taken.ensures c.loop-state.invariant.rule in
     let valid = c.put_out.ensures.valid c.if-not-put_out.false in
     let fits = c.put_out.ensures.fits c.if-not-put_out.false in
+    let scalars = c.put_out.ensures.scalars c.if-not-put_out.false in
     let written = c.put_out.ensures.written c.if-not-put_out.false in
     record {
       writing = elim c.if-shown.branch [
-        | then-shown w ↦ rw w.end-is (puts_with _ g.C.ByteCodec.state _ c.take_run-taken.result.0 _ _ c.args.fault_room _ _ _ a.writing a.rule _ _ c.in-Next.ensures valid w.if-shown.true fits written)
-        | else-shown w ↦ rw w.end-is (puts_before _ g.C.ByteCodec.state _ c.take_run-taken.result.0 _ _ c.args.fault_room _ _ _ a.writing a.rule _ _ c.in-Next.ensures valid w.if-shown.false fits written)
+        | then-shown w ↦ rw w.end-is (puts_with _ g.C.ByteCodec.state _ c.take_run-taken.result.0 _ _ c.args.fault_room _ _ _ a.writing a.rule _ _ c.in-Next.ensures valid w.if-shown.true scalars fits written)
+        | else-shown w ↦ rw w.end-is (puts_before _ g.C.ByteCodec.state _ c.take_run-taken.result.0 _ _ c.args.fault_room _ _ _ a.writing a.rule _ _ c.in-Next.ensures valid w.if-shown.false scalars fits written)
       ];
       rule = c.in-Next.ensures.0.same_rule ∙ a.rule;
     }

@@ -1,15 +1,30 @@
-use Rattle.std.proofs.Common.{rules, ◌≡◌, ◌∙◌, length, take}
-use Rattle.encoding_rs.proofs.RunLemmas.{offered, refilled}
+use Rattle.std.proofs.Common.{◌≡◌, ◌∙◌, ◌++◌, ap, sym, append-nil, rules}
+use Rattle.std.specs.Char.{encode_utf8}
+use Rattle.std.specs.String.{string_bytes}
+use Rattle.encoding_rs.proofs.RunLemmas.{offered, nothing_for, replacement_for}
 use Rattle.encoding_rs.proofs.run.make_call.Goals as goal
+
+pub returns-then-not-reports : goal.returns-then-not-reports
+returns-then-not-reports c =
+    let chunk = offered c.args.call.offer _ _ _ c.split_at.ensures.front c.min.ensures in
+    let wrote = string_bytes c.in_ok-made.piece in
+    let base : string_bytes c.push_str.new.self ≡ string_bytes c.args.text.now ++ wrote = search rules in
+    let none = nothing_for c.in_ok-made.made.result (sym c.reports.ensures ∙ c.if-not-reports.true) in
+    record {
+      wrote = wrote;
+      answers = rw chunk at c.in_ok-made.ensures;
+      text = base ∙ sym (append-nil (string_bytes c.args.text.now ++ wrote)) ∙ ap (λ x. (string_bytes c.args.text.now ++ wrote) ++ x) (sym none);
+    }
 
 pub returns : goal.returns
 returns c =
     let chunk = offered c.args.call.offer _ _ _ c.split_at.ensures.front c.min.ensures in
-    let room : length c.deref_mut.result.now ≡ c.args.call.room = search rules in
-    let output = refilled _ _ _ _ c.deref.ensures.value (c.decode_to_utf8-read.auto.dst ∙ c.deref_mut.ensures.len) in
+    let wrote = string_bytes c.in_ok-made.piece in
+    let base : string_bytes c.push_str.new.self ≡ string_bytes c.args.text.now ++ wrote = search rules in
+    let one = replacement_for c.in_ok-made.made.result (sym c.reports.ensures ∙ c.if-not-reports.false) in
+    let more : string_bytes c.push.new.self ≡ string_bytes c.push_str.new.self ++ encode_utf8 0xFFFD = search rules in
     record {
-      result = c.decode_to_utf8-read.result.0;
-      wrote = take c.decode_to_utf8-read.result.2 c.decode_to_utf8-read.new.dst;
-      decodes = rw (chunk, room) at c.decode_to_utf8-read.ensures.call;
-      text = rw output at c.in_ok-extend_from_slice.ensures.items;
+      wrote = wrote;
+      answers = rw chunk at c.in_ok-made.ensures;
+      text = more ∙ ap (λ x. x ++ encode_utf8 0xFFFD) base ∙ ap (λ x. (string_bytes c.args.text.now ++ wrote) ++ x) (sym one);
     }

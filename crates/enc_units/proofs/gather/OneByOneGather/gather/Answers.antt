@@ -20,5 +20,5 @@ loop-written-preserved g c =
     let text = ap (λ n. take n c.store_text-written.new.buffer) e.end ∙ e.stored ∙ ap (λ z. take c.loop-written.written c.loop-written.buffer ++ z) c.utf8_of.ensures.bytes in (
       omega (arith, e.end, c.utf8_of.ensures.bound),
       e.len ∙ i.1,
-      gathers_then _ _ _ _ _ _ _ i.2 (gathers_one _ _ _ _ _ _ p.some p.within p.means text),
+      gathers_then _ _ _ _ _ _ _ i.2 (gathers_one _ _ _ _ _ _ p.some p.within c.utf8_of.ensures.scalar p.means text),
     )

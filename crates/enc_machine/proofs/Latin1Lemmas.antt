@@ -1,0 +1,145 @@
+-- How far bytes are the characters of their own numbers, for every codec.
+use Rattle.std.proofs.Common.{◌≡◌, ℕ, ◌+◌, ◌<◌, ◌≤◌, true, List, [], ◌∷◌, ◌++◌, length, get_or, take, refl, ap, ◌∙◌, sym, subst, arith, append_assoc, inl, inr}
+use Rattle.std.proofs.lemmas.List.{take_more}
+use Rattle.enc_machine.specs.declared.byte_codec.Kind.TheVariants.{Valid}
+use Rattle.enc_machine.specs.declared.byte_codec.Shown.{Shown}
+use Rattle.enc_machine.specs.declared.byte_codec.Step.TheVariants.{Wait, Show}
+use Rattle.enc_machine.specs.Sequence.{Sequence}
+use Rattle.enc_machine.specs.Segmentation.{Rule}
+use Rattle.enc_machine.specs.Remainder.{Begins, Determines}
+use Rattle.enc_machine.specs.CodecState.{CodecState, remainder_of}
+use Rattle.enc_machine.specs.CodecLaw.{chars_of, taken, Comes, Acts, BeginsWith}
+use Rattle.enc_machine.specs.Latin1.{IsItself, AreThemselves, IsLatin1Prefix, HasNoBytes, MayBeLatin1}
+use Rattle.enc_machine.proofs.DeterminedLemmas.{begins_behind, none_determined}
+use Rattle.enc_machine.proofs.ComingLemmas.{takes_or, holds_sequences}
+
+-- a byte that is a valid sequence by itself
+pub has_bytes_by : (rule : Rule) (b : ℕ) (z : List ℕ) → (rule 0 b z).kind ≡ Valid → (rule 0 b z).more ≡ 0 → ¬ (HasNoBytes rule)
+has_bytes_by rule b z v m n = let l = n b z v in omega arith
+
+-- where there is none, no byte is told to be one
+pub no_latin1_without_bytes : (v : CodecState) → HasNoBytes v.rule → ¬ (MayBeLatin1 v)
+no_latin1_without_bytes v n m = m.has_bytes n
+
+-- nor with another character set
+pub no_latin1_behind_start : (v : CodecState) → (v.set ≡ 0 → ⊥) → ¬ (MayBeLatin1 v)
+no_latin1_behind_start v n m = n m.at_start
+
+-- one more
+themselves_then : (ss : List Sequence) (z : List ℕ) (s : Sequence) (b : ℕ) → AreThemselves ss z → IsItself s b → AreThemselves (ss ++ s ∷ []) (z ++ b ∷ [])
+themselves_then [] [] s b a i = (i, tt)
+themselves_then [] (c ∷ z) s b a i = absurd a
+themselves_then (t ∷ ss) [] s b a i = absurd a
+themselves_then (t ∷ ss) (c ∷ z) s b a i = (a.0, themselves_then ss z s b a.1 i)
+
+-- a byte that has some of the bytes in front is one of them, and nothing is behind it
+one_byte : (b : ℕ) (x y : List ℕ) → b ∷ [] ≡ x ++ y → 0 < length x → (x ≡ b ∷ []) × (y ≡ [])
+one_byte b [] y e h = absurd (omega arith)
+one_byte b (c ∷ []) y e h = (cc, cc)
+one_byte b (c ∷ d ∷ x) y e h = absurd (cc)
+
+-- The first k bytes are so, and behind them a state goes on that has nothing pending.
+pub record Latin1Front {C : Type 0} (state : C → CodecState) (v : CodecState) (bytes : List ℕ) (k : ℕ) (now : C) : Type 0 where
+  pub within : k ≤ length bytes
+  pub front : List Sequence
+  pub themselves : AreThemselves front (take k bytes)
+  pub rest : (y : List ℕ) → (remainder_of v).sequences (take k bytes ++ y) ≡ front ++ (remainder_of (state now)).sequences y
+  pub none_pending : (state now).pending ≡ []
+
+pub latin1_begins : {C : Type 0} (state : C → CodecState) (c : C) (bytes : List ℕ) → (state c).pending ≡ [] → Latin1Front state (state c) bytes 0 c
+latin1_begins state c bytes n = record { within = omega arith; front = []; themselves = tt; rest = λ y. refl; none_pending = n }
+
+module _ {C : Type 0} (state : C → CodecState) (v : CodecState) (bytes : List ℕ) (k : ℕ) (now : C) (f : Latin1Front state v bytes k now) where
+  -- so many are so, if a byte more is not
+  prefix_if : (k < length bytes → (s : Sequence) → IsItself s (get_or bytes k 0)
+      → Determines (remainder_of v).sequences (take (k + 1) bytes) (f.front ++ s ∷ []) → ⊥)
+      → IsLatin1Prefix (remainder_of v).sequences bytes k
+  prefix_if n = record {
+    within = f.within;
+    front = f.front;
+    themselves = f.themselves;
+    first = λ z _. ((remainder_of (state now)).sequences z, f.rest z);
+    longest = n;
+  }
+
+  -- all of them
+  pub latin1_all : length bytes ≤ k → IsLatin1Prefix (remainder_of v).sequences bytes k
+  latin1_all h = prefix_if (λ l s i d. omega arith)
+
+  -- one byte further
+  further : k < length bytes → (y : List ℕ)
+      → (remainder_of v).sequences (take (k + 1) bytes ++ y) ≡ f.front ++ (remainder_of (state now)).sequences (get_or bytes k 0 ∷ y)
+  further h y =
+      ap (remainder_of v).sequences (ap (λ x. x ++ y) (take_more bytes k 0 h) ∙ append_assoc (take k bytes) (get_or bytes k 0 ∷ []) y)
+      ∙ f.rest (get_or bytes k 0 ∷ y)
+
+  -- the next byte is held, and nothing is determined
+  pub latin1_ends_waiting : k < length bytes → (n : C) → Acts state now (get_or bytes k 0) (Wait n) → IsLatin1Prefix (remainder_of v).sequences bytes k
+  latin1_ends_waiting h n a = prefix_if (λ l s i.
+      none_determined (remainder_of v).sequences (remainder_of (state n)).sequences (take (k + 1) bytes) f.front
+      (λ y. further h y ∙ ap (λ ss. f.front ++ ss) (holds_sequences (state now) (state n) (get_or bytes k 0) a.0 y)) a.1 s)
+
+  -- what a byte more determines comes first
+  comes_first : k < length bytes → (s : Sequence) → Determines (remainder_of v).sequences (take (k + 1) bytes) (f.front ++ s ∷ [])
+      → Begins (s ∷ []) ((remainder_of (state now)).sequences (get_or bytes k 0 ∷ []))
+  comes_first h s d =
+      begins_behind f.front (s ∷ []) ((remainder_of (state now)).sequences (get_or bytes k 0 ∷ [])) ((remainder_of v).sequences (take (k + 1) bytes ++ []))
+      (further h []) (d [] tt)
+
+  module _ (h : k < length bytes) (s : Shown C) where
+    abbrev byte : ℕ
+    byte = get_or bytes k 0
+
+    abbrev sequence : List ℕ → Sequence
+    sequence x = record { bytes = x; text = chars_of s.text; kind = s.kind; set = (state s.next).set }
+
+    -- the parts of what is shown, with the byte and before it
+    with_byte : (took : List ℕ) → took ≡ byte ∷ [] → (c : Comes state now (BeginsWith byte) took s)
+        → (c.bytes ≡ byte ∷ []) × ((state s.next).pending ≡ [])
+    with_byte took e c = one_byte byte c.bytes (state s.next).pending (sym e ∙ ap (λ x. x ++ took) (sym f.none_pending) ∙ c.parts) c.some
+
+    first_with : (took : List ℕ) → took ≡ byte ∷ [] → Comes state now (BeginsWith byte) took s
+        → (y : List ℕ) → (remainder_of (state now)).sequences (byte ∷ y) ≡ sequence (byte ∷ []) ∷ (remainder_of (state s.next)).sequences y
+    first_with took e c y =
+        ap (λ x. (remainder_of (state now)).sequences (x ++ y)) (sym e) ∙ c.first y (y, ap (λ x. x ++ y) e)
+        ∙ ap (λ x. sequence x ∷ (remainder_of (state s.next)).sequences y) (with_byte took e c).0
+
+    not_before : (took : List ℕ) → took ≡ [] → Comes state now (BeginsWith byte) took s → ⊥
+    not_before took e c =
+        let p : [] ≡ c.bytes ++ (state s.next).pending = ap (λ x. x ++ []) (sym f.none_pending) ∙ ap (λ x. (state now).pending ++ x) (sym e) ∙ c.parts in
+        none_in c.bytes p c.some
+      where
+        none_in : (x : List ℕ) → [] ≡ x ++ (state s.next).pending → 0 < length x → ⊥
+        none_in [] e l = omega arith
+        none_in (a ∷ x) e l = cc
+
+    -- the byte is a character of its own number
+    pub latin1_goes_on : Acts state now byte (Show s) → s.takes_byte ≡ true → s.kind ≡ Valid → chars_of s.text ≡ byte ∷ []
+        → Latin1Front state v bytes (k + 1) s.next
+    latin1_goes_on a t valid i =
+        let e : taken s.takes_byte byte ≡ byte ∷ [] = ap (λ b. taken b byte) t in
+        record {
+          within = omega arith;
+          front = f.front ++ sequence (byte ∷ []) ∷ [];
+          themselves = subst (AreThemselves (f.front ++ sequence (byte ∷ []) ∷ [])) (sym (take_more bytes k 0 h))
+              (themselves_then f.front (take k bytes) (sequence (byte ∷ [])) byte f.themselves (record { bytes = refl; text = i; kind = valid }));
+          rest = λ y. further h y ∙ ap (λ ss. f.front ++ ss) (first_with _ e a.0 y)
+              ∙ sym (append_assoc f.front (sequence (byte ∷ []) ∷ []) ((remainder_of (state s.next)).sequences y));
+          none_pending = (with_byte _ e a.0).1;
+        }
+
+    -- the byte is none
+    pub latin1_ends_showing : Acts state now byte (Show s) → (s.takes_byte ≡ true → s.kind ≡ Valid → chars_of s.text ≡ byte ∷ [] → ⊥)
+        → IsLatin1Prefix (remainder_of v).sequences bytes k
+    latin1_ends_showing a n = prefix_if (λ l q i d.
+        let g = comes_first h q d in
+        elim (takes_or s.takes_byte) [
+          | inl t ↦
+              let e : q ≡ sequence (byte ∷ []) = same q (sequence (byte ∷ [])) g.0 ((remainder_of (state s.next)).sequences [])
+              (sym g.1 ∙ first_with _ (ap (λ b. taken b byte) t) a.0 []) in
+              n t (sym (ap (λ (r : Sequence). r.kind) e) ∙ i.kind) (sym (ap (λ (r : Sequence). r.text) e) ∙ i.text)
+          | inr t ↦ not_before _ (ap (λ b. taken b byte) t) a.0
+        ])
+      where
+        same : (q r : Sequence) (ss ts : List Sequence) → q ∷ ss ≡ r ∷ ts → q ≡ r
+        same q r ss ts e = cc

@@ -1,0 +1,56 @@
+//! How many bytes in front are the characters of their own numbers, for every codec.
+
+ghost use Rattle.std.specs.Prelude.{◌≡◌, ◌∷◌, [], true, IsTrue, IsFalse};
+ghost use Rattle.enc_machine.specs.CodecState.{remainder_of};
+ghost use Rattle.enc_machine.specs.CodecLaw.{chars_of};
+ghost use Rattle.enc_machine.specs.Latin1.{HasNoBytes, IsLatin1Prefix, TellsLatin1};
+
+use crate::byte_codec::{ByteCodec, Kind, Shown, Step, Text};
+
+/// Whether a byte shows the character of its own number, by itself.
+fn shows_itself<C: Copy>(shown: Shown<C>, byte: u8) -> bool
+    ensures takes { IsTrue result → shown.takes_byte ≡ true }
+    ensures kind { IsTrue result → shown.kind ≡ Kind.Valid }
+    ensures text { IsTrue result → chars_of shown.text ≡ byte ∷ [] }
+    ensures no { IsFalse result → shown.takes_byte ≡ true → shown.kind ≡ Kind.Valid → ¬ (chars_of shown.text ≡ byte ∷ []) }
+{
+    match shown.text {
+        Text::One(character) => {
+            shown.takes_byte && shown.kind == Kind::Valid && character as u32 == byte as u32
+        }
+        _ => false,
+    }
+}
+
+/// How many bytes in front are the characters of their own numbers, each a sequence by itself.
+fn latin1_len<C: ByteCodec>(codec: C, bytes: &[u8]) -> usize
+    requires { (C.state codec).pending ≡ [] }
+    ensures { IsLatin1Prefix (remainder_of (C.state codec)).sequences bytes.now result }
+{
+    let mut state = codec;
+    let mut at = 0;
+    while at < bytes.len() {
+        let Step::Show(shown) = state.next_step(bytes[at]) else {
+            return at;
+        };
+        if !shows_itself(shown, bytes[at]) {
+            return at;
+        }
+        state = shown.next;
+        at += 1;
+    }
+    at
+}
+
+/// The answer of a codec with the character set of the start, in which a byte may be the character of its own number:
+/// `None` where bytes are pending, and else how many bytes in front are so.
+pub fn latin1_up_to<C: ByteCodec>(codec: C, bytes: &[u8]) -> Option<usize>
+    requires at_start { (C.state codec).set ≡ 0 }
+    requires has_bytes { ¬ (HasNoBytes (C.state codec).rule) }
+    ensures { TellsLatin1 (C.state codec) bytes.now result }
+{
+    if codec.held() != 0 {
+        return None;
+    }
+    Some(latin1_len(codec, bytes))
+}

@@ -1,0 +1,23 @@
+-- Texts are Unicode scalar values.
+use Rattle.std.proofs.Common.{◌≡◌, ℕ, suc, ◌<◌, ◌&&◌, true, List, [], ◌∷◌, ◌++◌, refl, ap, ◌∙◌, arith}
+use Rattle.std.proofs.lemmas.Bool.{and_parts}
+use Rattle.std.proofs.Math.Utf8.{low_scalar}
+use Rattle.std.specs.Char.{IsScalar}
+use Rattle.std.specs.Str.{all_scalars}
+use Rattle.enc_units.specs.Output.{AreScalars}
+use Rattle.enc_units.specs.Validity.{AreAscii}
+
+pub one_scalar : (c : ℕ) → IsScalar c → AreScalars (c ∷ [])
+one_scalar c h = ap (λ t. t && true) h
+
+pub scalars-cons : (c : ℕ) (cs : List ℕ) → IsScalar c → AreScalars cs → AreScalars (c ∷ cs)
+scalars-cons c cs h k = ap (λ t. t && all_scalars cs) h ∙ k
+
+pub scalars-append : (cs ds : List ℕ) → AreScalars cs → AreScalars ds → AreScalars (cs ++ ds)
+scalars-append [] ds h k = k
+scalars-append (c ∷ cs) ds h k = let p = and_parts _ _ h in scalars-cons c (cs ++ ds) p.0 (scalars-append cs ds p.1 k)
+
+-- and so are ASCII bytes
+pub ascii_scalars : (bs : List ℕ) → AreAscii bs → AreScalars bs
+ascii_scalars [] a = refl
+ascii_scalars (b ∷ bs) a = scalars-cons b bs (low_scalar b (let h = a 0 0 (omega arith) in omega arith)) (ascii_scalars bs (λ k d h. a (suc k) d (omega arith)))

@@ -1,0 +1,117 @@
+-- The code units of a text determine it, and those of UTF-16 tell it.
+use Rattle.std.proofs.Common.{◌≡◌, ℕ, ◌+◌, ◌-◌, ◌*◌, ◌/◌, ◌%◌, ◌<◌, ◌≤◌, Bool, true, false, List, [], ◌∷◌, ◌++◌, map, get_or, length, refl, ap, ◌∙◌, sym, subst, arith, inl, inr, Option, Some}
+use Rattle.std.proofs.lemmas.Bool.{and_parts, cases_lt, lt-ltb, le-ltb, le-leb, lt-leb}
+use Rattle.std.proofs.lemmas.Bool.Decides.{nat_tests}
+use Rattle.std.proofs.lemmas.Str.{encodes_same, utf16_chars-nil, utf16_chars_lone, utf16_chars_pair}
+use Rattle.std.specs.Char.{encode_utf8, IsScalar, InScalarRange}
+use Rattle.std.specs.Char.Escape.{encode_utf16}
+use Rattle.std.specs.Char.Utf16.{utf16_chars, utf16_lossy_chars, lone_unit_char, surrogate_pair_char}
+use Rattle.std.specs.Option.{unwrap_or}
+use Rattle.enc_units.specs.Output.{AreScalars, DetermineTexts, units_of_text}
+use Rattle.enc_units.proofs.Utf8CharsLemmas.{their_units}
+
+pub utf_8_determines : DetermineTexts encode_utf8
+utf_8_determines t u s r e = encodes_same t u (sym (their_units t) ∙ e ∙ their_units u)
+
+-- UTF-16: one unit, or two
+
+scalar_range : (c : ℕ) → IsScalar c → InScalarRange c
+scalar_range c h = grind (arith, nat_tests)
+
+one_unit : (c : ℕ) → c < 0x1_0000 → encode_utf16 c ≡ c ∷ []
+one_unit c h = rw (lt-ltb c 0x1_0000 h) refl
+
+two_units : (c : ℕ) → 0x1_0000 ≤ c → encode_utf16 c ≡ (0xD800 + (c - 0x1_0000) / 0x400) ∷ (0xDC00 + (c - 0x1_0000) % 0x400) ∷ []
+two_units c h = rw (le-ltb c 0x1_0000 h) refl
+
+first_same : (a b : ℕ) (x y : List ℕ) → a ∷ x ≡ b ∷ y → a ≡ b
+first_same a b x y e = cc
+
+rest_same : (a b : ℕ) (x y : List ℕ) → a ∷ x ≡ b ∷ y → x ≡ y
+rest_same a b x y e = cc
+
+no_first : (a : ℕ) (x : List ℕ) → a ∷ x ≡ [] → ⊥
+no_first a x e = cc
+
+-- a character of one unit is none of the first units of a pair
+not_both : (c d : ℕ) → c < 0x1_0000 → 0x1_0000 ≤ d → IsScalar c → IsScalar d → c ≡ 0xD800 + (d - 0x1_0000) / 0x400 → ⊥
+not_both c d l m s r e = elim (scalar_range c s) [
+  | inl h ↦ omega arith
+  | inr h ↦ elim (scalar_range d r) [ inl k ↦ omega arith | inr k ↦ omega (arith, h.0, k.1) ]
+]
+
+same_pair : (c d : ℕ) → 0x1_0000 ≤ c → 0x1_0000 ≤ d → 0xD800 + (c - 0x1_0000) / 0x400 ≡ 0xD800 + (d - 0x1_0000) / 0x400
+    → 0xDC00 + (c - 0x1_0000) % 0x400 ≡ 0xDC00 + (d - 0x1_0000) % 0x400 → c ≡ d
+same_pair c d l m e f = omega arith
+
+one_same : (c d : ℕ) (x y : List ℕ) → IsScalar c → IsScalar d → encode_utf16 c ++ x ≡ encode_utf16 d ++ y → (c ≡ d) × (x ≡ y)
+one_same c d x y s r e = elim (cases_lt c 0x1_0000) [
+  | inl l ↦ elim (cases_lt d 0x1_0000) [
+    | inl m ↦
+        let f = sym (ap (λ z. z ++ x) (one_unit c l)) ∙ e ∙ ap (λ z. z ++ y) (one_unit d m) in
+        (first_same c d x y f, rest_same c d x y f)
+    | inr m ↦
+        let f = sym (ap (λ z. z ++ x) (one_unit c l)) ∙ e ∙ ap (λ z. z ++ y) (two_units d m) in
+        absurd (not_both c d l m s r (first_same _ _ _ _ f))
+  ]
+  | inr l ↦ elim (cases_lt d 0x1_0000) [
+    | inl m ↦
+        let f = sym (ap (λ z. z ++ y) (one_unit d m)) ∙ sym e ∙ ap (λ z. z ++ x) (two_units c l) in
+        absurd (not_both d c m l r s (first_same _ _ _ _ f))
+    | inr m ↦
+        let f = sym (ap (λ z. z ++ x) (two_units c l)) ∙ e ∙ ap (λ z. z ++ y) (two_units d m) in
+        let g = rest_same _ _ _ _ f in
+        (same_pair c d l m (first_same _ _ _ _ f) (first_same _ _ _ _ g), rest_same _ _ _ _ g)
+  ]
+]
+
+no_units : (c : ℕ) (x : List ℕ) → encode_utf16 c ++ x ≡ [] → ⊥
+no_units c x e = elim (cases_lt c 0x1_0000) [
+  | inl l ↦ no_first _ _ (sym (ap (λ z. z ++ x) (one_unit c l)) ∙ e)
+  | inr l ↦ no_first _ _ (sym (ap (λ z. z ++ x) (two_units c l)) ∙ e)
+]
+
+pub utf_16_determines : DetermineTexts encode_utf16
+utf_16_determines [] [] s r e = refl
+utf_16_determines [] (d ∷ u) s r e = absurd (no_units d _ (sym e))
+utf_16_determines (c ∷ t) [] s r e = absurd (no_units c _ e)
+utf_16_determines (c ∷ t) (d ∷ u) s r e =
+    let p = and_parts _ _ s in
+    let q = and_parts _ _ r in
+    let f = one_same c d (units_of_text encode_utf16 t) (units_of_text encode_utf16 u) p.0 q.0 e in
+    ap (λ x. x ∷ t) f.0 ∙ ap (λ z. d ∷ z) (utf_16_determines t u p.1 q.1 f.1)
+
+-- read back, they are the text
+
+alone : (c : ℕ) → c < 0x1_0000 → IsScalar c → lone_unit_char c ≡ Some c
+alone c l s = elim (scalar_range c s) [
+  | inl h ↦ rw (lt-leb 0xD800 c h) refl
+  | inr h ↦ rw (le-leb 0xD800 c (omega (arith, h.0)), le-ltb c 0xE000 h.0) refl
+]
+
+lossy-cons : (o : Option ℕ) (os : List (Option ℕ)) → map (λ p. unwrap_or p 0xFFFD) (o ∷ os) ≡ unwrap_or o 0xFFFD ∷ map (λ p. unwrap_or p 0xFFFD) os
+lossy-cons o os = refl
+
+one_back : (c : ℕ) (us : List ℕ) → IsScalar c → utf16_lossy_chars (encode_utf16 c ++ us) ≡ c ∷ utf16_lossy_chars us
+one_back c us s = elim (cases_lt c 0x1_0000) [
+  | inl l ↦
+      ap (λ z. utf16_lossy_chars (z ++ us)) (one_unit c l)
+      ∙ ap (map (λ o. unwrap_or o 0xFFFD)) (utf16_chars_lone c us (λ p. elim (scalar_range c s) [ inl h ↦ omega (arith, p.0) | inr h ↦ omega (arith, h.0, p.1) ]))
+      ∙ ap (λ (o : Option ℕ). unwrap_or o 0xFFFD ∷ utf16_lossy_chars us) (alone c l s)
+  | inr l ↦
+      let m : c < 0x11_0000 = elim (scalar_range c s) [ inl h ↦ omega arith | inr h ↦ omega (arith, h.1) ] in
+      let u = 0xD800 + (c - 0x1_0000) / 0x400 in
+      let v = 0xDC00 + (c - 0x1_0000) % 0x400 in
+      ap (λ z. utf16_lossy_chars (z ++ us)) (two_units c l)
+      ∙ ap (map (λ o. unwrap_or o 0xFFFD)) (utf16_chars_pair u v us (omega arith, omega arith, omega arith, omega arith))
+      ∙ ap (λ x. x ∷ utf16_lossy_chars us) (back c l)
+]
+  where
+    back : (c : ℕ) → 0x1_0000 ≤ c → surrogate_pair_char (0xD800 + (c - 0x1_0000) / 0x400) (0xDC00 + (c - 0x1_0000) % 0x400) ≡ c
+    back c l = omega arith
+
+pub utf_16_read_back : (t : List ℕ) → AreScalars t → utf16_lossy_chars (units_of_text encode_utf16 t) ≡ t
+utf_16_read_back [] s = ap (map (λ o. unwrap_or o 0xFFFD)) utf16_chars-nil
+utf_16_read_back (c ∷ t) s =
+    let p = and_parts _ _ s in
+    one_back c (units_of_text encode_utf16 t) p.0 ∙ ap (λ z. c ∷ z) (utf_16_read_back t p.1)

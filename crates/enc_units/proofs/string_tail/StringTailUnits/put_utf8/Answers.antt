@@ -1,0 +1,13 @@
+use Rattle.std.proofs.Common.{◌≤◌, ◌∙◌, ap, arith, length, length-take, subst, take}
+use Rattle.std.proofs.lemmas.List.{take-take}
+use Rattle.enc_units.specs.Validity.{IsWellFormedUtf8}
+use Rattle.enc_units.proofs.Utf8CharsLemmas.{puts_utf8}
+use Rattle.enc_units.proofs.string_tail.StringTailUnits.put_utf8.Goals as goal
+
+pub returns : goal.returns
+returns c =
+    let n = c.utf8_front-len.result in
+    let told = c.utf8_front-len.ensures in
+    let front = c.split_at.ensures.front in
+    let few : n ≤ c.min.result = omega (arith, told.within, ap length front, length-take c.min.result c.args.src.now) in
+    puts_utf8 _ _ c.args.src.now n (omega arith) (omega arith) (subst IsWellFormedUtf8 (ap (take n) front ∙ take-take n c.min.result c.args.src.now few) told.utf8) c.append.ensures

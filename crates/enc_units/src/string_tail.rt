@@ -1,0 +1,156 @@
+//! UTF-8 in a String's spare capacity.
+
+ghost use Rattle.std.specs.Prelude.{◌≡◌, ◌+◌, ◌-◌, ◌<◌, ◌≤◌, ◌++◌, length, IsTrue, IsFalse};
+ghost use Rattle.std.specs.Char.{encode_utf8};
+ghost use Rattle.std.specs.Str.{IsUtf8};
+ghost use Rattle.std.specs.String.{string_bytes, string_len, string_capacity};
+ghost use Rattle.enc_units.specs.Output.{DetermineTexts, appended, string_output};
+
+use crate::ascii::ascii_len;
+use crate::laws::utf_8_units_determine_a_text;
+use crate::pieces::Pieces;
+use crate::units::Units;
+use crate::utf8::utf8_front;
+use crate::utf8_slice::Utf8Slice;
+
+/// Characters are gathered in so many bytes before they are appended, where there is room for so many.
+const GATHERED: usize = 256;
+
+/// A String that takes UTF-8 within its capacity: its room is the capacity less the length. What it takes is appended, and
+/// nothing is moved and no memory taken for it.
+#[derive(Drop)]
+pub struct StringTail<'a> {
+    text: &'a mut String,
+    room: usize,
+    ghost fits: { string_len text.now + room ≤ string_capacity text.now },
+}
+
+impl<'a> StringTail<'a> {
+    /// The whole spare capacity. Takes no memory.
+    pub fn new(text: &'a mut String) -> StringTail<'a>
+        ensures same_borrow { result.text.ghost_name ≡ text.entry.ghost_name }
+        ensures now { result.text.now ≡ text.old }
+        ensures room { result.room ≡ string_capacity text.old - string_len text.old }
+    {
+        let room = text.capacity() - text.len();
+        StringTail { text, room }
+    }
+
+    /// Appends characters that fit.
+    #[inline(always)]
+    fn append(&mut self, bytes: &[u8])
+        requires utf8 { IsUtf8 bytes.now }
+        requires fits { length bytes.now ≤ self.old.room }
+        ensures { string_output (string_bytes self.new.text.now) self.new.room self.new.text.ghost_name
+            ≡ appended (string_output (string_bytes self.old.text.now) self.old.room self.old.text.ghost_name) bytes.now }
+    {
+        let _ = self
+            .text
+            .push_str(unsafe { str::from_utf8_unchecked(bytes) });
+        self.room -= bytes.len();
+    }
+}
+
+impl<'a> Units for StringTail<'a> {
+    const FAULT: usize = 3;
+
+    ghost units_of = { encode_utf8 };
+
+    ghost output = { λ s. string_output (string_bytes s.text.now) s.room s.text.ghost_name };
+
+    fn width(c: char) -> usize
+        ensures value { result ≡ length (encode_utf8 c) }
+        ensures some { 1 ≤ result }
+        ensures bound { result ≤ 4 }
+    {
+        c.len_utf8()
+    }
+
+    fn laws()
+        ensures { DetermineTexts encode_utf8 }
+    {
+        utf_8_units_determine_a_text();
+    }
+
+    fn room(&self) -> usize {
+        self.room
+    }
+
+    fn put(&mut self, c: char) -> bool {
+        let width = c.len_utf8();
+        if width > self.room {
+            return false;
+        }
+        let _ = self.text.push(c);
+        self.room -= width;
+        true
+    }
+
+    fn put_ascii(&mut self, src: &[u8]) -> usize {
+        let (front, _) = src.split_at(src.len().min(self.room));
+        let len = ascii_len(front);
+        self.append(&src[..len]);
+        len
+    }
+
+    fn put_utf8(&mut self, src: &[u8]) -> usize {
+        let (front, _) = src.split_at(src.len().min(self.room));
+        let len = utf8_front(front);
+        self.append(&src[..len]);
+        len
+    }
+
+    fn put_pieces<P: Pieces>(&mut self, pieces: P, src: &[u8]) -> usize {
+        if self.room < GATHERED {
+            return 0;
+        }
+        let mut buffer = [0; GATHERED];
+        let mut out = Utf8Slice::new(&mut buffer);
+        let read = out.put_pieces(pieces, src);
+        let written = out.len();
+        self.append(&buffer[..written]);
+        read
+    }
+}
+
+#[cfg(test)]
+mod tests {
+    use super::*;
+    use std::test::Fail;
+
+    #[test]
+    fn a_fault_is_as_wide_as_its_character(rt: HostRuntime) {
+        assert_eq!(rt;
+            <StringTail<'_> as Units>::FAULT,
+            <StringTail<'_> as Units>::width('\u{FFFD}')
+        );
+    }
+
+    #[test]
+    fn takes_what_fits_and_never_grows(rt: HostRuntime) -> Result<(), Fail> {
+        let mut text = String::with_capacity(rt.alloc(), 8)?;
+        text.push_str("ab")?;
+        let mut out = StringTail::new(&mut text);
+        assert_eq!(rt; out.room(), 6);
+        assert!(rt; out.put('€'));
+        assert_eq!(rt; out.put_ascii("cd\u{E9}".as_bytes()), 2);
+        assert_eq!(rt; out.room(), 1);
+        assert!(rt; !out.put('é'));
+        assert_eq!(rt; out.put_utf8("é".as_bytes()), 0);
+        assert_eq!(rt; out.put_utf8(b"e\xFF"), 1);
+        assert_eq!(rt; out.room(), 0);
+        assert_eq!(rt; (text.as_str(), text.capacity()), ("ab€cde", 8));
+        Ok(())
+    }
+
+    #[test]
+    fn a_string_without_spare_capacity_takes_nothing(rt: HostRuntime) {
+        let mut text = String::new(rt.alloc());
+        let mut out = StringTail::new(&mut text);
+        assert_eq!(rt;
+            (out.room(), out.put('a'), out.put_ascii(b"a")),
+            (0, false, 0)
+        );
+        assert_eq!(rt; text.as_str(), "");
+    }
+}

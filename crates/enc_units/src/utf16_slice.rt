@@ -1,0 +1,221 @@
+//! UTF-16 in a slice.
+
+ghost use Rattle.std.specs.Prelude.{◌≡◌, ◌-◌, ◌≤◌, ◌++◌, length, drop, nat_le, IsTrue, IsFalse};
+ghost use Rattle.std.specs.Char.{IsScalar};
+ghost use Rattle.std.specs.Char.Escape.{encode_utf16};
+ghost use Rattle.enc_units.specs.AsciiRun.{PutsAscii};
+ghost use Rattle.enc_units.specs.Output.{DetermineTexts, appended, slice_output};
+ghost use Rattle.enc_units.specs.Pieces.{PutsPieces};
+
+use crate::ascii::ascii_len;
+use crate::laws::utf_16_units_determine_a_text;
+use crate::pieces::Pieces;
+use crate::units::Units;
+use crate::utf8_pieces::Utf8Pieces;
+
+/// A slice that takes UTF-16 from its start on.
+#[derive(Drop)]
+pub struct Utf16Slice<'a> {
+    dst: &'a mut [u16],
+    len: usize,
+    ghost fits: { len ≤ length dst.now },
+}
+
+impl<'a> Utf16Slice<'a> {
+    /// The whole slice, with nothing written yet. Takes no memory.
+    pub fn new(dst: &'a mut [u16]) -> Utf16Slice<'a>
+        ensures same_borrow { result.dst.ghost_name ≡ dst.entry.ghost_name }
+        ensures now { result.dst.now ≡ dst.old }
+        ensures len { result.len ≡ 0 }
+    {
+        Utf16Slice { dst, len: 0 }
+    }
+
+    /// How many code units were written.
+    pub fn len(&self) -> usize
+        ensures { result ≡ self.now.len }
+    {
+        self.len
+    }
+
+    /// Writes the code units of a character and answers true, or writes nothing where they don't fit.
+    #[inline(always)]
+    fn append(&mut self, c: char) -> bool
+        ensures fits { result ≡ nat_le (length (encode_utf16 c)) (length self.old.dst.now - self.old.len) }
+        ensures scalar { IsScalar c }
+        ensures written { IsTrue result → slice_output self.new.len self.new.dst.now self.new.dst.ghost_name
+            ≡ appended (slice_output self.old.len self.old.dst.now self.old.dst.ghost_name) (encode_utf16 c) }
+        ensures unchanged { IsFalse result → slice_output self.new.len self.new.dst.now self.new.dst.ghost_name
+            ≡ slice_output self.old.len self.old.dst.now self.old.dst.ghost_name }
+    {
+        let width = c.len_utf16();
+        if width > self.dst.len() - self.len {
+            return false;
+        }
+        let mut units = [0; 2];
+        let text = c.encode_utf16(&mut units);
+        self.dst[self.len..self.len + width].copy_from_slice(text);
+        self.len += width;
+        true
+    }
+
+    /// Writes the ASCII in front, as much as fits, and answers how much.
+    #[inline(always)]
+    fn append_ascii(&mut self, src: &[u8]) -> usize
+        ensures { PutsAscii encode_utf16
+            (slice_output self.old.len self.old.dst.now self.old.dst.ghost_name)
+            (slice_output self.new.len self.new.dst.now self.new.dst.ghost_name) src.now result }
+    {
+        let most = src.len().min(self.dst.len() - self.len);
+        let (front, _) = src.split_at(most);
+        let len = ascii_len(front);
+        widen(&src[..len], &mut self.dst[self.len..]);
+        self.len += len;
+        len
+    }
+
+    /// Writes the characters in front one by one, but ASCII as runs, and answers how many bytes they have. It leaves off
+    /// where no character is known to begin, or the next one doesn't fit.
+    #[inline(always)]
+    fn append_each<P: Pieces>(&mut self, pieces: P, src: &[u8]) -> usize
+        ensures { PutsPieces encode_utf16 (P.means pieces)
+            (slice_output self.old.len self.old.dst.now self.old.dst.ghost_name)
+            (slice_output self.new.len self.new.dst.now self.new.dst.ghost_name) src.now result }
+    {
+        let mut at = 0;
+        while at < src.len() {
+            if src[at] < 0x80 && pieces.has_ascii() {
+                let (_, rest) = src.split_at(at);
+                let len = self.append_ascii(rest);
+                if len == 0 {
+                    return at;
+                }
+                at += len;
+                continue;
+            }
+            let Some((character, len)) = pieces.piece(src, at) else {
+                return at;
+            };
+            if !self.append(character) {
+                return at;
+            }
+            at += len;
+        }
+        at
+    }
+}
+
+/// Stores bytes as code units.
+#[inline(always)]
+fn widen(src: &[u8], dst: &mut [u16])
+    requires { length src.now ≤ length dst.old }
+    ensures { dst.new ≡ src.now ++ drop (length src.now) dst.old }
+{
+    let mut at = 0;
+    while at < src.len() {
+        dst[at] = src[at] as u16;
+        at += 1;
+    }
+}
+
+impl<'a> Units for Utf16Slice<'a> {
+    const FAULT: usize = 1;
+
+    ghost units_of = { encode_utf16 };
+
+    ghost output = { λ s. slice_output s.len s.dst.now s.dst.ghost_name };
+
+    fn width(c: char) -> usize
+        ensures value { result ≡ length (encode_utf16 c) }
+        ensures some { 1 ≤ result }
+        ensures bound { result ≤ 4 }
+    {
+        c.len_utf16()
+    }
+
+    fn laws()
+        ensures { DetermineTexts encode_utf16 }
+    {
+        utf_16_units_determine_a_text();
+    }
+
+    fn room(&self) -> usize {
+        self.dst.len() - self.len
+    }
+
+    #[inline(always)]
+    fn put(&mut self, c: char) -> bool {
+        self.append(c)
+    }
+
+    #[inline(always)]
+    fn put_ascii(&mut self, src: &[u8]) -> usize {
+        self.append_ascii(src)
+    }
+
+    fn put_utf8(&mut self, src: &[u8]) -> usize {
+        self.append_each(Utf8Pieces {}, src)
+    }
+
+    fn put_pieces<P: Pieces>(&mut self, pieces: P, src: &[u8]) -> usize {
+        self.append_each(pieces, src)
+    }
+}
+
+#[cfg(test)]
+mod tests {
+    use super::*;
+
+    #[test]
+    fn a_fault_is_as_wide_as_its_character(rt: HostRuntime) {
+        assert_eq!(rt;
+            <Utf16Slice<'_> as Units>::FAULT,
+            <Utf16Slice<'_> as Units>::width('\u{FFFD}')
+        );
+    }
+
+    #[test]
+    fn takes_whole_pairs_alone(rt: HostRuntime) {
+        let mut dst = [1, 2, 3, 4];
+        let mut out = Utf16Slice::new(&mut dst);
+        assert_eq!(rt; (out.len(), out.room()), (0, 4));
+        assert!(rt; out.put('é'));
+        assert!(rt; out.put('\u{10FFFF}'));
+        assert!(rt; !out.put('\u{10000}'));
+        assert_eq!(rt; (out.len(), out.room()), (3, 1));
+        assert_eq!(rt; dst, [0xE9, 0xDBFF, 0xDFFF, 4]);
+    }
+
+    #[test]
+    fn utf_8_ends_before_what_is_malformed_or_does_not_fit(rt: HostRuntime) {
+        let src = b"plain ASCII, then \xC3\xA9\xE2\x82\xAC\xF0\x9F\x98\x80\xC3A";
+        for room in 0..24 {
+            let mut dst = [7; 24];
+            let taken = Utf16Slice::new(&mut dst[..room]).put_utf8(src);
+            // 18 units of ASCII, two of a character each, and a pair
+            let (bytes, units) = match room {
+                0..=18 => (room, room),
+                19 => (20, 19),
+                20 | 21 => (23, 20),
+                _ => (27, 22),
+            };
+            assert_eq!(rt; taken, bytes, "room of {room}");
+            assert_eq!(rt;
+                &dst[..units.min(18)],
+                &UNITS[..units.min(18)],
+                "room of {room}"
+            );
+            assert_eq!(rt; &dst[..units], &UNITS[..units], "room of {room}");
+            assert!(rt;
+                dst[units..].iter().all(|unit| *unit == 7),
+                "room of {room}"
+            );
+        }
+    }
+
+    /// The UTF-16 of that text.
+    const UNITS: [u16; 22] = [
+        0x70, 0x6C, 0x61, 0x69, 0x6E, 0x20, 0x41, 0x53, 0x43, 0x49, 0x49, 0x2C, 0x20, 0x74, 0x68,
+        0x65, 0x6E, 0x20, 0xE9, 0x20AC, 0xD83D, 0xDE00,
+    ];
+}

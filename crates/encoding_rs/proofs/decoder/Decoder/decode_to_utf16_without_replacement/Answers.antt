@@ -1,0 +1,8 @@
+use Rattle.std.proofs.Common.{length, refl, arith, rules}
+use Rattle.encoding_rs.proofs.FullLemmas.{over_slice, two_units}
+use Rattle.encoding_rs.proofs.decoder.Decoder.decode_to_utf16_without_replacement.Goals as goal
+
+pub returns-clause-call : goal.returns-clause-call
+returns-clause-call c =
+    over_slice _ 2 _ _ _ _ _ _ _ _ _ _ _ (length c.args.dst.now) two_units c.convert_reporting-result.ensures
+    (rw c.new-units.ensures.len refl) (rw (c.new-units.ensures.now, c.new-units.ensures.len) (omega arith)) (search rules)
