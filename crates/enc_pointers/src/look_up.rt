@@ -1,13 +1,14 @@
 //! Tables in two levels, of pointers by characters: the page of each 64 code points, and the pages.
 
-ghost use Rattle.std.specs.Prelude.{◌≡◌, ◌≤◌};
+ghost use Rattle.std.specs.Prelude.{◌≡◌, ◌≤◌, ◌<◌, IfSome};
 ghost use Rattle.enc_pointers.specs.Pages.{pointer_in_pages};
 
 /// The pointer of a character below a bound.
 #[inline(always)]
 pub(crate) fn pointer_in(page_of: &[u16], pointers: &[u16], bound: u32, c: char) -> Option<u32>
     requires { bound ≤ 0xFFFF }
-    ensures { result ≡ pointer_in_pages page_of.now pointers.now bound c }
+    ensures value { result ≡ pointer_in_pages page_of.now pointers.now bound c }
+    ensures bound { IfSome result (λ p. p < bound) }
 {
     let c = c as usize;
     if c / 64 >= page_of.len() {
@@ -28,7 +29,8 @@ pub(crate) fn pointer_in(page_of: &[u16], pointers: &[u16], bound: u32, c: char)
 #[inline(always)]
 pub(crate) fn pointer_in_bytes(page_of: &[u8], pointers: &[u8], bound: u32, c: char) -> Option<u32>
     requires { bound ≤ 0xFFFF }
-    ensures { result ≡ pointer_in_pages page_of.now pointers.now bound c }
+    ensures value { result ≡ pointer_in_pages page_of.now pointers.now bound c }
+    ensures bound { IfSome result (λ p. p < bound) }
 {
     let c = c as usize;
     if c / 64 >= page_of.len() {

@@ -1,7 +1,7 @@
 //! The pointers of characters in the indexes (Encoding Standard 5, "index pointer"), as encoders look them up. Each
 //! takes two loads, but that of gb18030 ranges a search by halves. None takes memory.
 
-ghost use Rattle.std.specs.Prelude.{◌≡◌};
+ghost use Rattle.std.specs.Prelude.{◌≡◌, ◌<◌, IfSome};
 ghost use Rattle.enc_pointers.specs.Pointers.{big5_pointer, euc_kr_pointer, gb18030_pointer, gb18030_ranges_pointer, jis0208_pointer, shift_jis_pointer, single_byte_pointer};
 
 use crate::look_up::{pointer_in, pointer_in_bytes};
@@ -20,7 +20,8 @@ use enc_index::{SingleByteIndex, run_with};
 #[inline(always)]
 #[tactic(auto, using(crate::proofs::MultiBytePages::big5_pages))]
 pub fn big5(c: char) -> Option<u32>
-    ensures { result ≡ big5_pointer c }
+    ensures value { result ≡ big5_pointer c }
+    ensures bound { IfSome result (λ p. p < 19782) }
 {
     pointer_in(&BIG5_PAGE_OF, &BIG5_POINTERS, 19782, c)
 }
@@ -29,7 +30,8 @@ pub fn big5(c: char) -> Option<u32>
 #[inline(always)]
 #[tactic(auto, using(crate::proofs::MultiBytePages::euc_kr_pages))]
 pub fn euc_kr(c: char) -> Option<u32>
-    ensures { result ≡ euc_kr_pointer c }
+    ensures value { result ≡ euc_kr_pointer c }
+    ensures bound { IfSome result (λ p. p < 23940) }
 {
     pointer_in(&EUC_KR_PAGE_OF, &EUC_KR_POINTERS, 23940, c)
 }
@@ -38,7 +40,8 @@ pub fn euc_kr(c: char) -> Option<u32>
 #[inline(always)]
 #[tactic(auto, using(crate::proofs::MultiBytePages::gb18030_pages))]
 pub fn gb18030(c: char) -> Option<u32>
-    ensures { result ≡ gb18030_pointer c }
+    ensures value { result ≡ gb18030_pointer c }
+    ensures bound { IfSome result (λ p. p < 23940) }
 {
     pointer_in(&GB18030_PAGE_OF, &GB18030_POINTERS, 23940, c)
 }
@@ -46,7 +49,8 @@ pub fn gb18030(c: char) -> Option<u32>
 /// The index gb18030 ranges pointer, for four bytes: 7457 for U+E7C7, and else the pointer in the range that has
 /// the character. `None` where none has it.
 pub fn gb18030_ranges(c: char) -> Option<u32>
-    ensures { result ≡ gb18030_ranges_pointer c }
+    ensures value { result ≡ gb18030_ranges_pointer c }
+    ensures bound { IfSome result (λ p. p < 1237576) }
 {
     if c == '\u{E7C7}' {
         return Some(7457);
@@ -62,7 +66,8 @@ pub fn gb18030_ranges(c: char) -> Option<u32>
 #[inline(always)]
 #[tactic(auto, using(crate::proofs::MultiBytePages::jis0208_pages))]
 pub fn jis0208(c: char) -> Option<u32>
-    ensures { result ≡ jis0208_pointer c }
+    ensures value { result ≡ jis0208_pointer c }
+    ensures bound { IfSome result (λ p. p < 8836) }
 {
     pointer_in(&JIS0208_PAGE_OF, &JIS0208_POINTERS, 8836, c)
 }
@@ -71,7 +76,8 @@ pub fn jis0208(c: char) -> Option<u32>
 #[inline(always)]
 #[tactic(auto, using(crate::proofs::MultiBytePages::shift_jis_pages))]
 pub fn shift_jis(c: char) -> Option<u32>
-    ensures { result ≡ shift_jis_pointer c }
+    ensures value { result ≡ shift_jis_pointer c }
+    ensures bound { IfSome result (λ p. p < 11280) }
 {
     pointer_in(&SHIFT_JIS_PAGE_OF, &SHIFT_JIS_POINTERS, 11280, c)
 }
@@ -80,7 +86,8 @@ pub fn shift_jis(c: char) -> Option<u32>
 /// there is none.
 #[inline(always)]
 pub fn single_byte(index: SingleByteIndex, c: char) -> Option<u32>
-    ensures { result ≡ single_byte_pointer index c }
+    ensures value { result ≡ single_byte_pointer index c }
+    ensures bound { IfSome result (λ p. p < 128) }
 {
     let from = index.number() * 1024;
     pointer_in_bytes(

@@ -1,11 +1,11 @@
 -- The code units of a text determine it, and those of UTF-16 tell it.
-use Rattle.std.proofs.Common.{◌≡◌, ℕ, ◌+◌, ◌-◌, ◌*◌, ◌/◌, ◌%◌, ◌<◌, ◌≤◌, Bool, true, false, List, [], ◌∷◌, ◌++◌, map, get_or, length, refl, ap, ◌∙◌, sym, subst, arith, inl, inr, Option, Some}
+use Rattle.std.proofs.Common.{◌≡◌, ℕ, ◌+◌, ◌-◌, ◌/◌, ◌%◌, ◌<◌, ◌≤◌, List, [], ◌∷◌, ◌++◌, map, refl, ap, ◌∙◌, sym, arith, inl, inr, Option, Some}
 use Rattle.std.proofs.lemmas.Bool.{and_parts, cases_lt, lt-ltb, le-ltb, le-leb, lt-leb}
 use Rattle.std.proofs.lemmas.Bool.Decides.{nat_tests}
 use Rattle.std.proofs.lemmas.Str.{encodes_same, utf16_chars-nil, utf16_chars_lone, utf16_chars_pair}
 use Rattle.std.specs.Char.{encode_utf8, IsScalar, InScalarRange}
 use Rattle.std.specs.Char.Escape.{encode_utf16}
-use Rattle.std.specs.Char.Utf16.{utf16_chars, utf16_lossy_chars, lone_unit_char, surrogate_pair_char}
+use Rattle.std.specs.Char.Utf16.{utf16_lossy_chars, lone_unit_char, surrogate_pair_char}
 use Rattle.std.specs.Option.{unwrap_or}
 use Rattle.enc_units.specs.Output.{AreScalars, DetermineTexts, units_of_text}
 use Rattle.enc_units.proofs.Utf8CharsLemmas.{their_units}
@@ -18,10 +18,10 @@ utf_8_determines t u s r e = encodes_same t u (sym (their_units t) ∙ e ∙ the
 scalar_range : (c : ℕ) → IsScalar c → InScalarRange c
 scalar_range c h = grind (arith, nat_tests)
 
-one_unit : (c : ℕ) → c < 0x1_0000 → encode_utf16 c ≡ c ∷ []
+pub one_unit : (c : ℕ) → c < 0x1_0000 → encode_utf16 c ≡ c ∷ []
 one_unit c h = rw (lt-ltb c 0x1_0000 h) refl
 
-two_units : (c : ℕ) → 0x1_0000 ≤ c → encode_utf16 c ≡ (0xD800 + (c - 0x1_0000) / 0x400) ∷ (0xDC00 + (c - 0x1_0000) % 0x400) ∷ []
+pub two_units : (c : ℕ) → 0x1_0000 ≤ c → encode_utf16 c ≡ (0xD800 + (c - 0x1_0000) / 0x400) ∷ (0xDC00 + (c - 0x1_0000) % 0x400) ∷ []
 two_units c h = rw (le-ltb c 0x1_0000 h) refl
 
 first_same : (a b : ℕ) (x y : List ℕ) → a ∷ x ≡ b ∷ y → a ≡ b

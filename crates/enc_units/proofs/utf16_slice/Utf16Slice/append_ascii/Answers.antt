@@ -1,4 +1,4 @@
-use Rattle.std.proofs.Common.{◌≡◌, ◌+◌, ◌-◌, ◌≤◌, ◌∙◌, ◌++◌, ap, arith, length, take, drop, length-take}
+use Rattle.std.proofs.Common.{◌≡◌, ◌-◌, ◌≤◌, ◌∙◌, ◌++◌, ap, arith, length, take, drop, length-take}
 use Rattle.std.specs.Char.Escape.{encode_utf16}
 use Rattle.enc_units.proofs.FrontLemmas.{ascii_units_16, puts_front}
 use Rattle.enc_units.proofs.Utf8SliceLemmas.{grown}

@@ -1,5 +1,5 @@
 use Rattle.std.proofs.Common.{◌∙◌, sym}
-use Rattle.enc_units.proofs.PiecesLemmas.{then_rest, then, same_then, ascii_pieces, one_piece}
+use Rattle.enc_units.proofs.PiecesLemmas.{then_rest, then, ascii_pieces, one_piece}
 use Rattle.enc_units.proofs.utf16_slice.Utf16Slice.append_each.Goals as goal
 
 pub loop-at-preserved-then-has_ascii : goal.loop-at-preserved-then-has_ascii

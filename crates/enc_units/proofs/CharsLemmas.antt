@@ -1,0 +1,78 @@
+-- The code units of a text, and the characters of code units.
+use Rattle.std.proofs.Common.{◌==◌, Option, Some, None, MatchOption, ◌≡◌, ℕ, suc, ◌<◌, ◌≤◌, Bool, true, false, List, [], ◌∷◌, length, get_or, drop, refl, ap, ◌∙◌, sym, arith, length-append, length-drop, map, encode_utf8, chars, IsUtf8, nat_le, nat_lt, ◌&&◌, ◌⊎◌, inl, inr}
+use Rattle.std.specs.Char.Escape.{encode_utf16}
+use Rattle.std.specs.Char.Utf16.{utf16_lossy_chars, is_high_surrogate, is_low_surrogate, surrogate_pair_char}
+use Rattle.std.proofs.lemmas.Str.{encodes-chars, utf16_chars-nil, utf16_chars_lone, utf16_chars_pair}
+use Rattle.enc_units.specs.Output.{units_of_text}
+use Rattle.enc_units.specs.Surrogates.{lossy_unit, IsPair, First}
+use Rattle.std.specs.Option.{unwrap_or}
+use Rattle.std.proofs.lemmas.Bool.Decides.{nat_tests}
+use Rattle.enc_units.proofs.UnitsLemmas.{one_unit, two_units}
+use Rattle.enc_units.proofs.Utf8CharsLemmas.{their_units}
+
+pub utf8_length : (bs : List ℕ) → IsUtf8 bs → length bs ≡ length (units_of_text encode_utf8 (chars bs))
+utf8_length bs u = sym (ap length (their_units (chars bs) ∙ encodes-chars bs u))
+
+pub lossy_nil : utf16_lossy_chars [] ≡ []
+lossy_nil = ap (map (λ o. unwrap_or o 0xFFFD)) utf16_chars-nil
+
+pub lossy_lone : (u : ℕ) (us : List ℕ) → ¬ (IsPair u (get_or us 0 0)) → utf16_lossy_chars (u ∷ us) ≡ lossy_unit u ∷ utf16_lossy_chars us
+lossy_lone u us n = ap (map (λ o. unwrap_or o 0xFFFD)) (utf16_chars_lone u us n)
+
+pub lossy_pair : (u v : ℕ) (us : List ℕ) → IsPair u v → utf16_lossy_chars (u ∷ v ∷ us) ≡ surrogate_pair_char u v ∷ utf16_lossy_chars us
+lossy_pair u v us p = ap (map (λ o. unwrap_or o 0xFFFD)) (utf16_chars_pair u v us p)
+
+true_or_false : (t : Bool) → (t ≡ true) ⊎ (t ≡ false)
+true_or_false true = inl refl
+true_or_false false = inr refl
+
+lone_narrow : (u : ℕ) → u < 0x1_0000 → lossy_unit u < 0x1_0000
+lone_narrow u h = elim (true_or_false (nat_le 0xD800 u && nat_lt u 0xE000)) [ inl e ↦ rw e (omega arith) | inr e ↦ rw e h ]
+
+pub first_lone : (us : List ℕ) → 1 ≤ length us → get_or us 0 0 < 0x1_0000 → (IsPair (get_or us 0 0) (get_or us 1 0) → ⊥) → First us (lossy_unit (get_or us 0 0)) 1
+first_lone [] h f n = absurd (omega arith)
+first_lone (u ∷ us) h f n = record {
+  within = h;
+  chars = lossy_lone u us n;
+  width = sym (ap length (one_unit (lossy_unit u) (lone_narrow u f)));
+}
+
+pub first_pair : (us : List ℕ) → 2 ≤ length us → IsPair (get_or us 0 0) (get_or us 1 0) → First us (surrogate_pair_char (get_or us 0 0) (get_or us 1 0)) 2
+first_pair [] h p = absurd (omega arith)
+first_pair (u ∷ []) h p = absurd (omega arith)
+first_pair (u ∷ v ∷ us) h p = record {
+  within = h;
+  chars = lossy_pair u v us p;
+  width = sym (ap length (two_units (surrogate_pair_char u v) (omega arith)));
+}
+
+decide_pair : (u v : ℕ) → IsPair u v ⊎ (IsPair u v → ⊥)
+decide_pair u v = elim (true_or_false (is_high_surrogate u && is_low_surrogate v)) [
+  | inl e ↦ inl (grind (arith, nat_tests))
+  | inr e ↦ inr (λ p. grind (arith, nat_tests))
+]
+
+abbrev pub AreUnits : List ℕ → Type 0
+AreUnits us = (i : ℕ) → get_or us i 0 < 0x1_0000
+
+step : (us : List ℕ) (c n : ℕ) → First us c n → length (drop n us) ≡ length (units_of_text encode_utf16 (utf16_lossy_chars (drop n us)))
+    → length us ≡ length (units_of_text encode_utf16 (utf16_lossy_chars us))
+step us c n f e = rw (f.chars, length-append) (omega (arith, f.within, f.width, e, length-drop n us))
+
+pub utf16_length : (us : List ℕ) → AreUnits us → length us ≡ length (units_of_text encode_utf16 (utf16_lossy_chars us))
+utf16_length [] h = rw lossy_nil refl
+utf16_length (u ∷ []) h =
+    step (u ∷ []) _ 1 (first_lone (u ∷ []) (omega arith) (h 0) (λ p. omega (arith, p.2))) (rw lossy_nil refl)
+utf16_length (u ∷ v ∷ us) h = elim (decide_pair u v) [
+  | inl p ↦ step (u ∷ v ∷ us) _ 2 (first_pair (u ∷ v ∷ us) (omega arith) p) (utf16_length us (λ i. h (suc (suc i))))
+  | inr n ↦ step (u ∷ v ∷ us) _ 1 (first_lone (u ∷ v ∷ us) (omega arith) (h 0) n) (utf16_length (v ∷ us) (λ i. h (suc i)))
+]
+
+pub peeks : (us : List ℕ) (r : Option (ℕ × ℕ)) → MatchOption r (us ≡ []) (λ p. First us p.0 p.1)
+    → MatchOption r (utf16_lossy_chars us ≡ []) (λ p. utf16_lossy_chars us ≡ p.0 ∷ drop 1 (utf16_lossy_chars us))
+peeks us None e = rw e lossy_nil
+peeks us (Some p) f = rw f.chars refl
+
+pub some_units : (us : List ℕ) → false ≡ (length us == 0) → 1 ≤ length us
+some_units [] h = cc
+some_units (u ∷ us) h = omega arith

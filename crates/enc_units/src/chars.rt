@@ -1,0 +1,27 @@
+//! Inputs of characters.
+
+ghost use Rattle.std.specs.Prelude.{◌≡◌, ◌≢◌, ℕ, List, [], ◌∷◌, length, drop, MatchOption, IfSome};
+ghost use Rattle.enc_units.specs.Output.{units_of_text};
+
+/// An input that gives characters, each read from its code units.
+pub trait Chars {
+    // the code units of a character
+    ghost units_of: { ℕ → List ℕ };
+
+    // the characters that are still to come
+    ghost rest: { Self → List ℕ };
+
+    /// How many code units are unread. Takes no memory.
+    fn unread(&self) -> usize
+        ensures { result ≡ length (units_of_text units_of (rest self.now)) };
+
+    /// The next character and how many code units it is read from, or `None` at the end. Takes no memory.
+    fn peek(&self) -> Option<(char, usize)>
+        ensures first { MatchOption result (rest self.now ≡ []) (λ p. rest self.now ≡ p.0 ∷ drop 1 (rest self.now)) }
+        ensures width { IfSome result (λ p. p.1 ≡ length (units_of p.0)) };
+
+    /// Reads the next character. Takes no memory.
+    fn advance(&mut self)
+        requires { rest self.old ≢ [] }
+        ensures { rest self.new ≡ drop 1 (rest self.old) };
+}
