@@ -1,0 +1,29 @@
+-- By which rule each encoding is written, if it has an encoder (Encoding Standard 4.3, "get an encoder").
+use Rattle.std.specs.Prelude.{true, false, Option, Some, None}
+use Rattle.enc_codec.specs.declared.codec.Codec.{Codec}
+use Rattle.enc_codec.specs.declared.codec.Codec.TheVariants.{Utf8, Utf16Be, Utf16Le, SingleByte, Big5, EucKr, ShiftJis, EucJp, Gbk, Gb18030, Iso2022Jp, XUserDefined, Replacement}
+use Rattle.enc_encoders.specs.EncoderRule.{EncoderRule}
+use Rattle.enc_encoders.specs.Stateless.{stateless}
+use Rattle.enc_encoders.specs.Utf8.{utf_8_bytes}
+use Rattle.enc_encoders.specs.SingleByte.{single_byte_bytes, x_user_defined_bytes}
+use Rattle.enc_encoders.specs.Big5.{big5_bytes}
+use Rattle.enc_encoders.specs.EucKr.{euc_kr_bytes}
+use Rattle.enc_encoders.specs.ShiftJis.{shift_jis_bytes}
+use Rattle.enc_encoders.specs.EucJp.{euc_jp_bytes}
+use Rattle.enc_encoders.specs.Gb18030.{gb18030_bytes}
+use Rattle.enc_encoders.specs.Iso2022Jp.{iso_2022_jp}
+
+abbrev pub encoder_rule : Codec → Option EncoderRule
+encoder_rule Utf8 = Some (stateless utf_8_bytes)
+encoder_rule Utf16Be = None
+encoder_rule Utf16Le = None
+encoder_rule (SingleByte index) = Some (stateless (single_byte_bytes index))
+encoder_rule Big5 = Some (stateless big5_bytes)
+encoder_rule EucKr = Some (stateless euc_kr_bytes)
+encoder_rule ShiftJis = Some (stateless shift_jis_bytes)
+encoder_rule EucJp = Some (stateless euc_jp_bytes)
+encoder_rule Gbk = Some (stateless (gb18030_bytes true))
+encoder_rule Gb18030 = Some (stateless (gb18030_bytes false))
+encoder_rule XUserDefined = Some (stateless x_user_defined_bytes)
+encoder_rule Replacement = None
+encoder_rule Iso2022Jp = Some iso_2022_jp

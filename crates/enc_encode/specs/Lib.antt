@@ -1,0 +1,2 @@
+pub mod Encoders
+pub mod Variant

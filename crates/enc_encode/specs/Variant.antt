@@ -1,0 +1,24 @@
+-- The state of an encoder of any encoding.
+use Rattle.enc_encode.specs.declared.variant.VariantEncoder.{VariantEncoder}
+use Rattle.enc_encode.specs.declared.variant.VariantEncoder.TheVariants.{Utf8, SingleByte, Big5, EucKr, ShiftJis, EucJp, Gb18030, Iso2022Jp, XUserDefined}
+use Rattle.enc_encoders.specs.EncoderRule.{RawState}
+use Rattle.enc_encoders.specs.Stateless.{stateless_state}
+use Rattle.enc_encoders.specs.Utf8.{utf_8_bytes}
+use Rattle.enc_encoders.specs.SingleByte.{single_byte_bytes, x_user_defined_bytes}
+use Rattle.enc_encoders.specs.Big5.{big5_bytes}
+use Rattle.enc_encoders.specs.EucKr.{euc_kr_bytes}
+use Rattle.enc_encoders.specs.ShiftJis.{shift_jis_bytes}
+use Rattle.enc_encoders.specs.EucJp.{euc_jp_bytes}
+use Rattle.enc_encoders.specs.Gb18030.{gb18030_bytes}
+use Rattle.enc_encoders.specs.Iso2022Jp.{iso_2022_jp_state}
+
+abbrev pub variant_state : VariantEncoder → RawState
+variant_state (Utf8 e) = stateless_state utf_8_bytes
+variant_state (SingleByte e) = stateless_state (single_byte_bytes e.repertoire.index)
+variant_state (Big5 e) = stateless_state big5_bytes
+variant_state (EucKr e) = stateless_state euc_kr_bytes
+variant_state (ShiftJis e) = stateless_state shift_jis_bytes
+variant_state (EucJp e) = stateless_state euc_jp_bytes
+variant_state (Gb18030 e) = stateless_state (gb18030_bytes e.repertoire.is_gbk)
+variant_state (XUserDefined e) = stateless_state x_user_defined_bytes
+variant_state (Iso2022Jp e) = iso_2022_jp_state e.set

@@ -1,0 +1,43 @@
+-- The steps of a text that more text follows.
+use Rattle.std.proofs.Common.{◌≡◌, ℕ, Bool, true, false, Option, Some, None, List, [], ◌∷◌, ◌++◌, refl, ap, ◌∙◌, sym, append_assoc, append-nil}
+use Rattle.enc_encoders.specs.declared.character_set.CharacterSet.{CharacterSet}
+use Rattle.enc_encoders.specs.declared.encoder_result.EncoderResult.{EncoderResult}
+use Rattle.enc_encoders.specs.EncoderRule.{EncoderRule, RawState, set_for}
+use Rattle.enc_encoders.specs.Steps.{Step, char_step, first_written, escaping, steps_of, steps_from, set_behind}
+use Rattle.enc_encoders.specs.Call.{Call}
+use Rattle.enc_encoders.proofs.StepLemmas.{set_behind-append}
+
+-- a character's step leaves the set in which it is written
+behind_char : (e : EncoderRule) (s s' : CharacterSet) (c : ℕ) (b : Option (List ℕ)) (ps : List Step) → set_behind s (char_step e s' c b ∷ ps) ≡ set_behind s' ps
+behind_char e s s' c None ps = refl
+behind_char e s s' c (Some b) ps = refl
+
+pub steps_of-append : (e : EncoderRule) (last : Bool) (s : CharacterSet) (t z : List ℕ)
+    → steps_of e last s (t ++ z) ≡ steps_of e false s t ++ steps_of e last (set_behind s (steps_of e false s t)) z
+unfolding steps_of
+steps_of-append e last s [] z = refl
+steps_of-append e last s (c ∷ t) z =
+    let d = first_written c (e.bytes c) in
+    let s' = set_for e s d in
+    let q = char_step e s' c (e.bytes c) in
+    let front = steps_of e false s' t in
+    let set : set_behind s (escaping e s d ++ (q ∷ front)) ≡ set_behind s' front =
+    set_behind-append s (escaping e s d) (q ∷ front) ∙ behind_char e (set_behind s (escaping e s d)) s' c (e.bytes c) front in
+    ap (λ x. escaping e s d ++ (q ∷ x)) (steps_of-append e last s' t z)
+    ∙ sym (append_assoc (escaping e s d) (q ∷ front) (steps_of e last (set_behind s' front) z))
+    ∙ ap (λ x. (escaping e s d ++ (q ∷ front)) ++ steps_of e last x z) (sym set)
+
+-- what a call took off comes first whatever follows the offer
+pub whatever_follows : (old new : RawState) (src rest : List ℕ) (last : Bool) (room : ℕ) (result : EncoderResult) (wrote : List ℕ) (c : Call old new src rest last room result wrote)
+    → (z : List ℕ) → (last ≡ true → z ≡ []) → steps_from old true (src ++ z) ≡ c.done ++ steps_from new true (rest ++ z)
+whatever_follows old new src rest true room result wrote c z m =
+    rw (m refl, append-nil src, append-nil rest) c.remaining
+whatever_follows old new src rest false room result wrote c z m =
+    let set : set_behind old.set (c.done ++ steps_from new false rest) ≡ set_behind new.set (steps_from new false rest) =
+    set_behind-append old.set c.done (steps_from new false rest) ∙ ap (λ s. set_behind s (steps_from new false rest)) (sym c.set) in
+    steps_of-append old.rule true old.set src z
+    ∙ ap (λ x. x ++ steps_of old.rule true (set_behind old.set x) z) c.remaining
+    ∙ ap (λ s. (c.done ++ steps_from new false rest) ++ steps_of old.rule true s z) set
+    ∙ ap (λ e. (c.done ++ steps_from new false rest) ++ steps_of e true (set_behind new.set (steps_from new false rest)) z) (sym c.rule)
+    ∙ append_assoc c.done (steps_from new false rest) (steps_of new.rule true (set_behind new.set (steps_from new false rest)) z)
+    ∙ ap (λ x. c.done ++ x) (sym (steps_of-append new.rule true new.set rest z))

@@ -1,0 +1,101 @@
+-- The sets of ISO-2022-JP, read backward and carried forward.
+use Rattle.std.proofs.Common.{◌≡◌, ℕ, Bool, true, false, ◌==◌, ◌||◌, nat_lt, Option, Some, None, List, [], ◌∷◌, ◌++◌, reverse, refl, ap, ◌∙◌, sym, arith, if◌then◌else◌}
+use Rattle.std.proofs.lemmas.List.{reverse-append}
+use Rattle.std.proofs.lemmas.Bool.Decides.{nat_tests}
+use Rattle.enc_encoders.specs.declared.character_set.CharacterSet.{CharacterSet}
+use Rattle.enc_encoders.specs.declared.character_set.CharacterSet.TheVariants.{Ascii, Roman, Jis0208}
+use Rattle.enc_encoders.specs.declared.encoders.iso_2022_jp.CharClass.{CharClass}
+use Rattle.enc_encoders.specs.declared.encoders.iso_2022_jp.CharClass.TheVariants as class
+use Rattle.enc_encoders.specs.EncoderRule.{IsLawful, IsOfReferences, set_for}
+use Rattle.enc_encoders.specs.Iso2022Jp.{class_of, has_class, set_of_class, last_of, last_class, is_left_in_roman, set_by, set_read_back, is_shift, iso_2022_jp_bytes, iso_2022_jp}
+
+is_roman : CharacterSet → Bool
+is_roman Ascii = false
+is_roman Roman = true
+is_roman Jis0208 = false
+
+-- the set in which a character of a class is written
+for_class : CharacterSet → CharClass → CharacterSet
+for_class s k = if has_class s k then s else set_of_class k
+
+none_is : (s : CharacterSet) → is_roman s ≡ is_left_in_roman s None
+unfolding is_roman
+none_is Ascii = refl
+none_is Roman = refl
+none_is Jis0208 = refl
+
+set_by_is : (s : CharacterSet) (k : CharClass) (o : Option CharClass) → is_roman (set_by k (is_left_in_roman s (last_of k o))) ≡ is_left_in_roman s (last_of k o)
+unfolding is_roman
+set_by_is s class.Neutral o = elim (is_left_in_roman s o) as (λ b. is_roman (if b then Roman else Ascii) ≡ b) [ true ↦ refl | false ↦ refl ]
+set_by_is s class.Latin o = elim s as (λ s. is_roman (if is_left_in_roman s (Some class.Latin) then Roman else Ascii) ≡ is_left_in_roman s (Some class.Latin)) [ Ascii ↦ refl | Roman ↦ refl | Jis0208 ↦ refl ]
+set_by_is s class.Roman o = elim s as (λ s. is_roman (if is_left_in_roman s (Some class.Roman) then Roman else Ascii) ≡ is_left_in_roman s (Some class.Roman)) [ Ascii ↦ refl | Roman ↦ refl | Jis0208 ↦ refl ]
+set_by_is s class.Kanji o = elim s as (λ s. is_roman Jis0208 ≡ is_left_in_roman s (Some class.Kanji)) [ Ascii ↦ refl | Roman ↦ refl | Jis0208 ↦ refl ]
+
+-- Roman is in force where it was left on
+roman_is : (s : CharacterSet) (u : List ℕ) → is_roman (set_read_back s u) ≡ is_left_in_roman s (last_class u)
+roman_is s [] = none_is s
+roman_is s (c ∷ u) =
+    set_by_is s (class_of c) (last_class u)
+
+carried : (s t : CharacterSet) (k : CharClass) (o : Option CharClass) → is_roman t ≡ is_left_in_roman s o → set_by k (is_left_in_roman s (last_of k o)) ≡ for_class t k
+unfolding is_roman for_class
+carried s Ascii class.Neutral o e = rw (sym e) refl
+carried s Roman class.Neutral o e = rw (sym e) refl
+carried s Jis0208 class.Neutral o e = rw (sym e) refl
+carried Ascii Ascii class.Latin o e = refl
+carried Roman Ascii class.Latin o e = refl
+carried Jis0208 Ascii class.Latin o e = refl
+carried Ascii Roman class.Latin o e = refl
+carried Roman Roman class.Latin o e = refl
+carried Jis0208 Roman class.Latin o e = refl
+carried Ascii Jis0208 class.Latin o e = refl
+carried Roman Jis0208 class.Latin o e = refl
+carried Jis0208 Jis0208 class.Latin o e = refl
+carried Ascii Ascii class.Roman o e = refl
+carried Roman Ascii class.Roman o e = refl
+carried Jis0208 Ascii class.Roman o e = refl
+carried Ascii Roman class.Roman o e = refl
+carried Roman Roman class.Roman o e = refl
+carried Jis0208 Roman class.Roman o e = refl
+carried Ascii Jis0208 class.Roman o e = refl
+carried Roman Jis0208 class.Roman o e = refl
+carried Jis0208 Jis0208 class.Roman o e = refl
+carried s Ascii class.Kanji o e = refl
+carried s Roman class.Kanji o e = refl
+carried s Jis0208 class.Kanji o e = refl
+
+-- one character more
+read_back-cons : (s : CharacterSet) (c : ℕ) (u : List ℕ) → set_read_back s (c ∷ u) ≡ set_for iso_2022_jp (set_read_back s u) c
+unfolding for_class
+read_back-cons s c u =
+    carried s (set_read_back s u) (class_of c) (last_class u) (roman_is s u)
+
+set_after_more : (s : CharacterSet) (t : List ℕ) (c : ℕ) → set_read_back s (reverse (t ++ c ∷ [])) ≡ set_for iso_2022_jp (set_read_back s (reverse t)) c
+set_after_more s t c = ap (set_read_back s) (reverse-append t (c ∷ [])) ∙ read_back-cons s c (reverse t)
+
+own : (k : CharClass) → has_class (set_of_class k) k ≡ true
+own class.Neutral = refl
+own class.Latin = refl
+own class.Roman = refl
+own class.Kanji = refl
+
+neutral : (c : ℕ) → IsOfReferences c → class_of c ≡ class.Neutral
+neutral c r =
+    let a : (c == 0x5C || c == 0x7E) ≡ false = grind (arith, nat_tests) in
+    let b : nat_lt c 0x80 ≡ true = grind (arith, nat_tests) in
+    rw (a, b) refl
+
+itself : (c : ℕ) → IsOfReferences c → iso_2022_jp_bytes c ≡ Some (c ∷ [])
+itself c r =
+    let a : is_shift c ≡ false = grind (arith, nat_tests) in
+    let b : nat_lt c 0x80 ≡ true = grind (arith, nat_tests) in
+    rw (b, a) refl
+
+pub iso_2022_jp_is_lawful : IsLawful iso_2022_jp
+iso_2022_jp_is_lawful = record {
+  designates = λ c. own (class_of c);
+  set_after_none = λ s. refl;
+  set_after_more = set_after_more;
+  references = itself;
+  one_set = λ s c r. ap (has_class s) (neutral c r);
+}

@@ -1,0 +1,158 @@
+-- The bytes of a whole text, and the steps in which it is encoded.
+use Rattle.std.proofs.Common.{◌≡◌, ℕ, zero, suc, ◌/◌, ◌%◌, inl, inr, Bool, true, false, ◌==◌, nat_lt, ◌||◌, is_some, Option, Some, None, List, [], ◌∷◌, ◌++◌, refl, ap, ◌∙◌, sym, subst, arith, append_assoc, append-nil, if◌then◌else◌, decimal, take, drop, length}
+use Rattle.std.proofs.Math.Seq.{take-append_seam}
+use Rattle.std.specs.Fmt.{digits, digits_onto, digit_glyph}
+use Rattle.std.proofs.lemmas.Bool.{false≢true}
+use Rattle.std.proofs.lemmas.Bool.Decides.{nat_tests}
+use Rattle.enc_encoders.specs.declared.character_set.CharacterSet.{CharacterSet}
+use Rattle.enc_encoders.specs.declared.character_set.CharacterSet.TheVariants.{Ascii, Roman, Jis0208}
+use Rattle.enc_encoders.specs.declared.encoder_result.EncoderResult.{EncoderResult}
+use Rattle.enc_encoders.specs.declared.encoder_result.EncoderResult.TheVariants.{InputEmpty, OutputFull, Unmappable}
+use Rattle.enc_encoders.specs.EncoderRule.{EncoderRule, RawState, IsLawful, IsOfReferences, set_for}
+use Rattle.enc_encoders.specs.Text.{escape, escape_before, escape_at_end, or_nothing, bytes_behind, bytes_of_text, reference, with_reference, with_references, reference_after, KeepsText}
+use Rattle.enc_encoders.specs.Steps.{Step, escape_step, char_step, first_written, escaping, last_step, steps_of, steps_from, bytes_of_steps, any_reported, bytes_with_references, referred}
+use Rattle.enc_encoders.specs.Call.{Call, CallInto, Stops}
+use Rattle.enc_encoders.proofs.StepLemmas.{bytes_of_steps-one}
+use Rattle.enc_encoders.proofs.FollowLemmas.{whatever_follows}
+
+-- references are made of `&`, `#`, `;` and digits
+
+abbrev pub AreOfReferences : List ℕ → Type 0
+AreOfReferences [] = Unit {0}
+AreOfReferences (c ∷ t) = IsOfReferences c × AreOfReferences t
+
+glyph : (n : ℕ) → IsOfReferences (digit_glyph false (n % 10))
+glyph n = let e : nat_lt (n % 10) 10 ≡ true = grind (arith, nat_tests) in rw e (inr (inr (inr (omega arith, omega arith))))
+
+digits_are : (k n : ℕ) (acc : List ℕ) → AreOfReferences acc → AreOfReferences (digits_onto k 10 false n acc)
+digits_are zero n acc h = h
+digits_are (suc k) n acc h = elim (n / 10 == 0) as (λ b. AreOfReferences (if b then digit_glyph false (n % 10) ∷ acc else digits_onto k 10 false (n / 10) (digit_glyph false (n % 10) ∷ acc))) [
+  | true ↦ (glyph n, h)
+  | false ↦ digits_are k (n / 10) (digit_glyph false (n % 10) ∷ acc) (glyph n, h)
+]
+
+decimal_is : (n : ℕ) → AreOfReferences (decimal n)
+unfolding digits
+decimal_is n = digits_are 64 n [] tt
+
+with_end : (t : List ℕ) → AreOfReferences t → AreOfReferences (t ++ 0x3B ∷ [])
+with_end [] h = (inr (inr (inl refl)), tt)
+with_end (c ∷ t) h = (h.0, with_end t h.1)
+
+-- behind `&`
+pub reference_is : (c : ℕ) → AreOfReferences (0x23 ∷ (decimal c ++ 0x3B ∷ []))
+reference_is c = (inr (inl refl), with_end (decimal c) (decimal_is c))
+
+-- the bytes of a text, with the set carried forward
+pub forward : EncoderRule → CharacterSet → List ℕ → List ℕ
+forward e s [] = escape_at_end s
+forward e s (c ∷ t) = escape_before e s c ++ (or_nothing (e.bytes c) ++ forward e (set_for e s c) t)
+
+escaped : (h : Bool) (x : CharacterSet) (ps : List Step)
+    → bytes_with_references ((if h then [] else escape_step x ∷ []) ++ ps) ≡ (if h then [] else escape x) ++ bytes_with_references ps
+escaped true x ps = refl
+escaped false x ps = ap (λ t. t ++ bytes_with_references ps) (append-nil (escape x))
+
+module _ (e : EncoderRule) (l : IsLawful e) where
+  carried : (s : CharacterSet) (u t : List ℕ) → bytes_behind e s u t ≡ forward e (e.set_after s u) t
+  unfolding forward
+  carried s u [] = refl
+  carried s u (c ∷ t) =
+      ap (λ x. escape_before e (e.set_after s u) c ++ (or_nothing (e.bytes c) ++ x))
+      (carried s (u ++ c ∷ []) t ∙ ap (λ x. forward e x t) (l.set_after_more s u c))
+
+  pub text_is_carried : (s : CharacterSet) (t : List ℕ) → bytes_of_text e s t ≡ forward e s t
+  text_is_carried s t = carried s [] t ∙ ap (λ x. forward e x t) (l.set_after_none s)
+
+  -- characters of references are written as they are, in a set that has them
+  plain : (s : CharacterSet) → e.has s 0x26 ≡ true → (x : List ℕ) → AreOfReferences x → (t : List ℕ) → forward e s (x ++ t) ≡ x ++ forward e s t
+  unfolding forward
+  plain s h [] r t = refl
+  plain s h (c ∷ x) r t =
+      let has : e.has s c ≡ true = l.one_set s c r.0 ∙ h in
+      rw (has, l.references c r.0) (ap (λ y. c ∷ y) (plain s h x r.1 t))
+
+  has_then : (c : ℕ) (s : CharacterSet) (h : Bool) → e.has s c ≡ h → e.has (set_for e s c) c ≡ true
+  has_then c s true q = rw q q
+  has_then c s false q = rw q (l.designates c)
+
+  -- the reference to a character, behind any text
+  refers : (s : CharacterSet) (c : ℕ) (t : List ℕ) → forward e s (reference c ++ t) ≡ escape_before e s 0x26 ++ (reference c ++ forward e (set_for e s 0x26) t)
+  unfolding forward
+  refers s c t =
+      rw (l.references 0x26 (inl refl))
+      (ap (λ x. escape_before e s 0x26 ++ (0x26 ∷ x)) (plain (set_for e s 0x26) (has_then 0x26 s (e.has s 0x26) refl) (0x23 ∷ (decimal c ++ 0x3B ∷ [])) (reference_is c) t))
+
+  step_is : (s : CharacterSet) (c : ℕ) (t : List ℕ) (b : Option (List ℕ)) → e.bytes c ≡ b
+      → ((s : CharacterSet) → bytes_with_references (steps_of e true s t) ≡ forward e s (with_references e t))
+      → (let d = first_written c b in bytes_with_references (escaping e s d ++ (char_step e (set_for e s d) c b ∷ steps_of e true (set_for e s d) t)) ≡ forward e s (with_reference e c b ++ with_references e t))
+  unfolding forward
+  step_is s c t (Some b) q h =
+      escaped (e.has s c) (e.designated c) (char_step e (set_for e s c) c (Some b) ∷ steps_of e true (set_for e s c) t)
+      ∙ ap (λ x. escape_before e s c ++ (x ++ bytes_with_references (steps_of e true (set_for e s c) t))) (append-nil b)
+      ∙ ap (λ x. escape_before e s c ++ (b ++ x)) (h (set_for e s c))
+      ∙ ap (λ x. escape_before e s c ++ (or_nothing x ++ forward e (set_for e s c) (with_references e t))) (sym q)
+  step_is s c t None q h =
+      escaped (e.has s 0x26) (e.designated 0x26) (char_step e (set_for e s 0x26) c None ∷ steps_of e true (set_for e s 0x26) t)
+      ∙ ap (λ x. escape_before e s 0x26 ++ (reference (e.reported c) ++ x)) (h (set_for e s 0x26))
+      ∙ sym (refers s (e.reported c) (with_references e t))
+
+  last_is : (s : CharacterSet) → bytes_with_references (last_step s) ≡ escape_at_end s
+  last_is Ascii = refl
+  last_is Roman = refl
+  last_is Jis0208 = refl
+
+  steps_are_carried : (s : CharacterSet) (t : List ℕ) → bytes_with_references (steps_of e true s t) ≡ forward e s (with_references e t)
+  unfolding steps_of forward
+  steps_are_carried s [] = last_is s
+  steps_are_carried s (c ∷ t) = step_is s c t (e.bytes c) refl (λ x. steps_are_carried x t)
+
+  -- the bytes of a text with references in the place of unmappable characters
+  pub steps_are_text : (s : CharacterSet) (t : List ℕ) → bytes_with_references (steps_of e true s t) ≡ bytes_of_text e s (with_references e t)
+  steps_are_text s t = steps_are_carried s t ∙ sym (text_is_carried s (with_references e t))
+
+pub bytes_with_references-append : (ps qs : List Step) → bytes_with_references (ps ++ qs) ≡ bytes_with_references ps ++ bytes_with_references qs
+bytes_with_references-append [] qs = refl
+bytes_with_references-append (p ∷ ps) qs =
+    ap (λ t. (p.bytes ++ referred p.report) ++ t) (bytes_with_references-append ps qs)
+    ∙ sym (append_assoc (p.bytes ++ referred p.report) (bytes_with_references ps) (bytes_with_references qs))
+
+pub parted : (r : Option ℕ) (x : Bool) → (is_some r || x) ≡ false → (r ≡ None) × (x ≡ false)
+parted None x h = (refl, h)
+parted (Some c) x h = absurd (false≢true (sym h))
+
+pub unreferred : (ps : List Step) → any_reported ps ≡ false → bytes_with_references ps ≡ bytes_of_steps ps
+unreferred [] h = refl
+unreferred (p ∷ ps) h =
+    let q = parted p.report (any_reported ps) h in
+    ap (λ r. (p.bytes ++ referred r) ++ bytes_with_references ps) q.0 ∙ ap (λ t. t ++ bytes_with_references ps) (append-nil p.bytes)
+    ∙ ap (λ t. p.bytes ++ t) (unreferred ps q.1)
+
+module _ (old new : RawState) (src rest : List ℕ) (last : Bool) (room : ℕ) (result : EncoderResult) (wrote : List ℕ) where
+  -- the bytes of the steps that a call took
+  pub done_is : (done : List Step) (result : EncoderResult) → wrote ≡ bytes_of_steps done → Stops new rest last room done result → bytes_with_references done ≡ wrote ++ reference_after result
+  done_is done InputEmpty b s = unreferred done s.none_reported ∙ sym b ∙ sym (append-nil wrote)
+  done_is done OutputFull b s = unreferred done s.none_reported ∙ sym b ∙ sym (append-nil wrote)
+  done_is done (Unmappable c) b s =
+      let q = s.report in
+      ap bytes_with_references s.then_report ∙ bytes_with_references-append s.before (q ∷ [])
+      ∙ ap (λ t. t ++ ((q.bytes ++ referred q.report) ++ [])) (unreferred s.before s.none_reported)
+      ∙ ap (λ t. bytes_of_steps s.before ++ t) (append-nil (q.bytes ++ referred q.report))
+      ∙ ap (λ r. bytes_of_steps s.before ++ (q.bytes ++ referred r)) s.reported
+      ∙ sym (append_assoc (bytes_of_steps s.before) q.bytes (reference c))
+      ∙ ap (λ t. t ++ reference c) (sym (bytes_of_steps-one s.before q) ∙ ap bytes_of_steps (sym s.then_report) ∙ sym b)
+
+  pub call_keeps_text : IsLawful old.rule → Call old new src rest last room result wrote → KeepsText old new src rest last result wrote
+  call_keeps_text l c z m =
+      let n : IsLawful new.rule = subst IsLawful (sym c.rule) l in
+      sym (steps_are_text old.rule l old.set (src ++ z)) ∙ ap bytes_with_references (whatever_follows old new src rest last room result wrote c z m)
+      ∙ bytes_with_references-append c.done (steps_from new true (rest ++ z))
+      ∙ ap (λ t. t ++ bytes_with_references (steps_from new true (rest ++ z))) (done_is c.done result c.bytes c.stops)
+      ∙ ap (λ t. (wrote ++ reference_after result) ++ t) (steps_are_text new.rule n new.set (rest ++ z))
+      ∙ append_assoc wrote (reference_after result) (bytes_of_text new.rule new.set (with_references new.rule (rest ++ z)))
+
+pub into_keeps_text : (units_of : ℕ → List ℕ) (old new : RawState) (src rest : List ℕ) (last : Bool) (before after : List ℕ) (result : EncoderResult) (read written : ℕ)
+    → IsLawful old.rule → CallInto units_of old new src rest last before after result read written → KeepsText old new src rest last result (take written after)
+into_keeps_text units_of old new src rest last before after result read written l c =
+    let e : take written after ≡ c.wrote = rw (c.onto, c.count) (take-append_seam c.wrote (drop (length c.wrote) before)) in
+    subst (λ (x : List ℕ). KeepsText old new src rest last result x) (sym e) (call_keeps_text old new src rest last (length before) result c.wrote l c.call)

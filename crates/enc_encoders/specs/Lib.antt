@@ -1,0 +1,15 @@
+pub mod EncoderRule
+pub mod Text
+pub mod Steps
+pub mod Call
+pub mod CharLaw
+pub mod Stateless
+pub mod Utf8
+pub mod SingleByte
+pub mod Japanese
+pub mod ShiftJis
+pub mod EucJp
+pub mod EucKr
+pub mod Big5
+pub mod Gb18030
+pub mod Iso2022Jp

@@ -1,0 +1,24 @@
+-- Encodings without escape sequences: each character is written by itself.
+use Rattle.std.specs.Prelude.{◌≡◌, ℕ, ◌<◌, true, nat_lt, Option, Some, None, List, [], ◌∷◌, if◌then◌else◌}
+use Rattle.enc_encoders.specs.declared.character_set.CharacterSet.TheVariants.{Ascii}
+use Rattle.enc_encoders.specs.EncoderRule.{EncoderRule, RawState}
+
+-- by the bytes of each character
+abbrev pub stateless : (ℕ → Option (List ℕ)) → EncoderRule
+stateless bytes = record { bytes = bytes; reported = λ c. c; has = λ s c. true; designated = λ c. Ascii; set_after = λ s t. s }
+
+abbrev pub stateless_state : (ℕ → Option (List ℕ)) → RawState
+stateless_state bytes = record { rule = stateless bytes; set = Ascii }
+
+-- ASCII is written as itself
+abbrev pub WritesAscii : (ℕ → Option (List ℕ)) → Type 0
+WritesAscii bytes = (c : ℕ) → c < 0x80 → bytes c ≡ Some (c ∷ [])
+
+-- ASCII as itself, and all other characters so
+abbrev pub with_ascii : (ℕ → Option (List ℕ)) → ℕ → Option (List ℕ)
+with_ascii others c = if nat_lt c 0x80 then Some (c ∷ []) else others c
+
+-- the bytes of a pointer, where there is one
+abbrev pub bytes_by : (ℕ → List ℕ) → Option ℕ → Option (List ℕ)
+bytes_by bytes None = None
+bytes_by bytes (Some p) = Some (bytes p)

@@ -1,0 +1,34 @@
+//! What an encoder is that takes one character at a time.
+
+ghost use Rattle.std.specs.Prelude.{◌≡◌};
+ghost use Rattle.enc_encoders.specs.EncoderRule.{RawState};
+ghost use Rattle.enc_encoders.specs.CharLaw.{AreBytesOf, IsEscapeBefore, IsEscapeAtEnd};
+
+use crate::bytes::Bytes;
+use crate::character_set::CharacterSet;
+
+/// An encoder as a value: what it writes for a character, and the designated character set.
+pub trait CharEncoder: Copy {
+    // its rule, and the designated character set
+    ghost state: { Self → RawState };
+
+    /// The bytes of a character, in a set that has it, or `None` where it is unmappable.
+    fn bytes(self, c: char) -> Option<Bytes>
+        ensures { AreBytesOf ((state self).rule.bytes c) result };
+
+    /// What an unmappable character is reported as.
+    fn reported(self, c: char) -> char
+        ensures { result ≡ (state self).rule.reported c };
+
+    /// The encoder behind the escape sequence before a mappable character, where one is due.
+    fn escape_before(self, c: char) -> Option<Self>
+        ensures { IsEscapeBefore state self c result };
+
+    /// The encoder behind the escape sequence at the end of the text, where one is due.
+    fn escape_at_end(self) -> Option<Self>
+        ensures { IsEscapeAtEnd state self result };
+
+    /// The designated character set.
+    fn set(self) -> CharacterSet
+        ensures { result ≡ (state self).set };
+}

@@ -1,0 +1,13 @@
+//! The encoders, each by what it writes for a character.
+
+pub mod big5;
+pub mod euc_jp;
+pub mod euc_kr;
+pub mod gb18030;
+pub mod iso_2022_jp;
+mod japanese;
+mod katakana;
+pub mod shift_jis;
+pub mod single_byte;
+pub mod utf_8;
+pub mod x_user_defined;

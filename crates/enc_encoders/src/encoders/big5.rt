@@ -1,0 +1,51 @@
+//! The Big5 encoder (Encoding Standard 11.1.2).
+
+ghost use Rattle.std.specs.Prelude.{◌≡◌, ◌<◌};
+ghost use Rattle.enc_encoders.specs.CharLaw.{bytes_of};
+ghost use Rattle.enc_encoders.specs.Big5.{big5_pair, big5_trail};
+
+use crate::bytes::Bytes;
+use crate::made_bytes::two;
+use crate::stateless::{Repertoire, StatelessEncoder};
+use enc_pointers::big5;
+
+/// Big5 (Encoding Standard 11.1): ASCII, and the characters of index Big5 but for the Hong Kong additions that stand first.
+#[derive(Clone, Copy)]
+pub struct Big5;
+
+/// The Big5 encoder (Encoding Standard 11.1.2).
+pub type Big5Encoder = StatelessEncoder<Big5>;
+
+/// The second byte of a cell.
+#[inline(always)]
+fn trail(cell: u32) -> u8
+    requires { cell < 157 }
+    ensures { result ≡ big5_trail cell }
+{
+    (cell + (if cell < 0x3F { 0x40 } else { 0x62 })) as u8
+}
+
+/// The two bytes of a pointer.
+#[inline(always)]
+fn pair(pointer: u32) -> Bytes
+    requires { pointer < 19782 }
+    ensures { bytes_of result ≡ big5_pair pointer }
+{
+    two((pointer / 157 + 0x81) as u8, trail(pointer % 157))
+}
+
+impl Repertoire for Big5 {
+    ghost use Rattle.enc_encoders.specs.Big5.{big5_bytes};
+
+    ghost bytes_for = { λ _. big5_bytes };
+
+    fn bytes_beyond_ascii(self, c: char) -> Option<Bytes> {
+        match big5(c) {
+            Some(pointer) => Some(pair(pointer)),
+            None => None,
+        }
+    }
+
+    #[tactic(auto, using(crate::proofs::StatelessLemmas::with_ascii_writes_ascii))]
+    fn ascii(self) {}
+}

@@ -1,0 +1,53 @@
+//! The EUC-JP encoder (Encoding Standard 12.1.2).
+
+ghost use Rattle.std.specs.Prelude.{◌≡◌, ◌<◌};
+ghost use Rattle.enc_encoders.specs.CharLaw.{bytes_of};
+ghost use Rattle.enc_encoders.specs.EucJp.{euc_jp_pair};
+
+use super::japanese::{is_katakana, katakana_byte, with_wide_minus};
+use crate::bytes::Bytes;
+use crate::made_bytes::{one, two};
+use crate::stateless::{Repertoire, StatelessEncoder};
+use enc_pointers::jis0208;
+
+/// EUC-JP (Encoding Standard 12.1): ASCII, half-width katakana, and the characters of index jis0208. It has no bytes for
+/// those of jis0212, which its decoder knows.
+#[derive(Clone, Copy)]
+pub struct EucJp;
+
+/// The EUC-JP encoder (Encoding Standard 12.1.2).
+pub type EucJpEncoder = StatelessEncoder<EucJp>;
+
+/// The two bytes of a pointer.
+#[inline(always)]
+fn pair(pointer: u32) -> Bytes
+    requires { pointer < 8836 }
+    ensures { bytes_of result ≡ euc_jp_pair pointer }
+{
+    two((pointer / 94 + 0xA1) as u8, (pointer % 94 + 0xA1) as u8)
+}
+
+impl Repertoire for EucJp {
+    ghost use Rattle.enc_encoders.specs.EucJp.{euc_jp_bytes};
+
+    ghost bytes_for = { λ _. euc_jp_bytes };
+
+    fn bytes_beyond_ascii(self, c: char) -> Option<Bytes> {
+        if c == '\u{A5}' {
+            return Some(one(0x5C));
+        }
+        if c == '\u{203E}' {
+            return Some(one(0x7E));
+        }
+        if is_katakana(c) {
+            return Some(two(0x8E, katakana_byte(c)));
+        }
+        match jis0208(with_wide_minus(c)) {
+            Some(pointer) => Some(pair(pointer)),
+            None => None,
+        }
+    }
+
+    #[tactic(auto, using(crate::proofs::StatelessLemmas::with_ascii_writes_ascii))]
+    fn ascii(self) {}
+}

@@ -1,0 +1,42 @@
+//! The EUC-KR encoder (Encoding Standard 13.1.2).
+
+ghost use Rattle.std.specs.Prelude.{◌≡◌, ◌<◌};
+ghost use Rattle.enc_encoders.specs.CharLaw.{bytes_of};
+ghost use Rattle.enc_encoders.specs.EucKr.{euc_kr_pair};
+
+use crate::bytes::Bytes;
+use crate::made_bytes::two;
+use crate::stateless::{Repertoire, StatelessEncoder};
+use enc_pointers::euc_kr;
+
+/// EUC-KR (Encoding Standard 13.1): ASCII, and the characters of index EUC-KR.
+#[derive(Clone, Copy)]
+pub struct EucKr;
+
+/// The EUC-KR encoder (Encoding Standard 13.1.2).
+pub type EucKrEncoder = StatelessEncoder<EucKr>;
+
+/// The two bytes of a pointer.
+#[inline(always)]
+fn pair(pointer: u32) -> Bytes
+    requires { pointer < 23940 }
+    ensures { bytes_of result ≡ euc_kr_pair pointer }
+{
+    two((pointer / 190 + 0x81) as u8, (pointer % 190 + 0x41) as u8)
+}
+
+impl Repertoire for EucKr {
+    ghost use Rattle.enc_encoders.specs.EucKr.{euc_kr_bytes};
+
+    ghost bytes_for = { λ _. euc_kr_bytes };
+
+    fn bytes_beyond_ascii(self, c: char) -> Option<Bytes> {
+        match euc_kr(c) {
+            Some(pointer) => Some(pair(pointer)),
+            None => None,
+        }
+    }
+
+    #[tactic(auto, using(crate::proofs::StatelessLemmas::with_ascii_writes_ascii))]
+    fn ascii(self) {}
+}

@@ -1,0 +1,88 @@
+//! The gb18030 encoder, and GBK's (Encoding Standard 10.2.2).
+
+ghost use Rattle.std.specs.Prelude.{◌≡◌, ◌<◌};
+ghost use Rattle.enc_encoders.specs.CharLaw.{AreBytesOf, bytes_of};
+ghost use Rattle.enc_encoders.specs.Gb18030.{gb18030_pair, gb18030_trail, gb18030_four, two_or_four as wanted_bytes};
+ghost use Rattle.enc_pointers.specs.Pointers.{gb18030_pointer};
+
+use crate::bytes::Bytes;
+use crate::made_bytes::{four, one, two};
+use crate::stateless::{Repertoire, StatelessEncoder};
+use enc_pointers::{gb18030, gb18030_ranges};
+
+/// gb18030 (Encoding Standard 10.2): ASCII, two bytes by index gb18030, and four by its ranges. GBK (10.1) has no four
+/// bytes, and one for U+20AC.
+#[derive(Clone, Copy)]
+pub struct Gb18030 {
+    /// Whether it is GBK.
+    pub is_gbk: bool,
+}
+
+/// The gb18030 encoder, and GBK's (Encoding Standard 10.2.2).
+pub type Gb18030Encoder = StatelessEncoder<Gb18030>;
+
+/// The second byte of a cell.
+#[inline(always)]
+fn trail(cell: u32) -> u8
+    requires { cell < 190 }
+    ensures { result ≡ gb18030_trail cell }
+{
+    (cell + (if cell < 0x3F { 0x40 } else { 0x41 })) as u8
+}
+
+/// The two bytes of a pointer.
+#[inline(always)]
+fn pair(pointer: u32) -> Bytes
+    requires { pointer < 23940 }
+    ensures { bytes_of result ≡ gb18030_pair pointer }
+{
+    two((pointer / 190 + 0x81) as u8, trail(pointer % 190))
+}
+
+/// The four bytes of a pointer of the ranges.
+fn four_bytes(pointer: u32) -> Bytes
+    requires { pointer < 1237576 }
+    ensures { bytes_of result ≡ gb18030_four pointer }
+{
+    four(
+        (pointer / 12600 + 0x81) as u8,
+        (pointer % 12600 / 1260 + 0x30) as u8,
+        (pointer % 1260 / 10 + 0x81) as u8,
+        (pointer % 10 + 0x30) as u8,
+    )
+}
+
+/// Two bytes, or in gb18030 four.
+fn two_or_four(is_gbk: bool, c: char) -> Option<Bytes>
+    ensures { AreBytesOf (wanted_bytes is_gbk c (gb18030_pointer c)) result }
+{
+    if let Some(pointer) = gb18030(c) {
+        return Some(pair(pointer));
+    }
+    if is_gbk {
+        return None;
+    }
+    match gb18030_ranges(c) {
+        Some(pointer) => Some(four_bytes(pointer)),
+        None => None,
+    }
+}
+
+impl Repertoire for Gb18030 {
+    ghost use Rattle.enc_encoders.specs.Gb18030.{gb18030_bytes};
+
+    ghost bytes_for = { λ r. gb18030_bytes r.is_gbk };
+
+    fn bytes_beyond_ascii(self, c: char) -> Option<Bytes> {
+        if c == '\u{E5E5}' {
+            return None;
+        }
+        if self.is_gbk && c == '\u{20AC}' {
+            return Some(one(0x80));
+        }
+        two_or_four(self.is_gbk, c)
+    }
+
+    #[tactic(auto, using(crate::proofs::StatelessLemmas::with_ascii_writes_ascii))]
+    fn ascii(self) {}
+}

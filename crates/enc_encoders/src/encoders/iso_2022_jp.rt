@@ -1,0 +1,215 @@
+//! The ISO-2022-JP encoder (Encoding Standard 12.2.2).
+
+ghost use Rattle.std.specs.Prelude.{◌≡◌, ◌<◌};
+ghost use Rattle.enc_encoders.specs.declared.character_set.CharacterSet.TheVariants.{Ascii};
+ghost use Rattle.enc_encoders.specs.Iso2022Jp.{class_of as wanted_class, has_class as wanted_has, set_of_class as wanted_set, looked_up as wanted_looked_up, is_shift as wanted_shift, iso_2022_jp_bytes as wanted_bytes, iso_2022_jp_reported, jis0208_pair as wanted_pair};
+ghost use Rattle.enc_encoders.specs.CharLaw.{AreBytesOf, bytes_of};
+
+use super::japanese::{is_katakana, with_wide_minus};
+use super::katakana::KATAKANA;
+use crate::bytes::Bytes;
+use crate::char_encoder::CharEncoder;
+use crate::character_set::CharacterSet;
+use crate::encoder_result::EncoderResult;
+use crate::machine::run;
+use crate::made_bytes::{one, two};
+use crate::raw_encoder::RawEncoder;
+use enc_pointers::jis0208;
+use enc_units::Chars;
+
+/// What a mappable character is.
+#[derive(Clone, Copy)]
+enum CharClass {
+    /// In ASCII and in Roman.
+    Neutral,
+    /// In ASCII alone.
+    Latin,
+    /// In Roman alone.
+    Roman,
+    /// In jis0208.
+    Kanji,
+}
+
+/// The ISO-2022-JP encoder (Encoding Standard 12.2.2). It keeps the designated character set between two calls.
+#[derive(Clone, Copy)]
+pub struct Iso2022JpEncoder {
+    set: CharacterSet,
+}
+
+/// What a character is, if it is mappable.
+fn class_of(code: u32) -> CharClass
+    ensures { result ≡ wanted_class code }
+{
+    if code == 0x5C || code == 0x7E {
+        CharClass::Latin
+    } else if code < 0x80 {
+        CharClass::Neutral
+    } else if code == 0xA5 || code == 0x203E {
+        CharClass::Roman
+    } else {
+        CharClass::Kanji
+    }
+}
+
+/// Whether a set has the characters of a class.
+fn has_class(set: CharacterSet, class: CharClass) -> bool
+    ensures { result ≡ wanted_has set class }
+{
+    match set {
+        CharacterSet::Ascii => match class {
+            CharClass::Neutral => true,
+            CharClass::Latin => true,
+            CharClass::Roman => false,
+            CharClass::Kanji => false,
+        },
+        CharacterSet::Roman => match class {
+            CharClass::Neutral => true,
+            CharClass::Latin => false,
+            CharClass::Roman => true,
+            CharClass::Kanji => false,
+        },
+        CharacterSet::Jis0208 => match class {
+            CharClass::Neutral => false,
+            CharClass::Latin => false,
+            CharClass::Roman => false,
+            CharClass::Kanji => true,
+        },
+    }
+}
+
+/// The set that is designated for a character of a class.
+fn set_of_class(class: CharClass) -> CharacterSet
+    ensures { result ≡ wanted_set class }
+{
+    match class {
+        CharClass::Neutral => CharacterSet::Ascii,
+        CharClass::Latin => CharacterSet::Ascii,
+        CharClass::Roman => CharacterSet::Roman,
+        CharClass::Kanji => CharacterSet::Jis0208,
+    }
+}
+
+/// The character that is looked up.
+fn looked_up(c: char) -> char
+    ensures { result ≡ wanted_looked_up c }
+{
+    if is_katakana(c) {
+        return KATAKANA[(c as u32 - 0xFF61) as usize];
+    }
+    with_wide_minus(c)
+}
+
+/// Shift out, shift in or escape.
+fn is_shift(code: u32) -> bool
+    ensures { result ≡ wanted_shift code }
+{
+    code == 0x0E || code == 0x0F || code == 0x1B
+}
+
+/// The two bytes of a pointer.
+fn pair(pointer: u32) -> Bytes
+    requires { pointer < 8836 }
+    ensures { bytes_of result ≡ wanted_pair pointer }
+{
+    two((pointer / 94 + 0x21) as u8, (pointer % 94 + 0x21) as u8)
+}
+
+/// The bytes of a character, if it has some.
+fn iso_2022_jp_bytes(c: char) -> Option<Bytes>
+    ensures { AreBytesOf (wanted_bytes c) result }
+{
+    let code = c as u32;
+    if code < 0x80 {
+        if is_shift(code) {
+            return None;
+        }
+        return Some(one(code as u8));
+    }
+    if code == 0xA5 {
+        return Some(one(0x5C));
+    }
+    if code == 0x203E {
+        return Some(one(0x7E));
+    }
+    match jis0208(looked_up(c)) {
+        Some(pointer) => Some(pair(pointer)),
+        None => None,
+    }
+}
+
+/// What an unmappable character is reported as.
+fn reported(c: char) -> char
+    ensures { result ≡ iso_2022_jp_reported c }
+{
+    if is_shift(c as u32) { '\u{FFFD}' } else { c }
+}
+
+impl CharEncoder for Iso2022JpEncoder {
+    ghost use Rattle.enc_encoders.specs.Iso2022Jp.{iso_2022_jp_state};
+
+    ghost state = { λ e. iso_2022_jp_state e.set };
+
+    fn bytes(self, c: char) -> Option<Bytes> {
+        iso_2022_jp_bytes(c)
+    }
+
+    fn reported(self, c: char) -> char {
+        reported(c)
+    }
+
+    fn escape_before(self, c: char) -> Option<Iso2022JpEncoder> {
+        let class = class_of(c as u32);
+        if has_class(self.set, class) {
+            return None;
+        }
+        Some(Iso2022JpEncoder {
+            set: set_of_class(class),
+        })
+    }
+
+    fn escape_at_end(self) -> Option<Iso2022JpEncoder> {
+        match self.set {
+            CharacterSet::Ascii => None,
+            CharacterSet::Roman => Some(Iso2022JpEncoder::new()),
+            CharacterSet::Jis0208 => Some(Iso2022JpEncoder::new()),
+        }
+    }
+
+    fn set(self) -> CharacterSet {
+        self.set
+    }
+}
+
+impl Iso2022JpEncoder {
+    /// An encoder at the start of a text. Takes no memory.
+    pub fn new() -> Iso2022JpEncoder
+        ensures { result.set ≡ Ascii }
+    {
+        Iso2022JpEncoder {
+            set: CharacterSet::Ascii,
+        }
+    }
+}
+
+impl RawEncoder for Iso2022JpEncoder {
+    ghost use Rattle.enc_encoders.specs.Iso2022Jp.{iso_2022_jp_state};
+
+    ghost state = { λ e. iso_2022_jp_state e.set };
+
+    fn encode<C: Chars>(
+        &mut self,
+        src: &mut C,
+        dst: &mut [u8],
+        last: bool,
+    ) -> (EncoderResult, usize, usize) {
+        run(self, src, dst, last)
+    }
+
+    fn has_pending_state(&self) -> bool {
+        match self.set {
+            CharacterSet::Ascii => false,
+            CharacterSet::Roman => true,
+            CharacterSet::Jis0208 => true,
+        }
+    }
+}

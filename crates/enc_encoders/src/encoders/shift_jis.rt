@@ -1,0 +1,73 @@
+//! The Shift_JIS encoder (Encoding Standard 12.3.2).
+
+ghost use Rattle.std.specs.Prelude.{◌≡◌, ◌<◌};
+ghost use Rattle.enc_encoders.specs.CharLaw.{bytes_of};
+ghost use Rattle.enc_encoders.specs.ShiftJis.{shift_jis_pair, shift_jis_lead, shift_jis_trail};
+
+use super::japanese::{is_katakana, katakana_byte, with_wide_minus};
+use crate::bytes::Bytes;
+use crate::made_bytes::{one, two};
+use crate::stateless::{Repertoire, StatelessEncoder};
+use enc_pointers::shift_jis;
+
+/// Shift_JIS (Encoding Standard 12.3): ASCII and U+0080, half-width katakana, and the characters of index jis0208.
+#[derive(Clone, Copy)]
+pub struct ShiftJis;
+
+/// The Shift_JIS encoder (Encoding Standard 12.3.2).
+pub type ShiftJisEncoder = StatelessEncoder<ShiftJis>;
+
+/// The first byte of a row.
+#[inline(always)]
+fn lead(row: u32) -> u8
+    requires { row < 60 }
+    ensures { result ≡ shift_jis_lead row }
+{
+    (row + (if row < 0x1F { 0x81 } else { 0xC1 })) as u8
+}
+
+/// The second byte of a cell.
+#[inline(always)]
+fn trail(cell: u32) -> u8
+    requires { cell < 188 }
+    ensures { result ≡ shift_jis_trail cell }
+{
+    (cell + (if cell < 0x3F { 0x40 } else { 0x41 })) as u8
+}
+
+/// The two bytes of a pointer.
+#[inline(always)]
+fn pair(pointer: u32) -> Bytes
+    requires { pointer < 11280 }
+    ensures { bytes_of result ≡ shift_jis_pair pointer }
+{
+    two(lead(pointer / 188), trail(pointer % 188))
+}
+
+impl Repertoire for ShiftJis {
+    ghost use Rattle.enc_encoders.specs.ShiftJis.{shift_jis_bytes};
+
+    ghost bytes_for = { λ _. shift_jis_bytes };
+
+    fn bytes_beyond_ascii(self, c: char) -> Option<Bytes> {
+        if c == '\u{80}' {
+            return Some(one(0x80));
+        }
+        if c == '\u{A5}' {
+            return Some(one(0x5C));
+        }
+        if c == '\u{203E}' {
+            return Some(one(0x7E));
+        }
+        if is_katakana(c) {
+            return Some(one(katakana_byte(c)));
+        }
+        match shift_jis(with_wide_minus(c)) {
+            Some(pointer) => Some(pair(pointer)),
+            None => None,
+        }
+    }
+
+    #[tactic(auto, using(crate::proofs::StatelessLemmas::with_ascii_writes_ascii))]
+    fn ascii(self) {}
+}

@@ -1,0 +1,47 @@
+//! The encoders of the legacy single-byte encodings (Encoding Standard 9.2).
+
+ghost use Rattle.std.specs.Prelude.{◌≡◌, ◌<◌};
+ghost use Rattle.enc_encoders.specs.CharLaw.{bytes_of};
+ghost use Rattle.enc_encoders.specs.SingleByte.{single_byte as byte_of_pointer};
+
+use crate::bytes::Bytes;
+use crate::made_bytes::one;
+use crate::stateless::{Repertoire, StatelessEncoder};
+use enc_index::SingleByteIndex;
+use enc_pointers::single_byte;
+
+/// A legacy single-byte encoding (Encoding Standard 9): ASCII, and the characters of its index.
+#[derive(Clone, Copy)]
+pub struct SingleByte {
+    /// Its index.
+    pub index: SingleByteIndex,
+}
+
+/// The encoder of a legacy single-byte encoding (Encoding Standard 9.2).
+pub type SingleByteEncoder = StatelessEncoder<SingleByte>;
+
+/// The byte of a pointer.
+#[inline(always)]
+fn upper(pointer: u32) -> Bytes
+    requires { pointer < 128 }
+    ensures { bytes_of result ≡ byte_of_pointer pointer }
+{
+    one((pointer + 0x80) as u8)
+}
+
+impl Repertoire for SingleByte {
+    ghost use Rattle.enc_encoders.specs.SingleByte.{single_byte_bytes};
+
+    ghost bytes_for = { λ r. single_byte_bytes r.index };
+
+    #[inline(always)]
+    fn bytes_beyond_ascii(self, c: char) -> Option<Bytes> {
+        match single_byte(self.index, c) {
+            Some(pointer) => Some(upper(pointer)),
+            None => None,
+        }
+    }
+
+    #[tactic(auto, using(crate::proofs::StatelessLemmas::with_ascii_writes_ascii))]
+    fn ascii(self) {}
+}

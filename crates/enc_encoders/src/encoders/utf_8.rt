@@ -1,0 +1,40 @@
+//! The UTF-8 encoder (Encoding Standard 8.1.2).
+
+ghost use Rattle.std.specs.Prelude.{◌≡◌, encode_utf8};
+ghost use Rattle.enc_encoders.specs.CharLaw.{bytes_of};
+
+use crate::bytes::Bytes;
+use crate::stateless::{Repertoire, StatelessEncoder};
+
+/// UTF-8 (Encoding Standard 8.1): every character.
+#[derive(Clone, Copy)]
+pub struct Utf8;
+
+/// The UTF-8 encoder (Encoding Standard 8.1.2).
+pub type Utf8Encoder = StatelessEncoder<Utf8>;
+
+/// The bytes of a character.
+fn utf8_bytes(c: char) -> Bytes
+    ensures { bytes_of result ≡ encode_utf8 c }
+{
+    let mut local = [0; 4];
+    let text = c.encode_utf8(&mut local).as_bytes();
+    let len = text.len();
+    let mut bytes = [0; 4];
+    bytes[..len].copy_from_slice(text);
+    Bytes { bytes, len }
+}
+
+impl Repertoire for Utf8 {
+    ghost use Rattle.enc_encoders.specs.Utf8.{utf_8_bytes};
+
+    ghost bytes_for = { λ _. utf_8_bytes };
+
+    #[inline(always)]
+    fn bytes_beyond_ascii(self, c: char) -> Option<Bytes> {
+        Some(utf8_bytes(c))
+    }
+
+    #[tactic(auto, using(crate::proofs::StatelessLemmas::utf_8_writes_ascii))]
+    fn ascii(self) {}
+}

@@ -1,0 +1,29 @@
+//! The x-user-defined encoder (Encoding Standard 14.5.2).
+
+use crate::bytes::Bytes;
+use crate::made_bytes::one;
+use crate::stateless::{Repertoire, StatelessEncoder};
+
+/// x-user-defined (Encoding Standard 14.5): ASCII, and U+F780 to U+F7FF.
+#[derive(Clone, Copy)]
+pub struct XUserDefined;
+
+/// The x-user-defined encoder (Encoding Standard 14.5.2).
+pub type XUserDefinedEncoder = StatelessEncoder<XUserDefined>;
+
+impl Repertoire for XUserDefined {
+    ghost use Rattle.enc_encoders.specs.SingleByte.{x_user_defined_bytes};
+
+    ghost bytes_for = { λ _. x_user_defined_bytes };
+
+    fn bytes_beyond_ascii(self, c: char) -> Option<Bytes> {
+        let c = c as u32;
+        if 0xF780 <= c && c <= 0xF7FF {
+            return Some(one((c - 0xF780 + 0x80) as u8));
+        }
+        None
+    }
+
+    #[tactic(auto, using(crate::proofs::StatelessLemmas::with_ascii_writes_ascii))]
+    fn ascii(self) {}
+}

@@ -1,0 +1,103 @@
+//! The loop over the characters of one call, for every encoder and every input.
+
+ghost use Rattle.std.specs.Prelude.{◌≡◌, ℕ, ◌+◌, ◌-◌, ◌<◌, ◌≤◌, ◌++◌, length, take, drop, IsTrue, IsFalse};
+ghost use Rattle.enc_encoders.specs.CharLaw.{Acts, IsAtEnd, IsComing, bytes_of};
+ghost use Rattle.enc_encoders.specs.Call.{CallInto};
+ghost use Rattle.enc_encoders.specs.EncoderRule.{IsLawful};
+ghost use Rattle.enc_encoders.specs.Text.{KeepsText};
+
+use crate::bytes::Bytes;
+use crate::char_encoder::CharEncoder;
+use crate::character_set::CharacterSet;
+use crate::encoder_result::EncoderResult;
+use crate::step::Taken;
+use crate::taken::{first_written, take_char, take_escape};
+use enc_units::Chars;
+
+/// The first step that the next character leads to.
+#[inline(always)]
+fn next_step<E: CharEncoder>(encoder: E, c: char) -> Taken<E>
+    ensures { Acts E.state encoder c result }
+{
+    let found = encoder.bytes(c);
+    match encoder.escape_before(first_written(c, found)) {
+        Some(next) => take_escape(next, next.set()),
+        None => take_char(encoder, encoder.reported(c), found),
+    }
+}
+
+/// The step that the end of the text leads to.
+fn step_at_end<E: CharEncoder>(encoder: E) -> Option<Taken<E>>
+    ensures { IsAtEnd E.state encoder result }
+{
+    match encoder.escape_at_end() {
+        Some(next) => Some(take_escape(next, CharacterSet::Ascii)),
+        None => None,
+    }
+}
+
+/// What comes next: a step that the next character leads to, or the end of the text, or nothing.
+#[inline(always)]
+fn what_comes<E: CharEncoder, C: Chars>(encoder: E, src: &C, last: bool) -> Option<Taken<E>>
+    ensures { IsComing E.state encoder (C.rest src.now) last result }
+{
+    match src.peek() {
+        Some((c, _)) => Some(next_step(encoder, c)),
+        None => { if last { step_at_end(encoder) } else { None } }
+    }
+}
+
+/// Writes some bytes behind those that are written, or nothing where they don't fit.
+#[inline(always)]
+fn put(dst: &mut [u8], written: usize, bytes: Bytes) -> bool
+    requires { written ≤ length dst.old }
+    ensures count { bytes.len ≡ length (bytes_of bytes) }
+    ensures fits { IsTrue result → written + length (bytes_of bytes) ≤ length dst.old }
+    ensures full { IsFalse result → length dst.old < written + length (bytes_of bytes) }
+    ensures put { IsTrue result → dst.new ≡ take written dst.old ++ (bytes_of bytes ++ drop (written + length (bytes_of bytes)) dst.old) }
+    ensures unchanged { IsFalse result → dst.new ≡ dst.old }
+{
+    if bytes.len > dst.len() - written {
+        return false;
+    }
+    dst[written..written + bytes.len].copy_from_slice(&bytes.bytes[..bytes.len]);
+    true
+}
+
+/// The call of every encoder that takes one character at a time. Takes no memory.
+pub fn run<E: CharEncoder, C: Chars>(
+    encoder: &mut E,
+    src: &mut C,
+    dst: &mut [u8],
+    last: bool,
+) -> (EncoderResult, usize, usize)
+    requires lawful { IsLawful (E.state encoder.old).rule }
+    ensures call { CallInto C.units_of (E.state encoder.old) (E.state encoder.new) (C.rest src.old) (C.rest src.new) last
+        dst.old dst.new result.0 result.1 result.2 }
+    ensures text { KeepsText (E.state encoder.old) (E.state encoder.new) (C.rest src.old) (C.rest src.new) last result.0
+        (take result.2 dst.new) }
+{
+    let unread = src.unread();
+    let mut state = *encoder;
+    let mut written = 0;
+    loop {
+        let Some(taken) = what_comes(state, src, last) else {
+            *encoder = state;
+            return (EncoderResult::InputEmpty, unread - src.unread(), written);
+        };
+        if let Some(c) = taken.report {
+            src.advance();
+            *encoder = taken.next;
+            return (EncoderResult::Unmappable(c), unread - src.unread(), written);
+        }
+        if !put(dst, written, taken.bytes) {
+            *encoder = state;
+            return (EncoderResult::OutputFull, unread - src.unread(), written);
+        }
+        if taken.reads {
+            src.advance();
+        }
+        written += taken.bytes.len;
+        state = taken.next;
+    }
+}

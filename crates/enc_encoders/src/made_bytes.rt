@@ -1,0 +1,64 @@
+//! Bytes made of one, two and four.
+
+ghost use Rattle.std.specs.Prelude.{◌≡◌, [], ◌∷◌};
+ghost use Rattle.enc_encoders.specs.CharLaw.{bytes_of};
+ghost use Rattle.enc_encoders.specs.Text.{escape as escape_bytes};
+
+use crate::bytes::Bytes;
+use crate::character_set::CharacterSet;
+
+/// No byte.
+#[inline(always)]
+pub fn none() -> Bytes
+    ensures { bytes_of result ≡ [] }
+{
+    Bytes {
+        bytes: [0; 4],
+        len: 0,
+    }
+}
+
+/// One byte.
+#[inline(always)]
+pub fn one(a: u8) -> Bytes
+    ensures { bytes_of result ≡ a ∷ [] }
+{
+    Bytes {
+        bytes: [a, 0, 0, 0],
+        len: 1,
+    }
+}
+
+/// Two bytes.
+#[inline(always)]
+pub fn two(a: u8, b: u8) -> Bytes
+    ensures { bytes_of result ≡ a ∷ b ∷ [] }
+{
+    Bytes {
+        bytes: [a, b, 0, 0],
+        len: 2,
+    }
+}
+
+/// Four bytes.
+#[inline(always)]
+pub fn four(a: u8, b: u8, c: u8, d: u8) -> Bytes
+    ensures { bytes_of result ≡ a ∷ b ∷ c ∷ d ∷ [] }
+{
+    Bytes {
+        bytes: [a, b, c, d],
+        len: 4,
+    }
+}
+
+/// The escape sequence that designates a set (Encoding Standard 12.2.2).
+pub fn escape(set: CharacterSet) -> Bytes
+    ensures { bytes_of result ≡ escape_bytes set }
+{
+    let bytes = match set {
+        CharacterSet::Ascii => [0x1B, 0x28, 0x42, 0],
+        CharacterSet::Roman => [0x1B, 0x28, 0x4A, 0],
+        CharacterSet::Jis0208 => [0x1B, 0x24, 0x42, 0],
+    };
+    Bytes { bytes, len: 3 }
+}

@@ -1,0 +1,16 @@
+//! A step that a call takes.
+
+use crate::bytes::Bytes;
+
+/// A step that comes next.
+#[derive(Clone, Copy)]
+pub struct Taken<E> {
+    /// What it writes.
+    pub bytes: Bytes,
+    /// Whether the character is read with it.
+    pub reads: bool,
+    /// What is reported, where the character is unmappable.
+    pub report: Option<char>,
+    /// The encoder behind it.
+    pub next: E,
+}
