@@ -6,6 +6,7 @@ pub mod EndLemmas
 pub mod WholeLemmas
 pub mod RunLemmas
 pub mod EncodingLemmas
+pub mod EncoderLemmas
 pub mod Latin1Lemmas
 pub mod LabelLemmas
 pub mod WellFormedLemmas

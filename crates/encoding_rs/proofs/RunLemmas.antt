@@ -1,5 +1,5 @@
 -- A run goes on by one call.
-use Rattle.std.proofs.Common.{◌≡◌, ℕ, ◌+◌, ◌-◌, ◌<◌, ◌≤◌, Bool, true, false, true≢false, List, [], ◌∷◌, ◌++◌, map, length, take, drop, refl, ap, ◌∙◌, sym, arith, append_assoc, ◌||◌, ◌&&◌, subst, nat_le, append-nil, get_or}
+use Rattle.std.proofs.Common.{◌≡◌, ℕ, ◌+◌, ◌<◌, ◌≤◌, Bool, true, false, true≢false, List, [], ◌∷◌, ◌++◌, map, length, take, drop, refl, ap, ◌∙◌, sym, arith, append_assoc, ◌||◌, subst, nat_le, append-nil, get_or}
 use Rattle.std.proofs.lemmas.Bool.{and_parts, not-true}
 use Rattle.std.proofs.lemmas.Bool.Decides.{nat_tests}
 use Rattle.std.proofs.lemmas.List.{take-append-drop, drop-append-le, drop-drop, take_more, take_min, length-append}
@@ -11,12 +11,9 @@ use Rattle.std.specs.Char.Escape.{encode_utf16}
 use Rattle.std.specs.Char.Utf16.{utf16_lossy_chars}
 use Rattle.std.specs.Str.{encode_utf8_all}
 use Rattle.encoding_rs.specs.declared.bom.BomHandling.{BomHandling}
-use Rattle.encoding_rs.specs.declared.bom.BomHandling.TheVariants.{Off, Sniff, Remove}
 use Rattle.encoding_rs.specs.declared.encoding.Encoding.{Encoding}
-use Rattle.encoding_rs.specs.declared.encoding.Id.{Id}
-use Rattle.encoding_rs.specs.declared.encoding.Id.TheVariants.{Utf8, Utf16be, Utf16le}
 use Rattle.encoding_rs.specs.declared.life_cycle.LifeCycle.{LifeCycle}
-use Rattle.encoding_rs.specs.declared.life_cycle.LifeCycle.TheVariants.{AtStart, SeenUtf8Second, ConvertingWithPendingBb, Converting, Finished}
+use Rattle.encoding_rs.specs.declared.life_cycle.LifeCycle.TheVariants.{SeenUtf8Second, ConvertingWithPendingBb, Converting}
 use Rattle.enc_machine.specs.declared.decoder_result.DecoderResult.{DecoderResult}
 use Rattle.enc_machine.specs.declared.decoder_result.DecoderResult.TheVariants.{InputEmpty, OutputFull, Malformed}
 use Rattle.encoding_rs.specs.declared.run.DecodeCall.{DecodeCall}
@@ -24,10 +21,10 @@ use Rattle.enc_units.specs.Output.{AreScalars, DetermineTexts, units_of_text}
 use Rattle.enc_machine.specs.Sequence.{Sequence, bytes_of, text_of, is_malformed, any_malformed}
 use Rattle.enc_machine.specs.Call.{Treatment, Replaced, Reported, is_end, is_replaced, Stops}
 use Rattle.encoding_rs.specs.Encodings.{rule_of}
-use Rattle.encoding_rs.specs.Bom.{own_marks, marks_looked_for, find_mark, sequences_by}
-use Rattle.encoding_rs.specs.LifeCycle.{Within, phase_of, mark_bytes, sequences_in, fronts, state_at, left_behind, state_behind, life_after}
+use Rattle.encoding_rs.specs.Bom.{marks_looked_for, find_mark}
+use Rattle.encoding_rs.specs.LifeCycle.{Within, phase_of, mark_bytes, sequences_in, left_behind, state_behind, life_after}
 use Rattle.enc_calls.specs.Replacing.{treatment_of}
-use Rattle.encoding_rs.specs.Decoding.{DecoderState, has_ended, finished, removal_start, fresh, remaining_sequences, decoder_remainder, whole_sequences, whole_utf_8, whole_malformed, Decodes}
+use Rattle.encoding_rs.specs.Decoding.{DecoderState, finished, fresh, remaining_sequences, decoder_remainder, whole_sequences, whole_utf_8, whole_malformed, Decodes}
 use Rattle.encoding_rs.specs.Run.{units_by, is_reported, text_for, fault_of, AnswersCall, MakesCall, RunState, GoesOn, IsRun, faults_from, whole_start, whole_faults, Part, done_of, reported_from, all_report, HasRun}
 use Rattle.enc_units.proofs.UnitsLemmas.{utf_8_determines, utf_16_determines, utf_16_read_back}
 use Rattle.enc_units.proofs.Utf8CharsLemmas.{their_units}

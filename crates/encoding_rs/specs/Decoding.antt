@@ -13,7 +13,6 @@ use Rattle.encoding_rs.specs.declared.life_cycle.LifeCycle.TheVariants.{AtStart,
 use Rattle.enc_machine.specs.declared.decoder_result.DecoderResult.{DecoderResult}
 use Rattle.enc_machine.specs.declared.decoder_result.DecoderResult.TheVariants as raw
 use Rattle.enc_calls.specs.declared.coder_result.CoderResult.{CoderResult}
-use Rattle.enc_calls.specs.declared.coder_result.CoderResult.TheVariants.{InputEmpty, OutputFull}
 use Rattle.enc_units.specs.Output.{Output, appended, units_of_text}
 use Rattle.enc_machine.specs.Sequence.{Sequence, bytes_of, text_of, any_malformed, set_after}
 use Rattle.enc_machine.specs.CodecState.{CodecState}

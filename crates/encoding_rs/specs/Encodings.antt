@@ -1,64 +1,72 @@
--- The rule of each encoding (Encoding Standard 4.2, table of names).
-use Rattle.enc_index.specs.declared.data.single_byte.TheConstants.{IBM866_RUNS, ISO_8859_10_RUNS, ISO_8859_13_RUNS, ISO_8859_14_RUNS, ISO_8859_15_RUNS, ISO_8859_16_RUNS, ISO_8859_2_RUNS, ISO_8859_3_RUNS, ISO_8859_4_RUNS, ISO_8859_5_RUNS, ISO_8859_6_RUNS, ISO_8859_7_RUNS, ISO_8859_8_RUNS, KOI8_R_RUNS, KOI8_U_RUNS, MACINTOSH_RUNS, WINDOWS_1250_RUNS, WINDOWS_1251_RUNS, WINDOWS_1252_RUNS, WINDOWS_1253_RUNS, WINDOWS_1254_RUNS, WINDOWS_1255_RUNS, WINDOWS_1256_RUNS, WINDOWS_1257_RUNS, WINDOWS_1258_RUNS, WINDOWS_874_RUNS, X_MAC_CYRILLIC_RUNS}
+-- The codec of each encoding, and with it the rules by which it is read and written (Encoding Standard 4.2, table of names).
+use Rattle.std.specs.Prelude.{Option, Some, None}
 use Rattle.enc_machine.specs.Segmentation.{Rule}
-use Rattle.enc_utf.specs.Utf8.{utf_8_rule}
-use Rattle.enc_utf.specs.Utf16.{utf_16_rule}
-use Rattle.enc_single_byte.specs.OneByte.{one_byte_rule, single_byte_char, x_user_defined_char}
-use Rattle.enc_multi_byte.specs.MultiByte.{multi_byte_rule}
-use Rattle.enc_multi_byte.specs.Gb18030.{gb18030_prefix}
-use Rattle.enc_multi_byte.specs.Big5.{big5_prefix}
-use Rattle.enc_multi_byte.specs.EucJp.{euc_jp_prefix}
-use Rattle.enc_multi_byte.specs.ShiftJis.{shift_jis_prefix}
-use Rattle.enc_multi_byte.specs.EucKr.{euc_kr_prefix}
-use Rattle.enc_single_byte.specs.Replacement.{replacement_rule}
-use Rattle.enc_iso_2022_jp.specs.Iso2022Jp.{iso_2022_jp_rule}
-use Rattle.std.specs.Prelude.{true, false}
+use Rattle.enc_index.specs.declared.single_byte_index.SingleByteIndex.TheVariants as index
+use Rattle.enc_codec.specs.declared.codec.Codec.{Codec}
+use Rattle.enc_codec.specs.declared.codec.Codec.TheVariants as codec
+use Rattle.enc_codec.specs.Codecs.{codec_rule}
+use Rattle.enc_encoders.specs.EncoderRule.{EncoderRule}
+use Rattle.enc_encoders.specs.Stateless.{stateless}
+use Rattle.enc_encoders.specs.Utf8.{utf_8_bytes}
+use Rattle.enc_encode.specs.Encoders.{encoder_rule}
 use Rattle.encoding_rs.specs.declared.encoding.Id.{Id}
 use Rattle.encoding_rs.specs.declared.encoding.Id.TheVariants.{Utf8, Ibm866, Iso88592, Iso88593, Iso88594, Iso88595, Iso88596, Iso88597, Iso88598, Iso88598I, Iso885910, Iso885913, Iso885914, Iso885915, Iso885916, Koi8R, Koi8U, Macintosh, Windows874, Windows1250, Windows1251, Windows1252, Windows1253, Windows1254, Windows1255, Windows1256, Windows1257, Windows1258, XMacCyrillic, Gbk, Gb18030, Big5, EucJp, ShiftJis, EucKr, Iso2022Jp, Replacement, Utf16be, Utf16le, XUserDefined}
 use Rattle.encoding_rs.specs.declared.encoding.Encoding.{Encoding}
 
-abbrev pub rule_by_id : Id → Rule
-rule_by_id Utf8 = utf_8_rule
-rule_by_id Ibm866 = one_byte_rule (single_byte_char IBM866_RUNS.now)
-rule_by_id Iso88592 = one_byte_rule (single_byte_char ISO_8859_2_RUNS.now)
-rule_by_id Iso88593 = one_byte_rule (single_byte_char ISO_8859_3_RUNS.now)
-rule_by_id Iso88594 = one_byte_rule (single_byte_char ISO_8859_4_RUNS.now)
-rule_by_id Iso88595 = one_byte_rule (single_byte_char ISO_8859_5_RUNS.now)
-rule_by_id Iso88596 = one_byte_rule (single_byte_char ISO_8859_6_RUNS.now)
-rule_by_id Iso88597 = one_byte_rule (single_byte_char ISO_8859_7_RUNS.now)
-rule_by_id Iso88598 = one_byte_rule (single_byte_char ISO_8859_8_RUNS.now)
-rule_by_id Iso88598I = one_byte_rule (single_byte_char ISO_8859_8_RUNS.now)
-rule_by_id Iso885910 = one_byte_rule (single_byte_char ISO_8859_10_RUNS.now)
-rule_by_id Iso885913 = one_byte_rule (single_byte_char ISO_8859_13_RUNS.now)
-rule_by_id Iso885914 = one_byte_rule (single_byte_char ISO_8859_14_RUNS.now)
-rule_by_id Iso885915 = one_byte_rule (single_byte_char ISO_8859_15_RUNS.now)
-rule_by_id Iso885916 = one_byte_rule (single_byte_char ISO_8859_16_RUNS.now)
-rule_by_id Koi8R = one_byte_rule (single_byte_char KOI8_R_RUNS.now)
-rule_by_id Koi8U = one_byte_rule (single_byte_char KOI8_U_RUNS.now)
-rule_by_id Macintosh = one_byte_rule (single_byte_char MACINTOSH_RUNS.now)
-rule_by_id Windows874 = one_byte_rule (single_byte_char WINDOWS_874_RUNS.now)
-rule_by_id Windows1250 = one_byte_rule (single_byte_char WINDOWS_1250_RUNS.now)
-rule_by_id Windows1251 = one_byte_rule (single_byte_char WINDOWS_1251_RUNS.now)
-rule_by_id Windows1252 = one_byte_rule (single_byte_char WINDOWS_1252_RUNS.now)
-rule_by_id Windows1253 = one_byte_rule (single_byte_char WINDOWS_1253_RUNS.now)
-rule_by_id Windows1254 = one_byte_rule (single_byte_char WINDOWS_1254_RUNS.now)
-rule_by_id Windows1255 = one_byte_rule (single_byte_char WINDOWS_1255_RUNS.now)
-rule_by_id Windows1256 = one_byte_rule (single_byte_char WINDOWS_1256_RUNS.now)
-rule_by_id Windows1257 = one_byte_rule (single_byte_char WINDOWS_1257_RUNS.now)
-rule_by_id Windows1258 = one_byte_rule (single_byte_char WINDOWS_1258_RUNS.now)
-rule_by_id XMacCyrillic = one_byte_rule (single_byte_char X_MAC_CYRILLIC_RUNS.now)
-rule_by_id Gbk = multi_byte_rule gb18030_prefix
-rule_by_id Gb18030 = multi_byte_rule gb18030_prefix
-rule_by_id Big5 = multi_byte_rule big5_prefix
-rule_by_id EucJp = multi_byte_rule euc_jp_prefix
-rule_by_id ShiftJis = multi_byte_rule shift_jis_prefix
-rule_by_id EucKr = multi_byte_rule euc_kr_prefix
-rule_by_id Replacement = replacement_rule
-rule_by_id Utf16be = utf_16_rule true
-rule_by_id Utf16le = utf_16_rule false
-rule_by_id XUserDefined = one_byte_rule x_user_defined_char
-rule_by_id Iso2022Jp = iso_2022_jp_rule
+abbrev pub codec_by_id : Id → Codec
+codec_by_id Utf8 = codec.Utf8
+codec_by_id Ibm866 = codec.SingleByte index.Ibm866
+codec_by_id Iso88592 = codec.SingleByte index.Iso88592
+codec_by_id Iso88593 = codec.SingleByte index.Iso88593
+codec_by_id Iso88594 = codec.SingleByte index.Iso88594
+codec_by_id Iso88595 = codec.SingleByte index.Iso88595
+codec_by_id Iso88596 = codec.SingleByte index.Iso88596
+codec_by_id Iso88597 = codec.SingleByte index.Iso88597
+codec_by_id Iso88598 = codec.SingleByte index.Iso88598
+codec_by_id Iso88598I = codec.SingleByte index.Iso88598
+codec_by_id Iso885910 = codec.SingleByte index.Iso885910
+codec_by_id Iso885913 = codec.SingleByte index.Iso885913
+codec_by_id Iso885914 = codec.SingleByte index.Iso885914
+codec_by_id Iso885915 = codec.SingleByte index.Iso885915
+codec_by_id Iso885916 = codec.SingleByte index.Iso885916
+codec_by_id Koi8R = codec.SingleByte index.Koi8R
+codec_by_id Koi8U = codec.SingleByte index.Koi8U
+codec_by_id Macintosh = codec.SingleByte index.Macintosh
+codec_by_id Windows874 = codec.SingleByte index.Windows874
+codec_by_id Windows1250 = codec.SingleByte index.Windows1250
+codec_by_id Windows1251 = codec.SingleByte index.Windows1251
+codec_by_id Windows1252 = codec.SingleByte index.Windows1252
+codec_by_id Windows1253 = codec.SingleByte index.Windows1253
+codec_by_id Windows1254 = codec.SingleByte index.Windows1254
+codec_by_id Windows1255 = codec.SingleByte index.Windows1255
+codec_by_id Windows1256 = codec.SingleByte index.Windows1256
+codec_by_id Windows1257 = codec.SingleByte index.Windows1257
+codec_by_id Windows1258 = codec.SingleByte index.Windows1258
+codec_by_id XMacCyrillic = codec.SingleByte index.XMacCyrillic
+codec_by_id Gbk = codec.Gbk
+codec_by_id Gb18030 = codec.Gb18030
+codec_by_id Big5 = codec.Big5
+codec_by_id EucJp = codec.EucJp
+codec_by_id ShiftJis = codec.ShiftJis
+codec_by_id EucKr = codec.EucKr
+codec_by_id Replacement = codec.Replacement
+codec_by_id Utf16be = codec.Utf16Be
+codec_by_id Utf16le = codec.Utf16Le
+codec_by_id XUserDefined = codec.XUserDefined
+codec_by_id Iso2022Jp = codec.Iso2022Jp
 
--- the rule of an encoding
+abbrev pub rule_by_id : Id → Rule
+rule_by_id id = codec_rule (codec_by_id id)
+
+-- the rule by which an encoding is read
 abbrev pub rule_of : Encoding → Rule
 rule_of e = rule_by_id e.id
+
+abbrev pub or_utf_8 : Option EncoderRule → EncoderRule
+or_utf_8 None = stateless utf_8_bytes
+or_utf_8 (Some rule) = rule
+
+-- the rule by which a text is written where this encoding is asked for: its own, or UTF-8's if it has no encoder (4.3, "get
+-- an output encoding")
+abbrev pub output_rule : Encoding → EncoderRule
+output_rule e = or_utf_8 (encoder_rule (codec_by_id e.id))

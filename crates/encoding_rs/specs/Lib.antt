@@ -9,3 +9,4 @@ pub mod Run
 pub mod Names
 pub mod Labels
 pub mod Properties
+pub mod Encoder

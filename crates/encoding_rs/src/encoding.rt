@@ -1,8 +1,7 @@
 //! The encodings (Encoding Standard 4.2).
 
 ghost use Rattle.std.specs.Prelude.{◌≡◌};
-ghost use Rattle.enc_codec.specs.Codecs.{codec_rule};
-ghost use Rattle.encoding_rs.specs.Encodings.{rule_of};
+ghost use Rattle.encoding_rs.specs.Encodings.{codec_by_id};
 
 use enc_codec::Codec;
 use enc_index::SingleByteIndex;
@@ -322,10 +321,9 @@ pub const ISO_2022_JP: Encoding = Encoding { id: Id::Iso2022Jp };
 /// The same as [`ISO_2022_JP`].
 pub const ISO_2022_JP_INIT: Encoding = ISO_2022_JP;
 
-/// Which decoder an encoding has.
-#[tactic(auto, unfolding(enc_index::specs::Runs::single_byte_runs))]
+/// Which codec an encoding has.
 pub fn codec_of(encoding: Encoding) -> Codec
-    ensures { codec_rule result ≡ rule_of encoding }
+    ensures { result ≡ codec_by_id encoding.id }
 {
     match encoding.id {
         Id::Utf8 => Codec::Utf8,

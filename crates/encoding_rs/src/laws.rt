@@ -1,9 +1,10 @@
 //! Laws over the definitions, each the contract of a function that does nothing, or only what the law speaks of.
 
-ghost use Rattle.std.specs.Prelude.{◌≡◌, ◌≢◌, ◌↔◌, ℕ, false, IsTrue, List, ◌∷◌, ◌++◌, Some, map, length};
+ghost use Rattle.std.specs.Prelude.{◌≡◌, ◌≢◌, ◌↔◌, ℕ, true, false, is_some, IsTrue, List, ◌∷◌, ◌++◌, Some, map, length};
 ghost use Rattle.encoding_rs.specs.declared.bom.BomHandling.TheVariants as handling;
 ghost use Rattle.encoding_rs.specs.Bom.{marks_looked_for, find_mark};
-ghost use Rattle.encoding_rs.specs.Encodings.{rule_of};
+ghost use Rattle.enc_encode.specs.Encoders.{encoder_rule};
+ghost use Rattle.encoding_rs.specs.Encodings.{codec_by_id, rule_of};
 ghost use Rattle.encoding_rs.specs.LifeCycle.{mark_bytes, encoding_by};
 ghost use Rattle.encoding_rs.specs.MarkLaws.{MayBeginMark, behind as behind_mark};
 ghost use Rattle.encoding_rs.specs.Decoding.{whole_sequences, whole_malformed};
@@ -125,9 +126,10 @@ pub fn iso_8859_8_differs()
     ensures { ISO_8859_8 ≢ ISO_8859_8_I }
 {}
 
-/// The output encoding of an output encoding is itself.
+/// The output encoding of an output encoding is itself, and it has an encoder.
 pub fn output_encodings_are_their_own(encoding: Encoding)
-    ensures { output_encoding_of (output_encoding_of encoding) ≡ output_encoding_of encoding }
+    ensures same { output_encoding_of (output_encoding_of encoding) ≡ output_encoding_of encoding }
+    ensures encoder { is_some (encoder_rule (codec_by_id (output_encoding_of encoding).id)) ≡ true }
 {
     let _ = encoding;
 }

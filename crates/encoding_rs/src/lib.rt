@@ -1,10 +1,11 @@
 //! Character encodings, as callers use them: a [`Decoder`] converts a stream of bytes, in chunks of any size,
-//! into text, in buffers of any size, for the encodings of the WHATWG Encoding Standard. An [`Encoding`] is found by
-//! its constant, by a label or by a byte order mark.
+//! into text, in buffers of any size, for the encodings of the WHATWG Encoding Standard, and an [`Encoder`] text into
+//! bytes. An [`Encoding`] is found by its constant, by a label or by a byte order mark.
 #![tactic(auto)]
 
 mod bom;
 mod decoder;
+mod encoder;
 mod encoding;
 mod labels;
 pub mod laws;
@@ -18,6 +19,8 @@ mod validity;
 pub use decoder::Decoder;
 pub use enc_calls::CoderResult;
 pub use enc_codec::DecoderResult;
+pub use enc_encode::EncoderResult;
+pub use encoder::Encoder;
 pub use encoding::{
     BIG5, BIG5_INIT, EUC_JP, EUC_JP_INIT, EUC_KR, EUC_KR_INIT, Encoding, GB18030, GB18030_INIT,
     GBK, GBK_INIT, IBM866, IBM866_INIT, ISO_2022_JP, ISO_2022_JP_INIT, ISO_8859_2, ISO_8859_2_INIT,

@@ -1,4 +1,4 @@
-use Rattle.std.proofs.Common.{◌∙◌, sym, arith, rules}
+use Rattle.std.proofs.Common.{rules}
 use Rattle.encoding_rs.proofs.RunLemmas.{answers, replaces, reporting}
 use Rattle.encoding_rs.proofs.run.call_to_utf8.Goals as goal
 

@@ -1,4 +1,4 @@
-use Rattle.std.proofs.Common.{◌||◌, take, arith, true≢false, refl, sym, ap, ◌∙◌}
+use Rattle.std.proofs.Common.{take, arith, true≢false, refl, sym, ◌∙◌}
 use Rattle.encoding_rs.proofs.EndLemmas.{fresh_open}
 use Rattle.encoding_rs.proofs.RunLemmas.{start, decodes_on, within_on, all_read, runs_next, takes_next, has_run, whole_text, whole_flag, whole_places}
 use Rattle.encoding_rs.proofs.run.decode_run.Goals as goal

@@ -1,5 +1,5 @@
 use Rattle.std.proofs.Common.{length, refl, rules}
-use Rattle.std.specs.String.{string_bytes, string_len, string_capacity}
+use Rattle.std.specs.String.{string_bytes}
 use Rattle.encoding_rs.proofs.FullLemmas.{over_text, in_front, four_bytes}
 use Rattle.encoding_rs.proofs.decoder.Decoder.decode_to_string.Goals as goal
 

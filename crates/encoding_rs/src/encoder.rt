@@ -1,0 +1,117 @@
+//! Encoders.
+
+ghost use Rattle.std.specs.Prelude.{◌≡◌, chars};
+ghost use Rattle.std.specs.Char.{encode_utf8};
+ghost use Rattle.std.specs.Char.Escape.{encode_utf16};
+ghost use Rattle.std.specs.Char.Utf16.{utf16_lossy_chars};
+ghost use Rattle.enc_encoders.specs.EncoderRule.{is_pending};
+ghost use Rattle.encoding_rs.specs.Encoder.{EncodesInto, fresh_encoder};
+
+use crate::encoding::{Encoding, codec_of};
+use enc_encode::{EncoderResult, RawEncoder, VariantEncoder, new_encoder};
+use enc_units::{Chars, Utf8Chars, Utf16Chars};
+use std::marker::Model;
+
+/// Converts a text, in chunks of any size, into the bytes of an encoding, in buffers of any size (Encoding Standard 4.1).
+///
+/// However the text is cut between characters and whatever rooms the calls have, what has come out is a beginning of the
+/// bytes that the whole text has, where the caller puts a decimal reference in the place of each character that is
+/// reported as unmappable. Between two calls it keeps the designated character set, which only ISO-2022-JP has.
+#[derive(Drop)]
+pub struct Encoder {
+    encoding: Encoding,
+    raw: VariantEncoder,
+}
+
+impl Model for Encoder {
+    ghost use Rattle.std.specs.Prelude.{◌≡◌};
+    ghost use Rattle.enc_encode.specs.Variant.{variant_state};
+    ghost use Rattle.encoding_rs.specs.Encodings.{output_rule};
+    ghost use Rattle.encoding_rs.specs.Encoder.{EncoderState};
+
+    ghost Value = { EncoderState };
+
+    ghost view = { λ e. record { encoding = e.encoding; set = (variant_state e.raw).set } };
+
+    ghost invariant = { λ e. (variant_state e.raw).rule ≡ output_rule e.encoding };
+}
+
+impl Encoding {
+    /// An encoder of its output encoding (Encoding Standard 4.3, "get an output encoding"): UTF-8 for UTF-16BE, UTF-16LE and
+    /// replacement, and itself for all others. It is at the start of a text. Takes no memory.
+    pub fn new_encoder(self) -> Encoder
+        ensures { result ≡ fresh_encoder self }
+    {
+        let encoding = self.output_encoding();
+        Encoder {
+            encoding,
+            raw: new_encoder(codec_of(encoding)),
+        }
+    }
+}
+
+impl Encoder {
+    /// The encoding that it writes, which is an output encoding. Takes no memory.
+    pub fn encoding(&self) -> Encoding
+        ensures { result ≡ self.now.encoding }
+    {
+        self.encoding
+    }
+
+    /// Whether another character set than ASCII is designated, so that an escape sequence is still to come at the end of the
+    /// text: in ISO-2022-JP alone. Takes no memory.
+    pub fn has_pending_state(&self) -> bool
+        ensures { result ≡ is_pending self.now.set }
+    {
+        self.raw.has_pending_state()
+    }
+
+    /// Encodes the characters of an input.
+    fn encode_without_replacement<C: Chars>(
+        &mut self,
+        src: &mut C,
+        dst: &mut [u8],
+        last: bool,
+    ) -> (EncoderResult, usize, usize)
+        ensures { EncodesInto C.units_of self.old self.new (C.rest src.old) last dst.old dst.new result.0 result.1 result.2 }
+    {
+        self.raw.encode(src, dst, last)
+    }
+
+    /// Encodes a text, up to an unmappable character. It answers why it stopped, how many bytes of `src` it has read, and
+    /// how many bytes of `dst` it has written.
+    ///
+    /// - `InputEmpty`: all of `src` is read. With `last` the text is ended, and the encoder is at the start of another.
+    /// - `OutputFull`: the bytes that come next don't fit. Their character is unread.
+    /// - `Unmappable`: the encoding has no bytes for the last character that was read. This is it, or in ISO-2022-JP U+FFFD
+    ///   for U+000E, U+000F and U+001B. A caller who puts `&#` and its decimal number and `;` there gets what calls with
+    ///   replacement give; the encoder has ASCII designated for it.
+    ///
+    /// Any room will do, 0 too; four bytes are enough to go on. The bytes of a character are written together; an escape
+    /// sequence before it may be written by itself. The bytes of `dst` behind those written stay. Takes no memory.
+    pub fn encode_from_utf8_without_replacement(
+        &mut self,
+        src: &str,
+        dst: &mut [u8],
+        last: bool,
+    ) -> (EncoderResult, usize, usize)
+        ensures { EncodesInto encode_utf8 self.old self.new (chars src.now) last dst.old dst.new result.0 result.1 result.2 }
+    {
+        let mut chars = Utf8Chars::new(src);
+        self.encode_without_replacement(&mut chars, dst, last)
+    }
+
+    /// The same from UTF-16, read in code units. A surrogate without its partner in `src` is U+FFFD, and so are both halves
+    /// of a pair that two calls are offered one each.
+    pub fn encode_from_utf16_without_replacement(
+        &mut self,
+        src: &[u16],
+        dst: &mut [u8],
+        last: bool,
+    ) -> (EncoderResult, usize, usize)
+        ensures { EncodesInto encode_utf16 self.old self.new (utf16_lossy_chars src.now) last dst.old dst.new result.0 result.1 result.2 }
+    {
+        let mut chars = Utf16Chars::new(src);
+        self.encode_without_replacement(&mut chars, dst, last)
+    }
+}
