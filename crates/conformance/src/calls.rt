@@ -33,6 +33,20 @@ fn decodes_in_chunks(rt: HostRuntime) {
     assert_eq!(rt; &text[..3], "日".as_bytes());
 }
 
+// The README shows this.
+#[test]
+fn encodes_in_chunks(rt: HostRuntime) {
+    let mut bytes = [0; 8];
+    let mut encoder = ISO_2022_JP.new_encoder();
+    // an escape sequence and two bytes for one character; the escape sequence at the end is still to come
+    let outcome = encoder.encode_from_utf8_without_replacement("あ", &mut bytes, false);
+    assert_eq!(rt; outcome, (EncoderResult::InputEmpty, 3, 5));
+    assert_eq!(rt; &bytes[..5], b"\x1B$B$\"".as_slice());
+    let outcome = encoder.encode_from_utf8_without_replacement("", &mut bytes, true);
+    assert_eq!(rt; outcome, (EncoderResult::InputEmpty, 0, 3));
+    assert_eq!(rt; &bytes[..3], b"\x1B(B".as_slice());
+}
+
 #[test]
 fn looks_for_marks(rt: HostRuntime) {
     let bytes = b"\xFE\xFF\x00a";

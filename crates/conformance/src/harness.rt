@@ -1,5 +1,6 @@
 //! What runs the examples: over decoders of encodings here, into each output, and over a decoder by itself in `raw`.
 
+pub mod encoding;
 mod mixed;
 mod outputs;
 mod raw;
