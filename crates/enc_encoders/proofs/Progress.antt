@@ -3,11 +3,12 @@ use Rattle.std.proofs.Common.{◌≡◌, ℕ, ◌+◌, ◌-◌, ◌<◌, ◌≤�
 use Rattle.std.proofs.lemmas.List.{take-append-drop}
 use Rattle.std.proofs.lemmas.Bool.{false≢true}
 use Rattle.enc_units.specs.Output.{units_of_text}
+use Rattle.enc_encoders.specs.declared.encoder_result.EncoderResult.{EncoderResult}
 use Rattle.enc_encoders.specs.declared.encoder_result.EncoderResult.TheVariants.{InputEmpty, OutputFull, Unmappable}
 use Rattle.enc_encoders.specs.declared.character_set.CharacterSet.TheVariants.{Ascii}
 use Rattle.enc_encoders.specs.EncoderRule.{RawState}
 use Rattle.enc_encoders.specs.Steps.{Step, steps_from, chars_of, bytes_of_steps, any_reported, set_behind}
-use Rattle.enc_encoders.specs.Call.{Call}
+use Rattle.enc_encoders.specs.Call.{Call, Stops}
 use Rattle.enc_encoders.specs.CharLaw.{read_of, left_of}
 use Rattle.enc_encoders.proofs.StepLemmas.{chars_of-one, bytes_of_steps-one, none_reported-one, set_behind-one, units_of_text-append}
 
@@ -46,8 +47,8 @@ begin v src last before = record {
 }
 
 module _ (old now : RawState) (src rest : List ℕ) (last : Bool) (room : ℕ) (wrote : List ℕ) (p : Progress old now src rest last room wrote) where
-  pub stop_empty : rest ≡ [] → (last ≡ true → now.set ≡ Ascii) → Call old now src rest last room InputEmpty wrote
-  stop_empty e f = record {
+  stop : (result : EncoderResult) → Stops now rest last room p.done result → Call old now src rest last room result wrote
+  stop result s = record {
     done = p.done;
     reads = p.reads;
     remaining = p.remaining;
@@ -55,8 +56,11 @@ module _ (old now : RawState) (src rest : List ℕ) (last : Bool) (room : ℕ) (
     set = p.set;
     bytes = p.bytes;
     fits = p.fits;
-    stops = record { none_reported = p.none_reported; all_read = e; ended = f };
+    stops = s;
   }
+
+  pub stop_empty : rest ≡ [] → (last ≡ true → now.set ≡ Ascii) → Call old now src rest last room InputEmpty wrote
+  stop_empty e f = stop InputEmpty (record { none_reported = p.none_reported; all_read = e; ended = f })
 
   module _ (next : RawState) (rest' : List ℕ) (q : Step) (r : rest ≡ q.reads ++ rest')
       (c : steps_from now last rest ≡ q ∷ steps_from next last rest')
@@ -97,23 +101,14 @@ module _ (old now : RawState) (src rest : List ℕ) (last : Bool) (room : ℕ) (
     }
 
     pub stop_full : q.report ≡ None → room < length wrote + length q.bytes → Call old now src rest last room OutputFull wrote
-    stop_full n f = record {
-      done = p.done;
-      reads = p.reads;
-      remaining = p.remaining;
-      rule = p.rule;
-      set = p.set;
-      bytes = p.bytes;
-      fits = p.fits;
-      stops = record {
-        none_reported = p.none_reported;
-        next = q;
-        others = steps_from next last rest';
-        comes = c;
-        not_report = n;
-        full = subst (λ (x : List ℕ). room < length x + length q.bytes) p.bytes f;
-      };
-    }
+    stop_full n f = stop OutputFull (record {
+      none_reported = p.none_reported;
+      next = q;
+      others = steps_from next last rest';
+      comes = c;
+      not_report = n;
+      full = subst (λ (x : List ℕ). room < length x + length q.bytes) p.bytes f;
+    })
 
 -- the character that is read
 pub read_one : (b : Bool) (rest : List ℕ) → b ≡ true → (rest ≡ [] → ⊥) → (x : ℕ) × (read_of b rest ≡ x ∷ [])
