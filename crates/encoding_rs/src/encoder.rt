@@ -84,8 +84,8 @@ impl Encoder {
     /// - `InputEmpty`: all of `src` is read. With `last` the text is ended, and the encoder is at the start of another.
     /// - `OutputFull`: the bytes that come next don't fit. Their character is unread.
     /// - `Unmappable`: the encoding has no bytes for the last character that was read. This is it, or in ISO-2022-JP U+FFFD
-    ///   for U+000E, U+000F and U+001B. A caller who puts `&#` and its decimal number and `;` there gets what calls with
-    ///   replacement give; the encoder has ASCII designated for it.
+    ///   for U+000E, U+000F and U+001B. A caller may put a decimal reference there, `&#`, its number and `;`: a character set
+    ///   is designated that has these characters.
     ///
     /// Any room will do, 0 too; four bytes are enough to go on. The bytes of a character are written together; an escape
     /// sequence before it may be written by itself. The bytes of `dst` behind those written stay. Takes no memory.
