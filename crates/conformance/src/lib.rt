@@ -27,3 +27,5 @@ mod indexes;
 mod outputs;
 #[cfg(test)]
 mod runs;
+#[cfg(test)]
+mod units;

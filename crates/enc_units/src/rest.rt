@@ -17,21 +17,3 @@ pub fn clear_rest(dst: &mut [u8], at: usize)
         end += 1;
     }
 }
-
-#[cfg(test)]
-mod tests {
-    use super::*;
-
-    #[test]
-    fn the_rest_of_a_character_becomes_null(rt: HostRuntime) {
-        let mut dst = *b"a\xA9\xBF\x80\xC3\xA9";
-        clear_rest(&mut dst, 1);
-        assert_eq!(rt; &dst, b"a\0\0\0\xC3\xA9");
-        clear_rest(&mut dst, 4);
-        assert_eq!(rt; &dst, b"a\0\0\0\xC3\xA9");
-        clear_rest(&mut dst, 6);
-        assert_eq!(rt; &dst, b"a\0\0\0\xC3\xA9");
-        clear_rest(&mut dst, 5);
-        assert_eq!(rt; &dst, b"a\0\0\0\xC3\0");
-    }
-}
