@@ -1,4 +1,5 @@
 pub mod Index
+pub mod MultiByteTables
 pub mod Runs
 pub mod Search
 pub mod SingleByteTables

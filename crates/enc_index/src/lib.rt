@@ -2,7 +2,7 @@
 //! proved equal to what the entries say.
 #![tactic(auto)]
 
-pub mod data;
+mod data;
 mod list;
 mod search;
 mod single_byte_index;

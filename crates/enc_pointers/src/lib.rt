@@ -3,7 +3,7 @@
 #![tactic(auto)]
 
 mod look_up;
-pub mod pages;
+mod pages;
 mod pointers;
 
 pub use pointers::{big5, euc_kr, gb18030, gb18030_ranges, jis0208, shift_jis, single_byte};
