@@ -122,11 +122,13 @@ fn a_mark_tells_the_encoding(rt: HostRuntime) {
 }
 
 /// The three marks with the encodings that they tell.
-const MARKS: [(&[u8], Encoding); 3] = [
+const MARKS: &[(&[u8], Encoding)] = &[
     (b"\xEF\xBB\xBF", UTF_8),
     (b"\xFE\xFF", UTF_16BE),
     (b"\xFF\xFE", UTF_16LE),
 ];
+
+const HANDLINGS: &[BomHandling] = &[BomHandling::Off, BomHandling::Sniff, BomHandling::Remove];
 
 /// The encoding that a decoder names once it was offered these bytes, each by itself, and then the end.
 fn encoding_behind(rt: &impl Abort, mut decoder: Decoder, bytes: &[u8]) -> Encoding {
@@ -141,29 +143,31 @@ fn encoding_behind(rt: &impl Abort, mut decoder: Decoder, bytes: &[u8]) -> Encod
     decoder.encoding()
 }
 
+/// What the decoders of an encoding name as new ones, and behind bytes, of which sniffing tells this encoding.
+fn compare_told(rt: &impl Abort, encoding: Encoding, bytes: &[u8], told: Encoding) {
+    for handling in HANDLINGS {
+        let decoder = new_decoder(encoding, *handling);
+        assert_eq!(rt; decoder.encoding(), encoding);
+        let is_sniffing = *handling == BomHandling::Sniff;
+        let want = if is_sniffing { told } else { encoding };
+        assert_eq!(rt; encoding_behind(rt, decoder, bytes), want);
+    }
+}
+
 #[test]
 fn only_a_whole_mark_that_is_sniffed_tells_the_encoding(rt: HostRuntime) {
     for (encoding, _, _) in TABLE {
-        for handling in [BomHandling::Off, BomHandling::Sniff, BomHandling::Remove] {
-            assert_eq!(rt; new_decoder(encoding, handling).encoding(), encoding);
-        }
         for (mark, told) in MARKS {
-            let sniffed = encoding_behind(&rt, encoding.new_decoder(), mark);
-            assert_eq!(rt; sniffed, told);
-            let remover = encoding.new_decoder_with_bom_removal();
-            assert_eq!(rt; encoding_behind(&rt, remover, mark), encoding);
-            let other = encoding.new_decoder_without_bom_handling();
-            assert_eq!(rt; encoding_behind(&rt, other, mark), encoding);
+            compare_told(&rt, *encoding, mark, *told);
         }
         for broken in BROKEN {
-            let decoder = encoding.new_decoder();
-            assert_eq!(rt; encoding_behind(&rt, decoder, broken), encoding);
+            compare_told(&rt, *encoding, broken, *encoding);
         }
     }
 }
 
 /// Inputs that begin as a mark does, and go on in another way or not at all.
-const BROKEN: [&[u8]; 16] = [
+const BROKEN: &[&[u8]] = &[
     b"",
     b"\xEF",
     b"\xEF\xBB",
@@ -183,7 +187,7 @@ const BROKEN: [&[u8]; 16] = [
 ];
 
 /// What is behind a whole mark: nothing, what may be ASCII or one character of UTF-16, a mark again.
-const BEHIND: [&[u8]; 5] = [b"", b"a", b"ab", b"\xEF\xBB\xBF", b"\xFE\xFF\xFF\xFE"];
+const BEHIND: &[&[u8]] = &[b"", b"a", b"ab", b"\xEF\xBB\xBF", b"\xFE\xFF\xFF\xFE"];
 
 /// The places of malformed sequences in an input of which so many bytes stand in front.
 fn places_behind(
@@ -201,7 +205,7 @@ fn places_behind(
 }
 
 /// The encodings whose decoders are run into other outputs than UTF-8 and through mixed calls too, behind each mark.
-const INTO_ALL: [Encoding; 6] = [
+const INTO_ALL: &[Encoding] = &[
     UTF_8,
     UTF_16LE,
     WINDOWS_1252,
@@ -250,19 +254,26 @@ fn compare_with_plain(
     compare_uses(rt, alloc, (way, Others::No), &input, 8)
 }
 
+/// No input that begins as a mark does drops a byte.
+fn compare_broken(
+    rt: &impl Abort,
+    alloc: Global,
+    encoding: Encoding,
+    handling: BomHandling,
+) -> Result<(), Fail> {
+    for bytes in BROKEN {
+        compare_with_plain(rt, alloc, (encoding, handling), (encoding, 0), bytes)?;
+    }
+    Ok(())
+}
+
 #[test]
 fn marks_that_break_off_are_text(rt: HostRuntime) -> Result<(), Fail> {
     for (encoding, _, _) in TABLE {
-        for bytes in BROKEN {
-            let sniffing = (encoding, BomHandling::Sniff);
-            compare_with_plain(&rt, rt.alloc(), sniffing, (encoding, 0), bytes)?;
-        }
+        compare_broken(&rt, rt.alloc(), *encoding, BomHandling::Sniff)?;
     }
-    for encoding in [UTF_8, UTF_16BE, UTF_16LE] {
-        for bytes in BROKEN {
-            let removing = (encoding, BomHandling::Remove);
-            compare_with_plain(&rt, rt.alloc(), removing, (encoding, 0), bytes)?;
-        }
+    for (_, encoding) in MARKS {
+        compare_broken(&rt, rt.alloc(), *encoding, BomHandling::Remove)?;
     }
     Ok(())
 }
@@ -282,10 +293,10 @@ fn compare_marks(
         let is_looked_for = match handling {
             BomHandling::Off => false,
             BomHandling::Sniff => true,
-            BomHandling::Remove => encoding == told,
+            BomHandling::Remove => encoding == *told,
         };
         let by = if is_looked_for {
-            (told, mark.len())
+            (*told, mark.len())
         } else {
             (encoding, 0)
         };
@@ -298,13 +309,13 @@ fn compare_marks(
 fn whole_marks_are_dropped(rt: HostRuntime) -> Result<(), Fail> {
     for (encoding, _, _) in TABLE {
         for behind in BEHIND {
-            compare_marks(&rt, rt.alloc(), encoding, BomHandling::Sniff, behind)?;
+            compare_marks(&rt, rt.alloc(), *encoding, BomHandling::Sniff, behind)?;
         }
-        compare_marks(&rt, rt.alloc(), encoding, BomHandling::Remove, b"ab")?;
+        compare_marks(&rt, rt.alloc(), *encoding, BomHandling::Remove, b"ab")?;
     }
-    for encoding in [UTF_8, UTF_16BE, UTF_16LE] {
+    for (_, encoding) in MARKS {
         for behind in BEHIND {
-            compare_marks(&rt, rt.alloc(), encoding, BomHandling::Remove, behind)?;
+            compare_marks(&rt, rt.alloc(), *encoding, BomHandling::Remove, behind)?;
         }
     }
     Ok(())
@@ -379,22 +390,25 @@ const MARKED_ROWS: &[(Encoding, Row)] = &[
     (UTF_16LE, (b"\xFF\xFEa\x00b", "a\u{FFFD}", &[(4, 1)], 3)),
 ];
 
+/// The encodings whose decoders look for all marks in front of those rows.
+const SNIFFING: &[Encoding] = &[
+    UTF_8,
+    UTF_16BE,
+    UTF_16LE,
+    IBM866,
+    X_USER_DEFINED,
+    ISO_2022_JP,
+    REPLACEMENT,
+];
+
 #[test]
 fn text_behind_a_mark_is_of_its_encoding(rt: HostRuntime) -> Result<(), Fail> {
     for (told, row) in MARKED_ROWS {
         let input = input_of(row);
         let removing = Use::new(*told, BomHandling::Remove);
         compare_cuts_of(&rt, rt.alloc(), (removing, Others::All), &input)?;
-        for encoding in [
-            UTF_8,
-            UTF_16BE,
-            UTF_16LE,
-            IBM866,
-            X_USER_DEFINED,
-            ISO_2022_JP,
-            REPLACEMENT,
-        ] {
-            let sniffing = Use::new(encoding, BomHandling::Sniff);
+        for encoding in SNIFFING {
+            let sniffing = Use::new(*encoding, BomHandling::Sniff);
             compare_cuts_of(&rt, rt.alloc(), (sniffing, Others::Few), &input)?;
         }
     }

@@ -71,7 +71,7 @@ fn looks_for_marks(rt: HostRuntime) {
 }
 
 /// Each encoding with its second constant.
-const PAIRS: [(Encoding, Encoding); 40] = [
+const PAIRS: &[(Encoding, Encoding)] = &[
     (UTF_8, UTF_8_INIT),
     (IBM866, IBM866_INIT),
     (ISO_8859_2, ISO_8859_2_INIT),
@@ -117,7 +117,7 @@ const PAIRS: [(Encoding, Encoding); 40] = [
 #[test]
 fn second_constants_are_equal(rt: HostRuntime) {
     for (encoding, init) in PAIRS {
-        assert_eq!(rt; encoding, init);
+        assert_eq!(rt; *encoding, *init);
     }
     for i in 0..PAIRS.len() {
         for j in 0..PAIRS.len() {

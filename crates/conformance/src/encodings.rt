@@ -15,7 +15,7 @@ use std::test::Fail;
 
 /// Each encoding with its name and its labels, as the standard's table of names and labels has them. Another
 /// implementation, TextDecoder of Node 20, agrees on the 220 labels that it knows.
-pub const TABLE: [(Encoding, &str, &str); 40] = [
+pub const TABLE: &[(Encoding, &str, &str)] = &[
     (
         UTF_8,
         "UTF-8",
@@ -161,7 +161,7 @@ pub const TABLE: [(Encoding, &str, &str); 40] = [
 ];
 
 /// The encodings of which a byte is no character by itself.
-const MULTI_BYTE: [Encoding; 11] = [
+const MULTI_BYTE: &[Encoding] = &[
     BIG5,
     EUC_JP,
     EUC_KR,
@@ -201,7 +201,7 @@ fn each_label_names_its_encoding(rt: HostRuntime) -> Result<(), Fail> {
     let mut count = 0usize;
     for (encoding, _, labels) in TABLE {
         for label in labels.split(' ') {
-            compare_label(&rt, rt.alloc(), label, Some(encoding))?;
+            compare_label(&rt, rt.alloc(), label, Some(*encoding))?;
             count = count.saturating_add(1);
         }
     }
@@ -209,43 +209,51 @@ fn each_label_names_its_encoding(rt: HostRuntime) -> Result<(), Fail> {
     Ok(())
 }
 
+const PADDED: &[u8] =
+    b"\x20\x09\x20\x0A\x20\x0C\x20\x0A\x20utf-8\x20\x0D\x20\x0A\x20\x09\x20\x0C\x20";
+
+const LABELS: &[(&[u8], Option<Encoding>)] = &[
+    (PADDED, Some(UTF_8)),
+    (b"unicode11utf8", Some(UTF_8)),
+    (b"UTF-8", Some(UTF_8)),
+    (b"utf-16be", Some(UTF_16BE)),
+    (b"latin2", Some(ISO_8859_2)),
+    (b"hz-gb-2312", Some(REPLACEMENT)),
+    (b"bogus", None),
+    (b"unrecognized label", None),
+    (b"utf-8 _", None),
+    (b"", None),
+    (b" ", None),
+    (b"bogusbogusbogusbogus", None),
+    (b"\x0Butf-8", None),
+    (b"utf-8\x0B", None),
+    (b"utf\x00-8", None),
+    (b"\xC5\xBFjis", None),
+];
+
 #[test]
 fn only_labels_name_encodings(rt: HostRuntime) {
-    let padded = b"\x20\x09\x20\x0A\x20\x0C\x20\x0A\x20utf-8\x20\x0D\x20\x0A\x20\x09\x20\x0C\x20";
-    let rows: [(&[u8], Option<Encoding>); 16] = [
-        (padded, Some(UTF_8)),
-        (b"unicode11utf8", Some(UTF_8)),
-        (b"UTF-8", Some(UTF_8)),
-        (b"utf-16be", Some(UTF_16BE)),
-        (b"latin2", Some(ISO_8859_2)),
-        (b"hz-gb-2312", Some(REPLACEMENT)),
-        (b"bogus", None),
-        (b"unrecognized label", None),
-        (b"utf-8 _", None),
-        (b"", None),
-        (b" ", None),
-        (b"bogusbogusbogusbogus", None),
-        (b"\x0Butf-8", None),
-        (b"utf-8\x0B", None),
-        (b"utf\x00-8", None),
-        (b"\xC5\xBFjis", None),
-    ];
-    for (label, want) in rows {
-        assert_eq!(rt; Encoding::for_label(label), want, "{label:?}");
+    for (label, want) in LABELS {
+        assert_eq!(rt; Encoding::for_label(label), *want, "{label:?}");
     }
+}
+
+/// Where replacement is left out, a label of it names nothing.
+fn compare_label_no_replacement(rt: &impl Abort, label: &str, encoding: Encoding) {
+    let want = if encoding == REPLACEMENT {
+        None
+    } else {
+        Some(encoding)
+    };
+    let answer = Encoding::for_label_no_replacement(label.as_bytes());
+    assert_eq!(rt; answer, want, "{label}");
 }
 
 #[test]
 fn no_label_names_replacement_where_it_is_left_out(rt: HostRuntime) {
     for (encoding, _, labels) in TABLE {
         for label in labels.split(' ') {
-            let want = if encoding == REPLACEMENT {
-                None
-            } else {
-                Some(encoding)
-            };
-            let answer = Encoding::for_label_no_replacement(label.as_bytes());
-            assert_eq!(rt; answer, want, "{label}");
+            compare_label_no_replacement(&rt, label, *encoding);
         }
     }
     assert_eq!(rt; Encoding::for_label_no_replacement(b"hz-gb-2312"), None);
@@ -271,28 +279,29 @@ fn compare_properties(rt: &impl Abort, encoding: Encoding) {
 #[test]
 fn each_encoding_has_its_name_and_properties(rt: HostRuntime) {
     for (encoding, name, _) in TABLE {
-        assert_eq!(rt; encoding.name(), name);
-        compare_properties(&rt, encoding);
+        assert_eq!(rt; encoding.name(), *name);
+        compare_properties(&rt, *encoding);
     }
 }
 
+const MARKS: &[(&[u8], Option<(Encoding, usize)>)] = &[
+    (b"", None),
+    (b"\xEF", None),
+    (b"\xEF\xBB", None),
+    (b"\xEF\xBB\xBF", Some((UTF_8, 3))),
+    (b"\xEF\xBB\xBFa", Some((UTF_8, 3))),
+    (b"\xEF\xBBa", None),
+    (b"\xFF\xFE", Some((UTF_16LE, 2))),
+    (b"\xFF\xFE\x00\x00", Some((UTF_16LE, 2))),
+    (b"\xFE\xFF\x00", Some((UTF_16BE, 2))),
+    (b"\xFE", None),
+    (b"a\xEF\xBB\xBF", None),
+];
+
 #[test]
 fn marks_tell_their_encodings(rt: HostRuntime) {
-    let rows: [(&[u8], Option<(Encoding, usize)>); 11] = [
-        (b"", None),
-        (b"\xEF", None),
-        (b"\xEF\xBB", None),
-        (b"\xEF\xBB\xBF", Some((UTF_8, 3))),
-        (b"\xEF\xBB\xBFa", Some((UTF_8, 3))),
-        (b"\xEF\xBBa", None),
-        (b"\xFF\xFE", Some((UTF_16LE, 2))),
-        (b"\xFF\xFE\x00\x00", Some((UTF_16LE, 2))),
-        (b"\xFE\xFF\x00", Some((UTF_16BE, 2))),
-        (b"\xFE", None),
-        (b"a\xEF\xBB\xBF", None),
-    ];
-    for (bytes, want) in rows {
-        assert_eq!(rt; Encoding::for_bom(bytes), want, "{bytes:?}");
+    for (bytes, want) in MARKS {
+        assert_eq!(rt; Encoding::for_bom(bytes), *want, "{bytes:?}");
     }
 }
 

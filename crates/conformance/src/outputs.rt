@@ -3,8 +3,8 @@
 
 use crate::encodings::TABLE;
 use crate::harness::{
-    ALL_OUTPUTS, Answer, Cut, Given, MOST_ROOM, Output, Use, call_into, new_decoder, run_chunks,
-    run_cut,
+    ALL_OUTPUTS, Answer, Cut, Given, MOST_ROOM, Output, Run, Use, call_into, new_decoder,
+    run_chunks, run_cut,
 };
 use encoding_rs::run::{BomHandling, DecodeCall, decode_run};
 use encoding_rs::*;
@@ -202,6 +202,13 @@ fn text_is_written_over_or_appended(rt: HostRuntime) -> Result<(), Fail> {
     Ok(())
 }
 
+/// A run has come to this text without anything malformed, and its decoder names this encoding.
+fn compare_end(rt: &impl Abort, run: &Run, bytes: &[u8], (text, told): (&str, Encoding)) {
+    assert_eq!(rt; run.text.as_slice(), text.as_bytes(), "{bytes:?}");
+    assert!(rt; !run.had_errors && run.is_finished(), "{bytes:?}");
+    assert_eq!(rt; run.encoding(), told, "{bytes:?}");
+}
+
 /// Decodes with room for 12 code units in each call, in single bytes and cut in one or two places: all come to this text
 /// without anything malformed, and the decoder names this encoding.
 fn compare_two_cuts(
@@ -216,20 +223,16 @@ fn compare_two_cuts(
         for first in 0..front.len() + 1 {
             let (start, middle) = front.split_at(first);
             let run = run_chunks(rt, alloc, way, &[start, middle, back], 12)?;
-            assert_eq!(rt; run.text.as_slice(), text.as_bytes(), "{bytes:?}");
-            assert!(rt; !run.had_errors && run.is_finished(), "{bytes:?}");
-            assert_eq!(rt; run.encoding(), told, "{bytes:?}");
+            compare_end(rt, &run, bytes, (text, told));
         }
     }
     let run = run_cut(rt, alloc, way, bytes, Cut::Everywhere, 12)?;
-    assert_eq!(rt; run.text.as_slice(), text.as_bytes(), "{bytes:?}");
-    assert!(rt; !run.had_errors && run.is_finished(), "{bytes:?}");
-    assert_eq!(rt; run.encoding(), told, "{bytes:?}");
+    compare_end(rt, &run, bytes, (text, told));
     Ok(())
 }
 
 /// Bytes, their text, and the encoding that a decoder of windows-1252 names behind them, which looks for all marks.
-const MARKS: [(&[u8], &str, Encoding); 13] = [
+const MARKS: &[(&[u8], &str, Encoding)] = &[
     (b"ab", "ab", WINDOWS_1252),
     (b"\xEF", "ï", WINDOWS_1252),
     (b"\xEF\xBB", "ï»", WINDOWS_1252),
@@ -253,7 +256,7 @@ fn bytes_of_marks_in_every_output(rt: HostRuntime) -> Result<(), Fail> {
             ..Use::new(WINDOWS_1252, BomHandling::Sniff)
         };
         for (bytes, text, told) in MARKS {
-            compare_two_cuts(&rt, rt.alloc(), way, bytes, (text, told))?;
+            compare_two_cuts(&rt, rt.alloc(), way, bytes, (text, *told))?;
         }
     }
     Ok(())
@@ -284,7 +287,7 @@ fn a_word_in_chunks_into_eight_bytes(rt: HostRuntime) -> Result<(), Fail> {
 const LATIN_1: &[u8] = b"\x61\x81\xB6\xF6\xF0\x82\xB4";
 
 /// How many bytes of `LATIN_1` are so; one, where it isn't said.
-const LATIN_1_COUNTS: [(Encoding, Option<usize>); 24] = [
+const LATIN_1_COUNTS: &[(Encoding, Option<usize>)] = &[
     (REPLACEMENT, None),
     (UTF_16BE, None),
     (UTF_16LE, None),
@@ -376,9 +379,9 @@ const LATIN_1_ROWS: &[Latin1Row] = &[
 #[test]
 fn bytes_that_can_be_taken_for_latin_1(rt: HostRuntime) {
     for (encoding, _, _) in TABLE {
-        let known = LATIN_1_COUNTS.iter().find(|row| row.0 == encoding);
+        let known = LATIN_1_COUNTS.iter().find(|row| row.0 == *encoding);
         let want = known.map_or(Some(1), |row| row.1);
-        compare_latin_1(&rt, (encoding, BomHandling::Off), &[], LATIN_1, want);
+        compare_latin_1(&rt, (*encoding, BomHandling::Off), &[], LATIN_1, want);
     }
     for (way, chunks, bytes, want) in LATIN_1_ROWS {
         compare_latin_1(&rt, *way, chunks, bytes, *want);
@@ -483,7 +486,7 @@ fn compare_long(
 }
 
 /// An encoding of each codec that has characters of its own; of single bytes one that has all and one that hasn't.
-const OF_EACH_CODEC: [Encoding; 12] = [
+const OF_EACH_CODEC: &[Encoding] = &[
     UTF_8,
     UTF_16BE,
     UTF_16LE,
@@ -502,7 +505,7 @@ const OF_EACH_CODEC: [Encoding; 12] = [
 fn long_runs_come_to_what_single_bytes_come_to(rt: HostRuntime) -> Result<(), Fail> {
     let bytes = long_input(rt.alloc())?;
     for encoding in OF_EACH_CODEC {
-        compare_long(&rt, rt.alloc(), encoding, bytes.as_slice())?;
+        compare_long(&rt, rt.alloc(), *encoding, bytes.as_slice())?;
     }
     Ok(())
 }
