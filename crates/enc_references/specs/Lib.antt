@@ -1,0 +1,3 @@
+pub mod Treatment
+pub mod Replacing
+pub mod Unmappable

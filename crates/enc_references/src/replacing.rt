@@ -1,0 +1,100 @@
+//! Calls that put a decimal reference in the place of each unmappable character.
+
+ghost use Rattle.std.specs.Prelude.{◌≡◌, ◌+◌, ◌-◌, ◌≤◌, length, take, drop};
+ghost use Rattle.enc_references.specs.Replacing.{EncodesBehind, stop_by};
+ghost use Rattle.enc_references.specs.Treatment.{CallBy, Replaced, nothing_left, stop_of};
+
+use crate::reference::{LONGEST_REFERENCE, put_reference};
+use enc_calls::CoderResult;
+use enc_encoders::{EncoderResult, RawEncoder};
+use enc_units::Chars;
+
+/// Why a call stops where no bytes fit any more: whether something is left to do.
+fn stop_when_full<E: RawEncoder, C: Chars>(encoder: &E, src: &C, last: bool) -> CoderResult
+    ensures { result ≡ stop_by (nothing_left (E.state encoder.now) (C.rest src.now) last) }
+{
+    match src.peek() {
+        Some(_) => CoderResult::OutputFull,
+        None => {
+            if last && encoder.has_pending_state() {
+                CoderResult::OutputFull
+            } else {
+                CoderResult::InputEmpty
+            }
+        }
+    }
+}
+
+/// A call of an encoder onto the part of a slice behind the bytes that are written, up to a limit.
+fn encode_behind<E: RawEncoder, C: Chars>(
+    encoder: &mut E,
+    src: &mut C,
+    dst: &mut [u8],
+    written: usize,
+    limit: usize,
+    last: bool,
+) -> (EncoderResult, usize)
+    requires behind { written ≤ limit }
+    requires within { limit ≤ length dst.old }
+    ensures { EncodesBehind (E.state encoder.old) (E.state encoder.new) (C.rest src.old) (C.rest src.new) last
+        (limit - written) written dst.old dst.new result.0 result.1 }
+{
+    let (result, _, wrote) = encoder.encode(src, &mut dst[written..limit], last);
+    (result, wrote)
+}
+
+/// A call of an encoder that puts a decimal reference in the place of each unmappable character, and keeps the last 10 bytes of
+/// `dst` back for references: why it stopped, how many code units it has read, how many bytes it has written, and whether
+/// a reference was written.
+///
+/// With fewer than 10 bytes it does nothing. Behind a reference that ends where the kept part begins, or in it, it
+/// writes no more. Takes no memory.
+pub fn encode_replacing<E: RawEncoder, C: Chars>(
+    encoder: &mut E,
+    src: &mut C,
+    dst: &mut [u8],
+    last: bool,
+) -> (CoderResult, usize, usize, bool)
+    ensures within { result.2 ≤ length dst.old }
+    ensures behind { drop result.2 dst.new ≡ drop result.2 dst.old }
+    ensures call { CallBy C.units_of (Replaced 10) (E.state encoder.old) (E.state encoder.new) (C.rest src.old) (C.rest src.new) last
+        (length dst.old) (stop_of result.0) result.1 (take result.2 dst.new) result.3 }
+{
+    if dst.len() < LONGEST_REFERENCE {
+        return (stop_when_full(encoder, src, last), 0, 0, false);
+    }
+    let unread = src.unread();
+    let limit = dst.len() - LONGEST_REFERENCE;
+    let mut written = 0;
+    let mut replaced = false;
+    loop {
+        let (result, wrote) = encode_behind(encoder, src, dst, written, limit, last);
+        written += wrote;
+        match result {
+            EncoderResult::InputEmpty => {
+                return (
+                    CoderResult::InputEmpty,
+                    unread - src.unread(),
+                    written,
+                    replaced,
+                );
+            }
+            EncoderResult::OutputFull => {
+                return (
+                    CoderResult::OutputFull,
+                    unread - src.unread(),
+                    written,
+                    replaced,
+                );
+            }
+            EncoderResult::Unmappable(c) => {
+                written += put_reference(c, dst, written);
+                replaced = true;
+            }
+        }
+        if written >= limit {
+            let stop = stop_when_full(encoder, src, last);
+            return (stop, unread - src.unread(), written, replaced);
+        }
+    }
+}
