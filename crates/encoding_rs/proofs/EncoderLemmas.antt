@@ -1,19 +1,21 @@
 -- The encoders of the encodings.
-use Rattle.std.proofs.Common.{◌≡◌, ℕ, Bool, true, is_some, Option, Some, List, take, refl, ap, sym, subst, ◌∙◌}
-use Rattle.enc_encoders.specs.EncoderRule.{EncoderRule, RawState}
-use Rattle.enc_encoders.specs.declared.character_set.CharacterSet.TheVariants.{Ascii}
+use Rattle.std.proofs.Common.{◌≡◌, ℕ, ◌+◌, ◌-◌, ◌≤◌, Bool, true, false, not, is_some, Option, Some, List, [], ◌∷◌, ◌++◌, length, take, drop, refl, ap, sym, subst, ◌∙◌, arith, append_assoc, length-append, length-take}
+use Rattle.std.proofs.lemmas.List.{drop-take, take-append-le, take-append-drop}
+use Rattle.std.proofs.Math.Seq.{drop-append_seam}
+use Rattle.enc_encoders.specs.EncoderRule.{EncoderRule, RawState, is_pending}
+use Rattle.enc_encoders.specs.declared.character_set.CharacterSet.TheVariants.{Ascii, Roman, Jis0208}
 use Rattle.enc_encoders.specs.declared.character_set.CharacterSet.{CharacterSet}
 use Rattle.enc_encoders.specs.declared.encoder_result.EncoderResult.{EncoderResult}
 use Rattle.enc_encoders.specs.declared.encoder_result.EncoderResult.TheVariants.{InputEmpty, OutputFull, Unmappable}
-use Rattle.enc_encoders.specs.Text.{KeepsText}
-use Rattle.enc_encoders.specs.Call.{CallInto}
+use Rattle.enc_encoders.specs.Steps.{Step}
+use Rattle.enc_references.specs.Treatment.{Treatment, Reported, Replaced, MapsAll, CallBy, StopsBy, nothing_left}
 use Rattle.enc_encode.specs.Encoders.{encoder_rule}
 use Rattle.encoding_rs.specs.declared.encoding.Id.{Id}
 use Rattle.encoding_rs.specs.declared.encoding.Id.TheVariants.{Utf8, Ibm866, Iso88592, Iso88593, Iso88594, Iso88595, Iso88596, Iso88597, Iso88598, Iso88598I, Iso885910, Iso885913, Iso885914, Iso885915, Iso885916, Koi8R, Koi8U, Macintosh, Windows874, Windows1250, Windows1251, Windows1252, Windows1253, Windows1254, Windows1255, Windows1256, Windows1257, Windows1258, XMacCyrillic, Gbk, Gb18030, Big5, EucJp, ShiftJis, EucKr, Iso2022Jp, Replacement, Utf16be, Utf16le, XUserDefined}
 use Rattle.encoding_rs.specs.declared.encoding.Encoding.{Encoding}
 use Rattle.encoding_rs.specs.Encodings.{codec_by_id, or_utf_8, output_rule}
 use Rattle.encoding_rs.specs.Properties.{output_by_id, output_encoding_of}
-use Rattle.encoding_rs.specs.Encoder.{EncoderState, EncodesInto}
+use Rattle.encoding_rs.specs.Encoder.{EncoderState, Encodes, kept_by_id, replacing_in}
 
 has_encoder_by_id : (id : Id) → is_some (encoder_rule (codec_by_id (output_by_id id))) ≡ true
 has_encoder_by_id Utf8 = refl
@@ -65,29 +67,86 @@ has_encoder e = has_encoder_by_id e.id
 pub is_output_rule : (o : Option EncoderRule) (rule : EncoderRule) → o ≡ Some rule → rule ≡ or_utf_8 o
 is_output_rule o rule e = ap or_utf_8 (sym e)
 
+-- how many bytes are kept back, in UTF-8 and in all others
+
+pub none_kept : (e : Encoding) → e.id ≡ Utf8 → Replaced 0 ≡ replacing_in e
+none_kept e h = ap Replaced (sym (ap kept_by_id h))
+
+kept_by : (id : Id) → (id ≡ Utf8 → ⊥) → kept_by_id id ≡ 10
+kept_by Utf8 h = absurd (h refl)
+kept_by _ h = refl
+
+pub ten_kept : (e : Encoding) → (e.id ≡ Utf8 → ⊥) → Replaced 10 ≡ replacing_in e
+ten_kept e h = ap Replaced (sym (kept_by e.id h))
+
+rule_by_id : Id → EncoderRule
+rule_by_id id = or_utf_8 (encoder_rule (codec_by_id id))
+
+-- UTF-8 has every character
+pub maps_all : (e : Encoding) (rule : EncoderRule) → rule ≡ output_rule e → e.id ≡ Utf8 → MapsAll rule
+unfolding rule_by_id
+maps_all e rule r h = subst MapsAll (sym (r ∙ ap rule_by_id h)) (λ c. refl)
+
+-- a call that has ended the text leaves ASCII designated
+
+ascii_left : (s : CharacterSet) → not (is_pending s) ≡ true → s ≡ Ascii
+ascii_left Ascii h = refl
+ascii_left Roman h = cc
+ascii_left Jis0208 h = cc
+
+nothing_pending : (v : RawState) (rest : List ℕ) (last : Bool) → nothing_left v rest last ≡ true → last ≡ true → v.set ≡ Ascii
+nothing_pending v [] true h l = ascii_left v.set h
+nothing_pending v [] false h l = cc
+nothing_pending v (c ∷ t) last h l = cc
+
+ends_in_ascii : (treatment : Treatment) (new : RawState) (rest : List ℕ) (last : Bool) (room : ℕ) (done : List Step) (result : EncoderResult) → StopsBy treatment new rest last room done result
+    → result ≡ InputEmpty → last ≡ true → new.set ≡ Ascii
+ends_in_ascii Reported new rest last room done InputEmpty s q l = s.ended l
+ends_in_ascii (Replaced kept) new rest last room done InputEmpty s q l = nothing_pending new rest last s l
+ends_in_ascii treatment new rest last room done OutputFull s q l = cc
+ends_in_ascii treatment new rest last room done (Unmappable k) s q l = cc
+
 -- A call of the raw encoder is one of the encoder.
-module _ (units_of : ℕ → List ℕ) (e : Encoding) (old new : RawState) (keeps : old.rule ≡ output_rule e)
-    (src rest : List ℕ) (last : Bool) (before after : List ℕ) (result : EncoderResult) (read written : ℕ)
-    (call : CallInto units_of old new src rest last before after result read written)
-    (text : KeepsText old new src rest last result (take written after)) where
+module _ (units_of : ℕ → List ℕ) (e : Encoding) (old new : RawState) (keeps : old.rule ≡ output_rule e) (treatment : Treatment)
+    (src rest : List ℕ) (last : Bool) (room : ℕ) (result : EncoderResult) (read : ℕ) (wrote : List ℕ) (replaced : Bool)
+    (call : CallBy units_of treatment old new src rest last room result read wrote replaced) where
   pub rule_stays : new.rule ≡ output_rule e
-  rule_stays = call.call.rule ∙ keeps
+  rule_stays = call.rule ∙ keeps
 
   same : (v : RawState) → v.rule ≡ output_rule e → v ≡ record { rule = output_rule e; set = v.set }
   same v q = let made : EncoderRule → RawState = λ r. record { rule = r; set = v.set } in ap made q
 
-  ended : (result : EncoderResult) → CallInto units_of old new src rest last before after result read written → result ≡ InputEmpty → last ≡ true → new.set ≡ Ascii
-  ended InputEmpty c q l = c.call.stops.ended l
-  ended OutputFull c q l = cc
-  ended (Unmappable k) c q l = cc
-
-  pub encodes : EncodesInto units_of (record { encoding = e; set = old.set }) (record { encoding = e; set = new.set }) src last before after result read written
+  encodes : Encodes units_of treatment (record { encoding = e; set = old.set }) (record { encoding = e; set = new.set }) src last room result read wrote replaced
   encodes = record {
     encoding = refl;
     rest = rest;
-    call = subst (λ (v : RawState). CallInto units_of v (record { rule = output_rule e; set = new.set }) src rest last before after result read written) (same old keeps)
-        (subst (λ (v : RawState). CallInto units_of old v src rest last before after result read written) (same new rule_stays) call);
-    text = subst (λ (v : RawState). KeepsText v (record { rule = output_rule e; set = new.set }) src rest last result (take written after)) (same old keeps)
-        (subst (λ (v : RawState). KeepsText old v src rest last result (take written after)) (same new rule_stays) text);
-    ended = λ q l. let made : CharacterSet → EncoderState = λ s. record { encoding = e; set = s } in ap made (ended result call q l);
+    call = subst (λ (v : RawState). CallBy units_of treatment v (record { rule = output_rule e; set = new.set }) src rest last room result read wrote replaced) (same old keeps)
+        (subst (λ (v : RawState). CallBy units_of treatment old v src rest last room result read wrote replaced) (same new rule_stays) call);
+    ended = λ q l. let made : CharacterSet → EncoderState = λ s. record { encoding = e; set = s } in ap made (ends_in_ascii treatment new rest last room call.done result call.stops q l);
   }
+
+  pub encodes_by : (t : Treatment) → treatment ≡ t → Encodes units_of t (record { encoding = e; set = old.set }) (record { encoding = e; set = new.set }) src last room result read wrote replaced
+  encodes_by t h = subst (λ (x : Treatment). Encodes units_of x (record { encoding = e; set = old.set }) (record { encoding = e; set = new.set }) src last room result read wrote replaced) h encodes
+
+-- A call whose bytes are at the end of another list than the one that it wrote into.
+pub in_tail : (units_of : ℕ → List ℕ) (treatment : Treatment) (old new : EncoderState) (src : List ℕ) (last : Bool) (room size : ℕ) (result : EncoderResult) (read : ℕ) (wrote tail : List ℕ) (replaced : Bool)
+    → room ≡ size → wrote ≡ tail → Encodes units_of treatment old new src last room result read wrote replaced → Encodes units_of treatment old new src last size result read tail replaced
+in_tail units_of treatment old new src last room size result read wrote tail replaced r w e =
+    subst (λ (n : ℕ). Encodes units_of treatment old new src last n result read tail replaced) r
+    (subst (λ (x : List ℕ). Encodes units_of treatment old new src last room result read x replaced) w e)
+
+-- What a list has behind its front, where it was cut behind what was written there.
+pub tail_of : (front slice post junk final : List ℕ) (len written n : ℕ) → length front ≡ len → written ≤ length slice → len + written ≤ n
+    → final ≡ take (len + written) (take n ((front ++ (slice ++ post)) ++ junk)) → take written slice ≡ drop len final
+tail_of front slice post junk final len written n f w h e =
+    let behind = slice ++ (post ++ junk) in
+    let all = (front ++ (slice ++ post)) ++ junk in
+    let split : all ≡ front ++ behind = append_assoc front (slice ++ post) junk ∙ ap (λ x. front ++ x) (append_assoc slice post junk) in
+    let m = n - len in
+    let dropped : drop len (take n all) ≡ take m behind =
+    ap (λ k. drop len (take k all)) (let k : n ≡ len + m = omega (arith, h) in k) ∙ drop-take len m all ∙ ap (take m) (ap (drop len) split
+    ∙ ap (λ k. drop k (front ++ behind)) (sym f) ∙ drop-append_seam front behind) in
+    let reach : written ≤ length (take m behind) = omega (arith, h, w, length-take m behind, length-append slice (post ++ junk)) in
+    sym (ap (drop len) e ∙ drop-take len written (take n all) ∙ ap (take written) dropped
+    ∙ sym (take-append-le written (take m behind) (drop m behind) reach) ∙ ap (take written) (take-append-drop m behind)
+    ∙ take-append-le written slice (post ++ junk) w)

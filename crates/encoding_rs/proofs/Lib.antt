@@ -5,8 +5,11 @@ pub mod FullLemmas
 pub mod EndLemmas
 pub mod WholeLemmas
 pub mod RunLemmas
+pub mod CharsOfTextLemmas
 pub mod EncodingLemmas
 pub mod EncoderLemmas
+pub mod EncodeRunLemmas
+pub mod ReferenceLemmas
 pub mod Latin1Lemmas
 pub mod LabelLemmas
 pub mod WellFormedLemmas

@@ -10,3 +10,4 @@ pub mod Names
 pub mod Labels
 pub mod Properties
 pub mod Encoder
+pub mod EncodeRun

@@ -1,22 +1,26 @@
 //! Encoders.
 
-ghost use Rattle.std.specs.Prelude.{◌≡◌, chars};
+ghost use Rattle.std.specs.Prelude.{◌≡◌, ◌-◌, chars, false, length, take, drop};
+ghost use Rattle.std.specs.Vec.{vec_len, vec_capacity};
 ghost use Rattle.std.specs.Char.{encode_utf8};
 ghost use Rattle.std.specs.Char.Escape.{encode_utf16};
 ghost use Rattle.std.specs.Char.Utf16.{utf16_lossy_chars};
 ghost use Rattle.enc_encoders.specs.EncoderRule.{is_pending};
-ghost use Rattle.encoding_rs.specs.Encoder.{EncodesInto, fresh_encoder};
+ghost use Rattle.enc_references.specs.Treatment.{Reported, stop_of};
+ghost use Rattle.encoding_rs.specs.Encoder.{Encodes, EncodesInto, fresh_encoder, replacing};
 
-use crate::encoding::{Encoding, codec_of};
+use crate::encoding::{Encoding, Id, codec_of};
+use enc_calls::CoderResult;
 use enc_encode::{EncoderResult, RawEncoder, VariantEncoder, new_encoder};
+use enc_references::{encode_all, encode_replacing, encode_reporting};
 use enc_units::{Chars, Utf8Chars, Utf16Chars};
 use std::marker::Model;
 
 /// Converts a text, in chunks of any size, into the bytes of an encoding, in buffers of any size (Encoding Standard 4.1).
 ///
 /// However the text is cut between characters and whatever rooms the calls have, what has come out is a beginning of the
-/// bytes that the whole text has, where the caller puts a decimal reference in the place of each character that is
-/// reported as unmappable. Between two calls it keeps the designated character set, which only ISO-2022-JP has.
+/// bytes that the whole text has, where a decimal reference stands in the place of each unmappable character: calls with
+/// replacement put it there, and for one that is reported the caller does. Between two calls it keeps the designated character set, which only ISO-2022-JP has.
 #[derive(Drop)]
 pub struct Encoder {
     encoding: Encoding,
@@ -66,16 +70,119 @@ impl Encoder {
         self.raw.has_pending_state()
     }
 
-    /// Encodes the characters of an input.
-    fn encode_without_replacement<C: Chars>(
+    /// Encodes the characters of an input, up to an unmappable one.
+    fn encode_reporting<C: Chars>(
         &mut self,
         src: &mut C,
         dst: &mut [u8],
         last: bool,
     ) -> (EncoderResult, usize, usize)
-        ensures { EncodesInto C.units_of self.old self.new (C.rest src.old) last dst.old dst.new result.0 result.1 result.2 }
+        ensures { EncodesInto C.units_of Reported self.old self.new (C.rest src.old) last dst.old dst.new result.0 result.1 result.2 false }
     {
-        self.raw.encode(src, dst, last)
+        encode_reporting(&mut self.raw, src, dst, last)
+    }
+
+    /// Encodes the characters of an input, with references in the place of unmappable ones.
+    fn encode_replacing<C: Chars>(
+        &mut self,
+        src: &mut C,
+        dst: &mut [u8],
+        last: bool,
+    ) -> (CoderResult, usize, usize, bool)
+        ensures { EncodesInto C.units_of (replacing self.old) self.old self.new (C.rest src.old) last dst.old dst.new
+            (stop_of result.0) result.1 result.2 result.3 }
+    {
+        match self.encoding.id {
+            Id::Utf8 => {
+                let (stop, read, written) = encode_all(&mut self.raw, src, dst, last);
+                (stop, read, written, false)
+            }
+            _ => encode_replacing(&mut self.raw, src, dst, last),
+        }
+    }
+
+    /// Encodes a text, with a decimal reference, `&#`, its number and `;`, in the place of each unmappable character. It
+    /// answers why it stopped, how many bytes of `src` it has read, how many bytes of `dst` it has written, and whether a
+    /// reference was written.
+    ///
+    /// - `InputEmpty`: all of `src` is read. With `last` the text is ended, and the encoder is at the start of another.
+    /// - `OutputFull`: the bytes that come next don't fit. Their character is unread.
+    ///
+    /// Unless the encoding is UTF-8, which has every character, the last 10 bytes of `dst` are kept back for references. With
+    /// fewer than 10 bytes nothing is done; behind a reference that has come to that part no more is written. Then the
+    /// answer is `InputEmpty` where nothing is left to do, and else `OutputFull`. Any room will do; 14 bytes, or 4 in
+    /// UTF-8, are enough to go on. The bytes of `dst` behind those written stay. Takes no memory.
+    ///
+    /// In ISO-2022-JP the references to U+000E, U+000F and U+001B are that to U+FFFD.
+    pub fn encode_from_utf8(
+        &mut self,
+        src: &str,
+        dst: &mut [u8],
+        last: bool,
+    ) -> (CoderResult, usize, usize, bool)
+        ensures { EncodesInto encode_utf8 (replacing self.old) self.old self.new (chars src.now) last dst.old dst.new
+            (stop_of result.0) result.1 result.2 result.3 }
+    {
+        let mut chars = Utf8Chars::new(src);
+        self.encode_replacing(&mut chars, dst, last)
+    }
+
+    /// The same from UTF-16, read in code units. A surrogate without its partner in `src` is U+FFFD, and so are both halves
+    /// of a pair that two calls are offered one each.
+    pub fn encode_from_utf16(
+        &mut self,
+        src: &[u16],
+        dst: &mut [u8],
+        last: bool,
+    ) -> (CoderResult, usize, usize, bool)
+        ensures { EncodesInto encode_utf16 (replacing self.old) self.old self.new (utf16_lossy_chars src.now) last dst.old dst.new
+            (stop_of result.0) result.1 result.2 result.3 }
+    {
+        let mut units = Utf16Chars::new(src);
+        self.encode_replacing(&mut units, dst, last)
+    }
+
+    /// The same as [`Encoder::encode_from_utf8`], into a Vec's spare capacity: it answers why it stopped, how many bytes of
+    /// `src` it has read, and whether a reference was written. It appends within the capacity, moves nothing else, and takes no
+    /// memory. Without spare capacity it answers as for a slice of length 0.
+    pub fn encode_from_utf8_to_vec(
+        &mut self,
+        src: &str,
+        dst: &mut Vec<u8>,
+        last: bool,
+    ) -> (CoderResult, usize, bool)
+        ensures call { Encodes encode_utf8 (replacing self.old) self.old self.new (chars src.now) last (vec_capacity dst.old - vec_len dst.old)
+            (stop_of result.0) result.1 (drop (length dst.old.items) dst.new.items) result.2 }
+        ensures appended { take (length dst.old.items) dst.new.items ≡ dst.old.items }
+    {
+        let len = dst.len();
+        let _ = dst.resize(dst.capacity(), 0);
+        let (stop, read, written, replaced) = self.encode_from_utf8(src, &mut dst[len..], last);
+        dst.truncate(len + written);
+        (stop, read, replaced)
+    }
+
+    /// The same as [`Encoder::encode_from_utf8_without_replacement`], into a Vec's spare capacity, as
+    /// [`Encoder::encode_from_utf8_to_vec`] does.
+    pub fn encode_from_utf8_to_vec_without_replacement(
+        &mut self,
+        src: &str,
+        dst: &mut Vec<u8>,
+        last: bool,
+    ) -> (EncoderResult, usize)
+        ensures call { Encodes encode_utf8 Reported self.old self.new (chars src.now) last (vec_capacity dst.old - vec_len dst.old)
+            result.0 result.1 (drop (length dst.old.items) dst.new.items) false }
+        ensures appended { take (length dst.old.items) dst.new.items ≡ dst.old.items }
+    {
+        let len = dst.len();
+        let _ = dst.resize(dst.capacity(), 0);
+        let (result, read, written) = self.encode_from_utf8_without_replacement(
+            src,
+            &mut dst[len..],
+            last,
+        );
+        dst.truncate(len + written);
+        (result, read)
     }
 
     /// Encodes a text, up to an unmappable character. It answers why it stopped, how many bytes of `src` it has read, and
@@ -95,10 +202,10 @@ impl Encoder {
         dst: &mut [u8],
         last: bool,
     ) -> (EncoderResult, usize, usize)
-        ensures { EncodesInto encode_utf8 self.old self.new (chars src.now) last dst.old dst.new result.0 result.1 result.2 }
+        ensures { EncodesInto encode_utf8 Reported self.old self.new (chars src.now) last dst.old dst.new result.0 result.1 result.2 false }
     {
         let mut chars = Utf8Chars::new(src);
-        self.encode_without_replacement(&mut chars, dst, last)
+        self.encode_reporting(&mut chars, dst, last)
     }
 
     /// The same from UTF-16, read in code units. A surrogate without its partner in `src` is U+FFFD, and so are both halves
@@ -109,9 +216,9 @@ impl Encoder {
         dst: &mut [u8],
         last: bool,
     ) -> (EncoderResult, usize, usize)
-        ensures { EncodesInto encode_utf16 self.old self.new (utf16_lossy_chars src.now) last dst.old dst.new result.0 result.1 result.2 }
+        ensures { EncodesInto encode_utf16 Reported self.old self.new (utf16_lossy_chars src.now) last dst.old dst.new result.0 result.1 result.2 false }
     {
-        let mut chars = Utf16Chars::new(src);
-        self.encode_without_replacement(&mut chars, dst, last)
+        let mut units = Utf16Chars::new(src);
+        self.encode_reporting(&mut units, dst, last)
     }
 }

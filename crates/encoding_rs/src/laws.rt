@@ -4,7 +4,9 @@ ghost use Rattle.std.specs.Prelude.{◌≡◌, ◌≢◌, ◌↔◌, ℕ, true, 
 ghost use Rattle.encoding_rs.specs.declared.bom.BomHandling.TheVariants as handling;
 ghost use Rattle.encoding_rs.specs.Bom.{marks_looked_for, find_mark};
 ghost use Rattle.enc_encode.specs.Encoders.{encoder_rule};
-ghost use Rattle.encoding_rs.specs.Encodings.{codec_by_id, rule_of};
+ghost use Rattle.enc_encoders.specs.Text.{with_references};
+ghost use Rattle.enc_references.specs.Unmappable.{any_unmappable};
+ghost use Rattle.encoding_rs.specs.Encodings.{codec_by_id, output_rule, rule_of};
 ghost use Rattle.encoding_rs.specs.LifeCycle.{mark_bytes, encoding_by};
 ghost use Rattle.encoding_rs.specs.MarkLaws.{MayBeginMark, behind as behind_mark};
 ghost use Rattle.encoding_rs.specs.Decoding.{whole_sequences, whole_malformed};
@@ -130,6 +132,16 @@ pub fn iso_8859_8_differs()
 pub fn output_encodings_are_their_own(encoding: Encoding)
     ensures same { output_encoding_of (output_encoding_of encoding) ≡ output_encoding_of encoding }
     ensures encoder { is_some (encoder_rule (codec_by_id (output_encoding_of encoding).id)) ≡ true }
+{
+    let _ = encoding;
+}
+
+/// Where references stand in the place of unmappable characters, all characters are mappable, and so replacing them once
+/// more changes nothing.
+pub fn references_are_mappable(encoding: Encoding)
+    ensures once { (text : List ℕ) → with_references (output_rule encoding) (with_references (output_rule encoding) text)
+        ≡ with_references (output_rule encoding) text }
+    ensures mappable { (text : List ℕ) → any_unmappable (output_rule encoding) (with_references (output_rule encoding) text) ≡ false }
 {
     let _ = encoding;
 }

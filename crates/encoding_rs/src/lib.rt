@@ -4,7 +4,9 @@
 #![tactic(auto)]
 
 mod bom;
+mod chars_of_text;
 mod decoder;
+mod encode_run;
 mod encoder;
 mod encoding;
 mod labels;

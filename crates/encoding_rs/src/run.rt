@@ -1,4 +1,4 @@
-//! Whole runs of a decoder: what any list of calls comes to.
+//! Whole runs of a decoder or an encoder: what any list of calls comes to.
 
 ghost use Rattle.std.specs.Prelude.{◌≡◌, ◌≤◌, ◌⊎◌, ◌++◌, true, false, length, take, IfOk, OnOk};
 ghost use Rattle.std.specs.Char.{encode_utf8};
@@ -10,6 +10,7 @@ ghost use Rattle.encoding_rs.specs.Run.{units_by, AnswersCall, MakesCall, is_rep
 
 pub use crate::bom::BomHandling;
 use crate::decoder::Decoder;
+pub use crate::encode_run::{EncodeCall, EncodeReport, encode_run};
 use crate::encoding::Encoding;
 use enc_calls::CoderResult;
 use enc_codec::DecoderResult;

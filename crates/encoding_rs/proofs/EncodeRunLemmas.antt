@@ -1,0 +1,365 @@
+-- A run of an encoder goes on by one call.
+use Rattle.std.proofs.Common.{◌≡◌, ℕ, ◌+◌, ◌<◌, ◌≤◌, Bool, true, false, true≢false, ◌==◌, ◌↔◌, chars, List, [], ◌∷◌, ◌++◌, Option, Some, is_some, map, length, take, drop, refl, ap, ◌∙◌, sym, arith, append_assoc, ◌||◌, ◌&&◌, subst, nat_le, append-nil, get_or, if◌then◌else◌}
+use Rattle.std.proofs.lemmas.Bool.{and_parts, not-true}
+use Rattle.std.proofs.lemmas.Bool.Decides.{nat_tests}
+use Rattle.std.proofs.lemmas.List.{take-append-drop, drop-drop, take_more, length-append}
+use Rattle.std.proofs.Math.ListN.{drop_of_length-le}
+use Rattle.std.proofs.Math.Seq.{drop-append_seam}
+use Rattle.std.proofs.lemmas.Str.{encodes-chars, length-encode, len_utf8_bounds}
+use Rattle.std.specs.Char.{encode_utf8}
+use Rattle.std.specs.Str.{IsUtf8, encode_utf8_all}
+use Rattle.enc_codec.specs.declared.codec.Codec.{Codec}
+use Rattle.enc_codec.specs.declared.codec.Codec.TheVariants.{Utf8, Utf16Be, Utf16Le, SingleByte, Big5, EucKr, ShiftJis, EucJp, Gbk, Gb18030, Iso2022Jp, XUserDefined, Replacement}
+use Rattle.enc_encode.specs.Encoders.{encoder_rule}
+use Rattle.enc_encoders.specs.declared.character_set.CharacterSet.TheVariants.{Ascii}
+use Rattle.enc_encoders.specs.declared.encoder_result.EncoderResult.{EncoderResult}
+use Rattle.enc_encoders.specs.declared.encoder_result.EncoderResult.TheVariants.{InputEmpty, OutputFull, Unmappable}
+use Rattle.enc_encoders.specs.EncoderRule.{EncoderRule, RawState}
+use Rattle.enc_encoders.specs.Steps.{Step, chars_of, any_reported}
+use Rattle.enc_encoders.specs.Text.{bytes_of_text, with_references, reference_after}
+use Rattle.enc_encoders.specs.Call.{Stops}
+use Rattle.enc_encoders.proofs.StepLemmas.{any_reported-append}
+use Rattle.enc_encoders.proofs.TextLemmas.{parted}
+use Rattle.enc_references.specs.Treatment.{Treatment, Reported, Replaced, is_replaced, CallBy, StopsBy}
+use Rattle.enc_references.specs.Unmappable.{any_unmappable, reports_of}
+use Rattle.enc_references.proofs.UnmappableLemmas.{reports_by, reports_in, reports_in-append, any_reported_is, reports_are, any_unmappable-append, reports_of-append}
+use Rattle.encoding_rs.specs.declared.encoding.Id.{Id}
+use Rattle.encoding_rs.specs.declared.encoding.Id.TheVariants as id
+use Rattle.encoding_rs.specs.declared.encoding.Encoding.{Encoding}
+use Rattle.encoding_rs.specs.declared.encode_run.EncodeCall.{EncodeCall}
+use Rattle.encoding_rs.specs.Properties.{output_by_id}
+use Rattle.encoding_rs.specs.Encodings.{codec_by_id, or_utf_8, output_rule}
+use Rattle.encoding_rs.specs.Encoder.{EncoderState, kept_by_id, fresh_encoder, raw_state, Encodes}
+use Rattle.enc_units.specs.Output.{units_of_text}
+use Rattle.encoding_rs.specs.Run.{units_by}
+use Rattle.encoding_rs.specs.EncodeRun.{treatment_by, report_of, is_report, is_empty, MakesCall, EncodeState, encode_start, GoesOn, IsEncodeRun, whole_bytes, EncodePart, chars_in, reported_in, all_report, HasEncoded}
+
+-- the rule by which a run writes
+
+rule_by : Id → EncoderRule
+rule_by i = or_utf_8 (encoder_rule (codec_by_id i))
+
+same_rule : (i : Id) → rule_by (output_by_id i) ≡ rule_by i
+unfolding rule_by
+same_rule id.Replacement = refl
+same_rule id.Utf16be = refl
+same_rule id.Utf16le = refl
+same_rule _ = refl
+
+nothing_of : (c : Codec) → bytes_of_text (or_utf_8 (encoder_rule c)) Ascii [] ≡ []
+nothing_of Utf8 = refl
+nothing_of Utf16Be = refl
+nothing_of Utf16Le = refl
+nothing_of (SingleByte index) = refl
+nothing_of Big5 = refl
+nothing_of EucKr = refl
+nothing_of ShiftJis = refl
+nothing_of EucJp = refl
+nothing_of Gbk = refl
+nothing_of Gb18030 = refl
+nothing_of Iso2022Jp = refl
+nothing_of XUserDefined = refl
+nothing_of Replacement = refl
+
+-- What the calls of a run have come to: what is written, and what is still to come.
+pub record Written (e : Encoding) (text : List ℕ) (calls : List EncodeCall) (s : EncodeState) : Type 0 where
+  pub parts : List EncodePart
+  pub rule : (raw_state s.encoder).rule ≡ output_rule e
+  pub chars : text ≡ chars_in parts ++ drop s.read text
+  pub count : s.read ≡ length (chars_in parts)
+  pub calls_are : map (λ (p : EncodePart). p.replaces) parts ≡ map (λ (c : EncodeCall). c.replace) calls
+  pub bytes : whole_bytes e text ≡ s.bytes ++ bytes_of_text (raw_state s.encoder).rule s.encoder.set (with_references (raw_state s.encoder).rule (drop s.read text))
+  pub reported : s.unmappables ≡ reported_in (output_rule e) parts
+  pub flag : s.had_unmappables ≡ any_unmappable (output_rule e) (chars_in parts)
+  pub ended : s.finished ≡ true → (drop s.read text ≡ []) × (s.encoder.set ≡ Ascii)
+
+pub start : (e : Encoding) (text : List ℕ) → Written e text [] (encode_start e)
+unfolding same_rule rule_by
+start e text =
+    let same : output_rule e ≡ (raw_state (fresh_encoder e)).rule = sym (same_rule e.id) in
+    record {
+      parts = [];
+      rule = same_rule e.id;
+      chars = refl;
+      count = refl;
+      calls_are = refl;
+      bytes = ap (λ (r : EncoderRule). bytes_of_text r Ascii (with_references r text)) same;
+      reported = refl;
+      flag = refl;
+      ended = λ f. absurd (true≢false (sym f));
+    }
+
+-- one part more
+
+chars_in-one : (ps : List EncodePart) (p : EncodePart) → chars_in (ps ++ p ∷ []) ≡ chars_in ps ++ p.chars
+chars_in-one [] p = append-nil p.chars
+chars_in-one (q ∷ ps) p = ap (λ x. q.chars ++ x) (chars_in-one ps p) ∙ sym (append_assoc q.chars (chars_in ps) p.chars)
+
+map-one : {A B : Type 0} (f : A → B) (xs : List A) (x : A) → map f (xs ++ x ∷ []) ≡ map f xs ++ f x ∷ []
+map-one f [] x = refl
+map-one f (y ∷ xs) x = ap (λ z. f y ∷ z) (map-one f xs x)
+
+abbrev reported_by : EncoderRule → EncodePart → List ℕ
+reported_by rule p = if p.replaces then [] else reports_of rule p.chars
+
+reported_in-one : (rule : EncoderRule) (ps : List EncodePart) (p : EncodePart) → reported_in rule (ps ++ p ∷ []) ≡ reported_in rule ps ++ reported_by rule p
+reported_in-one rule [] p = append-nil (reported_by rule p)
+reported_in-one rule (q ∷ ps) p =
+    ap (λ x. reported_by rule q ++ x) (reported_in-one rule ps p) ∙ sym (append_assoc (reported_by rule q) (reported_in rule ps) (reported_by rule p))
+
+-- what a call has reported
+
+or_false : (b : Bool) → (b || false) ≡ b
+or_false true = refl
+or_false false = refl
+
+none_in : (ps : List Step) → any_reported ps ≡ false → reports_in ps ≡ []
+none_in [] e = refl
+none_in (p ∷ ps) e =
+    let q = parted p.report (any_reported ps) e in
+    ap (λ r. reports_by r ++ reports_in ps) q.0 ∙ none_in ps q.1
+
+one_in : (r : Option ℕ) (c : ℕ) → r ≡ Some c → reports_by r ≡ c ∷ []
+one_in r c e = ap reports_by e
+
+-- the steps of a call without replacement
+report_is : (new : RawState) (rest : List ℕ) (last : Bool) (room : ℕ) (done : List Step) (result : EncoderResult) → Stops new rest last room done result
+    → (report_of result ≡ reports_in done) × (is_report result ≡ any_reported done)
+report_is new rest last room done InputEmpty s = (sym (none_in done s.none_reported), sym s.none_reported)
+report_is new rest last room done OutputFull s = (sym (none_in done s.none_reported), sym s.none_reported)
+report_is new rest last room done (Unmappable c) s =
+    let q = s.report in (
+      sym (ap reports_in s.then_report ∙ reports_in-append s.before (q ∷ []) ∙ ap (λ t. t ++ (reports_by q.report ++ [])) (none_in s.before s.none_reported)
+          ∙ append-nil (reports_by q.report) ∙ one_in q.report c s.reported),
+      sym (ap any_reported s.then_report ∙ any_reported-append s.before (q ∷ []) ∙ ap (λ b. b || (is_some q.report || false)) s.none_reported
+          ∙ ap (λ r. is_some r || false) s.reported),
+    )
+
+-- the steps of a call with replacement
+none_told : (kept : ℕ) (new : RawState) (rest : List ℕ) (last : Bool) (room : ℕ) (done : List Step) (result : EncoderResult) → StopsBy (Replaced kept) new rest last room done result
+    → (report_of result ≡ []) × (is_report result ≡ false)
+none_told kept new rest last room done InputEmpty s = (refl, refl)
+none_told kept new rest last room done OutputFull s = (refl, refl)
+none_told kept new rest last room done (Unmappable c) s = absurd s
+
+-- what a call tells of unmappable characters, by its steps
+tells : (replace : Bool) (v : EncoderState) (new : RawState) (rest : List ℕ) (last : Bool) (room : ℕ) (done : List Step) (result : EncoderResult) (replaced : Bool)
+    → replaced ≡ (is_replaced (treatment_by replace v) && any_reported done) → StopsBy (treatment_by replace v) new rest last room done result
+    → (report_of result ≡ (if replace then [] else reports_in done)) × ((replaced || is_report result) ≡ any_reported done)
+tells true v new rest last room done result replaced f s =
+    let none = none_told (kept_by_id v.encoding.id) new rest last room done result s in
+    (none.0, ap (λ b. replaced || b) none.1 ∙ or_false replaced ∙ f)
+tells false v new rest last room done result replaced f s =
+    let told = report_is new rest last room done result s in
+    (told.0, ap (λ b. b || is_report result) f ∙ told.1)
+
+-- where a call has ended the text, nothing is left
+left_nothing : (treatment : Treatment) (new : RawState) (rest : List ℕ) (last : Bool) (room : ℕ) (done : List Step) (result : EncoderResult) → StopsBy treatment new rest last room done result
+    → is_empty result ≡ true → rest ≡ []
+left_nothing Reported new rest last room done InputEmpty s e = s.all_read
+left_nothing (Replaced kept) new [] last room done InputEmpty s e = refl
+left_nothing (Replaced kept) new (c ∷ t) last room done InputEmpty s e = absurd (true≢false (sym s))
+left_nothing treatment new rest last room done OutputFull s e = absurd (true≢false (sym e))
+left_nothing treatment new rest last room done (Unmappable c) s e = absurd (true≢false (sym e))
+
+is_empty_is : (result : EncoderResult) → is_empty result ≡ true → result ≡ InputEmpty
+is_empty_is InputEmpty e = refl
+is_empty_is OutputFull e = absurd (true≢false (sym e))
+is_empty_is (Unmappable c) e = absurd (true≢false (sym e))
+
+reaches : (n offer : ℕ) → nat_le n offer ≡ true → n ≤ offer
+reaches n offer h = grind (arith, nat_tests)
+
+-- One call more.
+module _ (e : Encoding) (text : List ℕ) (calls : List EncodeCall) (s : EncodeState) (w : Written e text calls s) (made : EncodeCall) (new : EncoderState) (after : List ℕ)
+    (result : EncoderResult) (more : ℕ) (replaced : Bool) (call : MakesCall made s.encoder new (drop s.read text) s.bytes after result more replaced) where
+  abbrev raw : CallBy (units_by made.utf16) (treatment_by made.replace s.encoder) (raw_state s.encoder) (raw_state new) (take made.offer (drop s.read text)) call.encodes.rest
+      (nat_le (length (drop s.read text)) made.offer) made.room result call.units call.wrote replaced
+  raw = call.encodes.call
+
+  abbrev unread : List ℕ
+  unread = drop s.read text
+
+  abbrev later : List ℕ
+  later = drop made.offer unread
+
+  -- the characters that it has read, and those behind them
+  unread_is : unread ≡ chars_of raw.done ++ (call.encodes.rest ++ later)
+  unread_is =
+      sym (take-append-drop made.offer unread) ∙ ap (λ t. t ++ later) raw.reads ∙ append_assoc (chars_of raw.done) call.encodes.rest later
+
+  pub behind : drop (s.read + more) text ≡ call.encodes.rest ++ later
+  behind =
+      sym (drop-drop more s.read text) ∙ ap (λ n. drop n unread) call.chars ∙ ap (drop (length (chars_of raw.done))) unread_is
+      ∙ drop-append_seam (chars_of raw.done) (call.encodes.rest ++ later)
+
+  nothing_later : nat_le (length unread) made.offer ≡ true → later ≡ []
+  nothing_later l = drop_of_length-le unread (reaches (length unread) made.offer l)
+
+  kept_rule : (raw_state new).rule ≡ (raw_state s.encoder).rule
+  kept_rule = raw.rule
+
+  written : whole_bytes e text ≡ after ++ bytes_of_text (raw_state new).rule new.set (with_references (raw_state new).rule (drop (s.read + more) text))
+  written =
+      w.bytes
+      ∙ ap (λ t. s.bytes ++ bytes_of_text (raw_state s.encoder).rule s.encoder.set (with_references (raw_state s.encoder).rule t)) (sym (take-append-drop made.offer unread))
+      ∙ ap (λ t. s.bytes ++ t) (raw.text later nothing_later)
+      ∙ ap (λ t. s.bytes ++ (call.wrote ++ (reference_after result ++ bytes_of_text (raw_state new).rule new.set (with_references (raw_state new).rule t)))) (sym behind)
+      ∙ ap (λ t. s.bytes ++ t) (sym (append_assoc call.wrote (reference_after result) tail)) ∙ sym (append_assoc s.bytes (call.wrote ++ reference_after result) tail)
+      ∙ ap (λ t. t ++ tail) (sym call.bytes)
+    where
+      tail : List ℕ
+      tail = bytes_of_text (raw_state new).rule new.set (with_references (raw_state new).rule (drop (s.read + more) text))
+
+  told : (report_of result ≡ (if made.replace then [] else reports_in raw.done)) × ((replaced || is_report result) ≡ any_reported raw.done)
+  told = tells made.replace s.encoder (raw_state new) call.encodes.rest (nat_le (length unread) made.offer) made.room raw.done result replaced raw.flag raw.stops
+
+  abbrev part : EncodePart
+  part = record { replaces = made.replace; chars = chars_of raw.done }
+
+  reports : report_of result ≡ reported_by (output_rule e) part
+  reports =
+      told.0 ∙ ap (λ t. if made.replace then [] else t) (reports_are (raw_state s.encoder) (raw_state new) _ call.encodes.rest _ raw.done raw.reads raw.rule raw.remaining
+      ∙ ap (λ r. reports_of r (chars_of raw.done)) w.rule)
+
+  any : (replaced || is_report result) ≡ any_unmappable (output_rule e) (chars_of raw.done)
+  any =
+      told.1 ∙ any_reported_is (raw_state s.encoder) (raw_state new) _ call.encodes.rest _ raw.done raw.reads raw.rule raw.remaining
+      ∙ ap (λ r. any_unmappable r (chars_of raw.done)) w.rule
+
+  ends : (nat_le (length unread) made.offer && is_empty result) ≡ true → (drop (s.read + more) text ≡ []) × (new.set ≡ Ascii)
+  ends f =
+      let both = and_parts _ _ f in
+      let none = left_nothing _ (raw_state new) call.encodes.rest _ made.room raw.done result raw.stops both.1 in
+      (behind ∙ ap (λ t. t ++ later) none ∙ nothing_later both.0, ap (λ (v : EncoderState). v.set) (call.encodes.ended (is_empty_is result both.1) both.0))
+
+  pub written_on : Written e text (calls ++ made ∷ []) (record {
+    encoder = new;
+    read = s.read + more;
+    bytes = after;
+    unmappables = s.unmappables ++ report_of result;
+    had_unmappables = s.had_unmappables || (replaced || is_report result);
+    finished = nat_le (length (drop s.read text)) made.offer && is_empty result;
+  })
+  written_on = record {
+    parts = w.parts ++ part ∷ [];
+    rule = kept_rule ∙ w.rule;
+    chars = w.chars ∙ ap (λ t. chars_in w.parts ++ t) (unread_is ∙ ap (λ t. chars_of raw.done ++ t) (sym behind))
+        ∙ sym (append_assoc (chars_in w.parts) (chars_of raw.done) (drop (s.read + more) text)) ∙ ap (λ t. t ++ drop (s.read + more) text) (sym (chars_in-one w.parts part));
+    count = omega (arith, w.count, call.chars, ap length (chars_in-one w.parts part), length-append (chars_in w.parts) (chars_of raw.done));
+    calls_are = map-one (λ (p : EncodePart). p.replaces) w.parts part ∙ ap (λ x. x ++ made.replace ∷ []) w.calls_are ∙ sym (map-one (λ (c : EncodeCall). c.replace) calls made);
+    bytes = written;
+    reported = ap (λ x. x ++ report_of result) w.reported ∙ ap (λ x. reported_in (output_rule e) w.parts ++ x) reports ∙ sym (reported_in-one (output_rule e) w.parts part);
+    flag = ap (λ b. b || (replaced || is_report result)) w.flag ∙ ap (λ b. any_unmappable (output_rule e) (chars_in w.parts) || b) any
+        ∙ sym (any_unmappable-append (output_rule e) (chars_in w.parts) (chars_of raw.done)) ∙ ap (any_unmappable (output_rule e)) (sym (chars_in-one w.parts part));
+    ended = ends;
+  }
+
+-- the calls of a run, and one more
+runs_on : (text : List ℕ) (calls : List EncodeCall) (made : EncodeCall) (a b c : EncodeState) → IsEncodeRun text calls a b → GoesOn text made b c → IsEncodeRun text (calls ++ made ∷ []) a c
+runs_on text [] made a b c r g = (c, subst (λ (x : EncodeState). GoesOn text made x c) (sym r) g, refl)
+runs_on text (call ∷ calls) made a b c r g = (r.0, r.1, runs_on text calls made r.0 b c r.2 g)
+
+-- the same, for the calls of a list
+pub runs_next : (text : List ℕ) (calls : List EncodeCall) (n k : ℕ) (d : EncodeCall) (a b c : EncodeState) → n ≡ k → k < length calls → IsEncodeRun text (take n calls) a b
+    → GoesOn text (get_or calls k d) b c → IsEncodeRun text (take (n + 1) calls) a c
+runs_next text calls n k d a b c e h r g =
+    subst (λ (x : List EncodeCall). IsEncodeRun text x a c) (sym (take_more calls n d (rw e h)))
+    (runs_on text (take n calls) (get_or calls n d) a b c r (subst (λ i. GoesOn text (get_or calls i d) b c) (sym e) g))
+
+pub takes_next : (e : Encoding) (text : List ℕ) (calls : List EncodeCall) (n k : ℕ) (d : EncodeCall) (s : EncodeState) → n ≡ k → k < length calls
+    → Written e text (take n calls ++ get_or calls k d ∷ []) s → Written e text (take (n + 1) calls) s
+takes_next e text calls n k d s f h r =
+    subst (λ x. Written e text x s) (ap (λ i. take n calls ++ get_or calls i d ∷ []) (sym f) ∙ sym (take_more calls n d (rw f h))) r
+
+pub has_encoded : (e : Encoding) (text : List ℕ) (calls : List EncodeCall) (s : EncodeState) → Written e text calls s → HasEncoded e text calls s.bytes s.read s.unmappables s.had_unmappables
+has_encoded e text calls s w = record {
+  parts = w.parts;
+  unread = drop s.read text;
+  more = bytes_of_text (raw_state s.encoder).rule s.encoder.set (with_references (raw_state s.encoder).rule (drop s.read text));
+  chars = w.chars;
+  count = w.count;
+  calls_are = w.calls_are;
+  beginning = w.bytes;
+  reported = w.reported;
+  flag = w.flag;
+}
+
+pub within : (e : Encoding) (text : List ℕ) (calls : List EncodeCall) (s : EncodeState) → Written e text calls s → s.read ≤ length text
+within e text calls s w = omega (arith, w.count, ap length w.chars, length-append (chars_in w.parts) (drop s.read text))
+
+-- where all calls report, all unmappable characters are reported
+
+first_flag : (a b : Bool) (x y : List Bool) → a ∷ x ≡ b ∷ y → a ≡ b
+first_flag a b x y e = cc
+
+rest_flags : (a b : Bool) (x y : List Bool) → a ∷ x ≡ b ∷ y → x ≡ y
+rest_flags a b x y e = cc
+
+no_flags : (a : Bool) (x : List Bool) → a ∷ x ≡ [] → ⊥
+no_flags a x e = cc
+
+all_reported : (rule : EncoderRule) (ps : List EncodePart) (cs : List EncodeCall) → map (λ (p : EncodePart). p.replaces) ps ≡ map (λ (c : EncodeCall). c.replace) cs → all_report cs ≡ true
+    → reported_in rule ps ≡ reports_of rule (chars_in ps)
+all_reported rule [] cs g r = refl
+all_reported rule (p ∷ ps) [] g r = absurd (no_flags p.replaces (map (λ (q : EncodePart). q.replaces) ps) g)
+all_reported rule (p ∷ ps) (c ∷ cs) g r =
+    let both = and_parts _ _ r in
+    let off : p.replaces ≡ false = first_flag _ _ _ _ g ∙ not-true c.replace both.0 in
+    ap (λ b. (if b then [] else reports_of rule p.chars) ++ reported_in rule ps) off
+    ∙ ap (λ x. reports_of rule p.chars ++ x) (all_reported rule ps cs (rest_flags _ _ _ _ g) both.1) ∙ sym (reports_of-append rule p.chars (chars_in ps))
+
+module _ (e : Encoding) (text : List ℕ) (calls : List EncodeCall) (s : EncodeState) (w : Written e text calls s) (f : s.finished ≡ true) where
+  all_chars : chars_in w.parts ≡ text
+  all_chars = sym (w.chars ∙ ap (λ t. chars_in w.parts ++ t) (w.ended f).0 ∙ append-nil (chars_in w.parts))
+
+  -- so it is all of the bytes
+  pub all_bytes : s.bytes ≡ whole_bytes e text
+  unfolding rule_by
+  all_bytes = sym (
+      w.bytes ∙ ap (λ t. s.bytes ++ bytes_of_text (raw_state s.encoder).rule s.encoder.set (with_references (raw_state s.encoder).rule t)) (w.ended f).0
+      ∙ ap (λ c. s.bytes ++ bytes_of_text (raw_state s.encoder).rule c []) (w.ended f).1
+      ∙ ap (λ (r : EncoderRule). s.bytes ++ bytes_of_text r Ascii []) w.rule ∙ ap (λ t. s.bytes ++ t) (nothing_of (codec_by_id e.id)) ∙ append-nil s.bytes)
+
+  pub any_char : s.had_unmappables ≡ any_unmappable (output_rule e) text
+  any_char = w.flag ∙ ap (any_unmappable (output_rule e)) all_chars
+
+  pub all_reports : all_report calls ≡ true → s.unmappables ≡ reports_of (output_rule e) text
+  all_reports r = w.reported ∙ all_reported (output_rule e) w.parts calls w.calls_are r ∙ ap (reports_of (output_rule e)) all_chars
+
+  pub all_read : s.read ≡ length text
+  all_read = w.count ∙ ap length all_chars
+
+-- a text has no more characters than bytes
+pub few_chars : (text : List ℕ) → IsUtf8 text → length (chars text) ≤ length text
+few_chars text u = omega (arith, few (chars text), ap length (encodes-chars text u))
+  where
+    few : (t : List ℕ) → length t ≤ length (encode_utf8_all t)
+    few [] = omega arith
+    few (c ∷ t) = omega (arith, few t, length-append (encode_utf8 c) (encode_utf8_all t), length-encode c, len_utf8_bounds c)
+
+leb_by : (n m : ℕ) (b : Bool) → (b ≡ true → n ≤ m) → (n ≤ m → b ≡ true) → b ≡ nat_le n m
+leb_by n m true h k = grind (arith, nat_tests, h refl)
+leb_by n m false h k = grind (arith, nat_tests, λ (l : n ≤ m). true≢false (sym (k l)))
+
+-- what is offered is all that is left
+pub is_last : (n m offer : ℕ) (last : Bool) → last ≡ (n == 0) → (n ≡ 0) ↔ (m ≤ offer) → last ≡ nat_le m offer
+is_last n m offer last l h = leb_by m offer last (λ e. h.0 (grind (arith, nat_tests, sym l ∙ e))) (λ e. l ∙ grind (arith, nat_tests, h.1 e))
+
+-- A call that is offered the next characters is one of a run.
+pub makes_call : (call : EncodeCall) (old new : EncoderState) (unread chunk before wrote after : List ℕ) (last : Bool) (result : EncoderResult) (units read : ℕ) (replaced : Bool)
+    → Encodes (units_by call.utf16) (treatment_by call.replace old) old new chunk last call.room result units wrote replaced
+    → chunk ≡ take call.offer unread → last ≡ nat_le (length unread) call.offer → after ≡ (before ++ wrote) ++ reference_after result
+    → ((front back : List ℕ) → chunk ≡ front ++ back → units ≡ length (units_of_text (units_by call.utf16) front) → read ≡ length front)
+    → MakesCall call old new unread before after result read replaced
+makes_call call old new unread chunk before wrote after last result units read replaced e t l a n =
+    let made : Encodes (units_by call.utf16) (treatment_by call.replace old) old new (take call.offer unread) (nat_le (length unread) call.offer) call.room result units wrote replaced =
+    subst (λ (b : Bool). Encodes (units_by call.utf16) (treatment_by call.replace old) old new (take call.offer unread) b call.room result units wrote replaced) l
+    (subst (λ (x : List ℕ). Encodes (units_by call.utf16) (treatment_by call.replace old) old new x last call.room result units wrote replaced) t e) in
+    record {
+      wrote = wrote;
+      units = units;
+      encodes = made;
+      chars = n (chars_of made.call.done) made.rest (t ∙ made.call.reads) made.call.units;
+      bytes = a ∙ append_assoc before wrote (reference_after result);
+    }

@@ -1,0 +1,83 @@
+-- Texts with references in the place of unmappable characters.
+use Rattle.std.proofs.Common.{◌≡◌, ℕ, Bool, true, false, not, ◌||◌, is_some, Option, Some, None, List, [], ◌∷◌, ◌++◌, inl, refl, ap, sym, ◌∙◌, append_assoc, append-nil, decimal}
+use Rattle.enc_codec.specs.declared.codec.Codec.{Codec}
+use Rattle.enc_codec.specs.declared.codec.Codec.TheVariants.{Utf8, Utf16Be, Utf16Le, SingleByte, Big5, EucKr, ShiftJis, EucJp, Gbk, Gb18030, Iso2022Jp, XUserDefined, Replacement}
+use Rattle.enc_encoders.specs.EncoderRule.{EncoderRule, IsLawful, IsOfReferences}
+use Rattle.enc_encoders.specs.Text.{reference, with_reference, with_references}
+use Rattle.enc_encoders.specs.Utf8.{utf_8_bytes}
+use Rattle.enc_encoders.specs.SingleByte.{single_byte_bytes, x_user_defined_bytes}
+use Rattle.enc_encoders.specs.Big5.{big5_bytes}
+use Rattle.enc_encoders.specs.EucKr.{euc_kr_bytes}
+use Rattle.enc_encoders.specs.ShiftJis.{shift_jis_bytes}
+use Rattle.enc_encoders.specs.EucJp.{euc_jp_bytes}
+use Rattle.enc_encoders.specs.Gb18030.{gb18030_bytes}
+use Rattle.enc_encoders.proofs.StatelessLemmas.{stateless_is_lawful, utf_8_writes_ascii, with_ascii_writes_ascii}
+use Rattle.enc_encoders.proofs.Iso2022JpLemmas.{iso_2022_jp_is_lawful}
+use Rattle.enc_encoders.proofs.TextLemmas.{AreOfReferences, reference_is}
+use Rattle.enc_encode.specs.Encoders.{encoder_rule}
+use Rattle.enc_references.specs.Unmappable.{any_unmappable}
+use Rattle.enc_references.proofs.UnmappableLemmas.{any_unmappable-append}
+use Rattle.encoding_rs.specs.Encodings.{or_utf_8}
+
+-- what holds of the rule of every encoder
+pub lawful_of : (c : Codec) → IsLawful (or_utf_8 (encoder_rule c))
+lawful_of Utf8 = stateless_is_lawful utf_8_bytes utf_8_writes_ascii
+lawful_of Utf16Be = stateless_is_lawful utf_8_bytes utf_8_writes_ascii
+lawful_of Utf16Le = stateless_is_lawful utf_8_bytes utf_8_writes_ascii
+lawful_of Replacement = stateless_is_lawful utf_8_bytes utf_8_writes_ascii
+lawful_of (SingleByte index) = stateless_is_lawful (single_byte_bytes index) (with_ascii_writes_ascii _)
+lawful_of Big5 = stateless_is_lawful big5_bytes (with_ascii_writes_ascii _)
+lawful_of EucKr = stateless_is_lawful euc_kr_bytes (with_ascii_writes_ascii _)
+lawful_of ShiftJis = stateless_is_lawful shift_jis_bytes (with_ascii_writes_ascii _)
+lawful_of EucJp = stateless_is_lawful euc_jp_bytes (with_ascii_writes_ascii _)
+lawful_of Gbk = stateless_is_lawful (gb18030_bytes true) (with_ascii_writes_ascii _)
+lawful_of Gb18030 = stateless_is_lawful (gb18030_bytes false) (with_ascii_writes_ascii _)
+lawful_of XUserDefined = stateless_is_lawful x_user_defined_bytes (with_ascii_writes_ascii _)
+lawful_of Iso2022Jp = iso_2022_jp_is_lawful
+
+with_references-append : (e : EncoderRule) (a b : List ℕ) → with_references e (a ++ b) ≡ with_references e a ++ with_references e b
+with_references-append e [] b = refl
+with_references-append e (c ∷ a) b =
+    ap (λ t. with_reference e c (e.bytes c) ++ t) (with_references-append e a b) ∙ sym (append_assoc (with_reference e c (e.bytes c)) (with_references e a) (with_references e b))
+
+module _ (e : EncoderRule) (l : IsLawful e) where
+  -- a mappable character stays, and so does a reference
+
+  mapped_stays : (c : ℕ) (b : List ℕ) (t : List ℕ) → e.bytes c ≡ Some b → with_references e (c ∷ t) ≡ c ∷ with_references e t
+  mapped_stays c b t h = ap (λ x. with_reference e c x ++ with_references e t) h
+
+  mapped_is : (c : ℕ) (b : List ℕ) (t : List ℕ) → e.bytes c ≡ Some b → any_unmappable e (c ∷ t) ≡ any_unmappable e t
+  mapped_is c b t h = ap (λ x. not (is_some x) || any_unmappable e t) h
+
+  stays : (t : List ℕ) → AreOfReferences t → with_references e t ≡ t
+  stays [] h = refl
+  stays (c ∷ t) h = mapped_stays c (c ∷ []) t (l.references c h.0) ∙ ap (λ x. c ∷ x) (stays t h.1)
+
+  are_mapped : (t : List ℕ) → AreOfReferences t → any_unmappable e t ≡ false
+  are_mapped [] h = refl
+  are_mapped (c ∷ t) h = mapped_is c (c ∷ []) t (l.references c h.0) ∙ are_mapped t h.1
+
+  of_reference : (c : ℕ) → AreOfReferences (reference c)
+  of_reference c = (inl refl, reference_is c)
+
+  -- what stands for a character stays, and is mappable
+
+  one_stays : (c : ℕ) (b : Option (List ℕ)) → e.bytes c ≡ b → with_references e (with_reference e c b) ≡ with_reference e c b
+  one_stays c None h = stays (reference (e.reported c)) (of_reference (e.reported c))
+  one_stays c (Some b) h = mapped_stays c b [] h
+
+  one_is_mapped : (c : ℕ) (b : Option (List ℕ)) → e.bytes c ≡ b → any_unmappable e (with_reference e c b) ≡ false
+  one_is_mapped c None h = are_mapped (reference (e.reported c)) (of_reference (e.reported c))
+  one_is_mapped c (Some b) h = mapped_is c b [] h
+
+  pub once : (t : List ℕ) → with_references e (with_references e t) ≡ with_references e t
+  once [] = refl
+  once (c ∷ t) =
+      with_references-append e (with_reference e c (e.bytes c)) (with_references e t) ∙ ap (λ x. x ++ with_references e (with_references e t)) (one_stays c (e.bytes c) refl)
+      ∙ ap (λ x. with_reference e c (e.bytes c) ++ x) (once t)
+
+  pub all_mapped : (t : List ℕ) → any_unmappable e (with_references e t) ≡ false
+  all_mapped [] = refl
+  all_mapped (c ∷ t) =
+      any_unmappable-append e (with_reference e c (e.bytes c)) (with_references e t) ∙ ap (λ b. b || any_unmappable e (with_references e t)) (one_is_mapped c (e.bytes c) refl)
+      ∙ all_mapped t

@@ -1,0 +1,297 @@
+//! Whole runs of an encoder: what any list of calls comes to.
+
+ghost use Rattle.std.specs.Prelude.{◌≡◌, ◌≤◌, ◌⊎◌, ◌++◌, ◌&&◌, true, false, nat_le, chars, length, take, IfOk, OnOk};
+ghost use Rattle.std.specs.Char.{encode_utf8};
+ghost use Rattle.std.specs.Char.Escape.{encode_utf16};
+ghost use Rattle.enc_encoders.specs.Text.{reference_after};
+ghost use Rattle.enc_references.specs.Treatment.{stop_of};
+ghost use Rattle.enc_references.specs.Unmappable.{any_unmappable, reports_of};
+ghost use Rattle.encoding_rs.specs.Encodings.{output_rule};
+ghost use Rattle.encoding_rs.specs.Encoder.{EncoderState, Encodes};
+ghost use Rattle.encoding_rs.specs.Run.{units_by};
+ghost use Rattle.encoding_rs.specs.EncodeRun.{treatment_by, report_of, is_report, is_empty, EncodeState, MakesCall, IsEncodeRun, HasEncoded, encode_start, whole_bytes, all_report};
+
+use crate::chars_of_text::{chars_in_units, split_at_char, utf16_of};
+use crate::encoder::Encoder;
+use crate::encoding::Encoding;
+use crate::run::RunError;
+use enc_calls::CoderResult;
+use enc_encode::EncoderResult;
+use enc_references::put_reference;
+use std::alloc::{AllocError, Global};
+
+/// One call of a run: from which code units it encodes, what it does with unmappable characters, how many characters it is
+/// offered, and how much room its output has.
+#[derive(Clone, Copy)]
+pub struct EncodeCall {
+    /// It encodes from UTF-16, and else from UTF-8.
+    pub utf16: bool,
+    /// It puts a decimal reference in the place of each unmappable character, and else reports it.
+    pub replace: bool,
+    /// How many characters it is offered, if so many are left.
+    pub offer: usize,
+    /// How many bytes its output can take.
+    pub room: usize,
+}
+
+/// What a run came to.
+#[derive(Drop)]
+pub struct EncodeReport {
+    /// The bytes.
+    pub bytes: Vec<u8>,
+    /// How many characters were read.
+    pub read: usize,
+    /// The characters that were reported as unmappable, in order.
+    pub unmappables: Vec<char>,
+    /// Whether any character was unmappable.
+    pub had_unmappables: bool,
+    /// Whether the end of the text was told and reached.
+    pub finished: bool,
+    /// How many calls were made.
+    pub calls: usize,
+}
+
+/// What one call of a run did, with what it has read in code units or in characters.
+#[derive(Clone, Copy)]
+struct Made {
+    result: EncoderResult,
+    read: usize,
+    replaced: bool,
+}
+
+/// What a call with replacement did.
+fn made_replacing(stop: CoderResult, read: usize, replaced: bool) -> Made
+    ensures { result ≡ record { result = stop_of stop; read = read; replaced = replaced } }
+{
+    let result = match stop {
+        CoderResult::InputEmpty => EncoderResult::InputEmpty,
+        CoderResult::OutputFull => EncoderResult::OutputFull,
+    };
+    Made {
+        result,
+        read,
+        replaced,
+    }
+}
+
+/// Makes one call from UTF-8: what it did, and its bytes.
+fn call_from_utf8(
+    alloc: Global,
+    encoder: &mut Encoder,
+    chunk: &str,
+    last: bool,
+    call: EncodeCall,
+) -> Result<(Made, Vec<u8>), AllocError>
+    ensures { IfOk result (λ done. Encodes encode_utf8 (treatment_by call.replace encoder.old) encoder.old encoder.new (chars chunk.now) last
+        call.room done.0.result done.0.read done.1.items done.0.replaced) }
+{
+    let mut bytes = Vec::with_capacity(alloc, call.room)?;
+    if call.replace {
+        let (stop, read, replaced) = encoder.encode_from_utf8_to_vec(chunk, &mut bytes, last);
+        return Ok((made_replacing(stop, read, replaced), bytes));
+    }
+    let (result, read) = encoder.encode_from_utf8_to_vec_without_replacement(
+        chunk, &mut bytes, last,
+    );
+    let made = Made {
+        result,
+        read,
+        replaced: false,
+    };
+    Ok((made, bytes))
+}
+
+/// The same from UTF-16.
+fn call_from_utf16(
+    alloc: Global,
+    encoder: &mut Encoder,
+    chunk: &str,
+    last: bool,
+    call: EncodeCall,
+) -> Result<(Made, Vec<u8>), AllocError>
+    ensures { IfOk result (λ done. Encodes encode_utf16 (treatment_by call.replace encoder.old) encoder.old encoder.new (chars chunk.now) last
+        call.room done.0.result done.0.read done.1.items done.0.replaced) }
+{
+    let units = utf16_of(alloc, chunk)?;
+    let mut bytes = vec![in alloc; 0; call.room]?;
+    if call.replace {
+        let (stop, read, written, replaced) = encoder.encode_from_utf16(&units, &mut bytes, last);
+        bytes.truncate(written);
+        return Ok((made_replacing(stop, read, replaced), bytes));
+    }
+    let (result, read, written) = encoder.encode_from_utf16_without_replacement(
+        &units, &mut bytes, last,
+    );
+    bytes.truncate(written);
+    let made = Made {
+        result,
+        read,
+        replaced: false,
+    };
+    Ok((made, bytes))
+}
+
+/// Makes one call from the units that it asks for.
+fn call_from(
+    alloc: Global,
+    encoder: &mut Encoder,
+    chunk: &str,
+    last: bool,
+    call: EncodeCall,
+) -> Result<(Made, Vec<u8>), AllocError>
+    ensures { IfOk result (λ done. Encodes (units_by call.utf16) (treatment_by call.replace encoder.old) encoder.old encoder.new (chars chunk.now) last
+        call.room done.0.result done.0.read done.1.items done.0.replaced) }
+{
+    if call.utf16 {
+        return call_from_utf16(alloc, encoder, chunk, last, call);
+    }
+    call_from_utf8(alloc, encoder, chunk, last, call)
+}
+
+/// Appends the reference to the character that a call has reported, if it has.
+fn append_reference(bytes: &mut Vec<u8>, stop: EncoderResult) -> Result<(), AllocError>
+    ensures { OnOk result (bytes.new.items ≡ bytes.old.items ++ reference_after stop) }
+{
+    let EncoderResult::Unmappable(c) = stop else {
+        return Ok(());
+    };
+    let mut reference = [0; 10];
+    let len = put_reference(c, &mut reference, 0);
+    bytes.extend_from_slice(&reference[..len])
+}
+
+/// Takes note of the character that a call has reported, if it has.
+fn note_report(unmappables: &mut Vec<char>, stop: EncoderResult) -> Result<(), AllocError>
+    ensures { OnOk result (unmappables.new.items ≡ unmappables.old.items ++ report_of stop) }
+{
+    let EncoderResult::Unmappable(c) = stop else {
+        return Ok(());
+    };
+    match unmappables.push(c) {
+        Ok(()) => Ok(()),
+        Err(_) => Err(AllocError),
+    }
+}
+
+/// Whether a call has reported an unmappable character.
+fn reports(stop: EncoderResult) -> bool
+    ensures { result ≡ is_report stop }
+{
+    match stop {
+        EncoderResult::InputEmpty => false,
+        EncoderResult::OutputFull => false,
+        EncoderResult::Unmappable(_) => true,
+    }
+}
+
+/// Whether a call has read all that it was offered.
+fn reads_all(stop: EncoderResult) -> bool
+    ensures { result ≡ is_empty stop }
+{
+    match stop {
+        EncoderResult::InputEmpty => true,
+        EncoderResult::OutputFull => false,
+        EncoderResult::Unmappable(_) => false,
+    }
+}
+
+/// Makes one call of a run: what it did, in characters, and whether it has ended the text. Where it reports an unmappable
+/// character, the reference to that is appended.
+fn make_call(
+    alloc: Global,
+    encoder: &mut Encoder,
+    unread: &str,
+    call: EncodeCall,
+    bytes: &mut Vec<u8>,
+) -> Result<(Made, bool), AllocError>
+    ensures call { IfOk result (λ made. MakesCall call encoder.old encoder.new (chars unread.now)
+        bytes.old.items bytes.new.items made.0.result made.0.read made.0.replaced) }
+    ensures ended { IfOk result (λ made. made.1 ≡ (nat_le (length (chars unread.now)) call.offer && is_empty made.0.result)) }
+{
+    let (chunk, behind) = split_at_char(unread, call.offer);
+    let last = behind.is_empty();
+    let (made, wrote) = call_from(alloc, encoder, chunk, last, call)?;
+    bytes.extend_from_slice(&wrote)?;
+    append_reference(bytes, made.result)?;
+    let read = chars_in_units(chunk, made.read, call.utf16);
+    let ended = last & reads_all(made.result);
+    let made = Made { read, ..made };
+    Ok((made, ended))
+}
+
+/// Encodes a text by the calls, in turn, with a new encoder of the output encoding. Each call is offered the next characters
+/// behind those that were read, or all that remain where these are fewer, and is told that nothing follows exactly where the
+/// offer reaches the end. It is a call from UTF-8 or UTF-16, with replacement or without; where one reports an unmappable
+/// character, the run puts the decimal reference to that in its place. Calls behind the end are not made.
+///
+/// However the calls cut the text between characters, whatever rooms they have and whatever kinds they are of, the bytes
+/// are a beginning of those of the whole text, in which a decimal reference stands in the place of each unmappable
+/// character, and all of them where the run is finished. Takes memory for the report and for each call's input and
+/// output, and answers [`RunError::Memory`] where it is refused, and only there.
+pub fn encode_run(
+    alloc: Global,
+    encoding: Encoding,
+    text: &str,
+    calls: &[EncodeCall],
+) -> Result<EncodeReport, RunError>
+    // The report is that of the calls made, one after another.
+    ensures run { IfOk result (λ report. (encoder : EncoderState)
+        × IsEncodeRun (chars text.now) (take report.calls calls.now) (encode_start encoding)
+        (record {
+          encoder = encoder;
+          read = report.read;
+          bytes = report.bytes.items;
+          unmappables = report.unmappables.items;
+          had_unmappables = report.had_unmappables;
+          finished = report.finished;
+        })) }
+
+    // All calls are made, unless the end is reached before.
+    ensures made { IfOk result (λ report. (report.finished ≡ true) ⊎ (report.calls ≡ length calls.now)) }
+    ensures calls { IfOk result (λ report. report.calls ≤ length calls.now) }
+
+    // What has come out is always a beginning of the bytes of the one text.
+    ensures beginning { IfOk result (λ report. HasEncoded encoding (chars text.now) (take report.calls calls.now)
+        report.bytes.items report.read report.unmappables.items report.had_unmappables) }
+
+    // At the end it is all of them.
+    ensures bytes { IfOk result (λ report. report.finished ≡ true → report.bytes.items ≡ whole_bytes encoding (chars text.now)) }
+    ensures flag { IfOk result (λ report. report.finished ≡ true → report.had_unmappables ≡ any_unmappable (output_rule encoding) (chars text.now)) }
+    ensures unmappables { IfOk result (λ report. report.finished ≡ true → all_report (take report.calls calls.now) ≡ true →
+        report.unmappables.items ≡ reports_of (output_rule encoding) (chars text.now)) }
+    ensures read { IfOk result (λ report. report.finished ≡ true → report.read ≡ length (chars text.now)) }
+{
+    let mut encoder = encoding.new_encoder();
+    let mut bytes = Vec::new(alloc);
+    let mut unmappables = Vec::new(alloc);
+    let mut unread = text;
+    let mut read = 0;
+    let mut had_unmappables = false;
+    let mut finished = false;
+    let mut made = 0;
+    for call in calls {
+        if finished {
+            break;
+        }
+        let Ok((done, ended)) = make_call(alloc, &mut encoder, unread, *call, &mut bytes) else {
+            return Err(RunError::Memory);
+        };
+        let Ok(()) = note_report(&mut unmappables, done.result) else {
+            return Err(RunError::Memory);
+        };
+        let (_, behind) = split_at_char(unread, done.read);
+        unread = behind;
+        read += done.read;
+        had_unmappables |= done.replaced | reports(done.result);
+        finished = ended;
+        made += 1;
+    }
+    Ok(EncodeReport {
+        bytes,
+        read,
+        unmappables,
+        had_unmappables,
+        finished,
+        calls: made,
+    })
+}
