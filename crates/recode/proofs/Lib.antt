@@ -1,4 +1,6 @@
 pub mod KnownLemmas
+pub mod FewLemmas
+pub mod EncodingLemmas
 pub mod DecodingLemmas
 pub mod ChunkLemmas
 pub mod RunLemmas

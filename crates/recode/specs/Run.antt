@@ -1,30 +1,46 @@
 -- What a run from a source to a sink does. Bytes are decoded by the encoding whose byte order mark stands in front of
--- them, and else by `from`; the mark is no text.
-use Rattle.std.specs.Prelude.{◌≡◌, ℕ, Bool, true, List, [], ◌++◌, Option, IfSome, option_map}
+-- them, and else by `from`; the mark is no text. The text is written in the output encoding of `to`.
+use Rattle.std.specs.Prelude.{◌≡◌, ℕ, Bool, true, ◌||◌, List, [], ◌++◌, Option, IfSome, option_map}
+use Rattle.enc_machine.specs.Sequence.{text_of}
+use Rattle.enc_references.specs.Unmappable.{any_unmappable}
 use Rattle.encoding_rs.specs.declared.bom.BomHandling.TheVariants.{Sniff}
 use Rattle.encoding_rs.specs.declared.encoding.Encoding.{Encoding}
-use Rattle.encoding_rs.specs.Decoding.{whole_utf_8, whole_malformed}
+use Rattle.encoding_rs.specs.Encodings.{output_rule}
+use Rattle.encoding_rs.specs.Decoding.{whole_sequences, whole_malformed}
+use Rattle.encoding_rs.specs.EncodeRun.{whole_bytes}
 use Rattle.recode.specs.Sink.{TakesMore}
 
 -- One list begins with another.
 abbrev pub BeginsWith : List ℕ → List ℕ → Type 0
 BeginsWith all front = (others : List ℕ) × (all ≡ front ++ others)
 
+-- the text of a whole input
+abbrev pub whole_text : Encoding → List ℕ → List ℕ
+whole_text from bytes = text_of (whole_sequences Sniff from bytes)
+
+-- its bytes in the output encoding, with decimal references in the place of unmappable characters
+abbrev pub recoded : Encoding → Encoding → List ℕ → List ℕ
+recoded from to bytes = whole_bytes to (whole_text from bytes)
+
+-- whether something in a whole input is malformed, or unmappable in the output encoding
+abbrev pub any_replaced : Encoding → Encoding → List ℕ → Bool
+any_replaced from to bytes = whole_malformed Sniff from bytes || any_unmappable (output_rule to) (whole_text from bytes)
+
 -- A run that has come to the end of its source, by what the source told and what the sink had taken,
 -- before the run and after it.
-pub record RunsToEnd (from : Encoding) (told_before told_after : Option (List ℕ))
+pub record RunsToEnd (from to : Encoding) (told_before told_after : Option (List ℕ))
     (taken_before taken_after : Option (List ℕ)) (replaced : Bool) : Type 0 where
   -- the bytes read: all that the source told, which tells none now
   pub bytes : List ℕ
   pub all_read : IfSome told_before (λ all. bytes ≡ all)
   pub none_left : told_after ≡ option_map (λ _. []) told_before
-  -- whether something in them was malformed
-  pub flag : replaced ≡ whole_malformed Sniff from bytes
-  -- their text in UTF-8 is just what the sink has taken more
-  pub written : TakesMore taken_before taken_after (whole_utf_8 Sniff from bytes)
+  -- whether something in them was replaced
+  pub flag : replaced ≡ any_replaced from to bytes
+  -- the bytes of their text are just what the sink has taken more
+  pub written : TakesMore taken_before taken_after (recoded from to bytes)
 
 -- A run that a fault has stopped.
-pub record RunsToFault (from : Encoding) (told_before : Option (List ℕ))
+pub record RunsToFault (from to : Encoding) (told_before : Option (List ℕ))
     (taken_before taken_after : Option (List ℕ)) : Type 0 where
   -- the bytes read, with which what the source told begins
   pub bytes : List ℕ
@@ -32,8 +48,8 @@ pub record RunsToFault (from : Encoding) (told_before : Option (List ℕ))
   -- whether the source had come to its end, so that it told no more than they
   pub ended : Bool
   pub all_read : ended ≡ true → IfSome told_before (λ all. bytes ≡ all)
-  -- What the sink has taken more: their text in UTF-8 begins with it, whatever bytes follow them, and
+  -- What the sink has taken more: the bytes of their text begin with it, whatever bytes follow them, and
   -- nothing follows them where the source had come to its end.
   pub wrote : List ℕ
   pub written : TakesMore taken_before taken_after wrote
-  pub prefix : (z : List ℕ) → (ended ≡ true → z ≡ []) → BeginsWith (whole_utf_8 Sniff from (bytes ++ z)) wrote
+  pub prefix : (z : List ℕ) → (ended ≡ true → z ≡ []) → BeginsWith (recoded from to (bytes ++ z)) wrote

@@ -1,14 +1,18 @@
 //! Recoding a source into a sink.
 
-ghost use Rattle.std.specs.Prelude.{◌≡◌, ◌^◌, ◌<◌, ◌≤◌, length, [], true, false, Ok, Err, IfOk, IfErr, OnOk, OnErr, IfSome, IsErrOf};
+ghost use Rattle.std.specs.Prelude.{◌≡◌, ◌^◌, ◌<◌, ◌≤◌, length, [], true, false, chars, IsUtf8, Ok, Err, IfOk, IfErr, OnOk, OnErr, IfSome, IsErrOf};
+ghost use Rattle.enc_encoders.specs.declared.character_set.CharacterSet.TheVariants.{Ascii};
+ghost use Rattle.encoding_rs.specs.declared.encoding.TheConstants.{UTF_8};
+ghost use Rattle.encoding_rs.specs.Properties.{output_encoding_of};
 ghost use Rattle.encoding_rs.specs.Decoding.{finished};
+ghost use Rattle.encoding_rs.specs.Encoder.{fresh_encoder};
 ghost use Rattle.recode.specs.Sink.{TakesMore, TakesPrefix};
-ghost use Rattle.recode.specs.Chunk.{HasRecoded, StopsWithin};
+ghost use Rattle.recode.specs.Chunk.{CanWrite, HasEncoded, HasRecoded, StopsWithin, bytes_from, remaining_bytes};
 ghost use Rattle.recode.specs.Run.{RunsToEnd, RunsToFault};
 
 use crate::sink::Sink;
 use crate::source::Source;
-use encoding_rs::{CoderResult, Decoder, Encoding};
+use encoding_rs::{CoderResult, Decoder, Encoder, Encoding, UTF_8};
 
 /// Which side of a run has failed.
 #[derive(PartialEq, Eq, Debug, Drop)]
@@ -38,32 +42,32 @@ fn push_all<W: Sink>(writer: &mut W, bytes: &[u8]) -> Result<(), RecodeFault>
     Ok(())
 }
 
-/// Decodes all of a chunk and writes what comes out, through the buffer `output`; with `last`, to the
-/// end of the input. Answers whether something was replaced. On `Err`, which is `Write`, the sink has
-/// failed and has taken a prefix of what had to come out.
-fn recode_chunk<W: Sink>(
-    decoder: &mut Decoder,
+/// Encodes a text and writes what comes out, through the buffer `output`; with `last`, to the end of the text. Answers
+/// whether a reference stands in the place of a character. On `Err`, which is `Write`, the sink has failed and has taken a
+/// prefix of what had to come out.
+fn push_encoded<W: Sink>(
+    encoder: &mut Encoder,
     writer: &mut W,
-    src: &[u8],
+    text: &str,
     output: &mut [u8],
     last: bool,
 ) -> Result<bool, RecodeFault>
-    requires open { finished decoder.old ≡ false }
-    requires room { 4 ≤ length output.old }
-    ensures ok { IfOk result (HasRecoded decoder.old decoder.new src.now [] last
+    requires room { 14 ≤ length output.old }
+    ensures ok { IfOk result (HasEncoded encoder.old encoder.new (chars text.now) [] last
         (W.taken writer.old) (W.taken writer.new)) }
-    ensures finished { OnOk result (finished decoder.new ≡ last) }
+    ensures ended { OnOk result (last ≡ true → encoder.new.set ≡ Ascii) }
     ensures kept { OnOk result (W.has_failed writer.new ≡ W.has_failed writer.old) }
-    ensures err { OnErr result (StopsWithin decoder.old src.now last
+    ensures room_kept { length output.new ≡ length output.old }
+    ensures err { OnErr result (StopsWithin (bytes_from encoder.old) (chars text.now) last
         (W.taken writer.old) (W.taken writer.new)) }
     ensures failed { OnErr result (W.has_failed writer.new ≡ true) }
     ensures fault { IfErr result (λ fault. fault ≡ RecodeFault.Write) }
 {
     let mut replaced = false;
-    let mut rest = src;
+    let mut rest = text;
     'calls: loop {
-        let (outcome, read, written, more) = decoder.decode_to_utf8(rest, output, last);
-        replaced |= more;
+        let (outcome, read, written, unmappable) = encoder.encode_from_utf8(rest, output, last);
+        replaced |= unmappable;
         push_all(writer, &output[..written])?;
         let (_, unread) = rest.split_at(read);
         rest = unread;
@@ -73,33 +77,122 @@ fn recode_chunk<W: Sink>(
     }
 }
 
-/// [`run`] over two buffers that it is lent, for what is read and for what is to be written.
+/// Writes a text, which is UTF-8: as it is, where UTF-8 is written, and else what the encoder makes of it; with `last`, to the
+/// end of the text. Answers whether a reference stands in the place of a character. On `Err`, which is `Write`, the sink
+/// has failed and has taken a prefix of what had to come out.
+fn push_text<W: Sink>(
+    encoder: &mut Encoder,
+    writer: &mut W,
+    text: &[u8],
+    output: &mut [u8],
+    last: bool,
+) -> Result<bool, RecodeFault>
+    requires utf8 { IsUtf8 text.now }
+    requires room { CanWrite encoder.old (length output.old) }
+    ensures ok { IfOk result (HasEncoded encoder.old encoder.new (chars text.now) [] last
+        (W.taken writer.old) (W.taken writer.new)) }
+    ensures ended { OnOk result (last ≡ true → encoder.new.set ≡ Ascii) }
+    ensures kept { OnOk result (W.has_failed writer.new ≡ W.has_failed writer.old) }
+    ensures room_kept { OnOk result (CanWrite encoder.new (length output.new)) }
+    ensures err { OnErr result (StopsWithin (bytes_from encoder.old) (chars text.now) last
+        (W.taken writer.old) (W.taken writer.new)) }
+    ensures failed { OnErr result (W.has_failed writer.new ≡ true) }
+    ensures fault { IfErr result (λ fault. fault ≡ RecodeFault.Write) }
+{
+    if encoder.encoding() == UTF_8 {
+        push_all(writer, text)?;
+        return Ok(false);
+    }
+    push_encoded(
+        encoder,
+        writer,
+        unsafe { str::from_utf8_unchecked(text) },
+        output,
+        last,
+    )
+}
+
+/// Decodes all of a chunk and writes its text, through the buffers `text` and `output`; with `last`, to the end of the input.
+/// Answers whether something was replaced. On `Err`, which is `Write`, the sink has failed and has taken a prefix of what
+/// had to come out.
+fn recode_chunk<W: Sink>(
+    decoder: &mut Decoder,
+    encoder: &mut Encoder,
+    writer: &mut W,
+    src: &[u8],
+    text: &mut [u8],
+    output: &mut [u8],
+    last: bool,
+) -> Result<bool, RecodeFault>
+    requires open { finished decoder.old ≡ false }
+    requires text_room { 4 ≤ length text.old }
+    requires room { CanWrite encoder.old (length output.old) }
+    ensures ok { IfOk result (HasRecoded decoder.old decoder.new encoder.old encoder.new src.now [] last last
+        (W.taken writer.old) (W.taken writer.new)) }
+    ensures finished { OnOk result (finished decoder.new ≡ last) }
+    ensures ended { OnOk result (last ≡ true → encoder.new.set ≡ Ascii) }
+    ensures kept { OnOk result (W.has_failed writer.new ≡ W.has_failed writer.old) }
+    ensures room_kept { OnOk result (CanWrite encoder.new (length output.new)) }
+    ensures err { OnErr result (StopsWithin (remaining_bytes decoder.old encoder.old) src.now last
+        (W.taken writer.old) (W.taken writer.new)) }
+    ensures failed { OnErr result (W.has_failed writer.new ≡ true) }
+    ensures fault { IfErr result (λ fault. fault ≡ RecodeFault.Write) }
+{
+    let mut replaced = false;
+    let mut rest = src;
+    'calls: loop {
+        let (outcome, read, written, malformed) = decoder.decode_to_utf8(rest, text, last);
+        let ended = outcome == CoderResult::InputEmpty;
+        replaced |= malformed;
+        replaced |= push_text(encoder, writer, &text[..written], output, ended & last)?;
+        let (_, unread) = rest.split_at(read);
+        rest = unread;
+        if ended {
+            return Ok(replaced);
+        }
+    }
+}
+
+/// [`run`] over the buffers that it is lent: for what is read, for its text, and for what is to be written, which may be
+/// empty where UTF-8 is written.
 fn run_through<R: Source, W: Sink>(
     reader: &mut R,
     writer: &mut W,
     from: Encoding,
+    to: Encoding,
     input: &mut [u8],
+    text: &mut [u8],
     output: &mut [u8],
 ) -> Result<bool, RecodeFault>
     requires some { 0 < length input.old }
-    requires room { 4 ≤ length output.old }
-    ensures ok { IfOk result (RunsToEnd from (R.told reader.old) (R.told reader.new)
+    requires text_room { 4 ≤ length text.old }
+    requires room { CanWrite (fresh_encoder to) (length output.old) }
+    ensures ok { IfOk result (RunsToEnd from to (R.told reader.old) (R.told reader.new)
         (W.taken writer.old) (W.taken writer.new)) }
     ensures reader_kept { OnOk result (R.has_failed reader.new ≡ R.has_failed reader.old) }
     ensures writer_kept { OnOk result (W.has_failed writer.new ≡ W.has_failed writer.old) }
-    ensures err { OnErr result (RunsToFault from (R.told reader.old)
+    ensures err { OnErr result (RunsToFault from to (R.told reader.old)
         (W.taken writer.old) (W.taken writer.new)) }
     ensures read_fault { IsErrOf result RecodeFault.Read →
         IfSome (R.told reader.old) (λ all. length all < 2 ^ 62 → R.has_failed reader.new ≡ true) }
     ensures write_fault { IsErrOf result RecodeFault.Write → W.has_failed writer.new ≡ true }
 {
     let mut decoder = from.new_decoder();
+    let mut encoder = to.new_encoder();
     let mut replaced = false;
     'pulls: for _ in 0..u64::MAX {
         let Ok(n) = reader.pull(input) else {
             return Err(RecodeFault::Read);
         };
-        replaced |= recode_chunk(&mut decoder, writer, &input[..n], output, n == 0)?;
+        replaced |= recode_chunk(
+            &mut decoder,
+            &mut encoder,
+            writer,
+            &input[..n],
+            text,
+            output,
+            n == 0,
+        )?;
         if n == 0 {
             return Ok(replaced);
         }
@@ -107,32 +200,83 @@ fn run_through<R: Source, W: Sink>(
     Err(RecodeFault::Read)
 }
 
-/// Reads all of a source, decodes it, and writes its text to a sink in UTF-8. Where the bytes begin with a byte order
-/// mark it is dropped, and the encoding that it tells decodes them; else `from` does. `to` is for the encoding to
-/// write: there are no encoders yet, so it is UTF-8 whatever is given. A malformed sequence becomes U+FFFD, and the
-/// answer is whether there was one.
-///
-/// On `Err` the side that it names has failed, and the sink has taken a prefix of the text. A source
-/// that gives bytes for 2^64 - 1 pulls is taken to have failed too.
-///
-/// It never flushes, and takes no memory but two buffers of 64 KiB on the stack.
-pub fn run<R: Source, W: Sink>(
+/// [`run`] where UTF-8 is written: text goes to the sink from the buffer that it is decoded to.
+fn run_to_utf8<R: Source, W: Sink>(
     reader: &mut R,
     writer: &mut W,
     from: Encoding,
     to: Encoding,
 ) -> Result<bool, RecodeFault>
-    ensures ok { IfOk result (RunsToEnd from (R.told reader.old) (R.told reader.new)
+    requires utf8 { output_encoding_of to ≡ UTF_8 }
+    ensures ok { IfOk result (RunsToEnd from to (R.told reader.old) (R.told reader.new)
         (W.taken writer.old) (W.taken writer.new)) }
     ensures reader_kept { OnOk result (R.has_failed reader.new ≡ R.has_failed reader.old) }
     ensures writer_kept { OnOk result (W.has_failed writer.new ≡ W.has_failed writer.old) }
-    ensures err { OnErr result (RunsToFault from (R.told reader.old)
+    ensures err { OnErr result (RunsToFault from to (R.told reader.old)
         (W.taken writer.old) (W.taken writer.new)) }
     ensures read_fault { IsErrOf result RecodeFault.Read →
         IfSome (R.told reader.old) (λ all. length all < 2 ^ 62 → R.has_failed reader.new ≡ true) }
     ensures write_fault { IsErrOf result RecodeFault.Write → W.has_failed writer.new ≡ true }
 {
     let mut input = [0u8; 65536];
+    let mut text = [0u8; 65536];
+    run_through(reader, writer, from, to, &mut input, &mut text, &mut [])
+}
+
+/// [`run`] by an encoder.
+fn run_by_encoder<R: Source, W: Sink>(
+    reader: &mut R,
+    writer: &mut W,
+    from: Encoding,
+    to: Encoding,
+) -> Result<bool, RecodeFault>
+    ensures ok { IfOk result (RunsToEnd from to (R.told reader.old) (R.told reader.new)
+        (W.taken writer.old) (W.taken writer.new)) }
+    ensures reader_kept { OnOk result (R.has_failed reader.new ≡ R.has_failed reader.old) }
+    ensures writer_kept { OnOk result (W.has_failed writer.new ≡ W.has_failed writer.old) }
+    ensures err { OnErr result (RunsToFault from to (R.told reader.old)
+        (W.taken writer.old) (W.taken writer.new)) }
+    ensures read_fault { IsErrOf result RecodeFault.Read →
+        IfSome (R.told reader.old) (λ all. length all < 2 ^ 62 → R.has_failed reader.new ≡ true) }
+    ensures write_fault { IsErrOf result RecodeFault.Write → W.has_failed writer.new ≡ true }
+{
+    let mut input = [0u8; 65536];
+    let mut text = [0u8; 65536];
     let mut output = [0u8; 65536];
-    run_through(reader, writer, from, &mut input, &mut output)
+    run_through(reader, writer, from, to, &mut input, &mut text, &mut output)
+}
+
+/// Reads all of a source, decodes it, and writes its text to a sink in the output encoding of `to`, which is UTF-8 for
+/// UTF-16BE, UTF-16LE and replacement, and else `to` itself. Where the bytes begin with a byte order mark it is dropped, and
+/// the encoding that it tells decodes them; else `from` does.
+///
+/// A malformed sequence becomes U+FFFD. In the place of a character that is unmappable in the output encoding, as U+FFFD is in
+/// most, stands a decimal reference, as `&#233;` (in ISO-2022-JP that to U+FFFD for U+000E, U+000F and U+001B). The answer is
+/// whether there was such a sequence or such a character.
+///
+/// On `Err` the side that it names has failed, and the sink has taken a prefix of what had to be written. A source
+/// that gives bytes for 2^64 - 1 pulls is taken to have failed too.
+///
+/// It never flushes, and takes no memory but buffers of 64 KiB on the stack: two where it writes UTF-8, and else three.
+pub fn run<R: Source, W: Sink>(
+    reader: &mut R,
+    writer: &mut W,
+    from: Encoding,
+    to: Encoding,
+) -> Result<bool, RecodeFault>
+    ensures ok { IfOk result (RunsToEnd from to (R.told reader.old) (R.told reader.new)
+        (W.taken writer.old) (W.taken writer.new)) }
+    ensures reader_kept { OnOk result (R.has_failed reader.new ≡ R.has_failed reader.old) }
+    ensures writer_kept { OnOk result (W.has_failed writer.new ≡ W.has_failed writer.old) }
+    ensures err { OnErr result (RunsToFault from to (R.told reader.old)
+        (W.taken writer.old) (W.taken writer.new)) }
+    ensures read_fault { IsErrOf result RecodeFault.Read →
+        IfSome (R.told reader.old) (λ all. length all < 2 ^ 62 → R.has_failed reader.new ≡ true) }
+    ensures write_fault { IsErrOf result RecodeFault.Write → W.has_failed writer.new ≡ true }
+{
+    if to.can_encode_everything() {
+        run_to_utf8(reader, writer, from, to)
+    } else {
+        run_by_encoder(reader, writer, from, to)
+    }
 }

@@ -1,8 +1,9 @@
-//! Recodes standard input to standard output: `recode FROM TO`.
+//! Recodes standard input to standard output: `recode FROM TO` decodes by the encoding that the label FROM names, and writes the
+//! output encoding of the one that TO names.
 #![tactic(auto)]
 
 ghost use Rattle.std.specs.Prelude.{◌≡◌, IfSome, IfNone};
-ghost use Rattle.recode.specs.Labels.{Names, WritesUtf8, AreUnknown};
+ghost use Rattle.recode.specs.Labels.{Names, AreUnknown};
 ghost use Rattle.recode.specs.Status.{status_of};
 
 mod engine;
@@ -18,22 +19,16 @@ use source::{FromRead, Source};
 use std::process::ExitCode;
 use std::{env, io};
 
-/// The encodings that two labels name: the first to decode from, and the second to write in. `None` where one of
-/// them names none, or is a label of replacement, and where the output encoding of the second isn't UTF-8, which is
-/// the only one that is written so far.
+/// The encodings that two labels name: the first to decode from, and the second whose output encoding is to be written.
+/// `None` where one of them names none, or is a label of replacement.
 pub fn labels(from: &str, to: &str) -> Option<(Encoding, Encoding)>
     ensures from { IfSome result (λ encodings. Names from.now encodings.0) }
     ensures to { IfSome result (λ encodings. Names to.now encodings.1) }
-    ensures writes { IfSome result (λ encodings. WritesUtf8 encodings.1) }
     ensures none { IfNone result (AreUnknown from.now to.now) }
 {
     let from = Encoding::for_label_no_replacement(from.as_bytes())?;
     let to = Encoding::for_label_no_replacement(to.as_bytes())?;
-    if to.can_encode_everything() {
-        Some((from, to))
-    } else {
-        None
-    }
+    Some((from, to))
 }
 
 /// The exit status: 0 where nothing was replaced, 1 where something was, 3 after any fault.

@@ -4,7 +4,14 @@ use crate::engine::{RecodeFault, run};
 use crate::sink::{FromWrite, Sink};
 use crate::source::{FromRead, Source};
 use crate::{labels, status};
-use encoding_rs::{SHIFT_JIS, UTF_8, UTF_16BE, UTF_16LE, WINDOWS_1251, WINDOWS_1252};
+use encoding_rs::{
+    BIG5, EUC_JP, EUC_KR, Encoding, GB18030, GBK, IBM866, ISO_2022_JP, ISO_8859_2, ISO_8859_3,
+    ISO_8859_4, ISO_8859_5, ISO_8859_6, ISO_8859_7, ISO_8859_8, ISO_8859_8_I, ISO_8859_10,
+    ISO_8859_13, ISO_8859_14, ISO_8859_15, ISO_8859_16, KOI8_R, KOI8_U, MACINTOSH, REPLACEMENT,
+    SHIFT_JIS, UTF_8, UTF_16BE, UTF_16LE, WINDOWS_874, WINDOWS_1250, WINDOWS_1251, WINDOWS_1252,
+    WINDOWS_1253, WINDOWS_1254, WINDOWS_1255, WINDOWS_1256, WINDOWS_1257, WINDOWS_1258,
+    X_MAC_CYRILLIC, X_USER_DEFINED,
+};
 use std::io;
 use std::io::{Read, Write};
 use std::test::Fail;
@@ -186,6 +193,11 @@ fn knows_labels(rt: HostRuntime) {
     );
     assert_eq!(rt; labels("latin1", "unicode"), Some((WINDOWS_1252, UTF_16LE)));
     assert_eq!(rt; labels("sjis", "utf-16be"), Some((SHIFT_JIS, UTF_16BE)));
+    assert_eq!(rt; labels("utf-8", "x-sjis"), Some((UTF_8, SHIFT_JIS)));
+    assert_eq!(rt;
+        labels("utf-8", "x-user-defined"),
+        Some((UTF_8, X_USER_DEFINED))
+    );
     for (from, to) in [
         ("nonsense", "utf-8"),
         ("utf-8", "nonsense"),
@@ -195,9 +207,6 @@ fn knows_labels(rt: HostRuntime) {
         ("utf-8x", "utf-8"),
         ("replacement", "utf-8"),
         ("utf-8", "hz-gb-2312"),
-        ("utf-8", "windows-1251"),
-        ("utf-8", "shift_jis"),
-        ("utf-8", "x-user-defined"),
     ] {
         assert_eq!(rt; labels(from, to), None, "{from} {to}");
     }
@@ -339,6 +348,238 @@ fn joins_a_mark_that_comes_in_parts(rt: HostRuntime) {
         assert_eq!(rt; outcome, Ok(false), "of {rest:?}");
         assert_eq!(rt; written.as_slice(), want.as_bytes(), "of {rest:?}");
     }
+}
+
+/// A text, the label of an encoding, its bytes there, and the status. The bytes of mappable characters are of Python's codecs.
+type TextRow = (&'static str, &'static str, &'static [u8], u8);
+
+/// Texts in other encodings than UTF-8.
+const TEXTS: &[TextRow] = &[
+    ("aｱ日é", "shift_jis", b"a\xB1\x93\xFA&#233;", 1),
+    ("aｱ日", "euc-jp", b"a\x8E\xB1\xC6\xFC", 0),
+    (
+        "日é語",
+        "iso-2022-jp",
+        b"\x1B$BF|\x1B(B&#233;\x1B$B8l\x1B(B",
+        1,
+    ),
+    ("a\u{E}", "iso-2022-jp", b"a&#65533;", 1),
+    ("\u{A5}a", "iso-2022-jp", b"\x1B(J\\a\x1B(B", 0),
+    ("搭é", "big5", b"\xB7\x66&#233;", 1),
+    ("한뷁", "euc-kr", b"\xC7\xD1\x94\xEE", 0),
+    ("平€💩", "gbk", b"\xC6\xBD\x80&#128169;", 1),
+    (
+        "平€𠀀\u{E5E5}",
+        "gb18030",
+        b"\xC6\xBD\xA2\xE3\x95\x32\x82\x36&#58853;",
+        1,
+    ),
+    ("Пр€é", "windows-1251", b"\xCF\xF0\x88&#233;", 1),
+    ("a\u{F780}é", "x-user-defined", b"a\x80&#233;", 1),
+    ("é", "utf-16be", b"\xC3\xA9", 0),
+    ("é", "utf-16le", b"\xC3\xA9", 0),
+    ("", "shift_jis", b"", 0),
+];
+
+/// Two labels, an input of the first encoding, its bytes in the second, and the status.
+type Row = (&'static str, &'static str, &'static [u8], &'static [u8], u8);
+
+/// Inputs that are not UTF-8.
+const INPUTS: &[Row] = &[
+    ("windows-1252", "shift_jis", b"\xE9", b"&#233;", 1),
+    ("windows-1252", "windows-1252", b"\x80\xE9", b"\x80\xE9", 0),
+    (
+        "shift_jis",
+        "euc-jp",
+        b"a\xB1\x93\xFA",
+        b"a\x8E\xB1\xC6\xFC",
+        0,
+    ),
+    (
+        "euc-jp",
+        "iso-2022-jp",
+        b"a\xC6\xFC\xCB\xDC\xB8\xEC",
+        b"a\x1B$BF|K\\8l\x1B(B",
+        0,
+    ),
+    (
+        "koi8-r",
+        "windows-1251",
+        b"\xF0\xD2\x80",
+        b"\xCF\xF0&#9472;",
+        1,
+    ),
+    // U+FFFD for what is malformed, which is itself unmappable but in gb18030
+    ("utf-8", "windows-1252", b"a\xFF", b"a&#65533;", 1),
+    ("utf-8", "gb18030", b"a\xFF", b"a\x84\x31\xA4\x37", 1),
+    // a mark is no text
+    ("windows-1252", "ibm866", b"\xFF\xFE\x1F\x04", b"\x8F", 0),
+];
+
+#[test]
+fn writes_other_encodings(rt: HostRuntime) -> Result<(), Fail> {
+    for (text, to, want, want_status) in TEXTS {
+        let (written, status) = recode_bytes(&rt, ("utf-8", *to), (*text).as_bytes())?;
+        assert_eq!(rt; written.as_slice(), *want, "{text} to {to}");
+        assert_eq!(rt; status, *want_status, "{text} to {to}");
+    }
+    for (from, to, input, want, want_status) in INPUTS {
+        let (written, status) = recode_bytes(&rt, (*from, *to), *input)?;
+        assert_eq!(rt; written.as_slice(), *want, "from {from} to {to}");
+        assert_eq!(rt; status, *want_status, "from {from} to {to}");
+    }
+    Ok(())
+}
+
+/// All encodings.
+const ALL: [Encoding; 40] = [
+    UTF_8,
+    IBM866,
+    ISO_8859_2,
+    ISO_8859_3,
+    ISO_8859_4,
+    ISO_8859_5,
+    ISO_8859_6,
+    ISO_8859_7,
+    ISO_8859_8,
+    ISO_8859_8_I,
+    ISO_8859_10,
+    ISO_8859_13,
+    ISO_8859_14,
+    ISO_8859_15,
+    ISO_8859_16,
+    KOI8_R,
+    KOI8_U,
+    MACINTOSH,
+    WINDOWS_874,
+    WINDOWS_1250,
+    WINDOWS_1251,
+    WINDOWS_1252,
+    WINDOWS_1253,
+    WINDOWS_1254,
+    WINDOWS_1255,
+    WINDOWS_1256,
+    WINDOWS_1257,
+    WINDOWS_1258,
+    X_MAC_CYRILLIC,
+    GBK,
+    GB18030,
+    BIG5,
+    EUC_JP,
+    ISO_2022_JP,
+    SHIFT_JIS,
+    EUC_KR,
+    REPLACEMENT,
+    UTF_16BE,
+    UTF_16LE,
+    X_USER_DEFINED,
+];
+
+/// Characters of each kind of each encoding, and for each but UTF-8 one that is unmappable.
+const OF_ALL_KINDS: &str =
+    "a\u{E}é\u{80}ÀŁĦĀЖعΩשŊŪẂŒȘ░ґ•ก€ăўğ‰پų₫Ѓ\\~¥‾ｱア−日\u{F780}本語¢平乂𠀀搭𨋢한뷁똠\u{E5E5}\u{FFFD}💩z";
+
+/// What recoding from UTF-8 comes to, where one byte is given and taken at a time.
+fn recode_slowly(rt: &HostRuntime, to: Encoding, rest: &[u8]) -> (Vec<u8>, u8) {
+    let mut slow = SlowWriter {
+        taken: Vec::new(rt.alloc()),
+        calls: 10_000,
+        fails: true,
+    };
+    let outcome = run(
+        &mut FromRead::new(SlowReader { rest, fails: false }),
+        &mut FromWrite::new(&mut slow),
+        UTF_8,
+        to,
+    );
+    (slow.taken, status(&outcome))
+}
+
+#[test]
+fn writes_each_encoding_in_small_parts(rt: HostRuntime) {
+    let text = OF_ALL_KINDS.as_bytes();
+    for to in ALL {
+        let name = to.name();
+        let mut written = Vec::new(rt.alloc());
+        let outcome = run(
+            &mut FromRead::new(text),
+            &mut FromWrite::new(&mut written),
+            UTF_8,
+            to,
+        );
+        let (slow, slow_status) = recode_slowly(&rt, to, text);
+        assert_eq!(rt; outcome, Ok(!to.can_encode_everything()), "to {name}");
+        assert_eq!(rt; slow_status, status(&outcome), "to {name}");
+        assert_eq!(rt; slow.as_slice(), written.as_slice(), "to {name}");
+        assert_eq!(rt;
+            written.as_slice() == text,
+            to.can_encode_everything(),
+            "to {name}"
+        );
+    }
+}
+
+#[test]
+fn read_fails_while_encoding(rt: HostRuntime) {
+    let rows: [(Encoding, &[u8], &[u8]); 4] = [
+        (SHIFT_JIS, b"a\xC3\xA9", b"a&#233;"),
+        (SHIFT_JIS, b"a\xE2\x82", b"a"),
+        // the escape sequence at the end is not due
+        (ISO_2022_JP, b"\xE6\x97\xA5\xE6\x9C\xAC", b"\x1B$BF|K\\"),
+        (ISO_2022_JP, b"", b""),
+    ];
+    for (to, rest, want) in rows {
+        let mut reader = FromRead::new(SlowReader { rest, fails: true });
+        let mut written = Vec::new(rt.alloc());
+        let mut writer = FromWrite::new(&mut written);
+        assert_eq!(rt;
+            run(&mut reader, &mut writer, UTF_8, to),
+            Err(RecodeFault::Read)
+        );
+        assert_eq!(rt; reader.failed(), true);
+        assert_eq!(rt; writer.failed(), false);
+        assert_eq!(rt; written.as_slice(), want, "of {rest:?}");
+    }
+}
+
+#[test]
+fn write_fails_while_encoding(rt: HostRuntime) {
+    for fails in [true, false] {
+        let mut slow = SlowWriter {
+            taken: Vec::new(rt.alloc()),
+            calls: 4,
+            fails,
+        };
+        let text: &[u8] = b"a\xC3\xA9b";
+        let mut reader = FromRead::new(text);
+        let mut writer = FromWrite::new(&mut slow);
+        assert_eq!(rt;
+            run(&mut reader, &mut writer, UTF_8, WINDOWS_1251),
+            Err(RecodeFault::Write)
+        );
+        assert_eq!(rt; writer.failed(), true);
+        assert_eq!(rt; reader.failed(), false);
+        assert_eq!(rt; slow.taken.as_slice(), b"a&#2".as_slice());
+    }
+}
+
+#[test]
+fn encodes_many_chunks(rt: HostRuntime) -> Result<(), Fail> {
+    let long = vec![in rt.alloc(); 0xE9u8; 200_000]?;
+    let mut written = Vec::new(rt.alloc());
+    let outcome = run(
+        &mut FromRead::new(long.as_slice()),
+        &mut FromWrite::new(&mut written),
+        WINDOWS_1252,
+        SHIFT_JIS,
+    );
+    assert_eq!(rt; outcome, Ok(true));
+    assert_eq!(rt; written.len(), 1_200_000);
+    let Some((front, _)) = written.as_slice().split_at_checked(12) else {
+        return Err("nothing written".into());
+    };
+    assert_eq!(rt; front, b"&#233;&#233;".as_slice());
+    Ok(())
 }
 
 #[test]
