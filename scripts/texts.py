@@ -1,13 +1,15 @@
 """Texts to recode, and what they are in UTF-8 by Python's codecs.
 
 texts.py ENCODING MIB INPUT WANT    writes a text in the encoding to INPUT, and the same in UTF-8 to WANT
+texts.py --to ENCODING MIB INPUT WANT    the other way round: in UTF-8 to INPUT, and in the encoding to WANT
 texts.py --behind MARK MIB INPUT WANT    the same, in the encoding that the mark tells, behind it
 texts.py --encodings    each encoding with iconv's name for it, or - where it has none
+texts.py --outputs    the same of those that are written, and not UTF-8 in their place
 
 A text is a block of lines, again and again, up to so many MiB of input: a line of ASCII, and behind it real text
 in languages that the encoding is for. Most of it is the first article of the Universal Declaration of Human
 Rights. It has characters on which Python, iconv and the Encoding Standard agree. So there are no combining marks
-in Hebrew and Vietnamese, which iconv composes.
+in Hebrew and Vietnamese, which iconv composes. Texts to be encoded have none that the Encoding Standard only decodes.
 """
 
 import sys
@@ -112,6 +114,9 @@ HALF_WIDTH = "ｽﾍﾞﾃﾉﾆﾝｹﾞﾝﾊ、ｳﾏﾚﾅｶﾞﾗﾆｼﾃ
 # the characters of the bytes from 80 on
 X_USER_DEFINED = "".join(map(chr, range(0xF780, 0xF800))) + "\n"
 
+# lines with characters that the Encoding Standard decodes and doesn't encode: additions for Hong Kong, and JIS X 0212
+DECODED_ALONE = {"big5": "佢哋搭𨋢。\n", "euc-jp": "森鷗外\n"}
+
 # label: (Python's codec, iconv's name, the text behind a line of ASCII)
 ENCODINGS = {
     "utf-8": ("utf-8", "utf-8", MIXED),
@@ -148,12 +153,15 @@ ENCODINGS = {
     "x-user-defined": ("x-user-defined", "-", X_USER_DEFINED),
     "gbk": ("gbk", "gbk", CHINESE),
     "gb18030": ("gb18030", "gb18030", CHINESE + "€ £ 🐈 𠀋\n"),
-    "big5": ("big5hkscs", "big5-hkscs", CHINESE_TRADITIONAL + "佢哋搭𨋢。\n"),
-    "euc-jp": ("euc_jp", "euc-jp", JAPANESE + KANA + HALF_WIDTH + "森鷗外\n"),
+    "big5": ("big5hkscs", "big5-hkscs", CHINESE_TRADITIONAL + DECODED_ALONE["big5"]),
+    "euc-jp": ("euc_jp", "euc-jp", JAPANESE + KANA + HALF_WIDTH + DECODED_ALONE["euc-jp"]),
     "iso-2022-jp": ("iso2022_jp", "iso-2022-jp", JAPANESE + KANA),
     "shift_jis": ("cp932", "cp932", JAPANESE + KANA + HALF_WIDTH),
     "euc-kr": ("cp949", "cp949", KOREAN + "똠방각하\n"),
 }
+
+# UTF-8 is written in their place
+NOT_WRITTEN = ("utf-16be", "utf-16le")
 
 # the encoding that each mark tells, with its bytes
 MARKS = {
@@ -176,10 +184,16 @@ def decode(codec, data):
     return data.decode(codec)
 
 
-def block(label):
+def lines(label, to_encode=False):
+    """Lines for the encoding."""
+    more = ENCODINGS[label][2]
+    return ENGLISH + (more.replace(DECODED_ALONE.get(label, "\0"), "") if to_encode else more)
+
+
+def block(label, to_encode=False):
     """Lines in the encoding, and what they are in UTF-8."""
-    codec, _, more = ENCODINGS[label]
-    data = encode(codec, ENGLISH + more)
+    codec = ENCODINGS[label][0]
+    data = encode(codec, lines(label, to_encode))
     return data, decode(codec, data).encode("utf-8")
 
 
@@ -191,21 +205,28 @@ def write(path, front, data, count):
 
 
 def main(arguments):
-    if arguments == ["--encodings"]:
+    if arguments in (["--encodings"], ["--outputs"]):
         for label, (_, name, _) in ENCODINGS.items():
-            print(label, name)
+            if arguments == ["--encodings"] or label not in NOT_WRITTEN:
+                print(label, name)
         return
     mark = ""
-    if arguments[0] == "--behind":
+    to_encode = arguments[0] == "--to"
+    if to_encode:
+        arguments = arguments[1:]
+    elif arguments[0] == "--behind":
         mark = arguments[1]
         arguments = [MARKS[mark]] + arguments[2:]
     label, mib, source, want = arguments
-    data, text = block(label)
+    data, text = block(label, to_encode)
     # a block of many lines is written at once
-    lines = max(1, (1 << 16) // len(data))
-    count = max(1, int(float(mib) * (1 << 20)) // (len(data) * lines))
-    write(source, bytes.fromhex(mark), data * lines, count)
-    write(want, b"", text * lines, count)
+    lines_of_block = max(1, (1 << 16) // len(data))
+    count = max(1, int(float(mib) * (1 << 20)) // (len(data) * lines_of_block))
+    if to_encode:
+        data, text = text, data
+    write(source, bytes.fromhex(mark), data * lines_of_block, count)
+    write(want, b"", text * lines_of_block, count)
 
 
-main(sys.argv[1:])
+if __name__ == "__main__":
+    main(sys.argv[1:])

@@ -5,11 +5,12 @@
 //! TextEncoder for UTF-8, and by hand from the standard's encoders where these differ: U+00A5, U+203E and U+2212 in the
 //! Japanese encodings, references, and where escape sequences stand.
 
+mod references;
+mod runs;
 mod sums;
 
-use crate::harness::encoding::{
-    EncoderCall, EncoderRow, compare_encoded, make_call_from_utf16, make_encoder_calls,
-};
+use crate::harness::encoder_calls::{EncoderCall, make_call_from_utf16, make_encoder_calls};
+use crate::harness::encoding::{EncoderRow, compare_encoded};
 use encoding_rs::{
     BIG5, EUC_JP, EUC_KR, EncoderResult, GB18030, GBK, ISO_2022_JP, REPLACEMENT, SHIFT_JIS, UTF_8,
     UTF_16BE, UTF_16LE, WINDOWS_1252, WINDOWS_1257, X_USER_DEFINED,

@@ -1,4 +1,4 @@
-//! Comparing both on inputs of one encoding, counting, and finding the smallest input that differs.
+//! Comparing both on inputs from one encoding to another, counting, and finding the smallest input that differs.
 use crate::oracle::{self, Answer};
 use crate::recode::{Delivery, Recode};
 use encoding_rs::Encoding;
@@ -15,9 +15,12 @@ const MANY: usize = 8;
 /// So many parts of each size, the last ones, are tried to be left out of an input that differs.
 const PARTS: usize = 128;
 
-/// The comparison of one encoding.
+/// The comparison of a pair of encodings, or of several one after another.
 pub struct Comparison {
+    /// What is decoded.
     pub encoding: &'static Encoding,
+    /// What is written.
+    pub to: &'static Encoding,
     pub recode: Recode,
     /// How many inputs were given to both, each a run of its own.
     pub inputs: u64,
@@ -34,17 +37,25 @@ pub struct Comparison {
 }
 
 impl Comparison {
-    pub fn new(encoding: &'static Encoding, recode: Recode) -> Comparison {
+    pub fn new(encoding: &'static Encoding, to: &'static Encoding, recode: Recode) -> Comparison {
         let (report, shown) = (String::new(), Vec::new());
-        Comparison { encoding, recode, inputs: 0, sequences: 0, bytes: 0, differ: 0, report, shown }
+        Comparison { encoding, to, recode, inputs: 0, sequences: 0, bytes: 0, differ: 0, report, shown }
+    }
+
+    fn wanted(&self, input: &[u8]) -> Answer {
+        oracle::wanted(self.encoding, self.to, input)
+    }
+
+    fn run(&self, input: &[u8], delivery: Delivery) -> io::Result<Answer> {
+        self.recode.run([self.encoding.name(), self.to.name()], input, delivery)
     }
 
     /// Compares output and status.
     pub fn compare(&mut self, input: &[u8], delivery: Delivery) -> io::Result<()> {
         self.inputs += 1;
         self.bytes += input.len() as u64;
-        let wanted = oracle::wanted(self.encoding, input);
-        let got = self.recode.run(self.encoding.name(), input, delivery)?;
+        let wanted = self.wanted(input);
+        let got = self.run(input, delivery)?;
         if got == wanted {
             return Ok(());
         }
@@ -66,8 +77,8 @@ impl Comparison {
         if self.shown.contains(&small) {
             return Ok(());
         }
-        let wanted = oracle::wanted(self.encoding, &small);
-        let got = self.recode.run(self.encoding.name(), &small, Delivery::Pipe)?;
+        let wanted = self.wanted(&small);
+        let got = self.run(&small, Delivery::Pipe)?;
         self.show(&small, &wanted, &got);
         self.shown.push(small);
         Ok(())
@@ -76,8 +87,8 @@ impl Comparison {
     /// The input, and both answers from the first byte on in which they differ.
     fn show(&mut self, input: &[u8], wanted: &Answer, got: &Answer) {
         let same = wanted.text.iter().zip(&got.text).take_while(|(one, other)| one == other).count();
-        let name = self.encoding.name();
-        writeln!(self.report, "  {name} differs on {}", hex(input)).ok();
+        let (name, to) = (self.encoding.name(), self.to.name());
+        writeln!(self.report, "  {name} to {to} differs on {}", hex(input)).ok();
         for (program, answer) in [("the crate", wanted), ("recode", got)] {
             let (text, status) = (hex(&answer.text[same..]), answer.status);
             writeln!(self.report, "    {program}: status {status}, behind {same} bytes that are alike: {text}").ok();
@@ -85,8 +96,7 @@ impl Comparison {
     }
 
     fn differs(&self, input: &[u8]) -> io::Result<bool> {
-        let got = self.recode.run(self.encoding.name(), input, Delivery::Pipe)?;
-        Ok(got != oracle::wanted(self.encoding, input))
+        Ok(self.run(input, Delivery::Pipe)? != self.wanted(input))
     }
 
     /// An input that differs, from which hardly a part can be left out, and in which as much as can be is `a`.

@@ -8,14 +8,14 @@ use encoding_rs::{Encoding, UTF_16BE, UTF_16LE};
 use std::io;
 
 /// Lines in many languages.
-const TEXT: &str = include_str!("../text.txt");
+pub const TEXT: &str = include_str!("../text.txt");
 /// So long are recode's own buffers.
-const BUFFER: usize = 65536;
+pub const BUFFER: usize = 65536;
 /// How long the long inputs are: about one, two and more buffers.
-const LENGTHS: [usize; 9] = [4097, 65535, 65536, 65537, 131071, 131072, 131073, 200_003, 400_009];
+pub const LENGTHS: [usize; 9] = [4097, 65535, 65536, 65537, 131071, 131072, 131073, 200_003, 400_009];
 /// The pieces in which the input comes, of short inputs and of long ones.
-const SHORT_PIECES: [&[usize]; 5] = [&[1], &[2], &[3], &[1, 2], &[5, 1, 1]];
-const LONG_PIECES: [&[usize]; 6] = [&[1000], &[4095, 2], &[65535], &[65537], &[1, 65535], &[32769, 7, 3, 1]];
+pub const SHORT_PIECES: [&[usize]; 5] = [&[1], &[2], &[3], &[1, 2], &[5, 1, 1]];
+pub const LONG_PIECES: [&[usize]; 6] = [&[1000], &[4095, 2], &[65535], &[65537], &[1, 65535], &[32769, 7, 3, 1]];
 
 /// Each byte, the strings of up to two tokens, and random sequences of two to four bytes, each an input of its own: so
 /// each status is seen by itself, and each end of the input too.
@@ -94,7 +94,7 @@ pub fn random(comparison: &mut Comparison, short: usize, rounds: usize, seed: u6
 }
 
 /// An input of each kind, all of about this length.
-fn kinds(encoding: &'static Encoding, random: &mut Random, length: usize) -> [Vec<u8>; 4] {
+pub fn kinds(encoding: &'static Encoding, random: &mut Random, length: usize) -> [Vec<u8>; 4] {
     let text = text_of(encoding, length);
     let damaged = damaged(&text, random, encoding);
     [random.bytes(length), random_tokens(encoding, random, length), text, damaged]
@@ -163,14 +163,18 @@ fn random_tokens(encoding: &'static Encoding, random: &mut Random, length: usize
 /// So many bytes of the text in the encoding, from its start on, again and again; the last character may be broken off.
 /// What the encoding doesn't have is written as a decimal reference.
 fn text_of(encoding: &'static Encoding, length: usize) -> Vec<u8> {
-    let encoded: Vec<u8> = if encoding == UTF_16BE {
-        TEXT.encode_utf16().flat_map(u16::to_be_bytes).collect()
+    in_encoding(encoding, TEXT).into_iter().cycle().take(length).collect()
+}
+
+/// A text in the encoding, for recode to decode.
+pub fn in_encoding(encoding: &'static Encoding, text: &str) -> Vec<u8> {
+    if encoding == UTF_16BE {
+        text.encode_utf16().flat_map(u16::to_be_bytes).collect()
     } else if encoding == UTF_16LE {
-        TEXT.encode_utf16().flat_map(u16::to_le_bytes).collect()
+        text.encode_utf16().flat_map(u16::to_le_bytes).collect()
     } else {
-        encoding.encode(TEXT).0.into_owned()
-    };
-    encoded.into_iter().cycle().take(length).collect()
+        encoding.encode(text).0.into_owned()
+    }
 }
 
 /// The text with damage at random places: bytes changed, left out, put in, doubled and cut off.

@@ -1,10 +1,12 @@
-//! peer RECODE FOLDER SEED JOBS full|quick: compares `recode LABEL utf-8` with the Rust crate encoding_rs, output and
-//! status, on every encoding. RECODE is the program, and FOLDER is for its inputs. The status is 0 where nothing
-//! differs but the characters that GB18030-2022 changed, and each of these does as it is named; 1 where something else
-//! does; and 2 or 3 where the arguments are wrong or a program could not be run.
+//! peer RECODE FOLDER SEED JOBS full|quick: compares `recode FROM TO` with the Rust crate encoding_rs, output and
+//! status: first from every encoding to UTF-8, and then from every one to every one. RECODE is the program, and FOLDER is
+//! for its inputs. The status is 0 where nothing differs but the characters that GB18030-2022 changed, and each of these
+//! does as it is named; 1 where something else does; and 2 or 3 where the arguments are wrong or a program could not be
+//! run.
 mod comparison;
 mod hostile;
 mod oracle;
+mod pairs;
 mod random;
 mod recode;
 mod sequences;
@@ -31,7 +33,7 @@ const ENCODINGS: [&str; 39] = [
     "windows-1255", "windows-1256", "windows-1257", "windows-1258", "x-mac-cyrillic", "x-user-defined",
 ];
 
-/// The labels of replacement. None of them is one to decode from.
+/// The labels of replacement. None of them is one to decode from, or to write.
 const REPLACEMENT_LABELS: [&str; 6] =
     ["csiso2022kr", "hz-gb-2312", "iso-2022-cn", "iso-2022-cn-ext", "iso-2022-kr", "replacement"];
 
@@ -74,15 +76,15 @@ impl Totals {
 
     /// Adds an encoding, and prints the lines that are next.
     fn add(&mut self, place: usize, comparison: &Comparison) {
-        let Comparison { encoding, inputs, sequences, bytes, differ, report, .. } = comparison;
+        let Comparison { encoding, to, inputs, sequences, bytes, differ, report, .. } = comparison;
         self.alike += inputs - differ;
         self.differ += differ;
         self.sequences += sequences;
         self.bytes += bytes;
-        let name = encoding.name();
+        let name = if place < ENCODINGS.len() { encoding.name().to_string() } else { format!("to {}", to.name()) };
         let counts = format!("{inputs:>7} inputs {sequences:>9} sequences {bytes:>11} bytes {differ:>5} differ");
-        self.lines.resize(ENCODINGS.len(), None);
-        self.lines[place] = Some(format!("{name:<15} {counts}\n{report}"));
+        self.lines.resize(2 * ENCODINGS.len(), None);
+        self.lines[place] = Some(format!("{name:<17} {counts}\n{report}"));
         while let Some(Some(line)) = self.lines.get(self.printed) {
             print!("{line}");
             self.printed += 1;
@@ -136,11 +138,12 @@ fn compare_all(settings: &Settings) -> io::Result<u64> {
     Ok(totals.differ)
 }
 
-/// Takes the next encoding, until there is none.
+/// Takes the next encoding, to decode from and then to write, until there is none.
 fn work(settings: &Settings, next: &AtomicUsize, sum: &Mutex<Totals>) -> io::Result<()> {
     let mut place = next.fetch_add(1, Ordering::Relaxed);
-    while let Some(name) = ENCODINGS.get(place) {
-        let comparison = compare_encoding(settings, name)?;
+    while let Some(name) = ENCODINGS.iter().chain(&ENCODINGS).nth(place) {
+        let decodes = place < ENCODINGS.len();
+        let comparison = if decodes { compare_encoding(settings, name)? } else { compare_output(settings, name)? };
         sum.lock().map_err(|_| io::ErrorKind::Other)?.add(place, &comparison);
         place = next.fetch_add(1, Ordering::Relaxed);
     }
@@ -153,7 +156,7 @@ fn encoding_of(name: &str) -> io::Result<&'static Encoding> {
 }
 
 fn compare_encoding(settings: &Settings, name: &str) -> io::Result<Comparison> {
-    let mut comparison = Comparison::new(encoding_of(name)?, settings.recode(name));
+    let mut comparison = Comparison::new(encoding_of(name)?, UTF_8, settings.recode(name));
     let (few, seed) = (if settings.quick { 10 } else { 1 }, settings.seed);
     compare_sequences(&mut comparison, settings)?;
     hostile::alone(&mut comparison, 600 / few, seed + 10)?;
@@ -161,6 +164,19 @@ fn compare_encoding(settings: &Settings, name: &str) -> io::Result<Comparison> {
     hostile::random(&mut comparison, 200 / few, 12 / few, seed + 12)?;
     hostile::boundaries(&mut comparison, seed + 13)?;
     hostile::pieces(&mut comparison, seed + 14)?;
+    Ok(comparison)
+}
+
+/// From every encoding to this one.
+fn compare_output(settings: &Settings, name: &str) -> io::Result<Comparison> {
+    let mut comparison = Comparison::new(UTF_8, encoding_of(name)?, settings.recode(&format!("to-{name}")));
+    let (rounds, seed) = (if settings.quick { 1 } else { 4 }, settings.seed);
+    pairs::every_character(&mut comparison)?;
+    pairs::long(&mut comparison, settings.quick, seed + 20)?;
+    for from in ENCODINGS {
+        comparison.encoding = encoding_of(from)?;
+        pairs::short(&mut comparison, rounds, seed + 21)?;
+    }
     Ok(comparison)
 }
 
@@ -195,16 +211,18 @@ fn compare_sequences(comparison: &mut Comparison, settings: &Settings) -> io::Re
 fn compare_replacement(settings: &Settings, totals: &mut Totals) -> io::Result<()> {
     let recode = settings.recode("replacement");
     for label in REPLACEMENT_LABELS {
-        let answer = recode.run(label, b"a", Delivery::Pipe)?;
         let refused = Encoding::for_label(label.as_bytes()) == Some(REPLACEMENT)
             && Encoding::for_label_no_replacement(label.as_bytes()).is_none();
-        let alike = refused && answer.status == 2 && answer.text.is_empty();
-        totals.count(alike);
-        if !alike {
-            println!("  {label}: status {}, output {}", answer.status, hex(&answer.text));
+        for [from, to] in [[label, "utf-8"], ["utf-8", label]] {
+            let answer = recode.run([from, to], b"a", Delivery::Pipe)?;
+            let alike = refused && answer.status == 2 && answer.text.is_empty();
+            totals.count(alike);
+            if !alike {
+                println!("  {from} to {to}: status {}, output {}", answer.status, hex(&answer.text));
+            }
         }
     }
-    println!("replacement: {} labels, with status 2 each", REPLACEMENT_LABELS.len());
+    println!("replacement: {} labels, with status 2 each, to decode from and to write", REPLACEMENT_LABELS.len());
     Ok(())
 }
 
@@ -214,8 +232,11 @@ fn compare_changed(settings: &Settings, totals: &mut Totals) -> io::Result<()> {
         let encoding = encoding_of(name)?;
         println!("{name}: characters that GB18030-2022 changed");
         for changed in &oracle::CHANGED {
-            let got = settings.recode("changed").run(name, &changed.bytes, Delivery::Pipe)?;
+            let got = settings.recode("changed").run([name, "utf-8"], &changed.bytes, Delivery::Pipe)?;
             totals.count(is_as_named(encoding, changed, &got));
+            for before in [false, true] {
+                totals.count(is_encoded_as_named(settings, encoding, changed, before)?);
+            }
         }
         for stray in oracle::strays(encoding) {
             totals.count(false);
@@ -234,6 +255,24 @@ fn is_as_named(encoding: &'static Encoding, changed: &oracle::Changed, got: &ora
     let verdict = if named && alike { "" } else { ", NOT as named" };
     println!("  {}: the crate {}, recode {}{verdict}", hex(&changed.bytes), points(&packaged), points(&text));
     named && alike
+}
+
+/// Whether recode has the two bytes for the character since and none for the one before. The crate has them for one of
+/// both.
+fn is_encoded_as_named(
+    settings: &Settings,
+    encoding: &'static Encoding,
+    changed: &oracle::Changed,
+    before: bool,
+) -> io::Result<bool> {
+    let text = String::from(if before { changed.before } else { changed.since });
+    let labels = ["utf-8", encoding.name()];
+    let got = settings.recode("changed").run(labels, text.as_bytes(), Delivery::Pipe)?;
+    let alike = got.status == i32::from(before) && got.text == changed.encoded(before);
+    let (packaged, _, _) = encoding.encode(&text);
+    let verdict = if alike { "" } else { ", NOT as named" };
+    println!("  {}: the crate {}, recode {}{verdict}", points(&text), hex(&packaged), hex(&got.text));
+    Ok(alike)
 }
 
 /// The characters of a text by their code points.

@@ -46,14 +46,53 @@ pub fn has_changed(encoding: &'static Encoding) -> bool {
     encoding == GB18030 || encoding == GBK
 }
 
-/// What recode has to make of an input: what the crate does, sniffing, with the characters since GB18030-2022.
+/// What recode has to make of an input: what the crate does, sniffing, and with references, with the characters since
+/// GB18030-2022.
 ///
 /// The characters before come from their own sequences alone (`strays` tells whether), and only where no byte order
 /// mark told another encoding, so none can stand for anything else.
-pub fn wanted(encoding: &'static Encoding, input: &[u8]) -> Answer {
+pub fn wanted(encoding: &'static Encoding, to: &'static Encoding, input: &[u8]) -> Answer {
     let (text, used, replaced) = encoding.decode(input);
     let text = if has_changed(used) { text.chars().map(since).collect() } else { text.into_owned() };
-    Answer { text: text.into_bytes(), status: i32::from(replaced) }
+    let (text, had_unmappables) = encoded(to, &text);
+    Answer { text, status: i32::from(replaced || had_unmappables) }
+}
+
+/// A text in the encoding that is written for this one, and whether it has references. In gb18030 and GBK, where each
+/// character is encoded by itself, those since GB18030-2022 have the two bytes, and those before are unmappable.
+fn encoded(to: &'static Encoding, text: &str) -> (Vec<u8>, bool) {
+    if !has_changed(to) {
+        let (bytes, _, had_unmappables) = to.encode(text);
+        return (bytes.into_owned(), had_unmappables);
+    }
+    let (mut written, mut replaced) = (Vec::new(), false);
+    for part in text.split_inclusive(|character| change_of(character).is_some()) {
+        let changed = part.chars().next_back().and_then(change_of);
+        let same = part.trim_end_matches(|character| change_of(character).is_some());
+        let (bytes, _, had_unmappables) = to.encode(same);
+        written.extend_from_slice(&bytes);
+        replaced |= had_unmappables;
+        if let Some(changed) = changed {
+            replaced |= part.ends_with(changed.before);
+            written.extend_from_slice(&changed.encoded(part.ends_with(changed.before)));
+        }
+    }
+    (written, replaced)
+}
+
+fn change_of(character: char) -> Option<&'static Changed> {
+    CHANGED.iter().find(|changed| changed.before == character || changed.since == character)
+}
+
+impl Changed {
+    /// What recode has to write for the character before, or for the one since.
+    pub fn encoded(&self, before: bool) -> Vec<u8> {
+        if before {
+            format!("&#{};", u32::from(self.before)).into_bytes()
+        } else {
+            self.bytes.to_vec()
+        }
+    }
 }
 
 fn since(character: char) -> char {

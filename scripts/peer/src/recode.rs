@@ -7,6 +7,9 @@ use std::process::{Child, ChildStdin, Command, Stdio};
 use std::thread;
 use std::time::Duration;
 
+/// FROM and TO.
+pub type Labels<'a> = [&'a str; 2];
+
 /// How the program is given its input.
 #[derive(Clone, Copy)]
 pub enum Delivery {
@@ -30,33 +33,33 @@ pub struct Recode {
 }
 
 impl Recode {
-    /// What `recode LABEL utf-8` makes of the input.
-    pub fn run(&self, label: &str, input: &[u8], delivery: Delivery) -> io::Result<Answer> {
+    /// What `recode FROM TO` makes of the input.
+    pub fn run(&self, labels: Labels, input: &[u8], delivery: Delivery) -> io::Result<Answer> {
         match delivery {
             Delivery::File => {
                 std::fs::write(&self.file, input)?;
-                finish(self.start(label, Stdio::from(File::open(&self.file)?))?)
+                finish(self.start(labels, Stdio::from(File::open(&self.file)?))?)
             }
             Delivery::Pipe if input.len() <= PIPE => {
-                let mut child = self.start(label, Stdio::piped())?;
+                let mut child = self.start(labels, Stdio::piped())?;
                 write_pieces(child.stdin.take(), input, &[PIPE], Duration::ZERO);
                 finish(child)
             }
-            Delivery::Pipe => self.run_beside(label, input, &[usize::MAX], Duration::ZERO),
-            Delivery::Pieces(sizes) => self.run_beside(label, input, sizes, Duration::ZERO),
-            Delivery::Slow(sizes) => self.run_beside(label, input, sizes, Duration::from_micros(100)),
+            Delivery::Pipe => self.run_beside(labels, input, &[usize::MAX], Duration::ZERO),
+            Delivery::Pieces(sizes) => self.run_beside(labels, input, sizes, Duration::ZERO),
+            Delivery::Slow(sizes) => self.run_beside(labels, input, sizes, Duration::from_micros(100)),
         }
     }
 
-    fn start(&self, label: &str, stdin: Stdio) -> io::Result<Child> {
+    fn start(&self, labels: Labels, stdin: Stdio) -> io::Result<Child> {
         let mut command = Command::new(&self.program);
-        command.args([label, "utf-8"]).stdin(stdin).stdout(Stdio::piped()).stderr(Stdio::null());
+        command.args(labels).stdin(stdin).stdout(Stdio::piped()).stderr(Stdio::null());
         command.spawn()
     }
 
     /// Writes in a thread beside the one that reads, so that neither waits for ever.
-    fn run_beside(&self, label: &str, input: &[u8], sizes: &[usize], pause: Duration) -> io::Result<Answer> {
-        let mut child = self.start(label, Stdio::piped())?;
+    fn run_beside(&self, labels: Labels, input: &[u8], sizes: &[usize], pause: Duration) -> io::Result<Answer> {
+        let mut child = self.start(labels, Stdio::piped())?;
         let stdin = child.stdin.take();
         thread::scope(|scope| {
             scope.spawn(|| write_pieces(stdin, input, sizes, pause));

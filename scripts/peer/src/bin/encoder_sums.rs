@@ -1,8 +1,10 @@
-//! Writes for each encoding a sum over what the Rust crate encodes single characters to: every character of the Basic
-//! Multilingual Plane and each 97th of the others, and in Big5 every one of plane 2. scripts/encoder-sums builds and runs it.
+//! Writes for each encoding two sums over what the Rust crate encodes single characters to, without replacement and with it:
+//! every character of the Basic Multilingual Plane and each 97th of the others, and in Big5 every one of plane 2.
+//! scripts/encoder-sums builds and runs it.
 //!
-//! The sum is FNV-1a with 64 bits, over numbers: of a character that is mappable its bytes and 0x100, and of any other one
-//! 0x200 and the character that is reported. The characters that GB18030-2022 changed are left out in GB18030 and GBK.
+//! A sum is FNV-1a with 64 bits, over numbers: of a character that is mappable its bytes and 0x100. Of any other one they
+//! are without replacement 0x200 and the character that is reported, and with it the bytes of its reference, with the
+//! escape sequence that may follow, and 0x200. The characters that GB18030-2022 changed are left out in GB18030 and GBK.
 use encoding_rs::{BIG5, EncoderResult, Encoding, GB18030, GBK};
 
 #[path = "../oracle.rs"]
@@ -46,10 +48,20 @@ fn add_character(sum: u64, encoding: &'static Encoding, character: char) -> u64 
     }
 }
 
+/// Adds what `encode` of the crate makes of a character, with a reference where it is unmappable.
+fn add_replaced(sum: u64, encoding: &'static Encoding, character: char) -> u64 {
+    let mut local = [0; 4];
+    let (bytes, _, had_unmappables) = encoding.encode(character.encode_utf8(&mut local));
+    let sum = bytes.iter().fold(sum, |sum, byte| add(sum, u64::from(*byte)));
+    add(sum, if had_unmappables { 0x200 } else { 0x100 })
+}
+
 fn main() {
     for name in NAMES {
         let encoding = Encoding::for_label(name.as_bytes()).expect("a name is a label");
-        let characters = (0..=0x10_FFFF).filter_map(char::from_u32).filter(|c| is_tried(encoding, *c));
-        println!("{name} {:#018X}", characters.fold(OFFSET_BASIS, |sum, c| add_character(sum, encoding, c)));
+        let characters = || (0..=0x10_FFFF).filter_map(char::from_u32).filter(|c| is_tried(encoding, *c));
+        let reported = characters().fold(OFFSET_BASIS, |sum, c| add_character(sum, encoding, c));
+        let replaced = characters().fold(OFFSET_BASIS, |sum, c| add_replaced(sum, encoding, c));
+        println!("{name} {reported:#018X} {replaced:#018X}");
     }
 }

@@ -1,0 +1,80 @@
+//! Runs of calls of an encoder that change units, treatment, offer and room from one to the next.
+
+use encoding_rs::run::{EncodeCall, encode_run};
+use encoding_rs::*;
+use std::alloc::{AllocError, Global};
+use std::test::Fail;
+
+const TWO_CALLS: &[EncodeCall] = &[
+    EncodeCall {
+        utf16: false,
+        replace: false,
+        offer: 2,
+        room: 4,
+    },
+    EncodeCall {
+        utf16: true,
+        replace: true,
+        offer: 5,
+        room: 11,
+    },
+];
+
+#[test]
+fn a_run_may_change_its_units_and_treatment(rt: HostRuntime) -> Result<(), Fail> {
+    let report = encode_run(rt.alloc(), SHIFT_JIS, "a💩b", TWO_CALLS)?;
+    assert_eq!(rt; report.bytes.as_slice(), b"a&#128169;b".as_slice());
+    assert_eq!(rt; report.unmappables.as_slice(), ['💩'].as_slice());
+    assert_eq!(rt; (report.read, report.calls), (3, 2));
+    assert!(rt; report.had_unmappables && report.finished);
+    Ok(())
+}
+
+/// So many calls: units take turns by two, treatments by three, offers by five and rooms by thirteen, from 8 on, so that
+/// each meets each.
+fn mixed_calls(alloc: Global, count: usize) -> Result<Vec<EncodeCall>, AllocError> {
+    let mut calls = Vec::new(alloc);
+    for number in 0..count {
+        calls.push(EncodeCall {
+            utf16: number % 2 == 1,
+            replace: number % 3 == 1,
+            offer: number % 5,
+            room: (number % 13).saturating_add(8),
+        })?;
+    }
+    Ok(calls)
+}
+
+/// Texts, how many characters they have, and their bytes.
+const TEXTS: &[(Encoding, &str, usize, &[u8])] = &[
+    (
+        ISO_2022_JP,
+        "\u{A5}💩\u{3041}\u{FFFF}a",
+        5,
+        b"\x1B(J\\&#128169;\x1B$B$!\x1B(B&#65535;a",
+    ),
+    (GB18030, "a\u{E5E5}𐀀€", 4, b"a&#58853;\x900\x810\xA2\xE3"),
+    (
+        WINDOWS_1252,
+        "\u{100}\u{10FFFF}é",
+        3,
+        b"&#256;&#1114111;\xE9",
+    ),
+    (UTF_16LE, "a💩é", 3, b"a\xF0\x9F\x92\xA9\xC3\xA9"),
+];
+
+#[test]
+fn mixed_calls_come_to_the_whole_text(rt: HostRuntime) -> Result<(), Fail> {
+    let calls = mixed_calls(rt.alloc(), 120)?;
+    for (encoding, text, count, bytes) in TEXTS {
+        for first in 0..6 {
+            let (_, behind) = calls.split_at(first.min(calls.len()));
+            let report = encode_run(rt.alloc(), *encoding, text, behind)?;
+            assert!(rt; report.finished, "{encoding:?} {first}");
+            assert_eq!(rt; report.bytes.as_slice(), *bytes, "{encoding:?} {first}");
+            assert_eq!(rt; report.read, *count, "{encoding:?} {first}");
+            assert_eq!(rt; report.had_unmappables, !encoding.can_encode_everything());
+        }
+    }
+    Ok(())
+}
