@@ -8,15 +8,13 @@ use Rattle.std.proofs.Math.Seq.{drop-append_seam}
 use Rattle.std.proofs.lemmas.Str.{encodes-chars, length-encode, len_utf8_bounds}
 use Rattle.std.specs.Char.{encode_utf8}
 use Rattle.std.specs.Str.{IsUtf8, encode_utf8_all}
-use Rattle.enc_codec.specs.declared.codec.Codec.{Codec}
-use Rattle.enc_codec.specs.declared.codec.Codec.TheVariants.{Utf8, Utf16Be, Utf16Le, SingleByte, Big5, EucKr, ShiftJis, EucJp, Gbk, Gb18030, Iso2022Jp, XUserDefined, Replacement}
 use Rattle.enc_encode.specs.Encoders.{encoder_rule}
 use Rattle.enc_encoders.specs.declared.character_set.CharacterSet.TheVariants.{Ascii}
 use Rattle.enc_encoders.specs.declared.encoder_result.EncoderResult.{EncoderResult}
 use Rattle.enc_encoders.specs.declared.encoder_result.EncoderResult.TheVariants.{InputEmpty, OutputFull, Unmappable}
-use Rattle.enc_encoders.specs.EncoderRule.{EncoderRule, RawState}
+use Rattle.enc_encoders.specs.EncoderRule.{EncoderRule, RawState, IsLawful}
 use Rattle.enc_encoders.specs.Steps.{Step, chars_of, any_reported}
-use Rattle.enc_encoders.specs.Text.{bytes_of_text, with_references, reference_after}
+use Rattle.enc_encoders.specs.Text.{escape_at_end, bytes_of_text, with_references, reference_after}
 use Rattle.enc_encoders.specs.Call.{Stops}
 use Rattle.enc_encoders.proofs.StepLemmas.{any_reported-append}
 use Rattle.enc_encoders.proofs.TextLemmas.{parted}
@@ -32,6 +30,9 @@ use Rattle.encoding_rs.specs.Encodings.{codec_by_id, or_utf_8, output_rule}
 use Rattle.encoding_rs.specs.Encoder.{EncoderState, kept_by_id, fresh_encoder, raw_state, Encodes}
 use Rattle.enc_units.specs.Output.{units_of_text}
 use Rattle.encoding_rs.specs.Run.{units_by}
+use Rattle.enc_machine.proofs.SequenceLemmas.{or_false}
+use Rattle.encoding_rs.proofs.ReferenceLemmas.{lawful_of}
+use Rattle.encoding_rs.proofs.RunLemmas.{map-one, first_flag, rest_flags, no_flags, reaches}
 use Rattle.encoding_rs.specs.EncodeRun.{treatment_by, report_of, is_report, is_empty, MakesCall, EncodeState, encode_start, GoesOn, IsEncodeRun, whole_bytes, EncodePart, chars_in, reported_in, all_report, HasEncoded}
 
 -- the rule by which a run writes
@@ -46,20 +47,9 @@ same_rule id.Utf16be = refl
 same_rule id.Utf16le = refl
 same_rule _ = refl
 
-nothing_of : (c : Codec) → bytes_of_text (or_utf_8 (encoder_rule c)) Ascii [] ≡ []
-nothing_of Utf8 = refl
-nothing_of Utf16Be = refl
-nothing_of Utf16Le = refl
-nothing_of (SingleByte index) = refl
-nothing_of Big5 = refl
-nothing_of EucKr = refl
-nothing_of ShiftJis = refl
-nothing_of EucJp = refl
-nothing_of Gbk = refl
-nothing_of Gb18030 = refl
-nothing_of Iso2022Jp = refl
-nothing_of XUserDefined = refl
-nothing_of Replacement = refl
+-- an empty text has no bytes
+nothing_of : (e : EncoderRule) → IsLawful e → bytes_of_text e Ascii [] ≡ []
+nothing_of e l = ap escape_at_end (l.set_after_none Ascii)
 
 -- What the calls of a run have come to: what is written, and what is still to come.
 pub record Written (e : Encoding) (text : List ℕ) (calls : List EncodeCall) (s : EncodeState) : Type 0 where
@@ -95,10 +85,6 @@ chars_in-one : (ps : List EncodePart) (p : EncodePart) → chars_in (ps ++ p ∷
 chars_in-one [] p = append-nil p.chars
 chars_in-one (q ∷ ps) p = ap (λ x. q.chars ++ x) (chars_in-one ps p) ∙ sym (append_assoc q.chars (chars_in ps) p.chars)
 
-map-one : {A B : Type 0} (f : A → B) (xs : List A) (x : A) → map f (xs ++ x ∷ []) ≡ map f xs ++ f x ∷ []
-map-one f [] x = refl
-map-one f (y ∷ xs) x = ap (λ z. f y ∷ z) (map-one f xs x)
-
 abbrev reported_by : EncoderRule → EncodePart → List ℕ
 reported_by rule p = if p.replaces then [] else reports_of rule p.chars
 
@@ -108,10 +94,6 @@ reported_in-one rule (q ∷ ps) p =
     ap (λ x. reported_by rule q ++ x) (reported_in-one rule ps p) ∙ sym (append_assoc (reported_by rule q) (reported_in rule ps) (reported_by rule p))
 
 -- what a call has reported
-
-or_false : (b : Bool) → (b || false) ≡ b
-or_false true = refl
-or_false false = refl
 
 none_in : (ps : List Step) → any_reported ps ≡ false → reports_in ps ≡ []
 none_in [] e = refl
@@ -166,9 +148,6 @@ is_empty_is : (result : EncoderResult) → is_empty result ≡ true → result �
 is_empty_is InputEmpty e = refl
 is_empty_is OutputFull e = absurd (true≢false (sym e))
 is_empty_is (Unmappable c) e = absurd (true≢false (sym e))
-
-reaches : (n offer : ℕ) → nat_le n offer ≡ true → n ≤ offer
-reaches n offer h = grind (arith, nat_tests)
 
 -- One call more.
 module _ (e : Encoding) (text : List ℕ) (calls : List EncodeCall) (s : EncodeState) (w : Written e text calls s) (made : EncodeCall) (new : EncoderState) (after : List ℕ)
@@ -290,15 +269,6 @@ within e text calls s w = omega (arith, w.count, ap length w.chars, length-appen
 
 -- where all calls report, all unmappable characters are reported
 
-first_flag : (a b : Bool) (x y : List Bool) → a ∷ x ≡ b ∷ y → a ≡ b
-first_flag a b x y e = cc
-
-rest_flags : (a b : Bool) (x y : List Bool) → a ∷ x ≡ b ∷ y → x ≡ y
-rest_flags a b x y e = cc
-
-no_flags : (a : Bool) (x : List Bool) → a ∷ x ≡ [] → ⊥
-no_flags a x e = cc
-
 all_reported : (rule : EncoderRule) (ps : List EncodePart) (cs : List EncodeCall) → map (λ (p : EncodePart). p.replaces) ps ≡ map (λ (c : EncodeCall). c.replace) cs → all_report cs ≡ true
     → reported_in rule ps ≡ reports_of rule (chars_in ps)
 all_reported rule [] cs g r = refl
@@ -319,7 +289,7 @@ module _ (e : Encoding) (text : List ℕ) (calls : List EncodeCall) (s : EncodeS
   all_bytes = sym (
       w.bytes ∙ ap (λ t. s.bytes ++ bytes_of_text (raw_state s.encoder).rule s.encoder.set (with_references (raw_state s.encoder).rule t)) (w.ended f).0
       ∙ ap (λ c. s.bytes ++ bytes_of_text (raw_state s.encoder).rule c []) (w.ended f).1
-      ∙ ap (λ (r : EncoderRule). s.bytes ++ bytes_of_text r Ascii []) w.rule ∙ ap (λ t. s.bytes ++ t) (nothing_of (codec_by_id e.id)) ∙ append-nil s.bytes)
+      ∙ ap (λ (r : EncoderRule). s.bytes ++ bytes_of_text r Ascii []) w.rule ∙ ap (λ t. s.bytes ++ t) (nothing_of (output_rule e) (lawful_of (codec_by_id e.id))) ∙ append-nil s.bytes)
 
   pub any_char : s.had_unmappables ≡ any_unmappable (output_rule e) text
   any_char = w.flag ∙ ap (any_unmappable (output_rule e)) all_chars

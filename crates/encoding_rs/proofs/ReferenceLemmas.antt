@@ -1,8 +1,8 @@
 -- Texts with references in the place of unmappable characters.
-use Rattle.std.proofs.Common.{◌≡◌, ℕ, Bool, true, false, not, ◌||◌, is_some, Option, Some, None, List, [], ◌∷◌, ◌++◌, inl, refl, ap, sym, ◌∙◌, append_assoc, append-nil, decimal}
+use Rattle.std.proofs.Common.{◌≡◌, ℕ, true, false, not, ◌||◌, is_some, Option, Some, None, List, [], ◌∷◌, ◌++◌, inl, refl, ap, sym, ◌∙◌, append_assoc}
 use Rattle.enc_codec.specs.declared.codec.Codec.{Codec}
 use Rattle.enc_codec.specs.declared.codec.Codec.TheVariants.{Utf8, Utf16Be, Utf16Le, SingleByte, Big5, EucKr, ShiftJis, EucJp, Gbk, Gb18030, Iso2022Jp, XUserDefined, Replacement}
-use Rattle.enc_encoders.specs.EncoderRule.{EncoderRule, IsLawful, IsOfReferences}
+use Rattle.enc_encoders.specs.EncoderRule.{EncoderRule, IsLawful}
 use Rattle.enc_encoders.specs.Text.{reference, with_reference, with_references}
 use Rattle.enc_encoders.specs.Utf8.{utf_8_bytes}
 use Rattle.enc_encoders.specs.SingleByte.{single_byte_bytes, x_user_defined_bytes}

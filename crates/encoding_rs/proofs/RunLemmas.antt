@@ -52,7 +52,7 @@ offered n k bytes chunk h e = h ∙ ap (λ i. take i bytes) e ∙ take_min n byt
 pub refilled : (n : ℕ) (all new behind : List ℕ) → all ≡ take n (new ++ behind) → length new ≡ n → all ≡ new
 refilled n all new behind h e = h ∙ ap (λ k. take k (new ++ behind)) (sym e) ∙ take-append_seam new behind
 
-reaches : (n offer : ℕ) → nat_le n offer ≡ true → n ≤ offer
+pub reaches : (n offer : ℕ) → nat_le n offer ≡ true → n ≤ offer
 reaches n offer h = grind (arith, nat_tests)
 
 -- the units of either kind determine a text
@@ -78,7 +78,7 @@ done_of-one : (ps : List Part) (p : Part) → done_of (ps ++ p ∷ []) ≡ done_
 done_of-one [] p = append-nil p.done
 done_of-one (q ∷ ps) p = ap (λ x. q.done ++ x) (done_of-one ps p) ∙ sym (append_assoc q.done (done_of ps) p.done)
 
-map-one : {A B : Type 0} (f : A → B) (xs : List A) (x : A) → map f (xs ++ x ∷ []) ≡ map f xs ++ f x ∷ []
+pub map-one : {A B : Type 0} (f : A → B) (xs : List A) (x : A) → map f (xs ++ x ∷ []) ≡ map f xs ++ f x ∷ []
 map-one f [] x = refl
 map-one f (y ∷ xs) x = ap (λ z. f y ∷ z) (map-one f xs x)
 
@@ -342,13 +342,13 @@ faults-append at (s ∷ ss) ts =
     one_front true x y z = refl
     one_front false x y z = refl
 
-first_flag : (a b : Bool) (x y : List Bool) → a ∷ x ≡ b ∷ y → a ≡ b
+pub first_flag : (a b : Bool) (x y : List Bool) → a ∷ x ≡ b ∷ y → a ≡ b
 first_flag a b x y e = cc
 
-rest_flags : (a b : Bool) (x y : List Bool) → a ∷ x ≡ b ∷ y → x ≡ y
+pub rest_flags : (a b : Bool) (x y : List Bool) → a ∷ x ≡ b ∷ y → x ≡ y
 rest_flags a b x y e = cc
 
-no_flags : (a : Bool) (x : List Bool) → a ∷ x ≡ [] → ⊥
+pub no_flags : (a : Bool) (x : List Bool) → a ∷ x ≡ [] → ⊥
 no_flags a x e = cc
 
 all_reported : (at : ℕ) (ps : List Part) (cs : List DecodeCall) → map (λ (p : Part). p.replaces) ps ≡ map (λ (c : DecodeCall). c.replace) cs → all_report cs ≡ true
