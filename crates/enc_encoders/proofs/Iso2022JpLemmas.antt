@@ -8,6 +8,7 @@ use Rattle.enc_encoders.specs.declared.encoders.iso_2022_jp.CharClass.{CharClass
 use Rattle.enc_encoders.specs.declared.encoders.iso_2022_jp.CharClass.TheVariants as class
 use Rattle.enc_encoders.specs.EncoderRule.{IsLawful, IsOfReferences, set_for}
 use Rattle.enc_encoders.specs.Iso2022Jp.{class_of, has_class, set_of_class, last_of, last_class, is_left_in_roman, set_by, set_read_back, is_shift, iso_2022_jp_bytes, iso_2022_jp}
+use Rattle.enc_encoders.proofs.FewLemmas.{few_iso_2022_jp}
 
 is_roman : CharacterSet → Bool
 is_roman Ascii = false
@@ -98,4 +99,5 @@ iso_2022_jp_is_lawful = record {
   set_after_more = set_after_more;
   references = itself;
   one_set = λ s c r. ap (has_class s) (neutral c r);
+  few = few_iso_2022_jp;
 }

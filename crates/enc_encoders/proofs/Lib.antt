@@ -4,5 +4,6 @@ pub mod MachineLemmas
 pub mod FollowLemmas
 pub mod TextLemmas
 pub mod ActLemmas
+pub mod FewLemmas
 pub mod StatelessLemmas
 pub mod Iso2022JpLemmas

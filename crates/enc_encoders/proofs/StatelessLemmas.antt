@@ -5,7 +5,7 @@ use Rattle.std.proofs.lemmas.Str.{encode_ascii}
 use Rattle.enc_encoders.specs.declared.bytes.Bytes.{Bytes}
 use Rattle.enc_encoders.specs.CharLaw.{bytes_of}
 use Rattle.enc_encoders.specs.EncoderRule.{IsLawful, IsOfReferences}
-use Rattle.enc_encoders.specs.Stateless.{stateless, with_ascii, WritesAscii}
+use Rattle.enc_encoders.specs.Stateless.{stateless, with_ascii, WritesAscii, WritesFew}
 use Rattle.enc_encoders.specs.Utf8.{utf_8_bytes}
 
 pub utf_8_writes_ascii : WritesAscii utf_8_bytes
@@ -18,13 +18,14 @@ with_ascii_writes_ascii others c l = rw (lt-ltb c 0x80 l) refl
 of_references_is_ascii : (c : ℕ) → IsOfReferences c → c < 0x80
 of_references_is_ascii c r = omega arith
 
-pub stateless_is_lawful : (bytes : ℕ → Option (List ℕ)) → WritesAscii bytes → IsLawful (stateless bytes)
-stateless_is_lawful bytes h = record {
+pub stateless_is_lawful : (bytes : ℕ → Option (List ℕ)) → WritesAscii bytes → WritesFew bytes → IsLawful (stateless bytes)
+stateless_is_lawful bytes h few = record {
   designates = λ c. refl;
   set_after_none = λ s. refl;
   set_after_more = λ s t c. refl;
   references = λ c r. h c (of_references_is_ascii c r);
   one_set = λ s c r. refl;
+  few = few.few;
 }
 
 pub writes_one : (bytes : ℕ → Option (List ℕ)) (c : ℕ) (b : Bytes) → WritesAscii bytes → c < 0x80 → bytes_of b ≡ c ∷ [] → bytes c ≡ Some (bytes_of b)

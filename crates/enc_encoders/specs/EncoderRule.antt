@@ -1,5 +1,5 @@
 -- What an encoder writes for a character, and what it has designated (Encoding Standard 4.1, "encoder").
-use Rattle.std.specs.Prelude.{◌≡◌, ℕ, ◌≤◌, ◌⊎◌, Bool, true, false, Option, Some, List, [], ◌∷◌, ◌++◌, if◌then◌else◌}
+use Rattle.std.specs.Prelude.{◌≡◌, ℕ, ◌≤◌, ◌⊎◌, Bool, true, false, Option, Some, None, List, [], ◌∷◌, ◌++◌, length, if◌then◌else◌}
 use Rattle.enc_encoders.specs.declared.character_set.CharacterSet.{CharacterSet}
 use Rattle.enc_encoders.specs.declared.character_set.CharacterSet.TheVariants.{Ascii, Roman, Jis0208}
 
@@ -36,11 +36,18 @@ set_for e s c = if e.has s c then s else e.designated c
 abbrev pub IsOfReferences : ℕ → Type 0
 IsOfReferences c = (c ≡ 0x26) ⊎ ((c ≡ 0x23) ⊎ ((c ≡ 0x3B) ⊎ ((0x30 ≤ c) × (c ≤ 0x39))))
 
+-- at most four bytes
+abbrev pub AreFew : Option (List ℕ) → Type 0
+AreFew None = Unit {0}
+AreFew (Some b) = length b ≤ 4
+
 -- What holds of the rule of every encoding: a character is written in a set that has it, the set behind a text is that in
--- which its last character is written, and what references are made of is written as it is, all in the same sets.
+-- which its last character is written, what references are made of is written as it is, all in the same sets, and no
+-- character has more than four bytes.
 pub record IsLawful (e : EncoderRule) : Type 0 where
   pub designates : (c : ℕ) → e.has (e.designated c) c ≡ true
   pub set_after_none : (s : CharacterSet) → e.set_after s [] ≡ s
   pub set_after_more : (s : CharacterSet) (t : List ℕ) (c : ℕ) → e.set_after s (t ++ c ∷ []) ≡ set_for e (e.set_after s t) c
   pub references : (c : ℕ) → IsOfReferences c → e.bytes c ≡ Some (c ∷ [])
   pub one_set : (s : CharacterSet) (c : ℕ) → IsOfReferences c → e.has s c ≡ e.has s 0x26
+  pub few : (c : ℕ) → AreFew (e.bytes c)

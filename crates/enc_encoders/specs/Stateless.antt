@@ -1,7 +1,7 @@
 -- Encodings without escape sequences: each character is written by itself.
 use Rattle.std.specs.Prelude.{◌≡◌, ℕ, ◌<◌, true, nat_lt, Option, Some, None, List, [], ◌∷◌, if◌then◌else◌}
 use Rattle.enc_encoders.specs.declared.character_set.CharacterSet.TheVariants.{Ascii}
-use Rattle.enc_encoders.specs.EncoderRule.{EncoderRule, RawState}
+use Rattle.enc_encoders.specs.EncoderRule.{EncoderRule, RawState, AreFew}
 
 -- by the bytes of each character
 abbrev pub stateless : (ℕ → Option (List ℕ)) → EncoderRule
@@ -13,6 +13,10 @@ stateless_state bytes = record { rule = stateless bytes; set = Ascii }
 -- ASCII is written as itself
 abbrev pub WritesAscii : (ℕ → Option (List ℕ)) → Type 0
 WritesAscii bytes = (c : ℕ) → c < 0x80 → bytes c ≡ Some (c ∷ [])
+
+-- no character has more than four bytes
+pub record WritesFew (bytes : ℕ → Option (List ℕ)) : Type 0 where
+  pub few : (c : ℕ) → AreFew (bytes c)
 
 -- ASCII as itself, and all other characters so
 abbrev pub with_ascii : (ℕ → Option (List ℕ)) → ℕ → Option (List ℕ)

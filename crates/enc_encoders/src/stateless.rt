@@ -2,7 +2,7 @@
 
 ghost use Rattle.std.specs.Prelude.{◌≡◌, ◌≤◌, ℕ, Option, List};
 ghost use Rattle.enc_encoders.specs.CharLaw.{AreBytesOf};
-ghost use Rattle.enc_encoders.specs.Stateless.{WritesAscii};
+ghost use Rattle.enc_encoders.specs.Stateless.{WritesAscii, WritesFew};
 
 use crate::bytes::Bytes;
 use crate::char_encoder::CharEncoder;
@@ -23,9 +23,10 @@ pub trait Repertoire: Copy {
         requires { 0x80 ≤ c }
         ensures { AreBytesOf (bytes_for self c) result };
 
-    /// ASCII is written as itself. A call does nothing.
-    fn ascii(self)
-        ensures { WritesAscii (bytes_for self) };
+    /// ASCII is written as itself, and no character has more than four bytes. A call does nothing.
+    fn laws(self)
+        ensures ascii { WritesAscii (bytes_for self) }
+        ensures few { WritesFew (bytes_for self) };
 }
 
 /// The encoder of an encoding without escape sequences. It keeps nothing between two calls.
@@ -50,7 +51,7 @@ impl<R: Repertoire> CharEncoder for StatelessEncoder<R> {
 
     #[inline(always)]
     fn bytes(self, c: char) -> Option<Bytes> {
-        self.repertoire.ascii();
+        self.repertoire.laws();
         if (c as u32) < 0x80 {
             return Some(one(c as u8));
         }
@@ -85,7 +86,7 @@ impl<R: Repertoire> RawEncoder for StatelessEncoder<R> {
         dst: &mut [u8],
         last: bool,
     ) -> (EncoderResult, usize, usize) {
-        self.repertoire.ascii();
+        self.repertoire.laws();
         run(self, src, dst, last)
     }
 

@@ -1,39 +1,25 @@
 -- Texts with references in the place of unmappable characters.
 use Rattle.std.proofs.Common.{◌≡◌, ℕ, true, false, not, ◌||◌, is_some, Option, Some, None, List, [], ◌∷◌, ◌++◌, inl, refl, ap, sym, ◌∙◌, append_assoc}
 use Rattle.enc_codec.specs.declared.codec.Codec.{Codec}
-use Rattle.enc_codec.specs.declared.codec.Codec.TheVariants.{Utf8, Utf16Be, Utf16Le, SingleByte, Big5, EucKr, ShiftJis, EucJp, Gbk, Gb18030, Iso2022Jp, XUserDefined, Replacement}
 use Rattle.enc_encoders.specs.EncoderRule.{EncoderRule, IsLawful}
 use Rattle.enc_encoders.specs.Text.{reference, with_reference, with_references}
 use Rattle.enc_encoders.specs.Utf8.{utf_8_bytes}
-use Rattle.enc_encoders.specs.SingleByte.{single_byte_bytes, x_user_defined_bytes}
-use Rattle.enc_encoders.specs.Big5.{big5_bytes}
-use Rattle.enc_encoders.specs.EucKr.{euc_kr_bytes}
-use Rattle.enc_encoders.specs.ShiftJis.{shift_jis_bytes}
-use Rattle.enc_encoders.specs.EucJp.{euc_jp_bytes}
-use Rattle.enc_encoders.specs.Gb18030.{gb18030_bytes}
-use Rattle.enc_encoders.proofs.StatelessLemmas.{stateless_is_lawful, utf_8_writes_ascii, with_ascii_writes_ascii}
-use Rattle.enc_encoders.proofs.Iso2022JpLemmas.{iso_2022_jp_is_lawful}
+use Rattle.enc_encoders.proofs.StatelessLemmas.{stateless_is_lawful, utf_8_writes_ascii}
+use Rattle.enc_encoders.proofs.FewLemmas.{few_utf_8}
 use Rattle.enc_encoders.proofs.TextLemmas.{AreOfReferences, reference_is}
 use Rattle.enc_encode.specs.Encoders.{encoder_rule}
+use Rattle.enc_encode.proofs.LawfulLemmas.{IsLawfulIfAny, lawful_if_any}
 use Rattle.enc_references.specs.Unmappable.{any_unmappable}
 use Rattle.enc_references.proofs.UnmappableLemmas.{any_unmappable-append}
 use Rattle.encoding_rs.specs.Encodings.{or_utf_8}
 
+or_lawful : (found : Option EncoderRule) → IsLawfulIfAny found → IsLawful (or_utf_8 found)
+or_lawful None h = stateless_is_lawful utf_8_bytes utf_8_writes_ascii few_utf_8
+or_lawful (Some e) h = h
+
 -- what holds of the rule of every encoder
 pub lawful_of : (c : Codec) → IsLawful (or_utf_8 (encoder_rule c))
-lawful_of Utf8 = stateless_is_lawful utf_8_bytes utf_8_writes_ascii
-lawful_of Utf16Be = stateless_is_lawful utf_8_bytes utf_8_writes_ascii
-lawful_of Utf16Le = stateless_is_lawful utf_8_bytes utf_8_writes_ascii
-lawful_of Replacement = stateless_is_lawful utf_8_bytes utf_8_writes_ascii
-lawful_of (SingleByte index) = stateless_is_lawful (single_byte_bytes index) (with_ascii_writes_ascii _)
-lawful_of Big5 = stateless_is_lawful big5_bytes (with_ascii_writes_ascii _)
-lawful_of EucKr = stateless_is_lawful euc_kr_bytes (with_ascii_writes_ascii _)
-lawful_of ShiftJis = stateless_is_lawful shift_jis_bytes (with_ascii_writes_ascii _)
-lawful_of EucJp = stateless_is_lawful euc_jp_bytes (with_ascii_writes_ascii _)
-lawful_of Gbk = stateless_is_lawful (gb18030_bytes true) (with_ascii_writes_ascii _)
-lawful_of Gb18030 = stateless_is_lawful (gb18030_bytes false) (with_ascii_writes_ascii _)
-lawful_of XUserDefined = stateless_is_lawful x_user_defined_bytes (with_ascii_writes_ascii _)
-lawful_of Iso2022Jp = iso_2022_jp_is_lawful
+lawful_of c = or_lawful (encoder_rule c) (lawful_if_any c)
 
 with_references-append : (e : EncoderRule) (a b : List ℕ) → with_references e (a ++ b) ≡ with_references e a ++ with_references e b
 with_references-append e [] b = refl

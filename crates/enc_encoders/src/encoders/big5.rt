@@ -46,6 +46,6 @@ impl Repertoire for Big5 {
         }
     }
 
-    #[tactic(auto, using(crate::proofs::StatelessLemmas::with_ascii_writes_ascii))]
-    fn ascii(self) {}
+    #[tactic(auto, using(crate::proofs::StatelessLemmas::with_ascii_writes_ascii, crate::proofs::FewLemmas::few_big5))]
+    fn laws(self) {}
 }

@@ -48,6 +48,6 @@ impl Repertoire for EucJp {
         }
     }
 
-    #[tactic(auto, using(crate::proofs::StatelessLemmas::with_ascii_writes_ascii))]
-    fn ascii(self) {}
+    #[tactic(auto, using(crate::proofs::StatelessLemmas::with_ascii_writes_ascii, crate::proofs::FewLemmas::few_euc_jp))]
+    fn laws(self) {}
 }

@@ -37,6 +37,6 @@ impl Repertoire for EucKr {
         }
     }
 
-    #[tactic(auto, using(crate::proofs::StatelessLemmas::with_ascii_writes_ascii))]
-    fn ascii(self) {}
+    #[tactic(auto, using(crate::proofs::StatelessLemmas::with_ascii_writes_ascii, crate::proofs::FewLemmas::few_euc_kr))]
+    fn laws(self) {}
 }

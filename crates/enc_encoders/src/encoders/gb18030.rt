@@ -83,6 +83,6 @@ impl Repertoire for Gb18030 {
         two_or_four(self.is_gbk, c)
     }
 
-    #[tactic(auto, using(crate::proofs::StatelessLemmas::with_ascii_writes_ascii))]
-    fn ascii(self) {}
+    #[tactic(auto, using(crate::proofs::StatelessLemmas::with_ascii_writes_ascii, crate::proofs::FewLemmas::few_gb18030))]
+    fn laws(self) {}
 }

@@ -68,6 +68,6 @@ impl Repertoire for ShiftJis {
         }
     }
 
-    #[tactic(auto, using(crate::proofs::StatelessLemmas::with_ascii_writes_ascii))]
-    fn ascii(self) {}
+    #[tactic(auto, using(crate::proofs::StatelessLemmas::with_ascii_writes_ascii, crate::proofs::FewLemmas::few_shift_jis))]
+    fn laws(self) {}
 }

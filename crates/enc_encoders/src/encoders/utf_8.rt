@@ -35,6 +35,6 @@ impl Repertoire for Utf8 {
         Some(utf8_bytes(c))
     }
 
-    #[tactic(auto, using(crate::proofs::StatelessLemmas::utf_8_writes_ascii))]
-    fn ascii(self) {}
+    #[tactic(auto, using(crate::proofs::StatelessLemmas::utf_8_writes_ascii, crate::proofs::FewLemmas::few_utf_8))]
+    fn laws(self) {}
 }

@@ -24,6 +24,6 @@ impl Repertoire for XUserDefined {
         None
     }
 
-    #[tactic(auto, using(crate::proofs::StatelessLemmas::with_ascii_writes_ascii))]
-    fn ascii(self) {}
+    #[tactic(auto, using(crate::proofs::StatelessLemmas::with_ascii_writes_ascii, crate::proofs::FewLemmas::few_x_user_defined))]
+    fn laws(self) {}
 }
