@@ -1,6 +1,2 @@
-pub mod Source
-pub mod Sink
-pub mod Chunk
-pub mod Run
 pub mod Status
 pub mod Labels

@@ -1,7 +1,7 @@
 -- The exit status of a run.
 use Rattle.std.specs.Prelude.{ℕ, Bool, true, false, Ok, Err}
 use Rattle.std.specs.declared.result.Result.{Result}
-use Rattle.recode.specs.declared.engine.RecodeFault.{RecodeFault}
+use Rattle.enc_recode.specs.declared.engine.RecodeFault.{RecodeFault}
 
 -- 0 where nothing was replaced, 1 where something was, 3 after a fault
 abbrev pub status_of : Result Bool RecodeFault → ℕ

@@ -6,16 +6,11 @@ ghost use Rattle.std.specs.Prelude.{◌≡◌, IfSome, IfNone};
 ghost use Rattle.recode.specs.Labels.{Names, AreUnknown};
 ghost use Rattle.recode.specs.Status.{status_of};
 
-mod engine;
-mod sink;
-mod source;
 #[cfg(test)]
 mod tests;
 
+use enc_recode::{FromRead, FromWrite, RecodeFault, Sink, Source, run};
 use encoding_rs::Encoding;
-use engine::{RecodeFault, run};
-use sink::{FromWrite, Sink};
-use source::{FromRead, Source};
 use std::process::ExitCode;
 use std::{env, io};
 

@@ -1,9 +1,7 @@
 //! Values from outside, and readers and writers that fail.
 
-use crate::engine::{RecodeFault, run};
-use crate::sink::{FromWrite, Sink};
-use crate::source::{FromRead, Source};
 use crate::{labels, status};
+use enc_recode::{FromRead, FromWrite, RecodeFault, Sink, Source, run};
 use encoding_rs::{
     BIG5, EUC_JP, EUC_KR, Encoding, GB18030, GBK, IBM866, ISO_2022_JP, ISO_8859_2, ISO_8859_3,
     ISO_8859_4, ISO_8859_5, ISO_8859_6, ISO_8859_7, ISO_8859_8, ISO_8859_8_I, ISO_8859_10,

@@ -1,6 +1,6 @@
 use Rattle.std.proofs.Common.{◌≡◌, ◌≤◌, ◌-◌, length, take}
-use Rattle.recode.specs.Sink.{TakesMore}
-use Rattle.recode.proofs.engine.push_all.Given as goal
+use Rattle.enc_recode.specs.Sink.{TakesMore}
+use Rattle.enc_recode.proofs.engine.push_all.Given as goal
 
 abbrev pub invariant-loop-at : goal.invariant-loop-at
 invariant-loop-at g l = record {

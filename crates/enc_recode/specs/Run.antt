@@ -8,7 +8,7 @@ use Rattle.encoding_rs.specs.declared.encoding.Encoding.{Encoding}
 use Rattle.encoding_rs.specs.Encodings.{output_rule}
 use Rattle.encoding_rs.specs.Decoding.{whole_sequences, whole_malformed}
 use Rattle.encoding_rs.specs.EncodeRun.{whole_bytes}
-use Rattle.recode.specs.Sink.{TakesMore}
+use Rattle.enc_recode.specs.Sink.{TakesMore}
 
 -- One list begins with another.
 abbrev pub BeginsWith : List ℕ → List ℕ → Type 0

@@ -11,8 +11,8 @@ use Rattle.enc_machine.specs.Sequence.{text_of, any_malformed}
 use Rattle.enc_machine.proofs.SequenceLemmas.{text_of-append, any_malformed-append}
 use Rattle.encoding_rs.specs.Decoding.{DecoderState, finished, remaining_sequences, DecodesReplacing}
 use Rattle.encoding_rs.proofs.EndLemmas.{only_put, finishes}
-use Rattle.recode.specs.Chunk.{DecodesBytes}
-use Rattle.recode.proofs.EncodingLemmas.{not_ended}
+use Rattle.enc_recode.specs.Chunk.{DecodesBytes}
+use Rattle.enc_recode.proofs.EncodingLemmas.{not_ended}
 
 -- A call that has come to the end of its bytes has read them all.
 pub none_unread : (old new : DecoderState) (src : List ℕ) (last : Bool) (room : ℕ) (result : CoderResult) (read : ℕ) (wrote : List ℕ) (replaced : Bool)

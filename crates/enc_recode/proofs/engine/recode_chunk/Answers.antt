@@ -1,9 +1,9 @@
 use Rattle.std.proofs.Common.{rules, ◌≡◌, refl, true, false}
 use Rattle.enc_calls.specs.declared.coder_result.CoderResult.TheVariants.{InputEmpty}
-use Rattle.recode.proofs.KnownLemmas.{on_err}
-use Rattle.recode.proofs.DecodingLemmas.{none_unread, finished_at_end, still_open}
-use Rattle.recode.proofs.ChunkLemmas.{HasRecoded-none, HasRecoded-last, HasRecoded-on, StopsWithin-call}
-use Rattle.recode.proofs.engine.recode_chunk.Goals as goal
+use Rattle.enc_recode.proofs.KnownLemmas.{on_err}
+use Rattle.enc_recode.proofs.DecodingLemmas.{none_unread, finished_at_end, still_open}
+use Rattle.enc_recode.proofs.ChunkLemmas.{HasRecoded-none, HasRecoded-last, HasRecoded-on, StopsWithin-call}
+use Rattle.enc_recode.proofs.engine.recode_chunk.Goals as goal
 
 pub calls-init : goal.calls-init
 calls-init g c = record {

@@ -1,8 +1,8 @@
 use Rattle.std.proofs.Common.{◌≡◌, false, length}
 use Rattle.encoding_rs.specs.Decoding.{finished}
-use Rattle.recode.specs.Chunk.{CanWrite}
-use Rattle.recode.proofs.RunLemmas.{HasRun}
-use Rattle.recode.proofs.engine.run_through.Given as goal
+use Rattle.enc_recode.specs.Chunk.{CanWrite}
+use Rattle.enc_recode.proofs.RunLemmas.{HasRun}
+use Rattle.enc_recode.proofs.engine.run_through.Given as goal
 
 abbrev pub invariant-pulls : goal.invariant-pulls
 invariant-pulls g l = record {

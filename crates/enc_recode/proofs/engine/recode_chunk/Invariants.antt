@@ -1,7 +1,7 @@
 use Rattle.std.proofs.Common.{◌≡◌, ◌+◌, length, false}
 use Rattle.encoding_rs.specs.Decoding.{finished}
-use Rattle.recode.specs.Chunk.{CanWrite, HasRecoded}
-use Rattle.recode.proofs.engine.recode_chunk.Given as goal
+use Rattle.enc_recode.specs.Chunk.{CanWrite, HasRecoded}
+use Rattle.enc_recode.proofs.engine.recode_chunk.Given as goal
 
 abbrev pub invariant-calls : goal.invariant-calls
 invariant-calls g l = record {

@@ -1,8 +1,8 @@
 use Rattle.std.proofs.Common.{rules, arith, ◌≡◌, ◌≤◌, refl, length}
 use Rattle.enc_calls.specs.declared.coder_result.CoderResult.TheVariants.{InputEmpty}
-use Rattle.recode.proofs.KnownLemmas.{on_err}
-use Rattle.recode.proofs.EncodingLemmas.{HasEncoded-none, HasEncoded-call, HasEncoded-last, StopsWithin-encoding, call_boundary, fewer_steps}
-use Rattle.recode.proofs.engine.push_encoded.Goals as goal
+use Rattle.enc_recode.proofs.KnownLemmas.{on_err}
+use Rattle.enc_recode.proofs.EncodingLemmas.{HasEncoded-none, HasEncoded-call, HasEncoded-last, StopsWithin-encoding, call_boundary, fewer_steps}
+use Rattle.enc_recode.proofs.engine.push_encoded.Goals as goal
 
 pub calls-init : goal.calls-init
 calls-init g c = (search rules, record { encoded = HasEncoded-none _ _ _ _; kept = refl; room = refl })

@@ -6,9 +6,9 @@ ghost use Rattle.encoding_rs.specs.declared.encoding.TheConstants.{UTF_8};
 ghost use Rattle.encoding_rs.specs.Properties.{output_encoding_of};
 ghost use Rattle.encoding_rs.specs.Decoding.{finished};
 ghost use Rattle.encoding_rs.specs.Encoder.{fresh_encoder};
-ghost use Rattle.recode.specs.Sink.{TakesMore, TakesPrefix};
-ghost use Rattle.recode.specs.Chunk.{CanWrite, HasEncoded, HasRecoded, StopsWithin, bytes_from, remaining_bytes};
-ghost use Rattle.recode.specs.Run.{RunsToEnd, RunsToFault};
+ghost use Rattle.enc_recode.specs.Sink.{TakesMore, TakesPrefix};
+ghost use Rattle.enc_recode.specs.Chunk.{CanWrite, HasEncoded, HasRecoded, StopsWithin, bytes_from, remaining_bytes};
+ghost use Rattle.enc_recode.specs.Run.{RunsToEnd, RunsToFault};
 
 use crate::sink::Sink;
 use crate::source::Source;

@@ -1,6 +1,6 @@
 use Rattle.std.proofs.Common.{rules, ◌≤◌, ◌+◌, length}
-use Rattle.recode.proofs.KnownLemmas.{TakesMore-push, TakesPrefix-push}
-use Rattle.recode.proofs.engine.push_all.Goals as goal
+use Rattle.enc_recode.proofs.KnownLemmas.{TakesMore-push, TakesPrefix-push}
+use Rattle.enc_recode.proofs.engine.push_all.Goals as goal
 
 pub loop-at-preserved : goal.loop-at-preserved
 loop-at-preserved g c =

@@ -5,9 +5,9 @@ use Rattle.std.proofs.lemmas.List.{take-take, take-append-drop}
 use Rattle.std.specs.declared.result.Result.{Result}
 use Rattle.std.specs.Prelude.{Ok, Err, OnErr, IfSome, option_map}
 use Rattle.std.specs.Io.KnownBytes.{prepend_known, append_known, IsAtEnd}
-use Rattle.recode.specs.Source.{TellsNext}
-use Rattle.recode.specs.Sink.{TakesMore, TakesPrefix}
-use Rattle.recode.specs.Run.{BeginsWith}
+use Rattle.enc_recode.specs.Source.{TellsNext}
+use Rattle.enc_recode.specs.Sink.{TakesMore, TakesPrefix}
+use Rattle.enc_recode.specs.Run.{BeginsWith}
 
 pub append_known-nil : (known : Option (List ℕ)) → append_known known [] ≡ known
 append_known-nil None = refl

@@ -1,8 +1,8 @@
 use Rattle.std.proofs.Common.{rules, ◌≡◌, []}
 use Rattle.encoding_rs.specs.declared.encoding.TheConstants.{UTF_8}
-use Rattle.recode.proofs.KnownLemmas.{on_err, TakesMore-none}
-use Rattle.recode.proofs.EncodingLemmas.{EncodesText-utf_8, StopsWithin-text}
-use Rattle.recode.proofs.engine.push_text.Goals as goal
+use Rattle.enc_recode.proofs.KnownLemmas.{on_err, TakesMore-none}
+use Rattle.enc_recode.proofs.EncodingLemmas.{EncodesText-utf_8, StopsWithin-text}
+use Rattle.enc_recode.proofs.engine.push_text.Goals as goal
 
 pub returns-in_err-push_all-clause-err : goal.returns-in_err-push_all-clause-err
 returns-in_err-push_all-clause-err g c =

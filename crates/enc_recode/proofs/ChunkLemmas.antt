@@ -7,10 +7,10 @@ use Rattle.enc_calls.specs.declared.coder_result.CoderResult.TheVariants.{InputE
 use Rattle.enc_machine.specs.Sequence.{text_of}
 use Rattle.encoding_rs.specs.Decoding.{DecoderState, remaining_sequences, DecodesReplacing}
 use Rattle.encoding_rs.specs.Encoder.{EncoderState}
-use Rattle.recode.specs.Chunk.{HasEncoded, HasRecoded, StopsWithin, bytes_from, remaining_bytes}
-use Rattle.recode.proofs.KnownLemmas.{TakesMore-then}
-use Rattle.recode.proofs.EncodingLemmas.{not_ended, HasEncoded-none, HasEncoded-more}
-use Rattle.recode.proofs.DecodingLemmas.{DecodesBytes-none, DecodesBytes-call, DecodesBytes-then, DecodesBytes-more, DecodesBytes-text, none_behind}
+use Rattle.enc_recode.specs.Chunk.{HasEncoded, HasRecoded, StopsWithin, bytes_from, remaining_bytes}
+use Rattle.enc_recode.proofs.KnownLemmas.{TakesMore-then}
+use Rattle.enc_recode.proofs.EncodingLemmas.{not_ended, HasEncoded-none, HasEncoded-more}
+use Rattle.enc_recode.proofs.DecodingLemmas.{DecodesBytes-none, DecodesBytes-call, DecodesBytes-then, DecodesBytes-more, DecodesBytes-text, none_behind}
 
 -- nothing yet
 pub HasRecoded-none : (s : DecoderState) (e : EncoderState) (src : List ℕ) (last : Bool) (k : Option (List ℕ)) → HasRecoded s s e e src src last false k k false

@@ -24,10 +24,10 @@ use Rattle.encoding_rs.specs.declared.encoding.Encoding.{Encoding}
 use Rattle.encoding_rs.specs.declared.encoding.TheConstants.{UTF_8}
 use Rattle.encoding_rs.specs.Encodings.{output_rule}
 use Rattle.encoding_rs.specs.Encoder.{EncoderState, EncodesInto, raw_state, replacing}
-use Rattle.recode.specs.Sink.{TakesMore, TakesPrefix}
-use Rattle.recode.specs.Chunk.{bytes_from, EncodesText, HasEncoded, StopsWithin}
-use Rattle.recode.proofs.KnownLemmas.{TakesMore-none, TakesMore-then}
-use Rattle.recode.proofs.FewLemmas.{goes_on}
+use Rattle.enc_recode.specs.Sink.{TakesMore, TakesPrefix}
+use Rattle.enc_recode.specs.Chunk.{bytes_from, EncodesText, HasEncoded, StopsWithin}
+use Rattle.enc_recode.proofs.KnownLemmas.{TakesMore-none, TakesMore-then}
+use Rattle.enc_recode.proofs.FewLemmas.{goes_on}
 
 pub not_ended : {P : Type 0} → false ≡ true → P
 not_ended e = cc

@@ -3,9 +3,9 @@ use Rattle.std.proofs.lemmas.Bool.Decides.{nat_tests}
 use Rattle.std.proofs.lemmas.List.{length-take}
 use Rattle.encoding_rs.specs.declared.bom.BomHandling.TheVariants.{Sniff}
 use Rattle.encoding_rs.proofs.EndLemmas.{fresh_open}
-use Rattle.recode.proofs.KnownLemmas.{on_err}
-use Rattle.recode.proofs.RunLemmas.{HasRun-start, HasRun-more, RunsToEnd-last, RunsToFault-between, RunsToFault-within}
-use Rattle.recode.proofs.engine.run_through.Goals as goal
+use Rattle.enc_recode.proofs.KnownLemmas.{on_err}
+use Rattle.enc_recode.proofs.RunLemmas.{HasRun-start, HasRun-more, RunsToEnd-last, RunsToFault-between, RunsToFault-within}
+use Rattle.enc_recode.proofs.engine.run_through.Goals as goal
 
 pub pulls-init : goal.pulls-init
 pulls-init g c = record {

@@ -12,13 +12,13 @@ use Rattle.encoding_rs.specs.Encodings.{output_rule}
 use Rattle.encoding_rs.specs.Decoding.{DecoderState, finished, fresh, whole_sequences, remaining_sequences}
 use Rattle.encoding_rs.specs.Encoder.{EncoderState, fresh_encoder}
 use Rattle.encoding_rs.proofs.EndLemmas.{fresh_sequences, none_left}
-use Rattle.recode.specs.Source.{TellsNext}
-use Rattle.recode.specs.Chunk.{HasRecoded, StopsWithin, bytes_from, remaining_bytes}
-use Rattle.recode.specs.Run.{RunsToEnd, RunsToFault, whole_text, recoded, any_replaced}
-use Rattle.recode.proofs.KnownLemmas.{TakesMore-then, TellsNext-none, TellsNext-then, begins_told, all_told, none_told}
-use Rattle.recode.proofs.FewLemmas.{none_due, output_rule_is}
-use Rattle.recode.proofs.EncodingLemmas.{not_ended}
-use Rattle.recode.proofs.ChunkLemmas.{HasRecoded-none, HasRecoded-more, HasRecoded-owed}
+use Rattle.enc_recode.specs.Source.{TellsNext}
+use Rattle.enc_recode.specs.Chunk.{HasRecoded, StopsWithin, bytes_from, remaining_bytes}
+use Rattle.enc_recode.specs.Run.{RunsToEnd, RunsToFault, whole_text, recoded, any_replaced}
+use Rattle.enc_recode.proofs.KnownLemmas.{TakesMore-then, TellsNext-none, TellsNext-then, begins_told, all_told, none_told}
+use Rattle.enc_recode.proofs.FewLemmas.{none_due, output_rule_is}
+use Rattle.enc_recode.proofs.EncodingLemmas.{not_ended}
+use Rattle.enc_recode.proofs.ChunkLemmas.{HasRecoded-none, HasRecoded-more, HasRecoded-owed}
 
 -- a run after so many pulls that have each given a byte or more, all of which are recoded
 pub record HasRun (from to : Encoding) (told_before told taken_before taken : Option (List ℕ)) (decoder : DecoderState) (encoder : EncoderState) (replaced : Bool) (pulls : ℕ) : Type 0 where

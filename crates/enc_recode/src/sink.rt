@@ -2,7 +2,7 @@
 
 ghost use Rattle.std.specs.Prelude.{◌≡◌, ℕ, List, ◌≤◌, ◌<◌, length, take, Option, Bool, true, false, None, IfOk, OnOk, OnErr};
 ghost use Rattle.std.specs.Io.KnownBytes.{WriteAppends};
-ghost use Rattle.recode.specs.Sink.{TakesMore};
+ghost use Rattle.enc_recode.specs.Sink.{TakesMore};
 
 use std::io::Write;
 

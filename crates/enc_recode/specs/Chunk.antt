@@ -8,7 +8,7 @@ use Rattle.encoding_rs.specs.declared.encoding.TheConstants.{UTF_8}
 use Rattle.encoding_rs.specs.Encodings.{output_rule}
 use Rattle.encoding_rs.specs.Decoding.{DecoderState, remaining_sequences}
 use Rattle.encoding_rs.specs.Encoder.{EncoderState}
-use Rattle.recode.specs.Sink.{TakesMore}
+use Rattle.enc_recode.specs.Sink.{TakesMore}
 
 -- the bytes of a text that is still to be encoded, with references in the place of unmappable characters
 abbrev pub bytes_from : EncoderState → List ℕ → List ℕ

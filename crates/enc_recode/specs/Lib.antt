@@ -1,0 +1,4 @@
+pub mod Source
+pub mod Sink
+pub mod Chunk
+pub mod Run
