@@ -1,12 +1,9 @@
 //! What runs the examples: over decoders of encodings here, into each output, and over a decoder by itself in `raw`.
 
-pub mod encoder_calls;
-pub mod encoding;
 mod mixed;
 mod outputs;
 mod raw;
 pub mod raw_calls;
-mod references;
 mod rows;
 
 use enc_machine::RawDecoder;

@@ -1,6 +1,6 @@
-//! Worked examples of every encoding, each through every cut and every small room; the names, labels,
+//! Worked examples of the decoder of every encoding, each through every cut and every small room; the names, labels,
 //! properties and byte order marks of all of them; look-ups in the indexes; the outputs of code units by themselves; and
-//! the calls of the decoders, of the encoders and of the front by themselves.
+//! the calls of the decoders and of the front by themselves. `conformance_encoders` has those of encoders.
 //!
 //! This crate has tests alone. A codec's examples stand in a module of its own in `codecs`, as tables, and one call
 //! runs them over the encoding and over the codec's decoder by itself. What is expected comes from outside: the
@@ -15,8 +15,6 @@ mod calls;
 mod codecs;
 #[cfg(test)]
 mod decoders;
-#[cfg(test)]
-mod encoders;
 #[cfg(test)]
 mod encodings;
 #[cfg(test)]

@@ -1,7 +1,7 @@
 //! What calls with replacement have to come to, as calls without it tell, a character at a time.
 
+use crate::harness::MOST_ROOM;
 use crate::harness::encoder_calls::{Answer, Offer, behind};
-use crate::harness::rows::MOST_ROOM;
 use encoding_rs::{Encoder, EncoderResult, UTF_8};
 use std::alloc::{AllocError, Global};
 use std::process::Abort;

@@ -1,6 +1,6 @@
 //! One call of an encoder, in any of its ways, told alike; and tables of single calls.
 
-use crate::harness::rows::MOST_ROOM;
+use crate::harness::MOST_ROOM;
 use encoding_rs::{CoderResult, Encoder, EncoderResult, Encoding, UTF_8};
 use std::alloc::{AllocError, Global};
 use std::process::Abort;

@@ -1,8 +1,8 @@
 //! Runs of an encoder over a text, in each of its ways.
 
+use crate::harness::MOST_ROOM;
 use crate::harness::encoder_calls::{ALL_WAYS, Offer, Way, behind, call_in};
 use crate::harness::references::{foretell, push_reference};
-use crate::harness::rows::MOST_ROOM;
 use encoding_rs::{Encoder, EncoderResult, Encoding};
 use std::alloc::{AllocError, Global};
 use std::process::Abort;

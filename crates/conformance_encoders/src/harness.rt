@@ -1,0 +1,8 @@
+//! What runs the examples over the encoder of an encoding, from each form of its input and into each form of its output.
+
+pub mod encoder_calls;
+pub mod encoding;
+mod references;
+
+/// No test gives more room.
+pub const MOST_ROOM: usize = 64;
