@@ -1,5 +1,5 @@
 -- Texts with references in the place of unmappable characters.
-use Rattle.std.proofs.Common.{◌≡◌, ℕ, true, false, not, ◌||◌, is_some, Option, Some, None, List, [], ◌∷◌, ◌++◌, inl, refl, ap, sym, ◌∙◌, append_assoc}
+use Rattle.std.proofs.Common.{◌≡◌, ℕ, false, not, ◌||◌, is_some, Option, Some, None, List, [], ◌∷◌, ◌++◌, inl, refl, ap, sym, ◌∙◌, append_assoc}
 use Rattle.enc_codec.specs.declared.codec.Codec.{Codec}
 use Rattle.enc_encoders.specs.EncoderRule.{EncoderRule, IsLawful}
 use Rattle.enc_encoders.specs.Text.{reference, with_reference, with_references}
