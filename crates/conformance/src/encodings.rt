@@ -15,7 +15,7 @@ use std::test::Fail;
 
 /// Each encoding with its name and its labels, as the standard's table of names and labels has them. Another
 /// implementation, TextDecoder of Node 20, agrees on the 220 labels that it knows.
-pub const TABLE: &[(Encoding, &str, &str)] = &[
+pub(crate) const TABLE: &[(Encoding, &str, &str)] = &[
     (
         UTF_8,
         "UTF-8",

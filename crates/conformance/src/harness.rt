@@ -9,11 +9,11 @@ mod rows;
 use enc_machine::RawDecoder;
 use encoding_rs::run::BomHandling;
 use encoding_rs::{CoderResult, Decoder, DecoderResult, Encoding};
-pub use mixed::compare_mixed;
-pub use outputs::{ALL_OUTPUTS, Answer, Given, Output, call_into};
-pub use raw::compare_raw_cuts;
+pub(crate) use mixed::compare_mixed;
+pub(crate) use outputs::{ALL_OUTPUTS, Answer, Given, Output, call_into};
+pub(crate) use raw::compare_raw_cuts;
 use rows::REPLACEMENT_CHARACTER;
-pub use rows::{Cut, Input, MOST_ROOM, Row, input_of};
+pub(crate) use rows::{Cut, Input, MOST_ROOM, Row, input_of};
 use std::alloc::{AllocError, Global};
 use std::process::Abort;
 use std::test::Fail;
@@ -23,7 +23,7 @@ const MOST_CALLS: usize = 64;
 
 /// One call with replacement: its bytes, whether they are the last ones, and its room; and what has to come of it: result,
 /// bytes read, bytes written, whether something was replaced; and the text.
-pub type Call<'a> = (
+pub(crate) type Call<'a> = (
     &'a [u8],
     bool,
     usize,
@@ -32,7 +32,7 @@ pub type Call<'a> = (
 );
 
 /// One call without replacement.
-pub type ReportingCall<'a> = (
+pub(crate) type ReportingCall<'a> = (
     &'a [u8],
     bool,
     usize,
@@ -41,7 +41,7 @@ pub type ReportingCall<'a> = (
 );
 
 /// A new decoder that looks for these byte order marks.
-pub fn new_decoder(encoding: Encoding, handling: BomHandling) -> Decoder {
+pub(crate) fn new_decoder(encoding: Encoding, handling: BomHandling) -> Decoder {
     match handling {
         BomHandling::Off => encoding.new_decoder_without_bom_handling(),
         BomHandling::Sniff => encoding.new_decoder(),
@@ -50,12 +50,12 @@ pub fn new_decoder(encoding: Encoding, handling: BomHandling) -> Decoder {
 }
 
 /// Makes the calls with one decoder that looks for no byte order mark.
-pub fn make_calls(rt: &impl Abort, encoding: Encoding, calls: &[Call<'_>]) {
+pub(crate) fn make_calls(rt: &impl Abort, encoding: Encoding, calls: &[Call<'_>]) {
     make_calls_of(rt, &mut new_decoder(encoding, BomHandling::Off), calls);
 }
 
 /// Makes the calls with this decoder.
-pub fn make_calls_of(rt: &impl Abort, decoder: &mut Decoder, calls: &[Call<'_>]) {
+pub(crate) fn make_calls_of(rt: &impl Abort, decoder: &mut Decoder, calls: &[Call<'_>]) {
     for (src, last, room, want, text) in calls {
         assert!(rt; !decoder.is_finished() && *room <= MOST_ROOM);
         let mut buffer = [0; MOST_ROOM];
@@ -71,18 +71,22 @@ pub fn make_calls_of(rt: &impl Abort, decoder: &mut Decoder, calls: &[Call<'_>])
 }
 
 /// One call with much room reads all and replaces nothing.
-pub fn decode_whole(rt: &impl Abort, encoding: Encoding, src: &[u8], text: &str) {
+pub(crate) fn decode_whole(rt: &impl Abort, encoding: Encoding, src: &[u8], text: &str) {
     let want = (CoderResult::InputEmpty, src.len(), text.len(), false);
     make_calls(rt, encoding, &[(src, true, MOST_ROOM, want, text)]);
 }
 
 /// Makes the calls without replacement with one decoder that looks for no byte order mark.
-pub fn make_reporting_calls(rt: &impl Abort, encoding: Encoding, calls: &[ReportingCall<'_>]) {
+pub(crate) fn make_reporting_calls(
+    rt: &impl Abort,
+    encoding: Encoding,
+    calls: &[ReportingCall<'_>],
+) {
     make_reporting_calls_of(rt, &mut new_decoder(encoding, BomHandling::Off), calls);
 }
 
 /// Makes the calls without replacement with this decoder.
-pub fn make_reporting_calls_of(
+pub(crate) fn make_reporting_calls_of(
     rt: &impl Abort,
     decoder: &mut Decoder,
     calls: &[ReportingCall<'_>],
@@ -104,19 +108,19 @@ pub fn make_reporting_calls_of(
 
 /// How a decoder is used.
 #[derive(Clone, Copy)]
-pub struct Use {
-    pub encoding: Encoding,
-    pub handling: BomHandling,
-    pub output: Output,
+pub(crate) struct Use {
+    pub(crate) encoding: Encoding,
+    pub(crate) handling: BomHandling,
+    pub(crate) output: Output,
     /// The calls are without replacement, and the caller puts U+FFFD where a malformed sequence is reported.
-    pub reporting: bool,
+    pub(crate) reporting: bool,
     /// A call that neither reads nor writes is made again, and then once more with room enough.
-    pub widens: bool,
+    pub(crate) widens: bool,
 }
 
 impl Use {
     /// Decodes into UTF-8 with replacement, by a decoder that looks for these byte order marks.
-    pub fn new(encoding: Encoding, handling: BomHandling) -> Use {
+    pub(crate) fn new(encoding: Encoding, handling: BomHandling) -> Use {
         Use {
             encoding,
             handling,
@@ -129,15 +133,15 @@ impl Use {
 
 /// What the calls of one decoder have come to.
 #[derive(Drop)]
-pub struct Run {
+pub(crate) struct Run {
     decoder: Decoder,
     way: Use,
-    pub text: Vec<u8>,
+    pub(crate) text: Vec<u8>,
     /// How many bytes were read in all.
     read: usize,
-    pub had_errors: bool,
+    pub(crate) had_errors: bool,
     /// Where each malformed sequence starts that was reported, and how many bytes it has.
-    pub malformed: Vec<(Option<usize>, usize)>,
+    pub(crate) malformed: Vec<(Option<usize>, usize)>,
     /// How many calls in a row have neither read nor written.
     idle: usize,
     /// It can't go on, or a call that was made again did something else.
@@ -238,18 +242,18 @@ fn take_report(run: &mut Run, len: usize, after: usize) -> Result<(), AllocError
 
 impl Run {
     /// The encoding that the decoder names.
-    pub fn encoding(&self) -> Encoding {
+    pub(crate) fn encoding(&self) -> Encoding {
         self.decoder.encoding()
     }
 
     /// Whether the end of the input was told and reached.
-    pub fn is_finished(&self) -> bool {
+    pub(crate) fn is_finished(&self) -> bool {
         self.decoder.is_finished()
     }
 }
 
 /// Offers the whole input at once, with room enough.
-pub fn run_whole(
+pub(crate) fn run_whole(
     rt: &impl Abort,
     alloc: Global,
     way: Use,
@@ -259,7 +263,7 @@ pub fn run_whole(
 }
 
 /// Offers the chunks, the last one of which is told to be the last.
-pub fn run_chunks(
+pub(crate) fn run_chunks(
     rt: &impl Abort,
     alloc: Global,
     way: Use,
@@ -276,7 +280,7 @@ pub fn run_chunks(
 }
 
 /// Offers an input cut in this way.
-pub fn run_cut(
+pub(crate) fn run_cut(
     rt: &impl Abort,
     alloc: Global,
     way: Use,
@@ -367,7 +371,7 @@ fn compare_places(rt: &impl Abort, run: &Run, input: &Input<'_>, room: usize) {
 }
 
 /// One offer of the whole input, with this room for each call, comes to what offers of single bytes come to.
-pub fn compare_offers(
+pub(crate) fn compare_offers(
     rt: &impl Abort,
     alloc: Global,
     way: Use,
@@ -429,7 +433,7 @@ fn compare_each_room(
 
 /// How an input is run into other outputs than UTF-8.
 #[derive(Clone, Copy, PartialEq, Eq, Debug)]
-pub enum Others {
+pub(crate) enum Others {
     /// Not at all.
     No,
     /// Through few cuts, with rooms of less than four units.
@@ -440,7 +444,7 @@ pub enum Others {
 
 /// Runs an input with each room below `rooms`, with and without replacement: into UTF-8 through every cut, and so into the
 /// other outputs as it is said.
-pub fn compare_uses(
+pub(crate) fn compare_uses(
     rt: &impl Abort,
     alloc: Global,
     (way, others): (Use, Others),
@@ -466,7 +470,7 @@ pub fn compare_uses(
 
 /// Runs an input through cuts, with rooms 0 to 9, with and without replacement, into all outputs, and through runs of mixed
 /// calls.
-pub fn compare_cuts_of(
+pub(crate) fn compare_cuts_of(
     rt: &impl Abort,
     alloc: Global,
     (way, others): (Use, Others),
@@ -478,7 +482,7 @@ pub fn compare_cuts_of(
 
 /// Runs the input of each row through every cut and room, by the encoding and by a new decoder of it by itself. The first one goes
 /// into all outputs so.
-pub fn compare_all(
+pub(crate) fn compare_all(
     rt: &impl Abort,
     alloc: Global,
     (encoding, decoder): (Encoding, impl RawDecoder),

@@ -5,4 +5,4 @@ pub mod encoding;
 mod references;
 
 /// No test gives more room.
-pub const MOST_ROOM: usize = 64;
+pub(crate) const MOST_ROOM: usize = 64;

@@ -27,7 +27,7 @@ use Rattle.encoding_rs.specs.Encoder.{EncoderState, EncodesInto, raw_state, repl
 use Rattle.enc_recode.specs.Sink.{TakesMore, TakesPrefix}
 use Rattle.enc_recode.specs.Chunk.{bytes_from, EncodesText, HasEncoded, StopsWithin}
 use Rattle.enc_recode.proofs.KnownLemmas.{TakesMore-none, TakesMore-then}
-use Rattle.enc_recode.proofs.FewLemmas.{goes_on}
+use Rattle.encoding_rs.proofs.ProgressLemmas.{goes_on}
 
 pub not_ended : {P : Type 0} → false ≡ true → P
 not_ended e = cc

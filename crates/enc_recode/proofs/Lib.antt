@@ -1,5 +1,4 @@
 pub mod KnownLemmas
-pub mod FewLemmas
 pub mod EncodingLemmas
 pub mod DecodingLemmas
 pub mod ChunkLemmas

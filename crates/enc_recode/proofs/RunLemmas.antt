@@ -16,7 +16,7 @@ use Rattle.enc_recode.specs.Source.{TellsNext}
 use Rattle.enc_recode.specs.Chunk.{HasRecoded, StopsWithin, bytes_from, remaining_bytes}
 use Rattle.enc_recode.specs.Run.{RunsToEnd, RunsToFault, whole_text, recoded, any_replaced}
 use Rattle.enc_recode.proofs.KnownLemmas.{TakesMore-then, TellsNext-none, TellsNext-then, begins_told, all_told, none_told}
-use Rattle.enc_recode.proofs.FewLemmas.{none_due, output_rule_is}
+use Rattle.encoding_rs.proofs.ProgressLemmas.{none_due, output_rule_is}
 use Rattle.enc_recode.proofs.EncodingLemmas.{not_ended}
 use Rattle.enc_recode.proofs.ChunkLemmas.{HasRecoded-none, HasRecoded-more, HasRecoded-owed}
 

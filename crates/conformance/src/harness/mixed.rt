@@ -71,7 +71,7 @@ fn compare_calls(
 }
 
 /// Runs of mixed calls, which begin at several places of the pattern, come to what the whole input comes to.
-pub fn compare_mixed(
+pub(crate) fn compare_mixed(
     rt: &impl Abort,
     alloc: Global,
     way: Use,

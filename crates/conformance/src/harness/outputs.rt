@@ -7,27 +7,32 @@ use std::process::Abort;
 
 /// Into what a decoder decodes.
 #[derive(Clone, Copy, PartialEq, Eq, Debug)]
-pub enum Output {
+pub(crate) enum Output {
     Utf8,
     Utf16,
     Str,
     String,
 }
 
-pub const ALL_OUTPUTS: [Output; 4] = [Output::Utf8, Output::Utf16, Output::Str, Output::String];
+pub(crate) const ALL_OUTPUTS: [Output; 4] = [
+    Output::Utf8,
+    Output::Utf16,
+    Output::Str,
+    Output::String,
+];
 
 /// What a call is given: bytes, whether they are the last ones, room for so many code units, and whether malformed
 /// sequences are reported and not replaced.
 #[derive(Clone, Copy)]
-pub struct Given<'a> {
-    pub src: &'a [u8],
-    pub last: bool,
-    pub room: usize,
-    pub reporting: bool,
+pub(crate) struct Given<'a> {
+    pub(crate) src: &'a [u8],
+    pub(crate) last: bool,
+    pub(crate) room: usize,
+    pub(crate) reporting: bool,
 }
 
 /// What a call has answered: why it stopped, bytes read, code units written, and whether something was replaced.
-pub type Answer = (DecoderResult, usize, usize, bool);
+pub(crate) type Answer = (DecoderResult, usize, usize, bool);
 
 /// The answer of a call with replacement.
 fn replacing((coder, read, written, replaced): (CoderResult, usize, usize, bool)) -> Answer {
@@ -39,7 +44,7 @@ fn replacing((coder, read, written, replaced): (CoderResult, usize, usize, bool)
 }
 
 /// Makes a call and appends its text. What lies behind in the output stays as it has to.
-pub fn call_into(
+pub(crate) fn call_into(
     rt: &impl Abort,
     alloc: Global,
     decoder: &mut Decoder,

@@ -222,7 +222,7 @@ fn run(rt: &impl Abort, mut decoder: impl RawDecoder, input: &Input<'_>, way: Wa
 
 /// Runs an input through every cut, by copies of a new decoder: with rooms 0 to 9 and room enough, and with room kept
 /// for U+FFFD and without.
-pub fn compare_raw_cuts(rt: &impl Abort, decoder: impl RawDecoder, input: &Input<'_>) {
+pub(crate) fn compare_raw_cuts(rt: &impl Abort, decoder: impl RawDecoder, input: &Input<'_>) {
     assert_eq!(rt; decoder.held(), 0);
     for fault_room in [false, true] {
         for room in ROOMS {

@@ -6,7 +6,7 @@ use std::process::Abort;
 
 /// A call with room for eight bytes: what it answers with how many bytes read, how many are held then, and its text.
 /// What lies behind the text stays.
-pub fn make_call(
+pub(crate) fn make_call(
     rt: &impl Abort,
     decoder: &mut impl RawDecoder,
     (src, last): (&[u8], bool),
@@ -24,19 +24,19 @@ pub fn make_call(
 }
 
 /// The last call reads all of its bytes and writes this text.
-pub fn end(rt: &impl Abort, decoder: &mut impl RawDecoder, src: &[u8], text: &str) {
+pub(crate) fn end(rt: &impl Abort, decoder: &mut impl RawDecoder, src: &[u8], text: &str) {
     let want = (DecoderResult::InputEmpty, src.len(), 0);
     make_call(rt, decoder, (src, true), want, text);
 }
 
 /// A call that is not the last one reads all of its bytes, writes nothing, and leaves so many held.
-pub fn hold(rt: &impl Abort, decoder: &mut impl RawDecoder, src: &[u8], held: usize) {
+pub(crate) fn hold(rt: &impl Abort, decoder: &mut impl RawDecoder, src: &[u8], held: usize) {
     let want = (DecoderResult::InputEmpty, src.len(), held);
     make_call(rt, decoder, (src, false), want, "");
 }
 
 /// The last call stops at a malformed sequence: its numbers, how many bytes are read, and the text before it.
-pub fn stop(
+pub(crate) fn stop(
     rt: &impl Abort,
     decoder: &mut impl RawDecoder,
     src: &[u8],
@@ -49,7 +49,12 @@ pub fn stop(
 }
 
 /// The decoder holds all bytes but the last, and then has a character.
-pub fn decode_one(rt: &impl Abort, decoder: &mut impl RawDecoder, src: (&[u8], u8), text: &str) {
+pub(crate) fn decode_one(
+    rt: &impl Abort,
+    decoder: &mut impl RawDecoder,
+    src: (&[u8], u8),
+    text: &str,
+) {
     hold(rt, decoder, src.0, src.0.len());
     end(rt, decoder, &[src.1], text);
 }

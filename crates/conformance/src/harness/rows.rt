@@ -2,26 +2,26 @@
 //! same.
 
 /// No test gives more room.
-pub const MOST_ROOM: usize = 64;
+pub(crate) const MOST_ROOM: usize = 64;
 
 /// U+FFFD, which stands for a malformed sequence.
-pub const REPLACEMENT_CHARACTER: &str = "\u{FFFD}";
+pub(crate) const REPLACEMENT_CHARACTER: &str = "\u{FFFD}";
 
 /// An input, and what has to come of it.
 #[derive(Clone, Copy)]
-pub struct Input<'a> {
-    pub bytes: &'a [u8],
+pub(crate) struct Input<'a> {
+    pub(crate) bytes: &'a [u8],
     /// Its text, with U+FFFD for each malformed sequence, and nowhere else.
-    pub text: &'a [u8],
+    pub(crate) text: &'a [u8],
     /// Where each malformed sequence starts in the whole input, and how many bytes it has.
-    pub malformed: &'a [(usize, usize)],
+    pub(crate) malformed: &'a [(usize, usize)],
     /// The room in which a run of calls comes to its end.
-    pub room: usize,
+    pub(crate) room: usize,
 }
 
 /// A row of a table: the bytes, the text, the places and the room of an input. Tables are constants of such rows, since the
 /// prover looks at each row that a function makes.
-pub type Row = (
+pub(crate) type Row = (
     &'static [u8],
     &'static str,
     &'static [(usize, usize)],
@@ -29,7 +29,7 @@ pub type Row = (
 );
 
 /// The input of a row.
-pub fn input_of(row: &Row) -> Input<'static> {
+pub(crate) fn input_of(row: &Row) -> Input<'static> {
     Input {
         bytes: row.0,
         text: row.1.as_bytes(),
@@ -40,7 +40,7 @@ pub fn input_of(row: &Row) -> Input<'static> {
 
 /// How an input is cut: not at all, in two at a place, or into single bytes.
 #[derive(Clone, Copy, Debug)]
-pub enum Cut {
+pub(crate) enum Cut {
     Nowhere,
     At(usize),
     Everywhere,

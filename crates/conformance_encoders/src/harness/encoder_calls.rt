@@ -7,7 +7,7 @@ use std::process::Abort;
 
 /// One call without replacement: its characters, whether they are the last ones, and its room; and what has to come of it:
 /// result, code units read, bytes written; and the bytes.
-pub type EncoderCall<'a> = (
+pub(crate) type EncoderCall<'a> = (
     &'a str,
     bool,
     usize,
@@ -17,7 +17,7 @@ pub type EncoderCall<'a> = (
 
 /// One call with replacement. Read are so many bytes of UTF-8, or the code units of UTF-16 of these characters; and whether a
 /// reference was written is told too.
-pub type ReplacingCall<'a> = (
+pub(crate) type ReplacingCall<'a> = (
     &'a str,
     bool,
     usize,
@@ -27,7 +27,7 @@ pub type ReplacingCall<'a> = (
 
 /// From which code units an encoder reads, and whether it writes to a Vec's spare capacity and not to a slice.
 #[derive(Clone, Copy, Debug)]
-pub enum Source {
+pub(crate) enum Source {
     Utf8,
     Utf16,
     Utf8ToVec,
@@ -35,13 +35,13 @@ pub enum Source {
 
 /// How calls are made.
 #[derive(Clone, Copy, Debug)]
-pub struct Way {
-    pub source: Source,
+pub(crate) struct Way {
+    pub(crate) source: Source,
     /// With references in the place of unmappable characters, and not up to one.
-    pub replaces: bool,
+    pub(crate) replaces: bool,
 }
 
-pub const ALL_WAYS: [Way; 6] = [
+pub(crate) const ALL_WAYS: [Way; 6] = [
     Way {
         source: Source::Utf8,
         replaces: false,
@@ -70,7 +70,7 @@ pub const ALL_WAYS: [Way; 6] = [
 
 impl Way {
     /// With less room a call may be able neither to read nor to write.
-    pub fn room_enough(self, encoding: Encoding) -> usize {
+    pub(crate) fn room_enough(self, encoding: Encoding) -> usize {
         if self.replaces && encoding != UTF_8 {
             14
         } else {
@@ -81,14 +81,14 @@ impl Way {
 
 /// What a call is offered: a text, whether nothing follows it, and the room that it has.
 #[derive(Clone, Copy, Debug)]
-pub struct Offer<'a> {
-    pub text: &'a str,
-    pub last: bool,
-    pub room: usize,
+pub(crate) struct Offer<'a> {
+    pub(crate) text: &'a str,
+    pub(crate) last: bool,
+    pub(crate) room: usize,
 }
 
 /// What a call has answered: why it stopped, what is left of the text, and whether a reference was written.
-pub type Answer<'a> = (EncoderResult, &'a str, bool);
+pub(crate) type Answer<'a> = (EncoderResult, &'a str, bool);
 
 /// No call here is offered more code units.
 const MOST_UNITS: usize = 64;
@@ -100,7 +100,7 @@ const UNTOUCHED: u8 = 0xA5;
 const IN_FRONT: &[u8] = b"ab";
 
 /// The same stop.
-pub fn stop_of(stop: CoderResult) -> EncoderResult {
+pub(crate) fn stop_of(stop: CoderResult) -> EncoderResult {
     match stop {
         CoderResult::InputEmpty => EncoderResult::InputEmpty,
         CoderResult::OutputFull => EncoderResult::OutputFull,
@@ -108,7 +108,7 @@ pub fn stop_of(stop: CoderResult) -> EncoderResult {
 }
 
 /// What is left of a text behind so many bytes.
-pub fn behind<'a>(rt: &impl Abort, text: &'a str, read: usize) -> &'a str {
+pub(crate) fn behind<'a>(rt: &impl Abort, text: &'a str, read: usize) -> &'a str {
     let parts = text.split_at_checked(read);
     assert!(rt; parts.is_some(), "{text} {read}");
     match parts {
@@ -230,7 +230,7 @@ fn call_to_vec<'a>(
 }
 
 /// Makes a call, and appends the bytes that it writes. Nothing else is written.
-pub fn call_in<'a>(
+pub(crate) fn call_in<'a>(
     rt: &impl Abort,
     alloc: Global,
     (encoder, way): (&mut Encoder, Way),
@@ -245,7 +245,11 @@ pub fn call_in<'a>(
 }
 
 /// Makes the calls from UTF-8 with one encoder.
-pub fn make_encoder_calls(rt: &impl Abort, encoder: &mut Encoder, calls: &[EncoderCall<'_>]) {
+pub(crate) fn make_encoder_calls(
+    rt: &impl Abort,
+    encoder: &mut Encoder,
+    calls: &[EncoderCall<'_>],
+) {
     for (src, last, room, want, bytes) in calls {
         assert!(rt; *room <= MOST_ROOM);
         let mut buffer = [UNTOUCHED; MOST_ROOM];
@@ -256,7 +260,7 @@ pub fn make_encoder_calls(rt: &impl Abort, encoder: &mut Encoder, calls: &[Encod
 }
 
 /// Makes one call from UTF-16.
-pub fn make_call_from_utf16(
+pub(crate) fn make_call_from_utf16(
     rt: &impl Abort,
     encoder: &mut Encoder,
     (src, last, room): (&[u16], bool, usize),
@@ -288,7 +292,7 @@ fn compare_outcome(
 }
 
 /// Makes the calls with a new encoder, from both kinds of code units, and to slices and to a Vec.
-pub fn make_replacing_calls(
+pub(crate) fn make_replacing_calls(
     rt: &impl Abort,
     alloc: Global,
     encoding: Encoding,

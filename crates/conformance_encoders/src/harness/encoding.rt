@@ -9,7 +9,7 @@ use std::process::Abort;
 use std::test::Fail;
 
 /// A row of a table: a text, and its bytes, with a decimal reference in the place of each unmappable character.
-pub type EncoderRow = (&'static str, &'static [u8]);
+pub(crate) type EncoderRow = (&'static str, &'static [u8]);
 
 /// No text here takes so many calls for a chunk.
 const MOST_CALLS: usize = 256;
@@ -158,7 +158,7 @@ fn compare_characters(
 }
 
 /// Runs the rows in every cut between characters, with each room below `ROOMS`, in every way.
-pub fn compare_encoded(
+pub(crate) fn compare_encoded(
     rt: &impl Abort,
     alloc: Global,
     encoding: Encoding,
@@ -178,7 +178,7 @@ pub fn compare_encoded(
 }
 
 /// A text with an unmappable character, unless its encoding has all, comes in each way to the same bytes.
-pub fn compare_ways(
+pub(crate) fn compare_ways(
     rt: &impl Abort,
     alloc: Global,
     (encoding, text): (Encoding, &str),

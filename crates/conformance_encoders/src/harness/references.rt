@@ -10,7 +10,7 @@ use std::process::Abort;
 const KEPT_BACK: usize = 10;
 
 /// Appends the decimal reference to a character.
-pub fn push_reference(
+pub(crate) fn push_reference(
     alloc: Global,
     bytes: &mut Vec<u8>,
     character: char,
@@ -46,7 +46,7 @@ fn report_to(
 }
 
 /// What a call with replacement answers that is offered this, and appends its bytes.
-pub fn foretell<'a>(
+pub(crate) fn foretell<'a>(
     rt: &impl Abort,
     alloc: Global,
     encoder: &mut Encoder,

@@ -1,4 +1,4 @@
--- No step of an encoder has more than four bytes, so that a call with room enough goes on.
+-- No step of an encoder has more than four bytes, so that a call with room enough does one; and where a text may end.
 use Rattle.std.proofs.Common.{◌≡◌, ℕ, ◌<◌, ◌≤◌, Bool, true, false, Option, Some, None, List, [], ◌∷◌, ◌++◌, length, refl, ap, subst, inl, inr, arith, length-append, if◌then◌else◌}
 use Rattle.std.specs.Char.{encode_utf8}
 use Rattle.enc_calls.specs.declared.coder_result.CoderResult.{CoderResult}
