@@ -5,6 +5,8 @@ use Rattle.enc_codec.specs.declared.codec.Codec.TheVariants.{Utf8, Utf16Be, Utf1
 use Rattle.enc_index.specs.Runs.{single_byte_runs}
 use Rattle.enc_machine.specs.Segmentation.{Rule}
 use Rattle.enc_machine.specs.CodecState.{CodecState}
+use Rattle.enc_machine.specs.declared.text_lengths.TextLengths.{TextLengths}
+use Rattle.enc_machine.specs.declared.text_lengths.TextLengths.TheVariants as lengths
 use Rattle.enc_utf.specs.Utf8.{utf_8_rule}
 use Rattle.enc_utf.specs.Utf16.{utf_16_rule}
 use Rattle.enc_single_byte.specs.OneByte.{one_byte_rule, single_byte_char, x_user_defined_char}
@@ -35,3 +37,19 @@ codec_rule Iso2022Jp = iso_2022_jp_rule
 -- a decoder of this rule that has read nothing
 abbrev pub fresh_state : Rule → CodecState
 fresh_state rule = record { rule = rule; set = 0; pending = [] }
+
+-- and the formulas for lengths to allocate
+abbrev pub codec_lengths : Codec → TextLengths
+codec_lengths Utf8 = lengths.Utf8
+codec_lengths Utf16Be = lengths.Utf16
+codec_lengths Utf16Le = lengths.Utf16
+codec_lengths (SingleByte index) = lengths.OneByte
+codec_lengths Big5 = lengths.MultiByte
+codec_lengths EucKr = lengths.MultiByte
+codec_lengths ShiftJis = lengths.MultiByte
+codec_lengths EucJp = lengths.MultiByte
+codec_lengths Gbk = lengths.MultiByte
+codec_lengths Gb18030 = lengths.MultiByte
+codec_lengths XUserDefined = lengths.OneByte
+codec_lengths Replacement = lengths.Replacement
+codec_lengths Iso2022Jp = lengths.MultiByte

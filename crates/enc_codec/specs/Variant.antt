@@ -2,6 +2,8 @@
 use Rattle.enc_codec.specs.declared.variant.VariantDecoder.{VariantDecoder}
 use Rattle.enc_codec.specs.declared.variant.VariantDecoder.TheVariants.{Utf8, Utf16, SingleByte, Big5, EucKr, ShiftJis, EucJp, Gb18030, Iso2022Jp, XUserDefined, Replacement}
 use Rattle.enc_machine.specs.CodecState.{CodecState}
+use Rattle.enc_machine.specs.declared.text_lengths.TextLengths.{TextLengths}
+use Rattle.enc_machine.specs.declared.text_lengths.TextLengths.TheVariants as lengths
 use Rattle.enc_utf.specs.Utf8State.{utf_8_state}
 use Rattle.enc_utf.specs.Utf16State.{utf_16_state}
 use Rattle.enc_index.specs.Runs.{single_byte_runs}
@@ -28,3 +30,17 @@ variant_state (Gb18030 d) = multi_byte_state gb18030_prefix (pending_bytes d.pen
 variant_state (XUserDefined d) = x_user_defined_state
 variant_state (Replacement d) = replacement_state d
 variant_state (Iso2022Jp d) = iso_2022_jp_state d
+
+-- its formulas for lengths to allocate
+abbrev pub variant_lengths : VariantDecoder → TextLengths
+variant_lengths (Utf8 d) = lengths.Utf8
+variant_lengths (Utf16 d) = lengths.Utf16
+variant_lengths (SingleByte d) = lengths.OneByte
+variant_lengths (Big5 d) = lengths.MultiByte
+variant_lengths (EucKr d) = lengths.MultiByte
+variant_lengths (ShiftJis d) = lengths.MultiByte
+variant_lengths (EucJp d) = lengths.MultiByte
+variant_lengths (Gb18030 d) = lengths.MultiByte
+variant_lengths (XUserDefined d) = lengths.OneByte
+variant_lengths (Replacement d) = lengths.Replacement
+variant_lengths (Iso2022Jp d) = lengths.MultiByte

@@ -1,12 +1,13 @@
 //! Which decoder an encoding has.
 
 ghost use Rattle.std.specs.Prelude.{◌≡◌};
-ghost use Rattle.enc_codec.specs.Codecs.{codec_rule, fresh_state};
-ghost use Rattle.enc_codec.specs.Variant.{variant_state};
+ghost use Rattle.enc_codec.specs.Codecs.{codec_rule, codec_lengths, fresh_state};
+ghost use Rattle.enc_codec.specs.Variant.{variant_state, variant_lengths};
 
 use crate::variant::VariantDecoder;
 use enc_index::SingleByteIndex;
 use enc_iso_2022_jp::Iso2022JpDecoder;
+use enc_machine::TextLengths;
 use enc_multi_byte::{Big5Decoder, EucJpDecoder, EucKrDecoder, Gb18030Decoder, ShiftJisDecoder};
 use enc_single_byte::{ReplacementDecoder, SingleByteDecoder, XUserDefinedDecoder};
 use enc_utf::{Utf8Decoder, Utf16Decoder};
@@ -45,7 +46,8 @@ pub enum Codec {
 impl Codec {
     /// A decoder that has read nothing. Takes no memory.
     pub fn new_decoder(self) -> VariantDecoder
-        ensures { variant_state result ≡ fresh_state (codec_rule self) }
+        ensures state { variant_state result ≡ fresh_state (codec_rule self) }
+        ensures lengths { variant_lengths result ≡ codec_lengths self }
     {
         match self {
             Codec::Utf8 => VariantDecoder::Utf8(Utf8Decoder::new()),
@@ -61,6 +63,19 @@ impl Codec {
             Codec::XUserDefined => VariantDecoder::XUserDefined(XUserDefinedDecoder::new()),
             Codec::Replacement => VariantDecoder::Replacement(ReplacementDecoder::new()),
             Codec::Iso2022Jp => VariantDecoder::Iso2022Jp(Iso2022JpDecoder::new()),
+        }
+    }
+
+    /// Which formulas tell the greatest length of its text. Takes no memory.
+    pub fn text_lengths(self) -> TextLengths
+        ensures { result ≡ codec_lengths self }
+    {
+        match self {
+            Codec::Utf8 => TextLengths::Utf8,
+            Codec::Utf16Be | Codec::Utf16Le => TextLengths::Utf16,
+            Codec::SingleByte(_) | Codec::XUserDefined => TextLengths::OneByte,
+            Codec::Replacement => TextLengths::Replacement,
+            _ => TextLengths::MultiByte,
         }
     }
 }

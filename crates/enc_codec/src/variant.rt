@@ -1,7 +1,7 @@
 //! One decoder of any encoding.
 
 use enc_iso_2022_jp::Iso2022JpDecoder;
-use enc_machine::{DecoderResult, RawDecoder};
+use enc_machine::{DecoderResult, RawDecoder, TextLengths};
 use enc_multi_byte::{Big5Decoder, EucJpDecoder, EucKrDecoder, Gb18030Decoder, ShiftJisDecoder};
 use enc_single_byte::{ReplacementDecoder, SingleByteDecoder, XUserDefinedDecoder};
 use enc_units::Units;
@@ -35,9 +35,11 @@ pub enum VariantDecoder {
 }
 
 impl RawDecoder for VariantDecoder {
-    ghost use Rattle.enc_codec.specs.Variant.{variant_state};
+    ghost use Rattle.enc_codec.specs.Variant.{variant_state, variant_lengths};
 
     ghost state = { variant_state };
+
+    ghost formulas = { variant_lengths };
 
     fn decode<U: Units>(
         &mut self,
@@ -90,6 +92,22 @@ impl RawDecoder for VariantDecoder {
             VariantDecoder::XUserDefined(decoder) => decoder.latin1_byte_compatible_up_to(bytes),
             VariantDecoder::Replacement(decoder) => decoder.latin1_byte_compatible_up_to(bytes),
             VariantDecoder::Iso2022Jp(decoder) => decoder.latin1_byte_compatible_up_to(bytes),
+        }
+    }
+
+    fn text_lengths(&self) -> TextLengths {
+        match self {
+            VariantDecoder::Utf8(decoder) => decoder.text_lengths(),
+            VariantDecoder::Utf16(decoder) => decoder.text_lengths(),
+            VariantDecoder::SingleByte(decoder) => decoder.text_lengths(),
+            VariantDecoder::Big5(decoder) => decoder.text_lengths(),
+            VariantDecoder::EucKr(decoder) => decoder.text_lengths(),
+            VariantDecoder::ShiftJis(decoder) => decoder.text_lengths(),
+            VariantDecoder::EucJp(decoder) => decoder.text_lengths(),
+            VariantDecoder::Gb18030(decoder) => decoder.text_lengths(),
+            VariantDecoder::XUserDefined(decoder) => decoder.text_lengths(),
+            VariantDecoder::Replacement(decoder) => decoder.text_lengths(),
+            VariantDecoder::Iso2022Jp(decoder) => decoder.text_lengths(),
         }
     }
 }

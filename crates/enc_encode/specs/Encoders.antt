@@ -3,6 +3,8 @@ use Rattle.std.specs.Prelude.{true, false, Option, Some, None}
 use Rattle.enc_codec.specs.declared.codec.Codec.{Codec}
 use Rattle.enc_codec.specs.declared.codec.Codec.TheVariants.{Utf8, Utf16Be, Utf16Le, SingleByte, Big5, EucKr, ShiftJis, EucJp, Gbk, Gb18030, Iso2022Jp, XUserDefined, Replacement}
 use Rattle.enc_encoders.specs.EncoderRule.{EncoderRule}
+use Rattle.enc_encoders.specs.declared.byte_lengths.ByteLengths.{ByteLengths}
+use Rattle.enc_encoders.specs.declared.byte_lengths.ByteLengths.TheVariants as lengths
 use Rattle.enc_encoders.specs.Stateless.{stateless}
 use Rattle.enc_encoders.specs.Utf8.{utf_8_bytes}
 use Rattle.enc_encoders.specs.SingleByte.{single_byte_bytes, x_user_defined_bytes}
@@ -27,3 +29,19 @@ encoder_rule Gb18030 = Some (stateless (gb18030_bytes false))
 encoder_rule XUserDefined = Some (stateless x_user_defined_bytes)
 encoder_rule Replacement = None
 encoder_rule Iso2022Jp = Some iso_2022_jp
+
+-- and by which formulas the lengths to allocate go; those without an encoder are written in UTF-8
+abbrev pub encoder_lengths : Codec → ByteLengths
+encoder_lengths Utf8 = lengths.Utf8
+encoder_lengths Utf16Be = lengths.Utf8
+encoder_lengths Utf16Le = lengths.Utf8
+encoder_lengths (SingleByte index) = lengths.OneByte
+encoder_lengths Big5 = lengths.TwoBytes
+encoder_lengths EucKr = lengths.TwoBytes
+encoder_lengths ShiftJis = lengths.TwoBytes
+encoder_lengths EucJp = lengths.TwoBytes
+encoder_lengths Gbk = lengths.TwoBytes
+encoder_lengths Gb18030 = lengths.Gb18030
+encoder_lengths XUserDefined = lengths.OneByte
+encoder_lengths Replacement = lengths.Utf8
+encoder_lengths Iso2022Jp = lengths.Iso2022Jp

@@ -2,6 +2,8 @@
 use Rattle.enc_encode.specs.declared.variant.VariantEncoder.{VariantEncoder}
 use Rattle.enc_encode.specs.declared.variant.VariantEncoder.TheVariants.{Utf8, SingleByte, Big5, EucKr, ShiftJis, EucJp, Gb18030, Iso2022Jp, XUserDefined}
 use Rattle.enc_encoders.specs.EncoderRule.{RawState}
+use Rattle.enc_encoders.specs.declared.byte_lengths.ByteLengths.{ByteLengths}
+use Rattle.enc_encoders.specs.declared.byte_lengths.ByteLengths.TheVariants as lengths
 use Rattle.enc_encoders.specs.Stateless.{stateless_state}
 use Rattle.enc_encoders.specs.Utf8.{utf_8_bytes}
 use Rattle.enc_encoders.specs.SingleByte.{single_byte_bytes, x_user_defined_bytes}
@@ -9,7 +11,7 @@ use Rattle.enc_encoders.specs.Big5.{big5_bytes}
 use Rattle.enc_encoders.specs.EucKr.{euc_kr_bytes}
 use Rattle.enc_encoders.specs.ShiftJis.{shift_jis_bytes}
 use Rattle.enc_encoders.specs.EucJp.{euc_jp_bytes}
-use Rattle.enc_encoders.specs.Gb18030.{gb18030_bytes}
+use Rattle.enc_encoders.specs.Gb18030.{gb18030_bytes, gb18030_lengths}
 use Rattle.enc_encoders.specs.Iso2022Jp.{iso_2022_jp_state}
 
 abbrev pub variant_state : VariantEncoder → RawState
@@ -22,3 +24,15 @@ variant_state (EucJp e) = stateless_state euc_jp_bytes
 variant_state (Gb18030 e) = stateless_state (gb18030_bytes e.repertoire.is_gbk)
 variant_state (XUserDefined e) = stateless_state x_user_defined_bytes
 variant_state (Iso2022Jp e) = iso_2022_jp_state e.set
+
+-- its formulas for lengths to allocate
+abbrev pub variant_lengths : VariantEncoder → ByteLengths
+variant_lengths (Utf8 e) = lengths.Utf8
+variant_lengths (SingleByte e) = lengths.OneByte
+variant_lengths (Big5 e) = lengths.TwoBytes
+variant_lengths (EucKr e) = lengths.TwoBytes
+variant_lengths (ShiftJis e) = lengths.TwoBytes
+variant_lengths (EucJp e) = lengths.TwoBytes
+variant_lengths (Gb18030 e) = gb18030_lengths e.repertoire.is_gbk
+variant_lengths (XUserDefined e) = lengths.OneByte
+variant_lengths (Iso2022Jp e) = lengths.Iso2022Jp

@@ -2,15 +2,15 @@
 
 ghost use Rattle.std.specs.Prelude.{◌≡◌, Some, is_some, true};
 ghost use Rattle.enc_encoders.specs.declared.character_set.CharacterSet.TheVariants.{Ascii};
-ghost use Rattle.enc_encode.specs.Encoders.{encoder_rule};
-ghost use Rattle.enc_encode.specs.Variant.{variant_state};
+ghost use Rattle.enc_encode.specs.Encoders.{encoder_rule, encoder_lengths};
+ghost use Rattle.enc_encode.specs.Variant.{variant_state, variant_lengths};
 
 use crate::variant::VariantEncoder;
 use enc_codec::Codec;
 use enc_encoders::{
-    Big5, Big5Encoder, EucJp, EucJpEncoder, EucKr, EucKrEncoder, Gb18030, Gb18030Encoder,
-    Iso2022JpEncoder, ShiftJis, ShiftJisEncoder, SingleByte, SingleByteEncoder, Utf8, Utf8Encoder,
-    XUserDefined, XUserDefinedEncoder,
+    Big5, Big5Encoder, ByteLengths, EucJp, EucJpEncoder, EucKr, EucKrEncoder, Gb18030,
+    Gb18030Encoder, Iso2022JpEncoder, ShiftJis, ShiftJisEncoder, SingleByte, SingleByteEncoder,
+    Utf8, Utf8Encoder, XUserDefined, XUserDefinedEncoder,
 };
 
 /// Whether an encoding has an encoder: all have one but UTF-16BE, UTF-16LE and replacement. Takes no memory.
@@ -28,6 +28,7 @@ pub fn new_encoder(codec: Codec) -> VariantEncoder
     requires { is_some (encoder_rule codec) ≡ true }
     ensures rule { encoder_rule codec ≡ Some (variant_state result).rule }
     ensures set { (variant_state result).set ≡ Ascii }
+    ensures lengths { variant_lengths result ≡ encoder_lengths codec }
 {
     match codec {
         Codec::SingleByte(index) => {
@@ -43,5 +44,19 @@ pub fn new_encoder(codec: Codec) -> VariantEncoder
         Codec::Iso2022Jp => VariantEncoder::Iso2022Jp(Iso2022JpEncoder::new()),
         Codec::Utf8 => VariantEncoder::Utf8(Utf8Encoder::new(Utf8)),
         Codec::Utf16Be | Codec::Utf16Le | Codec::Replacement => unreachable!(),
+    }
+}
+
+/// Which formulas tell the greatest number of bytes of a text that is written where an encoding is asked for: those of UTF-8, if
+/// it has no encoder. Takes no memory.
+pub fn byte_lengths(codec: Codec) -> ByteLengths
+    ensures { result ≡ encoder_lengths codec }
+{
+    match codec {
+        Codec::Utf8 | Codec::Utf16Be | Codec::Utf16Le | Codec::Replacement => ByteLengths::Utf8,
+        Codec::SingleByte(_) | Codec::XUserDefined => ByteLengths::OneByte,
+        Codec::Gb18030 => ByteLengths::Gb18030,
+        Codec::Iso2022Jp => ByteLengths::Iso2022Jp,
+        _ => ByteLengths::TwoBytes,
     }
 }

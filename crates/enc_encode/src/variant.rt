@@ -1,8 +1,9 @@
 //! One encoder of any encoding.
 
 use enc_encoders::{
-    Big5Encoder, EncoderResult, EucJpEncoder, EucKrEncoder, Gb18030Encoder, Iso2022JpEncoder,
-    RawEncoder, ShiftJisEncoder, SingleByteEncoder, Utf8Encoder, XUserDefinedEncoder,
+    Big5Encoder, ByteLengths, EncoderResult, EucJpEncoder, EucKrEncoder, Gb18030Encoder,
+    Iso2022JpEncoder, RawEncoder, ShiftJisEncoder, SingleByteEncoder, Utf8Encoder,
+    XUserDefinedEncoder,
 };
 use enc_units::Chars;
 
@@ -30,9 +31,11 @@ pub enum VariantEncoder {
 }
 
 impl RawEncoder for VariantEncoder {
-    ghost use Rattle.enc_encode.specs.Variant.{variant_state};
+    ghost use Rattle.enc_encode.specs.Variant.{variant_state, variant_lengths};
 
     ghost state = { variant_state };
+
+    ghost formulas = { variant_lengths };
 
     fn encode<C: Chars>(
         &mut self,
@@ -64,6 +67,20 @@ impl RawEncoder for VariantEncoder {
             VariantEncoder::Gb18030(encoder) => encoder.has_pending_state(),
             VariantEncoder::XUserDefined(encoder) => encoder.has_pending_state(),
             VariantEncoder::Iso2022Jp(encoder) => encoder.has_pending_state(),
+        }
+    }
+
+    fn byte_lengths(&self) -> ByteLengths {
+        match self {
+            VariantEncoder::Utf8(encoder) => encoder.byte_lengths(),
+            VariantEncoder::SingleByte(encoder) => encoder.byte_lengths(),
+            VariantEncoder::Big5(encoder) => encoder.byte_lengths(),
+            VariantEncoder::EucKr(encoder) => encoder.byte_lengths(),
+            VariantEncoder::ShiftJis(encoder) => encoder.byte_lengths(),
+            VariantEncoder::EucJp(encoder) => encoder.byte_lengths(),
+            VariantEncoder::Gb18030(encoder) => encoder.byte_lengths(),
+            VariantEncoder::XUserDefined(encoder) => encoder.byte_lengths(),
+            VariantEncoder::Iso2022Jp(encoder) => encoder.byte_lengths(),
         }
     }
 }

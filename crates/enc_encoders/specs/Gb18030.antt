@@ -1,5 +1,7 @@
 -- gb18030 (Encoding Standard 10.2.2, "gb18030 encoder") and GBK, which has no four bytes (10.1.2).
 use Rattle.std.specs.Prelude.{ℕ, ◌+◌, ◌/◌, ◌%◌, Bool, ◌==◌, ◌&&◌, nat_lt, Option, Some, None, List, [], ◌∷◌, if◌then◌else◌}
+use Rattle.enc_encoders.specs.declared.byte_lengths.ByteLengths.{ByteLengths}
+use Rattle.enc_encoders.specs.declared.byte_lengths.ByteLengths.TheVariants as lengths
 use Rattle.enc_pointers.specs.Pointers.{gb18030_pointer, gb18030_ranges_pointer}
 use Rattle.enc_encoders.specs.Stateless.{with_ascii, bytes_by}
 
@@ -28,3 +30,7 @@ gb18030_other is_gbk c =
 
 abbrev pub gb18030_bytes : Bool → ℕ → Option (List ℕ)
 gb18030_bytes is_gbk = with_ascii (gb18030_other is_gbk)
+
+-- GBK has no four bytes
+abbrev pub gb18030_lengths : Bool → ByteLengths
+gb18030_lengths is_gbk = if is_gbk then lengths.TwoBytes else lengths.Gb18030

@@ -13,3 +13,4 @@ pub mod EucKr
 pub mod Big5
 pub mod Gb18030
 pub mod Iso2022Jp
+pub mod Lengths

@@ -2,6 +2,7 @@
 //! every encoder, and the nine encoders, each by what it writes for a character.
 #![tactic(auto)]
 
+mod byte_lengths;
 mod bytes;
 mod char_encoder;
 mod character_set;
@@ -14,6 +15,7 @@ mod stateless;
 mod step;
 mod taken;
 
+pub use byte_lengths::ByteLengths;
 pub use character_set::CharacterSet;
 pub use encoder_result::EncoderResult;
 pub use encoders::big5::{Big5, Big5Encoder};

@@ -4,7 +4,10 @@ ghost use Rattle.std.specs.Prelude.{◌≡◌, take};
 ghost use Rattle.enc_encoders.specs.EncoderRule.{RawState, IsLawful, is_pending};
 ghost use Rattle.enc_encoders.specs.Call.{CallInto};
 ghost use Rattle.enc_encoders.specs.Text.{KeepsText};
+ghost use Rattle.enc_encoders.specs.Lengths.{from_utf_8_length, from_utf_16_length};
+ghost use Rattle.enc_encoders.specs.declared.byte_lengths.ByteLengths.{ByteLengths};
 
+use crate::byte_lengths::ByteLengths;
 use crate::encoder_result::EncoderResult;
 use enc_units::Chars;
 
@@ -13,6 +16,9 @@ use enc_units::Chars;
 pub trait RawEncoder: Copy {
     // its rule, and the designated character set
     ghost state: { Self → RawState };
+
+    // the formulas for lengths to allocate
+    ghost formulas: { Self → ByteLengths };
 
     /// Encodes until all characters are read, the bytes that come next don't fit into `dst`, or a character is
     /// unmappable, and answers which, how many code units of `src` it has read, and how many bytes of `dst` it has
@@ -28,10 +34,30 @@ pub trait RawEncoder: Copy {
             dst.old dst.new result.0 result.1 result.2 }
         ensures text { KeepsText (state self.old) (state self.new) (C.rest src.old) (C.rest src.new) last result.0
             (take result.2 dst.new) }
-        ensures lawful { IsLawful (state self.old).rule };
+        ensures lawful { IsLawful (state self.old).rule }
+        ensures formulas { formulas self.new ≡ formulas self.old };
 
     /// Whether another character set than ASCII is designated, so that an escape sequence is still to come at the end of the
     /// text. Takes no memory.
     fn has_pending_state(&self) -> bool
         ensures { result ≡ is_pending (state self.now).set };
+
+    /// Which formulas tell the greatest number of bytes of a text. Takes no memory.
+    fn byte_lengths(&self) -> ByteLengths
+        ensures { result ≡ formulas self.now };
+
+    /// How many bytes so many code units of UTF-8 may become, up to an unmappable character: a length to allocate. `None` where
+    /// that passes `usize`. Takes no memory.
+    fn max_buffer_length_from_utf8_without_replacement(&self, byte_length: usize) -> Option<usize>
+        ensures { result ≡ from_utf_8_length (formulas self.now) byte_length }
+    {
+        self.byte_lengths().from_utf8(byte_length)
+    }
+
+    /// The same of so many code units of UTF-16.
+    fn max_buffer_length_from_utf16_without_replacement(&self, u16_length: usize) -> Option<usize>
+        ensures { result ≡ from_utf_16_length (formulas self.now) u16_length }
+    {
+        self.byte_lengths().from_utf16(u16_length)
+    }
 }

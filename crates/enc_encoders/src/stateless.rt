@@ -3,7 +3,9 @@
 ghost use Rattle.std.specs.Prelude.{◌≡◌, ◌≤◌, ℕ, Option, List};
 ghost use Rattle.enc_encoders.specs.CharLaw.{AreBytesOf};
 ghost use Rattle.enc_encoders.specs.Stateless.{WritesAscii, WritesFew};
+ghost use Rattle.enc_encoders.specs.declared.byte_lengths.ByteLengths.{ByteLengths};
 
+use crate::byte_lengths::ByteLengths;
 use crate::bytes::Bytes;
 use crate::char_encoder::CharEncoder;
 use crate::character_set::CharacterSet;
@@ -18,10 +20,17 @@ pub trait Repertoire: Copy {
     // the bytes of a character; none where it is unmappable
     ghost bytes_for: { Self → ℕ → Option (List ℕ) };
 
+    // the formulas for lengths to allocate
+    ghost lengths: { Self → ByteLengths };
+
     /// The bytes of a character beyond ASCII, or `None` where it is unmappable.
     fn bytes_beyond_ascii(self, c: char) -> Option<Bytes>
         requires { 0x80 ≤ c }
         ensures { AreBytesOf (bytes_for self c) result };
+
+    /// Which formulas tell the greatest number of bytes of a text.
+    fn byte_lengths(self) -> ByteLengths
+        ensures { result ≡ lengths self };
 
     /// ASCII is written as itself, and no character has more than four bytes. A call does nothing.
     fn laws(self)
@@ -80,6 +89,8 @@ impl<R: Repertoire> RawEncoder for StatelessEncoder<R> {
 
     ghost state = { λ e. stateless_state (R.bytes_for e.repertoire) };
 
+    ghost formulas = { λ e. R.lengths e.repertoire };
+
     fn encode<C: Chars>(
         &mut self,
         src: &mut C,
@@ -87,10 +98,15 @@ impl<R: Repertoire> RawEncoder for StatelessEncoder<R> {
         last: bool,
     ) -> (EncoderResult, usize, usize) {
         self.repertoire.laws();
-        run(self, src, dst, last)
+        let mut encoder = *self;
+        run(&mut encoder, src, dst, last)
     }
 
     fn has_pending_state(&self) -> bool {
         false
+    }
+
+    fn byte_lengths(&self) -> ByteLengths {
+        self.repertoire.byte_lengths()
     }
 }

@@ -8,7 +8,7 @@ ghost use Rattle.enc_machine.specs.Taking.{TakesRun};
 
 use enc_index::List;
 use enc_machine::{
-    ByteCodec, DecoderResult, Kind, RawDecoder, Shown, Step, Text, latin1_up_to, run,
+    ByteCodec, DecoderResult, Kind, RawDecoder, Shown, Step, Text, TextLengths, latin1_up_to, run,
 };
 use enc_units::{Pieces, Units};
 use std::marker::Model;
@@ -600,9 +600,12 @@ impl ByteCodec for Iso2022JpDecoder {
 }
 
 impl RawDecoder for Iso2022JpDecoder {
+    ghost use Rattle.enc_machine.specs.declared.text_lengths.TextLengths.TheVariants as lengths;
     ghost use Rattle.enc_iso_2022_jp.specs.Iso2022JpState.{iso_2022_jp_state};
 
     ghost state = { iso_2022_jp_state };
+
+    ghost formulas = { λ _. lengths.MultiByte };
 
     #[tactic(auto, using(crate::proofs::Iso2022JpRule::iso_2022_jp_is_lawful))]
     fn decode<U: Units>(
@@ -624,5 +627,9 @@ impl RawDecoder for Iso2022JpDecoder {
             CharacterSet::Ascii => latin1_up_to(*self, bytes),
             _ => None,
         }
+    }
+
+    fn text_lengths(&self) -> TextLengths {
+        TextLengths::MultiByte
     }
 }

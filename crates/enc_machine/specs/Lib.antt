@@ -8,3 +8,4 @@ pub mod RuleLaws
 pub mod Pending
 pub mod Taking
 pub mod Latin1
+pub mod Lengths

@@ -7,6 +7,7 @@ mod latin1;
 mod machine;
 mod pending;
 mod raw_decoder;
+mod text_lengths;
 
 pub use byte_codec::{ByteCodec, Kind, Shown, Step, Text};
 pub use decoder_result::DecoderResult;
@@ -14,3 +15,4 @@ pub use latin1::latin1_up_to;
 pub use machine::run;
 pub use pending::Pending;
 pub use raw_decoder::RawDecoder;
+pub use text_lengths::TextLengths;

@@ -5,8 +5,11 @@ ghost use Rattle.enc_machine.specs.CodecState.{CodecState, remainder_of};
 ghost use Rattle.enc_machine.specs.Call.{CallInto, Reported};
 ghost use Rattle.enc_machine.specs.Latin1.{TellsLatin1};
 ghost use Rattle.enc_machine.specs.RuleLaws.{IsLawful};
+ghost use Rattle.enc_machine.specs.Lengths.{utf_8_length, reporting_length, utf_16_length};
+ghost use Rattle.enc_machine.specs.declared.text_lengths.TextLengths.{TextLengths};
 
 use crate::decoder_result::DecoderResult;
+use crate::text_lengths::TextLengths;
 use enc_units::Units;
 
 /// A decoder of one encoding, behind any byte order mark (Encoding Standard 4.1): a rule by which it segments
@@ -15,6 +18,9 @@ use enc_units::Units;
 pub trait RawDecoder: Copy {
     // its rule, the designated character set, and the pending bytes
     ghost state: { Self → CodecState };
+
+    // the formulas for lengths to allocate
+    ghost formulas: { Self → TextLengths };
 
     /// Decodes until all of `src` is read, the next sequence doesn't fit into `out`, or is malformed, and answers
     /// which, and how many bytes it has read. With `last` it is told that nothing follows `src`. With
@@ -30,6 +36,7 @@ pub trait RawDecoder: Copy {
         ensures call { CallInto U.units_of (remainder_of (state self.old)) (remainder_of (state self.new)) src.now last
             (Reported fault_room) (U.output out.old) (U.output out.new) result.0 result.1 false }
         ensures rule { (state self.new).rule ≡ (state self.old).rule }
+        ensures formulas { formulas self.new ≡ formulas self.old }
 
         // A valid sequence is told by its own bytes, and any other by three more at most, or by the end; each has
         // a text of four UTF-8 code units at most.
@@ -46,4 +53,31 @@ pub trait RawDecoder: Copy {
     /// no memory.
     fn latin1_byte_compatible_up_to(&self, bytes: &[u8]) -> Option<usize>
         ensures { TellsLatin1 (state self.now) bytes.now result };
+
+    /// Which formulas tell the greatest length of its text. Takes no memory.
+    fn text_lengths(&self) -> TextLengths
+        ensures { result ≡ formulas self.now };
+
+    /// How many bytes of UTF-8 so many more bytes may become, with U+FFFD for what is malformed: a length to allocate. `None`
+    /// where that passes `usize`. Takes no memory.
+    fn max_utf8_buffer_length(&self, byte_length: usize) -> Option<usize>
+        ensures { result ≡ utf_8_length (formulas self.now) byte_length (length (state self.now).pending) }
+    {
+        self.text_lengths().utf8(byte_length, self.held())
+    }
+
+    /// The same where what is malformed is reported. Takes no memory.
+    fn max_utf8_buffer_length_without_replacement(&self, byte_length: usize) -> Option<usize>
+        ensures { result ≡ reporting_length (formulas self.now) byte_length (length (state self.now).pending) }
+    {
+        self.text_lengths()
+            .utf8_without_replacement(byte_length, self.held())
+    }
+
+    /// How many code units of UTF-16 so many more bytes may become. Takes no memory.
+    fn max_utf16_buffer_length(&self, byte_length: usize) -> Option<usize>
+        ensures { result ≡ utf_16_length (formulas self.now) byte_length (length (state self.now).pending) }
+    {
+        self.text_lengths().utf16(byte_length, self.held())
+    }
 }

@@ -6,7 +6,8 @@ ghost use Rattle.enc_machine.specs.CodecLaw.{Acts, IsReady, IsAtEnd};
 ghost use Rattle.enc_multi_byte.specs.MultiByte.{multi_byte_state, AreIncomplete, ArePrefixes, HasAscii, IsPair};
 
 use enc_machine::{
-    ByteCodec, DecoderResult, Kind, Pending, RawDecoder, Shown, Step, Text, latin1_up_to, run,
+    ByteCodec, DecoderResult, Kind, Pending, RawDecoder, Shown, Step, Text, TextLengths,
+    latin1_up_to, run,
 };
 use enc_units::{Pieces, Units, put_run};
 use std::marker::PhantomData;
@@ -231,10 +232,13 @@ impl<E: MultiByte> ByteCodec for MultiByteDecoder<E> {
 }
 
 impl<E: MultiByte> RawDecoder for MultiByteDecoder<E> {
+    ghost use Rattle.enc_machine.specs.declared.text_lengths.TextLengths.TheVariants as lengths;
     ghost use Rattle.enc_machine.specs.Pending.{pending_bytes};
     ghost use Rattle.enc_multi_byte.specs.MultiByte.{multi_byte_state};
 
     ghost state = { λ d. multi_byte_state E.prefix (pending_bytes d.pending) };
+
+    ghost formulas = { λ _. lengths.MultiByte };
 
     fn decode<U: Units>(
         &mut self,
@@ -254,5 +258,9 @@ impl<E: MultiByte> RawDecoder for MultiByteDecoder<E> {
     fn latin1_byte_compatible_up_to(&self, bytes: &[u8]) -> Option<usize> {
         E::ascii();
         latin1_up_to(*self, bytes)
+    }
+
+    fn text_lengths(&self) -> TextLengths {
+        TextLengths::MultiByte
     }
 }

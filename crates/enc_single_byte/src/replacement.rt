@@ -2,7 +2,9 @@
 
 ghost use Rattle.std.specs.Prelude.{◌≡◌, true, false};
 
-use enc_machine::{ByteCodec, DecoderResult, Kind, RawDecoder, Shown, Step, Text, run};
+use enc_machine::{
+    ByteCodec, DecoderResult, Kind, RawDecoder, Shown, Step, Text, TextLengths, run,
+};
 use enc_units::Units;
 use std::marker::Model;
 
@@ -77,9 +79,12 @@ impl ByteCodec for ReplacementDecoder {
 }
 
 impl RawDecoder for ReplacementDecoder {
+    ghost use Rattle.enc_machine.specs.declared.text_lengths.TextLengths.TheVariants as lengths;
     ghost use Rattle.enc_single_byte.specs.Replacement.{replacement_state};
 
     ghost state = { replacement_state };
+
+    ghost formulas = { λ _. lengths.Replacement };
 
     #[tactic(auto, using(crate::proofs::ReplacementLemmas::replacement_is_lawful))]
     fn decode<U: Units>(
@@ -99,5 +104,9 @@ impl RawDecoder for ReplacementDecoder {
     fn latin1_byte_compatible_up_to(&self, bytes: &[u8]) -> Option<usize> {
         let _bytes = bytes;
         None
+    }
+
+    fn text_lengths(&self) -> TextLengths {
+        TextLengths::Replacement
     }
 }

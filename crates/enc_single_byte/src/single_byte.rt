@@ -6,7 +6,9 @@ ghost use Rattle.enc_index.specs.Runs.{single_byte_runs};
 
 use crate::one_byte::show_byte;
 use enc_index::SingleByteIndex;
-use enc_machine::{ByteCodec, DecoderResult, RawDecoder, Shown, Step, latin1_up_to, run};
+use enc_machine::{
+    ByteCodec, DecoderResult, RawDecoder, Shown, Step, TextLengths, latin1_up_to, run,
+};
 use enc_units::{Pieces, Units, put_run};
 
 /// The decoder of a legacy single-byte encoding (Encoding Standard 9.1), by the encoding's index: a byte below
@@ -91,9 +93,12 @@ impl ByteCodec for SingleByteDecoder {
 }
 
 impl RawDecoder for SingleByteDecoder {
+    ghost use Rattle.enc_machine.specs.declared.text_lengths.TextLengths.TheVariants as lengths;
     ghost use Rattle.enc_single_byte.specs.OneByteState.{single_byte_state};
 
     ghost state = { λ d. single_byte_state (single_byte_runs d.index) };
+
+    ghost formulas = { λ _. lengths.OneByte };
 
     fn decode<U: Units>(
         &mut self,
@@ -112,5 +117,9 @@ impl RawDecoder for SingleByteDecoder {
     #[tactic(auto, using(crate::proofs::OneByteLemmas::single_byte_has_bytes))]
     fn latin1_byte_compatible_up_to(&self, bytes: &[u8]) -> Option<usize> {
         latin1_up_to(*self, bytes)
+    }
+
+    fn text_lengths(&self) -> TextLengths {
+        TextLengths::OneByte
     }
 }

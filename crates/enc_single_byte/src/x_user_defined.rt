@@ -4,7 +4,9 @@ ghost use Rattle.std.specs.Prelude.{◌≡◌, Some};
 ghost use Rattle.enc_single_byte.specs.OneByte.{x_user_defined_char};
 
 use crate::one_byte::show_byte;
-use enc_machine::{ByteCodec, DecoderResult, RawDecoder, Shown, Step, latin1_up_to, run};
+use enc_machine::{
+    ByteCodec, DecoderResult, RawDecoder, Shown, Step, TextLengths, latin1_up_to, run,
+};
 use enc_units::{Pieces, Units, put_run};
 
 /// The x-user-defined decoder (Encoding Standard 14.5): a byte below 0x80 is its own character, and 0x80 to 0xFF
@@ -78,9 +80,12 @@ impl ByteCodec for XUserDefinedDecoder {
 }
 
 impl RawDecoder for XUserDefinedDecoder {
+    ghost use Rattle.enc_machine.specs.declared.text_lengths.TextLengths.TheVariants as lengths;
     ghost use Rattle.enc_single_byte.specs.OneByteState.{x_user_defined_state};
 
     ghost state = { λ _. x_user_defined_state };
+
+    ghost formulas = { λ _. lengths.OneByte };
 
     fn decode<U: Units>(
         &mut self,
@@ -99,5 +104,9 @@ impl RawDecoder for XUserDefinedDecoder {
     #[tactic(auto, using(crate::proofs::OneByteLemmas::x_user_defined_has_bytes))]
     fn latin1_byte_compatible_up_to(&self, bytes: &[u8]) -> Option<usize> {
         latin1_up_to(*self, bytes)
+    }
+
+    fn text_lengths(&self) -> TextLengths {
+        TextLengths::OneByte
     }
 }

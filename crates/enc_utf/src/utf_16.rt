@@ -5,7 +5,9 @@ ghost use Rattle.enc_utf.specs.Utf16.{code_unit as unit_of, is_lead as begins_pa
 ghost use Rattle.enc_utf.specs.Utf16State.{with_pending, begins_with_lead, utf_16_state};
 ghost use Rattle.enc_machine.specs.CodecLaw.{Acts};
 
-use enc_machine::{ByteCodec, DecoderResult, Kind, Pending, RawDecoder, Shown, Step, Text, run};
+use enc_machine::{
+    ByteCodec, DecoderResult, Kind, Pending, RawDecoder, Shown, Step, Text, TextLengths, run,
+};
 use enc_units::{Pieces, Units, put_run};
 use std::marker::Model;
 
@@ -258,9 +260,12 @@ impl ByteCodec for Utf16Decoder {
 }
 
 impl RawDecoder for Utf16Decoder {
+    ghost use Rattle.enc_machine.specs.declared.text_lengths.TextLengths.TheVariants as lengths;
     ghost use Rattle.enc_utf.specs.Utf16State.{utf_16_state};
 
     ghost state = { utf_16_state };
+
+    ghost formulas = { λ _. lengths.Utf16 };
 
     fn decode<U: Units>(
         &mut self,
@@ -279,5 +284,9 @@ impl RawDecoder for Utf16Decoder {
     fn latin1_byte_compatible_up_to(&self, bytes: &[u8]) -> Option<usize> {
         let _bytes = bytes;
         None
+    }
+
+    fn text_lengths(&self) -> TextLengths {
+        TextLengths::Utf16
     }
 }

@@ -6,7 +6,8 @@ ghost use Rattle.enc_utf.specs.Utf8State.{wants_more, utf_8_state};
 ghost use Rattle.enc_machine.specs.CodecLaw.{Acts};
 
 use enc_machine::{
-    ByteCodec, DecoderResult, Kind, Pending, RawDecoder, Shown, Step, Text, latin1_up_to, run,
+    ByteCodec, DecoderResult, Kind, Pending, RawDecoder, Shown, Step, Text, TextLengths,
+    latin1_up_to, run,
 };
 use enc_units::Units;
 use std::marker::Model;
@@ -250,9 +251,12 @@ impl ByteCodec for Utf8Decoder {
 }
 
 impl RawDecoder for Utf8Decoder {
+    ghost use Rattle.enc_machine.specs.declared.text_lengths.TextLengths.TheVariants as lengths;
     ghost use Rattle.enc_utf.specs.Utf8State.{utf_8_state};
 
     ghost state = { utf_8_state };
+
+    ghost formulas = { λ _. lengths.Utf8 };
 
     #[tactic(auto, using(crate::proofs::Utf8Rule::utf_8_is_lawful))]
     fn decode<U: Units>(
@@ -272,5 +276,9 @@ impl RawDecoder for Utf8Decoder {
     #[tactic(auto, using(crate::proofs::Utf8Rule::utf_8_has_bytes))]
     fn latin1_byte_compatible_up_to(&self, bytes: &[u8]) -> Option<usize> {
         latin1_up_to(*self, bytes)
+    }
+
+    fn text_lengths(&self) -> TextLengths {
+        TextLengths::Utf8
     }
 }

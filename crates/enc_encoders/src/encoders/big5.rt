@@ -4,6 +4,7 @@ ghost use Rattle.std.specs.Prelude.{◌≡◌, ◌<◌};
 ghost use Rattle.enc_encoders.specs.CharLaw.{bytes_of};
 ghost use Rattle.enc_encoders.specs.Big5.{big5_pair, big5_trail};
 
+use crate::byte_lengths::ByteLengths;
 use crate::bytes::Bytes;
 use crate::made_bytes::two;
 use crate::stateless::{Repertoire, StatelessEncoder};
@@ -35,15 +36,22 @@ fn pair(pointer: u32) -> Bytes
 }
 
 impl Repertoire for Big5 {
+    ghost use Rattle.enc_encoders.specs.declared.byte_lengths.ByteLengths.TheVariants as by;
     ghost use Rattle.enc_encoders.specs.Big5.{big5_bytes};
 
     ghost bytes_for = { λ _. big5_bytes };
+
+    ghost lengths = { λ _. by.TwoBytes };
 
     fn bytes_beyond_ascii(self, c: char) -> Option<Bytes> {
         match big5(c) {
             Some(pointer) => Some(pair(pointer)),
             None => None,
         }
+    }
+
+    fn byte_lengths(self) -> ByteLengths {
+        ByteLengths::TwoBytes
     }
 
     #[tactic(auto, using(crate::proofs::StatelessLemmas::with_ascii_writes_ascii, crate::proofs::FewLemmas::few_big5))]

@@ -5,6 +5,7 @@ ghost use Rattle.enc_encoders.specs.CharLaw.{bytes_of};
 ghost use Rattle.enc_encoders.specs.EucJp.{euc_jp_pair};
 
 use super::japanese::{is_katakana, katakana_byte, with_wide_minus};
+use crate::byte_lengths::ByteLengths;
 use crate::bytes::Bytes;
 use crate::made_bytes::{one, two};
 use crate::stateless::{Repertoire, StatelessEncoder};
@@ -28,9 +29,12 @@ fn pair(pointer: u32) -> Bytes
 }
 
 impl Repertoire for EucJp {
+    ghost use Rattle.enc_encoders.specs.declared.byte_lengths.ByteLengths.TheVariants as by;
     ghost use Rattle.enc_encoders.specs.EucJp.{euc_jp_bytes};
 
     ghost bytes_for = { λ _. euc_jp_bytes };
+
+    ghost lengths = { λ _. by.TwoBytes };
 
     fn bytes_beyond_ascii(self, c: char) -> Option<Bytes> {
         if c == '\u{A5}' {
@@ -46,6 +50,10 @@ impl Repertoire for EucJp {
             Some(pointer) => Some(pair(pointer)),
             None => None,
         }
+    }
+
+    fn byte_lengths(self) -> ByteLengths {
+        ByteLengths::TwoBytes
     }
 
     #[tactic(auto, using(crate::proofs::StatelessLemmas::with_ascii_writes_ascii, crate::proofs::FewLemmas::few_euc_jp))]

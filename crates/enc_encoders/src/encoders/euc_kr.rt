@@ -4,6 +4,7 @@ ghost use Rattle.std.specs.Prelude.{◌≡◌, ◌<◌};
 ghost use Rattle.enc_encoders.specs.CharLaw.{bytes_of};
 ghost use Rattle.enc_encoders.specs.EucKr.{euc_kr_pair};
 
+use crate::byte_lengths::ByteLengths;
 use crate::bytes::Bytes;
 use crate::made_bytes::two;
 use crate::stateless::{Repertoire, StatelessEncoder};
@@ -26,15 +27,22 @@ fn pair(pointer: u32) -> Bytes
 }
 
 impl Repertoire for EucKr {
+    ghost use Rattle.enc_encoders.specs.declared.byte_lengths.ByteLengths.TheVariants as by;
     ghost use Rattle.enc_encoders.specs.EucKr.{euc_kr_bytes};
 
     ghost bytes_for = { λ _. euc_kr_bytes };
+
+    ghost lengths = { λ _. by.TwoBytes };
 
     fn bytes_beyond_ascii(self, c: char) -> Option<Bytes> {
         match euc_kr(c) {
             Some(pointer) => Some(pair(pointer)),
             None => None,
         }
+    }
+
+    fn byte_lengths(self) -> ByteLengths {
+        ByteLengths::TwoBytes
     }
 
     #[tactic(auto, using(crate::proofs::StatelessLemmas::with_ascii_writes_ascii, crate::proofs::FewLemmas::few_euc_kr))]

@@ -5,6 +5,7 @@ ghost use Rattle.enc_encoders.specs.CharLaw.{AreBytesOf, bytes_of};
 ghost use Rattle.enc_encoders.specs.Gb18030.{gb18030_pair, gb18030_trail, gb18030_four, two_or_four as wanted_bytes};
 ghost use Rattle.enc_pointers.specs.Pointers.{gb18030_pointer};
 
+use crate::byte_lengths::ByteLengths;
 use crate::bytes::Bytes;
 use crate::made_bytes::{four, one, two};
 use crate::stateless::{Repertoire, StatelessEncoder};
@@ -69,9 +70,11 @@ fn two_or_four(is_gbk: bool, c: char) -> Option<Bytes>
 }
 
 impl Repertoire for Gb18030 {
-    ghost use Rattle.enc_encoders.specs.Gb18030.{gb18030_bytes};
+    ghost use Rattle.enc_encoders.specs.Gb18030.{gb18030_bytes, gb18030_lengths};
 
     ghost bytes_for = { λ r. gb18030_bytes r.is_gbk };
+
+    ghost lengths = { λ r. gb18030_lengths r.is_gbk };
 
     fn bytes_beyond_ascii(self, c: char) -> Option<Bytes> {
         if c == '\u{E5E5}' {
@@ -81,6 +84,14 @@ impl Repertoire for Gb18030 {
             return Some(one(0x80));
         }
         two_or_four(self.is_gbk, c)
+    }
+
+    fn byte_lengths(self) -> ByteLengths {
+        if self.is_gbk {
+            ByteLengths::TwoBytes
+        } else {
+            ByteLengths::Gb18030
+        }
     }
 
     #[tactic(auto, using(crate::proofs::StatelessLemmas::with_ascii_writes_ascii, crate::proofs::FewLemmas::few_gb18030))]

@@ -7,6 +7,7 @@ ghost use Rattle.enc_encoders.specs.CharLaw.{AreBytesOf, bytes_of};
 
 use super::japanese::{is_katakana, with_wide_minus};
 use super::katakana::KATAKANA;
+use crate::byte_lengths::ByteLengths;
 use crate::bytes::Bytes;
 use crate::char_encoder::CharEncoder;
 use crate::character_set::CharacterSet;
@@ -192,9 +193,12 @@ impl Iso2022JpEncoder {
 }
 
 impl RawEncoder for Iso2022JpEncoder {
+    ghost use Rattle.enc_encoders.specs.declared.byte_lengths.ByteLengths.TheVariants as lengths;
     ghost use Rattle.enc_encoders.specs.Iso2022Jp.{iso_2022_jp_state};
 
     ghost state = { λ e. iso_2022_jp_state e.set };
+
+    ghost formulas = { λ _. lengths.Iso2022Jp };
 
     fn encode<C: Chars>(
         &mut self,
@@ -211,5 +215,9 @@ impl RawEncoder for Iso2022JpEncoder {
             CharacterSet::Roman => true,
             CharacterSet::Jis0208 => true,
         }
+    }
+
+    fn byte_lengths(&self) -> ByteLengths {
+        ByteLengths::Iso2022Jp
     }
 }

@@ -4,6 +4,7 @@ ghost use Rattle.std.specs.Prelude.{◌≡◌, ◌<◌};
 ghost use Rattle.enc_encoders.specs.CharLaw.{bytes_of};
 ghost use Rattle.enc_encoders.specs.SingleByte.{single_byte as byte_of_pointer};
 
+use crate::byte_lengths::ByteLengths;
 use crate::bytes::Bytes;
 use crate::made_bytes::one;
 use crate::stateless::{Repertoire, StatelessEncoder};
@@ -30,9 +31,12 @@ fn upper(pointer: u32) -> Bytes
 }
 
 impl Repertoire for SingleByte {
+    ghost use Rattle.enc_encoders.specs.declared.byte_lengths.ByteLengths.TheVariants as by;
     ghost use Rattle.enc_encoders.specs.SingleByte.{single_byte_bytes};
 
     ghost bytes_for = { λ r. single_byte_bytes r.index };
+
+    ghost lengths = { λ _. by.OneByte };
 
     #[inline(always)]
     fn bytes_beyond_ascii(self, c: char) -> Option<Bytes> {
@@ -40,6 +44,10 @@ impl Repertoire for SingleByte {
             Some(pointer) => Some(upper(pointer)),
             None => None,
         }
+    }
+
+    fn byte_lengths(self) -> ByteLengths {
+        ByteLengths::OneByte
     }
 
     #[tactic(auto, using(crate::proofs::StatelessLemmas::with_ascii_writes_ascii, crate::proofs::FewLemmas::few_single_byte))]

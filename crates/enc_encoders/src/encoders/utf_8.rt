@@ -3,6 +3,7 @@
 ghost use Rattle.std.specs.Prelude.{◌≡◌, encode_utf8};
 ghost use Rattle.enc_encoders.specs.CharLaw.{bytes_of};
 
+use crate::byte_lengths::ByteLengths;
 use crate::bytes::Bytes;
 use crate::stateless::{Repertoire, StatelessEncoder};
 
@@ -26,13 +27,20 @@ fn utf8_bytes(c: char) -> Bytes
 }
 
 impl Repertoire for Utf8 {
+    ghost use Rattle.enc_encoders.specs.declared.byte_lengths.ByteLengths.TheVariants as by;
     ghost use Rattle.enc_encoders.specs.Utf8.{utf_8_bytes};
 
     ghost bytes_for = { λ _. utf_8_bytes };
 
+    ghost lengths = { λ _. by.Utf8 };
+
     #[inline(always)]
     fn bytes_beyond_ascii(self, c: char) -> Option<Bytes> {
         Some(utf8_bytes(c))
+    }
+
+    fn byte_lengths(self) -> ByteLengths {
+        ByteLengths::Utf8
     }
 
     #[tactic(auto, using(crate::proofs::StatelessLemmas::utf_8_writes_ascii, crate::proofs::FewLemmas::few_utf_8))]

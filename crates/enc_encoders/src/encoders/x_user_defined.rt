@@ -1,5 +1,6 @@
 //! The x-user-defined encoder (Encoding Standard 14.5.2).
 
+use crate::byte_lengths::ByteLengths;
 use crate::bytes::Bytes;
 use crate::made_bytes::one;
 use crate::stateless::{Repertoire, StatelessEncoder};
@@ -12,9 +13,12 @@ pub struct XUserDefined;
 pub type XUserDefinedEncoder = StatelessEncoder<XUserDefined>;
 
 impl Repertoire for XUserDefined {
+    ghost use Rattle.enc_encoders.specs.declared.byte_lengths.ByteLengths.TheVariants as by;
     ghost use Rattle.enc_encoders.specs.SingleByte.{x_user_defined_bytes};
 
     ghost bytes_for = { λ _. x_user_defined_bytes };
+
+    ghost lengths = { λ _. by.OneByte };
 
     fn bytes_beyond_ascii(self, c: char) -> Option<Bytes> {
         let c = c as u32;
@@ -22,6 +26,10 @@ impl Repertoire for XUserDefined {
             return Some(one((c - 0xF780 + 0x80) as u8));
         }
         None
+    }
+
+    fn byte_lengths(self) -> ByteLengths {
+        ByteLengths::OneByte
     }
 
     #[tactic(auto, using(crate::proofs::StatelessLemmas::with_ascii_writes_ascii, crate::proofs::FewLemmas::few_x_user_defined))]

@@ -1,0 +1,22 @@
+-- The lengths to allocate: formulas for the greatest number of bytes that a text has, by the kind of encoding, each sum and each
+-- product a checked step.
+use Rattle.std.specs.Prelude.{ℕ, Option, Some}
+use Rattle.enc_units.specs.Checked.{plus, times}
+use Rattle.enc_encoders.specs.declared.byte_lengths.ByteLengths.{ByteLengths}
+use Rattle.enc_encoders.specs.declared.byte_lengths.ByteLengths.TheVariants.{Utf8, OneByte, TwoBytes, Gb18030, Iso2022Jp}
+
+-- of n code units of UTF-8,
+abbrev pub from_utf_8_length : ByteLengths → ℕ → Option ℕ
+from_utf_8_length Utf8 n = Some n
+from_utf_8_length OneByte n = Some n
+from_utf_8_length TwoBytes n = Some n
+from_utf_8_length Gb18030 n = times (Some n) 2
+from_utf_8_length Iso2022Jp n = plus (times (Some n) 4) 3
+
+-- and of n of UTF-16
+abbrev pub from_utf_16_length : ByteLengths → ℕ → Option ℕ
+from_utf_16_length Utf8 n = times (Some n) 3
+from_utf_16_length OneByte n = Some n
+from_utf_16_length TwoBytes n = times (Some n) 2
+from_utf_16_length Gb18030 n = times (Some n) 4
+from_utf_16_length Iso2022Jp n = plus (times (Some n) 5) 3
