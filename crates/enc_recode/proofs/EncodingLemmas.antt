@@ -28,6 +28,7 @@ use Rattle.enc_recode.specs.Sink.{TakesMore, TakesPrefix}
 use Rattle.enc_recode.specs.Chunk.{bytes_from, EncodesText, HasEncoded, StopsWithin}
 use Rattle.enc_recode.proofs.KnownLemmas.{TakesMore-none, TakesMore-then}
 use Rattle.encoding_rs.proofs.ProgressLemmas.{goes_on}
+use Rattle.encoding_rs.proofs.UnreadLemmas.{boundary, chars_behind, all_read}
 
 pub not_ended : {P : Type 0} → false ≡ true → P
 not_ended e = cc
@@ -146,40 +147,6 @@ StopsWithin-text a c text unread last k₀ k₁ k₂ w₁ w₂ r p m t = record 
 
 -- A text that is cut between characters
 
-scalars_behind : (xs ys : List ℕ) → all_scalars (xs ++ ys) ≡ true → all_scalars ys ≡ true
-scalars_behind [] ys h = h
-scalars_behind (c ∷ xs) ys h = scalars_behind xs ys (second_so _ _ h)
-
-module _ (text front rest : List ℕ) (n : ℕ) (u : IsUtf8 text) (parts : chars text ≡ front ++ rest) (size : n ≡ length (units_of_text encode_utf8 front)) where
-  bytes_are : text ≡ units_of_text encode_utf8 front ++ units_of_text encode_utf8 rest
-  bytes_are =
-      sym (encodes-chars text u) ∙ sym (their_units (chars text)) ∙ ap (units_of_text encode_utf8) parts ∙ units_of_text-append encode_utf8 front rest
-
-  rest_scalars : all_scalars rest ≡ true
-  rest_scalars = scalars_behind front rest (ap all_scalars (sym parts ∙ sym (chars_from_encodes u.0 text u u.1.1)) ∙ u.1.0)
-
-  rest_utf_8 : IsUtf8 (units_of_text encode_utf8 rest)
-  rest_utf_8 = (rest, (rest_scalars, sym (their_units rest)))
-
-  pub boundary : IsCharBoundary text n
-  boundary = rw size (IsCharBoundary-at_seam text (units_of_text encode_utf8 front) (units_of_text encode_utf8 rest) bytes_are rest_utf_8)
-
-  pub chars_behind : chars (drop n text) ≡ rest
-  chars_behind =
-      ap chars (ap (drop n) bytes_are ∙ ap (λ k. drop k (units_of_text encode_utf8 front ++ units_of_text encode_utf8 rest)) size
-      ∙ drop-append_seam (units_of_text encode_utf8 front) (units_of_text encode_utf8 rest) ∙ their_units rest)
-      ∙ chars-encodes rest rest_scalars
-
--- Where a call has come to the end of a text, no character is unread.
-none_left : (v : RawState) (rest : List ℕ) (last : Bool) → nothing_left v rest last ≡ true → [] ≡ rest
-none_left v [] last h = refl
-none_left v (c ∷ rest) last h = cc
-
-all_read : (old new : EncoderState) (text : List ℕ) (last : Bool) (before after : List ℕ) (result : CoderResult) (read written : ℕ) (replaced : Bool)
-    (c : EncodesInto encode_utf8 (replacing old) old new text last before after (stop_of result) read written replaced) → result ≡ InputEmpty → [] ≡ c.encodes.rest
-all_read old new text last before after InputEmpty read written replaced c e = none_left (raw_state new) c.encodes.rest last c.encodes.call.stops
-all_read old new text last before after OutputFull read written replaced c e = cc
-
 -- What a sink takes
 
 pub HasEncoded-none : (s : EncoderState) (text : List ℕ) (last : Bool) (k : Option (List ℕ)) → HasEncoded s s text text last k k false
@@ -212,7 +179,7 @@ module _ (a b c : EncoderState) (text rest : List ℕ) (last : Bool) (k₀ k₁ 
   pub fewer_steps : (unread : List ℕ) → unread ≡ drop read rest → 14 ≤ length before → ¬ (result ≡ InputEmpty)
       → length (steps_from (raw_state c) last (chars unread)) < length (steps_from (raw_state b) last (chars rest))
   fewer_steps unread e r n =
-      rw (ap chars e ∙ unread_is) (goes_on b c (chars rest) last before after result read written r₂ q r n)
+      rw (ap chars e ∙ unread_is) (goes_on b c (chars rest) last (length before) result read (take written after) r₂ q.encodes r n)
 
   module _ (k₂ : Option (List ℕ)) where
     taken_all : (unread : List ℕ) → unread ≡ q.encodes.rest → TakesMore k₁ k₂ (take written after) → HasEncoded a c text unread last k₀ k₂ (r₁ || r₂)
@@ -228,7 +195,7 @@ module _ (a b c : EncoderState) (text rest : List ℕ) (last : Bool) (k₀ k₁ 
 
     -- and that has come to the end
     pub HasEncoded-last : result ≡ InputEmpty → TakesMore k₁ k₂ (take written after) → HasEncoded a c text [] last k₀ k₂ (r₁ || r₂)
-    HasEncoded-last e t = taken_all [] (all_read b c (chars rest) last before after result read written r₂ q e) t
+    HasEncoded-last e t = taken_all [] (all_read b c (chars rest) last (length before) result read (take written after) r₂ q.encodes e) t
 
     -- or are taken in part
     pub StopsWithin-encoding : TakesPrefix k₁ k₂ (take written after) → StopsWithin (bytes_from a) text last k₀ k₂

@@ -16,3 +16,6 @@ pub mod LabelLemmas
 pub mod WellFormedLemmas
 pub mod SniffingLemmas
 pub mod SettledLemmas
+pub mod OneShotLemmas
+pub mod UnreadLemmas
+pub mod WrittenLemmas

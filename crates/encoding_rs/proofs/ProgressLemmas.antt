@@ -16,7 +16,7 @@ use Rattle.encoding_rs.specs.declared.encoding.Encoding.{Encoding}
 use Rattle.encoding_rs.specs.Encodings.{codec_by_id, or_utf_8, output_rule}
 use Rattle.encoding_rs.specs.Properties.{output_by_id, output_encoding_of}
 use Rattle.encoding_rs.proofs.ReferenceLemmas.{lawful_of}
-use Rattle.encoding_rs.specs.Encoder.{EncoderState, EncodesInto, raw_state, replacing, kept_by_id}
+use Rattle.encoding_rs.specs.Encoder.{EncoderState, Encodes, raw_state, replacing, kept_by_id}
 
 -- the length of the first step
 abbrev first_len : List Step → ℕ
@@ -70,16 +70,16 @@ fewer_left kept old new src rest last room (p ∷ done) k r h full e =
     omega (arith, ap length e, length-append (p ∷ done) (steps_from new last rest))
 
 -- A call that is not at the end has done a step.
-pub goes_on : (old new : EncoderState) (text : List ℕ) (last : Bool) (before after : List ℕ) (result : CoderResult) (read written : ℕ) (replaced : Bool)
-    (c : EncodesInto encode_utf8 (replacing old) old new text last before after (stop_of result) read written replaced)
-    → 14 ≤ length before → ¬ (result ≡ InputEmpty)
-    → length (steps_from (raw_state new) last c.encodes.rest) < length (steps_from (raw_state old) last text)
-goes_on old new text last before after InputEmpty read written replaced c r n = absurd (n refl)
-goes_on old new text last before after OutputFull read written replaced c r n =
-    fewer_left (kept_by_id old.encoding.id) (raw_state old) (raw_state new) text c.encodes.rest last (length before) c.encodes.call.done
+pub goes_on : (old new : EncoderState) (text : List ℕ) (last : Bool) (room : ℕ) (result : CoderResult) (read : ℕ) (wrote : List ℕ) (replaced : Bool)
+    (c : Encodes encode_utf8 (replacing old) old new text last room (stop_of result) read wrote replaced)
+    → 14 ≤ room → ¬ (result ≡ InputEmpty)
+    → length (steps_from (raw_state new) last c.rest) < length (steps_from (raw_state old) last text)
+goes_on old new text last room InputEmpty read wrote replaced c r n = absurd (n refl)
+goes_on old new text last room OutputFull read wrote replaced c r n =
+    fewer_left (kept_by_id old.encoding.id) (raw_state old) (raw_state new) text c.rest last room c.call.done
     (few_kept old.encoding.id) r
-    (few_step (output_rule new.encoding) last new.set c.encodes.rest (lawful_of (codec_by_id new.encoding.id)).few)
-    c.encodes.call.stops c.encodes.call.remaining
+    (few_step (output_rule new.encoding) last new.set c.rest (lawful_of (codec_by_id new.encoding.id)).few)
+    c.call.stops c.call.remaining
 
 -- Where ASCII is designated no escape sequence is due.
 pub none_due : (e : Encoding) → escape_at_end ((output_rule e).set_after Ascii []) ≡ []

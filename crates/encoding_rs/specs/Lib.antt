@@ -11,3 +11,5 @@ pub mod Labels
 pub mod Properties
 pub mod Encoder
 pub mod EncodeRun
+pub mod Lengths
+pub mod OneShot

@@ -9,12 +9,15 @@ ghost use Rattle.enc_machine.specs.Call.{Replaced, Reported};
 ghost use Rattle.encoding_rs.specs.declared.bom.BomHandling.TheVariants as handling;
 ghost use Rattle.enc_units.specs.Rest.{without_rest};
 ghost use Rattle.encoding_rs.specs.Latin1.{TellsLatin1};
+ghost use Rattle.encoding_rs.specs.Lengths.{max_length};
+ghost use Rattle.encoding_rs.specs.declared.lengths.Query.TheVariants as query;
 ghost use Rattle.encoding_rs.specs.Sniffing.{IsText};
 ghost use Rattle.enc_calls.specs.Replacing.{stop_of, treatment_of};
 ghost use Rattle.encoding_rs.specs.Decoding.{fresh, finished, start_life, TellsHeld, DecodesInto, ConvertsInto, ConvertsReplacing, ConvertsReporting};
 
 use crate::bom::BomHandling;
 use crate::encoding::{Encoding, Id, codec_of};
+use crate::lengths::Query;
 use crate::life_cycle::LifeCycle;
 use crate::sniffing::{Sniffed, sniff};
 use crate::text::convert_text;
@@ -116,6 +119,42 @@ impl Decoder {
             LifeCycle::Finished => true,
             _ => false,
         }
+    }
+
+    /// The length to allocate for calls of a kind.
+    fn max_length(&self, query: Query, byte_length: usize) -> Option<usize>
+        ensures { result ≡ max_length query self.now byte_length }
+    {
+        let formulas = codec_of(self.encoding).text_lengths();
+        query.max_length(self.life, formulas, byte_length, self.codec.held())
+    }
+
+    /// How many bytes of UTF-8 so many bytes more may become, with U+FFFD for each malformed sequence: a length to allocate for
+    /// [`Decoder::decode_to_utf8`] and its kin. `None` where a step of the formula passes `usize`. The decoder stays as it is.
+    /// Condition: it is not finished. Takes no memory.
+    pub fn max_utf8_buffer_length(&self, byte_length: usize) -> Option<usize>
+        requires { finished self.now ≡ false }
+        ensures { result ≡ max_length query.Utf8 self.now byte_length }
+    {
+        self.max_length(Query::Utf8, byte_length)
+    }
+
+    /// The same for calls without replacement.
+    pub fn max_utf8_buffer_length_without_replacement(&self, byte_length: usize) -> Option<usize>
+        requires { finished self.now ≡ false }
+        ensures { result ≡ max_length query.Utf8Reporting self.now byte_length }
+    {
+        self.max_length(Query::Utf8Reporting, byte_length)
+    }
+
+    /// How many code units of UTF-16 so many bytes more may become: a length to allocate for calls with replacement and without.
+    /// `None` where a step of the formula passes `usize`. The decoder stays as it is. Condition: it is not finished. Takes no
+    /// memory.
+    pub fn max_utf16_buffer_length(&self, byte_length: usize) -> Option<usize>
+        requires { finished self.now ≡ false }
+        ensures { result ≡ max_length query.Utf16 self.now byte_length }
+    {
+        self.max_length(Query::Utf16, byte_length)
     }
 
     /// How many bytes in front of `bytes` are the characters of their own numbers, each a valid sequence by itself: so many

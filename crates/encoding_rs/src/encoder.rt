@@ -7,11 +7,16 @@ ghost use Rattle.std.specs.Char.Escape.{encode_utf16};
 ghost use Rattle.std.specs.Char.Utf16.{utf16_lossy_chars};
 ghost use Rattle.enc_encoders.specs.EncoderRule.{is_pending};
 ghost use Rattle.enc_references.specs.Treatment.{Reported, stop_of};
-ghost use Rattle.encoding_rs.specs.Encoder.{Encodes, EncodesInto, fresh_encoder, replacing};
+ghost use Rattle.enc_units.specs.Checked.{plus};
+ghost use Rattle.enc_encoders.specs.Lengths.{from_utf_8_length, from_utf_16_length};
+ghost use Rattle.encoding_rs.specs.Encoder.{Encodes, EncodesInto, fresh_encoder, kept_by_id, replacing};
+ghost use Rattle.encoding_rs.specs.Lengths.{output_lengths};
 
 use crate::encoding::{Encoding, Id, codec_of};
 use enc_calls::CoderResult;
-use enc_encode::{EncoderResult, RawEncoder, VariantEncoder, new_encoder};
+use enc_encode::{
+    ByteLengths, EncoderResult, RawEncoder, VariantEncoder, byte_lengths, new_encoder,
+};
 use enc_references::{encode_all, encode_replacing, encode_reporting};
 use enc_units::{Chars, Utf8Chars, Utf16Chars};
 use std::marker::Model;
@@ -68,6 +73,62 @@ impl Encoder {
         ensures { result ≡ is_pending self.now.set }
     {
         self.raw.has_pending_state()
+    }
+
+    /// Which formulas tell how many bytes a text may have.
+    fn byte_lengths(&self) -> ByteLengths
+        ensures { result ≡ output_lengths self.now.encoding }
+    {
+        byte_lengths(codec_of(self.encoding))
+    }
+
+    /// How many bytes at the end of an output are kept back for references.
+    fn kept(&self) -> usize
+        ensures { result ≡ kept_by_id self.now.encoding.id }
+    {
+        match self.encoding.id {
+            Id::Utf8 => 0,
+            _ => 10,
+        }
+    }
+
+    /// How many bytes so many code units of UTF-8 may become, up to an unmappable character: a length to allocate for
+    /// [`Encoder::encode_from_utf8_without_replacement`]. `None` where a step of the formula passes `usize`. Takes no memory.
+    pub fn max_buffer_length_from_utf8_without_replacement(
+        &self,
+        byte_length: usize,
+    ) -> Option<usize>
+        ensures { result ≡ from_utf_8_length (output_lengths self.now.encoding) byte_length }
+    {
+        self.byte_lengths().from_utf8(byte_length)
+    }
+
+    /// The same of so many code units of UTF-16.
+    pub fn max_buffer_length_from_utf16_without_replacement(
+        &self,
+        u16_length: usize,
+    ) -> Option<usize>
+        ensures { result ≡ from_utf_16_length (output_lengths self.now.encoding) u16_length }
+    {
+        self.byte_lengths().from_utf16(u16_length)
+    }
+
+    /// How many bytes to allocate for [`Encoder::encode_from_utf8`] of so many code units, if no character of theirs is
+    /// unmappable: unless the encoding is UTF-8, 10 bytes more, which are kept back for references. `None` where a step of the
+    /// formula passes `usize`. Takes no memory.
+    pub fn max_buffer_length_from_utf8_if_no_unmappables(&self, byte_length: usize) -> Option<usize>
+        ensures { result ≡ plus (from_utf_8_length (output_lengths self.now.encoding) byte_length) (kept_by_id self.now.encoding.id) }
+    {
+        self.max_buffer_length_from_utf8_without_replacement(byte_length)?
+            .checked_add(self.kept())
+    }
+
+    /// The same for [`Encoder::encode_from_utf16`], of so many code units of UTF-16.
+    pub fn max_buffer_length_from_utf16_if_no_unmappables(&self, u16_length: usize) -> Option<usize>
+        ensures { result ≡ plus (from_utf_16_length (output_lengths self.now.encoding) u16_length) (kept_by_id self.now.encoding.id) }
+    {
+        self.max_buffer_length_from_utf16_without_replacement(u16_length)?
+            .checked_add(self.kept())
     }
 
     /// Encodes the characters of an input, up to an unmappable one.

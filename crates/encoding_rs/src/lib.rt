@@ -11,7 +11,9 @@ mod encoder;
 mod encoding;
 mod labels;
 pub mod laws;
+mod lengths;
 mod life_cycle;
+mod one_shot;
 mod properties;
 pub mod run;
 mod sniffing;
@@ -39,3 +41,4 @@ pub use encoding::{
     WINDOWS_1258, WINDOWS_1258_INIT, X_MAC_CYRILLIC, X_MAC_CYRILLIC_INIT, X_USER_DEFINED,
     X_USER_DEFINED_INIT,
 };
+pub use one_shot::OneShotError;

@@ -1,0 +1,145 @@
+-- One-shot calls: what calls of a decoder that are told the whole input have come to.
+use Rattle.std.proofs.Common.{◌≡◌, ℕ, ◌+◌, ◌-◌, ◌<◌, ◌≤◌, Bool, true, false, true≢false, List, [], ◌∷◌, ◌++◌, length, take, drop, refl, ap, ◌∙◌, sym, arith, append_assoc, append-nil, ◌||◌, if◌then◌else◌}
+use Rattle.std.proofs.lemmas.Bool.Decides.{nat_tests}
+use Rattle.std.proofs.lemmas.List.{take-append-drop}
+use Rattle.std.specs.Prelude.{Option, Some, None, ◌==◌}
+use Rattle.std.specs.Char.{encode_utf8}
+use Rattle.encoding_rs.specs.declared.bom.BomHandling.{BomHandling}
+use Rattle.encoding_rs.specs.declared.bom.BomHandling.TheVariants.{Off, Sniff, Remove}
+use Rattle.encoding_rs.specs.declared.encoding.Encoding.{Encoding}
+use Rattle.encoding_rs.specs.declared.encoding.Id.{Id}
+use Rattle.encoding_rs.specs.declared.encoding.Id.TheVariants.{Utf8, Utf16be, Utf16le}
+use Rattle.enc_machine.specs.declared.decoder_result.DecoderResult.{DecoderResult}
+use Rattle.enc_machine.specs.declared.decoder_result.DecoderResult.TheVariants.{InputEmpty, OutputFull, Malformed}
+use Rattle.enc_calls.specs.declared.coder_result.CoderResult.{CoderResult}
+use Rattle.enc_calls.specs.declared.coder_result.CoderResult.TheVariants as coder
+use Rattle.enc_calls.specs.Replacing.{stop_of}
+use Rattle.enc_units.specs.Output.{units_of_text}
+use Rattle.enc_machine.specs.Sequence.{Sequence, text_of, is_malformed, any_malformed}
+use Rattle.enc_machine.specs.Call.{Treatment, Reported, is_end}
+use Rattle.enc_machine.proofs.SequenceLemmas.{units-append, any_malformed-append}
+use Rattle.enc_machine.proofs.SegmentationLemmas.{sequences_of-nil}
+use Rattle.encoding_rs.specs.Encodings.{rule_of}
+use Rattle.encoding_rs.specs.Bom.{Mark, own_marks, find_mark, sequences_by}
+use Rattle.encoding_rs.specs.Decoding.{DecoderState, finished, fresh, remaining_sequences, whole_sequences, whole_utf_8, whole_malformed, Decodes, DecodesReplacing, HasDecoded}
+use Rattle.encoding_rs.specs.OneShot.{strict_utf_8}
+use Rattle.encoding_rs.proofs.EndLemmas.{fresh_sequences, finishes_by, finishes, whole_text, whole_flag}
+
+pub nothing : (bytes : List ℕ) → true ≡ (length bytes == 0) → bytes ≡ []
+nothing [] h = refl
+nothing (b ∷ bytes) h = let f : length (b ∷ bytes) ≡ 0 = grind (arith, nat_tests) in absurd (omega (arith, f))
+
+-- an empty input has no sequence
+
+removal_none : (id : Id) → find_mark (own_marks id) [] ≡ None
+removal_none Utf8 = refl
+removal_none Utf16be = refl
+removal_none Utf16le = refl
+removal_none _ = refl
+
+pub none_whole : (handling : BomHandling) (e : Encoding) (bytes : List ℕ) → bytes ≡ [] → whole_sequences handling e bytes ≡ []
+none_whole Off e bytes h = ap (whole_sequences Off e) h ∙ sequences_of-nil (rule_of e) 0
+none_whole Sniff e bytes h = ap (whole_sequences Sniff e) h ∙ sequences_of-nil (rule_of e) 0
+none_whole Remove e bytes h =
+    ap (whole_sequences Remove e) h ∙ ap (λ (m : Option Mark). sequences_by m e []) (removal_none e.id) ∙ sequences_of-nil (rule_of e) 0
+
+-- no call
+pub none_decoded : (handling : BomHandling) (e : Encoding) (bytes : List ℕ) → HasDecoded handling e bytes bytes true (fresh handling e) [] false
+none_decoded handling e bytes = record { done = []; whole = λ z h. fresh_sequences handling e (bytes ++ z); text = refl; flag = refl }
+
+-- One call more, whose text stands behind what was written.
+module _ (handling : BomHandling) (e : Encoding) (bytes src : List ℕ) (old new : DecoderState) (before after : List ℕ) (had : Bool) (h : HasDecoded handling e bytes src true old before had)
+    (treatment : Treatment) (room : ℕ) (result : DecoderResult) (read : ℕ) (replaced : Bool)
+    (d : Decodes encode_utf8 treatment old new src true room result read (drop (length before) after) replaced) where
+  all_done : whole_sequences handling e bytes ≡ (h.done ++ d.call.done) ++ remaining_sequences new (drop read src ++ [])
+  all_done =
+      ap (whole_sequences handling e) (sym (append-nil bytes)) ∙ h.whole [] (λ _. refl)
+      ∙ ap (λ ss. h.done ++ ss) (d.call.residual [] (λ _. refl)) ∙ sym (append_assoc h.done d.call.done (remaining_sequences new (drop read src ++ [])))
+
+  -- it puts out all that it does
+  pub goes_on : take (length before) after ≡ before → d.call.put ≡ d.call.done → HasDecoded handling e bytes (drop read src) true new after (had || replaced)
+  goes_on t p = record {
+    done = h.done ++ d.call.done;
+    whole = λ z f. h.whole z f ∙ ap (λ ss. h.done ++ ss) (d.call.residual z f) ∙ sym (append_assoc h.done d.call.done (remaining_sequences new (drop read src ++ z)));
+    text = sym (take-append-drop (length before) after) ∙ ap (λ x. x ++ drop (length before) after) (t ∙ h.text)
+        ∙ ap (λ x. units_of_text encode_utf8 (text_of h.done) ++ x) (d.call.text ∙ ap (λ ss. units_of_text encode_utf8 (text_of ss)) p)
+        ∙ sym (units-append encode_utf8 h.done d.call.done);
+    flag = ap (λ x. x || replaced) h.flag ∙ ap (λ x. any_malformed h.done || x) (d.call.flag ∙ ap any_malformed p) ∙ sym (any_malformed-append h.done d.call.done);
+  }
+
+or_true : (b : Bool) → (b || true) ≡ true
+or_true true = refl
+or_true false = refl
+
+any_of_last : (ss ts : List Sequence) (s : Sequence) → is_malformed s.kind ≡ true → any_malformed ((ss ++ s ∷ []) ++ ts) ≡ true
+any_of_last [] ts s h = ap (λ b. b || any_malformed ts) h
+any_of_last (t ∷ ss) ts s h = ap (λ b. is_malformed t.kind || b) (any_of_last ss ts s h) ∙ or_true (is_malformed t.kind)
+
+-- a malformed sequence that is reported is one of the whole input
+pub told_malformed : (handling : BomHandling) (e : Encoding) (bytes src : List ℕ) (old new : DecoderState) (before after : List ℕ) (had : Bool) (h : HasDecoded handling e bytes src true old before had)
+    (treatment : Treatment) (room l a read : ℕ) (replaced : Bool)
+    → Decodes encode_utf8 treatment old new src true room (Malformed l a) read (drop (length before) after) replaced → whole_malformed handling e bytes ≡ true
+told_malformed handling e bytes src old new before after had h treatment room l a read replaced d =
+    let at = d.call.stops in
+    let rest = remaining_sequences new (drop read src ++ []) in
+    ap any_malformed (all_done handling e bytes src old new before after had h treatment room (Malformed l a) read replaced d
+    ∙ ap (λ ss. (h.done ++ ss) ++ rest) at.then_next ∙ ap (λ ss. ss ++ rest) (sym (append_assoc h.done d.call.put (at.next ∷ []))))
+    ∙ any_of_last (h.done ++ d.call.put) rest at.next at.malformed
+
+-- a call that is not at the end leaves a decoder open
+pub still_open : (old new : DecoderState) (src : List ℕ) (room : ℕ) (result : CoderResult) (read : ℕ) (wrote : List ℕ) (replaced : Bool)
+    → DecodesReplacing encode_utf8 old new src true room result read wrote replaced → ¬ (result ≡ coder.InputEmpty) → finished new ≡ false
+still_open old new src room coder.InputEmpty read wrote replaced d n = absurd (n refl)
+still_open old new src room coder.OutputFull read wrote replaced d n = finishes old new src true room coder.OutputFull read wrote replaced d
+
+-- and one that is leaves it finished
+pub now_finished : (old new : DecoderState) (src : List ℕ) (room : ℕ) (result : CoderResult) (read : ℕ) (wrote : List ℕ) (replaced : Bool)
+    → DecodesReplacing encode_utf8 old new src true room result read wrote replaced → result ≡ coder.InputEmpty → finished new ≡ true
+now_finished old new src room result read wrote replaced d f = finishes old new src true room result read wrote replaced d ∙ ap (λ r. is_end true (stop_of r)) f
+
+-- calls that report what is malformed
+
+strict_if : (malformed : Bool) (text : List ℕ) → malformed ≡ false → Some text ≡ (if malformed then None else Some text)
+strict_if true text h = absurd (true≢false h)
+strict_if false text h = refl
+
+none_if : (malformed : Bool) (text : List ℕ) → malformed ≡ true → None ≡ (if malformed then None else Some text)
+none_if true text h = refl
+none_if false text h = absurd (true≢false (sym h))
+
+pub none_strict : (e : Encoding) (bytes : List ℕ) → bytes ≡ [] → Some [] ≡ strict_utf_8 e bytes
+none_strict e bytes h = ap (λ ss. if any_malformed ss then None else Some (units_of_text encode_utf8 (text_of ss))) (sym (none_whole Off e bytes h))
+
+pub strict_none : (e : Encoding) (bytes : List ℕ) → whole_malformed Off e bytes ≡ true → None ≡ strict_utf_8 e bytes
+strict_none e bytes h = none_if (whole_malformed Off e bytes) (whole_utf_8 Off e bytes) h
+
+pub strict_text : (e : Encoding) (bytes unread : List ℕ) (state : DecoderState) (text : List ℕ) → HasDecoded Off e bytes unread true state text false → finished state ≡ true
+    → Some text ≡ strict_utf_8 e bytes
+strict_text e bytes unread state text h f =
+    strict_if (whole_malformed Off e bytes) text (sym (whole_flag Off e bytes unread state text false h f))
+    ∙ ap (λ t. if whole_malformed Off e bytes then None else Some t) (whole_text Off e bytes unread state text false h f)
+
+-- one call more
+module _ (e : Encoding) (bytes src : List ℕ) (old new : DecoderState) (before after : List ℕ) (h : HasDecoded Off e bytes src true old before false) (room read : ℕ) where
+  pub strict_end : (result : DecoderResult) → Decodes encode_utf8 (Reported false) old new src true room result read (drop (length before) after) false
+      → take (length before) after ≡ before → result ≡ InputEmpty → Some after ≡ strict_utf_8 e bytes
+  strict_end InputEmpty d t f =
+      strict_text e bytes (drop read src) new after (goes_on Off e bytes src old new before after false h (Reported false) room InputEmpty read false d t (sym d.call.stops.only_put))
+      (finishes_by encode_utf8 (Reported false) old new src true room InputEmpty read (drop (length before) after) false d)
+  strict_end OutputFull d t f = cc
+  strict_end (Malformed l a) d t f = cc
+
+  pub strict_report : (result : DecoderResult) (l a : ℕ) → Decodes encode_utf8 (Reported false) old new src true room result read (drop (length before) after) false
+      → result ≡ Malformed l a → None ≡ strict_utf_8 e bytes
+  strict_report InputEmpty l a d f = cc
+  strict_report OutputFull l a d f = cc
+  strict_report (Malformed k b) l a d f = strict_none e bytes (told_malformed Off e bytes src old new before after false h (Reported false) room k b read false d)
+
+  pub strictly_on : (result : DecoderResult) → Decodes encode_utf8 (Reported false) old new src true room result read (drop (length before) after) false
+      → take (length before) after ≡ before → result ≡ OutputFull → HasDecoded Off e bytes (drop read src) true new after false × (finished new ≡ false)
+  strictly_on InputEmpty d t f = cc
+  strictly_on OutputFull d t f = (
+    goes_on Off e bytes src old new before after false h (Reported false) room OutputFull read false d t (sym d.call.stops.only_put),
+    finishes_by encode_utf8 (Reported false) old new src true room OutputFull read (drop (length before) after) false d,
+  )
+  strictly_on (Malformed l a) d t f = cc

@@ -1,0 +1,53 @@
+-- What a call of an encoder leaves unread of a text in UTF-8.
+use Rattle.std.proofs.Common.{◌≡◌, ℕ, Bool, true, List, [], ◌∷◌, ◌++◌, length, drop, refl, ap, ◌∙◌, sym, chars, IsUtf8}
+use Rattle.std.proofs.lemmas.Str.{encodes-chars, chars-encodes, chars_from_encodes, IsCharBoundary-at_seam}
+use Rattle.std.proofs.Math.Seq.{drop-append_seam}
+use Rattle.std.specs.Str.{all_scalars, IsCharBoundary}
+use Rattle.std.specs.Cmp.{second_so}
+use Rattle.std.specs.Char.{encode_utf8}
+use Rattle.enc_calls.specs.declared.coder_result.CoderResult.{CoderResult}
+use Rattle.enc_calls.specs.declared.coder_result.CoderResult.TheVariants.{InputEmpty, OutputFull}
+use Rattle.enc_units.specs.Output.{units_of_text}
+use Rattle.enc_units.proofs.Utf8CharsLemmas.{their_units}
+use Rattle.enc_machine.proofs.SequenceLemmas.{units_of_text-append}
+use Rattle.enc_encoders.specs.EncoderRule.{RawState}
+use Rattle.enc_references.specs.Treatment.{stop_of, nothing_left}
+use Rattle.encoding_rs.specs.Encoder.{EncoderState, Encodes, raw_state, replacing}
+
+-- no bytes are no characters
+pub no_chars : (text : List ℕ) → text ≡ [] → chars text ≡ []
+no_chars text h = ap chars h ∙ chars-encodes [] refl
+
+scalars_behind : (xs ys : List ℕ) → all_scalars (xs ++ ys) ≡ true → all_scalars ys ≡ true
+scalars_behind [] ys h = h
+scalars_behind (c ∷ xs) ys h = scalars_behind xs ys (second_so _ _ h)
+
+module _ (text front rest : List ℕ) (n : ℕ) (u : IsUtf8 text) (parts : chars text ≡ front ++ rest) (size : n ≡ length (units_of_text encode_utf8 front)) where
+  bytes_are : text ≡ units_of_text encode_utf8 front ++ units_of_text encode_utf8 rest
+  bytes_are =
+      sym (encodes-chars text u) ∙ sym (their_units (chars text)) ∙ ap (units_of_text encode_utf8) parts ∙ units_of_text-append encode_utf8 front rest
+
+  rest_scalars : all_scalars rest ≡ true
+  rest_scalars = scalars_behind front rest (ap all_scalars (sym parts ∙ sym (chars_from_encodes u.0 text u u.1.1)) ∙ u.1.0)
+
+  rest_utf_8 : IsUtf8 (units_of_text encode_utf8 rest)
+  rest_utf_8 = (rest, (rest_scalars, sym (their_units rest)))
+
+  pub boundary : IsCharBoundary text n
+  boundary = rw size (IsCharBoundary-at_seam text (units_of_text encode_utf8 front) (units_of_text encode_utf8 rest) bytes_are rest_utf_8)
+
+  pub chars_behind : chars (drop n text) ≡ rest
+  chars_behind =
+      ap chars (ap (drop n) bytes_are ∙ ap (λ k. drop k (units_of_text encode_utf8 front ++ units_of_text encode_utf8 rest)) size
+      ∙ drop-append_seam (units_of_text encode_utf8 front) (units_of_text encode_utf8 rest) ∙ their_units rest)
+      ∙ chars-encodes rest rest_scalars
+
+-- Where a call has come to the end of a text, no character is unread.
+none_left : (v : RawState) (rest : List ℕ) (last : Bool) → nothing_left v rest last ≡ true → [] ≡ rest
+none_left v [] last h = refl
+none_left v (c ∷ rest) last h = cc
+
+pub all_read : (old new : EncoderState) (text : List ℕ) (last : Bool) (room : ℕ) (result : CoderResult) (read : ℕ) (wrote : List ℕ) (replaced : Bool)
+    (c : Encodes encode_utf8 (replacing old) old new text last room (stop_of result) read wrote replaced) → result ≡ InputEmpty → [] ≡ c.rest
+all_read old new text last room InputEmpty read wrote replaced c e = none_left (raw_state new) c.rest last c.call.stops
+all_read old new text last room OutputFull read wrote replaced c e = cc

@@ -1,0 +1,68 @@
+use Rattle.std.proofs.Common.{rules, ◌≡◌, ◌≤◌, ◌-◌, ◌∙◌, chars, refl}
+use Rattle.std.specs.Vec.{vec_len, vec_capacity}
+use Rattle.enc_calls.specs.declared.coder_result.CoderResult.TheVariants.{InputEmpty}
+use Rattle.encoding_rs.proofs.OneShotLemmas.{nothing}
+use Rattle.encoding_rs.proofs.UnreadLemmas.{no_chars}
+use Rattle.encoding_rs.proofs.WrittenLemmas.{nothing_written, none_written, at_boundary, written_on, flagged_on, fewer_steps, written_all, flagged_all}
+use Rattle.encoding_rs.proofs.encoding.Encoding.encode.Goals as goal
+
+pub returns-then-is_empty-clause-bytes : goal.returns-then-is_empty-clause-bytes
+returns-then-is_empty-clause-bytes c =
+    c.new-bytes.ensures.items ∙ nothing_written c.args.self (chars c.args.text.now) (no_chars c.args.text.now (nothing c.args.text.now (c.if-is_empty.ensures)))
+
+pub returns-then-is_empty-clause-flag : goal.returns-then-is_empty-clause-flag
+returns-then-is_empty-clause-flag c = rw (no_chars c.args.text.now (nothing c.args.text.now (c.if-is_empty.ensures))) refl
+
+pub returns-in_err-make_byte_room-clause-too_long :
+    goal.returns-in_err-make_byte_room-clause-too_long
+returns-in_err-make_byte_room-clause-too_long c = λ too_long. record {
+  state = c.calls.encoder;
+  unread = c.calls.unread.now;
+  wrote = c.calls.bytes.items;
+  written = c.calls.invariant.1.written;
+  passes = search rules;
+}
+
+pub returns-then-eq-clause-bytes : goal.returns-then-eq-clause-bytes
+returns-then-eq-clause-bytes c =
+    let i = c.calls.invariant in
+    let w = rw (← c.in_ok-make_byte_room.ensures.bytes) at i.1.written in
+    let d = c.encode_from_utf8_to_vec-stop.ensures in
+    let at_end : c.encode_from_utf8_to_vec-stop.result.0 ≡ InputEmpty = search rules in
+    written_all _ _ _ _ _ _ _ _ i.0 w i.1.flag _ _ _ _ d.call d.appended at_end
+
+pub returns-then-eq-clause-flag : goal.returns-then-eq-clause-flag
+returns-then-eq-clause-flag c =
+    let i = c.calls.invariant in
+    let w = rw (← c.in_ok-make_byte_room.ensures.bytes) at i.1.written in
+    let d = c.encode_from_utf8_to_vec-stop.ensures in
+    let at_end : c.encode_from_utf8_to_vec-stop.result.0 ≡ InputEmpty = search rules in
+    flagged_all _ _ _ _ _ _ _ _ i.0 w i.1.flag _ _ _ _ d.call d.appended at_end
+
+pub split_at-requires : goal.split_at-requires
+split_at-requires c =
+    let i = c.calls.invariant in
+    let w = rw (← c.in_ok-make_byte_room.ensures.bytes) at i.1.written in
+    let d = c.encode_from_utf8_to_vec-stop.ensures in
+    at_boundary _ _ _ _ _ _ _ _ i.0 w i.1.flag _ _ _ _ d.call d.appended
+
+pub calls-smaller : goal.calls-smaller
+calls-smaller c =
+    let i = c.calls.invariant in
+    let w = rw (← c.in_ok-make_byte_room.ensures.bytes) at i.1.written in
+    let d = c.encode_from_utf8_to_vec-stop.ensures in
+    let room : 14 ≤ vec_capacity c.make_byte_room.new.bytes - vec_len c.make_byte_room.new.bytes = search rules in
+    let on : ¬ (c.encode_from_utf8_to_vec-stop.result.0 ≡ InputEmpty) = search rules in
+    fewer_steps _ _ _ _ _ _ _ _ i.0 w i.1.flag _ _ _ _ d.call d.appended _ c.split_at.ensures.back room on
+
+pub calls-preserved : goal.calls-preserved
+calls-preserved c =
+    let i = c.calls.invariant in
+    let w = rw (← c.in_ok-make_byte_room.ensures.bytes) at i.1.written in
+    let d = c.encode_from_utf8_to_vec-stop.ensures in (
+      search rules,
+      record {
+        written = written_on _ _ _ _ _ _ _ _ i.0 w i.1.flag _ _ _ _ d.call d.appended _ c.split_at.ensures.back;
+        flag = flagged_on _ _ _ _ _ _ _ _ i.0 w i.1.flag _ _ _ _ d.call d.appended _ c.split_at.ensures.back;
+      },
+    )

@@ -1,0 +1,59 @@
+-- The lengths to allocate for what a decoder or an encoder writes.
+use Rattle.std.specs.Prelude.{ℕ, Option, Some, None, length}
+use Rattle.enc_units.specs.Checked.{plus, greater}
+use Rattle.enc_machine.specs.declared.text_lengths.TextLengths.{TextLengths}
+use Rattle.enc_machine.specs.declared.text_lengths.TextLengths.TheVariants as by
+use Rattle.enc_machine.specs.Lengths.{utf_8_length, reporting_length, utf_16_length}
+use Rattle.enc_codec.specs.Codecs.{codec_lengths}
+use Rattle.enc_encoders.specs.declared.byte_lengths.ByteLengths.{ByteLengths}
+use Rattle.enc_encode.specs.Encoders.{encoder_lengths}
+use Rattle.encoding_rs.specs.declared.encoding.Encoding.{Encoding}
+use Rattle.encoding_rs.specs.declared.lengths.Query.{Query}
+use Rattle.encoding_rs.specs.declared.lengths.Query.TheVariants.{Utf8, Utf8Reporting, Utf16}
+use Rattle.encoding_rs.specs.declared.life_cycle.LifeCycle.{LifeCycle}
+use Rattle.encoding_rs.specs.declared.life_cycle.LifeCycle.TheVariants.{AtStart, AtUtf8Start, AtUtf16BeStart, AtUtf16LeStart, SeenUtf8First, SeenUtf8Second, SeenUtf16BeFirst, SeenUtf16LeFirst, ConvertingWithPendingBb, Converting, Finished}
+use Rattle.encoding_rs.specs.Encodings.{codec_by_id}
+use Rattle.encoding_rs.specs.Decoding.{DecoderState}
+
+-- the formula that is in force
+abbrev pub length_by : Query → TextLengths → ℕ → ℕ → Option ℕ
+length_by Utf8 lengths n h = utf_8_length lengths n h
+length_by Utf8Reporting lengths n h = reporting_length lengths n h
+length_by Utf16 lengths n h = utf_16_length lengths n h
+
+-- The encoding itself, that of a mark that may come, of which the codec has read nothing, or the greater of both.
+abbrev pub own : Query → TextLengths → ℕ → Option ℕ
+own q lengths n = length_by q lengths n 0
+
+abbrev pub or_utf_8 : Query → TextLengths → ℕ → Option ℕ
+or_utf_8 q lengths n = greater (length_by q by.Utf8 n 0) (own q lengths n)
+
+abbrev pub or_utf_16 : Query → TextLengths → ℕ → Option ℕ
+or_utf_16 q lengths n = greater (length_by q by.Utf16 n 0) (own q lengths n)
+
+-- the same where the two bytes are to be counted that may be held of a mark
+abbrev pub with_two : (ℕ → Option ℕ) → Option ℕ → Option ℕ
+with_two f None = None
+with_two f (Some n) = f n
+
+-- By how far a decoder has come with a mark, for n bytes more, where its codec holds h.
+abbrev pub length_in : Query → LifeCycle → TextLengths → ℕ → ℕ → Option ℕ
+length_in q Converting lengths n h = length_by q lengths n h
+length_in q AtUtf8Start lengths n h = own q lengths n
+length_in q AtUtf16BeStart lengths n h = own q lengths n
+length_in q AtUtf16LeStart lengths n h = own q lengths n
+length_in q AtStart lengths n h = greater (length_by q by.Utf8 n 0) (or_utf_16 q lengths n)
+length_in q SeenUtf8First lengths n h = with_two (or_utf_8 q lengths) (plus (Some n) 2)
+length_in q SeenUtf8Second lengths n h = with_two (or_utf_8 q lengths) (plus (Some n) 2)
+length_in q SeenUtf16BeFirst lengths n h = with_two (or_utf_16 q lengths) (plus (Some n) 2)
+length_in q SeenUtf16LeFirst lengths n h = with_two (or_utf_16 q lengths) (plus (Some n) 2)
+length_in q ConvertingWithPendingBb lengths n h = with_two (own q lengths) (plus (Some n) 2)
+length_in q Finished lengths n h = length_by q lengths n h
+
+-- The length to allocate for what a decoder makes of n bytes more.
+abbrev pub max_length : Query → DecoderState → ℕ → Option ℕ
+max_length q d n = length_in q d.life (codec_lengths (codec_by_id d.encoding.id)) n (length d.pending)
+
+-- by which formulas the lengths go to allocate for bytes of an encoding
+abbrev pub output_lengths : Encoding → ByteLengths
+output_lengths e = encoder_lengths (codec_by_id e.id)
