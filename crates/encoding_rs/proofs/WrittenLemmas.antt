@@ -1,5 +1,5 @@
 -- One-shot calls: what calls of an encoder that are told the whole text have come to.
-use Rattle.std.proofs.Common.{◌≡◌, ℕ, ◌<◌, ◌≤◌, Bool, true, false, ◌||◌, List, [], ◌∷◌, ◌++◌, length, take, drop, refl, ap, ◌∙◌, sym, append_assoc, append-nil, chars, IsUtf8}
+use Rattle.std.proofs.Common.{◌≡◌, ℕ, ◌<◌, ◌≤◌, Bool, true, ◌||◌, List, [], ◌++◌, length, take, drop, refl, ap, ◌∙◌, sym, append_assoc, append-nil, chars, IsUtf8}
 use Rattle.std.proofs.lemmas.List.{take-append-drop}
 use Rattle.std.specs.Str.{IsCharBoundary}
 use Rattle.std.specs.Char.{encode_utf8}

@@ -24,6 +24,7 @@ use crate::text::convert_text;
 use enc_calls::CoderResult;
 use enc_codec::{DecoderResult, RawDecoder, VariantDecoder};
 use enc_units::{StringTail, Units, Utf8Slice, Utf16Slice, clear_rest};
+use std::fmt;
 use std::marker::Model;
 
 /// Converts a stream of bytes, in chunks of any size, into text, in buffers of any size (Encoding Standard 4.1 and 6).
@@ -47,6 +48,16 @@ impl Model for Decoder {
     ghost view = { λ d. state_by d.encoding d.life (variant_state d.codec) };
 
     ghost invariant = { λ d. KeepsTo d.encoding d.life (variant_state d.codec) };
+}
+
+impl fmt::Debug for Decoder {
+    /// Tells its encoding, and whether it is finished.
+    fn fmt<W: fmt::Write>(&self, f: &mut fmt::Formatter<W>) -> fmt::Result {
+        f.debug_struct("Decoder")
+            .field("encoding", &self.encoding)
+            .field("finished", &self.is_finished())
+            .finish()
+    }
 }
 
 /// Where a decoder starts that looks for the mark of its own encoding.

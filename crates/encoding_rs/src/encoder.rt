@@ -19,6 +19,7 @@ use enc_encode::{
 };
 use enc_references::{encode_all, encode_replacing, encode_reporting};
 use enc_units::{Chars, Utf8Chars, Utf16Chars};
+use std::fmt;
 use std::marker::Model;
 
 /// Converts a text, in chunks of any size, into the bytes of an encoding, in buffers of any size (Encoding Standard 4.1).
@@ -43,6 +44,16 @@ impl Model for Encoder {
     ghost view = { λ e. record { encoding = e.encoding; set = (variant_state e.raw).set } };
 
     ghost invariant = { λ e. (variant_state e.raw).rule ≡ output_rule e.encoding };
+}
+
+impl fmt::Debug for Encoder {
+    /// Tells its encoding, and whether an escape sequence is still to come at the end of the text.
+    fn fmt<W: fmt::Write>(&self, f: &mut fmt::Formatter<W>) -> fmt::Result {
+        f.debug_struct("Encoder")
+            .field("encoding", &self.encoding)
+            .field("pending", &self.has_pending_state())
+            .finish()
+    }
 }
 
 impl Encoding {

@@ -1,4 +1,4 @@
-use Rattle.std.proofs.Common.{rules, ◌≡◌, false, [], refl, ap, ◌∙◌, sym, ◌||◌}
+use Rattle.std.proofs.Common.{rules, ◌≡◌, false, [], ap, ◌∙◌, sym, ◌||◌}
 use Rattle.std.specs.String.{string_bytes}
 use Rattle.std.specs.Char.{encode_utf8}
 use Rattle.enc_calls.specs.declared.coder_result.CoderResult.TheVariants.{InputEmpty}

@@ -3,7 +3,7 @@ use Rattle.std.specs.Vec.{vec_len, vec_capacity}
 use Rattle.enc_calls.specs.declared.coder_result.CoderResult.TheVariants.{InputEmpty}
 use Rattle.encoding_rs.proofs.OneShotLemmas.{nothing}
 use Rattle.encoding_rs.proofs.UnreadLemmas.{no_chars}
-use Rattle.encoding_rs.proofs.WrittenLemmas.{nothing_written, none_written, at_boundary, written_on, flagged_on, fewer_steps, written_all, flagged_all}
+use Rattle.encoding_rs.proofs.WrittenLemmas.{nothing_written, at_boundary, written_on, flagged_on, fewer_steps, written_all, flagged_all}
 use Rattle.encoding_rs.proofs.encoding.Encoding.encode.Goals as goal
 
 pub returns-then-is_empty-clause-bytes : goal.returns-then-is_empty-clause-bytes
