@@ -21,33 +21,35 @@ length_by Utf8 lengths n h = utf_8_length lengths n h
 length_by Utf8Reporting lengths n h = reporting_length lengths n h
 length_by Utf16 lengths n h = utf_16_length lengths n h
 
--- The encoding itself, that of a mark that may come, of which the codec has read nothing, or the greater of both.
+-- of a codec that holds nothing
 abbrev pub own : Query → TextLengths → ℕ → Option ℕ
 own q lengths n = length_by q lengths n 0
 
+-- the greater of that and of UTF-8's, or UTF-16's, where its mark may come
 abbrev pub or_utf_8 : Query → TextLengths → ℕ → Option ℕ
 or_utf_8 q lengths n = greater (length_by q by.Utf8 n 0) (own q lengths n)
 
 abbrev pub or_utf_16 : Query → TextLengths → ℕ → Option ℕ
 or_utf_16 q lengths n = greater (length_by q by.Utf16 n 0) (own q lengths n)
 
--- the same where the two bytes are to be counted that may be held of a mark
-abbrev pub with_two : (ℕ → Option ℕ) → Option ℕ → Option ℕ
-with_two f None = None
-with_two f (Some n) = f n
+-- of a sum, if it is a usize
+abbrev pub of_sum : (ℕ → Option ℕ) → Option ℕ → Option ℕ
+of_sum f None = None
+of_sum f (Some n) = f n
 
--- By how far a decoder has come with a mark, for n bytes more, where its codec holds h.
+-- By how far a decoder has come with a mark, for n bytes more, where its codec holds h. Where bytes of a mark are held, which are
+-- two at most, the codec has yet to read them.
 abbrev pub length_in : Query → LifeCycle → TextLengths → ℕ → ℕ → Option ℕ
 length_in q Converting lengths n h = length_by q lengths n h
 length_in q AtUtf8Start lengths n h = own q lengths n
 length_in q AtUtf16BeStart lengths n h = own q lengths n
 length_in q AtUtf16LeStart lengths n h = own q lengths n
 length_in q AtStart lengths n h = greater (length_by q by.Utf8 n 0) (or_utf_16 q lengths n)
-length_in q SeenUtf8First lengths n h = with_two (or_utf_8 q lengths) (plus (Some n) 2)
-length_in q SeenUtf8Second lengths n h = with_two (or_utf_8 q lengths) (plus (Some n) 2)
-length_in q SeenUtf16BeFirst lengths n h = with_two (or_utf_16 q lengths) (plus (Some n) 2)
-length_in q SeenUtf16LeFirst lengths n h = with_two (or_utf_16 q lengths) (plus (Some n) 2)
-length_in q ConvertingWithPendingBb lengths n h = with_two (own q lengths) (plus (Some n) 2)
+length_in q SeenUtf8First lengths n h = of_sum (or_utf_8 q lengths) (plus (Some n) 2)
+length_in q SeenUtf8Second lengths n h = of_sum (or_utf_8 q lengths) (plus (Some n) 2)
+length_in q SeenUtf16BeFirst lengths n h = of_sum (or_utf_16 q lengths) (plus (Some n) 2)
+length_in q SeenUtf16LeFirst lengths n h = of_sum (or_utf_16 q lengths) (plus (Some n) 2)
+length_in q ConvertingWithPendingBb lengths n h = of_sum (own q lengths) (plus (Some n) 2)
 length_in q Finished lengths n h = length_by q lengths n h
 
 -- The length to allocate for what a decoder makes of n bytes more.
