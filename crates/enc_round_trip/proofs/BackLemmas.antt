@@ -1,0 +1,70 @@
+-- Texts are read back where each character is, in encodings without escape sequences.
+use Rattle.std.proofs.Common.{◌≡◌, ℕ, ◌<◌, ◌≤◌, Bool, true, false, nat_lt, cond, is_some, Option, Some, None, List, [], ◌∷◌, ◌++◌, map, refl, ap, subst, ◌∙◌, arith}
+use Rattle.std.proofs.lemmas.Bool.Decides.{nat_tests}
+use Rattle.std.specs.Char.{IsScalar}
+use Rattle.std.specs.Cmp.{first_so, second_so}
+use Rattle.enc_units.specs.Output.{AreScalars}
+use Rattle.enc_machine.specs.Sequence.{Sequence, text_of, any_malformed}
+use Rattle.enc_machine.specs.Segmentation.{Rule, sequences_of}
+use Rattle.enc_machine.specs.Taking.{IsPiece}
+use Rattle.enc_machine.proofs.SegmentationLemmas.{sequences_of-nil}
+use Rattle.enc_encoders.specs.declared.character_set.CharacterSet.TheVariants.{Ascii}
+use Rattle.enc_encoders.specs.Stateless.{stateless, with_ascii, bytes_by}
+use Rattle.enc_encoders.specs.Text.{or_nothing, bytes_behind, bytes_of_text}
+use Rattle.enc_round_trip.specs.RoundTrip.{AreMappable}
+
+-- no sequence of these bytes is malformed, and this is their text
+pub record IsReadAs (rule : Rule) (set : ℕ) (bytes chars : List ℕ) : Type 0 where
+  pub none_malformed : any_malformed (sequences_of rule set bytes) ≡ false
+  pub text : text_of (sequences_of rule set bytes) ≡ chars
+
+pub read_nothing : (rule : Rule) (set : ℕ) → IsReadAs rule set [] []
+read_nothing rule set = record { none_malformed = ap any_malformed (sequences_of-nil rule set); text = ap text_of (sequences_of-nil rule set) }
+
+-- a character, and what is behind it
+pub read_more : (rule : Rule) (set : ℕ) (b : List ℕ) (c : ℕ) (y t : List ℕ) → IsPiece rule set b c → IsReadAs rule set y t → IsReadAs rule set (b ++ y) (c ∷ t)
+read_more rule set b c y t p h = record {
+  none_malformed = ap any_malformed (p y) ∙ h.none_malformed;
+  text = ap text_of (p y) ∙ ap (λ x. c ∷ x) h.text;
+}
+
+-- the bytes of each character are read as one character, whatever follows them
+pub record IsReadBack (rule : Rule) (bytes : ℕ → Option (List ℕ)) (back : ℕ → ℕ) : Type 0 where
+  pub each : (c : ℕ) → IsScalar c → (b : List ℕ) → bytes c ≡ Some b → IsPiece rule 0 b (back c)
+
+module _ (rule : Rule) (bytes : ℕ → Option (List ℕ)) (back : ℕ → ℕ) (h : IsReadBack rule bytes back) where
+  one : (c : ℕ) (b : Option (List ℕ)) → bytes c ≡ b → is_some b ≡ true → IsScalar c → IsPiece rule 0 (or_nothing b) (back c)
+  one c None e m s = cc
+  one c (Some b) e m s = h.each c s b e
+
+  behind_is_read : (u t : List ℕ) → AreScalars t → AreMappable (stateless bytes) t → IsReadAs rule 0 (bytes_behind (stateless bytes) Ascii u t) (map back t)
+  behind_is_read u [] s m = read_nothing rule 0
+  behind_is_read u (c ∷ t) s m =
+      read_more rule 0 (or_nothing (bytes c)) (back c) (bytes_behind (stateless bytes) Ascii (u ++ c ∷ []) t) (map back t)
+      (one c (bytes c) refl m.0 (first_so _ _ s)) (behind_is_read (u ++ c ∷ []) t (second_so _ _ s) m.1)
+
+  -- and so is a text
+  pub text_is_read : (t : List ℕ) → AreScalars t → AreMappable (stateless bytes) t → IsReadAs rule 0 (bytes_of_text (stateless bytes) Ascii t) (map back t)
+  text_is_read t s m = behind_is_read [] t s m
+
+-- by cases
+
+pub by_test : {P : Type 0} (t : Bool) (x y : Option (List ℕ)) (b : List ℕ) → (t ≡ true → x ≡ Some b → P) → (t ≡ false → y ≡ Some b → P) → cond t x y ≡ Some b → P
+by_test true x y b f g e = f refl e
+by_test false x y b f g e = g refl e
+
+pub same_bytes : (P : List ℕ → Type 0) (a b : List ℕ) → P a → Some a ≡ Some b → P b
+same_bytes P a b p e = let f : a ≡ b = cc in subst P f p
+
+pub no_bytes : {P : Type 0} (b : List ℕ) → None ≡ Some b → P
+no_bytes b e = cc
+
+-- ASCII, and the characters beyond it
+pub with_ascii_is_read : (rule : Rule) (others : ℕ → Option (List ℕ)) (back : ℕ → ℕ) → ((c : ℕ) → c < 0x80 → IsPiece rule 0 (c ∷ []) (back c))
+    → ((c : ℕ) (b : List ℕ) → 0x80 ≤ c → others c ≡ Some b → IsPiece rule 0 b (back c)) → IsReadBack rule (with_ascii others) back
+with_ascii_is_read rule others back ascii beyond = record {
+  each = λ c s b e. by_test (nat_lt c 0x80) (Some (c ∷ [])) (others c) b
+      (λ t f. same_bytes (λ x. IsPiece rule 0 x (back c)) (c ∷ []) b (ascii c (grind (arith, nat_tests))) f)
+      (λ t f. beyond c b (grind (arith, nat_tests)) f)
+      e;
+}

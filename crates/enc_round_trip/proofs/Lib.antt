@@ -1,0 +1,4 @@
+pub mod BackLemmas
+pub mod PointerLemmas
+pub mod OneByteBack
+pub mod DoubleByteBack

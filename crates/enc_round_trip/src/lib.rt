@@ -1,0 +1,4 @@
+//! What the encoders write, the decoders read back.
+#![tactic(auto)]
+
+pub mod laws;
