@@ -68,3 +68,7 @@ with_ascii_is_read rule others back ascii beyond = record {
       (λ t f. beyond c b (grind (arith, nat_tests)) f)
       e;
 }
+
+-- the same bytes, read as the same character
+pub same_char : (rule : Rule) (set : ℕ) (b : List ℕ) (c d : ℕ) → c ≡ d → IsPiece rule set b c → IsPiece rule set b d
+same_char rule set b c d e p = subst (IsPiece rule set b) e p

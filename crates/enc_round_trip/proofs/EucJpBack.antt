@@ -1,0 +1,105 @@
+-- What EUC-JP gives back.
+use Rattle.std.proofs.Common.{◌≡◌, ℕ, ◌+◌, ◌-◌, ◌*◌, ◌/◌, ◌%◌, ◌<◌, ◌≤◌, Bool, true, false, cond, nat_lt, nat_le, ◌&&◌, ◌||◌, ◌==◌, Option, Some, None, List, [], ◌∷◌, refl, ap, sym, subst, ◌∙◌, arith, if◌then◌else◌}
+use Rattle.std.proofs.lemmas.Bool.{cond-true, cond-false, and_from, and_left, lt-ltb}
+use Rattle.std.proofs.lemmas.Bool.Decides.{nat_tests}
+use Rattle.enc_index.specs.Runs.{jis0208_at}
+use Rattle.enc_pointers.specs.Pointers.{jis0208_pointer, always, never}
+use Rattle.enc_machine.specs.declared.byte_codec.Text.TheVariants.{One}
+use Rattle.enc_machine.specs.Taking.{IsPiece}
+use Rattle.enc_multi_byte.specs.DoubleByte.{text_of_char, first_prefix, single_prefix, trail_prefix}
+use Rattle.enc_multi_byte.specs.MultiByte.{multi_byte_rule}
+use Rattle.enc_multi_byte.specs.EucJp.{is_euc, euc_pointer, euc_jp_lead, euc_jp_single, euc_jp_pair as read_pair, euc_jp_prefix}
+use Rattle.enc_multi_byte.proofs.MultiBytePieces.{complete_one, complete_two}
+use Rattle.enc_encoders.specs.Japanese.{is_katakana, katakana_byte, with_wide_minus}
+use Rattle.enc_encoders.specs.EucJp.{euc_jp_pair, euc_jp_other, euc_jp_bytes}
+use Rattle.enc_round_trip.specs.RoundTrip.{with_latin}
+use Rattle.enc_round_trip.proofs.BackLemmas.{IsReadBack, with_ascii_is_read, by_test, same_bytes, same_char}
+use Rattle.enc_round_trip.proofs.PointerLemmas.{IsPointer, is_pointer, by_pointer}
+use Rattle.enc_round_trip.proofs.DoubleByteBack.{within}
+
+abbrev Piece : List ℕ → ℕ → Type 0
+Piece b c = IsPiece (multi_byte_rule euc_jp_prefix) 0 b c
+
+low_piece : (b : ℕ) → b < 0x80 → Piece (b ∷ []) b
+low_piece b l =
+    let n : euc_jp_lead b ≡ false = grind (arith, nat_tests) in
+    complete_one euc_jp_prefix b b (ap (λ t. first_prefix t (euc_jp_single b)) n ∙ ap single_prefix (cond-true _ _ _ (lt-ltb b 0x80 l)))
+
+pair_piece : (a b c : ℕ) → euc_jp_lead a ≡ true → (a == 0x8F) ≡ false → read_pair a b ≡ Some c → Piece (a ∷ b ∷ []) c
+pair_piece a b c l n e =
+    complete_two euc_jp_prefix a b c (ap (λ t. first_prefix t (euc_jp_single a)) l)
+    (cond-false _ _ _ (and_left _ _ n) ∙ ap (λ o. trail_prefix 1 b (text_of_char o)) e)
+
+-- half-width katakana behind 8E
+
+katakana_read : (c : ℕ) → 0xFF61 ≤ c → c ≤ 0xFF9F → read_pair 0x8E (katakana_byte c) ≡ Some c
+katakana_read c l h =
+    let b : (nat_le 0xA1 (katakana_byte c) && nat_le (katakana_byte c) 0xDF) ≡ true = grind (arith, nat_tests) in
+    let e : 0xFF61 + (katakana_byte c - 0xA1) ≡ c = omega arith in
+    cond-true _ _ _ b ∙ ap Some e
+
+katakana_piece : (c : ℕ) → is_katakana c ≡ true → Piece (0x8E ∷ katakana_byte c ∷ []) c
+katakana_piece c k =
+    pair_piece 0x8E (katakana_byte c) c refl refl (katakana_read c (grind (arith, nat_tests)) (grind (arith, nat_tests)))
+
+-- pairs of jis0208
+
+is_lead : (a : ℕ) → 0xA1 ≤ a → a ≤ 0xFE → euc_jp_lead a ≡ true
+is_lead a l h = grind (arith, nat_tests)
+
+two_read : (a b c : ℕ) → 0xA1 ≤ a → a ≤ 0xFE → 0xA1 ≤ b → b ≤ 0xFE → jis0208_at (euc_pointer a b) ≡ Some c → read_pair a b ≡ Some c
+two_read a b c k l m n e =
+    let other : (a == 0x8E) ≡ false = grind (arith, nat_tests) in
+    cond-false _ _ _ other ∙ cond-true _ _ _ (and_from _ _ (within 0xA1 0xFE a k l) (within 0xA1 0xFE b m n)) ∙ e
+
+two_piece : (c p : ℕ) → IsPointer jis0208_at always 8836 c p → Piece (euc_jp_pair p) c
+two_piece c p h =
+    let l = h.below in
+    let same : (p / 94 + 0xA1 - 0xA1) * 94 + (p % 94 + 0xA1 - 0xA1) ≡ p = omega arith in
+    let other : (p / 94 + 0xA1 == 0x8F) ≡ false = differs (p / 94) in
+    pair_piece (p / 94 + 0xA1) (p % 94 + 0xA1) c (is_lead (p / 94 + 0xA1) (omega arith) (omega arith)) other
+    (two_read (p / 94 + 0xA1) (p % 94 + 0xA1) c (omega arith) (omega arith) (omega arith) (omega arith) (ap jis0208_at same ∙ h.has))
+  where
+    differs : (n : ℕ) → (n + 0xA1 == 0x8F) ≡ false
+    differs n = grind (arith, nat_tests)
+
+at : (c p : ℕ) → jis0208_pointer c ≡ Some p → IsPointer jis0208_at always 8836 c p
+unfolding jis0208_pointer
+at c p f = is_pointer jis0208_at always never 8836 c p f
+
+-- all characters
+
+back : ℕ → ℕ
+back c = with_latin with_wide_minus c
+
+wide : (c : ℕ) → (c == 0xA5) ≡ false → (c == 0x203E) ≡ false → with_wide_minus c ≡ back c
+unfolding back
+wide c a b = sym (cond-false _ _ _ a ∙ cond-false _ _ _ b)
+
+low_itself : (c : ℕ) → c < 0x80 → c ≡ back c
+low_itself c l =
+    let a : (c == 0xA5) ≡ false = grind (arith, nat_tests) in
+    let b : (c == 0x203E) ≡ false = grind (arith, nat_tests) in
+    let m : (c == 0x2212) ≡ false = grind (arith, nat_tests) in
+    sym (cond-false _ _ _ m) ∙ wide c a b
+
+katakana_itself : (c : ℕ) → is_katakana c ≡ true → c ≡ with_wide_minus c
+katakana_itself c k = let m : (c == 0x2212) ≡ false = grind (arith, nat_tests) in sym (cond-false _ _ _ m)
+
+beyond : (c : ℕ) (b : List ℕ) → euc_jp_other c ≡ Some b → Piece b (back c)
+unfolding back
+beyond c b e =
+    by_test (c == 0xA5) _ _ b (λ t f.
+    same_bytes (λ x. Piece x (back c)) (0x5C ∷ []) b (same_char _ 0 (0x5C ∷ []) 0x5C (back c) (sym (cond-true _ _ _ t)) (low_piece 0x5C (omega arith))) f)
+    (λ yen. by_test (c == 0x203E) _ _ b (λ t f.
+    same_bytes (λ x. Piece x (back c)) (0x7E ∷ []) b (same_char _ 0 (0x7E ∷ []) 0x7E (back c) (sym (cond-false _ _ _ yen ∙ cond-true _ _ _ t)) (low_piece 0x7E (omega arith))) f)
+    (λ line. by_test (is_katakana c) _ _ b (λ t f.
+    same_bytes (λ x. Piece x (back c)) _ b (same_char _ 0 _ c (back c) (katakana_itself c t ∙ wide c yen line) (katakana_piece c t)) f)
+    (λ k. by_pointer (λ x. Piece x (back c)) euc_jp_pair (jis0208_pointer (with_wide_minus c)) b
+    (λ p f. same_char _ 0 (euc_jp_pair p) (with_wide_minus c) (back c) (wide c yen line) (two_piece (with_wide_minus c) p (at (with_wide_minus c) p f)))))) e
+
+pub euc_jp_is_read : IsReadBack (multi_byte_rule euc_jp_prefix) euc_jp_bytes (with_latin with_wide_minus)
+unfolding back
+euc_jp_is_read =
+    with_ascii_is_read (multi_byte_rule euc_jp_prefix) euc_jp_other back
+    (λ c l. same_char _ 0 (c ∷ []) c (back c) (low_itself c l) (low_piece c l)) (λ c b l e. beyond c b e)
