@@ -4,12 +4,12 @@ use Rattle.std.proofs.lemmas.Bool.Decides.{nat_tests}
 use Rattle.std.specs.Char.{IsScalar}
 use Rattle.std.specs.Cmp.{first_so, second_so}
 use Rattle.enc_units.specs.Output.{AreScalars}
-use Rattle.enc_machine.specs.Sequence.{Sequence, text_of, any_malformed}
+use Rattle.enc_machine.specs.Sequence.{text_of, any_malformed}
 use Rattle.enc_machine.specs.Segmentation.{Rule, sequences_of}
 use Rattle.enc_machine.specs.Taking.{IsPiece}
 use Rattle.enc_machine.proofs.SegmentationLemmas.{sequences_of-nil}
 use Rattle.enc_encoders.specs.declared.character_set.CharacterSet.TheVariants.{Ascii}
-use Rattle.enc_encoders.specs.Stateless.{stateless, with_ascii, bytes_by}
+use Rattle.enc_encoders.specs.Stateless.{stateless, with_ascii}
 use Rattle.enc_encoders.specs.Text.{or_nothing, bytes_behind, bytes_of_text}
 use Rattle.enc_round_trip.specs.RoundTrip.{AreMappable}
 

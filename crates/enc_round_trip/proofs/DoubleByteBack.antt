@@ -1,8 +1,8 @@
 -- EUC-KR and Big5 give each character back, and Shift_JIS each but a few.
-use Rattle.std.proofs.Common.{◌≡◌, ℕ, ◌+◌, ◌-◌, ◌*◌, ◌/◌, ◌%◌, ◌<◌, ◌≤◌, Bool, true, false, cond, nat_lt, nat_le, ◌&&◌, ◌||◌, ◌==◌, Option, Some, None, List, [], ◌∷◌, refl, ap, sym, subst, ◌∙◌, arith, inl, inr, if◌then◌else◌}
-use Rattle.std.proofs.lemmas.Bool.{lt-ltb, le-leb, cond-true, cond-false, and_from, or_left, or_right, cases_lt}
+use Rattle.std.proofs.Common.{◌≡◌, ℕ, ◌+◌, ◌-◌, ◌/◌, ◌%◌, ◌<◌, ◌≤◌, Bool, true, false, nat_lt, nat_le, ◌&&◌, ◌==◌, Option, Some, None, [], ◌∷◌, ap, ◌∙◌, arith, if◌then◌else◌}
+use Rattle.std.proofs.lemmas.Bool.{lt-ltb, le-leb, cond-true, cond-false, and_from}
 use Rattle.std.proofs.lemmas.Bool.Decides.{nat_tests}
-use Rattle.enc_index.specs.Runs.{euc_kr_at, big5_at, jis0208_at}
+use Rattle.enc_index.specs.Runs.{euc_kr_at, big5_at}
 use Rattle.enc_pointers.specs.Pointers.{euc_kr_pointer, big5_pointer, is_big5_pointer, is_last_in_big5, always, never}
 use Rattle.enc_machine.specs.declared.byte_codec.Text.{Text}
 use Rattle.enc_machine.specs.declared.byte_codec.Text.TheVariants.{One}

@@ -1,14 +1,13 @@
 -- What EUC-JP gives back.
-use Rattle.std.proofs.Common.{◌≡◌, ℕ, ◌+◌, ◌-◌, ◌*◌, ◌/◌, ◌%◌, ◌<◌, ◌≤◌, Bool, true, false, cond, nat_lt, nat_le, ◌&&◌, ◌||◌, ◌==◌, Option, Some, None, List, [], ◌∷◌, refl, ap, sym, subst, ◌∙◌, arith, if◌then◌else◌}
+use Rattle.std.proofs.Common.{◌≡◌, ℕ, ◌+◌, ◌-◌, ◌*◌, ◌/◌, ◌%◌, ◌<◌, ◌≤◌, true, false, nat_le, ◌&&◌, ◌==◌, Some, List, [], ◌∷◌, refl, ap, sym, ◌∙◌, arith}
 use Rattle.std.proofs.lemmas.Bool.{cond-true, cond-false, and_from, and_left, lt-ltb}
 use Rattle.std.proofs.lemmas.Bool.Decides.{nat_tests}
 use Rattle.enc_index.specs.Runs.{jis0208_at}
 use Rattle.enc_pointers.specs.Pointers.{jis0208_pointer, always, never}
-use Rattle.enc_machine.specs.declared.byte_codec.Text.TheVariants.{One}
 use Rattle.enc_machine.specs.Taking.{IsPiece}
 use Rattle.enc_multi_byte.specs.DoubleByte.{text_of_char, first_prefix, single_prefix, trail_prefix}
 use Rattle.enc_multi_byte.specs.MultiByte.{multi_byte_rule}
-use Rattle.enc_multi_byte.specs.EucJp.{is_euc, euc_pointer, euc_jp_lead, euc_jp_single, euc_jp_pair as read_pair, euc_jp_prefix}
+use Rattle.enc_multi_byte.specs.EucJp.{euc_pointer, euc_jp_lead, euc_jp_single, euc_jp_pair as read_pair, euc_jp_prefix}
 use Rattle.enc_multi_byte.proofs.MultiBytePieces.{complete_one, complete_two}
 use Rattle.enc_encoders.specs.Japanese.{is_katakana, katakana_byte, with_wide_minus}
 use Rattle.enc_encoders.specs.EucJp.{euc_jp_pair, euc_jp_other, euc_jp_bytes}

@@ -1,5 +1,5 @@
 -- gb18030 and GBK give each character back.
-use Rattle.std.proofs.Common.{◌≡◌, ℕ, ◌+◌, ◌-◌, ◌*◌, ◌/◌, ◌%◌, ◌<◌, ◌≤◌, Bool, true, false, cond, nat_lt, nat_le, ◌&&◌, ◌||◌, ◌==◌, not, Option, Some, None, List, [], ◌∷◌, refl, ap, sym, subst, ◌∙◌, arith, if◌then◌else◌}
+use Rattle.std.proofs.Common.{◌≡◌, ℕ, ◌+◌, ◌-◌, ◌/◌, ◌%◌, ◌<◌, ◌≤◌, Bool, true, false, cond, nat_lt, ◌&&◌, ◌==◌, Option, Some, None, List, [], ◌∷◌, refl, ap, subst, ◌∙◌, arith, if◌then◌else◌}
 use Rattle.std.proofs.lemmas.Bool.{cond-true, cond-false, lt-ltb}
 use Rattle.std.proofs.lemmas.Bool.Decides.{nat_tests}
 use Rattle.std.specs.Cmp.{second_so}
@@ -8,8 +8,7 @@ use Rattle.enc_pointers.specs.Pointers.{gb18030_pointer, gb18030_ranges_pointer,
 use Rattle.enc_machine.specs.declared.byte_codec.Kind.TheVariants.{Valid}
 use Rattle.enc_machine.specs.declared.byte_codec.Text.TheVariants.{One}
 use Rattle.enc_machine.specs.Taking.{IsPiece}
-use Rattle.enc_multi_byte.specs.declared.multi_byte.Prefix.{Prefix}
-use Rattle.enc_multi_byte.specs.declared.multi_byte.Prefix.TheVariants.{Complete, Malformed, Incomplete}
+use Rattle.enc_multi_byte.specs.declared.multi_byte.Prefix.TheVariants.{Complete, Incomplete}
 use Rattle.enc_multi_byte.specs.DoubleByte.{text_of_char, first_prefix, single_prefix, trail_prefix}
 use Rattle.enc_multi_byte.specs.MultiByte.{multi_byte_rule}
 use Rattle.enc_multi_byte.specs.Gb18030 as decoder

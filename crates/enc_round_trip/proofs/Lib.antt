@@ -5,3 +5,5 @@ pub mod DoubleByteBack
 pub mod ShiftJisBack
 pub mod EucJpBack
 pub mod Gb18030Back
+pub mod Iso2022JpBack
+pub mod RoundTrip

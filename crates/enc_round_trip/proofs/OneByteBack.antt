@@ -1,5 +1,5 @@
 -- UTF-8, the legacy single-byte encodings and x-user-defined give each character back.
-use Rattle.std.proofs.Common.{◌≡◌, ℕ, ◌+◌, ◌-◌, ◌<◌, ◌≤◌, Bool, true, false, nat_lt, nat_le, ◌&&◌, Option, Some, None, List, [], ◌∷◌, refl, ap, sym, ◌∙◌, arith, if◌then◌else◌}
+use Rattle.std.proofs.Common.{◌≡◌, ℕ, ◌+◌, ◌-◌, ◌<◌, ◌≤◌, true, false, nat_lt, nat_le, ◌&&◌, Option, Some, None, [], ◌∷◌, ap, sym, ◌∙◌, arith, if◌then◌else◌}
 use Rattle.std.proofs.lemmas.Bool.{lt-ltb, cond-true, cond-false}
 use Rattle.std.proofs.lemmas.Bool.Decides.{nat_tests}
 use Rattle.std.specs.Char.{encode_utf8}
@@ -13,7 +13,6 @@ use Rattle.enc_utf.specs.Utf8.{utf_8_rule}
 use Rattle.enc_utf.proofs.Utf8Pieces.{utf8_piece}
 use Rattle.enc_single_byte.specs.OneByte.{one_byte_rule, single_byte_char, x_user_defined_char}
 use Rattle.enc_single_byte.proofs.OneByteLemmas.{one_byte_piece}
-use Rattle.enc_encoders.specs.Stateless.{bytes_by}
 use Rattle.enc_encoders.specs.Utf8.{utf_8_bytes}
 use Rattle.enc_encoders.specs.SingleByte.{single_byte, single_byte_bytes, x_user_defined_other, x_user_defined_bytes}
 use Rattle.enc_round_trip.proofs.BackLemmas.{IsReadBack, with_ascii_is_read, by_test, same_bytes, no_bytes}

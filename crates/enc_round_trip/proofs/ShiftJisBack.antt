@@ -1,5 +1,5 @@
 -- What Shift_JIS gives back.
-use Rattle.std.proofs.Common.{◌≡◌, ℕ, ◌+◌, ◌-◌, ◌*◌, ◌/◌, ◌%◌, ◌<◌, ◌≤◌, Bool, true, false, cond, nat_lt, nat_le, ◌&&◌, ◌||◌, ◌==◌, Option, Some, None, List, [], ◌∷◌, refl, ap, sym, subst, ◌∙◌, arith, if◌then◌else◌}
+use Rattle.std.proofs.Common.{◌≡◌, ℕ, ◌+◌, ◌-◌, ◌*◌, ◌/◌, ◌%◌, ◌<◌, ◌≤◌, Bool, true, false, nat_lt, nat_le, ◌&&◌, ◌||◌, ◌==◌, Some, List, [], ◌∷◌, refl, ap, sym, ◌∙◌, arith, if◌then◌else◌}
 use Rattle.std.proofs.lemmas.Bool.{cond-true, cond-false, or_left, or_right, or_from}
 use Rattle.std.proofs.lemmas.Bool.Decides.{nat_tests}
 use Rattle.enc_index.specs.Runs.{jis0208_at}
@@ -8,11 +8,9 @@ use Rattle.enc_machine.specs.declared.byte_codec.Text.TheVariants.{One}
 use Rattle.enc_machine.specs.Taking.{IsPiece}
 use Rattle.enc_multi_byte.specs.DoubleByte.{text_of_char}
 use Rattle.enc_multi_byte.specs.MultiByte.{multi_byte_rule}
-use Rattle.enc_multi_byte.specs.Katakana.{katakana}
 use Rattle.enc_multi_byte.specs.ShiftJis as decoder
 use Rattle.enc_encoders.specs.Japanese.{is_katakana, katakana_byte, with_wide_minus}
 use Rattle.enc_encoders.specs.ShiftJis.{shift_jis_lead, shift_jis_trail, shift_jis_pair, shift_jis_other, shift_jis_bytes}
-use Rattle.enc_encoders.specs.Stateless.{bytes_by}
 use Rattle.enc_round_trip.specs.RoundTrip.{with_latin, or_private_use, read_in_shift_jis}
 use Rattle.enc_round_trip.proofs.BackLemmas.{IsReadBack, with_ascii_is_read, by_test, same_bytes, same_char}
 use Rattle.enc_round_trip.proofs.PointerLemmas.{IsPointer, is_pointer, by_pointer}

@@ -1,0 +1,218 @@
+-- What ISO-2022-JP gives back: escape sequences have no text, and none follows another directly.
+use Rattle.std.proofs.Common.{◌≡◌, ℕ, ◌+◌, ◌-◌, ◌*◌, ◌/◌, ◌%◌, ◌<◌, ◌≤◌, Bool, true, false, cond, eqb, nat_lt, ◌&&◌, ◌||◌, ◌==◌, not, is_some, Option, Some, None, List, [], ◌∷◌, ◌++◌, map, refl, ap, sym, subst, ◌∙◌, ◌⊎◌, arith, inl, inr}
+use Rattle.std.proofs.lemmas.Bool.{cond-true, cond-false, or_parts, or_left, or_right, or_from}
+use Rattle.std.proofs.lemmas.Bool.Decides.{nat_tests}
+use Rattle.enc_index.specs.Runs.{jis0208_at}
+use Rattle.enc_pointers.specs.Pointers.{jis0208_pointer, always, never}
+use Rattle.enc_machine.specs.Sequence.{text_of, any_malformed}
+use Rattle.enc_machine.specs.Taking.{IsPiece}
+use Rattle.enc_machine.proofs.ToldLemmas.{true_or_false}
+use Rattle.enc_iso_2022_jp.specs.declared.iso_2022_jp.CharacterSet.{CharacterSet as Read}
+use Rattle.enc_iso_2022_jp.specs.declared.iso_2022_jp.CharacterSet.TheVariants as read
+use Rattle.enc_iso_2022_jp.specs.declared.iso_2022_jp.Escape.{Escape}
+use Rattle.enc_iso_2022_jp.specs.declared.iso_2022_jp.Escape.TheVariants.{ToAscii, ToRoman, ToJis0208Of1983}
+use Rattle.enc_iso_2022_jp.specs.Iso2022Jp.{set_number, designated, is_lead, one_byte_char, two_byte_char, iso_2022_jp_rule as jp_rule}
+use Rattle.enc_iso_2022_jp.proofs.Iso2022JpLemmas.{skipped_escape}
+use Rattle.enc_iso_2022_jp.proofs.Iso2022JpRule.{other_front}
+use Rattle.enc_iso_2022_jp.proofs.Iso2022JpPieces.{alone_piece, pair_piece}
+use Rattle.enc_encoders.specs.declared.character_set.CharacterSet.{CharacterSet}
+use Rattle.enc_encoders.specs.declared.character_set.CharacterSet.TheVariants.{Ascii, Roman, Jis0208}
+use Rattle.enc_encoders.specs.Text.{escape, escape_at_end, or_nothing, bytes_behind, bytes_of_text}
+use Rattle.enc_encoders.specs.Japanese.{is_katakana}
+use Rattle.enc_encoders.specs.Iso2022Jp.{class_of, has_class, set_of_class, is_shift, looked_up, jis0208_pair, iso_2022_jp_bytes, iso_2022_jp}
+use Rattle.enc_encoders.proofs.Iso2022JpLemmas.{iso_2022_jp_is_lawful}
+use Rattle.enc_round_trip.specs.RoundTrip.{AreMappable}
+use Rattle.enc_round_trip.proofs.BackLemmas.{IsReadAs, read_nothing, read_more, by_test, same_bytes, no_bytes}
+use Rattle.enc_round_trip.proofs.PointerLemmas.{IsPointer, is_pointer, by_pointer}
+use Rattle.enc_round_trip.proofs.DoubleByteBack.{within}
+
+-- the sets that are written, as they are read
+
+abbrev pub as_read : CharacterSet → Read
+as_read Ascii = read.Ascii
+as_read Roman = read.Roman
+as_read Jis0208 = read.Jis0208
+
+abbrev number : CharacterSet → ℕ
+number s = set_number (as_read s)
+
+abbrev escape_to : CharacterSet → Escape
+escape_to Ascii = ToAscii
+escape_to Roman = ToRoman
+escape_to Jis0208 = ToJis0208Of1983
+
+-- an escape sequence has no text where none follows it directly
+behind_escape : (set : ℕ) (s : CharacterSet) (z t : List ℕ) → designated z ≡ None → IsReadAs jp_rule (number s) z t → IsReadAs jp_rule set (escape s ++ z) t
+behind_escape set Ascii z t n h = let e = skipped_escape set ToAscii z n in record { none_malformed = ap any_malformed e ∙ h.none_malformed; text = ap text_of e ∙ h.text }
+behind_escape set Roman z t n h = let e = skipped_escape set ToRoman z n in record { none_malformed = ap any_malformed e ∙ h.none_malformed; text = ap text_of e ∙ h.text }
+behind_escape set Jis0208 z t n h = let e = skipped_escape set ToJis0208Of1983 z n in record { none_malformed = ap any_malformed e ∙ h.none_malformed; text = ap text_of e ∙ h.text }
+
+-- A character's bytes are read in the set in which it is written, and begin with no escape sequence.
+record IsReadIn (s : CharacterSet) (b : List ℕ) (c : ℕ) : Type 0 where
+  piece : IsPiece jp_rule (number s) b c
+  plain : (y : List ℕ) → designated (b ++ y) ≡ None
+
+one_read : (s : CharacterSet) (b c : ℕ) → one_byte_char (as_read s) b ≡ Some c → is_lead (as_read s) b ≡ false → eqb b 0x1B ≡ false → IsReadIn s (b ∷ []) c
+one_read s b c e l n = record { piece = alone_piece (as_read s) b c e l; plain = λ y. other_front b y n }
+
+-- The set in which a character is written has it: which sets these are, by the character.
+
+has : CharacterSet → ℕ → Bool
+has s c = has_class s (class_of c)
+
+latin_set : (s : CharacterSet) (c : ℕ) → (c == 0x5C || c == 0x7E) ≡ true → has s c ≡ true → s ≡ Ascii
+unfolding has
+latin_set Ascii c k h = refl
+latin_set Roman c k h = let f = rw k at h in cc
+latin_set Jis0208 c k h = let f = rw k at h in cc
+
+neutral_set : (s : CharacterSet) (c : ℕ) → (c == 0x5C || c == 0x7E) ≡ false → nat_lt c 0x80 ≡ true → has s c ≡ true → (s ≡ Ascii) ⊎ (s ≡ Roman)
+unfolding has
+neutral_set Ascii c k l h = inl refl
+neutral_set Roman c k l h = inr refl
+neutral_set Jis0208 c k l h = let f = rw (k, l) at h in cc
+
+roman_set : (s : CharacterSet) (c : ℕ) → (c == 0x5C || c == 0x7E) ≡ false → nat_lt c 0x80 ≡ false → (c == 0xA5 || c == 0x203E) ≡ true → has s c ≡ true → s ≡ Roman
+unfolding has
+roman_set Ascii c k l r h = let f = rw (k, l, r) at h in cc
+roman_set Roman c k l r h = refl
+roman_set Jis0208 c k l r h = let f = rw (k, l, r) at h in cc
+
+kanji_set : (s : CharacterSet) (c : ℕ) → (c == 0x5C || c == 0x7E) ≡ false → nat_lt c 0x80 ≡ false → (c == 0xA5 || c == 0x203E) ≡ false → has s c ≡ true → s ≡ Jis0208
+unfolding has
+kanji_set Ascii c k l r h = let f = rw (k, l, r) at h in cc
+kanji_set Roman c k l r h = let f = rw (k, l, r) at h in cc
+kanji_set Jis0208 c k l r h = refl
+
+-- single bytes
+
+is_ascii : (c : ℕ) → nat_lt c 0x80 ≡ true → is_shift c ≡ false → (nat_lt c 0x80 && not (c == 0x0E || c == 0x0F || c == 0x1B)) ≡ true
+is_ascii c l n = rw (l, n) refl
+
+no_escape : (c : ℕ) → is_shift c ≡ false → eqb c 0x1B ≡ false
+no_escape c n = grind (arith, nat_tests)
+
+in_ascii : (c : ℕ) → nat_lt c 0x80 ≡ true → is_shift c ≡ false → IsReadIn Ascii (c ∷ []) c
+unfolding one_byte_char is_lead
+in_ascii c l n = (let t = is_ascii c l n in one_read Ascii c c (rw t refl) refl (no_escape c n))
+
+in_roman : (c : ℕ) → nat_lt c 0x80 ≡ true → is_shift c ≡ false → (c == 0x5C || c == 0x7E) ≡ false → IsReadIn Roman (c ∷ []) c
+unfolding one_byte_char is_lead
+in_roman c l n k =
+    let a = or_parts (c == 0x5C) (c == 0x7E) k in
+    let t = is_ascii c l n in
+    let b = a.0 in
+    let d = a.1 in
+    one_read Roman c c (rw (b, d, t) refl) refl (no_escape c n)
+
+yen_read : IsReadIn Roman (0x5C ∷ []) 0xA5
+unfolding one_byte_char is_lead
+yen_read = one_read Roman 0x5C 0xA5 refl refl refl
+
+line_read : IsReadIn Roman (0x7E ∷ []) 0x203E
+unfolding one_byte_char is_lead
+line_read = one_read Roman 0x7E 0x203E refl refl refl
+
+-- pairs of jis0208
+
+two_read : (a b c : ℕ) → 0x21 ≤ a → a ≤ 0x7E → 0x21 ≤ b → b ≤ 0x7E → jis0208_at ((a - 0x21) * 94 + (b - 0x21)) ≡ Some c → IsReadIn Jis0208 (a ∷ b ∷ []) c
+unfolding two_byte_char is_lead
+two_read a b c k l m n e =
+    let other : eqb a 0x1B ≡ false = grind (arith, nat_tests) in
+    record {
+      piece = pair_piece read.Jis0208 a b c (cond-true _ _ _ (within 0x21 0x7E b m n) ∙ e) (within 0x21 0x7E a k l);
+      plain = λ y. other_front a (b ∷ y) other;
+    }
+
+kanji_read : (c p : ℕ) → IsPointer jis0208_at always 8836 c p → IsReadIn Jis0208 (jis0208_pair p) c
+kanji_read c p f =
+    let l = f.below in
+    let same : (p / 94 + 0x21 - 0x21) * 94 + (p % 94 + 0x21 - 0x21) ≡ p = omega arith in
+    two_read (p / 94 + 0x21) (p % 94 + 0x21) c (omega arith) (omega arith) (omega arith) (omega arith) (ap jis0208_at same ∙ f.has)
+
+at : (c p : ℕ) → jis0208_pointer c ≡ Some p → IsPointer jis0208_at always 8836 c p
+unfolding jis0208_pointer
+at c p f = is_pointer jis0208_at always never 8836 c p f
+
+-- all characters
+
+itself : (c : ℕ) → is_katakana c ≡ false → (c == 0x2212) ≡ false → c ≡ looked_up c
+itself c k m = sym (cond-false _ _ _ k ∙ cond-false _ _ _ m)
+
+low_itself : (c : ℕ) → c < 0x80 → c ≡ looked_up c
+low_itself c l = itself c (grind (arith, nat_tests)) (grind (arith, nat_tests))
+
+valued : (s : CharacterSet) (b : List ℕ) (c d : ℕ) → c ≡ d → IsReadIn s b c → IsReadIn s b d
+valued s b c d e h = subst (IsReadIn s b) e h
+
+there : (s d : CharacterSet) (b : List ℕ) (c : ℕ) → s ≡ d → IsReadIn d b c → IsReadIn s b c
+there s d b c e h = subst (λ x. IsReadIn x b c) (sym e) h
+
+low_read : (s : CharacterSet) (c : ℕ) → has s c ≡ true → nat_lt c 0x80 ≡ true → is_shift c ≡ false → IsReadIn s (c ∷ []) (looked_up c)
+low_read s c h t n =
+    valued s (c ∷ []) c (looked_up c) (low_itself c (grind (arith, nat_tests)))
+    (elim (true_or_false (c == 0x5C || c == 0x7E)) [
+      | inl k ↦ there s Ascii (c ∷ []) c (latin_set s c k h) (in_ascii c t n)
+      | inr k ↦ elim (neutral_set s c k t h) [
+        | inl e ↦ there s Ascii (c ∷ []) c e (in_ascii c t n)
+        | inr e ↦ there s Roman (c ∷ []) c e (in_roman c t n k)
+      ]
+    ])
+
+no_latin : (c : ℕ) → nat_lt c 0x80 ≡ false → (c == 0x5C || c == 0x7E) ≡ false
+no_latin c l = grind (arith, nat_tests)
+
+char_read : (s : CharacterSet) (c : ℕ) (b : List ℕ) → has s c ≡ true → iso_2022_jp_bytes c ≡ Some b → IsReadIn s b (looked_up c)
+char_read s c b h e =
+    by_test (nat_lt c 0x80) _ _ b
+    (λ t. by_test (is_shift c) None (Some (c ∷ [])) b (λ n f. no_bytes b f)
+    (λ n f. same_bytes (λ x. IsReadIn s x (looked_up c)) (c ∷ []) b (low_read s c h t n) f))
+    (λ l. by_test (c == 0xA5) _ _ b
+    (λ t f. (let r : 0xA5 ≡ c = grind (arith, nat_tests) in
+    same_bytes (λ x. IsReadIn s x (looked_up c)) (0x5C ∷ []) b
+    (there s Roman (0x5C ∷ []) (looked_up c) (roman_set s c (no_latin c l) l (or_left _ _ t) h) (valued Roman (0x5C ∷ []) 0xA5 (looked_up c) (ap looked_up r) yen_read)) f))
+    (λ yen. by_test (c == 0x203E) _ _ b
+    (λ t f. (let r : 0x203E ≡ c = grind (arith, nat_tests) in
+    same_bytes (λ x. IsReadIn s x (looked_up c)) (0x7E ∷ []) b
+    (there s Roman (0x7E ∷ []) (looked_up c) (roman_set s c (no_latin c l) l (or_right _ _ t) h) (valued Roman (0x7E ∷ []) 0x203E (looked_up c) (ap looked_up r) line_read)) f))
+    (λ line f. by_pointer (λ x. IsReadIn s x (looked_up c)) jis0208_pair (jis0208_pointer (looked_up c)) b
+    (λ p g. there s Jis0208 (jis0208_pair p) (looked_up c) (kanji_set s c (no_latin c l) l (or_from _ _ yen line) h)
+    (kanji_read (looked_up c) p (at (looked_up c) p g))) f))) e
+
+-- texts
+
+one : (s : CharacterSet) (c : ℕ) (b : Option (List ℕ)) → has s c ≡ true → iso_2022_jp_bytes c ≡ b → is_some b ≡ true → IsReadIn s (or_nothing b) (looked_up c)
+one s c None h e m = cc
+one s c (Some b) h e m = char_read s c b h e
+
+char_then : (s : CharacterSet) (b y t : List ℕ) (c : ℕ) → IsReadIn s b c → IsReadAs jp_rule (number s) y t → IsReadAs jp_rule (number s) (b ++ y) (c ∷ t)
+char_then s b y t c p h = read_more jp_rule (number s) b c y t p.piece h
+
+-- the bytes of a character with the escape sequence before it, by whether the set in force has it
+step : (s : CharacterSet) (c : ℕ) (y t : List ℕ) (is_there : Bool) → has s c ≡ is_there → is_some (iso_2022_jp_bytes c) ≡ true
+    → IsReadAs jp_rule (number (cond is_there s (set_of_class (class_of c)))) y t
+    → IsReadAs jp_rule (number s) (cond is_there [] (escape (set_of_class (class_of c))) ++ (or_nothing (iso_2022_jp_bytes c) ++ y)) (looked_up c ∷ t)
+unfolding has
+step s c y t true e m h = char_then s _ y t (looked_up c) (one s c (iso_2022_jp_bytes c) e refl m) h
+step s c y t false e m h =
+    let d = set_of_class (class_of c) in
+    let p = one d c (iso_2022_jp_bytes c) (iso_2022_jp_is_lawful.designates c) refl m in
+    behind_escape (number s) d (or_nothing (iso_2022_jp_bytes c) ++ y) (looked_up c ∷ t) (p.plain y) (char_then d _ y t (looked_up c) p h)
+
+ends : (s : CharacterSet) → IsReadAs jp_rule (number s) (escape_at_end s) []
+ends Ascii = read_nothing jp_rule 0
+ends Roman = behind_escape 1 Ascii [] [] refl (read_nothing jp_rule 0)
+ends Jis0208 = behind_escape 3 Ascii [] [] refl (read_nothing jp_rule 0)
+
+behind_is_read : (u t : List ℕ) → AreMappable iso_2022_jp t
+    → IsReadAs jp_rule (number (iso_2022_jp.set_after Ascii u)) (bytes_behind iso_2022_jp Ascii u t) (map looked_up t)
+unfolding has
+behind_is_read u [] m = ends (iso_2022_jp.set_after Ascii u)
+behind_is_read u (c ∷ t) m =
+    let s = iso_2022_jp.set_after Ascii u in
+    let rest = bytes_behind iso_2022_jp Ascii (u ++ c ∷ []) t in
+    step s c rest (map looked_up t) (has s c) refl m.0
+    (subst (λ x. IsReadAs jp_rule (number x) rest (map looked_up t)) (iso_2022_jp_is_lawful.set_after_more Ascii u c) (behind_is_read (u ++ c ∷ []) t m.1))
+
+pub iso_2022_jp_is_read : (t : List ℕ) → AreMappable iso_2022_jp t → IsReadAs jp_rule 0 (bytes_of_text iso_2022_jp Ascii t) (map looked_up t)
+iso_2022_jp_is_read t m = behind_is_read [] t m

@@ -1,0 +1,69 @@
+-- What each encoder writes, its decoder reads back: the one proof that goes through all codecs.
+use Rattle.std.proofs.Common.{◌≡◌, ℕ, true, false, Option, Some, None, List, [], ◌∷◌, map, refl, ap, subst, ◌∙◌}
+use Rattle.enc_units.specs.Output.{AreScalars}
+use Rattle.enc_machine.specs.Sequence.{text_of}
+use Rattle.enc_machine.specs.Segmentation.{sequences_of}
+use Rattle.enc_codec.specs.declared.codec.Codec.{Codec}
+use Rattle.enc_codec.specs.declared.codec.Codec.TheVariants.{Utf8, Utf16Be, Utf16Le, SingleByte, Big5, EucKr, ShiftJis, EucJp, Gbk, Gb18030, Iso2022Jp, XUserDefined, Replacement}
+use Rattle.enc_codec.specs.Codecs.{codec_rule}
+use Rattle.enc_encoders.specs.declared.character_set.CharacterSet.TheVariants.{Ascii}
+use Rattle.enc_encoders.specs.EncoderRule.{EncoderRule}
+use Rattle.enc_encoders.specs.Text.{bytes_of_text}
+use Rattle.enc_encode.specs.Encoders.{encoder_rule}
+use Rattle.enc_round_trip.specs.RoundTrip.{AreMappable, read_back, keeps_characters}
+use Rattle.enc_round_trip.proofs.BackLemmas.{IsReadAs, text_is_read}
+use Rattle.enc_round_trip.proofs.OneByteBack.{utf_8_is_read, single_byte_is_read, x_user_defined_is_read}
+use Rattle.enc_round_trip.proofs.DoubleByteBack.{euc_kr_is_read, big5_is_read}
+use Rattle.enc_round_trip.proofs.ShiftJisBack.{shift_jis_is_read}
+use Rattle.enc_round_trip.proofs.EucJpBack.{euc_jp_is_read}
+use Rattle.enc_round_trip.proofs.Gb18030Back.{gb18030_is_read}
+use Rattle.enc_round_trip.proofs.Iso2022JpBack.{iso_2022_jp_is_read}
+
+abbrev pub IsReadIfAny : Codec → Option EncoderRule → Type 0
+IsReadIfAny codec None = Unit {0}
+IsReadIfAny codec (Some e) = (t : List ℕ) → AreScalars t → AreMappable e t → IsReadAs (codec_rule codec) 0 (bytes_of_text e Ascii t) (map (read_back codec) t)
+
+pub read_if_any : (c : Codec) → IsReadIfAny c (encoder_rule c)
+read_if_any Utf8 = text_is_read _ _ _ utf_8_is_read
+read_if_any Utf16Be = tt
+read_if_any Utf16Le = tt
+read_if_any Replacement = tt
+read_if_any (SingleByte index) = text_is_read _ _ _ (single_byte_is_read index)
+read_if_any Big5 = text_is_read _ _ _ big5_is_read
+read_if_any EucKr = text_is_read _ _ _ euc_kr_is_read
+read_if_any ShiftJis = text_is_read _ _ _ shift_jis_is_read
+read_if_any EucJp = text_is_read _ _ _ euc_jp_is_read
+read_if_any Gbk = text_is_read _ _ _ (gb18030_is_read true)
+read_if_any Gb18030 = text_is_read _ _ _ (gb18030_is_read false)
+read_if_any XUserDefined = text_is_read _ _ _ x_user_defined_is_read
+read_if_any Iso2022Jp = λ t s m. iso_2022_jp_is_read t m
+
+-- by the rule that the codec has
+pub is_read : (c : Codec) (e : EncoderRule) (t : List ℕ) → encoder_rule c ≡ Some e → AreScalars t → AreMappable e t
+    → IsReadAs (codec_rule c) 0 (bytes_of_text e Ascii t) (map (read_back c) t)
+is_read c e t q = (subst (IsReadIfAny c) q (read_if_any c)) t
+
+-- each character is read back as itself, where the codec keeps characters
+
+map_of : (f : ℕ → ℕ) → ((c : ℕ) → f c ≡ c) → (t : List ℕ) → map f t ≡ t
+map_of f h [] = refl
+map_of f h (c ∷ t) = ap (λ x. x ∷ map f t) (h c) ∙ ap (λ x. c ∷ x) (map_of f h t)
+
+keeps : (c : Codec) → keeps_characters c ≡ true → (n : ℕ) → read_back c n ≡ n
+keeps Utf8 h n = refl
+keeps Utf16Be h n = refl
+keeps Utf16Le h n = refl
+keeps Replacement h n = refl
+keeps (SingleByte index) h n = refl
+keeps Big5 h n = refl
+keeps EucKr h n = refl
+keeps Gbk h n = refl
+keeps Gb18030 h n = refl
+keeps XUserDefined h n = refl
+keeps ShiftJis h n = cc
+keeps EucJp h n = cc
+keeps Iso2022Jp h n = cc
+
+pub same_text : (c : Codec) (e : EncoderRule) (t : List ℕ) → encoder_rule c ≡ Some e → AreScalars t → AreMappable e t → keeps_characters c ≡ true
+    → text_of (sequences_of (codec_rule c) 0 (bytes_of_text e Ascii t)) ≡ t
+same_text c e t q s m k = (is_read c e t q s m).text ∙ map_of (read_back c) (keeps c k) t
