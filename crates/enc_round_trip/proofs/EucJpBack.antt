@@ -1,9 +1,9 @@
 -- What EUC-JP gives back.
-use Rattle.std.proofs.Common.{◌≡◌, ℕ, ◌+◌, ◌-◌, ◌*◌, ◌/◌, ◌%◌, ◌<◌, ◌≤◌, true, false, nat_le, ◌&&◌, ◌==◌, Some, List, [], ◌∷◌, refl, ap, sym, ◌∙◌, arith}
+use Rattle.std.proofs.Common.{◌≡◌, ℕ, ◌+◌, ◌-◌, ◌*◌, ◌/◌, ◌%◌, ◌<◌, ◌≤◌, true, false, ◌==◌, Some, List, [], ◌∷◌, refl, ap, sym, ◌∙◌, arith}
 use Rattle.std.proofs.lemmas.Bool.{cond-true, cond-false, and_from, and_left, lt-ltb}
 use Rattle.std.proofs.lemmas.Bool.Decides.{nat_tests}
 use Rattle.enc_index.specs.Runs.{jis0208_at}
-use Rattle.enc_pointers.specs.Pointers.{jis0208_pointer, always, never}
+use Rattle.enc_pointers.specs.Pointers.{jis0208_pointer, always}
 use Rattle.enc_machine.specs.Taking.{IsPiece}
 use Rattle.enc_multi_byte.specs.DoubleByte.{text_of_char, first_prefix, single_prefix, trail_prefix}
 use Rattle.enc_multi_byte.specs.MultiByte.{multi_byte_rule}
@@ -13,8 +13,9 @@ use Rattle.enc_encoders.specs.Japanese.{is_katakana, katakana_byte, with_wide_mi
 use Rattle.enc_encoders.specs.EucJp.{euc_jp_pair, euc_jp_other, euc_jp_bytes}
 use Rattle.enc_round_trip.specs.RoundTrip.{with_latin}
 use Rattle.enc_round_trip.proofs.BackLemmas.{IsReadBack, with_ascii_is_read, by_test, same_bytes, same_char}
-use Rattle.enc_round_trip.proofs.PointerLemmas.{IsPointer, is_pointer, by_pointer}
+use Rattle.enc_round_trip.proofs.PointerLemmas.{IsPointer, by_pointer}
 use Rattle.enc_round_trip.proofs.DoubleByteBack.{within}
+use Rattle.enc_round_trip.proofs.JapaneseBack.{at_jis0208_pointer, katakana_byte_is_read, low_not_latin, latin_is_read}
 
 abbrev Piece : List ℕ → ℕ → Type 0
 Piece b c = IsPiece (multi_byte_rule euc_jp_prefix) 0 b c
@@ -30,16 +31,8 @@ pair_piece a b c l n e =
     (cond-false _ _ _ (and_left _ _ n) ∙ ap (λ o. trail_prefix 1 b (text_of_char o)) e)
 
 -- half-width katakana behind 8E
-
-katakana_read : (c : ℕ) → 0xFF61 ≤ c → c ≤ 0xFF9F → read_pair 0x8E (katakana_byte c) ≡ Some c
-katakana_read c l h =
-    let b : (nat_le 0xA1 (katakana_byte c) && nat_le (katakana_byte c) 0xDF) ≡ true = grind (arith, nat_tests) in
-    let e : 0xFF61 + (katakana_byte c - 0xA1) ≡ c = omega arith in
-    cond-true _ _ _ b ∙ ap Some e
-
 katakana_piece : (c : ℕ) → is_katakana c ≡ true → Piece (0x8E ∷ katakana_byte c ∷ []) c
-katakana_piece c k =
-    pair_piece 0x8E (katakana_byte c) c refl refl (katakana_read c (grind (arith, nat_tests)) (grind (arith, nat_tests)))
+katakana_piece c k = pair_piece 0x8E (katakana_byte c) c refl refl (katakana_byte_is_read c k)
 
 -- pairs of jis0208
 
@@ -62,43 +55,21 @@ two_piece c p h =
     differs : (n : ℕ) → (n + 0xA1 == 0x8F) ≡ false
     differs n = grind (arith, nat_tests)
 
-at : (c p : ℕ) → jis0208_pointer c ≡ Some p → IsPointer jis0208_at always 8836 c p
-unfolding jis0208_pointer
-at c p f = is_pointer jis0208_at always never 8836 c p f
-
 -- all characters
 
-back : ℕ → ℕ
-back c = with_latin with_wide_minus c
+itself : (c : ℕ) → (c == 0x2212) ≡ false → c ≡ with_wide_minus c
+itself c n = sym (cond-false _ _ _ n)
 
-wide : (c : ℕ) → (c == 0xA5) ≡ false → (c == 0x203E) ≡ false → with_wide_minus c ≡ back c
-unfolding back
-wide c a b = sym (cond-false _ _ _ a ∙ cond-false _ _ _ b)
-
-low_itself : (c : ℕ) → c < 0x80 → c ≡ back c
-low_itself c l =
-    let a : (c == 0xA5) ≡ false = grind (arith, nat_tests) in
-    let b : (c == 0x203E) ≡ false = grind (arith, nat_tests) in
-    let m : (c == 0x2212) ≡ false = grind (arith, nat_tests) in
-    sym (cond-false _ _ _ m) ∙ wide c a b
-
-katakana_itself : (c : ℕ) → is_katakana c ≡ true → c ≡ with_wide_minus c
-katakana_itself c k = let m : (c == 0x2212) ≡ false = grind (arith, nat_tests) in sym (cond-false _ _ _ m)
-
-beyond : (c : ℕ) (b : List ℕ) → euc_jp_other c ≡ Some b → Piece b (back c)
-unfolding back
-beyond c b e =
-    by_test (c == 0xA5) _ _ b (λ t f.
-    same_bytes (λ x. Piece x (back c)) (0x5C ∷ []) b (same_char _ 0 (0x5C ∷ []) 0x5C (back c) (sym (cond-true _ _ _ t)) (low_piece 0x5C (omega arith))) f)
-    (λ yen. by_test (c == 0x203E) _ _ b (λ t f.
-    same_bytes (λ x. Piece x (back c)) (0x7E ∷ []) b (same_char _ 0 (0x7E ∷ []) 0x7E (back c) (sym (cond-false _ _ _ yen ∙ cond-true _ _ _ t)) (low_piece 0x7E (omega arith))) f)
-    (λ line. by_test (is_katakana c) _ _ b (λ t f.
-    same_bytes (λ x. Piece x (back c)) _ b (same_char _ 0 _ c (back c) (katakana_itself c t ∙ wide c yen line) (katakana_piece c t)) f)
-    (λ k. by_pointer (λ x. Piece x (back c)) euc_jp_pair (jis0208_pointer (with_wide_minus c)) b
-    (λ p f. same_char _ 0 (euc_jp_pair p) (with_wide_minus c) (back c) (wide c yen line) (two_piece (with_wide_minus c) p (at (with_wide_minus c) p f)))))) e
+beyond : (c : ℕ) (b : List ℕ) → euc_jp_other c ≡ Some b → Piece b (with_latin with_wide_minus c)
+beyond c b =
+    latin_is_read (multi_byte_rule euc_jp_prefix) _ with_wide_minus c b low_piece
+    (λ yen line. by_test (is_katakana c) _ _ b
+    (λ k. same_bytes (λ x. Piece x (with_wide_minus c)) _ b (same_char _ 0 _ c (with_wide_minus c) (itself c (grind (arith, nat_tests))) (katakana_piece c k)))
+    (λ k. by_pointer (λ x. Piece x (with_wide_minus c)) euc_jp_pair (jis0208_pointer (with_wide_minus c)) b
+    (λ p f. two_piece (with_wide_minus c) p (at_jis0208_pointer (with_wide_minus c) p f))))
 
 pub euc_jp_is_read : IsReadBack (multi_byte_rule euc_jp_prefix) euc_jp_bytes (with_latin with_wide_minus)
-unfolding back
 euc_jp_is_read =
-    with_ascii_is_read (multi_byte_rule euc_jp_prefix) euc_jp_other back
-    (λ c l. same_char _ 0 (c ∷ []) c (back c) (low_itself c l) (low_piece c l)) (λ c b l e. beyond c b e)
+    with_ascii_is_read (multi_byte_rule euc_jp_prefix) euc_jp_other (with_latin with_wide_minus)
+    (λ c l. same_char _ 0 (c ∷ []) c (with_latin with_wide_minus c) (itself c (grind (arith, nat_tests)) ∙ low_not_latin with_wide_minus c (omega arith)) (low_piece c l))
+    (λ c b l. beyond c b)

@@ -3,7 +3,7 @@ use Rattle.std.proofs.Common.{◌≡◌, ℕ, ◌+◌, ◌-◌, ◌*◌, ◌/◌
 use Rattle.std.proofs.lemmas.Bool.{cond-true, cond-false, or_parts, or_left, or_right, or_from}
 use Rattle.std.proofs.lemmas.Bool.Decides.{nat_tests}
 use Rattle.enc_index.specs.Runs.{jis0208_at}
-use Rattle.enc_pointers.specs.Pointers.{jis0208_pointer, always, never}
+use Rattle.enc_pointers.specs.Pointers.{jis0208_pointer, always}
 use Rattle.enc_machine.specs.Sequence.{text_of, any_malformed}
 use Rattle.enc_machine.specs.Taking.{IsPiece}
 use Rattle.enc_machine.proofs.ToldLemmas.{true_or_false}
@@ -23,8 +23,9 @@ use Rattle.enc_encoders.specs.Iso2022Jp.{class_of, has_class, set_of_class, is_s
 use Rattle.enc_encoders.proofs.Iso2022JpLemmas.{iso_2022_jp_is_lawful}
 use Rattle.enc_round_trip.specs.RoundTrip.{AreMappable}
 use Rattle.enc_round_trip.proofs.BackLemmas.{IsReadAs, read_nothing, read_more, by_test, same_bytes, no_bytes}
-use Rattle.enc_round_trip.proofs.PointerLemmas.{IsPointer, is_pointer, by_pointer}
+use Rattle.enc_round_trip.proofs.PointerLemmas.{IsPointer, by_pointer}
 use Rattle.enc_round_trip.proofs.DoubleByteBack.{within}
+use Rattle.enc_round_trip.proofs.JapaneseBack.{at_jis0208_pointer}
 
 -- the sets that are written, as they are read
 
@@ -130,10 +131,6 @@ kanji_read c p f =
     let same : (p / 94 + 0x21 - 0x21) * 94 + (p % 94 + 0x21 - 0x21) ≡ p = omega arith in
     two_read (p / 94 + 0x21) (p % 94 + 0x21) c (omega arith) (omega arith) (omega arith) (omega arith) (ap jis0208_at same ∙ f.has)
 
-at : (c p : ℕ) → jis0208_pointer c ≡ Some p → IsPointer jis0208_at always 8836 c p
-unfolding jis0208_pointer
-at c p f = is_pointer jis0208_at always never 8836 c p f
-
 -- all characters
 
 itself : (c : ℕ) → is_katakana c ≡ false → (c == 0x2212) ≡ false → c ≡ looked_up c
@@ -177,7 +174,7 @@ char_read s c b h e =
     (there s Roman (0x7E ∷ []) (looked_up c) (roman_set s c (no_latin c l) l (or_right _ _ t) h) (valued Roman (0x7E ∷ []) 0x203E (looked_up c) (ap looked_up r) line_read)) f))
     (λ line f. by_pointer (λ x. IsReadIn s x (looked_up c)) jis0208_pair (jis0208_pointer (looked_up c)) b
     (λ p g. there s Jis0208 (jis0208_pair p) (looked_up c) (kanji_set s c (no_latin c l) l (or_from _ _ yen line) h)
-    (kanji_read (looked_up c) p (at (looked_up c) p g))) f))) e
+    (kanji_read (looked_up c) p (at_jis0208_pointer (looked_up c) p g))) f))) e
 
 -- texts
 

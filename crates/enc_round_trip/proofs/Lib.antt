@@ -2,8 +2,9 @@ pub mod BackLemmas
 pub mod PointerLemmas
 pub mod OneByteBack
 pub mod DoubleByteBack
+pub mod Gb18030Back
+pub mod JapaneseBack
 pub mod ShiftJisBack
 pub mod EucJpBack
-pub mod Gb18030Back
 pub mod Iso2022JpBack
-pub mod RoundTrip
+pub mod RoundTripLemmas

@@ -1,5 +1,5 @@
 -- What Shift_JIS gives back.
-use Rattle.std.proofs.Common.{◌≡◌, ℕ, ◌+◌, ◌-◌, ◌*◌, ◌/◌, ◌%◌, ◌<◌, ◌≤◌, Bool, true, false, nat_lt, nat_le, ◌&&◌, ◌||◌, ◌==◌, Some, List, [], ◌∷◌, refl, ap, sym, ◌∙◌, arith, if◌then◌else◌}
+use Rattle.std.proofs.Common.{◌≡◌, ℕ, ◌+◌, ◌-◌, ◌*◌, ◌/◌, ◌%◌, ◌<◌, ◌≤◌, Bool, true, false, nat_lt, nat_le, ◌&&◌, ◌||◌, ◌==◌, Some, List, [], ◌∷◌, refl, ap, sym, ◌∙◌, arith, le-leb, if◌then◌else◌}
 use Rattle.std.proofs.lemmas.Bool.{cond-true, cond-false, or_left, or_right, or_from}
 use Rattle.std.proofs.lemmas.Bool.Decides.{nat_tests}
 use Rattle.enc_index.specs.Runs.{jis0208_at}
@@ -15,6 +15,7 @@ use Rattle.enc_round_trip.specs.RoundTrip.{with_latin, or_private_use, read_in_s
 use Rattle.enc_round_trip.proofs.BackLemmas.{IsReadBack, with_ascii_is_read, by_test, same_bytes, same_char}
 use Rattle.enc_round_trip.proofs.PointerLemmas.{IsPointer, is_pointer, by_pointer}
 use Rattle.enc_round_trip.proofs.DoubleByteBack.{single_piece, pair_piece}
+use Rattle.enc_round_trip.proofs.JapaneseBack.{katakana_byte_is_read, low_not_latin, latin_is_read}
 
 -- a row tells its lead, and a cell its trail, and the other way
 
@@ -47,9 +48,9 @@ is_pair : (c p : ℕ) → IsPointer jis0208_at is_shift_jis_pointer 11280 c p
 is_pair c p h =
     ap text_of_char (cond-true _ _ _ (is_trail (p % 188) (omega arith)) ∙ ap decoder.shift_jis_char (pointer_of_pair p h.below) ∙ char_at _ p c refl h.has)
 
-at : (c p : ℕ) → shift_jis_pointer c ≡ Some p → IsPointer jis0208_at is_shift_jis_pointer 11280 c p
+at_pointer : (c p : ℕ) → shift_jis_pointer c ≡ Some p → IsPointer jis0208_at is_shift_jis_pointer 11280 c p
 unfolding shift_jis_pointer
-at c p f = is_pointer jis0208_at is_shift_jis_pointer never 11280 c p f
+at_pointer c p f = is_pointer jis0208_at is_shift_jis_pointer never 11280 c p f
 
 -- single bytes
 
@@ -65,62 +66,46 @@ katakana_piece : (c : ℕ) → is_katakana c ≡ true → Piece (katakana_byte c
 katakana_piece c k =
     let low : 0xFF61 ≤ c = grind (arith, nat_tests) in
     let high : c ≤ 0xFF9F = grind (arith, nat_tests) in
-    single_piece decoder.shift_jis_lead decoder.shift_jis_single decoder.shift_jis_pair (katakana_byte c) c (not_lead c low high) (single c low high)
+    single_piece decoder.shift_jis_lead decoder.shift_jis_single decoder.shift_jis_pair (katakana_byte c) c (not_lead c low high)
+    (cond-false _ _ _ (not_low c low) ∙ katakana_byte_is_read c k)
   where
     not_lead : (c : ℕ) → 0xFF61 ≤ c → c ≤ 0xFF9F → decoder.shift_jis_lead (katakana_byte c) ≡ false
     not_lead c l h = grind (arith, nat_tests)
 
-    single : (c : ℕ) → 0xFF61 ≤ c → c ≤ 0xFF9F → decoder.shift_jis_single (katakana_byte c) ≡ Some c
-    single c l h =
-        let a : nat_le (katakana_byte c) 0x80 ≡ false = grind (arith, nat_tests) in
-        let b : (nat_le 0xA1 (katakana_byte c) && nat_le (katakana_byte c) 0xDF) ≡ true = grind (arith, nat_tests) in
-        let e : 0xFF61 + (katakana_byte c - 0xA1) ≡ c = omega arith in
-        cond-false _ _ _ a ∙ cond-true _ _ _ b ∙ ap Some e
+    not_low : (c : ℕ) → 0xFF61 ≤ c → nat_le (katakana_byte c) 0x80 ≡ false
+    not_low c l = grind (arith, nat_tests)
 
 -- all characters
 
-back : ℕ → ℕ
-back c = with_latin read_in_shift_jis c
+itself : (c : ℕ) → (nat_le c 0x80 || is_katakana c) ≡ true → c ≡ read_in_shift_jis c
+itself c t = sym (cond-true _ _ _ t)
 
-plain : (c : ℕ) → (c == 0xA5) ≡ false → (c == 0x203E) ≡ false → read_in_shift_jis c ≡ back c
-unfolding back
-plain c a b = sym (cond-false _ _ _ a ∙ cond-false _ _ _ b)
+low_itself : (c : ℕ) → c ≤ 0x80 → c ≡ with_latin read_in_shift_jis c
+low_itself c l = itself c (or_left _ _ (le-leb c 0x80 l)) ∙ low_not_latin read_in_shift_jis c l
 
-itself : (c : ℕ) → (c == 0xA5) ≡ false → (c == 0x203E) ≡ false → (nat_le c 0x80 || is_katakana c) ≡ true → c ≡ back c
-itself c a b t = sym (cond-true _ _ _ t) ∙ plain c a b
-
-low_itself : (c : ℕ) → c ≤ 0x80 → c ≡ back c
-low_itself c l =
-    let a : (c == 0xA5) ≡ false = grind (arith, nat_tests) in
-    let b : (c == 0x203E) ≡ false = grind (arith, nat_tests) in
-    let t : nat_le c 0x80 ≡ true = grind (arith, nat_tests) in
-    itself c a b (or_left _ _ t)
-
-by_index : (c p : ℕ) → (c == 0xA5) ≡ false → (c == 0x203E) ≡ false → nat_le c 0x80 ≡ false → is_katakana c ≡ false → shift_jis_pointer (with_wide_minus c) ≡ Some p → Piece (shift_jis_pair p) (back c)
-by_index c p a b l k f =
-    let h = at (with_wide_minus c) p f in
-    let e : or_private_use (with_wide_minus c) (Some p) ≡ back c =
-    ap (or_private_use (with_wide_minus c)) (sym f) ∙ sym (cond-false _ _ _ (or_from _ _ l k)) ∙ plain c a b in
-    same_char _ 0 (shift_jis_pair p) _ (back c) e
+by_index : (c p : ℕ) → nat_le c 0x80 ≡ false → is_katakana c ≡ false → shift_jis_pointer (with_wide_minus c) ≡ Some p → Piece (shift_jis_pair p) (read_in_shift_jis c)
+by_index c p l k f =
+    let h = at_pointer (with_wide_minus c) p f in
+    let e : or_private_use (with_wide_minus c) (Some p) ≡ read_in_shift_jis c =
+    ap (or_private_use (with_wide_minus c)) (sym f) ∙ sym (cond-false _ _ _ (or_from _ _ l k)) in
+    same_char _ 0 (shift_jis_pair p) _ (read_in_shift_jis c) e
     (pair_piece decoder.shift_jis_lead decoder.shift_jis_single decoder.shift_jis_pair (shift_jis_lead (p / 188)) (shift_jis_trail (p % 188)) _
     (is_lead (p / 188) (let l = h.below in omega arith)) (is_pair (with_wide_minus c) p h))
 
-beyond : (c : ℕ) (b : List ℕ) → 0x80 ≤ c → shift_jis_other c ≡ Some b → Piece b (back c)
-unfolding back
-beyond c b l e =
-    by_test (c == 0x80) _ _ b (λ t f. (let s : c ≡ 0x80 = grind (arith, nat_tests) in
-    same_bytes (λ x. Piece x (back c)) (0x80 ∷ []) b (same_char _ 0 (0x80 ∷ []) 0x80 (back c) (sym s ∙ low_itself c (omega arith)) (low_piece 0x80 (omega arith))) f))
-    (λ n. by_test (c == 0xA5) _ _ b (λ t f.
-    same_bytes (λ x. Piece x (back c)) (0x5C ∷ []) b (same_char _ 0 (0x5C ∷ []) 0x5C (back c) (sym (cond-true _ _ _ t)) (low_piece 0x5C (omega arith))) f)
-    (λ yen. by_test (c == 0x203E) _ _ b (λ t f.
-    same_bytes (λ x. Piece x (back c)) (0x7E ∷ []) b (same_char _ 0 (0x7E ∷ []) 0x7E (back c) (sym (cond-false _ _ _ yen ∙ cond-true _ _ _ t)) (low_piece 0x7E (omega arith))) f)
-    (λ line. by_test (is_katakana c) _ _ b (λ t f.
-    same_bytes (λ x. Piece x (back c)) (katakana_byte c ∷ []) b (same_char _ 0 (katakana_byte c ∷ []) c (back c) (itself c yen line (or_right _ _ t)) (katakana_piece c t)) f)
-    (λ k. by_pointer (λ x. Piece x (back c)) shift_jis_pair (shift_jis_pointer (with_wide_minus c)) b
-    (λ p f. by_index c p yen line (grind (arith, nat_tests)) k f))))) e
+beyond : (c : ℕ) (b : List ℕ) → 0x80 ≤ c → shift_jis_other c ≡ Some b → Piece b (with_latin read_in_shift_jis c)
+beyond c b l =
+    by_test (c == 0x80) _ _ b
+    (λ t. (let s : 0x80 ≡ c = grind (arith, nat_tests) in
+    same_bytes (λ x. Piece x (with_latin read_in_shift_jis c)) (0x80 ∷ []) b
+    (same_char _ 0 (0x80 ∷ []) 0x80 (with_latin read_in_shift_jis c) (s ∙ low_itself c (omega arith)) (low_piece 0x80 (omega arith)))))
+    (λ n. latin_is_read (multi_byte_rule decoder.shift_jis_prefix) _ read_in_shift_jis c b (λ a m. low_piece a (omega arith))
+    (λ yen line. by_test (is_katakana c) _ _ b
+    (λ k. same_bytes (λ x. Piece x (read_in_shift_jis c)) (katakana_byte c ∷ []) b
+    (same_char _ 0 (katakana_byte c ∷ []) c (read_in_shift_jis c) (itself c (or_right _ _ k)) (katakana_piece c k)))
+    (λ k. by_pointer (λ x. Piece x (read_in_shift_jis c)) shift_jis_pair (shift_jis_pointer (with_wide_minus c)) b
+    (λ p. by_index c p (grind (arith, nat_tests)) k))))
 
 pub shift_jis_is_read : IsReadBack (multi_byte_rule decoder.shift_jis_prefix) shift_jis_bytes (with_latin read_in_shift_jis)
-unfolding back
 shift_jis_is_read =
-    with_ascii_is_read (multi_byte_rule decoder.shift_jis_prefix) shift_jis_other back
-    (λ c l. same_char _ 0 (c ∷ []) c (back c) (low_itself c (omega arith)) (low_piece c (omega arith))) beyond
+    with_ascii_is_read (multi_byte_rule decoder.shift_jis_prefix) shift_jis_other (with_latin read_in_shift_jis)
+    (λ c l. same_char _ 0 (c ∷ []) c (with_latin read_in_shift_jis c) (low_itself c (omega arith)) (low_piece c (omega arith))) beyond

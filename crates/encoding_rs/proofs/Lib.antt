@@ -10,6 +10,7 @@ pub mod EncodingLemmas
 pub mod EncoderLemmas
 pub mod EncodeRunLemmas
 pub mod ReferenceLemmas
+pub mod RoundTripLemmas
 pub mod ProgressLemmas
 pub mod Latin1Lemmas
 pub mod LabelLemmas

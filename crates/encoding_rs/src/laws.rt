@@ -4,19 +4,23 @@ ghost use Rattle.std.specs.Prelude.{◌≡◌, ◌≢◌, ◌↔◌, ℕ, true, 
 ghost use Rattle.encoding_rs.specs.declared.bom.BomHandling.TheVariants as handling;
 ghost use Rattle.encoding_rs.specs.Bom.{marks_looked_for, find_mark};
 ghost use Rattle.enc_encode.specs.Encoders.{encoder_rule};
-ghost use Rattle.enc_encoders.specs.Text.{with_references};
+ghost use Rattle.enc_encoders.specs.Text.{bytes_of_text, with_references};
+ghost use Rattle.enc_encoders.specs.declared.character_set.CharacterSet.TheVariants.{Ascii};
 ghost use Rattle.enc_references.specs.Unmappable.{any_unmappable};
 ghost use Rattle.encoding_rs.specs.Encodings.{codec_by_id, output_rule, rule_of};
 ghost use Rattle.encoding_rs.specs.LifeCycle.{mark_bytes, encoding_by};
 ghost use Rattle.encoding_rs.specs.MarkLaws.{MayBeginMark, behind as behind_mark};
 ghost use Rattle.encoding_rs.specs.Decoding.{whole_sequences, whole_malformed};
+ghost use Rattle.encoding_rs.specs.EncodeRun.{whole_bytes};
 ghost use Rattle.encoding_rs.specs.Labels.{labelled, get};
 ghost use Rattle.encoding_rs.specs.Names.{name_of};
 ghost use Rattle.encoding_rs.specs.Properties.{output_encoding_of};
-ghost use Rattle.enc_machine.specs.Sequence.{Sequence, bytes_of};
+ghost use Rattle.enc_machine.specs.Sequence.{Sequence, bytes_of, text_of};
 ghost use Rattle.enc_machine.specs.Segmentation.{sequences_of, IsSegmentation};
 ghost use Rattle.enc_machine.specs.Remainder.{Determines};
 ghost use Rattle.enc_machine.specs.RuleLaws.{HasTexts};
+ghost use Rattle.enc_round_trip.specs.RoundTrip.{read_back};
+ghost use Rattle.enc_units.specs.Output.{AreScalars};
 ghost use Rattle.enc_units.specs.Validity.{IsWellFormedUtf8};
 
 use crate::bom::BomHandling;
@@ -144,6 +148,30 @@ pub fn references_are_mappable(encoding: Encoding)
     ensures mappable { (text : List ℕ) → any_unmappable (output_rule encoding) (with_references (output_rule encoding) text) ≡ false }
 {
     let _ = encoding;
+}
+
+/// What is encoded is decoded back by the same encoding, whatever rows stand in the indexes (Encoding Standard 4.1, an
+/// encoder and then a decoder), where no byte order mark is looked for.
+pub fn encoded_text_decodes_back(encoding: Encoding)
+    // The bytes of a text whose characters are all mappable have no malformed sequence.
+    ensures well_formed { (text : List ℕ) → AreScalars text → any_unmappable (output_rule encoding) text ≡ false
+        → whole_malformed handling.Off (output_encoding_of encoding) (bytes_of_text (output_rule encoding) Ascii text) ≡ false }
+
+    // They decode to the same text, except in EUC-JP, Shift_JIS and ISO-2022-JP.
+    ensures same_text { (text : List ℕ) → AreScalars text → any_unmappable (output_rule encoding) text ≡ false
+        → output_encoding_of encoding ≢ EUC_JP → output_encoding_of encoding ≢ SHIFT_JIS → output_encoding_of encoding ≢ ISO_2022_JP
+        → text_of (whole_sequences handling.Off (output_encoding_of encoding) (bytes_of_text (output_rule encoding) Ascii text)) ≡ text }
+
+    // In those three too each character is decoded to one, to itself or to another that has its bytes.
+    ensures characters { (text : List ℕ) → AreScalars text → any_unmappable (output_rule encoding) text ≡ false
+        → text_of (whole_sequences handling.Off (output_encoding_of encoding) (bytes_of_text (output_rule encoding) Ascii text))
+        ≡ map (read_back (codec_by_id (output_encoding_of encoding).id)) text }
+
+    // The bytes of a text with references in the place of unmappable characters have no malformed sequence either.
+    ensures references { (text : List ℕ) → AreScalars text
+        → whole_malformed handling.Off (output_encoding_of encoding) (whole_bytes encoding text) ≡ false }
+{
+    let _ = (encoding, EUC_JP, SHIFT_JIS, ISO_2022_JP);
 }
 
 /// The second constant of each encoding is equal to the first.

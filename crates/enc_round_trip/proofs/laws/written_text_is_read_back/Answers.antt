@@ -1,4 +1,4 @@
-use Rattle.enc_round_trip.proofs.RoundTrip.{is_read, same_text}
+use Rattle.enc_round_trip.proofs.RoundTripLemmas.{is_read, same_text}
 use Rattle.enc_round_trip.proofs.laws.written_text_is_read_back.Goals as goal
 
 pub returns-clause-well_formed : goal.returns-clause-well_formed

@@ -1,0 +1,102 @@
+-- What is encoded in an output encoding is decoded back.
+use Rattle.std.proofs.Common.{◌≡◌, ◌≢◌, ℕ, ◌<◌, Bool, true, false, not, ◌||◌, is_some, Option, Some, None, List, [], ◌∷◌, ◌++◌, map, refl, ap, sym, subst, ◌∙◌, arith, inl}
+use Rattle.std.proofs.lemmas.Bool.{and_from, or_parts}
+use Rattle.std.proofs.lemmas.Bool.Decides.{nat_tests}
+use Rattle.std.specs.Char.{IsScalar}
+use Rattle.std.specs.Cmp.{first_so, second_so}
+use Rattle.enc_units.specs.Output.{AreScalars}
+use Rattle.enc_units.proofs.ScalarLemmas.{scalars-append}
+use Rattle.enc_machine.specs.Sequence.{text_of, any_malformed}
+use Rattle.enc_machine.specs.Segmentation.{sequences_of}
+use Rattle.enc_codec.specs.Codecs.{codec_rule}
+use Rattle.enc_encoders.specs.declared.character_set.CharacterSet.TheVariants.{Ascii}
+use Rattle.enc_encoders.specs.EncoderRule.{EncoderRule, IsOfReferences}
+use Rattle.enc_encoders.specs.Text.{reference, with_reference, with_references, bytes_of_text}
+use Rattle.enc_encoders.proofs.TextLemmas.{AreOfReferences, reference_is}
+use Rattle.enc_encode.specs.Encoders.{encoder_rule}
+use Rattle.enc_references.specs.Unmappable.{any_unmappable}
+use Rattle.enc_round_trip.specs.RoundTrip.{AreMappable, read_back, keeps_characters}
+use Rattle.enc_round_trip.proofs.BackLemmas.{IsReadAs}
+use Rattle.enc_round_trip.proofs.RoundTripLemmas.{is_read, same_text}
+use Rattle.encoding_rs.specs.declared.encoding.Id.{Id}
+use Rattle.encoding_rs.specs.declared.encoding.Id.TheVariants.{EucJp, ShiftJis, Iso2022Jp}
+use Rattle.encoding_rs.specs.declared.encoding.Encoding.{Encoding}
+use Rattle.encoding_rs.specs.Encodings.{codec_by_id, or_utf_8, output_rule, rule_of}
+use Rattle.encoding_rs.specs.Properties.{output_encoding_of}
+use Rattle.encoding_rs.specs.EncodeRun.{whole_bytes}
+use Rattle.encoding_rs.proofs.EncoderLemmas.{has_encoder}
+use Rattle.encoding_rs.proofs.ProgressLemmas.{output_rule_is}
+use Rattle.encoding_rs.proofs.ReferenceLemmas.{lawful_of, all_mapped}
+
+-- a text without an unmappable character
+
+is_mapped : (b : Bool) → not b ≡ false → b ≡ true
+is_mapped true h = refl
+is_mapped false h = cc
+
+are_mappable : (e : EncoderRule) (t : List ℕ) → any_unmappable e t ≡ false → AreMappable e t
+are_mappable e [] h = tt
+are_mappable e (c ∷ t) h =
+    let p = or_parts (not (is_some (e.bytes c))) (any_unmappable e t) h in
+    (is_mapped (is_some (e.bytes c)) p.0, are_mappable e t p.1)
+
+-- the rule of the output encoding is that of its codec
+
+found : (o : Option EncoderRule) → is_some o ≡ true → o ≡ Some (or_utf_8 o)
+found None h = cc
+found (Some e) h = refl
+
+encoder_is : (e : Encoding) → encoder_rule (codec_by_id (output_encoding_of e).id) ≡ Some (output_rule e)
+encoder_is e = found (encoder_rule (codec_by_id (output_encoding_of e).id)) (has_encoder e) ∙ ap Some (output_rule_is e)
+
+pub decoded : (e : Encoding) (t : List ℕ) → AreScalars t → any_unmappable (output_rule e) t ≡ false
+    → IsReadAs (rule_of (output_encoding_of e)) 0 (bytes_of_text (output_rule e) Ascii t) (map (read_back (codec_by_id (output_encoding_of e).id)) t)
+decoded e t s m = is_read (codec_by_id (output_encoding_of e).id) (output_rule e) t (encoder_is e) s (are_mappable (output_rule e) t m)
+
+-- all but three give each character back
+
+keeps : (id : Id) → (id ≡ EucJp → ⊥) → (id ≡ ShiftJis → ⊥) → (id ≡ Iso2022Jp → ⊥) → keeps_characters (codec_by_id id) ≡ true
+keeps EucJp euc shift iso = absurd (euc refl)
+keeps ShiftJis euc shift iso = absurd (shift refl)
+keeps Iso2022Jp euc shift iso = absurd (iso refl)
+keeps _ euc shift iso = refl
+
+of_id : Id → Encoding
+of_id id = record { id = id }
+
+pub decoded_text : (e : Encoding) (t : List ℕ) → AreScalars t → any_unmappable (output_rule e) t ≡ false
+    → output_encoding_of e ≢ record { id = EucJp } → output_encoding_of e ≢ record { id = ShiftJis } → output_encoding_of e ≢ record { id = Iso2022Jp }
+    → text_of (sequences_of (rule_of (output_encoding_of e)) 0 (bytes_of_text (output_rule e) Ascii t)) ≡ t
+unfolding of_id
+decoded_text e t s m euc shift iso =
+    same_text (codec_by_id (output_encoding_of e).id) (output_rule e) t (encoder_is e) s (are_mappable (output_rule e) t m)
+    (keeps (output_encoding_of e).id (λ q. euc (ap of_id q)) (λ q. shift (ap of_id q)) (λ q. iso (ap of_id q)))
+
+-- references are of scalar values
+
+is_scalar : (c : ℕ) → IsOfReferences c → IsScalar c
+is_scalar c h = let l : c < 0x80 = omega arith in ascii_scalar c l
+  where
+    ascii_scalar : (c : ℕ) → c < 0x80 → IsScalar c
+    ascii_scalar c l = grind (arith, nat_tests)
+
+are_scalars : (t : List ℕ) → AreOfReferences t → AreScalars t
+are_scalars [] h = refl
+are_scalars (c ∷ t) h = and_from _ _ (is_scalar c h.0) (are_scalars t h.1)
+
+reference_scalars : (c : ℕ) → AreScalars (reference c)
+reference_scalars c = are_scalars (reference c) (inl refl, reference_is c)
+
+one_scalars : (e : EncoderRule) (c : ℕ) (b : Option (List ℕ)) → IsScalar c → AreScalars (with_reference e c b)
+one_scalars e c None s = reference_scalars (e.reported c)
+one_scalars e c (Some b) s = and_from _ _ s refl
+
+with_references_scalars : (e : EncoderRule) (t : List ℕ) → AreScalars t → AreScalars (with_references e t)
+with_references_scalars e [] s = refl
+with_references_scalars e (c ∷ t) s =
+    scalars-append (with_reference e c (e.bytes c)) (with_references e t) (one_scalars e c (e.bytes c) (first_so _ _ s)) (with_references_scalars e t (second_so _ _ s))
+
+pub decoded_references : (e : Encoding) (t : List ℕ) → AreScalars t → any_malformed (sequences_of (rule_of (output_encoding_of e)) 0 (whole_bytes e t)) ≡ false
+decoded_references e t s =
+    let u = with_references (output_rule e) t in
+    (decoded e u (with_references_scalars (output_rule e) t s) (all_mapped (output_rule e) (lawful_of (codec_by_id e.id)) t)).none_malformed
