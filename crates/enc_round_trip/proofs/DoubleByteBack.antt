@@ -35,7 +35,7 @@ pub record IsPair (is_lead : ℕ → Bool) (pair : ℕ → ℕ → Option Text) 
   pub has : pair lead trail ≡ Some (One c)
 
 -- where ASCII doesn't lead, and pointers tell all other characters
-by_pairs : (is_lead : ℕ → Bool) (pair : ℕ → ℕ → Option Text) (lead trail : ℕ → ℕ) (pointer : ℕ → Option ℕ) → ((b : ℕ) → b < 0x80 → is_lead b ≡ false)
+pub by_pairs : (is_lead : ℕ → Bool) (pair : ℕ → ℕ → Option Text) (lead trail : ℕ → ℕ) (pointer : ℕ → Option ℕ) → ((b : ℕ) → b < 0x80 → is_lead b ≡ false)
     → ((c p : ℕ) → pointer c ≡ Some p → IsPair is_lead pair (lead p) (trail p) c)
     → IsReadBack (multi_byte_rule (double_byte_prefix is_lead (λ b. if nat_lt b 0x80 then Some b else None) pair)) (with_ascii (λ c. bytes_by (λ p. lead p ∷ trail p ∷ []) (pointer c))) (λ c. c)
 by_pairs is_lead pair lead trail pointer alone pairs =

@@ -12,6 +12,7 @@ use Rattle.enc_iso_2022_jp.specs.declared.iso_2022_jp.CharacterSet.TheVariants a
 use Rattle.enc_iso_2022_jp.specs.declared.iso_2022_jp.Escape.{Escape}
 use Rattle.enc_iso_2022_jp.specs.declared.iso_2022_jp.Escape.TheVariants.{ToAscii, ToRoman, ToJis0208Of1983}
 use Rattle.enc_iso_2022_jp.specs.Iso2022Jp.{set_number, designated, is_lead, one_byte_char, two_byte_char, iso_2022_jp_rule as jp_rule}
+use Rattle.enc_iso_2022_jp.specs.Iso2022JpState.{escape_bytes, escape_set}
 use Rattle.enc_iso_2022_jp.proofs.Iso2022JpLemmas.{skipped_escape}
 use Rattle.enc_iso_2022_jp.proofs.Iso2022JpRule.{other_front}
 use Rattle.enc_iso_2022_jp.proofs.Iso2022JpPieces.{alone_piece, pair_piece}
@@ -37,16 +38,17 @@ as_read Jis0208 = read.Jis0208
 abbrev number : CharacterSet → ℕ
 number s = set_number (as_read s)
 
-abbrev escape_to : CharacterSet → Escape
-escape_to Ascii = ToAscii
-escape_to Roman = ToRoman
-escape_to Jis0208 = ToJis0208Of1983
-
 -- an escape sequence has no text where none follows it directly
+
+skipped_is_read : (set : ℕ) (e : Escape) (z t : List ℕ) → designated z ≡ None → IsReadAs jp_rule (set_number (escape_set e)) z t → IsReadAs jp_rule set (escape_bytes e ++ z) t
+skipped_is_read set e z t n h =
+    let first = skipped_escape set e z n in
+    record { none_malformed = ap any_malformed first ∙ h.none_malformed; text = ap text_of first ∙ h.text }
+
 behind_escape : (set : ℕ) (s : CharacterSet) (z t : List ℕ) → designated z ≡ None → IsReadAs jp_rule (number s) z t → IsReadAs jp_rule set (escape s ++ z) t
-behind_escape set Ascii z t n h = let e = skipped_escape set ToAscii z n in record { none_malformed = ap any_malformed e ∙ h.none_malformed; text = ap text_of e ∙ h.text }
-behind_escape set Roman z t n h = let e = skipped_escape set ToRoman z n in record { none_malformed = ap any_malformed e ∙ h.none_malformed; text = ap text_of e ∙ h.text }
-behind_escape set Jis0208 z t n h = let e = skipped_escape set ToJis0208Of1983 z n in record { none_malformed = ap any_malformed e ∙ h.none_malformed; text = ap text_of e ∙ h.text }
+behind_escape set Ascii = skipped_is_read set ToAscii
+behind_escape set Roman = skipped_is_read set ToRoman
+behind_escape set Jis0208 = skipped_is_read set ToJis0208Of1983
 
 -- A character's bytes are read in the set in which it is written, and begin with no escape sequence.
 record IsReadIn (s : CharacterSet) (b : List ℕ) (c : ℕ) : Type 0 where

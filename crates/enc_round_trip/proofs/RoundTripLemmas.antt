@@ -50,19 +50,10 @@ map_of f h [] = refl
 map_of f h (c ∷ t) = ap (λ x. x ∷ map f t) (h c) ∙ ap (λ x. c ∷ x) (map_of f h t)
 
 keeps : (c : Codec) → keeps_characters c ≡ true → (n : ℕ) → read_back c n ≡ n
-keeps Utf8 h n = refl
-keeps Utf16Be h n = refl
-keeps Utf16Le h n = refl
-keeps Replacement h n = refl
-keeps (SingleByte index) h n = refl
-keeps Big5 h n = refl
-keeps EucKr h n = refl
-keeps Gbk h n = refl
-keeps Gb18030 h n = refl
-keeps XUserDefined h n = refl
 keeps ShiftJis h n = cc
 keeps EucJp h n = cc
 keeps Iso2022Jp h n = cc
+keeps _ h n = refl
 
 pub same_text : (c : Codec) (e : EncoderRule) (t : List ℕ) → encoder_rule c ≡ Some e → AreScalars t → AreMappable e t → keeps_characters c ≡ true
     → text_of (sequences_of (codec_rule c) 0 (bytes_of_text e Ascii t)) ≡ t

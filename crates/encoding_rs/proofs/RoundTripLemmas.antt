@@ -1,5 +1,5 @@
 -- What is encoded in an output encoding is decoded back.
-use Rattle.std.proofs.Common.{◌≡◌, ◌≢◌, ℕ, ◌<◌, Bool, true, false, not, ◌||◌, is_some, Option, Some, None, List, [], ◌∷◌, ◌++◌, map, refl, ap, sym, subst, ◌∙◌, arith, inl}
+use Rattle.std.proofs.Common.{◌≡◌, ◌≢◌, ℕ, ◌<◌, Bool, true, false, not, is_some, Option, Some, None, List, [], ◌∷◌, map, refl, ap, ◌∙◌, arith, inl}
 use Rattle.std.proofs.lemmas.Bool.{and_from, or_parts}
 use Rattle.std.proofs.lemmas.Bool.Decides.{nat_tests}
 use Rattle.std.specs.Char.{IsScalar}
@@ -8,7 +8,6 @@ use Rattle.enc_units.specs.Output.{AreScalars}
 use Rattle.enc_units.proofs.ScalarLemmas.{scalars-append}
 use Rattle.enc_machine.specs.Sequence.{text_of, any_malformed}
 use Rattle.enc_machine.specs.Segmentation.{sequences_of}
-use Rattle.enc_codec.specs.Codecs.{codec_rule}
 use Rattle.enc_encoders.specs.declared.character_set.CharacterSet.TheVariants.{Ascii}
 use Rattle.enc_encoders.specs.EncoderRule.{EncoderRule, IsOfReferences}
 use Rattle.enc_encoders.specs.Text.{reference, with_reference, with_references, bytes_of_text}

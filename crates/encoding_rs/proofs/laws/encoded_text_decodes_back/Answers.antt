@@ -1,5 +1,3 @@
-use Rattle.std.proofs.Common.{ap, refl}
-use Rattle.encoding_rs.specs.declared.encoding.Encoding.{Encoding}
 use Rattle.encoding_rs.proofs.RoundTripLemmas.{decoded, decoded_text, decoded_references}
 use Rattle.encoding_rs.proofs.laws.encoded_text_decodes_back.Goals as goal
 
