@@ -1,6 +1,7 @@
 //! What runs the examples: over decoders of encodings here, into each output, and over a decoder by itself in `raw`.
 
 mod mixed;
+mod one_shot;
 mod outputs;
 mod raw;
 pub mod raw_calls;
@@ -10,6 +11,8 @@ use enc_machine::RawDecoder;
 use encoding_rs::run::BomHandling;
 use encoding_rs::{CoderResult, Decoder, DecoderResult, Encoding};
 pub(crate) use mixed::compare_mixed;
+use one_shot::compare_at_once;
+pub(crate) use one_shot::{compare_single_bytes, compare_strict, compare_with_run, decode_at_once};
 pub(crate) use outputs::{ALL_OUTPUTS, Answer, Given, Output, call_into};
 pub(crate) use raw::compare_raw_cuts;
 use rows::REPLACEMENT_CHARACTER;
@@ -443,7 +446,7 @@ pub(crate) enum Others {
 }
 
 /// Runs an input with each room below `rooms`, with and without replacement: into UTF-8 through every cut, and so into the
-/// other outputs as it is said.
+/// other outputs as it is said; and through one-shot calls.
 pub(crate) fn compare_uses(
     rt: &impl Abort,
     alloc: Global,
@@ -451,6 +454,7 @@ pub(crate) fn compare_uses(
     input: &Input<'_>,
     rooms: usize,
 ) -> Result<(), Fail> {
+    compare_at_once(rt, alloc, way, input)?;
     for output in ALL_OUTPUTS {
         let wide = output == Output::Utf8 || others == Others::All;
         let rooms = if wide { rooms } else { rooms.min(4) };

@@ -2,6 +2,7 @@
 
 pub mod encoder_calls;
 pub mod encoding;
+pub mod one_shot;
 mod references;
 
 /// No test gives more room.

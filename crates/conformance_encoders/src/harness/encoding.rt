@@ -2,6 +2,7 @@
 
 use crate::harness::MOST_ROOM;
 use crate::harness::encoder_calls::{ALL_WAYS, Offer, Way, behind, call_in};
+use crate::harness::one_shot::compare_with_run;
 use crate::harness::references::{foretell, push_reference};
 use encoding_rs::{Encoder, EncoderResult, Encoding};
 use std::alloc::{AllocError, Global};
@@ -157,7 +158,7 @@ fn compare_characters(
     Ok(())
 }
 
-/// Runs the rows in every cut between characters, with each room below `ROOMS`, in every way.
+/// Runs the rows in every cut between characters, with each room below `ROOMS`, in every way, and through one-shot calls.
 pub(crate) fn compare_encoded(
     rt: &impl Abort,
     alloc: Global,
@@ -165,6 +166,8 @@ pub(crate) fn compare_encoded(
     rows: &[EncoderRow],
 ) -> Result<(), Fail> {
     for row in rows {
+        let bytes = compare_with_run(rt, alloc, (encoding, row.0))?;
+        assert_eq!(rt; bytes.as_slice(), row.1, "{row:?}");
         for way in ALL_WAYS {
             for room in 0..ROOMS {
                 for (place, _) in row.0.char_indices() {
@@ -186,6 +189,8 @@ pub(crate) fn compare_ways(
     let (last, room) = (true, MOST_ROOM);
     let mut first = start(alloc, encoding, ALL_WAYS[0]);
     offer(rt, alloc, &mut first, Offer { text, last, room })?;
+    let whole = compare_with_run(rt, alloc, (encoding, text))?;
+    assert_eq!(rt; whole, first.bytes, "{encoding:?}");
     assert_eq!(rt;
         first.replaced,
         !encoding.can_encode_everything(),

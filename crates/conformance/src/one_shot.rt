@@ -1,0 +1,321 @@
+//! One-shot calls: rows of the Encoding Standard's "decode", "UTF-8 decode", "UTF-8 decode without BOM" and "UTF-8 decode
+//! without BOM or fail" (6) by hand, and long inputs beside runs and single bytes. All rows of the other modules go through
+//! one-shot calls too (`harness::one_shot`).
+
+use crate::encodings::TABLE;
+use crate::harness::{compare_single_bytes, compare_strict, compare_with_run, decode_at_once};
+use encoding_rs::run::BomHandling;
+use encoding_rs::*;
+use std::alloc::{AllocError, Global};
+use std::process::Abort;
+use std::test::Fail;
+
+const OFF: BomHandling = BomHandling::Off;
+
+const SNIFF: BomHandling = BomHandling::Sniff;
+
+const REMOVE: BomHandling = BomHandling::Remove;
+
+/// An encoding, which marks are looked for, and the bytes; their text, the encoding that is told, and whether something is
+/// malformed.
+type WholeRow = (
+    Encoding,
+    BomHandling,
+    &'static [u8],
+    &'static str,
+    Encoding,
+    bool,
+);
+
+/// UTF-8 behind its mark.
+const MARKED: &[u8] = b"\xEF\xBB\xBF\xE2\x82\xAC\xC3\xA4";
+
+/// The same with a malformed byte.
+const FAULTY: &[u8] = b"\xEF\xBB\xBF\xE2\x82\xAC\x80\xC3\xA4";
+
+const WHOLE_ROWS: &[WholeRow] = &[
+    (
+        SHIFT_JIS,
+        SNIFF,
+        b"\x83\x6E\x83\x8D\x81\x5B\x81\x45\x83\x8F\x81\x5B\x83\x8B\x83\x68",
+        "\u{30CF}\u{30ED}\u{30FC}\u{30FB}\u{30EF}\u{30FC}\u{30EB}\u{30C9}",
+        SHIFT_JIS,
+        false,
+    ),
+    (WINDOWS_1257, SNIFF, b"", "", WINDOWS_1257, false),
+    (REPLACEMENT, SNIFF, b"AB", "\u{FFFD}", REPLACEMENT, true),
+    (REPLACEMENT, SNIFF, b"", "", REPLACEMENT, false),
+    (UTF_8, OFF, b"\xE2\x82\xAC", "\u{20AC}", UTF_8, false),
+    (UTF_8, OFF, b"\xE2\x82", "\u{FFFD}", UTF_8, true),
+    // a mark tells the encoding, or is dropped, or is text
+    (WINDOWS_1257, SNIFF, MARKED, "\u{20AC}\u{E4}", UTF_8, false),
+    (UTF_8, SNIFF, MARKED, "\u{20AC}\u{E4}", UTF_8, false),
+    (
+        WINDOWS_1257,
+        SNIFF,
+        FAULTY,
+        "\u{20AC}\u{FFFD}\u{E4}",
+        UTF_8,
+        true,
+    ),
+    (UTF_8, SNIFF, FAULTY, "\u{20AC}\u{FFFD}\u{E4}", UTF_8, true),
+    (WINDOWS_1257, SNIFF, b"\xFF\xFEa\x00", "a", UTF_16LE, false),
+    (UTF_8, REMOVE, MARKED, "\u{20AC}\u{E4}", UTF_8, false),
+    (
+        WINDOWS_1257,
+        REMOVE,
+        MARKED,
+        "\u{13C}\u{BB}\u{E6}\u{101}\u{201A}\u{AC}\u{106}\u{A4}",
+        WINDOWS_1257,
+        false,
+    ),
+    (UTF_8, OFF, MARKED, "\u{FEFF}\u{20AC}\u{E4}", UTF_8, false),
+    (
+        UTF_8,
+        OFF,
+        FAULTY,
+        "\u{FEFF}\u{20AC}\u{FFFD}\u{E4}",
+        UTF_8,
+        true,
+    ),
+    // what is left over at the end
+    (ISO_2022_JP, OFF, b"a\x1B$B", "a", ISO_2022_JP, false),
+    (ISO_2022_JP, OFF, b"a\x1B$", "a\u{FFFD}$", ISO_2022_JP, true),
+];
+
+/// A one-shot call answers this, and so does that without replacement, if no mark is looked for.
+fn compare_whole(rt: &impl Abort, alloc: Global, row: &WholeRow) -> Result<(), Fail> {
+    let (encoding, handling, bytes, want, told, is_malformed) = *row;
+    let (text, by, had_errors) = decode_at_once(alloc, (encoding, handling), bytes)?;
+    assert_eq!(rt; text.as_bytes(), want.as_bytes(), "{encoding:?} {bytes:?}");
+    assert_eq!(rt;
+        (by, had_errors),
+        (told, is_malformed),
+        "{encoding:?} {bytes:?}"
+    );
+    match handling {
+        BomHandling::Off => {
+            let answer = (want.as_bytes(), is_malformed);
+            compare_strict(rt, alloc, (encoding, bytes), answer)
+        }
+        BomHandling::Sniff | BomHandling::Remove => Ok(()),
+    }
+}
+
+#[test]
+fn whole_inputs_have_these_texts(rt: HostRuntime) -> Result<(), Fail> {
+    for row in WHOLE_ROWS {
+        compare_whole(&rt, rt.alloc(), row)?;
+    }
+    Ok(())
+}
+
+/// Bytes of windows-1257 without a mark, their text, and whether something is malformed.
+const UNMARKED: &[(&[u8], &str, bool)] = &[
+    (b"abc", "abc", false),
+    (b"abc\x80\xE4", "abc\u{20AC}\u{E4}", false),
+    (b"abc\x80\xA1\xE4", "abc\u{20AC}\u{FFFD}\u{E4}", true),
+];
+
+#[test]
+fn without_a_mark_all_calls_are_alike(rt: HostRuntime) -> Result<(), Fail> {
+    for (bytes, text, is_malformed) in UNMARKED {
+        for handling in [SNIFF, REMOVE, OFF] {
+            let row = (
+                WINDOWS_1257,
+                handling,
+                *bytes,
+                *text,
+                WINDOWS_1257,
+                *is_malformed,
+            );
+            compare_whole(&rt, rt.alloc(), &row)?;
+        }
+    }
+    Ok(())
+}
+
+#[test]
+fn reasons_are_told_apart(rt: HostRuntime) -> Result<(), Fail> {
+    let (memory, too_long) = (OneShotError::Memory, OneShotError::TooLong);
+    assert_ne!(rt; memory, too_long);
+    assert_eq!(rt;
+        format!(in rt.alloc(); "{memory:?} {too_long:?}")?.as_str(),
+        "Memory TooLong"
+    );
+    Ok(())
+}
+
+/// So many bytes are decoded at once.
+const LONG: usize = 100_000;
+
+/// Bytes of all encodings: words, characters in one encoding or another, escape sequences, and what breaks off.
+const PIECES: &[&[u8]] = &[
+    b"The quick brown fox jumps over the lazy dog. ",
+    b"caf\xE9 \x93na\xEFve\x94",
+    b"\xE2\x82\xAC\xF0\x9F\x92\xA9\xC3\xA4",
+    b"\x1B$BF|K\\8l\x1B(B",
+    b"\x1B(J\\~\x1B(I1",
+    b"\x93\xFA\x96\x7B\x8C\xEA",
+    b"\xA4\x48\xA4\xA7\xAA\xEC",
+    b"\xC7\xD1\xB1\xDB",
+    b"\x95\x32\x82\x36\x81\x30",
+    b"\x8F\xB0\xA1\x8E\xB1",
+    b"\x3D\xD8\xA9\xDC\xD8\x3D\xDC\xA9",
+];
+
+/// So many bytes, the same each time: pieces, and bytes by themselves, as a linear congruential generator takes them.
+fn long_bytes(alloc: Global) -> Result<Vec<u8>, AllocError> {
+    let mut bytes = Vec::new(alloc);
+    let mut state = 1_u64;
+    for _ in 0..LONG {
+        state = state
+            .wrapping_mul(6_364_136_223_846_793_005)
+            .wrapping_add(1_442_695_040_888_963_407);
+        let [kind, _, byte, ..] = state.to_be_bytes();
+        match PIECES.get((kind / 8) as usize) {
+            Some(piece) => bytes.extend_from_slice(piece)?,
+            None => bytes.push(byte)?,
+        }
+        if bytes.len() >= LONG {
+            break;
+        }
+    }
+    bytes.truncate(LONG);
+    Ok(bytes)
+}
+
+#[test]
+fn two_encodings_have_two_names_for_debugging(rt: HostRuntime) -> Result<(), Fail> {
+    for (i, (one, _, _)) in TABLE.iter().enumerate() {
+        let text = format!(in rt.alloc(); "{one:?}")?;
+        assert!(rt; !text.is_empty());
+        for (j, (other, _, _)) in TABLE.iter().enumerate() {
+            let other = format!(in rt.alloc(); "{other:?}")?;
+            assert_eq!(rt; text == other, i == j, "{other}");
+        }
+    }
+    Ok(())
+}
+
+/// So many bytes of the long ones are offered one by one where marks are looked for.
+const BEGINNING: usize = 4000;
+
+/// Long bytes come at once, in each mode, to what a run comes to, and single bytes: where marks are looked for, those at the
+/// beginning.
+fn compare_long(rt: &impl Abort, alloc: Global, encodings: [Encoding; 2]) -> Result<(), Fail> {
+    let bytes = long_bytes(alloc)?;
+    assert_eq!(rt; bytes.len(), LONG);
+    let (beginning, _) = bytes.split_at(BEGINNING.min(bytes.len()));
+    for encoding in encodings {
+        for handling in [SNIFF, REMOVE] {
+            compare_with_run(rt, alloc, (encoding, handling), &bytes)?;
+            let mode = (encoding, handling);
+            let (text, _) = compare_with_run(rt, alloc, mode, beginning)?;
+            compare_single_bytes(rt, mode, beginning, text.as_bytes());
+        }
+        let (text, _) = compare_with_run(rt, alloc, (encoding, OFF), &bytes)?;
+        compare_single_bytes(rt, (encoding, OFF), &bytes, text.as_bytes());
+    }
+    Ok(())
+}
+
+#[test]
+fn long_inputs_of_utf_8_and_ibm866(rt: HostRuntime) -> Result<(), Fail> {
+    compare_long(&rt, rt.alloc(), [UTF_8, IBM866])
+}
+
+#[test]
+fn long_inputs_of_iso_8859_2_and_iso_8859_3(rt: HostRuntime) -> Result<(), Fail> {
+    compare_long(&rt, rt.alloc(), [ISO_8859_2, ISO_8859_3])
+}
+
+#[test]
+fn long_inputs_of_iso_8859_4_and_iso_8859_5(rt: HostRuntime) -> Result<(), Fail> {
+    compare_long(&rt, rt.alloc(), [ISO_8859_4, ISO_8859_5])
+}
+
+#[test]
+fn long_inputs_of_iso_8859_6_and_iso_8859_7(rt: HostRuntime) -> Result<(), Fail> {
+    compare_long(&rt, rt.alloc(), [ISO_8859_6, ISO_8859_7])
+}
+
+#[test]
+fn long_inputs_of_iso_8859_8_and_iso_8859_8_i(rt: HostRuntime) -> Result<(), Fail> {
+    compare_long(&rt, rt.alloc(), [ISO_8859_8, ISO_8859_8_I])
+}
+
+#[test]
+fn long_inputs_of_iso_8859_10_and_iso_8859_13(rt: HostRuntime) -> Result<(), Fail> {
+    compare_long(&rt, rt.alloc(), [ISO_8859_10, ISO_8859_13])
+}
+
+#[test]
+fn long_inputs_of_iso_8859_14_and_iso_8859_15(rt: HostRuntime) -> Result<(), Fail> {
+    compare_long(&rt, rt.alloc(), [ISO_8859_14, ISO_8859_15])
+}
+
+#[test]
+fn long_inputs_of_iso_8859_16_and_koi8_r(rt: HostRuntime) -> Result<(), Fail> {
+    compare_long(&rt, rt.alloc(), [ISO_8859_16, KOI8_R])
+}
+
+#[test]
+fn long_inputs_of_koi8_u_and_macintosh(rt: HostRuntime) -> Result<(), Fail> {
+    compare_long(&rt, rt.alloc(), [KOI8_U, MACINTOSH])
+}
+
+#[test]
+fn long_inputs_of_windows_874_and_windows_1250(rt: HostRuntime) -> Result<(), Fail> {
+    compare_long(&rt, rt.alloc(), [WINDOWS_874, WINDOWS_1250])
+}
+
+#[test]
+fn long_inputs_of_windows_1251_and_windows_1252(rt: HostRuntime) -> Result<(), Fail> {
+    compare_long(&rt, rt.alloc(), [WINDOWS_1251, WINDOWS_1252])
+}
+
+#[test]
+fn long_inputs_of_windows_1253_and_windows_1254(rt: HostRuntime) -> Result<(), Fail> {
+    compare_long(&rt, rt.alloc(), [WINDOWS_1253, WINDOWS_1254])
+}
+
+#[test]
+fn long_inputs_of_windows_1255_and_windows_1256(rt: HostRuntime) -> Result<(), Fail> {
+    compare_long(&rt, rt.alloc(), [WINDOWS_1255, WINDOWS_1256])
+}
+
+#[test]
+fn long_inputs_of_windows_1257_and_windows_1258(rt: HostRuntime) -> Result<(), Fail> {
+    compare_long(&rt, rt.alloc(), [WINDOWS_1257, WINDOWS_1258])
+}
+
+#[test]
+fn long_inputs_of_x_mac_cyrillic_and_gbk(rt: HostRuntime) -> Result<(), Fail> {
+    compare_long(&rt, rt.alloc(), [X_MAC_CYRILLIC, GBK])
+}
+
+#[test]
+fn long_inputs_of_gb18030_and_big5(rt: HostRuntime) -> Result<(), Fail> {
+    compare_long(&rt, rt.alloc(), [GB18030, BIG5])
+}
+
+#[test]
+fn long_inputs_of_euc_jp_and_shift_jis(rt: HostRuntime) -> Result<(), Fail> {
+    compare_long(&rt, rt.alloc(), [EUC_JP, SHIFT_JIS])
+}
+
+#[test]
+fn long_inputs_of_euc_kr_and_replacement(rt: HostRuntime) -> Result<(), Fail> {
+    compare_long(&rt, rt.alloc(), [EUC_KR, REPLACEMENT])
+}
+
+#[test]
+fn long_inputs_of_utf_16be_and_utf_16le(rt: HostRuntime) -> Result<(), Fail> {
+    compare_long(&rt, rt.alloc(), [UTF_16BE, UTF_16LE])
+}
+
+#[test]
+fn long_inputs_of_x_user_defined_and_iso_2022_jp(rt: HostRuntime) -> Result<(), Fail> {
+    compare_long(&rt, rt.alloc(), [X_USER_DEFINED, ISO_2022_JP])
+}
