@@ -6,6 +6,7 @@ mod outputs;
 mod raw;
 pub mod raw_calls;
 mod rows;
+mod told_rooms;
 
 use enc_machine::RawDecoder;
 use encoding_rs::run::BomHandling;
@@ -20,6 +21,7 @@ pub(crate) use rows::{Cut, Input, MOST_ROOM, Row, input_of};
 use std::alloc::{AllocError, Global};
 use std::process::Abort;
 use std::test::Fail;
+use told_rooms::compare_told_rooms;
 
 /// No input here takes so many calls for a chunk.
 const MOST_CALLS: usize = 64;
@@ -446,7 +448,7 @@ pub(crate) enum Others {
 }
 
 /// Runs an input with each room below `rooms`, with and without replacement: into UTF-8 through every cut, and so into the
-/// other outputs as it is said; and through one-shot calls.
+/// other outputs as it is said; through one-shot calls; and with the rooms that are told.
 pub(crate) fn compare_uses(
     rt: &impl Abort,
     alloc: Global,
@@ -455,6 +457,7 @@ pub(crate) fn compare_uses(
     rooms: usize,
 ) -> Result<(), Fail> {
     compare_at_once(rt, alloc, way, input)?;
+    compare_told_rooms(rt, way, input);
     for output in ALL_OUTPUTS {
         let wide = output == Output::Utf8 || others == Others::All;
         let rooms = if wide { rooms } else { rooms.min(4) };

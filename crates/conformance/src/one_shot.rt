@@ -164,7 +164,11 @@ const PIECES: &[&[u8]] = &[
     b"\x3D\xD8\xA9\xDC\xD8\x3D\xDC\xA9",
 ];
 
-/// So many bytes, the same each time: pieces, and bytes by themselves, as a linear congruential generator takes them.
+/// Between the pieces lies so much of the first.
+const STRETCH: usize = 16;
+
+/// So many bytes, the same each time: pieces, bytes by themselves, and stretches of ASCII, as a linear congruential generator
+/// takes them.
 fn long_bytes(alloc: Global) -> Result<Vec<u8>, AllocError> {
     let mut bytes = Vec::new(alloc);
     let mut state = 1_u64;
@@ -172,10 +176,15 @@ fn long_bytes(alloc: Global) -> Result<Vec<u8>, AllocError> {
         state = state
             .wrapping_mul(6_364_136_223_846_793_005)
             .wrapping_add(1_442_695_040_888_963_407);
-        let [kind, _, byte, ..] = state.to_be_bytes();
+        let [kind, number, byte, ..] = state.to_be_bytes();
         match PIECES.get((kind / 8) as usize) {
             Some(piece) => bytes.extend_from_slice(piece)?,
-            None => bytes.push(byte)?,
+            None => bytes.extend_from_slice(&[number, byte])?,
+        }
+        if kind < 128 {
+            for _ in 0..STRETCH {
+                bytes.extend_from_slice(PIECES[0])?;
+            }
         }
         if bytes.len() >= LONG {
             break;
