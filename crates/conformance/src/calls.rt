@@ -35,6 +35,20 @@ fn decodes_in_chunks(rt: HostRuntime) {
 
 // The README shows this.
 #[test]
+fn recodes_at_once(rt: HostRuntime) -> Result<(), Fail> {
+    let (text, encoding, had_errors) = WINDOWS_1257.decode(rt.alloc(), b"abc\x80\xA1\xE4")?;
+    assert_eq!(rt;
+        (text.as_str(), encoding, had_errors),
+        ("abc€\u{FFFD}ä", WINDOWS_1257, true)
+    );
+    let (bytes, encoding, had_unmappables) = WINDOWS_1257.encode(rt.alloc(), "abc€ä日")?;
+    assert_eq!(rt; &bytes[..], b"abc\x80\xE4&#26085;".as_slice());
+    assert_eq!(rt; (encoding, had_unmappables), (WINDOWS_1257, true));
+    Ok(())
+}
+
+// The README shows this.
+#[test]
 fn encodes_in_chunks(rt: HostRuntime) {
     let mut bytes = [0; 8];
     let mut encoder = ISO_2022_JP.new_encoder();

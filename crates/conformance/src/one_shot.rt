@@ -207,6 +207,27 @@ fn two_encodings_have_two_names_for_debugging(rt: HostRuntime) -> Result<(), Fai
     Ok(())
 }
 
+#[test]
+fn decoders_and_encoders_are_told_for_debugging(rt: HostRuntime) -> Result<(), Fail> {
+    let mut decoder = UTF_8.new_decoder();
+    let text = format!(in rt.alloc(); "{decoder:?}")?;
+    let want = "Decoder { encoding: Encoding { id: Utf8 }, finished: false }";
+    assert_eq!(rt; text.as_str(), want);
+    let _ = decoder.decode_to_utf8(b"", &mut [], true);
+    let text = format!(in rt.alloc(); "{decoder:?}")?;
+    let want = "Decoder { encoding: Encoding { id: Utf8 }, finished: true }";
+    assert_eq!(rt; text.as_str(), want);
+    let mut encoder = ISO_2022_JP.new_encoder();
+    let text = format!(in rt.alloc(); "{encoder:?}")?;
+    let want = "Encoder { encoding: Encoding { id: Iso2022Jp }, pending: false }";
+    assert_eq!(rt; text.as_str(), want);
+    let _ = encoder.encode_from_utf8_without_replacement("あ", &mut [0; 8], false);
+    let text = format!(in rt.alloc(); "{encoder:?}")?;
+    let want = "Encoder { encoding: Encoding { id: Iso2022Jp }, pending: true }";
+    assert_eq!(rt; text.as_str(), want);
+    Ok(())
+}
+
 /// So many bytes of the long ones are offered one by one where marks are looked for.
 const BEGINNING: usize = 4000;
 
