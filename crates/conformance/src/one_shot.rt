@@ -228,24 +228,16 @@ fn decoders_and_encoders_are_told_for_debugging(rt: HostRuntime) -> Result<(), F
     Ok(())
 }
 
-/// So many bytes of the long ones are offered one by one where marks are looked for.
-const BEGINNING: usize = 4000;
-
-/// Long bytes come at once, in each mode, to what a run comes to, and single bytes: where marks are looked for, those at the
-/// beginning.
+/// Long bytes come at once, in each mode, to what a run comes to, and single bytes.
 fn compare_long(rt: &impl Abort, alloc: Global, encodings: [Encoding; 2]) -> Result<(), Fail> {
     let bytes = long_bytes(alloc)?;
     assert_eq!(rt; bytes.len(), LONG);
-    let (beginning, _) = bytes.split_at(BEGINNING.min(bytes.len()));
     for encoding in encodings {
-        for handling in [SNIFF, REMOVE] {
-            compare_with_run(rt, alloc, (encoding, handling), &bytes)?;
+        for handling in [SNIFF, REMOVE, OFF] {
             let mode = (encoding, handling);
-            let (text, _) = compare_with_run(rt, alloc, mode, beginning)?;
-            compare_single_bytes(rt, mode, beginning, text.as_bytes());
+            let (text, _) = compare_with_run(rt, alloc, mode, &bytes)?;
+            compare_single_bytes(rt, mode, &bytes, text.as_bytes());
         }
-        let (text, _) = compare_with_run(rt, alloc, (encoding, OFF), &bytes)?;
-        compare_single_bytes(rt, (encoding, OFF), &bytes, text.as_bytes());
     }
     Ok(())
 }

@@ -1,5 +1,6 @@
 -- Texts are read back where each character is, in encodings without escape sequences.
-use Rattle.std.proofs.Common.{◌≡◌, ℕ, ◌<◌, ◌≤◌, Bool, true, false, nat_lt, cond, is_some, Option, Some, None, List, [], ◌∷◌, ◌++◌, map, refl, ap, subst, ◌∙◌, arith}
+use Rattle.std.proofs.Common.{◌≡◌, ℕ, ◌<◌, ◌≤◌, Bool, true, false, nat_lt, cond, not, is_some, Option, Some, None, List, [], ◌∷◌, ◌++◌, map, refl, ap, subst, ◌∙◌, arith}
+use Rattle.std.proofs.lemmas.Bool.{or_parts}
 use Rattle.std.proofs.lemmas.Bool.Decides.{nat_tests}
 use Rattle.std.specs.Char.{IsScalar}
 use Rattle.std.specs.Cmp.{first_so, second_so}
@@ -9,9 +10,10 @@ use Rattle.enc_machine.specs.Segmentation.{Rule, sequences_of}
 use Rattle.enc_machine.specs.Taking.{IsPiece}
 use Rattle.enc_machine.proofs.SegmentationLemmas.{sequences_of-nil}
 use Rattle.enc_encoders.specs.declared.character_set.CharacterSet.TheVariants.{Ascii}
+use Rattle.enc_encoders.specs.EncoderRule.{EncoderRule}
 use Rattle.enc_encoders.specs.Stateless.{stateless, with_ascii}
 use Rattle.enc_encoders.specs.Text.{or_nothing, bytes_behind, bytes_of_text}
-use Rattle.enc_round_trip.specs.RoundTrip.{AreMappable}
+use Rattle.enc_references.specs.Unmappable.{any_unmappable}
 
 -- no sequence of these bytes is malformed, and this is their text
 pub record IsReadAs (rule : Rule) (set : ℕ) (bytes chars : List ℕ) : Type 0 where
@@ -28,6 +30,17 @@ read_more rule set b c y t p h = record {
   text = ap text_of (p y) ∙ ap (λ x. c ∷ x) h.text;
 }
 
+-- the first character of a text without an unmappable one has bytes, and there is none behind it
+
+is_mapped : (b : Bool) → not b ≡ false → b ≡ true
+is_mapped true h = refl
+is_mapped false h = cc
+
+pub first_mapped : (e : EncoderRule) (c : ℕ) (t : List ℕ) → any_unmappable e (c ∷ t) ≡ false → (is_some (e.bytes c) ≡ true) × (any_unmappable e t ≡ false)
+first_mapped e c t h =
+    let p = or_parts (not (is_some (e.bytes c))) (any_unmappable e t) h in
+    (is_mapped (is_some (e.bytes c)) p.0, p.1)
+
 -- the bytes of each character are read as one character, whatever follows them
 pub record IsReadBack (rule : Rule) (bytes : ℕ → Option (List ℕ)) (back : ℕ → ℕ) : Type 0 where
   pub each : (c : ℕ) → IsScalar c → (b : List ℕ) → bytes c ≡ Some b → IsPiece rule 0 b (back c)
@@ -37,14 +50,15 @@ module _ (rule : Rule) (bytes : ℕ → Option (List ℕ)) (back : ℕ → ℕ) 
   one c None e m s = cc
   one c (Some b) e m s = h.each c s b e
 
-  behind_is_read : (u t : List ℕ) → AreScalars t → AreMappable (stateless bytes) t → IsReadAs rule 0 (bytes_behind (stateless bytes) Ascii u t) (map back t)
+  behind_is_read : (u t : List ℕ) → AreScalars t → any_unmappable (stateless bytes) t ≡ false → IsReadAs rule 0 (bytes_behind (stateless bytes) Ascii u t) (map back t)
   behind_is_read u [] s m = read_nothing rule 0
   behind_is_read u (c ∷ t) s m =
+      let f = first_mapped (stateless bytes) c t m in
       read_more rule 0 (or_nothing (bytes c)) (back c) (bytes_behind (stateless bytes) Ascii (u ++ c ∷ []) t) (map back t)
-      (one c (bytes c) refl m.0 (first_so _ _ s)) (behind_is_read (u ++ c ∷ []) t (second_so _ _ s) m.1)
+      (one c (bytes c) refl f.0 (first_so _ _ s)) (behind_is_read (u ++ c ∷ []) t (second_so _ _ s) f.1)
 
   -- and so is a text
-  pub text_is_read : (t : List ℕ) → AreScalars t → AreMappable (stateless bytes) t → IsReadAs rule 0 (bytes_of_text (stateless bytes) Ascii t) (map back t)
+  pub text_is_read : (t : List ℕ) → AreScalars t → any_unmappable (stateless bytes) t ≡ false → IsReadAs rule 0 (bytes_of_text (stateless bytes) Ascii t) (map back t)
   text_is_read t s m = behind_is_read [] t s m
 
 -- by cases

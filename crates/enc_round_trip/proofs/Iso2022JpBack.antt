@@ -22,8 +22,8 @@ use Rattle.enc_encoders.specs.Text.{escape, escape_at_end, or_nothing, bytes_beh
 use Rattle.enc_encoders.specs.Japanese.{is_katakana}
 use Rattle.enc_encoders.specs.Iso2022Jp.{class_of, has_class, set_of_class, is_shift, looked_up, jis0208_pair, iso_2022_jp_bytes, iso_2022_jp}
 use Rattle.enc_encoders.proofs.Iso2022JpLemmas.{iso_2022_jp_is_lawful}
-use Rattle.enc_round_trip.specs.RoundTrip.{AreMappable}
-use Rattle.enc_round_trip.proofs.BackLemmas.{IsReadAs, read_nothing, read_more, by_test, same_bytes, no_bytes}
+use Rattle.enc_references.specs.Unmappable.{any_unmappable}
+use Rattle.enc_round_trip.proofs.BackLemmas.{IsReadAs, read_nothing, read_more, first_mapped, by_test, same_bytes, no_bytes}
 use Rattle.enc_round_trip.proofs.PointerLemmas.{IsPointer, by_pointer}
 use Rattle.enc_round_trip.proofs.DoubleByteBack.{within}
 use Rattle.enc_round_trip.proofs.JapaneseBack.{at_jis0208_pointer}
@@ -203,15 +203,16 @@ ends Ascii = read_nothing jp_rule 0
 ends Roman = behind_escape 1 Ascii [] [] refl (read_nothing jp_rule 0)
 ends Jis0208 = behind_escape 3 Ascii [] [] refl (read_nothing jp_rule 0)
 
-behind_is_read : (u t : List ℕ) → AreMappable iso_2022_jp t
+behind_is_read : (u t : List ℕ) → any_unmappable iso_2022_jp t ≡ false
     → IsReadAs jp_rule (number (iso_2022_jp.set_after Ascii u)) (bytes_behind iso_2022_jp Ascii u t) (map looked_up t)
 unfolding has
 behind_is_read u [] m = ends (iso_2022_jp.set_after Ascii u)
 behind_is_read u (c ∷ t) m =
     let s = iso_2022_jp.set_after Ascii u in
     let rest = bytes_behind iso_2022_jp Ascii (u ++ c ∷ []) t in
-    step s c rest (map looked_up t) (has s c) refl m.0
-    (subst (λ x. IsReadAs jp_rule (number x) rest (map looked_up t)) (iso_2022_jp_is_lawful.set_after_more Ascii u c) (behind_is_read (u ++ c ∷ []) t m.1))
+    let f = first_mapped iso_2022_jp c t m in
+    step s c rest (map looked_up t) (has s c) refl f.0
+    (subst (λ x. IsReadAs jp_rule (number x) rest (map looked_up t)) (iso_2022_jp_is_lawful.set_after_more Ascii u c) (behind_is_read (u ++ c ∷ []) t f.1))
 
-pub iso_2022_jp_is_read : (t : List ℕ) → AreMappable iso_2022_jp t → IsReadAs jp_rule 0 (bytes_of_text iso_2022_jp Ascii t) (map looked_up t)
+pub iso_2022_jp_is_read : (t : List ℕ) → any_unmappable iso_2022_jp t ≡ false → IsReadAs jp_rule 0 (bytes_of_text iso_2022_jp Ascii t) (map looked_up t)
 iso_2022_jp_is_read t m = behind_is_read [] t m

@@ -10,7 +10,8 @@ use Rattle.enc_encoders.specs.declared.character_set.CharacterSet.TheVariants.{A
 use Rattle.enc_encoders.specs.EncoderRule.{EncoderRule}
 use Rattle.enc_encoders.specs.Text.{bytes_of_text}
 use Rattle.enc_encode.specs.Encoders.{encoder_rule}
-use Rattle.enc_round_trip.specs.RoundTrip.{AreMappable, read_back, keeps_characters}
+use Rattle.enc_references.specs.Unmappable.{any_unmappable}
+use Rattle.enc_round_trip.specs.RoundTrip.{read_back, keeps_characters}
 use Rattle.enc_round_trip.proofs.BackLemmas.{IsReadAs, text_is_read}
 use Rattle.enc_round_trip.proofs.OneByteBack.{utf_8_is_read, single_byte_is_read, x_user_defined_is_read}
 use Rattle.enc_round_trip.proofs.DoubleByteBack.{euc_kr_is_read, big5_is_read}
@@ -21,7 +22,7 @@ use Rattle.enc_round_trip.proofs.Iso2022JpBack.{iso_2022_jp_is_read}
 
 abbrev pub IsReadIfAny : Codec → Option EncoderRule → Type 0
 IsReadIfAny codec None = Unit {0}
-IsReadIfAny codec (Some e) = (t : List ℕ) → AreScalars t → AreMappable e t → IsReadAs (codec_rule codec) 0 (bytes_of_text e Ascii t) (map (read_back codec) t)
+IsReadIfAny codec (Some e) = (t : List ℕ) → AreScalars t → any_unmappable e t ≡ false → IsReadAs (codec_rule codec) 0 (bytes_of_text e Ascii t) (map (read_back codec) t)
 
 pub read_if_any : (c : Codec) → IsReadIfAny c (encoder_rule c)
 read_if_any Utf8 = text_is_read _ _ _ utf_8_is_read
@@ -39,7 +40,7 @@ read_if_any XUserDefined = text_is_read _ _ _ x_user_defined_is_read
 read_if_any Iso2022Jp = λ t s m. iso_2022_jp_is_read t m
 
 -- by the rule that the codec has
-pub is_read : (c : Codec) (e : EncoderRule) (t : List ℕ) → encoder_rule c ≡ Some e → AreScalars t → AreMappable e t
+pub is_read : (c : Codec) (e : EncoderRule) (t : List ℕ) → encoder_rule c ≡ Some e → AreScalars t → any_unmappable e t ≡ false
     → IsReadAs (codec_rule c) 0 (bytes_of_text e Ascii t) (map (read_back c) t)
 is_read c e t q = (subst (IsReadIfAny c) q (read_if_any c)) t
 
@@ -55,6 +56,6 @@ keeps EucJp h n = cc
 keeps Iso2022Jp h n = cc
 keeps _ h n = refl
 
-pub same_text : (c : Codec) (e : EncoderRule) (t : List ℕ) → encoder_rule c ≡ Some e → AreScalars t → AreMappable e t → keeps_characters c ≡ true
+pub same_text : (c : Codec) (e : EncoderRule) (t : List ℕ) → encoder_rule c ≡ Some e → AreScalars t → any_unmappable e t ≡ false → keeps_characters c ≡ true
     → text_of (sequences_of (codec_rule c) 0 (bytes_of_text e Ascii t)) ≡ t
 same_text c e t q s m k = (is_read c e t q s m).text ∙ map_of (read_back c) (keeps c k) t

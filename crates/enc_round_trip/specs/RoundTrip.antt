@@ -1,16 +1,10 @@
 -- Texts that are written and read back (Encoding Standard 4.1, "process a queue", with an encoder and then with a decoder).
-use Rattle.std.specs.Prelude.{◌≡◌, ℕ, ◌+◌, ◌-◌, Bool, true, false, ◌==◌, ◌&&◌, ◌||◌, nat_le, Option, Some, None, is_some, List, [], ◌∷◌, if◌then◌else◌}
+use Rattle.std.specs.Prelude.{ℕ, ◌+◌, ◌-◌, Bool, true, false, ◌==◌, ◌&&◌, ◌||◌, nat_le, Option, Some, None, if◌then◌else◌}
 use Rattle.enc_codec.specs.declared.codec.Codec.{Codec}
 use Rattle.enc_codec.specs.declared.codec.Codec.TheVariants.{ShiftJis, EucJp, Iso2022Jp}
 use Rattle.enc_pointers.specs.Pointers.{shift_jis_pointer}
-use Rattle.enc_encoders.specs.EncoderRule.{EncoderRule}
 use Rattle.enc_encoders.specs.Japanese.{is_katakana, with_wide_minus}
 use Rattle.enc_encoders.specs.Iso2022Jp.{looked_up}
-
--- each character of a text has bytes
-abbrev pub AreMappable : EncoderRule → List ℕ → Type 0
-AreMappable e [] = Unit {0}
-AreMappable e (c ∷ t) = (is_some (e.bytes c) ≡ true) × AreMappable e t
 
 -- U+00A5 and U+203E have the bytes of `\` and `~`
 abbrev pub with_latin : (ℕ → ℕ) → ℕ → ℕ

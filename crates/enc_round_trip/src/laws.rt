@@ -8,7 +8,8 @@ ghost use Rattle.enc_encoders.specs.Text.{bytes_of_text};
 ghost use Rattle.enc_encoders.specs.declared.character_set.CharacterSet.TheVariants.{Ascii};
 ghost use Rattle.enc_machine.specs.Segmentation.{sequences_of};
 ghost use Rattle.enc_machine.specs.Sequence.{any_malformed, text_of};
-ghost use Rattle.enc_round_trip.specs.RoundTrip.{AreMappable, keeps_characters, read_back};
+ghost use Rattle.enc_references.specs.Unmappable.{any_unmappable};
+ghost use Rattle.enc_round_trip.specs.RoundTrip.{keeps_characters, read_back};
 ghost use Rattle.enc_units.specs.Output.{AreScalars};
 
 use enc_codec::Codec;
@@ -17,15 +18,15 @@ use enc_codec::Codec;
 /// stand in the indexes (Encoding Standard 4.1, an encoder and then a decoder; it looks for no byte order mark).
 pub fn written_text_is_read_back(codec: Codec)
     // No sequence of them is malformed.
-    ensures well_formed { (e : EncoderRule) (text : List ℕ) → encoder_rule codec ≡ Some e → AreScalars text → AreMappable e text
+    ensures well_formed { (e : EncoderRule) (text : List ℕ) → encoder_rule codec ≡ Some e → AreScalars text → any_unmappable e text ≡ false
         → any_malformed (sequences_of (codec_rule codec) 0 (bytes_of_text e Ascii text)) ≡ false }
 
     // Their text is what is read back of each character.
-    ensures characters { (e : EncoderRule) (text : List ℕ) → encoder_rule codec ≡ Some e → AreScalars text → AreMappable e text
+    ensures characters { (e : EncoderRule) (text : List ℕ) → encoder_rule codec ≡ Some e → AreScalars text → any_unmappable e text ≡ false
         → text_of (sequences_of (codec_rule codec) 0 (bytes_of_text e Ascii text)) ≡ map (read_back codec) text }
 
     // That is the text itself, except in Shift_JIS, EUC-JP and ISO-2022-JP.
-    ensures same_text { (e : EncoderRule) (text : List ℕ) → encoder_rule codec ≡ Some e → AreScalars text → AreMappable e text
+    ensures same_text { (e : EncoderRule) (text : List ℕ) → encoder_rule codec ≡ Some e → AreScalars text → any_unmappable e text ≡ false
         → keeps_characters codec ≡ true → text_of (sequences_of (codec_rule codec) 0 (bytes_of_text e Ascii text)) ≡ text }
 {
     let _ = codec;

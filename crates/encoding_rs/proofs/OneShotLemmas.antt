@@ -2,7 +2,7 @@
 use Rattle.std.proofs.Common.{◌≡◌, ℕ, Bool, true, false, true≢false, List, [], ◌∷◌, ◌++◌, length, take, drop, refl, ap, ◌∙◌, sym, arith, append_assoc, append-nil, ◌||◌, if◌then◌else◌}
 use Rattle.std.proofs.lemmas.Bool.Decides.{nat_tests}
 use Rattle.std.proofs.lemmas.List.{take-append-drop}
-use Rattle.std.specs.Prelude.{Option, Some, None, ◌==◌}
+use Rattle.std.specs.Prelude.{Option, Some, None, option_map, ◌==◌}
 use Rattle.std.specs.Char.{encode_utf8}
 use Rattle.encoding_rs.specs.declared.bom.BomHandling.{BomHandling}
 use Rattle.encoding_rs.specs.declared.bom.BomHandling.TheVariants.{Off, Sniff, Remove}
@@ -21,6 +21,7 @@ use Rattle.enc_machine.proofs.SequenceLemmas.{units-append, any_malformed-append
 use Rattle.enc_machine.proofs.SegmentationLemmas.{sequences_of-nil}
 use Rattle.encoding_rs.specs.Encodings.{rule_of}
 use Rattle.encoding_rs.specs.Bom.{Mark, own_marks, find_mark, sequences_by}
+use Rattle.encoding_rs.specs.LifeCycle.{encoding_by}
 use Rattle.encoding_rs.specs.Decoding.{DecoderState, finished, fresh, remaining_sequences, whole_sequences, whole_utf_8, whole_malformed, Decodes, DecodesReplacing, HasDecoded}
 use Rattle.encoding_rs.specs.OneShot.{strict_utf_8}
 use Rattle.encoding_rs.proofs.EndLemmas.{fresh_sequences, finishes_by, finishes, whole_text, whole_flag}
@@ -96,6 +97,19 @@ still_open old new src room coder.OutputFull read wrote replaced d n = finishes 
 pub now_finished : (old new : DecoderState) (src : List ℕ) (room : ℕ) (result : CoderResult) (read : ℕ) (wrote : List ℕ) (replaced : Bool)
     → DecodesReplacing encode_utf8 old new src true room result read wrote replaced → result ≡ coder.InputEmpty → finished new ≡ true
 now_finished old new src room result read wrote replaced d f = finishes old new src true room result read wrote replaced d ∙ ap (λ r. is_end true (stop_of r)) f
+
+-- what a mark tells with its length is the encoding by it
+
+abbrev pub told : Mark → Encoding × ℕ
+told m = (m.encoding, length m.bytes)
+
+pub told_by : (found : Option Mark) (e other : Encoding) (n : ℕ) → option_map told found ≡ Some (other, n) → other ≡ encoding_by found e
+told_by None e other n h = cc
+told_by (Some m) e other n h = let f : told m ≡ (other, n) = cc in sym (ap (λ (p : Encoding × ℕ). p.0) f)
+
+pub told_none : (found : Option Mark) (e : Encoding) → option_map told found ≡ None → e ≡ encoding_by found e
+told_none None e h = refl
+told_none (Some m) e h = cc
 
 -- calls that report what is malformed
 

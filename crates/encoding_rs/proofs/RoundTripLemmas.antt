@@ -1,6 +1,6 @@
 -- What is encoded in an output encoding is decoded back.
-use Rattle.std.proofs.Common.{◌≡◌, ◌≢◌, ℕ, ◌<◌, Bool, true, false, not, is_some, Option, Some, None, List, [], ◌∷◌, map, refl, ap, ◌∙◌, arith, inl}
-use Rattle.std.proofs.lemmas.Bool.{and_from, or_parts}
+use Rattle.std.proofs.Common.{◌≡◌, ◌≢◌, ℕ, ◌<◌, Bool, true, false, is_some, Option, Some, None, List, [], ◌∷◌, map, refl, ap, ◌∙◌, arith, inl}
+use Rattle.std.proofs.lemmas.Bool.{and_from}
 use Rattle.std.proofs.lemmas.Bool.Decides.{nat_tests}
 use Rattle.std.specs.Char.{IsScalar}
 use Rattle.std.specs.Cmp.{first_so, second_so}
@@ -14,7 +14,7 @@ use Rattle.enc_encoders.specs.Text.{reference, with_reference, with_references, 
 use Rattle.enc_encoders.proofs.TextLemmas.{AreOfReferences, reference_is}
 use Rattle.enc_encode.specs.Encoders.{encoder_rule}
 use Rattle.enc_references.specs.Unmappable.{any_unmappable}
-use Rattle.enc_round_trip.specs.RoundTrip.{AreMappable, read_back, keeps_characters}
+use Rattle.enc_round_trip.specs.RoundTrip.{read_back, keeps_characters}
 use Rattle.enc_round_trip.proofs.BackLemmas.{IsReadAs}
 use Rattle.enc_round_trip.proofs.RoundTripLemmas.{is_read, same_text}
 use Rattle.encoding_rs.specs.declared.encoding.Id.{Id}
@@ -27,18 +27,6 @@ use Rattle.encoding_rs.proofs.EncoderLemmas.{has_encoder}
 use Rattle.encoding_rs.proofs.ProgressLemmas.{output_rule_is}
 use Rattle.encoding_rs.proofs.ReferenceLemmas.{lawful_of, all_mapped}
 
--- a text without an unmappable character
-
-is_mapped : (b : Bool) → not b ≡ false → b ≡ true
-is_mapped true h = refl
-is_mapped false h = cc
-
-are_mappable : (e : EncoderRule) (t : List ℕ) → any_unmappable e t ≡ false → AreMappable e t
-are_mappable e [] h = tt
-are_mappable e (c ∷ t) h =
-    let p = or_parts (not (is_some (e.bytes c))) (any_unmappable e t) h in
-    (is_mapped (is_some (e.bytes c)) p.0, are_mappable e t p.1)
-
 -- the rule of the output encoding is that of its codec
 
 found : (o : Option EncoderRule) → is_some o ≡ true → o ≡ Some (or_utf_8 o)
@@ -50,7 +38,7 @@ encoder_is e = found (encoder_rule (codec_by_id (output_encoding_of e).id)) (has
 
 pub decoded : (e : Encoding) (t : List ℕ) → AreScalars t → any_unmappable (output_rule e) t ≡ false
     → IsReadAs (rule_of (output_encoding_of e)) 0 (bytes_of_text (output_rule e) Ascii t) (map (read_back (codec_by_id (output_encoding_of e).id)) t)
-decoded e t s m = is_read (codec_by_id (output_encoding_of e).id) (output_rule e) t (encoder_is e) s (are_mappable (output_rule e) t m)
+decoded e t s m = is_read (codec_by_id (output_encoding_of e).id) (output_rule e) t (encoder_is e) s m
 
 -- all but three give each character back
 
@@ -68,7 +56,7 @@ pub decoded_text : (e : Encoding) (t : List ℕ) → AreScalars t → any_unmapp
     → text_of (sequences_of (rule_of (output_encoding_of e)) 0 (bytes_of_text (output_rule e) Ascii t)) ≡ t
 unfolding of_id
 decoded_text e t s m euc shift iso =
-    same_text (codec_by_id (output_encoding_of e).id) (output_rule e) t (encoder_is e) s (are_mappable (output_rule e) t m)
+    same_text (codec_by_id (output_encoding_of e).id) (output_rule e) t (encoder_is e) s m
     (keeps (output_encoding_of e).id (λ q. euc (ap of_id q)) (λ q. shift (ap of_id q)) (λ q. iso (ap of_id q)))
 
 -- references are of scalar values

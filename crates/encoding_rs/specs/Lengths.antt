@@ -25,12 +25,9 @@ length_by Utf16 lengths n h = utf_16_length lengths n h
 abbrev pub own : Query → TextLengths → ℕ → Option ℕ
 own q lengths n = length_by q lengths n 0
 
--- the greater of that and of UTF-8's, or UTF-16's, where its mark may come
-abbrev pub or_utf_8 : Query → TextLengths → ℕ → Option ℕ
-or_utf_8 q lengths n = greater (length_by q by.Utf8 n 0) (own q lengths n)
-
-abbrev pub or_utf_16 : Query → TextLengths → ℕ → Option ℕ
-or_utf_16 q lengths n = greater (length_by q by.Utf16 n 0) (own q lengths n)
+-- the greater of that and of the encoding whose mark may come
+abbrev pub own_or : Query → TextLengths → TextLengths → ℕ → Option ℕ
+own_or q of_mark lengths n = greater (own q of_mark n) (own q lengths n)
 
 -- of a sum, if it is a usize
 abbrev pub of_sum : (ℕ → Option ℕ) → Option ℕ → Option ℕ
@@ -44,11 +41,11 @@ length_in q Converting lengths n h = length_by q lengths n h
 length_in q AtUtf8Start lengths n h = own q lengths n
 length_in q AtUtf16BeStart lengths n h = own q lengths n
 length_in q AtUtf16LeStart lengths n h = own q lengths n
-length_in q AtStart lengths n h = greater (length_by q by.Utf8 n 0) (or_utf_16 q lengths n)
-length_in q SeenUtf8First lengths n h = of_sum (or_utf_8 q lengths) (plus (Some n) 2)
-length_in q SeenUtf8Second lengths n h = of_sum (or_utf_8 q lengths) (plus (Some n) 2)
-length_in q SeenUtf16BeFirst lengths n h = of_sum (or_utf_16 q lengths) (plus (Some n) 2)
-length_in q SeenUtf16LeFirst lengths n h = of_sum (or_utf_16 q lengths) (plus (Some n) 2)
+length_in q AtStart lengths n h = greater (own q by.Utf8 n) (own_or q by.Utf16 lengths n)
+length_in q SeenUtf8First lengths n h = of_sum (own_or q by.Utf8 lengths) (plus (Some n) 2)
+length_in q SeenUtf8Second lengths n h = of_sum (own_or q by.Utf8 lengths) (plus (Some n) 2)
+length_in q SeenUtf16BeFirst lengths n h = of_sum (own_or q by.Utf16 lengths) (plus (Some n) 2)
+length_in q SeenUtf16LeFirst lengths n h = of_sum (own_or q by.Utf16 lengths) (plus (Some n) 2)
 length_in q ConvertingWithPendingBb lengths n h = of_sum (own q lengths) (plus (Some n) 2)
 length_in q Finished lengths n h = length_by q lengths n h
 

@@ -17,7 +17,7 @@ use enc_calls::CoderResult;
 use enc_encode::{
     ByteLengths, EncoderResult, RawEncoder, VariantEncoder, byte_lengths, new_encoder,
 };
-use enc_references::{encode_all, encode_replacing, encode_reporting};
+use enc_references::{LONGEST_REFERENCE, encode_all, encode_replacing, encode_reporting};
 use enc_units::{Chars, Utf8Chars, Utf16Chars};
 use std::fmt;
 use std::marker::Model;
@@ -99,7 +99,7 @@ impl Encoder {
     {
         match self.encoding.id {
             Id::Utf8 => 0,
-            _ => 10,
+            _ => LONGEST_REFERENCE,
         }
     }
 

@@ -2,7 +2,7 @@
 
 ghost use Rattle.std.specs.Prelude.{◌≡◌};
 ghost use Rattle.enc_units.specs.Checked.{greater as greater_of};
-ghost use Rattle.encoding_rs.specs.Lengths.{length_by, length_in};
+ghost use Rattle.encoding_rs.specs.Lengths.{length_by, length_in, own_or};
 
 use crate::life_cycle::LifeCycle;
 use enc_codec::TextLengths;
@@ -37,6 +37,13 @@ impl Query {
         }
     }
 
+    /// The greater of those of two kinds of codecs that hold nothing.
+    fn own_or(self, of_mark: TextLengths, own: TextLengths, bytes: usize) -> Option<usize>
+        ensures { result ≡ own_or self of_mark own bytes }
+    {
+        greater(self.length(of_mark, bytes, 0), self.length(own, bytes, 0))
+    }
+
     /// The same of a decoder, by how far it has come with a mark and by the formulas of its encoding.
     pub(crate) fn max_length(
         self,
@@ -53,19 +60,14 @@ impl Query {
                 self.length(own, bytes, 0)
             }
             LifeCycle::AtStart => {
-                let utf_16 = self.length(TextLengths::Utf16, bytes, 0);
-                let others = greater(utf_16, self.length(own, bytes, 0));
+                let others = self.own_or(TextLengths::Utf16, own, bytes);
                 greater(self.length(TextLengths::Utf8, bytes, 0), others)
             }
             LifeCycle::SeenUtf8First | LifeCycle::SeenUtf8Second => {
-                let all = bytes.checked_add(2)?;
-                let utf_8 = self.length(TextLengths::Utf8, all, 0);
-                greater(utf_8, self.length(own, all, 0))
+                self.own_or(TextLengths::Utf8, own, bytes.checked_add(2)?)
             }
             LifeCycle::SeenUtf16BeFirst | LifeCycle::SeenUtf16LeFirst => {
-                let all = bytes.checked_add(2)?;
-                let utf_16 = self.length(TextLengths::Utf16, all, 0);
-                greater(utf_16, self.length(own, all, 0))
+                self.own_or(TextLengths::Utf16, own, bytes.checked_add(2)?)
             }
             LifeCycle::ConvertingWithPendingBb => self.length(own, bytes.checked_add(2)?, 0),
         }
