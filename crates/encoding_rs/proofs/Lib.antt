@@ -5,6 +5,7 @@ pub mod FullLemmas
 pub mod EndLemmas
 pub mod WholeLemmas
 pub mod RunLemmas
+pub mod AheadLemmas
 pub mod CharsOfTextLemmas
 pub mod EncodingLemmas
 pub mod EncoderLemmas

@@ -35,7 +35,7 @@ use Rattle.encoding_rs.proofs.EndLemmas.{first_open, others_open, finishes_by, f
 use Rattle.encoding_rs.proofs.WholeLemmas.{joined}
 
 -- a call that came to the end has read everything
-ends_read : (units_of : ℕ → List ℕ) (treatment : Treatment) (old new : DecoderState) (src : List ℕ) (last : Bool) (room : ℕ) (result : DecoderResult) (read : ℕ) (wrote : List ℕ) (replaced : Bool)
+pub ends_read : (units_of : ℕ → List ℕ) (treatment : Treatment) (old new : DecoderState) (src : List ℕ) (last : Bool) (room : ℕ) (result : DecoderResult) (read : ℕ) (wrote : List ℕ) (replaced : Bool)
     → Decodes units_of treatment old new src last room result read wrote replaced → finished new ≡ true → (last ≡ true) × (read ≡ length src)
 ends_read units_of treatment old new src last room InputEmpty read wrote replaced h e =
     (sym (finishes_by units_of treatment old new src last room InputEmpty read wrote replaced h) ∙ e, h.call.stops.all_read)
@@ -132,12 +132,12 @@ within_left : (life : LifeCycle) (bytes : List ℕ) → phase_of (left_behind li
 within_left SeenUtf8Second bytes = within_if (bytes_eq (0xEF ∷ []) bytes)
 within_left _ bytes = refl
 
-within_behind : (front : Option LifeCycle) (s : Sequence) (ss : List Sequence) → phase_of (state_behind front (s ∷ ss)) ≡ Within
+pub within_behind : (front : Option LifeCycle) (s : Sequence) (ss : List Sequence) → phase_of (state_behind front (s ∷ ss)) ≡ Within
 within_behind None s ss = refl
 within_behind (Some front) s ss = within_left front (bytes_of (s ∷ ss))
 
 -- then the bytes pending and those unread are those of the sequences still to come
-within_bytes : (d : DecoderState) (y : List ℕ) → phase_of d.life ≡ Within → bytes_of (remaining_sequences d y) ≡ d.pending ++ y
+pub within_bytes : (d : DecoderState) (y : List ℕ) → phase_of d.life ≡ Within → bytes_of (remaining_sequences d y) ≡ d.pending ++ y
 within_bytes d y e = ap (λ p. bytes_of (sequences_in p d.encoding d.set (d.pending ++ y))) e ∙ all_bytes (rule_of d.encoding) d.set (d.pending ++ y)
 
 module _ (handling : BomHandling) (e : Encoding) (bytes : List ℕ) (read : ℕ) (inside : read ≤ length bytes) (calls : List DecodeCall) (made : DecodeCall) (old new : DecoderState) (before after : List ℕ) (faults : List (ℕ × ℕ)) (had : Bool)
@@ -157,10 +157,10 @@ module _ (handling : BomHandling) (e : Encoding) (bytes : List ℕ) (read : ℕ)
   d : Decodes (units_by made.utf16) (treatment_of made.replace) old new chunk last made.room result more (units_of_text (units_by made.utf16) m.answers.text) replaced
   d = m.answers.decodes
 
-  left : drop more chunk ++ behind ≡ drop (read + more) bytes
+  pub left : drop more chunk ++ behind ≡ drop (read + more) bytes
   left = sym (drop-append-le more chunk behind d.call.within) ∙ ap (drop more) (take-append-drop made.offer unread) ∙ drop-drop more read bytes
 
-  nothing_behind : last ≡ true → behind ≡ []
+  pub nothing_behind : last ≡ true → behind ≡ []
   nothing_behind h = drop_of_length-le unread (reaches (length unread) made.offer h)
 
   goes : remaining_sequences old unread ≡ d.call.done ++ remaining_sequences new (drop (read + more) bytes)

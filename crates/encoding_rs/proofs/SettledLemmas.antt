@@ -38,7 +38,7 @@ told (m ∷ others) x y n =
     ∙ ap (λ t. if starts_with nat_eq x m.bytes then Some m else t) (told others x y (λ i. n (inr i)))
 
 -- bytes with p in front are no fewer
-start_fits : (p x : List ℕ) → starts_with nat_eq x p ≡ true → length p ≤ length x
+pub start_fits : (p x : List ℕ) → starts_with nat_eq x p ≡ true → length p ≤ length x
 start_fits [] x e = omega arith
 start_fits (a ∷ p) [] e = absurd (false≢true e)
 start_fits (a ∷ p) (b ∷ x) e = elim (true_or_false (eqb a b)) [

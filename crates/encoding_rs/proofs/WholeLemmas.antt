@@ -24,7 +24,7 @@ start_is (a ∷ p) (b ∷ x) e = elim (true_or_false (eqb a b)) [
   | inr f ↦ absurd (false≢true (rw f at e))
 ]
 
-found_is : (looked_for : List Mark) (x : List ℕ) (m : Mark) → find_mark looked_for x ≡ Some m → m.bytes ++ drop (length m.bytes) x ≡ x
+pub found_is : (looked_for : List Mark) (x : List ℕ) (m : Mark) → find_mark looked_for x ≡ Some m → m.bytes ++ drop (length m.bytes) x ≡ x
 found_is [] x m e = absurd (let none : ⊥ = cc in none)
 found_is (k ∷ others) x m e = elim (true_or_false (starts_with nat_eq x k.bytes)) [
   | inl t ↦
@@ -34,7 +34,7 @@ found_is (k ∷ others) x m e = elim (true_or_false (starts_with nat_eq x k.byte
   | inr f ↦ found_is others x m (sym (ap (λ t. if t then Some k else find_mark others x) f) ∙ e)
 ]
 
-joined_by : (found : Option Mark) (e : Encoding) (x : List ℕ) → ((m : Mark) → found ≡ Some m → m.bytes ++ drop (length m.bytes) x ≡ x)
+pub joined_by : (found : Option Mark) (e : Encoding) (x : List ℕ) → ((m : Mark) → found ≡ Some m → m.bytes ++ drop (length m.bytes) x ≡ x)
     → mark_bytes found ++ bytes_of (sequences_by found e x) ≡ x
 joined_by None e x h = all_bytes (rule_of e) 0 x
 joined_by (Some m) e x h = ap (λ z. m.bytes ++ z) (all_bytes (rule_of m.encoding) 0 (drop (length m.bytes) x)) ∙ h m refl

@@ -27,6 +27,10 @@ use Rattle.encoding_rs.specs.LifeCycle.{phase_of, awaits_mark, mark_in, mark_byt
 abbrev pub whole_sequences : BomHandling → Encoding → List ℕ → List Sequence
 whole_sequences handling e bytes = sequences_by (find_mark (marks_looked_for handling e) bytes) e bytes
 
+-- the encoding that it is decoded by: that of the mark, or else this one
+abbrev pub whole_encoding : BomHandling → Encoding → List ℕ → Encoding
+whole_encoding handling e bytes = encoding_by (find_mark (marks_looked_for handling e) bytes) e
+
 -- The text of a whole input in UTF-8: what every way to decode it comes to.
 abbrev pub whole_utf_8 : BomHandling → Encoding → List ℕ → List ℕ
 whole_utf_8 handling e bytes = units_of_text encode_utf8 (text_of (whole_sequences handling e bytes))

@@ -9,17 +9,11 @@ use Rattle.encoding_rs.specs.declared.bom.BomHandling.TheVariants.{Off}
 use Rattle.encoding_rs.specs.declared.encoding.Encoding.{Encoding}
 use Rattle.encoding_rs.specs.declared.lengths.Query.{Query}
 use Rattle.encoding_rs.specs.Encodings.{output_rule}
-use Rattle.encoding_rs.specs.Bom.{marks, find_mark}
-use Rattle.encoding_rs.specs.LifeCycle.{encoding_by}
 use Rattle.encoding_rs.specs.Decoding.{DecoderState, HasDecoded, whole_utf_8, whole_malformed}
 use Rattle.encoding_rs.specs.Encoder.{EncoderState, kept_by_id}
 use Rattle.encoding_rs.specs.EncodeRun.{whole_bytes}
 use Rattle.encoding_rs.specs.Properties.{output_encoding_of}
 use Rattle.encoding_rs.specs.Lengths.{max_length, output_lengths}
-
--- the encoding that a byte order mark tells, if one stands in front, or else this one
-abbrev pub encoding_told : Encoding → List ℕ → Encoding
-encoding_told e bytes = encoding_by (find_mark marks bytes) e
 
 -- the text in UTF-8 of bytes that have nothing malformed
 abbrev pub strict_utf_8 : Encoding → List ℕ → Option (List ℕ)

@@ -8,9 +8,9 @@ ghost use Rattle.enc_references.specs.Unmappable.{any_unmappable};
 ghost use Rattle.encoding_rs.specs.declared.bom.BomHandling.TheVariants as handling;
 ghost use Rattle.encoding_rs.specs.Encodings.{output_rule};
 ghost use Rattle.encoding_rs.specs.Properties.{output_encoding_of};
-ghost use Rattle.encoding_rs.specs.Decoding.{whole_utf_8, whole_malformed};
+ghost use Rattle.encoding_rs.specs.Decoding.{whole_encoding, whole_utf_8, whole_malformed};
 ghost use Rattle.encoding_rs.specs.EncodeRun.{whole_bytes};
-ghost use Rattle.encoding_rs.specs.OneShot.{encoding_told, strict_utf_8, IsTooLong, IsTooLongToEncode};
+ghost use Rattle.encoding_rs.specs.OneShot.{strict_utf_8, IsTooLong, IsTooLongToEncode};
 
 use crate::bom::BomHandling;
 use crate::decoder::Decoder;
@@ -116,7 +116,7 @@ impl Encoding {
         bytes: &[u8],
     ) -> Result<(String, Encoding, bool), OneShotError>
         ensures text { IfOk result (λ answer. string_bytes answer.0 ≡ whole_utf_8 handling.Sniff self bytes.now) }
-        ensures encoding { IfOk result (λ answer. answer.1 ≡ encoding_told self bytes.now) }
+        ensures encoding { IfOk result (λ answer. answer.1 ≡ whole_encoding handling.Sniff self bytes.now) }
         ensures flag { IfOk result (λ answer. answer.2 ≡ whole_malformed handling.Sniff self bytes.now) }
         ensures too_long { IsErrOf result OneShotError.TooLong → IsTooLong handling.Sniff self bytes.now }
         ensures empty { bytes.now ≡ [] → IsOk result }

@@ -5,7 +5,7 @@ ghost use Rattle.std.specs.Char.{encode_utf8};
 ghost use Rattle.std.specs.Char.Escape.{encode_utf16};
 ghost use Rattle.std.specs.String.{string_bytes};
 ghost use Rattle.enc_calls.specs.Replacing.{stop_of};
-ghost use Rattle.encoding_rs.specs.Decoding.{DecoderState, finished, whole_utf_8, whole_malformed};
+ghost use Rattle.encoding_rs.specs.Decoding.{DecoderState, finished, whole_encoding, whole_utf_8, whole_malformed};
 ghost use Rattle.encoding_rs.specs.Run.{units_by, AnswersCall, MakesCall, is_reported, fault_of, IsRun, HasRun, run_start, whole_faults, all_report};
 
 pub use crate::bom::BomHandling;
@@ -245,6 +245,7 @@ pub fn decode_run(
     ensures faults { IfOk result (λ report. report.finished ≡ true → all_report (take report.calls calls.now) ≡ true →
         report.faults.items ≡ whole_faults handling encoding bytes.now) }
     ensures read { IfOk result (λ report. report.finished ≡ true → report.read ≡ length bytes.now) }
+    ensures encoding { IfOk result (λ report. report.finished ≡ true → report.encoding ≡ whole_encoding handling encoding bytes.now) }
 {
     let mut decoder = Decoder::start(encoding, handling);
     let mut text = String::new(alloc);

@@ -1,12 +1,14 @@
-use Rattle.std.proofs.Common.{take, arith, true≢false, refl, sym, ◌∙◌}
+use Rattle.std.proofs.Common.{take, drop, arith, true≢false, refl, sym, ◌∙◌}
 use Rattle.encoding_rs.proofs.EndLemmas.{fresh_open}
 use Rattle.encoding_rs.proofs.RunLemmas.{start, decodes_on, within_on, all_read, runs_next, takes_next, has_run, whole_text, whole_flag, whole_places}
+use Rattle.encoding_rs.proofs.AheadLemmas.{fresh_ahead, told_on, at_end}
 use Rattle.encoding_rs.proofs.run.decode_run.Goals as goal
 
 pub loop-call-init : goal.loop-call-init
 loop-call-init c = rw (c.start-decoder.ensures, c.new-text.ensures.bytes, c.new-faults.ensures.items) (record {
   run = refl;
   done = start c.args.handling c.args.encoding c.args.bytes.now;
+  told = fresh_ahead c.args.handling c.args.encoding c.args.bytes.now;
   within = omega arith;
   made = refl;
   all = λ f. absurd (true≢false (sym f ∙ fresh_open c.args.handling c.args.encoding));
@@ -29,6 +31,7 @@ loop-call-preserved c =
         flag = refl;
       });
       done = takes_next _ _ _ _ _ _ _ _ _ _ _ _ i.made c.loop-call-test.true done;
+      told = told_on c.args.handling c.args.encoding _ _ i.within (take c.loop-call.made c.args.calls.now) _ _ _ _ _ c.loop-call.faults.items c.loop-call.had_errors _ _ _ m i.told;
       within = within_on c.args.handling c.args.encoding _ _ i.within (take c.loop-call.made c.args.calls.now) _ _ _ _ _ c.loop-call.faults.items c.loop-call.had_errors _ _ _ m;
       made = omega arith;
       all = all_read c.args.handling c.args.encoding _ _ i.within (take c.loop-call.made c.args.calls.now) _ _ _ _ _ c.loop-call.faults.items c.loop-call.had_errors _ _ _ m;
@@ -39,6 +42,9 @@ returns-clause-beginning c = has_run _ _ _ _ _ _ _ _ _ c.loop-call.invariant.don
 
 pub returns-clause-text : goal.returns-clause-text
 returns-clause-text c = λ f. whole_text _ _ _ _ _ _ _ _ _ c.loop-call.invariant.done (sym c.is_finished-finished.ensures ∙ f)
+
+pub returns-clause-encoding : goal.returns-clause-encoding
+returns-clause-encoding c = λ f. c.encoding-encoding.ensures ∙ sym (at_end c.loop-call.decoder (drop c.loop-call.read c.args.bytes.now) (sym c.is_finished-finished.ensures ∙ f)) ∙ c.loop-call.invariant.told
 
 pub returns-clause-errors : goal.returns-clause-errors
 returns-clause-errors c = λ f. whole_flag _ _ _ _ _ _ _ _ _ c.loop-call.invariant.done (sym c.is_finished-finished.ensures ∙ f)
