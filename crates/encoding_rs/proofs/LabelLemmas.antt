@@ -1,60 +1,75 @@
--- Walks over a table of labels, and what they find.
-use Rattle.std.proofs.Common.{◌≡◌, ◌∙◌, ℕ, ◌+◌, ◌<◌, Bool, true, false, if◌then◌else◌, List, [], ◌∷◌, map, length, drop, Some, refl, sym, ap, add-one}
-use Rattle.std.specs.Prelude.{slice_index_or}
-use Rattle.std.specs.Bool.{Decides}
-use Rattle.std.specs.Borrow.{Bor}
+-- What the place of a label in the table tells of its encoding.
+use Rattle.std.proofs.Common.{◌≡◌, ◌∙◌, ℕ, zero, suc, ◌<◌, Bool, true, false, List, [], ◌∷◌, map, length, get_or, Option, Some, None, is_some, refl, sym, ap, arith}
+use Rattle.std.specs.Prelude.{option_map, if◌then◌else◌}
 use Rattle.std.specs.List.{list_all}
 use Rattle.std.specs.Char.{to_ascii_lowercase}
-use Rattle.std.specs.Str.{bytes_eq, str_eq_ignore_ascii_case, IsTrimAscii}
+use Rattle.std.specs.Str.{bytes_eq, IsTrimAscii}
 use Rattle.std.specs.Cmp.{first_so, second_so}
-use Rattle.std.proofs.Math.Seq.{drop-cons}
-use Rattle.std.proofs.lemmas.Bool.Decides.{same_from_decides}
+use Rattle.std.proofs.lemmas.Bool.{false≢true}
 use Rattle.std.proofs.lemmas.Slice.Eq.{bytes_eq-Decides}
 use Rattle.std.proofs.lemmas.Str.Ascii.{trim_ascii_is}
+use Rattle.enc_labels.specs.Place.{place_of}
+use Rattle.enc_labels.specs.Table.{table}
 use Rattle.encoding_rs.specs.declared.encoding.Encoding.{Encoding}
-use Rattle.encoding_rs.specs.Labels.{labelled, matched_with, paired_with, pairs_of, trim_start, trim_end, get}
+use Rattle.encoding_rs.specs.Labels.{labelled, paired_with, trim_start, trim_end, get}
 
--- at a row the walk ends, or goes on behind it
-walk_at : (table : List (Bor (List ℕ) × Encoding)) (i : ℕ) (d : Bor (List ℕ) × Encoding) (word : List ℕ)
-    → i < length table → matched_with (pairs_of (drop i table)) word
-    ≡ (if str_eq_ignore_ascii_case (slice_index_or table i d).0.now word then Some (slice_index_or table i d).1
-    else matched_with (pairs_of (drop (i + 1) table)) word)
-walk_at table i d word h = rw (drop-cons table i d h, add-one)
+-- at the place of a word stands that word
+placed : (labels : List (List ℕ)) (word : List ℕ) (i : ℕ) → place_of labels word ≡ Some i → get_or labels i [] ≡ word
+placed [] word i h = absurd (let no : ⊥ = cc in no)
+placed (label ∷ labels) word i h = by_test (bytes_eq label word) refl (λ j e. placed labels word j e)
+  where
+    behind : (o : Option ℕ) → ((j : ℕ) → o ≡ Some j → get_or labels j [] ≡ word) → option_map suc o ≡ Some i → get_or (label ∷ labels) i [] ≡ word
+    behind None f g = absurd (let no : ⊥ = cc in no)
+    behind (Some j) f g = let k : suc j ≡ i = cc in ap (λ n. get_or (label ∷ labels) n []) (sym k) ∙ f j refl
 
--- what a test of a row's label and a word says, where nothing before the row was found
-module _ (table : List (Bor (List ℕ) × Encoding)) (i : ℕ) (d : Bor (List ℕ) × Encoding) (label word : List ℕ)
-    (b : Bool) (within : i < length table) (row : label ≡ (slice_index_or table i d).0.now)
-    (test : Decides b (map to_ascii_lowercase label ≡ map to_ascii_lowercase word))
-    (before : matched_with (pairs_of (drop i table)) word ≡ matched_with (pairs_of table) word) where
-  is_match : str_eq_ignore_ascii_case (slice_index_or table i d).0.now word ≡ b
-  is_match = ap (λ l. str_eq_ignore_ascii_case l word) (sym row) ∙ same_from_decides _ b (bytes_eq-Decides _ _) test
+    by_test : (b : Bool) → bytes_eq label word ≡ b → ((j : ℕ) → place_of labels word ≡ Some j → get_or labels j [] ≡ word) → get_or (label ∷ labels) i [] ≡ word
+    by_test true e f =
+        let g : Some 0 ≡ Some i = sym (ap (λ (b : Bool). if b then Some 0 else option_map suc (place_of labels word)) e) ∙ h in
+        let k : 0 ≡ i = cc in
+        ap (λ n. get_or (label ∷ labels) n []) (sym k) ∙ (bytes_eq-Decides label word).0 e
+    by_test false e f =
+        behind (place_of labels word) f (sym (ap (λ (b : Bool). if b then Some 0 else option_map suc (place_of labels word)) e) ∙ h)
 
-  pub found : b ≡ true → Some (slice_index_or table i d).1 ≡ matched_with (pairs_of table) word
-  found matches = sym (rw (is_match ∙ matches) at (walk_at table i d word within)) ∙ before
+-- the encodings in the order of the labels
 
-  pub passed : b ≡ false → matched_with (pairs_of (drop (i + 1) table)) word ≡ matched_with (pairs_of table) word
-  passed differs = sym (rw (is_match ∙ differs) at (walk_at table i d word within)) ∙ before
+at_place : (labels : List (List ℕ)) (encodings : List Encoding) (f : List ℕ → Option Encoding) (i : ℕ) (d : Encoding) → map Some encodings ≡ map f labels → i < length encodings
+    → Some (get_or encodings i d) ≡ f (get_or labels i [])
+at_place labels [] f i d h l = absurd (let no : ⊥ = omega arith in no)
+at_place [] (e ∷ encodings) f i d h l = absurd (let no : ⊥ = cc in no)
+at_place (label ∷ labels) (e ∷ encodings) f zero d h l = cc
+at_place (label ∷ labels) (e ∷ encodings) f (suc i) d h l = at_place labels encodings f i d (let t : map Some encodings ≡ map f labels = cc in t) (omega arith)
 
-abbrev pub in_lower_case : List (List ℕ × Encoding) → Bool
-in_lower_case pairs = list_all (λ pair. bytes_eq (map to_ascii_lowercase pair.0) pair.0) pairs
+-- a word that is no label of the table is no label
 
--- Where each label is in lower case, a word matches the label that it is in lower case.
-pub matched_is_paired : (pairs : List (List ℕ × Encoding)) (word : List ℕ) → in_lower_case pairs ≡ true
-    → matched_with pairs word ≡ paired_with pairs (map to_ascii_lowercase word)
-matched_is_paired [] word h = refl
-matched_is_paired (pair ∷ pairs) word h =
-    let lower : map to_ascii_lowercase pair.0 ≡ pair.0 = (bytes_eq-Decides _ _).0 (first_so _ _ h) in
-    let rest : matched_with pairs word ≡ paired_with pairs (map to_ascii_lowercase word) =
-    matched_is_paired pairs word (second_so _ _ h) in
-    rw (lower, rest)
+have_places : List (List ℕ × Encoding) → Bool
+have_places pairs = list_all (λ pair. is_some (place_of table pair.0)) pairs
 
-labelled_in_lower_case : in_lower_case labelled ≡ true
-unfolding labelled
-labelled_in_lower_case = refl
+all_have_places : have_places labelled ≡ true
+unfolding have_places labelled table
+all_have_places = refl
 
--- what a walk over the pairs finds for a trimmed label
-pub gets : (label trimmed : List ℕ) (pairs : List (List ℕ × Encoding)) → pairs ≡ labelled → IsTrimAscii label trimmed
-    → matched_with pairs trimmed ≡ get label
-gets label trimmed pairs table trim =
-    let word : trimmed ≡ trim_end (trim_start label) = trim_ascii_is label trimmed (trim_start label) refl trim in
-    rw (table, word) (matched_is_paired labelled (trim_end (trim_start label)) labelled_in_lower_case)
+unplaced : (pairs : List (List ℕ × Encoding)) (word : List ℕ) → have_places pairs ≡ true → place_of table word ≡ None → paired_with pairs word ≡ None
+unfolding have_places
+unplaced [] word h n = refl
+unplaced (pair ∷ pairs) word h n =
+    let first : is_some (place_of table pair.0) ≡ true = first_so (is_some (place_of table pair.0)) (have_places pairs) h in
+    let o : bytes_eq pair.0 word ≡ false = other (bytes_eq pair.0 word) refl first in
+    let rest : paired_with pairs word ≡ None = unplaced pairs word (second_so (is_some (place_of table pair.0)) (have_places pairs) h) n in
+    rw (o, rest) refl
+  where
+    other : (b : Bool) → bytes_eq pair.0 word ≡ b → is_some (place_of table pair.0) ≡ true → bytes_eq pair.0 word ≡ false
+    other true e s = absurd (false≢true (sym (ap is_some (ap (place_of table) ((bytes_eq-Decides pair.0 word).0 e) ∙ n)) ∙ s))
+    other false e s = e
+
+-- what the place of a trimmed label tells
+module _ (label trimmed : List ℕ) (trim : IsTrimAscii label trimmed) where
+  word_is : map to_ascii_lowercase trimmed ≡ map to_ascii_lowercase (trim_end (trim_start label))
+  word_is = ap (map to_ascii_lowercase) (trim_ascii_is label trimmed (trim_start label) refl trim)
+
+  pub gets : (encodings : List Encoding) (i : ℕ) (d : Encoding) → map Some encodings ≡ map (paired_with labelled) table → i < length encodings
+      → Some i ≡ place_of table (map to_ascii_lowercase trimmed) → Some (get_or encodings i d) ≡ get label
+  gets encodings i d h l p =
+      at_place table encodings (paired_with labelled) i d h l ∙ ap (paired_with labelled) (placed table (map to_ascii_lowercase trimmed) i (sym p) ∙ word_is)
+
+  pub gets_none : None ≡ place_of table (map to_ascii_lowercase trimmed) → None ≡ get label
+  gets_none p = sym (unplaced labelled (map to_ascii_lowercase trimmed) all_have_places (sym p)) ∙ ap (paired_with labelled) word_is

@@ -1,17 +1,12 @@
 -- The labels of the encodings, and which encoding a label names (Encoding Standard 4.2, "get an encoding").
-use Rattle.std.specs.Prelude.{ℕ, Bool, true, false, option_and_then, ◌-◌, ◌==◌, if◌then◌else◌, List, [], ◌∷◌, ◌++◌, length, take, drop, map, Option, Some, None, codes}
-use Rattle.std.specs.List.{prefix_len, suffix_len, slice_split, flat_map}
+use Rattle.std.specs.Prelude.{ℕ, Bool, true, false, option_and_then, ◌-◌, if◌then◌else◌, List, [], ◌∷◌, ◌++◌, length, take, drop, map, Option, Some, None}
+use Rattle.std.specs.List.{prefix_len, suffix_len, flat_map}
 use Rattle.std.specs.Char.{is_ascii_whitespace, to_ascii_lowercase}
-use Rattle.std.specs.Str.{bytes_eq, str_eq_ignore_ascii_case}
-use Rattle.std.specs.Borrow.{Bor}
-use Prim.Native.String.{String}
+use Rattle.std.specs.Str.{bytes_eq}
+use Rattle.enc_labels.specs.Table.{words}
 use Rattle.encoding_rs.specs.declared.encoding.Id.{Id}
 use Rattle.encoding_rs.specs.declared.encoding.Id.TheVariants.{Utf8, Ibm866, Iso88592, Iso88593, Iso88594, Iso88595, Iso88596, Iso88597, Iso88598, Iso88598I, Iso885910, Iso885913, Iso885914, Iso885915, Iso885916, Koi8R, Koi8U, Macintosh, Windows874, Windows1250, Windows1251, Windows1252, Windows1253, Windows1254, Windows1255, Windows1256, Windows1257, Windows1258, XMacCyrillic, Gbk, Gb18030, Big5, EucJp, Iso2022Jp, ShiftJis, EucKr, Replacement, Utf16be, Utf16le, XUserDefined}
 use Rattle.encoding_rs.specs.declared.encoding.Encoding.{Encoding}
-
--- the words of a line, between each two of which stands a space
-abbrev pub words : String → List (List ℕ)
-words line = slice_split (λ b. b == 0x20) (codes line)
 
 -- the labels of each encoding
 abbrev pub labels_by_id : Id → List (List ℕ)
@@ -93,17 +88,6 @@ labelled = flat_map (λ id. map (λ label. (label, record { id = id })) (labels_
 abbrev pub paired_with : List (List ℕ × Encoding) → List ℕ → Option Encoding
 paired_with [] word = None
 paired_with (pair ∷ pairs) word = if bytes_eq pair.0 word then Some pair.1 else paired_with pairs word
-
--- the encoding of the first label that a word matches but for the case of letters, if any
-abbrev pub matched_with : List (List ℕ × Encoding) → List ℕ → Option Encoding
-matched_with [] word = None
-matched_with (pair ∷ pairs) word =
-    if str_eq_ignore_ascii_case pair.0 word then Some pair.1 else matched_with pairs word
-
--- the pairs of a table of texts
-abbrev pub pairs_of : List (Bor (List ℕ) × Encoding) → List (List ℕ × Encoding)
-pairs_of [] = []
-pairs_of (row ∷ rows) = (row.0.now, row.1) ∷ pairs_of rows
 
 -- without the ASCII whitespace at the start: tab, line feed, form feed, carriage return and space
 abbrev pub trim_start : List ℕ → List ℕ

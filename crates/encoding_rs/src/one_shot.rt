@@ -1,6 +1,6 @@
 //! One-shot calls, for whole inputs.
 
-ghost use Rattle.std.specs.Prelude.{◌≡◌, ◌-◌, ◌≤◌, [], true, false, chars, IfOk, IsOk, IfErr, IsErrOf, OnOk, OnErr, option_map, None};
+ghost use Rattle.std.specs.Prelude.{◌≡◌, ◌-◌, ◌≤◌, [], true, false, chars, IfOk, IsOk, IfErr, IsErrOf, OnOk, OnErr, option_map, Some, None};
 ghost use Rattle.std.specs.Vec.{vec_len, vec_capacity};
 ghost use Rattle.std.specs.String.{string_bytes, string_len, string_capacity};
 ghost use Rattle.enc_units.specs.Checked.{plus};
@@ -30,6 +30,7 @@ pub enum OneShotError {
 
 /// A length to allocate behind so many bytes.
 fn length_behind(length: Option<usize>, written: usize) -> Result<usize, OneShotError>
+    ensures value { IfOk result (λ more. length ≡ Some more) }
     ensures fault { IfErr result (λ fault. fault ≡ OneShotError.TooLong) }
     ensures too_long { OnErr result (plus length written ≡ None) }
 {

@@ -1,0 +1,3 @@
+pub mod OrderLemmas
+pub mod HalvesLemmas
+pub mod TableLemmas

@@ -1,0 +1,51 @@
+-- The table, by computation.
+use Rattle.std.proofs.Common.{◌≡◌, ℕ, suc, ◌<◌, ◌≤◌, true, false, Bool, List, [], ◌∷◌, length, map, Option, Some, None, refl, ap, arith, nat_le, leb-true}
+use Rattle.std.specs.Prelude.{IfSome}
+use Rattle.std.specs.Borrow.{Bor}
+use Rattle.std.specs.Char.{to_ascii_lowercase}
+use Rattle.std.specs.List.{list_all}
+use Rattle.std.specs.Str.{bytes_eq}
+use Rattle.std.specs.Cmp.{first_so, second_so}
+use Rattle.std.proofs.lemmas.Slice.Eq.{bytes_eq-Decides}
+use Rattle.enc_labels.specs.Order.{are_ascending}
+use Rattle.enc_labels.specs.Place.{place_of, texts_of}
+use Rattle.enc_labels.specs.Table.{table}
+use Rattle.enc_labels.proofs.HalvesLemmas.{texts_len}
+
+pub table_ascends : are_ascending table ≡ true
+unfolding are_ascending table
+table_ascends = refl
+
+-- no label is longer than 19 bytes
+
+are_short : List (List ℕ) → Bool
+are_short words = list_all (λ word. nat_le (length word) 19) words
+
+table_is_short : are_short table ≡ true
+unfolding are_short table
+table_is_short = refl
+
+map_len : (f : ℕ → ℕ) (word : List ℕ) → length (map f word) ≡ length word
+map_len f [] = refl
+map_len f (b ∷ word) = ap suc (map_len f word)
+
+none_longer : (words : List (List ℕ)) (word : List ℕ) → are_short words ≡ true → 19 < length word → place_of words word ≡ None
+unfolding are_short
+none_longer [] word h l = refl
+none_longer (one ∷ words) word h l =
+    let m : length one ≤ 19 = leb-true (length one) 19 (first_so (nat_le (length one) 19) (are_short words) h) in
+    let o : bytes_eq one word ≡ false = other (bytes_eq one word) refl m in
+    let n : place_of words word ≡ None = none_longer words word (second_so (nat_le (length one) 19) (are_short words) h) l in
+    rw (o, n) refl
+  where
+    other : (b : Bool) → bytes_eq one word ≡ b → length one ≤ 19 → bytes_eq one word ≡ false
+    other true e m = absurd (let f = ap length ((bytes_eq-Decides one word).0 e) in let no : ⊥ = omega arith in no)
+    other false e m = e
+
+pub longer_is_none : (word : List ℕ) → 19 < length word → place_of table (map to_ascii_lowercase word) ≡ None
+longer_is_none word l = none_longer table (map to_ascii_lowercase word) table_is_short (let e = map_len to_ascii_lowercase word in omega arith)
+
+-- a place among the texts of the table is one in the table
+pub within_table : (texts : List (Bor (List ℕ))) (place : Option ℕ) → texts_of texts ≡ table → IfSome place (λ i. i < length texts) → IfSome place (λ i. i < length table)
+within_table texts None e h = h
+within_table texts (Some i) e h = let n = texts_len texts in let m = ap length e in omega arith

@@ -1,0 +1,68 @@
+//! The search for a label.
+
+ghost use Rattle.std.specs.Prelude.{◌≡◌, ◌<◌, true, map, length, IfSome};
+ghost use Rattle.std.specs.Ordering.{MatchOrdering};
+ghost use Rattle.std.specs.Char.{to_ascii_lowercase};
+ghost use Rattle.enc_labels.specs.Order.{number_of, are_ascending};
+ghost use Rattle.enc_labels.specs.Place.{place_of, texts_of};
+ghost use Rattle.enc_labels.specs.Table.{table};
+
+use crate::table::labels;
+use std::cmp::Ordering;
+
+/// The longest label has so many bytes.
+const LONGEST: usize = 19;
+
+/// How a label stands to a word in the order of the table.
+fn compare(label: &[u8], word: &[u8]) -> Ordering
+    ensures { MatchOrdering result (number_of label.now < number_of word.now) (label.now ≡ word.now) (number_of word.now < number_of label.now) }
+{
+    if label.len() != word.len() {
+        return label.len().cmp(&word.len());
+    }
+    let mut at = label.len();
+    while at > 0 {
+        at -= 1;
+        if label[at] != word[at] {
+            return label[at].cmp(&word[at]);
+        }
+    }
+    Ordering::Equal
+}
+
+/// The place of a word in a table, by halves.
+///
+/// - `table`: ascends.
+fn search(table: &[&str], word: &[u8]) -> Option<usize>
+    requires { are_ascending (texts_of table.now) ≡ true }
+    ensures place { result ≡ place_of (texts_of table.now) word.now }
+    ensures within { IfSome result (λ place. place < length table.now) }
+{
+    let mut low = 0;
+    let mut high = table.len();
+    while low < high {
+        let middle = low + (high - low) / 2;
+        match compare(table[middle].as_bytes(), word) {
+            Ordering::Less => low = middle + 1,
+            Ordering::Equal => return Some(middle),
+            Ordering::Greater => high = middle,
+        }
+    }
+    None
+}
+
+/// The place of the label in the table that a word is, but for the case of letters. It takes eight comparisons at most, and no
+/// memory.
+pub fn place(word: &[u8]) -> Option<usize>
+    ensures place { result ≡ place_of table (map to_ascii_lowercase word.now) }
+    ensures within { IfSome result (λ place. place < length table) }
+{
+    let mut bytes = [0; LONGEST];
+    if word.len() > LONGEST {
+        return None;
+    }
+    let lower = &mut bytes[..word.len()];
+    lower.copy_from_slice(word);
+    lower.make_ascii_lowercase();
+    search(labels(), lower)
+}
