@@ -1,2 +1,3 @@
 pub mod Variant
 pub mod Codecs
+pub mod Properties

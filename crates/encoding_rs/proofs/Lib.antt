@@ -8,6 +8,7 @@ pub mod RunLemmas
 pub mod AheadLemmas
 pub mod CharsOfTextLemmas
 pub mod EncodingLemmas
+pub mod PropertyLemmas
 pub mod EncoderLemmas
 pub mod EncodeRunLemmas
 pub mod ReferenceLemmas

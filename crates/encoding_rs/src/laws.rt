@@ -14,7 +14,8 @@ ghost use Rattle.encoding_rs.specs.Decoding.{whole_sequences, whole_malformed};
 ghost use Rattle.encoding_rs.specs.EncodeRun.{whole_bytes};
 ghost use Rattle.encoding_rs.specs.Labels.{labelled, get};
 ghost use Rattle.encoding_rs.specs.Names.{name_of};
-ghost use Rattle.encoding_rs.specs.Properties.{output_encoding_of};
+ghost use Rattle.encoding_rs.specs.Properties.{output_encoding_of, is_ascii_compatible, is_single_byte};
+ghost use Rattle.enc_codec.specs.Properties.{IsAsciiCompatible, IsSingleByte};
 ghost use Rattle.enc_machine.specs.Sequence.{Sequence, bytes_of, text_of};
 ghost use Rattle.enc_machine.specs.Segmentation.{sequences_of, IsSegmentation};
 ghost use Rattle.enc_machine.specs.Remainder.{Determines};
@@ -131,6 +132,22 @@ pub fn labels_name_one_encoding()
 pub fn iso_8859_8_differs()
     ensures { ISO_8859_8 ≢ ISO_8859_8_I }
 {}
+
+/// The encodings listed as ASCII-compatible ([`Encoding::is_ascii_compatible`]) are those in which each byte below 0x80 that a
+/// decoder reads first is a sequence by itself, of the character of its number.
+pub fn ascii_compatible_decode_ascii(encoding: Encoding)
+    ensures { (is_ascii_compatible encoding ≡ true) ↔ IsAsciiCompatible (rule_of encoding) }
+{
+    let _ = encoding;
+}
+
+/// The encodings listed as single-byte ([`Encoding::is_single_byte`]) are those in which each sequence of each input has one
+/// byte, and a text. (In replacement each has one byte too, but the first one alone has a text.)
+pub fn single_byte_decode_bytes(encoding: Encoding)
+    ensures { (is_single_byte encoding ≡ true) ↔ IsSingleByte (rule_of encoding) }
+{
+    let _ = encoding;
+}
 
 /// The output encoding of an output encoding is itself, and it has an encoder.
 pub fn output_encodings_are_their_own(encoding: Encoding)

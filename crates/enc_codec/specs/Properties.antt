@@ -1,0 +1,20 @@
+-- What it is to be ASCII-compatible, and to be single-byte, of the rule of an encoding.
+use Rattle.std.specs.Prelude.{◌≡◌, ℕ, ◌<◌, List, [], ◌∷◌, length}
+use Rattle.std.specs.List.{AllByRecursion}
+use Rattle.enc_machine.specs.Sequence.{Sequence}
+use Rattle.enc_machine.specs.Segmentation.{Rule, sequences_of}
+use Rattle.enc_machine.specs.Remainder.{AreBytes}
+use Rattle.enc_machine.specs.Taking.{IsPiece}
+
+-- To a decoder that has read nothing each byte below 0x80 is a sequence by itself, of the character of its number, whatever
+-- follows it.
+abbrev pub IsAsciiCompatible : Rule → Type 0
+IsAsciiCompatible rule = (b : ℕ) → b < 0x80 → IsPiece rule 0 (b ∷ []) b
+
+pub record IsByteWithText (s : Sequence) : Type 0 where
+  pub one : length s.bytes ≡ 1
+  pub text : s.text ≡ [] → ⊥
+
+-- Each sequence of each input has one byte, and a text.
+abbrev pub IsSingleByte : Rule → Type 0
+IsSingleByte rule = (bytes : List ℕ) → AreBytes bytes → AllByRecursion IsByteWithText (sequences_of rule 0 bytes)
