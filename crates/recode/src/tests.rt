@@ -41,9 +41,17 @@ fn run_by(
     let mut source = FromRead::new(&mut reader);
     let mut sink = FromWrite::new(&mut writer);
     let outcome = run(&mut source, &mut sink, from, to);
-    assert_eq!(rt; source.failed(), outcome == Err(RecodeFault::Read));
-    assert_eq!(rt; sink.failed(), outcome == Err(RecodeFault::Write));
-    assert_eq!(rt; writer.empty_calls, 0);
+    assert_eq!(rt;
+        source.failed(),
+        outcome == Err(RecodeFault::Read),
+        "of {input:?}"
+    );
+    assert_eq!(rt;
+        sink.failed(),
+        outcome == Err(RecodeFault::Write),
+        "of {input:?}"
+    );
+    assert_eq!(rt; writer.empty_calls, 0, "of {input:?}");
     Ran {
         outcome,
         written: writer.taken,
@@ -294,8 +302,8 @@ fn compare_stopped(rt: &impl Abort, ran: &Ran, (fault, nth): (RecodeFault, usize
         RecodeFault::Read => ran.reads,
         RecodeFault::Write => ran.writes,
     };
-    assert_eq!(rt; calls, nth, "{fault:?}");
-    assert_eq!(rt; ran.outcome, Err(fault));
+    assert_eq!(rt; calls, nth, "to {want:?}");
+    assert_eq!(rt; ran.outcome, Err(fault), "to {want:?}");
     let written = ran.written.as_slice();
     assert!(rt; want.starts_with(written), "{written:?} of {want:?}");
 }
