@@ -1,6 +1,9 @@
-//! Values from outside, and readers and writers that fail.
+//! Values from outside, and devices that fail.
+
+mod devices;
 
 use crate::{labels, status};
+use devices::{ALL_BYTES, BYTE, Step, StepReader, StepWriter, Steps};
 use enc_recode::{FromRead, FromWrite, RecodeFault, Sink, Source, run};
 use encoding_rs::{
     BIG5, EUC_JP, EUC_KR, Encoding, GB18030, GBK, IBM866, ISO_2022_JP, ISO_8859_2, ISO_8859_3,
@@ -10,61 +13,56 @@ use encoding_rs::{
     WINDOWS_1253, WINDOWS_1254, WINDOWS_1255, WINDOWS_1256, WINDOWS_1257, WINDOWS_1258,
     X_MAC_CYRILLIC, X_USER_DEFINED,
 };
-use std::io;
-use std::io::{Read, Write};
+use std::alloc::Global;
+use std::io::ErrorKind;
+use std::process::Abort;
 use std::test::Fail;
 
-/// Gives one byte a read, and ends or fails once it has given them all.
+/// What has come of a run over devices.
 #[derive(Drop)]
-struct SlowReader<'a> {
-    rest: &'a [u8],
-    fails: bool,
+struct Ran {
+    outcome: Result<bool, RecodeFault>,
+    written: Vec<u8>,
+    reads: usize,
+    writes: usize,
 }
 
-impl<'a> Read for SlowReader<'a> {
-    fn read(&mut self, buf: &mut [u8]) -> io::Result<usize> {
-        if buf.is_empty() {
-            return Ok(0);
-        }
-        let Some((first, rest)) = self.rest.split_first() else {
-            if self.fails {
-                return Err(io::Error::from(io::ErrorKind::ConnectionReset));
-            }
-            return Ok(0);
-        };
-        buf[0] = *first;
-        self.rest = rest;
-        Ok(1)
+/// Runs from a reader to a writer, each driven by its steps. The side that the outcome names has to have failed, and no other;
+/// and the writer is never asked to write nothing.
+fn run_by(
+    rt: &impl Abort,
+    alloc: Global,
+    (from, to): (Encoding, Encoding),
+    input: &[u8],
+    (reads, writes): (&[Step], &[Step]),
+) -> Ran {
+    let mut reader = StepReader::new(input, reads);
+    let mut writer = StepWriter::new(alloc, writes);
+    let mut source = FromRead::new(&mut reader);
+    let mut sink = FromWrite::new(&mut writer);
+    let outcome = run(&mut source, &mut sink, from, to);
+    assert_eq!(rt;
+        source.failed(),
+        outcome == Err(RecodeFault::Read),
+        "of {input:?}"
+    );
+    assert_eq!(rt;
+        sink.failed(),
+        outcome == Err(RecodeFault::Write),
+        "of {input:?}"
+    );
+    assert_eq!(rt; writer.empty_calls, 0, "of {input:?}");
+    Ran {
+        outcome,
+        written: writer.taken,
+        reads: reader.calls,
+        writes: writer.calls,
     }
 }
 
-/// Takes one byte a call, so many times, and then fails or takes none.
-#[derive(Drop)]
-struct SlowWriter {
-    taken: Vec<u8>,
-    calls: usize,
-    fails: bool,
-}
-
-impl Write for SlowWriter {
-    fn write(&mut self, buf: &[u8]) -> io::Result<usize> {
-        if self.calls == 0 {
-            if self.fails {
-                return Err(io::Error::from(io::ErrorKind::BrokenPipe));
-            }
-            return Ok(0);
-        }
-        let Some(first) = buf.first() else {
-            return Ok(0);
-        };
-        self.taken.push(*first)?;
-        self.calls -= 1;
-        Ok(1)
-    }
-
-    fn flush(&mut self) -> io::Result<()> {
-        Err(io::Error::from(io::ErrorKind::Unsupported))
-    }
+/// Runs over devices that move all at each call.
+fn run_whole(rt: &impl Abort, alloc: Global, encodings: (Encoding, Encoding), input: &[u8]) -> Ran {
+    run_by(rt, alloc, encodings, input, (&[], &[]))
 }
 
 #[test]
@@ -81,86 +79,299 @@ fn recodes(rt: HostRuntime) {
         (b"a\xE2\x82", b"a\xEF\xBF\xBD", true),
     ];
     for (input, want, replaced) in rows {
-        let mut written = Vec::new(rt.alloc());
-        let outcome = run(
-            &mut FromRead::new(input),
-            &mut FromWrite::new(&mut written),
-            UTF_8,
-            UTF_8,
-        );
-        assert_eq!(rt; outcome, Ok(replaced), "of {input:?}");
-        assert_eq!(rt; written.as_slice(), want, "of {input:?}");
+        let ran = run_whole(&rt, rt.alloc(), (UTF_8, UTF_8), input);
+        assert_eq!(rt; ran.outcome, Ok(replaced), "of {input:?}");
+        assert_eq!(rt; ran.written.as_slice(), want, "of {input:?}");
     }
 }
 
-#[test]
-fn read_fails(rt: HostRuntime) {
-    let rows: [(&[u8], &[u8]); 3] = [(b"", b""), (b"a", b"a"), (b"a\xE2\x82", b"a")];
-    for (rest, want) in rows {
-        let mut reader = FromRead::new(SlowReader { rest, fails: true });
-        let mut written = Vec::new(rt.alloc());
-        let mut writer = FromWrite::new(&mut written);
-        assert_eq!(rt;
-            run(&mut reader, &mut writer, UTF_8, UTF_8),
-            Err(RecodeFault::Read)
-        );
-        assert_eq!(rt; reader.failed(), true);
-        assert_eq!(rt; writer.failed(), false);
-        assert_eq!(rt; written.as_slice(), want, "of {rest:?}");
-    }
-}
+/// A step that fails.
+const FAULT: Step = Step::Fail(ErrorKind::BrokenPipe);
+
+/// A step that fails with the error after which std's own loops try again.
+const INTERRUPTED: Step = Step::Fail(ErrorKind::Interrupted);
+
+/// A step at which a writer takes 0 bytes.
+const NOTHING: Step = Step::Move(0);
+
+/// The encodings to decode from and to write, an input, the steps of the reader and of the writer, whether the reader is the
+/// one that fails, and the bytes that are written.
+type FaultRow = (
+    (Encoding, Encoding),
+    &'static [u8],
+    &'static [Step],
+    &'static [Step],
+    bool,
+    &'static [u8],
+);
+
+/// Runs in which a device fails. It would go on after INTERRUPTED, if it were asked to.
+const FAULTS: &[FaultRow] = &[
+    // a writer that takes a byte a call and fails, or takes none, and a reader that gives a byte a call and fails
+    (
+        (WINDOWS_1252, UTF_8),
+        b"a\xE9",
+        &[BYTE],
+        &[BYTE, BYTE, FAULT],
+        false,
+        b"a\xC3",
+    ),
+    (
+        (WINDOWS_1252, UTF_8),
+        b"a\xE9",
+        &[BYTE],
+        &[NOTHING],
+        false,
+        b"",
+    ),
+    (
+        (WINDOWS_1252, UTF_8),
+        b"a\xE9",
+        &[FAULT],
+        &[ALL_BYTES],
+        true,
+        b"",
+    ),
+    (
+        (WINDOWS_1252, UTF_8),
+        b"a\xE9",
+        &[BYTE, FAULT],
+        &[ALL_BYTES],
+        true,
+        b"a",
+    ),
+    // any error is a fault
+    (
+        (WINDOWS_1252, UTF_8),
+        b"a\xE9",
+        &[BYTE, INTERRUPTED, BYTE],
+        &[BYTE],
+        true,
+        b"a",
+    ),
+    (
+        (WINDOWS_1252, UTF_8),
+        b"a\xE9",
+        &[BYTE],
+        &[BYTE, INTERRUPTED, BYTE],
+        false,
+        b"a",
+    ),
+    // the end of the input, which a reader that has failed doesn't tell, would make U+FFFD of half a character
+    ((UTF_8, UTF_8), b"", &[FAULT], &[BYTE], true, b""),
+    (
+        (UTF_8, UTF_8),
+        b"a\xE2\x82",
+        &[BYTE, BYTE, BYTE, FAULT],
+        &[BYTE],
+        true,
+        b"a",
+    ),
+    (
+        (UTF_8, SHIFT_JIS),
+        b"a\xE2\x82",
+        &[BYTE, BYTE, BYTE, FAULT],
+        &[BYTE],
+        true,
+        b"a",
+    ),
+    // U+FFFD in part, and a reference in part
+    (
+        (UTF_8, UTF_8),
+        b"a\xFFb",
+        &[ALL_BYTES],
+        &[BYTE, BYTE, FAULT],
+        false,
+        b"a\xEF",
+    ),
+    (
+        (UTF_8, UTF_8),
+        b"a\xFFb",
+        &[ALL_BYTES],
+        &[BYTE, BYTE, NOTHING],
+        false,
+        b"a\xEF",
+    ),
+    (
+        (UTF_8, WINDOWS_1251),
+        b"a\xC3\xA9b",
+        &[ALL_BYTES],
+        &[BYTE, BYTE, BYTE, BYTE, FAULT],
+        false,
+        b"a&#2",
+    ),
+    (
+        (UTF_8, WINDOWS_1251),
+        b"a\xC3\xA9b",
+        &[ALL_BYTES],
+        &[BYTE, BYTE, BYTE, BYTE, NOTHING],
+        false,
+        b"a&#2",
+    ),
+    // the escape sequence of the end is not due
+    (
+        (UTF_8, ISO_2022_JP),
+        b"\xE6\x97\xA5\xE6\x9C\xAC",
+        &[ALL_BYTES, FAULT],
+        &[BYTE],
+        true,
+        b"\x1B$BF|K\\",
+    ),
+    ((UTF_8, ISO_2022_JP), b"", &[FAULT], &[BYTE], true, b""),
+];
 
 #[test]
-fn write_fails(rt: HostRuntime) {
-    for fails in [true, false] {
-        let mut slow = SlowWriter {
-            taken: Vec::new(rt.alloc()),
-            calls: 2,
-            fails,
+fn tells_faults(rt: HostRuntime) {
+    for (encodings, input, reads, writes, reader_fails, want) in FAULTS {
+        let ran = run_by(&rt, rt.alloc(), *encodings, *input, (*reads, *writes));
+        let fault = if *reader_fails {
+            RecodeFault::Read
+        } else {
+            RecodeFault::Write
         };
-        let text: &[u8] = b"a\xFFb";
-        let mut reader = FromRead::new(text);
-        let mut writer = FromWrite::new(&mut slow);
-        assert_eq!(rt;
-            run(&mut reader, &mut writer, UTF_8, UTF_8),
-            Err(RecodeFault::Write)
-        );
-        assert_eq!(rt; writer.failed(), true);
-        assert_eq!(rt; reader.failed(), false);
-        assert_eq!(rt; slow.taken.as_slice(), b"a\xEF".as_slice());
+        assert_eq!(rt; ran.outcome, Err(fault), "of {input:?}");
+        assert_eq!(rt; ran.written.as_slice(), *want, "of {input:?}");
     }
 }
 
-#[test]
-fn writes_in_small_parts(rt: HostRuntime) {
-    let mut slow = SlowWriter {
-        taken: Vec::new(rt.alloc()),
-        calls: 9,
-        fails: true,
+/// The encodings to decode from and to write, an input, the steps by which it comes in three chunks that cut characters,
+/// whether something is replaced, and the bytes of the whole run.
+type CutRow = (
+    (Encoding, Encoding),
+    &'static [u8],
+    &'static [Step],
+    bool,
+    &'static [u8],
+);
+
+/// Inputs in three chunks. The bytes of mappable characters are of Python's codecs.
+const CUTS: &[CutRow] = &[
+    (
+        (UTF_8, UTF_8),
+        b"\xC3\xA9\xE6\x97\xA5\xF0\x9F\x92\xA9",
+        &[BYTE, Step::Move(3), ALL_BYTES],
+        false,
+        b"\xC3\xA9\xE6\x97\xA5\xF0\x9F\x92\xA9",
+    ),
+    // what breaks off at the end is U+FFFD
+    (
+        (SHIFT_JIS, UTF_8),
+        b"\x93\xFA\x96\x7B\x8C",
+        &[BYTE, Step::Move(2), ALL_BYTES],
+        true,
+        b"\xE6\x97\xA5\xE6\x9C\xAC\xEF\xBF\xBD",
+    ),
+    (
+        (UTF_8, SHIFT_JIS),
+        b"\xC3\xA9\xE6\x97\xA5\xE6\x9C\xAC",
+        &[BYTE, Step::Move(3), ALL_BYTES],
+        true,
+        b"&#233;\x93\xFA\x96\x7B",
+    ),
+    // the end of the text is an escape sequence
+    (
+        (UTF_8, ISO_2022_JP),
+        b"\xF0\x9F\x92\xA9\xE6\x97\xA5\xE6\x9C\xAC",
+        &[Step::Move(2), Step::Move(4), ALL_BYTES],
+        true,
+        b"&#128169;\x1B$BF|K\\\x1B(B",
+    ),
+];
+
+/// The calls of the reader for three chunks and for the end.
+const READS: usize = 4;
+
+/// Steps with another one at a call, where the first call is the 1st. After it they go on.
+fn steps_but(alloc: Global, steps: &[Step], nth: usize, step: Step) -> Result<Vec<Step>, Fail> {
+    let mut usual = Steps::new(steps);
+    let mut changed = Vec::new(alloc);
+    for _ in 1..nth {
+        changed.push(usual.next_step())?;
+    }
+    changed.push(step)?;
+    for _ in 0..READS {
+        changed.push(usual.next_step())?;
+    }
+    Ok(changed)
+}
+
+/// A run that one of its devices ends, at the call of it that is told: the outcome names it, and what was written is a
+/// beginning of what had to be.
+fn compare_stopped(rt: &impl Abort, ran: &Ran, (fault, nth): (RecodeFault, usize), want: &[u8]) {
+    let calls = match fault {
+        RecodeFault::Read => ran.reads,
+        RecodeFault::Write => ran.writes,
     };
-    let text: &[u8] = b"a\xFFb";
-    let outcome = run(
-        &mut FromRead::new(text),
-        &mut FromWrite::new(&mut slow),
-        UTF_8,
-        UTF_8,
-    );
-    assert_eq!(rt; outcome, Ok(true));
-    assert_eq!(rt; slow.taken.as_slice(), b"a\xEF\xBF\xBDb".as_slice());
+    assert_eq!(rt; calls, nth, "to {want:?}");
+    assert_eq!(rt; ran.outcome, Err(fault), "to {want:?}");
+    let written = ran.written.as_slice();
+    assert!(rt; want.starts_with(written), "{written:?} of {want:?}");
+}
+
+/// The writer fails at each of its calls in turn, where a run by `reads` has `calls` of them.
+fn compare_write_faults(
+    rt: &impl Abort,
+    alloc: Global,
+    row: &CutRow,
+    (reads, writes): (&[Step], &[Step]),
+    calls: usize,
+) -> Result<(), Fail> {
+    let (encodings, input, _, _, want) = row;
+    for nth in 1..=calls {
+        for fault in [FAULT, INTERRUPTED, NOTHING] {
+            let failing = steps_but(alloc, writes, nth, fault)?;
+            let ran = run_by(rt, alloc, *encodings, *input, (reads, failing.as_slice()));
+            compare_stopped(rt, &ran, (RecodeFault::Write, nth), *want);
+        }
+    }
+    Ok(())
+}
+
+/// The reader fails at each of its calls in turn: by itself; behind a writer that fails at a call which is made before; and
+/// in front of a writer that fails at the next one.
+fn compare_read_faults(
+    rt: &impl Abort,
+    alloc: Global,
+    row: &CutRow,
+    writes: &[Step],
+) -> Result<(), Fail> {
+    let (encodings, input, cuts, _, want) = row;
+    for nth in 1..=READS {
+        let reads = steps_but(alloc, *cuts, nth, FAULT)?;
+        let reads = reads.as_slice();
+        let ran = run_by(rt, alloc, *encodings, *input, (reads, writes));
+        compare_stopped(rt, &ran, (RecodeFault::Read, nth), *want);
+        compare_write_faults(rt, alloc, row, (reads, writes), ran.writes)?;
+        let failing = steps_but(alloc, writes, ran.writes.saturating_add(1), FAULT)?;
+        let ran = run_by(rt, alloc, *encodings, *input, (reads, failing.as_slice()));
+        compare_stopped(rt, &ran, (RecodeFault::Read, nth), *want);
+    }
+    Ok(())
+}
+
+#[test]
+fn tells_each_fault_of_three_chunks(rt: HostRuntime) -> Result<(), Fail> {
+    for row in CUTS {
+        let (encodings, input, cuts, replaced, want) = row;
+        for write in [ALL_BYTES, BYTE, Step::Move(2)] {
+            let writes = [write];
+            let ran = run_by(&rt, rt.alloc(), *encodings, *input, (*cuts, &writes));
+            assert_eq!(rt; ran.outcome, Ok(*replaced), "of {input:?}");
+            assert_eq!(rt; ran.written.as_slice(), *want, "of {input:?}");
+            assert_eq!(rt; ran.reads, READS, "of {input:?}");
+            compare_write_faults(&rt, rt.alloc(), row, (*cuts, &writes), ran.writes)?;
+            compare_read_faults(&rt, rt.alloc(), row, &writes)?;
+        }
+    }
+    Ok(())
 }
 
 #[test]
 fn recodes_many_chunks(rt: HostRuntime) -> Result<(), Fail> {
     let long = vec![in rt.alloc(); 0xFFu8; 200_000]?;
-    let mut written = Vec::new(rt.alloc());
-    let outcome = run(
-        &mut FromRead::new(long.as_slice()),
-        &mut FromWrite::new(&mut written),
-        UTF_8,
-        UTF_8,
-    );
-    assert_eq!(rt; outcome, Ok(true));
-    assert_eq!(rt; written.len(), 600_000);
+    let ran = run_whole(&rt, rt.alloc(), (UTF_8, UTF_8), long.as_slice());
+    assert_eq!(rt; ran.outcome, Ok(true));
+    assert_eq!(rt; ran.written.len(), 600_000);
     Ok(())
 }
 
@@ -212,19 +423,14 @@ fn knows_labels(rt: HostRuntime) {
 
 /// What recoding some bytes comes to: the bytes written, and the status.
 fn recode_bytes(
-    rt: &HostRuntime,
+    rt: &impl Abort,
+    alloc: Global,
     (from, to): (&str, &str),
     input: &[u8],
 ) -> Result<(Vec<u8>, u8), Fail> {
-    let (from, to) = labels(from, to).ok_or("unknown label")?;
-    let mut written = Vec::new(rt.alloc());
-    let outcome = run(
-        &mut FromRead::new(input),
-        &mut FromWrite::new(&mut written),
-        from,
-        to,
-    );
-    Ok((written, status(&outcome)))
+    let encodings = labels(from, to).ok_or("unknown label")?;
+    let ran = run_whole(rt, alloc, encodings, input);
+    Ok((ran.written, status(&ran.outcome)))
 }
 
 #[test]
@@ -283,7 +489,7 @@ fn recodes_a_line_of_each_kind_of_encoding(rt: HostRuntime) -> Result<(), Fail> 
         ("utf-16be", "utf-8", b"\x00a\xDC\x00", "a\u{FFFD}", 1),
     ];
     for (from, to, input, want, want_status) in rows {
-        let (written, status) = recode_bytes(&rt, (from, to), input)?;
+        let (written, status) = recode_bytes(&rt, rt.alloc(), (from, to), input)?;
         assert_eq!(rt; written.as_slice(), want.as_bytes(), "of {from}");
         assert_eq!(rt; status, want_status, "of {from}");
     }
@@ -320,7 +526,7 @@ fn looks_for_a_mark_in_front(rt: HostRuntime) -> Result<(), Fail> {
         ("windows-1252", b"a\xFF\xFE", "aÿþ", 0),
     ];
     for (from, input, want, want_status) in rows {
-        let (written, status) = recode_bytes(&rt, (from, "utf-8"), input)?;
+        let (written, status) = recode_bytes(&rt, rt.alloc(), (from, "utf-8"), input)?;
         assert_eq!(rt; written.as_slice(), want.as_bytes(), "of {from} {input:?}");
         assert_eq!(rt; status, want_status, "of {from} {input:?}");
     }
@@ -335,16 +541,16 @@ fn joins_a_mark_that_comes_in_parts(rt: HostRuntime) {
         (b"\xFF\xFE\xE9\x00", "é"),
         (b"\xEF\xBB\xE9", "ï»é"),
     ];
-    for (rest, want) in rows {
-        let mut written = Vec::new(rt.alloc());
-        let outcome = run(
-            &mut FromRead::new(SlowReader { rest, fails: false }),
-            &mut FromWrite::new(&mut written),
-            WINDOWS_1252,
-            UTF_8,
+    for (input, want) in rows {
+        let ran = run_by(
+            &rt,
+            rt.alloc(),
+            (WINDOWS_1252, UTF_8),
+            input,
+            (&[BYTE], &[ALL_BYTES]),
         );
-        assert_eq!(rt; outcome, Ok(false), "of {rest:?}");
-        assert_eq!(rt; written.as_slice(), want.as_bytes(), "of {rest:?}");
+        assert_eq!(rt; ran.outcome, Ok(false), "of {input:?}");
+        assert_eq!(rt; ran.written.as_slice(), want.as_bytes(), "of {input:?}");
     }
 }
 
@@ -417,12 +623,12 @@ const INPUTS: &[Row] = &[
 #[test]
 fn writes_other_encodings(rt: HostRuntime) -> Result<(), Fail> {
     for (text, to, want, want_status) in TEXTS {
-        let (written, status) = recode_bytes(&rt, ("utf-8", *to), (*text).as_bytes())?;
+        let (written, status) = recode_bytes(&rt, rt.alloc(), ("utf-8", *to), (*text).as_bytes())?;
         assert_eq!(rt; written.as_slice(), *want, "{text} to {to}");
         assert_eq!(rt; status, *want_status, "{text} to {to}");
     }
     for (from, to, input, want, want_status) in INPUTS {
-        let (written, status) = recode_bytes(&rt, (*from, *to), *input)?;
+        let (written, status) = recode_bytes(&rt, rt.alloc(), (*from, *to), *input)?;
         assert_eq!(rt; written.as_slice(), *want, "from {from} to {to}");
         assert_eq!(rt; status, *want_status, "from {from} to {to}");
     }
@@ -477,40 +683,22 @@ const ALL: [Encoding; 40] = [
 const OF_ALL_KINDS: &str =
     "a\u{E}é\u{80}ÀŁĦĀЖعΩשŊŪẂŒȘ░ґ•ก€ăўğ‰پų₫Ѓ\\~¥‾ｱア−日\u{F780}本語¢平乂𠀀搭𨋢한뷁똠\u{E5E5}\u{FFFD}💩z";
 
-/// What recoding from UTF-8 comes to, where one byte is given and taken at a time.
-fn recode_slowly(rt: &HostRuntime, to: Encoding, rest: &[u8]) -> (Vec<u8>, u8) {
-    let mut slow = SlowWriter {
-        taken: Vec::new(rt.alloc()),
-        calls: 10_000,
-        fails: true,
-    };
-    let outcome = run(
-        &mut FromRead::new(SlowReader { rest, fails: false }),
-        &mut FromWrite::new(&mut slow),
-        UTF_8,
-        to,
-    );
-    (slow.taken, status(&outcome))
-}
-
 #[test]
 fn writes_each_encoding_in_small_parts(rt: HostRuntime) {
     let text = OF_ALL_KINDS.as_bytes();
     for to in ALL {
         let name = to.name();
-        let mut written = Vec::new(rt.alloc());
-        let outcome = run(
-            &mut FromRead::new(text),
-            &mut FromWrite::new(&mut written),
-            UTF_8,
-            to,
-        );
-        let (slow, slow_status) = recode_slowly(&rt, to, text);
-        assert_eq!(rt; outcome, Ok(!to.can_encode_everything()), "to {name}");
-        assert_eq!(rt; slow_status, status(&outcome), "to {name}");
-        assert_eq!(rt; slow.as_slice(), written.as_slice(), "to {name}");
+        let ran = run_whole(&rt, rt.alloc(), (UTF_8, to), text);
+        let slow = run_by(&rt, rt.alloc(), (UTF_8, to), text, (&[BYTE], &[BYTE]));
+        assert_eq!(rt; ran.outcome, Ok(!to.can_encode_everything()), "to {name}");
+        assert_eq!(rt; slow.outcome, ran.outcome, "to {name}");
         assert_eq!(rt;
-            written.as_slice() == text,
+            slow.written.as_slice(),
+            ran.written.as_slice(),
+            "to {name}"
+        );
+        assert_eq!(rt;
+            ran.written.as_slice() == text,
             to.can_encode_everything(),
             "to {name}"
         );
@@ -518,62 +706,12 @@ fn writes_each_encoding_in_small_parts(rt: HostRuntime) {
 }
 
 #[test]
-fn read_fails_while_encoding(rt: HostRuntime) {
-    let rows: [(Encoding, &[u8], &[u8]); 4] = [
-        (SHIFT_JIS, b"a\xC3\xA9", b"a&#233;"),
-        (SHIFT_JIS, b"a\xE2\x82", b"a"),
-        // the escape sequence at the end is not due
-        (ISO_2022_JP, b"\xE6\x97\xA5\xE6\x9C\xAC", b"\x1B$BF|K\\"),
-        (ISO_2022_JP, b"", b""),
-    ];
-    for (to, rest, want) in rows {
-        let mut reader = FromRead::new(SlowReader { rest, fails: true });
-        let mut written = Vec::new(rt.alloc());
-        let mut writer = FromWrite::new(&mut written);
-        assert_eq!(rt;
-            run(&mut reader, &mut writer, UTF_8, to),
-            Err(RecodeFault::Read)
-        );
-        assert_eq!(rt; reader.failed(), true);
-        assert_eq!(rt; writer.failed(), false);
-        assert_eq!(rt; written.as_slice(), want, "of {rest:?}");
-    }
-}
-
-#[test]
-fn write_fails_while_encoding(rt: HostRuntime) {
-    for fails in [true, false] {
-        let mut slow = SlowWriter {
-            taken: Vec::new(rt.alloc()),
-            calls: 4,
-            fails,
-        };
-        let text: &[u8] = b"a\xC3\xA9b";
-        let mut reader = FromRead::new(text);
-        let mut writer = FromWrite::new(&mut slow);
-        assert_eq!(rt;
-            run(&mut reader, &mut writer, UTF_8, WINDOWS_1251),
-            Err(RecodeFault::Write)
-        );
-        assert_eq!(rt; writer.failed(), true);
-        assert_eq!(rt; reader.failed(), false);
-        assert_eq!(rt; slow.taken.as_slice(), b"a&#2".as_slice());
-    }
-}
-
-#[test]
 fn encodes_many_chunks(rt: HostRuntime) -> Result<(), Fail> {
     let long = vec![in rt.alloc(); 0xE9u8; 200_000]?;
-    let mut written = Vec::new(rt.alloc());
-    let outcome = run(
-        &mut FromRead::new(long.as_slice()),
-        &mut FromWrite::new(&mut written),
-        WINDOWS_1252,
-        SHIFT_JIS,
-    );
-    assert_eq!(rt; outcome, Ok(true));
-    assert_eq!(rt; written.len(), 1_200_000);
-    let Some((front, _)) = written.as_slice().split_at_checked(12) else {
+    let ran = run_whole(&rt, rt.alloc(), (WINDOWS_1252, SHIFT_JIS), long.as_slice());
+    assert_eq!(rt; ran.outcome, Ok(true));
+    assert_eq!(rt; ran.written.len(), 1_200_000);
+    let Some((front, _)) = ran.written.as_slice().split_at_checked(12) else {
         return Err("nothing written".into());
     };
     assert_eq!(rt; front, b"&#233;&#233;".as_slice());
