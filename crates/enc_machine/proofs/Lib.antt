@@ -12,3 +12,4 @@ pub mod ToldLemmas
 pub mod TakingLemmas
 pub mod PieceLemmas
 pub mod Latin1Lemmas
+pub mod NeedLemmas

@@ -9,3 +9,4 @@ pub mod Pending
 pub mod Taking
 pub mod Latin1
 pub mod Lengths
+pub mod Need

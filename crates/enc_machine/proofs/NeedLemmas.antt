@@ -1,0 +1,310 @@
+-- What a call needs, by what it does.
+use Rattle.std.proofs.Common.{◌≡◌, ◌⊎◌, ℕ, ◌+◌, ◌<◌, ◌≤◌, Bool, true, false, cond, ◌||◌, List, [], ◌∷◌, ◌++◌, length, drop, refl, ap, ◌∙◌, sym, arith, subst, append_assoc, inl, inr}
+use Rattle.std.proofs.lemmas.List.{append-nil, length-append}
+use Rattle.std.proofs.Math.ListN.{drop_of_length-le}
+use Rattle.std.proofs.lemmas.Bool.{false≢true, cond-true, cond-false}
+use Rattle.enc_machine.specs.declared.decoder_result.DecoderResult.{DecoderResult}
+use Rattle.enc_machine.specs.declared.decoder_result.DecoderResult.TheVariants.{InputEmpty, OutputFull}
+use Rattle.enc_machine.specs.declared.decoder_result.DecoderResult.TheVariants as stop
+use Rattle.enc_units.specs.Output.{units_of_text}
+use Rattle.enc_machine.specs.Sequence.{Sequence, is_malformed, any_malformed, text_of}
+use Rattle.enc_machine.specs.Remainder.{Remainder, Begins, Determines, AreDetermined}
+use Rattle.enc_machine.specs.Call.{Treatment, Replaced, Reported, is_replaced, keeps_room, AtInputEmpty, AtOutputFull, AtMalformed, Stops, Call}
+use Rattle.enc_machine.specs.Need.{before_malformed, needed, needed_units, NeedPasses, kept_room, MeetsNeed}
+use Rattle.enc_machine.proofs.SequenceLemmas.{units-append}
+use Rattle.enc_machine.proofs.DeterminedLemmas.{determines_fewer, begins_behind}
+
+-- of two lists that begin a third, one begins the other
+
+pub begin_alike : (a b all : List Sequence) → Begins a all → Begins b all → Begins a b ⊎ ((s : Sequence) × (rest : List Sequence) × (a ≡ b ++ s ∷ rest))
+begin_alike [] b all h k = inl (b, refl)
+begin_alike (s ∷ a) [] all h k = inr (s, a, refl)
+begin_alike (s ∷ a) (t ∷ b) [] h k = absurd (let e = h.1 in cc)
+begin_alike (s ∷ a) (t ∷ b) (u ∷ all) h k =
+    let e : u ≡ s = let g = h.1 in cc in
+    let f : u ≡ t = let g = k.1 in cc in
+    let x : s ≡ t = sym e ∙ f in
+    elim (begin_alike a b all (h.0, tail h.1) (k.0, tail k.1)) [
+      | inl g ↦ inl (g.0, ap (λ q. q ∷ b) (sym x) ∙ ap (λ ss. s ∷ ss) g.1)
+      | inr g ↦ inr (g.0, g.1, ap (λ ss. s ∷ ss) g.2 ∙ ap (λ q. q ∷ (b ++ g.0 ∷ g.1)) x)
+    ]
+  where
+    tail : {p q : Sequence} {ps qs : List Sequence} → p ∷ ps ≡ q ∷ qs → ps ≡ qs
+    tail e = cc
+
+-- what is needed of sequences one behind another
+
+module _ (units_of : ℕ → List ℕ) where
+  abbrev units : List Sequence → ℕ
+  units ss = length (units_of_text units_of (text_of ss))
+
+  pub units-both : (ss ts : List Sequence) → units (ss ++ ts) ≡ units ss + units ts
+  units-both ss ts = ap length (units-append units_of ss ts) ∙ length-append (units_of_text units_of (text_of ss)) (units_of_text units_of (text_of ts))
+
+  longer_if : (t : Bool) (s : Sequence) (x p q : List Sequence) → units p ≤ units q → units (cond t x (s ∷ p)) ≤ units (cond t x (s ∷ q))
+  longer_if true s x p q h = omega arith
+  longer_if false s x p q h = omega (arith, h, units-both (s ∷ []) p, units-both (s ∷ []) q)
+
+  before_more : (keeps : Bool) (ss ts : List Sequence) → units (before_malformed keeps ss) ≤ units (before_malformed keeps (ss ++ ts))
+  before_more keeps [] ts = omega arith
+  before_more keeps (s ∷ ss) ts = longer_if (is_malformed s.kind) s _ _ _ (before_more keeps ss ts)
+
+  -- more sequences need no less
+  needed_more : (treatment : Treatment) (ss ts : List Sequence) → needed_units units_of treatment ss ≤ needed_units units_of treatment (ss ++ ts)
+  needed_more Replaced ss ts = omega (arith, units-both ss ts)
+  needed_more (Reported keeps) ss ts = before_more keeps ss ts
+
+either_false : (a b : Bool) → (a || b) ≡ false → (a ≡ false) × (b ≡ false)
+either_false true b e = absurd (false≢true (sym e))
+either_false false b e = (refl, e)
+
+-- behind sequences of which none is malformed
+before_clean : (keeps : Bool) (ss ts : List Sequence) → any_malformed ss ≡ false → before_malformed keeps (ss ++ ts) ≡ ss ++ before_malformed keeps ts
+before_clean keeps [] ts n = refl
+before_clean keeps (s ∷ ss) ts n =
+    let m = either_false (is_malformed s.kind) (any_malformed ss) n in
+    cond-false _ _ _ m.0 ∙ ap (λ x. s ∷ x) (before_clean keeps ss ts m.1)
+
+pub needed_clean : (treatment : Treatment) (ss ts : List Sequence) → (is_replaced treatment ≡ false → any_malformed ss ≡ false)
+    → needed treatment (ss ++ ts) ≡ ss ++ needed treatment ts
+needed_clean Replaced ss ts n = refl
+needed_clean (Reported keeps) ss ts n = before_clean keeps ss ts (n refl)
+
+-- one that is malformed ends it
+before_cut : (keeps : Bool) (ss : List Sequence) (s : Sequence) (ts : List Sequence) → any_malformed ss ≡ false → is_malformed s.kind ≡ true
+    → before_malformed keeps (ss ++ s ∷ ts) ≡ ss ++ cond keeps (s ∷ []) []
+before_cut keeps ss s ts n m = before_clean keeps ss (s ∷ ts) n ∙ ap (λ x. ss ++ x) (cond-true _ _ _ m)
+
+-- what determines sequences at all
+
+at_end : (last : Bool) (remaining : List ℕ → List Sequence) (x : List ℕ) (ss : List Sequence) → AreDetermined last remaining x ss → Begins ss (remaining x)
+at_end true remaining x ss d = d
+at_end false remaining x ss d = subst (λ y. Begins ss (remaining y)) (append-nil x) (d [] tt)
+
+none_needed : (last : Bool) (remaining : List ℕ → List Sequence) (x : List ℕ) → AreDetermined last remaining x []
+none_needed true remaining x = (remaining x, refl)
+none_needed false remaining x = λ z _. (remaining (x ++ z), refl)
+
+-- a call that leaves sequences off: those still to come are theirs and the ones behind them
+module _ (old new : List ℕ → List Sequence) (src rest : List ℕ) (done : List Sequence) where
+  abbrev LeavesOff : Bool → Type 0
+  LeavesOff last = (z : List ℕ) → (last ≡ true → z ≡ []) → old (src ++ z) ≡ done ++ new (rest ++ z)
+
+  whole : LeavesOff true → old src ≡ done ++ new rest
+  whole h = ap old (sym (append-nil src)) ∙ h [] (λ _. refl) ∙ ap (λ x. done ++ new x) (append-nil rest)
+
+  behind_done : (last : Bool) → LeavesOff last → (ts : List Sequence) → AreDetermined last new rest ts → AreDetermined last old src (done ++ ts)
+  behind_done true h ts d = (d.0, whole h ∙ ap (λ ss. done ++ ss) d.1 ∙ sym (append_assoc done ts d.0))
+  behind_done false h ts d = λ z b.
+      let g = d z b in
+      (g.0, h z (λ n. absurd (false≢true n)) ∙ ap (λ ss. done ++ ss) g.1 ∙ sym (append_assoc done ts g.0))
+
+  past_done : (last : Bool) → LeavesOff last → (ts : List Sequence) → AreDetermined last old src (done ++ ts) → AreDetermined last new rest ts
+  past_done true h ts d = begins_behind done ts (new rest) (old src) (whole h) d
+  past_done false h ts d = λ z b. begins_behind done ts (new (rest ++ z)) (old (src ++ z)) (h z (λ n. absurd (false≢true n))) (d z b)
+
+  done_determined : (last : Bool) → LeavesOff last → AreDetermined last old src done
+  done_determined last h = subst (AreDetermined last old src) (append-nil done) (behind_done last h [] (none_needed last new rest))
+
+  -- what is determined is a part of what is done, or goes on behind it
+  compare : (last : Bool) → LeavesOff last → (ss : List Sequence) → AreDetermined last old src ss
+      → Begins ss done ⊎ ((s : Sequence) × (ts : List Sequence) × (ss ≡ done ++ s ∷ ts))
+  compare last h ss d = begin_alike ss done (old src) (at_end last old src ss d) (at_end last old src done (done_determined last h))
+
+module _ (units_of : ℕ → List ℕ) (treatment : Treatment) (old new : Remainder) (src : List ℕ) (last : Bool) (room read : ℕ) where
+  abbrev Passes : ℕ → Type 0
+  Passes n = NeedPasses units_of treatment old src last n
+
+  abbrev of_sequences : List Sequence → ℕ
+  of_sequences ss = needed_units units_of treatment ss
+
+  within : (ss done : List Sequence) → Begins ss done → of_sequences ss ≤ of_sequences done
+  within ss done b = subst (λ ts. of_sequences ss ≤ of_sequences ts) (sym b.1) (needed_more units_of treatment ss b.0)
+
+  module _ (put done : List Sequence) (clean : is_replaced treatment ≡ false → any_malformed put ≡ false)
+      (h : LeavesOff old.sequences new.sequences src (drop read src) done last) where
+    -- where all that is done was put out
+    module _ (e : done ≡ put) where
+      clean_done : is_replaced treatment ≡ false → any_malformed done ≡ false
+      clean_done r = ap any_malformed e ∙ clean r
+
+      needed_done : (ts : List Sequence) → of_sequences (done ++ ts) ≡ units units_of put + of_sequences ts
+      needed_done ts =
+          ap (units units_of) (needed_clean treatment done ts clean_done) ∙ units-both units_of done (needed treatment ts)
+          ∙ ap (λ ss. units units_of ss + of_sequences ts) e
+
+      all_done : of_sequences done ≡ units units_of put
+      all_done = ap of_sequences (sym (append-nil done)) ∙ needed_done [] ∙ plus_none (units units_of put) (of_sequences []) (none treatment)
+        where
+          plus_none : (a b : ℕ) → b ≡ 0 → a + b ≡ a
+          plus_none a b f = omega arith
+
+          none : (t : Treatment) → needed_units units_of t [] ≡ 0
+          none Replaced = refl
+          none (Reported keeps) = refl
+
+      goes_on : (n : ℕ) → Passes (units units_of put + n) → NeedPasses units_of treatment new (drop read src) last n
+      goes_on n p = elim (compare old.sequences new.sequences src (drop read src) done last h p.sequences p.determined) [
+        | inl b ↦ absurd (let l = within p.sequences done b in let m = p.more in omega (arith, l, m, all_done))
+        | inr g ↦ record {
+          sequences = g.0 ∷ g.1;
+          determined = past_done old.sequences new.sequences src (drop read src) done last h (g.0 ∷ g.1)
+              (subst (AreDetermined last old.sequences src) g.2 p.determined);
+          more = let m = p.more in omega (arith, m, ap of_sequences g.2, needed_done (g.0 ∷ g.1));
+        }
+      ]
+
+      comes_back : (n : ℕ) → NeedPasses units_of treatment new (drop read src) last n → Passes (units units_of put + n)
+      comes_back n p = record {
+        sequences = done ++ p.sequences;
+        determined = behind_done old.sequences new.sequences src (drop read src) done last h p.sequences p.determined;
+        more = let m = p.more in omega (arith, m, needed_done p.sequences);
+      }
+
+      reaches : (n : ℕ) → n < units units_of put → Passes n
+      reaches n l = record {
+        sequences = done;
+        determined = done_determined old.sequences new.sequences src (drop read src) done last h;
+        more = omega (arith, l, all_done);
+      }
+
+-- where all is read, and nothing more is determined
+nothing_more : (last : Bool) (old new : List ℕ → List Sequence) (src rest : List ℕ) (done : List Sequence) → LeavesOff old new src rest done last
+    → rest ≡ [] → (last ≡ false → (s : Sequence) → Determines old src (done ++ s ∷ []) → ⊥) → (last ≡ true → new [] ≡ [])
+    → (s : Sequence) (ts : List Sequence) → AreDetermined last old src (done ++ s ∷ ts) → ⊥
+nothing_more true old new src rest done h e n l s ts d =
+    let g = past_done old new src rest done true h (s ∷ ts) d in
+    let f : [] ≡ s ∷ (ts ++ g.0) = sym (l refl) ∙ ap new (sym e) ∙ g.1 in
+    cc
+nothing_more false old new src rest done h e n l s ts d =
+    n refl s (determines_fewer old src (done ++ s ∷ []) ts (subst (Determines old src) (sym (append_assoc done (s ∷ []) ts)) d))
+
+same_either : (t : Bool) (x : List Sequence) → cond t x x ≡ x
+same_either true x = refl
+same_either false x = refl
+
+-- a sequence that is not to be reported is needed
+one_needed : (treatment : Treatment) (s : Sequence) → (keeps_room treatment ≡ false → is_malformed s.kind ≡ false) → needed treatment (s ∷ []) ≡ s ∷ []
+one_needed Replaced s n = refl
+one_needed (Reported true) s n = same_either (is_malformed s.kind) (s ∷ [])
+one_needed (Reported false) s n = cond-false _ _ _ (n refl)
+
+module _ (units_of : ℕ → List ℕ) where
+  units-one : (s : Sequence) (text : List ℕ) → s.text ≡ text → units units_of (s ∷ []) ≡ length (units_of_text units_of text)
+  units-one s text e = ap (λ t. length (units_of_text units_of t)) (append-nil s.text ∙ e)
+
+  -- behind one that is reported nothing more is needed
+  needed_cut : (treatment : Treatment) (put done : List Sequence) (s : Sequence) (ts : List Sequence) → done ≡ put ++ s ∷ [] → any_malformed put ≡ false
+      → is_malformed s.kind ≡ true → s.text ≡ 0xFFFD ∷ [] → is_replaced treatment ≡ false
+      → needed_units units_of treatment (done ++ ts) ≡ units units_of put + kept_room units_of treatment
+  needed_cut Replaced put done s ts e n m r t = absurd (false≢true (sym t))
+  needed_cut (Reported true) put done s ts e n m r t =
+      ap (λ d. needed_units units_of (Reported true) (d ++ ts)) e ∙ ap (needed_units units_of (Reported true)) (append_assoc put (s ∷ []) ts)
+      ∙ ap (units units_of) (before_cut true put s ts n m) ∙ units-both units_of put (s ∷ [])
+      ∙ ap (λ k. units units_of put + k) (units-one s (0xFFFD ∷ []) r ∙ ap length (append-nil (units_of 0xFFFD)))
+  needed_cut (Reported false) put done s ts e n m r t =
+      ap (λ d. needed_units units_of (Reported false) (d ++ ts)) e ∙ ap (needed_units units_of (Reported false)) (append_assoc put (s ∷ []) ts)
+      ∙ ap (units units_of) (before_cut false put s ts n m) ∙ units-both units_of put []
+
+  kept_fits : (treatment : Treatment) (n room : ℕ) → (keeps_room treatment ≡ true → n + length (units_of 0xFFFD) ≤ room) → n ≤ room → is_replaced treatment ≡ false
+      → n + kept_room units_of treatment ≤ room
+  kept_fits Replaced n room k l r = absurd (false≢true (sym r))
+  kept_fits (Reported true) n room k l r = k refl
+  kept_fits (Reported false) n room k l r = omega (arith, l)
+
+module _ (units_of : ℕ → List ℕ) (treatment : Treatment) (old new : Remainder) (src : List ℕ) (last : Bool) (room read : ℕ) (put done : List Sequence)
+    (clean : is_replaced treatment ≡ false → any_malformed put ≡ false)
+    (h : LeavesOff old.sequences new.sequences src (drop read src) done last) (fits : units units_of put ≤ room) where
+  abbrev Meets : DecoderResult → Type 0
+  Meets result = MeetsNeed units_of treatment old new src last room result read (units units_of put)
+
+  compared : (ss : List Sequence) → AreDetermined last old.sequences src ss → Begins ss done ⊎ ((s : Sequence) × (ts : List Sequence) × (ss ≡ done ++ s ∷ ts))
+  compared = compare old.sequences new.sequences src (drop read src) done last h
+
+  shorter : (ss : List Sequence) → Begins ss done → needed_units units_of treatment ss ≤ needed_units units_of treatment done
+  shorter ss b = within units_of treatment old new src last room read ss done b
+
+  -- all is read
+  meets_empty : AtInputEmpty old new src last put done read → Meets InputEmpty
+  meets_empty s = record {
+    full = (
+      λ e. absurd (cc),
+      λ p. absurd (elim (compared p.sequences p.determined) [
+        | inl b ↦ (let m = p.more in omega (arith, m, shorter p.sequences b, all_done units_of treatment old new src last room read put done clean h s.only_put))
+        | inr g ↦ nothing_more last old.sequences new.sequences src (drop read src) done h (drop_of_length-le src (let r = s.all_read in omega arith))
+            s.none_determined s.none_left g.0 g.1 (subst (AreDetermined last old.sequences src) g.2 p.determined)
+      ]),
+    );
+    reaches = reaches units_of treatment old new src last room read put done clean h s.only_put;
+    left = λ n. (
+      goes_on units_of treatment old new src last room read put done clean h s.only_put n,
+      comes_back units_of treatment old new src last room read put done clean h s.only_put n,
+    );
+  }
+
+  -- the next one doesn't fit
+  meets_full : AtOutputFull units_of old src last treatment room put done read → Meets OutputFull
+  meets_full s = record {
+    full = (
+      λ _. record {
+        sequences = done ++ s.next ∷ [];
+        determined = s.determined;
+        more = let f = s.full in omega (
+          arith,
+          f,
+          needed_done units_of treatment old new src last room read put done clean h s.only_put (s.next ∷ []),
+          ap (units units_of) (one_needed treatment s.next s.not_reported),
+          units-one units_of s.next s.next.text refl,
+          ap (units units_of) s.only_put,
+        );
+      },
+      λ _. refl,
+    );
+    reaches = reaches units_of treatment old new src last room read put done clean h s.only_put;
+    left = λ n. (
+      goes_on units_of treatment old new src last room read put done clean h s.only_put n,
+      comes_back units_of treatment old new src last room read put done clean h s.only_put n,
+    );
+  }
+
+  -- one is reported
+  module _ (l a : ℕ) (s : AtMalformed units_of old new src last treatment room put done read l a) where
+    needed_all : (ts : List Sequence) → needed_units units_of treatment (done ++ ts) ≡ units units_of put + kept_room units_of treatment
+    needed_all ts = needed_cut units_of treatment put done s.next ts s.then_next (clean s.not_replaced) s.malformed s.replacement s.not_replaced
+
+    needed_none : needed_units units_of treatment done ≡ units units_of put + kept_room units_of treatment
+    needed_none = ap (needed_units units_of treatment) (sym (append-nil done)) ∙ needed_all []
+
+    bounded : (n : ℕ) → NeedPasses units_of treatment old src last n → n < units units_of put + kept_room units_of treatment
+    bounded n p = let m = p.more in elim (compared p.sequences p.determined) [
+      | inl b ↦ omega (arith, m, shorter p.sequences b, needed_none)
+      | inr g ↦ omega (arith, m, ap (needed_units units_of treatment) g.2, needed_all (g.0 ∷ g.1))
+    ]
+
+    passes : (n : ℕ) → n < units units_of put + kept_room units_of treatment → NeedPasses units_of treatment old src last n
+    passes n g = record {
+      sequences = done;
+      determined = done_determined old.sequences new.sequences src (drop read src) done last h;
+      more = omega (arith, g, needed_none);
+    }
+
+    meets_malformed : Meets (stop.Malformed l a)
+    meets_malformed = record {
+      full = (λ e. absurd (cc), λ p. absurd (omega (arith, bounded room p, kept_fits units_of treatment (units units_of put) room s.room_kept fits s.not_replaced)));
+      reaches = λ n g. passes n (omega (arith, g));
+      left = λ n. (λ p. omega (arith, bounded (units units_of put + n) p), λ g. passes (units units_of put + n) (omega (arith, g)));
+    }
+
+  meets_by : (result : DecoderResult) → Stops units_of old new src last treatment room put done read result → Meets result
+  meets_by InputEmpty s = meets_empty s
+  meets_by OutputFull s = meets_full s
+  meets_by (stop.Malformed l a) s = meets_malformed l a s
+
+-- Every call meets what it needs.
+pub meets_need : (units_of : ℕ → List ℕ) (old new : Remainder) (src : List ℕ) (last : Bool) (treatment : Treatment) (room : ℕ) (result : DecoderResult) (read : ℕ) (wrote : List ℕ) (replaced : Bool)
+    → Call units_of old new src last treatment room result read wrote replaced → MeetsNeed units_of treatment old new src last room result read (length wrote)
+meets_need units_of old new src last treatment room result read wrote replaced c =
+    let e : length wrote ≡ units units_of c.put = ap length c.text in
+    let f = c.fits in
+    subst (λ n. MeetsNeed units_of treatment old new src last room result read n) (sym e)
+    (meets_by units_of treatment old new src last room read c.put c.done (λ r. sym c.flag ∙ c.none_replaced r) c.residual (omega (arith, f, e)) result c.stops)
