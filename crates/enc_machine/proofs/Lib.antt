@@ -13,3 +13,4 @@ pub mod TakingLemmas
 pub mod PieceLemmas
 pub mod Latin1Lemmas
 pub mod NeedLemmas
+pub mod EnoughLemmas

@@ -35,7 +35,7 @@ begin_alike (s ∷ a) (t ∷ b) (u ∷ all) h k =
 -- what is needed of sequences one behind another
 
 module _ (units_of : ℕ → List ℕ) where
-  abbrev units : List Sequence → ℕ
+  abbrev pub units : List Sequence → ℕ
   units ss = length (units_of_text units_of (text_of ss))
 
   pub units-both : (ss ts : List Sequence) → units (ss ++ ts) ≡ units ss + units ts
@@ -50,7 +50,7 @@ module _ (units_of : ℕ → List ℕ) where
   before_more keeps (s ∷ ss) ts = longer_if (is_malformed s.kind) s _ _ _ (before_more keeps ss ts)
 
   -- more sequences need no less
-  needed_more : (treatment : Treatment) (ss ts : List Sequence) → needed_units units_of treatment ss ≤ needed_units units_of treatment (ss ++ ts)
+  pub needed_more : (treatment : Treatment) (ss ts : List Sequence) → needed_units units_of treatment ss ≤ needed_units units_of treatment (ss ++ ts)
   needed_more Replaced ss ts = omega (arith, units-both ss ts)
   needed_more (Reported keeps) ss ts = before_more keeps ss ts
 
@@ -77,7 +77,7 @@ before_cut keeps ss s ts n m = before_clean keeps ss (s ∷ ts) n ∙ ap (λ x. 
 
 -- what determines sequences at all
 
-at_end : (last : Bool) (remaining : List ℕ → List Sequence) (x : List ℕ) (ss : List Sequence) → AreDetermined last remaining x ss → Begins ss (remaining x)
+pub at_end : (last : Bool) (remaining : List ℕ → List Sequence) (x : List ℕ) (ss : List Sequence) → AreDetermined last remaining x ss → Begins ss (remaining x)
 at_end true remaining x ss d = d
 at_end false remaining x ss d = subst (λ y. Begins ss (remaining y)) (append-nil x) (d [] tt)
 
@@ -190,7 +190,7 @@ one_needed (Reported true) s n = same_either (is_malformed s.kind) (s ∷ [])
 one_needed (Reported false) s n = cond-false _ _ _ (n refl)
 
 module _ (units_of : ℕ → List ℕ) where
-  units-one : (s : Sequence) (text : List ℕ) → s.text ≡ text → units units_of (s ∷ []) ≡ length (units_of_text units_of text)
+  pub units-one : (s : Sequence) (text : List ℕ) → s.text ≡ text → units units_of (s ∷ []) ≡ length (units_of_text units_of text)
   units-one s text e = ap (λ t. length (units_of_text units_of t)) (append-nil s.text ∙ e)
 
   -- behind one that is reported nothing more is needed

@@ -1,11 +1,16 @@
 -- How much room a call needs (Encoding Standard 4.1, "process a queue", with a bounded output), and which lengths are enough.
-use Rattle.std.specs.Prelude.{◌≡◌, ◌↔◌, ℕ, ◌+◌, ◌<◌, Bool, true, false, List, [], ◌∷◌, length, drop, if◌then◌else◌}
+use Rattle.std.specs.Prelude.{◌≡◌, ◌↔◌, ℕ, ◌+◌, ◌<◌, Bool, true, false, Option, Some, List, [], ◌∷◌, length, drop, if◌then◌else◌}
 use Rattle.enc_machine.specs.declared.decoder_result.DecoderResult.{DecoderResult}
 use Rattle.enc_machine.specs.declared.decoder_result.DecoderResult.TheVariants.{InputEmpty, OutputFull}
 use Rattle.enc_machine.specs.declared.decoder_result.DecoderResult.TheVariants as stop
+use Rattle.enc_machine.specs.declared.text_lengths.TextLengths.{TextLengths}
+use Rattle.std.specs.Char.{encode_utf8}
+use Rattle.std.specs.Char.Escape.{encode_utf16}
 use Rattle.enc_units.specs.Output.{units_of_text}
 use Rattle.enc_machine.specs.Sequence.{Sequence, is_malformed, text_of}
 use Rattle.enc_machine.specs.Remainder.{Remainder, AreDetermined}
+use Rattle.enc_machine.specs.CodecState.{CodecState, remainder_of}
+use Rattle.enc_machine.specs.Lengths.{utf_8_length, reporting_length, utf_16_length}
 use Rattle.enc_machine.specs.Call.{Treatment, Replaced, Reported}
 
 -- the sequences before the first malformed one, or up to it where room is kept for U+FFFD
@@ -46,3 +51,14 @@ pub record MeetsNeed (units_of : ℕ → List ℕ) (treatment : Treatment) (old 
   pub full : (result ≡ OutputFull) ↔ NeedPasses units_of treatment old src last room
   pub reaches : (n : ℕ) → n < written → NeedPasses units_of treatment old src last n
   pub left : (n : ℕ) → NeedPasses units_of treatment old src last (written + n) ↔ LeftPasses units_of treatment new src last read result n
+
+-- A length, by how many bytes are offered and how many are pending, is enough for calls of this kind: no need of theirs passes it.
+abbrev pub IsEnough : (ℕ → List ℕ) → Treatment → (ℕ → ℕ → Option ℕ) → CodecState → Type 0
+IsEnough units_of treatment length_of v =
+    (src : List ℕ) (last : Bool) (n : ℕ) → length_of (length src) (length v.pending) ≡ Some n → NeedPasses units_of treatment (remainder_of v) src last n → ⊥
+
+-- The lengths that formulas tell are enough in this state, for calls of each kind.
+pub record AreEnough (formulas : TextLengths) (v : CodecState) : Type 0 where
+  pub utf_8 : IsEnough encode_utf8 Replaced (utf_8_length formulas) v
+  pub reporting : (keeps_room : Bool) → IsEnough encode_utf8 (Reported keeps_room) (reporting_length formulas) v
+  pub utf_16 : (treatment : Treatment) → IsEnough encode_utf16 treatment (utf_16_length formulas) v

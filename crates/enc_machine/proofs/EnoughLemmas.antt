@@ -1,0 +1,154 @@
+-- Which lengths are enough, by what the sequences of a rule have for each byte.
+use Rattle.std.proofs.Common.{◌≡◌, ℕ, ◌+◌, ◌*◌, ◌/◌, ◌^◌, ◌<◌, ◌≤◌, zero, suc, Bool, true, false, cond, nat_lt, Option, Some, None, List, [], ◌∷◌, ◌++◌, length, take, drop, refl, ap, ◌∙◌, sym, arith}
+use Rattle.std.proofs.lemmas.List.{length-append, take-append-drop}
+use Rattle.std.specs.Char.{encode_utf8}
+use Rattle.std.specs.Char.Escape.{encode_utf16}
+use Rattle.enc_units.specs.Output.{units_of_text}
+use Rattle.enc_units.specs.Checked.{plus, times, half}
+use Rattle.enc_machine.specs.Sequence.{Sequence, is_malformed}
+use Rattle.enc_machine.specs.Segmentation.{Rule, head_sequence, sequences_behind, sequences_of}
+use Rattle.enc_machine.specs.CodecState.{CodecState, remainder_of}
+use Rattle.enc_machine.specs.Call.{Treatment, Replaced, Reported}
+use Rattle.enc_machine.specs.RuleLaws.{HasSmallTexts}
+use Rattle.enc_machine.specs.declared.text_lengths.TextLengths.TheVariants as lengths
+use Rattle.enc_machine.specs.Need.{before_malformed, needed_units, NeedPasses, AreEnough}
+use Rattle.enc_machine.proofs.NeedLemmas.{units, units-both, units-one, needed_more, at_end}
+
+-- what a formula comes to, where no step of it passes usize
+
+fitting_is : (n q : ℕ) (t : Bool) → cond t (Some n) None ≡ Some q → q ≡ n
+fitting_is n q true e = cc
+fitting_is n q false e = cc
+
+pub plus_is : (o : Option ℕ) (b q : ℕ) → plus o b ≡ Some q → (a : ℕ) × (o ≡ Some a) × (q ≡ a + b)
+plus_is None b q e = absurd (cc)
+plus_is (Some a) b q e = (a, refl, fitting_is (a + b) q (nat_lt (a + b) (2 ^ 64)) e)
+
+pub times_is : (o : Option ℕ) (b q : ℕ) → times o b ≡ Some q → (a : ℕ) × (o ≡ Some a) × (q ≡ a * b)
+times_is None b q e = absurd (cc)
+times_is (Some a) b q e = (a, refl, fitting_is (a * b) q (nat_lt (a * b) (2 ^ 64)) e)
+
+pub half_is : (o : Option ℕ) (q : ℕ) → half o ≡ Some q → (a : ℕ) × (o ≡ Some a) × (q ≡ a / 2)
+half_is None q e = absurd (cc)
+half_is (Some a) q e = (a, refl, cc)
+
+-- the number in Some
+pub same_some : (a b : ℕ) → Some a ≡ Some b → a ≡ b
+same_some a b e = cc
+
+pub sum_is : (n h q : ℕ) → plus (Some n) h ≡ Some q → q ≡ n + h
+sum_is n h q e = let p = plus_is (Some n) h q e in p.2 ∙ ap (λ a. a + h) (sym (same_some n p.0 p.1))
+
+pub thrice_is : (o : Option ℕ) (m q : ℕ) → ((a : ℕ) → o ≡ Some a → a ≡ m) → times o 3 ≡ Some q → q ≡ 3 * m
+thrice_is o m q h e = let t = times_is o 3 q e in omega (arith, t.2, h t.0 t.1)
+
+-- Sequences have so many code units at most, by the designated set and the number of bytes, if each has so many more at most than
+-- those behind it may have.
+module _ (units_of : ℕ → List ℕ) (rule : Rule) (most : ℕ → ℕ → ℕ)
+    (step : (set b : ℕ) (z : List ℕ) → length (units_of_text units_of (rule set b z).text) + most (rule set b z).set (length (drop (rule set b z).more z)) ≤ most set (suc (length z))) where
+  bounded_behind : (set k : ℕ) (z : List ℕ) → units units_of (sequences_behind rule set k z) ≤ most set (length (drop k z))
+  unfolding sequences_behind
+  bounded_behind set zero [] = omega arith
+  bounded_behind set (suc k) [] = omega arith
+  bounded_behind set zero (b ∷ z) =
+      let h = rule set b z in
+      omega (
+        arith,
+        step set b z,
+        bounded_behind h.set h.more z,
+        units-both units_of (head_sequence h b z ∷ []) (sequences_behind rule h.set h.more z),
+        units-one units_of (head_sequence h b z) h.text refl,
+      )
+  bounded_behind set (suc k) (b ∷ z) = bounded_behind set k z
+
+  pub bounded : (set : ℕ) (z : List ℕ) → units units_of (sequences_of rule set z) ≤ most set (length z)
+  bounded set z = bounded_behind set 0 z
+
+-- what a call reports is no more than all
+before_less : (units_of : ℕ → List ℕ) (keeps : Bool) (ss : List Sequence) → units units_of (before_malformed keeps ss) ≤ units units_of ss
+before_less units_of keeps [] = omega arith
+before_less units_of keeps (s ∷ ss) = by_test (is_malformed s.kind) keeps (before_less units_of keeps ss)
+  where
+    by_test : (t k : Bool) → units units_of (before_malformed keeps ss) ≤ units units_of ss
+        → units units_of (cond t (cond k (s ∷ []) []) (s ∷ before_malformed keeps ss)) ≤ units units_of (s ∷ ss)
+    by_test true true h = omega (arith, units-both units_of (s ∷ []) ss)
+    by_test true false h = omega arith
+    by_test false k h = omega (arith, h, units-both units_of (s ∷ []) ss, units-both units_of (s ∷ []) (before_malformed keeps ss))
+
+pub needed_less : (units_of : ℕ → List ℕ) (treatment : Treatment) (ss : List Sequence) → needed_units units_of treatment ss ≤ units units_of ss
+needed_less units_of Replaced ss = omega arith
+needed_less units_of (Reported keeps) ss = before_less units_of keeps ss
+
+-- what is needed is a part of what all bytes need
+pub needs_all : (units_of : ℕ → List ℕ) (treatment : Treatment) (v : CodecState) (src : List ℕ) (last : Bool) (n : ℕ)
+    → NeedPasses units_of treatment (remainder_of v) src last n → n < needed_units units_of treatment (sequences_of v.rule v.set (v.pending ++ src))
+needs_all units_of treatment v src last n p =
+    let b = at_end last (remainder_of v).sequences src p.sequences p.determined in
+    let m = p.more in
+    omega (arith, m, needed_more units_of treatment p.sequences b.0, ap (needed_units units_of treatment) b.1)
+
+-- a need that is bounded by the number of all bytes
+pub never_passes : (units_of : ℕ → List ℕ) (treatment : Treatment) (most : ℕ → ℕ) (v : CodecState)
+    → ((z : List ℕ) → needed_units units_of treatment (sequences_of v.rule v.set z) ≤ most (length z))
+    → (src : List ℕ) (last : Bool) (n : ℕ) → most (length v.pending + length src) ≤ n → NeedPasses units_of treatment (remainder_of v) src last n → ⊥
+never_passes units_of treatment most v h src last n l p =
+    omega (arith, l, h (v.pending ++ src), needs_all units_of treatment v src last n p, ap most (length-append v.pending src))
+
+-- At most three code units of UTF-8 and one of UTF-16 for each byte.
+abbrev pub HasFewUnits : Rule → Type 0
+HasFewUnits rule = (set b : ℕ) (z : List ℕ)
+    → (length (units_of_text encode_utf8 (rule set b z).text) ≤ 3 * suc (length (take (rule set b z).more z)))
+    × (length (units_of_text encode_utf16 (rule set b z).text) ≤ suc (length (take (rule set b z).more z)))
+
+-- a text of the Basic Multilingual Plane, as single bytes have
+pub record IsBasicText (text : List ℕ) : Type 0 where
+  pub utf_8 : length (units_of_text encode_utf8 text) ≤ 3
+  pub utf_16 : length (units_of_text encode_utf16 text) ≤ 1
+
+-- Small texts are few for two bytes and more.
+pub few_by_single_bytes : (rule : Rule) → HasSmallTexts rule → ((set b : ℕ) (z : List ℕ) → length (take (rule set b z).more z) ≡ 0 → IsBasicText (rule set b z).text)
+    → HasFewUnits rule
+few_by_single_bytes rule small basic set b z = by_length (length (take (rule set b z).more z)) refl
+  where
+    by_length : (n : ℕ) → length (take (rule set b z).more z) ≡ n
+        → (length (units_of_text encode_utf8 (rule set b z).text) ≤ 3 * suc (length (take (rule set b z).more z)))
+        × (length (units_of_text encode_utf16 (rule set b z).text) ≤ suc (length (take (rule set b z).more z)))
+    by_length zero e = let t = basic set b z e in (omega (arith, t.utf_8), omega (arith, t.utf_16))
+    by_length (suc n) e = let t = small set b z in (omega (arith, t.utf_8, e), omega (arith, t.utf_16, e))
+
+module _ (v : CodecState) (few : HasFewUnits v.rule) where
+  parted : (n : ℕ) (z : List ℕ) → length (take n z) + length (drop n z) ≡ length z
+  parted n z = sym (length-append (take n z) (drop n z)) ∙ ap length (take-append-drop n z)
+
+  utf_8_bounded : (z : List ℕ) → needed_units encode_utf8 Replaced (sequences_of v.rule v.set z) ≤ 3 * length z
+  utf_8_bounded z = bounded encode_utf8 v.rule (λ _ n. 3 * n) (λ set b y. omega (arith, (few set b y).0, parted (v.rule set b y).more y)) v.set z
+
+  utf_16_bounded : (treatment : Treatment) (z : List ℕ) → needed_units encode_utf16 treatment (sequences_of v.rule v.set z) ≤ length z
+  utf_16_bounded treatment z =
+      let b = bounded encode_utf16 v.rule (λ _ n. n) (λ set b y. omega (arith, (few set b y).1, parted (v.rule set b y).more y)) v.set z in
+      omega (arith, b, needed_less encode_utf16 treatment (sequences_of v.rule v.set z))
+
+  reporting_bounded : (keeps : Bool) (z : List ℕ) → needed_units encode_utf8 (Reported keeps) (sequences_of v.rule v.set z) ≤ 3 * length z
+  reporting_bounded keeps z = omega (arith, utf_8_bounded z, needed_less encode_utf8 (Reported keeps) (sequences_of v.rule v.set z))
+
+  pub multi_byte_enough : AreEnough lengths.MultiByte v
+  multi_byte_enough = record {
+    utf_8 = λ src last n e. never_passes encode_utf8 Replaced (λ k. 3 * k) v utf_8_bounded src last n (thrice src n e);
+    reporting = λ keeps src last n e. never_passes encode_utf8 (Reported keeps) (λ k. 3 * k) v (reporting_bounded keeps) src last n (thrice src n e);
+    utf_16 = λ treatment src last n e. never_passes encode_utf16 treatment (λ k. k) v (utf_16_bounded treatment) src last n
+        (omega (arith, sum_is (length src) (length v.pending) n e));
+  }
+    where
+      thrice : (src : List ℕ) (n : ℕ) → times (plus (Some (length src)) (length v.pending)) 3 ≡ Some n → 3 * (length v.pending + length src) ≤ n
+      thrice src n e = omega (arith, thrice_is (plus (Some (length src)) (length v.pending)) (length src + length v.pending) n (λ a f. sum_is (length src) (length v.pending) a f) e)
+
+  pub one_byte_enough : v.pending ≡ [] → AreEnough lengths.OneByte v
+  one_byte_enough none = record {
+    utf_8 = λ src last n e. never_passes encode_utf8 Replaced (λ k. 3 * k) v utf_8_bounded src last n (thrice src n e);
+    reporting = λ keeps src last n e. never_passes encode_utf8 (Reported keeps) (λ k. 3 * k) v (reporting_bounded keeps) src last n (thrice src n e);
+    utf_16 = λ treatment src last n e. never_passes encode_utf16 treatment (λ k. k) v (utf_16_bounded treatment) src last n
+        (omega (arith, same_some (length src) n e, ap length none));
+  }
+    where
+      thrice : (src : List ℕ) (n : ℕ) → times (Some (length src)) 3 ≡ Some n → 3 * (length v.pending + length src) ≤ n
+      thrice src n e = omega (arith, thrice_is (Some (length src)) (length src) n (λ a f. sym (same_some (length src) a f)) e, ap length none)
