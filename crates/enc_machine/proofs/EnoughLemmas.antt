@@ -1,7 +1,9 @@
 -- Which lengths are enough, by what the sequences of a rule have for each byte.
 use Rattle.std.proofs.Common.{◌≡◌, ℕ, ◌+◌, ◌*◌, ◌/◌, ◌^◌, ◌<◌, ◌≤◌, zero, suc, Bool, true, false, cond, nat_lt, Option, Some, None, List, [], ◌∷◌, ◌++◌, length, take, drop, refl, ap, ◌∙◌, sym, arith}
+use Rattle.std.proofs.lemmas.Str.{length-encode}
+use Rattle.std.proofs.lemmas.Bool.Decides.{nat_tests}
 use Rattle.std.proofs.lemmas.List.{length-append, take-append-drop}
-use Rattle.std.specs.Char.{encode_utf8}
+use Rattle.std.specs.Char.{encode_utf8, len_utf8}
 use Rattle.std.specs.Char.Escape.{encode_utf16}
 use Rattle.enc_units.specs.Output.{units_of_text}
 use Rattle.enc_units.specs.Checked.{plus, times, half}
@@ -105,6 +107,21 @@ pub record IsBasicText (text : List ℕ) : Type 0 where
   pub utf_8 : length (units_of_text encode_utf8 text) ≤ 3
   pub utf_16 : length (units_of_text encode_utf16 text) ≤ 1
 
+pub basic_by : (c : ℕ) → c < 0x1_0000 → IsBasicText (c ∷ [])
+basic_by c l = record {
+  utf_8 = omega (arith, length-append (encode_utf8 c) [], length-encode c, at_most_three c l);
+  utf_16 = ap_one (nat_lt c 0x1_0000) _ _ _ (grind (arith, nat_tests));
+}
+  where
+    at_most_three : (c : ℕ) → c < 0x1_0000 → len_utf8 c ≤ 3
+    at_most_three c l = grind (arith, nat_tests)
+    ap_one : (t : Bool) (a b d : ℕ) → t ≡ true → length (cond t (a ∷ []) (b ∷ d ∷ []) ++ []) ≤ 1
+    ap_one true a b d e = omega arith
+    ap_one false a b d e = absurd (cc)
+
+pub none_basic : IsBasicText []
+none_basic = record { utf_8 = omega arith; utf_16 = omega arith }
+
 -- Small texts are few for two bytes and more.
 pub few_by_single_bytes : (rule : Rule) → HasSmallTexts rule → ((set b : ℕ) (z : List ℕ) → length (take (rule set b z).more z) ≡ 0 → IsBasicText (rule set b z).text)
     → HasFewUnits rule
@@ -133,9 +150,9 @@ module _ (v : CodecState) (few : HasFewUnits v.rule) where
 
   pub multi_byte_enough : AreEnough lengths.MultiByte v
   multi_byte_enough = record {
-    utf_8 = λ src last n e. never_passes encode_utf8 Replaced (λ k. 3 * k) v utf_8_bounded src last n (thrice src n e);
-    reporting = λ keeps src last n e. never_passes encode_utf8 (Reported keeps) (λ k. 3 * k) v (reporting_bounded keeps) src last n (thrice src n e);
-    utf_16 = λ treatment src last n e. never_passes encode_utf16 treatment (λ k. k) v (utf_16_bounded treatment) src last n
+    utf_8 = λ src last n _ e. never_passes encode_utf8 Replaced (λ k. 3 * k) v utf_8_bounded src last n (thrice src n e);
+    reporting = λ keeps src last n _ e. never_passes encode_utf8 (Reported keeps) (λ k. 3 * k) v (reporting_bounded keeps) src last n (thrice src n e);
+    utf_16 = λ treatment src last n _ e. never_passes encode_utf16 treatment (λ k. k) v (utf_16_bounded treatment) src last n
         (omega (arith, sum_is (length src) (length v.pending) n e));
   }
     where
@@ -144,9 +161,9 @@ module _ (v : CodecState) (few : HasFewUnits v.rule) where
 
   pub one_byte_enough : v.pending ≡ [] → AreEnough lengths.OneByte v
   one_byte_enough none = record {
-    utf_8 = λ src last n e. never_passes encode_utf8 Replaced (λ k. 3 * k) v utf_8_bounded src last n (thrice src n e);
-    reporting = λ keeps src last n e. never_passes encode_utf8 (Reported keeps) (λ k. 3 * k) v (reporting_bounded keeps) src last n (thrice src n e);
-    utf_16 = λ treatment src last n e. never_passes encode_utf16 treatment (λ k. k) v (utf_16_bounded treatment) src last n
+    utf_8 = λ src last n _ e. never_passes encode_utf8 Replaced (λ k. 3 * k) v utf_8_bounded src last n (thrice src n e);
+    reporting = λ keeps src last n _ e. never_passes encode_utf8 (Reported keeps) (λ k. 3 * k) v (reporting_bounded keeps) src last n (thrice src n e);
+    utf_16 = λ treatment src last n _ e. never_passes encode_utf16 treatment (λ k. k) v (utf_16_bounded treatment) src last n
         (omega (arith, same_some (length src) n e, ap length none));
   }
     where

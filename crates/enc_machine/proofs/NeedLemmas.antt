@@ -1,15 +1,15 @@
 -- What a call needs, by what it does.
-use Rattle.std.proofs.Common.{◌≡◌, ◌⊎◌, ℕ, ◌+◌, ◌<◌, ◌≤◌, Bool, true, false, cond, ◌||◌, List, [], ◌∷◌, ◌++◌, length, drop, refl, ap, ◌∙◌, sym, arith, subst, append_assoc, inl, inr}
+use Rattle.std.proofs.Common.{◌≡◌, ◌⊎◌, ℕ, ◌+◌, ◌-◌, ◌<◌, ◌≤◌, Bool, true, false, cond, ◌||◌, List, [], ◌∷◌, ◌++◌, length, drop, refl, ap, ◌∙◌, sym, arith, subst, append_assoc, inl, inr}
 use Rattle.std.proofs.lemmas.List.{append-nil, length-append}
 use Rattle.std.proofs.Math.ListN.{drop_of_length-le}
 use Rattle.std.proofs.lemmas.Bool.{false≢true, cond-true, cond-false}
 use Rattle.enc_machine.specs.declared.decoder_result.DecoderResult.{DecoderResult}
 use Rattle.enc_machine.specs.declared.decoder_result.DecoderResult.TheVariants.{InputEmpty, OutputFull}
 use Rattle.enc_machine.specs.declared.decoder_result.DecoderResult.TheVariants as stop
-use Rattle.enc_units.specs.Output.{units_of_text}
+use Rattle.enc_units.specs.Output.{Output, units_of_text}
 use Rattle.enc_machine.specs.Sequence.{Sequence, is_malformed, any_malformed, text_of}
 use Rattle.enc_machine.specs.Remainder.{Remainder, Begins, Determines, AreDetermined}
-use Rattle.enc_machine.specs.Call.{Treatment, Replaced, Reported, is_replaced, keeps_room, AtInputEmpty, AtOutputFull, AtMalformed, Stops, Call}
+use Rattle.enc_machine.specs.Call.{Treatment, Replaced, Reported, is_replaced, keeps_room, AtInputEmpty, AtOutputFull, AtMalformed, Stops, Call, CallInto}
 use Rattle.enc_machine.specs.Need.{before_malformed, needed, needed_units, NeedPasses, kept_room, MeetsNeed}
 use Rattle.enc_machine.proofs.SequenceLemmas.{units-append}
 use Rattle.enc_machine.proofs.DeterminedLemmas.{determines_fewer, begins_behind}
@@ -308,3 +308,13 @@ meets_need units_of old new src last treatment room result read wrote replaced c
     let f = c.fits in
     subst (λ n. MeetsNeed units_of treatment old new src last room result read n) (sym e)
     (meets_by units_of treatment old new src last room read c.put c.done (λ r. sym c.flag ∙ c.none_replaced r) c.residual (omega (arith, f, e)) result c.stops)
+
+-- the same by the rooms of an output before and behind
+pub meets_into : (units_of : ℕ → List ℕ) (old new : Remainder) (src : List ℕ) (last : Bool) (treatment : Treatment) (before after : Output) (result : DecoderResult) (read : ℕ) (replaced : Bool)
+    → CallInto units_of old new src last treatment before after result read replaced
+    → MeetsNeed units_of treatment old new src last before.room result read (before.room - after.room)
+meets_into units_of old new src last treatment before after result read replaced c =
+    let f = c.call.call.fits in
+    subst (λ n. MeetsNeed units_of treatment old new src last before.room result read n)
+    (omega (arith, f, ap (λ (o : Output). o.room) c.onto))
+    (meets_need units_of old new src last treatment before.room result read c.wrote replaced c.call.call)

@@ -8,7 +8,7 @@ use Rattle.std.specs.Char.{encode_utf8}
 use Rattle.std.specs.Char.Escape.{encode_utf16}
 use Rattle.enc_units.specs.Output.{units_of_text}
 use Rattle.enc_machine.specs.Sequence.{Sequence, is_malformed, text_of}
-use Rattle.enc_machine.specs.Remainder.{Remainder, AreDetermined}
+use Rattle.enc_machine.specs.Remainder.{Remainder, AreBytes, AreDetermined}
 use Rattle.enc_machine.specs.CodecState.{CodecState, remainder_of}
 use Rattle.enc_machine.specs.Lengths.{utf_8_length, reporting_length, utf_16_length}
 use Rattle.enc_machine.specs.Call.{Treatment, Replaced, Reported}
@@ -55,7 +55,7 @@ pub record MeetsNeed (units_of : ℕ → List ℕ) (treatment : Treatment) (old 
 -- A length, by how many bytes are offered and how many are pending, is enough for calls of this kind: no need of theirs passes it.
 abbrev pub IsEnough : (ℕ → List ℕ) → Treatment → (ℕ → ℕ → Option ℕ) → CodecState → Type 0
 IsEnough units_of treatment length_of v =
-    (src : List ℕ) (last : Bool) (n : ℕ) → length_of (length src) (length v.pending) ≡ Some n → NeedPasses units_of treatment (remainder_of v) src last n → ⊥
+    (src : List ℕ) (last : Bool) (n : ℕ) → AreBytes src → length_of (length src) (length v.pending) ≡ Some n → NeedPasses units_of treatment (remainder_of v) src last n → ⊥
 
 -- The lengths that formulas tell are enough in this state, for calls of each kind.
 pub record AreEnough (formulas : TextLengths) (v : CodecState) : Type 0 where

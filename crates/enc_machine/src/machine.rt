@@ -1,10 +1,11 @@
 //! The loop over the bytes of one call, for every codec and every output.
 
-ghost use Rattle.std.specs.Prelude.{◌≡◌, ◌<◌, ◌≤◌, true, false, length, nat_le, IsTrue, IsFalse};
+ghost use Rattle.std.specs.Prelude.{◌≡◌, ◌-◌, ◌<◌, ◌≤◌, true, false, length, nat_le, IsTrue, IsFalse};
 ghost use Rattle.enc_units.specs.Output.{AreScalars, appended, units_of_text};
 ghost use Rattle.enc_machine.specs.CodecState.{remainder_of};
 ghost use Rattle.enc_machine.specs.CodecLaw.{IsComing, chars_of};
 ghost use Rattle.enc_machine.specs.Call.{CallInto, Reported};
+ghost use Rattle.enc_machine.specs.Need.{MeetsNeed};
 ghost use Rattle.enc_machine.specs.Sequence.{is_malformed as malformed_kind};
 
 use crate::byte_codec::{ByteCodec, Kind, Shown, Step, Text};
@@ -122,6 +123,8 @@ pub fn run<C: ByteCodec, U: Units>(
     ensures call { CallInto U.units_of (remainder_of (C.state codec.old)) (remainder_of (C.state codec.new)) src.now last
         (Reported fault_room) (U.output out.old) (U.output out.new) result.0 result.1 false }
     ensures rule { (C.state codec.new).rule ≡ (C.state codec.old).rule }
+    ensures need { MeetsNeed U.units_of (Reported fault_room) (remainder_of (C.state codec.old)) (remainder_of (C.state codec.new)) src.now last
+        (U.output out.old).room result.0 result.1 ((U.output out.old).room - (U.output out.new).room) }
 {
     let mut state = *codec;
     let mut read = 0;

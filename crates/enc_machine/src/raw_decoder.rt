@@ -1,10 +1,11 @@
 //! What every decoder has to keep to.
 
-ghost use Rattle.std.specs.Prelude.{◌≡◌, ◌≤◌, false, length};
+ghost use Rattle.std.specs.Prelude.{◌≡◌, ◌-◌, ◌≤◌, false, length};
 ghost use Rattle.enc_machine.specs.CodecState.{CodecState, remainder_of};
 ghost use Rattle.enc_machine.specs.Call.{CallInto, Reported};
 ghost use Rattle.enc_machine.specs.Latin1.{TellsLatin1};
 ghost use Rattle.enc_machine.specs.RuleLaws.{IsLawful};
+ghost use Rattle.enc_machine.specs.Need.{MeetsNeed, AreEnough};
 ghost use Rattle.enc_machine.specs.Lengths.{utf_8_length, reporting_length, utf_16_length};
 ghost use Rattle.enc_machine.specs.declared.text_lengths.TextLengths.{TextLengths};
 
@@ -36,6 +37,10 @@ pub trait RawDecoder: Copy {
         ensures call { CallInto U.units_of (remainder_of (state self.old)) (remainder_of (state self.new)) src.now last
             (Reported fault_room) (U.output out.old) (U.output out.new) result.0 result.1 false }
         ensures rule { (state self.new).rule ≡ (state self.old).rule }
+
+        // The output is full just where the call needs more room than there is; with `fault_room` it needs that of U+FFFD too.
+        ensures need { MeetsNeed U.units_of (Reported fault_room) (remainder_of (state self.old)) (remainder_of (state self.new)) src.now last
+            (U.output out.old).room result.0 result.1 ((U.output out.old).room - (U.output out.new).room) }
         ensures formulas { formulas self.new ≡ formulas self.old }
 
         // A valid sequence is told by its own bytes, and any other by three more at most, or by the end; each has
@@ -54,9 +59,10 @@ pub trait RawDecoder: Copy {
     fn latin1_byte_compatible_up_to(&self, bytes: &[u8]) -> Option<usize>
         ensures { TellsLatin1 (state self.now) bytes.now result };
 
-    /// Which formulas tell the greatest length of its text. Takes no memory.
+    /// Which formulas tell the greatest length of its text: one that is enough for every offer. Takes no memory.
     fn text_lengths(&self) -> TextLengths
-        ensures { result ≡ formulas self.now };
+        ensures formulas { result ≡ formulas self.now }
+        ensures enough { AreEnough (formulas self.now) (state self.now) };
 
     /// How many bytes of UTF-8 so many more bytes may become, with U+FFFD for what is malformed: a length to allocate. `None`
     /// where that passes `usize`. Takes no memory.

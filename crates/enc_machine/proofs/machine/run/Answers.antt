@@ -2,6 +2,7 @@ use Rattle.std.proofs.Common.{refl, ◌∙◌, arith}
 use Rattle.enc_machine.proofs.ComingLemmas.{holds_rule}
 use Rattle.enc_machine.proofs.MachineLemmas.{begin, stays, holds, stops_full, puts_with, puts_before, reports_with, reports_before}
 use Rattle.enc_machine.proofs.TakingLemmas.{ahead, fewer_with, fewer_before}
+use Rattle.enc_machine.proofs.NeedLemmas.{meets_into}
 use Rattle.enc_machine.proofs.machine.run.Goals as goal
 use Rattle.enc_machine.proofs.machine.run.Goals.{then-shown, else-shown}
 
@@ -63,3 +64,14 @@ loop-state-smaller g c =
           omega (arith, f, h, a.pending, a.within, w.end-is)
       | else-shown w ↦ let f = fewer_before g.C.ByteCodec.state _ _ _ _ c.in-Next.ensures.0 w.if-shown.false in omega (arith, f, a.pending, a.within, w.end-is)
     ]
+
+-- what a call needs, by what it does
+
+pub returns-in-Stay-clause-need : goal.returns-in-Stay-clause-need
+returns-in-Stay-clause-need g c = meets_into _ _ _ _ _ _ _ _ _ _ _ (returns-in-Stay-clause-call g c)
+
+pub returns-then-is_reported-clause-need : goal.returns-then-is_reported-clause-need
+returns-then-is_reported-clause-need g c = meets_into _ _ _ _ _ _ _ _ _ _ _ (returns-then-is_reported-clause-call g c)
+
+pub returns-then-not-put_out-clause-need : goal.returns-then-not-put_out-clause-need
+returns-then-not-put_out-clause-need g c = meets_into _ _ _ _ _ _ _ _ _ _ _ (returns-then-not-put_out-clause-call g c)
