@@ -13,7 +13,7 @@ use Rattle.enc_machine.specs.CodecState.{CodecState, remainder_of}
 use Rattle.enc_machine.specs.Call.{Treatment, Replaced, Reported}
 use Rattle.enc_machine.specs.RuleLaws.{HasSmallTexts}
 use Rattle.enc_machine.specs.declared.text_lengths.TextLengths.TheVariants as lengths
-use Rattle.enc_machine.specs.Need.{before_malformed, needed_units, NeedPasses, AreEnough}
+use Rattle.enc_machine.specs.Need.{before_malformed, needed_units, NeedPasses, AreEnough, IsBasicText}
 use Rattle.enc_machine.proofs.NeedLemmas.{units, units-both, units-one, needed_more, at_end}
 
 -- what a formula comes to, where no step of it passes usize
@@ -101,11 +101,6 @@ abbrev pub HasFewUnits : Rule → Type 0
 HasFewUnits rule = (set b : ℕ) (z : List ℕ)
     → (length (units_of_text encode_utf8 (rule set b z).text) ≤ 3 * suc (length (take (rule set b z).more z)))
     × (length (units_of_text encode_utf16 (rule set b z).text) ≤ suc (length (take (rule set b z).more z)))
-
--- a text of the Basic Multilingual Plane, as single bytes have
-pub record IsBasicText (text : List ℕ) : Type 0 where
-  pub utf_8 : length (units_of_text encode_utf8 text) ≤ 3
-  pub utf_16 : length (units_of_text encode_utf16 text) ≤ 1
 
 pub basic_by : (c : ℕ) → c < 0x1_0000 → IsBasicText (c ∷ [])
 basic_by c l = record {

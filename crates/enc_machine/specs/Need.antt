@@ -1,5 +1,5 @@
 -- How much room a call needs (Encoding Standard 4.1, "process a queue", with a bounded output), and which lengths are enough.
-use Rattle.std.specs.Prelude.{◌≡◌, ◌↔◌, ℕ, ◌+◌, ◌<◌, Bool, true, false, Option, Some, List, [], ◌∷◌, length, drop, if◌then◌else◌}
+use Rattle.std.specs.Prelude.{◌≡◌, ◌↔◌, ℕ, ◌+◌, ◌<◌, ◌≤◌, Bool, true, false, Option, Some, List, [], ◌∷◌, length, drop, if◌then◌else◌}
 use Rattle.enc_machine.specs.declared.decoder_result.DecoderResult.{DecoderResult}
 use Rattle.enc_machine.specs.declared.decoder_result.DecoderResult.TheVariants.{InputEmpty, OutputFull}
 use Rattle.enc_machine.specs.declared.decoder_result.DecoderResult.TheVariants as stop
@@ -62,3 +62,9 @@ pub record AreEnough (formulas : TextLengths) (v : CodecState) : Type 0 where
   pub utf_8 : IsEnough encode_utf8 Replaced (utf_8_length formulas) v
   pub reporting : (keeps_room : Bool) → IsEnough encode_utf8 (Reported keeps_room) (reporting_length formulas) v
   pub utf_16 : (treatment : Treatment) → IsEnough encode_utf16 treatment (utf_16_length formulas) v
+
+-- A text of at most three code units of UTF-8 and one of UTF-16, as a character of the Basic Multilingual Plane is: the formulas
+-- have so many for each byte.
+pub record IsBasicText (text : List ℕ) : Type 0 where
+  pub utf_8 : length (units_of_text encode_utf8 text) ≤ 3
+  pub utf_16 : length (units_of_text encode_utf16 text) ≤ 1

@@ -1,2 +1,3 @@
 pub mod OneByteLemmas
 pub mod ReplacementLemmas
+pub mod EnoughLemmas

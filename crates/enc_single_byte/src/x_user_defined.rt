@@ -106,6 +106,7 @@ impl RawDecoder for XUserDefinedDecoder {
         latin1_up_to(*self, bytes)
     }
 
+    #[tactic(auto, using(crate::proofs::EnoughLemmas::x_user_defined_enough))]
     fn text_lengths(&self) -> TextLengths {
         TextLengths::OneByte
     }

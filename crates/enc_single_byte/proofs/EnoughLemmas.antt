@@ -1,0 +1,132 @@
+-- Which lengths are enough for encodings in which each byte stands alone, and for replacement.
+use Rattle.std.proofs.Common.{◌≡◌, ℕ, ◌+◌, ◌-◌, ◌*◌, ◌<◌, ◌≤◌, zero, suc, Bool, true, false, cond, ◌&&◌, nat_lt, nat_le, Option, Some, None, List, [], ◌∷◌, length, drop, refl, sym, arith}
+use Rattle.std.proofs.lemmas.Bool.Decides.{nat_tests}
+use Rattle.std.specs.Char.{encode_utf8}
+use Rattle.std.specs.Char.Escape.{encode_utf16}
+use Rattle.enc_units.specs.Output.{units_of_text}
+use Rattle.enc_units.specs.Checked.{times}
+use Rattle.enc_machine.specs.Segmentation.{Rule, one_byte_head, head_sequence, sequences_behind, sequences_of}
+use Rattle.enc_machine.specs.Remainder.{AreBytes}
+use Rattle.enc_machine.specs.CodecState.{CodecState, remainder_of}
+use Rattle.enc_machine.specs.Call.{Treatment, Replaced, Reported}
+use Rattle.enc_machine.specs.declared.text_lengths.TextLengths.TheVariants as lengths
+use Rattle.enc_machine.specs.Need.{NeedPasses, AreEnough, IsBasicText}
+use Rattle.enc_machine.proofs.NeedLemmas.{units, units-both, units-one}
+use Rattle.enc_machine.proofs.EnoughLemmas.{thrice_is, same_some, needed_less, needs_all, basic_by, bounded}
+use Rattle.enc_index.specs.Index.{Run, index_at, entry_character, is_entry_code_point}
+use Rattle.enc_index.specs.declared.table.Planes.TheVariants.{Basic}
+use Rattle.enc_single_byte.specs.OneByte.{one_byte_rule, single_byte_char, x_user_defined_char}
+use Rattle.enc_single_byte.specs.OneByteState.{single_byte_state, x_user_defined_state}
+use Rattle.enc_single_byte.specs.Replacement.{replacement_rule, replacement_state}
+
+-- the characters of bytes are of the Basic Multilingual Plane
+
+abbrev AreBasic : (ℕ → Option ℕ) → Type 0
+AreBasic character = (b c : ℕ) → b < 256 → character b ≡ Some c → c < 0x1_0000
+
+entry_is_basic : (n c : ℕ) → entry_character Basic n ≡ Some c → c < 0x1_0000
+entry_is_basic n c e = by_test (is_entry_code_point Basic n) refl e
+  where
+    by_test : (t : Bool) → is_entry_code_point Basic n ≡ t → cond t (Some n) None ≡ Some c → c < 0x1_0000
+    by_test true f e = let g : n < 0x1_0000 = grind (arith, nat_tests) in omega (arith, g, same_some n c e)
+    by_test false f e = absurd (cc)
+
+index_is_basic : (runs : List Run) (p c : ℕ) → index_at Basic runs p ≡ Some c → c < 0x1_0000
+index_is_basic [] p c e = absurd (cc)
+index_is_basic (run ∷ runs) p c e = by_test (nat_le run.0 p && nat_le p run.1) (index_is_basic runs p c) e
+  where
+    by_test : (t : Bool) → (index_at Basic runs p ≡ Some c → c < 0x1_0000) → cond t (entry_character Basic (run.2 + (p - run.0))) (index_at Basic runs p) ≡ Some c → c < 0x1_0000
+    by_test true h e = entry_is_basic (run.2 + (p - run.0)) c e
+    by_test false h e = h e
+
+single_byte_is_basic : (runs : List Run) → AreBasic (single_byte_char runs)
+single_byte_is_basic runs b c l e = by_test (nat_lt b 0x80) e
+  where
+    by_test : (t : Bool) → cond t (Some b) (index_at Basic runs (b - 0x80)) ≡ Some c → c < 0x1_0000
+    by_test true e = omega (arith, l, same_some b c e)
+    by_test false e = index_is_basic runs (b - 0x80) c e
+
+x_user_defined_is_basic : AreBasic x_user_defined_char
+x_user_defined_is_basic b c l e = by_test (nat_lt b 0x80) e
+  where
+    by_test : (t : Bool) → cond t (Some b) (Some (0xF780 + (b - 0x80))) ≡ Some c → c < 0x1_0000
+    by_test true e = omega (arith, l, same_some b c e)
+    by_test false e = omega (arith, l, same_some (0xF780 + (b - 0x80)) c e)
+
+module _ (character : ℕ → Option ℕ) (basic : AreBasic character) where
+  abbrev rule : Rule
+  rule = one_byte_rule character
+
+  head_is_basic : (set b : ℕ) (c : Option ℕ) → b < 256 → character b ≡ c → IsBasicText (one_byte_head set c).text
+  head_is_basic set b None l e = basic_by 0xFFFD (omega arith)
+  head_is_basic set b (Some c) l e = basic_by c (basic b c l e)
+
+  -- so many code units at most for each byte
+  module _ (units_of : ℕ → List ℕ) (each : ℕ) (most : (text : List ℕ) → IsBasicText text → length (units_of_text units_of text) ≤ each) where
+    bounded_bytes : (set : ℕ) (z : List ℕ) → AreBytes z → units units_of (sequences_of rule set z) ≤ each * length z
+    unfolding one_byte_rule sequences_behind
+    bounded_bytes set [] a = omega arith
+    bounded_bytes set (b ∷ z) a = first set b z (character b) (head_is_basic set b (character b) a.0 refl) (λ s. bounded_bytes s z a.1)
+      where
+        first : (set b : ℕ) (z : List ℕ) (c : Option ℕ) → IsBasicText (one_byte_head set c).text → ((s : ℕ) → units units_of (sequences_of rule s z) ≤ each * length z)
+            → units units_of (head_sequence (one_byte_head set c) b z ∷ sequences_behind rule (one_byte_head set c).set (one_byte_head set c).more z) ≤ each * suc (length z)
+        first set b z None t h = grind (arith, most _ t, h set, units-both units_of (head_sequence (one_byte_head set None) b z ∷ []) (sequences_of rule set z), units-one units_of (head_sequence (one_byte_head set None) b z) _ refl)
+        first set b z (Some c) t h = grind (arith, most _ t, h set, units-both units_of (head_sequence (one_byte_head set (Some c)) b z ∷ []) (sequences_of rule set z), units-one units_of (head_sequence (one_byte_head set (Some c)) b z) _ refl)
+
+  abbrev state : CodecState
+  state = record { rule = rule; set = 0; pending = [] }
+
+  never : (units_of : ℕ → List ℕ) (each : ℕ) → ((text : List ℕ) → IsBasicText text → length (units_of_text units_of text) ≤ each)
+      → (treatment : Treatment) (src : List ℕ) (last : Bool) (n : ℕ) → AreBytes src → each * length src ≤ n → NeedPasses units_of treatment (remainder_of state) src last n → ⊥
+  never units_of each most treatment src last n a l p =
+      omega (arith, l, bounded_bytes units_of each most 0 src a, needed_less units_of treatment (sequences_of rule 0 src), needs_all units_of treatment state src last n p)
+
+  one_byte_enough : AreEnough lengths.OneByte state
+  one_byte_enough = record {
+    utf_8 = λ src last n a e. never encode_utf8 3 (λ t b. b.utf_8) Replaced src last n a (thrice src n e);
+    reporting = λ keeps src last n a e. never encode_utf8 3 (λ t b. b.utf_8) (Reported keeps) src last n a (thrice src n e);
+    utf_16 = λ treatment src last n a e. never encode_utf16 1 (λ t b. b.utf_16) treatment src last n a (omega (arith, same_some (length src) n e));
+  }
+    where
+      thrice : (src : List ℕ) (n : ℕ) → times (Some (length src)) 3 ≡ Some n → 3 * length src ≤ n
+      thrice src n e = omega (arith, thrice_is (Some (length src)) (length src) n (λ k f. sym (same_some (length src) k f)) e)
+
+pub single_byte_enough : (runs : List Run) → AreEnough lengths.OneByte (single_byte_state runs)
+single_byte_enough runs = one_byte_enough (single_byte_char runs) (single_byte_is_basic runs)
+
+pub x_user_defined_enough : AreEnough lengths.OneByte x_user_defined_state
+x_user_defined_enough = one_byte_enough x_user_defined_char x_user_defined_is_basic
+
+-- replacement: U+FFFD once
+
+module _ (units_of : ℕ → List ℕ) where
+  abbrev most_of : ℕ → ℕ → ℕ
+  most_of zero n = length (units_of_text units_of (0xFFFD ∷ []))
+  most_of (suc set) n = 0
+
+  step : (set b : ℕ) (z : List ℕ) → length (units_of_text units_of (replacement_rule set b z).text) + most_of (replacement_rule set b z).set (length (drop (replacement_rule set b z).more z)) ≤ most_of set (suc (length z))
+  unfolding replacement_rule
+  step zero b z = omega arith
+  step (suc set) b z = omega arith
+
+  replacement_never : (reported : Bool) (treatment : Treatment) (src : List ℕ) (last : Bool) (n : ℕ) → length (units_of_text units_of (0xFFFD ∷ [])) ≤ n
+      → NeedPasses units_of treatment (remainder_of (replacement_state reported)) src last n → ⊥
+  replacement_never reported treatment src last n l p =
+      omega (
+        arith,
+        l,
+        by_state reported,
+        needed_less units_of treatment (sequences_of replacement_rule (replacement_state reported).set src),
+        needs_all units_of treatment (replacement_state reported) src last n p,
+      )
+    where
+      by_state : (r : Bool) → units units_of (sequences_of replacement_rule (replacement_state r).set src) ≤ length (units_of_text units_of (0xFFFD ∷ []))
+      by_state false = bounded units_of replacement_rule most_of step 0 src
+      by_state true = let b = bounded units_of replacement_rule most_of step 1 src in omega (arith, b)
+
+pub replacement_enough : (reported : Bool) → AreEnough lengths.Replacement (replacement_state reported)
+replacement_enough reported = let b = basic_by 0xFFFD (omega arith) in record {
+  utf_8 = λ src last n _ e. replacement_never encode_utf8 reported Replaced src last n (omega (arith, b.utf_8, same_some 3 n e));
+  reporting = λ keeps src last n _ e. replacement_never encode_utf8 reported (Reported keeps) src last n (omega (arith, b.utf_8, same_some 3 n e));
+  utf_16 = λ treatment src last n _ e. replacement_never encode_utf16 reported treatment src last n (omega (arith, b.utf_16, same_some 1 n e));
+}
