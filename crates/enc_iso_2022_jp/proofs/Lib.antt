@@ -4,3 +4,4 @@ pub mod Iso2022JpUndetermined
 pub mod Iso2022JpComes
 pub mod Iso2022JpSets
 pub mod Iso2022JpPieces
+pub mod Iso2022JpEnough

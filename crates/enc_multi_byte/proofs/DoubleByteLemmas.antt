@@ -7,6 +7,10 @@ use Rattle.enc_multi_byte.specs.declared.multi_byte.Prefix.TheVariants.{Complete
 use Rattle.enc_multi_byte.specs.DoubleByte.{text_of_char, single_prefix, first_prefix, trail_prefix, double_byte_prefix, IsText, ArePairs}
 use Rattle.enc_multi_byte.specs.MultiByte.{CanBeMalformed, ArePrefixes}
 use Rattle.enc_machine.proofs.RuleLemmas.{one_small}
+use Rattle.enc_machine.specs.CodecLaw.{chars_of}
+use Rattle.enc_machine.specs.Need.{IsBasicText}
+use Rattle.enc_machine.proofs.EnoughLemmas.{basic_by}
+use Rattle.std.proofs.lemmas.Bool.Decides.{nat_tests}
 
 pub one_is_text : (c : ℕ) → IsText (One c)
 one_is_text c = record { some = λ e. cc; small = one_small c }
@@ -32,6 +36,17 @@ first_is_text false c text e = single_is_text c text e
 pub first_malformed : (leads : Bool) (c : Option ℕ) (n : ℕ) → first_prefix leads c ≡ Malformed n → n ≡ 1
 first_malformed true c n e = cc
 first_malformed false c n e = single_malformed c n e
+
+-- a character of a single byte is of the Basic Multilingual Plane
+
+pub first_is_basic : (leads : Bool) (single : Option ℕ) (text : Text) → ((c : ℕ) → single ≡ Some c → c < 0x1_0000) → first_prefix leads single ≡ Complete text
+    → IsBasicText (chars_of text)
+first_is_basic true single text b e = absurd (cc)
+first_is_basic false None text b e = absurd (cc)
+first_is_basic false (Some c) text b e = subst (λ t. IsBasicText (chars_of t)) (let f : One c ≡ text = cc in f) (basic_by c (b c refl))
+
+pub ascii_is_basic : (b c : ℕ) → cond (nat_lt b 0x80) (Some b) None ≡ Some c → c < 0x1_0000
+ascii_is_basic b c e = grind (arith, nat_tests)
 
 -- a byte behind n others
 
@@ -66,10 +81,10 @@ unless_malformed true r n e = cc
 unless_malformed false r n e = e
 
 -- encodings of one byte and two
-pub double_byte_laws : (is_lead : ℕ → Bool) (single : ℕ → Option ℕ) (pair : ℕ → ℕ → Option Text) → ArePairs pair
+pub double_byte_laws : (is_lead : ℕ → Bool) (single : ℕ → Option ℕ) (pair : ℕ → ℕ → Option Text) → ArePairs single pair
     → ArePrefixes (double_byte_prefix is_lead single pair)
 double_byte_laws is_lead single pair laws =
-    record { nothing = refl; texts = texts; malformed = malformed; short = short; can_be_malformed = can_be_malformed }
+    record { nothing = refl; texts = texts; alone = λ b text e. first_is_basic (is_lead b) (single b) text (laws.basic b) e; malformed = malformed; short = short; can_be_malformed = can_be_malformed }
   where
     texts : (front : List ℕ) (text : Text) → double_byte_prefix is_lead single pair front ≡ Complete text → IsText text
     texts [] text e = cc

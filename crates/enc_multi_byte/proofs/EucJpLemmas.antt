@@ -6,7 +6,7 @@ use Rattle.enc_multi_byte.specs.declared.multi_byte.Prefix.TheVariants.{Complete
 use Rattle.enc_multi_byte.specs.DoubleByte.{text_of_char, IsText}
 use Rattle.enc_multi_byte.specs.MultiByte.{CanBeMalformed, ArePrefixes}
 use Rattle.enc_multi_byte.specs.EucJp.{is_euc, euc_jp_lead, euc_jp_single, euc_jp_pair, euc_jp_triple, euc_jp_prefix}
-use Rattle.enc_multi_byte.proofs.DoubleByteLemmas.{char_is_text, first_is_text, first_malformed, trail_text, trail_malformed, trail_finished, trail_can_be_malformed, unless_complete, unless_malformed}
+use Rattle.enc_multi_byte.proofs.DoubleByteLemmas.{first_is_basic, ascii_is_basic, char_is_text, first_is_text, first_malformed, trail_text, trail_malformed, trail_finished, trail_can_be_malformed, unless_complete, unless_malformed}
 
 texts : (front : List ℕ) (text : Text) → euc_jp_prefix front ≡ Complete text → IsText text
 texts [] text e = cc
@@ -63,4 +63,4 @@ can_be_malformed (a ∷ b ∷ []) s e = record {
 can_be_malformed (a ∷ b ∷ c ∷ z) s e = absurd (trail_finished 2 c (text_of_char (euc_jp_triple b c)) e)
 
 pub euc_jp_laws : ArePrefixes euc_jp_prefix
-euc_jp_laws = record { nothing = refl; texts = texts; malformed = malformed; short = short; can_be_malformed = can_be_malformed }
+euc_jp_laws = record { nothing = refl; texts = texts; alone = λ b text e. first_is_basic (euc_jp_lead b) (euc_jp_single b) text (ascii_is_basic b) e; malformed = malformed; short = short; can_be_malformed = can_be_malformed }

@@ -1,12 +1,13 @@
 -- What the bytes in front can be in gb18030.
 use Rattle.std.proofs.Common.{◌≡◌, ◌≢◌, ℕ, ◌<◌, ◌≤◌, Bool, true, false, cond, Option, Some, None, List, [], ◌∷◌, length, refl, arith, subst}
+use Rattle.std.proofs.lemmas.Bool.Decides.{nat_tests}
 use Rattle.enc_machine.specs.declared.byte_codec.Text.{Text}
 use Rattle.enc_machine.specs.declared.byte_codec.Text.TheVariants.{One}
 use Rattle.enc_multi_byte.specs.declared.multi_byte.Prefix.TheVariants.{Complete, Malformed, Incomplete}
 use Rattle.enc_multi_byte.specs.DoubleByte.{text_of_char, IsText}
 use Rattle.enc_multi_byte.specs.MultiByte.{CanBeMalformed, ArePrefixes}
 use Rattle.enc_multi_byte.specs.Gb18030.{gb18030_lead, is_digit, gb18030_single, gb18030_pair, ranges_char, ranges_pointer, four_prefix, gb18030_prefix}
-use Rattle.enc_multi_byte.proofs.DoubleByteLemmas.{one_is_text, char_is_text, first_is_text, first_malformed, trail_text, trail_malformed, unless_complete, unless_malformed}
+use Rattle.enc_multi_byte.proofs.DoubleByteLemmas.{first_is_basic, one_is_text, char_is_text, first_is_text, first_malformed, trail_text, trail_malformed, unless_complete, unless_malformed}
 
 -- four bytes
 
@@ -59,5 +60,8 @@ can_be_malformed (a ∷ b ∷ []) s e = record { byte = 0xFF; is_byte = omega ar
 can_be_malformed (a ∷ b ∷ c ∷ []) s e = record { byte = 0xFF; is_byte = omega arith; len = 1; malformed = refl; other = λ f. omega arith }
 can_be_malformed (a ∷ b ∷ c ∷ d ∷ z) s e = absurd (four_finished (is_digit d) (ranges_char (ranges_pointer a b c d)) e)
 
+single_is_basic : (b c : ℕ) → gb18030_single b ≡ Some c → c < 0x1_0000
+single_is_basic b c e = grind (arith, nat_tests)
+
 pub gb18030_laws : ArePrefixes gb18030_prefix
-gb18030_laws = record { nothing = refl; texts = texts; malformed = malformed; short = short; can_be_malformed = can_be_malformed }
+gb18030_laws = record { nothing = refl; texts = texts; alone = λ b text e. first_is_basic (gb18030_lead b) (gb18030_single b) text (single_is_basic b) e; malformed = malformed; short = short; can_be_malformed = can_be_malformed }

@@ -6,3 +6,4 @@ pub mod PairLemmas
 pub mod EucJpLemmas
 pub mod Gb18030Lemmas
 pub mod MultiBytePieces
+pub mod MultiByteEnough

@@ -1,15 +1,16 @@
 -- The pairs of Big5, EUC-KR and Shift_JIS.
-use Rattle.std.proofs.Common.{◌≡◌, ℕ, Bool, true, false, cond, Option, Some, None, [], ◌++◌, length, ◌==◌, refl, arith, subst}
+use Rattle.std.proofs.Common.{◌≡◌, ℕ, ◌<◌, Bool, true, false, cond, Option, Some, None, [], ◌++◌, length, ◌==◌, refl, arith, subst}
 use Rattle.std.proofs.lemmas.List.{length-append}
 use Rattle.std.specs.Char.{encode_utf8}
 use Rattle.std.specs.Char.Escape.{encode_utf16}
 use Rattle.enc_machine.specs.declared.byte_codec.Text.{Text}
 use Rattle.enc_machine.specs.declared.byte_codec.Text.TheVariants.{Two}
 use Rattle.enc_multi_byte.specs.DoubleByte.{IsText, ArePairs}
-use Rattle.enc_multi_byte.specs.Big5.{big5_trail, big5_pointer, big5_text, big5_pair}
-use Rattle.enc_multi_byte.specs.EucKr.{euc_kr_pair}
-use Rattle.enc_multi_byte.specs.ShiftJis.{shift_jis_pair}
-use Rattle.enc_multi_byte.proofs.DoubleByteLemmas.{char_is_text}
+use Rattle.enc_multi_byte.specs.Big5.{big5_single, big5_trail, big5_pointer, big5_text, big5_pair}
+use Rattle.enc_multi_byte.specs.EucKr.{euc_kr_single, euc_kr_pair}
+use Rattle.enc_multi_byte.specs.ShiftJis.{shift_jis_single, shift_jis_pair}
+use Rattle.enc_multi_byte.proofs.DoubleByteLemmas.{char_is_text, ascii_is_basic}
+use Rattle.std.proofs.lemmas.Bool.Decides.{nat_tests}
 
 abbrev IsTextOf : Option Text → Type 0
 IsTextOf t = (text : Text) → t ≡ Some text → IsText text
@@ -43,11 +44,14 @@ pair_is_text a b =
     (char_is_text _)))))
     (λ text e. cc)
 
-pub big5_pairs : ArePairs big5_pair
-big5_pairs = record { texts = pair_is_text; no_trail = λ a. refl }
+pub big5_pairs : ArePairs big5_single big5_pair
+big5_pairs = record { basic = ascii_is_basic; texts = pair_is_text; no_trail = λ a. refl }
 
-pub euc_kr_pairs : ArePairs euc_kr_pair
-euc_kr_pairs = record { texts = λ a b. char_is_text _; no_trail = λ a. refl }
+pub euc_kr_pairs : ArePairs euc_kr_single euc_kr_pair
+euc_kr_pairs = record { basic = ascii_is_basic; texts = λ a b. char_is_text _; no_trail = λ a. refl }
 
-pub shift_jis_pairs : ArePairs shift_jis_pair
-shift_jis_pairs = record { texts = λ a b. char_is_text _; no_trail = λ a. refl }
+single_is_basic : (b c : ℕ) → shift_jis_single b ≡ Some c → c < 0x1_0000
+single_is_basic b c e = grind (arith, nat_tests)
+
+pub shift_jis_pairs : ArePairs shift_jis_single shift_jis_pair
+shift_jis_pairs = record { basic = single_is_basic; texts = λ a b. char_is_text _; no_trail = λ a. refl }

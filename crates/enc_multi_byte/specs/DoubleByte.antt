@@ -1,5 +1,5 @@
 -- Encodings of one byte and two (Encoding Standard 10 to 13): bytes that stand alone, and a lead with a trail.
-use Rattle.std.specs.Prelude.{◌≡◌, ◌≢◌, ℕ, ◌+◌, Bool, nat_lt, Option, Some, None, List, [], ◌∷◌, if◌then◌else◌}
+use Rattle.std.specs.Prelude.{◌≡◌, ◌≢◌, ℕ, ◌+◌, ◌<◌, Bool, nat_lt, Option, Some, None, List, [], ◌∷◌, if◌then◌else◌}
 use Rattle.enc_machine.specs.declared.byte_codec.Text.{Text}
 use Rattle.enc_machine.specs.declared.byte_codec.Text.TheVariants.{One}
 use Rattle.enc_multi_byte.specs.declared.multi_byte.Prefix.{Prefix}
@@ -38,7 +38,8 @@ pub record IsText (text : Text) : Type 0 where
   pub some : chars_of text ≢ []
   pub small : IsSmallText (chars_of text)
 
--- What pairs can be: texts, and FF is no trail.
-pub record ArePairs (pair : ℕ → ℕ → Option Text) : Type 0 where
+-- What single bytes and pairs can be: characters of the Basic Multilingual Plane; texts, and FF is no trail.
+pub record ArePairs (single : ℕ → Option ℕ) (pair : ℕ → ℕ → Option Text) : Type 0 where
+  pub basic : (b c : ℕ) → single b ≡ Some c → c < 0x1_0000
   pub texts : (a b : ℕ) (text : Text) → pair a b ≡ Some text → IsText text
   pub no_trail : (a : ℕ) → pair a 0xFF ≡ None

@@ -9,6 +9,7 @@ use Rattle.enc_machine.specs.Segmentation.{Head, Rule, malformed_head}
 use Rattle.enc_machine.specs.CodecLaw.{chars_of}
 use Rattle.enc_multi_byte.specs.DoubleByte.{IsText}
 use Rattle.enc_machine.specs.CodecState.{CodecState}
+use Rattle.enc_machine.specs.Need.{IsBasicText}
 
 -- the first n bytes are malformed
 abbrev pub malformed_front : ℕ → ℕ → Head
@@ -46,6 +47,7 @@ pub record CanBeMalformed (prefix : List ℕ → Prefix) (front : List ℕ) : Ty
 pub record ArePrefixes (prefix : List ℕ → Prefix) : Type 0 where
   pub nothing : prefix [] ≡ Incomplete
   pub texts : (front : List ℕ) (text : Text) → prefix front ≡ Complete text → IsText text
+  pub alone : (b : ℕ) (text : Text) → prefix (b ∷ []) ≡ Complete text → IsBasicText (chars_of text)
   pub malformed : (front : List ℕ) (n : ℕ) → prefix front ≡ Malformed n → (0 < n) × (n ≤ length front)
   pub short : (front : List ℕ) → prefix front ≡ Incomplete → length front ≤ 3
   pub can_be_malformed : (front : List ℕ) → 0 < length front → prefix front ≡ Incomplete → CanBeMalformed prefix front

@@ -33,9 +33,9 @@ pub trait DoubleByte: Copy {
         requires { leads lead ≡ true }
         ensures { result ≡ pairs lead trail };
 
-    /// What holds of all pairs. A call does nothing.
+    /// What holds of all single bytes and all pairs. A call does nothing.
     fn laws()
-        ensures { ArePairs pairs };
+        ensures { ArePairs singles pairs };
 
     /// An ASCII byte leads none, and is its own character. A call does nothing.
     fn ascii()

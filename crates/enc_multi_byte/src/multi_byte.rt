@@ -261,6 +261,7 @@ impl<E: MultiByte> RawDecoder for MultiByteDecoder<E> {
     }
 
     fn text_lengths(&self) -> TextLengths {
+        E::laws();
         TextLengths::MultiByte
     }
 }
