@@ -132,10 +132,10 @@ module _ (v : CodecState) (few : HasFewUnits v.rule) where
   parted : (n : ℕ) (z : List ℕ) → length (take n z) + length (drop n z) ≡ length z
   parted n z = sym (length-append (take n z) (drop n z)) ∙ ap length (take-append-drop n z)
 
-  utf_8_bounded : (z : List ℕ) → needed_units encode_utf8 Replaced (sequences_of v.rule v.set z) ≤ 3 * length z
+  pub utf_8_bounded : (z : List ℕ) → needed_units encode_utf8 Replaced (sequences_of v.rule v.set z) ≤ 3 * length z
   utf_8_bounded z = bounded encode_utf8 v.rule (λ _ n. 3 * n) (λ set b y. omega (arith, (few set b y).0, parted (v.rule set b y).more y)) v.set z
 
-  utf_16_bounded : (treatment : Treatment) (z : List ℕ) → needed_units encode_utf16 treatment (sequences_of v.rule v.set z) ≤ length z
+  pub utf_16_bounded : (treatment : Treatment) (z : List ℕ) → needed_units encode_utf16 treatment (sequences_of v.rule v.set z) ≤ length z
   utf_16_bounded treatment z =
       let b = bounded encode_utf16 v.rule (λ _ n. n) (λ set b y. omega (arith, (few set b y).1, parted (v.rule set b y).more y)) v.set z in
       omega (arith, b, needed_less encode_utf16 treatment (sequences_of v.rule v.set z))

@@ -10,3 +10,5 @@ pub mod Utf16Undetermined
 pub mod Utf16Comes
 pub mod Utf16Pieces
 pub mod PlainLemmas
+pub mod Utf16Enough
+pub mod Utf8Enough

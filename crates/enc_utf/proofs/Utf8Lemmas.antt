@@ -76,7 +76,7 @@ reach-alone b z h = let e : sequence_len b - 1 ≡ 0 = omega arith in rw e refl
 pub reach-end : (a : ℕ) → reach a [] ≡ 0
 reach-end a = elim (sequence_len a - 1) as (λ n. go_on a n [] ≡ 0) [ zero ↦ refl | suc n ↦ refl ]
 
-reach-no_second : (a b : ℕ) (z : List ℕ) → 2 ≤ sequence_len a → is_second a b ≡ false → reach a (b ∷ z) ≡ 0
+pub reach-no_second : (a b : ℕ) (z : List ℕ) → 2 ≤ sequence_len a → is_second a b ≡ false → reach a (b ∷ z) ≡ 0
 reach-no_second a b z h e = let f : sequence_len a - 1 ≡ suc (sequence_len a - 2) = omega arith in rw (f, e) refl
 
 pub reach-second : (a b : ℕ) (z : List ℕ) → 2 ≤ sequence_len a → is_second a b ≡ true

@@ -287,6 +287,8 @@ impl RawDecoder for Utf16Decoder {
     }
 
     fn text_lengths(&self) -> TextLengths {
+        // the formulas are enough since a whole code unit that is pending is a lead surrogate
+        let _ = &self.pending;
         TextLengths::Utf16
     }
 }

@@ -1,0 +1,183 @@
+-- Which lengths are enough for UTF-8.
+use Rattle.std.proofs.Common.{◌≡◌, ℕ, ◌+◌, ◌-◌, ◌*◌, ◌<◌, ◌≤◌, zero, suc, Bool, true, false, cond, eqb, Some, List, [], ◌∷◌, length, take, drop, refl, ap, sym, subst, arith, inl, inr}
+use Rattle.std.proofs.lemmas.Bool.{cond-false}
+use Rattle.std.proofs.lemmas.Bool.Decides.{nat_tests}
+use Rattle.std.proofs.lemmas.List.{length-append, take-append-drop}
+use Rattle.std.proofs.lemmas.Str.{length-encode, len_utf8_bounds}
+use Rattle.std.specs.Char.{encode_utf8, len_utf8}
+use Rattle.std.specs.Char.Escape.{encode_utf16}
+use Rattle.enc_units.specs.Output.{units_of_text}
+use Rattle.enc_units.specs.Checked.{plus, times}
+use Rattle.enc_machine.specs.Sequence.{Sequence, is_malformed}
+use Rattle.enc_machine.specs.Segmentation.{Head, head_sequence, sequences_behind, sequences_of}
+use Rattle.enc_machine.specs.CodecState.{CodecState}
+use Rattle.enc_machine.specs.Call.{Replaced, Reported}
+use Rattle.enc_machine.specs.declared.text_lengths.TextLengths.TheVariants as lengths
+use Rattle.enc_machine.specs.Need.{before_malformed, needed_units, AreEnough, IsBasicText}
+use Rattle.enc_machine.proofs.ToldLemmas.{true_or_false}
+use Rattle.enc_machine.proofs.NeedLemmas.{units, units-both, units-one}
+use Rattle.enc_machine.proofs.EnoughLemmas.{plus_is, sum_is, thrice_is, never_passes, HasFewUnits, few_by_single_bytes, utf_8_bounded, utf_16_bounded, basic_by}
+use Rattle.enc_utf.specs.Utf8.{sequence_len, is_second, is_continuation, continuations, go_on, reach, scalar_of, utf_8_rule}
+use Rattle.enc_utf.proofs.Utf8Rule.{utf_8_is_lawful}
+use Rattle.enc_utf.proofs.Utf8Lemmas.{reach-end, reach-no_second, reach-second, two_range, three_range, continuation_range, second_range}
+
+-- how far bytes reach at most
+
+continuations-within : (n : ℕ) (z : List ℕ) → continuations n z ≤ length z
+continuations-within zero z = omega arith
+continuations-within (suc n) [] = omega arith
+continuations-within (suc n) (c ∷ z) = by_test (is_continuation c) (continuations-within n z)
+  where
+    by_test : (t : Bool) → continuations n z ≤ length z → cond t (suc (continuations n z)) 0 ≤ suc (length z)
+    by_test true h = omega (arith, h)
+    by_test false h = omega arith
+
+go_on-within : (b n : ℕ) (z : List ℕ) → go_on b n z ≤ length z
+go_on-within b zero z = omega arith
+go_on-within b (suc n) [] = omega arith
+go_on-within b (suc n) (c ∷ z) = by_test (is_second b c) (continuations-within n z)
+  where
+    by_test : (t : Bool) → continuations n z ≤ length z → cond t (suc (continuations n z)) 0 ≤ suc (length z)
+    by_test true h = omega (arith, h)
+    by_test false h = omega arith
+
+taken : (n : ℕ) (z : List ℕ) → n ≤ length z → length (take n z) ≡ n
+taken zero z h = refl
+taken (suc n) [] h = absurd (omega arith)
+taken (suc n) (c ∷ z) h = ap suc (taken n z (omega (arith, h)))
+
+reach_taken : (b : ℕ) (z : List ℕ) → length (take (reach b z) z) ≡ reach b z
+reach_taken b z = taken (reach b z) z (go_on-within b (sequence_len b - 1) z)
+
+-- by whether a whole sequence stands there
+either_head : (P : Head → Type 0) (t : Bool) (x y : Head) → (t ≡ true → P x) → (t ≡ false → P y) → P (cond t x y)
+either_head P true x y f g = f refl
+either_head P false x y f g = g refl
+
+replaced : IsBasicText (0xFFFD ∷ [])
+replaced = basic_by 0xFFFD (omega arith)
+
+one_below : (b : ℕ) → sequence_len b ≡ 1 → b < 0x80
+unfolding sequence_len
+one_below b e = grind (arith, nat_tests)
+
+alone_is_basic : (set b : ℕ) (z : List ℕ) → length (take (utf_8_rule set b z).more z) ≡ 0 → IsBasicText (utf_8_rule set b z).text
+unfolding utf_8_rule
+alone_is_basic set b z n = either_head (λ h. length (take h.more z) ≡ 0 → IsBasicText h.text) (eqb (reach b z + 1) (sequence_len b)) _ _
+    (λ t m. let r : reach b z ≡ 0 = omega (arith, m, reach_taken b z) in
+    let s : sequence_len b ≡ 1 = grind (arith, nat_tests) in
+    subst (λ k. IsBasicText (scalar_of (b ∷ take k z) ∷ [])) (sym r) (basic_by b (let l = one_below b s in omega (arith, l))))
+    (λ f m. replaced) n
+
+utf_8_few : HasFewUnits utf_8_rule
+utf_8_few = few_by_single_bytes utf_8_rule utf_8_is_lawful.small_texts alone_is_basic
+
+-- a well-formed sequence has as many code units as bytes
+
+len_one : (c : ℕ) → c < 0x80 → len_utf8 c ≤ 1
+len_one c l = grind (arith, nat_tests)
+
+len_two : (c : ℕ) → c < 0x800 → len_utf8 c ≤ 2
+len_two c l = grind (arith, nat_tests)
+
+len_three : (c : ℕ) → c < 0x1_0000 → len_utf8 c ≤ 3
+len_three c l = grind (arith, nat_tests)
+
+second_stands : (b c : ℕ) (z : List ℕ) → 2 ≤ sequence_len b → 1 ≤ reach b (c ∷ z) → is_second b c ≡ true
+second_stands b c z s r = elim (true_or_false (is_second b c)) [
+  | inl t ↦ t
+  | inr f ↦ absurd (omega (arith, r, reach-no_second b c z s f))
+]
+
+two_below : (b : ℕ) (z : List ℕ) → sequence_len b ≡ 2 → reach b z ≡ 1 → scalar_of (b ∷ take 1 z) < 0x800
+two_below b [] s r = absurd (omega (arith, r, reach-end b))
+two_below b (c ∷ z) s r =
+    let f = two_range b s in
+    let g = second_range b c (second_stands b c z (omega (arith, s)) (omega (arith, r))) in
+    omega (arith, f.0, f.1, g.0, g.1)
+
+continues : (z : List ℕ) → continuations 1 z ≡ 1 → (d : ℕ) × (y : List ℕ) × (z ≡ d ∷ y) × (is_continuation d ≡ true)
+continues [] e = absurd (omega (arith, e))
+continues (d ∷ y) e = elim (true_or_false (is_continuation d)) [
+  | inl t ↦ (d, y, refl, t)
+  | inr f ↦ absurd (omega (arith, e, cond-false _ (suc 0) 0 f))
+]
+
+three_below : (b : ℕ) (z : List ℕ) → sequence_len b ≡ 3 → reach b z ≡ 2 → scalar_of (b ∷ take 2 z) < 0x1_0000
+three_below b [] s r = absurd (omega (arith, r, reach-end b))
+three_below b (c ∷ z) s r =
+    let t = second_stands b c z (omega (arith, s)) (omega (arith, r)) in
+    let k = reach-second b c z (omega (arith, s)) t in
+    let m : sequence_len b - 2 ≡ 1 = omega (arith, s) in
+    let n = continues z (omega (arith, r, k, ap (λ a. continuations a z) m)) in
+    let f = three_range b s in
+    let g = second_range b c t in
+    let h = continuation_range n.0 n.3 in
+    subst (λ (y : List ℕ). scalar_of (b ∷ c ∷ take 1 y) < 0x1_0000) (sym n.2) (omega (arith, f.0, f.1, g.0, g.1, h.0, h.1))
+
+valid_units : (b : ℕ) (z : List ℕ) (n : ℕ) → reach b z ≡ n → sequence_len b ≡ suc n → len_utf8 (scalar_of (b ∷ take n z)) ≤ suc n
+valid_units b z zero r s = len_one b (one_below b s)
+valid_units b z (suc zero) r s = len_two _ (two_below b z s r)
+valid_units b z (suc (suc zero)) r s = len_three _ (three_below b z s r)
+valid_units b z (suc (suc (suc n))) r s = let l = len_utf8_bounds (scalar_of (b ∷ take (suc (suc (suc n))) z)) in omega (arith, l.1)
+
+no_more_than_bytes : (set b : ℕ) (z : List ℕ) → is_malformed (utf_8_rule set b z).kind ≡ false
+    → length (units_of_text encode_utf8 (utf_8_rule set b z).text) ≤ suc (length (take (utf_8_rule set b z).more z))
+unfolding utf_8_rule
+no_more_than_bytes set b z v = either_head
+    (λ h. is_malformed h.kind ≡ false → length (units_of_text encode_utf8 h.text) ≤ suc (length (take h.more z))) (eqb (reach b z + 1) (sequence_len b)) _ _
+    (λ t m. let c = scalar_of (b ∷ take (reach b z) z) in
+    let s : sequence_len b ≡ suc (reach b z) = grind (arith, nat_tests) in
+    omega (arith, valid_units b z (reach b z) refl s, reach_taken b z, length-encode c, length-append (encode_utf8 c) []))
+    (λ f m. absurd (cc)) v
+
+three_of_malformed : (set b : ℕ) (z : List ℕ) → is_malformed (utf_8_rule set b z).kind ≡ true → length (units_of_text encode_utf8 (utf_8_rule set b z).text) ≤ 3
+unfolding utf_8_rule
+three_of_malformed set b z v = either_head (λ h. is_malformed h.kind ≡ true → length (units_of_text encode_utf8 h.text) ≤ 3) (eqb (reach b z + 1) (sequence_len b)) _ _
+    (λ t m. absurd (cc)) (λ f m. replaced.utf_8) v
+
+before_bounded : (keeps : Bool) (set k : ℕ) (z : List ℕ) → units encode_utf8 (before_malformed keeps (sequences_behind utf_8_rule set k z)) ≤ length (drop k z) + 3
+unfolding sequences_behind
+before_bounded keeps set zero [] = omega arith
+before_bounded keeps set (suc k) [] = omega arith
+before_bounded keeps set (suc k) (b ∷ z) = before_bounded keeps set k z
+before_bounded keeps set zero (b ∷ z) =
+    let h = utf_8_rule set b z in
+    first (is_malformed h.kind) keeps (head_sequence h b z) (before_malformed keeps (sequences_behind utf_8_rule h.set h.more z)) (length (drop h.more z)) (suc (length z))
+    (before_bounded keeps h.set h.more z) (λ e. three_of_malformed set b z e) (λ e. no_more_than_bytes set b z e)
+    (omega (arith, length-append (take h.more z) (drop h.more z), ap length (take-append-drop h.more z)))
+  where
+    first : (t k : Bool) (s : Sequence) (rest : List Sequence) (left all : ℕ) → units encode_utf8 rest ≤ left + 3
+        → (t ≡ true → length (units_of_text encode_utf8 s.text) ≤ 3) → (t ≡ false → length (units_of_text encode_utf8 s.text) ≤ length s.bytes) → length s.bytes + left ≡ all
+        → units encode_utf8 (cond t (cond k (s ∷ []) []) (s ∷ rest)) ≤ all + 3
+    first true true s rest left all h m v e = let n = m refl in omega (arith, n, units-one encode_utf8 s s.text refl)
+    first true false s rest left all h m v e = omega arith
+    first false k s rest left all h m v e = let n = v refl in omega (arith, n, h, e, units-one encode_utf8 s s.text refl, units-both encode_utf8 (s ∷ []) rest)
+
+pub utf_8_enough : (v : CodecState) → v.rule ≡ utf_8_rule → AreEnough lengths.Utf8 v
+utf_8_enough v r = record {
+  utf_8 = λ src last n _ e. never_passes encode_utf8 Replaced (λ k. 3 * k) v (utf_8_bounded v few) src last n (with_replacement src n e);
+  reporting = λ keeps src last n _ e. never_passes encode_utf8 (Reported keeps) (λ k. k + 3) v (reporting_bounded keeps) src last n (reporting src n e);
+  utf_16 = λ treatment src last n _ e. never_passes encode_utf16 treatment (λ k. k) v (utf_16_bounded v few treatment) src last n (into_utf_16 src n e);
+}
+  where
+    few : HasFewUnits v.rule
+    few = subst HasFewUnits (sym r) utf_8_few
+
+    reporting_bounded : (keeps : Bool) (z : List ℕ) → needed_units encode_utf8 (Reported keeps) (sequences_of v.rule v.set z) ≤ length z + 3
+    reporting_bounded keeps z = subst (λ t. needed_units encode_utf8 (Reported keeps) (sequences_of t v.set z) ≤ length z + 3) (sym r) (before_bounded keeps v.set 0 z)
+
+    with_replacement : (src : List ℕ) (n : ℕ) → plus (times (plus (Some (length src)) (length v.pending)) 3) 3 ≡ Some n → 3 * (length v.pending + length src) ≤ n
+    with_replacement src n e =
+        let p = plus_is (times (plus (Some (length src)) (length v.pending)) 3) 3 n e in
+        omega (arith, p.2, thrice_is (plus (Some (length src)) (length v.pending)) (length src + length v.pending) p.0 (λ a f. sum_is (length src) (length v.pending) a f) p.1)
+
+    reporting : (src : List ℕ) (n : ℕ) → plus (plus (Some (length src)) (length v.pending)) 3 ≡ Some n → length v.pending + length src + 3 ≤ n
+    reporting src n e =
+        let p = plus_is (plus (Some (length src)) (length v.pending)) 3 n e in
+        omega (arith, p.2, sum_is (length src) (length v.pending) p.0 p.1)
+
+    into_utf_16 : (src : List ℕ) (n : ℕ) → plus (plus (Some (length src)) (length v.pending)) 1 ≡ Some n → length v.pending + length src ≤ n
+    into_utf_16 src n e =
+        let p = plus_is (plus (Some (length src)) (length v.pending)) 1 n e in
+        omega (arith, p.2, sum_is (length src) (length v.pending) p.0 p.1)
