@@ -1,1 +1,2 @@
 pub mod PropertyLemmas
+pub mod EnoughLemmas

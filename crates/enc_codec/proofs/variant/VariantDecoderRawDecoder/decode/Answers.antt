@@ -8,3 +8,12 @@ returns-in-EucKr-clause-lawful g c = rw c.in-EucKr.is c.decode-in-EucKr.ensures.
 
 pub returns-in-ShiftJis-clause-lawful : goal.returns-in-ShiftJis-clause-lawful
 returns-in-ShiftJis-clause-lawful g c = rw c.in-ShiftJis.is c.decode-in-ShiftJis.ensures.lawful
+
+pub returns-in-Big5-clause-need : goal.returns-in-Big5-clause-need
+returns-in-Big5-clause-need g c = rw c.in-Big5.is c.decode-in-Big5.ensures.need
+
+pub returns-in-EucKr-clause-need : goal.returns-in-EucKr-clause-need
+returns-in-EucKr-clause-need g c = rw c.in-EucKr.is c.decode-in-EucKr.ensures.need
+
+pub returns-in-ShiftJis-clause-need : goal.returns-in-ShiftJis-clause-need
+returns-in-ShiftJis-clause-need g c = rw c.in-ShiftJis.is c.decode-in-ShiftJis.ensures.need

@@ -1,0 +1,10 @@
+use Rattle.enc_codec.proofs.variant.VariantDecoderRawDecoder.text_lengths.Goals as goal
+
+pub returns-in-Big5-clause-enough : goal.returns-in-Big5-clause-enough
+returns-in-Big5-clause-enough c = rw c.in-Big5.is c.text_lengths-in-Big5.ensures.enough
+
+pub returns-in-EucKr-clause-enough : goal.returns-in-EucKr-clause-enough
+returns-in-EucKr-clause-enough c = rw c.in-EucKr.is c.text_lengths-in-EucKr.ensures.enough
+
+pub returns-in-ShiftJis-clause-enough : goal.returns-in-ShiftJis-clause-enough
+returns-in-ShiftJis-clause-enough c = rw c.in-ShiftJis.is c.text_lengths-in-ShiftJis.ensures.enough
