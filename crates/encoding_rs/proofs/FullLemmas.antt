@@ -23,6 +23,7 @@ use Rattle.encoding_rs.specs.Encodings.{rule_of}
 use Rattle.encoding_rs.specs.Bom.{Mark, sequences_by, utf_8_mark, utf_16be_mark, utf_16le_mark, find_mark}
 use Rattle.encoding_rs.specs.LifeCycle.{Phase, InFront, Within, Ended, phase_of, awaits_mark, mark_in, mark_bytes, encoding_by, sequences_in, held_bytes, fronts, state_at, state_behind, life_after}
 use Rattle.encoding_rs.specs.Decoding.{DecoderState, has_ended, finished, remaining_sequences, TellsHeld, Decodes, DecodesInto, TakesSmallTexts, Converts, ConvertsInto, IsAsBefore}
+use Rattle.enc_machine.proofs.NeedLemmas.{meets_need}
 use Rattle.enc_machine.proofs.RuleLemmas.{none_without_text, has_bytes, small_text}
 use Rattle.enc_machine.proofs.SegmentationLemmas.{sequences_of-nil}
 use Rattle.enc_utf.proofs.Utf8Rule.{utf_8_has_texts}
@@ -115,7 +116,7 @@ module _ (units_of : ℕ → List ℕ) (determine : DetermineTexts units_of) (tr
   no_text w = ap text_of d.call.stops.only_put ∙ determine (text_of d.call.put) [] d.call.scalars refl (sym d.call.text ∙ no_bytes wrote w)
 
   -- With room for a small text something is done: fewer bytes are pending or unread.
-  less_at_hand : (least : ℕ) → TakesSmallTexts units_of least → least ≤ room → length new.pending + (length src - read) < length old.pending + length src
+  pub less_at_hand : (least : ℕ) → TakesSmallTexts units_of least → least ≤ room → length new.pending + (length src - read) < length old.pending + length src
   less_at_hand least takes h =
       let b = begins_at last (remaining_sequences old) src (d.call.done ++ d.call.stops.next ∷ []) d.call.stops.determined in
       let r = by_rule HasSmallTexts (small_texts utf_8_mark.encoding) (small_texts utf_16be_mark.encoding) (small_texts utf_16le_mark.encoding) old b.0 (small_texts old.encoding) in
@@ -179,6 +180,7 @@ pub converts : (units_of : ℕ → List ℕ) (least : ℕ) (treatment : Treatmen
     → Decodes units_of treatment old new src last room result read wrote replaced → Converts units_of least treatment old new src last room result read wrote replaced
 converts units_of least treatment old new src last room result read wrote replaced determine takes tells going d = record {
   decodes = d;
+  need = meets_need units_of _ _ src last treatment room result read wrote replaced d.call;
   unchanged = λ f r w. as_before units_of determine treatment old new tells going src last room read wrote replaced (full f) r (ap length w);
   same = λ f r w has. just_the_same units_of determine treatment old new tells going src last room read wrote replaced (full f) r (ap length w) has;
   progress = λ f h. less_at_hand units_of determine treatment old new src last room read wrote replaced (full f) least takes h;

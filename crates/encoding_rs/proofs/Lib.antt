@@ -22,3 +22,4 @@ pub mod SettledLemmas
 pub mod OneShotLemmas
 pub mod UnreadLemmas
 pub mod WrittenLemmas
+pub mod DecodeEndLemmas

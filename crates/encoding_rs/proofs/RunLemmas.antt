@@ -56,7 +56,7 @@ pub reaches : (n offer : ℕ) → nat_le n offer ≡ true → n ≤ offer
 reaches n offer h = grind (arith, nat_tests)
 
 -- the units of either kind determine a text
-determined_by : (utf16 : Bool) → DetermineTexts (units_by utf16)
+pub determined_by : (utf16 : Bool) → DetermineTexts (units_by utf16)
 determined_by true = utf_16_determines
 determined_by false = utf_8_determines
 

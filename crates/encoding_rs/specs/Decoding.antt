@@ -18,6 +18,7 @@ use Rattle.enc_machine.specs.Sequence.{Sequence, bytes_of, text_of, any_malforme
 use Rattle.enc_machine.specs.CodecState.{CodecState}
 use Rattle.enc_machine.specs.Remainder.{Remainder}
 use Rattle.enc_machine.specs.Call.{Call, Treatment, Replaced, Reported, is_end}
+use Rattle.enc_machine.specs.Need.{MeetsNeed}
 use Rattle.enc_machine.specs.RuleLaws.{HasTexts, IsSmallText}
 use Rattle.encoding_rs.specs.Encodings.{rule_of}
 use Rattle.encoding_rs.specs.Bom.{marks_looked_for, find_mark, sequences_by}
@@ -150,6 +151,8 @@ TakesSmallTexts units_of least = (text : List ℕ) → IsSmallText text → leng
 -- comes next.
 pub record Converts (units_of : ℕ → List ℕ) (least : ℕ) (treatment : Treatment) (old new : DecoderState) (src : List ℕ) (last : Bool) (room : ℕ) (result : DecoderResult) (read : ℕ) (wrote : List ℕ) (replaced : Bool) : Type 0 where
   pub decodes : Decodes units_of treatment old new src last room result read wrote replaced
+  -- The output is full just where the call needs more room than there is.
+  pub need : MeetsNeed units_of treatment (decoder_remainder old) (decoder_remainder new) src last room result read (length wrote)
   -- Where nothing was read and nothing written, the decoder is as it was, but for a pending escape sequence that is
   -- shown to be skipped; in an encoding that has none, it is just as it was.
   pub unchanged : result ≡ raw.OutputFull → read ≡ 0 → wrote ≡ [] → IsAsBefore src last old new

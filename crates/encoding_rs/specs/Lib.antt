@@ -13,3 +13,4 @@ pub mod Encoder
 pub mod EncodeRun
 pub mod Lengths
 pub mod OneShot
+pub mod DecodeEnd

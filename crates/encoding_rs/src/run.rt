@@ -1,11 +1,13 @@
 //! Whole runs of a decoder or an encoder: what any list of calls comes to.
 
-ghost use Rattle.std.specs.Prelude.{◌≡◌, ◌≤◌, ◌⊎◌, ◌++◌, true, false, length, take, IfOk, OnOk};
+ghost use Rattle.std.specs.Prelude.{◌≡◌, ◌+◌, ◌*◌, ◌≤◌, ◌⊎◌, ◌++◌, true, false, length, take, IfOk, OnOk};
+ghost use Rattle.std.specs.List.{All};
 ghost use Rattle.std.specs.Char.{encode_utf8};
 ghost use Rattle.std.specs.Char.Escape.{encode_utf16};
 ghost use Rattle.std.specs.String.{string_bytes};
 ghost use Rattle.enc_calls.specs.Replacing.{stop_of};
 ghost use Rattle.encoding_rs.specs.Decoding.{DecoderState, finished, whole_encoding, whole_utf_8, whole_malformed};
+ghost use Rattle.encoding_rs.specs.DecodeEnd.{GoesFurther};
 ghost use Rattle.encoding_rs.specs.Run.{units_by, AnswersCall, MakesCall, is_reported, fault_of, IsRun, HasRun, run_start, whole_faults, all_report};
 
 pub use crate::bom::BomHandling;
@@ -234,6 +236,11 @@ pub fn decode_run(
     // All calls are made, unless the end is reached before.
     ensures made { IfOk result (λ report. (report.finished ≡ true) ⊎ (report.calls ≡ length calls.now)) }
     ensures calls { IfOk result (λ report. report.calls ≤ length calls.now) }
+
+    // Where each call is offered a byte and has room for any character, the end is reached: two calls for each byte, and one more,
+    // are enough.
+    ensures end { IfOk result (λ report. All GoesFurther calls.now → (report.calls ≤ 2 * length bytes.now + 1)
+        × (2 * length bytes.now + 1 ≤ length calls.now → report.finished ≡ true)) }
 
     // What has come out is always a beginning of the one text, and each malformed sequence of it stands at its place.
     ensures beginning { IfOk result (λ report. HasRun handling encoding bytes.now (take report.calls calls.now)

@@ -1,7 +1,8 @@
-use Rattle.std.proofs.Common.{take, drop, arith, true≢false, refl, sym, ◌∙◌}
+use Rattle.std.proofs.Common.{take, drop, arith, true≢false, refl, sym, ◌∙◌, rules}
 use Rattle.encoding_rs.proofs.EndLemmas.{fresh_open}
 use Rattle.encoding_rs.proofs.RunLemmas.{start, decodes_on, within_on, all_read, runs_next, takes_next, has_run, whole_text, whole_flag, whole_places}
 use Rattle.encoding_rs.proofs.AheadLemmas.{fresh_ahead, told_on, at_end}
+use Rattle.encoding_rs.proofs.DecodeEndLemmas.{ends}
 use Rattle.encoding_rs.proofs.run.decode_run.Goals as goal
 
 pub loop-call-init : goal.loop-call-init
@@ -51,3 +52,6 @@ returns-clause-errors c = λ f. whole_flag _ _ _ _ _ _ _ _ _ c.loop-call.invaria
 
 pub returns-clause-faults : goal.returns-clause-faults
 returns-clause-faults c = λ f r. whole_places _ _ _ _ _ _ _ _ _ c.loop-call.invariant.done (sym c.is_finished-finished.ensures ∙ f) r
+
+pub returns-clause-end : goal.returns-clause-end
+returns-clause-end c = λ further. rw c.is_finished-finished.ensures (ends c.args.handling c.args.encoding _ _ c.loop-call.made _ (search rules) (search rules) c.loop-call.invariant.run further)
