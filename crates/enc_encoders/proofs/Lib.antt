@@ -8,3 +8,4 @@ pub mod FewLemmas
 pub mod StatelessLemmas
 pub mod Iso2022JpLemmas
 pub mod NeedLemmas
+pub mod EnoughLemmas
