@@ -9,3 +9,4 @@ pub mod StatelessLemmas
 pub mod Iso2022JpLemmas
 pub mod NeedLemmas
 pub mod EnoughLemmas
+pub mod CountLemmas

@@ -22,7 +22,7 @@ at_report : (q : Step) (c : ℕ) (qs : List Step) → q.report ≡ Some c → be
 at_report q c qs e = ap (λ r. unless_report r q (before_report qs)) e
 
 -- the bytes of a first step that is no report
-at_next : (q : Step) (qs all : List Step) → all ≡ q ∷ qs → q.report ≡ None → length q.bytes ≤ length (bytes_of_steps (before_report all))
+pub at_next : (q : Step) (qs all : List Step) → all ≡ q ∷ qs → q.report ≡ None → length q.bytes ≤ length (bytes_of_steps (before_report all))
 at_next q qs all e f =
     let x : length (bytes_of_steps (before_report all)) ≡ length (q.bytes ++ bytes_of_steps (before_report qs)) =
     ap (λ x. length (bytes_of_steps (before_report x))) e ∙ ap (λ r. length (bytes_of_steps (unless_report r q (before_report qs)))) f in
@@ -34,9 +34,9 @@ unfolding steps_of
 at_end v true h = ap (λ s. length (bytes_of_steps (before_report (last_step s)))) (h refl)
 at_end v false h = refl
 
-module _ (old new : RawState) (src rest : List ℕ) (last : Bool) (room : ℕ) where
+module _ (old new : RawState) (src rest : List ℕ) (last : Bool) where
   -- behind steps none of which is a report
-  left : (done : List Step) → any_reported done ≡ false → steps_from old last src ≡ done ++ steps_from new last rest
+  pub left : (done : List Step) → any_reported done ≡ false → steps_from old last src ≡ done ++ steps_from new last rest
       → need old last src ≡ length (bytes_of_steps done) + need new last rest
   left done n r =
       ap (λ x. length (bytes_of_steps (before_report x))) r ∙ ap (λ x. length (bytes_of_steps x)) (before_report-append done (steps_from new last rest) n)
@@ -51,19 +51,20 @@ module _ (old new : RawState) (src rest : List ℕ) (last : Bool) (room : ℕ) w
       ∙ ap (λ x. length (bytes_of_steps x))
       (before_report-append before (q ∷ steps_from new last rest) n ∙ ap (λ x. before ++ x) (at_report q c (steps_from new last rest) e) ∙ append-nil before)
 
+module _ (old new : RawState) (src rest : List ℕ) (last : Bool) (room : ℕ) where
   pub meets_need : (result : EncoderResult) (wrote : List ℕ) → Call old new src rest last room result wrote → MeetsNeed old new src rest last room result (length wrote)
   meets_need InputEmpty wrote c =
-      let falls : need old last src ≡ length wrote + need new last rest = left c.done c.stops.none_reported c.remaining ∙ ap (λ x. length x + need new last rest) (sym c.bytes) in
+      let falls : need old last src ≡ length wrote + need new last rest = left old new src rest last c.done c.stops.none_reported c.remaining ∙ ap (λ x. length x + need new last rest) (sym c.bytes) in
       let none : need new last rest ≡ 0 = ap (λ t. need new last t) c.stops.all_read ∙ at_end new last c.stops.ended in
       record { full = (λ e. cc, λ l. absurd (omega (arith, falls, none, c.fits, l))); falls = falls }
   meets_need OutputFull wrote c =
-      let falls : need old last src ≡ length wrote + need new last rest = left c.done c.stops.none_reported c.remaining ∙ ap (λ x. length x + need new last rest) (sym c.bytes) in
+      let falls : need old last src ≡ length wrote + need new last rest = left old new src rest last c.done c.stops.none_reported c.remaining ∙ ap (λ x. length x + need new last rest) (sym c.bytes) in
       let next = at_next c.stops.next c.stops.others (steps_from new last rest) c.stops.comes c.stops.not_report in
       record { full = (λ e. omega (arith, falls, next, c.stops.full, ap length c.bytes), λ l. refl); falls = falls }
   meets_need (Unmappable k) wrote c =
       let s = c.stops in
       let q = s.report in
-      let before = told s.before q k s.none_reported s.reported (c.remaining ∙ ap (λ x. x ++ steps_from new last rest) s.then_report) in
+      let before = told old new src rest last s.before q k s.none_reported s.reported (c.remaining ∙ ap (λ x. x ++ steps_from new last rest) s.then_report) in
       let wrote_is : wrote ≡ bytes_of_steps s.before =
       c.bytes ∙ ap bytes_of_steps s.then_report ∙ bytes_of_steps-one s.before q ∙ ap (λ x. bytes_of_steps s.before ++ x) s.none_written ∙ append-nil (bytes_of_steps s.before) in
       let falls : need old last src ≡ length wrote + 0 = omega (arith, before, ap length wrote_is) in
