@@ -156,7 +156,7 @@ fits_is n q false e = cc
 fitting_is : (n q : ℕ) → fitting n ≡ Some q → n ≡ q
 fitting_is n q e = fits_is n q (nat_lt n (2 ^ 64)) e
 
-plus_is : (o : Option ℕ) (b q : ℕ) → plus o b ≡ Some q → (a : ℕ) × ((o ≡ Some a) × (a + b ≡ q))
+pub plus_is : (o : Option ℕ) (b q : ℕ) → plus o b ≡ Some q → (a : ℕ) × ((o ≡ Some a) × (a + b ≡ q))
 plus_is None b q e = cc
 plus_is (Some a) b q e = (a, (refl, fitting_is (a + b) q e))
 

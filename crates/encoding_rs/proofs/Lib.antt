@@ -22,3 +22,5 @@ pub mod SettledLemmas
 pub mod OneShotLemmas
 pub mod UnreadLemmas
 pub mod WrittenLemmas
+pub mod NeedLemmas
+pub mod EncodeEndLemmas

@@ -11,5 +11,7 @@ pub mod Labels
 pub mod Properties
 pub mod Encoder
 pub mod EncodeRun
+pub mod EncodeEnd
 pub mod Lengths
+pub mod Need
 pub mod OneShot
