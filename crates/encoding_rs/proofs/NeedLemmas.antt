@@ -1,21 +1,22 @@
 -- How many bytes a call of an encoder has to write, and which lengths are enough for it.
-use Rattle.std.proofs.Common.{◌≡◌, ℕ, ◌≤◌, Bool, true, false, Option, Some, None, List, length, take, IfSome, ap, ◌∙◌, sym, subst, arith, length-take}
+use Rattle.std.proofs.Common.{◌≡◌, ℕ, ◌≤◌, Bool, Option, Some, None, List, length, take, IfSome, ap, ◌∙◌, sym, subst, arith, length-take}
 use Rattle.std.specs.Char.{encode_utf8}
 use Rattle.std.specs.Char.Escape.{encode_utf16}
 use Rattle.enc_units.specs.Checked.{plus}
 use Rattle.enc_codec.specs.declared.codec.Codec.{Codec}
-use Rattle.enc_codec.specs.declared.codec.Codec.TheVariants.{Utf8, Utf16Be, Utf16Le, SingleByte, Big5, EucKr, ShiftJis, EucJp, Gbk, Gb18030, Iso2022Jp, XUserDefined, Replacement}
 use Rattle.enc_encoders.specs.declared.byte_lengths.ByteLengths.{ByteLengths}
 use Rattle.enc_encoders.specs.declared.encoder_result.EncoderResult.{EncoderResult}
 use Rattle.enc_encoders.specs.EncoderRule.{EncoderRule, RawState}
 use Rattle.enc_encoders.specs.Lengths.{from_utf_8_length, from_utf_16_length}
 use Rattle.enc_encoders.specs.Need.{AreEnough}
 use Rattle.enc_encoders.specs.Steps.{chars_of}
-use Rattle.enc_encoders.proofs.EnoughLemmas.{plus_is, keeps_utf_8, keeps_single_byte, keeps_x_user_defined, keeps_big5, keeps_euc_kr, keeps_shift_jis, keeps_euc_jp, keeps_gb18030}
+use Rattle.enc_encoders.specs.Stateless.{KeepsLengths}
+use Rattle.enc_encoders.specs.Utf8.{utf_8_bytes}
+use Rattle.enc_encoders.proofs.EnoughLemmas.{plus_is, keeps_utf_8}
 use Rattle.enc_encode.specs.declared.variant.VariantEncoder.{VariantEncoder}
 use Rattle.enc_encode.specs.Encoders.{encoder_rule, encoder_lengths}
 use Rattle.enc_encode.specs.Variant.{variant_state}
-use Rattle.enc_encode.proofs.EnoughLemmas.{enough_of_stateless, enough_of_iso_2022_jp}
+use Rattle.enc_encode.proofs.EnoughLemmas.{IsEnoughIfAny, enough_if_any, enough_of_stateless}
 use Rattle.enc_references.specs.Treatment.{Reported}
 use Rattle.enc_references.proofs.NeedLemmas.{reporting_meets_need, reads_all}
 use Rattle.encoding_rs.specs.Encodings.{or_utf_8}
@@ -42,21 +43,10 @@ into_by_need units_of old new src last before after result read written replaced
     subst (λ (n : ℕ). EncodesByNeed units_of old new src last (length before) result read n) count
     (by_need units_of old new src last (length before) result read (take written after) replaced e.encodes)
 
--- the lengths of a codec are enough for an encoder of its rule
-pub enough_by : (c : Codec) (v : VariantEncoder) → (variant_state v).rule ≡ or_utf_8 (encoder_rule c) → AreEnough (encoder_lengths c) (variant_state v)
-enough_by Utf8 v r = enough_of_stateless _ _ v keeps_utf_8 r
-enough_by Utf16Be v r = enough_of_stateless _ _ v keeps_utf_8 r
-enough_by Utf16Le v r = enough_of_stateless _ _ v keeps_utf_8 r
-enough_by Replacement v r = enough_of_stateless _ _ v keeps_utf_8 r
-enough_by (SingleByte index) v r = enough_of_stateless _ _ v (keeps_single_byte index) r
-enough_by Big5 v r = enough_of_stateless _ _ v keeps_big5 r
-enough_by EucKr v r = enough_of_stateless _ _ v keeps_euc_kr r
-enough_by ShiftJis v r = enough_of_stateless _ _ v keeps_shift_jis r
-enough_by EucJp v r = enough_of_stateless _ _ v keeps_euc_jp r
-enough_by Gbk v r = enough_of_stateless _ _ v (keeps_gb18030 true) r
-enough_by Gb18030 v r = enough_of_stateless _ _ v (keeps_gb18030 false) r
-enough_by XUserDefined v r = enough_of_stateless _ _ v keeps_x_user_defined r
-enough_by Iso2022Jp v r = enough_of_iso_2022_jp v r
+-- the lengths of the encoding that is written, which is UTF-8 where it has no encoder, are enough
+or_enough : (l : ByteLengths) (found : Option EncoderRule) → IsEnoughIfAny l found → (v : VariantEncoder) → (variant_state v).rule ≡ or_utf_8 found → AreEnough l (variant_state v)
+or_enough l None e v r = enough_of_stateless l utf_8_bytes v (subst (λ (x : ByteLengths). KeepsLengths x utf_8_bytes) (sym e) keeps_utf_8) r
+or_enough l (Some e) h v r = h v r
 
 -- what a length is enough for that was told
 
@@ -65,7 +55,7 @@ with_rule v rule r = let made : EncoderRule → RawState = λ e. record { rule =
 
 pub enough_in : (c : Codec) (v : VariantEncoder) → (variant_state v).rule ≡ or_utf_8 (encoder_rule c)
     → AreEnough (encoder_lengths c) (record { rule = or_utf_8 (encoder_rule c); set = (variant_state v).set })
-enough_in c v r = subst (AreEnough (encoder_lengths c)) (with_rule (variant_state v) (or_utf_8 (encoder_rule c)) r) (enough_by c v r)
+enough_in c v r = subst (AreEnough (encoder_lengths c)) (with_rule (variant_state v) (or_utf_8 (encoder_rule c)) r) (or_enough (encoder_lengths c) (encoder_rule c) (enough_if_any c) v r)
 
 module _ (lengths : ByteLengths) (v : EncoderState) (enough : AreEnough lengths (raw_state v)) (n : ℕ) where
   pub enough_from_utf_8 : (result : Option ℕ) → result ≡ from_utf_8_length lengths n → IfSome result (IsEnough encode_utf8 v n)

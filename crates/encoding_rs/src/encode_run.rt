@@ -10,8 +10,8 @@ ghost use Rattle.enc_references.specs.Unmappable.{any_unmappable, reports_of};
 ghost use Rattle.encoding_rs.specs.Encodings.{output_rule};
 ghost use Rattle.encoding_rs.specs.Encoder.{EncoderState, Encodes};
 ghost use Rattle.encoding_rs.specs.Run.{units_by};
-ghost use Rattle.encoding_rs.specs.EncodeEnd.{GoesFurther};
 ghost use Rattle.encoding_rs.specs.EncodeRun.{treatment_by, report_of, is_report, is_empty, EncodeState, MakesCall, IsEncodeRun, HasEncoded, encode_start, whole_bytes, all_report};
+ghost use Rattle.encoding_rs.specs.EncodeEnd.{GoesFurther};
 
 use crate::chars_of_text::{chars_in_units, split_at_char, utf16_of};
 use crate::encoder::Encoder;
@@ -252,8 +252,8 @@ pub fn encode_run(
     ensures made { IfOk result (λ report. (report.finished ≡ true) ⊎ (report.calls ≡ length calls.now)) }
     ensures calls { IfOk result (λ report. report.calls ≤ length calls.now) }
 
-    // Where each call is offered a character and has room for four bytes, with those that are kept back, the end is reached: two
-    // calls for each character, and two more, are enough.
+    // Where each call is offered a character and has room for four bytes beside those that it keeps back, two calls for each character
+    // and two more come to the end.
     ensures end { IfOk result (λ report. All (GoesFurther encoding) calls.now → (report.calls ≤ 2 * length (chars text.now) + 2)
         × (2 * length (chars text.now) + 2 ≤ length calls.now → report.finished ≡ true)) }
 

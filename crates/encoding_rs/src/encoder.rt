@@ -9,10 +9,9 @@ ghost use Rattle.enc_encoders.specs.EncoderRule.{is_pending};
 ghost use Rattle.enc_references.specs.Treatment.{Reported, stop_of};
 ghost use Rattle.enc_units.specs.Checked.{plus};
 ghost use Rattle.enc_encoders.specs.Lengths.{from_utf_8_length, from_utf_16_length};
-ghost use Rattle.encoding_rs.specs.Encoder.{Encodes, EncodesInto, fresh_encoder, kept_by_id, replacing};
-ghost use Rattle.encoding_rs.specs.Lengths.{output_lengths};
 ghost use Rattle.enc_encoders.specs.Need.{AreEnough};
-ghost use Rattle.encoding_rs.specs.Encoder.{raw_state};
+ghost use Rattle.encoding_rs.specs.Encoder.{Encodes, EncodesInto, fresh_encoder, kept_by_id, raw_state, replacing};
+ghost use Rattle.encoding_rs.specs.Lengths.{output_lengths};
 ghost use Rattle.encoding_rs.specs.Need.{EncodesByNeed, IsEnough, IsEnoughIfMappable};
 
 use crate::encoding::{Encoding, Id, codec_of};
@@ -108,7 +107,8 @@ impl Encoder {
     }
 
     /// How many bytes so many code units of UTF-8 may become, up to an unmappable character: a length to allocate for
-    /// [`Encoder::encode_from_utf8_without_replacement`]. `None` where a step of the formula passes `usize`. Takes no memory.
+    /// [`Encoder::encode_from_utf8_without_replacement`], which is never full with that. `None` where a step of the formula
+    /// passes `usize`. Takes no memory.
     pub fn max_buffer_length_from_utf8_without_replacement(
         &self,
         byte_length: usize,
@@ -131,8 +131,8 @@ impl Encoder {
     }
 
     /// How many bytes to allocate for [`Encoder::encode_from_utf8`] of so many code units, if no character of theirs is
-    /// unmappable: unless the encoding is UTF-8, 10 bytes more, which are kept back for references. `None` where a step of the
-    /// formula passes `usize`. Takes no memory.
+    /// unmappable: unless the encoding is UTF-8, 10 bytes more, which are kept back for references. A call with that reads all.
+    /// `None` where a step of the formula passes `usize`. Takes no memory.
     pub fn max_buffer_length_from_utf8_if_no_unmappables(&self, byte_length: usize) -> Option<usize>
         ensures formula { result ≡ plus (from_utf_8_length (output_lengths self.now.encoding) byte_length) (kept_by_id self.now.encoding.id) }
         ensures enough { IfSome result (IsEnoughIfMappable encode_utf8 self.now byte_length) }
@@ -271,7 +271,8 @@ impl Encoder {
     /// how many bytes of `dst` it has written.
     ///
     /// - `InputEmpty`: all of `src` is read. With `last` the text is ended, and the encoder is at the start of another.
-    /// - `OutputFull`: the bytes that come next don't fit. Their character is unread.
+    /// - `OutputFull`: the bytes that come next don't fit. Their character is unread. It is so exactly where what is offered has
+    ///   more bytes than the room, up to an unmappable character.
     /// - `Unmappable`: the encoding has no bytes for the last character that was read. This is it, or in ISO-2022-JP U+FFFD
     ///   for U+000E, U+000F and U+001B. A caller may put a decimal reference there, `&#`, its number and `;`: a character set
     ///   is designated that has these characters.
