@@ -1,1 +1,2 @@
 pub mod LawfulLemmas
+pub mod EnoughLemmas

@@ -27,17 +27,22 @@ steps_of-append e last s (c ∷ t) z =
     ∙ sym (append_assoc (escaping e s d) (q ∷ front) (steps_of e last (set_behind s' front) z))
     ∙ ap (λ x. (escaping e s d ++ (q ∷ front)) ++ steps_of e last x z) (sym set)
 
--- what a call took off comes first whatever follows the offer
+-- steps that were taken off come first whatever follows the offer
+pub follows : (old new : RawState) (src rest : List ℕ) (last : Bool) (done : List Step) → steps_from old last src ≡ done ++ steps_from new last rest → new.rule ≡ old.rule
+    → new.set ≡ set_behind old.set done → (z : List ℕ) → (last ≡ true → z ≡ []) → steps_from old true (src ++ z) ≡ done ++ steps_from new true (rest ++ z)
+follows old new src rest true done remaining rule set z m =
+    rw (m refl, append-nil src, append-nil rest) remaining
+follows old new src rest false done remaining rule set z m =
+    let behind : set_behind old.set (done ++ steps_from new false rest) ≡ set_behind new.set (steps_from new false rest) =
+    set_behind-append old.set done (steps_from new false rest) ∙ ap (λ s. set_behind s (steps_from new false rest)) (sym set) in
+    steps_of-append old.rule true old.set src z
+    ∙ ap (λ x. x ++ steps_of old.rule true (set_behind old.set x) z) remaining
+    ∙ ap (λ s. (done ++ steps_from new false rest) ++ steps_of old.rule true s z) behind
+    ∙ ap (λ e. (done ++ steps_from new false rest) ++ steps_of e true (set_behind new.set (steps_from new false rest)) z) (sym rule)
+    ∙ append_assoc done (steps_from new false rest) (steps_of new.rule true (set_behind new.set (steps_from new false rest)) z)
+    ∙ ap (λ x. done ++ x) (sym (steps_of-append new.rule true new.set rest z))
+
+-- so it is of what a call took off
 pub whatever_follows : (old new : RawState) (src rest : List ℕ) (last : Bool) (room : ℕ) (result : EncoderResult) (wrote : List ℕ) (c : Call old new src rest last room result wrote)
     → (z : List ℕ) → (last ≡ true → z ≡ []) → steps_from old true (src ++ z) ≡ c.done ++ steps_from new true (rest ++ z)
-whatever_follows old new src rest true room result wrote c z m =
-    rw (m refl, append-nil src, append-nil rest) c.remaining
-whatever_follows old new src rest false room result wrote c z m =
-    let set : set_behind old.set (c.done ++ steps_from new false rest) ≡ set_behind new.set (steps_from new false rest) =
-    set_behind-append old.set c.done (steps_from new false rest) ∙ ap (λ s. set_behind s (steps_from new false rest)) (sym c.set) in
-    steps_of-append old.rule true old.set src z
-    ∙ ap (λ x. x ++ steps_of old.rule true (set_behind old.set x) z) c.remaining
-    ∙ ap (λ s. (c.done ++ steps_from new false rest) ++ steps_of old.rule true s z) set
-    ∙ ap (λ e. (c.done ++ steps_from new false rest) ++ steps_of e true (set_behind new.set (steps_from new false rest)) z) (sym c.rule)
-    ∙ append_assoc c.done (steps_from new false rest) (steps_of new.rule true (set_behind new.set (steps_from new false rest)) z)
-    ∙ ap (λ x. c.done ++ x) (sym (steps_of-append new.rule true new.set rest z))
+whatever_follows old new src rest last room result wrote c z m = follows old new src rest last c.done c.remaining c.rule c.set z m

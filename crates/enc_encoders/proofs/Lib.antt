@@ -7,3 +7,6 @@ pub mod ActLemmas
 pub mod FewLemmas
 pub mod StatelessLemmas
 pub mod Iso2022JpLemmas
+pub mod NeedLemmas
+pub mod EnoughLemmas
+pub mod CountLemmas

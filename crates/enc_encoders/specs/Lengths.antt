@@ -20,3 +20,19 @@ from_utf_16_length OneByte n = Some n
 from_utf_16_length TwoBytes n = times (Some n) 2
 from_utf_16_length Gb18030 n = times (Some n) 4
 from_utf_16_length Iso2022Jp n = plus (times (Some n) 5) 3
+
+-- how many bytes a character has at most for each of its code units of UTF-8, with the escape sequence before it,
+abbrev pub most_by_utf_8 : ByteLengths → ℕ
+most_by_utf_8 Utf8 = 1
+most_by_utf_8 OneByte = 1
+most_by_utf_8 TwoBytes = 1
+most_by_utf_8 Gb18030 = 2
+most_by_utf_8 Iso2022Jp = 4
+
+-- and of UTF-16
+abbrev pub most_by_utf_16 : ByteLengths → ℕ
+most_by_utf_16 Utf8 = 3
+most_by_utf_16 OneByte = 1
+most_by_utf_16 TwoBytes = 2
+most_by_utf_16 Gb18030 = 4
+most_by_utf_16 Iso2022Jp = 5

@@ -14,3 +14,4 @@ pub mod Big5
 pub mod Gb18030
 pub mod Iso2022Jp
 pub mod Lengths
+pub mod Need

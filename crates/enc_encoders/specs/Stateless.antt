@@ -1,7 +1,12 @@
 -- Encodings without escape sequences: each character is written by itself.
-use Rattle.std.specs.Prelude.{◌≡◌, ℕ, ◌<◌, true, nat_lt, Option, Some, None, List, [], ◌∷◌, if◌then◌else◌}
+use Rattle.std.specs.Prelude.{◌≡◌, ℕ, ◌*◌, ◌<◌, ◌≤◌, true, nat_lt, Option, Some, None, List, [], ◌∷◌, length, if◌then◌else◌}
+use Rattle.std.specs.Char.{encode_utf8}
+use Rattle.std.specs.Char.Escape.{encode_utf16}
+use Rattle.enc_encoders.specs.declared.byte_lengths.ByteLengths.{ByteLengths}
 use Rattle.enc_encoders.specs.declared.character_set.CharacterSet.TheVariants.{Ascii}
 use Rattle.enc_encoders.specs.EncoderRule.{EncoderRule, RawState, AreFew}
+use Rattle.enc_encoders.specs.Text.{or_nothing}
+use Rattle.enc_encoders.specs.Lengths.{most_by_utf_8, most_by_utf_16}
 
 -- by the bytes of each character
 abbrev pub stateless : (ℕ → Option (List ℕ)) → EncoderRule
@@ -17,6 +22,11 @@ WritesAscii bytes = (c : ℕ) → c < 0x80 → bytes c ≡ Some (c ∷ [])
 -- no character has more than four bytes
 pub record WritesFew (bytes : ℕ → Option (List ℕ)) : Type 0 where
   pub few : (c : ℕ) → AreFew (bytes c)
+
+-- no character has more bytes than the formulas tell of its code units
+pub record KeepsLengths (lengths : ByteLengths) (bytes : ℕ → Option (List ℕ)) : Type 0 where
+  pub by_utf_8 : (c : ℕ) → length (or_nothing (bytes c)) ≤ most_by_utf_8 lengths * length (encode_utf8 c)
+  pub by_utf_16 : (c : ℕ) → length (or_nothing (bytes c)) ≤ most_by_utf_16 lengths * length (encode_utf16 c)
 
 -- ASCII as itself, and all other characters so
 abbrev pub with_ascii : (ℕ → Option (List ℕ)) → ℕ → Option (List ℕ)

@@ -5,6 +5,7 @@ ghost use Rattle.enc_encoders.specs.CharLaw.{Acts, IsAtEnd, IsComing, bytes_of};
 ghost use Rattle.enc_encoders.specs.Call.{CallInto};
 ghost use Rattle.enc_encoders.specs.EncoderRule.{IsLawful};
 ghost use Rattle.enc_encoders.specs.Text.{KeepsText};
+ghost use Rattle.enc_encoders.specs.Need.{MeetsNeed};
 
 use crate::bytes::Bytes;
 use crate::char_encoder::CharEncoder;
@@ -76,6 +77,8 @@ pub fn run<E: CharEncoder, C: Chars>(
         dst.old dst.new result.0 result.1 result.2 }
     ensures text { KeepsText (E.state encoder.old) (E.state encoder.new) (C.rest src.old) (C.rest src.new) last result.0
         (take result.2 dst.new) }
+    ensures need { MeetsNeed (E.state encoder.old) (E.state encoder.new) (C.rest src.old) (C.rest src.new) last (length dst.old)
+        result.0 result.2 }
 {
     let unread = src.unread();
     let mut state = *encoder;

@@ -1,9 +1,10 @@
 //! What every encoder has to keep to.
 
-ghost use Rattle.std.specs.Prelude.{◌≡◌, take};
+ghost use Rattle.std.specs.Prelude.{◌≡◌, length, take};
 ghost use Rattle.enc_encoders.specs.EncoderRule.{RawState, IsLawful, is_pending};
 ghost use Rattle.enc_encoders.specs.Call.{CallInto};
 ghost use Rattle.enc_encoders.specs.Text.{KeepsText};
+ghost use Rattle.enc_encoders.specs.Need.{MeetsNeed, AreEnough};
 ghost use Rattle.enc_encoders.specs.Lengths.{from_utf_8_length, from_utf_16_length};
 ghost use Rattle.enc_encoders.specs.declared.byte_lengths.ByteLengths.{ByteLengths};
 
@@ -34,6 +35,8 @@ pub trait RawEncoder: Copy {
             dst.old dst.new result.0 result.1 result.2 }
         ensures text { KeepsText (state self.old) (state self.new) (C.rest src.old) (C.rest src.new) last result.0
             (take result.2 dst.new) }
+        ensures need { MeetsNeed (state self.old) (state self.new) (C.rest src.old) (C.rest src.new) last (length dst.old)
+            result.0 result.2 }
         ensures lawful { IsLawful (state self.old).rule }
         ensures formulas { formulas self.new ≡ formulas self.old };
 
@@ -42,9 +45,10 @@ pub trait RawEncoder: Copy {
     fn has_pending_state(&self) -> bool
         ensures { result ≡ is_pending (state self.now).set };
 
-    /// Which formulas tell the greatest number of bytes of a text. Takes no memory.
+    /// Which formulas tell the greatest number of bytes of a text. What they tell is enough, from every state on. Takes no memory.
     fn byte_lengths(&self) -> ByteLengths
-        ensures { result ≡ formulas self.now };
+        ensures formulas { result ≡ formulas self.now }
+        ensures enough { AreEnough (formulas self.now) (state self.now) };
 
     /// How many bytes so many code units of UTF-8 may become, up to an unmappable character: a length to allocate. `None` where
     /// that passes `usize`. Takes no memory.

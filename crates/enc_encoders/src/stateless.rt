@@ -2,7 +2,7 @@
 
 ghost use Rattle.std.specs.Prelude.{◌≡◌, ◌≤◌, ℕ, Option, List};
 ghost use Rattle.enc_encoders.specs.CharLaw.{AreBytesOf};
-ghost use Rattle.enc_encoders.specs.Stateless.{WritesAscii, WritesFew};
+ghost use Rattle.enc_encoders.specs.Stateless.{WritesAscii, WritesFew, KeepsLengths};
 ghost use Rattle.enc_encoders.specs.declared.byte_lengths.ByteLengths.{ByteLengths};
 
 use crate::byte_lengths::ByteLengths;
@@ -32,10 +32,12 @@ pub trait Repertoire: Copy {
     fn byte_lengths(self) -> ByteLengths
         ensures { result ≡ lengths self };
 
-    /// ASCII is written as itself, and no character has more than four bytes. A call does nothing.
+    /// ASCII is written as itself, and no character has more than four bytes, or than the formulas tell of its code units. A call
+    /// does nothing.
     fn laws(self)
         ensures ascii { WritesAscii (bytes_for self) }
-        ensures few { WritesFew (bytes_for self) };
+        ensures few { WritesFew (bytes_for self) }
+        ensures lengths { KeepsLengths (lengths self) (bytes_for self) };
 }
 
 /// The encoder of an encoding without escape sequences. It keeps nothing between two calls.
@@ -106,7 +108,9 @@ impl<R: Repertoire> RawEncoder for StatelessEncoder<R> {
         false
     }
 
+    #[tactic(auto, using(crate::proofs::EnoughLemmas::stateless_enough))]
     fn byte_lengths(&self) -> ByteLengths {
+        self.repertoire.laws();
         self.repertoire.byte_lengths()
     }
 }

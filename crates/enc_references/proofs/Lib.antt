@@ -4,3 +4,4 @@ pub mod AllLemmas
 pub mod SliceLemmas
 pub mod Turns
 pub mod UnmappableLemmas
+pub mod NeedLemmas

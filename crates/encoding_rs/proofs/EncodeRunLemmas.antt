@@ -136,7 +136,7 @@ tells false v new rest last room done result replaced f s =
     (told.0, ap (λ b. b || is_report result) f ∙ told.1)
 
 -- where a call has ended the text, nothing is left
-left_nothing : (treatment : Treatment) (new : RawState) (rest : List ℕ) (last : Bool) (room : ℕ) (done : List Step) (result : EncoderResult) → StopsBy treatment new rest last room done result
+pub left_nothing : (treatment : Treatment) (new : RawState) (rest : List ℕ) (last : Bool) (room : ℕ) (done : List Step) (result : EncoderResult) → StopsBy treatment new rest last room done result
     → is_empty result ≡ true → rest ≡ []
 left_nothing Reported new rest last room done InputEmpty s e = s.all_read
 left_nothing (Replaced kept) new [] last room done InputEmpty s e = refl
@@ -148,6 +148,23 @@ is_empty_is : (result : EncoderResult) → is_empty result ≡ true → result �
 is_empty_is InputEmpty e = refl
 is_empty_is OutputFull e = absurd (true≢false (sym e))
 is_empty_is (Unmappable c) e = absurd (true≢false (sym e))
+
+-- the characters behind the offer of a call that reaches the end
+pub nothing_later : (unread : List ℕ) (offer : ℕ) → nat_le (length unread) offer ≡ true → drop offer unread ≡ []
+nothing_later unread offer l = drop_of_length-le unread (reaches (length unread) offer l)
+
+module _ (made : EncodeCall) (old new : EncoderState) (unread before after : List ℕ) (result : EncoderResult) (more : ℕ) (replaced : Bool)
+    (call : MakesCall made old new unread before after result more replaced) where
+  -- the characters that a call has read, and those behind them
+  unread_in : unread ≡ chars_of call.encodes.call.done ++ (call.encodes.rest ++ drop made.offer unread)
+  unread_in =
+      sym (take-append-drop made.offer unread) ∙ ap (λ t. t ++ drop made.offer unread) call.encodes.call.reads
+      ∙ append_assoc (chars_of call.encodes.call.done) call.encodes.rest (drop made.offer unread)
+
+  pub behind_call : drop more unread ≡ call.encodes.rest ++ drop made.offer unread
+  behind_call =
+      ap (λ n. drop n unread) call.chars ∙ ap (drop (length (chars_of call.encodes.call.done))) unread_in
+      ∙ drop-append_seam (chars_of call.encodes.call.done) (call.encodes.rest ++ drop made.offer unread)
 
 -- One call more.
 module _ (e : Encoding) (text : List ℕ) (calls : List EncodeCall) (s : EncodeState) (w : Written e text calls s) (made : EncodeCall) (new : EncoderState) (after : List ℕ)
@@ -162,18 +179,11 @@ module _ (e : Encoding) (text : List ℕ) (calls : List EncodeCall) (s : EncodeS
   abbrev later : List ℕ
   later = drop made.offer unread
 
-  -- the characters that it has read, and those behind them
   unread_is : unread ≡ chars_of raw.done ++ (call.encodes.rest ++ later)
-  unread_is =
-      sym (take-append-drop made.offer unread) ∙ ap (λ t. t ++ later) raw.reads ∙ append_assoc (chars_of raw.done) call.encodes.rest later
+  unread_is = unread_in made s.encoder new unread s.bytes after result more replaced call
 
   pub behind : drop (s.read + more) text ≡ call.encodes.rest ++ later
-  behind =
-      sym (drop-drop more s.read text) ∙ ap (λ n. drop n unread) call.chars ∙ ap (drop (length (chars_of raw.done))) unread_is
-      ∙ drop-append_seam (chars_of raw.done) (call.encodes.rest ++ later)
-
-  nothing_later : nat_le (length unread) made.offer ≡ true → later ≡ []
-  nothing_later l = drop_of_length-le unread (reaches (length unread) made.offer l)
+  behind = sym (drop-drop more s.read text) ∙ behind_call made s.encoder new unread s.bytes after result more replaced call
 
   kept_rule : (raw_state new).rule ≡ (raw_state s.encoder).rule
   kept_rule = raw.rule
@@ -182,7 +192,7 @@ module _ (e : Encoding) (text : List ℕ) (calls : List EncodeCall) (s : EncodeS
   written =
       w.bytes
       ∙ ap (λ t. s.bytes ++ bytes_of_text (raw_state s.encoder).rule s.encoder.set (with_references (raw_state s.encoder).rule t)) (sym (take-append-drop made.offer unread))
-      ∙ ap (λ t. s.bytes ++ t) (raw.text later nothing_later)
+      ∙ ap (λ t. s.bytes ++ t) (raw.text later (nothing_later unread made.offer))
       ∙ ap (λ t. s.bytes ++ (call.wrote ++ (reference_after result ++ bytes_of_text (raw_state new).rule new.set (with_references (raw_state new).rule t)))) (sym behind)
       ∙ ap (λ t. s.bytes ++ t) (sym (append_assoc call.wrote (reference_after result) tail)) ∙ sym (append_assoc s.bytes (call.wrote ++ reference_after result) tail)
       ∙ ap (λ t. t ++ tail) (sym call.bytes)
@@ -210,7 +220,7 @@ module _ (e : Encoding) (text : List ℕ) (calls : List EncodeCall) (s : EncodeS
   ends f =
       let both = and_parts _ _ f in
       let none = left_nothing _ (raw_state new) call.encodes.rest _ made.room raw.done result raw.stops both.1 in
-      (behind ∙ ap (λ t. t ++ later) none ∙ nothing_later both.0, ap (λ (v : EncoderState). v.set) (call.encodes.ended (is_empty_is result both.1) both.0))
+      (behind ∙ ap (λ t. t ++ later) none ∙ nothing_later unread made.offer both.0, ap (λ (v : EncoderState). v.set) (call.encodes.ended (is_empty_is result both.1) both.0))
 
   pub written_on : Written e text (calls ++ made ∷ []) (record {
     encoder = new;

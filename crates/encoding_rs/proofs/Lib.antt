@@ -23,3 +23,5 @@ pub mod OneShotLemmas
 pub mod UnreadLemmas
 pub mod WrittenLemmas
 pub mod DecodeEndLemmas
+pub mod NeedLemmas
+pub mod EncodeEndLemmas

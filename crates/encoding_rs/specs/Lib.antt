@@ -11,6 +11,8 @@ pub mod Labels
 pub mod Properties
 pub mod Encoder
 pub mod EncodeRun
+pub mod EncodeEnd
 pub mod Lengths
+pub mod Need
 pub mod OneShot
 pub mod DecodeEnd

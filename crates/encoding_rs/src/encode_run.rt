@@ -1,6 +1,7 @@
 //! Whole runs of an encoder: what any list of calls comes to.
 
-ghost use Rattle.std.specs.Prelude.{◌≡◌, ◌≤◌, ◌⊎◌, ◌++◌, ◌&&◌, true, false, nat_le, chars, length, take, IfOk, OnOk};
+ghost use Rattle.std.specs.Prelude.{◌≡◌, ◌+◌, ◌*◌, ◌≤◌, ◌⊎◌, ◌++◌, ◌&&◌, true, false, nat_le, chars, length, take, IfOk, OnOk};
+ghost use Rattle.std.specs.List.{All};
 ghost use Rattle.std.specs.Char.{encode_utf8};
 ghost use Rattle.std.specs.Char.Escape.{encode_utf16};
 ghost use Rattle.enc_encoders.specs.Text.{reference_after};
@@ -10,6 +11,7 @@ ghost use Rattle.encoding_rs.specs.Encodings.{output_rule};
 ghost use Rattle.encoding_rs.specs.Encoder.{EncoderState, Encodes};
 ghost use Rattle.encoding_rs.specs.Run.{units_by};
 ghost use Rattle.encoding_rs.specs.EncodeRun.{treatment_by, report_of, is_report, is_empty, EncodeState, MakesCall, IsEncodeRun, HasEncoded, encode_start, whole_bytes, all_report};
+ghost use Rattle.encoding_rs.specs.EncodeEnd.{GoesFurther};
 
 use crate::chars_of_text::{chars_in_units, split_at_char, utf16_of};
 use crate::encoder::Encoder;
@@ -249,6 +251,11 @@ pub fn encode_run(
     // All calls are made, unless the end is reached before.
     ensures made { IfOk result (λ report. (report.finished ≡ true) ⊎ (report.calls ≡ length calls.now)) }
     ensures calls { IfOk result (λ report. report.calls ≤ length calls.now) }
+
+    // Where each call is offered a character and has room for four bytes beside those that it keeps back, two calls for each character
+    // and two more come to the end.
+    ensures end { IfOk result (λ report. All (GoesFurther encoding) calls.now → (report.calls ≤ 2 * length (chars text.now) + 2)
+        × (2 * length (chars text.now) + 2 ≤ length calls.now → report.finished ≡ true)) }
 
     // What has come out is always a beginning of the bytes of the one text.
     ensures beginning { IfOk result (λ report. HasEncoded encoding (chars text.now) (take report.calls calls.now)

@@ -1,6 +1,6 @@
 //! Encoders.
 
-ghost use Rattle.std.specs.Prelude.{◌≡◌, ◌-◌, chars, false, length, take, drop};
+ghost use Rattle.std.specs.Prelude.{◌≡◌, ◌-◌, chars, false, length, take, drop, IfSome};
 ghost use Rattle.std.specs.Vec.{vec_len, vec_capacity};
 ghost use Rattle.std.specs.Char.{encode_utf8};
 ghost use Rattle.std.specs.Char.Escape.{encode_utf16};
@@ -9,8 +9,10 @@ ghost use Rattle.enc_encoders.specs.EncoderRule.{is_pending};
 ghost use Rattle.enc_references.specs.Treatment.{Reported, stop_of};
 ghost use Rattle.enc_units.specs.Checked.{plus};
 ghost use Rattle.enc_encoders.specs.Lengths.{from_utf_8_length, from_utf_16_length};
-ghost use Rattle.encoding_rs.specs.Encoder.{Encodes, EncodesInto, fresh_encoder, kept_by_id, replacing};
+ghost use Rattle.enc_encoders.specs.Need.{AreEnough};
+ghost use Rattle.encoding_rs.specs.Encoder.{Encodes, EncodesInto, fresh_encoder, kept_by_id, raw_state, replacing};
 ghost use Rattle.encoding_rs.specs.Lengths.{output_lengths};
+ghost use Rattle.encoding_rs.specs.Need.{EncodesByNeed, IsEnough, IsEnoughIfMappable};
 
 use crate::encoding::{Encoding, Id, codec_of};
 use enc_calls::CoderResult;
@@ -88,7 +90,8 @@ impl Encoder {
 
     /// Which formulas tell how many bytes a text may have.
     fn byte_lengths(&self) -> ByteLengths
-        ensures { result ≡ output_lengths self.now.encoding }
+        ensures lengths { result ≡ output_lengths self.now.encoding }
+        ensures enough { AreEnough (output_lengths self.now.encoding) (raw_state self.now) }
     {
         byte_lengths(codec_of(self.encoding))
     }
@@ -104,12 +107,14 @@ impl Encoder {
     }
 
     /// How many bytes so many code units of UTF-8 may become, up to an unmappable character: a length to allocate for
-    /// [`Encoder::encode_from_utf8_without_replacement`]. `None` where a step of the formula passes `usize`. Takes no memory.
+    /// [`Encoder::encode_from_utf8_without_replacement`], which is never full with that. `None` where a step of the formula
+    /// passes `usize`. Takes no memory.
     pub fn max_buffer_length_from_utf8_without_replacement(
         &self,
         byte_length: usize,
     ) -> Option<usize>
-        ensures { result ≡ from_utf_8_length (output_lengths self.now.encoding) byte_length }
+        ensures formula { result ≡ from_utf_8_length (output_lengths self.now.encoding) byte_length }
+        ensures enough { IfSome result (IsEnough encode_utf8 self.now byte_length) }
     {
         self.byte_lengths().from_utf8(byte_length)
     }
@@ -119,16 +124,18 @@ impl Encoder {
         &self,
         u16_length: usize,
     ) -> Option<usize>
-        ensures { result ≡ from_utf_16_length (output_lengths self.now.encoding) u16_length }
+        ensures formula { result ≡ from_utf_16_length (output_lengths self.now.encoding) u16_length }
+        ensures enough { IfSome result (IsEnough encode_utf16 self.now u16_length) }
     {
         self.byte_lengths().from_utf16(u16_length)
     }
 
     /// How many bytes to allocate for [`Encoder::encode_from_utf8`] of so many code units, if no character of theirs is
-    /// unmappable: unless the encoding is UTF-8, 10 bytes more, which are kept back for references. `None` where a step of the
-    /// formula passes `usize`. Takes no memory.
+    /// unmappable: unless the encoding is UTF-8, 10 bytes more, which are kept back for references. A call with that reads all.
+    /// `None` where a step of the formula passes `usize`. Takes no memory.
     pub fn max_buffer_length_from_utf8_if_no_unmappables(&self, byte_length: usize) -> Option<usize>
-        ensures { result ≡ plus (from_utf_8_length (output_lengths self.now.encoding) byte_length) (kept_by_id self.now.encoding.id) }
+        ensures formula { result ≡ plus (from_utf_8_length (output_lengths self.now.encoding) byte_length) (kept_by_id self.now.encoding.id) }
+        ensures enough { IfSome result (IsEnoughIfMappable encode_utf8 self.now byte_length) }
     {
         self.max_buffer_length_from_utf8_without_replacement(byte_length)?
             .checked_add(self.kept())
@@ -136,7 +143,8 @@ impl Encoder {
 
     /// The same for [`Encoder::encode_from_utf16`], of so many code units of UTF-16.
     pub fn max_buffer_length_from_utf16_if_no_unmappables(&self, u16_length: usize) -> Option<usize>
-        ensures { result ≡ plus (from_utf_16_length (output_lengths self.now.encoding) u16_length) (kept_by_id self.now.encoding.id) }
+        ensures formula { result ≡ plus (from_utf_16_length (output_lengths self.now.encoding) u16_length) (kept_by_id self.now.encoding.id) }
+        ensures enough { IfSome result (IsEnoughIfMappable encode_utf16 self.now u16_length) }
     {
         self.max_buffer_length_from_utf16_without_replacement(u16_length)?
             .checked_add(self.kept())
@@ -244,6 +252,8 @@ impl Encoder {
     ) -> (EncoderResult, usize)
         ensures call { Encodes encode_utf8 Reported self.old self.new (chars src.now) last (vec_capacity dst.old - vec_len dst.old)
             result.0 result.1 (drop (length dst.old.items) dst.new.items) false }
+        ensures need { EncodesByNeed encode_utf8 self.old self.new (chars src.now) last (vec_capacity dst.old - vec_len dst.old)
+            result.0 result.1 (length (drop (length dst.old.items) dst.new.items)) }
         ensures appended { take (length dst.old.items) dst.new.items ≡ dst.old.items }
     {
         let len = dst.len();
@@ -261,7 +271,8 @@ impl Encoder {
     /// how many bytes of `dst` it has written.
     ///
     /// - `InputEmpty`: all of `src` is read. With `last` the text is ended, and the encoder is at the start of another.
-    /// - `OutputFull`: the bytes that come next don't fit. Their character is unread.
+    /// - `OutputFull`: the bytes that come next don't fit. Their character is unread. It is so exactly where what is offered has
+    ///   more bytes than the room, up to an unmappable character.
     /// - `Unmappable`: the encoding has no bytes for the last character that was read. This is it, or in ISO-2022-JP U+FFFD
     ///   for U+000E, U+000F and U+001B. A caller may put a decimal reference there, `&#`, its number and `;`: a character set
     ///   is designated that has these characters.
@@ -274,7 +285,8 @@ impl Encoder {
         dst: &mut [u8],
         last: bool,
     ) -> (EncoderResult, usize, usize)
-        ensures { EncodesInto encode_utf8 Reported self.old self.new (chars src.now) last dst.old dst.new result.0 result.1 result.2 false }
+        ensures call { EncodesInto encode_utf8 Reported self.old self.new (chars src.now) last dst.old dst.new result.0 result.1 result.2 false }
+        ensures need { EncodesByNeed encode_utf8 self.old self.new (chars src.now) last (length dst.old) result.0 result.1 result.2 }
     {
         let mut chars = Utf8Chars::new(src);
         self.encode_reporting(&mut chars, dst, last)
@@ -288,7 +300,8 @@ impl Encoder {
         dst: &mut [u8],
         last: bool,
     ) -> (EncoderResult, usize, usize)
-        ensures { EncodesInto encode_utf16 Reported self.old self.new (utf16_lossy_chars src.now) last dst.old dst.new result.0 result.1 result.2 false }
+        ensures call { EncodesInto encode_utf16 Reported self.old self.new (utf16_lossy_chars src.now) last dst.old dst.new result.0 result.1 result.2 false }
+        ensures need { EncodesByNeed encode_utf16 self.old self.new (utf16_lossy_chars src.now) last (length dst.old) result.0 result.1 result.2 }
     {
         let mut units = Utf16Chars::new(src);
         self.encode_reporting(&mut units, dst, last)

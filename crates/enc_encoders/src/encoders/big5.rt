@@ -54,6 +54,6 @@ impl Repertoire for Big5 {
         ByteLengths::TwoBytes
     }
 
-    #[tactic(auto, using(crate::proofs::StatelessLemmas::with_ascii_writes_ascii, crate::proofs::FewLemmas::few_big5))]
+    #[tactic(auto, using(crate::proofs::StatelessLemmas::with_ascii_writes_ascii, crate::proofs::FewLemmas::few_big5, crate::proofs::EnoughLemmas::keeps_big5))]
     fn laws(self) {}
 }

@@ -56,6 +56,6 @@ impl Repertoire for EucJp {
         ByteLengths::TwoBytes
     }
 
-    #[tactic(auto, using(crate::proofs::StatelessLemmas::with_ascii_writes_ascii, crate::proofs::FewLemmas::few_euc_jp))]
+    #[tactic(auto, using(crate::proofs::StatelessLemmas::with_ascii_writes_ascii, crate::proofs::FewLemmas::few_euc_jp, crate::proofs::EnoughLemmas::keeps_euc_jp))]
     fn laws(self) {}
 }

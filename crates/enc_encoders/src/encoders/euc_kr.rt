@@ -45,6 +45,6 @@ impl Repertoire for EucKr {
         ByteLengths::TwoBytes
     }
 
-    #[tactic(auto, using(crate::proofs::StatelessLemmas::with_ascii_writes_ascii, crate::proofs::FewLemmas::few_euc_kr))]
+    #[tactic(auto, using(crate::proofs::StatelessLemmas::with_ascii_writes_ascii, crate::proofs::FewLemmas::few_euc_kr, crate::proofs::EnoughLemmas::keeps_euc_kr))]
     fn laws(self) {}
 }

@@ -94,6 +94,6 @@ impl Repertoire for Gb18030 {
         }
     }
 
-    #[tactic(auto, using(crate::proofs::StatelessLemmas::with_ascii_writes_ascii, crate::proofs::FewLemmas::few_gb18030))]
+    #[tactic(auto, using(crate::proofs::StatelessLemmas::with_ascii_writes_ascii, crate::proofs::FewLemmas::few_gb18030, crate::proofs::EnoughLemmas::keeps_gb18030))]
     fn laws(self) {}
 }

@@ -217,6 +217,7 @@ impl RawEncoder for Iso2022JpEncoder {
         }
     }
 
+    #[tactic(auto, using(crate::proofs::EnoughLemmas::iso_2022_jp_enough))]
     fn byte_lengths(&self) -> ByteLengths {
         ByteLengths::Iso2022Jp
     }

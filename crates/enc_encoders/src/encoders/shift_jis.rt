@@ -76,6 +76,6 @@ impl Repertoire for ShiftJis {
         ByteLengths::TwoBytes
     }
 
-    #[tactic(auto, using(crate::proofs::StatelessLemmas::with_ascii_writes_ascii, crate::proofs::FewLemmas::few_shift_jis))]
+    #[tactic(auto, using(crate::proofs::StatelessLemmas::with_ascii_writes_ascii, crate::proofs::FewLemmas::few_shift_jis, crate::proofs::EnoughLemmas::keeps_shift_jis))]
     fn laws(self) {}
 }

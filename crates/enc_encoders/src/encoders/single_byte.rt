@@ -50,6 +50,6 @@ impl Repertoire for SingleByte {
         ByteLengths::OneByte
     }
 
-    #[tactic(auto, using(crate::proofs::StatelessLemmas::with_ascii_writes_ascii, crate::proofs::FewLemmas::few_single_byte))]
+    #[tactic(auto, using(crate::proofs::StatelessLemmas::with_ascii_writes_ascii, crate::proofs::FewLemmas::few_single_byte, crate::proofs::EnoughLemmas::keeps_single_byte))]
     fn laws(self) {}
 }

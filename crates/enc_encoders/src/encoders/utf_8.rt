@@ -43,6 +43,6 @@ impl Repertoire for Utf8 {
         ByteLengths::Utf8
     }
 
-    #[tactic(auto, using(crate::proofs::StatelessLemmas::utf_8_writes_ascii, crate::proofs::FewLemmas::few_utf_8))]
+    #[tactic(auto, using(crate::proofs::StatelessLemmas::utf_8_writes_ascii, crate::proofs::FewLemmas::few_utf_8, crate::proofs::EnoughLemmas::keeps_utf_8))]
     fn laws(self) {}
 }

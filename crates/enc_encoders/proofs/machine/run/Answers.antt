@@ -2,13 +2,14 @@ use Rattle.std.proofs.Common.{refl}
 use Rattle.enc_encoders.proofs.Progress.{fewer, fewer_behind}
 use Rattle.enc_encoders.proofs.MachineLemmas.{stays, reports, overflows, takes, fewer_steps, no_report}
 use Rattle.enc_encoders.proofs.TextLemmas.{into_keeps_text}
+use Rattle.enc_encoders.proofs.NeedLemmas.{into_meets_need}
 use Rattle.enc_encoders.proofs.machine.run.Goals as goal
 use Rattle.enc_encoders.proofs.machine.run.Goals.{then-taken, else-taken}
 
 pub returns-in_default : goal.returns-in_default
 returns-in_default g c =
     let call = stays _ g.E.CharEncoder.state _ c.loop-taken.state _ _ _ _ _ _ _ c.loop-taken.invariant c.unread-unread.ensures _ c.unread.ensures c.in_default.ensures in
-    record { call = call; text = into_keeps_text _ _ _ _ _ _ _ _ _ _ _ c.requires.lawful call }
+    record { call = call; text = into_keeps_text _ _ _ _ _ _ _ _ _ _ _ c.requires.lawful call; need = into_meets_need _ _ _ _ _ _ _ _ _ _ _ call }
 
 pub overflow_sub-result-in-Some-report : goal.overflow_sub-result-in-Some-report
 overflow_sub-result-in-Some-report g c = fewer_behind _ _ _ _ _ _ _ _ _ _ _ c.loop-taken.invariant _ c.advance.ensures c.unread-unread.ensures c.unread-in-Some-report.ensures
@@ -16,7 +17,7 @@ overflow_sub-result-in-Some-report g c = fewer_behind _ _ _ _ _ _ _ _ _ _ _ c.lo
 pub returns-in-Some-report : goal.returns-in-Some-report
 returns-in-Some-report g c =
     let call = reports _ g.E.CharEncoder.state _ c.loop-taken.state _ _ _ _ _ _ _ c.loop-taken.invariant c.unread-unread.ensures _ c.in-Some.ensures _ _ _ c.in-Some-report.is c.advance.ensures c.unread-in-Some-report.ensures in
-    record { call = call; text = into_keeps_text _ _ _ _ _ _ _ _ _ _ _ c.requires.lawful call }
+    record { call = call; text = into_keeps_text _ _ _ _ _ _ _ _ _ _ _ c.requires.lawful call; need = into_meets_need _ _ _ _ _ _ _ _ _ _ _ call }
 
 pub overflow_sub-result-then-not-put : goal.overflow_sub-result-then-not-put
 overflow_sub-result-then-not-put g c = fewer _ _ _ _ _ _ _ _ _ _ _ c.loop-taken.invariant c.unread-unread.ensures c.unread-then-not-put.ensures
@@ -25,7 +26,7 @@ pub returns-then-not-put : goal.returns-then-not-put
 returns-then-not-put g c =
     let call = overflows _ g.E.CharEncoder.state _ c.loop-taken.state _ _ _ _ _ _ _ c.loop-taken.invariant c.unread-unread.ensures _ c.in-Some.ensures _ _ c.unread-then-not-put.ensures
     (c.put.ensures.unchanged c.if-not-put.true) (no_report _ c.in_default-report.not-Some) (c.put.ensures.full c.if-not-put.true) in
-    record { call = call; text = into_keeps_text _ _ _ _ _ _ _ _ _ _ _ c.requires.lawful call }
+    record { call = call; text = into_keeps_text _ _ _ _ _ _ _ _ _ _ _ c.requires.lawful call; need = into_meets_need _ _ _ _ _ _ _ _ _ _ _ call }
 
 pub loop-taken-smaller : goal.loop-taken-smaller
 loop-taken-smaller g c = elim c.if-taken.branch [

@@ -1,6 +1,7 @@
 use Rattle.std.proofs.Common.{◌∙◌, ap, arith, refl, chars, drop, rules}
 use Rattle.std.proofs.lemmas.List.{drop-drop}
 use Rattle.encoding_rs.proofs.EncodeRunLemmas.{start, written_on, runs_next, takes_next, has_encoded, within, few_chars, all_bytes, any_char, all_reports, all_read}
+use Rattle.encoding_rs.proofs.EncodeEndLemmas.{ends}
 use Rattle.encoding_rs.proofs.encode_run.encode_run.Goals as goal
 
 pub loop-call-init : goal.loop-call-init
@@ -47,6 +48,9 @@ loop-call-preserved c =
 
 pub returns-clause-run : goal.returns-clause-run
 returns-clause-run c = (c.loop-call.encoder, c.loop-call.invariant.run)
+
+pub returns-clause-end : goal.returns-clause-end
+returns-clause-end c = λ further. ends _ _ _ c.loop-call.made _ (search rules) (search rules) c.loop-call.invariant.run further
 
 pub returns-clause-beginning : goal.returns-clause-beginning
 returns-clause-beginning c = has_encoded _ _ _ _ c.loop-call.invariant.written

@@ -1,5 +1,6 @@
 use Rattle.std.proofs.Common.{◌≡◌, ◌≤◌, ◌+◌, ◌∙◌, ap, length, take, drop, rules}
 use Rattle.encoding_rs.proofs.EncoderLemmas.{in_tail, tail_of}
+use Rattle.encoding_rs.proofs.NeedLemmas.{by_need}
 use Rattle.encoding_rs.proofs.encoder.Encoder.encode_from_utf8_to_vec_without_replacement.Goals as goal
 
 pub returns-clause-call : goal.returns-clause-call
@@ -10,4 +11,7 @@ returns-clause-call c =
     let written : made.result.2 ≤ length made.new.dst = search rules in
     let within : c.len-len.result + made.result.2 ≤ c.resize.new.self.len = search rules in
     let tail = tail_of _ _ _ _ _ _ _ _ front written within c.truncate.ensures.items in
-    in_tail _ _ _ _ _ _ _ _ _ _ _ _ _ (search rules) (tail ∙ ap (λ n. drop n c.truncate.new.self.items) len) made.ensures.encodes
+    in_tail _ _ _ _ _ _ _ _ _ _ _ _ _ (search rules) (tail ∙ ap (λ n. drop n c.truncate.new.self.items) len) made.ensures.call.encodes
+
+pub returns-clause-need : goal.returns-clause-need
+returns-clause-need c = by_need _ _ _ _ _ _ _ _ _ _ (returns-clause-call c)

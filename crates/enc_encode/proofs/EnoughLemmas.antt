@@ -1,0 +1,71 @@
+-- The lengths of every encoding are enough.
+use Rattle.std.proofs.Common.{◌≡◌, ℕ, true, false, Option, Some, None, List, refl, ap, sym, subst}
+use Rattle.std.proofs.lemmas.Bool.{false≢true}
+use Rattle.enc_codec.specs.declared.codec.Codec.{Codec}
+use Rattle.enc_codec.specs.declared.codec.Codec.TheVariants as codec
+use Rattle.enc_encoders.specs.declared.byte_lengths.ByteLengths.{ByteLengths}
+use Rattle.enc_encoders.specs.declared.byte_lengths.ByteLengths.TheVariants as lengths
+use Rattle.enc_encoders.specs.declared.character_set.CharacterSet.TheVariants.{Ascii}
+use Rattle.enc_encoders.specs.EncoderRule.{EncoderRule, RawState}
+use Rattle.enc_encoders.specs.Need.{AreEnough}
+use Rattle.enc_encoders.specs.Stateless.{stateless, stateless_state, KeepsLengths}
+use Rattle.enc_encoders.specs.SingleByte.{single_byte_bytes, x_user_defined_bytes}
+use Rattle.enc_encoders.specs.Utf8.{utf_8_bytes}
+use Rattle.enc_encoders.specs.Big5.{big5_bytes}
+use Rattle.enc_encoders.specs.EucKr.{euc_kr_bytes}
+use Rattle.enc_encoders.specs.ShiftJis.{shift_jis_bytes}
+use Rattle.enc_encoders.specs.EucJp.{euc_jp_bytes}
+use Rattle.enc_encoders.specs.Gb18030.{gb18030_bytes}
+use Rattle.enc_encoders.specs.Iso2022Jp.{iso_2022_jp, iso_2022_jp_state}
+use Rattle.enc_encoders.proofs.EnoughLemmas.{stateless_enough, iso_2022_jp_enough, keeps_utf_8, keeps_single_byte, keeps_x_user_defined, keeps_big5, keeps_euc_kr, keeps_shift_jis, keeps_euc_jp, keeps_gb18030}
+use Rattle.enc_encode.specs.declared.variant.VariantEncoder.{VariantEncoder}
+use Rattle.enc_encode.specs.declared.variant.VariantEncoder.TheVariants.{Utf8, SingleByte, Big5, EucKr, ShiftJis, EucJp, Gb18030, Iso2022Jp, XUserDefined}
+use Rattle.enc_encode.specs.Encoders.{encoder_rule, encoder_lengths}
+use Rattle.enc_encode.specs.Variant.{variant_state}
+
+in_ascii : (rule : EncoderRule) (bytes : ℕ → Option (List ℕ)) → rule ≡ stateless bytes → record { rule = rule; set = Ascii } ≡ stateless_state bytes
+in_ascii rule bytes r = let made : EncoderRule → RawState = λ e. record { rule = e; set = Ascii } in ap made r
+
+-- by a rule without escape sequences ASCII is designated
+stateless_of : (v : VariantEncoder) (bytes : ℕ → Option (List ℕ)) → (variant_state v).rule ≡ stateless bytes → variant_state v ≡ stateless_state bytes
+stateless_of (Utf8 e) bytes r = in_ascii _ bytes r
+stateless_of (SingleByte e) bytes r = in_ascii _ bytes r
+stateless_of (Big5 e) bytes r = in_ascii _ bytes r
+stateless_of (EucKr e) bytes r = in_ascii _ bytes r
+stateless_of (ShiftJis e) bytes r = in_ascii _ bytes r
+stateless_of (EucJp e) bytes r = in_ascii _ bytes r
+stateless_of (Gb18030 e) bytes r = in_ascii _ bytes r
+stateless_of (XUserDefined e) bytes r = in_ascii _ bytes r
+stateless_of (Iso2022Jp e) bytes r = absurd (false≢true (ap (λ (rule : EncoderRule). rule.has Ascii 0xA5) r))
+
+iso_2022_jp_of : (v : RawState) → v.rule ≡ iso_2022_jp → v ≡ iso_2022_jp_state v.set
+iso_2022_jp_of v r = let made : EncoderRule → RawState = λ e. record { rule = e; set = v.set } in ap made r
+
+-- so the lengths of the rule are enough
+
+pub enough_of_stateless : (lengths : ByteLengths) (bytes : ℕ → Option (List ℕ)) (v : VariantEncoder) → KeepsLengths lengths bytes → (variant_state v).rule ≡ stateless bytes → AreEnough lengths (variant_state v)
+enough_of_stateless lengths bytes v h r = subst (AreEnough lengths) (sym (stateless_of v bytes r)) (stateless_enough lengths bytes h)
+
+enough_of_iso_2022_jp : (v : VariantEncoder) → (variant_state v).rule ≡ iso_2022_jp → AreEnough lengths.Iso2022Jp (variant_state v)
+enough_of_iso_2022_jp v r = subst (AreEnough lengths.Iso2022Jp) (sym (iso_2022_jp_of (variant_state v) r)) (iso_2022_jp_enough (variant_state v).set)
+
+-- of each codec, for an encoder of its rule in any state
+
+abbrev pub IsEnoughIfAny : ByteLengths → Option EncoderRule → Type 0
+IsEnoughIfAny l None = l ≡ lengths.Utf8
+IsEnoughIfAny l (Some e) = (v : VariantEncoder) → (variant_state v).rule ≡ e → AreEnough l (variant_state v)
+
+pub enough_if_any : (c : Codec) → IsEnoughIfAny (encoder_lengths c) (encoder_rule c)
+enough_if_any codec.Utf8 = λ v r. enough_of_stateless lengths.Utf8 utf_8_bytes v keeps_utf_8 r
+enough_if_any codec.Utf16Be = refl
+enough_if_any codec.Utf16Le = refl
+enough_if_any codec.Replacement = refl
+enough_if_any (codec.SingleByte index) = λ v r. enough_of_stateless lengths.OneByte (single_byte_bytes index) v (keeps_single_byte index) r
+enough_if_any codec.Big5 = λ v r. enough_of_stateless lengths.TwoBytes big5_bytes v keeps_big5 r
+enough_if_any codec.EucKr = λ v r. enough_of_stateless lengths.TwoBytes euc_kr_bytes v keeps_euc_kr r
+enough_if_any codec.ShiftJis = λ v r. enough_of_stateless lengths.TwoBytes shift_jis_bytes v keeps_shift_jis r
+enough_if_any codec.EucJp = λ v r. enough_of_stateless lengths.TwoBytes euc_jp_bytes v keeps_euc_jp r
+enough_if_any codec.Gbk = λ v r. enough_of_stateless lengths.TwoBytes (gb18030_bytes true) v (keeps_gb18030 true) r
+enough_if_any codec.Gb18030 = λ v r. enough_of_stateless lengths.Gb18030 (gb18030_bytes false) v (keeps_gb18030 false) r
+enough_if_any codec.XUserDefined = λ v r. enough_of_stateless lengths.OneByte x_user_defined_bytes v keeps_x_user_defined r
+enough_if_any codec.Iso2022Jp = λ v r. enough_of_iso_2022_jp v r

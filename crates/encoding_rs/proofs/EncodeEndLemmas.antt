@@ -1,0 +1,131 @@
+-- Each call of a run of an encoder takes a step, or ends it.
+use Rattle.std.proofs.Common.{◌≡◌, ℕ, ◌+◌, ◌*◌, ◌<◌, ◌≤◌, ◌⊎◌, inl, inr, Bool, true, false, ◌&&◌, List, [], ◌∷◌, ◌++◌, length, take, drop, nat_le, refl, ap, ◌∙◌, sym, subst, arith, length-append}
+use Rattle.std.specs.List.{All}
+use Rattle.std.proofs.lemmas.Bool.{false≢true}
+use Rattle.std.proofs.lemmas.Bool.Decides.{nat_tests}
+use Rattle.std.proofs.lemmas.List.{take-append-drop, drop-drop, length-take}
+use Rattle.std.proofs.lemmas.List.Elements.{All-head, All-tail, All-take}
+use Rattle.enc_encoders.specs.declared.encoder_result.EncoderResult.{EncoderResult}
+use Rattle.enc_encoders.specs.declared.encoder_result.EncoderResult.TheVariants.{InputEmpty, OutputFull, Unmappable}
+use Rattle.enc_encoders.specs.EncoderRule.{IsLawful}
+use Rattle.enc_encoders.specs.Steps.{Step, steps_from, chars_of}
+use Rattle.enc_encoders.proofs.CountLemmas.{few_steps}
+use Rattle.enc_encoders.proofs.FollowLemmas.{follows}
+use Rattle.enc_references.specs.Treatment.{CallBy}
+use Rattle.enc_references.proofs.NeedLemmas.{kept_by, takes_step}
+use Rattle.encoding_rs.specs.declared.encoding.Encoding.{Encoding}
+use Rattle.encoding_rs.specs.declared.encode_run.EncodeCall.{EncodeCall}
+use Rattle.encoding_rs.specs.Encodings.{codec_by_id}
+use Rattle.encoding_rs.specs.Properties.{output_encoding_of}
+use Rattle.encoding_rs.specs.Encoder.{EncoderState, kept_by_id, raw_state}
+use Rattle.encoding_rs.specs.EncodeRun.{treatment_by, is_empty, MakesCall, EncodeState, encode_start, GoesOn, IsEncodeRun}
+use Rattle.encoding_rs.specs.EncodeEnd.{least_room, GoesFurther}
+use Rattle.encoding_rs.specs.Run.{units_by}
+use Rattle.encoding_rs.proofs.ReferenceLemmas.{lawful_of}
+use Rattle.encoding_rs.proofs.EncodeRunLemmas.{nothing_later, behind_call, left_nothing}
+
+-- how many steps are to come
+abbrev to_come : EncoderState → List ℕ → ℕ
+to_come v unread = length (steps_from (raw_state v) true unread)
+
+room_for : (e : Encoding) (v : EncoderState) (replace : Bool) → v.encoding ≡ output_encoding_of e → 4 + kept_by (treatment_by replace v) ≡ least_room e replace
+room_for e v true q = ap (λ (x : Encoding). 4 + kept_by_id x.id) q
+room_for e v false q = refl
+
+some_read : (src rest : List ℕ) (done : List Step) → src ≡ chars_of done ++ rest → rest ≡ [] → 1 ≤ length src → 1 ≤ length done
+some_read src rest (p ∷ done) r e l = omega arith
+some_read src rest [] r e l = absurd (omega (arith, l, ap length r, ap length e))
+
+empty_or_not : (r : EncoderResult) → ((r ≡ InputEmpty) × (is_empty r ≡ true)) ⊎ (r ≡ InputEmpty → ⊥)
+empty_or_not InputEmpty = inl (refl, refl)
+empty_or_not OutputFull = inr (λ e. cc)
+empty_or_not (Unmappable c) = inr (λ e. cc)
+
+more_left : (a : Bool) (b : Bool) → (a && b) ≡ false → b ≡ true → a ≡ false
+more_left true b h e = absurd (false≢true (sym h ∙ e))
+more_left false b h e = refl
+
+-- A call that doesn't end the run takes a step.
+module _ (e : Encoding) (made : EncodeCall) (old new : EncoderState) (unread before after : List ℕ) (result : EncoderResult) (more : ℕ) (replaced : Bool)
+    (lawful : IsLawful (raw_state old).rule) (encoding : old.encoding ≡ output_encoding_of e) (further : GoesFurther e made)
+    (call : MakesCall made old new unread before after result more replaced) (goes_on : (nat_le (length unread) made.offer && is_empty result) ≡ false) where
+  abbrev last : Bool
+  last = nat_le (length unread) made.offer
+
+  abbrev raw : CallBy (units_by made.utf16) (treatment_by made.replace old) (raw_state old) (raw_state new) (take made.offer unread) call.encodes.rest last made.room result call.units call.wrote replaced
+  raw = call.encodes.call
+
+  when_empty : is_empty result ≡ true → 1 ≤ length raw.done
+  when_empty h =
+      let beyond : nat_le (length unread) made.offer ≡ false = more_left last (is_empty result) goes_on h in
+      let none = left_nothing (treatment_by made.replace old) (raw_state new) call.encodes.rest last made.room raw.done result raw.stops h in
+      let some : 1 ≤ length (take made.offer unread) = grind (arith, nat_tests, length-take made.offer unread, further.offered, beyond) in
+      some_read (take made.offer unread) call.encodes.rest raw.done raw.reads none some
+
+  some_done : 1 ≤ length raw.done
+  some_done = elim (empty_or_not result) [
+    | inl q ↦ when_empty q.1
+    | inr n ↦ takes_step (raw_state new) (subst IsLawful (sym raw.rule) lawful) call.encodes.rest last made.room (treatment_by made.replace old)
+        (omega (arith, room_for e old made.replace encoding, further.roomy)) raw.done result n raw.stops
+  ]
+
+  fewer : to_come new (drop more unread) < to_come old unread
+  fewer =
+      let later = drop made.offer unread in
+      let all : steps_from (raw_state old) true (take made.offer unread ++ later) ≡ raw.done ++ steps_from (raw_state new) true (call.encodes.rest ++ later) =
+      follows (raw_state old) (raw_state new) (take made.offer unread) call.encodes.rest last raw.done raw.remaining raw.rule raw.set later (nothing_later unread made.offer) in
+      let split : length (steps_from (raw_state old) true unread) ≡ length (raw.done ++ steps_from (raw_state new) true (drop more unread)) =
+      ap (λ t. length (steps_from (raw_state old) true t)) (sym (take-append-drop made.offer unread)) ∙ ap length all
+      ∙ ap (λ t. length (raw.done ++ steps_from (raw_state new) true t)) (sym (behind_call made old new unread before after result more replaced call)) in
+      omega (arith, split, length-append raw.done (steps_from (raw_state new) true (drop more unread)), some_done)
+
+-- behind the end no call is made
+ended : (text : List ℕ) (calls : List EncodeCall) (a b : EncodeState) → IsEncodeRun text calls a b → a.finished ≡ true → (length calls ≡ 0) × (b.finished ≡ true)
+ended text [] a b r f = (refl, ap (λ (s : EncodeState). s.finished) (sym r) ∙ f)
+ended text (call ∷ calls) a b r f = absurd (false≢true (sym r.1.not_finished ∙ f))
+
+abbrev left : List ℕ → EncodeState → ℕ
+left text s = to_come s.encoder (drop s.read text)
+
+one_fewer : (e : Encoding) (text : List ℕ) (call : EncodeCall) (a b : EncodeState) → IsLawful (raw_state a.encoder).rule → a.encoder.encoding ≡ output_encoding_of e → GoesFurther e call
+    → GoesOn text call a b → b.finished ≡ false → left text b < left text a
+one_fewer e text call a b l q h g f =
+    let less = fewer e call a.encoder b.encoder (drop a.read text) a.bytes b.bytes g.result g.more g.replaced l q h g.call (sym g.finished ∙ f) in
+    let behind : drop g.more (drop a.read text) ≡ drop b.read text = drop-drop g.more a.read text ∙ ap (λ n. drop n text) (sym g.read) in
+    omega (arith, less, ap (to_come b.encoder) behind)
+
+-- so a run has no more calls than steps, and one that ends it
+goes : (e : Encoding) (text : List ℕ) (calls : List EncodeCall) (a b : EncodeState) → IsLawful (raw_state a.encoder).rule → a.encoder.encoding ≡ output_encoding_of e
+    → All (GoesFurther e) calls → IsEncodeRun text calls a b → (length calls ≤ left text a + 1) × (b.finished ≡ false → length calls ≤ left text a)
+goes e text [] a b l q h r = (omega arith, λ f. omega arith)
+goes e text (call ∷ calls) a b l q h r =
+    by_end r.0.finished refl
+    (goes e text calls r.0 b (subst IsLawful (sym r.1.call.encodes.call.rule) l) (r.1.call.encodes.encoding ∙ q) (All-tail (GoesFurther e) call calls h) r.2)
+  where
+    by_end : (f : Bool) → r.0.finished ≡ f → (length calls ≤ left text r.0 + 1) × (b.finished ≡ false → length calls ≤ left text r.0)
+        → (length (call ∷ calls) ≤ left text a + 1) × (b.finished ≡ false → length (call ∷ calls) ≤ left text a)
+    by_end true f further =
+        let none = ended text calls r.0 b r.2 f in
+        (omega (arith, none.0), λ g. absurd (false≢true (sym g ∙ none.1)))
+    by_end false f further =
+        let less = one_fewer e text call a r.0 l q (All-head (GoesFurther e) call calls h) r.1 f in
+        (omega (arith, less, further.0), λ g. omega (arith, less, further.1 g))
+
+-- Two calls for each character, and two more, are enough.
+pub ends : (e : Encoding) (text : List ℕ) (calls : List EncodeCall) (n : ℕ) (b : EncodeState) → n ≤ length calls → (b.finished ≡ true) ⊎ (n ≡ length calls)
+    → IsEncodeRun text (take n calls) (encode_start e) b → All (GoesFurther e) calls → (n ≤ 2 * length text + 2) × (2 * length text + 2 ≤ length calls → b.finished ≡ true)
+ends e text calls n b l m r h =
+    let start = encode_start e in
+    let lawful = lawful_of (codec_by_id (output_encoding_of e).id) in
+    let bound = goes e text (take n calls) start b lawful refl (All-take (GoesFurther e) n calls h) r in
+    let few : left text start ≤ 2 * length text + 1 = few_steps (raw_state start.encoder).rule true text start.encoder.set in
+    let count : length (take n calls) ≡ n = omega (arith, l, length-take n calls) in
+    (omega (arith, bound.0, few, count), λ enough. by_finished b.finished refl bound.1 few count enough)
+  where
+    by_finished : (f : Bool) → b.finished ≡ f → (b.finished ≡ false → length (take n calls) ≤ left text (encode_start e)) → left text (encode_start e) ≤ 2 * length text + 1
+        → length (take n calls) ≡ n → 2 * length text + 2 ≤ length calls → b.finished ≡ true
+    by_finished true f bound few count enough = f
+    by_finished false f bound few count enough = elim m [
+      | inl g ↦ g
+      | inr g ↦ absurd (omega (arith, bound f, few, count, enough, g))
+    ]

@@ -1,0 +1,30 @@
+-- How many bytes a call of an encoder has to write, and how much room is enough for it.
+use Rattle.std.specs.Prelude.{◌≡◌, ℕ, ◌≤◌, Bool, false, List, ◌++◌, length}
+use Rattle.enc_units.specs.Output.{units_of_text}
+use Rattle.enc_encoders.specs.declared.encoder_result.EncoderResult.{EncoderResult}
+use Rattle.enc_encoders.specs.declared.encoder_result.EncoderResult.TheVariants.{InputEmpty}
+use Rattle.enc_encoders.specs.Need.{need, MeetsNeed}
+use Rattle.enc_references.specs.Unmappable.{any_unmappable}
+use Rattle.encoding_rs.specs.Encodings.{output_rule}
+use Rattle.encoding_rs.specs.Encoder.{EncoderState, raw_state, replacing, Encodes}
+
+-- A call that reports unmappable characters, by its need: it is full exactly where that of the text that it is offered passes the
+-- room, and what it writes is taken off. It has read so many code units, and the rest is unread.
+pub record EncodesByNeed (units_of : ℕ → List ℕ) (old new : EncoderState) (src : List ℕ) (last : Bool) (room : ℕ) (result : EncoderResult) (read written : ℕ) : Type 0 where
+  pub front : List ℕ
+  pub rest : List ℕ
+  pub parts : src ≡ front ++ rest
+  pub units : read ≡ length (units_of_text units_of front)
+  pub meets : MeetsNeed (raw_state old) (raw_state new) src rest last room result written
+
+-- From this state on so much room is enough for a call that is offered n code units, up to an unmappable character.
+abbrev pub IsEnough : (ℕ → List ℕ) → EncoderState → ℕ → ℕ → Type 0
+IsEnough units_of v n room = (src : List ℕ) (last : Bool) → length (units_of_text units_of src) ≡ n → need (raw_state v) last src ≤ room
+
+-- It is enough for a call that puts references, where no character of the n code units is unmappable: with this room or more the
+-- call reads all.
+abbrev pub IsEnoughIfMappable : (ℕ → List ℕ) → EncoderState → ℕ → ℕ → Type 0
+IsEnoughIfMappable units_of v n enough =
+    (src wrote : List ℕ) (last : Bool) (new : EncoderState) (room read : ℕ) (result : EncoderResult) (replaced : Bool)
+    → length (units_of_text units_of src) ≡ n → any_unmappable (output_rule v.encoding) src ≡ false → enough ≤ room
+    → Encodes units_of (replacing v) v new src last room result read wrote replaced → result ≡ InputEmpty
