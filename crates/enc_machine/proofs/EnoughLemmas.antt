@@ -110,6 +110,7 @@ basic_by c l = record {
   where
     at_most_three : (c : ℕ) → c < 0x1_0000 → len_utf8 c ≤ 3
     at_most_three c l = grind (arith, nat_tests)
+
     ap_one : (t : Bool) (a b d : ℕ) → t ≡ true → length (cond t (a ∷ []) (b ∷ d ∷ []) ++ []) ≤ 1
     ap_one true a b d e = omega arith
     ap_one false a b d e = absurd (cc)
