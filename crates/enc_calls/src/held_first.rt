@@ -45,6 +45,7 @@ fn decode_any<D: RawDecoder, U: Units>(
     ensures call { CallInto U.units_of (remainder_of (D.state codec.old)) (remainder_of (D.state codec.new)) src.now last
         (treatment_of replace) (U.output out.old) (U.output out.new) result.0 result.1 result.2 }
     ensures rule { (D.state codec.new).rule ≡ (D.state codec.old).rule }
+    ensures formulas { D.formulas codec.new ≡ D.formulas codec.old }
 {
     if replace {
         let (stop, read, replaced) = decode_replacing(codec, src, out, last);
@@ -67,6 +68,7 @@ pub fn convert<D: RawDecoder, U: Units>(
         (treatment_of replace) (U.output out.old) (U.output out.new) result.result (length held.now - result.left + result.read) result.replaced }
     ensures reads { ReadsHeldFirst held.now src.now result.left result.read }
     ensures rule { (D.state codec.new).rule ≡ (D.state codec.old).rule }
+    ensures formulas { D.formulas codec.new ≡ D.formulas codec.old }
 {
     if held.is_empty() {
         let (result, read, replaced) = decode_any(codec, src, out, last, replace);

@@ -20,6 +20,7 @@ pub fn decode_replacing<D: RawDecoder, U: Units>(
     ensures call { CallInto U.units_of (remainder_of (D.state decoder.old)) (remainder_of (D.state decoder.new)) src.now last
         Replaced (U.output out.old) (U.output out.new) (stop_of result.0) result.1 result.2 }
     ensures rule { (D.state decoder.new).rule ≡ (D.state decoder.old).rule }
+    ensures formulas { D.formulas decoder.new ≡ D.formulas decoder.old }
     ensures lawful { IsLawful (D.state decoder.old).rule }
 {
     let mut read = 0;

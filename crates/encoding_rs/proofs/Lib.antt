@@ -25,3 +25,4 @@ pub mod WrittenLemmas
 pub mod DecodeEndLemmas
 pub mod NeedLemmas
 pub mod EncodeEndLemmas
+pub mod EnoughLemmas

@@ -20,7 +20,9 @@ use Rattle.enc_machine.specs.Remainder.{Remainder}
 use Rattle.enc_machine.specs.Call.{Call, Treatment, Replaced, Reported, is_end}
 use Rattle.enc_machine.specs.Need.{MeetsNeed}
 use Rattle.enc_machine.specs.RuleLaws.{HasTexts, IsSmallText}
-use Rattle.encoding_rs.specs.Encodings.{rule_of}
+use Rattle.enc_machine.specs.declared.text_lengths.TextLengths.{TextLengths}
+use Rattle.enc_codec.specs.Codecs.{codec_lengths}
+use Rattle.encoding_rs.specs.Encodings.{codec_by_id, rule_of}
 use Rattle.encoding_rs.specs.Bom.{marks_looked_for, find_mark, sequences_by}
 use Rattle.encoding_rs.specs.LifeCycle.{phase_of, awaits_mark, mark_in, mark_bytes, encoding_by, sequences_in, held_bytes, life_after}
 
@@ -98,9 +100,20 @@ pub record HoldsBack (life : LifeCycle) (codec : CodecState) : Type 0 where
   pub unread : awaits_mark (phase_of life) ≡ true → (codec.set ≡ 0) × (codec.pending ≡ [])
   pub behind : pending_bytes (held_bytes life) codec.pending ≡ codec.pending ++ unread_bytes life (length codec.pending)
 
+-- Only a decoder of that encoding looks for its mark alone.
+abbrev pub HasOwnMark : Id → LifeCycle → Type 0
+HasOwnMark id AtUtf8Start = id ≡ Utf8
+HasOwnMark id AtUtf16BeStart = id ≡ Utf16be
+HasOwnMark id AtUtf16LeStart = id ≡ Utf16le
+HasOwnMark id _ = Unit {0}
+
 -- the codec of a decoder: that of its encoding
 abbrev pub KeepsTo : Encoding → LifeCycle → CodecState → Type 0
 KeepsTo e life codec = (rule_of e ≡ codec.rule) × HoldsBack life codec
+
+-- its formulas too are those of its encoding
+abbrev pub KeepsFormulas : Encoding → LifeCycle → TextLengths → Type 0
+KeepsFormulas e life formulas = (codec_lengths (codec_by_id e.id) ≡ formulas) × HasOwnMark e.id life
 
 -- The bytes of a mark that are held are just those pending.
 pub record TellsHeld (d : DecoderState) : Type 0 where

@@ -1,5 +1,10 @@
 -- The lengths to allocate for what a decoder or an encoder writes.
-use Rattle.std.specs.Prelude.{ℕ, Option, Some, None, length}
+use Rattle.std.specs.Prelude.{◌≡◌, ℕ, Bool, Option, Some, None, List, length}
+use Rattle.std.specs.Char.{encode_utf8}
+use Rattle.std.specs.Char.Escape.{encode_utf16}
+use Rattle.enc_machine.specs.Call.{Treatment, Replaced, Reported}
+use Rattle.enc_machine.specs.Remainder.{AreBytes}
+use Rattle.enc_machine.specs.Need.{NeedPasses}
 use Rattle.enc_units.specs.Checked.{plus, greater}
 use Rattle.enc_machine.specs.declared.text_lengths.TextLengths.{TextLengths}
 use Rattle.enc_machine.specs.declared.text_lengths.TextLengths.TheVariants as by
@@ -13,7 +18,7 @@ use Rattle.encoding_rs.specs.declared.lengths.Query.TheVariants.{Utf8, Utf8Repor
 use Rattle.encoding_rs.specs.declared.life_cycle.LifeCycle.{LifeCycle}
 use Rattle.encoding_rs.specs.declared.life_cycle.LifeCycle.TheVariants.{AtStart, AtUtf8Start, AtUtf16BeStart, AtUtf16LeStart, SeenUtf8First, SeenUtf8Second, SeenUtf16BeFirst, SeenUtf16LeFirst, ConvertingWithPendingBb, Converting, Finished}
 use Rattle.encoding_rs.specs.Encodings.{codec_by_id}
-use Rattle.encoding_rs.specs.Decoding.{DecoderState}
+use Rattle.encoding_rs.specs.Decoding.{DecoderState, decoder_remainder}
 
 -- the formula that is in force
 abbrev pub length_by : Query → TextLengths → ℕ → ℕ → Option ℕ
@@ -52,6 +57,24 @@ length_in q Finished lengths n h = length_by q lengths n h
 -- The length to allocate for what a decoder makes of n bytes more.
 abbrev pub max_length : Query → DecoderState → ℕ → Option ℕ
 max_length q d n = length_in q d.life (codec_lengths (codec_by_id d.encoding.id)) n (length d.pending)
+
+-- the code units that a query is about, and the calls that it is for
+abbrev pub units_asked : Query → ℕ → List ℕ
+units_asked Utf8 = encode_utf8
+units_asked Utf8Reporting = encode_utf8
+units_asked Utf16 = encode_utf16
+
+abbrev pub Asks : Query → Treatment → Type 0
+Asks Utf8 Replaced = Unit {0}
+Asks Utf8 (Reported keeps_room) = ⊥
+Asks Utf8Reporting Replaced = ⊥
+Asks Utf8Reporting (Reported keeps_room) = Unit {0}
+Asks Utf16 treatment = Unit {0}
+
+-- So much room is enough for a call of a kind that is offered n bytes: what it needs doesn't pass it.
+abbrev pub IsEnoughRoom : (ℕ → List ℕ) → Treatment → DecoderState → ℕ → ℕ → Type 0
+IsEnoughRoom units_of treatment d n room =
+    (src : List ℕ) (last : Bool) → AreBytes src → length src ≡ n → NeedPasses units_of treatment (decoder_remainder d) src last room → ⊥
 
 -- by which formulas the lengths go to allocate for bytes of an encoding
 abbrev pub output_lengths : Encoding → ByteLengths

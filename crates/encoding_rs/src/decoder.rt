@@ -1,15 +1,15 @@
 //! Decoders.
 
-ghost use Rattle.std.specs.Prelude.{◌≡◌, ◌+◌, ◌-◌, ◌<◌, ◌≤◌, true, false, length, take, drop};
+ghost use Rattle.std.specs.Prelude.{◌≡◌, ◌+◌, ◌-◌, ◌<◌, ◌≤◌, true, false, length, take, drop, IfSome};
 ghost use Rattle.std.specs.Char.{encode_utf8};
 ghost use Rattle.std.specs.Char.Escape.{encode_utf16};
 ghost use Rattle.std.specs.String.{string_bytes, string_len, string_capacity};
 ghost use Rattle.enc_units.specs.Validity.{IsWellFormedUtf8};
-ghost use Rattle.enc_machine.specs.Call.{Replaced, Reported};
+ghost use Rattle.enc_machine.specs.Call.{Treatment, Replaced, Reported};
 ghost use Rattle.encoding_rs.specs.declared.bom.BomHandling.TheVariants as handling;
 ghost use Rattle.enc_units.specs.Rest.{without_rest};
 ghost use Rattle.encoding_rs.specs.Latin1.{TellsLatin1};
-ghost use Rattle.encoding_rs.specs.Lengths.{max_length};
+ghost use Rattle.encoding_rs.specs.Lengths.{max_length, Asks, units_asked, IsEnoughRoom};
 ghost use Rattle.encoding_rs.specs.declared.lengths.Query.TheVariants as query;
 ghost use Rattle.encoding_rs.specs.Sniffing.{IsText};
 ghost use Rattle.enc_calls.specs.Replacing.{stop_of, treatment_of};
@@ -40,14 +40,14 @@ pub struct Decoder {
 }
 
 impl Model for Decoder {
-    ghost use Rattle.encoding_rs.specs.Decoding.{DecoderState, state_by, KeepsTo};
-    ghost use Rattle.enc_codec.specs.Variant.{variant_state};
+    ghost use Rattle.encoding_rs.specs.Decoding.{DecoderState, state_by, KeepsTo, KeepsFormulas};
+    ghost use Rattle.enc_codec.specs.Variant.{variant_state, variant_lengths};
 
     ghost Value = { DecoderState };
 
     ghost view = { λ d. state_by d.encoding d.life (variant_state d.codec) };
 
-    ghost invariant = { λ d. KeepsTo d.encoding d.life (variant_state d.codec) };
+    ghost invariant = { λ d. KeepsTo d.encoding d.life (variant_state d.codec) × KeepsFormulas d.encoding d.life (variant_lengths d.codec) };
 }
 
 impl fmt::Debug for Decoder {
@@ -134,9 +134,11 @@ impl Decoder {
 
     /// The length to allocate for calls of a kind.
     fn max_length(&self, query: Query, byte_length: usize) -> Option<usize>
-        ensures { result ≡ max_length query self.now byte_length }
+        ensures length { result ≡ max_length query self.now byte_length }
+        ensures enough { IfSome result (λ room. (treatment : Treatment) → Asks query treatment
+            → IsEnoughRoom (units_asked query) treatment self.now byte_length room) }
     {
-        let formulas = codec_of(self.encoding).text_lengths();
+        let formulas = self.codec.text_lengths();
         query.max_length(self.life, formulas, byte_length, self.codec.held())
     }
 
@@ -145,7 +147,8 @@ impl Decoder {
     /// Condition: it is not finished. Takes no memory.
     pub fn max_utf8_buffer_length(&self, byte_length: usize) -> Option<usize>
         requires { finished self.now ≡ false }
-        ensures { result ≡ max_length query.Utf8 self.now byte_length }
+        ensures length { result ≡ max_length query.Utf8 self.now byte_length }
+        ensures enough { IfSome result (IsEnoughRoom encode_utf8 Replaced self.now byte_length) }
     {
         self.max_length(Query::Utf8, byte_length)
     }
@@ -153,7 +156,8 @@ impl Decoder {
     /// The same for calls without replacement.
     pub fn max_utf8_buffer_length_without_replacement(&self, byte_length: usize) -> Option<usize>
         requires { finished self.now ≡ false }
-        ensures { result ≡ max_length query.Utf8Reporting self.now byte_length }
+        ensures length { result ≡ max_length query.Utf8Reporting self.now byte_length }
+        ensures enough { IfSome result (IsEnoughRoom encode_utf8 (Reported false) self.now byte_length) }
     {
         self.max_length(Query::Utf8Reporting, byte_length)
     }
@@ -163,7 +167,8 @@ impl Decoder {
     /// memory.
     pub fn max_utf16_buffer_length(&self, byte_length: usize) -> Option<usize>
         requires { finished self.now ≡ false }
-        ensures { result ≡ max_length query.Utf16 self.now byte_length }
+        ensures length { result ≡ max_length query.Utf16 self.now byte_length }
+        ensures enough { IfSome result (λ room. (treatment : Treatment) → IsEnoughRoom encode_utf16 treatment self.now byte_length room) }
     {
         self.max_length(Query::Utf16, byte_length)
     }

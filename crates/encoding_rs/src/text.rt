@@ -2,9 +2,10 @@
 
 ghost use Rattle.std.specs.Prelude.{◌≡◌, ℕ, ◌+◌, ◌-◌, ◌≤◌, ◌++◌, false, length};
 ghost use Rattle.encoding_rs.specs.declared.encoding.Encoding.{Encoding};
+ghost use Rattle.encoding_rs.specs.declared.encoding.Id.{Id};
 ghost use Rattle.encoding_rs.specs.Encodings.{rule_of};
 ghost use Rattle.enc_calls.specs.Replacing.{treatment_of};
-ghost use Rattle.encoding_rs.specs.Decoding.{has_ended, unread_bytes, state_by, HoldsBack, DecodesInto};
+ghost use Rattle.encoding_rs.specs.Decoding.{has_ended, unread_bytes, state_by, HoldsBack, HasOwnMark, DecodesInto};
 ghost use Rattle.encoding_rs.specs.Sniffing.{IsText};
 
 use crate::life_cycle::LifeCycle;
@@ -36,6 +37,8 @@ pub(crate) fn convert_text<D: RawDecoder, U: Units>(
         DecodesInto U.units_of (treatment_of replace) (state_by e life.old (D.state codec.old)) (state_by e life.new (D.state codec.new))
         src.now last (U.output out.old) (U.output out.new) result.0 result.1 result.2 }
     ensures rule { (D.state codec.new).rule ≡ (D.state codec.old).rule }
+    ensures formulas { D.formulas codec.new ≡ D.formulas codec.old }
+    ensures own { (id : Id) → HasOwnMark id life.old → HasOwnMark id life.new }
     ensures holds { HoldsBack life.new (D.state codec.new) }
 {
     let before = *codec;

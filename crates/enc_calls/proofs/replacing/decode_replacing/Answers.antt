@@ -4,7 +4,7 @@ use Rattle.enc_calls.proofs.ReplacingLemmas.{begin, empties, fills, fits, replac
 use Rattle.enc_calls.proofs.replacing.decode_replacing.Goals as goal
 
 pub loop-out-init : goal.loop-out-init
-loop-out-init g c = record { turning = begin _ _ _ _ _; rule = refl }
+loop-out-init g c = record { turning = begin _ _ _ _ _; rule = refl; formulas = refl }
 
 pub returns-in-InputEmpty-clause-call : goal.returns-in-InputEmpty-clause-call
 returns-in-InputEmpty-clause-call g c = empties _ _ _ (bytes_of_slice _ c.type_inv.src) _ _ _ _ _ _ c.loop-out.invariant.turning _ _ _
@@ -27,4 +27,5 @@ loop-out-preserved g c =
       turning = replaces _ _ _ (bytes_of_slice _ c.type_inv.src) _ _ _ _ _ _ c.loop-out.invariant.turning _ _ _ _ _ call _
           (c.put.ensures.written (c.put.ensures.fits ∙ room));
       rule = c.decode-result.ensures.rule ∙ c.loop-out.invariant.rule;
+      formulas = c.decode-result.ensures.formulas ∙ c.loop-out.invariant.formulas;
     }

@@ -10,22 +10,22 @@ pub returns-in-Open : goal.returns-in-Open
 returns-in-Open g c =
     let f = rw c.in-Open.is at c.sniff-sniffed.ensures.sniffed in
     let r = subst (Reaches c.self.inside.life c.in-Open.life) (sym (ap (λ n. take n c.args.src.now) f.0 ∙ take-length c.args.src.now)) f.3 in
-    record { call = rw (← c.self.view_is, f.1) (all_held _ _ _ _ _ _ c.self.invariant.1 c.sniff-sniffed.ensures.within r (sym r.awaits ∙ f.2) _ _ _ (awaiting_goes_on _ f.2) f.0); held = rw (← c.self.view_is) (tells_held _ _ _ c.self.invariant.1) }
+    record { call = rw (← c.self.view_is, f.1) (all_held _ _ _ _ _ _ c.self.invariant.0.1 c.sniff-sniffed.ensures.within r (sym r.awaits ∙ f.2) _ _ _ (awaiting_goes_on _ f.2) f.0); held = rw (← c.self.view_is) (tells_held _ _ _ c.self.invariant.0.1) }
 
 pub returns-in-Mark : goal.returns-in-Mark
 returns-in-Mark g c =
     let f = rw c.in-Mark.is at c.sniff-sniffed.ensures.sniffed in
     record {
-      call = rw (← c.self.view_is) (behind_a_mark _ _ _ _ _ _ c.self.invariant.1 c.sniff-sniffed.ensures.within f _ _ (bytes_of_slice _ c.type_inv.src) _ _ _ _ _ _ _
+      call = rw (← c.self.view_is) (behind_a_mark _ _ _ _ _ _ c.self.invariant.0.1 c.sniff-sniffed.ensures.within f _ _ (bytes_of_slice _ c.type_inv.src) _ _ _ _ _ _ _
           (rw (c.split_at.ensures.back, c.self-in-Mark.view_is, c.start.ensures) at c.convert_text-result.ensures.call));
-      held = rw (← c.self.view_is) (tells_held _ _ _ c.self.invariant.1);
+      held = rw (← c.self.view_is) (tells_held _ _ _ c.self.invariant.0.1);
     }
 
 pub returns-in-Text : goal.returns-in-Text
 returns-in-Text g c =
     let f = rw c.in-Text.is at c.sniff-sniffed.ensures.sniffed in
     record {
-      call = rw (← c.self.view_is) (behind_text _ _ _ _ _ _ _ c.self.invariant.1 c.sniff-sniffed.ensures.within f.0 refl _ _ (bytes_of_slice _ c.type_inv.src) _ _ _ _ _ _ _
+      call = rw (← c.self.view_is) (behind_text _ _ _ _ _ _ _ c.self.invariant.0.1 c.sniff-sniffed.ensures.within f.0 refl _ _ (bytes_of_slice _ c.type_inv.src) _ _ _ _ _ _ _
           (rw c.split_at.ensures.back at c.convert_text-result-in-Text.ensures.call));
-      held = rw (← c.self.view_is) (tells_held _ _ _ c.self.invariant.1);
+      held = rw (← c.self.view_is) (tells_held _ _ _ c.self.invariant.0.1);
     }
