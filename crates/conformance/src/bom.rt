@@ -3,7 +3,8 @@
 use crate::encodings::TABLE;
 use crate::harness::{
     Call, Input, Others, ReportingCall, Row, Run, Use, compare_cuts_of, compare_mixed,
-    compare_uses, input_of, make_calls_of, make_reporting_calls_of, new_decoder, run_whole,
+    compare_small_offers, compare_uses, input_of, make_calls_of, make_reporting_calls_of,
+    new_decoder, run_whole,
 };
 use encoding_rs::run::{BomHandling, DecodeCall, decode_run};
 use encoding_rs::{
@@ -247,6 +248,7 @@ fn compare_with_plain(
         ..way
     };
     compare_uses(rt, alloc, (widening, Others::No), &input, 4)?;
+    compare_small_offers(rt, alloc, (encoding, handling), bytes)?;
     if INTO_ALL.contains(&encoding) {
         compare_uses(rt, alloc, (way, Others::Few), &input, 8)?;
         return compare_mixed(rt, alloc, way, &input);

@@ -6,6 +6,7 @@ mod outputs;
 mod raw;
 pub mod raw_calls;
 mod rows;
+mod small_offers;
 mod told_rooms;
 
 use enc_machine::RawDecoder;
@@ -18,6 +19,8 @@ pub(crate) use outputs::{ALL_OUTPUTS, Answer, Given, Output, call_into};
 pub(crate) use raw::compare_raw_cuts;
 use rows::REPLACEMENT_CHARACTER;
 pub(crate) use rows::{Cut, Input, MOST_ROOM, Row, input_of};
+use small_offers::compare_behind_broken_marks;
+pub(crate) use small_offers::compare_small_offers;
 use std::alloc::{AllocError, Global};
 use std::process::Abort;
 use std::test::Fail;
@@ -121,6 +124,8 @@ pub(crate) struct Use {
     pub(crate) reporting: bool,
     /// A call that neither reads nor writes is made again, and then once more with room enough.
     pub(crate) widens: bool,
+    /// Each call has the room that the decoder tells for what it is offered, and is never full.
+    pub(crate) is_told: bool,
 }
 
 impl Use {
@@ -132,6 +137,7 @@ impl Use {
             output: Output::Utf8,
             reporting: false,
             widens: false,
+            is_told: false,
         }
     }
 }
@@ -166,8 +172,23 @@ fn start(alloc: Global, way: Use) -> Run {
     }
 }
 
-/// The room of the next call.
-fn next_room(run: &Run, room: usize) -> usize {
+/// The room that a decoder tells for so many bytes.
+fn told_room(rt: &impl Abort, run: &Run, bytes: usize) -> usize {
+    let decoder = &run.decoder;
+    assert!(rt; !decoder.is_finished());
+    let told = match (run.way.output, run.way.reporting) {
+        (Output::Utf16, _) => decoder.max_utf16_buffer_length(bytes),
+        (_, false) => decoder.max_utf8_buffer_length(bytes),
+        (_, true) => decoder.max_utf8_buffer_length_without_replacement(bytes),
+    };
+    told.unwrap_or(MOST_ROOM)
+}
+
+/// The room of the next call, which is offered so many bytes.
+fn next_room(rt: &impl Abort, run: &Run, room: usize, bytes: usize) -> usize {
+    if run.way.is_told {
+        return told_room(rt, run, bytes).min(MOST_ROOM);
+    }
     if run.idle > 1 {
         MOST_ROOM
     } else {
@@ -206,7 +227,7 @@ fn offer(
         let given = Given {
             src: unread,
             last,
-            room: next_room(run, room),
+            room: next_room(rt, run, room, unread.len()),
             reporting: run.way.reporting,
         };
         let output = run.way.output;
@@ -228,7 +249,7 @@ fn offer(
         );
         match result {
             DecoderResult::InputEmpty => return Ok(()),
-            DecoderResult::OutputFull => (),
+            DecoderResult::OutputFull => assert!(rt; !run.way.is_told, "{chunk:?}"),
             DecoderResult::Malformed(len, after) => take_report(run, len as usize, after as usize)?,
         }
     }
@@ -487,8 +508,8 @@ pub(crate) fn compare_cuts_of(
     compare_mixed(rt, alloc, way, input)
 }
 
-/// Runs the input of each row through every cut and room, by the encoding and by a new decoder of it by itself. The first one goes
-/// into all outputs so.
+/// Runs the input of each row through every cut and room, by the encoding and by a new decoder of it by itself, and in single bytes
+/// behind marks that break off. The first one goes into all outputs so.
 pub(crate) fn compare_all(
     rt: &impl Abort,
     alloc: Global,
@@ -501,6 +522,7 @@ pub(crate) fn compare_all(
         let input = input_of(row);
         compare_cuts_of(rt, alloc, (way, others), &input)?;
         compare_raw_cuts(rt, decoder, &input);
+        compare_behind_broken_marks(rt, alloc, encoding, input.bytes)?;
         others = Others::Few;
     }
     Ok(())

@@ -19,6 +19,8 @@ mod decoders;
 #[cfg(test)]
 mod encodings;
 #[cfg(test)]
+mod ends;
+#[cfg(test)]
 mod harness;
 #[cfg(test)]
 mod indexes;

@@ -4,6 +4,7 @@ pub mod encoder_calls;
 pub mod encoding;
 pub mod one_shot;
 mod references;
+mod single_characters;
 
 /// No test gives more room.
 pub(crate) const MOST_ROOM: usize = 64;

@@ -128,7 +128,7 @@ module _ (q : Query) (treatment : Treatment) (asks : Asks q treatment) (front : 
   less_needed : (few told : ℕ) → few ≤ told → told < needed_units (units_asked q) treatment front → few < needed_units (units_asked q) treatment front
   less_needed few told l p = omega (arith, l, p)
 
-are_bytes_drop : (n : ℕ) (z : List ℕ) → AreBytes z → AreBytes (drop n z)
+pub are_bytes_drop : (n : ℕ) (z : List ℕ) → AreBytes z → AreBytes (drop n z)
 are_bytes_drop zero z a = a
 are_bytes_drop (suc n) [] a = tt
 are_bytes_drop (suc n) (b ∷ z) a = are_bytes_drop n z a.1

@@ -1,8 +1,8 @@
 -- One-shot calls: what calls of a decoder that are told the whole input have come to.
-use Rattle.std.proofs.Common.{◌≡◌, ℕ, Bool, true, false, true≢false, List, [], ◌∷◌, ◌++◌, length, take, drop, refl, ap, ◌∙◌, sym, arith, append_assoc, append-nil, ◌||◌, if◌then◌else◌}
+use Rattle.std.proofs.Common.{◌≡◌, ℕ, ◌<◌, ◌≤◌, Bool, true, false, true≢false, List, [], ◌∷◌, ◌++◌, length, take, drop, refl, ap, ◌∙◌, sym, arith, append_assoc, append-nil, ◌||◌, if◌then◌else◌}
 use Rattle.std.proofs.lemmas.Bool.Decides.{nat_tests}
 use Rattle.std.proofs.lemmas.List.{take-append-drop}
-use Rattle.std.specs.Prelude.{Option, Some, None, option_map, ◌==◌}
+use Rattle.std.specs.Prelude.{Option, Some, None, IfSome, option_map, ◌==◌}
 use Rattle.std.specs.Char.{encode_utf8}
 use Rattle.encoding_rs.specs.declared.bom.BomHandling.{BomHandling}
 use Rattle.encoding_rs.specs.declared.bom.BomHandling.TheVariants.{Off, Sniff, Remove}
@@ -17,13 +17,16 @@ use Rattle.enc_calls.specs.Replacing.{stop_of}
 use Rattle.enc_units.specs.Output.{units_of_text}
 use Rattle.enc_machine.specs.Sequence.{Sequence, text_of, is_malformed, any_malformed}
 use Rattle.enc_machine.specs.Call.{Treatment, Reported, is_end}
+use Rattle.enc_machine.specs.Need.{MeetsNeed}
+use Rattle.enc_machine.specs.Remainder.{AreBytes}
 use Rattle.enc_machine.proofs.SequenceLemmas.{units-append, any_malformed-append}
 use Rattle.enc_machine.proofs.SegmentationLemmas.{sequences_of-nil}
 use Rattle.encoding_rs.specs.Encodings.{rule_of}
 use Rattle.encoding_rs.specs.Bom.{Mark, own_marks, find_mark, sequences_by}
 use Rattle.encoding_rs.specs.LifeCycle.{encoding_by}
-use Rattle.encoding_rs.specs.Decoding.{DecoderState, finished, fresh, remaining_sequences, whole_sequences, whole_utf_8, whole_malformed, Decodes, DecodesReplacing, HasDecoded}
-use Rattle.encoding_rs.specs.OneShot.{strict_utf_8}
+use Rattle.encoding_rs.specs.Decoding.{DecoderState, finished, fresh, decoder_remainder, remaining_sequences, whole_sequences, whole_utf_8, whole_malformed, Decodes, DecodesReplacing, HasDecoded}
+use Rattle.encoding_rs.specs.Lengths.{IsEnoughRoom}
+use Rattle.encoding_rs.specs.OneShot.{strict_utf_8, HasRoomFor}
 use Rattle.encoding_rs.proofs.EndLemmas.{fresh_sequences, finishes_by, finishes, whole_text, whole_flag}
 
 pub nothing : (bytes : List ℕ) → true ≡ (length bytes == 0) → bytes ≡ []
@@ -68,6 +71,24 @@ module _ (handling : BomHandling) (e : Encoding) (bytes src : List ℕ) (old new
     flag = ap (λ x. x || replaced) h.flag ∙ ap (λ x. any_malformed h.done || x) (d.call.flag ∙ ap any_malformed p) ∙ sym (any_malformed-append h.done d.call.done);
   }
 
+-- The same where the call is offered what is unread, and writes behind what was written.
+pub next_call : (handling : BomHandling) (e : Encoding) (bytes unread : List ℕ) (old new : DecoderState) (wrote : List ℕ) (had : Bool) → HasDecoded handling e bytes unread true old wrote had
+    → (src before after : List ℕ) → src ≡ unread → before ≡ wrote → (treatment : Treatment) (room : ℕ) (result : DecoderResult) (read : ℕ) (replaced : Bool)
+    → (d : Decodes encode_utf8 treatment old new src true room result read (drop (length before) after) replaced) → take (length before) after ≡ before → d.call.put ≡ d.call.done
+    → HasDecoded handling e bytes (drop read src) true new after (had || replaced)
+next_call handling e bytes unread old new wrote had h src before after s b treatment room result read replaced d t p =
+    let g : HasDecoded handling e bytes src true old before had = rw (s, b) h in
+    goes_on handling e bytes src old new before after had g treatment room result read replaced d t p
+
+-- and of the first call
+pub first_call : (handling : BomHandling) (e : Encoding) (bytes : List ℕ) (old new : DecoderState) → old ≡ fresh handling e
+    → (before after : List ℕ) → before ≡ [] → (treatment : Treatment) (room : ℕ) (result : DecoderResult) (read : ℕ) (replaced : Bool)
+    → (d : Decodes encode_utf8 treatment old new bytes true room result read (drop (length before) after) replaced) → take (length before) after ≡ before → d.call.put ≡ d.call.done
+    → HasDecoded handling e bytes (drop read bytes) true new after replaced
+first_call handling e bytes old new o before after b treatment room result read replaced d t p =
+    let g : HasDecoded handling e bytes bytes true old [] false = rw o (none_decoded handling e bytes) in
+    next_call handling e bytes bytes old new [] false g bytes before after refl b treatment room result read replaced d t p
+
 or_true : (b : Bool) → (b || true) ≡ true
 or_true true = refl
 or_true false = refl
@@ -97,6 +118,15 @@ still_open old new src room coder.OutputFull read wrote replaced d n = finishes 
 pub now_finished : (old new : DecoderState) (src : List ℕ) (room : ℕ) (result : CoderResult) (read : ℕ) (wrote : List ℕ) (replaced : Bool)
     → DecodesReplacing encode_utf8 old new src true room result read wrote replaced → result ≡ coder.InputEmpty → finished new ≡ true
 now_finished old new src room result read wrote replaced d f = finishes old new src true room result read wrote replaced d ∙ ap (λ r. is_end true (stop_of r)) f
+
+-- in a room that is enough a call is never full
+pub never_full : (units_of : ℕ → List ℕ) (treatment : Treatment) (length_told : Option ℕ) (old new : DecoderState) (src : List ℕ) (n room : ℕ) (result : DecoderResult) (read written : ℕ)
+    → IfSome length_told (IsEnoughRoom units_of treatment old n) → HasRoomFor length_told room → AreBytes src → length src ≡ n
+    → MeetsNeed units_of treatment (decoder_remainder old) (decoder_remainder new) src true room result read written → result ≡ OutputFull → ⊥
+never_full units_of treatment None old new src n room result read written enough has are l m f = has
+never_full units_of treatment (Some told) old new src n room result read written enough has are l m f =
+    let p = m.full.0 f in let more = p.more in
+    enough src true are l (record { sequences = p.sequences; determined = p.determined; more = omega (arith, has, more) })
 
 -- what a mark tells with its length is the encoding by it
 
@@ -148,12 +178,3 @@ module _ (e : Encoding) (bytes src : List ℕ) (old new : DecoderState) (before 
   strict_report InputEmpty l a d f = cc
   strict_report OutputFull l a d f = cc
   strict_report (Malformed k b) l a d f = strict_none e bytes (told_malformed Off e bytes src old new before after false h (Reported false) room k b read false d)
-
-  pub strictly_on : (result : DecoderResult) → Decodes encode_utf8 (Reported false) old new src true room result read (drop (length before) after) false
-      → take (length before) after ≡ before → result ≡ OutputFull → HasDecoded Off e bytes (drop read src) true new after false × (finished new ≡ false)
-  strictly_on InputEmpty d t f = cc
-  strictly_on OutputFull d t f = (
-    goes_on Off e bytes src old new before after false h (Reported false) room OutputFull read false d t (sym d.call.stops.only_put),
-    finishes_by encode_utf8 (Reported false) old new src true room OutputFull read (drop (length before) after) false d,
-  )
-  strictly_on (Malformed l a) d t f = cc

@@ -1,6 +1,6 @@
 -- One-shot calls: whole inputs (Encoding Standard 6, "decode", "UTF-8 decode", "UTF-8 decode without BOM" and "UTF-8 decode without BOM
 -- or fail", for any encoding, and "encode").
-use Rattle.std.specs.Prelude.{◌≡◌, ℕ, Bool, true, Option, Some, None, List, ◌++◌, chars, length, if◌then◌else◌}
+use Rattle.std.specs.Prelude.{◌≡◌, ℕ, ◌≤◌, Bool, true, Option, Some, None, List, ◌++◌, chars, length, if◌then◌else◌}
 use Rattle.enc_units.specs.Checked.{plus}
 use Rattle.enc_encoders.specs.Text.{bytes_of_text, with_references}
 use Rattle.enc_encoders.specs.Lengths.{from_utf_8_length}
@@ -18,6 +18,11 @@ use Rattle.encoding_rs.specs.Lengths.{max_length, output_lengths}
 -- the text in UTF-8 of bytes that have nothing malformed
 abbrev pub strict_utf_8 : Encoding → List ℕ → Option (List ℕ)
 strict_utf_8 e bytes = if whole_malformed Off e bytes then None else Some (whole_utf_8 Off e bytes)
+
+-- there is a length, and this room is not less
+abbrev pub HasRoomFor : Option ℕ → ℕ → Type 0
+HasRoomFor None room = ⊥
+HasRoomFor (Some more) room = more ≤ room
 
 -- Calls have come to where there is no length to allocate that is a usize: none for what is unread, or none with what is
 -- written already.

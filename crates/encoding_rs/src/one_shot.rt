@@ -10,7 +10,7 @@ ghost use Rattle.encoding_rs.specs.Encodings.{output_rule};
 ghost use Rattle.encoding_rs.specs.Properties.{output_encoding_of};
 ghost use Rattle.encoding_rs.specs.Decoding.{whole_encoding, whole_utf_8, whole_malformed};
 ghost use Rattle.encoding_rs.specs.EncodeRun.{whole_bytes};
-ghost use Rattle.encoding_rs.specs.OneShot.{strict_utf_8, IsTooLong, IsTooLongToEncode};
+ghost use Rattle.encoding_rs.specs.OneShot.{strict_utf_8, HasRoomFor, IsTooLong, IsTooLongToEncode};
 
 use crate::bom::BomHandling;
 use crate::decoder::Decoder;
@@ -47,6 +47,7 @@ fn length_behind(length: Option<usize>, written: usize) -> Result<usize, OneShot
 fn make_room(text: &mut String, length: Option<usize>) -> Result<(), OneShotError>
     ensures bytes { string_bytes text.new ≡ string_bytes text.old }
     ensures room { OnOk result (4 ≤ string_capacity text.new - string_len text.new) }
+    ensures enough { OnOk result (HasRoomFor length (string_capacity text.new - string_len text.new)) }
     ensures too_long { IsErrOf result OneShotError.TooLong → plus length (string_len text.old) ≡ None }
 {
     let more = length_behind(length, text.len())?;
@@ -69,7 +70,8 @@ fn make_byte_room(bytes: &mut Vec<u8>, length: Option<usize>) -> Result<(), OneS
     }
 }
 
-/// Decodes a whole input, with U+FFFD for each malformed sequence.
+/// Decodes a whole input, with U+FFFD for each malformed sequence: in one call, or in two where the room that is told for input with
+/// nothing malformed was too small for the first.
 fn decode_whole(
     alloc: Global,
     encoding: Encoding,
@@ -82,24 +84,22 @@ fn decode_whole(
     ensures empty { bytes.now ≡ [] → IsOk result }
 {
     let mut text = String::new(alloc);
-    let mut decoder = Decoder::start(encoding, handling);
-    let mut had_errors = false;
-    let mut unread = bytes;
     if bytes.is_empty() {
         return Ok((text, false));
     }
+    let mut decoder = Decoder::start(encoding, handling);
     let length = decoder.max_utf8_buffer_length_without_replacement(bytes.len());
     make_room(&mut text, length)?;
-    'calls: loop {
-        let (stop, read, replaced) = decoder.decode_to_string(unread, &mut text, true);
-        had_errors |= replaced;
-        if stop == CoderResult::InputEmpty {
-            return Ok((text, had_errors));
-        }
-        let (_, rest) = unread.split_at(read);
-        unread = rest;
-        let length = decoder.max_utf8_buffer_length(unread.len());
-        make_room(&mut text, length)?;
+    let (stop, read, had_errors) = decoder.decode_to_string(bytes, &mut text, true);
+    if stop == CoderResult::InputEmpty {
+        return Ok((text, had_errors));
+    }
+    let (_, unread) = bytes.split_at(read);
+    let length = decoder.max_utf8_buffer_length(unread.len());
+    make_room(&mut text, length)?;
+    match decoder.decode_to_string(unread, &mut text, true) {
+        (CoderResult::InputEmpty, _, replaced) => Ok((text, had_errors | replaced)),
+        (CoderResult::OutputFull, _, _) => unreachable!(),
     }
 }
 
@@ -108,9 +108,10 @@ impl Encoding {
     /// and the mark is no part of the text; with U+FFFD for each malformed sequence. Answers the text, the encoding that was
     /// used, and whether something was malformed.
     ///
-    /// Takes memory for the text: in one growth for ordinary input, by the length that a decoder tells for input with nothing
-    /// malformed, and else in more. Of empty input none. [`OneShotError::TooLong`] is answered where a length to allocate, with
-    /// what is already written, passes `usize`, and [`OneShotError::Memory`] where memory is refused, and only there.
+    /// Takes memory for the text: in one growth where nothing is malformed, by the length that a decoder tells for that, and else
+    /// in two at most, the second by the length for what is unread then. Of empty input none. [`OneShotError::TooLong`] is
+    /// answered where a length to allocate, with what is already written, passes `usize`, and [`OneShotError::Memory`] where
+    /// memory is refused, and only there.
     pub fn decode(
         self,
         alloc: Global,
@@ -164,7 +165,7 @@ impl Encoding {
 
     /// Decodes a whole input in which nothing is malformed, and in which a byte order mark is text (Encoding Standard 6, "UTF-8
     /// decode without BOM or fail", for any encoding). Answers the text, or `None` exactly where something is malformed. Takes
-    /// memory and fails as [`Encoding::decode`].
+    /// memory in one growth, and of empty input none; fails as [`Encoding::decode`].
     pub fn decode_without_bom_handling_and_without_replacement(
         self,
         alloc: Global,
@@ -175,24 +176,17 @@ impl Encoding {
         ensures empty { bytes.now ≡ [] → IsOk result }
     {
         let mut text = String::new(alloc);
-        let mut decoder = Decoder::start(self, BomHandling::Off);
-        let mut unread = bytes;
         if bytes.is_empty() {
             return Ok(Some(text));
         }
-        'calls: loop {
-            let length = decoder.max_utf8_buffer_length_without_replacement(unread.len());
-            make_room(&mut text, length)?;
-            let (stop, read) = decoder.decode_to_string_without_replacement(
-                unread, &mut text, true,
-            );
-            match stop {
-                DecoderResult::InputEmpty => return Ok(Some(text)),
-                DecoderResult::Malformed(_, _) => return Ok(None),
-                DecoderResult::OutputFull => {}
-            }
-            let (_, rest) = unread.split_at(read);
-            unread = rest;
+        let mut decoder = Decoder::start(self, BomHandling::Off);
+        let length = decoder.max_utf8_buffer_length_without_replacement(bytes.len());
+        make_room(&mut text, length)?;
+        let (stop, _) = decoder.decode_to_string_without_replacement(bytes, &mut text, true);
+        match stop {
+            DecoderResult::InputEmpty => Ok(Some(text)),
+            DecoderResult::Malformed(_, _) => Ok(None),
+            DecoderResult::OutputFull => unreachable!(),
         }
     }
 

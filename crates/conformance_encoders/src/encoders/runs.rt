@@ -78,3 +78,20 @@ fn mixed_calls_come_to_the_whole_text(rt: HostRuntime) -> Result<(), Fail> {
     }
     Ok(())
 }
+
+/// A call with replacement that is offered a character, and has 4 bytes beside those that are kept back.
+const ONE_CHARACTER: EncodeCall = EncodeCall {
+    utf16: false,
+    replace: true,
+    offer: 1,
+    room: 14,
+};
+
+#[test]
+fn a_run_of_one_character_ends_within_four_calls(rt: HostRuntime) -> Result<(), Fail> {
+    let report = encode_run(rt.alloc(), ISO_2022_JP, "\u{3041}", &[ONE_CHARACTER; 4])?;
+    assert_eq!(rt; report.bytes.as_slice(), b"\x1B$B$!\x1B(B".as_slice());
+    assert_eq!(rt; (report.read, report.calls), (1, 3));
+    assert!(rt; report.finished && !report.had_unmappables);
+    Ok(())
+}

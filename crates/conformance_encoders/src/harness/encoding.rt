@@ -4,6 +4,7 @@ use crate::harness::MOST_ROOM;
 use crate::harness::encoder_calls::{ALL_WAYS, Offer, Way, behind, call_in};
 use crate::harness::one_shot::compare_with_run;
 use crate::harness::references::{foretell, push_reference};
+use crate::harness::single_characters::compare_single_characters;
 use encoding_rs::{Encoder, EncoderResult, Encoding};
 use std::alloc::{AllocError, Global};
 use std::process::Abort;
@@ -158,7 +159,8 @@ fn compare_characters(
     Ok(())
 }
 
-/// Runs the rows in every cut between characters, with each room below `ROOMS`, in every way, and through one-shot calls.
+/// Runs the rows in every cut between characters, with each room below `ROOMS`, in every way, through one-shot calls, and a
+/// character at a time in rooms that are told.
 pub(crate) fn compare_encoded(
     rt: &impl Abort,
     alloc: Global,
@@ -168,6 +170,7 @@ pub(crate) fn compare_encoded(
     for row in rows {
         let bytes = compare_with_run(rt, alloc, (encoding, row.0))?;
         assert_eq!(rt; bytes.as_slice(), row.1, "{row:?}");
+        compare_single_characters(rt, alloc, encoding, row)?;
         for way in ALL_WAYS {
             for room in 0..ROOMS {
                 for (place, _) in row.0.char_indices() {

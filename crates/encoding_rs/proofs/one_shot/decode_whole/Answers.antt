@@ -1,12 +1,16 @@
-use Rattle.std.proofs.Common.{rules, ◌≡◌, false, [], ap, ◌∙◌, sym, ◌||◌}
+use Rattle.std.proofs.Common.{rules, ◌≡◌, false, [], refl, ap, ◌∙◌, sym}
 use Rattle.std.specs.String.{string_bytes}
 use Rattle.std.specs.Char.{encode_utf8}
-use Rattle.enc_calls.specs.declared.coder_result.CoderResult.TheVariants.{InputEmpty}
+use Rattle.enc_calls.specs.declared.coder_result.CoderResult.TheVariants.{InputEmpty, OutputFull}
+use Rattle.enc_calls.specs.Replacing.{stop_of}
 use Rattle.enc_units.specs.Output.{units_of_text}
 use Rattle.enc_machine.specs.Sequence.{text_of, any_malformed}
+use Rattle.enc_machine.specs.Remainder.{AreBytes}
+use Rattle.enc_machine.proofs.ByteLemmas.{bytes_of_slice}
 use Rattle.encoding_rs.specs.declared.lengths.Query.TheVariants.{Utf8, Utf8Reporting}
-use Rattle.encoding_rs.proofs.EndLemmas.{fresh_open, only_put, whole_text, whole_flag}
-use Rattle.encoding_rs.proofs.OneShotLemmas.{nothing, none_whole, none_decoded, goes_on, still_open, now_finished}
+use Rattle.encoding_rs.proofs.EndLemmas.{only_put, whole_text, whole_flag}
+use Rattle.encoding_rs.proofs.EnoughLemmas.{are_bytes_drop}
+use Rattle.encoding_rs.proofs.OneShotLemmas.{nothing, none_whole, none_decoded, first_call, next_call, still_open, now_finished, never_full}
 use Rattle.encoding_rs.proofs.one_shot.decode_whole.Goals as goal
 
 pub returns-then-is_empty-clause-text : goal.returns-then-is_empty-clause-text
@@ -30,42 +34,24 @@ returns-in_err-make_room-clause-too_long c = λ too_long. record {
   passes = search rules;
 }
 
-pub calls-init : goal.calls-init
-calls-init c = record {
-  decoded = rw (c.in_ok-make_room.ensures.bytes ∙ c.new-text.ensures.bytes, c.start-decoder.ensures) (none_decoded c.args.handling c.args.encoding c.args.bytes.now);
-  open_still = rw c.start-decoder.ensures (fresh_open c.args.handling c.args.encoding);
-  room = search rules;
-}
-
 pub returns-then-eq-clause-text : goal.returns-then-eq-clause-text
 returns-then-eq-clause-text c =
     let d = c.decode_to_string-stop.ensures.call.decodes in
     let at_end : c.decode_to_string-stop.result.0 ≡ InputEmpty = search rules in
-    whole_text _ _ _ _ _ _ _ (goes_on _ _ _ _ _ _ _ _ _ c.calls.invariant.decoded _ _ _ _ _ d c.decode_to_string-stop.ensures.appended (only_put _ _ _ _ _ _ _ _ _ d))
+    whole_text _ _ _ _ _ _ _ (first_call _ _ _ _ _ c.start-decoder.ensures _ _ (c.in_ok-make_room.ensures.bytes ∙ c.new-text.ensures.bytes) _ _ _ _ _ d c.decode_to_string-stop.ensures.appended (only_put _ _ _ _ _ _ _ _ _ d))
     (now_finished _ _ _ _ _ _ _ _ d at_end)
 
 pub returns-then-eq-clause-flag : goal.returns-then-eq-clause-flag
 returns-then-eq-clause-flag c =
     let d = c.decode_to_string-stop.ensures.call.decodes in
     let at_end : c.decode_to_string-stop.result.0 ≡ InputEmpty = search rules in
-    whole_flag _ _ _ _ _ _ _ (goes_on _ _ _ _ _ _ _ _ _ c.calls.invariant.decoded _ _ _ _ _ d c.decode_to_string-stop.ensures.appended (only_put _ _ _ _ _ _ _ _ _ d))
+    whole_flag _ _ _ _ _ _ _ (first_call _ _ _ _ _ c.start-decoder.ensures _ _ (c.in_ok-make_room.ensures.bytes ∙ c.new-text.ensures.bytes) _ _ _ _ _ d c.decode_to_string-stop.ensures.appended (only_put _ _ _ _ _ _ _ _ _ d))
     (now_finished _ _ _ _ _ _ _ _ d at_end)
 
 pub max_utf8_buffer_length-length-requires : goal.max_utf8_buffer_length-length-requires
 max_utf8_buffer_length-length-requires c =
     let on : ¬ (c.decode_to_string-stop.result.0 ≡ InputEmpty) = search rules in
     still_open _ _ _ _ _ _ _ _ c.decode_to_string-stop.ensures.call.decodes on
-
-pub calls-preserved : goal.calls-preserved
-calls-preserved c =
-    let d = c.decode_to_string-stop.ensures.call.decodes in
-    let on : ¬ (c.decode_to_string-stop.result.0 ≡ InputEmpty) = search rules in
-    record {
-      decoded = rw (c.in_ok-make_room-2.ensures.bytes, c.split_at.ensures.back)
-          (goes_on _ _ _ _ _ _ _ _ _ c.calls.invariant.decoded _ _ _ _ _ d c.decode_to_string-stop.ensures.appended (only_put _ _ _ _ _ _ _ _ _ d));
-      open_still = still_open _ _ _ _ _ _ _ _ d on;
-      room = search rules;
-    }
 
 pub returns-in_err-make_room-2-clause-too_long : goal.returns-in_err-make_room-2-clause-too_long
 returns-in_err-make_room-2-clause-too_long c =
@@ -74,9 +60,36 @@ returns-in_err-make_room-2-clause-too_long c =
       state = c.decode_to_string-stop.new.self;
       unread = c.split_at.result.1.now;
       wrote = string_bytes c.decode_to_string-stop.new.dst;
-      replaced = c.calls.had_errors || c.decode_to_string-stop.result.2;
+      replaced = c.decode_to_string-stop.result.2;
       decoded = rw c.split_at.ensures.back
-          (goes_on _ _ _ _ _ _ _ _ _ c.calls.invariant.decoded _ _ _ _ _ d c.decode_to_string-stop.ensures.appended (only_put _ _ _ _ _ _ _ _ _ d));
+          (first_call _ _ _ _ _ c.start-decoder.ensures _ _ (c.in_ok-make_room.ensures.bytes ∙ c.new-text.ensures.bytes) _ _ _ _ _ d c.decode_to_string-stop.ensures.appended (only_put _ _ _ _ _ _ _ _ _ d));
       query = Utf8;
       passes = search rules;
     }
+
+pub decode_to_string-requires : goal.decode_to_string-requires
+decode_to_string-requires c =
+    let on : ¬ (c.decode_to_string-stop.result.0 ≡ InputEmpty) = search rules in
+    still_open _ _ _ _ _ _ _ _ c.decode_to_string-stop.ensures.call.decodes on
+
+pub unreachable-requires : goal.unreachable-requires
+unreachable-requires c =
+    let are : AreBytes c.split_at.result.1.now = rw c.split_at.ensures.back (are_bytes_drop _ _ (bytes_of_slice _ c.type_inv.bytes)) in
+    never_full _ _ _ _ _ _ _ _ _ _ _ c.max_utf8_buffer_length-length.ensures.enough c.in_ok-make_room-2.ensures.enough are refl
+    c.decode_to_string.ensures.call.need (ap stop_of c.in-OutputFull-default-default.is-0)
+
+pub returns-clause-text : goal.returns-clause-text
+returns-clause-text c =
+    let d = c.decode_to_string-stop.ensures.call.decodes in
+    let first = first_call _ _ _ _ _ c.start-decoder.ensures _ _ (c.in_ok-make_room.ensures.bytes ∙ c.new-text.ensures.bytes) _ _ _ _ _ d c.decode_to_string-stop.ensures.appended (only_put _ _ _ _ _ _ _ _ _ d) in
+    let r = c.decode_to_string.ensures.call.decodes in
+    whole_text _ _ _ _ _ _ _ (next_call _ _ _ _ _ _ _ _ first _ _ _ c.split_at.ensures.back c.in_ok-make_room-2.ensures.bytes _ _ _ _ _ r c.decode_to_string.ensures.appended (only_put _ _ _ _ _ _ _ _ _ r))
+    (now_finished _ _ _ _ _ _ _ _ r c.in-InputEmpty-default-default.is-0)
+
+pub returns-clause-flag : goal.returns-clause-flag
+returns-clause-flag c =
+    let d = c.decode_to_string-stop.ensures.call.decodes in
+    let first = first_call _ _ _ _ _ c.start-decoder.ensures _ _ (c.in_ok-make_room.ensures.bytes ∙ c.new-text.ensures.bytes) _ _ _ _ _ d c.decode_to_string-stop.ensures.appended (only_put _ _ _ _ _ _ _ _ _ d) in
+    let r = c.decode_to_string.ensures.call.decodes in
+    whole_flag _ _ _ _ _ _ _ (next_call _ _ _ _ _ _ _ _ first _ _ _ c.split_at.ensures.back c.in_ok-make_room-2.ensures.bytes _ _ _ _ _ r c.decode_to_string.ensures.appended (only_put _ _ _ _ _ _ _ _ _ r))
+    (now_finished _ _ _ _ _ _ _ _ r c.in-InputEmpty-default-default.is-0)
