@@ -189,6 +189,27 @@ fn decode(rt: HostRuntime) -> Result<(), Fail> {
 }
 
 #[test]
+fn decode_without_faults(rt: HostRuntime) -> Result<(), Fail> {
+    let row = DecodeRow {
+        call: Call::Decode,
+        encoding: UTF_8,
+        bytes: Pattern {
+            front: b"",
+            unit: b"\xE2\x82\xACbc",
+            units: 20_000,
+        },
+        text: Pattern {
+            front: b"",
+            unit: "\u{20AC}bc".as_bytes(),
+            units: 20_000,
+        },
+        told: UTF_8,
+        is_malformed: false,
+    };
+    compare_decode(&rt, rt.alloc(), &row)
+}
+
+#[test]
 fn decode_with_bom_removal(rt: HostRuntime) -> Result<(), Fail> {
     let row = DecodeRow {
         call: Call::WithBomRemoval,
@@ -268,23 +289,61 @@ const WITH_REFERENCES: Pattern = Pattern {
     units: 10_000,
 };
 
-#[test]
-fn encode(rt: HostRuntime) -> Result<(), Fail> {
-    let alloc = rt.alloc();
-    let (utf8, input) = input_of(&rt, alloc, &MAPPABLE_IN_PART)?;
+/// A text, the encoding that it is asked for in, its bytes, and whether a reference stands there.
+#[derive(Clone, Copy)]
+struct EncodeRow {
+    encoding: Encoding,
+    text: Pattern,
+    bytes: Pattern,
+    has_references: bool,
+}
+
+/// Encodes the text, and once more where that is refused memory.
+fn compare_encode<R: Abort + Print>(rt: &R, alloc: Global, row: &EncodeRow) -> Result<(), Fail> {
+    let (utf8, input) = input_of(rt, alloc, &row.text)?;
     let text = str::from_utf8(&utf8)?;
-    let (answer, call) = match SHIFT_JIS.encode(alloc, text) {
+    let (answer, call) = match row.encoding.encode(alloc, text) {
         Ok(answer) => (answer, false),
         Err(fault) => {
             assert_eq!(rt; fault, OneShotError::Memory);
-            compare(&rt, text.as_bytes(), &MAPPABLE_IN_PART);
-            (SHIFT_JIS.encode(alloc, text)?, true)
+            compare(rt, text.as_bytes(), &row.text);
+            (row.encoding.encode(alloc, text)?, true)
         }
     };
     let (bytes, told, had_unmappables) = answer;
-    assert_eq!(rt; (told, had_unmappables), (SHIFT_JIS, true));
-    compare(&rt, &bytes, &WITH_REFERENCES);
-    tell(&rt, alloc, Refused { input, call })
+    assert_eq!(rt; (told, had_unmappables), (row.encoding, row.has_references));
+    compare(rt, &bytes, &row.bytes);
+    tell(rt, alloc, Refused { input, call })
+}
+
+#[test]
+fn encode(rt: HostRuntime) -> Result<(), Fail> {
+    let row = EncodeRow {
+        encoding: SHIFT_JIS,
+        text: MAPPABLE_IN_PART,
+        bytes: WITH_REFERENCES,
+        has_references: true,
+    };
+    compare_encode(&rt, rt.alloc(), &row)
+}
+
+#[test]
+fn encode_without_unmappables(rt: HostRuntime) -> Result<(), Fail> {
+    let row = EncodeRow {
+        encoding: SHIFT_JIS,
+        text: Pattern {
+            front: b"",
+            unit: "\u{30CF}bc".as_bytes(),
+            units: 20_000,
+        },
+        bytes: Pattern {
+            front: b"",
+            unit: b"\x83\x6Ebc",
+            units: 20_000,
+        },
+        has_references: false,
+    };
+    compare_encode(&rt, rt.alloc(), &row)
 }
 
 /// The calls of a run: the first one into UTF-16, up to the malformed byte, which it reports, and the other one into UTF-8.
