@@ -24,8 +24,7 @@ pub fn encode_reporting<E: RawEncoder, C: Chars>(
 }
 
 /// A call of an encoder that has no unmappable character, as UTF-8 has none where none is barred: no bytes are kept back for
-/// references. It answers
-/// why it stopped, how many code units it has read, and how many bytes it has written. Takes no memory.
+/// references. It answers why it stopped, how many code units it has read, and how many bytes it has written. Takes no memory.
 pub fn encode_all<E: RawEncoder, C: Chars>(
     encoder: &mut E,
     src: &mut C,
