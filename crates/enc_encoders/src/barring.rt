@@ -15,6 +15,7 @@ pub struct Barring<R> {
 }
 
 /// Whether a character stands in a list.
+#[inline(always)]
 fn is_in(barred: &[char], c: char) -> bool
     ensures { result ≡ stands_in barred.now c }
 {
