@@ -5,6 +5,7 @@
 //! TextEncoder for UTF-8, and by hand from the standard's encoders where these differ: U+00A5, U+203E and U+2212 in the
 //! Japanese encodings, references, and where escape sequences stand.
 
+mod barred;
 mod references;
 mod runs;
 mod sums;

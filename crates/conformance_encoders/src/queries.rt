@@ -285,7 +285,7 @@ const RAW_ROWS: &[RawRow] = &[
 fn encoders_by_themselves_tell_lengths(rt: HostRuntime) {
     for (codec, units, want) in RAW_ROWS {
         assert!(rt; has_encoder(*codec));
-        let encoder = new_encoder(*codec);
+        let encoder = new_encoder(*codec, &[]);
         let told = (
             encoder.max_buffer_length_from_utf8_without_replacement(*units),
             encoder.max_buffer_length_from_utf16_without_replacement(*units),

@@ -1,5 +1,5 @@
 -- The lengths of every encoding are enough.
-use Rattle.std.proofs.Common.{◌≡◌, ℕ, true, false, Option, Some, None, List, refl, ap, sym, subst}
+use Rattle.std.proofs.Common.{◌≡◌, ℕ, true, false, Option, Some, None, List, [], ◌∷◌, refl, ap, sym, subst}
 use Rattle.std.proofs.lemmas.Bool.{false≢true}
 use Rattle.enc_codec.specs.declared.codec.Codec.{Codec}
 use Rattle.enc_codec.specs.declared.codec.Codec.TheVariants as codec
@@ -9,6 +9,7 @@ use Rattle.enc_encoders.specs.declared.character_set.CharacterSet.TheVariants.{A
 use Rattle.enc_encoders.specs.EncoderRule.{EncoderRule, RawState}
 use Rattle.enc_encoders.specs.Need.{AreEnough}
 use Rattle.enc_encoders.specs.Stateless.{stateless, stateless_state, KeepsLengths}
+use Rattle.enc_encoders.specs.Barring.{except, barring}
 use Rattle.enc_encoders.specs.SingleByte.{single_byte_bytes, x_user_defined_bytes}
 use Rattle.enc_encoders.specs.Utf8.{utf_8_bytes}
 use Rattle.enc_encoders.specs.Big5.{big5_bytes}
@@ -18,6 +19,7 @@ use Rattle.enc_encoders.specs.EucJp.{euc_jp_bytes}
 use Rattle.enc_encoders.specs.Gb18030.{gb18030_bytes}
 use Rattle.enc_encoders.specs.Iso2022Jp.{iso_2022_jp, iso_2022_jp_state}
 use Rattle.enc_encoders.proofs.EnoughLemmas.{stateless_enough, iso_2022_jp_enough, keeps_utf_8, keeps_single_byte, keeps_x_user_defined, keeps_big5, keeps_euc_kr, keeps_shift_jis, keeps_euc_jp, keeps_gb18030}
+use Rattle.enc_encoders.proofs.BarringLemmas.{except_keeps}
 use Rattle.enc_encode.specs.declared.variant.VariantEncoder.{VariantEncoder}
 use Rattle.enc_encode.specs.declared.variant.VariantEncoder.TheVariants.{Utf8, SingleByte, Big5, EucKr, ShiftJis, EucJp, Gb18030, Iso2022Jp, XUserDefined}
 use Rattle.enc_encode.specs.Encoders.{encoder_rule, encoder_lengths}
@@ -38,34 +40,37 @@ stateless_of (Gb18030 e) bytes r = in_ascii _ bytes r
 stateless_of (XUserDefined e) bytes r = in_ascii _ bytes r
 stateless_of (Iso2022Jp e) bytes r = absurd (false≢true (ap (λ (rule : EncoderRule). rule.has Ascii 0xA5) r))
 
-iso_2022_jp_of : (v : RawState) → v.rule ≡ iso_2022_jp → v ≡ iso_2022_jp_state v.set
-iso_2022_jp_of v r = let made : EncoderRule → RawState = λ e. record { rule = e; set = v.set } in ap made r
+iso_2022_jp_of : (b : List ℕ) (v : RawState) → v.rule ≡ barring b iso_2022_jp → v ≡ iso_2022_jp_state b v.set
+iso_2022_jp_of b v r = let made : EncoderRule → RawState = λ e. record { rule = e; set = v.set } in ap made r
 
 -- so the lengths of the rule are enough
 
 pub enough_of_stateless : (lengths : ByteLengths) (bytes : ℕ → Option (List ℕ)) (v : VariantEncoder) → KeepsLengths lengths bytes → (variant_state v).rule ≡ stateless bytes → AreEnough lengths (variant_state v)
 enough_of_stateless lengths bytes v h r = subst (AreEnough lengths) (sym (stateless_of v bytes r)) (stateless_enough lengths bytes h)
 
-enough_of_iso_2022_jp : (v : VariantEncoder) → (variant_state v).rule ≡ iso_2022_jp → AreEnough lengths.Iso2022Jp (variant_state v)
-enough_of_iso_2022_jp v r = subst (AreEnough lengths.Iso2022Jp) (sym (iso_2022_jp_of (variant_state v) r)) (iso_2022_jp_enough (variant_state v).set)
+enough_of_iso_2022_jp : (b : List ℕ) (v : VariantEncoder) → (variant_state v).rule ≡ barring b iso_2022_jp → AreEnough lengths.Iso2022Jp (variant_state v)
+enough_of_iso_2022_jp b v r = subst (AreEnough lengths.Iso2022Jp) (sym (iso_2022_jp_of b (variant_state v) r)) (iso_2022_jp_enough b (variant_state v).set)
 
--- of each codec, for an encoder of its rule in any state
+-- of each codec, for an encoder of its rule in any state, whatever is barred
 
 abbrev pub IsEnoughIfAny : ByteLengths → Option EncoderRule → Type 0
 IsEnoughIfAny l None = l ≡ lengths.Utf8
-IsEnoughIfAny l (Some e) = (v : VariantEncoder) → (variant_state v).rule ≡ e → AreEnough l (variant_state v)
+IsEnoughIfAny l (Some e) = (b : List ℕ) (v : VariantEncoder) → (variant_state v).rule ≡ barring b e → AreEnough l (variant_state v)
+
+pub by_lengths : (l : ByteLengths) (bytes : ℕ → Option (List ℕ)) → KeepsLengths l bytes → IsEnoughIfAny l (Some (stateless bytes))
+by_lengths l bytes h b v r = enough_of_stateless l (except b bytes) v (except_keeps b l bytes h) r
 
 pub enough_if_any : (c : Codec) → IsEnoughIfAny (encoder_lengths c) (encoder_rule c)
-enough_if_any codec.Utf8 = λ v r. enough_of_stateless lengths.Utf8 utf_8_bytes v keeps_utf_8 r
+enough_if_any codec.Utf8 = by_lengths lengths.Utf8 utf_8_bytes keeps_utf_8
 enough_if_any codec.Utf16Be = refl
 enough_if_any codec.Utf16Le = refl
 enough_if_any codec.Replacement = refl
-enough_if_any (codec.SingleByte index) = λ v r. enough_of_stateless lengths.OneByte (single_byte_bytes index) v (keeps_single_byte index) r
-enough_if_any codec.Big5 = λ v r. enough_of_stateless lengths.TwoBytes big5_bytes v keeps_big5 r
-enough_if_any codec.EucKr = λ v r. enough_of_stateless lengths.TwoBytes euc_kr_bytes v keeps_euc_kr r
-enough_if_any codec.ShiftJis = λ v r. enough_of_stateless lengths.TwoBytes shift_jis_bytes v keeps_shift_jis r
-enough_if_any codec.EucJp = λ v r. enough_of_stateless lengths.TwoBytes euc_jp_bytes v keeps_euc_jp r
-enough_if_any codec.Gbk = λ v r. enough_of_stateless lengths.TwoBytes (gb18030_bytes true) v (keeps_gb18030 true) r
-enough_if_any codec.Gb18030 = λ v r. enough_of_stateless lengths.Gb18030 (gb18030_bytes false) v (keeps_gb18030 false) r
-enough_if_any codec.XUserDefined = λ v r. enough_of_stateless lengths.OneByte x_user_defined_bytes v keeps_x_user_defined r
-enough_if_any codec.Iso2022Jp = λ v r. enough_of_iso_2022_jp v r
+enough_if_any (codec.SingleByte index) = by_lengths lengths.OneByte (single_byte_bytes index) (keeps_single_byte index)
+enough_if_any codec.Big5 = by_lengths lengths.TwoBytes big5_bytes keeps_big5
+enough_if_any codec.EucKr = by_lengths lengths.TwoBytes euc_kr_bytes keeps_euc_kr
+enough_if_any codec.ShiftJis = by_lengths lengths.TwoBytes shift_jis_bytes keeps_shift_jis
+enough_if_any codec.EucJp = by_lengths lengths.TwoBytes euc_jp_bytes keeps_euc_jp
+enough_if_any codec.Gbk = by_lengths lengths.TwoBytes (except (0xE5E5 ∷ []) (gb18030_bytes true)) (except_keeps (0xE5E5 ∷ []) _ _ (keeps_gb18030 true))
+enough_if_any codec.Gb18030 = by_lengths lengths.Gb18030 (except (0xE5E5 ∷ []) (gb18030_bytes false)) (except_keeps (0xE5E5 ∷ []) _ _ (keeps_gb18030 false))
+enough_if_any codec.XUserDefined = by_lengths lengths.OneByte x_user_defined_bytes keeps_x_user_defined
+enough_if_any codec.Iso2022Jp = λ b v r. enough_of_iso_2022_jp b v r

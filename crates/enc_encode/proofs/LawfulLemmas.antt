@@ -1,8 +1,10 @@
 -- The laws of every encoding's rule.
-use Rattle.std.proofs.Common.{Option, Some, None, true, false}
+use Rattle.std.proofs.Common.{Bool, Option, Some, None, [], ◌∷◌, true, false, refl}
 use Rattle.enc_codec.specs.declared.codec.Codec.{Codec}
 use Rattle.enc_codec.specs.declared.codec.Codec.TheVariants.{Utf8, Utf16Be, Utf16Le, SingleByte, Big5, EucKr, ShiftJis, EucJp, Gbk, Gb18030, Iso2022Jp, XUserDefined, Replacement}
 use Rattle.enc_encoders.specs.EncoderRule.{EncoderRule, IsLawful}
+use Rattle.enc_encoders.specs.Stateless.{stateless}
+use Rattle.enc_encoders.specs.Barring.{barring}
 use Rattle.enc_encoders.specs.SingleByte.{single_byte_bytes, x_user_defined_bytes}
 use Rattle.enc_encoders.specs.Utf8.{utf_8_bytes}
 use Rattle.enc_encoders.specs.Big5.{big5_bytes}
@@ -12,8 +14,12 @@ use Rattle.enc_encoders.specs.EucJp.{euc_jp_bytes}
 use Rattle.enc_encoders.specs.Gb18030.{gb18030_bytes}
 use Rattle.enc_encoders.proofs.FewLemmas.{few_utf_8, few_single_byte, few_big5, few_euc_kr, few_shift_jis, few_euc_jp, few_gb18030, few_x_user_defined}
 use Rattle.enc_encoders.proofs.StatelessLemmas.{stateless_is_lawful, utf_8_writes_ascii, with_ascii_writes_ascii}
+use Rattle.enc_encoders.proofs.BarringLemmas.{barring_is_lawful}
 use Rattle.enc_encoders.proofs.Iso2022JpLemmas.{iso_2022_jp_is_lawful}
 use Rattle.enc_encode.specs.Encoders.{encoder_rule}
+
+gb18030_is_lawful : (is_gbk : Bool) → IsLawful (barring (0xE5E5 ∷ []) (stateless (gb18030_bytes is_gbk)))
+gb18030_is_lawful is_gbk = barring_is_lawful (0xE5E5 ∷ []) _ (stateless_is_lawful (gb18030_bytes is_gbk) (with_ascii_writes_ascii _) (few_gb18030 is_gbk))
 
 abbrev pub IsLawfulIfAny : Option EncoderRule → Type 0
 IsLawfulIfAny None = Unit {0}
@@ -29,7 +35,7 @@ lawful_if_any Big5 = stateless_is_lawful big5_bytes (with_ascii_writes_ascii _) 
 lawful_if_any EucKr = stateless_is_lawful euc_kr_bytes (with_ascii_writes_ascii _) few_euc_kr
 lawful_if_any ShiftJis = stateless_is_lawful shift_jis_bytes (with_ascii_writes_ascii _) few_shift_jis
 lawful_if_any EucJp = stateless_is_lawful euc_jp_bytes (with_ascii_writes_ascii _) few_euc_jp
-lawful_if_any Gbk = stateless_is_lawful (gb18030_bytes true) (with_ascii_writes_ascii _) (few_gb18030 true)
-lawful_if_any Gb18030 = stateless_is_lawful (gb18030_bytes false) (with_ascii_writes_ascii _) (few_gb18030 false)
+lawful_if_any Gbk = gb18030_is_lawful true
+lawful_if_any Gb18030 = gb18030_is_lawful false
 lawful_if_any XUserDefined = stateless_is_lawful x_user_defined_bytes (with_ascii_writes_ascii _) few_x_user_defined
 lawful_if_any Iso2022Jp = iso_2022_jp_is_lawful

@@ -1,6 +1,7 @@
 //! Which encoder an encoding has.
 
-ghost use Rattle.std.specs.Prelude.{◌≡◌, Some, is_some, true};
+ghost use Rattle.std.specs.Prelude.{◌≡◌, Some, is_some, true, [], ◌∷◌, option_map};
+ghost use Rattle.enc_encoders.specs.Barring.{are_beyond_ascii, barring};
 ghost use Rattle.enc_encoders.specs.declared.character_set.CharacterSet.TheVariants.{Ascii};
 ghost use Rattle.enc_encode.specs.Encoders.{encoder_rule, encoder_lengths};
 ghost use Rattle.enc_encode.specs.Variant.{variant_state, variant_lengths};
@@ -8,7 +9,7 @@ ghost use Rattle.enc_encode.specs.Variant.{variant_state, variant_lengths};
 use crate::variant::VariantEncoder;
 use enc_codec::Codec;
 use enc_encoders::{
-    Big5, Big5Encoder, ByteLengths, EucJp, EucJpEncoder, EucKr, EucKrEncoder, Gb18030,
+    Barring, Big5, Big5Encoder, ByteLengths, EucJp, EucJpEncoder, EucKr, EucKrEncoder, Gb18030,
     Gb18030Encoder, Iso2022JpEncoder, ShiftJis, ShiftJisEncoder, SingleByte, SingleByteEncoder,
     Utf8, Utf8Encoder, XUserDefined, XUserDefinedEncoder,
 };
@@ -23,26 +24,46 @@ pub fn has_encoder(codec: Codec) -> bool
     }
 }
 
-/// An encoder at the start of a text. Condition: the encoding has one. Takes no memory.
-pub fn new_encoder(codec: Codec) -> VariantEncoder
-    requires { is_some (encoder_rule codec) ≡ true }
-    ensures rule { encoder_rule codec ≡ Some (variant_state result).rule }
+/// The encoder of gb18030, or of GBK: U+E5E5 is barred from these two, whatever else is.
+fn new_gb18030(is_gbk: bool, barred: &'static [char]) -> Gb18030Encoder
+    ensures is_gbk { result.repertoire.repertoire.repertoire.is_gbk ≡ is_gbk }
+    ensures always { result.repertoire.repertoire.barred.now ≡ 0xE5E5 ∷ [] }
+    ensures barred { result.repertoire.barred.now ≡ barred.now }
+{
+    let always = Barring::new(Gb18030 { is_gbk }, &['\u{E5E5}']);
+    Gb18030Encoder::new(Barring::new(always, barred))
+}
+
+/// An encoder at the start of a text, to which these characters are unmappable too. It keeps them, also behind the end of the text.
+/// Conditions: the encoding has an encoder, and each of the characters is U+0080 or above. Takes no memory.
+pub fn new_encoder(codec: Codec, barred: &'static [char]) -> VariantEncoder
+    requires encoder { is_some (encoder_rule codec) ≡ true }
+    requires barred { are_beyond_ascii barred.now ≡ true }
+    ensures rule { option_map (barring barred.now) (encoder_rule codec) ≡ Some (variant_state result).rule }
     ensures set { (variant_state result).set ≡ Ascii }
     ensures lengths { variant_lengths result ≡ encoder_lengths codec }
 {
     match codec {
         Codec::SingleByte(index) => {
-            VariantEncoder::SingleByte(SingleByteEncoder::new(SingleByte { index }))
+            let repertoire = Barring::new(SingleByte { index }, barred);
+            VariantEncoder::SingleByte(SingleByteEncoder::new(repertoire))
         }
-        Codec::Big5 => VariantEncoder::Big5(Big5Encoder::new(Big5)),
-        Codec::EucKr => VariantEncoder::EucKr(EucKrEncoder::new(EucKr)),
-        Codec::ShiftJis => VariantEncoder::ShiftJis(ShiftJisEncoder::new(ShiftJis)),
-        Codec::EucJp => VariantEncoder::EucJp(EucJpEncoder::new(EucJp)),
-        Codec::Gbk => VariantEncoder::Gb18030(Gb18030Encoder::new(Gb18030 { is_gbk: true })),
-        Codec::Gb18030 => VariantEncoder::Gb18030(Gb18030Encoder::new(Gb18030 { is_gbk: false })),
-        Codec::XUserDefined => VariantEncoder::XUserDefined(XUserDefinedEncoder::new(XUserDefined)),
-        Codec::Iso2022Jp => VariantEncoder::Iso2022Jp(Iso2022JpEncoder::new()),
-        Codec::Utf8 => VariantEncoder::Utf8(Utf8Encoder::new(Utf8)),
+        Codec::Big5 => VariantEncoder::Big5(Big5Encoder::new(Barring::new(Big5, barred))),
+        Codec::EucKr => VariantEncoder::EucKr(EucKrEncoder::new(Barring::new(EucKr, barred))),
+        Codec::ShiftJis => {
+            VariantEncoder::ShiftJis(ShiftJisEncoder::new(Barring::new(ShiftJis, barred)))
+        }
+        Codec::EucJp => VariantEncoder::EucJp(EucJpEncoder::new(Barring::new(EucJp, barred))),
+        Codec::Gbk => VariantEncoder::Gb18030(new_gb18030(true, barred)),
+        Codec::Gb18030 => VariantEncoder::Gb18030(new_gb18030(false, barred)),
+        Codec::XUserDefined => {
+            VariantEncoder::XUserDefined(XUserDefinedEncoder::new(Barring::new(
+                XUserDefined,
+                barred,
+            )))
+        }
+        Codec::Iso2022Jp => VariantEncoder::Iso2022Jp(Iso2022JpEncoder::new(barred)),
+        Codec::Utf8 => VariantEncoder::Utf8(Utf8Encoder::new(Barring::new(Utf8, barred))),
         Codec::Utf16Be | Codec::Utf16Le | Codec::Replacement => unreachable!(),
     }
 }

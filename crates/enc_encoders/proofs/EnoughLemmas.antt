@@ -29,7 +29,9 @@ use Rattle.enc_encoders.specs.EucJp.{euc_jp_bytes}
 use Rattle.enc_encoders.specs.Gb18030.{gb18030_bytes, gb18030_lengths}
 use Rattle.enc_encoders.specs.Iso2022Jp.{iso_2022_jp, iso_2022_jp_bytes, iso_2022_jp_state}
 use Rattle.enc_encoders.proofs.FewLemmas.{size, most_single_byte, most_x_user_defined, most_big5, most_euc_kr, most_shift_jis, most_euc_jp, most_gb18030, most_iso_2022_jp, most_ascii_iso_2022_jp}
+use Rattle.enc_encoders.specs.Barring.{barring}
 use Rattle.enc_encoders.proofs.StatelessLemmas.{with_ascii_writes_ascii}
+use Rattle.enc_encoders.proofs.BarringLemmas.{fewer}
 
 -- how many code units a character has
 
@@ -228,30 +230,35 @@ three_at_end Ascii = omega arith
 three_at_end Roman = omega arith
 three_at_end Jis0208 = omega arith
 
-abbrev cost : CharacterSet → ℕ → ℕ
-cost s c = length (escape_before iso_2022_jp s (first_written c (iso_2022_jp_bytes c))) + size (iso_2022_jp_bytes c)
+-- of a character, where these are barred
+module _ (b : List ℕ) where
+  abbrev rule : EncoderRule
+  rule = barring b iso_2022_jp
 
-before_char : (s : CharacterSet) (c : ℕ) → length (escape_before iso_2022_jp s (first_written c (iso_2022_jp_bytes c))) ≤ 3
-before_char s c = three_before (iso_2022_jp.has s (first_written c (iso_2022_jp_bytes c))) (iso_2022_jp.designated (first_written c (iso_2022_jp_bytes c)))
+  abbrev cost : CharacterSet → ℕ → ℕ
+  cost s c = length (escape_before rule s (first_written c (rule.bytes c))) + size (rule.bytes c)
 
-five : (s : CharacterSet) (c : ℕ) → cost s c ≤ 5
-five s c = omega (arith, before_char s c, most_iso_2022_jp c)
+  before_char : (s : CharacterSet) (c : ℕ) → length (escape_before rule s (first_written c (rule.bytes c))) ≤ 3
+  before_char s c = three_before (rule.has s (first_written c (rule.bytes c))) (rule.designated (first_written c (rule.bytes c)))
 
-four_in_ascii : (s : CharacterSet) (c : ℕ) → c < 0x80 → cost s c ≤ 4
-four_in_ascii s c l = omega (arith, before_char s c, most_ascii_iso_2022_jp c l)
+  five : (s : CharacterSet) (c : ℕ) → cost s c ≤ 5
+  five s c = omega (arith, before_char s c, fewer b iso_2022_jp_bytes c, most_iso_2022_jp c)
 
-pub iso_2022_jp_enough : (set : CharacterSet) → AreEnough Iso2022Jp (iso_2022_jp_state set)
-iso_2022_jp_enough set = record {
-  from_utf_8 = λ src last q e. omega (
-    arith,
-    utf_8_told Iso2022Jp (length (units_of_text encode_utf8 src)) q e,
-    bounded iso_2022_jp encode_utf8 4 3 (λ s. Unit {0}) (λ s c _. tt) (λ s _. three_at_end s)
-        (λ s c _. within_utf_8 (cost s c) 4 c (four_in_ascii s c) (omega (arith, five s c))) last src set tt,
-  );
-  from_utf_16 = λ src last q e. omega (
-    arith,
-    utf_16_told Iso2022Jp (length (units_of_text encode_utf16 src)) q e,
-    bounded iso_2022_jp encode_utf16 5 3 (λ s. Unit {0}) (λ s c _. tt) (λ s _. three_at_end s)
-        (λ s c _. within_utf_16 (cost s c) 5 c (five s c)) last src set tt,
-  );
-}
+  four_in_ascii : (s : CharacterSet) (c : ℕ) → c < 0x80 → cost s c ≤ 4
+  four_in_ascii s c l = omega (arith, before_char s c, fewer b iso_2022_jp_bytes c, most_ascii_iso_2022_jp c l)
+
+  pub iso_2022_jp_enough : (set : CharacterSet) → AreEnough Iso2022Jp (iso_2022_jp_state b set)
+  iso_2022_jp_enough set = record {
+    from_utf_8 = λ src last q e. omega (
+      arith,
+      utf_8_told Iso2022Jp (length (units_of_text encode_utf8 src)) q e,
+      bounded rule encode_utf8 4 3 (λ s. Unit {0}) (λ s c _. tt) (λ s _. three_at_end s)
+          (λ s c _. within_utf_8 (cost s c) 4 c (four_in_ascii s c) (omega (arith, five s c))) last src set tt,
+    );
+    from_utf_16 = λ src last q e. omega (
+      arith,
+      utf_16_told Iso2022Jp (length (units_of_text encode_utf16 src)) q e,
+      bounded rule encode_utf16 5 3 (λ s. Unit {0}) (λ s c _. tt) (λ s _. three_at_end s)
+          (λ s c _. within_utf_16 (cost s c) 5 c (five s c)) last src set tt,
+    );
+  }

@@ -6,6 +6,7 @@ pub mod TextLemmas
 pub mod ActLemmas
 pub mod FewLemmas
 pub mod StatelessLemmas
+pub mod BarringLemmas
 pub mod Iso2022JpLemmas
 pub mod NeedLemmas
 pub mod EnoughLemmas

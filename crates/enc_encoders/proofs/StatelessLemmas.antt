@@ -15,7 +15,7 @@ pub with_ascii_writes_ascii : (others : ℕ → Option (List ℕ)) → WritesAsc
 with_ascii_writes_ascii others c l = rw (lt-ltb c 0x80 l) refl
 
 -- what references are made of is ASCII
-of_references_is_ascii : (c : ℕ) → IsOfReferences c → c < 0x80
+pub of_references_is_ascii : (c : ℕ) → IsOfReferences c → c < 0x80
 of_references_is_ascii c r = omega arith
 
 pub stateless_is_lawful : (bytes : ℕ → Option (List ℕ)) → WritesAscii bytes → WritesFew bytes → IsLawful (stateless bytes)

@@ -24,8 +24,7 @@ two_or_four is_gbk c None = if is_gbk then None else bytes_by gb18030_four (gb18
 -- beyond ASCII
 abbrev pub gb18030_other : Bool → ℕ → Option (List ℕ)
 gb18030_other is_gbk c =
-    if c == 0xE5E5 then None
-    else if is_gbk && c == 0x20AC then Some (0x80 ∷ [])
+    if is_gbk && c == 0x20AC then Some (0x80 ∷ [])
     else two_or_four is_gbk c (gb18030_pointer c)
 
 abbrev pub gb18030_bytes : Bool → ℕ → Option (List ℕ)

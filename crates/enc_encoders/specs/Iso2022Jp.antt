@@ -7,6 +7,7 @@ use Rattle.enc_encoders.specs.declared.encoders.iso_2022_jp.CharClass.TheVariant
 use Rattle.enc_encoders.specs.declared.encoders.katakana.TheConstants.{KATAKANA}
 use Rattle.enc_pointers.specs.Pointers.{jis0208_pointer}
 use Rattle.enc_encoders.specs.EncoderRule.{EncoderRule, RawState}
+use Rattle.enc_encoders.specs.Barring.{barring}
 use Rattle.enc_encoders.specs.Stateless.{bytes_by}
 use Rattle.enc_encoders.specs.Japanese.{is_katakana, with_wide_minus}
 
@@ -105,5 +106,6 @@ iso_2022_jp = record {
   set_after = λ s t. set_read_back s (reverse t);
 }
 
-abbrev pub iso_2022_jp_state : CharacterSet → RawState
-iso_2022_jp_state s = record { rule = iso_2022_jp; set = s }
+-- where these characters are barred
+abbrev pub iso_2022_jp_state : List ℕ → CharacterSet → RawState
+iso_2022_jp_state b s = record { rule = barring b iso_2022_jp; set = s }

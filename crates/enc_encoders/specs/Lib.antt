@@ -4,6 +4,7 @@ pub mod Steps
 pub mod Call
 pub mod CharLaw
 pub mod Stateless
+pub mod Barring
 pub mod Utf8
 pub mod SingleByte
 pub mod Japanese

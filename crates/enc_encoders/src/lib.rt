@@ -2,6 +2,7 @@
 //! every encoder, and the nine encoders, each by what it writes for a character.
 #![tactic(auto)]
 
+mod barring;
 mod byte_lengths;
 mod bytes;
 mod char_encoder;
@@ -15,6 +16,7 @@ mod stateless;
 mod step;
 mod taken;
 
+pub use barring::Barring;
 pub use byte_lengths::ByteLengths;
 pub use character_set::CharacterSet;
 pub use encoder_result::EncoderResult;

@@ -38,7 +38,7 @@ regroup a b c d = simp append_assoc
 
 -- no call
 pub EncodesText-none : (s : EncoderState) (text : List ℕ) (last : Bool) → EncodesText s s text text last [] false
-EncodesText-none s text last = record { encoding = refl; front = []; reads = refl; residual = λ z h. refl; flag = refl }
+EncodesText-none s text last = record { encoding = refl; barred = refl; front = []; reads = refl; residual = λ z h. refl; flag = refl }
 
 -- one call
 pub EncodesText-call : (old new : EncoderState) (text : List ℕ) (last : Bool) (before after : List ℕ) (result : CoderResult) (read written : ℕ) (replaced : Bool)
@@ -48,6 +48,7 @@ EncodesText-call old new text last before after InputEmpty read written replaced
     let d = c.encodes.call in
     record {
       encoding = c.encodes.encoding;
+      barred = c.encodes.barred;
       front = chars_of d.done;
       reads = d.reads;
       residual = d.text;
@@ -57,6 +58,7 @@ EncodesText-call old new text last before after OutputFull read written replaced
     let d = c.encodes.call in
     record {
       encoding = c.encodes.encoding;
+      barred = c.encodes.barred;
       front = chars_of d.done;
       reads = d.reads;
       residual = d.text;
@@ -64,22 +66,25 @@ EncodesText-call old new text last before after OutputFull read written replaced
     }
 
 -- the flags of some calls, and of some more
-flags : (a b : EncoderState) (t₁ t₂ : List ℕ) (r₁ r₂ : Bool) → b.encoding ≡ a.encoding
-    → r₁ ≡ any_unmappable (output_rule a.encoding) t₁ → r₂ ≡ any_unmappable (output_rule b.encoding) t₂
-    → (r₁ || r₂) ≡ any_unmappable (output_rule a.encoding) (t₁ ++ t₂)
-flags a b t₁ t₂ r₁ r₂ e f g =
-    ap (λ r. r || r₂) f ∙ ap (λ r. any_unmappable (output_rule a.encoding) t₁ || r) (g ∙ ap (λ e. any_unmappable (output_rule e) t₂) e)
-    ∙ sym (any_unmappable-append (output_rule a.encoding) t₁ t₂)
+flags : (a b : EncoderState) (t₁ t₂ : List ℕ) (r₁ r₂ : Bool) → b.encoding ≡ a.encoding → b.barred ≡ a.barred
+    → r₁ ≡ any_unmappable (raw_state a).rule t₁ → r₂ ≡ any_unmappable (raw_state b).rule t₂
+    → (r₁ || r₂) ≡ any_unmappable (raw_state a).rule (t₁ ++ t₂)
+flags a b t₁ t₂ r₁ r₂ e h f g =
+    ap (λ r. r || r₂) f
+    ∙ ap (λ r. any_unmappable (raw_state a).rule t₁ || r)
+    (g ∙ ap (λ e. any_unmappable (output_rule b.barred e) t₂) e ∙ ap (λ l. any_unmappable (output_rule l a.encoding) t₂) h)
+    ∙ sym (any_unmappable-append (raw_state a).rule t₁ t₂)
 
 -- some calls, and some more that are offered what is unread
 pub EncodesText-then : (a b c : EncoderState) (text mid unread : List ℕ) (last : Bool) (w₁ w₂ : List ℕ) (r₁ r₂ : Bool)
     → EncodesText a b text mid last w₁ r₁ → EncodesText b c mid unread last w₂ r₂ → EncodesText a c text unread last (w₁ ++ w₂) (r₁ || r₂)
 EncodesText-then a b c text mid unread last w₁ w₂ r₁ r₂ p q = record {
   encoding = q.encoding ∙ p.encoding;
+  barred = q.barred ∙ p.barred;
   front = p.front ++ q.front;
   reads = p.reads ∙ ap (λ t. p.front ++ t) q.reads ∙ sym (append_assoc p.front q.front unread);
   residual = λ z h. p.residual z h ∙ ap (λ t. w₁ ++ t) (q.residual z h) ∙ sym (append_assoc w₁ w₂ (bytes_from c (unread ++ z)));
-  flag = flags a b p.front q.front r₁ r₂ p.encoding p.flag q.flag;
+  flag = flags a b p.front q.front r₁ r₂ p.encoding p.barred p.flag q.flag;
 }
 
 -- a text, and another behind it
@@ -87,11 +92,12 @@ pub EncodesText-more : (a b c : EncoderState) (t₁ t₂ : List ℕ) (last : Boo
     → EncodesText a b t₁ [] false w₁ r₁ → EncodesText b c t₂ [] last w₂ r₂ → EncodesText a c (t₁ ++ t₂) [] last (w₁ ++ w₂) (r₁ || r₂)
 EncodesText-more a b c t₁ t₂ last w₁ w₂ r₁ r₂ p q = record {
   encoding = q.encoding ∙ p.encoding;
+  barred = q.barred ∙ p.barred;
   front = p.front ++ q.front;
   reads = ap (λ t. t ++ t₂) (p.reads ∙ append-nil p.front) ∙ ap (λ t. p.front ++ t) q.reads ∙ sym (append_assoc p.front q.front []);
   residual = λ z h. ap (bytes_from a) (append_assoc t₁ t₂ z) ∙ p.residual (t₂ ++ z) (λ f. not_ended f)
       ∙ ap (λ t. w₁ ++ t) (q.residual z h) ∙ sym (append_assoc w₁ w₂ (bytes_from c z));
-  flag = flags a b p.front q.front r₁ r₂ p.encoding p.flag q.flag;
+  flag = flags a b p.front q.front r₁ r₂ p.encoding p.barred p.flag q.flag;
 }
 
 -- UTF-8 is written as it is
@@ -109,24 +115,26 @@ behind_is u [] = refl
 behind_is u (c ∷ t) = ap (λ x. encode_utf8 c ++ x) (behind_is (u ++ c ∷ []) t)
 
 abbrev utf_8_state : EncoderState
-utf_8_state = record { encoding = UTF_8; set = Ascii }
+utf_8_state = record { encoding = UTF_8; barred = []; set = Ascii }
 
 -- in UTF-8 the bytes of a text are its code units
 pub bytes_are_units : (t : List ℕ) → bytes_from utf_8_state t ≡ units_of_text encode_utf8 t
 bytes_are_units t = ap (bytes_behind (stateless utf_8_bytes) Ascii []) (no_references t) ∙ behind_is [] t
 
-is_utf_8_state : (s : EncoderState) → s.encoding ≡ UTF_8 → s.set ≡ Ascii → s ≡ utf_8_state
+is_utf_8_state : (s : EncoderState) → s.encoding ≡ UTF_8 → (s.set ≡ Ascii) × (s.barred ≡ []) → s ≡ utf_8_state
 is_utf_8_state s e f =
-    let by_encoding : Encoding → EncoderState = λ x. record { encoding = x; set = s.set } in
-    let by_set : CharacterSet → EncoderState = λ x. record { encoding = UTF_8; set = x } in
-    ap by_encoding e ∙ ap by_set f
+    let by_encoding : Encoding → EncoderState = λ x. record { encoding = x; barred = s.barred; set = s.set } in
+    let by_set : CharacterSet → EncoderState = λ x. record { encoding = UTF_8; barred = s.barred; set = x } in
+    let by_list : List ℕ → EncoderState = λ x. record { encoding = UTF_8; barred = x; set = Ascii } in
+    ap by_encoding e ∙ ap by_set f.0 ∙ ap by_list f.1
 
-pub EncodesText-utf_8 : (s : EncoderState) (text : List ℕ) (last : Bool) → s.encoding ≡ UTF_8 → s.set ≡ Ascii → IsUtf8 text
+pub EncodesText-utf_8 : (s : EncoderState) (text : List ℕ) (last : Bool) → s.encoding ≡ UTF_8 → (s.set ≡ Ascii) × (s.barred ≡ []) → IsUtf8 text
     → EncodesText s s (chars text) [] last text false
 EncodesText-utf_8 s text last e f u =
     let units : units_of_text encode_utf8 (chars text) ≡ text = their_units (chars text) ∙ encodes-chars text u in
     subst (λ (v : EncoderState). EncodesText v v (chars text) [] last text false) (sym (is_utf_8_state s e f)) (record {
       encoding = refl;
+      barred = refl;
       front = chars text;
       reads = sym (append-nil (chars text));
       residual = λ z h. bytes_are_units (chars text ++ z) ∙ units_of_text-append encode_utf8 (chars text) z

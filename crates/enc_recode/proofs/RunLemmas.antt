@@ -10,7 +10,7 @@ use Rattle.encoding_rs.specs.declared.bom.BomHandling.TheVariants.{Sniff}
 use Rattle.encoding_rs.specs.declared.encoding.Encoding.{Encoding}
 use Rattle.encoding_rs.specs.Encodings.{output_rule}
 use Rattle.encoding_rs.specs.Decoding.{DecoderState, finished, fresh, whole_sequences, remaining_sequences}
-use Rattle.encoding_rs.specs.Encoder.{EncoderState, fresh_encoder}
+use Rattle.encoding_rs.specs.Encoder.{EncoderState, fresh_encoder, raw_state}
 use Rattle.encoding_rs.proofs.EndLemmas.{fresh_sequences, none_left}
 use Rattle.enc_recode.specs.Source.{TellsNext}
 use Rattle.enc_recode.specs.Chunk.{HasRecoded, StopsWithin, bytes_from, remaining_bytes}
@@ -23,14 +23,14 @@ use Rattle.enc_recode.proofs.ChunkLemmas.{HasRecoded-none, HasRecoded-more, HasR
 -- a run after so many pulls that have each given a byte or more, all of which are recoded
 pub record HasRun (from to : Encoding) (told_before told taken_before taken : Option (List ℕ)) (decoder : DecoderState) (encoder : EncoderState) (replaced : Bool) (pulls : ℕ) : Type 0 where
   pub bytes : List ℕ
-  pub made : HasRecoded (fresh Sniff from) decoder (fresh_encoder to) encoder bytes [] false false taken_before taken replaced
+  pub made : HasRecoded (fresh Sniff from) decoder (fresh_encoder [] to) encoder bytes [] false false taken_before taken replaced
   pub read : TellsNext told_before told bytes
   pub enough : pulls ≤ length bytes
 
-pub HasRun-start : (from to : Encoding) (told taken : Option (List ℕ)) → HasRun from to told told taken taken (fresh Sniff from) (fresh_encoder to) false 0
+pub HasRun-start : (from to : Encoding) (told taken : Option (List ℕ)) → HasRun from to told told taken taken (fresh Sniff from) (fresh_encoder [] to) false 0
 HasRun-start from to told taken = record {
   bytes = [];
-  made = HasRecoded-none (fresh Sniff from) (fresh_encoder to) [] false taken;
+  made = HasRecoded-none (fresh Sniff from) (fresh_encoder [] to) [] false taken;
   read = TellsNext-none told;
   enough = omega arith;
 }
@@ -42,24 +42,24 @@ pub HasRun-more : (from to : Encoding) (t₀ t₁ t₂ k₀ k₁ k₂ : Option (
 HasRun-more from to t₀ t₁ t₂ k₀ k₁ k₂ old new before after r₁ r₂ pulls x true p t q e some = not_ended (sym e)
 HasRun-more from to t₀ t₁ t₂ k₀ k₁ k₂ old new before after r₁ r₂ pulls x false p t q e some = record {
   bytes = p.bytes ++ x;
-  made = HasRecoded-more (fresh Sniff from) old new (fresh_encoder to) before after p.bytes x false k₀ k₁ k₂ r₁ r₂ p.made q;
+  made = HasRecoded-more (fresh Sniff from) old new (fresh_encoder [] to) before after p.bytes x false k₀ k₁ k₂ r₁ r₂ p.made q;
   read = TellsNext-then t₀ t₁ t₂ p.bytes x p.read t;
   enough = rw (length-append p.bytes x) (omega (arith, p.enough));
 }
 
 -- What a run owes is what its decoder and its encoder do that have read nothing.
-owed_is : (from to : Encoding) (bytes : List ℕ) → recoded from to bytes ≡ remaining_bytes (fresh Sniff from) (fresh_encoder to) bytes
+owed_is : (from to : Encoding) (bytes : List ℕ) → recoded from to bytes ≡ remaining_bytes (fresh Sniff from) (fresh_encoder [] to) bytes
 owed_is from to bytes =
-    ap (λ rule. bytes_of_text rule Ascii (with_references rule (whole_text from bytes))) (sym (output_rule_is to))
-    ∙ ap (λ ss. bytes_from (fresh_encoder to) (text_of ss)) (fresh_sequences Sniff from bytes)
+    ap (λ rule. bytes_of_text rule Ascii (with_references rule (whole_text from bytes))) (sym (output_rule_is [] to))
+    ∙ ap (λ ss. bytes_from (fresh_encoder [] to) (text_of ss)) (fresh_sequences Sniff from bytes)
 
 -- At the end nothing is owed.
 none_owed : (e : EncoderState) → e.set ≡ Ascii → bytes_from e [] ≡ []
-none_owed e h = ap (λ (s : CharacterSet). escape_at_end ((output_rule e.encoding).set_after s [])) h ∙ none_due e.encoding
+none_owed e h = ap (λ (s : CharacterSet). escape_at_end ((raw_state e).rule.set_after s [])) h ∙ none_due e.barred e.encoding
 
 -- a run that has come to the end
 module _ (from to : Encoding) (bytes : List ℕ) (decoder : DecoderState) (encoder : EncoderState) (k₀ k₁ : Option (List ℕ)) (r : Bool)
-    (p : HasRecoded (fresh Sniff from) decoder (fresh_encoder to) encoder bytes [] true true k₀ k₁ r) (f : finished decoder ≡ true) (s : encoder.set ≡ Ascii) where
+    (p : HasRecoded (fresh Sniff from) decoder (fresh_encoder [] to) encoder bytes [] true true k₀ k₁ r) (f : finished decoder ≡ true) (s : encoder.set ≡ Ascii) where
   all_done : whole_sequences Sniff from bytes ≡ p.decoded.done
   all_done =
       fresh_sequences Sniff from bytes ∙ ap (remaining_sequences (fresh Sniff from)) (sym (append-nil bytes)) ∙ p.decoded.residual [] (λ _. refl)
@@ -71,15 +71,15 @@ module _ (from to : Encoding) (bytes : List ℕ) (decoder : DecoderState) (encod
   pub bytes_are : p.encoded.wrote ≡ recoded from to bytes
   bytes_are =
       sym (append-nil p.encoded.wrote) ∙ ap (λ t. p.encoded.wrote ++ t) (sym (none_owed encoder s))
-      ∙ sym (p.encoded.encoded.residual [] (λ _. refl)) ∙ ap (bytes_from (fresh_encoder to)) (append-nil p.text ∙ text_is)
-      ∙ ap (λ rule. bytes_of_text rule Ascii (with_references rule (whole_text from bytes))) (output_rule_is to)
+      ∙ sym (p.encoded.encoded.residual [] (λ _. refl)) ∙ ap (bytes_from (fresh_encoder [] to)) (append-nil p.text ∙ text_is)
+      ∙ ap (λ rule. bytes_of_text rule Ascii (with_references rule (whole_text from bytes))) (output_rule_is [] to)
 
   pub flag_is : r ≡ any_replaced from to bytes
   flag_is =
       p.flag ∙ ap (λ m. m || p.unmappable) (p.decoded.flag ∙ ap any_malformed (sym all_done))
       ∙ ap (λ u. any_malformed (whole_sequences Sniff from bytes) || u)
-      (p.encoded.encoded.flag ∙ ap (any_unmappable (output_rule (fresh_encoder to).encoding)) (sym (append-nil p.encoded.encoded.front) ∙ sym p.encoded.encoded.reads ∙ text_is)
-      ∙ ap (λ rule. any_unmappable rule (whole_text from bytes)) (output_rule_is to))
+      (p.encoded.encoded.flag ∙ ap (any_unmappable (raw_state (fresh_encoder [] to)).rule) (sym (append-nil p.encoded.encoded.front) ∙ sym p.encoded.encoded.reads ∙ text_is)
+      ∙ ap (λ rule. any_unmappable rule (whole_text from bytes)) (output_rule_is [] to))
 
 -- the end
 pub RunsToEnd-last : (from to : Encoding) (t₀ t₁ t₂ k₀ k₁ k₂ : Option (List ℕ)) (old new : DecoderState) (before after : EncoderState) (r₁ r₂ : Bool) (pulls : ℕ) (x : List ℕ) (last : Bool)
@@ -87,7 +87,7 @@ pub RunsToEnd-last : (from to : Encoding) (t₀ t₁ t₂ k₀ k₁ k₂ : Optio
     → last ≡ true → finished new ≡ last → (last ≡ true → after.set ≡ Ascii) → RunsToEnd from to t₀ t₂ k₀ k₂ (r₁ || r₂)
 RunsToEnd-last from to t₀ t₁ t₂ k₀ k₁ k₂ old new before after r₁ r₂ pulls x false p t end q e f s = not_ended e
 RunsToEnd-last from to t₀ t₁ t₂ k₀ k₁ k₂ old new before after r₁ r₂ pulls x true p t end q e f s =
-    let made = HasRecoded-more (fresh Sniff from) old new (fresh_encoder to) before after p.bytes x true k₀ k₁ k₂ r₁ r₂ p.made q in
+    let made = HasRecoded-more (fresh Sniff from) old new (fresh_encoder [] to) before after p.bytes x true k₀ k₁ k₂ r₁ r₂ p.made q in
     let read = TellsNext-then t₀ t₁ t₂ p.bytes x p.read t in
     record {
       bytes = p.bytes ++ x;
@@ -110,7 +110,7 @@ RunsToFault-between from to t₀ t₁ k₀ k₁ decoder encoder r pulls p = reco
   prefix = λ z h. (
     remaining_bytes decoder encoder z,
     owed_is from to (p.bytes ++ z)
-        ∙ HasRecoded-owed (fresh Sniff from) decoder (fresh_encoder to) encoder p.bytes [] false k₀ k₁ r p.made z h,
+        ∙ HasRecoded-owed (fresh Sniff from) decoder (fresh_encoder [] to) encoder p.bytes [] false k₀ k₁ r p.made z h,
   );
 }
 
@@ -130,8 +130,8 @@ RunsToFault-within from to t₀ t₁ t₂ k₀ k₁ k₂ decoder encoder r pulls
       written = TakesMore-then k₀ k₁ k₂ wrote q.wrote p.made.encoded.taken q.taken;
       prefix = λ z h. (
         q.unwritten z h,
-        owed_is from to ((p.bytes ++ x) ++ z) ∙ ap (remaining_bytes (fresh Sniff from) (fresh_encoder to)) (append_assoc p.bytes x z)
-            ∙ HasRecoded-owed (fresh Sniff from) decoder (fresh_encoder to) encoder p.bytes [] false k₀ k₁ r p.made (x ++ z) (λ f. not_ended f)
+        owed_is from to ((p.bytes ++ x) ++ z) ∙ ap (remaining_bytes (fresh Sniff from) (fresh_encoder [] to)) (append_assoc p.bytes x z)
+            ∙ HasRecoded-owed (fresh Sniff from) decoder (fresh_encoder [] to) encoder p.bytes [] false k₀ k₁ r p.made (x ++ z) (λ f. not_ended f)
             ∙ ap (λ w. wrote ++ w) (q.prefix z h) ∙ sym (append_assoc wrote q.wrote (q.unwritten z h)),
       );
     }

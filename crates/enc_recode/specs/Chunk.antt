@@ -5,14 +5,13 @@ use Rattle.enc_encoders.specs.declared.character_set.CharacterSet.TheVariants.{A
 use Rattle.enc_encoders.specs.Text.{bytes_of_text, with_references}
 use Rattle.enc_references.specs.Unmappable.{any_unmappable}
 use Rattle.encoding_rs.specs.declared.encoding.TheConstants.{UTF_8}
-use Rattle.encoding_rs.specs.Encodings.{output_rule}
 use Rattle.encoding_rs.specs.Decoding.{DecoderState, remaining_sequences}
-use Rattle.encoding_rs.specs.Encoder.{EncoderState}
+use Rattle.encoding_rs.specs.Encoder.{EncoderState, raw_state}
 use Rattle.enc_recode.specs.Sink.{TakesMore}
 
 -- the bytes of a text that is still to be encoded, with references in the place of unmappable characters
 abbrev pub bytes_from : EncoderState → List ℕ → List ℕ
-bytes_from state text = bytes_of_text (output_rule state.encoding) state.set (with_references (output_rule state.encoding) text)
+bytes_from state text = bytes_of_text (raw_state state).rule state.set (with_references (raw_state state).rule text)
 
 -- the bytes still to be written if these bytes are all that follows
 abbrev pub remaining_bytes : DecoderState → EncoderState → List ℕ → List ℕ
@@ -21,12 +20,13 @@ remaining_bytes decoder encoder y = bytes_from encoder (text_of (remaining_seque
 -- What an encoder makes of a text, of which these characters are unread; where `last`, nothing follows them.
 pub record EncodesText (old new : EncoderState) (text unread : List ℕ) (last : Bool) (wrote : List ℕ) (replaced : Bool) : Type 0 where
   pub encoding : new.encoding ≡ old.encoding
+  pub barred : new.barred ≡ old.barred
   -- the characters that are read
   pub front : List ℕ
   pub reads : text ≡ front ++ unread
   -- the bytes to be written before are those that are written and those still to be written now
   pub residual : (z : List ℕ) → (last ≡ true → z ≡ []) → bytes_from old (text ++ z) ≡ wrote ++ bytes_from new (unread ++ z)
-  pub flag : replaced ≡ any_unmappable (output_rule old.encoding) front
+  pub flag : replaced ≡ any_unmappable (raw_state old).rule front
 
 -- What a decoder makes of some bytes, of which these are unread; where `last`, nothing follows them.
 pub record DecodesBytes (old new : DecoderState) (src unread : List ℕ) (last : Bool) (text : List ℕ) (malformed : Bool) : Type 0 where
@@ -62,7 +62,8 @@ pub record StopsWithin (owed : List ℕ → List ℕ) (chunk : List ℕ) (last :
   pub prefix : (z : List ℕ) (h : last ≡ true → z ≡ []) → owed (chunk ++ z) ≡ wrote ++ unwritten z h
   pub taken : TakesMore taken_before taken_after wrote
 
--- UTF-8 is written as it is, and has no character set but ASCII. In other encodings 14 bytes are enough to go on.
+-- UTF-8 is written as it is: it has no character set but ASCII, and no character is barred. In other encodings 14 bytes are enough to
+-- go on.
 pub record CanWrite (state : EncoderState) (room : ℕ) : Type 0 where
-  pub utf_8 : state.encoding ≡ UTF_8 → state.set ≡ Ascii
+  pub utf_8 : state.encoding ≡ UTF_8 → (state.set ≡ Ascii) × (state.barred ≡ [])
   pub others : ¬ (state.encoding ≡ UTF_8) → 14 ≤ room

@@ -20,11 +20,11 @@ whole_text from bytes = text_of (whole_sequences Sniff from bytes)
 
 -- its bytes in the output encoding, with decimal references in the place of unmappable characters
 abbrev pub recoded : Encoding → Encoding → List ℕ → List ℕ
-recoded from to bytes = whole_bytes to (whole_text from bytes)
+recoded from to bytes = whole_bytes [] to (whole_text from bytes)
 
 -- whether something in a whole input is malformed, or unmappable in the output encoding
 abbrev pub any_replaced : Encoding → Encoding → List ℕ → Bool
-any_replaced from to bytes = whole_malformed Sniff from bytes || any_unmappable (output_rule to) (whole_text from bytes)
+any_replaced from to bytes = whole_malformed Sniff from bytes || any_unmappable (output_rule [] to) (whole_text from bytes)
 
 -- A run that has come to the end of its source, by what the source told and what the sink had taken,
 -- before the run and after it.

@@ -166,7 +166,7 @@ fn run_through<R: Source, W: Sink>(
 ) -> Result<bool, RecodeFault>
     requires some { 0 < length input.old }
     requires text_room { 4 ≤ length text.old }
-    requires room { CanWrite (fresh_encoder to) (length output.old) }
+    requires room { CanWrite (fresh_encoder [] to) (length output.old) }
     ensures ok { IfOk result (RunsToEnd from to (R.told reader.old) (R.told reader.new)
         (W.taken writer.old) (W.taken writer.new)) }
     ensures reader_kept { OnOk result (R.has_failed reader.new ≡ R.has_failed reader.old) }

@@ -23,8 +23,8 @@ pub fn encode_reporting<E: RawEncoder, C: Chars>(
     encoder.encode(src, dst, last)
 }
 
-/// A call of an encoder that has no unmappable character, as UTF-8 has none: no bytes are kept back for references. It answers
-/// why it stopped, how many code units it has read, and how many bytes it has written. Takes no memory.
+/// A call of an encoder that has no unmappable character, as UTF-8 has none where none is barred: no bytes are kept back for
+/// references. It answers why it stopped, how many code units it has read, and how many bytes it has written. Takes no memory.
 pub fn encode_all<E: RawEncoder, C: Chars>(
     encoder: &mut E,
     src: &mut C,

@@ -1,4 +1,5 @@
 pub mod BackLemmas
+pub mod BarringBack
 pub mod PointerLemmas
 pub mod OneByteBack
 pub mod DoubleByteBack

@@ -1,5 +1,5 @@
 -- What each encoder writes, its decoder reads back: the one proof that goes through all codecs.
-use Rattle.std.proofs.Common.{◌≡◌, ℕ, true, false, Option, Some, None, List, [], ◌∷◌, map, refl, ap, subst, ◌∙◌}
+use Rattle.std.proofs.Common.{◌≡◌, ℕ, true, false, Option, Some, None, List, [], ◌∷◌, map, refl, ap, sym, subst, ◌∙◌}
 use Rattle.enc_units.specs.Output.{AreScalars}
 use Rattle.enc_machine.specs.Sequence.{text_of}
 use Rattle.enc_machine.specs.Segmentation.{sequences_of}
@@ -9,10 +9,12 @@ use Rattle.enc_codec.specs.Codecs.{codec_rule}
 use Rattle.enc_encoders.specs.declared.character_set.CharacterSet.TheVariants.{Ascii}
 use Rattle.enc_encoders.specs.EncoderRule.{EncoderRule}
 use Rattle.enc_encoders.specs.Text.{bytes_of_text}
+use Rattle.enc_encoders.specs.Barring.{barring}
 use Rattle.enc_encode.specs.Encoders.{encoder_rule}
 use Rattle.enc_references.specs.Unmappable.{any_unmappable}
 use Rattle.enc_round_trip.specs.RoundTrip.{read_back, keeps_characters}
 use Rattle.enc_round_trip.proofs.BackLemmas.{IsReadAs, text_is_read}
+use Rattle.enc_round_trip.proofs.BarringBack.{except_is_read, still_mapped, same_bytes_behind}
 use Rattle.enc_round_trip.proofs.OneByteBack.{utf_8_is_read, single_byte_is_read, x_user_defined_is_read}
 use Rattle.enc_round_trip.proofs.DoubleByteBack.{euc_kr_is_read, big5_is_read}
 use Rattle.enc_round_trip.proofs.ShiftJisBack.{shift_jis_is_read}
@@ -34,15 +36,17 @@ read_if_any Big5 = text_is_read _ _ _ big5_is_read
 read_if_any EucKr = text_is_read _ _ _ euc_kr_is_read
 read_if_any ShiftJis = text_is_read _ _ _ shift_jis_is_read
 read_if_any EucJp = text_is_read _ _ _ euc_jp_is_read
-read_if_any Gbk = text_is_read _ _ _ (gb18030_is_read true)
-read_if_any Gb18030 = text_is_read _ _ _ (gb18030_is_read false)
+read_if_any Gbk = text_is_read _ _ _ (except_is_read (0xE5E5 ∷ []) _ _ _ (gb18030_is_read true))
+read_if_any Gb18030 = text_is_read _ _ _ (except_is_read (0xE5E5 ∷ []) _ _ _ (gb18030_is_read false))
 read_if_any XUserDefined = text_is_read _ _ _ x_user_defined_is_read
 read_if_any Iso2022Jp = λ t s m. iso_2022_jp_is_read t m
 
--- by the rule that the codec has
-pub is_read : (c : Codec) (e : EncoderRule) (t : List ℕ) → encoder_rule c ≡ Some e → AreScalars t → any_unmappable e t ≡ false
-    → IsReadAs (codec_rule c) 0 (bytes_of_text e Ascii t) (map (read_back c) t)
-is_read c e t q = (subst (IsReadIfAny c) q (read_if_any c)) t
+-- by the rule that the codec has, whatever is barred
+pub is_read : (c : Codec) (b : List ℕ) (e : EncoderRule) (t : List ℕ) → encoder_rule c ≡ Some e → AreScalars t → any_unmappable (barring b e) t ≡ false
+    → IsReadAs (codec_rule c) 0 (bytes_of_text (barring b e) Ascii t) (map (read_back c) t)
+is_read c b e t q s m =
+    subst (λ y. IsReadAs (codec_rule c) 0 y (map (read_back c) t)) (sym (same_bytes_behind b e Ascii [] t m))
+    ((subst (IsReadIfAny c) q (read_if_any c)) t s (still_mapped b e t m))
 
 -- each character is read back as itself, where the codec keeps characters
 
@@ -56,6 +60,6 @@ keeps EucJp h n = cc
 keeps Iso2022Jp h n = cc
 keeps _ h n = refl
 
-pub same_text : (c : Codec) (e : EncoderRule) (t : List ℕ) → encoder_rule c ≡ Some e → AreScalars t → any_unmappable e t ≡ false → keeps_characters c ≡ true
-    → text_of (sequences_of (codec_rule c) 0 (bytes_of_text e Ascii t)) ≡ t
-same_text c e t q s m k = (is_read c e t q s m).text ∙ map_of (read_back c) (keeps c k) t
+pub same_text : (c : Codec) (b : List ℕ) (e : EncoderRule) (t : List ℕ) → encoder_rule c ≡ Some e → AreScalars t → any_unmappable (barring b e) t ≡ false → keeps_characters c ≡ true
+    → text_of (sequences_of (codec_rule c) 0 (bytes_of_text (barring b e) Ascii t)) ≡ t
+same_text c b e t q s m k = (is_read c b e t q s m).text ∙ map_of (read_back c) (keeps c k) t

@@ -4,6 +4,7 @@ ghost use Rattle.std.specs.Prelude.{◌≡◌, ℕ, true, false, Some, List, map
 ghost use Rattle.enc_codec.specs.Codecs.{codec_rule};
 ghost use Rattle.enc_encode.specs.Encoders.{encoder_rule};
 ghost use Rattle.enc_encoders.specs.EncoderRule.{EncoderRule};
+ghost use Rattle.enc_encoders.specs.Barring.{barring};
 ghost use Rattle.enc_encoders.specs.Text.{bytes_of_text};
 ghost use Rattle.enc_encoders.specs.declared.character_set.CharacterSet.TheVariants.{Ascii};
 ghost use Rattle.enc_machine.specs.Segmentation.{sequences_of};
@@ -15,19 +16,23 @@ ghost use Rattle.enc_units.specs.Output.{AreScalars};
 use enc_codec::Codec;
 
 /// The bytes of a text whose characters are all mappable are read back by the decoder of the same codec, whatever rows
-/// stand in the indexes (Encoding Standard 4.1, an encoder and then a decoder; it looks for no byte order mark).
+/// stand in the indexes, and whatever characters are barred (Encoding Standard 4.1, an encoder and then a decoder; it looks
+/// for no byte order mark).
 pub fn written_text_is_read_back(codec: Codec)
     // No sequence of them is malformed.
-    ensures well_formed { (e : EncoderRule) (text : List ℕ) → encoder_rule codec ≡ Some e → AreScalars text → any_unmappable e text ≡ false
-        → any_malformed (sequences_of (codec_rule codec) 0 (bytes_of_text e Ascii text)) ≡ false }
+    ensures well_formed { (barred : List ℕ) (e : EncoderRule) (text : List ℕ) → encoder_rule codec ≡ Some e → AreScalars text
+        → any_unmappable (barring barred e) text ≡ false
+        → any_malformed (sequences_of (codec_rule codec) 0 (bytes_of_text (barring barred e) Ascii text)) ≡ false }
 
     // Their text is what is read back of each character.
-    ensures characters { (e : EncoderRule) (text : List ℕ) → encoder_rule codec ≡ Some e → AreScalars text → any_unmappable e text ≡ false
-        → text_of (sequences_of (codec_rule codec) 0 (bytes_of_text e Ascii text)) ≡ map (read_back codec) text }
+    ensures characters { (barred : List ℕ) (e : EncoderRule) (text : List ℕ) → encoder_rule codec ≡ Some e → AreScalars text
+        → any_unmappable (barring barred e) text ≡ false
+        → text_of (sequences_of (codec_rule codec) 0 (bytes_of_text (barring barred e) Ascii text)) ≡ map (read_back codec) text }
 
     // That is the text itself, except in Shift_JIS, EUC-JP and ISO-2022-JP.
-    ensures same_text { (e : EncoderRule) (text : List ℕ) → encoder_rule codec ≡ Some e → AreScalars text → any_unmappable e text ≡ false
-        → keeps_characters codec ≡ true → text_of (sequences_of (codec_rule codec) 0 (bytes_of_text e Ascii text)) ≡ text }
+    ensures same_text { (barred : List ℕ) (e : EncoderRule) (text : List ℕ) → encoder_rule codec ≡ Some e → AreScalars text
+        → any_unmappable (barring barred e) text ≡ false → keeps_characters codec ≡ true
+        → text_of (sequences_of (codec_rule codec) 0 (bytes_of_text (barring barred e) Ascii text)) ≡ text }
 {
     let _ = codec;
 }

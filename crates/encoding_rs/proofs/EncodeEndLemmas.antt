@@ -15,9 +15,8 @@ use Rattle.enc_references.specs.Treatment.{CallBy}
 use Rattle.enc_references.proofs.NeedLemmas.{kept_by, takes_step}
 use Rattle.encoding_rs.specs.declared.encoding.Encoding.{Encoding}
 use Rattle.encoding_rs.specs.declared.encode_run.EncodeCall.{EncodeCall}
-use Rattle.encoding_rs.specs.Encodings.{codec_by_id}
 use Rattle.encoding_rs.specs.Properties.{output_encoding_of}
-use Rattle.encoding_rs.specs.Encoder.{EncoderState, kept_by_id, raw_state}
+use Rattle.encoding_rs.specs.Encoder.{EncoderState, kept_in, raw_state}
 use Rattle.encoding_rs.specs.EncodeRun.{treatment_by, is_empty, MakesCall, EncodeState, encode_start, GoesOn, IsEncodeRun}
 use Rattle.encoding_rs.specs.EncodeEnd.{least_room, GoesFurther}
 use Rattle.encoding_rs.specs.Run.{units_by}
@@ -28,9 +27,9 @@ use Rattle.encoding_rs.proofs.EncodeRunLemmas.{nothing_later, behind_call, left_
 abbrev to_come : EncoderState → List ℕ → ℕ
 to_come v unread = length (steps_from (raw_state v) true unread)
 
-room_for : (e : Encoding) (v : EncoderState) (replace : Bool) → v.encoding ≡ output_encoding_of e → 4 + kept_by (treatment_by replace v) ≡ least_room e replace
-room_for e v true q = ap (λ (x : Encoding). 4 + kept_by_id x.id) q
-room_for e v false q = refl
+room_for : (b : List ℕ) (e : Encoding) (v : EncoderState) (replace : Bool) → v.encoding ≡ output_encoding_of e → v.barred ≡ b → 4 + kept_by (treatment_by replace v) ≡ least_room b e replace
+room_for b e v true q h = ap (λ (x : Encoding). 4 + kept_in v.barred x) q ∙ ap (λ l. 4 + kept_in l (output_encoding_of e)) h
+room_for b e v false q h = refl
 
 some_read : (src rest : List ℕ) (done : List Step) → src ≡ chars_of done ++ rest → rest ≡ [] → 1 ≤ length src → 1 ≤ length done
 some_read src rest (p ∷ done) r e l = omega arith
@@ -46,8 +45,8 @@ more_left true b h e = absurd (false≢true (sym h ∙ e))
 more_left false b h e = refl
 
 -- A call that doesn't end the run takes a step.
-module _ (e : Encoding) (made : EncodeCall) (old new : EncoderState) (unread before after : List ℕ) (result : EncoderResult) (more : ℕ) (replaced : Bool)
-    (lawful : IsLawful (raw_state old).rule) (encoding : old.encoding ≡ output_encoding_of e) (further : GoesFurther e made)
+module _ (b : List ℕ) (e : Encoding) (made : EncodeCall) (old new : EncoderState) (unread before after : List ℕ) (result : EncoderResult) (more : ℕ) (replaced : Bool)
+    (lawful : IsLawful (raw_state old).rule) (encoding : old.encoding ≡ output_encoding_of e) (barred : old.barred ≡ b) (further : GoesFurther b e made)
     (call : MakesCall made old new unread before after result more replaced) (goes_on : (nat_le (length unread) made.offer && is_empty result) ≡ false) where
   abbrev last : Bool
   last = nat_le (length unread) made.offer
@@ -66,7 +65,7 @@ module _ (e : Encoding) (made : EncodeCall) (old new : EncoderState) (unread bef
   some_done = elim (empty_or_not result) [
     | inl q ↦ when_empty q.1
     | inr n ↦ takes_step (raw_state new) (subst IsLawful (sym raw.rule) lawful) call.encodes.rest last made.room (treatment_by made.replace old)
-        (omega (arith, room_for e old made.replace encoding, further.roomy)) raw.done result n raw.stops
+        (omega (arith, room_for b e old made.replace encoding barred, further.roomy)) raw.done result n raw.stops
   ]
 
   fewer : to_come new (drop more unread) < to_come old unread
@@ -87,20 +86,20 @@ ended text (call ∷ calls) a b r f = absurd (false≢true (sym r.1.not_finished
 abbrev left : List ℕ → EncodeState → ℕ
 left text s = to_come s.encoder (drop s.read text)
 
-one_fewer : (e : Encoding) (text : List ℕ) (call : EncodeCall) (a b : EncodeState) → IsLawful (raw_state a.encoder).rule → a.encoder.encoding ≡ output_encoding_of e → GoesFurther e call
-    → GoesOn text call a b → b.finished ≡ false → left text b < left text a
-one_fewer e text call a b l q h g f =
-    let less = fewer e call a.encoder b.encoder (drop a.read text) a.bytes b.bytes g.result g.more g.replaced l q h g.call (sym g.finished ∙ f) in
+one_fewer : (l : List ℕ) (e : Encoding) (text : List ℕ) (call : EncodeCall) (a b : EncodeState) → IsLawful (raw_state a.encoder).rule → a.encoder.encoding ≡ output_encoding_of e
+    → a.encoder.barred ≡ l → GoesFurther l e call → GoesOn text call a b → b.finished ≡ false → left text b < left text a
+one_fewer l e text call a b w q r h g f =
+    let less = fewer l e call a.encoder b.encoder (drop a.read text) a.bytes b.bytes g.result g.more g.replaced w q r h g.call (sym g.finished ∙ f) in
     let behind : drop g.more (drop a.read text) ≡ drop b.read text = drop-drop g.more a.read text ∙ ap (λ n. drop n text) (sym g.read) in
     omega (arith, less, ap (to_come b.encoder) behind)
 
 -- so a run has no more calls than steps, and one that ends it
-goes : (e : Encoding) (text : List ℕ) (calls : List EncodeCall) (a b : EncodeState) → IsLawful (raw_state a.encoder).rule → a.encoder.encoding ≡ output_encoding_of e
-    → All (GoesFurther e) calls → IsEncodeRun text calls a b → (length calls ≤ left text a + 1) × (b.finished ≡ false → length calls ≤ left text a)
-goes e text [] a b l q h r = (omega arith, λ f. omega arith)
-goes e text (call ∷ calls) a b l q h r =
+goes : (l : List ℕ) (e : Encoding) (text : List ℕ) (calls : List EncodeCall) (a b : EncodeState) → IsLawful (raw_state a.encoder).rule → a.encoder.encoding ≡ output_encoding_of e
+    → a.encoder.barred ≡ l → All (GoesFurther l e) calls → IsEncodeRun text calls a b → (length calls ≤ left text a + 1) × (b.finished ≡ false → length calls ≤ left text a)
+goes l e text [] a b w q k h r = (omega arith, λ f. omega arith)
+goes l e text (call ∷ calls) a b w q k h r =
     by_end r.0.finished refl
-    (goes e text calls r.0 b (subst IsLawful (sym r.1.call.encodes.call.rule) l) (r.1.call.encodes.encoding ∙ q) (All-tail (GoesFurther e) call calls h) r.2)
+    (goes l e text calls r.0 b (subst IsLawful (sym r.1.call.encodes.call.rule) w) (r.1.call.encodes.encoding ∙ q) (r.1.call.encodes.barred ∙ k) (All-tail (GoesFurther l e) call calls h) r.2)
   where
     by_end : (f : Bool) → r.0.finished ≡ f → (length calls ≤ left text r.0 + 1) × (b.finished ≡ false → length calls ≤ left text r.0)
         → (length (call ∷ calls) ≤ left text a + 1) × (b.finished ≡ false → length (call ∷ calls) ≤ left text a)
@@ -108,21 +107,21 @@ goes e text (call ∷ calls) a b l q h r =
         let none = ended text calls r.0 b r.2 f in
         (omega (arith, none.0), λ g. absurd (false≢true (sym g ∙ none.1)))
     by_end false f further =
-        let less = one_fewer e text call a r.0 l q (All-head (GoesFurther e) call calls h) r.1 f in
+        let less = one_fewer l e text call a r.0 w q k (All-head (GoesFurther l e) call calls h) r.1 f in
         (omega (arith, less, further.0), λ g. omega (arith, less, further.1 g))
 
 -- Two calls for each character, and two more, are enough.
-pub ends : (e : Encoding) (text : List ℕ) (calls : List EncodeCall) (n : ℕ) (b : EncodeState) → n ≤ length calls → (b.finished ≡ true) ⊎ (n ≡ length calls)
-    → IsEncodeRun text (take n calls) (encode_start e) b → All (GoesFurther e) calls → (n ≤ 2 * length text + 2) × (2 * length text + 2 ≤ length calls → b.finished ≡ true)
-ends e text calls n b l m r h =
-    let start = encode_start e in
-    let lawful = lawful_of (codec_by_id (output_encoding_of e).id) in
-    let bound = goes e text (take n calls) start b lawful refl (All-take (GoesFurther e) n calls h) r in
+pub ends : (l : List ℕ) (e : Encoding) (text : List ℕ) (calls : List EncodeCall) (n : ℕ) (b : EncodeState) → n ≤ length calls → (b.finished ≡ true) ⊎ (n ≡ length calls)
+    → IsEncodeRun text (take n calls) (encode_start l e) b → All (GoesFurther l e) calls → (n ≤ 2 * length text + 2) × (2 * length text + 2 ≤ length calls → b.finished ≡ true)
+ends l e text calls n b w m r h =
+    let start = encode_start l e in
+    let lawful = lawful_of l (output_encoding_of e) in
+    let bound = goes l e text (take n calls) start b lawful refl refl (All-take (GoesFurther l e) n calls h) r in
     let few : left text start ≤ 2 * length text + 1 = few_steps (raw_state start.encoder).rule true text start.encoder.set in
-    let count : length (take n calls) ≡ n = omega (arith, l, length-take n calls) in
+    let count : length (take n calls) ≡ n = omega (arith, w, length-take n calls) in
     (omega (arith, bound.0, few, count), λ enough. by_finished b.finished refl bound.1 few count enough)
   where
-    by_finished : (f : Bool) → b.finished ≡ f → (b.finished ≡ false → length (take n calls) ≤ left text (encode_start e)) → left text (encode_start e) ≤ 2 * length text + 1
+    by_finished : (f : Bool) → b.finished ≡ f → (b.finished ≡ false → length (take n calls) ≤ left text (encode_start l e)) → left text (encode_start l e) ≤ 2 * length text + 1
         → length (take n calls) ≡ n → 2 * length text + 2 ≤ length calls → b.finished ≡ true
     by_finished true f bound few count enough = f
     by_finished false f bound few count enough = elim m [

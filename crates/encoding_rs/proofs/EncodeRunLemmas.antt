@@ -8,7 +8,6 @@ use Rattle.std.proofs.Math.Seq.{drop-append_seam}
 use Rattle.std.proofs.lemmas.Str.{encodes-chars, length-encode, len_utf8_bounds}
 use Rattle.std.specs.Char.{encode_utf8}
 use Rattle.std.specs.Str.{IsUtf8, encode_utf8_all}
-use Rattle.enc_encode.specs.Encoders.{encoder_rule}
 use Rattle.enc_encoders.specs.declared.character_set.CharacterSet.TheVariants.{Ascii}
 use Rattle.enc_encoders.specs.declared.encoder_result.EncoderResult.{EncoderResult}
 use Rattle.enc_encoders.specs.declared.encoder_result.EncoderResult.TheVariants.{InputEmpty, OutputFull, Unmappable}
@@ -21,55 +20,40 @@ use Rattle.enc_encoders.proofs.TextLemmas.{parted}
 use Rattle.enc_references.specs.Treatment.{Treatment, Reported, Replaced, is_replaced, CallBy, StopsBy}
 use Rattle.enc_references.specs.Unmappable.{any_unmappable, reports_of}
 use Rattle.enc_references.proofs.UnmappableLemmas.{reports_by, reports_in, reports_in-append, any_reported_is, reports_are, any_unmappable-append, reports_of-append}
-use Rattle.encoding_rs.specs.declared.encoding.Id.{Id}
-use Rattle.encoding_rs.specs.declared.encoding.Id.TheVariants as id
 use Rattle.encoding_rs.specs.declared.encoding.Encoding.{Encoding}
 use Rattle.encoding_rs.specs.declared.encode_run.EncodeCall.{EncodeCall}
-use Rattle.encoding_rs.specs.Properties.{output_by_id}
-use Rattle.encoding_rs.specs.Encodings.{codec_by_id, or_utf_8, output_rule}
-use Rattle.encoding_rs.specs.Encoder.{EncoderState, kept_by_id, fresh_encoder, raw_state, Encodes}
+use Rattle.encoding_rs.specs.Encodings.{output_rule}
+use Rattle.encoding_rs.specs.Encoder.{EncoderState, kept_in, fresh_encoder, raw_state, Encodes}
 use Rattle.enc_units.specs.Output.{units_of_text}
 use Rattle.encoding_rs.specs.Run.{units_by}
 use Rattle.enc_machine.proofs.SequenceLemmas.{or_false}
 use Rattle.encoding_rs.proofs.ReferenceLemmas.{lawful_of}
+use Rattle.encoding_rs.proofs.ProgressLemmas.{output_rule_is}
 use Rattle.encoding_rs.proofs.RunLemmas.{map-one, first_flag, rest_flags, no_flags, reaches}
 use Rattle.encoding_rs.specs.EncodeRun.{treatment_by, report_of, is_report, is_empty, MakesCall, EncodeState, encode_start, GoesOn, IsEncodeRun, whole_bytes, EncodePart, chars_in, reported_in, all_report, HasEncoded}
-
--- the rule by which a run writes
-
-rule_by : Id → EncoderRule
-rule_by i = or_utf_8 (encoder_rule (codec_by_id i))
-
-same_rule : (i : Id) → rule_by (output_by_id i) ≡ rule_by i
-unfolding rule_by
-same_rule id.Replacement = refl
-same_rule id.Utf16be = refl
-same_rule id.Utf16le = refl
-same_rule _ = refl
 
 -- an empty text has no bytes
 nothing_of : (e : EncoderRule) → IsLawful e → bytes_of_text e Ascii [] ≡ []
 nothing_of e l = ap escape_at_end (l.set_after_none Ascii)
 
 -- What the calls of a run have come to: what is written, and what is still to come.
-pub record Written (e : Encoding) (text : List ℕ) (calls : List EncodeCall) (s : EncodeState) : Type 0 where
+pub record Written (b : List ℕ) (e : Encoding) (text : List ℕ) (calls : List EncodeCall) (s : EncodeState) : Type 0 where
   pub parts : List EncodePart
-  pub rule : (raw_state s.encoder).rule ≡ output_rule e
+  pub rule : (raw_state s.encoder).rule ≡ output_rule b e
   pub chars : text ≡ chars_in parts ++ drop s.read text
   pub count : s.read ≡ length (chars_in parts)
   pub calls_are : map (λ (p : EncodePart). p.replaces) parts ≡ map (λ (c : EncodeCall). c.replace) calls
-  pub bytes : whole_bytes e text ≡ s.bytes ++ bytes_of_text (raw_state s.encoder).rule s.encoder.set (with_references (raw_state s.encoder).rule (drop s.read text))
-  pub reported : s.unmappables ≡ reported_in (output_rule e) parts
-  pub flag : s.had_unmappables ≡ any_unmappable (output_rule e) (chars_in parts)
+  pub bytes : whole_bytes b e text ≡ s.bytes ++ bytes_of_text (raw_state s.encoder).rule s.encoder.set (with_references (raw_state s.encoder).rule (drop s.read text))
+  pub reported : s.unmappables ≡ reported_in (output_rule b e) parts
+  pub flag : s.had_unmappables ≡ any_unmappable (output_rule b e) (chars_in parts)
   pub ended : s.finished ≡ true → (drop s.read text ≡ []) × (s.encoder.set ≡ Ascii)
 
-pub start : (e : Encoding) (text : List ℕ) → Written e text [] (encode_start e)
-unfolding same_rule rule_by
-start e text =
-    let same : output_rule e ≡ (raw_state (fresh_encoder e)).rule = sym (same_rule e.id) in
+pub start : (b : List ℕ) (e : Encoding) (text : List ℕ) → Written b e text [] (encode_start b e)
+start b e text =
+    let same : output_rule b e ≡ (raw_state (fresh_encoder b e)).rule = sym (output_rule_is b e) in
     record {
       parts = [];
-      rule = same_rule e.id;
+      rule = output_rule_is b e;
       chars = refl;
       count = refl;
       calls_are = refl;
@@ -129,7 +113,7 @@ tells : (replace : Bool) (v : EncoderState) (new : RawState) (rest : List ℕ) (
     → replaced ≡ (is_replaced (treatment_by replace v) && any_reported done) → StopsBy (treatment_by replace v) new rest last room done result
     → (report_of result ≡ (if replace then [] else reports_in done)) × ((replaced || is_report result) ≡ any_reported done)
 tells true v new rest last room done result replaced f s =
-    let none = none_told (kept_by_id v.encoding.id) new rest last room done result s in
+    let none = none_told (kept_in v.barred v.encoding) new rest last room done result s in
     (none.0, ap (λ b. replaced || b) none.1 ∙ or_false replaced ∙ f)
 tells false v new rest last room done result replaced f s =
     let told = report_is new rest last room done result s in
@@ -167,7 +151,7 @@ module _ (made : EncodeCall) (old new : EncoderState) (unread before after : Lis
       ∙ drop-append_seam (chars_of call.encodes.call.done) (call.encodes.rest ++ drop made.offer unread)
 
 -- One call more.
-module _ (e : Encoding) (text : List ℕ) (calls : List EncodeCall) (s : EncodeState) (w : Written e text calls s) (made : EncodeCall) (new : EncoderState) (after : List ℕ)
+module _ (b : List ℕ) (e : Encoding) (text : List ℕ) (calls : List EncodeCall) (s : EncodeState) (w : Written b e text calls s) (made : EncodeCall) (new : EncoderState) (after : List ℕ)
     (result : EncoderResult) (more : ℕ) (replaced : Bool) (call : MakesCall made s.encoder new (drop s.read text) s.bytes after result more replaced) where
   abbrev raw : CallBy (units_by made.utf16) (treatment_by made.replace s.encoder) (raw_state s.encoder) (raw_state new) (take made.offer (drop s.read text)) call.encodes.rest
       (nat_le (length (drop s.read text)) made.offer) made.room result call.units call.wrote replaced
@@ -188,7 +172,7 @@ module _ (e : Encoding) (text : List ℕ) (calls : List EncodeCall) (s : EncodeS
   kept_rule : (raw_state new).rule ≡ (raw_state s.encoder).rule
   kept_rule = raw.rule
 
-  written : whole_bytes e text ≡ after ++ bytes_of_text (raw_state new).rule new.set (with_references (raw_state new).rule (drop (s.read + more) text))
+  written : whole_bytes b e text ≡ after ++ bytes_of_text (raw_state new).rule new.set (with_references (raw_state new).rule (drop (s.read + more) text))
   written =
       w.bytes
       ∙ ap (λ t. s.bytes ++ bytes_of_text (raw_state s.encoder).rule s.encoder.set (with_references (raw_state s.encoder).rule t)) (sym (take-append-drop made.offer unread))
@@ -206,12 +190,12 @@ module _ (e : Encoding) (text : List ℕ) (calls : List EncodeCall) (s : EncodeS
   abbrev part : EncodePart
   part = record { replaces = made.replace; chars = chars_of raw.done }
 
-  reports : report_of result ≡ reported_by (output_rule e) part
+  reports : report_of result ≡ reported_by (output_rule b e) part
   reports =
       told.0 ∙ ap (λ t. if made.replace then [] else t) (reports_are (raw_state s.encoder) (raw_state new) _ call.encodes.rest _ raw.done raw.reads raw.rule raw.remaining
       ∙ ap (λ r. reports_of r (chars_of raw.done)) w.rule)
 
-  any : (replaced || is_report result) ≡ any_unmappable (output_rule e) (chars_of raw.done)
+  any : (replaced || is_report result) ≡ any_unmappable (output_rule b e) (chars_of raw.done)
   any =
       told.1 ∙ any_reported_is (raw_state s.encoder) (raw_state new) _ call.encodes.rest _ raw.done raw.reads raw.rule raw.remaining
       ∙ ap (λ r. any_unmappable r (chars_of raw.done)) w.rule
@@ -222,7 +206,7 @@ module _ (e : Encoding) (text : List ℕ) (calls : List EncodeCall) (s : EncodeS
       let none = left_nothing _ (raw_state new) call.encodes.rest _ made.room raw.done result raw.stops both.1 in
       (behind ∙ ap (λ t. t ++ later) none ∙ nothing_later unread made.offer both.0, ap (λ (v : EncoderState). v.set) (call.encodes.ended (is_empty_is result both.1) both.0))
 
-  pub written_on : Written e text (calls ++ made ∷ []) (record {
+  pub written_on : Written b e text (calls ++ made ∷ []) (record {
     encoder = new;
     read = s.read + more;
     bytes = after;
@@ -238,9 +222,9 @@ module _ (e : Encoding) (text : List ℕ) (calls : List EncodeCall) (s : EncodeS
     count = omega (arith, w.count, call.chars, ap length (chars_in-one w.parts part), length-append (chars_in w.parts) (chars_of raw.done));
     calls_are = map-one (λ (p : EncodePart). p.replaces) w.parts part ∙ ap (λ x. x ++ made.replace ∷ []) w.calls_are ∙ sym (map-one (λ (c : EncodeCall). c.replace) calls made);
     bytes = written;
-    reported = ap (λ x. x ++ report_of result) w.reported ∙ ap (λ x. reported_in (output_rule e) w.parts ++ x) reports ∙ sym (reported_in-one (output_rule e) w.parts part);
-    flag = ap (λ b. b || (replaced || is_report result)) w.flag ∙ ap (λ b. any_unmappable (output_rule e) (chars_in w.parts) || b) any
-        ∙ sym (any_unmappable-append (output_rule e) (chars_in w.parts) (chars_of raw.done)) ∙ ap (any_unmappable (output_rule e)) (sym (chars_in-one w.parts part));
+    reported = ap (λ x. x ++ report_of result) w.reported ∙ ap (λ x. reported_in (output_rule b e) w.parts ++ x) reports ∙ sym (reported_in-one (output_rule b e) w.parts part);
+    flag = ap (λ t. t || (replaced || is_report result)) w.flag ∙ ap (λ t. any_unmappable (output_rule b e) (chars_in w.parts) || t) any
+        ∙ sym (any_unmappable-append (output_rule b e) (chars_in w.parts) (chars_of raw.done)) ∙ ap (any_unmappable (output_rule b e)) (sym (chars_in-one w.parts part));
     ended = ends;
   }
 
@@ -256,13 +240,13 @@ runs_next text calls n k d a b c e h r g =
     subst (λ (x : List EncodeCall). IsEncodeRun text x a c) (sym (take_more calls n d (rw e h)))
     (runs_on text (take n calls) (get_or calls n d) a b c r (subst (λ i. GoesOn text (get_or calls i d) b c) (sym e) g))
 
-pub takes_next : (e : Encoding) (text : List ℕ) (calls : List EncodeCall) (n k : ℕ) (d : EncodeCall) (s : EncodeState) → n ≡ k → k < length calls
-    → Written e text (take n calls ++ get_or calls k d ∷ []) s → Written e text (take (n + 1) calls) s
-takes_next e text calls n k d s f h r =
-    subst (λ x. Written e text x s) (ap (λ i. take n calls ++ get_or calls i d ∷ []) (sym f) ∙ sym (take_more calls n d (rw f h))) r
+pub takes_next : (b : List ℕ) (e : Encoding) (text : List ℕ) (calls : List EncodeCall) (n k : ℕ) (d : EncodeCall) (s : EncodeState) → n ≡ k → k < length calls
+    → Written b e text (take n calls ++ get_or calls k d ∷ []) s → Written b e text (take (n + 1) calls) s
+takes_next b e text calls n k d s f h r =
+    subst (λ x. Written b e text x s) (ap (λ i. take n calls ++ get_or calls i d ∷ []) (sym f) ∙ sym (take_more calls n d (rw f h))) r
 
-pub has_encoded : (e : Encoding) (text : List ℕ) (calls : List EncodeCall) (s : EncodeState) → Written e text calls s → HasEncoded e text calls s.bytes s.read s.unmappables s.had_unmappables
-has_encoded e text calls s w = record {
+pub has_encoded : (b : List ℕ) (e : Encoding) (text : List ℕ) (calls : List EncodeCall) (s : EncodeState) → Written b e text calls s → HasEncoded b e text calls s.bytes s.read s.unmappables s.had_unmappables
+has_encoded b e text calls s w = record {
   parts = w.parts;
   unread = drop s.read text;
   more = bytes_of_text (raw_state s.encoder).rule s.encoder.set (with_references (raw_state s.encoder).rule (drop s.read text));
@@ -274,8 +258,8 @@ has_encoded e text calls s w = record {
   flag = w.flag;
 }
 
-pub within : (e : Encoding) (text : List ℕ) (calls : List EncodeCall) (s : EncodeState) → Written e text calls s → s.read ≤ length text
-within e text calls s w = omega (arith, w.count, ap length w.chars, length-append (chars_in w.parts) (drop s.read text))
+pub within : (b : List ℕ) (e : Encoding) (text : List ℕ) (calls : List EncodeCall) (s : EncodeState) → Written b e text calls s → s.read ≤ length text
+within b e text calls s w = omega (arith, w.count, ap length w.chars, length-append (chars_in w.parts) (drop s.read text))
 
 -- where all calls report, all unmappable characters are reported
 
@@ -289,23 +273,22 @@ all_reported rule (p ∷ ps) (c ∷ cs) g r =
     ap (λ b. (if b then [] else reports_of rule p.chars) ++ reported_in rule ps) off
     ∙ ap (λ x. reports_of rule p.chars ++ x) (all_reported rule ps cs (rest_flags _ _ _ _ g) both.1) ∙ sym (reports_of-append rule p.chars (chars_in ps))
 
-module _ (e : Encoding) (text : List ℕ) (calls : List EncodeCall) (s : EncodeState) (w : Written e text calls s) (f : s.finished ≡ true) where
+module _ (b : List ℕ) (e : Encoding) (text : List ℕ) (calls : List EncodeCall) (s : EncodeState) (w : Written b e text calls s) (f : s.finished ≡ true) where
   all_chars : chars_in w.parts ≡ text
   all_chars = sym (w.chars ∙ ap (λ t. chars_in w.parts ++ t) (w.ended f).0 ∙ append-nil (chars_in w.parts))
 
   -- so it is all of the bytes
-  pub all_bytes : s.bytes ≡ whole_bytes e text
-  unfolding rule_by
+  pub all_bytes : s.bytes ≡ whole_bytes b e text
   all_bytes = sym (
       w.bytes ∙ ap (λ t. s.bytes ++ bytes_of_text (raw_state s.encoder).rule s.encoder.set (with_references (raw_state s.encoder).rule t)) (w.ended f).0
       ∙ ap (λ c. s.bytes ++ bytes_of_text (raw_state s.encoder).rule c []) (w.ended f).1
-      ∙ ap (λ (r : EncoderRule). s.bytes ++ bytes_of_text r Ascii []) w.rule ∙ ap (λ t. s.bytes ++ t) (nothing_of (output_rule e) (lawful_of (codec_by_id e.id))) ∙ append-nil s.bytes)
+      ∙ ap (λ (r : EncoderRule). s.bytes ++ bytes_of_text r Ascii []) w.rule ∙ ap (λ t. s.bytes ++ t) (nothing_of (output_rule b e) (lawful_of b e)) ∙ append-nil s.bytes)
 
-  pub any_char : s.had_unmappables ≡ any_unmappable (output_rule e) text
-  any_char = w.flag ∙ ap (any_unmappable (output_rule e)) all_chars
+  pub any_char : s.had_unmappables ≡ any_unmappable (output_rule b e) text
+  any_char = w.flag ∙ ap (any_unmappable (output_rule b e)) all_chars
 
-  pub all_reports : all_report calls ≡ true → s.unmappables ≡ reports_of (output_rule e) text
-  all_reports r = w.reported ∙ all_reported (output_rule e) w.parts calls w.calls_are r ∙ ap (reports_of (output_rule e)) all_chars
+  pub all_reports : all_report calls ≡ true → s.unmappables ≡ reports_of (output_rule b e) text
+  all_reports r = w.reported ∙ all_reported (output_rule b e) w.parts calls w.calls_are r ∙ ap (reports_of (output_rule b e)) all_chars
 
   pub all_read : s.read ≡ length text
   all_read = w.count ∙ ap length all_chars

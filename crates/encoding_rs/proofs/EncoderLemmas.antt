@@ -1,8 +1,9 @@
 -- The encoders of the encodings.
-use Rattle.std.proofs.Common.{◌≡◌, ℕ, ◌+◌, ◌-◌, ◌≤◌, Bool, true, false, not, is_some, Option, Some, List, [], ◌∷◌, ◌++◌, length, take, drop, refl, ap, sym, subst, ◌∙◌, arith, append_assoc, length-append, length-take}
+use Rattle.std.proofs.Common.{◌≡◌, ℕ, ◌+◌, ◌-◌, ◌≤◌, Bool, true, false, not, is_some, Option, Some, None, option_map, List, [], ◌∷◌, ◌++◌, length, take, drop, refl, ap, sym, subst, ◌∙◌, arith, append_assoc, length-append, length-take, if◌then◌else◌}
 use Rattle.std.proofs.lemmas.List.{drop-take, take-append-le, take-append-drop}
 use Rattle.std.proofs.Math.Seq.{drop-append_seam}
 use Rattle.enc_encoders.specs.EncoderRule.{EncoderRule, RawState, is_pending}
+use Rattle.enc_encoders.specs.Barring.{barring}
 use Rattle.enc_encoders.specs.declared.character_set.CharacterSet.TheVariants.{Ascii, Roman, Jis0208}
 use Rattle.enc_encoders.specs.declared.character_set.CharacterSet.{CharacterSet}
 use Rattle.enc_encoders.specs.declared.encoder_result.EncoderResult.{EncoderResult}
@@ -15,7 +16,7 @@ use Rattle.encoding_rs.specs.declared.encoding.Id.TheVariants.{Utf8, Ibm866, Iso
 use Rattle.encoding_rs.specs.declared.encoding.Encoding.{Encoding}
 use Rattle.encoding_rs.specs.Encodings.{codec_by_id, or_utf_8, output_rule}
 use Rattle.encoding_rs.specs.Properties.{output_by_id, output_encoding_of}
-use Rattle.encoding_rs.specs.Encoder.{EncoderState, Encodes, kept_by_id, replacing_in}
+use Rattle.encoding_rs.specs.Encoder.{EncoderState, Encodes, is_utf_8, has_every, replacing_in}
 
 has_encoder_by_id : (id : Id) → is_some (encoder_rule (codec_by_id (output_by_id id))) ≡ true
 has_encoder_by_id Utf8 = refl
@@ -63,29 +64,27 @@ has_encoder_by_id XUserDefined = refl
 pub has_encoder : (e : Encoding) → is_some (encoder_rule (codec_by_id (output_encoding_of e).id)) ≡ true
 has_encoder e = has_encoder_by_id e.id
 
--- an encoder of the codec's rule writes by the encoding's
-pub is_output_rule : (o : Option EncoderRule) (rule : EncoderRule) → o ≡ Some rule → rule ≡ or_utf_8 o
-is_output_rule o rule e = ap or_utf_8 (sym e)
+-- an encoder of the codec's rule, without the characters that are barred, writes by the encoding's
+pub is_output_rule : (b : List ℕ) (o : Option EncoderRule) (rule : EncoderRule) → option_map (barring b) o ≡ Some rule → rule ≡ barring b (or_utf_8 o)
+is_output_rule b None rule e = cc
+is_output_rule b (Some x) rule e = cc
 
--- how many bytes are kept back, in UTF-8 and in all others
-
-pub none_kept : (e : Encoding) → e.id ≡ Utf8 → Replaced 0 ≡ replacing_in e
-none_kept e h = ap Replaced (sym (ap kept_by_id h))
-
-kept_by : (id : Id) → (id ≡ Utf8 → ⊥) → kept_by_id id ≡ 10
-kept_by Utf8 h = absurd (h refl)
-kept_by _ h = refl
-
-pub ten_kept : (e : Encoding) → (e.id ≡ Utf8 → ⊥) → Replaced 10 ≡ replacing_in e
-ten_kept e h = ap Replaced (sym (kept_by e.id h))
+-- how many bytes are kept back, where every character is mappable and elsewhere
+pub kept_by : (b : List ℕ) (e : Encoding) (every : Bool) → has_every b e ≡ every → Replaced (if every then 0 else 10) ≡ replacing_in b e
+kept_by b e every h = ap (λ t. Replaced (if t then 0 else 10)) (sym h)
 
 rule_by_id : Id → EncoderRule
 rule_by_id id = or_utf_8 (encoder_rule (codec_by_id id))
 
--- UTF-8 has every character
-pub maps_all : (e : Encoding) (rule : EncoderRule) → rule ≡ output_rule e → e.id ≡ Utf8 → MapsAll rule
+utf_8_has : (id : Id) → is_utf_8 id ≡ true → id ≡ Utf8
+utf_8_has Utf8 h = refl
+utf_8_has _ h = cc
+
+-- UTF-8 has every character, where none is barred
+pub maps_all : (b : List ℕ) (e : Encoding) (rule : EncoderRule) → rule ≡ output_rule b e → has_every b e ≡ true → MapsAll rule
 unfolding rule_by_id
-maps_all e rule r h = subst MapsAll (sym (r ∙ ap rule_by_id h)) (λ c. refl)
+maps_all [] e rule r h = subst MapsAll (sym (r ∙ ap rule_by_id (utf_8_has e.id h))) (λ c. refl)
+maps_all (x ∷ b) e rule r h = cc
 
 -- a call that has ended the text leaves ASCII designated
 
@@ -107,26 +106,27 @@ ends_in_ascii treatment new rest last room done OutputFull s q l = cc
 ends_in_ascii treatment new rest last room done (Unmappable k) s q l = cc
 
 -- A call of the raw encoder is one of the encoder.
-module _ (units_of : ℕ → List ℕ) (e : Encoding) (old new : RawState) (keeps : old.rule ≡ output_rule e) (treatment : Treatment)
+module _ (units_of : ℕ → List ℕ) (b : List ℕ) (e : Encoding) (old new : RawState) (keeps : old.rule ≡ output_rule b e) (treatment : Treatment)
     (src rest : List ℕ) (last : Bool) (room : ℕ) (result : EncoderResult) (read : ℕ) (wrote : List ℕ) (replaced : Bool)
     (call : CallBy units_of treatment old new src rest last room result read wrote replaced) where
-  pub rule_stays : new.rule ≡ output_rule e
+  pub rule_stays : new.rule ≡ output_rule b e
   rule_stays = call.rule ∙ keeps
 
-  same : (v : RawState) → v.rule ≡ output_rule e → v ≡ record { rule = output_rule e; set = v.set }
+  same : (v : RawState) → v.rule ≡ output_rule b e → v ≡ record { rule = output_rule b e; set = v.set }
   same v q = let made : EncoderRule → RawState = λ r. record { rule = r; set = v.set } in ap made q
 
-  encodes : Encodes units_of treatment (record { encoding = e; set = old.set }) (record { encoding = e; set = new.set }) src last room result read wrote replaced
+  encodes : Encodes units_of treatment (record { encoding = e; barred = b; set = old.set }) (record { encoding = e; barred = b; set = new.set }) src last room result read wrote replaced
   encodes = record {
     encoding = refl;
+    barred = refl;
     rest = rest;
-    call = subst (λ (v : RawState). CallBy units_of treatment v (record { rule = output_rule e; set = new.set }) src rest last room result read wrote replaced) (same old keeps)
+    call = subst (λ (v : RawState). CallBy units_of treatment v (record { rule = output_rule b e; set = new.set }) src rest last room result read wrote replaced) (same old keeps)
         (subst (λ (v : RawState). CallBy units_of treatment old v src rest last room result read wrote replaced) (same new rule_stays) call);
-    ended = λ q l. let made : CharacterSet → EncoderState = λ s. record { encoding = e; set = s } in ap made (ends_in_ascii treatment new rest last room call.done result call.stops q l);
+    ended = λ q l. let made : CharacterSet → EncoderState = λ s. record { encoding = e; barred = b; set = s } in ap made (ends_in_ascii treatment new rest last room call.done result call.stops q l);
   }
 
-  pub encodes_by : (t : Treatment) → treatment ≡ t → Encodes units_of t (record { encoding = e; set = old.set }) (record { encoding = e; set = new.set }) src last room result read wrote replaced
-  encodes_by t h = subst (λ (x : Treatment). Encodes units_of x (record { encoding = e; set = old.set }) (record { encoding = e; set = new.set }) src last room result read wrote replaced) h encodes
+  pub encodes_by : (t : Treatment) → treatment ≡ t → Encodes units_of t (record { encoding = e; barred = b; set = old.set }) (record { encoding = e; barred = b; set = new.set }) src last room result read wrote replaced
+  encodes_by t h = subst (λ (x : Treatment). Encodes units_of x (record { encoding = e; barred = b; set = old.set }) (record { encoding = e; barred = b; set = new.set }) src last room result read wrote replaced) h encodes
 
 -- A call whose bytes are at the end of another list than the one that it wrote into.
 pub in_tail : (units_of : ℕ → List ℕ) (treatment : Treatment) (old new : EncoderState) (src : List ℕ) (last : Bool) (room size : ℕ) (result : EncoderResult) (read : ℕ) (wrote tail : List ℕ) (replaced : Bool)

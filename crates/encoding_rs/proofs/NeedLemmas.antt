@@ -11,16 +11,17 @@ use Rattle.enc_encoders.specs.Lengths.{from_utf_8_length, from_utf_16_length}
 use Rattle.enc_encoders.specs.Need.{AreEnough}
 use Rattle.enc_encoders.specs.Steps.{chars_of}
 use Rattle.enc_encoders.specs.Stateless.{KeepsLengths}
+use Rattle.enc_encoders.specs.Barring.{barring}
 use Rattle.enc_encoders.specs.Utf8.{utf_8_bytes}
 use Rattle.enc_encoders.proofs.EnoughLemmas.{plus_is, keeps_utf_8}
 use Rattle.enc_encode.specs.declared.variant.VariantEncoder.{VariantEncoder}
 use Rattle.enc_encode.specs.Encoders.{encoder_rule, encoder_lengths}
 use Rattle.enc_encode.specs.Variant.{variant_state}
-use Rattle.enc_encode.proofs.EnoughLemmas.{IsEnoughIfAny, enough_if_any, enough_of_stateless}
+use Rattle.enc_encode.proofs.EnoughLemmas.{IsEnoughIfAny, enough_if_any, by_lengths}
 use Rattle.enc_references.specs.Treatment.{Reported}
 use Rattle.enc_references.proofs.NeedLemmas.{reporting_meets_need, reads_all}
 use Rattle.encoding_rs.specs.Encodings.{or_utf_8}
-use Rattle.encoding_rs.specs.Encoder.{EncoderState, raw_state, kept_by_id, Encodes, EncodesInto}
+use Rattle.encoding_rs.specs.Encoder.{EncoderState, raw_state, kept_in, Encodes, EncodesInto}
 use Rattle.encoding_rs.specs.Need.{EncodesByNeed, IsEnough, IsEnoughIfMappable}
 
 -- a call that reports unmappable characters meets its need
@@ -44,18 +45,20 @@ into_by_need units_of old new src last before after result read written replaced
     (by_need units_of old new src last (length before) result read (take written after) replaced e.encodes)
 
 -- the lengths of the encoding that is written, which is UTF-8 where it has no encoder, are enough
-or_enough : (l : ByteLengths) (found : Option EncoderRule) → IsEnoughIfAny l found → (v : VariantEncoder) → (variant_state v).rule ≡ or_utf_8 found → AreEnough l (variant_state v)
-or_enough l None e v r = enough_of_stateless l utf_8_bytes v (subst (λ (x : ByteLengths). KeepsLengths x utf_8_bytes) (sym e) keeps_utf_8) r
-or_enough l (Some e) h v r = h v r
+or_enough : (b : List ℕ) (l : ByteLengths) (found : Option EncoderRule) → IsEnoughIfAny l found → (v : VariantEncoder) → (variant_state v).rule ≡ barring b (or_utf_8 found) → AreEnough l (variant_state v)
+or_enough b l None e v r = by_lengths l utf_8_bytes (subst (λ (x : ByteLengths). KeepsLengths x utf_8_bytes) (sym e) keeps_utf_8) b v r
+or_enough b l (Some e) h v r = h b v r
 
 -- what a length is enough for that was told
 
 with_rule : (v : RawState) (rule : EncoderRule) → v.rule ≡ rule → v ≡ record { rule = rule; set = v.set }
 with_rule v rule r = let made : EncoderRule → RawState = λ e. record { rule = e; set = v.set } in ap made r
 
-pub enough_in : (c : Codec) (v : VariantEncoder) → (variant_state v).rule ≡ or_utf_8 (encoder_rule c)
-    → AreEnough (encoder_lengths c) (record { rule = or_utf_8 (encoder_rule c); set = (variant_state v).set })
-enough_in c v r = subst (AreEnough (encoder_lengths c)) (with_rule (variant_state v) (or_utf_8 (encoder_rule c)) r) (or_enough (encoder_lengths c) (encoder_rule c) (enough_if_any c) v r)
+pub enough_in : (b : List ℕ) (c : Codec) (v : VariantEncoder) → (variant_state v).rule ≡ barring b (or_utf_8 (encoder_rule c))
+    → AreEnough (encoder_lengths c) (record { rule = barring b (or_utf_8 (encoder_rule c)); set = (variant_state v).set })
+enough_in b c v r =
+    subst (AreEnough (encoder_lengths c)) (with_rule (variant_state v) (barring b (or_utf_8 (encoder_rule c))) r)
+    (or_enough b (encoder_lengths c) (encoder_rule c) (enough_if_any c) v r)
 
 module _ (lengths : ByteLengths) (v : EncoderState) (enough : AreEnough lengths (raw_state v)) (n : ℕ) where
   pub enough_from_utf_8 : (result : Option ℕ) → result ≡ from_utf_8_length lengths n → IfSome result (IsEnough encode_utf8 v n)
@@ -68,12 +71,12 @@ module _ (lengths : ByteLengths) (v : EncoderState) (enough : AreEnough lengths 
 
 module _ (units_of : ℕ → List ℕ) (v : EncoderState) (n : ℕ) where
   -- with the bytes that are kept back
-  pub enough_if_mappable : (length : Option ℕ) → IfSome length (IsEnough units_of v n) → (result : Option ℕ) → result ≡ plus length (kept_by_id v.encoding.id)
+  pub enough_if_mappable : (length : Option ℕ) → IfSome length (IsEnough units_of v n) → (result : Option ℕ) → result ≡ plus length (kept_in v.barred v.encoding)
       → IfSome result (IsEnoughIfMappable units_of v n)
   enough_if_mappable length h None e = tt
   enough_if_mappable None h (Some q) e = cc
   enough_if_mappable (Some a) h (Some q) e = λ src wrote last new room read result replaced units mappable l made.
-      let sum = plus_is (Some a) (kept_by_id v.encoding.id) q (sym e) in
+      let sum = plus_is (Some a) (kept_in v.barred v.encoding) q (sym e) in
       let same : sum.0 ≡ a = cc in
-      reads_all units_of (kept_by_id v.encoding.id) (raw_state v) (raw_state new) src made.rest last room read wrote replaced result made.call mappable
+      reads_all units_of (kept_in v.barred v.encoding) (raw_state v) (raw_state new) src made.rest last room read wrote replaced result made.call mappable
       (omega (arith, h src last units, sum.1.1, same, l))

@@ -7,6 +7,7 @@ use Rattle.enc_encoders.specs.declared.character_set.CharacterSet.{CharacterSet}
 use Rattle.enc_encoders.specs.declared.character_set.CharacterSet.TheVariants.{Ascii, Roman, Jis0208}
 use Rattle.enc_encoders.specs.EncoderRule.{EncoderRule, RawState, AreFew, set_for}
 use Rattle.enc_encoders.specs.Text.{escape, escape_at_end}
+use Rattle.enc_encoders.specs.Barring.{barring}
 use Rattle.enc_encoders.specs.Steps.{Step, escape_step, char_step, first_written, last_step, steps_of, steps_from}
 use Rattle.enc_encode.specs.Encoders.{encoder_rule}
 use Rattle.enc_references.specs.Treatment.{IsFull, stop_of}
@@ -16,7 +17,7 @@ use Rattle.encoding_rs.specs.declared.encoding.Encoding.{Encoding}
 use Rattle.encoding_rs.specs.Encodings.{codec_by_id, or_utf_8, output_rule}
 use Rattle.encoding_rs.specs.Properties.{output_by_id, output_encoding_of}
 use Rattle.encoding_rs.proofs.ReferenceLemmas.{lawful_of}
-use Rattle.encoding_rs.specs.Encoder.{EncoderState, Encodes, raw_state, replacing, kept_by_id}
+use Rattle.encoding_rs.specs.Encoder.{EncoderState, Encodes, raw_state, replacing, has_every, kept_in}
 
 -- the length of the first step
 abbrev first_len : List Step → ℕ
@@ -51,9 +52,9 @@ few_step e last s (c ∷ t) h =
     few_first (e.has s d) (e.designated d) (char_step e (set_for e s d) c (e.bytes c)) (steps_of e last (set_for e s d) t)
     (few_char e (set_for e s d) c (e.bytes c) (h c))
 
-few_kept : (id : Id) → kept_by_id id ≤ 10
-few_kept Utf8 = omega arith
-few_kept _ = omega arith
+few_kept : (every : Bool) → (if every then 0 else 10) ≤ 10
+few_kept true = omega arith
+few_kept false = omega arith
 
 -- a step more was done
 some_done : (kept : ℕ) (new : RawState) (rest : List ℕ) (last : Bool) (room : ℕ) → kept ≤ 10 → 14 ≤ room → first_len (steps_from new last rest) ≤ 4
@@ -76,21 +77,21 @@ pub goes_on : (old new : EncoderState) (text : List ℕ) (last : Bool) (room : �
     → length (steps_from (raw_state new) last c.rest) < length (steps_from (raw_state old) last text)
 goes_on old new text last room InputEmpty read wrote replaced c r n = absurd (n refl)
 goes_on old new text last room OutputFull read wrote replaced c r n =
-    fewer_left (kept_by_id old.encoding.id) (raw_state old) (raw_state new) text c.rest last room c.call.done
-    (few_kept old.encoding.id) r
-    (few_step (output_rule new.encoding) last new.set c.rest (lawful_of (codec_by_id new.encoding.id)).few)
+    fewer_left (kept_in old.barred old.encoding) (raw_state old) (raw_state new) text c.rest last room c.call.done
+    (few_kept (has_every old.barred old.encoding)) r
+    (few_step (raw_state new).rule last new.set c.rest (lawful_of new.barred new.encoding).few)
     c.call.stops c.call.remaining
 
 -- Where ASCII is designated no escape sequence is due.
-pub none_due : (e : Encoding) → escape_at_end ((output_rule e).set_after Ascii []) ≡ []
-none_due e = ap escape_at_end ((lawful_of (codec_by_id e.id)).set_after_none Ascii)
+pub none_due : (b : List ℕ) (e : Encoding) → escape_at_end ((output_rule b e).set_after Ascii []) ≡ []
+none_due b e = ap escape_at_end ((lawful_of b e).set_after_none Ascii)
 
 -- The output encoding has the rule by which a text is written.
-same_rule : (id : Id) → or_utf_8 (encoder_rule (codec_by_id (output_by_id id))) ≡ or_utf_8 (encoder_rule (codec_by_id id))
+pub same_rule : (id : Id) → or_utf_8 (encoder_rule (codec_by_id (output_by_id id))) ≡ or_utf_8 (encoder_rule (codec_by_id id))
 same_rule Replacement = refl
 same_rule Utf16be = refl
 same_rule Utf16le = refl
 same_rule _ = refl
 
-pub output_rule_is : (e : Encoding) → output_rule (output_encoding_of e) ≡ output_rule e
-output_rule_is e = same_rule e.id
+pub output_rule_is : (b : List ℕ) (e : Encoding) → output_rule b (output_encoding_of e) ≡ output_rule b e
+output_rule_is b e = ap (barring b) (same_rule e.id)

@@ -1,25 +1,26 @@
 -- Texts with references in the place of unmappable characters.
 use Rattle.std.proofs.Common.{◌≡◌, ℕ, false, not, ◌||◌, is_some, Option, Some, None, List, [], ◌∷◌, ◌++◌, inl, refl, ap, sym, ◌∙◌, append_assoc}
-use Rattle.enc_codec.specs.declared.codec.Codec.{Codec}
 use Rattle.enc_encoders.specs.EncoderRule.{EncoderRule, IsLawful}
 use Rattle.enc_encoders.specs.Text.{reference, with_reference, with_references}
 use Rattle.enc_encoders.specs.Utf8.{utf_8_bytes}
 use Rattle.enc_encoders.proofs.StatelessLemmas.{stateless_is_lawful, utf_8_writes_ascii}
 use Rattle.enc_encoders.proofs.FewLemmas.{few_utf_8}
+use Rattle.enc_encoders.proofs.BarringLemmas.{barring_is_lawful}
 use Rattle.enc_encoders.proofs.TextLemmas.{AreOfReferences, reference_is}
 use Rattle.enc_encode.specs.Encoders.{encoder_rule}
 use Rattle.enc_encode.proofs.LawfulLemmas.{IsLawfulIfAny, lawful_if_any}
 use Rattle.enc_references.specs.Unmappable.{any_unmappable}
 use Rattle.enc_references.proofs.UnmappableLemmas.{any_unmappable-append}
-use Rattle.encoding_rs.specs.Encodings.{or_utf_8}
+use Rattle.encoding_rs.specs.declared.encoding.Encoding.{Encoding}
+use Rattle.encoding_rs.specs.Encodings.{codec_by_id, or_utf_8, output_rule}
 
 or_lawful : (found : Option EncoderRule) → IsLawfulIfAny found → IsLawful (or_utf_8 found)
 or_lawful None h = stateless_is_lawful utf_8_bytes utf_8_writes_ascii few_utf_8
 or_lawful (Some e) h = h
 
--- what holds of the rule of every encoder
-pub lawful_of : (c : Codec) → IsLawful (or_utf_8 (encoder_rule c))
-lawful_of c = or_lawful (encoder_rule c) (lawful_if_any c)
+-- what holds of the rule of every encoder, whatever is barred
+pub lawful_of : (b : List ℕ) (e : Encoding) → IsLawful (output_rule b e)
+lawful_of b e = barring_is_lawful b (or_utf_8 (encoder_rule (codec_by_id e.id))) (or_lawful (encoder_rule (codec_by_id e.id)) (lawful_if_any (codec_by_id e.id)))
 
 with_references-append : (e : EncoderRule) (a b : List ℕ) → with_references e (a ++ b) ≡ with_references e a ++ with_references e b
 with_references-append e [] b = refl

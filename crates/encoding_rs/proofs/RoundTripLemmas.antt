@@ -24,7 +24,7 @@ use Rattle.encoding_rs.specs.Encodings.{codec_by_id, or_utf_8, output_rule, rule
 use Rattle.encoding_rs.specs.Properties.{output_encoding_of}
 use Rattle.encoding_rs.specs.EncodeRun.{whole_bytes}
 use Rattle.encoding_rs.proofs.EncoderLemmas.{has_encoder}
-use Rattle.encoding_rs.proofs.ProgressLemmas.{output_rule_is}
+use Rattle.encoding_rs.proofs.ProgressLemmas.{same_rule}
 use Rattle.encoding_rs.proofs.ReferenceLemmas.{lawful_of, all_mapped}
 
 -- the rule of the output encoding is that of its codec
@@ -33,12 +33,12 @@ found : (o : Option EncoderRule) → is_some o ≡ true → o ≡ Some (or_utf_8
 found None h = cc
 found (Some e) h = refl
 
-encoder_is : (e : Encoding) → encoder_rule (codec_by_id (output_encoding_of e).id) ≡ Some (output_rule e)
-encoder_is e = found (encoder_rule (codec_by_id (output_encoding_of e).id)) (has_encoder e) ∙ ap Some (output_rule_is e)
+encoder_is : (e : Encoding) → encoder_rule (codec_by_id (output_encoding_of e).id) ≡ Some (or_utf_8 (encoder_rule (codec_by_id e.id)))
+encoder_is e = found (encoder_rule (codec_by_id (output_encoding_of e).id)) (has_encoder e) ∙ ap Some (same_rule e.id)
 
-pub decoded : (e : Encoding) (t : List ℕ) → AreScalars t → any_unmappable (output_rule e) t ≡ false
-    → IsReadAs (rule_of (output_encoding_of e)) 0 (bytes_of_text (output_rule e) Ascii t) (map (read_back (codec_by_id (output_encoding_of e).id)) t)
-decoded e t s m = is_read (codec_by_id (output_encoding_of e).id) (output_rule e) t (encoder_is e) s m
+pub decoded : (b : List ℕ) (e : Encoding) (t : List ℕ) → AreScalars t → any_unmappable (output_rule b e) t ≡ false
+    → IsReadAs (rule_of (output_encoding_of e)) 0 (bytes_of_text (output_rule b e) Ascii t) (map (read_back (codec_by_id (output_encoding_of e).id)) t)
+decoded b e t s m = is_read (codec_by_id (output_encoding_of e).id) b (or_utf_8 (encoder_rule (codec_by_id e.id))) t (encoder_is e) s m
 
 -- all but three give each character back
 
@@ -51,12 +51,12 @@ keeps _ euc shift iso = refl
 of_id : Id → Encoding
 of_id id = record { id = id }
 
-pub decoded_text : (e : Encoding) (t : List ℕ) → AreScalars t → any_unmappable (output_rule e) t ≡ false
+pub decoded_text : (b : List ℕ) (e : Encoding) (t : List ℕ) → AreScalars t → any_unmappable (output_rule b e) t ≡ false
     → output_encoding_of e ≢ record { id = EucJp } → output_encoding_of e ≢ record { id = ShiftJis } → output_encoding_of e ≢ record { id = Iso2022Jp }
-    → text_of (sequences_of (rule_of (output_encoding_of e)) 0 (bytes_of_text (output_rule e) Ascii t)) ≡ t
+    → text_of (sequences_of (rule_of (output_encoding_of e)) 0 (bytes_of_text (output_rule b e) Ascii t)) ≡ t
 unfolding of_id
-decoded_text e t s m euc shift iso =
-    same_text (codec_by_id (output_encoding_of e).id) (output_rule e) t (encoder_is e) s m
+decoded_text b e t s m euc shift iso =
+    same_text (codec_by_id (output_encoding_of e).id) b (or_utf_8 (encoder_rule (codec_by_id e.id))) t (encoder_is e) s m
     (keeps (output_encoding_of e).id (λ q. euc (ap of_id q)) (λ q. shift (ap of_id q)) (λ q. iso (ap of_id q)))
 
 -- references are of scalar values
@@ -83,7 +83,7 @@ with_references_scalars e [] s = refl
 with_references_scalars e (c ∷ t) s =
     scalars-append (with_reference e c (e.bytes c)) (with_references e t) (one_scalars e c (e.bytes c) (first_so _ _ s)) (with_references_scalars e t (second_so _ _ s))
 
-pub decoded_references : (e : Encoding) (t : List ℕ) → AreScalars t → any_malformed (sequences_of (rule_of (output_encoding_of e)) 0 (whole_bytes e t)) ≡ false
-decoded_references e t s =
-    let u = with_references (output_rule e) t in
-    (decoded e u (with_references_scalars (output_rule e) t s) (all_mapped (output_rule e) (lawful_of (codec_by_id e.id)) t)).none_malformed
+pub decoded_references : (b : List ℕ) (e : Encoding) (t : List ℕ) → AreScalars t → any_malformed (sequences_of (rule_of (output_encoding_of e)) 0 (whole_bytes b e t)) ≡ false
+decoded_references b e t s =
+    let u = with_references (output_rule b e) t in
+    (decoded b e u (with_references_scalars (output_rule b e) t s) (all_mapped (output_rule b e) (lawful_of b e) t)).none_malformed

@@ -27,22 +27,22 @@ abbrev bytes_by : EncoderRule → CharacterSet → List ℕ → List ℕ
 bytes_by rule set text = bytes_of_text rule set (with_references rule text)
 
 -- no call
-pub none_written : (e : Encoding) (text : List ℕ) → HasWritten e text text (fresh_encoder e) []
-none_written e text = record { encoding = refl; whole = ap (λ rule. bytes_by rule Ascii text) (sym (output_rule_is e)) }
+pub none_written : (e : Encoding) (text : List ℕ) → HasWritten e text text (fresh_encoder [] e) []
+none_written e text = record { encoding = refl; barred = refl; whole = ap (λ rule. bytes_by rule Ascii text) (sym (output_rule_is [] e)) }
 
 -- no text
-pub nothing_written : (e : Encoding) (text : List ℕ) → text ≡ [] → [] ≡ whole_bytes e text
-nothing_written e text h = sym (none_due e) ∙ ap (whole_bytes e) (sym h)
+pub nothing_written : (e : Encoding) (text : List ℕ) → text ≡ [] → [] ≡ whole_bytes [] e text
+nothing_written e text h = sym (none_due [] e) ∙ ap (whole_bytes [] e) (sym h)
 
 -- what is written of a text whose end is reached is all
-pub all_written : (e : Encoding) (text : List ℕ) (state : EncoderState) (wrote : List ℕ) → HasWritten e text [] state wrote → state.set ≡ Ascii → wrote ≡ whole_bytes e text
+pub all_written : (e : Encoding) (text : List ℕ) (state : EncoderState) (wrote : List ℕ) → HasWritten e text [] state wrote → state.set ≡ Ascii → wrote ≡ whole_bytes [] e text
 all_written e text state wrote w h =
-    sym (append-nil wrote) ∙ ap (λ x. wrote ++ x) (sym (none_due state.encoding)) ∙ ap (λ (s : CharacterSet). wrote ++ bytes_by (output_rule state.encoding) s []) (sym h)
+    sym (append-nil wrote) ∙ ap (λ x. wrote ++ x) (sym (none_due state.barred state.encoding)) ∙ ap (λ (s : CharacterSet). wrote ++ bytes_by (raw_state state).rule s []) (sym h)
     ∙ sym w.whole
 
 -- One call more, whose bytes stand behind those that were written.
 module _ (e : Encoding) (text rest : List ℕ) (old new : EncoderState) (before after : List ℕ) (had : Bool) (u : IsUtf8 rest) (w : HasWritten e text (chars rest) old before)
-    (f : any_unmappable (output_rule e) text ≡ (had || any_unmappable (output_rule e) (chars rest))) (room : ℕ) (result : CoderResult) (read : ℕ) (replaced : Bool)
+    (f : any_unmappable (output_rule [] e) text ≡ (had || any_unmappable (output_rule [] e) (chars rest))) (room : ℕ) (result : CoderResult) (read : ℕ) (replaced : Bool)
     (d : Encodes encode_utf8 (replacing old) old new (chars rest) true room (stop_of result) read (drop (length before) after) replaced) (t : take (length before) after ≡ before) where
   abbrev front : List ℕ
   front = chars_of d.call.done
@@ -53,37 +53,38 @@ module _ (e : Encoding) (text rest : List ℕ) (old new : EncoderState) (before 
   unread_is : chars (drop read rest) ≡ d.rest
   unread_is = chars_behind rest front d.rest read u d.call.reads d.call.units
 
-  rule_is : output_rule old.encoding ≡ output_rule e
-  rule_is = ap output_rule w.encoding ∙ output_rule_is e
+  rule_is : (raw_state old).rule ≡ output_rule [] e
+  rule_is = ap (λ b. output_rule b old.encoding) w.barred ∙ ap (output_rule []) w.encoding ∙ output_rule_is [] e
 
   written : (unread : List ℕ) → unread ≡ d.rest → HasWritten e text unread new after
   written unread h = record {
     encoding = d.encoding ∙ w.encoding;
-    whole = w.whole ∙ ap (λ x. before ++ bytes_by (output_rule old.encoding) old.set x) (sym (append-nil (chars rest)))
+    barred = d.barred ∙ w.barred;
+    whole = w.whole ∙ ap (λ x. before ++ bytes_by (raw_state old).rule old.set x) (sym (append-nil (chars rest)))
         ∙ ap (λ x. before ++ x) (kept_text result d)
         ∙ sym (append_assoc before (drop (length before) after) _)
-        ∙ ap (λ x. x ++ bytes_by (output_rule new.encoding) new.set d.rest) (ap (λ x. x ++ drop (length before) after) (sym t) ∙ take-append-drop (length before) after)
-        ∙ ap (λ x. after ++ bytes_by (output_rule new.encoding) new.set x) (sym h);
+        ∙ ap (λ x. x ++ bytes_by (raw_state new).rule new.set d.rest) (ap (λ x. x ++ drop (length before) after) (sym t) ∙ take-append-drop (length before) after)
+        ∙ ap (λ x. after ++ bytes_by (raw_state new).rule new.set x) (sym h);
   }
     where
       kept_text : (r : CoderResult) (k : Encodes encode_utf8 (replacing old) old new (chars rest) true room (stop_of r) read (drop (length before) after) replaced)
-          → bytes_by (output_rule old.encoding) old.set (chars rest ++ []) ≡ drop (length before) after ++ bytes_by (output_rule new.encoding) new.set k.rest
-      kept_text InputEmpty k = k.call.text [] (λ _. refl) ∙ ap (λ x. drop (length before) after ++ bytes_by (output_rule new.encoding) new.set x) (append-nil k.rest)
-      kept_text OutputFull k = k.call.text [] (λ _. refl) ∙ ap (λ x. drop (length before) after ++ bytes_by (output_rule new.encoding) new.set x) (append-nil k.rest)
+          → bytes_by (raw_state old).rule old.set (chars rest ++ []) ≡ drop (length before) after ++ bytes_by (raw_state new).rule new.set k.rest
+      kept_text InputEmpty k = k.call.text [] (λ _. refl) ∙ ap (λ x. drop (length before) after ++ bytes_by (raw_state new).rule new.set x) (append-nil k.rest)
+      kept_text OutputFull k = k.call.text [] (λ _. refl) ∙ ap (λ x. drop (length before) after ++ bytes_by (raw_state new).rule new.set x) (append-nil k.rest)
 
-  flagged : (unread : List ℕ) → unread ≡ d.rest → any_unmappable (output_rule e) text ≡ ((had || replaced) || any_unmappable (output_rule e) unread)
+  flagged : (unread : List ℕ) → unread ≡ d.rest → any_unmappable (output_rule [] e) text ≡ ((had || replaced) || any_unmappable (output_rule [] e) unread)
   flagged unread h =
-      f ∙ ap (λ x. had || any_unmappable (output_rule e) x) d.call.reads ∙ ap (λ b. had || b) (any_unmappable-append (output_rule e) front d.rest)
-      ∙ ap (λ b. had || (b || any_unmappable (output_rule e) d.rest))
+      f ∙ ap (λ x. had || any_unmappable (output_rule [] e) x) d.call.reads ∙ ap (λ b. had || b) (any_unmappable-append (output_rule [] e) front d.rest)
+      ∙ ap (λ b. had || (b || any_unmappable (output_rule [] e) d.rest))
       (ap (λ rule. any_unmappable rule front) (sym rule_is)
       ∙ sym (d.call.flag ∙ any_reported_is (raw_state old) (raw_state new) (chars rest) d.rest true d.call.done d.call.reads d.call.rule d.call.remaining))
-      ∙ sym (or_assoc had replaced (any_unmappable (output_rule e) d.rest)) ∙ ap (λ x. (had || replaced) || any_unmappable (output_rule e) x) (sym h)
+      ∙ sym (or_assoc had replaced (any_unmappable (output_rule [] e) d.rest)) ∙ ap (λ x. (had || replaced) || any_unmappable (output_rule [] e) x) (sym h)
 
   -- that is not the last
   pub written_on : (unread : List ℕ) → unread ≡ drop read rest → HasWritten e text (chars unread) new after
   written_on unread h = written (chars unread) (ap chars h ∙ unread_is)
 
-  pub flagged_on : (unread : List ℕ) → unread ≡ drop read rest → any_unmappable (output_rule e) text ≡ ((had || replaced) || any_unmappable (output_rule e) (chars unread))
+  pub flagged_on : (unread : List ℕ) → unread ≡ drop read rest → any_unmappable (output_rule [] e) text ≡ ((had || replaced) || any_unmappable (output_rule [] e) (chars unread))
   flagged_on unread h = flagged (chars unread) (ap chars h ∙ unread_is)
 
   pub fewer_steps : (unread : List ℕ) → unread ≡ drop read rest → 14 ≤ room → ¬ (result ≡ InputEmpty)
@@ -92,9 +93,9 @@ module _ (e : Encoding) (text rest : List ℕ) (old new : EncoderState) (before 
       rw (ap chars h ∙ unread_is) (goes_on old new (chars rest) true room result read (drop (length before) after) replaced d r n)
 
   -- and that is
-  pub written_all : result ≡ InputEmpty → after ≡ whole_bytes e text
+  pub written_all : result ≡ InputEmpty → after ≡ whole_bytes [] e text
   written_all h = all_written e text new after
       (written [] (all_read old new (chars rest) true room result read (drop (length before) after) replaced d h)) (ap (λ (v : EncoderState). v.set) (d.ended (ap stop_of h) refl))
 
-  pub flagged_all : result ≡ InputEmpty → (had || replaced) ≡ any_unmappable (output_rule e) text
+  pub flagged_all : result ≡ InputEmpty → (had || replaced) ≡ any_unmappable (output_rule [] e) text
   flagged_all h = sym (flagged [] (all_read old new (chars rest) true room result read (drop (length before) after) replaced d h) ∙ or_false (had || replaced))

@@ -55,8 +55,8 @@ pub record EncodeState : Type 0 where
   pub had_unmappables : Bool
   pub finished : Bool
 
-abbrev pub encode_start : Encoding → EncodeState
-encode_start e = record { encoder = fresh_encoder e; read = 0; bytes = []; unmappables = []; had_unmappables = false; finished = false }
+abbrev pub encode_start : List ℕ → Encoding → EncodeState
+encode_start b e = record { encoder = fresh_encoder b e; read = 0; bytes = []; unmappables = []; had_unmappables = false; finished = false }
 
 -- a run goes on by one call, where the end isn't reached
 pub record GoesOn (text : List ℕ) (made : EncodeCall) (old new : EncodeState) : Type 0 where
@@ -76,8 +76,8 @@ IsEncodeRun text [] old new = old ≡ new
 IsEncodeRun text (call ∷ calls) old new = (mid : EncodeState) × GoesOn text call old mid × IsEncodeRun text calls mid new
 
 -- the bytes of a whole text, where a decimal reference stands in the place of each unmappable character
-abbrev pub whole_bytes : Encoding → List ℕ → List ℕ
-whole_bytes e text = bytes_of_text (output_rule e) Ascii (with_references (output_rule e) text)
+abbrev pub whole_bytes : List ℕ → Encoding → List ℕ → List ℕ
+whole_bytes b e text = bytes_of_text (output_rule b e) Ascii (with_references (output_rule b e) text)
 
 -- the characters that one call has read, and whether it replaced those that are unmappable
 pub record EncodePart : Type 0 where
@@ -100,14 +100,14 @@ all_report (call ∷ calls) = not call.replace && all_report calls
 
 -- What calls have come to: the characters read are a beginning of the text, in a part for each call, and the bytes are a
 -- beginning of those of the whole text.
-pub record HasEncoded (e : Encoding) (text : List ℕ) (calls : List EncodeCall) (bytes : List ℕ) (read : ℕ) (unmappables : List ℕ) (had_unmappables : Bool) : Type 0 where
+pub record HasEncoded (b : List ℕ) (e : Encoding) (text : List ℕ) (calls : List EncodeCall) (bytes : List ℕ) (read : ℕ) (unmappables : List ℕ) (had_unmappables : Bool) : Type 0 where
   pub parts : List EncodePart
   pub unread : List ℕ
   pub more : List ℕ
   pub chars : text ≡ chars_in parts ++ unread
   pub count : read ≡ length (chars_in parts)
   pub calls_are : map (λ (p : EncodePart). p.replaces) parts ≡ map (λ (c : EncodeCall). c.replace) calls
-  pub beginning : whole_bytes e text ≡ bytes ++ more
+  pub beginning : whole_bytes b e text ≡ bytes ++ more
   -- the unmappable characters that were met by calls which report them, in order, as they are reported
-  pub reported : unmappables ≡ reported_in (output_rule e) parts
-  pub flag : had_unmappables ≡ any_unmappable (output_rule e) (chars_in parts)
+  pub reported : unmappables ≡ reported_in (output_rule b e) parts
+  pub flag : had_unmappables ≡ any_unmappable (output_rule b e) (chars_in parts)

@@ -1,5 +1,5 @@
 -- The codec of each encoding, and with it the rules by which it is read and written (Encoding Standard 4.2, table of names).
-use Rattle.std.specs.Prelude.{Option, Some, None}
+use Rattle.std.specs.Prelude.{ℕ, Option, Some, None, List}
 use Rattle.enc_machine.specs.Segmentation.{Rule}
 use Rattle.enc_index.specs.declared.single_byte_index.SingleByteIndex.TheVariants as index
 use Rattle.enc_codec.specs.declared.codec.Codec.{Codec}
@@ -7,6 +7,7 @@ use Rattle.enc_codec.specs.declared.codec.Codec.TheVariants as codec
 use Rattle.enc_codec.specs.Codecs.{codec_rule}
 use Rattle.enc_encoders.specs.EncoderRule.{EncoderRule}
 use Rattle.enc_encoders.specs.Stateless.{stateless}
+use Rattle.enc_encoders.specs.Barring.{barring}
 use Rattle.enc_encoders.specs.Utf8.{utf_8_bytes}
 use Rattle.enc_encode.specs.Encoders.{encoder_rule}
 use Rattle.encoding_rs.specs.declared.encoding.Id.{Id}
@@ -66,7 +67,8 @@ abbrev pub or_utf_8 : Option EncoderRule → EncoderRule
 or_utf_8 None = stateless utf_8_bytes
 or_utf_8 (Some rule) = rule
 
--- the rule by which a text is written where this encoding is asked for: its own, or UTF-8's if it has no encoder (4.3, "get
--- an output encoding")
-abbrev pub output_rule : Encoding → EncoderRule
-output_rule e = or_utf_8 (encoder_rule (codec_by_id e.id))
+-- The rule by which a text is written where this encoding is asked for and these characters are barred: its own, or UTF-8's if it
+-- has no encoder (4.3, "get an output encoding"). Its `bytes` says which characters are mappable: those that have bytes by the rules
+-- of the encoding, and stand neither in the list nor in the constant list of the encoding (`always_barred`).
+abbrev pub output_rule : List ℕ → Encoding → EncoderRule
+output_rule b e = barring b (or_utf_8 (encoder_rule (codec_by_id e.id)))

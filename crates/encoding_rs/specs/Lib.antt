@@ -12,6 +12,7 @@ pub mod Properties
 pub mod Encoder
 pub mod EncodeRun
 pub mod EncodeEnd
+pub mod EncodeReport
 pub mod Lengths
 pub mod Need
 pub mod OneShot

@@ -26,5 +26,5 @@ IsEnough units_of v n room = (src : List ℕ) (last : Bool) → length (units_of
 abbrev pub IsEnoughIfMappable : (ℕ → List ℕ) → EncoderState → ℕ → ℕ → Type 0
 IsEnoughIfMappable units_of v n enough =
     (src wrote : List ℕ) (last : Bool) (new : EncoderState) (room read : ℕ) (result : EncoderResult) (replaced : Bool)
-    → length (units_of_text units_of src) ≡ n → any_unmappable (output_rule v.encoding) src ≡ false → enough ≤ room
+    → length (units_of_text units_of src) ≡ n → any_unmappable (output_rule v.barred v.encoding) src ≡ false → enough ≤ room
     → Encodes units_of (replacing v) v new src last room result read wrote replaced → result ≡ InputEmpty

@@ -1,6 +1,6 @@
 -- One-shot calls: whole inputs (Encoding Standard 6, "decode", "UTF-8 decode", "UTF-8 decode without BOM" and "UTF-8 decode without BOM
 -- or fail", for any encoding, and "encode").
-use Rattle.std.specs.Prelude.{◌≡◌, ℕ, ◌≤◌, Bool, true, Option, Some, None, List, ◌++◌, chars, length, if◌then◌else◌}
+use Rattle.std.specs.Prelude.{◌≡◌, ℕ, ◌≤◌, Bool, true, Option, Some, None, List, [], ◌++◌, chars, length, if◌then◌else◌}
 use Rattle.enc_units.specs.Checked.{plus}
 use Rattle.enc_encoders.specs.Text.{bytes_of_text, with_references}
 use Rattle.enc_encoders.specs.Lengths.{from_utf_8_length}
@@ -8,9 +8,8 @@ use Rattle.encoding_rs.specs.declared.bom.BomHandling.{BomHandling}
 use Rattle.encoding_rs.specs.declared.bom.BomHandling.TheVariants.{Off}
 use Rattle.encoding_rs.specs.declared.encoding.Encoding.{Encoding}
 use Rattle.encoding_rs.specs.declared.lengths.Query.{Query}
-use Rattle.encoding_rs.specs.Encodings.{output_rule}
 use Rattle.encoding_rs.specs.Decoding.{DecoderState, HasDecoded, whole_utf_8, whole_malformed}
-use Rattle.encoding_rs.specs.Encoder.{EncoderState, kept_by_id}
+use Rattle.encoding_rs.specs.Encoder.{EncoderState, raw_state, kept_in}
 use Rattle.encoding_rs.specs.EncodeRun.{whole_bytes}
 use Rattle.encoding_rs.specs.Properties.{output_encoding_of}
 use Rattle.encoding_rs.specs.Lengths.{max_length, output_lengths}
@@ -35,10 +34,12 @@ pub record IsTooLong (handling : BomHandling) (e : Encoding) (bytes : List ℕ) 
   pub query : Query
   pub passes : plus (max_length query state (length unread)) (length wrote) ≡ None
 
--- What calls of an encoder have come to: the bytes of the whole text are those written and those of the text unread.
+-- What calls of an encoder from which nothing is barred have come to: the bytes of the whole text are those written and those of
+-- the text unread.
 pub record HasWritten (e : Encoding) (text unread : List ℕ) (state : EncoderState) (wrote : List ℕ) : Type 0 where
   pub encoding : state.encoding ≡ output_encoding_of e
-  pub whole : whole_bytes e text ≡ wrote ++ bytes_of_text (output_rule state.encoding) state.set (with_references (output_rule state.encoding) unread)
+  pub barred : state.barred ≡ []
+  pub whole : whole_bytes [] e text ≡ wrote ++ bytes_of_text (raw_state state).rule state.set (with_references (raw_state state).rule unread)
 
 -- The same as above, where what is unread of the text is in UTF-8.
 pub record IsTooLongToEncode (e : Encoding) (text : List ℕ) : Type 0 where
@@ -46,4 +47,4 @@ pub record IsTooLongToEncode (e : Encoding) (text : List ℕ) : Type 0 where
   pub unread : List ℕ
   pub wrote : List ℕ
   pub written : HasWritten e text (chars unread) state wrote
-  pub passes : plus (plus (from_utf_8_length (output_lengths state.encoding) (length unread)) (kept_by_id state.encoding.id)) (length wrote) ≡ None
+  pub passes : plus (plus (from_utf_8_length (output_lengths state.encoding) (length unread)) (kept_in state.barred state.encoding)) (length wrote) ≡ None

@@ -1,17 +1,15 @@
 //! Whole runs of an encoder: what any list of calls comes to.
 
-ghost use Rattle.std.specs.Prelude.{◌≡◌, ◌+◌, ◌*◌, ◌≤◌, ◌⊎◌, ◌++◌, ◌&&◌, true, false, nat_le, chars, length, take, IfOk, OnOk};
-ghost use Rattle.std.specs.List.{All};
+ghost use Rattle.std.specs.Prelude.{◌≡◌, ◌++◌, ◌&&◌, [], true, false, nat_le, chars, length, IfOk, OnOk};
 ghost use Rattle.std.specs.Char.{encode_utf8};
 ghost use Rattle.std.specs.Char.Escape.{encode_utf16};
 ghost use Rattle.enc_encoders.specs.Text.{reference_after};
 ghost use Rattle.enc_references.specs.Treatment.{stop_of};
-ghost use Rattle.enc_references.specs.Unmappable.{any_unmappable, reports_of};
-ghost use Rattle.encoding_rs.specs.Encodings.{output_rule};
-ghost use Rattle.encoding_rs.specs.Encoder.{EncoderState, Encodes};
+ghost use Rattle.enc_encoders.specs.Barring.{are_beyond_ascii};
+ghost use Rattle.encoding_rs.specs.Encoder.{Encodes};
 ghost use Rattle.encoding_rs.specs.Run.{units_by};
-ghost use Rattle.encoding_rs.specs.EncodeRun.{treatment_by, report_of, is_report, is_empty, EncodeState, MakesCall, IsEncodeRun, HasEncoded, encode_start, whole_bytes, all_report};
-ghost use Rattle.encoding_rs.specs.EncodeEnd.{GoesFurther};
+ghost use Rattle.encoding_rs.specs.EncodeRun.{treatment_by, report_of, is_report, is_empty, MakesCall};
+ghost use Rattle.encoding_rs.specs.EncodeReport.{IsReportOf};
 
 use crate::chars_of_text::{chars_in_units, split_at_char, utf16_of};
 use crate::encoder::Encoder;
@@ -236,39 +234,24 @@ pub fn encode_run(
     text: &str,
     calls: &[EncodeCall],
 ) -> Result<EncodeReport, RunError>
-    // The report is that of the calls made, one after another.
-    ensures run { IfOk result (λ report. (encoder : EncoderState)
-        × IsEncodeRun (chars text.now) (take report.calls calls.now) (encode_start encoding)
-        (record {
-          encoder = encoder;
-          read = report.read;
-          bytes = report.bytes.items;
-          unmappables = report.unmappables.items;
-          had_unmappables = report.had_unmappables;
-          finished = report.finished;
-        })) }
-
-    // All calls are made, unless the end is reached before.
-    ensures made { IfOk result (λ report. (report.finished ≡ true) ⊎ (report.calls ≡ length calls.now)) }
-    ensures calls { IfOk result (λ report. report.calls ≤ length calls.now) }
-
-    // Where each call is offered a character and has room for four bytes beside those that it keeps back, two calls for each character
-    // and two more come to the end.
-    ensures end { IfOk result (λ report. All (GoesFurther encoding) calls.now → (report.calls ≤ 2 * length (chars text.now) + 2)
-        × (2 * length (chars text.now) + 2 ≤ length calls.now → report.finished ≡ true)) }
-
-    // What has come out is always a beginning of the bytes of the one text.
-    ensures beginning { IfOk result (λ report. HasEncoded encoding (chars text.now) (take report.calls calls.now)
-        report.bytes.items report.read report.unmappables.items report.had_unmappables) }
-
-    // At the end it is all of them.
-    ensures bytes { IfOk result (λ report. report.finished ≡ true → report.bytes.items ≡ whole_bytes encoding (chars text.now)) }
-    ensures flag { IfOk result (λ report. report.finished ≡ true → report.had_unmappables ≡ any_unmappable (output_rule encoding) (chars text.now)) }
-    ensures unmappables { IfOk result (λ report. report.finished ≡ true → all_report (take report.calls calls.now) ≡ true →
-        report.unmappables.items ≡ reports_of (output_rule encoding) (chars text.now)) }
-    ensures read { IfOk result (λ report. report.finished ≡ true → report.read ≡ length (chars text.now)) }
+    ensures { IfOk result (IsReportOf [] encoding (chars text.now) calls.now) }
 {
-    let mut encoder = encoding.new_encoder();
+    encode_run_barring(alloc, encoding, &[], text, calls)
+}
+
+/// The same, with an encoder to which the characters of a list are unmappable too. Condition: each is U+0080 or above
+/// ([`Encoding::barred_ok`]).
+pub fn encode_run_barring(
+    alloc: Global,
+    encoding: Encoding,
+    barred: &'static [char],
+    text: &str,
+    calls: &[EncodeCall],
+) -> Result<EncodeReport, RunError>
+    requires { are_beyond_ascii barred.now ≡ true }
+    ensures { IfOk result (IsReportOf barred.now encoding (chars text.now) calls.now) }
+{
+    let mut encoder = encoding.new_encoder_barring(barred);
     let mut bytes = Vec::new(alloc);
     let mut unmappables = Vec::new(alloc);
     let mut unread = text;

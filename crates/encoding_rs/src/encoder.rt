@@ -1,16 +1,17 @@
 //! Encoders.
 
-ghost use Rattle.std.specs.Prelude.{◌≡◌, ◌-◌, chars, false, length, take, drop, IfSome};
+ghost use Rattle.std.specs.Prelude.{◌≡◌, ◌-◌, chars, true, false, [], length, take, drop, IfSome};
 ghost use Rattle.std.specs.Vec.{vec_len, vec_capacity};
 ghost use Rattle.std.specs.Char.{encode_utf8};
 ghost use Rattle.std.specs.Char.Escape.{encode_utf16};
 ghost use Rattle.std.specs.Char.Utf16.{utf16_lossy_chars};
+ghost use Rattle.enc_encoders.specs.Barring.{are_beyond_ascii};
 ghost use Rattle.enc_encoders.specs.EncoderRule.{is_pending};
 ghost use Rattle.enc_references.specs.Treatment.{Reported, stop_of};
 ghost use Rattle.enc_units.specs.Checked.{plus};
 ghost use Rattle.enc_encoders.specs.Lengths.{from_utf_8_length, from_utf_16_length};
 ghost use Rattle.enc_encoders.specs.Need.{AreEnough};
-ghost use Rattle.encoding_rs.specs.Encoder.{Encodes, EncodesInto, fresh_encoder, kept_by_id, raw_state, replacing};
+ghost use Rattle.encoding_rs.specs.Encoder.{Encodes, EncodesInto, fresh_encoder, has_every as wanted_every, kept_in, raw_state, replacing};
 ghost use Rattle.encoding_rs.specs.Lengths.{output_lengths};
 ghost use Rattle.encoding_rs.specs.Need.{EncodesByNeed, IsEnough, IsEnoughIfMappable};
 
@@ -28,10 +29,12 @@ use std::marker::Model;
 ///
 /// However the text is cut between characters and whatever rooms the calls have, what has come out is a beginning of the
 /// bytes that the whole text has, where a decimal reference stands in the place of each unmappable character: calls with
-/// replacement put it there, and for one that is reported the caller does. Between two calls it keeps the designated character set, which only ISO-2022-JP has.
+/// replacement put it there, and for one that is reported the caller does. Between two calls it keeps the designated character set,
+/// which only ISO-2022-JP has, and always the list of characters that are barred.
 #[derive(Drop)]
 pub struct Encoder {
     encoding: Encoding,
+    barred: &'static [char],
     raw: VariantEncoder,
 }
 
@@ -43,9 +46,9 @@ impl Model for Encoder {
 
     ghost Value = { EncoderState };
 
-    ghost view = { λ e. record { encoding = e.encoding; set = (variant_state e.raw).set } };
+    ghost view = { λ e. record { encoding = e.encoding; barred = e.barred.now; set = (variant_state e.raw).set } };
 
-    ghost invariant = { λ e. (variant_state e.raw).rule ≡ output_rule e.encoding };
+    ghost invariant = { λ e. (variant_state e.raw).rule ≡ output_rule e.barred.now e.encoding };
 }
 
 impl fmt::Debug for Encoder {
@@ -62,12 +65,23 @@ impl Encoding {
     /// An encoder of its output encoding (Encoding Standard 4.3, "get an output encoding"): UTF-8 for UTF-16BE, UTF-16LE and
     /// replacement, and itself for all others. It is at the start of a text. Takes no memory.
     pub fn new_encoder(self) -> Encoder
-        ensures { result ≡ fresh_encoder self }
+        ensures { result ≡ fresh_encoder [] self }
+    {
+        self.new_encoder_barring(&[])
+    }
+
+    /// The same, to which the characters of a list are unmappable too: barred characters. Whether one is in the list is asked of the
+    /// character itself, before another is looked up in its place. Condition: each is U+0080 or above ([`Encoding::barred_ok`]).
+    /// The encoder keeps the list, also behind the end of a text. Takes no memory.
+    pub fn new_encoder_barring(self, barred: &'static [char]) -> Encoder
+        requires { are_beyond_ascii barred.now ≡ true }
+        ensures { result ≡ fresh_encoder barred.now self }
     {
         let encoding = self.output_encoding();
         Encoder {
             encoding,
-            raw: new_encoder(codec_of(encoding)),
+            barred,
+            raw: new_encoder(codec_of(encoding), barred),
         }
     }
 }
@@ -96,13 +110,24 @@ impl Encoder {
         byte_lengths(codec_of(self.encoding))
     }
 
-    /// How many bytes at the end of an output are kept back for references.
-    fn kept(&self) -> usize
-        ensures { result ≡ kept_by_id self.now.encoding.id }
+    /// Whether every character is mappable: in UTF-8, where none is barred.
+    fn has_every(&self) -> bool
+        ensures { result ≡ wanted_every self.now.barred self.now.encoding }
     {
         match self.encoding.id {
-            Id::Utf8 => 0,
-            _ => LONGEST_REFERENCE,
+            Id::Utf8 => self.barred.is_empty(),
+            _ => false,
+        }
+    }
+
+    /// How many bytes at the end of an output are kept back for references.
+    fn kept(&self) -> usize
+        ensures { result ≡ kept_in self.now.barred self.now.encoding }
+    {
+        if self.has_every() {
+            0
+        } else {
+            LONGEST_REFERENCE
         }
     }
 
@@ -131,10 +156,11 @@ impl Encoder {
     }
 
     /// How many bytes to allocate for [`Encoder::encode_from_utf8`] of so many code units, if no character of theirs is
-    /// unmappable: unless the encoding is UTF-8, 10 bytes more, which are kept back for references. A call with that reads all.
+    /// unmappable: unless the encoding is UTF-8 and no character is barred, 10 bytes more, which are kept back for references. A call
+    /// with that reads all.
     /// `None` where a step of the formula passes `usize`. Takes no memory.
     pub fn max_buffer_length_from_utf8_if_no_unmappables(&self, byte_length: usize) -> Option<usize>
-        ensures formula { result ≡ plus (from_utf_8_length (output_lengths self.now.encoding) byte_length) (kept_by_id self.now.encoding.id) }
+        ensures formula { result ≡ plus (from_utf_8_length (output_lengths self.now.encoding) byte_length) (kept_in self.now.barred self.now.encoding) }
         ensures enough { IfSome result (IsEnoughIfMappable encode_utf8 self.now byte_length) }
     {
         self.max_buffer_length_from_utf8_without_replacement(byte_length)?
@@ -143,7 +169,7 @@ impl Encoder {
 
     /// The same for [`Encoder::encode_from_utf16`], of so many code units of UTF-16.
     pub fn max_buffer_length_from_utf16_if_no_unmappables(&self, u16_length: usize) -> Option<usize>
-        ensures formula { result ≡ plus (from_utf_16_length (output_lengths self.now.encoding) u16_length) (kept_by_id self.now.encoding.id) }
+        ensures formula { result ≡ plus (from_utf_16_length (output_lengths self.now.encoding) u16_length) (kept_in self.now.barred self.now.encoding) }
         ensures enough { IfSome result (IsEnoughIfMappable encode_utf16 self.now u16_length) }
     {
         self.max_buffer_length_from_utf16_without_replacement(u16_length)?
@@ -172,13 +198,11 @@ impl Encoder {
         ensures { EncodesInto C.units_of (replacing self.old) self.old self.new (C.rest src.old) last dst.old dst.new
             (stop_of result.0) result.1 result.2 result.3 }
     {
-        match self.encoding.id {
-            Id::Utf8 => {
-                let (stop, read, written) = encode_all(&mut self.raw, src, dst, last);
-                (stop, read, written, false)
-            }
-            _ => encode_replacing(&mut self.raw, src, dst, last),
+        if self.has_every() {
+            let (stop, read, written) = encode_all(&mut self.raw, src, dst, last);
+            return (stop, read, written, false);
         }
+        encode_replacing(&mut self.raw, src, dst, last)
     }
 
     /// Encodes a text, with a decimal reference, `&#`, its number and `;`, in the place of each unmappable character. It
@@ -188,10 +212,10 @@ impl Encoder {
     /// - `InputEmpty`: all of `src` is read. With `last` the text is ended, and the encoder is at the start of another.
     /// - `OutputFull`: the bytes that come next don't fit. Their character is unread.
     ///
-    /// Unless the encoding is UTF-8, which has every character, the last 10 bytes of `dst` are kept back for references. With
-    /// fewer than 10 bytes nothing is done; behind a reference that has come to that part no more is written. Then the
-    /// answer is `InputEmpty` where nothing is left to do, and else `OutputFull`. Any room will do; 14 bytes, or 4 in
-    /// UTF-8, are enough to go on. The bytes of `dst` behind those written stay. Takes no memory.
+    /// Unless the encoding is UTF-8 and no character is barred, so that every character has bytes, the last 10 bytes of `dst` are
+    /// kept back for references. With fewer than 10 bytes nothing is done; behind a reference that has come to that part no
+    /// more is written. Then the answer is `InputEmpty` where nothing is left to do, and else `OutputFull`. Any room will do;
+    /// 14 bytes, or 4 where none are kept back, are enough to go on. The bytes of `dst` behind those written stay. Takes no memory.
     ///
     /// In ISO-2022-JP the references to U+000E, U+000F and U+001B are that to U+FFFD.
     pub fn encode_from_utf8(

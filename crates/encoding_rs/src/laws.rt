@@ -158,35 +158,37 @@ pub fn output_encodings_are_their_own(encoding: Encoding)
 }
 
 /// Where references stand in the place of unmappable characters, all characters are mappable, and so replacing them once
-/// more changes nothing.
+/// more changes nothing; whatever characters are barred.
 pub fn references_are_mappable(encoding: Encoding)
-    ensures once { (text : List ℕ) → with_references (output_rule encoding) (with_references (output_rule encoding) text)
-        ≡ with_references (output_rule encoding) text }
-    ensures mappable { (text : List ℕ) → any_unmappable (output_rule encoding) (with_references (output_rule encoding) text) ≡ false }
+    ensures once { (barred text : List ℕ)
+        → with_references (output_rule barred encoding) (with_references (output_rule barred encoding) text)
+        ≡ with_references (output_rule barred encoding) text }
+    ensures mappable { (barred text : List ℕ)
+        → any_unmappable (output_rule barred encoding) (with_references (output_rule barred encoding) text) ≡ false }
 {
     let _ = encoding;
 }
 
-/// What is encoded is decoded back by the same encoding, whatever rows stand in the indexes (Encoding Standard 4.1, an
-/// encoder and then a decoder), where no byte order mark is looked for.
+/// What is encoded is decoded back by the same encoding, whatever rows stand in the indexes and whatever characters are barred
+/// (Encoding Standard 4.1, an encoder and then a decoder), where no byte order mark is looked for.
 pub fn encoded_text_decodes_back(encoding: Encoding)
     // The bytes of a text whose characters are all mappable have no malformed sequence.
-    ensures well_formed { (text : List ℕ) → AreScalars text → any_unmappable (output_rule encoding) text ≡ false
-        → whole_malformed handling.Off (output_encoding_of encoding) (bytes_of_text (output_rule encoding) Ascii text) ≡ false }
+    ensures well_formed { (barred text : List ℕ) → AreScalars text → any_unmappable (output_rule barred encoding) text ≡ false
+        → whole_malformed handling.Off (output_encoding_of encoding) (bytes_of_text (output_rule barred encoding) Ascii text) ≡ false }
 
     // They decode to the same text, except in EUC-JP, Shift_JIS and ISO-2022-JP.
-    ensures same_text { (text : List ℕ) → AreScalars text → any_unmappable (output_rule encoding) text ≡ false
+    ensures same_text { (barred text : List ℕ) → AreScalars text → any_unmappable (output_rule barred encoding) text ≡ false
         → output_encoding_of encoding ≢ EUC_JP → output_encoding_of encoding ≢ SHIFT_JIS → output_encoding_of encoding ≢ ISO_2022_JP
-        → text_of (whole_sequences handling.Off (output_encoding_of encoding) (bytes_of_text (output_rule encoding) Ascii text)) ≡ text }
+        → text_of (whole_sequences handling.Off (output_encoding_of encoding) (bytes_of_text (output_rule barred encoding) Ascii text)) ≡ text }
 
     // In those three too each character is decoded to one, to itself or to another that has its bytes.
-    ensures characters { (text : List ℕ) → AreScalars text → any_unmappable (output_rule encoding) text ≡ false
-        → text_of (whole_sequences handling.Off (output_encoding_of encoding) (bytes_of_text (output_rule encoding) Ascii text))
+    ensures characters { (barred text : List ℕ) → AreScalars text → any_unmappable (output_rule barred encoding) text ≡ false
+        → text_of (whole_sequences handling.Off (output_encoding_of encoding) (bytes_of_text (output_rule barred encoding) Ascii text))
         ≡ map (read_back (codec_by_id (output_encoding_of encoding).id)) text }
 
     // The bytes of a text with references in the place of unmappable characters have no malformed sequence either.
-    ensures references { (text : List ℕ) → AreScalars text
-        → whole_malformed handling.Off (output_encoding_of encoding) (whole_bytes encoding text) ≡ false }
+    ensures references { (barred text : List ℕ) → AreScalars text
+        → whole_malformed handling.Off (output_encoding_of encoding) (whole_bytes barred encoding text) ≡ false }
 {
     let _ = (encoding, EUC_JP, SHIFT_JIS, ISO_2022_JP);
 }

@@ -200,9 +200,9 @@ impl Encoding {
         alloc: Global,
         text: &str,
     ) -> Result<(Vec<u8>, Encoding, bool), OneShotError>
-        ensures bytes { IfOk result (λ answer. answer.0.items ≡ whole_bytes self (chars text.now)) }
+        ensures bytes { IfOk result (λ answer. answer.0.items ≡ whole_bytes [] self (chars text.now)) }
         ensures encoding { IfOk result (λ answer. answer.1 ≡ output_encoding_of self) }
-        ensures flag { IfOk result (λ answer. answer.2 ≡ any_unmappable (output_rule self) (chars text.now)) }
+        ensures flag { IfOk result (λ answer. answer.2 ≡ any_unmappable (output_rule [] self) (chars text.now)) }
         ensures too_long { IsErrOf result OneShotError.TooLong → IsTooLongToEncode self (chars text.now) }
         ensures empty { text.now ≡ [] → IsOk result }
     {

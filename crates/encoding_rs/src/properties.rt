@@ -1,6 +1,7 @@
 //! Names and properties of the encodings (Encoding Standard 4.2 and 4.3).
 
 ghost use Rattle.std.specs.Prelude.{◌≡◌, ◌↔◌, IsTrue};
+ghost use Rattle.enc_encoders.specs.Barring.{are_beyond_ascii};
 ghost use Rattle.encoding_rs.specs.Names.{name_of};
 ghost use Rattle.encoding_rs.specs.Properties.{output_encoding_of, is_ascii_compatible, is_single_byte};
 
@@ -65,6 +66,19 @@ impl Encoding {
             Id::Replacement | Id::Utf16be | Id::Utf16le => UTF_8,
             _ => self,
         }
+    }
+
+    /// Whether an encoder can be told to treat the characters of a list as unmappable ([`Encoding::new_encoder_barring`]): each of
+    /// them is U+0080 or above, so that references can be written. Takes no memory.
+    pub fn barred_ok(barred: &[char]) -> bool
+        ensures { result ≡ are_beyond_ascii barred.now }
+    {
+        for i in 0..barred.len() {
+            if (barred[i] as u32) < 0x80 {
+                return false;
+            }
+        }
+        true
     }
 
     /// Whether every text can be written in its output encoding, which then is UTF-8. Takes no memory.

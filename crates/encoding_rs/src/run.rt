@@ -12,7 +12,7 @@ ghost use Rattle.encoding_rs.specs.Run.{units_by, AnswersCall, MakesCall, is_rep
 
 pub use crate::bom::BomHandling;
 use crate::decoder::Decoder;
-pub use crate::encode_run::{EncodeCall, EncodeReport, encode_run};
+pub use crate::encode_run::{EncodeCall, EncodeReport, encode_run, encode_run_barring};
 use crate::encoding::Encoding;
 use enc_calls::CoderResult;
 use enc_codec::DecoderResult;

@@ -123,7 +123,7 @@ const ROWS: &[(Encoding, Calls)] = &[
 #[test]
 fn keeps_room_back_for_references(rt: HostRuntime) -> Result<(), Fail> {
     for (encoding, calls) in ROWS {
-        make_replacing_calls(&rt, rt.alloc(), *encoding, calls)?;
+        make_replacing_calls(&rt, rt.alloc(), (*encoding, &[]), calls)?;
     }
     Ok(())
 }

@@ -1,7 +1,7 @@
 //! One call of an encoder, in any of its ways, told alike; and tables of single calls.
 
 use crate::harness::MOST_ROOM;
-use encoding_rs::{CoderResult, Encoder, EncoderResult, Encoding, UTF_8};
+use encoding_rs::{CoderResult, Encoder, EncoderResult, Encoding};
 use std::alloc::{AllocError, Global};
 use std::process::Abort;
 
@@ -68,11 +68,29 @@ pub(crate) const ALL_WAYS: [Way; 6] = [
     },
 ];
 
+/// The encoding that is asked for, and the characters that are barred.
+pub(crate) type Asked = (Encoding, &'static [char]);
+
+/// A new encoder of it.
+pub(crate) fn encoder_of(rt: &impl Abort, (encoding, barred): Asked) -> Encoder {
+    assert!(rt; Encoding::barred_ok(barred), "{barred:?}");
+    encoding.new_encoder_barring(barred)
+}
+
+/// So many bytes at the end of an output are kept back for references: none where every character is mappable.
+pub(crate) fn kept_back((encoding, barred): Asked) -> usize {
+    if encoding.can_encode_everything() && barred.is_empty() {
+        0
+    } else {
+        10
+    }
+}
+
 impl Way {
     /// With less room a call may be able neither to read nor to write.
-    pub(crate) fn room_enough(self, encoding: Encoding) -> usize {
-        if self.replaces && encoding != UTF_8 {
-            14
+    pub(crate) fn room_enough(self, asked: Asked) -> usize {
+        if self.replaces {
+            kept_back(asked).saturating_add(4)
         } else {
             4
         }
@@ -295,11 +313,11 @@ fn compare_outcome(
 pub(crate) fn make_replacing_calls(
     rt: &impl Abort,
     alloc: Global,
-    encoding: Encoding,
+    asked: Asked,
     calls: &[ReplacingCall<'_>],
 ) -> Result<(), AllocError> {
     for source in [Source::Utf8, Source::Utf16, Source::Utf8ToVec] {
-        let mut encoder = encoding.new_encoder();
+        let mut encoder = encoder_of(rt, asked);
         for (text, last, room, want, bytes) in calls {
             let (last, room) = (*last, *room);
             let offer = Offer { text, last, room };

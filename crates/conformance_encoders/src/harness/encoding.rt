@@ -1,7 +1,9 @@
 //! Runs of an encoder over a text, in each of its ways.
 
 use crate::harness::MOST_ROOM;
-use crate::harness::encoder_calls::{ALL_WAYS, Offer, Way, behind, call_in};
+use crate::harness::encoder_calls::{
+    ALL_WAYS, Asked, Offer, Way, behind, call_in, encoder_of, kept_back,
+};
 use crate::harness::one_shot::compare_with_run;
 use crate::harness::references::{foretell, push_reference};
 use crate::harness::single_characters::compare_single_characters;
@@ -25,6 +27,7 @@ struct Run {
     encoder: Encoder,
     /// Another one, of which reporting calls alone are made, to tell what those with replacement have to come to.
     model: Encoder,
+    asked: Asked,
     way: Way,
     bytes: Vec<u8>,
     /// Whether a reference stands among the bytes.
@@ -42,6 +45,7 @@ fn call<'a>(
     let Run {
         encoder,
         model,
+        asked,
         way,
         ..
     } = run;
@@ -49,7 +53,7 @@ fn call<'a>(
     let answer = call_in(rt, alloc, (encoder, *way), offer, &mut bytes)?;
     if way.replaces {
         let mut want = Vec::new(alloc);
-        let foretold = foretell(rt, alloc, model, offer, &mut want)?;
+        let foretold = foretell(rt, alloc, (model, kept_back(*asked)), offer, &mut want)?;
         assert_eq!(rt; answer, foretold, "{way:?} {offer:?}");
         assert_eq!(rt; bytes, want, "{way:?} {offer:?}");
         assert_eq!(rt; encoder.has_pending_state(), model.has_pending_state());
@@ -100,7 +104,7 @@ fn compare(rt: &impl Abort, run: &Run, row: &EncoderRow, room: usize) {
     let bytes = run.bytes.as_slice();
     assert!(rt; want.starts_with(bytes), "{row:?} {way:?} {room} {bytes:?}");
     assert!(rt;
-        !run.is_stuck || room < way.room_enough(run.encoder.encoding()),
+        !run.is_stuck || room < way.room_enough(run.asked),
         "{row:?} {way:?} {room}"
     );
     if !run.is_stuck {
@@ -109,10 +113,11 @@ fn compare(rt: &impl Abort, run: &Run, row: &EncoderRow, room: usize) {
     }
 }
 
-fn start(alloc: Global, encoding: Encoding, way: Way) -> Run {
+fn start(rt: &impl Abort, alloc: Global, asked: Asked, way: Way) -> Run {
     Run {
-        encoder: encoding.new_encoder(),
-        model: encoding.new_encoder(),
+        encoder: encoder_of(rt, asked),
+        model: encoder_of(rt, asked),
+        asked,
         way,
         bytes: Vec::new(alloc),
         replaced: false,
@@ -124,13 +129,13 @@ fn start(alloc: Global, encoding: Encoding, way: Way) -> Run {
 fn compare_parts(
     rt: &impl Abort,
     alloc: Global,
-    (encoding, way): (Encoding, Way),
+    (asked, way): (Asked, Way),
     row: &EncoderRow,
     (place, room): (usize, usize),
 ) -> Result<(), AllocError> {
     let back = behind(rt, row.0, place);
     let (front, _) = row.0.split_at_checked(place).unwrap_or(("", ""));
-    let mut run = start(alloc, encoding, way);
+    let mut run = start(rt, alloc, asked, way);
     for (text, last) in [(front, false), (back, true)] {
         offer(rt, alloc, &mut run, Offer { text, last, room })?;
     }
@@ -142,11 +147,11 @@ fn compare_parts(
 fn compare_characters(
     rt: &impl Abort,
     alloc: Global,
-    (encoding, way): (Encoding, Way),
+    (asked, way): (Asked, Way),
     row: &EncoderRow,
     room: usize,
 ) -> Result<(), AllocError> {
-    let mut run = start(alloc, encoding, way);
+    let mut run = start(rt, alloc, asked, way);
     let mut local = [0; 4];
     for character in row.0.chars() {
         let text = character.encode_utf8(&mut local);
@@ -159,8 +164,27 @@ fn compare_characters(
     Ok(())
 }
 
-/// Runs the rows in every cut between characters, with each room below `ROOMS`, in every way, through one-shot calls, and a
-/// character at a time in rooms that are told.
+/// Runs a row in every cut between characters, with each room below `ROOMS`, in every way; and a character at a time in rooms
+/// that are told.
+pub(crate) fn compare_cuts(
+    rt: &impl Abort,
+    alloc: Global,
+    asked: Asked,
+    row: &EncoderRow,
+) -> Result<(), Fail> {
+    compare_single_characters(rt, alloc, asked, row)?;
+    for way in ALL_WAYS {
+        for room in 0..ROOMS {
+            for (place, _) in row.0.char_indices() {
+                compare_parts(rt, alloc, (asked, way), row, (place, room))?;
+            }
+            compare_characters(rt, alloc, (asked, way), row, room)?;
+        }
+    }
+    Ok(())
+}
+
+/// Runs the rows in every cut and way, and through one-shot calls.
 pub(crate) fn compare_encoded(
     rt: &impl Abort,
     alloc: Global,
@@ -170,15 +194,7 @@ pub(crate) fn compare_encoded(
     for row in rows {
         let bytes = compare_with_run(rt, alloc, (encoding, row.0))?;
         assert_eq!(rt; bytes.as_slice(), row.1, "{row:?}");
-        compare_single_characters(rt, alloc, encoding, row)?;
-        for way in ALL_WAYS {
-            for room in 0..ROOMS {
-                for (place, _) in row.0.char_indices() {
-                    compare_parts(rt, alloc, (encoding, way), row, (place, room))?;
-                }
-                compare_characters(rt, alloc, (encoding, way), row, room)?;
-            }
-        }
+        compare_cuts(rt, alloc, (encoding, &[]), row)?;
     }
     Ok(())
 }
@@ -190,7 +206,7 @@ pub(crate) fn compare_ways(
     (encoding, text): (Encoding, &str),
 ) -> Result<(), Fail> {
     let (last, room) = (true, MOST_ROOM);
-    let mut first = start(alloc, encoding, ALL_WAYS[0]);
+    let mut first = start(rt, alloc, (encoding, &[]), ALL_WAYS[0]);
     offer(rt, alloc, &mut first, Offer { text, last, room })?;
     let whole = compare_with_run(rt, alloc, (encoding, text))?;
     assert_eq!(rt; whole, first.bytes, "{encoding:?}");
@@ -200,7 +216,7 @@ pub(crate) fn compare_ways(
         "{encoding:?}"
     );
     for way in ALL_WAYS {
-        let mut run = start(alloc, encoding, way);
+        let mut run = start(rt, alloc, (encoding, &[]), way);
         offer(rt, alloc, &mut run, Offer { text, last, room })?;
         assert_eq!(rt; run.bytes, first.bytes, "{encoding:?} {way:?}");
         assert_eq!(rt; run.replaced, first.replaced, "{encoding:?} {way:?}");

@@ -2,12 +2,9 @@
 
 use crate::harness::MOST_ROOM;
 use crate::harness::encoder_calls::{Answer, Offer, behind};
-use encoding_rs::{Encoder, EncoderResult, UTF_8};
+use encoding_rs::{Encoder, EncoderResult};
 use std::alloc::{AllocError, Global};
 use std::process::Abort;
-
-/// So many bytes at the end of an output are kept back for references, unless the encoding is UTF-8.
-const KEPT_BACK: usize = 10;
 
 /// Appends the decimal reference to a character.
 pub(crate) fn push_reference(
@@ -45,20 +42,15 @@ fn report_to(
     Ok(result)
 }
 
-/// What a call with replacement answers that is offered this, and appends its bytes.
+/// What a call with replacement answers that keeps so many bytes back and is offered this, and appends its bytes.
 pub(crate) fn foretell<'a>(
     rt: &impl Abort,
     alloc: Global,
-    encoder: &mut Encoder,
+    (encoder, kept): (&mut Encoder, usize),
     offer: Offer<'a>,
     bytes: &mut Vec<u8>,
 ) -> Result<Answer<'a>, AllocError> {
     let Offer { text, last, room } = offer;
-    let kept = if encoder.encoding() == UTF_8 {
-        0
-    } else {
-        KEPT_BACK
-    };
     let Some(limit) = room.checked_sub(kept) else {
         return Ok((stop_before(encoder, text, last), text, false));
     };

@@ -2,10 +2,12 @@
 //! character, and for a reference where they put some, their runs come to the end within two calls for each character and two more.
 
 use crate::harness::MOST_ROOM;
-use crate::harness::encoder_calls::{ALL_WAYS, Offer, Source, Way, call_in};
+use crate::harness::encoder_calls::{
+    ALL_WAYS, Asked, Offer, Source, Way, call_in, encoder_of,
+};
 use crate::harness::encoding::EncoderRow;
 use crate::harness::references::push_reference;
-use encoding_rs::run::{EncodeCall, encode_run};
+use encoding_rs::run::{EncodeCall, encode_run_barring};
 use encoding_rs::{Encoder, EncoderResult, Encoding};
 use std::alloc::{AllocError, Global};
 use std::process::Abort;
@@ -58,10 +60,10 @@ fn offer_in_told_room(
 fn compare_told_rooms(
     rt: &impl Abort,
     alloc: Global,
-    (encoding, way): (Encoding, Way),
+    (asked, way): (Asked, Way),
     row: &EncoderRow,
 ) -> Result<(), AllocError> {
-    let (mut encoder, mut bytes) = (encoding.new_encoder(), Vec::new(alloc));
+    let (mut encoder, mut bytes) = (encoder_of(rt, asked), Vec::new(alloc));
     let mut local = [0; 4];
     for character in row.0.chars() {
         let own = character.encode_utf8(&mut local);
@@ -69,7 +71,7 @@ fn compare_told_rooms(
         offer_in_told_room(rt, alloc, (&mut encoder, way), offer, &mut bytes)?;
     }
     offer_in_told_room(rt, alloc, (&mut encoder, way), ("", true), &mut bytes)?;
-    assert_eq!(rt; bytes.as_slice(), row.1, "{encoding:?} {way:?}");
+    assert_eq!(rt; bytes.as_slice(), row.1, "{asked:?} {way:?}");
     Ok(())
 }
 
@@ -78,10 +80,11 @@ fn compare_told_rooms(
 fn compare_end(
     rt: &impl Abort,
     alloc: Global,
-    (encoding, way): (Encoding, Way),
+    (asked, way): (Asked, Way),
     row: &EncoderRow,
     room: usize,
 ) -> Result<(), Fail> {
+    let (encoding, barred) = asked;
     let call = EncodeCall {
         utf16: matches!(way.source, Source::Utf16),
         replace: way.replaces,
@@ -90,15 +93,15 @@ fn compare_end(
     };
     let count = row.0.chars().count().saturating_mul(2).saturating_add(2);
     let calls = vec![in alloc; call; count]?;
-    let report = encode_run(alloc, encoding, row.0, &calls)?;
+    assert!(rt; Encoding::barred_ok(barred));
+    let report = encode_run_barring(alloc, encoding, barred, row.0, &calls)?;
     let came_to = report.bytes.as_slice();
     if report.finished {
-        assert_eq!(rt; came_to, row.1, "{encoding:?} {way:?} {room}");
+        assert_eq!(rt; came_to, row.1, "{asked:?} {way:?} {room}");
         return Ok(());
     }
     assert!(rt; row.1.starts_with(came_to), "{row:?} {way:?} {room}");
-    let enough = way.room_enough(encoding.output_encoding());
-    assert!(rt; room < enough, "{row:?} {way:?} {room}");
+    assert!(rt; room < way.room_enough(asked), "{row:?} {way:?} {room}");
     Ok(())
 }
 
@@ -106,13 +109,13 @@ fn compare_end(
 pub(crate) fn compare_single_characters(
     rt: &impl Abort,
     alloc: Global,
-    encoding: Encoding,
+    asked: Asked,
     row: &EncoderRow,
 ) -> Result<(), Fail> {
     for way in ALL_WAYS {
-        compare_told_rooms(rt, alloc, (encoding, way), row)?;
+        compare_told_rooms(rt, alloc, (asked, way), row)?;
         for room in ROOMS {
-            compare_end(rt, alloc, (encoding, way), row, room)?;
+            compare_end(rt, alloc, (asked, way), row, room)?;
         }
     }
     Ok(())

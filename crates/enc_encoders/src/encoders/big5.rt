@@ -4,6 +4,7 @@ ghost use Rattle.std.specs.Prelude.{◌≡◌, ◌<◌};
 ghost use Rattle.enc_encoders.specs.CharLaw.{bytes_of};
 ghost use Rattle.enc_encoders.specs.Big5.{big5_pair, big5_trail};
 
+use crate::barring::Barring;
 use crate::byte_lengths::ByteLengths;
 use crate::bytes::Bytes;
 use crate::made_bytes::two;
@@ -15,7 +16,7 @@ use enc_pointers::big5;
 pub struct Big5;
 
 /// The Big5 encoder (Encoding Standard 11.1.2).
-pub type Big5Encoder = StatelessEncoder<Big5>;
+pub type Big5Encoder = StatelessEncoder<Barring<Big5>>;
 
 /// The second byte of a cell.
 #[inline(always)]

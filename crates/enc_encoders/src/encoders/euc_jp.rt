@@ -5,6 +5,7 @@ ghost use Rattle.enc_encoders.specs.CharLaw.{bytes_of};
 ghost use Rattle.enc_encoders.specs.EucJp.{euc_jp_pair};
 
 use super::japanese::{is_katakana, katakana_byte, with_wide_minus};
+use crate::barring::Barring;
 use crate::byte_lengths::ByteLengths;
 use crate::bytes::Bytes;
 use crate::made_bytes::{one, two};
@@ -17,7 +18,7 @@ use enc_pointers::jis0208;
 pub struct EucJp;
 
 /// The EUC-JP encoder (Encoding Standard 12.1.2).
-pub type EucJpEncoder = StatelessEncoder<EucJp>;
+pub type EucJpEncoder = StatelessEncoder<Barring<EucJp>>;
 
 /// The two bytes of a pointer.
 #[inline(always)]

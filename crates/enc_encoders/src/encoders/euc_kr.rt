@@ -4,6 +4,7 @@ ghost use Rattle.std.specs.Prelude.{◌≡◌, ◌<◌};
 ghost use Rattle.enc_encoders.specs.CharLaw.{bytes_of};
 ghost use Rattle.enc_encoders.specs.EucKr.{euc_kr_pair};
 
+use crate::barring::Barring;
 use crate::byte_lengths::ByteLengths;
 use crate::bytes::Bytes;
 use crate::made_bytes::two;
@@ -15,7 +16,7 @@ use enc_pointers::euc_kr;
 pub struct EucKr;
 
 /// The EUC-KR encoder (Encoding Standard 13.1.2).
-pub type EucKrEncoder = StatelessEncoder<EucKr>;
+pub type EucKrEncoder = StatelessEncoder<Barring<EucKr>>;
 
 /// The two bytes of a pointer.
 #[inline(always)]

@@ -5,6 +5,7 @@ ghost use Rattle.enc_encoders.specs.CharLaw.{AreBytesOf, bytes_of};
 ghost use Rattle.enc_encoders.specs.Gb18030.{gb18030_pair, gb18030_trail, gb18030_four, two_or_four as wanted_bytes};
 ghost use Rattle.enc_pointers.specs.Pointers.{gb18030_pointer};
 
+use crate::barring::Barring;
 use crate::byte_lengths::ByteLengths;
 use crate::bytes::Bytes;
 use crate::made_bytes::{four, one, two};
@@ -20,7 +21,7 @@ pub struct Gb18030 {
 }
 
 /// The gb18030 encoder, and GBK's (Encoding Standard 10.2.2).
-pub type Gb18030Encoder = StatelessEncoder<Gb18030>;
+pub type Gb18030Encoder = StatelessEncoder<Barring<Barring<Gb18030>>>;
 
 /// The second byte of a cell.
 #[inline(always)]
@@ -77,9 +78,6 @@ impl Repertoire for Gb18030 {
     ghost lengths = { λ r. gb18030_lengths r.is_gbk };
 
     fn bytes_beyond_ascii(self, c: char) -> Option<Bytes> {
-        if c == '\u{E5E5}' {
-            return None;
-        }
         if self.is_gbk && c == '\u{20AC}' {
             return Some(one(0x80));
         }

@@ -7,6 +7,7 @@ ghost use Rattle.enc_encoders.specs.CharLaw.{AreBytesOf, bytes_of};
 
 use super::japanese::{is_katakana, with_wide_minus};
 use super::katakana::KATAKANA;
+use crate::barring::is_barred;
 use crate::byte_lengths::ByteLengths;
 use crate::bytes::Bytes;
 use crate::char_encoder::CharEncoder;
@@ -31,10 +32,12 @@ enum CharClass {
     Kanji,
 }
 
-/// The ISO-2022-JP encoder (Encoding Standard 12.2.2). It keeps the designated character set between two calls.
+/// The ISO-2022-JP encoder (Encoding Standard 12.2.2). It keeps the designated character set between two calls, and
+/// the list of characters that are barred.
 #[derive(Clone, Copy)]
 pub struct Iso2022JpEncoder {
     set: CharacterSet,
+    barred: &'static [char],
 }
 
 /// What a character is, if it is mappable.
@@ -148,9 +151,12 @@ fn reported(c: char) -> char
 impl CharEncoder for Iso2022JpEncoder {
     ghost use Rattle.enc_encoders.specs.Iso2022Jp.{iso_2022_jp_state};
 
-    ghost state = { λ e. iso_2022_jp_state e.set };
+    ghost state = { λ e. iso_2022_jp_state e.barred.now e.set };
 
     fn bytes(self, c: char) -> Option<Bytes> {
+        if is_barred(self.barred, c) {
+            return None;
+        }
         iso_2022_jp_bytes(c)
     }
 
@@ -165,14 +171,15 @@ impl CharEncoder for Iso2022JpEncoder {
         }
         Some(Iso2022JpEncoder {
             set: set_of_class(class),
+            barred: self.barred,
         })
     }
 
     fn escape_at_end(self) -> Option<Iso2022JpEncoder> {
         match self.set {
             CharacterSet::Ascii => None,
-            CharacterSet::Roman => Some(Iso2022JpEncoder::new()),
-            CharacterSet::Jis0208 => Some(Iso2022JpEncoder::new()),
+            CharacterSet::Roman => Some(Iso2022JpEncoder::new(self.barred)),
+            CharacterSet::Jis0208 => Some(Iso2022JpEncoder::new(self.barred)),
         }
     }
 
@@ -182,12 +189,15 @@ impl CharEncoder for Iso2022JpEncoder {
 }
 
 impl Iso2022JpEncoder {
-    /// An encoder at the start of a text. Takes no memory.
-    pub fn new() -> Iso2022JpEncoder
-        ensures { result.set ≡ Ascii }
+    /// An encoder at the start of a text, to which the characters of a list are unmappable too. ASCII is never barred. Takes no
+    /// memory.
+    pub fn new(barred: &'static [char]) -> Iso2022JpEncoder
+        ensures set { result.set ≡ Ascii }
+        ensures barred { result.barred.now ≡ barred.now }
     {
         Iso2022JpEncoder {
             set: CharacterSet::Ascii,
+            barred,
         }
     }
 }
@@ -196,7 +206,7 @@ impl RawEncoder for Iso2022JpEncoder {
     ghost use Rattle.enc_encoders.specs.declared.byte_lengths.ByteLengths.TheVariants as lengths;
     ghost use Rattle.enc_encoders.specs.Iso2022Jp.{iso_2022_jp_state};
 
-    ghost state = { λ e. iso_2022_jp_state e.set };
+    ghost state = { λ e. iso_2022_jp_state e.barred.now e.set };
 
     ghost formulas = { λ _. lengths.Iso2022Jp };
 

@@ -5,6 +5,7 @@ ghost use Rattle.enc_encoders.specs.CharLaw.{bytes_of};
 ghost use Rattle.enc_encoders.specs.ShiftJis.{shift_jis_pair, shift_jis_lead, shift_jis_trail};
 
 use super::japanese::{is_katakana, katakana_byte, with_wide_minus};
+use crate::barring::Barring;
 use crate::byte_lengths::ByteLengths;
 use crate::bytes::Bytes;
 use crate::made_bytes::{one, two};
@@ -16,7 +17,7 @@ use enc_pointers::shift_jis;
 pub struct ShiftJis;
 
 /// The Shift_JIS encoder (Encoding Standard 12.3.2).
-pub type ShiftJisEncoder = StatelessEncoder<ShiftJis>;
+pub type ShiftJisEncoder = StatelessEncoder<Barring<ShiftJis>>;
 
 /// The first byte of a row.
 #[inline(always)]

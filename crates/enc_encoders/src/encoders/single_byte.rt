@@ -4,6 +4,7 @@ ghost use Rattle.std.specs.Prelude.{◌≡◌, ◌<◌};
 ghost use Rattle.enc_encoders.specs.CharLaw.{bytes_of};
 ghost use Rattle.enc_encoders.specs.SingleByte.{single_byte as byte_of_pointer};
 
+use crate::barring::Barring;
 use crate::byte_lengths::ByteLengths;
 use crate::bytes::Bytes;
 use crate::made_bytes::one;
@@ -19,7 +20,7 @@ pub struct SingleByte {
 }
 
 /// The encoder of a legacy single-byte encoding (Encoding Standard 9.2).
-pub type SingleByteEncoder = StatelessEncoder<SingleByte>;
+pub type SingleByteEncoder = StatelessEncoder<Barring<SingleByte>>;
 
 /// The byte of a pointer.
 #[inline(always)]

@@ -3,6 +3,7 @@
 ghost use Rattle.std.specs.Prelude.{◌≡◌, encode_utf8};
 ghost use Rattle.enc_encoders.specs.CharLaw.{bytes_of};
 
+use crate::barring::Barring;
 use crate::byte_lengths::ByteLengths;
 use crate::bytes::Bytes;
 use crate::stateless::{Repertoire, StatelessEncoder};
@@ -12,7 +13,7 @@ use crate::stateless::{Repertoire, StatelessEncoder};
 pub struct Utf8;
 
 /// The UTF-8 encoder (Encoding Standard 8.1.2).
-pub type Utf8Encoder = StatelessEncoder<Utf8>;
+pub type Utf8Encoder = StatelessEncoder<Barring<Utf8>>;
 
 /// The bytes of a character.
 fn utf8_bytes(c: char) -> Bytes

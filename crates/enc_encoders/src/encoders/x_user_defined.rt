@@ -1,5 +1,6 @@
 //! The x-user-defined encoder (Encoding Standard 14.5.2).
 
+use crate::barring::Barring;
 use crate::byte_lengths::ByteLengths;
 use crate::bytes::Bytes;
 use crate::made_bytes::one;
@@ -10,7 +11,7 @@ use crate::stateless::{Repertoire, StatelessEncoder};
 pub struct XUserDefined;
 
 /// The x-user-defined encoder (Encoding Standard 14.5.2).
-pub type XUserDefinedEncoder = StatelessEncoder<XUserDefined>;
+pub type XUserDefinedEncoder = StatelessEncoder<Barring<XUserDefined>>;
 
 impl Repertoire for XUserDefined {
     ghost use Rattle.enc_encoders.specs.declared.byte_lengths.ByteLengths.TheVariants as by;

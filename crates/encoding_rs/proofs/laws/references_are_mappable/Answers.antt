@@ -1,9 +1,8 @@
-use Rattle.encoding_rs.specs.Encodings.{codec_by_id}
 use Rattle.encoding_rs.proofs.ReferenceLemmas.{lawful_of, once, all_mapped}
 use Rattle.encoding_rs.proofs.laws.references_are_mappable.Goals as goal
 
 pub returns-clause-once : goal.returns-clause-once
-returns-clause-once c = λ t. once _ (lawful_of (codec_by_id c.args.encoding.id)) t
+returns-clause-once c = λ b t. once _ (lawful_of b c.args.encoding) t
 
 pub returns-clause-mappable : goal.returns-clause-mappable
-returns-clause-mappable c = λ t. all_mapped _ (lawful_of (codec_by_id c.args.encoding.id)) t
+returns-clause-mappable c = λ b t. all_mapped _ (lawful_of b c.args.encoding) t

@@ -3,8 +3,11 @@ use Rattle.std.specs.Vec.{vec_len, vec_capacity}
 use Rattle.enc_calls.specs.declared.coder_result.CoderResult.TheVariants.{InputEmpty}
 use Rattle.encoding_rs.proofs.OneShotLemmas.{nothing}
 use Rattle.encoding_rs.proofs.UnreadLemmas.{no_chars}
-use Rattle.encoding_rs.proofs.WrittenLemmas.{nothing_written, at_boundary, written_on, flagged_on, fewer_steps, written_all, flagged_all}
+use Rattle.encoding_rs.proofs.WrittenLemmas.{none_written, nothing_written, at_boundary, written_on, flagged_on, fewer_steps, written_all, flagged_all}
 use Rattle.encoding_rs.proofs.encoding.Encoding.encode.Goals as goal
+
+pub calls-init : goal.calls-init
+calls-init c = rw (c.new_encoder-encoder.ensures, c.new-bytes.ensures.items) (c.utf8.text, record { written = none_written c.args.self (chars c.args.text.now); flag = refl })
 
 pub returns-then-is_empty-clause-bytes : goal.returns-then-is_empty-clause-bytes
 returns-then-is_empty-clause-bytes c =

@@ -1,4 +1,4 @@
-use Rattle.std.proofs.Common.{◌≡◌, chars, length, true, ◌||◌}
+use Rattle.std.proofs.Common.{◌≡◌, chars, length, true, [], ◌||◌}
 use denote.Text.{Utf8}
 use denote.Shadow.{shadow}
 use Rattle.enc_encoders.specs.Steps.{steps_from}
@@ -11,7 +11,7 @@ use Rattle.encoding_rs.proofs.encoding.Encoding.encode.Given as goal
 abbrev pub invariant-calls : goal.invariant-calls
 invariant-calls l = shadow (Utf8 l.unread) × record {
   written : HasWritten l.fn.self (chars l.fn.text) (chars l.unread) l.encoder l.bytes.items;
-  flag : any_unmappable (output_rule l.fn.self) (chars l.fn.text) ≡ (l.had_unmappables || any_unmappable (output_rule l.fn.self) (chars l.unread));
+  flag : any_unmappable (output_rule [] l.fn.self) (chars l.fn.text) ≡ (l.had_unmappables || any_unmappable (output_rule [] l.fn.self) (chars l.unread));
 }
 
 abbrev pub decreases-calls : goal.decreases-calls

@@ -1,8 +1,9 @@
 use Rattle.enc_encoders.proofs.Iso2022JpLemmas.{iso_2022_jp_is_lawful}
+use Rattle.enc_encoders.proofs.BarringLemmas.{barring_is_lawful}
 use Rattle.enc_encoders.proofs.encoders.iso_2022_jp.Iso2022JpEncoderRawEncoder.encode.Goals as goal
 
 pub run-requires : goal.run-requires
-run-requires g c = record { lawful = iso_2022_jp_is_lawful }
+run-requires g c = record { lawful = barring_is_lawful _ _ iso_2022_jp_is_lawful }
 
 pub returns-clause-lawful : goal.returns-clause-lawful
-returns-clause-lawful g c = iso_2022_jp_is_lawful
+returns-clause-lawful g c = barring_is_lawful _ _ iso_2022_jp_is_lawful

@@ -2,12 +2,12 @@ use Rattle.std.proofs.Common.{◌∙◌, ap, arith, refl, chars, drop, rules}
 use Rattle.std.proofs.lemmas.List.{drop-drop}
 use Rattle.encoding_rs.proofs.EncodeRunLemmas.{start, written_on, runs_next, takes_next, has_encoded, within, few_chars, all_bytes, any_char, all_reports, all_read}
 use Rattle.encoding_rs.proofs.EncodeEndLemmas.{ends}
-use Rattle.encoding_rs.proofs.encode_run.encode_run.Goals as goal
+use Rattle.encoding_rs.proofs.encode_run.encode_run_barring.Goals as goal
 
 pub loop-call-init : goal.loop-call-init
-loop-call-init c = rw (c.new_encoder-encoder.ensures, c.new-bytes.ensures.items, c.new-unmappables.ensures.items) (record {
+loop-call-init c = rw (c.new_encoder_barring-encoder.ensures, c.new-bytes.ensures.items, c.new-unmappables.ensures.items) (record {
   run = refl;
-  written = start c.args.encoding (chars c.args.text.now);
+  written = start c.args.barred.now c.args.encoding (chars c.args.text.now);
   unread = refl;
   made = refl;
   utf8 = search rules;
@@ -17,9 +17,9 @@ pub overflow_add-read : goal.overflow_add-read
 overflow_add-read c =
     let i = c.loop-call.invariant in
     let more = rw i.unread at c.in-Ok.ensures.call in
-    let next = written_on c.args.encoding _ _ _ i.written _ _ _ _ _ _ more in
+    let next = written_on c.args.barred.now c.args.encoding _ _ _ i.written _ _ _ _ _ _ more in
     let few = few_chars c.args.text.now c.utf8.text in
-    let all = within _ _ _ _ next in
+    let all = within _ _ _ _ _ next in
     search (arith, few, all)
 
 pub loop-call-preserved : goal.loop-call-preserved
@@ -27,7 +27,7 @@ loop-call-preserved c =
     let i = c.loop-call.invariant in
     let more = rw i.unread at c.in-Ok.ensures.call in
     let ended = rw i.unread at c.in-Ok.ensures.ended in
-    let next = written_on c.args.encoding _ _ _ i.written _ _ _ _ _ _ more in
+    let next = written_on c.args.barred.now c.args.encoding _ _ _ i.written _ _ _ _ _ _ more in
     rw (c.in-Ok-note_report.ensures, c.reports.ensures, ended) (record {
       run = runs_next _ _ _ _ _ _ _ _ i.made c.loop-call-test.true i.run (record {
         result = c.in-Ok.done.result;
@@ -40,29 +40,23 @@ loop-call-preserved c =
         flag = refl;
         finished = refl;
       });
-      written = takes_next _ _ _ _ _ _ _ i.made c.loop-call-test.true next;
+      written = takes_next _ _ _ _ _ _ _ _ i.made c.loop-call-test.true next;
       unread = c.split_at_char.ensures.back ∙ ap (drop c.in-Ok.done.read) i.unread ∙ drop-drop c.in-Ok.done.read c.loop-call.read (chars c.args.text.now);
       made = omega (arith, i.made);
       utf8 = search rules;
     })
 
-pub returns-clause-run : goal.returns-clause-run
-returns-clause-run c = (c.loop-call.encoder, c.loop-call.invariant.run)
-
-pub returns-clause-end : goal.returns-clause-end
-returns-clause-end c = λ further. ends _ _ _ c.loop-call.made _ (search rules) (search rules) c.loop-call.invariant.run further
-
-pub returns-clause-beginning : goal.returns-clause-beginning
-returns-clause-beginning c = has_encoded _ _ _ _ c.loop-call.invariant.written
-
-pub returns-clause-bytes : goal.returns-clause-bytes
-returns-clause-bytes c = λ f. all_bytes _ _ _ _ c.loop-call.invariant.written f
-
-pub returns-clause-flag : goal.returns-clause-flag
-returns-clause-flag c = λ f. any_char _ _ _ _ c.loop-call.invariant.written f
-
-pub returns-clause-unmappables : goal.returns-clause-unmappables
-returns-clause-unmappables c = λ f r. all_reports _ _ _ _ c.loop-call.invariant.written f r
-
-pub returns-clause-read : goal.returns-clause-read
-returns-clause-read c = λ f. all_read _ _ _ _ c.loop-call.invariant.written f
+pub returns : goal.returns
+returns c =
+    let i = c.loop-call.invariant in
+    record {
+      run = (c.loop-call.encoder, i.run);
+      made = search rules;
+      calls = search rules;
+      end = λ further. ends _ _ _ _ c.loop-call.made _ (search rules) (search rules) i.run further;
+      beginning = has_encoded _ _ _ _ _ i.written;
+      bytes = λ f. all_bytes _ _ _ _ _ i.written f;
+      flag = λ f. any_char _ _ _ _ _ i.written f;
+      unmappables = λ f r. all_reports _ _ _ _ _ i.written f r;
+      read = λ f. all_read _ _ _ _ _ i.written f;
+    }

@@ -3,14 +3,14 @@ use denote.Text.{Utf8}
 use Rattle.std.proofs.Common.{◌≡◌, chars, take, drop}
 use Rattle.encoding_rs.specs.EncodeRun.{EncodeState, IsEncodeRun, encode_start}
 use Rattle.encoding_rs.proofs.EncodeRunLemmas.{Written}
-use Rattle.encoding_rs.proofs.encode_run.encode_run.Given as goal
+use Rattle.encoding_rs.proofs.encode_run.encode_run_barring.Given as goal
 
 abbrev pub invariant-loop-call : goal.invariant-loop-call
 invariant-loop-call l =
     let state : EncodeState = record { encoder = l.encoder; read = l.read; bytes = l.bytes.items; unmappables = l.unmappables.items; had_unmappables = l.had_unmappables; finished = l.finished } in
     record {
-      run : IsEncodeRun (chars l.text) (take l.made l.calls) (encode_start l.fn.encoding) state;
-      written : Written l.fn.encoding (chars l.text) (take l.made l.calls) state;
+      run : IsEncodeRun (chars l.text) (take l.made l.calls) (encode_start l.fn.barred l.fn.encoding) state;
+      written : Written l.fn.barred l.fn.encoding (chars l.text) (take l.made l.calls) state;
       unread : chars l.unread ≡ drop l.read (chars l.text);
       made : l.made ≡ l.call-index;
       utf8 : shadow (Utf8 l.unread);

@@ -1,0 +1,54 @@
+-- Encodings from which characters are barred keep their laws.
+use Rattle.std.proofs.Common.{◌≡◌, ℕ, ◌<◌, ◌≤◌, Bool, true, false, ◌&&◌, nat_le, Option, Some, None, List, refl, ap, ◌∙◌, arith, if◌then◌else◌}
+use Rattle.std.proofs.lemmas.Bool.Decides.{nat_tests}
+use Rattle.enc_encoders.specs.declared.byte_lengths.ByteLengths.{ByteLengths}
+use Rattle.enc_encoders.specs.EncoderRule.{EncoderRule, IsLawful, AreFew}
+use Rattle.enc_encoders.specs.Stateless.{WritesAscii, WritesFew, KeepsLengths}
+use Rattle.enc_encoders.specs.Barring.{stands_in, is_barred, except, barring}
+use Rattle.enc_encoders.proofs.FewLemmas.{size}
+use Rattle.enc_encoders.proofs.StatelessLemmas.{of_references_is_ascii}
+
+and_false : (a : Bool) → (a && false) ≡ false
+and_false true = refl
+and_false false = refl
+
+-- ASCII is not barred
+not_barred : (b : List ℕ) (c : ℕ) → c < 0x80 → is_barred b c ≡ false
+not_barred b c l =
+    let low : nat_le 0x80 c ≡ false = grind (arith, nat_tests) in
+    ap (λ t. stands_in b c && t) low ∙ and_false (stands_in b c)
+
+few_if : (t : Bool) (x : Option (List ℕ)) → AreFew x → AreFew (if t then None else x)
+few_if true x h = tt
+few_if false x h = h
+
+-- no character has more bytes
+fewer_if : (t : Bool) (x : Option (List ℕ)) → size (if t then None else x) ≤ size x
+fewer_if true x = omega arith
+fewer_if false x = omega arith
+
+pub fewer : (b : List ℕ) (bytes : ℕ → Option (List ℕ)) (c : ℕ) → size (except b bytes c) ≤ size (bytes c)
+fewer b bytes c = fewer_if (is_barred b c) (bytes c)
+
+pub except_writes_ascii : (b : List ℕ) (bytes : ℕ → Option (List ℕ)) → WritesAscii bytes → WritesAscii (except b bytes)
+except_writes_ascii b bytes w c l = rw (not_barred b c l) (w c l)
+
+pub except_writes_few : (b : List ℕ) (bytes : ℕ → Option (List ℕ)) → WritesFew bytes → WritesFew (except b bytes)
+except_writes_few b bytes w = record { few = λ c. few_if (is_barred b c) (bytes c) (w.few c) }
+
+pub except_keeps : (b : List ℕ) (lengths : ByteLengths) (bytes : ℕ → Option (List ℕ)) → KeepsLengths lengths bytes → KeepsLengths lengths (except b bytes)
+except_keeps b lengths bytes h = record {
+  by_utf_8 = λ c. omega (arith, fewer b bytes c, h.by_utf_8 c);
+  by_utf_16 = λ c. omega (arith, fewer b bytes c, h.by_utf_16 c);
+}
+
+-- of the rule of any encoding
+pub barring_is_lawful : (b : List ℕ) (e : EncoderRule) → IsLawful e → IsLawful (barring b e)
+barring_is_lawful b e l = record {
+  designates = l.designates;
+  set_after_none = l.set_after_none;
+  set_after_more = l.set_after_more;
+  references = λ c r. rw (not_barred b c (of_references_is_ascii c r)) (l.references c r);
+  one_set = l.one_set;
+  few = λ c. few_if (is_barred b c) (e.bytes c) (l.few c);
+}
