@@ -2,9 +2,7 @@
 //! character, and for a reference where they put some, their runs come to the end within two calls for each character and two more.
 
 use crate::harness::MOST_ROOM;
-use crate::harness::encoder_calls::{
-    ALL_WAYS, Asked, Offer, Source, Way, call_in, encoder_of,
-};
+use crate::harness::encoder_calls::{ALL_WAYS, Asked, Offer, Source, Way, call_in, encoder_of};
 use crate::harness::encoding::EncoderRow;
 use crate::harness::references::push_reference;
 use encoding_rs::run::{EncodeCall, encode_run_barring};
