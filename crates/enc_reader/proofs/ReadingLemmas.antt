@@ -1,5 +1,5 @@
 -- Reads, one behind another, and what they are made of.
-use Rattle.std.proofs.Common.{◌≡◌, ℕ, ◌+◌, ◌-◌, ◌*◌, ◌<◌, ◌≤◌, ◌⊎◌, min, inl, inr, Bool, true, false, ◌||◌, List, [], ◌++◌, length, take, drop, Option, refl, ap, ◌∙◌, sym, subst, arith, append_assoc, append-nil, length-append, if◌then◌else◌, IsUtf8, ◌&&◌, not, nat_eq, drop-drop}
+use Rattle.std.proofs.Common.{◌≡◌, ℕ, ◌+◌, ◌-◌, ◌*◌, ◌<◌, ◌≤◌, min, inl, inr, Bool, true, false, ◌||◌, List, [], ◌++◌, length, take, drop, Option, refl, ap, ◌∙◌, sym, subst, arith, append_assoc, append-nil, length-append, if◌then◌else◌, IsUtf8, ◌&&◌, not, nat_eq, drop-drop}
 use Rattle.std.proofs.Math.ListN.{length-drop}
 use Rattle.std.proofs.Math.Seq.{drop-length}
 use Rattle.std.proofs.lemmas.Bool.Decides.{nat_tests}
@@ -23,7 +23,7 @@ use Rattle.encoding_rs.proofs.EndLemmas.{finishes, none_left, only_put}
 use Rattle.encoding_rs.proofs.FullLemmas.{four_bytes, some_written}
 use Rattle.encoding_rs.proofs.RunLemmas.{determined_by}
 use Rattle.enc_reader.specs.Source.{TellsNext}
-use Rattle.enc_reader.specs.Reading.{ReaderState, Reads, IsAtItsEnd, FailsToRead, owed, owed_encoding, distance}
+use Rattle.enc_reader.specs.Reading.{ReaderState, Reads, IsAtItsEnd, owed, owed_encoding, distance}
 use Rattle.enc_reader.specs.Turn.{IsWaiting, Pulls, IsTurn}
 use Rattle.enc_reader.proofs.SourceLemmas.{TellsNext-none, TellsNext-then}
 

@@ -1,6 +1,5 @@
 -- What a `DecodeReader` shows.
-use Rattle.std.specs.Prelude.{◌-◌, take, drop, Option, List, ℕ}
-use Rattle.std.specs.Io.KnownBytes.{IsAtEnd}
+use Rattle.std.specs.Prelude.{◌-◌, take, drop}
 use Rattle.enc_reader.specs.declared.decode_reader.DecodeReader.{DecodeReader}
 use Rattle.enc_reader.specs.Reading.{ReaderState}
 

@@ -1,4 +1,4 @@
-use Rattle.std.proofs.Common.{rules, ◌≡◌, ◌≤◌, length, take, [], true, false, not, refl, ap, sym, ◌∙◌}
+use Rattle.std.proofs.Common.{rules, ◌≡◌, ◌≤◌, length, take, [], true, false, not, ap, sym, ◌∙◌}
 use Rattle.std.proofs.lemmas.Bool.{false≢true}
 use Rattle.encoding_rs.specs.Decoding.{finished}
 use Rattle.enc_reader.proofs.ReadingLemmas.{IsTurn-chunk, some_text, opposite, all_read, only_at_end}

@@ -1,4 +1,4 @@
-use Rattle.std.proofs.Common.{rules, ◌≡◌, ◌+◌, ◌≤◌, length, take, [], true, false, refl, ap, sym, subst, ◌∙◌}
+use Rattle.std.proofs.Common.{rules, ◌≡◌, take, [], true, ap, subst}
 use Rattle.enc_reader.specs.Reader.{state_of}
 use Rattle.enc_reader.proofs.ReadingLemmas.{HasRead, HasRead-turn, HasRead-more}
 use Rattle.enc_reader.proofs.decode_reader.DecodeReader.read_str.Goals as goal
