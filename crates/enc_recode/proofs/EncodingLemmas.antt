@@ -25,7 +25,7 @@ use Rattle.encoding_rs.specs.declared.encoding.TheConstants.{UTF_8}
 use Rattle.encoding_rs.specs.Encodings.{output_rule}
 use Rattle.encoding_rs.specs.Encoder.{EncoderState, EncodesInto, raw_state, replacing}
 use Rattle.enc_recode.specs.Sink.{TakesMore, TakesPrefix}
-use Rattle.enc_recode.specs.Chunk.{bytes_from, EncodesText, HasEncoded, StopsWithin}
+use Rattle.enc_recode.specs.Writing.{bytes_from, EncodesText, HasEncoded, StopsWithin}
 use Rattle.enc_recode.proofs.KnownLemmas.{TakesMore-none, TakesMore-then}
 use Rattle.encoding_rs.proofs.ProgressLemmas.{goes_on}
 use Rattle.encoding_rs.proofs.UnreadLemmas.{boundary, chars_behind, all_read}

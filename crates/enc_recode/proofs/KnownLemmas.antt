@@ -4,8 +4,8 @@ use Rattle.std.proofs.Math.Seq.{take-add}
 use Rattle.std.proofs.lemmas.List.{take-take, take-append-drop}
 use Rattle.std.specs.declared.result.Result.{Result}
 use Rattle.std.specs.Prelude.{Ok, Err, OnErr, IfSome, option_map}
-use Rattle.std.specs.Io.KnownBytes.{prepend_known, append_known, IsAtEnd}
-use Rattle.enc_recode.specs.Source.{TellsNext}
+use Rattle.std.specs.Io.KnownBytes.{append_known, IsAtEnd}
+use Rattle.enc_reader.specs.Source.{TellsNext}
 use Rattle.enc_recode.specs.Sink.{TakesMore, TakesPrefix}
 use Rattle.enc_recode.specs.Run.{BeginsWith}
 
@@ -17,25 +17,11 @@ pub append_known-append : (known : Option (List ℕ)) (a b : List ℕ) → appen
 append_known-append None a b = refl
 append_known-append (Some xs) a b = ap Some (append_assoc xs a b)
 
-pub prepend_known-nil : (known : Option (List ℕ)) → prepend_known [] known ≡ known
-prepend_known-nil None = refl
-prepend_known-nil (Some xs) = refl
-
-pub prepend_known-append : (known : Option (List ℕ)) (a b : List ℕ) → prepend_known a (prepend_known b known) ≡ prepend_known (a ++ b) known
-prepend_known-append None a b = refl
-prepend_known-append (Some xs) a b = ap Some (sym (append_assoc a b xs))
-
 pub TakesMore-none : (known : Option (List ℕ)) → TakesMore known known []
 TakesMore-none known = sym (append_known-nil known)
 
 pub TakesMore-then : (k₀ k₁ k₂ : Option (List ℕ)) (a b : List ℕ) → TakesMore k₀ k₁ a → TakesMore k₁ k₂ b → TakesMore k₀ k₂ (a ++ b)
 TakesMore-then k₀ k₁ k₂ a b h₁ h₂ = h₂ ∙ ap (λ k. append_known k b) h₁ ∙ append_known-append k₀ a b
-
-pub TellsNext-none : (known : Option (List ℕ)) → TellsNext known known []
-TellsNext-none known = sym (prepend_known-nil known)
-
-pub TellsNext-then : (k₀ k₁ k₂ : Option (List ℕ)) (a b : List ℕ) → TellsNext k₀ k₁ a → TellsNext k₁ k₂ b → TellsNext k₀ k₂ (a ++ b)
-TellsNext-then k₀ k₁ k₂ a b h₁ h₂ = h₁ ∙ ap (λ k. prepend_known a k) h₂ ∙ prepend_known-append k₂ a b
 
 -- Bytes that came next stand in front of what was told.
 pub begins_told : (old new : Option (List ℕ)) (bytes : List ℕ) → TellsNext old new bytes → IfSome old (λ all. BeginsWith all bytes)

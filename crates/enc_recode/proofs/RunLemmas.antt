@@ -1,54 +1,69 @@
--- A run, over its pulls.
-use Rattle.std.proofs.Common.{◌≡◌, ℕ, ◌+◌, ◌≤◌, ◌<◌, Bool, true, false, ◌||◌, List, [], ◌++◌, length, Option, refl, ap, ◌∙◌, sym, append_assoc, append-nil, length-append, arith}
+-- A run, over its reads.
+use Rattle.std.proofs.Common.{◌≡◌, ℕ, ◌+◌, ◌-◌, ◌*◌, ◌^◌, ◌<◌, ◌≤◌, min, Bool, true, false, ◌||◌, List, [], ◌++◌, length, take, Option, refl, ap, ◌∙◌, sym, subst, append_assoc, append-nil, length-append, arith, chars}
+use Rattle.std.proofs.lemmas.Bool.{false≢true}
+use Rattle.std.proofs.lemmas.Str.{chars-encodes, chars-append, chars-nil}
+use Rattle.std.specs.Prelude.{IsErr, IsErrOf, Ok, Err}
+use Rattle.std.specs.declared.result.Result.{Result}
 use Rattle.std.specs.Io.KnownBytes.{IsAtEnd}
+use Rattle.enc_units.proofs.Utf8CharsLemmas.{their_units}
 use Rattle.enc_machine.specs.Sequence.{text_of, any_malformed}
+use Rattle.enc_machine.proofs.SequenceLemmas.{text_of-append}
 use Rattle.enc_encoders.specs.declared.character_set.CharacterSet.{CharacterSet}
 use Rattle.enc_encoders.specs.declared.character_set.CharacterSet.TheVariants.{Ascii}
 use Rattle.enc_encoders.specs.Text.{bytes_of_text, with_references, escape_at_end}
 use Rattle.enc_references.specs.Unmappable.{any_unmappable}
 use Rattle.encoding_rs.specs.declared.bom.BomHandling.TheVariants.{Sniff}
 use Rattle.encoding_rs.specs.declared.encoding.Encoding.{Encoding}
-use Rattle.encoding_rs.specs.Encodings.{output_rule}
-use Rattle.encoding_rs.specs.Decoding.{DecoderState, finished, fresh, whole_sequences, remaining_sequences}
+use Rattle.encoding_rs.specs.Decoding.{finished, whole_sequences}
 use Rattle.encoding_rs.specs.Encoder.{EncoderState, fresh_encoder, raw_state}
 use Rattle.encoding_rs.proofs.EndLemmas.{fresh_sequences, none_left}
-use Rattle.enc_recode.specs.Source.{TellsNext}
-use Rattle.enc_recode.specs.Chunk.{HasRecoded, StopsWithin, bytes_from, remaining_bytes}
-use Rattle.enc_recode.specs.Run.{RunsToEnd, RunsToFault, whole_text, recoded, any_replaced}
-use Rattle.enc_recode.proofs.KnownLemmas.{TakesMore-then, TellsNext-none, TellsNext-then, begins_told, all_told, none_told}
 use Rattle.encoding_rs.proofs.ProgressLemmas.{none_due, output_rule_is}
-use Rattle.enc_recode.proofs.EncodingLemmas.{not_ended}
-use Rattle.enc_recode.proofs.ChunkLemmas.{HasRecoded-none, HasRecoded-more, HasRecoded-owed}
+use Rattle.enc_reader.specs.declared.decode_reader.ReadFault.{ReadFault}
+use Rattle.enc_reader.specs.declared.decode_reader.ReadFault.TheVariants as fault
+use Rattle.enc_reader.specs.Source.{TellsNext, TellsNoMore}
+use Rattle.enc_reader.specs.Reading.{ReaderState, Reads, HandsOut, FailsToRead, IsAtItsEnd, distance, fresh_reader, owed}
+use Rattle.enc_reader.proofs.SourceLemmas.{TellsNext-then, at_end}
+use Rattle.enc_reader.proofs.ReadingLemmas.{Reads-none, Reads-then, handed_utf_8}
+use Rattle.enc_recode.specs.Writing.{HasEncoded, StopsWithin, bytes_from}
+use Rattle.enc_recode.specs.Run.{RunsToEnd, RunsToFault, whole_text, recoded, any_replaced}
+use Rattle.enc_recode.proofs.KnownLemmas.{TakesMore-none, TakesMore-then, begins_told, all_told, none_told}
+use Rattle.enc_recode.proofs.EncodingLemmas.{not_ended, HasEncoded-none, HasEncoded-more}
 
--- a run after so many pulls that have each given a byte or more, all of which are recoded
-pub record HasRun (from to : Encoding) (told_before told taken_before taken : Option (List ℕ)) (decoder : DecoderState) (encoder : EncoderState) (replaced : Bool) (pulls : ℕ) : Type 0 where
+-- The text owed before is that handed out and that owed now.
+
+handed_is : (t₀ t : Option (List ℕ)) (a b : ReaderState) (x wrote : List ℕ) (m : Bool) (h : Reads t₀ t a b x wrote m) → chars wrote ≡ text_of h.done
+handed_is t₀ t a b x wrote m h = ap chars (h.text ∙ their_units (text_of h.done)) ∙ chars-encodes (text_of h.done) h.scalars
+
+owed_text : (t₀ t : Option (List ℕ)) (a b : ReaderState) (x wrote : List ℕ) (m : Bool) → Reads t₀ t a b x wrote m → (z : List ℕ) → (b.ended ≡ true → z ≡ [])
+    → text_of (owed a (x ++ z)) ≡ chars wrote ++ text_of (owed b z)
+owed_text t₀ t a b x wrote m h z n =
+    ap text_of (h.residual z n) ∙ text_of-append h.done (owed b z) ∙ ap (λ u. u ++ text_of (owed b z)) (sym (handed_is t₀ t a b x wrote m h))
+
+-- A run after so many reads that have each handed out a text: all of it is encoded.
+pub record HasRun (from to : Encoding) (t₀ t k₀ k : Option (List ℕ)) (reader : ReaderState) (encoder : EncoderState) (malformed replaced : Bool) (made : ℕ) : Type 0 where
   pub bytes : List ℕ
-  pub made : HasRecoded (fresh Sniff from) decoder (fresh_encoder [] to) encoder bytes [] false false taken_before taken replaced
-  pub read : TellsNext told_before told bytes
-  pub enough : pulls ≤ length bytes
+  pub wrote : List ℕ
+  pub reads : Reads t₀ t (fresh_reader from) reader bytes wrote malformed
+  pub none_told : reader.ended ≡ true → TellsNoMore t
+  pub encoded : HasEncoded (fresh_encoder [] to) encoder (chars wrote) [] false k₀ k replaced
+  pub enough : made + distance reader ≤ 1 + 2 * length bytes
 
-pub HasRun-start : (from to : Encoding) (told taken : Option (List ℕ)) → HasRun from to told told taken taken (fresh Sniff from) (fresh_encoder [] to) false 0
-HasRun-start from to told taken = record {
+HasRun-fresh : (from to : Encoding) (t k : Option (List ℕ)) → HasRun from to t t k k (fresh_reader from) (fresh_encoder [] to) false false 0
+HasRun-fresh from to t k = record {
   bytes = [];
-  made = HasRecoded-none (fresh Sniff from) (fresh_encoder [] to) [] false taken;
-  read = TellsNext-none told;
+  wrote = [];
+  reads = Reads-none t (fresh_reader from);
+  none_told = λ e. not_ended e;
+  encoded = rw chars-nil (HasEncoded-none (fresh_encoder [] to) [] false k);
   enough = omega arith;
 }
 
--- one chunk more
-pub HasRun-more : (from to : Encoding) (t₀ t₁ t₂ k₀ k₁ k₂ : Option (List ℕ)) (old new : DecoderState) (before after : EncoderState) (r₁ r₂ : Bool) (pulls : ℕ) (x : List ℕ) (last : Bool)
-    → HasRun from to t₀ t₁ k₀ k₁ old before r₁ pulls → TellsNext t₁ t₂ x → HasRecoded old new before after x [] last last k₁ k₂ r₂ → last ≡ false → 0 < length x
-    → HasRun from to t₀ t₂ k₀ k₂ new after (r₁ || r₂) (pulls + 1)
-HasRun-more from to t₀ t₁ t₂ k₀ k₁ k₂ old new before after r₁ r₂ pulls x true p t q e some = not_ended (sym e)
-HasRun-more from to t₀ t₁ t₂ k₀ k₁ k₂ old new before after r₁ r₂ pulls x false p t q e some = record {
-  bytes = p.bytes ++ x;
-  made = HasRecoded-more (fresh Sniff from) old new (fresh_encoder [] to) before after p.bytes x false k₀ k₁ k₂ r₁ r₂ p.made q;
-  read = TellsNext-then t₀ t₁ t₂ p.bytes x p.read t;
-  enough = rw (length-append p.bytes x) (omega (arith, p.enough));
-}
+pub HasRun-start : (from to : Encoding) (t told k : Option (List ℕ)) (reader : ReaderState) (encoder : EncoderState) (malformed : Bool)
+    → told ≡ t → reader ≡ fresh_reader from → encoder ≡ fresh_encoder [] to → malformed ≡ false → HasRun from to t told k k reader encoder malformed false 0
+HasRun-start from to t told k reader encoder malformed a b c d = rw (a, b, c, d) (HasRun-fresh from to t k)
 
--- What a run owes is what its decoder and its encoder do that have read nothing.
-owed_is : (from to : Encoding) (bytes : List ℕ) → recoded from to bytes ≡ remaining_bytes (fresh Sniff from) (fresh_encoder [] to) bytes
+-- What a run owes is what its reader and its encoder owe that have read nothing.
+owed_is : (from to : Encoding) (bytes : List ℕ) → recoded from to bytes ≡ bytes_from (fresh_encoder [] to) (text_of (owed (fresh_reader from) bytes))
 owed_is from to bytes =
     ap (λ rule. bytes_of_text rule Ascii (with_references rule (whole_text from bytes))) (sym (output_rule_is [] to))
     ∙ ap (λ ss. bytes_from (fresh_encoder [] to) (text_of ss)) (fresh_sequences Sniff from bytes)
@@ -57,81 +72,129 @@ owed_is from to bytes =
 none_owed : (e : EncoderState) → e.set ≡ Ascii → bytes_from e [] ≡ []
 none_owed e h = ap (λ (s : CharacterSet). escape_at_end ((raw_state e).rule.set_after s [])) h ∙ none_due e.barred e.encoding
 
--- a run that has come to the end
-module _ (from to : Encoding) (bytes : List ℕ) (decoder : DecoderState) (encoder : EncoderState) (k₀ k₁ : Option (List ℕ)) (r : Bool)
-    (p : HasRecoded (fresh Sniff from) decoder (fresh_encoder [] to) encoder bytes [] true true k₀ k₁ r) (f : finished decoder ≡ true) (s : encoder.set ≡ Ascii) where
-  all_done : whole_sequences Sniff from bytes ≡ p.decoded.done
-  all_done =
-      fresh_sequences Sniff from bytes ∙ ap (remaining_sequences (fresh Sniff from)) (sym (append-nil bytes)) ∙ p.decoded.residual [] (λ _. refl)
-      ∙ ap (λ ss. p.decoded.done ++ ss) (none_left decoder.life decoder.encoding decoder.set (decoder.pending ++ []) f) ∙ append-nil p.decoded.done
+none_behind : (s : ReaderState) → finished s.decoder ≡ true → (z : List ℕ) → owed s z ≡ []
+none_behind s f z = none_left s.decoder.life s.decoder.encoding s.decoder.set (s.decoder.pending ++ (s.unread ++ z)) f
 
-  text_is : p.text ≡ whole_text from bytes
-  text_is = p.decoded.is ∙ ap text_of (sym all_done)
+-- one read more
+module _ (from to : Encoding) (t₀ t₁ t₂ k₀ k₁ : Option (List ℕ)) (old new : ReaderState) (encoder : EncoderState) (m₁ m₂ r₁ : Bool) (made : ℕ) (w : List ℕ)
+    (p : HasRun from to t₀ t₁ k₀ k₁ old encoder m₁ r₁ made) (q : HandsOut t₁ t₂ old new w m₁ m₂) where
+  abbrev bytes : List ℕ
+  bytes = p.bytes ++ q.bytes
 
-  pub bytes_are : p.encoded.wrote ≡ recoded from to bytes
-  bytes_are =
-      sym (append-nil p.encoded.wrote) ∙ ap (λ t. p.encoded.wrote ++ t) (sym (none_owed encoder s))
-      ∙ sym (p.encoded.encoded.residual [] (λ _. refl)) ∙ ap (bytes_from (fresh_encoder [] to)) (append-nil p.text ∙ text_is)
-      ∙ ap (λ rule. bytes_of_text rule Ascii (with_references rule (whole_text from bytes))) (output_rule_is [] to)
+  reads_on : Reads t₀ t₂ (fresh_reader from) new bytes (p.wrote ++ w) m₂
+  reads_on = rw q.flag (Reads-then t₀ t₁ t₂ (fresh_reader from) old new p.bytes q.bytes p.wrote w m₁ q.malformed p.reads q.reads)
 
-  pub flag_is : r ≡ any_replaced from to bytes
-  flag_is =
-      p.flag ∙ ap (λ m. m || p.unmappable) (p.decoded.flag ∙ ap any_malformed (sym all_done))
-      ∙ ap (λ u. any_malformed (whole_sequences Sniff from bytes) || u)
-      (p.encoded.encoded.flag ∙ ap (any_unmappable (raw_state (fresh_encoder [] to)).rule) (sym (append-nil p.encoded.encoded.front) ∙ sym p.encoded.encoded.reads ∙ text_is)
-      ∙ ap (λ rule. any_unmappable rule (whole_text from bytes)) (output_rule_is [] to))
+  chars_on : chars (p.wrote ++ w) ≡ chars p.wrote ++ chars w
+  chars_on = chars-append p.wrote w (handed_utf_8 t₀ t₁ (fresh_reader from) old p.bytes p.wrote m₁ p.reads)
 
--- the end
-pub RunsToEnd-last : (from to : Encoding) (t₀ t₁ t₂ k₀ k₁ k₂ : Option (List ℕ)) (old new : DecoderState) (before after : EncoderState) (r₁ r₂ : Bool) (pulls : ℕ) (x : List ℕ) (last : Bool)
-    → HasRun from to t₀ t₁ k₀ k₁ old before r₁ pulls → TellsNext t₁ t₂ x → IsAtEnd t₂ → HasRecoded old new before after x [] last last k₁ k₂ r₂
-    → last ≡ true → finished new ≡ last → (last ≡ true → after.set ≡ Ascii) → RunsToEnd from to t₀ t₂ k₀ k₂ (r₁ || r₂)
-RunsToEnd-last from to t₀ t₁ t₂ k₀ k₁ k₂ old new before after r₁ r₂ pulls x false p t end q e f s = not_ended e
-RunsToEnd-last from to t₀ t₁ t₂ k₀ k₁ k₂ old new before after r₁ r₂ pulls x true p t end q e f s =
-    let made = HasRecoded-more (fresh Sniff from) old new (fresh_encoder [] to) before after p.bytes x true k₀ k₁ k₂ r₁ r₂ p.made q in
-    let read = TellsNext-then t₀ t₁ t₂ p.bytes x p.read t in
-    record {
-      bytes = p.bytes ++ x;
-      all_read = all_told t₀ t₂ (p.bytes ++ x) read end;
-      none_left = none_told t₀ t₂ (p.bytes ++ x) read end;
-      flag = flag_is from to (p.bytes ++ x) new after k₀ k₂ (r₁ || r₂) made f (s refl);
-      written = rw (← (bytes_are from to (p.bytes ++ x) new after k₀ k₂ (r₁ || r₂) made f (s refl))) made.encoded.taken;
+  owed_on : (z : List ℕ) → (new.ended ≡ true → z ≡ []) → recoded from to (bytes ++ z) ≡ p.encoded.wrote ++ bytes_from encoder (chars w ++ text_of (owed new z))
+  owed_on z h =
+      owed_is from to (bytes ++ z) ∙ ap (λ x. bytes_from (fresh_encoder [] to) (text_of (owed (fresh_reader from) x))) (append_assoc p.bytes q.bytes z)
+      ∙ ap (bytes_from (fresh_encoder [] to)) (owed_text t₀ t₁ (fresh_reader from) old p.bytes p.wrote m₁ p.reads (q.bytes ++ z) (λ e. let n = q.reads.none_behind e in ap (λ x. x ++ z) n.0 ∙ h n.1))
+      ∙ p.encoded.encoded.residual (text_of (owed old (q.bytes ++ z))) (λ f. not_ended f)
+      ∙ ap (λ x. p.encoded.wrote ++ bytes_from encoder x) (owed_text t₁ t₂ old new q.bytes w q.malformed q.reads z h)
+
+  module _ (k₂ : Option (List ℕ)) (after : EncoderState) (last r₂ : Bool) (e : HasEncoded encoder after (chars w) [] last k₁ k₂ r₂) where
+    encoded_on : HasEncoded (fresh_encoder [] to) after (chars (p.wrote ++ w)) [] last k₀ k₂ (r₁ || r₂)
+    encoded_on = rw chars_on (HasEncoded-more (fresh_encoder [] to) encoder after (chars p.wrote) (chars w) last k₀ k₁ k₂ r₁ r₂ p.encoded e)
+
+    pub HasRun-more : last ≡ false → 0 < length w → HasRun from to t₀ t₂ k₀ k₂ new after m₂ (r₁ || r₂) (made + 1)
+    HasRun-more f some = record {
+      bytes = bytes;
+      wrote = p.wrote ++ w;
+      reads = reads_on;
+      none_told = q.none_told;
+      encoded = subst (λ l. HasEncoded (fresh_encoder [] to) after (chars (p.wrote ++ w)) [] l k₀ k₂ (r₁ || r₂)) f encoded_on;
+      enough = omega (arith, p.enough, q.reads.nearer, some, length-append p.bytes q.bytes);
     }
 
--- a fault between two chunks
-pub RunsToFault-between : (from to : Encoding) (t₀ t₁ k₀ k₁ : Option (List ℕ)) (decoder : DecoderState) (encoder : EncoderState) (r : Bool) (pulls : ℕ)
-    → HasRun from to t₀ t₁ k₀ k₁ decoder encoder r pulls → RunsToFault from to t₀ k₀ k₁
-RunsToFault-between from to t₀ t₁ k₀ k₁ decoder encoder r pulls p = record {
-  bytes = p.bytes;
-  read = begins_told t₀ t₁ p.bytes p.read;
-  ended = false;
-  all_read = λ f. not_ended f;
-  wrote = p.made.encoded.wrote;
-  written = p.made.encoded.taken;
-  prefix = λ z h. (
-    remaining_bytes decoder encoder z,
-    owed_is from to (p.bytes ++ z)
-        ∙ HasRecoded-owed (fresh Sniff from) decoder (fresh_encoder [] to) encoder p.bytes [] false k₀ k₁ r p.made z h,
-  );
-}
+    -- the end
+    module _ (end : IsAtItsEnd t₂ new) (set : after.set ≡ Ascii) (l : last ≡ true) where
+      all_done : whole_sequences Sniff from bytes ≡ reads_on.done
+      all_done =
+          fresh_sequences Sniff from bytes ∙ ap (owed (fresh_reader from)) (sym (append-nil bytes)) ∙ reads_on.residual [] (λ _. refl)
+          ∙ ap (λ ss. reads_on.done ++ ss) end.none_owed ∙ append-nil reads_on.done
 
--- a fault within a chunk
-pub RunsToFault-within : (from to : Encoding) (t₀ t₁ t₂ k₀ k₁ k₂ : Option (List ℕ)) (decoder : DecoderState) (encoder : EncoderState) (r : Bool) (pulls : ℕ) (x : List ℕ) (last : Bool)
-    → HasRun from to t₀ t₁ k₀ k₁ decoder encoder r pulls → TellsNext t₁ t₂ x → (last ≡ true → IsAtEnd t₂)
-    → StopsWithin (remaining_bytes decoder encoder) x last k₁ k₂ → RunsToFault from to t₀ k₀ k₂
-RunsToFault-within from to t₀ t₁ t₂ k₀ k₁ k₂ decoder encoder r pulls x last p t end q =
-    let read = TellsNext-then t₀ t₁ t₂ p.bytes x p.read t in
-    let wrote = p.made.encoded.wrote in
-    record {
-      bytes = p.bytes ++ x;
-      read = begins_told t₀ t₂ (p.bytes ++ x) read;
-      ended = last;
-      all_read = λ h. all_told t₀ t₂ (p.bytes ++ x) read (end h);
-      wrote = wrote ++ q.wrote;
-      written = TakesMore-then k₀ k₁ k₂ wrote q.wrote p.made.encoded.taken q.taken;
-      prefix = λ z h. (
-        q.unwritten z h,
-        owed_is from to ((p.bytes ++ x) ++ z) ∙ ap (remaining_bytes (fresh Sniff from) (fresh_encoder [] to)) (append_assoc p.bytes x z)
-            ∙ HasRecoded-owed (fresh Sniff from) decoder (fresh_encoder [] to) encoder p.bytes [] false k₀ k₁ r p.made (x ++ z) (λ f. not_ended f)
-            ∙ ap (λ w. wrote ++ w) (q.prefix z h) ∙ sym (append_assoc wrote q.wrote (q.unwritten z h)),
-      );
-    }
+      text_is : chars (p.wrote ++ w) ≡ whole_text from bytes
+      text_is = handed_is t₀ t₂ (fresh_reader from) new bytes (p.wrote ++ w) m₂ reads_on ∙ ap text_of (sym all_done)
+
+      bytes_are : encoded_on.wrote ≡ recoded from to bytes
+      bytes_are =
+          sym (append-nil encoded_on.wrote) ∙ ap (λ t. encoded_on.wrote ++ t) (sym (none_owed after set))
+          ∙ sym (encoded_on.encoded.residual [] (λ _. refl)) ∙ ap (bytes_from (fresh_encoder [] to)) (append-nil (chars (p.wrote ++ w)) ∙ text_is)
+          ∙ ap (λ rule. bytes_of_text rule Ascii (with_references rule (whole_text from bytes))) (output_rule_is [] to)
+
+      flag_is : (m₂ || (r₁ || r₂)) ≡ any_replaced from to bytes
+      flag_is =
+          ap (λ b. b || (r₁ || r₂)) (reads_on.flag ∙ ap any_malformed (sym all_done))
+          ∙ ap (λ u. any_malformed (whole_sequences Sniff from bytes) || u)
+          (encoded_on.encoded.flag ∙ ap (any_unmappable (raw_state (fresh_encoder [] to)).rule) (sym (append-nil encoded_on.encoded.front) ∙ sym encoded_on.encoded.reads ∙ text_is)
+          ∙ ap (λ rule. any_unmappable rule (whole_text from bytes)) (output_rule_is [] to))
+
+      pub RunsToEnd-last : RunsToEnd from to t₀ t₂ k₀ k₂ (m₂ || (r₁ || r₂))
+      RunsToEnd-last = record {
+        bytes = bytes;
+        all_read = all_told t₀ t₂ bytes reads_on.given end.none_told;
+        none_left = none_told t₀ t₂ bytes reads_on.given end.none_told;
+        flag = flag_is;
+        written = rw (← bytes_are) encoded_on.taken;
+      }
+
+  -- a fault while its text is written
+  pub RunsToFault-within : (k₂ : Option (List ℕ)) (last : Bool) → (last ≡ true → IsAtItsEnd t₂ new) → StopsWithin (bytes_from encoder) (chars w) last k₁ k₂
+      → RunsToFault from to t₀ k₀ k₂
+  RunsToFault-within k₂ last end s =
+      let behind : (z : List ℕ) → last ≡ true → text_of (owed new z) ≡ [] = λ z l. ap text_of (none_behind new (end l).finished z) in
+      record {
+        bytes = bytes;
+        read = begins_told t₀ t₂ bytes reads_on.given;
+        ended = new.ended;
+        all_read = λ e. all_told t₀ t₂ bytes reads_on.given (at_end t₂ (q.none_told e));
+        wrote = p.encoded.wrote ++ s.wrote;
+        written = TakesMore-then k₀ k₁ k₂ p.encoded.wrote s.wrote p.encoded.taken s.taken;
+        prefix = λ z h. (
+          s.unwritten (text_of (owed new z)) (behind z),
+          owed_on z h ∙ ap (λ x. p.encoded.wrote ++ x) (s.prefix (text_of (owed new z)) (behind z))
+              ∙ sym (append_assoc p.encoded.wrote s.wrote (s.unwritten (text_of (owed new z)) (behind z))),
+        );
+      }
+
+-- a fault between two texts
+module _ (from to : Encoding) (t₀ t₁ k₀ k₁ : Option (List ℕ)) (old : ReaderState) (encoder : EncoderState) (m₁ r₁ : Bool) (made : ℕ)
+    (p : HasRun from to t₀ t₁ k₀ k₁ old encoder m₁ r₁ made) where
+  stops_at : (t₂ : Option (List ℕ)) (new : ReaderState) (x : List ℕ) (m₂ : Bool) → Reads t₁ t₂ old new x [] m₂ → (new.ended ≡ true → TellsNoMore t₂) → RunsToFault from to t₀ k₀ k₁
+  stops_at t₂ new x m₂ q told =
+      let given = TellsNext-then t₀ t₁ t₂ p.bytes x p.reads.given q.given in
+      record {
+        bytes = p.bytes ++ x;
+        read = begins_told t₀ t₂ (p.bytes ++ x) given;
+        ended = new.ended;
+        all_read = λ e. all_told t₀ t₂ (p.bytes ++ x) given (at_end t₂ (told e));
+        wrote = p.encoded.wrote;
+        written = p.encoded.taken;
+        prefix = λ z h. (
+          bytes_from encoder (text_of (owed old (x ++ z))),
+          owed_is from to ((p.bytes ++ x) ++ z) ∙ ap (λ u. bytes_from (fresh_encoder [] to) (text_of (owed (fresh_reader from) u))) (append_assoc p.bytes x z)
+              ∙ ap (bytes_from (fresh_encoder [] to)) (owed_text t₀ t₁ (fresh_reader from) old p.bytes p.wrote m₁ p.reads (x ++ z) (λ e. let n = q.none_behind e in ap (λ u. u ++ z) n.0 ∙ h n.1))
+              ∙ p.encoded.encoded.residual (text_of (owed old (x ++ z))) (λ f. not_ended f),
+        );
+      }
+
+  -- after so many reads
+  pub RunsToFault-between : RunsToFault from to t₀ k₀ k₁
+  RunsToFault-between = stops_at t₁ old [] false (Reads-none t₁ old) p.none_told
+
+  -- in a read
+  module _ (has_failed : Bool) (new : ReaderState) (f : FailsToRead t₁ has_failed old new) where
+    pub RunsToFault-reading : RunsToFault from to t₀ k₀ k₁
+    RunsToFault-reading = stops_at f.told new f.bytes f.malformed f.reads (λ e. absurd (false≢true (sym f.not_ended ∙ e)))
+
+-- A read that fails, of a reader that had not failed, tells a fault of its source.
+pub is_readers : (r : Result ℕ ReadFault) → IsErr r → (IsErrOf r fault.Failed → ⊥) → IsErrOf r fault.Reader
+is_readers (Ok n) e f = absurd (false≢true e)
+is_readers (Err fault.Reader) e f = refl
+is_readers (Err fault.Failed) e f = absurd (f refl)
+
+-- the same, by what is known of the source and the flag
+pub RunsToEnd-by : (from to : Encoding) (t₀ t told k₀ k : Option (List ℕ)) (r replaced : Bool) → told ≡ t → replaced ≡ r → RunsToEnd from to t₀ t k₀ k r → RunsToEnd from to t₀ told k₀ k replaced
+RunsToEnd-by from to t₀ t told k₀ k r replaced a b h = rw (a, b) h

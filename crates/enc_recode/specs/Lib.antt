@@ -1,4 +1,3 @@
-pub mod Source
 pub mod Sink
-pub mod Chunk
+pub mod Writing
 pub mod Run

@@ -4,15 +4,14 @@ ghost use Rattle.std.specs.Prelude.{◌≡◌, ◌^◌, ◌<◌, ◌≤◌, leng
 ghost use Rattle.enc_encoders.specs.declared.character_set.CharacterSet.TheVariants.{Ascii};
 ghost use Rattle.encoding_rs.specs.declared.encoding.TheConstants.{UTF_8};
 ghost use Rattle.encoding_rs.specs.Properties.{output_encoding_of};
-ghost use Rattle.encoding_rs.specs.Decoding.{finished};
 ghost use Rattle.encoding_rs.specs.Encoder.{fresh_encoder};
 ghost use Rattle.enc_recode.specs.Sink.{TakesMore, TakesPrefix};
-ghost use Rattle.enc_recode.specs.Chunk.{CanWrite, HasEncoded, HasRecoded, StopsWithin, bytes_from, remaining_bytes};
+ghost use Rattle.enc_recode.specs.Writing.{CanWrite, HasEncoded, StopsWithin, bytes_from};
 ghost use Rattle.enc_recode.specs.Run.{RunsToEnd, RunsToFault};
 
 use crate::sink::Sink;
-use crate::source::Source;
-use encoding_rs::{CoderResult, Decoder, Encoder, Encoding, UTF_8};
+use enc_reader::{DecodeReader, Source};
+use encoding_rs::{CoderResult, Encoder, Encoding, UTF_8};
 
 /// Which side of a run has failed.
 #[derive(PartialEq, Eq, Debug, Drop)]
@@ -112,47 +111,6 @@ fn push_text<W: Sink>(
     )
 }
 
-/// Decodes all of a chunk and writes its text, through the buffers `text` and `output`; with `last`, to the end of the input.
-/// Answers whether something was replaced. On `Err`, which is `Write`, the sink has failed and has taken a prefix of what
-/// had to come out.
-fn recode_chunk<W: Sink>(
-    decoder: &mut Decoder,
-    encoder: &mut Encoder,
-    writer: &mut W,
-    src: &[u8],
-    text: &mut [u8],
-    output: &mut [u8],
-    last: bool,
-) -> Result<bool, RecodeFault>
-    requires open { finished decoder.old ≡ false }
-    requires text_room { 4 ≤ length text.old }
-    requires room { CanWrite encoder.old (length output.old) }
-    ensures ok { IfOk result (HasRecoded decoder.old decoder.new encoder.old encoder.new src.now [] last last
-        (W.taken writer.old) (W.taken writer.new)) }
-    ensures finished { OnOk result (finished decoder.new ≡ last) }
-    ensures ended { OnOk result (last ≡ true → encoder.new.set ≡ Ascii) }
-    ensures kept { OnOk result (W.has_failed writer.new ≡ W.has_failed writer.old) }
-    ensures room_kept { OnOk result (CanWrite encoder.new (length output.new)) }
-    ensures err { OnErr result (StopsWithin (remaining_bytes decoder.old encoder.old) src.now last
-        (W.taken writer.old) (W.taken writer.new)) }
-    ensures failed { OnErr result (W.has_failed writer.new ≡ true) }
-    ensures fault { IfErr result (λ fault. fault ≡ RecodeFault.Write) }
-{
-    let mut replaced = false;
-    let mut rest = src;
-    'calls: loop {
-        let (outcome, read, written, malformed) = decoder.decode_to_utf8(rest, text, last);
-        let ended = outcome == CoderResult::InputEmpty;
-        replaced |= malformed;
-        replaced |= push_text(encoder, writer, &text[..written], output, ended & last)?;
-        let (_, unread) = rest.split_at(read);
-        rest = unread;
-        if ended {
-            return Ok(replaced);
-        }
-    }
-}
-
 /// [`run`] over the buffers that it is lent: for what is read, for its text, and for what is to be written, which may be
 /// empty where UTF-8 is written.
 fn run_through<R: Source, W: Sink>(
@@ -177,24 +135,16 @@ fn run_through<R: Source, W: Sink>(
         IfSome (R.told reader.old) (λ all. length all < 2 ^ 62 → R.has_failed reader.new ≡ true) }
     ensures write_fault { IsErrOf result RecodeFault.Write → W.has_failed writer.new ≡ true }
 {
-    let mut decoder = from.new_decoder();
+    let mut decoding = DecodeReader::new(reader, Some(from), input);
     let mut encoder = to.new_encoder();
     let mut replaced = false;
-    'pulls: for _ in 0..u64::MAX {
-        let Ok(n) = reader.pull(input) else {
+    'reads: for _ in 0..u64::MAX {
+        let Ok(n) = decoding.read_str(text) else {
             return Err(RecodeFault::Read);
         };
-        replaced |= recode_chunk(
-            &mut decoder,
-            &mut encoder,
-            writer,
-            &input[..n],
-            text,
-            output,
-            n == 0,
-        )?;
+        replaced |= push_text(&mut encoder, writer, &text[..n], output, n == 0)?;
         if n == 0 {
-            return Ok(replaced);
+            return Ok(decoding.had_errors() | replaced);
         }
     }
     Err(RecodeFault::Read)
@@ -255,7 +205,7 @@ fn run_by_encoder<R: Source, W: Sink>(
 /// whether there was such a sequence or such a character.
 ///
 /// On `Err` the side that it names has failed, and the sink has taken a prefix of what had to be written. A source
-/// that gives bytes for 2^64 - 1 pulls is taken to have failed too.
+/// that gives 2^64 - 1 texts, or bytes 2^64 - 1 times without a text, is taken to have failed too.
 ///
 /// It never flushes, and takes no memory but buffers of 64 KiB on the stack: two where it writes UTF-8, and else three.
 pub fn run<R: Source, W: Sink>(

@@ -47,7 +47,7 @@ module _ (units_of : ℕ → List ℕ) (determine : DetermineTexts units_of) (le
         length-take read src,
       )
 
-  nearer : (result : DecoderResult) → Made result → (last ≡ false → 1 ≤ length src)
+  pub nearer : (result : DecoderResult) → Made result → (last ≡ false → 1 ≤ length src)
       → (finished new ≡ true) ⊎ (2 * (length src - read) + length new.pending < 2 * length src + length old.pending)
   nearer InputEmpty d some = by_last last refl
     where

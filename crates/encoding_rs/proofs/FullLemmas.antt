@@ -133,6 +133,15 @@ module _ (units_of : ℕ → List ℕ) (determine : DetermineTexts units_of) (tr
       some_done rule small set z [] rest e f = let g = takes d.call.stops.next.text (small_text rule small set z [] d.call.stops.next rest e) in absurd (omega arith)
       some_done rule small set z (x ∷ done) rest e f = let g = has_bytes rule set z [] x (done ++ d.call.stops.next ∷ rest) e in let l = length-append x.bytes (bytes_of done) in omega arith
 
+  -- and what is done has a text: something is written.
+  pub some_written : (least : ℕ) → TakesSmallTexts units_of least → least ≤ room → 0 < length wrote
+  some_written least takes h =
+      let b = begins_at last (remaining_sequences old) src (d.call.done ++ d.call.stops.next ∷ []) d.call.stops.determined in
+      let r = by_rule HasSmallTexts (small_texts utf_8_mark.encoding) (small_texts utf_16be_mark.encoding) (small_texts utf_16le_mark.encoding) old b.0 (small_texts old.encoding) in
+      let cut : sequences_of r.rule r.set r.bytes ≡ d.call.done ++ d.call.stops.next ∷ b.1.0 = sym r.is ∙ b.1.1 ∙ append_assoc d.call.done (d.call.stops.next ∷ []) b.1.0 in
+      let small = takes d.call.stops.next.text (small_text r.rule r.holds r.set r.bytes d.call.done d.call.stops.next b.1.0 cut) in
+      omega (arith, d.call.stops.full, small, h, ap length d.call.text, ap (λ ss. length (units_of_text units_of (text_of ss))) d.call.stops.only_put)
+
   -- where each sequence has a text, nothing is done where nothing is written
   none_done : HasTexts (rule_of old.encoding) → length wrote ≡ 0 → d.call.done ≡ []
   none_done has w =

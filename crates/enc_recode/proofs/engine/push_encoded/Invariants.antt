@@ -3,7 +3,7 @@ use denote.Text.{Utf8}
 use denote.Shadow.{shadow}
 use Rattle.enc_encoders.specs.Steps.{steps_from}
 use Rattle.encoding_rs.specs.Encoder.{raw_state}
-use Rattle.enc_recode.specs.Chunk.{HasEncoded}
+use Rattle.enc_recode.specs.Writing.{HasEncoded}
 use Rattle.enc_recode.proofs.engine.push_encoded.Given as goal
 
 abbrev pub invariant-calls : goal.invariant-calls

@@ -2,7 +2,7 @@
 
 ghost use Rattle.std.specs.Prelude.{◌≡◌, ℕ, List, ◌≤◌, ◌<◌, length, take, Option, Bool, true, false, None, IfOk, OnOk, OnErr};
 ghost use Rattle.std.specs.Io.KnownBytes.{IsAtEnd, ReadConsumes};
-ghost use Rattle.enc_recode.specs.Source.{TellsNext};
+ghost use Rattle.enc_reader.specs.Source.{TellsNext};
 
 use std::io::Read;
 

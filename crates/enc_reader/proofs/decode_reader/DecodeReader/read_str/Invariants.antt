@@ -1,0 +1,21 @@
+use Rattle.std.proofs.Common.{◌≡◌, ◌-◌, ◌^◌, ◌≤◌, length, take, drop, true, false}
+use Rattle.enc_reader.specs.Reader.{state_of}
+use Rattle.enc_reader.proofs.ReadingLemmas.{HasRead}
+use Rattle.enc_reader.proofs.decode_reader.DecodeReader.read_str.Given as goal
+
+abbrev pub invariant-pulls : goal.invariant-pulls
+invariant-pulls g l = record {
+  read : HasRead (g.R.Source.told l.fn.self.reader.now) (g.R.Source.told l.self.reader.now) (state_of l.fn.self) (state_of l.self) (take l.turn.written l.dst)
+      l.replaced l.turn.waits l.pulls;
+  within : l.turn.written ≤ length l.dst;
+  behind : drop l.turn.written l.dst ≡ drop l.turn.written l.fn.dst;
+  none : l.turn.waits ≡ true → l.turn.written ≡ 0;
+  room : length l.dst ≡ length l.fn.dst;
+  going : l.self.failed ≡ false;
+  had_errors : l.self.had_errors ≡ l.fn.self.had_errors;
+  kept : g.R.Source.has_failed l.self.reader.now ≡ g.R.Source.has_failed l.fn.self.reader.now;
+  same_reader : l.self.reader.ghost_name ≡ l.fn.self.reader.ghost_name;
+}
+
+abbrev pub decreases-pulls : goal.decreases-pulls
+decreases-pulls g l = (2 ^ 64 - 1) - l.pulls

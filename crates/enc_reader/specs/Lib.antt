@@ -1,0 +1,4 @@
+pub mod Source
+pub mod Reading
+pub mod Turn
+pub mod Reader

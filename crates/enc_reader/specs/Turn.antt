@@ -1,0 +1,22 @@
+-- The steps of a read: a chunk of bytes that is pulled from the source, and a turn of the decoder.
+use Rattle.std.specs.Prelude.{◌≡◌, ℕ, ◌<◌, Bool, true, false, List, [], length, Option}
+use Rattle.encoding_rs.specs.Decoding.{finished}
+use Rattle.enc_reader.specs.Reading.{ReaderState, Reads}
+
+-- A reader that has nothing to decode, and whose source has not come to its end.
+pub record IsWaiting (s : ReaderState) : Type 0 where
+  pub unread : s.unread ≡ []
+  pub not_ended : s.ended ≡ false
+  pub going : finished s.decoder ≡ false
+
+-- A chunk is pulled: some bytes, or the end of the source.
+pub record Pulls (told_before told_after : Option (List ℕ)) (old new : ReaderState) : Type 0 where
+  pub bytes : List ℕ
+  pub reads : Reads told_before told_after old new bytes [] false
+  pub some : new.ended ≡ false → 0 < length bytes
+
+-- A turn hands out text, or is at the end, or waits for more bytes. The source gives none in it, whatever it tells.
+pub record IsTurn (old new : ReaderState) (wrote : List ℕ) (replaced waits : Bool) : Type 0 where
+  pub reads : (told : Option (List ℕ)) → Reads told told old new [] wrote replaced
+  pub waiting : waits ≡ true → IsWaiting new
+  pub text_or_end : waits ≡ false → wrote ≡ [] → finished new.decoder ≡ true

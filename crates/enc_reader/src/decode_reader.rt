@@ -1,0 +1,249 @@
+//! A reader of text.
+
+ghost use Rattle.std.specs.Prelude.{◌≡◌, ◌↔◌, ◌-◌, ◌<◌, ◌≤◌, length, take, drop, [], true, false, IsUtf8, Option, Some, None, IfOk, OnOk, OnErr, IsErrOf, unwrap_or, IfErr};
+ghost use Rattle.encoding_rs.specs.declared.bom.BomHandling.TheVariants.{Sniff};
+ghost use Rattle.encoding_rs.specs.declared.encoding.TheConstants.{UTF_8};
+ghost use Rattle.std.specs.Char.{encode_utf8};
+ghost use Rattle.encoding_rs.specs.Decoding.{finished, ConvertsReplacing};
+ghost use Rattle.enc_reader.specs.Source.{TellsNoMore};
+ghost use Rattle.std.proofs.Props.{props};
+
+use crate::source::Source;
+use encoding_rs::{CoderResult, Decoder, Encoding, UTF_8};
+
+/// Why a read has failed.
+#[derive(PartialEq, Eq, Debug, Drop)]
+pub enum ReadFault {
+    /// The source has failed in this read, or has given bytes 2^64 - 1 times in it without text and without its end.
+    Reader = 1,
+    /// A read before has failed.
+    Failed = 2,
+}
+
+/// What a turn of the decoder has come to.
+#[derive(Clone, Copy)]
+struct Turn {
+    /// How many bytes of text it has written.
+    written: usize,
+    /// Whether it has put out U+FFFD for something malformed.
+    replaced: bool,
+    /// Whether there is neither text nor the end, and more bytes have to come.
+    waits: bool,
+}
+
+impl Turn {
+    /// One that has written nothing.
+    fn without_text(replaced: bool, waits: bool) -> Turn
+        ensures written { result.written ≡ 0 }
+        ensures replaced { result.replaced ≡ replaced }
+        ensures waits { result.waits ≡ waits }
+    {
+        Turn {
+            written: 0,
+            replaced,
+            waits,
+        }
+    }
+}
+
+/// Decodes the bytes of `input` from the place `at` to the place `filled`. (The buffer is passed on as it is lent, for then its
+/// bytes are known to stay.)
+fn decode_between(
+    decoder: &mut Decoder,
+    input: &mut [u8],
+    at: usize,
+    filled: usize,
+    dst: &mut [u8],
+    last: bool,
+) -> (CoderResult, usize, usize, bool)
+    requires going { finished decoder.old ≡ false }
+    requires before { at ≤ filled }
+    requires within { filled ≤ length input.old }
+    ensures call { ConvertsReplacing encode_utf8 4 decoder.old decoder.new (take (filled - at) (drop at input.old)) last (length dst.old)
+        result.0 result.1 (take result.2 dst.new) result.3 }
+    ensures written { result.2 ≤ length dst.old }
+    ensures behind { drop result.2 dst.new ≡ drop result.2 dst.old }
+    ensures kept { input.new ≡ input.old }
+{
+    decoder.decode_to_utf8(&input[at..filled], dst, last)
+}
+
+/// Reads a source of bytes as text (Encoding Standard 6, "decode", a part at a time): it hands out UTF-8 in buffers of any size
+/// from four bytes on, with U+FFFD for each malformed sequence. Where the bytes begin with a byte order mark, the encoding that
+/// it tells decodes them, and it is no text.
+///
+/// It has the source and the buffer that it reads into on loan, and takes no memory.
+#[derive(Drop)]
+pub struct DecodeReader<'a, R: Source> {
+    reader: &'a mut R,
+    decoder: Decoder,
+    input: &'a mut [u8],
+    // the bytes of `input` that the source has given last, and how many of them are decoded
+    filled: usize,
+    at: usize,
+    // whether the source has come to its end
+    ended: bool,
+    failed: bool,
+    had_errors: bool,
+    ghost decoded: { at ≤ filled },
+    ghost within: { filled ≤ length input.now },
+    ghost some: { 0 < length input.now },
+    ghost seen: { finished decoder ≡ true → ended ≡ true },
+    ghost none_told: { ended ≡ true → TellsNoMore (R.told reader.now) } by { Prim.hlevel props },
+}
+
+impl<'a, R: Source> DecodeReader<'a, R> {
+    ghost use Rattle.std.specs.Prelude.{ℕ, List};
+    ghost use Rattle.encoding_rs.specs.Decoding.{whole_encoding, whole_sequences};
+    ghost use Rattle.enc_reader.specs.Reading.{FailsToRead, HandsOut, IsAtItsEnd, fresh_reader, owed, owed_encoding};
+    ghost use Rattle.enc_reader.specs.Turn.{IsTurn, IsWaiting, Pulls};
+    ghost use Rattle.enc_reader.specs.Reader.{state_of};
+
+    /// A reader of `reader`, through the buffer `input`, which decodes by `encoding`, or by UTF-8 where none is given, unless a
+    /// byte order mark tells another. It reads nothing yet. Condition: `input` is not empty. Takes no memory.
+    pub fn new(
+        reader: &'a mut R,
+        encoding: Option<Encoding>,
+        input: &'a mut [u8],
+    ) -> DecodeReader<'a, R>
+        requires { 0 < length input.old }
+        ensures fresh { state_of result ≡ fresh_reader (unwrap_or encoding UTF_8) }
+        ensures owed { (z : List ℕ) → owed (state_of result) z ≡ whole_sequences Sniff (unwrap_or encoding UTF_8) z }
+        ensures encoding { (z : List ℕ) → owed_encoding (state_of result) z ≡ whole_encoding Sniff (unwrap_or encoding UTF_8) z }
+        ensures not_failed { result.failed ≡ false }
+        ensures no_errors { result.had_errors ≡ false }
+        ensures reader { result.reader.now ≡ reader.old }
+        ensures same_reader { result.reader.ghost_name ≡ reader.entry.ghost_name }
+    {
+        let encoding = encoding.unwrap_or(UTF_8);
+        DecodeReader {
+            reader,
+            decoder: encoding.new_decoder(),
+            input,
+            filled: 0,
+            at: 0,
+            ended: false,
+            failed: false,
+            had_errors: false,
+        }
+    }
+
+    /// Reads the next chunk into the buffer, of which all is decoded. On `Err`, which is `Reader`, the source has failed.
+    fn pull(&mut self) -> Result<(), ReadFault>
+        requires waiting { IsWaiting (state_of self.old) }
+        ensures ok { OnOk result (Pulls (R.told self.old.reader.now) (R.told self.new.reader.now) (state_of self.old) (state_of self.new)) }
+        ensures kept { OnOk result (R.has_failed self.new.reader.now ≡ R.has_failed self.old.reader.now) }
+        ensures going { OnOk result (self.new.failed ≡ self.old.failed) }
+        ensures err { OnErr result (R.has_failed self.new.reader.now ≡ true) }
+        ensures failed { OnErr result (self.new.failed ≡ true) }
+        ensures same { OnErr result (state_of self.new ≡ state_of self.old) }
+        ensures fault { IfErr result (λ fault. fault ≡ ReadFault.Reader) }
+        ensures had_errors { self.new.had_errors ≡ self.old.had_errors }
+        ensures same_reader { self.new.reader.ghost_name ≡ self.old.reader.ghost_name }
+    {
+        let Ok(n) = self.reader.pull(self.input) else {
+            self.failed = true;
+            return Err(ReadFault::Reader);
+        };
+        self.at = 0;
+        self.filled = n;
+        self.ended = n == 0;
+        Ok(())
+    }
+
+    /// Decodes what is unread, or the end, as far as there is room.
+    fn decode(&mut self, dst: &mut [u8]) -> Turn
+        requires room { 4 ≤ length dst.old }
+        ensures turn { IsTurn (state_of self.old) (state_of self.new) (take result.written dst.new) result.replaced result.waits }
+        ensures written { result.written ≤ length dst.new }
+        ensures behind { drop result.written dst.new ≡ drop result.written dst.old }
+        ensures waits { result.waits ≡ true → result.written ≡ 0 }
+        ensures reader { self.new.reader ≡ self.old.reader }
+        ensures failed { self.new.failed ≡ self.old.failed }
+        ensures had_errors { self.new.had_errors ≡ self.old.had_errors }
+    {
+        if self.decoder.is_finished() {
+            return Turn::without_text(false, false);
+        }
+        if (self.at == self.filled) & !self.ended {
+            return Turn::without_text(false, true);
+        }
+        let (_, read, written, replaced) = decode_between(
+            &mut self.decoder,
+            self.input,
+            self.at,
+            self.filled,
+            dst,
+            self.ended,
+        );
+        self.at += read;
+        if written > 0 {
+            return Turn {
+                written,
+                replaced,
+                waits: false,
+            };
+        }
+        Turn::without_text(replaced, !self.decoder.is_finished())
+    }
+
+    /// Hands out the next text in UTF-8, as many whole characters as there is room for, and answers how many bytes they have:
+    /// 0 only at the end, which it goes on answering. It reads from the source only while this read has written nothing, so an
+    /// answer may be shorter than the room. Condition: `dst` has four bytes or more.
+    ///
+    /// On `Err` nothing is written: `Reader` where the source has failed in this read (any error of it is a fault, and none is
+    /// tried again), and `Failed` from then on. The bytes of `dst` behind those written stay. Takes no memory.
+    pub fn read_str(&mut self, dst: &mut [u8]) -> Result<usize, ReadFault>
+        requires { 4 ≤ length dst.old }
+        ensures ok { IfOk result (λ n. HandsOut (R.told self.old.reader.now) (R.told self.new.reader.now) (state_of self.old) (state_of self.new)
+            (take n dst.new) self.old.had_errors self.new.had_errors) }
+        ensures within { IfOk result (λ n. n ≤ length dst.new) }
+        ensures utf_8 { IfOk result (λ n. IsUtf8 (take n dst.new)) }
+        ensures behind { IfOk result (λ n. drop n dst.new ≡ drop n dst.old) }
+        ensures end { IfOk result (λ n. n ≡ 0 → IsAtItsEnd (R.told self.new.reader.now) (state_of self.new)) }
+        ensures kept { OnOk result (R.has_failed self.new.reader.now ≡ R.has_failed self.old.reader.now) }
+        ensures unwritten { OnErr result (dst.new ≡ dst.old) }
+        ensures no_error { OnErr result (self.new.had_errors ≡ self.old.had_errors) }
+        ensures reader_fault { IsErrOf result ReadFault.Reader → FailsToRead (R.told self.old.reader.now) (R.has_failed self.new.reader.now)
+            (state_of self.old) (state_of self.new) }
+        ensures from_then_on { IsErrOf result ReadFault.Failed ↔ self.old.failed ≡ true }
+        ensures unchanged { IsErrOf result ReadFault.Failed → self.new ≡ self.old }
+        ensures going { OnOk result (self.new.failed ≡ false) }
+        ensures failed { OnErr result (self.new.failed ≡ true) }
+        ensures same_reader { self.new.reader.ghost_name ≡ self.old.reader.ghost_name }
+    {
+        if self.failed {
+            return Err(ReadFault::Failed);
+        }
+        let mut turn = self.decode(dst);
+        let mut replaced = turn.replaced;
+        let mut pulls = 0;
+        'pulls: while turn.waits {
+            if pulls == u64::MAX {
+                self.failed = true;
+                return Err(ReadFault::Reader);
+            }
+            pulls += 1;
+            self.pull()?;
+            turn = self.decode(dst);
+            replaced |= turn.replaced;
+        }
+        self.had_errors |= replaced;
+        Ok(turn.written)
+    }
+
+    /// The encoding that its decoder decodes: that of a mark that was read, or else the one that it was made with. It may be
+    /// asked at any time, after a fault too.
+    pub fn encoding(&self) -> Encoding
+        ensures { result ≡ self.now.decoder.encoding }
+    {
+        self.decoder.encoding()
+    }
+
+    /// Whether U+FFFD was handed out for something malformed. It may be asked at any time, after a fault too.
+    pub fn had_errors(&self) -> bool
+        ensures { result ≡ self.now.had_errors }
+    {
+        self.had_errors
+    }
+}
