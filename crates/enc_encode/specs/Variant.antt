@@ -25,7 +25,7 @@ variant_state (ShiftJis e) = stateless_state (except e.repertoire.barred.now shi
 variant_state (EucJp e) = stateless_state (except e.repertoire.barred.now euc_jp_bytes)
 variant_state (Gb18030 e) = stateless_state (except e.repertoire.barred.now (except e.repertoire.repertoire.barred.now (gb18030_bytes e.repertoire.repertoire.repertoire.is_gbk)))
 variant_state (XUserDefined e) = stateless_state (except e.repertoire.barred.now x_user_defined_bytes)
-variant_state (Iso2022Jp e) = iso_2022_jp_state e.barred.now e.set
+variant_state (Iso2022Jp e) = iso_2022_jp_state e.barred.now e.plain.set
 
 -- its formulas for lengths to allocate
 abbrev pub variant_lengths : VariantEncoder → ByteLengths

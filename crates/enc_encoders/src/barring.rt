@@ -15,7 +15,6 @@ pub struct Barring<R> {
 }
 
 /// Whether a character stands in a list.
-#[inline(always)]
 fn is_in(barred: &[char], c: char) -> bool
     ensures { result ≡ stands_in barred.now c }
 {
@@ -32,6 +31,9 @@ fn is_in(barred: &[char], c: char) -> bool
 pub fn is_barred(barred: &[char], c: char) -> bool
     ensures { result ≡ wanted_barred barred.now c }
 {
+    if barred.is_empty() {
+        return false;
+    }
     is_in(barred, c) && c as u32 >= 0x80
 }
 

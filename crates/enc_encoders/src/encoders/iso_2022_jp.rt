@@ -32,11 +32,17 @@ enum CharClass {
     Kanji,
 }
 
+/// The encoder where no character is barred.
+#[derive(Clone, Copy)]
+struct Plain {
+    set: CharacterSet,
+}
+
 /// The ISO-2022-JP encoder (Encoding Standard 12.2.2). It keeps the designated character set between two calls, and
 /// the list of characters that are barred.
 #[derive(Clone, Copy)]
 pub struct Iso2022JpEncoder {
-    set: CharacterSet,
+    plain: Plain,
     barred: &'static [char],
 }
 
@@ -148,10 +154,50 @@ fn reported(c: char) -> char
     if is_shift(c as u32) { '\u{FFFD}' } else { c }
 }
 
+impl CharEncoder for Plain {
+    ghost use Rattle.std.specs.Prelude.{[]};
+    ghost use Rattle.enc_encoders.specs.Iso2022Jp.{iso_2022_jp_state};
+
+    ghost state = { λ e. iso_2022_jp_state [] e.set };
+
+    fn bytes(self, c: char) -> Option<Bytes> {
+        iso_2022_jp_bytes(c)
+    }
+
+    fn reported(self, c: char) -> char {
+        reported(c)
+    }
+
+    fn escape_before(self, c: char) -> Option<Plain> {
+        let class = class_of(c as u32);
+        if has_class(self.set, class) {
+            return None;
+        }
+        Some(Plain {
+            set: set_of_class(class),
+        })
+    }
+
+    fn escape_at_end(self) -> Option<Plain> {
+        let ascii = Plain {
+            set: CharacterSet::Ascii,
+        };
+        match self.set {
+            CharacterSet::Ascii => None,
+            CharacterSet::Roman => Some(ascii),
+            CharacterSet::Jis0208 => Some(ascii),
+        }
+    }
+
+    fn set(self) -> CharacterSet {
+        self.set
+    }
+}
+
 impl CharEncoder for Iso2022JpEncoder {
     ghost use Rattle.enc_encoders.specs.Iso2022Jp.{iso_2022_jp_state};
 
-    ghost state = { λ e. iso_2022_jp_state e.barred.now e.set };
+    ghost state = { λ e. iso_2022_jp_state e.barred.now e.plain.set };
 
     fn bytes(self, c: char) -> Option<Bytes> {
         if is_barred(self.barred, c) {
@@ -165,26 +211,24 @@ impl CharEncoder for Iso2022JpEncoder {
     }
 
     fn escape_before(self, c: char) -> Option<Iso2022JpEncoder> {
-        let class = class_of(c as u32);
-        if has_class(self.set, class) {
-            return None;
+        match self.plain.escape_before(c) {
+            Some(plain) => Some(Iso2022JpEncoder {
+                plain,
+                barred: self.barred,
+            }),
+            None => None,
         }
-        Some(Iso2022JpEncoder {
-            set: set_of_class(class),
-            barred: self.barred,
-        })
     }
 
     fn escape_at_end(self) -> Option<Iso2022JpEncoder> {
-        match self.set {
-            CharacterSet::Ascii => None,
-            CharacterSet::Roman => Some(Iso2022JpEncoder::new(self.barred)),
-            CharacterSet::Jis0208 => Some(Iso2022JpEncoder::new(self.barred)),
+        match self.plain.escape_at_end() {
+            Some(_) => Some(Iso2022JpEncoder::new(self.barred)),
+            None => None,
         }
     }
 
     fn set(self) -> CharacterSet {
-        self.set
+        self.plain.set
     }
 }
 
@@ -192,13 +236,13 @@ impl Iso2022JpEncoder {
     /// An encoder at the start of a text, to which the characters of a list are unmappable too. ASCII is never barred. Takes no
     /// memory.
     pub fn new(barred: &'static [char]) -> Iso2022JpEncoder
-        ensures set { result.set ≡ Ascii }
+        ensures set { result.plain.set ≡ Ascii }
         ensures barred { result.barred.now ≡ barred.now }
     {
-        Iso2022JpEncoder {
+        let plain = Plain {
             set: CharacterSet::Ascii,
-            barred,
-        }
+        };
+        Iso2022JpEncoder { plain, barred }
     }
 }
 
@@ -206,7 +250,7 @@ impl RawEncoder for Iso2022JpEncoder {
     ghost use Rattle.enc_encoders.specs.declared.byte_lengths.ByteLengths.TheVariants as lengths;
     ghost use Rattle.enc_encoders.specs.Iso2022Jp.{iso_2022_jp_state};
 
-    ghost state = { λ e. iso_2022_jp_state e.barred.now e.set };
+    ghost state = { λ e. iso_2022_jp_state e.barred.now e.plain.set };
 
     ghost formulas = { λ _. lengths.Iso2022Jp };
 
@@ -216,11 +260,17 @@ impl RawEncoder for Iso2022JpEncoder {
         dst: &mut [u8],
         last: bool,
     ) -> (EncoderResult, usize, usize) {
+        if self.barred.is_empty() {
+            let mut plain = self.plain;
+            let outcome = run(&mut plain, src, dst, last);
+            self.plain = plain;
+            return outcome;
+        }
         run(self, src, dst, last)
     }
 
     fn has_pending_state(&self) -> bool {
-        match self.set {
+        match self.plain.set {
             CharacterSet::Ascii => false,
             CharacterSet::Roman => true,
             CharacterSet::Jis0208 => true,
