@@ -218,6 +218,11 @@ fn call_from_utf16<'a>(
     Ok((result, behind(rt, text, read), replaced))
 }
 
+/// A Vec has what it had before a call.
+fn compare_front(rt: &impl Abort, front: &[u8]) {
+    assert_eq!(rt; front, IN_FRONT);
+}
+
 /// Makes a call into the spare capacity of a Vec, and appends the bytes. What it has stays, and so does its capacity.
 fn call_to_vec<'a>(
     rt: &impl Abort,
@@ -242,7 +247,7 @@ fn call_to_vec<'a>(
     };
     assert_eq!(rt; vec.capacity(), capacity);
     let (front, appended) = vec.split_at(IN_FRONT.len().min(vec.len()));
-    assert_eq!(rt; front, IN_FRONT);
+    compare_front(rt, front);
     bytes.extend_from_slice(appended)?;
     Ok((result, behind(rt, offer.text, read), replaced))
 }
