@@ -57,7 +57,10 @@ fn compare_end(
         return Ok(());
     }
     assert!(rt; text.starts_with(came_to), "{encoding:?} {bytes:?} {room}");
-    assert!(rt; !has_room_for_any(way, room), "{encoding:?} {bytes:?} {room}");
+    assert!(rt;
+        !has_room_for_any(way, room),
+        "{encoding:?} {bytes:?} {room}"
+    );
     Ok(())
 }
 
@@ -71,7 +74,10 @@ fn compare_single_offers(
 ) -> Result<(), Fail> {
     let whole = run_whole(rt, alloc, way, bytes)?;
     assert!(rt; whole.is_finished());
-    let told = Use { is_told: true, ..way };
+    let told = Use {
+        is_told: true,
+        ..way
+    };
     let single = run_cut(rt, alloc, told, bytes, Cut::Everywhere, 0)?;
     assert!(rt; single.is_finished());
     assert_eq!(rt; single.text.as_slice(), whole.text.as_slice());
