@@ -1,9 +1,7 @@
 -- What calls of an encoder make, one behind another.
 use Rattle.std.proofs.Common.{◌≡◌, ℕ, ◌<◌, ◌≤◌, Bool, true, false, ◌||◌, Option, List, [], ◌∷◌, ◌++◌, length, take, drop, refl, ap, ◌∙◌, sym, subst, append_assoc, append-nil, chars, IsUtf8}
-use Rattle.std.proofs.lemmas.Str.{encodes-chars, chars-encodes, chars_from_encodes, IsCharBoundary-at_seam}
-use Rattle.std.proofs.Math.Seq.{drop-append_seam}
-use Rattle.std.specs.Str.{all_scalars, IsCharBoundary}
-use Rattle.std.specs.Cmp.{second_so}
+use Rattle.std.proofs.lemmas.Str.{encodes-chars}
+use Rattle.std.specs.Str.{IsCharBoundary}
 use Rattle.std.specs.Char.{encode_utf8}
 use Rattle.enc_calls.specs.declared.coder_result.CoderResult.{CoderResult}
 use Rattle.enc_calls.specs.declared.coder_result.CoderResult.TheVariants.{InputEmpty, OutputFull}
@@ -15,9 +13,8 @@ use Rattle.enc_encoders.specs.declared.character_set.CharacterSet.TheVariants.{A
 use Rattle.enc_encoders.specs.Stateless.{stateless}
 use Rattle.enc_encoders.specs.Utf8.{utf_8_bytes}
 use Rattle.enc_encoders.specs.Text.{bytes_behind, with_references}
-use Rattle.enc_encoders.specs.EncoderRule.{RawState}
 use Rattle.enc_encoders.specs.Steps.{chars_of, steps_from}
-use Rattle.enc_references.specs.Treatment.{stop_of, nothing_left}
+use Rattle.enc_references.specs.Treatment.{stop_of}
 use Rattle.enc_references.specs.Unmappable.{any_unmappable}
 use Rattle.enc_references.proofs.UnmappableLemmas.{any_reported_is, any_unmappable-append}
 use Rattle.encoding_rs.specs.declared.encoding.Encoding.{Encoding}

@@ -1,10 +1,9 @@
 -- A run, over its reads.
-use Rattle.std.proofs.Common.{◌≡◌, ℕ, ◌+◌, ◌-◌, ◌*◌, ◌^◌, ◌<◌, ◌≤◌, min, Bool, true, false, ◌||◌, List, [], ◌++◌, length, take, Option, refl, ap, ◌∙◌, sym, subst, append_assoc, append-nil, length-append, arith, chars}
+use Rattle.std.proofs.Common.{◌≡◌, ℕ, ◌+◌, ◌*◌, ◌<◌, ◌≤◌, Bool, true, false, ◌||◌, List, [], ◌++◌, length, Option, refl, ap, ◌∙◌, sym, subst, append_assoc, append-nil, length-append, arith, chars}
 use Rattle.std.proofs.lemmas.Bool.{false≢true}
 use Rattle.std.proofs.lemmas.Str.{chars-encodes, chars-append, chars-nil}
 use Rattle.std.specs.Prelude.{IsErr, IsErrOf, Ok, Err}
 use Rattle.std.specs.declared.result.Result.{Result}
-use Rattle.std.specs.Io.KnownBytes.{IsAtEnd}
 use Rattle.enc_units.proofs.Utf8CharsLemmas.{their_units}
 use Rattle.enc_machine.specs.Sequence.{text_of, any_malformed}
 use Rattle.enc_machine.proofs.SequenceLemmas.{text_of-append}
@@ -20,13 +19,13 @@ use Rattle.encoding_rs.proofs.EndLemmas.{fresh_sequences, none_left}
 use Rattle.encoding_rs.proofs.ProgressLemmas.{none_due, output_rule_is}
 use Rattle.enc_reader.specs.declared.decode_reader.ReadFault.{ReadFault}
 use Rattle.enc_reader.specs.declared.decode_reader.ReadFault.TheVariants as fault
-use Rattle.enc_reader.specs.Source.{TellsNext, TellsNoMore}
+use Rattle.enc_reader.specs.Source.{TellsNoMore}
 use Rattle.enc_reader.specs.Reading.{ReaderState, Reads, HandsOut, FailsToRead, IsAtItsEnd, distance, fresh_reader, owed}
 use Rattle.enc_reader.proofs.SourceLemmas.{TellsNext-then, at_end}
 use Rattle.enc_reader.proofs.ReadingLemmas.{Reads-none, Reads-then, handed_utf_8}
 use Rattle.enc_recode.specs.Writing.{HasEncoded, StopsWithin, bytes_from}
 use Rattle.enc_recode.specs.Run.{RunsToEnd, RunsToFault, whole_text, recoded, any_replaced}
-use Rattle.enc_recode.proofs.KnownLemmas.{TakesMore-none, TakesMore-then, begins_told, all_told, none_told}
+use Rattle.enc_recode.proofs.KnownLemmas.{TakesMore-then, begins_told, all_told, none_told}
 use Rattle.enc_recode.proofs.EncodingLemmas.{not_ended, HasEncoded-none, HasEncoded-more}
 
 -- The text owed before is that handed out and that owed now.

@@ -1,5 +1,6 @@
 pub mod TextLemmas
 pub mod HeldLemmas
+pub mod BarringLemmas
 pub mod BehindLemmas
 pub mod FullLemmas
 pub mod EndLemmas

@@ -1,9 +1,10 @@
 //! Laws over the definitions, each the contract of a function that does nothing, or only what the law speaks of.
 
-ghost use Rattle.std.specs.Prelude.{◌≡◌, ◌≢◌, ◌↔◌, ℕ, true, false, is_some, IsTrue, List, ◌∷◌, ◌++◌, Some, map, length};
+ghost use Rattle.std.specs.Prelude.{◌≡◌, ◌≢◌, ◌↔◌, ℕ, true, false, is_some, IsTrue, List, [], ◌∷◌, ◌++◌, Some, None, map, length, if◌then◌else◌};
 ghost use Rattle.encoding_rs.specs.declared.bom.BomHandling.TheVariants as handling;
 ghost use Rattle.encoding_rs.specs.Bom.{marks_looked_for, find_mark};
 ghost use Rattle.enc_encode.specs.Encoders.{encoder_rule};
+ghost use Rattle.enc_encoders.specs.Barring.{stands_in, are_beyond_ascii};
 ghost use Rattle.enc_encoders.specs.Text.{bytes_of_text, with_references};
 ghost use Rattle.enc_encoders.specs.declared.character_set.CharacterSet.TheVariants.{Ascii};
 ghost use Rattle.enc_references.specs.Unmappable.{any_unmappable};
@@ -165,6 +166,15 @@ pub fn references_are_mappable(encoding: Encoding)
         ≡ with_references (output_rule barred encoding) text }
     ensures mappable { (barred text : List ℕ)
         → any_unmappable (output_rule barred encoding) (with_references (output_rule barred encoding) text) ≡ false }
+{
+    let _ = encoding;
+}
+
+/// To an encoder from which the characters of a list are barred, as [`Encoding::new_encoder_barring`] makes it, just these are
+/// unmappable beside those that are so to any encoder of its encoding; all others have the bytes that they have without a list.
+pub fn barred_characters_are_unmappable(encoding: Encoding)
+    ensures { (barred : List ℕ) (c : ℕ) → are_beyond_ascii barred ≡ true
+        → (output_rule barred encoding).bytes c ≡ (if stands_in barred c then None else (output_rule [] encoding).bytes c) }
 {
     let _ = encoding;
 }

@@ -2,7 +2,7 @@
 
 use crate::codecs::single_byte_tables::*;
 use crate::harness::raw_calls::end;
-use crate::harness::{Row, compare_all, make_calls};
+use crate::harness::{Row, compare_all, compare_read, make_calls};
 use enc_codec::{DecoderResult, RawDecoder, SingleByteDecoder, SingleByteIndex};
 use enc_units::Utf8Slice;
 use encoding_rs::{
@@ -79,6 +79,18 @@ fn bytes_agree_with_another_converter(rt: HostRuntime) {
     for (encoding, high) in TABLES {
         compare_bytes(&rt, *encoding, high);
     }
+}
+
+#[test]
+fn bytes_are_read_one_by_one(rt: HostRuntime) -> Result<(), Fail> {
+    let mut bytes = [0; 256];
+    for byte in 0..=255u8 {
+        bytes[byte as usize] = byte;
+    }
+    for (encoding, _) in TABLES {
+        compare_read(&rt, rt.alloc(), *encoding, &bytes)?;
+    }
+    Ok(())
 }
 
 const UNMAPPED: &[Row] = &[(

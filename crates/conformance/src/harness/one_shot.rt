@@ -1,5 +1,6 @@
 //! One-shot calls, beside runs of their mode.
 
+use crate::harness::reads::compare_read;
 use crate::harness::rows::Input;
 use crate::harness::{Use, new_decoder};
 use encoding_rs::run::{BomHandling, DecodeCall, decode_run};
@@ -73,7 +74,7 @@ pub(crate) fn compare_with_run(
     Ok((text, had_errors))
 }
 
-/// One-shot calls of the mode of a use come to the text of the input.
+/// One-shot calls of the mode of a use come to the text of the input, and a reader to that of the call that looks for all marks.
 pub(crate) fn compare_at_once(
     rt: &impl Abort,
     alloc: Global,
@@ -81,6 +82,7 @@ pub(crate) fn compare_at_once(
     input: &Input<'_>,
 ) -> Result<(), Fail> {
     let mode = (way.encoding, way.handling);
+    compare_read(rt, alloc, way.encoding, input.bytes)?;
     let (text, had_errors) = compare_with_run(rt, alloc, mode, input.bytes)?;
     assert_eq!(rt;
         text.as_bytes(),
