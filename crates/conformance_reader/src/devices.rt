@@ -5,7 +5,7 @@ use std::io::{ErrorKind, Read};
 
 /// What the reader does at a call.
 #[derive(Clone, Copy)]
-pub enum Step {
+pub(crate) enum Step {
     /// Gives so many bytes, if there are so many and if there is room.
     Give(usize),
     /// Fails, and gives none.
@@ -14,16 +14,16 @@ pub enum Step {
 
 /// Gives bytes by steps, of which the last one is also that of each later call.
 #[derive(Drop)]
-pub struct StepReader<'a> {
+pub(crate) struct StepReader<'a> {
     rest: &'a [u8],
     steps: &'a [Step],
     /// How many calls there were.
-    pub calls: usize,
+    pub(crate) calls: usize,
 }
 
 impl<'a> StepReader<'a> {
     /// A reader that gives these bytes.
-    pub fn new(rest: &'a [u8], steps: &'a [Step]) -> StepReader<'a> {
+    pub(crate) fn new(rest: &'a [u8], steps: &'a [Step]) -> StepReader<'a> {
         StepReader {
             rest,
             steps,

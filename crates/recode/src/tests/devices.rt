@@ -6,7 +6,7 @@ use std::io::{ErrorKind, Read, Write};
 
 /// What a device does at a call.
 #[derive(Clone, Copy)]
-pub enum Step {
+pub(crate) enum Step {
     /// Gives or takes bytes, so many at most.
     Move(usize),
     /// Fails with an error of this kind, and neither gives nor takes any.
@@ -14,25 +14,25 @@ pub enum Step {
 }
 
 /// One byte a call.
-pub const BYTE: Step = Step::Move(1);
+pub(crate) const BYTE: Step = Step::Move(1);
 
 /// As many bytes as there are, or as there is room for.
-pub const ALL_BYTES: Step = Step::Move(usize::MAX);
+pub(crate) const ALL_BYTES: Step = Step::Move(usize::MAX);
 
 /// The steps of a device, in turn. The last one is also that of each later call, and a device with no step moves all.
 #[derive(Clone, Copy)]
-pub struct Steps<'a> {
+pub(crate) struct Steps<'a> {
     rest: &'a [Step],
 }
 
 impl<'a> Steps<'a> {
     /// These steps.
-    pub fn new(rest: &'a [Step]) -> Steps<'a> {
+    pub(crate) fn new(rest: &'a [Step]) -> Steps<'a> {
         Steps { rest }
     }
 
     /// The step of the next call.
-    pub fn next_step(&mut self) -> Step {
+    pub(crate) fn next_step(&mut self) -> Step {
         let Some((step, rest)) = self.rest.split_first() else {
             return ALL_BYTES;
         };
@@ -53,16 +53,16 @@ impl<'a> Steps<'a> {
 
 /// Gives bytes by steps. Of bytes that it has it gives one at least, since 0 would say that it has come to its end.
 #[derive(Drop)]
-pub struct StepReader<'a> {
+pub(crate) struct StepReader<'a> {
     rest: &'a [u8],
     steps: Steps<'a>,
     /// How many calls there were.
-    pub calls: usize,
+    pub(crate) calls: usize,
 }
 
 impl<'a> StepReader<'a> {
     /// A reader that gives these bytes.
-    pub fn new(rest: &'a [u8], steps: &'a [Step]) -> StepReader<'a> {
+    pub(crate) fn new(rest: &'a [u8], steps: &'a [Step]) -> StepReader<'a> {
         StepReader {
             rest,
             steps: Steps::new(steps),
@@ -81,19 +81,19 @@ impl<'a> Read for StepReader<'a> {
 
 /// Takes bytes by steps.
 #[derive(Drop)]
-pub struct StepWriter<'a> {
+pub(crate) struct StepWriter<'a> {
     steps: Steps<'a>,
     /// The bytes that it has taken.
-    pub taken: Vec<u8>,
+    pub(crate) taken: Vec<u8>,
     /// How many calls there were.
-    pub calls: usize,
+    pub(crate) calls: usize,
     /// How many of them had no byte to write.
-    pub empty_calls: usize,
+    pub(crate) empty_calls: usize,
 }
 
 impl<'a> StepWriter<'a> {
     /// A writer that has taken nothing.
-    pub fn new(alloc: Global, steps: &'a [Step]) -> StepWriter<'a> {
+    pub(crate) fn new(alloc: Global, steps: &'a [Step]) -> StepWriter<'a> {
         StepWriter {
             steps: Steps::new(steps),
             taken: Vec::new(alloc),
