@@ -1,10 +1,10 @@
 -- Encodings from which characters are barred keep their laws.
-use Rattle.std.proofs.Common.{◌≡◌, ℕ, ◌<◌, ◌≤◌, Bool, true, false, ◌&&◌, nat_le, Option, Some, None, List, refl, ap, ◌∙◌, arith, if◌then◌else◌}
+use Rattle.std.proofs.Common.{◌≡◌, ℕ, ◌<◌, ◌≤◌, Bool, true, false, ◌==◌, ◌||◌, ◌&&◌, nat_le, Option, None, List, [], ◌∷◌, refl, ap, ◌∙◌, arith, if◌then◌else◌}
 use Rattle.std.proofs.lemmas.Bool.Decides.{nat_tests}
 use Rattle.enc_encoders.specs.declared.byte_lengths.ByteLengths.{ByteLengths}
 use Rattle.enc_encoders.specs.EncoderRule.{EncoderRule, IsLawful, AreFew}
 use Rattle.enc_encoders.specs.Stateless.{WritesAscii, WritesFew, KeepsLengths}
-use Rattle.enc_encoders.specs.Barring.{stands_in, is_barred, except, barring}
+use Rattle.enc_encoders.specs.Barring.{stands_in, is_barred, are_beyond_ascii, except, barring}
 use Rattle.enc_encoders.proofs.FewLemmas.{size}
 use Rattle.enc_encoders.proofs.StatelessLemmas.{of_references_is_ascii}
 
@@ -52,3 +52,31 @@ barring_is_lawful b e l = record {
   one_set = l.one_set;
   few = λ c. few_if (is_barred b c) (e.bytes c) (l.few c);
 }
+
+-- a list that callers may name
+
+and_first : (a b : Bool) → (a && b) ≡ true → a ≡ true
+and_first true b h = refl
+and_first false b h = h
+
+and_second : (a b : Bool) → (a && b) ≡ true → b ≡ true
+and_second true b h = h
+and_second false b h = cc
+
+by_first : (x c : ℕ) (first later all : Bool) → (x == c) ≡ first → (nat_le 0x80 x && all) ≡ true → (first || later) ≡ true → (all ≡ true → later ≡ true → nat_le 0x80 c ≡ true)
+    → nat_le 0x80 c ≡ true
+by_first x c true later all e h s behind = let f = and_first (nat_le 0x80 x) all h in grind (arith, nat_tests, e, f)
+by_first x c false later all e h s behind = behind (and_second (nat_le 0x80 x) all h) s
+
+-- a character of a list that has no ASCII is beyond ASCII
+beyond : (b : List ℕ) (c : ℕ) → are_beyond_ascii b ≡ true → stands_in b c ≡ true → nat_le 0x80 c ≡ true
+beyond [] c h s = cc
+beyond (x ∷ b) c h s = by_first x c (x == c) (stands_in b c) (are_beyond_ascii b) refl h s (beyond b c)
+
+and_if : (s t : Bool) → (s ≡ true → t ≡ true) → (s && t) ≡ s
+and_if true t h = h refl
+and_if false t h = refl
+
+-- so such a list bars just the characters that stand in it
+pub barred_is : (b : List ℕ) (c : ℕ) → are_beyond_ascii b ≡ true → is_barred b c ≡ stands_in b c
+barred_is b c h = and_if (stands_in b c) (nat_le 0x80 c) (beyond b c h)
