@@ -18,7 +18,6 @@ use enc_index::{SingleByteIndex, run_with};
 /// The index Big5 pointer: the first from 5024 on, or the last for U+2550, U+255E, U+2561, U+256A, U+5341 and
 /// U+5345. `None` where there is none.
 #[inline(always)]
-#[tactic(auto, using(crate::proofs::MultiBytePages::big5_pages))]
 pub fn big5(c: char) -> Option<u32>
     ensures value { result ≡ big5_pointer c }
     ensures bound { IfSome result (λ p. p < 19782) }
@@ -28,7 +27,6 @@ pub fn big5(c: char) -> Option<u32>
 
 /// The index pointer in index EUC-KR: the first. `None` where there is none.
 #[inline(always)]
-#[tactic(auto, using(crate::proofs::MultiBytePages::euc_kr_pages))]
 pub fn euc_kr(c: char) -> Option<u32>
     ensures value { result ≡ euc_kr_pointer c }
     ensures bound { IfSome result (λ p. p < 23940) }
@@ -38,7 +36,6 @@ pub fn euc_kr(c: char) -> Option<u32>
 
 /// The index pointer in index gb18030, for two bytes: the first. `None` where there is none.
 #[inline(always)]
-#[tactic(auto, using(crate::proofs::MultiBytePages::gb18030_pages))]
 pub fn gb18030(c: char) -> Option<u32>
     ensures value { result ≡ gb18030_pointer c }
     ensures bound { IfSome result (λ p. p < 23940) }
@@ -64,7 +61,6 @@ pub fn gb18030_ranges(c: char) -> Option<u32>
 /// The index pointer in index jis0208, for EUC-JP and ISO-2022-JP: the first, if it is below 8836. `None` where
 /// there is none.
 #[inline(always)]
-#[tactic(auto, using(crate::proofs::MultiBytePages::jis0208_pages))]
 pub fn jis0208(c: char) -> Option<u32>
     ensures value { result ≡ jis0208_pointer c }
     ensures bound { IfSome result (λ p. p < 8836) }
@@ -74,7 +70,6 @@ pub fn jis0208(c: char) -> Option<u32>
 
 /// The index Shift_JIS pointer: the first in index jis0208 that is not 8272 to 8835. `None` where there is none.
 #[inline(always)]
-#[tactic(auto, using(crate::proofs::MultiBytePages::shift_jis_pages))]
 pub fn shift_jis(c: char) -> Option<u32>
     ensures value { result ≡ shift_jis_pointer c }
     ensures bound { IfSome result (λ p. p < 11280) }
