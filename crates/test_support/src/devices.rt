@@ -1,0 +1,120 @@
+//! Readers and writers over memory, driven by lists of steps: each call does what the next step says.
+
+use std::alloc::Global;
+use std::io;
+use std::io::{ErrorKind, Read, Write};
+
+/// What a device does at a call.
+#[derive(Clone, Copy)]
+pub enum Step {
+    /// Moves at most this many bytes.
+    Move(usize),
+    /// Fails with an error of this kind, and moves none.
+    Fail(ErrorKind),
+}
+
+/// One byte a call.
+pub const BYTE: Step = Step::Move(1);
+
+/// As many bytes as there are, or as there is room for.
+pub const ALL_BYTES: Step = Step::Move(usize::MAX);
+
+/// The steps of a device, in turn. The last one is also that of each later call, and a device without steps moves all.
+#[derive(Clone, Copy)]
+pub struct Steps<'a> {
+    rest: &'a [Step],
+}
+
+impl<'a> Steps<'a> {
+    /// These steps.
+    pub fn new(rest: &'a [Step]) -> Steps<'a> {
+        Steps { rest }
+    }
+
+    /// The step of the next call.
+    pub fn next_step(&mut self) -> Step {
+        let Some((step, rest)) = self.rest.split_first() else {
+            return ALL_BYTES;
+        };
+        if !rest.is_empty() {
+            self.rest = rest;
+        }
+        *step
+    }
+
+    /// How many bytes the next call moves at most, or its error.
+    fn turn(&mut self) -> io::Result<usize> {
+        match self.next_step() {
+            Step::Move(most) => Ok(most),
+            Step::Fail(kind) => Err(io::Error::from(kind)),
+        }
+    }
+}
+
+/// Gives bytes by steps: at least one while it has any, since 0 would say that it has come to its end.
+#[derive(Drop)]
+pub struct StepReader<'a> {
+    rest: &'a [u8],
+    steps: Steps<'a>,
+    /// How many calls there were.
+    pub calls: usize,
+}
+
+impl<'a> StepReader<'a> {
+    /// A reader that gives these bytes.
+    pub fn new(rest: &'a [u8], steps: &'a [Step]) -> StepReader<'a> {
+        StepReader {
+            rest,
+            steps: Steps::new(steps),
+            calls: 0,
+        }
+    }
+}
+
+impl<'a> Read for StepReader<'a> {
+    fn read(&mut self, buf: &mut [u8]) -> io::Result<usize> {
+        self.calls = self.calls.saturating_add(1);
+        let most = self.steps.turn()?.max(1).min(buf.len());
+        self.rest.read(&mut buf[..most])
+    }
+}
+
+/// Takes bytes by steps.
+#[derive(Drop)]
+pub struct StepWriter<'a> {
+    steps: Steps<'a>,
+    /// The bytes that it has taken.
+    pub taken: Vec<u8>,
+    /// How many calls there were.
+    pub calls: usize,
+    /// How many of them had no byte to write.
+    pub empty_calls: usize,
+}
+
+impl<'a> StepWriter<'a> {
+    /// A writer that has taken nothing.
+    pub fn new(alloc: Global, steps: &'a [Step]) -> StepWriter<'a> {
+        StepWriter {
+            steps: Steps::new(steps),
+            taken: Vec::new(alloc),
+            calls: 0,
+            empty_calls: 0,
+        }
+    }
+}
+
+impl<'a> Write for StepWriter<'a> {
+    fn write(&mut self, buf: &[u8]) -> io::Result<usize> {
+        self.calls = self.calls.saturating_add(1);
+        if buf.is_empty() {
+            self.empty_calls = self.empty_calls.saturating_add(1);
+        }
+        let most = self.steps.turn()?.min(buf.len());
+        self.taken.extend_from_slice(&buf[..most])?;
+        Ok(most)
+    }
+
+    fn flush(&mut self) -> io::Result<()> {
+        Err(io::Error::from(ErrorKind::Unsupported))
+    }
+}
