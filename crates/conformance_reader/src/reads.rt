@@ -1,209 +1,73 @@
-//! Reads of a `DecodeReader`, one behind another.
+//! Reads of a `DecodeReader`, one after another.
 
-use crate::devices::{Step, StepReader};
 use enc_reader::{DecodeReader, FromRead, ReadFault, Source};
-use encoding_rs::{
-    BIG5, EUC_JP, EUC_KR, Encoding, GB18030, GBK, IBM866, ISO_2022_JP, ISO_8859_2, ISO_8859_3,
-    ISO_8859_4, ISO_8859_5, ISO_8859_6, ISO_8859_7, ISO_8859_8, ISO_8859_8_I, ISO_8859_10,
-    ISO_8859_13, ISO_8859_14, ISO_8859_15, ISO_8859_16, KOI8_R, KOI8_U, MACINTOSH, REPLACEMENT,
-    SHIFT_JIS, UTF_8, UTF_16BE, UTF_16LE, WINDOWS_874, WINDOWS_1250, WINDOWS_1251, WINDOWS_1252,
-    WINDOWS_1253, WINDOWS_1254, WINDOWS_1255, WINDOWS_1256, WINDOWS_1257, WINDOWS_1258,
-    X_MAC_CYRILLIC, X_USER_DEFINED,
-};
-use std::alloc::Global;
-use std::process::Abort;
+use encoding_rs::{Encoding, SHIFT_JIS, UTF_8, WINDOWS_1252};
+use std::io::ErrorKind;
 use std::test::Fail;
+use test_support::devices::{BYTE, Step, StepReader};
+use test_support::encodings::TABLE;
+use test_support::reading::{compare_read, compare_with_whole, read_all};
 
-/// One byte a call.
-const BYTE: Step = Step::Give(1);
-
-/// Reads once, into a buffer of four bytes: this is the answer, and these bytes stand in front then.
-fn compare_read<R: Source>(
-    rt: &impl Abort,
-    reader: &mut DecodeReader<'_, R>,
-    want: Result<usize, ReadFault>,
-    text: &[u8],
-) {
-    let mut dst = [0; 4];
-    assert_eq!(rt; reader.read_str(&mut dst), want);
-    assert!(rt; dst.as_slice().starts_with(text), "{dst:?} for {text:?}");
-}
+/// A step that fails.
+const FAULT: Step = Step::Fail(ErrorKind::BrokenPipe);
 
 #[test]
-fn reads_behind_a_mark_in_parts(rt: HostRuntime) {
-    let steps = [BYTE, BYTE, BYTE, Step::Give(2), BYTE];
+fn reads_behind_a_mark_in_parts(rt: HostRuntime) -> Result<(), Fail> {
+    let steps = [BYTE, BYTE, BYTE, Step::Move(2), BYTE];
     let mut source = FromRead::new(StepReader::new(b"\xEF\xBB\xBF\xE2\x82\xAC", &steps));
     let mut input = [0; 4];
     let mut reader = DecodeReader::new(&mut source, Some(WINDOWS_1252), &mut input);
     assert_eq!(rt; reader.encoding(), WINDOWS_1252);
-    compare_read(&rt, &mut reader, Ok(3), b"\xE2\x82\xAC");
-    compare_read(&rt, &mut reader, Ok(0), b"");
-    compare_read(&rt, &mut reader, Ok(0), b"");
+    compare_read(&mut reader, Ok(3), b"\xE2\x82\xAC")?;
+    compare_read(&mut reader, Ok(0), b"")?;
+    compare_read(&mut reader, Ok(0), b"")?;
     assert_eq!(rt; (reader.encoding(), reader.had_errors()), (UTF_8, false));
+    Ok(())
 }
 
 #[test]
-fn reads_what_is_malformed(rt: HostRuntime) {
+fn reads_what_is_malformed(rt: HostRuntime) -> Result<(), Fail> {
     let mut device = StepReader::new(b"a\xFFb", &[]);
     let mut source = FromRead::new(&mut device);
     let mut input = [0; 8];
     let mut reader = DecodeReader::new(&mut source, None, &mut input);
     assert!(rt; !reader.had_errors());
-    compare_read(&rt, &mut reader, Ok(4), b"a\xEF\xBF\xBD");
+    compare_read(&mut reader, Ok(4), b"a\xEF\xBF\xBD")?;
     assert!(rt; reader.had_errors());
-    compare_read(&rt, &mut reader, Ok(1), b"b");
-    compare_read(&rt, &mut reader, Ok(0), b"");
+    compare_read(&mut reader, Ok(1), b"b")?;
+    compare_read(&mut reader, Ok(0), b"")?;
     assert_eq!(rt; (reader.encoding(), reader.had_errors()), (UTF_8, true));
     // it was read once for the text and once for the end
     assert_eq!(rt; device.calls, 2);
+    Ok(())
 }
 
 #[test]
-fn tells_a_fault_once(rt: HostRuntime) {
-    let mut device = StepReader::new(b"ab", &[BYTE, Step::Fail, BYTE]);
+fn tells_a_fault_once(rt: HostRuntime) -> Result<(), Fail> {
+    let mut device = StepReader::new(b"ab", &[BYTE, FAULT, BYTE]);
     let mut source = FromRead::new(&mut device);
     let mut input = [0; 8];
     let mut reader = DecodeReader::new(&mut source, None, &mut input);
-    compare_read(&rt, &mut reader, Ok(1), b"a");
-    compare_read(&rt, &mut reader, Err(ReadFault::Reader), b"\0\0\0\0");
-    compare_read(&rt, &mut reader, Err(ReadFault::Failed), b"\0\0\0\0");
+    compare_read(&mut reader, Ok(1), b"a")?;
+    compare_read(&mut reader, Err(ReadFault::Reader), b"\0\0\0\0")?;
+    compare_read(&mut reader, Err(ReadFault::Failed), b"\0\0\0\0")?;
     assert_eq!(rt; (reader.encoding(), reader.had_errors()), (UTF_8, false));
     assert!(rt; source.failed());
     // none is tried again
     assert_eq!(rt; device.calls, 2);
-}
-
-#[test]
-fn reads_a_replacement_character_of_the_input(rt: HostRuntime) {
-    let mut source = FromRead::new(b"\xEF\xBF\xBD".as_slice());
-    let mut input = [0; 8];
-    let mut reader = DecodeReader::new(&mut source, None, &mut input);
-    compare_read(&rt, &mut reader, Ok(3), b"\xEF\xBF\xBD");
-    compare_read(&rt, &mut reader, Ok(0), b"");
-    assert!(rt; !reader.had_errors());
-}
-
-/// What all reads together have come to.
-#[derive(Drop)]
-struct AllRead {
-    text: Vec<u8>,
-    encoding: Encoding,
-    had_errors: bool,
-    fault: Option<ReadFault>,
-}
-
-/// Reads to the end or to a fault, through buffers of these lengths: one to read into, and one for a part of the text. It has to be
-/// at least one byte long, and four.
-fn read_all(
-    alloc: Global,
-    device: StepReader<'_>,
-    encoding: Encoding,
-    input: &mut [u8],
-    part: &mut [u8],
-) -> Result<AllRead, Fail> {
-    if input.is_empty() || part.len() < 4 {
-        return Err("buffers too short".into());
-    }
-    let mut source = FromRead::new(device);
-    let mut reader = DecodeReader::new(&mut source, Some(encoding), input);
-    let mut text = Vec::new(alloc);
-    let mut fault = None;
-    for _ in 0..u64::MAX {
-        match reader.read_str(part) {
-            Ok(0) => break,
-            Ok(n) => text.extend_from_slice(&part[..n])?,
-            Err(why) => {
-                fault = Some(why);
-                break;
-            }
-        }
-    }
-    Ok(AllRead {
-        text,
-        encoding: reader.encoding(),
-        had_errors: reader.had_errors(),
-        fault,
-    })
-}
-
-/// Reads an input a byte at a time, and in parts, through short buffers: what comes out is what `decode` gives for the whole of it.
-fn compare_with_whole(
-    rt: &impl Abort,
-    alloc: Global,
-    encoding: Encoding,
-    bytes: &[u8],
-) -> Result<(), Fail> {
-    let name = encoding.name();
-    let Ok((text, decoded_by, had_errors)) = encoding.decode(alloc, bytes) else {
-        return Err("out of memory".into());
-    };
-    for step in [BYTE, Step::Give(3), Step::Give(usize::MAX)] {
-        for (room, len) in [(4, 1), (5, 3), (64, 64)] {
-            let mut input = [0; 64];
-            let mut part = [0; 64];
-            let steps = [step];
-            let read = read_all(
-                alloc,
-                StepReader::new(bytes, &steps),
-                encoding,
-                &mut input[..len],
-                &mut part[..room],
-            )?;
-            assert_eq!(rt; read.fault, None, "{name} {bytes:?}");
-            assert_eq!(rt; read.text.as_slice(), text.as_bytes(), "{name} {bytes:?}");
-            assert_eq!(rt;
-                (read.encoding, read.had_errors),
-                (decoded_by, had_errors),
-                "{name} {bytes:?}"
-            );
-        }
-    }
     Ok(())
 }
 
-/// All encodings.
-const ALL: [Encoding; 40] = [
-    UTF_8,
-    IBM866,
-    ISO_8859_2,
-    ISO_8859_3,
-    ISO_8859_4,
-    ISO_8859_5,
-    ISO_8859_6,
-    ISO_8859_7,
-    ISO_8859_8,
-    ISO_8859_8_I,
-    ISO_8859_10,
-    ISO_8859_13,
-    ISO_8859_14,
-    ISO_8859_15,
-    ISO_8859_16,
-    KOI8_R,
-    KOI8_U,
-    MACINTOSH,
-    WINDOWS_874,
-    WINDOWS_1250,
-    WINDOWS_1251,
-    WINDOWS_1252,
-    WINDOWS_1253,
-    WINDOWS_1254,
-    WINDOWS_1255,
-    WINDOWS_1256,
-    WINDOWS_1257,
-    WINDOWS_1258,
-    X_MAC_CYRILLIC,
-    GBK,
-    GB18030,
-    BIG5,
-    EUC_JP,
-    ISO_2022_JP,
-    SHIFT_JIS,
-    EUC_KR,
-    REPLACEMENT,
-    UTF_16BE,
-    UTF_16LE,
-    X_USER_DEFINED,
-];
+#[test]
+fn reads_a_replacement_character_of_the_input(rt: HostRuntime) -> Result<(), Fail> {
+    let mut source = FromRead::new(b"\xEF\xBF\xBD".as_slice());
+    let mut input = [0; 8];
+    let mut reader = DecodeReader::new(&mut source, None, &mut input);
+    compare_read(&mut reader, Ok(3), b"\xEF\xBF\xBD")?;
+    compare_read(&mut reader, Ok(0), b"")?;
+    assert!(rt; !reader.had_errors());
+    Ok(())
+}
 
 /// Inputs that have sequences of each kind in some encoding: characters of one byte to four, pairs of characters, surrogates, escape
 /// sequences and repeated ones, what is malformed and what breaks off, marks, and marks that break off.
@@ -237,9 +101,9 @@ const INPUTS: &[&[u8]] = &[
 
 #[test]
 fn reads_the_text_of_the_whole_input(rt: HostRuntime) -> Result<(), Fail> {
-    for encoding in ALL {
+    for (encoding, _, _) in TABLE {
         for bytes in INPUTS {
-            compare_with_whole(&rt, rt.alloc(), encoding, *bytes)?;
+            compare_with_whole(rt.alloc(), *encoding, *bytes)?;
         }
     }
     Ok(())
@@ -247,12 +111,12 @@ fn reads_the_text_of_the_whole_input(rt: HostRuntime) -> Result<(), Fail> {
 
 /// The steps up to a fault at the nth call.
 const FAULTS: &[&[Step]] = &[
-    &[Step::Fail],
-    &[BYTE, Step::Fail],
-    &[BYTE, BYTE, Step::Fail],
-    &[BYTE, BYTE, BYTE, Step::Fail],
-    &[BYTE, BYTE, BYTE, BYTE, Step::Fail],
-    &[BYTE, BYTE, BYTE, BYTE, BYTE, Step::Fail],
+    &[FAULT],
+    &[BYTE, FAULT],
+    &[BYTE, BYTE, FAULT],
+    &[BYTE, BYTE, BYTE, FAULT],
+    &[BYTE, BYTE, BYTE, BYTE, FAULT],
+    &[BYTE, BYTE, BYTE, BYTE, BYTE, FAULT],
 ];
 
 #[test]

@@ -8,3 +8,5 @@
 pub mod cases;
 pub mod devices;
 pub mod encodings;
+pub mod reading;
+pub mod recoding;
