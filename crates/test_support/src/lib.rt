@@ -6,5 +6,6 @@
 #![tactic(auto)]
 
 pub mod cases;
+pub mod decoding;
 pub mod devices;
 pub mod encodings;
