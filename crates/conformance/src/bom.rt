@@ -36,7 +36,9 @@ const REPORT_AT_THE_END: &[ReportingCall<'static>] = &[
 #[test]
 fn a_byte_behind_a_broken_mark_waits_for_its_report(rt: HostRuntime) -> Result<(), Fail> {
     make_reporting_calls_of(rt.alloc(), &mut ISO_2022_JP.new_decoder(), REPORTS_IN_TURN)?;
-    make_reporting_calls_of(rt.alloc(), &mut UTF_8.new_decoder_with_bom_removal(),
+    make_reporting_calls_of(
+        rt.alloc(),
+        &mut UTF_8.new_decoder_with_bom_removal(),
         REPORT_AT_THE_END,
     )
 }
@@ -61,7 +63,11 @@ const NOTHING_OFFERED: &[Call<'static>] = &[
 fn a_byte_behind_a_broken_mark_waits_for_room(rt: HostRuntime) -> Result<(), Fail> {
     make_calls_of(rt.alloc(), &mut X_USER_DEFINED.new_decoder(), ROOM_FOR_ONE)?;
     // it comes out of a call that is offered nothing
-    make_calls_of(rt.alloc(), &mut X_USER_DEFINED.new_decoder(), NOTHING_OFFERED)
+    make_calls_of(
+        rt.alloc(),
+        &mut X_USER_DEFINED.new_decoder(),
+        NOTHING_OFFERED,
+    )
 }
 
 const NO_ROOM: &[Call<'static>] = &[
@@ -114,7 +120,9 @@ fn a_mark_tells_the_encoding(rt: HostRuntime) -> Result<(), Fail> {
     assert_eq!(rt; decoder.encoding(), UTF_8);
     make_calls_of(rt.alloc(), &mut decoder, BEHIND_THE_MARK)?;
     assert_eq!(rt; decoder.encoding(), UTF_8);
-    make_calls_of(rt.alloc(), &mut UTF_16BE.new_decoder_with_bom_removal(),
+    make_calls_of(
+        rt.alloc(),
+        &mut UTF_16BE.new_decoder_with_bom_removal(),
         MARK_IN_TWO,
     )
 }
@@ -188,11 +196,7 @@ const BROKEN: &[&[u8]] = &[
 const BEHIND: &[&[u8]] = &[b"", b"a", b"ab", b"\xEF\xBB\xBF", b"\xFE\xFF\xFF\xFE"];
 
 /// The malformed sequences of a run, in an input that has `front` bytes before those of the run.
-fn places_after(
-    alloc: Global,
-    run: &Run,
-    front: usize,
-) -> Result<Vec<(usize, usize)>, AllocError> {
+fn places_after(alloc: Global, run: &Run, front: usize) -> Result<Vec<(usize, usize)>, AllocError> {
     let mut places = Vec::new(alloc);
     for (start, len) in run.malformed.as_slice() {
         places.push((start.saturating_add(front), *len))?;
@@ -257,11 +261,7 @@ fn compare_with_plain(
 }
 
 /// No input that begins as a mark does drops a byte.
-fn compare_broken(
-    alloc: Global,
-    encoding: Encoding,
-    handling: BomHandling,
-) -> Result<(), Fail> {
+fn compare_broken(alloc: Global, encoding: Encoding, handling: BomHandling) -> Result<(), Fail> {
     for bytes in BROKEN {
         compare_with_plain(alloc, (encoding, handling), (encoding, 0), bytes)?;
     }

@@ -7,7 +7,9 @@ use encoding_rs::*;
 use std::alloc::{AllocError, Global};
 use std::process::Abort;
 use std::test::Fail;
-use test_support::decoding::{compare_single_bytes, compare_strict, compare_with_run, decode_at_once};
+use test_support::decoding::{
+    compare_single_bytes, compare_strict, compare_with_run, decode_at_once,
+};
 use test_support::encodings::TABLE;
 
 const OFF: BomHandling = BomHandling::Off;

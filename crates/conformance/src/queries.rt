@@ -10,7 +10,9 @@ use encoding_rs::{
 };
 use std::process::Abort;
 use std::test::Fail;
-use test_support::decoding::{Call, ReportingCall, make_calls_of, make_reporting_calls_of, new_decoder};
+use test_support::decoding::{
+    Call, ReportingCall, make_calls_of, make_reporting_calls_of, new_decoder,
+};
 
 const EMPTY: CoderResult = CoderResult::InputEmpty;
 

@@ -19,9 +19,7 @@ pub use calls::{
 };
 pub use cuts::{Others, compare_all, compare_cuts_of, compare_offers, compare_uses};
 pub use mixed::compare_mixed;
-pub use one_shot::{
-    Mode, compare_single_bytes, compare_strict, compare_with_run, decode_at_once,
-};
+pub use one_shot::{Mode, compare_single_bytes, compare_strict, compare_with_run, decode_at_once};
 pub use outputs::{ALL_OUTPUTS, Answer, Given, Output, call_into};
 pub use reads::compare_read;
 pub use rows::{Cut, Input, MOST_ROOM, Row, input_of};

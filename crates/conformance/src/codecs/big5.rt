@@ -106,5 +106,5 @@ fn tells_what_is_malformed(rt: HostRuntime) -> Result<(), Fail> {
 
 #[test]
 fn the_decoder_decodes_a_character(rt: HostRuntime) -> Result<(), Fail> {
-    decode_one(rt.alloc(), &mut Big5Decoder::new(), (b"\xA4", 0x40), "一")
+    decode_one(&mut Big5Decoder::new(), (b"\xA4", 0x40), "一")
 }

@@ -123,5 +123,5 @@ fn tells_what_is_malformed(rt: HostRuntime) -> Result<(), Fail> {
 
 #[test]
 fn the_decoder_decodes_a_character(rt: HostRuntime) -> Result<(), Fail> {
-    decode_one(rt.alloc(), &mut EucJpDecoder::new(), (b"\x8F\xB0", 0xA1), "丂")
+    decode_one(&mut EucJpDecoder::new(), (b"\x8F\xB0", 0xA1), "丂")
 }

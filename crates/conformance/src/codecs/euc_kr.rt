@@ -70,5 +70,5 @@ fn tells_what_is_malformed(rt: HostRuntime) -> Result<(), Fail> {
 
 #[test]
 fn the_decoder_decodes_a_character(rt: HostRuntime) -> Result<(), Fail> {
-    decode_one(rt.alloc(), &mut EucKrDecoder::new(), (b"\xB0", 0xA1), "가")
+    decode_one(&mut EucKrDecoder::new(), (b"\xB0", 0xA1), "가")
 }

@@ -39,10 +39,14 @@ fn gives_back_two_of_three_bytes(rt: HostRuntime) -> Result<(), Fail> {
 #[test]
 fn four_bytes_between_the_ranges_are_malformed(rt: HostRuntime) -> Result<(), Fail> {
     let (gap, end) = ([0x84, 0x31, 0xA5, 0x30], [0x84, 0x31, 0xA4, 0x39]);
-    make_reporting_calls(rt.alloc(), GB18030,
+    make_reporting_calls(
+        rt.alloc(),
+        GB18030,
         &[(&gap, true, 8, (DecoderResult::Malformed(4, 0), 4, 0), "")],
     )?;
-    make_reporting_calls(rt.alloc(), GB18030,
+    make_reporting_calls(
+        rt.alloc(),
+        GB18030,
         &[(&end, true, 8, (DecoderResult::InputEmpty, 4, 3), "\u{FFFF}")],
     )
 }
@@ -230,11 +234,11 @@ fn tells_what_is_malformed(rt: HostRuntime) -> Result<(), Fail> {
 #[test]
 fn the_decoder_decodes_a_character(rt: HostRuntime) -> Result<(), Fail> {
     let src = (b"\x90\x30\x81".as_slice(), 0x30);
-    decode_one(rt.alloc(), &mut Gb18030Decoder::new(), src, "\u{10000}")
+    decode_one(&mut Gb18030Decoder::new(), src, "\u{10000}")
 }
 
 #[test]
 fn the_decoder_gives_two_bytes_back(rt: HostRuntime) -> Result<(), Fail> {
     let mut decoder = Gb18030Decoder::new();
-    stop(rt.alloc(), &mut decoder, b"\x81\x30\x81\xFF", (1, 2), 3, "")
+    stop(&mut decoder, b"\x81\x30\x81\xFF", (1, 2), 3, "")
 }

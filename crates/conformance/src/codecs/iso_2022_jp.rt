@@ -8,7 +8,9 @@ use encoding_rs::{CoderResult, DecoderResult, ISO_2022_JP};
 use std::alloc::Global;
 use std::test::Fail;
 use test_support::decoding::raw_calls::{end, hold, make_call, stop};
-use test_support::decoding::{Call, ReportingCall, Row, compare_all, make_calls, make_reporting_calls};
+use test_support::decoding::{
+    Call, ReportingCall, Row, compare_all, make_calls, make_reporting_calls,
+};
 
 /// Runs each input through every cut and room.
 fn compare(alloc: Global, rows: &[Row]) -> Result<(), Fail> {
@@ -261,31 +263,31 @@ fn cuts_and_rooms_change_no_set(rt: HostRuntime) -> Result<(), Fail> {
 
 #[test]
 fn the_decoder_decodes_each_set(rt: HostRuntime) -> Result<(), Fail> {
-    end(rt.alloc(), &mut Iso2022JpDecoder::new(), b"\x5C\x7E", "\\~")?;
-    end(rt.alloc(), &mut Iso2022JpDecoder::new(), b"\x1B(J\x5C\x7E", "¥‾")?;
-    end(rt.alloc(), &mut Iso2022JpDecoder::new(), b"\x1B(I\x21\x5F", "｡ﾟ")?;
-    end(rt.alloc(), &mut Iso2022JpDecoder::new(), b"\x1B$@\x24\x22", "あ")?;
-    end(rt.alloc(), &mut Iso2022JpDecoder::new(), b"\x1B$B\x24\x22", "あ")
+    end(&mut Iso2022JpDecoder::new(), b"\x5C\x7E", "\\~")?;
+    end(&mut Iso2022JpDecoder::new(), b"\x1B(J\x5C\x7E", "¥‾")?;
+    end(&mut Iso2022JpDecoder::new(), b"\x1B(I\x21\x5F", "｡ﾟ")?;
+    end(&mut Iso2022JpDecoder::new(), b"\x1B$@\x24\x22", "あ")?;
+    end(&mut Iso2022JpDecoder::new(), b"\x1B$B\x24\x22", "あ")
 }
 
 #[test]
 fn the_decoder_holds_an_escape_until_the_next_is_told(rt: HostRuntime) -> Result<(), Fail> {
     let mut decoder = Iso2022JpDecoder::new();
-    hold(rt.alloc(), &mut decoder, b"\x1B", 1)?;
-    hold(rt.alloc(), &mut decoder, b"(", 2)?;
-    hold(rt.alloc(), &mut decoder, b"J", 3)?;
-    hold(rt.alloc(), &mut decoder, b"\x1B", 4)?;
-    hold(rt.alloc(), &mut decoder, b"$", 5)?;
+    hold(&mut decoder, b"\x1B", 1)?;
+    hold(&mut decoder, b"(", 2)?;
+    hold(&mut decoder, b"J", 3)?;
+    hold(&mut decoder, b"\x1B", 4)?;
+    hold(&mut decoder, b"$", 5)?;
     let want = (DecoderResult::Malformed(3, 3), 1, 3);
-    make_call(rt.alloc(), &mut decoder, (b"B", false), want, "")?;
-    hold(rt.alloc(), &mut decoder, b"\x24", 1)?;
-    end(rt.alloc(), &mut decoder, b"\x22", "あ")
+    make_call(&mut decoder, (b"B", false), want, "")?;
+    hold(&mut decoder, b"\x24", 1)?;
+    end(&mut decoder, b"\x22", "あ")
 }
 
 #[test]
 fn the_decoder_reads_anew_in_the_set_in_force(rt: HostRuntime) -> Result<(), Fail> {
     let mut decoder = Iso2022JpDecoder::new();
-    hold(rt.alloc(), &mut decoder, b"\x1B$B\x1B$", 5)?;
-    stop(rt.alloc(), &mut decoder, b"\x22", (1, 1), 0, "")?;
-    end(rt.alloc(), &mut decoder, b"\x22", "あ")
+    hold(&mut decoder, b"\x1B$B\x1B$", 5)?;
+    stop(&mut decoder, b"\x22", (1, 1), 0, "")?;
+    end(&mut decoder, b"\x22", "あ")
 }

@@ -25,16 +25,13 @@ const NO_BYTES: &[Call<'static>] = &[(&[], true, 3, (CoderResult::InputEmpty, 0,
 fn has_one_malformed_sequence(rt: HostRuntime) -> Result<(), Fail> {
     make_calls(rt.alloc(), REPLACEMENT, SOME_BYTES)?;
     make_calls(rt.alloc(), REPLACEMENT, NO_BYTES)?;
-    compare_all(rt.alloc(),
-        (REPLACEMENT, ReplacementDecoder::new()),
-        INPUTS,
-    )
+    compare_all(rt.alloc(), (REPLACEMENT, ReplacementDecoder::new()), INPUTS)
 }
 
 #[test]
 fn the_decoder_reports_the_first_byte_alone(rt: HostRuntime) -> Result<(), Fail> {
     let mut decoder = ReplacementDecoder::new();
-    stop(rt.alloc(), &mut decoder, b"AB", (1, 0), 1, "")?;
-    end(rt.alloc(), &mut decoder, b"B", "")?;
-    end(rt.alloc(), &mut ReplacementDecoder::new(), b"", "")
+    stop(&mut decoder, b"AB", (1, 0), 1, "")?;
+    end(&mut decoder, b"B", "")?;
+    end(&mut ReplacementDecoder::new(), b"", "")
 }

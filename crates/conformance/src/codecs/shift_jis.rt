@@ -42,10 +42,7 @@ const CHARACTERS: &[Row] = &[
 fn decodes(rt: HostRuntime) -> Result<(), Fail> {
     let hello = b"\x83\x6E\x83\x8D\x81\x5B\x81\x45\x83\x8F\x81\x5B\x83\x8B\x83\x68";
     decode_whole(rt.alloc(), SHIFT_JIS, hello, "ハロー・ワールド")?;
-    compare_all(rt.alloc(),
-        (SHIFT_JIS, ShiftJisDecoder::new()),
-        CHARACTERS,
-    )
+    compare_all(rt.alloc(), (SHIFT_JIS, ShiftJisDecoder::new()), CHARACTERS)
 }
 
 const WORDS: &[Row] = &[
@@ -112,13 +109,10 @@ const MALFORMED: &[Row] = &[
 
 #[test]
 fn tells_what_is_malformed(rt: HostRuntime) -> Result<(), Fail> {
-    compare_all(rt.alloc(),
-        (SHIFT_JIS, ShiftJisDecoder::new()),
-        MALFORMED,
-    )
+    compare_all(rt.alloc(), (SHIFT_JIS, ShiftJisDecoder::new()), MALFORMED)
 }
 
 #[test]
 fn the_decoder_decodes_a_character(rt: HostRuntime) -> Result<(), Fail> {
-    decode_one(rt.alloc(), &mut ShiftJisDecoder::new(), (b"\x83", 0x6E), "ハ")
+    decode_one(&mut ShiftJisDecoder::new(), (b"\x83", 0x6E), "ハ")
 }

@@ -105,7 +105,9 @@ fn an_unmapped_byte_is_malformed(rt: HostRuntime) -> Result<(), Fail> {
     let bytes = &[0x61, 0x62, 0x63, 0x80, 0xA1, 0xE4];
     let text = "abc€\u{FFFD}ä";
     let want = (CoderResult::InputEmpty, 6, 11, true);
-    make_calls(rt.alloc(), WINDOWS_1257,
+    make_calls(
+        rt.alloc(),
+        WINDOWS_1257,
         &[(bytes.as_slice(), true, 16, want, text)],
     )?;
     let decoder = SingleByteDecoder::new(SingleByteIndex::Windows1257);
@@ -127,7 +129,7 @@ fn cuts_and_rooms_change_nothing(rt: HostRuntime) -> Result<(), Fail> {
 #[test]
 fn the_decoder_decodes_windows_1252(rt: HostRuntime) -> Result<(), Fail> {
     let mut decoder = SingleByteDecoder::new(SingleByteIndex::Windows1252);
-    end(rt.alloc(), &mut decoder, b"\x61\x80\xE9", "a€é")
+    end(&mut decoder, b"\x61\x80\xE9", "a€é")
 }
 
 #[test]

@@ -4,7 +4,9 @@ use enc_codec::Utf16Decoder;
 use encoding_rs::{CoderResult, DecoderResult, UTF_16BE, UTF_16LE};
 use std::test::Fail;
 use test_support::decoding::raw_calls::{end, stop};
-use test_support::decoding::{Call, ReportingCall, Row, compare_all, make_calls, make_reporting_calls};
+use test_support::decoding::{
+    Call, ReportingCall, Row, compare_all, make_calls, make_reporting_calls,
+};
 
 const LEAD_AND_UNIT: &[ReportingCall<'static>] = &[
     (
@@ -108,33 +110,31 @@ const BIG_ENDIAN: &[Row] = &[
 
 #[test]
 fn cuts_and_rooms_change_nothing(rt: HostRuntime) -> Result<(), Fail> {
-    compare_all(rt.alloc(),
+    compare_all(
+        rt.alloc(),
         (UTF_16LE, Utf16Decoder::new(false)),
         LITTLE_ENDIAN,
     )?;
-    compare_all(rt.alloc(),
-        (UTF_16BE, Utf16Decoder::new(true)),
-        BIG_ENDIAN,
-    )
+    compare_all(rt.alloc(), (UTF_16BE, Utf16Decoder::new(true)), BIG_ENDIAN)
 }
 
 #[test]
 fn the_decoder_decodes_a_pair(rt: HostRuntime) -> Result<(), Fail> {
-    end(rt.alloc(), &mut Utf16Decoder::new(false), b"\x3D\xD8\xA9\xDC", "💩")?;
-    end(rt.alloc(), &mut Utf16Decoder::new(true), b"\xD8\x3D\xDC\xA9", "💩")
+    end(&mut Utf16Decoder::new(false), b"\x3D\xD8\xA9\xDC", "💩")?;
+    end(&mut Utf16Decoder::new(true), b"\xD8\x3D\xDC\xA9", "💩")
 }
 
 #[test]
 fn the_decoder_reads_anew_behind_a_lead_surrogate(rt: HostRuntime) -> Result<(), Fail> {
     let mut decoder = Utf16Decoder::new(false);
-    stop(rt.alloc(), &mut decoder, b"\x3D\xD8A\0", (2, 1), 3, "")?;
-    end(rt.alloc(), &mut decoder, b"\0", "A")
+    stop(&mut decoder, b"\x3D\xD8A\0", (2, 1), 3, "")?;
+    end(&mut decoder, b"\0", "A")
 }
 
 #[test]
 fn the_decoder_reports_what_is_unfinished(rt: HostRuntime) -> Result<(), Fail> {
     let mut decoder = Utf16Decoder::new(false);
-    stop(rt.alloc(), &mut decoder, b"\x3D\xD8A", (3, 0), 3, "")?;
-    stop(rt.alloc(), &mut decoder, b"\x00\xDC", (2, 0), 2, "")?;
-    stop(rt.alloc(), &mut decoder, b"A", (1, 0), 1, "")
+    stop(&mut decoder, b"\x3D\xD8A", (3, 0), 3, "")?;
+    stop(&mut decoder, b"\x00\xDC", (2, 0), 2, "")?;
+    stop(&mut decoder, b"A", (1, 0), 1, "")
 }

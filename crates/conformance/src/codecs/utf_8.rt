@@ -62,7 +62,11 @@ fn a_malformed_sequence_waits_for_room(rt: HostRuntime) -> Result<(), Fail> {
         (9, (empty, 3, 9, true), "\u{FFFD}\u{FFFD}\u{FFFD}"),
     ];
     for (room, want, text) in rows {
-        make_calls(rt.alloc(), UTF_8, &[(&[0xED, 0xA0, 0x80], true, room, want, text)])?;
+        make_calls(
+            rt.alloc(),
+            UTF_8,
+            &[(&[0xED, 0xA0, 0x80], true, room, want, text)],
+        )?;
     }
     Ok(())
 }
@@ -77,7 +81,11 @@ fn a_sequence_behind_a_malformed_one_waits_for_room(rt: HostRuntime) -> Result<(
     ];
     for last in [false, true] {
         for (room, want, text) in rows {
-            make_calls(rt.alloc(), UTF_8, &[(&[0xF0, 0x90, 0x41], last, room, want, text)])?;
+            make_calls(
+                rt.alloc(),
+                UTF_8,
+                &[(&[0xF0, 0x90, 0x41], last, room, want, text)],
+            )?;
         }
     }
     Ok(())

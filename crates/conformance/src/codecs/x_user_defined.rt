@@ -10,7 +10,8 @@ const INPUTS: &[Row] = &[(&[0x61, 0x7F, 0x80, 0xFF], "a\u{7F}\u{F780}\u{F7FF}", 
 
 #[test]
 fn maps_to_private_use(rt: HostRuntime) -> Result<(), Fail> {
-    compare_all(rt.alloc(),
+    compare_all(
+        rt.alloc(),
         (X_USER_DEFINED, XUserDefinedDecoder::new()),
         INPUTS,
     )
@@ -19,5 +20,5 @@ fn maps_to_private_use(rt: HostRuntime) -> Result<(), Fail> {
 #[test]
 fn the_decoder_decodes_both_ends(rt: HostRuntime) -> Result<(), Fail> {
     let mut decoder = XUserDefinedDecoder::new();
-    end(rt.alloc(), &mut decoder, b"\x80\xFF", "\u{F780}\u{F7FF}")
+    end(&mut decoder, b"\x80\xFF", "\u{F780}\u{F7FF}")
 }

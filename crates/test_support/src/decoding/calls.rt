@@ -57,11 +57,7 @@ pub fn make_call(
 }
 
 /// Makes the calls with this decoder.
-pub fn make_calls_of(
-    alloc: Global,
-    decoder: &mut Decoder,
-    calls: &[Call<'_>],
-) -> Result<(), Fail> {
+pub fn make_calls_of(alloc: Global, decoder: &mut Decoder, calls: &[Call<'_>]) -> Result<(), Fail> {
     for (src, last, room, want, text) in calls {
         let given = Given {
             src,
@@ -117,12 +113,7 @@ pub fn make_reporting_calls(
 }
 
 /// One call with much room reads all and replaces nothing.
-pub fn decode_whole(
-    alloc: Global,
-    encoding: Encoding,
-    src: &[u8],
-    text: &str,
-) -> Result<(), Fail> {
+pub fn decode_whole(alloc: Global, encoding: Encoding, src: &[u8], text: &str) -> Result<(), Fail> {
     let want = (CoderResult::InputEmpty, src.len(), text.len(), false);
     make_calls(alloc, encoding, &[(src, true, MOST_ROOM, want, text)])
 }

@@ -9,9 +9,9 @@ use crate::decoding::raw::compare_raw_cuts;
 use crate::decoding::rows::{Cut, Input, Row, input_of};
 use crate::decoding::runs::{Run, Use, run_cut};
 use crate::decoding::small_offers::compare_after_broken_marks;
+use enc_machine::RawDecoder;
 use encoding_rs::Encoding;
 use encoding_rs::run::BomHandling;
-use enc_machine::RawDecoder;
 use std::alloc::Global;
 use std::test::Fail;
 
@@ -39,7 +39,11 @@ fn compare_places(run: &Run, input: &Input<'_>, case: &Case<'_>) -> Result<(), F
     let is_prefix = input.malformed.starts_with(reported);
     expect(is_prefix, "malformed sequences elsewhere", case)?;
     let has_all = reported.len() == input.malformed.len();
-    expect(has_all || !run.is_finished, "malformed sequences missing", case)
+    expect(
+        has_all || !run.is_finished,
+        "malformed sequences missing",
+        case,
+    )
 }
 
 /// The text of a run is a prefix of the input's, and all of it if there is room enough.
@@ -49,7 +53,11 @@ fn compare(run: &Run, way: Use, input: &Input<'_>, room: usize) -> Result<(), Fa
         input: input.bytes,
         room,
     };
-    expect(input.text.starts_with(&run.text), "no prefix of the text", &case)?;
+    expect(
+        input.text.starts_with(&run.text),
+        "no prefix of the text",
+        &case,
+    )?;
     expect(run.is_finished != run.is_stuck, "stuck or finished", &case)?;
     let ends = way.widens || room >= room_enough(way.output, input.room);
     expect(run.is_finished || !ends, "not finished", &case)?;
@@ -75,12 +83,7 @@ fn compare_cut(
 }
 
 /// One offer of the whole input, with this room for each call, comes to what offers of single bytes come to.
-pub fn compare_offers(
-    alloc: Global,
-    way: Use,
-    input: &Input<'_>,
-    room: usize,
-) -> Result<(), Fail> {
+pub fn compare_offers(alloc: Global, way: Use, input: &Input<'_>, room: usize) -> Result<(), Fail> {
     let whole = run_cut(alloc, way, input.bytes, Cut::At(0), room)?;
     let single = run_cut(alloc, way, input.bytes, Cut::Everywhere, room)?;
     compare(&whole, way, input, room)?;

@@ -10,7 +10,7 @@ use std::alloc::Global;
 use std::test::Fail;
 
 /// No length query returns more for an input of a row.
-const MOST_QUERIED: usize = 512;
+const MOST_QUERIED: usize = 128;
 
 /// The length that a query returns for `bytes` bytes more.
 fn queried(decoder: &Decoder, way: Use, bytes: usize) -> Option<usize> {
@@ -35,11 +35,7 @@ pub(crate) fn queried_room(decoder: &Decoder, way: Use, bytes: usize) -> Result<
 }
 
 /// The room that is returned for the rest of an input is enough for it with replacement, and up to a malformed sequence without.
-fn compare_rest(
-    alloc: Global,
-    way: Use,
-    (front, rest): (&[u8], &[u8]),
-) -> Result<(), Fail> {
+fn compare_rest(alloc: Global, way: Use, (front, rest): (&[u8], &[u8])) -> Result<(), Fail> {
     let mut decoder = new_decoder(way.encoding, way.handling);
     let mut text = Vec::new(alloc);
     decode_chunk(alloc, &mut decoder, (front, false), MOST_QUERIED, &mut text)?;

@@ -6,7 +6,7 @@ ghost use Rattle.encoding_rs.specs.Decoding.{finished};
 use crate::cases::{Case, expect};
 use crate::decoding::rows::split;
 use encoding_rs::{CoderResult, Decoder, DecoderResult};
-use std::alloc::{AllocError, Global};
+use std::alloc::Global;
 use std::test::Fail;
 
 /// The output of a decoder.
@@ -23,12 +23,7 @@ pub enum Output {
 }
 
 /// Each output.
-pub const ALL_OUTPUTS: [Output; 4] = [
-    Output::Utf8,
-    Output::Utf16,
-    Output::Str,
-    Output::String,
-];
+pub const ALL_OUTPUTS: [Output; 4] = [Output::Utf8, Output::Utf16, Output::Str, Output::String];
 
 /// The arguments of a call.
 #[derive(Clone, Copy)]
@@ -60,8 +55,8 @@ fn replacing((stop, read, written, replaced): (CoderResult, usize, usize, bool))
 }
 
 /// The answer of a call without replacement.
-fn reporting((result, read, written): (DecoderResult, usize, usize)) -> Answer {
-    (result, read, written, false)
+fn reporting((stop, read, written): (DecoderResult, usize, usize)) -> Answer {
+    (stop, read, written, false)
 }
 
 /// Calls a decoder into UTF-8.
@@ -112,46 +107,36 @@ fn to_string(decoder: &mut Decoder, given: Given<'_>, dst: &mut String) -> Answe
     (result_of(stop), read, 0, replaced)
 }
 
-/// What a call has written: the first units of the buffer. The others are as before.
+/// Fails unless each unit is this one.
+fn expect_each<T: PartialEq>(units: &[T], want: &T, case: &Case<'_>) -> Result<(), Fail> {
+    for unit in units {
+        if unit != want {
+            return expect(false, "the output is changed after its text", case);
+        }
+    }
+    Ok(())
+}
+
+/// The units that a call has written. All others have to be `old`.
 pub(crate) fn written_part<'a, T: PartialEq>(
-    new: &'a [T],
-    old: &[T],
+    units: &'a [T],
+    old: &T,
     written: usize,
     case: &Case<'_>,
 ) -> Result<&'a [T], Fail> {
-    expect(written <= new.len(), "more is written than fits", case)?;
-    let (text, rest) = split(new, written);
-    let (_, kept) = split(old, written);
-    expect(rest == kept, "what follows the text is changed", case)?;
+    expect(written <= units.len(), "more is written than fits", case)?;
+    let (text, rest) = split(units, written);
+    expect_each(rest, old, case)?;
     Ok(text)
 }
 
-/// The characters of one to three bytes, and none.
-const FRONTS: [&str; 4] = ["", "a", "é", "€"];
+/// The greatest room into slices.
+const BUFFER: usize = 128;
 
-/// A text of `room` bytes to be written over: characters of four bytes, after one of the bytes that remain.
-fn old_text(alloc: Global, room: usize) -> Result<Vec<u8>, AllocError> {
-    let mut text = FRONTS[room % 4].as_bytes().to_vec(alloc)?;
-    for _ in 0..room / 4 {
-        text.extend_from_slice("💩".as_bytes())?;
-    }
-    Ok(text)
-}
-
-/// The buffer of a `str` after a call: a character that was written over in part has 00 for the rest of its bytes.
-fn without_rest(alloc: Global, old: &[u8], written: usize) -> Result<Vec<u8>, AllocError> {
-    let (front, back) = split(old, written);
-    let mut bytes = front.to_vec(alloc)?;
-    let mut is_rest = true;
-    for byte in back {
-        is_rest &= 0x80 <= *byte && *byte < 0xC0;
-        bytes.push(if is_rest { 0 } else { *byte })?;
-    }
-    Ok(bytes)
-}
+/// A byte that no text has in a row.
+const OLD_BYTE: u8 = 0xA5;
 
 fn call_into_utf8(
-    alloc: Global,
     decoder: &mut Decoder,
     given: Given<'_>,
     text: &mut Vec<u8>,
@@ -159,30 +144,11 @@ fn call_into_utf8(
 ) -> Result<Answer, Fail>
     requires { finished decoder.old ≡ false }
 {
-    let old = old_text(alloc, given.room)?;
-    let mut new = old_text(alloc, given.room)?;
-    let answer = to_utf8(decoder, given, &mut new);
-    let part = written_part(&new, &old, answer.2, case)?;
-    text.extend_from_slice(part)?;
-    Ok(answer)
-}
-
-fn call_into_str(
-    alloc: Global,
-    decoder: &mut Decoder,
-    given: Given<'_>,
-    text: &mut Vec<u8>,
-    case: &Case<'_>,
-) -> Result<Answer, Fail>
-    requires { finished decoder.old ≡ false }
-{
-    let old = old_text(alloc, given.room)?;
-    let mut new = old_text(alloc, given.room)?;
-    let answer = to_str(decoder, given, &mut new)?;
-    expect(str::from_utf8(&new).is_ok(), "the str is not UTF-8", case)?;
-    let want = without_rest(alloc, &old, answer.2)?;
-    let part = written_part(&new, &want, answer.2, case)?;
-    text.extend_from_slice(part)?;
+    let mut buffer = [OLD_BYTE; BUFFER];
+    let room = given.room.min(BUFFER);
+    let answer = to_utf8(decoder, given, &mut buffer[..room]);
+    let (units, _) = split(&buffer, room);
+    text.extend_from_slice(written_part(units, &OLD_BYTE, answer.2, case)?)?;
     Ok(answer)
 }
 
@@ -198,15 +164,58 @@ fn call_into_utf16(
 ) -> Result<Answer, Fail>
     requires { finished decoder.old ≡ false }
 {
-    let old = vec![in alloc; OLD_UNIT; given.room]?;
-    let mut new = vec![in alloc; OLD_UNIT; given.room]?;
-    let answer = to_utf16(decoder, given, &mut new);
-    let part = written_part(&new, &old, answer.2, case)?;
+    let mut buffer = [OLD_UNIT; BUFFER];
+    let room = given.room.min(BUFFER);
+    let answer = to_utf16(decoder, given, &mut buffer[..room]);
+    let (units, _) = split(&buffer, room);
+    let part = written_part(units, &OLD_UNIT, answer.2, case)?;
     let Ok(piece) = String::from_utf16(alloc, part)? else {
         expect(false, "the text is not UTF-16", case)?;
         return Ok(answer);
     };
     text.extend_from_slice(piece.as_bytes())?;
+    Ok(answer)
+}
+
+/// Characters of four bytes, after one of the bytes by which a room is more than a multiple of four.
+const OLD: [&str; 4] = [
+    "💩💩💩💩💩💩💩💩💩💩💩💩💩💩💩💩",
+    "a💩💩💩💩💩💩💩💩💩💩💩💩💩💩💩",
+    "é💩💩💩💩💩💩💩💩💩💩💩💩💩💩💩",
+    "€💩💩💩💩💩💩💩💩💩💩💩💩💩💩💩",
+];
+
+/// After what is written, the rest of a character that was written over is 00, and all else stays.
+fn compare_rest(old: &[u8], new: &[u8], case: &Case<'_>) -> Result<(), Fail> {
+    let mut is_rest = true;
+    for (was, is) in old.iter().zip(new) {
+        is_rest &= 0x80 <= *was && *was < 0xC0;
+        let want = if is_rest { 0 } else { *was };
+        if *is != want {
+            return expect(false, "the str is changed after its text", case);
+        }
+    }
+    Ok(())
+}
+
+fn call_into_str(
+    alloc: Global,
+    decoder: &mut Decoder,
+    given: Given<'_>,
+    text: &mut Vec<u8>,
+    case: &Case<'_>,
+) -> Result<Answer, Fail>
+    requires { finished decoder.old ≡ false }
+{
+    let (old, _) = split(OLD[given.room % 4].as_bytes(), given.room);
+    let mut new = old.to_vec(alloc)?;
+    let answer = to_str(decoder, given, &mut new)?;
+    expect(str::from_utf8(&new).is_ok(), "the str is not UTF-8", case)?;
+    expect(answer.2 <= new.len(), "more is written than fits", case)?;
+    let (_, old_rest) = split(old, answer.2);
+    let (part, new_rest) = split(&new, answer.2);
+    compare_rest(old_rest, new_rest, case)?;
+    text.extend_from_slice(part)?;
     Ok(answer)
 }
 
@@ -226,9 +235,17 @@ fn call_into_string(
     let mut string = String::with_capacity(alloc, capacity)?;
     string.push_str(IN_FRONT)?;
     let (result, read, _, replaced) = to_string(decoder, given, &mut string);
-    expect(string.capacity() == capacity, "the capacity is changed", case)?;
+    expect(
+        string.capacity() == capacity,
+        "the capacity is changed",
+        case,
+    )?;
     let (front, appended) = split(string.as_bytes(), IN_FRONT.len());
-    expect(front == IN_FRONT.as_bytes(), "the text before is changed", case)?;
+    expect(
+        front == IN_FRONT.as_bytes(),
+        "the text before is changed",
+        case,
+    )?;
     text.extend_from_slice(appended)?;
     Ok((result, read, appended.len(), replaced))
 }
@@ -247,11 +264,12 @@ pub fn call_into(
         input: given.src,
         room: given.room,
     };
+    expect(given.room <= BUFFER, "a room that is too great", &case)?;
     if decoder.is_finished() {
         return Err(Fail::new("a call of a finished decoder"));
     }
     match output {
-        Output::Utf8 => call_into_utf8(alloc, decoder, given, text, &case),
+        Output::Utf8 => call_into_utf8(decoder, given, text, &case),
         Output::Utf16 => call_into_utf16(alloc, decoder, given, text, &case),
         Output::Str => call_into_str(alloc, decoder, given, text, &case),
         Output::String => call_into_string(alloc, decoder, given, text, &case),

@@ -62,7 +62,11 @@ fn take_bytes(progress: &mut Progress<'_>, outcome: Outcome) -> Result<(), Fail>
     let may_hold = held <= MOST_HELD && held <= read;
     expect(may_hold, "too much is held", &progress.case)?;
     let done = read.saturating_sub(held);
-    expect(progress.done <= done, "more is held than before", &progress.case)?;
+    expect(
+        progress.done <= done,
+        "more is held than before",
+        &progress.case,
+    )?;
     progress.read = read;
     progress.done = done;
     Ok(())
@@ -103,7 +107,11 @@ fn compare_empty(
     outcome: Outcome,
 ) -> Result<(), Fail> {
     expect(outcome.read == unread.len(), "not all is read", case)?;
-    expect(!last || outcome.held == 0, "bytes are held at the end", case)
+    expect(
+        !last || outcome.held == 0,
+        "bytes are held at the end",
+        case,
+    )
 }
 
 /// The call had to stop where it did.
@@ -134,19 +142,23 @@ fn compare_next(progress: &Progress<'_>) -> Result<(), Fail> {
 
 /// Makes a call, which writes what comes next and leaves what follows it.
 fn make_call(
-    alloc: Global,
     decoder: &mut impl RawDecoder,
     progress: &mut Progress<'_>,
     offer: (&[u8], bool),
     room: usize,
 ) -> Result<Outcome, Fail> {
     let case = progress.case;
-    let old = vec![in alloc; 0; room]?;
-    let mut new = vec![in alloc; 0; room]?;
-    let answer = call(decoder, offer, &mut new, progress.fault_room);
+    let mut buffer = [0; MOST_ROOM];
+    let room = room.min(MOST_ROOM);
+    let answer = call(decoder, offer, &mut buffer[..room], progress.fault_room);
     let (result, read, written, left) = answer;
-    expect(written.saturating_add(left) == room, "another room left", &case)?;
-    let text = written_part(&new, &old, written, &case)?;
+    expect(
+        written.saturating_add(left) == room,
+        "another room left",
+        &case,
+    )?;
+    let (units, _) = split(&buffer, room);
+    let text = written_part(units, &0, written, &case)?;
     take_text(progress, text)?;
     Ok(Outcome {
         result,
@@ -159,15 +171,18 @@ fn make_call(
 
 /// Makes a call, and compares what it has come to.
 fn step(
-    alloc: Global,
     decoder: &mut impl RawDecoder,
     progress: &mut Progress<'_>,
     offer: (&[u8], bool),
     room: usize,
 ) -> Result<Outcome, Fail> {
-    let outcome = make_call(alloc, decoder, progress, offer, room)?;
+    let outcome = make_call(decoder, progress, offer, room)?;
     let case = progress.case;
-    expect(outcome.read <= offer.0.len(), "more is read than offered", &case)?;
+    expect(
+        outcome.read <= offer.0.len(),
+        "more is read than offered",
+        &case,
+    )?;
     take_bytes(progress, outcome)?;
     compare_stop(progress, offer, outcome)?;
     compare_next(progress)?;
@@ -182,7 +197,6 @@ fn is_idle(outcome: Outcome) -> bool {
 /// Offers a chunk, and again what is unread of it, until all is read. After a call that neither reads nor writes, the next one
 /// has room enough.
 fn offer(
-    alloc: Global,
     decoder: &mut impl RawDecoder,
     progress: &mut Progress<'_>,
     (chunk, last): (&[u8], bool),
@@ -191,7 +205,7 @@ fn offer(
     let mut unread = chunk;
     let mut room = least;
     for _ in 0..MOST_CALLS {
-        let outcome = step(alloc, decoder, progress, (unread, last), room)?;
+        let outcome = step(decoder, progress, (unread, last), room)?;
         if outcome.result == DecoderResult::InputEmpty {
             return Ok(());
         }
@@ -214,7 +228,7 @@ fn run(
     let mut to_come = chunks.len();
     for chunk in &chunks {
         to_come = to_come.saturating_sub(1);
-        offer(alloc, &mut decoder, &mut progress, (chunk, to_come == 0))?;
+        offer(&mut decoder, &mut progress, (chunk, to_come == 0))?;
     }
     expect(progress.done == case.input.len(), "not all is done", &case)?;
     expect(progress.text.is_empty(), "text is missing", &case)?;

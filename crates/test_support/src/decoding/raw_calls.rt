@@ -4,7 +4,6 @@ use crate::cases::{Case, expect, expect_bytes};
 use crate::decoding::outputs::written_part;
 use enc_machine::{DecoderResult, RawDecoder};
 use enc_units::{Units, Utf8Slice};
-use std::alloc::Global;
 use std::test::Fail;
 
 /// The answer of a call: why it stopped, bytes read, bytes written, and the room that it left.
@@ -28,7 +27,6 @@ const ROOM: usize = 8;
 /// A call with room for eight bytes: its result with how many bytes it reads and how many are held then, and its text.
 /// The bytes that follow the text stay.
 pub fn make_call(
-    alloc: Global,
     decoder: &mut impl RawDecoder,
     (src, last): (&[u8], bool),
     want: (DecoderResult, usize, usize),
@@ -39,39 +37,31 @@ pub fn make_call(
         input: src,
         room: ROOM,
     };
-    let old = vec![in alloc; 0; ROOM]?;
-    let mut new = vec![in alloc; 0; ROOM]?;
-    let (result, read, written, _) = call(decoder, (src, last), &mut new, false);
-    expect((result, read, decoder.held()) == want, "another answer", &case)?;
-    let part = written_part(&new, &old, written, &case)?;
+    let mut dst = [0; ROOM];
+    let (result, read, written, _) = call(decoder, (src, last), &mut dst, false);
+    expect(
+        (result, read, decoder.held()) == want,
+        "another answer",
+        &case,
+    )?;
+    let part = written_part(&dst, &0, written, &case)?;
     expect_bytes(part, text.as_bytes(), "another text", &case)
 }
 
 /// The last call reads all of its bytes and writes this text.
-pub fn end(
-    alloc: Global,
-    decoder: &mut impl RawDecoder,
-    src: &[u8],
-    text: &str,
-) -> Result<(), Fail> {
+pub fn end(decoder: &mut impl RawDecoder, src: &[u8], text: &str) -> Result<(), Fail> {
     let want = (DecoderResult::InputEmpty, src.len(), 0);
-    make_call(alloc, decoder, (src, true), want, text)
+    make_call(decoder, (src, true), want, text)
 }
 
 /// A call that is not the last one reads all of its bytes, writes nothing, and leaves `held` bytes held.
-pub fn hold(
-    alloc: Global,
-    decoder: &mut impl RawDecoder,
-    src: &[u8],
-    held: usize,
-) -> Result<(), Fail> {
+pub fn hold(decoder: &mut impl RawDecoder, src: &[u8], held: usize) -> Result<(), Fail> {
     let want = (DecoderResult::InputEmpty, src.len(), held);
-    make_call(alloc, decoder, (src, false), want, "")
+    make_call(decoder, (src, false), want, "")
 }
 
 /// The last call stops at a malformed sequence: its numbers, how many bytes are read, and the text before it.
 pub fn stop(
-    alloc: Global,
     decoder: &mut impl RawDecoder,
     src: &[u8],
     (len, after): (u8, u8),
@@ -79,16 +69,15 @@ pub fn stop(
     text: &str,
 ) -> Result<(), Fail> {
     let want = (DecoderResult::Malformed(len, after), read, after as usize);
-    make_call(alloc, decoder, (src, true), want, text)
+    make_call(decoder, (src, true), want, text)
 }
 
 /// The decoder holds all bytes but the last, and then has a character.
 pub fn decode_one(
-    alloc: Global,
     decoder: &mut impl RawDecoder,
     (front, byte): (&[u8], u8),
     text: &str,
 ) -> Result<(), Fail> {
-    hold(alloc, decoder, front, front.len())?;
-    end(alloc, decoder, &[byte], text)
+    hold(decoder, front, front.len())?;
+    end(decoder, &[byte], text)
 }

@@ -56,24 +56,23 @@ pub(crate) fn split<T>(items: &[T], at: usize) -> (&[T], &[T]) {
     items.split_at(at.min(items.len()))
 }
 
-/// The single bytes of an input, and an empty chunk.
-fn single_bytes(alloc: Global, bytes: &[u8]) -> Result<Vec<&[u8]>, AllocError> {
-    let mut chunks = Vec::new(alloc);
-    for chunk in bytes.chunks(1) {
-        chunks.push(chunk)?;
-    }
-    chunks.push(&[])?;
-    Ok(chunks)
-}
-
 /// The chunks of an input.
 pub(crate) fn chunks_of(alloc: Global, bytes: &[u8], cut: Cut) -> Result<Vec<&[u8]>, AllocError> {
-    match cut {
-        Cut::Nowhere => vec![in alloc; bytes],
+    let mut chunks = Vec::new(alloc);
+    let rest = match cut {
+        Cut::Nowhere => bytes,
         Cut::At(place) => {
             let (front, back) = split(bytes, place);
-            vec![in alloc; front, back]
+            chunks.push(front)?;
+            back
         }
-        Cut::Everywhere => single_bytes(alloc, bytes),
-    }
+        Cut::Everywhere => {
+            for byte in bytes.chunks(1) {
+                chunks.push(byte)?;
+            }
+            &[]
+        }
+    };
+    chunks.push(rest)?;
+    Ok(chunks)
 }

@@ -113,7 +113,8 @@ fn note_report(run: &mut Run, len: usize, after: usize, case: &Case<'_>) -> Resu
     expect(is_within, "a report of more than is read", case)?;
     run.malformed.push((start, len))?;
     run.had_errors = true;
-    run.text.extend_from_slice(REPLACEMENT_CHARACTER.as_bytes())?;
+    run.text
+        .extend_from_slice(REPLACEMENT_CHARACTER.as_bytes())?;
     Ok(())
 }
 
@@ -186,12 +187,7 @@ fn offer(
 }
 
 /// Offers the chunks, with this room for each call. The last chunk is offered as the last.
-pub fn run_chunks(
-    alloc: Global,
-    way: Use,
-    chunks: &[&[u8]],
-    room: usize,
-) -> Result<Run, Fail> {
+pub fn run_chunks(alloc: Global, way: Use, chunks: &[&[u8]], room: usize) -> Result<Run, Fail> {
     let mut decoder = new_decoder(way.encoding, way.handling);
     let mut run = start(alloc, way, room);
     let mut to_come = chunks.len();
@@ -205,13 +201,7 @@ pub fn run_chunks(
 }
 
 /// Offers an input cut in this way.
-pub fn run_cut(
-    alloc: Global,
-    way: Use,
-    bytes: &[u8],
-    cut: Cut,
-    room: usize,
-) -> Result<Run, Fail> {
+pub fn run_cut(alloc: Global, way: Use, bytes: &[u8], cut: Cut, room: usize) -> Result<Run, Fail> {
     let chunks = chunks_of(alloc, bytes, cut)?;
     run_chunks(alloc, way, &chunks, room)
 }
