@@ -1,19 +1,20 @@
 //! Byte order marks (Encoding Standard 6): those that are looked for, found or not, and those that break off.
 
-use crate::encodings::TABLE;
-use crate::harness::{
-    Call, Input, Others, ReportingCall, Row, Run, Use, compare_cuts_of, compare_mixed,
-    compare_small_offers, compare_uses, input_of, make_calls_of, make_reporting_calls_of,
-    new_decoder, run_whole,
-};
 use encoding_rs::run::{BomHandling, DecodeCall, decode_run};
 use encoding_rs::{
     CoderResult, Decoder, DecoderResult, Encoding, IBM866, ISO_2022_JP, REPLACEMENT, SHIFT_JIS,
     UTF_8, UTF_16BE, UTF_16LE, WINDOWS_1252, X_USER_DEFINED,
 };
-use std::alloc::Global;
+use std::alloc::{AllocError, Global};
 use std::process::Abort;
 use std::test::Fail;
+use test_support::cases::{Case, expect, expect_bytes};
+use test_support::decoding::{
+    Call, Input, MOST_ROOM, Others, ReportingCall, Row, Run, Use, compare_cuts_of, compare_mixed,
+    compare_small_offers, compare_uses, input_of, make_calls_of, make_reporting_calls_of,
+    new_decoder, run_whole,
+};
+use test_support::encodings::TABLE;
 
 const EMPTY: CoderResult = CoderResult::InputEmpty;
 
@@ -33,13 +34,13 @@ const REPORT_AT_THE_END: &[ReportingCall<'static>] = &[
 ];
 
 #[test]
-fn a_byte_behind_a_broken_mark_waits_for_its_report(rt: HostRuntime) {
-    make_reporting_calls_of(&rt, &mut ISO_2022_JP.new_decoder(), REPORTS_IN_TURN);
+fn a_byte_behind_a_broken_mark_waits_for_its_report(rt: HostRuntime) -> Result<(), Fail> {
+    make_reporting_calls_of(rt.alloc(), &mut ISO_2022_JP.new_decoder(), REPORTS_IN_TURN)?;
     make_reporting_calls_of(
-        &rt,
+        rt.alloc(),
         &mut UTF_8.new_decoder_with_bom_removal(),
         REPORT_AT_THE_END,
-    );
+    )
 }
 
 const ROOM_FOR_ONE: &[Call<'static>] = &[
@@ -59,10 +60,14 @@ const NOTHING_OFFERED: &[Call<'static>] = &[
 ];
 
 #[test]
-fn a_byte_behind_a_broken_mark_waits_for_room(rt: HostRuntime) {
-    make_calls_of(&rt, &mut X_USER_DEFINED.new_decoder(), ROOM_FOR_ONE);
+fn a_byte_behind_a_broken_mark_waits_for_room(rt: HostRuntime) -> Result<(), Fail> {
+    make_calls_of(rt.alloc(), &mut X_USER_DEFINED.new_decoder(), ROOM_FOR_ONE)?;
     // it comes out of a call that is offered nothing
-    make_calls_of(&rt, &mut X_USER_DEFINED.new_decoder(), NOTHING_OFFERED);
+    make_calls_of(
+        rt.alloc(),
+        &mut X_USER_DEFINED.new_decoder(),
+        NOTHING_OFFERED,
+    )
 }
 
 const NO_ROOM: &[Call<'static>] = &[
@@ -86,12 +91,12 @@ const OTHER_BYTES_BEHIND: &[Call<'static>] = &[
 ];
 
 #[test]
-fn without_room_a_decoder_stays_as_it_was(rt: HostRuntime) {
-    make_calls_of(&rt, &mut SHIFT_JIS.new_decoder(), NO_ROOM);
+fn without_room_a_decoder_stays_as_it_was(rt: HostRuntime) -> Result<(), Fail> {
+    make_calls_of(rt.alloc(), &mut SHIFT_JIS.new_decoder(), NO_ROOM)?;
     // BB isn't lost where EF is a lead
-    make_calls_of(&rt, &mut SHIFT_JIS.new_decoder(), NO_ROOM_FOR_A_LEAD);
+    make_calls_of(rt.alloc(), &mut SHIFT_JIS.new_decoder(), NO_ROOM_FOR_A_LEAD)?;
     // it still looks for the mark where the bytes behind are others
-    make_calls_of(&rt, &mut SHIFT_JIS.new_decoder(), OTHER_BYTES_BEHIND);
+    make_calls_of(rt.alloc(), &mut SHIFT_JIS.new_decoder(), OTHER_BYTES_BEHIND)
 }
 
 const BEHIND_THE_MARK: &[Call<'static>] = &[(b"\x61", true, 1, (EMPTY, 1, 1, false), "a")];
@@ -102,7 +107,7 @@ const MARK_IN_TWO: &[Call<'static>] = &[
 ];
 
 #[test]
-fn a_mark_tells_the_encoding(rt: HostRuntime) {
+fn a_mark_tells_the_encoding(rt: HostRuntime) -> Result<(), Fail> {
     let mut decoder = WINDOWS_1252.new_decoder();
     let whole = (
         b"\xEF\xBB\xBF\x61".as_slice(),
@@ -111,15 +116,15 @@ fn a_mark_tells_the_encoding(rt: HostRuntime) {
         (FULL, 3, 0, false),
         "",
     );
-    make_calls_of(&rt, &mut decoder, &[whole]);
+    make_calls_of(rt.alloc(), &mut decoder, &[whole])?;
     assert_eq!(rt; decoder.encoding(), UTF_8);
-    make_calls_of(&rt, &mut decoder, BEHIND_THE_MARK);
+    make_calls_of(rt.alloc(), &mut decoder, BEHIND_THE_MARK)?;
     assert_eq!(rt; decoder.encoding(), UTF_8);
     make_calls_of(
-        &rt,
+        rt.alloc(),
         &mut UTF_16BE.new_decoder_with_bom_removal(),
         MARK_IN_TWO,
-    );
+    )
 }
 
 /// The three marks with the encodings that they tell.
@@ -190,17 +195,11 @@ const BROKEN: &[&[u8]] = &[
 /// What is behind a whole mark: nothing, what may be ASCII or one character of UTF-16, a mark again.
 const BEHIND: &[&[u8]] = &[b"", b"a", b"ab", b"\xEF\xBB\xBF", b"\xFE\xFF\xFF\xFE"];
 
-/// The places of malformed sequences in an input of which so many bytes stand in front.
-fn places_behind(
-    rt: &impl Abort,
-    alloc: Global,
-    run: &Run,
-    front: usize,
-) -> Result<Vec<(usize, usize)>, Fail> {
+/// The malformed sequences of a run, in an input that has `front` bytes before those of the run.
+fn places_after(alloc: Global, run: &Run, front: usize) -> Result<Vec<(usize, usize)>, AllocError> {
     let mut places = Vec::new(alloc);
     for (start, len) in run.malformed.as_slice() {
-        assert!(rt; start.is_some());
-        places.push((start.unwrap_or(0).saturating_add(front), *len))?;
+        places.push((start.saturating_add(front), *len))?;
     }
     Ok(places)
 }
@@ -219,7 +218,6 @@ const INTO_ALL: &[Encoding] = &[
 /// `by` that looks for none makes at once of the bytes from `front` on, with room enough. Calls that neither read nor
 /// write, in rooms from 0 to 3, answer the same when they are made again, and nothing is lost by them.
 fn compare_with_plain(
-    rt: &impl Abort,
     alloc: Global,
     (encoding, handling): (Encoding, BomHandling),
     (by, front): (Encoding, usize),
@@ -230,12 +228,18 @@ fn compare_with_plain(
         reporting: true,
         ..plain
     };
-    let (_, behind) = bytes.split_at(front.min(bytes.len()));
-    let run = run_whole(rt, alloc, reporting, behind)?;
-    let replaced = run_whole(rt, alloc, plain, behind)?;
-    assert_eq!(rt; run.text.as_slice(), replaced.text.as_slice());
-    assert_eq!(rt; run.had_errors, replaced.had_errors);
-    let places = places_behind(rt, alloc, &run, front)?;
+    let (_, rest) = bytes.split_at(front.min(bytes.len()));
+    let run = run_whole(alloc, reporting, rest)?;
+    let replaced = run_whole(alloc, plain, rest)?;
+    let case = Case {
+        name: encoding.name(),
+        input: bytes,
+        room: MOST_ROOM,
+    };
+    expect_bytes(&run.text, &replaced.text, "another text", &case)?;
+    let is_same = run.had_errors == replaced.had_errors;
+    expect(is_same, "errors or none", &case)?;
+    let places = places_after(alloc, &run, front)?;
     let input = Input {
         bytes,
         text: run.text.as_slice(),
@@ -247,24 +251,19 @@ fn compare_with_plain(
         widens: true,
         ..way
     };
-    compare_uses(rt, alloc, (widening, Others::No), &input, 4)?;
-    compare_small_offers(rt, alloc, (encoding, handling), bytes)?;
+    compare_uses(alloc, (widening, Others::No), &input, 4)?;
+    compare_small_offers(alloc, (encoding, handling), bytes)?;
     if INTO_ALL.contains(&encoding) {
-        compare_uses(rt, alloc, (way, Others::Few), &input, 8)?;
-        return compare_mixed(rt, alloc, way, &input);
+        compare_uses(alloc, (way, Others::Few), &input, 8)?;
+        return compare_mixed(alloc, way, &input);
     }
-    compare_uses(rt, alloc, (way, Others::No), &input, 8)
+    compare_uses(alloc, (way, Others::No), &input, 8)
 }
 
 /// No input that begins as a mark does drops a byte.
-fn compare_broken(
-    rt: &impl Abort,
-    alloc: Global,
-    encoding: Encoding,
-    handling: BomHandling,
-) -> Result<(), Fail> {
+fn compare_broken(alloc: Global, encoding: Encoding, handling: BomHandling) -> Result<(), Fail> {
     for bytes in BROKEN {
-        compare_with_plain(rt, alloc, (encoding, handling), (encoding, 0), bytes)?;
+        compare_with_plain(alloc, (encoding, handling), (encoding, 0), bytes)?;
     }
     Ok(())
 }
@@ -272,17 +271,16 @@ fn compare_broken(
 #[test]
 fn marks_that_break_off_are_text(rt: HostRuntime) -> Result<(), Fail> {
     for (encoding, _, _) in TABLE {
-        compare_broken(&rt, rt.alloc(), *encoding, BomHandling::Sniff)?;
+        compare_broken(rt.alloc(), *encoding, BomHandling::Sniff)?;
     }
     for (_, encoding) in MARKS {
-        compare_broken(&rt, rt.alloc(), *encoding, BomHandling::Remove)?;
+        compare_broken(rt.alloc(), *encoding, BomHandling::Remove)?;
     }
     Ok(())
 }
 
 /// A decoder drops each mark that it looks for, and the rest is text by the mark's encoding. Any other mark is text.
 fn compare_marks(
-    rt: &impl Abort,
     alloc: Global,
     encoding: Encoding,
     handling: BomHandling,
@@ -302,7 +300,7 @@ fn compare_marks(
         } else {
             (encoding, 0)
         };
-        compare_with_plain(rt, alloc, (encoding, handling), by, bytes.as_slice())?;
+        compare_with_plain(alloc, (encoding, handling), by, bytes.as_slice())?;
     }
     Ok(())
 }
@@ -311,13 +309,13 @@ fn compare_marks(
 fn whole_marks_are_dropped(rt: HostRuntime) -> Result<(), Fail> {
     for (encoding, _, _) in TABLE {
         for behind in BEHIND {
-            compare_marks(&rt, rt.alloc(), *encoding, BomHandling::Sniff, behind)?;
+            compare_marks(rt.alloc(), *encoding, BomHandling::Sniff, behind)?;
         }
-        compare_marks(&rt, rt.alloc(), *encoding, BomHandling::Remove, b"ab")?;
+        compare_marks(rt.alloc(), *encoding, BomHandling::Remove, b"ab")?;
     }
     for (_, encoding) in MARKS {
         for behind in BEHIND {
-            compare_marks(&rt, rt.alloc(), *encoding, BomHandling::Remove, behind)?;
+            compare_marks(rt.alloc(), *encoding, BomHandling::Remove, behind)?;
         }
     }
     Ok(())
@@ -349,7 +347,7 @@ fn bytes_of_a_broken_mark_have_their_text(rt: HostRuntime) -> Result<(), Fail> {
         let input = input_of(row);
         for handling in [BomHandling::Sniff, BomHandling::Remove] {
             let way = Use::new(*encoding, handling);
-            compare_cuts_of(&rt, rt.alloc(), (way, Others::All), &input)?;
+            compare_cuts_of(rt.alloc(), (way, Others::All), &input)?;
         }
     }
     Ok(())
@@ -408,10 +406,10 @@ fn text_behind_a_mark_is_of_its_encoding(rt: HostRuntime) -> Result<(), Fail> {
     for (told, row) in MARKED_ROWS {
         let input = input_of(row);
         let removing = Use::new(*told, BomHandling::Remove);
-        compare_cuts_of(&rt, rt.alloc(), (removing, Others::All), &input)?;
+        compare_cuts_of(rt.alloc(), (removing, Others::All), &input)?;
         for encoding in SNIFFING {
             let sniffing = Use::new(*encoding, BomHandling::Sniff);
-            compare_cuts_of(&rt, rt.alloc(), (sniffing, Others::Few), &input)?;
+            compare_cuts_of(rt.alloc(), (sniffing, Others::Few), &input)?;
         }
     }
     Ok(())
@@ -444,7 +442,7 @@ fn removal_leaves_the_marks_of_other_encodings(rt: HostRuntime) -> Result<(), Fa
         let input = input_of(row);
         for handling in [BomHandling::Remove, BomHandling::Off] {
             let way = Use::new(*encoding, handling);
-            compare_cuts_of(&rt, rt.alloc(), (way, Others::Few), &input)?;
+            compare_cuts_of(rt.alloc(), (way, Others::Few), &input)?;
         }
     }
     Ok(())

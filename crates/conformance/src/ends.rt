@@ -1,9 +1,9 @@
 //! Rooms that are told and used, and runs that come to their end, call by call.
 
-use crate::harness::{Call, make_calls_of};
 use encoding_rs::run::{BomHandling, DecodeCall, decode_run};
 use encoding_rs::{CoderResult, GB18030, ISO_2022_JP, SHIFT_JIS};
 use std::test::Fail;
+use test_support::decoding::{Call, make_calls_of};
 
 const EMPTY: CoderResult = CoderResult::InputEmpty;
 
@@ -16,16 +16,16 @@ const NO_ROOM_BEHIND_IT: &[Call<'static>] = &[(b"\\", false, 0, (FULL, 0, 0, fal
 const ROOM_BEHIND_IT: &[Call<'static>] = &[(b"\\", true, 2, (EMPTY, 1, 2, false), "\u{A5}")];
 
 #[test]
-fn a_pending_escape_sequence_counts_until_it_is_taken(rt: HostRuntime) {
+fn a_pending_escape_sequence_counts_until_it_is_taken(rt: HostRuntime) -> Result<(), Fail> {
     let mut decoder = ISO_2022_JP.new_decoder_without_bom_handling();
-    make_calls_of(&rt, &mut decoder, AN_ESCAPE);
+    make_calls_of(rt.alloc(), &mut decoder, AN_ESCAPE)?;
     assert!(rt; !decoder.is_finished());
     assert_eq!(rt; decoder.max_utf8_buffer_length(1), Some(12));
     // without room it is taken, since the byte behind it shows that no other one follows
-    make_calls_of(&rt, &mut decoder, NO_ROOM_BEHIND_IT);
+    make_calls_of(rt.alloc(), &mut decoder, NO_ROOM_BEHIND_IT)?;
     assert!(rt; !decoder.is_finished());
     assert_eq!(rt; decoder.max_utf8_buffer_length(1), Some(3));
-    make_calls_of(&rt, &mut decoder, ROOM_BEHIND_IT);
+    make_calls_of(rt.alloc(), &mut decoder, ROOM_BEHIND_IT)
 }
 
 const FIRST_OF_A_MARK: &[Call<'static>] = &[(b"\xEF", false, 0, (EMPTY, 1, 0, false), "")];
@@ -33,14 +33,15 @@ const FIRST_OF_A_MARK: &[Call<'static>] = &[(b"\xEF", false, 0, (EMPTY, 1, 0, fa
 const NO_MARK_AND_NO_ROOM: &[Call<'static>] = &[(b"A", true, 0, (FULL, 0, 0, false), "")];
 
 #[test]
-fn a_byte_of_a_mark_counts_while_it_is_held(rt: HostRuntime) {
+fn a_byte_of_a_mark_counts_while_it_is_held(rt: HostRuntime) -> Result<(), Fail> {
     let mut decoder = SHIFT_JIS.new_decoder();
-    make_calls_of(&rt, &mut decoder, FIRST_OF_A_MARK);
+    make_calls_of(rt.alloc(), &mut decoder, FIRST_OF_A_MARK)?;
     assert!(rt; !decoder.is_finished());
     assert_eq!(rt; decoder.max_utf8_buffer_length(0), Some(9));
-    make_calls_of(&rt, &mut decoder, NO_MARK_AND_NO_ROOM);
+    make_calls_of(rt.alloc(), &mut decoder, NO_MARK_AND_NO_ROOM)?;
     assert!(rt; !decoder.is_finished());
     assert_eq!(rt; decoder.max_utf8_buffer_length(0), Some(9));
+    Ok(())
 }
 
 /// A call without replacement that is offered a byte, and has room for any character.

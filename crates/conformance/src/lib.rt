@@ -21,8 +21,6 @@ mod encodings;
 #[cfg(test)]
 mod ends;
 #[cfg(test)]
-mod harness;
-#[cfg(test)]
 mod indexes;
 #[cfg(test)]
 mod one_shot;

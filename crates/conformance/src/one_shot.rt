@@ -1,14 +1,16 @@
 //! One-shot calls: rows of the Encoding Standard's "decode", "UTF-8 decode", "UTF-8 decode without BOM" and "UTF-8 decode
 //! without BOM or fail" (6) by hand, and long inputs beside runs and single bytes. All rows of the other modules go through
-//! one-shot calls too (`harness::one_shot`).
+//! one-shot calls too (`test_support::decoding`).
 
-use crate::encodings::TABLE;
-use crate::harness::{compare_single_bytes, compare_strict, compare_with_run, decode_at_once};
 use encoding_rs::run::BomHandling;
 use encoding_rs::*;
 use std::alloc::{AllocError, Global};
 use std::process::Abort;
 use std::test::Fail;
+use test_support::decoding::{
+    compare_single_bytes, compare_strict, compare_with_run, decode_at_once,
+};
+use test_support::encodings::TABLE;
 
 const OFF: BomHandling = BomHandling::Off;
 
@@ -96,7 +98,7 @@ fn compare_whole(rt: &impl Abort, alloc: Global, row: &WholeRow) -> Result<(), F
     match handling {
         BomHandling::Off => {
             let answer = (want.as_bytes(), is_malformed);
-            compare_strict(rt, alloc, (encoding, bytes), answer)
+            compare_strict(alloc, (encoding, bytes), answer)
         }
         BomHandling::Sniff | BomHandling::Remove => Ok(()),
     }
@@ -229,115 +231,21 @@ fn decoders_and_encoders_are_told_for_debugging(rt: HostRuntime) -> Result<(), F
 }
 
 /// Long bytes come at once, in each mode, to what a run comes to, and single bytes.
-fn compare_long(rt: &impl Abort, alloc: Global, encodings: [Encoding; 2]) -> Result<(), Fail> {
-    let bytes = long_bytes(alloc)?;
-    assert_eq!(rt; bytes.len(), LONG);
-    for encoding in encodings {
-        for handling in [SNIFF, REMOVE, OFF] {
-            let mode = (encoding, handling);
-            let (text, _) = compare_with_run(rt, alloc, mode, &bytes)?;
-            compare_single_bytes(rt, mode, &bytes, text.as_bytes());
-        }
+fn compare_long(alloc: Global, encoding: Encoding, bytes: &[u8]) -> Result<(), Fail> {
+    for handling in [SNIFF, REMOVE, OFF] {
+        let mode = (encoding, handling);
+        let (text, _) = compare_with_run(alloc, mode, bytes)?;
+        compare_single_bytes(alloc, mode, bytes, text.as_bytes())?;
     }
     Ok(())
 }
 
 #[test]
-fn long_inputs_of_utf_8_and_ibm866(rt: HostRuntime) -> Result<(), Fail> {
-    compare_long(&rt, rt.alloc(), [UTF_8, IBM866])
-}
-
-#[test]
-fn long_inputs_of_iso_8859_2_and_iso_8859_3(rt: HostRuntime) -> Result<(), Fail> {
-    compare_long(&rt, rt.alloc(), [ISO_8859_2, ISO_8859_3])
-}
-
-#[test]
-fn long_inputs_of_iso_8859_4_and_iso_8859_5(rt: HostRuntime) -> Result<(), Fail> {
-    compare_long(&rt, rt.alloc(), [ISO_8859_4, ISO_8859_5])
-}
-
-#[test]
-fn long_inputs_of_iso_8859_6_and_iso_8859_7(rt: HostRuntime) -> Result<(), Fail> {
-    compare_long(&rt, rt.alloc(), [ISO_8859_6, ISO_8859_7])
-}
-
-#[test]
-fn long_inputs_of_iso_8859_8_and_iso_8859_8_i(rt: HostRuntime) -> Result<(), Fail> {
-    compare_long(&rt, rt.alloc(), [ISO_8859_8, ISO_8859_8_I])
-}
-
-#[test]
-fn long_inputs_of_iso_8859_10_and_iso_8859_13(rt: HostRuntime) -> Result<(), Fail> {
-    compare_long(&rt, rt.alloc(), [ISO_8859_10, ISO_8859_13])
-}
-
-#[test]
-fn long_inputs_of_iso_8859_14_and_iso_8859_15(rt: HostRuntime) -> Result<(), Fail> {
-    compare_long(&rt, rt.alloc(), [ISO_8859_14, ISO_8859_15])
-}
-
-#[test]
-fn long_inputs_of_iso_8859_16_and_koi8_r(rt: HostRuntime) -> Result<(), Fail> {
-    compare_long(&rt, rt.alloc(), [ISO_8859_16, KOI8_R])
-}
-
-#[test]
-fn long_inputs_of_koi8_u_and_macintosh(rt: HostRuntime) -> Result<(), Fail> {
-    compare_long(&rt, rt.alloc(), [KOI8_U, MACINTOSH])
-}
-
-#[test]
-fn long_inputs_of_windows_874_and_windows_1250(rt: HostRuntime) -> Result<(), Fail> {
-    compare_long(&rt, rt.alloc(), [WINDOWS_874, WINDOWS_1250])
-}
-
-#[test]
-fn long_inputs_of_windows_1251_and_windows_1252(rt: HostRuntime) -> Result<(), Fail> {
-    compare_long(&rt, rt.alloc(), [WINDOWS_1251, WINDOWS_1252])
-}
-
-#[test]
-fn long_inputs_of_windows_1253_and_windows_1254(rt: HostRuntime) -> Result<(), Fail> {
-    compare_long(&rt, rt.alloc(), [WINDOWS_1253, WINDOWS_1254])
-}
-
-#[test]
-fn long_inputs_of_windows_1255_and_windows_1256(rt: HostRuntime) -> Result<(), Fail> {
-    compare_long(&rt, rt.alloc(), [WINDOWS_1255, WINDOWS_1256])
-}
-
-#[test]
-fn long_inputs_of_windows_1257_and_windows_1258(rt: HostRuntime) -> Result<(), Fail> {
-    compare_long(&rt, rt.alloc(), [WINDOWS_1257, WINDOWS_1258])
-}
-
-#[test]
-fn long_inputs_of_x_mac_cyrillic_and_gbk(rt: HostRuntime) -> Result<(), Fail> {
-    compare_long(&rt, rt.alloc(), [X_MAC_CYRILLIC, GBK])
-}
-
-#[test]
-fn long_inputs_of_gb18030_and_big5(rt: HostRuntime) -> Result<(), Fail> {
-    compare_long(&rt, rt.alloc(), [GB18030, BIG5])
-}
-
-#[test]
-fn long_inputs_of_euc_jp_and_shift_jis(rt: HostRuntime) -> Result<(), Fail> {
-    compare_long(&rt, rt.alloc(), [EUC_JP, SHIFT_JIS])
-}
-
-#[test]
-fn long_inputs_of_euc_kr_and_replacement(rt: HostRuntime) -> Result<(), Fail> {
-    compare_long(&rt, rt.alloc(), [EUC_KR, REPLACEMENT])
-}
-
-#[test]
-fn long_inputs_of_utf_16be_and_utf_16le(rt: HostRuntime) -> Result<(), Fail> {
-    compare_long(&rt, rt.alloc(), [UTF_16BE, UTF_16LE])
-}
-
-#[test]
-fn long_inputs_of_x_user_defined_and_iso_2022_jp(rt: HostRuntime) -> Result<(), Fail> {
-    compare_long(&rt, rt.alloc(), [X_USER_DEFINED, ISO_2022_JP])
+fn long_inputs_of_every_encoding(rt: HostRuntime) -> Result<(), Fail> {
+    let bytes = long_bytes(rt.alloc())?;
+    assert_eq!(rt; bytes.len(), LONG);
+    for (encoding, _, _) in TABLE {
+        compare_long(rt.alloc(), *encoding, &bytes)?;
+    }
+    Ok(())
 }

@@ -1,16 +1,16 @@
 //! The outputs of a decoder (UTF-16, `str` and `String`), runs of calls into several of them, and which bytes can be taken
 //! for Latin-1. What is expected is by hand from the Encoding Standard.
 
-use crate::encodings::TABLE;
-use crate::harness::{
-    ALL_OUTPUTS, Answer, Cut, Given, MOST_ROOM, Output, Run, Use, call_into, new_decoder,
-    run_chunks, run_cut,
-};
 use encoding_rs::run::{BomHandling, DecodeCall, decode_run};
 use encoding_rs::*;
 use std::alloc::Global;
 use std::process::Abort;
 use std::test::Fail;
+use test_support::decoding::{
+    ALL_OUTPUTS, Answer, Cut, Given, MOST_ROOM, Output, Run, Use, make_call, new_decoder,
+    run_chunks, run_cut,
+};
+use test_support::encodings::TABLE;
 
 const EMPTY: DecoderResult = DecoderResult::InputEmpty;
 
@@ -32,18 +32,14 @@ struct Case {
 /// A decoder makes the calls, and comes to its end with the last one.
 fn make_rows(rt: &impl Abort, alloc: Global, case: Case, output: Output) -> Result<(), Fail> {
     let mut decoder = new_decoder(case.way.0, case.way.1);
-    for (src, last, room, want, expected) in case.rows {
+    for (src, last, room, want, text) in case.rows {
         let given = Given {
             src,
             last: *last,
             room: *room,
             reporting: case.reporting,
         };
-        assert!(rt; !decoder.is_finished());
-        let mut text = Vec::new(alloc);
-        let answer = call_into(rt, alloc, &mut decoder, output, given, &mut text)?;
-        assert_eq!(rt; answer, *want, "{output:?} {src:?}");
-        assert_eq!(rt; text.as_slice(), expected.as_bytes(), "{output:?} {src:?}");
+        make_call(alloc, &mut decoder, (output, given), (*want, text))?;
     }
     assert!(rt; decoder.is_finished());
     assert_eq!(rt; decoder.encoding(), case.told);
@@ -205,8 +201,8 @@ fn text_is_written_over_or_appended(rt: HostRuntime) -> Result<(), Fail> {
 /// A run has come to this text without anything malformed, and its decoder names this encoding.
 fn compare_end(rt: &impl Abort, run: &Run, bytes: &[u8], (text, told): (&str, Encoding)) {
     assert_eq!(rt; run.text.as_slice(), text.as_bytes(), "{bytes:?}");
-    assert!(rt; !run.had_errors && run.is_finished(), "{bytes:?}");
-    assert_eq!(rt; run.encoding(), told, "{bytes:?}");
+    assert!(rt; !run.had_errors && run.is_finished, "{bytes:?}");
+    assert_eq!(rt; run.encoding, told, "{bytes:?}");
 }
 
 /// Decodes with room for 12 code units in each call, in single bytes and cut in one or two places: all come to this text
@@ -222,11 +218,11 @@ fn compare_two_cuts(
         let (front, back) = bytes.split_at(second);
         for first in 0..front.len() + 1 {
             let (start, middle) = front.split_at(first);
-            let run = run_chunks(rt, alloc, way, &[start, middle, back], 12)?;
+            let run = run_chunks(alloc, way, &[start, middle, back], 12)?;
             compare_end(rt, &run, bytes, (text, told));
         }
     }
-    let run = run_cut(rt, alloc, way, bytes, Cut::Everywhere, 12)?;
+    let run = run_cut(alloc, way, bytes, Cut::Everywhere, 12)?;
     compare_end(rt, &run, bytes, (text, told));
     Ok(())
 }
@@ -276,9 +272,9 @@ fn a_word_in_chunks_into_eight_bytes(rt: HostRuntime) -> Result<(), Fail> {
             output,
             ..Use::new(SHIFT_JIS, BomHandling::Sniff)
         };
-        let run = run_chunks(&rt, rt.alloc(), way, &chunks, 8)?;
-        assert_eq!(rt; run.text.as_slice(), text.as_bytes(), "{output:?}");
-        assert!(rt; !run.had_errors && run.is_finished(), "{output:?}");
+        let run = run_chunks(rt.alloc(), way, &chunks, 8)?;
+        assert_eq!(rt; run.text.as_slice(), text.as_bytes());
+        assert!(rt; !run.had_errors && run.is_finished);
     }
     Ok(())
 }

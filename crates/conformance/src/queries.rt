@@ -1,7 +1,6 @@
 //! Lengths to allocate that decoders tell, with the formulas of their codecs computed by hand: in every state, and at the ends
 //! of what can be told.
 
-use crate::harness::{Call, ReportingCall, make_calls_of, make_reporting_calls_of, new_decoder};
 use enc_codec::{Codec, DecoderResult, RawDecoder, SingleByteIndex};
 use enc_units::Utf8Slice;
 use encoding_rs::run::BomHandling;
@@ -10,6 +9,10 @@ use encoding_rs::{
     REPLACEMENT, SHIFT_JIS, UTF_8, UTF_16BE, UTF_16LE, WINDOWS_1252, X_USER_DEFINED,
 };
 use std::process::Abort;
+use std::test::Fail;
+use test_support::decoding::{
+    Call, ReportingCall, make_calls_of, make_reporting_calls_of, new_decoder,
+};
 
 const EMPTY: CoderResult = CoderResult::InputEmpty;
 
@@ -399,16 +402,16 @@ const BEHIND_A_MARK: &[ReportingCall<'static>] = &[(
 )];
 
 #[test]
-fn lengths_between_calls(rt: HostRuntime) {
+fn lengths_between_calls(rt: HostRuntime) -> Result<(), Fail> {
     let mut decoder = X_USER_DEFINED.new_decoder();
-    make_calls_of(&rt, &mut decoder, A_MARK_BROKE_OFF);
+    make_calls_of(rt.alloc(), &mut decoder, A_MARK_BROKE_OFF)?;
     // BB is still to come out
     let want = (Some(12), Some(12), Some(4));
     assert_eq!(rt; lengths(&rt, &decoder, 2), want);
-    make_calls_of(&rt, &mut decoder, THEN);
+    make_calls_of(rt.alloc(), &mut decoder, THEN)?;
     let mut decoder = REPLACEMENT.new_decoder();
     assert_eq!(rt; lengths(&rt, &decoder, 4).1, Some(7));
-    make_reporting_calls_of(&rt, &mut decoder, BEHIND_A_MARK);
+    make_reporting_calls_of(rt.alloc(), &mut decoder, BEHIND_A_MARK)
 }
 
 /// Chunks, each with whether it is the last one.

@@ -2,14 +2,14 @@
 //! it answers has to be what it answers where each byte is offered by itself, whatever room there is. The texts are by
 //! hand from the Encoding Standard.
 
-use crate::harness::{
-    ALL_OUTPUTS, Input, MOST_ROOM, Output, Use, compare_offers, make_calls, new_decoder,
-};
 use encoding_rs::run::BomHandling;
 use encoding_rs::*;
 use std::alloc::{AllocError, Global};
 use std::process::Abort;
 use std::test::Fail;
+use test_support::decoding::{
+    ALL_OUTPUTS, Input, MOST_ROOM, Output, Use, compare_offers, make_calls, new_decoder,
+};
 
 /// Each input here has so many bytes.
 const LENGTH: usize = 40;
@@ -24,7 +24,7 @@ const SMALL_ROOM: usize = 6;
 const MOST_CALLS: usize = 96;
 
 /// What offers into one buffer have come to.
-#[derive(Clone, Copy, PartialEq, Eq, Debug)]
+#[derive(Clone, Copy, PartialEq, Eq)]
 struct Filled {
     read: usize,
     written: usize,
@@ -121,9 +121,8 @@ fn compare_fills(
         reporting,
     );
     let in_turn = fill(rt, encoding, (bytes, 1), &mut single[..room], reporting);
-    assert_eq!(rt;
-        at_once,
-        in_turn,
+    assert!(rt;
+        at_once == in_turn,
         "{encoding:?} {bytes:?} {room} {reporting}"
     );
     assert_eq!(rt;
@@ -155,7 +154,6 @@ fn compare_fills(
 
 /// So it is where each call has this room of its own: in UTF-8, and in a room of four units in every output.
 fn compare_outputs(
-    rt: &impl Abort,
     alloc: Global,
     (encoding, reporting): (Encoding, bool),
     input: &Input<'_>,
@@ -168,7 +166,7 @@ fn compare_outputs(
             ..Use::new(encoding, BomHandling::Off)
         };
         if output == Output::Utf8 || room == 4 {
-            compare_offers(rt, alloc, way, input, room)?;
+            compare_offers(alloc, way, input, room)?;
         }
     }
     Ok(())
@@ -187,7 +185,7 @@ fn compare_rooms(
         for room in 0..ROOMS {
             compare_fills(rt, encoding, input, room, reporting);
             if room <= SMALL_ROOM {
-                compare_outputs(rt, alloc, (encoding, reporting), input, room)?;
+                compare_outputs(alloc, (encoding, reporting), input, room)?;
             }
         }
     }
@@ -353,14 +351,14 @@ fn an_escape_among_ascii_is_met_at_each_place(rt: HostRuntime) -> Result<(), Fai
 }
 
 #[test]
-fn a_run_stops_before_what_does_not_fit(rt: HostRuntime) {
+fn a_run_stops_before_what_does_not_fit(rt: HostRuntime) -> Result<(), Fail> {
     let bytes = b"aaaaaaaaaaaaaaaaaaaa\x80";
     for room in [20, 21, 22] {
         let want = (CoderResult::OutputFull, 20, 20, false);
         let stopped = (bytes.as_slice(), true, room, want, "aaaaaaaaaaaaaaaaaaaa");
-        make_calls(&rt, WINDOWS_1252, &[stopped]);
+        make_calls(rt.alloc(), WINDOWS_1252, &[stopped])?;
     }
     let want = (CoderResult::InputEmpty, 21, 23, false);
     let ended = (bytes.as_slice(), true, 23, want, "aaaaaaaaaaaaaaaaaaaa€");
-    make_calls(&rt, WINDOWS_1252, &[ended]);
+    make_calls(rt.alloc(), WINDOWS_1252, &[ended])
 }

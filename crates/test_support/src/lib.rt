@@ -6,6 +6,7 @@
 #![tactic(auto)]
 
 pub mod cases;
+pub mod decoding;
 pub mod devices;
 pub mod encodings;
 pub mod reading;

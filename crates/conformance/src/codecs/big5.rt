@@ -1,11 +1,11 @@
 //! Big5 (Encoding Standard 11.1). The texts are those of Python's codec big5hkscs. What is malformed follows the Encoding
 //! Standard's decoder by hand.
 
-use crate::harness::raw_calls::decode_one;
-use crate::harness::{Call, Row, compare_all, decode_whole, make_calls};
 use enc_codec::Big5Decoder;
 use encoding_rs::{BIG5, CoderResult};
 use std::test::Fail;
+use test_support::decoding::raw_calls::decode_one;
+use test_support::decoding::{Call, Row, compare_all, decode_whole, make_calls};
 
 const TWO_CHARACTERS: &[Call<'static>] = &[
     (
@@ -25,8 +25,8 @@ const TWO_CHARACTERS: &[Call<'static>] = &[
 ];
 
 #[test]
-fn waits_for_room_for_both_characters(rt: HostRuntime) {
-    make_calls(&rt, BIG5, TWO_CHARACTERS);
+fn waits_for_room_for_both_characters(rt: HostRuntime) -> Result<(), Fail> {
+    make_calls(rt.alloc(), BIG5, TWO_CHARACTERS)
 }
 
 const CHARACTERS: &[Row] = &[
@@ -41,8 +41,8 @@ const CHARACTERS: &[Row] = &[
 
 #[test]
 fn decodes(rt: HostRuntime) -> Result<(), Fail> {
-    decode_whole(&rt, BIG5, b"\xA4\x40", "\u{4E00}");
-    compare_all(&rt, rt.alloc(), (BIG5, Big5Decoder::new()), CHARACTERS)
+    decode_whole(rt.alloc(), BIG5, b"\xA4\x40", "\u{4E00}")?;
+    compare_all(rt.alloc(), (BIG5, Big5Decoder::new()), CHARACTERS)
 }
 
 const WORDS: &[Row] = &[
@@ -72,7 +72,7 @@ const WORDS: &[Row] = &[
 
 #[test]
 fn has_words_and_rare_characters(rt: HostRuntime) -> Result<(), Fail> {
-    compare_all(&rt, rt.alloc(), (BIG5, Big5Decoder::new()), WORDS)
+    compare_all(rt.alloc(), (BIG5, Big5Decoder::new()), WORDS)
 }
 
 const MALFORMED: &[Row] = &[
@@ -101,10 +101,10 @@ const MALFORMED: &[Row] = &[
 
 #[test]
 fn tells_what_is_malformed(rt: HostRuntime) -> Result<(), Fail> {
-    compare_all(&rt, rt.alloc(), (BIG5, Big5Decoder::new()), MALFORMED)
+    compare_all(rt.alloc(), (BIG5, Big5Decoder::new()), MALFORMED)
 }
 
 #[test]
-fn the_decoder_decodes_a_character(rt: HostRuntime) {
-    decode_one(&rt, &mut Big5Decoder::new(), (b"\xA4", 0x40), "一");
+fn the_decoder_decodes_a_character(rt: HostRuntime) -> Result<(), Fail> {
+    decode_one(&mut Big5Decoder::new(), (b"\xA4", 0x40), "一")
 }

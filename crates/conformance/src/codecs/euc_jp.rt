@@ -1,11 +1,11 @@
 //! EUC-JP (Encoding Standard 12.1). The texts are those of Python's codec euc_jp. Those that it doesn't have are of Node's
 //! TextDecoder. What is malformed follows the Encoding Standard's decoder by hand.
 
-use crate::harness::raw_calls::decode_one;
-use crate::harness::{ReportingCall, Row, compare_all, decode_whole, make_reporting_calls};
 use enc_codec::EucJpDecoder;
 use encoding_rs::{DecoderResult, EUC_JP};
 use std::test::Fail;
+use test_support::decoding::raw_calls::decode_one;
+use test_support::decoding::{ReportingCall, Row, compare_all, decode_whole, make_reporting_calls};
 
 const TRIPLE_AND_ASCII: &[ReportingCall<'static>] = &[
     (
@@ -27,9 +27,9 @@ const WHOLE_TRIPLE: &[ReportingCall<'static>] = &[(
 )];
 
 #[test]
-fn ends_a_malformed_triple(rt: HostRuntime) {
-    make_reporting_calls(&rt, EUC_JP, TRIPLE_AND_ASCII);
-    make_reporting_calls(&rt, EUC_JP, WHOLE_TRIPLE);
+fn ends_a_malformed_triple(rt: HostRuntime) -> Result<(), Fail> {
+    make_reporting_calls(rt.alloc(), EUC_JP, TRIPLE_AND_ASCII)?;
+    make_reporting_calls(rt.alloc(), EUC_JP, WHOLE_TRIPLE)
 }
 
 const CHARACTERS: &[Row] = &[
@@ -45,8 +45,8 @@ const CHARACTERS: &[Row] = &[
 #[test]
 fn decodes(rt: HostRuntime) -> Result<(), Fail> {
     let all = b"\x8F\xB0\xA1\xB0\xEC\x8E\xB1";
-    decode_whole(&rt, EUC_JP, all, "\u{4E02}\u{4E00}\u{FF71}");
-    compare_all(&rt, rt.alloc(), (EUC_JP, EucJpDecoder::new()), CHARACTERS)
+    decode_whole(rt.alloc(), EUC_JP, all, "\u{4E02}\u{4E00}\u{FF71}")?;
+    compare_all(rt.alloc(), (EUC_JP, EucJpDecoder::new()), CHARACTERS)
 }
 
 const WORDS: &[Row] = &[
@@ -79,7 +79,7 @@ const WORDS: &[Row] = &[
 
 #[test]
 fn has_words_and_rare_characters(rt: HostRuntime) -> Result<(), Fail> {
-    compare_all(&rt, rt.alloc(), (EUC_JP, EucJpDecoder::new()), WORDS)
+    compare_all(rt.alloc(), (EUC_JP, EucJpDecoder::new()), WORDS)
 }
 
 const MALFORMED: &[Row] = &[
@@ -118,10 +118,10 @@ const MALFORMED: &[Row] = &[
 
 #[test]
 fn tells_what_is_malformed(rt: HostRuntime) -> Result<(), Fail> {
-    compare_all(&rt, rt.alloc(), (EUC_JP, EucJpDecoder::new()), MALFORMED)
+    compare_all(rt.alloc(), (EUC_JP, EucJpDecoder::new()), MALFORMED)
 }
 
 #[test]
-fn the_decoder_decodes_a_character(rt: HostRuntime) {
-    decode_one(&rt, &mut EucJpDecoder::new(), (b"\x8F\xB0", 0xA1), "丂");
+fn the_decoder_decodes_a_character(rt: HostRuntime) -> Result<(), Fail> {
+    decode_one(&mut EucJpDecoder::new(), (b"\x8F\xB0", 0xA1), "丂")
 }

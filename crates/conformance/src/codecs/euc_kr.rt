@@ -1,18 +1,18 @@
 //! EUC-KR (Encoding Standard 13.1). The texts are those of Python's codec cp949. What is malformed follows the Encoding
 //! Standard's decoder by hand.
 
-use crate::harness::raw_calls::decode_one;
-use crate::harness::{Row, compare_all, decode_whole};
 use enc_codec::EucKrDecoder;
 use encoding_rs::EUC_KR;
 use std::test::Fail;
+use test_support::decoding::raw_calls::decode_one;
+use test_support::decoding::{Row, compare_all, decode_whole};
 
 const CHARACTERS: &[Row] = &[(b"a\xB0\xA1", "a\u{AC00}", &[], 3)];
 
 #[test]
 fn decodes(rt: HostRuntime) -> Result<(), Fail> {
-    decode_whole(&rt, EUC_KR, b"\xB0\xA1", "\u{AC00}");
-    compare_all(&rt, rt.alloc(), (EUC_KR, EucKrDecoder::new()), CHARACTERS)
+    decode_whole(rt.alloc(), EUC_KR, b"\xB0\xA1", "\u{AC00}")?;
+    compare_all(rt.alloc(), (EUC_KR, EucKrDecoder::new()), CHARACTERS)
 }
 
 const WORDS: &[Row] = &[
@@ -42,7 +42,7 @@ const WORDS: &[Row] = &[
 
 #[test]
 fn has_words_and_rare_characters(rt: HostRuntime) -> Result<(), Fail> {
-    compare_all(&rt, rt.alloc(), (EUC_KR, EucKrDecoder::new()), WORDS)
+    compare_all(rt.alloc(), (EUC_KR, EucKrDecoder::new()), WORDS)
 }
 
 const MALFORMED: &[Row] = &[
@@ -65,10 +65,10 @@ const MALFORMED: &[Row] = &[
 
 #[test]
 fn tells_what_is_malformed(rt: HostRuntime) -> Result<(), Fail> {
-    compare_all(&rt, rt.alloc(), (EUC_KR, EucKrDecoder::new()), MALFORMED)
+    compare_all(rt.alloc(), (EUC_KR, EucKrDecoder::new()), MALFORMED)
 }
 
 #[test]
-fn the_decoder_decodes_a_character(rt: HostRuntime) {
-    decode_one(&rt, &mut EucKrDecoder::new(), (b"\xB0", 0xA1), "가");
+fn the_decoder_decodes_a_character(rt: HostRuntime) -> Result<(), Fail> {
+    decode_one(&mut EucKrDecoder::new(), (b"\xB0", 0xA1), "가")
 }

@@ -2,16 +2,15 @@
 //! it doesn't have; that one and what is malformed follow the Encoding Standard's decoder by hand. The characters that
 //! came with later editions than the codec's are of Node's TextDecoder.
 
-use crate::harness::raw_calls::{decode_one, stop};
-use crate::harness::{
-    Others, ReportingCall, Row, Use, compare_all, compare_cuts_of, input_of, make_reporting_calls,
-};
 use enc_codec::Gb18030Decoder;
 use encoding_rs::run::BomHandling;
 use encoding_rs::{DecoderResult, GB18030, GBK};
 use std::alloc::Global;
-use std::process::Abort;
 use std::test::Fail;
+use test_support::decoding::raw_calls::{decode_one, stop};
+use test_support::decoding::{
+    Others, ReportingCall, Row, Use, compare_all, compare_cuts_of, input_of, make_reporting_calls,
+};
 
 const GIVEN_BACK: &[ReportingCall<'static>] = &[
     (
@@ -33,32 +32,32 @@ const GIVEN_BACK: &[ReportingCall<'static>] = &[
 ];
 
 #[test]
-fn gives_back_two_of_three_bytes(rt: HostRuntime) {
-    make_reporting_calls(&rt, GB18030, GIVEN_BACK);
+fn gives_back_two_of_three_bytes(rt: HostRuntime) -> Result<(), Fail> {
+    make_reporting_calls(rt.alloc(), GB18030, GIVEN_BACK)
 }
 
 #[test]
-fn four_bytes_between_the_ranges_are_malformed(rt: HostRuntime) {
+fn four_bytes_between_the_ranges_are_malformed(rt: HostRuntime) -> Result<(), Fail> {
     let (gap, end) = ([0x84, 0x31, 0xA5, 0x30], [0x84, 0x31, 0xA4, 0x39]);
     make_reporting_calls(
-        &rt,
+        rt.alloc(),
         GB18030,
         &[(&gap, true, 8, (DecoderResult::Malformed(4, 0), 4, 0), "")],
-    );
+    )?;
     make_reporting_calls(
-        &rt,
+        rt.alloc(),
         GB18030,
         &[(&end, true, 8, (DecoderResult::InputEmpty, 4, 3), "\u{FFFF}")],
-    );
+    )
 }
 
 /// Runs each input through every cut and room, for both encodings.
-fn compare_both(rt: &impl Abort, alloc: Global, rows: &[Row]) -> Result<(), Fail> {
+fn compare_both(alloc: Global, rows: &[Row]) -> Result<(), Fail> {
     for row in rows {
         let way = Use::new(GBK, BomHandling::Off);
-        compare_cuts_of(rt, alloc, (way, Others::Few), &input_of(row))?;
+        compare_cuts_of(alloc, (way, Others::Few), &input_of(row))?;
     }
-    compare_all(rt, alloc, (GB18030, Gb18030Decoder::new()), rows)
+    compare_all(alloc, (GB18030, Gb18030Decoder::new()), rows)
 }
 
 const LENGTHS: &[Row] = &[
@@ -84,7 +83,7 @@ const LENGTHS: &[Row] = &[
 
 #[test]
 fn decodes_one_two_and_four_bytes(rt: HostRuntime) -> Result<(), Fail> {
-    compare_both(&rt, rt.alloc(), LENGTHS)
+    compare_both(rt.alloc(), LENGTHS)
 }
 
 const WORDS: &[Row] = &[
@@ -109,7 +108,7 @@ const WORDS: &[Row] = &[
 
 #[test]
 fn decodes_words_and_rare_characters(rt: HostRuntime) -> Result<(), Fail> {
-    compare_both(&rt, rt.alloc(), WORDS)
+    compare_both(rt.alloc(), WORDS)
 }
 
 const RANGES: &[Row] = &[
@@ -153,7 +152,7 @@ const RANGES: &[Row] = &[
 
 #[test]
 fn decodes_four_bytes_where_ranges_meet(rt: HostRuntime) -> Result<(), Fail> {
-    compare_both(&rt, rt.alloc(), RANGES)
+    compare_both(rt.alloc(), RANGES)
 }
 
 const EDITION_OF_2022: &[Row] = &[
@@ -186,7 +185,7 @@ const EDITION_OF_2022: &[Row] = &[
 
 #[test]
 fn decodes_as_the_edition_of_2022(rt: HostRuntime) -> Result<(), Fail> {
-    compare_both(&rt, rt.alloc(), EDITION_OF_2022)
+    compare_both(rt.alloc(), EDITION_OF_2022)
 }
 
 const MALFORMED: &[Row] = &[
@@ -229,17 +228,17 @@ const MALFORMED: &[Row] = &[
 
 #[test]
 fn tells_what_is_malformed(rt: HostRuntime) -> Result<(), Fail> {
-    compare_both(&rt, rt.alloc(), MALFORMED)
+    compare_both(rt.alloc(), MALFORMED)
 }
 
 #[test]
-fn the_decoder_decodes_a_character(rt: HostRuntime) {
+fn the_decoder_decodes_a_character(rt: HostRuntime) -> Result<(), Fail> {
     let src = (b"\x90\x30\x81".as_slice(), 0x30);
-    decode_one(&rt, &mut Gb18030Decoder::new(), src, "\u{10000}");
+    decode_one(&mut Gb18030Decoder::new(), src, "\u{10000}")
 }
 
 #[test]
-fn the_decoder_gives_two_bytes_back(rt: HostRuntime) {
+fn the_decoder_gives_two_bytes_back(rt: HostRuntime) -> Result<(), Fail> {
     let mut decoder = Gb18030Decoder::new();
-    stop(&rt, &mut decoder, b"\x81\x30\x81\xFF", (1, 2), 3, "");
+    stop(&mut decoder, b"\x81\x30\x81\xFF", (1, 2), 3, "")
 }

@@ -3,17 +3,18 @@
 //! The texts that have nothing malformed are those of Python's codecs iso2022_jp and iso2022_jp_ext. Those that neither
 //! has are of Node's TextDecoder. The others were written by the steps of the standard's decoder.
 
-use crate::harness::raw_calls::{end, hold, make_call, stop};
-use crate::harness::{Call, ReportingCall, Row, compare_all, make_calls, make_reporting_calls};
 use enc_codec::Iso2022JpDecoder;
 use encoding_rs::{CoderResult, DecoderResult, ISO_2022_JP};
 use std::alloc::Global;
-use std::process::Abort;
 use std::test::Fail;
+use test_support::decoding::raw_calls::{end, hold, make_call, stop};
+use test_support::decoding::{
+    Call, ReportingCall, Row, compare_all, make_calls, make_reporting_calls,
+};
 
 /// Runs each input through every cut and room.
-fn compare(rt: &impl Abort, alloc: Global, rows: &[Row]) -> Result<(), Fail> {
-    compare_all(rt, alloc, (ISO_2022_JP, Iso2022JpDecoder::new()), rows)
+fn compare(alloc: Global, rows: &[Row]) -> Result<(), Fail> {
+    compare_all(alloc, (ISO_2022_JP, Iso2022JpDecoder::new()), rows)
 }
 
 const EMPTY: DecoderResult = DecoderResult::InputEmpty;
@@ -50,10 +51,10 @@ const GIVEN_BACK_IN_JIS_X_0208: &[ReportingCall<'static>] = &[
 ];
 
 #[test]
-fn an_intermediate_byte_is_given_back(rt: HostRuntime) {
-    make_reporting_calls(&rt, ISO_2022_JP, GIVEN_BACK);
-    make_reporting_calls(&rt, ISO_2022_JP, GIVEN_BACK_AT_THE_END);
-    make_reporting_calls(&rt, ISO_2022_JP, GIVEN_BACK_IN_JIS_X_0208);
+fn an_intermediate_byte_is_given_back(rt: HostRuntime) -> Result<(), Fail> {
+    make_reporting_calls(rt.alloc(), ISO_2022_JP, GIVEN_BACK)?;
+    make_reporting_calls(rt.alloc(), ISO_2022_JP, GIVEN_BACK_AT_THE_END)?;
+    make_reporting_calls(rt.alloc(), ISO_2022_JP, GIVEN_BACK_IN_JIS_X_0208)
 }
 
 const TWO_ESCAPES: &[ReportingCall<'static>] = &[
@@ -68,8 +69,8 @@ const TWO_ESCAPES: &[ReportingCall<'static>] = &[
 ];
 
 #[test]
-fn an_escape_before_another_is_malformed(rt: HostRuntime) {
-    make_reporting_calls(&rt, ISO_2022_JP, TWO_ESCAPES);
+fn an_escape_before_another_is_malformed(rt: HostRuntime) -> Result<(), Fail> {
+    make_reporting_calls(rt.alloc(), ISO_2022_JP, TWO_ESCAPES)
 }
 
 const LEAD_AND_ESCAPE: &[ReportingCall<'static>] = &[
@@ -84,8 +85,8 @@ const LEAD_AND_ESCAPE: &[ReportingCall<'static>] = &[
 ];
 
 #[test]
-fn an_escape_may_follow_a_lead_byte(rt: HostRuntime) {
-    make_reporting_calls(&rt, ISO_2022_JP, LEAD_AND_ESCAPE);
+fn an_escape_may_follow_a_lead_byte(rt: HostRuntime) -> Result<(), Fail> {
+    make_reporting_calls(rt.alloc(), ISO_2022_JP, LEAD_AND_ESCAPE)
 }
 
 const ESCAPE_AND_1B: &[ReportingCall<'static>] = &[
@@ -94,8 +95,8 @@ const ESCAPE_AND_1B: &[ReportingCall<'static>] = &[
 ];
 
 #[test]
-fn an_escape_before_1b_is_skipped(rt: HostRuntime) {
-    make_reporting_calls(&rt, ISO_2022_JP, ESCAPE_AND_1B);
+fn an_escape_before_1b_is_skipped(rt: HostRuntime) -> Result<(), Fail> {
+    make_reporting_calls(rt.alloc(), ISO_2022_JP, ESCAPE_AND_1B)
 }
 
 const TEXT_BEHIND_ESCAPE: &[ReportingCall<'static>] = &[(
@@ -115,9 +116,9 @@ const NOTHING_BEHIND_ESCAPE: &[ReportingCall<'static>] = &[(
 )];
 
 #[test]
-fn an_escape_may_end_the_input(rt: HostRuntime) {
-    make_reporting_calls(&rt, ISO_2022_JP, TEXT_BEHIND_ESCAPE);
-    make_reporting_calls(&rt, ISO_2022_JP, NOTHING_BEHIND_ESCAPE);
+fn an_escape_may_end_the_input(rt: HostRuntime) -> Result<(), Fail> {
+    make_reporting_calls(rt.alloc(), ISO_2022_JP, TEXT_BEHIND_ESCAPE)?;
+    make_reporting_calls(rt.alloc(), ISO_2022_JP, NOTHING_BEHIND_ESCAPE)
 }
 
 const HELD_ESCAPE: &[Call<'static>] = &[
@@ -139,8 +140,8 @@ const HELD_ESCAPE: &[Call<'static>] = &[
 ];
 
 #[test]
-fn a_held_escape_is_taken_where_it_is_skipped(rt: HostRuntime) {
-    make_calls(&rt, ISO_2022_JP, HELD_ESCAPE);
+fn a_held_escape_is_taken_where_it_is_skipped(rt: HostRuntime) -> Result<(), Fail> {
+    make_calls(rt.alloc(), ISO_2022_JP, HELD_ESCAPE)
 }
 
 const SECOND_ESCAPE: &[Call<'static>] = &[
@@ -168,8 +169,8 @@ const SECOND_ESCAPE: &[Call<'static>] = &[
 ];
 
 #[test]
-fn a_second_escape_waits_for_room(rt: HostRuntime) {
-    make_calls(&rt, ISO_2022_JP, SECOND_ESCAPE);
+fn a_second_escape_waits_for_room(rt: HostRuntime) -> Result<(), Fail> {
+    make_calls(rt.alloc(), ISO_2022_JP, SECOND_ESCAPE)
 }
 
 const TEXTS: &[Row] = &[
@@ -183,7 +184,7 @@ const TEXTS: &[Row] = &[
 
 #[test]
 fn cuts_and_rooms_change_no_text(rt: HostRuntime) -> Result<(), Fail> {
-    compare(&rt, rt.alloc(), TEXTS)
+    compare(rt.alloc(), TEXTS)
 }
 
 const WORDS: &[Row] = &[
@@ -208,7 +209,7 @@ const WORDS: &[Row] = &[
 
 #[test]
 fn cuts_and_rooms_change_no_words(rt: HostRuntime) -> Result<(), Fail> {
-    compare(&rt, rt.alloc(), WORDS)
+    compare(rt.alloc(), WORDS)
 }
 
 const ESCAPES: &[Row] = &[
@@ -230,7 +231,7 @@ const ESCAPES: &[Row] = &[
 
 #[test]
 fn cuts_and_rooms_change_no_escape(rt: HostRuntime) -> Result<(), Fail> {
-    compare(&rt, rt.alloc(), ESCAPES)
+    compare(rt.alloc(), ESCAPES)
 }
 
 const SETS: &[Row] = &[
@@ -257,36 +258,36 @@ const SETS: &[Row] = &[
 
 #[test]
 fn cuts_and_rooms_change_no_set(rt: HostRuntime) -> Result<(), Fail> {
-    compare(&rt, rt.alloc(), SETS)
+    compare(rt.alloc(), SETS)
 }
 
 #[test]
-fn the_decoder_decodes_each_set(rt: HostRuntime) {
-    end(&rt, &mut Iso2022JpDecoder::new(), b"\x5C\x7E", "\\~");
-    end(&rt, &mut Iso2022JpDecoder::new(), b"\x1B(J\x5C\x7E", "¥‾");
-    end(&rt, &mut Iso2022JpDecoder::new(), b"\x1B(I\x21\x5F", "｡ﾟ");
-    end(&rt, &mut Iso2022JpDecoder::new(), b"\x1B$@\x24\x22", "あ");
-    end(&rt, &mut Iso2022JpDecoder::new(), b"\x1B$B\x24\x22", "あ");
+fn the_decoder_decodes_each_set(rt: HostRuntime) -> Result<(), Fail> {
+    end(&mut Iso2022JpDecoder::new(), b"\x5C\x7E", "\\~")?;
+    end(&mut Iso2022JpDecoder::new(), b"\x1B(J\x5C\x7E", "¥‾")?;
+    end(&mut Iso2022JpDecoder::new(), b"\x1B(I\x21\x5F", "｡ﾟ")?;
+    end(&mut Iso2022JpDecoder::new(), b"\x1B$@\x24\x22", "あ")?;
+    end(&mut Iso2022JpDecoder::new(), b"\x1B$B\x24\x22", "あ")
 }
 
 #[test]
-fn the_decoder_holds_an_escape_until_the_next_is_told(rt: HostRuntime) {
+fn the_decoder_holds_an_escape_until_the_next_is_told(rt: HostRuntime) -> Result<(), Fail> {
     let mut decoder = Iso2022JpDecoder::new();
-    hold(&rt, &mut decoder, b"\x1B", 1);
-    hold(&rt, &mut decoder, b"(", 2);
-    hold(&rt, &mut decoder, b"J", 3);
-    hold(&rt, &mut decoder, b"\x1B", 4);
-    hold(&rt, &mut decoder, b"$", 5);
+    hold(&mut decoder, b"\x1B", 1)?;
+    hold(&mut decoder, b"(", 2)?;
+    hold(&mut decoder, b"J", 3)?;
+    hold(&mut decoder, b"\x1B", 4)?;
+    hold(&mut decoder, b"$", 5)?;
     let want = (DecoderResult::Malformed(3, 3), 1, 3);
-    make_call(&rt, &mut decoder, (b"B", false), want, "");
-    hold(&rt, &mut decoder, b"\x24", 1);
-    end(&rt, &mut decoder, b"\x22", "あ");
+    make_call(&mut decoder, (b"B", false), want, "")?;
+    hold(&mut decoder, b"\x24", 1)?;
+    end(&mut decoder, b"\x22", "あ")
 }
 
 #[test]
-fn the_decoder_reads_anew_in_the_set_in_force(rt: HostRuntime) {
+fn the_decoder_reads_anew_in_the_set_in_force(rt: HostRuntime) -> Result<(), Fail> {
     let mut decoder = Iso2022JpDecoder::new();
-    hold(&rt, &mut decoder, b"\x1B$B\x1B$", 5);
-    stop(&rt, &mut decoder, b"\x22", (1, 1), 0, "");
-    end(&rt, &mut decoder, b"\x22", "あ");
+    hold(&mut decoder, b"\x1B$B\x1B$", 5)?;
+    stop(&mut decoder, b"\x22", (1, 1), 0, "")?;
+    end(&mut decoder, b"\x22", "あ")
 }

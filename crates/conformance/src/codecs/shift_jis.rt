@@ -1,11 +1,11 @@
 //! Shift_JIS (Encoding Standard 12.3). The texts are those of Python's codec cp932. What is malformed follows the Encoding
 //! Standard's decoder by hand.
 
-use crate::harness::raw_calls::decode_one;
-use crate::harness::{ReportingCall, Row, compare_all, decode_whole, make_reporting_calls};
 use enc_codec::ShiftJisDecoder;
 use encoding_rs::{DecoderResult, SHIFT_JIS};
 use std::test::Fail;
+use test_support::decoding::raw_calls::decode_one;
+use test_support::decoding::{ReportingCall, Row, compare_all, decode_whole, make_reporting_calls};
 
 const READ_ANEW: &[ReportingCall<'static>] = &[
     (&[0x83], false, 8, (DecoderResult::InputEmpty, 1, 0), ""),
@@ -14,8 +14,8 @@ const READ_ANEW: &[ReportingCall<'static>] = &[
 ];
 
 #[test]
-fn reads_an_ascii_byte_anew(rt: HostRuntime) {
-    make_reporting_calls(&rt, SHIFT_JIS, READ_ANEW);
+fn reads_an_ascii_byte_anew(rt: HostRuntime) -> Result<(), Fail> {
+    make_reporting_calls(rt.alloc(), SHIFT_JIS, READ_ANEW)
 }
 
 const CHARACTERS: &[Row] = &[
@@ -41,13 +41,8 @@ const CHARACTERS: &[Row] = &[
 #[test]
 fn decodes(rt: HostRuntime) -> Result<(), Fail> {
     let hello = b"\x83\x6E\x83\x8D\x81\x5B\x81\x45\x83\x8F\x81\x5B\x83\x8B\x83\x68";
-    decode_whole(&rt, SHIFT_JIS, hello, "ハロー・ワールド");
-    compare_all(
-        &rt,
-        rt.alloc(),
-        (SHIFT_JIS, ShiftJisDecoder::new()),
-        CHARACTERS,
-    )
+    decode_whole(rt.alloc(), SHIFT_JIS, hello, "ハロー・ワールド")?;
+    compare_all(rt.alloc(), (SHIFT_JIS, ShiftJisDecoder::new()), CHARACTERS)
 }
 
 const WORDS: &[Row] = &[
@@ -75,7 +70,7 @@ const WORDS: &[Row] = &[
 
 #[test]
 fn has_words_and_rare_characters(rt: HostRuntime) -> Result<(), Fail> {
-    compare_all(&rt, rt.alloc(), (SHIFT_JIS, ShiftJisDecoder::new()), WORDS)
+    compare_all(rt.alloc(), (SHIFT_JIS, ShiftJisDecoder::new()), WORDS)
 }
 
 const MALFORMED: &[Row] = &[
@@ -114,15 +109,10 @@ const MALFORMED: &[Row] = &[
 
 #[test]
 fn tells_what_is_malformed(rt: HostRuntime) -> Result<(), Fail> {
-    compare_all(
-        &rt,
-        rt.alloc(),
-        (SHIFT_JIS, ShiftJisDecoder::new()),
-        MALFORMED,
-    )
+    compare_all(rt.alloc(), (SHIFT_JIS, ShiftJisDecoder::new()), MALFORMED)
 }
 
 #[test]
-fn the_decoder_decodes_a_character(rt: HostRuntime) {
-    decode_one(&rt, &mut ShiftJisDecoder::new(), (b"\x83", 0x6E), "ハ");
+fn the_decoder_decodes_a_character(rt: HostRuntime) -> Result<(), Fail> {
+    decode_one(&mut ShiftJisDecoder::new(), (b"\x83", 0x6E), "ハ")
 }

@@ -1,8 +1,6 @@
 //! The legacy single-byte encodings (Encoding Standard 9).
 
 use crate::codecs::single_byte_tables::*;
-use crate::harness::raw_calls::end;
-use crate::harness::{Row, compare_all, compare_read, make_calls};
 use enc_codec::{DecoderResult, RawDecoder, SingleByteDecoder, SingleByteIndex};
 use enc_units::Utf8Slice;
 use encoding_rs::{
@@ -14,6 +12,8 @@ use encoding_rs::{
 };
 use std::process::Abort;
 use std::test::Fail;
+use test_support::decoding::raw_calls::end;
+use test_support::decoding::{Row, compare_all, compare_read, make_calls};
 
 /// A single byte gives its character. It is unmapped where that is U+FFFD.
 fn compare_byte(rt: &impl Abort, encoding: Encoding, byte: u8, want: char) {
@@ -88,7 +88,7 @@ fn bytes_are_read_one_by_one(rt: HostRuntime) -> Result<(), Fail> {
         bytes[byte as usize] = byte;
     }
     for (encoding, _) in TABLES {
-        compare_read(&rt, rt.alloc(), *encoding, &bytes)?;
+        compare_read(rt.alloc(), *encoding, &bytes)?;
     }
     Ok(())
 }
@@ -106,12 +106,12 @@ fn an_unmapped_byte_is_malformed(rt: HostRuntime) -> Result<(), Fail> {
     let text = "abc€\u{FFFD}ä";
     let want = (CoderResult::InputEmpty, 6, 11, true);
     make_calls(
-        &rt,
+        rt.alloc(),
         WINDOWS_1257,
         &[(bytes.as_slice(), true, 16, want, text)],
-    );
+    )?;
     let decoder = SingleByteDecoder::new(SingleByteIndex::Windows1257);
-    compare_all(&rt, rt.alloc(), (WINDOWS_1257, decoder), UNMAPPED)
+    compare_all(rt.alloc(), (WINDOWS_1257, decoder), UNMAPPED)
 }
 
 const WINDOWS_1252_ROWS: &[Row] = &[(b"na\xEFve \x80", "naïve €", &[], 3)];
@@ -121,15 +121,15 @@ const IBM866_ROWS: &[Row] = &[(&[0x8F, 0xE0, 0xA8, 0xA2, 0xA5, 0xE2], "Прив�
 #[test]
 fn cuts_and_rooms_change_nothing(rt: HostRuntime) -> Result<(), Fail> {
     let decoder = SingleByteDecoder::new(SingleByteIndex::Windows1252);
-    compare_all(&rt, rt.alloc(), (WINDOWS_1252, decoder), WINDOWS_1252_ROWS)?;
+    compare_all(rt.alloc(), (WINDOWS_1252, decoder), WINDOWS_1252_ROWS)?;
     let decoder = SingleByteDecoder::new(SingleByteIndex::Ibm866);
-    compare_all(&rt, rt.alloc(), (IBM866, decoder), IBM866_ROWS)
+    compare_all(rt.alloc(), (IBM866, decoder), IBM866_ROWS)
 }
 
 #[test]
-fn the_decoder_decodes_windows_1252(rt: HostRuntime) {
+fn the_decoder_decodes_windows_1252(rt: HostRuntime) -> Result<(), Fail> {
     let mut decoder = SingleByteDecoder::new(SingleByteIndex::Windows1252);
-    end(&rt, &mut decoder, b"\x61\x80\xE9", "a€é");
+    end(&mut decoder, b"\x61\x80\xE9", "a€é")
 }
 
 #[test]

@@ -1,10 +1,12 @@
 //! UTF-16BE and UTF-16LE (Encoding Standard 14.2 to 14.4).
 
-use crate::harness::raw_calls::{end, stop};
-use crate::harness::{Call, ReportingCall, Row, compare_all, make_calls, make_reporting_calls};
 use enc_codec::Utf16Decoder;
 use encoding_rs::{CoderResult, DecoderResult, UTF_16BE, UTF_16LE};
 use std::test::Fail;
+use test_support::decoding::raw_calls::{end, stop};
+use test_support::decoding::{
+    Call, ReportingCall, Row, compare_all, make_calls, make_reporting_calls,
+};
 
 const LEAD_AND_UNIT: &[ReportingCall<'static>] = &[
     (
@@ -18,8 +20,8 @@ const LEAD_AND_UNIT: &[ReportingCall<'static>] = &[
 ];
 
 #[test]
-fn a_lead_before_another_unit_is_malformed(rt: HostRuntime) {
-    make_reporting_calls(&rt, UTF_16LE, LEAD_AND_UNIT);
+fn a_lead_before_another_unit_is_malformed(rt: HostRuntime) -> Result<(), Fail> {
+    make_reporting_calls(rt.alloc(), UTF_16LE, LEAD_AND_UNIT)
 }
 
 const LEFT_OVER_REPORTED: &[ReportingCall<'static>] = &[(
@@ -39,9 +41,9 @@ const LEFT_OVER_REPLACED: &[Call<'static>] = &[(
 )];
 
 #[test]
-fn what_is_left_at_the_end_is_one_malformed_sequence(rt: HostRuntime) {
-    make_reporting_calls(&rt, UTF_16LE, LEFT_OVER_REPORTED);
-    make_calls(&rt, UTF_16LE, LEFT_OVER_REPLACED);
+fn what_is_left_at_the_end_is_one_malformed_sequence(rt: HostRuntime) -> Result<(), Fail> {
+    make_reporting_calls(rt.alloc(), UTF_16LE, LEFT_OVER_REPORTED)?;
+    make_calls(rt.alloc(), UTF_16LE, LEFT_OVER_REPLACED)
 }
 
 const TWO_LEADS: &[Call<'static>] = &[
@@ -69,8 +71,8 @@ const TWO_LEADS: &[Call<'static>] = &[
 ];
 
 #[test]
-fn two_leads_wait_for_room(rt: HostRuntime) {
-    make_calls(&rt, UTF_16BE, TWO_LEADS);
+fn two_leads_wait_for_room(rt: HostRuntime) -> Result<(), Fail> {
+    make_calls(rt.alloc(), UTF_16BE, TWO_LEADS)
 }
 
 const LITTLE_ENDIAN: &[Row] = &[
@@ -109,36 +111,30 @@ const BIG_ENDIAN: &[Row] = &[
 #[test]
 fn cuts_and_rooms_change_nothing(rt: HostRuntime) -> Result<(), Fail> {
     compare_all(
-        &rt,
         rt.alloc(),
         (UTF_16LE, Utf16Decoder::new(false)),
         LITTLE_ENDIAN,
     )?;
-    compare_all(
-        &rt,
-        rt.alloc(),
-        (UTF_16BE, Utf16Decoder::new(true)),
-        BIG_ENDIAN,
-    )
+    compare_all(rt.alloc(), (UTF_16BE, Utf16Decoder::new(true)), BIG_ENDIAN)
 }
 
 #[test]
-fn the_decoder_decodes_a_pair(rt: HostRuntime) {
-    end(&rt, &mut Utf16Decoder::new(false), b"\x3D\xD8\xA9\xDC", "💩");
-    end(&rt, &mut Utf16Decoder::new(true), b"\xD8\x3D\xDC\xA9", "💩");
+fn the_decoder_decodes_a_pair(rt: HostRuntime) -> Result<(), Fail> {
+    end(&mut Utf16Decoder::new(false), b"\x3D\xD8\xA9\xDC", "💩")?;
+    end(&mut Utf16Decoder::new(true), b"\xD8\x3D\xDC\xA9", "💩")
 }
 
 #[test]
-fn the_decoder_reads_anew_behind_a_lead_surrogate(rt: HostRuntime) {
+fn the_decoder_reads_anew_behind_a_lead_surrogate(rt: HostRuntime) -> Result<(), Fail> {
     let mut decoder = Utf16Decoder::new(false);
-    stop(&rt, &mut decoder, b"\x3D\xD8A\0", (2, 1), 3, "");
-    end(&rt, &mut decoder, b"\0", "A");
+    stop(&mut decoder, b"\x3D\xD8A\0", (2, 1), 3, "")?;
+    end(&mut decoder, b"\0", "A")
 }
 
 #[test]
-fn the_decoder_reports_what_is_unfinished(rt: HostRuntime) {
+fn the_decoder_reports_what_is_unfinished(rt: HostRuntime) -> Result<(), Fail> {
     let mut decoder = Utf16Decoder::new(false);
-    stop(&rt, &mut decoder, b"\x3D\xD8A", (3, 0), 3, "");
-    stop(&rt, &mut decoder, b"\x00\xDC", (2, 0), 2, "");
-    stop(&rt, &mut decoder, b"A", (1, 0), 1, "");
+    stop(&mut decoder, b"\x3D\xD8A", (3, 0), 3, "")?;
+    stop(&mut decoder, b"\x00\xDC", (2, 0), 2, "")?;
+    stop(&mut decoder, b"A", (1, 0), 1, "")
 }

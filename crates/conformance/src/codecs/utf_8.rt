@@ -1,14 +1,14 @@
 //! UTF-8 (Encoding Standard 8.1). The malformed ones are those of Unicode's table 3-7 and definition D93b.
 
-use crate::harness::{
-    Call, ReportingCall, Row, compare_all, input_of, make_calls, make_reporting_calls,
-};
 use enc_codec::Utf8Decoder;
 use enc_utf::plain::decode_utf_8;
 use encoding_rs::{CoderResult, DecoderResult, UTF_8};
 use std::alloc::Global;
 use std::process::Abort;
 use std::test::Fail;
+use test_support::decoding::{
+    Call, ReportingCall, Row, compare_all, input_of, make_calls, make_reporting_calls,
+};
 
 const CHUNKS: &[Call<'static>] = &[
     (
@@ -37,9 +37,9 @@ const CHUNKS: &[Call<'static>] = &[
 const NO_BYTES: &[Call<'static>] = &[(&[], true, 0, (CoderResult::InputEmpty, 0, 0, false), "")];
 
 #[test]
-fn worked_examples(rt: HostRuntime) {
-    make_calls(&rt, UTF_8, CHUNKS);
-    make_calls(&rt, UTF_8, NO_BYTES);
+fn worked_examples(rt: HostRuntime) -> Result<(), Fail> {
+    make_calls(rt.alloc(), UTF_8, CHUNKS)?;
+    make_calls(rt.alloc(), UTF_8, NO_BYTES)
 }
 
 const NO_ROOM: &[Call<'static>] = &[
@@ -54,20 +54,25 @@ const NO_ROOM: &[Call<'static>] = &[
 ];
 
 #[test]
-fn a_malformed_sequence_waits_for_room(rt: HostRuntime) {
+fn a_malformed_sequence_waits_for_room(rt: HostRuntime) -> Result<(), Fail> {
     let (empty, full) = (CoderResult::InputEmpty, CoderResult::OutputFull);
-    make_calls(&rt, UTF_8, NO_ROOM);
+    make_calls(rt.alloc(), UTF_8, NO_ROOM)?;
     let rows = [
         (8, (full, 2, 6, true), "\u{FFFD}\u{FFFD}"),
         (9, (empty, 3, 9, true), "\u{FFFD}\u{FFFD}\u{FFFD}"),
     ];
     for (room, want, text) in rows {
-        make_calls(&rt, UTF_8, &[(&[0xED, 0xA0, 0x80], true, room, want, text)]);
+        make_calls(
+            rt.alloc(),
+            UTF_8,
+            &[(&[0xED, 0xA0, 0x80], true, room, want, text)],
+        )?;
     }
+    Ok(())
 }
 
 #[test]
-fn a_sequence_behind_a_malformed_one_waits_for_room(rt: HostRuntime) {
+fn a_sequence_behind_a_malformed_one_waits_for_room(rt: HostRuntime) -> Result<(), Fail> {
     let (empty, full) = (CoderResult::InputEmpty, CoderResult::OutputFull);
     let rows = [
         (2, (full, 2, 0, false), ""),
@@ -76,9 +81,14 @@ fn a_sequence_behind_a_malformed_one_waits_for_room(rt: HostRuntime) {
     ];
     for last in [false, true] {
         for (room, want, text) in rows {
-            make_calls(&rt, UTF_8, &[(&[0xF0, 0x90, 0x41], last, room, want, text)]);
+            make_calls(
+                rt.alloc(),
+                UTF_8,
+                &[(&[0xF0, 0x90, 0x41], last, room, want, text)],
+            )?;
         }
     }
+    Ok(())
 }
 
 const PLACES: &[ReportingCall<'static>] = &[
@@ -101,8 +111,8 @@ const PLACES: &[ReportingCall<'static>] = &[
 ];
 
 #[test]
-fn malformed_sequences_are_placed(rt: HostRuntime) {
-    make_reporting_calls(&rt, UTF_8, PLACES);
+fn malformed_sequences_are_placed(rt: HostRuntime) -> Result<(), Fail> {
+    make_reporting_calls(rt.alloc(), UTF_8, PLACES)
 }
 
 /// The slow decoder of whole inputs makes the same text.
@@ -160,7 +170,7 @@ const INPUTS: &[Row] = &[
 
 #[test]
 fn cuts_and_rooms_change_nothing(rt: HostRuntime) -> Result<(), Fail> {
-    compare_all(&rt, rt.alloc(), (UTF_8, Utf8Decoder::new()), INPUTS)?;
+    compare_all(rt.alloc(), (UTF_8, Utf8Decoder::new()), INPUTS)?;
     for row in INPUTS {
         compare_plain(&rt, rt.alloc(), row)?;
     }

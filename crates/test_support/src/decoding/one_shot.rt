@@ -1,0 +1,119 @@
+//! One-shot calls, beside runs of their mode.
+
+use crate::cases::{Case, expect, expect_bytes};
+use crate::decoding::calls::{decode_chunk, new_decoder};
+use crate::decoding::reads::compare_read;
+use crate::decoding::rows::Input;
+use crate::decoding::runs::Use;
+use encoding_rs::run::{BomHandling, DecodeCall, decode_run};
+use encoding_rs::{Encoding, OneShotError};
+use std::alloc::Global;
+use std::test::Fail;
+
+/// An encoding, and the byte order marks that are looked for.
+pub type Mode = (Encoding, BomHandling);
+
+/// The answer of the one-shot call with replacement that looks for these marks: the text, the encoding that was used, and whether
+/// something was malformed.
+pub fn decode_at_once(
+    alloc: Global,
+    (encoding, handling): Mode,
+    bytes: &[u8],
+) -> Result<(String, Encoding, bool), OneShotError> {
+    let (text, had_errors) = match handling {
+        BomHandling::Sniff => return encoding.decode(alloc, bytes),
+        BomHandling::Remove => encoding.decode_with_bom_removal(alloc, bytes)?,
+        BomHandling::Off => encoding.decode_without_bom_handling(alloc, bytes)?,
+    };
+    Ok((text, encoding, had_errors))
+}
+
+/// The call without replacement returns the text, or nothing if something is malformed.
+pub fn compare_strict(
+    alloc: Global,
+    (encoding, bytes): (Encoding, &[u8]),
+    (text, had_errors): (&[u8], bool),
+) -> Result<(), Fail> {
+    let case = Case {
+        name: encoding.name(),
+        input: bytes,
+        room: 0,
+    };
+    let strict = encoding.decode_without_bom_handling_and_without_replacement(alloc, bytes)?;
+    expect(strict.is_none() == had_errors, "a text or none", &case)?;
+    match strict {
+        Some(strict) => expect_bytes(strict.as_bytes(), text, "another strict text", &case),
+        None => Ok(()),
+    }
+}
+
+/// One-shot calls come to what a run of one call with room enough comes to. Returns its text, and whether something was malformed.
+pub fn compare_with_run(
+    alloc: Global,
+    (encoding, handling): Mode,
+    bytes: &[u8],
+) -> Result<(String, bool), Fail> {
+    let room = bytes.len().saturating_mul(3).saturating_add(3);
+    let case = Case {
+        name: encoding.name(),
+        input: bytes,
+        room,
+    };
+    let call = DecodeCall {
+        utf16: false,
+        replace: true,
+        offer: bytes.len(),
+        room,
+    };
+    let report = decode_run(alloc, encoding, handling, bytes, &[call])?;
+    expect(report.finished, "not finished", &case)?;
+    let (text, by, had_errors) = decode_at_once(alloc, (encoding, handling), bytes)?;
+    let want = report.text.as_bytes();
+    expect_bytes(text.as_bytes(), want, "another text at once", &case)?;
+    expect(by == report.encoding, "another encoding", &case)?;
+    expect(had_errors == report.had_errors, "errors or none", &case)?;
+    if handling == BomHandling::Off {
+        let answer = (text.as_bytes(), had_errors);
+        compare_strict(alloc, (encoding, bytes), answer)?;
+    }
+    Ok((text, had_errors))
+}
+
+/// One-shot calls of the mode of a use come to the text of the input, and a reader to that of the call that looks for all marks.
+pub(crate) fn compare_at_once(alloc: Global, way: Use, input: &Input<'_>) -> Result<(), Fail> {
+    let case = Case {
+        name: way.encoding.name(),
+        input: input.bytes,
+        room: 0,
+    };
+    compare_read(alloc, way.encoding, input.bytes)?;
+    let mode = (way.encoding, way.handling);
+    let (text, had_errors) = compare_with_run(alloc, mode, input.bytes)?;
+    expect_bytes(text.as_bytes(), input.text, "another text at once", &case)?;
+    let is_malformed = !input.malformed.is_empty();
+    expect(had_errors == is_malformed, "errors or none", &case)
+}
+
+/// No call of a single byte writes more.
+const ROOM: usize = 32;
+
+/// A decoder that is offered the bytes one by one writes this text.
+pub fn compare_single_bytes(
+    alloc: Global,
+    (encoding, handling): Mode,
+    bytes: &[u8],
+    text: &[u8],
+) -> Result<(), Fail> {
+    let mut decoder = new_decoder(encoding, handling);
+    let mut written = Vec::new(alloc);
+    for byte in bytes.chunks(1) {
+        decode_chunk(alloc, &mut decoder, (byte, false), ROOM, &mut written)?;
+    }
+    decode_chunk(alloc, &mut decoder, (&[], true), ROOM, &mut written)?;
+    let case = Case {
+        name: encoding.name(),
+        input: bytes,
+        room: ROOM,
+    };
+    expect_bytes(&written, text, "single bytes differ", &case)
+}

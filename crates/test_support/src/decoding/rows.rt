@@ -1,0 +1,78 @@
+//! The form of an example: an input, its text, and the offsets of its malformed sequences. All decoders run the same.
+
+use std::alloc::{AllocError, Global};
+
+/// Room enough for any call of a row.
+pub const MOST_ROOM: usize = 64;
+
+/// U+FFFD, which stands for a malformed sequence.
+pub(crate) const REPLACEMENT_CHARACTER: &str = "\u{FFFD}";
+
+/// An input, and what has to come of it.
+#[derive(Clone, Copy)]
+pub struct Input<'a> {
+    /// The bytes.
+    pub bytes: &'a [u8],
+    /// Its text, with U+FFFD for each malformed sequence, and nowhere else.
+    pub text: &'a [u8],
+    /// The offset and the length of each malformed sequence.
+    pub malformed: &'a [(usize, usize)],
+    /// The room in which a run of calls reaches the end.
+    pub room: usize,
+}
+
+/// A row of a table: the bytes, the text, the malformed sequences and the room of an input. Tables are constants of such rows,
+/// since the prover looks at each row that a function makes.
+pub type Row = (
+    &'static [u8],
+    &'static str,
+    &'static [(usize, usize)],
+    usize,
+);
+
+/// The input of a row.
+pub fn input_of(row: &Row) -> Input<'static> {
+    Input {
+        bytes: row.0,
+        text: row.1.as_bytes(),
+        malformed: row.2,
+        room: row.3,
+    }
+}
+
+/// How an input is cut into chunks.
+#[derive(Clone, Copy)]
+pub enum Cut {
+    /// Not at all.
+    Nowhere,
+    /// In two, at this offset.
+    At(usize),
+    /// Into single bytes and an empty last chunk.
+    Everywhere,
+}
+
+/// Splits at an offset, or at the end if that comes first.
+pub(crate) fn split<T>(items: &[T], at: usize) -> (&[T], &[T]) {
+    items.split_at(at.min(items.len()))
+}
+
+/// The chunks of an input.
+pub(crate) fn chunks_of(alloc: Global, bytes: &[u8], cut: Cut) -> Result<Vec<&[u8]>, AllocError> {
+    let mut chunks = Vec::new(alloc);
+    let rest = match cut {
+        Cut::Nowhere => bytes,
+        Cut::At(place) => {
+            let (front, back) = split(bytes, place);
+            chunks.push(front)?;
+            back
+        }
+        Cut::Everywhere => {
+            for byte in bytes.chunks(1) {
+                chunks.push(byte)?;
+            }
+            &[]
+        }
+    };
+    chunks.push(rest)?;
+    Ok(chunks)
+}

@@ -1,0 +1,123 @@
+//! Decoders that are offered a byte at a time. In the rooms that length queries return they are never full, and with room for any
+//! character their runs end within two calls for each byte and one more.
+
+use crate::cases::{Case, expect, expect_bytes};
+use crate::decoding::outputs::Output;
+use crate::decoding::rows::Cut;
+use crate::decoding::runs::{Use, run_cut, run_whole};
+use encoding_rs::Encoding;
+use encoding_rs::run::{BomHandling, DecodeCall, decode_run};
+use std::alloc::{AllocError, Global};
+use std::test::Fail;
+
+/// The first bytes of a byte order mark that breaks off after each of them; and nothing.
+const FRONTS: [&[u8]; 5] = [b"", b"\xEF", b"\xEF\xBB", b"\xFE", b"\xFF"];
+
+/// No room here is greater.
+const GREATEST_ROOM: usize = 7;
+
+/// `count` calls of the kind of a use, each of which is offered a byte.
+fn single_byte_calls(
+    alloc: Global,
+    way: Use,
+    room: usize,
+    count: usize,
+) -> Result<Vec<DecodeCall>, AllocError> {
+    let call = DecodeCall {
+        utf16: way.output == Output::Utf16,
+        replace: !way.reporting,
+        offer: 1,
+        room,
+    };
+    vec![in alloc; call; count]
+}
+
+/// Whether `room` code units are room for any character, and for U+FFFD.
+fn has_room_for_any(way: Use, room: usize) -> bool {
+    if way.output == Output::Utf16 {
+        return room >= 2;
+    }
+    room >= 4
+}
+
+/// A run of two calls for each byte and one more has written a prefix of this text; all of it, if each call has room for any
+/// character.
+fn compare_end(
+    alloc: Global,
+    (way, room): (Use, usize),
+    bytes: &[u8],
+    text: &[u8],
+) -> Result<(), Fail> {
+    let count = bytes.len().saturating_mul(2).saturating_add(1);
+    let calls = single_byte_calls(alloc, way, room, count)?;
+    let report = decode_run(alloc, way.encoding, way.handling, bytes, &calls)?;
+    let case = Case {
+        name: way.encoding.name(),
+        input: bytes,
+        room,
+    };
+    let written = report.text.as_bytes();
+    if report.finished {
+        return expect_bytes(written, text, "another text", &case);
+    }
+    expect(text.starts_with(written), "no prefix of the text", &case)?;
+    expect(!has_room_for_any(way, room), "not finished", &case)
+}
+
+/// The text of an input at once is also that of its single bytes, in the rooms that length queries return, in which the decoder
+/// is never full. A run in each room from 0 to 7 writes a prefix of it.
+fn compare_single_offers(alloc: Global, way: Use, bytes: &[u8]) -> Result<(), Fail> {
+    let case = Case {
+        name: way.encoding.name(),
+        input: bytes,
+        room: 0,
+    };
+    let whole = run_whole(alloc, way, bytes)?;
+    expect(whole.is_finished, "the whole is not finished", &case)?;
+    let queries = Use {
+        queries: true,
+        ..way
+    };
+    let single = run_cut(alloc, queries, bytes, Cut::Everywhere, 0)?;
+    expect(single.is_finished, "single bytes are not finished", &case)?;
+    expect_bytes(&single.text, &whole.text, "single bytes differ", &case)?;
+    for room in 0..GREATEST_ROOM + 1 {
+        compare_end(alloc, (way, room), bytes, &whole.text)?;
+    }
+    Ok(())
+}
+
+/// Offers single bytes into code units of UTF-8 and of UTF-16, with replacement and without.
+pub fn compare_small_offers(
+    alloc: Global,
+    (encoding, handling): (Encoding, BomHandling),
+    bytes: &[u8],
+) -> Result<(), Fail> {
+    for output in [Output::Utf8, Output::Utf16] {
+        for reporting in [false, true] {
+            let way = Use {
+                output,
+                reporting,
+                ..Use::new(encoding, handling)
+            };
+            compare_single_offers(alloc, way, bytes)?;
+        }
+    }
+    Ok(())
+}
+
+/// The same after marks that break off, by decoders that look for all marks, for that of their encoding, and for none.
+pub(crate) fn compare_after_broken_marks(
+    alloc: Global,
+    encoding: Encoding,
+    bytes: &[u8],
+) -> Result<(), Fail> {
+    for front in FRONTS {
+        let mut all = front.to_vec(alloc)?;
+        all.extend_from_slice(bytes)?;
+        for handling in [BomHandling::Off, BomHandling::Sniff, BomHandling::Remove] {
+            compare_small_offers(alloc, (encoding, handling), &all)?;
+        }
+    }
+    Ok(())
+}
