@@ -7,4 +7,6 @@
 
 pub mod cases;
 pub mod devices;
+pub mod encoding;
 pub mod encodings;
+pub mod growths;
