@@ -76,7 +76,11 @@ fn compare_decoded(alloc: Global, encoding: Encoding, bytes: &[u8]) -> Result<()
     let (text, had_errors) = encoding.decode_without_bom_handling(alloc, bytes)?;
     expect(!had_errors, "malformed", &case)?;
     let strict = encoding.decode_without_bom_handling_and_without_replacement(alloc, bytes)?;
-    expect(strict == Some(text), "another text without replacement", &case)
+    expect(
+        strict == Some(text),
+        "another text without replacement",
+        &case,
+    )
 }
 
 /// Encodes a long text in every encoding: at once, by a run and by single characters; and decodes its bytes.

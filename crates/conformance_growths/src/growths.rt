@@ -10,9 +10,8 @@ use encoding_rs::run::{DecodeCall, EncodeCall};
 use encoding_rs::*;
 use std::test::Fail;
 use test_support::growths::{
-    Call, DecodeRow, DecodeRunRow, EncodeRow, EncodeRunRow, LONG, Pattern, Refused,
-    compare_decode, compare_decode_run, compare_encode, compare_encode_run, compare_text,
-    decode_by, print_refused,
+    Call, DecodeRow, DecodeRunRow, EncodeRow, EncodeRunRow, LONG, Pattern, Refused, compare_decode,
+    compare_decode_run, compare_encode, compare_encode_run, compare_text, decode_by, print_refused,
 };
 
 /// After the byte order mark of UTF-8, text with a malformed byte over and over.

@@ -33,7 +33,5 @@ pub fn expect_bytes(
         return Ok(());
     }
     let Case { name, input, room } = *case;
-    Err(Fail::new(format_args!(
-        "{what}: {got:?}, not {want:?}: {name}, {input:?}, room {room}"
-    )))
+    Err(Fail::new(format_args!("{what}: {got:?}, not {want:?}: {name}, {input:?}, room {room}")))
 }

@@ -170,11 +170,7 @@ fn case_of(encoding: Encoding, input: &Pattern) -> Case<'static> {
 }
 
 /// Makes the call, and a second time if memory is refused. Returns whether it was.
-fn decode_again(
-    alloc: Global,
-    row: &DecodeRow,
-    bytes: &[u8],
-) -> Result<(Answer, bool), Fail> {
+fn decode_again(alloc: Global, row: &DecodeRow, bytes: &[u8]) -> Result<(Answer, bool), Fail> {
     match decode_by(alloc, row.call, row.encoding, bytes) {
         Ok(answer) => Ok((answer, false)),
         Err(OneShotError::TooLong) => Err(Fail::new("a length is too long")),
@@ -191,7 +187,11 @@ pub fn compare_decode(rt: &impl Print, alloc: Global, row: &DecodeRow) -> Result
     let (bytes, input) = input_of(alloc, &row.bytes)?;
     let ((text, used, had_errors), call) = decode_again(alloc, row, &bytes)?;
     expect(used == row.used, "another encoding is used", &case)?;
-    expect(had_errors == row.is_malformed, "malformed input is reported otherwise", &case)?;
+    expect(
+        had_errors == row.is_malformed,
+        "malformed input is reported otherwise",
+        &case,
+    )?;
     compare_text(text, &row.text)?;
     print_refused(rt, alloc, Refused { input, call })
 }
@@ -232,7 +232,11 @@ pub fn compare_encode(rt: &impl Print, alloc: Global, row: &EncodeRow) -> Result
     let ((bytes, used, had_unmappables), call) = encode_again(alloc, row, str::from_utf8(&utf8)?)?;
     expect(used == row.encoding, "another encoding is used", &case)?;
     let is_same = had_unmappables == row.has_references;
-    expect(is_same, "unmappable characters are reported otherwise", &case)?;
+    expect(
+        is_same,
+        "unmappable characters are reported otherwise",
+        &case,
+    )?;
     compare(&bytes, &row.bytes)?;
     print_refused(rt, alloc, Refused { input, call })
 }
@@ -254,12 +258,15 @@ pub struct DecodeRunRow {
     pub fault: (usize, usize),
 }
 
-/// Whether two calls are the same.
-fn is_same_decode_call(call: &DecodeCall, want: &DecodeCall) -> bool {
-    call.utf16 == want.utf16
-        && call.replace == want.replace
-        && call.offer == want.offer
-        && call.room == want.room
+/// Whether two lists have the same calls.
+fn are_same_decode_calls(calls: &[DecodeCall], want: &[DecodeCall]) -> bool {
+    for (call, want) in calls.iter().zip(want) {
+        let is_same_kind = call.utf16 == want.utf16 && call.replace == want.replace;
+        if !is_same_kind || call.offer != want.offer || call.room != want.room {
+            return false;
+        }
+    }
+    calls.len() == want.len()
 }
 
 /// Makes the run, and a second time if memory is refused. Returns whether it was.
@@ -273,9 +280,12 @@ fn decode_run_again(
         Ok(report) => Ok((report, false)),
         Err(RunError::Memory) => {
             compare(bytes, &row.bytes)?;
-            let is_same = is_same_decode_call(&calls[0], &row.calls[0])
-                && is_same_decode_call(&calls[1], &row.calls[1]);
-            expect(is_same, "a run changes its calls", &case_of(row.encoding, &row.bytes))?;
+            let is_same = are_same_decode_calls(&calls, &row.calls);
+            expect(
+                is_same,
+                "a run changes its calls",
+                &case_of(row.encoding, &row.bytes),
+            )?;
             let report = decode_run(alloc, row.encoding, sniff, bytes, &calls)?;
             Ok((report, true))
         }
@@ -292,7 +302,11 @@ fn compare_decode_report(report: &DecodeReport, row: &DecodeRunRow) -> Result<()
     expect(is_same, "other malformed sequences are reported", &case)?;
     expect(report.had_errors, "nothing is malformed", &case)?;
     expect(report.finished, "the run does not finish", &case)?;
-    expect(report.encoding == row.used, "another encoding is used", &case)
+    expect(
+        report.encoding == row.used,
+        "another encoding is used",
+        &case,
+    )
 }
 
 /// Makes the run, and a second time if memory is refused.
@@ -320,12 +334,15 @@ pub struct EncodeRunRow {
     pub unmappable: char,
 }
 
-/// Whether two calls are the same.
-fn is_same_encode_call(call: &EncodeCall, want: &EncodeCall) -> bool {
-    call.utf16 == want.utf16
-        && call.replace == want.replace
-        && call.offer == want.offer
-        && call.room == want.room
+/// Whether two lists have the same calls.
+fn are_same_encode_calls(calls: &[EncodeCall], want: &[EncodeCall]) -> bool {
+    for (call, want) in calls.iter().zip(want) {
+        let is_same_kind = call.utf16 == want.utf16 && call.replace == want.replace;
+        if !is_same_kind || call.offer != want.offer || call.room != want.room {
+            return false;
+        }
+    }
+    calls.len() == want.len()
 }
 
 /// Makes the run, and a second time if memory is refused. Returns whether it was.
@@ -339,9 +356,12 @@ fn encode_run_again(
         Ok(report) => Ok((report, false)),
         Err(RunError::Memory) => {
             compare(text.as_bytes(), &row.text)?;
-            let is_same = is_same_encode_call(&calls[0], &row.calls[0])
-                && is_same_encode_call(&calls[1], &row.calls[1]);
-            expect(is_same, "a run changes its calls", &case_of(row.encoding, &row.text))?;
+            let is_same = are_same_encode_calls(&calls, &row.calls);
+            expect(
+                is_same,
+                "a run changes its calls",
+                &case_of(row.encoding, &row.text),
+            )?;
             let report = encode_run(alloc, row.encoding, text, &calls)?;
             Ok((report, true))
         }
@@ -352,7 +372,11 @@ fn encode_run_again(
 fn compare_encode_report(report: &EncodeReport, row: &EncodeRunRow) -> Result<(), Fail> {
     let case = case_of(row.encoding, &row.text);
     compare(&report.bytes, &row.bytes)?;
-    expect(report.read == row.chars, "another number of characters is read", &case)?;
+    expect(
+        report.read == row.chars,
+        "another number of characters is read",
+        &case,
+    )?;
     expect(report.calls == 2, "another number of calls is made", &case)?;
     let is_same = report.unmappables.as_slice() == [row.unmappable].as_slice();
     expect(is_same, "other unmappable characters are reported", &case)?;

@@ -50,7 +50,11 @@ fn compare_call(
     let mut bytes = Vec::new(alloc);
     let answer = make_call(alloc, encoder, way, offer, &mut bytes)?;
     compare_answer((answer, &bytes), (want, want_bytes), way.name(), &case)?;
-    expect(bytes.len() == written, "a call writes another number of bytes", &case)
+    expect(
+        bytes.len() == written,
+        "a call writes another number of bytes",
+        &case,
+    )
 }
 
 /// Makes the calls from UTF-8 with one encoder.
@@ -59,8 +63,8 @@ pub fn make_encoder_calls(
     encoder: &mut Encoder,
     calls: &[EncoderCall<'_>],
 ) -> Result<(), Fail> {
-    for (text, last, room, (result, read, written), bytes) in calls {
-        let want = Answer::new(*result, *read, false);
+    for (text, last, room, (stop, read, written), bytes) in calls {
+        let want = Answer::new(*stop, *read, false);
         let offer = Offer {
             text,
             last: *last,
@@ -109,7 +113,7 @@ pub fn make_call_from_utf16(
     alloc: Global,
     encoder: &mut Encoder,
     (units, last, room): (&[u16], bool, usize),
-    (result, read, written): (EncoderResult, usize, usize),
+    (stop, read, written): (EncoderResult, usize, usize),
     want_bytes: &[u8],
 ) -> Result<(), Fail> {
     let text = String::from_utf16_lossy(alloc, units)?;
@@ -118,9 +122,19 @@ pub fn make_call_from_utf16(
         input: text.as_bytes(),
         room,
     };
-    let want = Answer::new(result, read, false);
+    let want = Answer::new(stop, read, false);
     let mut bytes = Vec::new(alloc);
-    let answer = call_to_slice(encoder, false, (Input::Utf16(units), last), room, &mut bytes)?;
+    let answer = call_to_slice(
+        encoder,
+        false,
+        (Input::Utf16(units), last),
+        room,
+        &mut bytes,
+    )?;
     compare_answer((answer, &bytes), (want, want_bytes), "from UTF-16", &case)?;
-    expect(bytes.len() == written, "a call writes another number of bytes", &case)
+    expect(
+        bytes.len() == written,
+        "a call writes another number of bytes",
+        &case,
+    )
 }

@@ -30,7 +30,7 @@ pub struct Offer<'a> {
 #[derive(Clone, Copy)]
 pub struct Answer {
     /// Why it stopped.
-    pub result: EncoderResult,
+    pub stop: EncoderResult,
     /// The length of its input that it has read.
     pub read: usize,
     /// Whether it has written a reference.
@@ -39,9 +39,9 @@ pub struct Answer {
 
 impl Answer {
     /// An answer of these parts.
-    pub fn new(result: EncoderResult, read: usize, replaced: bool) -> Answer {
+    pub fn new(stop: EncoderResult, read: usize, replaced: bool) -> Answer {
         Answer {
-            result,
+            stop,
             read,
             replaced,
         }
@@ -96,8 +96,8 @@ fn units_of(alloc: Global, text: &str) -> Result<Vec<u16>, AllocError> {
 }
 
 /// The answer and the number of bytes of a call without replacement.
-fn reported((result, read, written): (EncoderResult, usize, usize)) -> (Answer, usize) {
-    (Answer::new(result, read, false), written)
+fn reported((stop, read, written): (EncoderResult, usize, usize)) -> (Answer, usize) {
+    (Answer::new(stop, read, false), written)
 }
 
 /// The answer and the number of bytes of a call with replacement.
@@ -163,10 +163,10 @@ fn call_to_vec(
         let (stop, read, replaced) = encoder.encode_from_utf8_to_vec(text, &mut vec, last);
         replacing((stop, read, 0, replaced))
     } else {
-        let (result, read) = encoder.encode_from_utf8_to_vec_without_replacement(
+        let (stop, read) = encoder.encode_from_utf8_to_vec_without_replacement(
             text, &mut vec, last,
         );
-        reported((result, read, 0))
+        reported((stop, read, 0))
     };
     match vec.as_slice().strip_prefix(FRONT) {
         Some(appended) if vec.capacity() == capacity => bytes.extend_from_slice(appended)?,
@@ -186,7 +186,13 @@ pub fn make_call(
     let Offer { text, last, room } = *offer;
     match way.source {
         Source::Utf8 => {
-            call_to_slice(encoder, way.replaces, (Input::Utf8(text), last), room, bytes)
+            call_to_slice(
+                encoder,
+                way.replaces,
+                (Input::Utf8(text), last),
+                room,
+                bytes,
+            )
         }
         Source::Utf16 => {
             let units = units_of(alloc, text)?;
@@ -201,7 +207,7 @@ pub fn make_call(
 /// The answer of a call from UTF-16, in bytes of UTF-8.
 fn in_bytes(text: &str, answer: Answer) -> Result<Answer, Fail> {
     match bytes_of_units(text, answer.read) {
-        Some(read) => Ok(Answer::new(answer.result, read, answer.replaced)),
+        Some(read) => Ok(Answer::new(answer.stop, read, answer.replaced)),
         None => Err(Fail::new("a call from UTF-16 stops within a character")),
     }
 }
@@ -214,7 +220,19 @@ pub fn compare_answer(
     case: &Case<'_>,
 ) -> Result<(), Fail> {
     expect_bytes(bytes, want_bytes, what, case)?;
-    expect(answer.result == want.result, "a call stops for another reason", case)?;
-    expect(answer.read == want.read, "a call reads another length", case)?;
-    expect(answer.replaced == want.replaced, "a reference is reported otherwise", case)
+    expect(
+        answer.stop == want.stop,
+        "a call stops for another reason",
+        case,
+    )?;
+    expect(
+        answer.read == want.read,
+        "a call reads another length",
+        case,
+    )?;
+    expect(
+        answer.replaced == want.replaced,
+        "a reference is reported otherwise",
+        case,
+    )
 }

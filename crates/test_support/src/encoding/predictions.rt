@@ -40,8 +40,14 @@ fn report_to(
     bytes: &mut Vec<u8>,
 ) -> Result<EncoderResult, Fail> {
     let room = limit.saturating_sub(bytes.len()).min(MOST_ROOM);
-    let answer = make_call(alloc, encoder, REPORTING, &Offer { text, last, room }, bytes)?;
-    Ok(answer.result)
+    let answer = make_call(
+        alloc,
+        encoder,
+        REPORTING,
+        &Offer { text, last, room },
+        bytes,
+    )?;
+    Ok(answer.stop)
 }
 
 /// Predicts the answer of a call with replacement that keeps `kept` bytes back, and appends its bytes.
@@ -53,25 +59,25 @@ pub fn predict(
 ) -> Result<Answer, Fail> {
     let (mut read, mut replaced, mut local) = (0_usize, false, [0; 4]);
     let Some(limit) = offer.room.checked_sub(kept) else {
-        let result = stop_after(encoder, offer, read);
-        return Ok(Answer::new(result, read, replaced));
+        let stop = stop_after(encoder, offer, read);
+        return Ok(Answer::new(stop, read, replaced));
     };
     for character in offer.text.chars() {
         let own = character.encode_utf8(&mut local);
-        let result = report_to(alloc, encoder, (own, false), limit, bytes)?;
-        if result == EncoderResult::OutputFull {
-            return Ok(Answer::new(result, read, replaced));
+        let stop = report_to(alloc, encoder, (own, false), limit, bytes)?;
+        if stop == EncoderResult::OutputFull {
+            return Ok(Answer::new(stop, read, replaced));
         }
         read = read.saturating_add(character.len_utf8());
-        if let EncoderResult::Unmappable(reported) = result {
+        if let EncoderResult::Unmappable(reported) = stop {
             push_reference(alloc, bytes, reported)?;
             replaced = true;
             if bytes.len() >= limit {
-                let result = stop_after(encoder, offer, read);
-                return Ok(Answer::new(result, read, replaced));
+                let stop = stop_after(encoder, offer, read);
+                return Ok(Answer::new(stop, read, replaced));
             }
         }
     }
-    let result = report_to(alloc, encoder, ("", offer.last), limit, bytes)?;
-    Ok(Answer::new(result, read, replaced))
+    let stop = report_to(alloc, encoder, ("", offer.last), limit, bytes)?;
+    Ok(Answer::new(stop, read, replaced))
 }

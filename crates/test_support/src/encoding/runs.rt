@@ -1,9 +1,7 @@
 //! Runs of an encoder over a text, in each way.
 
 use crate::cases::{Case, expect, expect_bytes};
-use crate::encoding::calls::{
-    Answer, MOST_ROOM, Offer, compare_answer, make_call, rest_of,
-};
+use crate::encoding::calls::{Answer, MOST_ROOM, Offer, compare_answer, make_call, rest_of};
 use crate::encoding::predictions::{predict, push_reference};
 use crate::encoding::single_characters::compare_single_characters;
 use crate::encoding::ways::{ALL_WAYS, Asked, Way, encoder_of, kept_back};
@@ -73,7 +71,11 @@ fn compare_predicted(
     let want = predict(alloc, model, offer, &mut want_bytes)?;
     compare_answer((answer, bytes), (want, &want_bytes), run.way.name(), &case)?;
     let is_same = run.encoder.has_pending_state() == run.model.has_pending_state();
-    expect(is_same, "another state is pending than after calls without replacement", &case)
+    expect(
+        is_same,
+        "another state is pending than after calls without replacement",
+        &case,
+    )
 }
 
 /// Makes a call.
@@ -83,7 +85,7 @@ fn call(alloc: Global, run: &mut Run, offer: &Offer<'_>) -> Result<Answer, Fail>
     if run.way.replaces {
         compare_predicted(alloc, run, offer, (answer, &bytes))?;
     }
-    let is_full = answer.result == EncoderResult::OutputFull;
+    let is_full = answer.stop == EncoderResult::OutputFull;
     run.is_stuck = is_full && bytes.is_empty() && answer.read == 0;
     run.replaced |= answer.replaced;
     run.bytes.extend_from_slice(&bytes)?;
@@ -105,10 +107,14 @@ fn offer(alloc: Global, run: &mut Run, text: &str, last: bool) -> Result<(), Fai
         };
         let answer = call(alloc, run, &offer)?;
         unread = rest_of(unread, answer.read)?;
-        match answer.result {
+        match answer.stop {
             EncoderResult::InputEmpty => {
                 let case = case_of(run.asked, text, room);
-                return expect(unread.is_empty(), "a call reads less than it reports", &case);
+                return expect(
+                    unread.is_empty(),
+                    "a call reads less than it reports",
+                    &case,
+                );
             }
             EncoderResult::OutputFull => (),
             EncoderResult::Unmappable(character) => {
@@ -131,7 +137,11 @@ fn compare(run: &Run, row: &EncoderRow) -> Result<(), Fail> {
         return expect_bytes(bytes, row.1, way.name(), &case);
     }
     let has_room = run.room >= way.room_enough(run.asked);
-    expect(!has_room, "a call neither reads nor writes, but has room", &case)?;
+    expect(
+        !has_room,
+        "a call neither reads nor writes, but has room",
+        &case,
+    )?;
     let (front, _) = row.1.split_at(bytes.len().min(row.1.len()));
     expect_bytes(bytes, front, way.name(), &case)
 }
@@ -185,11 +195,7 @@ pub fn compare_cuts(alloc: Global, asked: Asked, row: &EncoderRow) -> Result<(),
 }
 
 /// Runs the rows in every cut and way, and through one-shot calls.
-pub fn compare_encoded(
-    alloc: Global,
-    encoding: Encoding,
-    rows: &[EncoderRow],
-) -> Result<(), Fail> {
+pub fn compare_encoded(alloc: Global, encoding: Encoding, rows: &[EncoderRow]) -> Result<(), Fail> {
     for row in rows {
         let bytes = compare_with_run(alloc, encoding, row.0)?;
         let case = case_of((encoding, &[]), row.0, row.0.len());
@@ -215,7 +221,11 @@ pub fn compare_ways(alloc: Global, encoding: Encoding, text: &str) -> Result<(),
     for way in ALL_WAYS {
         let run = run_whole(alloc, encoding, way, text)?;
         expect_bytes(&run.bytes, &whole, way.name(), &case)?;
-        expect(run.replaced == has_references, "references are reported otherwise", &case)?;
+        expect(
+            run.replaced == has_references,
+            "references are reported otherwise",
+            &case,
+        )?;
     }
     Ok(())
 }

@@ -44,7 +44,7 @@ fn offer_in_queried_room(
         };
         let answer = make_call(alloc, encoder, way, &offer, bytes)?;
         unread = rest_of(unread, answer.read)?;
-        match answer.result {
+        match answer.stop {
             EncoderResult::InputEmpty => return Ok(()),
             EncoderResult::Unmappable(reported) => push_reference(alloc, bytes, reported)?,
             EncoderResult::OutputFull if answer.replaced => (),

@@ -21,12 +21,24 @@ pub fn compare_with_run(alloc: Global, encoding: Encoding, text: &str) -> Result
         room: call.room,
     };
     let report = encode_run(alloc, encoding, text, &[call])?;
-    expect(report.finished, "a run with room enough does not finish", &case)?;
+    expect(
+        report.finished,
+        "a run with room enough does not finish",
+        &case,
+    )?;
     let (bytes, used, had_unmappables) = encoding.encode(alloc, text)?;
     expect_bytes(&bytes, &report.bytes, "a one-shot call", &case)?;
-    expect(used == encoding.output_encoding(), "another encoding is reported", &case)?;
+    expect(
+        used == encoding.output_encoding(),
+        "another encoding is reported",
+        &case,
+    )?;
     let is_same = had_unmappables == report.had_unmappables;
-    expect(is_same, "unmappable characters are reported otherwise", &case)?;
+    expect(
+        is_same,
+        "unmappable characters are reported otherwise",
+        &case,
+    )?;
     Ok(bytes)
 }
 
@@ -58,7 +70,9 @@ pub fn compare_by_characters(encoding: Encoding, text: &str, bytes: &[u8]) -> Re
     }
     let rest = encode_next(&mut encoder, ("", true), expected)?;
     if !rest.is_empty() {
-        return Err(Fail::new(format_args!("{encoding:?}: a text has more bytes than its characters")));
+        return Err(Fail::new(format_args!(
+            "{encoding:?}: a text has more bytes than its characters"
+        )));
     }
     Ok(())
 }
