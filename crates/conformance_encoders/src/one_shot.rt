@@ -46,7 +46,7 @@ fn whole_texts_have_these_bytes(rt: HostRuntime) -> Result<(), Fail> {
 }
 
 /// The length of the long text, in bytes of UTF-8.
-const LONG: usize = 100_000;
+const LONG: usize = 10_000;
 
 /// Characters of many encodings.
 const CHARACTERS: &str =

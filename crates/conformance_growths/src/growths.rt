@@ -11,7 +11,8 @@ use encoding_rs::*;
 use std::test::Fail;
 use test_support::growths::{
     Call, DecodeRow, DecodeRunRow, EncodeRow, EncodeRunRow, LONG, Pattern, Refused, compare_decode,
-    compare_decode_run, compare_encode, compare_encode_run, compare_text, decode_by, print_refused,
+    compare_decode_run, compare_empty, compare_empty_text, compare_encode, compare_encode_run,
+    print_refused,
 };
 
 /// After the byte order mark of UTF-8, text with a malformed byte over and over.
@@ -230,12 +231,6 @@ fn a_run_of_encode_calls(rt: HostRuntime) -> Result<(), Fail> {
     compare_encode_run(&rt, rt.alloc(), &row)
 }
 
-const EMPTY: Pattern = Pattern {
-    front: b"",
-    unit: b"",
-    units: 0,
-};
-
 // The first growth of this test is the one after its calls: so they have none.
 #[test]
 fn empty_inputs_take_no_memory(rt: HostRuntime) -> Result<(), Fail> {
@@ -246,13 +241,9 @@ fn empty_inputs_take_no_memory(rt: HostRuntime) -> Result<(), Fail> {
         Call::WithoutBomHandling,
         Call::WithoutBomHandlingAndWithoutReplacement,
     ] {
-        let (text, used, had_errors) = decode_by(alloc, call, WINDOWS_1252, b"")?;
-        compare_text(text, &EMPTY)?;
-        assert_eq!(rt; (used, had_errors), (WINDOWS_1252, false));
+        compare_empty(alloc, call, WINDOWS_1252)?;
     }
-    let (bytes, used, had_unmappables) = UTF_16LE.encode(alloc, "")?;
-    assert!(rt; bytes.is_empty());
-    assert_eq!(rt; (used, had_unmappables), (UTF_8, false));
+    compare_empty_text(alloc, UTF_16LE, UTF_8)?;
     let refused = Refused {
         input: false,
         call: false,

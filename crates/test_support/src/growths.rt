@@ -62,7 +62,7 @@ fn compare(bytes: &[u8], want: &Pattern) -> Result<(), Fail> {
 }
 
 /// Compares a text with that of the pattern.
-pub fn compare_text(text: Option<String>, want: &Pattern) -> Result<(), Fail> {
+fn compare_text(text: Option<String>, want: &Pattern) -> Result<(), Fail> {
     match text {
         Some(text) => compare(text.as_bytes(), want),
         None => Err(Fail::new("there is no text")),
@@ -118,10 +118,10 @@ pub enum Call {
 }
 
 /// The answer of a one-shot call of a decoder: the text, the encoding that was used, and whether something was malformed.
-pub type Answer = (Option<String>, Encoding, bool);
+type Answer = (Option<String>, Encoding, bool);
 
 /// Makes a one-shot call.
-pub fn decode_by(
+fn decode_by(
     alloc: Global,
     call: Call,
     encoding: Encoding,
@@ -141,6 +141,28 @@ pub fn decode_by(
         }
     };
     Ok((Some(text), encoding, had_errors))
+}
+
+/// Decodes empty input, which is an empty text in the same encoding.
+pub fn compare_empty(alloc: Global, call: Call, encoding: Encoding) -> Result<(), Fail> {
+    let (text, used, had_errors) = decode_by(alloc, call, encoding, b"")?;
+    let is_empty = match text {
+        Some(text) => text.is_empty(),
+        None => false,
+    };
+    if !is_empty || used != encoding || had_errors {
+        return Err(Fail::new("empty input is not decoded to an empty text"));
+    }
+    Ok(())
+}
+
+/// Encodes an empty text, which has no bytes in the output encoding.
+pub fn compare_empty_text(alloc: Global, encoding: Encoding, want: Encoding) -> Result<(), Fail> {
+    let (bytes, used, had_unmappables) = encoding.encode(alloc, "")?;
+    if !bytes.is_empty() || used != want || had_unmappables {
+        return Err(Fail::new("an empty text is not encoded to no bytes"));
+    }
+    Ok(())
 }
 
 /// A one-shot call of a decoder, and its outcome.

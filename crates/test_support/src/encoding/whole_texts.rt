@@ -1,19 +1,22 @@
 //! One-shot calls of encoders, compared with runs and with single characters.
 
 use crate::cases::{Case, expect, expect_bytes};
-use crate::encoding::calls::MOST_ROOM;
 use encoding_rs::run::{EncodeCall, encode_run};
 use encoding_rs::{CoderResult, Encoder, Encoding};
 use std::alloc::Global;
 use std::test::Fail;
 
+/// Room for any character after an escape sequence, and for the 10 bytes that are kept back.
+const ROOM: usize = 24;
+
 /// Compares a one-shot call with a run of one call that has room enough. Returns the bytes.
 pub fn compare_with_run(alloc: Global, encoding: Encoding, text: &str) -> Result<Vec<u8>, Fail> {
+    let (bytes, used, had_unmappables) = encoding.encode(alloc, text)?;
     let call = EncodeCall {
         utf16: false,
         replace: true,
         offer: text.len(),
-        room: text.len().saturating_mul(10).saturating_add(14),
+        room: bytes.len().saturating_add(14),
     };
     let case = Case {
         name: encoding.name(),
@@ -21,24 +24,16 @@ pub fn compare_with_run(alloc: Global, encoding: Encoding, text: &str) -> Result
         room: call.room,
     };
     let report = encode_run(alloc, encoding, text, &[call])?;
-    expect(
-        report.finished,
-        "a run with room enough does not finish",
-        &case,
-    )?;
-    let (bytes, used, had_unmappables) = encoding.encode(alloc, text)?;
+    expect(report.finished, "a run has room and does not finish", &case)?;
     expect_bytes(&bytes, &report.bytes, "a one-shot call", &case)?;
-    expect(
-        used == encoding.output_encoding(),
-        "another encoding is reported",
-        &case,
-    )?;
     let is_same = had_unmappables == report.had_unmappables;
     expect(
         is_same,
         "unmappable characters are reported otherwise",
         &case,
     )?;
+    let is_output = used == encoding.output_encoding();
+    expect(is_output, "another encoding is reported", &case)?;
     Ok(bytes)
 }
 
@@ -48,9 +43,9 @@ fn encode_next<'a>(
     (text, last): (&str, bool),
     expected: &'a [u8],
 ) -> Result<&'a [u8], Fail> {
-    let mut buffer = [0; MOST_ROOM];
+    let mut buffer = [0; ROOM];
     let (stop, read, written, _) = encoder.encode_from_utf8(text, &mut buffer, last);
-    let (wrote, _) = buffer.split_at(written.min(MOST_ROOM));
+    let (wrote, _) = buffer.split_at(written.min(ROOM));
     if stop != CoderResult::InputEmpty || read != text.len() {
         return Err(Fail::new(format_args!("{text} is not read")));
     }
