@@ -1,5 +1,5 @@
-//! The encoders (Encoding Standard 8 to 14): rows of texts and bytes, single calls, and a sum over the answers for single
-//! characters in every encoding.
+//! The encoders (Encoding Standard 8 to 14): rows of texts and bytes, single calls, and a sum over the answers
+//! for single characters in every encoding.
 //!
 //! The bytes of texts are those of Python's codecs (cp932, euc_jp, cp949, big5hkscs, gb18030, iso2022_jp), of Node's
 //! TextEncoder for UTF-8, and by hand from the standard's encoders where these differ: U+00A5, U+203E and U+2212 in the
@@ -10,13 +10,13 @@ mod references;
 mod runs;
 mod sums;
 
-use crate::harness::encoder_calls::{EncoderCall, make_call_from_utf16, make_encoder_calls};
-use crate::harness::encoding::{EncoderRow, compare_encoded};
 use encoding_rs::{
     BIG5, EUC_JP, EUC_KR, EncoderResult, GB18030, GBK, ISO_2022_JP, REPLACEMENT, SHIFT_JIS, UTF_8,
     UTF_16BE, UTF_16LE, WINDOWS_1252, WINDOWS_1257, X_USER_DEFINED,
 };
 use std::test::Fail;
+use test_support::encoding::call_rows::{EncoderCall, make_call_from_utf16, make_encoder_calls};
+use test_support::encoding::runs::{EncoderRow, compare_encoded};
 
 const EMPTY: EncoderResult = EncoderResult::InputEmpty;
 
@@ -37,7 +37,7 @@ fn encodes_utf_8(rt: HostRuntime) -> Result<(), Fail> {
         let encoder = encoding.new_encoder();
         assert_eq!(rt; encoder.encoding(), UTF_8);
         assert!(rt; !encoder.has_pending_state());
-        compare_encoded(&rt, rt.alloc(), encoding, UTF_8_ROWS)?;
+        compare_encoded(rt.alloc(), encoding, UTF_8_ROWS)?;
     }
     Ok(())
 }
@@ -55,20 +55,19 @@ const X_USER_DEFINED_ROWS: &[EncoderRow] = &[(
 #[test]
 fn encodes_single_bytes(rt: HostRuntime) -> Result<(), Fail> {
     assert_eq!(rt; WINDOWS_1252.new_encoder().encoding(), WINDOWS_1252);
-    compare_encoded(&rt, rt.alloc(), WINDOWS_1257, WINDOWS_1257_ROWS)?;
+    compare_encoded(rt.alloc(), WINDOWS_1257, WINDOWS_1257_ROWS)?;
     compare_encoded(
-        &rt,
         rt.alloc(),
         WINDOWS_1252,
         &[("é\u{81}\u{152}💩", b"\xE9\x81\x8C&#128169;")],
     )?;
-    compare_encoded(&rt, rt.alloc(), X_USER_DEFINED, X_USER_DEFINED_ROWS)
+    compare_encoded(rt.alloc(), X_USER_DEFINED, X_USER_DEFINED_ROWS)
 }
 
 const SHIFT_JIS_ROWS: &[EncoderRow] = &[
     ("\u{2212}\u{4E00}", b"\x81\x7C\x88\xEA"),
     ("a\u{80}\u{A5}\u{203E}\u{FF61}\u{FF9F}", b"a\x80\\~\xA1\xDF"),
-    // NEC's and IBM's rows: the first pointer that is not of those that NEC selected
+    // NEC's and IBM's rows: the first pointer outside of the range that NEC selected
     ("①纊黑犱", b"\x87@\xFA\\\xFCK\xFB["),
     ("日本\u{E000}가", b"\x93\xFA\x96{&#57344;&#44032;"),
 ];
@@ -96,9 +95,9 @@ const ISO_2022_JP_ROWS: &[EncoderRow] = &[
 
 #[test]
 fn encodes_japanese(rt: HostRuntime) -> Result<(), Fail> {
-    compare_encoded(&rt, rt.alloc(), SHIFT_JIS, SHIFT_JIS_ROWS)?;
-    compare_encoded(&rt, rt.alloc(), EUC_JP, EUC_JP_ROWS)?;
-    compare_encoded(&rt, rt.alloc(), ISO_2022_JP, ISO_2022_JP_ROWS)
+    compare_encoded(rt.alloc(), SHIFT_JIS, SHIFT_JIS_ROWS)?;
+    compare_encoded(rt.alloc(), EUC_JP, EUC_JP_ROWS)?;
+    compare_encoded(rt.alloc(), ISO_2022_JP, ISO_2022_JP_ROWS)
 }
 
 const EUC_KR_ROWS: &[EncoderRow] = &[("a가힣갂", b"a\xB0\xA1\xC6R\x81A"), ("丂", b"&#19970;")];
@@ -109,14 +108,14 @@ const BIG5_ROWS: &[EncoderRow] = &[
         "\u{2550}\u{255E}\u{2561}\u{256A}",
         b"\xF9\xF9\xF9\xE9\xF9\xEB\xF9\xEA",
     ),
-    // the first only among the Hong Kong additions that stand in front
+    // U+43F0 is only among the Hong Kong additions at the front
     ("\u{43F0}𠕇", b"&#17392;\xFA@"),
 ];
 
 #[test]
 fn encodes_korean_and_big5(rt: HostRuntime) -> Result<(), Fail> {
-    compare_encoded(&rt, rt.alloc(), EUC_KR, EUC_KR_ROWS)?;
-    compare_encoded(&rt, rt.alloc(), BIG5, BIG5_ROWS)
+    compare_encoded(rt.alloc(), EUC_KR, EUC_KR_ROWS)?;
+    compare_encoded(rt.alloc(), BIG5, BIG5_ROWS)
 }
 
 const GB18030_ROWS: &[EncoderRow] = &[
@@ -136,8 +135,8 @@ const GBK_ROWS: &[EncoderRow] = &[
 
 #[test]
 fn encodes_chinese(rt: HostRuntime) -> Result<(), Fail> {
-    compare_encoded(&rt, rt.alloc(), GB18030, GB18030_ROWS)?;
-    compare_encoded(&rt, rt.alloc(), GBK, GBK_ROWS)
+    compare_encoded(rt.alloc(), GB18030, GB18030_ROWS)?;
+    compare_encoded(rt.alloc(), GBK, GBK_ROWS)
 }
 
 const SHIFT_JIS_CALLS: &[EncoderCall<'static>] = &[
@@ -163,13 +162,15 @@ const THEN_KANJI: &[u16] = &[0x61, 0x62, 0x63, 0x4E00];
 const THEN_A_PAIR: &[u16] = &[0x61, 0x62, 0x63, 0xD800, 0xDC00];
 
 #[test]
-fn stops_before_what_does_not_fit(rt: HostRuntime) {
-    make_encoder_calls(&rt, &mut SHIFT_JIS.new_encoder(), SHIFT_JIS_CALLS);
-    make_encoder_calls(&rt, &mut GB18030.new_encoder(), GB18030_CALLS);
+fn stops_before_what_does_not_fit(rt: HostRuntime) -> Result<(), Fail> {
+    let (mut shift_jis, mut gb18030) = (SHIFT_JIS.new_encoder(), GB18030.new_encoder());
+    make_encoder_calls(rt.alloc(), &mut shift_jis, SHIFT_JIS_CALLS)?;
+    make_encoder_calls(rt.alloc(), &mut gb18030, GB18030_CALLS)?;
+    let (mut shift_jis, mut gb18030) = (SHIFT_JIS.new_encoder(), GB18030.new_encoder());
     let abc = (THEN_KANJI, false, 4);
-    make_call_from_utf16(&rt, &mut SHIFT_JIS.new_encoder(), abc, (FULL, 3, 3), b"abc");
+    make_call_from_utf16(rt.alloc(), &mut shift_jis, abc, (FULL, 3, 3), b"abc")?;
     let abc = (THEN_A_PAIR, false, 6);
-    make_call_from_utf16(&rt, &mut GB18030.new_encoder(), abc, (FULL, 3, 3), b"abc");
+    make_call_from_utf16(rt.alloc(), &mut gb18030, abc, (FULL, 3, 3), b"abc")
 }
 
 const AFTER_KANJI: &[EncoderCall<'static>] = &[
@@ -207,25 +208,26 @@ const THREE_SETS: &[EncoderCall<'static>] = &[
 ];
 
 #[test]
-fn designates_character_sets(rt: HostRuntime) {
-    let mut encoder = ISO_2022_JP.new_encoder();
-    make_encoder_calls(&rt, &mut encoder, AFTER_KANJI);
+fn designates_character_sets(rt: HostRuntime) -> Result<(), Fail> {
+    let (alloc, mut encoder) = (rt.alloc(), ISO_2022_JP.new_encoder());
+    make_encoder_calls(alloc, &mut encoder, AFTER_KANJI)?;
     assert!(rt; !encoder.has_pending_state());
-    make_encoder_calls(&rt, &mut encoder, AFTER_ROMAN);
-    make_encoder_calls(&rt, &mut encoder, THREE_SETS);
+    make_encoder_calls(alloc, &mut encoder, AFTER_ROMAN)?;
+    make_encoder_calls(alloc, &mut encoder, THREE_SETS)?;
     make_encoder_calls(
-        &rt,
+        alloc,
         &mut encoder,
         &[("\u{A5}", false, 8, (EMPTY, 2, 4), b"\x1B(J\\")],
-    );
+    )?;
     assert!(rt; encoder.has_pending_state());
-    make_encoder_calls(&rt, &mut encoder, &[("", true, 2, (FULL, 0, 0), b"")]);
+    make_encoder_calls(alloc, &mut encoder, &[("", true, 2, (FULL, 0, 0), b"")])?;
     make_encoder_calls(
-        &rt,
+        alloc,
         &mut encoder,
         &[("", true, 3, (EMPTY, 0, 3), b"\x1B(B")],
-    );
+    )?;
     assert!(rt; !encoder.has_pending_state());
+    Ok(())
 }
 
 const HALVES: [(&[u16], bool); 2] = [(&[0xD83D], false), (&[0xDCA9], true)];
@@ -235,16 +237,17 @@ const PAIR: &[u16] = &[0xD83D, 0xDCA9];
 const MIXED: &[u16] = &[0xDCA9, 0xD83D, 0xD83D, 0xDCA9, 0x61];
 
 #[test]
-fn reads_each_call_by_itself(rt: HostRuntime) {
+fn reads_each_call_by_itself(rt: HostRuntime) -> Result<(), Fail> {
     let mut encoder = WINDOWS_1252.new_encoder();
     let unmappable = EncoderResult::Unmappable('\u{FFFD}');
     for (half, last) in HALVES {
-        make_call_from_utf16(&rt, &mut encoder, (half, last, 8), (unmappable, 1, 0), b"");
+        let call = (half, last, 8);
+        make_call_from_utf16(rt.alloc(), &mut encoder, call, (unmappable, 1, 0), b"")?;
     }
     let pair = (PAIR, true, 8);
     let unmappable = EncoderResult::Unmappable('💩');
-    make_call_from_utf16(&rt, &mut encoder, pair, (unmappable, 2, 0), b"");
-    let mixed = (MIXED, true, 16);
+    make_call_from_utf16(rt.alloc(), &mut encoder, pair, (unmappable, 2, 0), b"")?;
+    let (mut encoder, mixed) = (UTF_8.new_encoder(), (MIXED, true, 16));
     let bytes = "\u{FFFD}\u{FFFD}💩a".as_bytes();
-    make_call_from_utf16(&rt, &mut UTF_8.new_encoder(), mixed, (EMPTY, 5, 11), bytes);
+    make_call_from_utf16(rt.alloc(), &mut encoder, mixed, (EMPTY, 5, 11), bytes)
 }

@@ -1,5 +1,5 @@
-//! Lengths to allocate that encoders tell, with the formulas of their encodings computed by hand, and at the ends of what can be
-//! told.
+//! Length queries of encoders, with the formulas of their encodings computed by hand, and at the greatest
+//! lengths that have an answer.
 
 use enc_codec::SingleByteIndex;
 use enc_encode::{Codec, RawEncoder, has_encoder, new_encoder};
@@ -10,13 +10,14 @@ use encoding_rs::{
 
 const MAX: usize = usize::MAX;
 
-/// The lengths of so many code units, of UTF-8 and of UTF-16.
+/// The lengths for a number of code units, of UTF-8 and of UTF-16.
 type Lengths = (Option<usize>, Option<usize>);
 
-/// An encoding; and for so many code units the lengths without replacement, and those with it if no character is unmappable.
+/// An encoding and a number of code units; the lengths without replacement, and those with it if no character
+/// is unmappable.
 type QueryRow = (Encoding, usize, Lengths, Lengths);
 
-/// What an encoder tells for so many code units without replacement.
+/// The length queries without replacement.
 fn reporting_lengths(encoder: &Encoder, units: usize) -> Lengths {
     (
         encoder.max_buffer_length_from_utf8_without_replacement(units),
@@ -24,7 +25,7 @@ fn reporting_lengths(encoder: &Encoder, units: usize) -> Lengths {
     )
 }
 
-/// The same with replacement, if no character is unmappable.
+/// The length queries with replacement, if no character is unmappable.
 fn replacing_lengths(encoder: &Encoder, units: usize) -> Lengths {
     (
         encoder.max_buffer_length_from_utf8_if_no_unmappables(units),
@@ -239,10 +240,10 @@ fn each_encoder_has_its_formulas(rt: HostRuntime) {
     for rows in [ROWS, LIMIT_ROWS] {
         for (encoding, units, reporting, replacing) in rows {
             let encoder = encoding.new_encoder();
-            let told = reporting_lengths(&encoder, *units);
-            assert_eq!(rt; told, *reporting, "{encoding:?} {units}");
-            let told = replacing_lengths(&encoder, *units);
-            assert_eq!(rt; told, *replacing, "{encoding:?} {units}");
+            let lengths = reporting_lengths(&encoder, *units);
+            assert_eq!(rt; lengths, *reporting, "{encoding:?} {units}");
+            let lengths = replacing_lengths(&encoder, *units);
+            assert_eq!(rt; lengths, *replacing, "{encoding:?} {units}");
         }
     }
 }
@@ -258,7 +259,7 @@ fn a_designated_set_changes_no_length(rt: HostRuntime) {
     assert_eq!(rt; replacing_lengths(&encoder, 1), (Some(17), Some(18)));
 }
 
-/// A codec; and for so many code units the lengths.
+/// A codec, a number of code units, and the lengths.
 type RawRow = (Codec, usize, Lengths);
 
 const RAW_ROWS: &[RawRow] = &[
@@ -286,10 +287,10 @@ fn encoders_by_themselves_tell_lengths(rt: HostRuntime) {
     for (codec, units, want) in RAW_ROWS {
         assert!(rt; has_encoder(*codec));
         let encoder = new_encoder(*codec, &[]);
-        let told = (
+        let lengths = (
             encoder.max_buffer_length_from_utf8_without_replacement(*units),
             encoder.max_buffer_length_from_utf16_without_replacement(*units),
         );
-        assert_eq!(rt; told, *want, "{units}");
+        assert_eq!(rt; lengths, *want, "{units}");
     }
 }

@@ -8,6 +8,8 @@
 pub mod cases;
 pub mod decoding;
 pub mod devices;
+pub mod encoding;
 pub mod encodings;
+pub mod growths;
 pub mod reading;
 pub mod recoding;

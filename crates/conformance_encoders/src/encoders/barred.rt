@@ -1,14 +1,15 @@
-//! Encoders from which characters are barred: single calls, texts in every cut, runs, and which lists there may be.
+//! Encoders from which characters are barred: single calls, texts in every cut, runs, and the lists that are allowed.
 //!
-//! The bytes are those of the Encoding Standard's encoders, with a reference by hand for each character that is barred.
+//! The bytes are those of the Encoding Standard's encoders, with a reference by hand for each barred character.
 
-use crate::harness::encoder_calls::{
-    Asked, EncoderCall, ReplacingCall, encoder_of, make_encoder_calls, make_replacing_calls,
-};
-use crate::harness::encoding::{EncoderRow, compare_cuts};
 use encoding_rs::run::{EncodeCall, encode_run_barring};
 use encoding_rs::*;
 use std::test::Fail;
+use test_support::encoding::call_rows::{
+    EncoderCall, ReplacingCall, make_encoder_calls, make_replacing_calls,
+};
+use test_support::encoding::runs::{EncoderRow, compare_cuts};
+use test_support::encoding::ways::{Asked, encoder_of};
 
 const EMPTY: CoderResult = CoderResult::InputEmpty;
 
@@ -27,7 +28,7 @@ const ROWS: &[(Asked, Calls)] = &[
             ("a", true, 11, (EMPTY, 1, 1, false), b"a"),
         ],
     ),
-    // one that has ended a text has its list still
+    // an encoder keeps its list after the end of a text
     (
         (ISO_2022_JP, &['\u{2212}']),
         &[
@@ -48,7 +49,7 @@ const ROWS: &[(Asked, Calls)] = &[
             ("\u{2212}", true, 40, (EMPTY, 3, 7, true), b"&#8722;"),
         ],
     ),
-    // U+FF0D is looked up in the place of U+2212, which isn't barred
+    // the encoder looks up U+FF0D for U+2212, which isn't barred
     (
         (ISO_2022_JP, &['\u{FF0D}']),
         &[(
@@ -64,7 +65,7 @@ const ROWS: &[(Asked, Calls)] = &[
 #[test]
 fn barred_characters_have_references(rt: HostRuntime) -> Result<(), Fail> {
     for (asked, calls) in ROWS {
-        make_replacing_calls(&rt, rt.alloc(), *asked, calls)?;
+        make_replacing_calls(rt.alloc(), *asked, calls)?;
     }
     Ok(())
 }
@@ -75,23 +76,25 @@ const REPORTING_CALLS: &[EncoderCall] = &[
 ];
 
 #[test]
-fn barred_characters_are_reported(rt: HostRuntime) {
-    let mut encoder = encoder_of(&rt, (UTF_8, &['💩']));
-    make_encoder_calls(&rt, &mut encoder, REPORTING_CALLS);
+fn barred_characters_are_reported(rt: HostRuntime) -> Result<(), Fail> {
+    let mut encoder = encoder_of((UTF_8, &['💩']))?;
+    make_encoder_calls(rt.alloc(), &mut encoder, REPORTING_CALLS)?;
     let lengths = (
         encoder.max_buffer_length_from_utf8_without_replacement(5),
         encoder.max_buffer_length_from_utf8_if_no_unmappables(5),
     );
     assert_eq!(rt; lengths, (Some(5), Some(15)));
+    Ok(())
 }
 
 #[test]
-fn half_of_a_pair_is_barred(rt: HostRuntime) {
-    let mut encoder = encoder_of(&rt, (UTF_8, &['\u{FFFD}']));
+fn half_of_a_pair_is_barred(rt: HostRuntime) -> Result<(), Fail> {
+    let mut encoder = encoder_of((UTF_8, &['\u{FFFD}']))?;
     let mut bytes = [0; 18];
     let outcome = encoder.encode_from_utf16(&[0xD83D], &mut bytes, true);
     assert_eq!(rt; outcome, (EMPTY, 1, 8, true));
     assert_eq!(rt; &bytes[..8], b"&#65533;".as_slice());
+    Ok(())
 }
 
 /// Texts with characters that are barred in them.
@@ -127,7 +130,7 @@ const TEXTS: &[(Asked, EncoderRow)] = &[
 #[test]
 fn cuts_and_rooms_change_no_barred_text(rt: HostRuntime) -> Result<(), Fail> {
     for (asked, row) in TEXTS {
-        compare_cuts(&rt, rt.alloc(), *asked, row)?;
+        compare_cuts(rt.alloc(), *asked, row)?;
     }
     Ok(())
 }
@@ -173,14 +176,14 @@ fn a_run_bars_them_in_every_cut(rt: HostRuntime) -> Result<(), Fail> {
 #[test]
 fn one_shot_calls_keep_the_constant_list(rt: HostRuntime) -> Result<(), Fail> {
     for encoding in [GB18030, GBK] {
-        let (bytes, told, had_unmappables) = encoding.encode(rt.alloc(), "\u{E5E5}")?;
+        let (bytes, output, had_unmappables) = encoding.encode(rt.alloc(), "\u{E5E5}")?;
         assert_eq!(rt; bytes.as_slice(), b"&#58853;".as_slice());
-        assert_eq!(rt; (told, had_unmappables), (encoding, true));
+        assert_eq!(rt; (output, had_unmappables), (encoding, true));
     }
     Ok(())
 }
 
-/// Lists, and whether there may be such.
+/// Lists, and whether they are allowed.
 const LISTS: &[(&[char], bool)] = &[
     (&[], true),
     (&['\u{80}', '\u{10FFFF}'], true),

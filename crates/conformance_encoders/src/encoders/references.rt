@@ -1,11 +1,12 @@
-//! Calls with references in the place of unmappable characters: single ones, and one text in every encoding.
+//! Calls with references in place of unmappable characters: single ones, and one text in every encoding.
 //!
-//! The answers are by hand from how much room a call keeps back, and the bytes from the Encoding Standard's encoders.
+//! The answers are by hand from the room that a call keeps back, and the bytes from the Encoding Standard's
+//! encoders.
 
-use crate::harness::encoder_calls::{ReplacingCall, make_replacing_calls};
-use crate::harness::encoding::{EncoderRow, compare_encoded, compare_ways};
 use encoding_rs::*;
 use std::test::Fail;
+use test_support::encoding::call_rows::{ReplacingCall, make_replacing_calls};
+use test_support::encoding::runs::{EncoderRow, compare_encoded, compare_ways};
 
 const EMPTY: CoderResult = CoderResult::InputEmpty;
 
@@ -15,7 +16,7 @@ type Calls = &'static [ReplacingCall<'static>];
 
 /// The calls of one encoder in each row.
 const ROWS: &[(Encoding, Calls)] = &[
-    // the reference ends in the part that is kept back: no more is written
+    // the reference ends in the room that is kept back: the call writes no more
     (
         ISO_2022_JP,
         &[(
@@ -59,7 +60,7 @@ const ROWS: &[(Encoding, Calls)] = &[
             ),
         ],
     ),
-    // nothing is done with fewer than 10 bytes, and only a pending state is left to be ended
+    // a call with fewer than 10 bytes does nothing, and only a pending state keeps it from its end
     (ISO_2022_JP, &[("", false, 8, (EMPTY, 0, 0, false), b"")]),
     (ISO_2022_JP, &[("", true, 8, (EMPTY, 0, 0, false), b"")]),
     (
@@ -86,14 +87,14 @@ const ROWS: &[(Encoding, Calls)] = &[
             ("a", true, 9, (FULL, 0, 0, false), b""),
             ("a", true, 10, (FULL, 0, 0, false), b""),
             ("a", true, 11, (EMPTY, 1, 1, false), b"a"),
-            // with room for the longest reference one is written
+            // there is room for the longest reference
             ("💩", true, 9, (FULL, 0, 0, false), b""),
             ("💩", true, 10, (EMPTY, 4, 9, true), b"&#128169;"),
             ("💩a", true, 10, (FULL, 4, 9, true), b"&#128169;"),
             ("\u{10FFFF}", true, 10, (EMPTY, 4, 10, true), b"&#1114111;"),
         ],
     ),
-    // one reference ends before the part that is kept back, and another there
+    // one reference ends before the room that is kept back, and another in it
     (
         WINDOWS_1252,
         &[
@@ -123,7 +124,7 @@ const ROWS: &[(Encoding, Calls)] = &[
 #[test]
 fn keeps_room_back_for_references(rt: HostRuntime) -> Result<(), Fail> {
     for (encoding, calls) in ROWS {
-        make_replacing_calls(&rt, rt.alloc(), (*encoding, &[]), calls)?;
+        make_replacing_calls(rt.alloc(), (*encoding, &[]), calls)?;
     }
     Ok(())
 }
@@ -140,7 +141,7 @@ const TEXTS: &[(Encoding, EncoderRow)] = &[
 #[test]
 fn cuts_and_rooms_change_no_reference(rt: HostRuntime) -> Result<(), Fail> {
     for (encoding, row) in TEXTS {
-        compare_encoded(&rt, rt.alloc(), *encoding, &[*row])?;
+        compare_encoded(rt.alloc(), *encoding, &[*row])?;
     }
     Ok(())
 }
@@ -159,7 +160,7 @@ fn halves_of_a_pair_have_a_reference_each(rt: HostRuntime) {
     }
 }
 
-/// A text of each encoding, with one unmappable character, unless the encoding has all.
+/// A text of each encoding, with one unmappable character, unless the encoding can encode everything.
 #[rattlefmt::skip]
 const MIXED: [(Encoding, &str); 40] = [
     (UTF_8, "aé€💩"),
@@ -207,7 +208,7 @@ const MIXED: [(Encoding, &str); 40] = [
 #[test]
 fn references_are_those_of_reports(rt: HostRuntime) -> Result<(), Fail> {
     for (encoding, text) in MIXED {
-        compare_ways(&rt, rt.alloc(), (encoding, text))?;
+        compare_ways(rt.alloc(), encoding, text)?;
     }
     Ok(())
 }

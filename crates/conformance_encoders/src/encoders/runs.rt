@@ -1,4 +1,4 @@
-//! Runs of calls of an encoder that change units, treatment, offer and room from one to the next.
+//! Runs of an encoder whose calls change code units, error mode, offer and room from one to the next.
 
 use encoding_rs::run::{EncodeCall, encode_run};
 use encoding_rs::*;
@@ -30,8 +30,8 @@ fn a_run_may_change_its_units_and_treatment(rt: HostRuntime) -> Result<(), Fail>
     Ok(())
 }
 
-/// So many calls: units take turns by two, treatments by three, offers by five and rooms by thirteen, from 8 on, so that
-/// each meets each.
+/// Makes `count` calls. Code units take turns by two, error modes by three, offers by five and rooms by
+/// thirteen, from 8 on, so that each meets each.
 fn mixed_calls(alloc: Global, count: usize) -> Result<Vec<EncodeCall>, AllocError> {
     let mut calls = Vec::new(alloc);
     for number in 0..count {
@@ -45,7 +45,7 @@ fn mixed_calls(alloc: Global, count: usize) -> Result<Vec<EncodeCall>, AllocErro
     Ok(calls)
 }
 
-/// Texts, how many characters they have, and their bytes.
+/// Texts, their number of characters, and their bytes.
 const TEXTS: &[(Encoding, &str, usize, &[u8])] = &[
     (
         ISO_2022_JP,
@@ -68,8 +68,8 @@ fn mixed_calls_come_to_the_whole_text(rt: HostRuntime) -> Result<(), Fail> {
     let calls = mixed_calls(rt.alloc(), 120)?;
     for (encoding, text, count, bytes) in TEXTS {
         for first in 0..6 {
-            let (_, behind) = calls.split_at(first.min(calls.len()));
-            let report = encode_run(rt.alloc(), *encoding, text, behind)?;
+            let (_, rest) = calls.split_at(first.min(calls.len()));
+            let report = encode_run(rt.alloc(), *encoding, text, rest)?;
             assert!(rt; report.finished, "{encoding:?} {first}");
             assert_eq!(rt; report.bytes.as_slice(), *bytes, "{encoding:?} {first}");
             assert_eq!(rt; report.read, *count, "{encoding:?} {first}");
@@ -79,7 +79,7 @@ fn mixed_calls_come_to_the_whole_text(rt: HostRuntime) -> Result<(), Fail> {
     Ok(())
 }
 
-/// A call with replacement that is offered a character, and has 4 bytes beside those that are kept back.
+/// A call with replacement that is offered a character, and has 4 bytes beside those that it keeps back.
 const ONE_CHARACTER: EncodeCall = EncodeCall {
     utf16: false,
     replace: true,

@@ -1,12 +1,13 @@
-//! What single characters are encoded to in every encoding, summed up and compared with the Rust crate encoding_rs.
+//! The bytes of single characters in every encoding, summed up and compared with the Rust crate encoding_rs.
 //!
-//! The sums are what `scripts/encoder-sums` writes: the crate encodes every character of the Basic Multilingual Plane and
-//! each 97th of the others, and in Big5 every one of plane 2, by itself, without replacement and with it. A sum is FNV-1a
-//! with 64 bits, over numbers: of a character that is mappable its bytes and 0x100. Of any other one they are without
-//! replacement 0x200 and the character that is reported, and with it the bytes of its reference and 0x200.
+//! `scripts/encoder-sums` writes the sums: the crate encodes every character of the Basic Multilingual Plane
+//! and each 97th of the others, and in Big5 every one of plane 2, by itself, without replacement and with it.
+//! A sum is FNV-1a with 64 bits, over numbers. A mappable character adds its bytes and 0x100. An unmappable one
+//! adds, without replacement, 0x200 and the character that is reported; with replacement, the bytes of its
+//! reference and 0x200.
 //!
-//! Left out in GB18030 and GBK are the characters that GB18030-2022 changed, since the packaged crate is older: they are
-//! in a test of their own.
+//! The sums of GB18030 and GBK leave out the characters that GB18030-2022 changed, since the packaged crate is
+//! older: these have a test of their own.
 
 use encoding_rs::{
     BIG5, CoderResult, EUC_JP, EUC_KR, EncoderResult, Encoding, GB18030, GBK, IBM866, ISO_2022_JP,
@@ -25,7 +26,7 @@ const PRIME: u64 = 0x100_0000_01B3;
 /// An encoding, its sum without replacement, and the one with it.
 type Sums = (Encoding, u64, u64);
 
-/// The crate's sums of UTF-8, and of those that UTF-8 is written for.
+/// The crate's sums of UTF-8, and of the encodings whose output encoding is UTF-8.
 #[rattlefmt::skip]
 const UTF_8_SUMS: &[Sums] = &[
     (UTF_8, 0x7312_3057_A5D9_A7D8, 0x7312_3057_A5D9_A7D8),
@@ -85,8 +86,8 @@ const MULTI_BYTE_SUMS: &[Sums] = &[
     (EUC_KR, 0x8AC2_BD0C_882E_4906, 0x0E4A_1FE6_9634_8C10),
 ];
 
-/// The two bytes of gb18030 and GBK whose character GB18030-2022 changed, the one that it had before, and the one that it
-/// has since.
+/// The two bytes of gb18030 and GBK whose character GB18030-2022 changed, the character before, and the one
+/// since.
 const CHANGED: [(&[u8], char, char); 18] = [
     (b"\xA6\xD9", '\u{E78D}', '\u{FE10}'),
     (b"\xA6\xDA", '\u{E78E}', '\u{FE12}'),
@@ -136,7 +137,7 @@ fn add_bytes(sum: u64, bytes: &[u8]) -> u64 {
     sum
 }
 
-/// Adds what a character by itself is encoded to.
+/// Adds the bytes of a character by itself, encoded without replacement.
 fn add_reported(rt: &impl Abort, sum: u64, encoding: Encoding, text: &str) -> u64 {
     let mut bytes = [0; 16];
     let mut encoder = encoding.new_encoder();
