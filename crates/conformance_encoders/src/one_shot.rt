@@ -46,7 +46,7 @@ fn whole_texts_have_these_bytes(rt: HostRuntime) -> Result<(), Fail> {
 }
 
 /// The length of the long text, in bytes of UTF-8.
-const LONG: usize = 10_000;
+const LONG: usize = 100_000;
 
 /// Characters of many encodings.
 const CHARACTERS: &str =
@@ -85,7 +85,7 @@ fn compare_decoded(alloc: Global, encoding: Encoding, bytes: &[u8]) -> Result<()
 
 /// Encodes a long text in every encoding: at once, by a run and by single characters; and decodes its bytes.
 #[test]
-fn long_texts_of_all_encodings(rt: HostRuntime) -> Result<(), Fail> {
+fn long_texts_of_every_encoding(rt: HostRuntime) -> Result<(), Fail> {
     let alloc = rt.alloc();
     let text = long_text(alloc)?;
     assert_eq!(rt; text.len(), LONG);
