@@ -235,7 +235,7 @@ fn compare_long(alloc: Global, encoding: Encoding, bytes: &[u8]) -> Result<(), F
     for handling in [SNIFF, REMOVE, OFF] {
         let mode = (encoding, handling);
         let (text, _) = compare_with_run(alloc, mode, bytes)?;
-        compare_single_bytes(alloc, mode, bytes, text.as_bytes())?;
+        compare_single_bytes(mode, bytes, text.as_bytes())?;
     }
     Ok(())
 }

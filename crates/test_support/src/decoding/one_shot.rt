@@ -1,12 +1,12 @@
 //! One-shot calls, beside runs of their mode.
 
 use crate::cases::{Case, expect, expect_bytes};
-use crate::decoding::calls::{decode_chunk, new_decoder};
+use crate::decoding::calls::new_decoder;
 use crate::decoding::reads::compare_read;
-use crate::decoding::rows::Input;
+use crate::decoding::rows::{Input, split};
 use crate::decoding::runs::Use;
 use encoding_rs::run::{BomHandling, DecodeCall, decode_run};
-use encoding_rs::{Encoding, OneShotError};
+use encoding_rs::{CoderResult, Decoder, Encoding, OneShotError};
 use std::alloc::Global;
 use std::test::Fail;
 
@@ -97,23 +97,42 @@ pub(crate) fn compare_at_once(alloc: Global, way: Use, input: &Input<'_>) -> Res
 /// No call of a single byte writes more.
 const ROOM: usize = 32;
 
+/// A call reads all of a chunk, and writes what comes next. Returns the text that is still to come.
+fn decode_next<'a>(
+    decoder: &mut Decoder,
+    (chunk, last): (&[u8], bool),
+    to_come: &'a [u8],
+    case: &Case<'_>,
+) -> Result<&'a [u8], Fail> {
+    if decoder.is_finished() {
+        return Err(Fail::new("a call of a finished decoder"));
+    }
+    let mut buffer = [0; ROOM];
+    let (stop, read, written, _) = decoder.decode_to_utf8(chunk, &mut buffer, last);
+    let is_read = stop == CoderResult::InputEmpty && read == chunk.len();
+    expect(is_read, "a chunk is not all read", case)?;
+    let (text, _) = split(&buffer, written);
+    expect(to_come.starts_with(text), "single bytes differ", case)?;
+    let (_, rest) = split(to_come, text.len());
+    Ok(rest)
+}
+
 /// A decoder that is offered the bytes one by one writes this text.
 pub fn compare_single_bytes(
-    alloc: Global,
     (encoding, handling): Mode,
     bytes: &[u8],
     text: &[u8],
 ) -> Result<(), Fail> {
-    let mut decoder = new_decoder(encoding, handling);
-    let mut written = Vec::new(alloc);
-    for byte in bytes.chunks(1) {
-        decode_chunk(alloc, &mut decoder, (byte, false), ROOM, &mut written)?;
-    }
-    decode_chunk(alloc, &mut decoder, (&[], true), ROOM, &mut written)?;
     let case = Case {
         name: encoding.name(),
         input: bytes,
         room: ROOM,
     };
-    expect_bytes(&written, text, "single bytes differ", &case)
+    let mut decoder = new_decoder(encoding, handling);
+    let mut to_come = text;
+    for byte in bytes.chunks(1) {
+        to_come = decode_next(&mut decoder, (byte, false), to_come, &case)?;
+    }
+    let rest = decode_next(&mut decoder, (&[], true), to_come, &case)?;
+    expect(rest.is_empty(), "text is missing", &case)
 }
