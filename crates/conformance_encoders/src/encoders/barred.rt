@@ -177,8 +177,8 @@ fn a_run_bars_them_in_every_cut(rt: HostRuntime) -> Result<(), Fail> {
 fn one_shot_calls_keep_the_constant_list(rt: HostRuntime) -> Result<(), Fail> {
     for encoding in [GB18030, GBK] {
         let (bytes, output, had_unmappables) = encoding.encode(rt.alloc(), "\u{E5E5}")?;
-        assert_eq!(rt; bytes.as_slice(), b"&#58853;".as_slice());
-        assert_eq!(rt; (output, had_unmappables), (encoding, true));
+        assert!(rt; bytes.as_slice() == b"&#58853;".as_slice());
+        assert!(rt; output == encoding && had_unmappables);
     }
     Ok(())
 }

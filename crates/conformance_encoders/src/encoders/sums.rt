@@ -17,7 +17,10 @@ use encoding_rs::{
     WINDOWS_1251, WINDOWS_1252, WINDOWS_1253, WINDOWS_1254, WINDOWS_1255, WINDOWS_1256,
     WINDOWS_1257, WINDOWS_1258, X_MAC_CYRILLIC, X_USER_DEFINED,
 };
+use std::alloc::Global;
 use std::process::Abort;
+use std::test::Fail;
+use test_support::encoding::call_rows::{EncoderCall, make_encoder_calls};
 
 const OFFSET_BASIS: u64 = 0xCBF2_9CE4_8422_2325;
 
@@ -205,19 +208,30 @@ fn encodes_each_character_of_several_bytes(rt: HostRuntime) {
     compare(&rt, MULTI_BYTE_SUMS);
 }
 
+/// Encodes the character that the bytes have since, and then the one that they had before.
+fn compare_changed(
+    alloc: Global,
+    encoding: Encoding,
+    (bytes, before, since): (&[u8], char, char),
+) -> Result<(), Fail> {
+    let (mut encoder, mut local, mut other) = (encoding.new_encoder(), [0; 4], [0; 4]);
+    let (since, unmappable) = (
+        since.encode_utf8(&mut local),
+        before.encode_utf8(&mut other),
+    );
+    let reported = EncoderResult::Unmappable(before);
+    let calls: [EncoderCall<'_>; 2] = [
+        (since, true, 4, (EncoderResult::InputEmpty, 3, 2), bytes),
+        (unmappable, true, 4, (reported, 3, 0), b""),
+    ];
+    make_encoder_calls(alloc, &mut encoder, &calls)
+}
+
 #[test]
-fn encodes_what_gb18030_2022_changed(rt: HostRuntime) {
-    for (bytes, before, since) in CHANGED {
-        for encoding in [GB18030, GBK] {
-            let (mut local, mut written) = ([0; 4], [0; 4]);
-            let text = since.encode_utf8(&mut local);
-            let mut encoder = encoding.new_encoder();
-            let outcome = encoder.encode_from_utf8_without_replacement(text, &mut written, true);
-            assert_eq!(rt; outcome, (EncoderResult::InputEmpty, 3, 2));
-            assert_eq!(rt; &written[..2], bytes);
-            let text = before.encode_utf8(&mut local);
-            let outcome = encoder.encode_from_utf8_without_replacement(text, &mut written, true);
-            assert_eq!(rt; outcome, (EncoderResult::Unmappable(before), 3, 0));
-        }
+fn encodes_what_gb18030_2022_changed(rt: HostRuntime) -> Result<(), Fail> {
+    for changed in CHANGED {
+        compare_changed(rt.alloc(), GB18030, changed)?;
+        compare_changed(rt.alloc(), GBK, changed)?;
     }
+    Ok(())
 }
