@@ -148,11 +148,8 @@ fn reasons_are_told_apart(rt: HostRuntime) -> Result<(), Fail> {
     Ok(())
 }
 
-/// This many bytes are decoded at once.
-const LONG: usize = 4_000;
-
-/// This many bytes are also offered one by one.
-const SHORT: usize = 500;
+/// So many bytes are decoded at once.
+const LONG: usize = 100_000;
 
 /// Bytes of all encodings: words, characters in one encoding or another, escape sequences, and what breaks off.
 const PIECES: &[&[u8]] = &[
@@ -169,15 +166,15 @@ const PIECES: &[&[u8]] = &[
     b"\x3D\xD8\xA9\xDC\xD8\x3D\xDC\xA9",
 ];
 
-/// A stretch of ASCII in a long input has the first piece this many times.
+/// Between the pieces lies so much of the first.
 const STRETCH: usize = 16;
 
-/// `length` bytes, the same each time: pieces, bytes by themselves, and stretches of ASCII, as a linear congruential generator
+/// So many bytes, the same each time: pieces, bytes by themselves, and stretches of ASCII, as a linear congruential generator
 /// takes them.
-fn mixed_bytes(alloc: Global, length: usize, stretch: usize) -> Result<Vec<u8>, AllocError> {
+fn long_bytes(alloc: Global) -> Result<Vec<u8>, AllocError> {
     let mut bytes = Vec::new(alloc);
     let mut state = 1_u64;
-    for _ in 0..length {
+    for _ in 0..LONG {
         state = state
             .wrapping_mul(6_364_136_223_846_793_005)
             .wrapping_add(1_442_695_040_888_963_407);
@@ -187,15 +184,15 @@ fn mixed_bytes(alloc: Global, length: usize, stretch: usize) -> Result<Vec<u8>, 
             None => bytes.extend_from_slice(&[number, byte])?,
         }
         if kind < 128 {
-            for _ in 0..stretch {
+            for _ in 0..STRETCH {
                 bytes.extend_from_slice(PIECES[0])?;
             }
         }
-        if bytes.len() >= length {
+        if bytes.len() >= LONG {
             break;
         }
     }
-    bytes.truncate(length);
+    bytes.truncate(LONG);
     Ok(bytes)
 }
 
@@ -233,24 +230,22 @@ fn decoders_and_encoders_are_told_for_debugging(rt: HostRuntime) -> Result<(), F
     Ok(())
 }
 
-/// Long bytes come at once to what a run comes to. Short ones do in each mode, and one by one.
-fn compare_mixed(alloc: Global, encoding: Encoding, long: &[u8], short: &[u8]) -> Result<(), Fail> {
-    let (_, _) = compare_with_run(alloc, (encoding, OFF), long)?;
+/// Long bytes come at once, in each mode, to what a run comes to, and single bytes.
+fn compare_long(alloc: Global, encoding: Encoding, bytes: &[u8]) -> Result<(), Fail> {
     for handling in [SNIFF, REMOVE, OFF] {
         let mode = (encoding, handling);
-        let (text, _) = compare_with_run(alloc, mode, short)?;
-        compare_single_bytes(mode, short, text.as_bytes())?;
+        let (text, _) = compare_with_run(alloc, mode, bytes)?;
+        compare_single_bytes(mode, bytes, text.as_bytes())?;
     }
     Ok(())
 }
 
 #[test]
 fn long_inputs_of_every_encoding(rt: HostRuntime) -> Result<(), Fail> {
-    let long = mixed_bytes(rt.alloc(), LONG, STRETCH)?;
-    let short = mixed_bytes(rt.alloc(), SHORT, 1)?;
-    assert_eq!(rt; (long.len(), short.len()), (LONG, SHORT));
+    let bytes = long_bytes(rt.alloc())?;
+    assert_eq!(rt; bytes.len(), LONG);
     for (encoding, _, _) in TABLE {
-        compare_mixed(rt.alloc(), *encoding, &long, &short)?;
+        compare_long(rt.alloc(), *encoding, &bytes)?;
     }
     Ok(())
 }
