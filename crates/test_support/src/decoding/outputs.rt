@@ -93,7 +93,7 @@ fn to_str(decoder: &mut Decoder, given: Given<'_>, dst: &mut [u8]) -> Result<Ans
     Ok(replacing(decoder.decode_to_str(given.src, dst, given.last)))
 }
 
-/// Calls a decoder into a `String`. The answer has no count of what is written.
+/// Calls a decoder into a `String`. The answer has no count of the bytes written.
 fn to_string(decoder: &mut Decoder, given: Given<'_>, dst: &mut String) -> Answer
     requires { finished decoder.old ≡ false }
 {
@@ -185,7 +185,7 @@ const OLD: [&str; 4] = [
     "€💩💩💩💩💩💩💩💩💩💩💩💩💩💩💩",
 ];
 
-/// After what is written, the rest of a character that was written over is 00, and all else stays.
+/// After the text, the rest of a character that was written over is 00, and all else stays.
 fn compare_rest(old: &[u8], new: &[u8], case: &Case<'_>) -> Result<(), Fail> {
     let mut is_rest = true;
     for (was, is) in old.iter().zip(new) {

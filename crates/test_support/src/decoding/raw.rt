@@ -194,7 +194,7 @@ fn is_idle(outcome: Outcome) -> bool {
     outcome.result == DecoderResult::OutputFull && outcome.read == 0 && outcome.written == 0
 }
 
-/// Offers a chunk, and again what is unread of it, until all is read. After a call that neither reads nor writes, the next one
+/// Offers a chunk, and again its unread rest, until all is read. After a call that neither reads nor writes, the next one
 /// has room enough.
 fn offer(
     decoder: &mut impl RawDecoder,

@@ -8,7 +8,7 @@ use encoding_rs::Encoding;
 use std::alloc::Global;
 use std::test::Fail;
 
-/// Reads a text to its end, in parts of four bytes, of which there are at most this many.
+/// Reads a text to its end, in at most `most` parts of four bytes.
 fn read_text<R: Source>(
     alloc: Global,
     reader: &mut DecodeReader<'_, R>,

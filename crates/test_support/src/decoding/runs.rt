@@ -163,7 +163,7 @@ fn step(
     Ok(Some(answer.1))
 }
 
-/// Offers a chunk, and again what is unread of it, until all is read or a call neither reads nor writes.
+/// Offers a chunk, and again its unread rest, until all is read or a call neither reads nor writes.
 fn offer(
     alloc: Global,
     decoder: &mut Decoder,

@@ -16,7 +16,7 @@ const FRONTS: [&[u8]; 5] = [b"", b"\xEF", b"\xEF\xBB", b"\xFE", b"\xFF"];
 /// No room here is greater.
 const GREATEST_ROOM: usize = 7;
 
-/// `count` calls of the kind of a use, each of which is offered a byte.
+/// `count` calls of the kind of a use. Each is offered a byte.
 fn single_byte_calls(
     alloc: Global,
     way: Use,
