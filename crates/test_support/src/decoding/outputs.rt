@@ -208,6 +208,7 @@ fn call_into_str(
     requires { finished decoder.old ≡ false }
 {
     let (old, _) = split(OLD[given.room % 4].as_bytes(), given.room);
+    expect(old.len() == given.room, "a room that is too great", case)?;
     let mut new = old.to_vec(alloc)?;
     let answer = to_str(decoder, given, &mut new)?;
     expect(str::from_utf8(&new).is_ok(), "the str is not UTF-8", case)?;
