@@ -11,23 +11,25 @@ use test_support::recoding::{
     run_by, run_whole,
 };
 
+/// Inputs of UTF-8, their text, and whether something is replaced.
+const WHOLE: &[(&[u8], &[u8], bool)] = &[
+    (b"", b"", false),
+    (b"a\xFF", b"a\xEF\xBF\xBD", true),
+    (
+        b"a\xC3\xA9\xE2\x82\xAC\xF0\x9F\x92\xA9",
+        b"a\xC3\xA9\xE2\x82\xAC\xF0\x9F\x92\xA9",
+        false,
+    ),
+    (b"\xEF\xBB\xBFa", b"a", false),
+    (b"a\xE2\x82", b"a\xEF\xBF\xBD", true),
+];
+
 #[test]
 fn recodes(rt: HostRuntime) -> Result<(), Fail> {
-    let rows: [(&[u8], &[u8], bool); 5] = [
-        (b"", b"", false),
-        (b"a\xFF", b"a\xEF\xBF\xBD", true),
-        (
-            b"a\xC3\xA9\xE2\x82\xAC\xF0\x9F\x92\xA9",
-            b"a\xC3\xA9\xE2\x82\xAC\xF0\x9F\x92\xA9",
-            false,
-        ),
-        (b"\xEF\xBB\xBFa", b"a", false),
-        (b"a\xE2\x82", b"a\xEF\xBF\xBD", true),
-    ];
-    for (input, want, replaced) in rows {
-        let ran = run_whole(rt.alloc(), (UTF_8, UTF_8), input)?;
-        assert_eq!(rt; ran.outcome, Ok(replaced), "of {input:?}");
-        assert_eq!(rt; ran.written.as_slice(), want, "of {input:?}");
+    for (input, want, replaced) in WHOLE {
+        let ran = run_whole(rt.alloc(), (UTF_8, UTF_8), *input)?;
+        assert_eq!(rt; ran.outcome, Ok(*replaced), "of {input:?}");
+        assert_eq!(rt; ran.written.as_slice(), *want, "of {input:?}");
     }
     Ok(())
 }
@@ -259,141 +261,149 @@ fn recode_bytes(alloc: Global, (from, to): (&str, &str), input: &[u8]) -> Result
     run_whole(alloc, (from, to), input)
 }
 
+/// Two labels, a line in the first encoding, its text, and whether something is replaced.
+const LINES: &[(&str, &str, &[u8], &str, bool)] = &[
+    ("windows-1251", "utf-8", b"\xCF\xF0\xE8", "При", false),
+    (
+        "windows-1252",
+        "utf-8",
+        b"\x93caf\xE9\x94 \x80\xA05",
+        "“café” €\u{A0}5",
+        false,
+    ),
+    ("iso-8859-15", "utf-8", b"c\xBDur, \xA45", "cœur, €5", false),
+    (
+        "iso-8859-5",
+        "utf-8",
+        b"\xBF\xE0\xD8\xD2\xD5\xE2",
+        "Привет",
+        false,
+    ),
+    (
+        "ibm866",
+        "utf-8",
+        b"\x8F\xE0\xA8\xA2\xA5\xE2",
+        "Привет",
+        false,
+    ),
+    (
+        "utf-8",
+        "utf-8",
+        b"na\xC3\xAFve \xE2\x82\xAC5 \xF0\x9F\x92\xA9",
+        "naïve €5 💩",
+        false,
+    ),
+    (
+        "utf-16le",
+        "utf-8",
+        b"\x1F\x04\x40\x04\x3D\xD8\xA9\xDC",
+        "Пр💩",
+        false,
+    ),
+    (
+        "utf-16be",
+        "utf-8",
+        b"\x04\x1F\x04\x40\xD8\x3D\xDC\xA9",
+        "Пр💩",
+        false,
+    ),
+    (
+        "x-user-defined",
+        "utf-8",
+        b"a\x80\xFF",
+        "a\u{F780}\u{F7FF}",
+        false,
+    ),
+    // the lines of the next seven are of Python's codecs
+    (
+        "shift_jis",
+        "utf-8",
+        b"\x93\xFA\x96\x7B\x8C\xEA",
+        "日本語",
+        false,
+    ),
+    ("euc-jp", "utf-8", b"\xC6\xFC\xCB\xDC\xB8\xEC", "日本語", false),
+    ("iso-2022-jp", "utf-8", b"\x1B$BF|K\\8l\x1B(B", "日本語", false),
+    ("big5", "utf-8", b"\xB7\x66\x9D\xF2", "搭𨋢", false),
+    ("euc-kr", "utf-8", b"\xC7\xD1\x94\xEE", "한뷁", false),
+    ("gbk", "utf-8", b"\xC6\xBD\xB5\xC8", "平等", false),
+    ("gb18030", "utf-8", b"\xC6\xBD\x95\x32\x82\x36", "平𠀀", false),
+    ("CP866 ", " Utf8", b"\x8F", "П", false),
+    ("latin1", "utf-16", b"\xE9", "é", false),
+    ("utf-8", "utf-8", b"a\xFF", "a\u{FFFD}", true),
+    ("utf-16be", "utf-8", b"\x00a\xDC\x00", "a\u{FFFD}", true),
+];
+
 #[test]
 fn recodes_a_line_of_each_kind_of_encoding(rt: HostRuntime) -> Result<(), Fail> {
-    let rows: [(&str, &str, &[u8], &str, bool); 20] = [
-        ("windows-1251", "utf-8", b"\xCF\xF0\xE8", "При", false),
-        (
-            "windows-1252",
-            "utf-8",
-            b"\x93caf\xE9\x94 \x80\xA05",
-            "“café” €\u{A0}5",
-            false,
-        ),
-        ("iso-8859-15", "utf-8", b"c\xBDur, \xA45", "cœur, €5", false),
-        (
-            "iso-8859-5",
-            "utf-8",
-            b"\xBF\xE0\xD8\xD2\xD5\xE2",
-            "Привет",
-            false,
-        ),
-        (
-            "ibm866",
-            "utf-8",
-            b"\x8F\xE0\xA8\xA2\xA5\xE2",
-            "Привет",
-            false,
-        ),
-        (
-            "utf-8",
-            "utf-8",
-            "naïve €5 💩".as_bytes(),
-            "naïve €5 💩",
-            false,
-        ),
-        (
-            "utf-16le",
-            "utf-8",
-            b"\x1F\x04\x40\x04\x3D\xD8\xA9\xDC",
-            "Пр💩",
-            false,
-        ),
-        (
-            "utf-16be",
-            "utf-8",
-            b"\x04\x1F\x04\x40\xD8\x3D\xDC\xA9",
-            "Пр💩",
-            false,
-        ),
-        (
-            "x-user-defined",
-            "utf-8",
-            b"a\x80\xFF",
-            "a\u{F780}\u{F7FF}",
-            false,
-        ),
-        // the lines of the next seven are of Python's codecs
-        (
-            "shift_jis",
-            "utf-8",
-            b"\x93\xFA\x96\x7B\x8C\xEA",
-            "日本語",
-            false,
-        ),
-        ("euc-jp", "utf-8", b"\xC6\xFC\xCB\xDC\xB8\xEC", "日本語", false),
-        ("iso-2022-jp", "utf-8", b"\x1B$BF|K\\8l\x1B(B", "日本語", false),
-        ("big5", "utf-8", b"\xB7\x66\x9D\xF2", "搭𨋢", false),
-        ("euc-kr", "utf-8", b"\xC7\xD1\x94\xEE", "한뷁", false),
-        ("gbk", "utf-8", b"\xC6\xBD\xB5\xC8", "平等", false),
-        ("gb18030", "utf-8", b"\xC6\xBD\x95\x32\x82\x36", "平𠀀", false),
-        ("CP866 ", " Utf8", b"\x8F", "П", false),
-        ("latin1", "utf-16", b"\xE9", "é", false),
-        ("utf-8", "utf-8", b"a\xFF", "a\u{FFFD}", true),
-        ("utf-16be", "utf-8", b"\x00a\xDC\x00", "a\u{FFFD}", true),
-    ];
-    for (from, to, input, want, is_replaced) in rows {
-        let ran = recode_bytes(rt.alloc(), (from, to), input)?;
+    for (from, to, input, want, is_replaced) in LINES {
+        let ran = recode_bytes(rt.alloc(), (*from, *to), *input)?;
         assert_eq!(rt; ran.written.as_slice(), want.as_bytes(), "of {from}");
-        assert_eq!(rt; ran.outcome, Ok(is_replaced), "of {from}");
+        assert_eq!(rt; ran.outcome, Ok(*is_replaced), "of {from}");
     }
     Ok(())
 }
 
+/// UTF-8 after its mark, with a second mark in it.
+const MARKED: &[u8] = b"\xEF\xBB\xBF\xC3\xA9\xEF\xBB\xBF";
+
+/// A label, an input, its text, and whether something is replaced.
+const MARKS: &[(&str, &[u8], &str, bool)] = &[
+    // the mark of the encoding named
+    ("utf-8", MARKED, "é\u{FEFF}", false),
+    ("utf-16be", b"\xFE\xFF\x04\x1F", "П", false),
+    ("utf-16le", b"\xFF\xFE\x1F\x04", "П", false),
+    // the mark of another
+    ("windows-1252", MARKED, "é\u{FEFF}", false),
+    ("iso-2022-jp", MARKED, "é\u{FEFF}", false),
+    ("utf-16le", b"\xFE\xFF\x04\x1F", "П", false),
+    ("utf-8", b"\xFF\xFEa\x00", "a", false),
+    (
+        "x-user-defined",
+        b"\xFE\xFF\x00\x61\xDC\x00",
+        "a\u{FFFD}",
+        true,
+    ),
+    // nothing behind it
+    ("utf-8", b"\xFF\xFE", "", false),
+    // marks that break off
+    ("windows-1252", b"\xEF\xBBa", "ï»a", false),
+    ("ibm866", b"\xEF\xBB", "я╗", false),
+    ("utf-8", b"\xEF\xBB", "\u{FFFD}", true),
+    ("utf-16be", b"\xFE\xFE", "\u{FEFE}", false),
+    // a mark that doesn't stand in front
+    ("windows-1252", b"a\xFF\xFE", "aÿþ", false),
+];
+
 #[test]
 fn looks_for_a_mark_in_front(rt: HostRuntime) -> Result<(), Fail> {
-    let utf_8 = "\u{FEFF}é\u{FEFF}".as_bytes();
-    let rows: [(&str, &[u8], &str, bool); 14] = [
-        // the mark of the encoding named
-        ("utf-8", utf_8, "é\u{FEFF}", false),
-        ("utf-16be", b"\xFE\xFF\x04\x1F", "П", false),
-        ("utf-16le", b"\xFF\xFE\x1F\x04", "П", false),
-        // the mark of another
-        ("windows-1252", utf_8, "é\u{FEFF}", false),
-        ("iso-2022-jp", utf_8, "é\u{FEFF}", false),
-        ("utf-16le", b"\xFE\xFF\x04\x1F", "П", false),
-        ("utf-8", b"\xFF\xFEa\x00", "a", false),
-        (
-            "x-user-defined",
-            b"\xFE\xFF\x00\x61\xDC\x00",
-            "a\u{FFFD}",
-            true,
-        ),
-        // nothing behind it
-        ("utf-8", b"\xFF\xFE", "", false),
-        // marks that break off
-        ("windows-1252", b"\xEF\xBBa", "ï»a", false),
-        ("ibm866", b"\xEF\xBB", "я╗", false),
-        ("utf-8", b"\xEF\xBB", "\u{FFFD}", true),
-        ("utf-16be", b"\xFE\xFE", "\u{FEFE}", false),
-        // a mark that doesn't stand in front
-        ("windows-1252", b"a\xFF\xFE", "aÿþ", false),
-    ];
-    for (from, input, want, is_replaced) in rows {
-        let ran = recode_bytes(rt.alloc(), (from, "utf-8"), input)?;
+    for (from, input, want, is_replaced) in MARKS {
+        let ran = recode_bytes(rt.alloc(), (*from, "utf-8"), *input)?;
         assert_eq!(rt;
             ran.written.as_slice(),
             want.as_bytes(),
             "of {from} {input:?}"
         );
-        assert_eq!(rt; ran.outcome, Ok(is_replaced), "of {from} {input:?}");
+        assert_eq!(rt; ran.outcome, Ok(*is_replaced), "of {from} {input:?}");
     }
     Ok(())
 }
 
+/// Inputs that begin with a mark or with a part of one, and their text.
+const PARTS: &[(&[u8], &str)] = &[
+    (b"\xEF\xBB\xBF\xC3\xA9", "é"),
+    (b"\xFE\xFF\x00\xE9", "é"),
+    (b"\xFF\xFE\xE9\x00", "é"),
+    (b"\xEF\xBB\xE9", "ï»é"),
+];
+
 #[test]
 fn joins_a_mark_that_comes_in_parts(rt: HostRuntime) -> Result<(), Fail> {
-    let rows: [(&[u8], &str); 4] = [
-        (b"\xEF\xBB\xBF\xC3\xA9", "é"),
-        (b"\xFE\xFF\x00\xE9", "é"),
-        (b"\xFF\xFE\xE9\x00", "é"),
-        (b"\xEF\xBB\xE9", "ï»é"),
-    ];
-    for (input, want) in rows {
+    for (input, want) in PARTS {
         let ran = run_by(
             rt.alloc(),
             (WINDOWS_1252, UTF_8),
-            input,
+            *input,
             (&[BYTE], &[ALL_BYTES]),
         )?;
         assert_eq!(rt; ran.outcome, Ok(false), "of {input:?}");
