@@ -1,5 +1,6 @@
 -- One-shot calls: what calls of an encoder that are told the whole text have come to.
 use Rattle.std.proofs.Common.{◌≡◌, ℕ, ◌<◌, ◌≤◌, Bool, true, ◌||◌, List, [], ◌++◌, length, take, drop, refl, ap, ◌∙◌, sym, append_assoc, append-nil, chars, IsUtf8}
+use Rattle.std.specs.Prelude.{Option, None}
 use Rattle.std.proofs.lemmas.List.{take-append-drop}
 use Rattle.std.specs.Str.{IsCharBoundary}
 use Rattle.std.specs.Char.{encode_utf8}
@@ -15,9 +16,13 @@ use Rattle.enc_references.specs.Unmappable.{any_unmappable}
 use Rattle.enc_references.proofs.UnmappableLemmas.{any_reported_is, any_unmappable-append}
 use Rattle.encoding_rs.specs.declared.encoding.Encoding.{Encoding}
 use Rattle.encoding_rs.specs.Encodings.{output_rule}
-use Rattle.encoding_rs.specs.Encoder.{EncoderState, Encodes, fresh_encoder, raw_state, replacing}
+use Rattle.encoding_rs.specs.Encoder.{EncoderState, Encodes, fresh_encoder, raw_state, kept_in, replacing}
 use Rattle.encoding_rs.specs.EncodeRun.{whole_bytes}
-use Rattle.encoding_rs.specs.OneShot.{HasWritten}
+use Rattle.enc_units.specs.Checked.{plus}
+use Rattle.enc_encoders.specs.Lengths.{from_utf_8_length}
+use Rattle.encoding_rs.specs.Lengths.{output_lengths}
+use Rattle.encoding_rs.specs.Properties.{output_encoding_of}
+use Rattle.encoding_rs.specs.OneShot.{HasWritten, length_to_encode}
 use Rattle.enc_machine.proofs.SequenceLemmas.{or_assoc, or_false}
 use Rattle.encoding_rs.proofs.ProgressLemmas.{goes_on, none_due, output_rule_is}
 use Rattle.encoding_rs.proofs.UnreadLemmas.{boundary, chars_behind, all_read}
@@ -39,6 +44,17 @@ pub all_written : (e : Encoding) (text : List ℕ) (state : EncoderState) (wrote
 all_written e text state wrote w h =
     sym (append-nil wrote) ∙ ap (λ x. wrote ++ x) (sym (none_due state.barred state.encoding)) ∙ ap (λ (s : CharacterSet). wrote ++ bytes_by (raw_state state).rule s []) (sym h)
     ∙ sym w.whole
+
+-- Where the whole text is unread, the length that is asked for is that of the whole text: there is none now if there was none.
+pub none_asked : (e : Encoding) (text rest unread : List ℕ) (state : EncoderState) (wrote : List ℕ) → HasWritten e text rest state wrote
+    → (all : List ℕ) → unread ≡ all → length_to_encode (output_encoding_of e) (length all) ≡ None → (told : Option ℕ)
+    → told ≡ plus (from_utf_8_length (output_lengths state.encoding) (length unread)) (kept_in state.barred state.encoding) → (n : ℕ) → plus told n ≡ None
+none_asked e text rest unread state wrote w all u none told t n =
+    ap (λ m. plus m n) (
+      t ∙ ap (λ x. plus (from_utf_8_length (output_lengths state.encoding) (length x)) (kept_in state.barred state.encoding)) u
+      ∙ ap (λ b. plus (from_utf_8_length (output_lengths state.encoding) (length all)) (kept_in b state.encoding)) w.barred
+      ∙ ap (λ o. length_to_encode o (length all)) w.encoding ∙ none
+    )
 
 -- One call more, whose bytes stand behind those that were written.
 module _ (e : Encoding) (text rest : List ℕ) (old new : EncoderState) (before after : List ℕ) (had : Bool) (u : IsUtf8 rest) (w : HasWritten e text (chars rest) old before)
