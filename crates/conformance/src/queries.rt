@@ -1,12 +1,10 @@
 //! Lengths to allocate that decoders tell, with the formulas of their codecs computed by hand: in every state, and at the ends
 //! of what can be told.
 
-use enc_codec::{Codec, DecoderResult, RawDecoder, SingleByteIndex};
-use enc_units::Utf8Slice;
 use encoding_rs::run::BomHandling;
 use encoding_rs::{
-    BIG5, CoderResult, Decoder, EUC_JP, EUC_KR, Encoding, GB18030, GBK, ISO_2022_JP, KOI8_R,
-    REPLACEMENT, SHIFT_JIS, UTF_8, UTF_16BE, UTF_16LE, WINDOWS_1252, X_USER_DEFINED,
+    BIG5, CoderResult, Decoder, DecoderResult, EUC_JP, EUC_KR, Encoding, GB18030, GBK, ISO_2022_JP,
+    KOI8_R, REPLACEMENT, SHIFT_JIS, UTF_8, UTF_16BE, UTF_16LE, WINDOWS_1252, X_USER_DEFINED,
 };
 use std::process::Abort;
 use std::test::Fail;
@@ -449,64 +447,5 @@ fn a_mark_that_breaks_off_has_room(rt: HostRuntime) {
             decode_in_room(&rt, &mut decoder, *chunk);
         }
         assert!(rt; decoder.is_finished());
-    }
-}
-
-/// A codec and the bytes that its decoder was offered; and for so many bytes more the lengths.
-type RawRow = (Codec, &'static [u8], usize, Lengths);
-
-const RAW_ROWS: &[RawRow] = &[
-    (Codec::Utf8, b"", 2, (Some(9), Some(5), Some(3))),
-    (Codec::Utf8, b"\xE2", 2, (Some(12), Some(6), Some(4))),
-    (
-        Codec::Utf16Be,
-        b"\xD8\x3D\xDC",
-        1,
-        (Some(7), Some(7), Some(3)),
-    ),
-    (Codec::Utf16Le, b"", 3, (Some(7), Some(7), Some(3))),
-    (
-        Codec::SingleByte(SingleByteIndex::Windows1252),
-        b"",
-        5,
-        (Some(15), Some(15), Some(5)),
-    ),
-    (Codec::XUserDefined, b"", 5, (Some(15), Some(15), Some(5))),
-    (Codec::Replacement, b"", 9, (Some(3), Some(3), Some(1))),
-    (Codec::Big5, b"\xA4", 2, (Some(9), Some(9), Some(3))),
-    (Codec::EucKr, b"\xB0", 2, (Some(9), Some(9), Some(3))),
-    (Codec::ShiftJis, b"\x83", 2, (Some(9), Some(9), Some(3))),
-    (Codec::EucJp, b"\x8F\xB0", 2, (Some(12), Some(12), Some(4))),
-    (Codec::Gbk, b"\x81\x30", 2, (Some(12), Some(12), Some(4))),
-    (
-        Codec::Gb18030,
-        b"\x81\x30\x81",
-        1,
-        (Some(12), Some(12), Some(4)),
-    ),
-    (
-        Codec::Iso2022Jp,
-        b"\x1B\x28\x4A",
-        1,
-        (Some(12), Some(12), Some(4)),
-    ),
-    (Codec::Utf8, b"\xE2", MAX, (None, None, None)),
-    (Codec::Iso2022Jp, b"\x1B", MAX, (None, None, None)),
-];
-
-#[test]
-fn decoders_by_themselves_tell_lengths(rt: HostRuntime) {
-    for (codec, bytes, more, want) in RAW_ROWS {
-        let mut decoder = codec.new_decoder();
-        let mut buffer = [0; 16];
-        let mut out = Utf8Slice::new(&mut buffer);
-        let (result, read) = decoder.decode(bytes, &mut out, false, false);
-        assert_eq!(rt; (result, read), (DecoderResult::InputEmpty, bytes.len()));
-        let told = (
-            decoder.max_utf8_buffer_length(*more),
-            decoder.max_utf8_buffer_length_without_replacement(*more),
-            decoder.max_utf16_buffer_length(*more),
-        );
-        assert_eq!(rt; told, *want, "{bytes:?} {more}");
     }
 }

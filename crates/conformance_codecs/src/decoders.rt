@@ -1,5 +1,5 @@
-//! The decoders of codecs by name: their calls, which report what is malformed, and the bytes that they hold. What is
-//! expected is by hand from the Encoding Standard (8 to 14).
+//! The decoders of codecs by name: their calls, which report what is malformed, the bytes that they hold, and the lengths
+//! that they tell. What is expected is by hand from the Encoding Standard (8 to 14) and from the formulas of the codecs.
 
 use enc_codec::{Codec, DecoderResult, RawDecoder, SingleByteIndex, VariantDecoder};
 use enc_units::Utf8Slice;
@@ -69,4 +69,66 @@ fn reports_where_the_replacement_fits(rt: HostRuntime) {
     let two = (DecoderResult::Malformed(2, 0), 2);
     call_with_malformed(&rt, Codec::Utf16Le, &[0x00, 0xDC], (2, true), (full, 1));
     call_with_malformed(&rt, Codec::Utf16Le, &[0x00, 0xDC], (3, true), two);
+}
+
+/// The lengths for calls into UTF-8 with replacement, for those without, and for calls into UTF-16.
+type Lengths = (Option<usize>, Option<usize>, Option<usize>);
+
+/// A codec and the bytes that its decoder was offered; and for so many bytes more the lengths.
+type LengthsRow = (Codec, &'static [u8], usize, Lengths);
+
+const LENGTHS_ROWS: &[LengthsRow] = &[
+    (Codec::Utf8, b"", 2, (Some(9), Some(5), Some(3))),
+    (Codec::Utf8, b"\xE2", 2, (Some(12), Some(6), Some(4))),
+    (
+        Codec::Utf16Be,
+        b"\xD8\x3D\xDC",
+        1,
+        (Some(7), Some(7), Some(3)),
+    ),
+    (Codec::Utf16Le, b"", 3, (Some(7), Some(7), Some(3))),
+    (
+        Codec::SingleByte(SingleByteIndex::Windows1252),
+        b"",
+        5,
+        (Some(15), Some(15), Some(5)),
+    ),
+    (Codec::XUserDefined, b"", 5, (Some(15), Some(15), Some(5))),
+    (Codec::Replacement, b"", 9, (Some(3), Some(3), Some(1))),
+    (Codec::Big5, b"\xA4", 2, (Some(9), Some(9), Some(3))),
+    (Codec::EucKr, b"\xB0", 2, (Some(9), Some(9), Some(3))),
+    (Codec::ShiftJis, b"\x83", 2, (Some(9), Some(9), Some(3))),
+    (Codec::EucJp, b"\x8F\xB0", 2, (Some(12), Some(12), Some(4))),
+    (Codec::Gbk, b"\x81\x30", 2, (Some(12), Some(12), Some(4))),
+    (
+        Codec::Gb18030,
+        b"\x81\x30\x81",
+        1,
+        (Some(12), Some(12), Some(4)),
+    ),
+    (
+        Codec::Iso2022Jp,
+        b"\x1B\x28\x4A",
+        1,
+        (Some(12), Some(12), Some(4)),
+    ),
+    (Codec::Utf8, b"\xE2", usize::MAX, (None, None, None)),
+    (Codec::Iso2022Jp, b"\x1B", usize::MAX, (None, None, None)),
+];
+
+#[test]
+fn decoders_by_themselves_tell_lengths(rt: HostRuntime) {
+    for (codec, bytes, more, want) in LENGTHS_ROWS {
+        let mut decoder = codec.new_decoder();
+        let mut buffer = [0; 16];
+        let mut out = Utf8Slice::new(&mut buffer);
+        let (result, read) = decoder.decode(bytes, &mut out, false, false);
+        assert_eq!(rt; (result, read), (DecoderResult::InputEmpty, bytes.len()));
+        let told = (
+            decoder.max_utf8_buffer_length(*more),
+            decoder.max_utf8_buffer_length_without_replacement(*more),
+            decoder.max_utf16_buffer_length(*more),
+        );
+        assert_eq!(rt; told, *want, "{bytes:?} {more}");
+    }
 }
