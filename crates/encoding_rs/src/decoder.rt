@@ -4,6 +4,7 @@ ghost use Rattle.std.specs.Prelude.{◌≡◌, ◌+◌, ◌-◌, ◌<◌, ◌≤
 ghost use Rattle.std.specs.Char.{encode_utf8};
 ghost use Rattle.std.specs.Char.Escape.{encode_utf16};
 ghost use Rattle.std.specs.String.{string_bytes, string_len, string_capacity};
+ghost use Rattle.std.specs.Str.{IsUtf8};
 ghost use Rattle.enc_units.specs.Validity.{IsWellFormedUtf8};
 ghost use Rattle.enc_machine.specs.Call.{Treatment, Replaced, Reported};
 ghost use Rattle.encoding_rs.specs.declared.bom.BomHandling.TheVariants as handling;
@@ -292,7 +293,9 @@ impl Decoder {
         requires { finished self.old ≡ false }
         ensures call { ConvertsReplacing encode_utf8 4 self.old self.new src.now last (length dst.old)
             result.0 result.1 (take result.2 dst.new) result.3 }
+        ensures read { result.1 ≤ length src.now }
         ensures written { result.2 ≤ length dst.old }
+        ensures text { IsUtf8 (take result.2 dst.new) }
         ensures behind { drop result.2 dst.new ≡ drop result.2 dst.old }
     {
         let mut out = Utf8Slice::new(dst);
@@ -319,7 +322,9 @@ impl Decoder {
         requires { finished self.old ≡ false }
         ensures call { ConvertsReporting encode_utf8 4 self.old self.new src.now last (length dst.old)
             result.0 result.1 (take result.2 dst.new) }
+        ensures read { result.1 ≤ length src.now }
         ensures written { result.2 ≤ length dst.old }
+        ensures text { IsUtf8 (take result.2 dst.new) }
         ensures behind { drop result.2 dst.new ≡ drop result.2 dst.old }
     {
         let mut out = Utf8Slice::new(dst);
@@ -341,6 +346,7 @@ impl Decoder {
         requires { finished self.old ≡ false }
         ensures call { ConvertsReplacing encode_utf16 2 self.old self.new src.now last (length dst.old)
             result.0 result.1 (take result.2 dst.new) result.3 }
+        ensures read { result.1 ≤ length src.now }
         ensures written { result.2 ≤ length dst.old }
         ensures behind { drop result.2 dst.new ≡ drop result.2 dst.old }
     {
@@ -363,6 +369,7 @@ impl Decoder {
         requires { finished self.old ≡ false }
         ensures call { ConvertsReporting encode_utf16 2 self.old self.new src.now last (length dst.old)
             result.0 result.1 (take result.2 dst.new) }
+        ensures read { result.1 ≤ length src.now }
         ensures written { result.2 ≤ length dst.old }
         ensures behind { drop result.2 dst.new ≡ drop result.2 dst.old }
     {
@@ -387,7 +394,9 @@ impl Decoder {
         requires utf8 { IsWellFormedUtf8 dst.old }
         ensures call { ConvertsReplacing encode_utf8 4 self.old self.new src.now last (length dst.old)
             result.0 result.1 (take result.2 dst.new) result.3 }
+        ensures read { result.1 ≤ length src.now }
         ensures written { result.2 ≤ length dst.old }
+        ensures text { IsUtf8 (take result.2 dst.new) }
         ensures behind { drop result.2 dst.new ≡ without_rest (drop result.2 dst.old) }
         ensures utf8 { IsWellFormedUtf8 dst.new }
     {
@@ -409,7 +418,9 @@ impl Decoder {
         requires utf8 { IsWellFormedUtf8 dst.old }
         ensures call { ConvertsReporting encode_utf8 4 self.old self.new src.now last (length dst.old)
             result.0 result.1 (take result.2 dst.new) }
+        ensures read { result.1 ≤ length src.now }
         ensures written { result.2 ≤ length dst.old }
+        ensures text { IsUtf8 (take result.2 dst.new) }
         ensures behind { drop result.2 dst.new ≡ without_rest (drop result.2 dst.old) }
         ensures utf8 { IsWellFormedUtf8 dst.new }
     {
@@ -433,6 +444,7 @@ impl Decoder {
         requires { finished self.old ≡ false }
         ensures call { ConvertsReplacing encode_utf8 4 self.old self.new src.now last (string_capacity dst.old - string_len dst.old)
             result.0 result.1 (drop (length (string_bytes dst.old)) (string_bytes dst.new)) result.2 }
+        ensures read { result.1 ≤ length src.now }
         ensures appended { take (length (string_bytes dst.old)) (string_bytes dst.new) ≡ string_bytes dst.old }
     {
         let mut tail = StringTail::new(dst);
@@ -450,6 +462,7 @@ impl Decoder {
         requires { finished self.old ≡ false }
         ensures call { ConvertsReporting encode_utf8 4 self.old self.new src.now last (string_capacity dst.old - string_len dst.old)
             result.0 result.1 (drop (length (string_bytes dst.old)) (string_bytes dst.new)) }
+        ensures read { result.1 ≤ length src.now }
         ensures appended { take (length (string_bytes dst.old)) (string_bytes dst.new) ≡ string_bytes dst.old }
     {
         let mut tail = StringTail::new(dst);

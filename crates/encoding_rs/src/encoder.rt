@@ -1,6 +1,7 @@
 //! Encoders.
 
-ghost use Rattle.std.specs.Prelude.{◌≡◌, ◌-◌, chars, true, false, [], length, take, drop, IfSome};
+ghost use Rattle.std.specs.Prelude.{◌≡◌, ◌-◌, ◌≤◌, chars, true, false, [], length, take, drop, IfSome};
+ghost use Rattle.std.specs.Str.{IsCharBoundary};
 ghost use Rattle.std.specs.Vec.{vec_len, vec_capacity};
 ghost use Rattle.std.specs.Char.{encode_utf8};
 ghost use Rattle.std.specs.Char.Escape.{encode_utf16};
@@ -224,8 +225,12 @@ impl Encoder {
         dst: &mut [u8],
         last: bool,
     ) -> (CoderResult, usize, usize, bool)
-        ensures { EncodesInto encode_utf8 (replacing self.old) self.old self.new (chars src.now) last dst.old dst.new
+        ensures call { EncodesInto encode_utf8 (replacing self.old) self.old self.new (chars src.now) last dst.old dst.new
             (stop_of result.0) result.1 result.2 result.3 }
+        ensures read { result.1 ≤ length src.now }
+        ensures boundary { IsCharBoundary src.now result.1 }
+        ensures written { result.2 ≤ length dst.old }
+        ensures behind { drop result.2 dst.new ≡ drop result.2 dst.old }
     {
         let mut chars = Utf8Chars::new(src);
         self.encode_replacing(&mut chars, dst, last)
@@ -239,8 +244,11 @@ impl Encoder {
         dst: &mut [u8],
         last: bool,
     ) -> (CoderResult, usize, usize, bool)
-        ensures { EncodesInto encode_utf16 (replacing self.old) self.old self.new (utf16_lossy_chars src.now) last dst.old dst.new
+        ensures call { EncodesInto encode_utf16 (replacing self.old) self.old self.new (utf16_lossy_chars src.now) last dst.old dst.new
             (stop_of result.0) result.1 result.2 result.3 }
+        ensures read { result.1 ≤ length src.now }
+        ensures written { result.2 ≤ length dst.old }
+        ensures behind { drop result.2 dst.new ≡ drop result.2 dst.old }
     {
         let mut units = Utf16Chars::new(src);
         self.encode_replacing(&mut units, dst, last)
@@ -257,6 +265,8 @@ impl Encoder {
     ) -> (CoderResult, usize, bool)
         ensures call { Encodes encode_utf8 (replacing self.old) self.old self.new (chars src.now) last (vec_capacity dst.old - vec_len dst.old)
             (stop_of result.0) result.1 (drop (length dst.old.items) dst.new.items) result.2 }
+        ensures read { result.1 ≤ length src.now }
+        ensures boundary { IsCharBoundary src.now result.1 }
         ensures appended { take (length dst.old.items) dst.new.items ≡ dst.old.items }
     {
         let len = dst.len();
@@ -278,6 +288,8 @@ impl Encoder {
             result.0 result.1 (drop (length dst.old.items) dst.new.items) false }
         ensures need { EncodesByNeed encode_utf8 self.old self.new (chars src.now) last (vec_capacity dst.old - vec_len dst.old)
             result.0 result.1 (length (drop (length dst.old.items) dst.new.items)) }
+        ensures read { result.1 ≤ length src.now }
+        ensures boundary { IsCharBoundary src.now result.1 }
         ensures appended { take (length dst.old.items) dst.new.items ≡ dst.old.items }
     {
         let len = dst.len();
@@ -311,6 +323,10 @@ impl Encoder {
     ) -> (EncoderResult, usize, usize)
         ensures call { EncodesInto encode_utf8 Reported self.old self.new (chars src.now) last dst.old dst.new result.0 result.1 result.2 false }
         ensures need { EncodesByNeed encode_utf8 self.old self.new (chars src.now) last (length dst.old) result.0 result.1 result.2 }
+        ensures read { result.1 ≤ length src.now }
+        ensures boundary { IsCharBoundary src.now result.1 }
+        ensures written { result.2 ≤ length dst.old }
+        ensures behind { drop result.2 dst.new ≡ drop result.2 dst.old }
     {
         let mut chars = Utf8Chars::new(src);
         self.encode_reporting(&mut chars, dst, last)
@@ -326,6 +342,9 @@ impl Encoder {
     ) -> (EncoderResult, usize, usize)
         ensures call { EncodesInto encode_utf16 Reported self.old self.new (utf16_lossy_chars src.now) last dst.old dst.new result.0 result.1 result.2 false }
         ensures need { EncodesByNeed encode_utf16 self.old self.new (utf16_lossy_chars src.now) last (length dst.old) result.0 result.1 result.2 }
+        ensures read { result.1 ≤ length src.now }
+        ensures written { result.2 ≤ length dst.old }
+        ensures behind { drop result.2 dst.new ≡ drop result.2 dst.old }
     {
         let mut units = Utf16Chars::new(src);
         self.encode_reporting(&mut units, dst, last)

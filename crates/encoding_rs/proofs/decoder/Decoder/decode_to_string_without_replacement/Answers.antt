@@ -13,3 +13,6 @@ pub returns-clause-appended : goal.returns-clause-appended
 returns-clause-appended c =
     let old = c.args.dst.now in
     in_front _ _ _ _ _ _ _ _ _ _ _ (string_bytes old) _ (length (string_bytes old)) c.convert_reporting.ensures (rw c.new-tail.ensures.now refl) refl (search rules)
+
+pub returns-clause-read : goal.returns-clause-read
+returns-clause-read c = (returns-clause-call c).decodes.call.within

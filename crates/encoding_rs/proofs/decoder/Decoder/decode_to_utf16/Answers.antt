@@ -6,3 +6,6 @@ pub returns-clause-call : goal.returns-clause-call
 returns-clause-call c =
     over_slice _ 2 _ _ _ _ _ _ _ _ _ _ _ (length c.args.dst.now) two_units c.convert_replacing-result.ensures
     (rw c.new-units.ensures.len refl) (rw (c.new-units.ensures.now, c.new-units.ensures.len) (omega arith)) (search rules)
+
+pub returns-clause-read : goal.returns-clause-read
+returns-clause-read c = (returns-clause-call c).decodes.call.within
