@@ -184,7 +184,7 @@ module _ (a b c : EncoderState) (text rest : List ℕ) (last : Bool) (k₀ k₁ 
   pub fewer_steps : (unread : List ℕ) → unread ≡ drop read rest → 14 ≤ length before → ¬ (result ≡ InputEmpty)
       → length (steps_from (raw_state c) last (chars unread)) < length (steps_from (raw_state b) last (chars rest))
   fewer_steps unread e r n =
-      rw (ap chars e ∙ unread_is) (goes_on b c (chars rest) last (length before) result read (take written after) r₂ q.encodes r n)
+      rw (ap chars e ∙ unread_is) (goes_on encode_utf8 b c (chars rest) last (length before) result read (take written after) r₂ q.encodes n r)
 
   module _ (k₂ : Option (List ℕ)) where
     taken_all : (unread : List ℕ) → unread ≡ q.encodes.rest → TakesMore k₁ k₂ (take written after) → HasEncoded a c text unread last k₀ k₂ (r₁ || r₂)

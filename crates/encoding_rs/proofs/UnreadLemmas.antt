@@ -11,7 +11,7 @@ use Rattle.enc_calls.specs.declared.coder_result.CoderResult.{CoderResult}
 use Rattle.enc_calls.specs.declared.coder_result.CoderResult.TheVariants.{InputEmpty, OutputFull}
 use Rattle.enc_units.specs.Output.{units_of_text}
 use Rattle.enc_units.proofs.Utf8CharsLemmas.{their_units}
-use Rattle.enc_units.proofs.CharsLemmas.{AreUnits, utf16_length}
+use Rattle.enc_units.proofs.CharsLemmas.{AreUnits, utf16_length, lossy_behind}
 use Rattle.enc_machine.proofs.SequenceLemmas.{units_of_text-append}
 use Rattle.enc_encoders.specs.EncoderRule.{RawState}
 use Rattle.enc_encoders.specs.declared.encoder_result.EncoderResult.{EncoderResult}
@@ -72,3 +72,15 @@ ends_within text u treatment old new last room result read wrote replaced e =
     let parts = length-append (units_of_text encode_utf16 (chars_of e.call.done)) (units_of_text encode_utf16 e.rest) in
     let r = e.call.units in
     omega (arith, all, parts, r)
+
+-- The characters behind those that are read.
+
+pub chars_unread : (text : List ℕ) → IsUtf8 text → (treatment : Treatment) (old new : EncoderState) (last : Bool) (room : ℕ) (result : EncoderResult) (read : ℕ) (wrote : List ℕ) (replaced : Bool)
+    (e : Encodes encode_utf8 treatment old new (chars text) last room result read wrote replaced) → chars (drop read text) ≡ e.rest
+chars_unread text u treatment old new last room result read wrote replaced e =
+    chars_behind text (chars_of e.call.done) e.rest read u e.call.reads e.call.units
+
+pub lossy_unread : (text : List ℕ) → AreUnits text → (treatment : Treatment) (old new : EncoderState) (last : Bool) (room : ℕ) (result : EncoderResult) (read : ℕ) (wrote : List ℕ) (replaced : Bool)
+    (e : Encodes encode_utf16 treatment old new (utf16_lossy_chars text) last room result read wrote replaced) → utf16_lossy_chars (drop read text) ≡ e.rest
+lossy_unread text u treatment old new last room result read wrote replaced e =
+    ap (λ n. utf16_lossy_chars (drop n text)) e.call.units ∙ lossy_behind text u (chars_of e.call.done) e.rest e.call.reads

@@ -106,7 +106,7 @@ module _ (e : Encoding) (text rest : List ℕ) (old new : EncoderState) (before 
   pub fewer_steps : (unread : List ℕ) → unread ≡ drop read rest → 14 ≤ room → ¬ (result ≡ InputEmpty)
       → length (steps_from (raw_state new) true (chars unread)) < length (steps_from (raw_state old) true (chars rest))
   fewer_steps unread h r n =
-      rw (ap chars h ∙ unread_is) (goes_on old new (chars rest) true room result read (drop (length before) after) replaced d r n)
+      rw (ap chars h ∙ unread_is) (goes_on encode_utf8 old new (chars rest) true room result read (drop (length before) after) replaced d n r)
 
   -- and that is
   pub written_all : result ≡ InputEmpty → after ≡ whole_bytes [] e text

@@ -6,7 +6,7 @@ ghost use Rattle.std.specs.Char.Escape.{encode_utf16};
 ghost use Rattle.std.specs.String.{string_bytes, string_len, string_capacity};
 ghost use Rattle.std.specs.Str.{IsUtf8};
 ghost use Rattle.enc_units.specs.Validity.{IsWellFormedUtf8};
-ghost use Rattle.enc_machine.specs.Call.{Treatment, Replaced, Reported};
+ghost use Rattle.enc_machine.specs.Call.{Treatment, Replaced, Reported, is_end};
 ghost use Rattle.encoding_rs.specs.declared.bom.BomHandling.TheVariants as handling;
 ghost use Rattle.enc_units.specs.Rest.{without_rest};
 ghost use Rattle.encoding_rs.specs.Latin1.{TellsLatin1};
@@ -297,6 +297,9 @@ impl Decoder {
         ensures written { result.2 ≤ length dst.old }
         ensures text { IsUtf8 (take result.2 dst.new) }
         ensures behind { drop result.2 dst.new ≡ drop result.2 dst.old }
+        ensures ended { finished self.new ≡ is_end last (stop_of result.0) }
+        ensures progress { result.0 ≡ CoderResult.OutputFull → 4 ≤ length dst.old →
+            length self.new.pending + (length src.now - result.1) < length self.old.pending + length src.now }
     {
         let mut out = Utf8Slice::new(dst);
         let (result, read, replaced) = self.convert_replacing(src, &mut out, last);
@@ -326,6 +329,9 @@ impl Decoder {
         ensures written { result.2 ≤ length dst.old }
         ensures text { IsUtf8 (take result.2 dst.new) }
         ensures behind { drop result.2 dst.new ≡ drop result.2 dst.old }
+        ensures ended { finished self.new ≡ is_end last result.0 }
+        ensures progress { result.0 ≡ DecoderResult.OutputFull → 4 ≤ length dst.old →
+            length self.new.pending + (length src.now - result.1) < length self.old.pending + length src.now }
     {
         let mut out = Utf8Slice::new(dst);
         let (result, read) = self.convert_reporting(src, &mut out, last);
@@ -349,6 +355,9 @@ impl Decoder {
         ensures read { result.1 ≤ length src.now }
         ensures written { result.2 ≤ length dst.old }
         ensures behind { drop result.2 dst.new ≡ drop result.2 dst.old }
+        ensures ended { finished self.new ≡ is_end last (stop_of result.0) }
+        ensures progress { result.0 ≡ CoderResult.OutputFull → 2 ≤ length dst.old →
+            length self.new.pending + (length src.now - result.1) < length self.old.pending + length src.now }
     {
         let mut units = Utf16Slice::new(dst);
         let (result, read, replaced) = self.convert_replacing(src, &mut units, last);
@@ -372,6 +381,9 @@ impl Decoder {
         ensures read { result.1 ≤ length src.now }
         ensures written { result.2 ≤ length dst.old }
         ensures behind { drop result.2 dst.new ≡ drop result.2 dst.old }
+        ensures ended { finished self.new ≡ is_end last result.0 }
+        ensures progress { result.0 ≡ DecoderResult.OutputFull → 2 ≤ length dst.old →
+            length self.new.pending + (length src.now - result.1) < length self.old.pending + length src.now }
     {
         let mut units = Utf16Slice::new(dst);
         let (result, read) = self.convert_reporting(src, &mut units, last);
@@ -399,6 +411,9 @@ impl Decoder {
         ensures text { IsUtf8 (take result.2 dst.new) }
         ensures behind { drop result.2 dst.new ≡ without_rest (drop result.2 dst.old) }
         ensures utf8 { IsWellFormedUtf8 dst.new }
+        ensures ended { finished self.new ≡ is_end last (stop_of result.0) }
+        ensures progress { result.0 ≡ CoderResult.OutputFull → 4 ≤ length dst.old →
+            length self.new.pending + (length src.now - result.1) < length self.old.pending + length src.now }
     {
         let (result, read, written, replaced) = self.decode_to_utf8(src, dst, last);
         clear_rest(dst, written);
@@ -423,6 +438,9 @@ impl Decoder {
         ensures text { IsUtf8 (take result.2 dst.new) }
         ensures behind { drop result.2 dst.new ≡ without_rest (drop result.2 dst.old) }
         ensures utf8 { IsWellFormedUtf8 dst.new }
+        ensures ended { finished self.new ≡ is_end last result.0 }
+        ensures progress { result.0 ≡ DecoderResult.OutputFull → 4 ≤ length dst.old →
+            length self.new.pending + (length src.now - result.1) < length self.old.pending + length src.now }
     {
         let (result, read, len) = self.decode_to_utf8_without_replacement(src, dst, last);
         clear_rest(dst, len);
@@ -446,6 +464,9 @@ impl Decoder {
             result.0 result.1 (drop (length (string_bytes dst.old)) (string_bytes dst.new)) result.2 }
         ensures read { result.1 ≤ length src.now }
         ensures appended { take (length (string_bytes dst.old)) (string_bytes dst.new) ≡ string_bytes dst.old }
+        ensures ended { finished self.new ≡ is_end last (stop_of result.0) }
+        ensures progress { result.0 ≡ CoderResult.OutputFull → 4 ≤ string_capacity dst.old - string_len dst.old →
+            length self.new.pending + (length src.now - result.1) < length self.old.pending + length src.now }
     {
         let mut tail = StringTail::new(dst);
         self.convert_replacing(src, &mut tail, last)
@@ -464,6 +485,9 @@ impl Decoder {
             result.0 result.1 (drop (length (string_bytes dst.old)) (string_bytes dst.new)) }
         ensures read { result.1 ≤ length src.now }
         ensures appended { take (length (string_bytes dst.old)) (string_bytes dst.new) ≡ string_bytes dst.old }
+        ensures ended { finished self.new ≡ is_end last result.0 }
+        ensures progress { result.0 ≡ DecoderResult.OutputFull → 4 ≤ string_capacity dst.old - string_len dst.old →
+            length self.new.pending + (length src.now - result.1) < length self.old.pending + length src.now }
     {
         let mut tail = StringTail::new(dst);
         self.convert_reporting(src, &mut tail, last)

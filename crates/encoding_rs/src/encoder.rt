@@ -1,6 +1,6 @@
 //! Encoders.
 
-ghost use Rattle.std.specs.Prelude.{◌≡◌, ◌-◌, ◌≤◌, chars, true, false, [], length, take, drop, IfSome};
+ghost use Rattle.std.specs.Prelude.{◌≡◌, ◌-◌, ◌<◌, ◌≤◌, chars, true, false, [], length, take, drop, IfSome};
 ghost use Rattle.std.specs.Str.{IsCharBoundary};
 ghost use Rattle.std.specs.Vec.{vec_len, vec_capacity};
 ghost use Rattle.std.specs.Char.{encode_utf8};
@@ -12,7 +12,7 @@ ghost use Rattle.enc_references.specs.Treatment.{Reported, stop_of};
 ghost use Rattle.enc_units.specs.Checked.{plus};
 ghost use Rattle.enc_encoders.specs.Lengths.{from_utf_8_length, from_utf_16_length};
 ghost use Rattle.enc_encoders.specs.Need.{AreEnough};
-ghost use Rattle.encoding_rs.specs.Encoder.{Encodes, EncodesInto, fresh_encoder, has_every as wanted_every, kept_in, raw_state, replacing};
+ghost use Rattle.encoding_rs.specs.Encoder.{Encodes, EncodesInto, fresh_encoder, has_every as wanted_every, kept_in, raw_state, replacing, steps_left};
 ghost use Rattle.encoding_rs.specs.Lengths.{output_lengths};
 ghost use Rattle.encoding_rs.specs.Need.{EncodesByNeed, IsEnough, IsEnoughIfMappable};
 
@@ -231,6 +231,8 @@ impl Encoder {
         ensures boundary { IsCharBoundary src.now result.1 }
         ensures written { result.2 ≤ length dst.old }
         ensures behind { drop result.2 dst.new ≡ drop result.2 dst.old }
+        ensures progress { (result.0 ≡ CoderResult.InputEmpty → ⊥) → 14 ≤ length dst.old →
+            steps_left self.new last (chars (drop result.1 src.now)) < steps_left self.old last (chars src.now) }
     {
         let mut chars = Utf8Chars::new(src);
         self.encode_replacing(&mut chars, dst, last)
@@ -249,6 +251,8 @@ impl Encoder {
         ensures read { result.1 ≤ length src.now }
         ensures written { result.2 ≤ length dst.old }
         ensures behind { drop result.2 dst.new ≡ drop result.2 dst.old }
+        ensures progress { (result.0 ≡ CoderResult.InputEmpty → ⊥) → 14 ≤ length dst.old →
+            steps_left self.new last (utf16_lossy_chars (drop result.1 src.now)) < steps_left self.old last (utf16_lossy_chars src.now) }
     {
         let mut units = Utf16Chars::new(src);
         self.encode_replacing(&mut units, dst, last)
@@ -268,6 +272,8 @@ impl Encoder {
         ensures read { result.1 ≤ length src.now }
         ensures boundary { IsCharBoundary src.now result.1 }
         ensures appended { take (length dst.old.items) dst.new.items ≡ dst.old.items }
+        ensures progress { (result.0 ≡ CoderResult.InputEmpty → ⊥) → 14 ≤ vec_capacity dst.old - vec_len dst.old →
+            steps_left self.new last (chars (drop result.1 src.now)) < steps_left self.old last (chars src.now) }
     {
         let len = dst.len();
         let _ = dst.resize(dst.capacity(), 0);
@@ -291,6 +297,8 @@ impl Encoder {
         ensures read { result.1 ≤ length src.now }
         ensures boundary { IsCharBoundary src.now result.1 }
         ensures appended { take (length dst.old.items) dst.new.items ≡ dst.old.items }
+        ensures progress { (result.0 ≡ EncoderResult.InputEmpty → ⊥) → 4 ≤ vec_capacity dst.old - vec_len dst.old →
+            steps_left self.new last (chars (drop result.1 src.now)) < steps_left self.old last (chars src.now) }
     {
         let len = dst.len();
         let _ = dst.resize(dst.capacity(), 0);
@@ -327,6 +335,8 @@ impl Encoder {
         ensures boundary { IsCharBoundary src.now result.1 }
         ensures written { result.2 ≤ length dst.old }
         ensures behind { drop result.2 dst.new ≡ drop result.2 dst.old }
+        ensures progress { (result.0 ≡ EncoderResult.InputEmpty → ⊥) → 4 ≤ length dst.old →
+            steps_left self.new last (chars (drop result.1 src.now)) < steps_left self.old last (chars src.now) }
     {
         let mut chars = Utf8Chars::new(src);
         self.encode_reporting(&mut chars, dst, last)
@@ -345,6 +355,8 @@ impl Encoder {
         ensures read { result.1 ≤ length src.now }
         ensures written { result.2 ≤ length dst.old }
         ensures behind { drop result.2 dst.new ≡ drop result.2 dst.old }
+        ensures progress { (result.0 ≡ EncoderResult.InputEmpty → ⊥) → 4 ≤ length dst.old →
+            steps_left self.new last (utf16_lossy_chars (drop result.1 src.now)) < steps_left self.old last (utf16_lossy_chars src.now) }
     {
         let mut units = Utf16Chars::new(src);
         self.encode_reporting(&mut units, dst, last)

@@ -1,4 +1,5 @@
 use Rattle.std.proofs.Common.{length, refl, arith, rules}
+use Rattle.encoding_rs.proofs.EndLemmas.{finishes_by}
 use Rattle.encoding_rs.proofs.FullLemmas.{over_slice, two_units}
 use Rattle.encoding_rs.proofs.decoder.Decoder.decode_to_utf16_without_replacement.Goals as goal
 
@@ -9,3 +10,9 @@ returns-clause-call c =
 
 pub returns-clause-read : goal.returns-clause-read
 returns-clause-read c = (returns-clause-call c).decodes.call.within
+
+pub returns-clause-ended : goal.returns-clause-ended
+returns-clause-ended c = finishes_by _ _ _ _ _ _ _ _ _ _ _ (returns-clause-call c).decodes
+
+pub returns-clause-progress : goal.returns-clause-progress
+returns-clause-progress c = (returns-clause-call c).progress
