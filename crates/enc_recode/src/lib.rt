@@ -4,12 +4,12 @@
 #![tactic(auto)]
 
 mod engine;
-mod labels;
+mod exit;
+mod label_pair;
 mod sink;
-mod status;
 
 pub use enc_reader::{FromRead, Source};
 pub use engine::{RecodeFault, run};
-pub use labels::labels;
+pub use exit::status;
+pub use label_pair::labels;
 pub use sink::{FromWrite, Sink};
-pub use status::status;

@@ -4,7 +4,7 @@ use Rattle.std.specs.Vec.{vec_len, vec_capacity}
 use Rattle.enc_calls.specs.declared.coder_result.CoderResult.TheVariants.{InputEmpty}
 use Rattle.encoding_rs.proofs.OneShotLemmas.{nothing}
 use Rattle.encoding_rs.proofs.UnreadLemmas.{no_chars}
-use Rattle.encoding_rs.proofs.WrittenLemmas.{none_written, none_asked, nothing_written, at_boundary, written_on, flagged_on, fewer_steps, written_all, flagged_all}
+use Rattle.encoding_rs.proofs.WrittenLemmas.{none_written, none_asked, nothing_written, written_on, flagged_on, written_all, flagged_all}
 use Rattle.encoding_rs.proofs.encoding.Encoding.encode.Goals as goal
 
 pub calls-init : goal.calls-init
@@ -50,22 +50,6 @@ returns-then-eq-clause-flag c =
     let d = c.encode_from_utf8_to_vec-stop.ensures in
     let at_end : c.encode_from_utf8_to_vec-stop.result.0 ≡ InputEmpty = search rules in
     flagged_all _ _ _ _ _ _ _ _ i.0 w i.1.flag _ _ _ _ d.call d.appended at_end
-
-pub split_at-requires : goal.split_at-requires
-split_at-requires c =
-    let i = c.calls.invariant in
-    let w = rw (← c.in_ok-make_byte_room.ensures.bytes) at i.1.written in
-    let d = c.encode_from_utf8_to_vec-stop.ensures in
-    at_boundary _ _ _ _ _ _ _ _ i.0 w i.1.flag _ _ _ _ d.call d.appended
-
-pub calls-smaller : goal.calls-smaller
-calls-smaller c =
-    let i = c.calls.invariant in
-    let w = rw (← c.in_ok-make_byte_room.ensures.bytes) at i.1.written in
-    let d = c.encode_from_utf8_to_vec-stop.ensures in
-    let room : 14 ≤ vec_capacity c.make_byte_room.new.bytes - vec_len c.make_byte_room.new.bytes = search rules in
-    let on : ¬ (c.encode_from_utf8_to_vec-stop.result.0 ≡ InputEmpty) = search rules in
-    fewer_steps _ _ _ _ _ _ _ _ i.0 w i.1.flag _ _ _ _ d.call d.appended _ c.split_at.ensures.back room on
 
 pub calls-preserved : goal.calls-preserved
 calls-preserved c =

@@ -1,10 +1,9 @@
 use Rattle.std.proofs.Common.{◌≡◌, ℕ, List, ◌++◌, None, chars, length, true, [], ◌||◌}
 use denote.Text.{Utf8}
 use denote.Shadow.{shadow}
-use Rattle.enc_encoders.specs.Steps.{steps_from}
 use Rattle.enc_references.specs.Unmappable.{any_unmappable}
 use Rattle.encoding_rs.specs.Encodings.{output_rule}
-use Rattle.encoding_rs.specs.Encoder.{raw_state}
+use Rattle.encoding_rs.specs.Encoder.{steps_left}
 use Rattle.encoding_rs.specs.OneShot.{length_to_encode, HasWritten}
 use Rattle.encoding_rs.specs.Properties.{output_encoding_of}
 use Rattle.encoding_rs.proofs.encoding.Encoding.encode.Given as goal
@@ -20,4 +19,4 @@ invariant-calls l = shadow (Utf8 l.unread) × record {
 }
 
 abbrev pub decreases-calls : goal.decreases-calls
-decreases-calls l = length (steps_from (raw_state l.encoder) true (chars l.unread))
+decreases-calls l = steps_left l.encoder true (chars l.unread)
