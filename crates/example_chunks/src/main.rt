@@ -83,7 +83,11 @@ fn encode_text<W: Write>(
 }
 
 /// Encodes all text that a reader gives, a piece at a time.
-fn encode_all<R: Read, W: Write>(input: R, out: &mut W, encoding: Encoding) -> io::Result<bool> {
+fn encode_all<R: Read, W: Write>(
+    input: &mut R,
+    out: &mut W,
+    encoding: Encoding,
+) -> io::Result<bool> {
     let mut source = FromRead::new(input);
     let mut buffer = [0; LENGTH];
     let mut reader = DecodeReader::new(&mut source, None, &mut buffer);
@@ -124,7 +128,7 @@ fn main(rt: HostRuntime) -> ExitCode {
     let (mut input, mut out) = (rt.stdin(), rt.stdout());
     let outcome = match command.as_str() {
         "decode" => decode_all(&mut input, &mut out, encoding),
-        "encode" => encode_all(input, &mut out, encoding),
+        "encode" => encode_all(&mut input, &mut out, encoding),
         _ => return ExitCode::from(2),
     };
     match outcome {
