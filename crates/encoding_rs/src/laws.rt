@@ -16,7 +16,7 @@ ghost use Rattle.encoding_rs.specs.EncodeRun.{whole_bytes};
 ghost use Rattle.encoding_rs.specs.Labels.{labelled, get};
 ghost use Rattle.encoding_rs.specs.Names.{name_of};
 ghost use Rattle.encoding_rs.specs.Properties.{output_encoding_of, is_ascii_compatible, is_single_byte};
-ghost use Rattle.enc_codec.specs.Properties.{IsAsciiCompatible, IsSingleByte};
+ghost use Rattle.enc_codec.specs.Properties.{IsAsciiCompatible, IsSingleByte, TellsBbByItself};
 ghost use Rattle.enc_machine.specs.Sequence.{Sequence, bytes_of, text_of};
 ghost use Rattle.enc_machine.specs.Segmentation.{sequences_of, IsSegmentation};
 ghost use Rattle.enc_machine.specs.Remainder.{Determines};
@@ -146,6 +146,14 @@ pub fn ascii_compatible_decode_ascii(encoding: Encoding)
 /// byte, and a text. (In replacement each has one byte too, but the first one alone has a text.)
 pub fn single_byte_decode_bytes(encoding: Encoding)
     ensures { (is_single_byte encoding ≡ true) ↔ IsSingleByte (rule_of encoding) }
+{
+    let _ = encoding;
+}
+
+/// Where EF is a sequence by itself in front of BB, so is BB, and no byte behind it is needed to tell it. So a decoder that has put out
+/// EF of a byte order mark that broke off, and not yet BB, has read nothing behind BB.
+pub fn pending_bb_is_told_by_itself(encoding: Encoding)
+    ensures { TellsBbByItself (rule_of encoding) }
 {
     let _ = encoding;
 }
