@@ -28,7 +28,8 @@ later_acts b =
     shows_with replacement_state true true Nothing Skipped 1 b refl refl refl refl (λ m. cc)
     (λ z. sequences_of-cons replacement_rule 1 b z)
 
-told_by_itself : (set b : ℕ) (z : List ℕ) → IsToldBy replacement_rule set b z 0
+-- each byte is told by itself
+pub told_by_itself : (set b : ℕ) (z : List ℕ) → IsToldBy replacement_rule set b z 0
 unfolding replacement_rule
 told_by_itself zero b z = record { there = omega arith; same = λ y. refl }
 told_by_itself (suc set) b z = record { there = omega arith; same = λ y. refl }
