@@ -85,10 +85,10 @@ module _ (rule : Rule) (law : HasLookahead rule) where
       enough n t = elim (leb_tells (more + n) j) [
         | inl l ↦ l.1
         | inr f ↦ absurd (
-          let o = own_bytes in let g = f.1 in
-          let i : more + (j - more) ≡ j = omega (arith, o) in
-          t.least a (j - more) (omega (arith, o, g))
-          (λ y e. ap (λ k. rule set b (take k z ++ y)) i ∙ same_head (take j z ++ y) (d y e)))
+            let o = own_bytes in let g = f.1 in
+            let i : more + (j - more) ≡ j = omega (arith, o) in
+            t.least a (j - more) (omega (arith, o, g))
+            (λ y e. ap (λ k. rule set b (take k z ++ y)) i ∙ same_head (take j z ++ y) (d y e)))
       ]
 
       looked : (n : ℕ) × Looks rule set b z n × (1 + more + n ≤ suc j)
@@ -142,7 +142,7 @@ pub told_not_by_end : (rule : Rule) (set b : ℕ) (z : List ℕ) (n : ℕ) → I
 told_not_by_end rule set b z n t e =
     let i = (rule set b z).more + n in
     e.other (
-      ap (rule set b) (ap (λ x. x ++ e.more) (sym (take-append-drop i z)) ∙ append_assoc (take i z) (drop i z) e.more) ∙ t.same (drop i z ++ e.more)
+    ap (rule set b) (ap (λ x. x ++ e.more) (sym (take-append-drop i z)) ∙ append_assoc (take i z) (drop i z) e.more) ∙ t.same (drop i z ++ e.more)
     )
 
 -- no more than some that are enough

@@ -183,9 +183,13 @@ told set b z =
       | inr s ↦ inr (
         stops_short set b z s.1,
         elim (leb_tells (suc (reach b z)) (length z)) [
-          | inl l ↦ inl (1, omega arith, looks_by utf_8_rule set b z 0 (reach b z) (told_at set b (suc (reach b z)) 1 z (omega arith) l.1 (λ q. absurd (omega (arith, q))))
-              (let m = more_is_reach set b z in omega (arith, m))
-              (by_end set b (take (reach b z) z) (reach_alone b z ∙ sym (length-take-le (reach b z) z w.1)) (let k = length-take-le (reach b z) z w.1 in omega (arith, k, s.1))))
+          | inl l ↦ inl (
+            1,
+            omega arith,
+            looks_by utf_8_rule set b z 0 (reach b z) (told_at set b (suc (reach b z)) 1 z (omega arith) l.1 (λ q. absurd (omega (arith, q))))
+                (let m = more_is_reach set b z in omega (arith, m))
+                (by_end set b (take (reach b z) z) (reach_alone b z ∙ sym (length-take-le (reach b z) z w.1)) (let k = length-take-le (reach b z) z w.1 in omega (arith, k, s.1))),
+          )
           | inr g ↦ inr (by_end set b z (omega (arith, g.1, w.1)) (omega (arith, g.1, w.1, s.1)))
         ],
       )

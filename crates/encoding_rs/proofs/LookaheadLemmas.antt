@@ -109,8 +109,8 @@ module _ (handling : BomHandling) (e : Encoding) (bytes : List ℕ) (s : Sequenc
       ↔ ((MayBeginMark looked_for (take k bytes) → ⊥) × ReachBehind rule 0 left (s ∷ ss) (k - mark_len))
   determined_whole = (
     (λ d. let n : MayBeginMark looked_for (take k bytes) → ⊥ = λ i. undetermined handling e (take k bytes) s ss i d in (
-        n,
-        reach_behind rule (lookahead_of (encoding_by found e)) (s ∷ ss) rest 0 (k - mark_len) left (bytes_behind found bytes a) all (few n) ((by_front n).0 d),
-      )),
+      n,
+      reach_behind rule (lookahead_of (encoding_by found e)) (s ∷ ss) rest 0 (k - mark_len) left (bytes_behind found bytes a) all (few n) ((by_front n).0 d),
+    )),
     (λ r. (by_front r.0).1 (determine_if_behind rule (lookahead_of (encoding_by found e)) (s ∷ ss) rest 0 (k - mark_len) left all (few r.0) r.1)),
   )

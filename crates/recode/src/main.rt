@@ -2,10 +2,9 @@
 //! output encoding of the one that TO names.
 #![tactic(auto)]
 
+pub use enc_recode::{FromRead, FromWrite, RecodeFault, Sink, Source, labels, run, status};
 use std::process::ExitCode;
 use std::{env, io};
-
-pub use enc_recode::{FromRead, FromWrite, RecodeFault, Sink, Source, labels, run, status};
 
 /// The two arguments, if there are just two. An `Err` where an argument can't be read.
 fn words(rt: &HostRuntime) -> io::Result<Option<(String, String)>> {

@@ -27,8 +27,8 @@ returns-then-is_empty-clause-flag c =
 pub returns-in_err-make_room-clause-too_long : goal.returns-in_err-make_room-clause-too_long
 returns-in_err-make_room-clause-too_long c = λ too_long.
     let none : c.max_utf8_buffer_length_without_replacement-length.result ≡ None = search rules in inl (
-      ap (λ d. max_length Utf8Reporting d (length c.args.bytes.now)) (sym c.start-decoder.ensures)
-      ∙ sym c.max_utf8_buffer_length_without_replacement-length.ensures.length ∙ none
+    ap (λ d. max_length Utf8Reporting d (length c.args.bytes.now)) (sym c.start-decoder.ensures)
+    ∙ sym c.max_utf8_buffer_length_without_replacement-length.ensures.length ∙ none
     )
 
 pub returns-then-eq-clause-text : goal.returns-then-eq-clause-text
@@ -55,9 +55,9 @@ returns-in_err-make_room-2-clause-too_long c =
     let on : ¬ (c.decode_to_string-stop.result.0 ≡ InputEmpty) = search rules in
     let none : string_bytes c.make_room.new.text ≡ [] = c.in_ok-make_room.ensures.bytes ∙ c.new-text.ensures.bytes in
     λ too_long. inr (
-      too_long_behind _ _ _ _ _ c.start-decoder.ensures _ c.max_utf8_buffer_length_without_replacement-length.ensures.length _
-      c.in_ok-make_room.ensures.enough _ on _ _ _ c.decode_to_string-stop.ensures.call
-      (rw (none, ← c.split_at.ensures.back) (search rules))
+    too_long_behind _ _ _ _ _ c.start-decoder.ensures _ c.max_utf8_buffer_length_without_replacement-length.ensures.length _
+    c.in_ok-make_room.ensures.enough _ on _ _ _ c.decode_to_string-stop.ensures.call
+    (rw (none, ← c.split_at.ensures.back) (search rules))
     )
 
 pub decode_to_string-requires : goal.decode_to_string-requires

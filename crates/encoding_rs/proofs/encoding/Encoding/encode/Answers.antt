@@ -8,13 +8,16 @@ use Rattle.encoding_rs.proofs.WrittenLemmas.{none_written, none_asked, nothing_w
 use Rattle.encoding_rs.proofs.encoding.Encoding.encode.Goals as goal
 
 pub calls-init : goal.calls-init
-calls-init c = rw (c.new_encoder-encoder.ensures, c.new-bytes.ensures.items) (c.utf8.text, record {
-      written = none_written c.args.self (chars c.args.text.now);
-      flag = refl;
-      front = [];
-      rest = refl;
-      start = λ none. refl;
-    })
+calls-init c = rw (c.new_encoder-encoder.ensures, c.new-bytes.ensures.items) (
+  c.utf8.text,
+  record {
+    written = none_written c.args.self (chars c.args.text.now);
+    flag = refl;
+    front = [];
+    rest = refl;
+    start = λ none. refl;
+  },
+)
 
 pub returns-then-is_empty-clause-bytes : goal.returns-then-is_empty-clause-bytes
 returns-then-is_empty-clause-bytes c =
@@ -65,8 +68,8 @@ calls-preserved c =
             ∙ sym (append_assoc i.1.front (take c.encode_from_utf8_to_vec-stop.result.1 c.calls.unread.now) _)
             ∙ ap (λ x. (i.1.front ++ take c.encode_from_utf8_to_vec-stop.result.1 c.calls.unread.now) ++ x) (sym c.split_at.ensures.back);
         start = λ none. absurd (
-          let n = none_asked _ _ _ _ _ _ i.1.written _ (i.1.start none) none _ c.max_buffer_length_from_utf8_if_no_unmappables-length.ensures.formula _ in
-          let e = c.in_ok-make_byte_room.ensures.none n in cc
-        );
+            let n = none_asked _ _ _ _ _ _ i.1.written _ (i.1.start none) none _ c.max_buffer_length_from_utf8_if_no_unmappables-length.ensures.formula _ in
+            let e = c.in_ok-make_byte_room.ensures.none n in cc
+            );
       },
     )
