@@ -123,6 +123,7 @@ const MARK_ROWS: &[QueryRow] = &[
     (REPLACEMENT, SNIFF, b"", 4, (Some(15), Some(7), Some(5))),
     (SHIFT_JIS, SNIFF, b"", 2, (Some(9), Some(6), Some(3))),
     (SHIFT_JIS, SNIFF, b"", 5, (Some(18), Some(15), Some(6))),
+    (WINDOWS_1252, SNIFF, b"", MAX, (None, None, None)),
     // after the first bytes of the mark of UTF-8
     (WINDOWS_1252, SNIFF, b"\xEF", 0, (Some(9), Some(6), Some(3))),
     (

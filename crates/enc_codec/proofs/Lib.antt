@@ -1,2 +1,3 @@
 pub mod PropertyLemmas
 pub mod EnoughLemmas
+pub mod MarkByteLemmas

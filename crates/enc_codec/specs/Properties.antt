@@ -4,6 +4,7 @@ use Rattle.std.specs.List.{AllByRecursion}
 use Rattle.enc_machine.specs.Sequence.{Sequence}
 use Rattle.enc_machine.specs.Segmentation.{Rule, sequences_of}
 use Rattle.enc_machine.specs.Remainder.{AreBytes}
+use Rattle.enc_machine.specs.RuleLaws.{IsToldBy}
 use Rattle.enc_machine.specs.Taking.{IsPiece}
 
 -- To a decoder that has read nothing each byte below 0x80 is a sequence by itself, of the character of its number, whatever
@@ -18,3 +19,9 @@ pub record IsByteWithText (s : Sequence) : Type 0 where
 -- Each sequence of each input has one byte, and a text.
 abbrev pub IsSingleByte : Rule → Type 0
 IsSingleByte rule = (bytes : List ℕ) → AreBytes bytes → AllByRecursion IsByteWithText (sequences_of rule 0 bytes)
+
+-- Where EF is a sequence by itself in front of BB, so is BB, and no byte behind it is needed to tell it.
+abbrev pub TellsBbByItself : Rule → Type 0
+TellsBbByItself rule =
+    (z : List ℕ) → (rule 0 0xEF (0xBB ∷ z)).more ≡ 0 → (y : List ℕ)
+    → ((rule (rule 0 0xEF (0xBB ∷ z)).set 0xBB y).more ≡ 0) × IsToldBy rule (rule 0 0xEF (0xBB ∷ z)).set 0xBB y 0

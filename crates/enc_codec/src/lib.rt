@@ -5,7 +5,7 @@ mod codec;
 mod variant;
 
 pub use codec::Codec;
-pub use enc_index::{List, SingleByteIndex};
+pub use enc_index::{List, Planes, SingleByteIndex};
 pub use enc_iso_2022_jp::Iso2022JpDecoder;
 pub use enc_machine::{DecoderResult, RawDecoder, TextLengths};
 pub use enc_multi_byte::{

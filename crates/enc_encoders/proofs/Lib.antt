@@ -11,3 +11,4 @@ pub mod Iso2022JpLemmas
 pub mod NeedLemmas
 pub mod EnoughLemmas
 pub mod CountLemmas
+mod KatakanaLemmas

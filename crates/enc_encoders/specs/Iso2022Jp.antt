@@ -4,12 +4,12 @@ use Rattle.enc_encoders.specs.declared.character_set.CharacterSet.{CharacterSet}
 use Rattle.enc_encoders.specs.declared.character_set.CharacterSet.TheVariants.{Ascii, Roman, Jis0208}
 use Rattle.enc_encoders.specs.declared.encoders.iso_2022_jp.CharClass.{CharClass}
 use Rattle.enc_encoders.specs.declared.encoders.iso_2022_jp.CharClass.TheVariants as class
-use Rattle.enc_encoders.specs.declared.encoders.katakana.TheConstants.{KATAKANA}
 use Rattle.enc_pointers.specs.Pointers.{jis0208_pointer}
 use Rattle.enc_encoders.specs.EncoderRule.{EncoderRule, RawState}
 use Rattle.enc_encoders.specs.Barring.{barring}
 use Rattle.enc_encoders.specs.Stateless.{bytes_by}
 use Rattle.enc_encoders.specs.Japanese.{is_katakana, with_wide_minus}
+use Rattle.enc_encoders.specs.Katakana.{full_width_katakana}
 
 -- what a mappable character is: in ASCII and Roman alike, in ASCII alone, in Roman alone, or in jis0208
 abbrev pub class_of : ℕ → CharClass
@@ -79,9 +79,9 @@ set_read_back s (c ∷ u) = set_by (class_of c) (is_left_in_roman s (last_class 
 abbrev pub is_shift : ℕ → Bool
 is_shift c = c == 0x0E || c == 0x0F || c == 0x1B
 
--- the character that is looked up: half-width katakana by the full-width ones (5, index ISO-2022-JP katakana)
+-- the character that is looked up: for half-width katakana a full-width one
 abbrev pub looked_up : ℕ → ℕ
-looked_up c = if is_katakana c then slice_index KATAKANA (c - 0xFF61) else with_wide_minus c
+looked_up c = if is_katakana c then slice_index full_width_katakana (c - 0xFF61) else with_wide_minus c
 
 -- the two bytes of a pointer
 abbrev pub jis0208_pair : ℕ → List ℕ

@@ -8,6 +8,7 @@ pub mod Barring
 pub mod Utf8
 pub mod SingleByte
 pub mod Japanese
+pub mod Katakana
 pub mod ShiftJis
 pub mod EucJp
 pub mod EucKr

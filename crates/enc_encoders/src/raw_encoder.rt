@@ -14,7 +14,7 @@ use enc_units::Chars;
 
 /// An encoder of one encoding (Encoding Standard 4.1): the rule by which it writes characters, and the designated
 /// character set. A value of it is a state between two calls. One that has ended a text begins another.
-pub trait RawEncoder: Copy {
+pub trait RawEncoder {
     // its rule, and the designated character set
     ghost state: { Self → RawState };
 

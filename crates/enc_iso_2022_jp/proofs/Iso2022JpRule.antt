@@ -9,21 +9,15 @@ use Rattle.enc_iso_2022_jp.specs.declared.iso_2022_jp.CharacterSet.TheVariants.{
 use Rattle.enc_machine.specs.Segmentation.{Head, one_byte_head}
 use Rattle.enc_machine.specs.Remainder.{AreBytes}
 use Rattle.enc_machine.specs.Latin1.{HasNoBytes}
-use Rattle.enc_machine.specs.RuleLaws.{IsSmallText, HasSmallTexts, IsToldBy, IsToldByEnd, IsLawful}
+use Rattle.enc_machine.specs.RuleLaws.{IsSmallText, HasSmallTexts, IsToldBy, Looks, IsToldByEnd, IsLawful}
 use Rattle.enc_iso_2022_jp.specs.Iso2022Jp.{set_of, set_named, designated, escape_head, is_lead, one_byte_char, two_byte_char, two_byte_head, iso_2022_jp_rule as jp_rule}
 use Rattle.enc_iso_2022_jp.specs.Iso2022JpLaws.{LooksBehindSkipped}
 use Rattle.enc_machine.proofs.RuleLemmas.{none_small, one_small}
 use Rattle.enc_machine.proofs.Latin1Lemmas.{has_bytes_by}
-use Rattle.enc_machine.proofs.ToldLemmas.{true_or_false, told_by, IsToldInTime, lookahead_by}
+use Rattle.enc_machine.proofs.ToldLemmas.{true_or_false, told_by, looks_at_none, looks_by, IsToldInTime, lookahead_by}
 use Rattle.enc_iso_2022_jp.proofs.Iso2022JpLemmas.{escape_first, no_escape_first, lead_first, alone_first, lead_alone, lead_and_trail, has_form}
 
 -- what shows that an escape sequence stands in front, or that none does
-
--- one byte more than n shows it
-record IsShownBy (w : List ℕ) (n : ℕ) : Type 0 where
-  few : n ≤ 2
-  there : suc n ≤ length w
-  same : (y : List ℕ) → designated (take (suc n) w ++ y) ≡ designated w
 
 -- more bytes make an escape sequence of these
 pub record MayBegin (w : List ℕ) : Type 0 where
@@ -33,6 +27,13 @@ pub record MayBegin (w : List ℕ) : Type 0 where
   pub bytes : AreBytes more
   pub set : CharacterSet
   pub becomes : designated (w ++ more) ≡ Some set
+
+-- one byte more than n shows it, and n bytes may still begin one
+record IsShownBy (w : List ℕ) (n : ℕ) : Type 0 where
+  few : n ≤ 2
+  there : suc n ≤ length w
+  same : (y : List ℕ) → designated (take (suc n) w ++ y) ≡ designated w
+  before : MayBegin (take n w)
 
 pub other_front : (a : ℕ) (z : List ℕ) → eqb a 0x1B ≡ false → designated (a ∷ z) ≡ None
 other_front a [] e = refl
@@ -73,16 +74,31 @@ two_begin b s e = record {
   becomes = e;
 }
 
+-- (28 and 24 are the second bytes)
+shown_by_second : (b : ℕ) (z : List ℕ) → eqb b 0x28 ≡ false → eqb b 0x24 ≡ false → IsShownBy (0x1B ∷ b ∷ z) 1
+shown_by_second b z p d = record {
+  few = omega arith;
+  there = omega arith;
+  same = λ y. other_second 0x1B b y p d ∙ sym (other_second 0x1B b z p d);
+  before = one_begins;
+}
+
+shown_by_third : (b c : ℕ) (z : List ℕ) → MayBegin (0x1B ∷ b ∷ []) → IsShownBy (0x1B ∷ b ∷ c ∷ z) 2
+shown_by_third b c z m = record { few = omega arith; there = omega arith; same = λ y. refl; before = m }
+
+shown_from_second : (b : ℕ) (z : List ℕ) → MayBegin (0x1B ∷ b ∷ []) → ((n : ℕ) × IsShownBy (0x1B ∷ b ∷ z) n) ⊎ MayBegin (0x1B ∷ b ∷ z)
+shown_from_second b [] m = inr m
+shown_from_second b (c ∷ z) m = inl (2, shown_by_third b c z m)
+
 shown_behind : (z : List ℕ) → ((n : ℕ) × IsShownBy (0x1B ∷ z) n) ⊎ MayBegin (0x1B ∷ z)
 shown_behind [] = inr one_begins
-shown_behind (b ∷ []) = elim (true_or_false (eqb b 0x28)) [
-  | inl p ↦ inr (two_begin b Ascii (rw p refl))
+shown_behind (b ∷ z) = elim (true_or_false (eqb b 0x28)) [
+  | inl p ↦ shown_from_second b z (two_begin b Ascii (rw p refl))
   | inr p ↦ elim (true_or_false (eqb b 0x24)) [
-    | inl d ↦ inr (two_begin b Jis0208 (rw (p, d) refl))
-    | inr d ↦ inl (1, record { few = omega arith; there = omega arith; same = λ y. other_second 0x1B b y p d })
+    | inl d ↦ shown_from_second b z (two_begin b Jis0208 (rw (p, d) refl))
+    | inr d ↦ inl (1, shown_by_second b z p d)
   ]
 ]
-shown_behind (b ∷ c ∷ z) = inl (2, record { few = omega arith; there = omega arith; same = λ y. refl })
 
 pub is_escape_byte : (a : ℕ) → eqb a 0x1B ≡ true → a ≡ 0x1B
 is_escape_byte a e = grind (arith, nat_tests)
@@ -93,7 +109,7 @@ shown_or_begun (a ∷ z) = elim (true_or_false (eqb a 0x1B)) [
   | inl t ↦ subst (λ (e : ℕ). ((n : ℕ) × IsShownBy (e ∷ z) n) ⊎ MayBegin (e ∷ z)) (sym (is_escape_byte a t)) (shown_behind z)
   | inr t ↦ inl (
     0,
-    record { few = omega arith; there = omega arith; same = λ y. other_front a y t ∙ sym (other_front a z t) },
+    record { few = omega arith; there = omega arith; same = λ y. other_front a y t ∙ sym (other_front a z t); before = nothing_begins },
   )
 ]
 
@@ -140,24 +156,28 @@ pub begun_by_end : (set : ℕ) (z : List ℕ) → MayBegin (0x1B ∷ z) → IsTo
 begun_by_end set z m =
     let w = becomes_escape set (z ++ m.more) m.set m.becomes in
     let e = no_escape_first set z m.none_yet in record {
+      within = (let k = ap (λ (h : Head). h.more) e in omega (arith, k));
       more = m.more;
       bytes = m.bytes;
       other = more_differs _ _ _ _ w.1 e (λ q. let k = escape_is_two_more set m.set w.0 in omega (arith, k, q));
       near = let k = m.short in omega arith;
     }
 
+none_looks : (set : ℕ) (z : List ℕ) (n : ℕ) → IsShownBy (0x1B ∷ z) n → designated (0x1B ∷ z) ≡ None → Looks jp_rule set 0x1B z n
+none_looks set z n s e =
+    let f = no_escape_first set z e in
+    let l = s.there in
+    least n s.before (told_at set 0x1B z n n _ (omega arith) f (omega arith) (λ y. no_escape_first set (take n z ++ y) (s.same y ∙ e)))
+  where
+    least : (n : ℕ) → MayBegin (take n (0x1B ∷ z)) → IsToldBy jp_rule set 0x1B z n → Looks jp_rule set 0x1B z n
+    least zero m t = looks_at_none jp_rule set 0x1B z t
+    least (suc i) m t =
+        looks_by jp_rule set 0x1B z i i t (let k = ap (λ (h : Head). h.more) (no_escape_first set z e) in omega (arith, k)) (begun_by_end set (take i z) m)
+
 none_told : (set : ℕ) (z : List ℕ) (n : ℕ) → IsShownBy (0x1B ∷ z) n → designated (0x1B ∷ z) ≡ None
     → IsToldInTime jp_rule set 0x1B z
 none_told set z n s e =
-    let f = no_escape_first set z e in
-    let l = s.there in let k = s.few in inr (
-      not_valid _ _ f (λ v. cc),
-      inl (
-        n,
-        omega arith,
-        told_at set 0x1B z n n _ (omega arith) f (omega arith) (λ y. no_escape_first set (take n z ++ y) (s.same y ∙ e)),
-      ),
-    )
+    let k = s.few in inr (not_valid _ _ (no_escape_first set z e) (λ v. cc), inl (n, omega arith, none_looks set z n s e))
 
 -- an escape sequence, by what is behind it
 
@@ -168,6 +188,7 @@ escape_by_end set b c s z e m =
     let g = named_first set s b c (z ++ m.more) true e (ap is_some m.becomes) in
     let n : (jp_rule set 0x1B (b ∷ c ∷ z)).more ≡ 2 = ap (λ (h : Head). h.more) f in
     let k = m.short in record {
+      within = omega (arith, n);
       more = m.more;
       bytes = m.bytes;
       other = kind_differs _ _ _ _ g f (λ q. cc);
@@ -188,7 +209,17 @@ named_told : (set b c : ℕ) (s : CharacterSet) (z : List ℕ) → set_named b c
 named_told set b c s z e =
     let v = not_valid _ _ (named_first set s b c z _ e refl) (escape_not_valid set s (is_some (designated z))) in
     elim (shown_or_begun z) [
-      | inl t ↦ inr (v, inl (suc t.0, (let k = t.1.few in omega arith), shown_told set b c s z t.0 e t.1))
+      | inl t ↦ inr (
+        v,
+        inl (
+          suc t.0,
+          (let k = t.1.few in omega arith),
+          looks_by jp_rule set 0x1B (b ∷ c ∷ z) t.0 (suc (suc t.0)) (shown_told set b c s z t.0 e t.1)
+              (let k = ap (λ (h : Head). h.more) (named_first set s b c z _ e refl) in
+              let m = escape_is_two_more set s (is_some (designated z)) in omega (arith, k, m))
+              (escape_by_end set b c s (take t.0 z) e t.1.before),
+        ),
+      )
       | inr m ↦ inr (v, inr (escape_by_end set b c s z e m))
     ]
 
@@ -222,6 +253,7 @@ lead_by_end set b e =
     let f = lead_first set b [] e in
     let g = lead_first set b (0x20 ∷ []) e ∙ lead_and_trail set b 0x20 [] refl
     ∙ ap (two_byte_head set) (not_a_trail b) in record {
+      within = (let k = ap (λ (h : Head). h.more) f in omega (arith, k));
       more = 0x20 ∷ [];
       bytes = (omega arith, tt);
       other = more_differs _ _ _ _ g f (λ q. omega arith);
@@ -243,7 +275,12 @@ lead_told set b (c ∷ z) e = elim (true_or_false (eqb c 0x1B)) [
   | inl t ↦ (let g = λ (y : List ℕ). lead_first set b (c ∷ y) e ∙ lead_alone set b (c ∷ y) t in
       inr (
         not_valid _ _ (g z) (λ v. cc),
-        inl (1, omega arith, told_at set b (c ∷ z) 1 1 _ (omega arith) (g z) (omega arith) g),
+        inl (
+          1,
+          omega arith,
+          looks_by jp_rule set b (c ∷ z) 0 0 (told_at set b (c ∷ z) 1 1 _ (omega arith) (g z) (omega arith) g)
+              (let k = ap (λ (h : Head). h.more) (g z) in omega (arith, k)) (lead_by_end set b e),
+        ),
       ))
   | inr n ↦ inl (pair_told set b c z (two_byte_char b c) refl e n)
 ]
@@ -339,7 +376,7 @@ pub looks_behind_skipped : LooksBehindSkipped jp_rule
 looks_behind_skipped = record {
   not_alone = not_alone;
   soon = λ set b z k. elim (iso_2022_jp_is_lawful.lookahead.others set b z) [
-    | inl t ↦ inl (t.0, some_more set b z t.0 (not_alone set b z k) t.2, t.1, t.2)
+    | inl t ↦ inl (t.0, some_more set b z t.0 (not_alone set b z k) t.2.told, t.1, t.2)
     | inr e ↦ inr e
   ];
 }

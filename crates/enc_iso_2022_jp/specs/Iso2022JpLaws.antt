@@ -4,7 +4,7 @@ use Rattle.enc_machine.specs.declared.byte_codec.Kind.TheVariants.{Skipped}
 use Rattle.enc_iso_2022_jp.specs.declared.iso_2022_jp.CharacterSet.{CharacterSet}
 use Rattle.enc_machine.specs.Sequence.{Sequence, bytes_of, set_after}
 use Rattle.enc_machine.specs.Segmentation.{Rule, sequences_of}
-use Rattle.enc_machine.specs.RuleLaws.{IsToldBy, IsToldByEnd}
+use Rattle.enc_machine.specs.RuleLaws.{IsToldBy, Looks, IsToldByEnd}
 use Rattle.enc_iso_2022_jp.specs.Iso2022Jp.{set_number, designated}
 
 -- the later set, if there is one
@@ -34,4 +34,4 @@ SetsAreOfLastEscapes rule =
 pub record LooksBehindSkipped (rule : Rule) : Type 0 where
   pub not_alone : (set b : ℕ) (z : List ℕ) → (rule set b z).kind ≡ Skipped → IsToldBy rule set b z 0 → ⊥
   pub soon : (set b : ℕ) (z : List ℕ) → (rule set b z).kind ≡ Skipped
-      → ((n : ℕ) × (1 ≤ n) × (n ≤ 3) × IsToldBy rule set b z n) ⊎ IsToldByEnd rule set b z
+      → ((n : ℕ) × (1 ≤ n) × (n ≤ 3) × Looks rule set b z n) ⊎ IsToldByEnd rule set b z

@@ -14,3 +14,4 @@ pub mod PieceLemmas
 pub mod Latin1Lemmas
 pub mod NeedLemmas
 pub mod EnoughLemmas
+pub mod LookaheadLemmas

@@ -1,12 +1,13 @@
 -- What tells the sequence that comes first, for every rule.
-use Rattle.std.proofs.Common.{◌≡◌, ℕ, ◌+◌, ◌≤◌, Bool, true, false, List, [], ◌∷◌, ◌++◌, length, take, refl, ap, ◌∙◌, sym, arith, subst, append-nil, ◌⊎◌, inl, inr}
-use Rattle.std.proofs.lemmas.List.{length-take-le}
+use Rattle.std.proofs.Common.{◌≡◌, ℕ, ◌+◌, ◌<◌, ◌≤◌, suc, Bool, true, false, List, [], ◌∷◌, ◌++◌, length, take, drop, refl, ap, ◌∙◌, sym, arith, subst, append-nil, append_assoc, ◌⊎◌, inl, inr}
+use Rattle.std.proofs.lemmas.List.{length-take-le, take-take, take-append-drop}
 use Rattle.enc_machine.specs.declared.byte_codec.Kind.{Kind}
 use Rattle.enc_machine.specs.declared.byte_codec.Kind.TheVariants.{Valid}
 use Rattle.enc_machine.specs.Sequence.{Sequence}
 use Rattle.enc_machine.specs.Segmentation.{Rule, Head, head_sequence, sequences_of}
 use Rattle.enc_machine.specs.Remainder.{IsUndetermined}
-use Rattle.enc_machine.specs.RuleLaws.{IsToldBy, IsToldByEnd, IsToldSoon, HasLookahead}
+use Rattle.enc_machine.specs.RuleLaws.{IsToldBy, Looks, IsToldByEnd, IsToldSoon, HasLookahead}
+use Rattle.enc_machine.proofs.ByteLemmas.{bytes-append, bytes-take, bytes-drop}
 use Rattle.enc_machine.proofs.SegmentationLemmas.{sequences_of-cons}
 use Rattle.enc_machine.proofs.ShowLemmas.{undetermined_by}
 
@@ -22,6 +23,26 @@ told_by rule set b z n h e l f = record {
   same = λ y. ap (λ (k : Head). rule set b (take (k.more + n) z ++ y)) e ∙ f y ∙ sym e;
 }
 
+-- the bytes themselves are enough
+pub looks_at_none : (rule : Rule) (set b : ℕ) (z : List ℕ) → IsToldBy rule set b z 0 → Looks rule set b z 0
+looks_at_none rule set b z t = record { told = t; least = λ a m l f. omega (arith, l) }
+
+-- n bytes behind it tell it, and with one less the end would be needed
+pub looks_by : (rule : Rule) (set b : ℕ) (z : List ℕ) (n k : ℕ) → IsToldBy rule set b z (suc n) → k ≡ (rule set b z).more + n
+    → IsToldByEnd rule set b (take k z) → Looks rule set b z (suc n)
+looks_by rule set b z n k t e d = record {
+  told = t;
+  least = λ a m l f.
+      let x = take k z in
+      let i = (rule set b z).more + m in
+      let few : i ≤ k = omega (arith, e, l) in
+      let front : take i z ++ drop i x ≡ x = ap (λ w. w ++ drop i x) (sym (take-take i k z few)) ∙ take-append-drop i x in
+      let rest = bytes-drop i x (bytes-take k z a) in
+      let first = ap (rule set b) (sym front) ∙ f (drop i x) rest in
+      let then = ap (rule set b) (ap (λ w. w ++ d.more) (sym front) ∙ append_assoc (take i z) (drop i x) d.more) ∙ f (drop i x ++ d.more) (bytes-append (drop i x) d.more rest d.bytes) in
+      d.other (then ∙ sym first);
+}
+
 -- What the law asks of one sequence: it is told by its own bytes, or it is not valid and is told soon.
 abbrev pub IsToldInTime : Rule → ℕ → ℕ → List ℕ → Type 0
 IsToldInTime rule set b z = IsToldBy rule set b z 0 ⊎ (((rule set b z).kind ≡ Valid → ⊥) × IsToldSoon rule set b z)
@@ -29,8 +50,12 @@ IsToldInTime rule set b z = IsToldBy rule set b z 0 ⊎ (((rule set b z).kind �
 pub lookahead_by : (rule : Rule) → ((set b : ℕ) (z : List ℕ) → IsToldInTime rule set b z) → HasLookahead rule
 lookahead_by rule h = record {
   valid = λ set b z v. elim (h set b z) [ inl t ↦ t | inr u ↦ absurd (u.0 v) ];
-  others = λ set b z. elim (h set b z) [ inl t ↦ inl (0, omega arith, t) | inr u ↦ u.1 ];
+  others = λ set b z. elim (h set b z) [ inl t ↦ inl (0, omega arith, looks_at_none rule set b z t) | inr u ↦ u.1 ];
 }
+
+-- no sequence is longer than the bytes that are there
+pub within_by : (rule : Rule) → HasLookahead rule → (set b : ℕ) (z : List ℕ) → (rule set b z).more ≤ length z
+within_by rule h set b z = elim (h.others set b z) [ inl t ↦ (let w = t.2.told.there in omega arith) | inr e ↦ e.within ]
 
 same_head : (h k : Head) → h.more ≡ k.more → h.text ≡ k.text → h.kind ≡ k.kind → h.set ≡ k.set → h ≡ k
 same_head h k m t n s =
@@ -41,7 +66,7 @@ same_head h k m t n s =
 tails : (a b : ℕ) (y z : List ℕ) → a ∷ y ≡ b ∷ z → y ≡ z
 tails a b y z e = cc
 
-same_by_sequence : (h k : Head) (b : ℕ) (y z : List ℕ) → h.more ≤ length y → k.more ≤ length z
+pub same_by_sequence : (h k : Head) (b : ℕ) (y z : List ℕ) → h.more ≤ length y → k.more ≤ length z
     → head_sequence h b y ≡ head_sequence k b z → h ≡ k
 same_by_sequence h k b y z m n e =
     let t : take h.more y ≡ take k.more z = tails b b _ _ (ap (λ (s : Sequence). s.bytes) e) in

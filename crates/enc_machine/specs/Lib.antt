@@ -10,3 +10,4 @@ pub mod Taking
 pub mod Latin1
 pub mod Lengths
 pub mod Need
+pub mod Lookahead

@@ -1,5 +1,5 @@
 -- What the rule of each encoding keeps.
-use Rattle.std.specs.Prelude.{◌≡◌, ℕ, ◌+◌, ◌≤◌, ◌⊎◌, List, [], ◌++◌, length, take}
+use Rattle.std.specs.Prelude.{◌≡◌, ℕ, ◌+◌, ◌<◌, ◌≤◌, ◌⊎◌, List, [], ◌++◌, length, take}
 use Rattle.std.specs.Char.{encode_utf8}
 use Rattle.std.specs.Char.Escape.{encode_utf16}
 use Rattle.enc_units.specs.Output.{units_of_text}
@@ -25,8 +25,15 @@ pub record IsToldBy (rule : Rule) (set b : ℕ) (z : List ℕ) (n : ℕ) : Type 
   pub there : (rule set b z).more + n ≤ length z
   pub same : (y : List ℕ) → rule set b (take ((rule set b z).more + n) z ++ y) ≡ rule set b z
 
+-- Its lookahead is n: the next n bytes tell it, and with fewer it may be another.
+pub record Looks (rule : Rule) (set b : ℕ) (z : List ℕ) (n : ℕ) : Type 0 where
+  pub told : IsToldBy rule set b z n
+  pub least : AreBytes z → (m : ℕ) → m < n
+      → ((y : List ℕ) → AreBytes y → rule set b (take ((rule set b z).more + m) z ++ y) ≡ rule set b z) → ⊥
+
 -- Only the end of the input tells it, with at most three bytes behind it: it is another if these bytes follow.
 pub record IsToldByEnd (rule : Rule) (set b : ℕ) (z : List ℕ) : Type 0 where
+  pub within : (rule set b z).more ≤ length z
   pub more : List ℕ
   pub bytes : AreBytes more
   pub other : rule set b (z ++ more) ≡ rule set b z → ⊥
@@ -34,7 +41,7 @@ pub record IsToldByEnd (rule : Rule) (set b : ℕ) (z : List ℕ) : Type 0 where
 
 -- at most three bytes behind it, or only the end, tell it
 abbrev pub IsToldSoon : Rule → ℕ → ℕ → List ℕ → Type 0
-IsToldSoon rule set b z = ((n : ℕ) × (n ≤ 3) × IsToldBy rule set b z n) ⊎ IsToldByEnd rule set b z
+IsToldSoon rule set b z = ((n : ℕ) × (n ≤ 3) × Looks rule set b z n) ⊎ IsToldByEnd rule set b z
 
 -- How far a decoder has to look ahead: not at all for a valid sequence, and for a malformed or a skipped one
 -- at most three bytes.

@@ -1,5 +1,5 @@
 -- Legacy multi-byte encodings: the laws of their rules, and that incomplete bytes determine nothing.
-use Rattle.std.proofs.Common.{◌≡◌, ◌≢◌, ℕ, ◌+◌, ◌-◌, ◌≤◌, suc, List, [], ◌∷◌, ◌++◌, length, take, refl, ap, ◌∙◌, sym, arith, subst, append-nil, append_assoc, inl, inr}
+use Rattle.std.proofs.Common.{◌≡◌, ◌≢◌, ℕ, ◌+◌, ◌-◌, ◌≤◌, zero, suc, List, [], ◌∷◌, ◌++◌, length, take, refl, ap, ◌∙◌, sym, arith, subst, append-nil, append_assoc, inl, inr}
 use Rattle.std.proofs.lemmas.List.{length-append}
 use Rattle.enc_machine.specs.declared.byte_codec.Kind.{Kind}
 use Rattle.enc_machine.specs.declared.byte_codec.Kind.TheVariants.{Valid}
@@ -12,12 +12,12 @@ use Rattle.enc_machine.specs.Segmentation.{Head}
 use Rattle.enc_machine.specs.Remainder.{IsUndetermined}
 use Rattle.enc_machine.specs.CodecState.{CodecState, remainder_of}
 use Rattle.enc_machine.specs.Latin1.{HasNoBytes}
-use Rattle.enc_machine.specs.RuleLaws.{HasTexts, IsSmallText, HasSmallTexts, IsToldBy, IsToldByEnd, IsLawful}
+use Rattle.enc_machine.specs.RuleLaws.{HasTexts, IsSmallText, HasSmallTexts, IsToldBy, Looks, IsToldByEnd, IsLawful}
 use Rattle.enc_multi_byte.specs.MultiByte.{malformed_front, head_of, multi_byte_rule, multi_byte_state, AreIncomplete, ArePrefixes}
 use Rattle.enc_machine.proofs.RuleLemmas.{one_small}
 use Rattle.enc_machine.proofs.Latin1Lemmas.{has_bytes_by}
 use Rattle.enc_machine.proofs.ShowLemmas.{nothing_pending}
-use Rattle.enc_machine.proofs.ToldLemmas.{told_by, IsToldInTime, lookahead_by, undetermined_by_end}
+use Rattle.enc_machine.proofs.ToldLemmas.{told_by, looks_at_none, looks_by, IsToldInTime, lookahead_by, undetermined_by_end}
 use Rattle.enc_multi_byte.proofs.MultiByteLemmas.{still_incomplete, one_more, rule_at, Settles, settles_complete, settles_malformed, all_malformed}
 
 module _ (prefix : List ℕ → Prefix) (laws : ArePrefixes prefix) where
@@ -75,6 +75,7 @@ module _ (prefix : List ℕ → Prefix) (laws : ArePrefixes prefix) where
       let o = k.other in
       let p = s.some in
       record {
+        within = within set a w;
         more = k.byte ∷ [];
         bytes = (k.is_byte, tt);
         other = more_differs _ _ _ _
@@ -117,6 +118,27 @@ module _ (prefix : List ℕ → Prefix) (laws : ArePrefixes prefix) where
       (λ y. rule_at prefix set w c y b _ u (ap (λ i. b ∷ (take i x ++ y)) k ∙ ap (λ t. t ++ y) f ∙ append_assoc w (c ∷ []) y)
       ∙ s.head set y)
 
+  in_front : (w : List ℕ) (c : ℕ) (z : List ℕ) → take (length w) (w ++ c ∷ z) ≡ w
+  in_front [] c z = refl
+  in_front (a ∷ w) c z = ap (λ x. a ∷ x) (in_front w c z)
+
+  -- where a byte breaks the bytes in front, without it only the end would tell
+  malformed_looks : (set : ℕ) (w : List ℕ) (c : ℕ) (z : List ℕ) (b : ℕ) (x : List ℕ) (n d : ℕ) → d ≡ length (w ++ c ∷ []) - n
+      → AreIncomplete prefix [] w → b ∷ x ≡ w ++ c ∷ z → Settles prefix (w ++ c ∷ []) n (One 0xFFFD) kinds.Malformed
+      → Looks (multi_byte_rule prefix) set b x d
+  malformed_looks set w c z b x n zero d u e s =
+      looks_at_none (multi_byte_rule prefix) set b x (subst (IsToldBy (multi_byte_rule prefix) set b x) (sym d) (settled_told set w c z b x n (One 0xFFFD) kinds.Malformed u e s))
+  malformed_looks set [] c z b x n (suc i) d u e s = absurd (omega (arith, d, s.some))
+  malformed_looks set (a ∷ w) c z b x n (suc i) d u e s =
+      let t = subst (IsToldBy (multi_byte_rule prefix) set b x) (sym d) (settled_told set (a ∷ w) c z b x n (One 0xFFFD) kinds.Malformed u e s) in
+      let h : (multi_byte_rule prefix set b x).more ≡ n - 1 = ap (λ (r : Head). r.more) (rule_at prefix set (a ∷ w) c z b x u e ∙ s.head set z) in
+      let m : length ((a ∷ w) ++ c ∷ []) ≡ length (a ∷ w) + 1 = length-append (a ∷ w) (c ∷ []) in
+      let f : b ≡ a = cc in
+      let g : x ≡ w ++ c ∷ z = rest_of b a x (w ++ c ∷ z) e in
+      looks_by (multi_byte_rule prefix) set b x i (length w) t (omega (arith, d, h, m, s.some, s.own))
+      (subst (IsToldByEnd (multi_byte_rule prefix) set b) (sym (ap (take (length w)) g ∙ in_front w c z))
+      (subst (λ y. IsToldByEnd (multi_byte_rule prefix) set y w) (sym f) (by_end set a w u)))
+
   told_with : (set : ℕ) (w : List ℕ) (c : ℕ) (z : List ℕ) (b : ℕ) (x : List ℕ) (r : Prefix)
       → AreIncomplete prefix [] w → b ∷ x ≡ w ++ c ∷ z → prefix (w ++ c ∷ []) ≡ r
       → (r ≡ Incomplete → IsToldInTime (multi_byte_rule prefix) set b x)
@@ -131,7 +153,7 @@ module _ (prefix : List ℕ → Prefix) (laws : ArePrefixes prefix) where
       let l = at_most_three w u in
       inr (
         (λ v. let k = ap (λ (h : Head). h.kind) (rule_at prefix set w c z b x u e ∙ s.head set z) in cc),
-        inl (length (w ++ c ∷ []) - n, omega (arith, s.some, m, l), settled_told set w c z b x n (One 0xFFFD) kinds.Malformed u e s),
+        inl (length (w ++ c ∷ []) - n, omega (arith, s.some, m, l), malformed_looks set w c z b x n _ refl u e s),
       )
   told_with set w c z b x Incomplete u e q further = further refl
 

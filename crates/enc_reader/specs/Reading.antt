@@ -66,12 +66,12 @@ pub record IsAtItsEnd (told : Option (List ℕ)) (s : ReaderState) : Type 0 wher
   pub finished : finished s.decoder ≡ true
   pub none_owed : owed s [] ≡ []
 
--- A read that has failed: nothing was handed out and no end was seen, and then the source has failed, or it has given 2^64 - 1 bytes meanwhile.
-pub record FailsToRead (told_before : Option (List ℕ)) (has_failed : Bool) (old new : ReaderState) : Type 0 where
-  -- what the source told when it failed
-  pub told : Option (List ℕ)
+-- A read that has failed: nothing was handed out and no end was seen, and the source, which had not failed before, has failed, or it has
+-- given 2^64 - 1 bytes meanwhile.
+pub record FailsToRead (told_before told_after : Option (List ℕ)) (failed_before failed_after : Bool) (old new : ReaderState) : Type 0 where
   pub bytes : List ℕ
   pub malformed : Bool
-  pub reads : Reads told_before told old new bytes [] malformed
+  pub reads : Reads told_before told_after old new bytes [] malformed
   pub not_ended : new.ended ≡ false
-  pub why : (has_failed ≡ true) ⊎ (2 ^ 64 - 1 ≤ length bytes)
+  pub not_before : failed_before ≡ false
+  pub why : (failed_after ≡ true) ⊎ (2 ^ 64 - 1 ≤ length bytes)

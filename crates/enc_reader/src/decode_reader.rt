@@ -90,6 +90,7 @@ pub struct DecodeReader<'a, R: Source> {
     ghost some: { 0 < length input.now },
     ghost seen: { finished decoder ≡ true → ended ≡ true },
     ghost none_told: { ended ≡ true → TellsNoMore (R.told reader.now) } by { Prim.hlevel props },
+    ghost going: { failed ≡ false → R.has_failed reader.now ≡ false },
 }
 
 impl<'a, R: Source> DecodeReader<'a, R> {
@@ -100,7 +101,8 @@ impl<'a, R: Source> DecodeReader<'a, R> {
     ghost use Rattle.enc_reader.specs.Reader.{state_of};
 
     /// A reader of `reader`, through the buffer `input`, which decodes by `encoding`, or by UTF-8 where none is given, unless a
-    /// byte order mark tells another. It reads nothing yet. Condition: `input` is not empty. Takes no memory.
+    /// byte order mark tells another. It reads nothing yet. One of a source that has failed has failed too. Condition: `input` is
+    /// not empty. Takes no memory.
     pub fn new(
         reader: &'a mut R,
         encoding: Option<Encoding>,
@@ -110,12 +112,13 @@ impl<'a, R: Source> DecodeReader<'a, R> {
         ensures fresh { state_of result ≡ fresh_reader (unwrap_or encoding UTF_8) }
         ensures owed { (z : List ℕ) → owed (state_of result) z ≡ whole_sequences Sniff (unwrap_or encoding UTF_8) z }
         ensures encoding { (z : List ℕ) → owed_encoding (state_of result) z ≡ whole_encoding Sniff (unwrap_or encoding UTF_8) z }
-        ensures not_failed { result.failed ≡ false }
+        ensures failed { result.failed ≡ R.has_failed reader.old }
         ensures no_errors { result.had_errors ≡ false }
         ensures reader { result.reader.now ≡ reader.old }
         ensures same_reader { result.reader.ghost_name ≡ reader.entry.ghost_name }
     {
         let encoding = encoding.unwrap_or(UTF_8);
+        let failed = reader.failed();
         DecodeReader {
             reader,
             decoder: encoding.new_decoder(),
@@ -123,7 +126,7 @@ impl<'a, R: Source> DecodeReader<'a, R> {
             filled: 0,
             at: 0,
             ended: false,
-            failed: false,
+            failed,
             had_errors: false,
         }
     }
@@ -131,9 +134,11 @@ impl<'a, R: Source> DecodeReader<'a, R> {
     /// Reads the next chunk into the buffer, of which all is decoded. On `Err`, which is `Reader`, the source has failed.
     fn pull(&mut self) -> Result<(), ReadFault>
         requires waiting { IsWaiting (state_of self.old) }
+        requires going { self.old.failed ≡ false }
         ensures ok { OnOk result (Pulls (R.told self.old.reader.now) (R.told self.new.reader.now) (state_of self.old) (state_of self.new)) }
         ensures kept { OnOk result (R.has_failed self.new.reader.now ≡ R.has_failed self.old.reader.now) }
         ensures going { OnOk result (self.new.failed ≡ self.old.failed) }
+        ensures none_given { OnErr result (R.told self.new.reader.now ≡ R.told self.old.reader.now) }
         ensures err { OnErr result (R.has_failed self.new.reader.now ≡ true) }
         ensures failed { OnErr result (self.new.failed ≡ true) }
         ensures same { OnErr result (state_of self.new ≡ state_of self.old) }
@@ -204,8 +209,8 @@ impl<'a, R: Source> DecodeReader<'a, R> {
         ensures kept { OnOk result (R.has_failed self.new.reader.now ≡ R.has_failed self.old.reader.now) }
         ensures unwritten { OnErr result (dst.new ≡ dst.old) }
         ensures no_error { OnErr result (self.new.had_errors ≡ self.old.had_errors) }
-        ensures reader_fault { IsErrOf result ReadFault.Reader → FailsToRead (R.told self.old.reader.now) (R.has_failed self.new.reader.now)
-            (state_of self.old) (state_of self.new) }
+        ensures reader_fault { IsErrOf result ReadFault.Reader → FailsToRead (R.told self.old.reader.now) (R.told self.new.reader.now)
+            (R.has_failed self.old.reader.now) (R.has_failed self.new.reader.now) (state_of self.old) (state_of self.new) }
         ensures from_then_on { IsErrOf result ReadFault.Failed ↔ self.old.failed ≡ true }
         ensures unchanged { IsErrOf result ReadFault.Failed → self.new ≡ self.old }
         ensures going { OnOk result (self.new.failed ≡ false) }

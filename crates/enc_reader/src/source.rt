@@ -15,12 +15,14 @@ pub trait Source {
     ghost has_failed: { Self → Bool };
 
     /// Puts the next bytes at the front of `buf` and answers how many they are: 0 of a buffer that is
-    /// not empty only at the end. After an `Err` it has failed.
+    /// not empty only at the end. After an `Err` it has failed, and has given none. Condition: it has not failed before.
     fn pull(&mut self, buf: &mut [u8]) -> Result<usize, ()>
+        requires going { has_failed self.old ≡ false }
         ensures bound { IfOk result (λ n. n ≤ length buf.new) }
         ensures bytes { IfOk result (λ n. TellsNext (told self.old) (told self.new) (take n buf.new)) }
         ensures end { IfOk result (λ n. n ≡ 0 → 0 < length buf.new → IsAtEnd (told self.new)) }
         ensures ok { OnOk result (has_failed self.new ≡ has_failed self.old) }
+        ensures none_given { OnErr result (told self.new ≡ told self.old) }
         ensures err { OnErr result (has_failed self.new ≡ true) };
 
     /// Whether a pull has failed.
@@ -55,6 +57,7 @@ impl<R: Read> Source for FromRead<R> {
 
     /// One `read` of the reader, of which any error is a fault.
     fn pull(&mut self, buf: &mut [u8]) -> Result<usize, ()>
+        requires going { self.old.failed ≡ false }
         ensures bound { IfOk result (λ n. n ≤ length buf.new) }
         ensures read { ReadConsumes (R.remaining self.old.inner) (R.remaining self.new.inner) result buf.new }
         ensures ok { OnOk result (self.new.failed ≡ self.old.failed) }

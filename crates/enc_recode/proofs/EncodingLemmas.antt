@@ -1,7 +1,6 @@
 -- What calls of an encoder make, one behind another.
-use Rattle.std.proofs.Common.{◌≡◌, ℕ, ◌<◌, ◌≤◌, Bool, true, false, ◌||◌, Option, List, [], ◌∷◌, ◌++◌, length, take, drop, refl, ap, ◌∙◌, sym, subst, append_assoc, append-nil, chars, IsUtf8}
+use Rattle.std.proofs.Common.{◌≡◌, ℕ, ◌≤◌, Bool, true, false, ◌||◌, Option, List, [], ◌∷◌, ◌++◌, length, take, drop, refl, ap, ◌∙◌, sym, subst, append_assoc, append-nil, chars, IsUtf8}
 use Rattle.std.proofs.lemmas.Str.{encodes-chars}
-use Rattle.std.specs.Str.{IsCharBoundary}
 use Rattle.std.specs.Char.{encode_utf8}
 use Rattle.enc_calls.specs.declared.coder_result.CoderResult.{CoderResult}
 use Rattle.enc_calls.specs.declared.coder_result.CoderResult.TheVariants.{InputEmpty, OutputFull}
@@ -13,7 +12,7 @@ use Rattle.enc_encoders.specs.declared.character_set.CharacterSet.TheVariants.{A
 use Rattle.enc_encoders.specs.Stateless.{stateless}
 use Rattle.enc_encoders.specs.Utf8.{utf_8_bytes}
 use Rattle.enc_encoders.specs.Text.{bytes_behind, with_references}
-use Rattle.enc_encoders.specs.Steps.{chars_of, steps_from}
+use Rattle.enc_encoders.specs.Steps.{chars_of}
 use Rattle.enc_references.specs.Treatment.{stop_of}
 use Rattle.enc_references.specs.Unmappable.{any_unmappable}
 use Rattle.enc_references.proofs.UnmappableLemmas.{any_reported_is, any_unmappable-append}
@@ -24,8 +23,7 @@ use Rattle.encoding_rs.specs.Encoder.{EncoderState, EncodesInto, raw_state, repl
 use Rattle.enc_recode.specs.Sink.{TakesMore, TakesPrefix}
 use Rattle.enc_recode.specs.Writing.{bytes_from, EncodesText, HasEncoded, StopsWithin}
 use Rattle.enc_recode.proofs.KnownLemmas.{TakesMore-none, TakesMore-then}
-use Rattle.encoding_rs.proofs.ProgressLemmas.{goes_on}
-use Rattle.encoding_rs.proofs.UnreadLemmas.{boundary, chars_behind, all_read}
+use Rattle.encoding_rs.proofs.UnreadLemmas.{chars_behind, all_read}
 
 pub not_ended : {P : Type 0} → false ≡ true → P
 not_ended e = cc
@@ -174,17 +172,8 @@ module _ (a b c : EncoderState) (text rest : List ℕ) (last : Bool) (k₀ k₁ 
       EncodesText-then a b c text (chars rest) q.encodes.rest last p.wrote (take written after) r₁ r₂ p.encoded
       (EncodesText-call b c (chars rest) last before after result read written r₂ q)
 
-  pub call_boundary : IsCharBoundary rest read
-  call_boundary = boundary rest (chars_of q.encodes.call.done) q.encodes.rest read u q.encodes.call.reads q.encodes.call.units
-
   unread_is : chars (drop read rest) ≡ q.encodes.rest
   unread_is = chars_behind rest (chars_of q.encodes.call.done) q.encodes.rest read u q.encodes.call.reads q.encodes.call.units
-
-  -- that is not at the end: fewer steps are left
-  pub fewer_steps : (unread : List ℕ) → unread ≡ drop read rest → 14 ≤ length before → ¬ (result ≡ InputEmpty)
-      → length (steps_from (raw_state c) last (chars unread)) < length (steps_from (raw_state b) last (chars rest))
-  fewer_steps unread e r n =
-      rw (ap chars e ∙ unread_is) (goes_on b c (chars rest) last (length before) result read (take written after) r₂ q.encodes r n)
 
   module _ (k₂ : Option (List ℕ)) where
     taken_all : (unread : List ℕ) → unread ≡ q.encodes.rest → TakesMore k₁ k₂ (take written after) → HasEncoded a c text unread last k₀ k₂ (r₁ || r₂)

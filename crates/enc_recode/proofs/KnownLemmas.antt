@@ -7,7 +7,6 @@ use Rattle.std.specs.Prelude.{Ok, Err, OnErr, IfSome, option_map}
 use Rattle.std.specs.Io.KnownBytes.{append_known, IsAtEnd}
 use Rattle.enc_reader.specs.Source.{TellsNext}
 use Rattle.enc_recode.specs.Sink.{TakesMore, TakesPrefix}
-use Rattle.enc_recode.specs.Run.{BeginsWith}
 
 pub append_known-nil : (known : Option (List ℕ)) → append_known known [] ≡ known
 append_known-nil None = refl
@@ -22,11 +21,6 @@ TakesMore-none known = sym (append_known-nil known)
 
 pub TakesMore-then : (k₀ k₁ k₂ : Option (List ℕ)) (a b : List ℕ) → TakesMore k₀ k₁ a → TakesMore k₁ k₂ b → TakesMore k₀ k₂ (a ++ b)
 TakesMore-then k₀ k₁ k₂ a b h₁ h₂ = h₂ ∙ ap (λ k. append_known k b) h₁ ∙ append_known-append k₀ a b
-
--- Bytes that came next stand in front of what was told.
-pub begins_told : (old new : Option (List ℕ)) (bytes : List ℕ) → TellsNext old new bytes → IfSome old (λ all. BeginsWith all bytes)
-begins_told old None bytes h = subst (λ (o : Option (List ℕ)). IfSome o (λ all. BeginsWith all bytes)) (sym h) tt
-begins_told old (Some xs) bytes h = subst (λ (o : Option (List ℕ)). IfSome o (λ all. BeginsWith all bytes)) (sym h) (xs, refl)
 
 -- At the end they are all that was told.
 pub all_told : (old new : Option (List ℕ)) (bytes : List ℕ) → TellsNext old new bytes → IsAtEnd new → IfSome old (λ all. bytes ≡ all)

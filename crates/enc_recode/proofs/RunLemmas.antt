@@ -21,11 +21,11 @@ use Rattle.enc_reader.specs.declared.decode_reader.ReadFault.{ReadFault}
 use Rattle.enc_reader.specs.declared.decode_reader.ReadFault.TheVariants as fault
 use Rattle.enc_reader.specs.Source.{TellsNoMore}
 use Rattle.enc_reader.specs.Reading.{ReaderState, Reads, HandsOut, FailsToRead, IsAtItsEnd, distance, fresh_reader, owed}
-use Rattle.enc_reader.proofs.SourceLemmas.{TellsNext-then, at_end}
+use Rattle.enc_reader.proofs.SourceLemmas.{TellsNext-none, TellsNext-then}
 use Rattle.enc_reader.proofs.ReadingLemmas.{Reads-none, Reads-then, handed_utf_8}
 use Rattle.enc_recode.specs.Writing.{HasEncoded, StopsWithin, bytes_from}
 use Rattle.enc_recode.specs.Run.{RunsToEnd, RunsToFault, whole_text, recoded, any_replaced}
-use Rattle.enc_recode.proofs.KnownLemmas.{TakesMore-then, begins_told, all_told, none_told}
+use Rattle.enc_recode.proofs.KnownLemmas.{TakesMore-none, TakesMore-then, all_told, none_told}
 use Rattle.enc_recode.proofs.EncodingLemmas.{not_ended, HasEncoded-none, HasEncoded-more}
 
 -- The text owed before is that handed out and that owed now.
@@ -141,14 +141,14 @@ module _ (from to : Encoding) (t₀ t₁ t₂ k₀ k₁ : Option (List ℕ)) (ol
 
   -- a fault while its text is written
   pub RunsToFault-within : (k₂ : Option (List ℕ)) (last : Bool) → (last ≡ true → IsAtItsEnd t₂ new) → StopsWithin (bytes_from encoder) (chars w) last k₁ k₂
-      → RunsToFault from to t₀ k₀ k₂
+      → RunsToFault from to t₀ t₂ k₀ k₂
   RunsToFault-within k₂ last end s =
       let behind : (z : List ℕ) → last ≡ true → text_of (owed new z) ≡ [] = λ z l. ap text_of (none_behind new (end l).finished z) in
       record {
         bytes = bytes;
-        read = begins_told t₀ t₂ bytes reads_on.given;
+        given = reads_on.given;
         ended = new.ended;
-        all_read = λ e. all_told t₀ t₂ bytes reads_on.given (at_end t₂ (q.none_told e));
+        none_left = q.none_told;
         wrote = p.encoded.wrote ++ s.wrote;
         written = TakesMore-then k₀ k₁ k₂ p.encoded.wrote s.wrote p.encoded.taken s.taken;
         prefix = λ z h. (
@@ -161,14 +161,14 @@ module _ (from to : Encoding) (t₀ t₁ t₂ k₀ k₁ : Option (List ℕ)) (ol
 -- a fault between two texts
 module _ (from to : Encoding) (t₀ t₁ k₀ k₁ : Option (List ℕ)) (old : ReaderState) (encoder : EncoderState) (m₁ r₁ : Bool) (made : ℕ)
     (p : HasRun from to t₀ t₁ k₀ k₁ old encoder m₁ r₁ made) where
-  stops_at : (t₂ : Option (List ℕ)) (new : ReaderState) (x : List ℕ) (m₂ : Bool) → Reads t₁ t₂ old new x [] m₂ → (new.ended ≡ true → TellsNoMore t₂) → RunsToFault from to t₀ k₀ k₁
+  stops_at : (t₂ : Option (List ℕ)) (new : ReaderState) (x : List ℕ) (m₂ : Bool) → Reads t₁ t₂ old new x [] m₂ → (new.ended ≡ true → TellsNoMore t₂) → RunsToFault from to t₀ t₂ k₀ k₁
   stops_at t₂ new x m₂ q told =
       let given = TellsNext-then t₀ t₁ t₂ p.bytes x p.reads.given q.given in
       record {
         bytes = p.bytes ++ x;
-        read = begins_told t₀ t₂ (p.bytes ++ x) given;
+        given = given;
         ended = new.ended;
-        all_read = λ e. all_told t₀ t₂ (p.bytes ++ x) given (at_end t₂ (told e));
+        none_left = told;
         wrote = p.encoded.wrote;
         written = p.encoded.taken;
         prefix = λ z h. (
@@ -180,13 +180,13 @@ module _ (from to : Encoding) (t₀ t₁ k₀ k₁ : Option (List ℕ)) (old : R
       }
 
   -- after so many reads
-  pub RunsToFault-between : RunsToFault from to t₀ k₀ k₁
+  pub RunsToFault-between : RunsToFault from to t₀ t₁ k₀ k₁
   RunsToFault-between = stops_at t₁ old [] false (Reads-none t₁ old) p.none_told
 
   -- in a read
-  module _ (has_failed : Bool) (new : ReaderState) (f : FailsToRead t₁ has_failed old new) where
-    pub RunsToFault-reading : RunsToFault from to t₀ k₀ k₁
-    RunsToFault-reading = stops_at f.told new f.bytes f.malformed f.reads (λ e. absurd (false≢true (sym f.not_ended ∙ e)))
+  module _ (t₂ : Option (List ℕ)) (failed_before failed_after : Bool) (new : ReaderState) (f : FailsToRead t₁ t₂ failed_before failed_after old new) where
+    pub RunsToFault-reading : RunsToFault from to t₀ t₂ k₀ k₁
+    RunsToFault-reading = stops_at t₂ new f.bytes f.malformed f.reads (λ e. absurd (false≢true (sym f.not_ended ∙ e)))
 
 -- A read that fails, of a reader that had not failed, tells a fault of its source.
 pub is_readers : (r : Result ℕ ReadFault) → IsErr r → (IsErrOf r fault.Failed → ⊥) → IsErrOf r fault.Reader
@@ -197,3 +197,18 @@ is_readers (Err fault.Failed) e f = absurd (f refl)
 -- the same, by what is known of the source and the flag
 pub RunsToEnd-by : (from to : Encoding) (t₀ t told k₀ k : Option (List ℕ)) (r replaced : Bool) → told ≡ t → replaced ≡ r → RunsToEnd from to t₀ t k₀ k r → RunsToEnd from to t₀ told k₀ k replaced
 RunsToEnd-by from to t₀ t told k₀ k r replaced a b h = rw (a, b) h
+
+pub RunsToFault-by : (from to : Encoding) (t₀ t told k₀ k : Option (List ℕ)) → told ≡ t → RunsToFault from to t₀ t k₀ k → RunsToFault from to t₀ told k₀ k
+RunsToFault-by from to t₀ t told k₀ k a h = rw a h
+
+-- a run that is not begun
+pub RunsToFault-none : (from to : Encoding) (t k : Option (List ℕ)) → RunsToFault from to t t k k
+RunsToFault-none from to t k = record {
+  bytes = [];
+  given = TellsNext-none t;
+  ended = false;
+  none_left = λ e. absurd (false≢true e);
+  wrote = [];
+  written = TakesMore-none k;
+  prefix = λ z h. (recoded from to z, refl);
+}

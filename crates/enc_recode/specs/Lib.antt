@@ -1,3 +1,5 @@
 pub mod Sink
 pub mod Writing
 pub mod Run
+pub mod Labels
+pub mod Status

@@ -8,6 +8,7 @@ use Rattle.encoding_rs.specs.declared.encoding.Encoding.{Encoding}
 use Rattle.encoding_rs.specs.Encodings.{output_rule}
 use Rattle.encoding_rs.specs.Decoding.{whole_sequences, whole_malformed}
 use Rattle.encoding_rs.specs.EncodeRun.{whole_bytes}
+use Rattle.enc_reader.specs.Source.{TellsNext, TellsNoMore}
 use Rattle.enc_recode.specs.Sink.{TakesMore}
 
 -- One list begins with another.
@@ -40,14 +41,14 @@ pub record RunsToEnd (from to : Encoding) (told_before told_after : Option (List
   pub written : TakesMore taken_before taken_after (recoded from to bytes)
 
 -- A run that a fault has stopped.
-pub record RunsToFault (from to : Encoding) (told_before : Option (List ℕ))
+pub record RunsToFault (from to : Encoding) (told_before told_after : Option (List ℕ))
     (taken_before taken_after : Option (List ℕ)) : Type 0 where
-  -- the bytes read, with which what the source told begins
+  -- the bytes read: what the source told before is these, and then what it tells now
   pub bytes : List ℕ
-  pub read : IfSome told_before (λ all. BeginsWith all bytes)
-  -- whether the source had come to its end, so that it told no more than they
+  pub given : TellsNext told_before told_after bytes
+  -- whether its end was seen, and it tells none
   pub ended : Bool
-  pub all_read : ended ≡ true → IfSome told_before (λ all. bytes ≡ all)
+  pub none_left : ended ≡ true → TellsNoMore told_after
   -- What the sink has taken more: the bytes of their text begin with it, whatever bytes follow them, and
   -- nothing follows them where the source had come to its end.
   pub wrote : List ℕ

@@ -25,6 +25,7 @@ pub enum RecodeFault {
 /// Writes all the bytes, in as many pushes as it takes, and never pushes an empty buffer. On `Err`,
 /// which is `Write`, the sink has failed and has taken the first of them only.
 fn push_all<W: Sink>(writer: &mut W, bytes: &[u8]) -> Result<(), RecodeFault>
+    requires going { W.has_failed writer.old ≡ false }
     ensures ok { OnOk result (TakesMore (W.taken writer.old) (W.taken writer.new) bytes.now) }
     ensures kept { OnOk result (W.has_failed writer.new ≡ W.has_failed writer.old) }
     ensures err { OnErr result (TakesPrefix (W.taken writer.old) (W.taken writer.new) bytes.now) }
@@ -51,6 +52,7 @@ fn push_encoded<W: Sink>(
     output: &mut [u8],
     last: bool,
 ) -> Result<bool, RecodeFault>
+    requires going { W.has_failed writer.old ≡ false }
     requires room { 14 ≤ length output.old }
     ensures ok { IfOk result (HasEncoded encoder.old encoder.new (chars text.now) [] last
         (W.taken writer.old) (W.taken writer.new)) }
@@ -86,6 +88,7 @@ fn push_text<W: Sink>(
     output: &mut [u8],
     last: bool,
 ) -> Result<bool, RecodeFault>
+    requires going { W.has_failed writer.old ≡ false }
     requires utf8 { IsUtf8 text.now }
     requires room { CanWrite encoder.old (length output.old) }
     ensures ok { IfOk result (HasEncoded encoder.old encoder.new (chars text.now) [] last
@@ -122,6 +125,8 @@ fn run_through<R: Source, W: Sink>(
     text: &mut [u8],
     output: &mut [u8],
 ) -> Result<bool, RecodeFault>
+    requires reader { R.has_failed reader.old ≡ false }
+    requires writer { W.has_failed writer.old ≡ false }
     requires some { 0 < length input.old }
     requires text_room { 4 ≤ length text.old }
     requires room { CanWrite (fresh_encoder [] to) (length output.old) }
@@ -129,7 +134,7 @@ fn run_through<R: Source, W: Sink>(
         (W.taken writer.old) (W.taken writer.new)) }
     ensures reader_kept { OnOk result (R.has_failed reader.new ≡ R.has_failed reader.old) }
     ensures writer_kept { OnOk result (W.has_failed writer.new ≡ W.has_failed writer.old) }
-    ensures err { OnErr result (RunsToFault from to (R.told reader.old)
+    ensures err { OnErr result (RunsToFault from to (R.told reader.old) (R.told reader.new)
         (W.taken writer.old) (W.taken writer.new)) }
     ensures read_fault { IsErrOf result RecodeFault.Read →
         IfSome (R.told reader.old) (λ all. length all < 2 ^ 62 → R.has_failed reader.new ≡ true) }
@@ -157,12 +162,14 @@ fn run_to_utf8<R: Source, W: Sink>(
     from: Encoding,
     to: Encoding,
 ) -> Result<bool, RecodeFault>
+    requires reader { R.has_failed reader.old ≡ false }
+    requires writer { W.has_failed writer.old ≡ false }
     requires utf8 { output_encoding_of to ≡ UTF_8 }
     ensures ok { IfOk result (RunsToEnd from to (R.told reader.old) (R.told reader.new)
         (W.taken writer.old) (W.taken writer.new)) }
     ensures reader_kept { OnOk result (R.has_failed reader.new ≡ R.has_failed reader.old) }
     ensures writer_kept { OnOk result (W.has_failed writer.new ≡ W.has_failed writer.old) }
-    ensures err { OnErr result (RunsToFault from to (R.told reader.old)
+    ensures err { OnErr result (RunsToFault from to (R.told reader.old) (R.told reader.new)
         (W.taken writer.old) (W.taken writer.new)) }
     ensures read_fault { IsErrOf result RecodeFault.Read →
         IfSome (R.told reader.old) (λ all. length all < 2 ^ 62 → R.has_failed reader.new ≡ true) }
@@ -180,11 +187,13 @@ fn run_by_encoder<R: Source, W: Sink>(
     from: Encoding,
     to: Encoding,
 ) -> Result<bool, RecodeFault>
+    requires reader { R.has_failed reader.old ≡ false }
+    requires writer { W.has_failed writer.old ≡ false }
     ensures ok { IfOk result (RunsToEnd from to (R.told reader.old) (R.told reader.new)
         (W.taken writer.old) (W.taken writer.new)) }
     ensures reader_kept { OnOk result (R.has_failed reader.new ≡ R.has_failed reader.old) }
     ensures writer_kept { OnOk result (W.has_failed writer.new ≡ W.has_failed writer.old) }
-    ensures err { OnErr result (RunsToFault from to (R.told reader.old)
+    ensures err { OnErr result (RunsToFault from to (R.told reader.old) (R.told reader.new)
         (W.taken writer.old) (W.taken writer.new)) }
     ensures read_fault { IsErrOf result RecodeFault.Read →
         IfSome (R.told reader.old) (λ all. length all < 2 ^ 62 → R.has_failed reader.new ≡ true) }
@@ -204,8 +213,8 @@ fn run_by_encoder<R: Source, W: Sink>(
 /// most, stands a decimal reference, as `&#233;` (in ISO-2022-JP that to U+FFFD for U+000E, U+000F and U+001B). The answer is
 /// whether there was such a sequence or such a character.
 ///
-/// On `Err` the side that it names has failed, and the sink has taken a prefix of what had to be written. A source
-/// that gives 2^64 - 1 texts, or bytes 2^64 - 1 times without a text, is taken to have failed too.
+/// On `Err` the side that it names has failed, and the sink has taken a prefix of what had to be written. A side that has
+/// failed is not called again, nor is one that had failed before. A source that gives 2^64 - 1 texts, or bytes 2^64 - 1 times without a text, is taken to have failed too.
 ///
 /// It never flushes, and takes no memory but buffers of 64 KiB on the stack: two where it writes UTF-8, and else three.
 pub fn run<R: Source, W: Sink>(
@@ -218,12 +227,18 @@ pub fn run<R: Source, W: Sink>(
         (W.taken writer.old) (W.taken writer.new)) }
     ensures reader_kept { OnOk result (R.has_failed reader.new ≡ R.has_failed reader.old) }
     ensures writer_kept { OnOk result (W.has_failed writer.new ≡ W.has_failed writer.old) }
-    ensures err { OnErr result (RunsToFault from to (R.told reader.old)
+    ensures err { OnErr result (RunsToFault from to (R.told reader.old) (R.told reader.new)
         (W.taken writer.old) (W.taken writer.new)) }
     ensures read_fault { IsErrOf result RecodeFault.Read →
         IfSome (R.told reader.old) (λ all. length all < 2 ^ 62 → R.has_failed reader.new ≡ true) }
     ensures write_fault { IsErrOf result RecodeFault.Write → W.has_failed writer.new ≡ true }
 {
+    if reader.failed() {
+        return Err(RecodeFault::Read);
+    }
+    if writer.failed() {
+        return Err(RecodeFault::Write);
+    }
     if to.can_encode_everything() {
         run_to_utf8(reader, writer, from, to)
     } else {

@@ -15,8 +15,9 @@ pub trait Sink {
     ghost has_failed: { Self → Bool };
 
     /// Takes bytes from the front of `buf` and answers how many: at least one of a buffer that is not
-    /// empty. After an `Err` it has taken none of them, and has failed.
+    /// empty. After an `Err` it has taken none of them, and has failed. Condition: it has not failed before.
     fn push(&mut self, buf: &[u8]) -> Result<usize, ()>
+        requires going { has_failed self.old ≡ false }
         ensures bound { IfOk result (λ n. n ≤ length buf.now) }
         ensures some { IfOk result (λ n. 0 < length buf.now → 0 < n) }
         ensures bytes { IfOk result (λ n. TakesMore (taken self.old) (taken self.new) (take n buf.now)) }
@@ -56,6 +57,7 @@ impl<W: Write> Sink for FromWrite<W> {
 
     /// One `write` of the writer, of which any error is a fault, and so is that it takes 0 bytes of some.
     fn push(&mut self, buf: &[u8]) -> Result<usize, ()>
+        requires going { self.old.failed ≡ false }
         ensures bound { IfOk result (λ n. n ≤ length buf.now) }
         ensures some { IfOk result (λ n. 0 < length buf.now → 0 < n) }
         ensures write { WriteAppends (W.contents self.old.inner) (W.contents self.new.inner) result buf.now }

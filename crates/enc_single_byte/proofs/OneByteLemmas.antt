@@ -12,6 +12,7 @@ use Rattle.enc_machine.proofs.SegmentationLemmas.{sequences_of-cons}
 use Rattle.enc_machine.proofs.ShowLemmas.{shows_with}
 use Rattle.enc_machine.specs.Taking.{IsPiece}
 use Rattle.enc_machine.specs.Latin1.{HasNoBytes}
+use Rattle.enc_machine.proofs.ToldLemmas.{looks_at_none}
 use Rattle.enc_machine.proofs.RuleLemmas.{one_small}
 use Rattle.enc_machine.proofs.Latin1Lemmas.{has_bytes_by}
 
@@ -65,7 +66,7 @@ module _ (character : ℕ → Option ℕ) where
   has_lookahead : HasLookahead (one_byte_rule character)
   has_lookahead = record {
     valid = λ set b z _. told_by_itself set b z;
-    others = λ set b z. inl (0, omega arith, told_by_itself set b z);
+    others = λ set b z. inl (0, omega arith, looks_at_none (one_byte_rule character) set b z (told_by_itself set b z));
   }
 
   has_small_texts : HasSmallTexts (one_byte_rule character)

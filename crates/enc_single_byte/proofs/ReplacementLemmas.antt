@@ -9,6 +9,7 @@ use Rattle.enc_machine.specs.RuleLaws.{HasLookahead, HasSmallTexts, IsToldBy, Is
 use Rattle.enc_single_byte.specs.Replacement.{replacement_rule, replacement_state}
 use Rattle.enc_machine.proofs.SegmentationLemmas.{sequences_of-cons}
 use Rattle.enc_machine.proofs.ShowLemmas.{shows_with}
+use Rattle.enc_machine.proofs.ToldLemmas.{looks_at_none}
 use Rattle.enc_machine.proofs.RuleLemmas.{one_small, none_small}
 
 -- the first byte
@@ -27,7 +28,8 @@ later_acts b =
     shows_with replacement_state true true Nothing Skipped 1 b refl refl refl refl (λ m. cc)
     (λ z. sequences_of-cons replacement_rule 1 b z)
 
-told_by_itself : (set b : ℕ) (z : List ℕ) → IsToldBy replacement_rule set b z 0
+-- each byte is told by itself
+pub told_by_itself : (set b : ℕ) (z : List ℕ) → IsToldBy replacement_rule set b z 0
 unfolding replacement_rule
 told_by_itself zero b z = record { there = omega arith; same = λ y. refl }
 told_by_itself (suc set) b z = record { there = omega arith; same = λ y. refl }
@@ -35,7 +37,7 @@ told_by_itself (suc set) b z = record { there = omega arith; same = λ y. refl }
 has_lookahead : HasLookahead replacement_rule
 has_lookahead = record {
   valid = λ set b z _. told_by_itself set b z;
-  others = λ set b z. inl (0, omega arith, told_by_itself set b z);
+  others = λ set b z. inl (0, omega arith, looks_at_none replacement_rule set b z (told_by_itself set b z));
 }
 
 has_small_texts : HasSmallTexts replacement_rule

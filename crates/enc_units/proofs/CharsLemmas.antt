@@ -1,5 +1,5 @@
 -- The code units of a text, and the characters of code units.
-use Rattle.std.proofs.Common.{◌==◌, Option, Some, None, MatchOption, ◌≡◌, ℕ, suc, ◌<◌, ◌≤◌, Bool, true, false, List, [], ◌∷◌, length, get_or, drop, refl, ap, ◌∙◌, sym, arith, length-append, length-drop, map, encode_utf8, chars, IsUtf8, nat_le, nat_lt, ◌&&◌, ◌⊎◌, inl, inr}
+use Rattle.std.proofs.Common.{◌==◌, Option, Some, None, MatchOption, ◌≡◌, ℕ, ◌+◌, zero, suc, ◌<◌, ◌≤◌, Bool, true, false, List, [], ◌∷◌, ◌++◌, length, get_or, drop, refl, ap, ◌∙◌, sym, arith, length-append, length-drop, map, encode_utf8, chars, IsUtf8, nat_le, nat_lt, ◌&&◌, ◌⊎◌, inl, inr}
 use Rattle.std.specs.Char.Escape.{encode_utf16}
 use Rattle.std.specs.Char.Utf16.{utf16_lossy_chars, is_high_surrogate, is_low_surrogate, surrogate_pair_char}
 use Rattle.std.proofs.lemmas.Str.{encodes-chars, utf16_chars-nil, utf16_chars_lone, utf16_chars_pair}
@@ -7,6 +7,7 @@ use Rattle.enc_units.specs.Output.{units_of_text}
 use Rattle.enc_units.specs.Surrogates.{lossy_unit, IsPair, First}
 use Rattle.std.specs.Option.{unwrap_or}
 use Rattle.std.proofs.lemmas.Bool.Decides.{nat_tests}
+use Rattle.std.proofs.lemmas.List.{drop-drop}
 use Rattle.enc_units.proofs.UnitsLemmas.{one_unit, two_units}
 use Rattle.enc_units.proofs.Utf8CharsLemmas.{their_units}
 
@@ -67,6 +68,44 @@ utf16_length (u ∷ v ∷ us) h = elim (decide_pair u v) [
   | inl p ↦ step (u ∷ v ∷ us) _ 2 (first_pair (u ∷ v ∷ us) (omega arith) p) (utf16_length us (λ i. h (suc (suc i))))
   | inr n ↦ step (u ∷ v ∷ us) _ 1 (first_lone (u ∷ v ∷ us) (omega arith) (h 0) n) (utf16_length (v ∷ us) (λ i. h (suc i)))
 ]
+
+-- The characters behind the first ones.
+
+record HasFirst (us : List ℕ) : Type 0 where
+  char : ℕ
+  units : ℕ
+  first : First us char units
+
+first_of : (u : ℕ) (us : List ℕ) → AreUnits (u ∷ us) → HasFirst (u ∷ us)
+first_of u [] h = record { char = _; units = 1; first = first_lone (u ∷ []) (omega arith) (h 0) (λ p. omega (arith, p.2)) }
+first_of u (v ∷ us) h = elim (decide_pair u v) [
+  | inl p ↦ record { char = _; units = 2; first = first_pair (u ∷ v ∷ us) (omega arith) p }
+  | inr n ↦ record { char = _; units = 1; first = first_lone (u ∷ v ∷ us) (omega arith) (h 0) n }
+]
+
+units-drop : (n : ℕ) (us : List ℕ) → AreUnits us → AreUnits (drop n us)
+units-drop zero us h = h
+units-drop (suc n) [] h = h
+units-drop (suc n) (u ∷ us) h = units-drop n us (λ i. h (suc i))
+
+heads : (a b : ℕ) (y z : List ℕ) → a ∷ y ≡ b ∷ z → a ≡ b
+heads a b y z e = cc
+
+tails : (a b : ℕ) (y z : List ℕ) → a ∷ y ≡ b ∷ z → y ≡ z
+tails a b y z e = cc
+
+pub lossy_behind : (us : List ℕ) → AreUnits us → (cs rest : List ℕ) → utf16_lossy_chars us ≡ cs ++ rest
+    → utf16_lossy_chars (drop (length (units_of_text encode_utf16 cs)) us) ≡ rest
+lossy_behind us h [] rest e = e
+lossy_behind [] h (c ∷ cs) rest e = absurd (let f : [] ≡ c ∷ (cs ++ rest) = sym lossy_nil ∙ e in cc)
+lossy_behind (u ∷ us) h (c ∷ cs) rest e =
+    let i = first_of u us h in
+    let f = sym i.first.chars ∙ e in
+    let n = length (units_of_text encode_utf16 cs) in
+    let w : length (units_of_text encode_utf16 (c ∷ cs)) ≡ i.units + n =
+    length-append (encode_utf16 c) (units_of_text encode_utf16 cs) ∙ ap (λ d. length (encode_utf16 d) + n) (sym (heads _ _ _ _ f)) ∙ ap (λ k. k + n) (sym i.first.width) in
+    ap (λ k. utf16_lossy_chars (drop k (u ∷ us))) w ∙ ap utf16_lossy_chars (sym (drop-drop n i.units (u ∷ us)))
+    ∙ lossy_behind (drop i.units (u ∷ us)) (units-drop i.units (u ∷ us) h) cs rest (tails _ _ _ _ f)
 
 pub peeks : (us : List ℕ) (r : Option (ℕ × ℕ)) → MatchOption r (us ≡ []) (λ p. First us p.0 p.1)
     → MatchOption r (utf16_lossy_chars us ≡ []) (λ p. utf16_lossy_chars us ≡ p.0 ∷ drop 1 (utf16_lossy_chars us))

@@ -7,7 +7,7 @@ use Rattle.enc_machine.specs.RuleLaws.{HasTexts, IsSmallText, HasSmallTexts, IsT
 use Rattle.enc_machine.specs.Latin1.{HasNoBytes}
 use Rattle.enc_utf.specs.Utf16.{code_unit, is_lead, is_trail, lead_head, utf_16_rule}
 use Rattle.enc_machine.proofs.RuleLemmas.{one_small}
-use Rattle.enc_machine.proofs.ToldLemmas.{true_or_false, told_by, IsToldInTime, lookahead_by}
+use Rattle.enc_machine.proofs.ToldLemmas.{true_or_false, told_by, looks_by, IsToldInTime, lookahead_by}
 use Rattle.enc_utf.proofs.Utf16Lemmas.{either_head, one_head, character_first, trail_first, lead_at_end, lead_and_byte, pair_first, lead_alone, has_form}
 
 -- heads that differ
@@ -38,6 +38,7 @@ module _ (big : Bool) where
 
   pub one_by_end : (set b : ℕ) → IsToldByEnd (utf_16_rule big) set b []
   one_by_end set b = record {
+    within = (let k = ap (λ (h : Head). h.more) (one_head big set b) in omega (arith, k));
     more = 0 ∷ [];
     bytes = (omega arith, tt);
     other = more_differs _ _ _ _ refl (one_head big set b) (λ q. let k = two_bytes set b 0 in omega arith);
@@ -47,6 +48,7 @@ module _ (big : Bool) where
   pub lead_by_end : (set b c : ℕ) → is_lead (code_unit big b c) ≡ true → IsToldByEnd (utf_16_rule big) set b (c ∷ [])
   lead_by_end set b c l =
       let w = trail_exists big in record {
+        within = (let k = ap (λ (h : Head). h.more) (lead_at_end big set b c l) in omega (arith, k));
         more = w.0 ∷ w.1 ∷ [];
         bytes = (w.2, (w.3, tt));
         other = more_differs _ _ _ _ (pair_first big set b c w.0 w.1 [] l w.4) (lead_at_end big set b c l) (λ q. omega arith);
@@ -55,6 +57,7 @@ module _ (big : Bool) where
 
   pub three_by_end : (set b c d : ℕ) → is_lead (code_unit big b c) ≡ true → IsToldByEnd (utf_16_rule big) set b (c ∷ d ∷ [])
   three_by_end set b c d l = record {
+    within = (let k = ap (λ (h : Head). h.more) (lead_and_byte big set b c d l) in omega (arith, k));
     more = 0 ∷ [];
     bytes = (omega arith, tt);
     other =
@@ -85,8 +88,9 @@ module _ (big : Bool) where
       inl (
         2,
         omega arith,
-        told_by (utf_16_rule big) set b (c ∷ d ∷ e ∷ z) 2 _ (lead_alone big set b c d e z l n) (omega arith)
-            (λ y. lead_alone big set b c d e y l n),
+        looks_by (utf_16_rule big) set b (c ∷ d ∷ e ∷ z) 1 2
+            (told_by (utf_16_rule big) set b (c ∷ d ∷ e ∷ z) 2 _ (lead_alone big set b c d e z l n) (omega arith) (λ y. lead_alone big set b c d e y l n))
+            (let k = ap (λ (h : Head). h.more) (lead_alone big set b c d e z l n) in omega (arith, k)) (three_by_end set b c d l),
       ),
     )
   ]

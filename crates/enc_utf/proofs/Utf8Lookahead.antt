@@ -7,7 +7,7 @@ use Rattle.enc_machine.specs.declared.byte_codec.Kind.TheVariants.{Valid, Malfor
 use Rattle.enc_machine.specs.Segmentation.{Head}
 use Rattle.enc_machine.specs.RuleLaws.{IsToldBy, IsToldByEnd, HasLookahead}
 use Rattle.enc_utf.specs.Utf8.{sequence_len, is_second, is_continuation, continuations, go_on, reach, lower_bound, scalar_of, utf_8_rule}
-use Rattle.enc_machine.proofs.ToldLemmas.{true_or_false, IsToldInTime, lookahead_by}
+use Rattle.enc_machine.proofs.ToldLemmas.{true_or_false, looks_by, IsToldInTime, lookahead_by}
 use Rattle.enc_utf.proofs.Utf8Lemmas.{continuations-end}
 
 -- What shows how far the bytes reach is the byte behind those, or that no more are wanted.
@@ -143,6 +143,7 @@ stops_short set b z l v =
 pub by_end : (set b : ℕ) (z : List ℕ) → reach b z ≡ length z → length z < sequence_len b - 1
     → IsToldByEnd utf_8_rule set b z
 by_end set b z e l = record {
+  within = within set b z;
   more = next_byte b z ∷ [];
   bytes = (next_is_byte b z, tt);
   near = omega (arith, more_is_reach set b z, e);
@@ -153,6 +154,27 @@ by_end set b z e l = record {
       let k : suc (length z) ≡ length z = sym m ∙ n ∙ e in omega (arith, k);
 }
 
+-- the bytes that are reached reach as far by themselves
+
+continuations-alone : (n : ℕ) (z : List ℕ) → continuations n (take (continuations n z) z) ≡ continuations n z
+continuations-alone zero z = refl
+continuations-alone (suc n) [] = refl
+continuations-alone (suc n) (c ∷ z) = elim (true_or_false (is_continuation c)) [
+  | inl t ↦ rw (t, t) (ap suc (continuations-alone n z))
+  | inr f ↦ rw f refl
+]
+
+go_on-alone : (b n : ℕ) (z : List ℕ) → go_on b n (take (go_on b n z) z) ≡ go_on b n z
+go_on-alone b zero z = refl
+go_on-alone b (suc n) [] = refl
+go_on-alone b (suc n) (c ∷ z) = elim (true_or_false (is_second b c)) [
+  | inl t ↦ rw (t, t) (ap suc (continuations-alone n z))
+  | inr f ↦ rw f refl
+]
+
+reach_alone : (b : ℕ) (z : List ℕ) → reach b (take (reach b z) z) ≡ reach b z
+reach_alone b z = go_on-alone b (sequence_len b - 1) z
+
 told : (set b : ℕ) (z : List ℕ) → IsToldInTime utf_8_rule set b z
 told set b z =
     let w = go_on-within b (sequence_len b - 1) z in
@@ -161,7 +183,13 @@ told set b z =
       | inr s ↦ inr (
         stops_short set b z s.1,
         elim (leb_tells (suc (reach b z)) (length z)) [
-          | inl l ↦ inl (1, omega arith, told_at set b (suc (reach b z)) 1 z (omega arith) l.1 (λ q. absurd (omega (arith, q))))
+          | inl l ↦ inl (
+            1,
+            omega arith,
+            looks_by utf_8_rule set b z 0 (reach b z) (told_at set b (suc (reach b z)) 1 z (omega arith) l.1 (λ q. absurd (omega (arith, q))))
+                (let m = more_is_reach set b z in omega (arith, m))
+                (by_end set b (take (reach b z) z) (reach_alone b z ∙ sym (length-take-le (reach b z) z w.1)) (let k = length-take-le (reach b z) z w.1 in omega (arith, k, s.1))),
+          )
           | inr g ↦ inr (by_end set b z (omega (arith, g.1, w.1)) (omega (arith, g.1, w.1, s.1)))
         ],
       )

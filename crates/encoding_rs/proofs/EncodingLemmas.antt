@@ -1,7 +1,7 @@
 -- What the rule of each encoding keeps.
 use Rattle.std.proofs.Common.{◌≡◌, ◌∙◌, ap, sym, refl, true, false, inl, inr, ◌⊎◌}
 use Rattle.enc_machine.specs.Segmentation.{Rule}
-use Rattle.enc_machine.specs.RuleLaws.{HasTexts, HasSmallTexts, IsLawful}
+use Rattle.enc_machine.specs.RuleLaws.{HasLookahead, HasTexts, HasSmallTexts, IsLawful}
 use Rattle.enc_machine.specs.Latin1.{HasNoBytes}
 use Rattle.enc_machine.specs.declared.byte_codec.Text.TheVariants.{One}
 use Rattle.enc_utf.proofs.Utf8Rule.{utf_8_has_texts, utf_8_is_lawful, utf_8_has_bytes}
@@ -90,6 +90,9 @@ laws_by_id Replacement = record { lawful = replacement_is_lawful; texts = λ n. 
 laws_by_id Utf16be = record { lawful = utf_16_is_lawful true; texts = λ _. utf_16_has_texts true; bytes = utf_16_has_no_bytes true }
 laws_by_id Utf16le = record { lawful = utf_16_is_lawful false; texts = λ _. utf_16_has_texts false; bytes = utf_16_has_no_bytes false }
 laws_by_id XUserDefined = one_byte_laws _ _ refl
+
+pub lookahead_of : (e : Encoding) → HasLookahead (rule_of e)
+lookahead_of e = (laws_by_id e.id).lawful.lookahead
 
 pub small_texts : (e : Encoding) → HasSmallTexts (rule_of e)
 small_texts e = (laws_by_id e.id).lawful.small_texts

@@ -27,3 +27,4 @@ pub mod DecodeEndLemmas
 pub mod NeedLemmas
 pub mod EncodeEndLemmas
 pub mod EnoughLemmas
+pub mod LookaheadLemmas

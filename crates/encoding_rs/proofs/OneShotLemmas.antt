@@ -1,5 +1,5 @@
 -- One-shot calls: what calls of a decoder that are told the whole input have come to.
-use Rattle.std.proofs.Common.{◌≡◌, ℕ, ◌<◌, ◌≤◌, Bool, true, false, true≢false, List, [], ◌∷◌, ◌++◌, length, take, drop, refl, ap, ◌∙◌, sym, arith, append_assoc, append-nil, ◌||◌, if◌then◌else◌}
+use Rattle.std.proofs.Common.{◌≡◌, ℕ, ◌<◌, ◌≤◌, Bool, true, false, true≢false, List, [], ◌∷◌, ◌++◌, length, take, drop, refl, ap, ◌∙◌, sym, subst, arith, append_assoc, append-nil, ◌||◌, if◌then◌else◌}
 use Rattle.std.proofs.lemmas.Bool.Decides.{nat_tests}
 use Rattle.std.proofs.lemmas.List.{take-append-drop}
 use Rattle.std.specs.Prelude.{Option, Some, None, IfSome, option_map, ◌==◌}
@@ -24,9 +24,12 @@ use Rattle.enc_machine.proofs.SegmentationLemmas.{sequences_of-nil}
 use Rattle.encoding_rs.specs.Encodings.{rule_of}
 use Rattle.encoding_rs.specs.Bom.{Mark, own_marks, find_mark, sequences_by}
 use Rattle.encoding_rs.specs.LifeCycle.{encoding_by}
-use Rattle.encoding_rs.specs.Decoding.{DecoderState, finished, fresh, decoder_remainder, remaining_sequences, whole_sequences, whole_utf_8, whole_malformed, Decodes, DecodesReplacing, HasDecoded}
-use Rattle.encoding_rs.specs.Lengths.{IsEnoughRoom}
-use Rattle.encoding_rs.specs.OneShot.{strict_utf_8, HasRoomFor}
+use Rattle.encoding_rs.specs.Decoding.{DecoderState, finished, fresh, decoder_remainder, remaining_sequences, whole_sequences, whole_utf_8, whole_malformed, Decodes, DecodesReplacing, ConvertsReplacing, HasDecoded}
+use Rattle.enc_units.specs.Checked.{plus}
+use Rattle.encoding_rs.specs.declared.lengths.Query.TheVariants as query
+use Rattle.encoding_rs.specs.declared.lengths.Query.TheVariants.{Utf8Reporting}
+use Rattle.encoding_rs.specs.Lengths.{max_length, IsEnoughRoom}
+use Rattle.encoding_rs.specs.OneShot.{strict_utf_8, HasRoomFor, IsTooLongBehind}
 use Rattle.encoding_rs.proofs.EndLemmas.{fresh_sequences, finishes_by, finishes, whole_text, whole_flag}
 
 pub nothing : (bytes : List ℕ) → true ≡ (length bytes == 0) → bytes ≡ []
@@ -127,6 +130,24 @@ never_full units_of treatment None old new src n room result read written enough
 never_full units_of treatment (Some told) old new src n room result read written enough has are l m f =
     let p = m.full.0 f in let more = p.more in
     enough src true are l (record { sequences = p.sequences; determined = p.determined; more = omega (arith, has, more) })
+
+-- A call that is given the whole input and is full, and behind which no length to allocate is a usize.
+pub too_long_behind : (handling : BomHandling) (e : Encoding) (bytes : List ℕ) (old new : DecoderState) → old ≡ fresh handling e
+    → (length_told : Option ℕ) → length_told ≡ max_length Utf8Reporting old (length bytes) → (room : ℕ) → HasRoomFor length_told room
+    → (result : CoderResult) → ¬ (result ≡ coder.InputEmpty) → (read : ℕ) (wrote : List ℕ) (replaced : Bool)
+    → ConvertsReplacing encode_utf8 4 old new bytes true room result read wrote replaced
+    → plus (max_length query.Utf8 new (length (drop read bytes))) (length wrote) ≡ None → IsTooLongBehind handling e bytes
+too_long_behind handling e bytes old new o told t room h coder.InputEmpty n read wrote replaced call p = absurd (n refl)
+too_long_behind handling e bytes old new o told t room h coder.OutputFull n read wrote replaced call p = record {
+  room = room;
+  enough = subst (λ (n : Option ℕ). HasRoomFor n room) (t ∙ ap (λ d. max_length Utf8Reporting d (length bytes)) o) h;
+  state = new;
+  read = read;
+  wrote = wrote;
+  replaced = replaced;
+  call = subst (λ d. ConvertsReplacing encode_utf8 4 d new bytes true room coder.OutputFull read wrote replaced) o call;
+  passes = p;
+}
 
 -- what a mark tells with its length is the encoding by it
 

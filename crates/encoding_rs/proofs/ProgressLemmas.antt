@@ -1,6 +1,5 @@
 -- No step of an encoder has more than four bytes, so that a call with room enough does one; and where a text may end.
 use Rattle.std.proofs.Common.{◌≡◌, ℕ, ◌<◌, ◌≤◌, Bool, true, false, Option, Some, None, List, [], ◌∷◌, ◌++◌, length, refl, ap, subst, inl, inr, arith, length-append, if◌then◌else◌}
-use Rattle.std.specs.Char.{encode_utf8}
 use Rattle.enc_calls.specs.declared.coder_result.CoderResult.{CoderResult}
 use Rattle.enc_calls.specs.declared.coder_result.CoderResult.TheVariants.{InputEmpty, OutputFull}
 use Rattle.enc_encoders.specs.declared.character_set.CharacterSet.{CharacterSet}
@@ -10,14 +9,17 @@ use Rattle.enc_encoders.specs.Text.{escape, escape_at_end}
 use Rattle.enc_encoders.specs.Barring.{barring}
 use Rattle.enc_encoders.specs.Steps.{Step, escape_step, char_step, first_written, last_step, steps_of, steps_from}
 use Rattle.enc_encode.specs.Encoders.{encoder_rule}
-use Rattle.enc_references.specs.Treatment.{IsFull, stop_of}
+use Rattle.enc_encoders.specs.declared.encoder_result.EncoderResult.{EncoderResult}
+use Rattle.enc_encoders.specs.declared.encoder_result.EncoderResult.TheVariants as raw
+use Rattle.enc_encoders.specs.Call.{Stops}
+use Rattle.enc_references.specs.Treatment.{Reported, IsFull, stop_of}
 use Rattle.encoding_rs.specs.declared.encoding.Id.{Id}
 use Rattle.encoding_rs.specs.declared.encoding.Id.TheVariants.{Utf8, Utf16be, Utf16le, Replacement}
 use Rattle.encoding_rs.specs.declared.encoding.Encoding.{Encoding}
 use Rattle.encoding_rs.specs.Encodings.{codec_by_id, or_utf_8, output_rule}
 use Rattle.encoding_rs.specs.Properties.{output_by_id, output_encoding_of}
 use Rattle.encoding_rs.proofs.ReferenceLemmas.{lawful_of}
-use Rattle.encoding_rs.specs.Encoder.{EncoderState, Encodes, raw_state, replacing, has_every, kept_in}
+use Rattle.encoding_rs.specs.Encoder.{EncoderState, Encodes, raw_state, replacing, has_every, kept_in, steps_left}
 
 -- the length of the first step
 abbrev first_len : List Step → ℕ
@@ -71,12 +73,11 @@ fewer_left kept old new src rest last room (p ∷ done) k r h full e =
     omega (arith, ap length e, length-append (p ∷ done) (steps_from new last rest))
 
 -- A call that is not at the end has done a step.
-pub goes_on : (old new : EncoderState) (text : List ℕ) (last : Bool) (room : ℕ) (result : CoderResult) (read : ℕ) (wrote : List ℕ) (replaced : Bool)
-    (c : Encodes encode_utf8 (replacing old) old new text last room (stop_of result) read wrote replaced)
-    → 14 ≤ room → ¬ (result ≡ InputEmpty)
-    → length (steps_from (raw_state new) last c.rest) < length (steps_from (raw_state old) last text)
-goes_on old new text last room InputEmpty read wrote replaced c r n = absurd (n refl)
-goes_on old new text last room OutputFull read wrote replaced c r n =
+pub goes_on : (units_of : ℕ → List ℕ) (old new : EncoderState) (text : List ℕ) (last : Bool) (room : ℕ) (result : CoderResult) (read : ℕ) (wrote : List ℕ) (replaced : Bool)
+    (c : Encodes units_of (replacing old) old new text last room (stop_of result) read wrote replaced)
+    → ¬ (result ≡ InputEmpty) → 14 ≤ room → steps_left new last c.rest < steps_left old last text
+goes_on units_of old new text last room InputEmpty read wrote replaced c n r = absurd (n refl)
+goes_on units_of old new text last room OutputFull read wrote replaced c n r =
     fewer_left (kept_in old.barred old.encoding) (raw_state old) (raw_state new) text c.rest last room c.call.done
     (few_kept (has_every old.barred old.encoding)) r
     (few_step (raw_state new).rule last new.set c.rest (lawful_of new.barred new.encoding).few)
@@ -95,3 +96,28 @@ same_rule _ = refl
 
 pub output_rule_is : (b : List ℕ) (e : Encoding) → output_rule b (output_encoding_of e) ≡ output_rule b e
 output_rule_is b e = ap (barring b) (same_rule e.id)
+
+-- The same of a call that reports unmappable characters.
+
+not_one_more : (x : List Step) (p : Step) → [] ≡ x ++ p ∷ [] → ⊥
+not_one_more [] p e = cc
+not_one_more (q ∷ x) p e = cc
+
+some_reported : (new : RawState) (rest : List ℕ) (last : Bool) (room : ℕ) → 4 ≤ room → first_len (steps_from new last rest) ≤ 4 → (result : EncoderResult) → ¬ (result ≡ raw.InputEmpty)
+    → Stops new rest last room [] result → ⊥
+some_reported new rest last room r h raw.InputEmpty n at = n refl
+some_reported new rest last room r h raw.OutputFull n at = let few : length at.next.bytes ≤ 4 = subst (λ x. first_len x ≤ 4) at.comes h in omega (arith, at.full, few)
+some_reported new rest last room r h (raw.Unmappable c) n at = not_one_more at.before at.report at.then_report
+
+fewer_reported : (old new : RawState) (src rest : List ℕ) (last : Bool) (room : ℕ) (done : List Step) → 4 ≤ room → first_len (steps_from new last rest) ≤ 4 → (result : EncoderResult)
+    → ¬ (result ≡ raw.InputEmpty) → Stops new rest last room done result → steps_from old last src ≡ done ++ steps_from new last rest
+    → length (steps_from new last rest) < length (steps_from old last src)
+fewer_reported old new src rest last room [] r h result n at e = absurd (some_reported new rest last room r h result n at)
+fewer_reported old new src rest last room (p ∷ done) r h result n at e = omega (arith, ap length e, length-append (p ∷ done) (steps_from new last rest))
+
+pub reports_on : (units_of : ℕ → List ℕ) (old new : EncoderState) (text : List ℕ) (last : Bool) (room : ℕ) (result : EncoderResult) (read : ℕ) (wrote : List ℕ) (replaced : Bool)
+    (c : Encodes units_of Reported old new text last room result read wrote replaced)
+    → ¬ (result ≡ raw.InputEmpty) → 4 ≤ room → steps_left new last c.rest < steps_left old last text
+reports_on units_of old new text last room result read wrote replaced c n r =
+    fewer_reported (raw_state old) (raw_state new) text c.rest last room c.call.done r
+    (few_step (raw_state new).rule last new.set c.rest (lawful_of new.barred new.encoding).few) result n c.call.stops c.call.remaining

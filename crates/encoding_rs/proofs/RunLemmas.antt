@@ -317,11 +317,12 @@ runs_on bytes (call ∷ calls) made a b c r g = (r.0, r.1, runs_on bytes calls m
 
 -- what has come out begins the text of the whole input
 pub has_run : (handling : BomHandling) (e : Encoding) (bytes unread : List ℕ) (calls : List DecodeCall) (state : DecoderState) (text : List ℕ) (faults : List (ℕ × ℕ)) (had : Bool)
-    → HasDone handling e bytes unread calls state text faults had → HasRun handling e bytes calls text faults had
-has_run handling e bytes unread calls state text faults had h = record {
+    → HasDone handling e bytes unread calls state text faults had → (ended : Bool) → finished state ≡ ended → HasRun handling e bytes calls text faults had ended
+has_run handling e bytes unread calls state text faults had h ended f = record {
   parts = h.parts;
   rest = remaining_sequences state unread;
   sequences = h.whole;
+  all = λ t. none_left state.life state.encoding state.set (state.pending ++ unread) (f ∙ t);
   calls_are = h.calls_are;
   text_of_done = h.text_is;
   reported = h.reported;

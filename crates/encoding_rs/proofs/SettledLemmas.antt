@@ -46,7 +46,8 @@ start_fits (a ∷ p) (b ∷ x) e = elim (true_or_false (eqb a b)) [
   | inr f ↦ absurd (false≢true (rw f at e))
 ]
 
-found_fits : (looked_for : List Mark) (x : List ℕ) (m : Mark) → find_mark looked_for x ≡ Some m → length m.bytes ≤ length x
+-- and so is one that is found
+pub found_fits : (looked_for : List Mark) (x : List ℕ) (m : Mark) → find_mark looked_for x ≡ Some m → length m.bytes ≤ length x
 found_fits [] x m e = absurd (let none : ⊥ = cc in none)
 found_fits (k ∷ others) x m e = elim (true_or_false (starts_with nat_eq x k.bytes)) [
   | inl t ↦ (let h : length k.bytes ≤ length x = start_fits k.bytes x t in

@@ -1,17 +1,22 @@
 -- What a call of an encoder leaves unread of a text in UTF-8.
-use Rattle.std.proofs.Common.{◌≡◌, ℕ, Bool, true, List, [], ◌∷◌, ◌++◌, length, drop, refl, ap, ◌∙◌, sym, chars, IsUtf8}
+use Rattle.std.proofs.Common.{◌≡◌, ℕ, Bool, true, List, [], ◌∷◌, ◌++◌, ◌≤◌, length, drop, refl, ap, ◌∙◌, sym, arith, length-append, chars, IsUtf8}
 use Rattle.std.proofs.lemmas.Str.{encodes-chars, chars-encodes, chars_from_encodes, IsCharBoundary-at_seam}
 use Rattle.std.proofs.Math.Seq.{drop-append_seam}
 use Rattle.std.specs.Str.{all_scalars, IsCharBoundary}
 use Rattle.std.specs.Cmp.{second_so}
 use Rattle.std.specs.Char.{encode_utf8}
+use Rattle.std.specs.Char.Escape.{encode_utf16}
+use Rattle.std.specs.Char.Utf16.{utf16_lossy_chars}
 use Rattle.enc_calls.specs.declared.coder_result.CoderResult.{CoderResult}
 use Rattle.enc_calls.specs.declared.coder_result.CoderResult.TheVariants.{InputEmpty, OutputFull}
 use Rattle.enc_units.specs.Output.{units_of_text}
 use Rattle.enc_units.proofs.Utf8CharsLemmas.{their_units}
+use Rattle.enc_units.proofs.CharsLemmas.{AreUnits, utf16_length, lossy_behind}
 use Rattle.enc_machine.proofs.SequenceLemmas.{units_of_text-append}
 use Rattle.enc_encoders.specs.EncoderRule.{RawState}
-use Rattle.enc_references.specs.Treatment.{stop_of, nothing_left}
+use Rattle.enc_encoders.specs.declared.encoder_result.EncoderResult.{EncoderResult}
+use Rattle.enc_encoders.specs.Steps.{chars_of}
+use Rattle.enc_references.specs.Treatment.{Treatment, stop_of, nothing_left}
 use Rattle.encoding_rs.specs.Encoder.{EncoderState, Encodes, raw_state, replacing}
 
 -- no bytes are no characters
@@ -51,3 +56,31 @@ pub all_read : (old new : EncoderState) (text : List ℕ) (last : Bool) (room : 
     (c : Encodes encode_utf8 (replacing old) old new text last room (stop_of result) read wrote replaced) → result ≡ InputEmpty → [] ≡ c.rest
 all_read old new text last room InputEmpty read wrote replaced c e = none_left (raw_state new) c.rest last c.call.stops
 all_read old new text last room OutputFull read wrote replaced c e = cc
+
+-- What is read of a text in UTF-8 ends between two characters.
+pub ends_between : (text : List ℕ) → IsUtf8 text → (treatment : Treatment) (old new : EncoderState) (last : Bool) (room : ℕ) (result : EncoderResult) (read : ℕ) (wrote : List ℕ) (replaced : Bool)
+    → Encodes encode_utf8 treatment old new (chars text) last room result read wrote replaced → IsCharBoundary text read
+ends_between text u treatment old new last room result read wrote replaced e =
+    boundary text (chars_of e.call.done) e.rest read u e.call.reads e.call.units
+
+-- What is read of UTF-16 is within it.
+pub ends_within : (text : List ℕ) → AreUnits text → (treatment : Treatment) (old new : EncoderState) (last : Bool) (room : ℕ) (result : EncoderResult) (read : ℕ) (wrote : List ℕ) (replaced : Bool)
+    → Encodes encode_utf16 treatment old new (utf16_lossy_chars text) last room result read wrote replaced → read ≤ length text
+ends_within text u treatment old new last room result read wrote replaced e =
+    let all = utf16_length text u ∙ ap (λ t. length (units_of_text encode_utf16 t)) e.call.reads
+    ∙ ap length (units_of_text-append encode_utf16 (chars_of e.call.done) e.rest) in
+    let parts = length-append (units_of_text encode_utf16 (chars_of e.call.done)) (units_of_text encode_utf16 e.rest) in
+    let r = e.call.units in
+    omega (arith, all, parts, r)
+
+-- The characters behind those that are read.
+
+pub chars_unread : (text : List ℕ) → IsUtf8 text → (treatment : Treatment) (old new : EncoderState) (last : Bool) (room : ℕ) (result : EncoderResult) (read : ℕ) (wrote : List ℕ) (replaced : Bool)
+    (e : Encodes encode_utf8 treatment old new (chars text) last room result read wrote replaced) → chars (drop read text) ≡ e.rest
+chars_unread text u treatment old new last room result read wrote replaced e =
+    chars_behind text (chars_of e.call.done) e.rest read u e.call.reads e.call.units
+
+pub lossy_unread : (text : List ℕ) → AreUnits text → (treatment : Treatment) (old new : EncoderState) (last : Bool) (room : ℕ) (result : EncoderResult) (read : ℕ) (wrote : List ℕ) (replaced : Bool)
+    (e : Encodes encode_utf16 treatment old new (utf16_lossy_chars text) last room result read wrote replaced) → utf16_lossy_chars (drop read text) ≡ e.rest
+lossy_unread text u treatment old new last room result read wrote replaced e =
+    ap (λ n. utf16_lossy_chars (drop n text)) e.call.units ∙ lossy_behind text u (chars_of e.call.done) e.rest e.call.reads

@@ -1,7 +1,7 @@
 -- One-shot calls: what calls of an encoder that are told the whole text have come to.
-use Rattle.std.proofs.Common.{◌≡◌, ℕ, ◌<◌, ◌≤◌, Bool, true, ◌||◌, List, [], ◌++◌, length, take, drop, refl, ap, ◌∙◌, sym, append_assoc, append-nil, chars, IsUtf8}
+use Rattle.std.proofs.Common.{◌≡◌, ℕ, Bool, true, ◌||◌, List, [], ◌++◌, length, take, drop, refl, ap, ◌∙◌, sym, append_assoc, append-nil, chars, IsUtf8}
+use Rattle.std.specs.Prelude.{Option, None}
 use Rattle.std.proofs.lemmas.List.{take-append-drop}
-use Rattle.std.specs.Str.{IsCharBoundary}
 use Rattle.std.specs.Char.{encode_utf8}
 use Rattle.enc_calls.specs.declared.coder_result.CoderResult.{CoderResult}
 use Rattle.enc_calls.specs.declared.coder_result.CoderResult.TheVariants.{InputEmpty, OutputFull}
@@ -9,18 +9,22 @@ use Rattle.enc_encoders.specs.declared.character_set.CharacterSet.{CharacterSet}
 use Rattle.enc_encoders.specs.declared.character_set.CharacterSet.TheVariants.{Ascii}
 use Rattle.enc_encoders.specs.EncoderRule.{EncoderRule}
 use Rattle.enc_encoders.specs.Text.{bytes_of_text, with_references}
-use Rattle.enc_encoders.specs.Steps.{chars_of, steps_from}
+use Rattle.enc_encoders.specs.Steps.{chars_of}
 use Rattle.enc_references.specs.Treatment.{stop_of}
 use Rattle.enc_references.specs.Unmappable.{any_unmappable}
 use Rattle.enc_references.proofs.UnmappableLemmas.{any_reported_is, any_unmappable-append}
 use Rattle.encoding_rs.specs.declared.encoding.Encoding.{Encoding}
 use Rattle.encoding_rs.specs.Encodings.{output_rule}
-use Rattle.encoding_rs.specs.Encoder.{EncoderState, Encodes, fresh_encoder, raw_state, replacing}
+use Rattle.encoding_rs.specs.Encoder.{EncoderState, Encodes, fresh_encoder, raw_state, kept_in, replacing}
 use Rattle.encoding_rs.specs.EncodeRun.{whole_bytes}
-use Rattle.encoding_rs.specs.OneShot.{HasWritten}
+use Rattle.enc_units.specs.Checked.{plus}
+use Rattle.enc_encoders.specs.Lengths.{from_utf_8_length}
+use Rattle.encoding_rs.specs.Lengths.{output_lengths}
+use Rattle.encoding_rs.specs.Properties.{output_encoding_of}
+use Rattle.encoding_rs.specs.OneShot.{HasWritten, length_to_encode}
 use Rattle.enc_machine.proofs.SequenceLemmas.{or_assoc, or_false}
-use Rattle.encoding_rs.proofs.ProgressLemmas.{goes_on, none_due, output_rule_is}
-use Rattle.encoding_rs.proofs.UnreadLemmas.{boundary, chars_behind, all_read}
+use Rattle.encoding_rs.proofs.ProgressLemmas.{none_due, output_rule_is}
+use Rattle.encoding_rs.proofs.UnreadLemmas.{chars_behind, all_read}
 
 -- the bytes of a text, by an encoder's rule and set
 abbrev bytes_by : EncoderRule → CharacterSet → List ℕ → List ℕ
@@ -40,15 +44,23 @@ all_written e text state wrote w h =
     sym (append-nil wrote) ∙ ap (λ x. wrote ++ x) (sym (none_due state.barred state.encoding)) ∙ ap (λ (s : CharacterSet). wrote ++ bytes_by (raw_state state).rule s []) (sym h)
     ∙ sym w.whole
 
+-- Where the whole text is unread, the length that is asked for is that of the whole text: there is none now if there was none.
+pub none_asked : (e : Encoding) (text rest unread : List ℕ) (state : EncoderState) (wrote : List ℕ) → HasWritten e text rest state wrote
+    → (all : List ℕ) → unread ≡ all → length_to_encode (output_encoding_of e) (length all) ≡ None → (told : Option ℕ)
+    → told ≡ plus (from_utf_8_length (output_lengths state.encoding) (length unread)) (kept_in state.barred state.encoding) → (n : ℕ) → plus told n ≡ None
+none_asked e text rest unread state wrote w all u none told t n =
+    ap (λ m. plus m n) (
+    t ∙ ap (λ x. plus (from_utf_8_length (output_lengths state.encoding) (length x)) (kept_in state.barred state.encoding)) u
+    ∙ ap (λ b. plus (from_utf_8_length (output_lengths state.encoding) (length all)) (kept_in b state.encoding)) w.barred
+    ∙ ap (λ o. length_to_encode o (length all)) w.encoding ∙ none
+    )
+
 -- One call more, whose bytes stand behind those that were written.
 module _ (e : Encoding) (text rest : List ℕ) (old new : EncoderState) (before after : List ℕ) (had : Bool) (u : IsUtf8 rest) (w : HasWritten e text (chars rest) old before)
     (f : any_unmappable (output_rule [] e) text ≡ (had || any_unmappable (output_rule [] e) (chars rest))) (room : ℕ) (result : CoderResult) (read : ℕ) (replaced : Bool)
     (d : Encodes encode_utf8 (replacing old) old new (chars rest) true room (stop_of result) read (drop (length before) after) replaced) (t : take (length before) after ≡ before) where
   abbrev front : List ℕ
   front = chars_of d.call.done
-
-  pub at_boundary : IsCharBoundary rest read
-  at_boundary = boundary rest front d.rest read u d.call.reads d.call.units
 
   unread_is : chars (drop read rest) ≡ d.rest
   unread_is = chars_behind rest front d.rest read u d.call.reads d.call.units
@@ -86,11 +98,6 @@ module _ (e : Encoding) (text rest : List ℕ) (old new : EncoderState) (before 
 
   pub flagged_on : (unread : List ℕ) → unread ≡ drop read rest → any_unmappable (output_rule [] e) text ≡ ((had || replaced) || any_unmappable (output_rule [] e) (chars unread))
   flagged_on unread h = flagged (chars unread) (ap chars h ∙ unread_is)
-
-  pub fewer_steps : (unread : List ℕ) → unread ≡ drop read rest → 14 ≤ room → ¬ (result ≡ InputEmpty)
-      → length (steps_from (raw_state new) true (chars unread)) < length (steps_from (raw_state old) true (chars rest))
-  fewer_steps unread h r n =
-      rw (ap chars h ∙ unread_is) (goes_on old new (chars rest) true room result read (drop (length before) after) replaced d r n)
 
   -- and that is
   pub written_all : result ≡ InputEmpty → after ≡ whole_bytes [] e text

@@ -5,6 +5,7 @@ use Rattle.enc_encoders.specs.declared.character_set.CharacterSet.TheVariants.{A
 use Rattle.enc_encoders.specs.declared.encoder_result.EncoderResult.{EncoderResult}
 use Rattle.enc_encoders.specs.declared.encoder_result.EncoderResult.TheVariants.{InputEmpty}
 use Rattle.enc_encoders.specs.EncoderRule.{RawState}
+use Rattle.enc_encoders.specs.Steps.{steps_from}
 use Rattle.enc_references.specs.Treatment.{Treatment, Replaced, CallBy}
 use Rattle.encoding_rs.specs.declared.encoding.Id.{Id}
 use Rattle.encoding_rs.specs.declared.encoding.Id.TheVariants.{Utf8}
@@ -46,6 +47,11 @@ replacing_in b e = Replaced (kept_in b e)
 -- what calls do that put references
 abbrev pub replacing : EncoderState → Treatment
 replacing v = replacing_in v.barred v.encoding
+
+-- How many steps an encoder has still to do of these characters: an escape sequence, the bytes of a character, and the report of an
+-- unmappable one are a step each.
+abbrev pub steps_left : EncoderState → Bool → List ℕ → ℕ
+steps_left v last text = length (steps_from (raw_state v) last text)
 
 -- A call that is offered the characters `src`, with `last` told that nothing follows them. It takes steps off from what was
 -- still to come, as many as fit, and puts a reference in the place of an unmappable character, or stops there and reports

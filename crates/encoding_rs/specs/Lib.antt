@@ -17,3 +17,4 @@ pub mod Lengths
 pub mod Need
 pub mod OneShot
 pub mod DecodeEnd
+pub mod Lookahead

@@ -115,11 +115,12 @@ all_report [] = true
 all_report (call ∷ calls) = not call.replace && all_report calls
 
 -- What calls have come to: what is done is a beginning, in whole sequences, of those of the whole input, in a part for
--- each call.
-pub record HasRun (handling : BomHandling) (e : Encoding) (bytes : List ℕ) (calls : List DecodeCall) (text : List ℕ) (faults : List (ℕ × ℕ)) (had_errors : Bool) : Type 0 where
+-- each call; where the end was reached, it is all of them, skipped ones too.
+pub record HasRun (handling : BomHandling) (e : Encoding) (bytes : List ℕ) (calls : List DecodeCall) (text : List ℕ) (faults : List (ℕ × ℕ)) (had_errors ended : Bool) : Type 0 where
   pub parts : List Part
   pub rest : List Sequence
   pub sequences : whole_sequences handling e bytes ≡ done_of parts ++ rest
+  pub all : ended ≡ true → rest ≡ []
   pub calls_are : map (λ (p : Part). p.replaces) parts ≡ map (λ (c : DecodeCall). c.replace) calls
   pub text_of_done : text ≡ units_of_text encode_utf8 (text_of (done_of parts))
   -- the malformed sequences that were met by calls which report them, in order and at their places in the whole input

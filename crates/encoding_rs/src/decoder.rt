@@ -4,8 +4,9 @@ ghost use Rattle.std.specs.Prelude.{◌≡◌, ◌+◌, ◌-◌, ◌<◌, ◌≤
 ghost use Rattle.std.specs.Char.{encode_utf8};
 ghost use Rattle.std.specs.Char.Escape.{encode_utf16};
 ghost use Rattle.std.specs.String.{string_bytes, string_len, string_capacity};
+ghost use Rattle.std.specs.Str.{IsUtf8};
 ghost use Rattle.enc_units.specs.Validity.{IsWellFormedUtf8};
-ghost use Rattle.enc_machine.specs.Call.{Treatment, Replaced, Reported};
+ghost use Rattle.enc_machine.specs.Call.{Treatment, Replaced, Reported, is_end};
 ghost use Rattle.encoding_rs.specs.declared.bom.BomHandling.TheVariants as handling;
 ghost use Rattle.enc_units.specs.Rest.{without_rest};
 ghost use Rattle.encoding_rs.specs.Latin1.{TellsLatin1};
@@ -292,8 +293,13 @@ impl Decoder {
         requires { finished self.old ≡ false }
         ensures call { ConvertsReplacing encode_utf8 4 self.old self.new src.now last (length dst.old)
             result.0 result.1 (take result.2 dst.new) result.3 }
+        ensures read { result.1 ≤ length src.now }
         ensures written { result.2 ≤ length dst.old }
+        ensures text { IsUtf8 (take result.2 dst.new) }
         ensures behind { drop result.2 dst.new ≡ drop result.2 dst.old }
+        ensures ended { finished self.new ≡ is_end last (stop_of result.0) }
+        ensures progress { result.0 ≡ CoderResult.OutputFull → 4 ≤ length dst.old →
+            length self.new.pending + (length src.now - result.1) < length self.old.pending + length src.now }
     {
         let mut out = Utf8Slice::new(dst);
         let (result, read, replaced) = self.convert_replacing(src, &mut out, last);
@@ -319,8 +325,13 @@ impl Decoder {
         requires { finished self.old ≡ false }
         ensures call { ConvertsReporting encode_utf8 4 self.old self.new src.now last (length dst.old)
             result.0 result.1 (take result.2 dst.new) }
+        ensures read { result.1 ≤ length src.now }
         ensures written { result.2 ≤ length dst.old }
+        ensures text { IsUtf8 (take result.2 dst.new) }
         ensures behind { drop result.2 dst.new ≡ drop result.2 dst.old }
+        ensures ended { finished self.new ≡ is_end last result.0 }
+        ensures progress { result.0 ≡ DecoderResult.OutputFull → 4 ≤ length dst.old →
+            length self.new.pending + (length src.now - result.1) < length self.old.pending + length src.now }
     {
         let mut out = Utf8Slice::new(dst);
         let (result, read) = self.convert_reporting(src, &mut out, last);
@@ -341,8 +352,12 @@ impl Decoder {
         requires { finished self.old ≡ false }
         ensures call { ConvertsReplacing encode_utf16 2 self.old self.new src.now last (length dst.old)
             result.0 result.1 (take result.2 dst.new) result.3 }
+        ensures read { result.1 ≤ length src.now }
         ensures written { result.2 ≤ length dst.old }
         ensures behind { drop result.2 dst.new ≡ drop result.2 dst.old }
+        ensures ended { finished self.new ≡ is_end last (stop_of result.0) }
+        ensures progress { result.0 ≡ CoderResult.OutputFull → 2 ≤ length dst.old →
+            length self.new.pending + (length src.now - result.1) < length self.old.pending + length src.now }
     {
         let mut units = Utf16Slice::new(dst);
         let (result, read, replaced) = self.convert_replacing(src, &mut units, last);
@@ -363,8 +378,12 @@ impl Decoder {
         requires { finished self.old ≡ false }
         ensures call { ConvertsReporting encode_utf16 2 self.old self.new src.now last (length dst.old)
             result.0 result.1 (take result.2 dst.new) }
+        ensures read { result.1 ≤ length src.now }
         ensures written { result.2 ≤ length dst.old }
         ensures behind { drop result.2 dst.new ≡ drop result.2 dst.old }
+        ensures ended { finished self.new ≡ is_end last result.0 }
+        ensures progress { result.0 ≡ DecoderResult.OutputFull → 2 ≤ length dst.old →
+            length self.new.pending + (length src.now - result.1) < length self.old.pending + length src.now }
     {
         let mut units = Utf16Slice::new(dst);
         let (result, read) = self.convert_reporting(src, &mut units, last);
@@ -387,9 +406,14 @@ impl Decoder {
         requires utf8 { IsWellFormedUtf8 dst.old }
         ensures call { ConvertsReplacing encode_utf8 4 self.old self.new src.now last (length dst.old)
             result.0 result.1 (take result.2 dst.new) result.3 }
+        ensures read { result.1 ≤ length src.now }
         ensures written { result.2 ≤ length dst.old }
+        ensures text { IsUtf8 (take result.2 dst.new) }
         ensures behind { drop result.2 dst.new ≡ without_rest (drop result.2 dst.old) }
         ensures utf8 { IsWellFormedUtf8 dst.new }
+        ensures ended { finished self.new ≡ is_end last (stop_of result.0) }
+        ensures progress { result.0 ≡ CoderResult.OutputFull → 4 ≤ length dst.old →
+            length self.new.pending + (length src.now - result.1) < length self.old.pending + length src.now }
     {
         let (result, read, written, replaced) = self.decode_to_utf8(src, dst, last);
         clear_rest(dst, written);
@@ -409,9 +433,14 @@ impl Decoder {
         requires utf8 { IsWellFormedUtf8 dst.old }
         ensures call { ConvertsReporting encode_utf8 4 self.old self.new src.now last (length dst.old)
             result.0 result.1 (take result.2 dst.new) }
+        ensures read { result.1 ≤ length src.now }
         ensures written { result.2 ≤ length dst.old }
+        ensures text { IsUtf8 (take result.2 dst.new) }
         ensures behind { drop result.2 dst.new ≡ without_rest (drop result.2 dst.old) }
         ensures utf8 { IsWellFormedUtf8 dst.new }
+        ensures ended { finished self.new ≡ is_end last result.0 }
+        ensures progress { result.0 ≡ DecoderResult.OutputFull → 4 ≤ length dst.old →
+            length self.new.pending + (length src.now - result.1) < length self.old.pending + length src.now }
     {
         let (result, read, len) = self.decode_to_utf8_without_replacement(src, dst, last);
         clear_rest(dst, len);
@@ -433,7 +462,11 @@ impl Decoder {
         requires { finished self.old ≡ false }
         ensures call { ConvertsReplacing encode_utf8 4 self.old self.new src.now last (string_capacity dst.old - string_len dst.old)
             result.0 result.1 (drop (length (string_bytes dst.old)) (string_bytes dst.new)) result.2 }
+        ensures read { result.1 ≤ length src.now }
         ensures appended { take (length (string_bytes dst.old)) (string_bytes dst.new) ≡ string_bytes dst.old }
+        ensures ended { finished self.new ≡ is_end last (stop_of result.0) }
+        ensures progress { result.0 ≡ CoderResult.OutputFull → 4 ≤ string_capacity dst.old - string_len dst.old →
+            length self.new.pending + (length src.now - result.1) < length self.old.pending + length src.now }
     {
         let mut tail = StringTail::new(dst);
         self.convert_replacing(src, &mut tail, last)
@@ -450,7 +483,11 @@ impl Decoder {
         requires { finished self.old ≡ false }
         ensures call { ConvertsReporting encode_utf8 4 self.old self.new src.now last (string_capacity dst.old - string_len dst.old)
             result.0 result.1 (drop (length (string_bytes dst.old)) (string_bytes dst.new)) }
+        ensures read { result.1 ≤ length src.now }
         ensures appended { take (length (string_bytes dst.old)) (string_bytes dst.new) ≡ string_bytes dst.old }
+        ensures ended { finished self.new ≡ is_end last result.0 }
+        ensures progress { result.0 ≡ DecoderResult.OutputFull → 4 ≤ string_capacity dst.old - string_len dst.old →
+            length self.new.pending + (length src.now - result.1) < length self.old.pending + length src.now }
     {
         let mut tail = StringTail::new(dst);
         self.convert_reporting(src, &mut tail, last)

@@ -1,6 +1,7 @@
 //! Encoders.
 
-ghost use Rattle.std.specs.Prelude.{◌≡◌, ◌-◌, chars, true, false, [], length, take, drop, IfSome};
+ghost use Rattle.std.specs.Prelude.{◌≡◌, ◌-◌, ◌<◌, ◌≤◌, chars, true, false, [], length, take, drop, IfSome};
+ghost use Rattle.std.specs.Str.{IsCharBoundary};
 ghost use Rattle.std.specs.Vec.{vec_len, vec_capacity};
 ghost use Rattle.std.specs.Char.{encode_utf8};
 ghost use Rattle.std.specs.Char.Escape.{encode_utf16};
@@ -11,7 +12,7 @@ ghost use Rattle.enc_references.specs.Treatment.{Reported, stop_of};
 ghost use Rattle.enc_units.specs.Checked.{plus};
 ghost use Rattle.enc_encoders.specs.Lengths.{from_utf_8_length, from_utf_16_length};
 ghost use Rattle.enc_encoders.specs.Need.{AreEnough};
-ghost use Rattle.encoding_rs.specs.Encoder.{Encodes, EncodesInto, fresh_encoder, has_every as wanted_every, kept_in, raw_state, replacing};
+ghost use Rattle.encoding_rs.specs.Encoder.{Encodes, EncodesInto, fresh_encoder, has_every as wanted_every, kept_in, raw_state, replacing, steps_left};
 ghost use Rattle.encoding_rs.specs.Lengths.{output_lengths};
 ghost use Rattle.encoding_rs.specs.Need.{EncodesByNeed, IsEnough, IsEnoughIfMappable};
 
@@ -224,8 +225,14 @@ impl Encoder {
         dst: &mut [u8],
         last: bool,
     ) -> (CoderResult, usize, usize, bool)
-        ensures { EncodesInto encode_utf8 (replacing self.old) self.old self.new (chars src.now) last dst.old dst.new
+        ensures call { EncodesInto encode_utf8 (replacing self.old) self.old self.new (chars src.now) last dst.old dst.new
             (stop_of result.0) result.1 result.2 result.3 }
+        ensures read { result.1 ≤ length src.now }
+        ensures boundary { IsCharBoundary src.now result.1 }
+        ensures written { result.2 ≤ length dst.old }
+        ensures behind { drop result.2 dst.new ≡ drop result.2 dst.old }
+        ensures progress { (result.0 ≡ CoderResult.InputEmpty → ⊥) → 14 ≤ length dst.old →
+            steps_left self.new last (chars (drop result.1 src.now)) < steps_left self.old last (chars src.now) }
     {
         let mut chars = Utf8Chars::new(src);
         self.encode_replacing(&mut chars, dst, last)
@@ -239,8 +246,13 @@ impl Encoder {
         dst: &mut [u8],
         last: bool,
     ) -> (CoderResult, usize, usize, bool)
-        ensures { EncodesInto encode_utf16 (replacing self.old) self.old self.new (utf16_lossy_chars src.now) last dst.old dst.new
+        ensures call { EncodesInto encode_utf16 (replacing self.old) self.old self.new (utf16_lossy_chars src.now) last dst.old dst.new
             (stop_of result.0) result.1 result.2 result.3 }
+        ensures read { result.1 ≤ length src.now }
+        ensures written { result.2 ≤ length dst.old }
+        ensures behind { drop result.2 dst.new ≡ drop result.2 dst.old }
+        ensures progress { (result.0 ≡ CoderResult.InputEmpty → ⊥) → 14 ≤ length dst.old →
+            steps_left self.new last (utf16_lossy_chars (drop result.1 src.now)) < steps_left self.old last (utf16_lossy_chars src.now) }
     {
         let mut units = Utf16Chars::new(src);
         self.encode_replacing(&mut units, dst, last)
@@ -257,7 +269,11 @@ impl Encoder {
     ) -> (CoderResult, usize, bool)
         ensures call { Encodes encode_utf8 (replacing self.old) self.old self.new (chars src.now) last (vec_capacity dst.old - vec_len dst.old)
             (stop_of result.0) result.1 (drop (length dst.old.items) dst.new.items) result.2 }
+        ensures read { result.1 ≤ length src.now }
+        ensures boundary { IsCharBoundary src.now result.1 }
         ensures appended { take (length dst.old.items) dst.new.items ≡ dst.old.items }
+        ensures progress { (result.0 ≡ CoderResult.InputEmpty → ⊥) → 14 ≤ vec_capacity dst.old - vec_len dst.old →
+            steps_left self.new last (chars (drop result.1 src.now)) < steps_left self.old last (chars src.now) }
     {
         let len = dst.len();
         let _ = dst.resize(dst.capacity(), 0);
@@ -278,7 +294,11 @@ impl Encoder {
             result.0 result.1 (drop (length dst.old.items) dst.new.items) false }
         ensures need { EncodesByNeed encode_utf8 self.old self.new (chars src.now) last (vec_capacity dst.old - vec_len dst.old)
             result.0 result.1 (length (drop (length dst.old.items) dst.new.items)) }
+        ensures read { result.1 ≤ length src.now }
+        ensures boundary { IsCharBoundary src.now result.1 }
         ensures appended { take (length dst.old.items) dst.new.items ≡ dst.old.items }
+        ensures progress { (result.0 ≡ EncoderResult.InputEmpty → ⊥) → 4 ≤ vec_capacity dst.old - vec_len dst.old →
+            steps_left self.new last (chars (drop result.1 src.now)) < steps_left self.old last (chars src.now) }
     {
         let len = dst.len();
         let _ = dst.resize(dst.capacity(), 0);
@@ -311,6 +331,12 @@ impl Encoder {
     ) -> (EncoderResult, usize, usize)
         ensures call { EncodesInto encode_utf8 Reported self.old self.new (chars src.now) last dst.old dst.new result.0 result.1 result.2 false }
         ensures need { EncodesByNeed encode_utf8 self.old self.new (chars src.now) last (length dst.old) result.0 result.1 result.2 }
+        ensures read { result.1 ≤ length src.now }
+        ensures boundary { IsCharBoundary src.now result.1 }
+        ensures written { result.2 ≤ length dst.old }
+        ensures behind { drop result.2 dst.new ≡ drop result.2 dst.old }
+        ensures progress { (result.0 ≡ EncoderResult.InputEmpty → ⊥) → 4 ≤ length dst.old →
+            steps_left self.new last (chars (drop result.1 src.now)) < steps_left self.old last (chars src.now) }
     {
         let mut chars = Utf8Chars::new(src);
         self.encode_reporting(&mut chars, dst, last)
@@ -326,6 +352,11 @@ impl Encoder {
     ) -> (EncoderResult, usize, usize)
         ensures call { EncodesInto encode_utf16 Reported self.old self.new (utf16_lossy_chars src.now) last dst.old dst.new result.0 result.1 result.2 false }
         ensures need { EncodesByNeed encode_utf16 self.old self.new (utf16_lossy_chars src.now) last (length dst.old) result.0 result.1 result.2 }
+        ensures read { result.1 ≤ length src.now }
+        ensures written { result.2 ≤ length dst.old }
+        ensures behind { drop result.2 dst.new ≡ drop result.2 dst.old }
+        ensures progress { (result.0 ≡ EncoderResult.InputEmpty → ⊥) → 4 ≤ length dst.old →
+            steps_left self.new last (utf16_lossy_chars (drop result.1 src.now)) < steps_left self.old last (utf16_lossy_chars src.now) }
     {
         let mut units = Utf16Chars::new(src);
         self.encode_reporting(&mut units, dst, last)

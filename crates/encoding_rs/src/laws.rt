@@ -1,6 +1,6 @@
 //! Laws over the definitions, each the contract of a function that does nothing, or only what the law speaks of.
 
-ghost use Rattle.std.specs.Prelude.{◌≡◌, ◌≢◌, ◌↔◌, ℕ, true, false, is_some, IsTrue, List, [], ◌∷◌, ◌++◌, Some, None, map, length, if◌then◌else◌};
+ghost use Rattle.std.specs.Prelude.{◌≡◌, ◌≢◌, ◌↔◌, ℕ, ◌-◌, ◌≤◌, ◌⊎◌, take, true, false, is_some, IsTrue, List, [], ◌∷◌, ◌++◌, Some, None, map, length, if◌then◌else◌};
 ghost use Rattle.encoding_rs.specs.declared.bom.BomHandling.TheVariants as handling;
 ghost use Rattle.encoding_rs.specs.Bom.{marks_looked_for, find_mark};
 ghost use Rattle.enc_encode.specs.Encoders.{encoder_rule};
@@ -16,11 +16,13 @@ ghost use Rattle.encoding_rs.specs.EncodeRun.{whole_bytes};
 ghost use Rattle.encoding_rs.specs.Labels.{labelled, get};
 ghost use Rattle.encoding_rs.specs.Names.{name_of};
 ghost use Rattle.encoding_rs.specs.Properties.{output_encoding_of, is_ascii_compatible, is_single_byte};
-ghost use Rattle.enc_codec.specs.Properties.{IsAsciiCompatible, IsSingleByte};
+ghost use Rattle.enc_codec.specs.Properties.{IsAsciiCompatible, IsSingleByte, TellsBbByItself};
 ghost use Rattle.enc_machine.specs.Sequence.{Sequence, bytes_of, text_of};
 ghost use Rattle.enc_machine.specs.Segmentation.{sequences_of, IsSegmentation};
-ghost use Rattle.enc_machine.specs.Remainder.{Determines};
-ghost use Rattle.enc_machine.specs.RuleLaws.{HasTexts};
+ghost use Rattle.enc_machine.specs.Remainder.{AreBytes, Determines};
+ghost use Rattle.enc_machine.specs.RuleLaws.{HasTexts, Looks, IsToldByEnd};
+ghost use Rattle.enc_machine.specs.Lookahead.{ReachBehind};
+ghost use Rattle.encoding_rs.specs.Lookahead.{MayLook};
 ghost use Rattle.enc_round_trip.specs.RoundTrip.{read_back};
 ghost use Rattle.enc_units.specs.Output.{AreScalars};
 ghost use Rattle.enc_units.specs.Validity.{IsWellFormedUtf8};
@@ -86,6 +88,26 @@ pub fn mark_is_told_first(encoding: Encoding, handling: BomHandling)
     let _ = (encoding, handling);
 }
 
+/// How far ahead a decoder looks. So many bytes of an input determine the sequences that it begins with just where they settle which
+/// byte order mark stands in front, and reach to the end of each sequence and as many bytes behind it as its lookahead is. So the
+/// number of bytes that determine a sequence and all before it, where there is one, is the greatest of these.
+pub fn lookahead_is_exact(encoding: Encoding, handling: BomHandling)
+    ensures determined { (bytes : List ℕ) (s : Sequence) (ss rest : List Sequence) (k : ℕ) → AreBytes bytes
+        → whole_sequences handling encoding bytes ≡ (s ∷ ss) ++ rest → k ≤ length bytes
+        → Determines (whole_sequences handling encoding) (take k bytes) (s ∷ ss)
+        ↔ ((MayBeginMark (marks_looked_for handling encoding) (take k bytes) → ⊥)
+        × ReachBehind (rule_of (encoding_by (find_mark (marks_looked_for handling encoding) bytes) encoding)) 0
+        (behind_mark (find_mark (marks_looked_for handling encoding) bytes) bytes) (s ∷ ss)
+        (k - length (mark_bytes (find_mark (marks_looked_for handling encoding) bytes)))) }
+
+    // Each sequence has a lookahead, or only the end of the input tells it.
+    ensures some { (set b : ℕ) (z : List ℕ) → ((n : ℕ) × Looks (rule_of encoding) set b z n) ⊎ IsToldByEnd (rule_of encoding) set b z }
+    ensures kinds { (set b : ℕ) (z : List ℕ) (n : ℕ) → AreBytes z → Looks (rule_of encoding) set b z n
+        → MayLook encoding (rule_of encoding set b z).kind n }
+{
+    let _ = (encoding, handling);
+}
+
 /// The sequences of a whole input, joined, are the bytes behind the byte order mark, if one is found; and there is one such
 /// segmentation.
 pub fn sequences_are_the_bytes(encoding: Encoding, handling: BomHandling)
@@ -146,6 +168,14 @@ pub fn ascii_compatible_decode_ascii(encoding: Encoding)
 /// byte, and a text. (In replacement each has one byte too, but the first one alone has a text.)
 pub fn single_byte_decode_bytes(encoding: Encoding)
     ensures { (is_single_byte encoding ≡ true) ↔ IsSingleByte (rule_of encoding) }
+{
+    let _ = encoding;
+}
+
+/// Where EF is a sequence by itself in front of BB, so is BB, and no byte behind it is needed to tell it. So a decoder that has put out
+/// EF of a byte order mark that broke off, and not yet BB, has read nothing behind BB.
+pub fn pending_bb_is_told_by_itself(encoding: Encoding)
+    ensures { TellsBbByItself (rule_of encoding) }
 {
     let _ = encoding;
 }

@@ -20,6 +20,7 @@ mod sniffing;
 mod text;
 mod validity;
 
+pub use bom::BomHandling;
 pub use decoder::Decoder;
 pub use enc_calls::CoderResult;
 pub use enc_codec::DecoderResult;

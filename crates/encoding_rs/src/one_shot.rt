@@ -1,6 +1,6 @@
 //! One-shot calls, for whole inputs.
 
-ghost use Rattle.std.specs.Prelude.{◌≡◌, ◌-◌, ◌≤◌, [], true, false, chars, IfOk, IsOk, IfErr, IsErrOf, OnOk, OnErr, option_map, Some, None};
+ghost use Rattle.std.specs.Prelude.{◌≡◌, ◌≢◌, ◌-◌, ◌≤◌, [], true, false, chars, length, IfOk, IsOk, IfErr, IsErrOf, OnOk, OnErr, option_map, Some, None};
 ghost use Rattle.std.specs.Vec.{vec_len, vec_capacity};
 ghost use Rattle.std.specs.String.{string_bytes, string_len, string_capacity};
 ghost use Rattle.enc_units.specs.Checked.{plus};
@@ -10,7 +10,7 @@ ghost use Rattle.encoding_rs.specs.Encodings.{output_rule};
 ghost use Rattle.encoding_rs.specs.Properties.{output_encoding_of};
 ghost use Rattle.encoding_rs.specs.Decoding.{whole_encoding, whole_utf_8, whole_malformed};
 ghost use Rattle.encoding_rs.specs.EncodeRun.{whole_bytes};
-ghost use Rattle.encoding_rs.specs.OneShot.{strict_utf_8, HasRoomFor, IsTooLong, IsTooLongToEncode};
+ghost use Rattle.encoding_rs.specs.OneShot.{strict_utf_8, HasRoomFor, first_length, length_to_encode, IsTooLong, IsTooLongToEncode};
 
 use crate::bom::BomHandling;
 use crate::decoder::Decoder;
@@ -33,6 +33,8 @@ fn length_behind(length: Option<usize>, written: usize) -> Result<usize, OneShot
     ensures value { IfOk result (λ more. length ≡ Some more) }
     ensures fault { IfErr result (λ fault. fault ≡ OneShotError.TooLong) }
     ensures too_long { OnErr result (plus length written ≡ None) }
+    ensures fits { OnOk result (plus length written ≢ None) }
+    ensures alone { OnErr result (written ≡ 0 → length ≡ None) }
 {
     let Some(length) = length else {
         return Err(OneShotError::TooLong);
@@ -49,6 +51,8 @@ fn make_room(text: &mut String, length: Option<usize>) -> Result<(), OneShotErro
     ensures room { OnOk result (4 ≤ string_capacity text.new - string_len text.new) }
     ensures enough { OnOk result (HasRoomFor length (string_capacity text.new - string_len text.new)) }
     ensures too_long { IsErrOf result OneShotError.TooLong → plus length (string_len text.old) ≡ None }
+    ensures none { plus length (string_len text.old) ≡ None → IsErrOf result OneShotError.TooLong }
+    ensures alone { IsErrOf result OneShotError.TooLong → string_bytes text.old ≡ [] → length ≡ None }
 {
     let more = length_behind(length, text.len())?;
     match text.reserve(more.max(4)) {
@@ -62,6 +66,7 @@ fn make_byte_room(bytes: &mut Vec<u8>, length: Option<usize>) -> Result<(), OneS
     ensures bytes { bytes.new.items ≡ bytes.old.items }
     ensures room { OnOk result (14 ≤ vec_capacity bytes.new - vec_len bytes.new) }
     ensures too_long { IsErrOf result OneShotError.TooLong → plus length (vec_len bytes.old) ≡ None }
+    ensures none { plus length (vec_len bytes.old) ≡ None → IsErrOf result OneShotError.TooLong }
 {
     let more = length_behind(length, bytes.len())?;
     match bytes.reserve(more.max(14)) {
@@ -81,6 +86,7 @@ fn decode_whole(
     ensures text { IfOk result (λ answer. string_bytes answer.0 ≡ whole_utf_8 handling encoding bytes.now) }
     ensures flag { IfOk result (λ answer. answer.1 ≡ whole_malformed handling encoding bytes.now) }
     ensures too_long { IsErrOf result OneShotError.TooLong → IsTooLong handling encoding bytes.now }
+    ensures first { bytes.now ≢ [] → first_length handling encoding bytes.now ≡ None → IsErrOf result OneShotError.TooLong }
     ensures empty { bytes.now ≡ [] → IsOk result }
 {
     let mut text = String::new(alloc);
@@ -121,6 +127,7 @@ impl Encoding {
         ensures encoding { IfOk result (λ answer. answer.1 ≡ whole_encoding handling.Sniff self bytes.now) }
         ensures flag { IfOk result (λ answer. answer.2 ≡ whole_malformed handling.Sniff self bytes.now) }
         ensures too_long { IsErrOf result OneShotError.TooLong → IsTooLong handling.Sniff self bytes.now }
+        ensures first { bytes.now ≢ [] → first_length handling.Sniff self bytes.now ≡ None → IsErrOf result OneShotError.TooLong }
         ensures empty { bytes.now ≡ [] → IsOk result }
     {
         let (text, had_errors) = decode_whole(alloc, self, BomHandling::Sniff, bytes)?;
@@ -142,6 +149,7 @@ impl Encoding {
         ensures text { IfOk result (λ answer. string_bytes answer.0 ≡ whole_utf_8 handling.Remove self bytes.now) }
         ensures flag { IfOk result (λ answer. answer.1 ≡ whole_malformed handling.Remove self bytes.now) }
         ensures too_long { IsErrOf result OneShotError.TooLong → IsTooLong handling.Remove self bytes.now }
+        ensures first { bytes.now ≢ [] → first_length handling.Remove self bytes.now ≡ None → IsErrOf result OneShotError.TooLong }
         ensures empty { bytes.now ≡ [] → IsOk result }
     {
         decode_whole(alloc, self, BomHandling::Remove, bytes)
@@ -158,6 +166,7 @@ impl Encoding {
         ensures text { IfOk result (λ answer. string_bytes answer.0 ≡ whole_utf_8 handling.Off self bytes.now) }
         ensures flag { IfOk result (λ answer. answer.1 ≡ whole_malformed handling.Off self bytes.now) }
         ensures too_long { IsErrOf result OneShotError.TooLong → IsTooLong handling.Off self bytes.now }
+        ensures first { bytes.now ≢ [] → first_length handling.Off self bytes.now ≡ None → IsErrOf result OneShotError.TooLong }
         ensures empty { bytes.now ≡ [] → IsOk result }
     {
         decode_whole(alloc, self, BomHandling::Off, bytes)
@@ -172,7 +181,8 @@ impl Encoding {
         bytes: &[u8],
     ) -> Result<Option<String>, OneShotError>
         ensures text { IfOk result (λ answer. option_map string_bytes answer ≡ strict_utf_8 self bytes.now) }
-        ensures too_long { IsErrOf result OneShotError.TooLong → IsTooLong handling.Off self bytes.now }
+        ensures too_long { IsErrOf result OneShotError.TooLong → first_length handling.Off self bytes.now ≡ None }
+        ensures first { bytes.now ≢ [] → first_length handling.Off self bytes.now ≡ None → IsErrOf result OneShotError.TooLong }
         ensures empty { bytes.now ≡ [] → IsOk result }
     {
         let mut text = String::new(alloc);
@@ -203,7 +213,8 @@ impl Encoding {
         ensures bytes { IfOk result (λ answer. answer.0.items ≡ whole_bytes [] self (chars text.now)) }
         ensures encoding { IfOk result (λ answer. answer.1 ≡ output_encoding_of self) }
         ensures flag { IfOk result (λ answer. answer.2 ≡ any_unmappable (output_rule [] self) (chars text.now)) }
-        ensures too_long { IsErrOf result OneShotError.TooLong → IsTooLongToEncode self (chars text.now) }
+        ensures too_long { IsErrOf result OneShotError.TooLong → IsTooLongToEncode self text.now }
+        ensures first { text.now ≢ [] → length_to_encode (output_encoding_of self) (length text.now) ≡ None → IsErrOf result OneShotError.TooLong }
         ensures empty { text.now ≡ [] → IsOk result }
     {
         let mut bytes = Vec::new(alloc);

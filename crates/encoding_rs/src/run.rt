@@ -244,7 +244,7 @@ pub fn decode_run(
 
     // What has come out is always a beginning of the one text, and each malformed sequence of it stands at its place.
     ensures beginning { IfOk result (λ report. HasRun handling encoding bytes.now (take report.calls calls.now)
-        (string_bytes report.text) report.faults.items report.had_errors) }
+        (string_bytes report.text) report.faults.items report.had_errors report.finished) }
 
     // At the end it is all of it.
     ensures text { IfOk result (λ report. report.finished ≡ true → string_bytes report.text ≡ whole_utf_8 handling encoding bytes.now) }

@@ -2,40 +2,9 @@
 //! output encoding of the one that TO names.
 #![tactic(auto)]
 
-ghost use Rattle.std.specs.Prelude.{◌≡◌, IfSome, IfNone};
-ghost use Rattle.recode.specs.Labels.{Names, AreUnknown};
-ghost use Rattle.recode.specs.Status.{status_of};
-
-#[cfg(test)]
-mod tests;
-
-use enc_recode::{FromRead, FromWrite, RecodeFault, Sink, Source, run};
-use encoding_rs::Encoding;
+pub use enc_recode::{FromRead, FromWrite, RecodeFault, Sink, Source, labels, run, status};
 use std::process::ExitCode;
 use std::{env, io};
-
-/// The encodings that two labels name: the first to decode from, and the second whose output encoding is to be written.
-/// `None` where one of them names none, or is a label of replacement.
-pub fn labels(from: &str, to: &str) -> Option<(Encoding, Encoding)>
-    ensures from { IfSome result (λ encodings. Names from.now encodings.0) }
-    ensures to { IfSome result (λ encodings. Names to.now encodings.1) }
-    ensures none { IfNone result (AreUnknown from.now to.now) }
-{
-    let from = Encoding::for_label_no_replacement(from.as_bytes())?;
-    let to = Encoding::for_label_no_replacement(to.as_bytes())?;
-    Some((from, to))
-}
-
-/// The exit status: 0 where nothing was replaced, 1 where something was, 3 after any fault.
-pub fn status(outcome: &Result<bool, RecodeFault>) -> u8
-    ensures { result ≡ status_of outcome.now }
-{
-    match outcome {
-        Ok(false) => 0,
-        Ok(true) => 1,
-        Err(_) => 3,
-    }
-}
 
 /// The two arguments, if there are just two. An `Err` where an argument can't be read.
 fn words(rt: &HostRuntime) -> io::Result<Option<(String, String)>> {

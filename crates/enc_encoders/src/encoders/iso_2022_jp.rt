@@ -100,6 +100,7 @@ fn set_of_class(class: CharClass) -> CharacterSet
 }
 
 /// The character that is looked up.
+#[tactic(auto, using(crate::proofs::KatakanaLemmas::katakana_are))]
 fn looked_up(c: char) -> char
     ensures { result ≡ wanted_looked_up c }
 {

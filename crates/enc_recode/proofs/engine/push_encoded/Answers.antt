@@ -1,7 +1,7 @@
 use Rattle.std.proofs.Common.{rules, arith, ◌≡◌, ◌≤◌, refl, length}
 use Rattle.enc_calls.specs.declared.coder_result.CoderResult.TheVariants.{InputEmpty}
 use Rattle.enc_recode.proofs.KnownLemmas.{on_err}
-use Rattle.enc_recode.proofs.EncodingLemmas.{HasEncoded-none, HasEncoded-call, HasEncoded-last, StopsWithin-encoding, call_boundary, fewer_steps}
+use Rattle.enc_recode.proofs.EncodingLemmas.{HasEncoded-none, HasEncoded-call, HasEncoded-last, StopsWithin-encoding}
 use Rattle.enc_recode.proofs.engine.push_encoded.Goals as goal
 
 pub calls-init : goal.calls-init
@@ -10,32 +10,20 @@ calls-init g c = (search rules, record { encoded = HasEncoded-none _ _ _ _; kept
 pub returns-in_err-push_all-clause-err : goal.returns-in_err-push_all-clause-err
 returns-in_err-push_all-clause-err g c =
     let i = c.calls.invariant in
-    on_err c.from_residual.result _ (StopsWithin-encoding _ _ _ _ _ _ _ _ _ _ _ _ _ _ _ i.0 i.1.encoded c.encode_from_utf8-outcome.ensures _ c.in_err-push_all.ensures.err)
-
-pub split_at-requires : goal.split_at-requires
-split_at-requires g c =
-    let i = c.calls.invariant in
-    call_boundary _ _ _ _ _ _ _ _ _ _ _ _ _ _ _ i.0 i.1.encoded c.encode_from_utf8-outcome.ensures
+    on_err c.from_residual.result _ (StopsWithin-encoding _ _ _ _ _ _ _ _ _ _ _ _ _ _ _ i.0 i.1.encoded c.encode_from_utf8-outcome.ensures.call _ c.in_err-push_all.ensures.err)
 
 pub returns-then-eq-clause-ok : goal.returns-then-eq-clause-ok
 returns-then-eq-clause-ok g c =
     let i = c.calls.invariant in
     let at_end : c.encode_from_utf8-outcome.result.0 ≡ InputEmpty = search rules in
-    HasEncoded-last _ _ _ _ _ _ _ _ _ _ _ _ _ _ _ i.0 i.1.encoded c.encode_from_utf8-outcome.ensures _ at_end c.in_ok-push_all.ensures.ok
-
-pub calls-smaller : goal.calls-smaller
-calls-smaller g c =
-    let i = c.calls.invariant in
-    let room : 14 ≤ length c.calls.output = omega (arith, i.1.room, c.requires.room) in
-    let goes_on : ¬ (c.encode_from_utf8-outcome.result.0 ≡ InputEmpty) = search rules in
-    fewer_steps _ _ _ _ _ _ _ _ _ _ _ _ _ _ _ i.0 i.1.encoded c.encode_from_utf8-outcome.ensures _ c.split_at.ensures.back room goes_on
+    HasEncoded-last _ _ _ _ _ _ _ _ _ _ _ _ _ _ _ i.0 i.1.encoded c.encode_from_utf8-outcome.ensures.call _ at_end c.in_ok-push_all.ensures.ok
 
 pub calls-preserved : goal.calls-preserved
 calls-preserved g c =
     let i = c.calls.invariant in (
       search rules,
       record {
-        encoded = HasEncoded-call _ _ _ _ _ _ _ _ _ _ _ _ _ _ _ i.0 i.1.encoded c.encode_from_utf8-outcome.ensures _ _ c.split_at.ensures.back c.in_ok-push_all.ensures.ok;
+        encoded = HasEncoded-call _ _ _ _ _ _ _ _ _ _ _ _ _ _ _ i.0 i.1.encoded c.encode_from_utf8-outcome.ensures.call _ _ c.split_at.ensures.back c.in_ok-push_all.ensures.ok;
         kept = search rules;
         room = search rules;
       },

@@ -1,8 +1,7 @@
 use Rattle.std.proofs.Common.{◌≡◌, chars, length}
 use denote.Text.{Utf8}
 use denote.Shadow.{shadow}
-use Rattle.enc_encoders.specs.Steps.{steps_from}
-use Rattle.encoding_rs.specs.Encoder.{raw_state}
+use Rattle.encoding_rs.specs.Encoder.{steps_left}
 use Rattle.enc_recode.specs.Writing.{HasEncoded}
 use Rattle.enc_recode.proofs.engine.push_encoded.Given as goal
 
@@ -14,4 +13,4 @@ invariant-calls g l = shadow (Utf8 l.rest) × record {
 }
 
 abbrev pub decreases-calls : goal.decreases-calls
-decreases-calls g l = length (steps_from (raw_state l.encoder) l.last (chars l.rest))
+decreases-calls g l = steps_left l.encoder l.last (chars l.rest)

@@ -3,7 +3,7 @@ use Rattle.std.proofs.lemmas.Bool.{false≢true}
 use Rattle.std.proofs.lemmas.Bool.Decides.{nat_tests}
 use Rattle.std.proofs.lemmas.List.{length-take}
 use Rattle.enc_recode.proofs.KnownLemmas.{on_err}
-use Rattle.enc_recode.proofs.RunLemmas.{HasRun-start, HasRun-more, RunsToEnd-last, RunsToEnd-by, RunsToFault-between, RunsToFault-within, RunsToFault-reading, is_readers}
+use Rattle.enc_recode.proofs.RunLemmas.{HasRun-start, HasRun-more, RunsToEnd-last, RunsToEnd-by, RunsToFault-between, RunsToFault-within, RunsToFault-reading, RunsToFault-by, is_readers}
 use Rattle.enc_recode.proofs.engine.run_through.Goals as goal
 
 pub reads-init : goal.reads-init
@@ -21,13 +21,14 @@ pub returns-in_default-clause-err : goal.returns-in_default-clause-err
 returns-in_default-clause-err g c =
     let i = c.reads.invariant in
     let fault = is_readers c.read_str.result (search rules) (λ f. false≢true (sym i.going ∙ c.read_str.ensures.from_then_on.0 f)) in
-    RunsToFault-reading _ _ _ _ _ _ _ _ _ _ _ i.ran _ _ (c.read_str.ensures.reader_fault fault)
+    RunsToFault-by _ _ _ _ _ _ _ (search rules) (RunsToFault-reading _ _ _ _ _ _ _ _ _ _ _ i.ran _ _ _ _ (c.read_str.ensures.reader_fault fault))
 
 pub returns-in_err-replaced-clause-err : goal.returns-in_err-replaced-clause-err
 returns-in_err-replaced-clause-err g c =
     on_err c.from_residual.result _
+    (RunsToFault-by _ _ _ (g.R.Source.told c.read_str.new.self.reader.now) _ _ _ (search rules)
     (RunsToFault-within _ _ _ _ _ _ _ _ _ _ _ _ _ _ _ c.reads.invariant.ran c.in-Ok.ensures.ok _ _
-    (λ (last : nat_eq c.in-Ok.n 0 ≡ true). c.in-Ok.ensures.end (grind (arith, nat_tests))) c.in_err-replaced.ensures.err)
+    (λ (last : nat_eq c.in-Ok.n 0 ≡ true). c.in-Ok.ensures.end (grind (arith, nat_tests))) c.in_err-replaced.ensures.err))
 
 pub returns-then-n-eq0-clause-ok : goal.returns-then-n-eq0-clause-ok
 returns-then-n-eq0-clause-ok g c =
@@ -51,4 +52,4 @@ reads-preserved g c =
     }
 
 pub returns-clause-err : goal.returns-clause-err
-returns-clause-err g c = RunsToFault-between _ _ _ _ _ _ _ _ _ _ _ c.reads.invariant.ran
+returns-clause-err g c = RunsToFault-by _ _ _ _ _ _ _ (search rules) (RunsToFault-between _ _ _ _ _ _ _ _ _ _ _ c.reads.invariant.ran)

@@ -1,4 +1,4 @@
-use Rattle.std.proofs.Common.{rules, ◌≡◌, false, [], refl, ap, ◌∙◌, sym}
+use Rattle.std.proofs.Common.{rules, ◌≡◌, false, [], None, length, refl, ap, ◌∙◌, sym, inl, inr}
 use Rattle.std.specs.String.{string_bytes}
 use Rattle.std.specs.Char.{encode_utf8}
 use Rattle.enc_calls.specs.declared.coder_result.CoderResult.TheVariants.{InputEmpty, OutputFull}
@@ -7,10 +7,11 @@ use Rattle.enc_units.specs.Output.{units_of_text}
 use Rattle.enc_machine.specs.Sequence.{text_of, any_malformed}
 use Rattle.enc_machine.specs.Remainder.{AreBytes}
 use Rattle.enc_machine.proofs.ByteLemmas.{bytes_of_slice}
-use Rattle.encoding_rs.specs.declared.lengths.Query.TheVariants.{Utf8, Utf8Reporting}
+use Rattle.encoding_rs.specs.declared.lengths.Query.TheVariants.{Utf8Reporting}
+use Rattle.encoding_rs.specs.Lengths.{max_length}
 use Rattle.encoding_rs.proofs.EndLemmas.{only_put, whole_text, whole_flag}
 use Rattle.encoding_rs.proofs.EnoughLemmas.{are_bytes_drop}
-use Rattle.encoding_rs.proofs.OneShotLemmas.{nothing, none_whole, none_decoded, first_call, next_call, still_open, now_finished, never_full}
+use Rattle.encoding_rs.proofs.OneShotLemmas.{nothing, none_whole, none_decoded, first_call, next_call, still_open, now_finished, never_full, too_long_behind}
 use Rattle.encoding_rs.proofs.one_shot.decode_whole.Goals as goal
 
 pub returns-then-is_empty-clause-text : goal.returns-then-is_empty-clause-text
@@ -24,15 +25,11 @@ returns-then-is_empty-clause-flag c =
     ap any_malformed (sym (none_whole c.args.handling c.args.encoding c.args.bytes.now none))
 
 pub returns-in_err-make_room-clause-too_long : goal.returns-in_err-make_room-clause-too_long
-returns-in_err-make_room-clause-too_long c = λ too_long. record {
-  state = c.start-decoder.result;
-  unread = c.args.bytes.now;
-  wrote = [];
-  replaced = false;
-  decoded = rw c.start-decoder.ensures (none_decoded c.args.handling c.args.encoding c.args.bytes.now);
-  query = Utf8Reporting;
-  passes = search rules;
-}
+returns-in_err-make_room-clause-too_long c = λ too_long.
+    let none : c.max_utf8_buffer_length_without_replacement-length.result ≡ None = search rules in inl (
+    ap (λ d. max_length Utf8Reporting d (length c.args.bytes.now)) (sym c.start-decoder.ensures)
+    ∙ sym c.max_utf8_buffer_length_without_replacement-length.ensures.length ∙ none
+    )
 
 pub returns-then-eq-clause-text : goal.returns-then-eq-clause-text
 returns-then-eq-clause-text c =
@@ -55,17 +52,13 @@ max_utf8_buffer_length-length-requires c =
 
 pub returns-in_err-make_room-2-clause-too_long : goal.returns-in_err-make_room-2-clause-too_long
 returns-in_err-make_room-2-clause-too_long c =
-    let d = c.decode_to_string-stop.ensures.call.decodes in
-    λ too_long. record {
-      state = c.decode_to_string-stop.new.self;
-      unread = c.split_at.result.1.now;
-      wrote = string_bytes c.decode_to_string-stop.new.dst;
-      replaced = c.decode_to_string-stop.result.2;
-      decoded = rw c.split_at.ensures.back
-          (first_call _ _ _ _ _ c.start-decoder.ensures _ _ (c.in_ok-make_room.ensures.bytes ∙ c.new-text.ensures.bytes) _ _ _ _ _ d c.decode_to_string-stop.ensures.appended (only_put _ _ _ _ _ _ _ _ _ d));
-      query = Utf8;
-      passes = search rules;
-    }
+    let on : ¬ (c.decode_to_string-stop.result.0 ≡ InputEmpty) = search rules in
+    let none : string_bytes c.make_room.new.text ≡ [] = c.in_ok-make_room.ensures.bytes ∙ c.new-text.ensures.bytes in
+    λ too_long. inr (
+    too_long_behind _ _ _ _ _ c.start-decoder.ensures _ c.max_utf8_buffer_length_without_replacement-length.ensures.length _
+    c.in_ok-make_room.ensures.enough _ on _ _ _ c.decode_to_string-stop.ensures.call
+    (rw (none, ← c.split_at.ensures.back) (search rules))
+    )
 
 pub decode_to_string-requires : goal.decode_to_string-requires
 decode_to_string-requires c =

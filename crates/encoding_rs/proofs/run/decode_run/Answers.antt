@@ -39,7 +39,7 @@ loop-call-preserved c =
     })
 
 pub returns-clause-beginning : goal.returns-clause-beginning
-returns-clause-beginning c = has_run _ _ _ _ _ _ _ _ _ c.loop-call.invariant.done
+returns-clause-beginning c = has_run _ _ _ _ _ _ _ _ _ c.loop-call.invariant.done _ (sym c.is_finished-finished.ensures)
 
 pub returns-clause-text : goal.returns-clause-text
 returns-clause-text c = λ f. whole_text _ _ _ _ _ _ _ _ _ c.loop-call.invariant.done (sym c.is_finished-finished.ensures ∙ f)

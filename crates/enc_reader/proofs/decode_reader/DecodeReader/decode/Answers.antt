@@ -32,4 +32,5 @@ invariant_of-self g c =
       some = rw c.decode_between-read.ensures.kept r.some;
       seen = λ f. only_at_end _ _ _ _ _ _ _ _ _ d f;
       none_told = r.none_told;
+      going = r.going;
     }

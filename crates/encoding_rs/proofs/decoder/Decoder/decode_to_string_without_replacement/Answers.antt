@@ -1,5 +1,6 @@
 use Rattle.std.proofs.Common.{length, refl, rules}
 use Rattle.std.specs.String.{string_bytes}
+use Rattle.encoding_rs.proofs.EndLemmas.{finishes_by}
 use Rattle.encoding_rs.proofs.FullLemmas.{over_text, in_front, four_bytes}
 use Rattle.encoding_rs.proofs.decoder.Decoder.decode_to_string_without_replacement.Goals as goal
 
@@ -13,3 +14,12 @@ pub returns-clause-appended : goal.returns-clause-appended
 returns-clause-appended c =
     let old = c.args.dst.now in
     in_front _ _ _ _ _ _ _ _ _ _ _ (string_bytes old) _ (length (string_bytes old)) c.convert_reporting.ensures (rw c.new-tail.ensures.now refl) refl (search rules)
+
+pub returns-clause-read : goal.returns-clause-read
+returns-clause-read c = (returns-clause-call c).decodes.call.within
+
+pub returns-clause-ended : goal.returns-clause-ended
+returns-clause-ended c = finishes_by _ _ _ _ _ _ _ _ _ _ _ (returns-clause-call c).decodes
+
+pub returns-clause-progress : goal.returns-clause-progress
+returns-clause-progress c = (returns-clause-call c).progress

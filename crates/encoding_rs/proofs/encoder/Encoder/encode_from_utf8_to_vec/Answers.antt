@@ -10,4 +10,4 @@ returns-clause-call c =
     let written : made.result.2 ≤ length made.new.dst = search rules in
     let within : c.len-len.result + made.result.2 ≤ c.resize.new.self.len = search rules in
     let tail = tail_of _ _ _ _ _ _ _ _ front written within c.truncate.ensures.items in
-    in_tail _ _ _ _ _ _ _ _ _ _ _ _ _ (search rules) (tail ∙ ap (λ n. drop n c.truncate.new.self.items) len) made.ensures.encodes
+    in_tail _ _ _ _ _ _ _ _ _ _ _ _ _ (search rules) (tail ∙ ap (λ n. drop n c.truncate.new.self.items) len) made.ensures.call.encodes

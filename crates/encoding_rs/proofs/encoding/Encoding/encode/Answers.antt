@@ -1,13 +1,23 @@
-use Rattle.std.proofs.Common.{rules, ◌≡◌, ◌≤◌, ◌-◌, ◌∙◌, chars, refl}
+use Rattle.std.proofs.Common.{rules, ◌≡◌, ◌≤◌, ◌-◌, ◌∙◌, [], ◌++◌, ap, sym, append_assoc, take, chars, refl}
+use Rattle.std.proofs.lemmas.List.{take-append-drop}
 use Rattle.std.specs.Vec.{vec_len, vec_capacity}
 use Rattle.enc_calls.specs.declared.coder_result.CoderResult.TheVariants.{InputEmpty}
 use Rattle.encoding_rs.proofs.OneShotLemmas.{nothing}
 use Rattle.encoding_rs.proofs.UnreadLemmas.{no_chars}
-use Rattle.encoding_rs.proofs.WrittenLemmas.{none_written, nothing_written, at_boundary, written_on, flagged_on, fewer_steps, written_all, flagged_all}
+use Rattle.encoding_rs.proofs.WrittenLemmas.{none_written, none_asked, nothing_written, written_on, flagged_on, written_all, flagged_all}
 use Rattle.encoding_rs.proofs.encoding.Encoding.encode.Goals as goal
 
 pub calls-init : goal.calls-init
-calls-init c = rw (c.new_encoder-encoder.ensures, c.new-bytes.ensures.items) (c.utf8.text, record { written = none_written c.args.self (chars c.args.text.now); flag = refl })
+calls-init c = rw (c.new_encoder-encoder.ensures, c.new-bytes.ensures.items) (
+  c.utf8.text,
+  record {
+    written = none_written c.args.self (chars c.args.text.now);
+    flag = refl;
+    front = [];
+    rest = refl;
+    start = λ none. refl;
+  },
+)
 
 pub returns-then-is_empty-clause-bytes : goal.returns-then-is_empty-clause-bytes
 returns-then-is_empty-clause-bytes c =
@@ -19,8 +29,10 @@ returns-then-is_empty-clause-flag c = rw (no_chars c.args.text.now (nothing c.ar
 pub returns-in_err-make_byte_room-clause-too_long :
     goal.returns-in_err-make_byte_room-clause-too_long
 returns-in_err-make_byte_room-clause-too_long c = λ too_long. record {
-  state = c.calls.encoder;
+  front = c.calls.invariant.1.front;
   unread = c.calls.unread.now;
+  rest = c.calls.invariant.1.rest;
+  state = c.calls.encoder;
   wrote = c.calls.bytes.items;
   written = c.calls.invariant.1.written;
   passes = search rules;
@@ -42,22 +54,6 @@ returns-then-eq-clause-flag c =
     let at_end : c.encode_from_utf8_to_vec-stop.result.0 ≡ InputEmpty = search rules in
     flagged_all _ _ _ _ _ _ _ _ i.0 w i.1.flag _ _ _ _ d.call d.appended at_end
 
-pub split_at-requires : goal.split_at-requires
-split_at-requires c =
-    let i = c.calls.invariant in
-    let w = rw (← c.in_ok-make_byte_room.ensures.bytes) at i.1.written in
-    let d = c.encode_from_utf8_to_vec-stop.ensures in
-    at_boundary _ _ _ _ _ _ _ _ i.0 w i.1.flag _ _ _ _ d.call d.appended
-
-pub calls-smaller : goal.calls-smaller
-calls-smaller c =
-    let i = c.calls.invariant in
-    let w = rw (← c.in_ok-make_byte_room.ensures.bytes) at i.1.written in
-    let d = c.encode_from_utf8_to_vec-stop.ensures in
-    let room : 14 ≤ vec_capacity c.make_byte_room.new.bytes - vec_len c.make_byte_room.new.bytes = search rules in
-    let on : ¬ (c.encode_from_utf8_to_vec-stop.result.0 ≡ InputEmpty) = search rules in
-    fewer_steps _ _ _ _ _ _ _ _ i.0 w i.1.flag _ _ _ _ d.call d.appended _ c.split_at.ensures.back room on
-
 pub calls-preserved : goal.calls-preserved
 calls-preserved c =
     let i = c.calls.invariant in
@@ -67,5 +63,13 @@ calls-preserved c =
       record {
         written = written_on _ _ _ _ _ _ _ _ i.0 w i.1.flag _ _ _ _ d.call d.appended _ c.split_at.ensures.back;
         flag = flagged_on _ _ _ _ _ _ _ _ i.0 w i.1.flag _ _ _ _ d.call d.appended _ c.split_at.ensures.back;
+        front = i.1.front ++ take c.encode_from_utf8_to_vec-stop.result.1 c.calls.unread.now;
+        rest = i.1.rest ∙ ap (λ x. i.1.front ++ x) (sym (take-append-drop c.encode_from_utf8_to_vec-stop.result.1 c.calls.unread.now))
+            ∙ sym (append_assoc i.1.front (take c.encode_from_utf8_to_vec-stop.result.1 c.calls.unread.now) _)
+            ∙ ap (λ x. (i.1.front ++ take c.encode_from_utf8_to_vec-stop.result.1 c.calls.unread.now) ++ x) (sym c.split_at.ensures.back);
+        start = λ none. absurd (
+            let n = none_asked _ _ _ _ _ _ i.1.written _ (i.1.start none) none _ c.max_buffer_length_from_utf8_if_no_unmappables-length.ensures.formula _ in
+            let e = c.in_ok-make_byte_room.ensures.none n in cc
+            );
       },
     )

@@ -1,18 +1,22 @@
-use Rattle.std.proofs.Common.{◌≡◌, chars, length, true, [], ◌||◌}
+use Rattle.std.proofs.Common.{◌≡◌, ℕ, List, ◌++◌, None, chars, length, true, [], ◌||◌}
 use denote.Text.{Utf8}
 use denote.Shadow.{shadow}
-use Rattle.enc_encoders.specs.Steps.{steps_from}
 use Rattle.enc_references.specs.Unmappable.{any_unmappable}
 use Rattle.encoding_rs.specs.Encodings.{output_rule}
-use Rattle.encoding_rs.specs.Encoder.{raw_state}
-use Rattle.encoding_rs.specs.OneShot.{HasWritten}
+use Rattle.encoding_rs.specs.Encoder.{steps_left}
+use Rattle.encoding_rs.specs.OneShot.{length_to_encode, HasWritten}
+use Rattle.encoding_rs.specs.Properties.{output_encoding_of}
 use Rattle.encoding_rs.proofs.encoding.Encoding.encode.Given as goal
 
 abbrev pub invariant-calls : goal.invariant-calls
 invariant-calls l = shadow (Utf8 l.unread) × record {
   written : HasWritten l.fn.self (chars l.fn.text) (chars l.unread) l.encoder l.bytes.items;
   flag : any_unmappable (output_rule [] l.fn.self) (chars l.fn.text) ≡ (l.had_unmappables || any_unmappable (output_rule [] l.fn.self) (chars l.unread));
+  front : List ℕ;
+  rest : l.fn.text ≡ front ++ l.unread;
+  -- only the first call asks for a length that is not there
+  start : length_to_encode (output_encoding_of l.fn.self) (length l.fn.text) ≡ None → l.unread ≡ l.fn.text;
 }
 
 abbrev pub decreases-calls : goal.decreases-calls
-decreases-calls l = length (steps_from (raw_state l.encoder) true (chars l.unread))
+decreases-calls l = steps_left l.encoder true (chars l.unread)

@@ -1,4 +1,4 @@
--- Which pairs of labels name encodings that the program recodes between.
+-- Which pairs of labels name encodings to recode between.
 use Rattle.std.specs.Prelude.{◌≡◌, ℕ, List, Some}
 use Rattle.encoding_rs.specs.declared.encoding.Encoding.{Encoding}
 use Rattle.encoding_rs.specs.Labels.{get_no_replacement}

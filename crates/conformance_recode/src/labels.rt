@@ -1,7 +1,6 @@
-//! What labels name, and the statuses. `conformance_recode` has the tests of runs.
+//! What labels name, and the statuses.
 
-use crate::{labels, status};
-use enc_recode::RecodeFault;
+use enc_recode::{RecodeFault, labels, status};
 use encoding_rs::{
     SHIFT_JIS, UTF_8, UTF_16BE, UTF_16LE, WINDOWS_1251, WINDOWS_1252, X_USER_DEFINED,
 };

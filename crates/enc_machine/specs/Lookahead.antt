@@ -1,0 +1,13 @@
+-- How many bytes determine the sequences that come first.
+use Rattle.std.specs.Prelude.{ℕ, ◌+◌, ◌-◌, ◌≤◌, List, [], ◌∷◌, drop}
+use Rattle.enc_machine.specs.Sequence.{Sequence}
+use Rattle.enc_machine.specs.Segmentation.{Rule}
+use Rattle.enc_machine.specs.RuleLaws.{Looks}
+
+-- Of bytes that begin with these sequences, the first k reach to the end of each of them, and as many more as its lookahead is.
+abbrev pub ReachBehind : Rule → ℕ → List ℕ → List Sequence → ℕ → Type 0
+ReachBehind rule set z [] k = Unit {0}
+ReachBehind rule set [] (s ∷ ss) k = ⊥
+ReachBehind rule set (b ∷ z) (s ∷ ss) k =
+    ((n : ℕ) × Looks rule set b z n × (1 + (rule set b z).more + n ≤ k))
+    × ReachBehind rule (rule set b z).set (drop (rule set b z).more z) ss (k - (1 + (rule set b z).more))

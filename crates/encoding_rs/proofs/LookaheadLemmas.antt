@@ -1,0 +1,116 @@
+-- How far ahead a decoder looks.
+use Rattle.std.proofs.Common.{◌≡◌, ℕ, ◌+◌, ◌-◌, ◌<◌, ◌≤◌, ◌↔◌, zero, suc, List, [], ◌∷◌, ◌++◌, length, take, drop, Option, Some, None, refl, ap, ◌∙◌, sym, subst, arith, ◌⊎◌, inl, inr}
+use Rattle.std.proofs.lemmas.List.{length-take-le, take-append-drop, length-drop}
+use Rattle.enc_machine.specs.declared.byte_codec.Kind.{Kind}
+use Rattle.enc_machine.specs.declared.byte_codec.Kind.TheVariants.{Valid, Skipped, Malformed, RepeatedEscape}
+use Rattle.enc_machine.specs.Sequence.{Sequence}
+use Rattle.enc_machine.specs.Segmentation.{Rule, sequences_of}
+use Rattle.enc_machine.specs.Remainder.{AreBytes, Determines}
+use Rattle.enc_machine.specs.RuleLaws.{IsToldBy, Looks, IsToldByEnd, HasLookahead}
+use Rattle.enc_machine.specs.Lookahead.{ReachBehind}
+use Rattle.enc_machine.proofs.ByteLemmas.{bytes-drop}
+use Rattle.enc_machine.proofs.LookaheadLemmas.{left_of, reach_behind, determine_if_behind, no_more_than, at_most_three}
+use Rattle.enc_single_byte.proofs.ReplacementLemmas.{told_by_itself}
+use Rattle.enc_iso_2022_jp.proofs.Iso2022JpRule.{looks_behind_skipped}
+use Rattle.encoding_rs.specs.declared.encoding.Encoding.{Encoding}
+use Rattle.encoding_rs.specs.declared.encoding.TheConstants.{REPLACEMENT, ISO_2022_JP}
+use Rattle.encoding_rs.specs.declared.bom.BomHandling.{BomHandling}
+use Rattle.encoding_rs.specs.Encodings.{rule_of}
+use Rattle.encoding_rs.specs.Bom.{Mark, marks_looked_for, find_mark, sequences_by}
+use Rattle.encoding_rs.specs.LifeCycle.{mark_bytes, encoding_by}
+use Rattle.encoding_rs.specs.Decoding.{whole_sequences}
+use Rattle.encoding_rs.specs.MarkLaws.{MayBeginMark, behind}
+use Rattle.encoding_rs.specs.Lookahead.{MayLook}
+use Rattle.encoding_rs.proofs.EncodingLemmas.{lookahead_of}
+use Rattle.encoding_rs.proofs.SettledLemmas.{told, found_fits, undetermined, by_rule}
+
+-- by what the sequence is
+
+looks_not : (rule : Rule) (set b : ℕ) (z : List ℕ) (n : ℕ) → AreBytes z → Looks rule set b z n → IsToldBy rule set b z 0 → n ≡ 0
+looks_not rule set b z n a l t = let m = no_more_than rule set b z n 0 a l t in omega (arith, m)
+
+some_more : (rule : Rule) (set b : ℕ) (z : List ℕ) (n : ℕ) → Looks rule set b z n → (IsToldBy rule set b z 0 → ⊥) → 1 ≤ n
+some_more rule set b z zero l f = absurd (f l.told)
+some_more rule set b z (suc n) l f = omega arith
+
+pub may_look : (e : Encoding) (set b : ℕ) (z : List ℕ) (n : ℕ) → AreBytes z → Looks (rule_of e) set b z n → (kind : Kind) → (rule_of e set b z).kind ≡ kind → MayLook e kind n
+may_look e set b z n a l Valid k = looks_not (rule_of e) set b z n a l ((lookahead_of e).valid set b z k)
+may_look e set b z n a l Skipped k = (
+  at_most_three (rule_of e) (lookahead_of e) set b z n a l,
+  (λ r. looks_not (rule_of e) set b z n a l (subst (λ (f : Encoding). IsToldBy (rule_of f) set b z 0) (sym r) (told_by_itself set b z))),
+  (λ j. some_more (rule_of e) set b z n l
+      (subst (λ (f : Encoding). (rule_of f set b z).kind ≡ Skipped → IsToldBy (rule_of f) set b z 0 → ⊥) (sym j) (looks_behind_skipped.not_alone set b z) k)),
+)
+may_look e set b z n a l Malformed k = at_most_three (rule_of e) (lookahead_of e) set b z n a l
+may_look e set b z n a l RepeatedEscape k = at_most_three (rule_of e) (lookahead_of e) set b z n a l
+
+pub looks_or_ends : (e : Encoding) (set b : ℕ) (z : List ℕ) → ((n : ℕ) × Looks (rule_of e) set b z n) ⊎ IsToldByEnd (rule_of e) set b z
+looks_or_ends e set b z = elim ((lookahead_of e).others set b z) [ inl t ↦ inl (t.0, t.2) | inr f ↦ inr f ]
+
+-- behind the mark that is in front
+
+sequences_are : (found : Option Mark) (e : Encoding) (bytes : List ℕ) → sequences_by found e bytes ≡ sequences_of (rule_of (encoding_by found e)) 0 (behind found bytes)
+sequences_are None e bytes = refl
+sequences_are (Some m) e bytes = refl
+
+bytes_behind : (found : Option Mark) (bytes : List ℕ) → AreBytes bytes → AreBytes (behind found bytes)
+bytes_behind None bytes a = a
+bytes_behind (Some m) bytes a = bytes-drop (length m.bytes) bytes a
+
+mark_fits : (looked_for : List Mark) (x : List ℕ) (found : Option Mark) → find_mark looked_for x ≡ found → length (mark_bytes found) ≤ length x
+mark_fits looked_for x None e = omega arith
+mark_fits looked_for x (Some m) e = found_fits looked_for x m e
+
+front_behind : (found : Option Mark) (bytes : List ℕ) (k : ℕ) → length (mark_bytes found) ≤ k
+    → behind found (take k bytes) ≡ take (k - length (mark_bytes found)) (behind found bytes)
+front_behind None bytes k h = ap (λ i. take i bytes) (let e : k ≡ k - 0 = omega arith in e)
+front_behind (Some m) bytes k h = left_of (length m.bytes) k bytes h
+
+length_behind : (found : Option Mark) (bytes : List ℕ) → length (behind found bytes) ≡ length bytes - length (mark_bytes found)
+length_behind None bytes = omega arith
+length_behind (Some m) bytes = length-drop (length m.bytes) bytes
+
+module _ (handling : BomHandling) (e : Encoding) (bytes : List ℕ) (s : Sequence) (ss rest : List Sequence) (k : ℕ)
+    (a : AreBytes bytes) (whole : whole_sequences handling e bytes ≡ (s ∷ ss) ++ rest) (l : k ≤ length bytes) where
+  abbrev looked_for : List Mark
+  looked_for = marks_looked_for handling e
+
+  abbrev found : Option Mark
+  found = find_mark looked_for bytes
+
+  abbrev rule : Rule
+  rule = rule_of (encoding_by found e)
+
+  abbrev left : List ℕ
+  left = behind found bytes
+
+  abbrev mark_len : ℕ
+  mark_len = length (mark_bytes found)
+
+  all : sequences_of rule 0 left ≡ (s ∷ ss) ++ rest
+  all = sym (sequences_are found e bytes) ∙ whole
+
+  module _ (n : MayBeginMark looked_for (take k bytes) → ⊥) where
+    same : found ≡ find_mark looked_for (take k bytes)
+    same = ap (find_mark looked_for) (sym (take-append-drop k bytes)) ∙ told looked_for (take k bytes) (drop k bytes) n
+
+    fits : mark_len ≤ k
+    fits = let f = mark_fits looked_for (take k bytes) found (sym same) in let t = length-take-le k bytes l in omega (arith, f, t)
+
+    few : k - mark_len ≤ length left
+    few = let t = length_behind found bytes in omega (arith, t, l)
+
+    by_front : Determines (whole_sequences handling e) (take k bytes) (s ∷ ss) ↔ Determines (sequences_of rule 0) (take (k - mark_len) left) (s ∷ ss)
+    by_front =
+        subst (λ x. Determines (whole_sequences handling e) (take k bytes) (s ∷ ss) ↔ Determines (sequences_of rule 0) x (s ∷ ss)) (front_behind found bytes k fits)
+        (by_rule handling e (take k bytes) (s ∷ ss) found same n)
+
+  pub determined_whole : Determines (whole_sequences handling e) (take k bytes) (s ∷ ss)
+      ↔ ((MayBeginMark looked_for (take k bytes) → ⊥) × ReachBehind rule 0 left (s ∷ ss) (k - mark_len))
+  determined_whole = (
+    (λ d. let n : MayBeginMark looked_for (take k bytes) → ⊥ = λ i. undetermined handling e (take k bytes) s ss i d in (
+      n,
+      reach_behind rule (lookahead_of (encoding_by found e)) (s ∷ ss) rest 0 (k - mark_len) left (bytes_behind found bytes a) all (few n) ((by_front n).0 d),
+    )),
+    (λ r. (by_front r.0).1 (determine_if_behind rule (lookahead_of (encoding_by found e)) (s ∷ ss) rest 0 (k - mark_len) left all (few r.0) r.1)),
+  )

@@ -1,0 +1,11 @@
+use Rattle.encoding_rs.proofs.UnreadLemmas.{ends_within, lossy_unread}
+use Rattle.encoding_rs.proofs.ProgressLemmas.{goes_on}
+use Rattle.encoding_rs.proofs.encoder.Encoder.encode_from_utf16.Goals as goal
+
+pub returns-clause-read : goal.returns-clause-read
+returns-clause-read c = ends_within _ (λ i. (c.type_inv.src i).fits) _ _ _ _ _ _ _ _ _ (rw c.new-units.ensures at c.encode_replacing.ensures.encodes)
+
+pub returns-clause-progress : goal.returns-clause-progress
+returns-clause-progress c = λ on room.
+    let e = rw c.new-units.ensures at c.encode_replacing.ensures.encodes in
+    rw (lossy_unread _ (λ i. (c.type_inv.src i).fits) _ _ _ _ _ _ _ _ _ e) (goes_on _ _ _ _ _ _ _ _ _ _ e on room)
