@@ -1,9 +1,8 @@
-//! Calls of `encoding_rs` by themselves and whole runs: names, labels, properties and byte order marks of all encodings, outputs,
-//! lengths to allocate, one-shot calls, and runs of like bytes. `conformance_codecs` has the rows of each codec,
-//! `conformance_encoders` those of encoders.
+//! Tests of `encoding_rs`: names, labels, properties and byte order marks of all encodings, outputs, length queries, one-shot calls and
+//! whole runs. `conformance_codecs` tests each decoder, `conformance_encoders` each encoder.
 //!
-//! This crate has tests alone. What is expected comes from outside: the examples of the Encoding Standard, Unicode's tables, and the
-//! answers of other converters, as each table says.
+//! Expected values come from outside, as each table says: from examples of the Encoding Standard, from Unicode's tables, and from other
+//! converters.
 #![tactic(auto)]
 
 #[cfg(test)]

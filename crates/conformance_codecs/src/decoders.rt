@@ -1,5 +1,5 @@
-//! The decoders of codecs by name: their calls, which report what is malformed, the bytes that they hold, and the lengths
-//! that they tell. What is expected is by hand from the Encoding Standard (8 to 14) and from the formulas of the codecs.
+//! The decoders of codecs by name: their calls, which report what is malformed, the bytes that they hold, and their length
+//! queries. Expected values are by hand from the Encoding Standard (8 to 14) and from the formulas of the codecs.
 
 use enc_codec::{Codec, DecoderResult, RawDecoder, SingleByteIndex, VariantDecoder};
 use enc_units::Utf8Slice;

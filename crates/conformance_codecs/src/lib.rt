@@ -1,9 +1,8 @@
-//! Worked examples of the decoder of every encoding, each through every cut and every small room; decoders by themselves, look-ups in
-//! the indexes, and the outputs of code units.
+//! Tests of each decoder, with every split of its input and every small output buffer; of index look-ups, and of outputs.
 //!
-//! This crate has tests alone. A codec's examples stand in a module of its own in `codecs`, as tables, and one call
-//! runs them over the encoding and over the codec's decoder by itself. What is expected comes from outside: the
-//! examples of the Encoding Standard, Unicode's tables, and the answers of other converters, as each table says.
+//! Each codec has a module in `codecs` with a table of rows. One call runs the rows through the `Encoding` and through the codec's
+//! `RawDecoder`. Expected values come from outside, as each table says: from examples of the Encoding Standard, from Unicode's tables,
+//! and from other converters.
 #![tactic(auto)]
 
 #[cfg(test)]

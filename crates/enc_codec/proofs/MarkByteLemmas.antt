@@ -1,4 +1,4 @@
--- A pending BB is told by itself: of each rule, in front of EF and BB.
+-- A pending BB needs no lookahead, by the rule of each codec.
 use Rattle.std.proofs.Common.{◌≡◌, ℕ, ◌+◌, ◌≤◌, Bool, true, false, Option, Some, None, List, [], ◌∷◌, length, refl, ap, ◌∙◌, sym, arith, inl, inr}
 use Rattle.enc_machine.specs.declared.byte_codec.Text.{Text}
 use Rattle.enc_machine.specs.Segmentation.{Head, Rule, one_byte_head}
@@ -77,7 +77,7 @@ pub iso_2022_jp_tells_bb : TellsBbByItself iso_2022_jp_rule
 unfolding iso_2022_jp_rule is_lead one_byte_char
 iso_2022_jp_tells_bb z e y = (refl, record { there = omega arith; same = λ x. refl })
 
--- the first byte is malformed, and each behind it is skipped
+-- the first byte is malformed, and all later ones are skipped
 pub replacement_tells_bb : TellsBbByItself replacement_rule
 unfolding replacement_rule
 replacement_tells_bb z e y = (refl, record { there = omega arith; same = λ x. refl })

@@ -20,7 +20,7 @@ pub record IsByteWithText (s : Sequence) : Type 0 where
 abbrev pub IsSingleByte : Rule → Type 0
 IsSingleByte rule = (bytes : List ℕ) → AreBytes bytes → AllByRecursion IsByteWithText (sequences_of rule 0 bytes)
 
--- Where EF is a sequence by itself in front of BB, so is BB, and no byte behind it is needed to tell it.
+-- If EF before BB is a sequence of one byte, so is BB, with lookahead 0.
 abbrev pub TellsBbByItself : Rule → Type 0
 TellsBbByItself rule =
     (z : List ℕ) → (rule 0 0xEF (0xBB ∷ z)).more ≡ 0 → (y : List ℕ)

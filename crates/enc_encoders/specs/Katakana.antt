@@ -1,7 +1,7 @@
 -- Half-width katakana in ISO-2022-JP (Encoding Standard 5, "index ISO-2022-JP katakana").
 use Rattle.std.specs.Prelude.{ℕ, List, [], ◌∷◌}
 
--- the full-width characters that stand for U+FF61 to U+FF9F, in order
+-- the full-width characters of U+FF61 to U+FF9F, in order
 abbrev pub full_width_katakana : List ℕ
 full_width_katakana =
     0x3002 ∷ 0x300C ∷ 0x300D ∷ 0x3001 ∷ 0x30FB ∷ 0x30F2 ∷ 0x30A1 ∷ 0x30A3 ∷ 0x30A5 ∷ 0x30A7

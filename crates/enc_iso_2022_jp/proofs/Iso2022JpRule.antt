@@ -28,7 +28,7 @@ pub record MayBegin (w : List ℕ) : Type 0 where
   pub set : CharacterSet
   pub becomes : designated (w ++ more) ≡ Some set
 
--- one byte more than n shows it, and n bytes may still begin one
+-- n + 1 bytes show it, and n bytes may still begin one
 record IsShownBy (w : List ℕ) (n : ℕ) : Type 0 where
   few : n ≤ 2
   there : suc n ≤ length w

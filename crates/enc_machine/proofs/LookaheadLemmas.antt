@@ -1,4 +1,4 @@
--- How many bytes determine the sequences that come first: just as many as reach behind them.
+-- A prefix determines the first sequences exactly if it contains them and their lookahead.
 use Rattle.std.proofs.Common.{◌≡◌, ℕ, ◌+◌, ◌-◌, ◌<◌, ◌≤◌, ◌↔◌, zero, suc, List, [], ◌∷◌, ◌++◌, length, take, drop, refl, ap, ◌∙◌, sym, subst, arith, append_assoc, ◌⊎◌, inl, inr}
 use Rattle.std.proofs.lemmas.Bool.Decides.{leb_tells}
 use Rattle.std.proofs.lemmas.List.{length-take-le, take-append-le, take-take, take-append-drop, drop-append-le, drop-take, length-drop}
@@ -20,7 +20,7 @@ rest_is s t ss ts e = cc
 none_begin : (s : Sequence) (ss : List Sequence) → Begins (s ∷ ss) [] → ⊥
 none_begin s ss g = let f : [] ≡ s ∷ (ss ++ g.0) = g.1 in cc
 
--- what is left of the first k bytes
+-- the first k bytes without the first n
 pub left_of : (n k : ℕ) (z : List ℕ) → n ≤ k → drop n (take k z) ≡ take (k - n) (drop n z)
 left_of n k z h = ap (λ i. drop n (take i z)) (let e : k ≡ n + (k - n) = omega (arith, h) in e) ∙ drop-take n (k - n) z
 
@@ -35,20 +35,20 @@ module _ (rule : Rule) (law : HasLookahead rule) where
     behind : sequences_of rule (rule set b z).set (drop more z) ≡ ss ++ rest
     behind = rest_is _ _ _ _ (sym (sequences_of-cons rule set b z) ∙ whole)
 
-    -- with other bytes behind, where the same sequence comes first, it has the same head
+    -- other bytes with the same first sequence have the same head
     same_head : (y : List ℕ) → Begins (s ∷ ss) (sequences_of rule set (b ∷ y)) → rule set b y ≡ rule set b z
     same_head y g =
         same_by_sequence (rule set b y) (rule set b z) b y z (within_by rule law set b y) (within_by rule law set b z)
         (first_is _ _ _ _ (sym (sequences_of-cons rule set b y) ∙ g.1) ∙ s_is)
 
-    -- the bytes behind what tells it may be any
+    -- any bytes may follow the lookahead
     told_still : (n j : ℕ) → IsToldBy rule set b z n → more + n ≤ j → (y : List ℕ) → rule set b (take j z ++ y) ≡ rule set b z
     told_still n j t l y =
         let i = more + n in
         ap (rule set b) (ap (λ x. x ++ y) (sym (take-append-drop i (take j z)) ∙ ap (λ x. x ++ drop i (take j z)) (take-take i j z l)) ∙ append_assoc (take i z) (drop i (take j z)) y)
         ∙ t.same (drop i (take j z) ++ y)
 
-    -- and then the sequence is this one, and the others come of the bytes behind
+    -- then this sequence comes first, and the others are those of the rest
     shown : (n j : ℕ) → IsToldBy rule set b z n → more + n ≤ j → j ≤ length z → (y : List ℕ)
         → sequences_of rule set (b ∷ (take j z ++ y)) ≡ s ∷ sequences_of rule (rule set b z).set (take (j - more) (drop more z) ++ y)
     shown n j t l w y =
@@ -68,7 +68,7 @@ module _ (rule : Rule) (law : HasLookahead rule) where
           let x : take j z ++ (drop j z ++ e.more) ≡ z ++ e.more = sym (append_assoc (take j z) (drop j z) e.more) ∙ ap (λ y. y ++ e.more) (take-append-drop j z) in
           e.other (sym (ap (rule set b) x) ∙ same_head (take j z ++ (drop j z ++ e.more)) g)
 
-      -- they are not fewer than the sequence has
+      -- they contain the sequence
       own_bytes : more ≤ j
       own_bytes =
           let h = same_head (take j z ++ []) (d [] tt) in
@@ -132,12 +132,12 @@ module _ (rule : Rule) (law : HasLookahead rule) where
       (subst (ReachBehind rule (rule set b z).set (drop m z) ss) x r.1) in
       λ y a. let g = d y a in (g.0, shown set b z s ss rest e r.0.0 j t (omega (arith, f)) w y ∙ ap (λ ts. s ∷ ts) g.1)
 
-  -- So many bytes of an input determine the sequences that it begins with just where they reach behind them.
+  -- The first k bytes of an input determine its first sequences exactly if they contain them and their lookahead.
   pub determined_by : (ss rest : List Sequence) (set k : ℕ) (z : List ℕ) → AreBytes z → sequences_of rule set z ≡ ss ++ rest → k ≤ length z
       → Determines (sequences_of rule set) (take k z) ss ↔ ReachBehind rule set z ss k
   determined_by ss rest set k z a e l = (reach_behind ss rest set k z a e l, determine_if_behind ss rest set k z e l)
 
--- what some bytes tell, not the end alone does
+-- bytes determine it or only the end does, not both
 pub told_not_by_end : (rule : Rule) (set b : ℕ) (z : List ℕ) (n : ℕ) → IsToldBy rule set b z n → IsToldByEnd rule set b z → ⊥
 told_not_by_end rule set b z n t e =
     let i = (rule set b z).more + n in
@@ -145,14 +145,14 @@ told_not_by_end rule set b z n t e =
     ap (rule set b) (ap (λ x. x ++ e.more) (sym (take-append-drop i z)) ∙ append_assoc (take i z) (drop i z) e.more) ∙ t.same (drop i z ++ e.more)
     )
 
--- no more than some that are enough
+-- the lookahead is the least
 pub no_more_than : (rule : Rule) (set b : ℕ) (z : List ℕ) (n m : ℕ) → AreBytes z → Looks rule set b z n → IsToldBy rule set b z m → n ≤ m
 no_more_than rule set b z n m a l t = elim (leb_tells n m) [
   | inl h ↦ h.1
   | inr f ↦ absurd (l.least a m f.1 (λ y _. t.same y))
 ]
 
--- three at most
+-- it is at most three
 pub at_most_three : (rule : Rule) → HasLookahead rule → (set b : ℕ) (z : List ℕ) (n : ℕ) → AreBytes z → Looks rule set b z n → n ≤ 3
 at_most_three rule law set b z n a l = elim (law.others set b z) [
   | inl t ↦ (let k = t.1 in let m = no_more_than rule set b z n t.0 a l t.2.told in omega (arith, k, m))

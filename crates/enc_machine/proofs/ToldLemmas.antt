@@ -27,7 +27,7 @@ told_by rule set b z n h e l f = record {
 pub looks_at_none : (rule : Rule) (set b : ℕ) (z : List ℕ) → IsToldBy rule set b z 0 → Looks rule set b z 0
 looks_at_none rule set b z t = record { told = t; least = λ a m l f. omega (arith, l) }
 
--- n bytes behind it tell it, and with one less the end would be needed
+-- n bytes after it determine it, and after one less only the end would
 pub looks_by : (rule : Rule) (set b : ℕ) (z : List ℕ) (n k : ℕ) → IsToldBy rule set b z (suc n) → k ≡ (rule set b z).more + n
     → IsToldByEnd rule set b (take k z) → Looks rule set b z (suc n)
 looks_by rule set b z n k t e d = record {

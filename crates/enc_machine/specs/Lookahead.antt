@@ -1,10 +1,10 @@
--- How many bytes determine the sequences that come first.
+-- The length of the prefix that determines the first sequences of an input.
 use Rattle.std.specs.Prelude.{ℕ, ◌+◌, ◌-◌, ◌≤◌, List, [], ◌∷◌, drop}
 use Rattle.enc_machine.specs.Sequence.{Sequence}
 use Rattle.enc_machine.specs.Segmentation.{Rule}
 use Rattle.enc_machine.specs.RuleLaws.{Looks}
 
--- Of bytes that begin with these sequences, the first k reach to the end of each of them, and as many more as its lookahead is.
+-- The first k bytes of an input contain each of its first sequences and the lookahead after it.
 abbrev pub ReachBehind : Rule → ℕ → List ℕ → List Sequence → ℕ → Type 0
 ReachBehind rule set z [] k = Unit {0}
 ReachBehind rule set [] (s ∷ ss) k = ⊥

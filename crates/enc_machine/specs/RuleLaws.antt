@@ -25,7 +25,7 @@ pub record IsToldBy (rule : Rule) (set b : ℕ) (z : List ℕ) (n : ℕ) : Type 
   pub there : (rule set b z).more + n ≤ length z
   pub same : (y : List ℕ) → rule set b (take ((rule set b z).more + n) z ++ y) ≡ rule set b z
 
--- Its lookahead is n: the next n bytes tell it, and with fewer it may be another.
+-- The lookahead of the first sequence is n: the next n bytes determine it, and fewer don't.
 pub record Looks (rule : Rule) (set b : ℕ) (z : List ℕ) (n : ℕ) : Type 0 where
   pub told : IsToldBy rule set b z n
   pub least : AreBytes z → (m : ℕ) → m < n

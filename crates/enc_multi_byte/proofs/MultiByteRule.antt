@@ -122,7 +122,7 @@ module _ (prefix : List ℕ → Prefix) (laws : ArePrefixes prefix) where
   in_front [] c z = refl
   in_front (a ∷ w) c z = ap (λ x. a ∷ x) (in_front w c z)
 
-  -- where a byte breaks the bytes in front, without it only the end would tell
+  -- without the byte that breaks the sequence, only the end of the input would determine it
   malformed_looks : (set : ℕ) (w : List ℕ) (c : ℕ) (z : List ℕ) (b : ℕ) (x : List ℕ) (n d : ℕ) → d ≡ length (w ++ c ∷ []) - n
       → AreIncomplete prefix [] w → b ∷ x ≡ w ++ c ∷ z → Settles prefix (w ++ c ∷ []) n (One 0xFFFD) kinds.Malformed
       → Looks (multi_byte_rule prefix) set b x d

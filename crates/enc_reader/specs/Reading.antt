@@ -66,8 +66,8 @@ pub record IsAtItsEnd (told : Option (List ℕ)) (s : ReaderState) : Type 0 wher
   pub finished : finished s.decoder ≡ true
   pub none_owed : owed s [] ≡ []
 
--- A read that has failed: nothing was handed out and no end was seen, and the source, which had not failed before, has failed, or it has
--- given 2^64 - 1 bytes meanwhile.
+-- A failed read: it hands out nothing and has seen no end. Either the source, which had not failed before, failed in this read, or
+-- it gave at least 2^64 - 1 bytes.
 pub record FailsToRead (told_before told_after : Option (List ℕ)) (failed_before failed_after : Bool) (old new : ReaderState) : Type 0 where
   pub bytes : List ℕ
   pub malformed : Bool

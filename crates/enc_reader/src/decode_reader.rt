@@ -101,8 +101,8 @@ impl<'a, R: Source> DecodeReader<'a, R> {
     ghost use Rattle.enc_reader.specs.Reader.{state_of};
 
     /// A reader of `reader`, through the buffer `input`, which decodes by `encoding`, or by UTF-8 where none is given, unless a
-    /// byte order mark tells another. It reads nothing yet. One of a source that has failed has failed too. Condition: `input` is
-    /// not empty. Takes no memory.
+    /// byte order mark tells another. It reads nothing yet. If the source has failed, so has the reader. Condition: `input` is not
+    /// empty. Takes no memory.
     pub fn new(
         reader: &'a mut R,
         encoding: Option<Encoding>,

@@ -43,10 +43,10 @@ pub record RunsToEnd (from to : Encoding) (told_before told_after : Option (List
 -- A run that a fault has stopped.
 pub record RunsToFault (from to : Encoding) (told_before told_after : Option (List ℕ))
     (taken_before taken_after : Option (List ℕ)) : Type 0 where
-  -- the bytes read: what the source told before is these, and then what it tells now
+  -- the bytes that the source gave during the run
   pub bytes : List ℕ
   pub given : TellsNext told_before told_after bytes
-  -- whether its end was seen, and it tells none
+  -- whether the run saw the end of the source, which has no more bytes then
   pub ended : Bool
   pub none_left : ended ≡ true → TellsNoMore told_after
   -- What the sink has taken more: the bytes of their text begin with it, whatever bytes follow them, and

@@ -213,8 +213,8 @@ fn run_by_encoder<R: Source, W: Sink>(
 /// most, stands a decimal reference, as `&#233;` (in ISO-2022-JP that to U+FFFD for U+000E, U+000F and U+001B). The answer is
 /// whether there was such a sequence or such a character.
 ///
-/// On `Err` the side that it names has failed, and the sink has taken a prefix of what had to be written. A side that has
-/// failed is not called again, nor is one that had failed before. A source that gives 2^64 - 1 texts, or bytes 2^64 - 1 times
+/// On `Err` the side that it names has failed, and the sink has taken a prefix of what had to be written. `run`
+/// never calls a side that has failed, before or during the run. A source that gives 2^64 - 1 texts, or bytes 2^64 - 1 times
 /// without a text, is taken to have failed too.
 ///
 /// It never flushes, and takes no memory but buffers of 64 KiB on the stack: two where it writes UTF-8, and else three.

@@ -69,7 +69,7 @@ utf16_length (u ∷ v ∷ us) h = elim (decide_pair u v) [
   | inr n ↦ step (u ∷ v ∷ us) _ 1 (first_lone (u ∷ v ∷ us) (omega arith) (h 0) n) (utf16_length (v ∷ us) (λ i. h (suc i)))
 ]
 
--- The characters behind the first ones.
+-- The characters of the rest, after the units of the first characters.
 
 record HasFirst (us : List ℕ) : Type 0 where
   char : ℕ

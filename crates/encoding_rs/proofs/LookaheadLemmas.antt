@@ -1,4 +1,4 @@
--- How far ahead a decoder looks.
+-- The lookahead of decoders, with byte order marks.
 use Rattle.std.proofs.Common.{◌≡◌, ℕ, ◌+◌, ◌-◌, ◌<◌, ◌≤◌, ◌↔◌, zero, suc, List, [], ◌∷◌, ◌++◌, length, take, drop, Option, Some, None, refl, ap, ◌∙◌, sym, subst, arith, ◌⊎◌, inl, inr}
 use Rattle.std.proofs.lemmas.List.{length-take-le, take-append-drop, length-drop}
 use Rattle.enc_machine.specs.declared.byte_codec.Kind.{Kind}
@@ -24,7 +24,7 @@ use Rattle.encoding_rs.specs.Lookahead.{MayLook}
 use Rattle.encoding_rs.proofs.EncodingLemmas.{lookahead_of}
 use Rattle.encoding_rs.proofs.SettledLemmas.{told, found_fits, undetermined, by_rule}
 
--- by what the sequence is
+-- by the kind of the sequence
 
 looks_not : (rule : Rule) (set b : ℕ) (z : List ℕ) (n : ℕ) → AreBytes z → Looks rule set b z n → IsToldBy rule set b z 0 → n ≡ 0
 looks_not rule set b z n a l t = let m = no_more_than rule set b z n 0 a l t in omega (arith, m)
@@ -47,7 +47,7 @@ may_look e set b z n a l RepeatedEscape k = at_most_three (rule_of e) (lookahead
 pub looks_or_ends : (e : Encoding) (set b : ℕ) (z : List ℕ) → ((n : ℕ) × Looks (rule_of e) set b z n) ⊎ IsToldByEnd (rule_of e) set b z
 looks_or_ends e set b z = elim ((lookahead_of e).others set b z) [ inl t ↦ inl (t.0, t.2) | inr f ↦ inr f ]
 
--- behind the mark that is in front
+-- after the byte order mark
 
 sequences_are : (found : Option Mark) (e : Encoding) (bytes : List ℕ) → sequences_by found e bytes ≡ sequences_of (rule_of (encoding_by found e)) 0 (behind found bytes)
 sequences_are None e bytes = refl

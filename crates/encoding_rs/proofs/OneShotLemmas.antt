@@ -131,7 +131,7 @@ never_full units_of treatment (Some told) old new src n room result read written
     let p = m.full.0 f in let more = p.more in
     enough src true are l (record { sequences = p.sequences; determined = p.determined; more = omega (arith, has, more) })
 
--- A call that is given the whole input and is full, and behind which no length to allocate is a usize.
+-- The first call answers `OutputFull`, and the length query after it overflows usize.
 pub too_long_behind : (handling : BomHandling) (e : Encoding) (bytes : List ℕ) (old new : DecoderState) → old ≡ fresh handling e
     → (length_told : Option ℕ) → length_told ≡ max_length Utf8Reporting old (length bytes) → (room : ℕ) → HasRoomFor length_told room
     → (result : CoderResult) → ¬ (result ≡ coder.InputEmpty) → (read : ℕ) (wrote : List ℕ) (replaced : Bool)

@@ -1,4 +1,4 @@
--- The lists of properties say what the rules have, encoding by encoding; and in each a pending BB is told by itself.
+-- Properties of each encoding's rule: ASCII-compatible, single-byte, and that a pending BB needs no lookahead.
 use Rattle.std.proofs.Common.{◌≡◌, ℕ, ◌<◌, ◌↔◌, Bool, true, false, Option, Some, refl}
 use Rattle.enc_machine.specs.Segmentation.{Rule}
 use Rattle.enc_single_byte.specs.OneByte.{one_byte_rule}

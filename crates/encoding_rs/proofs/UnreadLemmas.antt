@@ -57,13 +57,13 @@ pub all_read : (old new : EncoderState) (text : List ℕ) (last : Bool) (room : 
 all_read old new text last room InputEmpty read wrote replaced c e = none_left (raw_state new) c.rest last c.call.stops
 all_read old new text last room OutputFull read wrote replaced c e = cc
 
--- What is read of a text in UTF-8 ends between two characters.
+-- A call reads UTF-8 up to a boundary between two characters.
 pub ends_between : (text : List ℕ) → IsUtf8 text → (treatment : Treatment) (old new : EncoderState) (last : Bool) (room : ℕ) (result : EncoderResult) (read : ℕ) (wrote : List ℕ) (replaced : Bool)
     → Encodes encode_utf8 treatment old new (chars text) last room result read wrote replaced → IsCharBoundary text read
 ends_between text u treatment old new last room result read wrote replaced e =
     boundary text (chars_of e.call.done) e.rest read u e.call.reads e.call.units
 
--- What is read of UTF-16 is within it.
+-- A call reads no more UTF-16 than there is.
 pub ends_within : (text : List ℕ) → AreUnits text → (treatment : Treatment) (old new : EncoderState) (last : Bool) (room : ℕ) (result : EncoderResult) (read : ℕ) (wrote : List ℕ) (replaced : Bool)
     → Encodes encode_utf16 treatment old new (utf16_lossy_chars text) last room result read wrote replaced → read ≤ length text
 ends_within text u treatment old new last room result read wrote replaced e =
@@ -73,7 +73,7 @@ ends_within text u treatment old new last room result read wrote replaced e =
     let r = e.call.units in
     omega (arith, all, parts, r)
 
--- The characters behind those that are read.
+-- The characters of the unread rest.
 
 pub chars_unread : (text : List ℕ) → IsUtf8 text → (treatment : Treatment) (old new : EncoderState) (last : Bool) (room : ℕ) (result : EncoderResult) (read : ℕ) (wrote : List ℕ) (replaced : Bool)
     (e : Encodes encode_utf8 treatment old new (chars text) last room result read wrote replaced) → chars (drop read text) ≡ e.rest

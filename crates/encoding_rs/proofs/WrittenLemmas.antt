@@ -44,7 +44,7 @@ all_written e text state wrote w h =
     sym (append-nil wrote) ∙ ap (λ x. wrote ++ x) (sym (none_due state.barred state.encoding)) ∙ ap (λ (s : CharacterSet). wrote ++ bytes_by (raw_state state).rule s []) (sym h)
     ∙ sym w.whole
 
--- Where the whole text is unread, the length that is asked for is that of the whole text: there is none now if there was none.
+-- While the whole text is unread, the length query is that of the whole text, and overflows where that does.
 pub none_asked : (e : Encoding) (text rest unread : List ℕ) (state : EncoderState) (wrote : List ℕ) → HasWritten e text rest state wrote
     → (all : List ℕ) → unread ≡ all → length_to_encode (output_encoding_of e) (length all) ≡ None → (told : Option ℕ)
     → told ≡ plus (from_utf_8_length (output_lengths state.encoding) (length unread)) (kept_in state.barred state.encoding) → (n : ℕ) → plus told n ≡ None

@@ -48,8 +48,8 @@ replacing_in b e = Replaced (kept_in b e)
 abbrev pub replacing : EncoderState → Treatment
 replacing v = replacing_in v.barred v.encoding
 
--- How many steps an encoder has still to do of these characters: an escape sequence, the bytes of a character, and the report of an
--- unmappable one are a step each.
+-- The number of steps left to encode these characters. Each escape sequence, each character's bytes and each report of an
+-- unmappable character is one step.
 abbrev pub steps_left : EncoderState → Bool → List ℕ → ℕ
 steps_left v last text = length (steps_from (raw_state v) last text)
 

@@ -25,12 +25,12 @@ abbrev pub HasRoomFor : Option ℕ → ℕ → Type 0
 HasRoomFor None room = ⊥
 HasRoomFor (Some more) room = more ≤ room
 
--- the length that is asked for first: that of a whole input in which nothing is malformed
+-- the first length query: for the whole input, without replacement
 abbrev pub first_length : BomHandling → Encoding → List ℕ → Option ℕ
 first_length handling e bytes = max_length Utf8Reporting (fresh handling e) (length bytes)
 
--- A call that is given the whole input is full in a room of that length, and behind it no length to allocate is a usize: none
--- for what it left unread, or none with what it wrote.
+-- A call with the whole input answers `OutputFull` in an output of at least that length. Then the length query for the remaining
+-- bytes, or its sum with the bytes written, overflows usize.
 pub record IsTooLongBehind (handling : BomHandling) (e : Encoding) (bytes : List ℕ) : Type 0 where
   pub room : ℕ
   pub enough : HasRoomFor (first_length handling e bytes) room
@@ -41,7 +41,7 @@ pub record IsTooLongBehind (handling : BomHandling) (e : Encoding) (bytes : List
   pub call : ConvertsReplacing encode_utf8 4 (fresh handling e) state bytes true room OutputFull read wrote replaced
   pub passes : plus (max_length Utf8 state (length (drop read bytes))) (length wrote) ≡ None
 
--- There is no first length, or none behind the one call that it is for.
+-- The first length query overflows usize, or the one after the first call does.
 abbrev pub IsTooLong : BomHandling → Encoding → List ℕ → Type 0
 IsTooLong handling e bytes = (first_length handling e bytes ≡ None) ⊎ IsTooLongBehind handling e bytes
 
@@ -52,11 +52,11 @@ pub record HasWritten (e : Encoding) (text unread : List ℕ) (state : EncoderSt
   pub barred : state.barred ≡ []
   pub whole : whole_bytes [] e text ≡ wrote ++ bytes_of_text (raw_state state).rule state.set (with_references (raw_state state).rule unread)
 
--- the length that is asked for where so many bytes of UTF-8 are unread
+-- the length query of an encoder for n remaining bytes of UTF-8
 abbrev pub length_to_encode : Encoding → ℕ → Option ℕ
 length_to_encode e n = plus (from_utf_8_length (output_lengths e) n) (kept_in [] e)
 
--- Calls have come to a rest of the text, in UTF-8, for which no length to allocate is a usize, by itself or with what is written.
+-- For a suffix of the text, in UTF-8, the length query overflows usize, by itself or with the bytes written.
 pub record IsTooLongToEncode (e : Encoding) (text : List ℕ) : Type 0 where
   pub front : List ℕ
   pub unread : List ℕ

@@ -115,7 +115,7 @@ all_report [] = true
 all_report (call ∷ calls) = not call.replace && all_report calls
 
 -- What calls have come to: what is done is a beginning, in whole sequences, of those of the whole input, in a part for
--- each call; where the end was reached, it is all of them, skipped ones too.
+-- each call. A finished run has done all of them, skipped ones included.
 pub record HasRun (handling : BomHandling) (e : Encoding) (bytes : List ℕ) (calls : List DecodeCall) (text : List ℕ) (faults : List (ℕ × ℕ)) (had_errors ended : Bool) : Type 0 where
   pub parts : List Part
   pub rest : List Sequence

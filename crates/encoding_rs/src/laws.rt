@@ -88,9 +88,11 @@ pub fn mark_is_told_first(encoding: Encoding, handling: BomHandling)
     let _ = (encoding, handling);
 }
 
-/// How far ahead a decoder looks. So many bytes of an input determine the sequences that it begins with just where they settle which
-/// byte order mark stands in front, and reach to the end of each sequence and as many bytes behind it as its lookahead is. So the
-/// number of bytes that determine a sequence and all before it, where there is one, is the greatest of these.
+/// The exact lookahead of decoders.
+///
+/// The first k bytes of an input determine its first sequences exactly if they decide which byte order mark the input has, and
+/// contain each of these sequences and its lookahead. So the shortest prefix that determines a sequence and all before it, if
+/// there is one, has the greatest of these lengths.
 pub fn lookahead_is_exact(encoding: Encoding, handling: BomHandling)
     ensures determined { (bytes : List ℕ) (s : Sequence) (ss rest : List Sequence) (k : ℕ) → AreBytes bytes
         → whole_sequences handling encoding bytes ≡ (s ∷ ss) ++ rest → k ≤ length bytes
@@ -100,7 +102,7 @@ pub fn lookahead_is_exact(encoding: Encoding, handling: BomHandling)
         (behind_mark (find_mark (marks_looked_for handling encoding) bytes) bytes) (s ∷ ss)
         (k - length (mark_bytes (find_mark (marks_looked_for handling encoding) bytes)))) }
 
-    // Each sequence has a lookahead, or only the end of the input tells it.
+    // Each sequence has a lookahead, unless only the end of the input determines it.
     ensures some { (set b : ℕ) (z : List ℕ) → ((n : ℕ) × Looks (rule_of encoding) set b z n) ⊎ IsToldByEnd (rule_of encoding) set b z }
     ensures kinds { (set b : ℕ) (z : List ℕ) (n : ℕ) → AreBytes z → Looks (rule_of encoding) set b z n
         → MayLook encoding (rule_of encoding set b z).kind n }
@@ -172,8 +174,9 @@ pub fn single_byte_decode_bytes(encoding: Encoding)
     let _ = encoding;
 }
 
-/// Where EF is a sequence by itself in front of BB, so is BB, and no byte behind it is needed to tell it. So a decoder that has put out
-/// EF of a byte order mark that broke off, and not yet BB, has read nothing behind BB.
+/// If EF before BB is a sequence of one byte, so is BB, with lookahead 0.
+///
+/// So after an incomplete byte order mark EF BB, a decoder that has written EF and still holds BB has read no byte after BB.
 pub fn pending_bb_is_told_by_itself(encoding: Encoding)
     ensures { TellsBbByItself (rule_of encoding) }
 {
