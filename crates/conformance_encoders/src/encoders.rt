@@ -6,6 +6,7 @@
 //! Japanese encodings, references, and where escape sequences stand.
 
 mod barred;
+mod long_texts;
 mod references;
 mod runs;
 mod sums;

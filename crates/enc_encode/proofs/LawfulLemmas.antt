@@ -18,9 +18,6 @@ use Rattle.enc_encoders.proofs.BarringLemmas.{barring_is_lawful}
 use Rattle.enc_encoders.proofs.Iso2022JpLemmas.{iso_2022_jp_is_lawful}
 use Rattle.enc_encode.specs.Encoders.{encoder_rule}
 
-gb18030_is_lawful : (is_gbk : Bool) → IsLawful (barring (0xE5E5 ∷ []) (stateless (gb18030_bytes is_gbk)))
-gb18030_is_lawful is_gbk = barring_is_lawful (0xE5E5 ∷ []) _ (stateless_is_lawful (gb18030_bytes is_gbk) (with_ascii_writes_ascii _) (few_gb18030 is_gbk))
-
 abbrev pub IsLawfulIfAny : Option EncoderRule → Type 0
 IsLawfulIfAny None = Unit {0}
 IsLawfulIfAny (Some e) = IsLawful e
@@ -35,7 +32,7 @@ lawful_if_any Big5 = stateless_is_lawful big5_bytes (with_ascii_writes_ascii _) 
 lawful_if_any EucKr = stateless_is_lawful euc_kr_bytes (with_ascii_writes_ascii _) few_euc_kr
 lawful_if_any ShiftJis = stateless_is_lawful shift_jis_bytes (with_ascii_writes_ascii _) few_shift_jis
 lawful_if_any EucJp = stateless_is_lawful euc_jp_bytes (with_ascii_writes_ascii _) few_euc_jp
-lawful_if_any Gbk = gb18030_is_lawful true
-lawful_if_any Gb18030 = gb18030_is_lawful false
+lawful_if_any Gbk = stateless_is_lawful (gb18030_bytes true) (with_ascii_writes_ascii _) (few_gb18030 true)
+lawful_if_any Gb18030 = stateless_is_lawful (gb18030_bytes false) (with_ascii_writes_ascii _) (few_gb18030 false)
 lawful_if_any XUserDefined = stateless_is_lawful x_user_defined_bytes (with_ascii_writes_ascii _) few_x_user_defined
 lawful_if_any Iso2022Jp = iso_2022_jp_is_lawful

@@ -1,12 +1,11 @@
 -- By which rule each encoding is written, if it has an encoder (Encoding Standard 4.3, "get an encoder").
-use Rattle.std.specs.Prelude.{ℕ, true, false, Option, Some, None, List, [], ◌∷◌, option_map}
+use Rattle.std.specs.Prelude.{true, false, Option, Some, None}
 use Rattle.enc_codec.specs.declared.codec.Codec.{Codec}
 use Rattle.enc_codec.specs.declared.codec.Codec.TheVariants.{Utf8, Utf16Be, Utf16Le, SingleByte, Big5, EucKr, ShiftJis, EucJp, Gbk, Gb18030, Iso2022Jp, XUserDefined, Replacement}
 use Rattle.enc_encoders.specs.EncoderRule.{EncoderRule}
 use Rattle.enc_encoders.specs.declared.byte_lengths.ByteLengths.{ByteLengths}
 use Rattle.enc_encoders.specs.declared.byte_lengths.ByteLengths.TheVariants as lengths
 use Rattle.enc_encoders.specs.Stateless.{stateless}
-use Rattle.enc_encoders.specs.Barring.{barring}
 use Rattle.enc_encoders.specs.Utf8.{utf_8_bytes}
 use Rattle.enc_encoders.specs.SingleByte.{single_byte_bytes, x_user_defined_bytes}
 use Rattle.enc_encoders.specs.Big5.{big5_bytes}
@@ -16,31 +15,21 @@ use Rattle.enc_encoders.specs.EucJp.{euc_jp_bytes}
 use Rattle.enc_encoders.specs.Gb18030.{gb18030_bytes}
 use Rattle.enc_encoders.specs.Iso2022Jp.{iso_2022_jp}
 
--- its rule where no character is barred,
-abbrev pub plain_rule : Codec → Option EncoderRule
-plain_rule Utf8 = Some (stateless utf_8_bytes)
-plain_rule Utf16Be = None
-plain_rule Utf16Le = None
-plain_rule (SingleByte index) = Some (stateless (single_byte_bytes index))
-plain_rule Big5 = Some (stateless big5_bytes)
-plain_rule EucKr = Some (stateless euc_kr_bytes)
-plain_rule ShiftJis = Some (stateless shift_jis_bytes)
-plain_rule EucJp = Some (stateless euc_jp_bytes)
-plain_rule Gbk = Some (stateless (gb18030_bytes true))
-plain_rule Gb18030 = Some (stateless (gb18030_bytes false))
-plain_rule XUserDefined = Some (stateless x_user_defined_bytes)
-plain_rule Replacement = None
-plain_rule Iso2022Jp = Some iso_2022_jp
-
--- the characters that are barred whatever a caller bars: U+E5E5 in gb18030 and GBK (10.2.2, "gb18030 encoder"),
-abbrev pub always_barred : Codec → List ℕ
-always_barred Gbk = 0xE5E5 ∷ []
-always_barred Gb18030 = 0xE5E5 ∷ []
-always_barred _ = []
-
--- and so the rule by which it is written. Where a caller bars characters of a list b, that is `barring b` of this.
+-- Where a caller bars characters of a list b, its rule is `barring b` of this.
 abbrev pub encoder_rule : Codec → Option EncoderRule
-encoder_rule codec = option_map (barring (always_barred codec)) (plain_rule codec)
+encoder_rule Utf8 = Some (stateless utf_8_bytes)
+encoder_rule Utf16Be = None
+encoder_rule Utf16Le = None
+encoder_rule (SingleByte index) = Some (stateless (single_byte_bytes index))
+encoder_rule Big5 = Some (stateless big5_bytes)
+encoder_rule EucKr = Some (stateless euc_kr_bytes)
+encoder_rule ShiftJis = Some (stateless shift_jis_bytes)
+encoder_rule EucJp = Some (stateless euc_jp_bytes)
+encoder_rule Gbk = Some (stateless (gb18030_bytes true))
+encoder_rule Gb18030 = Some (stateless (gb18030_bytes false))
+encoder_rule XUserDefined = Some (stateless x_user_defined_bytes)
+encoder_rule Replacement = None
+encoder_rule Iso2022Jp = Some iso_2022_jp
 
 -- By which formulas the lengths to allocate go; those without an encoder are written in UTF-8
 abbrev pub encoder_lengths : Codec → ByteLengths

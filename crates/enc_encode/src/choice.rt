@@ -1,6 +1,6 @@
 //! Which encoder an encoding has.
 
-ghost use Rattle.std.specs.Prelude.{◌≡◌, Some, is_some, true, [], ◌∷◌, option_map};
+ghost use Rattle.std.specs.Prelude.{◌≡◌, Some, is_some, true, option_map};
 ghost use Rattle.enc_encoders.specs.Barring.{are_beyond_ascii, barring};
 ghost use Rattle.enc_encoders.specs.declared.character_set.CharacterSet.TheVariants.{Ascii};
 ghost use Rattle.enc_encode.specs.Encoders.{encoder_rule, encoder_lengths};
@@ -24,14 +24,12 @@ pub fn has_encoder(codec: Codec) -> bool
     }
 }
 
-/// The encoder of gb18030, or of GBK: U+E5E5 is barred from these two, whatever else is.
+/// The encoder of gb18030, or of GBK.
 fn new_gb18030(is_gbk: bool, barred: &'static [char]) -> Gb18030Encoder
-    ensures is_gbk { result.repertoire.repertoire.repertoire.is_gbk ≡ is_gbk }
-    ensures always { result.repertoire.repertoire.barred.now ≡ 0xE5E5 ∷ [] }
+    ensures is_gbk { result.repertoire.repertoire.is_gbk ≡ is_gbk }
     ensures barred { result.repertoire.barred.now ≡ barred.now }
 {
-    let always = Barring::new(Gb18030 { is_gbk }, &['\u{E5E5}']);
-    Gb18030Encoder::new(Barring::new(always, barred))
+    Gb18030Encoder::new(Barring::new(Gb18030 { is_gbk }, barred))
 }
 
 /// An encoder at the start of a text, to which these characters are unmappable too. It keeps them, also behind the end of the text.

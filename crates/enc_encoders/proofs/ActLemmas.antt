@@ -1,12 +1,13 @@
 -- What a character leads to, in an encoding with sets.
 use Rattle.std.proofs.Common.{◌≡◌, ℕ, Bool, true, false, Option, Some, None, List, [], ◌∷◌, refl, ap, ◌∙◌, sym}
-use Rattle.enc_encoders.specs.declared.bytes.Bytes.{Bytes}
+use Rattle.enc_units.specs.declared.bytes.Bytes.{Bytes}
 use Rattle.enc_encoders.specs.declared.character_set.CharacterSet.{CharacterSet}
 use Rattle.enc_encoders.specs.declared.character_set.CharacterSet.TheVariants.{Ascii, Roman, Jis0208}
 use Rattle.enc_encoders.specs.EncoderRule.{EncoderRule, RawState, is_pending}
 use Rattle.enc_encoders.specs.Text.{escape}
 use Rattle.enc_encoders.specs.Steps.{Step, steps_of, char_step, escape_step, first_written, last_step}
-use Rattle.enc_encoders.specs.CharLaw.{Comes, Acts, bytes_of, unless_mapped, bytes_in_all, AreBytesOf, char_taken, escape_taken, IsEscapeAtEnd}
+use Rattle.enc_units.specs.Bytes.{bytes_of}
+use Rattle.enc_encoders.specs.CharLaw.{Comes, Acts, unless_mapped, bytes_in_all, AreBytesOf, char_taken, escape_taken, IsEscapeAtEnd}
 
 -- what is found for a character makes its step
 pub step_found : (e : EncoderRule) (set : CharacterSet) (c reported : ℕ) (wanted : Option (List ℕ)) (found : Option Bytes) (b : Bytes) → AreBytesOf wanted found → bytes_of b ≡ bytes_in_all found

@@ -1,9 +1,10 @@
 -- Encodings from which characters are barred keep their laws.
-use Rattle.std.proofs.Common.{◌≡◌, ℕ, ◌<◌, ◌≤◌, Bool, true, false, ◌==◌, ◌||◌, ◌&&◌, nat_le, Option, None, List, [], ◌∷◌, refl, ap, ◌∙◌, arith, if◌then◌else◌}
+use Rattle.std.proofs.Common.{◌≡◌, ℕ, ◌<◌, ◌≤◌, Bool, true, false, ◌==◌, ◌||◌, ◌&&◌, nat_le, Option, None, List, [], ◌∷◌, length, refl, ap, ◌∙◌, sym, subst, arith, eqb-true, if◌then◌else◌}
 use Rattle.std.proofs.lemmas.Bool.Decides.{nat_tests}
 use Rattle.enc_encoders.specs.declared.byte_lengths.ByteLengths.{ByteLengths}
-use Rattle.enc_encoders.specs.EncoderRule.{EncoderRule, IsLawful, AreFew}
-use Rattle.enc_encoders.specs.Stateless.{WritesAscii, WritesFew, KeepsLengths}
+use Rattle.enc_encoders.specs.declared.character_set.CharacterSet.TheVariants.{Ascii}
+use Rattle.enc_encoders.specs.EncoderRule.{EncoderRule, RawState, IsLawful, AreFew}
+use Rattle.enc_encoders.specs.Stateless.{WritesAscii, WritesFew, KeepsLengths, stateless, stateless_state}
 use Rattle.enc_encoders.specs.Barring.{stands_in, is_barred, are_beyond_ascii, except, barring}
 use Rattle.enc_encoders.proofs.FewLemmas.{size}
 use Rattle.enc_encoders.proofs.StatelessLemmas.{of_references_is_ascii}
@@ -80,3 +81,15 @@ and_if false t h = refl
 -- so such a list bars just the characters that stand in it
 pub barred_is : (b : List ℕ) (c : ℕ) → are_beyond_ascii b ≡ true → is_barred b c ≡ stands_in b c
 barred_is b c h = and_if (stands_in b c) (nat_le 0x80 c) (beyond b c h)
+
+-- a call of the encoder without a list is one of the encoder with an empty list
+
+pub none_barred : (b : List ℕ) → true ≡ (length b == 0) → b ≡ []
+none_barred [] h = refl
+none_barred (x ∷ b) h = absurd (omega (arith, eqb-true (length (x ∷ b)) 0 (sym h)))
+
+pub unlisted : (P : RawState → RawState → Type 0) (f f' h : ℕ → Option (List ℕ)) (b : List ℕ) → b ≡ [] → f ≡ f' → stateless h ≡ stateless f
+    → P (stateless_state f) (stateless_state h) → P (stateless_state (except b f')) (stateless_state (except b f'))
+unlisted P f f' h b e q r c =
+    subst (λ b. P (stateless_state (except b f')) (stateless_state (except b f'))) (sym e)
+    (subst (λ f. P (stateless_state f) (stateless_state f)) q (subst (λ r. P (stateless_state f) (record { rule = r; set = Ascii })) r c))

@@ -1,5 +1,5 @@
 -- The sets of ISO-2022-JP, read backward and carried forward.
-use Rattle.std.proofs.Common.{◌≡◌, ℕ, Bool, true, false, ◌==◌, ◌||◌, nat_lt, Option, Some, None, List, [], ◌∷◌, ◌++◌, reverse, refl, ap, ◌∙◌, sym, arith, if◌then◌else◌}
+use Rattle.std.proofs.Common.{◌≡◌, ℕ, ◌<◌, ◌≤◌, take, Bool, true, false, ◌==◌, ◌||◌, nat_lt, Option, Some, None, List, [], ◌∷◌, ◌++◌, reverse, refl, ap, ◌∙◌, sym, arith, if◌then◌else◌}
 use Rattle.std.proofs.lemmas.List.{reverse-append}
 use Rattle.std.proofs.lemmas.Bool.Decides.{nat_tests}
 use Rattle.enc_encoders.specs.declared.character_set.CharacterSet.{CharacterSet}
@@ -8,6 +8,9 @@ use Rattle.enc_encoders.specs.declared.encoders.iso_2022_jp.CharClass.{CharClass
 use Rattle.enc_encoders.specs.declared.encoders.iso_2022_jp.CharClass.TheVariants as class
 use Rattle.enc_encoders.specs.EncoderRule.{IsLawful, IsOfReferences, set_for}
 use Rattle.enc_encoders.specs.Iso2022Jp.{class_of, has_class, set_of_class, last_of, last_class, is_left_in_roman, set_by, set_read_back, is_shift, iso_2022_jp_bytes, iso_2022_jp}
+use Rattle.std.specs.Prelude.{All, ◌≢◌}
+use Rattle.enc_units.specs.Validity.{AreIso2022JpAscii}
+use Rattle.enc_units.proofs.LaneLemmas.{all_fewer}
 use Rattle.enc_encoders.proofs.FewLemmas.{few_iso_2022_jp}
 
 is_roman : CharacterSet → Bool
@@ -101,3 +104,9 @@ iso_2022_jp_is_lawful = record {
   one_set = λ s c r. ap (has_class s) (neutral c r);
   few = few_iso_2022_jp;
 }
+
+-- the first n of sixteen bytes, before one that isn't ASCII, a shift or an escape
+pub unshifted : (xs : List ℕ) (n a b c d : ℕ) → n ≤ a → n ≤ b → n ≤ c → n ≤ d → All (λ x. x < 0x80) (take a xs) → All (λ x. x ≢ 0x0E) (take b xs)
+    → All (λ x. x ≢ 0x0F) (take c xs) → All (λ x. x ≢ 0x1B) (take d xs) → AreIso2022JpAscii (take n xs)
+unshifted xs n a b c d la lb lc ld ascii out in_ escape k e h =
+    (all_fewer (λ x. x < 0x80) n a xs la ascii k e h, all_fewer (λ x. x ≢ 0x0E) n b xs lb out k e h, all_fewer (λ x. x ≢ 0x0F) n c xs lc in_ k e h, all_fewer (λ x. x ≢ 0x1B) n d xs ld escape k e h)

@@ -1,6 +1,7 @@
 pub mod StepLemmas
 pub mod Progress
 pub mod MachineLemmas
+pub mod RunLemmas
 pub mod FollowLemmas
 pub mod TextLemmas
 pub mod ActLemmas

@@ -8,7 +8,8 @@ use Rattle.enc_encoders.specs.declared.encoder_result.EncoderResult.TheVariants.
 use Rattle.enc_encoders.specs.EncoderRule.{RawState}
 use Rattle.enc_encoders.specs.Steps.{Step, steps_from, chars_of}
 use Rattle.enc_encoders.specs.Call.{CallInto}
-use Rattle.enc_encoders.specs.CharLaw.{IsComing, step_of, bytes_of, left_of}
+use Rattle.enc_units.specs.Bytes.{bytes_of}
+use Rattle.enc_encoders.specs.CharLaw.{IsComing, step_of, left_of}
 use Rattle.enc_encoders.proofs.Progress.{Writing}
 use Rattle.enc_encoders.proofs.Progress.{stop_empty, stop_full, stop_report, taken, parts, read_one, units_read, same_length}
 

@@ -2,8 +2,8 @@
 use Rattle.std.proofs.Common.{◌≡◌, ℕ, ◌<◌, Option, Some, List, [], ◌∷◌, refl, ap, sym, ◌∙◌, arith}
 use Rattle.std.proofs.lemmas.Bool.{lt-ltb}
 use Rattle.std.proofs.lemmas.Str.{encode_ascii}
-use Rattle.enc_encoders.specs.declared.bytes.Bytes.{Bytes}
-use Rattle.enc_encoders.specs.CharLaw.{bytes_of}
+use Rattle.enc_units.specs.declared.bytes.Bytes.{Bytes}
+use Rattle.enc_units.specs.Bytes.{bytes_of}
 use Rattle.enc_encoders.specs.EncoderRule.{IsLawful, IsOfReferences}
 use Rattle.enc_encoders.specs.Stateless.{stateless, with_ascii, WritesAscii, WritesFew}
 use Rattle.enc_encoders.specs.Utf8.{utf_8_bytes}

@@ -1,13 +1,11 @@
 -- What an encoder has to meet that takes one character at a time.
 use Rattle.std.specs.Prelude.{◌≡◌, ◌≢◌, ℕ, Bool, true, false, Option, Some, None, List, [], ◌∷◌, take, drop}
-use Rattle.enc_encoders.specs.declared.bytes.Bytes.{Bytes}
+use Rattle.enc_units.specs.declared.bytes.Bytes.{Bytes}
+use Rattle.enc_units.specs.Bytes.{bytes_of}
 use Rattle.enc_encoders.specs.declared.step.Taken.{Taken}
 use Rattle.enc_encoders.specs.declared.character_set.CharacterSet.TheVariants.{Ascii}
 use Rattle.enc_encoders.specs.EncoderRule.{RawState, is_pending}
 use Rattle.enc_encoders.specs.Steps.{Step, steps_from}
-
-abbrev pub bytes_of : Bytes → List ℕ
-bytes_of b = take b.len b.bytes
 
 -- the characters at the front that are read with a step, and those that are left
 abbrev pub read_of : Bool → List ℕ → List ℕ

@@ -21,10 +21,11 @@ abbrev pub two_or_four : Bool → ℕ → Option ℕ → Option (List ℕ)
 two_or_four is_gbk c (Some p) = Some (gb18030_pair p)
 two_or_four is_gbk c None = if is_gbk then None else bytes_by gb18030_four (gb18030_ranges_pointer c)
 
--- beyond ASCII
+-- beyond ASCII: U+E5E5 is unmappable
 abbrev pub gb18030_other : Bool → ℕ → Option (List ℕ)
 gb18030_other is_gbk c =
-    if is_gbk && c == 0x20AC then Some (0x80 ∷ [])
+    if c == 0xE5E5 then None
+    else if is_gbk && c == 0x20AC then Some (0x80 ∷ [])
     else two_or_four is_gbk c (gb18030_pointer c)
 
 abbrev pub gb18030_bytes : Bool → ℕ → Option (List ℕ)

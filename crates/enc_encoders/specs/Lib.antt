@@ -17,3 +17,4 @@ pub mod Gb18030
 pub mod Iso2022Jp
 pub mod Lengths
 pub mod Need
+pub mod Runs

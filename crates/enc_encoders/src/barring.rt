@@ -4,14 +4,14 @@ ghost use Rattle.std.specs.Prelude.{◌≡◌};
 ghost use Rattle.enc_encoders.specs.Barring.{stands_in, is_barred as wanted_barred};
 
 use crate::byte_lengths::ByteLengths;
-use crate::bytes::Bytes;
 use crate::stateless::Repertoire;
+use enc_units::Bytes;
 
 /// An encoding from which characters are barred: it has no bytes for them, and for all others those of the encoding in it.
 #[derive(Clone, Copy)]
 pub struct Barring<R> {
-    repertoire: R,
-    barred: &'static [char],
+    pub(crate) repertoire: R,
+    pub(crate) barred: &'static [char],
 }
 
 /// Whether a character stands in a list.

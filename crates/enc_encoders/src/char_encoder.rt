@@ -1,16 +1,31 @@
 //! What an encoder is that takes one character at a time.
 
-ghost use Rattle.std.specs.Prelude.{◌≡◌};
+ghost use Rattle.std.specs.Prelude.{◌≡◌, ◌≤◌, length};
 ghost use Rattle.enc_encoders.specs.EncoderRule.{RawState};
 ghost use Rattle.enc_encoders.specs.CharLaw.{AreBytesOf, IsEscapeBefore, IsEscapeAtEnd};
+ghost use Rattle.enc_encoders.specs.Runs.{WritesRun};
 
-use crate::bytes::Bytes;
 use crate::character_set::CharacterSet;
+use enc_units::{Bytes, Chars};
 
 /// An encoder as a value: what it writes for a character, and the designated character set.
 pub trait CharEncoder: Copy {
     // its rule, and the designated character set
     ghost state: { Self → RawState };
+
+    /// Writes the bytes of mappable characters in front that the designated set has into a slice, from `from` on, and answers how
+    /// many bytes that are. The run need not be maximal: by default it is empty. Takes no memory.
+    #[inline(always)]
+    fn write_run<C: Chars>(self, src: &mut C, dst: &mut [u8], from: usize) -> usize
+        requires { from ≤ length dst.old }
+        ensures { WritesRun (state self) (C.rest src.old) (C.rest src.new) dst.old dst.new from result }
+    {
+        let _encoder = self;
+        let _source = src;
+        let _slice = dst;
+        let _from = from;
+        0
+    }
 
     /// The bytes of a character, in a set that has it, or `None` where it is unmappable.
     fn bytes(self, c: char) -> Option<Bytes>

@@ -4,7 +4,6 @@
 
 mod barring;
 mod byte_lengths;
-mod bytes;
 mod char_encoder;
 mod character_set;
 mod encoder_result;

@@ -1,19 +1,19 @@
 //! The loop over the characters of one call, for every encoder and every input.
 
 ghost use Rattle.std.specs.Prelude.{◌≡◌, ℕ, ◌+◌, ◌-◌, ◌<◌, ◌≤◌, ◌++◌, length, take, drop, IsTrue, IsFalse};
-ghost use Rattle.enc_encoders.specs.CharLaw.{Acts, IsAtEnd, IsComing, bytes_of};
+ghost use Rattle.enc_units.specs.Bytes.{bytes_of};
+ghost use Rattle.enc_encoders.specs.CharLaw.{Acts, IsAtEnd, IsComing};
 ghost use Rattle.enc_encoders.specs.Call.{CallInto};
 ghost use Rattle.enc_encoders.specs.EncoderRule.{IsLawful};
 ghost use Rattle.enc_encoders.specs.Text.{KeepsText};
 ghost use Rattle.enc_encoders.specs.Need.{MeetsNeed};
 
-use crate::bytes::Bytes;
 use crate::char_encoder::CharEncoder;
 use crate::character_set::CharacterSet;
 use crate::encoder_result::EncoderResult;
 use crate::step::Taken;
 use crate::taken::{first_written, take_char, take_escape};
-use enc_units::Chars;
+use enc_units::{Bytes, Chars};
 
 /// The first step that the next character leads to.
 #[inline(always)]
@@ -102,5 +102,6 @@ pub fn run<E: CharEncoder, C: Chars>(
         }
         written += taken.bytes.len;
         state = taken.next;
+        written += state.write_run(src, dst, written);
     }
 }

@@ -1,11 +1,11 @@
 //! Bytes made of one, two and four.
 
 ghost use Rattle.std.specs.Prelude.{◌≡◌, [], ◌∷◌};
-ghost use Rattle.enc_encoders.specs.CharLaw.{bytes_of};
+ghost use Rattle.enc_units.specs.Bytes.{bytes_of};
 ghost use Rattle.enc_encoders.specs.Text.{escape as escape_bytes};
 
-use crate::bytes::Bytes;
 use crate::character_set::CharacterSet;
+use enc_units::Bytes;
 
 /// No byte.
 #[inline(always)]

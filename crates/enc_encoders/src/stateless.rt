@@ -5,15 +5,16 @@ ghost use Rattle.enc_encoders.specs.CharLaw.{AreBytesOf};
 ghost use Rattle.enc_encoders.specs.Stateless.{WritesAscii, WritesFew, KeepsLengths};
 ghost use Rattle.enc_encoders.specs.declared.byte_lengths.ByteLengths.{ByteLengths};
 
+use crate::barring::Barring;
 use crate::byte_lengths::ByteLengths;
-use crate::bytes::Bytes;
 use crate::char_encoder::CharEncoder;
 use crate::character_set::CharacterSet;
 use crate::encoder_result::EncoderResult;
 use crate::machine::run;
 use crate::made_bytes::one;
 use crate::raw_encoder::RawEncoder;
-use enc_units::Chars;
+use enc_units::{Bytes, Chars, Mapping, ascii_in};
+use std::simd::prelude::*;
 
 /// An encoding without escape sequences, by what it writes for a character.
 pub trait Repertoire: Copy {
@@ -55,10 +56,34 @@ impl<R: Repertoire> StatelessEncoder<R> {
     }
 }
 
+impl<R: Repertoire> Mapping for StatelessEncoder<R> {
+    ghost use Rattle.enc_encoders.specs.declared.character_set.CharacterSet.TheVariants.{Ascii};
+    ghost use Rattle.enc_encoders.specs.Runs.{IsWrittenIn};
+    ghost use Rattle.enc_encoders.specs.Stateless.{stateless};
+
+    ghost means = { λ e. IsWrittenIn (stateless (R.bytes_for e.repertoire)) Ascii };
+
+    #[inline(always)]
+    fn bytes_in_run(self, c: char) -> Option<Bytes> {
+        self.repertoire.bytes_beyond_ascii(c)
+    }
+
+    #[inline(always)]
+    fn ascii_len(self, lanes: u8x16) -> usize {
+        self.repertoire.laws();
+        ascii_in(lanes)
+    }
+}
+
 impl<R: Repertoire> CharEncoder for StatelessEncoder<R> {
     ghost use Rattle.enc_encoders.specs.Stateless.{stateless_state};
 
     ghost state = { λ e. stateless_state (R.bytes_for e.repertoire) };
+
+    #[inline(always)]
+    fn write_run<C: Chars>(self, src: &mut C, dst: &mut [u8], from: usize) -> usize {
+        src.write_mapped(self, dst, from)
+    }
 
     #[inline(always)]
     fn bytes(self, c: char) -> Option<Bytes> {
@@ -86,12 +111,13 @@ impl<R: Repertoire> CharEncoder for StatelessEncoder<R> {
     }
 }
 
-impl<R: Repertoire> RawEncoder for StatelessEncoder<R> {
+impl<R: Repertoire> RawEncoder for StatelessEncoder<Barring<R>> {
     ghost use Rattle.enc_encoders.specs.Stateless.{stateless_state};
+    ghost use Rattle.enc_encoders.specs.Barring.{except};
 
-    ghost state = { λ e. stateless_state (R.bytes_for e.repertoire) };
+    ghost state = { λ e. stateless_state (except e.repertoire.barred.now (R.bytes_for e.repertoire.repertoire)) };
 
-    ghost formulas = { λ e. R.lengths e.repertoire };
+    ghost formulas = { λ e. R.lengths e.repertoire.repertoire };
 
     fn encode<C: Chars>(
         &mut self,
@@ -99,8 +125,14 @@ impl<R: Repertoire> RawEncoder for StatelessEncoder<R> {
         dst: &mut [u8],
         last: bool,
     ) -> (EncoderResult, usize, usize) {
-        self.repertoire.laws();
-        let mut encoder = *self;
+        let repertoire = self.repertoire.repertoire;
+        let barred = self.repertoire.barred;
+        repertoire.laws();
+        if barred.is_empty() {
+            let mut encoder = StatelessEncoder::new(repertoire);
+            return run(&mut encoder, src, dst, last);
+        }
+        let mut encoder = StatelessEncoder::new(Barring::new(repertoire, barred));
         run(&mut encoder, src, dst, last)
     }
 
@@ -110,7 +142,8 @@ impl<R: Repertoire> RawEncoder for StatelessEncoder<R> {
 
     #[tactic(auto, using(crate::proofs::EnoughLemmas::stateless_enough))]
     fn byte_lengths(&self) -> ByteLengths {
-        self.repertoire.laws();
-        self.repertoire.byte_lengths()
+        let repertoire = self.repertoire.repertoire;
+        repertoire.laws();
+        repertoire.byte_lengths()
     }
 }

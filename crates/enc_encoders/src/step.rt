@@ -1,6 +1,6 @@
 //! A step that a call takes.
 
-use crate::bytes::Bytes;
+use enc_units::Bytes;
 
 /// A step that comes next.
 #[derive(Clone, Copy)]

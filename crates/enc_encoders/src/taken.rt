@@ -1,14 +1,15 @@
 //! Steps that a call takes.
 
 ghost use Rattle.std.specs.Prelude.{◌≡◌, ℕ, List, Option};
-ghost use Rattle.enc_encoders.specs.CharLaw.{bytes_of as bytes_in, bytes_in_all, AreBytesOf, char_taken, escape_taken};
+ghost use Rattle.enc_units.specs.Bytes.{bytes_of as bytes_in};
+ghost use Rattle.enc_encoders.specs.CharLaw.{bytes_in_all, AreBytesOf, char_taken, escape_taken};
 ghost use Rattle.enc_encoders.specs.Text.{escape as escape_bytes};
 ghost use Rattle.enc_encoders.specs.Steps.{first_written as wanted_first};
 
-use crate::bytes::Bytes;
 use crate::character_set::CharacterSet;
 use crate::made_bytes::{escape, none};
 use crate::step::Taken;
+use enc_units::Bytes;
 
 /// The step of a character with these bytes, or of an unmappable one, which is reported as another.
 #[inline(always)]

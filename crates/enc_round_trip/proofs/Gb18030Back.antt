@@ -120,11 +120,12 @@ two_or_four_read is_gbk c None b q e =
 
 beyond : (is_gbk : Bool) (c : ℕ) (b : List ℕ) → gb18030_other is_gbk c ≡ Some b → Piece b c
 beyond is_gbk c b e =
-    by_test (is_gbk && c == 0x20AC) _ _ b
+    by_test (c == 0xE5E5) None _ b (λ t f. no_bytes b f)
+    (λ n g. by_test (is_gbk && c == 0x20AC) _ _ b
     (λ t f. (let u = second_so is_gbk (c == 0x20AC) t in
     let s : 0x20AC ≡ c = grind (arith, nat_tests) in
     same_bytes (λ x. Piece x c) (0x80 ∷ []) b (same_char _ 0 (0x80 ∷ []) 0x20AC c s euro_piece) f))
-    (λ m f. two_or_four_read is_gbk c (gb18030_pointer c) b refl f) e
+    (λ m f. two_or_four_read is_gbk c (gb18030_pointer c) b refl f) g) e
 
 pub gb18030_is_read : (is_gbk : Bool) → IsReadBack (multi_byte_rule decoder.gb18030_prefix) (gb18030_bytes is_gbk) (λ c. c)
 gb18030_is_read is_gbk =

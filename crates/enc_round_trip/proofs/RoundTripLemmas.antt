@@ -36,8 +36,8 @@ read_if_any Big5 = text_is_read _ _ _ big5_is_read
 read_if_any EucKr = text_is_read _ _ _ euc_kr_is_read
 read_if_any ShiftJis = text_is_read _ _ _ shift_jis_is_read
 read_if_any EucJp = text_is_read _ _ _ euc_jp_is_read
-read_if_any Gbk = text_is_read _ _ _ (except_is_read (0xE5E5 ∷ []) _ _ _ (gb18030_is_read true))
-read_if_any Gb18030 = text_is_read _ _ _ (except_is_read (0xE5E5 ∷ []) _ _ _ (gb18030_is_read false))
+read_if_any Gbk = text_is_read _ _ _ (gb18030_is_read true)
+read_if_any Gb18030 = text_is_read _ _ _ (gb18030_is_read false)
 read_if_any XUserDefined = text_is_read _ _ _ x_user_defined_is_read
 read_if_any Iso2022Jp = λ t s m. iso_2022_jp_is_read t m
 

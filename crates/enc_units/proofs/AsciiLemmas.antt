@@ -1,5 +1,6 @@
 -- Lanes of ASCII bytes.
 use Rattle.std.proofs.Common.{◌≡◌, ℕ, zero, suc, ◌+◌, ◌%◌, ◌^◌, ◌<◌, Bool, true, false, cond, eqb, leb, List, [], ◌∷◌, map, length, get_or, replicate, take, drop, refl, ap, ◌∙◌, sym, subst, arith, eqb-true, leb-false, take-add, drop-cons, append_assoc, drop-drop, length-append, length-take, length-drop, ◌++◌, ◌≤◌}
+use Rattle.std.proofs.lemmas.Bool.Decides.{nat_tests}
 use Rattle.std.proofs.lemmas.List.{length-take-le, length-map, take_more}
 use Rattle.std.proofs.lemmas.List.Elements.{All-append}
 use Rattle.std.proofs.Math.Seq.{take-append_seam, drop-append_seam, set-append_seam}
@@ -69,3 +70,6 @@ copied_one i src dst old h k e =
   where
     next : suc i ≡ i + 1
     next = omega arith
+
+pub low_fails : (x : ℕ) → x < 0x80 → leb 128 x ≡ false
+low_fails x h = grind (arith, nat_tests)

@@ -7,7 +7,7 @@ use Rattle.enc_units.specs.Output.{units_of_text}
 use Rattle.enc_units.specs.Surrogates.{lossy_unit, IsPair, First}
 use Rattle.std.specs.Option.{unwrap_or}
 use Rattle.std.proofs.lemmas.Bool.Decides.{nat_tests}
-use Rattle.std.proofs.lemmas.List.{drop-drop}
+use Rattle.std.proofs.lemmas.List.{drop-drop, get_or-drop}
 use Rattle.enc_units.proofs.UnitsLemmas.{one_unit, two_units}
 use Rattle.enc_units.proofs.Utf8CharsLemmas.{their_units}
 
@@ -115,3 +115,26 @@ peeks us (Some p) f = rw f.chars refl
 pub some_units : (us : List ℕ) → false ≡ (length us == 0) → 1 ≤ length us
 some_units [] h = cc
 some_units (u ∷ us) h = omega arith
+
+-- a first unit beyond ASCII is of a character beyond ASCII
+
+high_lone : (u : ℕ) → 0x80 ≤ u → 0x80 ≤ lossy_unit u
+high_lone u h = elim (true_or_false (nat_le 0xD800 u && nat_lt u 0xE000)) [ inl e ↦ rw e (omega arith) | inr e ↦ rw e h ]
+
+high_pair : (u v : ℕ) → IsPair u v → 0x80 ≤ surrogate_pair_char u v
+high_pair u v p = omega arith
+
+pub beyond_ascii : (us : List ℕ) (c n : ℕ) → First us c n → 0x80 ≤ get_or us 0 0 → 0x80 ≤ c
+beyond_ascii [] c n f h = absurd (omega (arith, h))
+beyond_ascii (u ∷ []) c n f h =
+    let same = heads _ _ _ _ (sym (lossy_lone u [] (λ p. omega (arith, p.2))) ∙ f.chars) in
+    omega (arith, same, high_lone u h)
+beyond_ascii (u ∷ v ∷ us) c n f h = elim (decide_pair u v) [
+  | inl p ↦ let same = heads _ _ _ _ (sym (lossy_pair u v us p) ∙ f.chars) in omega (arith, same, high_pair u v p)
+  | inr p ↦ let same = heads _ _ _ _ (sym (lossy_lone u (v ∷ us) p) ∙ f.chars) in omega (arith, same, high_lone u h)
+]
+
+pub first_unit : (at : ℕ) (us rest : List ℕ) → rest ≡ drop at us → 0x80 ≤ get_or us at 0 → 0x80 ≤ get_or rest 0 0
+first_unit at us rest e h =
+    let place : at + 0 ≡ at = omega arith in
+    omega (arith, ap (λ z. get_or z 0 0) e, get_or-drop at us 0 0, ap (λ k. get_or us k 0) place, h)

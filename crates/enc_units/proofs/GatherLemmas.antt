@@ -1,14 +1,11 @@
 -- What is gathered one behind another.
-use Rattle.std.proofs.Common.{◌≡◌, ℕ, zero, suc, ◌+◌, ◌/◌, ◌%◌, ◌^◌, ◌<◌, ◌≤◌, Bool, true, false, not, cond, eqb, leb, List, [], ◌∷◌, ◌++◌, map, length, get_or, replicate, take, drop, refl, ap, ◌∙◌, sym, subst, arith, append_assoc, append-nil, length-take, length-drop, take-add, drop-cons, inl, inr}
-use Rattle.std.proofs.lemmas.Bool.{not-true, not-false, leb-true, leb-false, eq-eqb, ne_eqb, lt-ltb, le-ltb, cases_lt}
-use Rattle.std.proofs.lemmas.List.{length-take-le, length-map, get_or-take}
-use Rattle.std.proofs.lemmas.List.Sums.{prefix_len_passes, prefix_len_stops, prefix_len-le-length}
-use Rattle.std.proofs.lemmas.Simd.{map-map, mask_l-mod, put_chunk_is, zip2_splat_left, first_set_mask_l, length-replicate, get_or-replicate}
+use Rattle.std.proofs.Common.{◌≡◌, ℕ, zero, suc, ◌+◌, ◌/◌, ◌%◌, ◌<◌, ◌≤◌, List, [], ◌∷◌, ◌++◌, length, get_or, replicate, take, drop, refl, ap, ◌∙◌, sym, subst, arith, append_assoc, append-nil, length-drop, take-add, drop-cons}
+use Rattle.std.proofs.lemmas.Bool.{lt-ltb, le-ltb}
+use Rattle.std.proofs.lemmas.List.{length-take-le}
+use Rattle.std.proofs.lemmas.Simd.{put_chunk_is, length-replicate, get_or-replicate}
 use Rattle.std.proofs.Math.Seq.{take-append_seam, drop-append_seam}
 use Rattle.std.specs.Char.{IsScalar, encode_utf8}
-use Rattle.std.specs.List.{prefix_len}
-use lib.Count.{count_trailing_zeros}
-use lib.Lanes.{zip2, mask_l, top, put_chunk}
+use lib.Lanes.{put_chunk}
 use Rattle.enc_units.specs.Output.{Output, appended, units_of_text}
 use Rattle.enc_units.specs.Validity.{AreAscii}
 use Rattle.enc_units.specs.Pieces.{PutsPieces}
@@ -17,66 +14,6 @@ use Rattle.enc_units.specs.declared.gather.Encoded.{Encoded}
 use Rattle.enc_units.proofs.PiecesLemmas.{reads_none, reads_then, reads_one, reads_ascii, units-append}
 use Rattle.enc_units.proofs.ScalarLemmas.{one_scalar, scalars-append, ascii_scalars}
 use Rattle.enc_units.proofs.Utf8SliceLemmas.{ascii_units}
-
--- lanes of ASCII
-
-abbrev at_least : ℕ → ℕ → ℕ
-at_least a b = cond (leb a b) 255 0
-
-abbrev is_other : ℕ → Bool
-is_other x = top 7 (at_least 128 x)
-
-other : (x : ℕ) → is_other x ≡ false → x < 128
-other x e = go (leb 128 x) refl e
-  where
-    go : (t : Bool) → leb 128 x ≡ t → top 7 (cond t 255 0) ≡ false → x < 128
-    go true p q = absurd (omega (arith, ap {B = ℕ} (λ t. cond t 1 0) q))
-    go false p q = leb-false _ _ p
-
-other_not : (x : ℕ) → is_other x ≡ true → 128 ≤ x
-other_not x e = go (leb 128 x) refl e
-  where
-    go : (t : Bool) → leb 128 x ≡ t → top 7 (cond t 255 0) ≡ true → 128 ≤ x
-    go true p q = leb-true _ _ p
-    go false p q = absurd (omega (arith, ap {B = ℕ} (λ t. cond t 1 0) q))
-
-module _ (xs : List ℕ) (long : length xs ≡ 16) where
-  abbrev mask : ℕ
-  mask = mask_l (map (top 7) (zip2 at_least (replicate 16 128) xs)) % 2 ^ 64
-
-  mask_is : mask ≡ mask_l (map is_other xs)
-  mask_is =
-      ap (λ l. mask_l l % 2 ^ 64) (ap (map (top 7)) (zip2_splat_left at_least 128 16 xs long) ∙ map-map (top 7) (at_least 128) xs)
-      ∙ mask_l-mod (map is_other xs) 64 (omega (arith, length-map xs is_other))
-
-  abbrev ascii_len : ℕ
-  ascii_len = prefix_len (λ x. not (is_other x)) xs
-
-  counted : cond (eqb mask 0) 16 (count_trailing_zeros 64 mask) ≡ ascii_len
-  counted = ap (λ m. cond (eqb m 0) 16 (count_trailing_zeros 64 m)) mask_is ∙ first_set_mask_l is_other xs 16 long (omega arith)
-
-  pub all_counted : mask ≡ 0 → 16 ≡ ascii_len
-  all_counted e = sym (ap (λ t. cond t 16 (count_trailing_zeros 64 mask)) (eq-eqb _ _ e)) ∙ counted
-
-  pub some_counted : (mask ≡ 0 → ⊥) → count_trailing_zeros 64 mask ≡ ascii_len
-  some_counted e = sym (ap (λ t. cond t 16 (count_trailing_zeros 64 mask)) (ne_eqb _ _ e)) ∙ counted
-
-  pub counted_bound : (n : ℕ) → n ≡ ascii_len → n ≤ 16
-  counted_bound n e = omega (arith, prefix_len-le-length (λ x. not (is_other x)) xs)
-
-  pub counted_ascii : (n : ℕ) → n ≡ ascii_len → AreAscii (take n xs)
-  counted_ascii n e k d h =
-      let l : k < n = omega (arith, length-take n xs) in
-      subst (λ x. x < 128) (sym (get_or-take n xs k d l)) (other _ (not-true _ (prefix_len_passes (λ x. not (is_other x)) xs k d (omega arith))))
-
-  pub counted_some : (n : ℕ) → n ≡ ascii_len → get_or xs 0 0 < 128 → 0 < n
-  counted_some n e h = elim (cases_lt 0 n) [
-    | inl l ↦ l
-    | inr l ↦
-        let none : ascii_len ≡ 0 = omega arith in
-        let stops = subst (λ k. not (is_other (get_or xs k 0)) ≡ false) none (prefix_len_stops (λ x. not (is_other x)) xs 0 (omega arith)) in
-        absurd (omega (arith, other_not _ (not-false _ stops)))
-  ]
 
 -- what is stored behind what was there
 

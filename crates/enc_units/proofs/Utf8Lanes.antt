@@ -40,7 +40,7 @@ xor_flag true false = refl
 xor_flag false true = refl
 xor_flag false false = refl
 
-top_flag : (t : Bool) → top 7 (flag t) ≡ t
+pub top_flag : (t : Bool) → top 7 (flag t) ≡ t
 top_flag true = refl
 top_flag false = refl
 

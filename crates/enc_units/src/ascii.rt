@@ -1,6 +1,6 @@
 //! Runs of ASCII bytes, sixteen at a time.
 
-ghost use Rattle.std.specs.Prelude.{◌≡◌, ◌≤◌, ◌<◌, ◌++◌, length, take, drop, slice_index, IsTrue};
+ghost use Rattle.std.specs.Prelude.{◌≡◌, ◌≢◌, ◌≤◌, ◌<◌, ◌++◌, All, length, take, drop, slice_index, IsTrue};
 ghost use Rattle.enc_units.specs.Validity.{AreAscii};
 
 use std::simd::prelude::*;
@@ -19,6 +19,20 @@ pub fn are_all_ascii(lanes: u8x64) -> bool
     ensures { IsTrue result → AreAscii lanes }
 {
     lanes.simd_ge(u8x64::splat(0x80)).to_bitmask() == 0
+}
+
+/// How many of sixteen bytes stand before the first that is this one.
+#[inline(always)]
+pub fn len_before(lanes: u8x16, byte: u8) -> usize
+    ensures bound { result ≤ 16 }
+    ensures none { All (λ b. b ≢ byte) (take result lanes) }
+{
+    let found = lanes.simd_eq(u8x16::splat(byte)).to_bitmask();
+    if found == 0 {
+        16
+    } else {
+        found.trailing_zeros() as usize
+    }
 }
 
 /// How many bytes in front are ASCII, in whole steps of sixteen.

@@ -1,7 +1,10 @@
 //! Inputs of characters.
 
-ghost use Rattle.std.specs.Prelude.{◌≡◌, ◌≢◌, ℕ, List, [], ◌∷◌, length, drop, MatchOption, IfSome};
+ghost use Rattle.std.specs.Prelude.{◌≡◌, ◌≢◌, ◌≤◌, ℕ, List, [], ◌∷◌, length, drop, MatchOption, IfSome};
 ghost use Rattle.enc_units.specs.Output.{units_of_text};
+ghost use Rattle.enc_units.specs.Mappings.{WritesMapped};
+
+use crate::mapping::Mapping;
 
 /// An input that gives characters, each read from its code units.
 pub trait Chars {
@@ -24,4 +27,10 @@ pub trait Chars {
     fn advance(&mut self)
         requires { rest self.old ≢ [] }
         ensures { rest self.new ≡ drop 1 (rest self.old) };
+
+    /// Reads characters in front and writes their bytes into a slice, from `from` on, and answers how many bytes that are.
+    /// The run need not be maximal: it may be empty. Takes no memory.
+    fn write_mapped<M: Mapping>(&mut self, mapping: M, dst: &mut [u8], from: usize) -> usize
+        requires { from ≤ length dst.old }
+        ensures { WritesMapped (M.means mapping) (rest self.old) (rest self.new) dst.old dst.new from result };
 }

@@ -59,7 +59,7 @@ pub(crate) fn utf8_of(character: char) -> Encoded
 
 /// How many of sixteen bytes are ASCII, before one that isn't.
 #[inline(always)]
-fn ascii_in(lanes: u8x16) -> usize
+pub fn ascii_in(lanes: u8x16) -> usize
     ensures bound { result ≤ 16 }
     ensures ascii { AreAscii (take result lanes) }
     ensures some { slice_index lanes 0 < 0x80 → 0 < result }

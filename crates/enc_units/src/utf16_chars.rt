@@ -7,6 +7,9 @@ ghost use Rattle.enc_units.specs.Output.{units_of_text};
 ghost use Rattle.enc_units.specs.Surrogates.{lossy_unit, IsPair, First};
 
 use crate::chars::Chars;
+use crate::mapped_bytes::MARGIN;
+use crate::mapping::Mapping;
+use crate::utf16_mapped::write_utf16;
 
 /// The characters of code units of UTF-16, where a surrogate without its partner is U+FFFD (Unicode Standard 3.9, D91).
 /// They are read by themselves: a pair of which only one half is here is no pair.
@@ -25,6 +28,7 @@ impl<'a> Utf16Chars<'a> {
 }
 
 /// The character of a code unit that is in no pair.
+#[inline(always)]
 fn lone(unit: u16) -> char
     ensures { result ≡ lossy_unit unit }
 {
@@ -32,6 +36,7 @@ fn lone(unit: u16) -> char
 }
 
 /// The character of a surrogate pair.
+#[inline(always)]
 fn pair(high: u16, low: u16) -> char
     requires high_from { 0xD800 ≤ high }
     requires high_below { high < 0xDC00 }
@@ -44,6 +49,7 @@ fn pair(high: u16, low: u16) -> char
 }
 
 /// Whether the first two code units are a surrogate pair.
+#[inline(always)]
 fn begins_with_pair(units: &[u16]) -> bool
     ensures pair { IsTrue result → (2 ≤ length units.now) × IsPair (slice_index units.now 0) (slice_index units.now 1) }
     ensures lone { IsFalse result → IsPair (slice_index units.now 0) (slice_index units.now 1) → ⊥ }
@@ -57,7 +63,8 @@ fn begins_with_pair(units: &[u16]) -> bool
 }
 
 /// The first character, and how many code units it is read from.
-fn first(units: &[u16]) -> Option<(char, usize)>
+#[inline(always)]
+pub(crate) fn first(units: &[u16]) -> Option<(char, usize)>
     ensures { MatchOption result (units.now ≡ []) (λ p. First units.now p.0 p.1) }
 {
     if units.is_empty() {
@@ -93,5 +100,14 @@ impl<'a> Chars for Utf16Chars<'a> {
         if let Some((_, width)) = first(self.units) {
             self.units = &self.units[width..];
         }
+    }
+
+    fn write_mapped<M: Mapping>(&mut self, mapping: M, dst: &mut [u8], from: usize) -> usize {
+        if self.units.len() < MARGIN {
+            return 0;
+        }
+        let (read, written) = write_utf16(mapping, self.units, dst, from);
+        self.units = &self.units[read..];
+        written
     }
 }

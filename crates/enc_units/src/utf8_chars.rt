@@ -4,6 +4,9 @@ ghost use Rattle.std.specs.Prelude.{◌≡◌, chars, encode_utf8, length};
 ghost use Rattle.enc_units.specs.Output.{units_of_text};
 
 use crate::chars::Chars;
+use crate::mapped_bytes::MARGIN;
+use crate::mapping::Mapping;
+use crate::utf8_mapped::write_utf8;
 
 /// The characters of a text in UTF-8.
 #[derive(Drop)]
@@ -49,5 +52,15 @@ impl<'a> Chars for Utf8Chars<'a> {
         if let Some(_) = rest.next() {
             self.text = rest.as_str();
         }
+    }
+
+    fn write_mapped<M: Mapping>(&mut self, mapping: M, dst: &mut [u8], from: usize) -> usize {
+        let bytes = self.text.as_bytes();
+        if bytes.len() < MARGIN {
+            return 0;
+        }
+        let (read, written) = write_utf8(mapping, bytes, dst, from);
+        self.text = unsafe { str::from_utf8_unchecked(&bytes[read..]) };
+        written
     }
 }

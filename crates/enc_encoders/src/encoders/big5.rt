@@ -1,15 +1,15 @@
 //! The Big5 encoder (Encoding Standard 11.1.2).
 
 ghost use Rattle.std.specs.Prelude.{◌≡◌, ◌<◌};
-ghost use Rattle.enc_encoders.specs.CharLaw.{bytes_of};
+ghost use Rattle.enc_units.specs.Bytes.{bytes_of};
 ghost use Rattle.enc_encoders.specs.Big5.{big5_pair, big5_trail};
 
 use crate::barring::Barring;
 use crate::byte_lengths::ByteLengths;
-use crate::bytes::Bytes;
 use crate::made_bytes::two;
 use crate::stateless::{Repertoire, StatelessEncoder};
 use enc_pointers::big5;
+use enc_units::Bytes;
 
 /// Big5 (Encoding Standard 11.1): ASCII, and the characters of index Big5 but for the Hong Kong additions that stand first.
 #[derive(Clone, Copy)]
@@ -44,6 +44,7 @@ impl Repertoire for Big5 {
 
     ghost lengths = { λ _. by.TwoBytes };
 
+    #[inline(always)]
     fn bytes_beyond_ascii(self, c: char) -> Option<Bytes> {
         match big5(c) {
             Some(pointer) => Some(pair(pointer)),

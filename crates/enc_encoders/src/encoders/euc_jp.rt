@@ -1,16 +1,16 @@
 //! The EUC-JP encoder (Encoding Standard 12.1.2).
 
 ghost use Rattle.std.specs.Prelude.{◌≡◌, ◌<◌};
-ghost use Rattle.enc_encoders.specs.CharLaw.{bytes_of};
+ghost use Rattle.enc_units.specs.Bytes.{bytes_of};
 ghost use Rattle.enc_encoders.specs.EucJp.{euc_jp_pair};
 
 use super::japanese::{is_katakana, katakana_byte, with_wide_minus};
 use crate::barring::Barring;
 use crate::byte_lengths::ByteLengths;
-use crate::bytes::Bytes;
 use crate::made_bytes::{one, two};
 use crate::stateless::{Repertoire, StatelessEncoder};
 use enc_pointers::jis0208;
+use enc_units::Bytes;
 
 /// EUC-JP (Encoding Standard 12.1): ASCII, half-width katakana, and the characters of index jis0208. It has no bytes for
 /// those of jis0212, which its decoder knows.
@@ -37,6 +37,7 @@ impl Repertoire for EucJp {
 
     ghost lengths = { λ _. by.TwoBytes };
 
+    #[inline(always)]
     fn bytes_beyond_ascii(self, c: char) -> Option<Bytes> {
         if c == '\u{A5}' {
             return Some(one(0x5C));

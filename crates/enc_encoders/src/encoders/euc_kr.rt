@@ -1,15 +1,15 @@
 //! The EUC-KR encoder (Encoding Standard 13.1.2).
 
 ghost use Rattle.std.specs.Prelude.{◌≡◌, ◌<◌};
-ghost use Rattle.enc_encoders.specs.CharLaw.{bytes_of};
+ghost use Rattle.enc_units.specs.Bytes.{bytes_of};
 ghost use Rattle.enc_encoders.specs.EucKr.{euc_kr_pair};
 
 use crate::barring::Barring;
 use crate::byte_lengths::ByteLengths;
-use crate::bytes::Bytes;
 use crate::made_bytes::two;
 use crate::stateless::{Repertoire, StatelessEncoder};
 use enc_pointers::euc_kr;
+use enc_units::Bytes;
 
 /// EUC-KR (Encoding Standard 13.1): ASCII, and the characters of index EUC-KR.
 #[derive(Clone, Copy)]
@@ -35,6 +35,7 @@ impl Repertoire for EucKr {
 
     ghost lengths = { λ _. by.TwoBytes };
 
+    #[inline(always)]
     fn bytes_beyond_ascii(self, c: char) -> Option<Bytes> {
         match euc_kr(c) {
             Some(pointer) => Some(pair(pointer)),

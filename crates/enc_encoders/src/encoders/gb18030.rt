@@ -1,16 +1,18 @@
 //! The gb18030 encoder, and GBK's (Encoding Standard 10.2.2).
 
 ghost use Rattle.std.specs.Prelude.{◌≡◌, ◌<◌};
-ghost use Rattle.enc_encoders.specs.CharLaw.{AreBytesOf, bytes_of};
+ghost use Rattle.enc_units.specs.Bytes.{bytes_of};
+ghost use Rattle.enc_encoders.specs.CharLaw.{AreBytesOf};
 ghost use Rattle.enc_encoders.specs.Gb18030.{gb18030_pair, gb18030_trail, gb18030_four, two_or_four as wanted_bytes};
-ghost use Rattle.enc_pointers.specs.Pointers.{gb18030_pointer};
+ghost use Rattle.enc_pointers.specs.Pointers.{gb18030_pointer, gb18030_ranges_pointer};
+ghost use Rattle.enc_encoders.specs.Stateless.{bytes_by};
 
 use crate::barring::Barring;
 use crate::byte_lengths::ByteLengths;
-use crate::bytes::Bytes;
 use crate::made_bytes::{four, one, two};
 use crate::stateless::{Repertoire, StatelessEncoder};
 use enc_pointers::{gb18030, gb18030_ranges};
+use enc_units::Bytes;
 
 /// gb18030 (Encoding Standard 10.2): ASCII, two bytes by index gb18030, and four by its ranges. GBK (10.1) has no four
 /// bytes, and one for U+20AC.
@@ -21,7 +23,7 @@ pub struct Gb18030 {
 }
 
 /// The gb18030 encoder, and GBK's (Encoding Standard 10.2.2).
-pub type Gb18030Encoder = StatelessEncoder<Barring<Barring<Gb18030>>>;
+pub type Gb18030Encoder = StatelessEncoder<Barring<Gb18030>>;
 
 /// The second byte of a cell.
 #[inline(always)]
@@ -54,7 +56,19 @@ fn four_bytes(pointer: u32) -> Bytes
     )
 }
 
+/// Four bytes, by the ranges.
+#[inline(never)]
+fn by_ranges(c: char) -> Option<Bytes>
+    ensures { AreBytesOf (bytes_by gb18030_four (gb18030_ranges_pointer c)) result }
+{
+    match gb18030_ranges(c) {
+        Some(pointer) => Some(four_bytes(pointer)),
+        None => None,
+    }
+}
+
 /// Two bytes, or in gb18030 four.
+#[inline(always)]
 fn two_or_four(is_gbk: bool, c: char) -> Option<Bytes>
     ensures { AreBytesOf (wanted_bytes is_gbk c (gb18030_pointer c)) result }
 {
@@ -64,10 +78,7 @@ fn two_or_four(is_gbk: bool, c: char) -> Option<Bytes>
     if is_gbk {
         return None;
     }
-    match gb18030_ranges(c) {
-        Some(pointer) => Some(four_bytes(pointer)),
-        None => None,
-    }
+    by_ranges(c)
 }
 
 impl Repertoire for Gb18030 {
@@ -77,7 +88,11 @@ impl Repertoire for Gb18030 {
 
     ghost lengths = { λ r. gb18030_lengths r.is_gbk };
 
+    #[inline(always)]
     fn bytes_beyond_ascii(self, c: char) -> Option<Bytes> {
+        if c == '\u{E5E5}' {
+            return None;
+        }
         if self.is_gbk && c == '\u{20AC}' {
             return Some(one(0x80));
         }

@@ -1,15 +1,16 @@
 //! The ISO-2022-JP encoder (Encoding Standard 12.2.2).
 
-ghost use Rattle.std.specs.Prelude.{◌≡◌, ◌<◌};
+ghost use Rattle.std.specs.Prelude.{◌≡◌, ◌<◌, ◌≤◌, take};
+ghost use Rattle.enc_units.specs.Validity.{AreIso2022JpAscii};
 ghost use Rattle.enc_encoders.specs.declared.character_set.CharacterSet.TheVariants.{Ascii};
 ghost use Rattle.enc_encoders.specs.Iso2022Jp.{class_of as wanted_class, has_class as wanted_has, set_of_class as wanted_set, looked_up as wanted_looked_up, is_shift as wanted_shift, iso_2022_jp_bytes as wanted_bytes, iso_2022_jp_reported, jis0208_pair as wanted_pair};
-ghost use Rattle.enc_encoders.specs.CharLaw.{AreBytesOf, bytes_of};
+ghost use Rattle.enc_units.specs.Bytes.{bytes_of};
+ghost use Rattle.enc_encoders.specs.CharLaw.{AreBytesOf};
 
 use super::japanese::{is_katakana, with_wide_minus};
 use super::katakana::KATAKANA;
 use crate::barring::is_barred;
 use crate::byte_lengths::ByteLengths;
-use crate::bytes::Bytes;
 use crate::char_encoder::CharEncoder;
 use crate::character_set::CharacterSet;
 use crate::encoder_result::EncoderResult;
@@ -17,7 +18,8 @@ use crate::machine::run;
 use crate::made_bytes::{one, two};
 use crate::raw_encoder::RawEncoder;
 use enc_pointers::jis0208;
-use enc_units::Chars;
+use enc_units::{Bytes, Chars, Mapping, ascii_in, len_before};
+use std::simd::prelude::*;
 
 /// What a mappable character is.
 #[derive(Clone, Copy)]
@@ -47,6 +49,7 @@ pub struct Iso2022JpEncoder {
 }
 
 /// What a character is, if it is mappable.
+#[inline(always)]
 fn class_of(code: u32) -> CharClass
     ensures { result ≡ wanted_class code }
 {
@@ -62,6 +65,7 @@ fn class_of(code: u32) -> CharClass
 }
 
 /// Whether a set has the characters of a class.
+#[inline(always)]
 fn has_class(set: CharacterSet, class: CharClass) -> bool
     ensures { result ≡ wanted_has set class }
 {
@@ -101,6 +105,7 @@ fn set_of_class(class: CharClass) -> CharacterSet
 
 /// The character that is looked up.
 #[tactic(auto, using(crate::proofs::KatakanaLemmas::katakana_are))]
+#[inline(always)]
 fn looked_up(c: char) -> char
     ensures { result ≡ wanted_looked_up c }
 {
@@ -111,6 +116,7 @@ fn looked_up(c: char) -> char
 }
 
 /// Shift out, shift in or escape.
+#[inline(always)]
 fn is_shift(code: u32) -> bool
     ensures { result ≡ wanted_shift code }
 {
@@ -118,6 +124,7 @@ fn is_shift(code: u32) -> bool
 }
 
 /// The two bytes of a pointer.
+#[inline(always)]
 fn pair(pointer: u32) -> Bytes
     requires { pointer < 8836 }
     ensures { bytes_of result ≡ wanted_pair pointer }
@@ -125,7 +132,20 @@ fn pair(pointer: u32) -> Bytes
     two((pointer / 94 + 0x21) as u8, (pointer % 94 + 0x21) as u8)
 }
 
+/// How many of sixteen bytes in front are ASCII, before one that isn't or is a shift or an escape.
+#[inline(always)]
+fn unshifted_len(lanes: u8x16) -> usize
+    ensures bound { result ≤ 16 }
+    ensures ascii { AreIso2022JpAscii (take result lanes) }
+{
+    let shift_out = len_before(lanes, 0x0E);
+    let shift_in = len_before(lanes, 0x0F);
+    let escape = len_before(lanes, 0x1B);
+    ascii_in(lanes).min(shift_out).min(shift_in).min(escape)
+}
+
 /// The bytes of a character, if it has some.
+#[inline(always)]
 fn iso_2022_jp_bytes(c: char) -> Option<Bytes>
     ensures { AreBytesOf (wanted_bytes c) result }
 {
@@ -155,11 +175,39 @@ fn reported(c: char) -> char
     if is_shift(c as u32) { '\u{FFFD}' } else { c }
 }
 
+impl Mapping for Plain {
+    ghost use Rattle.enc_encoders.specs.Runs.{IsWrittenIn};
+    ghost use Rattle.enc_encoders.specs.Iso2022Jp.{iso_2022_jp};
+
+    ghost means = { λ e. IsWrittenIn iso_2022_jp e.set };
+
+    #[inline(always)]
+    fn bytes_in_run(self, c: char) -> Option<Bytes> {
+        if !has_class(self.set, class_of(c as u32)) {
+            return None;
+        }
+        iso_2022_jp_bytes(c)
+    }
+
+    #[inline(always)]
+    fn ascii_len(self, lanes: u8x16) -> usize {
+        match self.set {
+            CharacterSet::Ascii => unshifted_len(lanes),
+            _ => 0,
+        }
+    }
+}
+
 impl CharEncoder for Plain {
     ghost use Rattle.std.specs.Prelude.{[]};
     ghost use Rattle.enc_encoders.specs.Iso2022Jp.{iso_2022_jp_state};
 
     ghost state = { λ e. iso_2022_jp_state [] e.set };
+
+    #[inline(always)]
+    fn write_run<C: Chars>(self, src: &mut C, dst: &mut [u8], from: usize) -> usize {
+        src.write_mapped(self, dst, from)
+    }
 
     fn bytes(self, c: char) -> Option<Bytes> {
         iso_2022_jp_bytes(c)

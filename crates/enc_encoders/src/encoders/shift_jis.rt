@@ -1,16 +1,16 @@
 //! The Shift_JIS encoder (Encoding Standard 12.3.2).
 
 ghost use Rattle.std.specs.Prelude.{◌≡◌, ◌<◌};
-ghost use Rattle.enc_encoders.specs.CharLaw.{bytes_of};
+ghost use Rattle.enc_units.specs.Bytes.{bytes_of};
 ghost use Rattle.enc_encoders.specs.ShiftJis.{shift_jis_pair, shift_jis_lead, shift_jis_trail};
 
 use super::japanese::{is_katakana, katakana_byte, with_wide_minus};
 use crate::barring::Barring;
 use crate::byte_lengths::ByteLengths;
-use crate::bytes::Bytes;
 use crate::made_bytes::{one, two};
 use crate::stateless::{Repertoire, StatelessEncoder};
 use enc_pointers::shift_jis;
+use enc_units::Bytes;
 
 /// Shift_JIS (Encoding Standard 12.3): ASCII and U+0080, half-width katakana, and the characters of index jis0208.
 #[derive(Clone, Copy)]
@@ -54,6 +54,7 @@ impl Repertoire for ShiftJis {
 
     ghost lengths = { λ _. by.TwoBytes };
 
+    #[inline(always)]
     fn bytes_beyond_ascii(self, c: char) -> Option<Bytes> {
         if c == '\u{80}' {
             return Some(one(0x80));

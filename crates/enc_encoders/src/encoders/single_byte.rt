@@ -1,16 +1,16 @@
 //! The encoders of the legacy single-byte encodings (Encoding Standard 9.2).
 
 ghost use Rattle.std.specs.Prelude.{◌≡◌, ◌<◌};
-ghost use Rattle.enc_encoders.specs.CharLaw.{bytes_of};
+ghost use Rattle.enc_units.specs.Bytes.{bytes_of};
 ghost use Rattle.enc_encoders.specs.SingleByte.{single_byte as byte_of_pointer};
 
 use crate::barring::Barring;
 use crate::byte_lengths::ByteLengths;
-use crate::bytes::Bytes;
 use crate::made_bytes::one;
 use crate::stateless::{Repertoire, StatelessEncoder};
 use enc_index::SingleByteIndex;
 use enc_pointers::single_byte;
+use enc_units::Bytes;
 
 /// A legacy single-byte encoding (Encoding Standard 9): ASCII, and the characters of its index.
 #[derive(Clone, Copy)]

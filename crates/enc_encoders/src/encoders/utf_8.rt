@@ -1,12 +1,12 @@
 //! The UTF-8 encoder (Encoding Standard 8.1.2).
 
 ghost use Rattle.std.specs.Prelude.{◌≡◌, encode_utf8};
-ghost use Rattle.enc_encoders.specs.CharLaw.{bytes_of};
+ghost use Rattle.enc_units.specs.Bytes.{bytes_of};
 
 use crate::barring::Barring;
 use crate::byte_lengths::ByteLengths;
-use crate::bytes::Bytes;
 use crate::stateless::{Repertoire, StatelessEncoder};
+use enc_units::Bytes;
 
 /// UTF-8 (Encoding Standard 8.1): every character.
 #[derive(Clone, Copy)]

@@ -2,9 +2,9 @@
 
 use crate::barring::Barring;
 use crate::byte_lengths::ByteLengths;
-use crate::bytes::Bytes;
 use crate::made_bytes::one;
 use crate::stateless::{Repertoire, StatelessEncoder};
+use enc_units::Bytes;
 
 /// x-user-defined (Encoding Standard 14.5): ASCII, and U+F780 to U+F7FF.
 #[derive(Clone, Copy)]
@@ -21,6 +21,7 @@ impl Repertoire for XUserDefined {
 
     ghost lengths = { λ _. by.OneByte };
 
+    #[inline(always)]
     fn bytes_beyond_ascii(self, c: char) -> Option<Bytes> {
         let c = c as u32;
         if 0xF780 <= c && c <= 0xF7FF {

@@ -4,7 +4,7 @@ use crate::cases::{Case, expect, expect_bytes};
 use crate::encoding::calls::{Answer, MOST_ROOM, Offer, compare_answer, make_call, rest_of};
 use crate::encoding::predictions::{predict, push_reference};
 use crate::encoding::single_characters::compare_single_characters;
-use crate::encoding::ways::{ALL_WAYS, Asked, Way, encoder_of, kept_back};
+use crate::encoding::ways::{ALL_WAYS, Asked, SLICE_WAYS, Way, encoder_of, kept_back};
 use crate::encoding::whole_texts::compare_with_run;
 use encoding_rs::{Encoder, EncoderResult, Encoding};
 use std::alloc::Global;
@@ -13,11 +13,20 @@ use std::test::Fail;
 /// A row of a table: a text, and its bytes, with a decimal reference in place of each unmappable character.
 pub type EncoderRow = (&'static str, &'static [u8]);
 
+/// A text and its bytes.
+type Encoded<'a> = (&'a str, &'a [u8]);
+
 /// More calls than any text here takes.
 const MOST_CALLS: usize = 256;
 
 /// The rooms of runs are less than this. In small rooms a run may be stuck.
 const ROOMS: usize = 25;
+
+/// The rooms of long texts are less than this. Calls with 32 bytes of room and more write many characters at once.
+const LONG_ROOMS: usize = 41;
+
+/// Room for any character and its reference, and for no more than one character at a time.
+const STEP_ROOM: usize = 16;
 
 /// What the calls of one encoder have come to.
 #[derive(Drop)]
@@ -128,7 +137,7 @@ fn offer(alloc: Global, run: &mut Run, text: &str, last: bool) -> Result<(), Fai
 
 /// Compares the output with the row. It is a prefix of the row's bytes if the run is stuck in a small room,
 /// and else all of them.
-fn compare(run: &Run, row: &EncoderRow) -> Result<(), Fail> {
+fn compare(run: &Run, row: Encoded<'_>) -> Result<(), Fail> {
     let case = case_of(run.asked, row.0, run.room);
     let (bytes, way) = (run.bytes.as_slice(), run.way);
     if !run.is_stuck {
@@ -150,7 +159,7 @@ fn compare(run: &Run, row: &EncoderRow) -> Result<(), Fail> {
 fn compare_parts(
     alloc: Global,
     (asked, way): (Asked, Way),
-    row: &EncoderRow,
+    row: Encoded<'_>,
     (place, room): (usize, usize),
 ) -> Result<(), Fail> {
     let Some((front, rest)) = row.0.split_at_checked(place) else {
@@ -162,21 +171,21 @@ fn compare_parts(
     compare(&run, row)
 }
 
-/// Runs a row a character at a time.
-fn compare_characters(
+/// Runs a text a character at a time.
+fn run_characters(
     alloc: Global,
     (asked, way): (Asked, Way),
-    row: &EncoderRow,
+    text: &str,
     room: usize,
-) -> Result<(), Fail> {
+) -> Result<Run, Fail> {
     let mut run = start(alloc, asked, way, room)?;
     let mut local = [0; 4];
-    for character in row.0.chars() {
+    for character in text.chars() {
         let own = character.encode_utf8(&mut local);
         offer(alloc, &mut run, own, false)?;
     }
     offer(alloc, &mut run, "", true)?;
-    compare(&run, row)
+    Ok(run)
 }
 
 /// Runs a row in two parts and a character at a time, in each room and way; and by single characters in the
@@ -186,9 +195,25 @@ pub fn compare_cuts(alloc: Global, asked: Asked, row: &EncoderRow) -> Result<(),
     for way in ALL_WAYS {
         for room in 0..ROOMS {
             for (place, _) in row.0.char_indices() {
-                compare_parts(alloc, (asked, way), row, (place, room))?;
+                compare_parts(alloc, (asked, way), *row, (place, room))?;
             }
-            compare_characters(alloc, (asked, way), row, room)?;
+            let run = run_characters(alloc, (asked, way), row.0, room)?;
+            compare(&run, *row)?;
+        }
+    }
+    Ok(())
+}
+
+/// Runs a long text in two parts, cut between any two characters, in each room from 0 to 40 and each way into a slice. The bytes
+/// have to be those of single characters, each in a call of its own.
+pub fn compare_long(alloc: Global, encoding: Encoding, text: &str) -> Result<(), Fail> {
+    let asked = (encoding, &[] as &'static [char]);
+    for way in SLICE_WAYS {
+        let steps = run_characters(alloc, (asked, way), text, STEP_ROOM)?;
+        for room in 0..LONG_ROOMS {
+            for (place, _) in text.char_indices() {
+                compare_parts(alloc, (asked, way), (text, &steps.bytes), (place, room))?;
+            }
         }
     }
     Ok(())

@@ -71,6 +71,26 @@ pub const ALL_WAYS: [Way; 6] = [
     },
 ];
 
+/// The kinds of calls into slices.
+pub const SLICE_WAYS: [Way; 4] = [
+    Way {
+        source: Source::Utf8,
+        replaces: false,
+    },
+    Way {
+        source: Source::Utf16,
+        replaces: false,
+    },
+    Way {
+        source: Source::Utf8,
+        replaces: true,
+    },
+    Way {
+        source: Source::Utf16,
+        replaces: true,
+    },
+];
+
 impl Way {
     /// A name for messages.
     pub fn name(self) -> &'static str {

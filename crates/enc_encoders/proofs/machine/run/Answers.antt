@@ -1,4 +1,6 @@
-use Rattle.std.proofs.Common.{refl}
+use Rattle.std.proofs.Common.{◌≡◌, ℕ, ◌<◌, ◌≤◌, refl, arith}
+use Rattle.enc_encoders.specs.CharLaw.{left_of}
+use Rattle.enc_encoders.proofs.RunLemmas.{run_further, no_more_steps}
 use Rattle.enc_encoders.proofs.Progress.{fewer, fewer_behind}
 use Rattle.enc_encoders.proofs.MachineLemmas.{stays, reports, overflows, takes, fewer_steps, no_report}
 use Rattle.enc_encoders.proofs.TextLemmas.{into_keeps_text}
@@ -28,18 +30,25 @@ returns-then-not-put g c =
     (c.put.ensures.unchanged c.if-not-put.true) (no_report _ c.in_default-report.not-Some) (c.put.ensures.full c.if-not-put.true) in
     record { call = call; text = into_keeps_text _ _ _ _ _ _ _ _ _ _ _ c.requires.lawful call; need = into_meets_need _ _ _ _ _ _ _ _ _ _ _ call }
 
+lt_le : (a b k : ℕ) → a ≤ b → b < k → a < k
+lt_le a b k l h = omega arith
+
 pub loop-taken-smaller : goal.loop-taken-smaller
-loop-taken-smaller g c = elim c.if-taken.branch [
-  | then-taken w ↦ fewer_steps _ g.E.CharEncoder.state _ c.loop-taken.state _ _ _ _ _ _ _ c.loop-taken.invariant c.unread-unread.ensures _ c.in-Some.ensures _ (rw (w.src-is, w.if-taken.true) w.advance-then-taken.ensures)
-  | else-taken w ↦ fewer_steps _ g.E.CharEncoder.state _ c.loop-taken.state _ _ _ _ _ _ _ c.loop-taken.invariant c.unread-unread.ensures _ c.in-Some.ensures _ (rw (w.src-is, w.if-taken.false) refl)
-]
+loop-taken-smaller g c =
+    let left : g.C.Chars.rest c.if-taken.src ≡ left_of c.in-Some.taken.reads (g.C.Chars.rest c.loop-taken.src) = elim c.if-taken.branch [
+      | then-taken w ↦ rw (w.src-is, w.if-taken.true) w.advance-then-taken.ensures
+      | else-taken w ↦ rw (w.src-is, w.if-taken.false) refl
+    ] in
+    lt_le _ _ _ (no_more_steps _ _ _ _ _ _ _ _ c.write_run-written.ensures)
+    (fewer_steps _ g.E.CharEncoder.state _ c.loop-taken.state _ _ _ _ _ _ _ c.loop-taken.invariant c.unread-unread.ensures _ c.in-Some.ensures _ left)
 
 pub loop-taken-preserved : goal.loop-taken-preserved
 loop-taken-preserved g c =
-    let report = no_report _ c.in_default-report.not-Some in
-    elim c.if-taken.branch [
-      | then-taken w ↦ takes _ g.E.CharEncoder.state _ c.loop-taken.state _ _ _ _ _ _ _ c.loop-taken.invariant c.unread-unread.ensures _ c.in-Some.ensures _ _ (rw (w.src-is, w.if-taken.true) w.advance-then-taken.ensures)
-          report c.put.ensures.count (c.put.ensures.fits c.if-not-put.false) (c.put.ensures.put c.if-not-put.false)
-      | else-taken w ↦ takes _ g.E.CharEncoder.state _ c.loop-taken.state _ _ _ _ _ _ _ c.loop-taken.invariant c.unread-unread.ensures _ c.in-Some.ensures _ _ (rw (w.src-is, w.if-taken.false) refl)
-          report c.put.ensures.count (c.put.ensures.fits c.if-not-put.false) (c.put.ensures.put c.if-not-put.false)
-    ]
+    let left : g.C.Chars.rest c.if-taken.src ≡ left_of c.in-Some.taken.reads (g.C.Chars.rest c.loop-taken.src) = elim c.if-taken.branch [
+      | then-taken w ↦ rw (w.src-is, w.if-taken.true) w.advance-then-taken.ensures
+      | else-taken w ↦ rw (w.src-is, w.if-taken.false) refl
+    ] in
+    run_further _ _ _ _ _ _ _ _ _ _ _
+    (takes _ g.E.CharEncoder.state _ c.loop-taken.state _ _ _ _ _ _ _ c.loop-taken.invariant c.unread-unread.ensures _ c.in-Some.ensures _ _ left
+    (no_report _ c.in_default-report.not-Some) c.put.ensures.count (c.put.ensures.fits c.if-not-put.false) (c.put.ensures.put c.if-not-put.false))
+    c.write_run-written.ensures

@@ -1,0 +1,55 @@
+-- How many of sixteen lanes come before the first that passes a test.
+use Rattle.std.proofs.Common.{◌≡◌, ℕ, ◌-◌, ◌%◌, ◌^◌, ◌<◌, ◌≤◌, Bool, false, not, cond, eqb, List, map, length, get_or, replicate, take, ap, ◌∙◌, sym, subst, arith, length-take, inl, inr}
+use Rattle.std.specs.Prelude.{All}
+use Rattle.std.specs.List.{prefix_len}
+use Rattle.std.proofs.lemmas.Bool.{not-true, not-false, eq-eqb, ne_eqb, cases_lt, true≢false}
+use Rattle.std.proofs.lemmas.List.{length-map, get_or-take, take-take}
+use Rattle.std.proofs.lemmas.List.Sums.{prefix_len_passes, prefix_len_stops, prefix_len-le-length}
+use Rattle.std.proofs.lemmas.Simd.{mask_l-mod, tops_compared, zip2_splat_left, first_set_mask_l}
+use lib.Count.{count_trailing_zeros}
+use lib.Lanes.{zip2, mask_l, top}
+use mir.Syntax.{Width}
+use mir.Val.{bits, hbits}
+
+module _ (p : ℕ → Bool) (xs : List ℕ) (long : length xs ≡ 16) (mask : ℕ) (is : mask ≡ mask_l (map p xs)) where
+  abbrev len : ℕ
+  len = prefix_len (λ x. not (p x)) xs
+
+  counted : cond (eqb mask 0) 16 (count_trailing_zeros 64 mask) ≡ len
+  counted = ap (λ m. cond (eqb m 0) 16 (count_trailing_zeros 64 m)) is ∙ first_set_mask_l p xs 16 long (omega arith)
+
+  pub all_fail : mask ≡ 0 → 16 ≡ len
+  all_fail e = sym (ap (λ t. cond t 16 (count_trailing_zeros 64 mask)) (eq-eqb _ _ e)) ∙ counted
+
+  pub some_fail : (mask ≡ 0 → ⊥) → count_trailing_zeros 64 mask ≡ len
+  some_fail e = sym (ap (λ t. cond t 16 (count_trailing_zeros 64 mask)) (ne_eqb _ _ e)) ∙ counted
+
+  module _ (n : ℕ) (e : n ≡ len) where
+    pub front_bound : n ≤ 16
+    front_bound = omega (arith, prefix_len-le-length (λ x. not (p x)) xs)
+
+    pub front_fails : All (λ x. p x ≡ false) (take n xs)
+    front_fails k d h =
+        let l : k < n = omega (arith, length-take n xs) in
+        subst (λ x. p x ≡ false) (sym (get_or-take n xs k d l)) (not-true _ (prefix_len_passes (λ x. not (p x)) xs k d (omega arith)))
+
+    pub front_is_some : p (get_or xs 0 0) ≡ false → 0 < n
+    front_is_some h = elim (cases_lt 0 n) [
+      | inl l ↦ l
+      | inr l ↦
+          let none : len ≡ 0 = omega arith in
+          let stops = subst (λ k. not (p (get_or xs k 0)) ≡ false) none (prefix_len_stops (λ x. not (p x)) xs 0 (omega arith)) in
+          absurd (true≢false (sym (not-false _ stops) ∙ h))
+    ]
+
+-- the mask of a comparison of which the splat is the first side
+pub splat_mask : (w : Width) (t : ℕ → ℕ → Bool) (y : ℕ) (xs : List ℕ) → length xs ≡ 16
+    → mask_l (map (top (hbits w)) (zip2 (λ a b. cond (t a b) (2 ^ bits w - 1) 0) (replicate 16 y) xs)) % 2 ^ 64 ≡ mask_l (map (t y) xs)
+splat_mask w t y xs long =
+    ap (λ ms. mask_l ms % 2 ^ 64) (tops_compared w t (replicate 16 y) xs ∙ zip2_splat_left t y 16 xs long) ∙ mask_l-mod (map (t y) xs) 64 (omega (arith, length-map xs (t y)))
+
+-- what holds of the first m elements holds of fewer
+pub all_fewer : (P : ℕ → Type 0) (n m : ℕ) (xs : List ℕ) → n ≤ m → All P (take m xs) → All P (take n xs)
+all_fewer P n m xs h a = subst (All P) (take-take n m xs h) (λ k d l.
+    let short : k < n = omega (arith, length-take n (take m xs)) in
+    subst P (sym (get_or-take n (take m xs) k d short)) (a k d (omega (arith, length-take n (take m xs)))))

@@ -1,0 +1,163 @@
+-- Characters of a run whose bytes are written in turn.
+use Rattle.std.proofs.Common.{◌≡◌, ℕ, zero, suc, ◌+◌, ◌≤◌, Bool, cond, ltb, map, get_or, replicate, lt-ltb, le-ltb, length-take, drop-drop, List, [], ◌∷◌, ◌++◌, length, take, drop, refl, ap, ◌∙◌, sym, arith, append_assoc, append-nil, length-append, length-drop, take-append-drop}
+use Rattle.std.proofs.lemmas.List.{length-take-le, drop-append-le, take_all}
+use Rattle.std.proofs.lemmas.Simd.{map-map, put_chunk_is}
+use Rattle.std.specs.List.{range_with_len}
+use lib.Lanes.{zip2, top, sel_l, put_chunk}
+use Rattle.std.proofs.Math.Seq.{take-append_seam}
+use Rattle.std.proofs.lemmas.Slice.{drop-append-drop}
+use Rattle.enc_units.specs.Pieces.{Piece, bytes_of, chars_of, AllMean}
+use Rattle.enc_units.specs.Mappings.{WritesMapped, AreWrittenAsThemselves}
+use Rattle.enc_units.proofs.Utf8Lanes.{below, top_flag}
+
+bytes_of-append : (ps qs : List Piece) → bytes_of (ps ++ qs) ≡ bytes_of ps ++ bytes_of qs
+bytes_of-append [] qs = refl
+bytes_of-append (p ∷ ps) qs = ap (λ x. p.bytes ++ x) (bytes_of-append ps qs) ∙ sym (append_assoc p.bytes (bytes_of ps) (bytes_of qs))
+
+chars_of-append : (ps qs : List Piece) → chars_of (ps ++ qs) ≡ chars_of ps ++ chars_of qs
+chars_of-append [] qs = refl
+chars_of-append (p ∷ ps) qs = ap (λ x. p.char ∷ x) (chars_of-append ps qs)
+
+mean-append : (Means : List ℕ → ℕ → Type 0) (ps qs : List Piece) → AllMean Means ps → AllMean Means qs → AllMean Means (ps ++ qs)
+mean-append Means [] qs m n = n
+mean-append Means (p ∷ ps) qs m n = (m.0, mean-append Means ps qs m.1 n)
+
+module _ (Means : List ℕ → ℕ → Type 0) where
+  pub maps_none : (src before : List ℕ) (at : ℕ) → at ≤ length before → WritesMapped Means src src before before at 0
+  maps_none src before at h = record {
+    pieces = [];
+    reads = refl;
+    mean = tt;
+    count = refl;
+    fits = omega arith;
+    onto = sym (take-append-drop at before) ∙ ap (λ n. take at before ++ drop n before) (omega arith);
+  }
+
+  -- a run behind another
+  pub maps_both : (src between rest before mid after : List ℕ) (at n k : ℕ) → WritesMapped Means src between before mid at n → WritesMapped Means between rest mid after (at + n) k
+      → WritesMapped Means src rest before after at (n + k)
+  maps_both src between rest before mid after at n k v w =
+      let x = bytes_of v.pieces in
+      let y = bytes_of w.pieces in
+      let both = bytes_of-append v.pieces w.pieces in
+      let first_long : length (take at before) ≡ at = length-take-le at before (omega (arith, v.fits)) in
+      let long : length mid ≡ length before = omega (arith, ap length v.onto, length-append (take at before) (x ++ drop (at + n) before), length-append x (drop (at + n) before), length-drop (at + n) before, v.count, v.fits, first_long) in
+      let mid_is : mid ≡ (take at before ++ x) ++ drop (at + n) before = v.onto ∙ sym (append_assoc (take at before) x (drop (at + n) before)) in
+      let count : length (take at before ++ x) ≡ at + n = omega (arith, length-append (take at before) x, first_long, v.count) in
+      let front : take (at + n) mid ≡ take at before ++ x =
+      ap (λ z. take (at + n) z) mid_is ∙ ap (λ m. take m ((take at before ++ x) ++ drop (at + n) before)) (sym count) ∙ take-append_seam (take at before ++ x) (drop (at + n) before) in
+      let back : drop ((at + n) + k) mid ≡ drop ((at + n) + k) before =
+      ap (drop ((at + n) + k)) mid_is ∙ drop-append-drop (at + n) before (take at before ++ x) ((at + n) + k) (omega arith) count in
+      record {
+        pieces = v.pieces ++ w.pieces;
+        reads = v.reads ∙ ap (λ z. chars_of v.pieces ++ z) w.reads ∙ sym (append_assoc (chars_of v.pieces) (chars_of w.pieces) rest) ∙ ap (λ z. z ++ rest) (sym (chars_of-append v.pieces w.pieces));
+        mean = mean-append Means v.pieces w.pieces v.mean w.mean;
+        count = omega (arith, ap length both, length-append x y, v.count, w.count);
+        fits = omega (arith, w.fits, long);
+        onto = w.onto ∙ ap (λ z. z ++ (y ++ drop ((at + n) + k) mid)) front ∙ ap (λ z. (take at before ++ x) ++ (y ++ z)) back
+            ∙ append_assoc (take at before) x (y ++ drop ((at + n) + k) before)
+            ∙ ap (λ z. take at before ++ z) (sym (append_assoc x y (drop ((at + n) + k) before)))
+            ∙ ap (λ z. take at before ++ (z ++ drop ((at + n) + k) before)) (sym both)
+            ∙ ap (λ m. take at before ++ (bytes_of (v.pieces ++ w.pieces) ++ drop m before)) (omega arith);
+      }
+
+  -- one character
+  pub maps_one : (src rest before after : List ℕ) (at n c : ℕ) (bytes : List ℕ) → src ≡ c ∷ rest → Means bytes c → n ≡ length bytes → at + n ≤ length before
+      → after ≡ take at before ++ (bytes ++ drop (at + n) before) → WritesMapped Means src rest before after at n
+  maps_one src rest before after at n c bytes r m k f o = record {
+    pieces = record { bytes = bytes; char = c } ∷ [];
+    reads = r;
+    mean = (m, tt);
+    count = k ∙ ap length (sym (append-nil bytes));
+    fits = f;
+    onto = o ∙ ap (λ z. take at before ++ (z ++ drop (at + n) before)) (sym (append-nil bytes));
+  }
+
+  -- ASCII, where it is written as itself
+  abbrev themselves : List ℕ → List Piece
+  themselves [] = []
+  themselves (b ∷ bs) = record { bytes = b ∷ []; char = b } ∷ themselves bs
+
+  their_bytes : (bs : List ℕ) → bytes_of (themselves bs) ≡ bs
+  their_bytes [] = refl
+  their_bytes (b ∷ bs) = ap (λ x. b ∷ x) (their_bytes bs)
+
+  their_chars : (bs : List ℕ) → chars_of (themselves bs) ≡ bs
+  their_chars [] = refl
+  their_chars (b ∷ bs) = ap (λ x. b ∷ x) (their_chars bs)
+
+  they_mean : (bs : List ℕ) → AreWrittenAsThemselves Means bs → AllMean Means (themselves bs)
+  they_mean [] a = tt
+  they_mean (b ∷ bs) a = ((a 0 0 (omega arith)).1, they_mean bs (λ k d l. a (suc k) d (omega arith)))
+
+  pub maps_ascii : (src rest before after : List ℕ) (at n : ℕ) (bs : List ℕ) → AreWrittenAsThemselves Means bs → src ≡ bs ++ rest → n ≡ length bs
+      → at + n ≤ length before → after ≡ take at before ++ (bs ++ drop (at + n) before) → WritesMapped Means src rest before after at n
+  maps_ascii src rest before after at n bs a r k f o = record {
+    pieces = themselves bs;
+    reads = r ∙ ap (λ z. z ++ rest) (sym (their_chars bs));
+    mean = they_mean bs a;
+    count = k ∙ ap length (sym (their_bytes bs));
+    fits = f;
+    onto = o ∙ ap (λ z. take at before ++ (z ++ drop (at + n) before)) (sym (their_bytes bs));
+  }
+
+  -- what is written leaves the length as it was
+  pub same_length : (src rest before after : List ℕ) (at n : ℕ) → WritesMapped Means src rest before after at n → length after ≡ length before
+  same_length src rest before after at n w =
+      omega (arith, w.count, w.fits, ap length w.onto, length-append (take at before) (bytes_of w.pieces ++ drop (at + n) before), length-append (bytes_of w.pieces) (drop (at + n) before),
+      length-take at before, length-drop (at + n) before)
+
+-- ---- sixteen lanes, of which the first are taken from elsewhere
+
+none_front : (i j : ℕ) (a b : List ℕ) → j ≤ i → length a ≡ length b → sel_l (map (λ k. ltb k j) (range_with_len i (length a))) a b ≡ b
+none_front i j [] [] h e = refl
+none_front i j [] (y ∷ b) h e = absurd (omega arith)
+none_front i j (x ∷ a) [] h e = absurd (omega arith)
+none_front i j (x ∷ a) (y ∷ b) h e = rw (le-ltb i j h) (ap (λ z. y ∷ z) (none_front (i + 1) j a b (omega arith) (omega arith)))
+
+some_front : (i n j : ℕ) (a b : List ℕ) → j ≡ i + n → length a ≡ length b → sel_l (map (λ k. ltb k j) (range_with_len i (length a))) a b ≡ take n a ++ drop n b
+some_front i zero j a b q e = none_front i j a b (omega arith) e
+some_front i (suc n) j [] [] q e = refl
+some_front i (suc n) j [] (y ∷ b) q e = absurd (omega arith)
+some_front i (suc n) j (x ∷ a) [] q e = absurd (omega arith)
+some_front i (suc n) j (x ∷ a) (y ∷ b) q e = rw (lt-ltb i j (omega arith)) (ap (λ z. x ∷ z) (some_front (i + 1) n j a b (omega arith) (omega arith)))
+
+abbrev lane_numbers : List ℕ
+lane_numbers = 0 ∷ 1 ∷ 2 ∷ 3 ∷ 4 ∷ 5 ∷ 6 ∷ 7 ∷ 8 ∷ 9 ∷ 10 ∷ 11 ∷ 12 ∷ 13 ∷ 14 ∷ 15 ∷ []
+
+abbrev chosen : ℕ → List Bool
+chosen n = map (top 7) (zip2 (λ a b. cond (ltb a b) 255 0) lane_numbers (replicate 16 n))
+
+chosen_is : (n : ℕ) → chosen n ≡ map (λ k. ltb k n) (range_with_len 0 16)
+chosen_is n =
+    ap (map (top 7)) (below n lane_numbers refl).is ∙ map-map (top 7) (λ k. cond (ltb (get_or lane_numbers k 0) n) 255 0) (range_with_len 0 16)
+    ∙ ap (λ g. map g (range_with_len 0 16)) (λ i k. top_flag (ltb (get_or lane_numbers k 0) n) i)
+
+blended : (n : ℕ) (a b : List ℕ) → length a ≡ 16 → length b ≡ 16 → sel_l (chosen n) a b ≡ take n a ++ drop n b
+blended n a b l m =
+    ap (λ z. sel_l z a b) (chosen_is n) ∙ ap (λ k. sel_l (map (λ k. ltb k n) (range_with_len 0 k)) a b) (sym l)
+    ∙ some_front 0 n n a b (omega arith) (l ∙ sym m)
+
+-- and stored where the others were
+pub stored_blend : (at n : ℕ) (old a : List ℕ) → at + 16 ≤ length old → n ≤ 16 → length a ≡ 16
+    → put_chunk at old (sel_l (chosen n) a (take 16 (drop at old))) ≡ take at old ++ (take n a ++ drop (at + n) old)
+stored_blend at n old a h k l =
+    let d = drop at old in
+    let b = take 16 d in
+    let long : length b ≡ 16 = omega (arith, length-take 16 d, length-drop at old) in
+    let ys = take n a ++ drop n b in
+    let ys_long : length ys ≡ 16 = omega (arith, length-append (take n a) (drop n b), length-take n a, length-drop n b, l, long) in
+    let whole : drop n b ++ drop 16 d ≡ drop n d =
+    sym (drop-append-le n b (drop 16 d) (omega arith)) ∙ ap (drop n) (take-append-drop 16 d) in
+    ap (put_chunk at old) (blended n a b l long)
+    ∙ put_chunk_is at old ys (omega arith)
+    ∙ ap (λ m. take at old ++ (ys ++ drop m d)) ys_long
+    ∙ ap (λ z. take at old ++ z) (append_assoc (take n a) (drop n b) (drop 16 d) ∙ ap (λ z. take n a ++ z) (whole ∙ drop-drop n at old))
+
+-- all sixteen
+pub stored_whole : (at : ℕ) (old a : List ℕ) → at + 16 ≤ length old → length a ≡ 16 → put_chunk at old a ≡ take at old ++ (take 16 a ++ drop (at + 16) old)
+stored_whole at old a h l =
+    put_chunk_is at old a (omega arith)
+    ∙ ap (λ m. take at old ++ (a ++ drop m (drop at old))) l
+    ∙ ap (λ z. take at old ++ (a ++ z)) (drop-drop 16 at old)
+    ∙ ap (λ z. take at old ++ (z ++ drop (at + 16) old)) (sym (take_all 16 a (omega arith)))

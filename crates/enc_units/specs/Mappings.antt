@@ -1,0 +1,26 @@
+-- The bytes of characters, as they are looked up and written in runs.
+use Rattle.std.specs.Prelude.{◌≡◌, ℕ, ◌+◌, ◌<◌, ◌≤◌, All, List, [], ◌∷◌, ◌++◌, length, take, drop, chars, IsUtf8}
+use Rattle.enc_units.specs.Pieces.{Piece, bytes_of, chars_of, AllMean}
+
+-- an ASCII character that is written as itself
+abbrev pub IsWrittenAsItself : (List ℕ → ℕ → Type 0) → ℕ → Type 0
+IsWrittenAsItself Means b = (b < 0x80) × Means (b ∷ []) b
+
+abbrev pub AreWrittenAsThemselves : (List ℕ → ℕ → Type 0) → List ℕ → Type 0
+AreWrittenAsThemselves Means = All (IsWrittenAsItself Means)
+
+-- Characters in front are read from an input, and their bytes are written in turn into a slice, from `at` on. What is before and after
+-- these bytes stays.
+pub record WritesMapped (Means : List ℕ → ℕ → Type 0) (src rest before after : List ℕ) (at n : ℕ) : Type 0 where
+  pub pieces : List Piece
+  pub reads : src ≡ chars_of pieces ++ rest
+  pub mean : AllMean Means pieces
+  pub count : n ≡ length (bytes_of pieces)
+  pub fits : at + n ≤ length before
+  pub onto : after ≡ take at before ++ (bytes_of pieces ++ drop (at + n) before)
+
+-- UTF-8 begins with a character of n bytes
+pub record FirstOfUtf8 (bytes : List ℕ) (c n : ℕ) : Type 0 where
+  pub within : n ≤ length bytes
+  pub utf8 : IsUtf8 (drop n bytes)
+  pub chars : chars bytes ≡ c ∷ chars (drop n bytes)

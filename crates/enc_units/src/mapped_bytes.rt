@@ -1,0 +1,41 @@
+//! The bytes of mapped characters, written into a slice.
+
+ghost use Rattle.std.specs.Prelude.{◌≡◌, ◌+◌, ◌≤◌, ◌++◌, length, take, drop};
+ghost use Rattle.enc_units.specs.Bytes.{bytes_of};
+
+use crate::bytes::Bytes;
+use std::simd::prelude::*;
+
+/// So many code units before the end of an input, and so many bytes before the end of a slice, a run ends.
+pub(crate) const MARGIN: usize = 32;
+
+/// The places of sixteen lanes.
+const PLACES: [u8; 16] = [0, 1, 2, 3, 4, 5, 6, 7, 8, 9, 10, 11, 12, 13, 14, 15];
+
+/// Writes the bytes of a character, one by one, and answers how many. The bytes after them stay.
+#[inline(always)]
+pub(crate) fn put_bytes(dst: &mut [u8], at: usize, bytes: Bytes) -> usize
+    requires { at + 4 ≤ length dst.old }
+    ensures count { result ≡ length (bytes_of bytes) }
+    ensures few { result ≤ 4 }
+    ensures put { dst.new ≡ take at dst.old ++ (bytes_of bytes ++ drop (at + result) dst.old) }
+{
+    match bytes.len {
+        1 => dst[at..at + 1].copy_from_slice(&bytes.bytes[..1]),
+        2 => dst[at..at + 2].copy_from_slice(&bytes.bytes[..2]),
+        len => dst[at..at + len].copy_from_slice(&bytes.bytes[..len]),
+    }
+    bytes.len
+}
+
+/// Writes the first `len` of sixteen bytes. The bytes after them stay.
+#[inline(always)]
+pub(crate) fn put_lanes(dst: &mut [u8], at: usize, lanes: u8x16, len: usize)
+    requires room { at + 16 ≤ length dst.old }
+    requires bound { len ≤ 16 }
+    ensures { dst.new ≡ take at dst.old ++ (take len lanes ++ drop (at + len) dst.old) }
+{
+    let after = u8x16::from_slice(&dst[at..]);
+    let is_front = u8x16::from_array(PLACES).simd_lt(u8x16::splat(len as u8));
+    is_front.select(lanes, after).copy_to_slice(&mut dst[at..]);
+}

@@ -1,0 +1,95 @@
+//! Runs of mapped characters, read from UTF-8.
+
+ghost use Rattle.std.specs.Prelude.{◌≡◌, ◌+◌, ◌≤◌, length, drop, chars, IsUtf8, slice_index};
+ghost use Rattle.enc_units.specs.Mappings.{FirstOfUtf8, WritesMapped};
+
+use crate::mapped_bytes::{MARGIN, put_bytes, put_lanes};
+use crate::mapping::Mapping;
+use std::simd::prelude::*;
+
+/// A character of UTF-8 and how many bytes it has.
+#[derive(Clone, Copy)]
+struct Found {
+    c: char,
+    width: usize,
+}
+
+/// The character beyond ASCII that begins at `at` (Unicode Standard 3.9, table 3-6).
+#[inline(always)]
+fn found_at(src: &[u8], at: usize) -> Found
+    requires within { at + 4 ≤ length src.now }
+    requires utf8 { IsUtf8 (drop at src.now) }
+    requires beyond { 0x80 ≤ slice_index src.now at }
+    ensures beyond { 0x80 ≤ result.c }
+    ensures first { FirstOfUtf8 (drop at src.now) result.c result.width }
+    ensures some { 1 ≤ result.width }
+    ensures few { result.width ≤ 4 }
+{
+    let first = src[at] as u32;
+    let second = src[at + 1] as u32 % 64;
+    if first < 0xE0 {
+        return Found {
+            c: unsafe { char::from_u32_unchecked(first % 32 * 64 + second) },
+            width: 2,
+        };
+    }
+    let third = src[at + 2] as u32 % 64;
+    if first < 0xF0 {
+        return Found {
+            c: unsafe { char::from_u32_unchecked((first % 16 * 64 + second) * 64 + third) },
+            width: 3,
+        };
+    }
+    let fourth = src[at + 3] as u32 % 64;
+    let code = ((first % 8 * 64 + second) * 64 + third) * 64 + fourth;
+    Found {
+        c: unsafe { char::from_u32_unchecked(code) },
+        width: 4,
+    }
+}
+
+/// Writes the bytes of characters in front of UTF-8 into a slice, from `from` on, and answers how many bytes it has read and
+/// written. The run need not be maximal.
+#[inline(never)]
+pub(crate) fn write_utf8<M: Mapping>(
+    mapping: M,
+    src: &[u8],
+    dst: &mut [u8],
+    from: usize,
+) -> (usize, usize)
+    requires utf8 { IsUtf8 src.now }
+    requires within { from ≤ length dst.old }
+    ensures within { result.0 ≤ length src.now }
+    ensures utf8 { IsUtf8 (drop result.0 src.now) }
+    ensures writes { WritesMapped (M.means mapping) (chars src.now) (chars (drop result.0 src.now)) dst.old dst.new from
+        result.1 }
+{
+    let mut read = 0;
+    let mut at = from;
+    while MARGIN <= src.len() - read && MARGIN <= dst.len() - at {
+        if src[read] < 0x80 {
+            let lanes = u8x16::from_slice(&src[read..]);
+            let len = mapping.ascii_len(lanes);
+            if len == 16 {
+                lanes.copy_to_slice(&mut dst[at..]);
+                read += 16;
+                at += 16;
+                continue;
+            }
+            if len == 0 {
+                break;
+            }
+            put_lanes(dst, at, lanes, len);
+            read += len;
+            at += len;
+            continue;
+        }
+        let found = found_at(src, read);
+        let Some(bytes) = mapping.bytes_in_run(found.c) else {
+            break;
+        };
+        at += put_bytes(dst, at, bytes);
+        read += found.width;
+    }
+    (read, at - from)
+}
