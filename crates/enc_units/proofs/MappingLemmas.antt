@@ -1,6 +1,7 @@
 -- Characters of a run whose bytes are written in turn.
-use Rattle.std.proofs.Common.{◌≡◌, ℕ, zero, suc, ◌+◌, ◌≤◌, Bool, cond, ltb, map, get_or, replicate, lt-ltb, le-ltb, length-take, drop-drop, List, [], ◌∷◌, ◌++◌, length, take, drop, refl, ap, ◌∙◌, sym, arith, append_assoc, append-nil, length-append, length-drop, take-append-drop}
-use Rattle.std.proofs.lemmas.List.{length-take-le, drop-append-le, take_all}
+use Rattle.std.proofs.Common.{◌≡◌, ℕ, zero, suc, ◌+◌, ◌<◌, ◌≤◌, Bool, cond, ltb, map, get_or, replicate, lt-ltb, le-ltb, length-take, drop-drop, drop-cons, List, [], ◌∷◌, ◌++◌, length, take, drop, refl, ap, ◌∙◌, sym, arith, append_assoc, append-nil, length-append, length-drop, take-append-drop}
+use Rattle.std.proofs.Math.ListN.{set}
+use Rattle.std.proofs.lemmas.List.{length-take-le, drop-append-le, take_all, set_split, set_at}
 use Rattle.std.proofs.lemmas.Simd.{map-map, put_chunk_is}
 use Rattle.std.specs.List.{range_with_len}
 use lib.Lanes.{zip2, top, sel_l, put_chunk}
@@ -104,8 +105,16 @@ module _ (Means : List ℕ → ℕ → Type 0) where
   -- what is written leaves the length as it was
   pub same_length : (src rest before after : List ℕ) (at n : ℕ) → WritesMapped Means src rest before after at n → length after ≡ length before
   same_length src rest before after at n w =
-      omega (arith, w.count, w.fits, ap length w.onto, length-append (take at before) (bytes_of w.pieces ++ drop (at + n) before), length-append (bytes_of w.pieces) (drop (at + n) before),
-      length-take at before, length-drop (at + n) before)
+      omega (
+        arith,
+        w.count,
+        w.fits,
+        ap length w.onto,
+        length-append (take at before) (bytes_of w.pieces ++ drop (at + n) before),
+        length-append (bytes_of w.pieces) (drop (at + n) before),
+        length-take at before,
+        length-drop (at + n) before,
+      )
 
 -- ---- sixteen lanes, of which the first are taken from elsewhere
 
@@ -161,3 +170,27 @@ stored_whole at old a h l =
     ∙ ap (λ m. take at old ++ (a ++ drop m (drop at old))) l
     ∙ ap (λ z. take at old ++ (a ++ z)) (drop-drop 16 at old)
     ∙ ap (λ z. take at old ++ (z ++ drop (at + 16) old)) (sym (take_all 16 a (omega arith)))
+
+-- one byte, and two
+
+pub put_one : (at : ℕ) (dst bs : List ℕ) (n : ℕ) → n ≡ 1 → 1 ≤ length bs → at < length dst → set dst at (get_or bs 0 0) ≡ take at dst ++ (take n bs ++ drop (at + 1) dst)
+put_one at dst [] n e h l = absurd (omega arith)
+put_one at dst (b ∷ bs) n e h l =
+    let next : suc at ≡ at + 1 = omega arith in
+    set_split dst at b l ∙ ap (λ m. take at dst ++ (b ∷ drop m dst)) next ∙ ap (λ k. take at dst ++ (take k (b ∷ bs) ++ drop (at + 1) dst)) (sym e)
+
+pub put_two : (at : ℕ) (dst bs : List ℕ) (n : ℕ) → n ≡ 2 → 2 ≤ length bs → at + 1 < length dst
+    → set (set dst at (get_or bs 0 0)) (at + 1) (get_or bs 1 0) ≡ take at dst ++ (take n bs ++ drop (at + 2) dst)
+put_two at dst [] n e h l = absurd (omega arith)
+put_two at dst (b ∷ []) n e h l = absurd (omega arith)
+put_two at dst (b ∷ c ∷ bs) n e h l =
+    let xs = take at dst ++ (b ∷ []) in
+    let ys = drop (suc (at + 1)) dst in
+    let next : suc at ≡ at + 1 = omega arith in
+    let after : suc (at + 1) ≡ at + 2 = omega arith in
+    let long : length xs ≡ at + 1 = omega (arith, length-append (take at dst) (b ∷ []), length-take at dst) in
+    let first : set dst at b ≡ xs ++ (get_or dst (at + 1) 0 ∷ ys) =
+    set_split dst at b (omega arith) ∙ ap (λ m. take at dst ++ (b ∷ drop m dst)) next ∙ ap (λ z. take at dst ++ (b ∷ z)) (drop-cons dst (at + 1) 0 l)
+    ∙ sym (append_assoc (take at dst) (b ∷ []) (get_or dst (at + 1) 0 ∷ ys)) in
+    ap (λ z. set z (at + 1) c) first ∙ set_at xs (get_or dst (at + 1) 0) ys c (at + 1) long ∙ append_assoc (take at dst) (b ∷ []) (c ∷ ys)
+    ∙ ap (λ m. take at dst ++ (b ∷ c ∷ drop m dst)) after ∙ ap (λ k. take at dst ++ (take k (b ∷ c ∷ bs) ++ drop (at + 2) dst)) (sym e)

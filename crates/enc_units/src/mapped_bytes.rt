@@ -12,7 +12,19 @@ pub(crate) const MARGIN: usize = 32;
 /// The places of sixteen lanes.
 const PLACES: [u8; 16] = [0, 1, 2, 3, 4, 5, 6, 7, 8, 9, 10, 11, 12, 13, 14, 15];
 
-/// Writes the bytes of a character, one by one, and answers how many. The bytes after them stay.
+/// Writes any bytes, and answers how many. The bytes after them stay.
+#[inline(never)]
+fn put_any(dst: &mut [u8], at: usize, bytes: Bytes) -> usize
+    requires { at + 4 ≤ length dst.old }
+    ensures count { result ≡ length (bytes_of bytes) }
+    ensures few { result ≤ 4 }
+    ensures put { dst.new ≡ take at dst.old ++ (bytes_of bytes ++ drop (at + result) dst.old) }
+{
+    dst[at..at + bytes.len].copy_from_slice(&bytes.bytes[..bytes.len]);
+    bytes.len
+}
+
+/// The same, one or two by themselves: so they go from register to memory, and not through an array.
 #[inline(always)]
 pub(crate) fn put_bytes(dst: &mut [u8], at: usize, bytes: Bytes) -> usize
     requires { at + 4 ≤ length dst.old }
@@ -20,12 +32,16 @@ pub(crate) fn put_bytes(dst: &mut [u8], at: usize, bytes: Bytes) -> usize
     ensures few { result ≤ 4 }
     ensures put { dst.new ≡ take at dst.old ++ (bytes_of bytes ++ drop (at + result) dst.old) }
 {
-    match bytes.len {
-        1 => dst[at..at + 1].copy_from_slice(&bytes.bytes[..1]),
-        2 => dst[at..at + 2].copy_from_slice(&bytes.bytes[..2]),
-        len => dst[at..at + len].copy_from_slice(&bytes.bytes[..len]),
+    if bytes.len == 1 {
+        dst[at] = bytes.bytes[0];
+        return 1;
     }
-    bytes.len
+    if bytes.len == 2 {
+        dst[at] = bytes.bytes[0];
+        dst[at + 1] = bytes.bytes[1];
+        return 2;
+    }
+    put_any(dst, at, bytes)
 }
 
 /// Writes the first `len` of sixteen bytes. The bytes after them stay.

@@ -8,13 +8,17 @@ use encoding_rs::{
 use std::test::Fail;
 use test_support::encoding::runs::compare_long;
 
-const LATIN: &str = "The quick brown fox jumps déjà, œuvre naïve 日 Łódź café — 12 €! 💩 ÀÉÎÕÜ end of this line.";
+const LATIN: &str =
+    "The quick brown fox jumps déjà, œuvre naïve 日 Łódź café — 12 €! 💩 ÀÉÎÕÜ end of this line.";
 
-const CYRILLIC: &str = "Съешь же ещё этих мягких French rolls, 16 of them или больше é да выпей чаю 💩 №1 конец.";
+const CYRILLIC: &str =
+    "Съешь же ещё этих мягких French rolls, 16 of them или больше é да выпей чаю 💩 №1 конец.";
 
-const USER_DEFINED: &str = "sixteen of ASCII \u{F780}\u{F7FF}\u{F79A}\u{F7C0}\u{F7E1}é日💩\u{F781}\u{F782} and some more ASCII text\u{F7AA}";
+const USER_DEFINED: &str =
+    "sixteen of ASCII \u{F780}\u{F7FF}\u{F79A}\u{F7C0}\u{F7E1}é日💩\u{F781}\u{F782} and some more ASCII text\u{F7AA}";
 
-const JAPANESE: &str = "いろはにほへと and some ASCII here ちりぬるを ｱｲｳ ¥5‾~\\ − 日本語가漢字 €💩 カタカナ\u{1B}\u{E} 終わりました。";
+const JAPANESE: &str =
+    "いろはにほへと and some ASCII here ちりぬるを ｱｲｳ ¥5‾~\\ − 日本語가漢字 €💩 カタカナ\u{1B}\u{E} 終わりました。";
 
 const CHINESE: &str = "人人生而自由，在尊严和权利上 are equal in ASCII €乂𠀀\u{E5E5}\u{E7C7} 一律平等。他们赋有理性 é💩 结束。";
 
