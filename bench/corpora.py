@@ -1,10 +1,12 @@
 """Real text in each encoding that scripts/bench measures, made of what Debian packages.
 
-Nearly all of it is Debian's installation guide in its languages, and the traditional Chinese is the Debian Reference.
-A corpus has the lines of the text that its encoding has, in order, again and again up to its size. The packages are
-downloaded and unpacked beside the corpora, and not installed.
+There are two kinds. Running text is Debian's installation guide in its languages, and the Debian Reference in traditional Chinese,
+line by line in order. Short strings are the translations of message catalogs and the lines of manual pages, shuffled. A corpus has
+the lines of the text that its encoding has, again and again up to its size. The packages are downloaded and unpacked beside
+the corpora, and not installed.
 """
 
+import gettext
 import glob
 import gzip
 import os
@@ -14,6 +16,12 @@ import subprocess
 
 GUIDE = "installation-guide-amd64"
 REFERENCE = "debian-reference-zh-tw"
+
+# Where message catalogs and manual pages are from.
+CATALOGS = ["coreutils", "dpkg", "apt", "bash", "tar", "util-linux-locales", "gnupg-l10n", "aptitude-common"]
+MANUALS = {"en": "manpages", "fr": "manpages-fr", "ru": "manpages-ru", "ja": "manpages-ja", "zh_CN": "manpages-zh", "zh_TW": "manpages-zh"}
+RUNNING = "running text"
+SHORT = "short strings"
 
 # Where converters disagree, so that none is left out of a row for one character: dashes, waves and signs of which
 # JIS X 0208, Big5 and Unicode's tables for them each have another.
@@ -26,38 +34,59 @@ PICTURES = "A row of pictures: 🐈 🐕 🌍 🎼 𝄞 𠀋.\n"
 SEED = 1
 RANDOM_MIB = 4
 
+# The size of each text that is encoded, in MiB: the crate encodes Chinese at 15 MB/s.
+ENCODED_MIB = 16
+
 
 class Corpus:
-    """A text that is measured, its label, and the names that iconv and uconv have for its encoding."""
+    """A text that is measured, its label, and the names that iconv and uconv have for its encoding.
 
-    def __init__(self, title, languages, label, codec, iconv=None, uconv=None):
-        self.title = title
+    `way` is "decode", from the encoding to UTF-8; "encode", from UTF-8 to it; or "units", from UTF-16LE to it.
+    """
+
+    def __init__(self, title, languages, label, codec, iconv=None, uconv=None, kind=RUNNING, way="decode"):
+        self.title = f"{title}, {kind}" if languages else title
         self.languages = languages
         self.label = label
         self.codec = codec
         self.iconv = iconv
         self.uconv = uconv
-        self.name = re.sub("[^a-z0-9]+", "-", title.lower()).strip("-")
+        self.kind = kind
+        self.way = way
+        self.name = re.sub("[^a-z0-9]+", "-", f"{way} {self.title}".lower()).strip("-")
 
 
 ALL = ["en", "fr", "ru", "ja", "zh_CN", "ko", "el", "zh_TW"]
-CORPORA = [
-    Corpus("ASCII, English", ["en"], "utf-8", "ascii", "utf-8", "utf-8"),
-    Corpus("UTF-8, eight languages", ALL, "utf-8", "utf-8", "utf-8", "utf-8"),
-    Corpus("UTF-8, Russian", ["ru"], "utf-8", "utf-8", "utf-8", "utf-8"),
-    Corpus("UTF-16LE, eight languages", ALL, "utf-16le", "utf-16-le", "utf-16le", "utf-16le"),
-    Corpus("windows-1252, French", ["fr"], "windows-1252", "cp1252", "windows-1252", "windows-1252"),
-    Corpus("windows-1251, Russian", ["ru"], "windows-1251", "cp1251", "windows-1251", "windows-1251"),
-    Corpus("Shift_JIS, Japanese", ["ja"], "shift_jis", "cp932", "cp932", "windows-31j"),
-    Corpus("EUC-JP, Japanese", ["ja"], "euc-jp", "euc_jp", "euc-jp", "euc-jp"),
-    Corpus("ISO-2022-JP, Japanese", ["ja"], "iso-2022-jp", "iso2022_jp", "iso-2022-jp", "iso-2022-jp"),
-    Corpus("gb18030, Chinese", ["zh_CN"], "gb18030", "gb18030", "gb18030", "gb18030"),
-    Corpus("Big5, Chinese", ["zh_TW"], "big5", "big5", "big5", "big5"),
-    Corpus("EUC-KR, Korean", ["ko"], "euc-kr", "cp949", "cp949", "windows-949"),
+# title, languages, label, Python's codec, and the names that iconv and uconv have
+UNICODE = [
+    ("ASCII, English", ["en"], "utf-8", "ascii", "utf-8", "utf-8"),
+    ("UTF-8, eight languages", ALL, "utf-8", "utf-8", "utf-8", "utf-8"),
+    ("UTF-8, Russian", ["ru"], "utf-8", "utf-8", "utf-8", "utf-8"),
+    ("UTF-16LE, eight languages", ALL, "utf-16le", "utf-16-le", "utf-16le", "utf-16le"),
 ]
+LEGACY = [
+    ("windows-1252, French", ["fr"], "windows-1252", "cp1252", "windows-1252", "windows-1252"),
+    ("windows-1251, Russian", ["ru"], "windows-1251", "cp1251", "windows-1251", "windows-1251"),
+    ("Shift_JIS, Japanese", ["ja"], "shift_jis", "cp932", "cp932", "windows-31j"),
+    ("EUC-JP, Japanese", ["ja"], "euc-jp", "euc_jp", "euc-jp", "euc-jp"),
+    ("ISO-2022-JP, Japanese", ["ja"], "iso-2022-jp", "iso2022_jp", "iso-2022-jp", "iso-2022-jp"),
+    ("gb18030, Chinese", ["zh_CN"], "gb18030", "gb18030", "gb18030", "gb18030"),
+    ("Big5, Chinese", ["zh_TW"], "big5", "big5", "big5-hkscs", "big5-hkscs"),
+    ("EUC-KR, Korean", ["ko"], "euc-kr", "cp949", "cp949", "windows-949"),
+]
+# GBK decodes as gb18030 does.
+WRITTEN = LEGACY[:5] + [("GBK, Chinese", ["zh_CN"], "gbk", "gbk", "gbk", "gbk")] + LEGACY[5:]
+KINDS = [RUNNING, SHORT]
 # Random bytes are decoded as these. Most of them are malformed.
 HOSTILE = ["UTF-8", "UTF-16LE", "windows-1252", "Shift_JIS", "EUC-JP", "ISO-2022-JP", "gb18030", "Big5", "EUC-KR"]
+
+CORPORA = [Corpus(*row, kind=kind) for kind in KINDS for row in UNICODE + LEGACY]
 CORPORA += [Corpus(f"random bytes as {label}", [], label, None) for label in HOSTILE]
+for way in ("encode", "units"):
+    CORPORA += [Corpus(*row, kind=kind, way=way) for kind in KINDS for row in WRITTEN]
+    CORPORA += [
+        Corpus(f"{row[0].split(',')[0]}, ASCII", ["en"], row[2], "ascii", *row[4:], way=way) for row in WRITTEN
+    ]
 
 
 def unpacked(cache, package):
@@ -80,10 +109,11 @@ def unpacked(cache, package):
 
 def sources(cache):
     """The packages that the texts come from, with their versions."""
-    return ", ".join(f"{package} {unpacked(cache, package)[1]}" for package in (GUIDE, REFERENCE))
+    packages = [GUIDE, REFERENCE, *CATALOGS, *sorted(set(MANUALS.values()))]
+    return ", ".join(f"{package} {unpacked(cache, package)[1]}" for package in packages)
 
 
-def lines(cache, language):
+def running_lines(cache, language):
     """The lines of a language that are not empty. Of the Reference, which has much English, those in Chinese."""
     if language == "zh_TW":
         path = f"{unpacked(cache, REFERENCE)[0]}/usr/share/debian-reference/debian-reference.zh-tw.txt.gz"
@@ -91,6 +121,42 @@ def lines(cache, language):
         path = f"{unpacked(cache, GUIDE)[0]}/usr/share/doc/{GUIDE}/{language}/install.{language}.txt.gz"
     with gzip.open(path, "rt", encoding="koi8-r" if language == "ru" else "utf-8") as file:
         return [line for line in file if line.strip() and not (language == "zh_TW" and line.isascii())]
+
+
+def messages(folder, language):
+    """The translations of the catalogs of a package."""
+    for path in sorted(glob.glob(f"{folder}/usr/share/locale/{language}/LC_MESSAGES/*.mo")):
+        with open(path, "rb") as file:
+            for text in gettext.GNUTranslations(file)._catalog.values():
+                yield from text.split("\n")
+
+
+def manual_lines(folder, language):
+    """The lines of manual pages, without requests and font changes."""
+    part = "" if language == "en" else f"{language}*/"
+    for path in sorted(glob.glob(f"{folder}/usr/share/man/{part}man*/*.gz")):
+        with gzip.open(path, "rt", encoding="utf-8", errors="ignore") as file:
+            for line in file:
+                if line[0] not in ".'":
+                    yield re.sub(r"\\f.|\\\(..|\\[&|]", "", line).replace("\\-", "-")
+
+
+def short_lines(cache, language):
+    """Messages and lines of manual pages, each once, in another order: with a quarter of letters beyond ASCII but for English and
+    French."""
+    found = {line for package in CATALOGS for line in messages(unpacked(cache, package)[0], language)}
+    if language in MANUALS:
+        found.update(manual_lines(unpacked(cache, MANUALS[language])[0], language))
+    kept = []
+    for line in sorted(text.strip() for text in found):
+        if len(line) >= 12 and (language in ("en", "fr") or 4 * sum(c > "\x7F" for c in line) >= len(line)):
+            kept.append(line + "\n")
+    random.Random(SEED).shuffle(kept)
+    return kept
+
+
+def lines(cache, language, kind):
+    return running_lines(cache, language) if kind == RUNNING else short_lines(cache, language)
 
 
 def mixed(texts):
@@ -105,7 +171,7 @@ def mixed(texts):
 
 def encoded(line, codec):
     """The line in the encoding; nothing where it has characters that the encoding has not, or has otherwise."""
-    if codec in ("cp932", "euc_jp", "iso2022_jp", "big5") and APART.search(line):
+    if codec in ("cp932", "euc_jp", "iso2022_jp", "big5", "gbk") and APART.search(line):
         return b""
     try:
         line_bytes = line.encode(codec)
@@ -116,9 +182,12 @@ def encoded(line, codec):
 
 def block(cache, corpus):
     """The text of a corpus, once."""
-    texts = [lines(cache, language) for language in corpus.languages]
+    languages = [language for language in corpus.languages if corpus.kind == RUNNING or language != "el"]
+    texts = [lines(cache, language, corpus.kind) for language in languages]
     text = mixed(texts) if len(texts) > 1 else texts[0]
     made = b"".join(encoded(line, corpus.codec) for line in text)
+    if corpus.way != "decode":
+        made = made.decode(corpus.codec).encode("utf-8" if corpus.way == "encode" else "utf-16-le")
     if len(made) < 100_000:
         raise SystemExit(f"bench: too little text for {corpus.title}: {len(made)} bytes")
     return made
@@ -134,6 +203,8 @@ def path(cache, corpus, mib):
     """The file of a corpus, which is made where it isn't there: whole blocks, up to so many MiB and no less."""
     if not corpus.languages:
         mib = min(mib, RANDOM_MIB)
+    elif corpus.way != "decode":
+        mib = min(mib, ENCODED_MIB)
     file_path = f"{cache}/{corpus.name}-{mib}"
     if not os.path.exists(file_path):
         size = mib << 20

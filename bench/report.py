@@ -1,14 +1,15 @@
-"""The table and the picture that scripts/bench writes of what it has measured."""
+"""The tables and the pictures that scripts/bench writes of what it has measured."""
 
 BEGIN = "<!-- scripts/bench writes from here -->"
 END = "<!-- to here -->"
 
-TITLE = "How many times as fast as the crate encoding_rs recode is"
-PICTURE = f"![{TITLE}, for each text](speed.svg)"
+DECODING = "How many times as fast as the crate encoding_rs recode decodes"
+ENCODING = "How many times as fast as the best of encoding_rs, iconv and uconv recode encodes"
+PEERS = ("encoding_rs", "iconv", "uconv")
 
 BAR = 16
-LEFT = 210
-WIDTH = 760
+LEFT = 270
+WIDTH = 820
 STYLE = """<style>
   text { font: 12px sans-serif; fill: #1f2328; }
   .bar { fill: #2f6fb3; }
@@ -23,10 +24,11 @@ STYLE = """<style>
 
 
 class Row:
-    """A corpus with its size in bytes, and of each program that makes the same text its best time in seconds."""
+    """A corpus with its way and its size in bytes, and of each program that makes the same text its best time in seconds."""
 
-    def __init__(self, title, size, times):
+    def __init__(self, title, way, size, times):
         self.title = title
+        self.way = way
         self.size = size
         self.times = times
 
@@ -34,31 +36,53 @@ class Row:
         """MB of input a second, or nothing."""
         return f"{self.size / self.times[program] / 1e6:.0f}" if program in self.times else ""
 
-    def ratio(self, program):
-        """How many times as fast as that program recode is."""
-        return self.times[program] / self.times["recode"]
+    def ratio(self, programs):
+        """How many times as fast as the fastest of those programs recode is."""
+        return min(self.times[program] for program in programs if program in self.times) / self.times["recode"]
 
 
-def table(rows, programs):
-    """The table in Markdown: rates, and recode's by the crate's, and by its own before where that was measured."""
-    compared = [program for program in ("encoding_rs", "before") if program in programs]
-    heads = ["Text", *programs] + [f"recode by {program}" for program in compared]
+def table(rows, programs, peers):
+    """A table in Markdown: rates, and recode's by the fastest of the peers, and by its own before where that was measured."""
+    programs = [program for program in programs if any(program in row.times for row in rows)]
+    name = "encoding_rs" if len(peers) == 1 else "the best of the three"
+    compared = [(name, peers)] + ([("before", ("before",))] if "before" in programs else [])
+    heads = ["Text", *programs] + [f"recode by {head}" for head, _ in compared]
     made = ["| " + " | ".join(heads) + " |", "|---" * len(heads) + "|"]
     for row in rows:
         cells = [row.title] + [row.rate(program) for program in programs]
-        cells += [f"{row.ratio(program):.2f}" for program in compared]
+        cells += [f"{row.ratio(names):.2f}" for _, names in compared]
         made.append("| " + " | ".join(cells) + " |")
     return "\n".join(made)
 
 
-def picture(rows):
-    """Horizontal bars: how many times as fast as the crate recode is on each corpus."""
-    most = max(2, *(row.ratio("encoding_rs") for row in rows))
+def text(circumstances, rows):
+    """What was measured: the circumstances, and a table for each way with its picture."""
+    parts = [circumstances]
+    ways = {way: [row for row in rows if row.way == way] for way in ("decode", "encode", "units")}
+    if ways["decode"]:
+        programs = ["recode", "before", *PEERS, "cat"]
+        parts += ["### From each encoding to UTF-8", f"![{DECODING}, for each text](speed.svg)"]
+        parts.append(table(ways["decode"], programs, ("encoding_rs",)))
+        ascii_text = [row for row in ways["decode"] if "cat" in row.times and row.title.startswith("ASCII")]
+        if ascii_text:
+            parts.append(f"On ASCII recode has {ascii_text[0].ratio(('cat',)):.2f} times the speed of `cat`.")
+    if ways["encode"]:
+        parts += ["### From UTF-8 to each encoding", f"![{ENCODING}, for each text](speed-encoding.svg)"]
+        parts.append(table(ways["encode"], ["recode", "before", *PEERS], PEERS))
+    if ways["units"]:
+        parts += ["### From UTF-16 to each encoding", "`bench_utf16` is the column `recode` here."]
+        parts.append(table(ways["units"], ["recode", "encoding_rs"], ("encoding_rs",)))
+    return "\n\n".join(parts)
+
+
+def picture(title, rows, peers):
+    """Horizontal bars: how many times as fast as the fastest of the peers recode is on each corpus."""
+    most = max(2, *(row.ratio(peers) for row in rows))
     scale = (WIDTH - LEFT - 60) / most
     height = 40 + (BAR + 8) * len(rows)
     made = [
         f'<svg xmlns="http://www.w3.org/2000/svg" viewBox="0 0 {WIDTH} {height}" role="img">',
-        f"<title>{TITLE}</title>",
+        f"<title>{title}</title>",
         STYLE,
     ]
     for number in range(int(most) + 1):
@@ -68,11 +92,19 @@ def picture(rows):
         made.append(f'<text x="{x:.1f}" y="16" text-anchor="middle">{number}</text>')
     for number, row in enumerate(rows):
         y = 30 + (BAR + 8) * number
-        length = scale * row.ratio("encoding_rs")
+        length = scale * row.ratio(peers)
         made.append(f'<text x="{LEFT - 8}" y="{y + 12}" text-anchor="end">{row.title}</text>')
         made.append(f'<rect class="bar" x="{LEFT}" y="{y}" width="{length:.1f}" height="{BAR}"/>')
-        made.append(f'<text x="{LEFT + length + 6:.1f}" y="{y + 12}">{row.ratio("encoding_rs"):.2f}</text>')
+        made.append(f'<text x="{LEFT + length + 6:.1f}" y="{y + 12}">{row.ratio(peers):.2f}</text>')
     return "\n".join(made + ["</svg>", ""])
+
+
+def draw(folder, rows):
+    """Writes the pictures."""
+    for name, way, title, peers in (
+            ("speed", "decode", DECODING, ("encoding_rs",)), ("speed-encoding", "encode", ENCODING, PEERS)):
+        with open(f"{folder}/{name}.svg", "w", encoding="utf-8") as file:
+            file.write(picture(title, [row for row in rows if row.way == way], peers))
 
 
 def put_between_marks(path, text):

@@ -1,7 +1,8 @@
-//! `peer FROM`: standard input from an encoding to UTF-8, as `recode FROM utf-8` does it, by the Rust crate
-//! encoding_rs. It has the same buffers: it reads 64 KiB at a time, decodes into 64 KiB, and writes what each call has
-//! made. The status is 0, 1 where something was malformed, and 2 where the label is unknown.
-use encoding_rs::{CoderResult, Encoding};
+//! `peer FROM TO`: recodes standard input as `recode FROM TO` does, by the Rust crate encoding_rs. `peer --utf16 TO`: encodes standard
+//! input, code units of UTF-16LE, as `bench_utf16 TO` does. The buffers are those of `recode`: it reads 64 KiB at a time, decodes
+//! into 64 KiB, encodes into 64 KiB, and writes what each call has made. The status is 0, 1 where something was replaced, and 2
+//! where a label is unknown.
+use encoding_rs::{CoderResult, Decoder, Encoder, Encoding, UTF_8};
 use std::fs::File;
 use std::io::{self, Read, Write};
 use std::os::fd::{AsFd, BorrowedFd};
@@ -15,11 +16,23 @@ fn unbuffered(stream: BorrowedFd<'_>) -> io::Result<File> {
     Ok(File::from(stream.try_clone_to_owned()?))
 }
 
-/// Decodes all that is read. Answers whether something was malformed.
-fn decode(encoding: &'static Encoding, mut reader: File, mut writer: File) -> io::Result<bool> {
-    let mut input = vec![0; BUFFER];
-    let mut output = vec![0; BUFFER];
-    let mut decoder = encoding.new_decoder();
+/// Encodes a text and writes its bytes. Returns whether a character was unmappable.
+fn encode(encoder: &mut Encoder, mut text: &str, last: bool, bytes: &mut [u8], writer: &mut File) -> io::Result<bool> {
+    let mut replaced = false;
+    loop {
+        let (result, read, written, more) = encoder.encode_from_utf8(text, bytes, last);
+        replaced |= more;
+        writer.write_all(&bytes[..written])?;
+        text = &text[read..];
+        if result == CoderResult::InputEmpty {
+            return Ok(replaced);
+        }
+    }
+}
+
+/// Decodes all that is read, to UTF-8.
+fn decode_all(decoder: &mut Decoder, mut reader: File, mut writer: File) -> io::Result<bool> {
+    let (mut input, mut output) = (vec![0; BUFFER], vec![0; BUFFER]);
     let mut replaced = false;
     loop {
         let count = reader.read(&mut input)?;
@@ -39,12 +52,73 @@ fn decode(encoding: &'static Encoding, mut reader: File, mut writer: File) -> io
     }
 }
 
+/// Decodes all that is read, and encodes its text.
+fn recode_all(decoder: &mut Decoder, encoder: &mut Encoder, mut reader: File, mut writer: File) -> io::Result<bool> {
+    let (mut input, mut bytes) = (vec![0; BUFFER], vec![0; BUFFER]);
+    let mut buffer = "\0".repeat(BUFFER);
+    let mut replaced = false;
+    loop {
+        let count = reader.read(&mut input)?;
+        let mut rest = &input[..count];
+        loop {
+            let (result, read, written, more) = decoder.decode_to_str(rest, &mut buffer, count == 0);
+            let last = count == 0 && result == CoderResult::InputEmpty;
+            replaced |= more | encode(encoder, &buffer[..written], last, &mut bytes, &mut writer)?;
+            rest = &rest[read..];
+            if result == CoderResult::InputEmpty {
+                break;
+            }
+        }
+        if count == 0 {
+            return Ok(replaced);
+        }
+    }
+}
+
+/// Encodes all code units of UTF-16LE that are read.
+fn encode_units(encoder: &mut Encoder, mut reader: File, mut writer: File) -> io::Result<bool> {
+    let (mut input, mut bytes) = (vec![0; BUFFER], vec![0; BUFFER]);
+    let mut units = vec![0; BUFFER / 2];
+    let mut replaced = false;
+    loop {
+        let count = reader.read(&mut input)?;
+        for (unit, pair) in units.iter_mut().zip(input[..count].chunks_exact(2)) {
+            *unit = u16::from_le_bytes([pair[0], pair[1]]);
+        }
+        let mut rest = &units[..count / 2];
+        loop {
+            let (result, read, written, more) = encoder.encode_from_utf16(rest, &mut bytes, count == 0);
+            replaced |= more;
+            writer.write_all(&bytes[..written])?;
+            rest = &rest[read..];
+            if result == CoderResult::InputEmpty {
+                break;
+            }
+        }
+        if count == 0 {
+            return Ok(replaced);
+        }
+    }
+}
+
 fn main() -> io::Result<ExitCode> {
-    let label = std::env::args().nth(1).unwrap_or_default();
-    let Some(encoding) = Encoding::for_label_no_replacement(label.as_bytes()) else {
+    let [from, to] = [1, 2].map(|place| std::env::args().nth(place).unwrap_or_default());
+    let Some(to) = Encoding::for_label_no_replacement(to.as_bytes()).map(Encoding::output_encoding) else {
         return Ok(ExitCode::from(2));
     };
     let reader = unbuffered(io::stdin().as_fd())?;
     let writer = unbuffered(io::stdout().as_fd())?;
-    Ok(ExitCode::from(u8::from(decode(encoding, reader, writer)?)))
+    if from == "--utf16" {
+        return Ok(ExitCode::from(u8::from(encode_units(&mut to.new_encoder(), reader, writer)?)));
+    }
+    let Some(from) = Encoding::for_label_no_replacement(from.as_bytes()) else {
+        return Ok(ExitCode::from(2));
+    };
+    let mut decoder = from.new_decoder();
+    let replaced = if to == UTF_8 {
+        decode_all(&mut decoder, reader, writer)?
+    } else {
+        recode_all(&mut decoder, &mut to.new_encoder(), reader, writer)?
+    };
+    Ok(ExitCode::from(u8::from(replaced)))
 }
