@@ -185,7 +185,10 @@ def block(cache, corpus):
     languages = [language for language in corpus.languages if corpus.kind == RUNNING or language != "el"]
     texts = [lines(cache, language, corpus.kind) for language in languages]
     text = mixed(texts) if len(texts) > 1 else texts[0]
-    made = b"".join(encoded(line, corpus.codec) for line in text)
+    parts = [encoded(line, corpus.codec) for line in text]
+    if corpus.way != "decode" and corpus.codec == "euc_jp":
+        parts = [part for part in parts if b"\x8F" not in part]  # of JIS X 0212, which is decoded alone
+    made = b"".join(parts)
     if corpus.way != "decode":
         made = made.decode(corpus.codec).encode("utf-8" if corpus.way == "encode" else "utf-16-le")
     if len(made) < 100_000:
