@@ -69,6 +69,6 @@ or_utf_8 (Some rule) = rule
 
 -- The rule by which a text is written where this encoding is asked for and these characters are barred: its own, or UTF-8's if it
 -- has no encoder (4.3, "get an output encoding"). Its `bytes` says which characters are mappable: those that have bytes by the rules
--- of the encoding, and stand neither in the list nor in the constant list of the encoding (`always_barred`).
+-- of the encoding, and don't stand in the list.
 abbrev pub output_rule : List ℕ → Encoding → EncoderRule
 output_rule b e = barring b (or_utf_8 (encoder_rule (codec_by_id e.id)))
