@@ -1,9 +1,9 @@
 """Real text in each encoding that scripts/bench measures, made of what Debian packages.
 
-There are two kinds. Running text is Debian's installation guide in its languages, and the Debian Reference in traditional Chinese,
-line by line in order. Short strings are the translations of message catalogs and the lines of manual pages, shuffled. A corpus has
-the lines of the text that its encoding has, again and again up to its size. The packages are downloaded and unpacked beside
-the corpora, and not installed.
+There are two kinds. Running text is Debian's installation guide in its languages, and the Debian Reference in
+traditional Chinese, line by line in order. Short strings are the translations of message catalogs and the lines of
+manual pages, shuffled. A corpus has the lines of the text that its encoding has, again and again up to its size. The
+packages are downloaded and unpacked beside the corpora, and not installed.
 """
 
 import gettext
@@ -19,7 +19,10 @@ REFERENCE = "debian-reference-zh-tw"
 
 # Where message catalogs and manual pages are from.
 CATALOGS = ["coreutils", "dpkg", "apt", "bash", "tar", "util-linux-locales", "gnupg-l10n", "aptitude-common"]
-MANUALS = {"en": "manpages", "fr": "manpages-fr", "ru": "manpages-ru", "ja": "manpages-ja", "zh_CN": "manpages-zh", "zh_TW": "manpages-zh"}
+MANUALS = {
+    "en": "manpages", "fr": "manpages-fr", "ru": "manpages-ru", "ja": "manpages-ja",
+    "zh_CN": "manpages-zh", "zh_TW": "manpages-zh",
+}
 RUNNING = "running text"
 SHORT = "short strings"
 
@@ -142,8 +145,7 @@ def manual_lines(folder, language):
 
 
 def short_lines(cache, language):
-    """Messages and lines of manual pages, each once, in another order: with a quarter of letters beyond ASCII but for English and
-    French."""
+    """Messages and manual lines, each once, shuffled. But in English and French a quarter of a line is beyond ASCII."""
     found = {line for package in CATALOGS for line in messages(unpacked(cache, package)[0], language)}
     if language in MANUALS:
         found.update(manual_lines(unpacked(cache, MANUALS[language])[0], language))

@@ -1,4 +1,4 @@
-"""The tables and the pictures that scripts/bench writes of what it has measured."""
+"""The tables and the pictures of the measurements of scripts/bench."""
 
 BEGIN = "<!-- scripts/bench writes from here -->"
 END = "<!-- to here -->"
@@ -24,7 +24,7 @@ STYLE = """<style>
 
 
 class Row:
-    """A corpus with its way and its size in bytes, and of each program that makes the same text its best time in seconds."""
+    """A corpus: its way, its size in bytes, and the best time in seconds of each program that writes the same."""
 
     def __init__(self, title, way, size, times):
         self.title = title
@@ -42,7 +42,7 @@ class Row:
 
 
 def table(rows, programs, peers):
-    """A table in Markdown: rates, and recode's by the fastest of the peers, and by its own before where that was measured."""
+    """A table in Markdown: rates, and that of recode by the fastest peer and, if measured, by its own before."""
     programs = [program for program in programs if any(program in row.times for row in rows)]
     name = "encoding_rs" if len(peers) == 1 else "the best of the three"
     compared = [(name, peers)] + ([("before", ("before",))] if "before" in programs else [])
@@ -56,7 +56,7 @@ def table(rows, programs, peers):
 
 
 def text(circumstances, rows):
-    """What was measured: the circumstances, and a table for each way with its picture."""
+    """The circumstances of the measurement, and a table for each way with its picture."""
     parts = [circumstances]
     ways = {way: [row for row in rows if row.way == way] for way in ("decode", "encode", "units")}
     if ways["decode"]:

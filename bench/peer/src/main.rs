@@ -1,7 +1,7 @@
-//! `peer FROM TO`: recodes standard input as `recode FROM TO` does, by the Rust crate encoding_rs. `peer --utf16 TO`: encodes standard
-//! input, code units of UTF-16LE, as `bench_utf16 TO` does. The buffers are those of `recode`: it reads 64 KiB at a time, decodes
-//! into 64 KiB, encodes into 64 KiB, and writes what each call has made. The status is 0, 1 where something was replaced, and 2
-//! where a label is unknown.
+//! `peer FROM TO`: recodes standard input as `recode FROM TO` does, by the Rust crate encoding_rs. `peer --utf16 TO`:
+//! encodes standard input, code units of UTF-16LE, as `bench_utf16 TO` does. The buffers are those of `recode`: it
+//! reads 64 KiB at a time, decodes into 64 KiB, encodes into 64 KiB, and writes the output of each call. The status
+//! is 0, 1 where something was replaced, and 2 where a label is unknown.
 use encoding_rs::{CoderResult, Decoder, Encoder, Encoding, UTF_8};
 use std::fs::File;
 use std::io::{self, Read, Write};
@@ -16,14 +16,22 @@ fn unbuffered(stream: BorrowedFd<'_>) -> io::Result<File> {
     Ok(File::from(stream.try_clone_to_owned()?))
 }
 
-/// Encodes a text and writes its bytes. Returns whether a character was unmappable.
-fn encode(encoder: &mut Encoder, mut text: &str, last: bool, bytes: &mut [u8], writer: &mut File) -> io::Result<bool> {
-    let mut replaced = false;
+/// The outcome of a call: the result, the units read and written, and whether something was replaced.
+type Outcome = (CoderResult, usize, usize, bool);
+
+/// Calls from the unit that is unread on, as often as it takes, and writes the output of each call. Returns whether
+/// something was replaced.
+fn write_all(
+    output: &mut [u8],
+    writer: &mut File,
+    mut call: impl FnMut(usize, &mut [u8]) -> Outcome,
+) -> io::Result<bool> {
+    let (mut at, mut replaced) = (0, false);
     loop {
-        let (result, read, written, more) = encoder.encode_from_utf8(text, bytes, last);
+        let (result, read, written, more) = call(at, output);
+        writer.write_all(&output[..written])?;
+        at += read;
         replaced |= more;
-        writer.write_all(&bytes[..written])?;
-        text = &text[read..];
         if result == CoderResult::InputEmpty {
             return Ok(replaced);
         }
@@ -36,16 +44,9 @@ fn decode_all(decoder: &mut Decoder, mut reader: File, mut writer: File) -> io::
     let mut replaced = false;
     loop {
         let count = reader.read(&mut input)?;
-        let mut rest = &input[..count];
-        loop {
-            let (result, read, written, more) = decoder.decode_to_utf8(rest, &mut output, count == 0);
-            replaced |= more;
-            writer.write_all(&output[..written])?;
-            rest = &rest[read..];
-            if result == CoderResult::InputEmpty {
-                break;
-            }
-        }
+        replaced |= write_all(&mut output, &mut writer, |at, out| {
+            decoder.decode_to_utf8(&input[at..count], out, count == 0)
+        })?;
         if count == 0 {
             return Ok(replaced);
         }
@@ -62,8 +63,9 @@ fn recode_all(decoder: &mut Decoder, encoder: &mut Encoder, mut reader: File, mu
         let mut rest = &input[..count];
         loop {
             let (result, read, written, more) = decoder.decode_to_str(rest, &mut buffer, count == 0);
-            let last = count == 0 && result == CoderResult::InputEmpty;
-            replaced |= more | encode(encoder, &buffer[..written], last, &mut bytes, &mut writer)?;
+            let (text, last) = (&buffer[..written], count == 0 && result == CoderResult::InputEmpty);
+            replaced |= more;
+            replaced |= write_all(&mut bytes, &mut writer, |at, out| encoder.encode_from_utf8(&text[at..], out, last))?;
             rest = &rest[read..];
             if result == CoderResult::InputEmpty {
                 break;
@@ -85,16 +87,10 @@ fn encode_units(encoder: &mut Encoder, mut reader: File, mut writer: File) -> io
         for (unit, pair) in units.iter_mut().zip(input[..count].chunks_exact(2)) {
             *unit = u16::from_le_bytes([pair[0], pair[1]]);
         }
-        let mut rest = &units[..count / 2];
-        loop {
-            let (result, read, written, more) = encoder.encode_from_utf16(rest, &mut bytes, count == 0);
-            replaced |= more;
-            writer.write_all(&bytes[..written])?;
-            rest = &rest[read..];
-            if result == CoderResult::InputEmpty {
-                break;
-            }
-        }
+        let text = &units[..count / 2];
+        replaced |= write_all(&mut bytes, &mut writer, |at, out| {
+            encoder.encode_from_utf16(&text[at..], out, count == 0)
+        })?;
         if count == 0 {
             return Ok(replaced);
         }

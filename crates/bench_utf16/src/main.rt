@@ -1,6 +1,6 @@
-//! Encodes UTF-16 for scripts/bench: `bench_utf16 LABEL` encodes standard input, code units of UTF-16LE, with decimal references for
-//! characters that the encoding doesn't have. The status is 0 where nothing was replaced, 1 where something was, 2 where the
-//! argument is wrong, and 3 after an I/O error or where a read ends within a code unit.
+//! Encodes UTF-16 for scripts/bench: `bench_utf16 LABEL` encodes standard input, code units of UTF-16LE, with decimal
+//! references for characters that the encoding doesn't have. The status is 0 where nothing was replaced, 1 where
+//! something was, 2 where the argument is wrong, and 3 after an I/O error or where a read ends within a code unit.
 #![tactic(auto)]
 
 ghost use Rattle.std.specs.Prelude.{◌≤◌, length};
@@ -27,7 +27,8 @@ fn units_of(bytes: &[u8], units: &mut [u16]) -> usize
     count
 }
 
-/// Encodes code units, and writes their bytes in as many pieces as it takes. Returns whether a character was unmappable.
+/// Encodes code units, and writes their bytes in as many pieces as it takes. Returns whether a character was
+/// unmappable.
 fn encode<W: Write>(
     encoder: &mut Encoder,
     units: &[u16],

@@ -23,7 +23,8 @@ variant_state (Big5 e) = stateless_state (except e.repertoire.barred.now big5_by
 variant_state (EucKr e) = stateless_state (except e.repertoire.barred.now euc_kr_bytes)
 variant_state (ShiftJis e) = stateless_state (except e.repertoire.barred.now shift_jis_bytes)
 variant_state (EucJp e) = stateless_state (except e.repertoire.barred.now euc_jp_bytes)
-variant_state (Gb18030 e) = stateless_state (except e.repertoire.barred.now (gb18030_bytes e.repertoire.repertoire.is_gbk))
+variant_state (Gb18030 e) = stateless_state (except e.repertoire.barred.now
+    (gb18030_bytes e.repertoire.repertoire.is_gbk))
 variant_state (XUserDefined e) = stateless_state (except e.repertoire.barred.now x_user_defined_bytes)
 variant_state (Iso2022Jp e) = iso_2022_jp_state e.barred.now e.plain.set
 

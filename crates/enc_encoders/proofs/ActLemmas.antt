@@ -7,7 +7,8 @@ use Rattle.enc_encoders.specs.EncoderRule.{EncoderRule, RawState, is_pending}
 use Rattle.enc_encoders.specs.Text.{escape}
 use Rattle.enc_encoders.specs.Steps.{Step, steps_of, char_step, escape_step, first_written, last_step}
 use Rattle.enc_units.specs.Bytes.{bytes_of}
-use Rattle.enc_encoders.specs.CharLaw.{Comes, Acts, unless_mapped, bytes_in_all, AreBytesOf, char_taken, escape_taken, IsEscapeAtEnd}
+use Rattle.enc_encoders.specs.CharLaw.{Comes, Acts, unless_mapped, bytes_in_all, AreBytesOf, char_taken, escape_taken}
+use Rattle.enc_encoders.specs.CharLaw.{IsEscapeAtEnd}
 
 -- what is found for a character makes its step
 pub step_found : (e : EncoderRule) (set : CharacterSet) (c reported : ℕ) (wanted : Option (List ℕ)) (found : Option Bytes) (b : Bytes) → AreBytesOf wanted found → bytes_of b ≡ bytes_in_all found

@@ -1,5 +1,6 @@
 -- Encodings from which characters are barred keep their laws.
-use Rattle.std.proofs.Common.{◌≡◌, ℕ, ◌<◌, ◌≤◌, Bool, true, false, ◌==◌, ◌||◌, ◌&&◌, nat_le, Option, None, List, [], ◌∷◌, length, refl, ap, ◌∙◌, sym, subst, arith, eqb-true, if◌then◌else◌}
+use Rattle.std.proofs.Common.{◌≡◌, ℕ, ◌<◌, ◌≤◌, Bool, true, false, ◌==◌, ◌||◌, ◌&&◌, nat_le, Option, None, List, []}
+use Rattle.std.proofs.Common.{◌∷◌, length, refl, ap, ◌∙◌, sym, subst, arith, eqb-true, if◌then◌else◌}
 use Rattle.std.proofs.lemmas.Bool.Decides.{nat_tests}
 use Rattle.enc_encoders.specs.declared.byte_lengths.ByteLengths.{ByteLengths}
 use Rattle.enc_encoders.specs.declared.character_set.CharacterSet.TheVariants.{Ascii}
@@ -88,8 +89,10 @@ pub none_barred : (b : List ℕ) → true ≡ (length b == 0) → b ≡ []
 none_barred [] h = refl
 none_barred (x ∷ b) h = absurd (omega (arith, eqb-true (length (x ∷ b)) 0 (sym h)))
 
-pub unlisted : (P : RawState → RawState → Type 0) (f f' h : ℕ → Option (List ℕ)) (b : List ℕ) → b ≡ [] → f ≡ f' → stateless h ≡ stateless f
+pub unlisted : (P : RawState → RawState → Type 0) (f f' h : ℕ → Option (List ℕ)) (b : List ℕ) → b ≡ [] → f ≡ f'
+    → stateless h ≡ stateless f
     → P (stateless_state f) (stateless_state h) → P (stateless_state (except b f')) (stateless_state (except b f'))
 unlisted P f f' h b e q r c =
     subst (λ b. P (stateless_state (except b f')) (stateless_state (except b f'))) (sym e)
-    (subst (λ f. P (stateless_state f) (stateless_state f)) q (subst (λ r. P (stateless_state f) (record { rule = r; set = Ascii })) r c))
+    (subst (λ f. P (stateless_state f) (stateless_state f)) q (subst (λ r. P (stateless_state f)
+    (record { rule = r; set = Ascii })) r c))

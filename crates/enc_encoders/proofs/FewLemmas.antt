@@ -90,7 +90,8 @@ most_gb18030 is_gbk c =
     let n = most_gb18030_by is_gbk in
     up_to_ascii n (gb18030_other is_gbk) c (omega (arith, two))
     (up_to_if n (c == 0xE5E5) None _ (omega arith)
-    (up_to_if n (is_gbk && c == 0x20AC) (Some (0x80 ∷ [])) _ (omega (arith, two)) (most_two_or_four is_gbk c (gb18030_pointer c))))
+    (up_to_if n (is_gbk && c == 0x20AC) (Some (0x80 ∷ [])) _ (omega (arith, two)) (most_two_or_four is_gbk c
+    (gb18030_pointer c))))
 
 pub most_iso_2022_jp : (c : ℕ) → size (iso_2022_jp_bytes c) ≤ 2
 most_iso_2022_jp c =

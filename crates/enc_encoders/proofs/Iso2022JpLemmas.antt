@@ -1,5 +1,6 @@
 -- The sets of ISO-2022-JP, read backward and carried forward.
-use Rattle.std.proofs.Common.{◌≡◌, ℕ, ◌<◌, ◌≤◌, take, Bool, true, false, ◌==◌, ◌||◌, nat_lt, Option, Some, None, List, [], ◌∷◌, ◌++◌, reverse, refl, ap, ◌∙◌, sym, arith, if◌then◌else◌}
+use Rattle.std.proofs.Common.{◌≡◌, ℕ, ◌<◌, ◌≤◌, take, Bool, true, false, ◌==◌, ◌||◌, nat_lt, Option, Some, None, List}
+use Rattle.std.proofs.Common.{[], ◌∷◌, ◌++◌, reverse, refl, ap, ◌∙◌, sym, arith, if◌then◌else◌}
 use Rattle.std.proofs.lemmas.List.{reverse-append}
 use Rattle.std.proofs.lemmas.Bool.Decides.{nat_tests}
 use Rattle.enc_encoders.specs.declared.character_set.CharacterSet.{CharacterSet}
@@ -106,7 +107,13 @@ iso_2022_jp_is_lawful = record {
 }
 
 -- the first n of sixteen bytes, before one that isn't ASCII, a shift or an escape
-pub unshifted : (xs : List ℕ) (n a b c d : ℕ) → n ≤ a → n ≤ b → n ≤ c → n ≤ d → All (λ x. x < 0x80) (take a xs) → All (λ x. x ≢ 0x0E) (take b xs)
+pub unshifted : (xs : List ℕ) (n a b c d : ℕ) → n ≤ a → n ≤ b → n ≤ c → n ≤ d → All (λ x. x < 0x80) (take a xs)
+    → All (λ x. x ≢ 0x0E) (take b xs)
     → All (λ x. x ≢ 0x0F) (take c xs) → All (λ x. x ≢ 0x1B) (take d xs) → AreIso2022JpAscii (take n xs)
-unshifted xs n a b c d la lb lc ld ascii out in_ escape k e h =
-    (all_fewer (λ x. x < 0x80) n a xs la ascii k e h, all_fewer (λ x. x ≢ 0x0E) n b xs lb out k e h, all_fewer (λ x. x ≢ 0x0F) n c xs lc in_ k e h, all_fewer (λ x. x ≢ 0x1B) n d xs ld escape k e h)
+unshifted xs n a b c d la lb lc ld ascii out in_ escape k e h = (
+  all_fewer (λ x. x < 0x80) n a xs la ascii k e h,
+  all_fewer (λ x. x ≢ 0x0E) n b xs lb out k e h,
+  all_fewer
+      (λ x. x ≢ 0x0F) n c xs lc in_ k e h,
+  all_fewer (λ x. x ≢ 0x1B) n d xs ld escape k e h,
+)

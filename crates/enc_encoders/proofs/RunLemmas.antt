@@ -1,5 +1,6 @@
 -- A run of characters carries a call on.
-use Rattle.std.proofs.Common.{◌≡◌, ℕ, ◌+◌, ◌≤◌, Bool, false, None, List, [], ◌∷◌, ◌++◌, length, take, drop, refl, ap, ◌∙◌, sym, arith, append_assoc, length-append, take-append-drop}
+use Rattle.std.proofs.Common.{◌≡◌, ℕ, ◌+◌, ◌≤◌, Bool, false, None, List, [], ◌∷◌, ◌++◌, length, take, drop, refl, ap}
+use Rattle.std.proofs.Common.{◌∙◌, sym, arith, append_assoc, length-append, take-append-drop}
 use Rattle.std.proofs.Math.Seq.{take-append_seam}
 use Rattle.std.proofs.lemmas.Slice.{drop-append-drop}
 use Rattle.enc_units.specs.Pieces.{Piece, AllMean}
@@ -9,7 +10,8 @@ use Rattle.enc_encoders.specs.declared.character_set.CharacterSet.{CharacterSet}
 use Rattle.enc_encoders.specs.EncoderRule.{EncoderRule, RawState}
 use Rattle.enc_encoders.specs.Steps.{Step, steps_of, steps_from, chars_of, bytes_of_steps, any_reported, set_behind}
 use Rattle.enc_encoders.specs.Runs.{IsWrittenIn, WritesRun}
-use Rattle.enc_encoders.proofs.StepLemmas.{chars_of-append, bytes_of_steps-append, any_reported-append, set_behind-append}
+use Rattle.enc_encoders.proofs.StepLemmas.{chars_of-append, bytes_of_steps-append, any_reported-append}
+use Rattle.enc_encoders.proofs.StepLemmas.{set_behind-append}
 use Rattle.enc_encoders.proofs.Progress.{Writing, same_length}
 
 module _ (v w : RawState) (src rest rest' : List ℕ) (last : Bool) (before mid after : List ℕ) (written wrote : ℕ)
@@ -21,7 +23,8 @@ module _ (v w : RawState) (src rest rest' : List ℕ) (last : Bool) (before mid 
   front = rw (p.onto, p.count) (take-append_seam p.wrote (drop (length p.wrote) before))
 
   back : drop (written + wrote) mid ≡ drop (written + wrote) before
-  back = ap (drop (written + wrote)) p.onto ∙ drop-append-drop written before p.wrote (written + wrote) (omega arith) (sym p.count)
+  back = ap (drop (written + wrote)) p.onto ∙ drop-append-drop written before p.wrote (written + wrote)
+      (omega arith) (sym p.count)
 
   pub run_further : Writing v w src rest' last before after (written + wrote)
   run_further = record {
@@ -31,11 +34,14 @@ module _ (v w : RawState) (src rest rest' : List ℕ) (last : Bool) (before mid 
         ∙ sym (append_assoc p.wrote bytes (drop (written + wrote) before));
     progress = record {
       done = p.progress.done ++ r.taken;
-      reads = p.progress.reads ∙ ap (λ x. chars_of p.progress.done ++ x) r.reads ∙ sym (append_assoc (chars_of p.progress.done) (chars_of r.taken) rest')
+      reads = p.progress.reads ∙ ap (λ x. chars_of p.progress.done ++ x) r.reads
+          ∙ sym (append_assoc (chars_of p.progress.done) (chars_of r.taken) rest')
           ∙ ap (λ x. x ++ rest') (sym (chars_of-append p.progress.done r.taken));
-      remaining = p.progress.remaining ∙ ap (λ x. p.progress.done ++ x) (r.remaining last) ∙ sym (append_assoc p.progress.done r.taken (steps_from w last rest'));
+      remaining = p.progress.remaining ∙ ap (λ x. p.progress.done ++ x) (r.remaining last)
+          ∙ sym (append_assoc p.progress.done r.taken (steps_from w last rest'));
       rule = p.progress.rule;
-      set = r.set ∙ ap (λ s. set_behind s r.taken) p.progress.set ∙ sym (set_behind-append v.set p.progress.done r.taken);
+      set = r.set ∙ ap (λ s. set_behind s r.taken) p.progress.set
+          ∙ sym (set_behind-append v.set p.progress.done r.taken);
       bytes = ap (λ x. x ++ bytes) p.progress.bytes ∙ sym (bytes_of_steps-append p.progress.done r.taken);
       fits = rw (length-append p.wrote bytes)
           (omega (arith, r.fits, p.count, r.count, same_length (λ _. []) v w src rest last before mid written 0 0 p));
@@ -44,12 +50,19 @@ module _ (v w : RawState) (src rest rest' : List ℕ) (last : Bool) (before mid 
   }
 
 -- no steps are added
-pub no_more_steps : (w : RawState) (rest rest' : List ℕ) (last : Bool) (mid after : List ℕ) (at wrote : ℕ) → WritesRun w rest rest' mid after at wrote
+pub no_more_steps : (w : RawState) (rest rest' : List ℕ) (last : Bool) (mid after : List ℕ) (at wrote : ℕ)
+    → WritesRun w rest rest' mid after at wrote
     → length (steps_from w last rest') ≤ length (steps_from w last rest)
-no_more_steps w rest rest' last mid after at wrote r = omega (arith, ap length (r.remaining last), length-append r.taken (steps_from w last rest'))
+no_more_steps w rest rest' last mid after at wrote r = omega (
+  arith,
+  ap length
+      (r.remaining last),
+  length-append r.taken (steps_from w last rest'),
+)
 
 -- an empty run
-pub writes_none : (v : RawState) (src before : List ℕ) (at : ℕ) → at ≤ length before → WritesRun v src src before before at 0
+pub writes_none : (v : RawState) (src before : List ℕ) (at : ℕ) → at ≤ length before
+    → WritesRun v src src before before at 0
 writes_none v src before at h = record {
   taken = [];
   reads = refl;
@@ -89,9 +102,11 @@ module _ (e : EncoderRule) (s : CharacterSet) where
   unfolding steps_of
   their_steps last rest [] m = refl
   their_steps last rest (p ∷ ps) m =
-      rw (m.0.0, m.0.1) (ap (λ x. record { bytes = p.bytes; reads = p.char ∷ []; report = None; set = s } ∷ x) (their_steps last rest ps m.1))
+      rw (m.0.0, m.0.1) (ap (λ x. record { bytes = p.bytes; reads = p.char ∷ []; report = None; set = s } ∷ x)
+      (their_steps last rest ps m.1))
 
-  pub writes_in_set : (src rest before after : List ℕ) (at n : ℕ) → WritesMapped (IsWrittenIn e s) src rest before after at n
+  pub writes_in_set : (src rest before after : List ℕ) (at n : ℕ)
+      → WritesMapped (IsWrittenIn e s) src rest before after at n
       → WritesRun (record { rule = e; set = s }) src rest before after at n
   writes_in_set src rest before after at n w =
       let same = their_bytes w.pieces in

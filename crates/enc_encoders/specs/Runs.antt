@@ -8,8 +8,8 @@ use Rattle.enc_encoders.specs.Steps.{Step, steps_from, chars_of, bytes_of_steps,
 abbrev pub IsWrittenIn : EncoderRule → CharacterSet → List ℕ → ℕ → Type 0
 IsWrittenIn e s bytes c = (e.bytes c ≡ Some bytes) × (e.has s c ≡ true)
 
--- The steps of characters in front are taken, of which none is a report and after which the same set is designated: their bytes are
--- written in turn into a slice, from `at` on. What is before and after these bytes stays.
+-- The steps of the first characters are taken. None of them is a report, and the designated set stays. Their bytes
+-- are written in turn into a slice, from `at` on; bytes before and after them stay.
 pub record WritesRun (v : RawState) (src rest before after : List ℕ) (at wrote : ℕ) : Type 0 where
   pub taken : List Step
   pub reads : src ≡ chars_of taken ++ rest

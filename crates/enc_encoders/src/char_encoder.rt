@@ -13,8 +13,9 @@ pub trait CharEncoder: Copy {
     // its rule, and the designated character set
     ghost state: { Self → RawState };
 
-    /// Writes the bytes of mappable characters in front that the designated set has into a slice, from `from` on, and answers how
-    /// many bytes that are. The run need not be maximal: by default it is empty. Takes no memory.
+    /// Writes the bytes of the first characters into a slice, from `from` on, as long as they are mappable and the
+    /// designated set has them. Returns the number of bytes written. The run need not be maximal: by default it is
+    /// empty. Takes no memory.
     #[inline(always)]
     fn write_run<C: Chars>(self, src: &mut C, dst: &mut [u8], from: usize) -> usize
         requires { from ≤ length dst.old }

@@ -119,7 +119,11 @@ some_units (u ∷ us) h = omega arith
 -- a first unit beyond ASCII is of a character beyond ASCII
 
 high_lone : (u : ℕ) → 0x80 ≤ u → 0x80 ≤ lossy_unit u
-high_lone u h = elim (true_or_false (nat_le 0xD800 u && nat_lt u 0xE000)) [ inl e ↦ rw e (omega arith) | inr e ↦ rw e h ]
+high_lone u h = elim (true_or_false (nat_le 0xD800 u && nat_lt u 0xE000)) [
+  | inl e ↦ rw e
+      (omega arith)
+  | inr e ↦ rw e h
+]
 
 high_pair : (u v : ℕ) → IsPair u v → 0x80 ≤ surrogate_pair_char u v
 high_pair u v p = omega arith

@@ -1,5 +1,6 @@
 -- How many of sixteen lanes come before the first that passes a test.
-use Rattle.std.proofs.Common.{◌≡◌, ℕ, ◌-◌, ◌%◌, ◌^◌, ◌<◌, ◌≤◌, Bool, false, not, cond, eqb, List, map, length, get_or, replicate, take, ap, ◌∙◌, sym, subst, arith, length-take, inl, inr}
+use Rattle.std.proofs.Common.{◌≡◌, ℕ, ◌-◌, ◌%◌, ◌^◌, ◌<◌, ◌≤◌, Bool, false, not, cond, eqb, List, map, length, get_or}
+use Rattle.std.proofs.Common.{replicate, take, ap, ◌∙◌, sym, subst, arith, length-take, inl, inr}
 use Rattle.std.specs.Prelude.{All}
 use Rattle.std.specs.List.{prefix_len}
 use Rattle.std.proofs.lemmas.Bool.{not-true, not-false, eq-eqb, ne_eqb, cases_lt, true≢false}
@@ -31,24 +32,28 @@ module _ (p : ℕ → Bool) (xs : List ℕ) (long : length xs ≡ 16) (mask : �
     pub front_fails : All (λ x. p x ≡ false) (take n xs)
     front_fails k d h =
         let l : k < n = omega (arith, length-take n xs) in
-        subst (λ x. p x ≡ false) (sym (get_or-take n xs k d l)) (not-true _ (prefix_len_passes (λ x. not (p x)) xs k d (omega arith)))
+        subst (λ x. p x ≡ false) (sym (get_or-take n xs k d l)) (not-true _ (prefix_len_passes (λ x. not
+        (p x)) xs k d (omega arith)))
 
     pub front_is_some : p (get_or xs 0 0) ≡ false → 0 < n
     front_is_some h = elim (cases_lt 0 n) [
       | inl l ↦ l
       | inr l ↦
           let none : len ≡ 0 = omega arith in
-          let stops = subst (λ k. not (p (get_or xs k 0)) ≡ false) none (prefix_len_stops (λ x. not (p x)) xs 0 (omega arith)) in
+          let stops = subst (λ k. not (p (get_or xs k 0)) ≡ false) none (prefix_len_stops (λ x. not (p x)) xs 0
+          (omega arith)) in
           absurd (true≢false (sym (not-false _ stops) ∙ h))
     ]
 
--- the mask of a comparison of which the splat is the first side
+-- the mask of a comparison whose first side is a splat
 pub splat_mask : (w : Width) (t : ℕ → ℕ → Bool) (y : ℕ) (xs : List ℕ) → length xs ≡ 16
-    → mask_l (map (top (hbits w)) (zip2 (λ a b. cond (t a b) (2 ^ bits w - 1) 0) (replicate 16 y) xs)) % 2 ^ 64 ≡ mask_l (map (t y) xs)
+    → mask_l (map (top (hbits w)) (zip2 (λ a b. cond (t a b) (2 ^ bits w - 1) 0)
+    (replicate 16 y) xs)) % 2 ^ 64 ≡ mask_l (map (t y) xs)
 splat_mask w t y xs long =
-    ap (λ ms. mask_l ms % 2 ^ 64) (tops_compared w t (replicate 16 y) xs ∙ zip2_splat_left t y 16 xs long) ∙ mask_l-mod (map (t y) xs) 64 (omega (arith, length-map xs (t y)))
+    ap (λ ms. mask_l ms % 2 ^ 64) (tops_compared w t (replicate 16 y) xs ∙ zip2_splat_left t y 16 xs long)
+    ∙ mask_l-mod (map (t y) xs) 64 (omega (arith, length-map xs (t y)))
 
--- what holds of the first m elements holds of fewer
+-- a property of the first m elements holds of fewer
 pub all_fewer : (P : ℕ → Type 0) (n m : ℕ) (xs : List ℕ) → n ≤ m → All P (take m xs) → All P (take n xs)
 all_fewer P n m xs h a = subst (All P) (take-take n m xs h) (λ k d l.
     let short : k < n = omega (arith, length-take n (take m xs)) in

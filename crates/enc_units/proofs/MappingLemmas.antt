@@ -1,5 +1,8 @@
--- Characters of a run whose bytes are written in turn.
-use Rattle.std.proofs.Common.{◌≡◌, ℕ, zero, suc, ◌+◌, ◌<◌, ◌≤◌, Bool, cond, ltb, map, get_or, replicate, lt-ltb, le-ltb, length-take, drop-drop, drop-cons, List, [], ◌∷◌, ◌++◌, length, take, drop, refl, ap, ◌∙◌, sym, arith, append_assoc, append-nil, length-append, length-drop, take-append-drop}
+-- Runs of characters whose bytes are written in turn.
+use Rattle.std.proofs.Common.{◌≡◌, ℕ, zero, suc, ◌+◌, ◌<◌, ◌≤◌, Bool, cond, ltb, map, get_or, replicate, lt-ltb}
+use Rattle.std.proofs.Common.{le-ltb, length-take, drop-drop, drop-cons, List, [], ◌∷◌, ◌++◌, length, take, drop, refl}
+use Rattle.std.proofs.Common.{ap, ◌∙◌, sym, arith, append_assoc, append-nil, length-append, length-drop}
+use Rattle.std.proofs.Common.{take-append-drop}
 use Rattle.std.proofs.Math.ListN.{set}
 use Rattle.std.proofs.lemmas.List.{length-take-le, drop-append-le, take_all, set_split, set_at}
 use Rattle.std.proofs.lemmas.Simd.{map-map, put_chunk_is}
@@ -13,13 +16,15 @@ use Rattle.enc_units.proofs.Utf8Lanes.{below, top_flag}
 
 bytes_of-append : (ps qs : List Piece) → bytes_of (ps ++ qs) ≡ bytes_of ps ++ bytes_of qs
 bytes_of-append [] qs = refl
-bytes_of-append (p ∷ ps) qs = ap (λ x. p.bytes ++ x) (bytes_of-append ps qs) ∙ sym (append_assoc p.bytes (bytes_of ps) (bytes_of qs))
+bytes_of-append (p ∷ ps) qs = ap (λ x. p.bytes ++ x) (bytes_of-append ps qs)
+    ∙ sym (append_assoc p.bytes (bytes_of ps) (bytes_of qs))
 
 chars_of-append : (ps qs : List Piece) → chars_of (ps ++ qs) ≡ chars_of ps ++ chars_of qs
 chars_of-append [] qs = refl
 chars_of-append (p ∷ ps) qs = ap (λ x. p.char ∷ x) (chars_of-append ps qs)
 
-mean-append : (Means : List ℕ → ℕ → Type 0) (ps qs : List Piece) → AllMean Means ps → AllMean Means qs → AllMean Means (ps ++ qs)
+mean-append : (Means : List ℕ → ℕ → Type 0) (ps qs : List Piece) → AllMean Means ps → AllMean Means qs
+    → AllMean Means (ps ++ qs)
 mean-append Means [] qs m n = n
 mean-append Means (p ∷ ps) qs m n = (m.0, mean-append Means ps qs m.1 n)
 
@@ -34,28 +39,52 @@ module _ (Means : List ℕ → ℕ → Type 0) where
     onto = sym (take-append-drop at before) ∙ ap (λ n. take at before ++ drop n before) (omega arith);
   }
 
-  -- a run behind another
-  pub maps_both : (src between rest before mid after : List ℕ) (at n k : ℕ) → WritesMapped Means src between before mid at n → WritesMapped Means between rest mid after (at + n) k
+  -- a run after another
+  pub maps_both : (src between rest before mid after : List ℕ) (at n k : ℕ)
+      → WritesMapped Means src between before mid at n → WritesMapped Means between rest mid after (at + n) k
       → WritesMapped Means src rest before after at (n + k)
   maps_both src between rest before mid after at n k v w =
       let x = bytes_of v.pieces in
       let y = bytes_of w.pieces in
       let both = bytes_of-append v.pieces w.pieces in
       let first_long : length (take at before) ≡ at = length-take-le at before (omega (arith, v.fits)) in
-      let long : length mid ≡ length before = omega (arith, ap length v.onto, length-append (take at before) (x ++ drop (at + n) before), length-append x (drop (at + n) before), length-drop (at + n) before, v.count, v.fits, first_long) in
-      let mid_is : mid ≡ (take at before ++ x) ++ drop (at + n) before = v.onto ∙ sym (append_assoc (take at before) x (drop (at + n) before)) in
-      let count : length (take at before ++ x) ≡ at + n = omega (arith, length-append (take at before) x, first_long, v.count) in
+      let long : length mid ≡ length before = omega (
+        arith,
+        ap length v.onto,
+        length-append (take at before)
+            (x ++ drop (at + n) before),
+        length-append x (drop (at + n) before),
+        length-drop
+            (at + n) before,
+        v.count,
+        v.fits,
+        first_long,
+      ) in
+      let mid_is : mid ≡ (take at before ++ x) ++ drop (at + n) before = v.onto
+      ∙ sym (append_assoc (take at before) x (drop (at + n) before)) in
+      let count : length (take at before ++ x) ≡ at + n = omega (
+        arith,
+        length-append
+            (take at before) x,
+        first_long,
+        v.count,
+      ) in
       let front : take (at + n) mid ≡ take at before ++ x =
-      ap (λ z. take (at + n) z) mid_is ∙ ap (λ m. take m ((take at before ++ x) ++ drop (at + n) before)) (sym count) ∙ take-append_seam (take at before ++ x) (drop (at + n) before) in
+      ap (λ z. take (at + n) z) mid_is ∙ ap (λ m. take m ((take at before ++ x) ++ drop (at + n) before))
+      (sym count) ∙ take-append_seam (take at before ++ x) (drop (at + n) before) in
       let back : drop ((at + n) + k) mid ≡ drop ((at + n) + k) before =
-      ap (drop ((at + n) + k)) mid_is ∙ drop-append-drop (at + n) before (take at before ++ x) ((at + n) + k) (omega arith) count in
+      ap (drop ((at + n) + k)) mid_is ∙ drop-append-drop (at + n) before (take at before ++ x) ((at + n) + k)
+      (omega arith) count in
       record {
         pieces = v.pieces ++ w.pieces;
-        reads = v.reads ∙ ap (λ z. chars_of v.pieces ++ z) w.reads ∙ sym (append_assoc (chars_of v.pieces) (chars_of w.pieces) rest) ∙ ap (λ z. z ++ rest) (sym (chars_of-append v.pieces w.pieces));
+        reads = v.reads ∙ ap (λ z. chars_of v.pieces ++ z) w.reads
+            ∙ sym (append_assoc (chars_of v.pieces) (chars_of w.pieces) rest)
+            ∙ ap (λ z. z ++ rest) (sym (chars_of-append v.pieces w.pieces));
         mean = mean-append Means v.pieces w.pieces v.mean w.mean;
         count = omega (arith, ap length both, length-append x y, v.count, w.count);
         fits = omega (arith, w.fits, long);
-        onto = w.onto ∙ ap (λ z. z ++ (y ++ drop ((at + n) + k) mid)) front ∙ ap (λ z. (take at before ++ x) ++ (y ++ z)) back
+        onto = w.onto ∙ ap (λ z. z ++ (y ++ drop ((at + n) + k) mid)) front
+            ∙ ap (λ z. (take at before ++ x) ++ (y ++ z)) back
             ∙ append_assoc (take at before) x (y ++ drop ((at + n) + k) before)
             ∙ ap (λ z. take at before ++ z) (sym (append_assoc x y (drop ((at + n) + k) before)))
             ∙ ap (λ z. take at before ++ (z ++ drop ((at + n) + k) before)) (sym both)
@@ -63,7 +92,8 @@ module _ (Means : List ℕ → ℕ → Type 0) where
       }
 
   -- one character
-  pub maps_one : (src rest before after : List ℕ) (at n c : ℕ) (bytes : List ℕ) → src ≡ c ∷ rest → Means bytes c → n ≡ length bytes → at + n ≤ length before
+  pub maps_one : (src rest before after : List ℕ) (at n c : ℕ) (bytes : List ℕ) → src ≡ c ∷ rest → Means bytes c
+      → n ≡ length bytes → at + n ≤ length before
       → after ≡ take at before ++ (bytes ++ drop (at + n) before) → WritesMapped Means src rest before after at n
   maps_one src rest before after at n c bytes r m k f o = record {
     pieces = record { bytes = bytes; char = c } ∷ [];
@@ -91,8 +121,10 @@ module _ (Means : List ℕ → ℕ → Type 0) where
   they_mean [] a = tt
   they_mean (b ∷ bs) a = ((a 0 0 (omega arith)).1, they_mean bs (λ k d l. a (suc k) d (omega arith)))
 
-  pub maps_ascii : (src rest before after : List ℕ) (at n : ℕ) (bs : List ℕ) → AreWrittenAsThemselves Means bs → src ≡ bs ++ rest → n ≡ length bs
-      → at + n ≤ length before → after ≡ take at before ++ (bs ++ drop (at + n) before) → WritesMapped Means src rest before after at n
+  pub maps_ascii : (src rest before after : List ℕ) (at n : ℕ) (bs : List ℕ) → AreWrittenAsThemselves Means bs
+      → src ≡ bs ++ rest → n ≡ length bs
+      → at + n ≤ length before → after ≡ take at before ++ (bs ++ drop (at + n) before)
+      → WritesMapped Means src rest before after at n
   maps_ascii src rest before after at n bs a r k f o = record {
     pieces = themselves bs;
     reads = r ∙ ap (λ z. z ++ rest) (sym (their_chars bs));
@@ -102,8 +134,9 @@ module _ (Means : List ℕ → ℕ → Type 0) where
     onto = o ∙ ap (λ z. take at before ++ (z ++ drop (at + n) before)) (sym (their_bytes bs));
   }
 
-  -- what is written leaves the length as it was
-  pub same_length : (src rest before after : List ℕ) (at n : ℕ) → WritesMapped Means src rest before after at n → length after ≡ length before
+  -- the slice keeps its length
+  pub same_length : (src rest before after : List ℕ) (at n : ℕ) → WritesMapped Means src rest before after at n
+      → length after ≡ length before
   same_length src rest before after at n w =
       omega (
         arith,
@@ -116,20 +149,24 @@ module _ (Means : List ℕ → ℕ → Type 0) where
         length-drop (at + n) before,
       )
 
--- ---- sixteen lanes, of which the first are taken from elsewhere
+-- sixteen lanes, the first of them from another vector
 
-none_front : (i j : ℕ) (a b : List ℕ) → j ≤ i → length a ≡ length b → sel_l (map (λ k. ltb k j) (range_with_len i (length a))) a b ≡ b
+none_front : (i j : ℕ) (a b : List ℕ) → j ≤ i → length a ≡ length b
+    → sel_l (map (λ k. ltb k j) (range_with_len i (length a))) a b ≡ b
 none_front i j [] [] h e = refl
 none_front i j [] (y ∷ b) h e = absurd (omega arith)
 none_front i j (x ∷ a) [] h e = absurd (omega arith)
-none_front i j (x ∷ a) (y ∷ b) h e = rw (le-ltb i j h) (ap (λ z. y ∷ z) (none_front (i + 1) j a b (omega arith) (omega arith)))
+none_front i j (x ∷ a) (y ∷ b) h e = rw (le-ltb i j h) (ap (λ z. y ∷ z) (none_front (i + 1) j a b (omega arith)
+    (omega arith)))
 
-some_front : (i n j : ℕ) (a b : List ℕ) → j ≡ i + n → length a ≡ length b → sel_l (map (λ k. ltb k j) (range_with_len i (length a))) a b ≡ take n a ++ drop n b
+some_front : (i n j : ℕ) (a b : List ℕ) → j ≡ i + n → length a ≡ length b
+    → sel_l (map (λ k. ltb k j) (range_with_len i (length a))) a b ≡ take n a ++ drop n b
 some_front i zero j a b q e = none_front i j a b (omega arith) e
 some_front i (suc n) j [] [] q e = refl
 some_front i (suc n) j [] (y ∷ b) q e = absurd (omega arith)
 some_front i (suc n) j (x ∷ a) [] q e = absurd (omega arith)
-some_front i (suc n) j (x ∷ a) (y ∷ b) q e = rw (lt-ltb i j (omega arith)) (ap (λ z. x ∷ z) (some_front (i + 1) n j a b (omega arith) (omega arith)))
+some_front i (suc n) j (x ∷ a) (y ∷ b) q e = rw (lt-ltb i j (omega arith)) (ap (λ z. x ∷ z) (some_front
+    (i + 1) n j a b (omega arith) (omega arith)))
 
 abbrev lane_numbers : List ℕ
 lane_numbers = 0 ∷ 1 ∷ 2 ∷ 3 ∷ 4 ∷ 5 ∷ 6 ∷ 7 ∷ 8 ∷ 9 ∷ 10 ∷ 11 ∷ 12 ∷ 13 ∷ 14 ∷ 15 ∷ []
@@ -139,7 +176,8 @@ chosen n = map (top 7) (zip2 (λ a b. cond (ltb a b) 255 0) lane_numbers (replic
 
 chosen_is : (n : ℕ) → chosen n ≡ map (λ k. ltb k n) (range_with_len 0 16)
 chosen_is n =
-    ap (map (top 7)) (below n lane_numbers refl).is ∙ map-map (top 7) (λ k. cond (ltb (get_or lane_numbers k 0) n) 255 0) (range_with_len 0 16)
+    ap (map (top 7)) (below n lane_numbers refl).is ∙ map-map (top 7) (λ k. cond (ltb
+    (get_or lane_numbers k 0) n) 255 0) (range_with_len 0 16)
     ∙ ap (λ g. map g (range_with_len 0 16)) (λ i k. top_flag (ltb (get_or lane_numbers k 0) n) i)
 
 blended : (n : ℕ) (a b : List ℕ) → length a ≡ 16 → length b ≡ 16 → sel_l (chosen n) a b ≡ take n a ++ drop n b
@@ -155,16 +193,26 @@ stored_blend at n old a h k l =
     let b = take 16 d in
     let long : length b ≡ 16 = omega (arith, length-take 16 d, length-drop at old) in
     let ys = take n a ++ drop n b in
-    let ys_long : length ys ≡ 16 = omega (arith, length-append (take n a) (drop n b), length-take n a, length-drop n b, l, long) in
+    let ys_long : length ys ≡ 16 = omega (
+      arith,
+      length-append (take n a)
+          (drop n b),
+      length-take n a,
+      length-drop n b,
+      l,
+      long,
+    ) in
     let whole : drop n b ++ drop 16 d ≡ drop n d =
     sym (drop-append-le n b (drop 16 d) (omega arith)) ∙ ap (drop n) (take-append-drop 16 d) in
     ap (put_chunk at old) (blended n a b l long)
     ∙ put_chunk_is at old ys (omega arith)
     ∙ ap (λ m. take at old ++ (ys ++ drop m d)) ys_long
-    ∙ ap (λ z. take at old ++ z) (append_assoc (take n a) (drop n b) (drop 16 d) ∙ ap (λ z. take n a ++ z) (whole ∙ drop-drop n at old))
+    ∙ ap (λ z. take at old ++ z) (append_assoc (take n a) (drop n b) (drop 16 d) ∙ ap (λ z. take n a ++ z) (whole
+    ∙ drop-drop n at old))
 
 -- all sixteen
-pub stored_whole : (at : ℕ) (old a : List ℕ) → at + 16 ≤ length old → length a ≡ 16 → put_chunk at old a ≡ take at old ++ (take 16 a ++ drop (at + 16) old)
+pub stored_whole : (at : ℕ) (old a : List ℕ) → at + 16 ≤ length old → length a ≡ 16
+    → put_chunk at old a ≡ take at old ++ (take 16 a ++ drop (at + 16) old)
 stored_whole at old a h l =
     put_chunk_is at old a (omega arith)
     ∙ ap (λ m. take at old ++ (a ++ drop m (drop at old))) l
@@ -173,11 +221,13 @@ stored_whole at old a h l =
 
 -- one byte, and two
 
-pub put_one : (at : ℕ) (dst bs : List ℕ) (n : ℕ) → n ≡ 1 → 1 ≤ length bs → at < length dst → set dst at (get_or bs 0 0) ≡ take at dst ++ (take n bs ++ drop (at + 1) dst)
+pub put_one : (at : ℕ) (dst bs : List ℕ) (n : ℕ) → n ≡ 1 → 1 ≤ length bs → at < length dst
+    → set dst at (get_or bs 0 0) ≡ take at dst ++ (take n bs ++ drop (at + 1) dst)
 put_one at dst [] n e h l = absurd (omega arith)
 put_one at dst (b ∷ bs) n e h l =
     let next : suc at ≡ at + 1 = omega arith in
-    set_split dst at b l ∙ ap (λ m. take at dst ++ (b ∷ drop m dst)) next ∙ ap (λ k. take at dst ++ (take k (b ∷ bs) ++ drop (at + 1) dst)) (sym e)
+    set_split dst at b l ∙ ap (λ m. take at dst ++ (b ∷ drop m dst)) next
+    ∙ ap (λ k. take at dst ++ (take k (b ∷ bs) ++ drop (at + 1) dst)) (sym e)
 
 pub put_two : (at : ℕ) (dst bs : List ℕ) (n : ℕ) → n ≡ 2 → 2 ≤ length bs → at + 1 < length dst
     → set (set dst at (get_or bs 0 0)) (at + 1) (get_or bs 1 0) ≡ take at dst ++ (take n bs ++ drop (at + 2) dst)
@@ -190,7 +240,10 @@ put_two at dst (b ∷ c ∷ bs) n e h l =
     let after : suc (at + 1) ≡ at + 2 = omega arith in
     let long : length xs ≡ at + 1 = omega (arith, length-append (take at dst) (b ∷ []), length-take at dst) in
     let first : set dst at b ≡ xs ++ (get_or dst (at + 1) 0 ∷ ys) =
-    set_split dst at b (omega arith) ∙ ap (λ m. take at dst ++ (b ∷ drop m dst)) next ∙ ap (λ z. take at dst ++ (b ∷ z)) (drop-cons dst (at + 1) 0 l)
+    set_split dst at b (omega arith) ∙ ap (λ m. take at dst ++ (b ∷ drop m dst)) next
+    ∙ ap (λ z. take at dst ++ (b ∷ z)) (drop-cons dst (at + 1) 0 l)
     ∙ sym (append_assoc (take at dst) (b ∷ []) (get_or dst (at + 1) 0 ∷ ys)) in
-    ap (λ z. set z (at + 1) c) first ∙ set_at xs (get_or dst (at + 1) 0) ys c (at + 1) long ∙ append_assoc (take at dst) (b ∷ []) (c ∷ ys)
-    ∙ ap (λ m. take at dst ++ (b ∷ c ∷ drop m dst)) after ∙ ap (λ k. take at dst ++ (take k (b ∷ c ∷ bs) ++ drop (at + 2) dst)) (sym e)
+    ap (λ z. set z (at + 1) c) first ∙ set_at xs (get_or dst (at + 1) 0) ys c (at + 1) long
+    ∙ append_assoc (take at dst) (b ∷ []) (c ∷ ys)
+    ∙ ap (λ m. take at dst ++ (b ∷ c ∷ drop m dst)) after ∙ ap (λ k. take at dst ++ (take k (b ∷ c ∷ bs) ++ drop
+    (at + 2) dst)) (sym e)

@@ -1,5 +1,7 @@
 -- Runs of characters that are read from UTF-16.
-use Rattle.std.proofs.Common.{◌≡◌, ℕ, zero, suc, ◌+◌, ◌%◌, ◌<◌, ◌≤◌, false, List, [], ◌∷◌, ◌++◌, length, map, take, drop, refl, ap, ◌∙◌, sym, subst, arith, nat_le, nat_lt, ◌&&◌, length-take, take-append-drop}
+use Rattle.std.proofs.Common.{◌≡◌, ℕ, zero, suc, ◌+◌, ◌%◌, ◌<◌, ◌≤◌, false, List, [], ◌∷◌, ◌++◌, length, map, take}
+use Rattle.std.proofs.Common.{drop, refl, ap, ◌∙◌, sym, subst, arith, nat_le, nat_lt, ◌&&◌, length-take}
+use Rattle.std.proofs.Common.{take-append-drop}
 use Rattle.std.proofs.lemmas.Bool.Decides.{nat_tests}
 use Rattle.std.proofs.lemmas.List.{length-map, take-take}
 use Rattle.std.specs.Char.Utf16.{utf16_lossy_chars}
@@ -37,21 +39,26 @@ take_map (suc n) [] = refl
 take_map (suc n) (u ∷ us) = ap (λ x. (u % 0x80) ∷ x) (take_map n us)
 
 -- the ASCII in front of sixteen code units, as their lower bytes
-pub unit_lanes : (n m : ℕ) (us lanes : List ℕ) → 16 ≤ length us → n ≤ m → m ≤ 16 → lanes ≡ map (λ u. u % 0x80) (take 16 us) → AreAscii (take m (take 16 us))
+pub unit_lanes : (n m : ℕ) (us lanes : List ℕ) → 16 ≤ length us → n ≤ m → m ≤ 16
+    → lanes ≡ map (λ u. u % 0x80) (take 16 us) → AreAscii (take m (take 16 us))
     → HasFront utf16_lossy_chars Any us (take n lanes)
 unit_lanes n m us lanes h few most e a =
-    let ascii : AreAscii (take n us) = subst AreAscii (take-take n 16 us (omega arith)) (all_fewer (λ u. u < 0x80) n m (take 16 us) few a) in
+    let ascii : AreAscii (take n us) = subst AreAscii (take-take n 16 us (omega arith)) (all_fewer
+    (λ u. u < 0x80) n m (take 16 us) few a) in
     let same : take n lanes ≡ take n us =
-    ap (take n) e ∙ take_map n (take 16 us) ∙ ap (map (λ u. u % 0x80)) (take-take n 16 us (omega arith)) ∙ low_bytes (take n us) ascii in
+    ap (take n) e ∙ take_map n (take 16 us) ∙ ap (map (λ u. u % 0x80)) (take-take n 16 us (omega arith))
+    ∙ low_bytes (take n us) ascii in
     let long : length (take n lanes) ≡ n = omega (arith, ap length same, length-take n us) in
     record {
       within = omega (arith, long);
       ok = tt;
       chars = ap utf16_lossy_chars (sym (take-append-drop n us)) ∙ lossy_ascii (take n us) (drop n us) ascii
-          ∙ ap (λ z. z ++ utf16_lossy_chars (drop n us)) (sym same) ∙ ap (λ k. take n lanes ++ utf16_lossy_chars (drop k us)) (sym long);
+          ∙ ap (λ z. z ++ utf16_lossy_chars (drop n us)) (sym same)
+          ∙ ap (λ k. take n lanes ++ utf16_lossy_chars (drop k us)) (sym long);
     }
 
-pub low_lanes_long : (at : ℕ) (us lanes : List ℕ) → lanes ≡ map (λ u. u % 0x80) (take 16 (drop at us)) → at + 16 ≤ length us → length lanes ≡ 16
+pub low_lanes_long : (at : ℕ) (us lanes : List ℕ) → lanes ≡ map (λ u. u % 0x80) (take 16 (drop at us))
+    → at + 16 ≤ length us → length lanes ≡ 16
 low_lanes_long at us lanes e h = ap length e ∙ length-map (take 16 (drop at us)) (λ u. u % 0x80) ∙ sixteen at us h
 
 pub front_long : (n : ℕ) (lanes : List ℕ) → length lanes ≡ 16 → n ≤ 16 → length (take n lanes) ≡ n

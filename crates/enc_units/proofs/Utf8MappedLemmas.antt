@@ -1,5 +1,7 @@
 -- Runs of characters that are read from UTF-8.
-use Rattle.std.proofs.Common.{◌≡◌, ℕ, suc, ◌+◌, ◌*◌, ◌%◌, ◌<◌, ◌≤◌, true, List, [], ◌∷◌, ◌++◌, length, get_or, take, drop, refl, ap, ◌∙◌, sym, subst, arith, length-append, length-take, length-drop, take-append-drop, chars, IsUtf8, inl, inr}
+use Rattle.std.proofs.Common.{◌≡◌, ℕ, suc, ◌+◌, ◌*◌, ◌%◌, ◌<◌, ◌≤◌, true, List, [], ◌∷◌, ◌++◌, length, get_or, take}
+use Rattle.std.proofs.Common.{drop, refl, ap, ◌∙◌, sym, subst, arith, length-append, length-take, length-drop}
+use Rattle.std.proofs.Common.{take-append-drop, chars, IsUtf8, inl, inr}
 use Rattle.std.proofs.lemmas.Bool.{and_parts, cases_lt}
 use Rattle.std.proofs.lemmas.Bool.Decides.{nat_tests}
 use Rattle.std.proofs.lemmas.List.{get_or-drop, take-take}
@@ -25,7 +27,8 @@ front bs u h = by u.0 u.1.0 u.1.1
     by [] s e = absurd (omega (arith, ap length e))
     by (c ∷ cs) s e = record { c = c; rest = encode_utf8_all cs; is = sym e; scalar = (and_parts _ _ s).0 }
 
-at_front : (bs : List ℕ) (c : ℕ) (rest code : List ℕ) → bs ≡ encode_utf8 c ++ rest → encode_utf8 c ≡ code → (i d : ℕ) → get_or bs i d ≡ get_or (code ++ rest) i d
+at_front : (bs : List ℕ) (c : ℕ) (rest code : List ℕ) → bs ≡ encode_utf8 c ++ rest → encode_utf8 c ≡ code
+    → (i d : ℕ) → get_or bs i d ≡ get_or (code ++ rest) i d
 at_front bs c rest code e f i d = ap (λ x. get_or x i d) (e ∙ ap (λ x. x ++ rest) f)
 
 -- the first character, which is beyond ASCII, with n bytes
@@ -34,7 +37,8 @@ pub record IsFirst (bs : List ℕ) (c n : ℕ) : Type 0 where
   pub beyond : 0x80 ≤ c
   pub first : FirstOfUtf8 bs c n
 
-first_is : (bs : List ℕ) (c : ℕ) (rest code : List ℕ) → IsUtf8 bs → bs ≡ encode_utf8 c ++ rest → encode_utf8 c ≡ code → FirstOfUtf8 bs c (length code)
+first_is : (bs : List ℕ) (c : ℕ) (rest code : List ℕ) → IsUtf8 bs → bs ≡ encode_utf8 c ++ rest
+    → encode_utf8 c ≡ code → FirstOfUtf8 bs c (length code)
 first_is bs c rest code u e f =
     let is : bs ≡ code ++ rest = e ∙ ap (λ x. x ++ rest) f in
     let after : drop (length code) bs ≡ rest = ap (drop (length code)) is ∙ drop-append_seam code rest in
@@ -64,7 +68,8 @@ module _ (bs : List ℕ) (u : IsUtf8 bs) where
   split h low =
       let f = front bs u h in
       elim (cases_lt f.c 0x80) [
-        | inl one ↦ let e = at_front bs f.c f.rest (f.c ∷ []) f.is (encode_ascii f.c one) 0 0 in absurd (omega (arith, e))
+        | inl one ↦ let e = at_front bs f.c f.rest (f.c ∷ []) f.is (encode_ascii f.c one) 0 0 in absurd (omega
+            (arith, e))
         | inr more ↦ elim (cases_lt f.c 0x800) [
           | inl below ↦
               let code = utf8_two f.c more below in
@@ -83,7 +88,8 @@ module _ (bs : List ℕ) (u : IsUtf8 bs) where
                 let k = at_front bs f.c f.rest _ f.is code 2 0 in
                 record {
                   two = λ x. absurd (omega (arith, e));
-                  three = λ x y. equal f.c _ 3 f.scalar more (first_is bs f.c f.rest _ u f.is code) (omega (arith, e, g, k));
+                  three = λ x y. equal f.c _ 3 f.scalar more (first_is bs f.c f.rest _ u f.is code) (omega
+                      (arith, e, g, k));
                   four = λ x. absurd (omega (arith, e));
                 }
             | inr far ↦
@@ -96,14 +102,16 @@ module _ (bs : List ℕ) (u : IsUtf8 bs) where
                 record {
                   two = λ x. absurd (omega (arith, e));
                   three = λ x y. absurd (omega (arith, e));
-                  four = λ x. equal f.c _ 4 f.scalar more (first_is bs f.c f.rest _ u f.is code) (omega (arith, e, g, k, m));
+                  four = λ x. equal f.c _ 4 f.scalar more (first_is bs f.c f.rest _ u f.is code) (omega
+                      (arith, e, g, k, m));
                 }
           ]
         ]
       ]
 
 -- at a place of a slice
-module _ (src : List ℕ) (at : ℕ) (u : IsUtf8 (drop at src)) (h : at + 4 ≤ length src) (low : 0x80 ≤ get_or src at 0) where
+module _ (src : List ℕ) (at : ℕ) (u : IsUtf8 (drop at src)) (h : at + 4 ≤ length src)
+    (low : 0x80 ≤ get_or src at 0) where
   abbrev d : List ℕ
   d = drop at src
 
@@ -116,41 +124,53 @@ module _ (src : List ℕ) (at : ℕ) (u : IsUtf8 (drop at src)) (h : at + 4 ≤ 
   pub two_at : get_or src at 0 < 0xE0 → IsFirst d (get_or src at 0 % 32 * 64 + get_or src (at + 1) 0 % 64) 2
   two_at l =
       subst (λ x. IsFirst d (x % 32 * 64 + get_or src (at + 1) 0 % 64) 2) at_first
-      (subst (λ y. IsFirst d (get_or d 0 0 % 32 * 64 + y % 64) 2) (get_or-drop at src 1 0) (all.two (omega (arith, at_first))))
+      (subst (λ y. IsFirst d (get_or d 0 0 % 32 * 64 + y % 64) 2) (get_or-drop at src 1 0) (all.two (omega
+      (arith, at_first))))
 
   pub three_at : 0xE0 ≤ get_or src at 0 → get_or src at 0 < 0xF0
       → IsFirst d ((get_or src at 0 % 16 * 64 + get_or src (at + 1) 0 % 64) * 64 + get_or src (at + 2) 0 % 64) 3
   three_at l m =
       subst (λ x. IsFirst d ((x % 16 * 64 + get_or src (at + 1) 0 % 64) * 64 + get_or src (at + 2) 0 % 64) 3) at_first
-      (subst (λ y. IsFirst d ((get_or d 0 0 % 16 * 64 + y % 64) * 64 + get_or src (at + 2) 0 % 64) 3) (get_or-drop at src 1 0)
+      (subst (λ y. IsFirst d ((get_or d 0 0 % 16 * 64 + y % 64) * 64 + get_or src (at + 2) 0 % 64) 3)
+      (get_or-drop at src 1 0)
       (subst (λ z. IsFirst d ((get_or d 0 0 % 16 * 64 + get_or d 1 0 % 64) * 64 + z % 64) 3) (get_or-drop at src 2 0)
       (all.three (omega (arith, at_first)) (omega (arith, at_first)))))
 
   pub four_at : 0xF0 ≤ get_or src at 0
-      → IsFirst d (((get_or src at 0 % 8 * 64 + get_or src (at + 1) 0 % 64) * 64 + get_or src (at + 2) 0 % 64) * 64 + get_or src (at + 3) 0 % 64) 4
+      → IsFirst d (((get_or src at 0 % 8 * 64 + get_or src (at + 1) 0 % 64) * 64 + get_or src
+      (at + 2) 0 % 64) * 64 + get_or src (at + 3) 0 % 64) 4
   four_at l =
-      subst (λ x. IsFirst d (((x % 8 * 64 + get_or src (at + 1) 0 % 64) * 64 + get_or src (at + 2) 0 % 64) * 64 + get_or src (at + 3) 0 % 64) 4) at_first
-      (subst (λ y. IsFirst d (((get_or d 0 0 % 8 * 64 + y % 64) * 64 + get_or src (at + 2) 0 % 64) * 64 + get_or src (at + 3) 0 % 64) 4) (get_or-drop at src 1 0)
-      (subst (λ z. IsFirst d (((get_or d 0 0 % 8 * 64 + get_or d 1 0 % 64) * 64 + z % 64) * 64 + get_or src (at + 3) 0 % 64) 4) (get_or-drop at src 2 0)
-      (subst (λ w. IsFirst d (((get_or d 0 0 % 8 * 64 + get_or d 1 0 % 64) * 64 + get_or d 2 0 % 64) * 64 + w % 64) 4) (get_or-drop at src 3 0)
+      subst (λ x. IsFirst d (((x % 8 * 64 + get_or src (at + 1) 0 % 64) * 64 + get_or src
+      (at + 2) 0 % 64) * 64 + get_or src (at + 3) 0 % 64) 4) at_first
+      (subst (λ y. IsFirst d (((get_or d 0 0 % 8 * 64 + y % 64) * 64 + get_or src (at + 2) 0 % 64) * 64 + get_or src
+      (at + 3) 0 % 64) 4) (get_or-drop at src 1 0)
+      (subst (λ z. IsFirst d (((get_or d 0 0 % 8 * 64 + get_or d 1 0 % 64) * 64 + z % 64) * 64 + get_or src
+      (at + 3) 0 % 64) 4) (get_or-drop at src 2 0)
+      (subst (λ w. IsFirst d (((get_or d 0 0 % 8 * 64 + get_or d 1 0 % 64) * 64 + get_or d 2 0 % 64) * 64 + w % 64)
+      4) (get_or-drop at src 3 0)
       (all.four (omega (arith, at_first))))))
 
 -- ASCII in front
 
-ascii_first : (Means : List ℕ → ℕ → Type 0) (bs rest : List ℕ) → AreWrittenAsThemselves Means bs → IsUtf8 (bs ++ rest) → IsUtf8 rest × (chars (bs ++ rest) ≡ bs ++ chars rest)
+ascii_first : (Means : List ℕ → ℕ → Type 0) (bs rest : List ℕ) → AreWrittenAsThemselves Means bs
+    → IsUtf8 (bs ++ rest) → IsUtf8 rest × (chars (bs ++ rest) ≡ bs ++ chars rest)
 ascii_first Means [] rest a u = (u, refl)
 ascii_first Means (b ∷ bs) rest a u =
-    let e : b ∷ (bs ++ rest) ≡ encode_utf8 b ++ (bs ++ rest) = ap (λ x. x ++ (bs ++ rest)) (sym (encode_ascii b (a 0 0 (omega arith)).0)) in
-    let later = ascii_first Means bs rest (λ k d l. a (suc k) d (omega arith)) (IsUtf8-past_char (b ∷ (bs ++ rest)) (bs ++ rest) b u e) in
+    let e : b ∷ (bs ++ rest) ≡ encode_utf8 b ++ (bs ++ rest) = ap (λ x. x ++ (bs ++ rest)) (sym (encode_ascii b
+    (a 0 0 (omega arith)).0)) in
+    let later = ascii_first Means bs rest (λ k d l. a (suc k) d (omega arith)) (IsUtf8-past_char (b ∷ (bs ++ rest))
+    (bs ++ rest) b u e) in
     (later.0, chars_past_char (b ∷ (bs ++ rest)) (bs ++ rest) b u e ∙ ap (λ x. b ∷ x) later.1)
 
-ascii_in_front : (Means : List ℕ → ℕ → Type 0) (n : ℕ) (bs : List ℕ) → IsUtf8 bs → AreWrittenAsThemselves Means (take n bs) → IsUtf8 (drop n bs) × (chars bs ≡ take n bs ++ chars (drop n bs))
+ascii_in_front : (Means : List ℕ → ℕ → Type 0) (n : ℕ) (bs : List ℕ) → IsUtf8 bs
+    → AreWrittenAsThemselves Means (take n bs) → IsUtf8 (drop n bs) × (chars bs ≡ take n bs ++ chars (drop n bs))
 ascii_in_front Means n bs u a =
     let r = ascii_first Means (take n bs) (drop n bs) a (subst IsUtf8 (sym (take-append-drop n bs)) u) in
     (r.0, ap chars (sym (take-append-drop n bs)) ∙ r.1)
 
 -- the ASCII in front of sixteen lanes
-pub ascii_lanes : (Means : List ℕ → ℕ → Type 0) (n : ℕ) (bs lanes : List ℕ) → IsUtf8 bs → 16 ≤ length bs → n ≤ 16 → lanes ≡ take 16 bs → AreWrittenAsThemselves Means (take n lanes)
+pub ascii_lanes : (Means : List ℕ → ℕ → Type 0) (n : ℕ) (bs lanes : List ℕ) → IsUtf8 bs → 16 ≤ length bs → n ≤ 16
+    → lanes ≡ take 16 bs → AreWrittenAsThemselves Means (take n lanes)
     → HasFront chars IsUtf8 bs (take n lanes)
 ascii_lanes Means n bs lanes u h few e a =
     let same : take n lanes ≡ take n bs = ap (take n) e ∙ take-take n 16 bs few in
@@ -159,5 +179,6 @@ ascii_lanes Means n bs lanes u h few e a =
     record {
       within = omega (arith, long);
       ok = subst (λ k. IsUtf8 (drop k bs)) (sym long) f.0;
-      chars = f.1 ∙ ap (λ z. z ++ chars (drop n bs)) (sym same) ∙ ap (λ k. take n lanes ++ chars (drop k bs)) (sym long);
+      chars = f.1 ∙ ap (λ z. z ++ chars (drop n bs)) (sym same)
+          ∙ ap (λ k. take n lanes ++ chars (drop k bs)) (sym long);
     }

@@ -9,8 +9,8 @@ IsWrittenAsItself Means b = (b < 0x80) × Means (b ∷ []) b
 abbrev pub AreWrittenAsThemselves : (List ℕ → ℕ → Type 0) → List ℕ → Type 0
 AreWrittenAsThemselves Means = All (IsWrittenAsItself Means)
 
--- Characters in front are read from an input, and their bytes are written in turn into a slice, from `at` on. What is before and after
--- these bytes stays.
+-- The first characters of an input are read, and their bytes are written in turn into a slice, from `at` on. Bytes
+-- before and after them stay.
 pub record WritesMapped (Means : List ℕ → ℕ → Type 0) (src rest before after : List ℕ) (at n : ℕ) : Type 0 where
   pub pieces : List Piece
   pub reads : src ≡ chars_of pieces ++ rest

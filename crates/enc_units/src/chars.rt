@@ -28,8 +28,8 @@ pub trait Chars {
         requires { rest self.old ≢ [] }
         ensures { rest self.new ≡ drop 1 (rest self.old) };
 
-    /// Reads characters in front and writes their bytes into a slice, from `from` on, and answers how many bytes that are.
-    /// The run need not be maximal: it may be empty. Takes no memory.
+    /// Reads the first characters and writes their bytes into a slice, from `from` on. Returns the number of bytes
+    /// written. The run need not be maximal: it may be empty. Takes no memory.
     fn write_mapped<M: Mapping>(&mut self, mapping: M, dst: &mut [u8], from: usize) -> usize
         requires { from ≤ length dst.old }
         ensures { WritesMapped (M.means mapping) (rest self.old) (rest self.new) dst.old dst.new from result };

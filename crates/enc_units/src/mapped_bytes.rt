@@ -6,13 +6,13 @@ ghost use Rattle.enc_units.specs.Bytes.{bytes_of};
 use crate::bytes::Bytes;
 use std::simd::prelude::*;
 
-/// So many code units before the end of an input, and so many bytes before the end of a slice, a run ends.
+/// A run ends this many code units before the end of its input, and this many bytes before the end of its slice.
 pub(crate) const MARGIN: usize = 32;
 
 /// The places of sixteen lanes.
 const PLACES: [u8; 16] = [0, 1, 2, 3, 4, 5, 6, 7, 8, 9, 10, 11, 12, 13, 14, 15];
 
-/// Writes any bytes, and answers how many. The bytes after them stay.
+/// Writes up to four bytes, and returns their number. The bytes after them stay.
 #[inline(never)]
 fn put_any(dst: &mut [u8], at: usize, bytes: Bytes) -> usize
     requires { at + 4 ≤ length dst.old }
@@ -24,7 +24,7 @@ fn put_any(dst: &mut [u8], at: usize, bytes: Bytes) -> usize
     bytes.len
 }
 
-/// The same, one or two by themselves: so they go from register to memory, and not through an array.
+/// Writes up to four bytes, as [`put_any`] does. One or two go from registers to memory, and not through an array.
 #[inline(always)]
 pub(crate) fn put_bytes(dst: &mut [u8], at: usize, bytes: Bytes) -> usize
     requires { at + 4 ≤ length dst.old }

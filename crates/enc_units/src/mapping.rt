@@ -7,7 +7,7 @@ ghost use Rattle.enc_units.specs.Mappings.{AreWrittenAsThemselves};
 use crate::bytes::Bytes;
 use std::simd::prelude::*;
 
-/// What is written for characters.
+/// The bytes that an encoder writes for characters.
 pub trait Mapping: Copy {
     // whether these bytes are those of a character
     ghost means: { Self → List ℕ → ℕ → Type 0 };
@@ -17,7 +17,8 @@ pub trait Mapping: Copy {
         requires { 0x80 ≤ c }
         ensures { IfSome result (λ b. means self (bytes_of b) c) };
 
-    /// How many of sixteen bytes in front are ASCII characters that are written as themselves, or fewer. Takes no memory.
+    /// How many of sixteen bytes in front are ASCII characters that are written as themselves, or fewer. Takes no
+    /// memory.
     fn ascii_len(self, lanes: u8x16) -> usize
         ensures bound { result ≤ 16 }
         ensures ascii { AreWrittenAsThemselves (means self) (take result lanes) };

@@ -32,8 +32,8 @@ fn low_bytes(units: Simd<u16, 16>) -> u8x16
     (units & Simd::<u16, 16>::splat(0x7F)).cast::<u8>()
 }
 
-/// Writes the bytes of characters in front of UTF-16 into a slice, from `from` on, and answers how many code units it has
-/// read and how many bytes it has written. The run need not be maximal.
+/// Writes the bytes of the first characters of UTF-16 into a slice, from `from` on. Returns the numbers of code units
+/// read and of bytes written. The run need not be maximal.
 #[inline(never)]
 pub(crate) fn write_utf16<M: Mapping>(
     mapping: M,
@@ -43,8 +43,8 @@ pub(crate) fn write_utf16<M: Mapping>(
 ) -> (usize, usize)
     requires { from ≤ length dst.old }
     ensures within { result.0 ≤ length src.now }
-    ensures writes { WritesMapped (M.means mapping) (utf16_lossy_chars src.now) (utf16_lossy_chars (drop result.0 src.now))
-        dst.old dst.new from result.1 }
+    ensures writes { WritesMapped (M.means mapping) (utf16_lossy_chars src.now)
+        (utf16_lossy_chars (drop result.0 src.now)) dst.old dst.new from result.1 }
 {
     let mut read = 0;
     let mut at = from;

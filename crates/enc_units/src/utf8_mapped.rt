@@ -48,8 +48,8 @@ fn found_at(src: &[u8], at: usize) -> Found
     }
 }
 
-/// Writes the bytes of characters in front of UTF-8 into a slice, from `from` on, and answers how many bytes it has read and
-/// written. The run need not be maximal.
+/// Writes the bytes of the first characters of UTF-8 into a slice, from `from` on. Returns the numbers of bytes read
+/// and written. The run need not be maximal.
 #[inline(never)]
 pub(crate) fn write_utf8<M: Mapping>(
     mapping: M,

@@ -1,4 +1,4 @@
-//! Texts of some seventy characters, of which calls write many at once: ASCII, characters that the encoding has one after another,
+//! Texts of some seventy characters, many of which one call writes at once: ASCII, characters that the encoding has,
 //! and among them some that it does not have, of every length in UTF-8 and UTF-16.
 
 use encoding_rs::{

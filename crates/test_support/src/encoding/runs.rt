@@ -204,8 +204,8 @@ pub fn compare_cuts(alloc: Global, asked: Asked, row: &EncoderRow) -> Result<(),
     Ok(())
 }
 
-/// Runs a long text in two parts, cut between any two characters, in each room from 0 to 40 and each way into a slice. The bytes
-/// have to be those of single characters, each in a call of its own.
+/// Runs a long text in two parts, cut between any two characters, in each room from 0 to 40 and each way into a
+/// slice. The bytes have to be those of single characters, each in a call of its own.
 pub fn compare_long(alloc: Global, encoding: Encoding, text: &str) -> Result<(), Fail> {
     let asked = (encoding, &[] as &'static [char]);
     for way in SLICE_WAYS {

@@ -35,20 +35,25 @@ lt_le a b k l h = omega arith
 
 pub loop-taken-smaller : goal.loop-taken-smaller
 loop-taken-smaller g c =
-    let left : g.C.Chars.rest c.if-taken.src ≡ left_of c.in-Some.taken.reads (g.C.Chars.rest c.loop-taken.src) = elim c.if-taken.branch [
+    let left : g.C.Chars.rest c.if-taken.src ≡ left_of c.in-Some.taken.reads
+    (g.C.Chars.rest c.loop-taken.src) = elim c.if-taken.branch [
       | then-taken w ↦ rw (w.src-is, w.if-taken.true) w.advance-then-taken.ensures
       | else-taken w ↦ rw (w.src-is, w.if-taken.false) refl
     ] in
     lt_le _ _ _ (no_more_steps _ _ _ _ _ _ _ _ c.write_run-written.ensures)
-    (fewer_steps _ g.E.CharEncoder.state _ c.loop-taken.state _ _ _ _ _ _ _ c.loop-taken.invariant c.unread-unread.ensures _ c.in-Some.ensures _ left)
+    (fewer_steps _ g.E.CharEncoder.state _ c.loop-taken.state _ _ _ _ _ _ _ c.loop-taken.invariant
+    c.unread-unread.ensures _ c.in-Some.ensures _ left)
 
 pub loop-taken-preserved : goal.loop-taken-preserved
 loop-taken-preserved g c =
-    let left : g.C.Chars.rest c.if-taken.src ≡ left_of c.in-Some.taken.reads (g.C.Chars.rest c.loop-taken.src) = elim c.if-taken.branch [
+    let left : g.C.Chars.rest c.if-taken.src ≡ left_of c.in-Some.taken.reads
+    (g.C.Chars.rest c.loop-taken.src) = elim c.if-taken.branch [
       | then-taken w ↦ rw (w.src-is, w.if-taken.true) w.advance-then-taken.ensures
       | else-taken w ↦ rw (w.src-is, w.if-taken.false) refl
     ] in
     run_further _ _ _ _ _ _ _ _ _ _ _
-    (takes _ g.E.CharEncoder.state _ c.loop-taken.state _ _ _ _ _ _ _ c.loop-taken.invariant c.unread-unread.ensures _ c.in-Some.ensures _ _ left
-    (no_report _ c.in_default-report.not-Some) c.put.ensures.count (c.put.ensures.fits c.if-not-put.false) (c.put.ensures.put c.if-not-put.false))
+    (takes _ g.E.CharEncoder.state _ c.loop-taken.state _ _ _ _ _ _ _ c.loop-taken.invariant c.unread-unread.ensures
+    _ c.in-Some.ensures _ _ left
+    (no_report _ c.in_default-report.not-Some) c.put.ensures.count (c.put.ensures.fits c.if-not-put.false)
+    (c.put.ensures.put c.if-not-put.false))
     c.write_run-written.ensures

@@ -5,7 +5,8 @@ use Rattle.enc_units.proofs.utf16_mapped.ascii_units.Goals as goal
 pub returns-then-others-eq0-clause-ascii : goal.returns-then-others-eq0-clause-ascii
 returns-then-others-eq0-clause-ascii c k d h =
     let is = splat_mask w16 leb 128 _ c.fits-units.0 in
-    leb-false _ _ (front_fails (leb 128) _ c.fits-units.0 _ is 16 (all_fail (leb 128) _ c.fits-units.0 _ is c.if-others-eq0.true) k d h)
+    leb-false _ _ (front_fails (leb 128) _ c.fits-units.0 _ is 16 (all_fail
+    (leb 128) _ c.fits-units.0 _ is c.if-others-eq0.true) k d h)
 
 pub returns-else-others-eq0-clause-bound : goal.returns-else-others-eq0-clause-bound
 returns-else-others-eq0-clause-bound c =
@@ -15,4 +16,5 @@ returns-else-others-eq0-clause-bound c =
 pub returns-else-others-eq0-clause-ascii : goal.returns-else-others-eq0-clause-ascii
 returns-else-others-eq0-clause-ascii c k d h =
     let is = splat_mask w16 leb 128 _ c.fits-units.0 in
-    leb-false _ _ (front_fails (leb 128) _ c.fits-units.0 _ is _ (some_fail (leb 128) _ c.fits-units.0 _ is c.if-others-eq0.false) k d h)
+    leb-false _ _ (front_fails (leb 128) _ c.fits-units.0 _ is _ (some_fail
+    (leb 128) _ c.fits-units.0 _ is c.if-others-eq0.false) k d h)
