@@ -44,7 +44,8 @@ ENCODED_MIB = 16
 class Corpus:
     """A text that is measured, its label, and the names that iconv and uconv have for its encoding.
 
-    `way` is "decode", from the encoding to UTF-8; "encode", from UTF-8 to it; or "units", from UTF-16LE to it.
+    `way` is "decode", from the encoding to UTF-8; "to-units", from it to UTF-16LE; "encode", from UTF-8 to it; or
+    "from-units", from UTF-16LE to it. `text` names the text in the form in which it is read.
     """
 
     def __init__(self, title, languages, label, codec, iconv=None, uconv=None, kind=RUNNING, way="decode"):
@@ -56,7 +57,14 @@ class Corpus:
         self.uconv = uconv
         self.kind = kind
         self.way = way
-        self.name = re.sub("[^a-z0-9]+", "-", f"{way} {self.title}".lower()).strip("-")
+        self.is_decoded = way in ("decode", "to-units")
+        self.name = slug(f"{way} {self.title}")
+        self.text = slug(f"decode {self.title}") if self.is_decoded else self.name
+
+
+def slug(title):
+    """The title in lowercase, with a hyphen for each run of characters but letters and digits."""
+    return re.sub("[^a-z0-9]+", "-", title.lower()).strip("-")
 
 
 ALL = ["en", "fr", "ru", "ja", "zh_CN", "ko", "el", "zh_TW"]
@@ -85,7 +93,8 @@ HOSTILE = ["UTF-8", "UTF-16LE", "windows-1252", "Shift_JIS", "EUC-JP", "ISO-2022
 
 CORPORA = [Corpus(*row, kind=kind) for kind in KINDS for row in UNICODE + LEGACY]
 CORPORA += [Corpus(f"random bytes as {label}", [], label, None) for label in HOSTILE]
-for way in ("encode", "units"):
+CORPORA += [Corpus(*row, kind=kind, way="to-units") for kind in KINDS for row in UNICODE + LEGACY]
+for way in ("encode", "from-units"):
     CORPORA += [Corpus(*row, kind=kind, way=way) for kind in KINDS for row in WRITTEN]
     CORPORA += [
         Corpus(f"{row[0].split(',')[0]}, ASCII", ["en"], row[2], "ascii", *row[4:], way=way) for row in WRITTEN
@@ -188,10 +197,10 @@ def block(cache, corpus):
     texts = [lines(cache, language, corpus.kind) for language in languages]
     text = mixed(texts) if len(texts) > 1 else texts[0]
     parts = [encoded(line, corpus.codec) for line in text]
-    if corpus.way != "decode" and corpus.codec == "euc_jp":
+    if not corpus.is_decoded and corpus.codec == "euc_jp":
         parts = [part for part in parts if b"\x8F" not in part]  # of JIS X 0212, which is decoded alone
     made = b"".join(parts)
-    if corpus.way != "decode":
+    if not corpus.is_decoded:
         made = made.decode(corpus.codec).encode("utf-8" if corpus.way == "encode" else "utf-16-le")
     if len(made) < 100_000:
         raise SystemExit(f"bench: too little text for {corpus.title}: {len(made)} bytes")
@@ -205,12 +214,12 @@ def random_bytes(label, size):
 
 
 def path(cache, corpus, mib):
-    """The file of a corpus, which is made where it isn't there: whole blocks, up to so many MiB and no less."""
+    """The file of a corpus's text, made where it isn't there: whole blocks, of that many MiB or more."""
     if not corpus.languages:
         mib = min(mib, RANDOM_MIB)
-    elif corpus.way != "decode":
+    elif not corpus.is_decoded:
         mib = min(mib, ENCODED_MIB)
-    file_path = f"{cache}/{corpus.name}-{mib}"
+    file_path = f"{cache}/{corpus.text}-{mib}"
     if not os.path.exists(file_path):
         size = mib << 20
         if corpus.languages:

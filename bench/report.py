@@ -4,8 +4,17 @@ BEGIN = "<!-- scripts/bench writes from here -->"
 END = "<!-- to here -->"
 
 DECODING = "How many times as fast as the crate encoding_rs recode decodes"
+DECODING_UNITS = "The rate of decoding to UTF-16 by that of the crate encoding_rs"
 ENCODING = "How many times as fast as the best of encoding_rs, iconv and uconv recode encodes"
+UNITS_COLUMN = "`bench_utf16` is the column `recode` here."
 PEERS = ("encoding_rs", "iconv", "uconv")
+
+# The pictures: the name of each, its way, its title, and the programs that it compares with.
+PICTURES = (
+    ("speed", "decode", DECODING, ("encoding_rs",)),
+    ("speed-utf16", "to-units", DECODING_UNITS, ("encoding_rs",)),
+    ("speed-encoding", "encode", ENCODING, PEERS),
+)
 
 BAR = 16
 LEFT = 270
@@ -58,7 +67,7 @@ def table(rows, programs, peers):
 def text(circumstances, rows):
     """The circumstances of the measurement, and a table for each way with its picture."""
     parts = [circumstances]
-    ways = {way: [row for row in rows if row.way == way] for way in ("decode", "encode", "units")}
+    ways = {way: [row for row in rows if row.way == way] for way in ("decode", "to-units", "encode", "from-units")}
     if ways["decode"]:
         programs = ["recode", "before", *PEERS, "cat"]
         parts += ["### From each encoding to UTF-8", f"![{DECODING}, for each text](speed.svg)"]
@@ -66,12 +75,15 @@ def text(circumstances, rows):
         ascii_text = [row for row in ways["decode"] if "cat" in row.times and row.title.startswith("ASCII")]
         if ascii_text:
             parts.append(f"On ASCII recode has {ascii_text[0].ratio(('cat',)):.2f} times the speed of `cat`.")
+    if ways["to-units"]:
+        parts += ["### From each encoding to UTF-16", f"![{DECODING_UNITS}, for each text](speed-utf16.svg)"]
+        parts += [UNITS_COLUMN, table(ways["to-units"], ["recode", "encoding_rs"], ("encoding_rs",))]
     if ways["encode"]:
         parts += ["### From UTF-8 to each encoding", f"![{ENCODING}, for each text](speed-encoding.svg)"]
         parts.append(table(ways["encode"], ["recode", "before", *PEERS], PEERS))
-    if ways["units"]:
-        parts += ["### From UTF-16 to each encoding", "`bench_utf16` is the column `recode` here."]
-        parts.append(table(ways["units"], ["recode", "encoding_rs"], ("encoding_rs",)))
+    if ways["from-units"]:
+        parts += ["### From UTF-16 to each encoding", UNITS_COLUMN]
+        parts.append(table(ways["from-units"], ["recode", "encoding_rs"], ("encoding_rs",)))
     return "\n\n".join(parts)
 
 
@@ -101,8 +113,7 @@ def picture(title, rows, peers):
 
 def draw(folder, rows):
     """Writes the pictures."""
-    for name, way, title, peers in (
-            ("speed", "decode", DECODING, ("encoding_rs",)), ("speed-encoding", "encode", ENCODING, PEERS)):
+    for name, way, title, peers in PICTURES:
         with open(f"{folder}/{name}.svg", "w", encoding="utf-8") as file:
             file.write(picture(title, [row for row in rows if row.way == way], peers))
 

@@ -1,14 +1,16 @@
-//! `peer FROM TO`: recodes standard input as `recode FROM TO` does, by the Rust crate encoding_rs. `peer --utf16 TO`:
-//! encodes standard input, code units of UTF-16LE, as `bench_utf16 TO` does. The buffers are those of `recode`: it
-//! reads 64 KiB at a time, decodes into 64 KiB, encodes into 64 KiB, and writes the output of each call. The status
-//! is 0, 1 where something was replaced, and 2 where a label is unknown.
+//! The programs that scripts/bench times, over the Rust crate encoding_rs: `peer FROM TO` recodes
+//! standard input as `recode FROM TO` does, `peer --utf16 TO` encodes code units of UTF-16LE as
+//! `bench_utf16 encode TO` does, and `peer FROM --utf16` decodes to UTF-16LE as
+//! `bench_utf16 decode FROM` does. The buffers are the same too: it reads 64 KiB at a time, decodes
+//! into 64 KiB or 65,536 code units, encodes into 64 KiB, and writes the output of each call. The
+//! status is 0, 1 where something was replaced, and 2 where a label is unknown.
 use encoding_rs::{CoderResult, Decoder, Encoder, Encoding, UTF_8};
 use std::fs::File;
 use std::io::{self, Read, Write};
 use std::os::fd::{AsFd, BorrowedFd};
 use std::process::ExitCode;
 
-/// How many bytes the buffers of `recode` have.
+/// How many bytes the buffers of `recode` have, and how many code units the buffer of UTF-16.
 const BUFFER: usize = 64 << 10;
 
 /// The file behind a standard stream, without the stream's own buffer.
@@ -46,6 +48,28 @@ fn decode_all(decoder: &mut Decoder, mut reader: File, mut writer: File) -> io::
         let count = reader.read(&mut input)?;
         replaced |= write_all(&mut output, &mut writer, |at, out| {
             decoder.decode_to_utf8(&input[at..count], out, count == 0)
+        })?;
+        if count == 0 {
+            return Ok(replaced);
+        }
+    }
+}
+
+/// Decodes all that is read, to UTF-16LE.
+fn decode_to_units(decoder: &mut Decoder, mut reader: File, mut writer: File) -> io::Result<bool> {
+    let (mut input, mut bytes) = (vec![0; BUFFER], vec![0; 2 * BUFFER]);
+    let mut units = vec![0; BUFFER];
+    let mut replaced = false;
+    loop {
+        let count = reader.read(&mut input)?;
+        replaced |= write_all(&mut bytes, &mut writer, |at, out| {
+            let bytes = &input[at..count];
+            let (result, read, written, more) =
+                decoder.decode_to_utf16(bytes, &mut units, count == 0);
+            for (pair, unit) in out.chunks_exact_mut(2).zip(&units[..written]) {
+                pair.copy_from_slice(&unit.to_le_bytes());
+            }
+            (result, read, 2 * written, more)
         })?;
         if count == 0 {
             return Ok(replaced);
@@ -99,22 +123,24 @@ fn encode_units(encoder: &mut Encoder, mut reader: File, mut writer: File) -> io
 
 fn main() -> io::Result<ExitCode> {
     let [from, to] = [1, 2].map(|place| std::env::args().nth(place).unwrap_or_default());
-    let Some(to) = Encoding::for_label_no_replacement(to.as_bytes()).map(Encoding::output_encoding) else {
-        return Ok(ExitCode::from(2));
-    };
+    let [source, target] =
+        [&from, &to].map(|label| Encoding::for_label_no_replacement(label.as_bytes()));
     let reader = unbuffered(io::stdin().as_fd())?;
     let writer = unbuffered(io::stdout().as_fd())?;
-    if from == "--utf16" {
-        return Ok(ExitCode::from(u8::from(encode_units(&mut to.new_encoder(), reader, writer)?)));
-    }
-    let Some(from) = Encoding::for_label_no_replacement(from.as_bytes()) else {
-        return Ok(ExitCode::from(2));
+    let replaced = match (source, target.map(Encoding::output_encoding)) {
+        (Some(source), None) if to == "--utf16" => {
+            decode_to_units(&mut source.new_decoder(), reader, writer)
+        }
+        (None, Some(target)) if from == "--utf16" => {
+            encode_units(&mut target.new_encoder(), reader, writer)
+        }
+        (Some(source), Some(target)) if target == UTF_8 => {
+            decode_all(&mut source.new_decoder(), reader, writer)
+        }
+        (Some(source), Some(target)) => {
+            recode_all(&mut source.new_decoder(), &mut target.new_encoder(), reader, writer)
+        }
+        _ => return Ok(ExitCode::from(2)),
     };
-    let mut decoder = from.new_decoder();
-    let replaced = if to == UTF_8 {
-        decode_all(&mut decoder, reader, writer)?
-    } else {
-        recode_all(&mut decoder, &mut to.new_encoder(), reader, writer)?
-    };
-    Ok(ExitCode::from(u8::from(replaced)))
+    Ok(ExitCode::from(u8::from(replaced?)))
 }

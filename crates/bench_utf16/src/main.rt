@@ -1,20 +1,28 @@
-//! Encodes UTF-16 for scripts/bench: `bench_utf16 LABEL` encodes standard input, code units of UTF-16LE, with decimal
-//! references for characters that the encoding doesn't have. The status is 0 where nothing was replaced, 1 where
-//! something was, 2 where the argument is wrong, and 3 after an I/O error or where a read ends within a code unit.
+//! Encodes and decodes UTF-16 for scripts/bench. `bench_utf16 encode LABEL` encodes code units of
+//! UTF-16LE from standard input, with decimal references for characters that the encoding doesn't
+//! have. `bench_utf16 decode LABEL` decodes standard input to UTF-16LE, with U+FFFD for each
+//! malformed sequence. The status is 0 where nothing was replaced, 1 where something was, 2 where
+//! the arguments are wrong, and 3 after an I/O error or where a read to encode ends within a code
+//! unit.
 #![tactic(auto)]
 
-ghost use Rattle.std.specs.Prelude.{◌≤◌, length};
+ghost use Rattle.std.specs.Prelude.{◌≡◌, ◌≤◌, false, length, OnOk};
+ghost use Rattle.encoding_rs.specs.Decoding.{finished};
 
-use encoding_rs::{CoderResult, Encoder, Encoding};
+use encoding_rs::{CoderResult, Decoder, Encoder, Encoding};
 use std::io::{ErrorKind, Read, Write};
 use std::process::ExitCode;
+use std::simd::prelude::*;
 use std::{env, io};
 
-/// How many bytes are read at a time, and written.
+/// How many bytes are read at a time, and how many bytes or code units a call writes at most.
 const LENGTH: usize = 65536;
 
-/// How many code units these are.
+/// How many code units are read at a time.
 const UNITS: usize = 32768;
+
+/// How many bytes the code units of a call have at most.
+const UNIT_BYTES: usize = 131072;
 
 /// Puts the code units of some bytes into a slice, and returns how many.
 fn units_of(bytes: &[u8], units: &mut [u16]) -> usize
@@ -76,25 +84,107 @@ fn encode_all<R: Read, W: Write>(
     Err(io::Error::from(ErrorKind::Other))
 }
 
-/// The argument, if there is just one.
-fn word(rt: &HostRuntime) -> io::Result<Option<String>> {
+/// Puts the bytes of some code units into a slice, in UTF-16LE, and returns how many.
+fn bytes_of(units: &[u16], bytes: &mut [u8]) -> usize
+    ensures { result ≤ length bytes.new }
+{
+    let count = units.len().min(bytes.len() / 2);
+    let mut at = 0;
+    while 8 <= count - at {
+        u16x8::from_slice(&units[at..])
+            .to_le_bytes()
+            .copy_to_slice(&mut bytes[2 * at..]);
+        at += 8;
+    }
+    while at < count {
+        bytes[2 * at] = (units[at] % 0x100) as u8;
+        bytes[2 * at + 1] = (units[at] / 0x100) as u8;
+        at += 1;
+    }
+    2 * count
+}
+
+/// Decodes a chunk, and writes its code units in as many pieces as it takes. A call decodes into
+/// `units`, and `bytes` takes their bytes. Returns whether something was malformed.
+fn decode<W: Write>(
+    decoder: &mut Decoder,
+    chunk: &[u8],
+    last: bool,
+    units: &mut [u16],
+    bytes: &mut [u8],
+    out: &mut W,
+) -> io::Result<bool>
+    requires unfinished { finished decoder.old ≡ false }
+    requires room { 2 ≤ length units.old }
+    ensures { OnOk result (finished decoder.new ≡ last) }
+{
+    let mut unread = chunk;
+    let mut had_errors = false;
+    'pieces: loop {
+        let (result, read, written, replaced) = decoder.decode_to_utf16(unread, units, last);
+        had_errors |= replaced;
+        let len = bytes_of(&units[..written], bytes);
+        out.write_all(&bytes[..len])?;
+        match result {
+            CoderResult::InputEmpty => return Ok(had_errors),
+            CoderResult::OutputFull => unread = &unread[read..],
+        }
+    }
+}
+
+/// Decodes all bytes that a reader gives.
+fn decode_all<R: Read, W: Write>(
+    input: &mut R,
+    out: &mut W,
+    encoding: Encoding,
+) -> io::Result<bool> {
+    let mut decoder = encoding.new_decoder();
+    let mut chunk = [0; LENGTH];
+    let mut units = [0; LENGTH];
+    let mut bytes = [0; UNIT_BYTES];
+    let mut had_errors = false;
+    'chunks: for _ in 0..u64::MAX {
+        let len = input.read(&mut chunk)?;
+        had_errors |= decode(
+            &mut decoder,
+            &chunk[..len],
+            len == 0,
+            &mut units,
+            &mut bytes,
+            out,
+        )?;
+        if len == 0 {
+            return Ok(had_errors);
+        }
+    }
+    Err(io::Error::from(ErrorKind::Other))
+}
+
+/// The two arguments, if there are exactly two.
+fn words(rt: &HostRuntime) -> io::Result<Option<(String, String)>> {
     let mut args = env::args(rt)?;
     let _program = args.next();
-    let (first, more) = (args.next(), args.next());
-    match (first, more) {
-        (Some(first), None) => Ok(Some(first)),
+    let (first, second, more) = (args.next(), args.next(), args.next());
+    match (first, second, more) {
+        (Some(first), Some(second), None) => Ok(Some((first, second))),
         _ => Ok(None),
     }
 }
 
 fn main(rt: HostRuntime) -> ExitCode {
-    let Ok(Some(label)) = word(&rt) else {
+    let Ok(Some((command, label))) = words(&rt) else {
         return ExitCode::from(2);
     };
     let Some(encoding) = Encoding::for_label(label.as_bytes()) else {
         return ExitCode::from(2);
     };
-    match encode_all(&mut rt.stdin(), &mut rt.stdout(), encoding) {
+    let (mut input, mut out) = (rt.stdin(), rt.stdout());
+    let outcome = match command.as_str() {
+        "decode" => decode_all(&mut input, &mut out, encoding),
+        "encode" => encode_all(&mut input, &mut out, encoding),
+        _ => return ExitCode::from(2),
+    };
+    match outcome {
         Ok(false) => ExitCode::from(0),
         Ok(true) => ExitCode::from(1),
         Err(_) => ExitCode::from(3),
