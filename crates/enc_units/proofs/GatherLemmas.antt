@@ -1,7 +1,7 @@
 -- What is gathered one behind another.
 use Rattle.std.proofs.Common.{◌≡◌, ℕ, zero, suc, ◌+◌, ◌/◌, ◌%◌, ◌<◌, ◌≤◌, List, [], ◌∷◌, ◌++◌, length, get_or}
 use Rattle.std.proofs.Common.{replicate, take, drop, refl, ap, ◌∙◌, sym, subst, arith, append_assoc, append-nil}
-use Rattle.std.proofs.Common.{length-drop, take-add, drop-cons}
+use Rattle.std.proofs.Common.{length-drop, take-add, drop-cons, drop-drop}
 use Rattle.std.proofs.lemmas.Bool.{lt-ltb, le-ltb}
 use Rattle.std.proofs.lemmas.List.{length-take-le}
 use Rattle.std.proofs.lemmas.Simd.{put_chunk_is, length-replicate, get_or-replicate}
@@ -53,38 +53,46 @@ utf8_four c l = rw (le-ltb c 128 (omega arith), le-ltb c 2048 (omega arith), le-
 
 -- what is gathered
 
-pub gathers_nothing : (Means : List ℕ → ℕ → Type 0) (src before after : List ℕ) → after ≡ before → Gathers Means src 0 before after
-gathers_nothing Means src before after e = record { text = []; scalars = refl; reads = reads_none Means src; written = e ∙ sym (append-nil before) }
+pub gathers_nothing : (units_of : ℕ → List ℕ) (Means : List ℕ → ℕ → Type 0) (src before after : List ℕ) → after ≡ before → Gathers units_of Means src 0 before after
+gathers_nothing units_of Means src before after e = record { text = []; scalars = refl; reads = reads_none Means src; written = e ∙ sym (append-nil before) }
 
-pub gathers_then : (Means : List ℕ → ℕ → Type 0) (src : List ℕ) (a n : ℕ) (before mid after : List ℕ)
-    → Gathers Means src a before mid → Gathers Means (drop a src) n mid after → Gathers Means src (a + n) before after
-gathers_then Means src a n before mid after p q = record {
+pub gathers_then : (units_of : ℕ → List ℕ) (Means : List ℕ → ℕ → Type 0) (src : List ℕ) (a n : ℕ) (before mid after : List ℕ)
+    → Gathers units_of Means src a before mid → Gathers units_of Means (drop a src) n mid after → Gathers units_of Means src (a + n) before after
+gathers_then units_of Means src a n before mid after p q = record {
   text = p.text ++ q.text;
   scalars = scalars-append p.text q.text p.scalars q.scalars;
   reads = reads_then Means src a n p.text q.text p.reads q.reads;
-  written = q.written ∙ ap (λ z. z ++ units_of_text encode_utf8 q.text) p.written
-      ∙ append_assoc before (units_of_text encode_utf8 p.text) (units_of_text encode_utf8 q.text) ∙ ap (λ z. before ++ z) (sym (units-append encode_utf8 p.text q.text));
+  written = q.written ∙ ap (λ z. z ++ units_of_text units_of q.text) p.written
+      ∙ append_assoc before (units_of_text units_of p.text) (units_of_text units_of q.text) ∙ ap (λ z. before ++ z) (sym (units-append units_of p.text q.text));
 }
 
-pub gathers_ascii : (Means : List ℕ → ℕ → Type 0) (src : List ℕ) (n : ℕ) (before after : List ℕ) → ((b : ℕ) → b < 0x80 → Means (b ∷ []) b)
-    → n ≤ length src → AreAscii (take n src) → after ≡ before ++ take n src → Gathers Means src n before after
-gathers_ascii Means src n before after h w a e = record {
+-- the same, where the rest is named by its place in the whole input
+pub gathers_on : (units_of : ℕ → List ℕ) (Means : List ℕ → ℕ → Type 0) (src : List ℕ) (from a n : ℕ) (before mid after : List ℕ)
+    → Gathers units_of Means (drop from src) a before mid → Gathers units_of Means (drop (from + a) src) n mid after
+    → Gathers units_of Means (drop from src) (a + n) before after
+gathers_on units_of Means src from a n before mid after p q =
+    gathers_then units_of Means (drop from src) a n before mid after p
+    (subst (λ rest. Gathers units_of Means rest n mid after) (sym (drop-drop a from src)) q)
+
+pub gathers_ascii : (units_of : ℕ → List ℕ) (Means : List ℕ → ℕ → Type 0) (src : List ℕ) (n : ℕ) (before after : List ℕ) → ((b : ℕ) → b < 0x80 → Means (b ∷ []) b)
+    → ((bs : List ℕ) → AreAscii bs → units_of_text units_of bs ≡ bs) → n ≤ length src → AreAscii (take n src) → after ≡ before ++ take n src → Gathers units_of Means src n before after
+gathers_ascii units_of Means src n before after h alone w a e = record {
   text = take n src;
   scalars = ascii_scalars (take n src) a;
   reads = reads_ascii Means src n h w a;
-  written = e ∙ ap (λ z. before ++ z) (sym (ascii_units (take n src) a));
+  written = e ∙ ap (λ z. before ++ z) (sym (alone (take n src) a));
 }
 
-pub gathers_one : (Means : List ℕ → ℕ → Type 0) (src : List ℕ) (n c : ℕ) (before after : List ℕ) → 0 < n → n ≤ length src → IsScalar c
-    → Means (take n src) c → after ≡ before ++ encode_utf8 c → Gathers Means src n before after
-gathers_one Means src n c before after h w i m e = record {
+pub gathers_one : (units_of : ℕ → List ℕ) (Means : List ℕ → ℕ → Type 0) (src : List ℕ) (n c : ℕ) (before after : List ℕ) → 0 < n → n ≤ length src → IsScalar c
+    → Means (take n src) c → after ≡ before ++ units_of c → Gathers units_of Means src n before after
+gathers_one units_of Means src n c before after h w i m e = record {
   text = c ∷ [];
   scalars = one_scalar c i;
   reads = reads_one Means src n c h w m;
-  written = e ∙ ap (λ z. before ++ z) (sym (append-nil (encode_utf8 c)));
+  written = e ∙ ap (λ z. before ++ z) (sym (append-nil (units_of c)));
 }
 
-get_or_drop : (n i : ℕ) (xs : List ℕ) → get_or (drop n xs) i 0 ≡ get_or xs (n + i) 0
+pub get_or_drop : (n i : ℕ) (xs : List ℕ) → get_or (drop n xs) i 0 ≡ get_or xs (n + i) 0
 get_or_drop zero i xs = ap (λ k. get_or xs k 0) (omega arith)
 get_or_drop (suc n) i [] = refl
 get_or_drop (suc n) i (x ∷ xs) = get_or_drop n i xs ∙ ap (λ k. get_or (x ∷ xs) k 0) behind
@@ -94,15 +102,15 @@ get_or_drop (suc n) i (x ∷ xs) = get_or_drop n i xs ∙ ap (λ k. get_or (x �
 
 -- a byte that has a text
 pub gathers_byte : (Means : List ℕ → ℕ → Type 0) (src : List ℕ) (from read : ℕ) (before mid after : List ℕ) (text : Encoded)
-    → IsByteText Means (get_or src (from + read) 0) text → 0 < text.len → from + read < length src → Gathers Means (drop from src) read before mid
-    → after ≡ mid ++ take text.len text.bytes → Gathers Means (drop from src) (read + 1) before after
+    → IsByteText Means (get_or src (from + read) 0) text → 0 < text.len → from + read < length src → Gathers encode_utf8 Means (drop from src) read before mid
+    → after ≡ mid ++ take text.len text.bytes → Gathers encode_utf8 Means (drop from src) (read + 1) before after
 gathers_byte Means src from read before mid after text t some inside p e =
     let rest = drop from src in
     let long : read < length rest = omega (arith, length-drop from src) in
     let byte = ap (take 1) (drop-cons rest read 0 long) ∙ ap (λ b. b ∷ []) (get_or_drop from read src) in
     let found = t.char some in
-    gathers_then Means rest read 1 before mid after p
-    (gathers_one Means (drop read rest) 1 found.0 mid after (omega arith) (omega (arith, length-drop read rest)) found.1 (subst (λ z. Means z found.0) (sym byte) found.2)
+    gathers_then encode_utf8 Means rest read 1 before mid after p
+    (gathers_one encode_utf8 Means (drop read rest) 1 found.0 mid after (omega arith) (omega (arith, length-drop read rest)) found.1 (subst (λ z. Means z found.0) (sym byte) found.2)
     (e ∙ ap (λ z. mid ++ z) found.3))
 
 -- no byte has a text
@@ -113,9 +121,9 @@ no_texts Means text e = (
 )
 
 -- what is gathered is put out
-pub puts_gathered : (Means : List ℕ → ℕ → Type 0) (before after : Output) (src : List ℕ) (n : ℕ) (units : List ℕ) → Gathers Means src n [] units
-    → length units ≤ before.room → after ≡ appended before units → PutsPieces encode_utf8 Means before after src n
-puts_gathered Means before after src n units p f e = record {
+pub puts_gathered : (units_of : ℕ → List ℕ) (Means : List ℕ → ℕ → Type 0) (before after : Output) (src : List ℕ) (n : ℕ) (units : List ℕ) → Gathers units_of Means src n [] units
+    → length units ≤ before.room → after ≡ appended before units → PutsPieces units_of Means before after src n
+puts_gathered units_of Means before after src n units p f e = record {
   text = p.text;
   scalars = p.scalars;
   reads = p.reads;

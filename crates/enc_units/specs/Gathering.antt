@@ -1,16 +1,16 @@
--- Characters that are gathered as UTF-8.
+-- Characters that are gathered as code units.
 use Rattle.std.specs.Prelude.{◌≡◌, ℕ, ◌<◌, ◌≤◌, List, [], ◌∷◌, ◌++◌, length, take, get_or}
 use Rattle.std.specs.Char.{IsScalar, encode_utf8}
 use Rattle.enc_units.specs.declared.gather.Encoded.{Encoded}
 use Rattle.enc_units.specs.Output.{AreScalars, units_of_text}
 use Rattle.enc_units.specs.Pieces.{Reads}
 
--- The first n bytes are pieces, and the UTF-8 of their characters stands behind what was there before.
-pub record Gathers (Means : List ℕ → ℕ → Type 0) (src : List ℕ) (n : ℕ) (before after : List ℕ) : Type 0 where
+-- The first n bytes are characters, and their code units follow those that were there before.
+pub record Gathers (units_of : ℕ → List ℕ) (Means : List ℕ → ℕ → Type 0) (src : List ℕ) (n : ℕ) (before after : List ℕ) : Type 0 where
   pub text : List ℕ
   pub scalars : AreScalars text
   pub reads : Reads Means src n text
-  pub written : after ≡ before ++ units_of_text encode_utf8 text
+  pub written : after ≡ before ++ units_of_text units_of text
 
 -- A byte has no text, or that of the character which it is by itself.
 pub record IsByteText (Means : List ℕ → ℕ → Type 0) (byte : ℕ) (text : Encoded) : Type 0 where

@@ -7,7 +7,7 @@ use std::simd::prelude::*;
 
 /// Whether all of sixteen bytes are ASCII.
 #[inline(always)]
-fn are_ascii(lanes: u8x16) -> bool
+pub(crate) fn are_ascii(lanes: u8x16) -> bool
     ensures { IsTrue result → AreAscii lanes }
 {
     lanes.simd_ge(u8x16::splat(0x80)).to_bitmask() == 0

@@ -1,6 +1,7 @@
 //! Characters of single bytes, by a table of their UTF-8 that is made for a run.
 
 ghost use Rattle.std.specs.Prelude.{◌≡◌, ◌+◌, ◌≤◌, length, take, drop};
+ghost use Rattle.std.specs.Char.{encode_utf8};
 ghost use Rattle.enc_units.specs.Gathering.{Gathers, AreByteTexts};
 
 use crate::gather::{Encoded, Gather, store_ascii_of, store_text, utf8_of};
@@ -56,7 +57,7 @@ fn store_bytes<P: Pieces>(
     ensures read { result.0 ≤ 16 }
     ensures bound { result.1 ≤ at + 64 }
     ensures len { length buffer.new ≡ length buffer.old }
-    ensures gathers { Gathers (P.means table.now.pieces) (drop from src.now) result.0 (take at buffer.old)
+    ensures gathers { Gathers encode_utf8 (P.means table.now.pieces) (drop from src.now) result.0 (take at buffer.old)
         (take result.1 buffer.new) }
 {
     let mut read = 0;

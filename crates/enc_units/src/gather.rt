@@ -9,7 +9,7 @@ use crate::pieces::Pieces;
 use std::simd::prelude::*;
 
 /// The length of the buffer.
-pub(crate) const BUFFER: usize = 288;
+pub(crate) const BUFFER: usize = 304;
 
 /// Once so many bytes are there, no more are gathered. What is written at once is at most sixteen bytes more.
 pub(crate) const ENOUGH: usize = 256;
@@ -116,7 +116,7 @@ pub(crate) fn store_ascii_of<P: Pieces>(
     requires room { at + 16 ≤ length buffer.old }
     ensures bound { result ≤ 16 }
     ensures len { length buffer.new ≡ length buffer.old }
-    ensures gathers { Gathers (P.means pieces) (drop from src.now) result (take at buffer.old)
+    ensures gathers { Gathers encode_utf8 (P.means pieces) (drop from src.now) result (take at buffer.old)
         (take (at + result) buffer.new) }
 {
     if !pieces.has_ascii() {
@@ -140,11 +140,11 @@ pub(crate) trait Gather {
     /// Gathers the characters that the bytes in front of `src` are, as many as it likes, and answers how many bytes
     /// were read, and written from the start of the buffer on.
     fn gather(&self, buffer: &mut [u8], src: &[u8]) -> (usize, usize)
-        requires buffer { length buffer.old ≡ 288 }
+        requires buffer { length buffer.old ≡ 304 }
         requires ready { ready self.now }
         ensures len { length buffer.new ≡ length buffer.old }
         ensures bound { result.1 ≤ length buffer.new }
-        ensures gathers { Gathers (means self.now) src.now result.0 [] (take result.1 buffer.new) };
+        ensures gathers { Gathers encode_utf8 (means self.now) src.now result.0 [] (take result.1 buffer.new) };
 }
 
 /// Characters one by one, and ASCII in steps of sixteen.

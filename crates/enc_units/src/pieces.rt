@@ -2,8 +2,10 @@
 
 ghost use Rattle.std.specs.Prelude.{ℕ, ◌<◌, ◌≤◌, List, [], ◌∷◌, length, take, drop, IfSome, IsTrue};
 ghost use Rattle.enc_units.specs.Pieces.{PutsPieces};
+ghost use Rattle.enc_units.specs.Pairs.{byte_or_pair, MeansWord, MeansUnit};
 
 use crate::units::Units;
+use std::simd::prelude::*;
 
 /// Which bytes of an input are which character, whatever stands behind them.
 pub trait Pieces: Copy {
@@ -21,6 +23,43 @@ pub trait Pieces: Copy {
     /// Whether each byte below 0x80 is the ASCII character of that number. Takes no memory.
     fn has_ascii(self) -> bool
         ensures { IsTrue result → (b : ℕ) → b < 0x80 → means self (b ∷ []) b };
+
+    /// Whether it pays to look characters up by `word` and `unit`: where most are a byte or two. The output is the same
+    /// either way. Takes no memory.
+    fn are_pairs(self) -> bool {
+        let _pieces = self;
+        false
+    }
+
+    /// Which of sixteen bytes lead a pair if a character begins there, the first byte in the lowest bit. It is a guess:
+    /// a wrong one costs time, and changes no output. Takes no memory.
+    #[inline(always)]
+    fn leads(self, bytes: u8x16) -> u64 {
+        let _pieces = self;
+        bytes.simd_ge(u8x16::splat(0x80)).to_bitmask()
+    }
+
+    /// The UTF-8 of the character that the first byte is, or both as a pair: its bytes, the first lowest, and their
+    /// number in the highest byte. 0 where there is no such character, or none that is known. One load from a table and
+    /// no branch. Takes no memory.
+    #[inline(always)]
+    fn word(self, is_pair: bool, first: u8, second: u8) -> u32
+        ensures { 0 < result → MeansWord (means self) (byte_or_pair is_pair first second) result }
+    {
+        let _pieces = self;
+        let _bytes = (is_pair, first, second);
+        0
+    }
+
+    /// The same character as a code unit of UTF-16, or 0. Takes no memory.
+    #[inline(always)]
+    fn unit(self, is_pair: bool, first: u8, second: u8) -> u16
+        ensures { 0 < result → MeansUnit (means self) (byte_or_pair is_pair first second) result }
+    {
+        let _pieces = self;
+        let _bytes = (is_pair, first, second);
+        0
+    }
 
     /// Whether it pays to look each byte up in a table: where most bytes are a character by themselves. What is
     /// written is the same either way. Takes no memory.

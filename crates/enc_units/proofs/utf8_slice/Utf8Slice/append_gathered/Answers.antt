@@ -17,5 +17,5 @@ loop-buffer-preserved g c =
       omega arith,
       then_rest _ _ _ _ _ _ _ _ _ c.split_at-in-loop-buffer.ensures.back
           (then_rest _ _ _ _ _ _ _ _ _ c.split_at.ensures.back c.loop-buffer.invariant.1 c.append_ascii_of-at.ensures)
-          (puts_gathered _ _ _ _ _ _ e.gathers (omega (arith, c.append.ensures.fits c.if-not-append.false)) (c.append.ensures.written c.if-not-append.false)),
+          (puts_gathered _ _ _ _ _ _ _ e.gathers (omega (arith, c.append.ensures.fits c.if-not-append.false)) (c.append.ensures.written c.if-not-append.false)),
     )

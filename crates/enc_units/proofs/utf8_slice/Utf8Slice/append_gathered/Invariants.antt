@@ -6,7 +6,7 @@ use Rattle.enc_units.proofs.utf8_slice.Utf8Slice.append_gathered.Given as goal
 
 abbrev pub invariant-loop-buffer : goal.invariant-loop-buffer
 invariant-loop-buffer g l =
-    (length l.buffer ≡ 288)
+    (length l.buffer ≡ 304)
     × PutsPieces encode_utf8 (g.G.Gather.means l.by) (slice_output l.initial.self.len l.initial.self.dst.now l.initial.self.dst.ghost_name)
     (slice_output l.self.len l.self.dst.now l.self.dst.ghost_name) l.src l.at
 

@@ -1,0 +1,27 @@
+-- Characters of one byte or two, and the ends of four of them.
+use Rattle.std.specs.Prelude.{◌≡◌, ℕ, zero, suc, ◌+◌, ◌*◌, ◌/◌, ◌%◌, ◌≤◌, Bool, List, [], ◌∷◌, take, get_or, if◌then◌else◌}
+use Rattle.std.specs.Char.{IsScalar, encode_utf8}
+use Rattle.std.specs.Int.{w32, to_le_bytes}
+use Rattle.enc_units.specs.declared.ends.TheConstants.{ENDS}
+
+-- the first byte, or both
+abbrev pub byte_or_pair : Bool → ℕ → ℕ → List ℕ
+byte_or_pair is_pair first second = if is_pair then first ∷ second ∷ [] else first ∷ []
+
+-- These bytes are a character whose UTF-8 the word has: its bytes, the first lowest, and their number in the highest.
+pub record MeansWord (Means : List ℕ → ℕ → Type 0) (bytes : List ℕ) (word : ℕ) : Type 0 where
+  pub char : ℕ
+  pub scalar : IsScalar char
+  pub means : Means bytes char
+  pub bound : word / 0x100_0000 ≤ 4
+  pub utf8 : take (word / 0x100_0000) (to_le_bytes w32 word) ≡ encode_utf8 char
+
+-- These bytes are this character, of one code unit in UTF-16.
+pub record MeansUnit (Means : List ℕ → ℕ → Type 0) (bytes : List ℕ) (unit : ℕ) : Type 0 where
+  pub scalar : IsScalar unit
+  pub means : Means bytes unit
+
+-- Where the first characters end, at most four, by which of eight bytes lead a pair: of none at 0.
+abbrev pub end_after : ℕ → ℕ → ℕ
+end_after leads zero = 0
+end_after leads (suc k) = get_or ENDS (leads % 0x100 * 4 + k) 0

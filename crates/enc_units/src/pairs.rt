@@ -1,0 +1,138 @@
+//! Characters of one byte or two, four at a time with no branch on which they are.
+
+ghost use Rattle.std.specs.Prelude.{◌≡◌, ◌+◌, ◌<◌, ◌≤◌, length, take, drop};
+ghost use Rattle.std.specs.Char.{encode_utf8};
+ghost use Rattle.enc_units.specs.Gathering.{Gathers};
+ghost use Rattle.enc_units.specs.Pairs.{end_after};
+
+use crate::ascii::are_ascii;
+use crate::ends::ENDS;
+use crate::gather::{ENOUGH, Encoded, Gather, store_text, utf8_of};
+use crate::pieces::Pieces;
+use std::simd::prelude::*;
+
+/// Where a character ends, counted from the start of the first of four, if these of the bytes from there on lead a pair.
+#[inline(always)]
+fn end_of(leads: u64, character: usize) -> usize
+    requires { character < 4 }
+    ensures { result ≡ end_after leads (character + 1) }
+{
+    ENDS[(leads % 0x100) as usize * 4 + character] as usize
+}
+
+/// Stores the UTF-8 of four characters, or of those before one that isn't known, after the first `at` bytes of a buffer.
+/// Returns how many bytes of `src` they have from `from` on, where their UTF-8 ends, and whether they are four.
+#[inline(always)]
+fn store_four<P: Pieces>(
+    pieces: P,
+    buffer: &mut [u8],
+    at: usize,
+    src: &[u8],
+    from: usize,
+    leads: u64,
+) -> (usize, usize, bool)
+    requires from { from + 8 ≤ length src.now }
+    requires room { at + 16 ≤ length buffer.old }
+    ensures read { result.0 ≤ 8 }
+    ensures bound { result.1 ≤ at + 16 }
+    ensures len { length buffer.new ≡ length buffer.old }
+    ensures gathers { Gathers encode_utf8 (P.means pieces) (drop from src.now) result.0 (take at buffer.old)
+        (take result.1 buffer.new) }
+{
+    let mut read = 0;
+    let mut end = at;
+    let mut count = 0;
+    while count < 4 {
+        let next = end_of(leads, count);
+        let word = pieces.word(next - read == 2, src[from + read], src[from + read + 1]);
+        if word == 0 {
+            return (read, end, false);
+        }
+        let text = Encoded {
+            bytes: word.to_le_bytes(),
+            len: word / 0x1000000,
+        };
+        end = store_text(buffer, end, text);
+        read = next;
+        count += 1;
+    }
+    (read, end, true)
+}
+
+/// The same of eight characters.
+#[inline(always)]
+fn store_eight<P: Pieces>(
+    pieces: P,
+    buffer: &mut [u8],
+    at: usize,
+    src: &[u8],
+    from: usize,
+    leads: u64,
+) -> (usize, usize)
+    requires from { from + 16 ≤ length src.now }
+    requires room { at + 32 ≤ length buffer.old }
+    ensures bound { result.1 ≤ at + 32 }
+    ensures len { length buffer.new ≡ length buffer.old }
+    ensures gathers { Gathers encode_utf8 (P.means pieces) (drop from src.now) result.0 (take at buffer.old)
+        (take result.1 buffer.new) }
+{
+    let (first, end, is_whole) = store_four(pieces, buffer, at, src, from, leads);
+    if !is_whole {
+        return (first, end);
+    }
+    let (second, end, _) = store_four(
+        pieces,
+        buffer,
+        end,
+        src,
+        from + first,
+        leads >> first as u64,
+    );
+    (first + second, end)
+}
+
+/// Characters of one byte or two, and others one by one.
+#[derive(Clone, Copy)]
+pub(crate) struct Pairs<P> {
+    pub(crate) pieces: P,
+}
+
+impl<P: Pieces> Gather for Pairs<P> {
+    ghost means = { λ g. P.means g.pieces };
+
+    ghost ready = { λ _. Unit {0} };
+
+    fn has_ascii(&self) -> bool {
+        self.pieces.has_ascii()
+    }
+
+    /// It leaves off where no character is known to begin, where the buffer has enough, and 32 bytes before the end.
+    #[inline(always)]
+    fn gather(&self, buffer: &mut [u8], src: &[u8]) -> (usize, usize) {
+        let has_ascii = self.pieces.has_ascii();
+        let mut read = 0;
+        let mut written = 0;
+        while written <= ENOUGH && 32 <= src.len() - read {
+            let lanes = u8x16::from_slice(&src[read..]);
+            if has_ascii && are_ascii(lanes) {
+                lanes.copy_to_slice(&mut buffer[written..]);
+                read += 16;
+                written += 16;
+                continue;
+            }
+            let leads = self.pieces.leads(lanes);
+            let (more, end) = store_eight(self.pieces, buffer, written, src, read, leads);
+            read += more;
+            written = end;
+            if more > 0 {
+                continue;
+            }
+            let Some((character, len)) = self.pieces.piece(src, read) else {
+                break;
+            };
+            written = store_text(buffer, written, utf8_of(character));
+            read += len;
+        }
+        (read, written)
+    }
+}
