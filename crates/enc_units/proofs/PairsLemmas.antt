@@ -4,11 +4,13 @@ use Rattle.std.proofs.Common.{length, take, drop, get_or, refl, ap, sym, subst, 
 use Rattle.std.proofs.lemmas.Bool.{and_parts}
 use Rattle.std.proofs.lemmas.Bool.Decides.{nat_tests}
 use Rattle.std.specs.Char.{IsScalar, encode_utf8}
+use Rattle.std.specs.Char.Escape.{encode_utf16}
 use Rattle.std.specs.Int.{w32, to_le_bytes}
 use Rattle.enc_units.specs.declared.ends.TheConstants.{ENDS}
 use Rattle.enc_units.specs.Gathering.{Gathers}
 use Rattle.enc_units.specs.Pairs.{byte_or_pair, MeansWord, MeansUnit, end_after}
 use Rattle.enc_units.proofs.GatherLemmas.{gathers_then, gathers_one, get_or_drop}
+use Rattle.enc_units.proofs.UnitsLemmas.{one_unit}
 
 -- one or two further
 abbrev pub goes : ℕ → ℕ → Bool
@@ -145,3 +147,9 @@ module _ (Means : List ℕ → ℕ → Type 0) (src : List ℕ) (from read next 
       → Gathers encode_utf8 Means (drop from src) next before after
   gathers_word word before mid after m p w =
       gathers_front encode_utf8 (eqb (next - read) 2) m.char before mid after refl m.scalar m.means p (w ∙ ap (λ z. mid ++ z) m.utf8)
+
+  -- one more character, as a code unit
+  pub gathers_unit : (unit : ℕ) (before mid after : List ℕ) → unit < 0x1_0000 → MeansUnit Means (byte_or_pair (eqb (next - read) 2) first second) unit
+      → Gathers encode_utf16 Means (drop from src) read before mid → after ≡ mid ++ unit ∷ [] → Gathers encode_utf16 Means (drop from src) next before after
+  gathers_unit unit before mid after l m p w =
+      gathers_front encode_utf16 (eqb (next - read) 2) unit before mid after refl m.scalar m.means p (w ∙ ap (λ z. mid ++ z) (sym (one_unit unit l)))

@@ -2,14 +2,24 @@
 
 ghost use Rattle.std.specs.Prelude.{◌≡◌, ℕ, ◌+◌, ◌<◌, ◌≤◌, List, [], ◌∷◌, ◌++◌, length, take, drop, slice_index, IsTrue};
 ghost use Rattle.std.specs.Char.{IsScalar, encode_utf8};
+ghost use Rattle.std.specs.Char.Escape.{encode_utf16};
 ghost use Rattle.enc_units.specs.Validity.{AreAscii};
 ghost use Rattle.enc_units.specs.Gathering.{Gathers};
 
 use crate::pieces::Pieces;
 use std::simd::prelude::*;
 
+/// Fewer bytes than these are not gathered.
+pub(crate) const SHORT: usize = 64;
+
 /// The length of the buffer.
 pub(crate) const BUFFER: usize = 304;
+
+/// The length of a buffer of code units.
+pub(crate) const UNITS_BUFFER: usize = 152;
+
+/// Once so many code units are there, no more are gathered.
+pub(crate) const UNITS_ENOUGH: usize = 128;
 
 /// Once so many bytes are there, no more are gathered. What is written at once is at most sixteen bytes more.
 pub(crate) const ENOUGH: usize = 256;
@@ -102,6 +112,23 @@ pub(crate) fn store_text(buffer: &mut [u8], at: usize, text: Encoded) -> usize
     at + text.len as usize
 }
 
+/// Stores the code units of a character after the first `at` of a buffer, and returns where they end.
+#[inline(always)]
+pub(crate) fn store_units(buffer: &mut [u16], at: usize, character: char) -> usize
+    requires { at + 2 ≤ length buffer.old }
+    ensures end { result ≡ at + length (encode_utf16 character) }
+    ensures bound { result ≤ at + 2 }
+    ensures scalar { IsScalar character }
+    ensures len { length buffer.new ≡ length buffer.old }
+    ensures stored { take result buffer.new ≡ take at buffer.old ++ encode_utf16 character }
+{
+    let width = character.len_utf16();
+    let mut units = [0; 2];
+    let text = character.encode_utf16(&mut units);
+    buffer[at..at + width].copy_from_slice(text);
+    at + width
+}
+
 /// Stores the ASCII among the sixteen bytes of `src` from `from` on, before a byte that isn't, where ASCII bytes are
 /// characters, and answers how much.
 #[inline(always)]
@@ -145,6 +172,20 @@ pub(crate) trait Gather {
         ensures len { length buffer.new ≡ length buffer.old }
         ensures bound { result.1 ≤ length buffer.new }
         ensures gathers { Gathers encode_utf8 (means self.now) src.now result.0 [] (take result.1 buffer.new) };
+
+    /// The same in UTF-16, in a buffer of code units.
+    fn gather_units(&self, buffer: &mut [u16], src: &[u8]) -> (usize, usize)
+        requires buffer { length buffer.old ≡ 152 }
+        requires ready { ready self.now }
+        ensures len { length buffer.new ≡ length buffer.old }
+        ensures bound { result.1 ≤ length buffer.new }
+        ensures gathers { Gathers encode_utf16 (means self.now) src.now result.0 [] (take result.1 buffer.new) }
+    {
+        let _gather = self;
+        let _bytes = src;
+        let _buffer = buffer;
+        (0, 0)
+    }
 }
 
 /// Characters one by one, and ASCII in steps of sixteen.

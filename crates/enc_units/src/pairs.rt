@@ -2,12 +2,13 @@
 
 ghost use Rattle.std.specs.Prelude.{◌≡◌, ◌+◌, ◌<◌, ◌≤◌, length, take, drop};
 ghost use Rattle.std.specs.Char.{encode_utf8};
+ghost use Rattle.std.specs.Char.Escape.{encode_utf16};
 ghost use Rattle.enc_units.specs.Gathering.{Gathers};
 ghost use Rattle.enc_units.specs.Pairs.{end_after};
 
 use crate::ascii::are_ascii;
 use crate::ends::ENDS;
-use crate::gather::{ENOUGH, Encoded, Gather, store_text, utf8_of};
+use crate::gather::{ENOUGH, Encoded, Gather, UNITS_ENOUGH, store_text, store_units, utf8_of};
 use crate::pieces::Pieces;
 use std::simd::prelude::*;
 
@@ -91,6 +92,73 @@ fn store_eight<P: Pieces>(
     (first + second, end)
 }
 
+/// The same as `store_four`, in UTF-16.
+#[inline(always)]
+fn store_four_units<P: Pieces>(
+    pieces: P,
+    buffer: &mut [u16],
+    at: usize,
+    src: &[u8],
+    from: usize,
+    leads: u64,
+) -> (usize, usize, bool)
+    requires from { from + 8 ≤ length src.now }
+    requires room { at + 4 ≤ length buffer.old }
+    ensures read { result.0 ≤ 8 }
+    ensures bound { result.1 ≤ at + 4 }
+    ensures len { length buffer.new ≡ length buffer.old }
+    ensures gathers { Gathers encode_utf16 (P.means pieces) (drop from src.now) result.0 (take at buffer.old)
+        (take result.1 buffer.new) }
+{
+    let mut read = 0;
+    let mut end = at;
+    let mut count = 0;
+    while count < 4 {
+        let next = end_of(leads, count);
+        let unit = pieces.unit(next - read == 2, src[from + read], src[from + read + 1]);
+        if unit == 0 {
+            return (read, end, false);
+        }
+        buffer[end] = unit;
+        end += 1;
+        read = next;
+        count += 1;
+    }
+    (read, end, true)
+}
+
+/// The same as `store_eight`, in UTF-16.
+#[inline(always)]
+fn store_eight_units<P: Pieces>(
+    pieces: P,
+    buffer: &mut [u16],
+    at: usize,
+    src: &[u8],
+    from: usize,
+    leads: u64,
+) -> (usize, usize)
+    requires from { from + 16 ≤ length src.now }
+    requires room { at + 8 ≤ length buffer.old }
+    ensures bound { result.1 ≤ at + 8 }
+    ensures len { length buffer.new ≡ length buffer.old }
+    ensures gathers { Gathers encode_utf16 (P.means pieces) (drop from src.now) result.0 (take at buffer.old)
+        (take result.1 buffer.new) }
+{
+    let (first, end, is_whole) = store_four_units(pieces, buffer, at, src, from, leads);
+    if !is_whole {
+        return (first, end);
+    }
+    let (second, end, _) = store_four_units(
+        pieces,
+        buffer,
+        end,
+        src,
+        from + first,
+        leads >> first as u64,
+    );
+    (first + second, end)
+}
+
 /// Characters of one byte or two, and others one by one.
 #[derive(Clone, Copy)]
 pub(crate) struct Pairs<P> {
@@ -131,6 +199,36 @@ impl<P: Pieces> Gather for Pairs<P> {
                 break;
             };
             written = store_text(buffer, written, utf8_of(character));
+            read += len;
+        }
+        (read, written)
+    }
+
+    /// It leaves off as `gather` does.
+    #[inline(always)]
+    fn gather_units(&self, buffer: &mut [u16], src: &[u8]) -> (usize, usize) {
+        let has_ascii = self.pieces.has_ascii();
+        let mut read = 0;
+        let mut written = 0;
+        while written <= UNITS_ENOUGH && 32 <= src.len() - read {
+            let lanes = u8x16::from_slice(&src[read..]);
+            if has_ascii && are_ascii(lanes) {
+                lanes.cast::<u16>().copy_to_slice(&mut buffer[written..]);
+                read += 16;
+                written += 16;
+                continue;
+            }
+            let leads = self.pieces.leads(lanes);
+            let (more, end) = store_eight_units(self.pieces, buffer, written, src, read, leads);
+            read += more;
+            written = end;
+            if more > 0 {
+                continue;
+            }
+            let Some((character, len)) = self.pieces.piece(src, read) else {
+                break;
+            };
+            written = store_units(buffer, written, character);
             read += len;
         }
         (read, written)

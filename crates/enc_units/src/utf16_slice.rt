@@ -8,7 +8,9 @@ ghost use Rattle.enc_units.specs.Output.{DetermineTexts, appended, slice_output}
 ghost use Rattle.enc_units.specs.Pieces.{PutsPieces};
 
 use crate::ascii::ascii_len;
+use crate::gather::{Gather, SHORT, UNITS_BUFFER};
 use crate::laws::utf_16_units_determine_a_text;
+use crate::pairs::Pairs;
 use crate::pieces::Pieces;
 use crate::units::Units;
 use crate::utf8_pieces::Utf8Pieces;
@@ -72,6 +74,76 @@ impl<'a> Utf16Slice<'a> {
         widen(&src[..len], &mut self.dst[self.len..]);
         self.len += len;
         len
+    }
+
+    /// Writes code units and returns true, or writes nothing where they don't fit.
+    #[inline(always)]
+    fn append_units(&mut self, units: &[u16]) -> bool
+        ensures fits { IsTrue result → length units.now ≤ length self.old.dst.now - self.old.len }
+        ensures written { IsTrue result → slice_output self.new.len self.new.dst.now self.new.dst.ghost_name
+            ≡ appended (slice_output self.old.len self.old.dst.now self.old.dst.ghost_name) units.now }
+        ensures unchanged { IsFalse result → slice_output self.new.len self.new.dst.now self.new.dst.ghost_name
+            ≡ slice_output self.old.len self.old.dst.now self.old.dst.ghost_name }
+    {
+        if units.len() > self.dst.len() - self.len {
+            return false;
+        }
+        self.dst[self.len..self.len + units.len()].copy_from_slice(units);
+        self.len += units.len();
+        true
+    }
+
+    /// Writes the ASCII in front, as much as fits, where ASCII bytes are characters, and returns how much.
+    #[inline(always)]
+    fn append_ascii_of<G: Gather>(&mut self, by: &G, src: &[u8]) -> usize
+        ensures { PutsPieces encode_utf16 (G.means by.now)
+            (slice_output self.old.len self.old.dst.now self.old.dst.ghost_name)
+            (slice_output self.new.len self.new.dst.now self.new.dst.ghost_name) src.now result }
+    {
+        if !by.has_ascii() {
+            return 0;
+        }
+        self.append_ascii(src)
+    }
+
+    /// Writes ASCII, and characters that are gathered, a buffer of them at once, until such a buffer doesn't fit or
+    /// nothing is gathered, and returns how many bytes they have.
+    #[inline(always)]
+    fn append_gathered<G: Gather>(&mut self, by: &G, src: &[u8]) -> usize
+        requires { G.ready by.now }
+        ensures { PutsPieces encode_utf16 (G.means by.now)
+            (slice_output self.old.len self.old.dst.now self.old.dst.ghost_name)
+            (slice_output self.new.len self.new.dst.now self.new.dst.ghost_name) src.now result }
+    {
+        let mut buffer = [0; UNITS_BUFFER];
+        let mut at = 0;
+        loop {
+            let (_, rest) = src.split_at(at);
+            at += self.append_ascii_of(by, rest);
+            let (_, behind) = src.split_at(at);
+            let (read, written) = by.gather_units(&mut buffer, behind);
+            if read == 0 {
+                return at;
+            }
+            if !self.append_units(&buffer[..written]) {
+                return at;
+            }
+            at += read;
+        }
+    }
+
+    /// Writes the characters in front that are gathered, where there are bytes enough, and returns how many bytes they
+    /// have.
+    #[inline(always)]
+    fn append_run<P: Pieces>(&mut self, pieces: P, src: &[u8]) -> usize
+        ensures { PutsPieces encode_utf16 (P.means pieces)
+            (slice_output self.old.len self.old.dst.now self.old.dst.ghost_name)
+            (slice_output self.new.len self.new.dst.now self.new.dst.ghost_name) src.now result }
+    {
+        if src.len() < SHORT || !pieces.are_pairs() {
+            return 0;
+        }
+        self.append_gathered(&Pairs { pieces }, src)
     }
 
     /// Writes the characters in front one by one, but ASCII as runs, and answers how many bytes they have. It leaves off
@@ -157,7 +229,10 @@ impl<'a> Units for Utf16Slice<'a> {
         self.append_each(Utf8Pieces {}, src)
     }
 
+    #[inline(always)]
     fn put_pieces<P: Pieces>(&mut self, pieces: P, src: &[u8]) -> usize {
-        self.append_each(pieces, src)
+        let at = self.append_run(pieces, src);
+        let (_, rest) = src.split_at(at);
+        at + self.append_each(pieces, rest)
     }
 }

@@ -1,0 +1,27 @@
+use Rattle.std.proofs.Common.{◌≡◌, ◌∙◌, true, refl, arith, length-set}
+use Rattle.std.proofs.lemmas.List.{take_more_set}
+use Rattle.enc_units.proofs.GatherLemmas.{gathers_nothing}
+use Rattle.enc_units.proofs.PairsLemmas.{goes, goes_up, end_goes, gathers_unit}
+use Rattle.enc_units.proofs.pairs.store_four_units.Goals as goal
+
+pub loop-count-init : goal.loop-count-init
+loop-count-init g c = (omega arith, refl, omega arith, omega arith, refl, gathers_nothing _ _ _ _ _ refl)
+
+pub overflow_sub-next : goal.overflow_sub-next
+overflow_sub-next g c = (goes_up _ _ (end_goes _ _ _ _ c.loop-count-test.true c.loop-count.invariant.1 c.end_of-next.ensures)).0
+
+pub loop-count-preserved : goal.loop-count-preserved
+loop-count-preserved g c =
+    let i = c.loop-count.invariant in
+    let next = c.end_of-next.result in
+    let h : goes c.loop-count.read next ≡ true = end_goes _ _ _ _ c.loop-count-test.true i.1 c.end_of-next.ensures in
+    let up = goes_up c.loop-count.read next h in
+    let u = c.unit-unit.ensures (omega arith) in (
+      omega arith,
+      c.end_of-next.ensures,
+      omega (arith, i.2, up.1),
+      omega (arith, i.3),
+      length-set c.loop-count.buffer c.loop-count.end c.unit-unit.result ∙ i.4,
+      gathers_unit _ c.args.src.now c.args.from c.loop-count.read next h (omega arith) _ _ _ _ (omega arith) u i.5
+          (take_more_set c.loop-count.buffer c.loop-count.end c.unit-unit.result (omega arith)),
+    )
