@@ -24,6 +24,7 @@ module _ (grid : Grid) where
   abbrev pub pointer_char : ℕ → Option ℕ
   pointer_char pointer = index_at (planes_of (grid_index grid)) (runs_of (grid_index grid)) pointer
 
+  -- at a single byte, that of ASCII, or none
   pub grid_char-of_ascii : (b : ℕ) → b < 128 → grid_char grid b ≡ Some b
   unfolding grid_char
   grid_char-of_ascii b l = cond-true _ _ _ (lt-ltb b 128 l)
@@ -38,33 +39,32 @@ module _ (grid : Grid) where
       cond-false _ _ _ (le-ltb place 128 (omega arith)) ∙ cond-false _ _ _ (le-ltb place 256 (omega arith))
       ∙ ap (cell_char grid) (omega arith)
 
-  cell_char-by : (cell r c : ℕ) → cell / (grid_width grid + 1) ≡ r → cell % (grid_width grid + 1) ≡ c
-      → cell_char grid cell ≡ cond (nat_lt c (grid_width grid)) (pointer_char (r * grid_width grid + c)) None
-  cell_char-by cell r c q m =
-      ap (λ k. cond (nat_lt k (grid_width grid)) (pointer_char (cell / (grid_width grid + 1) * grid_width grid + k)) None) m
-      ∙ ap (λ k. cond (nat_lt c (grid_width grid)) (pointer_char (k * grid_width grid + c)) None) q
+  -- the character at a row and a column, the last one too
+  abbrev column_char : ℕ → ℕ → Option ℕ
+  column_char r c = cond (nat_lt c (grid_width grid)) (pointer_char (r * grid_width grid + c)) None
 
-  -- a cell at a row and a column, the last one too
-  cell_char-at : (r c : ℕ) → c ≤ grid_width grid
-      → cell_char grid (r * (grid_width grid + 1) + c) ≡ cond (nat_lt c (grid_width grid)) (pointer_char (r * grid_width grid + c)) None
-  cell_char-at r c l =
-      cell_char-by _ r c (div-mul-add r (grid_width grid + 1) c (omega arith)) (mod-mul-add r (grid_width grid + 1) c (omega arith))
+  grid_char-of_place : (r c : ℕ) → c ≤ grid_width grid
+      → grid_char grid (256 + r * (grid_width grid + 1) + c) ≡ column_char r c
+  grid_char-of_place r c l =
+      let cell : ℕ = r * (grid_width grid + 1) + c in
+      let row = div-mul-add r (grid_width grid + 1) c (omega arith) in
+      let column = mod-mul-add r (grid_width grid + 1) c (omega arith) in
+      grid_char-of_cell cell _ (omega arith) ∙ ap (λ k. column_char (cell / (grid_width grid + 1)) k) column
+      ∙ ap (λ k. column_char k c) row
 
-  -- at a row and a column that has pointers, the pointer's character
+  -- at a row and a column of pointers, the pointer's character
   pub grid_char-of_column : (r c : ℕ) → c < grid_width grid
       → grid_char grid (256 + r * (grid_width grid + 1) + c) ≡ pointer_char (r * grid_width grid + c)
-  grid_char-of_column r c l =
-      grid_char-of_cell (r * (grid_width grid + 1) + c) _ (omega arith) ∙ cell_char-at r c (omega arith)
-      ∙ cond-true _ _ _ (lt-ltb c (grid_width grid) l)
+  grid_char-of_column r c l = grid_char-of_place r c (omega arith) ∙ cond-true _ _ _ (lt-ltb c (grid_width grid) l)
 
   -- none in the last column
   pub grid_char-of_last : (r : ℕ) → grid_char grid (256 + r * (grid_width grid + 1) + grid_width grid) ≡ None
   grid_char-of_last r =
-      grid_char-of_cell (r * (grid_width grid + 1) + grid_width grid) _ (omega arith) ∙ cell_char-at r (grid_width grid) (omega arith)
+      grid_char-of_place r (grid_width grid) (omega arith)
       ∙ cond-false _ _ _ (le-ltb (grid_width grid) (grid_width grid) (omega arith))
 
-past_table : (planes : Planes) (ts : List ℕ) (character : Option ℕ) (p : ℕ) → entry_character planes (get_or ts p 0) ≡ character
-    → length ts ≤ p → character ≡ None
+past_table : (planes : Planes) (ts : List ℕ) (character : Option ℕ) (p : ℕ)
+    → entry_character planes (get_or ts p 0) ≡ character → length ts ≤ p → character ≡ None
 past_table planes ts character p e l = sym e ∙ ap (entry_character planes) (get_or_past ts p 0 l)
 
 -- no pointer has a character that is past the rows
@@ -104,24 +104,28 @@ module _ (kind : ℕ → ℕ → Bool) (grid : Grid) (ts gs : List ℕ)
   byte_found : (place : ℕ) → place < 256 → 0 < get_or gs place 0 → Found kind (grid_char grid place) (get_or gs place 0)
   byte_found place l some =
       let e : 0 + place ≡ place = omega arith in
-      let fits = subst (λ k. byte_ok kind k (get_or gs place 0) ≡ true) e (places_ok-byte kind planes width ts gs 256 0 ok place l some) in
+      let byte = places_ok-byte kind planes width ts gs 256 0 ok place l some in
+      let fits = subst (λ k. byte_ok kind k (get_or gs place 0) ≡ true) e byte in
       let found = byte_ok-found kind place (get_or gs place 0) fits some in
       (place, grid_char-of_ascii grid place found.0, found.1)
 
-  cell_found : (cell r c : ℕ) → cell / (width + 1) ≡ r → cell % (width + 1) ≡ c → cell ≡ r * (width + 1) + c → c ≤ width
-      → 0 < get_or (drop 256 gs) cell 0 → Found kind (cell_char grid cell) (get_or (drop 256 gs) cell 0)
-  cell_found cell r c q m e l some =
+  place_found : (r c place : ℕ) → c ≤ width → place ≡ 256 + r * (width + 1) + c → 0 < get_or gs place 0
+      → Found kind (grid_char grid place) (get_or gs place 0)
+  place_found r c place l e some =
       let rows = places_ok-rows kind planes width ts gs 256 0 ok in
-      let k : suc width ≡ width + 1 = omega arith in
-      let i : cell ≡ r * suc width + c = subst (λ w. cell ≡ r * w + c) (sym k) e in
+      let cell : ℕ = r * suc width + c in
+      let by_suc : r * (width + 1) ≡ r * suc width = ap (λ w. r * w) (omega arith) in
+      let here : get_or (drop 256 gs) cell 0 ≡ get_or gs place 0 = after_drop 256 cell place gs (omega arith) in
+      let there : 0 < get_or (drop 256 gs) cell 0 = omega arith in
       elim (cases_lt c width) [
         | inl low ↦
-            let fits = rows_ok-at (entry_ok kind planes) width r (drop 256 gs) ts c cell (r * width + c) rows low i refl some in
-            let found = entry_ok-found kind planes (get_or ts (r * width + c) 0) (get_or (drop 256 gs) cell 0) fits some in (
-              get_or ts (r * width + c) 0,
-              cell_char-by grid cell r c q m ∙ cond-true _ _ _ (lt-ltb c width low) ∙ sym (table (r * width + c)) ∙ found.0,
-              found.1,
-            )
+            let p : ℕ = r * width + c in
+            let t : ℕ = get_or ts p 0 in
+            let fits = rows_ok-at (entry_ok kind planes) width r (drop 256 gs) ts c cell p rows low refl refl there in
+            let entry = entry_ok-found kind planes t (get_or (drop 256 gs) cell 0) fits there in
+            let column = grid_char-of_column grid r c low in
+            let char = subst (λ k. grid_char grid k ≡ pointer_char grid p) (sym e) column in
+            (t, char ∙ sym (table p) ∙ entry.0, subst (λ g. kind t g ≡ true) here entry.1)
         | inr high ↦
             let z = rows_ok-last_of (entry_ok kind planes) width r (drop 256 gs) ts cell rows (omega arith) in
             absurd (omega arith)
@@ -133,11 +137,7 @@ module _ (kind : ℕ → ℕ → Bool) (grid : Grid) (ts gs : List ℕ)
         | inl l ↦ byte_found place l some
         | inr h ↦
             let cell : ℕ = place - 256 in
-            let e : place ≡ 256 + cell = omega arith in
-            let here : get_or (drop 256 gs) cell 0 ≡ get_or gs place 0 = after_drop 256 cell place gs e in
+            let split = div-add-mod' cell (width + 1) in
             let low : cell % (width + 1) < width + 1 = mod-lt cell {m = width + 1} (omega arith) in
-            let it = cell_found cell (cell / (width + 1)) (cell % (width + 1)) refl refl (sym (div-add-mod' cell (width + 1)))
-            (omega arith) (subst (λ k. 0 < k) (sym here) some) in
-            subst (λ g. Found kind (grid_char grid place) g) here
-            (it.0, grid_char-of_cell grid cell place e ∙ it.1, it.2)
+            place_found (cell / (width + 1)) (cell % (width + 1)) place (omega arith) (omega arith) some
       ]

@@ -17,10 +17,10 @@ or_last false y e h = h
 pub after_drop : (n i j : ℕ) (xs : List ℕ) → j ≡ n + i → get_or (drop n xs) i 0 ≡ get_or xs j 0
 after_drop n i j xs e = get_or-drop n xs i 0 ∙ ap (λ k. get_or xs k 0) (sym e)
 
--- `fits t g`: what a place may have whose pointer has the code point t
+-- `fits t g`: the entry g fits a place whose pointer has the code point t
 module _ (fits : ℕ → ℕ → Bool) (width : ℕ) where
-  -- the places of rows fit the table, and those in the last column, and past the table, are 0; the number is of the
-  -- columns that are left in the row
+  -- the entries of rows fit the table, and those in the last column and past the table are 0; `left` counts the columns
+  -- that are left in the row
   unfoldable pub rows_ok : List ℕ → ℕ → List ℕ → Bool
   rows_ok [] left ts = true
   rows_ok (g ∷ gs) zero ts = g == 0 && rows_ok gs width ts
@@ -34,8 +34,8 @@ module _ (fits : ℕ → ℕ → Bool) (width : ℕ) where
   rows_ok-last (g ∷ gs) (suc left) [] h = rows_ok-last gs left [] (and_parts (g == 0) (rows_ok gs left []) h).1
   rows_ok-last (g ∷ gs) (suc left) (t ∷ ts) h = rows_ok-last gs left ts (and_parts (fits t g) (rows_ok gs left ts) h).1
 
-  rows_ok-column : (gs : List ℕ) (left : ℕ) (ts : List ℕ) → rows_ok gs left ts ≡ true → (c : ℕ) → c < left → 0 < get_or gs c 0
-      → fits (get_or ts c 0) (get_or gs c 0) ≡ true
+  rows_ok-column : (gs : List ℕ) (left : ℕ) (ts : List ℕ) → rows_ok gs left ts ≡ true
+      → (c : ℕ) → c < left → 0 < get_or gs c 0 → fits (get_or ts c 0) (get_or gs c 0) ≡ true
   unfolding rows_ok
   rows_ok-column [] left ts h c l p = absurd (omega arith)
   rows_ok-column (g ∷ gs) zero ts h c l p = absurd (omega arith)
@@ -58,13 +58,15 @@ module _ (fits : ℕ → ℕ → Bool) (width : ℕ) where
   rows_ok-next (g ∷ gs) (suc left) (t ∷ ts) h = rows_ok-next gs left ts (and_parts (fits t g) (rows_ok gs left ts) h).1
 
   -- i is a place in row r, at column c
-  pub rows_ok-last_of : (r : ℕ) (gs ts : List ℕ) (i : ℕ) → rows_ok gs width ts ≡ true → i ≡ r * suc width + width → get_or gs i 0 ≡ 0
+  pub rows_ok-last_of : (r : ℕ) (gs ts : List ℕ) (i : ℕ) → rows_ok gs width ts ≡ true → i ≡ r * suc width + width
+      → get_or gs i 0 ≡ 0
   rows_ok-last_of zero gs ts i h e =
       ap (λ k. get_or gs k 0) (omega arith) ∙ rows_ok-last gs width ts h
   rows_ok-last_of (suc r) gs ts i h e =
       let s = suc-mul r (suc width) in
       sym (after_drop (suc width) (r * suc width + width) i gs (omega arith))
-      ∙ rows_ok-last_of r (drop (suc width) gs) (drop width ts) (r * suc width + width) (rows_ok-next gs width ts h) refl
+      ∙ rows_ok-last_of r (drop (suc width) gs) (drop width ts) (r * suc width + width)
+      (rows_ok-next gs width ts h) refl
 
   pub rows_ok-at : (r : ℕ) (gs ts : List ℕ) (c i p : ℕ) → rows_ok gs width ts ≡ true → c < width
       → i ≡ r * suc width + c → p ≡ r * width + c → 0 < get_or gs i 0 → fits (get_or ts p 0) (get_or gs i 0) ≡ true
@@ -81,26 +83,26 @@ module _ (fits : ℕ → ℕ → Bool) (width : ℕ) where
       let b = after_drop width (r * width + c) p ts (omega arith) in
       subst (λ k. fits k (get_or gs i 0) ≡ true) b
       (subst (λ k. fits (get_or (drop width ts) (r * width + c) 0) k ≡ true) a
-      (rows_ok-at r (drop (suc width) gs) (drop width ts) c (r * suc width + c) (r * width + c) (rows_ok-next gs width ts h) l refl refl
-      (subst (λ k. 0 < k) (sym a) some)))
+      (rows_ok-at r (drop (suc width) gs) (drop width ts) c (r * suc width + c) (r * width + c)
+      (rows_ok-next gs width ts h) l refl refl (subst (λ k. 0 < k) (sym a) some)))
 
 module _ (kind : ℕ → ℕ → Bool) where
-  -- what a place may have whose pointer has a code point, and what that of a single byte may have
+  -- an entry fits the code point of a pointer, and one of the first 256 fits its byte
   unfoldable pub entry_ok : Planes → ℕ → ℕ → Bool
   entry_ok planes t g = g == 0 || (is_entry_code_point planes t && kind t g)
 
   unfoldable pub byte_ok : ℕ → ℕ → Bool
   byte_ok b g = g == 0 || (nat_lt b 128 && kind b g)
 
-  -- from the place b on, places fit single bytes, as many as are left, and those after them the rows of the table
+  -- from the place b on, `left` entries fit their bytes, and the entries after them fit the rows of the table
   unfoldable pub places_ok : Planes → ℕ → List ℕ → List ℕ → ℕ → ℕ → Bool
   places_ok planes width ts [] left b = true
   places_ok planes width ts (g ∷ gs) zero b = rows_ok (entry_ok planes) width (g ∷ gs) width ts
   places_ok planes width ts (g ∷ gs) (suc left) b = byte_ok b g && places_ok planes width ts gs left (b + 1)
 
   module _ (planes : Planes) (width : ℕ) (ts : List ℕ) where
-    pub places_ok-byte : (gs : List ℕ) (left b : ℕ) → places_ok planes width ts gs left b ≡ true → (i : ℕ) → i < left → 0 < get_or gs i 0
-        → byte_ok (b + i) (get_or gs i 0) ≡ true
+    pub places_ok-byte : (gs : List ℕ) (left b : ℕ) → places_ok planes width ts gs left b ≡ true
+        → (i : ℕ) → i < left → 0 < get_or gs i 0 → byte_ok (b + i) (get_or gs i 0) ≡ true
     unfolding places_ok
     places_ok-byte [] left b h i l some = absurd (omega arith)
     places_ok-byte (g ∷ gs) zero b h i l some = absurd (omega arith)
@@ -115,24 +117,27 @@ module _ (kind : ℕ → ℕ → Bool) where
     pub places_ok-rows : (gs : List ℕ) (left b : ℕ) → places_ok planes width ts gs left b ≡ true
         → rows_ok (entry_ok planes) width (drop left gs) width ts ≡ true
     unfolding places_ok rows_ok
-    places_ok-rows [] left b h = subst (λ gs. rows_ok (entry_ok planes) width gs width ts ≡ true) (sym (drop_none left)) refl
+    places_ok-rows [] left b h =
+        subst (λ gs. rows_ok (entry_ok planes) width gs width ts ≡ true) (sym (drop_none left)) refl
     places_ok-rows (g ∷ gs) zero b h = h
     places_ok-rows (g ∷ gs) (suc left) b h =
         places_ok-rows gs left (b + 1) (and_parts (byte_ok b g) (places_ok planes width ts gs left (b + 1)) h).1
 
-  -- there is a character, and the number of the place is right for it
+  -- there is a character, and the entry is right for it
   abbrev pub Found : Option ℕ → ℕ → Type 0
   Found character g = (t : ℕ) × (character ≡ Some t) × (kind t g ≡ true)
 
   pub byte_ok-found : (b g : ℕ) → byte_ok b g ≡ true → 0 < g → (b < 128) × (kind b g ≡ true)
   unfolding byte_ok
   byte_ok-found b g h l =
-      let both = and_parts (nat_lt b 128) (kind b g) (or_last (g == 0) _ (ne_eqb g 0 (λ e. omega arith)) h) in
+      let right = or_last (g == 0) _ (ne_eqb g 0 (λ e. omega arith)) h in
+      let both = and_parts (nat_lt b 128) (kind b g) right in
       (ltb-true b 128 both.0, both.1)
 
   pub entry_ok-found : (planes : Planes) (t g : ℕ) → entry_ok planes t g ≡ true → 0 < g
       → (entry_character planes t ≡ Some t) × (kind t g ≡ true)
   unfolding entry_ok
   entry_ok-found planes t g h l =
-      let both = and_parts (is_entry_code_point planes t) (kind t g) (or_last (g == 0) _ (ne_eqb g 0 (λ e. omega arith)) h) in
+      let right = or_last (g == 0) _ (ne_eqb g 0 (λ e. omega arith)) h in
+      let both = and_parts (is_entry_code_point planes t) (kind t g) right in
       (cond-true _ _ _ both.0, both.1)

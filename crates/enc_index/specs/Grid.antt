@@ -1,4 +1,4 @@
--- Grids: indexes laid out by rows, so that the place of two bytes is a sum. Which character a place has is by the index.
+-- Grids: indexes laid out by rows, where the place of two bytes is a sum. The characters are those of the index.
 use Rattle.std.specs.Prelude.{◌≡◌, ℕ, ◌+◌, ◌-◌, ◌*◌, ◌/◌, ◌%◌, ◌≤◌, nat_lt, Option, Some, None, take, if◌then◌else◌}
 use Rattle.std.specs.Char.{IsScalar, encode_utf8}
 use Rattle.std.specs.Int.{to_le_bytes, w32}
@@ -34,20 +34,21 @@ grid_rows Jis0208 = 120
 abbrev pub grid_len : Grid → ℕ
 grid_len grid = 256 + (grid_rows grid + 2) * (grid_width grid + 1)
 
--- the character of a place after those of single bytes: that of the pointer at its row and column, none in the last column
+-- after the places of single bytes: the character of the pointer at a row and a column, and none in the last column
 abbrev pub cell_char : Grid → ℕ → Option ℕ
 cell_char grid cell =
     let width = grid_width grid in
     let row = cell / (width + 1) in
     let column = cell % (width + 1) in
-    if nat_lt column width then index_at (planes_of (grid_index grid)) (runs_of (grid_index grid)) (row * width + column) else None
+    let index = grid_index grid in
+    if nat_lt column width then index_at (planes_of index) (runs_of index) (row * width + column) else None
 
 -- the character of a place: ASCII, none for other single bytes, and then those of the index
 unfoldable pub grid_char : Grid → ℕ → Option ℕ
 grid_char grid place =
     if nat_lt place 128 then Some place else (if nat_lt place 256 then None else cell_char grid (place - 256))
 
--- a word has the UTF-8 of a character: its bytes, the first lowest, and their number, three at most, in the highest byte
+-- a word has the UTF-8 of a character: its bytes, the first lowest, and their number in the highest byte, 3 at most
 pub record IsUtf8Word (c word : ℕ) : Type 0 where
   pub scalar : IsScalar c
   pub bound : word / 0x100_0000 ≤ 3

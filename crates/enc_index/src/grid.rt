@@ -12,10 +12,11 @@ use crate::data::jis0208_grid::{JIS0208_UNITS, JIS0208_WORDS};
 /// A double-byte index laid out by rows, by name. Its places are, in this order:
 ///
 /// - 256 places for single bytes. The first 128 are ASCII, and the others are empty.
-/// - The rows of the index. Each has a place for each of its pointers and an empty one, for bad trail bytes.
+/// - The rows of the index. Each has a place for each of its pointers, and an empty one for bad
+///   trail bytes.
 /// - Two empty rows, for bad lead bytes.
 ///
-/// A decoder adds up the place of two bytes: where the row of the lead begins, and the column of the trail.
+/// The place of two bytes is a sum: where the row of the lead begins, and the column of the trail.
 #[derive(Clone, Copy)]
 pub enum Grid {
     /// Index Big5: 126 rows of 157 pointers.
@@ -29,8 +30,10 @@ pub enum Grid {
 }
 
 impl Grid {
-    /// The UTF-8 of the character at a place, as a word: its bytes, the first lowest, and their number in the highest
-    /// byte. 0 if the place is empty or the character has four bytes. One load. Takes no memory.
+    /// The UTF-8 of the character at a place, as a word: its bytes, the first lowest, and their
+    /// number in the highest byte. 0 if the place is empty or the character has four bytes.
+    ///
+    /// It takes one load, and no memory.
     #[inline(always)]
     pub fn word(self, place: usize) -> u32
         requires { place < grid_len self }
@@ -44,8 +47,10 @@ impl Grid {
         }
     }
 
-    /// The character at a place, as a UTF-16 code unit. 0 if the place is empty or the character takes two units. One
-    /// load. Takes no memory.
+    /// The UTF-16 code unit of the character at a place. 0 if the place is empty or the character
+    /// has two units. At place 0 it is the unit of U+0000, which is 0 too.
+    ///
+    /// It takes one load, and no memory.
     #[inline(always)]
     pub fn unit(self, place: usize) -> u16
         requires { place < grid_len self }
