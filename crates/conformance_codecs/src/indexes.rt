@@ -2,7 +2,7 @@
 //! are computed by hand from the bytes of Python's codecs cp932, euc_jp, cp949, gb18030 and big5hkscs; those of U+7E8A,
 //! U+E7C7 and the ends of the indexes are the Encoding Standard's.
 
-use enc_index::{List, Planes, SingleByteIndex};
+use enc_index::{Grid, List, Planes, SingleByteIndex};
 use enc_pointers as pointers;
 
 /// Pointers in an index, and their characters.
@@ -35,6 +35,35 @@ fn finds_characters_in_every_index(rt: HostRuntime) {
     for (index, pointer, want) in CHARACTERS {
         assert_eq!(rt; index.at(*pointer), *want, "at {pointer}");
     }
+}
+
+/// Places are computed by hand from pointers above: 256, the row times the row's places, and the column.
+#[test]
+fn gives_words_at_places(rt: HostRuntime) {
+    assert_eq!(rt; Grid::Big5.word(0x00), 0x01000000);
+    assert_eq!(rt; Grid::EucKr.word(0x41), 0x01000041);
+    assert_eq!(rt; Grid::Gb18030.word(0x80), 0);
+    assert_eq!(rt; Grid::Gb18030.word(256 + 32 * 191 + 99), 0x0200B7C2);
+    assert_eq!(rt; Grid::Jis0208.word(256 + 15 * 95), 0x039CBAE4);
+    assert_eq!(rt; Grid::Jis0208.word(256 + 118 * 95 + 11), 0x0391BBE9);
+    assert_eq!(rt; Grid::Jis0208.word(256 + 121 * 95 + 94), 0);
+    assert_eq!(rt; Grid::EucKr.word(256 + 47 * 191 + 96), 0x0380B0EA);
+    assert_eq!(rt; Grid::EucKr.word(256 + 47 * 191 + 190), 0);
+    assert_eq!(rt; Grid::Gb18030.word(256 + 47 * 191 + 96), 0x038A95E5);
+    assert_eq!(rt; Grid::Big5.word(256 + 35 * 158 + 17), 0x03818DE5);
+    assert_eq!(rt; Grid::Big5.word(256 + 28 * 158 + 144), 0);
+}
+
+#[test]
+fn gives_units_at_places(rt: HostRuntime) {
+    assert_eq!(rt; Grid::EucKr.unit(0x41), 0x41);
+    assert_eq!(rt; Grid::Gb18030.unit(0x80), 0);
+    assert_eq!(rt; Grid::Gb18030.unit(256 + 32 * 191 + 99), 0xB7);
+    assert_eq!(rt; Grid::Jis0208.unit(256 + 15 * 95), 0x4E9C);
+    assert_eq!(rt; Grid::EucKr.unit(256 + 47 * 191 + 96), 0xAC00);
+    assert_eq!(rt; Grid::EucKr.unit(256 + 47 * 191 + 190), 0);
+    assert_eq!(rt; Grid::Big5.unit(256 + 35 * 158 + 17), 0x5341);
+    assert_eq!(rt; Grid::Big5.unit(256 + 28 * 158 + 144), 0);
 }
 
 /// The first run of some indexes.

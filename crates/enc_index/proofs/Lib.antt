@@ -1,4 +1,8 @@
 mod Computing
+mod GridEntries
+pub mod GridLemmas
+mod GridTables
+mod GridTests
 pub mod HalvesLemmas
 pub mod MultiByteTables
 mod RunLemmas

@@ -1,3 +1,4 @@
+pub mod Grid
 pub mod Index
 pub mod MultiByteTables
 pub mod Runs

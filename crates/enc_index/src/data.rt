@@ -1,9 +1,13 @@
 //! The index data, which scripts/make-indexes writes from data/indexes.
 
 pub mod big5;
+pub mod big5_grid;
 pub mod euc_kr;
+pub mod euc_kr_grid;
 pub mod gb18030;
+pub mod gb18030_grid;
 pub mod gb18030_ranges;
 pub mod jis0208;
+pub mod jis0208_grid;
 pub mod jis0212;
 pub mod single_byte;

@@ -3,11 +3,13 @@
 #![tactic(auto)]
 
 mod data;
+mod grid;
 mod list;
 mod search;
 mod single_byte_index;
 mod table;
 
+pub use grid::Grid;
 pub use list::List;
 pub use search::run_with;
 pub use single_byte_index::SingleByteIndex;

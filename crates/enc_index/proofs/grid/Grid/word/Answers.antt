@@ -1,0 +1,14 @@
+use Rattle.enc_index.proofs.GridTables.{big5_word, euc_kr_word, gb18030_word, jis0208_word}
+use Rattle.enc_index.proofs.grid.Grid.word.Goals as goal
+
+pub returns-in-Big5 : goal.returns-in-Big5
+returns-in-Big5 c = big5_word c.args.self c.args.place c.in-Big5.is
+
+pub returns-in-EucKr : goal.returns-in-EucKr
+returns-in-EucKr c = euc_kr_word c.args.self c.args.place c.in-EucKr.is
+
+pub returns-in-Gb18030 : goal.returns-in-Gb18030
+returns-in-Gb18030 c = gb18030_word c.args.self c.args.place c.in-Gb18030.is
+
+pub returns-in-Jis0208 : goal.returns-in-Jis0208
+returns-in-Jis0208 c = jis0208_word c.args.self c.args.place c.in-Jis0208.is
