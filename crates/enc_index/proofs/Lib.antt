@@ -1,6 +1,7 @@
 mod Computing
 mod GridEntries
 pub mod GridLemmas
+pub mod PlaceLemmas
 mod GridTables
 mod GridTests
 pub mod HalvesLemmas

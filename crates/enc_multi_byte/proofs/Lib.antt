@@ -3,6 +3,7 @@ pub mod MultiByteRule
 pub mod MultiByteComes
 pub mod DoubleByteLemmas
 pub mod PairLemmas
+pub mod PairPlaces
 pub mod EucJpLemmas
 pub mod Gb18030Lemmas
 pub mod MultiBytePieces

@@ -5,7 +5,8 @@ ghost use Rattle.enc_multi_byte.specs.Big5.{big5_trail, big5_text};
 
 use crate::double_byte::{Double, DoubleByte, text_of};
 use crate::multi_byte::MultiByteDecoder;
-use enc_index::List;
+use crate::places::{BIG5_COLUMNS, BIG5_ROWS};
+use enc_index::{Grid, List};
 use enc_machine::Text;
 
 /// Big5 (Encoding Standard 11.1): ASCII, and two bytes by index Big5, of which four are two characters.
@@ -37,6 +38,7 @@ fn text_at(pointer: u32) -> Option<Text>
 }
 
 impl DoubleByte for Big5 {
+    ghost use Rattle.enc_index.specs.declared.grid.Grid.TheVariants as grids;
     ghost use Rattle.enc_multi_byte.specs.Big5.{big5_lead, big5_single, big5_pair};
 
     ghost leads = { big5_lead };
@@ -64,6 +66,17 @@ impl DoubleByte for Big5 {
         }
         let offset = if trail < 0x7F { 0x40 } else { 0x62 };
         text_at((lead as u32 - 0x81) * 157 + (trail as u32 - offset))
+    }
+
+    ghost pairs_in = { grids.Big5 };
+
+    fn grid() -> Grid {
+        Grid::Big5
+    }
+
+    #[inline(always)]
+    fn pair_place(first: u8, second: u8) -> usize {
+        BIG5_ROWS[first as usize] as usize + BIG5_COLUMNS[second as usize] as usize
     }
 
     #[tactic(auto, using(crate::proofs::PairLemmas::big5_pairs))]

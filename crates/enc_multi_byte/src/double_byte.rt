@@ -1,10 +1,13 @@
 //! The legacy encodings of one byte and two.
 
 ghost use Rattle.std.specs.Prelude.{◌≡◌, ℕ, ◌+◌, ◌<◌, Bool, Option, Some, true, false};
+ghost use Rattle.enc_index.specs.declared.grid.Grid.{Grid};
+ghost use Rattle.enc_index.specs.Grid.{grid_len, grid_char};
 ghost use Rattle.enc_machine.specs.declared.byte_codec.Text.{Text};
 ghost use Rattle.enc_multi_byte.specs.DoubleByte.{text_of_char, first_prefix, trail_prefix, ArePairs};
 
 use crate::multi_byte::{MultiByte, Prefix};
+use enc_index::Grid;
 use enc_machine::{Pending, Text};
 use std::marker::PhantomData;
 
@@ -32,6 +35,19 @@ pub trait DoubleByte: Copy {
     fn pair(lead: u8, trail: u8) -> Option<Text>
         requires { leads lead ≡ true }
         ensures { result ≡ pairs lead trail };
+
+    // the grid in which pairs are looked up
+    ghost pairs_in: { Grid };
+
+    /// The grid in which pairs are looked up.
+    fn grid() -> Grid
+        ensures { result ≡ pairs_in };
+
+    /// The place of two bytes in the grid. The character there is theirs, and the first byte leads.
+    fn pair_place(first: u8, second: u8) -> usize
+        ensures within { result < grid_len pairs_in }
+        ensures is_pair { (c : ℕ) → grid_char pairs_in result ≡ Some c
+            → (leads first ≡ true) × (pairs first second ≡ Some (Text.One c)) };
 
     /// What holds of all single bytes and all pairs. A call does nothing.
     fn laws()
@@ -106,6 +122,17 @@ impl<D: DoubleByte> MultiByte for Double<D> {
             Some(Text::One(character)) => Some(character),
             _ => None,
         }
+    }
+
+    ghost pairs_in = { D.pairs_in };
+
+    fn grid() -> Grid {
+        D::grid()
+    }
+
+    #[inline(always)]
+    fn pair_place(first: u8, second: u8) -> usize {
+        D::pair_place(first, second)
     }
 
     fn laws() {

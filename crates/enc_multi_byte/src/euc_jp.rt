@@ -6,7 +6,8 @@ ghost use Rattle.enc_multi_byte.specs.EucJp.{is_euc as euc, euc_pointer, euc_jp_
 use crate::double_byte::{classify_first, classify_trail, text_of};
 use crate::katakana::katakana;
 use crate::multi_byte::{MultiByte, MultiByteDecoder, Prefix};
-use enc_index::List;
+use crate::places::{EUC_JP_COLUMNS, EUC_JP_ROWS};
+use enc_index::{Grid, List};
 use enc_machine::Pending;
 
 /// EUC-JP (Encoding Standard 12.1): ASCII, half-width katakana behind 8E, two bytes by index jis0208, and two bytes
@@ -91,6 +92,7 @@ fn read_second(lead: u8, byte: u8) -> Prefix
 }
 
 impl MultiByte for EucJp {
+    ghost use Rattle.enc_index.specs.declared.grid.Grid.TheVariants as grids;
     ghost use Rattle.enc_multi_byte.specs.EucJp.{euc_jp_prefix};
 
     ghost prefix = { euc_jp_prefix };
@@ -108,6 +110,17 @@ impl MultiByte for EucJp {
     #[inline(always)]
     fn pair_char(lead: u8, byte: u8) -> Option<char> {
         pair(lead, byte)
+    }
+
+    ghost pairs_in = { grids.Jis0208 };
+
+    fn grid() -> Grid {
+        Grid::Jis0208
+    }
+
+    #[inline(always)]
+    fn pair_place(first: u8, second: u8) -> usize {
+        EUC_JP_ROWS[first as usize] as usize + EUC_JP_COLUMNS[second as usize] as usize
     }
 
     #[tactic(auto, using(crate::proofs::EucJpLemmas::euc_jp_laws))]

@@ -4,7 +4,8 @@ ghost use Rattle.std.specs.Prelude.{Option};
 
 use crate::double_byte::{Double, DoubleByte, text_of};
 use crate::multi_byte::MultiByteDecoder;
-use enc_index::List;
+use crate::places::{EUC_KR_COLUMNS, EUC_KR_ROWS};
+use enc_index::{Grid, List};
 use enc_machine::Text;
 
 /// EUC-KR (Encoding Standard 13.1): ASCII, and two bytes by index EUC-KR.
@@ -15,6 +16,7 @@ pub struct EucKr;
 pub type EucKrDecoder = MultiByteDecoder<Double<EucKr>>;
 
 impl DoubleByte for EucKr {
+    ghost use Rattle.enc_index.specs.declared.grid.Grid.TheVariants as grids;
     ghost use Rattle.enc_multi_byte.specs.EucKr.{euc_kr_lead, euc_kr_single, euc_kr_pair};
 
     ghost leads = { euc_kr_lead };
@@ -40,6 +42,17 @@ impl DoubleByte for EucKr {
             return None;
         }
         text_of(List::EucKr.at((lead as u32 - 0x81) * 190 + (trail as u32 - 0x41)))
+    }
+
+    ghost pairs_in = { grids.EucKr };
+
+    fn grid() -> Grid {
+        Grid::EucKr
+    }
+
+    #[inline(always)]
+    fn pair_place(first: u8, second: u8) -> usize {
+        EUC_KR_ROWS[first as usize] as usize + EUC_KR_COLUMNS[second as usize] as usize
     }
 
     #[tactic(auto, using(crate::proofs::PairLemmas::euc_kr_pairs))]

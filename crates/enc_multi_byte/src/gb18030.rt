@@ -5,7 +5,8 @@ ghost use Rattle.enc_multi_byte.specs.Gb18030.{gb18030_lead, gb18030_trail, is_d
 
 use crate::double_byte::{classify_first, classify_trail, text_of};
 use crate::multi_byte::{MultiByte, MultiByteDecoder, Prefix};
-use enc_index::List;
+use crate::places::{GB18030_COLUMNS, GB18030_ROWS};
+use enc_index::{Grid, List};
 use enc_machine::{Pending, Text};
 
 /// gb18030 (Encoding Standard 10.2), and GBK (10.1): ASCII and 80, two bytes by index gb18030, and four by its
@@ -125,6 +126,7 @@ fn read_fourth(first: u8, second: u8, third: u8, byte: u8) -> Prefix
 }
 
 impl MultiByte for Gb18030 {
+    ghost use Rattle.enc_index.specs.declared.grid.Grid.TheVariants as grids;
     ghost use Rattle.enc_multi_byte.specs.Gb18030.{gb18030_prefix};
 
     ghost prefix = { gb18030_prefix };
@@ -145,6 +147,17 @@ impl MultiByte for Gb18030 {
             return None;
         }
         pair(lead, byte)
+    }
+
+    ghost pairs_in = { grids.Gb18030 };
+
+    fn grid() -> Grid {
+        Grid::Gb18030
+    }
+
+    #[inline(always)]
+    fn pair_place(first: u8, second: u8) -> usize {
+        GB18030_ROWS[first as usize] as usize + GB18030_COLUMNS[second as usize] as usize
     }
 
     #[tactic(auto, using(crate::proofs::Gb18030Lemmas::gb18030_laws))]

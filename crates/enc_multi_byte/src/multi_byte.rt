@@ -1,10 +1,14 @@
 //! The decoders of the legacy multi-byte encodings without escape sequences.
 
 ghost use Rattle.std.specs.Prelude.{◌≡◌, ℕ, ◌+◌, ◌<◌, List, [], ◌∷◌, ◌++◌, true, false, Some, IfSome, IsNone};
+ghost use Rattle.enc_index.specs.Grid.{grid_len, grid_char};
+ghost use Rattle.enc_units.specs.Pairs.{byte_or_pair};
 ghost use Rattle.enc_machine.specs.Pending.{pending_bytes};
+ghost use Rattle.enc_machine.specs.Taking.{IsPiece};
 ghost use Rattle.enc_machine.specs.CodecLaw.{Acts, IsReady, IsAtEnd};
-ghost use Rattle.enc_multi_byte.specs.MultiByte.{multi_byte_state, AreIncomplete, ArePrefixes, HasAscii, IsPair};
+ghost use Rattle.enc_multi_byte.specs.MultiByte.{multi_byte_state, AreIncomplete, ArePrefixes, HasAscii, IsPair, multi_byte_rule};
 
+use enc_index::Grid;
 use enc_machine::{
     ByteCodec, DecoderResult, Kind, Pending, RawDecoder, Shown, Step, Text, TextLengths,
     latin1_up_to, run,
@@ -25,6 +29,7 @@ pub enum Prefix {
 
 /// A legacy multi-byte encoding without escape sequences, by what bytes in front are.
 pub trait MultiByte: Copy {
+    ghost use Rattle.enc_index.specs.declared.grid.Grid.{Grid};
     ghost use Rattle.enc_multi_byte.specs.declared.multi_byte.Prefix.{Prefix};
 
     // what the bytes in front are, where all fronts before are incomplete
@@ -39,6 +44,18 @@ pub trait MultiByte: Copy {
     /// without a prefix between. `None` where they are no character or two, or where it isn't known.
     fn pair_char(lead: u8, byte: u8) -> Option<char>
         ensures { IfSome result (λ c. IsPair prefix lead byte c) };
+
+    // the grid in which pairs are looked up
+    ghost pairs_in: { Grid };
+
+    /// The grid in which pairs are looked up.
+    fn grid() -> Grid
+        ensures { result ≡ pairs_in };
+
+    /// The place of two bytes in the grid. The character there is theirs, and the first byte is none by itself.
+    fn pair_place(first: u8, second: u8) -> usize
+        ensures within { result < grid_len pairs_in }
+        ensures is_pair { (c : ℕ) → grid_char pairs_in result ≡ Some c → IsPair prefix first second c };
 
     /// What holds of all bytes in front. A call does nothing.
     fn laws()
@@ -167,6 +184,18 @@ fn malformed<E: MultiByte>(len: u8, takes_byte: bool, behind: Pending) -> Shown<
     }
 }
 
+/// The place in the grid of a byte or of a pair, chosen with no branch.
+#[inline(always)]
+fn place_of<E: MultiByte>(is_pair: bool, first: u8, second: u8) -> usize
+    ensures within { result < grid_len E.pairs_in }
+    ensures means { (c : ℕ) → grid_char E.pairs_in result ≡ Some c
+        → IsPiece (multi_byte_rule E.prefix) 0 (byte_or_pair is_pair first second) c }
+{
+    E::ascii();
+    let place = E::pair_place(first, second);
+    if is_pair { place } else { first as usize }
+}
+
 impl<E: MultiByte> Pieces for MultiByteDecoder<E> {
     ghost use Rattle.enc_multi_byte.specs.MultiByte.{multi_byte_rule};
     ghost use Rattle.enc_machine.specs.Taking.{IsPiece};
@@ -190,6 +219,20 @@ impl<E: MultiByte> Pieces for MultiByteDecoder<E> {
     fn has_ascii(self) -> bool {
         E::ascii();
         true
+    }
+
+    fn are_pairs(self) -> bool {
+        true
+    }
+
+    #[inline(always)]
+    fn word(self, is_pair: bool, first: u8, second: u8) -> u32 {
+        E::grid().word(place_of::<E>(is_pair, first, second))
+    }
+
+    #[inline(always)]
+    fn unit(self, is_pair: bool, first: u8, second: u8) -> u16 {
+        E::grid().unit(place_of::<E>(is_pair, first, second))
     }
 }
 

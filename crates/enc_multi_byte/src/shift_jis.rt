@@ -6,7 +6,8 @@ ghost use Rattle.enc_multi_byte.specs.ShiftJis.{shift_jis_trail, shift_jis_char}
 use crate::double_byte::{Double, DoubleByte, text_of};
 use crate::katakana::katakana;
 use crate::multi_byte::MultiByteDecoder;
-use enc_index::List;
+use crate::places::{SHIFT_JIS_COLUMNS, SHIFT_JIS_ROWS};
+use enc_index::{Grid, List};
 use enc_machine::Text;
 
 /// Shift_JIS (Encoding Standard 12.3): ASCII and 80, half-width katakana, and two bytes by index jis0208 or in the
@@ -36,6 +37,7 @@ fn character_at(pointer: u32) -> Option<char>
 }
 
 impl DoubleByte for ShiftJis {
+    ghost use Rattle.enc_index.specs.declared.grid.Grid.TheVariants as grids;
     ghost use Rattle.enc_multi_byte.specs.ShiftJis.{shift_jis_lead, shift_jis_single, shift_jis_pair};
 
     ghost leads = { shift_jis_lead };
@@ -63,6 +65,17 @@ impl DoubleByte for ShiftJis {
         let first = if lead < 0xA0 { 0x81 } else { 0xC1 };
         let offset = if trail < 0x7F { 0x40 } else { 0x41 };
         text_of(character_at((lead as u32 - first) * 188 + (trail as u32 - offset)))
+    }
+
+    ghost pairs_in = { grids.Jis0208 };
+
+    fn grid() -> Grid {
+        Grid::Jis0208
+    }
+
+    #[inline(always)]
+    fn pair_place(first: u8, second: u8) -> usize {
+        SHIFT_JIS_ROWS[first as usize] as usize + SHIFT_JIS_COLUMNS[second as usize] as usize
     }
 
     #[tactic(auto, using(crate::proofs::PairLemmas::shift_jis_pairs))]

@@ -1,0 +1,86 @@
+-- The places of two bytes in the grids have their characters.
+use Rattle.std.proofs.Common.{◌≡◌, ◌∙◌, ℕ, suc, zero, ◌+◌, ◌*◌, ◌<◌, ◌≤◌, Bool, true, false, cond, ◌&&◌, ◌==◌, Option, Some, None}
+use Rattle.std.proofs.Common.{List, [], ◌∷◌, length, get_or, refl, ap, sym, arith, inl, inr, eqb-true}
+use Rattle.std.proofs.lemmas.Bool.{and_parts, cond-true, cases_lt}
+use Rattle.enc_index.specs.declared.grid.Grid.{Grid}
+use Rattle.enc_index.specs.Grid.{grid_char, grid_rows, grid_width}
+use Rattle.enc_index.proofs.GridLemmas.{pointer_char, grid_char-of_column, grid_char-of_last, grid_char-of_empty}
+
+-- a table has the values of a function, from k on
+unfoldable pub tabulates : (ℕ → ℕ) → ℕ → List ℕ → Bool
+tabulates f k [] = true
+tabulates f k (x ∷ xs) = x == f k && tabulates f (k + 1) xs
+
+tabulated_from : (f : ℕ → ℕ) (k : ℕ) (xs : List ℕ) → tabulates f k xs ≡ true → (i : ℕ) → i < length xs → get_or xs i 0 ≡ f (k + i)
+unfolding tabulates
+tabulated_from f k [] h i l = absurd (omega arith)
+tabulated_from f k (x ∷ xs) h zero l = eqb-true x (f k) (and_parts (x == f k) (tabulates f (k + 1) xs) h).0 ∙ ap f (omega arith)
+tabulated_from f k (x ∷ xs) h (suc i) l =
+    tabulated_from f (k + 1) xs (and_parts (x == f k) (tabulates f (k + 1) xs) h).1 i (omega arith) ∙ ap f (omega arith)
+
+pub tabulated : (f : ℕ → ℕ) (xs : List ℕ) → tabulates f 0 xs ≡ true → (i : ℕ) → i < length xs → get_or xs i 0 ≡ f i
+tabulated f xs h i l = tabulated_from f 0 xs h i l ∙ ap f (omega arith)
+
+pub same_some : (b c : ℕ) → Some b ≡ Some c → b ≡ c
+same_some b c e = cc
+
+pub some_none : (A : Option ℕ) (c : ℕ) → A ≡ None → A ≡ Some c → ⊥
+some_none A c e f = cc
+
+-- which case of a choice it is, by a bound that the other passes
+below : (t : Bool) (x most : ℕ) → cond t x most < most → t ≡ true
+below true x most h = refl
+below false x most h = absurd (omega arith)
+
+record Stands (grid : Grid) (row column c : ℕ) : Type 0 where
+  in_rows : row < grid_rows grid
+  in_columns : column < grid_width grid
+  is : pointer_char grid (row * grid_width grid + column) ≡ Some c
+
+-- a character at a row and a column is that of their pointer
+stands : (grid : Grid) (row column c : ℕ) → column ≤ grid_width grid
+    → grid_char grid (256 + row * (grid_width grid + 1) + column) ≡ Some c → Stands grid row column c
+stands grid row column c l e =
+    let place = 256 + row * (grid_width grid + 1) + column in
+    elim (cases_lt row (grid_rows grid)) [
+      | inr past ↦ absurd (some_none _ c (grid_char-of_empty grid row column past l) e)
+      | inl r ↦ elim (cases_lt column (grid_width grid)) [
+        | inl k ↦ record { in_rows = r; in_columns = k; is = sym (grid_char-of_column grid row column k) ∙ e }
+        | inr past ↦
+            let last : column ≡ grid_width grid = omega arith in
+            absurd (some_none _ c (ap (λ k. grid_char grid (256 + row * (grid_width grid + 1) + k)) last ∙ grid_char-of_last grid row) e)
+      ]
+    ]
+
+-- the rows of leads, and of each trail its column and how many rows it is further
+module _ (grid : Grid) (is_lead is_trail : ℕ → Bool) (row extra column : ℕ → ℕ) where
+  abbrev pub row_place : ℕ → ℕ
+  row_place a = 256 + cond (is_lead a) (row a) (grid_rows grid) * (grid_width grid + 1)
+
+  abbrev pub column_place : ℕ → ℕ
+  column_place b = extra b * (grid_width grid + 1) + cond (is_trail b) (column b) (grid_width grid)
+
+  pub record Found (a b c : ℕ) : Type 0 where
+    pub lead : is_lead a ≡ true
+    pub trail : is_trail b ≡ true
+    pub is : pointer_char grid ((row a + extra b) * grid_width grid + column b) ≡ Some c
+
+  pub found : (a b c place : ℕ) → place ≡ row_place a + column_place b → (is_trail b ≡ true → column b < grid_width grid)
+      → grid_char grid place ≡ Some c → Found a b c
+  found a b c place e small g =
+      let r = cond (is_lead a) (row a) (grid_rows grid) in
+      let k = cond (is_trail b) (column b) (grid_width grid) in
+      let at : place ≡ 256 + (r + extra b) * (grid_width grid + 1) + k = omega arith in
+      let s = stands grid (r + extra b) k c (bounded (is_trail b) small) (ap (grid_char grid) (sym at) ∙ g) in
+      let lead = below (is_lead a) (row a) (grid_rows grid) (omega (arith, s.in_rows)) in
+      let trail = below (is_trail b) (column b) (grid_width grid) s.in_columns in
+      record {
+        lead = lead;
+        trail = trail;
+        is = sym (ap (λ p. pointer_char grid p) (ap (λ x. (x + extra b) * grid_width grid + k) (cond-true _ _ _ lead)
+            ∙ ap (λ x. (row a + extra b) * grid_width grid + x) (cond-true _ _ _ trail))) ∙ s.is;
+      }
+    where
+      bounded : (t : Bool) → (t ≡ true → column b < grid_width grid) → cond t (column b) (grid_width grid) ≤ grid_width grid
+      bounded true h = omega (arith, h refl)
+      bounded false h = omega arith
