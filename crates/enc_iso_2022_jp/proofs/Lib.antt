@@ -5,3 +5,4 @@ pub mod Iso2022JpComes
 pub mod Iso2022JpSets
 pub mod Iso2022JpPieces
 pub mod Iso2022JpEnough
+pub mod PairPlaces

@@ -1,17 +1,24 @@
 //! The ISO-2022-JP decoder (Encoding Standard 12.2.1).
 
-ghost use Rattle.std.specs.Prelude.{◌≡◌, ℕ, ◌+◌, ◌-◌, ◌≤◌, true, false, Option, IfSome, IfNone, List, [], ◌∷◌};
+ghost use Rattle.std.specs.Prelude.{◌≡◌, ℕ, ◌+◌, ◌-◌, ◌<◌, ◌≤◌, true, false, Option, IfSome, IfNone, IsTrue, List, [], ◌∷◌};
+ghost use Rattle.enc_index.specs.Grid.{grid_len, grid_char};
+ghost use Rattle.enc_index.specs.declared.grid.Grid.TheVariants as grids;
 ghost use Rattle.enc_iso_2022_jp.specs.Iso2022Jp.{set_named, ascii_char as char_in_ascii, roman_char as char_in_roman, katakana_char as char_in_katakana, one_byte_char as char_alone, is_jis0208_byte as in_jis0208, is_lead as begins_pair, two_byte_char};
 ghost use Rattle.enc_iso_2022_jp.specs.Iso2022JpState.{Iso2022JpState, holding, intermediate_byte, escape_bytes, escape_set, held_bytes, CanHold, CutsOff, shown_char, StandsAlone, iso_2022_jp_state};
 ghost use Rattle.enc_machine.specs.CodecLaw.{Comes, Acts, IsReady};
 ghost use Rattle.enc_machine.specs.Taking.{TakesRun};
 
-use enc_index::List;
+use crate::places::{JIS0208_COLUMNS, JIS0208_ROWS};
+use enc_index::{Grid, List};
 use enc_machine::{
     ByteCodec, DecoderResult, Kind, RawDecoder, Shown, Step, Text, TextLengths, latin1_up_to, run,
 };
 use enc_units::{Pieces, Units};
 use std::marker::Model;
+use std::simd::prelude::*;
+
+/// An empty place of the grid.
+const EMPTY: usize = 128;
 
 /// A character set that an escape sequence designates.
 #[derive(Clone, Copy)]
@@ -253,6 +260,28 @@ fn char_of_pair(lead: u8, byte: u8) -> Option<char>
         return None;
     }
     List::Jis0208.at((lead as u32 - 0x21) * 94 + (byte as u32 - 0x21))
+}
+
+/// Whether characters have two bytes.
+#[inline(always)]
+fn has_pairs(set: CharacterSet) -> bool
+    ensures { IsTrue result → set ≡ CharacterSet.Jis0208 }
+{
+    match set {
+        CharacterSet::Jis0208 => true,
+        _ => false,
+    }
+}
+
+/// The place of two bytes in the grid of jis0208, chosen with no branch: an empty one if they are no pair.
+#[inline(always)]
+fn pair_place(is_pair: bool, first: u8, second: u8) -> usize
+    ensures within { result < grid_len grids.Jis0208 }
+    ensures means { (c : ℕ) → grid_char grids.Jis0208 result ≡ Option.Some c
+        → IsTrue is_pair × (in_jis0208 first ≡ true) × (two_byte_char first second ≡ Option.Some c) }
+{
+    let place = JIS0208_ROWS[first as usize] as usize + JIS0208_COLUMNS[second as usize] as usize;
+    if is_pair { place } else { EMPTY }
 }
 
 /// Whether it pays to look for a run: as in all that is well-formed, the first two bytes have no high bit set.
@@ -506,6 +535,27 @@ impl Pieces for Iso2022JpDecoder {
     fn has_ascii(self) -> bool {
         let _set = self.set;
         false
+    }
+
+    fn are_pairs(self) -> bool {
+        has_pairs(self.set)
+    }
+
+    /// All of them.
+    #[inline(always)]
+    fn leads(self, bytes: u8x16) -> u64 {
+        let _bytes = (self.set, bytes);
+        0xFFFF
+    }
+
+    #[inline(always)]
+    fn word(self, is_pair: bool, first: u8, second: u8) -> u32 {
+        Grid::Jis0208.word(pair_place(is_pair & has_pairs(self.set), first, second))
+    }
+
+    #[inline(always)]
+    fn unit(self, is_pair: bool, first: u8, second: u8) -> u16 {
+        Grid::Jis0208.unit(pair_place(is_pair & has_pairs(self.set), first, second))
     }
 }
 
