@@ -1,7 +1,7 @@
 -- The places of two bytes in the grids have their characters.
-use Rattle.std.proofs.Common.{◌≡◌, ◌∙◌, ℕ, suc, zero, ◌+◌, ◌*◌, ◌<◌, ◌≤◌, Bool, true, false, cond, ◌&&◌, ◌==◌, Option, Some, None}
+use Rattle.std.proofs.Common.{◌≡◌, ◌∙◌, ℕ, suc, zero, ◌+◌, ◌-◌, ◌*◌, ◌<◌, ◌≤◌, Bool, true, false, cond, ◌&&◌, ◌==◌, nat_lt, lt-ltb, le-ltb, Option, Some, None}
 use Rattle.std.proofs.Common.{List, [], ◌∷◌, length, get_or, refl, ap, sym, arith, inl, inr, eqb-true}
-use Rattle.std.proofs.lemmas.Bool.{and_parts, cond-true, cases_lt}
+use Rattle.std.proofs.lemmas.Bool.{and_parts, cond-true, cond-false, cases_lt}
 use Rattle.enc_index.specs.declared.grid.Grid.{Grid}
 use Rattle.enc_index.specs.Grid.{grid_char, grid_rows, grid_width}
 use Rattle.enc_index.proofs.GridLemmas.{pointer_char, grid_char-of_column, grid_char-of_last, grid_char-of_empty}
@@ -20,6 +20,18 @@ tabulated_from f k (x ∷ xs) h (suc i) l =
 
 pub tabulated : (f : ℕ → ℕ) (xs : List ℕ) → tabulates f 0 xs ≡ true → (i : ℕ) → i < length xs → get_or xs i 0 ≡ f i
 tabulated f xs h i l = tabulated_from f 0 xs h i l ∙ ap f (omega arith)
+
+-- a table of rows, and of columns from 256 on
+abbrev pub both : (ℕ → ℕ) → (ℕ → ℕ) → ℕ → ℕ
+both rows columns i = cond (nat_lt i 256) (rows i) (columns (i - 256))
+
+module _ (rows columns : ℕ → ℕ) (xs : List ℕ) (h : tabulates (both rows columns) 0 xs ≡ true) (long : length xs ≡ 512) where
+  pub row_in : (a : ℕ) → a < 256 → get_or xs a 0 ≡ rows a
+  row_in a l = tabulated (both rows columns) xs h a (omega arith) ∙ cond-true _ _ _ (lt-ltb a 256 l)
+
+  pub column_in : (b : ℕ) → b < 256 → get_or xs (256 + b) 0 ≡ columns b
+  column_in b l =
+      tabulated (both rows columns) xs h (256 + b) (omega arith) ∙ cond-false _ _ _ (le-ltb (256 + b) 256 (omega arith)) ∙ ap columns (omega arith)
 
 pub same_some : (b c : ℕ) → Some b ≡ Some c → b ≡ c
 same_some b c e = cc

@@ -5,8 +5,8 @@ use Rattle.std.proofs.lemmas.Bool.Decides.{nat_tests}
 use Rattle.enc_index.specs.declared.grid.Grid.TheVariants.{Jis0208}
 use Rattle.enc_index.specs.Grid.{grid_char, grid_len}
 use Rattle.enc_index.specs.Runs.{jis0208_at}
-use Rattle.enc_index.proofs.PlaceLemmas.{tabulates, tabulated, row_place, column_place, found}
-use Rattle.enc_iso_2022_jp.specs.declared.places.TheConstants.{JIS0208_ROWS, JIS0208_COLUMNS}
+use Rattle.enc_index.proofs.PlaceLemmas.{tabulates, row_in, column_in, row_place, column_place, found}
+use Rattle.enc_iso_2022_jp.specs.declared.places.TheConstants.{JIS0208_PLACES}
 use Rattle.enc_iso_2022_jp.specs.declared.iso_2022_jp.CharacterSet.{CharacterSet}
 use Rattle.enc_iso_2022_jp.specs.declared.iso_2022_jp.CharacterSet.TheVariants.{Jis0208 as InPairs}
 use Rattle.enc_iso_2022_jp.specs.Iso2022Jp.{is_jis0208_byte, two_byte_char, is_lead, set_number, iso_2022_jp_rule}
@@ -22,22 +22,22 @@ number a = a - 0x21
 abbrev none_further : ℕ → ℕ
 none_further b = 0
 
-rows : (a : ℕ) → a < 256 → get_or JIS0208_ROWS a 0 ≡ row_place Jis0208 is_jis0208_byte is_jis0208_byte number none_further number a
+rows : (a : ℕ) → a < 256 → get_or JIS0208_PLACES a 0 ≡ row_place Jis0208 is_jis0208_byte is_jis0208_byte number none_further number a
 unfolding tabulates
-rows a l = tabulated (row_place Jis0208 is_jis0208_byte is_jis0208_byte number none_further number) JIS0208_ROWS refl a l
+rows a l = row_in (row_place Jis0208 is_jis0208_byte is_jis0208_byte number none_further number) (column_place Jis0208 is_jis0208_byte is_jis0208_byte number none_further number) JIS0208_PLACES refl refl a l
 
 columns : (b : ℕ) → b < 256
-    → get_or JIS0208_COLUMNS b 0 ≡ column_place Jis0208 is_jis0208_byte is_jis0208_byte number none_further number b
+    → get_or JIS0208_PLACES (256 + b) 0 ≡ column_place Jis0208 is_jis0208_byte is_jis0208_byte number none_further number b
 unfolding tabulates
-columns b l = tabulated (column_place Jis0208 is_jis0208_byte is_jis0208_byte number none_further number) JIS0208_COLUMNS refl b l
+columns b l = column_in (row_place Jis0208 is_jis0208_byte is_jis0208_byte number none_further number) (column_place Jis0208 is_jis0208_byte is_jis0208_byte number none_further number) JIS0208_PLACES refl refl b l
 
 small : (b : ℕ) → is_jis0208_byte b ≡ true → number b < 94
 small b t = grind (arith, nat_tests)
 
-pub pair_within : (a b : ℕ) → a < 256 → b < 256 → get_or JIS0208_ROWS a 0 + get_or JIS0208_COLUMNS b 0 < grid_len Jis0208
+pub pair_within : (a b : ℕ) → a < 256 → b < 256 → get_or JIS0208_PLACES a 0 + get_or JIS0208_PLACES (256 + b) 0 < grid_len Jis0208
 pair_within a b l m = rw (rows a l, columns b m) (grind (arith, nat_tests))
 
-pub pair_found : (a b c : ℕ) → a < 256 → b < 256 → grid_char Jis0208 (get_or JIS0208_ROWS a 0 + get_or JIS0208_COLUMNS b 0) ≡ Some c
+pub pair_found : (a b c : ℕ) → a < 256 → b < 256 → grid_char Jis0208 (get_or JIS0208_PLACES a 0 + get_or JIS0208_PLACES (256 + b) 0) ≡ Some c
     → (is_jis0208_byte a ≡ true) × (two_byte_char a b ≡ Some c)
 unfolding two_byte_char
 pair_found a b c l m e =

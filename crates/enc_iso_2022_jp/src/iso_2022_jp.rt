@@ -8,7 +8,7 @@ ghost use Rattle.enc_iso_2022_jp.specs.Iso2022JpState.{Iso2022JpState, holding, 
 ghost use Rattle.enc_machine.specs.CodecLaw.{Comes, Acts, IsReady};
 ghost use Rattle.enc_machine.specs.Taking.{TakesRun};
 
-use crate::places::{JIS0208_COLUMNS, JIS0208_ROWS};
+use crate::places::JIS0208_PLACES;
 use enc_index::{Grid, List};
 use enc_machine::{
     ByteCodec, DecoderResult, Kind, RawDecoder, Shown, Step, Text, TextLengths, latin1_up_to, run,
@@ -280,7 +280,7 @@ fn pair_place(is_pair: bool, first: u8, second: u8) -> usize
     ensures means { (c : ℕ) → grid_char grids.Jis0208 result ≡ Option.Some c
         → IsTrue is_pair × (in_jis0208 first ≡ true) × (two_byte_char first second ≡ Option.Some c) }
 {
-    let place = JIS0208_ROWS[first as usize] as usize + JIS0208_COLUMNS[second as usize] as usize;
+    let place = JIS0208_PLACES[first as usize] as usize + JIS0208_PLACES[0x100 + second as usize] as usize;
     if is_pair { place } else { EMPTY }
 }
 

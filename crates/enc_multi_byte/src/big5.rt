@@ -5,7 +5,7 @@ ghost use Rattle.enc_multi_byte.specs.Big5.{big5_trail, big5_text};
 
 use crate::double_byte::{Double, DoubleByte, text_of};
 use crate::multi_byte::MultiByteDecoder;
-use crate::places::{BIG5_COLUMNS, BIG5_ROWS};
+use crate::places::BIG5_PLACES;
 use enc_index::{Grid, List};
 use enc_machine::Text;
 
@@ -76,7 +76,7 @@ impl DoubleByte for Big5 {
 
     #[inline(always)]
     fn pair_place(first: u8, second: u8) -> usize {
-        BIG5_ROWS[first as usize] as usize + BIG5_COLUMNS[second as usize] as usize
+        BIG5_PLACES[first as usize] as usize + BIG5_PLACES[0x100 + second as usize] as usize
     }
 
     #[tactic(auto, using(crate::proofs::PairLemmas::big5_pairs))]

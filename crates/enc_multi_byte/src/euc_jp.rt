@@ -6,7 +6,7 @@ ghost use Rattle.enc_multi_byte.specs.EucJp.{is_euc as euc, euc_pointer, euc_jp_
 use crate::double_byte::{classify_first, classify_trail, text_of};
 use crate::katakana::katakana;
 use crate::multi_byte::{MultiByte, MultiByteDecoder, Prefix};
-use crate::places::{EUC_JP_COLUMNS, EUC_JP_ROWS};
+use crate::places::EUC_JP_PLACES;
 use enc_index::{Grid, List};
 use enc_machine::Pending;
 
@@ -120,7 +120,7 @@ impl MultiByte for EucJp {
 
     #[inline(always)]
     fn pair_place(first: u8, second: u8) -> usize {
-        EUC_JP_ROWS[first as usize] as usize + EUC_JP_COLUMNS[second as usize] as usize
+        EUC_JP_PLACES[first as usize] as usize + EUC_JP_PLACES[0x100 + second as usize] as usize
     }
 
     #[tactic(auto, using(crate::proofs::EucJpLemmas::euc_jp_laws))]

@@ -4,7 +4,7 @@ ghost use Rattle.std.specs.Prelude.{Option};
 
 use crate::double_byte::{Double, DoubleByte, text_of};
 use crate::multi_byte::MultiByteDecoder;
-use crate::places::{EUC_KR_COLUMNS, EUC_KR_ROWS};
+use crate::places::EUC_KR_PLACES;
 use enc_index::{Grid, List};
 use enc_machine::Text;
 
@@ -52,7 +52,7 @@ impl DoubleByte for EucKr {
 
     #[inline(always)]
     fn pair_place(first: u8, second: u8) -> usize {
-        EUC_KR_ROWS[first as usize] as usize + EUC_KR_COLUMNS[second as usize] as usize
+        EUC_KR_PLACES[first as usize] as usize + EUC_KR_PLACES[0x100 + second as usize] as usize
     }
 
     #[tactic(auto, using(crate::proofs::PairLemmas::euc_kr_pairs))]

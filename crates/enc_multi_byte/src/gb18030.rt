@@ -5,7 +5,7 @@ ghost use Rattle.enc_multi_byte.specs.Gb18030.{gb18030_lead, gb18030_trail, is_d
 
 use crate::double_byte::{classify_first, classify_trail, text_of};
 use crate::multi_byte::{MultiByte, MultiByteDecoder, Prefix};
-use crate::places::{GB18030_COLUMNS, GB18030_ROWS};
+use crate::places::GB18030_PLACES;
 use enc_index::{Grid, List};
 use enc_machine::{Pending, Text};
 
@@ -157,7 +157,7 @@ impl MultiByte for Gb18030 {
 
     #[inline(always)]
     fn pair_place(first: u8, second: u8) -> usize {
-        GB18030_ROWS[first as usize] as usize + GB18030_COLUMNS[second as usize] as usize
+        GB18030_PLACES[first as usize] as usize + GB18030_PLACES[0x100 + second as usize] as usize
     }
 
     #[tactic(auto, using(crate::proofs::Gb18030Lemmas::gb18030_laws))]

@@ -6,7 +6,7 @@ ghost use Rattle.enc_multi_byte.specs.ShiftJis.{shift_jis_trail, shift_jis_char}
 use crate::double_byte::{Double, DoubleByte, text_of};
 use crate::katakana::katakana;
 use crate::multi_byte::MultiByteDecoder;
-use crate::places::{SHIFT_JIS_COLUMNS, SHIFT_JIS_ROWS};
+use crate::places::SHIFT_JIS_PLACES;
 use enc_index::{Grid, List};
 use enc_machine::Text;
 
@@ -75,7 +75,7 @@ impl DoubleByte for ShiftJis {
 
     #[inline(always)]
     fn pair_place(first: u8, second: u8) -> usize {
-        SHIFT_JIS_ROWS[first as usize] as usize + SHIFT_JIS_COLUMNS[second as usize] as usize
+        SHIFT_JIS_PLACES[first as usize] as usize + SHIFT_JIS_PLACES[0x100 + second as usize] as usize
     }
 
     #[tactic(auto, using(crate::proofs::PairLemmas::shift_jis_pairs))]

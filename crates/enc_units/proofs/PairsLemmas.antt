@@ -1,5 +1,5 @@
 -- Characters of one byte or two.
-use Rattle.std.proofs.Common.{◌≡◌, ◌∙◌, ℕ, zero, suc, ◌+◌, ◌-◌, ◌*◌, ◌/◌, ◌%◌, ◌<◌, ◌≤◌, Bool, true, false, ◌&&◌, ◌||◌, ◌==◌, eqb, List, [], ◌∷◌, ◌++◌}
+use Rattle.std.proofs.Common.{◌≡◌, ◌∙◌, ℕ, zero, suc, ◌+◌, ◌-◌, ◌/◌, ◌%◌, ◌<◌, ◌≤◌, Bool, true, false, ◌&&◌, ◌||◌, ◌==◌, eqb, List, [], ◌∷◌, ◌++◌}
 use Rattle.std.proofs.Common.{length, take, drop, get_or, refl, ap, sym, subst, arith, length-drop, drop-cons}
 use Rattle.std.proofs.lemmas.Bool.{and_parts}
 use Rattle.std.proofs.lemmas.Bool.Decides.{nat_tests}
@@ -8,7 +8,7 @@ use Rattle.std.specs.Char.Escape.{encode_utf16}
 use Rattle.std.specs.Int.{w32, to_le_bytes}
 use Rattle.enc_units.specs.declared.ends.TheConstants.{ENDS}
 use Rattle.enc_units.specs.Gathering.{Gathers}
-use Rattle.enc_units.specs.Pairs.{byte_or_pair, MeansWord, MeansUnit, end_after}
+use Rattle.enc_units.specs.Pairs.{byte_or_pair, MeansWord, MeansUnit, four_ends, end_after}
 use Rattle.enc_units.proofs.GatherLemmas.{gathers_then, gathers_one, get_or_drop}
 use Rattle.enc_units.proofs.UnitsLemmas.{one_unit}
 
@@ -17,79 +17,64 @@ abbrev pub goes : ℕ → ℕ → Bool
 goes a b = b == a + 1 || b == a + 2
 
 -- each of four ends is one or two after the one before
-unfoldable ends_ok : List ℕ → Bool
-ends_ok [] = true
-ends_ok (a ∷ []) = false
-ends_ok (a ∷ b ∷ []) = false
-ends_ok (a ∷ b ∷ c ∷ []) = false
-ends_ok (a ∷ b ∷ c ∷ d ∷ es) = goes 0 a && (goes a b && (goes b c && (goes c d && ends_ok es)))
+unfoldable row_ok : List ℕ → Bool
+row_ok [] = false
+row_ok (a ∷ []) = false
+row_ok (a ∷ b ∷ []) = false
+row_ok (a ∷ b ∷ c ∷ []) = false
+row_ok (a ∷ b ∷ c ∷ d ∷ es) = goes 0 a && (goes a b && (goes b c && goes c d))
 
-ends_are_ok : ends_ok ENDS ≡ true
-unfolding ends_ok
+unfoldable rows_ok : List (List ℕ) → Bool
+rows_ok [] = true
+rows_ok (row ∷ rows) = row_ok row && rows_ok rows
+
+ends_are_ok : rows_ok ENDS ≡ true
+unfolding rows_ok row_ok
 ends_are_ok = refl
 
-ends_count : length ENDS ≡ 1024
+ends_count : length ENDS ≡ 256
 ends_count = refl
 
-abbrev end_among : List ℕ → ℕ → ℕ → ℕ
-end_among es m zero = 0
-end_among es m (suc k) = get_or es (m * 4 + k) 0
+row_is_ok : (rows : List (List ℕ)) → rows_ok rows ≡ true → (i : ℕ) → i < length rows → row_ok (get_or rows i []) ≡ true
+unfolding rows_ok
+row_is_ok [] h i l = absurd (omega arith)
+row_is_ok (row ∷ rows) h zero l = (and_parts (row_ok row) (rows_ok rows) h).0
+row_is_ok (row ∷ rows) h (suc i) l = row_is_ok rows (and_parts (row_ok row) (rows_ok rows) h).1 i (omega arith)
 
-later : (a b c d : ℕ) (es : List ℕ) (m k : ℕ) → end_among es m k ≡ end_among (a ∷ b ∷ c ∷ d ∷ es) (suc m) k
-later a b c d es m zero = refl
-later a b c d es m (suc k) = ap (λ i. get_or (a ∷ b ∷ c ∷ d ∷ es) i 0) next
-  where
-    next : suc (suc (suc (suc (m * 4 + k)))) ≡ suc m * 4 + k
-    next = omega arith
+-- the four tests of a row
+module _ (a b c d : ℕ) (es : List ℕ) (h : row_ok (a ∷ b ∷ c ∷ d ∷ es) ≡ true) where
+  from_first : (goes 0 a ≡ true) × (goes a b && (goes b c && goes c d) ≡ true)
+  unfolding row_ok
+  from_first = and_parts (goes 0 a) (goes a b && (goes b c && goes c d)) h
 
--- the five tests of four ends
-module _ (a b c d : ℕ) (es : List ℕ) (h : ends_ok (a ∷ b ∷ c ∷ d ∷ es) ≡ true) where
-  from_first : (goes 0 a ≡ true) × (goes a b && (goes b c && (goes c d && ends_ok es)) ≡ true)
-  unfolding ends_ok
-  from_first = and_parts (goes 0 a) (goes a b && (goes b c && (goes c d && ends_ok es))) h
+  from_second : (goes a b ≡ true) × (goes b c && goes c d ≡ true)
+  from_second = and_parts (goes a b) (goes b c && goes c d) from_first.1
 
-  from_second : (goes a b ≡ true) × (goes b c && (goes c d && ends_ok es) ≡ true)
-  from_second = and_parts (goes a b) (goes b c && (goes c d && ends_ok es)) from_first.1
+  from_third : (goes b c ≡ true) × (goes c d ≡ true)
+  from_third = and_parts (goes b c) (goes c d) from_second.1
 
-  from_third : (goes b c ≡ true) × (goes c d && ends_ok es ≡ true)
-  from_third = and_parts (goes b c) (goes c d && ends_ok es) from_second.1
+row_goes : (row : List ℕ) → row_ok row ≡ true → (k : ℕ) → k < 4 → goes (end_after row k) (end_after row (suc k)) ≡ true
+unfolding row_ok
+row_goes [] h k l = cc
+row_goes (a ∷ []) h k l = cc
+row_goes (a ∷ b ∷ []) h k l = cc
+row_goes (a ∷ b ∷ c ∷ []) h k l = cc
+row_goes (a ∷ b ∷ c ∷ d ∷ es) h zero l = (from_first a b c d es h).0
+row_goes (a ∷ b ∷ c ∷ d ∷ es) h (suc zero) l = (from_second a b c d es h).0
+row_goes (a ∷ b ∷ c ∷ d ∷ es) h (suc (suc zero)) l = (from_third a b c d es h).0
+row_goes (a ∷ b ∷ c ∷ d ∷ es) h (suc (suc (suc zero))) l = (from_third a b c d es h).1
+row_goes (a ∷ b ∷ c ∷ d ∷ es) h (suc (suc (suc (suc k)))) l = absurd (omega arith)
 
-  from_fourth : (goes c d ≡ true) × (ends_ok es ≡ true)
-  from_fourth = and_parts (goes c d) (ends_ok es) from_third.1
-
-few : (es : List ℕ) → length es < 4 → ends_ok es ≡ true → es ≡ []
-unfolding ends_ok
-few [] l h = refl
-few (a ∷ []) l h = cc
-few (a ∷ b ∷ []) l h = cc
-few (a ∷ b ∷ c ∷ []) l h = cc
-few (a ∷ b ∷ c ∷ d ∷ es) l h = absurd (omega arith)
-
-ends_go : (es : List ℕ) → ends_ok es ≡ true → (m k : ℕ) → m * 4 < length es → k < 4 → goes (end_among es m k) (end_among es m (suc k)) ≡ true
-ends_go [] h m k w l = absurd (omega arith)
-ends_go (a ∷ []) h m k w l = absurd (omega (arith, w, ap length (few (a ∷ []) (omega arith) h)))
-ends_go (a ∷ b ∷ []) h m k w l = absurd (omega (arith, w, ap length (few (a ∷ b ∷ []) (omega arith) h)))
-ends_go (a ∷ b ∷ c ∷ []) h m k w l = absurd (omega (arith, w, ap length (few (a ∷ b ∷ c ∷ []) (omega arith) h)))
-ends_go (a ∷ b ∷ c ∷ d ∷ es) h zero zero w l = (from_first a b c d es h).0
-ends_go (a ∷ b ∷ c ∷ d ∷ es) h zero (suc zero) w l = (from_second a b c d es h).0
-ends_go (a ∷ b ∷ c ∷ d ∷ es) h zero (suc (suc zero)) w l = (from_third a b c d es h).0
-ends_go (a ∷ b ∷ c ∷ d ∷ es) h zero (suc (suc (suc zero))) w l = (from_fourth a b c d es h).0
-ends_go (a ∷ b ∷ c ∷ d ∷ es) h zero (suc (suc (suc (suc k)))) w l = absurd (omega arith)
-ends_go (a ∷ b ∷ c ∷ d ∷ es) h (suc m) k w l =
-    subst (λ x. goes x (end_among (a ∷ b ∷ c ∷ d ∷ es) (suc m) (suc k)) ≡ true) (later a b c d es m k)
-    (subst (λ x. goes (end_among es m k) x ≡ true) (later a b c d es m (suc k)) (ends_go es (from_fourth a b c d es h).1 m k (omega arith) l))
-
-as_among : (leads k : ℕ) → end_after leads k ≡ end_among ENDS (leads % 0x100) k
-as_among leads zero = refl
-as_among leads (suc k) = refl
+pub end_next : (ends : List ℕ) (k : ℕ) → get_or ends k 0 ≡ end_after ends (k + 1)
+end_next ends k = ap (end_after ends) (let n : suc k ≡ k + 1 = omega arith in n)
 
 -- where a character ends, by where the one before it does
-pub end_goes : (leads k read next : ℕ) → k < 4 → read ≡ end_after leads k → next ≡ end_after leads (k + 1) → goes read next ≡ true
-end_goes leads k read next l e f =
-    let there : next ≡ end_after leads (suc k) = f ∙ ap (end_after leads) (let n : k + 1 ≡ suc k = omega arith in n) in
-    subst (λ x. goes x next ≡ true) (sym (e ∙ as_among leads k))
-    (subst (λ x. goes (end_among ENDS (leads % 0x100) k) x ≡ true) (sym there)
-    (ends_go ENDS ends_are_ok (leads % 0x100) k (omega (arith, ends_count)) l))
+pub end_goes : (leads k read : ℕ) (ends : List ℕ) → ends ≡ four_ends leads → k < 4 → read ≡ end_after ends k
+    → goes read (get_or ends k 0) ≡ true
+end_goes leads k read ends is l e =
+    let row : row_ok ends ≡ true =
+    subst (λ r. row_ok r ≡ true) (sym is) (row_is_ok ENDS ends_are_ok (leads % 0x100) (omega (arith, ends_count))) in
+    subst (λ x. goes x (get_or ends k 0) ≡ true) (sym e) (row_goes ends row k l)
 
 pub goes_up : (a b : ℕ) → goes a b ≡ true → (a ≤ b) × (b ≤ a + 2)
 goes_up a b h = (grind (arith, nat_tests), grind (arith, nat_tests))

@@ -1,5 +1,5 @@
 -- Characters of one byte or two, and the ends of four of them.
-use Rattle.std.specs.Prelude.{◌≡◌, ℕ, zero, suc, ◌+◌, ◌*◌, ◌/◌, ◌%◌, ◌≤◌, Bool, List, [], ◌∷◌, take, get_or, if◌then◌else◌}
+use Rattle.std.specs.Prelude.{◌≡◌, ℕ, zero, suc, ◌/◌, ◌%◌, ◌≤◌, Bool, List, [], ◌∷◌, take, get_or, if◌then◌else◌}
 use Rattle.std.specs.Char.{IsScalar, encode_utf8}
 use Rattle.std.specs.Int.{w32, to_le_bytes}
 use Rattle.enc_units.specs.declared.ends.TheConstants.{ENDS}
@@ -21,7 +21,11 @@ pub record MeansUnit (Means : List ℕ → ℕ → Type 0) (bytes : List ℕ) (u
   pub scalar : IsScalar unit
   pub means : Means bytes unit
 
--- Where the first characters end, at most four, by which of eight bytes lead a pair: of none at 0.
-abbrev pub end_after : ℕ → ℕ → ℕ
-end_after leads zero = 0
-end_after leads (suc k) = get_or ENDS (leads % 0x100 * 4 + k) 0
+-- where each of four characters ends, by which of eight bytes lead a pair
+abbrev pub four_ends : ℕ → List ℕ
+four_ends leads = get_or ENDS (leads % 0x100) []
+
+-- where the first n characters end: of none at 0
+abbrev pub end_after : List ℕ → ℕ → ℕ
+end_after ends zero = 0
+end_after ends (suc n) = get_or ends n 0

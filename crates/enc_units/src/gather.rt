@@ -1,8 +1,9 @@
 //! Characters gathered as UTF-8 in a buffer of fixed length, so that an output takes many of them at once.
 
-ghost use Rattle.std.specs.Prelude.{◌≡◌, ℕ, ◌+◌, ◌<◌, ◌≤◌, List, [], ◌∷◌, ◌++◌, length, take, drop, slice_index, IsTrue};
+ghost use Rattle.std.specs.Prelude.{◌≡◌, ℕ, ◌+◌, ◌/◌, ◌<◌, ◌≤◌, List, [], ◌∷◌, ◌++◌, length, take, drop, slice_index, IsTrue};
 ghost use Rattle.std.specs.Char.{IsScalar, encode_utf8};
 ghost use Rattle.std.specs.Char.Escape.{encode_utf16};
+ghost use Rattle.std.specs.Int.{w32, to_le_bytes};
 ghost use Rattle.enc_units.specs.Validity.{AreAscii};
 ghost use Rattle.enc_units.specs.Gathering.{Gathers};
 
@@ -110,6 +111,20 @@ pub(crate) fn store_text(buffer: &mut [u8], at: usize, text: Encoded) -> usize
 {
     buffer[at..at + 4].copy_from_slice(&text.bytes);
     at + text.len as usize
+}
+
+/// Stores the UTF-8 that a word has, its bytes, the first lowest, and their number in the highest, after the first `at`
+/// bytes of a buffer. Returns where it ends.
+#[inline(always)]
+pub(crate) fn store_word(buffer: &mut [u8], at: usize, word: u32) -> usize
+    requires room { at + 4 ≤ length buffer.old }
+    requires bound { word / 0x1000000 ≤ 4 }
+    ensures end { result ≡ at + word / 0x1000000 }
+    ensures len { length buffer.new ≡ length buffer.old }
+    ensures stored { take result buffer.new ≡ take at buffer.old ++ take (word / 0x1000000) (to_le_bytes w32 word) }
+{
+    buffer[at..at + 4].copy_from_slice(&word.to_le_bytes());
+    at + (word / 0x1000000) as usize
 }
 
 /// Stores the code units of a character after the first `at` of a buffer, and returns where they end.

@@ -4,21 +4,21 @@ ghost use Rattle.std.specs.Prelude.{◌≡◌, ◌+◌, ◌<◌, ◌≤◌, leng
 ghost use Rattle.std.specs.Char.{encode_utf8};
 ghost use Rattle.std.specs.Char.Escape.{encode_utf16};
 ghost use Rattle.enc_units.specs.Gathering.{Gathers};
-ghost use Rattle.enc_units.specs.Pairs.{end_after};
+ghost use Rattle.enc_units.specs.Pairs.{four_ends};
 
 use crate::ascii::are_ascii;
 use crate::ends::ENDS;
-use crate::gather::{ENOUGH, Encoded, Gather, UNITS_ENOUGH, store_text, store_units, utf8_of};
+use crate::gather::{ENOUGH, Gather, UNITS_ENOUGH, store_text, store_units, store_word, utf8_of};
 use crate::pieces::Pieces;
 use std::simd::prelude::*;
 
-/// Where a character ends, counted from the start of the first of four, if these of the bytes from there on lead a pair.
+/// Where each of four characters ends, counted from the start of the first, if these of the bytes from there on lead a
+/// pair.
 #[inline(always)]
-fn end_of(leads: u64, character: usize) -> usize
-    requires { character < 4 }
-    ensures { result ≡ end_after leads (character + 1) }
+fn ends_of(leads: u64) -> [u8; 4]
+    ensures { result ≡ four_ends leads }
 {
-    ENDS[(leads % 0x100) as usize * 4 + character] as usize
+    ENDS[(leads % 0x100) as usize]
 }
 
 /// Stores the UTF-8 of four characters, or of those before one that isn't known, after the first `at` bytes of a buffer.
@@ -40,20 +40,17 @@ fn store_four<P: Pieces>(
     ensures gathers { Gathers encode_utf8 (P.means pieces) (drop from src.now) result.0 (take at buffer.old)
         (take result.1 buffer.new) }
 {
+    let ends = ends_of(leads);
     let mut read = 0;
     let mut end = at;
     let mut count = 0;
     while count < 4 {
-        let next = end_of(leads, count);
+        let next = ends[count] as usize;
         let word = pieces.word(next - read == 2, src[from + read], src[from + read + 1]);
         if word == 0 {
             return (read, end, false);
         }
-        let text = Encoded {
-            bytes: word.to_le_bytes(),
-            len: word / 0x1000000,
-        };
-        end = store_text(buffer, end, text);
+        end = store_word(buffer, end, word);
         read = next;
         count += 1;
     }
@@ -110,11 +107,12 @@ fn store_four_units<P: Pieces>(
     ensures gathers { Gathers encode_utf16 (P.means pieces) (drop from src.now) result.0 (take at buffer.old)
         (take result.1 buffer.new) }
 {
+    let ends = ends_of(leads);
     let mut read = 0;
     let mut end = at;
     let mut count = 0;
     while count < 4 {
-        let next = end_of(leads, count);
+        let next = ends[count] as usize;
         let unit = pieces.unit(next - read == 2, src[from + read], src[from + read + 1]);
         if unit == 0 {
             return (read, end, false);

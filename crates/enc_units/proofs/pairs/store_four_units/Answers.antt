@@ -1,24 +1,24 @@
-use Rattle.std.proofs.Common.{◌≡◌, ◌∙◌, true, refl, arith, length-set}
+use Rattle.std.proofs.Common.{get_or, ◌≡◌, ◌∙◌, true, refl, arith, length-set}
 use Rattle.std.proofs.lemmas.List.{take_more_set}
 use Rattle.enc_units.proofs.GatherLemmas.{gathers_nothing}
-use Rattle.enc_units.proofs.PairsLemmas.{goes, goes_up, end_goes, gathers_unit}
+use Rattle.enc_units.proofs.PairsLemmas.{goes, goes_up, end_goes, end_next, gathers_unit}
 use Rattle.enc_units.proofs.pairs.store_four_units.Goals as goal
 
 pub loop-count-init : goal.loop-count-init
 loop-count-init g c = (omega arith, refl, omega arith, omega arith, refl, gathers_nothing _ _ _ _ _ refl)
 
 pub overflow_sub-next : goal.overflow_sub-next
-overflow_sub-next g c = (goes_up _ _ (end_goes _ _ _ _ c.loop-count-test.true c.loop-count.invariant.1 c.end_of-next.ensures)).0
+overflow_sub-next g c = (goes_up _ _ (end_goes c.args.leads c.loop-count.count _ _ c.ends_of-ends.ensures c.loop-count-test.true c.loop-count.invariant.1)).0
 
 pub loop-count-preserved : goal.loop-count-preserved
 loop-count-preserved g c =
     let i = c.loop-count.invariant in
-    let next = c.end_of-next.result in
-    let h : goes c.loop-count.read next ≡ true = end_goes _ _ _ _ c.loop-count-test.true i.1 c.end_of-next.ensures in
+    let next = get_or c.ends_of-ends.result c.loop-count.count 0 in
+    let h : goes c.loop-count.read next ≡ true = end_goes c.args.leads c.loop-count.count _ _ c.ends_of-ends.ensures c.loop-count-test.true i.1 in
     let up = goes_up c.loop-count.read next h in
     let u = c.unit-unit.ensures (omega arith) in (
       omega arith,
-      c.end_of-next.ensures,
+      end_next c.ends_of-ends.result c.loop-count.count,
       omega (arith, i.2, up.1),
       omega (arith, i.3),
       length-set c.loop-count.buffer c.loop-count.end c.unit-unit.result ∙ i.4,

@@ -1,0 +1,10 @@
+use Rattle.std.proofs.Common.{◌++◌, ◌∙◌, ◌/◌, ap, arith, take}
+use Rattle.enc_units.proofs.GatherLemmas.{stored_front}
+use Rattle.enc_units.proofs.gather.store_word.Goals as goal
+
+pub returns-clause-stored : goal.returns-clause-stored
+returns-clause-stored c =
+    let e = c.copy_from_slice.ensures in
+    let n = c.args.word / 0x100_0000 in
+    stored_front c.args.at n c.args.buffer.now c.copy_from_slice.new.self _ (omega arith) (omega (arith, e.len))
+    ∙ ap (λ z. take c.args.at c.args.buffer.now ++ take n z) (e.after ∙ c.to_le_bytes.ensures)
