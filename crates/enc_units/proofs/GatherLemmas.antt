@@ -15,7 +15,6 @@ use Rattle.enc_units.specs.Gathering.{Gathers, IsByteText, AreByteTexts}
 use Rattle.enc_units.specs.declared.gather.Encoded.{Encoded}
 use Rattle.enc_units.proofs.PiecesLemmas.{reads_none, reads_then, reads_one, reads_ascii, units-append}
 use Rattle.enc_units.proofs.ScalarLemmas.{one_scalar, scalars-append, ascii_scalars}
-use Rattle.enc_units.proofs.Utf8SliceLemmas.{ascii_units}
 
 -- what is stored behind what was there
 

@@ -7,7 +7,7 @@ use Rattle.std.specs.Char.{IsScalar, encode_utf8}
 use Rattle.std.specs.Int.{w32, to_le_bytes}
 use Rattle.enc_units.specs.declared.ends.TheConstants.{ENDS}
 use Rattle.enc_units.specs.Gathering.{Gathers}
-use Rattle.enc_units.specs.Pairs.{byte_or_pair, MeansWord, MeansUnit, end_after}
+use Rattle.enc_units.specs.Pairs.{byte_or_pair, MeansWord, end_after}
 use Rattle.enc_units.proofs.GatherLemmas.{gathers_then, gathers_one, get_or_drop}
 
 -- one or two further

@@ -7,9 +7,12 @@ ghost use Rattle.enc_units.specs.Pairs.{end_after};
 
 use crate::ascii::are_ascii;
 use crate::ends::ENDS;
-use crate::gather::{ENOUGH, Encoded, Gather, store_text, utf8_of};
+use crate::gather::{Encoded, Gather, store_text, utf8_of};
 use crate::pieces::Pieces;
 use std::simd::prelude::*;
+
+/// No more is stored at once: eight characters, and one after them.
+const STEP: usize = 36;
 
 /// Where a character ends, counted from the start of the first of four, if these of the bytes from there on lead a pair.
 #[inline(always)]
@@ -106,13 +109,15 @@ impl<P: Pieces> Gather for Pairs<P> {
         self.pieces.has_ascii()
     }
 
-    /// It leaves off where no character is known to begin, where the buffer has enough, and 32 bytes before the end.
+    /// It leaves off where no character is known to begin, and 36 bytes before the end of the room or 32 before that of
+    /// `src`.
     #[inline(always)]
-    fn gather(&self, buffer: &mut [u8], src: &[u8]) -> (usize, usize) {
+    fn gather(&self, buffer: &mut [u8], room: usize, src: &[u8]) -> (usize, usize) {
         let has_ascii = self.pieces.has_ascii();
+        let limit = buffer.len().min(room);
         let mut read = 0;
         let mut written = 0;
-        while written <= ENOUGH && 32 <= src.len() - read {
+        while STEP <= limit - written && 32 <= src.len() - read {
             let lanes = u8x16::from_slice(&src[read..]);
             if has_ascii && are_ascii(lanes) {
                 lanes.copy_to_slice(&mut buffer[written..]);
