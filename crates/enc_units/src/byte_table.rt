@@ -1,17 +1,25 @@
 //! Characters of single bytes, by a table of their UTF-8 that is made for a run.
 
-ghost use Rattle.std.specs.Prelude.{◌≡◌, ◌+◌, ◌≤◌, length, take, drop};
+ghost use Rattle.std.specs.Prelude.{◌≡◌, ℕ, ◌+◌, ◌<◌, ◌≤◌, [], ◌∷◌, length, take, drop, IsTrue};
 ghost use Rattle.std.specs.Char.{encode_utf8};
 ghost use Rattle.enc_units.specs.Gathering.{Gathers, AreByteTexts};
+ghost use Rattle.enc_units.specs.Validity.{AreAscii};
 
-use crate::gather::{Encoded, Gather, store_ascii_of, store_text, utf8_of};
+use crate::gather::{Encoded, Gather, store_text, utf8_of};
 use crate::pieces::Pieces;
+use std::simd::prelude::*;
 
-/// How many bytes are looked up one behind another.
+/// The length of the buffer.
+pub(crate) const TABLE_BUFFER: usize = 1072;
+
+/// How many bytes are looked up one after another.
 const STEP: usize = 16;
 
-/// Once so many bytes are there, no more are gathered: two steps fit behind them.
-const ENOUGH: usize = 208;
+/// How many bytes are loaded at once.
+const LANES: usize = 64;
+
+/// The UTF-8 of a turn has no more bytes.
+const TURN: usize = 80;
 
 /// The UTF-8 of the character that each byte is by itself, or none.
 #[derive(Clone, Copy)]
@@ -73,6 +81,116 @@ fn store_bytes<P: Pieces>(
     (read, end)
 }
 
+/// How many of 64 bytes after the first `from` are ASCII before one that isn't, and at most `most`.
+#[inline(always)]
+fn ascii_from(lanes: u8x64, from: usize, most: usize) -> usize
+    requires { from + most < 64 }
+    ensures bound { result ≤ most }
+    ensures ascii { AreAscii (take result (drop from lanes)) }
+{
+    let others = lanes.simd_ge(u8x64::splat(0x80)).to_bitmask();
+    ((others >> from as u64).trailing_zeros() as usize).min(most)
+}
+
+/// Whether many of 64 bytes are not ASCII. It is a guess, and changes no output.
+#[inline(always)]
+fn are_dense(lanes: u8x64) -> bool {
+    lanes.simd_ge(u8x64::splat(0x80)).to_bitmask().count_ones() > 8
+}
+
+/// Stores `ascii` bytes of `src` from `from` on, which are ASCII, and the UTF-8 of the byte that follows, after the first
+/// `at` bytes of a buffer. Returns how many bytes it read, where their UTF-8 ends, and whether that byte is a character.
+#[inline(always)]
+fn store_hop<P: Pieces>(
+    table: &ByteTable<P>,
+    buffer: &mut [u8],
+    at: usize,
+    src: &[u8],
+    from: usize,
+    ascii: usize,
+) -> (usize, usize, bool)
+    requires from { from + 64 ≤ length src.now }
+    requires room { at + 68 ≤ length buffer.old }
+    requires ascii { ascii < 64 }
+    requires are_ascii { AreAscii (take ascii (drop from src.now)) }
+    requires means { (b : ℕ) → b < 0x80 → P.means table.now.pieces (b ∷ []) b }
+    requires texts { AreByteTexts (P.means table.now.pieces) table.now.texts }
+    ensures read { result.0 ≤ ascii + 1 }
+    ensures some { IsTrue result.2 → 0 < result.0 }
+    ensures bound { result.1 ≤ at + result.0 + 3 }
+    ensures len { length buffer.new ≡ length buffer.old }
+    ensures gathers { Gathers encode_utf8 (P.means table.now.pieces) (drop from src.now) result.0 (take at buffer.old)
+        (take result.1 buffer.new) }
+{
+    u8x64::from_slice(&src[from..]).copy_to_slice(&mut buffer[at..]);
+    let text = table.texts[src[from + ascii] as usize];
+    if text.len == 0 {
+        return (ascii, at + ascii, false);
+    }
+    (ascii + 1, store_text(buffer, at + ascii, text), true)
+}
+
+/// Stores the UTF-8 of the first of 64 bytes of `src` from `from` on, which `lanes` are: up to the second that isn't ASCII,
+/// up to one that is no character, or of all. Returns what `store_hop` does.
+#[inline(always)]
+fn store_hops<P: Pieces>(
+    table: &ByteTable<P>,
+    buffer: &mut [u8],
+    at: usize,
+    src: &[u8],
+    from: usize,
+    lanes: u8x64,
+) -> (usize, usize, bool)
+    requires from { from + 128 ≤ length src.now }
+    requires room { at + 144 ≤ length buffer.old }
+    requires lanes { lanes ≡ take 64 (drop from src.now) }
+    requires means { (b : ℕ) → b < 0x80 → P.means table.now.pieces (b ∷ []) b }
+    requires texts { AreByteTexts (P.means table.now.pieces) table.now.texts }
+    ensures read { result.0 ≤ 64 }
+    ensures some { IsTrue result.2 → 0 < result.0 }
+    ensures bound { result.1 ≤ at + 80 }
+    ensures len { length buffer.new ≡ length buffer.old }
+    ensures gathers { Gathers encode_utf8 (P.means table.now.pieces) (drop from src.now) result.0 (take at buffer.old)
+        (take result.1 buffer.new) }
+{
+    let ascii = ascii_from(lanes, 0, 62);
+    let (first, end, is_whole) = store_hop(table, buffer, at, src, from, ascii);
+    if !is_whole {
+        return (first, end, false);
+    }
+    let ascii = ascii_from(lanes, first, 63 - first);
+    let (second, end, is_whole) = store_hop(table, buffer, end, src, from + first, ascii);
+    (first + second, end, is_whole)
+}
+
+/// Stores the UTF-8 of up to 64 bytes of `src` from `from` on after the first `at` bytes of a buffer: by hops from one byte
+/// that isn't ASCII to the next, or byte by byte where there are many. Returns what `store_hop` does.
+#[inline(always)]
+fn store_turn<P: Pieces>(
+    table: &ByteTable<P>,
+    buffer: &mut [u8],
+    at: usize,
+    src: &[u8],
+    from: usize,
+) -> (usize, usize, bool)
+    requires from { from + 128 ≤ length src.now }
+    requires room { at + 144 ≤ length buffer.old }
+    requires texts { AreByteTexts (P.means table.now.pieces) table.now.texts }
+    ensures read { result.0 ≤ 64 }
+    ensures some { IsTrue result.2 → 0 < result.0 }
+    ensures bound { result.1 ≤ at + 80 }
+    ensures len { length buffer.new ≡ length buffer.old }
+    ensures gathers { Gathers encode_utf8 (P.means table.now.pieces) (drop from src.now) result.0 (take at buffer.old)
+        (take result.1 buffer.new) }
+{
+    let lanes = u8x64::from_slice(&src[from..]);
+    if !table.pieces.has_ascii() || are_dense(lanes) {
+        let (read, end) = store_bytes(table, buffer, at, src, from);
+        return (read, end, read == STEP);
+    }
+    store_hops(table, buffer, at, src, from, lanes)
+}
+
 impl<P: Pieces> Gather for ByteTable<P> {
     ghost means = { λ t. P.means t.pieces };
 
@@ -82,22 +200,17 @@ impl<P: Pieces> Gather for ByteTable<P> {
         self.pieces.has_ascii()
     }
 
-    /// It leaves off at a byte that is no character, where the buffer has enough, and 32 bytes before the end.
+    /// It leaves off at a byte that is no character, and 80 bytes before the end of the room or 128 before that of `src`.
     #[inline(always)]
-    fn gather(&self, buffer: &mut [u8], src: &[u8]) -> (usize, usize) {
+    fn gather(&self, buffer: &mut [u8], room: usize, src: &[u8]) -> (usize, usize) {
+        let limit = buffer.len().saturating_sub(LANES).min(room);
         let mut read = 0;
         let mut written = 0;
-        while written <= ENOUGH && 2 * STEP <= src.len() - read {
-            let len = store_ascii_of(self.pieces, buffer, written, src, read);
-            read += len;
-            written += len;
-            if len == STEP {
-                continue;
-            }
-            let (more, end) = store_bytes(self, buffer, written, src, read);
+        while TURN <= limit - written && 2 * LANES <= src.len() - read {
+            let (more, end, is_whole) = store_turn(self, buffer, written, src, read);
             read += more;
             written = end;
-            if more < STEP {
+            if !is_whole {
                 break;
             }
         }

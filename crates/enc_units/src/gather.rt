@@ -10,20 +10,17 @@ ghost use Rattle.enc_units.specs.Gathering.{Gathers};
 use crate::pieces::Pieces;
 use std::simd::prelude::*;
 
-/// Fewer bytes than these are not gathered.
+/// Fewer bytes than these are not gathered, nor into less room.
 pub(crate) const SHORT: usize = 64;
 
 /// The length of the buffer.
 pub(crate) const BUFFER: usize = 304;
 
 /// The length of a buffer of code units.
-pub(crate) const UNITS_BUFFER: usize = 152;
+pub(crate) const UNITS_BUFFER: usize = 144;
 
-/// Once so many code units are there, no more are gathered.
-pub(crate) const UNITS_ENOUGH: usize = 128;
-
-/// Once so many bytes are there, no more are gathered. What is written at once is at most sixteen bytes more.
-pub(crate) const ENOUGH: usize = 256;
+/// No more is stored at once, where characters are gathered one by one.
+const STEP: usize = 16;
 
 /// The UTF-8 of a character, or nothing: the first `len` of four bytes.
 #[derive(Clone, Copy)]
@@ -144,29 +141,6 @@ pub(crate) fn store_units(buffer: &mut [u16], at: usize, character: char) -> usi
     at + width
 }
 
-/// Stores the ASCII among the sixteen bytes of `src` from `from` on, before a byte that isn't, where ASCII bytes are
-/// characters, and answers how much.
-#[inline(always)]
-pub(crate) fn store_ascii_of<P: Pieces>(
-    pieces: P,
-    buffer: &mut [u8],
-    at: usize,
-    src: &[u8],
-    from: usize,
-) -> usize
-    requires from { from + 16 ≤ length src.now }
-    requires room { at + 16 ≤ length buffer.old }
-    ensures bound { result ≤ 16 }
-    ensures len { length buffer.new ≡ length buffer.old }
-    ensures gathers { Gathers encode_utf8 (P.means pieces) (drop from src.now) result (take at buffer.old)
-        (take (at + result) buffer.new) }
-{
-    if !pieces.has_ascii() {
-        return 0;
-    }
-    store_ascii(buffer, at, src, from)
-}
-
 /// A way to gather characters.
 pub(crate) trait Gather {
     // whether bytes are a character
@@ -179,24 +153,23 @@ pub(crate) trait Gather {
     fn has_ascii(&self) -> bool
         ensures { IsTrue result → (b : ℕ) → b < 0x80 → means self.now (b ∷ []) b };
 
-    /// Gathers the characters that the bytes in front of `src` are, as many as it likes, and answers how many bytes
-    /// were read, and written from the start of the buffer on.
-    fn gather(&self, buffer: &mut [u8], src: &[u8]) -> (usize, usize)
-        requires buffer { length buffer.old ≡ 304 }
+    /// Gathers the first characters of `src`, any number of them whose UTF-8 fits into `room`. Returns how many bytes it
+    /// read, and how many it wrote from the start of the buffer on.
+    fn gather(&self, buffer: &mut [u8], room: usize, src: &[u8]) -> (usize, usize)
         requires ready { ready self.now }
         ensures len { length buffer.new ≡ length buffer.old }
         ensures bound { result.1 ≤ length buffer.new }
         ensures gathers { Gathers encode_utf8 (means self.now) src.now result.0 [] (take result.1 buffer.new) };
 
     /// The same in UTF-16, in a buffer of code units.
-    fn gather_units(&self, buffer: &mut [u16], src: &[u8]) -> (usize, usize)
-        requires buffer { length buffer.old ≡ 152 }
+    fn gather_units(&self, buffer: &mut [u16], room: usize, src: &[u8]) -> (usize, usize)
         requires ready { ready self.now }
         ensures len { length buffer.new ≡ length buffer.old }
         ensures bound { result.1 ≤ length buffer.new }
         ensures gathers { Gathers encode_utf16 (means self.now) src.now result.0 [] (take result.1 buffer.new) }
     {
         let _gather = self;
+        let _room = room;
         let _bytes = src;
         let _buffer = buffer;
         (0, 0)
@@ -218,13 +191,15 @@ impl<P: Pieces> Gather for OneByOne<P> {
         self.pieces.has_ascii()
     }
 
-    /// It leaves off where no character is known to begin, where the buffer has enough, and 32 bytes before the end.
+    /// It leaves off where no character is known to begin, and 16 bytes before the end of the room or 32 before that of
+    /// `src`.
     #[inline(always)]
-    fn gather(&self, buffer: &mut [u8], src: &[u8]) -> (usize, usize) {
+    fn gather(&self, buffer: &mut [u8], room: usize, src: &[u8]) -> (usize, usize) {
         let has_ascii = self.pieces.has_ascii();
+        let limit = buffer.len().min(room);
         let mut read = 0;
         let mut written = 0;
-        while written <= ENOUGH && 32 <= src.len() - read {
+        while STEP <= limit - written && 32 <= src.len() - read {
             if has_ascii && src[read] < 0x80 {
                 let len = store_ascii(buffer, written, src, read);
                 read += len;

@@ -8,9 +8,15 @@ ghost use Rattle.enc_units.specs.Pairs.{four_ends};
 
 use crate::ascii::are_ascii;
 use crate::ends::ENDS;
-use crate::gather::{ENOUGH, Gather, UNITS_ENOUGH, store_text, store_units, store_word, utf8_of};
+use crate::gather::{Gather, store_text, store_units, store_word, utf8_of};
 use crate::pieces::Pieces;
 use std::simd::prelude::*;
+
+/// No more bytes are stored at once: eight characters, and one after them.
+const STEP: usize = 36;
+
+/// No more code units are stored at once.
+const UNITS_STEP: usize = 16;
 
 /// Where each of four characters ends, counted from the start of the first, if these of the bytes from there on lead a
 /// pair.
@@ -172,13 +178,15 @@ impl<P: Pieces> Gather for Pairs<P> {
         self.pieces.has_ascii()
     }
 
-    /// It leaves off where no character is known to begin, where the buffer has enough, and 32 bytes before the end.
+    /// It leaves off where no character is known to begin, and 36 bytes before the end of the room or 32 before that of
+    /// `src`.
     #[inline(always)]
-    fn gather(&self, buffer: &mut [u8], src: &[u8]) -> (usize, usize) {
+    fn gather(&self, buffer: &mut [u8], room: usize, src: &[u8]) -> (usize, usize) {
         let has_ascii = self.pieces.has_ascii();
+        let limit = buffer.len().min(room);
         let mut read = 0;
         let mut written = 0;
-        while written <= ENOUGH && 32 <= src.len() - read {
+        while STEP <= limit - written && 32 <= src.len() - read {
             let lanes = u8x16::from_slice(&src[read..]);
             if has_ascii && are_ascii(lanes) {
                 lanes.copy_to_slice(&mut buffer[written..]);
@@ -202,13 +210,14 @@ impl<P: Pieces> Gather for Pairs<P> {
         (read, written)
     }
 
-    /// It leaves off as `gather` does.
+    /// It leaves off as `gather` does, but 16 code units before the end of the room.
     #[inline(always)]
-    fn gather_units(&self, buffer: &mut [u16], src: &[u8]) -> (usize, usize) {
+    fn gather_units(&self, buffer: &mut [u16], room: usize, src: &[u8]) -> (usize, usize) {
         let has_ascii = self.pieces.has_ascii();
+        let limit = buffer.len().min(room);
         let mut read = 0;
         let mut written = 0;
-        while written <= UNITS_ENOUGH && 32 <= src.len() - read {
+        while UNITS_STEP <= limit - written && 32 <= src.len() - read {
             let lanes = u8x16::from_slice(&src[read..]);
             if has_ascii && are_ascii(lanes) {
                 lanes.cast::<u16>().copy_to_slice(&mut buffer[written..]);

@@ -106,22 +106,21 @@ impl<'a> Utf16Slice<'a> {
         self.append_ascii(src)
     }
 
-    /// Writes ASCII, and characters that are gathered, a buffer of them at once, until such a buffer doesn't fit or
-    /// nothing is gathered, and returns how many bytes they have.
+    /// Writes ASCII, and characters that are gathered, a buffer of them at once, until nothing is gathered, and returns how
+    /// many bytes they have.
     #[inline(always)]
-    fn append_gathered<G: Gather>(&mut self, by: &G, src: &[u8]) -> usize
+    fn append_gathered<G: Gather>(&mut self, by: &G, buffer: &mut [u16], src: &[u8]) -> usize
         requires { G.ready by.now }
         ensures { PutsPieces encode_utf16 (G.means by.now)
             (slice_output self.old.len self.old.dst.now self.old.dst.ghost_name)
             (slice_output self.new.len self.new.dst.now self.new.dst.ghost_name) src.now result }
     {
-        let mut buffer = [0; UNITS_BUFFER];
         let mut at = 0;
         loop {
             let (_, rest) = src.split_at(at);
             at += self.append_ascii_of(by, rest);
             let (_, behind) = src.split_at(at);
-            let (read, written) = by.gather_units(&mut buffer, behind);
+            let (read, written) = by.gather_units(buffer, self.dst.len() - self.len, behind);
             if read == 0 {
                 return at;
             }
@@ -140,10 +139,10 @@ impl<'a> Utf16Slice<'a> {
             (slice_output self.old.len self.old.dst.now self.old.dst.ghost_name)
             (slice_output self.new.len self.new.dst.now self.new.dst.ghost_name) src.now result }
     {
-        if src.len() < SHORT || !pieces.are_pairs() {
+        if src.len() < SHORT || self.dst.len() - self.len < SHORT || !pieces.are_pairs() {
             return 0;
         }
-        self.append_gathered(&Pairs { pieces }, src)
+        self.append_gathered(&Pairs { pieces }, &mut [0; UNITS_BUFFER], src)
     }
 
     /// Writes the characters in front one by one, but ASCII as runs, and answers how many bytes they have. It leaves off

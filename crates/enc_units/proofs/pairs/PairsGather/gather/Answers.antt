@@ -10,9 +10,10 @@ loop-written-preserved-then-are_ascii g c =
     let i = c.loop-written.invariant in
     let rest = drop c.loop-written.read c.args.src.now in
     let long : length (take 16 rest) ≡ 16 = omega (arith, length-take 16 rest, length-drop c.loop-written.read c.args.src.now) in (
+      omega (arith, length-put_chunk c.loop-written.written c.loop-written.buffer (take 16 rest), i.0),
       omega arith,
-      length-put_chunk c.loop-written.written c.loop-written.buffer _ ∙ i.1,
-      gathers_then _ _ _ _ _ _ _ _ i.2 (gathers_ascii _ _ _ _ _ _ (c.has_ascii-has_ascii.ensures c.if-has_ascii.true) ascii_units (omega (arith, length-drop c.loop-written.read c.args.src.now))
+      length-put_chunk c.loop-written.written c.loop-written.buffer _ ∙ i.2,
+      gathers_then _ _ _ _ _ _ _ _ i.3 (gathers_ascii _ _ _ _ _ _ (c.has_ascii-has_ascii.ensures c.if-has_ascii.true) ascii_units (omega (arith, length-drop c.loop-written.read c.args.src.now))
           (c.are_ascii.ensures c.if-are_ascii.true)
           (stored_lanes c.loop-written.written 16 c.loop-written.buffer (take 16 rest) (omega arith) (omega arith) ∙ ap (λ z. take c.loop-written.written c.loop-written.buffer ++ z) (take-take 16 16 rest (omega arith)))),
     )
@@ -21,7 +22,7 @@ pub loop-written-preserved-then-more-gt0 : goal.loop-written-preserved-then-more
 loop-written-preserved-then-more-gt0 g c =
     let i = c.loop-written.invariant in
     let e = c.store_eight-more.ensures in
-    (omega (arith, e.bound), e.len ∙ i.1, gathers_then _ _ _ _ _ _ _ _ i.2 e.gathers)
+    (omega (arith, e.len, i.0), omega (arith, e.bound), e.len ∙ i.2, gathers_then _ _ _ _ _ _ _ _ i.3 e.gathers)
 
 pub loop-written-preserved : goal.loop-written-preserved
 loop-written-preserved g c =
@@ -31,8 +32,9 @@ loop-written-preserved g c =
     let p = c.in-Some.ensures in
     let text = ap (λ n. take n c.store_text-written.new.buffer) e.end ∙ e.stored
     ∙ ap (λ z. take c.store_eight-more.result.1 c.store_eight-more.new.buffer ++ z) c.utf8_of.ensures.bytes in (
+      omega (arith, e.len, m.len, i.0),
       omega (arith, e.end, m.bound, c.utf8_of.ensures.bound),
-      e.len ∙ m.len ∙ i.1,
-      gathers_then _ _ _ _ _ _ _ _ (gathers_then _ _ _ _ _ _ _ _ i.2 m.gathers)
+      e.len ∙ m.len ∙ i.2,
+      gathers_then _ _ _ _ _ _ _ _ (gathers_then _ _ _ _ _ _ _ _ i.3 m.gathers)
           (gathers_one _ _ _ _ _ _ _ p.some p.within c.utf8_of.ensures.scalar p.means text),
     )

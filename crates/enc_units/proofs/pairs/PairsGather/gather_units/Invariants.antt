@@ -5,7 +5,7 @@ use Rattle.enc_units.proofs.pairs.PairsGather.gather_units.Given as goal
 
 abbrev pub invariant-loop-written : goal.invariant-loop-written
 invariant-loop-written g l =
-    (l.written ≤ 146) × (length l.buffer ≡ length l.initial.buffer)
+    (l.limit ≤ length l.buffer) × (l.written ≤ l.limit) × (length l.buffer ≡ length l.initial.buffer)
     × Gathers encode_utf16 (g.P.Pieces.means l.self.pieces) l.src l.read [] (take l.written l.buffer)
 
 abbrev pub decreases-loop-written : goal.decreases-loop-written
