@@ -1,5 +1,6 @@
 -- Code units of UTF-16 in eight lanes, and their UTF-8.
-use Rattle.std.proofs.Common.{◌≡◌, ℕ, zero, suc, ◌+◌, ◌*◌, ◌/◌, ◌%◌, ◌^◌, ◌<◌, ◌≤◌, Bool, true, false, not, cond, eqb, ltb, List, [], ◌∷◌, map, length}
+use Rattle.std.proofs.Common.{◌≡◌, ℕ, zero, suc, ◌+◌, ◌*◌, ◌/◌, ◌%◌, ◌^◌, ◌<◌, ◌≤◌, Bool, true, false, not, cond, eqb}
+use Rattle.std.proofs.Common.{ltb, List, [], ◌∷◌, map, length}
 use Rattle.std.proofs.Common.{replicate, take, refl, ap, ◌∙◌, sym, subst, arith, bit_and}
 use Rattle.std.proofs.lemmas.Bool.{eq-eqb, ne_eqb}
 use Rattle.std.proofs.lemmas.Bool.Decides.{nat_tests}
@@ -39,7 +40,8 @@ low_two a b rest h k = omega arith
 after_two : (a b rest : ℕ) → a < 256 → b < 256 → (a + 256 * (b + 256 * rest)) / 65536 ≡ rest
 after_two a b rest h k = omega arith
 
-pub little_units : (n : ℕ) (bytes : List ℕ) → length bytes ≡ n + n → Each1 (Fits w8) bytes → digits_l 65536 n (number_l 256 bytes) ≡ units_of_bytes false bytes
+pub little_units : (n : ℕ) (bytes : List ℕ) → length bytes ≡ n + n → Each1 (Fits w8) bytes
+    → digits_l 65536 n (number_l 256 bytes) ≡ units_of_bytes false bytes
 little_units zero [] e f = refl
 little_units zero (a ∷ bs) e f = absurd (omega arith)
 little_units (suc n) [] e f = absurd (omega arith)
@@ -48,7 +50,8 @@ little_units (suc n) (a ∷ b ∷ bs) e f =
     let h : a < 256 = f.0.fits in
     let k : b < 256 = f.1.0.fits in
     ap (λ u. u ∷ digits_l 65536 n (number_l 256 (a ∷ b ∷ bs) / 65536)) (low_two a b (number_l 256 bs) h k)
-    ∙ ap (λ z. (b * 256 + a) ∷ z) (ap (digits_l 65536 n) (after_two a b (number_l 256 bs) h k) ∙ little_units n bs (omega arith) f.1.1)
+    ∙ ap (λ z. (b * 256 + a) ∷ z) (ap (digits_l 65536 n) (after_two a b (number_l 256 bs) h k)
+    ∙ little_units n bs (omega arith) f.1.1)
 
 abbrev swapped : ℕ → List ℕ → List ℕ
 swapped n us = zip2 add16 (zip2 shl16 us (replicate n 8)) (zip2 shr16 us (replicate n 8))
@@ -56,7 +59,8 @@ swapped n us = zip2 add16 (zip2 shl16 us (replicate n 8)) (zip2 shr16 us (replic
 swaps : (a b : ℕ) → a < 256 → b < 256 → add16 (shl16 (b * 256 + a) 8) (shr16 (b * 256 + a) 8) ≡ a * 256 + b
 swaps a b h k = omega arith
 
-swapped_units : (n : ℕ) (bytes : List ℕ) → length bytes ≡ n + n → Each1 (Fits w8) bytes → swapped n (units_of_bytes false bytes) ≡ units_of_bytes true bytes
+swapped_units : (n : ℕ) (bytes : List ℕ) → length bytes ≡ n + n → Each1 (Fits w8) bytes
+    → swapped n (units_of_bytes false bytes) ≡ units_of_bytes true bytes
 swapped_units zero [] e f = refl
 swapped_units zero (a ∷ bs) e f = absurd (omega arith)
 swapped_units (suc n) [] e f = absurd (omega arith)
@@ -64,9 +68,11 @@ swapped_units (suc n) (a ∷ []) e f = absurd (omega arith)
 swapped_units (suc n) (a ∷ b ∷ bs) e f =
     let h : a < 256 = f.0.fits in
     let k : b < 256 = f.1.0.fits in
-    ap (λ u. u ∷ swapped n (units_of_bytes false bs)) (swaps a b h k) ∙ ap (λ z. (a * 256 + b) ∷ z) (swapped_units n bs (omega arith) f.1.1)
+    ap (λ u. u ∷ swapped n (units_of_bytes false bs)) (swaps a b h k)
+    ∙ ap (λ z. (a * 256 + b) ∷ z) (swapped_units n bs (omega arith) f.1.1)
 
-pub big_units : (n : ℕ) (bytes : List ℕ) → length bytes ≡ n + n → Each1 (Fits w8) bytes → swapped n (digits_l 65536 n (number_l 256 bytes)) ≡ units_of_bytes true bytes
+pub big_units : (n : ℕ) (bytes : List ℕ) → length bytes ≡ n + n → Each1 (Fits w8) bytes
+    → swapped n (digits_l 65536 n (number_l 256 bytes)) ≡ units_of_bytes true bytes
 big_units n bytes e f = ap (swapped n) (little_units n bytes e f) ∙ swapped_units n bytes e f
 
 -- the first surrogate
@@ -80,7 +86,8 @@ before us = prefix_len (λ u. not (is_surrogate u)) us
 no_surrogate : (u : ℕ) → u < 65536 → not (is_surrogate u) ≡ true → IsScalar u
 no_surrogate u h e = grind (arith, nat_tests)
 
-one_more : (u n : ℕ) (us : List ℕ) (t : Bool) → (t ≡ true → IsScalar u) → AreScalars (take n us) → AreScalars (take (cond t (1 + n) 0) (u ∷ us))
+one_more : (u n : ℕ) (us : List ℕ) (t : Bool) → (t ≡ true → IsScalar u) → AreScalars (take n us)
+    → AreScalars (take (cond t (1 + n) 0) (u ∷ us))
 one_more u n us false h a = refl
 one_more u n us true h a =
     let next : suc n ≡ 1 + n = omega arith in
@@ -88,20 +95,24 @@ one_more u n us true h a =
 
 first_scalars : (us : List ℕ) → Each1 (Fits w16) us → AreScalars (take (before us) us)
 first_scalars [] f = refl
-first_scalars (u ∷ us) f = one_more u (before us) us (not (is_surrogate u)) (no_surrogate u f.0.fits) (first_scalars us f.1)
+first_scalars (u ∷ us) f = one_more u (before us) us (not (is_surrogate u)) (no_surrogate u f.0.fits)
+    (first_scalars us f.1)
 
 module _ (us : List ℕ) (long : length us ≡ 8) (fits : Each1 (Fits w16) us) (mask : ℕ)
-    (is : mask ≡ mask_l (map (top 15) (zip2 (λ a b. cond (eqb a b) 65535 0) (zip2 shr16 us (replicate 8 11)) (replicate 8 27))) % 2 ^ 64) where
+    (is : mask ≡ mask_l (map (top 15) (zip2 (λ a b. cond (eqb a b) 65535 0) (zip2 shr16 us (replicate 8 11))
+    (replicate 8 27))) % 2 ^ 64) where
   shifted : zip2 shr16 us (replicate 8 11) ≡ map (λ u. shr16 u 11) us
   shifted = zip2_splat shr16 us 8 11 long
 
   marks : mask ≡ mask_l (map is_surrogate us)
   marks =
-      is ∙ bitmask_splat w16 eqb (zip2 shr16 us (replicate 8 11)) 8 27 (ap length shifted ∙ length-map us _ ∙ long) (omega arith)
+      is ∙ bitmask_splat w16 eqb (zip2 shr16 us (replicate 8 11)) 8 27 (ap length shifted ∙ length-map us _ ∙ long)
+      (omega arith)
       ∙ ap (λ z. mask_l (map (λ x. eqb x 27) z)) shifted ∙ ap mask_l (map-map (λ x. eqb x 27) (λ u. shr16 u 11) us)
 
   counted : cond (eqb mask 0) 8 (count_trailing_zeros 64 mask) ≡ before us
-  counted = ap (λ m. cond (eqb m 0) 8 (count_trailing_zeros 64 m)) marks ∙ first_set_mask_l is_surrogate us 8 long (omega arith)
+  counted = ap (λ m. cond (eqb m 0) 8 (count_trailing_zeros 64 m)) marks
+      ∙ first_set_mask_l is_surrogate us 8 long (omega arith)
 
   pub all_before : mask ≡ 0 → AreScalars (take 8 us)
   all_before e =
@@ -130,29 +141,36 @@ abbrev picked : ℕ → ℕ → List ℕ → List ℕ → List ℕ → List ℕ
 picked n limit us xs ys = sel_l (map (top 15) (zip2 lt16 us (replicate n limit))) xs ys
 
 abbrev fronts_of_two : ℕ → List ℕ → List ℕ
-fronts_of_two n us = zip2 add16 (zip2 add16 (zip2 shr16 us (replicate n 6)) (replicate n 32960)) (zip2 shl16 (zip2 bit_and us (replicate n 63)) (replicate n 8))
+fronts_of_two n us = zip2 add16 (zip2 add16 (zip2 shr16 us (replicate n 6)) (replicate n 32960))
+    (zip2 shl16 (zip2 bit_and us (replicate n 63)) (replicate n 8))
 
 abbrev fronts_of_three : ℕ → List ℕ → List ℕ
 fronts_of_three n us =
-    zip2 add16 (zip2 add16 (zip2 shr16 us (replicate n 12)) (replicate n 32992)) (zip2 shl16 (zip2 bit_and (zip2 shr16 us (replicate n 6)) (replicate n 63)) (replicate n 8))
+    zip2 add16 (zip2 add16 (zip2 shr16 us (replicate n 12)) (replicate n 32992))
+    (zip2 shl16 (zip2 bit_and (zip2 shr16 us (replicate n 6)) (replicate n 63)) (replicate n 8))
 
 abbrev front_lanes : ℕ → List ℕ → List ℕ
 front_lanes n us = picked n 128 us us (picked n 2048 us (fronts_of_two n us) (fronts_of_three n us))
 
 abbrev front_lane : ℕ → ℕ
 front_lane u =
-    cond (top 15 (lt16 u 128)) u (cond (top 15 (lt16 u 2048)) (add16 (add16 (shr16 u 6) 32960) (shl16 (bit_and u 63) 8))
+    cond (top 15 (lt16 u 128)) u (cond (top 15 (lt16 u 2048))
+    (add16 (add16 (shr16 u 6) 32960) (shl16 (bit_and u 63) 8))
     (add16 (add16 (shr16 u 12) 32992) (shl16 (bit_and (shr16 u 6) 63) 8)))
 
-two_is : (u low : ℕ) → u < 65536 → low ≡ u % 64 → add16 (add16 (shr16 u 6) 32960) (shl16 low 8) ≡ 32960 + u / 64 + u % 64 * 256
+two_is : (u low : ℕ) → u < 65536 → low ≡ u % 64
+    → add16 (add16 (shr16 u 6) 32960) (shl16 low 8) ≡ 32960 + u / 64 + u % 64 * 256
 two_is u low h e = omega arith
 
-three_is : (u middle : ℕ) → u < 65536 → middle ≡ u / 64 % 64 → add16 (add16 (shr16 u 12) 32992) (shl16 middle 8) ≡ 32992 + u / 4096 + u / 64 % 64 * 256
+three_is : (u middle : ℕ) → u < 65536 → middle ≡ u / 64 % 64
+    → add16 (add16 (shr16 u 12) 32992) (shl16 middle 8) ≡ 32992 + u / 4096 + u / 64 % 64 * 256
 three_is u middle h e = omega arith
 
-choice : (s t p q : Bool) (a b c x y : ℕ) → s ≡ p → t ≡ q → b ≡ x → c ≡ y → cond s a (cond t b c) ≡ cond p a (cond q x y)
+choice : (s t p q : Bool) (a b c x y : ℕ) → s ≡ p → t ≡ q → b ≡ x → c ≡ y
+    → cond s a (cond t b c) ≡ cond p a (cond q x y)
 choice s t p q a b c x y e f g h =
-    ap (λ r. cond r a (cond t b c)) e ∙ ap (λ r. cond p a (cond r b c)) f ∙ ap (λ r. cond p a (cond q r c)) g ∙ ap (λ r. cond p a (cond q x r)) h
+    ap (λ r. cond r a (cond t b c)) e ∙ ap (λ r. cond p a (cond r b c)) f ∙ ap (λ r. cond p a (cond q r c)) g
+    ∙ ap (λ r. cond p a (cond q x r)) h
 
 front_is : (u : ℕ) → u < 65536 → front_lane u ≡ front_of u
 front_is u h =
@@ -161,13 +179,15 @@ front_is u h =
 
 each_front : (us : List ℕ) → Each1 (Fits w16) us → front_lanes (length us) us ≡ map front_of us
 each_front [] f = refl
-each_front (u ∷ us) f = ap (λ x. x ∷ front_lanes (length us) us) (front_is u f.0.fits) ∙ ap (λ z. front_of u ∷ z) (each_front us f.1)
+each_front (u ∷ us) f = ap (λ x. x ∷ front_lanes (length us) us) (front_is u f.0.fits)
+    ∙ ap (λ z. front_of u ∷ z) (each_front us f.1)
 
 pub fronts_are : (n : ℕ) (us : List ℕ) → length us ≡ n → Each1 (Fits w16) us → front_lanes n us ≡ map front_of us
 fronts_are n us e f = subst (λ k. front_lanes k us ≡ map front_of us) e (each_front us f)
 
 abbrev rest_lanes : ℕ → List ℕ → List ℕ
-rest_lanes n us = picked n 128 us (replicate n 256) (picked n 2048 us (replicate n 512) (zip2 add16 (zip2 bit_and us (replicate n 63)) (replicate n 896)))
+rest_lanes n us = picked n 128 us (replicate n 256)
+    (picked n 2048 us (replicate n 512) (zip2 add16 (zip2 bit_and us (replicate n 63)) (replicate n 896)))
 
 abbrev rest_lane : ℕ → ℕ
 rest_lane u = cond (top 15 (lt16 u 128)) 256 (cond (top 15 (lt16 u 2048)) 512 (add16 (bit_and u 63) 896))
@@ -176,7 +196,8 @@ third_is : (u low : ℕ) → low ≡ u % 64 → add16 low 896 ≡ 896 + u % 64
 third_is u low e = omega arith
 
 rest_is : (u : ℕ) → rest_lane u ≡ rest_of u
-rest_is u = choice _ _ _ _ 256 512 _ 512 _ (top_of (ltb u 128)) (top_of (ltb u 2048)) refl (third_is u (bit_and u 63) (low_bits u))
+rest_is u = choice _ _ _ _ 256 512 _ 512 _ (top_of (ltb u 128)) (top_of (ltb u 2048)) refl
+    (third_is u (bit_and u 63) (low_bits u))
 
 each_rest : (us : List ℕ) → rest_lanes (length us) us ≡ map rest_of us
 each_rest [] = refl
@@ -194,17 +215,23 @@ rest_below : (u : ℕ) → rest_of u < 1024
 rest_below u = grind (arith, nat_tests)
 
 abbrev word_lanes : ℕ → List ℕ → List ℕ → List ℕ
-word_lanes n fs rs = zip2 (λ a b. (a + b) % 4294967296) (map (λ a. a) fs) (zip2 (λ a b. (a * 2 ^ b) % 4294967296) (map (λ a. a) rs) (replicate n 16))
+word_lanes n fs rs = zip2 (λ a b. (a + b) % 4294967296) (map (λ a. a) fs)
+    (zip2 (λ a b. (a * 2 ^ b) % 4294967296) (map (λ a. a) rs) (replicate n 16))
 
-joined : (front rest : ℕ) → front < 65536 → rest < 1024 → (front + (rest * 2 ^ 16) % 4294967296) % 4294967296 ≡ front + rest * 65536
+joined : (front rest : ℕ) → front < 65536 → rest < 1024
+    → (front + (rest * 2 ^ 16) % 4294967296) % 4294967296 ≡ front + rest * 65536
 joined front rest h k = omega arith
 
-each_word : (us : List ℕ) → Each1 (Fits w16) us → word_lanes (length us) (map front_of us) (map rest_of us) ≡ map word_of us
+each_word : (us : List ℕ) → Each1 (Fits w16) us
+    → word_lanes (length us) (map front_of us) (map rest_of us) ≡ map word_of us
 each_word [] f = refl
 each_word (u ∷ us) f =
-    ap (λ x. x ∷ word_lanes (length us) (map front_of us) (map rest_of us)) (joined (front_of u) (rest_of u) (two_below u f.0.fits) (rest_below u))
+    ap (λ x. x ∷ word_lanes (length us) (map front_of us) (map rest_of us))
+    (joined (front_of u) (rest_of u) (two_below u f.0.fits) (rest_below u))
     ∙ ap (λ z. word_of u ∷ z) (each_word us f.1)
 
-pub words_are : (n : ℕ) (us fs rs : List ℕ) → length us ≡ n → Each1 (Fits w16) us → fs ≡ map front_of us → rs ≡ map rest_of us → word_lanes n fs rs ≡ map word_of us
+pub words_are : (n : ℕ) (us fs rs : List ℕ) → length us ≡ n → Each1 (Fits w16) us → fs ≡ map front_of us
+    → rs ≡ map rest_of us → word_lanes n fs rs ≡ map word_of us
 words_are n us fs rs e f p q =
-    ap (λ z. word_lanes n z rs) p ∙ ap (word_lanes n (map front_of us)) q ∙ subst (λ k. word_lanes k (map front_of us) (map rest_of us) ≡ map word_of us) e (each_word us f)
+    ap (λ z. word_lanes n z rs) p ∙ ap (word_lanes n (map front_of us)) q
+    ∙ subst (λ k. word_lanes k (map front_of us) (map rest_of us) ≡ map word_of us) e (each_word us f)

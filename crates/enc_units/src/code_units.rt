@@ -1,8 +1,10 @@
-//! Characters of one code unit of UTF-16, eight at a time with no branch on the length of their UTF-8.
+//! Characters of one code unit of UTF-16, eight at a time with no branch on their lengths.
 
-ghost use Rattle.std.specs.Prelude.{◌≡◌, ◌+◌, ◌*◌, ◌<◌, ◌≤◌, ◌++◌, length, map, take, drop, IsTrue};
+ghost use Rattle.std.specs.Prelude.{◌≡◌, ℕ, ◌+◌, ◌*◌, ◌/◌, ◌<◌, ◌≤◌, ◌++◌, All, IsTrue};
+ghost use Rattle.std.specs.Prelude.{length, map, take, drop};
 ghost use Rattle.std.specs.Char.{encode_utf8};
-ghost use Rattle.enc_units.specs.CodeUnits.{AreCodeUnits, units_of_bytes, front_of, rest_of, word_of};
+ghost use Rattle.enc_units.specs.CodeUnits.{AreCodeUnits, units_of_bytes, bytes_of_words};
+ghost use Rattle.enc_units.specs.CodeUnits.{front_of, rest_of};
 ghost use Rattle.enc_units.specs.Gathering.{Gathers};
 ghost use Rattle.enc_units.specs.Output.{AreScalars, units_of_text};
 ghost use Rattle.enc_units.specs.Validity.{AreAscii};
@@ -61,7 +63,7 @@ fn fronts(units: u16x8) -> u16x8
     units.simd_lt(u16x8::splat(0x80)).select(units, more)
 }
 
-/// The third, with the number of bytes above it.
+/// The third byte, with the number of bytes above it.
 #[inline(always)]
 fn rests(units: u16x8) -> u16x8
     ensures { result ≡ map rest_of units }
@@ -75,25 +77,30 @@ fn rests(units: u16x8) -> u16x8
         .select(u16x8::splat(0x100), more)
 }
 
-/// The UTF-8 of each code unit: its bytes, the first lowest, and their number in the highest byte of a word.
+/// The UTF-8 of each code unit as a word: its bytes, the first lowest, and their number in the
+/// highest byte.
 #[inline(always)]
 fn words_of(units: u16x8) -> [u32; 8]
-    ensures { result ≡ map word_of units }
+    ensures bound { All (λ word. word / 0x1000000 ≤ 4) result }
+    ensures utf8 { (n : ℕ) → bytes_of_words (take n result)
+        ≡ units_of_text encode_utf8 (take n units) }
 {
     let rests = rests(units).cast::<u32>() << u32x8::splat(16);
     (fronts(units).cast::<u32>() + rests).to_array()
 }
 
-/// Stores the UTF-8 of the first `len` code units after the first `at` bytes of a buffer, and returns where it ends.
+/// Stores the bytes of the first `len` words after the first `at` bytes of a buffer. Returns where
+/// they end.
 #[inline(always)]
-fn store_units(buffer: &mut [u8], at: usize, units: u16x8, len: usize) -> usize
+fn store_words(buffer: &mut [u8], at: usize, words: [u32; 8], len: usize) -> usize
     requires room { at + 32 ≤ length buffer.old }
     requires len { len ≤ 8 }
+    requires words { All (λ word. word / 0x1000000 ≤ 4) words }
     ensures bound { result ≤ at + 4 * len }
     ensures len { length buffer.new ≡ length buffer.old }
-    ensures stored { take result buffer.new ≡ take at buffer.old ++ units_of_text encode_utf8 (take len units) }
+    ensures stored { take result buffer.new
+        ≡ take at buffer.old ++ bytes_of_words (take len words) }
 {
-    let words = words_of(units);
     let mut end = at;
     let mut count = 0;
     while count < len {
@@ -124,7 +131,8 @@ impl<P: Pieces> Gather for CodeUnits<P> {
         false
     }
 
-    /// It leaves off where no character is known to begin, where the buffer has enough, and 32 bytes before the end.
+    /// It stops where no character is known to begin, where the buffer has enough, and 32 bytes
+    /// before the end.
     #[inline(always)]
     fn gather(&self, buffer: &mut [u8], src: &[u8]) -> (usize, usize) {
         let mut read = 0;
@@ -137,14 +145,15 @@ impl<P: Pieces> Gather for CodeUnits<P> {
                 written += 8;
                 continue;
             }
+            let words = words_of(units);
             let count = units_before_surrogate(units);
             if count == 8 {
-                // a constant makes eight steps in a row of the loop
-                written = store_units(buffer, written, units, 8);
+                // with a constant length the loop has no branch
+                written = store_words(buffer, written, words, 8);
                 read += 16;
                 continue;
             }
-            written = store_units(buffer, written, units, count);
+            written = store_words(buffer, written, words, count);
             read += 2 * count;
             let Some((character, len)) = self.pieces.piece(src, read) else {
                 break;

@@ -25,7 +25,8 @@ pub trait Pieces: Copy {
     fn has_ascii(self) -> bool
         ensures { IsTrue result → (b : ℕ) → b < 0x80 → means self (b ∷ []) b };
 
-    /// Whether the input is UTF-16, and then whether its code units are big-endian. Takes no memory.
+    /// Whether the input is UTF-16: then the byte order of its code units, true for big-endian.
+    /// Takes no memory.
     fn code_units(self) -> Option<bool>
         ensures { IfSome result (AreCodeUnits (means self)) }
     {
