@@ -36,4 +36,4 @@ pub units_are_pieces : (big : Bool) → AreCodeUnits (IsPiece (utf_16_rule big) 
 units_are_pieces big a b s =
     let e = same_unit big a b in
     unit_piece big a b (unit_of big a b) e (ap is_lead (sym e) ∙ no_lead (unit_of big a b) s)
-        (ap is_trail (sym e) ∙ no_trail (unit_of big a b) s)
+    (ap is_trail (sym e) ∙ no_trail (unit_of big a b) s)
