@@ -2,6 +2,7 @@
 
 ghost use Rattle.std.specs.Prelude.{ℕ, ◌<◌, ◌≤◌, List, [], ◌∷◌, length, take, drop, IfSome, IsTrue};
 ghost use Rattle.enc_units.specs.Pieces.{PutsPieces};
+ghost use Rattle.enc_units.specs.CodeUnits.{AreCodeUnits};
 ghost use Rattle.enc_units.specs.Pairs.{byte_or_pair, MeansWord, MeansUnit};
 
 use crate::units::Units;
@@ -23,6 +24,15 @@ pub trait Pieces: Copy {
     /// Whether each byte below 0x80 is the ASCII character of that number. Takes no memory.
     fn has_ascii(self) -> bool
         ensures { IsTrue result → (b : ℕ) → b < 0x80 → means self (b ∷ []) b };
+
+    /// Whether the input is UTF-16: then the byte order of its code units, true for big-endian.
+    /// Takes no memory.
+    fn code_units(self) -> Option<bool>
+        ensures { IfSome result (AreCodeUnits (means self)) }
+    {
+        let _pieces = self;
+        None
+    }
 
     /// Whether it pays to look characters up by `word` and `unit`: where most are a byte or two. The output is the same
     /// either way. Takes no memory.

@@ -1,5 +1,8 @@
 -- Code units of UTF-16 that are no surrogates, and surrogate pairs, are pieces.
-use Rattle.std.proofs.Common.{◌≡◌, ℕ, Bool, true, false, [], ◌∷◌}
+use Rattle.std.proofs.Common.{◌≡◌, ◌∙◌, ℕ, Bool, true, false, [], ◌∷◌, refl, ap, sym, arith}
+use Rattle.std.proofs.lemmas.Bool.Decides.{nat_tests}
+use Rattle.std.specs.Char.{IsScalar}
+use Rattle.enc_units.specs.CodeUnits.{AreCodeUnits, unit_of}
 use Rattle.enc_utf.specs.Utf16.{code_unit, is_lead, is_trail, pair_scalar, utf_16_rule}
 use Rattle.enc_machine.specs.Taking.{IsPiece}
 use Rattle.enc_machine.proofs.SegmentationLemmas.{sequences_of-head}
@@ -13,3 +16,24 @@ module _ (big : Bool) where
   pub pair_piece : (a b d e c : ℕ) → c ≡ pair_scalar (code_unit big a b) (code_unit big d e) → is_lead (code_unit big a b) ≡ true
       → is_trail (code_unit big d e) ≡ true → IsPiece (utf_16_rule big) 0 (a ∷ b ∷ d ∷ e ∷ []) c
   pair_piece a b d e c s l t y = rw s (sequences_of-head (utf_16_rule big) 0 a (b ∷ d ∷ e ∷ y) _ (pair_first big 0 a b d e y l t))
+
+-- by the code unit's number alone
+
+no_lead : (u : ℕ) → IsScalar u → is_lead u ≡ false
+unfolding is_lead
+no_lead u s = grind (arith, nat_tests)
+
+no_trail : (u : ℕ) → IsScalar u → is_trail u ≡ false
+unfolding is_trail
+no_trail u s = grind (arith, nat_tests)
+
+same_unit : (big : Bool) (a b : ℕ) → unit_of big a b ≡ code_unit big a b
+unfolding code_unit
+same_unit true a b = refl
+same_unit false a b = refl
+
+pub units_are_pieces : (big : Bool) → AreCodeUnits (IsPiece (utf_16_rule big) 0) big
+units_are_pieces big a b s =
+    let e = same_unit big a b in
+    unit_piece big a b (unit_of big a b) e (ap is_lead (sym e) ∙ no_lead (unit_of big a b) s)
+    (ap is_trail (sym e) ∙ no_trail (unit_of big a b) s)

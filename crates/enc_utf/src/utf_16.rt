@@ -216,6 +216,10 @@ impl Pieces for Utf16Decoder {
         let _pending = self.pending;
         false
     }
+
+    fn code_units(self) -> Option<bool> {
+        Some(self.big_endian)
+    }
 }
 
 impl ByteCodec for Utf16Decoder {

@@ -1,0 +1,175 @@
+-- Characters of one code unit of UTF-16, and their UTF-8 as words.
+use Rattle.std.proofs.Common.{◌≡◌, ℕ, zero, suc, ◌+◌, ◌*◌, ◌/◌, ◌%◌, ◌<◌, ◌≤◌, Bool, List, [], ◌∷◌, ◌++◌, map, length}
+use Rattle.std.proofs.Common.{get_or}
+use Rattle.std.proofs.Common.{take, refl, ap, ◌∙◌, sym, subst, arith, inl, inr, append_assoc, append-nil, length-take}
+use Rattle.std.proofs.lemmas.Bool.{and_parts, cases_lt, lt-ltb, le-ltb}
+use Rattle.std.proofs.lemmas.List.{take_all}
+use Rattle.std.proofs.lemmas.Simd.{take_more_put_chunk}
+use Rattle.std.proofs.lemmas.Str.{encode_ascii}
+use Rattle.std.proofs.Math.Seq.{take-suc}
+use Rattle.std.specs.Char.{encode_utf8}
+use Rattle.std.specs.Prelude.{All}
+use Rattle.std.specs.Int.{to_le_bytes}
+use lib.Lanes.{Each1, put_chunk}
+use mir.Syntax.{w16, w32}
+use mir.Val.{Fits}
+use Rattle.enc_units.specs.CodeUnits.{unit_of, units_of_bytes, AreCodeUnits, word_of, bytes_of_words}
+use Rattle.enc_units.specs.Gathering.{Gathers}
+use Rattle.enc_units.specs.Output.{AreScalars, units_of_text}
+use Rattle.enc_units.specs.Pieces.{Reads}
+use Rattle.enc_units.specs.Validity.{AreAscii}
+use Rattle.enc_units.proofs.GatherLemmas.{utf8_two, utf8_three}
+use Rattle.enc_units.proofs.PiecesLemmas.{reads_none, reads_one, reads_then, reads_wider}
+use Rattle.enc_units.proofs.ScalarLemmas.{ascii_scalars}
+use Rattle.enc_units.proofs.Utf8SliceLemmas.{ascii_units}
+
+-- the word of a code unit
+
+abbrev Spells : ℕ → List ℕ → Type 0
+Spells word text = (word / 0x100_0000 ≤ 4) × (take (word / 0x100_0000) (to_le_bytes w32 word) ≡ text)
+
+spelt : (word n : ℕ) (text : List ℕ) → word / 0x100_0000 ≡ n → n ≤ 4 → take n (to_le_bytes w32 word) ≡ text
+    → Spells word text
+spelt word n text e h t = (omega arith, ap (λ k. take k (to_le_bytes w32 word)) e ∙ t)
+
+two_same : (a b x y : ℕ) → a ≡ x → b ≡ y → a ∷ b ∷ [] ≡ x ∷ y ∷ []
+two_same a b x y e f = ap (λ z. z ∷ b ∷ []) e ∙ ap (λ z. x ∷ z ∷ []) f
+
+three_same : (a b c x y z : ℕ) → a ≡ x → b ≡ y → c ≡ z → a ∷ b ∷ c ∷ [] ≡ x ∷ y ∷ z ∷ []
+three_same a b c x y z e f g = ap (λ t. t ∷ b ∷ c ∷ []) e ∙ ap (λ t. x ∷ t) (two_same b c y z f g)
+
+word_of_one : (u : ℕ) → u < 128 → word_of u ≡ 16777216 + u
+word_of_one u h = rw (lt-ltb u 128 h) (omega arith)
+
+word_of_two : (u : ℕ) → 128 ≤ u → u < 2048 → word_of u ≡ 33554432 + 32960 + u / 64 + u % 64 * 256
+word_of_two u l h = rw (le-ltb u 128 l, lt-ltb u 2048 h) (omega arith)
+
+word_of_three : (u : ℕ) → 2048 ≤ u → word_of u ≡ 58720256 + 32992 + u / 4096 + u / 64 % 64 * 256 + u % 64 * 65536
+word_of_three u l = rw (le-ltb u 128 (omega arith), le-ltb u 2048 l) (omega arith)
+
+one_spelt : (w u : ℕ) → u < 128 → w ≡ 16777216 + u → Spells w (encode_utf8 u)
+one_spelt w u h e = spelt w 1 (encode_utf8 u) (omega arith) (omega arith)
+    (ap (λ b. b ∷ []) low ∙ sym (encode_ascii u h))
+  where
+    low : w % 256 ≡ u
+    low = omega arith
+
+two_spelt : (w u : ℕ) → 128 ≤ u → u < 2048 → w ≡ 33554432 + 32960 + u / 64 + u % 64 * 256 → Spells w (encode_utf8 u)
+two_spelt w u l h e = spelt w 2 (encode_utf8 u) (omega arith) (omega arith)
+    (two_same _ _ _ _ (omega arith) (omega arith) ∙ sym (utf8_two u l h))
+
+three_spelt : (w u : ℕ) → 2048 ≤ u → u < 65536 → w ≡ 58720256 + 32992 + u / 4096 + u / 64 % 64 * 256 + u % 64 * 65536
+    → Spells w (encode_utf8 u)
+three_spelt w u l h e =
+    spelt w 3 (encode_utf8 u) (omega arith) (omega arith)
+    (three_same _ _ _ _ _ _ (omega arith) (omega arith) (omega arith) ∙ sym (utf8_three u l h))
+
+word_spelt : (u : ℕ) → u < 65536 → Spells (word_of u) (encode_utf8 u)
+word_spelt u h = elim (cases_lt u 128) [
+  | inl a ↦ one_spelt (word_of u) u a (word_of_one u a)
+  | inr a ↦ elim (cases_lt u 2048) [
+    | inl b ↦ two_spelt (word_of u) u a b (word_of_two u a b)
+    | inr b ↦ three_spelt (word_of u) u b h (word_of_three u b)
+  ]
+]
+
+pub few_bytes : (us : List ℕ) → Each1 (Fits w16) us → All (λ word. word / 0x100_0000 ≤ 4) (map word_of us)
+few_bytes [] f k d h = absurd (omega arith)
+few_bytes (u ∷ us) f zero d h = (word_spelt u f.0.fits).0
+few_bytes (u ∷ us) f (suc k) d h = few_bytes us f.1 k d (omega arith)
+
+pub words_spelt : (us : List ℕ) → Each1 (Fits w16) us → (n : ℕ)
+    → bytes_of_words (take n (map word_of us)) ≡ units_of_text encode_utf8 (take n us)
+words_spelt us f zero = refl
+words_spelt [] f (suc n) = refl
+words_spelt (u ∷ us) f (suc n) =
+    ap (λ z. z ++ bytes_of_words (take n (map word_of us))) (word_spelt u f.0.fits).1
+    ∙ ap (λ z. encode_utf8 u ++ z) (words_spelt us f.1 n)
+
+-- one more word that is stored
+
+bytes-append : (vs ws : List ℕ) → bytes_of_words (vs ++ ws) ≡ bytes_of_words vs ++ bytes_of_words ws
+bytes-append [] ws = refl
+bytes-append (v ∷ vs) ws =
+    let front = take (v / 0x100_0000) (to_le_bytes w32 v) in
+    ap (λ z. front ++ z) (bytes-append vs ws) ∙ sym (append_assoc front (bytes_of_words vs) (bytes_of_words ws))
+
+pub stored_word : (words : List ℕ) (count : ℕ) → count < length words → (front mid after bytes : List ℕ)
+    → bytes ≡ to_le_bytes w32 (get_or words count 0)
+    → mid ≡ front ++ bytes_of_words (take count words) → after ≡ mid ++ take (get_or words count 0 / 0x100_0000) bytes
+    → after ≡ front ++ bytes_of_words (take (count + 1) words)
+stored_word words count inside front mid after bytes b m a =
+    let word = get_or words count 0 in
+    let old = bytes_of_words (take count words) in
+    let new = take (word / 0x100_0000) (to_le_bytes w32 word) in
+    let next : count + 1 ≡ suc count = omega arith in
+    let more = ap (λ k. bytes_of_words (take k words)) next ∙ ap bytes_of_words (take-suc words count 0 inside)
+    ∙ bytes-append (take count words) (word ∷ [])
+    ∙ ap (λ z. old ++ z) (append-nil new) in
+    a ∙ ap (λ z. mid ++ take (word / 0x100_0000) z) b ∙ ap (λ z. z ++ new) m ∙ append_assoc front old new
+    ∙ ap (λ z. front ++ z) (sym more)
+
+-- code units that are ASCII, as bytes
+
+same_lanes : (us : List ℕ) → map (λ u. u) us ≡ us
+same_lanes [] = refl
+same_lanes (u ∷ us) = ap (λ z. u ∷ z) (same_lanes us)
+
+pub stored_ascii : (at : ℕ) (old us : List ℕ) → length us ≡ 8 → at + 8 ≤ length old → AreAscii us
+    → take (at + 8) (put_chunk at old (map (λ u. u) us)) ≡ take at old ++ units_of_text encode_utf8 (take 8 us)
+stored_ascii at old us long room a =
+    ap (λ z. take (at + 8) (put_chunk at old z)) (same_lanes us)
+    ∙ take_more_put_chunk at old us (at + 8) (omega arith) room
+    ∙ ap (λ z. take at old ++ z) (sym (ap (units_of_text encode_utf8) (take_all 8 us (omega arith))
+    ∙ ascii_units us a))
+
+pub front_ascii : (us : List ℕ) → length us ≡ 8 → AreAscii us → AreScalars (take 8 us)
+front_ascii us long a = subst AreScalars (sym (take_all 8 us (omega arith))) (ascii_scalars us a)
+
+-- characters of one code unit each
+
+pub units_long : (big : Bool) (n : ℕ) (bytes : List ℕ) → length bytes ≡ n + n → length (units_of_bytes big bytes) ≡ n
+units_long big zero [] e = refl
+units_long big zero (a ∷ bs) e = absurd (omega arith)
+units_long big (suc n) [] e = absurd (omega arith)
+units_long big (suc n) (a ∷ []) e = absurd (omega arith)
+units_long big (suc n) (a ∷ b ∷ bs) e = ap suc (units_long big n bs (omega arith))
+
+module _ (Means : List ℕ → ℕ → Type 0) (big : Bool) (mean : AreCodeUnits Means big) where
+  reads_units : (n : ℕ) (bytes : List ℕ) → n + n ≤ length bytes → AreScalars (take n (units_of_bytes big bytes))
+      → Reads Means bytes (n + n) (take n (units_of_bytes big bytes))
+  reads_units zero bytes h s = reads_none Means bytes
+  reads_units (suc n) [] h s = absurd (omega arith)
+  reads_units (suc n) (a ∷ []) h s = absurd (omega arith)
+  reads_units (suc n) (a ∷ b ∷ bs) h s =
+      let u = unit_of big a b in
+      let more = take n (units_of_bytes big bs) in
+      let long : 2 + (n + n) ≡ suc n + suc n = omega arith in
+      subst (λ k. Reads Means (a ∷ b ∷ bs) k (u ∷ more)) long
+      (reads_then Means (a ∷ b ∷ bs) 2 (n + n) (u ∷ []) more
+      (reads_one Means (a ∷ b ∷ bs) 2 u (omega arith) (omega arith) (mean a b (and_parts _ _ s).0))
+      (reads_units n bs (omega arith) (and_parts _ _ s).1))
+
+  pub gathers_units : (n : ℕ) (src units before after : List ℕ) → n ≤ 8 → 16 ≤ length src
+      → units ≡ units_of_bytes big (take 16 src) → AreScalars (take n units)
+      → after ≡ before ++ units_of_text encode_utf8 (take n units) → Gathers encode_utf8 Means src (2 * n) before after
+  gathers_units n src units before after h l e s w =
+      let twice : n + n ≡ 2 * n = omega arith in
+      subst (λ k. Gathers encode_utf8 Means src k before after) twice (record {
+        text = take n units;
+        scalars = s;
+        reads = subst (λ us. Reads Means src (n + n) (take n us)) (sym e)
+            (reads_wider Means src 16 (n + n) (take n (units_of_bytes big (take 16 src)))
+            (reads_units n (take 16 src) (omega (arith, length-take 16 src))
+            (subst (λ us. AreScalars (take n us)) e s)));
+        written = w;
+      })
+
+  -- the same, where they are stored as words
+  pub gathers_words : (n : ℕ) (src units words before after : List ℕ) → n ≤ 8 → 16 ≤ length src
+      → units ≡ units_of_bytes big (take 16 src) → AreScalars (take n units)
+      → ((k : ℕ) → bytes_of_words (take k words) ≡ units_of_text encode_utf8 (take k units))
+      → after ≡ before ++ bytes_of_words (take n words)
+      → Gathers encode_utf8 Means src (2 * n) before after
+  gathers_words n src units words before after h l e s t w =
+      gathers_units n src units before after h l e s (w ∙ ap (λ z. before ++ z) (t n))

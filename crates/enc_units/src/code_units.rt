@@ -1,0 +1,165 @@
+//! Characters of one code unit of UTF-16, eight at a time with no branch on their lengths.
+
+ghost use Rattle.std.specs.Prelude.{◌≡◌, ℕ, ◌+◌, ◌*◌, ◌/◌, ◌<◌, ◌≤◌, ◌++◌, All, IsTrue};
+ghost use Rattle.std.specs.Prelude.{length, map, take, drop};
+ghost use Rattle.std.specs.Char.{encode_utf8};
+ghost use Rattle.enc_units.specs.CodeUnits.{AreCodeUnits, units_of_bytes, bytes_of_words};
+ghost use Rattle.enc_units.specs.CodeUnits.{front_of, rest_of};
+ghost use Rattle.enc_units.specs.Gathering.{Gathers};
+ghost use Rattle.enc_units.specs.Output.{AreScalars, units_of_text};
+ghost use Rattle.enc_units.specs.Validity.{AreAscii};
+
+use crate::gather::{Gather, store_text, store_word, utf8_of};
+use crate::pieces::Pieces;
+use std::simd::prelude::*;
+
+/// No more is stored at once: eight code units, and a character after them.
+const STEP: usize = 36;
+
+/// The eight code units of sixteen bytes.
+#[inline(always)]
+fn units_in(bytes: u8x16, big_endian: bool) -> u16x8
+    ensures { result ≡ units_of_bytes big_endian bytes }
+{
+    let units = u16x8::from_le_bytes(bytes);
+    if big_endian {
+        return (units << u16x8::splat(8)) + (units >> u16x8::splat(8));
+    }
+    units
+}
+
+/// Whether all of eight code units are ASCII.
+#[inline(always)]
+fn are_ascii_units(units: u16x8) -> bool
+    ensures { IsTrue result → AreAscii units }
+{
+    units.simd_ge(u16x8::splat(0x80)).to_bitmask() == 0
+}
+
+/// How many of eight code units stand before the first surrogate.
+#[inline(always)]
+fn units_before_surrogate(units: u16x8) -> usize
+    ensures bound { result ≤ 8 }
+    ensures scalars { AreScalars (take result units) }
+{
+    let surrogates = (units >> u16x8::splat(11))
+        .simd_eq(u16x8::splat(27))
+        .to_bitmask();
+    if surrogates == 0 {
+        8
+    } else {
+        surrogates.trailing_zeros() as usize
+    }
+}
+
+/// The first two bytes of the UTF-8 of each code unit.
+#[inline(always)]
+fn fronts(units: u16x8) -> u16x8
+    ensures { result ≡ map front_of units }
+{
+    let upper = units >> u16x8::splat(6);
+    let low = (units & u16x8::splat(63)) << u16x8::splat(8);
+    let middle = (upper & u16x8::splat(63)) << u16x8::splat(8);
+    let two = upper + u16x8::splat(0x80C0) + low;
+    let three = (units >> u16x8::splat(12)) + u16x8::splat(0x80E0) + middle;
+    let more = units.simd_lt(u16x8::splat(0x800)).select(two, three);
+    units.simd_lt(u16x8::splat(0x80)).select(units, more)
+}
+
+/// The third byte, with the number of bytes above it.
+#[inline(always)]
+fn rests(units: u16x8) -> u16x8
+    ensures { result ≡ map rest_of units }
+{
+    let three = (units & u16x8::splat(63)) + u16x8::splat(0x380);
+    let more = units
+        .simd_lt(u16x8::splat(0x800))
+        .select(u16x8::splat(0x200), three);
+    units
+        .simd_lt(u16x8::splat(0x80))
+        .select(u16x8::splat(0x100), more)
+}
+
+/// The UTF-8 of each code unit as a word: its bytes, the first lowest, and their number in the
+/// highest byte.
+#[inline(always)]
+fn words_of(units: u16x8) -> [u32; 8]
+    ensures bound { All (λ word. word / 0x1000000 ≤ 4) result }
+    ensures utf8 { (n : ℕ) → bytes_of_words (take n result)
+        ≡ units_of_text encode_utf8 (take n units) }
+{
+    let rests = rests(units).cast::<u32>() << u32x8::splat(16);
+    (fronts(units).cast::<u32>() + rests).to_array()
+}
+
+/// Stores the bytes of the first `len` words after the first `at` bytes of a buffer. Returns where
+/// they end.
+#[inline(always)]
+fn store_words(buffer: &mut [u8], at: usize, words: [u32; 8], len: usize) -> usize
+    requires room { at + 32 ≤ length buffer.old }
+    requires len { len ≤ 8 }
+    requires words { All (λ word. word / 0x1000000 ≤ 4) words }
+    ensures bound { result ≤ at + 4 * len }
+    ensures len { length buffer.new ≡ length buffer.old }
+    ensures stored { take result buffer.new
+        ≡ take at buffer.old ++ bytes_of_words (take len words) }
+{
+    let mut end = at;
+    let mut count = 0;
+    while count < len {
+        end = store_word(buffer, end, words[count]);
+        count += 1;
+    }
+    end
+}
+
+/// Characters of one code unit, and others one by one.
+#[derive(Clone, Copy)]
+pub(crate) struct CodeUnits<P> {
+    pub(crate) pieces: P,
+    pub(crate) big_endian: bool,
+}
+
+impl<P: Pieces> Gather for CodeUnits<P> {
+    ghost means = { λ g. P.means g.pieces };
+
+    ghost ready = { λ g. AreCodeUnits (P.means g.pieces) g.big_endian };
+
+    fn has_ascii(&self) -> bool {
+        false
+    }
+
+    /// It stops where no character is known to begin, and 36 bytes before the end of the room or 32
+    /// before that of `src`.
+    #[inline(always)]
+    fn gather(&self, buffer: &mut [u8], room: usize, src: &[u8]) -> (usize, usize) {
+        let limit = buffer.len().min(room);
+        let mut read = 0;
+        let mut written = 0;
+        while STEP <= limit - written && 32 <= src.len() - read {
+            let units = units_in(u8x16::from_slice(&src[read..]), self.big_endian);
+            if are_ascii_units(units) {
+                units.cast::<u8>().copy_to_slice(&mut buffer[written..]);
+                read += 16;
+                written += 8;
+                continue;
+            }
+            let words = words_of(units);
+            let count = units_before_surrogate(units);
+            if count == 8 {
+                // with a constant length the loop has no branch
+                written = store_words(buffer, written, words, 8);
+                read += 16;
+                continue;
+            }
+            written = store_words(buffer, written, words, count);
+            read += 2 * count;
+            let Some((character, len)) = self.pieces.piece(src, read) else {
+                break;
+            };
+            written = store_text(buffer, written, utf8_of(character));
+            read += len;
+        }
+        (read, written)
+    }
+}
