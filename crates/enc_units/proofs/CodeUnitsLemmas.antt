@@ -1,6 +1,6 @@
 -- Characters of one code unit of UTF-16, and their UTF-8 as words.
-use Rattle.std.proofs.Common.{◌≡◌, ℕ, zero, suc, ◌+◌, ◌*◌, ◌/◌, ◌%◌, ◌<◌, ◌≤◌, Bool, List, [], ◌∷◌, ◌++◌, map, length}
-use Rattle.std.proofs.Common.{get_or}
+use Rattle.std.proofs.Common.{◌≡◌, ℕ, zero, suc, ◌+◌, ◌-◌, ◌*◌, ◌/◌, ◌%◌, ◌<◌, ◌≤◌, Bool, List, [], ◌∷◌, ◌++◌, map, length}
+use Rattle.std.proofs.Common.{get_or, drop, length-drop}
 use Rattle.std.proofs.Common.{take, refl, ap, ◌∙◌, sym, subst, arith, inl, inr, append_assoc, append-nil, length-take}
 use Rattle.std.proofs.lemmas.Bool.{and_parts, cases_lt, lt-ltb, le-ltb}
 use Rattle.std.proofs.lemmas.List.{take_all}
@@ -8,6 +8,7 @@ use Rattle.std.proofs.lemmas.Simd.{take_more_put_chunk}
 use Rattle.std.proofs.lemmas.Str.{encode_ascii}
 use Rattle.std.proofs.Math.Seq.{take-suc}
 use Rattle.std.specs.Char.{encode_utf8}
+use Rattle.std.specs.Char.Escape.{encode_utf16}
 use Rattle.std.specs.Prelude.{All}
 use Rattle.std.specs.Int.{to_le_bytes}
 use lib.Lanes.{Each1, put_chunk}
@@ -18,9 +19,10 @@ use Rattle.enc_units.specs.Gathering.{Gathers}
 use Rattle.enc_units.specs.Output.{AreScalars, units_of_text}
 use Rattle.enc_units.specs.Pieces.{Reads}
 use Rattle.enc_units.specs.Validity.{AreAscii}
-use Rattle.enc_units.proofs.GatherLemmas.{utf8_two, utf8_three}
+use Rattle.enc_units.proofs.GatherLemmas.{utf8_two, utf8_three, gathers_then, stored_lanes}
 use Rattle.enc_units.proofs.PiecesLemmas.{reads_none, reads_one, reads_then, reads_wider}
 use Rattle.enc_units.proofs.ScalarLemmas.{ascii_scalars}
+use Rattle.enc_units.proofs.UnitsLemmas.{one_unit}
 use Rattle.enc_units.proofs.Utf8SliceLemmas.{ascii_units}
 
 -- the word of a code unit
@@ -126,6 +128,13 @@ stored_ascii at old us long room a =
 pub front_ascii : (us : List ℕ) → length us ≡ 8 → AreAscii us → AreScalars (take 8 us)
 front_ascii us long a = subst AreScalars (sym (take_all 8 us (omega arith))) (ascii_scalars us a)
 
+-- code units are their own UTF-16, if none is above U+FFFF
+pub units_alone : (us : List ℕ) → Each1 (Fits w16) us → (n : ℕ) → units_of_text encode_utf16 (take n us) ≡ take n us
+units_alone us f zero = refl
+units_alone [] f (suc n) = refl
+units_alone (u ∷ us) f (suc n) =
+    ap (λ z. z ++ units_of_text encode_utf16 (take n us)) (one_unit u f.0.fits) ∙ ap (λ z. u ∷ z) (units_alone us f.1 n)
+
 -- characters of one code unit each
 
 pub units_long : (big : Bool) (n : ℕ) (bytes : List ℕ) → length bytes ≡ n + n → length (units_of_bytes big bytes) ≡ n
@@ -150,12 +159,12 @@ module _ (Means : List ℕ → ℕ → Type 0) (big : Bool) (mean : AreCodeUnits
       (reads_one Means (a ∷ b ∷ bs) 2 u (omega arith) (omega arith) (mean a b (and_parts _ _ s).0))
       (reads_units n bs (omega arith) (and_parts _ _ s).1))
 
-  pub gathers_units : (n : ℕ) (src units before after : List ℕ) → n ≤ 8 → 16 ≤ length src
+  pub gathers_units : (units_of : ℕ → List ℕ) (n : ℕ) (src units before after : List ℕ) → n ≤ 8 → 16 ≤ length src
       → units ≡ units_of_bytes big (take 16 src) → AreScalars (take n units)
-      → after ≡ before ++ units_of_text encode_utf8 (take n units) → Gathers encode_utf8 Means src (2 * n) before after
-  gathers_units n src units before after h l e s w =
+      → after ≡ before ++ units_of_text units_of (take n units) → Gathers units_of Means src (2 * n) before after
+  gathers_units units_of n src units before after h l e s w =
       let twice : n + n ≡ 2 * n = omega arith in
-      subst (λ k. Gathers encode_utf8 Means src k before after) twice (record {
+      subst (λ k. Gathers units_of Means src k before after) twice (record {
         text = take n units;
         scalars = s;
         reads = subst (λ us. Reads Means src (n + n) (take n us)) (sym e)
@@ -172,4 +181,18 @@ module _ (Means : List ℕ → ℕ → Type 0) (big : Bool) (mean : AreCodeUnits
       → after ≡ before ++ bytes_of_words (take n words)
       → Gathers encode_utf8 Means src (2 * n) before after
   gathers_words n src units words before after h l e s t w =
-      gathers_units n src units before after h l e s (w ∙ ap (λ z. before ++ z) (t n))
+      gathers_units encode_utf8 n src units before after h l e s (w ∙ ap (λ z. before ++ z) (t n))
+
+  -- the same in UTF-16, where all eight are stored as they are
+  pub gathers_lanes : (n at read : ℕ) (src units buffer : List ℕ) → n ≤ 8 → 32 ≤ length src - read → at + 8 ≤ length buffer
+      → units ≡ units_of_bytes big (take 16 (drop read src)) → AreScalars (take n units)
+      → units_of_text encode_utf16 (take n units) ≡ take n units → Gathers encode_utf16 Means src read [] (take at buffer)
+      → Gathers encode_utf16 Means src (read + 2 * n) [] (take (at + n) (put_chunk at buffer units))
+  gathers_lanes n at read src units buffer few inside room e s alone p =
+      let rest = drop read src in
+      let long : 16 ≤ length rest = omega (arith, length-drop read src) in
+      let bytes : length (take 16 rest) ≡ 16 = omega (arith, length-take 16 rest) in
+      let eight = ap length e ∙ units_long big 8 (take 16 rest) bytes in
+      gathers_then encode_utf16 Means src read (2 * n) [] (take at buffer) _ p
+      (gathers_units encode_utf16 n rest units (take at buffer) _ few long e s
+      (stored_lanes at n buffer units (omega (arith, eight)) (omega (arith, eight)) ∙ ap (λ z. take at buffer ++ z) (sym alone)))

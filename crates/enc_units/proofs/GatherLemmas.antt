@@ -3,17 +3,20 @@ use Rattle.std.proofs.Common.{◌≡◌, ℕ, zero, suc, ◌+◌, ◌/◌, ◌%�
 use Rattle.std.proofs.Common.{replicate, take, drop, refl, ap, ◌∙◌, sym, subst, arith, append_assoc, append-nil}
 use Rattle.std.proofs.Common.{length-drop, take-add, drop-cons, drop-drop}
 use Rattle.std.proofs.lemmas.Bool.{lt-ltb, le-ltb}
-use Rattle.std.proofs.lemmas.List.{length-take-le}
+use Rattle.std.proofs.lemmas.List.{length-take-le, take_more_set}
 use Rattle.std.proofs.lemmas.Simd.{put_chunk_is, length-replicate, get_or-replicate}
 use Rattle.std.proofs.Math.Seq.{take-append_seam, drop-append_seam}
 use Rattle.std.specs.Char.{IsScalar, encode_utf8}
+use Rattle.std.specs.Char.Escape.{encode_utf16}
+use Rattle.std.proofs.Math.ListN.{set}
 use lib.Lanes.{put_chunk}
 use Rattle.enc_units.specs.Output.{Output, appended, units_of_text}
 use Rattle.enc_units.specs.Validity.{AreAscii}
 use Rattle.enc_units.specs.Pieces.{PutsPieces}
-use Rattle.enc_units.specs.Gathering.{Gathers, IsByteText, AreByteTexts}
+use Rattle.enc_units.specs.Gathering.{Gathers, IsByteText, AreByteTexts, IsByteUnit, AreByteUnits}
 use Rattle.enc_units.specs.declared.gather.Encoded.{Encoded}
 use Rattle.enc_units.proofs.PiecesLemmas.{reads_none, reads_then, reads_one, reads_ascii, units-append}
+use Rattle.enc_units.proofs.UnitsLemmas.{one_unit}
 use Rattle.enc_units.proofs.ScalarLemmas.{one_scalar, scalars-append, ascii_scalars}
 
 -- what is stored behind what was there
@@ -111,6 +114,29 @@ gathers_byte Means src from read before mid after text t some inside p e =
     gathers_then encode_utf8 Means rest read 1 before mid after p
     (gathers_one encode_utf8 Means (drop read rest) 1 found.0 mid after (omega arith) (omega (arith, length-drop read rest)) found.1 (subst (λ z. Means z found.0) (sym byte) found.2)
     (e ∙ ap (λ z. mid ++ z) found.3))
+
+-- a byte that has a code unit
+pub gathers_byte_unit : (Means : List ℕ → ℕ → Type 0) (src : List ℕ) (from read at : ℕ) (before buffer : List ℕ) (unit : ℕ)
+    → IsByteUnit Means (get_or src (from + read) 0) unit → 0 < unit → unit < 0x1_0000 → from + read < length src → at + read < length buffer
+    → Gathers encode_utf16 Means (drop from src) read before (take (at + read) buffer)
+    → Gathers encode_utf16 Means (drop from src) (read + 1) before (take (at + (read + 1)) (set buffer (at + read) unit))
+gathers_byte_unit Means src from read at before buffer unit u some basic inside room p =
+    let rest = drop from src in
+    let long : read < length rest = omega (arith, length-drop from src) in
+    let byte = ap (take 1) (drop-cons rest read 0 long) ∙ ap (λ b. b ∷ []) (get_or_drop from read src) in
+    let found = u.char some in
+    let next : at + (read + 1) ≡ at + read + 1 = omega arith in
+    gathers_then encode_utf16 Means rest read 1 before (take (at + read) buffer) _ p
+    (gathers_one encode_utf16 Means (drop read rest) 1 unit (take (at + read) buffer) _ (omega arith) (omega (arith, length-drop read rest)) found.scalar
+    (subst (λ z. Means z unit) (sym byte) found.means)
+    (ap (λ k. take k (set buffer (at + read) unit)) next ∙ take_more_set buffer (at + read) unit room ∙ ap (λ z. take (at + read) buffer ++ z) (sym (one_unit unit basic))))
+
+-- no byte has a code unit
+pub no_units : (Means : List ℕ → ℕ → Type 0) → AreByteUnits Means (replicate 256 0)
+no_units Means = (
+  length-replicate {A = ℕ} 256 0,
+  λ byte none h. subst (IsByteUnit Means byte) (sym (get_or-replicate 256 byte 0 none h)) (record { bound = omega arith; char = λ l. absurd (omega arith) }),
+)
 
 -- no byte has a text
 pub no_texts : (Means : List ℕ → ℕ → Type 0) (text : Encoded) → text.len ≡ 0 → AreByteTexts Means (replicate 256 text)

@@ -4,6 +4,7 @@ use Rattle.std.specs.Char.{IsScalar, encode_utf8}
 use Rattle.enc_units.specs.declared.gather.Encoded.{Encoded}
 use Rattle.enc_units.specs.Output.{AreScalars, units_of_text}
 use Rattle.enc_units.specs.Pieces.{Reads}
+use Rattle.enc_units.specs.Pairs.{MeansUnit}
 
 -- The first n bytes are characters, and their code units follow those that were there before.
 pub record Gathers (units_of : ℕ → List ℕ) (Means : List ℕ → ℕ → Type 0) (src : List ℕ) (n : ℕ) (before after : List ℕ) : Type 0 where
@@ -20,3 +21,12 @@ pub record IsByteText (Means : List ℕ → ℕ → Type 0) (byte : ℕ) (text :
 -- the text of each byte
 abbrev pub AreByteTexts : (List ℕ → ℕ → Type 0) → List Encoded → Type 0
 AreByteTexts Means texts = (length texts ≡ 256) × ((byte : ℕ) (none : Encoded) → byte < 256 → IsByteText Means byte (get_or texts byte none))
+
+-- A byte has the code unit 0, or that of the character which it is by itself.
+pub record IsByteUnit (Means : List ℕ → ℕ → Type 0) (byte unit : ℕ) : Type 0 where
+  pub bound : unit < 0x1_0000
+  pub char : 0 < unit → MeansUnit Means (byte ∷ []) unit
+
+-- the code unit of each byte
+abbrev pub AreByteUnits : (List ℕ → ℕ → Type 0) → List ℕ → Type 0
+AreByteUnits Means units = (length units ≡ 256) × ((byte none : ℕ) → byte < 256 → IsByteUnit Means byte (get_or units byte none))

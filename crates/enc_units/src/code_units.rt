@@ -3,18 +3,22 @@
 ghost use Rattle.std.specs.Prelude.{◌≡◌, ℕ, ◌+◌, ◌*◌, ◌/◌, ◌<◌, ◌≤◌, ◌++◌, All, IsTrue};
 ghost use Rattle.std.specs.Prelude.{length, map, take, drop};
 ghost use Rattle.std.specs.Char.{encode_utf8};
+ghost use Rattle.std.specs.Char.Escape.{encode_utf16};
 ghost use Rattle.enc_units.specs.CodeUnits.{AreCodeUnits, units_of_bytes, bytes_of_words};
 ghost use Rattle.enc_units.specs.CodeUnits.{front_of, rest_of};
 ghost use Rattle.enc_units.specs.Gathering.{Gathers};
 ghost use Rattle.enc_units.specs.Output.{AreScalars, units_of_text};
 ghost use Rattle.enc_units.specs.Validity.{AreAscii};
 
-use crate::gather::{Gather, store_text, store_word, utf8_of};
+use crate::gather::{Gather, store_text, store_units, store_word, utf8_of};
 use crate::pieces::Pieces;
 use std::simd::prelude::*;
 
 /// No more is stored at once: eight code units, and a character after them.
 const STEP: usize = 36;
+
+/// No more code units are stored at once.
+const UNITS_STEP: usize = 16;
 
 /// The eight code units of sixteen bytes.
 #[inline(always)]
@@ -41,6 +45,7 @@ fn are_ascii_units(units: u16x8) -> bool
 fn units_before_surrogate(units: u16x8) -> usize
     ensures bound { result ≤ 8 }
     ensures scalars { AreScalars (take result units) }
+    ensures alone { (n : ℕ) → units_of_text encode_utf16 (take n units) ≡ take n units }
 {
     let surrogates = (units >> u16x8::splat(11))
         .simd_eq(u16x8::splat(27))
@@ -158,6 +163,30 @@ impl<P: Pieces> Gather for CodeUnits<P> {
                 break;
             };
             written = store_text(buffer, written, utf8_of(character));
+            read += len;
+        }
+        (read, written)
+    }
+
+    /// It stops as `gather` does, but 16 code units before the end of the room.
+    #[inline(always)]
+    fn gather_units(&self, buffer: &mut [u16], room: usize, src: &[u8]) -> (usize, usize) {
+        let limit = buffer.len().min(room);
+        let mut read = 0;
+        let mut written = 0;
+        while UNITS_STEP <= limit - written && 32 <= src.len() - read {
+            let units = units_in(u8x16::from_slice(&src[read..]), self.big_endian);
+            units.copy_to_slice(&mut buffer[written..]);
+            let count = units_before_surrogate(units);
+            read += 2 * count;
+            written += count;
+            if count == 8 {
+                continue;
+            }
+            let Some((character, len)) = self.pieces.piece(src, read) else {
+                break;
+            };
+            written = store_units(buffer, written, character);
             read += len;
         }
         (read, written)

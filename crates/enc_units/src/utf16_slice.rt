@@ -8,12 +8,17 @@ ghost use Rattle.enc_units.specs.Output.{DetermineTexts, appended, slice_output}
 ghost use Rattle.enc_units.specs.Pieces.{PutsPieces};
 
 use crate::ascii::ascii_len;
+use crate::byte_units::ByteUnits;
+use crate::code_units::CodeUnits;
 use crate::gather::{Gather, SHORT, UNITS_BUFFER};
 use crate::laws::utf_16_units_determine_a_text;
 use crate::pairs::Pairs;
 use crate::pieces::Pieces;
 use crate::units::Units;
 use crate::utf8_pieces::Utf8Pieces;
+
+/// A table is made for a run of so many bytes.
+const LONG: usize = 1024;
 
 /// A slice that takes UTF-16 from its start on.
 #[derive(Drop)]
@@ -131,6 +136,17 @@ impl<'a> Utf16Slice<'a> {
         }
     }
 
+    /// Writes the characters in front by a table of bytes, and returns how many bytes they have. It is a function by itself,
+    /// since the table is cleared at each call.
+    #[inline(never)]
+    fn append_by_table<P: Pieces>(&mut self, pieces: P, src: &[u8]) -> usize
+        ensures { PutsPieces encode_utf16 (P.means pieces)
+            (slice_output self.old.len self.old.dst.now self.old.dst.ghost_name)
+            (slice_output self.new.len self.new.dst.now self.new.dst.ghost_name) src.now result }
+    {
+        self.append_gathered(&ByteUnits::of(pieces), &mut [0; UNITS_BUFFER], src)
+    }
+
     /// Writes the characters in front that are gathered, where there are bytes enough, and returns how many bytes they
     /// have.
     #[inline(always)]
@@ -139,10 +155,20 @@ impl<'a> Utf16Slice<'a> {
             (slice_output self.old.len self.old.dst.now self.old.dst.ghost_name)
             (slice_output self.new.len self.new.dst.now self.new.dst.ghost_name) src.now result }
     {
-        if src.len() < SHORT || self.dst.len() - self.len < SHORT || !pieces.are_pairs() {
+        if src.len() < SHORT || self.dst.len() - self.len < SHORT {
             return 0;
         }
-        self.append_gathered(&Pairs { pieces }, &mut [0; UNITS_BUFFER], src)
+        let mut buffer = [0; UNITS_BUFFER];
+        if let Some(big_endian) = pieces.code_units() {
+            return self.append_gathered(&CodeUnits { pieces, big_endian }, &mut buffer, src);
+        }
+        if pieces.are_pairs() {
+            return self.append_gathered(&Pairs { pieces }, &mut buffer, src);
+        }
+        if pieces.are_bytes() && src.len() >= LONG {
+            return self.append_by_table(pieces, src);
+        }
+        0
     }
 
     /// Writes the characters in front one by one, but ASCII as runs, and answers how many bytes they have. It leaves off

@@ -1,4 +1,5 @@
 use Rattle.std.proofs.Common.{refl}
+use Rattle.enc_units.proofs.CodeUnitsLemmas.{units_alone}
 use Rattle.enc_units.proofs.UnitLanes.{all_before, few_before, scalars_before}
 use Rattle.enc_units.proofs.code_units.units_before_surrogate.Goals as goal
 
@@ -13,3 +14,9 @@ returns-else-surrogates-eq0-clause-bound c =
 pub returns-else-surrogates-eq0-clause-scalars : goal.returns-else-surrogates-eq0-clause-scalars
 returns-else-surrogates-eq0-clause-scalars c =
     scalars_before c.args.units c.fits-units.0 c.fits-units.1 _ refl c.if-surrogates-eq0.false
+
+pub returns-then-surrogates-eq0-clause-alone : goal.returns-then-surrogates-eq0-clause-alone
+returns-then-surrogates-eq0-clause-alone c = units_alone c.args.units c.fits-units.1
+
+pub returns-else-surrogates-eq0-clause-alone : goal.returns-else-surrogates-eq0-clause-alone
+returns-else-surrogates-eq0-clause-alone c = units_alone c.args.units c.fits-units.1

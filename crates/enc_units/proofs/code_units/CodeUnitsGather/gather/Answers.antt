@@ -1,5 +1,6 @@
 use Rattle.std.proofs.Common.{◌≡◌, ◌≤◌, ◌∙◌, ◌++◌, ap, sym, subst, arith, length, take, drop, length-drop, length-take}
 use Rattle.std.proofs.lemmas.Simd.{length-put_chunk}
+use Rattle.std.specs.Char.{encode_utf8}
 use Rattle.enc_units.specs.Output.{AreScalars}
 use Rattle.enc_units.proofs.GatherLemmas.{gathers_then, gathers_one}
 use Rattle.enc_units.proofs.CodeUnitsLemmas.{units_long, stored_ascii, front_ascii, gathers_units, gathers_words}
@@ -16,7 +17,7 @@ loop-written-preserved-then-are_ascii_units g c =
       subst (λ n. c.min-limit.result ≤ n) (sym (length-put_chunk c.loop-written.written c.loop-written.buffer _)) i.0,
       omega arith,
       length-put_chunk c.loop-written.written c.loop-written.buffer _ ∙ i.2,
-      gathers_then _ _ _ _ 16 _ _ _ i.3 (gathers_units _ _ c.requires.ready 8 rest _ _ _
+      gathers_then _ _ _ _ 16 _ _ _ i.3 (gathers_units _ _ c.requires.ready encode_utf8 8 rest _ _ _
           (omega arith) long c.units_in-units.ensures (front_ascii _ eight ascii)
           (stored_ascii c.loop-written.written c.loop-written.buffer _ eight (omega arith) ascii)),
     )

@@ -1,0 +1,15 @@
+use Rattle.std.proofs.Common.{◌∙◌, ◌+◌, ap, arith, refl, take, length-set}
+use Rattle.enc_units.proofs.GatherLemmas.{gathers_nothing, gathers_byte_unit}
+use Rattle.enc_units.proofs.byte_units.store_step.Goals as goal
+
+pub loop-read-init : goal.loop-read-init
+loop-read-init g c = (omega arith, refl, gathers_nothing _ _ _ _ _ (ap (λ k. take k c.args.buffer.now) (omega arith)))
+
+pub loop-read-preserved : goal.loop-read-preserved
+loop-read-preserved g c =
+    let i = c.loop-read.invariant in
+    let u = c.requires.units.1 _ _ (omega arith) in (
+      omega arith,
+      length-set c.loop-read.buffer (c.args.at + c.loop-read.read) _ ∙ i.1,
+      gathers_byte_unit _ _ _ _ _ _ _ _ u (omega arith) u.bound (omega arith) (omega arith) i.2,
+    )
