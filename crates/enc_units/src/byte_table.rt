@@ -10,7 +10,7 @@ use crate::pieces::Pieces;
 use std::simd::prelude::*;
 
 /// The length of the buffer.
-pub(crate) const TABLE_BUFFER: usize = 1072;
+pub(crate) const TABLE_BUFFER: usize = 2128;
 
 /// How many bytes are looked up one after another.
 const STEP: usize = 16;
@@ -204,9 +204,13 @@ impl<P: Pieces> Gather for ByteTable<P> {
     #[inline(always)]
     fn gather(&self, buffer: &mut [u8], room: usize, src: &[u8]) -> (usize, usize) {
         let limit = buffer.len().saturating_sub(LANES).min(room);
+        if limit < TURN {
+            return (0, 0);
+        }
+        let most = limit - TURN;
         let mut read = 0;
         let mut written = 0;
-        while TURN <= limit - written && 2 * LANES <= src.len() - read {
+        while written <= most && 2 * LANES <= src.len() - read {
             let (more, end, is_whole) = store_turn(self, buffer, written, src, read);
             read += more;
             written = end;

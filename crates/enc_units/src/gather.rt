@@ -144,9 +144,13 @@ impl<P: Pieces> Gather for OneByOne<P> {
     fn gather(&self, buffer: &mut [u8], room: usize, src: &[u8]) -> (usize, usize) {
         let has_ascii = self.pieces.has_ascii();
         let limit = buffer.len().min(room);
+        if limit < STEP {
+            return (0, 0);
+        }
+        let most = limit - STEP;
         let mut read = 0;
         let mut written = 0;
-        while STEP <= limit - written && 32 <= src.len() - read {
+        while written <= most && 32 <= src.len() - read {
             if has_ascii && src[read] < 0x80 {
                 let len = store_ascii(buffer, written, src, read);
                 read += len;

@@ -115,9 +115,13 @@ impl<P: Pieces> Gather for Pairs<P> {
     fn gather(&self, buffer: &mut [u8], room: usize, src: &[u8]) -> (usize, usize) {
         let has_ascii = self.pieces.has_ascii();
         let limit = buffer.len().min(room);
+        if limit < STEP {
+            return (0, 0);
+        }
+        let most = limit - STEP;
         let mut read = 0;
         let mut written = 0;
-        while STEP <= limit - written && 32 <= src.len() - read {
+        while written <= most && 32 <= src.len() - read {
             let lanes = u8x16::from_slice(&src[read..]);
             if has_ascii && are_ascii(lanes) {
                 lanes.copy_to_slice(&mut buffer[written..]);
