@@ -8,10 +8,10 @@ ghost use Rattle.enc_units.specs.Gathering.{Gathers};
 use crate::pieces::Pieces;
 use std::simd::prelude::*;
 
-/// The length of the buffer.
+/// The length of a buffer, where characters are gathered without a table.
 pub(crate) const BUFFER: usize = 304;
 
-/// No more is stored at once, where characters are gathered one by one.
+/// A turn writes no more bytes, where characters are gathered one by one.
 const STEP: usize = 16;
 
 /// The UTF-8 of a character, or nothing: the first `len` of four bytes.
@@ -114,8 +114,8 @@ pub(crate) trait Gather {
     fn has_ascii(&self) -> bool
         ensures { IsTrue result → (b : ℕ) → b < 0x80 → means self.now (b ∷ []) b };
 
-    /// Gathers the first characters of `src`, any number of them whose UTF-8 fits into `room`. Returns how many bytes it
-    /// read, and how many it wrote from the start of the buffer on.
+    /// Gathers the first characters of `src`, any number of them. Aims at no more UTF-8 than `room`. Returns how many
+    /// bytes it read, and how many it wrote from the start of the buffer on.
     fn gather(&self, buffer: &mut [u8], room: usize, src: &[u8]) -> (usize, usize)
         requires ready { ready self.now }
         ensures len { length buffer.new ≡ length buffer.old }

@@ -11,7 +11,7 @@ use crate::gather::{Encoded, Gather, store_text, utf8_of};
 use crate::pieces::Pieces;
 use std::simd::prelude::*;
 
-/// No more is stored at once: eight characters, and one after them.
+/// A turn writes no more bytes: eight characters, and one after them.
 const STEP: usize = 36;
 
 /// Where a character ends, counted from the start of the first of four, if these of the bytes from there on lead a pair.

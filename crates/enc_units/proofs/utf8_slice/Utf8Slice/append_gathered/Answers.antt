@@ -4,7 +4,8 @@ use Rattle.enc_units.proofs.GatherLemmas.{puts_gathered}
 use Rattle.enc_units.proofs.utf8_slice.Utf8Slice.append_gathered.Goals as goal
 
 pub returns-then-read-eq0 : goal.returns-then-read-eq0
-returns-then-read-eq0 g c = then_rest _ _ _ _ _ _ _ _ _ c.split_at.ensures.back c.loop-at.invariant c.append_ascii_of-at.ensures
+returns-then-read-eq0 g c =
+    then_rest _ _ _ _ _ _ _ _ _ c.split_at.ensures.back c.loop-at.invariant c.append_ascii_of-at.ensures
 
 pub returns-then-not-append : goal.returns-then-not-append
 returns-then-not-append g c =
@@ -14,6 +15,8 @@ returns-then-not-append g c =
 pub loop-at-preserved : goal.loop-at-preserved
 loop-at-preserved g c =
     let e = c.gather-read.ensures in
+    let a = c.append.ensures in
     then_rest _ _ _ _ _ _ _ _ _ c.split_at-in-loop-at.ensures.back
     (then_rest _ _ _ _ _ _ _ _ _ c.split_at.ensures.back c.loop-at.invariant c.append_ascii_of-at.ensures)
-    (puts_gathered _ _ _ _ _ _ _ e.gathers (omega (arith, c.append.ensures.fits c.if-not-append.false)) (c.append.ensures.written c.if-not-append.false))
+    (puts_gathered _ _ _ _ _ _ _ e.gathers (omega (arith, a.fits c.if-not-append.false))
+    (a.written c.if-not-append.false))
