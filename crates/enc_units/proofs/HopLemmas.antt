@@ -26,5 +26,6 @@ ascii_loaded src at from n lanes e within a =
     let rest = drop at src in
     let whole : 64 ≡ from + (64 - from) = omega arith in
     let same = ap (λ z. take n (drop from z)) (e ∙ ap (λ k. take k rest) whole)
-    ∙ ap (take n) (drop-take from (64 - from) rest) ∙ take-take n (64 - from) (drop from rest) (omega arith) ∙ ap (take n) (drop-drop from at src) in
+    ∙ ap (take n) (drop-take from (64 - from) rest)
+    ∙ take-take n (64 - from) (drop from rest) (omega arith) ∙ ap (take n) (drop-drop from at src) in
     subst AreAscii same a

@@ -1,6 +1,7 @@
 -- How many of sixteen lanes come before the first that passes a test.
 use Rattle.std.proofs.Common.{◌≡◌, ℕ, zero, suc, ◌+◌, ◌-◌, ◌*◌, ◌/◌, ◌%◌, ◌^◌, ◌<◌, ◌≤◌, Bool, true, false, not}
-use Rattle.std.proofs.Common.{cond, eqb, List, [], ◌∷◌, map, length, get_or, replicate, take, drop, ap, ◌∙◌, sym, subst, arith, length-take, inl, inr}
+use Rattle.std.proofs.Common.{cond, eqb, List, [], ◌∷◌, map, length, get_or}
+use Rattle.std.proofs.Common.{replicate, take, drop, ap, ◌∙◌, sym, subst, arith, length-take, inl, inr}
 use Rattle.std.specs.Prelude.{All}
 use Rattle.std.specs.List.{prefix_len}
 use Rattle.std.proofs.lemmas.Bool.{not-true, not-false, eq-eqb, ne_eqb, cases_eq, cases_lt, true≢false}
