@@ -1,12 +1,14 @@
 -- How many of sixteen lanes come before the first that passes a test.
-use Rattle.std.proofs.Common.{◌≡◌, ℕ, zero, suc, ◌+◌, ◌-◌, ◌*◌, ◌/◌, ◌%◌, ◌^◌, ◌<◌, ◌≤◌, Bool, true, false, not, cond, eqb, List, [], ◌∷◌, map, length, get_or}
+use Rattle.std.proofs.Common.{◌≡◌, ℕ, zero, suc, ◌+◌, ◌-◌, ◌*◌, ◌/◌, ◌%◌, ◌^◌, ◌<◌, ◌≤◌, Bool, true, false, not}
+use Rattle.std.proofs.Common.{cond, eqb, List, [], ◌∷◌, map, length, get_or}
 use Rattle.std.proofs.Common.{replicate, take, drop, ap, ◌∙◌, sym, subst, arith, length-take, inl, inr}
 use Rattle.std.specs.Prelude.{All}
 use Rattle.std.specs.List.{prefix_len}
 use Rattle.std.proofs.lemmas.Bool.{not-true, not-false, eq-eqb, ne_eqb, cases_eq, cases_lt, true≢false}
 use Rattle.std.proofs.lemmas.List.{length-map, get_or-take, take-take}
 use Rattle.std.proofs.lemmas.List.Sums.{prefix_len_passes, prefix_len_stops, prefix_len-le-length}
-use Rattle.std.proofs.lemmas.Simd.{mask_l-mod, tops_compared, zip2_splat_left, first_set_mask_l, leading_from_mask_l, trailing_mask_l}
+use Rattle.std.proofs.lemmas.Simd.{mask_l-mod, tops_compared, zip2_splat_left, first_set_mask_l}
+use Rattle.std.proofs.lemmas.Simd.{leading_from_mask_l, trailing_mask_l}
 use Rattle.std.proofs.Math.Nat.{div-one, zero-div, pow-suc, mul_comm, div-div-eq-div-mul}
 use lib.Count.{count_trailing_zeros}
 use lib.Lanes.{zip2, mask_l, top}
@@ -64,7 +66,8 @@ pub mask_after : (k : ℕ) (ms : List Bool) → mask_l ms / 2 ^ k ≡ mask_l (dr
 mask_after zero ms = div-one (mask_l ms)
 mask_after (suc k) [] = zero-div (2 ^ suc k)
 mask_after (suc k) (m ∷ ms) =
-    ap (λ n. mask_l (m ∷ ms) / n) (pow-suc 2 k ∙ mul_comm (2 ^ k) 2) ∙ sym (div-div-eq-div-mul (mask_l (m ∷ ms)) 2 (2 ^ k))
+    ap (λ n. mask_l (m ∷ ms) / n) (pow-suc 2 k ∙ mul_comm (2 ^ k) 2)
+    ∙ sym (div-div-eq-div-mul (mask_l (m ∷ ms)) 2 (2 ^ k))
     ∙ ap (λ n. n / 2 ^ k) (half m (mask_l ms)) ∙ mask_after k ms
   where
     half : (b : Bool) (n : ℕ) → (cond b 1 0 + 2 * n) / 2 ≡ n
@@ -72,15 +75,16 @@ mask_after (suc k) (m ∷ ms) =
     half false n = omega arith
 
 -- no lane passes before the lowest bit of the mask of those that do
-pub before_lowest : (p : ℕ → Bool) (xs : List ℕ) (n : ℕ) → length xs ≤ 64 → n ≤ length xs → n ≤ count_trailing_zeros 64 (mask_l (map p xs))
-    → All (λ x. p x ≡ false) (take n xs)
+pub before_lowest : (p : ℕ → Bool) (xs : List ℕ) (n : ℕ) → length xs ≤ 64 → n ≤ length xs
+    → n ≤ count_trailing_zeros 64 (mask_l (map p xs)) → All (λ x. p x ≡ false) (take n xs)
 before_lowest p xs n few within h k d l =
     let inside : k < n = omega (arith, length-take n xs) in
     let reaches : n ≤ prefix_len (λ x. not (p x)) xs = elim (cases_eq (mask_l (map p xs)) 0) [
       | inl none ↦ omega (arith, leading_from_mask_l p xs none)
       | inr some ↦ omega (arith, trailing_mask_l p 64 xs few (omega arith))
     ] in
-    subst (λ x. p x ≡ false) (sym (get_or-take n xs k d inside)) (not-true _ (prefix_len_passes (λ x. not (p x)) xs k d (omega arith)))
+    subst (λ x. p x ≡ false) (sym (get_or-take n xs k d inside))
+    (not-true _ (prefix_len_passes (λ x. not (p x)) xs k d (omega arith)))
 
 -- a property of the first m elements holds of fewer
 pub all_fewer : (P : ℕ → Type 0) (n m : ℕ) (xs : List ℕ) → n ≤ m → All P (take m xs) → All P (take n xs)

@@ -9,8 +9,8 @@ use crate::gather::{Encoded, Gather, store_text, utf8_of};
 use crate::pieces::Pieces;
 use std::simd::prelude::*;
 
-/// The length of the buffer.
-pub(crate) const TABLE_BUFFER: usize = 1072;
+/// The length of a buffer for `gather` of a table.
+pub(crate) const TABLE_BUFFER: usize = 2128;
 
 /// How many bytes are looked up one after another.
 const STEP: usize = 16;
@@ -18,7 +18,7 @@ const STEP: usize = 16;
 /// How many bytes are loaded at once.
 const LANES: usize = 64;
 
-/// The UTF-8 of a turn has no more bytes.
+/// A turn writes no more bytes.
 const TURN: usize = 80;
 
 /// The UTF-8 of the character that each byte is by itself, or none.
@@ -98,8 +98,9 @@ fn are_dense(lanes: u8x64) -> bool {
     lanes.simd_ge(u8x64::splat(0x80)).to_bitmask().count_ones() > 8
 }
 
-/// Stores `ascii` bytes of `src` from `from` on, which are ASCII, and the UTF-8 of the byte that follows, after the first
-/// `at` bytes of a buffer. Returns how many bytes it read, where their UTF-8 ends, and whether that byte is a character.
+/// Stores `ascii` bytes of `src` from `from` on, which are ASCII, and the UTF-8 of the byte that follows, after the
+/// first `at` bytes of a buffer. Returns how many bytes it read, where their UTF-8 ends, and whether the byte that
+/// follows is a character.
 #[inline(always)]
 fn store_hop<P: Pieces>(
     table: &ByteTable<P>,
@@ -130,8 +131,8 @@ fn store_hop<P: Pieces>(
     (ascii + 1, store_text(buffer, at + ascii, text), true)
 }
 
-/// Stores the UTF-8 of the first of 64 bytes of `src` from `from` on, which `lanes` are: up to the second that isn't ASCII,
-/// up to one that is no character, or of all. Returns what `store_hop` does.
+/// Stores the UTF-8 of the 64 bytes of `src` from `from` on, which `lanes` holds, up to the second that isn't ASCII or
+/// to one that is no character. Returns the same as `store_hop`.
 #[inline(always)]
 fn store_hops<P: Pieces>(
     table: &ByteTable<P>,
@@ -163,8 +164,8 @@ fn store_hops<P: Pieces>(
     (first + second, end, is_whole)
 }
 
-/// Stores the UTF-8 of up to 64 bytes of `src` from `from` on after the first `at` bytes of a buffer: by hops from one byte
-/// that isn't ASCII to the next, or byte by byte where there are many. Returns what `store_hop` does.
+/// Stores the UTF-8 of at most 64 bytes of `src` from `from` on after the first `at` bytes of a buffer: by hops from
+/// one byte that isn't ASCII to the next, or byte by byte where many are not. Returns the same as `store_hop`.
 #[inline(always)]
 fn store_turn<P: Pieces>(
     table: &ByteTable<P>,
@@ -200,13 +201,18 @@ impl<P: Pieces> Gather for ByteTable<P> {
         self.pieces.has_ascii()
     }
 
-    /// It leaves off at a byte that is no character, and 80 bytes before the end of the room or 128 before that of `src`.
+    /// It leaves off at a byte that is no character, and 80 bytes before the end of the room or 128 before that of
+    /// `src`.
     #[inline(always)]
     fn gather(&self, buffer: &mut [u8], room: usize, src: &[u8]) -> (usize, usize) {
         let limit = buffer.len().saturating_sub(LANES).min(room);
+        if limit < TURN {
+            return (0, 0);
+        }
+        let most = limit - TURN;
         let mut read = 0;
         let mut written = 0;
-        while TURN <= limit - written && 2 * LANES <= src.len() - read {
+        while written <= most && 2 * LANES <= src.len() - read {
             let (more, end, is_whole) = store_turn(self, buffer, written, src, read);
             read += more;
             written = end;

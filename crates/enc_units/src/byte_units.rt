@@ -98,8 +98,12 @@ impl<P: Pieces> Gather for ByteUnits<P> {
     #[inline(always)]
     fn gather_units(&self, buffer: &mut [u16], room: usize, src: &[u8]) -> (usize, usize) {
         let limit = buffer.len().min(room);
+        if limit < STEP {
+            return (0, 0);
+        }
+        let most = limit - STEP;
         let mut count = 0;
-        while STEP <= limit - count && 2 * STEP <= src.len() - count {
+        while count <= most && 2 * STEP <= src.len() - count {
             let more = store_step(self, buffer, count, src, count);
             count += more;
             if more < STEP {

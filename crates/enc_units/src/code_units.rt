@@ -139,9 +139,13 @@ impl<P: Pieces> Gather for CodeUnits<P> {
     #[inline(always)]
     fn gather(&self, buffer: &mut [u8], room: usize, src: &[u8]) -> (usize, usize) {
         let limit = buffer.len().min(room);
+        if limit < STEP {
+            return (0, 0);
+        }
+        let most = limit - STEP;
         let mut read = 0;
         let mut written = 0;
-        while STEP <= limit - written && 32 <= src.len() - read {
+        while written <= most && 32 <= src.len() - read {
             let units = units_in(u8x16::from_slice(&src[read..]), self.big_endian);
             if are_ascii_units(units) {
                 units.cast::<u8>().copy_to_slice(&mut buffer[written..]);
@@ -172,9 +176,13 @@ impl<P: Pieces> Gather for CodeUnits<P> {
     #[inline(always)]
     fn gather_units(&self, buffer: &mut [u16], room: usize, src: &[u8]) -> (usize, usize) {
         let limit = buffer.len().min(room);
+        if limit < UNITS_STEP {
+            return (0, 0);
+        }
+        let most = limit - UNITS_STEP;
         let mut read = 0;
         let mut written = 0;
-        while UNITS_STEP <= limit - written && 32 <= src.len() - read {
+        while written <= most && 32 <= src.len() - read {
             let units = units_in(u8x16::from_slice(&src[read..]), self.big_endian);
             units.copy_to_slice(&mut buffer[written..]);
             let count = units_before_surrogate(units);

@@ -10,16 +10,16 @@ ghost use Rattle.enc_units.specs.Gathering.{Gathers};
 use crate::pieces::Pieces;
 use std::simd::prelude::*;
 
-/// Fewer bytes than these are not gathered, nor into less room.
+/// Fewer bytes are not gathered, nor is anything where there is less room.
 pub(crate) const SHORT: usize = 64;
 
-/// The length of the buffer.
+/// The length of a buffer, where characters are gathered without a table.
 pub(crate) const BUFFER: usize = 304;
 
 /// The length of a buffer of code units.
 pub(crate) const UNITS_BUFFER: usize = 144;
 
-/// No more is stored at once, where characters are gathered one by one.
+/// A turn writes no more bytes, where characters are gathered one by one.
 const STEP: usize = 16;
 
 /// The UTF-8 of a character, or nothing: the first `len` of four bytes.
@@ -153,8 +153,8 @@ pub(crate) trait Gather {
     fn has_ascii(&self) -> bool
         ensures { IsTrue result → (b : ℕ) → b < 0x80 → means self.now (b ∷ []) b };
 
-    /// Gathers the first characters of `src`, any number of them whose UTF-8 fits into `room`. Returns how many bytes it
-    /// read, and how many it wrote from the start of the buffer on.
+    /// Gathers the first characters of `src`, any number of them. Aims at no more UTF-8 than `room`. Returns how many
+    /// bytes it read, and how many it wrote from the start of the buffer on.
     fn gather(&self, buffer: &mut [u8], room: usize, src: &[u8]) -> (usize, usize)
         requires ready { ready self.now }
         ensures len { length buffer.new ≡ length buffer.old }
@@ -197,9 +197,13 @@ impl<P: Pieces> Gather for OneByOne<P> {
     fn gather(&self, buffer: &mut [u8], room: usize, src: &[u8]) -> (usize, usize) {
         let has_ascii = self.pieces.has_ascii();
         let limit = buffer.len().min(room);
+        if limit < STEP {
+            return (0, 0);
+        }
+        let most = limit - STEP;
         let mut read = 0;
         let mut written = 0;
-        while STEP <= limit - written && 32 <= src.len() - read {
+        while written <= most && 32 <= src.len() - read {
             if has_ascii && src[read] < 0x80 {
                 let len = store_ascii(buffer, written, src, read);
                 read += len;

@@ -12,7 +12,7 @@ use crate::gather::{Gather, store_text, store_units, store_word, utf8_of};
 use crate::pieces::Pieces;
 use std::simd::prelude::*;
 
-/// No more bytes are stored at once: eight characters, and one after them.
+/// A turn writes no more bytes: eight characters, and one after them.
 const STEP: usize = 36;
 
 /// No more code units are stored at once.
@@ -184,9 +184,13 @@ impl<P: Pieces> Gather for Pairs<P> {
     fn gather(&self, buffer: &mut [u8], room: usize, src: &[u8]) -> (usize, usize) {
         let has_ascii = self.pieces.has_ascii();
         let limit = buffer.len().min(room);
+        if limit < STEP {
+            return (0, 0);
+        }
+        let most = limit - STEP;
         let mut read = 0;
         let mut written = 0;
-        while STEP <= limit - written && 32 <= src.len() - read {
+        while written <= most && 32 <= src.len() - read {
             let lanes = u8x16::from_slice(&src[read..]);
             if has_ascii && are_ascii(lanes) {
                 lanes.copy_to_slice(&mut buffer[written..]);
@@ -215,9 +219,13 @@ impl<P: Pieces> Gather for Pairs<P> {
     fn gather_units(&self, buffer: &mut [u16], room: usize, src: &[u8]) -> (usize, usize) {
         let has_ascii = self.pieces.has_ascii();
         let limit = buffer.len().min(room);
+        if limit < UNITS_STEP {
+            return (0, 0);
+        }
+        let most = limit - UNITS_STEP;
         let mut read = 0;
         let mut written = 0;
-        while UNITS_STEP <= limit - written && 32 <= src.len() - read {
+        while written <= most && 32 <= src.len() - read {
             let lanes = u8x16::from_slice(&src[read..]);
             if has_ascii && are_ascii(lanes) {
                 lanes.cast::<u16>().copy_to_slice(&mut buffer[written..]);

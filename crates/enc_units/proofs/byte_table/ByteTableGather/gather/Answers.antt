@@ -9,4 +9,5 @@ loop-written-preserved g c =
     (omega (arith, e.len, i.0), omega (arith, e.bound), e.len ∙ i.2, gathers_then _ _ _ _ _ _ _ _ i.3 e.gathers)
 
 pub returns-then-not-is_whole-clause-gathers : goal.returns-then-not-is_whole-clause-gathers
-returns-then-not-is_whole-clause-gathers g c = gathers_then _ _ _ _ _ _ _ _ c.loop-written.invariant.3 c.store_turn-more.ensures.gathers
+returns-then-not-is_whole-clause-gathers g c =
+    gathers_then _ _ _ _ _ _ _ _ c.loop-written.invariant.3 c.store_turn-more.ensures.gathers

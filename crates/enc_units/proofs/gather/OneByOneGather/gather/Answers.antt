@@ -11,7 +11,9 @@ loop-written-preserved-then-src-read-lt128 g c =
       omega (arith, e.len, i.0),
       omega (arith, e.bound),
       e.len ∙ i.2,
-      gathers_then _ _ _ _ _ _ _ _ i.3 (gathers_ascii _ _ _ _ _ _ ascii ascii_units (omega (arith, e.bound, length-drop c.loop-written.read c.args.src.now)) e.ascii e.stored),
+      gathers_then _ _ _ _ _ _ _ _ i.3
+          (gathers_ascii _ _ _ _ _ _ ascii ascii_units
+          (omega (arith, e.bound, length-drop c.loop-written.read c.args.src.now)) e.ascii e.stored),
     )
 
 pub loop-written-preserved : goal.loop-written-preserved
@@ -23,5 +25,6 @@ loop-written-preserved g c =
       omega (arith, e.len, i.0),
       omega (arith, e.end, c.utf8_of.ensures.bound),
       e.len ∙ i.2,
-      gathers_then _ _ _ _ _ _ _ _ i.3 (gathers_one _ _ _ _ _ _ _ p.some p.within c.utf8_of.ensures.scalar p.means text),
+      gathers_then _ _ _ _ _ _ _ _ i.3
+          (gathers_one _ _ _ _ _ _ _ p.some p.within c.utf8_of.ensures.scalar p.means text),
     )

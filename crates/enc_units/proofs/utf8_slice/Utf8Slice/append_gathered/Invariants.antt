@@ -6,7 +6,8 @@ use Rattle.enc_units.proofs.utf8_slice.Utf8Slice.append_gathered.Given as goal
 
 abbrev pub invariant-loop-at : goal.invariant-loop-at
 invariant-loop-at g l =
-    PutsPieces encode_utf8 (g.G.Gather.means l.by) (slice_output l.initial.self.len l.initial.self.dst.now l.initial.self.dst.ghost_name)
+    PutsPieces encode_utf8 (g.G.Gather.means l.by)
+    (slice_output l.fn.self.len l.fn.self.dst.now l.fn.self.dst.ghost_name)
     (slice_output l.self.len l.self.dst.now l.self.dst.ghost_name) l.src l.at
 
 abbrev pub decreases-loop-at : goal.decreases-loop-at
