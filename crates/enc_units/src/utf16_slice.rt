@@ -5,13 +5,21 @@ ghost use Rattle.std.specs.Char.{IsScalar};
 ghost use Rattle.std.specs.Char.Escape.{encode_utf16};
 ghost use Rattle.enc_units.specs.AsciiRun.{PutsAscii};
 ghost use Rattle.enc_units.specs.Output.{DetermineTexts, appended, slice_output};
-ghost use Rattle.enc_units.specs.Pieces.{PutsPieces};
+ghost use Rattle.enc_units.specs.Pieces.{PutsPieces, IsUtf8Char};
 
-use crate::ascii::ascii_len;
 use crate::laws::utf_16_units_determine_a_text;
 use crate::pieces::Pieces;
 use crate::units::Units;
+use crate::utf8::{char_len, utf8_front};
 use crate::utf8_pieces::Utf8Pieces;
+use crate::utf8_units::write_units;
+use crate::widen::widen_ascii;
+
+/// Fewer bytes of UTF-8 than these are written one by one.
+const SHORT: usize = 64;
+
+/// The number of bytes of UTF-8 that are looked at before they are written: few enough to be in the nearest cache then.
+const PART: usize = 4096;
 
 /// A slice that takes UTF-16 from its start on.
 #[derive(Drop)]
@@ -66,12 +74,48 @@ impl<'a> Utf16Slice<'a> {
             (slice_output self.old.len self.old.dst.now self.old.dst.ghost_name)
             (slice_output self.new.len self.new.dst.now self.new.dst.ghost_name) src.now result }
     {
-        let most = src.len().min(self.dst.len() - self.len);
-        let (front, _) = src.split_at(most);
-        let len = ascii_len(front);
-        widen(&src[..len], &mut self.dst[self.len..]);
+        let len = widen_ascii(src, &mut self.dst[self.len..]);
         self.len += len;
         len
+    }
+
+    /// Writes well-formed UTF-8 in front, as much as is seen in a part, unless it is short, and returns how much.
+    #[inline(always)]
+    fn append_part(&mut self, src: &[u8]) -> usize
+        ensures { PutsPieces encode_utf16 IsUtf8Char
+            (slice_output self.old.len self.old.dst.now self.old.dst.ghost_name)
+            (slice_output self.new.len self.new.dst.now self.new.dst.ghost_name) src.now result }
+    {
+        if src.len() < SHORT {
+            return 0;
+        }
+        let most = (src.len() - 2).min(self.dst.len() - self.len).min(PART);
+        let taken = utf8_front(&src[..most]);
+        if taken < SHORT {
+            return 0;
+        }
+        self.len += write_units(&mut self.dst[self.len..], src, taken);
+        taken
+    }
+
+    /// Writes well-formed UTF-8 in front, part by part with the ASCII after each, then one by one, and returns how much.
+    #[inline(never)]
+    fn append_utf8(&mut self, src: &[u8]) -> usize
+        ensures { PutsPieces encode_utf16 IsUtf8Char
+            (slice_output self.old.len self.old.dst.now self.old.dst.ghost_name)
+            (slice_output self.new.len self.new.dst.now self.new.dst.ghost_name) src.now result }
+    {
+        let mut at = 0;
+        loop {
+            let (_, rest) = src.split_at(at);
+            let taken = self.append_part(rest);
+            if taken == 0 {
+                return at + self.append_each(Utf8Pieces {}, rest);
+            }
+            at += taken;
+            let (_, next) = src.split_at(at);
+            at += self.append_ascii(next);
+        }
     }
 
     /// Writes the characters in front one by one, but ASCII as runs, and answers how many bytes they have. It leaves off
@@ -102,19 +146,6 @@ impl<'a> Utf16Slice<'a> {
             at += len;
         }
         at
-    }
-}
-
-/// Stores bytes as code units.
-#[inline(always)]
-fn widen(src: &[u8], dst: &mut [u16])
-    requires { length src.now ≤ length dst.old }
-    ensures { dst.new ≡ src.now ++ drop (length src.now) dst.old }
-{
-    let mut at = 0;
-    while at < src.len() {
-        dst[at] = src[at] as u16;
-        at += 1;
     }
 }
 
@@ -153,8 +184,15 @@ impl<'a> Units for Utf16Slice<'a> {
         self.append_ascii(src)
     }
 
+    #[inline(always)]
     fn put_utf8(&mut self, src: &[u8]) -> usize {
-        self.append_each(Utf8Pieces {}, src)
+        let at = self.append_ascii(src);
+        let (_, rest) = src.split_at(at);
+        // bytes that begin no character cost little
+        if char_len(rest) == 0 {
+            return at;
+        }
+        at + self.append_utf8(rest)
     }
 
     fn put_pieces<P: Pieces>(&mut self, pieces: P, src: &[u8]) -> usize {
