@@ -1,6 +1,6 @@
 //! Well-formed UTF-8 as UTF-16, sixteen bytes at a time with no branch on the lengths of characters.
 
-ghost use Rattle.std.specs.Prelude.{◌≡◌, ℕ, ◌+◌, ◌-◌, ◌*◌, ◌/◌, ◌%◌, ◌^◌, ◌<◌, ◌≤◌, ◌++◌, [], length, take, drop, slice_index, IsTrue, if◌then◌else◌};
+ghost use Rattle.std.specs.Prelude.{◌≡◌, ℕ, ◌+◌, ◌-◌, ◌*◌, ◌/◌, ◌%◌, ◌^◌, ◌<◌, ◌≤◌, ◌++◌, [], map, length, take, drop, slice_index, IsTrue, if◌then◌else◌};
 ghost use Rattle.std.specs.Char.Escape.{encode_utf16};
 ghost use Rattle.enc_units.specs.Gathering.{Gathers};
 ghost use Rattle.enc_units.specs.Pieces.{IsUtf8Char};
@@ -64,7 +64,7 @@ fn all_units(first: u8x16, second: u8x16, third: u8x16) -> u16x16
     let low = ((pair + u16x16::splat(0xFF80)) & u16x16::splat(0x3FF)) + u16x16::splat(0xDC00);
     let two = pair + u16x16::splat(0xCF80);
     let three = pair * u16x16::splat(0x40) + third + u16x16::splat(0xDF80);
-    let four = pair * u16x16::splat(4) + third / u16x16::splat(0x10) + u16x16::splat(0xE5B8);
+    let four = pair * u16x16::splat(4) + (third >> u16x16::splat(4)) + u16x16::splat(0xE5B8);
     let one = first.simd_lt(u16x16::splat(0x80)).select(first, low);
     let short = first.simd_ge(u16x16::splat(0xC0)).select(two, one);
     let long = first.simd_ge(u16x16::splat(0xE0)).select(three, short);
@@ -91,10 +91,9 @@ fn units_of(before: u8x16, src: &[u8], at: usize) -> u16x16
     let second = u8x16::from_slice(&src[at + 1..]);
     let third = u8x16::from_slice(&src[at + 2..]);
     if are_narrow(first) && are_narrow(before) {
-        narrow_units(first, second, third)
-    } else {
-        all_units(first, second, third)
+        return narrow_units(first, second, third);
     }
+    all_units(first, second, third)
 }
 
 /// Which of sixteen bytes give a code unit, the first in the lowest bit, by the sixteen that begin two places before.
@@ -111,7 +110,7 @@ fn marks_of(before: u8x16, bytes: u8x16) -> u64
 #[inline(always)]
 fn pick(bytes: u8x16, places: u8x16) -> u8x16
     requires { (k : ℕ) → k < 16 → slice_index places k < 16 }
-    ensures { (k : ℕ) → k < 16 → slice_index result k ≡ slice_index bytes (slice_index places k) }
+    ensures { result ≡ map (λ place. slice_index bytes place) places }
 {
     bytes.swizzle_dyn(places)
 }

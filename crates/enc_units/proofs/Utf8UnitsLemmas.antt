@@ -1,0 +1,165 @@
+-- The code units of UTF-16 that the bytes of UTF-8 give.
+use Rattle.std.proofs.Common.{◌≡◌, ℕ, zero, suc, ◌+◌, ◌-◌, ◌*◌, ◌/◌, ◌%◌, ◌^◌, ◌<◌, ◌≤◌, Bool, true, false, ◌==◌, if◌then◌else◌, cond, List, [], ◌∷◌, ◌++◌}
+use Rattle.std.proofs.Common.{map, length, get_or, take, drop, refl, ap, ◌∙◌, sym, subst, arith, length-append, append_assoc, append-nil, drop-cons}
+use Rattle.std.proofs.lemmas.Bool.{lt-ltb}
+use Rattle.std.proofs.lemmas.Bool.Decides.{nat_tests}
+use Rattle.std.proofs.lemmas.List.{map-append, get_or-map}
+use Rattle.std.proofs.lemmas.Nat.{shr-shr}
+use Rattle.std.proofs.lemmas.Simd.{get_or-chunk}
+use lib.Lanes.{chunk}
+use Rattle.enc_units.specs.Utf8Units.{gives_unit, code_unit, two_before, unit_at, units_from, marked_places, marked}
+
+-- the lanes of a load, by their places in the input
+
+pub units_here : (src : List ℕ) (at k u : ℕ) → k < 16
+    → u ≡ code_unit (get_or (chunk at 16 src) k 0) (get_or (chunk (at + 1) 16 src) k 0) (get_or (chunk (at + 2) 16 src) k 0)
+    → u ≡ code_unit (get_or src (at + k) 0) (get_or src (at + k + 1) 0) (get_or src (at + k + 2) 0)
+units_here src at k u h e =
+    let lane : (i m : ℕ) → i + k ≡ m → get_or (chunk i 16 src) k 0 ≡ get_or src m 0 =
+        λ i m p. get_or-chunk i 16 src k 0 h ∙ ap (λ n. get_or src n 0) p in
+    e ∙ rw (lane at (at + k) refl, lane (at + 1) (at + k + 1) (omega arith), lane (at + 2) (at + k + 2) (omega arith)) refl
+
+pub before_here : (src : List ℕ) (at k : ℕ) → 2 ≤ at → k < 16 → get_or (chunk (at - 2) 16 src) k 0 ≡ two_before src (at + k)
+before_here src at k h l =
+    let place : suc (suc (at - 2 + k)) ≡ at + k = omega arith in
+    get_or-chunk (at - 2) 16 src k 0 l ∙ ap (two_before src) place
+
+pub first_alone : (z a : ℕ) → z < 0xF0 → gives_unit z a ≡ true → gives_unit 0 a ≡ true
+first_alone z a h g = grind (arith, nat_tests)
+
+-- those of bytes one after another
+
+pub units_split : (src : List ℕ) (at a b : ℕ) → units_from src at (a + b) ≡ units_from src at a ++ units_from src (at + a) b
+units_split src at zero b = rw (none, here) refl
+  where
+    none : zero + b ≡ b
+    none = omega arith
+    here : at + zero ≡ at
+    here = omega arith
+units_split src at (suc a) b =
+    ap (units_from src at) more ∙ ap (λ z. unit_at src at ++ z) (units_split src (suc at) a b ∙ ap (λ i. units_from src (suc at) a ++ units_from src i b) place)
+    ∙ sym (append_assoc (unit_at src at) (units_from src (suc at) a) (units_from src (at + suc a) b))
+  where
+    more : suc a + b ≡ suc (a + b)
+    more = omega arith
+    place : suc at + a ≡ at + suc a
+    place = omega arith
+
+abbrev if_one : Bool → ℕ → List ℕ
+if_one t u = if t then u ∷ [] else []
+
+few_one : (t : Bool) (u : ℕ) → length (if_one t u) ≤ 1
+few_one true u = omega arith
+few_one false u = omega arith
+
+one_few : (src : List ℕ) (at : ℕ) → length (unit_at src at) ≤ 1
+one_few src at = few_one (gives_unit (two_before src at) (get_or src at 0)) _
+
+pub units_few : (src : List ℕ) (at n : ℕ) → length (units_from src at n) ≤ n
+units_few src at zero = omega arith
+units_few src at (suc n) =
+    omega (arith, length-append (unit_at src at) (units_from src (suc at) n), one_few src at, units_few src (suc at) n)
+
+-- ASCII bytes
+
+low_unit : (z a b c : ℕ) → a < 0x80 → if_one (gives_unit z a) (code_unit a b c) ≡ a ∷ []
+low_unit z a b c h = rw (lt-ltb a 0x80 h) refl
+
+pub ascii_from : (src : List ℕ) (at n : ℕ) → at + n ≤ length src → ((k : ℕ) → k < n → get_or src (at + k) 0 < 0x80) → units_from src at n ≡ take n (drop at src)
+ascii_from src at zero h a = refl
+ascii_from src at (suc n) h a =
+    let here : at + 0 ≡ at = omega arith in
+    let low : get_or src at 0 < 0x80 = subst (λ i. get_or src i 0 < 0x80) here (a 0 (omega arith)) in
+    let one : unit_at src at ≡ get_or src at 0 ∷ [] = low_unit _ _ _ _ low in
+    ap (λ z. z ++ units_from src (suc at) n) one
+    ∙ ap (λ z. get_or src at 0 ∷ z) (ascii_from src (suc at) n (omega arith) (λ k l.
+    let next : at + suc k ≡ suc at + k = omega arith in
+    subst (λ i. get_or src i 0 < 0x80) next (a (suc k) (omega arith))))
+    ∙ ap (take (suc n)) (sym (drop-cons src at 0 (omega arith)))
+
+-- those that the bits of a mask mark
+
+one_marked : (t : Bool) (bit from u : ℕ) (units : List ℕ) → bit ≡ cond t 1 0 → (t ≡ true → get_or units from 0 ≡ u)
+    → map (λ k. get_or units k 0) (if bit == 1 then from ∷ [] else []) ≡ if_one t u
+one_marked true bit from u units e f = ap (λ b. map (λ k. get_or units k 0) (if b == 1 then from ∷ [] else [])) e ∙ ap (λ x. x ∷ []) (f refl)
+one_marked false bit from u units e f = ap (λ b. map (λ k. get_or units k 0) (if b == 1 then from ∷ [] else [])) e
+
+pub marked_from : (src : List ℕ) (n at from marks : ℕ) (units : List ℕ)
+    → ((k : ℕ) → k < n → marks / 2 ^ k % 2 ≡ cond (gives_unit (two_before src (at + k)) (get_or src (at + k) 0)) 1 0)
+    → ((k : ℕ) → k < n → gives_unit (two_before src (at + k)) (get_or src (at + k) 0) ≡ true
+    → get_or units (from + k) 0 ≡ code_unit (get_or src (at + k) 0) (get_or src (at + k + 1) 0) (get_or src (at + k + 2) 0))
+    → map (λ k. get_or units k 0) (marked_places marks from n) ≡ units_from src at n
+marked_from src zero at from marks units b u = refl
+marked_from src (suc n) at from marks units b u =
+    map-append (λ k. get_or units k 0) (if marks % 2 == 1 then from ∷ [] else []) (marked_places (marks / 2) (suc from) n)
+    ∙ ap (λ z. z ++ map (λ k. get_or units k 0) (marked_places (marks / 2) (suc from) n))
+    (one_marked (gives_unit (two_before src at) (get_or src at 0)) (marks % 2) from _ units first_bit first_unit)
+    ∙ ap (λ z. unit_at src at ++ z) (marked_from src n (suc at) (suc from) (marks / 2) units rest_bits rest_units)
+  where
+    here : at + 0 ≡ at
+    here = omega arith
+
+    first_bit : marks % 2 ≡ cond (gives_unit (two_before src at) (get_or src at 0)) 1 0
+    first_bit = whole ∙ subst (λ i. marks / 1 % 2 ≡ cond (gives_unit (two_before src i) (get_or src i 0)) 1 0) here (b 0 (omega arith))
+      where
+        whole : marks % 2 ≡ marks / 1 % 2
+        whole = omega arith
+
+    first_unit : gives_unit (two_before src at) (get_or src at 0) ≡ true → get_or units from 0 ≡ code_unit (get_or src at 0) (get_or src (suc at) 0) (get_or src (suc (suc at)) 0)
+    first_unit g =
+        let next : at + 1 ≡ suc at = omega arith in
+        let second : at + 2 ≡ suc (suc at) = omega arith in
+        let start : from ≡ from + 0 = omega arith in
+        ap (λ i. get_or units i 0) start ∙ u 0 (omega arith) (ap (λ i. gives_unit (two_before src i) (get_or src i 0)) here ∙ g)
+        ∙ rw (here, next, second) refl
+
+    on : (k : ℕ) → at + suc k ≡ suc at + k
+    on k = omega arith
+
+    rest_bits : (k : ℕ) → k < n → marks / 2 / 2 ^ k % 2 ≡ cond (gives_unit (two_before src (suc at + k)) (get_or src (suc at + k) 0)) 1 0
+    rest_bits k h =
+        let more : 1 + k ≡ suc k = omega arith in
+        ap (λ x. x % 2) (shr-shr marks 1 k ∙ ap (λ i. marks / 2 ^ i) more)
+        ∙ subst (λ i. marks / 2 ^ suc k % 2 ≡ cond (gives_unit (two_before src i) (get_or src i 0)) 1 0) (on k) (b (suc k) (omega arith))
+
+    rest_units : (k : ℕ) → k < n → gives_unit (two_before src (suc at + k)) (get_or src (suc at + k) 0) ≡ true
+        → get_or units (suc from + k) 0 ≡ code_unit (get_or src (suc at + k) 0) (get_or src (suc at + k + 1) 0) (get_or src (suc at + k + 2) 0)
+    rest_units k h g =
+        let unit : suc from + k ≡ from + suc k = omega arith in
+        ap (λ i. get_or units i 0) unit
+        ∙ u (suc k) (omega arith) (ap (λ i. gives_unit (two_before src i) (get_or src i 0)) (on k) ∙ g)
+        ∙ ap (λ i. code_unit (get_or src i 0) (get_or src (i + 1) 0) (get_or src (i + 2) 0)) (on k)
+
+-- so many of sixteen lanes are eight and eight
+pub sixteen_from : (src : List ℕ) (at marks : ℕ) (units lower upper : List ℕ)
+    → ((k : ℕ) → k < 16 → marks / 2 ^ k % 2 ≡ cond (gives_unit (two_before src (at + k)) (get_or src (at + k) 0)) 1 0)
+    → ((k : ℕ) → k < 16 → gives_unit (two_before src (at + k)) (get_or src (at + k) 0) ≡ true
+    → get_or units k 0 ≡ code_unit (get_or src (at + k) 0) (get_or src (at + k + 1) 0) (get_or src (at + k + 2) 0))
+    → ((k : ℕ) → k < 8 → get_or lower k 0 ≡ get_or units k 0) → ((k : ℕ) → k < 8 → get_or upper k 0 ≡ get_or units (8 + k) 0)
+    → marked marks lower ++ marked (marks / 0x100) upper ≡ units_from src at 16
+sixteen_from src at marks units lower upper b u l r =
+    ap (λ z. z ++ marked (marks / 0x100) upper) (marked_from src 8 at 0 marks lower (λ k h. b k (omega arith)) first)
+    ∙ ap (λ z. units_from src at 8 ++ z) (marked_from src 8 (at + 8) 0 (marks / 0x100) upper bits second)
+    ∙ sym (units_split src at 8 8)
+  where
+    none : (k : ℕ) → 0 + k ≡ k
+    none k = omega arith
+
+    on : (k : ℕ) → at + (8 + k) ≡ at + 8 + k
+    on k = omega arith
+
+    first : (k : ℕ) → k < 8 → gives_unit (two_before src (at + k)) (get_or src (at + k) 0) ≡ true
+        → get_or lower (0 + k) 0 ≡ code_unit (get_or src (at + k) 0) (get_or src (at + k + 1) 0) (get_or src (at + k + 2) 0)
+    first k h g = ap (λ i. get_or lower i 0) (none k) ∙ l k h ∙ u k (omega arith) g
+
+    bits : (k : ℕ) → k < 8 → marks / 0x100 / 2 ^ k % 2 ≡ cond (gives_unit (two_before src (at + 8 + k)) (get_or src (at + 8 + k) 0)) 1 0
+    bits k h =
+        ap (λ x. x % 2) (shr-shr marks 8 k)
+        ∙ subst (λ i. marks / 2 ^ (8 + k) % 2 ≡ cond (gives_unit (two_before src i) (get_or src i 0)) 1 0) (on k) (b (8 + k) (omega arith))
+
+    second : (k : ℕ) → k < 8 → gives_unit (two_before src (at + 8 + k)) (get_or src (at + 8 + k) 0) ≡ true
+        → get_or upper (0 + k) 0 ≡ code_unit (get_or src (at + 8 + k) 0) (get_or src (at + 8 + k + 1) 0) (get_or src (at + 8 + k + 2) 0)
+    second k h g =
+        ap (λ i. get_or upper i 0) (none k) ∙ r k h
+        ∙ u (8 + k) (omega arith) (ap (λ i. gives_unit (two_before src i) (get_or src i 0)) (on k) ∙ g)
+        ∙ ap (λ i. code_unit (get_or src i 0) (get_or src (i + 1) 0) (get_or src (i + 2) 0)) (on k)
