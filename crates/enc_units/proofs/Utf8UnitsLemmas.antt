@@ -3,11 +3,15 @@ use Rattle.std.proofs.Common.{◌≡◌, ℕ, zero, suc, ◌+◌, ◌-◌, ◌*�
 use Rattle.std.proofs.Common.{map, length, get_or, take, drop, refl, ap, ◌∙◌, sym, subst, arith, length-append, append_assoc, append-nil, drop-cons}
 use Rattle.std.proofs.lemmas.Bool.{lt-ltb}
 use Rattle.std.proofs.lemmas.Bool.Decides.{nat_tests}
-use Rattle.std.proofs.lemmas.List.{map-append, get_or-map}
+use Rattle.std.proofs.lemmas.List.{map-append, get_or-map, take_all}
 use Rattle.std.proofs.lemmas.Nat.{shr-shr}
-use Rattle.std.proofs.lemmas.Simd.{get_or-chunk}
-use lib.Lanes.{chunk}
+use Rattle.std.proofs.Math.ListN.{set}
+use Rattle.std.proofs.lemmas.Simd.{get_or-chunk, length-chunk, pick_l_left, pick_l-range_with_len}
+use Rattle.std.specs.List.{range_with_len}
+use lib.Lanes.{chunk, put_chunk, pick_l}
+use Rattle.enc_units.specs.Validity.{AreAscii}
 use Rattle.enc_units.specs.Utf8Units.{gives_unit, code_unit, two_before, unit_at, units_from, marked_places, marked}
+use Rattle.enc_units.proofs.GatherLemmas.{stored_lanes}
 
 -- the lanes of a load, by their places in the input
 
@@ -130,8 +134,8 @@ marked_from src (suc n) at from marks units b u =
         ∙ u (suc k) (omega arith) (ap (λ i. gives_unit (two_before src i) (get_or src i 0)) (on k) ∙ g)
         ∙ ap (λ i. code_unit (get_or src i 0) (get_or src (i + 1) 0) (get_or src (i + 2) 0)) (on k)
 
--- so many of sixteen lanes are eight and eight
-pub sixteen_from : (src : List ℕ) (at marks : ℕ) (units lower upper : List ℕ)
+-- sixteen lanes are eight and eight
+sixteen_from : (src : List ℕ) (at marks : ℕ) (units lower upper : List ℕ)
     → ((k : ℕ) → k < 16 → marks / 2 ^ k % 2 ≡ cond (gives_unit (two_before src (at + k)) (get_or src (at + k) 0)) 1 0)
     → ((k : ℕ) → k < 16 → gives_unit (two_before src (at + k)) (get_or src (at + k) 0) ≡ true
     → get_or units k 0 ≡ code_unit (get_or src (at + k) 0) (get_or src (at + k + 1) 0) (get_or src (at + k + 2) 0))
@@ -163,3 +167,94 @@ sixteen_from src at marks units lower upper b u l r =
         ap (λ i. get_or upper i 0) (none k) ∙ r k h
         ∙ u (8 + k) (omega arith) (ap (λ i. gives_unit (two_before src i) (get_or src i 0)) (on k) ∙ g)
         ∙ ap (λ i. code_unit (get_or src i 0) (get_or src (i + 1) 0) (get_or src (i + 2) 0)) (on k)
+
+-- lanes that are taken out
+
+abbrev lower : List ℕ → List ℕ
+lower units = pick_l 0 (units ++ units) (range_with_len 0 8)
+
+abbrev upper : List ℕ → List ℕ
+upper units = pick_l 0 (units ++ units) (range_with_len 8 8)
+
+lower_at : (units : List ℕ) → length units ≡ 16 → (k : ℕ) → k < 8 → get_or (lower units) k 0 ≡ get_or units k 0
+lower_at units long k h =
+    let place : 0 + k ≡ k = omega arith in
+    ap (λ z. get_or z k 0) (pick_l_left 0 units units 16 (range_with_len 0 8) long tt ∙ pick_l-range_with_len 0 units 0 8 (omega arith))
+    ∙ get_or-chunk 0 8 units k 0 h ∙ ap (λ i. get_or units i 0) place
+
+upper_at : (units : List ℕ) → length units ≡ 16 → (k : ℕ) → k < 8 → get_or (upper units) k 0 ≡ get_or units (8 + k) 0
+upper_at units long k h =
+    ap (λ z. get_or z k 0) (pick_l_left 0 units units 16 (range_with_len 8 8) long tt ∙ pick_l-range_with_len 0 units 8 8 (omega arith))
+    ∙ get_or-chunk 8 8 units k 0 h
+
+pub stores_sixteen : (src : List ℕ) (at marks end middle after : ℕ) (units old one two : List ℕ) → length units ≡ 16
+    → ((k : ℕ) → k < 16 → marks / 2 ^ k % 2 ≡ cond (gives_unit (two_before src (at + k)) (get_or src (at + k) 0)) 1 0)
+    → ((k : ℕ) → k < 16 → gives_unit (two_before src (at + k)) (get_or src (at + k) 0) ≡ true
+    → get_or units k 0 ≡ code_unit (get_or src (at + k) 0) (get_or src (at + k + 1) 0) (get_or src (at + k + 2) 0))
+    → take middle one ≡ take end old ++ marked marks (lower units) → take after two ≡ take middle one ++ marked (marks / 0x100) (upper units)
+    → take after two ≡ take end old ++ units_from src at 16
+stores_sixteen src at marks end middle after units old one two long b u e f =
+    f ∙ ap (λ z. z ++ marked (marks / 0x100) (upper units)) e
+    ∙ append_assoc (take end old) (marked marks (lower units)) (marked (marks / 0x100) (upper units))
+    ∙ ap (λ z. take end old ++ z)
+    (sixteen_from src at marks units (lower units) (upper units) b u (lower_at units long) (upper_at units long))
+
+-- where the lanes before are those of a load
+
+module _ (src : List ℕ) (at : ℕ) (after : 2 ≤ at) where
+  pub bits_here : (marks : ℕ)
+      → ((k : ℕ) → k < 16 → marks / 2 ^ k % 2 ≡ cond (gives_unit (get_or (chunk (at - 2) 16 src) k 0) (get_or (chunk at 16 src) k 0)) 1 0)
+      → (k : ℕ) → k < 16 → marks / 2 ^ k % 2 ≡ cond (gives_unit (two_before src (at + k)) (get_or src (at + k) 0)) 1 0
+  bits_here marks b k h =
+      b k h ∙ ap (λ z. cond (gives_unit z (get_or (chunk at 16 src) k 0)) 1 0) (before_here src at k after h)
+      ∙ ap (λ x. cond (gives_unit (two_before src (at + k)) x) 1 0) (get_or-chunk at 16 src k 0 h)
+
+  pub given_here : (k : ℕ) → k < 16 → gives_unit (two_before src (at + k)) (get_or src (at + k) 0) ≡ true
+      → gives_unit (get_or (chunk (at - 2) 16 src) k 0) (get_or src (at + k) 0) ≡ true
+  given_here k h g = ap (λ z. gives_unit z (get_or src (at + k) 0)) (before_here src at k after h) ∙ g
+
+same_bytes : (bs : List ℕ) → map (λ b. b) bs ≡ bs
+same_bytes [] = refl
+same_bytes (b ∷ bs) = ap (λ z. b ∷ z) (same_bytes bs)
+
+pub stores_ascii : (end at : ℕ) (old src : List ℕ) → end + 16 ≤ length old → at + 16 ≤ length src → AreAscii (chunk at 16 src)
+    → take (end + 16) (put_chunk end old (map (λ b. b) (chunk at 16 src))) ≡ take end old ++ units_from src at 16
+stores_ascii end at old src h l a =
+    let long : length (chunk at 16 src) ≡ 16 = length-chunk at 16 src l in
+    ap (λ z. take (end + 16) (put_chunk end old z)) (same_bytes (chunk at 16 src))
+    ∙ stored_lanes end 16 old (chunk at 16 src) (omega arith) (omega arith)
+    ∙ ap (λ z. take end old ++ z) (take_all 16 (chunk at 16 src) (omega arith)
+    ∙ sym (ascii_from src at 16 l (λ k m. subst (λ x. x < 0x80) (get_or-chunk at 16 src k 0 m) (a k 0 (omega arith)))))
+
+-- one more, stored by itself
+
+stored_at : (end unit : ℕ) (old : List ℕ) → end < length old → take (end + 1) (set old end unit) ≡ take end old ++ unit ∷ []
+stored_at zero unit [] h = absurd (omega arith)
+stored_at zero unit (x ∷ xs) h = refl
+stored_at (suc n) unit [] h = absurd (omega arith)
+stored_at (suc n) unit (x ∷ xs) h = ap (λ k. take k (x ∷ set xs n unit)) next ∙ ap (λ z. x ∷ z) (stored_at n unit xs (omega arith))
+  where
+    next : suc n + 1 ≡ suc (n + 1)
+    next = omega arith
+
+pub stores_one : (end unit : ℕ) (old : List ℕ) (t : Bool) (u : ℕ) → end < length old → t ≡ true → unit ≡ u → take (end + 1) (set old end unit) ≡ take end old ++ if_one t u
+stores_one end unit old t u h e f = stored_at end unit old h ∙ ap (λ x. take end old ++ x ∷ []) f ∙ ap (λ b. take end old ++ if_one b u) (sym e)
+
+pub next_bytes : (src : List ℕ) (at unit : ℕ) → unit ≡ code_unit (get_or src at 0) (get_or src (at + 1) 0) (get_or src (at + 2) 0)
+    → unit ≡ code_unit (get_or src at 0) (get_or src (suc at) 0) (get_or src (suc (suc at)) 0)
+next_bytes src at unit e =
+    let next : at + 1 ≡ suc at = omega arith in
+    let second : at + 2 ≡ suc (suc at) = omega arith in
+    e ∙ rw (next, second) refl
+
+pub stores_none : (old : List ℕ) (t : Bool) (u : ℕ) → t ≡ false → old ≡ old ++ if_one t u
+stores_none old t u e = sym (ap (λ b. old ++ if_one b u) e ∙ append-nil old)
+
+-- more bytes, gathered after those from `from` on
+pub gathered_more : (src : List ℕ) (from at n end after : ℕ) (old new : List ℕ) → from ≤ at → take end old ≡ units_from src from (at - from)
+    → take after new ≡ take end old ++ units_from src at n → take after new ≡ units_from src from (at + n - from)
+gathered_more src from at n end after old new h e f =
+    let place : from + (at - from) ≡ at = omega arith in
+    let count : at - from + n ≡ at + n - from = omega arith in
+    f ∙ ap (λ z. z ++ units_from src at n) e ∙ ap (λ i. units_from src from (at - from) ++ units_from src i n) (sym place)
+    ∙ sym (units_split src from (at - from) n) ∙ ap (units_from src from) count

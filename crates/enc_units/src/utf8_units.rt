@@ -151,6 +151,25 @@ fn store_sixteen(buffer: &mut [u16], end: usize, src: &[u8], at: usize) -> usize
     store_marked(buffer, middle, units.extract::<8, 8>(), marks / 0x100)
 }
 
+/// The byte two places before, or 0.
+#[inline(always)]
+fn byte_before(src: &[u8], at: usize) -> u8
+    requires { at < length src.now }
+    ensures { result ≡ two_before src.now at }
+{
+    if at < 2 { 0 } else { src[at - 2] }
+}
+
+/// Whether the byte at a place gives a code unit.
+#[inline(always)]
+fn gives(src: &[u8], at: usize) -> bool
+    requires { at < length src.now }
+    ensures { result ≡ gives_unit (two_before src.now at) (slice_index src.now at) }
+{
+    let byte = src[at];
+    byte < 0x80 || 0xC0 <= byte || 0xF0 <= byte_before(src, at)
+}
+
 /// Stores the code unit of the byte at a place, if it gives one, and returns where it ends.
 #[inline(always)]
 fn store_one(buffer: &mut [u16], end: usize, src: &[u8], at: usize) -> usize
@@ -160,12 +179,10 @@ fn store_one(buffer: &mut [u16], end: usize, src: &[u8], at: usize) -> usize
     ensures len { length buffer.new ≡ length buffer.old }
     ensures stored { take result buffer.new ≡ take end buffer.old ++ unit_at src.now at }
 {
-    let first = src[at];
-    let is_second = 2 <= at && 0xF0 <= src[at - 2];
-    if !is_second && 0x80 <= first && first < 0xC0 {
+    if !gives(src, at) {
         return end;
     }
-    buffer[end] = unit_of(first, src[at + 1], src[at + 2]);
+    buffer[end] = unit_of(src[at], src[at + 1], src[at + 2]);
     end + 1
 }
 
