@@ -1,6 +1,6 @@
 -- The code units of UTF-16 that the bytes of UTF-8 give.
 use Rattle.std.proofs.Common.{◌≡◌, ℕ, zero, suc, ◌+◌, ◌-◌, ◌*◌, ◌/◌, ◌%◌, ◌^◌, ◌<◌, ◌≤◌, Bool, true, false, ◌==◌, if◌then◌else◌, cond, List, [], ◌∷◌, ◌++◌}
-use Rattle.std.proofs.Common.{map, length, get_or, take, drop, refl, ap, ◌∙◌, sym, subst, arith, length-append, append_assoc, append-nil, drop-cons}
+use Rattle.std.proofs.Common.{map, length, get_or, take, drop, refl, ap, ◌∙◌, sym, subst, arith, length-append, append_assoc, append-nil, drop-cons, drop-drop, length-take, length-drop}
 use Rattle.std.proofs.lemmas.Bool.{lt-ltb}
 use Rattle.std.proofs.lemmas.Bool.Decides.{nat_tests}
 use Rattle.std.proofs.lemmas.List.{map-append, get_or-map, take_all}
@@ -11,7 +11,9 @@ use Rattle.std.specs.List.{range_with_len}
 use lib.Lanes.{chunk, put_chunk, pick_l}
 use Rattle.enc_units.specs.Validity.{AreAscii}
 use Rattle.enc_units.specs.Utf8Units.{gives_unit, code_unit, two_before, unit_at, units_from, marked_places, marked}
+use borrow.Rule.Slice.PartMut.{put_mid}
 use Rattle.enc_units.proofs.GatherLemmas.{stored_lanes}
+use Rattle.enc_units.proofs.Utf8SliceLemmas.{seam_take, seam_drop}
 
 -- the lanes of a load, by their places in the input
 
@@ -49,7 +51,7 @@ units_split src at (suc a) b =
     place : suc at + a ≡ at + suc a
     place = omega arith
 
-abbrev if_one : Bool → ℕ → List ℕ
+abbrev pub if_one : Bool → ℕ → List ℕ
 if_one t u = if t then u ∷ [] else []
 
 few_one : (t : Bool) (u : ℕ) → length (if_one t u) ≤ 1
@@ -66,7 +68,7 @@ units_few src at (suc n) =
 
 -- ASCII bytes
 
-low_unit : (z a b c : ℕ) → a < 0x80 → if_one (gives_unit z a) (code_unit a b c) ≡ a ∷ []
+pub low_unit : (z a b c : ℕ) → a < 0x80 → if_one (gives_unit z a) (code_unit a b c) ≡ a ∷ []
 low_unit z a b c h = rw (lt-ltb a 0x80 h) refl
 
 pub ascii_from : (src : List ℕ) (at n : ℕ) → at + n ≤ length src → ((k : ℕ) → k < n → get_or src (at + k) 0 < 0x80) → units_from src at n ≡ take n (drop at src)
@@ -213,7 +215,7 @@ module _ (src : List ℕ) (at : ℕ) (after : 2 ≤ at) where
       → gives_unit (get_or (chunk (at - 2) 16 src) k 0) (get_or src (at + k) 0) ≡ true
   given_here k h g = ap (λ z. gives_unit z (get_or src (at + k) 0)) (before_here src at k after h) ∙ g
 
-same_bytes : (bs : List ℕ) → map (λ b. b) bs ≡ bs
+pub same_bytes : (bs : List ℕ) → map (λ b. b) bs ≡ bs
 same_bytes [] = refl
 same_bytes (b ∷ bs) = ap (λ z. b ∷ z) (same_bytes bs)
 
@@ -258,3 +260,41 @@ gathered_more src from at n end after old new h e f =
     let count : at - from + n ≡ at + n - from = omega arith in
     f ∙ ap (λ z. z ++ units_from src at n) e ∙ ap (λ i. units_from src from (at - from) ++ units_from src i n) (sym place)
     ∙ sym (units_split src from (at - from) n) ∙ ap (units_from src from) count
+
+-- and written after those before them
+
+module _ (src : List ℕ) (read next written n : ℕ) (dst first ys : List ℕ) (room : written + n ≤ length dst) (as_many : length ys ≡ n) (on : read ≤ next)
+    (count : written ≡ length (units_from src 0 read)) (front : take written dst ≡ units_from src 0 read) (rest : drop written dst ≡ drop written first)
+    (more : ys ≡ units_from src read (next - read)) where
+  abbrev put : List ℕ
+  put = put_mid written (written + n - written) dst ys
+
+  put_is : put ≡ (take written dst ++ ys) ++ drop n (drop written dst)
+  put_is =
+      let many : written + n - written ≡ n = omega arith in
+      ap (λ m. put_mid written m dst ys) many ∙ sym (append_assoc (take written dst) ys (drop n (drop written dst)))
+
+  front_long : length (take written dst ++ ys) ≡ written + n
+  front_long = omega (arith, length-append (take written dst) ys, length-take written dst)
+
+  units_are : take written dst ++ ys ≡ units_from src 0 next
+  units_are =
+      let place : 0 + read ≡ read = omega arith in
+      let whole : read + (next - read) ≡ next = omega arith in
+      ap (λ z. z ++ ys) front ∙ ap (λ z. units_from src 0 read ++ z) (more ∙ ap (λ i. units_from src i (next - read)) (sym place))
+      ∙ sym (units_split src 0 read (next - read)) ∙ ap (units_from src 0) whole
+
+  pub writes_long : length put ≡ length dst
+  writes_long =
+      omega (arith, ap length put_is, length-append (take written dst ++ ys) (drop n (drop written dst)), front_long, length-drop n (drop written dst), length-drop written dst)
+
+  pub writes_count : written + n ≡ length (units_from src 0 next)
+  writes_count = sym front_long ∙ ap length units_are
+
+  pub writes_more : take (written + n) put ≡ units_from src 0 next
+  writes_more = ap (take (written + n)) put_is ∙ seam_take (written + n) (take written dst ++ ys) (drop n (drop written dst)) front_long ∙ units_are
+
+  pub writes_rest : drop (written + n) put ≡ drop (written + n) first
+  writes_rest =
+      ap (drop (written + n)) put_is ∙ seam_drop (written + n) (take written dst ++ ys) (drop n (drop written dst)) front_long
+      ∙ ap (drop n) rest ∙ drop-drop n written first

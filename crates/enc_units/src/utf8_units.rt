@@ -195,6 +195,7 @@ fn gather_units(buffer: &mut [u16], src: &[u8], from: usize, to: usize) -> (usiz
     requires buffer { length buffer.old ≡ 304 }
     ensures some { from < result.0 }
     ensures within { result.0 ≤ to }
+    ensures few { result.1 ≤ result.0 - from }
     ensures bound { result.1 ≤ length buffer.new }
     ensures len { length buffer.new ≡ length buffer.old }
     ensures gathered { take result.1 buffer.new ≡ units_from src.now from (result.0 - from) }
