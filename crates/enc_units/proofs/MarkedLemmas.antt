@@ -1,5 +1,5 @@
 -- Code units that a mask marks, one after another.
-use Rattle.std.proofs.Common.{◌≡◌, ℕ, zero, suc, ◌+◌, ◌-◌, ◌*◌, ◌/◌, ◌%◌, ◌^◌, ◌<◌, ◌≤◌, Bool, true, ◌&&◌, eqb, ltb, List, [], ◌∷◌, ◌++◌}
+use Rattle.std.proofs.Common.{◌≡◌, ℕ, zero, suc, ◌+◌, ◌-◌, ◌*◌, ◌/◌, ◌%◌, ◌<◌, ◌≤◌, Bool, true, ◌&&◌, eqb, ltb, List, [], ◌∷◌, ◌++◌}
 use Rattle.std.proofs.Common.{w8, w16, map, length, get_or, take, drop, refl, ap, ◌∙◌, sym, subst, arith, eqb-true, ltb-true, length-take, length-drop, drop-drop, drop-cons}
 use Rattle.std.proofs.lemmas.Bool.{and_parts}
 use Rattle.std.proofs.lemmas.Grind.{same_number_lists}
@@ -141,7 +141,7 @@ row_is mask h =
     let row = row_of mask in
     let this : 0 + mask ≡ mask = omega arith in
     let ok : row_ok mask row ≡ true = subst (λ m. row_ok m row ≡ true) this
-        (subst (λ z. row_ok (0 + mask) z ≡ true) (sym (row_of_table mask h)) (row_at 256 0 mask MARKED marked_ok h)) in
+    (subst (λ z. row_ok (0 + mask) z ≡ true) (sym (row_of_table mask h)) (row_at 256 0 mask MARKED marked_ok h)) in
     let long = row_long mask h in
     let f = and_parts _ _ ok in
     let g = and_parts _ _ f.1 in
@@ -212,9 +212,9 @@ module _ (units row : List ℕ) (mask : ℕ) (long : length units ≡ 8) (fit : 
       let p = get_or (marked_places mask 0 8) j 0 in
       let few : j < 8 = omega (arith, ones-le 8 mask m) in
       let low : get_or chosen (2 * j) 0 ≡ get_or units p 0 % 0x100 =
-          chosen_at (2 * j) (omega arith) ∙ ap (λ i. get_or bytes i 0) (r.evens j h) ∙ low_byte p (r.units j h) in
+      chosen_at (2 * j) (omega arith) ∙ ap (λ i. get_or bytes i 0) (r.evens j h) ∙ low_byte p (r.units j h) in
       let high : get_or chosen (2 * j + 1) 0 ≡ get_or units p 0 / 0x100 % 0x100 =
-          chosen_at (2 * j + 1) (omega arith) ∙ ap (λ i. get_or bytes i 0) (r.odds j h) ∙ high_byte p (r.units j h) in
+      chosen_at (2 * j + 1) (omega arith) ∙ ap (λ i. get_or bytes i 0) (r.odds j h) ∙ high_byte p (r.units j h) in
       stored_at j few ∙ omega (arith, low, high, unit_below p (r.units j h))
 
   pub marked_units : mask < 0x100 → take (ones mask) stored ≡ map (λ k. get_or units k 0) (marked_places mask 0 8)

@@ -1,12 +1,12 @@
 -- Sixteen bytes and the code units that they give, in lanes.
 use Rattle.std.proofs.Common.{◌≡◌, ℕ, ◌+◌, ◌-◌, ◌*◌, ◌/◌, ◌%◌, ◌^◌, ◌<◌, ◌≤◌, Bool, true, false, cond, eqb, leb, ltb, List, [], ◌∷◌}
-use Rattle.std.proofs.Common.{inl, inr, w8, map, length, get_or, replicate, bit_and, bit_or, refl, ap, ◌∙◌, sym, subst, arith, eqb-true, leb-false}
+use Rattle.std.proofs.Common.{inl, inr, w8, map, length, get_or, replicate, bit_and, refl, ap, ◌∙◌, sym, arith, leb-false}
 use Rattle.std.proofs.lemmas.Bool.{cases_lt}
 use Rattle.std.proofs.lemmas.Bool.Decides.{nat_tests}
 use Rattle.std.proofs.lemmas.List.{get_or-map}
 use Rattle.std.proofs.lemmas.List.FromFn.{get_or-range_with_len}
 use Rattle.std.proofs.lemmas.Nat.{and_mask}
-use Rattle.std.proofs.lemmas.Simd.{map-map, mask_l-mod, zip2_of_maps, splat_is_map, pick_l_whole, bit_mask_l, Each1-get_or}
+use Rattle.std.proofs.lemmas.Simd.{map-map, zip2_of_maps, splat_is_map, pick_l_whole, Each1-get_or}
 use Rattle.std.specs.List.{range_with_len}
 use lib.Lanes.{zip2, mask_l, top, sel_l, Each1}
 use mir.Val.{Fits}
@@ -74,7 +74,7 @@ pub chosen_lanes : (t : ℕ → Bool) {f g : ℕ → ℕ} {m xs ys : List ℕ} �
     → IsLanes (sel_l (map (top 15) m) xs ys) (λ k. cond (t k) (f k) (g k))
 chosen_lanes t {f} {g} {m} {xs} {ys} p q r =
     let tops : map (top 15) m ≡ map t places =
-        ap (map (top 15)) p.is ∙ map-map (top 15) (λ j. wide_flag (t j)) places ∙ ap (λ (h : ℕ → Bool). map h places) (λ i j. wide_top (t j) i) in
+    ap (map (top 15)) p.is ∙ map-map (top 15) (λ j. wide_flag (t j)) places ∙ ap (λ (h : ℕ → Bool). map h places) (λ i j. wide_top (t j) i) in
     record {
       is = ap (λ l. sel_l l xs ys) tops ∙ ap (λ x. sel_l (map t places) x ys) q.is ∙ ap (λ y. sel_l (map t places) (map f places) y) r.is ∙ choices t f g places;
     }

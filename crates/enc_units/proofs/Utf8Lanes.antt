@@ -93,9 +93,9 @@ none_set m t p e k h =
 pub flag_bit : (m : List ℕ) (t : ℕ → Bool) → IsFlags m t → (k : ℕ) → k < 16 → mask_l (map (top 7) m) % 2 ^ 64 / 2 ^ k % 2 ≡ cond (t k) 1 0
 flag_bit m t p k h =
     let tops : map (top 7) m ≡ map t places =
-        ap (map (top 7)) p.is ∙ map-map (top 7) (λ j. flag (t j)) places ∙ ap (λ (g : ℕ → Bool). map g places) (λ i j. top_flag (t j) i) in
+    ap (map (top 7)) p.is ∙ map-map (top 7) (λ j. flag (t j)) places ∙ ap (λ (g : ℕ → Bool). map g places) (λ i j. top_flag (t j) i) in
     let lane : get_or (map t places) k false ≡ t k =
-        get_or-map t places k 0 false (omega arith) ∙ ap t (get_or-range_with_len 0 16 k 0 h ∙ place) in
+    get_or-map t places k 0 false (omega arith) ∙ ap t (get_or-range_with_len 0 16 k 0 h ∙ place) in
     ap (λ l. mask_l l % 2 ^ 64 / 2 ^ k % 2) tops ∙ ap (λ x. x / 2 ^ k % 2) (mask_l-mod (map t places) 64 (omega arith))
     ∙ bit_mask_l (map t places) k ∙ ap (λ u. cond u 1 0) lane
   where

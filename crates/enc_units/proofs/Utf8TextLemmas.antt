@@ -1,6 +1,6 @@
 -- The code units that the bytes of a text in UTF-8 give are its UTF-16.
-use Rattle.std.proofs.Common.{◌≡◌, ℕ, zero, suc, ◌+◌, ◌-◌, ◌*◌, ◌/◌, ◌%◌, ◌<◌, ◌≤◌, true, false, List, [], ◌∷◌, ◌++◌, inl, inr}
-use Rattle.std.proofs.Common.{length, get_or, take, drop, refl, ap, ◌∙◌, sym, subst, arith, drop-cons, length-take, length-append}
+use Rattle.std.proofs.Common.{◌≡◌, ℕ, zero, suc, ◌+◌, ◌-◌, ◌/◌, ◌%◌, ◌<◌, ◌≤◌, true, false, List, [], ◌∷◌, ◌++◌, inl, inr}
+use Rattle.std.proofs.Common.{length, get_or, take, drop, refl, ap, ◌∙◌, sym, subst, arith, drop-cons, length-take}
 use Rattle.std.proofs.lemmas.Bool.{and_parts, cases_lt}
 use Rattle.std.proofs.lemmas.Bool.Decides.{nat_tests}
 use Rattle.std.proofs.lemmas.Str.{encode_ascii}
@@ -102,7 +102,7 @@ module _ (src : List ℕ) (c : ℕ) (t : List ℕ) (rest : Gives src t) (at : �
       let first : unit_at src at ≡ high ∷ [] = rw (s.0, s.1.0, s.1.1.0) (of_four (two_before src at) c l h) in
       let second : unit_at src (suc at) ≡ [] = gives_none (two_before src (suc at)) (get_or src (suc at) 0) _ x (omega (arith, s.1.0)) in
       let third : unit_at src (suc (suc at)) ≡ low ∷ [] =
-          rw (s.1.1.0, s.1.1.1.0) (of_second (get_or src at 0) _ c (omega (arith, s.0)) l h) in
+      rw (s.1.1.0, s.1.1.1.0) (of_second (get_or src at 0) _ c (omega (arith, s.0)) l h) in
       let fourth : unit_at src last ≡ [] = gives_none (get_or src (suc at) 0) (get_or src last 0) _ (omega (arith, s.1.0)) (omega (arith, s.1.1.1.0)) in
       ap (λ z. z ++ (unit_at src (suc at) ++ (unit_at src (suc (suc at)) ++ (unit_at src last ++ units_from src (suc last) (length bytes))))) first
       ∙ ap (λ z. high ∷ (z ++ (unit_at src (suc (suc at)) ++ (unit_at src last ++ units_from src (suc last) (length bytes))))) second

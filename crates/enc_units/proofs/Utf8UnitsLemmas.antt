@@ -1,9 +1,9 @@
 -- The code units of UTF-16 that the bytes of UTF-8 give.
-use Rattle.std.proofs.Common.{◌≡◌, ℕ, zero, suc, ◌+◌, ◌-◌, ◌*◌, ◌/◌, ◌%◌, ◌^◌, ◌<◌, ◌≤◌, Bool, true, false, ◌==◌, if◌then◌else◌, cond, List, [], ◌∷◌, ◌++◌}
+use Rattle.std.proofs.Common.{◌≡◌, ℕ, zero, suc, ◌+◌, ◌-◌, ◌/◌, ◌%◌, ◌^◌, ◌<◌, ◌≤◌, Bool, true, false, ◌==◌, if◌then◌else◌, cond, List, [], ◌∷◌, ◌++◌}
 use Rattle.std.proofs.Common.{map, length, get_or, take, drop, refl, ap, ◌∙◌, sym, subst, arith, length-append, append_assoc, append-nil, drop-cons, drop-drop, length-take, length-drop}
 use Rattle.std.proofs.lemmas.Bool.{lt-ltb}
 use Rattle.std.proofs.lemmas.Bool.Decides.{nat_tests}
-use Rattle.std.proofs.lemmas.List.{map-append, get_or-map, take_all}
+use Rattle.std.proofs.lemmas.List.{map-append, take_all}
 use Rattle.std.proofs.lemmas.Nat.{shr-shr}
 use Rattle.std.proofs.Math.ListN.{set}
 use Rattle.std.proofs.lemmas.Simd.{get_or-chunk, length-chunk, pick_l_left, pick_l-range_with_len}
@@ -22,7 +22,7 @@ pub units_here : (src : List ℕ) (at k u : ℕ) → k < 16
     → u ≡ code_unit (get_or src (at + k) 0) (get_or src (at + k + 1) 0) (get_or src (at + k + 2) 0)
 units_here src at k u h e =
     let lane : (i m : ℕ) → i + k ≡ m → get_or (chunk i 16 src) k 0 ≡ get_or src m 0 =
-        λ i m p. get_or-chunk i 16 src k 0 h ∙ ap (λ n. get_or src n 0) p in
+    λ i m p. get_or-chunk i 16 src k 0 h ∙ ap (λ n. get_or src n 0) p in
     e ∙ rw (lane at (at + k) refl, lane (at + 1) (at + k + 1) (omega arith), lane (at + 2) (at + k + 2) (omega arith)) refl
 
 pub before_here : (src : List ℕ) (at k : ℕ) → 2 ≤ at → k < 16 → get_or (chunk (at - 2) 16 src) k 0 ≡ two_before src (at + k)
@@ -40,6 +40,7 @@ units_split src at zero b = rw (none, here) refl
   where
     none : zero + b ≡ b
     none = omega arith
+
     here : at + zero ≡ at
     here = omega arith
 units_split src at (suc a) b =
@@ -48,6 +49,7 @@ units_split src at (suc a) b =
   where
     more : suc a + b ≡ suc (a + b)
     more = omega arith
+
     place : suc at + a ≡ at + suc a
     place = omega arith
 

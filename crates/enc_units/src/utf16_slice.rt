@@ -94,7 +94,8 @@ impl<'a> Utf16Slice<'a> {
         if taken < SHORT {
             return 0;
         }
-        self.len += write_units(&mut self.dst[self.len..], src, taken);
+        let written = write_units(&mut self.dst[self.len..], src, taken);
+        self.len += written;
         taken
     }
 
@@ -109,11 +110,11 @@ impl<'a> Utf16Slice<'a> {
         loop {
             let (_, rest) = src.split_at(at);
             let taken = self.append_part(rest);
-            if taken == 0 {
-                return at + self.append_each(Utf8Pieces {}, rest);
-            }
             at += taken;
             let (_, next) = src.split_at(at);
+            if taken == 0 {
+                return at + self.append_each(Utf8Pieces {}, next);
+            }
             at += self.append_ascii(next);
         }
     }

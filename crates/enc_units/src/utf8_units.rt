@@ -85,7 +85,7 @@ fn units_of(before: u8x16, src: &[u8], at: usize) -> u16x16
     requires { at + 18 ≤ length src.now }
     ensures { (k : ℕ) → k < 16 → IsTrue (gives_unit (slice_index before k) (slice_index src.now (at + k))) →
         slice_index result k ≡ code_unit (slice_index src.now (at + k)) (slice_index src.now (at + k + 1))
-            (slice_index src.now (at + k + 2)) }
+        (slice_index src.now (at + k + 2)) }
 {
     let first = u8x16::from_slice(&src[at..]);
     let second = u8x16::from_slice(&src[at + 1..]);

@@ -1,4 +1,4 @@
-use Rattle.std.proofs.Common.{◌≡◌, ◌∙◌, ◌++◌, ap, sym, arith, append-nil, take}
+use Rattle.std.proofs.Common.{◌∙◌, ◌++◌, ap, sym, arith, append-nil, take}
 use Rattle.enc_units.proofs.Utf8UnitsLemmas.{gathered_more}
 use Rattle.enc_units.specs.Utf8Units.{unit_at}
 use Rattle.enc_units.proofs.utf8_units.gather_units.Goals as goal

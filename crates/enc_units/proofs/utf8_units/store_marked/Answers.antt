@@ -1,4 +1,4 @@
-use Rattle.std.proofs.Common.{◌%◌, ◌*◌, drop, arith, length-take, length-drop}
+use Rattle.std.proofs.Common.{◌%◌, arith}
 use Rattle.enc_units.proofs.MarkedLemmas.{row_is, row_long, stores_marked}
 use Rattle.enc_units.proofs.utf8_units.store_marked.Goals as goal
 

@@ -1,4 +1,4 @@
-use Rattle.std.proofs.Common.{◌≡◌, ◌∙◌, ◌+◌, ◌≤◌, length, take, ap, subst, arith, length-take}
+use Rattle.std.proofs.Common.{◌≡◌, ◌∙◌, ◌+◌, ◌≤◌, length, take, ap, arith, length-take}
 use Rattle.enc_units.specs.Utf8Units.{units_from}
 use Rattle.enc_units.proofs.Utf8TextLemmas.{gathers_units}
 use Rattle.enc_units.proofs.Utf8UnitsLemmas.{writes_long, writes_count, writes_more, writes_rest}

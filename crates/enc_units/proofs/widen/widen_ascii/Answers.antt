@@ -10,7 +10,7 @@ loop-at-preserved c =
       omega arith,
       ascii_more _ _ _ i.1 (c.are_ascii.ensures c.if-not-are_ascii.false),
       ap (put_chunk c.loop-at.at c.loop-at.dst) (same_bytes _)
-      ∙ copied_more c.loop-at.at 16 c.args.src.now c.loop-at.dst c.args.dst.now (omega arith) (omega arith) i.2,
+          ∙ copied_more c.loop-at.at 16 c.args.src.now c.loop-at.dst c.args.dst.now (omega arith) (omega arith) i.2,
     )
 
 pub loop-at-2-preserved : goal.loop-at-2-preserved
