@@ -1,18 +1,16 @@
 -- The code units of UTF-16 that the bytes of UTF-8 give.
 use Rattle.std.proofs.Common.{◌≡◌, ℕ, zero, suc, ◌+◌, ◌-◌, ◌/◌, ◌%◌, ◌^◌, ◌<◌, ◌≤◌, Bool, true, false, ◌==◌, if◌then◌else◌, cond, List, [], ◌∷◌, ◌++◌}
-use Rattle.std.proofs.Common.{map, length, get_or, take, drop, refl, ap, ◌∙◌, sym, subst, arith, length-append, append_assoc, append-nil, drop-cons, drop-drop, length-take, length-drop}
+use Rattle.std.proofs.Common.{map, length, get_or, take, drop, refl, ap, ◌∙◌, sym, subst, arith, length-append, append_assoc, append-nil, drop-drop, length-take, length-drop}
 use Rattle.std.proofs.lemmas.Bool.{lt-ltb}
 use Rattle.std.proofs.lemmas.Bool.Decides.{nat_tests}
-use Rattle.std.proofs.lemmas.List.{map-append, take_all}
+use Rattle.std.proofs.lemmas.List.{map-append}
 use Rattle.std.proofs.lemmas.Nat.{shr-shr}
 use Rattle.std.proofs.Math.ListN.{set}
-use Rattle.std.proofs.lemmas.Simd.{get_or-chunk, length-chunk, pick_l_left, pick_l-range_with_len}
+use Rattle.std.proofs.lemmas.Simd.{get_or-chunk, pick_l_left, pick_l-range_with_len}
 use Rattle.std.specs.List.{range_with_len}
-use lib.Lanes.{chunk, put_chunk, pick_l}
-use Rattle.enc_units.specs.Validity.{AreAscii}
+use lib.Lanes.{chunk, pick_l}
 use Rattle.enc_units.specs.Utf8Units.{gives_unit, code_unit, two_before, unit_at, units_from, marked_places, marked}
 use borrow.Rule.Slice.PartMut.{put_mid}
-use Rattle.enc_units.proofs.GatherLemmas.{stored_lanes}
 use Rattle.enc_units.proofs.Utf8SliceLemmas.{seam_take, seam_drop}
 
 -- the lanes of a load, by their places in the input
@@ -68,22 +66,10 @@ units_few src at zero = omega arith
 units_few src at (suc n) =
     omega (arith, length-append (unit_at src at) (units_from src (suc at) n), one_few src at, units_few src (suc at) n)
 
--- ASCII bytes
+-- that of an ASCII byte
 
 pub low_unit : (z a b c : ℕ) → a < 0x80 → if_one (gives_unit z a) (code_unit a b c) ≡ a ∷ []
 low_unit z a b c h = rw (lt-ltb a 0x80 h) refl
-
-pub ascii_from : (src : List ℕ) (at n : ℕ) → at + n ≤ length src → ((k : ℕ) → k < n → get_or src (at + k) 0 < 0x80) → units_from src at n ≡ take n (drop at src)
-ascii_from src at zero h a = refl
-ascii_from src at (suc n) h a =
-    let here : at + 0 ≡ at = omega arith in
-    let low : get_or src at 0 < 0x80 = subst (λ i. get_or src i 0 < 0x80) here (a 0 (omega arith)) in
-    let one : unit_at src at ≡ get_or src at 0 ∷ [] = low_unit _ _ _ _ low in
-    ap (λ z. z ++ units_from src (suc at) n) one
-    ∙ ap (λ z. get_or src at 0 ∷ z) (ascii_from src (suc at) n (omega arith) (λ k l.
-    let next : at + suc k ≡ suc at + k = omega arith in
-    subst (λ i. get_or src i 0 < 0x80) next (a (suc k) (omega arith))))
-    ∙ ap (take (suc n)) (sym (drop-cons src at 0 (omega arith)))
 
 -- those that the bits of a mask mark
 
@@ -220,15 +206,6 @@ module _ (src : List ℕ) (at : ℕ) (after : 2 ≤ at) where
 pub same_bytes : (bs : List ℕ) → map (λ b. b) bs ≡ bs
 same_bytes [] = refl
 same_bytes (b ∷ bs) = ap (λ z. b ∷ z) (same_bytes bs)
-
-pub stores_ascii : (end at : ℕ) (old src : List ℕ) → end + 16 ≤ length old → at + 16 ≤ length src → AreAscii (chunk at 16 src)
-    → take (end + 16) (put_chunk end old (map (λ b. b) (chunk at 16 src))) ≡ take end old ++ units_from src at 16
-stores_ascii end at old src h l a =
-    let long : length (chunk at 16 src) ≡ 16 = length-chunk at 16 src l in
-    ap (λ z. take (end + 16) (put_chunk end old z)) (same_bytes (chunk at 16 src))
-    ∙ stored_lanes end 16 old (chunk at 16 src) (omega arith) (omega arith)
-    ∙ ap (λ z. take end old ++ z) (take_all 16 (chunk at 16 src) (omega arith)
-    ∙ sym (ascii_from src at 16 l (λ k m. subst (λ x. x < 0x80) (get_or-chunk at 16 src k 0 m) (a k 0 (omega arith)))))
 
 -- one more, stored by itself
 

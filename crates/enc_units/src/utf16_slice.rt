@@ -13,7 +13,7 @@ use crate::units::Units;
 use crate::utf8::{char_len, utf8_front};
 use crate::utf8_pieces::Utf8Pieces;
 use crate::utf8_units::write_units;
-use crate::widen::widen_ascii;
+use crate::widen::{is_nearly_ascii, widen_ascii};
 
 /// Fewer bytes of UTF-8 than these are written one by one.
 const SHORT: usize = 64;
@@ -99,6 +99,38 @@ impl<'a> Utf16Slice<'a> {
         taken
     }
 
+    /// Writes the character in front, if it is well-formed UTF-8 and fits, and returns how many bytes it has.
+    #[inline(always)]
+    fn append_char(&mut self, src: &[u8]) -> usize
+        ensures { PutsPieces encode_utf16 IsUtf8Char
+            (slice_output self.old.len self.old.dst.now self.old.dst.ghost_name)
+            (slice_output self.new.len self.new.dst.now self.new.dst.ghost_name) src.now result }
+    {
+        if src.len() == 0 {
+            return 0;
+        }
+        let Some((character, len)) = (Utf8Pieces {}).piece(src, 0) else {
+            return 0;
+        };
+        if !self.append(character) {
+            return 0;
+        }
+        len
+    }
+
+    /// Writes well-formed UTF-8 in front, a part or the first character of what is nearly all ASCII, and returns how much.
+    #[inline(always)]
+    fn append_some(&mut self, src: &[u8]) -> usize
+        ensures { PutsPieces encode_utf16 IsUtf8Char
+            (slice_output self.old.len self.old.dst.now self.old.dst.ghost_name)
+            (slice_output self.new.len self.new.dst.now self.new.dst.ghost_name) src.now result }
+    {
+        if is_nearly_ascii(src) {
+            return self.append_char(src);
+        }
+        self.append_part(src)
+    }
+
     /// Writes well-formed UTF-8 in front, part by part with the ASCII after each, then one by one, and returns how much.
     #[inline(never)]
     fn append_utf8(&mut self, src: &[u8]) -> usize
@@ -109,7 +141,7 @@ impl<'a> Utf16Slice<'a> {
         let mut at = 0;
         loop {
             let (_, rest) = src.split_at(at);
-            let taken = self.append_part(rest);
+            let taken = self.append_some(rest);
             at += taken;
             let (_, next) = src.split_at(at);
             if taken == 0 {

@@ -7,7 +7,6 @@ ghost use Rattle.enc_units.specs.Pieces.{IsUtf8Char};
 ghost use Rattle.enc_units.specs.Utf8Units.{gives_unit, code_unit, two_before, unit_at, units_from, marked};
 ghost use Rattle.enc_units.specs.Validity.{IsWellFormedUtf8};
 
-use crate::ascii::are_ascii;
 use crate::marked::MARKED;
 use std::simd::prelude::*;
 
@@ -139,13 +138,8 @@ fn store_sixteen(buffer: &mut [u16], end: usize, src: &[u8], at: usize) -> usize
     ensures len { length buffer.new ≡ length buffer.old }
     ensures stored { take result buffer.new ≡ take end buffer.old ++ units_from src.now at 16 }
 {
-    let bytes = u8x16::from_slice(&src[at..]);
-    if are_ascii(bytes) {
-        bytes.cast::<u16>().copy_to_slice(&mut buffer[end..]);
-        return end + 16;
-    }
     let before = u8x16::from_slice(&src[at - 2..]);
-    let marks = marks_of(before, bytes);
+    let marks = marks_of(before, u8x16::from_slice(&src[at..]));
     let units = units_of(before, src, at);
     let middle = store_marked(buffer, end, units.extract::<0, 8>(), marks);
     store_marked(buffer, middle, units.extract::<8, 8>(), marks / 0x100)

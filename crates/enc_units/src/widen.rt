@@ -34,3 +34,13 @@ pub(crate) fn widen_ascii(src: &[u8], dst: &mut [u16]) -> usize
     }
     at
 }
+
+/// Whether of the next 64 bytes at most four are beyond ASCII: they are faster as ASCII and single characters.
+#[inline(always)]
+pub(crate) fn is_nearly_ascii(src: &[u8]) -> bool {
+    if src.len() < 64 {
+        return false;
+    }
+    let others = u8x64::from_slice(src).simd_ge(u8x64::splat(0x80));
+    others.to_bitmask().count_ones() <= 4
+}

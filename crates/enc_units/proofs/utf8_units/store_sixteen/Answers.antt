@@ -1,9 +1,6 @@
 use Rattle.std.proofs.Common.{◌≡◌, arith, length}
-use Rattle.enc_units.proofs.Utf8UnitsLemmas.{bits_here, given_here, stores_sixteen, stores_ascii}
+use Rattle.enc_units.proofs.Utf8UnitsLemmas.{bits_here, given_here, stores_sixteen}
 use Rattle.enc_units.proofs.utf8_units.store_sixteen.Goals as goal
-
-pub returns-then-are_ascii-clause-stored : goal.returns-then-are_ascii-clause-stored
-returns-then-are_ascii-clause-stored c = stores_ascii c.args.end c.args.at c.args.buffer.now c.args.src.now (omega arith) (omega arith) (c.are_ascii.ensures c.if-are_ascii.true)
 
 pub returns-clause-stored : goal.returns-clause-stored
 returns-clause-stored c =
