@@ -1,6 +1,8 @@
--- The code units of UTF-16 that the bytes of well-formed UTF-8 give (Unicode Standard 3.9, tables 3-5 and 3-6). The first
--- byte of a character gives its code unit, or the first of two; of four bytes the third gives the second of two.
-use Rattle.std.specs.Prelude.{ℕ, zero, suc, ◌+◌, ◌-◌, ◌*◌, ◌/◌, ◌%◌, Bool, ◌||◌, ◌==◌, List, [], ◌∷◌, ◌++◌, map, slice_index, nat_le, nat_lt, if◌then◌else◌}
+-- The code units of UTF-16 that the bytes of well-formed UTF-8 give (Unicode Standard 3.9, tables 3-5 and 3-6). The
+-- first byte of a character gives its code unit, or the first of a surrogate pair. The third of four bytes gives the
+-- second of the pair.
+use Rattle.std.specs.Prelude.{ℕ, zero, suc, ◌+◌, ◌-◌, ◌*◌, ◌/◌, ◌%◌, Bool, ◌||◌, ◌==◌, List, [], ◌∷◌, ◌++◌, map}
+use Rattle.std.specs.Prelude.{slice_index, nat_le, nat_lt, if◌then◌else◌}
 
 -- whether a byte gives a code unit, by the one two places before it
 abbrev pub gives_unit : ℕ → ℕ → Bool

@@ -18,7 +18,8 @@ use crate::widen::{is_nearly_ascii, widen_ascii};
 /// Fewer bytes of UTF-8 than these are written one by one.
 const SHORT: usize = 64;
 
-/// The number of bytes of UTF-8 that are looked at before they are written: few enough to be in the nearest cache then.
+/// The number of bytes of UTF-8 that are looked at before they are written: few enough to be in the
+/// nearest cache then.
 const PART: usize = 4096;
 
 /// A slice that takes UTF-16 from its start on.
@@ -79,7 +80,8 @@ impl<'a> Utf16Slice<'a> {
         len
     }
 
-    /// Writes well-formed UTF-8 in front, as much as is seen in a part, unless it is short, and returns how much.
+    /// Writes well-formed UTF-8 in front, as much as is seen in a part, and returns how much: none
+    /// of a short one.
     #[inline(always)]
     fn append_part(&mut self, src: &[u8]) -> usize
         ensures { PutsPieces encode_utf16 IsUtf8Char
@@ -99,7 +101,8 @@ impl<'a> Utf16Slice<'a> {
         taken
     }
 
-    /// Writes the character in front, if it is well-formed UTF-8 and fits, and returns how many bytes it has.
+    /// Writes the character in front, if it is well-formed UTF-8 and fits, and returns how many
+    /// bytes it has.
     #[inline(always)]
     fn append_char(&mut self, src: &[u8]) -> usize
         ensures { PutsPieces encode_utf16 IsUtf8Char
@@ -118,7 +121,8 @@ impl<'a> Utf16Slice<'a> {
         len
     }
 
-    /// Writes well-formed UTF-8 in front, a part or the first character of what is nearly all ASCII, and returns how much.
+    /// Writes well-formed UTF-8 in front, a part or the first character of nearly ASCII text, and
+    /// returns how much.
     #[inline(always)]
     fn append_some(&mut self, src: &[u8]) -> usize
         ensures { PutsPieces encode_utf16 IsUtf8Char
@@ -131,7 +135,8 @@ impl<'a> Utf16Slice<'a> {
         self.append_part(src)
     }
 
-    /// Writes well-formed UTF-8 in front, part by part with the ASCII after each, then one by one, and returns how much.
+    /// Writes well-formed UTF-8 in front, part by part with the ASCII after each, then one by one,
+    /// and returns how much.
     #[inline(never)]
     fn append_utf8(&mut self, src: &[u8]) -> usize
         ensures { PutsPieces encode_utf16 IsUtf8Char

@@ -1,10 +1,12 @@
-//! Well-formed UTF-8 as UTF-16, sixteen bytes at a time with no branch on the lengths of characters.
+//! Well-formed UTF-8 as UTF-16, sixteen bytes at a time with no branch on character lengths.
 
-ghost use Rattle.std.specs.Prelude.{◌≡◌, ℕ, ◌+◌, ◌-◌, ◌*◌, ◌/◌, ◌%◌, ◌^◌, ◌<◌, ◌≤◌, ◌++◌, [], map, length, take, drop, slice_index, IsTrue, if◌then◌else◌};
+ghost use Rattle.std.specs.Prelude.{◌≡◌, ℕ, ◌+◌, ◌-◌, ◌/◌, ◌%◌, ◌^◌, ◌<◌, ◌≤◌, ◌++◌, []};
+ghost use Rattle.std.specs.Prelude.{map, length, take, drop, slice_index, IsTrue, if◌then◌else◌};
 ghost use Rattle.std.specs.Char.Escape.{encode_utf16};
 ghost use Rattle.enc_units.specs.Gathering.{Gathers};
 ghost use Rattle.enc_units.specs.Pieces.{IsUtf8Char};
-ghost use Rattle.enc_units.specs.Utf8Units.{gives_unit, code_unit, two_before, unit_at, units_from, marked};
+ghost use Rattle.enc_units.specs.Utf8Units.{gives_unit, code_unit, two_before, unit_at};
+ghost use Rattle.enc_units.specs.Utf8Units.{units_from, marked};
 ghost use Rattle.enc_units.specs.Validity.{IsWellFormedUtf8};
 
 use crate::marked::MARKED;
@@ -13,7 +15,8 @@ use std::simd::prelude::*;
 /// The length of the buffer.
 const BUFFER: usize = 304;
 
-/// Once more code units are there, no further bytes are read. The bytes read at once give at most sixteen.
+/// Once more code units are there, no further bytes are read. The bytes read at once give at most
+/// sixteen.
 const ENOUGH: usize = 256;
 
 /// The code unit that a byte gives, by the two after it.
@@ -40,8 +43,10 @@ fn unit_of(first: u8, second: u8, third: u8) -> u16
 /// The code units of sixteen bytes, if those that give one begin characters of at most three bytes.
 #[inline(always)]
 fn narrow_units(first: u8x16, second: u8x16, third: u8x16) -> u16x16
-    ensures { (k : ℕ) → k < 16 → slice_index first k < 0xF0 → IsTrue (gives_unit 0 (slice_index first k)) →
-        slice_index result k ≡ code_unit (slice_index first k) (slice_index second k) (slice_index third k) }
+    ensures { (k : ℕ) → k < 16 → slice_index first k < 0xF0 →
+        IsTrue (gives_unit 0 (slice_index first k)) →
+        slice_index result k ≡
+        code_unit (slice_index first k) (slice_index second k) (slice_index third k) }
 {
     let first = first.cast::<u16>();
     let pair = first * u16x16::splat(0x40) + second.cast::<u16>();
@@ -55,7 +60,8 @@ fn narrow_units(first: u8x16, second: u8x16, third: u8x16) -> u16x16
 #[inline(always)]
 fn all_units(first: u8x16, second: u8x16, third: u8x16) -> u16x16
     ensures { (k : ℕ) → k < 16 →
-        slice_index result k ≡ code_unit (slice_index first k) (slice_index second k) (slice_index third k) }
+        slice_index result k ≡
+        code_unit (slice_index first k) (slice_index second k) (slice_index third k) }
 {
     let first = first.cast::<u16>();
     let third = third.cast::<u16>();
@@ -70,7 +76,7 @@ fn all_units(first: u8x16, second: u8x16, third: u8x16) -> u16x16
     first.simd_ge(u16x16::splat(0xF0)).select(four, long)
 }
 
-/// Whether all of sixteen bytes are below 0xF0, which those are that begin no character of four bytes.
+/// Whether all of sixteen bytes are below 0xF0: none begins a character of four bytes.
 #[inline(always)]
 fn are_narrow(bytes: u8x16) -> bool
     ensures { IsTrue result → (k : ℕ) → k < 16 → slice_index bytes k < 0xF0 }
@@ -78,13 +84,15 @@ fn are_narrow(bytes: u8x16) -> bool
     bytes.simd_ge(u8x16::splat(0xF0)).to_bitmask() == 0
 }
 
-/// The code units of the sixteen bytes from a place on.
+/// The code units of the sixteen bytes from a place on, where they give one. `before` is the
+/// sixteen bytes that begin two places before.
 #[inline(always)]
 fn units_of(before: u8x16, src: &[u8], at: usize) -> u16x16
     requires { at + 18 ≤ length src.now }
-    ensures { (k : ℕ) → k < 16 → IsTrue (gives_unit (slice_index before k) (slice_index src.now (at + k))) →
-        slice_index result k ≡ code_unit (slice_index src.now (at + k)) (slice_index src.now (at + k + 1))
-        (slice_index src.now (at + k + 2)) }
+    ensures { (k : ℕ) → k < 16 →
+        IsTrue (gives_unit (slice_index before k) (slice_index src.now (at + k))) →
+        slice_index result k ≡ code_unit (slice_index src.now (at + k))
+        (slice_index src.now (at + k + 1)) (slice_index src.now (at + k + 2)) }
 {
     let first = u8x16::from_slice(&src[at..]);
     let second = u8x16::from_slice(&src[at + 1..]);
@@ -95,7 +103,8 @@ fn units_of(before: u8x16, src: &[u8], at: usize) -> u16x16
     all_units(first, second, third)
 }
 
-/// Which of sixteen bytes give a code unit, the first in the lowest bit, by the sixteen that begin two places before.
+/// Which of sixteen bytes give a code unit, the first in the lowest bit, by the sixteen that begin
+/// two places before.
 #[inline(always)]
 fn marks_of(before: u8x16, bytes: u8x16) -> u64
     ensures { (k : ℕ) → k < 16 → result / 2 ^ k % 2 ≡
@@ -114,7 +123,8 @@ fn pick(bytes: u8x16, places: u8x16) -> u8x16
     bytes.swizzle_dyn(places)
 }
 
-/// Stores those of eight code units that are marked after the first `at` of a buffer, and returns where they end.
+/// Stores those of eight code units that are marked after the first `at` of a buffer, and returns
+/// where they end.
 #[inline(always)]
 fn store_marked(buffer: &mut [u16], at: usize, units: u16x8, marks: u64) -> usize
     requires { at + 8 ≤ length buffer.old }
@@ -180,8 +190,8 @@ fn store_one(buffer: &mut [u16], end: usize, src: &[u8], at: usize) -> usize
     end + 1
 }
 
-/// Stores the code units of the bytes from `from` on, up to `to` or until the buffer has enough. Returns where it leaves
-/// off, and how many code units there are.
+/// Stores the code units of the bytes from `from` on, up to `to` or until the buffer has enough.
+/// Returns where it leaves off, and how many code units there are.
 #[inline(never)]
 fn gather_units(buffer: &mut [u16], src: &[u8], from: usize, to: usize) -> (usize, usize)
     requires some { from < to }
@@ -208,8 +218,8 @@ fn gather_units(buffer: &mut [u16], src: &[u8], from: usize, to: usize) -> (usiz
     (at, end)
 }
 
-/// Writes the UTF-16 of well-formed UTF-8, the first `len` bytes, to the front of a slice. Returns how many code units
-/// it has. The rest of the slice stays.
+/// Writes the UTF-16 of well-formed UTF-8, the first `len` bytes, to the front of a slice. Returns
+/// how many code units it has. The rest of the slice stays.
 #[inline(never)]
 pub(crate) fn write_units(dst: &mut [u16], src: &[u8], len: usize) -> usize
     requires utf8 { IsWellFormedUtf8 (take len src.now) }

@@ -6,14 +6,15 @@ ghost use Rattle.enc_units.specs.Validity.{AreAscii};
 use crate::ascii::are_ascii;
 use std::simd::prelude::*;
 
-/// Stores the ASCII bytes in front as code units, as many as there is room for, and returns how many.
+/// Stores the ASCII bytes in front as code units, as many as fit, and returns how many.
 #[inline(always)]
 pub(crate) fn widen_ascii(src: &[u8], dst: &mut [u16]) -> usize
     ensures read { result ≤ length src.now }
     ensures room { result ≤ length dst.old }
     ensures ascii { AreAscii (take result src.now) }
     ensures stored { dst.new ≡ take result src.now ++ drop result dst.old }
-    ensures ends { result < length src.now → result < length dst.old → 0x80 ≤ slice_index src.now result }
+    ensures ends { result < length src.now → result < length dst.old →
+        0x80 ≤ slice_index src.now result }
 {
     let most = src.len().min(dst.len());
     if most == 0 || src[0] >= 0x80 {
@@ -35,7 +36,8 @@ pub(crate) fn widen_ascii(src: &[u8], dst: &mut [u16]) -> usize
     at
 }
 
-/// Whether of the next 64 bytes at most four are beyond ASCII: they are faster as ASCII and single characters.
+/// Whether at most four of the next 64 bytes are beyond ASCII. Such text is faster as ASCII and
+/// single characters.
 #[inline(always)]
 pub(crate) fn is_nearly_ascii(src: &[u8]) -> bool {
     if src.len() < 64 {

@@ -12,7 +12,8 @@ loop-at-preserved-then-to-at-ge16 c =
       omega (arith, e.bound, i.2),
       omega (arith, e.bound),
       e.len ∙ i.4,
-      gathered_more c.args.src.now c.args.from c.loop-at.at 16 c.loop-at.end c.store_sixteen-end.result c.loop-at.buffer c.store_sixteen-end.new.buffer i.0 i.5 e.stored,
+      gathered_more c.args.src.now c.args.from c.loop-at.at 16 c.loop-at.end c.store_sixteen-end.result
+          c.loop-at.buffer c.store_sixteen-end.new.buffer i.0 i.5 e.stored,
     )
 
 pub loop-at-preserved : goal.loop-at-preserved
@@ -24,6 +25,8 @@ loop-at-preserved c =
       omega (arith, e.bound, i.2),
       omega (arith, e.bound),
       e.len ∙ i.4,
-      gathered_more c.args.src.now c.args.from c.loop-at.at 1 c.loop-at.end c.store_one-end.result c.loop-at.buffer c.store_one-end.new.buffer i.0 i.5
-          (e.stored ∙ ap (λ z. take c.loop-at.end c.loop-at.buffer ++ z) (sym (append-nil (unit_at c.args.src.now c.loop-at.at)))),
+      gathered_more c.args.src.now c.args.from c.loop-at.at 1 c.loop-at.end c.store_one-end.result c.loop-at.buffer
+          c.store_one-end.new.buffer i.0 i.5
+          (e.stored ∙ ap (λ z. take c.loop-at.end c.loop-at.buffer ++ z)
+          (sym (append-nil (unit_at c.args.src.now c.loop-at.at)))),
     )

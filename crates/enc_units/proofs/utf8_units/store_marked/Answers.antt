@@ -9,5 +9,6 @@ pub returns-clause-stored : goal.returns-clause-stored
 returns-clause-stored c =
     let a = c.args in
     let mask = a.marks % 0x100 in
-    stores_marked a.at a.marks a.units _ _ a.buffer.now c.requires c.fits-units.0 c.fits-units.1 (row_long mask (omega arith)) (row_is mask (omega arith))
+    stores_marked a.at a.marks a.units _ _ a.buffer.now c.requires c.fits-units.0 c.fits-units.1
+    (row_long mask (omega arith)) (row_is mask (omega arith))
     c.pick.ensures

@@ -20,7 +20,8 @@ loop-read-preserved c =
     let end = c.gather_units-next.result.1 in
     let ys = c.copy_from_slice.new.self in
     let copied : ys ≡ take end c.gather_units-next.new.buffer = c.copy_from_slice.ensures.after in
-    let many : length ys ≡ end = omega (arith, ap length copied, length-take end c.gather_units-next.new.buffer, e.bound) in
+    let many : length ys ≡ end = omega
+    (arith, ap length copied, length-take end c.gather_units-next.new.buffer, e.bound) in
     let on : r.read ≤ next = omega (arith, e.some) in
     let room : r.written + end ≤ length r.dst = omega (arith, e.few, e.within, i.1, i.3) in
     let more = copied ∙ e.gathered in (

@@ -1,4 +1,5 @@
-use Rattle.std.proofs.Common.{◌≡◌, ◌+◌, ◌-◌, ◌≤◌, ◌∙◌, ap, sym, arith, length, take, drop, length-take, length-drop, inl, inr}
+use Rattle.std.proofs.Common.{◌≡◌, ◌+◌, ◌-◌, ◌≤◌, ◌∙◌, ap, sym, arith, length, take, drop, length-take, length-drop}
+use Rattle.std.proofs.Common.{inl, inr}
 use Rattle.std.proofs.lemmas.Bool.{cases_lt}
 use Rattle.enc_units.specs.Output.{appended}
 use Rattle.enc_units.proofs.AsciiLemmas.{ascii_one}
@@ -20,9 +21,15 @@ returns c =
       within = e.read;
       ascii = e.ascii;
       fits = omega (arith, ap length units, length-take n src);
-      written = grown s.len n s.dst.now src _ s.dst.ghost_name (omega arith) e.read room e.stored ∙ ap (appended _) (sym units);
+      written = grown s.len n s.dst.now src _ s.dst.ghost_name (omega arith) e.read room e.stored
+          ∙ ap (appended _) (sym units);
       longest = λ more low. elim (cases_lt n (length s.dst.now - s.len)) [
         | inl l ↦ absurd (omega (arith, e.ends more (omega arith)))
-        | inr g ↦ omega (arith, ap length (ascii_units_16 (take (n + 1) src) (ascii_one n src e.ascii more low)), length-take (n + 1) src)
+        | inr g ↦ omega (
+          arith,
+          ap length
+              (ascii_units_16 (take (n + 1) src) (ascii_one n src e.ascii more low)),
+          length-take (n + 1) src,
+        )
       ];
     }

@@ -1,4 +1,5 @@
-use Rattle.std.proofs.Common.{◌≡◌, ◌-◌, ◌≤◌, length, take, drop, ap, ◌∙◌, ◌++◌, sym, subst, arith, length-take, length-drop, take-append-drop}
+use Rattle.std.proofs.Common.{◌≡◌, ◌-◌, ◌≤◌, length, take, drop, ap, ◌∙◌, ◌++◌, sym, subst, arith, length-take}
+use Rattle.std.proofs.Common.{length-drop, take-append-drop}
 use Rattle.std.proofs.lemmas.List.{take-take}
 use Rattle.enc_units.specs.Validity.{IsWellFormedUtf8}
 use Rattle.enc_units.proofs.GatherLemmas.{puts_gathered}
@@ -23,7 +24,14 @@ write_units-written-requires c =
     record {
       utf8 = subst IsWellFormedUtf8 (take-take n most src few) seen.utf8;
       after = omega (arith, c.min-most.ensures, c.min.ensures);
-      room = omega (arith, c.min-most.ensures, c.min.ensures, length-take (length slice.dst.now - slice.len) (drop slice.len slice.dst.now), length-drop slice.len slice.dst.now);
+      room = omega (
+        arith,
+        c.min-most.ensures,
+        c.min.ensures,
+        length-take (length slice.dst.now - slice.len)
+            (drop slice.len slice.dst.now),
+        length-drop slice.len slice.dst.now,
+      );
     }
 
 pub returns : goal.returns
@@ -34,7 +42,12 @@ returns c =
     let e = c.write_units-written.ensures in
     let part = take (length slice.dst.now - slice.len) (drop slice.len slice.dst.now) in
     let long : length part ≡ length slice.dst.now - slice.len =
-    omega (arith, length-take (length slice.dst.now - slice.len) (drop slice.len slice.dst.now), length-drop slice.len slice.dst.now) in
+    omega (
+      arith,
+      length-take (length slice.dst.now - slice.len)
+          (drop slice.len slice.dst.now),
+      length-drop slice.len slice.dst.now,
+    ) in
     let within : n ≤ length slice.dst.now - slice.len = omega (arith, e.bound) in
     let read : n ≤ length new = omega (arith, e.bound, e.len) in
     let copied : new ≡ take n new ++ drop n part = sym (take-append-drop n new) ∙ ap (λ z. take n new ++ z) e.rest in
