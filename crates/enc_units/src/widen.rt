@@ -37,7 +37,7 @@ pub(crate) fn widen_ascii(src: &[u8], dst: &mut [u16]) -> usize
 }
 
 /// Whether at most four of the next 64 bytes are beyond ASCII. Such text is faster as ASCII and
-/// single characters.
+/// single characters. It is a guess: the output is the same either way.
 #[inline(always)]
 pub(crate) fn is_nearly_ascii(src: &[u8]) -> bool {
     if src.len() < 64 {
