@@ -1,5 +1,5 @@
-//! Well-formed UTF-8 as UTF-16, sixteen bytes at a time. There is no branch on which characters have
-//! one, two or three bytes.
+//! Well-formed UTF-8 as UTF-16, sixteen bytes at a time. There is no branch on which characters
+//! have one, two or three bytes.
 
 ghost use Rattle.std.specs.Prelude.{◌≡◌, ℕ, ◌+◌, ◌-◌, ◌/◌, ◌%◌, ◌^◌, ◌<◌, ◌≤◌, ◌++◌, []};
 ghost use Rattle.std.specs.Prelude.{map, length, take, drop, slice_index, IsTrue, if◌then◌else◌};
