@@ -15,7 +15,7 @@ utf_8_determines t u s r e = encodes_same t u (sym (their_units t) ∙ e ∙ the
 
 -- UTF-16: one unit, or two
 
-scalar_range : (c : ℕ) → IsScalar c → InScalarRange c
+pub scalar_range : (c : ℕ) → IsScalar c → InScalarRange c
 scalar_range c h = grind (arith, nat_tests)
 
 pub one_unit : (c : ℕ) → c < 0x1_0000 → encode_utf16 c ≡ c ∷ []

@@ -38,7 +38,8 @@ pub ascii_char : (b : ℕ) → b < 0x80 → IsUtf8Char (b ∷ []) b
 ascii_char b h = (low_scalar b (omega arith), sym (encode_ascii b h))
 
 -- they are read
-reads_utf8 : (src : List ℕ) (n : ℕ) → n ≤ length src → (u : IsWellFormedUtf8 (take n src)) → Reads IsUtf8Char src n u.0
+pub reads_utf8 : (src : List ℕ) (n : ℕ) → n ≤ length src → (u : IsWellFormedUtf8 (take n src))
+    → Reads IsUtf8Char src n u.0
 reads_utf8 src n l u = record {
   pieces = pieces_of u.0;
   within = l;

@@ -1,9 +1,13 @@
 -- Sixteen lanes of bytes and of the three before each.
-use Rattle.std.proofs.Common.{true≢false, le-leb, leb-true, ltb-true, ◌≡◌, ℕ, suc, ◌+◌, ◌-◌, ◌%◌, ◌^◌, ◌<◌, ◌≤◌, Bool, true, false, not, ◌||◌, ◌&&◌, cond, eqb, leb, ltb, List, map, length, get_or, replicate, bit_and, bit_or, bit_xor, refl, ap, ◌∙◌, sym, subst, arith, eqb-true}
+use Rattle.std.proofs.Common.{true≢false, le-leb, leb-true, ltb-true, ◌≡◌, ℕ, suc, ◌+◌, ◌-◌, ◌/◌, ◌%◌, ◌^◌, ◌<◌, ◌≤◌}
+use Rattle.std.proofs.Common.{Bool, true, false, not, ◌||◌, ◌&&◌, cond, eqb, leb, ltb, List, map, length, get_or}
+use Rattle.std.proofs.Common.{replicate, bit_and, bit_or, bit_xor, refl, ap, ◌∙◌, sym, subst, arith, eqb-true}
 use Rattle.std.proofs.lemmas.Bool.{and_parts}
 use Rattle.std.proofs.lemmas.Bool.Decides.{nat_tests}
+use Rattle.std.proofs.lemmas.List.{get_or-map}
 use Rattle.std.proofs.lemmas.List.FromFn.{get_or-range_with_len}
-use Rattle.std.proofs.lemmas.Simd.{map-map, mask_l-mod, zip2_of_maps, splat_is_map, pick_l_whole, none_from_empty_mask, get_or-chunk}
+use Rattle.std.proofs.lemmas.Simd.{map-map, mask_l-mod, zip2_of_maps, splat_is_map, pick_l_whole}
+use Rattle.std.proofs.lemmas.Simd.{none_from_empty_mask, get_or-chunk, bit_mask_l}
 use Rattle.std.specs.List.{range_with_len}
 use lib.Lanes.{zip2, mask_l, top, chunk, sel_l}
 use Rattle.enc_units.specs.Utf8Run.{Follows, FollowsAt}
@@ -81,12 +85,28 @@ pub same_as : {t : ℕ → Bool} {m : List ℕ} (a b : ℕ) (vs : List ℕ) → 
 same_as {t} {m} a b vs long p = record { is = zip2_of_maps (λ a b. flag (eqb a b)) (λ k. get_or vs k 0) (λ k. cond (t k) a b) places (lanes vs long) (chosen a b p) }
 
 -- where no lane is set
-none_set : (m : List ℕ) (t : ℕ → Bool) → IsFlags m t → eqb (mask_l (map (top 7) m) % 2 ^ 64) 0 ≡ true → (k : ℕ) → k < 16 → t k ≡ false
+pub none_set : (m : List ℕ) (t : ℕ → Bool) → IsFlags m t → eqb (mask_l (map (top 7) m) % 2 ^ 64) 0 ≡ true → (k : ℕ)
+    → k < 16 → t k ≡ false
 none_set m t p e k h =
     let tops : map (top 7) m ≡ map t places = ap (map (top 7)) p.is ∙ map-map (top 7) (λ j. flag (t j)) places ∙ ap (λ g. map g places) (λ i j. top_flag (t j) i) in
     let empty : mask_l (map t places) ≡ 0 = sym (mask_l-mod (map t places) 64 (omega arith)) ∙ ap (λ l. mask_l l % 2 ^ 64) (sym tops) ∙ eqb-true _ _ e in
     let place : k ≡ 0 + k = omega arith in
     ap t (place ∙ sym (get_or-range_with_len 0 16 k 0 h)) ∙ none_from_empty_mask t places 0 16 0 (omega arith) empty k (omega arith) (omega arith)
+
+-- a bit of the mask
+pub flag_bit : (m : List ℕ) (t : ℕ → Bool) → IsFlags m t → (k : ℕ) → k < 16
+    → mask_l (map (top 7) m) % 2 ^ 64 / 2 ^ k % 2 ≡ cond (t k) 1 0
+flag_bit m t p k h =
+    let tops : map (top 7) m ≡ map t places =
+    ap (map (top 7)) p.is ∙ map-map (top 7) (λ j. flag (t j)) places
+    ∙ ap (λ (g : ℕ → Bool). map g places) (λ i j. top_flag (t j) i) in
+    let lane : get_or (map t places) k false ≡ t k =
+    get_or-map t places k 0 false (omega arith) ∙ ap t (get_or-range_with_len 0 16 k 0 h ∙ place) in
+    ap (λ l. mask_l l % 2 ^ 64 / 2 ^ k % 2) tops ∙ ap (λ x. x / 2 ^ k % 2) (mask_l-mod (map t places) 64 (omega arith))
+    ∙ bit_mask_l (map t places) k ∙ ap (λ u. cond u 1 0) lane
+  where
+    place : 0 + k ≡ k
+    place = omega arith
 
 -- ---- the test of a byte
 

@@ -5,9 +5,8 @@ ghost use Rattle.std.specs.Char.{IsScalar};
 ghost use Rattle.std.specs.Char.Escape.{encode_utf16};
 ghost use Rattle.enc_units.specs.AsciiRun.{PutsAscii};
 ghost use Rattle.enc_units.specs.Output.{DetermineTexts, appended, slice_output};
-ghost use Rattle.enc_units.specs.Pieces.{PutsPieces};
+ghost use Rattle.enc_units.specs.Pieces.{PutsPieces, IsUtf8Char};
 
-use crate::ascii::ascii_len;
 use crate::byte_units::ByteUnits;
 use crate::code_units::CodeUnits;
 use crate::gather::{Gather, SHORT, UNITS_BUFFER};
@@ -15,7 +14,13 @@ use crate::laws::utf_16_units_determine_a_text;
 use crate::pairs::Pairs;
 use crate::pieces::Pieces;
 use crate::units::Units;
+use crate::utf8::{char_len, utf8_front};
 use crate::utf8_pieces::Utf8Pieces;
+use crate::utf8_units::write_units;
+use crate::widen::{is_nearly_ascii, widen_ascii};
+
+/// The number of bytes of UTF-8 that are looked at before they are written: few enough to be in the nearest cache then.
+const PART: usize = 4096;
 
 /// A table is made for a run of so many bytes.
 const LONG: usize = 1024;
@@ -73,10 +78,7 @@ impl<'a> Utf16Slice<'a> {
             (slice_output self.old.len self.old.dst.now self.old.dst.ghost_name)
             (slice_output self.new.len self.new.dst.now self.new.dst.ghost_name) src.now result }
     {
-        let most = src.len().min(self.dst.len() - self.len);
-        let (front, _) = src.split_at(most);
-        let len = ascii_len(front);
-        widen(&src[..len], &mut self.dst[self.len..]);
+        let len = widen_ascii(src, &mut self.dst[self.len..]);
         self.len += len;
         len
     }
@@ -171,6 +173,82 @@ impl<'a> Utf16Slice<'a> {
         0
     }
 
+    /// Writes well-formed UTF-8 in front, as much as is seen in a part, and returns how much: none
+    /// of a short one.
+    #[inline(always)]
+    fn append_part(&mut self, src: &[u8]) -> usize
+        ensures { PutsPieces encode_utf16 IsUtf8Char
+            (slice_output self.old.len self.old.dst.now self.old.dst.ghost_name)
+            (slice_output self.new.len self.new.dst.now self.new.dst.ghost_name) src.now result }
+    {
+        if src.len() < SHORT {
+            return 0;
+        }
+        let most = (src.len() - 2).min(self.dst.len() - self.len).min(PART);
+        let taken = utf8_front(&src[..most]);
+        if taken < SHORT {
+            return 0;
+        }
+        let written = write_units(&mut self.dst[self.len..], src, taken);
+        self.len += written;
+        taken
+    }
+
+    /// Writes the character in front, if it is well-formed UTF-8 and fits, and returns how many
+    /// bytes it has.
+    #[inline(always)]
+    fn append_char(&mut self, src: &[u8]) -> usize
+        ensures { PutsPieces encode_utf16 IsUtf8Char
+            (slice_output self.old.len self.old.dst.now self.old.dst.ghost_name)
+            (slice_output self.new.len self.new.dst.now self.new.dst.ghost_name) src.now result }
+    {
+        if src.len() == 0 {
+            return 0;
+        }
+        let Some((character, len)) = (Utf8Pieces {}).piece(src, 0) else {
+            return 0;
+        };
+        if !self.append(character) {
+            return 0;
+        }
+        len
+    }
+
+    /// Writes well-formed UTF-8 in front, a part or the first character of nearly ASCII text, and
+    /// returns how much.
+    #[inline(always)]
+    fn append_some(&mut self, src: &[u8]) -> usize
+        ensures { PutsPieces encode_utf16 IsUtf8Char
+            (slice_output self.old.len self.old.dst.now self.old.dst.ghost_name)
+            (slice_output self.new.len self.new.dst.now self.new.dst.ghost_name) src.now result }
+    {
+        if is_nearly_ascii(src) {
+            return self.append_char(src);
+        }
+        self.append_part(src)
+    }
+
+    /// Writes well-formed UTF-8 in front, part by part with the ASCII after each, then one by one,
+    /// and returns how much.
+    #[inline(never)]
+    fn append_utf8(&mut self, src: &[u8]) -> usize
+        ensures { PutsPieces encode_utf16 IsUtf8Char
+            (slice_output self.old.len self.old.dst.now self.old.dst.ghost_name)
+            (slice_output self.new.len self.new.dst.now self.new.dst.ghost_name) src.now result }
+    {
+        let mut at = 0;
+        loop {
+            let (_, rest) = src.split_at(at);
+            let taken = self.append_some(rest);
+            at += taken;
+            let (_, next) = src.split_at(at);
+            if taken == 0 {
+                return at + self.append_each(Utf8Pieces {}, next);
+            }
+            at += self.append_ascii(next);
+        }
+    }
+
     /// Writes the characters in front one by one, but ASCII as runs, and answers how many bytes they have. It leaves off
     /// where no character is known to begin, or the next one doesn't fit.
     #[inline(always)]
@@ -199,19 +277,6 @@ impl<'a> Utf16Slice<'a> {
             at += len;
         }
         at
-    }
-}
-
-/// Stores bytes as code units.
-#[inline(always)]
-fn widen(src: &[u8], dst: &mut [u16])
-    requires { length src.now ≤ length dst.old }
-    ensures { dst.new ≡ src.now ++ drop (length src.now) dst.old }
-{
-    let mut at = 0;
-    while at < src.len() {
-        dst[at] = src[at] as u16;
-        at += 1;
     }
 }
 
@@ -250,8 +315,15 @@ impl<'a> Units for Utf16Slice<'a> {
         self.append_ascii(src)
     }
 
+    #[inline(always)]
     fn put_utf8(&mut self, src: &[u8]) -> usize {
-        self.append_each(Utf8Pieces {}, src)
+        let at = self.append_ascii(src);
+        let (_, rest) = src.split_at(at);
+        // bytes that begin no character cost little
+        if char_len(rest) == 0 {
+            return at;
+        }
+        at + self.append_utf8(rest)
     }
 
     #[inline(always)]

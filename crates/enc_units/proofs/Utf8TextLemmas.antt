@@ -1,0 +1,169 @@
+-- The code units that the bytes of a text in UTF-8 give are its UTF-16.
+use Rattle.std.proofs.Common.{◌≡◌, ℕ, zero, suc, ◌+◌, ◌-◌, ◌/◌, ◌%◌, ◌<◌, ◌≤◌, true, false, List, [], ◌∷◌, ◌++◌, inl}
+use Rattle.std.proofs.Common.{inr}
+use Rattle.std.proofs.Common.{length, get_or, take, drop, refl, ap, ◌∙◌, sym, subst, arith, drop-cons, length-take}
+use Rattle.std.proofs.lemmas.Bool.{and_parts, cases_lt}
+use Rattle.std.proofs.lemmas.Bool.Decides.{nat_tests}
+use Rattle.std.proofs.lemmas.Str.{encode_ascii}
+use Rattle.std.specs.Char.{IsScalar, encode_utf8}
+use Rattle.std.specs.Char.Escape.{encode_utf16}
+use Rattle.enc_units.specs.Output.{AreScalars, units_of_text}
+use Rattle.enc_units.specs.Validity.{IsWellFormedUtf8}
+use Rattle.enc_units.specs.Gathering.{Gathers}
+use Rattle.enc_units.specs.Pieces.{IsUtf8Char}
+use Rattle.enc_units.specs.Utf8Units.{gives_unit, code_unit, two_before, unit_at, units_from}
+use Rattle.enc_units.proofs.GatherLemmas.{utf8_two, utf8_three, utf8_four}
+use Rattle.enc_units.proofs.UnitsLemmas.{one_unit, two_units, scalar_range}
+use Rattle.enc_units.proofs.Utf8CharsLemmas.{their_units, reads_utf8}
+use Rattle.enc_units.proofs.Utf8UnitsLemmas.{if_one, low_unit}
+
+-- the units of single bytes
+
+gives_one : (z a b w c : ℕ) → gives_unit z a ≡ true → code_unit a b w ≡ c
+    → if_one (gives_unit z a) (code_unit a b w) ≡ c ∷ []
+gives_one z a b w c g e = ap (λ t. if_one t (code_unit a b w)) g ∙ ap (λ x. x ∷ []) e
+
+gives_none : (z b u : ℕ) → z < 0xF0 → (0x80 ≤ b) × (b < 0xC0) → if_one (gives_unit z b) u ≡ []
+gives_none z b u h f = let none : gives_unit z b ≡ false = grind (arith, nat_tests) in ap (λ t. if_one t u) none
+
+of_two : (z w c : ℕ) → 0x80 ≤ c → c < 0x800
+    → if_one (gives_unit z (192 + c / 64)) (code_unit (192 + c / 64) (128 + c % 64) w) ≡ c ∷ []
+of_two z w c l h = gives_one z (192 + c / 64) (128 + c % 64) w c (grind (arith, nat_tests)) (grind (arith, nat_tests))
+
+of_three : (z c : ℕ) → 0x800 ≤ c → c < 0x1_0000
+    → if_one (gives_unit z (224 + c / 4096)) (code_unit (224 + c / 4096) (128 + c / 64 % 64) (128 + c % 64)) ≡ c ∷ []
+of_three z c l h = gives_one z (224 + c / 4096) (128 + c / 64 % 64) (128 + c % 64) c (grind (arith, nat_tests))
+    (grind (arith, nat_tests))
+
+of_four : (z c : ℕ) → 0x1_0000 ≤ c → c < 0x11_0000
+    → if_one (gives_unit z (240 + c / 262144))
+    (code_unit (240 + c / 262144) (128 + c / 4096 % 64) (128 + c / 64 % 64)) ≡ (0xD800 + (c - 0x1_0000) / 0x400) ∷ []
+of_four z c l h =
+    gives_one z (240 + c / 262144) (128 + c / 4096 % 64) (128 + c / 64 % 64) (0xD800 + (c - 0x1_0000) / 0x400)
+    (grind (arith, nat_tests)) (grind (arith, nat_tests))
+
+of_second : (z w c : ℕ) → 0xF0 ≤ z → 0x1_0000 ≤ c → c < 0x11_0000
+    → if_one (gives_unit z (128 + c / 64 % 64)) (code_unit (128 + c / 64 % 64) (128 + c % 64) w)
+    ≡ (0xDC00 + (c - 0x1_0000) % 0x400) ∷ []
+of_second z w c g l h =
+    gives_one z (128 + c / 64 % 64) (128 + c % 64) w (0xDC00 + (c - 0x1_0000) % 0x400) (grind (arith, nat_tests))
+    (grind (arith, nat_tests))
+
+scalar_below : (c : ℕ) → IsScalar c → c < 0x11_0000
+scalar_below c i = elim (scalar_range c i) [ inl h ↦ omega arith | inr h ↦ omega (arith, h.1) ]
+
+-- bytes that stand at a place
+
+abbrev Stand : List ℕ → ℕ → List ℕ → Type 0
+Stand src at [] = Unit {0}
+Stand src at (x ∷ xs) = (get_or src at 0 ≡ x) × Stand src (suc at) xs
+
+stands : (src : List ℕ) (at n : ℕ) → at + n ≤ length src → Stand src at (take n (drop at src))
+stands src at zero h = tt
+stands src at (suc n) h =
+    subst (λ z. Stand src at (take (suc n) z)) (sym (drop-cons src at 0 (omega arith)))
+    (refl, stands src (suc at) n (omega arith))
+
+-- the units of a text
+
+abbrev Gives : List ℕ → List ℕ → Type 0
+Gives src t =
+    (at : ℕ) → two_before src at < 0xF0 → two_before src (suc at) < 0xF0 → Stand src at (units_of_text encode_utf8 t)
+    → units_from src at (length (units_of_text encode_utf8 t)) ≡ units_of_text encode_utf16 t
+
+module _ (src : List ℕ) (c : ℕ) (t : List ℕ) (rest : Gives src t) (at : ℕ) (y : two_before src at < 0xF0)
+    (x : two_before src (suc at) < 0xF0) where
+  abbrev bytes : List ℕ
+  bytes = units_of_text encode_utf8 t
+
+  abbrev Goal : List ℕ → List ℕ → Type 0
+  Goal utf8 utf16 = Stand src at (utf8 ++ bytes)
+      → units_from src at (length (utf8 ++ bytes)) ≡ utf16 ++ units_of_text encode_utf16 t
+
+  one_byte : c < 0x80 → Goal (c ∷ []) (c ∷ [])
+  one_byte h s =
+      let first : unit_at src at ≡ c ∷ [] = rw s.0 (low_unit (two_before src at) c _ _ h) in
+      ap (λ z. z ++ units_from src (suc at) (length bytes)) first
+      ∙ ap (λ z. c ∷ z) (rest (suc at) x (omega (arith, s.0)) s.1)
+
+  two_bytes : 0x80 ≤ c → c < 0x800 → Goal ((192 + c / 64) ∷ (128 + c % 64) ∷ []) (c ∷ [])
+  two_bytes l h s =
+      let first : unit_at src at ≡ c ∷ [] = rw (s.0, s.1.0) (of_two (two_before src at) _ c l h) in
+      let second : unit_at src (suc at) ≡ [] =
+      gives_none (two_before src (suc at)) (get_or src (suc at) 0) _ x (omega (arith, s.1.0)) in
+      ap (λ z. z ++ (unit_at src (suc at) ++ units_from src (suc (suc at)) (length bytes))) first
+      ∙ ap (λ z. c ∷ (z ++ units_from src (suc (suc at)) (length bytes))) second
+      ∙ ap (λ z. c ∷ z) (rest (suc (suc at)) (omega (arith, s.0)) (omega (arith, s.1.0)) s.1.1)
+
+  three_bytes : 0x800 ≤ c → c < 0x1_0000 → Goal ((224 + c / 4096) ∷ (128 + c / 64 % 64) ∷ (128 + c % 64) ∷ []) (c ∷ [])
+  three_bytes l h s =
+      let first : unit_at src at ≡ c ∷ [] = rw (s.0, s.1.0, s.1.1.0) (of_three (two_before src at) c l h) in
+      let second : unit_at src (suc at) ≡ [] =
+      gives_none (two_before src (suc at)) (get_or src (suc at) 0) _ x (omega (arith, s.1.0)) in
+      let third : unit_at src (suc (suc at)) ≡ [] =
+      gives_none (get_or src at 0) (get_or src (suc (suc at)) 0) _ (omega (arith, s.0))
+      (omega (arith, s.1.1.0)) in
+      ap (λ z. z ++ (unit_at src (suc at)
+      ++ (unit_at src (suc (suc at)) ++ units_from src (suc (suc (suc at))) (length bytes)))) first
+      ∙ ap (λ z. c ∷ (z ++ (unit_at src (suc (suc at)) ++ units_from src (suc (suc (suc at))) (length bytes)))) second
+      ∙ ap (λ z. c ∷ (z ++ units_from src (suc (suc (suc at))) (length bytes))) third
+      ∙ ap (λ z. c ∷ z) (rest (suc (suc (suc at))) (omega (arith, s.1.0)) (omega (arith, s.1.1.0)) s.1.1.1)
+
+  four_bytes : 0x1_0000 ≤ c → c < 0x11_0000
+      → Goal ((240 + c / 262144) ∷ (128 + c / 4096 % 64) ∷ (128 + c / 64 % 64) ∷ (128 + c % 64) ∷ [])
+      ((0xD800 + (c - 0x1_0000) / 0x400) ∷ (0xDC00 + (c - 0x1_0000) % 0x400) ∷ [])
+  four_bytes l h s =
+      let high = 0xD800 + (c - 0x1_0000) / 0x400 in
+      let low = 0xDC00 + (c - 0x1_0000) % 0x400 in
+      let last = suc (suc (suc at)) in
+      let first : unit_at src at ≡ high ∷ [] = rw (s.0, s.1.0, s.1.1.0) (of_four (two_before src at) c l h) in
+      let second : unit_at src (suc at) ≡ [] =
+      gives_none (two_before src (suc at)) (get_or src (suc at) 0) _ x (omega (arith, s.1.0)) in
+      let third : unit_at src (suc (suc at)) ≡ low ∷ [] =
+      rw (s.1.1.0, s.1.1.1.0) (of_second (get_or src at 0) _ c (omega (arith, s.0)) l h) in
+      let fourth : unit_at src last ≡ [] =
+      gives_none (get_or src (suc at) 0) (get_or src last 0) _ (omega (arith, s.1.0))
+      (omega (arith, s.1.1.1.0)) in
+      ap (λ z. z ++ (unit_at src (suc at)
+      ++ (unit_at src (suc (suc at)) ++ (unit_at src last ++ units_from src (suc last) (length bytes))))) first
+      ∙ ap (λ z. high ∷ (z ++ (unit_at src (suc (suc at))
+      ++ (unit_at src last ++ units_from src (suc last) (length bytes))))) second
+      ∙ ap (λ z. high ∷ (z ++ (unit_at src last ++ units_from src (suc last) (length bytes)))) third
+      ∙ ap (λ z. high ∷ low ∷ (z ++ units_from src (suc last) (length bytes))) fourth
+      ∙ ap (λ z. high ∷ low ∷ z) (rest (suc last) (omega (arith, s.1.1.0)) (omega (arith, s.1.1.1.0)) s.1.1.1.1)
+
+  along : {u v u' v' : List ℕ} → u ≡ u' → v ≡ v' → Goal u' v' → Goal u v
+  along {u} {v} {u'} {v'} p q g = subst (λ z. Goal z v) (sym p) (subst (Goal u') (sym q) g)
+
+  one_more : IsScalar c → Goal (encode_utf8 c) (encode_utf16 c)
+  one_more i = elim (cases_lt c 0x80) [
+    | inl h ↦ along (encode_ascii c h) (one_unit c (omega arith)) (one_byte h)
+    | inr l ↦ elim (cases_lt c 0x800) [
+      | inl h ↦ along (utf8_two c l h) (one_unit c (omega arith)) (two_bytes l h)
+      | inr m ↦ elim (cases_lt c 0x1_0000) [
+        | inl h ↦ along (utf8_three c m h) (one_unit c h) (three_bytes m h)
+        | inr n ↦ along (utf8_four c n) (two_units c n) (four_bytes n (scalar_below c i))
+      ]
+    ]
+  ]
+
+pub units_of_utf8 : (src t : List ℕ) → AreScalars t → Gives src t
+units_of_utf8 src [] a at y x s = refl
+units_of_utf8 src (c ∷ t) a at y x s = let p =
+    and_parts _ _ a in one_more src c t (units_of_utf8 src t p.1) at y x p.0 s
+
+-- well-formed bytes in front are gathered as their code units
+pub gathers_units : (src : List ℕ) (n : ℕ) (after : List ℕ) → n ≤ length src → IsWellFormedUtf8 (take n src)
+    → after ≡ units_from src 0 n
+    → Gathers encode_utf16 IsUtf8Char src n [] after
+gathers_units src n after l u e =
+    let bytes : units_of_text encode_utf8 u.0 ≡ take n src = their_units u.0 ∙ u.1.1 in
+    let long : length (units_of_text encode_utf8 u.0) ≡ n = omega (arith, ap length bytes, length-take n src) in
+    record {
+      text = u.0;
+      scalars = u.1.0;
+      reads = reads_utf8 src n l u;
+      written = e ∙ sym (ap (units_from src 0) long)
+          ∙ units_of_utf8 src u.0 u.1.0 0 (omega arith) (omega arith)
+          (subst (Stand src 0) (sym bytes) (stands src 0 n (omega arith)));
+    }

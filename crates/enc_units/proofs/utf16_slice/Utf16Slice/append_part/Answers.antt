@@ -1,0 +1,55 @@
+use Rattle.std.proofs.Common.{◌≡◌, ◌-◌, ◌≤◌, length, take, drop, ap, ◌∙◌, ◌++◌, sym, subst, arith, length-take}
+use Rattle.std.proofs.Common.{length-drop, take-append-drop}
+use Rattle.std.proofs.lemmas.List.{take-take}
+use Rattle.enc_units.specs.Validity.{IsWellFormedUtf8}
+use Rattle.enc_units.proofs.GatherLemmas.{puts_gathered}
+use Rattle.enc_units.proofs.PiecesLemmas.{start}
+use Rattle.enc_units.proofs.Utf8SliceLemmas.{grown}
+use Rattle.enc_units.proofs.utf16_slice.Utf16Slice.append_part.Goals as goal
+
+pub returns-then-src-lt-SHORT : goal.returns-then-src-lt-SHORT
+returns-then-src-lt-SHORT c = start _ _ _ _
+
+pub returns-then-taken-lt-SHORT : goal.returns-then-taken-lt-SHORT
+returns-then-taken-lt-SHORT c = start _ _ _ _
+
+pub write_units-written-requires : goal.write_units-written-requires
+write_units-written-requires c =
+    let slice = c.args.self.now in
+    let src = c.args.src.now in
+    let n = c.utf8_front-taken.result in
+    let seen = c.utf8_front-taken.ensures in
+    let most = c.min-most.result in
+    let few : n ≤ most = omega (arith, seen.within, length-take most src) in
+    record {
+      utf8 = subst IsWellFormedUtf8 (take-take n most src few) seen.utf8;
+      after = omega (arith, c.min-most.ensures, c.min.ensures);
+      room = omega (
+        arith,
+        c.min-most.ensures,
+        c.min.ensures,
+        length-take (length slice.dst.now - slice.len)
+            (drop slice.len slice.dst.now),
+        length-drop slice.len slice.dst.now,
+      );
+    }
+
+pub returns : goal.returns
+returns c =
+    let slice = c.args.self.now in
+    let n = c.write_units-written.result in
+    let new = c.write_units-written.new.dst in
+    let e = c.write_units-written.ensures in
+    let part = take (length slice.dst.now - slice.len) (drop slice.len slice.dst.now) in
+    let long : length part ≡ length slice.dst.now - slice.len =
+    omega (
+      arith,
+      length-take (length slice.dst.now - slice.len)
+          (drop slice.len slice.dst.now),
+      length-drop slice.len slice.dst.now,
+    ) in
+    let within : n ≤ length slice.dst.now - slice.len = omega (arith, e.bound) in
+    let read : n ≤ length new = omega (arith, e.bound, e.len) in
+    let copied : new ≡ take n new ++ drop n part = sym (take-append-drop n new) ∙ ap (λ z. take n new ++ z) e.rest in
+    puts_gathered _ _ _ _ _ _ (take n new) e.gathers (omega (arith, length-take n new))
+    (grown slice.len n slice.dst.now new new slice.dst.ghost_name (omega arith) read within copied)

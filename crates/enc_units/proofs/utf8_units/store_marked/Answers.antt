@@ -1,0 +1,14 @@
+use Rattle.std.proofs.Common.{◌%◌, arith}
+use Rattle.enc_units.proofs.MarkedLemmas.{row_is, row_long, stores_marked}
+use Rattle.enc_units.proofs.utf8_units.store_marked.Goals as goal
+
+pub pick-requires : goal.pick-requires
+pick-requires c = (row_is (c.args.marks % 0x100) (omega arith)).within
+
+pub returns-clause-stored : goal.returns-clause-stored
+returns-clause-stored c =
+    let a = c.args in
+    let mask = a.marks % 0x100 in
+    stores_marked a.at a.marks a.units _ _ a.buffer.now c.requires c.fits-units.0 c.fits-units.1
+    (row_long mask (omega arith)) (row_is mask (omega arith))
+    c.pick.ensures

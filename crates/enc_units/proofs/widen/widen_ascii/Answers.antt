@@ -1,0 +1,22 @@
+use Rattle.std.proofs.Common.{◌∙◌, ap, arith}
+use lib.Lanes.{put_chunk}
+use Rattle.enc_units.proofs.AsciiLemmas.{ascii_more, ascii_one, copied_more, copied_one}
+use Rattle.enc_units.proofs.Utf8UnitsLemmas.{same_bytes}
+use Rattle.enc_units.proofs.widen.widen_ascii.Goals as goal
+
+pub loop-at-preserved : goal.loop-at-preserved
+loop-at-preserved c =
+    let i = c.loop-at.invariant in (
+      omega arith,
+      ascii_more _ _ _ i.1 (c.are_ascii.ensures c.if-not-are_ascii.false),
+      ap (put_chunk c.loop-at.at c.loop-at.dst) (same_bytes _)
+          ∙ copied_more c.loop-at.at 16 c.args.src.now c.loop-at.dst c.args.dst.now (omega arith) (omega arith) i.2,
+    )
+
+pub loop-at-2-preserved : goal.loop-at-2-preserved
+loop-at-2-preserved c =
+    let i = c.loop-at-2.invariant in (
+      omega arith,
+      ascii_one _ _ i.1 (omega arith) (omega arith),
+      copied_one c.loop-at-2.at c.args.src.now c.loop-at-2.dst c.args.dst.now (omega arith) (omega arith) i.2,
+    )
