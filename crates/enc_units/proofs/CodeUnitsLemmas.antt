@@ -4,7 +4,7 @@ use Rattle.std.proofs.Common.{get_or, drop, length-drop}
 use Rattle.std.proofs.Common.{take, refl, ap, ◌∙◌, sym, subst, arith, inl, inr, append_assoc, append-nil, length-take}
 use Rattle.std.proofs.lemmas.Bool.{and_parts, cases_lt, lt-ltb, le-ltb}
 use Rattle.std.proofs.lemmas.List.{take_all}
-use Rattle.std.proofs.lemmas.Simd.{take_more_put_chunk}
+use Rattle.std.proofs.lemmas.Simd.{take_more_put_chunk, length-put_chunk}
 use Rattle.std.proofs.lemmas.Str.{encode_ascii}
 use Rattle.std.proofs.Math.Seq.{take-suc}
 use Rattle.std.specs.Char.{encode_utf8}
@@ -184,7 +184,7 @@ module _ (Means : List ℕ → ℕ → Type 0) (big : Bool) (mean : AreCodeUnits
       gathers_units encode_utf8 n src units before after h l e s (w ∙ ap (λ z. before ++ z) (t n))
 
   -- the same in UTF-16, where all eight are stored as they are
-  pub gathers_lanes : (n at read : ℕ) (src units buffer : List ℕ) → n ≤ 8 → 32 ≤ length src - read → at + 8 ≤ length buffer
+  pub gathers_lanes : (n at read : ℕ) (src units buffer : List ℕ) → n ≤ 8 → 16 ≤ length src - read → at + 8 ≤ length buffer
       → units ≡ units_of_bytes big (take 16 (drop read src)) → AreScalars (take n units)
       → units_of_text encode_utf16 (take n units) ≡ take n units → Gathers encode_utf16 Means src read [] (take at buffer)
       → Gathers encode_utf16 Means src (read + 2 * n) [] (take (at + n) (put_chunk at buffer units))
@@ -196,3 +196,20 @@ module _ (Means : List ℕ → ℕ → Type 0) (big : Bool) (mean : AreCodeUnits
       gathers_then encode_utf16 Means src read (2 * n) [] (take at buffer) _ p
       (gathers_units encode_utf16 n rest units (take at buffer) _ few long e s
       (stored_lanes at n buffer units (omega (arith, eight)) (omega (arith, eight)) ∙ ap (λ z. take at buffer ++ z) (sym alone)))
+
+  -- sixteen of them
+  pub gathers_both : (at read : ℕ) (src units more buffer : List ℕ) → 32 ≤ length src - read → at + 16 ≤ length buffer
+      → units ≡ units_of_bytes big (take 16 (drop read src)) → AreScalars (take 8 units)
+      → units_of_text encode_utf16 (take 8 units) ≡ take 8 units
+      → more ≡ units_of_bytes big (take 16 (drop (read + 16) src)) → AreScalars (take 8 more)
+      → units_of_text encode_utf16 (take 8 more) ≡ take 8 more → Gathers encode_utf16 Means src read [] (take at buffer)
+      → Gathers encode_utf16 Means src (read + 32) [] (take (at + 16) (put_chunk (at + 8) (put_chunk at buffer units) more))
+  gathers_both at read src units more buffer inside room e s alone f t alone_too p =
+      let first = put_chunk at buffer units in
+      let both = put_chunk (at + 8) first more in
+      let read_all : read + 16 + 2 * 8 ≡ read + 32 = omega arith in
+      let put_all : at + 8 + 8 ≡ at + 16 = omega arith in
+      subst (λ k. Gathers encode_utf16 Means src k [] (take (at + 16) both)) read_all
+      (subst (λ k. Gathers encode_utf16 Means src (read + 16 + 2 * 8) [] (take k both)) put_all
+      (gathers_lanes 8 (at + 8) (read + 16) src more first (omega arith) (omega arith) (omega (arith, length-put_chunk at buffer units)) f t alone_too
+      (gathers_lanes 8 at read src units buffer (omega arith) (omega arith) (omega arith) e s alone p)))

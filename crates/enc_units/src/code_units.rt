@@ -40,6 +40,18 @@ fn are_ascii_units(units: u16x8) -> bool
     units.simd_ge(u16x8::splat(0x80)).to_bitmask() == 0
 }
 
+/// Whether none of eight code units is a surrogate.
+#[inline(always)]
+fn are_scalars(units: u16x8) -> bool
+    ensures scalars { IsTrue result → AreScalars (take 8 units) }
+    ensures alone { (n : ℕ) → units_of_text encode_utf16 (take n units) ≡ take n units }
+{
+    (units >> u16x8::splat(11))
+        .simd_eq(u16x8::splat(27))
+        .to_bitmask()
+        == 0
+}
+
 /// How many of eight code units stand before the first surrogate.
 #[inline(always)]
 fn units_before_surrogate(units: u16x8) -> usize
@@ -184,7 +196,14 @@ impl<P: Pieces> Gather for CodeUnits<P> {
         let mut written = 0;
         while written <= most && 32 <= src.len() - read {
             let units = units_in(u8x16::from_slice(&src[read..]), self.big_endian);
+            let more = units_in(u8x16::from_slice(&src[read + 16..]), self.big_endian);
             units.copy_to_slice(&mut buffer[written..]);
+            if are_scalars(units) & are_scalars(more) {
+                more.copy_to_slice(&mut buffer[written + 8..]);
+                read += 32;
+                written += 16;
+                continue;
+            }
             let count = units_before_surrogate(units);
             read += 2 * count;
             written += count;
