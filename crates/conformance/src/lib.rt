@@ -14,6 +14,8 @@ mod encodings;
 #[cfg(test)]
 mod ends;
 #[cfg(test)]
+mod long_texts;
+#[cfg(test)]
 mod one_shot;
 #[cfg(test)]
 mod outputs;

@@ -280,7 +280,8 @@ fn pair_place(is_pair: bool, first: u8, second: u8) -> usize
     ensures means { (c : ℕ) → grid_char grids.Jis0208 result ≡ Option.Some c
         → IsTrue is_pair × (in_jis0208 first ≡ true) × (two_byte_char first second ≡ Option.Some c) }
 {
-    let place = JIS0208_PLACES[first as usize] as usize + JIS0208_PLACES[0x100 + second as usize] as usize;
+    let place = JIS0208_PLACES[first as usize] as usize
+        + JIS0208_PLACES[0x100 + second as usize] as usize;
     if is_pair { place } else { EMPTY }
 }
 

@@ -75,7 +75,8 @@ impl DoubleByte for ShiftJis {
 
     #[inline(always)]
     fn pair_place(first: u8, second: u8) -> usize {
-        SHIFT_JIS_PLACES[first as usize] as usize + SHIFT_JIS_PLACES[0x100 + second as usize] as usize
+        SHIFT_JIS_PLACES[first as usize] as usize
+            + SHIFT_JIS_PLACES[0x100 + second as usize] as usize
     }
 
     #[tactic(auto, using(crate::proofs::PairLemmas::shift_jis_pairs))]
