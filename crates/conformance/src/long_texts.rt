@@ -13,7 +13,7 @@ use std::test::Fail;
 /// How many times each text is repeated.
 const TIMES: usize = 64;
 
-/// No text here takes so many calls.
+/// More calls than any text here takes.
 const MOST_CALLS: usize = 8192;
 
 /// An encoding, the bytes of a text, and the text.

@@ -1,5 +1,6 @@
 -- The entries of grids: the word of a character's UTF-8, and its UTF-16 unit.
-use Rattle.std.proofs.Common.{◌≡◌, ℕ, ◌/◌, Bool, true, false, refl, ◌&&◌, ◌==◌, nat_le, List, [], ◌∷◌, take, eqb-true, leb-true, Option, Some, subst, sym}
+use Rattle.std.proofs.Common.{◌≡◌, ℕ, ◌/◌, Bool, true, false, refl, ◌&&◌, ◌==◌, nat_le, List, [], ◌∷◌, take, eqb-true}
+use Rattle.std.proofs.Common.{leb-true, Option, Some, subst, sym}
 use Rattle.std.proofs.Math.Utf8.{scalar}
 use Rattle.std.proofs.lemmas.Bool.{and_parts}
 use Rattle.std.specs.Char.{IsScalar, encode_utf8}

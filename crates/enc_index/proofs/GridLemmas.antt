@@ -1,5 +1,7 @@
 -- Where the characters of a grid stand, and that a grid that fits the table of its index has them there.
-use Rattle.std.proofs.Common.{◌≡◌, ℕ, suc, ◌+◌, ◌-◌, ◌*◌, ◌/◌, ◌%◌, ◌<◌, ◌≤◌, Bool, true, refl, sym, ap, ◌∙◌, subst, cond, nat_lt, List, get_or, drop, length, Option, None, Some, arith, inl, inr, lt-ltb, le-ltb}
+use Rattle.std.proofs.Common.{◌≡◌, ℕ, suc, ◌+◌, ◌-◌, ◌*◌, ◌/◌, ◌%◌, ◌<◌, ◌≤◌, Bool, true, refl, sym, ap, ◌∙◌, subst}
+use Rattle.std.proofs.Common.{cond, nat_lt, List, get_or, drop, length, Option, None, Some, arith, inl, inr, lt-ltb}
+use Rattle.std.proofs.Common.{le-ltb}
 use Rattle.std.proofs.lemmas.Bool.{cond-true, cond-false, cases_lt}
 use Rattle.std.proofs.lemmas.List.{get_or_past}
 use Rattle.std.proofs.lemmas.Nat.{div-mul-add, mod-mul-add, div-add-mod'}
@@ -15,7 +17,8 @@ use Rattle.enc_index.specs.declared.data.jis0208.TheConstants.{JIS0208_TABLE}
 use Rattle.enc_index.specs.Grid.{grid_char, cell_char, grid_index, grid_rows, grid_width}
 use Rattle.enc_index.specs.Index.{index_at, entry_character}
 use Rattle.enc_index.specs.Runs.{planes_of, runs_of}
-use Rattle.enc_index.proofs.GridTests.{after_drop, rows_ok-last_of, rows_ok-at, entry_ok, byte_ok, places_ok, places_ok-byte, places_ok-rows, Found, byte_ok-found, entry_ok-found}
+use Rattle.enc_index.proofs.GridTests.{after_drop, rows_ok-last_of, rows_ok-at, entry_ok, byte_ok, places_ok}
+use Rattle.enc_index.proofs.GridTests.{places_ok-byte, places_ok-rows, Found, byte_ok-found, entry_ok-found}
 use Rattle.enc_index.proofs.MultiByteTables.{big5_table, euc_kr_table, gb18030_table, jis0208_table}
 
 -- where the characters of a grid stand

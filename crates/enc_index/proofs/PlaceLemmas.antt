@@ -1,5 +1,6 @@
 -- The places of two bytes in the grids have their characters.
-use Rattle.std.proofs.Common.{◌≡◌, ◌∙◌, ℕ, suc, zero, ◌+◌, ◌-◌, ◌*◌, ◌<◌, ◌≤◌, Bool, true, false, cond, ◌&&◌, ◌==◌, nat_lt, lt-ltb, le-ltb, Option, Some, None}
+use Rattle.std.proofs.Common.{◌≡◌, ◌∙◌, ℕ, suc, zero, ◌+◌, ◌-◌, ◌*◌, ◌<◌, ◌≤◌, Bool, true, false, cond, ◌&&◌, ◌==◌}
+use Rattle.std.proofs.Common.{nat_lt, lt-ltb, le-ltb, Option, Some, None}
 use Rattle.std.proofs.Common.{List, [], ◌∷◌, length, get_or, refl, ap, sym, arith, inl, inr, eqb-true}
 use Rattle.std.proofs.lemmas.Bool.{and_parts, cond-true, cond-false, cases_lt}
 use Rattle.enc_index.specs.declared.grid.Grid.{Grid}
@@ -11,7 +12,8 @@ unfoldable pub tabulates : (ℕ → ℕ) → ℕ → List ℕ → Bool
 tabulates f k [] = true
 tabulates f k (x ∷ xs) = x == f k && tabulates f (k + 1) xs
 
-tabulated_from : (f : ℕ → ℕ) (k : ℕ) (xs : List ℕ) → tabulates f k xs ≡ true → (i : ℕ) → i < length xs → get_or xs i 0 ≡ f (k + i)
+tabulated_from : (f : ℕ → ℕ) (k : ℕ) (xs : List ℕ) → tabulates f k xs ≡ true → (i : ℕ) → i < length xs
+    → get_or xs i 0 ≡ f (k + i)
 unfolding tabulates
 tabulated_from f k [] h i l = absurd (omega arith)
 tabulated_from f k (x ∷ xs) h zero l = eqb-true x (f k) (and_parts (x == f k) (tabulates f (k + 1) xs) h).0 ∙ ap f (omega arith)
@@ -93,6 +95,7 @@ module _ (grid : Grid) (is_lead is_trail : ℕ → Bool) (row extra column : ℕ
             ∙ ap (λ x. (row a + extra b) * grid_width grid + x) (cond-true _ _ _ trail))) ∙ s.is;
       }
     where
-      bounded : (t : Bool) → (t ≡ true → column b < grid_width grid) → cond t (column b) (grid_width grid) ≤ grid_width grid
+      bounded : (t : Bool) → (t ≡ true → column b < grid_width grid)
+          → cond t (column b) (grid_width grid) ≤ grid_width grid
       bounded true h = omega (arith, h refl)
       bounded false h = omega arith

@@ -5,7 +5,8 @@ use Rattle.std.specs.Int.{to_le_bytes, w32}
 use Rattle.enc_index.specs.declared.grid.Grid.{Grid}
 use Rattle.enc_index.specs.declared.grid.Grid.TheVariants.{Big5, EucKr, Gb18030, Jis0208}
 use Rattle.enc_index.specs.declared.list.List.{List as Index}
-use Rattle.enc_index.specs.declared.list.List.TheVariants.{Big5 as IndexBig5, EucKr as IndexEucKr, Gb18030 as IndexGb18030, Jis0208 as IndexJis0208}
+use Rattle.enc_index.specs.declared.list.List.TheVariants.{Big5 as IndexBig5, EucKr as IndexEucKr}
+use Rattle.enc_index.specs.declared.list.List.TheVariants.{Gb18030 as IndexGb18030, Jis0208 as IndexJis0208}
 use Rattle.enc_index.specs.Index.{index_at}
 use Rattle.enc_index.specs.Runs.{planes_of, runs_of}
 

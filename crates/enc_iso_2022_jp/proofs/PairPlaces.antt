@@ -1,5 +1,6 @@
 -- Two bytes have the place of their character in the grid of jis0208.
-use Rattle.std.proofs.Common.{◌≡◌, ◌∙◌, ℕ, ◌+◌, ◌-◌, ◌*◌, ◌<◌, Bool, true, ◌&&◌, Some, None, get_or, refl, ap, sym, subst, arith}
+use Rattle.std.proofs.Common.{◌≡◌, ◌∙◌, ℕ, ◌+◌, ◌-◌, ◌*◌, ◌<◌, Bool, true, ◌&&◌, Some, None, get_or, refl, ap, sym}
+use Rattle.std.proofs.Common.{subst, arith}
 use Rattle.std.proofs.lemmas.Bool.{cond-true, and_parts}
 use Rattle.std.proofs.lemmas.Bool.Decides.{nat_tests}
 use Rattle.enc_index.specs.declared.grid.Grid.TheVariants.{Jis0208}
@@ -22,7 +23,8 @@ number a = a - 0x21
 abbrev none_further : ℕ → ℕ
 none_further b = 0
 
-rows : (a : ℕ) → a < 256 → get_or JIS0208_PLACES a 0 ≡ row_place Jis0208 is_jis0208_byte is_jis0208_byte number none_further number a
+rows : (a : ℕ) → a < 256
+    → get_or JIS0208_PLACES a 0 ≡ row_place Jis0208 is_jis0208_byte is_jis0208_byte number none_further number a
 unfolding tabulates
 rows a l = row_in (row_place Jis0208 is_jis0208_byte is_jis0208_byte number none_further number) (column_place Jis0208 is_jis0208_byte is_jis0208_byte number none_further number) JIS0208_PLACES refl refl a l
 
@@ -34,10 +36,12 @@ columns b l = column_in (row_place Jis0208 is_jis0208_byte is_jis0208_byte numbe
 small : (b : ℕ) → is_jis0208_byte b ≡ true → number b < 94
 small b t = grind (arith, nat_tests)
 
-pub pair_within : (a b : ℕ) → a < 256 → b < 256 → get_or JIS0208_PLACES a 0 + get_or JIS0208_PLACES (256 + b) 0 < grid_len Jis0208
+pub pair_within : (a b : ℕ) → a < 256 → b < 256
+    → get_or JIS0208_PLACES a 0 + get_or JIS0208_PLACES (256 + b) 0 < grid_len Jis0208
 pair_within a b l m = rw (rows a l, columns b m) (grind (arith, nat_tests))
 
-pub pair_found : (a b c : ℕ) → a < 256 → b < 256 → grid_char Jis0208 (get_or JIS0208_PLACES a 0 + get_or JIS0208_PLACES (256 + b) 0) ≡ Some c
+pub pair_found : (a b c : ℕ) → a < 256 → b < 256
+    → grid_char Jis0208 (get_or JIS0208_PLACES a 0 + get_or JIS0208_PLACES (256 + b) 0) ≡ Some c
     → (is_jis0208_byte a ≡ true) × (two_byte_char a b ≡ Some c)
 unfolding two_byte_char
 pair_found a b c l m e =
@@ -50,7 +54,8 @@ unfolding is_lead
 leads set a e h = subst (λ s. is_lead s a ≡ true) (sym e) h
 
 -- the bytes of a place, where the set has pairs
-pub place_means : (set : CharacterSet) (t u : Bool) (a b c : ℕ) → (u ≡ true → set ≡ InPairs) → t && u ≡ true → is_jis0208_byte a ≡ true
+pub place_means : (set : CharacterSet) (t u : Bool) (a b c : ℕ) → (u ≡ true → set ≡ InPairs) → t && u ≡ true
+    → is_jis0208_byte a ≡ true
     → two_byte_char a b ≡ Some c → IsPiece iso_2022_jp_rule (set_number set) (byte_or_pair t a b) c
 place_means set t u a b c h both lead e =
     let p = and_parts t u both in

@@ -1,5 +1,6 @@
 -- Two bytes have the place of their character in the grid of each encoding.
-use Rattle.std.proofs.Common.{◌≡◌, ◌∙◌, ℕ, ◌+◌, ◌-◌, ◌*◌, ◌/◌, ◌%◌, ◌<◌, Bool, true, false, cond, ◌&&◌, ◌||◌, ◌==◌, nat_le, nat_lt, Some, None, get_or}
+use Rattle.std.proofs.Common.{◌≡◌, ◌∙◌, ℕ, ◌+◌, ◌-◌, ◌*◌, ◌/◌, ◌%◌, ◌<◌, Bool, true, false, cond, ◌&&◌, ◌||◌, ◌==◌}
+use Rattle.std.proofs.Common.{nat_le, nat_lt, Some, None, get_or}
 use Rattle.std.proofs.Common.{refl, ap, arith}
 use Rattle.std.proofs.lemmas.Bool.{cond-true, cond-false, ne_eqb}
 use Rattle.std.proofs.lemmas.Bool.Decides.{nat_tests}
@@ -8,14 +9,17 @@ use Rattle.enc_index.specs.declared.grid.Grid.TheVariants.{EucKr, Gb18030, Big5,
 use Rattle.enc_index.specs.Grid.{grid_char, grid_len}
 use Rattle.enc_index.specs.Runs.{runs_of, euc_kr_at, gb18030_at, big5_at, jis0208_at}
 use Rattle.enc_index.proofs.PlaceLemmas.{tabulates, row_in, column_in, row_place, column_place, found, some_none}
-use Rattle.enc_multi_byte.specs.declared.places.TheConstants.{EUC_KR_PLACES, GB18030_PLACES, BIG5_PLACES, EUC_JP_PLACES, SHIFT_JIS_PLACES}
+use Rattle.enc_multi_byte.specs.declared.places.TheConstants.{EUC_KR_PLACES, GB18030_PLACES, BIG5_PLACES}
+use Rattle.enc_multi_byte.specs.declared.places.TheConstants.{EUC_JP_PLACES, SHIFT_JIS_PLACES}
 use Rattle.enc_multi_byte.specs.DoubleByte.{text_of_char, trail_prefix, first_prefix}
 use Rattle.enc_multi_byte.specs.MultiByte.{IsPair}
 use Rattle.enc_multi_byte.specs.EucKr.{euc_kr_lead, euc_kr_trail, euc_kr_pointer, euc_kr_pair}
-use Rattle.enc_multi_byte.specs.Gb18030.{gb18030_lead, gb18030_trail, gb18030_single, gb18030_pointer, gb18030_pair, gb18030_prefix, is_digit}
+use Rattle.enc_multi_byte.specs.Gb18030.{gb18030_lead, gb18030_trail, gb18030_single, gb18030_pointer, gb18030_pair}
+use Rattle.enc_multi_byte.specs.Gb18030.{gb18030_prefix, is_digit}
 use Rattle.enc_multi_byte.specs.Big5.{big5_lead, big5_trail, big5_pointer, big5_text, big5_pair}
 use Rattle.enc_multi_byte.specs.EucJp.{is_euc, euc_pointer, euc_jp_lead, euc_jp_single, euc_jp_pair, euc_jp_prefix}
-use Rattle.enc_multi_byte.specs.ShiftJis.{shift_jis_lead, shift_jis_trail, shift_jis_pointer, shift_jis_char, shift_jis_pair}
+use Rattle.enc_multi_byte.specs.ShiftJis.{shift_jis_lead, shift_jis_trail, shift_jis_pointer, shift_jis_char}
+use Rattle.enc_multi_byte.specs.ShiftJis.{shift_jis_pair}
 
 -- the trails of one row
 abbrev none_further : ℕ → ℕ
@@ -29,21 +33,25 @@ euc_kr_row a = a - 0x81
 abbrev euc_kr_column : ℕ → ℕ
 euc_kr_column b = b - 0x41
 
-euc_kr_rows : (a : ℕ) → a < 256 → get_or EUC_KR_PLACES a 0 ≡ row_place EucKr euc_kr_lead euc_kr_trail euc_kr_row none_further euc_kr_column a
+euc_kr_rows : (a : ℕ) → a < 256
+    → get_or EUC_KR_PLACES a 0 ≡ row_place EucKr euc_kr_lead euc_kr_trail euc_kr_row none_further euc_kr_column a
 unfolding tabulates
 euc_kr_rows a l = row_in (row_place EucKr euc_kr_lead euc_kr_trail euc_kr_row none_further euc_kr_column) (column_place EucKr euc_kr_lead euc_kr_trail euc_kr_row none_further euc_kr_column) EUC_KR_PLACES refl refl a l
 
-euc_kr_columns : (b : ℕ) → b < 256 → get_or EUC_KR_PLACES (256 + b) 0 ≡ column_place EucKr euc_kr_lead euc_kr_trail euc_kr_row none_further euc_kr_column b
+euc_kr_columns : (b : ℕ) → b < 256
+    → get_or EUC_KR_PLACES (256 + b) 0 ≡ column_place EucKr euc_kr_lead euc_kr_trail euc_kr_row none_further euc_kr_column b
 unfolding tabulates
 euc_kr_columns b l = column_in (row_place EucKr euc_kr_lead euc_kr_trail euc_kr_row none_further euc_kr_column) (column_place EucKr euc_kr_lead euc_kr_trail euc_kr_row none_further euc_kr_column) EUC_KR_PLACES refl refl b l
 
 euc_kr_small : (b : ℕ) → euc_kr_trail b ≡ true → euc_kr_column b < 190
 euc_kr_small b t = grind (arith, nat_tests)
 
-pub euc_kr_within : (a b : ℕ) → a < 256 → b < 256 → get_or EUC_KR_PLACES a 0 + get_or EUC_KR_PLACES (256 + b) 0 < grid_len EucKr
+pub euc_kr_within : (a b : ℕ) → a < 256 → b < 256
+    → get_or EUC_KR_PLACES a 0 + get_or EUC_KR_PLACES (256 + b) 0 < grid_len EucKr
 euc_kr_within a b l m = rw (euc_kr_rows a l, euc_kr_columns b m) (grind (arith, nat_tests))
 
-pub euc_kr_found : (a b c : ℕ) → a < 256 → b < 256 → grid_char EucKr (get_or EUC_KR_PLACES a 0 + get_or EUC_KR_PLACES (256 + b) 0) ≡ Some c
+pub euc_kr_found : (a b c : ℕ) → a < 256 → b < 256
+    → grid_char EucKr (get_or EUC_KR_PLACES a 0 + get_or EUC_KR_PLACES (256 + b) 0) ≡ Some c
     → (euc_kr_lead a ≡ true) × (euc_kr_pair a b ≡ Some (One c))
 euc_kr_found a b c l m e =
     let f = found EucKr euc_kr_lead euc_kr_trail euc_kr_row none_further euc_kr_column a b c _ (omega (arith, euc_kr_rows a l, euc_kr_columns b m)) (euc_kr_small b) e in
@@ -58,24 +66,28 @@ gb18030_row a = a - 0x81
 abbrev gb18030_column : ℕ → ℕ
 gb18030_column b = b - cond (nat_lt b 0x7F) 0x40 0x41
 
-gb18030_rows : (a : ℕ) → a < 256 → get_or GB18030_PLACES a 0 ≡ row_place Gb18030 gb18030_lead gb18030_trail gb18030_row none_further gb18030_column a
+gb18030_rows : (a : ℕ) → a < 256
+    → get_or GB18030_PLACES a 0 ≡ row_place Gb18030 gb18030_lead gb18030_trail gb18030_row none_further gb18030_column a
 unfolding tabulates
 gb18030_rows a l = row_in (row_place Gb18030 gb18030_lead gb18030_trail gb18030_row none_further gb18030_column) (column_place Gb18030 gb18030_lead gb18030_trail gb18030_row none_further gb18030_column) GB18030_PLACES refl refl a l
 
-gb18030_columns : (b : ℕ) → b < 256 → get_or GB18030_PLACES (256 + b) 0 ≡ column_place Gb18030 gb18030_lead gb18030_trail gb18030_row none_further gb18030_column b
+gb18030_columns : (b : ℕ) → b < 256
+    → get_or GB18030_PLACES (256 + b) 0 ≡ column_place Gb18030 gb18030_lead gb18030_trail gb18030_row none_further gb18030_column b
 unfolding tabulates
 gb18030_columns b l = column_in (row_place Gb18030 gb18030_lead gb18030_trail gb18030_row none_further gb18030_column) (column_place Gb18030 gb18030_lead gb18030_trail gb18030_row none_further gb18030_column) GB18030_PLACES refl refl b l
 
 gb18030_small : (b : ℕ) → gb18030_trail b ≡ true → gb18030_column b < 190
 gb18030_small b t = grind (arith, nat_tests)
 
-pub gb18030_within : (a b : ℕ) → a < 256 → b < 256 → get_or GB18030_PLACES a 0 + get_or GB18030_PLACES (256 + b) 0 < grid_len Gb18030
+pub gb18030_within : (a b : ℕ) → a < 256 → b < 256
+    → get_or GB18030_PLACES a 0 + get_or GB18030_PLACES (256 + b) 0 < grid_len Gb18030
 gb18030_within a b l m = rw (gb18030_rows a l, gb18030_columns b m) (grind (arith, nat_tests))
 
 no_digit : (b : ℕ) → gb18030_trail b ≡ true → is_digit b ≡ false
 no_digit b t = grind (arith, nat_tests)
 
-pub gb18030_found : (a b c : ℕ) → a < 256 → b < 256 → grid_char Gb18030 (get_or GB18030_PLACES a 0 + get_or GB18030_PLACES (256 + b) 0) ≡ Some c
+pub gb18030_found : (a b c : ℕ) → a < 256 → b < 256
+    → grid_char Gb18030 (get_or GB18030_PLACES a 0 + get_or GB18030_PLACES (256 + b) 0) ≡ Some c
     → IsPair gb18030_prefix a b c
 gb18030_found a b c l m e =
     let f = found Gb18030 gb18030_lead gb18030_trail gb18030_row none_further gb18030_column a b c _ (omega (arith, gb18030_rows a l, gb18030_columns b m))
@@ -95,18 +107,21 @@ big5_row a = a - 0x81
 abbrev big5_column : ℕ → ℕ
 big5_column b = b - cond (nat_lt b 0x7F) 0x40 0x62
 
-big5_rows : (a : ℕ) → a < 256 → get_or BIG5_PLACES a 0 ≡ row_place Big5 big5_lead big5_trail big5_row none_further big5_column a
+big5_rows : (a : ℕ) → a < 256
+    → get_or BIG5_PLACES a 0 ≡ row_place Big5 big5_lead big5_trail big5_row none_further big5_column a
 unfolding tabulates
 big5_rows a l = row_in (row_place Big5 big5_lead big5_trail big5_row none_further big5_column) (column_place Big5 big5_lead big5_trail big5_row none_further big5_column) BIG5_PLACES refl refl a l
 
-big5_columns : (b : ℕ) → b < 256 → get_or BIG5_PLACES (256 + b) 0 ≡ column_place Big5 big5_lead big5_trail big5_row none_further big5_column b
+big5_columns : (b : ℕ) → b < 256
+    → get_or BIG5_PLACES (256 + b) 0 ≡ column_place Big5 big5_lead big5_trail big5_row none_further big5_column b
 unfolding tabulates
 big5_columns b l = column_in (row_place Big5 big5_lead big5_trail big5_row none_further big5_column) (column_place Big5 big5_lead big5_trail big5_row none_further big5_column) BIG5_PLACES refl refl b l
 
 big5_small : (b : ℕ) → big5_trail b ≡ true → big5_column b < 157
 big5_small b t = grind (arith, nat_tests)
 
-pub big5_within : (a b : ℕ) → a < 256 → b < 256 → get_or BIG5_PLACES a 0 + get_or BIG5_PLACES (256 + b) 0 < grid_len Big5
+pub big5_within : (a b : ℕ) → a < 256 → b < 256
+    → get_or BIG5_PLACES a 0 + get_or BIG5_PLACES (256 + b) 0 < grid_len Big5
 big5_within a b l m = rw (big5_rows a l, big5_columns b m) (grind (arith, nat_tests))
 
 -- the pointers of two characters have none in the index
@@ -119,7 +134,8 @@ big5_one p c e =
     cond-false _ _ _ (apart 1133 p c refl e) ∙ cond-false _ _ _ (apart 1135 p c refl e) ∙ cond-false _ _ _ (apart 1164 p c refl e)
     ∙ cond-false _ _ _ (apart 1166 p c refl e) ∙ ap text_of_char e
 
-pub big5_found : (a b c : ℕ) → a < 256 → b < 256 → grid_char Big5 (get_or BIG5_PLACES a 0 + get_or BIG5_PLACES (256 + b) 0) ≡ Some c
+pub big5_found : (a b c : ℕ) → a < 256 → b < 256
+    → grid_char Big5 (get_or BIG5_PLACES a 0 + get_or BIG5_PLACES (256 + b) 0) ≡ Some c
     → (big5_lead a ≡ true) × (big5_pair a b ≡ Some (One c))
 big5_found a b c l m e =
     let f = found Big5 big5_lead big5_trail big5_row none_further big5_column a b c _ (omega (arith, big5_rows a l, big5_columns b m)) (big5_small b) e in
@@ -134,18 +150,21 @@ euc_jp_row a = a - 0xA1
 abbrev euc_jp_column : ℕ → ℕ
 euc_jp_column b = b - 0xA1
 
-euc_jp_rows : (a : ℕ) → a < 256 → get_or EUC_JP_PLACES a 0 ≡ row_place Jis0208 is_euc is_euc euc_jp_row none_further euc_jp_column a
+euc_jp_rows : (a : ℕ) → a < 256
+    → get_or EUC_JP_PLACES a 0 ≡ row_place Jis0208 is_euc is_euc euc_jp_row none_further euc_jp_column a
 unfolding tabulates
 euc_jp_rows a l = row_in (row_place Jis0208 is_euc is_euc euc_jp_row none_further euc_jp_column) (column_place Jis0208 is_euc is_euc euc_jp_row none_further euc_jp_column) EUC_JP_PLACES refl refl a l
 
-euc_jp_columns : (b : ℕ) → b < 256 → get_or EUC_JP_PLACES (256 + b) 0 ≡ column_place Jis0208 is_euc is_euc euc_jp_row none_further euc_jp_column b
+euc_jp_columns : (b : ℕ) → b < 256
+    → get_or EUC_JP_PLACES (256 + b) 0 ≡ column_place Jis0208 is_euc is_euc euc_jp_row none_further euc_jp_column b
 unfolding tabulates
 euc_jp_columns b l = column_in (row_place Jis0208 is_euc is_euc euc_jp_row none_further euc_jp_column) (column_place Jis0208 is_euc is_euc euc_jp_row none_further euc_jp_column) EUC_JP_PLACES refl refl b l
 
 euc_jp_small : (b : ℕ) → is_euc b ≡ true → euc_jp_column b < 94
 euc_jp_small b t = grind (arith, nat_tests)
 
-pub euc_jp_within : (a b : ℕ) → a < 256 → b < 256 → get_or EUC_JP_PLACES a 0 + get_or EUC_JP_PLACES (256 + b) 0 < grid_len Jis0208
+pub euc_jp_within : (a b : ℕ) → a < 256 → b < 256
+    → get_or EUC_JP_PLACES a 0 + get_or EUC_JP_PLACES (256 + b) 0 < grid_len Jis0208
 euc_jp_within a b l m = rw (euc_jp_rows a l, euc_jp_columns b m) (grind (arith, nat_tests))
 
 leads : (a : ℕ) → is_euc a ≡ true → euc_jp_lead a ≡ true
@@ -157,7 +176,8 @@ no_katakana a t = grind (arith, nat_tests)
 no_third : (a b : ℕ) → is_euc a ≡ true → (a == 0x8F && is_euc b) ≡ false
 no_third a b t = grind (arith, nat_tests)
 
-pub euc_jp_found : (a b c : ℕ) → a < 256 → b < 256 → grid_char Jis0208 (get_or EUC_JP_PLACES a 0 + get_or EUC_JP_PLACES (256 + b) 0) ≡ Some c
+pub euc_jp_found : (a b c : ℕ) → a < 256 → b < 256
+    → grid_char Jis0208 (get_or EUC_JP_PLACES a 0 + get_or EUC_JP_PLACES (256 + b) 0) ≡ Some c
     → IsPair euc_jp_prefix a b c
 euc_jp_found a b c l m e =
     let f = found Jis0208 is_euc is_euc euc_jp_row none_further euc_jp_column a b c _ (omega (arith, euc_jp_rows a l, euc_jp_columns b m)) (euc_jp_small b) e in
@@ -187,18 +207,21 @@ shift_jis_row a = 2 * (a - cond (nat_lt a 0xA0) 0x81 0xC1)
 abbrev shift_jis_column : ℕ → ℕ
 shift_jis_column b = trail_number b % 94
 
-shift_jis_rows : (a : ℕ) → a < 256 → get_or SHIFT_JIS_PLACES a 0 ≡ row_place Jis0208 has_rows shift_jis_trail shift_jis_row second_row shift_jis_column a
+shift_jis_rows : (a : ℕ) → a < 256
+    → get_or SHIFT_JIS_PLACES a 0 ≡ row_place Jis0208 has_rows shift_jis_trail shift_jis_row second_row shift_jis_column a
 unfolding tabulates
 shift_jis_rows a l = row_in (row_place Jis0208 has_rows shift_jis_trail shift_jis_row second_row shift_jis_column) (column_place Jis0208 has_rows shift_jis_trail shift_jis_row second_row shift_jis_column) SHIFT_JIS_PLACES refl refl a l
 
-shift_jis_columns : (b : ℕ) → b < 256 → get_or SHIFT_JIS_PLACES (256 + b) 0 ≡ column_place Jis0208 has_rows shift_jis_trail shift_jis_row second_row shift_jis_column b
+shift_jis_columns : (b : ℕ) → b < 256
+    → get_or SHIFT_JIS_PLACES (256 + b) 0 ≡ column_place Jis0208 has_rows shift_jis_trail shift_jis_row second_row shift_jis_column b
 unfolding tabulates
 shift_jis_columns b l = column_in (row_place Jis0208 has_rows shift_jis_trail shift_jis_row second_row shift_jis_column) (column_place Jis0208 has_rows shift_jis_trail shift_jis_row second_row shift_jis_column) SHIFT_JIS_PLACES refl refl b l
 
 shift_jis_small : (b : ℕ) → shift_jis_trail b ≡ true → shift_jis_column b < 94
 shift_jis_small b t = grind (arith, nat_tests)
 
-pub shift_jis_within : (a b : ℕ) → a < 256 → b < 256 → get_or SHIFT_JIS_PLACES a 0 + get_or SHIFT_JIS_PLACES (256 + b) 0 < grid_len Jis0208
+pub shift_jis_within : (a b : ℕ) → a < 256 → b < 256
+    → get_or SHIFT_JIS_PLACES a 0 + get_or SHIFT_JIS_PLACES (256 + b) 0 < grid_len Jis0208
 shift_jis_within a b l m = rw (shift_jis_rows a l, shift_jis_columns b m) (grind (arith, nat_tests))
 
 leads_too : (a : ℕ) → has_rows a ≡ true → shift_jis_lead a ≡ true
@@ -209,7 +232,8 @@ not_private : (a b : ℕ) → has_rows a ≡ true → shift_jis_trail b ≡ true
     → (nat_le 8836 (shift_jis_pointer a b) && nat_le (shift_jis_pointer a b) 10715) ≡ false
 not_private a b t u = grind (arith, nat_tests)
 
-pub shift_jis_found : (a b c : ℕ) → a < 256 → b < 256 → grid_char Jis0208 (get_or SHIFT_JIS_PLACES a 0 + get_or SHIFT_JIS_PLACES (256 + b) 0) ≡ Some c
+pub shift_jis_found : (a b c : ℕ) → a < 256 → b < 256
+    → grid_char Jis0208 (get_or SHIFT_JIS_PLACES a 0 + get_or SHIFT_JIS_PLACES (256 + b) 0) ≡ Some c
     → (shift_jis_lead a ≡ true) × (shift_jis_pair a b ≡ Some (One c))
 shift_jis_found a b c l m e =
     let f = found Jis0208 has_rows shift_jis_trail shift_jis_row second_row shift_jis_column a b c _ (omega (arith, shift_jis_rows a l, shift_jis_columns b m))

@@ -1,5 +1,6 @@
 -- Characters of one code unit of UTF-16, and their UTF-8 as words.
-use Rattle.std.proofs.Common.{◌≡◌, ℕ, zero, suc, ◌+◌, ◌-◌, ◌*◌, ◌/◌, ◌%◌, ◌<◌, ◌≤◌, Bool, List, [], ◌∷◌, ◌++◌, map, length}
+use Rattle.std.proofs.Common.{◌≡◌, ℕ, zero, suc, ◌+◌, ◌-◌, ◌*◌, ◌/◌, ◌%◌, ◌<◌, ◌≤◌, Bool, List, [], ◌∷◌, ◌++◌, map}
+use Rattle.std.proofs.Common.{length}
 use Rattle.std.proofs.Common.{get_or, drop, length-drop}
 use Rattle.std.proofs.Common.{take, refl, ap, ◌∙◌, sym, subst, arith, inl, inr, append_assoc, append-nil, length-take}
 use Rattle.std.proofs.lemmas.Bool.{and_parts, cases_lt, lt-ltb, le-ltb}
@@ -184,9 +185,11 @@ module _ (Means : List ℕ → ℕ → Type 0) (big : Bool) (mean : AreCodeUnits
       gathers_units encode_utf8 n src units before after h l e s (w ∙ ap (λ z. before ++ z) (t n))
 
   -- the same in UTF-16, where all eight are stored as they are
-  pub gathers_lanes : (n at read : ℕ) (src units buffer : List ℕ) → n ≤ 8 → 16 ≤ length src - read → at + 8 ≤ length buffer
+  pub gathers_lanes : (n at read : ℕ) (src units buffer : List ℕ) → n ≤ 8 → 16 ≤ length src - read
+      → at + 8 ≤ length buffer
       → units ≡ units_of_bytes big (take 16 (drop read src)) → AreScalars (take n units)
-      → units_of_text encode_utf16 (take n units) ≡ take n units → Gathers encode_utf16 Means src read [] (take at buffer)
+      → units_of_text encode_utf16 (take n units) ≡ take n units
+      → Gathers encode_utf16 Means src read [] (take at buffer)
       → Gathers encode_utf16 Means src (read + 2 * n) [] (take (at + n) (put_chunk at buffer units))
   gathers_lanes n at read src units buffer few inside room e s alone p =
       let rest = drop read src in

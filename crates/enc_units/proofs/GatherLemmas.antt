@@ -55,11 +55,13 @@ utf8_four c l = rw (le-ltb c 128 (omega arith), le-ltb c 2048 (omega arith), le-
 
 -- what is gathered
 
-pub gathers_nothing : (units_of : ℕ → List ℕ) (Means : List ℕ → ℕ → Type 0) (src before after : List ℕ) → after ≡ before → Gathers units_of Means src 0 before after
+pub gathers_nothing : (units_of : ℕ → List ℕ) (Means : List ℕ → ℕ → Type 0) (src before after : List ℕ) → after ≡ before
+    → Gathers units_of Means src 0 before after
 gathers_nothing units_of Means src before after e = record { text = []; scalars = refl; reads = reads_none Means src; written = e ∙ sym (append-nil before) }
 
 pub gathers_then : (units_of : ℕ → List ℕ) (Means : List ℕ → ℕ → Type 0) (src : List ℕ) (a n : ℕ) (before mid after : List ℕ)
-    → Gathers units_of Means src a before mid → Gathers units_of Means (drop a src) n mid after → Gathers units_of Means src (a + n) before after
+    → Gathers units_of Means src a before mid → Gathers units_of Means (drop a src) n mid after
+    → Gathers units_of Means src (a + n) before after
 gathers_then units_of Means src a n before mid after p q = record {
   text = p.text ++ q.text;
   scalars = scalars-append p.text q.text p.scalars q.scalars;
@@ -76,8 +78,10 @@ gathers_on units_of Means src from a n before mid after p q =
     gathers_then units_of Means (drop from src) a n before mid after p
     (subst (λ rest. Gathers units_of Means rest n mid after) (sym (drop-drop a from src)) q)
 
-pub gathers_ascii : (units_of : ℕ → List ℕ) (Means : List ℕ → ℕ → Type 0) (src : List ℕ) (n : ℕ) (before after : List ℕ) → ((b : ℕ) → b < 0x80 → Means (b ∷ []) b)
-    → ((bs : List ℕ) → AreAscii bs → units_of_text units_of bs ≡ bs) → n ≤ length src → AreAscii (take n src) → after ≡ before ++ take n src → Gathers units_of Means src n before after
+pub gathers_ascii : (units_of : ℕ → List ℕ) (Means : List ℕ → ℕ → Type 0) (src : List ℕ) (n : ℕ) (before after : List ℕ)
+    → ((b : ℕ) → b < 0x80 → Means (b ∷ []) b)
+    → ((bs : List ℕ) → AreAscii bs → units_of_text units_of bs ≡ bs) → n ≤ length src → AreAscii (take n src)
+    → after ≡ before ++ take n src → Gathers units_of Means src n before after
 gathers_ascii units_of Means src n before after h alone w a e = record {
   text = take n src;
   scalars = ascii_scalars (take n src) a;
@@ -85,7 +89,8 @@ gathers_ascii units_of Means src n before after h alone w a e = record {
   written = e ∙ ap (λ z. before ++ z) (sym (alone (take n src) a));
 }
 
-pub gathers_one : (units_of : ℕ → List ℕ) (Means : List ℕ → ℕ → Type 0) (src : List ℕ) (n c : ℕ) (before after : List ℕ) → 0 < n → n ≤ length src → IsScalar c
+pub gathers_one : (units_of : ℕ → List ℕ) (Means : List ℕ → ℕ → Type 0) (src : List ℕ) (n c : ℕ) (before after : List ℕ)
+    → 0 < n → n ≤ length src → IsScalar c
     → Means (take n src) c → after ≡ before ++ units_of c → Gathers units_of Means src n before after
 gathers_one units_of Means src n c before after h w i m e = record {
   text = c ∷ [];
@@ -104,7 +109,8 @@ get_or_drop (suc n) i (x ∷ xs) = get_or_drop n i xs ∙ ap (λ k. get_or (x �
 
 -- a byte that has a text
 pub gathers_byte : (Means : List ℕ → ℕ → Type 0) (src : List ℕ) (from read : ℕ) (before mid after : List ℕ) (text : Encoded)
-    → IsByteText Means (get_or src (from + read) 0) text → 0 < text.len → from + read < length src → Gathers encode_utf8 Means (drop from src) read before mid
+    → IsByteText Means (get_or src (from + read) 0) text → 0 < text.len → from + read < length src
+    → Gathers encode_utf8 Means (drop from src) read before mid
     → after ≡ mid ++ take text.len text.bytes → Gathers encode_utf8 Means (drop from src) (read + 1) before after
 gathers_byte Means src from read before mid after text t some inside p e =
     let rest = drop from src in
@@ -117,7 +123,8 @@ gathers_byte Means src from read before mid after text t some inside p e =
 
 -- a byte that has a code unit
 pub gathers_byte_unit : (Means : List ℕ → ℕ → Type 0) (src : List ℕ) (from read at : ℕ) (before buffer : List ℕ) (unit : ℕ)
-    → IsByteUnit Means (get_or src (from + read) 0) unit → 0 < unit → unit < 0x1_0000 → from + read < length src → at + read < length buffer
+    → IsByteUnit Means (get_or src (from + read) 0) unit → 0 < unit → unit < 0x1_0000 → from + read < length src
+    → at + read < length buffer
     → Gathers encode_utf16 Means (drop from src) read before (take (at + read) buffer)
     → Gathers encode_utf16 Means (drop from src) (read + 1) before (take (at + (read + 1)) (set buffer (at + read) unit))
 gathers_byte_unit Means src from read at before buffer unit u some basic inside room p =
@@ -146,7 +153,8 @@ no_texts Means text e = (
 )
 
 -- what is gathered is put out
-pub puts_gathered : (units_of : ℕ → List ℕ) (Means : List ℕ → ℕ → Type 0) (before after : Output) (src : List ℕ) (n : ℕ) (units : List ℕ) → Gathers units_of Means src n [] units
+pub puts_gathered : (units_of : ℕ → List ℕ) (Means : List ℕ → ℕ → Type 0) (before after : Output) (src : List ℕ) (n : ℕ) (units : List ℕ)
+    → Gathers units_of Means src n [] units
     → length units ≤ before.room → after ≡ appended before units → PutsPieces units_of Means before after src n
 puts_gathered units_of Means before after src n units p f e = record {
   text = p.text;

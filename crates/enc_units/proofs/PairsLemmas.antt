@@ -1,5 +1,6 @@
 -- Characters of one byte or two.
-use Rattle.std.proofs.Common.{◌≡◌, ◌∙◌, ℕ, zero, suc, ◌+◌, ◌-◌, ◌/◌, ◌%◌, ◌<◌, ◌≤◌, Bool, true, false, ◌&&◌, ◌||◌, ◌==◌, eqb, List, [], ◌∷◌, ◌++◌}
+use Rattle.std.proofs.Common.{◌≡◌, ◌∙◌, ℕ, zero, suc, ◌+◌, ◌-◌, ◌/◌, ◌%◌, ◌<◌, ◌≤◌, Bool, true, false, ◌&&◌, ◌||◌}
+use Rattle.std.proofs.Common.{◌==◌, eqb, List, [], ◌∷◌, ◌++◌}
 use Rattle.std.proofs.Common.{length, take, drop, get_or, refl, ap, sym, subst, arith, length-drop, drop-cons}
 use Rattle.std.proofs.lemmas.Bool.{and_parts}
 use Rattle.std.proofs.lemmas.Bool.Decides.{nat_tests}
@@ -109,12 +110,15 @@ module _ (Means : List ℕ → ℕ → Type 0) (src : List ℕ) (from read next 
       next_place = omega arith
 
   -- the bytes up to where the next character begins
-  front_is : (t : Bool) → eqb (next - read) 2 ≡ t → take (next - read) (drop read (drop from src)) ≡ byte_or_pair t first second
+  front_is : (t : Bool) → eqb (next - read) 2 ≡ t
+      → take (next - read) (drop read (drop from src)) ≡ byte_or_pair t first second
   front_is true e = ap (λ k. take k (drop read (drop from src))) (let m : next - read ≡ 2 = omega (arith, goes_two read next h e) in m) ∙ two_front
   front_is false e = ap (λ k. take k (drop read (drop from src))) (let m : next - read ≡ 1 = omega (arith, goes_one read next h e) in m) ∙ one_front
 
-  gathers_front : (units_of : ℕ → List ℕ) (t : Bool) (c : ℕ) (before mid after : List ℕ) → eqb (next - read) 2 ≡ t → IsScalar c
-      → Means (byte_or_pair t first second) c → Gathers units_of Means (drop from src) read before mid → after ≡ mid ++ units_of c
+  gathers_front : (units_of : ℕ → List ℕ) (t : Bool) (c : ℕ) (before mid after : List ℕ) → eqb (next - read) 2 ≡ t
+      → IsScalar c
+      → Means (byte_or_pair t first second) c → Gathers units_of Means (drop from src) read before mid
+      → after ≡ mid ++ units_of c
       → Gathers units_of Means (drop from src) next before after
   gathers_front units_of t c before mid after e s m p w =
       let up = goes_up read next h in
@@ -127,14 +131,18 @@ module _ (Means : List ℕ → ℕ → Type 0) (src : List ℕ) (from read next 
       (subst (λ z. Means z c) (sym (front_is t e)) m) w))
 
   -- one more character, as a word
-  pub gathers_word : (word : ℕ) (before mid after : List ℕ) → MeansWord Means (byte_or_pair (eqb (next - read) 2) first second) word
-      → Gathers encode_utf8 Means (drop from src) read before mid → after ≡ mid ++ take (word / 0x100_0000) (to_le_bytes w32 word)
+  pub gathers_word : (word : ℕ) (before mid after : List ℕ)
+      → MeansWord Means (byte_or_pair (eqb (next - read) 2) first second) word
+      → Gathers encode_utf8 Means (drop from src) read before mid
+      → after ≡ mid ++ take (word / 0x100_0000) (to_le_bytes w32 word)
       → Gathers encode_utf8 Means (drop from src) next before after
   gathers_word word before mid after m p w =
       gathers_front encode_utf8 (eqb (next - read) 2) m.char before mid after refl m.scalar m.means p (w ∙ ap (λ z. mid ++ z) m.utf8)
 
   -- one more character, as a code unit
-  pub gathers_unit : (unit : ℕ) (before mid after : List ℕ) → unit < 0x1_0000 → MeansUnit Means (byte_or_pair (eqb (next - read) 2) first second) unit
-      → Gathers encode_utf16 Means (drop from src) read before mid → after ≡ mid ++ unit ∷ [] → Gathers encode_utf16 Means (drop from src) next before after
+  pub gathers_unit : (unit : ℕ) (before mid after : List ℕ) → unit < 0x1_0000
+      → MeansUnit Means (byte_or_pair (eqb (next - read) 2) first second) unit
+      → Gathers encode_utf16 Means (drop from src) read before mid → after ≡ mid ++ unit ∷ []
+      → Gathers encode_utf16 Means (drop from src) next before after
   gathers_unit unit before mid after l m p w =
       gathers_front encode_utf16 (eqb (next - read) 2) unit before mid after refl m.scalar m.means p (w ∙ ap (λ z. mid ++ z) (sym (one_unit unit l)))

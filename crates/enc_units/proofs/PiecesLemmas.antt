@@ -149,7 +149,8 @@ pub same_then : (units_of : ℕ → List ℕ) (Means : List ℕ → ℕ → Type
     → after ≡ mid → PutsPieces units_of Means before mid src n → PutsPieces units_of Means before after src n
 same_then units_of Means before mid after src n e p = subst (λ (o : Output). PutsPieces units_of Means before o src n) (sym e) p
 
-pub reads_wider : (Means : List ℕ → ℕ → Type 0) (src : List ℕ) (m n : ℕ) (text : List ℕ) → Reads Means (take m src) n text → Reads Means src n text
+pub reads_wider : (Means : List ℕ → ℕ → Type 0) (src : List ℕ) (m n : ℕ) (text : List ℕ)
+    → Reads Means (take m src) n text → Reads Means src n text
 reads_wider Means src m n text r = record {
   pieces = r.pieces;
   within = omega (arith, r.within, length-take m src);
