@@ -35,14 +35,20 @@ pub fn len_before(lanes: u8x16, byte: u8) -> usize
     }
 }
 
-/// How many bytes in front are ASCII, in whole steps of sixteen.
+/// How many bytes in front are ASCII, in whole steps of 64 and then of sixteen.
 #[inline(always)]
 fn ascii_steps(bytes: &[u8]) -> usize
     ensures within { result ≤ length bytes.now }
     ensures ascii { AreAscii (take result bytes.now) }
 {
     let mut at = 0;
-    while 16 <= bytes.len() - at {
+    'strides: while 64 <= bytes.len() - at {
+        if !are_all_ascii(u8x64::from_slice(&bytes[at..])) {
+            break;
+        }
+        at += 64;
+    }
+    'steps: while 16 <= bytes.len() - at {
         if !are_ascii(u8x16::from_slice(&bytes[at..])) {
             break;
         }
@@ -65,6 +71,27 @@ pub fn ascii_len(bytes: &[u8]) -> usize
     at
 }
 
+/// Copies ASCII bytes from the front of `src`, at most `most`, in whole steps of 64, and returns how many.
+#[inline(always)]
+fn copy_strides(src: &[u8], dst: &mut [u8], most: usize) -> usize
+    requires read { most ≤ length src.now }
+    requires room { most ≤ length dst.old }
+    ensures within { result ≤ most }
+    ensures ascii { AreAscii (take result src.now) }
+    ensures copied { dst.new ≡ take result src.now ++ drop result dst.old }
+{
+    let mut at = 0;
+    while 64 <= most - at {
+        let lanes = u8x64::from_slice(&src[at..]);
+        if !are_all_ascii(lanes) {
+            break;
+        }
+        lanes.copy_to_slice(&mut dst[at..]);
+        at += 64;
+    }
+    at
+}
+
 /// Copies the ASCII bytes in front, as many as there is room for, and answers how many.
 #[inline(always)]
 pub fn copy_ascii(src: &[u8], dst: &mut [u8]) -> usize
@@ -82,7 +109,7 @@ pub fn copy_ascii(src: &[u8], dst: &mut [u8]) -> usize
     if most == 0 || src[0] >= 0x80 {
         return 0;
     }
-    let mut at = 0;
+    let mut at = copy_strides(src, dst, most);
     while 16 <= most - at {
         let lanes = u8x16::from_slice(&src[at..]);
         if !are_ascii(lanes) {
