@@ -1,2 +1,3 @@
 pub mod SourceLemmas
 pub mod ReadingLemmas
+pub mod LendingLemmas

@@ -65,7 +65,7 @@ Reads-then t₀ t₁ t₂ a b c x y w₁ w₂ m₁ m₂ p q =
 ended_at : (s : ReaderState) → finished s.decoder ≡ true → distance s ≡ 0
 ended_at s f = ap (λ b. if b then 0 else 1 + (2 * length s.unread + length s.decoder.pending)) f
 
-before_end : (s : ReaderState) → finished s.decoder ≡ false → distance s ≡ 1 + (2 * length s.unread + length s.decoder.pending)
+pub before_end : (s : ReaderState) → finished s.decoder ≡ false → distance s ≡ 1 + (2 * length s.unread + length s.decoder.pending)
 before_end s f = ap (λ b. if b then 0 else 1 + (2 * length s.unread + length s.decoder.pending)) f
 
 -- A chunk that is pulled into a reader which has nothing to decode: all is owed that was owed.
@@ -195,7 +195,7 @@ handed_utf_8 t₀ t s₀ s bytes wrote malformed h = text_utf8 wrote (text_of h.
 
 -- The chunk in the buffer: how much of it is left behind a call, and that some is left where it is not all decoded.
 
-left_of : (filled at read : ℕ) (xs : List ℕ) → at ≤ filled → read ≤ length (take (filled - at) (drop at xs))
+pub left_of : (filled at read : ℕ) (xs : List ℕ) → at ≤ filled → read ≤ length (take (filled - at) (drop at xs))
     → drop read (take (filled - at) (drop at xs)) ≡ take (filled - (at + read)) (drop (at + read) xs)
 left_of filled at read xs h r =
     let e : filled - at ≡ read + (filled - (at + read)) = omega (arith, h, r, length-take (filled - at) (drop at xs)) in

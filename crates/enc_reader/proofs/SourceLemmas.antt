@@ -1,5 +1,7 @@
 -- What a source tells, over several pulls.
 use Rattle.std.proofs.Common.{◌≡◌, ℕ, List, [], ◌++◌, Option, Some, None, refl, ap, ◌∙◌, sym, append_assoc}
+use Rattle.std.specs.declared.result.Result.{Result}
+use Rattle.std.specs.Prelude.{Ok, Err, OnErr}
 use Rattle.std.specs.Io.KnownBytes.{prepend_known, IsAtEnd}
 use Rattle.enc_reader.specs.Source.{TellsNext, TellsNoMore}
 
@@ -25,3 +27,7 @@ none_more (Some xs) e = ap Some e
 pub at_end : (told : Option (List ℕ)) → TellsNoMore told → IsAtEnd told
 at_end None e = tt
 at_end (Some xs) e = cc
+
+pub on_err : {T E : Type 0} (r : Result T E) (P : Type 0) → P → OnErr r P
+on_err (Ok x) P h = tt
+on_err (Err e) P h = h

@@ -1,6 +1,10 @@
 -- The steps of a read: a chunk of bytes that is pulled from the source, and a turn of the decoder.
 use Rattle.std.specs.Prelude.{◌≡◌, ℕ, ◌<◌, Bool, true, false, List, [], length, Option}
-use Rattle.encoding_rs.specs.Decoding.{finished}
+use Rattle.enc_units.specs.Validity.{AreAscii}
+use Rattle.enc_codec.specs.Properties.{IsAsciiCompatible}
+use Rattle.encoding_rs.specs.Encodings.{rule_of}
+use Rattle.encoding_rs.specs.Decoding.{DecoderState, finished}
+use Rattle.encoding_rs.specs.Latin1.{MayBeLatin1}
 use Rattle.enc_reader.specs.Reading.{ReaderState, Reads}
 
 -- A reader that has nothing to decode, and whose source has not come to its end.
@@ -20,3 +24,14 @@ pub record IsTurn (old new : ReaderState) (wrote : List ℕ) (replaced waits : B
   pub reads : (told : Option (List ℕ)) → Reads told told old new [] wrote replaced
   pub waiting : waits ≡ true → IsWaiting new
   pub text_or_end : waits ≡ false → wrote ≡ [] → finished new.decoder ≡ true
+
+-- A chunk is pulled where every byte is decoded, and nothing is handed out.
+pub record Fills (told_before told_after : Option (List ℕ)) (old new : ReaderState) : Type 0 where
+  pub bytes : List ℕ
+  pub reads : Reads told_before told_after old new bytes [] false
+
+-- ASCII bytes that are offered next, to a decoder between two sequences of an ASCII-compatible encoding: they are their own text.
+pub record IsOwnText (d : DecoderState) (bytes : List ℕ) : Type 0 where
+  pub between : MayBeLatin1 d
+  pub compatible : IsAsciiCompatible (rule_of d.encoding)
+  pub ascii : AreAscii bytes

@@ -9,7 +9,12 @@ ghost use Rattle.enc_reader.specs.Source.{TellsNoMore};
 ghost use Rattle.std.proofs.Props.{props};
 
 use crate::source::Source;
+use encoding_rs::laws::ascii_compatible_decode_ascii;
 use encoding_rs::{CoderResult, Decoder, Encoding, UTF_8};
+
+/// ASCII is lent from this many bytes on. Fewer are decoded together with what follows them, since a caller writes each text
+/// by itself.
+const LEAST_LENT: usize = 4096;
 
 /// Why a read has failed.
 #[derive(PartialEq, Eq, Debug, Drop)]
@@ -18,6 +23,15 @@ pub enum ReadFault {
     Reader = 1,
     /// A read before has failed.
     Failed = 2,
+}
+
+/// The text of a read that may lend it: [`DecodeReader::text`] has the bytes.
+#[derive(Clone, Copy, Debug)]
+pub struct Handed {
+    /// How many bytes it has.
+    len: usize,
+    /// Whether they stand in the reader's own buffer, before the bytes that are not decoded yet.
+    lent: bool,
 }
 
 /// What a turn of the decoder has come to.
@@ -97,8 +111,8 @@ impl<'a, R: Source> DecodeReader<'a, R> {
     ghost use Rattle.std.specs.Prelude.{ℕ, List};
     ghost use Rattle.encoding_rs.specs.Decoding.{whole_encoding, whole_sequences};
     ghost use Rattle.enc_reader.specs.Reading.{FailsToRead, HandsOut, IsAtItsEnd, fresh_reader, owed, owed_encoding};
-    ghost use Rattle.enc_reader.specs.Turn.{IsTurn, IsWaiting, Pulls};
-    ghost use Rattle.enc_reader.specs.Reader.{state_of};
+    ghost use Rattle.enc_reader.specs.Turn.{Fills, IsOwnText, IsTurn, IsWaiting, Pulls};
+    ghost use Rattle.enc_reader.specs.Reader.{IsAtHand, handed_text, state_of, written_len};
 
     /// A reader of `reader`, through the buffer `input`, which decodes by `encoding`, or by UTF-8 where none is given, unless a
     /// byte order mark tells another. It reads nothing yet. If the source has failed, so has the reader. Condition: `input` is not
@@ -235,6 +249,94 @@ impl<'a, R: Source> DecodeReader<'a, R> {
         }
         self.had_errors |= replaced;
         Ok(turn.written)
+    }
+
+    /// Reads the next chunk if every byte of the one before is decoded and the source has not ended. On `Err`, which is `Reader`,
+    /// the source has failed.
+    fn fill(&mut self) -> Result<(), ReadFault>
+        requires going { self.old.failed ≡ false }
+        ensures ok { OnOk result (Fills (R.told self.old.reader.now) (R.told self.new.reader.now) (state_of self.old) (state_of self.new)) }
+        ensures kept { OnOk result (R.has_failed self.new.reader.now ≡ R.has_failed self.old.reader.now) }
+        ensures going { OnOk result (self.new.failed ≡ false) }
+        ensures err { OnErr result (FailsToRead (R.told self.old.reader.now) (R.told self.new.reader.now)
+            (R.has_failed self.old.reader.now) (R.has_failed self.new.reader.now) (state_of self.old) (state_of self.new)) }
+        ensures failed { OnErr result (self.new.failed ≡ true) }
+        ensures fault { IfErr result (λ fault. fault ≡ ReadFault.Reader) }
+        ensures had_errors { self.new.had_errors ≡ self.old.had_errors }
+        ensures same_reader { self.new.reader.ghost_name ≡ self.old.reader.ghost_name }
+    {
+        if (self.at == self.filled) & !self.ended {
+            self.pull()?;
+        }
+        Ok(())
+    }
+
+    /// How many unread bytes in front are ASCII and their own text: 0 in an encoding that is not ASCII-compatible, as long as a
+    /// byte order mark may come, and within a sequence.
+    fn ascii_ahead(&self) -> usize
+        ensures within { result ≤ self.now.filled - self.now.at }
+        ensures own { 0 < result → IsOwnText (state_of self.now).decoder (take result (state_of self.now).unread) }
+    {
+        let encoding = self.decoder.encoding();
+        ascii_compatible_decode_ascii(encoding);
+        if !encoding.is_ascii_compatible() {
+            return 0;
+        }
+        match self.decoder.latin1_byte_compatible_up_to(&[]) {
+            None => 0,
+            Some(_) => Encoding::ascii_valid_up_to(&self.input[self.at..self.filled]),
+        }
+    }
+
+    /// Hands out the next text as [`DecodeReader::read_str`] does, but copies no long stretch of ASCII: it lends it, where it was
+    /// read, in the reader's own buffer. [`DecodeReader::text`] returns the text, which is empty only at the end, until the next
+    /// read. Condition: `dst` has four bytes or more.
+    ///
+    /// What it lends is ASCII that an ASCII-compatible encoding decodes to itself, 4096 bytes and more; `dst` stays then. Errors
+    /// are those of `read_str`. Takes no memory.
+    pub fn read_or_lend(&mut self, dst: &mut [u8]) -> Result<Handed, ReadFault>
+        requires { 4 ≤ length dst.old }
+        ensures ok { IfOk result (λ handed. HandsOut (R.told self.old.reader.now) (R.told self.new.reader.now) (state_of self.old) (state_of self.new)
+            (handed_text self.new dst.new handed) self.old.had_errors self.new.had_errors) }
+        ensures at_hand { IfOk result (λ handed. IsAtHand self.new dst.new handed) }
+        ensures utf_8 { IfOk result (λ handed. IsUtf8 (handed_text self.new dst.new handed)) }
+        ensures end { IfOk result (λ handed. handed_text self.new dst.new handed ≡ [] → IsAtItsEnd (R.told self.new.reader.now) (state_of self.new)) }
+        ensures rest { IfOk result (λ handed. drop (written_len handed) dst.new ≡ drop (written_len handed) dst.old) }
+        ensures length { length dst.new ≡ length dst.old }
+        ensures kept { OnOk result (R.has_failed self.new.reader.now ≡ R.has_failed self.old.reader.now) }
+        ensures unwritten { OnErr result (dst.new ≡ dst.old) }
+        ensures no_error { OnErr result (self.new.had_errors ≡ self.old.had_errors) }
+        ensures reader_fault { IsErrOf result ReadFault.Reader → FailsToRead (R.told self.old.reader.now) (R.told self.new.reader.now)
+            (R.has_failed self.old.reader.now) (R.has_failed self.new.reader.now) (state_of self.old) (state_of self.new) }
+        ensures from_then_on { IsErrOf result ReadFault.Failed ↔ self.old.failed ≡ true }
+        ensures unchanged { IsErrOf result ReadFault.Failed → self.new ≡ self.old }
+        ensures going { OnOk result (self.new.failed ≡ false) }
+        ensures failed { OnErr result (self.new.failed ≡ true) }
+        ensures same_reader { self.new.reader.ghost_name ≡ self.old.reader.ghost_name }
+    {
+        if self.failed {
+            return Err(ReadFault::Failed);
+        }
+        self.fill()?;
+        let len = self.ascii_ahead();
+        if len >= LEAST_LENT {
+            self.at += len;
+            return Ok(Handed { len, lent: true });
+        }
+        let len = self.read_str(dst)?;
+        Ok(Handed { len, lent: false })
+    }
+
+    /// The text that the last read has handed out, which was given `dst`. Condition: there was no read and no write to `dst` since.
+    pub fn text<'b>(&'b self, dst: &'b [u8], handed: Handed) -> &'b [u8]
+        requires { IsAtHand self.now dst.now handed }
+        ensures { result.now ≡ handed_text self.now dst.now handed }
+    {
+        if handed.lent {
+            &self.input[self.at - handed.len..self.at]
+        } else {
+            &dst[..handed.len]
+        }
     }
 
     /// The encoding that its decoder decodes: that of a mark that was read, or else the one that it was made with. It may be

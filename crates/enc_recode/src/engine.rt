@@ -144,11 +144,13 @@ fn run_through<R: Source, W: Sink>(
     let mut encoder = to.new_encoder();
     let mut replaced = false;
     'reads: for _ in 0..u64::MAX {
-        let Ok(n) = decoding.read_str(text) else {
+        let Ok(handed) = decoding.read_or_lend(text) else {
             return Err(RecodeFault::Read);
         };
-        replaced |= push_text(&mut encoder, writer, &text[..n], output, n == 0)?;
-        if n == 0 {
+        let piece = decoding.text(text, handed);
+        let last = piece.is_empty();
+        replaced |= push_text(&mut encoder, writer, piece, output, last)?;
+        if last {
             return Ok(decoding.had_errors() | replaced);
         }
     }

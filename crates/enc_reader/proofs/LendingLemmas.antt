@@ -1,0 +1,148 @@
+-- ASCII that is handed out where it was read, and a read after a chunk was pulled.
+use Rattle.std.proofs.Common.{◌≡◌, ℕ, suc, ◌+◌, ◌-◌, ◌^◌, ◌<◌, ◌≤◌, ◌⊎◌, inl, inr, Bool, true, false, ◌||◌, List, [], ◌∷◌, ◌++◌, length, take, drop, Option, refl, ap, ◌∙◌, sym, subst, arith, IsUtf8, append_assoc, length-append}
+use Rattle.std.proofs.Math.ListN.{length-drop}
+use Rattle.std.proofs.lemmas.List.{length-take, take-append-drop, take-take}
+use Rattle.std.specs.Char.{encode_utf8}
+use Rattle.enc_units.specs.Output.{AreScalars, units_of_text}
+use Rattle.enc_units.specs.Validity.{AreAscii}
+use Rattle.enc_units.proofs.ScalarLemmas.{ascii_scalars}
+use Rattle.enc_units.proofs.Utf8SliceLemmas.{ascii_units}
+use Rattle.enc_machine.specs.declared.byte_codec.Kind.TheVariants.{Valid}
+use Rattle.enc_machine.specs.Sequence.{Sequence, text_of, any_malformed}
+use Rattle.enc_machine.specs.Segmentation.{Rule, sequences_of}
+use Rattle.enc_codec.specs.Properties.{IsAsciiCompatible}
+use Rattle.encoding_rs.specs.LifeCycle.{phase_of, mark_in, encoding_by, sequences_in}
+use Rattle.encoding_rs.specs.Encodings.{rule_of}
+use Rattle.encoding_rs.specs.Decoding.{DecoderState, finished, has_ended, remaining_sequences}
+use Rattle.encoding_rs.specs.Latin1.{MayBeLatin1}
+use Rattle.enc_reader.specs.Source.{TellsNoMore}
+use Rattle.enc_reader.specs.Reading.{ReaderState, Reads, HandsOut, FailsToRead, owed}
+use Rattle.enc_reader.specs.Turn.{Fills, IsOwnText}
+use Rattle.enc_reader.proofs.SourceLemmas.{TellsNext-none}
+use Rattle.enc_reader.proofs.ReadingLemmas.{Reads-none, Reads-then, before_end, left_of, handed_utf_8}
+
+-- the sequences of ASCII bytes
+abbrev own : List ℕ → List Sequence
+own [] = []
+own (b ∷ bs) = record { bytes = b ∷ []; text = b ∷ []; kind = Valid; set = 0 } ∷ own bs
+
+own_text : (bs : List ℕ) → text_of (own bs) ≡ bs
+own_text [] = refl
+own_text (b ∷ bs) = ap (λ x. b ∷ x) (own_text bs)
+
+own_valid : (bs : List ℕ) → any_malformed (own bs) ≡ false
+own_valid [] = refl
+own_valid (b ∷ bs) = own_valid bs
+
+own_first : (rule : Rule) → IsAsciiCompatible rule → (bs z : List ℕ) → AreAscii bs
+    → sequences_of rule 0 (bs ++ z) ≡ own bs ++ sequences_of rule 0 z
+own_first rule c [] z a = refl
+own_first rule c (b ∷ bs) z a =
+    c b (a 0 0 (omega arith)) (bs ++ z)
+    ∙ ap (λ ss. record { bytes = b ∷ []; text = b ∷ []; kind = Valid; set = 0 } ∷ ss) (own_first rule c bs z (λ k d h. a (suc k) d (omega arith)))
+
+module _ (d : DecoderState) (m : MayBeLatin1 d) where
+  between_sequences : (y : List ℕ) → remaining_sequences d y ≡ sequences_of (rule_of d.encoding) 0 y
+  between_sequences y =
+      ap (λ l. sequences_in (phase_of l) d.encoding d.set (d.pending ++ y)) m.converting
+      ∙ ap (λ p. sequences_of (rule_of d.encoding) d.set (p ++ y)) m.none_pending
+      ∙ ap (λ s. sequences_of (rule_of d.encoding) s y) m.at_start
+
+  no_mark : (y : List ℕ) → encoding_by (mark_in (phase_of d.life) y) d.encoding ≡ d.encoding
+  no_mark y = ap (λ l. encoding_by (mark_in (phase_of l) y) d.encoding) m.converting
+
+  unfinished : finished d ≡ false
+  unfinished = ap has_ended m.converting
+
+-- what is lent of a chunk
+module _ (d : DecoderState) (src : List ℕ) (ended : Bool) (n : ℕ) (within : n ≤ length src) (o : IsOwnText d (take n src)) where
+  abbrev before : ReaderState
+  before = record { decoder = d; unread = src; ended = ended }
+
+  abbrev after : ReaderState
+  after = record { decoder = d; unread = drop n src; ended = ended }
+
+  comes_first : (z : List ℕ) → owed before z ≡ own (take n src) ++ owed after z
+  comes_first z =
+      between_sequences d o.between (src ++ z)
+      ∙ ap (λ x. sequences_of (rule_of d.encoding) 0 (x ++ z)) (sym (take-append-drop n src))
+      ∙ ap (sequences_of (rule_of d.encoding) 0) (append_assoc (take n src) (drop n src) z)
+      ∙ own_first (rule_of d.encoding) o.compatible (take n src) (drop n src ++ z) o.ascii
+      ∙ ap (λ ss. own (take n src) ++ ss) (sym (between_sequences d o.between (drop n src ++ z)))
+
+  pub Reads-lent : (told : Option (List ℕ)) → Reads told told before after [] (take n src) false
+  Reads-lent told = record {
+    given = TellsNext-none told;
+    none_behind = λ e. (refl, e);
+    done = own (take n src);
+    residual = λ z h. comes_first z;
+    encoding = λ z h. no_mark d o.between (d.pending ++ (drop n src ++ z)) ∙ sym (no_mark d o.between (d.pending ++ (src ++ z)));
+    scalars = subst AreScalars (sym (own_text (take n src))) (ascii_scalars (take n src) o.ascii);
+    text = sym (ascii_units (take n src) o.ascii) ∙ ap (units_of_text encode_utf8) (sym (own_text (take n src)));
+    flag = sym (own_valid (take n src));
+    nearer = omega (arith, before_end before (unfinished d o.between), before_end after (unfinished d o.between), length-drop n src, length-take n src);
+  }
+
+or_false : (b : Bool) → b ≡ (b || false)
+or_false true = refl
+or_false false = refl
+
+pub HandsOut-lent : (told : Option (List ℕ)) (d : DecoderState) (src : List ℕ) (ended : Bool) (n : ℕ) (had : Bool) → n ≤ length src
+    → IsOwnText d (take n src) → (ended ≡ true → TellsNoMore told)
+    → HandsOut told told (record { decoder = d; unread = src; ended = ended }) (record { decoder = d; unread = drop n src; ended = ended }) (take n src) had had
+HandsOut-lent told d src ended n had within o none = record {
+  bytes = [];
+  malformed = false;
+  reads = Reads-lent d src ended n within o told;
+  flag = or_false had;
+  none_told = none;
+}
+
+-- the same, by places in the buffer
+pub HandsOut-chunk : (told : Option (List ℕ)) (d : DecoderState) (filled at n : ℕ) (xs : List ℕ) (ended had : Bool) → at ≤ filled → filled ≤ length xs
+    → n ≤ filled - at → IsOwnText d (take n (take (filled - at) (drop at xs))) → (ended ≡ true → TellsNoMore told)
+    → HandsOut told told (record { decoder = d; unread = take (filled - at) (drop at xs); ended = ended })
+    (record { decoder = d; unread = take (filled - (at + n)) (drop (at + n) xs); ended = ended }) (take n (drop (at + n - n) xs)) had had
+HandsOut-chunk told d filled at n xs ended had h w within o none =
+    let src : List ℕ = take (filled - at) (drop at xs) in
+    let few : n ≤ length src = omega (arith, h, w, within, length-take (filled - at) (drop at xs), length-drop at xs) in
+    let place : at ≡ at + n - n = omega arith in
+    let text : take n src ≡ take n (drop (at + n - n) xs) = take-take n (filled - at) (drop at xs) within ∙ ap (λ k. take n (drop k xs)) place in
+    subst (λ u. HandsOut told told (record { decoder = d; unread = src; ended = ended }) (record { decoder = d; unread = u; ended = ended }) (take n (drop (at + n - n) xs)) had had)
+    (left_of filled at n xs h few)
+    (subst (λ t. HandsOut told told (record { decoder = d; unread = src; ended = ended }) (record { decoder = d; unread = drop n src; ended = ended }) t had had)
+    text (HandsOut-lent told d src ended n had few o none))
+
+pub handed_is_utf_8 : (t₀ t : Option (List ℕ)) (a b : ReaderState) (wrote : List ℕ) (had_before had_after : Bool) → HandsOut t₀ t a b wrote had_before had_after → IsUtf8 wrote
+handed_is_utf_8 t₀ t a b wrote had_before had_after h = handed_utf_8 t₀ t a b h.bytes wrote h.malformed h.reads
+
+-- a chunk that can't be pulled
+pub FailsToRead-pull : (t₀ t₁ : Option (List ℕ)) (failed_before failed_after : Bool) (a b : ReaderState) → t₁ ≡ t₀ → failed_after ≡ true → b ≡ a
+    → a.ended ≡ false → failed_before ≡ false → FailsToRead t₀ t₁ failed_before failed_after a b
+FailsToRead-pull t₀ t₁ failed_before failed_after a b same failed stays unended going =
+    rw (same, stays)
+    (record { bytes = []; malformed = false; reads = Reads-none t₀ a; not_ended = unended; not_before = going; why = inl failed })
+
+-- a read after a chunk was pulled
+module _ (t₀ t₁ t₂ : Option (List ℕ)) (a b c : ReaderState) (f : Fills t₀ t₁ a b) where
+  pub HandsOut-filled : (wrote : List ℕ) (had_before had_after : Bool) → HandsOut t₁ t₂ b c wrote had_before had_after → HandsOut t₀ t₂ a c wrote had_before had_after
+  HandsOut-filled wrote had_before had_after h = record {
+    bytes = f.bytes ++ h.bytes;
+    malformed = h.malformed;
+    reads = Reads-then t₀ t₁ t₂ a b c f.bytes h.bytes [] wrote false h.malformed f.reads h.reads;
+    flag = h.flag;
+    none_told = h.none_told;
+  }
+
+  pub FailsToRead-filled : (failed_before failed_between failed_after : Bool) → failed_between ≡ failed_before → FailsToRead t₁ t₂ failed_between failed_after b c → FailsToRead t₀ t₂ failed_before failed_after a c
+  FailsToRead-filled failed_before failed_between failed_after e h = record {
+    bytes = f.bytes ++ h.bytes;
+    malformed = h.malformed;
+    reads = Reads-then t₀ t₁ t₂ a b c f.bytes h.bytes [] [] false h.malformed f.reads h.reads;
+    not_ended = h.not_ended;
+    not_before = sym e ∙ h.not_before;
+    why = elim h.why [
+      | inl t ↦ inl t
+      | inr l ↦ inr (omega (arith, l, length-append f.bytes h.bytes))
+    ];
+  }

@@ -1,0 +1,28 @@
+use Rattle.std.proofs.Common.{arith, rules, ◌<◌}
+use Rattle.enc_reader.proofs.LendingLemmas.{HandsOut-filled, HandsOut-chunk, FailsToRead-filled, handed_is_utf_8}
+use Rattle.enc_reader.proofs.decode_reader.DecodeReader.read_or_lend.Goals as goal
+
+pub returns-then-len-ge-LEAST_LENT-clause-ok : goal.returns-then-len-ge-LEAST_LENT-clause-ok
+returns-then-len-ge-LEAST_LENT-clause-ok g c =
+    let r = c.fill.new.self in
+    let some : 0 < c.ascii_ahead-len.result = omega arith in
+    rw c.fill.ensures.had_errors
+    (HandsOut-filled _ _ _ _ _ _ c.in_ok-fill.ensures.ok _ _ _
+    (HandsOut-chunk _ _ r.filled r.at c.ascii_ahead-len.result r.input.now _ _ r.decoded r.within c.ascii_ahead-len.ensures.within
+    (c.ascii_ahead-len.ensures.own some) r.none_told))
+
+pub returns-then-len-ge-LEAST_LENT-clause-utf_8 : goal.returns-then-len-ge-LEAST_LENT-clause-utf_8
+returns-then-len-ge-LEAST_LENT-clause-utf_8 g c =
+    let r = c.fill.new.self in
+    let some : 0 < c.ascii_ahead-len.result = omega arith in
+    handed_is_utf_8 _ _ _ _ _ _ _
+    (HandsOut-chunk _ _ r.filled r.at c.ascii_ahead-len.result r.input.now _ r.had_errors r.decoded r.within c.ascii_ahead-len.ensures.within
+    (c.ascii_ahead-len.ensures.own some) r.none_told)
+
+pub returns-in_err-len-clause-reader_fault : goal.returns-in_err-len-clause-reader_fault
+returns-in_err-len-clause-reader_fault g c =
+    λ e. FailsToRead-filled _ _ _ _ _ _ c.in_ok-fill.ensures.ok _ _ _ c.in_ok-fill.ensures.kept (c.in_err-len.ensures.reader_fault (search rules))
+
+pub returns-clause-ok : goal.returns-clause-ok
+returns-clause-ok g c =
+    rw (← c.fill.ensures.had_errors) (HandsOut-filled _ _ _ _ _ _ c.in_ok-fill.ensures.ok _ _ _ c.in_ok-len.ensures.ok)
