@@ -1,6 +1,7 @@
 -- A run, over its reads.
-use Rattle.std.proofs.Common.{◌≡◌, ℕ, ◌+◌, ◌*◌, ◌<◌, ◌≤◌, Bool, true, false, ◌||◌, List, [], ◌++◌, length, Option, refl, ap, ◌∙◌, sym, subst, append_assoc, append-nil, length-append, arith, chars}
+use Rattle.std.proofs.Common.{◌≡◌, ℕ, ◌+◌, ◌*◌, ◌<◌, ◌≤◌, Bool, true, false, ◌||◌, List, [], ◌∷◌, ◌++◌, length, nat_eq, Option, refl, ap, ◌∙◌, sym, subst, append_assoc, append-nil, length-append, arith, chars}
 use Rattle.std.proofs.lemmas.Bool.{false≢true}
+use Rattle.std.proofs.lemmas.Bool.Decides.{nat_tests}
 use Rattle.std.proofs.lemmas.Str.{chars-encodes, chars-append, chars-nil}
 use Rattle.std.specs.Prelude.{IsErr, IsErrOf, Ok, Err}
 use Rattle.std.specs.declared.result.Result.{Result}
@@ -27,6 +28,20 @@ use Rattle.enc_recode.specs.Writing.{HasEncoded, StopsWithin, bytes_from}
 use Rattle.enc_recode.specs.Run.{RunsToEnd, RunsToFault, whole_text, recoded, any_replaced}
 use Rattle.enc_recode.proofs.KnownLemmas.{TakesMore-none, TakesMore-then, all_told, none_told}
 use Rattle.enc_recode.proofs.EncodingLemmas.{not_ended, HasEncoded-none, HasEncoded-more}
+
+-- a text that is empty, and one that isn't
+pub no_text : (text : List ℕ) → nat_eq (length text) 0 ≡ true → text ≡ []
+no_text [] e = refl
+no_text (b ∷ text) e = absurd (grind (arith, nat_tests))
+
+pub some_text : (text : List ℕ) → nat_eq (length text) 0 ≡ false → 0 < length text
+some_text [] e = absurd (false≢true (sym e))
+some_text (b ∷ text) e = omega arith
+
+-- what is handed out, where it is known by another name
+pub HandsOut-by : (t₁ t₂ : Option (List ℕ)) (a b : ReaderState) (text wrote : List ℕ) (m₁ m₂ : Bool) → text ≡ wrote
+    → HandsOut t₁ t₂ a b wrote m₁ m₂ → HandsOut t₁ t₂ a b text m₁ m₂
+HandsOut-by t₁ t₂ a b text wrote m₁ m₂ e h = rw e h
 
 -- The text owed before is that handed out and that owed now.
 
@@ -189,7 +204,7 @@ module _ (from to : Encoding) (t₀ t₁ k₀ k₁ : Option (List ℕ)) (old : R
     RunsToFault-reading = stops_at t₂ new f.bytes f.malformed f.reads (λ e. absurd (false≢true (sym f.not_ended ∙ e)))
 
 -- A read that fails, of a reader that had not failed, tells a fault of its source.
-pub is_readers : (r : Result ℕ ReadFault) → IsErr r → (IsErrOf r fault.Failed → ⊥) → IsErrOf r fault.Reader
+pub is_readers : {T : Type 0} (r : Result T ReadFault) → IsErr r → (IsErrOf r fault.Failed → ⊥) → IsErrOf r fault.Reader
 is_readers (Ok n) e f = absurd (false≢true e)
 is_readers (Err fault.Reader) e f = refl
 is_readers (Err fault.Failed) e f = absurd (f refl)

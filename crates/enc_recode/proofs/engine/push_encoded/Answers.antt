@@ -1,6 +1,6 @@
-use Rattle.std.proofs.Common.{rules, arith, ◌≡◌, ◌≤◌, refl, length}
+use Rattle.std.proofs.Common.{rules, ◌≡◌, refl}
 use Rattle.enc_calls.specs.declared.coder_result.CoderResult.TheVariants.{InputEmpty}
-use Rattle.enc_recode.proofs.KnownLemmas.{on_err}
+use Rattle.enc_reader.proofs.SourceLemmas.{on_err}
 use Rattle.enc_recode.proofs.EncodingLemmas.{HasEncoded-none, HasEncoded-call, HasEncoded-last, StopsWithin-encoding}
 use Rattle.enc_recode.proofs.engine.push_encoded.Goals as goal
 

@@ -1,6 +1,7 @@
 use Rattle.std.proofs.Common.{rules, ◌≡◌, []}
 use Rattle.encoding_rs.specs.declared.encoding.TheConstants.{UTF_8}
-use Rattle.enc_recode.proofs.KnownLemmas.{on_err, TakesMore-none}
+use Rattle.enc_reader.proofs.SourceLemmas.{on_err}
+use Rattle.enc_recode.proofs.KnownLemmas.{TakesMore-none}
 use Rattle.enc_recode.proofs.EncodingLemmas.{EncodesText-utf_8, StopsWithin-text}
 use Rattle.enc_recode.proofs.engine.push_text.Goals as goal
 

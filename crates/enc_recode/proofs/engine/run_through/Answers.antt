@@ -1,9 +1,7 @@
-use Rattle.std.proofs.Common.{arith, rules, ◌≡◌, ◌<◌, ◌∙◌, sym, nat_eq, length, take, true, false}
+use Rattle.std.proofs.Common.{rules, ◌≡◌, ◌<◌, ◌∙◌, sym, length, true, false}
 use Rattle.std.proofs.lemmas.Bool.{false≢true}
-use Rattle.std.proofs.lemmas.Bool.Decides.{nat_tests}
-use Rattle.std.proofs.lemmas.List.{length-take}
-use Rattle.enc_recode.proofs.KnownLemmas.{on_err}
-use Rattle.enc_recode.proofs.RunLemmas.{HasRun-start, HasRun-more, RunsToEnd-last, RunsToEnd-by, RunsToFault-between, RunsToFault-within, RunsToFault-reading, RunsToFault-by, is_readers}
+use Rattle.enc_reader.proofs.SourceLemmas.{on_err}
+use Rattle.enc_recode.proofs.RunLemmas.{HandsOut-by, HasRun-start, HasRun-more, RunsToEnd-last, RunsToEnd-by, RunsToFault-between, RunsToFault-within, RunsToFault-reading, RunsToFault-by, is_readers, no_text, some_text}
 use Rattle.enc_recode.proofs.engine.run_through.Goals as goal
 
 pub reads-init : goal.reads-init
@@ -20,29 +18,29 @@ reads-init g c = record {
 pub returns-in_default-clause-err : goal.returns-in_default-clause-err
 returns-in_default-clause-err g c =
     let i = c.reads.invariant in
-    let fault = is_readers c.read_str.result (search rules) (λ f. false≢true (sym i.going ∙ c.read_str.ensures.from_then_on.0 f)) in
-    RunsToFault-by _ _ _ _ _ _ _ (search rules) (RunsToFault-reading _ _ _ _ _ _ _ _ _ _ _ i.ran _ _ _ _ (c.read_str.ensures.reader_fault fault))
+    let fault = is_readers c.read_or_lend.result (search rules) (λ f. false≢true (sym i.going ∙ c.read_or_lend.ensures.from_then_on.0 f)) in
+    RunsToFault-by _ _ _ _ _ _ _ (search rules) (RunsToFault-reading _ _ _ _ _ _ _ _ _ _ _ i.ran _ _ _ _ (c.read_or_lend.ensures.reader_fault fault))
 
 pub returns-in_err-replaced-clause-err : goal.returns-in_err-replaced-clause-err
 returns-in_err-replaced-clause-err g c =
     on_err c.from_residual.result _
-    (RunsToFault-by _ _ _ (g.R.Source.told c.read_str.new.self.reader.now) _ _ _ (search rules)
-    (RunsToFault-within _ _ _ _ _ _ _ _ _ _ _ _ _ _ _ c.reads.invariant.ran c.in-Ok.ensures.ok _ _
-    (λ (last : nat_eq c.in-Ok.n 0 ≡ true). c.in-Ok.ensures.end (grind (arith, nat_tests))) c.in_err-replaced.ensures.err))
+    (RunsToFault-by _ _ _ (g.R.Source.told c.read_or_lend.new.self.reader.now) _ _ _ (search rules)
+    (RunsToFault-within _ _ _ _ _ _ _ _ _ _ _ _ _ _ _ c.reads.invariant.ran (HandsOut-by _ _ _ _ _ _ _ _ c.text-piece.ensures c.in-Ok.ensures.ok) _ _
+    (λ (last : c.is_empty-last.result ≡ true). c.in-Ok.ensures.end (no_text _ (search rules))) c.in_err-replaced.ensures.err))
 
-pub returns-then-n-eq0-clause-ok : goal.returns-then-n-eq0-clause-ok
-returns-then-n-eq0-clause-ok g c =
-    let last : nat_eq c.in-Ok.n 0 ≡ true = search rules in
-    RunsToEnd-by _ _ _ (g.R.Source.told c.read_str.new.self.reader.now) _ _ _ _ _ (search rules) (search rules)
-    (RunsToEnd-last _ _ _ _ _ _ _ _ _ _ _ _ _ _ _ c.reads.invariant.ran c.in-Ok.ensures.ok _ _ _ _ c.in_ok-replaced.ensures.ok
-    (c.in-Ok.ensures.end (search rules)) (c.in_ok-replaced.ensures.ended last) last)
+pub returns-then-last-clause-ok : goal.returns-then-last-clause-ok
+returns-then-last-clause-ok g c =
+    let last : c.is_empty-last.result ≡ true = search rules in
+    RunsToEnd-by _ _ _ (g.R.Source.told c.read_or_lend.new.self.reader.now) _ _ _ _ _ (search rules) (search rules)
+    (RunsToEnd-last _ _ _ _ _ _ _ _ _ _ _ _ _ _ _ c.reads.invariant.ran (HandsOut-by _ _ _ _ _ _ _ _ c.text-piece.ensures c.in-Ok.ensures.ok) _ _ _ _ c.in_ok-replaced.ensures.ok
+    (c.in-Ok.ensures.end (no_text _ (search rules))) (c.in_ok-replaced.ensures.ended last) last)
 
 pub reads-preserved : goal.reads-preserved
 reads-preserved g c =
-    let last : nat_eq c.in-Ok.n 0 ≡ false = search rules in
-    let some : 0 < length (take c.in-Ok.n c.read_str.new.dst) = rw (length-take c.in-Ok.n c.read_str.new.dst) (search rules) in
+    let last : c.is_empty-last.result ≡ false = search rules in
+    let some : 0 < length c.text-piece.result.now = some_text _ (search rules) in
     record {
-      ran = HasRun-more _ _ _ _ _ _ _ _ _ _ _ _ _ _ _ c.reads.invariant.ran c.in-Ok.ensures.ok _ _ _ _ c.in_ok-replaced.ensures.ok last some;
+      ran = HasRun-more _ _ _ _ _ _ _ _ _ _ _ _ _ _ _ c.reads.invariant.ran (HandsOut-by _ _ _ _ _ _ _ _ c.text-piece.ensures c.in-Ok.ensures.ok) _ _ _ _ c.in_ok-replaced.ensures.ok last some;
       text_room = search rules;
       room = c.in_ok-replaced.ensures.room_kept;
       going = search rules;
