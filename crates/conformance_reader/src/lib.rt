@@ -5,4 +5,6 @@
 #![tactic(auto)]
 
 #[cfg(test)]
+mod lending;
+#[cfg(test)]
 mod reads;
