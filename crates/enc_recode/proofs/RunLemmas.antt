@@ -1,9 +1,9 @@
 -- A run, over its reads.
-use Rattle.std.proofs.Common.{◌≡◌, ℕ, ◌+◌, ◌*◌, ◌<◌, ◌≤◌, Bool, true, false, ◌||◌, List, [], ◌∷◌, ◌++◌, length, nat_eq, Option, refl, ap, ◌∙◌, sym, subst, append_assoc, append-nil, length-append, arith, chars}
+use Rattle.std.proofs.Common.{◌≡◌, ℕ, ◌+◌, ◌-◌, ◌*◌, ◌^◌, ◌<◌, ◌≤◌, inl, inr, Bool, true, false, ◌||◌, List, [], ◌∷◌, ◌++◌, length, nat_eq, Option, Some, None, refl, ap, ◌∙◌, sym, subst, append_assoc, append-nil, length-append, arith, chars}
 use Rattle.std.proofs.lemmas.Bool.{false≢true}
 use Rattle.std.proofs.lemmas.Bool.Decides.{nat_tests}
 use Rattle.std.proofs.lemmas.Str.{chars-encodes, chars-append, chars-nil}
-use Rattle.std.specs.Prelude.{IsErr, IsErrOf, Ok, Err}
+use Rattle.std.specs.Prelude.{IsErr, IsErrOf, IfSome, Ok, Err}
 use Rattle.std.specs.declared.result.Result.{Result}
 use Rattle.enc_units.proofs.Utf8CharsLemmas.{their_units}
 use Rattle.enc_machine.specs.Sequence.{text_of, any_malformed}
@@ -20,12 +20,14 @@ use Rattle.encoding_rs.proofs.EndLemmas.{fresh_sequences, none_left}
 use Rattle.encoding_rs.proofs.ProgressLemmas.{none_due, output_rule_is}
 use Rattle.enc_reader.specs.declared.decode_reader.ReadFault.{ReadFault}
 use Rattle.enc_reader.specs.declared.decode_reader.ReadFault.TheVariants as fault
-use Rattle.enc_reader.specs.Source.{TellsNoMore}
+use Rattle.enc_reader.specs.Source.{TellsNext, TellsNoMore}
 use Rattle.enc_reader.specs.Reading.{ReaderState, Reads, HandsOut, FailsToRead, IsAtItsEnd, distance, fresh_reader, owed}
 use Rattle.enc_reader.proofs.SourceLemmas.{TellsNext-none, TellsNext-then}
 use Rattle.enc_reader.proofs.ReadingLemmas.{Reads-none, Reads-then, handed_utf_8}
 use Rattle.enc_recode.specs.Writing.{HasEncoded, StopsWithin, bytes_from}
-use Rattle.enc_recode.specs.Run.{RunsToEnd, RunsToFault, whole_text, recoded, any_replaced}
+use Rattle.enc_recode.specs.declared.engine.RecodeFault.{RecodeFault}
+use Rattle.enc_recode.specs.declared.engine.RecodeFault.TheVariants as side_fault
+use Rattle.enc_recode.specs.Run.{Recodes, Side, RunsToEnd, RunsToFault, whole_text, recoded, any_replaced}
 use Rattle.enc_recode.proofs.KnownLemmas.{TakesMore-none, TakesMore-then, all_told, none_told}
 use Rattle.enc_recode.proofs.EncodingLemmas.{not_ended, HasEncoded-none, HasEncoded-more}
 
@@ -227,3 +229,87 @@ RunsToFault-none from to t k = record {
   written = TakesMore-none k;
   prefix = λ z h. (recoded from to z, refl);
 }
+
+-- a run as a whole, by how it has ended
+
+no_fault : (replaced : Bool) (fault : RecodeFault) → IsErrOf (Ok replaced) fault → ⊥
+no_fault replaced fault e = cc
+
+reads_is_no_write : (r : Result Bool RecodeFault) → r ≡ Err side_fault.Read → IsErrOf r side_fault.Write → ⊥
+reads_is_no_write r e f = cc
+
+write_is_no_read : (r : Result Bool RecodeFault) → r ≡ Err side_fault.Write → IsErrOf r side_fault.Read → ⊥
+write_is_no_read r e f = cc
+
+module _ (from to : Encoding) (source_before source_after sink_before sink_after : Side) where
+  pub Recodes-ok : (r : Result Bool RecodeFault) (replaced : Bool) → r ≡ Ok replaced
+      → RunsToEnd from to source_before.bytes source_after.bytes sink_before.bytes sink_after.bytes replaced
+      → source_after.has_failed ≡ source_before.has_failed → sink_after.has_failed ≡ sink_before.has_failed
+      → Recodes from to source_before source_after sink_before sink_after r
+  Recodes-ok r replaced e ends source sink =
+      rw e (record {
+        ok = ends;
+        source_kept = source;
+        sink_kept = sink;
+        err = tt;
+        read_fault = λ f. absurd (no_fault replaced side_fault.Read f);
+        write_fault = λ f. absurd (no_fault replaced side_fault.Write f);
+      })
+
+  pub Recodes-read : RunsToFault from to source_before.bytes source_after.bytes sink_before.bytes sink_after.bytes
+      → IfSome source_before.bytes (λ all. length all < 2 ^ 62 → source_after.has_failed ≡ true)
+      → Recodes from to source_before source_after sink_before sink_after (Err side_fault.Read)
+  Recodes-read stops failed = record {
+    ok = tt;
+    source_kept = tt;
+    sink_kept = tt;
+    err = stops;
+    read_fault = λ _. failed;
+    write_fault = λ f. absurd (reads_is_no_write (Err side_fault.Read) refl f);
+  }
+
+  pub Recodes-write : (r : Result Bool RecodeFault) → r ≡ Err side_fault.Write
+      → RunsToFault from to source_before.bytes source_after.bytes sink_before.bytes sink_after.bytes
+      → sink_after.has_failed ≡ true
+      → Recodes from to source_before source_after sink_before sink_after r
+  Recodes-write r e stops failed =
+      rw e (record {
+        ok = tt;
+        source_kept = tt;
+        sink_kept = tt;
+        err = stops;
+        read_fault = λ f. absurd (write_is_no_read (Err side_fault.Write) refl f);
+        write_fault = λ _. failed;
+      })
+
+-- A source that says all its bytes gives no more than they are.
+
+given_length : (old new : Option (List ℕ)) (bytes : List ℕ) → TellsNext old new bytes → IfSome old (λ all. length bytes ≤ length all)
+given_length old None bytes h = subst (λ (o : Option (List ℕ)). IfSome o (λ all. length bytes ≤ length all)) (sym h) tt
+given_length old (Some xs) bytes h =
+    subst (λ (o : Option (List ℕ)). IfSome o (λ all. length bytes ≤ length all)) (sym h) (omega (arith, length-append bytes xs))
+
+if_some : (o : Option (List ℕ)) (P Q : List ℕ → Type 0) → ((all : List ℕ) → P all → Q all) → IfSome o P → IfSome o Q
+if_some None P Q f h = tt
+if_some (Some all) P Q f h = f all h
+
+module _ (from to : Encoding) (t₀ t₁ k₀ k₁ : Option (List ℕ)) (old : ReaderState) (encoder : EncoderState) (m₁ r₁ : Bool) (made : ℕ)
+    (p : HasRun from to t₀ t₁ k₀ k₁ old encoder m₁ r₁ made) where
+  -- so it has failed where a read fails
+  pub has_failed-reading : (t₂ : Option (List ℕ)) (failed_before failed_after : Bool) (new : ReaderState) → FailsToRead t₁ t₂ failed_before failed_after old new
+      → IfSome t₀ (λ all. length all < 2 ^ 62 → failed_after ≡ true)
+  has_failed-reading t₂ failed_before failed_after new f =
+      let given = TellsNext-then t₀ t₁ t₂ p.bytes f.bytes p.reads.given f.reads.given in
+      if_some t₀ (λ all. length (p.bytes ++ f.bytes) ≤ length all) (λ all. length all < 2 ^ 62 → failed_after ≡ true)
+      (λ all l few. elim f.why [
+        | inl e ↦ e
+        | inr many ↦ absurd (omega (arith, l, few, many, length-append p.bytes f.bytes))
+      ])
+      (given_length t₀ t₂ (p.bytes ++ f.bytes) given)
+
+  -- and there are not that many reads
+  pub has_failed-between : (failed : Bool) → made ≡ 2 ^ 64 - 1 → IfSome t₀ (λ all. length all < 2 ^ 62 → failed ≡ true)
+  has_failed-between failed many =
+      if_some t₀ (λ all. length p.bytes ≤ length all) (λ all. length all < 2 ^ 62 → failed ≡ true)
+      (λ all l few. absurd (omega (arith, l, few, many, p.enough)))
+      (given_length t₀ t₁ p.bytes p.reads.given)

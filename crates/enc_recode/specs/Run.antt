@@ -1,6 +1,7 @@
 -- What a run from a source to a sink does. Bytes are decoded by the encoding whose byte order mark stands in front of
 -- them, and else by `from`; the mark is no text. The text is written in the output encoding of `to`.
-use Rattle.std.specs.Prelude.{◌≡◌, ℕ, Bool, true, ◌||◌, List, [], ◌++◌, Option, IfSome, option_map}
+use Rattle.std.specs.Prelude.{◌≡◌, ℕ, ◌^◌, ◌<◌, Bool, true, ◌||◌, List, [], ◌++◌, length, Option, IfSome, option_map, IfOk, OnOk, OnErr, IsErrOf}
+use Rattle.std.specs.declared.result.Result.{Result}
 use Rattle.enc_machine.specs.Sequence.{text_of}
 use Rattle.enc_references.specs.Unmappable.{any_unmappable}
 use Rattle.encoding_rs.specs.declared.bom.BomHandling.TheVariants.{Sniff}
@@ -9,6 +10,8 @@ use Rattle.encoding_rs.specs.Encodings.{output_rule}
 use Rattle.encoding_rs.specs.Decoding.{whole_sequences, whole_malformed}
 use Rattle.encoding_rs.specs.EncodeRun.{whole_bytes}
 use Rattle.enc_reader.specs.Source.{TellsNext, TellsNoMore}
+use Rattle.enc_recode.specs.declared.engine.RecodeFault.{RecodeFault}
+use Rattle.enc_recode.specs.declared.engine.RecodeFault.TheVariants as fault
 use Rattle.enc_recode.specs.Sink.{TakesMore}
 
 -- One list begins with another.
@@ -54,3 +57,22 @@ pub record RunsToFault (from to : Encoding) (told_before told_after : Option (Li
   pub wrote : List ℕ
   pub written : TakesMore taken_before taken_after wrote
   pub prefix : (z : List ℕ) → (ended ≡ true → z ≡ []) → BeginsWith (recoded from to (bytes ++ z)) wrote
+
+-- A source or a sink: the bytes that it has still to give, or has taken, where it says them, and whether it has failed.
+pub record Side : Type 0 where
+  pub bytes : Option (List ℕ)
+  pub has_failed : Bool
+
+abbrev pub side : Option (List ℕ) → Bool → Side
+side bytes has_failed = record { bytes = bytes; has_failed = has_failed }
+
+-- A run from a source to a sink, by both before it and after it.
+pub record Recodes (from to : Encoding) (source_before source_after sink_before sink_after : Side) (result : Result Bool RecodeFault) : Type 0 where
+  -- It has come to the end of the source, and neither side has failed that had not failed before.
+  pub ok : IfOk result (RunsToEnd from to source_before.bytes source_after.bytes sink_before.bytes sink_after.bytes)
+  pub source_kept : OnOk result (source_after.has_failed ≡ source_before.has_failed)
+  pub sink_kept : OnOk result (sink_after.has_failed ≡ sink_before.has_failed)
+  -- A fault has stopped it, of the side that it names: of the source, if that says fewer than 2^62 bytes.
+  pub err : OnErr result (RunsToFault from to source_before.bytes source_after.bytes sink_before.bytes sink_after.bytes)
+  pub read_fault : IsErrOf result fault.Read → IfSome source_before.bytes (λ all. length all < 2 ^ 62 → source_after.has_failed ≡ true)
+  pub write_fault : IsErrOf result fault.Write → sink_after.has_failed ≡ true

@@ -1,13 +1,12 @@
 //! Recoding a source into a sink.
 
-ghost use Rattle.std.specs.Prelude.{◌≡◌, ◌^◌, ◌<◌, ◌≤◌, length, [], true, false, chars, IsUtf8, Ok, Err, IfOk, IfErr, OnOk, OnErr, IfSome, IsErrOf};
+ghost use Rattle.std.specs.Prelude.{◌≡◌, ◌<◌, ◌≤◌, length, [], true, false, chars, IsUtf8, IfOk, IfErr, OnOk, OnErr};
 ghost use Rattle.enc_encoders.specs.declared.character_set.CharacterSet.TheVariants.{Ascii};
 ghost use Rattle.encoding_rs.specs.declared.encoding.TheConstants.{UTF_8};
-ghost use Rattle.encoding_rs.specs.Properties.{output_encoding_of};
 ghost use Rattle.encoding_rs.specs.Encoder.{fresh_encoder};
 ghost use Rattle.enc_recode.specs.Sink.{TakesMore, TakesPrefix};
 ghost use Rattle.enc_recode.specs.Writing.{CanWrite, HasEncoded, StopsWithin, bytes_from};
-ghost use Rattle.enc_recode.specs.Run.{RunsToEnd, RunsToFault};
+ghost use Rattle.enc_recode.specs.Run.{Recodes, side};
 
 use crate::sink::Sink;
 use enc_reader::{DecodeReader, Source};
@@ -130,15 +129,8 @@ fn run_through<R: Source, W: Sink>(
     requires some { 0 < length input.old }
     requires text_room { 4 ≤ length text.old }
     requires room { CanWrite (fresh_encoder [] to) (length output.old) }
-    ensures ok { IfOk result (RunsToEnd from to (R.told reader.old) (R.told reader.new)
-        (W.taken writer.old) (W.taken writer.new)) }
-    ensures reader_kept { OnOk result (R.has_failed reader.new ≡ R.has_failed reader.old) }
-    ensures writer_kept { OnOk result (W.has_failed writer.new ≡ W.has_failed writer.old) }
-    ensures err { OnErr result (RunsToFault from to (R.told reader.old) (R.told reader.new)
-        (W.taken writer.old) (W.taken writer.new)) }
-    ensures read_fault { IsErrOf result RecodeFault.Read →
-        IfSome (R.told reader.old) (λ all. length all < 2 ^ 62 → R.has_failed reader.new ≡ true) }
-    ensures write_fault { IsErrOf result RecodeFault.Write → W.has_failed writer.new ≡ true }
+    ensures { Recodes from to (side (R.told reader.old) (R.has_failed reader.old)) (side (R.told reader.new) (R.has_failed reader.new))
+        (side (W.taken writer.old) (W.has_failed writer.old)) (side (W.taken writer.new) (W.has_failed writer.new)) result }
 {
     let mut decoding = DecodeReader::new(reader, Some(from), input);
     let mut encoder = to.new_encoder();
@@ -157,59 +149,9 @@ fn run_through<R: Source, W: Sink>(
     Err(RecodeFault::Read)
 }
 
-/// [`run`] where UTF-8 is written: text goes to the sink from the buffer that it is decoded to.
-fn run_to_utf8<R: Source, W: Sink>(
-    reader: &mut R,
-    writer: &mut W,
-    from: Encoding,
-    to: Encoding,
-) -> Result<bool, RecodeFault>
-    requires reader { R.has_failed reader.old ≡ false }
-    requires writer { W.has_failed writer.old ≡ false }
-    requires utf8 { output_encoding_of to ≡ UTF_8 }
-    ensures ok { IfOk result (RunsToEnd from to (R.told reader.old) (R.told reader.new)
-        (W.taken writer.old) (W.taken writer.new)) }
-    ensures reader_kept { OnOk result (R.has_failed reader.new ≡ R.has_failed reader.old) }
-    ensures writer_kept { OnOk result (W.has_failed writer.new ≡ W.has_failed writer.old) }
-    ensures err { OnErr result (RunsToFault from to (R.told reader.old) (R.told reader.new)
-        (W.taken writer.old) (W.taken writer.new)) }
-    ensures read_fault { IsErrOf result RecodeFault.Read →
-        IfSome (R.told reader.old) (λ all. length all < 2 ^ 62 → R.has_failed reader.new ≡ true) }
-    ensures write_fault { IsErrOf result RecodeFault.Write → W.has_failed writer.new ≡ true }
-{
-    let mut input = [0u8; 65536];
-    let mut text = [0u8; 65536];
-    run_through(reader, writer, from, to, &mut input, &mut text, &mut [])
-}
-
-/// [`run`] by an encoder.
-fn run_by_encoder<R: Source, W: Sink>(
-    reader: &mut R,
-    writer: &mut W,
-    from: Encoding,
-    to: Encoding,
-) -> Result<bool, RecodeFault>
-    requires reader { R.has_failed reader.old ≡ false }
-    requires writer { W.has_failed writer.old ≡ false }
-    ensures ok { IfOk result (RunsToEnd from to (R.told reader.old) (R.told reader.new)
-        (W.taken writer.old) (W.taken writer.new)) }
-    ensures reader_kept { OnOk result (R.has_failed reader.new ≡ R.has_failed reader.old) }
-    ensures writer_kept { OnOk result (W.has_failed writer.new ≡ W.has_failed writer.old) }
-    ensures err { OnErr result (RunsToFault from to (R.told reader.old) (R.told reader.new)
-        (W.taken writer.old) (W.taken writer.new)) }
-    ensures read_fault { IsErrOf result RecodeFault.Read →
-        IfSome (R.told reader.old) (λ all. length all < 2 ^ 62 → R.has_failed reader.new ≡ true) }
-    ensures write_fault { IsErrOf result RecodeFault.Write → W.has_failed writer.new ≡ true }
-{
-    let mut input = [0u8; 65536];
-    let mut text = [0u8; 65536];
-    let mut output = [0u8; 65536];
-    run_through(reader, writer, from, to, &mut input, &mut text, &mut output)
-}
-
 /// Reads all of a source, decodes it, and writes its text to a sink in the output encoding of `to`, which is UTF-8 for
 /// UTF-16BE, UTF-16LE and replacement, and else `to` itself. Where the bytes begin with a byte order mark it is dropped, and
-/// the encoding that it tells decodes them; else `from` does.
+/// the encoding that it names decodes them; else `from` does.
 ///
 /// A malformed sequence becomes U+FFFD. In the place of a character that is unmappable in the output encoding, as U+FFFD is in
 /// most, stands a decimal reference, as `&#233;` (in ISO-2022-JP that to U+FFFD for U+000E, U+000F and U+001B). The answer is
@@ -219,22 +161,15 @@ fn run_by_encoder<R: Source, W: Sink>(
 /// never calls a side that has failed, before or during the run. A source that gives 2^64 - 1 texts, or bytes 2^64 - 1 times
 /// without a text, is taken to have failed too.
 ///
-/// It never flushes, and takes no memory but buffers of 64 KiB on the stack: two where it writes UTF-8, and else three.
+/// It never flushes, and takes no memory but three buffers of 64 KiB on the stack.
 pub fn run<R: Source, W: Sink>(
     reader: &mut R,
     writer: &mut W,
     from: Encoding,
     to: Encoding,
 ) -> Result<bool, RecodeFault>
-    ensures ok { IfOk result (RunsToEnd from to (R.told reader.old) (R.told reader.new)
-        (W.taken writer.old) (W.taken writer.new)) }
-    ensures reader_kept { OnOk result (R.has_failed reader.new ≡ R.has_failed reader.old) }
-    ensures writer_kept { OnOk result (W.has_failed writer.new ≡ W.has_failed writer.old) }
-    ensures err { OnErr result (RunsToFault from to (R.told reader.old) (R.told reader.new)
-        (W.taken writer.old) (W.taken writer.new)) }
-    ensures read_fault { IsErrOf result RecodeFault.Read →
-        IfSome (R.told reader.old) (λ all. length all < 2 ^ 62 → R.has_failed reader.new ≡ true) }
-    ensures write_fault { IsErrOf result RecodeFault.Write → W.has_failed writer.new ≡ true }
+    ensures { Recodes from to (side (R.told reader.old) (R.has_failed reader.old)) (side (R.told reader.new) (R.has_failed reader.new))
+        (side (W.taken writer.old) (W.has_failed writer.old)) (side (W.taken writer.new) (W.has_failed writer.new)) result }
 {
     if reader.failed() {
         return Err(RecodeFault::Read);
@@ -242,9 +177,8 @@ pub fn run<R: Source, W: Sink>(
     if writer.failed() {
         return Err(RecodeFault::Write);
     }
-    if to.can_encode_everything() {
-        run_to_utf8(reader, writer, from, to)
-    } else {
-        run_by_encoder(reader, writer, from, to)
-    }
+    let mut input = [0u8; 65536];
+    let mut text = [0u8; 65536];
+    let mut output = [0u8; 65536];
+    run_through(reader, writer, from, to, &mut input, &mut text, &mut output)
 }

@@ -1,8 +1,9 @@
-use Rattle.enc_recode.proofs.RunLemmas.{RunsToFault-none}
+use Rattle.std.proofs.Common.{rules, refl}
+use Rattle.enc_recode.proofs.RunLemmas.{Recodes-read, Recodes-write, RunsToFault-none}
 use Rattle.enc_recode.proofs.engine.run.Goals as goal
 
-pub returns-then-failed-clause-err : goal.returns-then-failed-clause-err
-returns-then-failed-clause-err g c = RunsToFault-none _ _ _ _
+pub returns-then-failed : goal.returns-then-failed
+returns-then-failed g c = Recodes-read _ _ _ _ _ _ (RunsToFault-none _ _ _ _) (search rules)
 
-pub returns-then-failed-2-clause-err : goal.returns-then-failed-2-clause-err
-returns-then-failed-2-clause-err g c = RunsToFault-none _ _ _ _
+pub returns-then-failed-2 : goal.returns-then-failed-2
+returns-then-failed-2 g c = Recodes-write _ _ _ _ _ _ _ refl (RunsToFault-none _ _ _ _) (search rules)
