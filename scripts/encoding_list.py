@@ -1,4 +1,4 @@
-"""The list of encodings in data/encodings.txt. For scripts/make-encodings and scripts/documents."""
+"""The list of encodings in data/encodings.txt. For the scripts that go through them."""
 
 import os
 import sys
@@ -102,3 +102,8 @@ def pairs_of(encodings):
     bytes from the last to the first."""
     pairs = [(label, encoding) for encoding in encodings for label in encoding.labels]
     return sorted(pairs, key=lambda pair: (len(pair[0]), pair[0][::-1]))
+
+
+def single_byte_of(encodings):
+    """The legacy single-byte encodings: those that have an index."""
+    return [it for it in encodings if it.index]

@@ -6,8 +6,7 @@
 /// The longest label has so many bytes.
 pub(crate) const LONGEST: usize = 19;
 
-/// The labels in the order in which they are searched: shorter ones first, and those of one length by their bytes from
-/// the last to the first.
+/// The labels in the order of the search: shorter ones first, and those of one length by their bytes from the last to the first.
 pub(crate) const LABELS: [&str; 228] = [
     "l1",
     "l2",

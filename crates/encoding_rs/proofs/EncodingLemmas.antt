@@ -61,9 +61,21 @@ has_bytes codec.Utf16Le = false
 has_bytes _ = true
 
 laws_by_codec : (c : Codec) → KeepsLaws (MayLackTexts c) (has_bytes c) (codec_rule c)
-laws_by_codec codec.Utf8 = record { lawful = utf_8_is_lawful; texts = λ _. utf_8_has_texts; bytes = utf_8_has_bytes }
-laws_by_codec codec.Utf16Be = record { lawful = utf_16_is_lawful true; texts = λ _. utf_16_has_texts true; bytes = utf_16_has_no_bytes true }
-laws_by_codec codec.Utf16Le = record { lawful = utf_16_is_lawful false; texts = λ _. utf_16_has_texts false; bytes = utf_16_has_no_bytes false }
+laws_by_codec codec.Utf8 = record {
+  lawful = utf_8_is_lawful;
+  texts = λ _. utf_8_has_texts;
+  bytes = utf_8_has_bytes;
+}
+laws_by_codec codec.Utf16Be = record {
+  lawful = utf_16_is_lawful true;
+  texts = λ _. utf_16_has_texts true;
+  bytes = utf_16_has_no_bytes true;
+}
+laws_by_codec codec.Utf16Le = record {
+  lawful = utf_16_is_lawful false;
+  texts = λ _. utf_16_has_texts false;
+  bytes = utf_16_has_no_bytes false;
+}
 laws_by_codec (codec.SingleByte index) = one_byte_laws _ _ refl
 laws_by_codec codec.Big5 = multi_byte_laws _ _ (double_byte_laws _ _ _ big5_pairs) refl
 laws_by_codec codec.EucKr = multi_byte_laws _ _ (double_byte_laws _ _ _ euc_kr_pairs) refl
@@ -72,8 +84,16 @@ laws_by_codec codec.EucJp = multi_byte_laws _ _ euc_jp_laws refl
 laws_by_codec codec.Gbk = multi_byte_laws _ _ gb18030_laws refl
 laws_by_codec codec.Gb18030 = multi_byte_laws _ _ gb18030_laws refl
 laws_by_codec codec.XUserDefined = one_byte_laws _ _ refl
-laws_by_codec codec.Replacement = record { lawful = replacement_is_lawful; texts = λ n. absurd (n (inl refl)); bytes = replacement_has_no_bytes }
-laws_by_codec codec.Iso2022Jp = record { lawful = iso_2022_jp_is_lawful; texts = λ n. absurd (n (inr refl)); bytes = iso_2022_jp_has_bytes }
+laws_by_codec codec.Replacement = record {
+  lawful = replacement_is_lawful;
+  texts = λ n. absurd (n (inl refl));
+  bytes = replacement_has_no_bytes;
+}
+laws_by_codec codec.Iso2022Jp = record {
+  lawful = iso_2022_jp_is_lawful;
+  texts = λ n. absurd (n (inr refl));
+  bytes = iso_2022_jp_has_bytes;
+}
 
 laws_of : (e : Encoding) → KeepsLaws (MayLackTexts (codec_by_id e.id)) (has_bytes (codec_by_id e.id)) (rule_of e)
 laws_of e = laws_by_codec (codec_by_id e.id)

@@ -41,21 +41,66 @@ has_single_bytes codec.XUserDefined = true
 has_single_bytes _ = false
 
 by_codec : (c : Codec) → HasProperties (has_ascii c) (has_single_bytes c) (codec_rule c)
-by_codec codec.Utf8 = record { ascii = utf_8_is_ascii_compatible; single = utf_8_is_not_single_byte; bb = utf_8_tells_bb }
-by_codec codec.Utf16Be = record { ascii = utf_16_is_not_ascii_compatible _; single = utf_16_is_not_single_byte _; bb = utf_16_tells_bb _ }
-by_codec codec.Utf16Le = record { ascii = utf_16_is_not_ascii_compatible _; single = utf_16_is_not_single_byte _; bb = utf_16_tells_bb _ }
+by_codec codec.Utf8 = record {
+  ascii = utf_8_is_ascii_compatible;
+  single = utf_8_is_not_single_byte;
+  bb = utf_8_tells_bb;
+}
+by_codec codec.Utf16Be = record {
+  ascii = utf_16_is_not_ascii_compatible _;
+  single = utf_16_is_not_single_byte _;
+  bb = utf_16_tells_bb _;
+}
+by_codec codec.Utf16Le = record {
+  ascii = utf_16_is_not_ascii_compatible _;
+  single = utf_16_is_not_single_byte _;
+  bb = utf_16_tells_bb _;
+}
 by_codec (codec.SingleByte index) = one_byte _ (single_byte_ascii _)
-by_codec codec.Big5 = record { ascii = multi_byte_is_ascii_compatible _ big5_has_ascii; single = big5_is_not_single_byte; bb = big5_tells_bb }
-by_codec codec.EucKr = record { ascii = multi_byte_is_ascii_compatible _ euc_kr_has_ascii; single = euc_kr_is_not_single_byte; bb = euc_kr_tells_bb }
-by_codec codec.ShiftJis = record { ascii = multi_byte_is_ascii_compatible _ shift_jis_has_ascii; single = shift_jis_is_not_single_byte; bb = shift_jis_tells_bb }
-by_codec codec.EucJp = record { ascii = multi_byte_is_ascii_compatible _ euc_jp_has_ascii; single = euc_jp_is_not_single_byte; bb = euc_jp_tells_bb }
-by_codec codec.Gbk = record { ascii = multi_byte_is_ascii_compatible _ gb18030_has_ascii; single = gb18030_is_not_single_byte; bb = gb18030_tells_bb }
-by_codec codec.Gb18030 = record { ascii = multi_byte_is_ascii_compatible _ gb18030_has_ascii; single = gb18030_is_not_single_byte; bb = gb18030_tells_bb }
+by_codec codec.Big5 = record {
+  ascii = multi_byte_is_ascii_compatible _ big5_has_ascii;
+  single = big5_is_not_single_byte;
+  bb = big5_tells_bb;
+}
+by_codec codec.EucKr = record {
+  ascii = multi_byte_is_ascii_compatible _ euc_kr_has_ascii;
+  single = euc_kr_is_not_single_byte;
+  bb = euc_kr_tells_bb;
+}
+by_codec codec.ShiftJis = record {
+  ascii = multi_byte_is_ascii_compatible _ shift_jis_has_ascii;
+  single = shift_jis_is_not_single_byte;
+  bb = shift_jis_tells_bb;
+}
+by_codec codec.EucJp = record {
+  ascii = multi_byte_is_ascii_compatible _ euc_jp_has_ascii;
+  single = euc_jp_is_not_single_byte;
+  bb = euc_jp_tells_bb;
+}
+by_codec codec.Gbk = record {
+  ascii = multi_byte_is_ascii_compatible _ gb18030_has_ascii;
+  single = gb18030_is_not_single_byte;
+  bb = gb18030_tells_bb;
+}
+by_codec codec.Gb18030 = record {
+  ascii = multi_byte_is_ascii_compatible _ gb18030_has_ascii;
+  single = gb18030_is_not_single_byte;
+  bb = gb18030_tells_bb;
+}
 by_codec codec.XUserDefined = one_byte _ x_user_defined_ascii
-by_codec codec.Replacement = record { ascii = replacement_is_not_ascii_compatible; single = replacement_is_not_single_byte; bb = replacement_tells_bb }
-by_codec codec.Iso2022Jp = record { ascii = iso_2022_jp_is_not_ascii_compatible; single = iso_2022_jp_is_not_single_byte; bb = iso_2022_jp_tells_bb }
+by_codec codec.Replacement = record {
+  ascii = replacement_is_not_ascii_compatible;
+  single = replacement_is_not_single_byte;
+  bb = replacement_tells_bb;
+}
+by_codec codec.Iso2022Jp = record {
+  ascii = iso_2022_jp_is_not_ascii_compatible;
+  single = iso_2022_jp_is_not_single_byte;
+  bb = iso_2022_jp_tells_bb;
+}
 
-properties_of : (e : Encoding) → HasProperties (has_ascii (codec_by_id e.id)) (has_single_bytes (codec_by_id e.id)) (rule_of e)
+properties_of :
+    (e : Encoding) → HasProperties (has_ascii (codec_by_id e.id)) (has_single_bytes (codec_by_id e.id)) (rule_of e)
 properties_of e = by_codec (codec_by_id e.id)
 
 -- the table has the properties of the codecs
@@ -73,10 +118,14 @@ list_tells true p h = (λ _. h, λ _. refl)
 list_tells false p h = (λ e. cc, λ x. absurd (h x))
 
 pub tells_ascii_compatible : (e : Encoding) → (is_ascii_compatible e ≡ true) ↔ IsAsciiCompatible (rule_of e)
-tells_ascii_compatible e = list_tells _ _ (subst (λ (t : Bool). Tells t (IsAsciiCompatible (rule_of e))) (listed_ascii e.id) (properties_of e).ascii)
+tells_ascii_compatible e =
+    let has : Bool → Type 0 = λ t. Tells t (IsAsciiCompatible (rule_of e)) in
+    list_tells _ _ (subst has (listed_ascii e.id) (properties_of e).ascii)
 
 pub tells_single_byte : (e : Encoding) → (is_single_byte e ≡ true) ↔ IsSingleByte (rule_of e)
-tells_single_byte e = list_tells _ _ (subst (λ (t : Bool). Tells t (IsSingleByte (rule_of e))) (listed_single_byte e.id) (properties_of e).single)
+tells_single_byte e =
+    let has : Bool → Type 0 = λ t. Tells t (IsSingleByte (rule_of e)) in
+    list_tells _ _ (subst has (listed_single_byte e.id) (properties_of e).single)
 
 pub tells_bb : (e : Encoding) → TellsBbByItself (rule_of e)
 tells_bb e = (properties_of e).bb

@@ -4,7 +4,8 @@
 //! change that list and run the script, and not this file.
 
 ghost use Rattle.std.specs.Prelude.{◌≡◌, Some, map, length};
-ghost use Rattle.encoding_rs.specs.EncodingTable.{codec_by_id, name_by_id, output_by_id, ascii_compatible_by_id, single_byte_by_id};
+ghost use Rattle.encoding_rs.specs.EncodingTable.{codec_by_id, name_by_id, output_by_id};
+ghost use Rattle.encoding_rs.specs.EncodingTable.{ascii_compatible_by_id, single_byte_by_id};
 ghost use Rattle.encoding_rs.specs.Labels.{labelled, get};
 
 use crate::encoding::*;
