@@ -3,6 +3,7 @@
 use encoding_rs::run::{BomHandling, DecodeCall, RunError, decode_run};
 use encoding_rs::*;
 use std::test::Fail;
+use test_support::encodings::SECOND_CONSTANTS;
 
 #[test]
 fn tells_its_encoding(rt: HostRuntime) -> Result<(), Fail> {
@@ -84,58 +85,14 @@ fn looks_for_marks(rt: HostRuntime) {
     assert_eq!(rt; decoder.encoding(), UTF_16LE);
 }
 
-/// Each encoding with its second constant.
-const PAIRS: &[(Encoding, Encoding)] = &[
-    (UTF_8, UTF_8_INIT),
-    (IBM866, IBM866_INIT),
-    (ISO_8859_2, ISO_8859_2_INIT),
-    (ISO_8859_3, ISO_8859_3_INIT),
-    (ISO_8859_4, ISO_8859_4_INIT),
-    (ISO_8859_5, ISO_8859_5_INIT),
-    (ISO_8859_6, ISO_8859_6_INIT),
-    (ISO_8859_7, ISO_8859_7_INIT),
-    (ISO_8859_8, ISO_8859_8_INIT),
-    (ISO_8859_8_I, ISO_8859_8_I_INIT),
-    (ISO_8859_10, ISO_8859_10_INIT),
-    (ISO_8859_13, ISO_8859_13_INIT),
-    (ISO_8859_14, ISO_8859_14_INIT),
-    (ISO_8859_15, ISO_8859_15_INIT),
-    (ISO_8859_16, ISO_8859_16_INIT),
-    (KOI8_R, KOI8_R_INIT),
-    (KOI8_U, KOI8_U_INIT),
-    (MACINTOSH, MACINTOSH_INIT),
-    (WINDOWS_874, WINDOWS_874_INIT),
-    (WINDOWS_1250, WINDOWS_1250_INIT),
-    (WINDOWS_1251, WINDOWS_1251_INIT),
-    (WINDOWS_1252, WINDOWS_1252_INIT),
-    (WINDOWS_1253, WINDOWS_1253_INIT),
-    (WINDOWS_1254, WINDOWS_1254_INIT),
-    (WINDOWS_1255, WINDOWS_1255_INIT),
-    (WINDOWS_1256, WINDOWS_1256_INIT),
-    (WINDOWS_1257, WINDOWS_1257_INIT),
-    (WINDOWS_1258, WINDOWS_1258_INIT),
-    (X_MAC_CYRILLIC, X_MAC_CYRILLIC_INIT),
-    (GBK, GBK_INIT),
-    (GB18030, GB18030_INIT),
-    (BIG5, BIG5_INIT),
-    (EUC_JP, EUC_JP_INIT),
-    (SHIFT_JIS, SHIFT_JIS_INIT),
-    (EUC_KR, EUC_KR_INIT),
-    (REPLACEMENT, REPLACEMENT_INIT),
-    (UTF_16BE, UTF_16BE_INIT),
-    (UTF_16LE, UTF_16LE_INIT),
-    (X_USER_DEFINED, X_USER_DEFINED_INIT),
-    (ISO_2022_JP, ISO_2022_JP_INIT),
-];
-
 #[test]
 fn second_constants_are_equal(rt: HostRuntime) {
-    for (encoding, init) in PAIRS {
-        assert_eq!(rt; *encoding, *init);
+    for (encoding, second) in SECOND_CONSTANTS {
+        assert_eq!(rt; *encoding, *second);
     }
-    for i in 0..PAIRS.len() {
-        for j in 0..PAIRS.len() {
-            assert_eq!(rt; PAIRS[i].0 == PAIRS[j].0, i == j);
+    for i in 0..SECOND_CONSTANTS.len() {
+        for j in 0..SECOND_CONSTANTS.len() {
+            assert_eq!(rt; SECOND_CONSTANTS[i].0 == SECOND_CONSTANTS[j].0, i == j);
         }
     }
 }

@@ -1,29 +1,13 @@
 //! Names, labels, properties and byte order marks of the encodings (Encoding Standard 4.2, 4.3 and 6).
 
 use encoding_rs::{
-    BIG5, EUC_JP, EUC_KR, Encoding, GB18030, GBK, ISO_2022_JP, ISO_8859_2, REPLACEMENT, SHIFT_JIS,
-    UTF_8, UTF_16BE, UTF_16LE, WINDOWS_1252,
+    EUC_JP, Encoding, ISO_2022_JP, ISO_8859_2, REPLACEMENT, UTF_8, UTF_16BE, UTF_16LE, WINDOWS_1252,
 };
 use std::alloc::Global;
 use std::collections::HashSet;
 use std::process::Abort;
 use std::test::Fail;
-use test_support::encodings::TABLE;
-
-/// The encodings of which a byte is no character by itself.
-const MULTI_BYTE: &[Encoding] = &[
-    BIG5,
-    EUC_JP,
-    EUC_KR,
-    GB18030,
-    GBK,
-    REPLACEMENT,
-    SHIFT_JIS,
-    UTF_8,
-    UTF_16BE,
-    UTF_16LE,
-    ISO_2022_JP,
-];
+use test_support::encodings::{LABELS, PROPERTIES, TABLE};
 
 /// What a label names: the same in capitals and with blanks round it, and nothing with a letter more.
 fn compare_label(
@@ -55,14 +39,14 @@ fn each_label_names_its_encoding(rt: HostRuntime) -> Result<(), Fail> {
             count = count.saturating_add(1);
         }
     }
-    assert_eq!(rt; count, 228);
+    assert_eq!(rt; count, LABELS);
     Ok(())
 }
 
 const PADDED: &[u8] =
     b"\x20\x09\x20\x0A\x20\x0C\x20\x0A\x20utf-8\x20\x0D\x20\x0A\x20\x09\x20\x0C\x20";
 
-const LABELS: &[(&[u8], Option<Encoding>)] = &[
+const WORDS: &[(&[u8], Option<Encoding>)] = &[
     (PADDED, Some(UTF_8)),
     (b"unicode11utf8", Some(UTF_8)),
     (b"UTF-8", Some(UTF_8)),
@@ -87,7 +71,7 @@ const LABELS: &[(&[u8], Option<Encoding>)] = &[
 
 #[test]
 fn only_labels_name_encodings(rt: HostRuntime) {
-    for (label, want) in LABELS {
+    for (label, want) in WORDS {
         assert_eq!(rt; Encoding::for_label(label), *want, "{label:?}");
     }
 }
@@ -114,27 +98,29 @@ fn no_label_names_replacement_where_it_is_left_out(rt: HostRuntime) {
     assert_eq!(rt; Encoding::for_label_no_replacement(b"bogus"), None);
 }
 
-/// The properties of an encoding, by the sets of those that have them.
-fn compare_properties(rt: &impl Abort, encoding: Encoding) {
-    let writes_utf_8 = [UTF_8, UTF_16BE, UTF_16LE, REPLACEMENT].contains(&encoding);
-    let output = if writes_utf_8 { UTF_8 } else { encoding };
-    assert_eq!(rt; encoding.output_encoding(), output);
-    assert_eq!(rt;
-        encoding.can_encode_everything(),
-        writes_utf_8,
-        "{encoding:?}"
-    );
-    let is_other = [REPLACEMENT, UTF_16BE, UTF_16LE, ISO_2022_JP].contains(&encoding);
-    assert_eq!(rt; encoding.is_ascii_compatible(), !is_other, "{encoding:?}");
-    let is_multi_byte = MULTI_BYTE.contains(&encoding);
-    assert_eq!(rt; encoding.is_single_byte(), !is_multi_byte, "{encoding:?}");
+#[test]
+fn each_encoding_has_its_name(rt: HostRuntime) {
+    for (encoding, name, _) in TABLE {
+        assert_eq!(rt; encoding.name(), *name);
+    }
 }
 
 #[test]
-fn each_encoding_has_its_name_and_properties(rt: HostRuntime) {
-    for (encoding, name, _) in TABLE {
-        assert_eq!(rt; encoding.name(), *name);
-        compare_properties(&rt, *encoding);
+fn each_encoding_has_its_properties(rt: HostRuntime) {
+    for (encoding, output, is_ascii_compatible, is_single_byte) in PROPERTIES {
+        let is_everything = *output == UTF_8;
+        assert_eq!(rt; encoding.output_encoding(), *output);
+        assert_eq!(rt;
+            encoding.can_encode_everything(),
+            is_everything,
+            "{encoding:?}"
+        );
+        assert_eq!(rt;
+            encoding.is_ascii_compatible(),
+            *is_ascii_compatible,
+            "{encoding:?}"
+        );
+        assert_eq!(rt; encoding.is_single_byte(), *is_single_byte, "{encoding:?}");
     }
 }
 

@@ -1,3 +1,4 @@
 pub mod Order
 pub mod Place
 pub mod Table
+pub mod Words

@@ -1,11 +1,8 @@
 -- The table of labels: shorter ones first, and those of one length by their bytes from the last to the first.
-use Rattle.std.specs.Prelude.{ℕ, ◌==◌, List, ◌++◌, codes}
-use Rattle.std.specs.List.{slice_split}
-use Prim.Native.String.{String}
-
--- the words of a line, between each two of which stands a space
-abbrev pub words : String → List (List ℕ)
-words line = slice_split (λ b. b == 0x20) (codes line)
+--
+-- Written by scripts/make-encodings from data/encodings.txt: change that list and run the script, and not this file.
+use Rattle.std.specs.Prelude.{ℕ, List, ◌++◌}
+use Rattle.enc_labels.specs.Words.{words}
 
 unfoldable pub table : List (List ℕ)
 table =

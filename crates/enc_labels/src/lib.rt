@@ -3,5 +3,6 @@
 
 mod search;
 mod table;
+mod words;
 
 pub use search::place;

@@ -8,10 +8,8 @@ ghost use Rattle.enc_labels.specs.Place.{place_of, texts_of};
 ghost use Rattle.enc_labels.specs.Table.{table};
 
 use crate::table::labels;
+use crate::words::LONGEST;
 use std::cmp::Ordering;
-
-/// The longest label has so many bytes.
-const LONGEST: usize = 19;
 
 /// How a label stands to a word in the order of the table.
 fn compare(label: &[u8], word: &[u8]) -> Ordering

@@ -4,7 +4,8 @@ use Rattle.enc_encoders.specs.Barring.{stands_in, are_beyond_ascii}
 use Rattle.enc_encoders.proofs.BarringLemmas.{barred_is}
 use Rattle.enc_encode.specs.Encoders.{encoder_rule}
 use Rattle.encoding_rs.specs.declared.encoding.Encoding.{Encoding}
-use Rattle.encoding_rs.specs.Encodings.{codec_by_id, or_utf_8, output_rule}
+use Rattle.encoding_rs.specs.EncodingTable.{codec_by_id}
+use Rattle.encoding_rs.specs.Encodings.{or_utf_8, output_rule}
 
 pub unmappable_if_in : (b : List ℕ) (e : Encoding) (c : ℕ) → are_beyond_ascii b ≡ true
     → (output_rule b e).bytes c ≡ (if stands_in b c then None else (output_rule [] e).bytes c)

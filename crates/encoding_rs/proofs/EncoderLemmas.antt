@@ -12,53 +12,16 @@ use Rattle.enc_encoders.specs.Steps.{Step}
 use Rattle.enc_references.specs.Treatment.{Treatment, Reported, Replaced, MapsAll, CallBy, StopsBy, nothing_left}
 use Rattle.enc_encode.specs.Encoders.{encoder_rule}
 use Rattle.encoding_rs.specs.declared.encoding.Id.{Id}
-use Rattle.encoding_rs.specs.declared.encoding.Id.TheVariants.{Utf8, Ibm866, Iso88592, Iso88593, Iso88594, Iso88595, Iso88596, Iso88597, Iso88598, Iso88598I, Iso885910, Iso885913, Iso885914, Iso885915, Iso885916, Koi8R, Koi8U, Macintosh, Windows874, Windows1250, Windows1251, Windows1252, Windows1253, Windows1254, Windows1255, Windows1256, Windows1257, Windows1258, XMacCyrillic, Gbk, Gb18030, Big5, EucJp, ShiftJis, EucKr, Iso2022Jp, Replacement, Utf16be, Utf16le, XUserDefined}
+use Rattle.encoding_rs.specs.declared.encoding.Id.TheVariants.{Utf8}
 use Rattle.encoding_rs.specs.declared.encoding.Encoding.{Encoding}
-use Rattle.encoding_rs.specs.Encodings.{codec_by_id, or_utf_8, output_rule}
-use Rattle.encoding_rs.specs.Properties.{output_by_id, output_encoding_of}
+use Rattle.encoding_rs.specs.EncodingTable.{codec_by_id, output_by_id}
+use Rattle.encoding_rs.specs.Encodings.{or_utf_8, output_rule}
+use Rattle.encoding_rs.specs.Properties.{output_encoding_of}
 use Rattle.encoding_rs.specs.Encoder.{EncoderState, Encodes, is_utf_8, has_every, replacing_in}
 
 has_encoder_by_id : (id : Id) → is_some (encoder_rule (codec_by_id (output_by_id id))) ≡ true
 has_encoder_by_id Utf8 = refl
-has_encoder_by_id Ibm866 = refl
-has_encoder_by_id Iso88592 = refl
-has_encoder_by_id Iso88593 = refl
-has_encoder_by_id Iso88594 = refl
-has_encoder_by_id Iso88595 = refl
-has_encoder_by_id Iso88596 = refl
-has_encoder_by_id Iso88597 = refl
-has_encoder_by_id Iso88598 = refl
-has_encoder_by_id Iso88598I = refl
-has_encoder_by_id Iso885910 = refl
-has_encoder_by_id Iso885913 = refl
-has_encoder_by_id Iso885914 = refl
-has_encoder_by_id Iso885915 = refl
-has_encoder_by_id Iso885916 = refl
-has_encoder_by_id Koi8R = refl
-has_encoder_by_id Koi8U = refl
-has_encoder_by_id Macintosh = refl
-has_encoder_by_id Windows874 = refl
-has_encoder_by_id Windows1250 = refl
-has_encoder_by_id Windows1251 = refl
-has_encoder_by_id Windows1252 = refl
-has_encoder_by_id Windows1253 = refl
-has_encoder_by_id Windows1254 = refl
-has_encoder_by_id Windows1255 = refl
-has_encoder_by_id Windows1256 = refl
-has_encoder_by_id Windows1257 = refl
-has_encoder_by_id Windows1258 = refl
-has_encoder_by_id XMacCyrillic = refl
-has_encoder_by_id Gbk = refl
-has_encoder_by_id Gb18030 = refl
-has_encoder_by_id Big5 = refl
-has_encoder_by_id EucJp = refl
-has_encoder_by_id ShiftJis = refl
-has_encoder_by_id EucKr = refl
-has_encoder_by_id Iso2022Jp = refl
-has_encoder_by_id Replacement = refl
-has_encoder_by_id Utf16be = refl
-has_encoder_by_id Utf16le = refl
-has_encoder_by_id XUserDefined = refl
+has_encoder_by_id _ = refl
 
 -- the output encoding has an encoder
 pub has_encoder : (e : Encoding) → is_some (encoder_rule (codec_by_id (output_encoding_of e).id)) ≡ true

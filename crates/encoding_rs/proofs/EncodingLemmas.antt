@@ -1,5 +1,5 @@
 -- What the rule of each encoding keeps.
-use Rattle.std.proofs.Common.{◌≡◌, ◌∙◌, ap, sym, refl, true, false, inl, inr, ◌⊎◌}
+use Rattle.std.proofs.Common.{◌≡◌, ◌∙◌, ap, sym, subst, refl, true, false, inl, inr, ◌⊎◌}
 use Rattle.enc_machine.specs.Segmentation.{Rule}
 use Rattle.enc_machine.specs.RuleLaws.{HasLookahead, HasTexts, HasSmallTexts, IsLawful}
 use Rattle.enc_machine.specs.Latin1.{HasNoBytes}
@@ -20,9 +20,13 @@ use Rattle.enc_multi_byte.proofs.PairLemmas.{big5_pairs, euc_kr_pairs, shift_jis
 use Rattle.enc_multi_byte.proofs.EucJpLemmas.{euc_jp_laws}
 use Rattle.enc_multi_byte.proofs.Gb18030Lemmas.{gb18030_laws}
 use Rattle.encoding_rs.specs.declared.encoding.Id.{Id}
-use Rattle.encoding_rs.specs.declared.encoding.Id.TheVariants.{Utf8, Ibm866, Iso88592, Iso88593, Iso88594, Iso88595, Iso88596, Iso88597, Iso88598, Iso88598I, Iso885910, Iso885913, Iso885914, Iso885915, Iso885916, Koi8R, Koi8U, Macintosh, Windows874, Windows1250, Windows1251, Windows1252, Windows1253, Windows1254, Windows1255, Windows1256, Windows1257, Windows1258, XMacCyrillic, Gbk, Gb18030, Big5, EucJp, ShiftJis, EucKr, Iso2022Jp, Replacement, Utf16be, Utf16le, XUserDefined}
+use Rattle.encoding_rs.specs.declared.encoding.Id.TheVariants.{Utf8, Replacement, Iso2022Jp}
 use Rattle.encoding_rs.specs.declared.encoding.Encoding.{Encoding}
-use Rattle.encoding_rs.specs.Encodings.{rule_by_id, rule_of}
+use Rattle.enc_codec.specs.declared.codec.Codec.{Codec}
+use Rattle.enc_codec.specs.declared.codec.Codec.TheVariants as codec
+use Rattle.enc_codec.specs.Codecs.{codec_rule}
+use Rattle.encoding_rs.specs.EncodingTable.{codec_by_id}
+use Rattle.encoding_rs.specs.Encodings.{rule_of}
 use Rattle.encoding_rs.specs.Latin1.{has_byte_characters}
 
 -- Some byte is a valid sequence by itself, or none is.
@@ -45,68 +49,85 @@ multi_byte_laws : (may_lack : Type 0) (prefix : List ℕ → Prefix) → ArePref
 multi_byte_laws may_lack prefix h e =
     record { lawful = multi_byte_is_lawful prefix h; texts = λ _. multi_byte_has_texts prefix h; bytes = multi_byte_has_bytes prefix 0x61 (One 0x61) e }
 
-abbrev MayLackTexts : Id → Type 0
-MayLackTexts id = (id ≡ Replacement) ⊎ (id ≡ Iso2022Jp)
+-- by which codec it is; the one-byte encodings whatever their indexes have
 
--- by which encoding it is; the one-byte encodings whatever their indexes have
-laws_by_id : (id : Id) → KeepsLaws (MayLackTexts id) (has_byte_characters id) (rule_by_id id)
-laws_by_id Utf8 = record { lawful = utf_8_is_lawful; texts = λ _. utf_8_has_texts; bytes = utf_8_has_bytes }
-laws_by_id Ibm866 = one_byte_laws _ _ refl
-laws_by_id Iso88592 = one_byte_laws _ _ refl
-laws_by_id Iso88593 = one_byte_laws _ _ refl
-laws_by_id Iso88594 = one_byte_laws _ _ refl
-laws_by_id Iso88595 = one_byte_laws _ _ refl
-laws_by_id Iso88596 = one_byte_laws _ _ refl
-laws_by_id Iso88597 = one_byte_laws _ _ refl
-laws_by_id Iso88598 = one_byte_laws _ _ refl
-laws_by_id Iso88598I = one_byte_laws _ _ refl
-laws_by_id Iso885910 = one_byte_laws _ _ refl
-laws_by_id Iso885913 = one_byte_laws _ _ refl
-laws_by_id Iso885914 = one_byte_laws _ _ refl
-laws_by_id Iso885915 = one_byte_laws _ _ refl
-laws_by_id Iso885916 = one_byte_laws _ _ refl
-laws_by_id Koi8R = one_byte_laws _ _ refl
-laws_by_id Koi8U = one_byte_laws _ _ refl
-laws_by_id Macintosh = one_byte_laws _ _ refl
-laws_by_id Windows874 = one_byte_laws _ _ refl
-laws_by_id Windows1250 = one_byte_laws _ _ refl
-laws_by_id Windows1251 = one_byte_laws _ _ refl
-laws_by_id Windows1252 = one_byte_laws _ _ refl
-laws_by_id Windows1253 = one_byte_laws _ _ refl
-laws_by_id Windows1254 = one_byte_laws _ _ refl
-laws_by_id Windows1255 = one_byte_laws _ _ refl
-laws_by_id Windows1256 = one_byte_laws _ _ refl
-laws_by_id Windows1257 = one_byte_laws _ _ refl
-laws_by_id Windows1258 = one_byte_laws _ _ refl
-laws_by_id XMacCyrillic = one_byte_laws _ _ refl
-laws_by_id Gbk = multi_byte_laws _ _ gb18030_laws refl
-laws_by_id Gb18030 = multi_byte_laws _ _ gb18030_laws refl
-laws_by_id Big5 = multi_byte_laws _ _ (double_byte_laws _ _ _ big5_pairs) refl
-laws_by_id EucJp = multi_byte_laws _ _ euc_jp_laws refl
-laws_by_id ShiftJis = multi_byte_laws _ _ (double_byte_laws _ _ _ shift_jis_pairs) refl
-laws_by_id EucKr = multi_byte_laws _ _ (double_byte_laws _ _ _ euc_kr_pairs) refl
-laws_by_id Iso2022Jp = record { lawful = iso_2022_jp_is_lawful; texts = λ n. absurd (n (inr refl)); bytes = iso_2022_jp_has_bytes }
-laws_by_id Replacement = record { lawful = replacement_is_lawful; texts = λ n. absurd (n (inl refl)); bytes = replacement_has_no_bytes }
-laws_by_id Utf16be = record { lawful = utf_16_is_lawful true; texts = λ _. utf_16_has_texts true; bytes = utf_16_has_no_bytes true }
-laws_by_id Utf16le = record { lawful = utf_16_is_lawful false; texts = λ _. utf_16_has_texts false; bytes = utf_16_has_no_bytes false }
-laws_by_id XUserDefined = one_byte_laws _ _ refl
+abbrev MayLackTexts : Codec → Type 0
+MayLackTexts c = (c ≡ codec.Replacement) ⊎ (c ≡ codec.Iso2022Jp)
+
+abbrev has_bytes : Codec → Bool
+has_bytes codec.Replacement = false
+has_bytes codec.Utf16Be = false
+has_bytes codec.Utf16Le = false
+has_bytes _ = true
+
+laws_by_codec : (c : Codec) → KeepsLaws (MayLackTexts c) (has_bytes c) (codec_rule c)
+laws_by_codec codec.Utf8 = record {
+  lawful = utf_8_is_lawful;
+  texts = λ _. utf_8_has_texts;
+  bytes = utf_8_has_bytes;
+}
+laws_by_codec codec.Utf16Be = record {
+  lawful = utf_16_is_lawful true;
+  texts = λ _. utf_16_has_texts true;
+  bytes = utf_16_has_no_bytes true;
+}
+laws_by_codec codec.Utf16Le = record {
+  lawful = utf_16_is_lawful false;
+  texts = λ _. utf_16_has_texts false;
+  bytes = utf_16_has_no_bytes false;
+}
+laws_by_codec (codec.SingleByte index) = one_byte_laws _ _ refl
+laws_by_codec codec.Big5 = multi_byte_laws _ _ (double_byte_laws _ _ _ big5_pairs) refl
+laws_by_codec codec.EucKr = multi_byte_laws _ _ (double_byte_laws _ _ _ euc_kr_pairs) refl
+laws_by_codec codec.ShiftJis = multi_byte_laws _ _ (double_byte_laws _ _ _ shift_jis_pairs) refl
+laws_by_codec codec.EucJp = multi_byte_laws _ _ euc_jp_laws refl
+laws_by_codec codec.Gbk = multi_byte_laws _ _ gb18030_laws refl
+laws_by_codec codec.Gb18030 = multi_byte_laws _ _ gb18030_laws refl
+laws_by_codec codec.XUserDefined = one_byte_laws _ _ refl
+laws_by_codec codec.Replacement = record {
+  lawful = replacement_is_lawful;
+  texts = λ n. absurd (n (inl refl));
+  bytes = replacement_has_no_bytes;
+}
+laws_by_codec codec.Iso2022Jp = record {
+  lawful = iso_2022_jp_is_lawful;
+  texts = λ n. absurd (n (inr refl));
+  bytes = iso_2022_jp_has_bytes;
+}
+
+laws_of : (e : Encoding) → KeepsLaws (MayLackTexts (codec_by_id e.id)) (has_bytes (codec_by_id e.id)) (rule_of e)
+laws_of e = laws_by_codec (codec_by_id e.id)
+
+-- what the table has of encodings, by their codecs
+
+has_byte_codec : (id : Id) → has_bytes (codec_by_id id) ≡ has_byte_characters id
+has_byte_codec Utf8 = refl
+has_byte_codec _ = refl
+
+is_replacement : (id : Id) → codec_by_id id ≡ codec.Replacement → id ≡ Replacement
+is_replacement Replacement h = refl
+is_replacement _ h = cc
+
+is_iso_2022_jp : (id : Id) → codec_by_id id ≡ codec.Iso2022Jp → id ≡ Iso2022Jp
+is_iso_2022_jp Iso2022Jp h = refl
+is_iso_2022_jp _ h = cc
 
 pub lookahead_of : (e : Encoding) → HasLookahead (rule_of e)
-lookahead_of e = (laws_by_id e.id).lawful.lookahead
+lookahead_of e = (laws_of e).lawful.lookahead
 
 pub small_texts : (e : Encoding) → HasSmallTexts (rule_of e)
-small_texts e = (laws_by_id e.id).lawful.small_texts
+small_texts e = (laws_of e).lawful.small_texts
 
 -- whether some byte is a sequence by itself
 pub tells_bytes : (e : Encoding) → TellsBytes (has_byte_characters e.id) (rule_of e)
-tells_bytes e = (laws_by_id e.id).bytes
+tells_bytes e = subst (λ (b : Bool). TellsBytes b (rule_of e)) (has_byte_codec e.id) (laws_of e).bytes
 
 abbrev encoding_at : Id → Encoding
 encoding_at id = record { id = id }
 
 pub has_texts : (e replacement iso_2022_jp : Encoding) → replacement.id ≡ Replacement → iso_2022_jp.id ≡ Iso2022Jp
     → (e ≡ replacement → ⊥) → (e ≡ iso_2022_jp → ⊥) → HasTexts (rule_of e)
-has_texts e replacement iso_2022_jp r j n m = (laws_by_id e.id).texts (λ h. elim h [
-  | inl i ↦ n (ap encoding_at (i ∙ sym r))
-  | inr i ↦ m (ap encoding_at (i ∙ sym j))
+has_texts e replacement iso_2022_jp r j n m = (laws_of e).texts (λ h. elim h [
+  | inl i ↦ n (ap encoding_at (is_replacement e.id i ∙ sym r))
+  | inr i ↦ m (ap encoding_at (is_iso_2022_jp e.id i ∙ sym j))
 ])

@@ -16,8 +16,9 @@ use Rattle.enc_references.specs.Treatment.{Reported, IsFull, stop_of}
 use Rattle.encoding_rs.specs.declared.encoding.Id.{Id}
 use Rattle.encoding_rs.specs.declared.encoding.Id.TheVariants.{Utf8, Utf16be, Utf16le, Replacement}
 use Rattle.encoding_rs.specs.declared.encoding.Encoding.{Encoding}
-use Rattle.encoding_rs.specs.Encodings.{codec_by_id, or_utf_8, output_rule}
-use Rattle.encoding_rs.specs.Properties.{output_by_id, output_encoding_of}
+use Rattle.encoding_rs.specs.EncodingTable.{codec_by_id, output_by_id}
+use Rattle.encoding_rs.specs.Encodings.{or_utf_8, output_rule}
+use Rattle.encoding_rs.specs.Properties.{output_encoding_of}
 use Rattle.encoding_rs.proofs.ReferenceLemmas.{lawful_of}
 use Rattle.encoding_rs.specs.Encoder.{EncoderState, Encodes, raw_state, replacing, has_every, kept_in, steps_left}
 

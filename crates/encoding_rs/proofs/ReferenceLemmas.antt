@@ -12,7 +12,8 @@ use Rattle.enc_encode.proofs.LawfulLemmas.{IsLawfulIfAny, lawful_if_any}
 use Rattle.enc_references.specs.Unmappable.{any_unmappable}
 use Rattle.enc_references.proofs.UnmappableLemmas.{any_unmappable-append}
 use Rattle.encoding_rs.specs.declared.encoding.Encoding.{Encoding}
-use Rattle.encoding_rs.specs.Encodings.{codec_by_id, or_utf_8, output_rule}
+use Rattle.encoding_rs.specs.EncodingTable.{codec_by_id}
+use Rattle.encoding_rs.specs.Encodings.{or_utf_8, output_rule}
 
 or_lawful : (found : Option EncoderRule) → IsLawfulIfAny found → IsLawful (or_utf_8 found)
 or_lawful None h = stateless_is_lawful utf_8_bytes utf_8_writes_ascii few_utf_8

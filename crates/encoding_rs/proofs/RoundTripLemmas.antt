@@ -20,7 +20,8 @@ use Rattle.enc_round_trip.proofs.RoundTripLemmas.{is_read, same_text}
 use Rattle.encoding_rs.specs.declared.encoding.Id.{Id}
 use Rattle.encoding_rs.specs.declared.encoding.Id.TheVariants.{EucJp, ShiftJis, Iso2022Jp}
 use Rattle.encoding_rs.specs.declared.encoding.Encoding.{Encoding}
-use Rattle.encoding_rs.specs.Encodings.{codec_by_id, or_utf_8, output_rule, rule_of}
+use Rattle.encoding_rs.specs.EncodingTable.{codec_by_id}
+use Rattle.encoding_rs.specs.Encodings.{or_utf_8, output_rule, rule_of}
 use Rattle.encoding_rs.specs.Properties.{output_encoding_of}
 use Rattle.encoding_rs.specs.EncodeRun.{whole_bytes}
 use Rattle.encoding_rs.proofs.EncoderLemmas.{has_encoder}

@@ -22,7 +22,8 @@ use Rattle.enc_machine.specs.Need.{MeetsNeed}
 use Rattle.enc_machine.specs.RuleLaws.{HasTexts, IsSmallText}
 use Rattle.enc_machine.specs.declared.text_lengths.TextLengths.{TextLengths}
 use Rattle.enc_codec.specs.Codecs.{codec_lengths}
-use Rattle.encoding_rs.specs.Encodings.{codec_by_id, rule_of}
+use Rattle.encoding_rs.specs.EncodingTable.{codec_by_id}
+use Rattle.encoding_rs.specs.Encodings.{rule_of}
 use Rattle.encoding_rs.specs.Bom.{marks_looked_for, find_mark, sequences_by}
 use Rattle.encoding_rs.specs.LifeCycle.{phase_of, awaits_mark, mark_in, mark_bytes, encoding_by, sequences_in, held_bytes, life_after}
 

@@ -17,7 +17,7 @@ use Rattle.encoding_rs.specs.declared.lengths.Query.{Query}
 use Rattle.encoding_rs.specs.declared.lengths.Query.TheVariants.{Utf8, Utf8Reporting, Utf16}
 use Rattle.encoding_rs.specs.declared.life_cycle.LifeCycle.{LifeCycle}
 use Rattle.encoding_rs.specs.declared.life_cycle.LifeCycle.TheVariants.{AtStart, AtUtf8Start, AtUtf16BeStart, AtUtf16LeStart, SeenUtf8First, SeenUtf8Second, SeenUtf16BeFirst, SeenUtf16LeFirst, ConvertingWithPendingBb, Converting, Finished}
-use Rattle.encoding_rs.specs.Encodings.{codec_by_id}
+use Rattle.encoding_rs.specs.EncodingTable.{codec_by_id}
 use Rattle.encoding_rs.specs.Decoding.{DecoderState, decoder_remainder}
 
 -- the formula that is in force

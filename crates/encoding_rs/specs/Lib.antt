@@ -1,3 +1,4 @@
+pub mod EncodingTable
 pub mod Encodings
 pub mod Bom
 pub mod LifeCycle

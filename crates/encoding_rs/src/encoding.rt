@@ -1,10 +1,24 @@
 //! The encodings (Encoding Standard 4.2).
 
 ghost use Rattle.std.specs.Prelude.{◌≡◌};
-ghost use Rattle.encoding_rs.specs.Encodings.{codec_by_id};
+ghost use Rattle.encoding_rs.specs.EncodingTable.{codec_by_id};
 
 use enc_codec::Codec;
-use enc_index::SingleByteIndex;
+
+/// An encoding of the Encoding Standard. Two are equal exactly where they are the same one.
+#[derive(Clone, Copy, PartialEq, Eq, Hash, Debug)]
+pub struct Encoding {
+    pub(crate) id: Id,
+}
+
+/// Which codec an encoding has.
+pub fn codec_of(encoding: Encoding) -> Codec
+    ensures { result ≡ codec_by_id encoding.id }
+{
+    encoding.id.codec()
+}
+
+// scripts/make-encodings writes the rest of this file from data/encodings.txt: change that list, and not what follows.
 
 /// Which encoding it is.
 #[derive(Clone, Copy, PartialEq, Eq, Hash, Debug)]
@@ -42,19 +56,13 @@ pub(crate) enum Id {
     Gb18030,
     Big5,
     EucJp,
+    Iso2022Jp,
     ShiftJis,
     EucKr,
     Replacement,
     Utf16be,
     Utf16le,
     XUserDefined,
-    Iso2022Jp,
-}
-
-/// An encoding of the Encoding Standard. Two are equal exactly where they are the same one.
-#[derive(Clone, Copy, PartialEq, Eq, Hash, Debug)]
-pub struct Encoding {
-    pub(crate) id: Id,
 }
 
 /// UTF-8 (Encoding Standard 8.1).
@@ -275,6 +283,12 @@ pub const EUC_JP: Encoding = Encoding { id: Id::EucJp };
 /// The same as [`EUC_JP`].
 pub const EUC_JP_INIT: Encoding = EUC_JP;
 
+/// ISO-2022-JP (Encoding Standard 12.2).
+pub const ISO_2022_JP: Encoding = Encoding { id: Id::Iso2022Jp };
+
+/// The same as [`ISO_2022_JP`].
+pub const ISO_2022_JP_INIT: Encoding = ISO_2022_JP;
+
 /// Shift_JIS (Encoding Standard 12.3).
 pub const SHIFT_JIS: Encoding = Encoding { id: Id::ShiftJis };
 
@@ -314,57 +328,3 @@ pub const X_USER_DEFINED: Encoding = Encoding {
 
 /// The same as [`X_USER_DEFINED`].
 pub const X_USER_DEFINED_INIT: Encoding = X_USER_DEFINED;
-
-/// ISO-2022-JP (Encoding Standard 12.2).
-pub const ISO_2022_JP: Encoding = Encoding { id: Id::Iso2022Jp };
-
-/// The same as [`ISO_2022_JP`].
-pub const ISO_2022_JP_INIT: Encoding = ISO_2022_JP;
-
-/// Which codec an encoding has.
-pub fn codec_of(encoding: Encoding) -> Codec
-    ensures { result ≡ codec_by_id encoding.id }
-{
-    match encoding.id {
-        Id::Utf8 => Codec::Utf8,
-        Id::Ibm866 => Codec::SingleByte(SingleByteIndex::Ibm866),
-        Id::Iso88592 => Codec::SingleByte(SingleByteIndex::Iso88592),
-        Id::Iso88593 => Codec::SingleByte(SingleByteIndex::Iso88593),
-        Id::Iso88594 => Codec::SingleByte(SingleByteIndex::Iso88594),
-        Id::Iso88595 => Codec::SingleByte(SingleByteIndex::Iso88595),
-        Id::Iso88596 => Codec::SingleByte(SingleByteIndex::Iso88596),
-        Id::Iso88597 => Codec::SingleByte(SingleByteIndex::Iso88597),
-        Id::Iso88598 => Codec::SingleByte(SingleByteIndex::Iso88598),
-        Id::Iso88598I => Codec::SingleByte(SingleByteIndex::Iso88598),
-        Id::Iso885910 => Codec::SingleByte(SingleByteIndex::Iso885910),
-        Id::Iso885913 => Codec::SingleByte(SingleByteIndex::Iso885913),
-        Id::Iso885914 => Codec::SingleByte(SingleByteIndex::Iso885914),
-        Id::Iso885915 => Codec::SingleByte(SingleByteIndex::Iso885915),
-        Id::Iso885916 => Codec::SingleByte(SingleByteIndex::Iso885916),
-        Id::Koi8R => Codec::SingleByte(SingleByteIndex::Koi8R),
-        Id::Koi8U => Codec::SingleByte(SingleByteIndex::Koi8U),
-        Id::Macintosh => Codec::SingleByte(SingleByteIndex::Macintosh),
-        Id::Windows874 => Codec::SingleByte(SingleByteIndex::Windows874),
-        Id::Windows1250 => Codec::SingleByte(SingleByteIndex::Windows1250),
-        Id::Windows1251 => Codec::SingleByte(SingleByteIndex::Windows1251),
-        Id::Windows1252 => Codec::SingleByte(SingleByteIndex::Windows1252),
-        Id::Windows1253 => Codec::SingleByte(SingleByteIndex::Windows1253),
-        Id::Windows1254 => Codec::SingleByte(SingleByteIndex::Windows1254),
-        Id::Windows1255 => Codec::SingleByte(SingleByteIndex::Windows1255),
-        Id::Windows1256 => Codec::SingleByte(SingleByteIndex::Windows1256),
-        Id::Windows1257 => Codec::SingleByte(SingleByteIndex::Windows1257),
-        Id::Windows1258 => Codec::SingleByte(SingleByteIndex::Windows1258),
-        Id::XMacCyrillic => Codec::SingleByte(SingleByteIndex::XMacCyrillic),
-        Id::Gbk => Codec::Gbk,
-        Id::Gb18030 => Codec::Gb18030,
-        Id::Big5 => Codec::Big5,
-        Id::EucJp => Codec::EucJp,
-        Id::ShiftJis => Codec::ShiftJis,
-        Id::EucKr => Codec::EucKr,
-        Id::Replacement => Codec::Replacement,
-        Id::Utf16be => Codec::Utf16Be,
-        Id::Utf16le => Codec::Utf16Le,
-        Id::XUserDefined => Codec::XUserDefined,
-        Id::Iso2022Jp => Codec::Iso2022Jp,
-    }
-}

@@ -8,12 +8,13 @@ ghost use Rattle.enc_encoders.specs.Barring.{stands_in, are_beyond_ascii};
 ghost use Rattle.enc_encoders.specs.Text.{bytes_of_text, with_references};
 ghost use Rattle.enc_encoders.specs.declared.character_set.CharacterSet.TheVariants.{Ascii};
 ghost use Rattle.enc_references.specs.Unmappable.{any_unmappable};
-ghost use Rattle.encoding_rs.specs.Encodings.{codec_by_id, output_rule, rule_of};
+ghost use Rattle.encoding_rs.specs.EncodingTable.{codec_by_id};
+ghost use Rattle.encoding_rs.specs.Encodings.{output_rule, rule_of};
 ghost use Rattle.encoding_rs.specs.LifeCycle.{mark_bytes, encoding_by};
 ghost use Rattle.encoding_rs.specs.MarkLaws.{MayBeginMark, behind as behind_mark};
 ghost use Rattle.encoding_rs.specs.Decoding.{whole_sequences, whole_malformed};
 ghost use Rattle.encoding_rs.specs.EncodeRun.{whole_bytes};
-ghost use Rattle.encoding_rs.specs.Labels.{labelled, get};
+ghost use Rattle.encoding_rs.specs.Labels.{get};
 ghost use Rattle.encoding_rs.specs.Names.{name_of};
 ghost use Rattle.encoding_rs.specs.Properties.{output_encoding_of, is_ascii_compatible, is_single_byte};
 ghost use Rattle.enc_codec.specs.Properties.{IsAsciiCompatible, IsSingleByte, TellsBbByItself};
@@ -29,21 +30,9 @@ ghost use Rattle.enc_units.specs.Validity.{IsWellFormedUtf8};
 
 use crate::bom::BomHandling;
 use crate::encoding::{
-    BIG5, BIG5_INIT, EUC_JP, EUC_JP_INIT, EUC_KR, EUC_KR_INIT, Encoding, GB18030, GB18030_INIT,
-    GBK, GBK_INIT, IBM866, IBM866_INIT, ISO_2022_JP, ISO_2022_JP_INIT, ISO_8859_2, ISO_8859_2_INIT,
-    ISO_8859_3, ISO_8859_3_INIT, ISO_8859_4, ISO_8859_4_INIT, ISO_8859_5, ISO_8859_5_INIT,
-    ISO_8859_6, ISO_8859_6_INIT, ISO_8859_7, ISO_8859_7_INIT, ISO_8859_8, ISO_8859_8_I,
-    ISO_8859_8_I_INIT, ISO_8859_8_INIT, ISO_8859_10, ISO_8859_10_INIT, ISO_8859_13,
-    ISO_8859_13_INIT, ISO_8859_14, ISO_8859_14_INIT, ISO_8859_15, ISO_8859_15_INIT, ISO_8859_16,
-    ISO_8859_16_INIT, KOI8_R, KOI8_R_INIT, KOI8_U, KOI8_U_INIT, MACINTOSH, MACINTOSH_INIT,
-    REPLACEMENT, REPLACEMENT_INIT, SHIFT_JIS, SHIFT_JIS_INIT, UTF_8, UTF_8_INIT, UTF_16BE,
-    UTF_16BE_INIT, UTF_16LE, UTF_16LE_INIT, WINDOWS_874, WINDOWS_874_INIT, WINDOWS_1250,
-    WINDOWS_1250_INIT, WINDOWS_1251, WINDOWS_1251_INIT, WINDOWS_1252, WINDOWS_1252_INIT,
-    WINDOWS_1253, WINDOWS_1253_INIT, WINDOWS_1254, WINDOWS_1254_INIT, WINDOWS_1255,
-    WINDOWS_1255_INIT, WINDOWS_1256, WINDOWS_1256_INIT, WINDOWS_1257, WINDOWS_1257_INIT,
-    WINDOWS_1258, WINDOWS_1258_INIT, X_MAC_CYRILLIC, X_MAC_CYRILLIC_INIT, X_USER_DEFINED,
-    X_USER_DEFINED_INIT,
+    EUC_JP, Encoding, ISO_2022_JP, ISO_8859_8, ISO_8859_8_I, REPLACEMENT, SHIFT_JIS, UTF_8,
 };
+pub use crate::encoding_table::{labels_name_one_encoding, second_constants_are_equal};
 use std::hash::{Hash, Hasher};
 
 /// UTF-8 has no sequence without a text: each is a character, or U+FFFD stands for it.
@@ -147,12 +136,6 @@ pub fn names_are_labels(encoding: Encoding)
     let _ = encoding;
 }
 
-/// There are 228 labels, and each names the one encoding that it is paired with.
-pub fn labels_name_one_encoding()
-    ensures count { length labelled ≡ 228 }
-    ensures each { map (λ pair. get pair.0) labelled ≡ map (λ pair. Some pair.1) labelled }
-{}
-
 /// ISO-8859-8 and ISO-8859-8-I differ, though they have one index.
 pub fn iso_8859_8_differs()
     ensures { ISO_8859_8 ≢ ISO_8859_8_I }
@@ -235,47 +218,3 @@ pub fn encoded_text_decodes_back(encoding: Encoding)
 {
     let _ = (encoding, EUC_JP, SHIFT_JIS, ISO_2022_JP);
 }
-
-/// The second constant of each encoding is equal to the first.
-pub fn second_constants_are_equal()
-    ensures big5 { BIG5_INIT ≡ BIG5 }
-    ensures euc_jp { EUC_JP_INIT ≡ EUC_JP }
-    ensures euc_kr { EUC_KR_INIT ≡ EUC_KR }
-    ensures gb18030 { GB18030_INIT ≡ GB18030 }
-    ensures gbk { GBK_INIT ≡ GBK }
-    ensures ibm866 { IBM866_INIT ≡ IBM866 }
-    ensures iso_2022_jp { ISO_2022_JP_INIT ≡ ISO_2022_JP }
-    ensures iso_8859_10 { ISO_8859_10_INIT ≡ ISO_8859_10 }
-    ensures iso_8859_13 { ISO_8859_13_INIT ≡ ISO_8859_13 }
-    ensures iso_8859_14 { ISO_8859_14_INIT ≡ ISO_8859_14 }
-    ensures iso_8859_15 { ISO_8859_15_INIT ≡ ISO_8859_15 }
-    ensures iso_8859_16 { ISO_8859_16_INIT ≡ ISO_8859_16 }
-    ensures iso_8859_2 { ISO_8859_2_INIT ≡ ISO_8859_2 }
-    ensures iso_8859_3 { ISO_8859_3_INIT ≡ ISO_8859_3 }
-    ensures iso_8859_4 { ISO_8859_4_INIT ≡ ISO_8859_4 }
-    ensures iso_8859_5 { ISO_8859_5_INIT ≡ ISO_8859_5 }
-    ensures iso_8859_6 { ISO_8859_6_INIT ≡ ISO_8859_6 }
-    ensures iso_8859_7 { ISO_8859_7_INIT ≡ ISO_8859_7 }
-    ensures iso_8859_8 { ISO_8859_8_INIT ≡ ISO_8859_8 }
-    ensures iso_8859_8_i { ISO_8859_8_I_INIT ≡ ISO_8859_8_I }
-    ensures koi8_r { KOI8_R_INIT ≡ KOI8_R }
-    ensures koi8_u { KOI8_U_INIT ≡ KOI8_U }
-    ensures macintosh { MACINTOSH_INIT ≡ MACINTOSH }
-    ensures replacement { REPLACEMENT_INIT ≡ REPLACEMENT }
-    ensures shift_jis { SHIFT_JIS_INIT ≡ SHIFT_JIS }
-    ensures utf_16be { UTF_16BE_INIT ≡ UTF_16BE }
-    ensures utf_16le { UTF_16LE_INIT ≡ UTF_16LE }
-    ensures utf_8 { UTF_8_INIT ≡ UTF_8 }
-    ensures windows_1250 { WINDOWS_1250_INIT ≡ WINDOWS_1250 }
-    ensures windows_1251 { WINDOWS_1251_INIT ≡ WINDOWS_1251 }
-    ensures windows_1252 { WINDOWS_1252_INIT ≡ WINDOWS_1252 }
-    ensures windows_1253 { WINDOWS_1253_INIT ≡ WINDOWS_1253 }
-    ensures windows_1254 { WINDOWS_1254_INIT ≡ WINDOWS_1254 }
-    ensures windows_1255 { WINDOWS_1255_INIT ≡ WINDOWS_1255 }
-    ensures windows_1256 { WINDOWS_1256_INIT ≡ WINDOWS_1256 }
-    ensures windows_1257 { WINDOWS_1257_INIT ≡ WINDOWS_1257 }
-    ensures windows_1258 { WINDOWS_1258_INIT ≡ WINDOWS_1258 }
-    ensures windows_874 { WINDOWS_874_INIT ≡ WINDOWS_874 }
-    ensures x_mac_cyrillic { X_MAC_CYRILLIC_INIT ≡ X_MAC_CYRILLIC }
-    ensures x_user_defined { X_USER_DEFINED_INIT ≡ X_USER_DEFINED }
-{}

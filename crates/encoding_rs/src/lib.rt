@@ -9,6 +9,7 @@ mod decoder;
 mod encode_run;
 mod encoder;
 mod encoding;
+mod encoding_table;
 mod labels;
 pub mod laws;
 mod lengths;
@@ -26,6 +27,7 @@ pub use enc_calls::CoderResult;
 pub use enc_codec::DecoderResult;
 pub use enc_encode::EncoderResult;
 pub use encoder::Encoder;
+// scripts/make-encodings writes this list from data/encodings.txt.
 pub use encoding::{
     BIG5, BIG5_INIT, EUC_JP, EUC_JP_INIT, EUC_KR, EUC_KR_INIT, Encoding, GB18030, GB18030_INIT,
     GBK, GBK_INIT, IBM866, IBM866_INIT, ISO_2022_JP, ISO_2022_JP_INIT, ISO_8859_2, ISO_8859_2_INIT,

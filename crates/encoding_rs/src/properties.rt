@@ -5,7 +5,7 @@ ghost use Rattle.enc_encoders.specs.Barring.{are_beyond_ascii};
 ghost use Rattle.encoding_rs.specs.Names.{name_of};
 ghost use Rattle.encoding_rs.specs.Properties.{output_encoding_of, is_ascii_compatible, is_single_byte};
 
-use crate::encoding::{Encoding, Id, UTF_8};
+use crate::encoding::{Encoding, UTF_8};
 
 impl Encoding {
     /// Its name (Encoding Standard 4.2), with the capitals that it has there. It is one of its labels. Takes no
@@ -13,48 +13,7 @@ impl Encoding {
     pub fn name(self) -> &'static str
         ensures { result.now ≡ name_of self }
     {
-        match self.id {
-            Id::Utf8 => "UTF-8",
-            Id::Ibm866 => "IBM866",
-            Id::Iso88592 => "ISO-8859-2",
-            Id::Iso88593 => "ISO-8859-3",
-            Id::Iso88594 => "ISO-8859-4",
-            Id::Iso88595 => "ISO-8859-5",
-            Id::Iso88596 => "ISO-8859-6",
-            Id::Iso88597 => "ISO-8859-7",
-            Id::Iso88598 => "ISO-8859-8",
-            Id::Iso88598I => "ISO-8859-8-I",
-            Id::Iso885910 => "ISO-8859-10",
-            Id::Iso885913 => "ISO-8859-13",
-            Id::Iso885914 => "ISO-8859-14",
-            Id::Iso885915 => "ISO-8859-15",
-            Id::Iso885916 => "ISO-8859-16",
-            Id::Koi8R => "KOI8-R",
-            Id::Koi8U => "KOI8-U",
-            Id::Macintosh => "macintosh",
-            Id::Windows874 => "windows-874",
-            Id::Windows1250 => "windows-1250",
-            Id::Windows1251 => "windows-1251",
-            Id::Windows1252 => "windows-1252",
-            Id::Windows1253 => "windows-1253",
-            Id::Windows1254 => "windows-1254",
-            Id::Windows1255 => "windows-1255",
-            Id::Windows1256 => "windows-1256",
-            Id::Windows1257 => "windows-1257",
-            Id::Windows1258 => "windows-1258",
-            Id::XMacCyrillic => "x-mac-cyrillic",
-            Id::Gbk => "GBK",
-            Id::Gb18030 => "gb18030",
-            Id::Big5 => "Big5",
-            Id::EucJp => "EUC-JP",
-            Id::Iso2022Jp => "ISO-2022-JP",
-            Id::ShiftJis => "Shift_JIS",
-            Id::EucKr => "EUC-KR",
-            Id::Replacement => "replacement",
-            Id::Utf16be => "UTF-16BE",
-            Id::Utf16le => "UTF-16LE",
-            Id::XUserDefined => "x-user-defined",
-        }
+        self.id.name()
     }
 
     /// The encoding that is written where this one is asked for (Encoding Standard 4.3, "get an output encoding"):
@@ -62,9 +21,8 @@ impl Encoding {
     pub fn output_encoding(self) -> Encoding
         ensures { result ≡ output_encoding_of self }
     {
-        match self.id {
-            Id::Replacement | Id::Utf16be | Id::Utf16le => UTF_8,
-            _ => self,
+        Encoding {
+            id: self.id.output(),
         }
     }
 
@@ -93,10 +51,7 @@ impl Encoding {
     pub fn is_ascii_compatible(self) -> bool
         ensures { result ≡ is_ascii_compatible self }
     {
-        match self.id {
-            Id::Replacement | Id::Utf16be | Id::Utf16le | Id::Iso2022Jp => false,
-            _ => true,
-        }
+        self.id.is_ascii_compatible()
     }
 
     /// Whether each of its bytes is a character by itself: true for the 28 legacy single-byte encodings (Encoding
@@ -104,19 +59,6 @@ impl Encoding {
     pub fn is_single_byte(self) -> bool
         ensures { result ≡ is_single_byte self }
     {
-        match self.id {
-            Id::Utf8
-            | Id::Gbk
-            | Id::Gb18030
-            | Id::Big5
-            | Id::EucJp
-            | Id::Iso2022Jp
-            | Id::ShiftJis
-            | Id::EucKr
-            | Id::Replacement
-            | Id::Utf16be
-            | Id::Utf16le => false,
-            _ => true,
-        }
+        self.id.is_single_byte()
     }
 }

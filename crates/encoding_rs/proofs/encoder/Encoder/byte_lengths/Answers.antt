@@ -1,5 +1,5 @@
 use Rattle.encoding_rs.proofs.NeedLemmas.{enough_in}
-use Rattle.encoding_rs.specs.Encodings.{codec_by_id}
+use Rattle.encoding_rs.specs.EncodingTable.{codec_by_id}
 use Rattle.encoding_rs.proofs.encoder.Encoder.byte_lengths.Goals as goal
 
 pub returns-clause-enough : goal.returns-clause-enough
