@@ -15,7 +15,7 @@ use Rattle.enc_machine.specs.Call.{Call, Treatment, AreBounded, ReadsReported, i
 use Rattle.enc_machine.proofs.SequenceLemmas.{bytes_of-one, units-append, any_malformed-append, scalars_of-append}
 use Rattle.enc_machine.proofs.DeterminedLemmas.{begins_behind}
 use Rattle.enc_machine.proofs.ByteLemmas.{determines_by_more}
-use Rattle.enc_calls.proofs.Turns.{first_of}
+use Rattle.enc_machine.proofs.Turns.{first_of}
 
 -- How the input of an inner decoder lies in that of an outer one. From some n on, what the outer one makes of the first n bytes is what is done before, and what the inner one makes of its first
 -- n + more - less bytes. With less than `below` bytes the outer one determines nothing more than that.

@@ -1,4 +1,2 @@
-pub mod Turns
-pub mod ReplacingLemmas
 pub mod CarryLemmas
 pub mod JoinLemmas

@@ -4,10 +4,8 @@ ghost use Rattle.std.specs.Prelude.{◌≡◌, ℕ, ◌+◌, ◌-◌, ◌≤◌,
 ghost use Rattle.enc_machine.specs.CodecState.{remainder_of};
 ghost use Rattle.enc_machine.specs.Call.{CallInto, is_end as ends};
 ghost use Rattle.enc_calls.specs.Converting.{ConvertsInto, ReadsHeldFirst, placed_by};
-ghost use Rattle.enc_calls.specs.Replacing.{stop_of, treatment_of};
+ghost use Rattle.enc_calls.specs.Replacing.{treatment_of};
 
-use crate::coder_result::CoderResult;
-use crate::replacing::decode_replacing;
 use enc_machine::{DecoderResult, RawDecoder};
 use enc_units::Units;
 
@@ -24,16 +22,6 @@ pub struct Converted {
     pub replaced: bool,
 }
 
-/// The same stop, for calls with replacement and without.
-fn raw_result(stop: CoderResult) -> DecoderResult
-    ensures { result ≡ stop_of stop }
-{
-    match stop {
-        CoderResult::InputEmpty => DecoderResult::InputEmpty,
-        CoderResult::OutputFull => DecoderResult::OutputFull,
-    }
-}
-
 /// Decodes until all is read, the next sequence doesn't fit, or, where they aren't replaced, one is malformed.
 fn decode_any<D: RawDecoder, U: Units>(
     codec: &mut D,
@@ -48,8 +36,7 @@ fn decode_any<D: RawDecoder, U: Units>(
     ensures formulas { D.formulas codec.new ≡ D.formulas codec.old }
 {
     if replace {
-        let (stop, read, replaced) = decode_replacing(codec, src, out, last);
-        return (raw_result(stop), read, replaced);
+        return codec.decode_replacing(src, out, last);
     }
     let (stop, read) = codec.decode(src, out, last, false);
     (stop, read, false)

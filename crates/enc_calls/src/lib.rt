@@ -4,8 +4,6 @@
 
 mod coder_result;
 mod held_first;
-mod replacing;
 
 pub use coder_result::CoderResult;
 pub use held_first::{Converted, convert, is_end, placed};
-pub use replacing::decode_replacing;

@@ -63,6 +63,27 @@ impl RawDecoder for VariantDecoder {
         }
     }
 
+    fn decode_replacing<U: Units>(
+        &mut self,
+        src: &[u8],
+        out: &mut U,
+        last: bool,
+    ) -> (DecoderResult, usize, bool) {
+        match self {
+            VariantDecoder::Utf8(decoder) => decoder.decode_replacing(src, out, last),
+            VariantDecoder::Utf16(decoder) => decoder.decode_replacing(src, out, last),
+            VariantDecoder::SingleByte(decoder) => decoder.decode_replacing(src, out, last),
+            VariantDecoder::Big5(decoder) => decoder.decode_replacing(src, out, last),
+            VariantDecoder::EucKr(decoder) => decoder.decode_replacing(src, out, last),
+            VariantDecoder::ShiftJis(decoder) => decoder.decode_replacing(src, out, last),
+            VariantDecoder::EucJp(decoder) => decoder.decode_replacing(src, out, last),
+            VariantDecoder::Gb18030(decoder) => decoder.decode_replacing(src, out, last),
+            VariantDecoder::XUserDefined(decoder) => decoder.decode_replacing(src, out, last),
+            VariantDecoder::Replacement(decoder) => decoder.decode_replacing(src, out, last),
+            VariantDecoder::Iso2022Jp(decoder) => decoder.decode_replacing(src, out, last),
+        }
+    }
+
     fn held(&self) -> usize {
         match self {
             VariantDecoder::Utf8(decoder) => decoder.held(),

@@ -10,12 +10,12 @@ use Rattle.enc_iso_2022_jp.specs.declared.iso_2022_jp.Escape.TheVariants.{ToAsci
 use Rattle.enc_iso_2022_jp.specs.declared.iso_2022_jp.Held.{Held}
 use Rattle.enc_iso_2022_jp.specs.declared.iso_2022_jp.Held.TheVariants.{GivenBack, Lead, Whole, Started}
 use Rattle.enc_machine.specs.Segmentation.{sequences_of, one_byte_head}
-use Rattle.enc_machine.specs.CodecLaw.{Comes, Acts}
+use Rattle.enc_machine.specs.CodecLaw.{Comes, Acts, lone_fault}
 use Rattle.enc_iso_2022_jp.specs.Iso2022Jp.{set_number, designated, is_lead, one_byte_char, two_byte_char, two_byte_head, iso_2022_jp_rule as jp_rule}
 use Rattle.enc_iso_2022_jp.specs.Iso2022JpState.{holding, intermediate_byte, escape_bytes, escape_set, behind, held_bytes, CanHold, CutsOff, ends_lead, shown_char, iso_2022_jp_state as jp_state}
 use Rattle.enc_machine.proofs.SegmentationLemmas.{sequences_of-head}
 use Rattle.enc_machine.proofs.ShowLemmas.{shows_with, shows_before}
-use Rattle.enc_iso_2022_jp.proofs.Iso2022JpLemmas.{set_of_number, lead_first, alone_first, lead_alone, lead_and_trail, skipped_escape, repeated_escape, designated_by}
+use Rattle.enc_iso_2022_jp.proofs.Iso2022JpLemmas.{set_of_number, lead_first, alone_first, lead_alone, lead_and_trail, skipped_escape, repeated_escape, designated_by, high_is_none, high_leads_none, high_is_no_escape}
 use Rattle.enc_iso_2022_jp.proofs.Iso2022JpUndetermined.{undetermined}
 
 three : (e : Escape) → 3 ≡ length (escape_bytes e)
@@ -82,6 +82,10 @@ shows_alone s b None e l n =
 shows_alone s b (Some d) e l n =
     shows_with jp_state (holding s None) (holding s None) (One d) Valid 1 b refl refl refl refl (λ m. cc)
     (λ y. sequences_of-head jp_rule (set_number s) b y _ (alone s b (Some d) e l n y))
+
+-- a byte with the high bit set is malformed by itself
+pub shows_high : (s : CharacterSet) (b : ℕ) → 0x80 ≤ b → Acts jp_state (holding s None) b (Show (lone_fault (holding s None)))
+shows_high s b h = shows_alone s b None (sym (high_is_none s b h)) (high_leads_none s b h) (high_is_no_escape b h)
 
 -- a lead byte, and the byte behind it
 

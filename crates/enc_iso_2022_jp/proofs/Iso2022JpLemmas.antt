@@ -1,5 +1,6 @@
 -- What the rule of ISO-2022-JP tells, by the bytes in front.
 use Rattle.std.proofs.Common.{◌≡◌, ℕ, ◌≤◌, Bool, true, false, eqb, cond, Option, Some, None, List, [], ◌∷◌, ◌++◌, length, drop, refl, ap, ◌∙◌, arith, ◌⊎◌, inl, inr}
+use Rattle.std.proofs.lemmas.Bool.{le-ltb}
 use Rattle.std.proofs.lemmas.Bool.Decides.{nat_tests}
 use Rattle.std.specs.Option.{is_some}
 use Rattle.enc_machine.specs.declared.byte_codec.Kind.TheVariants.{Skipped, RepeatedEscape}
@@ -8,7 +9,7 @@ use Rattle.enc_iso_2022_jp.specs.declared.iso_2022_jp.CharacterSet.TheVariants.{
 use Rattle.enc_iso_2022_jp.specs.declared.iso_2022_jp.Escape.{Escape}
 use Rattle.enc_iso_2022_jp.specs.declared.iso_2022_jp.Escape.TheVariants.{ToAscii, ToRoman, ToKatakana, ToJis0208Of1978, ToJis0208Of1983}
 use Rattle.enc_machine.specs.Segmentation.{Head, head_sequence, sequences_of, one_byte_head, malformed_head}
-use Rattle.enc_iso_2022_jp.specs.Iso2022Jp.{set_number, set_of, set_named, designated, escape_head, one_byte_char, is_lead, is_jis0208_byte, two_byte_char, two_byte_head, lead_head, iso_2022_jp_rule as jp_rule}
+use Rattle.enc_iso_2022_jp.specs.Iso2022Jp.{set_number, set_of, set_named, designated, escape_head, ascii_char, katakana_char, one_byte_char, is_lead, is_jis0208_byte, two_byte_char, two_byte_head, lead_head, iso_2022_jp_rule as jp_rule}
 use Rattle.enc_iso_2022_jp.specs.Iso2022JpState.{escape_bytes, escape_set, ends_lead}
 use Rattle.enc_machine.proofs.SegmentationLemmas.{sequences_of-head}
 
@@ -34,6 +35,34 @@ in_jis0208 b e = grind (arith, nat_tests)
 -- a lead byte begins no escape sequence
 pub lead_is_no_escape : (s : CharacterSet) (b : ℕ) → is_lead s b ≡ true → eqb b 0x1B ≡ false
 lead_is_no_escape s b e = in_jis0208 b (lead_in_jis0208 s b e)
+
+-- a byte with the high bit set is no character in any set, leads none, and begins no escape sequence
+
+ascii_is_low : (b : ℕ) → 0x80 ≤ b → ascii_char b ≡ None
+ascii_is_low b h = rw (le-ltb b 0x80 h) refl
+
+katakana_is_low : (b : ℕ) → 0x80 ≤ b → katakana_char b ≡ None
+katakana_is_low b h = grind (arith, nat_tests)
+
+pub high_is_none : (s : CharacterSet) (b : ℕ) → 0x80 ≤ b → one_byte_char s b ≡ None
+unfolding one_byte_char
+high_is_none Ascii b h = ascii_is_low b h
+high_is_none Roman b h = rw (differs b 0x5C (λ e. omega arith), differs b 0x7E (λ e. omega arith)) (ascii_is_low b h)
+high_is_none Katakana b h = katakana_is_low b h
+high_is_none Jis0208 b h = refl
+
+high_in_jis0208 : (b : ℕ) → 0x80 ≤ b → is_jis0208_byte b ≡ false
+high_in_jis0208 b h = grind (arith, nat_tests)
+
+pub high_leads_none : (s : CharacterSet) (b : ℕ) → 0x80 ≤ b → is_lead s b ≡ false
+unfolding is_lead
+high_leads_none Ascii b h = refl
+high_leads_none Roman b h = refl
+high_leads_none Katakana b h = refl
+high_leads_none Jis0208 b h = high_in_jis0208 b h
+
+pub high_is_no_escape : (b : ℕ) → 0x80 ≤ b → eqb b 0x1B ≡ false
+high_is_no_escape b h = differs b 0x1B (λ e. omega arith)
 
 -- what stands first
 

@@ -11,7 +11,8 @@ ghost use Rattle.enc_machine.specs.Taking.{TakesRun};
 use crate::places::JIS0208_PLACES;
 use enc_index::{Grid, List};
 use enc_machine::{
-    ByteCodec, DecoderResult, Kind, RawDecoder, Shown, Step, Text, TextLengths, latin1_up_to, run,
+    ByteCodec, DecoderResult, Kind, RawDecoder, Shown, Step, Text, TextLengths, latin1_up_to,
+    report_or_run,
 };
 use enc_units::{Pieces, Units};
 use std::marker::Model;
@@ -609,6 +610,15 @@ impl ByteCodec for Iso2022JpDecoder {
         }
     }
 
+    /// In each set a byte with the high bit set is so.
+    #[inline(always)]
+    fn is_lone_fault(self, byte: u8) -> bool {
+        match self.held {
+            None => byte >= 0x80,
+            Some(_) => false,
+        }
+    }
+
     fn next_step(self, byte: u8) -> Step<Iso2022JpDecoder> {
         match self.held {
             None => step_first(self.set, byte),
@@ -659,6 +669,7 @@ impl RawDecoder for Iso2022JpDecoder {
     ghost formulas = { λ _. lengths.MultiByte };
 
     #[tactic(auto, using(crate::proofs::Iso2022JpRule::iso_2022_jp_is_lawful))]
+    #[inline(always)]
     fn decode<U: Units>(
         &mut self,
         src: &[u8],
@@ -666,7 +677,7 @@ impl RawDecoder for Iso2022JpDecoder {
         last: bool,
         fault_room: bool,
     ) -> (DecoderResult, usize) {
-        run(self, src, out, last, fault_room)
+        report_or_run(self, src, out, last, fault_room)
     }
 
     fn held(&self) -> usize {

@@ -15,3 +15,5 @@ pub mod Latin1Lemmas
 pub mod NeedLemmas
 pub mod EnoughLemmas
 pub mod LookaheadLemmas
+pub mod Turns
+pub mod ReplacingLemmas

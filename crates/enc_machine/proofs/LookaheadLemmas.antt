@@ -1,5 +1,5 @@
 -- A prefix determines the first sequences exactly if it contains them and their lookahead.
-use Rattle.std.proofs.Common.{◌≡◌, ℕ, ◌+◌, ◌-◌, ◌<◌, ◌≤◌, ◌↔◌, zero, suc, List, [], ◌∷◌, ◌++◌, length, take, drop, refl, ap, ◌∙◌, sym, subst, arith, append_assoc, ◌⊎◌, inl, inr}
+use Rattle.std.proofs.Common.{◌≡◌, ℕ, ◌+◌, ◌-◌, ◌≤◌, ◌↔◌, zero, suc, List, [], ◌∷◌, ◌++◌, length, take, drop, refl, ap, ◌∙◌, sym, subst, arith, append_assoc, inl, inr}
 use Rattle.std.proofs.lemmas.Bool.Decides.{leb_tells}
 use Rattle.std.proofs.lemmas.List.{length-take-le, take-append-le, take-take, take-append-drop, drop-append-le, drop-take, length-drop}
 use Rattle.enc_machine.specs.Sequence.{Sequence}
@@ -7,7 +7,7 @@ use Rattle.enc_machine.specs.Segmentation.{Rule, Head, head_sequence, sequences_
 use Rattle.enc_machine.specs.Remainder.{AreBytes, Begins, Determines}
 use Rattle.enc_machine.specs.RuleLaws.{IsToldBy, Looks, IsToldByEnd, HasLookahead}
 use Rattle.enc_machine.specs.Lookahead.{ReachBehind}
-use Rattle.enc_machine.proofs.ByteLemmas.{bytes-append, bytes-take, bytes-drop}
+use Rattle.enc_machine.proofs.ByteLemmas.{bytes-append, bytes-drop}
 use Rattle.enc_machine.proofs.SegmentationLemmas.{sequences_of-nil, sequences_of-cons}
 use Rattle.enc_machine.proofs.ToldLemmas.{same_by_sequence, within_by}
 

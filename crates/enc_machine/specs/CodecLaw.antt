@@ -2,6 +2,7 @@
 use Rattle.std.specs.Prelude.{◌≡◌, ℕ, ◌<◌, ◌≤◌, Bool, true, false, Option, Some, None, List, [], ◌∷◌, ◌++◌, length, slice_index}
 use Rattle.enc_machine.specs.declared.byte_codec.Text.{Text}
 use Rattle.enc_machine.specs.declared.byte_codec.Text.TheVariants.{Nothing, One, Two}
+use Rattle.enc_machine.specs.declared.byte_codec.Kind.TheVariants.{Malformed}
 use Rattle.enc_machine.specs.declared.byte_codec.Shown.{Shown}
 use Rattle.enc_machine.specs.declared.byte_codec.Step.{Step}
 use Rattle.enc_machine.specs.declared.byte_codec.Step.TheVariants.{Wait, Show}
@@ -47,6 +48,10 @@ Acts state c b (Wait n) =
     (state n ≡ record (state c) { pending = (state c).pending ++ b ∷ [] }) × IsUndetermined (remainder_of (state n)).sequences
 Acts state c b (Show s) =
     Comes state c (BeginsWith b) (taken s.takes_byte b) s × (s.takes_byte ≡ true → IsUndetermined (remainder_of (state s.next)).sequences)
+
+-- one malformed byte, after which the state is the one before
+abbrev pub lone_fault : {C : Type 0} → C → Shown C
+lone_fault c = record { text = One 0xFFFD; kind = Malformed; len = 1; takes_byte = true; next = c }
 
 -- what the pending bytes show by themselves, which are given back where a malformed sequence ended before them
 abbrev pub IsReady : {C : Type 0} → (C → CodecState) → C → Option (Shown C) → Type 0

@@ -1,9 +1,10 @@
 //! What a decoder is that takes one byte at a time.
 
-ghost use Rattle.std.specs.Prelude.{◌≡◌, length};
+ghost use Rattle.std.specs.Prelude.{◌≡◌, length, IsTrue};
 ghost use Rattle.enc_machine.specs.CodecState.{CodecState};
-ghost use Rattle.enc_machine.specs.CodecLaw.{Acts, IsReady, IsAtEnd};
+ghost use Rattle.enc_machine.specs.CodecLaw.{Acts, IsReady, IsAtEnd, lone_fault};
 ghost use Rattle.enc_machine.specs.Taking.{TakesRun};
+ghost use Rattle.enc_machine.specs.declared.byte_codec.Step.TheVariants as steps;
 ghost use Rattle.enc_machine.specs.Sequence.{is_malformed as malformed_kind};
 
 use enc_units::Units;
@@ -83,6 +84,16 @@ pub trait ByteCodec: Copy {
         let _bytes = src;
         let _output = out;
         (self, 0)
+    }
+
+    /// Whether the next byte is malformed by itself, and the state after it is this one again. It is asked before anything
+    /// else, since such bytes are many where the input is no text of the encoding. False says nothing. Takes no memory.
+    #[inline(always)]
+    fn is_lone_fault(self, byte: u8) -> bool
+        ensures { IsTrue result → Acts state self byte (steps.Show (lone_fault self)) }
+    {
+        let _byte = (self, byte);
+        false
     }
 
     /// What the next byte does.

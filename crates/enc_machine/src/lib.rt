@@ -12,7 +12,7 @@ mod text_lengths;
 pub use byte_codec::{ByteCodec, Kind, Shown, Step, Text};
 pub use decoder_result::DecoderResult;
 pub use latin1::latin1_up_to;
-pub use machine::run;
+pub use machine::{report_or_run, run};
 pub use pending::Pending;
 pub use raw_decoder::RawDecoder;
 pub use text_lengths::TextLengths;

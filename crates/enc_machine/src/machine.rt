@@ -1,9 +1,10 @@
 //! The loop over the bytes of one call, for every codec and every output.
 
-ghost use Rattle.std.specs.Prelude.{◌≡◌, ◌-◌, ◌<◌, ◌≤◌, true, false, length, nat_le, IsTrue, IsFalse};
+ghost use Rattle.std.specs.Prelude.{◌≡◌, ◌-◌, ◌<◌, ◌≤◌, Bool, true, false, length, nat_le, IsTrue, IsFalse};
 ghost use Rattle.enc_units.specs.Output.{AreScalars, appended, units_of_text};
 ghost use Rattle.enc_machine.specs.CodecState.{remainder_of};
-ghost use Rattle.enc_machine.specs.CodecLaw.{IsComing, chars_of};
+ghost use Rattle.enc_machine.specs.CodecLaw.{IsComing, chars_of, lone_fault};
+ghost use Rattle.enc_machine.specs.declared.machine.Coming.TheVariants as comings;
 ghost use Rattle.enc_machine.specs.Call.{CallInto, Reported};
 ghost use Rattle.enc_machine.specs.Need.{MeetsNeed};
 ghost use Rattle.enc_machine.specs.Sequence.{is_malformed as malformed_kind};
@@ -23,11 +24,28 @@ enum Coming<C> {
     Next(Shown<C>),
 }
 
+/// Whether the next byte is malformed by itself.
+#[inline(always)]
+fn is_at_lone_fault<C: ByteCodec>(codec: C, src: &[u8], read: usize) -> bool
+    ensures { IsTrue result → (last : Bool) → IsComing C.state codec src.now read last (comings.Next (lone_fault codec)) }
+{
+    read < src.len() && codec.is_lone_fault(src[read])
+}
+
 /// What comes next: a sequence that the pending bytes, the next byte or the end shows, a byte to hold, or nothing.
 fn what_comes<C: ByteCodec>(codec: C, src: &[u8], read: usize, last: bool) -> Coming<C>
     requires { read ≤ length src.now }
     ensures { IsComing C.state codec src.now read last result }
 {
+    if is_at_lone_fault(codec, src, read) {
+        return Coming::Next(Shown {
+            text: Text::One('\u{FFFD}'),
+            kind: Kind::Malformed,
+            len: 1,
+            takes_byte: true,
+            next: codec,
+        });
+    }
     match codec.ready() {
         Some(shown) => Coming::Next(shown),
         None => {
@@ -157,4 +175,45 @@ pub fn run<C: ByteCodec, U: Units>(
         state = shown.next;
         read = end;
     }
+}
+
+/// The same, compiled by itself, so that the loop that calls it stays small.
+#[inline(never)]
+fn run_apart<C: ByteCodec, U: Units>(
+    codec: &mut C,
+    src: &[u8],
+    out: &mut U,
+    last: bool,
+    fault_room: bool,
+) -> (DecoderResult, usize)
+    ensures call { CallInto U.units_of (remainder_of (C.state codec.old)) (remainder_of (C.state codec.new)) src.now last
+        (Reported fault_room) (U.output out.old) (U.output out.new) result.0 result.1 false }
+    ensures rule { (C.state codec.new).rule ≡ (C.state codec.old).rule }
+    ensures need { MeetsNeed U.units_of (Reported fault_room) (remainder_of (C.state codec.old)) (remainder_of (C.state codec.new)) src.now last
+        (U.output out.old).room result.0 result.1 ((U.output out.old).room - (U.output out.new).room) }
+{
+    run(codec, src, out, last, fault_room)
+}
+
+/// The same for a codec whose runs are long code: a byte in front that is malformed by itself is reported at once, and
+/// all else is done apart.
+#[inline(always)]
+pub fn report_or_run<C: ByteCodec, U: Units>(
+    codec: &mut C,
+    src: &[u8],
+    out: &mut U,
+    last: bool,
+    fault_room: bool,
+) -> (DecoderResult, usize)
+    ensures call { CallInto U.units_of (remainder_of (C.state codec.old)) (remainder_of (C.state codec.new)) src.now last
+        (Reported fault_room) (U.output out.old) (U.output out.new) result.0 result.1 false }
+    ensures rule { (C.state codec.new).rule ≡ (C.state codec.old).rule }
+    ensures need { MeetsNeed U.units_of (Reported fault_room) (remainder_of (C.state codec.old)) (remainder_of (C.state codec.new)) src.now last
+        (U.output out.old).room result.0 result.1 ((U.output out.old).room - (U.output out.new).room) }
+{
+    let state = *codec;
+    if is_at_lone_fault(state, src, 0) && is_reported(out, Kind::Malformed, fault_room) {
+        return (DecoderResult::Malformed(1, state.held()), 1);
+    }
+    run_apart(codec, src, out, last, fault_room)
 }

@@ -1,8 +1,8 @@
 //! What every decoder has to keep to.
 
-ghost use Rattle.std.specs.Prelude.{◌≡◌, ◌-◌, ◌≤◌, false, length};
+ghost use Rattle.std.specs.Prelude.{◌≡◌, ◌-◌, ◌≤◌, true, false, length};
 ghost use Rattle.enc_machine.specs.CodecState.{CodecState, remainder_of};
-ghost use Rattle.enc_machine.specs.Call.{CallInto, Reported};
+ghost use Rattle.enc_machine.specs.Call.{CallInto, Replaced, Reported};
 ghost use Rattle.enc_machine.specs.Latin1.{TellsLatin1};
 ghost use Rattle.enc_machine.specs.RuleLaws.{IsLawful};
 ghost use Rattle.enc_machine.specs.Need.{MeetsNeed, AreEnough};
@@ -46,6 +46,39 @@ pub trait RawDecoder: Copy {
         // A valid sequence is told by its own bytes, and any other by three more at most, or by the end; each has
         // a text of four UTF-8 code units at most.
         ensures lawful { IsLawful (state self.old).rule };
+
+    /// Decodes until all of `src` is read or the next sequence doesn't fit into `out`, with U+FFFD for each malformed one
+    /// (Encoding Standard 4.1, error mode "replacement"). Returns which, how many bytes it has read, and whether it has
+    /// replaced any. A decoder that is one of several leaves the whole call to that one, so that it isn't chosen anew
+    /// after each malformed sequence. Takes no memory.
+    fn decode_replacing<U: Units>(
+        &mut self,
+        src: &[u8],
+        out: &mut U,
+        last: bool,
+    ) -> (DecoderResult, usize, bool)
+        ensures call { CallInto U.units_of (remainder_of (state self.old)) (remainder_of (state self.new)) src.now last
+            Replaced (U.output out.old) (U.output out.new) result.0 result.1 result.2 }
+        ensures rule { (state self.new).rule ≡ (state self.old).rule }
+        ensures formulas { formulas self.new ≡ formulas self.old }
+        ensures lawful { IsLawful (state self.old).rule }
+    {
+        let mut read = 0;
+        let mut replaced = false;
+        loop {
+            let (_, rest) = src.split_at(read);
+            let (result, more) = self.decode(rest, out, last, true);
+            read += more;
+            match result {
+                DecoderResult::InputEmpty => return (DecoderResult::InputEmpty, read, replaced),
+                DecoderResult::OutputFull => return (DecoderResult::OutputFull, read, replaced),
+                DecoderResult::Malformed(_, _) => {
+                    let _ = out.put('\u{FFFD}');
+                    replaced = true;
+                }
+            }
+        }
+    }
 
     /// How many bytes are read whose sequence is not put out: five at most. Takes no memory.
     fn held(&self) -> usize

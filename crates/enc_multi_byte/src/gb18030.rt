@@ -141,6 +141,11 @@ impl MultiByte for Gb18030 {
         }
     }
 
+    /// None, since nearly each two bytes are a character.
+    fn few() -> usize {
+        0
+    }
+
     #[inline(always)]
     fn pair_char(lead: u8, byte: u8) -> Option<char> {
         if !is_lead(lead) {

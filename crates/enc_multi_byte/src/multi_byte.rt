@@ -40,6 +40,11 @@ pub trait MultiByte: Copy {
         requires { AreIncomplete prefix [] (pending_bytes pending) }
         ensures { result ≡ prefix (pending_bytes pending ++ byte ∷ []) };
 
+    /// How many characters of a run are written one by one: more than most runs of random bytes have.
+    fn few() -> usize {
+        16
+    }
+
     /// The character of two bytes, of which the first is none by itself: what `classify` tells of one and then the other,
     /// without a prefix between. `None` where they are no character or two, or where it isn't known.
     fn pair_char(lead: u8, byte: u8) -> Option<char>
@@ -205,6 +210,10 @@ impl<E: MultiByte> Pieces for MultiByteDecoder<E> {
     #[inline(always)]
     fn piece(self, src: &[u8], at: usize) -> Option<(char, usize)> {
         let lead = src[at];
+        if lead < 0x80 {
+            E::ascii();
+            return Some((lead as char, 1));
+        }
         if at + 1 < src.len() {
             if let Some(character) = E::pair_char(lead, src[at + 1]) {
                 return Some((character, 2));
@@ -223,6 +232,10 @@ impl<E: MultiByte> Pieces for MultiByteDecoder<E> {
 
     fn are_pairs(self) -> bool {
         true
+    }
+
+    fn few(self) -> usize {
+        E::few()
     }
 
     #[inline(always)]

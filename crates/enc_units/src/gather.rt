@@ -29,6 +29,50 @@ pub(crate) struct Encoded {
     pub(crate) len: u32,
 }
 
+/// The UTF-8 of a character that has two bytes (Unicode Standard 3.9, table 3-6).
+#[inline(always)]
+pub(crate) fn two_bytes(character: char) -> [u8; 2]
+    requires from { 0x80 ≤ character }
+    requires to { character < 0x800 }
+    ensures { result ≡ encode_utf8 character }
+{
+    let scalar = character as u32;
+    [0xC0 + (scalar / 64) as u8, 0x80 + (scalar % 64) as u8]
+}
+
+/// The UTF-8 of a character that has three bytes.
+#[inline(always)]
+pub(crate) fn three_bytes(character: char) -> [u8; 3]
+    requires from { 0x800 ≤ character }
+    requires to { character < 0x10000 }
+    ensures { result ≡ encode_utf8 character }
+{
+    let scalar = character as u32;
+    let second = 0x80 + (scalar / 64 % 64) as u8;
+    [
+        0xE0 + (scalar / 4096) as u8,
+        second,
+        0x80 + (scalar % 64) as u8,
+    ]
+}
+
+/// The UTF-8 of a character that has four bytes.
+#[inline(always)]
+pub(crate) fn four_bytes(character: char) -> [u8; 4]
+    requires from { 0x10000 ≤ character }
+    ensures { result ≡ encode_utf8 character }
+{
+    let scalar = character as u32;
+    let second = 0x80 + (scalar / 4096 % 64) as u8;
+    let third = 0x80 + (scalar / 64 % 64) as u8;
+    [
+        0xF0 + (scalar / 262144) as u8,
+        second,
+        third,
+        0x80 + (scalar % 64) as u8,
+    ]
+}
+
 /// The UTF-8 of a character (Unicode Standard 3.9, table 3-6).
 #[inline(always)]
 pub(crate) fn utf8_of(character: char) -> Encoded

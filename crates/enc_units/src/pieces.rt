@@ -41,6 +41,14 @@ pub trait Pieces: Copy {
         false
     }
 
+    /// How many characters of a run are written one by one before the rest is looked up by `word`: some, where runs of
+    /// random bytes are short, and none, where they are long or the runs of a text are short too. The output is the
+    /// same for every number. Takes no memory.
+    fn few(self) -> usize {
+        let _pieces = self;
+        0
+    }
+
     /// Which of sixteen bytes lead a pair if a character begins there, the first byte in the lowest bit. It is a guess:
     /// a wrong one costs time, and changes no output. Takes no memory.
     #[inline(always)]

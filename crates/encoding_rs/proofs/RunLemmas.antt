@@ -28,7 +28,7 @@ use Rattle.encoding_rs.specs.Decoding.{DecoderState, finished, fresh, remaining_
 use Rattle.encoding_rs.specs.Run.{units_by, is_reported, text_for, fault_of, AnswersCall, MakesCall, RunState, GoesOn, IsRun, faults_from, whole_start, whole_faults, Part, done_of, reported_from, all_report, HasRun}
 use Rattle.enc_units.proofs.UnitsLemmas.{utf_8_determines, utf_16_determines, utf_16_read_back}
 use Rattle.enc_units.proofs.Utf8CharsLemmas.{their_units}
-use Rattle.enc_calls.proofs.Turns.{first_of}
+use Rattle.enc_machine.proofs.Turns.{first_of}
 use Rattle.enc_machine.proofs.SegmentationLemmas.{all_bytes}
 use Rattle.enc_machine.proofs.SequenceLemmas.{bytes_of-append, bytes_of-one, units-append, units-one, any_malformed-append, any_malformed-one, or_false}
 use Rattle.encoding_rs.proofs.EndLemmas.{first_open, others_open, finishes_by, fresh_sequences, none_left}

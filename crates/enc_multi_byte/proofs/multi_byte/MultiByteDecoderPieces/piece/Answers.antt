@@ -4,6 +4,10 @@ use Rattle.enc_machine.proofs.PieceLemmas.{one_of, two_of, same_piece}
 use Rattle.enc_multi_byte.proofs.MultiBytePieces.{complete_one, complete_two}
 use Rattle.enc_multi_byte.proofs.multi_byte.MultiByteDecoderPieces.piece.Goals as goal
 
+pub returns-then-lead-lt128-clause-means : goal.returns-then-lead-lt128-clause-means
+returns-then-lead-lt128-clause-means g c =
+    same_piece _ 0 _ _ _ (one_of c.args.src.now c.args.at c.requires) (complete_one g.E.MultiByte.prefix _ _ (c.ascii.ensures _ c.if-lead-lt128.true))
+
 pub returns-in-Some-clause-means : goal.returns-in-Some-clause-means
 returns-in-Some-clause-means g c =
     let pair = c.in-Some.ensures in

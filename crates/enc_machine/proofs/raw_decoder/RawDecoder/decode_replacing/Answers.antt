@@ -1,7 +1,7 @@
 use Rattle.std.proofs.Common.{refl, ◌∙◌}
 use Rattle.enc_machine.proofs.ByteLemmas.{bytes_of_slice}
-use Rattle.enc_calls.proofs.ReplacingLemmas.{begin, empties, fills, fits, replaces, falls}
-use Rattle.enc_calls.proofs.replacing.decode_replacing.Goals as goal
+use Rattle.enc_machine.proofs.ReplacingLemmas.{begin, empties, fills, fits, replaces, falls}
+use Rattle.enc_machine.proofs.raw_decoder.RawDecoder.decode_replacing.Goals as goal
 
 pub loop-out-init : goal.loop-out-init
 loop-out-init g c = record { turning = begin _ _ _ _ _; rule = refl; formulas = refl }

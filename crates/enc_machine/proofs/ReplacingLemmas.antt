@@ -10,8 +10,8 @@ use Rattle.enc_machine.specs.Remainder.{Remainder, AreBytes}
 use Rattle.enc_machine.specs.Call.{RawCall, CallInto, Replaced, Reported}
 use Rattle.enc_machine.proofs.SequenceLemmas.{bytes_of-one}
 use Rattle.enc_units.proofs.OutputLemmas.{appended-nil, appended-appended, room_left}
-use Rattle.enc_calls.proofs.Turns as turns
-use Rattle.enc_calls.proofs.Turns.{Turned}
+use Rattle.enc_machine.proofs.Turns as turns
+use Rattle.enc_machine.proofs.Turns.{Turned}
 
 -- how far the loop has come over an output
 pub record Turning (units_of : ℕ → List ℕ) (old : Remainder) (src : List ℕ) (last : Bool) (before after : Output) (read : ℕ) (now : Remainder) (replaced : Bool) : Type 0 where
