@@ -7,7 +7,7 @@
 #![tactic(auto)]
 
 ghost use Rattle.std.specs.Prelude.{◌≡◌, ◌≤◌, false, length, OnOk};
-ghost use Rattle.encoding_rs.specs.Decoding.{finished};
+ghost use Rattle.encoding_rs.specs.Decoding.{has_finished};
 
 use encoding_rs::{CoderResult, Decoder, Encoder, Encoding};
 use std::io::{ErrorKind, Read, Write};
@@ -114,9 +114,9 @@ fn decode<W: Write>(
     bytes: &mut [u8],
     out: &mut W,
 ) -> io::Result<bool>
-    requires unfinished { finished decoder.old ≡ false }
+    requires unfinished { has_finished decoder.old ≡ false }
     requires room { 2 ≤ length units.old }
-    ensures { OnOk result (finished decoder.new ≡ last) }
+    ensures { OnOk result (has_finished decoder.new ≡ last) }
 {
     let mut unread = chunk;
     let mut had_errors = false;

@@ -1,2 +1,2 @@
-pub mod CarryLemmas
-pub mod JoinLemmas
+pub mod ShiftedInputLemmas
+pub mod JoinedCallLemmas

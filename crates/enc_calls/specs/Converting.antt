@@ -2,17 +2,17 @@
 use Rattle.std.specs.Prelude.{◌≡◌, ℕ, ◌+◌, ◌≤◌, ◌⊎◌, Bool, List, ◌++◌, length, take}
 use Rattle.enc_machine.specs.declared.decoder_result.DecoderResult.{DecoderResult}
 use Rattle.enc_machine.specs.declared.decoder_result.DecoderResult.TheVariants.{InputEmpty, OutputFull, Malformed}
-use Rattle.enc_units.specs.Output.{Output, appended}
-use Rattle.enc_machine.specs.Sequence.{bytes_of}
+use Rattle.enc_units.specs.Output.{Output, with_appended}
+use Rattle.enc_machine.specs.Sequence.{sequence_bytes}
 use Rattle.enc_machine.specs.Remainder.{Remainder}
-use Rattle.enc_machine.specs.Call.{Call, Treatment}
+use Rattle.enc_machine.specs.Call.{DecoderCall, DecodeErrorMode}
 
 -- A call over all of them, and what it wrote is appended to an output.
-pub record ConvertsInto (units_of : ℕ → List ℕ) (old new : Remainder) (src : List ℕ) (last : Bool) (treatment : Treatment) (before after : Output) (result : DecoderResult) (read : ℕ) (replaced : Bool) : Type 0 where
+pub record PrefixedCallInto (units_of : ℕ → List ℕ) (old new : Remainder) (src : List ℕ) (last : Bool) (mode : DecodeErrorMode) (before after : Output) (result : DecoderResult) (read : ℕ) (replaced : Bool) : Type 0 where
   pub wrote : List ℕ
-  pub onto : after ≡ appended before wrote
-  pub call : Call units_of old new src last treatment before.room result read wrote replaced
-  pub accounted : old.pending ++ take read src ≡ bytes_of call.done ++ new.pending
+  pub onto : after ≡ with_appended before wrote
+  pub call : DecoderCall units_of old new src last mode before.room result read wrote replaced
+  pub accounted : old.pending ++ take read src ≡ sequence_bytes call.done ++ new.pending
 
 -- How many of the held bytes it has left, and how many of the others it has read: none of these as long as it has left
 -- one of those.
@@ -22,7 +22,7 @@ pub record ReadsHeldFirst (held src : List ℕ) (left read : ℕ) : Type 0 where
   pub first : (left ≡ 0) ⊎ (read ≡ 0)
 
 -- the same stop, where so many bytes are held behind those that the codec has
-abbrev pub placed_by : DecoderResult → ℕ → DecoderResult
-placed_by InputEmpty held = InputEmpty
-placed_by OutputFull held = OutputFull
-placed_by (Malformed l a) held = Malformed l (a + held)
+abbrev pub shifted_result : DecoderResult → ℕ → DecoderResult
+shifted_result InputEmpty held = InputEmpty
+shifted_result OutputFull held = OutputFull
+shifted_result (Malformed l a) held = Malformed l (a + held)

@@ -2,9 +2,9 @@
 
 ghost use Rattle.std.specs.Prelude.{◌≡◌, ℕ, ◌+◌, ◌-◌, ◌≤◌, ◌++◌, length};
 ghost use Rattle.enc_machine.specs.CodecState.{remainder_of};
-ghost use Rattle.enc_machine.specs.Call.{CallInto, is_end as ends};
-ghost use Rattle.enc_calls.specs.Converting.{ConvertsInto, ReadsHeldFirst, placed_by};
-ghost use Rattle.enc_calls.specs.Replacing.{treatment_of};
+ghost use Rattle.enc_machine.specs.Call.{DecoderCallInto, reaches_end as ends};
+ghost use Rattle.enc_calls.specs.Converting.{PrefixedCallInto, ReadsHeldFirst, shifted_result};
+ghost use Rattle.enc_calls.specs.Replacing.{decode_error_mode};
 
 use enc_machine::{DecoderResult, RawDecoder};
 use enc_units::Units;
@@ -30,8 +30,9 @@ fn decode_any<D: RawDecoder, U: Units>(
     last: bool,
     replace: bool,
 ) -> (DecoderResult, usize, bool)
-    ensures call { CallInto U.units_of (remainder_of (D.state codec.old)) (remainder_of (D.state codec.new)) src.now last
-        (treatment_of replace) (U.output out.old) (U.output out.new) result.0 result.1 result.2 }
+    ensures call { DecoderCallInto U.units_of (remainder_of (D.state codec.old)) (remainder_of (D.state codec.new)) src.now last
+        (decode_error_mode replace) (U.output out.old) (U.output out.new) result.0 result.1
+        result.2 }
     ensures rule { (D.state codec.new).rule ≡ (D.state codec.old).rule }
     ensures formulas { D.formulas codec.new ≡ D.formulas codec.old }
 {
@@ -51,8 +52,8 @@ pub fn convert<D: RawDecoder, U: Units>(
     last: bool,
     replace: bool,
 ) -> Converted
-    ensures call { ConvertsInto U.units_of (remainder_of (D.state codec.old)) (remainder_of (D.state codec.new)) (held.now ++ src.now) last
-        (treatment_of replace) (U.output out.old) (U.output out.new) result.result (length held.now - result.left + result.read) result.replaced }
+    ensures call { PrefixedCallInto U.units_of (remainder_of (D.state codec.old)) (remainder_of (D.state codec.new)) (held.now ++ src.now) last
+        (decode_error_mode replace) (U.output out.old) (U.output out.new) result.result (length held.now - result.left + result.read) result.replaced }
     ensures reads { ReadsHeldFirst held.now src.now result.left result.read }
     ensures rule { (D.state codec.new).rule ≡ (D.state codec.old).rule }
     ensures formulas { D.formulas codec.new ≡ D.formulas codec.old }
@@ -94,7 +95,7 @@ pub fn convert<D: RawDecoder, U: Units>(
 }
 
 /// Whether a call has come to the end of the input.
-pub fn is_end(last: bool, stop: DecoderResult) -> bool
+pub fn reaches_end(last: bool, stop: DecoderResult) -> bool
     ensures { result ≡ ends last stop }
 {
     match stop {
@@ -105,9 +106,9 @@ pub fn is_end(last: bool, stop: DecoderResult) -> bool
 }
 
 /// The same stop, where so many bytes are held behind those that a codec has.
-pub fn placed(stop: DecoderResult, held: usize) -> DecoderResult
+pub fn shift_malformed(stop: DecoderResult, held: usize) -> DecoderResult
     requires few { (l a : ℕ) → stop ≡ DecoderResult.Malformed l a → a + held ≤ 255 }
-    ensures { result ≡ placed_by stop held }
+    ensures { result ≡ shifted_result stop held }
 {
     match stop {
         DecoderResult::InputEmpty => stop,

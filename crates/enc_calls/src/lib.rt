@@ -6,4 +6,4 @@ mod coder_result;
 mod held_first;
 
 pub use coder_result::CoderResult;
-pub use held_first::{Converted, convert, is_end, placed};
+pub use held_first::{Converted, convert, reaches_end, shift_malformed};

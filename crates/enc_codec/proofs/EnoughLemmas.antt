@@ -1,7 +1,7 @@
 -- Which lengths are enough for a decoder that has read nothing, by its codec.
 use Rattle.std.proofs.Common.{true, false, [], refl}
 use Rattle.enc_machine.specs.declared.pending.Pending.TheVariants.{Nothing}
-use Rattle.enc_machine.specs.Need.{AreEnough}
+use Rattle.enc_machine.specs.Need.{AreEnoughForCodec}
 use Rattle.enc_index.specs.Runs.{single_byte_runs}
 use Rattle.enc_utf.proofs.Utf8Enough.{utf_8_enough}
 use Rattle.enc_utf.proofs.Utf16Enough.{utf_16_enough}
@@ -14,9 +14,9 @@ use Rattle.enc_multi_byte.proofs.MultiByteEnough.{multi_bytes_enough}
 use Rattle.enc_iso_2022_jp.proofs.Iso2022JpEnough.{iso_2022_jp_enough}
 use Rattle.enc_codec.specs.declared.codec.Codec.{Codec}
 use Rattle.enc_codec.specs.declared.codec.Codec.TheVariants.{Utf8, Utf16Be, Utf16Le, SingleByte, Big5, EucKr, ShiftJis, EucJp, Gbk, Gb18030, Iso2022Jp, XUserDefined, Replacement}
-use Rattle.enc_codec.specs.Codecs.{codec_rule, codec_lengths, fresh_state}
+use Rattle.enc_codec.specs.Codecs.{codec_rule, codec_lengths, initial_state}
 
-pub codec_enough : (c : Codec) → AreEnough (codec_lengths c) (fresh_state (codec_rule c))
+pub codec_enough : (c : Codec) → AreEnoughForCodec (codec_lengths c) (initial_state (codec_rule c))
 codec_enough Utf8 = utf_8_enough _ refl
 codec_enough Utf16Be = utf_16_enough (record { big_endian = true; pending = Nothing }) refl
 codec_enough Utf16Le = utf_16_enough (record { big_endian = false; pending = Nothing }) refl

@@ -2,27 +2,27 @@
 use Rattle.std.proofs.Common.{◌≡◌, ℕ, ◌+◌, ◌≤◌, Bool, true, false, Option, Some, None, List, [], ◌∷◌, length, refl, ap, ◌∙◌, sym, arith, inl, inr}
 use Rattle.enc_machine.specs.declared.byte_codec.Text.{Text}
 use Rattle.enc_machine.specs.Segmentation.{Head, Rule, one_byte_head}
-use Rattle.enc_machine.specs.RuleLaws.{IsToldBy}
-use Rattle.enc_machine.proofs.ToldLemmas.{true_or_false}
-use Rattle.enc_utf.specs.Utf8.{sequence_len, is_second, is_continuation, continuations, utf_8_rule}
-use Rattle.enc_utf.specs.Utf16.{code_unit, is_lead as is_lead_unit, is_trail, utf_16_rule}
+use Rattle.enc_machine.specs.RuleLaws.{IsDeterminedWithin}
+use Rattle.enc_machine.proofs.FirstSequenceLemmas.{true_or_false}
+use Rattle.enc_utf.specs.Utf8.{sequence_len, is_second_byte, is_continuation, continuations, utf_8_rule}
+use Rattle.enc_utf.specs.Utf16.{code_unit, is_lead_surrogate as is_lead_unit, is_trail_surrogate, utf_16_rule}
 use Rattle.enc_single_byte.specs.OneByte.{one_byte_rule}
 use Rattle.enc_single_byte.specs.Replacement.{replacement_rule}
 use Rattle.enc_multi_byte.specs.declared.multi_byte.Prefix.{Prefix}
 use Rattle.enc_multi_byte.specs.declared.multi_byte.Prefix.TheVariants.{Incomplete}
 use Rattle.enc_multi_byte.specs.DoubleByte.{trail_prefix}
-use Rattle.enc_multi_byte.specs.MultiByte.{multi_byte_rule, head_of}
+use Rattle.enc_multi_byte.specs.MultiByte.{multi_byte_rule, prefix_head}
 use Rattle.enc_multi_byte.specs.Big5.{big5_prefix}
 use Rattle.enc_multi_byte.specs.EucKr.{euc_kr_prefix}
 use Rattle.enc_multi_byte.specs.ShiftJis.{shift_jis_prefix}
 use Rattle.enc_multi_byte.specs.EucJp.{euc_jp_prefix}
 use Rattle.enc_multi_byte.specs.Gb18030.{gb18030_prefix}
-use Rattle.enc_iso_2022_jp.specs.Iso2022Jp.{iso_2022_jp_rule, is_lead, one_byte_char}
-use Rattle.enc_codec.specs.Properties.{TellsBbByItself}
+use Rattle.enc_iso_2022_jp.specs.Iso2022Jp.{iso_2022_jp_rule, is_lead_byte, one_byte_char}
+use Rattle.enc_codec.specs.Properties.{DeterminesBbByItself}
 
 -- in UTF-8 BB goes on with EF
-pub utf_8_tells_bb : TellsBbByItself utf_8_rule
-unfolding utf_8_rule sequence_len is_second is_continuation
+pub utf_8_tells_bb : DeterminesBbByItself utf_8_rule
+unfolding utf_8_rule sequence_len is_second_byte is_continuation
 utf_8_tells_bb [] e y = absurd (cc)
 utf_8_tells_bb (c ∷ z) e y = elim (true_or_false (is_continuation c)) [
   | inl t ↦ absurd (let f = rw t at e in cc)
@@ -30,12 +30,12 @@ utf_8_tells_bb (c ∷ z) e y = elim (true_or_false (is_continuation c)) [
 ]
 
 -- in UTF-16 they are a code unit, and no surrogate
-pub utf_16_tells_bb : (big : Bool) → TellsBbByItself (utf_16_rule big)
-unfolding utf_16_rule code_unit is_lead_unit is_trail
+pub utf_16_tells_bb : (big : Bool) → DeterminesBbByItself (utf_16_rule big)
+unfolding utf_16_rule code_unit is_lead_unit is_trail_surrogate
 utf_16_tells_bb true z e y = absurd (cc)
 utf_16_tells_bb false z e y = absurd (cc)
 
-pub one_byte_tells_bb : (character : ℕ → Option ℕ) → TellsBbByItself (one_byte_rule character)
+pub one_byte_tells_bb : (character : ℕ → Option ℕ) → DeterminesBbByItself (one_byte_rule character)
 unfolding one_byte_rule
 one_byte_tells_bb character z e y = (alone _ (character 0xBB), record { there = (let f = alone (one_byte_head 0 (character 0xEF)).set (character 0xBB) in omega arith); same = λ x. refl })
   where
@@ -45,39 +45,39 @@ one_byte_tells_bb character z e y = (alone _ (character 0xBB), record { there = 
 
 -- where EF leads, BB is its trail, or is malformed with it
 multi_byte_tells_bb : (prefix : List ℕ → Prefix) (text : Option Text) → prefix (0xEF ∷ []) ≡ Incomplete → prefix (0xEF ∷ 0xBB ∷ []) ≡ trail_prefix 1 0xBB text
-    → TellsBbByItself (multi_byte_rule prefix)
+    → DeterminesBbByItself (multi_byte_rule prefix)
 unfolding multi_byte_rule
 multi_byte_tells_bb prefix text f g z e y = absurd (two text (sym first ∙ e))
   where
-    first : (head_of prefix 0 (0xEF ∷ []) (prefix (0xEF ∷ [])) (0xBB ∷ z)).more ≡ (head_of prefix 0 (0xEF ∷ 0xBB ∷ []) (trail_prefix 1 0xBB text) z).more
+    first : (prefix_head prefix 0 (0xEF ∷ []) (prefix (0xEF ∷ [])) (0xBB ∷ z)).more ≡ (prefix_head prefix 0 (0xEF ∷ 0xBB ∷ []) (trail_prefix 1 0xBB text) z).more
     first =
-        ap (λ r. (head_of prefix 0 (0xEF ∷ []) r (0xBB ∷ z)).more) f ∙ ap (λ r. (head_of prefix 0 (0xEF ∷ 0xBB ∷ []) r z).more) g
+        ap (λ r. (prefix_head prefix 0 (0xEF ∷ []) r (0xBB ∷ z)).more) f ∙ ap (λ r. (prefix_head prefix 0 (0xEF ∷ 0xBB ∷ []) r z).more) g
 
-    two : (t : Option Text) → (head_of prefix 0 (0xEF ∷ 0xBB ∷ []) (trail_prefix 1 0xBB t) z).more ≡ 0 → ⊥
+    two : (t : Option Text) → (prefix_head prefix 0 (0xEF ∷ 0xBB ∷ []) (trail_prefix 1 0xBB t) z).more ≡ 0 → ⊥
     two None h = cc
     two (Some t) h = cc
 
-pub big5_tells_bb : TellsBbByItself (multi_byte_rule big5_prefix)
+pub big5_tells_bb : DeterminesBbByItself (multi_byte_rule big5_prefix)
 big5_tells_bb = multi_byte_tells_bb big5_prefix _ refl refl
 
-pub euc_kr_tells_bb : TellsBbByItself (multi_byte_rule euc_kr_prefix)
+pub euc_kr_tells_bb : DeterminesBbByItself (multi_byte_rule euc_kr_prefix)
 euc_kr_tells_bb = multi_byte_tells_bb euc_kr_prefix _ refl refl
 
-pub shift_jis_tells_bb : TellsBbByItself (multi_byte_rule shift_jis_prefix)
+pub shift_jis_tells_bb : DeterminesBbByItself (multi_byte_rule shift_jis_prefix)
 shift_jis_tells_bb = multi_byte_tells_bb shift_jis_prefix _ refl refl
 
-pub euc_jp_tells_bb : TellsBbByItself (multi_byte_rule euc_jp_prefix)
+pub euc_jp_tells_bb : DeterminesBbByItself (multi_byte_rule euc_jp_prefix)
 euc_jp_tells_bb = multi_byte_tells_bb euc_jp_prefix _ refl refl
 
-pub gb18030_tells_bb : TellsBbByItself (multi_byte_rule gb18030_prefix)
+pub gb18030_tells_bb : DeterminesBbByItself (multi_byte_rule gb18030_prefix)
 gb18030_tells_bb = multi_byte_tells_bb gb18030_prefix _ refl refl
 
 -- in ASCII both are malformed, each by itself
-pub iso_2022_jp_tells_bb : TellsBbByItself iso_2022_jp_rule
-unfolding iso_2022_jp_rule is_lead one_byte_char
+pub iso_2022_jp_tells_bb : DeterminesBbByItself iso_2022_jp_rule
+unfolding iso_2022_jp_rule is_lead_byte one_byte_char
 iso_2022_jp_tells_bb z e y = (refl, record { there = omega arith; same = λ x. refl })
 
 -- the first byte is malformed, and all later ones are skipped
-pub replacement_tells_bb : TellsBbByItself replacement_rule
+pub replacement_tells_bb : DeterminesBbByItself replacement_rule
 unfolding replacement_rule
 replacement_tells_bb z e y = (refl, record { there = omega arith; same = λ x. refl })

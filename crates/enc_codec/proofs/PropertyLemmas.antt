@@ -5,11 +5,11 @@ use Rattle.std.proofs.lemmas.Bool.Decides.{nat_tests}
 use Rattle.std.specs.List.{AllByRecursion}
 use Rattle.enc_machine.specs.declared.byte_codec.Text.TheVariants.{One}
 use Rattle.enc_machine.specs.Sequence.{Sequence}
-use Rattle.enc_machine.specs.Segmentation.{Head, Rule, one_byte_head, head_sequence, sequences_behind, sequences_of}
+use Rattle.enc_machine.specs.Segmentation.{Head, Rule, one_byte_head, head_sequence, sequences_after, sequences_of}
 use Rattle.enc_machine.specs.Remainder.{AreBytes}
 use Rattle.enc_machine.proofs.SegmentationLemmas.{sequences_of-cons}
-use Rattle.enc_utf.specs.Utf8.{sequence_len, is_second, is_continuation, utf_8_rule}
-use Rattle.enc_utf.specs.Utf16.{code_unit, is_lead, is_trail, utf_16_rule}
+use Rattle.enc_utf.specs.Utf8.{sequence_len, is_second_byte, is_continuation, utf_8_rule}
+use Rattle.enc_utf.specs.Utf16.{code_unit, is_lead_surrogate, is_trail_surrogate, utf_16_rule}
 use Rattle.enc_utf.proofs.Utf8Lemmas.{one_valid}
 use Rattle.enc_single_byte.specs.OneByte.{one_byte_rule, single_byte_char, x_user_defined_char}
 use Rattle.enc_single_byte.specs.Replacement.{replacement_rule}
@@ -17,12 +17,12 @@ use Rattle.enc_single_byte.proofs.OneByteLemmas.{one_byte_piece}
 use Rattle.enc_multi_byte.specs.declared.multi_byte.Prefix.{Prefix}
 use Rattle.enc_multi_byte.specs.declared.multi_byte.Prefix.TheVariants.{Complete, Malformed, Incomplete}
 use Rattle.enc_multi_byte.specs.DoubleByte.{first_prefix, single_prefix}
-use Rattle.enc_multi_byte.specs.MultiByte.{multi_byte_rule, head_of, HasAscii}
-use Rattle.enc_multi_byte.specs.Big5.{big5_lead, big5_prefix}
-use Rattle.enc_multi_byte.specs.EucKr.{euc_kr_lead, euc_kr_prefix}
-use Rattle.enc_multi_byte.specs.ShiftJis.{shift_jis_lead, shift_jis_single, shift_jis_prefix}
-use Rattle.enc_multi_byte.specs.EucJp.{euc_jp_lead, euc_jp_prefix}
-use Rattle.enc_multi_byte.specs.Gb18030.{gb18030_lead, gb18030_single, gb18030_prefix}
+use Rattle.enc_multi_byte.specs.MultiByte.{multi_byte_rule, prefix_head, HasAscii}
+use Rattle.enc_multi_byte.specs.Big5.{is_big5_lead, big5_prefix}
+use Rattle.enc_multi_byte.specs.EucKr.{is_euc_kr_lead, euc_kr_prefix}
+use Rattle.enc_multi_byte.specs.ShiftJis.{is_shift_jis_lead, shift_jis_single_char, shift_jis_prefix}
+use Rattle.enc_multi_byte.specs.EucJp.{is_euc_jp_lead, euc_jp_prefix}
+use Rattle.enc_multi_byte.specs.Gb18030.{is_gb18030_lead, gb18030_single_char, gb18030_prefix}
 use Rattle.enc_multi_byte.proofs.MultiBytePieces.{complete_one}
 use Rattle.enc_iso_2022_jp.specs.Iso2022Jp.{iso_2022_jp_rule}
 use Rattle.enc_codec.specs.Properties.{IsAsciiCompatible, IsByteWithText, IsSingleByte}
@@ -48,7 +48,7 @@ unfolding sequence_len
 utf_8_is_ascii_compatible b l y = one_valid b y (grind arith)
 
 pub utf_8_is_not_single_byte : ¬ (IsSingleByte utf_8_rule)
-unfolding utf_8_rule sequence_len is_second is_continuation
+unfolding utf_8_rule sequence_len is_second_byte is_continuation
 utf_8_is_not_single_byte = more_bytes utf_8_rule 0xC2 (0x80 ∷ []) (omega arith, (omega arith, tt)) (λ e. cc)
 
 -- UTF-16
@@ -58,7 +58,7 @@ unfolding utf_16_rule
 utf_16_is_not_ascii_compatible big = replaced (utf_16_rule big) 0x61 (omega arith) refl
 
 pub utf_16_is_not_single_byte : (big : Bool) → ¬ (IsSingleByte (utf_16_rule big))
-unfolding utf_16_rule code_unit is_lead is_trail
+unfolding utf_16_rule code_unit is_lead_surrogate is_trail_surrogate
 utf_16_is_not_single_byte true = more_bytes (utf_16_rule true) 0 (0x61 ∷ []) (omega arith, (omega arith, tt)) (λ e. cc)
 utf_16_is_not_single_byte false = more_bytes (utf_16_rule false) 0 (0x61 ∷ []) (omega arith, (omega arith, tt)) (λ e. cc)
 
@@ -74,11 +74,11 @@ pub x_user_defined_ascii : (b : ℕ) → b < 0x80 → x_user_defined_char b ≡ 
 x_user_defined_ascii b l = cond-true _ _ _ (lt-ltb b 0x80 l)
 
 pub one_byte_is_single_byte : (character : ℕ → Option ℕ) → IsSingleByte (one_byte_rule character)
-unfolding one_byte_rule sequences_behind
+unfolding one_byte_rule sequences_after
 one_byte_is_single_byte character bytes a = each 0 bytes
   where
     first : (set b : ℕ) (z : List ℕ) (c : Option ℕ) → ((set : ℕ) → AllByRecursion IsByteWithText (sequences_of (one_byte_rule character) set z))
-        → AllByRecursion IsByteWithText (head_sequence (one_byte_head set c) b z ∷ sequences_behind (one_byte_rule character) (one_byte_head set c).set (one_byte_head set c).more z)
+        → AllByRecursion IsByteWithText (head_sequence (one_byte_head set c) b z ∷ sequences_after (one_byte_rule character) (one_byte_head set c).set (one_byte_head set c).more z)
     first set b z None h = (record { one = refl; text = λ e. cc }, h set)
     first set b z (Some c) h = (record { one = refl; text = λ e. cc }, h set)
 
@@ -96,8 +96,9 @@ multi_byte_is_not_single_byte : (prefix : List ℕ → Prefix) (lead : ℕ) → 
     → prefix (lead ∷ 0xFF ∷ []) ≡ Malformed 2 → ¬ (IsSingleByte (multi_byte_rule prefix))
 unfolding multi_byte_rule
 multi_byte_is_not_single_byte prefix lead l e f =
-    let h : head_of prefix 0 (lead ∷ []) (prefix (lead ∷ [])) (0xFF ∷ []) ≡ head_of prefix 0 (lead ∷ 0xFF ∷ []) (Malformed 2) [] =
-    ap (λ r. head_of prefix 0 (lead ∷ []) r (0xFF ∷ [])) e ∙ ap (λ r. head_of prefix 0 (lead ∷ 0xFF ∷ []) r []) f in
+    let h : prefix_head prefix 0 (lead ∷ []) (prefix (lead ∷ [])) (0xFF ∷ []) ≡ prefix_head prefix 0 (lead ∷ 0xFF ∷ []) (Malformed 2) [] =
+    ap (λ r. prefix_head prefix 0 (lead ∷ []) r (0xFF ∷ [])) e
+    ∙ ap (λ r. prefix_head prefix 0 (lead ∷ 0xFF ∷ []) r []) f in
     more_bytes (multi_byte_rule prefix) lead (0xFF ∷ []) (l, (omega arith, tt))
     (λ o. let o' = subst (λ (t : Head). length (head_sequence t lead (0xFF ∷ [])).bytes ≡ 1) h o in cc)
 
@@ -105,19 +106,19 @@ first_alone : (leads : Bool) (single : Option ℕ) (b : ℕ) → leads ≡ false
 first_alone leads single b n e = ap (λ t. first_prefix t single) n ∙ ap single_prefix e
 
 pub big5_has_ascii : HasAscii big5_prefix
-big5_has_ascii b l = first_alone (big5_lead b) _ b (grind (arith, nat_tests)) (cond-true _ _ _ (lt-ltb b 0x80 l))
+big5_has_ascii b l = first_alone (is_big5_lead b) _ b (grind (arith, nat_tests)) (cond-true _ _ _ (lt-ltb b 0x80 l))
 
 pub euc_kr_has_ascii : HasAscii euc_kr_prefix
-euc_kr_has_ascii b l = first_alone (euc_kr_lead b) _ b (grind (arith, nat_tests)) (cond-true _ _ _ (lt-ltb b 0x80 l))
+euc_kr_has_ascii b l = first_alone (is_euc_kr_lead b) _ b (grind (arith, nat_tests)) (cond-true _ _ _ (lt-ltb b 0x80 l))
 
 pub shift_jis_has_ascii : HasAscii shift_jis_prefix
-shift_jis_has_ascii b l = first_alone (shift_jis_lead b) (shift_jis_single b) b (grind (arith, nat_tests)) (grind (arith, nat_tests))
+shift_jis_has_ascii b l = first_alone (is_shift_jis_lead b) (shift_jis_single_char b) b (grind (arith, nat_tests)) (grind (arith, nat_tests))
 
 pub euc_jp_has_ascii : HasAscii euc_jp_prefix
-euc_jp_has_ascii b l = first_alone (euc_jp_lead b) _ b (grind (arith, nat_tests)) (cond-true _ _ _ (lt-ltb b 0x80 l))
+euc_jp_has_ascii b l = first_alone (is_euc_jp_lead b) _ b (grind (arith, nat_tests)) (cond-true _ _ _ (lt-ltb b 0x80 l))
 
 pub gb18030_has_ascii : HasAscii gb18030_prefix
-gb18030_has_ascii b l = first_alone (gb18030_lead b) (gb18030_single b) b (grind (arith, nat_tests)) (cond-true _ _ _ (lt-ltb b 0x80 l))
+gb18030_has_ascii b l = first_alone (is_gb18030_lead b) (gb18030_single_char b) b (grind (arith, nat_tests)) (cond-true _ _ _ (lt-ltb b 0x80 l))
 
 pub big5_is_not_single_byte : ¬ (IsSingleByte (multi_byte_rule big5_prefix))
 big5_is_not_single_byte = multi_byte_is_not_single_byte big5_prefix 0x81 (omega arith) refl refl
@@ -151,5 +152,5 @@ unfolding replacement_rule
 replacement_is_not_ascii_compatible = replaced replacement_rule 0x61 (omega arith) refl
 
 pub replacement_is_not_single_byte : ¬ (IsSingleByte replacement_rule)
-unfolding replacement_rule sequences_behind
+unfolding replacement_rule sequences_after
 replacement_is_not_single_byte h = (h (0x61 ∷ 0x61 ∷ []) (omega arith, (omega arith, tt))).1.0.text refl

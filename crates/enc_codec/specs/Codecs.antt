@@ -35,8 +35,8 @@ codec_rule Replacement = replacement_rule
 codec_rule Iso2022Jp = iso_2022_jp_rule
 
 -- a decoder of this rule that has read nothing
-abbrev pub fresh_state : Rule → CodecState
-fresh_state rule = record { rule = rule; set = 0; pending = [] }
+abbrev pub initial_state : Rule → CodecState
+initial_state rule = record { rule = rule; set = 0; pending = [] }
 
 -- and the formulas for lengths to allocate
 abbrev pub codec_lengths : Codec → TextLengths

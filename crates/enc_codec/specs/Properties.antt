@@ -4,13 +4,13 @@ use Rattle.std.specs.List.{AllByRecursion}
 use Rattle.enc_machine.specs.Sequence.{Sequence}
 use Rattle.enc_machine.specs.Segmentation.{Rule, sequences_of}
 use Rattle.enc_machine.specs.Remainder.{AreBytes}
-use Rattle.enc_machine.specs.RuleLaws.{IsToldBy}
-use Rattle.enc_machine.specs.Taking.{IsPiece}
+use Rattle.enc_machine.specs.RuleLaws.{IsDeterminedWithin}
+use Rattle.enc_machine.specs.Taking.{IsWholeChar}
 
 -- To a decoder that has read nothing each byte below 0x80 is a sequence by itself, of the character of its number, whatever
 -- follows it.
 abbrev pub IsAsciiCompatible : Rule → Type 0
-IsAsciiCompatible rule = (b : ℕ) → b < 0x80 → IsPiece rule 0 (b ∷ []) b
+IsAsciiCompatible rule = (b : ℕ) → b < 0x80 → IsWholeChar rule 0 (b ∷ []) b
 
 pub record IsByteWithText (s : Sequence) : Type 0 where
   pub one : length s.bytes ≡ 1
@@ -21,7 +21,8 @@ abbrev pub IsSingleByte : Rule → Type 0
 IsSingleByte rule = (bytes : List ℕ) → AreBytes bytes → AllByRecursion IsByteWithText (sequences_of rule 0 bytes)
 
 -- If EF before BB is a sequence of one byte, so is BB, with lookahead 0.
-abbrev pub TellsBbByItself : Rule → Type 0
-TellsBbByItself rule =
+abbrev pub DeterminesBbByItself : Rule → Type 0
+DeterminesBbByItself rule =
     (z : List ℕ) → (rule 0 0xEF (0xBB ∷ z)).more ≡ 0 → (y : List ℕ)
-    → ((rule (rule 0 0xEF (0xBB ∷ z)).set 0xBB y).more ≡ 0) × IsToldBy rule (rule 0 0xEF (0xBB ∷ z)).set 0xBB y 0
+    → ((rule (rule 0 0xEF (0xBB ∷ z)).set 0xBB y).more ≡ 0)
+    × IsDeterminedWithin rule (rule 0 0xEF (0xBB ∷ z)).set 0xBB y 0

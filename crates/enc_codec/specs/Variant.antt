@@ -8,7 +8,7 @@ use Rattle.enc_utf.specs.Utf8State.{utf_8_state}
 use Rattle.enc_utf.specs.Utf16State.{utf_16_state}
 use Rattle.enc_index.specs.Runs.{single_byte_runs}
 use Rattle.enc_single_byte.specs.OneByteState.{single_byte_state, x_user_defined_state}
-use Rattle.enc_machine.specs.Pending.{pending_bytes}
+use Rattle.enc_machine.specs.Pending.{bytes_of_pending}
 use Rattle.enc_multi_byte.specs.MultiByte.{multi_byte_state}
 use Rattle.enc_multi_byte.specs.Big5.{big5_prefix}
 use Rattle.enc_multi_byte.specs.EucKr.{euc_kr_prefix}
@@ -18,29 +18,29 @@ use Rattle.enc_multi_byte.specs.Gb18030.{gb18030_prefix}
 use Rattle.enc_single_byte.specs.Replacement.{replacement_state}
 use Rattle.enc_iso_2022_jp.specs.Iso2022JpState.{iso_2022_jp_state}
 
-abbrev pub variant_state : VariantDecoder → CodecState
-variant_state (Utf8 d) = utf_8_state d
-variant_state (Utf16 d) = utf_16_state d
-variant_state (SingleByte d) = single_byte_state (single_byte_runs d.index)
-variant_state (Big5 d) = multi_byte_state big5_prefix (pending_bytes d.pending)
-variant_state (EucKr d) = multi_byte_state euc_kr_prefix (pending_bytes d.pending)
-variant_state (ShiftJis d) = multi_byte_state shift_jis_prefix (pending_bytes d.pending)
-variant_state (EucJp d) = multi_byte_state euc_jp_prefix (pending_bytes d.pending)
-variant_state (Gb18030 d) = multi_byte_state gb18030_prefix (pending_bytes d.pending)
-variant_state (XUserDefined d) = x_user_defined_state
-variant_state (Replacement d) = replacement_state d
-variant_state (Iso2022Jp d) = iso_2022_jp_state d
+abbrev pub variant_decoder_state : VariantDecoder → CodecState
+variant_decoder_state (Utf8 d) = utf_8_state d
+variant_decoder_state (Utf16 d) = utf_16_state d
+variant_decoder_state (SingleByte d) = single_byte_state (single_byte_runs d.index)
+variant_decoder_state (Big5 d) = multi_byte_state big5_prefix (bytes_of_pending d.pending)
+variant_decoder_state (EucKr d) = multi_byte_state euc_kr_prefix (bytes_of_pending d.pending)
+variant_decoder_state (ShiftJis d) = multi_byte_state shift_jis_prefix (bytes_of_pending d.pending)
+variant_decoder_state (EucJp d) = multi_byte_state euc_jp_prefix (bytes_of_pending d.pending)
+variant_decoder_state (Gb18030 d) = multi_byte_state gb18030_prefix (bytes_of_pending d.pending)
+variant_decoder_state (XUserDefined d) = x_user_defined_state
+variant_decoder_state (Replacement d) = replacement_state d
+variant_decoder_state (Iso2022Jp d) = iso_2022_jp_state d
 
 -- its formulas for lengths to allocate
-abbrev pub variant_lengths : VariantDecoder → TextLengths
-variant_lengths (Utf8 d) = lengths.Utf8
-variant_lengths (Utf16 d) = lengths.Utf16
-variant_lengths (SingleByte d) = lengths.OneByte
-variant_lengths (Big5 d) = lengths.MultiByte
-variant_lengths (EucKr d) = lengths.MultiByte
-variant_lengths (ShiftJis d) = lengths.MultiByte
-variant_lengths (EucJp d) = lengths.MultiByte
-variant_lengths (Gb18030 d) = lengths.MultiByte
-variant_lengths (XUserDefined d) = lengths.OneByte
-variant_lengths (Replacement d) = lengths.Replacement
-variant_lengths (Iso2022Jp d) = lengths.MultiByte
+abbrev pub variant_decoder_lengths : VariantDecoder → TextLengths
+variant_decoder_lengths (Utf8 d) = lengths.Utf8
+variant_decoder_lengths (Utf16 d) = lengths.Utf16
+variant_decoder_lengths (SingleByte d) = lengths.OneByte
+variant_decoder_lengths (Big5 d) = lengths.MultiByte
+variant_decoder_lengths (EucKr d) = lengths.MultiByte
+variant_decoder_lengths (ShiftJis d) = lengths.MultiByte
+variant_decoder_lengths (EucJp d) = lengths.MultiByte
+variant_decoder_lengths (Gb18030 d) = lengths.MultiByte
+variant_decoder_lengths (XUserDefined d) = lengths.OneByte
+variant_decoder_lengths (Replacement d) = lengths.Replacement
+variant_decoder_lengths (Iso2022Jp d) = lengths.MultiByte

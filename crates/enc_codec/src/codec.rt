@@ -1,8 +1,8 @@
 //! Which decoder an encoding has.
 
 ghost use Rattle.std.specs.Prelude.{◌≡◌};
-ghost use Rattle.enc_codec.specs.Codecs.{codec_rule, codec_lengths, fresh_state};
-ghost use Rattle.enc_codec.specs.Variant.{variant_state, variant_lengths};
+ghost use Rattle.enc_codec.specs.Codecs.{codec_rule, codec_lengths, initial_state};
+ghost use Rattle.enc_codec.specs.Variant.{variant_decoder_state, variant_decoder_lengths};
 
 use crate::variant::VariantDecoder;
 use enc_index::SingleByteIndex;
@@ -46,8 +46,8 @@ pub enum Codec {
 impl Codec {
     /// A decoder that has read nothing. Takes no memory.
     pub fn new_decoder(self) -> VariantDecoder
-        ensures state { variant_state result ≡ fresh_state (codec_rule self) }
-        ensures lengths { variant_lengths result ≡ codec_lengths self }
+        ensures state { variant_decoder_state result ≡ initial_state (codec_rule self) }
+        ensures lengths { variant_decoder_lengths result ≡ codec_lengths self }
     {
         match self {
             Codec::Utf8 => VariantDecoder::Utf8(Utf8Decoder::new()),

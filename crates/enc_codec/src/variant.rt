@@ -35,11 +35,11 @@ pub enum VariantDecoder {
 }
 
 impl RawDecoder for VariantDecoder {
-    ghost use Rattle.enc_codec.specs.Variant.{variant_state, variant_lengths};
+    ghost use Rattle.enc_codec.specs.Variant.{variant_decoder_state, variant_decoder_lengths};
 
-    ghost state = { variant_state };
+    ghost state = { variant_decoder_state };
 
-    ghost formulas = { variant_lengths };
+    ghost formulas = { variant_decoder_lengths };
 
     fn decode<U: Units>(
         &mut self,

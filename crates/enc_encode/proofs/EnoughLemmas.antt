@@ -6,10 +6,10 @@ use Rattle.enc_codec.specs.declared.codec.Codec.TheVariants as codec
 use Rattle.enc_encoders.specs.declared.byte_lengths.ByteLengths.{ByteLengths}
 use Rattle.enc_encoders.specs.declared.byte_lengths.ByteLengths.TheVariants as lengths
 use Rattle.enc_encoders.specs.declared.character_set.CharacterSet.TheVariants.{Ascii}
-use Rattle.enc_encoders.specs.EncoderRule.{EncoderRule, RawState}
-use Rattle.enc_encoders.specs.Need.{AreEnough}
-use Rattle.enc_encoders.specs.Stateless.{stateless, stateless_state, KeepsLengths}
-use Rattle.enc_encoders.specs.Barring.{except, barring}
+use Rattle.enc_encoders.specs.EncoderRule.{EncoderRule, RawEncoderState}
+use Rattle.enc_encoders.specs.Need.{AreEnoughForEncoder}
+use Rattle.enc_encoders.specs.Stateless.{stateless_rule, stateless_state, KeepsLengths}
+use Rattle.enc_encoders.specs.Barring.{bytes_unless_barred, barring_rule}
 use Rattle.enc_encoders.specs.SingleByte.{single_byte_bytes, x_user_defined_bytes}
 use Rattle.enc_encoders.specs.Utf8.{utf_8_bytes}
 use Rattle.enc_encoders.specs.Big5.{big5_bytes}
@@ -17,19 +17,19 @@ use Rattle.enc_encoders.specs.EucKr.{euc_kr_bytes}
 use Rattle.enc_encoders.specs.ShiftJis.{shift_jis_bytes}
 use Rattle.enc_encoders.specs.EucJp.{euc_jp_bytes}
 use Rattle.enc_encoders.specs.Gb18030.{gb18030_bytes}
-use Rattle.enc_encoders.specs.Iso2022Jp.{iso_2022_jp, iso_2022_jp_state}
+use Rattle.enc_encoders.specs.Iso2022Jp.{iso_2022_jp_encoder_rule, iso_2022_jp_encoder_state}
 use Rattle.enc_encoders.proofs.EnoughLemmas.{stateless_enough, iso_2022_jp_enough, keeps_utf_8, keeps_single_byte, keeps_x_user_defined, keeps_big5, keeps_euc_kr, keeps_shift_jis, keeps_euc_jp, keeps_gb18030}
 use Rattle.enc_encoders.proofs.BarringLemmas.{except_keeps}
 use Rattle.enc_encode.specs.declared.variant.VariantEncoder.{VariantEncoder}
 use Rattle.enc_encode.specs.declared.variant.VariantEncoder.TheVariants.{Utf8, SingleByte, Big5, EucKr, ShiftJis, EucJp, Gb18030, Iso2022Jp, XUserDefined}
 use Rattle.enc_encode.specs.Encoders.{encoder_rule, encoder_lengths}
-use Rattle.enc_encode.specs.Variant.{variant_state}
+use Rattle.enc_encode.specs.Variant.{variant_encoder_state}
 
-in_ascii : (rule : EncoderRule) (bytes : ℕ → Option (List ℕ)) → rule ≡ stateless bytes → record { rule = rule; set = Ascii } ≡ stateless_state bytes
-in_ascii rule bytes r = let made : EncoderRule → RawState = λ e. record { rule = e; set = Ascii } in ap made r
+in_ascii : (rule : EncoderRule) (bytes : ℕ → Option (List ℕ)) → rule ≡ stateless_rule bytes → record { rule = rule; set = Ascii } ≡ stateless_state bytes
+in_ascii rule bytes r = let made : EncoderRule → RawEncoderState = λ e. record { rule = e; set = Ascii } in ap made r
 
 -- by a rule without escape sequences ASCII is designated
-stateless_of : (v : VariantEncoder) (bytes : ℕ → Option (List ℕ)) → (variant_state v).rule ≡ stateless bytes → variant_state v ≡ stateless_state bytes
+stateless_of : (v : VariantEncoder) (bytes : ℕ → Option (List ℕ)) → (variant_encoder_state v).rule ≡ stateless_rule bytes → variant_encoder_state v ≡ stateless_state bytes
 stateless_of (Utf8 e) bytes r = in_ascii _ bytes r
 stateless_of (SingleByte e) bytes r = in_ascii _ bytes r
 stateless_of (Big5 e) bytes r = in_ascii _ bytes r
@@ -40,25 +40,26 @@ stateless_of (Gb18030 e) bytes r = in_ascii _ bytes r
 stateless_of (XUserDefined e) bytes r = in_ascii _ bytes r
 stateless_of (Iso2022Jp e) bytes r = absurd (false≢true (ap (λ (rule : EncoderRule). rule.has Ascii 0xA5) r))
 
-iso_2022_jp_of : (b : List ℕ) (v : RawState) → v.rule ≡ barring b iso_2022_jp → v ≡ iso_2022_jp_state b v.set
-iso_2022_jp_of b v r = let made : EncoderRule → RawState = λ e. record { rule = e; set = v.set } in ap made r
+iso_2022_jp_of : (b : List ℕ) (v : RawEncoderState) → v.rule ≡ barring_rule b iso_2022_jp_encoder_rule
+    → v ≡ iso_2022_jp_encoder_state b v.set
+iso_2022_jp_of b v r = let made : EncoderRule → RawEncoderState = λ e. record { rule = e; set = v.set } in ap made r
 
 -- so the lengths of the rule are enough
 
-pub enough_of_stateless : (lengths : ByteLengths) (bytes : ℕ → Option (List ℕ)) (v : VariantEncoder) → KeepsLengths lengths bytes → (variant_state v).rule ≡ stateless bytes → AreEnough lengths (variant_state v)
-enough_of_stateless lengths bytes v h r = subst (AreEnough lengths) (sym (stateless_of v bytes r)) (stateless_enough lengths bytes h)
+pub enough_of_stateless : (lengths : ByteLengths) (bytes : ℕ → Option (List ℕ)) (v : VariantEncoder) → KeepsLengths lengths bytes → (variant_encoder_state v).rule ≡ stateless_rule bytes → AreEnoughForEncoder lengths (variant_encoder_state v)
+enough_of_stateless lengths bytes v h r = subst (AreEnoughForEncoder lengths) (sym (stateless_of v bytes r)) (stateless_enough lengths bytes h)
 
-enough_of_iso_2022_jp : (b : List ℕ) (v : VariantEncoder) → (variant_state v).rule ≡ barring b iso_2022_jp → AreEnough lengths.Iso2022Jp (variant_state v)
-enough_of_iso_2022_jp b v r = subst (AreEnough lengths.Iso2022Jp) (sym (iso_2022_jp_of b (variant_state v) r)) (iso_2022_jp_enough b (variant_state v).set)
+enough_of_iso_2022_jp : (b : List ℕ) (v : VariantEncoder) → (variant_encoder_state v).rule ≡ barring_rule b iso_2022_jp_encoder_rule → AreEnoughForEncoder lengths.Iso2022Jp (variant_encoder_state v)
+enough_of_iso_2022_jp b v r = subst (AreEnoughForEncoder lengths.Iso2022Jp) (sym (iso_2022_jp_of b (variant_encoder_state v) r)) (iso_2022_jp_enough b (variant_encoder_state v).set)
 
 -- of each codec, for an encoder of its rule in any state, whatever is barred
 
 abbrev pub IsEnoughIfAny : ByteLengths → Option EncoderRule → Type 0
 IsEnoughIfAny l None = l ≡ lengths.Utf8
-IsEnoughIfAny l (Some e) = (b : List ℕ) (v : VariantEncoder) → (variant_state v).rule ≡ barring b e → AreEnough l (variant_state v)
+IsEnoughIfAny l (Some e) = (b : List ℕ) (v : VariantEncoder) → (variant_encoder_state v).rule ≡ barring_rule b e → AreEnoughForEncoder l (variant_encoder_state v)
 
-pub by_lengths : (l : ByteLengths) (bytes : ℕ → Option (List ℕ)) → KeepsLengths l bytes → IsEnoughIfAny l (Some (stateless bytes))
-by_lengths l bytes h b v r = enough_of_stateless l (except b bytes) v (except_keeps b l bytes h) r
+pub by_lengths : (l : ByteLengths) (bytes : ℕ → Option (List ℕ)) → KeepsLengths l bytes → IsEnoughIfAny l (Some (stateless_rule bytes))
+by_lengths l bytes h b v r = enough_of_stateless l (bytes_unless_barred b bytes) v (except_keeps b l bytes h) r
 
 pub enough_if_any : (c : Codec) → IsEnoughIfAny (encoder_lengths c) (encoder_rule c)
 enough_if_any codec.Utf8 = by_lengths lengths.Utf8 utf_8_bytes keeps_utf_8

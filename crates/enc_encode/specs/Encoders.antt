@@ -5,7 +5,7 @@ use Rattle.enc_codec.specs.declared.codec.Codec.TheVariants.{Utf8, Utf16Be, Utf1
 use Rattle.enc_encoders.specs.EncoderRule.{EncoderRule}
 use Rattle.enc_encoders.specs.declared.byte_lengths.ByteLengths.{ByteLengths}
 use Rattle.enc_encoders.specs.declared.byte_lengths.ByteLengths.TheVariants as lengths
-use Rattle.enc_encoders.specs.Stateless.{stateless}
+use Rattle.enc_encoders.specs.Stateless.{stateless_rule}
 use Rattle.enc_encoders.specs.Utf8.{utf_8_bytes}
 use Rattle.enc_encoders.specs.SingleByte.{single_byte_bytes, x_user_defined_bytes}
 use Rattle.enc_encoders.specs.Big5.{big5_bytes}
@@ -13,23 +13,23 @@ use Rattle.enc_encoders.specs.EucKr.{euc_kr_bytes}
 use Rattle.enc_encoders.specs.ShiftJis.{shift_jis_bytes}
 use Rattle.enc_encoders.specs.EucJp.{euc_jp_bytes}
 use Rattle.enc_encoders.specs.Gb18030.{gb18030_bytes}
-use Rattle.enc_encoders.specs.Iso2022Jp.{iso_2022_jp}
+use Rattle.enc_encoders.specs.Iso2022Jp.{iso_2022_jp_encoder_rule}
 
 -- Where a caller bars characters of a list b, its rule is `barring b` of this.
 abbrev pub encoder_rule : Codec → Option EncoderRule
-encoder_rule Utf8 = Some (stateless utf_8_bytes)
+encoder_rule Utf8 = Some (stateless_rule utf_8_bytes)
 encoder_rule Utf16Be = None
 encoder_rule Utf16Le = None
-encoder_rule (SingleByte index) = Some (stateless (single_byte_bytes index))
-encoder_rule Big5 = Some (stateless big5_bytes)
-encoder_rule EucKr = Some (stateless euc_kr_bytes)
-encoder_rule ShiftJis = Some (stateless shift_jis_bytes)
-encoder_rule EucJp = Some (stateless euc_jp_bytes)
-encoder_rule Gbk = Some (stateless (gb18030_bytes true))
-encoder_rule Gb18030 = Some (stateless (gb18030_bytes false))
-encoder_rule XUserDefined = Some (stateless x_user_defined_bytes)
+encoder_rule (SingleByte index) = Some (stateless_rule (single_byte_bytes index))
+encoder_rule Big5 = Some (stateless_rule big5_bytes)
+encoder_rule EucKr = Some (stateless_rule euc_kr_bytes)
+encoder_rule ShiftJis = Some (stateless_rule shift_jis_bytes)
+encoder_rule EucJp = Some (stateless_rule euc_jp_bytes)
+encoder_rule Gbk = Some (stateless_rule (gb18030_bytes true))
+encoder_rule Gb18030 = Some (stateless_rule (gb18030_bytes false))
+encoder_rule XUserDefined = Some (stateless_rule x_user_defined_bytes)
 encoder_rule Replacement = None
-encoder_rule Iso2022Jp = Some iso_2022_jp
+encoder_rule Iso2022Jp = Some iso_2022_jp_encoder_rule
 
 -- By which formulas the lengths to allocate go; those without an encoder are written in UTF-8
 abbrev pub encoder_lengths : Codec → ByteLengths

@@ -1,10 +1,10 @@
 //! Which encoder an encoding has.
 
 ghost use Rattle.std.specs.Prelude.{◌≡◌, Some, is_some, true, option_map};
-ghost use Rattle.enc_encoders.specs.Barring.{are_beyond_ascii, barring};
+ghost use Rattle.enc_encoders.specs.Barring.{are_beyond_ascii, barring_rule};
 ghost use Rattle.enc_encoders.specs.declared.character_set.CharacterSet.TheVariants.{Ascii};
 ghost use Rattle.enc_encode.specs.Encoders.{encoder_rule, encoder_lengths};
-ghost use Rattle.enc_encode.specs.Variant.{variant_state, variant_lengths};
+ghost use Rattle.enc_encode.specs.Variant.{variant_encoder_state, variant_encoder_lengths};
 
 use crate::variant::VariantEncoder;
 use enc_codec::Codec;
@@ -37,9 +37,9 @@ fn new_gb18030(is_gbk: bool, barred: &'static [char]) -> Gb18030Encoder
 pub fn new_encoder(codec: Codec, barred: &'static [char]) -> VariantEncoder
     requires encoder { is_some (encoder_rule codec) ≡ true }
     requires barred { are_beyond_ascii barred.now ≡ true }
-    ensures rule { option_map (barring barred.now) (encoder_rule codec) ≡ Some (variant_state result).rule }
-    ensures set { (variant_state result).set ≡ Ascii }
-    ensures lengths { variant_lengths result ≡ encoder_lengths codec }
+    ensures rule { option_map (barring_rule barred.now) (encoder_rule codec) ≡ Some (variant_encoder_state result).rule }
+    ensures set { (variant_encoder_state result).set ≡ Ascii }
+    ensures lengths { variant_encoder_lengths result ≡ encoder_lengths codec }
 {
     match codec {
         Codec::SingleByte(index) => {

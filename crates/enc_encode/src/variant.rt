@@ -31,11 +31,11 @@ pub enum VariantEncoder {
 }
 
 impl RawEncoder for VariantEncoder {
-    ghost use Rattle.enc_encode.specs.Variant.{variant_state, variant_lengths};
+    ghost use Rattle.enc_encode.specs.Variant.{variant_encoder_state, variant_encoder_lengths};
 
-    ghost state = { variant_state };
+    ghost state = { variant_encoder_state };
 
-    ghost formulas = { variant_lengths };
+    ghost formulas = { variant_encoder_lengths };
 
     fn encode<C: Chars>(
         &mut self,

@@ -4,10 +4,10 @@ use Rattle.std.proofs.Common.{◌∷◌, length, refl, ap, ◌∙◌, sym, subst
 use Rattle.std.proofs.lemmas.Bool.Decides.{nat_tests}
 use Rattle.enc_encoders.specs.declared.byte_lengths.ByteLengths.{ByteLengths}
 use Rattle.enc_encoders.specs.declared.character_set.CharacterSet.TheVariants.{Ascii}
-use Rattle.enc_encoders.specs.EncoderRule.{EncoderRule, RawState, IsLawful, AreFew}
-use Rattle.enc_encoders.specs.Stateless.{WritesAscii, WritesFew, KeepsLengths, stateless, stateless_state}
-use Rattle.enc_encoders.specs.Barring.{stands_in, is_barred, are_beyond_ascii, except, barring}
-use Rattle.enc_encoders.proofs.FewLemmas.{size}
+use Rattle.enc_encoders.specs.EncoderRule.{EncoderRule, RawEncoderState, IsLawfulEncoderRule, AreAtMostFour}
+use Rattle.enc_encoders.specs.Stateless.{WritesAscii, WritesAtMostFour, KeepsLengths, stateless_rule, stateless_state}
+use Rattle.enc_encoders.specs.Barring.{contains_char, is_barred, are_beyond_ascii, bytes_unless_barred, barring_rule}
+use Rattle.enc_encoders.proofs.FourByteLemmas.{size}
 use Rattle.enc_encoders.proofs.StatelessLemmas.{of_references_is_ascii}
 
 and_false : (a : Bool) → (a && false) ≡ false
@@ -18,9 +18,9 @@ and_false false = refl
 not_barred : (b : List ℕ) (c : ℕ) → c < 0x80 → is_barred b c ≡ false
 not_barred b c l =
     let low : nat_le 0x80 c ≡ false = grind (arith, nat_tests) in
-    ap (λ t. stands_in b c && t) low ∙ and_false (stands_in b c)
+    ap (λ t. contains_char b c && t) low ∙ and_false (contains_char b c)
 
-few_if : (t : Bool) (x : Option (List ℕ)) → AreFew x → AreFew (if t then None else x)
+few_if : (t : Bool) (x : Option (List ℕ)) → AreAtMostFour x → AreAtMostFour (if t then None else x)
 few_if true x h = tt
 few_if false x h = h
 
@@ -29,23 +29,25 @@ fewer_if : (t : Bool) (x : Option (List ℕ)) → size (if t then None else x) �
 fewer_if true x = omega arith
 fewer_if false x = omega arith
 
-pub fewer : (b : List ℕ) (bytes : ℕ → Option (List ℕ)) (c : ℕ) → size (except b bytes c) ≤ size (bytes c)
+pub fewer : (b : List ℕ) (bytes : ℕ → Option (List ℕ)) (c : ℕ) → size (bytes_unless_barred b bytes c) ≤ size (bytes c)
 fewer b bytes c = fewer_if (is_barred b c) (bytes c)
 
-pub except_writes_ascii : (b : List ℕ) (bytes : ℕ → Option (List ℕ)) → WritesAscii bytes → WritesAscii (except b bytes)
+pub except_writes_ascii : (b : List ℕ) (bytes : ℕ → Option (List ℕ)) → WritesAscii bytes
+    → WritesAscii (bytes_unless_barred b bytes)
 except_writes_ascii b bytes w c l = rw (not_barred b c l) (w c l)
 
-pub except_writes_few : (b : List ℕ) (bytes : ℕ → Option (List ℕ)) → WritesFew bytes → WritesFew (except b bytes)
+pub except_writes_few : (b : List ℕ) (bytes : ℕ → Option (List ℕ)) → WritesAtMostFour bytes
+    → WritesAtMostFour (bytes_unless_barred b bytes)
 except_writes_few b bytes w = record { few = λ c. few_if (is_barred b c) (bytes c) (w.few c) }
 
-pub except_keeps : (b : List ℕ) (lengths : ByteLengths) (bytes : ℕ → Option (List ℕ)) → KeepsLengths lengths bytes → KeepsLengths lengths (except b bytes)
+pub except_keeps : (b : List ℕ) (lengths : ByteLengths) (bytes : ℕ → Option (List ℕ)) → KeepsLengths lengths bytes → KeepsLengths lengths (bytes_unless_barred b bytes)
 except_keeps b lengths bytes h = record {
   by_utf_8 = λ c. omega (arith, fewer b bytes c, h.by_utf_8 c);
   by_utf_16 = λ c. omega (arith, fewer b bytes c, h.by_utf_16 c);
 }
 
 -- of the rule of any encoding
-pub barring_is_lawful : (b : List ℕ) (e : EncoderRule) → IsLawful e → IsLawful (barring b e)
+pub barring_is_lawful : (b : List ℕ) (e : EncoderRule) → IsLawfulEncoderRule e → IsLawfulEncoderRule (barring_rule b e)
 barring_is_lawful b e l = record {
   designates = l.designates;
   set_after_none = l.set_after_none;
@@ -71,17 +73,17 @@ by_first x c true later all e h s behind = let f = and_first (nat_le 0x80 x) all
 by_first x c false later all e h s behind = behind (and_second (nat_le 0x80 x) all h) s
 
 -- a character of a list that has no ASCII is beyond ASCII
-beyond : (b : List ℕ) (c : ℕ) → are_beyond_ascii b ≡ true → stands_in b c ≡ true → nat_le 0x80 c ≡ true
+beyond : (b : List ℕ) (c : ℕ) → are_beyond_ascii b ≡ true → contains_char b c ≡ true → nat_le 0x80 c ≡ true
 beyond [] c h s = cc
-beyond (x ∷ b) c h s = by_first x c (x == c) (stands_in b c) (are_beyond_ascii b) refl h s (beyond b c)
+beyond (x ∷ b) c h s = by_first x c (x == c) (contains_char b c) (are_beyond_ascii b) refl h s (beyond b c)
 
 and_if : (s t : Bool) → (s ≡ true → t ≡ true) → (s && t) ≡ s
 and_if true t h = h refl
 and_if false t h = refl
 
 -- so such a list bars just the characters that stand in it
-pub barred_is : (b : List ℕ) (c : ℕ) → are_beyond_ascii b ≡ true → is_barred b c ≡ stands_in b c
-barred_is b c h = and_if (stands_in b c) (nat_le 0x80 c) (beyond b c h)
+pub barred_is : (b : List ℕ) (c : ℕ) → are_beyond_ascii b ≡ true → is_barred b c ≡ contains_char b c
+barred_is b c h = and_if (contains_char b c) (nat_le 0x80 c) (beyond b c h)
 
 -- a call of the encoder without a list is one of the encoder with an empty list
 
@@ -89,10 +91,12 @@ pub none_barred : (b : List ℕ) → true ≡ (length b == 0) → b ≡ []
 none_barred [] h = refl
 none_barred (x ∷ b) h = absurd (omega (arith, eqb-true (length (x ∷ b)) 0 (sym h)))
 
-pub unlisted : (P : RawState → RawState → Type 0) (f f' h : ℕ → Option (List ℕ)) (b : List ℕ) → b ≡ [] → f ≡ f'
-    → stateless h ≡ stateless f
-    → P (stateless_state f) (stateless_state h) → P (stateless_state (except b f')) (stateless_state (except b f'))
+pub unlisted : (P : RawEncoderState → RawEncoderState → Type 0) (f f' h : ℕ → Option (List ℕ)) (b : List ℕ) → b ≡ []
+    → f ≡ f'
+    → stateless_rule h ≡ stateless_rule f
+    → P (stateless_state f) (stateless_state h)
+    → P (stateless_state (bytes_unless_barred b f')) (stateless_state (bytes_unless_barred b f'))
 unlisted P f f' h b e q r c =
-    subst (λ b. P (stateless_state (except b f')) (stateless_state (except b f'))) (sym e)
+    subst (λ b. P (stateless_state (bytes_unless_barred b f')) (stateless_state (bytes_unless_barred b f'))) (sym e)
     (subst (λ f. P (stateless_state f) (stateless_state f)) q (subst (λ r. P (stateless_state f)
     (record { rule = r; set = Ascii })) r c))

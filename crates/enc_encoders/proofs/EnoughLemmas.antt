@@ -9,17 +9,17 @@ use Rattle.std.proofs.lemmas.Bool.Decides.{nat_tests}
 use Rattle.std.proofs.lemmas.Str.{length-encode, len_utf8_bounds}
 use Rattle.enc_index.specs.declared.single_byte_index.SingleByteIndex.{SingleByteIndex}
 use Rattle.enc_units.specs.Output.{units_of_text}
-use Rattle.enc_units.specs.Checked.{fitting, plus, times}
+use Rattle.enc_units.specs.Checked.{checked_usize, checked_add, checked_mul}
 use Rattle.enc_encoders.specs.declared.byte_lengths.ByteLengths.{ByteLengths}
 use Rattle.enc_encoders.specs.declared.byte_lengths.ByteLengths.TheVariants.{Utf8, OneByte, TwoBytes, Gb18030, Iso2022Jp}
 use Rattle.enc_encoders.specs.declared.character_set.CharacterSet.{CharacterSet}
 use Rattle.enc_encoders.specs.declared.character_set.CharacterSet.TheVariants.{Ascii, Roman, Jis0208}
 use Rattle.enc_encoders.specs.EncoderRule.{EncoderRule, set_for}
-use Rattle.enc_encoders.specs.Text.{escape, escape_before}
-use Rattle.enc_encoders.specs.Steps.{Step, char_step, escape_step, first_written, last_step, steps_of, bytes_of_steps}
-use Rattle.enc_encoders.specs.Lengths.{from_utf_8_length, from_utf_16_length, most_by_utf_8, most_by_utf_16}
-use Rattle.enc_encoders.specs.Need.{before_report, AreEnough}
-use Rattle.enc_encoders.specs.Stateless.{stateless, stateless_state, WritesAscii, KeepsLengths}
+use Rattle.enc_encoders.specs.Text.{escape_sequence, escape_before}
+use Rattle.enc_encoders.specs.Steps.{Step, char_step, escape_step, first_written_char, steps_at_end, steps_of, step_bytes}
+use Rattle.enc_encoders.specs.Lengths.{from_utf_8_length, from_utf_16_length, max_bytes_per_utf_8_unit, max_bytes_per_utf_16_unit}
+use Rattle.enc_encoders.specs.Need.{steps_before_report, AreEnoughForEncoder}
+use Rattle.enc_encoders.specs.Stateless.{stateless_rule, stateless_state, WritesAscii, KeepsLengths}
 use Rattle.enc_encoders.specs.Utf8.{utf_8_bytes}
 use Rattle.enc_encoders.specs.SingleByte.{single_byte_bytes, x_user_defined_bytes}
 use Rattle.enc_encoders.specs.Big5.{big5_bytes}
@@ -27,9 +27,9 @@ use Rattle.enc_encoders.specs.EucKr.{euc_kr_bytes}
 use Rattle.enc_encoders.specs.ShiftJis.{shift_jis_bytes}
 use Rattle.enc_encoders.specs.EucJp.{euc_jp_bytes}
 use Rattle.enc_encoders.specs.Gb18030.{gb18030_bytes, gb18030_lengths}
-use Rattle.enc_encoders.specs.Iso2022Jp.{iso_2022_jp, iso_2022_jp_bytes, iso_2022_jp_state}
-use Rattle.enc_encoders.proofs.FewLemmas.{size, most_single_byte, most_x_user_defined, most_big5, most_euc_kr, most_shift_jis, most_euc_jp, most_gb18030, most_iso_2022_jp, most_ascii_iso_2022_jp}
-use Rattle.enc_encoders.specs.Barring.{barring}
+use Rattle.enc_encoders.specs.Iso2022Jp.{iso_2022_jp_encoder_rule, iso_2022_jp_bytes, iso_2022_jp_encoder_state}
+use Rattle.enc_encoders.proofs.FourByteLemmas.{size, most_single_byte, most_x_user_defined, most_big5, most_euc_kr, most_shift_jis, most_euc_jp, most_gb18030, most_iso_2022_jp, most_ascii_iso_2022_jp}
+use Rattle.enc_encoders.specs.Barring.{barring_rule}
 use Rattle.enc_encoders.proofs.StatelessLemmas.{with_ascii_writes_ascii}
 use Rattle.enc_encoders.proofs.BarringLemmas.{fewer}
 
@@ -84,10 +84,10 @@ one_in_ascii : (bytes : ℕ → Option (List ℕ)) → WritesAscii bytes → (c 
 one_in_ascii bytes h c l = ap size (h c l)
 
 keeps : (n : ℕ) (lengths : ByteLengths) (bytes : ℕ → Option (List ℕ)) → WritesAscii bytes → ((c : ℕ) → size (bytes c) ≤ n)
-    → 1 ≤ most_by_utf_8 lengths → n ≤ 2 * most_by_utf_8 lengths → n ≤ most_by_utf_16 lengths → KeepsLengths lengths bytes
+    → 1 ≤ max_bytes_per_utf_8_unit lengths → n ≤ 2 * max_bytes_per_utf_8_unit lengths → n ≤ max_bytes_per_utf_16_unit lengths → KeepsLengths lengths bytes
 keeps n lengths bytes ascii most one two all = record {
-  by_utf_8 = λ c. within_utf_8 (size (bytes c)) (most_by_utf_8 lengths) c (λ l. omega (arith, one, one_in_ascii bytes ascii c l)) (omega (arith, most c, two));
-  by_utf_16 = λ c. within_utf_16 (size (bytes c)) (most_by_utf_16 lengths) c (omega (arith, most c, all));
+  by_utf_8 = λ c. within_utf_8 (size (bytes c)) (max_bytes_per_utf_8_unit lengths) c (λ l. omega (arith, one, one_in_ascii bytes ascii c l)) (omega (arith, most c, two));
+  by_utf_16 = λ c. within_utf_16 (size (bytes c)) (max_bytes_per_utf_16_unit lengths) c (omega (arith, most c, all));
 }
 
 pub keeps_utf_8 : KeepsLengths Utf8 utf_8_bytes
@@ -118,28 +118,28 @@ keeps_gb18030 false = keeps 4 Gb18030 (gb18030_bytes false) (with_ascii_writes_a
 -- the bytes before the first report
 
 abbrev count : List Step → ℕ
-count ps = length (bytes_of_steps (before_report ps))
+count ps = length (step_bytes (steps_before_report ps))
 
-count_escaping : (has : Bool) (x : CharacterSet) (ps : List Step) → count ((if has then [] else escape_step x ∷ []) ++ ps) ≡ length (if has then [] else escape x) + count ps
+count_escaping : (has : Bool) (x : CharacterSet) (ps : List Step) → count ((if has then [] else escape_step x ∷ []) ++ ps) ≡ length (if has then [] else escape_sequence x) + count ps
 count_escaping true x ps = omega arith
-count_escaping false x ps = length-append (escape x) (bytes_of_steps (before_report ps))
+count_escaping false x ps = length-append (escape_sequence x) (step_bytes (steps_before_report ps))
 
 count_char : (e : EncoderRule) (s : CharacterSet) (c : ℕ) (b : Option (List ℕ)) (ps : List Step) → count (char_step e s c b ∷ ps) ≤ size b + count ps
 count_char e s c None ps = omega arith
-count_char e s c (Some b) ps = omega (arith, length-append b (bytes_of_steps (before_report ps)))
+count_char e s c (Some b) ps = omega (arith, length-append b (step_bytes (steps_before_report ps)))
 
 -- Where the bytes of each character, with the escape sequence before it, are at most k for each code unit, and the escape sequence
 -- at the end has at most m bytes, so it is of the whole: in sets that are designated one after another.
 module _ (e : EncoderRule) (units_of : ℕ → List ℕ) (k m : ℕ) (Comes : CharacterSet → Type 0)
     (comes : (s : CharacterSet) (c : ℕ) → Comes s → Comes (set_for e s c))
-    (ends : (s : CharacterSet) → Comes s → count (last_step s) ≤ m)
-    (each : (s : CharacterSet) (c : ℕ) → Comes s → length (escape_before e s (first_written c (e.bytes c))) + size (e.bytes c) ≤ k * length (units_of c)) where
+    (ends : (s : CharacterSet) → Comes s → count (steps_at_end s) ≤ m)
+    (each : (s : CharacterSet) (c : ℕ) → Comes s → length (escape_before e s (first_written_char c (e.bytes c))) + size (e.bytes c) ≤ k * length (units_of c)) where
   pub bounded : (last : Bool) (t : List ℕ) (s : CharacterSet) → Comes s → count (steps_of e last s t) ≤ k * length (units_of_text units_of t) + m
   unfolding steps_of
   bounded true [] s h = omega (arith, ends s h)
   bounded false [] s h = omega arith
   bounded last (c ∷ t) s h =
-      let d = first_written c (e.bytes c) in
+      let d = first_written_char c (e.bytes c) in
       let rest = steps_of e last (set_for e s d) t in
       let front = count_escaping (e.has s d) (e.designated d) (char_step e (set_for e s d) c (e.bytes c) ∷ rest) in
       let char = count_char e (set_for e s d) c (e.bytes c) rest in
@@ -155,10 +155,10 @@ fits_is : (n q : ℕ) (b : Bool) → (if b then Some n else None) ≡ Some q →
 fits_is n q true e = cc
 fits_is n q false e = cc
 
-fitting_is : (n q : ℕ) → fitting n ≡ Some q → n ≡ q
+fitting_is : (n q : ℕ) → checked_usize n ≡ Some q → n ≡ q
 fitting_is n q e = fits_is n q (nat_lt n (2 ^ 64)) e
 
-pub plus_is : (o : Option ℕ) (b q : ℕ) → plus o b ≡ Some q → (a : ℕ) × ((o ≡ Some a) × (a + b ≡ q))
+pub plus_is : (o : Option ℕ) (b q : ℕ) → checked_add o b ≡ Some q → (a : ℕ) × ((o ≡ Some a) × (a + b ≡ q))
 plus_is None b q e = cc
 plus_is (Some a) b q e = (a, (refl, fitting_is (a + b) q e))
 
@@ -172,60 +172,60 @@ ending Iso2022Jp = 3
 some_is : (n q : ℕ) → Some n ≡ Some q → n ≡ q
 some_is n q e = cc
 
-utf_8_told : (lengths : ByteLengths) (n q : ℕ) → from_utf_8_length lengths n ≡ Some q → most_by_utf_8 lengths * n + ending lengths ≡ q
+utf_8_told : (lengths : ByteLengths) (n q : ℕ) → from_utf_8_length lengths n ≡ Some q → max_bytes_per_utf_8_unit lengths * n + ending lengths ≡ q
 utf_8_told Utf8 n q e = omega (arith, some_is n q e)
 utf_8_told OneByte n q e = omega (arith, some_is n q e)
 utf_8_told TwoBytes n q e = omega (arith, some_is n q e)
 utf_8_told Gb18030 n q e = omega (arith, fitting_is (n * 2) q e)
 utf_8_told Iso2022Jp n q e =
-    let sum = plus_is (times (Some n) 4) 3 q e in
+    let sum = plus_is (checked_mul (Some n) 4) 3 q e in
     omega (arith, fitting_is (n * 4) sum.0 sum.1.0, sum.1.1)
 
-utf_16_told : (lengths : ByteLengths) (n q : ℕ) → from_utf_16_length lengths n ≡ Some q → most_by_utf_16 lengths * n + ending lengths ≡ q
+utf_16_told : (lengths : ByteLengths) (n q : ℕ) → from_utf_16_length lengths n ≡ Some q → max_bytes_per_utf_16_unit lengths * n + ending lengths ≡ q
 utf_16_told Utf8 n q e = omega (arith, fitting_is (n * 3) q e)
 utf_16_told OneByte n q e = omega (arith, some_is n q e)
 utf_16_told TwoBytes n q e = omega (arith, fitting_is (n * 2) q e)
 utf_16_told Gb18030 n q e = omega (arith, fitting_is (n * 4) q e)
 utf_16_told Iso2022Jp n q e =
-    let sum = plus_is (times (Some n) 5) 3 q e in
+    let sum = plus_is (checked_mul (Some n) 5) 3 q e in
     omega (arith, fitting_is (n * 5) sum.0 sum.1.0, sum.1.1)
 
 -- without escape sequences
 
-stays_ascii : (bytes : ℕ → Option (List ℕ)) (s : CharacterSet) (c : ℕ) → s ≡ Ascii → set_for (stateless bytes) s c ≡ Ascii
+stays_ascii : (bytes : ℕ → Option (List ℕ)) (s : CharacterSet) (c : ℕ) → s ≡ Ascii → set_for (stateless_rule bytes) s c ≡ Ascii
 stays_ascii bytes s c e = e
 
-none_at_end : (s : CharacterSet) → s ≡ Ascii → count (last_step s) ≤ 0
+none_at_end : (s : CharacterSet) → s ≡ Ascii → count (steps_at_end s) ≤ 0
 none_at_end Ascii e = omega arith
 none_at_end Roman e = cc
 none_at_end Jis0208 e = cc
 
-pub stateless_enough : (lengths : ByteLengths) (bytes : ℕ → Option (List ℕ)) → KeepsLengths lengths bytes → AreEnough lengths (stateless_state bytes)
+pub stateless_enough : (lengths : ByteLengths) (bytes : ℕ → Option (List ℕ)) → KeepsLengths lengths bytes → AreEnoughForEncoder lengths (stateless_state bytes)
 stateless_enough lengths bytes h = record {
   from_utf_8 = λ src last q e. omega (
     arith,
     utf_8_told lengths (length (units_of_text encode_utf8 src)) q e,
-    bounded (stateless bytes) encode_utf8 (most_by_utf_8 lengths) 0 (λ s. s ≡ Ascii) (stays_ascii bytes) none_at_end (λ s c _. omega (arith, h.by_utf_8 c)) last src Ascii refl,
+    bounded (stateless_rule bytes) encode_utf8 (max_bytes_per_utf_8_unit lengths) 0 (λ s. s ≡ Ascii) (stays_ascii bytes) none_at_end (λ s c _. omega (arith, h.by_utf_8 c)) last src Ascii refl,
   );
   from_utf_16 = λ src last q e. omega (
     arith,
     utf_16_told lengths (length (units_of_text encode_utf16 src)) q e,
-    bounded (stateless bytes) encode_utf16 (most_by_utf_16 lengths) 0 (λ s. s ≡ Ascii) (stays_ascii bytes) none_at_end (λ s c _. omega (arith, h.by_utf_16 c)) last src Ascii refl,
+    bounded (stateless_rule bytes) encode_utf16 (max_bytes_per_utf_16_unit lengths) 0 (λ s. s ≡ Ascii) (stays_ascii bytes) none_at_end (λ s c _. omega (arith, h.by_utf_16 c)) last src Ascii refl,
   );
 }
 
 -- ISO-2022-JP
 
-three_in : (s : CharacterSet) → length (escape s) ≡ 3
+three_in : (s : CharacterSet) → length (escape_sequence s) ≡ 3
 three_in Ascii = refl
 three_in Roman = refl
 three_in Jis0208 = refl
 
-three_before : (has : Bool) (x : CharacterSet) → length (if has then [] else escape x) ≤ 3
+three_before : (has : Bool) (x : CharacterSet) → length (if has then [] else escape_sequence x) ≤ 3
 three_before true x = omega arith
 three_before false x = omega (arith, three_in x)
 
-three_at_end : (s : CharacterSet) → count (last_step s) ≤ 3
+three_at_end : (s : CharacterSet) → count (steps_at_end s) ≤ 3
 three_at_end Ascii = omega arith
 three_at_end Roman = omega arith
 three_at_end Jis0208 = omega arith
@@ -233,13 +233,13 @@ three_at_end Jis0208 = omega arith
 -- of a character, where these are barred
 module _ (b : List ℕ) where
   abbrev rule : EncoderRule
-  rule = barring b iso_2022_jp
+  rule = barring_rule b iso_2022_jp_encoder_rule
 
   abbrev cost : CharacterSet → ℕ → ℕ
-  cost s c = length (escape_before rule s (first_written c (rule.bytes c))) + size (rule.bytes c)
+  cost s c = length (escape_before rule s (first_written_char c (rule.bytes c))) + size (rule.bytes c)
 
-  before_char : (s : CharacterSet) (c : ℕ) → length (escape_before rule s (first_written c (rule.bytes c))) ≤ 3
-  before_char s c = three_before (rule.has s (first_written c (rule.bytes c))) (rule.designated (first_written c (rule.bytes c)))
+  before_char : (s : CharacterSet) (c : ℕ) → length (escape_before rule s (first_written_char c (rule.bytes c))) ≤ 3
+  before_char s c = three_before (rule.has s (first_written_char c (rule.bytes c))) (rule.designated (first_written_char c (rule.bytes c)))
 
   five : (s : CharacterSet) (c : ℕ) → cost s c ≤ 5
   five s c = omega (arith, before_char s c, fewer b iso_2022_jp_bytes c, most_iso_2022_jp c)
@@ -247,7 +247,7 @@ module _ (b : List ℕ) where
   four_in_ascii : (s : CharacterSet) (c : ℕ) → c < 0x80 → cost s c ≤ 4
   four_in_ascii s c l = omega (arith, before_char s c, fewer b iso_2022_jp_bytes c, most_ascii_iso_2022_jp c l)
 
-  pub iso_2022_jp_enough : (set : CharacterSet) → AreEnough Iso2022Jp (iso_2022_jp_state b set)
+  pub iso_2022_jp_enough : (set : CharacterSet) → AreEnoughForEncoder Iso2022Jp (iso_2022_jp_encoder_state b set)
   iso_2022_jp_enough set = record {
     from_utf_8 = λ src last q e. omega (
       arith,

@@ -1,15 +1,15 @@
 pub mod StepLemmas
-pub mod Progress
+pub mod EncodeProgressLemmas
 pub mod MachineLemmas
 pub mod RunLemmas
-pub mod FollowLemmas
+pub mod PrefixStepLemmas
 pub mod TextLemmas
-pub mod ActLemmas
-pub mod FewLemmas
+pub mod HandlerLemmas
+pub mod FourByteLemmas
 pub mod StatelessLemmas
 pub mod BarringLemmas
 pub mod Iso2022JpLemmas
 pub mod NeedLemmas
 pub mod EnoughLemmas
-pub mod CountLemmas
+pub mod StepCountLemmas
 mod KatakanaLemmas

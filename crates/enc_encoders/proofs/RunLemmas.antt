@@ -3,21 +3,21 @@ use Rattle.std.proofs.Common.{◌≡◌, ℕ, ◌+◌, ◌≤◌, Bool, false, N
 use Rattle.std.proofs.Common.{◌∙◌, sym, arith, append_assoc, length-append, take-append-drop}
 use Rattle.std.proofs.Math.Seq.{take-append_seam}
 use Rattle.std.proofs.lemmas.Slice.{drop-append-drop}
-use Rattle.enc_units.specs.Pieces.{Piece, AllMean}
+use Rattle.enc_units.specs.Pieces.{Piece, EachMeansChar}
 use Rattle.enc_units.specs.Pieces as pieces
 use Rattle.enc_units.specs.Mappings.{WritesMapped}
 use Rattle.enc_encoders.specs.declared.character_set.CharacterSet.{CharacterSet}
-use Rattle.enc_encoders.specs.EncoderRule.{EncoderRule, RawState}
-use Rattle.enc_encoders.specs.Steps.{Step, steps_of, steps_from, chars_of, bytes_of_steps, any_reported, set_behind}
+use Rattle.enc_encoders.specs.EncoderRule.{EncoderRule, RawEncoderState}
+use Rattle.enc_encoders.specs.Steps.{Step, steps_of, steps_from_state, step_chars, step_bytes, any_reported, set_after_steps}
 use Rattle.enc_encoders.specs.Runs.{IsWrittenIn, WritesRun}
-use Rattle.enc_encoders.proofs.StepLemmas.{chars_of-append, bytes_of_steps-append, any_reported-append}
-use Rattle.enc_encoders.proofs.StepLemmas.{set_behind-append}
-use Rattle.enc_encoders.proofs.Progress.{Writing, same_length}
+use Rattle.enc_encoders.proofs.StepLemmas.{step_chars-append, step_bytes-append, any_reported-append}
+use Rattle.enc_encoders.proofs.StepLemmas.{set_after_steps-append}
+use Rattle.enc_encoders.proofs.EncodeProgressLemmas.{Writing, same_length}
 
-module _ (v w : RawState) (src rest rest' : List ℕ) (last : Bool) (before mid after : List ℕ) (written wrote : ℕ)
+module _ (v w : RawEncoderState) (src rest rest' : List ℕ) (last : Bool) (before mid after : List ℕ) (written wrote : ℕ)
     (p : Writing v w src rest last before mid written) (r : WritesRun w rest rest' mid after written wrote) where
   abbrev bytes : List ℕ
-  bytes = bytes_of_steps r.taken
+  bytes = step_bytes r.taken
 
   front : take written mid ≡ p.wrote
   front = rw (p.onto, p.count) (take-append_seam p.wrote (drop (length p.wrote) before))
@@ -34,15 +34,15 @@ module _ (v w : RawState) (src rest rest' : List ℕ) (last : Bool) (before mid 
         ∙ sym (append_assoc p.wrote bytes (drop (written + wrote) before));
     progress = record {
       done = p.progress.done ++ r.taken;
-      reads = p.progress.reads ∙ ap (λ x. chars_of p.progress.done ++ x) r.reads
-          ∙ sym (append_assoc (chars_of p.progress.done) (chars_of r.taken) rest')
-          ∙ ap (λ x. x ++ rest') (sym (chars_of-append p.progress.done r.taken));
+      reads = p.progress.reads ∙ ap (λ x. step_chars p.progress.done ++ x) r.reads
+          ∙ sym (append_assoc (step_chars p.progress.done) (step_chars r.taken) rest')
+          ∙ ap (λ x. x ++ rest') (sym (step_chars-append p.progress.done r.taken));
       remaining = p.progress.remaining ∙ ap (λ x. p.progress.done ++ x) (r.remaining last)
-          ∙ sym (append_assoc p.progress.done r.taken (steps_from w last rest'));
+          ∙ sym (append_assoc p.progress.done r.taken (steps_from_state w last rest'));
       rule = p.progress.rule;
-      set = r.set ∙ ap (λ s. set_behind s r.taken) p.progress.set
-          ∙ sym (set_behind-append v.set p.progress.done r.taken);
-      bytes = ap (λ x. x ++ bytes) p.progress.bytes ∙ sym (bytes_of_steps-append p.progress.done r.taken);
+      set = r.set ∙ ap (λ s. set_after_steps s r.taken) p.progress.set
+          ∙ sym (set_after_steps-append v.set p.progress.done r.taken);
+      bytes = ap (λ x. x ++ bytes) p.progress.bytes ∙ sym (step_bytes-append p.progress.done r.taken);
       fits = rw (length-append p.wrote bytes)
           (omega (arith, r.fits, p.count, r.count, same_length (λ _. []) v w src rest last before mid written 0 0 p));
       none_reported = any_reported-append p.progress.done r.taken ∙ rw (p.progress.none_reported, r.none_reported) refl;
@@ -50,18 +50,18 @@ module _ (v w : RawState) (src rest rest' : List ℕ) (last : Bool) (before mid 
   }
 
 -- no steps are added
-pub no_more_steps : (w : RawState) (rest rest' : List ℕ) (last : Bool) (mid after : List ℕ) (at wrote : ℕ)
+pub no_more_steps : (w : RawEncoderState) (rest rest' : List ℕ) (last : Bool) (mid after : List ℕ) (at wrote : ℕ)
     → WritesRun w rest rest' mid after at wrote
-    → length (steps_from w last rest') ≤ length (steps_from w last rest)
+    → length (steps_from_state w last rest') ≤ length (steps_from_state w last rest)
 no_more_steps w rest rest' last mid after at wrote r = omega (
   arith,
   ap length
       (r.remaining last),
-  length-append r.taken (steps_from w last rest'),
+  length-append r.taken (steps_from_state w last rest'),
 )
 
 -- an empty run
-pub writes_none : (v : RawState) (src before : List ℕ) (at : ℕ) → at ≤ length before
+pub writes_none : (v : RawEncoderState) (src before : List ℕ) (at : ℕ) → at ≤ length before
     → WritesRun v src src before before at 0
 writes_none v src before at h = record {
   taken = [];
@@ -81,11 +81,11 @@ module _ (e : EncoderRule) (s : CharacterSet) where
   steps_in [] = []
   steps_in (p ∷ ps) = record { bytes = p.bytes; reads = p.char ∷ []; report = None; set = s } ∷ steps_in ps
 
-  their_chars : (ps : List Piece) → chars_of (steps_in ps) ≡ pieces.chars_of ps
+  their_chars : (ps : List Piece) → step_chars (steps_in ps) ≡ pieces.piece_chars ps
   their_chars [] = refl
   their_chars (p ∷ ps) = ap (λ x. p.char ∷ x) (their_chars ps)
 
-  their_bytes : (ps : List Piece) → bytes_of_steps (steps_in ps) ≡ pieces.bytes_of ps
+  their_bytes : (ps : List Piece) → step_bytes (steps_in ps) ≡ pieces.piece_bytes ps
   their_bytes [] = refl
   their_bytes (p ∷ ps) = ap (λ x. p.bytes ++ x) (their_bytes ps)
 
@@ -93,12 +93,12 @@ module _ (e : EncoderRule) (s : CharacterSet) where
   no_reports [] = refl
   no_reports (p ∷ ps) = no_reports ps
 
-  same_set : (ps : List Piece) → s ≡ set_behind s (steps_in ps)
+  same_set : (ps : List Piece) → s ≡ set_after_steps s (steps_in ps)
   same_set [] = refl
   same_set (p ∷ ps) = same_set ps
 
-  their_steps : (last : Bool) (rest : List ℕ) (ps : List Piece) → AllMean (IsWrittenIn e s) ps
-      → steps_of e last s (pieces.chars_of ps ++ rest) ≡ steps_in ps ++ steps_of e last s rest
+  their_steps : (last : Bool) (rest : List ℕ) (ps : List Piece) → EachMeansChar (IsWrittenIn e s) ps
+      → steps_of e last s (pieces.piece_chars ps ++ rest) ≡ steps_in ps ++ steps_of e last s rest
   unfolding steps_of
   their_steps last rest [] m = refl
   their_steps last rest (p ∷ ps) m =

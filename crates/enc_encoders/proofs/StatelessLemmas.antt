@@ -3,9 +3,9 @@ use Rattle.std.proofs.Common.{◌≡◌, ℕ, ◌<◌, Option, Some, List, [], �
 use Rattle.std.proofs.lemmas.Bool.{lt-ltb}
 use Rattle.std.proofs.lemmas.Str.{encode_ascii}
 use Rattle.enc_units.specs.declared.bytes.Bytes.{Bytes}
-use Rattle.enc_units.specs.Bytes.{bytes_of}
-use Rattle.enc_encoders.specs.EncoderRule.{IsLawful, IsOfReferences}
-use Rattle.enc_encoders.specs.Stateless.{stateless, with_ascii, WritesAscii, WritesFew}
+use Rattle.enc_units.specs.Bytes.{byte_list}
+use Rattle.enc_encoders.specs.EncoderRule.{IsLawfulEncoderRule, IsReferenceCharacter}
+use Rattle.enc_encoders.specs.Stateless.{stateless_rule, with_ascii, WritesAscii, WritesAtMostFour}
 use Rattle.enc_encoders.specs.Utf8.{utf_8_bytes}
 
 pub utf_8_writes_ascii : WritesAscii utf_8_bytes
@@ -15,10 +15,10 @@ pub with_ascii_writes_ascii : (others : ℕ → Option (List ℕ)) → WritesAsc
 with_ascii_writes_ascii others c l = rw (lt-ltb c 0x80 l) refl
 
 -- what references are made of is ASCII
-pub of_references_is_ascii : (c : ℕ) → IsOfReferences c → c < 0x80
+pub of_references_is_ascii : (c : ℕ) → IsReferenceCharacter c → c < 0x80
 of_references_is_ascii c r = omega arith
 
-pub stateless_is_lawful : (bytes : ℕ → Option (List ℕ)) → WritesAscii bytes → WritesFew bytes → IsLawful (stateless bytes)
+pub stateless_is_lawful : (bytes : ℕ → Option (List ℕ)) → WritesAscii bytes → WritesAtMostFour bytes → IsLawfulEncoderRule (stateless_rule bytes)
 stateless_is_lawful bytes h few = record {
   designates = λ c. refl;
   set_after_none = λ s. refl;
@@ -28,5 +28,5 @@ stateless_is_lawful bytes h few = record {
   few = few.few;
 }
 
-pub writes_one : (bytes : ℕ → Option (List ℕ)) (c : ℕ) (b : Bytes) → WritesAscii bytes → c < 0x80 → bytes_of b ≡ c ∷ [] → bytes c ≡ Some (bytes_of b)
+pub writes_one : (bytes : ℕ → Option (List ℕ)) (c : ℕ) (b : Bytes) → WritesAscii bytes → c < 0x80 → byte_list b ≡ c ∷ [] → bytes c ≡ Some (byte_list b)
 writes_one bytes c b h l e = h c l ∙ ap Some (sym e)

@@ -2,15 +2,15 @@
 use Rattle.std.proofs.Common.{◌≡◌, ℕ, Bool, true, false, ◌||◌, None, is_some, List, [], ◌∷◌, ◌++◌, refl, ap, ◌∙◌, sym, append_assoc, append-nil}
 use Rattle.enc_units.specs.Output.{units_of_text}
 use Rattle.enc_encoders.specs.declared.character_set.CharacterSet.{CharacterSet}
-use Rattle.enc_encoders.specs.Steps.{Step, chars_of, bytes_of_steps, any_reported, set_behind}
+use Rattle.enc_encoders.specs.Steps.{Step, step_chars, step_bytes, any_reported, set_after_steps}
 
-pub chars_of-append : (ps qs : List Step) → chars_of (ps ++ qs) ≡ chars_of ps ++ chars_of qs
-chars_of-append [] qs = refl
-chars_of-append (p ∷ ps) qs = ap (λ t. p.reads ++ t) (chars_of-append ps qs) ∙ sym (append_assoc p.reads (chars_of ps) (chars_of qs))
+pub step_chars-append : (ps qs : List Step) → step_chars (ps ++ qs) ≡ step_chars ps ++ step_chars qs
+step_chars-append [] qs = refl
+step_chars-append (p ∷ ps) qs = ap (λ t. p.reads ++ t) (step_chars-append ps qs) ∙ sym (append_assoc p.reads (step_chars ps) (step_chars qs))
 
-pub bytes_of_steps-append : (ps qs : List Step) → bytes_of_steps (ps ++ qs) ≡ bytes_of_steps ps ++ bytes_of_steps qs
-bytes_of_steps-append [] qs = refl
-bytes_of_steps-append (p ∷ ps) qs = ap (λ t. p.bytes ++ t) (bytes_of_steps-append ps qs) ∙ sym (append_assoc p.bytes (bytes_of_steps ps) (bytes_of_steps qs))
+pub step_bytes-append : (ps qs : List Step) → step_bytes (ps ++ qs) ≡ step_bytes ps ++ step_bytes qs
+step_bytes-append [] qs = refl
+step_bytes-append (p ∷ ps) qs = ap (λ t. p.bytes ++ t) (step_bytes-append ps qs) ∙ sym (append_assoc p.bytes (step_bytes ps) (step_bytes qs))
 
 or_assoc : (a b c : Bool) → ((a || b) || c) ≡ (a || (b || c))
 or_assoc a b c = elim a as (λ a. ((a || b) || c) ≡ (a || (b || c))) [ true ↦ refl | false ↦ refl ]
@@ -23,24 +23,24 @@ any_reported-append [] qs = refl
 any_reported-append (p ∷ ps) qs =
     ap (λ b. is_some p.report || b) (any_reported-append ps qs) ∙ sym (or_assoc (is_some p.report) (any_reported ps) (any_reported qs))
 
-pub set_behind-append : (s : CharacterSet) (ps qs : List Step) → set_behind s (ps ++ qs) ≡ set_behind (set_behind s ps) qs
-set_behind-append s [] qs = refl
-set_behind-append s (p ∷ ps) qs = set_behind-append p.set ps qs
+pub set_after_steps-append : (s : CharacterSet) (ps qs : List Step) → set_after_steps s (ps ++ qs) ≡ set_after_steps (set_after_steps s ps) qs
+set_after_steps-append s [] qs = refl
+set_after_steps-append s (p ∷ ps) qs = set_after_steps-append p.set ps qs
 
 -- one step more
 
-pub chars_of-one : (ps : List Step) (q : Step) → chars_of (ps ++ q ∷ []) ≡ chars_of ps ++ q.reads
-chars_of-one ps q = chars_of-append ps (q ∷ []) ∙ ap (λ t. chars_of ps ++ t) (append-nil q.reads)
+pub step_chars-one : (ps : List Step) (q : Step) → step_chars (ps ++ q ∷ []) ≡ step_chars ps ++ q.reads
+step_chars-one ps q = step_chars-append ps (q ∷ []) ∙ ap (λ t. step_chars ps ++ t) (append-nil q.reads)
 
-pub bytes_of_steps-one : (ps : List Step) (q : Step) → bytes_of_steps (ps ++ q ∷ []) ≡ bytes_of_steps ps ++ q.bytes
-bytes_of_steps-one ps q = bytes_of_steps-append ps (q ∷ []) ∙ ap (λ t. bytes_of_steps ps ++ t) (append-nil q.bytes)
+pub step_bytes-one : (ps : List Step) (q : Step) → step_bytes (ps ++ q ∷ []) ≡ step_bytes ps ++ q.bytes
+step_bytes-one ps q = step_bytes-append ps (q ∷ []) ∙ ap (λ t. step_bytes ps ++ t) (append-nil q.bytes)
 
 pub none_reported-one : (ps : List Step) (q : Step) → any_reported ps ≡ false → q.report ≡ None → any_reported (ps ++ q ∷ []) ≡ false
 none_reported-one ps q n e =
     any_reported-append ps (q ∷ []) ∙ ap (λ b. b || (is_some q.report || false)) n ∙ or_false (is_some q.report) ∙ ap is_some e
 
-pub set_behind-one : (s : CharacterSet) (ps : List Step) (q : Step) → set_behind s (ps ++ q ∷ []) ≡ q.set
-set_behind-one s ps q = set_behind-append s ps (q ∷ [])
+pub set_after_steps-one : (s : CharacterSet) (ps : List Step) (q : Step) → set_after_steps s (ps ++ q ∷ []) ≡ q.set
+set_after_steps-one s ps q = set_after_steps-append s ps (q ∷ [])
 
 pub units_of_text-append : (units_of : ℕ → List ℕ) (a b : List ℕ) → units_of_text units_of (a ++ b) ≡ units_of_text units_of a ++ units_of_text units_of b
 units_of_text-append units_of [] b = refl

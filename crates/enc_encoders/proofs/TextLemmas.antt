@@ -8,20 +8,20 @@ use Rattle.enc_encoders.specs.declared.character_set.CharacterSet.{CharacterSet}
 use Rattle.enc_encoders.specs.declared.character_set.CharacterSet.TheVariants.{Ascii, Roman, Jis0208}
 use Rattle.enc_encoders.specs.declared.encoder_result.EncoderResult.{EncoderResult}
 use Rattle.enc_encoders.specs.declared.encoder_result.EncoderResult.TheVariants.{InputEmpty, OutputFull, Unmappable}
-use Rattle.enc_encoders.specs.EncoderRule.{EncoderRule, RawState, IsLawful, IsOfReferences, set_for}
-use Rattle.enc_encoders.specs.Text.{escape, escape_before, escape_at_end, or_nothing, bytes_behind, bytes_of_text, reference, with_reference, with_references, reference_after, KeepsText}
-use Rattle.enc_encoders.specs.Steps.{Step, escape_step, char_step, first_written, escaping, last_step, steps_of, steps_from, bytes_of_steps, any_reported, bytes_with_references, referred}
-use Rattle.enc_encoders.specs.Call.{Call, CallInto, Stops}
-use Rattle.enc_encoders.proofs.StepLemmas.{bytes_of_steps-one}
-use Rattle.enc_encoders.proofs.FollowLemmas.{whatever_follows}
+use Rattle.enc_encoders.specs.EncoderRule.{EncoderRule, RawEncoderState, IsLawfulEncoderRule, IsReferenceCharacter, set_for}
+use Rattle.enc_encoders.specs.Text.{escape_sequence, escape_before, escape_at_end, list_or_empty, bytes_after_text, bytes_of_text, reference, with_reference, with_references, reference_after, KeepsText}
+use Rattle.enc_encoders.specs.Steps.{Step, escape_step, char_step, first_written_char, escape_steps_before, steps_at_end, steps_of, steps_from_state, step_bytes, any_reported, bytes_with_references, reference_for_report}
+use Rattle.enc_encoders.specs.Call.{EncoderCall, EncoderCallInto, EncoderStops}
+use Rattle.enc_encoders.proofs.StepLemmas.{step_bytes-one}
+use Rattle.enc_encoders.proofs.PrefixStepLemmas.{whatever_follows}
 
 -- references are made of `&`, `#`, `;` and digits
 
 abbrev pub AreOfReferences : List ℕ → Type 0
 AreOfReferences [] = Unit {0}
-AreOfReferences (c ∷ t) = IsOfReferences c × AreOfReferences t
+AreOfReferences (c ∷ t) = IsReferenceCharacter c × AreOfReferences t
 
-glyph : (n : ℕ) → IsOfReferences (digit_glyph false (n % 10))
+glyph : (n : ℕ) → IsReferenceCharacter (digit_glyph false (n % 10))
 glyph n = let e : nat_lt (n % 10) 10 ≡ true = grind (arith, nat_tests) in rw e (inr (inr (inr (omega arith, omega arith))))
 
 digits_are : (k n : ℕ) (acc : List ℕ) → AreOfReferences acc → AreOfReferences (digits_onto k 10 false n acc)
@@ -46,19 +46,19 @@ reference_is c = (inr (inl refl), with_end (decimal c) (decimal_is c))
 -- the bytes of a text, with the set carried forward
 pub forward : EncoderRule → CharacterSet → List ℕ → List ℕ
 forward e s [] = escape_at_end s
-forward e s (c ∷ t) = escape_before e s c ++ (or_nothing (e.bytes c) ++ forward e (set_for e s c) t)
+forward e s (c ∷ t) = escape_before e s c ++ (list_or_empty (e.bytes c) ++ forward e (set_for e s c) t)
 
 escaped : (h : Bool) (x : CharacterSet) (ps : List Step)
-    → bytes_with_references ((if h then [] else escape_step x ∷ []) ++ ps) ≡ (if h then [] else escape x) ++ bytes_with_references ps
+    → bytes_with_references ((if h then [] else escape_step x ∷ []) ++ ps) ≡ (if h then [] else escape_sequence x) ++ bytes_with_references ps
 escaped true x ps = refl
-escaped false x ps = ap (λ t. t ++ bytes_with_references ps) (append-nil (escape x))
+escaped false x ps = ap (λ t. t ++ bytes_with_references ps) (append-nil (escape_sequence x))
 
-module _ (e : EncoderRule) (l : IsLawful e) where
-  carried : (s : CharacterSet) (u t : List ℕ) → bytes_behind e s u t ≡ forward e (e.set_after s u) t
+module _ (e : EncoderRule) (l : IsLawfulEncoderRule e) where
+  carried : (s : CharacterSet) (u t : List ℕ) → bytes_after_text e s u t ≡ forward e (e.set_after s u) t
   unfolding forward
   carried s u [] = refl
   carried s u (c ∷ t) =
-      ap (λ x. escape_before e (e.set_after s u) c ++ (or_nothing (e.bytes c) ++ x))
+      ap (λ x. escape_before e (e.set_after s u) c ++ (list_or_empty (e.bytes c) ++ x))
       (carried s (u ++ c ∷ []) t ∙ ap (λ x. forward e x t) (l.set_after_more s u c))
 
   pub text_is_carried : (s : CharacterSet) (t : List ℕ) → bytes_of_text e s t ≡ forward e s t
@@ -85,19 +85,19 @@ module _ (e : EncoderRule) (l : IsLawful e) where
 
   step_is : (s : CharacterSet) (c : ℕ) (t : List ℕ) (b : Option (List ℕ)) → e.bytes c ≡ b
       → ((s : CharacterSet) → bytes_with_references (steps_of e true s t) ≡ forward e s (with_references e t))
-      → (let d = first_written c b in bytes_with_references (escaping e s d ++ (char_step e (set_for e s d) c b ∷ steps_of e true (set_for e s d) t)) ≡ forward e s (with_reference e c b ++ with_references e t))
+      → (let d = first_written_char c b in bytes_with_references (escape_steps_before e s d ++ (char_step e (set_for e s d) c b ∷ steps_of e true (set_for e s d) t)) ≡ forward e s (with_reference e c b ++ with_references e t))
   unfolding forward
   step_is s c t (Some b) q h =
       escaped (e.has s c) (e.designated c) (char_step e (set_for e s c) c (Some b) ∷ steps_of e true (set_for e s c) t)
       ∙ ap (λ x. escape_before e s c ++ (x ++ bytes_with_references (steps_of e true (set_for e s c) t))) (append-nil b)
       ∙ ap (λ x. escape_before e s c ++ (b ++ x)) (h (set_for e s c))
-      ∙ ap (λ x. escape_before e s c ++ (or_nothing x ++ forward e (set_for e s c) (with_references e t))) (sym q)
+      ∙ ap (λ x. escape_before e s c ++ (list_or_empty x ++ forward e (set_for e s c) (with_references e t))) (sym q)
   step_is s c t None q h =
       escaped (e.has s 0x26) (e.designated 0x26) (char_step e (set_for e s 0x26) c None ∷ steps_of e true (set_for e s 0x26) t)
       ∙ ap (λ x. escape_before e s 0x26 ++ (reference (e.reported c) ++ x)) (h (set_for e s 0x26))
       ∙ sym (refers s (e.reported c) (with_references e t))
 
-  last_is : (s : CharacterSet) → bytes_with_references (last_step s) ≡ escape_at_end s
+  last_is : (s : CharacterSet) → bytes_with_references (steps_at_end s) ≡ escape_at_end s
   last_is Ascii = refl
   last_is Roman = refl
   last_is Jis0208 = refl
@@ -114,45 +114,47 @@ module _ (e : EncoderRule) (l : IsLawful e) where
 pub bytes_with_references-append : (ps qs : List Step) → bytes_with_references (ps ++ qs) ≡ bytes_with_references ps ++ bytes_with_references qs
 bytes_with_references-append [] qs = refl
 bytes_with_references-append (p ∷ ps) qs =
-    ap (λ t. (p.bytes ++ referred p.report) ++ t) (bytes_with_references-append ps qs)
-    ∙ sym (append_assoc (p.bytes ++ referred p.report) (bytes_with_references ps) (bytes_with_references qs))
+    ap (λ t. (p.bytes ++ reference_for_report p.report) ++ t) (bytes_with_references-append ps qs)
+    ∙ sym (append_assoc (p.bytes ++ reference_for_report p.report) (bytes_with_references ps)
+    (bytes_with_references qs))
 
 pub parted : (r : Option ℕ) (x : Bool) → (is_some r || x) ≡ false → (r ≡ None) × (x ≡ false)
 parted None x h = (refl, h)
 parted (Some c) x h = absurd (false≢true (sym h))
 
-pub unreferred : (ps : List Step) → any_reported ps ≡ false → bytes_with_references ps ≡ bytes_of_steps ps
+pub unreferred : (ps : List Step) → any_reported ps ≡ false → bytes_with_references ps ≡ step_bytes ps
 unreferred [] h = refl
 unreferred (p ∷ ps) h =
     let q = parted p.report (any_reported ps) h in
-    ap (λ r. (p.bytes ++ referred r) ++ bytes_with_references ps) q.0 ∙ ap (λ t. t ++ bytes_with_references ps) (append-nil p.bytes)
+    ap (λ r. (p.bytes ++ reference_for_report r) ++ bytes_with_references ps) q.0 ∙ ap (λ t. t ++ bytes_with_references ps) (append-nil p.bytes)
     ∙ ap (λ t. p.bytes ++ t) (unreferred ps q.1)
 
-module _ (old new : RawState) (src rest : List ℕ) (last : Bool) (room : ℕ) (result : EncoderResult) (wrote : List ℕ) where
+module _ (old new : RawEncoderState) (src rest : List ℕ) (last : Bool) (room : ℕ) (result : EncoderResult) (wrote : List ℕ) where
   -- the bytes of the steps that a call took
-  pub done_is : (done : List Step) (result : EncoderResult) → wrote ≡ bytes_of_steps done → Stops new rest last room done result → bytes_with_references done ≡ wrote ++ reference_after result
+  pub done_is : (done : List Step) (result : EncoderResult) → wrote ≡ step_bytes done → EncoderStops new rest last room done result → bytes_with_references done ≡ wrote ++ reference_after result
   done_is done InputEmpty b s = unreferred done s.none_reported ∙ sym b ∙ sym (append-nil wrote)
   done_is done OutputFull b s = unreferred done s.none_reported ∙ sym b ∙ sym (append-nil wrote)
   done_is done (Unmappable c) b s =
       let q = s.report in
       ap bytes_with_references s.then_report ∙ bytes_with_references-append s.before (q ∷ [])
-      ∙ ap (λ t. t ++ ((q.bytes ++ referred q.report) ++ [])) (unreferred s.before s.none_reported)
-      ∙ ap (λ t. bytes_of_steps s.before ++ t) (append-nil (q.bytes ++ referred q.report))
-      ∙ ap (λ r. bytes_of_steps s.before ++ (q.bytes ++ referred r)) s.reported
-      ∙ sym (append_assoc (bytes_of_steps s.before) q.bytes (reference c))
-      ∙ ap (λ t. t ++ reference c) (sym (bytes_of_steps-one s.before q) ∙ ap bytes_of_steps (sym s.then_report) ∙ sym b)
+      ∙ ap (λ t. t ++ ((q.bytes ++ reference_for_report q.report) ++ [])) (unreferred s.before s.none_reported)
+      ∙ ap (λ t. step_bytes s.before ++ t) (append-nil (q.bytes ++ reference_for_report q.report))
+      ∙ ap (λ r. step_bytes s.before ++ (q.bytes ++ reference_for_report r)) s.reported
+      ∙ sym (append_assoc (step_bytes s.before) q.bytes (reference c))
+      ∙ ap (λ t. t ++ reference c) (sym (step_bytes-one s.before q) ∙ ap step_bytes (sym s.then_report) ∙ sym b)
 
-  pub call_keeps_text : IsLawful old.rule → Call old new src rest last room result wrote → KeepsText old new src rest last result wrote
+  pub call_keeps_text : IsLawfulEncoderRule old.rule → EncoderCall old new src rest last room result wrote → KeepsText old new src rest last result wrote
   call_keeps_text l c z m =
-      let n : IsLawful new.rule = subst IsLawful (sym c.rule) l in
+      let n : IsLawfulEncoderRule new.rule = subst IsLawfulEncoderRule (sym c.rule) l in
       sym (steps_are_text old.rule l old.set (src ++ z)) ∙ ap bytes_with_references (whatever_follows old new src rest last room result wrote c z m)
-      ∙ bytes_with_references-append c.done (steps_from new true (rest ++ z))
-      ∙ ap (λ t. t ++ bytes_with_references (steps_from new true (rest ++ z))) (done_is c.done result c.bytes c.stops)
+      ∙ bytes_with_references-append c.done (steps_from_state new true (rest ++ z))
+      ∙ ap (λ t. t ++ bytes_with_references (steps_from_state new true (rest ++ z)))
+      (done_is c.done result c.bytes c.stops)
       ∙ ap (λ t. (wrote ++ reference_after result) ++ t) (steps_are_text new.rule n new.set (rest ++ z))
       ∙ append_assoc wrote (reference_after result) (bytes_of_text new.rule new.set (with_references new.rule (rest ++ z)))
 
-pub into_keeps_text : (units_of : ℕ → List ℕ) (old new : RawState) (src rest : List ℕ) (last : Bool) (before after : List ℕ) (result : EncoderResult) (read written : ℕ)
-    → IsLawful old.rule → CallInto units_of old new src rest last before after result read written → KeepsText old new src rest last result (take written after)
+pub into_keeps_text : (units_of : ℕ → List ℕ) (old new : RawEncoderState) (src rest : List ℕ) (last : Bool) (before after : List ℕ) (result : EncoderResult) (read written : ℕ)
+    → IsLawfulEncoderRule old.rule → EncoderCallInto units_of old new src rest last before after result read written → KeepsText old new src rest last result (take written after)
 into_keeps_text units_of old new src rest last before after result read written l c =
     let e : take written after ≡ c.wrote = rw (c.onto, c.count) (take-append_seam c.wrote (drop (length c.wrote) before)) in
     subst (λ (x : List ℕ). KeepsText old new src rest last result x) (sym e) (call_keeps_text old new src rest last (length before) result c.wrote l c.call)

@@ -1,14 +1,14 @@
 -- Big5 (Encoding Standard 11.1.2, "Big5 encoder").
 use Rattle.std.specs.Prelude.{ℕ, ◌+◌, ◌/◌, ◌%◌, nat_lt, Option, List, [], ◌∷◌, if◌then◌else◌}
 use Rattle.enc_pointers.specs.Pointers.{big5_pointer}
-use Rattle.enc_encoders.specs.Stateless.{with_ascii, bytes_by}
+use Rattle.enc_encoders.specs.Stateless.{with_ascii, bytes_of_pointer}
 
-abbrev pub big5_trail : ℕ → ℕ
-big5_trail cell = cell + (if nat_lt cell 0x3F then 0x40 else 0x62)
+abbrev pub big5_trail_byte : ℕ → ℕ
+big5_trail_byte cell = cell + (if nat_lt cell 0x3F then 0x40 else 0x62)
 
 -- the two bytes of a pointer
-abbrev pub big5_pair : ℕ → List ℕ
-big5_pair p = (p / 157 + 0x81) ∷ big5_trail (p % 157) ∷ []
+abbrev pub big5_pair_bytes : ℕ → List ℕ
+big5_pair_bytes p = (p / 157 + 0x81) ∷ big5_trail_byte (p % 157) ∷ []
 
 abbrev pub big5_bytes : ℕ → Option (List ℕ)
-big5_bytes = with_ascii (λ c. bytes_by big5_pair (big5_pointer c))
+big5_bytes = with_ascii (λ c. bytes_of_pointer big5_pair_bytes (big5_pointer c))

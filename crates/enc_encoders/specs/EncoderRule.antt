@@ -18,36 +18,36 @@ pub record EncoderRule : Type 0 where
   pub set_after : CharacterSet → List ℕ → CharacterSet
 
 -- a raw encoder between two calls: its rule, and the designated character set
-pub record RawState : Type 0 where
+pub record RawEncoderState : Type 0 where
   pub rule : EncoderRule
   pub set : CharacterSet
 
 -- whether an escape sequence is still to come at the end of the text
-abbrev pub is_pending : CharacterSet → Bool
-is_pending Ascii = false
-is_pending Roman = true
-is_pending Jis0208 = true
+abbrev pub is_escape_due : CharacterSet → Bool
+is_escape_due Ascii = false
+is_escape_due Roman = true
+is_escape_due Jis0208 = true
 
 -- the set in which a mappable character is written
 abbrev pub set_for : EncoderRule → CharacterSet → ℕ → CharacterSet
 set_for e s c = if e.has s c then s else e.designated c
 
 -- `&`, `#`, `;` and the digits, of which decimal character references are made
-abbrev pub IsOfReferences : ℕ → Type 0
-IsOfReferences c = (c ≡ 0x26) ⊎ ((c ≡ 0x23) ⊎ ((c ≡ 0x3B) ⊎ ((0x30 ≤ c) × (c ≤ 0x39))))
+abbrev pub IsReferenceCharacter : ℕ → Type 0
+IsReferenceCharacter c = (c ≡ 0x26) ⊎ ((c ≡ 0x23) ⊎ ((c ≡ 0x3B) ⊎ ((0x30 ≤ c) × (c ≤ 0x39))))
 
 -- at most four bytes
-abbrev pub AreFew : Option (List ℕ) → Type 0
-AreFew None = Unit {0}
-AreFew (Some b) = length b ≤ 4
+abbrev pub AreAtMostFour : Option (List ℕ) → Type 0
+AreAtMostFour None = Unit {0}
+AreAtMostFour (Some b) = length b ≤ 4
 
 -- What holds of the rule of every encoding: a character is written in a set that has it, the set behind a text is that in
 -- which its last character is written, what references are made of is written as it is, all in the same sets, and no
 -- character has more than four bytes.
-pub record IsLawful (e : EncoderRule) : Type 0 where
+pub record IsLawfulEncoderRule (e : EncoderRule) : Type 0 where
   pub designates : (c : ℕ) → e.has (e.designated c) c ≡ true
   pub set_after_none : (s : CharacterSet) → e.set_after s [] ≡ s
   pub set_after_more : (s : CharacterSet) (t : List ℕ) (c : ℕ) → e.set_after s (t ++ c ∷ []) ≡ set_for e (e.set_after s t) c
-  pub references : (c : ℕ) → IsOfReferences c → e.bytes c ≡ Some (c ∷ [])
-  pub one_set : (s : CharacterSet) (c : ℕ) → IsOfReferences c → e.has s c ≡ e.has s 0x26
-  pub few : (c : ℕ) → AreFew (e.bytes c)
+  pub references : (c : ℕ) → IsReferenceCharacter c → e.bytes c ≡ Some (c ∷ [])
+  pub one_set : (s : CharacterSet) (c : ℕ) → IsReferenceCharacter c → e.has s c ≡ e.has s 0x26
+  pub few : (c : ℕ) → AreAtMostFour (e.bytes c)

@@ -1,20 +1,20 @@
 -- EUC-JP (Encoding Standard 12.1.2, "EUC-JP encoder").
 use Rattle.std.specs.Prelude.{ℕ, ◌+◌, ◌/◌, ◌%◌, ◌==◌, Option, Some, List, [], ◌∷◌, if◌then◌else◌}
 use Rattle.enc_pointers.specs.Pointers.{jis0208_pointer}
-use Rattle.enc_encoders.specs.Stateless.{with_ascii, bytes_by}
-use Rattle.enc_encoders.specs.Japanese.{is_katakana, katakana_byte, with_wide_minus}
+use Rattle.enc_encoders.specs.Stateless.{with_ascii, bytes_of_pointer}
+use Rattle.enc_encoders.specs.Japanese.{is_halfwidth_katakana, katakana_byte, with_fullwidth_minus}
 
 -- the two bytes of a pointer
-abbrev pub euc_jp_pair : ℕ → List ℕ
-euc_jp_pair p = (p / 94 + 0xA1) ∷ (p % 94 + 0xA1) ∷ []
+abbrev pub euc_jp_pair_bytes : ℕ → List ℕ
+euc_jp_pair_bytes p = (p / 94 + 0xA1) ∷ (p % 94 + 0xA1) ∷ []
 
 -- beyond ASCII
 abbrev pub euc_jp_other : ℕ → Option (List ℕ)
 euc_jp_other c =
     if c == 0xA5 then Some (0x5C ∷ [])
     else if c == 0x203E then Some (0x7E ∷ [])
-    else if is_katakana c then Some (0x8E ∷ katakana_byte c ∷ [])
-    else bytes_by euc_jp_pair (jis0208_pointer (with_wide_minus c))
+    else if is_halfwidth_katakana c then Some (0x8E ∷ katakana_byte c ∷ [])
+    else bytes_of_pointer euc_jp_pair_bytes (jis0208_pointer (with_fullwidth_minus c))
 
 abbrev pub euc_jp_bytes : ℕ → Option (List ℕ)
 euc_jp_bytes = with_ascii euc_jp_other

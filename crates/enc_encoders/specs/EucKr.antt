@@ -1,11 +1,11 @@
 -- EUC-KR (Encoding Standard 13.1.2, "EUC-KR encoder").
 use Rattle.std.specs.Prelude.{ℕ, ◌+◌, ◌/◌, ◌%◌, Option, List, [], ◌∷◌}
 use Rattle.enc_pointers.specs.Pointers.{euc_kr_pointer}
-use Rattle.enc_encoders.specs.Stateless.{with_ascii, bytes_by}
+use Rattle.enc_encoders.specs.Stateless.{with_ascii, bytes_of_pointer}
 
 -- the two bytes of a pointer
-abbrev pub euc_kr_pair : ℕ → List ℕ
-euc_kr_pair p = (p / 190 + 0x81) ∷ (p % 190 + 0x41) ∷ []
+abbrev pub euc_kr_pair_bytes : ℕ → List ℕ
+euc_kr_pair_bytes p = (p / 190 + 0x81) ∷ (p % 190 + 0x41) ∷ []
 
 abbrev pub euc_kr_bytes : ℕ → Option (List ℕ)
-euc_kr_bytes = with_ascii (λ c. bytes_by euc_kr_pair (euc_kr_pointer c))
+euc_kr_bytes = with_ascii (λ c. bytes_of_pointer euc_kr_pair_bytes (euc_kr_pointer c))

@@ -3,30 +3,31 @@ use Rattle.std.specs.Prelude.{ℕ, ◌+◌, ◌/◌, ◌%◌, Bool, ◌==◌, �
 use Rattle.enc_encoders.specs.declared.byte_lengths.ByteLengths.{ByteLengths}
 use Rattle.enc_encoders.specs.declared.byte_lengths.ByteLengths.TheVariants as lengths
 use Rattle.enc_pointers.specs.Pointers.{gb18030_pointer, gb18030_ranges_pointer}
-use Rattle.enc_encoders.specs.Stateless.{with_ascii, bytes_by}
+use Rattle.enc_encoders.specs.Stateless.{with_ascii, bytes_of_pointer}
 
-abbrev pub gb18030_trail : ℕ → ℕ
-gb18030_trail cell = cell + (if nat_lt cell 0x3F then 0x40 else 0x41)
+abbrev pub gb18030_trail_byte : ℕ → ℕ
+gb18030_trail_byte cell = cell + (if nat_lt cell 0x3F then 0x40 else 0x41)
 
 -- the two bytes of a pointer
-abbrev pub gb18030_pair : ℕ → List ℕ
-gb18030_pair p = (p / 190 + 0x81) ∷ gb18030_trail (p % 190) ∷ []
+abbrev pub gb18030_pair_bytes : ℕ → List ℕ
+gb18030_pair_bytes p = (p / 190 + 0x81) ∷ gb18030_trail_byte (p % 190) ∷ []
 
 -- the four bytes of a pointer of the ranges
-abbrev pub gb18030_four : ℕ → List ℕ
-gb18030_four p = (p / 12600 + 0x81) ∷ (p % 12600 / 1260 + 0x30) ∷ (p % 1260 / 10 + 0x81) ∷ (p % 10 + 0x30) ∷ []
+abbrev pub gb18030_four_bytes : ℕ → List ℕ
+gb18030_four_bytes p = (p / 12600 + 0x81) ∷ (p % 12600 / 1260 + 0x30) ∷ (p % 1260 / 10 + 0x81) ∷ (p % 10 + 0x30) ∷ []
 
 -- two bytes, or in gb18030 four
-abbrev pub two_or_four : Bool → ℕ → Option ℕ → Option (List ℕ)
-two_or_four is_gbk c (Some p) = Some (gb18030_pair p)
-two_or_four is_gbk c None = if is_gbk then None else bytes_by gb18030_four (gb18030_ranges_pointer c)
+abbrev pub two_or_four_bytes : Bool → ℕ → Option ℕ → Option (List ℕ)
+two_or_four_bytes is_gbk c (Some p) = Some (gb18030_pair_bytes p)
+two_or_four_bytes is_gbk c None = if is_gbk then None
+    else bytes_of_pointer gb18030_four_bytes (gb18030_ranges_pointer c)
 
 -- beyond ASCII: U+E5E5 is unmappable
 abbrev pub gb18030_other : Bool → ℕ → Option (List ℕ)
 gb18030_other is_gbk c =
     if c == 0xE5E5 then None
     else if is_gbk && c == 0x20AC then Some (0x80 ∷ [])
-    else two_or_four is_gbk c (gb18030_pointer c)
+    else two_or_four_bytes is_gbk c (gb18030_pointer c)
 
 abbrev pub gb18030_bytes : Bool → ℕ → Option (List ℕ)
 gb18030_bytes is_gbk = with_ascii (gb18030_other is_gbk)

@@ -5,11 +5,11 @@ use Rattle.enc_encoders.specs.declared.character_set.CharacterSet.TheVariants.{A
 use Rattle.enc_encoders.specs.declared.encoders.iso_2022_jp.CharClass.{CharClass}
 use Rattle.enc_encoders.specs.declared.encoders.iso_2022_jp.CharClass.TheVariants as class
 use Rattle.enc_pointers.specs.Pointers.{jis0208_pointer}
-use Rattle.enc_encoders.specs.EncoderRule.{EncoderRule, RawState}
-use Rattle.enc_encoders.specs.Barring.{barring}
-use Rattle.enc_encoders.specs.Stateless.{bytes_by}
-use Rattle.enc_encoders.specs.Japanese.{is_katakana, with_wide_minus}
-use Rattle.enc_encoders.specs.Katakana.{full_width_katakana}
+use Rattle.enc_encoders.specs.EncoderRule.{EncoderRule, RawEncoderState}
+use Rattle.enc_encoders.specs.Barring.{barring_rule}
+use Rattle.enc_encoders.specs.Stateless.{bytes_of_pointer}
+use Rattle.enc_encoders.specs.Japanese.{is_halfwidth_katakana, with_fullwidth_minus}
+use Rattle.enc_encoders.specs.Katakana.{fullwidth_katakana}
 
 -- what a mappable character is: in ASCII and Roman alike, in ASCII alone, in Roman alone, or in jis0208
 abbrev pub class_of : ℕ → CharClass
@@ -41,71 +41,71 @@ set_of_class class.Roman = Roman
 set_of_class class.Kanji = Jis0208
 
 -- the class of the last character that isn't neutral, with one more behind it
-abbrev pub last_of : CharClass → Option CharClass → Option CharClass
-last_of class.Neutral before = before
-last_of class.Latin before = Some class.Latin
-last_of class.Roman before = Some class.Roman
-last_of class.Kanji before = Some class.Kanji
+abbrev pub last_class_after : CharClass → Option CharClass → Option CharClass
+last_class_after class.Neutral before = before
+last_class_after class.Latin before = Some class.Latin
+last_class_after class.Roman before = Some class.Roman
+last_class_after class.Kanji before = Some class.Kanji
 
 -- that class, if there is one, of a text read backward
-abbrev pub last_class : List ℕ → Option CharClass
-last_class [] = None
-last_class (c ∷ u) = last_of (class_of c) (last_class u)
+abbrev pub last_non_neutral_class : List ℕ → Option CharClass
+last_non_neutral_class [] = None
+last_non_neutral_class (c ∷ u) = last_class_after (class_of c) (last_non_neutral_class u)
 
 -- whether Roman was left on, by that class or, where there is none, by the set before
-abbrev pub is_left_in_roman : CharacterSet → Option CharClass → Bool
-is_left_in_roman Ascii None = false
-is_left_in_roman Roman None = true
-is_left_in_roman Jis0208 None = false
-is_left_in_roman s (Some class.Neutral) = false
-is_left_in_roman s (Some class.Latin) = false
-is_left_in_roman s (Some class.Roman) = true
-is_left_in_roman s (Some class.Kanji) = false
+abbrev pub stays_in_roman : CharacterSet → Option CharClass → Bool
+stays_in_roman Ascii None = false
+stays_in_roman Roman None = true
+stays_in_roman Jis0208 None = false
+stays_in_roman s (Some class.Neutral) = false
+stays_in_roman s (Some class.Latin) = false
+stays_in_roman s (Some class.Roman) = true
+stays_in_roman s (Some class.Kanji) = false
 
 -- the set behind a last character of a class
-abbrev pub set_by : CharClass → Bool → CharacterSet
-set_by class.Neutral in_roman = if in_roman then Roman else Ascii
-set_by class.Latin in_roman = if in_roman then Roman else Ascii
-set_by class.Roman in_roman = if in_roman then Roman else Ascii
-set_by class.Kanji in_roman = Jis0208
+abbrev pub set_after_class : CharClass → Bool → CharacterSet
+set_after_class class.Neutral in_roman = if in_roman then Roman else Ascii
+set_after_class class.Latin in_roman = if in_roman then Roman else Ascii
+set_after_class class.Roman in_roman = if in_roman then Roman else Ascii
+set_after_class class.Kanji in_roman = Jis0208
 
 -- The set behind a text, read backward: jis0208 if its last character is there; else Roman, if that is where the last
 -- character is that isn't neutral, or if all are neutral and Roman was the set before; else ASCII.
-abbrev pub set_read_back : CharacterSet → List ℕ → CharacterSet
-set_read_back s [] = s
-set_read_back s (c ∷ u) = set_by (class_of c) (is_left_in_roman s (last_class (c ∷ u)))
+abbrev pub set_after_reversed : CharacterSet → List ℕ → CharacterSet
+set_after_reversed s [] = s
+set_after_reversed s (c ∷ u) = set_after_class (class_of c) (stays_in_roman s (last_non_neutral_class (c ∷ u)))
 
 -- shift out, shift in and escape
 abbrev pub is_shift : ℕ → Bool
 is_shift c = c == 0x0E || c == 0x0F || c == 0x1B
 
 -- the character that is looked up: for half-width katakana a full-width one
-abbrev pub looked_up : ℕ → ℕ
-looked_up c = if is_katakana c then slice_index full_width_katakana (c - 0xFF61) else with_wide_minus c
+abbrev pub lookup_char : ℕ → ℕ
+lookup_char c = if is_halfwidth_katakana c then slice_index fullwidth_katakana (c - 0xFF61) else with_fullwidth_minus c
 
 -- the two bytes of a pointer
-abbrev pub jis0208_pair : ℕ → List ℕ
-jis0208_pair p = (p / 94 + 0x21) ∷ (p % 94 + 0x21) ∷ []
+abbrev pub jis0208_pair_bytes : ℕ → List ℕ
+jis0208_pair_bytes p = (p / 94 + 0x21) ∷ (p % 94 + 0x21) ∷ []
 
 abbrev pub iso_2022_jp_bytes : ℕ → Option (List ℕ)
 iso_2022_jp_bytes c =
     if nat_lt c 0x80 then (if is_shift c then None else Some (c ∷ []))
     else if c == 0xA5 then Some (0x5C ∷ [])
     else if c == 0x203E then Some (0x7E ∷ [])
-    else bytes_by jis0208_pair (jis0208_pointer (looked_up c))
+    else bytes_of_pointer jis0208_pair_bytes (jis0208_pointer (lookup_char c))
 
-abbrev pub iso_2022_jp_reported : ℕ → ℕ
-iso_2022_jp_reported c = if is_shift c then 0xFFFD else c
+abbrev pub iso_2022_jp_reported_char : ℕ → ℕ
+iso_2022_jp_reported_char c = if is_shift c then 0xFFFD else c
 
-abbrev pub iso_2022_jp : EncoderRule
-iso_2022_jp = record {
+abbrev pub iso_2022_jp_encoder_rule : EncoderRule
+iso_2022_jp_encoder_rule = record {
   bytes = iso_2022_jp_bytes;
-  reported = iso_2022_jp_reported;
+  reported = iso_2022_jp_reported_char;
   has = λ s c. has_class s (class_of c);
   designated = λ c. set_of_class (class_of c);
-  set_after = λ s t. set_read_back s (reverse t);
+  set_after = λ s t. set_after_reversed s (reverse t);
 }
 
 -- where these characters are barred
-abbrev pub iso_2022_jp_state : List ℕ → CharacterSet → RawState
-iso_2022_jp_state b s = record { rule = barring b iso_2022_jp; set = s }
+abbrev pub iso_2022_jp_encoder_state : List ℕ → CharacterSet → RawEncoderState
+iso_2022_jp_encoder_state b s = record { rule = barring_rule b iso_2022_jp_encoder_rule; set = s }

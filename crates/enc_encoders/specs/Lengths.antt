@@ -1,7 +1,7 @@
 -- The lengths to allocate: formulas for the greatest number of bytes that a text has, by the kind of encoding, each sum and each
 -- product a checked step.
 use Rattle.std.specs.Prelude.{ℕ, Option, Some}
-use Rattle.enc_units.specs.Checked.{plus, times}
+use Rattle.enc_units.specs.Checked.{checked_add, checked_mul}
 use Rattle.enc_encoders.specs.declared.byte_lengths.ByteLengths.{ByteLengths}
 use Rattle.enc_encoders.specs.declared.byte_lengths.ByteLengths.TheVariants.{Utf8, OneByte, TwoBytes, Gb18030, Iso2022Jp}
 
@@ -10,29 +10,29 @@ abbrev pub from_utf_8_length : ByteLengths → ℕ → Option ℕ
 from_utf_8_length Utf8 n = Some n
 from_utf_8_length OneByte n = Some n
 from_utf_8_length TwoBytes n = Some n
-from_utf_8_length Gb18030 n = times (Some n) 2
-from_utf_8_length Iso2022Jp n = plus (times (Some n) 4) 3
+from_utf_8_length Gb18030 n = checked_mul (Some n) 2
+from_utf_8_length Iso2022Jp n = checked_add (checked_mul (Some n) 4) 3
 
 -- and of n of UTF-16
 abbrev pub from_utf_16_length : ByteLengths → ℕ → Option ℕ
-from_utf_16_length Utf8 n = times (Some n) 3
+from_utf_16_length Utf8 n = checked_mul (Some n) 3
 from_utf_16_length OneByte n = Some n
-from_utf_16_length TwoBytes n = times (Some n) 2
-from_utf_16_length Gb18030 n = times (Some n) 4
-from_utf_16_length Iso2022Jp n = plus (times (Some n) 5) 3
+from_utf_16_length TwoBytes n = checked_mul (Some n) 2
+from_utf_16_length Gb18030 n = checked_mul (Some n) 4
+from_utf_16_length Iso2022Jp n = checked_add (checked_mul (Some n) 5) 3
 
 -- how many bytes a character has at most for each of its code units of UTF-8, with the escape sequence before it,
-abbrev pub most_by_utf_8 : ByteLengths → ℕ
-most_by_utf_8 Utf8 = 1
-most_by_utf_8 OneByte = 1
-most_by_utf_8 TwoBytes = 1
-most_by_utf_8 Gb18030 = 2
-most_by_utf_8 Iso2022Jp = 4
+abbrev pub max_bytes_per_utf_8_unit : ByteLengths → ℕ
+max_bytes_per_utf_8_unit Utf8 = 1
+max_bytes_per_utf_8_unit OneByte = 1
+max_bytes_per_utf_8_unit TwoBytes = 1
+max_bytes_per_utf_8_unit Gb18030 = 2
+max_bytes_per_utf_8_unit Iso2022Jp = 4
 
 -- and of UTF-16
-abbrev pub most_by_utf_16 : ByteLengths → ℕ
-most_by_utf_16 Utf8 = 3
-most_by_utf_16 OneByte = 1
-most_by_utf_16 TwoBytes = 2
-most_by_utf_16 Gb18030 = 4
-most_by_utf_16 Iso2022Jp = 5
+abbrev pub max_bytes_per_utf_16_unit : ByteLengths → ℕ
+max_bytes_per_utf_16_unit Utf8 = 3
+max_bytes_per_utf_16_unit OneByte = 1
+max_bytes_per_utf_16_unit TwoBytes = 2
+max_bytes_per_utf_16_unit Gb18030 = 4
+max_bytes_per_utf_16_unit Iso2022Jp = 5

@@ -2,14 +2,14 @@
 use Rattle.std.specs.Prelude.{ℕ, ◌+◌, ◌-◌, ◌&&◌, nat_le, Option, Some, None, List, [], ◌∷◌, if◌then◌else◌}
 use Rattle.enc_index.specs.declared.single_byte_index.SingleByteIndex.{SingleByteIndex}
 use Rattle.enc_pointers.specs.Pointers.{single_byte_pointer}
-use Rattle.enc_encoders.specs.Stateless.{with_ascii, bytes_by}
+use Rattle.enc_encoders.specs.Stateless.{with_ascii, bytes_of_pointer}
 
 -- the byte of a pointer
-abbrev pub single_byte : ℕ → List ℕ
-single_byte p = (p + 0x80) ∷ []
+abbrev pub single_byte_of_pointer : ℕ → List ℕ
+single_byte_of_pointer p = (p + 0x80) ∷ []
 
 abbrev pub single_byte_bytes : SingleByteIndex → ℕ → Option (List ℕ)
-single_byte_bytes index = with_ascii (λ c. bytes_by single_byte (single_byte_pointer index c))
+single_byte_bytes index = with_ascii (λ c. bytes_of_pointer single_byte_of_pointer (single_byte_pointer index c))
 
 -- U+F780 to U+F7FF are 80 to FF
 abbrev pub x_user_defined_other : ℕ → Option (List ℕ)

@@ -3,8 +3,8 @@
 use Rattle.std.specs.Prelude.{ℕ, Bool, false, ◌||◌, Option, Some, None, is_some, List, [], ◌∷◌, ◌++◌, if◌then◌else◌}
 use Rattle.enc_encoders.specs.declared.character_set.CharacterSet.{CharacterSet}
 use Rattle.enc_encoders.specs.declared.character_set.CharacterSet.TheVariants.{Ascii, Roman, Jis0208}
-use Rattle.enc_encoders.specs.EncoderRule.{EncoderRule, RawState, set_for}
-use Rattle.enc_encoders.specs.Text.{escape, reference}
+use Rattle.enc_encoders.specs.EncoderRule.{EncoderRule, RawEncoderState, set_for}
+use Rattle.enc_encoders.specs.Text.{escape_sequence, reference}
 
 -- a step: the bytes that it writes, the character that is read with it (an escape sequence reads none), what that is
 -- reported as where it is unmappable, and the set that is designated then
@@ -15,7 +15,7 @@ pub record Step : Type 0 where
   pub set : CharacterSet
 
 abbrev pub escape_step : CharacterSet → Step
-escape_step s = record { bytes = escape s; reads = []; report = None; set = s }
+escape_step s = record { bytes = escape_sequence s; reads = []; report = None; set = s }
 
 -- the step of a character, in a set that has it or, where it is unmappable, its reference
 abbrev pub char_step : EncoderRule → CharacterSet → ℕ → Option (List ℕ) → Step
@@ -23,39 +23,39 @@ char_step e s c None = record { bytes = []; reads = c ∷ []; report = Some (e.r
 char_step e s c (Some b) = record { bytes = b; reads = c ∷ []; report = None; set = s }
 
 -- the first character that is written for a character: itself, or that of its reference
-abbrev pub first_written : ℕ → Option (List ℕ) → ℕ
-first_written c None = 0x26
-first_written c (Some b) = c
+abbrev pub first_written_char : ℕ → Option (List ℕ) → ℕ
+first_written_char c None = 0x26
+first_written_char c (Some b) = c
 
 -- the escape sequence before a character, where the designated set lacks it
-abbrev pub escaping : EncoderRule → CharacterSet → ℕ → List Step
-escaping e s c = if e.has s c then [] else escape_step (e.designated c) ∷ []
+abbrev pub escape_steps_before : EncoderRule → CharacterSet → ℕ → List Step
+escape_steps_before e s c = if e.has s c then [] else escape_step (e.designated c) ∷ []
 
-abbrev pub last_step : CharacterSet → List Step
-last_step Ascii = []
-last_step Roman = escape_step Ascii ∷ []
-last_step Jis0208 = escape_step Ascii ∷ []
+abbrev pub steps_at_end : CharacterSet → List Step
+steps_at_end Ascii = []
+steps_at_end Roman = escape_step Ascii ∷ []
+steps_at_end Jis0208 = escape_step Ascii ∷ []
 
 -- the steps of a text, and with `last` the one at its end
 unfoldable pub steps_of : EncoderRule → Bool → CharacterSet → List ℕ → List Step
-steps_of e last s [] = if last then last_step s else []
+steps_of e last s [] = if last then steps_at_end s else []
 steps_of e last s (c ∷ t) =
-    let d = first_written c (e.bytes c) in
-    escaping e s d ++ (char_step e (set_for e s d) c (e.bytes c) ∷ steps_of e last (set_for e s d) t)
+    let d = first_written_char c (e.bytes c) in
+    escape_steps_before e s d ++ (char_step e (set_for e s d) c (e.bytes c) ∷ steps_of e last (set_for e s d) t)
 
 -- the same from an encoder's state on
-abbrev pub steps_from : RawState → Bool → List ℕ → List Step
-steps_from v last t = steps_of v.rule last v.set t
+abbrev pub steps_from_state : RawEncoderState → Bool → List ℕ → List Step
+steps_from_state v last t = steps_of v.rule last v.set t
 
 -- the characters that steps read
-abbrev pub chars_of : List Step → List ℕ
-chars_of [] = []
-chars_of (p ∷ ps) = p.reads ++ chars_of ps
+abbrev pub step_chars : List Step → List ℕ
+step_chars [] = []
+step_chars (p ∷ ps) = p.reads ++ step_chars ps
 
 -- the bytes that steps write
-abbrev pub bytes_of_steps : List Step → List ℕ
-bytes_of_steps [] = []
-bytes_of_steps (p ∷ ps) = p.bytes ++ bytes_of_steps ps
+abbrev pub step_bytes : List Step → List ℕ
+step_bytes [] = []
+step_bytes (p ∷ ps) = p.bytes ++ step_bytes ps
 
 -- whether one of them is a report
 abbrev pub any_reported : List Step → Bool
@@ -63,16 +63,16 @@ any_reported [] = false
 any_reported (p ∷ ps) = is_some p.report || any_reported ps
 
 -- the set that is designated behind them
-abbrev pub set_behind : CharacterSet → List Step → CharacterSet
-set_behind s [] = s
-set_behind s (p ∷ ps) = set_behind p.set ps
+abbrev pub set_after_steps : CharacterSet → List Step → CharacterSet
+set_after_steps s [] = s
+set_after_steps s (p ∷ ps) = set_after_steps p.set ps
 
 -- what stands for a report
-abbrev pub referred : Option ℕ → List ℕ
-referred None = []
-referred (Some c) = reference c
+abbrev pub reference_for_report : Option ℕ → List ℕ
+reference_for_report None = []
+reference_for_report (Some c) = reference c
 
 -- the bytes that steps write where a reference stands for each report
 abbrev pub bytes_with_references : List Step → List ℕ
 bytes_with_references [] = []
-bytes_with_references (p ∷ ps) = (p.bytes ++ referred p.report) ++ bytes_with_references ps
+bytes_with_references (p ∷ ps) = (p.bytes ++ reference_for_report p.report) ++ bytes_with_references ps

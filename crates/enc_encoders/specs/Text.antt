@@ -2,39 +2,39 @@
 use Rattle.std.specs.Prelude.{◌≡◌, ℕ, Bool, true, Option, Some, None, List, [], ◌∷◌, ◌++◌, if◌then◌else◌, decimal}
 use Rattle.enc_encoders.specs.declared.character_set.CharacterSet.{CharacterSet}
 use Rattle.enc_encoders.specs.declared.character_set.CharacterSet.TheVariants.{Ascii, Roman, Jis0208}
-use Rattle.enc_encoders.specs.EncoderRule.{EncoderRule, RawState}
+use Rattle.enc_encoders.specs.EncoderRule.{EncoderRule, RawEncoderState}
 use Rattle.enc_encoders.specs.declared.encoder_result.EncoderResult.{EncoderResult}
 use Rattle.enc_encoders.specs.declared.encoder_result.EncoderResult.TheVariants.{InputEmpty, OutputFull, Unmappable}
 
 -- the escape sequence that designates a set (Encoding Standard 12.2.2)
-abbrev pub escape : CharacterSet → List ℕ
-escape Ascii = 0x1B ∷ 0x28 ∷ 0x42 ∷ []
-escape Roman = 0x1B ∷ 0x28 ∷ 0x4A ∷ []
-escape Jis0208 = 0x1B ∷ 0x24 ∷ 0x42 ∷ []
+abbrev pub escape_sequence : CharacterSet → List ℕ
+escape_sequence Ascii = 0x1B ∷ 0x28 ∷ 0x42 ∷ []
+escape_sequence Roman = 0x1B ∷ 0x28 ∷ 0x4A ∷ []
+escape_sequence Jis0208 = 0x1B ∷ 0x24 ∷ 0x42 ∷ []
 
 -- the escape sequence before a character, where this set is designated
 abbrev pub escape_before : EncoderRule → CharacterSet → ℕ → List ℕ
-escape_before e s c = if e.has s c then [] else escape (e.designated c)
+escape_before e s c = if e.has s c then [] else escape_sequence (e.designated c)
 
 -- the escape sequence at the end of a text
 abbrev pub escape_at_end : CharacterSet → List ℕ
 escape_at_end Ascii = []
-escape_at_end Roman = escape Ascii
-escape_at_end Jis0208 = escape Ascii
+escape_at_end Roman = escape_sequence Ascii
+escape_at_end Jis0208 = escape_sequence Ascii
 
-abbrev pub or_nothing : Option (List ℕ) → List ℕ
-or_nothing None = []
-or_nothing (Some b) = b
+abbrev pub list_or_empty : Option (List ℕ) → List ℕ
+list_or_empty None = []
+list_or_empty (Some b) = b
 
 -- the bytes of a text of mappable characters, behind another one, which begins in this set
-abbrev pub bytes_behind : EncoderRule → CharacterSet → List ℕ → List ℕ → List ℕ
-bytes_behind e s u [] = escape_at_end (e.set_after s u)
-bytes_behind e s u (c ∷ t) = escape_before e (e.set_after s u) c ++ (or_nothing (e.bytes c) ++ bytes_behind e s (u ++ c ∷ []) t)
+abbrev pub bytes_after_text : EncoderRule → CharacterSet → List ℕ → List ℕ → List ℕ
+bytes_after_text e s u [] = escape_at_end (e.set_after s u)
+bytes_after_text e s u (c ∷ t) = escape_before e (e.set_after s u) c ++ (list_or_empty (e.bytes c) ++ bytes_after_text e s (u ++ c ∷ []) t)
 
 -- The bytes of a text of mappable characters: of each its escape sequence, if the set behind the text before it lacks it,
 -- and its bytes; at the end the escape sequence to ASCII, if another set is designated.
 abbrev pub bytes_of_text : EncoderRule → CharacterSet → List ℕ → List ℕ
-bytes_of_text e s t = bytes_behind e s [] t
+bytes_of_text e s t = bytes_after_text e s [] t
 
 -- the decimal character reference `&#..;` (Encoding Standard 4.1, error mode "html")
 abbrev pub reference : ℕ → List ℕ
@@ -58,7 +58,7 @@ reference_after (Unmappable c) = reference c
 
 -- Whatever follows the characters that were offered: the bytes of the whole text are what the call wrote, the reference to
 -- the character that it reported, and the bytes of the text that is left.
-abbrev pub KeepsText : RawState → RawState → List ℕ → List ℕ → Bool → EncoderResult → List ℕ → Type 0
+abbrev pub KeepsText : RawEncoderState → RawEncoderState → List ℕ → List ℕ → Bool → EncoderResult → List ℕ → Type 0
 KeepsText old new src rest last result wrote = (z : List ℕ) → (last ≡ true → z ≡ [])
     → bytes_of_text old.rule old.set (with_references old.rule (src ++ z))
     ≡ wrote ++ (reference_after result ++ bytes_of_text new.rule new.set (with_references new.rule (rest ++ z)))

@@ -1,7 +1,7 @@
 //! Encodings from which characters are barred.
 
 ghost use Rattle.std.specs.Prelude.{◌≡◌};
-ghost use Rattle.enc_encoders.specs.Barring.{stands_in, is_barred as wanted_barred};
+ghost use Rattle.enc_encoders.specs.Barring.{contains_char, is_barred as wanted_barred};
 
 use crate::byte_lengths::ByteLengths;
 use crate::stateless::Repertoire;
@@ -16,7 +16,7 @@ pub struct Barring<R> {
 
 /// Whether a character stands in a list.
 fn is_in(barred: &[char], c: char) -> bool
-    ensures { result ≡ stands_in barred.now c }
+    ensures { result ≡ contains_char barred.now c }
 {
     for i in 0..barred.len() {
         if barred[i] == c {
@@ -48,9 +48,9 @@ impl<R: Repertoire> Barring<R> {
 }
 
 impl<R: Repertoire> Repertoire for Barring<R> {
-    ghost use Rattle.enc_encoders.specs.Barring.{except};
+    ghost use Rattle.enc_encoders.specs.Barring.{bytes_unless_barred};
 
-    ghost bytes_for = { λ r. except r.barred.now (R.bytes_for r.repertoire) };
+    ghost bytes_for = { λ r. bytes_unless_barred r.barred.now (R.bytes_for r.repertoire) };
 
     ghost lengths = { λ r. R.lengths r.repertoire };
 

@@ -1,7 +1,7 @@
 //! What an encoder is that takes one character at a time.
 
 ghost use Rattle.std.specs.Prelude.{◌≡◌, ◌≤◌, length};
-ghost use Rattle.enc_encoders.specs.EncoderRule.{RawState};
+ghost use Rattle.enc_encoders.specs.EncoderRule.{RawEncoderState};
 ghost use Rattle.enc_encoders.specs.CharLaw.{AreBytesOf, IsEscapeBefore, IsEscapeAtEnd};
 ghost use Rattle.enc_encoders.specs.Runs.{WritesRun};
 
@@ -11,7 +11,7 @@ use enc_units::{Bytes, Chars};
 /// An encoder as a value: what it writes for a character, and the designated character set.
 pub trait CharEncoder: Copy {
     // its rule, and the designated character set
-    ghost state: { Self → RawState };
+    ghost state: { Self → RawEncoderState };
 
     /// Writes the bytes of the first characters into a slice, from `from` on, as long as they are mappable and the
     /// designated set has them. Returns the number of bytes written. The run need not be maximal: by default it is

@@ -12,8 +12,8 @@ mod machine;
 mod made_bytes;
 mod raw_encoder;
 mod stateless;
-mod step;
-mod taken;
+mod transition;
+mod transitions;
 
 pub use barring::Barring;
 pub use byte_lengths::ByteLengths;

@@ -1,35 +1,35 @@
 //! The loop over the characters of one call, for every encoder and every input.
 
 ghost use Rattle.std.specs.Prelude.{◌≡◌, ℕ, ◌+◌, ◌-◌, ◌<◌, ◌≤◌, ◌++◌, length, take, drop, IsTrue, IsFalse};
-ghost use Rattle.enc_units.specs.Bytes.{bytes_of};
-ghost use Rattle.enc_encoders.specs.CharLaw.{Acts, IsAtEnd, IsComing};
-ghost use Rattle.enc_encoders.specs.Call.{CallInto};
-ghost use Rattle.enc_encoders.specs.EncoderRule.{IsLawful};
+ghost use Rattle.enc_units.specs.Bytes.{byte_list};
+ghost use Rattle.enc_encoders.specs.CharLaw.{HandlesCharacter, IsStepAtEnd, IsNextStepOfCall};
+ghost use Rattle.enc_encoders.specs.Call.{EncoderCallInto};
+ghost use Rattle.enc_encoders.specs.EncoderRule.{IsLawfulEncoderRule};
 ghost use Rattle.enc_encoders.specs.Text.{KeepsText};
-ghost use Rattle.enc_encoders.specs.Need.{MeetsNeed};
+ghost use Rattle.enc_encoders.specs.Need.{MeetsEncodeNeed};
 
 use crate::char_encoder::CharEncoder;
 use crate::character_set::CharacterSet;
 use crate::encoder_result::EncoderResult;
-use crate::step::Taken;
-use crate::taken::{first_written, take_char, take_escape};
+use crate::transition::Transition;
+use crate::transitions::{first_written_char, take_char, take_escape};
 use enc_units::{Bytes, Chars};
 
 /// The first step that the next character leads to.
 #[inline(always)]
-fn next_step<E: CharEncoder>(encoder: E, c: char) -> Taken<E>
-    ensures { Acts E.state encoder c result }
+fn next_step<E: CharEncoder>(encoder: E, c: char) -> Transition<E>
+    ensures { HandlesCharacter E.state encoder c result }
 {
     let found = encoder.bytes(c);
-    match encoder.escape_before(first_written(c, found)) {
+    match encoder.escape_before(first_written_char(c, found)) {
         Some(next) => take_escape(next, next.set()),
         None => take_char(encoder, encoder.reported(c), found),
     }
 }
 
 /// The step that the end of the text leads to.
-fn step_at_end<E: CharEncoder>(encoder: E) -> Option<Taken<E>>
-    ensures { IsAtEnd E.state encoder result }
+fn step_at_end<E: CharEncoder>(encoder: E) -> Option<Transition<E>>
+    ensures { IsStepAtEnd E.state encoder result }
 {
     match encoder.escape_at_end() {
         Some(next) => Some(take_escape(next, CharacterSet::Ascii)),
@@ -39,8 +39,8 @@ fn step_at_end<E: CharEncoder>(encoder: E) -> Option<Taken<E>>
 
 /// What comes next: a step that the next character leads to, or the end of the text, or nothing.
 #[inline(always)]
-fn what_comes<E: CharEncoder, C: Chars>(encoder: E, src: &C, last: bool) -> Option<Taken<E>>
-    ensures { IsComing E.state encoder (C.rest src.now) last result }
+fn what_comes<E: CharEncoder, C: Chars>(encoder: E, src: &C, last: bool) -> Option<Transition<E>>
+    ensures { IsNextStepOfCall E.state encoder (C.rest src.now) last result }
 {
     match src.peek() {
         Some((c, _)) => Some(next_step(encoder, c)),
@@ -52,10 +52,10 @@ fn what_comes<E: CharEncoder, C: Chars>(encoder: E, src: &C, last: bool) -> Opti
 #[inline(always)]
 fn put(dst: &mut [u8], written: usize, bytes: Bytes) -> bool
     requires { written ≤ length dst.old }
-    ensures count { bytes.len ≡ length (bytes_of bytes) }
-    ensures fits { IsTrue result → written + length (bytes_of bytes) ≤ length dst.old }
-    ensures full { IsFalse result → length dst.old < written + length (bytes_of bytes) }
-    ensures put { IsTrue result → dst.new ≡ take written dst.old ++ (bytes_of bytes ++ drop (written + length (bytes_of bytes)) dst.old) }
+    ensures count { bytes.len ≡ length (byte_list bytes) }
+    ensures fits { IsTrue result → written + length (byte_list bytes) ≤ length dst.old }
+    ensures full { IsFalse result → length dst.old < written + length (byte_list bytes) }
+    ensures put { IsTrue result → dst.new ≡ take written dst.old ++ (byte_list bytes ++ drop (written + length (byte_list bytes)) dst.old) }
     ensures unchanged { IsFalse result → dst.new ≡ dst.old }
 {
     if bytes.len > dst.len() - written {
@@ -72,12 +72,12 @@ pub fn run<E: CharEncoder, C: Chars>(
     dst: &mut [u8],
     last: bool,
 ) -> (EncoderResult, usize, usize)
-    requires lawful { IsLawful (E.state encoder.old).rule }
-    ensures call { CallInto C.units_of (E.state encoder.old) (E.state encoder.new) (C.rest src.old) (C.rest src.new) last
+    requires lawful { IsLawfulEncoderRule (E.state encoder.old).rule }
+    ensures call { EncoderCallInto C.units_of (E.state encoder.old) (E.state encoder.new) (C.rest src.old) (C.rest src.new) last
         dst.old dst.new result.0 result.1 result.2 }
     ensures text { KeepsText (E.state encoder.old) (E.state encoder.new) (C.rest src.old) (C.rest src.new) last result.0
         (take result.2 dst.new) }
-    ensures need { MeetsNeed (E.state encoder.old) (E.state encoder.new) (C.rest src.old) (C.rest src.new) last (length dst.old)
+    ensures need { MeetsEncodeNeed (E.state encoder.old) (E.state encoder.new) (C.rest src.old) (C.rest src.new) last (length dst.old)
         result.0 result.2 }
 {
     let unread = src.unread();

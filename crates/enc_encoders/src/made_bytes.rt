@@ -1,8 +1,8 @@
 //! Bytes made of one, two and four.
 
 ghost use Rattle.std.specs.Prelude.{◌≡◌, [], ◌∷◌};
-ghost use Rattle.enc_units.specs.Bytes.{bytes_of};
-ghost use Rattle.enc_encoders.specs.Text.{escape as escape_bytes};
+ghost use Rattle.enc_units.specs.Bytes.{byte_list};
+ghost use Rattle.enc_encoders.specs.Text.{escape_sequence as escape_bytes};
 
 use crate::character_set::CharacterSet;
 use enc_units::Bytes;
@@ -10,7 +10,7 @@ use enc_units::Bytes;
 /// No byte.
 #[inline(always)]
 pub fn none() -> Bytes
-    ensures { bytes_of result ≡ [] }
+    ensures { byte_list result ≡ [] }
 {
     Bytes {
         bytes: [0; 4],
@@ -21,7 +21,7 @@ pub fn none() -> Bytes
 /// One byte.
 #[inline(always)]
 pub fn one(a: u8) -> Bytes
-    ensures { bytes_of result ≡ a ∷ [] }
+    ensures { byte_list result ≡ a ∷ [] }
 {
     Bytes {
         bytes: [a, 0, 0, 0],
@@ -32,7 +32,7 @@ pub fn one(a: u8) -> Bytes
 /// Two bytes.
 #[inline(always)]
 pub fn two(a: u8, b: u8) -> Bytes
-    ensures { bytes_of result ≡ a ∷ b ∷ [] }
+    ensures { byte_list result ≡ a ∷ b ∷ [] }
 {
     Bytes {
         bytes: [a, b, 0, 0],
@@ -43,7 +43,7 @@ pub fn two(a: u8, b: u8) -> Bytes
 /// Four bytes.
 #[inline(always)]
 pub fn four(a: u8, b: u8, c: u8, d: u8) -> Bytes
-    ensures { bytes_of result ≡ a ∷ b ∷ c ∷ d ∷ [] }
+    ensures { byte_list result ≡ a ∷ b ∷ c ∷ d ∷ [] }
 {
     Bytes {
         bytes: [a, b, c, d],
@@ -53,7 +53,7 @@ pub fn four(a: u8, b: u8, c: u8, d: u8) -> Bytes
 
 /// The escape sequence that designates a set (Encoding Standard 12.2.2).
 pub fn escape(set: CharacterSet) -> Bytes
-    ensures { bytes_of result ≡ escape_bytes set }
+    ensures { byte_list result ≡ escape_bytes set }
 {
     let bytes = match set {
         CharacterSet::Ascii => [0x1B, 0x28, 0x42, 0],

@@ -1,10 +1,10 @@
 //! What every encoder has to keep to.
 
 ghost use Rattle.std.specs.Prelude.{◌≡◌, length, take};
-ghost use Rattle.enc_encoders.specs.EncoderRule.{RawState, IsLawful, is_pending};
-ghost use Rattle.enc_encoders.specs.Call.{CallInto};
+ghost use Rattle.enc_encoders.specs.EncoderRule.{RawEncoderState, IsLawfulEncoderRule, is_escape_due};
+ghost use Rattle.enc_encoders.specs.Call.{EncoderCallInto};
 ghost use Rattle.enc_encoders.specs.Text.{KeepsText};
-ghost use Rattle.enc_encoders.specs.Need.{MeetsNeed, AreEnough};
+ghost use Rattle.enc_encoders.specs.Need.{MeetsEncodeNeed, AreEnoughForEncoder};
 ghost use Rattle.enc_encoders.specs.Lengths.{from_utf_8_length, from_utf_16_length};
 ghost use Rattle.enc_encoders.specs.declared.byte_lengths.ByteLengths.{ByteLengths};
 
@@ -16,7 +16,7 @@ use enc_units::Chars;
 /// character set. A value of it is a state between two calls. One that has ended a text begins another.
 pub trait RawEncoder {
     // its rule, and the designated character set
-    ghost state: { Self → RawState };
+    ghost state: { Self → RawEncoderState };
 
     // the formulas for lengths to allocate
     ghost formulas: { Self → ByteLengths };
@@ -31,24 +31,24 @@ pub trait RawEncoder {
         dst: &mut [u8],
         last: bool,
     ) -> (EncoderResult, usize, usize)
-        ensures call { CallInto C.units_of (state self.old) (state self.new) (C.rest src.old) (C.rest src.new) last
+        ensures call { EncoderCallInto C.units_of (state self.old) (state self.new) (C.rest src.old) (C.rest src.new) last
             dst.old dst.new result.0 result.1 result.2 }
         ensures text { KeepsText (state self.old) (state self.new) (C.rest src.old) (C.rest src.new) last result.0
             (take result.2 dst.new) }
-        ensures need { MeetsNeed (state self.old) (state self.new) (C.rest src.old) (C.rest src.new) last (length dst.old)
+        ensures need { MeetsEncodeNeed (state self.old) (state self.new) (C.rest src.old) (C.rest src.new) last (length dst.old)
             result.0 result.2 }
-        ensures lawful { IsLawful (state self.old).rule }
+        ensures lawful { IsLawfulEncoderRule (state self.old).rule }
         ensures formulas { formulas self.new ≡ formulas self.old };
 
     /// Whether another character set than ASCII is designated, so that an escape sequence is still to come at the end of the
     /// text. Takes no memory.
     fn has_pending_state(&self) -> bool
-        ensures { result ≡ is_pending (state self.now).set };
+        ensures { result ≡ is_escape_due (state self.now).set };
 
     /// Which formulas tell the greatest number of bytes of a text. What they tell is enough, from every state on. Takes no memory.
     fn byte_lengths(&self) -> ByteLengths
         ensures formulas { result ≡ formulas self.now }
-        ensures enough { AreEnough (formulas self.now) (state self.now) };
+        ensures enough { AreEnoughForEncoder (formulas self.now) (state self.now) };
 
     /// How many bytes so many code units of UTF-8 may become, up to an unmappable character: a length to allocate. `None` where
     /// that passes `usize`. Takes no memory.

@@ -2,7 +2,7 @@
 
 ghost use Rattle.std.specs.Prelude.{◌≡◌, ◌≤◌, ℕ, Option, List};
 ghost use Rattle.enc_encoders.specs.CharLaw.{AreBytesOf};
-ghost use Rattle.enc_encoders.specs.Stateless.{WritesAscii, WritesFew, KeepsLengths};
+ghost use Rattle.enc_encoders.specs.Stateless.{WritesAscii, WritesAtMostFour, KeepsLengths};
 ghost use Rattle.enc_encoders.specs.declared.byte_lengths.ByteLengths.{ByteLengths};
 
 use crate::barring::Barring;
@@ -37,7 +37,7 @@ pub trait Repertoire: Copy {
     /// does nothing.
     fn laws(self)
         ensures ascii { WritesAscii (bytes_for self) }
-        ensures few { WritesFew (bytes_for self) }
+        ensures few { WritesAtMostFour (bytes_for self) }
         ensures lengths { KeepsLengths (lengths self) (bytes_for self) };
 }
 
@@ -59,9 +59,9 @@ impl<R: Repertoire> StatelessEncoder<R> {
 impl<R: Repertoire> Mapping for StatelessEncoder<R> {
     ghost use Rattle.enc_encoders.specs.declared.character_set.CharacterSet.TheVariants.{Ascii};
     ghost use Rattle.enc_encoders.specs.Runs.{IsWrittenIn};
-    ghost use Rattle.enc_encoders.specs.Stateless.{stateless};
+    ghost use Rattle.enc_encoders.specs.Stateless.{stateless_rule};
 
-    ghost means = { λ e. IsWrittenIn (stateless (R.bytes_for e.repertoire)) Ascii };
+    ghost means = { λ e. IsWrittenIn (stateless_rule (R.bytes_for e.repertoire)) Ascii };
 
     #[inline(always)]
     fn bytes_in_run(self, c: char) -> Option<Bytes> {
@@ -113,9 +113,9 @@ impl<R: Repertoire> CharEncoder for StatelessEncoder<R> {
 
 impl<R: Repertoire> RawEncoder for StatelessEncoder<Barring<R>> {
     ghost use Rattle.enc_encoders.specs.Stateless.{stateless_state};
-    ghost use Rattle.enc_encoders.specs.Barring.{except};
+    ghost use Rattle.enc_encoders.specs.Barring.{bytes_unless_barred};
 
-    ghost state = { λ e. stateless_state (except e.repertoire.barred.now (R.bytes_for e.repertoire.repertoire)) };
+    ghost state = { λ e. stateless_state (bytes_unless_barred e.repertoire.barred.now (R.bytes_for e.repertoire.repertoire)) };
 
     ghost formulas = { λ e. R.lengths e.repertoire.repertoire };
 

@@ -4,7 +4,7 @@ pub mod GridLemmas
 pub mod PlaceLemmas
 mod GridTables
 mod GridTests
-pub mod HalvesLemmas
+pub mod RunSearchLemmas
 pub mod MultiByteTables
 mod RunLemmas
 pub mod SingleByteLemmas

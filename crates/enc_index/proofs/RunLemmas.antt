@@ -2,7 +2,7 @@
 use Rattle.std.proofs.Common.{◌≡◌, ℕ, ◌+◌, ◌-◌, Bool, true, false, ◌&&◌, nat_le, List, [], ◌∷◌, cond, Option, Some, None, refl}
 use Rattle.enc_index.specs.declared.table.Planes.{Planes}
 use Rattle.enc_index.specs.Index.{Run, entry_character, index_at}
-use Rattle.enc_index.specs.Search.{run_at}
+use Rattle.enc_index.specs.Search.{run_with_pointer}
 
 abbrev pub character_of_run : Planes → ℕ → Option Run → Option ℕ
 character_of_run planes pointer None = None
@@ -14,9 +14,9 @@ by_run : (planes : Planes) (pointer : ℕ) (run : Run) (other : Option ℕ) (res
 by_run planes pointer run other rest true h = refl
 by_run planes pointer run other rest false h = h
 
-pub index_at-run_at : (planes : Planes) (runs : List Run) (pointer : ℕ)
-    → index_at planes runs pointer ≡ character_of_run planes pointer (run_at runs pointer)
-index_at-run_at planes [] pointer = refl
-index_at-run_at planes (run ∷ runs) pointer =
-    by_run planes pointer run (index_at planes runs pointer) (run_at runs pointer) (nat_le run.0 pointer && nat_le pointer run.1)
-    (index_at-run_at planes runs pointer)
+pub index_at-run_with_pointer : (planes : Planes) (runs : List Run) (pointer : ℕ)
+    → index_at planes runs pointer ≡ character_of_run planes pointer (run_with_pointer runs pointer)
+index_at-run_with_pointer planes [] pointer = refl
+index_at-run_with_pointer planes (run ∷ runs) pointer =
+    by_run planes pointer run (index_at planes runs pointer) (run_with_pointer runs pointer) (nat_le run.0 pointer && nat_le pointer run.1)
+    (index_at-run_with_pointer planes runs pointer)

@@ -7,16 +7,16 @@ use Rattle.enc_index.specs.declared.single_byte_index.SingleByteIndex.TheVariant
 use Rattle.enc_index.specs.declared.data.single_byte.TheConstants.{SINGLE_BYTE_TABLE}
 use Rattle.enc_index.specs.Index.{entry_character, index_at}
 use Rattle.enc_index.specs.Runs.{single_byte_runs}
-use Rattle.enc_index.specs.Search.{are_ascending}
-use Rattle.enc_index.specs.SingleByteTables.{number_of}
+use Rattle.enc_index.specs.Search.{are_ascending_runs}
+use Rattle.enc_index.specs.SingleByteTables.{table_number}
 use Rattle.enc_index.proofs.TableLemmas.{table_ok, table_ok-true}
 use Rattle.enc_index.proofs.Computing.{tests}
 
 abbrev pub table_of : SingleByteIndex → List ℕ
-table_of index = slice_range SINGLE_BYTE_TABLE (number_of index * 128) (number_of index * 128 + 128)
+table_of index = slice_range SINGLE_BYTE_TABLE (table_number index * 128) (table_number index * 128 + 128)
 
 runs_ok : SingleByteIndex → Bool
-runs_ok index = are_ascending 0 (single_byte_runs index) && table_ok 0 (single_byte_runs index) (table_of index)
+runs_ok index = are_ascending_runs 0 (single_byte_runs index) && table_ok 0 (single_byte_runs index) (table_of index)
 
 all_tables : (index : SingleByteIndex) → runs_ok index ≡ true
 unfolding tests runs_ok
@@ -52,6 +52,6 @@ pub single_byte_table : (index : SingleByteIndex) (p : ℕ)
     → entry_character Basic (get_or (table_of index) p 0) ≡ index_at Basic (single_byte_runs index) p
 unfolding runs_ok
 single_byte_table index p =
-    let parts = and_parts (are_ascending 0 (single_byte_runs index))
+    let parts = and_parts (are_ascending_runs 0 (single_byte_runs index))
     (table_ok 0 (single_byte_runs index) (table_of index)) (all_tables index) in
     table_ok-true Basic (single_byte_runs index) (table_of index) parts.0 parts.1 p

@@ -3,8 +3,8 @@ use Rattle.std.proofs.Common.{◌≡◌, ℕ, zero, suc, ◌+◌, ◌-◌, ◌<�
 use Rattle.std.proofs.lemmas.Bool.{cond-true, cond-false, and_parts, and_left, and_right, and_from, cases_lt, lt-leb}
 use Rattle.enc_index.specs.declared.table.Planes.{Planes}
 use Rattle.enc_index.specs.Index.{Run, index_at, entry_character}
-use Rattle.enc_index.specs.Search.{are_ascending}
-use Rattle.enc_index.proofs.HalvesLemmas.{ascending_parts}
+use Rattle.enc_index.specs.Search.{are_ascending_runs}
+use Rattle.enc_index.proofs.RunSearchLemmas.{ascending_parts}
 
 -- the table has, from a pointer on, the code points of the runs, and 0 where no run has a pointer
 unfoldable pub table_ok : ℕ → List Run → List ℕ → Bool
@@ -21,9 +21,9 @@ table_ok p (r ∷ rs) (t ∷ ts) =
 -- the first run ends at p or behind it, and the others come after it
 abbrev Going : ℕ → List Run → Type 0
 Going p [] = Unit {0}
-Going p (r ∷ rs) = (p ≤ r.1) × (r.0 ≤ r.1) × (are_ascending (r.1 + 1) rs ≡ true)
+Going p (r ∷ rs) = (p ≤ r.1) × (r.0 ≤ r.1) × (are_ascending_runs (r.1 + 1) rs ≡ true)
 
-ascending-going : (p : ℕ) (runs : List Run) → are_ascending p runs ≡ true → Going p runs
+ascending-going : (p : ℕ) (runs : List Run) → are_ascending_runs p runs ≡ true → Going p runs
 ascending-going p [] h = tt
 ascending-going p (r ∷ rs) h = let t = ascending_parts p r rs h in (omega (arith, t.0, t.1), t.1, t.2)
 
@@ -53,7 +53,7 @@ module _ (planes : Planes) where
   index_at-within r rs q low high = cond-true _ _ _ (and_from _ _ (le-leb r.0 q low) (le-leb q r.1 high))
 
   -- no run of an ascending list has a pointer below its first
-  pub index_at-below : (low : ℕ) (rs : List Run) (q : ℕ) → are_ascending low rs ≡ true → q < low → index_at planes rs q ≡ None
+  pub index_at-below : (low : ℕ) (rs : List Run) (q : ℕ) → are_ascending_runs low rs ≡ true → q < low → index_at planes rs q ≡ None
   index_at-below low [] q h lt = refl
   index_at-below low (r ∷ rs) q h lt =
       let t = ascending_parts low r rs h in
@@ -107,13 +107,14 @@ module _ (planes : Planes) where
                   ∙ at_suc (r ∷ rs) p i
               | inr ends ↦
                   let here : r.1 ≡ p = omega (arith, g.0) in
-                  entry_character-index_at ts (p + 1) rs (ascending-going (p + 1) rs (subst (λ k. are_ascending (k + 1) rs ≡ true) here g.2))
+                  entry_character-index_at ts (p + 1) rs (ascending-going (p + 1) rs (subst (λ k. are_ascending_runs (k + 1) rs ≡ true) here g.2))
                   (table_ok-ends p r rs t ts h from ends).1 i
                   ∙ at_suc rs p i ∙ sym (index_at-after r rs (p + suc i) (omega arith))
             ]
       ]
 
   -- a table that passes has the characters of the runs
-  pub table_ok-true : (runs : List Run) (table : List ℕ) → are_ascending 0 runs ≡ true → table_ok 0 runs table ≡ true
+  pub table_ok-true : (runs : List Run) (table : List ℕ) → are_ascending_runs 0 runs ≡ true
+      → table_ok 0 runs table ≡ true
       → (p : ℕ) → entry_character planes (get_or table p 0) ≡ index_at planes runs p
   table_ok-true runs table up ok p = entry_character-index_at table 0 runs (ascending-going 0 runs up) ok p ∙ ap (index_at planes runs) (omega arith)

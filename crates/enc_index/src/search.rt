@@ -2,7 +2,7 @@
 
 ghost use Rattle.std.specs.Prelude.{◌≡◌, ◌≤◌, true, IfSome};
 ghost use Rattle.enc_index.specs.Index.{index_at};
-ghost use Rattle.enc_index.specs.Search.{are_ascending, run_at};
+ghost use Rattle.enc_index.specs.Search.{are_ascending_runs, run_with_pointer};
 
 use crate::table::{Planes, character_behind};
 
@@ -10,8 +10,8 @@ use crate::table::{Planes, character_behind};
 ///
 /// - `runs`: ascend, and none overlaps another.
 pub fn run_with(runs: &[(u32, u32, u32)], number: u32) -> Option<(u32, u32, u32)>
-    requires { are_ascending 0 runs.now ≡ true }
-    ensures first { result ≡ run_at runs.now number }
+    requires { are_ascending_runs 0 runs.now ≡ true }
+    ensures first { result ≡ run_with_pointer runs.now number }
     ensures begins { IfSome result (λ run. run.0 ≤ number) }
 {
     let mut low = 0;
@@ -36,7 +36,7 @@ pub(crate) fn character_among(
     runs: &[(u32, u32, u32)],
     pointer: u32,
 ) -> Option<char>
-    requires { are_ascending 0 runs.now ≡ true }
+    requires { are_ascending_runs 0 runs.now ≡ true }
     ensures { result ≡ index_at planes runs.now pointer }
 {
     match run_with(runs, pointer) {

@@ -3,7 +3,7 @@
 ghost use Rattle.std.specs.Prelude.{◌≡◌, ◌<◌};
 ghost use Rattle.enc_index.specs.Index.{index_at};
 ghost use Rattle.enc_index.specs.Runs.{single_byte_runs};
-ghost use Rattle.enc_index.specs.SingleByteTables.{number_of};
+ghost use Rattle.enc_index.specs.SingleByteTables.{table_number};
 ghost use Rattle.enc_index.specs.declared.table.Planes.TheVariants.{Basic};
 
 use crate::data::single_byte::{
@@ -125,7 +125,7 @@ impl SingleByteIndex {
     /// Its number, from 0 to 26, in the order above: where it stands among tables of them all. Takes no memory.
     #[inline(always)]
     pub fn number(self) -> usize
-        ensures which { result ≡ number_of self }
+        ensures which { result ≡ table_number self }
         ensures within { result < 27 }
     {
         match self {

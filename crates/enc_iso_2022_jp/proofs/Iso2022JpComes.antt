@@ -2,7 +2,7 @@
 use Rattle.std.proofs.Common.{◌≡◌, ℕ, ◌≤◌, true, false, eqb, Option, Some, None, List, [], ◌∷◌, ◌++◌, length, refl, ap, ◌∙◌, sym, arith, append_assoc}
 use Rattle.enc_machine.specs.declared.byte_codec.Kind.TheVariants.{Valid, Skipped, Malformed, RepeatedEscape}
 use Rattle.enc_machine.specs.declared.byte_codec.Text.TheVariants.{Nothing, One}
-use Rattle.enc_machine.specs.declared.byte_codec.Step.TheVariants.{Show}
+use Rattle.enc_machine.specs.declared.byte_codec.HandlerResult.TheVariants.{Emit}
 use Rattle.enc_iso_2022_jp.specs.declared.iso_2022_jp.CharacterSet.{CharacterSet}
 use Rattle.enc_iso_2022_jp.specs.declared.iso_2022_jp.Intermediate.{Intermediate}
 use Rattle.enc_iso_2022_jp.specs.declared.iso_2022_jp.Escape.{Escape}
@@ -10,11 +10,11 @@ use Rattle.enc_iso_2022_jp.specs.declared.iso_2022_jp.Escape.TheVariants.{ToAsci
 use Rattle.enc_iso_2022_jp.specs.declared.iso_2022_jp.Held.{Held}
 use Rattle.enc_iso_2022_jp.specs.declared.iso_2022_jp.Held.TheVariants.{GivenBack, Lead, Whole, Started}
 use Rattle.enc_machine.specs.Segmentation.{sequences_of, one_byte_head}
-use Rattle.enc_machine.specs.CodecLaw.{Comes, Acts, lone_fault}
-use Rattle.enc_iso_2022_jp.specs.Iso2022Jp.{set_number, designated, is_lead, one_byte_char, two_byte_char, two_byte_head, iso_2022_jp_rule as jp_rule}
-use Rattle.enc_iso_2022_jp.specs.Iso2022JpState.{holding, intermediate_byte, escape_bytes, escape_set, behind, held_bytes, CanHold, CutsOff, ends_lead, shown_char, iso_2022_jp_state as jp_state}
+use Rattle.enc_machine.specs.CodecLaw.{IsNextSequence, HandlesByte, lone_fault}
+use Rattle.enc_iso_2022_jp.specs.Iso2022Jp.{set_number, designated_set, is_lead_byte, one_byte_char, two_byte_char, two_byte_head, iso_2022_jp_rule as jp_rule}
+use Rattle.enc_iso_2022_jp.specs.Iso2022JpState.{state_with_held, intermediate_byte, escape_bytes, escape_set, escape_and_bytes, bytes_of_held, CanHold, CutsOffHeld, cuts_off_lead, char_or_malformed, iso_2022_jp_state as jp_state}
 use Rattle.enc_machine.proofs.SegmentationLemmas.{sequences_of-head}
-use Rattle.enc_machine.proofs.ShowLemmas.{shows_with, shows_before}
+use Rattle.enc_machine.proofs.EmissionLemmas.{shows_with, shows_before}
 use Rattle.enc_iso_2022_jp.proofs.Iso2022JpLemmas.{set_of_number, lead_first, alone_first, lead_alone, lead_and_trail, skipped_escape, repeated_escape, designated_by, high_is_none, high_leads_none, high_is_no_escape}
 use Rattle.enc_iso_2022_jp.proofs.Iso2022JpUndetermined.{undetermined}
 
@@ -26,37 +26,41 @@ three ToJis0208Of1978 = refl
 three ToJis0208Of1983 = refl
 
 -- bytes behind those that are behind a whole escape sequence or none
-pub behind-append : (before : Option Escape) (x y : List ℕ) → behind before (x ++ y) ≡ behind before x ++ y
-behind-append None x y = refl
-behind-append (Some e) x y = sym (append_assoc (escape_bytes e) x y)
+pub escape_and_bytes-append : (before : Option Escape) (x y : List ℕ)
+    → escape_and_bytes before (x ++ y) ≡ escape_and_bytes before x ++ y
+escape_and_bytes-append None x y = refl
+escape_and_bytes-append (Some e) x y = sym (append_assoc (escape_bytes e) x y)
 
 -- what is cut off by what follows
 
 -- one malformed byte, behind which others may be held
 pub shows_malformed : (s : CharacterSet) (held : Held) (b : ℕ) (next : Option Held)
-    → held_bytes (Some held) ≡ b ∷ held_bytes next
-    → length (held_bytes next) ≤ 3
-    → ((y : List ℕ) → CutsOff held y → jp_rule (set_number s) b (held_bytes next ++ y)
+    → bytes_of_held (Some held) ≡ b ∷ bytes_of_held next
+    → length (bytes_of_held next) ≤ 3
+    → ((y : List ℕ) → CutsOffHeld held y → jp_rule (set_number s) b (bytes_of_held next ++ y)
     ≡ record { more = 0; text = 0xFFFD ∷ []; kind = Malformed; set = set_number s })
-    → Comes jp_state (holding s (Some held)) (CutsOff held) [] (shown_char None 1 false (holding s next))
+    → IsNextSequence jp_state (state_with_held s (Some held)) (CutsOffHeld held) []
+    (char_or_malformed None 1 false (state_with_held s next))
 shows_malformed s held b next p l f =
-    shows_before jp_state (holding s (Some held)) (holding s next) (One 0xFFFD) Malformed 1 (CutsOff held) (b ∷ []) refl
+    shows_before jp_state (state_with_held s (Some held)) (state_with_held s next) (One 0xFFFD) Malformed 1
+    (CutsOffHeld held) (b ∷ []) refl
     p refl (omega arith) refl (λ _. (refl, (omega arith, l, omega arith)))
-    (λ y m. rw p (sequences_of-head jp_rule (set_number s) b (held_bytes next ++ y) _ (f y m)))
+    (λ y m. rw p (sequences_of-head jp_rule (set_number s) b (bytes_of_held next ++ y) _ (f y m)))
 
 -- an escape sequence
 pub shows_skipped : (s : CharacterSet) (held : Held) (e : Escape) (next : Option Held)
-    → held_bytes (Some held) ≡ escape_bytes e ++ held_bytes next
-    → ((y : List ℕ) → CutsOff held y → designated (held_bytes next ++ y) ≡ None)
-    → Comes jp_state (holding s (Some held)) (CutsOff held) []
-    (record { text = Nothing; kind = Skipped; len = 3; takes_byte = false; next = holding (escape_set e) next })
+    → bytes_of_held (Some held) ≡ escape_bytes e ++ bytes_of_held next
+    → ((y : List ℕ) → CutsOffHeld held y → designated_set (bytes_of_held next ++ y) ≡ None)
+    → IsNextSequence jp_state (state_with_held s (Some held)) (CutsOffHeld held) []
+    (record { text = Nothing; kind = Skipped; len = 3; takes_byte = false; next = state_with_held (escape_set e) next })
 shows_skipped s held e next p f =
-    shows_before jp_state (holding s (Some held)) (holding (escape_set e) next) Nothing Skipped 3 (CutsOff held)
+    shows_before jp_state (state_with_held s (Some held)) (state_with_held (escape_set e) next) Nothing Skipped 3
+    (CutsOffHeld held)
     (escape_bytes e) refl p (three e) (omega arith) refl (λ m. cc)
-    (λ y m. rw p (rw append_assoc (skipped_escape (set_number s) e (held_bytes next ++ y) (f y m))))
+    (λ y m. rw p (rw append_assoc (skipped_escape (set_number s) e (bytes_of_held next ++ y) (f y m))))
 
 -- a byte that stands alone
-pub alone : (s : CharacterSet) (b : ℕ) (found : Option ℕ) → found ≡ one_byte_char s b → is_lead s b ≡ false
+pub alone : (s : CharacterSet) (b : ℕ) (found : Option ℕ) → found ≡ one_byte_char s b → is_lead_byte s b ≡ false
     → eqb b 0x1B ≡ false
     → (y : List ℕ) → jp_rule (set_number s) b y ≡ one_byte_head (set_number s) found
 alone s b found e l n y =
@@ -65,71 +69,76 @@ alone s b found e l n y =
 
 pub shows_given_back : (s : CharacterSet) (b : ℕ) (found : Option ℕ) → found ≡ one_byte_char s b
     → CanHold s (Some (GivenBack b))
-    → Comes jp_state (holding s (Some (GivenBack b))) (CutsOff (GivenBack b)) [] (shown_char found 1 false (holding s None))
+    → IsNextSequence jp_state (state_with_held s (Some (GivenBack b))) (CutsOffHeld (GivenBack b)) [] (char_or_malformed found 1 false (state_with_held s None))
 shows_given_back s b None e c =
     shows_malformed s (GivenBack b) b None refl (omega arith) (λ y _. alone s b None e c.0 c.1 y)
 shows_given_back s b (Some d) e c =
-    shows_before jp_state (holding s (Some (GivenBack b))) (holding s None) (One d) Valid 1
-    (CutsOff (GivenBack b)) (b ∷ []) refl refl refl (omega arith) refl (λ m. cc)
+    shows_before jp_state (state_with_held s (Some (GivenBack b))) (state_with_held s None) (One d) Valid 1
+    (CutsOffHeld (GivenBack b)) (b ∷ []) refl refl refl (omega arith) refl (λ m. cc)
     (λ y _. sequences_of-head jp_rule (set_number s) b y _ (alone s b (Some d) e c.0 c.1 y))
 
 pub shows_alone : (s : CharacterSet) (b : ℕ) (found : Option ℕ) → found ≡ one_byte_char s b
-    → is_lead s b ≡ false → eqb b 0x1B ≡ false
-    → Acts jp_state (holding s None) b (Show (shown_char found 1 true (holding s None)))
+    → is_lead_byte s b ≡ false → eqb b 0x1B ≡ false
+    → HandlesByte jp_state (state_with_held s None) b (Emit (char_or_malformed found 1 true (state_with_held s None)))
 shows_alone s b None e l n =
-    shows_with jp_state (holding s None) (holding s None) (One 0xFFFD) Malformed 1 b refl refl refl refl
+    shows_with jp_state (state_with_held s None) (state_with_held s None) (One 0xFFFD) Malformed 1 b refl refl refl refl
     (λ _. (refl, omega arith)) (λ y. sequences_of-head jp_rule (set_number s) b y _ (alone s b None e l n y))
 shows_alone s b (Some d) e l n =
-    shows_with jp_state (holding s None) (holding s None) (One d) Valid 1 b refl refl refl refl (λ m. cc)
+    shows_with jp_state (state_with_held s None) (state_with_held s None) (One d) Valid 1 b refl refl refl refl
+    (λ m. cc)
     (λ y. sequences_of-head jp_rule (set_number s) b y _ (alone s b (Some d) e l n y))
 
 -- a byte with the high bit set is malformed by itself
-pub shows_high : (s : CharacterSet) (b : ℕ) → 0x80 ≤ b → Acts jp_state (holding s None) b (Show (lone_fault (holding s None)))
+pub shows_high : (s : CharacterSet) (b : ℕ) → 0x80 ≤ b → HandlesByte jp_state (state_with_held s None) b (Emit (lone_fault (state_with_held s None)))
 shows_high s b h = shows_alone s b None (sym (high_is_none s b h)) (high_leads_none s b h) (high_is_no_escape b h)
 
 -- a lead byte, and the byte behind it
 
-lead_cut_off : (s : CharacterSet) (b : ℕ) → is_lead s b ≡ true → (y : List ℕ) → ends_lead y ≡ true
+lead_cut_off : (s : CharacterSet) (b : ℕ) → is_lead_byte s b ≡ true → (y : List ℕ) → cuts_off_lead y ≡ true
     → jp_rule (set_number s) b y ≡ record { more = 0; text = 0xFFFD ∷ []; kind = Malformed; set = set_number s }
 lead_cut_off s b l y m = lead_first (set_number s) b y (rw set_of_number l) ∙ lead_alone (set_number s) b y m
 
-pub shows_lead : (s : CharacterSet) (b : ℕ) → is_lead s b ≡ true
-    → Comes jp_state (holding s (Some (Lead b))) (CutsOff (Lead b)) [] (shown_char None 1 false (holding s None))
+pub shows_lead : (s : CharacterSet) (b : ℕ) → is_lead_byte s b ≡ true
+    → IsNextSequence jp_state (state_with_held s (Some (Lead b))) (CutsOffHeld (Lead b)) []
+    (char_or_malformed None 1 false (state_with_held s None))
 shows_lead s b l = shows_malformed s (Lead b) b None refl (omega arith) (lead_cut_off s b l)
 
 pub pair : (s : CharacterSet) (lead b : ℕ) (found : Option ℕ) → found ≡ two_byte_char lead b
-    → is_lead s lead ≡ true → eqb b 0x1B ≡ false
+    → is_lead_byte s lead ≡ true → eqb b 0x1B ≡ false
     → (y : List ℕ) → jp_rule (set_number s) lead (b ∷ y) ≡ two_byte_head (set_number s) found
 pair s lead b found e l n y =
     lead_first (set_number s) lead (b ∷ y) (rw set_of_number l) ∙ lead_and_trail (set_number s) lead b y n
     ∙ ap (two_byte_head (set_number s)) (sym e)
 
 pub shows_pair : (s : CharacterSet) (lead b : ℕ) (found : Option ℕ) → found ≡ two_byte_char lead b
-    → is_lead s lead ≡ true → eqb b 0x1B ≡ false
-    → Acts jp_state (holding s (Some (Lead lead))) b (Show (shown_char found 2 true (holding s None)))
+    → is_lead_byte s lead ≡ true → eqb b 0x1B ≡ false
+    → HandlesByte jp_state (state_with_held s (Some (Lead lead))) b
+    (Emit (char_or_malformed found 2 true (state_with_held s None)))
 shows_pair s lead b None e l n =
-    shows_with jp_state (holding s (Some (Lead lead))) (holding s None) (One 0xFFFD) Malformed 2 b refl refl refl refl
+    shows_with jp_state (state_with_held s (Some (Lead lead))) (state_with_held s None) (One 0xFFFD) Malformed 2 b refl
+    refl refl refl
     (λ _. (refl, omega arith))
     (λ y. sequences_of-head jp_rule (set_number s) lead (b ∷ y) _ (pair s lead b None e l n y))
 shows_pair s lead b (Some d) e l n =
-    shows_with jp_state (holding s (Some (Lead lead))) (holding s None) (One d) Valid 2 b refl refl refl refl (λ m. cc)
+    shows_with jp_state (state_with_held s (Some (Lead lead))) (state_with_held s None) (One d) Valid 2 b refl refl refl
+    refl (λ m. cc)
     (λ y. sequences_of-head jp_rule (set_number s) lead (b ∷ y) _ (pair s lead b (Some d) e l n y))
 
 -- an escape sequence that another follows directly
 
 another_designates : (f : Escape) (i : Intermediate) (b : ℕ) → escape_bytes f ≡ 0x1B ∷ intermediate_byte i ∷ b ∷ []
-    → (y : List ℕ) → designated (0x1B ∷ intermediate_byte i ∷ b ∷ y) ≡ Some (escape_set f)
-another_designates f i b h y = ap (λ x. designated (x ++ y)) (sym h) ∙ designated_by f y
+    → (y : List ℕ) → designated_set (0x1B ∷ intermediate_byte i ∷ b ∷ y) ≡ Some (escape_set f)
+another_designates f i b h y = ap (λ x. designated_set (x ++ y)) (sym h) ∙ designated_by f y
 
 pub shows_repeated : (s : CharacterSet) (e f : Escape) (i : Intermediate) (b : ℕ)
     → escape_bytes f ≡ 0x1B ∷ intermediate_byte i ∷ b ∷ []
-    → Acts jp_state (holding s (Some (Started (Some e) i))) b
-    (Show (record {
+    → HandlesByte jp_state (state_with_held s (Some (Started (Some e) i))) b
+    (Emit (record {
       text = One 0xFFFD;
       kind = RepeatedEscape;
       len = 3;
       takes_byte = true;
-      next = holding (escape_set e) (Some (Whole f));
+      next = state_with_held (escape_set e) (Some (Whole f));
     }))
 shows_repeated s e f i b h = (
   record {

@@ -9,8 +9,8 @@ use Rattle.enc_iso_2022_jp.specs.declared.iso_2022_jp.CharacterSet.TheVariants.{
 use Rattle.enc_iso_2022_jp.specs.declared.iso_2022_jp.Escape.{Escape}
 use Rattle.enc_iso_2022_jp.specs.declared.iso_2022_jp.Escape.TheVariants.{ToAscii, ToRoman, ToKatakana, ToJis0208Of1978, ToJis0208Of1983}
 use Rattle.enc_machine.specs.Segmentation.{Head, head_sequence, sequences_of, one_byte_head, malformed_head}
-use Rattle.enc_iso_2022_jp.specs.Iso2022Jp.{set_number, set_of, set_named, designated, escape_head, ascii_char, katakana_char, one_byte_char, is_lead, is_jis0208_byte, two_byte_char, two_byte_head, lead_head, iso_2022_jp_rule as jp_rule}
-use Rattle.enc_iso_2022_jp.specs.Iso2022JpState.{escape_bytes, escape_set, ends_lead}
+use Rattle.enc_iso_2022_jp.specs.Iso2022Jp.{set_number, set_of, set_of_escape_bytes, designated_set, escape_head, ascii_char, katakana_char, one_byte_char, is_lead_byte, is_jis0208_byte, two_byte_char, two_byte_head, lead_byte_head, iso_2022_jp_rule as jp_rule}
+use Rattle.enc_iso_2022_jp.specs.Iso2022JpState.{escape_bytes, escape_set, cuts_off_lead}
 use Rattle.enc_machine.proofs.SegmentationLemmas.{sequences_of-head}
 
 pub set_of_number : (s : CharacterSet) → set_of (set_number s) ≡ s
@@ -22,8 +22,8 @@ set_of_number Jis0208 = refl
 pub differs : (a b : ℕ) → (a ≡ b → ⊥) → eqb a b ≡ false
 differs a b n = grind (arith, nat_tests)
 
-pub lead_in_jis0208 : (s : CharacterSet) (b : ℕ) → is_lead s b ≡ true → is_jis0208_byte b ≡ true
-unfolding is_lead
+pub lead_in_jis0208 : (s : CharacterSet) (b : ℕ) → is_lead_byte s b ≡ true → is_jis0208_byte b ≡ true
+unfolding is_lead_byte
 lead_in_jis0208 Ascii b e = cc
 lead_in_jis0208 Roman b e = cc
 lead_in_jis0208 Katakana b e = cc
@@ -33,7 +33,7 @@ in_jis0208 : (b : ℕ) → is_jis0208_byte b ≡ true → eqb b 0x1B ≡ false
 in_jis0208 b e = grind (arith, nat_tests)
 
 -- a lead byte begins no escape sequence
-pub lead_is_no_escape : (s : CharacterSet) (b : ℕ) → is_lead s b ≡ true → eqb b 0x1B ≡ false
+pub lead_is_no_escape : (s : CharacterSet) (b : ℕ) → is_lead_byte s b ≡ true → eqb b 0x1B ≡ false
 lead_is_no_escape s b e = in_jis0208 b (lead_in_jis0208 s b e)
 
 -- a byte with the high bit set is no character in any set, leads none, and begins no escape sequence
@@ -54,8 +54,8 @@ high_is_none Jis0208 b h = refl
 high_in_jis0208 : (b : ℕ) → 0x80 ≤ b → is_jis0208_byte b ≡ false
 high_in_jis0208 b h = grind (arith, nat_tests)
 
-pub high_leads_none : (s : CharacterSet) (b : ℕ) → 0x80 ≤ b → is_lead s b ≡ false
-unfolding is_lead
+pub high_leads_none : (s : CharacterSet) (b : ℕ) → 0x80 ≤ b → is_lead_byte s b ≡ false
+unfolding is_lead_byte
 high_leads_none Ascii b h = refl
 high_leads_none Roman b h = refl
 high_leads_none Katakana b h = refl
@@ -67,46 +67,47 @@ high_is_no_escape b h = differs b 0x1B (λ e. omega arith)
 -- what stands first
 
 pub escape_first : (set : ℕ) (z : List ℕ) (found : Option CharacterSet) (another : Bool)
-    → designated (0x1B ∷ z) ≡ found
-    → is_some (designated (drop 2 z)) ≡ another → jp_rule set 0x1B z ≡ escape_head set found another
+    → designated_set (0x1B ∷ z) ≡ found
+    → is_some (designated_set (drop 2 z)) ≡ another → jp_rule set 0x1B z ≡ escape_head set found another
 unfolding jp_rule
 escape_first set z found another e f =
-    ap (λ o. escape_head set o (is_some (designated (drop 2 z)))) e ∙ ap (escape_head set found) f
+    ap (λ o. escape_head set o (is_some (designated_set (drop 2 z)))) e ∙ ap (escape_head set found) f
 
-pub no_escape_first : (set : ℕ) (z : List ℕ) → designated (0x1B ∷ z) ≡ None
+pub no_escape_first : (set : ℕ) (z : List ℕ) → designated_set (0x1B ∷ z) ≡ None
     → jp_rule set 0x1B z ≡ malformed_head set 0
 no_escape_first set z e = escape_first set z None _ e refl
 
-pub lead_first : (set b : ℕ) (z : List ℕ) → is_lead (set_of set) b ≡ true → jp_rule set b z ≡ lead_head set b z
+pub lead_first : (set b : ℕ) (z : List ℕ) → is_lead_byte (set_of set) b ≡ true
+    → jp_rule set b z ≡ lead_byte_head set b z
 unfolding jp_rule
 lead_first set b z e = rw (lead_is_no_escape (set_of set) b e, e) refl
 
-pub alone_first : (set b : ℕ) (z : List ℕ) → is_lead (set_of set) b ≡ false → eqb b 0x1B ≡ false
+pub alone_first : (set b : ℕ) (z : List ℕ) → is_lead_byte (set_of set) b ≡ false → eqb b 0x1B ≡ false
     → jp_rule set b z ≡ one_byte_head set (one_byte_char (set_of set) b)
 unfolding jp_rule
 alone_first set b z l e = rw (e, l) refl
 
 -- a lead byte that nothing goes on with, and one with the byte behind it
 
-pub lead_alone : (set b : ℕ) (z : List ℕ) → ends_lead z ≡ true → lead_head set b z ≡ malformed_head set 0
+pub lead_alone : (set b : ℕ) (z : List ℕ) → cuts_off_lead z ≡ true → lead_byte_head set b z ≡ malformed_head set 0
 lead_alone set b [] e = refl
 lead_alone set b (c ∷ z) e = rw e refl
 
 pub lead_and_trail : (set b c : ℕ) (z : List ℕ) → eqb c 0x1B ≡ false
-    → lead_head set b (c ∷ z) ≡ two_byte_head set (two_byte_char b c)
+    → lead_byte_head set b (c ∷ z) ≡ two_byte_head set (two_byte_char b c)
 lead_and_trail set b c z e = rw e refl
 
 -- an escape sequence, by whether another follows it
 
-escape_at : (set b c : ℕ) (s : CharacterSet) (z : List ℕ) (another : Bool) → set_named b c ≡ Some s
-    → is_some (designated z) ≡ another
+escape_at : (set b c : ℕ) (s : CharacterSet) (z : List ℕ) (another : Bool) → set_of_escape_bytes b c ≡ Some s
+    → is_some (designated_set z) ≡ another
     → sequences_of jp_rule set (0x1B ∷ b ∷ c ∷ z)
     ≡ head_sequence (escape_head set (Some s) another) 0x1B (b ∷ c ∷ z)
     ∷ sequences_of jp_rule (escape_head set (Some s) another).set (drop (escape_head set (Some s) another).more (b ∷ c ∷ z))
 escape_at set b c s z another e f =
     sequences_of-head jp_rule set 0x1B (b ∷ c ∷ z) _ (escape_first set (b ∷ c ∷ z) (Some s) another e f)
 
-pub skipped_escape : (set : ℕ) (e : Escape) (z : List ℕ) → designated z ≡ None
+pub skipped_escape : (set : ℕ) (e : Escape) (z : List ℕ) → designated_set z ≡ None
     → sequences_of jp_rule set (escape_bytes e ++ z)
     ≡ record { bytes = escape_bytes e; text = []; kind = Skipped; set = set_number (escape_set e) }
     ∷ sequences_of jp_rule (set_number (escape_set e)) z
@@ -116,7 +117,7 @@ skipped_escape set ToKatakana z n = escape_at set 0x28 0x49 _ z false refl (ap i
 skipped_escape set ToJis0208Of1978 z n = escape_at set 0x24 0x40 _ z false refl (ap is_some n)
 skipped_escape set ToJis0208Of1983 z n = escape_at set 0x24 0x42 _ z false refl (ap is_some n)
 
-pub repeated_escape : (set : ℕ) (e : Escape) (z : List ℕ) (s : CharacterSet) → designated z ≡ Some s
+pub repeated_escape : (set : ℕ) (e : Escape) (z : List ℕ) (s : CharacterSet) → designated_set z ≡ Some s
     → sequences_of jp_rule set (escape_bytes e ++ z)
     ≡ record { bytes = escape_bytes e; text = 0xFFFD ∷ []; kind = RepeatedEscape; set = set_number (escape_set e) }
     ∷ sequences_of jp_rule (set_number (escape_set e)) z
@@ -127,7 +128,7 @@ repeated_escape set ToJis0208Of1978 z s n = escape_at set 0x24 0x40 _ z true ref
 repeated_escape set ToJis0208Of1983 z s n = escape_at set 0x24 0x42 _ z true refl (ap is_some n)
 
 -- the set that an escape sequence designates
-pub designated_by : (e : Escape) (z : List ℕ) → designated (escape_bytes e ++ z) ≡ Some (escape_set e)
+pub designated_by : (e : Escape) (z : List ℕ) → designated_set (escape_bytes e ++ z) ≡ Some (escape_set e)
 designated_by ToAscii z = refl
 designated_by ToRoman z = refl
 designated_by ToKatakana z = refl
@@ -151,7 +152,7 @@ either_form : (t : Bool) (h k : Head) (z : List ℕ) → HasForm z h → HasForm
 either_form true h k z p q = p
 either_form false h k z p q = q
 
-lead_form : (set lead : ℕ) (z : List ℕ) → HasForm z (lead_head set lead z)
+lead_form : (set lead : ℕ) (z : List ℕ) → HasForm z (lead_byte_head set lead z)
 lead_form set lead [] = (omega arith, inr (0xFFFD, refl))
 lead_form set lead (b ∷ z) =
     either_form (eqb b 0x1B) (malformed_head set 0) (two_byte_head set (two_byte_char lead b)) (b ∷ z)
@@ -164,13 +165,13 @@ escape_form set (Some s) true b c z = (omega arith, inr (0xFFFD, refl))
 escape_form set (Some s) false b c z = (omega arith, inl refl)
 
 escaping_form : (set a : ℕ) (z : List ℕ)
-    → HasForm z (escape_head set (designated (a ∷ z)) (is_some (designated (drop 2 z))))
+    → HasForm z (escape_head set (designated_set (a ∷ z)) (is_some (designated_set (drop 2 z))))
 escaping_form set a [] = (omega arith, inr (0xFFFD, refl))
 escaping_form set a (b ∷ []) = (omega arith, inr (0xFFFD, refl))
-escaping_form set a (b ∷ c ∷ z) = escape_form set (designated (a ∷ b ∷ c ∷ z)) (is_some (designated z)) b c z
+escaping_form set a (b ∷ c ∷ z) = escape_form set (designated_set (a ∷ b ∷ c ∷ z)) (is_some (designated_set z)) b c z
 
 pub has_form : (set b : ℕ) (z : List ℕ) → HasForm z (jp_rule set b z)
 unfolding jp_rule
 has_form set b z =
     either_form (eqb b 0x1B) _ _ z (escaping_form set b z)
-    (either_form (is_lead (set_of set) b) _ _ z (lead_form set b z) (one_byte_form set (one_byte_char (set_of set) b) z))
+    (either_form (is_lead_byte (set_of set) b) _ _ z (lead_form set b z) (one_byte_form set (one_byte_char (set_of set) b) z))

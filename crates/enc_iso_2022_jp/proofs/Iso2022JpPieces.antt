@@ -12,13 +12,13 @@ use Rattle.enc_iso_2022_jp.specs.declared.iso_2022_jp.Escape.{Escape}
 use Rattle.enc_iso_2022_jp.specs.declared.iso_2022_jp.Escape.TheVariants.{ToAscii, ToRoman, ToKatakana, ToJis0208Of1978, ToJis0208Of1983}
 use Rattle.enc_machine.specs.Sequence.{Sequence}
 use Rattle.enc_machine.specs.Segmentation.{sequences_of}
-use Rattle.enc_iso_2022_jp.specs.Iso2022Jp.{set_number, designated, is_lead, one_byte_char, two_byte_char, iso_2022_jp_rule as jp_rule}
-use Rattle.enc_iso_2022_jp.specs.Iso2022JpState.{Iso2022JpState, holding, intermediate_byte, escape_bytes, escape_set, held_bytes, StandsAlone, iso_2022_jp_state as jp_state}
-use Rattle.enc_machine.specs.Taking.{TakesRun, IsPiece}
+use Rattle.enc_iso_2022_jp.specs.Iso2022Jp.{set_number, designated_set, is_lead_byte, one_byte_char, two_byte_char, iso_2022_jp_rule as jp_rule}
+use Rattle.enc_iso_2022_jp.specs.Iso2022JpState.{Iso2022JpState, state_with_held, intermediate_byte, escape_bytes, escape_set, bytes_of_held, StandsAlone, iso_2022_jp_state as jp_state}
+use Rattle.enc_machine.specs.Taking.{TakesRun, IsWholeChar}
 use Rattle.enc_machine.proofs.SegmentationLemmas.{sequences_of-head}
 use Rattle.enc_machine.proofs.TakingLemmas.{front}
 use Rattle.enc_machine.proofs.PieceLemmas.{takes_pieces, three_of}
-use Rattle.enc_machine.proofs.ToldLemmas.{true_or_false}
+use Rattle.enc_machine.proofs.FirstSequenceLemmas.{true_or_false}
 use Rattle.enc_iso_2022_jp.proofs.Iso2022JpLemmas.{skipped_escape}
 use Rattle.enc_iso_2022_jp.proofs.Iso2022JpRule.{is_escape_byte, other_front}
 use Rattle.enc_iso_2022_jp.proofs.Iso2022JpComes.{alone, pair}
@@ -53,10 +53,10 @@ other_behind lead b c e = elim (true_or_false (eqb b 0x1B)) [
 
 -- a byte that is a character, and two
 
-pub alone_piece : (s : CharacterSet) (b c : ℕ) → one_byte_char s b ≡ Some c → is_lead s b ≡ false → IsPiece jp_rule (set_number s) (b ∷ []) c
+pub alone_piece : (s : CharacterSet) (b c : ℕ) → one_byte_char s b ≡ Some c → is_lead_byte s b ≡ false → IsWholeChar jp_rule (set_number s) (b ∷ []) c
 alone_piece s b c e l y = sequences_of-head jp_rule (set_number s) b y _ (alone s b (Some c) (sym e) l (other_alone s b c e) y)
 
-pub pair_piece : (s : CharacterSet) (lead b c : ℕ) → two_byte_char lead b ≡ Some c → is_lead s lead ≡ true → IsPiece jp_rule (set_number s) (lead ∷ b ∷ []) c
+pub pair_piece : (s : CharacterSet) (lead b c : ℕ) → two_byte_char lead b ≡ Some c → is_lead_byte s lead ≡ true → IsWholeChar jp_rule (set_number s) (lead ∷ b ∷ []) c
 pair_piece s lead b c e l y =
     sequences_of-head jp_rule (set_number s) lead (b ∷ y) _ (pair s lead b (Some c) (sym e) l (other_behind lead b c e) y)
 
@@ -88,8 +88,8 @@ stands_alone src i (Some e) l first second other s =
     }
 
 behind_escape : (units_of : ℕ → List ℕ) (s : CharacterSet) (e : Escape) (n : Iso2022JpState) (src : List ℕ) (more : ℕ) (before after : Output)
-    → StandsAlone src e → 0 < more → TakesRun units_of jp_state (holding (escape_set e) None) n (drop 3 src) more before after
-    → TakesRun units_of jp_state (holding s None) n src (3 + more) before after
+    → StandsAlone src e → 0 < more → TakesRun units_of jp_state (state_with_held (escape_set e) None) n (drop 3 src) more before after
+    → TakesRun units_of jp_state (state_with_held s None) n src (3 + more) before after
 behind_escape units_of s e n src more before after a h t =
     let three = ap (take 3) a.bytes ∙ (three_first e (a.byte ∷ a.rest)).0 in
     let f = front more (drop 3 src) a.byte a.rest h (ap (drop 3) a.bytes ∙ (three_first e (a.byte ∷ a.rest)).1) in
@@ -100,7 +100,7 @@ behind_escape units_of s e n src more before after a h t =
       bytes = ap (λ z. escape_bytes e ++ z) t.bytes ∙ ap (λ x. x ++ bytes) (sym three) ∙ sym (take-add 3 more src);
       first = λ y. ap (sequences_of jp_rule (set_number s)) (ap (λ x. x ++ y) (take-add 3 more src) ∙ append_assoc (take 3 src) bytes y
           ∙ ap (λ x. x ++ (bytes ++ y)) three)
-          ∙ skipped_escape (set_number s) e (bytes ++ y) (ap (λ x. designated (x ++ y)) f.1 ∙ other_front a.byte (f.0 ++ y) a.other)
+          ∙ skipped_escape (set_number s) e (bytes ++ y) (ap (λ x. designated_set (x ++ y)) f.1 ∙ other_front a.byte (f.0 ++ y) a.other)
           ∙ ap (λ ss. skipped e ∷ ss) (t.first y);
       behind = t.behind;
       none_malformed = t.none_malformed;
@@ -113,10 +113,10 @@ behind_escape units_of s e n src more before after a h t =
 
 -- An escape sequence is taken with the pieces behind it.
 pub takes_escape : (units_of : ℕ → List ℕ) (c n : Iso2022JpState) (e : Escape) (src rest : List ℕ) (more : ℕ) (before after : Output)
-    → c.held ≡ None → n ≡ holding (escape_set e) None → rest ≡ drop 3 src → StandsAlone src e → 0 < more
-    → PutsPieces units_of (IsPiece jp_rule (set_number n.set)) before after rest more → TakesRun units_of jp_state c n src (3 + more) before after
+    → c.held ≡ None → n ≡ state_with_held (escape_set e) None → rest ≡ drop 3 src → StandsAlone src e → 0 < more
+    → PutsPieces units_of (IsWholeChar jp_rule (set_number n.set)) before after rest more → TakesRun units_of jp_state c n src (3 + more) before after
 takes_escape units_of c n e src rest more before after held next back a h p =
-    let t = takes_pieces units_of jp_state n rest more before after (ap (λ (s : Iso2022JpState). held_bytes s.held) next) p in
+    let t = takes_pieces units_of jp_state n rest more before after (ap (λ (s : Iso2022JpState). bytes_of_held s.held) next) p in
     let u = subst (λ (m : Iso2022JpState). TakesRun units_of jp_state m n rest more before after) next t in
-    subst (λ o. TakesRun units_of jp_state (holding c.set o) n src (3 + more) before after) (sym held)
-    (behind_escape units_of c.set e n src more before after a h (subst (λ z. TakesRun units_of jp_state (holding (escape_set e) None) n z more before after) back u))
+    subst (λ o. TakesRun units_of jp_state (state_with_held c.set o) n src (3 + more) before after) (sym held)
+    (behind_escape units_of c.set e n src more before after a h (subst (λ z. TakesRun units_of jp_state (state_with_held (escape_set e) None) n z more before after) back u))

@@ -3,32 +3,32 @@ use Rattle.std.proofs.Common.{◌≡◌, ℕ, Bool, true, false, eqb, Option, So
 use Rattle.std.proofs.lemmas.List.{take-append-drop}
 use Rattle.std.specs.Option.{is_some}
 use Rattle.enc_iso_2022_jp.specs.declared.iso_2022_jp.CharacterSet.{CharacterSet}
-use Rattle.enc_machine.specs.Sequence.{Sequence, bytes_of, set_after}
+use Rattle.enc_machine.specs.Sequence.{Sequence, sequence_bytes, set_after}
 use Rattle.enc_machine.specs.Segmentation.{Head, head_sequence, sequences_of, one_byte_head, malformed_head}
-use Rattle.enc_iso_2022_jp.specs.Iso2022Jp.{set_number, set_of, set_named, designated, escape_head, is_lead, one_byte_char, two_byte_char, two_byte_head, iso_2022_jp_rule as jp_rule}
-use Rattle.enc_iso_2022_jp.specs.Iso2022JpLaws.{later_or, last_designated, number_or, SetsAreOfLastEscapes}
+use Rattle.enc_iso_2022_jp.specs.Iso2022Jp.{set_number, set_of, set_of_escape_bytes, designated_set, escape_head, is_lead_byte, one_byte_char, two_byte_char, two_byte_head, iso_2022_jp_rule as jp_rule}
+use Rattle.enc_iso_2022_jp.specs.Iso2022JpLaws.{later_set_or, last_designated_set, set_number_or, SetsAreOfLastEscapes}
 use Rattle.enc_machine.proofs.SegmentationLemmas.{sequences_of-cons, sequences_of-nil}
-use Rattle.enc_machine.proofs.ToldLemmas.{true_or_false}
+use Rattle.enc_machine.proofs.FirstSequenceLemmas.{true_or_false}
 use Rattle.enc_iso_2022_jp.proofs.Iso2022JpLemmas.{lead_is_no_escape, escape_first, no_escape_first, lead_first, alone_first, lead_alone, lead_and_trail}
 use Rattle.enc_iso_2022_jp.proofs.Iso2022JpRule.{is_escape_byte, other_front, found_or_not}
 
 -- the last escape sequence, by what stands in front
 
-later_or-none : (o : Option CharacterSet) → later_or o None ≡ o
-later_or-none None = refl
-later_or-none (Some s) = refl
+later_set_or-none : (o : Option CharacterSet) → later_set_or o None ≡ o
+later_set_or-none None = refl
+later_set_or-none (Some s) = refl
 
 -- a byte where none begins
-no_escape : (b : ℕ) (w : List ℕ) → designated (b ∷ w) ≡ None → last_designated (b ∷ w) ≡ last_designated w
-unfolding last_designated
-no_escape b w e = ap (later_or (last_designated w)) e ∙ later_or-none (last_designated w)
+no_escape : (b : ℕ) (w : List ℕ) → designated_set (b ∷ w) ≡ None → last_designated_set (b ∷ w) ≡ last_designated_set w
+unfolding last_designated_set
+no_escape b w e = ap (later_set_or (last_designated_set w)) e ∙ later_set_or-none (last_designated_set w)
 
-other_byte : (b : ℕ) (w : List ℕ) → eqb b 0x1B ≡ false → last_designated (b ∷ w) ≡ last_designated w
+other_byte : (b : ℕ) (w : List ℕ) → eqb b 0x1B ≡ false → last_designated_set (b ∷ w) ≡ last_designated_set w
 other_byte b w n = no_escape b w (other_front b w n)
 
 -- 1B is neither the second byte of an escape sequence nor the third
 
-no_third : (a : ℕ) → set_named a 0x1B ≡ None
+no_third : (a : ℕ) → set_of_escape_bytes a 0x1B ≡ None
 no_third a = elim (true_or_false (eqb a 0x28)) [
   | inl t ↦ rw t refl
   | inr t ↦ elim (true_or_false (eqb a 0x24)) [ inl d ↦ rw (t, d) refl | inr d ↦ rw (t, d) refl ]
@@ -37,32 +37,32 @@ no_third a = elim (true_or_false (eqb a 0x28)) [
 none_named : (s : CharacterSet) → None ≡ Some s → ⊥
 none_named s e = cc
 
-named_second : (a c : ℕ) (s : CharacterSet) → set_named a c ≡ Some s → eqb a 0x1B ≡ false
+named_second : (a c : ℕ) (s : CharacterSet) → set_of_escape_bytes a c ≡ Some s → eqb a 0x1B ≡ false
 named_second a c s e = elim (true_or_false (eqb a 0x1B)) [
-  | inl t ↦ absurd (none_named s (ap (λ x. set_named x c) (sym (is_escape_byte a t)) ∙ e))
+  | inl t ↦ absurd (none_named s (ap (λ x. set_of_escape_bytes x c) (sym (is_escape_byte a t)) ∙ e))
   | inr n ↦ n
 ]
 
-named_third : (a c : ℕ) (s : CharacterSet) → set_named a c ≡ Some s → eqb c 0x1B ≡ false
+named_third : (a c : ℕ) (s : CharacterSet) → set_of_escape_bytes a c ≡ Some s → eqb c 0x1B ≡ false
 named_third a c s e = elim (true_or_false (eqb c 0x1B)) [
-  | inl t ↦ absurd (none_named s (sym (no_third a) ∙ ap (set_named a) (sym (is_escape_byte c t)) ∙ e))
+  | inl t ↦ absurd (none_named s (sym (no_third a) ∙ ap (set_of_escape_bytes a) (sym (is_escape_byte c t)) ∙ e))
   | inr n ↦ n
 ]
 
-whole_escape : (a c : ℕ) (s : CharacterSet) (w : List ℕ) → set_named a c ≡ Some s
-    → last_designated (0x1B ∷ a ∷ c ∷ w) ≡ later_or (last_designated w) (Some s)
-unfolding last_designated
+whole_escape : (a c : ℕ) (s : CharacterSet) (w : List ℕ) → set_of_escape_bytes a c ≡ Some s
+    → last_designated_set (0x1B ∷ a ∷ c ∷ w) ≡ later_set_or (last_designated_set w) (Some s)
+unfolding last_designated_set
 whole_escape a c s w e =
-    ap (λ o. later_or o (set_named a c)) (other_byte a (c ∷ w) (named_second a c s e) ∙ other_byte c w (named_third a c s e))
-    ∙ ap (later_or (last_designated w)) e
+    ap (λ o. later_set_or o (set_of_escape_bytes a c)) (other_byte a (c ∷ w) (named_second a c s e) ∙ other_byte c w (named_third a c s e))
+    ∙ ap (later_set_or (last_designated_set w)) e
 
 number_behind : (set : ℕ) (o : Option CharacterSet) (s : CharacterSet)
-    → number_or set (later_or o (Some s)) ≡ number_or (set_number s) o
+    → set_number_or set (later_set_or o (Some s)) ≡ set_number_or (set_number s) o
 number_behind set None s = refl
 number_behind set (Some t) s = refl
 
 -- fewer bytes name no escape sequence that more bytes don't
-fewer : (x y : List ℕ) → designated (x ++ y) ≡ None → designated x ≡ None
+fewer : (x y : List ℕ) → designated_set (x ++ y) ≡ None → designated_set x ≡ None
 fewer [] y e = refl
 fewer (a ∷ []) y e = refl
 fewer (a ∷ b ∷ []) y e = refl
@@ -72,31 +72,33 @@ fewer (a ∷ b ∷ c ∷ x) y e = e
 -- the bytes w behind it.
 abbrev TellsSet : ℕ → ℕ → List ℕ → Head → Type 0
 TellsSet set b z h = (w v : List ℕ) → drop h.more z ≡ w ++ v
-    → number_or h.set (last_designated w) ≡ number_or set (last_designated (b ∷ (take h.more z ++ w)))
+    → set_number_or h.set (last_designated_set w) ≡ set_number_or set (last_designated_set (b ∷ (take h.more z ++ w)))
 
 one_byte : (set b : ℕ) (z : List ℕ) (found : Option ℕ) → eqb b 0x1B ≡ false
     → TellsSet set b z (one_byte_head set found)
-one_byte set b z None n w v e = ap (number_or set) (sym (other_byte b w n))
-one_byte set b z (Some c) n w v e = ap (number_or set) (sym (other_byte b w n))
+one_byte set b z None n w v e = ap (set_number_or set) (sym (other_byte b w n))
+one_byte set b z (Some c) n w v e = ap (set_number_or set) (sym (other_byte b w n))
 
 two_bytes : (set b c : ℕ) (z : List ℕ) (found : Option ℕ) → eqb b 0x1B ≡ false → eqb c 0x1B ≡ false
     → TellsSet set b (c ∷ z) (two_byte_head set found)
-two_bytes set b c z None n m w v e = ap (number_or set) (sym (other_byte b (c ∷ w) n ∙ other_byte c w m))
-two_bytes set b c z (Some d) n m w v e = ap (number_or set) (sym (other_byte b (c ∷ w) n ∙ other_byte c w m))
+two_bytes set b c z None n m w v e = ap (set_number_or set) (sym (other_byte b (c ∷ w) n ∙ other_byte c w m))
+two_bytes set b c z (Some d) n m w v e = ap (set_number_or set) (sym (other_byte b (c ∷ w) n ∙ other_byte c w m))
 
 alone_malformed : (set b : ℕ) (z : List ℕ) → eqb b 0x1B ≡ false → TellsSet set b z (malformed_head set 0)
-alone_malformed set b z n w v e = ap (number_or set) (sym (other_byte b w n))
+alone_malformed set b z n w v e = ap (set_number_or set) (sym (other_byte b w n))
 
-escape_malformed : (set : ℕ) (z : List ℕ) → designated (0x1B ∷ z) ≡ None → TellsSet set 0x1B z (malformed_head set 0)
+escape_malformed : (set : ℕ) (z : List ℕ) → designated_set (0x1B ∷ z) ≡ None
+    → TellsSet set 0x1B z (malformed_head set 0)
 escape_malformed set z n w v e =
-    ap (number_or set) (sym (no_escape 0x1B w (fewer (0x1B ∷ w) v (ap (λ x. designated (0x1B ∷ x)) (sym e) ∙ n))))
+    ap (set_number_or set)
+    (sym (no_escape 0x1B w (fewer (0x1B ∷ w) v (ap (λ x. designated_set (0x1B ∷ x)) (sym e) ∙ n))))
 
-escape : (set a c : ℕ) (z : List ℕ) (s : CharacterSet) (another : Bool) → set_named a c ≡ Some s
+escape : (set a c : ℕ) (z : List ℕ) (s : CharacterSet) (another : Bool) → set_of_escape_bytes a c ≡ Some s
     → TellsSet set 0x1B (a ∷ c ∷ z) (escape_head set (Some s) another)
 escape set a c z s true n w v e =
-    sym (ap (number_or set) (whole_escape a c s w n) ∙ number_behind set (last_designated w) s)
+    sym (ap (set_number_or set) (whole_escape a c s w n) ∙ number_behind set (last_designated_set w) s)
 escape set a c z s false n w v e =
-    sym (ap (number_or set) (whole_escape a c s w n) ∙ number_behind set (last_designated w) s)
+    sym (ap (set_number_or set) (whole_escape a c s w n) ∙ number_behind set (last_designated_set w) s)
 
 -- every sequence
 
@@ -104,19 +106,19 @@ tells_by : (set b : ℕ) (z : List ℕ) (h : Head) → jp_rule set b z ≡ h →
     → TellsSet set b z (jp_rule set b z)
 tells_by set b z h e t = subst (TellsSet set b z) (sym e) t
 
-not_begun : (set : ℕ) (z : List ℕ) → designated (0x1B ∷ z) ≡ None → TellsSet set 0x1B z (jp_rule set 0x1B z)
+not_begun : (set : ℕ) (z : List ℕ) → designated_set (0x1B ∷ z) ≡ None → TellsSet set 0x1B z (jp_rule set 0x1B z)
 not_begun set z n = tells_by set 0x1B z _ (no_escape_first set z n) (escape_malformed set z n)
 
 escape_tells : (set : ℕ) (z : List ℕ) → TellsSet set 0x1B z (jp_rule set 0x1B z)
 escape_tells set [] = not_begun set [] refl
 escape_tells set (a ∷ []) = not_begun set (a ∷ []) refl
-escape_tells set (a ∷ c ∷ z) = elim (found_or_not (set_named a c)) [
+escape_tells set (a ∷ c ∷ z) = elim (found_or_not (set_of_escape_bytes a c)) [
   | inl n ↦ not_begun set (a ∷ c ∷ z) n
-  | inr f ↦ (let t = is_some (designated z) in
+  | inr f ↦ (let t = is_some (designated_set z) in
       tells_by set 0x1B (a ∷ c ∷ z) _ (escape_first set (a ∷ c ∷ z) (Some f.0) t f.1 refl) (escape set a c z f.0 t f.1))
 ]
 
-lead_tells : (set b : ℕ) (z : List ℕ) → is_lead (set_of set) b ≡ true → TellsSet set b z (jp_rule set b z)
+lead_tells : (set b : ℕ) (z : List ℕ) → is_lead_byte (set_of set) b ≡ true → TellsSet set b z (jp_rule set b z)
 lead_tells set b [] l =
     tells_by set b [] _ (lead_first set b [] l) (alone_malformed set b [] (lead_is_no_escape (set_of set) b l))
 lead_tells set b (c ∷ z) l =
@@ -130,7 +132,7 @@ lead_tells set b (c ∷ z) l =
 tells : (set b : ℕ) (z : List ℕ) → TellsSet set b z (jp_rule set b z)
 tells set b z = elim (true_or_false (eqb b 0x1B)) [
   | inl t ↦ subst (λ (e : ℕ). TellsSet set e z (jp_rule set e z)) (sym (is_escape_byte b t)) (escape_tells set z)
-  | inr n ↦ elim (true_or_false (is_lead (set_of set) b)) [
+  | inr n ↦ elim (true_or_false (is_lead_byte (set_of set) b)) [
     | inl l ↦ lead_tells set b z l
     | inr l ↦ tells_by set b z _ (alone_first set b z l n) (one_byte set b z (one_byte_char (set_of set) b) n)
   ]
@@ -139,7 +141,7 @@ tells set b z = elim (true_or_false (eqb b 0x1B)) [
 -- Sequences that come first: their bytes are in front, and the set behind them is that of their last escape sequence.
 abbrev HasSet : ℕ → List ℕ → List Sequence → Type 0
 HasSet set z before =
-    ((v : List ℕ) × (z ≡ bytes_of before ++ v)) × (set_after set before ≡ number_or set (last_designated (bytes_of before)))
+    ((v : List ℕ) × (z ≡ sequence_bytes before ++ v)) × (set_after set before ≡ set_number_or set (last_designated_set (sequence_bytes before)))
 
 first_of : (s t : Sequence) (ss ts : List Sequence) → s ∷ ss ≡ t ∷ ts → s ≡ t
 first_of s t ss ts e = cc
@@ -152,14 +154,14 @@ none_first s ss e = cc
 
 sets : (set : ℕ) (z : List ℕ) (before behind : List Sequence) → sequences_of jp_rule set z ≡ before ++ behind
     → HasSet set z before
-unfolding last_designated
+unfolding last_designated_set
 sets set z [] behind e = ((z, refl), refl)
 sets set [] (s ∷ before) behind e = absurd (none_first s (before ++ behind) (sym (sequences_of-nil jp_rule set) ∙ e))
 sets set (b ∷ z) (s ∷ before) behind e =
     let h : Head = jp_rule set b z in
     let g = sym (sequences_of-cons jp_rule set b z) ∙ e in
     let k = sets h.set (drop h.more z) before behind (rest_of (head_sequence h b z) s _ (before ++ behind) g) in
-    let w = bytes_of before in
+    let w = sequence_bytes before in
     subst (λ (t : Sequence). HasSet set (b ∷ z) (t ∷ before)) (first_of (head_sequence h b z) s _ (before ++ behind) g) (
       (
         k.0.0,

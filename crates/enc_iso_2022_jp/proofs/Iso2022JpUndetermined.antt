@@ -11,15 +11,15 @@ use Rattle.enc_iso_2022_jp.specs.declared.iso_2022_jp.Held.TheVariants.{GivenBac
 use Rattle.enc_machine.specs.Segmentation.{sequences_of}
 use Rattle.enc_machine.specs.Remainder.{IsUndetermined}
 use Rattle.enc_machine.specs.CodecState.{remainder_of}
-use Rattle.enc_machine.specs.RuleLaws.{IsToldByEnd}
+use Rattle.enc_machine.specs.RuleLaws.{IsDeterminedByEnd}
 use Rattle.enc_iso_2022_jp.specs.Iso2022Jp.{set_number, iso_2022_jp_rule as jp_rule}
-use Rattle.enc_iso_2022_jp.specs.Iso2022JpState.{holding, escape_bytes, intermediate_byte, CanHold, iso_2022_jp_state as jp_state}
-use Rattle.enc_machine.proofs.ToldLemmas.{undetermined_by_end}
+use Rattle.enc_iso_2022_jp.specs.Iso2022JpState.{state_with_held, escape_bytes, intermediate_byte, CanHold, iso_2022_jp_state as jp_state}
+use Rattle.enc_machine.proofs.FirstSequenceLemmas.{undetermined_by_end}
 use Rattle.enc_iso_2022_jp.proofs.Iso2022JpLemmas.{set_of_number, has_form}
 use Rattle.enc_iso_2022_jp.proofs.Iso2022JpRule.{MayBegin, nothing_begins, one_begins, two_begin, begun_by_end, escape_by_end, lead_by_end}
 
 -- bytes of which only the end makes a sequence
-by_end : (set b : ℕ) (z : List ℕ) → IsToldByEnd jp_rule set b z
+by_end : (set b : ℕ) (z : List ℕ) → IsDeterminedByEnd jp_rule set b z
     → IsUndetermined (λ y. sequences_of jp_rule set (b ∷ (z ++ y)))
 by_end set b z t = undetermined_by_end jp_rule set b z (λ y. (has_form set b y).0) t
 
@@ -44,7 +44,7 @@ started Parenthesis = two_begin 0x28 Ascii refl
 started Dollar = two_begin 0x24 Jis0208 refl
 
 pub undetermined : (set : CharacterSet) (held : Held) → CanHold set (Some held) → ((b : ℕ) → held ≡ GivenBack b → ⊥)
-    → IsUndetermined (remainder_of (jp_state (holding set (Some held)))).sequences
+    → IsUndetermined (remainder_of (jp_state (state_with_held set (Some held)))).sequences
 undetermined set (GivenBack b) c n = absurd (n b refl)
 undetermined set (Lead b) c n =
     by_end (set_number set) b [] (lead_by_end (set_number set) b (rw set_of_number c))

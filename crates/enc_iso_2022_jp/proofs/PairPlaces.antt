@@ -10,10 +10,10 @@ use Rattle.enc_index.proofs.PlaceLemmas.{tabulates, row_in, column_in, row_place
 use Rattle.enc_iso_2022_jp.specs.declared.places.TheConstants.{JIS0208_PLACES}
 use Rattle.enc_iso_2022_jp.specs.declared.iso_2022_jp.CharacterSet.{CharacterSet}
 use Rattle.enc_iso_2022_jp.specs.declared.iso_2022_jp.CharacterSet.TheVariants.{Jis0208 as InPairs}
-use Rattle.enc_iso_2022_jp.specs.Iso2022Jp.{is_jis0208_byte, two_byte_char, is_lead, set_number, iso_2022_jp_rule}
+use Rattle.enc_iso_2022_jp.specs.Iso2022Jp.{is_jis0208_byte, two_byte_char, is_lead_byte, set_number, iso_2022_jp_rule}
 use Rattle.enc_iso_2022_jp.proofs.Iso2022JpPieces.{pair_piece}
 use Rattle.enc_units.specs.Pairs.{byte_or_pair}
-use Rattle.enc_machine.specs.Taking.{IsPiece}
+use Rattle.enc_machine.specs.Taking.{IsWholeChar}
 
 -- the number of a byte
 abbrev number : ℕ → ℕ
@@ -49,14 +49,14 @@ pair_found a b c l m e =
     let same : (a - 0x21) * 94 + (b - 0x21) ≡ (number a + 0) * 94 + number b = omega arith in
     (f.lead, cond-true (is_jis0208_byte b) (jis0208_at ((a - 0x21) * 94 + (b - 0x21))) None f.trail ∙ ap jis0208_at same ∙ f.is)
 
-leads : (set : CharacterSet) (a : ℕ) → set ≡ InPairs → is_jis0208_byte a ≡ true → is_lead set a ≡ true
-unfolding is_lead
-leads set a e h = subst (λ s. is_lead s a ≡ true) (sym e) h
+leads : (set : CharacterSet) (a : ℕ) → set ≡ InPairs → is_jis0208_byte a ≡ true → is_lead_byte set a ≡ true
+unfolding is_lead_byte
+leads set a e h = subst (λ s. is_lead_byte s a ≡ true) (sym e) h
 
 -- the bytes of a place, where the set has pairs
 pub place_means : (set : CharacterSet) (t u : Bool) (a b c : ℕ) → (u ≡ true → set ≡ InPairs) → t && u ≡ true
     → is_jis0208_byte a ≡ true
-    → two_byte_char a b ≡ Some c → IsPiece iso_2022_jp_rule (set_number set) (byte_or_pair t a b) c
+    → two_byte_char a b ≡ Some c → IsWholeChar iso_2022_jp_rule (set_number set) (byte_or_pair t a b) c
 place_means set t u a b c h both lead e =
     let p = and_parts t u both in
-    subst (λ x. IsPiece iso_2022_jp_rule (set_number set) (byte_or_pair x a b) c) (sym p.0) (pair_piece set a b c e (leads set a (h p.1) lead))
+    subst (λ x. IsWholeChar iso_2022_jp_rule (set_number set) (byte_or_pair x a b) c) (sym p.0) (pair_piece set a b c e (leads set a (h p.1) lead))

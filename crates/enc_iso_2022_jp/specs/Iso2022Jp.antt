@@ -17,19 +17,19 @@ abbrev pub set_of : ℕ → CharacterSet
 set_of set = if set == 1 then Roman else if set == 2 then Katakana else if set == 3 then Jis0208 else Ascii
 
 -- the set that an escape sequence designates, by its second and its third byte
-abbrev pub set_named : ℕ → ℕ → Option CharacterSet
-set_named b c =
+abbrev pub set_of_escape_bytes : ℕ → ℕ → Option CharacterSet
+set_of_escape_bytes b c =
     if b == 0x28 then
     if c == 0x42 then Some Ascii else if c == 0x4A then Some Roman else if c == 0x49 then Some Katakana else None
     else if b == 0x24 && (c == 0x40 || c == 0x42) then Some Jis0208
     else None
 
 -- the set that the escape sequence at the front designates, if one stands there
-abbrev pub designated : List ℕ → Option CharacterSet
-designated [] = None
-designated (a ∷ []) = None
-designated (a ∷ b ∷ []) = None
-designated (a ∷ b ∷ c ∷ z) = if a == 0x1B then set_named b c else None
+abbrev pub designated_set : List ℕ → Option CharacterSet
+designated_set [] = None
+designated_set (a ∷ []) = None
+designated_set (a ∷ b ∷ []) = None
+designated_set (a ∷ b ∷ c ∷ z) = if a == 0x1B then set_of_escape_bytes b c else None
 
 -- An escape sequence is skipped, but malformed where another follows directly. The byte 1B where none begins is
 -- malformed alone, and the bytes behind it are read in the set in force.
@@ -61,11 +61,11 @@ abbrev pub is_jis0208_byte : ℕ → Bool
 is_jis0208_byte b = nat_le 0x21 b && nat_le b 0x7E
 
 -- whether a byte begins a character of two bytes
-unfoldable pub is_lead : CharacterSet → ℕ → Bool
-is_lead Ascii b = false
-is_lead Roman b = false
-is_lead Katakana b = false
-is_lead Jis0208 b = is_jis0208_byte b
+unfoldable pub is_lead_byte : CharacterSet → ℕ → Bool
+is_lead_byte Ascii b = false
+is_lead_byte Roman b = false
+is_lead_byte Katakana b = false
+is_lead_byte Jis0208 b = is_jis0208_byte b
 
 -- the character of a lead byte and the byte behind it
 unfoldable pub two_byte_char : ℕ → ℕ → Option ℕ
@@ -78,13 +78,13 @@ two_byte_head set None = malformed_head set 1
 
 -- A lead byte is malformed alone at the end and before 1B, and else makes a character with the byte behind it, or
 -- is malformed with it.
-abbrev pub lead_head : ℕ → ℕ → List ℕ → Head
-lead_head set lead [] = malformed_head set 0
-lead_head set lead (b ∷ z) = if b == 0x1B then malformed_head set 0 else two_byte_head set (two_byte_char lead b)
+abbrev pub lead_byte_head : ℕ → ℕ → List ℕ → Head
+lead_byte_head set lead [] = malformed_head set 0
+lead_byte_head set lead (b ∷ z) = if b == 0x1B then malformed_head set 0 else two_byte_head set (two_byte_char lead b)
 
 -- what stands first, in the set of this number
 unfoldable pub iso_2022_jp_rule : Rule
 iso_2022_jp_rule set b z =
-    if b == 0x1B then escape_head set (designated (b ∷ z)) (is_some (designated (drop 2 z)))
-    else if is_lead (set_of set) b then lead_head set b z
+    if b == 0x1B then escape_head set (designated_set (b ∷ z)) (is_some (designated_set (drop 2 z)))
+    else if is_lead_byte (set_of set) b then lead_byte_head set b z
     else one_byte_head set (one_byte_char (set_of set) b)

@@ -2,7 +2,7 @@
 use Rattle.std.specs.Prelude.{◌≡◌, ℕ, Bool, true, false, ◌==◌, Option, Some, None, List, [], ◌∷◌, ◌++◌}
 use Rattle.enc_machine.specs.declared.byte_codec.Kind.TheVariants.{Valid, Malformed}
 use Rattle.enc_machine.specs.declared.byte_codec.Text.TheVariants.{One}
-use Rattle.enc_machine.specs.declared.byte_codec.Shown.{Shown}
+use Rattle.enc_machine.specs.declared.byte_codec.Emission.{Emission}
 use Rattle.enc_iso_2022_jp.specs.declared.iso_2022_jp.CharacterSet.{CharacterSet}
 use Rattle.enc_iso_2022_jp.specs.declared.iso_2022_jp.CharacterSet.TheVariants.{Ascii, Roman, Katakana, Jis0208}
 use Rattle.enc_iso_2022_jp.specs.declared.iso_2022_jp.Intermediate.{Intermediate}
@@ -12,15 +12,15 @@ use Rattle.enc_iso_2022_jp.specs.declared.iso_2022_jp.Escape.TheVariants.{ToAsci
 use Rattle.enc_iso_2022_jp.specs.declared.iso_2022_jp.Held.{Held}
 use Rattle.enc_iso_2022_jp.specs.declared.iso_2022_jp.Held.TheVariants.{GivenBack, Lead, Whole, Start, Started}
 use Rattle.enc_machine.specs.CodecState.{CodecState}
-use Rattle.enc_iso_2022_jp.specs.Iso2022Jp.{set_number, designated, is_lead, iso_2022_jp_rule}
+use Rattle.enc_iso_2022_jp.specs.Iso2022Jp.{set_number, designated_set, is_lead_byte, iso_2022_jp_rule}
 
 -- the designated character set and the held bytes
 pub record Iso2022JpState : Type 0 where
   pub set : CharacterSet
   pub held : Option Held
 
-abbrev pub holding : CharacterSet → Option Held → Iso2022JpState
-holding set held = record { set = set; held = held }
+abbrev pub state_with_held : CharacterSet → Option Held → Iso2022JpState
+state_with_held set held = record { set = set; held = held }
 
 -- the second byte of an escape sequence
 abbrev pub intermediate_byte : Intermediate → ℕ
@@ -42,49 +42,49 @@ escape_set ToJis0208Of1978 = Jis0208
 escape_set ToJis0208Of1983 = Jis0208
 
 -- a whole escape sequence, if there is one, and the bytes behind it
-abbrev pub behind : Option Escape → List ℕ → List ℕ
-behind None z = z
-behind (Some e) z = escape_bytes e ++ z
+abbrev pub escape_and_bytes : Option Escape → List ℕ → List ℕ
+escape_and_bytes None z = z
+escape_and_bytes (Some e) z = escape_bytes e ++ z
 
-abbrev pub held_bytes : Option Held → List ℕ
-held_bytes None = []
-held_bytes (Some (GivenBack b)) = b ∷ []
-held_bytes (Some (Lead b)) = b ∷ []
-held_bytes (Some (Whole e)) = escape_bytes e
-held_bytes (Some (Start before)) = behind before (0x1B ∷ [])
-held_bytes (Some (Started before i)) = behind before (0x1B ∷ intermediate_byte i ∷ [])
+abbrev pub bytes_of_held : Option Held → List ℕ
+bytes_of_held None = []
+bytes_of_held (Some (GivenBack b)) = b ∷ []
+bytes_of_held (Some (Lead b)) = b ∷ []
+bytes_of_held (Some (Whole e)) = escape_bytes e
+bytes_of_held (Some (Start before)) = escape_and_bytes before (0x1B ∷ [])
+bytes_of_held (Some (Started before i)) = escape_and_bytes before (0x1B ∷ intermediate_byte i ∷ [])
 
 -- A byte that was given back begins no escape sequence and no character of two bytes; a held lead byte does.
 abbrev pub CanHold : CharacterSet → Option Held → Type 0
 CanHold set None = Unit {0}
-CanHold set (Some (GivenBack b)) = (is_lead set b ≡ false) × ((b == 0x1B) ≡ false)
-CanHold set (Some (Lead b)) = is_lead set b ≡ true
+CanHold set (Some (GivenBack b)) = (is_lead_byte set b ≡ false) × ((b == 0x1B) ≡ false)
+CanHold set (Some (Lead b)) = is_lead_byte set b ≡ true
 CanHold set (Some (Whole e)) = Unit {0}
 CanHold set (Some (Start before)) = Unit {0}
 CanHold set (Some (Started before i)) = Unit {0}
 
 abbrev pub iso_2022_jp_state : Iso2022JpState → CodecState
-iso_2022_jp_state s = record { rule = iso_2022_jp_rule; set = set_number s.set; pending = held_bytes s.held }
+iso_2022_jp_state s = record { rule = iso_2022_jp_rule; set = set_number s.set; pending = bytes_of_held s.held }
 
 -- a lead byte that no byte of its character follows
-abbrev pub ends_lead : List ℕ → Bool
-ends_lead [] = true
-ends_lead (b ∷ z) = b == 0x1B
+abbrev pub cuts_off_lead : List ℕ → Bool
+cuts_off_lead [] = true
+cuts_off_lead (b ∷ z) = b == 0x1B
 
 -- What follows cuts off what the held bytes begin: no byte goes on with a lead byte, and no escape sequence goes on
 -- with what is there of one, or follows a whole one.
-abbrev pub CutsOff : Held → List ℕ → Type 0
-CutsOff (GivenBack b) z = Unit {0}
-CutsOff (Lead b) z = ends_lead z ≡ true
-CutsOff (Whole e) z = designated z ≡ None
-CutsOff (Start before) z = designated (0x1B ∷ z) ≡ None
-CutsOff (Started before i) z = designated (0x1B ∷ intermediate_byte i ∷ z) ≡ None
+abbrev pub CutsOffHeld : Held → List ℕ → Type 0
+CutsOffHeld (GivenBack b) z = Unit {0}
+CutsOffHeld (Lead b) z = cuts_off_lead z ≡ true
+CutsOffHeld (Whole e) z = designated_set z ≡ None
+CutsOffHeld (Start before) z = designated_set (0x1B ∷ z) ≡ None
+CutsOffHeld (Started before i) z = designated_set (0x1B ∷ intermediate_byte i ∷ z) ≡ None
 
 -- a character of so many bytes, or where there is none, so many malformed bytes
-abbrev pub shown_char : Option ℕ → ℕ → Bool → Iso2022JpState → Shown Iso2022JpState
-shown_char (Some c) len takes_byte next =
+abbrev pub char_or_malformed : Option ℕ → ℕ → Bool → Iso2022JpState → Emission Iso2022JpState
+char_or_malformed (Some c) len takes_byte next =
     record { text = One c; kind = Valid; len = len; takes_byte = takes_byte; next = next }
-shown_char None len takes_byte next =
+char_or_malformed None len takes_byte next =
     record { text = One 0xFFFD; kind = Malformed; len = len; takes_byte = takes_byte; next = next }
 
 -- An escape sequence comes first, and behind it a byte that begins no other.

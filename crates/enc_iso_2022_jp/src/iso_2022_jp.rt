@@ -3,16 +3,16 @@
 ghost use Rattle.std.specs.Prelude.{◌≡◌, ℕ, ◌+◌, ◌-◌, ◌<◌, ◌≤◌, true, false, Option, IfSome, IfNone, IsTrue, List, [], ◌∷◌};
 ghost use Rattle.enc_index.specs.Grid.{grid_len, grid_char};
 ghost use Rattle.enc_index.specs.declared.grid.Grid.TheVariants as grids;
-ghost use Rattle.enc_iso_2022_jp.specs.Iso2022Jp.{set_named, ascii_char as char_in_ascii, roman_char as char_in_roman, katakana_char as char_in_katakana, one_byte_char as char_alone, is_jis0208_byte as in_jis0208, is_lead as begins_pair, two_byte_char};
-ghost use Rattle.enc_iso_2022_jp.specs.Iso2022JpState.{Iso2022JpState, holding, intermediate_byte, escape_bytes, escape_set, held_bytes, CanHold, CutsOff, shown_char, StandsAlone, iso_2022_jp_state};
-ghost use Rattle.enc_machine.specs.CodecLaw.{Comes, Acts, IsReady};
+ghost use Rattle.enc_iso_2022_jp.specs.Iso2022Jp.{set_of_escape_bytes, ascii_char as char_in_ascii, roman_char as char_in_roman, katakana_char as char_in_katakana, one_byte_char as char_alone, is_jis0208_byte as in_jis0208, is_lead_byte as begins_pair, two_byte_char};
+ghost use Rattle.enc_iso_2022_jp.specs.Iso2022JpState.{Iso2022JpState, state_with_held, intermediate_byte, escape_bytes, escape_set, bytes_of_held, CanHold, CutsOffHeld, char_or_malformed, StandsAlone, iso_2022_jp_state};
+ghost use Rattle.enc_machine.specs.CodecLaw.{IsNextSequence, HandlesByte, IsNextOfPending};
 ghost use Rattle.enc_machine.specs.Taking.{TakesRun};
 
 use crate::places::JIS0208_PLACES;
 use enc_index::{Grid, List};
 use enc_machine::{
-    ByteCodec, DecoderResult, Kind, RawDecoder, Shown, Step, Text, TextLengths, latin1_up_to,
-    report_or_run,
+    ByteCodec, DecoderResult, Emission, HandlerResult, Kind, RawDecoder, Text, TextLengths,
+    latin1_up_to, report_or_run,
 };
 use enc_units::{Pieces, Units};
 use std::marker::Model;
@@ -93,7 +93,7 @@ impl Model for Iso2022JpDecoder {
 impl Iso2022JpDecoder {
     /// A decoder that has read nothing, in the set ASCII. Takes no memory.
     pub fn new() -> Iso2022JpDecoder
-        ensures { result ≡ holding CharacterSet.Ascii Option.None }
+        ensures { result ≡ state_with_held CharacterSet.Ascii Option.None }
     {
         Iso2022JpDecoder {
             set: CharacterSet::Ascii,
@@ -116,7 +116,7 @@ impl Intermediate {
     /// That of a byte, if an escape sequence can have it second.
     fn of_byte(byte: u8) -> Option<Intermediate>
         ensures some { IfSome result (λ i. byte ≡ intermediate_byte i) }
-        ensures none { IfNone result ((c : ℕ) → set_named byte c ≡ Option.None) }
+        ensures none { IfNone result ((c : ℕ) → set_of_escape_bytes byte c ≡ Option.None) }
     {
         match byte {
             0x28 => Some(Intermediate::Parenthesis),
@@ -143,7 +143,7 @@ impl Escape {
     /// That of the last two bytes, if there is one.
     fn of_bytes(intermediate: Intermediate, byte: u8) -> Option<Escape>
         ensures some { IfSome result (λ e. escape_bytes e ≡ 0x1B ∷ intermediate_byte intermediate ∷ byte ∷ []) }
-        ensures none { IfNone result (set_named (intermediate_byte intermediate) byte ≡ Option.None) }
+        ensures none { IfNone result (set_of_escape_bytes (intermediate_byte intermediate) byte ≡ Option.None) }
     {
         match intermediate {
             Intermediate::Parenthesis => Escape::of_parenthesis(byte),
@@ -154,7 +154,7 @@ impl Escape {
     /// That of 1B 28 and a byte.
     fn of_parenthesis(byte: u8) -> Option<Escape>
         ensures some { IfSome result (λ e. escape_bytes e ≡ 0x1B ∷ 0x28 ∷ byte ∷ []) }
-        ensures none { IfNone result (set_named 0x28 byte ≡ Option.None) }
+        ensures none { IfNone result (set_of_escape_bytes 0x28 byte ≡ Option.None) }
     {
         match byte {
             0x42 => Some(Escape::ToAscii),
@@ -167,7 +167,7 @@ impl Escape {
     /// That of 1B 24 and a byte.
     fn of_dollar(byte: u8) -> Option<Escape>
         ensures some { IfSome result (λ e. escape_bytes e ≡ 0x1B ∷ 0x24 ∷ byte ∷ []) }
-        ensures none { IfNone result (set_named 0x24 byte ≡ Option.None) }
+        ensures none { IfNone result (set_of_escape_bytes 0x24 byte ≡ Option.None) }
     {
         match byte {
             0x40 => Some(Escape::ToJis0208Of1978),
@@ -185,8 +185,8 @@ fn is_jis0208_byte(byte: u8) -> bool
 }
 
 /// Whether a byte begins a character of two bytes.
-#[tactic(auto, unfolding(crate::specs::Iso2022Jp::is_lead))]
-fn is_lead(set: CharacterSet, byte: u8) -> bool
+#[tactic(auto, unfolding(crate::specs::Iso2022Jp::is_lead_byte))]
+fn is_lead_byte(set: CharacterSet, byte: u8) -> bool
     ensures { result ≡ begins_pair set byte }
 {
     match set {
@@ -306,7 +306,7 @@ fn escape_in_front(src: &[u8]) -> Option<Escape>
 /// The state in a set with these bytes held.
 fn with_held(set: CharacterSet, held: Option<Held>) -> Iso2022JpDecoder
     requires { CanHold set held }
-    ensures { result ≡ holding set held }
+    ensures { result ≡ state_with_held set held }
 {
     Iso2022JpDecoder { set, held }
 }
@@ -317,14 +317,14 @@ fn show_char(
     len: u8,
     takes_byte: bool,
     next: Iso2022JpDecoder,
-) -> Shown<Iso2022JpDecoder>
-    ensures { result ≡ shown_char character len takes_byte next }
+) -> Emission<Iso2022JpDecoder>
+    ensures { result ≡ char_or_malformed character len takes_byte next }
 {
     let (shown, kind) = match character {
         Some(found) => (found, Kind::Valid),
         None => ('\u{FFFD}', Kind::Malformed),
     };
-    Shown {
+    Emission {
         text: Text::One(shown),
         kind,
         len,
@@ -334,17 +334,17 @@ fn show_char(
 }
 
 /// An escape sequence that no other follows directly, before the byte that shows it.
-fn skip_escape(escape: Escape, held: Option<Held>) -> Shown<Iso2022JpDecoder>
+fn skip_escape(escape: Escape, held: Option<Held>) -> Emission<Iso2022JpDecoder>
     requires { CanHold (escape_set escape) held }
     ensures { result ≡ record {
       text = Text.Nothing;
       kind = Kind.Skipped;
       len = 3;
       takes_byte = false;
-      next = holding (escape_set escape) held;
+      next = state_with_held (escape_set escape) held;
     } }
 {
-    Shown {
+    Emission {
         text: Text::Nothing,
         kind: Kind::Skipped,
         len: 3,
@@ -354,16 +354,16 @@ fn skip_escape(escape: Escape, held: Option<Held>) -> Shown<Iso2022JpDecoder>
 }
 
 /// An escape sequence that another follows directly, with the last byte of the other, which is held.
-fn report_escape(escape: Escape, another: Escape) -> Shown<Iso2022JpDecoder>
+fn report_escape(escape: Escape, another: Escape) -> Emission<Iso2022JpDecoder>
     ensures { result ≡ record {
       text = Text.One 0xFFFD;
       kind = Kind.RepeatedEscape;
       len = 3;
       takes_byte = true;
-      next = holding (escape_set escape) (Option.Some (Held.Whole another));
+      next = state_with_held (escape_set escape) (Option.Some (Held.Whole another));
     } }
 {
-    Shown {
+    Emission {
         text: Text::One('\u{FFFD}'),
         kind: Kind::RepeatedEscape,
         len: 3,
@@ -375,10 +375,10 @@ fn report_escape(escape: Escape, another: Escape) -> Shown<Iso2022JpDecoder>
 /// The second byte of what is no escape sequence, which is read anew in the set in force.
 fn give_back(set: CharacterSet, intermediate: Intermediate) -> Held
     ensures can_hold { CanHold set (Option.Some result) }
-    ensures bytes { held_bytes (Option.Some result) ≡ intermediate_byte intermediate ∷ [] }
+    ensures bytes { bytes_of_held (Option.Some result) ≡ intermediate_byte intermediate ∷ [] }
 {
     let byte = intermediate.byte();
-    if is_lead(set, byte) {
+    if is_lead_byte(set, byte) {
         Held::Lead(byte)
     } else {
         Held::GivenBack(byte)
@@ -386,9 +386,9 @@ fn give_back(set: CharacterSet, intermediate: Intermediate) -> Held
 }
 
 /// What the held bytes show where they are cut off by what follows.
-fn cut_off(set: CharacterSet, held: Held) -> Shown<Iso2022JpDecoder>
+fn cut_off(set: CharacterSet, held: Held) -> Emission<Iso2022JpDecoder>
     requires { CanHold set (Option.Some held) }
-    ensures comes { Comes iso_2022_jp_state (holding set (Option.Some held)) (CutsOff held) [] result }
+    ensures comes { IsNextSequence iso_2022_jp_state (state_with_held set (Option.Some held)) (CutsOffHeld held) [] result }
     ensures before { result.takes_byte ≡ false }
 {
     match held {
@@ -406,9 +406,10 @@ fn cut_off(set: CharacterSet, held: Held) -> Shown<Iso2022JpDecoder>
 }
 
 /// The same of 1B.
-fn cut_off_start(set: CharacterSet, before: Option<Escape>) -> Shown<Iso2022JpDecoder>
-    ensures comes { Comes iso_2022_jp_state (holding set (Option.Some (Held.Start before)))
-        (CutsOff (Held.Start before)) [] result }
+fn cut_off_start(set: CharacterSet, before: Option<Escape>) -> Emission<Iso2022JpDecoder>
+    ensures comes { IsNextSequence iso_2022_jp_state
+        (state_with_held set (Option.Some (Held.Start before)))
+        (CutsOffHeld (Held.Start before)) [] result }
     ensures before { result.takes_byte ≡ false }
 {
     match before {
@@ -422,9 +423,9 @@ fn cut_off_started(
     set: CharacterSet,
     before: Option<Escape>,
     intermediate: Intermediate,
-) -> Shown<Iso2022JpDecoder>
-    ensures comes { Comes iso_2022_jp_state (holding set (Option.Some (Held.Started before intermediate)))
-        (CutsOff (Held.Started before intermediate)) [] result }
+) -> Emission<Iso2022JpDecoder>
+    ensures comes { IsNextSequence iso_2022_jp_state (state_with_held set (Option.Some (Held.Started before intermediate)))
+        (CutsOffHeld (Held.Started before intermediate)) [] result }
     ensures before { result.takes_byte ≡ false }
 {
     match before {
@@ -437,9 +438,9 @@ fn cut_off_started(
 }
 
 /// What held bytes show by themselves: a byte that was given back, and nothing else.
-fn show_given_back(set: CharacterSet, held: Held) -> Option<Shown<Iso2022JpDecoder>>
+fn show_given_back(set: CharacterSet, held: Held) -> Option<Emission<Iso2022JpDecoder>>
     requires { CanHold set (Option.Some held) }
-    ensures { IsReady iso_2022_jp_state (holding set (Option.Some held)) result }
+    ensures { IsNextOfPending iso_2022_jp_state (state_with_held set (Option.Some held)) result }
 {
     match held {
         Held::GivenBack(_) => Some(cut_off(set, held)),
@@ -448,50 +449,60 @@ fn show_given_back(set: CharacterSet, held: Held) -> Option<Shown<Iso2022JpDecod
 }
 
 /// A byte where none is held.
-fn step_first(set: CharacterSet, byte: u8) -> Step<Iso2022JpDecoder>
-    ensures { Acts iso_2022_jp_state (holding set Option.None) byte result }
+fn step_first(set: CharacterSet, byte: u8) -> HandlerResult<Iso2022JpDecoder>
+    ensures { HandlesByte iso_2022_jp_state (state_with_held set Option.None) byte result }
 {
     if byte == 0x1B {
-        Step::Wait(with_held(set, Some(Held::Start(None))))
-    } else if is_lead(set, byte) {
-        Step::Wait(with_held(set, Some(Held::Lead(byte))))
+        HandlerResult::Continue(with_held(set, Some(Held::Start(None))))
+    } else if is_lead_byte(set, byte) {
+        HandlerResult::Continue(with_held(set, Some(Held::Lead(byte))))
     } else {
         let next = with_held(set, None);
-        Step::Show(show_char(one_byte_char(set, byte), 1, true, next))
+        HandlerResult::Emit(show_char(one_byte_char(set, byte), 1, true, next))
     }
 }
 
 /// A byte behind a lead byte.
-fn step_trail(set: CharacterSet, lead: u8, byte: u8) -> Step<Iso2022JpDecoder>
+fn step_trail(set: CharacterSet, lead: u8, byte: u8) -> HandlerResult<Iso2022JpDecoder>
     requires { CanHold set (Option.Some (Held.Lead lead)) }
-    ensures { Acts iso_2022_jp_state (holding set (Option.Some (Held.Lead lead))) byte result }
+    ensures { HandlesByte iso_2022_jp_state (state_with_held set (Option.Some (Held.Lead lead)))
+        byte result }
 {
     if byte == 0x1B {
-        Step::Show(cut_off(set, Held::Lead(lead)))
+        HandlerResult::Emit(cut_off(set, Held::Lead(lead)))
     } else {
         let next = with_held(set, None);
-        Step::Show(show_char(char_of_pair(lead, byte), 2, true, next))
+        HandlerResult::Emit(show_char(char_of_pair(lead, byte), 2, true, next))
     }
 }
 
 /// A byte behind a whole escape sequence.
-fn step_whole(set: CharacterSet, escape: Escape, byte: u8) -> Step<Iso2022JpDecoder>
-    ensures { Acts iso_2022_jp_state (holding set (Option.Some (Held.Whole escape))) byte result }
+fn step_whole(set: CharacterSet, escape: Escape, byte: u8) -> HandlerResult<Iso2022JpDecoder>
+    ensures { HandlesByte iso_2022_jp_state (state_with_held set (Option.Some (Held.Whole escape)))
+        byte result }
 {
     if byte == 0x1B {
-        Step::Wait(with_held(set, Some(Held::Start(Some(escape)))))
+        HandlerResult::Continue(with_held(set, Some(Held::Start(Some(escape)))))
     } else {
-        Step::Show(cut_off(set, Held::Whole(escape)))
+        HandlerResult::Emit(cut_off(set, Held::Whole(escape)))
     }
 }
 
 /// A byte behind 1B.
-fn step_start(set: CharacterSet, before: Option<Escape>, byte: u8) -> Step<Iso2022JpDecoder>
-    ensures { Acts iso_2022_jp_state (holding set (Option.Some (Held.Start before))) byte result }
+fn step_start(
+    set: CharacterSet,
+    before: Option<Escape>,
+    byte: u8,
+) -> HandlerResult<Iso2022JpDecoder>
+    ensures { HandlesByte iso_2022_jp_state (state_with_held set (Option.Some (Held.Start before)))
+        byte result }
 {
     match Intermediate::of_byte(byte) {
-        Some(intermediate) => Step::Wait(with_held(set, Some(Held::Started(before, intermediate)))),
-        None => Step::Show(cut_off(set, Held::Start(before))),
+        Some(intermediate) => HandlerResult::Continue(with_held(
+            set,
+            Some(Held::Started(before, intermediate)),
+        )),
+        None => HandlerResult::Emit(cut_off(set, Held::Start(before))),
     }
 }
 
@@ -502,28 +513,28 @@ fn step_started(
     before: Option<Escape>,
     intermediate: Intermediate,
     byte: u8,
-) -> Step<Iso2022JpDecoder>
-    ensures { Acts iso_2022_jp_state (holding set (Option.Some (Held.Started before intermediate))) byte result }
+) -> HandlerResult<Iso2022JpDecoder>
+    ensures { HandlesByte iso_2022_jp_state (state_with_held set (Option.Some (Held.Started before intermediate))) byte result }
 {
     let Some(escape) = Escape::of_bytes(intermediate, byte) else {
-        return Step::Show(cut_off(set, Held::Started(before, intermediate)));
+        return HandlerResult::Emit(cut_off(set, Held::Started(before, intermediate)));
     };
     match before {
-        Some(first) => Step::Show(report_escape(first, escape)),
-        None => Step::Wait(with_held(set, Some(Held::Whole(escape)))),
+        Some(first) => HandlerResult::Emit(report_escape(first, escape)),
+        None => HandlerResult::Continue(with_held(set, Some(Held::Whole(escape)))),
     }
 }
 
 impl Pieces for Iso2022JpDecoder {
     ghost use Rattle.enc_iso_2022_jp.specs.Iso2022Jp.{set_number, iso_2022_jp_rule};
-    ghost use Rattle.enc_machine.specs.Taking.{IsPiece};
+    ghost use Rattle.enc_machine.specs.Taking.{IsWholeChar};
 
-    ghost means = { λ d. IsPiece iso_2022_jp_rule (set_number d.set) };
+    ghost means = { λ d. IsWholeChar iso_2022_jp_rule (set_number d.set) };
 
     #[inline(always)]
     fn piece(self, src: &[u8], at: usize) -> Option<(char, usize)> {
         let byte = src[at];
-        if !is_lead(self.set, byte) {
+        if !is_lead_byte(self.set, byte) {
             let character = one_byte_char(self.set, byte)?;
             return Some((character, 1));
         }
@@ -619,10 +630,13 @@ impl ByteCodec for Iso2022JpDecoder {
         }
     }
 
-    fn next_step(self, byte: u8) -> Step<Iso2022JpDecoder> {
+    fn next_step(self, byte: u8) -> HandlerResult<Iso2022JpDecoder> {
         match self.held {
             None => step_first(self.set, byte),
-            Some(Held::GivenBack(held)) => Step::Show(cut_off(self.set, Held::GivenBack(held))),
+            Some(Held::GivenBack(held)) => HandlerResult::Emit(cut_off(
+                self.set,
+                Held::GivenBack(held),
+            )),
             Some(Held::Lead(lead)) => step_trail(self.set, lead, byte),
             Some(Held::Whole(escape)) => step_whole(self.set, escape, byte),
             Some(Held::Start(before)) => step_start(self.set, before, byte),
@@ -632,14 +646,14 @@ impl ByteCodec for Iso2022JpDecoder {
         }
     }
 
-    fn ready(self) -> Option<Shown<Iso2022JpDecoder>> {
+    fn ready(self) -> Option<Emission<Iso2022JpDecoder>> {
         match self.held {
             Some(held) => show_given_back(self.set, held),
             None => None,
         }
     }
 
-    fn at_end(self) -> Option<Shown<Iso2022JpDecoder>> {
+    fn at_end(self) -> Option<Emission<Iso2022JpDecoder>> {
         match self.held {
             Some(held) => Some(cut_off(self.set, held)),
             None => None,

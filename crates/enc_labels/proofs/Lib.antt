@@ -1,3 +1,3 @@
 pub mod OrderLemmas
-pub mod HalvesLemmas
+pub mod WordSearchLemmas
 pub mod TableLemmas

@@ -4,10 +4,10 @@ use Rattle.std.proofs.lemmas.Bool.{and_parts}
 use Rattle.std.specs.Ordering.{MatchOrdering}
 use Rattle.std.specs.declared.cmp.Ordering.{Ordering}
 use Rattle.std.specs.declared.cmp.Ordering.TheVariants.{Less, Equal, Greater}
-use Rattle.enc_labels.specs.Order.{number_of, are_ascending}
+use Rattle.enc_labels.specs.Order.{word_number, are_ascending_words}
 
 -- a shorter word comes before a longer one
-pub shorter_before : (a b : List ℕ) → ((i : ℕ) → Fits w8 (get_or a i 0)) → length a < length b → number_of a < number_of b
+pub shorter_before : (a b : List ℕ) → ((i : ℕ) → Fits w8 (get_or a i 0)) → length a < length b → word_number a < word_number b
 shorter_before a [] f h = absurd (let no : ⊥ = omega arith in no)
 shorter_before [] (y ∷ b) f h = omega arith
 shorter_before (x ∷ a) (y ∷ b) f h =
@@ -17,10 +17,10 @@ shorter_before (x ∷ a) (y ∷ b) f h =
 
 -- and of two that have one length, and are the same behind a place, that with the lesser byte there
 pub lesser_before : (i : ℕ) (a b : List ℕ) → ((j : ℕ) → Fits w8 (get_or a j 0)) → length a ≡ length b → i < length a → drop (suc i) a ≡ drop (suc i) b
-    → get_or a i 0 < get_or b i 0 → number_of a < number_of b
+    → get_or a i 0 < get_or b i 0 → word_number a < word_number b
 lesser_before i [] b f e l d g = absurd (let no : ⊥ = omega arith in no)
 lesser_before i (x ∷ a) [] f e l d g = absurd (let no : ⊥ = omega arith in no)
-lesser_before zero (x ∷ a) (y ∷ b) f e l d g = let n : number_of a ≡ number_of b = ap number_of d in omega arith
+lesser_before zero (x ∷ a) (y ∷ b) f e l d g = let n : word_number a ≡ word_number b = ap word_number d in omega arith
 lesser_before (suc i) (x ∷ a) (y ∷ b) f e l d g =
     let n = lesser_before i a b (λ j. f (suc j)) (omega arith) (omega arith) d g in
     let m = (f 0).fits in
@@ -32,13 +32,13 @@ abbrev pub IsBytes : List ℕ → Type 0
 IsBytes a = (i : ℕ) → Fits w8 (get_or a i 0)
 
 pub by_length : (r : Ordering) (a b : List ℕ) → IsBytes a → IsBytes b → length a ≢ length b → MatchOrdering r (length a < length b) (length a ≡ length b) (length b < length a)
-    → MatchOrdering r (number_of a < number_of b) (a ≡ b) (number_of b < number_of a)
+    → MatchOrdering r (word_number a < word_number b) (a ≡ b) (word_number b < word_number a)
 by_length Less a b f g n m = shorter_before a b f m
 by_length Equal a b f g n m = absurd (n m)
 by_length Greater a b f g n m = shorter_before b a g m
 
 pub by_byte : (r : Ordering) (i : ℕ) (a b : List ℕ) → IsBytes a → IsBytes b → length a ≡ length b → i < length a → drop (suc i) a ≡ drop (suc i) b → get_or a i 0 ≢ get_or b i 0
-    → MatchOrdering r (get_or a i 0 < get_or b i 0) (get_or a i 0 ≡ get_or b i 0) (get_or b i 0 < get_or a i 0) → MatchOrdering r (number_of a < number_of b) (a ≡ b) (number_of b < number_of a)
+    → MatchOrdering r (get_or a i 0 < get_or b i 0) (get_or a i 0 ≡ get_or b i 0) (get_or b i 0 < get_or a i 0) → MatchOrdering r (word_number a < word_number b) (a ≡ b) (word_number b < word_number a)
 by_byte Less i a b f g e l d n m = lesser_before i a b f e l d m
 by_byte Equal i a b f g e l d n m = absurd (n m)
 by_byte Greater i a b f g e l d n m = lesser_before i b a g (sym e) (rw (← e) l) (sym d) m
@@ -46,19 +46,19 @@ by_byte Greater i a b f g e l d n m = lesser_before i b a g (sym e) (rw (← e) 
 -- the same at the byte before a place
 pub by_byte_before : (r : Ordering) (at : ℕ) (a b : List ℕ) → IsBytes a → IsBytes b → length a ≡ length b → 0 < at → at ≤ length a → drop at a ≡ drop at b
     → get_or a (at - 1) 0 ≢ get_or b (at - 1) 0 → MatchOrdering r (get_or a (at - 1) 0 < get_or b (at - 1) 0) (get_or a (at - 1) 0 ≡ get_or b (at - 1) 0) (get_or b (at - 1) 0 < get_or a (at - 1) 0)
-    → MatchOrdering r (number_of a < number_of b) (a ≡ b) (number_of b < number_of a)
+    → MatchOrdering r (word_number a < word_number b) (a ≡ b) (word_number b < word_number a)
 by_byte_before r at a b f g e p l d n m =
     let s : at ≡ suc (at - 1) = omega arith in by_byte r (at - 1) a b f g e (omega arith) (subst (λ k. drop k a ≡ drop k b) s d) n m
 
 -- in an ascending table
 
-pub first_before : (one two : List ℕ) (words : List (List ℕ)) → are_ascending (one ∷ two ∷ words) ≡ true
-    → (number_of one < number_of two) × (are_ascending (two ∷ words) ≡ true)
-unfolding are_ascending
+pub first_before : (one two : List ℕ) (words : List (List ℕ)) → are_ascending_words (one ∷ two ∷ words) ≡ true
+    → (word_number one < word_number two) × (are_ascending_words (two ∷ words) ≡ true)
+unfolding are_ascending_words
 first_before one two words h =
-    let p = and_parts (nat_lt (number_of one) (number_of two)) (are_ascending (two ∷ words)) h in (ltb-true (number_of one) (number_of two) p.0, p.1)
+    let p = and_parts (nat_lt (word_number one) (word_number two)) (are_ascending_words (two ∷ words)) h in (ltb-true (word_number one) (word_number two) p.0, p.1)
 
-behind_first : (one : List ℕ) (words : List (List ℕ)) → are_ascending (one ∷ words) ≡ true → (j : ℕ) → j < length words → number_of one < number_of (get_or words j [])
+behind_first : (one : List ℕ) (words : List (List ℕ)) → are_ascending_words (one ∷ words) ≡ true → (j : ℕ) → j < length words → word_number one < word_number (get_or words j [])
 behind_first one [] h j l = absurd (let no : ⊥ = omega arith in no)
 behind_first one (two ∷ words) h zero l = (first_before one two words h).0
 behind_first one (two ∷ words) h (suc j) l =
@@ -67,13 +67,14 @@ behind_first one (two ∷ words) h (suc j) l =
     let m = p.0 in
     omega arith
 
-others_ascend : (one : List ℕ) (words : List (List ℕ)) → are_ascending (one ∷ words) ≡ true → are_ascending words ≡ true
-unfolding are_ascending
+others_ascend : (one : List ℕ) (words : List (List ℕ)) → are_ascending_words (one ∷ words) ≡ true
+    → are_ascending_words words ≡ true
+unfolding are_ascending_words
 others_ascend one [] h = refl
 others_ascend one (two ∷ words) h = (first_before one two words h).1
 
 -- an earlier word comes before a later one
-pub earlier_before : (words : List (List ℕ)) → are_ascending words ≡ true → (i j : ℕ) → i < j → j < length words → number_of (get_or words i []) < number_of (get_or words j [])
+pub earlier_before : (words : List (List ℕ)) → are_ascending_words words ≡ true → (i j : ℕ) → i < j → j < length words → word_number (get_or words i []) < word_number (get_or words j [])
 earlier_before [] h i j l m = absurd (let no : ⊥ = omega arith in no)
 earlier_before (one ∷ words) h i zero l m = absurd (let no : ⊥ = omega arith in no)
 earlier_before (one ∷ words) h zero (suc j) l m = behind_first one words h j (omega arith)

@@ -7,14 +7,14 @@ use Rattle.std.specs.List.{list_all}
 use Rattle.std.specs.Str.{bytes_eq}
 use Rattle.std.specs.Cmp.{first_so, second_so}
 use Rattle.std.proofs.lemmas.Slice.Eq.{bytes_eq-Decides}
-use Rattle.enc_labels.specs.Order.{are_ascending}
-use Rattle.enc_labels.specs.Place.{place_of, texts_of}
+use Rattle.enc_labels.specs.Order.{are_ascending_words}
+use Rattle.enc_labels.specs.Place.{word_place, texts_of}
 use Rattle.enc_labels.specs.Table.{table}
 use Rattle.enc_labels.specs.declared.words.TheConstants.{LONGEST}
-use Rattle.enc_labels.proofs.HalvesLemmas.{texts_len}
+use Rattle.enc_labels.proofs.WordSearchLemmas.{texts_len}
 
-pub table_ascends : are_ascending table ≡ true
-unfolding are_ascending table
+pub table_ascends : are_ascending_words table ≡ true
+unfolding are_ascending_words table
 table_ascends = refl
 
 -- no label is longer than the longest
@@ -30,20 +30,20 @@ map_len : (f : ℕ → ℕ) (word : List ℕ) → length (map f word) ≡ length
 map_len f [] = refl
 map_len f (b ∷ word) = ap suc (map_len f word)
 
-none_longer : (words : List (List ℕ)) (word : List ℕ) → are_short words ≡ true → LONGEST < length word → place_of words word ≡ None
+none_longer : (words : List (List ℕ)) (word : List ℕ) → are_short words ≡ true → LONGEST < length word → word_place words word ≡ None
 unfolding are_short
 none_longer [] word h l = refl
 none_longer (one ∷ words) word h l =
     let m : length one ≤ LONGEST = leb-true (length one) LONGEST (first_so (nat_le (length one) LONGEST) (are_short words) h) in
     let o : bytes_eq one word ≡ false = other (bytes_eq one word) refl m in
-    let n : place_of words word ≡ None = none_longer words word (second_so (nat_le (length one) LONGEST) (are_short words) h) l in
+    let n : word_place words word ≡ None = none_longer words word (second_so (nat_le (length one) LONGEST) (are_short words) h) l in
     rw (o, n) refl
   where
     other : (b : Bool) → bytes_eq one word ≡ b → length one ≤ LONGEST → bytes_eq one word ≡ false
     other true e m = absurd (let f = ap length ((bytes_eq-Decides one word).0 e) in let no : ⊥ = omega arith in no)
     other false e m = e
 
-pub longer_is_none : (word : List ℕ) → LONGEST < length word → place_of table (map to_ascii_lowercase word) ≡ None
+pub longer_is_none : (word : List ℕ) → LONGEST < length word → word_place table (map to_ascii_lowercase word) ≡ None
 longer_is_none word l = none_longer table (map to_ascii_lowercase word) table_is_short (let e = map_len to_ascii_lowercase word in omega arith)
 
 -- a place among the texts of the table is one in the table

@@ -9,6 +9,6 @@ texts_of [] = []
 texts_of (text ∷ texts) = text.now ∷ texts_of texts
 
 -- the first place of a word among words, if it is one
-abbrev pub place_of : List (List ℕ) → List ℕ → Option ℕ
-place_of [] word = None
-place_of (label ∷ labels) word = if bytes_eq label word then Some 0 else option_map suc (place_of labels word)
+abbrev pub word_place : List (List ℕ) → List ℕ → Option ℕ
+word_place [] word = None
+word_place (label ∷ labels) word = if bytes_eq label word then Some 0 else option_map suc (word_place labels word)

@@ -3,8 +3,8 @@
 ghost use Rattle.std.specs.Prelude.{◌≡◌, ◌<◌, true, map, length, IfSome};
 ghost use Rattle.std.specs.Ordering.{MatchOrdering};
 ghost use Rattle.std.specs.Char.{to_ascii_lowercase};
-ghost use Rattle.enc_labels.specs.Order.{number_of, are_ascending};
-ghost use Rattle.enc_labels.specs.Place.{place_of, texts_of};
+ghost use Rattle.enc_labels.specs.Order.{word_number, are_ascending_words};
+ghost use Rattle.enc_labels.specs.Place.{word_place, texts_of};
 ghost use Rattle.enc_labels.specs.Table.{table};
 
 use crate::table::labels;
@@ -13,7 +13,7 @@ use std::cmp::Ordering;
 
 /// How a label stands to a word in the order of the table.
 fn compare(label: &[u8], word: &[u8]) -> Ordering
-    ensures { MatchOrdering result (number_of label.now < number_of word.now) (label.now ≡ word.now) (number_of word.now < number_of label.now) }
+    ensures { MatchOrdering result (word_number label.now < word_number word.now) (label.now ≡ word.now) (word_number word.now < word_number label.now) }
 {
     if label.len() != word.len() {
         return label.len().cmp(&word.len());
@@ -32,8 +32,8 @@ fn compare(label: &[u8], word: &[u8]) -> Ordering
 ///
 /// - `table`: ascends.
 fn search(table: &[&str], word: &[u8]) -> Option<usize>
-    requires { are_ascending (texts_of table.now) ≡ true }
-    ensures place { result ≡ place_of (texts_of table.now) word.now }
+    requires { are_ascending_words (texts_of table.now) ≡ true }
+    ensures place { result ≡ word_place (texts_of table.now) word.now }
     ensures within { IfSome result (λ place. place < length table.now) }
 {
     let mut low = 0;
@@ -52,7 +52,7 @@ fn search(table: &[&str], word: &[u8]) -> Option<usize>
 /// The place of the label in the table that a word is, but for the case of letters. It takes eight comparisons at most, and no
 /// memory.
 pub fn place(word: &[u8]) -> Option<usize>
-    ensures place { result ≡ place_of table (map to_ascii_lowercase word.now) }
+    ensures place { result ≡ word_place table (map to_ascii_lowercase word.now) }
     ensures within { IfSome result (λ place. place < length table) }
 {
     let mut bytes = [0; LONGEST];

@@ -5,11 +5,11 @@ use Rattle.std.proofs.lemmas.List.{take-append-drop, take_more}
 use Rattle.std.proofs.Math.ListN.{drop_of_length-le}
 use Rattle.enc_machine.specs.declared.decoder_result.DecoderResult.TheVariants.{InputEmpty, OutputFull, Malformed}
 use Rattle.enc_units.specs.Output.{units_of_text}
-use Rattle.enc_machine.specs.Sequence.{Sequence, bytes_of, text_of, is_malformed, is_repeated_escape}
-use Rattle.enc_machine.specs.Remainder.{Remainder, Begins, Determines, IsUndetermined}
-use Rattle.enc_machine.specs.CodecLaw.{MayFollow}
-use Rattle.enc_machine.specs.Call.{RawCall, Reported, ReadsReported, AreBounded}
-use Rattle.enc_machine.proofs.Progress.{Progress, residual_all, determined, shown, done_then, with_all, accounted_after, accounted_further, set_then, rest_follows, fewer_undetermined}
+use Rattle.enc_machine.specs.Sequence.{Sequence, sequence_bytes, sequence_text, is_malformed, is_repeated_escape}
+use Rattle.enc_machine.specs.Remainder.{Remainder, AreFirstSequences, Determines, IsUndetermined}
+use Rattle.enc_machine.specs.CodecLaw.{MayFollowRead}
+use Rattle.enc_machine.specs.Call.{RawDecoderCall, Fatal, ReadsToReported, AreReportedLens}
+use Rattle.enc_machine.proofs.DecodeProgressLemmas.{Progress, residual_all, determined, shown, done_then, with_all, accounted_after, accounted_further, set_then, rest_follows, fewer_undetermined}
 use Rattle.enc_machine.proofs.DeterminedLemmas.{determined_at, none_determined}
 
 minus_one : (n : ℕ) → n + 1 - 1 ≡ n
@@ -24,9 +24,9 @@ one_past src n z h = sym (append_assoc (take n src) (get_or src n 0 ∷ []) z) �
 module _ (units_of : ℕ → List ℕ) (old : Remainder) (src : List ℕ) (last : Bool) (room read : ℕ) (now : Remainder) (wrote : List ℕ) (keeps : Bool)
     (p : Progress units_of old src last room read now wrote) where
   -- everything is read, and nothing is determined
-  pub empty : ((y : List ℕ) → Begins p.done (old.sequences (take read src ++ y)) → old.sequences (take read src ++ y) ≡ p.done ++ now.sequences y)
+  pub empty : ((y : List ℕ) → AreFirstSequences p.done (old.sequences (take read src ++ y)) → old.sequences (take read src ++ y) ≡ p.done ++ now.sequences y)
       → length src ≤ read → (last ≡ true → now.pending ≡ []) → (last ≡ true → now.sequences [] ≡ []) → IsUndetermined now.sequences
-      → RawCall units_of old now src last (Reported keeps) room InputEmpty read wrote false
+      → RawDecoderCall units_of old now src last (Fatal keeps) room InputEmpty read wrote false
   empty g h e l u = record {
     call = record {
       put = p.done;
@@ -53,10 +53,10 @@ module _ (units_of : ℕ → List ℕ) (old : Remainder) (src : List ℕ) (last 
   }
 
   -- a sequence comes that doesn't fit
-  pub full : ((y : List ℕ) → Begins p.done (old.sequences (take read src ++ y)) → old.sequences (take read src ++ y) ≡ p.done ++ now.sequences y)
-      → (q : Sequence) → ((y : List ℕ) → MayFollow src read last y → Begins (q ∷ []) (now.sequences y)) → (keeps ≡ false → is_malformed q.kind ≡ false)
+  pub full : ((y : List ℕ) → AreFirstSequences p.done (old.sequences (take read src ++ y)) → old.sequences (take read src ++ y) ≡ p.done ++ now.sequences y)
+      → (q : Sequence) → ((y : List ℕ) → MayFollowRead src read last y → AreFirstSequences (q ∷ []) (now.sequences y)) → (keeps ≡ false → is_malformed q.kind ≡ false)
       → room < length wrote + length (units_of_text units_of q.text)
-      → RawCall units_of old now src last (Reported keeps) room OutputFull read wrote false
+      → RawDecoderCall units_of old now src last (Fatal keeps) room OutputFull read wrote false
   full goes q c g f = record {
     call = record {
       put = p.done;
@@ -85,17 +85,17 @@ module _ (units_of : ℕ → List ℕ) (old : Remainder) (src : List ℕ) (last 
     goes_on = λ y _. goes y;
   }
 
-  room_for_replacement : (w : List ℕ) → w ≡ units_of_text units_of (text_of p.done) → length w + length (units_of 0xFFFD) ≤ room
-      → length (units_of_text units_of (text_of p.done)) + length (units_of 0xFFFD) ≤ room
+  room_for_replacement : (w : List ℕ) → w ≡ units_of_text units_of (sequence_text p.done) → length w + length (units_of 0xFFFD) ≤ room
+      → length (units_of_text units_of (sequence_text p.done)) + length (units_of 0xFFFD) ≤ room
   room_for_replacement w e h = subst (λ (x : List ℕ). length x + length (units_of 0xFFFD) ≤ room) e h
 
   -- a malformed sequence comes, and is reported; the byte that shows it is not its own
-  pub report_before : (q : Sequence) (next : Remainder) (l a : ℕ) → ((y : List ℕ) → Begins (p.done ++ q ∷ []) (old.sequences (take read src ++ y)) → old.sequences (take read src ++ y) ≡ (p.done ++ q ∷ []) ++ next.sequences y)
+  pub report_before : (q : Sequence) (next : Remainder) (l a : ℕ) → ((y : List ℕ) → AreFirstSequences (p.done ++ q ∷ []) (old.sequences (take read src ++ y)) → old.sequences (take read src ++ y) ≡ (p.done ++ q ∷ []) ++ next.sequences y)
       → is_malformed q.kind ≡ true → is_repeated_escape q.kind ≡ false → q.text ≡ 0xFFFD ∷ []
-      → l ≡ length q.bytes → 0 < l → AreBounded q.kind l a → a ≡ length next.pending → (keeps ≡ true → length wrote + length (units_of 0xFFFD) ≤ room)
+      → l ≡ length q.bytes → 0 < l → AreReportedLens q.kind l a → a ≡ length next.pending → (keeps ≡ true → length wrote + length (units_of 0xFFFD) ≤ room)
       → now.pending ≡ q.bytes ++ next.pending → next.set ≡ q.set
-      → ((y : List ℕ) → MayFollow src read last y → now.sequences y ≡ q ∷ next.sequences y)
-      → RawCall units_of old next src last (Reported keeps) room (Malformed l a) read wrote false
+      → ((y : List ℕ) → MayFollowRead src read last y → now.sequences y ≡ q ∷ next.sequences y)
+      → RawDecoderCall units_of old next src last (Fatal keeps) room (Malformed l a) read wrote false
   report_before q next l a g b i t n ne bs k f e s c = record {
     call = record {
       put = p.done;
@@ -128,33 +128,33 @@ module _ (units_of : ℕ → List ℕ) (old : Remainder) (src : List ℕ) (last 
         });
       };
     };
-    accounted = accounted_after units_of old src last room read now wrote p q (old.pending ++ take read src) next.pending (p.accounted ∙ ap (λ x. bytes_of p.done ++ x) e);
+    accounted = accounted_after units_of old src last room read now wrote p q (old.pending ++ take read src) next.pending (p.accounted ∙ ap (λ x. sequence_bytes p.done ++ x) e);
     goes_on = λ y _. g y;
   }
 
   reads_with : (pending : List ℕ) (ss : List Sequence) (late : Bool) → (late ≡ false → pending ≡ []) → (late ≡ true → Determines old.sequences (take read src) ss → ⊥)
-      → ((z : List ℕ) → Begins ss (old.sequences (take (read + 1) src ++ z))) → ReadsReported late old.sequences src ss (read + 1) pending
+      → ((z : List ℕ) → AreFirstSequences ss (old.sequences (take (read + 1) src ++ z))) → ReadsToReported late old.sequences src ss (read + 1) pending
   reads_with pending ss true n u d = record {
     not_shown = inr (λ e. u refl (subst (λ m. Determines old.sequences (take m src) ss) (minus_one read) e));
     shown = λ z _. d z;
   }
   reads_with pending ss false n u d = record {
     not_shown = inl (n refl);
-    shown_next = λ f z b. subst (λ x. Begins ss (old.sequences x)) (one_past src (read + 1) z f) (d (get_or src (read + 1) 0 ∷ z));
+    shown_next = λ f z b. subst (λ x. AreFirstSequences ss (old.sequences x)) (one_past src (read + 1) z f) (d (get_or src (read + 1) 0 ∷ z));
   }
 
   -- the byte that shows it is read with it
-  pub report_with : (q : Sequence) (next : Remainder) (l a : ℕ) → ((y : List ℕ) → Begins (p.done ++ q ∷ []) (old.sequences (take (read + 1) src ++ y)) → old.sequences (take (read + 1) src ++ y) ≡ (p.done ++ q ∷ []) ++ next.sequences y)
+  pub report_with : (q : Sequence) (next : Remainder) (l a : ℕ) → ((y : List ℕ) → AreFirstSequences (p.done ++ q ∷ []) (old.sequences (take (read + 1) src ++ y)) → old.sequences (take (read + 1) src ++ y) ≡ (p.done ++ q ∷ []) ++ next.sequences y)
       → IsUndetermined next.sequences → is_malformed q.kind ≡ true → q.text ≡ 0xFFFD ∷ []
       → (is_repeated_escape q.kind ≡ false → next.pending ≡ [])
-      → l ≡ length q.bytes → 0 < l → AreBounded q.kind l a → a ≡ length next.pending → (keeps ≡ true → length wrote + length (units_of 0xFFFD) ≤ room)
+      → l ≡ length q.bytes → 0 < l → AreReportedLens q.kind l a → a ≡ length next.pending → (keeps ≡ true → length wrote + length (units_of 0xFFFD) ≤ room)
       → read < length src → now.pending ++ get_or src read 0 ∷ [] ≡ q.bytes ++ next.pending → next.set ≡ q.set
-      → ((y : List ℕ) → MayFollow src read last (get_or src read 0 ∷ y) → now.sequences (get_or src read 0 ∷ y) ≡ q ∷ next.sequences y)
+      → ((y : List ℕ) → MayFollowRead src read last (get_or src read 0 ∷ y) → now.sequences (get_or src read 0 ∷ y) ≡ q ∷ next.sequences y)
       → (is_repeated_escape q.kind ≡ true → Determines old.sequences (take read src) (p.done ++ q ∷ []) → ⊥)
-      → RawCall units_of old next src last (Reported keeps) room (Malformed l a) (read + 1) wrote false
+      → RawDecoderCall units_of old next src last (Fatal keeps) room (Malformed l a) (read + 1) wrote false
   report_with q next l a g d b t i n ne bs k f h e s c u =
       let all : (z : List ℕ) → old.sequences (take (read + 1) src ++ z) ≡ (p.done ++ q ∷ []) ++ next.sequences z = with_all units_of old src last room read now wrote p q next h c in
-      let through : (z : List ℕ) → Begins (p.done ++ q ∷ []) (old.sequences (take (read + 1) src ++ z)) = λ z. (next.sequences z, all z) in
+      let through : (z : List ℕ) → AreFirstSequences (p.done ++ q ∷ []) (old.sequences (take (read + 1) src ++ z)) = λ z. (next.sequences z, all z) in
       record {
         call = record {
           put = p.done;
@@ -184,6 +184,6 @@ module _ (units_of : ℕ → List ℕ) (old : Remainder) (src : List ℕ) (last 
           };
         };
         accounted = accounted_after units_of old src last room read now wrote p q (old.pending ++ take (read + 1) src) next.pending
-            (accounted_further units_of old src last room read now wrote p h ∙ ap (λ x. bytes_of p.done ++ x) e);
+            (accounted_further units_of old src last room read now wrote p h ∙ ap (λ x. sequence_bytes p.done ++ x) e);
         goes_on = λ y _. g y;
       }

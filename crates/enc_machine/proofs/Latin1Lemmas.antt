@@ -2,31 +2,31 @@
 use Rattle.std.proofs.Common.{◌≡◌, ℕ, ◌+◌, ◌<◌, ◌≤◌, true, List, [], ◌∷◌, ◌++◌, length, get_or, take, refl, ap, ◌∙◌, sym, subst, arith, append_assoc, inl, inr}
 use Rattle.std.proofs.lemmas.List.{take_more}
 use Rattle.enc_machine.specs.declared.byte_codec.Kind.TheVariants.{Valid}
-use Rattle.enc_machine.specs.declared.byte_codec.Shown.{Shown}
-use Rattle.enc_machine.specs.declared.byte_codec.Step.TheVariants.{Wait, Show}
+use Rattle.enc_machine.specs.declared.byte_codec.Emission.{Emission}
+use Rattle.enc_machine.specs.declared.byte_codec.HandlerResult.TheVariants.{Continue, Emit}
 use Rattle.enc_machine.specs.Sequence.{Sequence}
 use Rattle.enc_machine.specs.Segmentation.{Rule}
-use Rattle.enc_machine.specs.Remainder.{Begins, Determines}
+use Rattle.enc_machine.specs.Remainder.{AreFirstSequences, Determines}
 use Rattle.enc_machine.specs.CodecState.{CodecState, remainder_of}
-use Rattle.enc_machine.specs.CodecLaw.{chars_of, taken, Comes, Acts, BeginsWith}
-use Rattle.enc_machine.specs.Latin1.{IsItself, AreThemselves, IsLatin1Prefix, HasNoBytes, MayBeLatin1}
+use Rattle.enc_machine.specs.CodecLaw.{text_chars, taken_bytes, IsNextSequence, HandlesByte, BeginsWithByte}
+use Rattle.enc_machine.specs.Latin1.{IsLatin1Sequence, AreLatin1Sequences, IsLatin1Prefix, HasNoByteSequences, CodecMayBeLatin1}
 use Rattle.enc_machine.proofs.DeterminedLemmas.{begins_behind, none_determined}
-use Rattle.enc_machine.proofs.ComingLemmas.{takes_or, holds_sequences}
+use Rattle.enc_machine.proofs.NextEventLemmas.{takes_or, holds_sequences}
 
 -- a byte that is a valid sequence by itself
-pub has_bytes_by : (rule : Rule) (b : ℕ) (z : List ℕ) → (rule 0 b z).kind ≡ Valid → (rule 0 b z).more ≡ 0 → ¬ (HasNoBytes rule)
+pub has_bytes_by : (rule : Rule) (b : ℕ) (z : List ℕ) → (rule 0 b z).kind ≡ Valid → (rule 0 b z).more ≡ 0 → ¬ (HasNoByteSequences rule)
 has_bytes_by rule b z v m n = let l = n b z v in omega arith
 
 -- where there is none, no byte is told to be one
-pub no_latin1_without_bytes : (v : CodecState) → HasNoBytes v.rule → ¬ (MayBeLatin1 v)
+pub no_latin1_without_bytes : (v : CodecState) → HasNoByteSequences v.rule → ¬ (CodecMayBeLatin1 v)
 no_latin1_without_bytes v n m = m.has_bytes n
 
 -- nor with another character set
-pub no_latin1_behind_start : (v : CodecState) → (v.set ≡ 0 → ⊥) → ¬ (MayBeLatin1 v)
+pub no_latin1_behind_start : (v : CodecState) → (v.set ≡ 0 → ⊥) → ¬ (CodecMayBeLatin1 v)
 no_latin1_behind_start v n m = n m.at_start
 
 -- one more
-themselves_then : (ss : List Sequence) (z : List ℕ) (s : Sequence) (b : ℕ) → AreThemselves ss z → IsItself s b → AreThemselves (ss ++ s ∷ []) (z ++ b ∷ [])
+themselves_then : (ss : List Sequence) (z : List ℕ) (s : Sequence) (b : ℕ) → AreLatin1Sequences ss z → IsLatin1Sequence s b → AreLatin1Sequences (ss ++ s ∷ []) (z ++ b ∷ [])
 themselves_then [] [] s b a i = (i, tt)
 themselves_then [] (c ∷ z) s b a i = absurd a
 themselves_then (t ∷ ss) [] s b a i = absurd a
@@ -42,7 +42,7 @@ one_byte b (c ∷ d ∷ x) y e h = absurd (cc)
 pub record Latin1Front {C : Type 0} (state : C → CodecState) (v : CodecState) (bytes : List ℕ) (k : ℕ) (now : C) : Type 0 where
   pub within : k ≤ length bytes
   pub front : List Sequence
-  pub themselves : AreThemselves front (take k bytes)
+  pub themselves : AreLatin1Sequences front (take k bytes)
   pub rest : (y : List ℕ) → (remainder_of v).sequences (take k bytes ++ y) ≡ front ++ (remainder_of (state now)).sequences y
   pub none_pending : (state now).pending ≡ []
 
@@ -51,7 +51,7 @@ latin1_begins state c bytes n = record { within = omega arith; front = []; thems
 
 module _ {C : Type 0} (state : C → CodecState) (v : CodecState) (bytes : List ℕ) (k : ℕ) (now : C) (f : Latin1Front state v bytes k now) where
   -- so many are so, if a byte more is not
-  prefix_if : (k < length bytes → (s : Sequence) → IsItself s (get_or bytes k 0)
+  prefix_if : (k < length bytes → (s : Sequence) → IsLatin1Sequence s (get_or bytes k 0)
       → Determines (remainder_of v).sequences (take (k + 1) bytes) (f.front ++ s ∷ []) → ⊥)
       → IsLatin1Prefix (remainder_of v).sequences bytes k
   prefix_if n = record {
@@ -74,37 +74,37 @@ module _ {C : Type 0} (state : C → CodecState) (v : CodecState) (bytes : List 
       ∙ f.rest (get_or bytes k 0 ∷ y)
 
   -- the next byte is held, and nothing is determined
-  pub latin1_ends_waiting : k < length bytes → (n : C) → Acts state now (get_or bytes k 0) (Wait n) → IsLatin1Prefix (remainder_of v).sequences bytes k
+  pub latin1_ends_waiting : k < length bytes → (n : C) → HandlesByte state now (get_or bytes k 0) (Continue n) → IsLatin1Prefix (remainder_of v).sequences bytes k
   latin1_ends_waiting h n a = prefix_if (λ l s i.
       none_determined (remainder_of v).sequences (remainder_of (state n)).sequences (take (k + 1) bytes) f.front
       (λ y. further h y ∙ ap (λ ss. f.front ++ ss) (holds_sequences (state now) (state n) (get_or bytes k 0) a.0 y)) a.1 s)
 
   -- what a byte more determines comes first
   comes_first : k < length bytes → (s : Sequence) → Determines (remainder_of v).sequences (take (k + 1) bytes) (f.front ++ s ∷ [])
-      → Begins (s ∷ []) ((remainder_of (state now)).sequences (get_or bytes k 0 ∷ []))
+      → AreFirstSequences (s ∷ []) ((remainder_of (state now)).sequences (get_or bytes k 0 ∷ []))
   comes_first h s d =
       begins_behind f.front (s ∷ []) ((remainder_of (state now)).sequences (get_or bytes k 0 ∷ [])) ((remainder_of v).sequences (take (k + 1) bytes ++ []))
       (further h []) (d [] tt)
 
-  module _ (h : k < length bytes) (s : Shown C) where
+  module _ (h : k < length bytes) (s : Emission C) where
     abbrev byte : ℕ
     byte = get_or bytes k 0
 
     abbrev sequence : List ℕ → Sequence
-    sequence x = record { bytes = x; text = chars_of s.text; kind = s.kind; set = (state s.next).set }
+    sequence x = record { bytes = x; text = text_chars s.text; kind = s.kind; set = (state s.next).set }
 
     -- the parts of what is shown, with the byte and before it
-    with_byte : (took : List ℕ) → took ≡ byte ∷ [] → (c : Comes state now (BeginsWith byte) took s)
+    with_byte : (took : List ℕ) → took ≡ byte ∷ [] → (c : IsNextSequence state now (BeginsWithByte byte) took s)
         → (c.bytes ≡ byte ∷ []) × ((state s.next).pending ≡ [])
     with_byte took e c = one_byte byte c.bytes (state s.next).pending (sym e ∙ ap (λ x. x ++ took) (sym f.none_pending) ∙ c.parts) c.some
 
-    first_with : (took : List ℕ) → took ≡ byte ∷ [] → Comes state now (BeginsWith byte) took s
+    first_with : (took : List ℕ) → took ≡ byte ∷ [] → IsNextSequence state now (BeginsWithByte byte) took s
         → (y : List ℕ) → (remainder_of (state now)).sequences (byte ∷ y) ≡ sequence (byte ∷ []) ∷ (remainder_of (state s.next)).sequences y
     first_with took e c y =
         ap (λ x. (remainder_of (state now)).sequences (x ++ y)) (sym e) ∙ c.first y (y, ap (λ x. x ++ y) e)
         ∙ ap (λ x. sequence x ∷ (remainder_of (state s.next)).sequences y) (with_byte took e c).0
 
-    not_before : (took : List ℕ) → took ≡ [] → Comes state now (BeginsWith byte) took s → ⊥
+    not_before : (took : List ℕ) → took ≡ [] → IsNextSequence state now (BeginsWithByte byte) took s → ⊥
     not_before took e c =
         let p : [] ≡ c.bytes ++ (state s.next).pending = ap (λ x. x ++ []) (sym f.none_pending) ∙ ap (λ x. (state now).pending ++ x) (sym e) ∙ c.parts in
         none_in c.bytes p c.some
@@ -114,14 +114,14 @@ module _ {C : Type 0} (state : C → CodecState) (v : CodecState) (bytes : List 
         none_in (a ∷ x) e l = cc
 
     -- the byte is a character of its own number
-    pub latin1_goes_on : Acts state now byte (Show s) → s.takes_byte ≡ true → s.kind ≡ Valid → chars_of s.text ≡ byte ∷ []
+    pub latin1_goes_on : HandlesByte state now byte (Emit s) → s.takes_byte ≡ true → s.kind ≡ Valid → text_chars s.text ≡ byte ∷ []
         → Latin1Front state v bytes (k + 1) s.next
     latin1_goes_on a t valid i =
-        let e : taken s.takes_byte byte ≡ byte ∷ [] = ap (λ b. taken b byte) t in
+        let e : taken_bytes s.takes_byte byte ≡ byte ∷ [] = ap (λ b. taken_bytes b byte) t in
         record {
           within = omega arith;
           front = f.front ++ sequence (byte ∷ []) ∷ [];
-          themselves = subst (AreThemselves (f.front ++ sequence (byte ∷ []) ∷ [])) (sym (take_more bytes k 0 h))
+          themselves = subst (AreLatin1Sequences (f.front ++ sequence (byte ∷ []) ∷ [])) (sym (take_more bytes k 0 h))
               (themselves_then f.front (take k bytes) (sequence (byte ∷ [])) byte f.themselves (record { bytes = refl; text = i; kind = valid }));
           rest = λ y. further h y ∙ ap (λ ss. f.front ++ ss) (first_with _ e a.0 y)
               ∙ sym (append_assoc f.front (sequence (byte ∷ []) ∷ []) ((remainder_of (state s.next)).sequences y));
@@ -129,16 +129,16 @@ module _ {C : Type 0} (state : C → CodecState) (v : CodecState) (bytes : List 
         }
 
     -- the byte is none
-    pub latin1_ends_showing : Acts state now byte (Show s) → (s.takes_byte ≡ true → s.kind ≡ Valid → chars_of s.text ≡ byte ∷ [] → ⊥)
+    pub latin1_ends_showing : HandlesByte state now byte (Emit s) → (s.takes_byte ≡ true → s.kind ≡ Valid → text_chars s.text ≡ byte ∷ [] → ⊥)
         → IsLatin1Prefix (remainder_of v).sequences bytes k
     latin1_ends_showing a n = prefix_if (λ l q i d.
         let g = comes_first h q d in
         elim (takes_or s.takes_byte) [
           | inl t ↦
               let e : q ≡ sequence (byte ∷ []) = same q (sequence (byte ∷ [])) g.0 ((remainder_of (state s.next)).sequences [])
-              (sym g.1 ∙ first_with _ (ap (λ b. taken b byte) t) a.0 []) in
+              (sym g.1 ∙ first_with _ (ap (λ b. taken_bytes b byte) t) a.0 []) in
               n t (sym (ap (λ (r : Sequence). r.kind) e) ∙ i.kind) (sym (ap (λ (r : Sequence). r.text) e) ∙ i.text)
-          | inr t ↦ not_before _ (ap (λ b. taken b byte) t) a.0
+          | inr t ↦ not_before _ (ap (λ b. taken_bytes b byte) t) a.0
         ])
       where
         same : (q r : Sequence) (ss ts : List Sequence) → q ∷ ss ≡ r ∷ ts → q ≡ r

@@ -2,13 +2,13 @@ pub mod SequenceLemmas
 pub mod SegmentationLemmas
 pub mod DeterminedLemmas
 pub mod ByteLemmas
-pub mod Progress
+pub mod DecodeProgressLemmas
 pub mod CallLemmas
-pub mod ComingLemmas
+pub mod NextEventLemmas
 pub mod MachineLemmas
 pub mod RuleLemmas
-pub mod ShowLemmas
-pub mod ToldLemmas
+pub mod EmissionLemmas
+pub mod FirstSequenceLemmas
 pub mod TakingLemmas
 pub mod PieceLemmas
 pub mod Latin1Lemmas

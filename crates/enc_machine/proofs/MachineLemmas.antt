@@ -2,25 +2,25 @@
 use Rattle.std.proofs.Common.{◌≡◌, ℕ, ◌+◌, ◌<◌, ◌≤◌, Bool, true, false, List, [], ◌∷◌, ◌++◌, length, get_or, take, refl, ap, ◌∙◌, sym, arith, subst, append-nil, nat_le, inl, inr}
 use Rattle.std.proofs.lemmas.Bool.{false≢true}
 use Rattle.std.proofs.lemmas.Bool.Decides.{nat_tests}
-use Rattle.enc_machine.specs.declared.byte_codec.Shown.{Shown}
-use Rattle.enc_machine.specs.declared.machine.Coming.TheVariants.{Stay, Hold, Next}
+use Rattle.enc_machine.specs.declared.byte_codec.Emission.{Emission}
+use Rattle.enc_machine.specs.declared.machine.NextEvent.TheVariants.{NeedsInput, HoldsByte, Emits}
 use Rattle.enc_machine.specs.declared.decoder_result.DecoderResult.TheVariants.{InputEmpty, OutputFull, Malformed}
-use Rattle.enc_units.specs.Output.{Output, AreScalars, appended, units_of_text}
-use Rattle.enc_machine.specs.Sequence.{is_malformed, bytes_of}
+use Rattle.enc_units.specs.Output.{Output, AreScalars, with_appended, units_of_text}
+use Rattle.enc_machine.specs.Sequence.{is_malformed, sequence_bytes}
 use Rattle.enc_machine.specs.Segmentation.{sequences_of}
-use Rattle.enc_machine.specs.Remainder.{Begins}
+use Rattle.enc_machine.specs.Remainder.{AreFirstSequences}
 use Rattle.enc_machine.specs.CodecState.{CodecState, remainder_of}
-use Rattle.enc_machine.specs.CodecLaw.{IsComing, chars_of}
-use Rattle.enc_machine.specs.Call.{CallInto, Reported, AreBounded}
+use Rattle.enc_machine.specs.CodecLaw.{IsNextEvent, text_chars}
+use Rattle.enc_machine.specs.Call.{DecoderCallInto, Fatal, AreReportedLens}
 use Rattle.enc_machine.proofs.SegmentationLemmas.{sequences_of-nil, goes_on}
-use Rattle.enc_units.proofs.OutputLemmas.{appended-nil, appended-appended, fits_behind, full_behind, room_left}
-use Rattle.enc_machine.proofs.Progress.{Writing}
-use Rattle.enc_machine.proofs.Progress.{start, hold, put_with, put_before, set_then, accounted_after, accounted_further}
+use Rattle.enc_units.proofs.OutputLemmas.{with_appended-nil, with_appended-with_appended, fits_behind, full_behind, room_left}
+use Rattle.enc_machine.proofs.DecodeProgressLemmas.{Writing}
+use Rattle.enc_machine.proofs.DecodeProgressLemmas.{start, hold, put_with, put_before, set_then, accounted_after, accounted_further}
 use Rattle.enc_machine.proofs.CallLemmas.{empty, full, report_before, report_with}
-use Rattle.enc_machine.proofs.ComingLemmas as coming
+use Rattle.enc_machine.proofs.NextEventLemmas as coming
 
 pub begin : (units_of : ℕ → List ℕ) (v : CodecState) (src : List ℕ) (last : Bool) (before : Output) → Writing units_of (remainder_of v) src last before before 0 (remainder_of v)
-begin units_of v src last before = record { wrote = []; onto = sym (appended-nil before); progress = start units_of (remainder_of v) src last before.room }
+begin units_of v src last before = record { wrote = []; onto = sym (with_appended-nil before); progress = start units_of (remainder_of v) src last before.room }
 
 none_left : (v : CodecState) → v.pending ≡ [] → (remainder_of v).sequences [] ≡ []
 none_left v e = ap (λ x. sequences_of v.rule v.set (x ++ [])) e ∙ sequences_of-nil v.rule v.set
@@ -33,19 +33,19 @@ not_le m n h = grind (arith, nat_tests)
 
 module _ {C : Type 0} (units_of : ℕ → List ℕ) (state : C → CodecState) (v : CodecState) (c : C) (src : List ℕ) (last keeps : Bool) (before after : Output) (read : ℕ)
     (w : Writing units_of (remainder_of v) src last before after read (remainder_of (state c))) (same : (state c).rule ≡ v.rule) where
-  goes : (y : List ℕ) → Begins w.progress.done ((remainder_of v).sequences (take read src ++ y))
+  goes : (y : List ℕ) → AreFirstSequences w.progress.done ((remainder_of v).sequences (take read src ++ y))
       → (remainder_of v).sequences (take read src ++ y) ≡ w.progress.done ++ (remainder_of (state c)).sequences y
   goes y b = goes_on v (state c) (take read src) y w.progress.done same w.progress.set w.progress.accounted b
 
-  pub stays : IsComing state c src read last Stay
-      → CallInto units_of (remainder_of v) (remainder_of (state c)) src last (Reported keeps) before after InputEmpty read false
+  pub stays : IsNextEvent state c src read last NeedsInput
+      → DecoderCallInto units_of (remainder_of v) (remainder_of (state c)) src last (Fatal keeps) before after InputEmpty read false
   stays e = record {
     wrote = w.wrote;
     onto = w.onto;
     call = empty units_of (remainder_of v) src last before.room read (remainder_of (state c)) w.wrote keeps w.progress goes e.0 e.1 (λ l. none_left (state c) (e.1 l)) e.2;
   }
 
-  pub holds : (n : C) → IsComing state c src read last (Hold n)
+  pub holds : (n : C) → IsNextEvent state c src read last (HoldsByte n)
       → Writing units_of (remainder_of v) src last before after (read + 1) (remainder_of (state n))
   holds n e =
       let b = get_or src read 0 in
@@ -57,41 +57,41 @@ module _ {C : Type 0} (units_of : ℕ → List ℕ) (state : C → CodecState) (
       }
 
   -- a sequence whose text has more units than the room that is left
-  pub overflows : (s : Shown C) → IsComing state c src read last (Next s) → (keeps ≡ false → is_malformed s.kind ≡ false)
-      → nat_le (length (units_of_text units_of (chars_of s.text))) after.room ≡ false
-      → CallInto units_of (remainder_of v) (remainder_of (state c)) src last (Reported keeps) before after OutputFull read false
+  pub overflows : (s : Emission C) → IsNextEvent state c src read last (Emits s) → (keeps ≡ false → is_malformed s.kind ≡ false)
+      → nat_le (length (units_of_text units_of (text_chars s.text))) after.room ≡ false
+      → DecoderCallInto units_of (remainder_of v) (remainder_of (state c)) src last (Fatal keeps) before after OutputFull read false
   overflows s e k f = record {
     wrote = w.wrote;
     onto = w.onto;
     call = full units_of (remainder_of v) src last before.room read (remainder_of (state c)) w.wrote keeps w.progress goes
         (coming.sequence state c src read last s e.0) (coming.comes_first state c src read last s e.0 (λ t. (e.1 t).0)) k
-        (full_behind before.room (length w.wrote) (length (units_of_text units_of (chars_of s.text))) w.progress.fits
-        (subst (λ r. nat_le (length (units_of_text units_of (chars_of s.text))) r ≡ false) (room_left before after w.wrote w.onto) f));
+        (full_behind before.room (length w.wrote) (length (units_of_text units_of (text_chars s.text))) w.progress.fits
+        (subst (λ r. nat_le (length (units_of_text units_of (text_chars s.text))) r ≡ false) (room_left before after w.wrote w.onto) f));
   }
 
   -- the same, where the output is told to be as it was
-  pub overflows_at : (s : Shown C) (then : Output) → IsComing state c src read last (Next s) → is_malformed s.kind ≡ false
-      → nat_le (length (units_of_text units_of (chars_of s.text))) after.room ≡ false → then ≡ after
-      → CallInto units_of (remainder_of v) (remainder_of (state c)) src last (Reported keeps) before then OutputFull read false
+  pub overflows_at : (s : Emission C) (then : Output) → IsNextEvent state c src read last (Emits s) → is_malformed s.kind ≡ false
+      → nat_le (length (units_of_text units_of (text_chars s.text))) after.room ≡ false → then ≡ after
+      → DecoderCallInto units_of (remainder_of v) (remainder_of (state c)) src last (Fatal keeps) before then OutputFull read false
   overflows_at s then e k f o =
-      subst (λ (x : Output). CallInto units_of (remainder_of v) (remainder_of (state c)) src last (Reported keeps) before x OutputFull read false) (sym o)
+      subst (λ (x : Output). DecoderCallInto units_of (remainder_of v) (remainder_of (state c)) src last (Fatal keeps) before x OutputFull read false) (sym o)
       (overflows s e (λ _. k) f)
 
   -- a malformed one, where the room for U+FFFD is kept
-  pub overflows_malformed : (s : Shown C) → IsComing state c src read last (Next s) → is_malformed s.kind ≡ true → keeps ≡ true
+  pub overflows_malformed : (s : Emission C) → IsNextEvent state c src read last (Emits s) → is_malformed s.kind ≡ true → keeps ≡ true
       → after.room < length (units_of 0xFFFD)
-      → CallInto units_of (remainder_of v) (remainder_of (state c)) src last (Reported keeps) before after OutputFull read false
+      → DecoderCallInto units_of (remainder_of v) (remainder_of (state c)) src last (Fatal keeps) before after OutputFull read false
   overflows_malformed s e b k f = overflows s e (λ n. absurd (false≢true (sym n ∙ k)))
       (ap (λ t. nat_le (length (units_of_text units_of t)) after.room) (e.0.replacement b) ∙ ap (λ t. nat_le (length t) after.room) (one_unit units_of 0xFFFD)
       ∙ not_le (length (units_of 0xFFFD)) after.room f)
 
   -- one that is neither reported nor put out
-  pub stops_full : (s : Shown C) (then : Output) → IsComing state c src read last (Next s) → then ≡ after
+  pub stops_full : (s : Emission C) (then : Output) → IsNextEvent state c src read last (Emits s) → then ≡ after
       → (is_malformed s.kind ≡ true → keeps ≡ true) → (is_malformed s.kind ≡ true → after.room < length (units_of 0xFFFD))
-      → (is_malformed s.kind ≡ false → nat_le (length (units_of_text units_of (chars_of s.text))) after.room ≡ false)
-      → CallInto units_of (remainder_of v) (remainder_of (state c)) src last (Reported keeps) before then OutputFull read false
+      → (is_malformed s.kind ≡ false → nat_le (length (units_of_text units_of (text_chars s.text))) after.room ≡ false)
+      → DecoderCallInto units_of (remainder_of v) (remainder_of (state c)) src last (Fatal keeps) before then OutputFull read false
   stops_full s then e o k r f = elim (coming.takes_or (is_malformed s.kind)) [
-    | inl b ↦ subst (λ (x : Output). CallInto units_of (remainder_of v) (remainder_of (state c)) src last (Reported keeps) before x OutputFull read false) (sym o)
+    | inl b ↦ subst (λ (x : Output). DecoderCallInto units_of (remainder_of v) (remainder_of (state c)) src last (Fatal keeps) before x OutputFull read false) (sym o)
         (overflows_malformed s e b (k b) (r b))
     | inr b ↦ overflows_at s then e b (f b) o
   ]
@@ -102,45 +102,45 @@ module _ {C : Type 0} (units_of : ℕ → List ℕ) (state : C → CodecState) (
   fits text f = fits_behind before.room (length w.wrote) (length (units_of_text units_of text)) w.progress.fits
       (subst (λ r. nat_le (length (units_of_text units_of text)) r ≡ true) (room_left before after w.wrote w.onto) f)
 
-  onto_after : (text : List ℕ) (then : Output) → then ≡ appended after (units_of_text units_of text) → then ≡ appended before (w.wrote ++ units_of_text units_of text)
-  onto_after text then e = e ∙ ap (λ o. appended o (units_of_text units_of text)) w.onto ∙ appended-appended before w.wrote (units_of_text units_of text)
+  onto_after : (text : List ℕ) (then : Output) → then ≡ with_appended after (units_of_text units_of text) → then ≡ with_appended before (w.wrote ++ units_of_text units_of text)
+  onto_after text then e = e ∙ ap (λ o. with_appended o (units_of_text units_of text)) w.onto ∙ with_appended-with_appended before w.wrote (units_of_text units_of text)
 
-  pub puts_with : (s : Shown C) (then : Output) → IsComing state c src read last (Next s) → is_malformed s.kind ≡ false → s.takes_byte ≡ true → AreScalars (chars_of s.text)
-      → nat_le (length (units_of_text units_of (chars_of s.text))) after.room ≡ true → then ≡ appended after (units_of_text units_of (chars_of s.text))
+  pub puts_with : (s : Emission C) (then : Output) → IsNextEvent state c src read last (Emits s) → is_malformed s.kind ≡ false → s.takes_byte ≡ true → AreScalars (text_chars s.text)
+      → nat_le (length (units_of_text units_of (text_chars s.text))) after.room ≡ true → then ≡ with_appended after (units_of_text units_of (text_chars s.text))
       → Writing units_of (remainder_of v) src last before then (read + 1) (remainder_of (state s.next))
   puts_with s then e g t i f o =
       let h = e.1 t in
       record {
-        wrote = w.wrote ++ units_of_text units_of (chars_of s.text);
-        onto = onto_after (chars_of s.text) then o;
+        wrote = w.wrote ++ units_of_text units_of (text_chars s.text);
+        onto = onto_after (text_chars s.text) then o;
         progress = put_with units_of (remainder_of v) src last before.room read (remainder_of (state c)) w.wrote w.progress
             (coming.sequence state c src read last s e.0) (remainder_of (state s.next)) h.0 (coming.parts_with state c src read last s e.0 t) refl
-            (coming.first_with state c src read last s e.0 t) h.2 g i (fits (chars_of s.text) f);
+            (coming.first_with state c src read last s e.0 t) h.2 g i (fits (text_chars s.text) f);
       }
 
-  pub puts_before : (s : Shown C) (then : Output) → IsComing state c src read last (Next s) → is_malformed s.kind ≡ false → s.takes_byte ≡ false → AreScalars (chars_of s.text)
-      → nat_le (length (units_of_text units_of (chars_of s.text))) after.room ≡ true → then ≡ appended after (units_of_text units_of (chars_of s.text))
+  pub puts_before : (s : Emission C) (then : Output) → IsNextEvent state c src read last (Emits s) → is_malformed s.kind ≡ false → s.takes_byte ≡ false → AreScalars (text_chars s.text)
+      → nat_le (length (units_of_text units_of (text_chars s.text))) after.room ≡ true → then ≡ with_appended after (units_of_text units_of (text_chars s.text))
       → Writing units_of (remainder_of v) src last before then read (remainder_of (state s.next))
   puts_before s then e g t i f o =
       record {
-        wrote = w.wrote ++ units_of_text units_of (chars_of s.text);
-        onto = onto_after (chars_of s.text) then o;
+        wrote = w.wrote ++ units_of_text units_of (text_chars s.text);
+        onto = onto_after (text_chars s.text) then o;
         progress = put_before units_of (remainder_of v) src last before.room read (remainder_of (state c)) w.wrote w.progress
             (coming.sequence state c src read last s e.0) (remainder_of (state s.next)) (coming.parts_before state c src read last s e.0 t) refl
-            (coming.first_before state c src read last s e.0 t) g i (fits (chars_of s.text) f);
+            (coming.first_before state c src read last s e.0 t) g i (fits (text_chars s.text) f);
       }
 
   -- the sequence is malformed, and is reported
 
-  some_len : (s : Shown C) → IsComing state c src read last (Next s) → 0 < s.len
+  some_len : (s : Emission C) → IsNextEvent state c src read last (Emits s) → 0 < s.len
   some_len s e = let f = e.0.len in let h = e.0.some in omega arith
 
   room_kept : (keeps ≡ true → length (units_of 0xFFFD) ≤ after.room) → keeps ≡ true → length w.wrote + length (units_of 0xFFFD) ≤ before.room
   room_kept h k = let f = h k in let e = room_left before after w.wrote w.onto in omega (arith, w.progress.fits)
 
-  pub reports_before : (s : Shown C) (a : ℕ) → IsComing state c src read last (Next s) → is_malformed s.kind ≡ true → s.takes_byte ≡ false
+  pub reports_before : (s : Emission C) (a : ℕ) → IsNextEvent state c src read last (Emits s) → is_malformed s.kind ≡ true → s.takes_byte ≡ false
       → a ≡ length (state s.next).pending → (keeps ≡ true → length (units_of 0xFFFD) ≤ after.room)
-      → CallInto units_of (remainder_of v) (remainder_of (state s.next)) src last (Reported keeps) before after (Malformed s.len a) read false
+      → DecoderCallInto units_of (remainder_of v) (remainder_of (state s.next)) src last (Fatal keeps) before after (Malformed s.len a) read false
   reports_before s a e b t k r = let q = coming.sequence state c src read last s e.0 in record {
     wrote = w.wrote;
     onto = w.onto;
@@ -149,14 +149,14 @@ module _ {C : Type 0} (units_of : ℕ → List ℕ) (state : C → CodecState) (
         (λ y g. goes_on v (state s.next) (take read src) y (w.progress.done ++ q ∷ []) (e.0.same_rule ∙ same)
         (set_then units_of (remainder_of v) src last before.room read (remainder_of (state c)) w.wrote w.progress q (remainder_of (state s.next)) refl)
         (accounted_after units_of (remainder_of v) src last before.room read (remainder_of (state c)) w.wrote w.progress q (v.pending ++ take read src) (state s.next).pending
-        (w.progress.accounted ∙ ap (λ x. bytes_of w.progress.done ++ x) (coming.parts_before state c src read last s e.0 t))) g)
+        (w.progress.accounted ∙ ap (λ x. sequence_bytes w.progress.done ++ x) (coming.parts_before state c src read last s e.0 t))) g)
         b (coming.not_late state c src read last s e.0 t) (e.0.replacement b)
-        e.0.len (some_len s e) (subst (AreBounded s.kind s.len) (sym k) (e.0.bounds b)) k (room_kept r) (coming.parts_before state c src read last s e.0 t) refl (coming.first_before state c src read last s e.0 t);
+        e.0.len (some_len s e) (subst (AreReportedLens s.kind s.len) (sym k) (e.0.bounds b)) k (room_kept r) (coming.parts_before state c src read last s e.0 t) refl (coming.first_before state c src read last s e.0 t);
   }
 
-  pub reports_with : (s : Shown C) (a : ℕ) → IsComing state c src read last (Next s) → is_malformed s.kind ≡ true → s.takes_byte ≡ true
+  pub reports_with : (s : Emission C) (a : ℕ) → IsNextEvent state c src read last (Emits s) → is_malformed s.kind ≡ true → s.takes_byte ≡ true
       → a ≡ length (state s.next).pending → (keeps ≡ true → length (units_of 0xFFFD) ≤ after.room)
-      → CallInto units_of (remainder_of v) (remainder_of (state s.next)) src last (Reported keeps) before after (Malformed s.len a) (read + 1) false
+      → DecoderCallInto units_of (remainder_of v) (remainder_of (state s.next)) src last (Fatal keeps) before after (Malformed s.len a) (read + 1) false
   reports_with s a e b t k r =
       let h = e.1 t in let q = coming.sequence state c src read last s e.0 in
       record {
@@ -168,8 +168,8 @@ module _ {C : Type 0} (units_of : ℕ → List ℕ) (state : C → CodecState) (
             (set_then units_of (remainder_of v) src last before.room read (remainder_of (state c)) w.wrote w.progress q (remainder_of (state s.next)) refl)
             (accounted_after units_of (remainder_of v) src last before.room read (remainder_of (state c)) w.wrote w.progress q (v.pending ++ take (read + 1) src) (state s.next).pending
             (accounted_further units_of (remainder_of v) src last before.room read (remainder_of (state c)) w.wrote w.progress h.0
-            ∙ ap (λ x. bytes_of w.progress.done ++ x) (coming.parts_with state c src read last s e.0 t))) g)
+            ∙ ap (λ x. sequence_bytes w.progress.done ++ x) (coming.parts_with state c src read last s e.0 t))) g)
             h.2 b (e.0.replacement b) (e.0.clean t)
-            e.0.len (some_len s e) (subst (AreBounded s.kind s.len) (sym k) (e.0.bounds b)) k (room_kept r) h.0 (coming.parts_with state c src read last s e.0 t) refl (coming.first_with state c src read last s e.0 t)
+            e.0.len (some_len s e) (subst (AreReportedLens s.kind s.len) (sym k) (e.0.bounds b)) k (room_kept r) h.0 (coming.parts_with state c src read last s e.0 t) refl (coming.first_with state c src read last s e.0 t)
             (λ _ d. coming.not_shown_yet units_of v (state c) src last before.room read w.wrote w.progress same h.1 (coming.sequence state c src read last s e.0) d);
       }

@@ -7,16 +7,16 @@ use Rattle.enc_machine.specs.declared.decoder_result.DecoderResult.{DecoderResul
 use Rattle.enc_machine.specs.declared.decoder_result.DecoderResult.TheVariants.{InputEmpty, OutputFull}
 use Rattle.enc_machine.specs.declared.decoder_result.DecoderResult.TheVariants as stop
 use Rattle.enc_units.specs.Output.{Output, units_of_text}
-use Rattle.enc_machine.specs.Sequence.{Sequence, is_malformed, any_malformed, text_of}
-use Rattle.enc_machine.specs.Remainder.{Remainder, Begins, Determines, AreDetermined}
-use Rattle.enc_machine.specs.Call.{Treatment, Replaced, Reported, is_replaced, keeps_room, AtInputEmpty, AtOutputFull, AtMalformed, Stops, Call, CallInto}
-use Rattle.enc_machine.specs.Need.{before_malformed, needed, needed_units, NeedPasses, kept_room, MeetsNeed}
+use Rattle.enc_machine.specs.Sequence.{Sequence, is_malformed, any_malformed, sequence_text}
+use Rattle.enc_machine.specs.Remainder.{Remainder, AreFirstSequences, Determines, AreDetermined}
+use Rattle.enc_machine.specs.Call.{DecodeErrorMode, Replacement, Fatal, is_replacement_mode, keeps_room, DecoderAtInputEmpty, DecoderAtOutputFull, AtMalformed, DecoderStops, DecoderCall, DecoderCallInto}
+use Rattle.enc_machine.specs.Need.{sequences_before_malformed, needed_sequences, needed_units, NeedExceeds, kept_room, MeetsDecodeNeed}
 use Rattle.enc_machine.proofs.SequenceLemmas.{units-append}
 use Rattle.enc_machine.proofs.DeterminedLemmas.{determines_fewer, begins_behind}
 
 -- of two lists that begin a third, one begins the other
 
-pub begin_alike : (a b all : List Sequence) → Begins a all → Begins b all → Begins a b ⊎ ((s : Sequence) × (rest : List Sequence) × (a ≡ b ++ s ∷ rest))
+pub begin_alike : (a b all : List Sequence) → AreFirstSequences a all → AreFirstSequences b all → AreFirstSequences a b ⊎ ((s : Sequence) × (rest : List Sequence) × (a ≡ b ++ s ∷ rest))
 begin_alike [] b all h k = inl (b, refl)
 begin_alike (s ∷ a) [] all h k = inr (s, a, refl)
 begin_alike (s ∷ a) (t ∷ b) [] h k = absurd (let e = h.1 in cc)
@@ -36,50 +36,50 @@ begin_alike (s ∷ a) (t ∷ b) (u ∷ all) h k =
 
 module _ (units_of : ℕ → List ℕ) where
   abbrev pub units : List Sequence → ℕ
-  units ss = length (units_of_text units_of (text_of ss))
+  units ss = length (units_of_text units_of (sequence_text ss))
 
   pub units-both : (ss ts : List Sequence) → units (ss ++ ts) ≡ units ss + units ts
-  units-both ss ts = ap length (units-append units_of ss ts) ∙ length-append (units_of_text units_of (text_of ss)) (units_of_text units_of (text_of ts))
+  units-both ss ts = ap length (units-append units_of ss ts) ∙ length-append (units_of_text units_of (sequence_text ss)) (units_of_text units_of (sequence_text ts))
 
   longer_if : (t : Bool) (s : Sequence) (x p q : List Sequence) → units p ≤ units q → units (cond t x (s ∷ p)) ≤ units (cond t x (s ∷ q))
   longer_if true s x p q h = omega arith
   longer_if false s x p q h = omega (arith, h, units-both (s ∷ []) p, units-both (s ∷ []) q)
 
-  before_more : (keeps : Bool) (ss ts : List Sequence) → units (before_malformed keeps ss) ≤ units (before_malformed keeps (ss ++ ts))
+  before_more : (keeps : Bool) (ss ts : List Sequence) → units (sequences_before_malformed keeps ss) ≤ units (sequences_before_malformed keeps (ss ++ ts))
   before_more keeps [] ts = omega arith
   before_more keeps (s ∷ ss) ts = longer_if (is_malformed s.kind) s _ _ _ (before_more keeps ss ts)
 
   -- more sequences need no less
-  pub needed_more : (treatment : Treatment) (ss ts : List Sequence) → needed_units units_of treatment ss ≤ needed_units units_of treatment (ss ++ ts)
-  needed_more Replaced ss ts = omega (arith, units-both ss ts)
-  needed_more (Reported keeps) ss ts = before_more keeps ss ts
+  pub needed_more : (mode : DecodeErrorMode) (ss ts : List Sequence) → needed_units units_of mode ss ≤ needed_units units_of mode (ss ++ ts)
+  needed_more Replacement ss ts = omega (arith, units-both ss ts)
+  needed_more (Fatal keeps) ss ts = before_more keeps ss ts
 
 either_false : (a b : Bool) → (a || b) ≡ false → (a ≡ false) × (b ≡ false)
 either_false true b e = absurd (false≢true (sym e))
 either_false false b e = (refl, e)
 
 -- behind sequences of which none is malformed
-before_clean : (keeps : Bool) (ss ts : List Sequence) → any_malformed ss ≡ false → before_malformed keeps (ss ++ ts) ≡ ss ++ before_malformed keeps ts
+before_clean : (keeps : Bool) (ss ts : List Sequence) → any_malformed ss ≡ false → sequences_before_malformed keeps (ss ++ ts) ≡ ss ++ sequences_before_malformed keeps ts
 before_clean keeps [] ts n = refl
 before_clean keeps (s ∷ ss) ts n =
     let m = either_false (is_malformed s.kind) (any_malformed ss) n in
     cond-false _ _ _ m.0 ∙ ap (λ x. s ∷ x) (before_clean keeps ss ts m.1)
 
-pub needed_clean : (treatment : Treatment) (ss ts : List Sequence) → (is_replaced treatment ≡ false → any_malformed ss ≡ false)
-    → needed treatment (ss ++ ts) ≡ ss ++ needed treatment ts
-needed_clean Replaced ss ts n = refl
-needed_clean (Reported keeps) ss ts n = before_clean keeps ss ts (n refl)
+pub needed_clean : (mode : DecodeErrorMode) (ss ts : List Sequence) → (is_replacement_mode mode ≡ false → any_malformed ss ≡ false)
+    → needed_sequences mode (ss ++ ts) ≡ ss ++ needed_sequences mode ts
+needed_clean Replacement ss ts n = refl
+needed_clean (Fatal keeps) ss ts n = before_clean keeps ss ts (n refl)
 
 -- one that is malformed ends it
 before_cut : (keeps : Bool) (ss : List Sequence) (s : Sequence) (ts : List Sequence) → any_malformed ss ≡ false → is_malformed s.kind ≡ true
-    → before_malformed keeps (ss ++ s ∷ ts) ≡ ss ++ cond keeps (s ∷ []) []
+    → sequences_before_malformed keeps (ss ++ s ∷ ts) ≡ ss ++ cond keeps (s ∷ []) []
 before_cut keeps ss s ts n m = before_clean keeps ss (s ∷ ts) n ∙ ap (λ x. ss ++ x) (cond-true _ _ _ m)
 
 -- what determines sequences at all
 
-pub at_end : (last : Bool) (remaining : List ℕ → List Sequence) (x : List ℕ) (ss : List Sequence) → AreDetermined last remaining x ss → Begins ss (remaining x)
+pub at_end : (last : Bool) (remaining : List ℕ → List Sequence) (x : List ℕ) (ss : List Sequence) → AreDetermined last remaining x ss → AreFirstSequences ss (remaining x)
 at_end true remaining x ss d = d
-at_end false remaining x ss d = subst (λ y. Begins ss (remaining y)) (append-nil x) (d [] tt)
+at_end false remaining x ss d = subst (λ y. AreFirstSequences ss (remaining y)) (append-nil x) (d [] tt)
 
 none_needed : (last : Bool) (remaining : List ℕ → List Sequence) (x : List ℕ) → AreDetermined last remaining x []
 none_needed true remaining x = (remaining x, refl)
@@ -108,42 +108,42 @@ module _ (old new : List ℕ → List Sequence) (src rest : List ℕ) (done : Li
 
   -- what is determined is a part of what is done, or goes on behind it
   compare : (last : Bool) → LeavesOff last → (ss : List Sequence) → AreDetermined last old src ss
-      → Begins ss done ⊎ ((s : Sequence) × (ts : List Sequence) × (ss ≡ done ++ s ∷ ts))
+      → AreFirstSequences ss done ⊎ ((s : Sequence) × (ts : List Sequence) × (ss ≡ done ++ s ∷ ts))
   compare last h ss d = begin_alike ss done (old src) (at_end last old src ss d) (at_end last old src done (done_determined last h))
 
-module _ (units_of : ℕ → List ℕ) (treatment : Treatment) (old new : Remainder) (src : List ℕ) (last : Bool) (room read : ℕ) where
+module _ (units_of : ℕ → List ℕ) (mode : DecodeErrorMode) (old new : Remainder) (src : List ℕ) (last : Bool) (room read : ℕ) where
   abbrev Passes : ℕ → Type 0
-  Passes n = NeedPasses units_of treatment old src last n
+  Passes n = NeedExceeds units_of mode old src last n
 
   abbrev of_sequences : List Sequence → ℕ
-  of_sequences ss = needed_units units_of treatment ss
+  of_sequences ss = needed_units units_of mode ss
 
-  within : (ss done : List Sequence) → Begins ss done → of_sequences ss ≤ of_sequences done
-  within ss done b = subst (λ ts. of_sequences ss ≤ of_sequences ts) (sym b.1) (needed_more units_of treatment ss b.0)
+  within : (ss done : List Sequence) → AreFirstSequences ss done → of_sequences ss ≤ of_sequences done
+  within ss done b = subst (λ ts. of_sequences ss ≤ of_sequences ts) (sym b.1) (needed_more units_of mode ss b.0)
 
-  module _ (put done : List Sequence) (clean : is_replaced treatment ≡ false → any_malformed put ≡ false)
+  module _ (put done : List Sequence) (clean : is_replacement_mode mode ≡ false → any_malformed put ≡ false)
       (h : LeavesOff old.sequences new.sequences src (drop read src) done last) where
     -- where all that is done was put out
     module _ (e : done ≡ put) where
-      clean_done : is_replaced treatment ≡ false → any_malformed done ≡ false
+      clean_done : is_replacement_mode mode ≡ false → any_malformed done ≡ false
       clean_done r = ap any_malformed e ∙ clean r
 
       needed_done : (ts : List Sequence) → of_sequences (done ++ ts) ≡ units units_of put + of_sequences ts
       needed_done ts =
-          ap (units units_of) (needed_clean treatment done ts clean_done) ∙ units-both units_of done (needed treatment ts)
+          ap (units units_of) (needed_clean mode done ts clean_done) ∙ units-both units_of done (needed_sequences mode ts)
           ∙ ap (λ ss. units units_of ss + of_sequences ts) e
 
       all_done : of_sequences done ≡ units units_of put
-      all_done = ap of_sequences (sym (append-nil done)) ∙ needed_done [] ∙ plus_none (units units_of put) (of_sequences []) (none treatment)
+      all_done = ap of_sequences (sym (append-nil done)) ∙ needed_done [] ∙ plus_none (units units_of put) (of_sequences []) (none mode)
         where
           plus_none : (a b : ℕ) → b ≡ 0 → a + b ≡ a
           plus_none a b f = omega arith
 
-          none : (t : Treatment) → needed_units units_of t [] ≡ 0
-          none Replaced = refl
-          none (Reported keeps) = refl
+          none : (t : DecodeErrorMode) → needed_units units_of t [] ≡ 0
+          none Replacement = refl
+          none (Fatal keeps) = refl
 
-      goes_on : (n : ℕ) → Passes (units units_of put + n) → NeedPasses units_of treatment new (drop read src) last n
+      goes_on : (n : ℕ) → Passes (units units_of put + n) → NeedExceeds units_of mode new (drop read src) last n
       goes_on n p = elim (compare old.sequences new.sequences src (drop read src) done last h p.sequences p.determined) [
         | inl b ↦ absurd (let l = within p.sequences done b in let m = p.more in omega (arith, l, m, all_done))
         | inr g ↦ record {
@@ -154,7 +154,7 @@ module _ (units_of : ℕ → List ℕ) (treatment : Treatment) (old new : Remain
         }
       ]
 
-      comes_back : (n : ℕ) → NeedPasses units_of treatment new (drop read src) last n → Passes (units units_of put + n)
+      comes_back : (n : ℕ) → NeedExceeds units_of mode new (drop read src) last n → Passes (units units_of put + n)
       comes_back n p = record {
         sequences = done ++ p.sequences;
         determined = behind_done old.sequences new.sequences src (drop read src) done last h p.sequences p.determined;
@@ -184,66 +184,66 @@ same_either true x = refl
 same_either false x = refl
 
 -- a sequence that is not to be reported is needed
-one_needed : (treatment : Treatment) (s : Sequence) → (keeps_room treatment ≡ false → is_malformed s.kind ≡ false) → needed treatment (s ∷ []) ≡ s ∷ []
-one_needed Replaced s n = refl
-one_needed (Reported true) s n = same_either (is_malformed s.kind) (s ∷ [])
-one_needed (Reported false) s n = cond-false _ _ _ (n refl)
+one_needed : (mode : DecodeErrorMode) (s : Sequence) → (keeps_room mode ≡ false → is_malformed s.kind ≡ false) → needed_sequences mode (s ∷ []) ≡ s ∷ []
+one_needed Replacement s n = refl
+one_needed (Fatal true) s n = same_either (is_malformed s.kind) (s ∷ [])
+one_needed (Fatal false) s n = cond-false _ _ _ (n refl)
 
 module _ (units_of : ℕ → List ℕ) where
   pub units-one : (s : Sequence) (text : List ℕ) → s.text ≡ text → units units_of (s ∷ []) ≡ length (units_of_text units_of text)
   units-one s text e = ap (λ t. length (units_of_text units_of t)) (append-nil s.text ∙ e)
 
   -- behind one that is reported nothing more is needed
-  needed_cut : (treatment : Treatment) (put done : List Sequence) (s : Sequence) (ts : List Sequence) → done ≡ put ++ s ∷ [] → any_malformed put ≡ false
-      → is_malformed s.kind ≡ true → s.text ≡ 0xFFFD ∷ [] → is_replaced treatment ≡ false
-      → needed_units units_of treatment (done ++ ts) ≡ units units_of put + kept_room units_of treatment
-  needed_cut Replaced put done s ts e n m r t = absurd (false≢true (sym t))
-  needed_cut (Reported true) put done s ts e n m r t =
-      ap (λ d. needed_units units_of (Reported true) (d ++ ts)) e ∙ ap (needed_units units_of (Reported true)) (append_assoc put (s ∷ []) ts)
+  needed_cut : (mode : DecodeErrorMode) (put done : List Sequence) (s : Sequence) (ts : List Sequence) → done ≡ put ++ s ∷ [] → any_malformed put ≡ false
+      → is_malformed s.kind ≡ true → s.text ≡ 0xFFFD ∷ [] → is_replacement_mode mode ≡ false
+      → needed_units units_of mode (done ++ ts) ≡ units units_of put + kept_room units_of mode
+  needed_cut Replacement put done s ts e n m r t = absurd (false≢true (sym t))
+  needed_cut (Fatal true) put done s ts e n m r t =
+      ap (λ d. needed_units units_of (Fatal true) (d ++ ts)) e ∙ ap (needed_units units_of (Fatal true)) (append_assoc put (s ∷ []) ts)
       ∙ ap (units units_of) (before_cut true put s ts n m) ∙ units-both units_of put (s ∷ [])
       ∙ ap (λ k. units units_of put + k) (units-one s (0xFFFD ∷ []) r ∙ ap length (append-nil (units_of 0xFFFD)))
-  needed_cut (Reported false) put done s ts e n m r t =
-      ap (λ d. needed_units units_of (Reported false) (d ++ ts)) e ∙ ap (needed_units units_of (Reported false)) (append_assoc put (s ∷ []) ts)
+  needed_cut (Fatal false) put done s ts e n m r t =
+      ap (λ d. needed_units units_of (Fatal false) (d ++ ts)) e ∙ ap (needed_units units_of (Fatal false)) (append_assoc put (s ∷ []) ts)
       ∙ ap (units units_of) (before_cut false put s ts n m) ∙ units-both units_of put []
 
-  kept_fits : (treatment : Treatment) (n room : ℕ) → (keeps_room treatment ≡ true → n + length (units_of 0xFFFD) ≤ room) → n ≤ room → is_replaced treatment ≡ false
-      → n + kept_room units_of treatment ≤ room
-  kept_fits Replaced n room k l r = absurd (false≢true (sym r))
-  kept_fits (Reported true) n room k l r = k refl
-  kept_fits (Reported false) n room k l r = omega (arith, l)
+  kept_fits : (mode : DecodeErrorMode) (n room : ℕ) → (keeps_room mode ≡ true → n + length (units_of 0xFFFD) ≤ room) → n ≤ room → is_replacement_mode mode ≡ false
+      → n + kept_room units_of mode ≤ room
+  kept_fits Replacement n room k l r = absurd (false≢true (sym r))
+  kept_fits (Fatal true) n room k l r = k refl
+  kept_fits (Fatal false) n room k l r = omega (arith, l)
 
-module _ (units_of : ℕ → List ℕ) (treatment : Treatment) (old new : Remainder) (src : List ℕ) (last : Bool) (room read : ℕ) (put done : List Sequence)
-    (clean : is_replaced treatment ≡ false → any_malformed put ≡ false)
+module _ (units_of : ℕ → List ℕ) (mode : DecodeErrorMode) (old new : Remainder) (src : List ℕ) (last : Bool) (room read : ℕ) (put done : List Sequence)
+    (clean : is_replacement_mode mode ≡ false → any_malformed put ≡ false)
     (h : LeavesOff old.sequences new.sequences src (drop read src) done last) (fits : units units_of put ≤ room) where
   abbrev Meets : DecoderResult → Type 0
-  Meets result = MeetsNeed units_of treatment old new src last room result read (units units_of put)
+  Meets result = MeetsDecodeNeed units_of mode old new src last room result read (units units_of put)
 
-  compared : (ss : List Sequence) → AreDetermined last old.sequences src ss → Begins ss done ⊎ ((s : Sequence) × (ts : List Sequence) × (ss ≡ done ++ s ∷ ts))
+  compared : (ss : List Sequence) → AreDetermined last old.sequences src ss → AreFirstSequences ss done ⊎ ((s : Sequence) × (ts : List Sequence) × (ss ≡ done ++ s ∷ ts))
   compared = compare old.sequences new.sequences src (drop read src) done last h
 
-  shorter : (ss : List Sequence) → Begins ss done → needed_units units_of treatment ss ≤ needed_units units_of treatment done
-  shorter ss b = within units_of treatment old new src last room read ss done b
+  shorter : (ss : List Sequence) → AreFirstSequences ss done → needed_units units_of mode ss ≤ needed_units units_of mode done
+  shorter ss b = within units_of mode old new src last room read ss done b
 
   -- all is read
-  meets_empty : AtInputEmpty old new src last put done read → Meets InputEmpty
+  meets_empty : DecoderAtInputEmpty old new src last put done read → Meets InputEmpty
   meets_empty s = record {
     full = (
       λ e. absurd (cc),
       λ p. absurd (elim (compared p.sequences p.determined) [
-        | inl b ↦ (let m = p.more in omega (arith, m, shorter p.sequences b, all_done units_of treatment old new src last room read put done clean h s.only_put))
+        | inl b ↦ (let m = p.more in omega (arith, m, shorter p.sequences b, all_done units_of mode old new src last room read put done clean h s.only_put))
         | inr g ↦ nothing_more last old.sequences new.sequences src (drop read src) done h (drop_of_length-le src (let r = s.all_read in omega arith))
             s.none_determined s.none_left g.0 g.1 (subst (AreDetermined last old.sequences src) g.2 p.determined)
       ]),
     );
-    reaches = reaches units_of treatment old new src last room read put done clean h s.only_put;
+    reaches = reaches units_of mode old new src last room read put done clean h s.only_put;
     left = λ n. (
-      goes_on units_of treatment old new src last room read put done clean h s.only_put n,
-      comes_back units_of treatment old new src last room read put done clean h s.only_put n,
+      goes_on units_of mode old new src last room read put done clean h s.only_put n,
+      comes_back units_of mode old new src last room read put done clean h s.only_put n,
     );
   }
 
   -- the next one doesn't fit
-  meets_full : AtOutputFull units_of old src last treatment room put done read → Meets OutputFull
+  meets_full : DecoderAtOutputFull units_of old src last mode room put done read → Meets OutputFull
   meets_full s = record {
     full = (
       λ _. record {
@@ -252,36 +252,36 @@ module _ (units_of : ℕ → List ℕ) (treatment : Treatment) (old new : Remain
         more = let f = s.full in omega (
           arith,
           f,
-          needed_done units_of treatment old new src last room read put done clean h s.only_put (s.next ∷ []),
-          ap (units units_of) (one_needed treatment s.next s.not_reported),
+          needed_done units_of mode old new src last room read put done clean h s.only_put (s.next ∷ []),
+          ap (units units_of) (one_needed mode s.next s.not_reported),
           units-one units_of s.next s.next.text refl,
           ap (units units_of) s.only_put,
         );
       },
       λ _. refl,
     );
-    reaches = reaches units_of treatment old new src last room read put done clean h s.only_put;
+    reaches = reaches units_of mode old new src last room read put done clean h s.only_put;
     left = λ n. (
-      goes_on units_of treatment old new src last room read put done clean h s.only_put n,
-      comes_back units_of treatment old new src last room read put done clean h s.only_put n,
+      goes_on units_of mode old new src last room read put done clean h s.only_put n,
+      comes_back units_of mode old new src last room read put done clean h s.only_put n,
     );
   }
 
   -- one is reported
-  module _ (l a : ℕ) (s : AtMalformed units_of old new src last treatment room put done read l a) where
-    needed_all : (ts : List Sequence) → needed_units units_of treatment (done ++ ts) ≡ units units_of put + kept_room units_of treatment
-    needed_all ts = needed_cut units_of treatment put done s.next ts s.then_next (clean s.not_replaced) s.malformed s.replacement s.not_replaced
+  module _ (l a : ℕ) (s : AtMalformed units_of old new src last mode room put done read l a) where
+    needed_all : (ts : List Sequence) → needed_units units_of mode (done ++ ts) ≡ units units_of put + kept_room units_of mode
+    needed_all ts = needed_cut units_of mode put done s.next ts s.then_next (clean s.not_replaced) s.malformed s.replacement s.not_replaced
 
-    needed_none : needed_units units_of treatment done ≡ units units_of put + kept_room units_of treatment
-    needed_none = ap (needed_units units_of treatment) (sym (append-nil done)) ∙ needed_all []
+    needed_none : needed_units units_of mode done ≡ units units_of put + kept_room units_of mode
+    needed_none = ap (needed_units units_of mode) (sym (append-nil done)) ∙ needed_all []
 
-    bounded : (n : ℕ) → NeedPasses units_of treatment old src last n → n < units units_of put + kept_room units_of treatment
+    bounded : (n : ℕ) → NeedExceeds units_of mode old src last n → n < units units_of put + kept_room units_of mode
     bounded n p = let m = p.more in elim (compared p.sequences p.determined) [
       | inl b ↦ omega (arith, m, shorter p.sequences b, needed_none)
-      | inr g ↦ omega (arith, m, ap (needed_units units_of treatment) g.2, needed_all (g.0 ∷ g.1))
+      | inr g ↦ omega (arith, m, ap (needed_units units_of mode) g.2, needed_all (g.0 ∷ g.1))
     ]
 
-    passes : (n : ℕ) → n < units units_of put + kept_room units_of treatment → NeedPasses units_of treatment old src last n
+    passes : (n : ℕ) → n < units units_of put + kept_room units_of mode → NeedExceeds units_of mode old src last n
     passes n g = record {
       sequences = done;
       determined = done_determined old.sequences new.sequences src (drop read src) done last h;
@@ -290,31 +290,31 @@ module _ (units_of : ℕ → List ℕ) (treatment : Treatment) (old new : Remain
 
     meets_malformed : Meets (stop.Malformed l a)
     meets_malformed = record {
-      full = (λ e. absurd (cc), λ p. absurd (omega (arith, bounded room p, kept_fits units_of treatment (units units_of put) room s.room_kept fits s.not_replaced)));
+      full = (λ e. absurd (cc), λ p. absurd (omega (arith, bounded room p, kept_fits units_of mode (units units_of put) room s.room_kept fits s.not_replaced)));
       reaches = λ n g. passes n (omega (arith, g));
       left = λ n. (λ p. omega (arith, bounded (units units_of put + n) p), λ g. passes (units units_of put + n) (omega (arith, g)));
     }
 
-  meets_by : (result : DecoderResult) → Stops units_of old new src last treatment room put done read result → Meets result
+  meets_by : (result : DecoderResult) → DecoderStops units_of old new src last mode room put done read result → Meets result
   meets_by InputEmpty s = meets_empty s
   meets_by OutputFull s = meets_full s
   meets_by (stop.Malformed l a) s = meets_malformed l a s
 
 -- Every call meets what it needs.
-pub meets_need : (units_of : ℕ → List ℕ) (old new : Remainder) (src : List ℕ) (last : Bool) (treatment : Treatment) (room : ℕ) (result : DecoderResult) (read : ℕ) (wrote : List ℕ) (replaced : Bool)
-    → Call units_of old new src last treatment room result read wrote replaced → MeetsNeed units_of treatment old new src last room result read (length wrote)
-meets_need units_of old new src last treatment room result read wrote replaced c =
+pub meets_need : (units_of : ℕ → List ℕ) (old new : Remainder) (src : List ℕ) (last : Bool) (mode : DecodeErrorMode) (room : ℕ) (result : DecoderResult) (read : ℕ) (wrote : List ℕ) (replaced : Bool)
+    → DecoderCall units_of old new src last mode room result read wrote replaced → MeetsDecodeNeed units_of mode old new src last room result read (length wrote)
+meets_need units_of old new src last mode room result read wrote replaced c =
     let e : length wrote ≡ units units_of c.put = ap length c.text in
     let f = c.fits in
-    subst (λ n. MeetsNeed units_of treatment old new src last room result read n) (sym e)
-    (meets_by units_of treatment old new src last room read c.put c.done (λ r. sym c.flag ∙ c.none_replaced r) c.residual (omega (arith, f, e)) result c.stops)
+    subst (λ n. MeetsDecodeNeed units_of mode old new src last room result read n) (sym e)
+    (meets_by units_of mode old new src last room read c.put c.done (λ r. sym c.flag ∙ c.none_replaced r) c.residual (omega (arith, f, e)) result c.stops)
 
 -- the same by the rooms of an output before and behind
-pub meets_into : (units_of : ℕ → List ℕ) (old new : Remainder) (src : List ℕ) (last : Bool) (treatment : Treatment) (before after : Output) (result : DecoderResult) (read : ℕ) (replaced : Bool)
-    → CallInto units_of old new src last treatment before after result read replaced
-    → MeetsNeed units_of treatment old new src last before.room result read (before.room - after.room)
-meets_into units_of old new src last treatment before after result read replaced c =
+pub meets_into : (units_of : ℕ → List ℕ) (old new : Remainder) (src : List ℕ) (last : Bool) (mode : DecodeErrorMode) (before after : Output) (result : DecoderResult) (read : ℕ) (replaced : Bool)
+    → DecoderCallInto units_of old new src last mode before after result read replaced
+    → MeetsDecodeNeed units_of mode old new src last before.room result read (before.room - after.room)
+meets_into units_of old new src last mode before after result read replaced c =
     let f = c.call.call.fits in
-    subst (λ n. MeetsNeed units_of treatment old new src last before.room result read n)
+    subst (λ n. MeetsDecodeNeed units_of mode old new src last before.room result read n)
     (omega (arith, f, ap (λ (o : Output). o.room) c.onto))
-    (meets_need units_of old new src last treatment before.room result read c.wrote replaced c.call.call)
+    (meets_need units_of old new src last mode before.room result read c.wrote replaced c.call.call)

@@ -1,23 +1,23 @@
 -- Pieces that a codec takes at once.
 use Rattle.std.proofs.Common.{◌≡◌, ℕ, suc, ◌+◌, ◌<◌, false, List, [], ◌∷◌, ◌++◌, length, take, drop, refl, ap, ◌∙◌, sym, subst, arith, append_assoc, drop-cons, get_or}
-use Rattle.enc_units.specs.Output.{Output, AreScalars, appended, units_of_text}
-use Rattle.enc_units.specs.Pieces.{Piece, chars_of, AllMean, PutsPieces}
+use Rattle.enc_units.specs.Output.{Output, AreScalars, with_appended, units_of_text}
+use Rattle.enc_units.specs.Pieces.{Piece, piece_chars, EachMeansChar, PutsPieces}
 use Rattle.enc_units.specs.Pieces as piece
 use Rattle.enc_machine.specs.declared.byte_codec.Kind.TheVariants.{Valid}
-use Rattle.enc_machine.specs.Sequence.{Sequence, bytes_of, text_of, any_malformed, set_after}
+use Rattle.enc_machine.specs.Sequence.{Sequence, sequence_bytes, sequence_text, any_malformed, set_after}
 use Rattle.enc_machine.specs.Segmentation.{Rule, sequences_of}
 use Rattle.enc_machine.specs.CodecState.{CodecState}
-use Rattle.enc_machine.specs.Taking.{TakesRun, IsPiece}
+use Rattle.enc_machine.specs.Taking.{TakesRun, IsWholeChar}
 
 abbrev whole : ℕ → List Piece → List Sequence
 whole set [] = []
 whole set (p ∷ ps) = record { bytes = p.bytes; text = p.char ∷ []; kind = Valid; set = set } ∷ whole set ps
 
-whole_bytes : (set : ℕ) (ps : List Piece) → bytes_of (whole set ps) ≡ piece.bytes_of ps
+whole_bytes : (set : ℕ) (ps : List Piece) → sequence_bytes (whole set ps) ≡ piece.piece_bytes ps
 whole_bytes set [] = refl
 whole_bytes set (p ∷ ps) = ap (λ x. p.bytes ++ x) (whole_bytes set ps)
 
-whole_text : (set : ℕ) (ps : List Piece) → text_of (whole set ps) ≡ chars_of ps
+whole_text : (set : ℕ) (ps : List Piece) → sequence_text (whole set ps) ≡ piece_chars ps
 whole_text set [] = refl
 whole_text set (p ∷ ps) = ap (λ x. p.char ∷ x) (whole_text set ps)
 
@@ -29,20 +29,20 @@ whole_set : (set : ℕ) (ps : List Piece) → set_after set (whole set ps) ≡ s
 whole_set set [] = refl
 whole_set set (p ∷ ps) = whole_set set ps
 
-whole_first : (rule : Rule) (set : ℕ) (ps : List Piece) (y : List ℕ) → AllMean (IsPiece rule set) ps
-    → sequences_of rule set (piece.bytes_of ps ++ y) ≡ whole set ps ++ sequences_of rule set y
+whole_first : (rule : Rule) (set : ℕ) (ps : List Piece) (y : List ℕ) → EachMeansChar (IsWholeChar rule set) ps
+    → sequences_of rule set (piece.piece_bytes ps ++ y) ≡ whole set ps ++ sequences_of rule set y
 whole_first rule set [] y m = refl
 whole_first rule set (p ∷ ps) y m =
-    ap (sequences_of rule set) (append_assoc p.bytes (piece.bytes_of ps) y) ∙ m.0 (piece.bytes_of ps ++ y)
+    ap (sequences_of rule set) (append_assoc p.bytes (piece.piece_bytes ps) y) ∙ m.0 (piece.piece_bytes ps ++ y)
     ∙ ap (λ ss. record { bytes = p.bytes; text = p.char ∷ []; kind = Valid; set = set } ∷ ss) (whole_first rule set ps y m.1)
 
 pub takes_pieces : {C : Type 0} (units_of : ℕ → List ℕ) (state : C → CodecState) (c : C) (src : List ℕ) (n : ℕ) (before after : Output)
-    → (state c).pending ≡ [] → PutsPieces units_of (IsPiece (state c).rule (state c).set) before after src n → TakesRun units_of state c c src n before after
+    → (state c).pending ≡ [] → PutsPieces units_of (IsWholeChar (state c).rule (state c).set) before after src n → TakesRun units_of state c c src n before after
 takes_pieces units_of state c src n before after e p =
     let v = state c in
     let r = p.reads in
     let ss = whole v.set r.pieces in
-    let units : units_of_text units_of (text_of ss) ≡ units_of_text units_of p.text = ap (units_of_text units_of) (whole_text v.set r.pieces ∙ r.chars) in
+    let units : units_of_text units_of (sequence_text ss) ≡ units_of_text units_of p.text = ap (units_of_text units_of) (whole_text v.set r.pieces ∙ r.chars) in
     record {
       taken = ss;
       within = r.within;
@@ -53,7 +53,7 @@ takes_pieces units_of state c src n before after e p =
       none_malformed = whole_valid v.set r.pieces;
       scalars = subst AreScalars (sym (whole_text v.set r.pieces ∙ r.chars)) p.scalars;
       fits = omega (arith, p.fits, ap length units);
-      written = p.written ∙ ap (appended before) (sym units);
+      written = p.written ∙ ap (with_appended before) (sym units);
       none_pending = λ _. e;
       none_taken = λ z. ap (whole v.set) (r.none z);
     }
@@ -69,8 +69,8 @@ two_of src at h =
     next : suc at ≡ at + 1
     next = omega arith
 
-pub same_piece : (rule : Rule) (set : ℕ) (bytes bytes' : List ℕ) (c : ℕ) → bytes ≡ bytes' → IsPiece rule set bytes' c → IsPiece rule set bytes c
-same_piece rule set bytes bytes' c e p = subst (λ z. IsPiece rule set z c) (sym e) p
+pub same_piece : (rule : Rule) (set : ℕ) (bytes bytes' : List ℕ) (c : ℕ) → bytes ≡ bytes' → IsWholeChar rule set bytes' c → IsWholeChar rule set bytes c
+same_piece rule set bytes bytes' c e p = subst (λ z. IsWholeChar rule set z c) (sym e) p
 
 pub three_of : (src : List ℕ) (at : ℕ) → at + 2 < length src → take 3 (drop at src) ≡ get_or src at 0 ∷ get_or src (at + 1) 0 ∷ get_or src (at + 2) 0 ∷ []
 three_of src at h =

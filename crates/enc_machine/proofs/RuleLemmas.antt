@@ -5,8 +5,8 @@ use Rattle.std.proofs.lemmas.Str.{length-encode, len_utf8_bounds}
 use Rattle.std.specs.Char.{encode_utf8}
 use Rattle.std.specs.Char.Escape.{encode_utf16}
 use Rattle.enc_units.specs.Output.{units_of_text}
-use Rattle.enc_machine.specs.Sequence.{Sequence, text_of}
-use Rattle.enc_machine.specs.Segmentation.{Rule, head_sequence, sequences_behind, sequences_of}
+use Rattle.enc_machine.specs.Sequence.{Sequence, sequence_text}
+use Rattle.enc_machine.specs.Segmentation.{Rule, head_sequence, sequences_after, sequences_of}
 use Rattle.enc_machine.specs.RuleLaws.{HasTexts, IsSmallText, HasSmallTexts}
 
 record IsTold (rule : Rule) (s : Sequence) : Type 0 where
@@ -19,8 +19,8 @@ abbrev AreTold : Rule → List Sequence → Type 0
 AreTold rule [] = Unit {0}
 AreTold rule (s ∷ ss) = IsTold rule s × AreTold rule ss
 
-told_behind : (rule : Rule) (set k : ℕ) (z : List ℕ) → AreTold rule (sequences_behind rule set k z)
-unfolding sequences_behind
+told_behind : (rule : Rule) (set k : ℕ) (z : List ℕ) → AreTold rule (sequences_after rule set k z)
+unfolding sequences_after
 told_behind rule set k [] = tt
 told_behind rule set zero (b ∷ z) = (record { set = set; first = b; behind = z; is = refl }, told_behind rule (rule set b z).set (rule set b z).more z)
 told_behind rule set (suc k) (b ∷ z) = told_behind rule set k z
@@ -35,8 +35,8 @@ told rule set z done s rest e = one_of rule done s rest (subst (AreTold rule) e 
 some_bytes : (rule : Rule) (s : Sequence) → IsTold rule s → 0 < length s.bytes
 some_bytes rule s h = let e = ap (λ (t : Sequence). length t.bytes) h.is in omega arith
 
-no_text : (rule : Rule) → HasTexts rule → (s : Sequence) (ss : List Sequence) → IsTold rule s → text_of (s ∷ ss) ≡ [] → ⊥
-no_text rule has s ss h e = has h.set h.first h.behind (front_nil (rule h.set h.first h.behind).text (text_of ss) (subst (λ (t : Sequence). t.text ++ text_of ss ≡ []) h.is e))
+no_text : (rule : Rule) → HasTexts rule → (s : Sequence) (ss : List Sequence) → IsTold rule s → sequence_text (s ∷ ss) ≡ [] → ⊥
+no_text rule has s ss h e = has h.set h.first h.behind (front_nil (rule h.set h.first h.behind).text (sequence_text ss) (subst (λ (t : Sequence). t.text ++ sequence_text ss ≡ []) h.is e))
   where
     front_nil : (a b : List ℕ) → a ++ b ≡ [] → a ≡ []
     front_nil [] b e = refl
@@ -47,7 +47,7 @@ pub has_bytes : (rule : Rule) (set : ℕ) (z : List ℕ) (done : List Sequence) 
 has_bytes rule set z done s rest e = some_bytes rule s (told rule set z done s rest e)
 
 -- where each has a text, none is done without one
-pub none_without_text : (rule : Rule) → HasTexts rule → (set : ℕ) (z : List ℕ) (done rest : List Sequence) → sequences_of rule set z ≡ done ++ rest → text_of done ≡ [] → done ≡ []
+pub none_without_text : (rule : Rule) → HasTexts rule → (set : ℕ) (z : List ℕ) (done rest : List Sequence) → sequences_of rule set z ≡ done ++ rest → sequence_text done ≡ [] → done ≡ []
 none_without_text rule has set z [] rest e t = refl
 none_without_text rule has set z (s ∷ done) rest e t = absurd (no_text rule has s done (told rule set z [] s (done ++ rest) e) t)
 

@@ -2,16 +2,16 @@
 use Rattle.std.proofs.Common.{◌≡◌, ℕ, Bool, true, false, List, [], ◌∷◌, ◌++◌, refl, ap, ◌∙◌, sym, subst, append_assoc, ◌||◌}
 use Rattle.std.proofs.lemmas.List.{append-nil}
 use Rattle.enc_units.specs.Output.{AreScalars, units_of_text}
-use Rattle.enc_machine.specs.Sequence.{Sequence, bytes_of, text_of, is_malformed, any_malformed, set_after}
+use Rattle.enc_machine.specs.Sequence.{Sequence, sequence_bytes, sequence_text, is_malformed, any_malformed, set_after}
 use Rattle.enc_units.proofs.ScalarLemmas.{scalars-append}
 
-pub bytes_of-append : (ss ts : List Sequence) → bytes_of (ss ++ ts) ≡ bytes_of ss ++ bytes_of ts
-bytes_of-append [] ts = refl
-bytes_of-append (s ∷ ss) ts = ap (λ z. s.bytes ++ z) (bytes_of-append ss ts) ∙ sym (append_assoc s.bytes (bytes_of ss) (bytes_of ts))
+pub sequence_bytes-append : (ss ts : List Sequence) → sequence_bytes (ss ++ ts) ≡ sequence_bytes ss ++ sequence_bytes ts
+sequence_bytes-append [] ts = refl
+sequence_bytes-append (s ∷ ss) ts = ap (λ z. s.bytes ++ z) (sequence_bytes-append ss ts) ∙ sym (append_assoc s.bytes (sequence_bytes ss) (sequence_bytes ts))
 
-pub text_of-append : (ss ts : List Sequence) → text_of (ss ++ ts) ≡ text_of ss ++ text_of ts
-text_of-append [] ts = refl
-text_of-append (s ∷ ss) ts = ap (λ z. s.text ++ z) (text_of-append ss ts) ∙ sym (append_assoc s.text (text_of ss) (text_of ts))
+pub sequence_text-append : (ss ts : List Sequence) → sequence_text (ss ++ ts) ≡ sequence_text ss ++ sequence_text ts
+sequence_text-append [] ts = refl
+sequence_text-append (s ∷ ss) ts = ap (λ z. s.text ++ z) (sequence_text-append ss ts) ∙ sym (append_assoc s.text (sequence_text ss) (sequence_text ts))
 
 pub units_of_text-append : (units_of : ℕ → List ℕ) (a b : List ℕ) → units_of_text units_of (a ++ b) ≡ units_of_text units_of a ++ units_of_text units_of b
 units_of_text-append units_of [] b = refl
@@ -20,8 +20,8 @@ units_of_text-append units_of (c ∷ cs) b =
 
 -- the units of two lists of sequences
 pub units-append : (units_of : ℕ → List ℕ) (ss ts : List Sequence)
-    → units_of_text units_of (text_of (ss ++ ts)) ≡ units_of_text units_of (text_of ss) ++ units_of_text units_of (text_of ts)
-units-append units_of ss ts = ap (units_of_text units_of) (text_of-append ss ts) ∙ units_of_text-append units_of (text_of ss) (text_of ts)
+    → units_of_text units_of (sequence_text (ss ++ ts)) ≡ units_of_text units_of (sequence_text ss) ++ units_of_text units_of (sequence_text ts)
+units-append units_of ss ts = ap (units_of_text units_of) (sequence_text-append ss ts) ∙ units_of_text-append units_of (sequence_text ss) (sequence_text ts)
 
 pub or_assoc : (a b c : Bool) → ((a || b) || c) ≡ (a || (b || c))
 or_assoc a b c = elim a as (λ a. ((a || b) || c) ≡ (a || (b || c))) [ true ↦ refl | false ↦ refl ]
@@ -41,20 +41,21 @@ pub set_after-append : (set : ℕ) (ss ts : List Sequence) → set_after set (ss
 set_after-append set [] ts = refl
 set_after-append set (s ∷ ss) ts = set_after-append s.set ss ts
 
-pub scalars_of-append : (ss ts : List Sequence) → AreScalars (text_of ss) → AreScalars (text_of ts) → AreScalars (text_of (ss ++ ts))
-scalars_of-append ss ts h k = subst AreScalars (sym (text_of-append ss ts)) (scalars-append (text_of ss) (text_of ts) h k)
+pub scalars_of-append : (ss ts : List Sequence) → AreScalars (sequence_text ss) → AreScalars (sequence_text ts) → AreScalars (sequence_text (ss ++ ts))
+scalars_of-append ss ts h k = subst AreScalars (sym (sequence_text-append ss ts)) (scalars-append (sequence_text ss) (sequence_text ts) h k)
 
 -- one sequence more
 
-pub scalars_of-one : (ss : List Sequence) (s : Sequence) → AreScalars (text_of ss) → AreScalars s.text → AreScalars (text_of (ss ++ s ∷ []))
+pub scalars_of-one : (ss : List Sequence) (s : Sequence) → AreScalars (sequence_text ss) → AreScalars s.text → AreScalars (sequence_text (ss ++ s ∷ []))
 scalars_of-one ss s h k = scalars_of-append ss (s ∷ []) h (subst AreScalars (sym (append-nil s.text)) k)
 
-pub bytes_of-one : (ss : List Sequence) (s : Sequence) → bytes_of (ss ++ s ∷ []) ≡ bytes_of ss ++ s.bytes
-bytes_of-one ss s = bytes_of-append ss (s ∷ []) ∙ ap (λ t. bytes_of ss ++ t) (append-nil s.bytes)
+pub sequence_bytes-one : (ss : List Sequence) (s : Sequence)
+    → sequence_bytes (ss ++ s ∷ []) ≡ sequence_bytes ss ++ s.bytes
+sequence_bytes-one ss s = sequence_bytes-append ss (s ∷ []) ∙ ap (λ t. sequence_bytes ss ++ t) (append-nil s.bytes)
 
 pub units-one : (units_of : ℕ → List ℕ) (ss : List Sequence) (s : Sequence)
-    → units_of_text units_of (text_of (ss ++ s ∷ [])) ≡ units_of_text units_of (text_of ss) ++ units_of_text units_of s.text
-units-one units_of ss s = units-append units_of ss (s ∷ []) ∙ ap (λ t. units_of_text units_of (text_of ss) ++ units_of_text units_of t) (append-nil s.text)
+    → units_of_text units_of (sequence_text (ss ++ s ∷ [])) ≡ units_of_text units_of (sequence_text ss) ++ units_of_text units_of s.text
+units-one units_of ss s = units-append units_of ss (s ∷ []) ∙ ap (λ t. units_of_text units_of (sequence_text ss) ++ units_of_text units_of t) (append-nil s.text)
 
 pub any_malformed-one : (ss : List Sequence) (s : Sequence) → any_malformed (ss ++ s ∷ []) ≡ (any_malformed ss || is_malformed s.kind)
 any_malformed-one ss s = any_malformed-append ss (s ∷ []) ∙ ap (λ b. any_malformed ss || b) (or_false (is_malformed s.kind))

@@ -1,17 +1,17 @@
 -- What is taken at once carries a call on.
 use Rattle.std.proofs.Common.{◌≡◌, ℕ, zero, suc, ◌+◌, ◌<◌, ◌≤◌, Bool, true, false, List, [], ◌∷◌, ◌++◌, length, take, drop, refl, ap, ◌∙◌, sym, subst, arith, append_assoc, append-nil, length-append, length-drop, take-add, drop-cons, inl, inr}
 use Rattle.std.proofs.lemmas.Bool.{cases_lt}
-use Rattle.enc_units.specs.Output.{Output, appended, units_of_text}
-use Rattle.enc_units.proofs.OutputLemmas.{appended-nil, appended-appended, room_left}
-use Rattle.enc_machine.specs.Sequence.{Sequence, bytes_of, text_of, set_after}
+use Rattle.enc_units.specs.Output.{Output, with_appended, units_of_text}
+use Rattle.enc_units.proofs.OutputLemmas.{with_appended-nil, with_appended-with_appended, room_left}
+use Rattle.enc_machine.specs.Sequence.{Sequence, sequence_bytes, sequence_text, set_after}
 use Rattle.enc_machine.specs.CodecState.{CodecState, remainder_of}
-use Rattle.enc_machine.specs.CodecLaw.{MayFollow, Comes, taken}
-use Rattle.enc_machine.specs.declared.byte_codec.Shown.{Shown}
+use Rattle.enc_machine.specs.CodecLaw.{MayFollowRead, IsNextSequence, taken_bytes}
+use Rattle.enc_machine.specs.declared.byte_codec.Emission.{Emission}
 use Rattle.enc_machine.specs.Taking.{TakesRun}
-use Rattle.enc_machine.proofs.SequenceLemmas.{bytes_of-append, units-append, any_malformed-append, set_after-append, scalars_of-append}
+use Rattle.enc_machine.proofs.SequenceLemmas.{sequence_bytes-append, units-append, any_malformed-append, set_after-append, scalars_of-append}
 use Rattle.enc_machine.proofs.DeterminedLemmas.{none_determined}
-use Rattle.enc_machine.proofs.ShowLemmas.{nothing_pending}
-use Rattle.enc_machine.proofs.Progress.{Writing}
+use Rattle.enc_machine.proofs.EmissionLemmas.{nothing_pending}
+use Rattle.enc_machine.proofs.DecodeProgressLemmas.{Writing}
 
 pub front : (k : ℕ) (xs : List ℕ) (b : ℕ) (zs : List ℕ) → 0 < k → xs ≡ b ∷ zs → (z : List ℕ) × (take k xs ≡ b ∷ z)
 front zero xs b zs h e = absurd (omega arith)
@@ -35,7 +35,7 @@ module _ {C : Type 0} (units_of : ℕ → List ℕ) (state : C → CodecState) (
   stays z =
       let none = t.none_taken z in
       let state_is : state n ≡ state c = t.behind ∙ ap (λ ss. record (state c) { set = set_after (state c).set ss }) none in
-      let then_is : then ≡ at = t.written ∙ ap (λ ss. appended at (units_of_text units_of (text_of ss))) none ∙ appended-nil at in
+      let then_is : then ≡ at = t.written ∙ ap (λ ss. with_appended at (units_of_text units_of (sequence_text ss))) none ∙ with_appended-nil at in
       let read_is : read + took ≡ read = omega arith in
       subst (λ (o : Output). Writing units_of (remainder_of v) src last before o (read + took) (remainder_of (state n))) (sym then_is)
       (subst (λ r. Writing units_of (remainder_of v) src last before at r (remainder_of (state n))) (sym read_is)
@@ -45,12 +45,12 @@ module _ {C : Type 0} (units_of : ℕ → List ℕ) (state : C → CodecState) (
   bytes = take took (drop read src)
 
   abbrev units : List ℕ
-  units = units_of_text units_of (text_of t.taken)
+  units = units_of_text units_of (sequence_text t.taken)
 
   abbrev done : List Sequence
   done = w.progress.done ++ t.taken
 
-  follows : 0 < took → (y : List ℕ) → MayFollow src read last (bytes ++ y)
+  follows : 0 < took → (y : List ℕ) → MayFollowRead src read last (bytes ++ y)
   follows h y = record {
     more = λ l. let f = front took (drop read src) _ _ h (drop-cons src read 0 l) in (f.0 ++ y, ap (λ x. x ++ y) f.1);
     ended = λ l _. absurd (omega (arith, t.within, length-drop read src));
@@ -65,17 +65,18 @@ module _ {C : Type 0} (units_of : ℕ → List ℕ) (state : C → CodecState) (
       ∙ w.progress.residual (bytes ++ y) (follows h y) ∙ ap (λ ss. w.progress.done ++ ss) (t.first y)
       ∙ sym (append_assoc w.progress.done t.taken ((remainder_of (state n)).sequences y))
 
-  accounted : 0 < took → v.pending ++ take (read + took) src ≡ bytes_of done ++ (state n).pending
+  accounted : 0 < took → v.pending ++ take (read + took) src ≡ sequence_bytes done ++ (state n).pending
   accounted h =
       ap (λ x. v.pending ++ x) (take-add read took src) ∙ sym (append_assoc v.pending (take read src) bytes) ∙ ap (λ x. x ++ bytes) w.progress.accounted
-      ∙ ap (λ q. (bytes_of w.progress.done ++ q) ++ bytes) (t.none_pending h) ∙ ap (λ x. x ++ bytes) (append-nil (bytes_of w.progress.done))
-      ∙ ap (λ x. bytes_of w.progress.done ++ x) (sym t.bytes) ∙ sym (bytes_of-append w.progress.done t.taken)
-      ∙ sym (append-nil (bytes_of done)) ∙ ap (λ q. bytes_of done ++ q) (sym (pending_behind h))
+      ∙ ap (λ q. (sequence_bytes w.progress.done ++ q) ++ bytes) (t.none_pending h) ∙ ap (λ x. x ++ bytes) (append-nil (sequence_bytes w.progress.done))
+      ∙ ap (λ x. sequence_bytes w.progress.done ++ x) (sym t.bytes)
+      ∙ sym (sequence_bytes-append w.progress.done t.taken)
+      ∙ sym (append-nil (sequence_bytes done)) ∙ ap (λ q. sequence_bytes done ++ q) (sym (pending_behind h))
 
   goes : 0 < took → Writing units_of (remainder_of v) src last before then (read + took) (remainder_of (state n))
   goes h = record {
     wrote = w.wrote ++ units;
-    onto = t.written ∙ ap (λ o. appended o units) w.onto ∙ appended-appended before w.wrote units;
+    onto = t.written ∙ ap (λ o. with_appended o units) w.onto ∙ with_appended-with_appended before w.wrote units;
     progress = record {
       done = done;
       within = omega (arith, t.within, length-drop read src, w.progress.within);
@@ -103,19 +104,19 @@ module _ {C : Type 0} (units_of : ℕ → List ℕ) (state : C → CodecState) (
 
 -- what comes next reads a byte or leaves fewer pending
 
-lengths : {C : Type 0} (state : C → CodecState) (c : C) (may_follow : List ℕ → Type 0) (took : List ℕ) (s : Shown C) (k : Comes state c may_follow took s)
+lengths : {C : Type 0} (state : C → CodecState) (c : C) (may_follow : List ℕ → Type 0) (took : List ℕ) (s : Emission C) (k : IsNextSequence state c may_follow took s)
     → length (state c).pending + length took ≡ length k.bytes + length (state s.next).pending
 lengths state c may_follow took s k = sym (length-append (state c).pending took) ∙ ap length k.parts ∙ length-append k.bytes (state s.next).pending
 
-pub fewer_with : {C : Type 0} (state : C → CodecState) (c : C) (may_follow : List ℕ → Type 0) (b : ℕ) (s : Shown C) → Comes state c may_follow (taken s.takes_byte b) s → s.takes_byte ≡ true
+pub fewer_with : {C : Type 0} (state : C → CodecState) (c : C) (may_follow : List ℕ → Type 0) (b : ℕ) (s : Emission C) → IsNextSequence state c may_follow (taken_bytes s.takes_byte b) s → s.takes_byte ≡ true
     → length (state s.next).pending ≤ length (state c).pending
 fewer_with state c may_follow b s k t =
-    let f = k.some in omega (arith, lengths state c may_follow (taken s.takes_byte b) s k, ap (λ x. length (taken x b)) t)
+    let f = k.some in omega (arith, lengths state c may_follow (taken_bytes s.takes_byte b) s k, ap (λ x. length (taken_bytes x b)) t)
 
-pub fewer_before : {C : Type 0} (state : C → CodecState) (c : C) (may_follow : List ℕ → Type 0) (b : ℕ) (s : Shown C) → Comes state c may_follow (taken s.takes_byte b) s → s.takes_byte ≡ false
+pub fewer_before : {C : Type 0} (state : C → CodecState) (c : C) (may_follow : List ℕ → Type 0) (b : ℕ) (s : Emission C) → IsNextSequence state c may_follow (taken_bytes s.takes_byte b) s → s.takes_byte ≡ false
     → length (state s.next).pending < length (state c).pending
 fewer_before state c may_follow b s k t =
-    let f = k.some in omega (arith, lengths state c may_follow (taken s.takes_byte b) s k, ap (λ x. length (taken x b)) t)
+    let f = k.some in omega (arith, lengths state c may_follow (taken_bytes s.takes_byte b) s k, ap (λ x. length (taken_bytes x b)) t)
 
 -- Nothing is taken.
 pub takes_none : {C : Type 0} (units_of : ℕ → List ℕ) (state : C → CodecState) (c : C) (src : List ℕ) (o : Output) → TakesRun units_of state c c src 0 o o
@@ -128,7 +129,7 @@ takes_none units_of state c src o = record {
   none_malformed = refl;
   scalars = refl;
   fits = omega arith;
-  written = sym (appended-nil o);
+  written = sym (with_appended-nil o);
   none_pending = λ h. absurd (omega arith);
   none_taken = λ _. refl;
 }
@@ -139,13 +140,13 @@ pub takes_both : {C : Type 0} (units_of : ℕ → List ℕ) (state : C → Codec
 takes_both units_of state c m n src read more before mid after rest e p given =
     let q = subst (λ z. TakesRun units_of state m n z more mid after) e given in
     let bytes = take more (drop read src) in
-    let x = units_of_text units_of (text_of p.taken) in
-    let y = units_of_text units_of (text_of q.taken) in
+    let x = units_of_text units_of (sequence_text p.taken) in
+    let y = units_of_text units_of (sequence_text q.taken) in
     let both = units-append units_of p.taken q.taken in
     record {
       taken = p.taken ++ q.taken;
       within = omega (arith, p.within, q.within, length-drop read src);
-      bytes = bytes_of-append p.taken q.taken ∙ ap (λ z. z ++ bytes_of q.taken) p.bytes ∙ ap (λ z. take read src ++ z) q.bytes ∙ sym (take-add read more src);
+      bytes = sequence_bytes-append p.taken q.taken ∙ ap (λ z. z ++ sequence_bytes q.taken) p.bytes ∙ ap (λ z. take read src ++ z) q.bytes ∙ sym (take-add read more src);
       first = λ w. ap (remainder_of (state c)).sequences (ap (λ z. z ++ w) (take-add read more src) ∙ append_assoc (take read src) bytes w)
           ∙ p.first (bytes ++ w) ∙ ap (λ ss. p.taken ++ ss) (q.first w) ∙ sym (append_assoc p.taken q.taken ((remainder_of (state n)).sequences w));
       behind = q.behind ∙ ap (λ (s : CodecState). record s { set = set_after s.set q.taken }) p.behind
@@ -153,7 +154,7 @@ takes_both units_of state c m n src read more before mid after rest e p given =
       none_malformed = any_malformed-append p.taken q.taken ∙ rw (p.none_malformed, q.none_malformed) refl;
       scalars = scalars_of-append p.taken q.taken p.scalars q.scalars;
       fits = omega (arith, ap length both, length-append x y, p.fits, q.fits, room_left before mid x p.written);
-      written = q.written ∙ ap (λ o. appended o y) p.written ∙ appended-appended before x y ∙ ap (appended before) (sym both);
+      written = q.written ∙ ap (λ o. with_appended o y) p.written ∙ with_appended-with_appended before x y ∙ ap (with_appended before) (sym both);
       none_pending = λ h. elim (cases_lt 0 read) [
         | inl r ↦ p.none_pending r
         | inr r ↦ sym (ap (λ (s : CodecState). s.pending) p.behind) ∙ q.none_pending (omega arith)

@@ -4,10 +4,10 @@ use Rattle.std.proofs.lemmas.Bool.{false≢true}
 use Rattle.std.proofs.lemmas.List.{append-nil, take-append-drop, length-append}
 use Rattle.enc_machine.specs.declared.decoder_result.DecoderResult.TheVariants.{InputEmpty, OutputFull, Malformed}
 use Rattle.enc_units.specs.Output.{AreScalars, units_of_text}
-use Rattle.enc_machine.specs.Sequence.{Sequence, bytes_of, text_of, is_malformed, is_repeated_escape, any_malformed, set_after}
-use Rattle.enc_machine.specs.Remainder.{Remainder, AreBytes, Begins, Determines, AreDetermined}
-use Rattle.enc_machine.specs.Call.{RawCall, Replaced, Reported, ReadsReported}
-use Rattle.enc_machine.proofs.SequenceLemmas.{bytes_of-append, units-append, any_malformed-append, set_after-append, units-one, scalars_of-append, scalars_of-one, or_false, or_true}
+use Rattle.enc_machine.specs.Sequence.{Sequence, sequence_bytes, sequence_text, is_malformed, is_repeated_escape, any_malformed, set_after}
+use Rattle.enc_machine.specs.Remainder.{Remainder, AreBytes, AreFirstSequences, Determines, AreDetermined}
+use Rattle.enc_machine.specs.Call.{RawDecoderCall, Replacement, Fatal, ReadsToReported}
+use Rattle.enc_machine.proofs.SequenceLemmas.{sequence_bytes-append, units-append, any_malformed-append, set_after-append, units-one, scalars_of-append, scalars_of-one, or_false, or_true}
 use Rattle.enc_machine.proofs.DeterminedLemmas.{begins_behind, determines_fewer}
 use Rattle.enc_machine.proofs.ByteLemmas.{bytes-append, bytes-take, bytes-drop, determines_by_more}
 use Rattle.std.proofs.Math.Seq.{take-add}
@@ -17,11 +17,11 @@ pub record Turned (units_of : ℕ → List ℕ) (old : Remainder) (src : List �
   pub done : List Sequence
   pub within : read ≤ length src
   pub residual : (z : List ℕ) → (last ≡ true → z ≡ []) → old.sequences (src ++ z) ≡ done ++ now.sequences (drop read src ++ z)
-  pub goes_on : (y : List ℕ) → Begins done (old.sequences (take read src ++ y)) → old.sequences (take read src ++ y) ≡ done ++ now.sequences y
-  pub accounted : old.pending ++ take read src ≡ bytes_of done ++ now.pending
+  pub goes_on : (y : List ℕ) → AreFirstSequences done (old.sequences (take read src ++ y)) → old.sequences (take read src ++ y) ≡ done ++ now.sequences y
+  pub accounted : old.pending ++ take read src ≡ sequence_bytes done ++ now.pending
   pub set : now.set ≡ set_after old.set done
-  pub text : wrote ≡ units_of_text units_of (text_of done)
-  pub scalars : AreScalars (text_of done)
+  pub text : wrote ≡ units_of_text units_of (sequence_text done)
+  pub scalars : AreScalars (sequence_text done)
   pub fits : length wrote ≤ room
   pub flag : replaced ≡ any_malformed done
   pub determined : AreDetermined last old.sequences src done
@@ -67,7 +67,7 @@ first_of (f ∷ ss) s = (f, ss ++ s ∷ [], refl)
 
 -- the byte that is next shows what is reported
 reads_next : (late : Bool) (remaining : List ℕ → List Sequence) (src : List ℕ) (ss : List Sequence) (n : ℕ) (pending : List ℕ) → AreBytes src
-    → ReadsReported late remaining src ss n pending → n < length src → Determines remaining (take (n + 1) src) ss
+    → ReadsToReported late remaining src ss n pending → n < length src → Determines remaining (take (n + 1) src) ss
 reads_next true remaining src ss n pending b r h = determines_by_more remaining src n (n + 1) ss b (omega arith) r.shown
 reads_next false remaining src ss n pending b r h = r.shown_next h
 
@@ -85,23 +85,23 @@ module _ (units_of : ℕ → List ℕ) (old : Remainder) (src : List ℕ) (bytes
   into : (n : ℕ) (y : List ℕ) → take (read + n) src ++ y ≡ take read src ++ (take n rest ++ y)
   into n y = ap (λ x. x ++ y) (take-add read n src) ∙ append_assoc (take read src) (take n rest) y
 
-  join : (x : List ℕ) (ss : List Sequence) → Begins t.done (old.sequences (take read src ++ x)) → Begins ss (now.sequences x)
-      → Begins (t.done ++ ss) (old.sequences (take read src ++ x))
+  join : (x : List ℕ) (ss : List Sequence) → AreFirstSequences t.done (old.sequences (take read src ++ x)) → AreFirstSequences ss (now.sequences x)
+      → AreFirstSequences (t.done ++ ss) (old.sequences (take read src ++ x))
   join x ss b g = (g.0, t.goes_on x b ∙ ap (λ u. t.done ++ u) g.1 ∙ sym (append_assoc t.done ss g.0))
 
-  begins_done : (x : List ℕ) (ss : List Sequence) → Begins (t.done ++ ss) (old.sequences (take read src ++ x)) → Begins t.done (old.sequences (take read src ++ x))
+  begins_done : (x : List ℕ) (ss : List Sequence) → AreFirstSequences (t.done ++ ss) (old.sequences (take read src ++ x)) → AreFirstSequences t.done (old.sequences (take read src ++ x))
   begins_done x ss b = (ss ++ b.0, b.1 ∙ append_assoc t.done ss b.0)
 
-  off : (x : List ℕ) (ss : List Sequence) → Begins (t.done ++ ss) (old.sequences (take read src ++ x)) → Begins ss (now.sequences x)
+  off : (x : List ℕ) (ss : List Sequence) → AreFirstSequences (t.done ++ ss) (old.sequences (take read src ++ x)) → AreFirstSequences ss (now.sequences x)
   off x ss b = begins_behind t.done ss (now.sequences x) (old.sequences (take read src ++ x)) (t.goes_on x (begins_done x ss b)) b
 
   determined_on : (l : Bool) (ss : List Sequence) → AreDetermined l old.sequences src t.done → AreDetermined l now.sequences rest ss → AreDetermined l old.sequences src (t.done ++ ss)
   determined_on true ss d e =
       let w : take read src ++ rest ≡ src = take-append-drop read src in
-      subst (λ x. Begins (t.done ++ ss) (old.sequences x)) w (join rest ss (subst (λ x. Begins t.done (old.sequences x)) (sym w) d) e)
+      subst (λ x. AreFirstSequences (t.done ++ ss) (old.sequences x)) w (join rest ss (subst (λ x. AreFirstSequences t.done (old.sequences x)) (sym w) d) e)
   determined_on false ss d e = λ z b.
-      subst (λ x. Begins (t.done ++ ss) (old.sequences x)) (whole z)
-      (join (rest ++ z) ss (subst (λ x. Begins t.done (old.sequences x)) (sym (whole z)) (d z b)) (e z b))
+      subst (λ x. AreFirstSequences (t.done ++ ss) (old.sequences x)) (whole z)
+      (join (rest ++ z) ss (subst (λ x. AreFirstSequences t.done (old.sequences x)) (sym (whole z)) (d z b)) (e z b))
 
   -- what bytes of the rest show
   shown_on : (m : ℕ) (ss : List Sequence) → read < length src → Determines now.sequences (take (m + 1) rest) ss → Determines old.sequences (take (read + m + 1) src) (t.done ++ ss)
@@ -110,14 +110,14 @@ module _ (units_of : ℕ → List ℕ) (old : Remainder) (src : List ℕ) (bytes
       let next : take (m + 1) rest ≡ take 1 rest ++ take m (drop 1 rest) = ap (λ k. take k rest) (one_and m) ∙ take-add 1 m rest in
       let split : take read src ++ (take (m + 1) rest ++ z) ≡ take (read + 1) src ++ tail =
       ap (λ x. take read src ++ (x ++ z)) next ∙ ap (λ x. take read src ++ x) (append_assoc (take 1 rest) (take m (drop 1 rest)) z) ∙ sym (into 1 tail) in
-      let g : Begins t.done (old.sequences (take read src ++ (take (m + 1) rest ++ z))) =
-      subst (λ x. Begins t.done (old.sequences x)) (sym split)
+      let g : AreFirstSequences t.done (old.sequences (take read src ++ (take (m + 1) rest ++ z))) =
+      subst (λ x. AreFirstSequences t.done (old.sequences x)) (sym split)
       (t.shown_next h tail (bytes-append (take m (drop 1 rest)) z (bytes-take m (drop 1 rest) (bytes-drop 1 rest (bytes-drop read src bytes))) b)) in
-      subst (λ x. Begins (t.done ++ ss) (old.sequences x)) (sym (ap (λ k. take k src ++ z) (and_one read m) ∙ into (m + 1) z))
+      subst (λ x. AreFirstSequences (t.done ++ ss) (old.sequences x)) (sym (ap (λ k. take k src ++ z) (and_one read m) ∙ into (m + 1) z))
       (join (take (m + 1) rest ++ z) ss g (d z b))
 
   shown_off : (m : ℕ) (ss : List Sequence) → Determines old.sequences (take (read + m) src) (t.done ++ ss) → Determines now.sequences (take m rest) ss
-  shown_off m ss d z b = off (take m rest ++ z) ss (subst (λ x. Begins (t.done ++ ss) (old.sequences x)) (into m z) (d z b))
+  shown_off m ss d z b = off (take m rest ++ z) ss (subst (λ x. AreFirstSequences (t.done ++ ss) (old.sequences x)) (into m z) (d z b))
 
   -- one sequence more isn't determined by what was read: not where the last call read nothing, and not if it isn't by what that read
 
@@ -148,10 +148,10 @@ module _ (units_of : ℕ → List ℕ) (old : Remainder) (src : List ℕ) (bytes
   ]
 
   goes_on_behind : (new : Remainder) (n : ℕ) (ss : List Sequence) (end : Bool)
-      → ((y : List ℕ) → (end ≡ true → y ≡ []) → Begins ss (now.sequences (take n rest ++ y)) → now.sequences (take n rest ++ y) ≡ ss ++ new.sequences y)
-      → (y : List ℕ) → (end ≡ true → y ≡ []) → Begins (t.done ++ ss) (old.sequences (take (read + n) src ++ y)) → old.sequences (take (read + n) src ++ y) ≡ (t.done ++ ss) ++ new.sequences y
+      → ((y : List ℕ) → (end ≡ true → y ≡ []) → AreFirstSequences ss (now.sequences (take n rest ++ y)) → now.sequences (take n rest ++ y) ≡ ss ++ new.sequences y)
+      → (y : List ℕ) → (end ≡ true → y ≡ []) → AreFirstSequences (t.done ++ ss) (old.sequences (take (read + n) src ++ y)) → old.sequences (take (read + n) src ++ y) ≡ (t.done ++ ss) ++ new.sequences y
   goes_on_behind new n ss end g y l b =
-      let b : Begins (t.done ++ ss) (old.sequences (take read src ++ (take n rest ++ y))) = subst (λ x. Begins (t.done ++ ss) (old.sequences x)) (into n y) b in
+      let b : AreFirstSequences (t.done ++ ss) (old.sequences (take read src ++ (take n rest ++ y))) = subst (λ x. AreFirstSequences (t.done ++ ss) (old.sequences x)) (into n y) b in
       ap old.sequences (into n y) ∙ t.goes_on (take n rest ++ y) (begins_done (take n rest ++ y) ss b)
       ∙ ap (λ u. t.done ++ u) (g y l (off (take n rest ++ y) ss b)) ∙ sym (append_assoc t.done ss (new.sequences y))
 
@@ -162,18 +162,18 @@ module _ (units_of : ℕ → List ℕ) (old : Remainder) (src : List ℕ) (bytes
       t.residual z l ∙ ap (λ u. t.done ++ u) (r z l) ∙ sym (append_assoc t.done ss (new.sequences (drop n rest ++ z)))
       ∙ ap (λ x. (t.done ++ ss) ++ new.sequences (x ++ z)) (drop-drop n read src)
 
-  accounted_on : (new : Remainder) (n : ℕ) (ss : List Sequence) → now.pending ++ take n rest ≡ bytes_of ss ++ new.pending
-      → old.pending ++ take (read + n) src ≡ bytes_of (t.done ++ ss) ++ new.pending
+  accounted_on : (new : Remainder) (n : ℕ) (ss : List Sequence) → now.pending ++ take n rest ≡ sequence_bytes ss ++ new.pending
+      → old.pending ++ take (read + n) src ≡ sequence_bytes (t.done ++ ss) ++ new.pending
   accounted_on new n ss e =
       ap (λ x. old.pending ++ x) (take-add read n src) ∙ sym (append_assoc old.pending (take read src) (take n rest)) ∙ ap (λ x. x ++ take n rest) t.accounted
-      ∙ append_assoc (bytes_of t.done) now.pending (take n rest) ∙ ap (λ x. bytes_of t.done ++ x) e ∙ sym (append_assoc (bytes_of t.done) (bytes_of ss) new.pending)
-      ∙ ap (λ x. x ++ new.pending) (sym (bytes_of-append t.done ss))
+      ∙ append_assoc (sequence_bytes t.done) now.pending (take n rest) ∙ ap (λ x. sequence_bytes t.done ++ x) e ∙ sym (append_assoc (sequence_bytes t.done) (sequence_bytes ss) new.pending)
+      ∙ ap (λ x. x ++ new.pending) (sym (sequence_bytes-append t.done ss))
 
   set_on : (new : Remainder) (ss : List Sequence) → new.set ≡ set_after now.set ss → new.set ≡ set_after old.set (t.done ++ ss)
   set_on new ss e = e ∙ ap (λ s. set_after s ss) t.set ∙ sym (set_after-append old.set t.done ss)
 
-  text_on : (more : List ℕ) (ss : List Sequence) → more ≡ units_of_text units_of (text_of ss) → wrote ++ more ≡ units_of_text units_of (text_of (t.done ++ ss))
-  text_on more ss e = ap (λ x. x ++ more) t.text ∙ ap (λ x. units_of_text units_of (text_of t.done) ++ x) e ∙ sym (units-append units_of t.done ss)
+  text_on : (more : List ℕ) (ss : List Sequence) → more ≡ units_of_text units_of (sequence_text ss) → wrote ++ more ≡ units_of_text units_of (sequence_text (t.done ++ ss))
+  text_on more ss e = ap (λ x. x ++ more) t.text ∙ ap (λ x. units_of_text units_of (sequence_text t.done) ++ x) e ∙ sym (units-append units_of t.done ss)
 
   flag_on : (ss : List Sequence) → false ≡ any_malformed ss → replaced ≡ any_malformed (t.done ++ ss)
   flag_on ss e = sym (or_false replaced) ∙ ap (λ b. b || false) t.flag ∙ ap (λ b. any_malformed t.done || b) e ∙ sym (any_malformed-append t.done ss)
@@ -185,8 +185,8 @@ module _ (units_of : ℕ → List ℕ) (old : Remainder) (src : List ℕ) (bytes
   within_on n h = let e = length-drop read src in omega (arith, t.within)
 
   -- the last call comes to the end of the offer
-  pub empties : (new : Remainder) (n : ℕ) (more : List ℕ) → RawCall units_of now new rest last (Reported true) (room - length wrote) InputEmpty n more false
-      → RawCall units_of old new src last Replaced room InputEmpty (read + n) (wrote ++ more) replaced
+  pub empties : (new : Remainder) (n : ℕ) (more : List ℕ) → RawDecoderCall units_of now new rest last (Fatal true) (room - length wrote) InputEmpty n more false
+      → RawDecoderCall units_of old new src last Replacement room InputEmpty (read + n) (wrote ++ more) replaced
   empties new n more c =
       let same : c.call.done ≡ c.call.put = c.call.stops.only_put in
       record {
@@ -205,8 +205,9 @@ module _ (units_of : ℕ → List ℕ) (old : Remainder) (src : List ℕ) (bytes
             only_put = ap (λ x. t.done ++ x) same;
             all_read = let e = length-drop read src in let f = c.call.stops.all_read in omega (arith, t.within);
             none_determined = λ l s d. c.call.stops.none_determined l s (λ z b.
-                off (rest ++ z) (c.call.done ++ s ∷ []) (subst (λ x. Begins (t.done ++ (c.call.done ++ s ∷ [])) (old.sequences x)) (sym (whole z))
-                (subst (λ x. Begins x (old.sequences (src ++ z))) (append_assoc t.done c.call.done (s ∷ [])) (d z b))));
+                off (rest ++ z) (c.call.done ++ s ∷ []) (subst (λ x. AreFirstSequences (t.done ++ (c.call.done ++ s ∷ [])) (old.sequences x)) (sym (whole z))
+                (subst (λ x. AreFirstSequences x (old.sequences (src ++ z))) (append_assoc t.done c.call.done (s ∷ []))
+                (d z b))));
             none_left = c.call.stops.none_left;
             none_pending = c.call.stops.none_pending;
           };
@@ -216,8 +217,8 @@ module _ (units_of : ℕ → List ℕ) (old : Remainder) (src : List ℕ) (bytes
       }
 
   -- the last call stops for want of room
-  pub fills : (new : Remainder) (n : ℕ) (more : List ℕ) → RawCall units_of now new rest last (Reported true) (room - length wrote) OutputFull n more false
-      → RawCall units_of old new src last Replaced room OutputFull (read + n) (wrote ++ more) replaced
+  pub fills : (new : Remainder) (n : ℕ) (more : List ℕ) → RawDecoderCall units_of now new rest last (Fatal true) (room - length wrote) OutputFull n more false
+      → RawDecoderCall units_of old new src last Replacement room OutputFull (read + n) (wrote ++ more) replaced
   fills new n more c =
       let same : c.call.done ≡ c.call.put = c.call.stops.only_put in
       let next = c.call.stops.next in
@@ -239,8 +240,8 @@ module _ (units_of : ℕ → List ℕ) (old : Remainder) (src : List ℕ) (bytes
             next = next;
             determined = subst (λ x. AreDetermined last old.sequences src x) behind (determined_on last (c.call.done ++ next ∷ []) t.determined c.call.stops.determined);
             not_reported = λ e. cc;
-            full = still_full room (length wrote) (length (units_of_text units_of (text_of c.call.done))) (length (units_of_text units_of next.text)) t.fits
-                (sym (ap length (text_on (units_of_text units_of (text_of c.call.done)) c.call.done refl)) ∙ length-append wrote (units_of_text units_of (text_of c.call.done))) c.call.stops.full;
+            full = still_full room (length wrote) (length (units_of_text units_of (sequence_text c.call.done))) (length (units_of_text units_of next.text)) t.fits
+                (sym (ap length (text_on (units_of_text units_of (sequence_text c.call.done)) c.call.done refl)) ∙ length-append wrote (units_of_text units_of (sequence_text c.call.done))) c.call.stops.full;
             reads = record {
               not_shown = not_shown_on n c.call.done next c.call.stops.reads.not_shown;
               shown_next = λ h. subst (λ x. Determines old.sequences (take (read + n + 1) src) x) behind
@@ -253,7 +254,7 @@ module _ (units_of : ℕ → List ℕ) (old : Remainder) (src : List ℕ) (bytes
       }
 
   -- the last call reports a malformed sequence, and U+FFFD is put out for it
-  pub replaces : (new : Remainder) (n l a : ℕ) (more : List ℕ) → RawCall units_of now new rest last (Reported true) (room - length wrote) (Malformed l a) n more false
+  pub replaces : (new : Remainder) (n l a : ℕ) (more : List ℕ) → RawDecoderCall units_of now new rest last (Fatal true) (room - length wrote) (Malformed l a) n more false
       → Turned units_of old src last room (read + n) new ((wrote ++ more) ++ units_of 0xFFFD) true
   replaces new n l a more c =
       let m = c.call.stops in
@@ -265,10 +266,10 @@ module _ (units_of : ℕ → List ℕ) (old : Remainder) (src : List ℕ) (bytes
         accounted = accounted_on new n c.call.done c.accounted;
         set = set_on new c.call.done c.call.set;
         text = append_assoc wrote more (units_of 0xFFFD) ∙ text_on (more ++ units_of 0xFFFD) c.call.done
-            (ap (λ x. x ++ units_of 0xFFFD) c.call.text ∙ ap (λ x. units_of_text units_of (text_of c.call.put) ++ x) (sym (append-nil (units_of 0xFFFD)) ∙ ap (units_of_text units_of) (sym m.replacement))
-            ∙ sym (units-one units_of c.call.put m.next) ∙ ap (λ x. units_of_text units_of (text_of x)) (sym m.then_next));
+            (ap (λ x. x ++ units_of 0xFFFD) c.call.text ∙ ap (λ x. units_of_text units_of (sequence_text c.call.put) ++ x) (sym (append-nil (units_of 0xFFFD)) ∙ ap (units_of_text units_of) (sym m.replacement))
+            ∙ sym (units-one units_of c.call.put m.next) ∙ ap (λ x. units_of_text units_of (sequence_text x)) (sym m.then_next));
         scalars = scalars_of-append t.done c.call.done t.scalars
-            (subst (λ x. AreScalars (text_of x)) (sym m.then_next) (scalars_of-one c.call.put m.next c.call.scalars (subst AreScalars (sym m.replacement) refl)));
+            (subst (λ x. AreScalars (sequence_text x)) (sym m.then_next) (scalars_of-one c.call.put m.next c.call.scalars (subst AreScalars (sym m.replacement) refl)));
         fits = let e = ap length c.call.text in let k = m.room_kept refl in let f = t.fits in
             rw (length-append (wrote ++ more) (units_of 0xFFFD), length-append wrote more) (omega arith);
         flag = sym (any_malformed-append t.done c.call.done ∙ ap (λ b. any_malformed t.done || b) (ap any_malformed m.then_next ∙ any_malformed-last c.call.put m.next m.malformed)

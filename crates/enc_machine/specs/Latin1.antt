@@ -7,37 +7,37 @@ use Rattle.enc_machine.specs.Remainder.{Determines}
 use Rattle.enc_machine.specs.CodecState.{CodecState, remainder_of}
 
 -- a valid sequence of one byte, whose character has the byte's number
-pub record IsItself (s : Sequence) (b : ℕ) : Type 0 where
+pub record IsLatin1Sequence (s : Sequence) (b : ℕ) : Type 0 where
   pub bytes : s.bytes ≡ b ∷ []
   pub text : s.text ≡ b ∷ []
   pub kind : s.kind ≡ Valid
 
 -- each of these sequences is so, of each of these bytes
-abbrev pub AreThemselves : List Sequence → List ℕ → Type 0
-AreThemselves [] [] = Unit {0}
-AreThemselves [] (b ∷ z) = ⊥
-AreThemselves (s ∷ ss) [] = ⊥
-AreThemselves (s ∷ ss) (b ∷ z) = IsItself s b × AreThemselves ss z
+abbrev pub AreLatin1Sequences : List Sequence → List ℕ → Type 0
+AreLatin1Sequences [] [] = Unit {0}
+AreLatin1Sequences [] (b ∷ z) = ⊥
+AreLatin1Sequences (s ∷ ss) [] = ⊥
+AreLatin1Sequences (s ∷ ss) (b ∷ z) = IsLatin1Sequence s b × AreLatin1Sequences ss z
 
 -- The first k bytes are so, each a sequence by itself, whatever follows; and the byte behind them is not.
 pub record IsLatin1Prefix (remaining : List ℕ → List Sequence) (bytes : List ℕ) (k : ℕ) : Type 0 where
   pub within : k ≤ length bytes
   pub front : List Sequence
-  pub themselves : AreThemselves front (take k bytes)
+  pub themselves : AreLatin1Sequences front (take k bytes)
   pub first : Determines remaining (take k bytes) front
-  pub longest : k < length bytes → (s : Sequence) → IsItself s (slice_index bytes k) → Determines remaining (take (k + 1) bytes) (front ++ s ∷ []) → ⊥
+  pub longest : k < length bytes → (s : Sequence) → IsLatin1Sequence s (slice_index bytes k) → Determines remaining (take (k + 1) bytes) (front ++ s ∷ []) → ⊥
 
 -- At the start no byte is a valid sequence by itself.
-abbrev pub HasNoBytes : Rule → Type 0
-HasNoBytes rule = (b : ℕ) (z : List ℕ) → (rule 0 b z).kind ≡ Valid → 0 < (rule 0 b z).more
+abbrev pub HasNoByteSequences : Rule → Type 0
+HasNoByteSequences rule = (b : ℕ) (z : List ℕ) → (rule 0 b z).kind ≡ Valid → 0 < (rule 0 b z).more
 
 -- A byte may be so: nothing is pending, the character set designated is that of the start, and there are such bytes.
-pub record MayBeLatin1 (s : CodecState) : Type 0 where
+pub record CodecMayBeLatin1 (s : CodecState) : Type 0 where
   pub none_pending : s.pending ≡ []
   pub at_start : s.set ≡ 0
-  pub has_bytes : ¬ (HasNoBytes s.rule)
+  pub has_bytes : ¬ (HasNoByteSequences s.rule)
 
 -- what is told of bytes: none where no byte may be so, and else how many are
-abbrev pub TellsLatin1 : CodecState → List ℕ → Option ℕ → Type 0
-TellsLatin1 s bytes None = ¬ (MayBeLatin1 s)
-TellsLatin1 s bytes (Some k) = MayBeLatin1 s × IsLatin1Prefix (remainder_of s).sequences bytes k
+abbrev pub AnswersCodecLatin1 : CodecState → List ℕ → Option ℕ → Type 0
+AnswersCodecLatin1 s bytes None = ¬ (CodecMayBeLatin1 s)
+AnswersCodecLatin1 s bytes (Some k) = CodecMayBeLatin1 s × IsLatin1Prefix (remainder_of s).sequences bytes k

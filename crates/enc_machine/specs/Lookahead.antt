@@ -2,12 +2,12 @@
 use Rattle.std.specs.Prelude.{ℕ, ◌+◌, ◌-◌, ◌≤◌, List, [], ◌∷◌, drop}
 use Rattle.enc_machine.specs.Sequence.{Sequence}
 use Rattle.enc_machine.specs.Segmentation.{Rule}
-use Rattle.enc_machine.specs.RuleLaws.{Looks}
+use Rattle.enc_machine.specs.RuleLaws.{IsLookahead}
 
 -- The first k bytes of an input contain each of its first sequences and the lookahead after it.
-abbrev pub ReachBehind : Rule → ℕ → List ℕ → List Sequence → ℕ → Type 0
-ReachBehind rule set z [] k = Unit {0}
-ReachBehind rule set [] (s ∷ ss) k = ⊥
-ReachBehind rule set (b ∷ z) (s ∷ ss) k =
-    ((n : ℕ) × Looks rule set b z n × (1 + (rule set b z).more + n ≤ k))
-    × ReachBehind rule (rule set b z).set (drop (rule set b z).more z) ss (k - (1 + (rule set b z).more))
+abbrev pub CoverLookahead : Rule → ℕ → List ℕ → List Sequence → ℕ → Type 0
+CoverLookahead rule set z [] k = Unit {0}
+CoverLookahead rule set [] (s ∷ ss) k = ⊥
+CoverLookahead rule set (b ∷ z) (s ∷ ss) k =
+    ((n : ℕ) × IsLookahead rule set b z n × (1 + (rule set b z).more + n ≤ k))
+    × CoverLookahead rule (rule set b z).set (drop (rule set b z).more z) ss (k - (1 + (rule set b z).more))

@@ -3,12 +3,12 @@ use Rattle.std.specs.Prelude.{ℕ, Option, Some, None, List, [], ◌∷◌}
 use Rattle.enc_machine.specs.declared.pending.Pending.{Pending}
 use Rattle.enc_machine.specs.declared.pending.Pending.TheVariants.{Nothing, One, Two, Three}
 
-abbrev pub pending_bytes : Pending → List ℕ
-pending_bytes Nothing = []
-pending_bytes (One a) = a ∷ []
-pending_bytes (Two a b) = a ∷ b ∷ []
-pending_bytes (Three a b c) = a ∷ b ∷ c ∷ []
+abbrev pub bytes_of_pending : Pending → List ℕ
+bytes_of_pending Nothing = []
+bytes_of_pending (One a) = a ∷ []
+bytes_of_pending (Two a b) = a ∷ b ∷ []
+bytes_of_pending (Three a b c) = a ∷ b ∷ c ∷ []
 
-abbrev pub first_of : List ℕ → Option ℕ
-first_of [] = None
-first_of (a ∷ z) = Some a
+abbrev pub first_byte : List ℕ → Option ℕ
+first_byte [] = None
+first_byte (a ∷ z) = Some a

@@ -14,16 +14,16 @@ AreBytes [] = Unit {0}
 AreBytes (b ∷ z) = (b < 256) × AreBytes z
 
 -- these sequences begin the list
-abbrev pub Begins : List Sequence → List Sequence → Type 0
-Begins ss all = (rest : List Sequence) × (all ≡ ss ++ rest)
+abbrev pub AreFirstSequences : List Sequence → List Sequence → Type 0
+AreFirstSequences ss all = (rest : List Sequence) × (all ≡ ss ++ rest)
 
 -- The bytes x determine that these sequences come first, whatever bytes follow.
 abbrev pub Determines : (List ℕ → List Sequence) → List ℕ → List Sequence → Type 0
-Determines remaining x ss = (z : List ℕ) → AreBytes z → Begins ss (remaining (x ++ z))
+Determines remaining x ss = (z : List ℕ) → AreBytes z → AreFirstSequences ss (remaining (x ++ z))
 
 -- the same where the end of the input may be known
 abbrev pub AreDetermined : Bool → (List ℕ → List Sequence) → List ℕ → List Sequence → Type 0
-AreDetermined true remaining x ss = Begins ss (remaining x)
+AreDetermined true remaining x ss = AreFirstSequences ss (remaining x)
 AreDetermined false remaining x ss = Determines remaining x ss
 
 -- With no byte more, no sequence is determined.

@@ -21,18 +21,18 @@ abbrev pub HasSmallTexts : Rule → Type 0
 HasSmallTexts rule = (set b : ℕ) (z : List ℕ) → IsSmallText (rule set b z).text
 
 -- The sequence that comes first is told by its own bytes and the next n: it is the same whatever follows those.
-pub record IsToldBy (rule : Rule) (set b : ℕ) (z : List ℕ) (n : ℕ) : Type 0 where
+pub record IsDeterminedWithin (rule : Rule) (set b : ℕ) (z : List ℕ) (n : ℕ) : Type 0 where
   pub there : (rule set b z).more + n ≤ length z
   pub same : (y : List ℕ) → rule set b (take ((rule set b z).more + n) z ++ y) ≡ rule set b z
 
 -- The lookahead of the first sequence is n: the next n bytes determine it, and fewer don't.
-pub record Looks (rule : Rule) (set b : ℕ) (z : List ℕ) (n : ℕ) : Type 0 where
-  pub told : IsToldBy rule set b z n
+pub record IsLookahead (rule : Rule) (set b : ℕ) (z : List ℕ) (n : ℕ) : Type 0 where
+  pub told : IsDeterminedWithin rule set b z n
   pub least : AreBytes z → (m : ℕ) → m < n
       → ((y : List ℕ) → AreBytes y → rule set b (take ((rule set b z).more + m) z ++ y) ≡ rule set b z) → ⊥
 
 -- Only the end of the input tells it, with at most three bytes behind it: it is another if these bytes follow.
-pub record IsToldByEnd (rule : Rule) (set b : ℕ) (z : List ℕ) : Type 0 where
+pub record IsDeterminedByEnd (rule : Rule) (set b : ℕ) (z : List ℕ) : Type 0 where
   pub within : (rule set b z).more ≤ length z
   pub more : List ℕ
   pub bytes : AreBytes more
@@ -40,16 +40,16 @@ pub record IsToldByEnd (rule : Rule) (set b : ℕ) (z : List ℕ) : Type 0 where
   pub near : length z ≤ (rule set b z).more + 3
 
 -- at most three bytes behind it, or only the end, tell it
-abbrev pub IsToldSoon : Rule → ℕ → ℕ → List ℕ → Type 0
-IsToldSoon rule set b z = ((n : ℕ) × (n ≤ 3) × Looks rule set b z n) ⊎ IsToldByEnd rule set b z
+abbrev pub HasBoundedLookahead : Rule → ℕ → ℕ → List ℕ → Type 0
+HasBoundedLookahead rule set b z = ((n : ℕ) × (n ≤ 3) × IsLookahead rule set b z n) ⊎ IsDeterminedByEnd rule set b z
 
 -- How far a decoder has to look ahead: not at all for a valid sequence, and for a malformed or a skipped one
 -- at most three bytes.
 pub record HasLookahead (rule : Rule) : Type 0 where
-  pub valid : (set b : ℕ) (z : List ℕ) → (rule set b z).kind ≡ Valid → IsToldBy rule set b z 0
-  pub others : (set b : ℕ) (z : List ℕ) → IsToldSoon rule set b z
+  pub valid : (set b : ℕ) (z : List ℕ) → (rule set b z).kind ≡ Valid → IsDeterminedWithin rule set b z 0
+  pub others : (set b : ℕ) (z : List ℕ) → HasBoundedLookahead rule set b z
 
 -- the laws of every encoding's rule
-pub record IsLawful (rule : Rule) : Type 0 where
+pub record IsLawfulRule (rule : Rule) : Type 0 where
   pub lookahead : HasLookahead rule
   pub small_texts : HasSmallTexts rule

@@ -35,15 +35,15 @@ abbrev pub head_sequence : Head → ℕ → List ℕ → Sequence
 head_sequence h b z = record { bytes = b ∷ take h.more z; text = h.text; kind = h.kind; set = h.set }
 
 -- the sequences behind the first k bytes
-unfoldable pub sequences_behind : Rule → ℕ → ℕ → List ℕ → List Sequence
-sequences_behind rule set k [] = []
-sequences_behind rule set zero (b ∷ z) =
-    head_sequence (rule set b z) b z ∷ sequences_behind rule (rule set b z).set (rule set b z).more z
-sequences_behind rule set (suc k) (b ∷ z) = sequences_behind rule set k z
+unfoldable pub sequences_after : Rule → ℕ → ℕ → List ℕ → List Sequence
+sequences_after rule set k [] = []
+sequences_after rule set zero (b ∷ z) =
+    head_sequence (rule set b z) b z ∷ sequences_after rule (rule set b z).set (rule set b z).more z
+sequences_after rule set (suc k) (b ∷ z) = sequences_after rule set k z
 
 -- the sequences of a byte list, from a designated character set on
 abbrev pub sequences_of : Rule → ℕ → List ℕ → List Sequence
-sequences_of rule set z = sequences_behind rule set 0 z
+sequences_of rule set z = sequences_after rule set 0 z
 
 -- These sequences are the bytes, each told by the rule at its place, and nothing is left.
 abbrev pub IsSegmentation : Rule → ℕ → List ℕ → List Sequence → Type 0

@@ -27,14 +27,14 @@ is_repeated_escape Malformed = false
 is_repeated_escape RepeatedEscape = true
 
 -- the bytes of the sequences, joined
-abbrev pub bytes_of : List Sequence → List ℕ
-bytes_of [] = []
-bytes_of (s ∷ ss) = s.bytes ++ bytes_of ss
+abbrev pub sequence_bytes : List Sequence → List ℕ
+sequence_bytes [] = []
+sequence_bytes (s ∷ ss) = s.bytes ++ sequence_bytes ss
 
 -- the text of the sequences, joined
-abbrev pub text_of : List Sequence → List ℕ
-text_of [] = []
-text_of (s ∷ ss) = s.text ++ text_of ss
+abbrev pub sequence_text : List Sequence → List ℕ
+sequence_text [] = []
+sequence_text (s ∷ ss) = s.text ++ sequence_text ss
 
 -- whether one of them is malformed
 abbrev pub any_malformed : List Sequence → Bool

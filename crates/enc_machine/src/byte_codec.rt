@@ -2,9 +2,9 @@
 
 ghost use Rattle.std.specs.Prelude.{◌≡◌, length, IsTrue};
 ghost use Rattle.enc_machine.specs.CodecState.{CodecState};
-ghost use Rattle.enc_machine.specs.CodecLaw.{Acts, IsReady, IsAtEnd, lone_fault};
+ghost use Rattle.enc_machine.specs.CodecLaw.{HandlesByte, IsNextOfPending, IsNextAtEnd, lone_fault};
 ghost use Rattle.enc_machine.specs.Taking.{TakesRun};
-ghost use Rattle.enc_machine.specs.declared.byte_codec.Step.TheVariants as steps;
+ghost use Rattle.enc_machine.specs.declared.byte_codec.HandlerResult.TheVariants as steps;
 ghost use Rattle.enc_machine.specs.Sequence.{is_malformed as malformed_kind};
 
 use enc_units::Units;
@@ -50,7 +50,7 @@ pub enum Text {
 
 /// A sequence that is shown to come next.
 #[derive(Clone, Copy)]
-pub struct Shown<C> {
+pub struct Emission<C> {
     pub text: Text,
     pub kind: Kind,
     /// How many bytes it has.
@@ -63,11 +63,11 @@ pub struct Shown<C> {
 
 /// What a byte does.
 #[derive(Clone, Copy)]
-pub enum Step<C> {
+pub enum HandlerResult<C> {
     /// It is read, and no sequence is determined yet.
-    Wait(C),
+    Continue(C),
     /// It shows a sequence.
-    Show(Shown<C>),
+    Emit(Emission<C>),
 }
 
 /// A decoder as a value that takes one byte at a time: the rule by which it segments bytes, the designated
@@ -90,23 +90,23 @@ pub trait ByteCodec: Copy {
     /// else, since such bytes are many where the input is no text of the encoding. False says nothing. Takes no memory.
     #[inline(always)]
     fn is_lone_fault(self, byte: u8) -> bool
-        ensures { IsTrue result → Acts state self byte (steps.Show (lone_fault self)) }
+        ensures { IsTrue result → HandlesByte state self byte (steps.Emit (lone_fault self)) }
     {
         let _byte = (self, byte);
         false
     }
 
     /// What the next byte does.
-    fn next_step(self, byte: u8) -> Step<Self>
-        ensures { Acts state self byte result };
+    fn next_step(self, byte: u8) -> HandlerResult<Self>
+        ensures { HandlesByte state self byte result };
 
     /// What the pending bytes show by themselves.
-    fn ready(self) -> Option<Shown<Self>>
-        ensures { IsReady state self result };
+    fn ready(self) -> Option<Emission<Self>>
+        ensures { IsNextOfPending state self result };
 
     /// What the end of the input shows.
-    fn at_end(self) -> Option<Shown<Self>>
-        ensures { IsAtEnd state self result };
+    fn at_end(self) -> Option<Emission<Self>>
+        ensures { IsNextAtEnd state self result };
 
     /// How many bytes are pending.
     fn held(self) -> u8

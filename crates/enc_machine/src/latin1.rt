@@ -2,17 +2,17 @@
 
 ghost use Rattle.std.specs.Prelude.{◌≡◌, ◌∷◌, [], true, IsTrue, IsFalse};
 ghost use Rattle.enc_machine.specs.CodecState.{remainder_of};
-ghost use Rattle.enc_machine.specs.CodecLaw.{chars_of};
-ghost use Rattle.enc_machine.specs.Latin1.{HasNoBytes, IsLatin1Prefix, TellsLatin1};
+ghost use Rattle.enc_machine.specs.CodecLaw.{text_chars};
+ghost use Rattle.enc_machine.specs.Latin1.{HasNoByteSequences, IsLatin1Prefix, AnswersCodecLatin1};
 
-use crate::byte_codec::{ByteCodec, Kind, Shown, Step, Text};
+use crate::byte_codec::{ByteCodec, Emission, HandlerResult, Kind, Text};
 
 /// Whether a byte shows the character of its own number, by itself.
-fn shows_itself<C: Copy>(shown: Shown<C>, byte: u8) -> bool
+fn shows_itself<C: Copy>(shown: Emission<C>, byte: u8) -> bool
     ensures takes { IsTrue result → shown.takes_byte ≡ true }
     ensures kind { IsTrue result → shown.kind ≡ Kind.Valid }
-    ensures text { IsTrue result → chars_of shown.text ≡ byte ∷ [] }
-    ensures no { IsFalse result → shown.takes_byte ≡ true → shown.kind ≡ Kind.Valid → ¬ (chars_of shown.text ≡ byte ∷ []) }
+    ensures text { IsTrue result → text_chars shown.text ≡ byte ∷ [] }
+    ensures no { IsFalse result → shown.takes_byte ≡ true → shown.kind ≡ Kind.Valid → ¬ (text_chars shown.text ≡ byte ∷ []) }
 {
     match shown.text {
         Text::One(character) => {
@@ -30,7 +30,7 @@ fn latin1_len<C: ByteCodec>(codec: C, bytes: &[u8]) -> usize
     let mut state = codec;
     let mut at = 0;
     while at < bytes.len() {
-        let Step::Show(shown) = state.next_step(bytes[at]) else {
+        let HandlerResult::Emit(shown) = state.next_step(bytes[at]) else {
             return at;
         };
         if !shows_itself(shown, bytes[at]) {
@@ -46,8 +46,8 @@ fn latin1_len<C: ByteCodec>(codec: C, bytes: &[u8]) -> usize
 /// `None` where bytes are pending, and else how many bytes in front are so.
 pub fn latin1_up_to<C: ByteCodec>(codec: C, bytes: &[u8]) -> Option<usize>
     requires at_start { (C.state codec).set ≡ 0 }
-    requires has_bytes { ¬ (HasNoBytes (C.state codec).rule) }
-    ensures { TellsLatin1 (C.state codec) bytes.now result }
+    requires has_bytes { ¬ (HasNoByteSequences (C.state codec).rule) }
+    ensures { AnswersCodecLatin1 (C.state codec) bytes.now result }
 {
     if codec.held() != 0 {
         return None;

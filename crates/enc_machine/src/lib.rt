@@ -9,7 +9,7 @@ mod pending;
 mod raw_decoder;
 mod text_lengths;
 
-pub use byte_codec::{ByteCodec, Kind, Shown, Step, Text};
+pub use byte_codec::{ByteCodec, Emission, HandlerResult, Kind, Text};
 pub use decoder_result::DecoderResult;
 pub use latin1::latin1_up_to;
 pub use machine::{report_or_run, run};

@@ -1,44 +1,44 @@
 //! The loop over the bytes of one call, for every codec and every output.
 
 ghost use Rattle.std.specs.Prelude.{◌≡◌, ◌-◌, ◌<◌, ◌≤◌, Bool, true, false, length, nat_le, IsTrue, IsFalse};
-ghost use Rattle.enc_units.specs.Output.{AreScalars, appended, units_of_text};
+ghost use Rattle.enc_units.specs.Output.{AreScalars, with_appended, units_of_text};
 ghost use Rattle.enc_machine.specs.CodecState.{remainder_of};
-ghost use Rattle.enc_machine.specs.CodecLaw.{IsComing, chars_of, lone_fault};
-ghost use Rattle.enc_machine.specs.declared.machine.Coming.TheVariants as comings;
-ghost use Rattle.enc_machine.specs.Call.{CallInto, Reported};
-ghost use Rattle.enc_machine.specs.Need.{MeetsNeed};
+ghost use Rattle.enc_machine.specs.CodecLaw.{IsNextEvent, text_chars, lone_fault};
+ghost use Rattle.enc_machine.specs.declared.machine.NextEvent.TheVariants as comings;
+ghost use Rattle.enc_machine.specs.Call.{DecoderCallInto, Fatal};
+ghost use Rattle.enc_machine.specs.Need.{MeetsDecodeNeed};
 ghost use Rattle.enc_machine.specs.Sequence.{is_malformed as malformed_kind};
 
-use crate::byte_codec::{ByteCodec, Kind, Shown, Step, Text};
+use crate::byte_codec::{ByteCodec, Emission, HandlerResult, Kind, Text};
 use crate::decoder_result::DecoderResult;
 use enc_units::Units;
 
 /// What comes next in a call.
 #[derive(Clone, Copy)]
-enum Coming<C> {
+enum NextEvent<C> {
     /// Nothing, until more is offered.
-    Stay,
+    NeedsInput,
     /// A byte that is held.
-    Hold(C),
+    HoldsByte(C),
     /// A sequence.
-    Next(Shown<C>),
+    Emits(Emission<C>),
 }
 
 /// Whether the next byte is malformed by itself.
 #[inline(always)]
 fn is_at_lone_fault<C: ByteCodec>(codec: C, src: &[u8], read: usize) -> bool
-    ensures { IsTrue result → (last : Bool) → IsComing C.state codec src.now read last (comings.Next (lone_fault codec)) }
+    ensures { IsTrue result → (last : Bool) → IsNextEvent C.state codec src.now read last (comings.Emits (lone_fault codec)) }
 {
     read < src.len() && codec.is_lone_fault(src[read])
 }
 
 /// What comes next: a sequence that the pending bytes, the next byte or the end shows, a byte to hold, or nothing.
-fn what_comes<C: ByteCodec>(codec: C, src: &[u8], read: usize, last: bool) -> Coming<C>
+fn what_comes<C: ByteCodec>(codec: C, src: &[u8], read: usize, last: bool) -> NextEvent<C>
     requires { read ≤ length src.now }
-    ensures { IsComing C.state codec src.now read last result }
+    ensures { IsNextEvent C.state codec src.now read last result }
 {
     if is_at_lone_fault(codec, src, read) {
-        return Coming::Next(Shown {
+        return NextEvent::Emits(Emission {
             text: Text::One('\u{FFFD}'),
             kind: Kind::Malformed,
             len: 1,
@@ -47,20 +47,20 @@ fn what_comes<C: ByteCodec>(codec: C, src: &[u8], read: usize, last: bool) -> Co
         });
     }
     match codec.ready() {
-        Some(shown) => Coming::Next(shown),
+        Some(shown) => NextEvent::Emits(shown),
         None => {
             if read < src.len() {
                 match codec.next_step(src[read]) {
-                    Step::Wait(next) => Coming::Hold(next),
-                    Step::Show(shown) => Coming::Next(shown),
+                    HandlerResult::Continue(next) => NextEvent::HoldsByte(next),
+                    HandlerResult::Emit(shown) => NextEvent::Emits(shown),
                 }
             } else if last {
                 match codec.at_end() {
-                    Some(shown) => Coming::Next(shown),
-                    None => Coming::Stay,
+                    Some(shown) => NextEvent::Emits(shown),
+                    None => NextEvent::NeedsInput,
                 }
             } else {
-                Coming::Stay
+                NextEvent::NeedsInput
             }
         }
     }
@@ -68,7 +68,7 @@ fn what_comes<C: ByteCodec>(codec: C, src: &[u8], read: usize, last: bool) -> Co
 
 /// How many code units a text has.
 fn width<U: Units>(text: Text) -> usize
-    ensures { result ≡ length (units_of_text U.units_of (chars_of text)) }
+    ensures { result ≡ length (units_of_text U.units_of (text_chars text)) }
 {
     match text {
         Text::Nothing => 0,
@@ -80,9 +80,9 @@ fn width<U: Units>(text: Text) -> usize
 /// Writes a text, or nothing where it doesn't fit as a whole.
 #[inline(always)]
 fn put_text<U: Units>(out: &mut U, text: Text) -> bool
-    ensures fits { result ≡ nat_le (length (units_of_text U.units_of (chars_of text))) (U.output out.old).room }
-    ensures scalars { IsTrue result → AreScalars (chars_of text) }
-    ensures written { IsTrue result → U.output out.new ≡ appended (U.output out.old) (units_of_text U.units_of (chars_of text)) }
+    ensures fits { result ≡ nat_le (length (units_of_text U.units_of (text_chars text))) (U.output out.old).room }
+    ensures scalars { IsTrue result → AreScalars (text_chars text) }
+    ensures written { IsTrue result → U.output out.new ≡ with_appended (U.output out.old) (units_of_text U.units_of (text_chars text)) }
     ensures unchanged { IsFalse result → U.output out.new ≡ U.output out.old }
 {
     if width::<U>(text) > out.room() {
@@ -99,11 +99,12 @@ fn put_text<U: Units>(out: &mut U, text: Text) -> bool
 #[inline(always)]
 fn put_out<U: Units>(out: &mut U, kind: Kind, text: Text) -> bool
     ensures valid { IsTrue result → malformed_kind kind ≡ false }
-    ensures scalars { IsTrue result → AreScalars (chars_of text) }
-    ensures fits { IsTrue result → nat_le (length (units_of_text U.units_of (chars_of text))) (U.output out.old).room ≡ true }
-    ensures written { IsTrue result → U.output out.new ≡ appended (U.output out.old) (units_of_text U.units_of (chars_of text)) }
+    ensures scalars { IsTrue result → AreScalars (text_chars text) }
+    ensures fits { IsTrue result → nat_le (length (units_of_text U.units_of (text_chars text))) (U.output out.old).room ≡ true }
+    ensures written { IsTrue result → U.output out.new ≡ with_appended (U.output out.old) (units_of_text U.units_of (text_chars text)) }
     ensures full { IsFalse result → malformed_kind kind ≡ false →
-        nat_le (length (units_of_text U.units_of (chars_of text))) (U.output out.old).room ≡ false }
+        nat_le (length (units_of_text U.units_of (text_chars text))) (U.output out.old).room
+        ≡ false }
     ensures unchanged { IsFalse result → U.output out.new ≡ U.output out.old }
 {
     if kind.is_malformed() {
@@ -138,10 +139,10 @@ pub fn run<C: ByteCodec, U: Units>(
     last: bool,
     fault_room: bool,
 ) -> (DecoderResult, usize)
-    ensures call { CallInto U.units_of (remainder_of (C.state codec.old)) (remainder_of (C.state codec.new)) src.now last
-        (Reported fault_room) (U.output out.old) (U.output out.new) result.0 result.1 false }
+    ensures call { DecoderCallInto U.units_of (remainder_of (C.state codec.old)) (remainder_of (C.state codec.new)) src.now last
+        (Fatal fault_room) (U.output out.old) (U.output out.new) result.0 result.1 false }
     ensures rule { (C.state codec.new).rule ≡ (C.state codec.old).rule }
-    ensures need { MeetsNeed U.units_of (Reported fault_room) (remainder_of (C.state codec.old)) (remainder_of (C.state codec.new)) src.now last
+    ensures need { MeetsDecodeNeed U.units_of (Fatal fault_room) (remainder_of (C.state codec.old)) (remainder_of (C.state codec.new)) src.now last
         (U.output out.old).room result.0 result.1 ((U.output out.old).room - (U.output out.new).room) }
 {
     let mut state = *codec;
@@ -152,16 +153,16 @@ pub fn run<C: ByteCodec, U: Units>(
         state = ahead;
         read += taken;
         let shown = match what_comes(state, src, read, last) {
-            Coming::Stay => {
+            NextEvent::NeedsInput => {
                 *codec = state;
                 return (DecoderResult::InputEmpty, read);
             }
-            Coming::Hold(next) => {
+            NextEvent::HoldsByte(next) => {
                 state = next;
                 read += 1;
                 continue;
             }
-            Coming::Next(shown) => shown,
+            NextEvent::Emits(shown) => shown,
         };
         let end = if shown.takes_byte { read + 1 } else { read };
         if is_reported(out, shown.kind, fault_room) {
@@ -186,10 +187,10 @@ fn run_apart<C: ByteCodec, U: Units>(
     last: bool,
     fault_room: bool,
 ) -> (DecoderResult, usize)
-    ensures call { CallInto U.units_of (remainder_of (C.state codec.old)) (remainder_of (C.state codec.new)) src.now last
-        (Reported fault_room) (U.output out.old) (U.output out.new) result.0 result.1 false }
+    ensures call { DecoderCallInto U.units_of (remainder_of (C.state codec.old)) (remainder_of (C.state codec.new)) src.now last
+        (Fatal fault_room) (U.output out.old) (U.output out.new) result.0 result.1 false }
     ensures rule { (C.state codec.new).rule ≡ (C.state codec.old).rule }
-    ensures need { MeetsNeed U.units_of (Reported fault_room) (remainder_of (C.state codec.old)) (remainder_of (C.state codec.new)) src.now last
+    ensures need { MeetsDecodeNeed U.units_of (Fatal fault_room) (remainder_of (C.state codec.old)) (remainder_of (C.state codec.new)) src.now last
         (U.output out.old).room result.0 result.1 ((U.output out.old).room - (U.output out.new).room) }
 {
     run(codec, src, out, last, fault_room)
@@ -205,10 +206,10 @@ pub fn report_or_run<C: ByteCodec, U: Units>(
     last: bool,
     fault_room: bool,
 ) -> (DecoderResult, usize)
-    ensures call { CallInto U.units_of (remainder_of (C.state codec.old)) (remainder_of (C.state codec.new)) src.now last
-        (Reported fault_room) (U.output out.old) (U.output out.new) result.0 result.1 false }
+    ensures call { DecoderCallInto U.units_of (remainder_of (C.state codec.old)) (remainder_of (C.state codec.new)) src.now last
+        (Fatal fault_room) (U.output out.old) (U.output out.new) result.0 result.1 false }
     ensures rule { (C.state codec.new).rule ≡ (C.state codec.old).rule }
-    ensures need { MeetsNeed U.units_of (Reported fault_room) (remainder_of (C.state codec.old)) (remainder_of (C.state codec.new)) src.now last
+    ensures need { MeetsDecodeNeed U.units_of (Fatal fault_room) (remainder_of (C.state codec.old)) (remainder_of (C.state codec.new)) src.now last
         (U.output out.old).room result.0 result.1 ((U.output out.old).room - (U.output out.new).room) }
 {
     let state = *codec;

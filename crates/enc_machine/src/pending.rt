@@ -1,7 +1,7 @@
 //! Pending bytes, three at most.
 
 ghost use Rattle.std.specs.Prelude.{◌≡◌, ◌<◌, [], ◌∷◌, ◌++◌, length, drop};
-ghost use Rattle.enc_machine.specs.Pending.{pending_bytes, first_of};
+ghost use Rattle.enc_machine.specs.Pending.{bytes_of_pending, first_byte};
 
 /// The bytes that were read and whose sequence is not shown yet.
 #[derive(Clone, Copy)]
@@ -15,7 +15,7 @@ pub enum Pending {
 impl Pending {
     /// How many they are.
     pub fn len(self) -> u8
-        ensures { result ≡ length (pending_bytes self) }
+        ensures { result ≡ length (bytes_of_pending self) }
     {
         match self {
             Pending::Nothing => 0,
@@ -27,7 +27,7 @@ impl Pending {
 
     /// The first of them.
     pub fn first(self) -> Option<u8>
-        ensures { result ≡ first_of (pending_bytes self) }
+        ensures { result ≡ first_byte (bytes_of_pending self) }
     {
         match self {
             Pending::Nothing => None,
@@ -39,7 +39,7 @@ impl Pending {
 
     /// What is left of them behind so many.
     pub fn behind(self, count: u8) -> Pending
-        ensures { pending_bytes result ≡ drop count (pending_bytes self) }
+        ensures { bytes_of_pending result ≡ drop count (bytes_of_pending self) }
     {
         match (count, self) {
             (0, _) => self,
@@ -52,8 +52,8 @@ impl Pending {
 
     /// They and one more, where they are two at most.
     pub fn with(self, byte: u8) -> Pending
-        requires { length (pending_bytes self) < 3 }
-        ensures { pending_bytes result ≡ pending_bytes self ++ byte ∷ [] }
+        requires { length (bytes_of_pending self) < 3 }
+        ensures { bytes_of_pending result ≡ bytes_of_pending self ++ byte ∷ [] }
     {
         match self {
             Pending::Nothing => Pending::One(byte),

@@ -2,10 +2,10 @@
 
 ghost use Rattle.std.specs.Prelude.{◌≡◌, ◌-◌, ◌≤◌, true, false, length};
 ghost use Rattle.enc_machine.specs.CodecState.{CodecState, remainder_of};
-ghost use Rattle.enc_machine.specs.Call.{CallInto, Replaced, Reported};
-ghost use Rattle.enc_machine.specs.Latin1.{TellsLatin1};
-ghost use Rattle.enc_machine.specs.RuleLaws.{IsLawful};
-ghost use Rattle.enc_machine.specs.Need.{MeetsNeed, AreEnough};
+ghost use Rattle.enc_machine.specs.Call.{DecoderCallInto, Replacement, Fatal};
+ghost use Rattle.enc_machine.specs.Latin1.{AnswersCodecLatin1};
+ghost use Rattle.enc_machine.specs.RuleLaws.{IsLawfulRule};
+ghost use Rattle.enc_machine.specs.Need.{MeetsDecodeNeed, AreEnoughForCodec};
 ghost use Rattle.enc_machine.specs.Lengths.{utf_8_length, reporting_length, utf_16_length};
 ghost use Rattle.enc_machine.specs.declared.text_lengths.TextLengths.{TextLengths};
 
@@ -34,18 +34,18 @@ pub trait RawDecoder: Copy {
         last: bool,
         fault_room: bool,
     ) -> (DecoderResult, usize)
-        ensures call { CallInto U.units_of (remainder_of (state self.old)) (remainder_of (state self.new)) src.now last
-            (Reported fault_room) (U.output out.old) (U.output out.new) result.0 result.1 false }
+        ensures call { DecoderCallInto U.units_of (remainder_of (state self.old)) (remainder_of (state self.new)) src.now last
+            (Fatal fault_room) (U.output out.old) (U.output out.new) result.0 result.1 false }
         ensures rule { (state self.new).rule ≡ (state self.old).rule }
 
         // The output is full just where the call needs more room than there is; with `fault_room` it needs that of U+FFFD too.
-        ensures need { MeetsNeed U.units_of (Reported fault_room) (remainder_of (state self.old)) (remainder_of (state self.new)) src.now last
+        ensures need { MeetsDecodeNeed U.units_of (Fatal fault_room) (remainder_of (state self.old)) (remainder_of (state self.new)) src.now last
             (U.output out.old).room result.0 result.1 ((U.output out.old).room - (U.output out.new).room) }
         ensures formulas { formulas self.new ≡ formulas self.old }
 
         // A valid sequence is told by its own bytes, and any other by three more at most, or by the end; each has
         // a text of four UTF-8 code units at most.
-        ensures lawful { IsLawful (state self.old).rule };
+        ensures lawful { IsLawfulRule (state self.old).rule };
 
     /// Decodes until all of `src` is read or the next sequence doesn't fit into `out`, with U+FFFD for each malformed one
     /// (Encoding Standard 4.1, error mode "replacement"). Returns which, how many bytes it has read, and whether it has
@@ -57,11 +57,11 @@ pub trait RawDecoder: Copy {
         out: &mut U,
         last: bool,
     ) -> (DecoderResult, usize, bool)
-        ensures call { CallInto U.units_of (remainder_of (state self.old)) (remainder_of (state self.new)) src.now last
-            Replaced (U.output out.old) (U.output out.new) result.0 result.1 result.2 }
+        ensures call { DecoderCallInto U.units_of (remainder_of (state self.old)) (remainder_of (state self.new)) src.now last
+            Replacement (U.output out.old) (U.output out.new) result.0 result.1 result.2 }
         ensures rule { (state self.new).rule ≡ (state self.old).rule }
         ensures formulas { formulas self.new ≡ formulas self.old }
-        ensures lawful { IsLawful (state self.old).rule }
+        ensures lawful { IsLawfulRule (state self.old).rule }
     {
         let mut read = 0;
         let mut replaced = false;
@@ -90,12 +90,12 @@ pub trait RawDecoder: Copy {
     /// character set is designated than at the start, and in an encoding in which no byte is a character by itself. Takes
     /// no memory.
     fn latin1_byte_compatible_up_to(&self, bytes: &[u8]) -> Option<usize>
-        ensures { TellsLatin1 (state self.now) bytes.now result };
+        ensures { AnswersCodecLatin1 (state self.now) bytes.now result };
 
     /// Which formulas tell the greatest length of its text: one that is enough for every offer. Takes no memory.
     fn text_lengths(&self) -> TextLengths
         ensures formulas { result ≡ formulas self.now }
-        ensures enough { AreEnough (formulas self.now) (state self.now) };
+        ensures enough { AreEnoughForCodec (formulas self.now) (state self.now) };
 
     /// How many bytes of UTF-8 so many more bytes may become, with U+FFFD for what is malformed: a length to allocate. `None`
     /// where that passes `usize`. Takes no memory.

@@ -1,7 +1,7 @@
 //! How long a text may be: lengths to allocate.
 
 ghost use Rattle.std.specs.Prelude.{◌≡◌, Some};
-ghost use Rattle.enc_units.specs.Checked.{plus, half};
+ghost use Rattle.enc_units.specs.Checked.{checked_add, checked_half};
 ghost use Rattle.enc_machine.specs.Lengths.{utf_8_length, reporting_length, utf_16_length};
 
 /// Which formulas tell the greatest length of a text, by the kind of its codec. Each sum and each product is a checked step, and
@@ -22,7 +22,7 @@ pub enum TextLengths {
 
 /// Half of what UTF-16 bytes may be, rounded up: so many code units.
 fn code_units(bytes: usize, held: usize) -> Option<usize>
-    ensures { result ≡ half (plus (plus (Some bytes) held) 1) }
+    ensures { result ≡ checked_half (checked_add (checked_add (Some bytes) held) 1) }
 {
     Some(bytes.checked_add(held)?.checked_add(1)? / 2)
 }

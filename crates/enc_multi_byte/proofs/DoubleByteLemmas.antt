@@ -4,32 +4,32 @@ use Rattle.enc_machine.specs.declared.byte_codec.Text.{Text}
 use Rattle.enc_machine.specs.declared.byte_codec.Text.TheVariants.{One}
 use Rattle.enc_multi_byte.specs.declared.multi_byte.Prefix.{Prefix}
 use Rattle.enc_multi_byte.specs.declared.multi_byte.Prefix.TheVariants.{Complete, Malformed, Incomplete}
-use Rattle.enc_multi_byte.specs.DoubleByte.{text_of_char, single_prefix, first_prefix, trail_prefix, double_byte_prefix, IsText, ArePairs}
+use Rattle.enc_multi_byte.specs.DoubleByte.{text_of_char, single_prefix, first_prefix, trail_prefix, double_byte_prefix, IsPairText, ArePairs}
 use Rattle.enc_multi_byte.specs.MultiByte.{CanBeMalformed, ArePrefixes}
 use Rattle.enc_machine.proofs.RuleLemmas.{one_small}
-use Rattle.enc_machine.specs.CodecLaw.{chars_of}
-use Rattle.enc_machine.specs.Need.{IsBasicText}
+use Rattle.enc_machine.specs.CodecLaw.{text_chars}
+use Rattle.enc_machine.specs.Need.{IsBmpText}
 use Rattle.enc_machine.proofs.EnoughLemmas.{basic_by}
 use Rattle.std.proofs.lemmas.Bool.Decides.{nat_tests}
 
-pub one_is_text : (c : ℕ) → IsText (One c)
+pub one_is_text : (c : ℕ) → IsPairText (One c)
 one_is_text c = record { some = λ e. cc; small = one_small c }
 
-pub char_is_text : (c : Option ℕ) (text : Text) → text_of_char c ≡ Some text → IsText text
+pub char_is_text : (c : Option ℕ) (text : Text) → text_of_char c ≡ Some text → IsPairText text
 char_is_text None text e = cc
-char_is_text (Some c) text e = subst IsText (let f : One c ≡ text = cc in f) (one_is_text c)
+char_is_text (Some c) text e = subst IsPairText (let f : One c ≡ text = cc in f) (one_is_text c)
 
 -- the first byte
 
-single_is_text : (c : Option ℕ) (text : Text) → single_prefix c ≡ Complete text → IsText text
+single_is_text : (c : Option ℕ) (text : Text) → single_prefix c ≡ Complete text → IsPairText text
 single_is_text None text e = cc
-single_is_text (Some c) text e = subst IsText (let f : One c ≡ text = cc in f) (one_is_text c)
+single_is_text (Some c) text e = subst IsPairText (let f : One c ≡ text = cc in f) (one_is_text c)
 
 single_malformed : (c : Option ℕ) (n : ℕ) → single_prefix c ≡ Malformed n → n ≡ 1
 single_malformed None n e = cc
 single_malformed (Some c) n e = cc
 
-pub first_is_text : (leads : Bool) (c : Option ℕ) (text : Text) → first_prefix leads c ≡ Complete text → IsText text
+pub first_is_text : (leads : Bool) (c : Option ℕ) (text : Text) → first_prefix leads c ≡ Complete text → IsPairText text
 first_is_text true c text e = cc
 first_is_text false c text e = single_is_text c text e
 
@@ -40,10 +40,10 @@ first_malformed false c n e = single_malformed c n e
 -- a character of a single byte is of the Basic Multilingual Plane
 
 pub first_is_basic : (leads : Bool) (single : Option ℕ) (text : Text) → ((c : ℕ) → single ≡ Some c → c < 0x1_0000) → first_prefix leads single ≡ Complete text
-    → IsBasicText (chars_of text)
+    → IsBmpText (text_chars text)
 first_is_basic true single text b e = absurd (cc)
 first_is_basic false None text b e = absurd (cc)
-first_is_basic false (Some c) text b e = subst (λ t. IsBasicText (chars_of t)) (let f : One c ≡ text = cc in f) (basic_by c (b c refl))
+first_is_basic false (Some c) text b e = subst (λ t. IsBmpText (text_chars t)) (let f : One c ≡ text = cc in f) (basic_by c (b c refl))
 
 pub ascii_is_basic : (b c : ℕ) → cond (nat_lt b 0x80) (Some b) None ≡ Some c → c < 0x1_0000
 ascii_is_basic b c e = grind (arith, nat_tests)
@@ -86,7 +86,8 @@ pub double_byte_laws : (is_lead : ℕ → Bool) (single : ℕ → Option ℕ) (p
 double_byte_laws is_lead single pair laws =
     record { nothing = refl; texts = texts; alone = λ b text e. first_is_basic (is_lead b) (single b) text (laws.basic b) e; malformed = malformed; short = short; can_be_malformed = can_be_malformed }
   where
-    texts : (front : List ℕ) (text : Text) → double_byte_prefix is_lead single pair front ≡ Complete text → IsText text
+    texts : (front : List ℕ) (text : Text) → double_byte_prefix is_lead single pair front ≡ Complete text
+        → IsPairText text
     texts [] text e = cc
     texts (a ∷ []) text e = first_is_text (is_lead a) (single a) text e
     texts (a ∷ b ∷ z) text e = laws.texts a b text (trail_text 1 b (pair a b) text e)

@@ -4,53 +4,54 @@ use Rattle.std.proofs.lemmas.Bool.Decides.{nat_tests}
 use Rattle.enc_machine.specs.declared.byte_codec.Text.{Text}
 use Rattle.enc_machine.specs.declared.byte_codec.Text.TheVariants.{One}
 use Rattle.enc_multi_byte.specs.declared.multi_byte.Prefix.TheVariants.{Complete, Malformed, Incomplete}
-use Rattle.enc_multi_byte.specs.DoubleByte.{text_of_char, IsText}
+use Rattle.enc_multi_byte.specs.DoubleByte.{text_of_char, IsPairText}
 use Rattle.enc_multi_byte.specs.MultiByte.{CanBeMalformed, ArePrefixes}
-use Rattle.enc_multi_byte.specs.Gb18030.{gb18030_lead, is_digit, gb18030_single, gb18030_pair, ranges_char, ranges_pointer, four_prefix, gb18030_prefix}
+use Rattle.enc_multi_byte.specs.Gb18030.{is_gb18030_lead, is_digit, gb18030_single_char, gb18030_pair_char, ranges_code_point, four_byte_pointer, four_byte_prefix, gb18030_prefix}
 use Rattle.enc_multi_byte.proofs.DoubleByteLemmas.{first_is_basic, one_is_text, char_is_text, first_is_text, first_malformed, trail_text, trail_malformed, unless_complete, unless_malformed}
 
 -- four bytes
 
-four_is_text : (t : Bool) (c : Option ℕ) (text : Text) → cond t (four_prefix c) (Malformed 1) ≡ Complete text → IsText text
+four_is_text : (t : Bool) (c : Option ℕ) (text : Text) → cond t (four_byte_prefix c) (Malformed 1) ≡ Complete text → IsPairText text
 four_is_text false c text e = cc
 four_is_text true None text e = cc
-four_is_text true (Some c) text e = subst IsText (let f : One c ≡ text = cc in f) (one_is_text c)
+four_is_text true (Some c) text e = subst IsPairText (let f : One c ≡ text = cc in f) (one_is_text c)
 
-four_malformed : (t : Bool) (c : Option ℕ) (n : ℕ) → cond t (four_prefix c) (Malformed 1) ≡ Malformed n → (0 < n) × (n ≤ 4)
+four_malformed : (t : Bool) (c : Option ℕ) (n : ℕ) → cond t (four_byte_prefix c) (Malformed 1) ≡ Malformed n → (0 < n) × (n ≤ 4)
 four_malformed false c n e = let f : 1 ≡ n = cc in (omega arith, omega arith)
 four_malformed true None n e = let f : 4 ≡ n = cc in (omega arith, omega arith)
 four_malformed true (Some c) n e = cc
 
-four_finished : (t : Bool) (c : Option ℕ) → cond t (four_prefix c) (Malformed 1) ≢ Incomplete
+four_finished : (t : Bool) (c : Option ℕ) → cond t (four_byte_prefix c) (Malformed 1) ≢ Incomplete
 four_finished false c e = cc
 four_finished true None e = cc
 four_finished true (Some c) e = cc
 
-texts : (front : List ℕ) (text : Text) → gb18030_prefix front ≡ Complete text → IsText text
+texts : (front : List ℕ) (text : Text) → gb18030_prefix front ≡ Complete text → IsPairText text
 texts [] text e = cc
-texts (a ∷ []) text e = first_is_text (gb18030_lead a) (gb18030_single a) text e
+texts (a ∷ []) text e = first_is_text (is_gb18030_lead a) (gb18030_single_char a) text e
 texts (a ∷ b ∷ []) text e =
-    char_is_text (gb18030_pair a b) text (trail_text 1 b _ text (unless_complete (is_digit b) _ text e))
-texts (a ∷ b ∷ c ∷ []) text e = let f = unless_complete (gb18030_lead c) (Malformed 1) text e in cc
-texts (a ∷ b ∷ c ∷ d ∷ z) text e = four_is_text (is_digit d) (ranges_char (ranges_pointer a b c d)) text e
+    char_is_text (gb18030_pair_char a b) text (trail_text 1 b _ text (unless_complete (is_digit b) _ text e))
+texts (a ∷ b ∷ c ∷ []) text e = let f = unless_complete (is_gb18030_lead c) (Malformed 1) text e in cc
+texts (a ∷ b ∷ c ∷ d ∷ z) text e = four_is_text (is_digit d) (ranges_code_point (four_byte_pointer a b c d)) text e
 
 malformed : (front : List ℕ) (n : ℕ) → gb18030_prefix front ≡ Malformed n → (0 < n) × (n ≤ length front)
 malformed [] n e = cc
-malformed (a ∷ []) n e = let f = first_malformed (gb18030_lead a) (gb18030_single a) n e in (omega arith, omega arith)
+malformed (a ∷ []) n e = let f = first_malformed (is_gb18030_lead a) (gb18030_single_char a) n e in
+    (omega arith, omega arith)
 malformed (a ∷ b ∷ []) n e =
-    let f = trail_malformed 1 b (text_of_char (gb18030_pair a b)) n (unless_malformed (is_digit b) _ n e) in
+    let f = trail_malformed 1 b (text_of_char (gb18030_pair_char a b)) n (unless_malformed (is_digit b) _ n e) in
     (omega (arith, f.0), omega (arith, f.1))
 malformed (a ∷ b ∷ c ∷ []) n e =
-    let f = unless_malformed (gb18030_lead c) (Malformed 1) n e in let g : 1 ≡ n = cc in (omega arith, omega arith)
+    let f = unless_malformed (is_gb18030_lead c) (Malformed 1) n e in let g : 1 ≡ n = cc in (omega arith, omega arith)
 malformed (a ∷ b ∷ c ∷ d ∷ z) n e =
-    let f = four_malformed (is_digit d) (ranges_char (ranges_pointer a b c d)) n e in (f.0, omega (arith, f.1))
+    let f = four_malformed (is_digit d) (ranges_code_point (four_byte_pointer a b c d)) n e in (f.0, omega (arith, f.1))
 
 short : (front : List ℕ) → gb18030_prefix front ≡ Incomplete → length front ≤ 3
 short [] e = omega arith
 short (a ∷ []) e = omega arith
 short (a ∷ b ∷ []) e = omega arith
 short (a ∷ b ∷ c ∷ []) e = omega arith
-short (a ∷ b ∷ c ∷ d ∷ z) e = absurd (four_finished (is_digit d) (ranges_char (ranges_pointer a b c d)) e)
+short (a ∷ b ∷ c ∷ d ∷ z) e = absurd (four_finished (is_digit d) (ranges_code_point (four_byte_pointer a b c d)) e)
 
 -- FF is neither a trail, nor a third or a fourth byte
 can_be_malformed : (front : List ℕ) → 0 < length front → gb18030_prefix front ≡ Incomplete → CanBeMalformed gb18030_prefix front
@@ -58,10 +59,11 @@ can_be_malformed [] s e = absurd (omega arith)
 can_be_malformed (a ∷ []) s e = record { byte = 0xFF; is_byte = omega arith; len = 2; malformed = refl; other = λ f. omega arith }
 can_be_malformed (a ∷ b ∷ []) s e = record { byte = 0xFF; is_byte = omega arith; len = 1; malformed = refl; other = λ f. omega arith }
 can_be_malformed (a ∷ b ∷ c ∷ []) s e = record { byte = 0xFF; is_byte = omega arith; len = 1; malformed = refl; other = λ f. omega arith }
-can_be_malformed (a ∷ b ∷ c ∷ d ∷ z) s e = absurd (four_finished (is_digit d) (ranges_char (ranges_pointer a b c d)) e)
+can_be_malformed (a ∷ b ∷ c ∷ d ∷ z) s e =
+    absurd (four_finished (is_digit d) (ranges_code_point (four_byte_pointer a b c d)) e)
 
-single_is_basic : (b c : ℕ) → gb18030_single b ≡ Some c → c < 0x1_0000
+single_is_basic : (b c : ℕ) → gb18030_single_char b ≡ Some c → c < 0x1_0000
 single_is_basic b c e = grind (arith, nat_tests)
 
 pub gb18030_laws : ArePrefixes gb18030_prefix
-gb18030_laws = record { nothing = refl; texts = texts; alone = λ b text e. first_is_basic (gb18030_lead b) (gb18030_single b) text (single_is_basic b) e; malformed = malformed; short = short; can_be_malformed = can_be_malformed }
+gb18030_laws = record { nothing = refl; texts = texts; alone = λ b text e. first_is_basic (is_gb18030_lead b) (gb18030_single_char b) text (single_is_basic b) e; malformed = malformed; short = short; can_be_malformed = can_be_malformed }

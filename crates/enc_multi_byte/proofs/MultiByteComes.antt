@@ -10,35 +10,35 @@ use Rattle.enc_machine.specs.declared.byte_codec.Text.{Text}
 use Rattle.enc_machine.specs.declared.byte_codec.Text.TheVariants.{One as Character}
 use Rattle.enc_machine.specs.declared.pending.Pending.{Pending}
 use Rattle.enc_machine.specs.declared.pending.Pending.TheVariants.{Nothing, One, Two, Three}
-use Rattle.enc_machine.specs.Pending.{pending_bytes, first_of}
-use Rattle.enc_machine.specs.declared.byte_codec.Shown.{Shown}
-use Rattle.enc_machine.specs.declared.byte_codec.Step.TheVariants.{Wait, Show}
+use Rattle.enc_machine.specs.Pending.{bytes_of_pending, first_byte}
+use Rattle.enc_machine.specs.declared.byte_codec.Emission.{Emission}
+use Rattle.enc_machine.specs.declared.byte_codec.HandlerResult.TheVariants.{Continue, Emit}
 use Rattle.enc_multi_byte.specs.declared.multi_byte.Prefix.{Prefix}
 use Rattle.enc_multi_byte.specs.declared.multi_byte.Prefix.TheVariants.{Incomplete}
 use Rattle.enc_machine.specs.Segmentation.{sequences_of}
 use Rattle.enc_machine.specs.CodecState.{CodecState}
-use Rattle.enc_machine.specs.CodecLaw.{chars_of, Comes, Acts, IsReady, IsAtEnd}
+use Rattle.enc_machine.specs.CodecLaw.{text_chars, IsNextSequence, HandlesByte, IsNextOfPending, IsNextAtEnd}
 use Rattle.enc_multi_byte.specs.MultiByte.{multi_byte_rule, multi_byte_state, AreIncomplete, ArePrefixes}
 use Rattle.enc_machine.proofs.SegmentationLemmas.{sequences_of-head}
-use Rattle.enc_machine.proofs.ShowLemmas.{shows_with, shows_at, shows_before}
+use Rattle.enc_machine.proofs.EmissionLemmas.{shows_with, shows_at, shows_before}
 use Rattle.enc_multi_byte.proofs.MultiByteLemmas.{one_more, Settles, settled_first, all_malformed}
 use Rattle.enc_multi_byte.proofs.MultiByteRule.{undetermined}
 
 -- three bytes at most are pending
-pub at_most_three : (p : Pending) → length (pending_bytes p) ≤ 3
+pub at_most_three : (p : Pending) → length (bytes_of_pending p) ≤ 3
 at_most_three Nothing = omega arith
 at_most_three (One a) = omega arith
 at_most_three (Two a b) = omega arith
 at_most_three (Three a b c) = omega arith
 
-pub some_pending : (p : Pending) → (p ≡ Nothing → ⊥) → 0 < length (pending_bytes p)
+pub some_pending : (p : Pending) → (p ≡ Nothing → ⊥) → 0 < length (bytes_of_pending p)
 some_pending Nothing n = absurd (n refl)
 some_pending (One a) n = omega arith
 some_pending (Two a b) n = omega arith
 some_pending (Three a b c) n = omega arith
 
 -- the first of some bytes, and those behind it
-pub first_and_rest : (z : List ℕ) (a : ℕ) → first_of z ≡ Some a → z ≡ a ∷ drop 1 z
+pub first_and_rest : (z : List ℕ) (a : ℕ) → first_byte z ≡ Some a → z ≡ a ∷ drop 1 z
 first_and_rest [] a e = cc
 first_and_rest (b ∷ z) a e = cc
 
@@ -51,7 +51,8 @@ module _ (prefix : List ℕ → Prefix) (laws : ArePrefixes prefix) {C : Type 0}
   pub shows_pending : (may_follow : List ℕ → Type 0) (w : List ℕ) (x : ℕ) (rest : List ℕ) (n len : ℕ) (text : Text) (kind : Kind)
       → p ≡ w ++ x ∷ rest → AreIncomplete prefix [] w → Settles prefix (w ++ x ∷ []) n text kind → length p ≤ 3 → len ≡ n
       → state next ≡ multi_byte_state prefix (drop n p)
-      → Comes state c may_follow [] (record { text = text; kind = kind; len = len; takes_byte = false; next = next })
+      → IsNextSequence state c may_follow []
+      (record { text = text; kind = kind; len = len; takes_byte = false; next = next })
   shows_pending may_follow w x rest n len text kind e u s l m then =
       let f : p ≡ (w ++ x ∷ []) ++ rest = e ∙ sym (append_assoc w (x ∷ []) rest) in
       let k : length p ≡ length (w ++ x ∷ []) + length rest = ap length f ∙ length-append (w ++ x ∷ []) rest in
@@ -71,14 +72,14 @@ module _ (prefix : List ℕ → Prefix) (laws : ArePrefixes prefix) {C : Type 0}
       (ap (λ z. sequences_of (multi_byte_rule prefix) 0 (z ++ y)) e
       ∙ ap (sequences_of (multi_byte_rule prefix) 0) (append_assoc w (x ∷ rest) y)
       ∙ settled_first prefix 0 w x (rest ++ y) n text kind u s
-      ∙ ap (λ b. record { bytes = b; text = chars_of text; kind = kind; set = 0 } ∷ sequences_of (multi_byte_rule prefix) 0 (drop n (w ++ x ∷ []) ++ (rest ++ y))) (sym t)
-      ∙ ap (λ z. record { bytes = take n p; text = chars_of text; kind = kind; set = 0 } ∷ sequences_of (multi_byte_rule prefix) 0 z)
+      ∙ ap (λ b. record { bytes = b; text = text_chars text; kind = kind; set = 0 } ∷ sequences_of (multi_byte_rule prefix) 0 (drop n (w ++ x ∷ []) ++ (rest ++ y))) (sym t)
+      ∙ ap (λ z. record { bytes = take n p; text = text_chars text; kind = kind; set = 0 } ∷ sequences_of (multi_byte_rule prefix) 0 z)
       (sym (append_assoc (drop n (w ++ x ∷ [])) rest y) ∙ ap (λ z. z ++ y) (sym d))))
 
   -- the byte behind them is the last of a sequence
   pub shows_byte_with : (b n len : ℕ) (text : Text) (kind : Kind) → AreIncomplete prefix [] p → Settles prefix (p ++ b ∷ []) n text kind
       → length p ≤ 3 → length p < n → len ≡ n → state next ≡ multi_byte_state prefix []
-      → Acts state c b (Show (record { text = text; kind = kind; len = len; takes_byte = true; next = next }))
+      → HandlesByte state c b (Emit (record { text = text; kind = kind; len = len; takes_byte = true; next = next }))
   shows_byte_with b n len text kind u s l k m then =
       let e : length (p ++ b ∷ []) ≡ length p + 1 = length-append p (b ∷ []) in
       let f : n ≡ length (p ++ b ∷ []) = omega (arith, s.own, e) in
@@ -89,13 +90,13 @@ module _ (prefix : List ℕ → Prefix) (laws : ArePrefixes prefix) {C : Type 0}
       (λ i. (s.replaced i, omega (arith, e)))
       (λ z. rw (now, then)
       (settled_first prefix 0 p b z n text kind u s
-      ∙ ap (λ y. record { bytes = y; text = chars_of text; kind = kind; set = 0 } ∷ sequences_of (multi_byte_rule prefix) 0 (drop n (p ++ b ∷ []) ++ z)) t
-      ∙ ap (λ y. record { bytes = p ++ b ∷ []; text = chars_of text; kind = kind; set = 0 } ∷ sequences_of (multi_byte_rule prefix) 0 (y ++ z)) d))
+      ∙ ap (λ y. record { bytes = y; text = text_chars text; kind = kind; set = 0 } ∷ sequences_of (multi_byte_rule prefix) 0 (drop n (p ++ b ∷ []) ++ z)) t
+      ∙ ap (λ y. record { bytes = p ++ b ∷ []; text = text_chars text; kind = kind; set = 0 } ∷ sequences_of (multi_byte_rule prefix) 0 (y ++ z)) d))
 
   -- the byte behind them shows that the first of them are malformed, and isn't one of those
   pub shows_byte_before : (b n len : ℕ) (text : Text) (kind : Kind) → AreIncomplete prefix [] p → Settles prefix (p ++ b ∷ []) n text kind
       → length p ≤ 3 → n ≤ length p → len ≡ n → state next ≡ multi_byte_state prefix (drop n p)
-      → Acts state c b (Show (record { text = text; kind = kind; len = len; takes_byte = false; next = next }))
+      → HandlesByte state c b (Emit (record { text = text; kind = kind; len = len; takes_byte = false; next = next }))
   shows_byte_before b n len text kind u s l k m then =
       let t : take n (p ++ b ∷ []) ≡ take n p = take-append-le n p (b ∷ []) k in
       let d : drop n (p ++ b ∷ []) ≡ drop n p ++ b ∷ [] = drop-append-le n p (b ∷ []) k in
@@ -107,15 +108,15 @@ module _ (prefix : List ℕ → Prefix) (laws : ArePrefixes prefix) {C : Type 0}
       (λ i. (s.replaced i, (let j = ap (λ (s : CodecState). length s.pending) then in (omega arith, omega arith, omega (arith, length-drop n p)))))
       (λ z. rw (now, then)
       (settled_first prefix 0 p b z n text kind u s
-      ∙ ap (λ y. record { bytes = y; text = chars_of text; kind = kind; set = 0 } ∷ sequences_of (multi_byte_rule prefix) 0 (drop n (p ++ b ∷ []) ++ z)) t
-      ∙ ap (λ y. record { bytes = take n p; text = chars_of text; kind = kind; set = 0 } ∷ sequences_of (multi_byte_rule prefix) 0 y)
+      ∙ ap (λ y. record { bytes = y; text = text_chars text; kind = kind; set = 0 } ∷ sequences_of (multi_byte_rule prefix) 0 (drop n (p ++ b ∷ []) ++ z)) t
+      ∙ ap (λ y. record { bytes = take n p; text = text_chars text; kind = kind; set = 0 } ∷ sequences_of (multi_byte_rule prefix) 0 y)
       (ap (λ y. y ++ z) d ∙ append_assoc (drop n p) (b ∷ []) z)))
 
   -- it shows one or the other
   pub shows_byte : (b n len : ℕ) (text : Text) (kind : Kind) (takes : Bool) → takes ≡ nat_lt (length p) n
       → AreIncomplete prefix [] p → Settles prefix (p ++ b ∷ []) n text kind → length p ≤ 3 → len ≡ n
       → state next ≡ multi_byte_state prefix (drop n p)
-      → Acts state c b (Show (record { text = text; kind = kind; len = len; takes_byte = takes; next = next }))
+      → HandlesByte state c b (Emit (record { text = text; kind = kind; len = len; takes_byte = takes; next = next }))
   shows_byte b n len text kind true e u s l m then =
       let k : length p < n = grind (arith, nat_tests) in
       shows_byte_with b n len text kind u s l k m (then ∙ ap (multi_byte_state prefix) (drop_of_length-le p (omega arith)))
@@ -123,21 +124,21 @@ module _ (prefix : List ℕ → Prefix) (laws : ArePrefixes prefix) {C : Type 0}
 
   -- it is held
   pub waits : (b : ℕ) → AreIncomplete prefix [] p → prefix (p ++ b ∷ []) ≡ Incomplete → state next ≡ multi_byte_state prefix (p ++ b ∷ [])
-      → Acts state c b (Wait next)
+      → HandlesByte state c b (Continue next)
   waits b u e then = (
     then ∙ ap (λ (s : CodecState). record s { pending = s.pending ++ b ∷ [] }) (sym now),
     undetermined prefix laws (state next) (p ++ b ∷ []) then (one_more prefix [] p b u e),
   )
 
   -- what they show by themselves, unless all of them are incomplete
-  pub ready_by : (r : Option (Shown C)) → IfSome r (λ shown. IsReady state c (Some shown)) → (IsNone r → AreIncomplete prefix [] p)
-      → IsReady state c r
+  pub ready_by : (r : Option (Emission C)) → IfSome r (λ shown. IsNextOfPending state c (Some shown)) → (IsNone r → AreIncomplete prefix [] p)
+      → IsNextOfPending state c r
   ready_by None h u = undetermined prefix laws (state c) p now (u refl)
   ready_by (Some shown) h u = h
 
   -- the end of the input leaves all of them malformed
   pub left_over : (len : ℕ) → AreIncomplete prefix [] p → 0 < length p → length p ≤ 3 → len ≡ length p → state next ≡ multi_byte_state prefix []
-      → IsAtEnd state c (Some (record { text = Character 0xFFFD; kind = Malformed; len = len; takes_byte = false; next = next }))
+      → IsNextAtEnd state c (Some (record { text = Character 0xFFFD; kind = Malformed; len = len; takes_byte = false; next = next }))
   left_over len u s l m then = (
     shows_before state c next (Character 0xFFFD) Malformed len _ p (rule_stays _ then)
         (ap (λ (s : CodecState). s.pending) now ∙ sym (append-nil p) ∙ ap (λ y. p ++ y) (sym (ap (λ (s : CodecState). s.pending) then)))

@@ -10,19 +10,19 @@ use Rattle.enc_multi_byte.specs.declared.multi_byte.Prefix.{Prefix}
 use Rattle.enc_multi_byte.specs.declared.multi_byte.Prefix.TheVariants.{Complete, Malformed, Incomplete}
 use Rattle.enc_machine.specs.Sequence.{is_malformed, is_repeated_escape}
 use Rattle.enc_machine.specs.Segmentation.{sequences_of}
-use Rattle.enc_machine.specs.CodecLaw.{chars_of}
-use Rattle.enc_multi_byte.specs.MultiByte.{malformed_front, head_of, multi_byte_rule, AreIncomplete, ArePrefixes}
+use Rattle.enc_machine.specs.CodecLaw.{text_chars}
+use Rattle.enc_multi_byte.specs.MultiByte.{malformed_prefix_head, prefix_head, multi_byte_rule, AreIncomplete, ArePrefixes}
 use Rattle.enc_machine.proofs.SegmentationLemmas.{sequences_of-head}
 
 module _ (prefix : List ℕ → Prefix) where
   -- past incomplete bytes
 
   passes : (set : ℕ) (front w z : List ℕ) → AreIncomplete prefix front w
-      → head_of prefix set front Incomplete (w ++ z) ≡ head_of prefix set (front ++ w) Incomplete z
-  passes set front [] z u = ap (λ x. head_of prefix set x Incomplete z) (sym (append-nil front))
+      → prefix_head prefix set front Incomplete (w ++ z) ≡ prefix_head prefix set (front ++ w) Incomplete z
+  passes set front [] z u = ap (λ x. prefix_head prefix set x Incomplete z) (sym (append-nil front))
   passes set front (c ∷ w) z u =
-      ap (λ r. head_of prefix set (front ++ c ∷ []) r (w ++ z)) u.0 ∙ passes set (front ++ c ∷ []) w z u.1
-      ∙ ap (λ x. head_of prefix set x Incomplete z) (append_assoc front (c ∷ []) w)
+      ap (λ r. prefix_head prefix set (front ++ c ∷ []) r (w ++ z)) u.0 ∙ passes set (front ++ c ∷ []) w z u.1
+      ∙ ap (λ x. prefix_head prefix set x Incomplete z) (append_assoc front (c ∷ []) w)
 
   pub still_incomplete : (front w : List ℕ) → prefix front ≡ Incomplete → AreIncomplete prefix front w → prefix (front ++ w) ≡ Incomplete
   still_incomplete front [] e u = ap prefix (append-nil front) ∙ e
@@ -36,25 +36,25 @@ module _ (prefix : List ℕ → Prefix) where
 
   -- what stands first is what the bytes are behind the last of which they aren't incomplete
   pub rule_at : (set : ℕ) (w : List ℕ) (c : ℕ) (z : List ℕ) (b : ℕ) (x : List ℕ) → AreIncomplete prefix [] w → b ∷ x ≡ w ++ c ∷ z
-      → multi_byte_rule prefix set b x ≡ head_of prefix set (w ++ c ∷ []) (prefix (w ++ c ∷ [])) z
+      → multi_byte_rule prefix set b x ≡ prefix_head prefix set (w ++ c ∷ []) (prefix (w ++ c ∷ [])) z
   unfolding multi_byte_rule
   rule_at set [] c z b x u e = cc
   rule_at set (a ∷ w) c z b x u e =
       let f : b ≡ a = cc in let g : x ≡ w ++ c ∷ z = cc in
-      ap (λ n. head_of prefix set (n ∷ []) (prefix (n ∷ [])) x) f ∙ ap (λ t. head_of prefix set (a ∷ []) (prefix (a ∷ [])) t) g
-      ∙ ap (λ r. head_of prefix set (a ∷ []) r (w ++ c ∷ z)) u.0 ∙ passes set (a ∷ []) w (c ∷ z) u.1
+      ap (λ n. prefix_head prefix set (n ∷ []) (prefix (n ∷ [])) x) f ∙ ap (λ t. prefix_head prefix set (a ∷ []) (prefix (a ∷ [])) t) g
+      ∙ ap (λ r. prefix_head prefix set (a ∷ []) r (w ++ c ∷ z)) u.0 ∙ passes set (a ∷ []) w (c ∷ z) u.1
 
   -- The first n of these bytes are told to be a sequence.
   pub record Settles (front : List ℕ) (n : ℕ) (text : Text) (kind : Kind) : Type 0 where
-    pub head : (set : ℕ) (z : List ℕ) → head_of prefix set front (prefix front) z ≡ record { more = n - 1; text = chars_of text; kind = kind; set = set }
+    pub head : (set : ℕ) (z : List ℕ) → prefix_head prefix set front (prefix front) z ≡ record { more = n - 1; text = text_chars text; kind = kind; set = set }
     pub some : 0 < n
     pub own : n ≤ length front
     pub no_escape : is_repeated_escape kind ≡ false
-    pub replaced : is_malformed kind ≡ true → chars_of text ≡ 0xFFFD ∷ []
+    pub replaced : is_malformed kind ≡ true → text_chars text ≡ 0xFFFD ∷ []
 
   pub settles_complete : (front : List ℕ) (text : Text) → 0 < length front → prefix front ≡ Complete text → Settles front (length front) text Valid
   settles_complete front text s e = record {
-    head = λ set z. ap (λ r. head_of prefix set front r z) e;
+    head = λ set z. ap (λ r. prefix_head prefix set front r z) e;
     some = s;
     own = omega arith;
     no_escape = refl;
@@ -63,7 +63,7 @@ module _ (prefix : List ℕ → Prefix) where
 
   pub settles_malformed : ArePrefixes prefix → (front : List ℕ) (n : ℕ) → prefix front ≡ Malformed n → Settles front n (One 0xFFFD) kinds.Malformed
   settles_malformed laws front n e = record {
-    head = λ set z. ap (λ r. head_of prefix set front r z) e;
+    head = λ set z. ap (λ r. prefix_head prefix set front r z) e;
     some = (laws.malformed front n e).0;
     own = (laws.malformed front n e).1;
     no_escape = refl;
@@ -74,36 +74,37 @@ module _ (prefix : List ℕ → Prefix) where
   settled_sequences : (set : ℕ) (w : List ℕ) (c : ℕ) (z : List ℕ) (n : ℕ) (text : Text) (kind : Kind) (b : ℕ) (x : List ℕ)
       → AreIncomplete prefix [] w → Settles (w ++ c ∷ []) n text kind → b ∷ x ≡ w ++ c ∷ z
       → sequences_of (multi_byte_rule prefix) set (b ∷ x)
-      ≡ record { bytes = take n (b ∷ x); text = chars_of text; kind = kind; set = set } ∷ sequences_of (multi_byte_rule prefix) set (drop n (b ∷ x))
+      ≡ record { bytes = take n (b ∷ x); text = text_chars text; kind = kind; set = set } ∷ sequences_of (multi_byte_rule prefix) set (drop n (b ∷ x))
   settled_sequences set w c z zero text kind b x u s e = let f = s.some in absurd (omega arith)
   settled_sequences set w c z (suc n) text kind b x u s e =
       let m : suc n - 1 ≡ n = omega arith in
       sequences_of-head (multi_byte_rule prefix) set b x _
-      (rule_at set w c z b x u e ∙ s.head set z ∙ ap (λ k. record { more = k; text = chars_of text; kind = kind; set = set }) m)
+      (rule_at set w c z b x u e ∙ s.head set z ∙ ap (λ k. record { more = k; text = text_chars text; kind = kind; set = set }) m)
 
   pub settled_first : (set : ℕ) (w : List ℕ) (c : ℕ) (z : List ℕ) (n : ℕ) (text : Text) (kind : Kind)
       → AreIncomplete prefix [] w → Settles (w ++ c ∷ []) n text kind
       → sequences_of (multi_byte_rule prefix) set (w ++ c ∷ z)
-      ≡ record { bytes = take n (w ++ c ∷ []); text = chars_of text; kind = kind; set = set }
+      ≡ record { bytes = take n (w ++ c ∷ []); text = text_chars text; kind = kind; set = set }
       ∷ sequences_of (multi_byte_rule prefix) set (drop n (w ++ c ∷ []) ++ z)
   settled_first set w c z n text kind u s =
       first_case w u s
-      ∙ ap (λ x. record { bytes = x; text = chars_of text; kind = kind; set = set } ∷ sequences_of (multi_byte_rule prefix) set (drop n (w ++ c ∷ z)))
+      ∙ ap (λ x. record { bytes = x; text = text_chars text; kind = kind; set = set } ∷ sequences_of (multi_byte_rule prefix) set (drop n (w ++ c ∷ z)))
       (ap (take n) (sym (append_assoc w (c ∷ []) z)) ∙ take-append-le n (w ++ c ∷ []) z s.own)
-      ∙ ap (λ x. record { bytes = take n (w ++ c ∷ []); text = chars_of text; kind = kind; set = set } ∷ sequences_of (multi_byte_rule prefix) set x)
+      ∙ ap (λ x. record { bytes = take n (w ++ c ∷ []); text = text_chars text; kind = kind; set = set } ∷ sequences_of (multi_byte_rule prefix) set x)
       (ap (drop n) (sym (append_assoc w (c ∷ []) z)) ∙ drop-append-le n (w ++ c ∷ []) z s.own)
     where
       first_case : (w : List ℕ) → AreIncomplete prefix [] w → Settles (w ++ c ∷ []) n text kind
           → sequences_of (multi_byte_rule prefix) set (w ++ c ∷ z)
-          ≡ record { bytes = take n (w ++ c ∷ z); text = chars_of text; kind = kind; set = set }
+          ≡ record { bytes = take n (w ++ c ∷ z); text = text_chars text; kind = kind; set = set }
           ∷ sequences_of (multi_byte_rule prefix) set (drop n (w ++ c ∷ z))
       first_case [] u s = settled_sequences set [] c z n text kind c z u s refl
       first_case (a ∷ w) u s = settled_sequences set (a ∷ w) c z n text kind a (w ++ c ∷ z) u s refl
 
   -- where the input ends before, all of them are malformed
   pub all_malformed : (set a : ℕ) (w : List ℕ) → AreIncomplete prefix [] (a ∷ w)
-      → multi_byte_rule prefix set a w ≡ malformed_front set (length (a ∷ w))
+      → multi_byte_rule prefix set a w ≡ malformed_prefix_head set (length (a ∷ w))
   unfolding multi_byte_rule
   all_malformed set a w u =
-      ap (λ r. head_of prefix set (a ∷ []) r w) u.0 ∙ ap (head_of prefix set (a ∷ []) Incomplete) (sym (append-nil w))
+      ap (λ r. prefix_head prefix set (a ∷ []) r w) u.0
+      ∙ ap (prefix_head prefix set (a ∷ []) Incomplete) (sym (append-nil w))
       ∙ passes set (a ∷ []) w [] u.1

@@ -11,13 +11,13 @@ use Rattle.enc_multi_byte.specs.declared.multi_byte.Prefix.TheVariants.{Complete
 use Rattle.enc_machine.specs.Segmentation.{Head}
 use Rattle.enc_machine.specs.Remainder.{IsUndetermined}
 use Rattle.enc_machine.specs.CodecState.{CodecState, remainder_of}
-use Rattle.enc_machine.specs.Latin1.{HasNoBytes}
-use Rattle.enc_machine.specs.RuleLaws.{HasTexts, IsSmallText, HasSmallTexts, IsToldBy, Looks, IsToldByEnd, IsLawful}
-use Rattle.enc_multi_byte.specs.MultiByte.{malformed_front, head_of, multi_byte_rule, multi_byte_state, AreIncomplete, ArePrefixes}
+use Rattle.enc_machine.specs.Latin1.{HasNoByteSequences}
+use Rattle.enc_machine.specs.RuleLaws.{HasTexts, IsSmallText, HasSmallTexts, IsDeterminedWithin, IsLookahead, IsDeterminedByEnd, IsLawfulRule}
+use Rattle.enc_multi_byte.specs.MultiByte.{malformed_prefix_head, prefix_head, multi_byte_rule, multi_byte_state, AreIncomplete, ArePrefixes}
 use Rattle.enc_machine.proofs.RuleLemmas.{one_small}
 use Rattle.enc_machine.proofs.Latin1Lemmas.{has_bytes_by}
-use Rattle.enc_machine.proofs.ShowLemmas.{nothing_pending}
-use Rattle.enc_machine.proofs.ToldLemmas.{told_by, looks_at_none, looks_by, IsToldInTime, lookahead_by, undetermined_by_end}
+use Rattle.enc_machine.proofs.EmissionLemmas.{nothing_pending}
+use Rattle.enc_machine.proofs.FirstSequenceLemmas.{told_by, looks_at_none, looks_by, IsToldInTime, lookahead_by, undetermined_by_end}
 use Rattle.enc_multi_byte.proofs.MultiByteLemmas.{still_incomplete, one_more, rule_at, Settles, settles_complete, settles_malformed, all_malformed}
 
 module _ (prefix : List ℕ → Prefix) (laws : ArePrefixes prefix) where
@@ -28,11 +28,11 @@ module _ (prefix : List ℕ → Prefix) (laws : ArePrefixes prefix) where
     some : h.text ≢ []
     small : IsSmallText h.text
 
-  malformed_has_form : (room set n : ℕ) → n - 1 ≤ room → HasForm room (malformed_front set n)
+  malformed_has_form : (room set n : ℕ) → n - 1 ≤ room → HasForm room (malformed_prefix_head set n)
   malformed_has_form room set n l = record { within = l; some = λ e. cc; small = one_small 0xFFFD }
 
   has_form : (set : ℕ) (front : List ℕ) (r : Prefix) (z : List ℕ) → prefix front ≡ r
-      → HasForm ((length front - 1) + length z) (head_of prefix set front r z)
+      → HasForm ((length front - 1) + length z) (prefix_head prefix set front r z)
   has_form set front (Complete text) z e = record {
     within = omega arith;
     some = (laws.texts front text e).some;
@@ -68,7 +68,8 @@ module _ (prefix : List ℕ → Prefix) (laws : ArePrefixes prefix) where
   all_incomplete : (a : ℕ) (w : List ℕ) → AreIncomplete prefix [] (a ∷ w) → prefix (a ∷ w) ≡ Incomplete
   all_incomplete a w u = still_incomplete prefix [] (a ∷ w) laws.nothing u
 
-  by_end : (set a : ℕ) (w : List ℕ) → AreIncomplete prefix [] (a ∷ w) → IsToldByEnd (multi_byte_rule prefix) set a w
+  by_end : (set a : ℕ) (w : List ℕ) → AreIncomplete prefix [] (a ∷ w)
+      → IsDeterminedByEnd (multi_byte_rule prefix) set a w
   by_end set a w u =
       let k = laws.can_be_malformed (a ∷ w) (omega arith) (all_incomplete a w u) in
       let s = settles_malformed prefix laws ((a ∷ w) ++ k.byte ∷ []) k.len k.malformed in
@@ -106,7 +107,7 @@ module _ (prefix : List ℕ → Prefix) (laws : ArePrefixes prefix) where
 
   settled_told : (set : ℕ) (w : List ℕ) (c : ℕ) (z : List ℕ) (b : ℕ) (x : List ℕ) (n : ℕ) (text : Text) (kind : Kind)
       → AreIncomplete prefix [] w → b ∷ x ≡ w ++ c ∷ z → Settles prefix (w ++ c ∷ []) n text kind
-      → IsToldBy (multi_byte_rule prefix) set b x (length (w ++ c ∷ []) - n)
+      → IsDeterminedWithin (multi_byte_rule prefix) set b x (length (w ++ c ∷ []) - n)
   settled_told set w c z b x n text kind u e s =
       let m : length (w ++ c ∷ []) ≡ length w + 1 = length-append w (c ∷ []) in
       let k : (n - 1) + (length (w ++ c ∷ []) - n) ≡ length w = omega (arith, s.own, s.some, m) in
@@ -125,19 +126,19 @@ module _ (prefix : List ℕ → Prefix) (laws : ArePrefixes prefix) where
   -- without the byte that breaks the sequence, only the end of the input would determine it
   malformed_looks : (set : ℕ) (w : List ℕ) (c : ℕ) (z : List ℕ) (b : ℕ) (x : List ℕ) (n d : ℕ) → d ≡ length (w ++ c ∷ []) - n
       → AreIncomplete prefix [] w → b ∷ x ≡ w ++ c ∷ z → Settles prefix (w ++ c ∷ []) n (One 0xFFFD) kinds.Malformed
-      → Looks (multi_byte_rule prefix) set b x d
+      → IsLookahead (multi_byte_rule prefix) set b x d
   malformed_looks set w c z b x n zero d u e s =
-      looks_at_none (multi_byte_rule prefix) set b x (subst (IsToldBy (multi_byte_rule prefix) set b x) (sym d) (settled_told set w c z b x n (One 0xFFFD) kinds.Malformed u e s))
+      looks_at_none (multi_byte_rule prefix) set b x (subst (IsDeterminedWithin (multi_byte_rule prefix) set b x) (sym d) (settled_told set w c z b x n (One 0xFFFD) kinds.Malformed u e s))
   malformed_looks set [] c z b x n (suc i) d u e s = absurd (omega (arith, d, s.some))
   malformed_looks set (a ∷ w) c z b x n (suc i) d u e s =
-      let t = subst (IsToldBy (multi_byte_rule prefix) set b x) (sym d) (settled_told set (a ∷ w) c z b x n (One 0xFFFD) kinds.Malformed u e s) in
+      let t = subst (IsDeterminedWithin (multi_byte_rule prefix) set b x) (sym d) (settled_told set (a ∷ w) c z b x n (One 0xFFFD) kinds.Malformed u e s) in
       let h : (multi_byte_rule prefix set b x).more ≡ n - 1 = ap (λ (r : Head). r.more) (rule_at prefix set (a ∷ w) c z b x u e ∙ s.head set z) in
       let m : length ((a ∷ w) ++ c ∷ []) ≡ length (a ∷ w) + 1 = length-append (a ∷ w) (c ∷ []) in
       let f : b ≡ a = cc in
       let g : x ≡ w ++ c ∷ z = rest_of b a x (w ++ c ∷ z) e in
       looks_by (multi_byte_rule prefix) set b x i (length w) t (omega (arith, d, h, m, s.some, s.own))
-      (subst (IsToldByEnd (multi_byte_rule prefix) set b) (sym (ap (take (length w)) g ∙ in_front w c z))
-      (subst (λ y. IsToldByEnd (multi_byte_rule prefix) set y w) (sym f) (by_end set a w u)))
+      (subst (IsDeterminedByEnd (multi_byte_rule prefix) set b) (sym (ap (take (length w)) g ∙ in_front w c z))
+      (subst (λ y. IsDeterminedByEnd (multi_byte_rule prefix) set y w) (sym f) (by_end set a w u)))
 
   told_with : (set : ℕ) (w : List ℕ) (c : ℕ) (z : List ℕ) (b : ℕ) (x : List ℕ) (r : Prefix)
       → AreIncomplete prefix [] w → b ∷ x ≡ w ++ c ∷ z → prefix (w ++ c ∷ []) ≡ r
@@ -146,7 +147,7 @@ module _ (prefix : List ℕ → Prefix) (laws : ArePrefixes prefix) where
   told_with set w c z b x (Complete text) u e q further =
       let m : length (w ++ c ∷ []) ≡ length w + 1 = length-append w (c ∷ []) in
       let t = settled_told set w c z b x _ text Valid u e (settles_complete prefix (w ++ c ∷ []) text (omega (arith, m)) q) in
-      inl (subst (IsToldBy (multi_byte_rule prefix) set b x) (omega arith) t)
+      inl (subst (IsDeterminedWithin (multi_byte_rule prefix) set b x) (omega arith) t)
   told_with set w c z b x (Malformed n) u e q further =
       let s = settles_malformed prefix laws (w ++ c ∷ []) n q in
       let m : length (w ++ c ∷ []) ≡ length w + 1 = length-append w (c ∷ []) in
@@ -169,14 +170,14 @@ module _ (prefix : List ℕ → Prefix) (laws : ArePrefixes prefix) where
       told_with set w c z b x (prefix (w ++ c ∷ [])) u e refl
       (λ q. told_from set (w ++ c ∷ []) z b x (one_more prefix [] w c u q) (e ∙ sym (append_assoc w (c ∷ []) z)))
 
-  pub multi_byte_is_lawful : IsLawful (multi_byte_rule prefix)
+  pub multi_byte_is_lawful : IsLawfulRule (multi_byte_rule prefix)
   multi_byte_is_lawful = record {
     lookahead = lookahead_by (multi_byte_rule prefix) (λ set b z. told_from set [] (b ∷ z) b z tt refl);
     small_texts = multi_byte_has_small_texts;
   }
 
 -- a byte that is complete is valid by itself
-pub multi_byte_has_bytes : (prefix : List ℕ → Prefix) (b : ℕ) (text : Text) → prefix (b ∷ []) ≡ Complete text → ¬ (HasNoBytes (multi_byte_rule prefix))
+pub multi_byte_has_bytes : (prefix : List ℕ → Prefix) (b : ℕ) (text : Text) → prefix (b ∷ []) ≡ Complete text → ¬ (HasNoByteSequences (multi_byte_rule prefix))
 multi_byte_has_bytes prefix b text e =
-    let h = rule_at prefix 0 [] b [] b [] tt refl ∙ ap (λ r. head_of prefix 0 (b ∷ []) r []) e in
+    let h = rule_at prefix 0 [] b [] b [] tt refl ∙ ap (λ r. prefix_head prefix 0 (b ∷ []) r []) e in
     has_bytes_by (multi_byte_rule prefix) b [] (ap (λ (t : Head). t.kind) h) (ap (λ (t : Head). t.more) h)

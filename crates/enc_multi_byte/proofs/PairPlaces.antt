@@ -12,14 +12,14 @@ use Rattle.enc_index.proofs.PlaceLemmas.{tabulates, row_in, column_in, row_place
 use Rattle.enc_multi_byte.specs.declared.places.TheConstants.{EUC_KR_PLACES, GB18030_PLACES, BIG5_PLACES}
 use Rattle.enc_multi_byte.specs.declared.places.TheConstants.{EUC_JP_PLACES, SHIFT_JIS_PLACES}
 use Rattle.enc_multi_byte.specs.DoubleByte.{text_of_char, trail_prefix, first_prefix}
-use Rattle.enc_multi_byte.specs.MultiByte.{IsPair}
-use Rattle.enc_multi_byte.specs.EucKr.{euc_kr_lead, euc_kr_trail, euc_kr_pointer, euc_kr_pair}
-use Rattle.enc_multi_byte.specs.Gb18030.{gb18030_lead, gb18030_trail, gb18030_single, gb18030_pointer, gb18030_pair}
+use Rattle.enc_multi_byte.specs.MultiByte.{IsCharPair}
+use Rattle.enc_multi_byte.specs.EucKr.{is_euc_kr_lead, is_euc_kr_trail, euc_kr_pair_pointer, euc_kr_pair_text}
+use Rattle.enc_multi_byte.specs.Gb18030.{is_gb18030_lead, is_gb18030_trail, gb18030_single_char, gb18030_pair_pointer, gb18030_pair_char}
 use Rattle.enc_multi_byte.specs.Gb18030.{gb18030_prefix, is_digit}
-use Rattle.enc_multi_byte.specs.Big5.{big5_lead, big5_trail, big5_pointer, big5_text, big5_pair}
-use Rattle.enc_multi_byte.specs.EucJp.{is_euc, euc_pointer, euc_jp_lead, euc_jp_single, euc_jp_pair, euc_jp_prefix}
-use Rattle.enc_multi_byte.specs.ShiftJis.{shift_jis_lead, shift_jis_trail, shift_jis_pointer, shift_jis_char}
-use Rattle.enc_multi_byte.specs.ShiftJis.{shift_jis_pair}
+use Rattle.enc_multi_byte.specs.Big5.{is_big5_lead, is_big5_trail, big5_pair_pointer, big5_pointer_text, big5_pair_text}
+use Rattle.enc_multi_byte.specs.EucJp.{is_euc_byte, euc_pair_pointer, is_euc_jp_lead, euc_jp_single_char, euc_jp_pair_char, euc_jp_prefix}
+use Rattle.enc_multi_byte.specs.ShiftJis.{is_shift_jis_lead, is_shift_jis_trail, shift_jis_pair_pointer, shift_jis_pointer_char}
+use Rattle.enc_multi_byte.specs.ShiftJis.{shift_jis_pair_text}
 
 -- the trails of one row
 abbrev none_further : ℕ → ℕ
@@ -34,16 +34,16 @@ abbrev euc_kr_column : ℕ → ℕ
 euc_kr_column b = b - 0x41
 
 euc_kr_rows : (a : ℕ) → a < 256
-    → get_or EUC_KR_PLACES a 0 ≡ row_place EucKr euc_kr_lead euc_kr_trail euc_kr_row none_further euc_kr_column a
+    → get_or EUC_KR_PLACES a 0 ≡ row_place EucKr is_euc_kr_lead is_euc_kr_trail euc_kr_row none_further euc_kr_column a
 unfolding tabulates
-euc_kr_rows a l = row_in (row_place EucKr euc_kr_lead euc_kr_trail euc_kr_row none_further euc_kr_column) (column_place EucKr euc_kr_lead euc_kr_trail euc_kr_row none_further euc_kr_column) EUC_KR_PLACES refl refl a l
+euc_kr_rows a l = row_in (row_place EucKr is_euc_kr_lead is_euc_kr_trail euc_kr_row none_further euc_kr_column) (column_place EucKr is_euc_kr_lead is_euc_kr_trail euc_kr_row none_further euc_kr_column) EUC_KR_PLACES refl refl a l
 
 euc_kr_columns : (b : ℕ) → b < 256
-    → get_or EUC_KR_PLACES (256 + b) 0 ≡ column_place EucKr euc_kr_lead euc_kr_trail euc_kr_row none_further euc_kr_column b
+    → get_or EUC_KR_PLACES (256 + b) 0 ≡ column_place EucKr is_euc_kr_lead is_euc_kr_trail euc_kr_row none_further euc_kr_column b
 unfolding tabulates
-euc_kr_columns b l = column_in (row_place EucKr euc_kr_lead euc_kr_trail euc_kr_row none_further euc_kr_column) (column_place EucKr euc_kr_lead euc_kr_trail euc_kr_row none_further euc_kr_column) EUC_KR_PLACES refl refl b l
+euc_kr_columns b l = column_in (row_place EucKr is_euc_kr_lead is_euc_kr_trail euc_kr_row none_further euc_kr_column) (column_place EucKr is_euc_kr_lead is_euc_kr_trail euc_kr_row none_further euc_kr_column) EUC_KR_PLACES refl refl b l
 
-euc_kr_small : (b : ℕ) → euc_kr_trail b ≡ true → euc_kr_column b < 190
+euc_kr_small : (b : ℕ) → is_euc_kr_trail b ≡ true → euc_kr_column b < 190
 euc_kr_small b t = grind (arith, nat_tests)
 
 pub euc_kr_within : (a b : ℕ) → a < 256 → b < 256
@@ -52,11 +52,11 @@ euc_kr_within a b l m = rw (euc_kr_rows a l, euc_kr_columns b m) (grind (arith, 
 
 pub euc_kr_found : (a b c : ℕ) → a < 256 → b < 256
     → grid_char EucKr (get_or EUC_KR_PLACES a 0 + get_or EUC_KR_PLACES (256 + b) 0) ≡ Some c
-    → (euc_kr_lead a ≡ true) × (euc_kr_pair a b ≡ Some (One c))
+    → (is_euc_kr_lead a ≡ true) × (euc_kr_pair_text a b ≡ Some (One c))
 euc_kr_found a b c l m e =
-    let f = found EucKr euc_kr_lead euc_kr_trail euc_kr_row none_further euc_kr_column a b c _ (omega (arith, euc_kr_rows a l, euc_kr_columns b m)) (euc_kr_small b) e in
-    let same : euc_kr_pointer a b ≡ (euc_kr_row a + 0) * 190 + euc_kr_column b = omega arith in
-    (f.lead, ap text_of_char (cond-true (euc_kr_trail b) (euc_kr_at (euc_kr_pointer a b)) None f.trail ∙ ap euc_kr_at same ∙ f.is))
+    let f = found EucKr is_euc_kr_lead is_euc_kr_trail euc_kr_row none_further euc_kr_column a b c _ (omega (arith, euc_kr_rows a l, euc_kr_columns b m)) (euc_kr_small b) e in
+    let same : euc_kr_pair_pointer a b ≡ (euc_kr_row a + 0) * 190 + euc_kr_column b = omega arith in
+    (f.lead, ap text_of_char (cond-true (is_euc_kr_trail b) (euc_kr_at (euc_kr_pair_pointer a b)) None f.trail ∙ ap euc_kr_at same ∙ f.is))
 
 -- gb18030
 
@@ -67,35 +67,36 @@ abbrev gb18030_column : ℕ → ℕ
 gb18030_column b = b - cond (nat_lt b 0x7F) 0x40 0x41
 
 gb18030_rows : (a : ℕ) → a < 256
-    → get_or GB18030_PLACES a 0 ≡ row_place Gb18030 gb18030_lead gb18030_trail gb18030_row none_further gb18030_column a
+    → get_or GB18030_PLACES a 0 ≡ row_place Gb18030 is_gb18030_lead is_gb18030_trail gb18030_row none_further
+    gb18030_column a
 unfolding tabulates
-gb18030_rows a l = row_in (row_place Gb18030 gb18030_lead gb18030_trail gb18030_row none_further gb18030_column) (column_place Gb18030 gb18030_lead gb18030_trail gb18030_row none_further gb18030_column) GB18030_PLACES refl refl a l
+gb18030_rows a l = row_in (row_place Gb18030 is_gb18030_lead is_gb18030_trail gb18030_row none_further gb18030_column) (column_place Gb18030 is_gb18030_lead is_gb18030_trail gb18030_row none_further gb18030_column) GB18030_PLACES refl refl a l
 
 gb18030_columns : (b : ℕ) → b < 256
-    → get_or GB18030_PLACES (256 + b) 0 ≡ column_place Gb18030 gb18030_lead gb18030_trail gb18030_row none_further gb18030_column b
+    → get_or GB18030_PLACES (256 + b) 0 ≡ column_place Gb18030 is_gb18030_lead is_gb18030_trail gb18030_row none_further gb18030_column b
 unfolding tabulates
-gb18030_columns b l = column_in (row_place Gb18030 gb18030_lead gb18030_trail gb18030_row none_further gb18030_column) (column_place Gb18030 gb18030_lead gb18030_trail gb18030_row none_further gb18030_column) GB18030_PLACES refl refl b l
+gb18030_columns b l = column_in (row_place Gb18030 is_gb18030_lead is_gb18030_trail gb18030_row none_further gb18030_column) (column_place Gb18030 is_gb18030_lead is_gb18030_trail gb18030_row none_further gb18030_column) GB18030_PLACES refl refl b l
 
-gb18030_small : (b : ℕ) → gb18030_trail b ≡ true → gb18030_column b < 190
+gb18030_small : (b : ℕ) → is_gb18030_trail b ≡ true → gb18030_column b < 190
 gb18030_small b t = grind (arith, nat_tests)
 
 pub gb18030_within : (a b : ℕ) → a < 256 → b < 256
     → get_or GB18030_PLACES a 0 + get_or GB18030_PLACES (256 + b) 0 < grid_len Gb18030
 gb18030_within a b l m = rw (gb18030_rows a l, gb18030_columns b m) (grind (arith, nat_tests))
 
-no_digit : (b : ℕ) → gb18030_trail b ≡ true → is_digit b ≡ false
+no_digit : (b : ℕ) → is_gb18030_trail b ≡ true → is_digit b ≡ false
 no_digit b t = grind (arith, nat_tests)
 
 pub gb18030_found : (a b c : ℕ) → a < 256 → b < 256
     → grid_char Gb18030 (get_or GB18030_PLACES a 0 + get_or GB18030_PLACES (256 + b) 0) ≡ Some c
-    → IsPair gb18030_prefix a b c
+    → IsCharPair gb18030_prefix a b c
 gb18030_found a b c l m e =
-    let f = found Gb18030 gb18030_lead gb18030_trail gb18030_row none_further gb18030_column a b c _ (omega (arith, gb18030_rows a l, gb18030_columns b m))
+    let f = found Gb18030 is_gb18030_lead is_gb18030_trail gb18030_row none_further gb18030_column a b c _ (omega (arith, gb18030_rows a l, gb18030_columns b m))
     (gb18030_small b) e in
-    let same : gb18030_pointer a b ≡ (gb18030_row a + 0) * 190 + gb18030_column b = omega arith in
-    let char : gb18030_pair a b ≡ Some c = cond-true (gb18030_trail b) (gb18030_at (gb18030_pointer a b)) None f.trail ∙ ap gb18030_at same ∙ f.is in
+    let same : gb18030_pair_pointer a b ≡ (gb18030_row a + 0) * 190 + gb18030_column b = omega arith in
+    let char : gb18030_pair_char a b ≡ Some c = cond-true (is_gb18030_trail b) (gb18030_at (gb18030_pair_pointer a b)) None f.trail ∙ ap gb18030_at same ∙ f.is in
     record {
-      first = ap (λ t. first_prefix t (gb18030_single a)) f.lead;
+      first = ap (λ t. first_prefix t (gb18030_single_char a)) f.lead;
       both = cond-false _ _ _ (no_digit b f.trail) ∙ ap (λ x. trail_prefix 1 b (text_of_char x)) char;
     }
 
@@ -108,16 +109,16 @@ abbrev big5_column : ℕ → ℕ
 big5_column b = b - cond (nat_lt b 0x7F) 0x40 0x62
 
 big5_rows : (a : ℕ) → a < 256
-    → get_or BIG5_PLACES a 0 ≡ row_place Big5 big5_lead big5_trail big5_row none_further big5_column a
+    → get_or BIG5_PLACES a 0 ≡ row_place Big5 is_big5_lead is_big5_trail big5_row none_further big5_column a
 unfolding tabulates
-big5_rows a l = row_in (row_place Big5 big5_lead big5_trail big5_row none_further big5_column) (column_place Big5 big5_lead big5_trail big5_row none_further big5_column) BIG5_PLACES refl refl a l
+big5_rows a l = row_in (row_place Big5 is_big5_lead is_big5_trail big5_row none_further big5_column) (column_place Big5 is_big5_lead is_big5_trail big5_row none_further big5_column) BIG5_PLACES refl refl a l
 
 big5_columns : (b : ℕ) → b < 256
-    → get_or BIG5_PLACES (256 + b) 0 ≡ column_place Big5 big5_lead big5_trail big5_row none_further big5_column b
+    → get_or BIG5_PLACES (256 + b) 0 ≡ column_place Big5 is_big5_lead is_big5_trail big5_row none_further big5_column b
 unfolding tabulates
-big5_columns b l = column_in (row_place Big5 big5_lead big5_trail big5_row none_further big5_column) (column_place Big5 big5_lead big5_trail big5_row none_further big5_column) BIG5_PLACES refl refl b l
+big5_columns b l = column_in (row_place Big5 is_big5_lead is_big5_trail big5_row none_further big5_column) (column_place Big5 is_big5_lead is_big5_trail big5_row none_further big5_column) BIG5_PLACES refl refl b l
 
-big5_small : (b : ℕ) → big5_trail b ≡ true → big5_column b < 157
+big5_small : (b : ℕ) → is_big5_trail b ≡ true → big5_column b < 157
 big5_small b t = grind (arith, nat_tests)
 
 pub big5_within : (a b : ℕ) → a < 256 → b < 256
@@ -128,7 +129,7 @@ big5_within a b l m = rw (big5_rows a l, big5_columns b m) (grind (arith, nat_te
 apart : (n p c : ℕ) → big5_at n ≡ None → big5_at p ≡ Some c → (p == n) ≡ false
 apart n p c e f = ne_eqb p n (λ same. some_none _ c (ap big5_at same ∙ e) f)
 
-big5_one : (p c : ℕ) → big5_at p ≡ Some c → big5_text p ≡ Some (One c)
+big5_one : (p c : ℕ) → big5_at p ≡ Some c → big5_pointer_text p ≡ Some (One c)
 unfolding runs_of
 big5_one p c e =
     cond-false _ _ _ (apart 1133 p c refl e) ∙ cond-false _ _ _ (apart 1135 p c refl e) ∙ cond-false _ _ _ (apart 1164 p c refl e)
@@ -136,11 +137,11 @@ big5_one p c e =
 
 pub big5_found : (a b c : ℕ) → a < 256 → b < 256
     → grid_char Big5 (get_or BIG5_PLACES a 0 + get_or BIG5_PLACES (256 + b) 0) ≡ Some c
-    → (big5_lead a ≡ true) × (big5_pair a b ≡ Some (One c))
+    → (is_big5_lead a ≡ true) × (big5_pair_text a b ≡ Some (One c))
 big5_found a b c l m e =
-    let f = found Big5 big5_lead big5_trail big5_row none_further big5_column a b c _ (omega (arith, big5_rows a l, big5_columns b m)) (big5_small b) e in
-    let same : big5_pointer a b ≡ (big5_row a + 0) * 157 + big5_column b = omega arith in
-    (f.lead, cond-true (big5_trail b) (big5_text (big5_pointer a b)) None f.trail ∙ big5_one (big5_pointer a b) c (ap big5_at same ∙ f.is))
+    let f = found Big5 is_big5_lead is_big5_trail big5_row none_further big5_column a b c _ (omega (arith, big5_rows a l, big5_columns b m)) (big5_small b) e in
+    let same : big5_pair_pointer a b ≡ (big5_row a + 0) * 157 + big5_column b = omega arith in
+    (f.lead, cond-true (is_big5_trail b) (big5_pointer_text (big5_pair_pointer a b)) None f.trail ∙ big5_one (big5_pair_pointer a b) c (ap big5_at same ∙ f.is))
 
 -- EUC-JP
 
@@ -151,41 +152,42 @@ abbrev euc_jp_column : ℕ → ℕ
 euc_jp_column b = b - 0xA1
 
 euc_jp_rows : (a : ℕ) → a < 256
-    → get_or EUC_JP_PLACES a 0 ≡ row_place Jis0208 is_euc is_euc euc_jp_row none_further euc_jp_column a
+    → get_or EUC_JP_PLACES a 0 ≡ row_place Jis0208 is_euc_byte is_euc_byte euc_jp_row none_further euc_jp_column a
 unfolding tabulates
-euc_jp_rows a l = row_in (row_place Jis0208 is_euc is_euc euc_jp_row none_further euc_jp_column) (column_place Jis0208 is_euc is_euc euc_jp_row none_further euc_jp_column) EUC_JP_PLACES refl refl a l
+euc_jp_rows a l = row_in (row_place Jis0208 is_euc_byte is_euc_byte euc_jp_row none_further euc_jp_column) (column_place Jis0208 is_euc_byte is_euc_byte euc_jp_row none_further euc_jp_column) EUC_JP_PLACES refl refl a l
 
 euc_jp_columns : (b : ℕ) → b < 256
-    → get_or EUC_JP_PLACES (256 + b) 0 ≡ column_place Jis0208 is_euc is_euc euc_jp_row none_further euc_jp_column b
+    → get_or EUC_JP_PLACES (256 + b) 0 ≡ column_place Jis0208 is_euc_byte is_euc_byte euc_jp_row none_further
+    euc_jp_column b
 unfolding tabulates
-euc_jp_columns b l = column_in (row_place Jis0208 is_euc is_euc euc_jp_row none_further euc_jp_column) (column_place Jis0208 is_euc is_euc euc_jp_row none_further euc_jp_column) EUC_JP_PLACES refl refl b l
+euc_jp_columns b l = column_in (row_place Jis0208 is_euc_byte is_euc_byte euc_jp_row none_further euc_jp_column) (column_place Jis0208 is_euc_byte is_euc_byte euc_jp_row none_further euc_jp_column) EUC_JP_PLACES refl refl b l
 
-euc_jp_small : (b : ℕ) → is_euc b ≡ true → euc_jp_column b < 94
+euc_jp_small : (b : ℕ) → is_euc_byte b ≡ true → euc_jp_column b < 94
 euc_jp_small b t = grind (arith, nat_tests)
 
 pub euc_jp_within : (a b : ℕ) → a < 256 → b < 256
     → get_or EUC_JP_PLACES a 0 + get_or EUC_JP_PLACES (256 + b) 0 < grid_len Jis0208
 euc_jp_within a b l m = rw (euc_jp_rows a l, euc_jp_columns b m) (grind (arith, nat_tests))
 
-leads : (a : ℕ) → is_euc a ≡ true → euc_jp_lead a ≡ true
+leads : (a : ℕ) → is_euc_byte a ≡ true → is_euc_jp_lead a ≡ true
 leads a t = grind (arith, nat_tests)
 
-no_katakana : (a : ℕ) → is_euc a ≡ true → (a == 0x8E) ≡ false
+no_katakana : (a : ℕ) → is_euc_byte a ≡ true → (a == 0x8E) ≡ false
 no_katakana a t = grind (arith, nat_tests)
 
-no_third : (a b : ℕ) → is_euc a ≡ true → (a == 0x8F && is_euc b) ≡ false
+no_third : (a b : ℕ) → is_euc_byte a ≡ true → (a == 0x8F && is_euc_byte b) ≡ false
 no_third a b t = grind (arith, nat_tests)
 
 pub euc_jp_found : (a b c : ℕ) → a < 256 → b < 256
     → grid_char Jis0208 (get_or EUC_JP_PLACES a 0 + get_or EUC_JP_PLACES (256 + b) 0) ≡ Some c
-    → IsPair euc_jp_prefix a b c
+    → IsCharPair euc_jp_prefix a b c
 euc_jp_found a b c l m e =
-    let f = found Jis0208 is_euc is_euc euc_jp_row none_further euc_jp_column a b c _ (omega (arith, euc_jp_rows a l, euc_jp_columns b m)) (euc_jp_small b) e in
-    let same : euc_pointer a b ≡ (euc_jp_row a + 0) * 94 + euc_jp_column b = omega arith in
-    let char : euc_jp_pair a b ≡ Some c =
-    cond-false _ _ _ (no_katakana a f.lead) ∙ cond-true (is_euc a && is_euc b) _ _ (ap (λ t. t && is_euc b) f.lead ∙ f.trail) ∙ ap jis0208_at same ∙ f.is in
+    let f = found Jis0208 is_euc_byte is_euc_byte euc_jp_row none_further euc_jp_column a b c _ (omega (arith, euc_jp_rows a l, euc_jp_columns b m)) (euc_jp_small b) e in
+    let same : euc_pair_pointer a b ≡ (euc_jp_row a + 0) * 94 + euc_jp_column b = omega arith in
+    let char : euc_jp_pair_char a b ≡ Some c =
+    cond-false _ _ _ (no_katakana a f.lead) ∙ cond-true (is_euc_byte a && is_euc_byte b) _ _ (ap (λ t. t && is_euc_byte b) f.lead ∙ f.trail) ∙ ap jis0208_at same ∙ f.is in
     record {
-      first = ap (λ t. first_prefix t (euc_jp_single a)) (leads a f.lead);
+      first = ap (λ t. first_prefix t (euc_jp_single_char a)) (leads a f.lead);
       both = cond-false _ _ _ (no_third a b f.lead) ∙ ap (λ x. trail_prefix 1 b (text_of_char x)) char;
     }
 
@@ -199,7 +201,7 @@ abbrev trail_number : ℕ → ℕ
 trail_number b = b - cond (nat_lt b 0x7F) 0x40 0x41
 
 abbrev second_row : ℕ → ℕ
-second_row b = cond (shift_jis_trail b) (trail_number b / 94) 0
+second_row b = cond (is_shift_jis_trail b) (trail_number b / 94) 0
 
 abbrev shift_jis_row : ℕ → ℕ
 shift_jis_row a = 2 * (a - cond (nat_lt a 0xA0) 0x81 0xC1)
@@ -208,39 +210,40 @@ abbrev shift_jis_column : ℕ → ℕ
 shift_jis_column b = trail_number b % 94
 
 shift_jis_rows : (a : ℕ) → a < 256
-    → get_or SHIFT_JIS_PLACES a 0 ≡ row_place Jis0208 has_rows shift_jis_trail shift_jis_row second_row shift_jis_column a
+    → get_or SHIFT_JIS_PLACES a 0 ≡ row_place Jis0208 has_rows is_shift_jis_trail shift_jis_row second_row shift_jis_column a
 unfolding tabulates
-shift_jis_rows a l = row_in (row_place Jis0208 has_rows shift_jis_trail shift_jis_row second_row shift_jis_column) (column_place Jis0208 has_rows shift_jis_trail shift_jis_row second_row shift_jis_column) SHIFT_JIS_PLACES refl refl a l
+shift_jis_rows a l = row_in (row_place Jis0208 has_rows is_shift_jis_trail shift_jis_row second_row shift_jis_column) (column_place Jis0208 has_rows is_shift_jis_trail shift_jis_row second_row shift_jis_column) SHIFT_JIS_PLACES refl refl a l
 
 shift_jis_columns : (b : ℕ) → b < 256
-    → get_or SHIFT_JIS_PLACES (256 + b) 0 ≡ column_place Jis0208 has_rows shift_jis_trail shift_jis_row second_row shift_jis_column b
+    → get_or SHIFT_JIS_PLACES (256 + b) 0 ≡ column_place Jis0208 has_rows is_shift_jis_trail shift_jis_row second_row shift_jis_column b
 unfolding tabulates
-shift_jis_columns b l = column_in (row_place Jis0208 has_rows shift_jis_trail shift_jis_row second_row shift_jis_column) (column_place Jis0208 has_rows shift_jis_trail shift_jis_row second_row shift_jis_column) SHIFT_JIS_PLACES refl refl b l
+shift_jis_columns b l = column_in (row_place Jis0208 has_rows is_shift_jis_trail shift_jis_row second_row shift_jis_column) (column_place Jis0208 has_rows is_shift_jis_trail shift_jis_row second_row shift_jis_column) SHIFT_JIS_PLACES refl refl b l
 
-shift_jis_small : (b : ℕ) → shift_jis_trail b ≡ true → shift_jis_column b < 94
+shift_jis_small : (b : ℕ) → is_shift_jis_trail b ≡ true → shift_jis_column b < 94
 shift_jis_small b t = grind (arith, nat_tests)
 
 pub shift_jis_within : (a b : ℕ) → a < 256 → b < 256
     → get_or SHIFT_JIS_PLACES a 0 + get_or SHIFT_JIS_PLACES (256 + b) 0 < grid_len Jis0208
 shift_jis_within a b l m = rw (shift_jis_rows a l, shift_jis_columns b m) (grind (arith, nat_tests))
 
-leads_too : (a : ℕ) → has_rows a ≡ true → shift_jis_lead a ≡ true
+leads_too : (a : ℕ) → has_rows a ≡ true → is_shift_jis_lead a ≡ true
 leads_too a t = grind (arith, nat_tests)
 
 -- the pointers of these leads are not of the private use area
-not_private : (a b : ℕ) → has_rows a ≡ true → shift_jis_trail b ≡ true
-    → (nat_le 8836 (shift_jis_pointer a b) && nat_le (shift_jis_pointer a b) 10715) ≡ false
+not_private : (a b : ℕ) → has_rows a ≡ true → is_shift_jis_trail b ≡ true
+    → (nat_le 8836 (shift_jis_pair_pointer a b) && nat_le (shift_jis_pair_pointer a b) 10715) ≡ false
 not_private a b t u = grind (arith, nat_tests)
 
 pub shift_jis_found : (a b c : ℕ) → a < 256 → b < 256
     → grid_char Jis0208 (get_or SHIFT_JIS_PLACES a 0 + get_or SHIFT_JIS_PLACES (256 + b) 0) ≡ Some c
-    → (shift_jis_lead a ≡ true) × (shift_jis_pair a b ≡ Some (One c))
+    → (is_shift_jis_lead a ≡ true) × (shift_jis_pair_text a b ≡ Some (One c))
 shift_jis_found a b c l m e =
-    let f = found Jis0208 has_rows shift_jis_trail shift_jis_row second_row shift_jis_column a b c _ (omega (arith, shift_jis_rows a l, shift_jis_columns b m))
+    let f = found Jis0208 has_rows is_shift_jis_trail shift_jis_row second_row shift_jis_column a b c _ (omega (arith, shift_jis_rows a l, shift_jis_columns b m))
     (shift_jis_small b) e in
     let row : second_row b ≡ trail_number b / 94 = cond-true _ _ _ f.trail in
-    let same : shift_jis_pointer a b ≡ (shift_jis_row a + second_row b) * 94 + shift_jis_column b = omega (arith, row) in (
+    let same : shift_jis_pair_pointer a b ≡ (shift_jis_row a + second_row b) * 94 + shift_jis_column b = omega (arith, row) in (
       leads_too a f.lead,
-      ap text_of_char (cond-true (shift_jis_trail b) (shift_jis_char (shift_jis_pointer a b)) None f.trail
+      ap text_of_char
+          (cond-true (is_shift_jis_trail b) (shift_jis_pointer_char (shift_jis_pair_pointer a b)) None f.trail
           ∙ cond-false _ _ _ (not_private a b f.lead f.trail) ∙ ap jis0208_at same ∙ f.is),
     )

@@ -4,7 +4,7 @@ use Rattle.enc_machine.specs.declared.byte_codec.Text.{Text}
 use Rattle.enc_machine.specs.declared.byte_codec.Text.TheVariants.{One}
 use Rattle.enc_multi_byte.specs.declared.multi_byte.Prefix.{Prefix}
 use Rattle.enc_multi_byte.specs.declared.multi_byte.Prefix.TheVariants.{Complete, Malformed, Incomplete}
-use Rattle.enc_machine.specs.CodecLaw.{chars_of}
+use Rattle.enc_machine.specs.CodecLaw.{text_chars}
 use Rattle.enc_machine.specs.RuleLaws.{IsSmallText}
 
 -- the text of a character
@@ -34,12 +34,12 @@ double_byte_prefix is_lead single pair (a ∷ []) = first_prefix (is_lead a) (si
 double_byte_prefix is_lead single pair (a ∷ b ∷ z) = trail_prefix 1 b (pair a b)
 
 -- texts have a character, and are small
-pub record IsText (text : Text) : Type 0 where
-  pub some : chars_of text ≢ []
-  pub small : IsSmallText (chars_of text)
+pub record IsPairText (text : Text) : Type 0 where
+  pub some : text_chars text ≢ []
+  pub small : IsSmallText (text_chars text)
 
 -- What single bytes and pairs can be: characters of the Basic Multilingual Plane; texts, and FF is no trail.
 pub record ArePairs (single : ℕ → Option ℕ) (pair : ℕ → ℕ → Option Text) : Type 0 where
   pub basic : (b c : ℕ) → single b ≡ Some c → c < 0x1_0000
-  pub texts : (a b : ℕ) (text : Text) → pair a b ≡ Some text → IsText text
+  pub texts : (a b : ℕ) (text : Text) → pair a b ≡ Some text → IsPairText text
   pub no_trail : (a : ℕ) → pair a 0xFF ≡ None

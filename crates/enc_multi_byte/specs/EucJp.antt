@@ -3,39 +3,39 @@ use Rattle.std.specs.Prelude.{ℕ, ◌+◌, ◌-◌, ◌*◌, Bool, ◌&&◌, �
 use Rattle.enc_multi_byte.specs.declared.multi_byte.Prefix.{Prefix}
 use Rattle.enc_multi_byte.specs.declared.multi_byte.Prefix.TheVariants.{Incomplete}
 use Rattle.enc_index.specs.Runs.{jis0208_at, jis0212_at}
-use Rattle.enc_multi_byte.specs.Katakana.{is_katakana, katakana}
+use Rattle.enc_multi_byte.specs.Katakana.{is_katakana_byte, katakana_of_byte}
 use Rattle.enc_multi_byte.specs.DoubleByte.{text_of_char, first_prefix, trail_prefix}
 
 -- a byte of a two-byte character of JIS X 0208, or one of JIS X 0212
-abbrev pub is_euc : ℕ → Bool
-is_euc b = nat_le 0xA1 b && nat_le b 0xFE
+abbrev pub is_euc_byte : ℕ → Bool
+is_euc_byte b = nat_le 0xA1 b && nat_le b 0xFE
 
-abbrev pub euc_pointer : ℕ → ℕ → ℕ
-euc_pointer lead trail = (lead - 0xA1) * 94 + (trail - 0xA1)
+abbrev pub euc_pair_pointer : ℕ → ℕ → ℕ
+euc_pair_pointer lead trail = (lead - 0xA1) * 94 + (trail - 0xA1)
 
 -- 8E leads half-width katakana, and 8F two bytes of JIS X 0212
-abbrev pub euc_jp_lead : ℕ → Bool
-euc_jp_lead b = b == 0x8E || (b == 0x8F || is_euc b)
+abbrev pub is_euc_jp_lead : ℕ → Bool
+is_euc_jp_lead b = b == 0x8E || (b == 0x8F || is_euc_byte b)
 
 -- a byte that stands alone
-abbrev pub euc_jp_single : ℕ → Option ℕ
-euc_jp_single b = if nat_lt b 0x80 then Some b else None
+abbrev pub euc_jp_single_char : ℕ → Option ℕ
+euc_jp_single_char b = if nat_lt b 0x80 then Some b else None
 
 -- two bytes behind which none is wanted
-abbrev pub euc_jp_pair : ℕ → ℕ → Option ℕ
-euc_jp_pair lead b =
-    if lead == 0x8E then (if is_katakana b then Some (katakana b) else None)
-    else if is_euc lead && is_euc b then jis0208_at (euc_pointer lead b)
+abbrev pub euc_jp_pair_char : ℕ → ℕ → Option ℕ
+euc_jp_pair_char lead b =
+    if lead == 0x8E then (if is_katakana_byte b then Some (katakana_of_byte b) else None)
+    else if is_euc_byte lead && is_euc_byte b then jis0208_at (euc_pair_pointer lead b)
     else None
 
 -- two bytes behind 8F
-abbrev pub euc_jp_triple : ℕ → ℕ → Option ℕ
-euc_jp_triple lead b = if is_euc b then jis0212_at (euc_pointer lead b) else None
+abbrev pub euc_jp_triple_char : ℕ → ℕ → Option ℕ
+euc_jp_triple_char lead b = if is_euc_byte b then jis0212_at (euc_pair_pointer lead b) else None
 
 -- what the bytes in front are
 abbrev pub euc_jp_prefix : List ℕ → Prefix
 euc_jp_prefix [] = Incomplete
-euc_jp_prefix (a ∷ []) = first_prefix (euc_jp_lead a) (euc_jp_single a)
+euc_jp_prefix (a ∷ []) = first_prefix (is_euc_jp_lead a) (euc_jp_single_char a)
 euc_jp_prefix (a ∷ b ∷ []) =
-    if a == 0x8F && is_euc b then Incomplete else trail_prefix 1 b (text_of_char (euc_jp_pair a b))
-euc_jp_prefix (a ∷ b ∷ c ∷ z) = trail_prefix 2 c (text_of_char (euc_jp_triple b c))
+    if a == 0x8F && is_euc_byte b then Incomplete else trail_prefix 1 b (text_of_char (euc_jp_pair_char a b))
+euc_jp_prefix (a ∷ b ∷ c ∷ z) = trail_prefix 2 c (text_of_char (euc_jp_triple_char b c))

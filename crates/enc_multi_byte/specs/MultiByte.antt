@@ -6,25 +6,25 @@ use Rattle.enc_machine.specs.declared.byte_codec.Kind.TheVariants.{Valid}
 use Rattle.enc_multi_byte.specs.declared.multi_byte.Prefix.{Prefix}
 use Rattle.enc_multi_byte.specs.declared.multi_byte.Prefix.TheVariants.{Complete, Malformed, Incomplete}
 use Rattle.enc_machine.specs.Segmentation.{Head, Rule, malformed_head}
-use Rattle.enc_machine.specs.CodecLaw.{chars_of}
-use Rattle.enc_multi_byte.specs.DoubleByte.{IsText}
+use Rattle.enc_machine.specs.CodecLaw.{text_chars}
+use Rattle.enc_multi_byte.specs.DoubleByte.{IsPairText}
 use Rattle.enc_machine.specs.CodecState.{CodecState}
-use Rattle.enc_machine.specs.Need.{IsBasicText}
+use Rattle.enc_machine.specs.Need.{IsBmpText}
 
 -- the first n bytes are malformed
-abbrev pub malformed_front : ℕ → ℕ → Head
-malformed_front set n = malformed_head set (n - 1)
+abbrev pub malformed_prefix_head : ℕ → ℕ → Head
+malformed_prefix_head set n = malformed_head set (n - 1)
 
 -- What stands first, by what the bytes in front are and all bytes behind them: where they are incomplete, one byte
 -- more tells, and where there is none, all of them are malformed together.
-abbrev pub head_of : (List ℕ → Prefix) → ℕ → List ℕ → Prefix → List ℕ → Head
-head_of prefix set front (Complete text) z = record { more = length front - 1; text = chars_of text; kind = Valid; set = set }
-head_of prefix set front (Malformed n) z = malformed_front set n
-head_of prefix set front Incomplete [] = malformed_front set (length front)
-head_of prefix set front Incomplete (c ∷ z) = head_of prefix set (front ++ c ∷ []) (prefix (front ++ c ∷ [])) z
+abbrev pub prefix_head : (List ℕ → Prefix) → ℕ → List ℕ → Prefix → List ℕ → Head
+prefix_head prefix set front (Complete text) z = record { more = length front - 1; text = text_chars text; kind = Valid; set = set }
+prefix_head prefix set front (Malformed n) z = malformed_prefix_head set n
+prefix_head prefix set front Incomplete [] = malformed_prefix_head set (length front)
+prefix_head prefix set front Incomplete (c ∷ z) = prefix_head prefix set (front ++ c ∷ []) (prefix (front ++ c ∷ [])) z
 
 unfoldable pub multi_byte_rule : (List ℕ → Prefix) → Rule
-multi_byte_rule prefix set b z = head_of prefix set (b ∷ []) (prefix (b ∷ [])) z
+multi_byte_rule prefix set b z = prefix_head prefix set (b ∷ []) (prefix (b ∷ [])) z
 
 -- after the bytes that are read and not put out
 abbrev pub multi_byte_state : (List ℕ → Prefix) → List ℕ → CodecState
@@ -46,8 +46,8 @@ pub record CanBeMalformed (prefix : List ℕ → Prefix) (front : List ℕ) : Ty
 -- What the bytes in front can be, in each of these encodings.
 pub record ArePrefixes (prefix : List ℕ → Prefix) : Type 0 where
   pub nothing : prefix [] ≡ Incomplete
-  pub texts : (front : List ℕ) (text : Text) → prefix front ≡ Complete text → IsText text
-  pub alone : (b : ℕ) (text : Text) → prefix (b ∷ []) ≡ Complete text → IsBasicText (chars_of text)
+  pub texts : (front : List ℕ) (text : Text) → prefix front ≡ Complete text → IsPairText text
+  pub alone : (b : ℕ) (text : Text) → prefix (b ∷ []) ≡ Complete text → IsBmpText (text_chars text)
   pub malformed : (front : List ℕ) (n : ℕ) → prefix front ≡ Malformed n → (0 < n) × (n ≤ length front)
   pub short : (front : List ℕ) → prefix front ≡ Incomplete → length front ≤ 3
   pub can_be_malformed : (front : List ℕ) → 0 < length front → prefix front ≡ Incomplete → CanBeMalformed prefix front
@@ -57,6 +57,6 @@ abbrev pub HasAscii : (List ℕ → Prefix) → Type 0
 HasAscii prefix = (b : ℕ) → b < 0x80 → prefix (b ∷ []) ≡ Complete (One b)
 
 -- two bytes are a character, and the first of them is none by itself
-pub record IsPair (prefix : List ℕ → Prefix) (lead b c : ℕ) : Type 0 where
+pub record IsCharPair (prefix : List ℕ → Prefix) (lead b c : ℕ) : Type 0 where
   pub first : prefix (lead ∷ []) ≡ Incomplete
   pub both : prefix (lead ∷ b ∷ []) ≡ Complete (One c)

@@ -3,32 +3,34 @@ use Rattle.std.specs.Prelude.{ℕ, ◌+◌, ◌-◌, ◌*◌, Bool, ◌&&◌, �
 use Rattle.enc_machine.specs.declared.byte_codec.Text.{Text}
 use Rattle.enc_multi_byte.specs.declared.multi_byte.Prefix.{Prefix}
 use Rattle.enc_index.specs.Runs.{jis0208_at}
-use Rattle.enc_multi_byte.specs.Katakana.{is_katakana, katakana}
+use Rattle.enc_multi_byte.specs.Katakana.{is_katakana_byte, katakana_of_byte}
 use Rattle.enc_multi_byte.specs.DoubleByte.{text_of_char, double_byte_prefix}
 
-abbrev pub shift_jis_lead : ℕ → Bool
-shift_jis_lead b = (nat_le 0x81 b && nat_le b 0x9F) || (nat_le 0xE0 b && nat_le b 0xFC)
+abbrev pub is_shift_jis_lead : ℕ → Bool
+is_shift_jis_lead b = (nat_le 0x81 b && nat_le b 0x9F) || (nat_le 0xE0 b && nat_le b 0xFC)
 
-abbrev pub shift_jis_trail : ℕ → Bool
-shift_jis_trail b = (nat_le 0x40 b && nat_le b 0x7E) || (nat_le 0x80 b && nat_le b 0xFC)
+abbrev pub is_shift_jis_trail : ℕ → Bool
+is_shift_jis_trail b = (nat_le 0x40 b && nat_le b 0x7E) || (nat_le 0x80 b && nat_le b 0xFC)
 
-abbrev pub shift_jis_pointer : ℕ → ℕ → ℕ
-shift_jis_pointer lead trail =
+abbrev pub shift_jis_pair_pointer : ℕ → ℕ → ℕ
+shift_jis_pair_pointer lead trail =
     (lead - (if nat_lt lead 0xA0 then 0x81 else 0xC1)) * 188 + (trail - (if nat_lt trail 0x7F then 0x40 else 0x41))
 
 -- a byte that stands alone
-abbrev pub shift_jis_single : ℕ → Option ℕ
-shift_jis_single b = if nat_le b 0x80 then Some b else if is_katakana b then Some (katakana b) else None
+abbrev pub shift_jis_single_char : ℕ → Option ℕ
+shift_jis_single_char b = if nat_le b 0x80 then Some b else if is_katakana_byte b then Some (katakana_of_byte b)
+    else None
 
 -- by pointer; those of the private use area are in no index
-abbrev pub shift_jis_char : ℕ → Option ℕ
-shift_jis_char pointer =
+abbrev pub shift_jis_pointer_char : ℕ → Option ℕ
+shift_jis_pointer_char pointer =
     if nat_le 8836 pointer && nat_le pointer 10715 then Some (0xE000 + (pointer - 8836))
     else jis0208_at pointer
 
 -- a lead and the byte behind it
-abbrev pub shift_jis_pair : ℕ → ℕ → Option Text
-shift_jis_pair lead b = text_of_char (if shift_jis_trail b then shift_jis_char (shift_jis_pointer lead b) else None)
+abbrev pub shift_jis_pair_text : ℕ → ℕ → Option Text
+shift_jis_pair_text lead b =
+    text_of_char (if is_shift_jis_trail b then shift_jis_pointer_char (shift_jis_pair_pointer lead b) else None)
 
 abbrev pub shift_jis_prefix : List ℕ → Prefix
-shift_jis_prefix = double_byte_prefix shift_jis_lead shift_jis_single shift_jis_pair
+shift_jis_prefix = double_byte_prefix is_shift_jis_lead shift_jis_single_char shift_jis_pair_text

@@ -1,7 +1,7 @@
 //! The Big5 decoder (Encoding Standard 11.1.1).
 
 ghost use Rattle.std.specs.Prelude.{◌≡◌};
-ghost use Rattle.enc_multi_byte.specs.Big5.{big5_trail, big5_text};
+ghost use Rattle.enc_multi_byte.specs.Big5.{is_big5_trail, big5_pointer_text};
 
 use crate::double_byte::{Double, DoubleByte, text_of};
 use crate::multi_byte::MultiByteDecoder;
@@ -19,14 +19,14 @@ pub type Big5Decoder = MultiByteDecoder<Double<Big5>>;
 /// Whether a byte can follow a lead. No branch stands between the two ranges, since text has bytes of both in an
 /// order that no processor predicts.
 fn is_trail(byte: u8) -> bool
-    ensures { result ≡ big5_trail byte }
+    ensures { result ≡ is_big5_trail byte }
 {
     (byte >= 0x40 && byte <= 0x7E) | (byte >= 0xA1 && byte <= 0xFE)
 }
 
 /// The text of a pointer.
 fn text_at(pointer: u32) -> Option<Text>
-    ensures { result ≡ big5_text pointer }
+    ensures { result ≡ big5_pointer_text pointer }
 {
     match pointer {
         1133 => Some(Text::Two('\u{CA}', '\u{304}')),
@@ -39,13 +39,13 @@ fn text_at(pointer: u32) -> Option<Text>
 
 impl DoubleByte for Big5 {
     ghost use Rattle.enc_index.specs.declared.grid.Grid.TheVariants as grids;
-    ghost use Rattle.enc_multi_byte.specs.Big5.{big5_lead, big5_single, big5_pair};
+    ghost use Rattle.enc_multi_byte.specs.Big5.{is_big5_lead, big5_single_char, big5_pair_text};
 
-    ghost leads = { big5_lead };
+    ghost leads = { is_big5_lead };
 
-    ghost singles = { big5_single };
+    ghost singles = { big5_single_char };
 
-    ghost pairs = { big5_pair };
+    ghost pairs = { big5_pair_text };
 
     fn is_lead(byte: u8) -> bool {
         byte >= 0x81 && byte <= 0xFE

@@ -1,7 +1,7 @@
 //! The EUC-JP decoder (Encoding Standard 12.1.1).
 
 ghost use Rattle.std.specs.Prelude.{◌≡◌, [], ◌∷◌, true};
-ghost use Rattle.enc_multi_byte.specs.EucJp.{is_euc as euc, euc_pointer, euc_jp_lead, euc_jp_single, euc_jp_pair, euc_jp_triple, euc_jp_prefix};
+ghost use Rattle.enc_multi_byte.specs.EucJp.{is_euc_byte as euc, euc_pair_pointer, is_euc_jp_lead, euc_jp_single_char, euc_jp_pair_char, euc_jp_triple_char, euc_jp_prefix};
 
 use crate::double_byte::{classify_first, classify_trail, text_of};
 use crate::katakana::katakana;
@@ -19,7 +19,7 @@ pub struct EucJp;
 pub type EucJpDecoder = MultiByteDecoder<EucJp>;
 
 /// Whether a byte is one of two of a character.
-fn is_euc(byte: u8) -> bool
+fn is_euc_byte(byte: u8) -> bool
     ensures { result ≡ euc byte }
 {
     byte >= 0xA1 && byte <= 0xFE
@@ -29,21 +29,21 @@ fn is_euc(byte: u8) -> bool
 fn pointer(lead: u8, trail: u8) -> u32
     requires lead { euc lead ≡ true }
     requires trail { euc trail ≡ true }
-    ensures { result ≡ euc_pointer lead trail }
+    ensures { result ≡ euc_pair_pointer lead trail }
 {
     (lead as u32 - 0xA1) * 94 + (trail as u32 - 0xA1)
 }
 
 /// Whether bytes follow a byte.
 fn is_lead(byte: u8) -> bool
-    ensures { result ≡ euc_jp_lead byte }
+    ensures { result ≡ is_euc_jp_lead byte }
 {
-    (byte == 0x8E) | (byte == 0x8F) | is_euc(byte)
+    (byte == 0x8E) | (byte == 0x8F) | is_euc_byte(byte)
 }
 
 /// The character of a byte that stands alone.
 fn single(byte: u8) -> Option<char>
-    ensures { result ≡ euc_jp_single byte }
+    ensures { result ≡ euc_jp_single_char byte }
 {
     if byte < 0x80 {
         Some(byte as char)
@@ -54,7 +54,7 @@ fn single(byte: u8) -> Option<char>
 
 /// The character of two bytes.
 fn pair(lead: u8, trail: u8) -> Option<char>
-    ensures { result ≡ euc_jp_pair lead trail }
+    ensures { result ≡ euc_jp_pair_char lead trail }
 {
     if lead == 0x8E {
         return match trail {
@@ -62,7 +62,7 @@ fn pair(lead: u8, trail: u8) -> Option<char>
             _ => None,
         };
     }
-    if is_euc(lead) && is_euc(trail) {
+    if is_euc_byte(lead) && is_euc_byte(trail) {
         List::Jis0208.at(pointer(lead, trail))
     } else {
         None
@@ -72,9 +72,9 @@ fn pair(lead: u8, trail: u8) -> Option<char>
 /// The character of 8F and two bytes, of which the first is one of two.
 fn triple(lead: u8, trail: u8) -> Option<char>
     requires { euc lead ≡ true }
-    ensures { result ≡ euc_jp_triple lead trail }
+    ensures { result ≡ euc_jp_triple_char lead trail }
 {
-    if is_euc(trail) {
+    if is_euc_byte(trail) {
         List::Jis0212.at(pointer(lead, trail))
     } else {
         None
@@ -85,7 +85,7 @@ fn triple(lead: u8, trail: u8) -> Option<char>
 fn read_second(lead: u8, byte: u8) -> Prefix
     ensures { result ≡ euc_jp_prefix (lead ∷ byte ∷ []) }
 {
-    if lead == 0x8F && is_euc(byte) {
+    if lead == 0x8F && is_euc_byte(byte) {
         return Prefix::Incomplete;
     }
     classify_trail(1, byte, text_of(pair(lead, byte)))

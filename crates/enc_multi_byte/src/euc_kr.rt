@@ -17,13 +17,13 @@ pub type EucKrDecoder = MultiByteDecoder<Double<EucKr>>;
 
 impl DoubleByte for EucKr {
     ghost use Rattle.enc_index.specs.declared.grid.Grid.TheVariants as grids;
-    ghost use Rattle.enc_multi_byte.specs.EucKr.{euc_kr_lead, euc_kr_single, euc_kr_pair};
+    ghost use Rattle.enc_multi_byte.specs.EucKr.{is_euc_kr_lead, euc_kr_single_char, euc_kr_pair_text};
 
-    ghost leads = { euc_kr_lead };
+    ghost leads = { is_euc_kr_lead };
 
-    ghost singles = { euc_kr_single };
+    ghost singles = { euc_kr_single_char };
 
-    ghost pairs = { euc_kr_pair };
+    ghost pairs = { euc_kr_pair_text };
 
     fn is_lead(byte: u8) -> bool {
         byte >= 0x81 && byte <= 0xFE

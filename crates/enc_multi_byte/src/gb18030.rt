@@ -1,7 +1,7 @@
 //! The gb18030 decoder, which is GBK's too (Encoding Standard 10.2.1).
 
 ghost use Rattle.std.specs.Prelude.{◌≡◌, [], ◌∷◌, true};
-ghost use Rattle.enc_multi_byte.specs.Gb18030.{gb18030_lead, gb18030_trail, is_digit as digit, gb18030_single, gb18030_pair, ranges_pointer, ranges_char, gb18030_prefix};
+ghost use Rattle.enc_multi_byte.specs.Gb18030.{is_gb18030_lead, is_gb18030_trail, is_digit as digit, gb18030_single_char, gb18030_pair_char, four_byte_pointer, ranges_code_point, gb18030_prefix};
 
 use crate::double_byte::{classify_first, classify_trail, text_of};
 use crate::multi_byte::{MultiByte, MultiByteDecoder, Prefix};
@@ -19,7 +19,7 @@ pub type Gb18030Decoder = MultiByteDecoder<Gb18030>;
 
 /// Whether a byte is the first, or the third of four.
 fn is_lead(byte: u8) -> bool
-    ensures { result ≡ gb18030_lead byte }
+    ensures { result ≡ is_gb18030_lead byte }
 {
     byte >= 0x81 && byte <= 0xFE
 }
@@ -27,7 +27,7 @@ fn is_lead(byte: u8) -> bool
 /// Whether a byte can be the second of two. No branch stands between the two ranges, since text has bytes of both
 /// in an order that no processor predicts.
 fn is_trail(byte: u8) -> bool
-    ensures { result ≡ gb18030_trail byte }
+    ensures { result ≡ is_gb18030_trail byte }
 {
     (byte >= 0x40 && byte <= 0x7E) | (byte >= 0x80 && byte <= 0xFE)
 }
@@ -41,7 +41,7 @@ fn is_digit(byte: u8) -> bool
 
 /// The character of a byte that stands alone.
 fn single(byte: u8) -> Option<char>
-    ensures { result ≡ gb18030_single byte }
+    ensures { result ≡ gb18030_single_char byte }
 {
     match byte {
         0x00..=0x7F => Some(byte as char),
@@ -52,8 +52,8 @@ fn single(byte: u8) -> Option<char>
 
 /// The character of two bytes.
 fn pair(lead: u8, trail: u8) -> Option<char>
-    requires { gb18030_lead lead ≡ true }
-    ensures { result ≡ gb18030_pair lead trail }
+    requires { is_gb18030_lead lead ≡ true }
+    ensures { result ≡ gb18030_pair_char lead trail }
 {
     if !is_trail(trail) {
         return None;
@@ -64,7 +64,7 @@ fn pair(lead: u8, trail: u8) -> Option<char>
 
 /// The character of a pointer of four bytes.
 fn character_at(pointer: u32) -> Option<char>
-    ensures { result ≡ ranges_char pointer }
+    ensures { result ≡ ranges_code_point pointer }
 {
     match pointer {
         39420..=188999 => None,
@@ -76,11 +76,11 @@ fn character_at(pointer: u32) -> Option<char>
 
 /// The pointer of four bytes.
 fn pointer(first: u8, second: u8, third: u8, fourth: u8) -> u32
-    requires first { gb18030_lead first ≡ true }
+    requires first { is_gb18030_lead first ≡ true }
     requires second { digit second ≡ true }
-    requires third { gb18030_lead third ≡ true }
+    requires third { is_gb18030_lead third ≡ true }
     requires fourth { digit fourth ≡ true }
-    ensures { result ≡ ranges_pointer first second third fourth }
+    ensures { result ≡ four_byte_pointer first second third fourth }
 {
     let high = (first as u32 - 0x81) * 10 + (second as u32 - 0x30);
     let low = (third as u32 - 0x81) * 10 + (fourth as u32 - 0x30);
@@ -89,7 +89,7 @@ fn pointer(first: u8, second: u8, third: u8, fourth: u8) -> u32
 
 /// A byte behind a lead.
 fn read_second(lead: u8, byte: u8) -> Prefix
-    requires { gb18030_lead lead ≡ true }
+    requires { is_gb18030_lead lead ≡ true }
     ensures { result ≡ gb18030_prefix (lead ∷ byte ∷ []) }
 {
     if is_digit(byte) {
@@ -111,9 +111,9 @@ fn read_third(first: u8, second: u8, byte: u8) -> Prefix
 
 /// A byte behind three.
 fn read_fourth(first: u8, second: u8, third: u8, byte: u8) -> Prefix
-    requires first { gb18030_lead first ≡ true }
+    requires first { is_gb18030_lead first ≡ true }
     requires second { digit second ≡ true }
-    requires third { gb18030_lead third ≡ true }
+    requires third { is_gb18030_lead third ≡ true }
     ensures { result ≡ gb18030_prefix (first ∷ second ∷ third ∷ byte ∷ []) }
 {
     if !is_digit(byte) {

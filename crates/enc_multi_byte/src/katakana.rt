@@ -1,11 +1,11 @@
 //! Half-width katakana.
 
 ghost use Rattle.std.specs.Prelude.{◌≡◌, true};
-ghost use Rattle.enc_multi_byte.specs.Katakana.{is_katakana, katakana as katakana_of};
+ghost use Rattle.enc_multi_byte.specs.Katakana.{is_katakana_byte, katakana_of_byte as katakana_of};
 
 /// The half-width katakana of a byte from A1 to DF.
 pub fn katakana(byte: u8) -> char
-    requires { is_katakana byte ≡ true }
+    requires { is_katakana_byte byte ≡ true }
     ensures { result ≡ katakana_of byte }
 {
     char::from_u32(0xFF61 + (byte as u32 - 0xA1)).unwrap()

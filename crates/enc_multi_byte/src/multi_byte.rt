@@ -3,15 +3,15 @@
 ghost use Rattle.std.specs.Prelude.{◌≡◌, ℕ, ◌+◌, ◌<◌, List, [], ◌∷◌, ◌++◌, true, false, Some, IfSome, IsNone};
 ghost use Rattle.enc_index.specs.Grid.{grid_len, grid_char};
 ghost use Rattle.enc_units.specs.Pairs.{byte_or_pair};
-ghost use Rattle.enc_machine.specs.Pending.{pending_bytes};
-ghost use Rattle.enc_machine.specs.Taking.{IsPiece};
-ghost use Rattle.enc_machine.specs.CodecLaw.{Acts, IsReady, IsAtEnd};
-ghost use Rattle.enc_multi_byte.specs.MultiByte.{multi_byte_state, AreIncomplete, ArePrefixes, HasAscii, IsPair, multi_byte_rule};
+ghost use Rattle.enc_machine.specs.Pending.{bytes_of_pending};
+ghost use Rattle.enc_machine.specs.Taking.{IsWholeChar};
+ghost use Rattle.enc_machine.specs.CodecLaw.{HandlesByte, IsNextOfPending, IsNextAtEnd};
+ghost use Rattle.enc_multi_byte.specs.MultiByte.{multi_byte_state, AreIncomplete, ArePrefixes, HasAscii, IsCharPair, multi_byte_rule};
 
 use enc_index::Grid;
 use enc_machine::{
-    ByteCodec, DecoderResult, Kind, Pending, RawDecoder, Shown, Step, Text, TextLengths,
-    latin1_up_to, run,
+    ByteCodec, DecoderResult, Emission, HandlerResult, Kind, Pending, RawDecoder, Text,
+    TextLengths, latin1_up_to, run,
 };
 use enc_units::{Pieces, Units, put_run};
 use std::marker::PhantomData;
@@ -37,8 +37,8 @@ pub trait MultiByte: Copy {
 
     /// What incomplete bytes are with the byte behind them.
     fn classify(pending: Pending, byte: u8) -> Prefix
-        requires { AreIncomplete prefix [] (pending_bytes pending) }
-        ensures { result ≡ prefix (pending_bytes pending ++ byte ∷ []) };
+        requires { AreIncomplete prefix [] (bytes_of_pending pending) }
+        ensures { result ≡ prefix (bytes_of_pending pending ++ byte ∷ []) };
 
     /// How many characters of a run are written one by one: more than most runs of random bytes have.
     fn few() -> usize {
@@ -48,7 +48,7 @@ pub trait MultiByte: Copy {
     /// The character of two bytes, of which the first is none by itself: what `classify` tells of one and then the other,
     /// without a prefix between. `None` where they are no character or two, or where it isn't known.
     fn pair_char(lead: u8, byte: u8) -> Option<char>
-        ensures { IfSome result (λ c. IsPair prefix lead byte c) };
+        ensures { IfSome result (λ c. IsCharPair prefix lead byte c) };
 
     // the grid in which pairs are looked up
     ghost pairs_in: { Grid };
@@ -60,7 +60,7 @@ pub trait MultiByte: Copy {
     /// The place of two bytes in the grid. The character there is theirs, and the first byte is none by itself.
     fn pair_place(first: u8, second: u8) -> usize
         ensures within { result < grid_len pairs_in }
-        ensures is_pair { (c : ℕ) → grid_char pairs_in result ≡ Some c → IsPair prefix first second c };
+        ensures is_pair { (c : ℕ) → grid_char pairs_in result ≡ Some c → IsCharPair prefix first second c };
 
     /// What holds of all bytes in front. A call does nothing.
     fn laws()
@@ -89,9 +89,9 @@ impl<E: MultiByte> MultiByteDecoder<E> {
 
     /// What the pending bytes show by themselves. Nothing, where all of them are incomplete.
     #[inline(always)]
-    fn shown_first(self) -> Option<Shown<MultiByteDecoder<E>>>
-        ensures shown { IfSome result (λ shown. IsReady (λ d. multi_byte_state E.prefix (pending_bytes d.pending)) self (Some shown)) }
-        ensures incomplete { IsNone result → AreIncomplete E.prefix [] (pending_bytes self.pending) }
+    fn shown_first(self) -> Option<Emission<MultiByteDecoder<E>>>
+        ensures shown { IfSome result (λ shown. IsNextOfPending (λ d. multi_byte_state E.prefix (bytes_of_pending d.pending)) self (Some shown)) }
+        ensures incomplete { IsNone result → AreIncomplete E.prefix [] (bytes_of_pending self.pending) }
     {
         E::laws();
         let mut front = Pending::Nothing;
@@ -115,28 +115,32 @@ impl<E: MultiByte> MultiByteDecoder<E> {
     }
 
     /// What the byte behind incomplete ones does.
-    fn step(self, byte: u8) -> Step<MultiByteDecoder<E>>
-        requires { AreIncomplete E.prefix [] (pending_bytes self.pending) }
-        ensures { Acts (λ d. multi_byte_state E.prefix (pending_bytes d.pending)) self byte result }
+    fn step(self, byte: u8) -> HandlerResult<MultiByteDecoder<E>>
+        requires { AreIncomplete E.prefix [] (bytes_of_pending self.pending) }
+        ensures { HandlesByte (λ d. multi_byte_state E.prefix (bytes_of_pending d.pending)) self
+            byte result }
     {
         E::laws();
         match E::classify(self.pending, byte) {
             Prefix::Complete(text) => {
                 let len = self.pending.len() + 1;
-                Step::Show(complete(text, len, true, Pending::Nothing))
+                HandlerResult::Emit(complete(text, len, true, Pending::Nothing))
             }
             Prefix::Malformed(len) => {
                 let takes_byte = len > self.pending.len();
-                Step::Show(malformed(len, takes_byte, self.pending.behind(len)))
+                HandlerResult::Emit(malformed(len, takes_byte, self.pending.behind(len)))
             }
-            Prefix::Incomplete => Step::Wait(MultiByteDecoder::holding(self.pending.with(byte))),
+            Prefix::Incomplete => HandlerResult::Continue(MultiByteDecoder::holding(
+                self.pending.with(byte),
+            )),
         }
     }
 
     /// Incomplete bytes at the end of the input are malformed, all together.
-    fn left_over(self) -> Option<Shown<MultiByteDecoder<E>>>
-        requires { AreIncomplete E.prefix [] (pending_bytes self.pending) }
-        ensures { IsAtEnd (λ d. multi_byte_state E.prefix (pending_bytes d.pending)) self result }
+    fn left_over(self) -> Option<Emission<MultiByteDecoder<E>>>
+        requires { AreIncomplete E.prefix [] (bytes_of_pending self.pending) }
+        ensures { IsNextAtEnd (λ d. multi_byte_state E.prefix (bytes_of_pending d.pending)) self
+            result }
     {
         E::laws();
         match self.pending {
@@ -162,11 +166,11 @@ fn complete<E: MultiByte>(
     len: u8,
     takes_byte: bool,
     behind: Pending,
-) -> Shown<MultiByteDecoder<E>>
+) -> Emission<MultiByteDecoder<E>>
     ensures is { result ≡ record { text = text; kind = Kind.Valid; len = len; takes_byte = takes_byte; next = result.next } }
     ensures next { result.next.pending ≡ behind }
 {
-    Shown {
+    Emission {
         text,
         kind: Kind::Valid,
         len,
@@ -176,11 +180,15 @@ fn complete<E: MultiByte>(
 }
 
 /// A malformed sequence, with the byte that shows it or before it.
-fn malformed<E: MultiByte>(len: u8, takes_byte: bool, behind: Pending) -> Shown<MultiByteDecoder<E>>
+fn malformed<E: MultiByte>(
+    len: u8,
+    takes_byte: bool,
+    behind: Pending,
+) -> Emission<MultiByteDecoder<E>>
     ensures is { result ≡ record { text = Text.One 0xFFFD; kind = Kind.Malformed; len = len; takes_byte = takes_byte; next = result.next } }
     ensures next { result.next.pending ≡ behind }
 {
-    Shown {
+    Emission {
         text: Text::One('\u{FFFD}'),
         kind: Kind::Malformed,
         len,
@@ -194,7 +202,7 @@ fn malformed<E: MultiByte>(len: u8, takes_byte: bool, behind: Pending) -> Shown<
 fn place_of<E: MultiByte>(is_pair: bool, first: u8, second: u8) -> usize
     ensures within { result < grid_len E.pairs_in }
     ensures means { (c : ℕ) → grid_char E.pairs_in result ≡ Some c
-        → IsPiece (multi_byte_rule E.prefix) 0 (byte_or_pair is_pair first second) c }
+        → IsWholeChar (multi_byte_rule E.prefix) 0 (byte_or_pair is_pair first second) c }
 {
     E::ascii();
     let place = E::pair_place(first, second);
@@ -203,9 +211,9 @@ fn place_of<E: MultiByte>(is_pair: bool, first: u8, second: u8) -> usize
 
 impl<E: MultiByte> Pieces for MultiByteDecoder<E> {
     ghost use Rattle.enc_multi_byte.specs.MultiByte.{multi_byte_rule};
-    ghost use Rattle.enc_machine.specs.Taking.{IsPiece};
+    ghost use Rattle.enc_machine.specs.Taking.{IsWholeChar};
 
-    ghost means = { λ _. IsPiece (multi_byte_rule E.prefix) 0 };
+    ghost means = { λ _. IsWholeChar (multi_byte_rule E.prefix) 0 };
 
     #[inline(always)]
     fn piece(self, src: &[u8], at: usize) -> Option<(char, usize)> {
@@ -250,10 +258,10 @@ impl<E: MultiByte> Pieces for MultiByteDecoder<E> {
 }
 
 impl<E: MultiByte> ByteCodec for MultiByteDecoder<E> {
-    ghost use Rattle.enc_machine.specs.Pending.{pending_bytes};
+    ghost use Rattle.enc_machine.specs.Pending.{bytes_of_pending};
     ghost use Rattle.enc_multi_byte.specs.MultiByte.{multi_byte_state};
 
-    ghost state = { λ d. multi_byte_state E.prefix (pending_bytes d.pending) };
+    ghost state = { λ d. multi_byte_state E.prefix (bytes_of_pending d.pending) };
 
     #[inline(always)]
     fn take_run<U: Units>(self, src: &[u8], out: &mut U) -> (MultiByteDecoder<E>, usize) {
@@ -263,19 +271,19 @@ impl<E: MultiByte> ByteCodec for MultiByteDecoder<E> {
         }
     }
 
-    fn next_step(self, byte: u8) -> Step<MultiByteDecoder<E>> {
+    fn next_step(self, byte: u8) -> HandlerResult<MultiByteDecoder<E>> {
         match self.shown_first() {
-            Some(shown) => Step::Show(shown),
+            Some(shown) => HandlerResult::Emit(shown),
             None => self.step(byte),
         }
     }
 
-    fn ready(self) -> Option<Shown<MultiByteDecoder<E>>> {
+    fn ready(self) -> Option<Emission<MultiByteDecoder<E>>> {
         E::laws();
         self.shown_first()
     }
 
-    fn at_end(self) -> Option<Shown<MultiByteDecoder<E>>> {
+    fn at_end(self) -> Option<Emission<MultiByteDecoder<E>>> {
         match self.shown_first() {
             Some(shown) => Some(shown),
             None => self.left_over(),
@@ -289,10 +297,10 @@ impl<E: MultiByte> ByteCodec for MultiByteDecoder<E> {
 
 impl<E: MultiByte> RawDecoder for MultiByteDecoder<E> {
     ghost use Rattle.enc_machine.specs.declared.text_lengths.TextLengths.TheVariants as lengths;
-    ghost use Rattle.enc_machine.specs.Pending.{pending_bytes};
+    ghost use Rattle.enc_machine.specs.Pending.{bytes_of_pending};
     ghost use Rattle.enc_multi_byte.specs.MultiByte.{multi_byte_state};
 
-    ghost state = { λ d. multi_byte_state E.prefix (pending_bytes d.pending) };
+    ghost state = { λ d. multi_byte_state E.prefix (bytes_of_pending d.pending) };
 
     ghost formulas = { λ _. lengths.MultiByte };
 

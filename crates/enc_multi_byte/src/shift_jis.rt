@@ -1,7 +1,7 @@
 //! The Shift_JIS decoder (Encoding Standard 12.3.1).
 
 ghost use Rattle.std.specs.Prelude.{◌≡◌};
-ghost use Rattle.enc_multi_byte.specs.ShiftJis.{shift_jis_trail, shift_jis_char};
+ghost use Rattle.enc_multi_byte.specs.ShiftJis.{is_shift_jis_trail, shift_jis_pointer_char};
 
 use crate::double_byte::{Double, DoubleByte, text_of};
 use crate::katakana::katakana;
@@ -21,14 +21,14 @@ pub type ShiftJisDecoder = MultiByteDecoder<Double<ShiftJis>>;
 /// Whether a byte can follow a lead. No branch stands between the two ranges, since text has bytes of both in an
 /// order that no processor predicts.
 fn is_trail(byte: u8) -> bool
-    ensures { result ≡ shift_jis_trail byte }
+    ensures { result ≡ is_shift_jis_trail byte }
 {
     (byte >= 0x40 && byte <= 0x7E) | (byte >= 0x80 && byte <= 0xFC)
 }
 
 /// The character of a pointer.
 fn character_at(pointer: u32) -> Option<char>
-    ensures { result ≡ shift_jis_char pointer }
+    ensures { result ≡ shift_jis_pointer_char pointer }
 {
     match pointer {
         8836..=10715 => char::from_u32(0xE000 + (pointer - 8836)),
@@ -38,13 +38,13 @@ fn character_at(pointer: u32) -> Option<char>
 
 impl DoubleByte for ShiftJis {
     ghost use Rattle.enc_index.specs.declared.grid.Grid.TheVariants as grids;
-    ghost use Rattle.enc_multi_byte.specs.ShiftJis.{shift_jis_lead, shift_jis_single, shift_jis_pair};
+    ghost use Rattle.enc_multi_byte.specs.ShiftJis.{is_shift_jis_lead, shift_jis_single_char, shift_jis_pair_text};
 
-    ghost leads = { shift_jis_lead };
+    ghost leads = { is_shift_jis_lead };
 
-    ghost singles = { shift_jis_single };
+    ghost singles = { shift_jis_single_char };
 
-    ghost pairs = { shift_jis_pair };
+    ghost pairs = { shift_jis_pair_text };
 
     fn is_lead(byte: u8) -> bool {
         (byte >= 0x81 && byte <= 0x9F) | (byte >= 0xE0 && byte <= 0xFC)

@@ -5,9 +5,9 @@ use Rattle.std.proofs.lemmas.Bool.{cond-true, cond-false, and_parts, and_from, c
 use Rattle.std.proofs.lemmas.Bool.Decides.{nat_tests}
 use Rattle.enc_index.specs.declared.table.Planes.TheVariants.{All}
 use Rattle.enc_index.specs.Index.{Run, entry_character, is_entry_code_point, index_at}
-use Rattle.enc_index.specs.Search.{are_ascending, run_at}
+use Rattle.enc_index.specs.Search.{are_ascending_runs, run_with_pointer}
 use Rattle.enc_pointers.specs.Pointers.{is_ranges_pointer}
-use Rattle.enc_index.proofs.HalvesLemmas.{ascending_parts, outside}
+use Rattle.enc_index.proofs.RunSearchLemmas.{ascending_parts, outside}
 use Rattle.enc_index.proofs.TableLemmas.{index_at-before, index_at-after, index_at-within}
 
 -- a run the other way: first code point, last code point, and the pointer of the first
@@ -62,11 +62,13 @@ by_code_point-more : (run : Run) (runs : List Run) → (run.0 == 7457) ≡ false
 unfolding by_code_point
 by_code_point-more run runs h = cond-false _ _ _ h
 
-run_at-here : (run : Run) (runs : List Run) (n : ℕ) → run.0 ≤ n → n ≤ run.1 → run_at (run ∷ runs) n ≡ Some run
-run_at-here run runs n low high = cond-true _ _ _ (and_from _ _ (le-leb run.0 n low) (le-leb n run.1 high))
+run_with_pointer-here : (run : Run) (runs : List Run) (n : ℕ) → run.0 ≤ n → n ≤ run.1
+    → run_with_pointer (run ∷ runs) n ≡ Some run
+run_with_pointer-here run runs n low high = cond-true _ _ _ (and_from _ _ (le-leb run.0 n low) (le-leb n run.1 high))
 
-run_at-past : (run : Run) (runs : List Run) (n : ℕ) → (run.1 < n) ⊎ (n < run.0) → run_at (run ∷ runs) n ≡ run_at runs n
-run_at-past run runs n h = cond-false _ _ _ (outside run n h)
+run_with_pointer-past : (run : Run) (runs : List Run) (n : ℕ) → (run.1 < n) ⊎ (n < run.0)
+    → run_with_pointer (run ∷ runs) n ≡ run_with_pointer runs n
+run_with_pointer-past run runs n h = cond-false _ _ _ (outside run n h)
 
 -- a pointer that counts has the character, and lies from `low` on
 pub record IsPointerOf (runs : List Run) (c q low : ℕ) : Type 0 where
@@ -75,7 +77,7 @@ pub record IsPointerOf (runs : List Run) (c q low : ℕ) : Type 0 where
   pub below : q < 1237576
   pub from : low ≤ q
 
-module _ (low : ℕ) (run : Run) (runs : List Run) (c : ℕ) (up : are_ascending low (run ∷ runs) ≡ true) (ok : is_range run ≡ true) where
+module _ (low : ℕ) (run : Run) (runs : List Run) (c : ℕ) (up : are_ascending_runs low (run ∷ runs) ≡ true) (ok : is_range run ≡ true) where
   first_is_pointer : (run.0 == 7457) ≡ false → run.2 ≤ c → c ≤ run.2 + (run.1 - run.0)
       → IsPointerOf (run ∷ runs) c (run.0 + (c - run.2)) low
   first_is_pointer other begins ends =
@@ -105,28 +107,31 @@ module _ (low : ℕ) (run : Run) (runs : List Run) (c : ℕ) (up : are_ascending
       }
 
 -- the pointer in a run that is found by code point is one of the character
-pub sound : (low : ℕ) (runs : List Run) (c : ℕ) (found : Run) → are_ascending low runs ≡ true → are_ranges runs ≡ true
-    → run_at (by_code_point runs) c ≡ Some found → IsPointerOf runs c (found.2 + (c - found.0)) low
+pub sound : (low : ℕ) (runs : List Run) (c : ℕ) (found : Run) → are_ascending_runs low runs ≡ true
+    → are_ranges runs ≡ true
+    → run_with_pointer (by_code_point runs) c ≡ Some found → IsPointerOf runs c (found.2 + (c - found.0)) low
 unfolding by_code_point are_ranges
 sound low [] c found up ok h = cc
 sound low (run ∷ runs) c found up ok h =
     let parts = and_parts (is_range run) (are_ranges runs) ok in
     let rest = (ascending_parts low run runs up).2 in
-    let later : run_at (by_code_point runs) c ≡ Some found → IsPointerOf (run ∷ runs) c (found.2 + (c - found.0)) low =
+    let later : run_with_pointer (by_code_point runs) c ≡ Some found
+    → IsPointerOf (run ∷ runs) c (found.2 + (c - found.0)) low =
     λ e. later_is_pointer low run runs c up parts.0 _ (sound (run.1 + 1) runs c found rest parts.1 e) in
     elim (by_test (run.0 == 7457)) [
-      | inl alone ↦ later (sym (ap (λ l. run_at l c) (by_code_point-alone run runs alone)) ∙ h)
+      | inl alone ↦ later (sym (ap (λ l. run_with_pointer l c) (by_code_point-alone run runs alone)) ∙ h)
       | inr other ↦
-          let more : run_at (turned run ∷ by_code_point runs) c ≡ Some found =
-          sym (ap (λ l. run_at l c) (by_code_point-more run runs other)) ∙ h in
+          let more : run_with_pointer (turned run ∷ by_code_point runs) c ≡ Some found =
+          sym (ap (λ l. run_with_pointer l c) (by_code_point-more run runs other)) ∙ h in
           elim (cases_lt c run.2) [
-            | inl before ↦ later (sym (run_at-past (turned run) (by_code_point runs) c (inr before)) ∙ more)
+            | inl before ↦ later (sym (run_with_pointer-past (turned run) (by_code_point runs) c (inr before)) ∙ more)
             | inr begins ↦
                 elim (cases_lt (run.2 + (run.1 - run.0)) c) [
-                  | inl behind ↦ later (sym (run_at-past (turned run) (by_code_point runs) c (inl behind)) ∙ more)
+                  | inl behind ↦
+                      later (sym (run_with_pointer-past (turned run) (by_code_point runs) c (inl behind)) ∙ more)
                   | inr ends ↦
                       let here : Some (turned run) ≡ Some found =
-                      sym (run_at-here (turned run) (by_code_point runs) c begins ends) ∙ more in
+                      sym (run_with_pointer-here (turned run) (by_code_point runs) c begins ends) ∙ more in
                       let same : turned run ≡ found = cc in
                       subst (λ r. IsPointerOf (run ∷ runs) c (r.2 + (c - r.0)) low) same
                       (first_is_pointer low run runs c up parts.0 other begins ends)
@@ -144,25 +149,29 @@ entry_is true d c h = cc
 entry_is false d c h = cc
 
 abbrev IsFound : List Run → ℕ → ℕ → ℕ → Type 0
-IsFound runs c q low = (pointer_in_run c (run_at runs c) ≡ Some q) × (low ≤ c)
+IsFound runs c q low = (pointer_in_run c (run_with_pointer runs c) ≡ Some q) × (low ≤ c)
 
-module _ (low : ℕ) (run : Run) (rest : List Run) (c q : ℕ) (up : are_ascending low (turned run ∷ rest) ≡ true) where
+module _ (low : ℕ) (run : Run) (rest : List Run) (c q : ℕ)
+    (up : are_ascending_runs low (turned run ∷ rest) ≡ true) where
   first_is_found : run.0 ≤ q → q ≤ run.1 → run.2 + (q - run.0) ≡ c → IsFound (turned run ∷ rest) c q low
   first_is_found from to is =
       let begins : run.2 ≤ c = omega arith in
       let ends : c ≤ run.2 + (run.1 - run.0) = omega arith in
       let same : run.0 + (c - run.2) ≡ q = omega arith in
       let t = ascending_parts low (turned run) rest up in
-      (ap (pointer_in_run c) (run_at-here (turned run) rest c begins ends) ∙ ap Some same, omega (arith, t.0))
+      (ap (pointer_in_run c) (run_with_pointer-here (turned run) rest c begins ends) ∙ ap Some same, omega (arith, t.0))
 
   later_is_found : IsFound rest c q (run.2 + (run.1 - run.0) + 1) → IsFound (turned run ∷ rest) c q low
   later_is_found h =
       let t = ascending_parts low (turned run) rest up in
-      let past : run.2 + (run.1 - run.0) < c = omega (arith, h.1) in
-      (ap (pointer_in_run c) (run_at-past (turned run) rest c (inl past)) ∙ h.0, omega (arith, t.0, t.1, past))
+      let past : run.2 + (run.1 - run.0) < c = omega (arith, h.1) in (
+        ap (pointer_in_run c) (run_with_pointer-past (turned run) rest c (inl past))
+            ∙ h.0,
+        omega (arith, t.0, t.1, past),
+      )
 
 -- a pointer that counts is found by the code point of its character
-pub complete : (low : ℕ) (runs : List Run) (c q : ℕ) → are_ascending low (by_code_point runs) ≡ true → are_ranges runs ≡ true
+pub complete : (low : ℕ) (runs : List Run) (c q : ℕ) → are_ascending_runs low (by_code_point runs) ≡ true → are_ranges runs ≡ true
     → is_ranges_pointer q ≡ true → index_at All runs q ≡ Some c → IsFound (by_code_point runs) c q low
 unfolding are_ranges
 complete low [] c q up ok counted h = cc
@@ -173,11 +182,11 @@ complete low (run ∷ runs) c q up ok counted h =
       | inl alone ↦
           let same = by_code_point-alone run runs alone in
           subst (λ l. IsFound l c q low) (sym same)
-          (complete low runs c q (subst (λ l. are_ascending low l ≡ true) same up) parts.1 counted e)
+          (complete low runs c q (subst (λ l. are_ascending_runs low l ≡ true) same up) parts.1 counted e)
       | inr other ↦
           let same = by_code_point-more run runs other in
-          let more : are_ascending low (turned run ∷ by_code_point runs) ≡ true =
-          subst (λ l. are_ascending low l ≡ true) same up in
+          let more : are_ascending_runs low (turned run ∷ by_code_point runs) ≡ true =
+          subst (λ l. are_ascending_runs low l ≡ true) same up in
           let rest = (ascending_parts low (turned run) (by_code_point runs) more).2 in
           subst (λ l. IsFound l c q low) (sym same)
           (later_is_found low run (by_code_point runs) c q more
@@ -193,8 +202,8 @@ complete low (run ∷ runs) c q up ok counted h =
                   | inl alone ↦ absurd (true≢false (sym counted ∙ is_alone run.0 run.1 run.2 parts.0 alone q from to))
                   | inr other ↦
                       let same = by_code_point-more run runs other in
-                      let more : are_ascending low (turned run ∷ by_code_point runs) ≡ true =
-                      subst (λ l. are_ascending low l ≡ true) same up in
+                      let more : are_ascending_runs low (turned run ∷ by_code_point runs) ≡ true =
+                      subst (λ l. are_ascending_runs low l ≡ true) same up in
                       let is = entry_is _ _ _ (sym (index_at-within All run runs q from to) ∙ h) in
                       subst (λ l. IsFound l c q low) (sym same) (first_is_found low run (by_code_point runs) c q more from to is)
                 ]

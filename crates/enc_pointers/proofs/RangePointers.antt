@@ -6,7 +6,7 @@ use Rattle.enc_index.specs.declared.list.List.TheVariants.{Gb18030Ranges}
 use Rattle.enc_pointers.specs.declared.pages.gb18030_ranges.TheConstants.{GB18030_RANGES_BY_CODE_POINT}
 use Rattle.enc_index.specs.Index.{Run}
 use Rattle.enc_index.specs.Runs.{runs_of, gb18030_ranges_at}
-use Rattle.enc_index.specs.Search.{are_ascending, run_at}
+use Rattle.enc_index.specs.Search.{are_ascending_runs, run_with_pointer}
 use Rattle.enc_pointers.specs.Pointers.{first_below, is_character, is_ranges_pointer, gb18030_ranges_pointer}
 use Rattle.enc_pointers.proofs.BelowLemmas.{first_below-None, first_below-Some}
 use Rattle.enc_index.proofs.MultiByteTables.{gb18030_ranges_ascends}
@@ -21,7 +21,7 @@ all_by_code_point : by_code_point (runs_of Gb18030Ranges) ≡ GB18030_RANGES_BY_
 unfolding tests
 all_by_code_point = refl
 
-pub by_code_point_ascends : are_ascending 0 GB18030_RANGES_BY_CODE_POINT.now ≡ true
+pub by_code_point_ascends : are_ascending_runs 0 GB18030_RANGES_BY_CODE_POINT.now ≡ true
 unfolding tests
 by_code_point_ascends = refl
 
@@ -36,22 +36,22 @@ Some-is_character : (c : ℕ) (o : Option ℕ) → o ≡ Some c → is_character
 Some-is_character c o h = subst (λ x. is_character c x ≡ true) (sym h) (grind (arith, nat_tests))
 
 module _ (c : ℕ) where
-  found_is_pointer : (run : Run) → run_at GB18030_RANGES_BY_CODE_POINT.now c ≡ Some run
+  found_is_pointer : (run : Run) → run_with_pointer GB18030_RANGES_BY_CODE_POINT.now c ≡ Some run
       → IsPointerOf (runs_of Gb18030Ranges) c (run.2 + (c - run.0)) 0
   found_is_pointer run h =
-      sound 0 (runs_of Gb18030Ranges) c run gb18030_ranges_ascends are_all_ranges (ap (λ l. run_at l c) all_by_code_point ∙ h)
+      sound 0 (runs_of Gb18030Ranges) c run gb18030_ranges_ascends are_all_ranges (ap (λ l. run_with_pointer l c) all_by_code_point ∙ h)
 
-  pub found_is_below : (run : Run) → run_at GB18030_RANGES_BY_CODE_POINT.now c ≡ Some run → run.2 + (c - run.0) < 1237576
+  pub found_is_below : (run : Run) → run_with_pointer GB18030_RANGES_BY_CODE_POINT.now c ≡ Some run → run.2 + (c - run.0) < 1237576
   found_is_below run h = (found_is_pointer run h).below
 
-  pointer_is_found : (q : ℕ) → is_pointer_of c q ≡ true → pointer_in_run c (run_at GB18030_RANGES_BY_CODE_POINT.now c) ≡ Some q
+  pointer_is_found : (q : ℕ) → is_pointer_of c q ≡ true → pointer_in_run c (run_with_pointer GB18030_RANGES_BY_CODE_POINT.now c) ≡ Some q
   pointer_is_found q h =
       let parts = and_parts _ _ h in
-      let up = subst (λ l. are_ascending 0 l ≡ true) (sym all_by_code_point) by_code_point_ascends in
+      let up = subst (λ l. are_ascending_runs 0 l ≡ true) (sym all_by_code_point) by_code_point_ascends in
       let found = complete 0 (runs_of Gb18030Ranges) c q up are_all_ranges parts.0 (is_character-Some c _ parts.1) in
-      sym (ap (λ l. pointer_in_run c (run_at l c)) all_by_code_point) ∙ found.0
+      sym (ap (λ l. pointer_in_run c (run_with_pointer l c)) all_by_code_point) ∙ found.0
 
-  first_pointer : (o : Option Run) → run_at GB18030_RANGES_BY_CODE_POINT.now c ≡ o
+  first_pointer : (o : Option Run) → run_with_pointer GB18030_RANGES_BY_CODE_POINT.now c ≡ o
       → first_below (is_pointer_of c) 1237576 ≡ pointer_in_run c o
   first_pointer None h =
       first_below-None (is_pointer_of c) 1237576
@@ -67,7 +67,7 @@ module _ (c : ℕ) where
       let e : ⊥ = omega (arith, same, l) in
       e))
 
-  pub ranges_pointer : (c ≡ 0xE7C7 → ⊥) → pointer_in_run c (run_at GB18030_RANGES_BY_CODE_POINT.now c) ≡ gb18030_ranges_pointer c
+  pub ranges_pointer : (c ≡ 0xE7C7 → ⊥) → pointer_in_run c (run_with_pointer GB18030_RANGES_BY_CODE_POINT.now c) ≡ gb18030_ranges_pointer c
   unfolding gb18030_ranges_pointer
   ranges_pointer other = sym (first_pointer _ refl) ∙ sym (cond-false _ _ _ (false_from_ne_true _ (λ t. other (eqb-true c 0xE7C7 t))))
 

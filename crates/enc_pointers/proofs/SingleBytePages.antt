@@ -6,21 +6,21 @@ use Rattle.enc_index.specs.declared.single_byte_index.SingleByteIndex.{SingleByt
 use Rattle.enc_index.specs.declared.single_byte_index.SingleByteIndex.TheVariants.{Ibm866, Iso88592, Iso88593, Iso88594, Iso88595, Iso88596, Iso88597, Iso88598, Iso885910, Iso885913, Iso885914, Iso885915, Iso885916, Koi8R, Koi8U, Macintosh, Windows874, Windows1250, Windows1251, Windows1252, Windows1253, Windows1254, Windows1255, Windows1256, Windows1257, Windows1258, XMacCyrillic}
 use Rattle.enc_index.specs.Index.{index_at}
 use Rattle.enc_index.specs.Runs.{single_byte_runs}
-use Rattle.enc_index.specs.SingleByteTables.{number_of}
+use Rattle.enc_index.specs.SingleByteTables.{table_number}
 use Rattle.enc_index.proofs.SingleByteLemmas.{table_of, single_byte_table}
 use Rattle.enc_pointers.specs.declared.pages.single_byte.TheConstants.{SINGLE_BYTE_PAGE_OF, SINGLE_BYTE_POINTERS}
 use Rattle.enc_pointers.specs.Pages.{pointer_in_pages}
-use Rattle.enc_pointers.specs.Pointers.{always, never, single_byte_pointer}
+use Rattle.enc_pointers.specs.Pointers.{any_pointer, no_character, single_byte_pointer}
 use Rattle.enc_pointers.proofs.PageLemmas.{pages_ok, entries_ok, pointer_in_pages-pointer_of}
 use Rattle.enc_pointers.proofs.Computing.{tests}
 
 abbrev pub page_of : SingleByteIndex → List ℕ
-page_of index = slice_range SINGLE_BYTE_PAGE_OF (number_of index * 1024) (number_of index * 1024 + 1024)
+page_of index = slice_range SINGLE_BYTE_PAGE_OF (table_number index * 1024) (table_number index * 1024 + 1024)
 
 pointers_ok : SingleByteIndex → Bool
 pointers_ok index =
-    pages_ok Basic always never 128 7 14 10 (table_of index) (page_of index) SINGLE_BYTE_POINTERS
-    && entries_ok Basic always never 128 14 10 (table_of index) (page_of index) SINGLE_BYTE_POINTERS
+    pages_ok Basic any_pointer no_character 128 7 14 10 (table_of index) (page_of index) SINGLE_BYTE_POINTERS
+    && entries_ok Basic any_pointer no_character 128 14 10 (table_of index) (page_of index) SINGLE_BYTE_POINTERS
 
 all_pages : (index : SingleByteIndex) → pointers_ok index ≡ true
 unfolding tests pointers_ok
@@ -56,7 +56,8 @@ pub single_byte_pages : (index : SingleByteIndex) (c : ℕ)
     → pointer_in_pages (page_of index) SINGLE_BYTE_POINTERS 128 c ≡ single_byte_pointer index c
 unfolding pointers_ok single_byte_pointer
 single_byte_pages index c =
-    let parts = and_parts (pages_ok Basic always never 128 7 14 10 (table_of index) (page_of index) SINGLE_BYTE_POINTERS)
-    (entries_ok Basic always never 128 14 10 (table_of index) (page_of index) SINGLE_BYTE_POINTERS) (all_pages index) in
-    pointer_in_pages-pointer_of Basic always never 128 7 14 10 (table_of index) (page_of index) SINGLE_BYTE_POINTERS parts.0 parts.1
+    let parts = and_parts (pages_ok Basic any_pointer no_character 128 7 14 10 (table_of index) (page_of index) SINGLE_BYTE_POINTERS)
+    (entries_ok Basic any_pointer no_character 128 14 10 (table_of index) (page_of index) SINGLE_BYTE_POINTERS)
+    (all_pages index) in
+    pointer_in_pages-pointer_of Basic any_pointer no_character 128 7 14 10 (table_of index) (page_of index) SINGLE_BYTE_POINTERS parts.0 parts.1
     (λ p. index_at Basic (single_byte_runs index) p) (single_byte_table index) c

@@ -5,14 +5,14 @@ use Rattle.enc_index.specs.declared.single_byte_index.SingleByteIndex.{SingleByt
 use Rattle.enc_index.specs.Index.{index_at}
 use Rattle.enc_index.specs.Runs.{single_byte_runs, big5_at, euc_kr_at, gb18030_at, gb18030_ranges_at, jis0208_at}
 
-abbrev pub if_none : Option ℕ → Option ℕ → Option ℕ
-if_none (Some p) other = Some p
-if_none None other = other
+abbrev pub pointer_or : Option ℕ → Option ℕ → Option ℕ
+pointer_or (Some p) other = Some p
+pointer_or None other = other
 
 -- the first number below n that passes a test
 unfoldable pub first_below : (ℕ → Bool) → ℕ → Option ℕ
 first_below test zero = None
-first_below test (suc n) = if_none (first_below test n) (if test n then Some n else None)
+first_below test (suc n) = pointer_or (first_below test n) (if test n then Some n else None)
 
 -- the last number below n that passes a test
 unfoldable pub last_below : (ℕ → Bool) → ℕ → Option ℕ
@@ -30,34 +30,34 @@ pointer_of at counts is_by_last bound c =
     if is_by_last c then last_below (λ p. counts p && is_character c (at p)) bound
     else first_below (λ p. counts p && is_character c (at p)) bound
 
-abbrev pub never : ℕ → Bool
-never n = false
+abbrev pub no_character : ℕ → Bool
+no_character n = false
 
-abbrev pub always : ℕ → Bool
-always n = true
+abbrev pub any_pointer : ℕ → Bool
+any_pointer n = true
 
 -- the index pointer in a single-byte index
 unfoldable pub single_byte_pointer : SingleByteIndex → ℕ → Option ℕ
-single_byte_pointer index c = pointer_of (λ p. index_at Basic (single_byte_runs index) p) always never 128 c
+single_byte_pointer index c = pointer_of (λ p. index_at Basic (single_byte_runs index) p) any_pointer no_character 128 c
 
 -- the index pointer in index EUC-KR
 unfoldable pub euc_kr_pointer : ℕ → Option ℕ
-euc_kr_pointer c = pointer_of euc_kr_at always never 23940 c
+euc_kr_pointer c = pointer_of euc_kr_at any_pointer no_character 23940 c
 
 -- the index pointer in index gb18030
 unfoldable pub gb18030_pointer : ℕ → Option ℕ
-gb18030_pointer c = pointer_of gb18030_at always never 23940 c
+gb18030_pointer c = pointer_of gb18030_at any_pointer no_character 23940 c
 
 -- the index pointer in index jis0208, of the rows that EUC-JP and ISO-2022-JP have bytes for
 unfoldable pub jis0208_pointer : ℕ → Option ℕ
-jis0208_pointer c = pointer_of jis0208_at always never 8836 c
+jis0208_pointer c = pointer_of jis0208_at any_pointer no_character 8836 c
 
 -- the index Shift_JIS pointer: without the entries that NEC selected of IBM's
 abbrev pub is_shift_jis_pointer : ℕ → Bool
 is_shift_jis_pointer p = not (nat_le 8272 p && nat_le p 8835)
 
 unfoldable pub shift_jis_pointer : ℕ → Option ℕ
-shift_jis_pointer c = pointer_of jis0208_at is_shift_jis_pointer never 11280 c
+shift_jis_pointer c = pointer_of jis0208_at is_shift_jis_pointer no_character 11280 c
 
 -- the index Big5 pointer: past the Hong Kong additions that stand first, and the last for six characters
 abbrev pub is_big5_pointer : ℕ → Bool
@@ -75,4 +75,4 @@ is_ranges_pointer p = not (p == 7457) && (nat_le p 39419 || nat_le 189000 p)
 
 unfoldable pub gb18030_ranges_pointer : ℕ → Option ℕ
 gb18030_ranges_pointer c =
-    if c == 0xE7C7 then Some 7457 else pointer_of gb18030_ranges_at is_ranges_pointer never 1237576 c
+    if c == 0xE7C7 then Some 7457 else pointer_of gb18030_ranges_at is_ranges_pointer no_character 1237576 c

@@ -8,25 +8,25 @@ use Rattle.enc_units.specs.Validity.{AreAscii}
 use Rattle.enc_units.proofs.ScalarLemmas.{ascii_scalars}
 use Rattle.enc_units.proofs.Utf8SliceLemmas.{ascii_units}
 use Rattle.enc_machine.specs.declared.byte_codec.Kind.TheVariants.{Valid}
-use Rattle.enc_machine.specs.Sequence.{Sequence, text_of, any_malformed}
+use Rattle.enc_machine.specs.Sequence.{Sequence, sequence_text, any_malformed}
 use Rattle.enc_machine.specs.Segmentation.{Rule, sequences_of}
 use Rattle.enc_codec.specs.Properties.{IsAsciiCompatible}
-use Rattle.encoding_rs.specs.LifeCycle.{phase_of, mark_in, encoding_by, sequences_in}
+use Rattle.encoding_rs.specs.LifeCycle.{phase_of, mark_in, encoding_of_mark_or, sequences_in}
 use Rattle.encoding_rs.specs.Encodings.{rule_of}
-use Rattle.encoding_rs.specs.Decoding.{DecoderState, finished, has_ended, remaining_sequences}
-use Rattle.encoding_rs.specs.Latin1.{MayBeLatin1}
-use Rattle.enc_reader.specs.Source.{TellsNoMore}
-use Rattle.enc_reader.specs.Reading.{ReaderState, Reads, HandsOut, FailsToRead, owed}
-use Rattle.enc_reader.specs.Turn.{Fills, IsOwnText}
-use Rattle.enc_reader.proofs.SourceLemmas.{TellsNext-none}
-use Rattle.enc_reader.proofs.ReadingLemmas.{Reads-none, Reads-then, before_end, left_of, handed_utf_8}
+use Rattle.encoding_rs.specs.Decoding.{DecoderState, has_finished, has_ended, remaining_sequences}
+use Rattle.encoding_rs.specs.Latin1.{DecoderMayBeLatin1}
+use Rattle.enc_reader.specs.Source.{IsExhausted}
+use Rattle.enc_reader.specs.Reading.{ReaderState, ReadsOwed, HandsOut, FailsToRead, owed_sequences}
+use Rattle.enc_reader.specs.Turn.{FillsBuffer, IsOwnText}
+use Rattle.enc_reader.proofs.SourceLemmas.{ConsumesRemaining-none}
+use Rattle.enc_reader.proofs.ReadingLemmas.{ReadsOwed-none, ReadsOwed-then, before_end, left_of, handed_utf_8}
 
 -- the sequences of ASCII bytes
 abbrev own : List ℕ → List Sequence
 own [] = []
 own (b ∷ bs) = record { bytes = b ∷ []; text = b ∷ []; kind = Valid; set = 0 } ∷ own bs
 
-own_text : (bs : List ℕ) → text_of (own bs) ≡ bs
+own_text : (bs : List ℕ) → sequence_text (own bs) ≡ bs
 own_text [] = refl
 own_text (b ∷ bs) = ap (λ x. b ∷ x) (own_text bs)
 
@@ -41,17 +41,17 @@ own_first rule c (b ∷ bs) z a =
     c b (a 0 0 (omega arith)) (bs ++ z)
     ∙ ap (λ ss. record { bytes = b ∷ []; text = b ∷ []; kind = Valid; set = 0 } ∷ ss) (own_first rule c bs z (λ k d h. a (suc k) d (omega arith)))
 
-module _ (d : DecoderState) (m : MayBeLatin1 d) where
+module _ (d : DecoderState) (m : DecoderMayBeLatin1 d) where
   between_sequences : (y : List ℕ) → remaining_sequences d y ≡ sequences_of (rule_of d.encoding) 0 y
   between_sequences y =
       ap (λ l. sequences_in (phase_of l) d.encoding d.set (d.pending ++ y)) m.converting
       ∙ ap (λ p. sequences_of (rule_of d.encoding) d.set (p ++ y)) m.none_pending
       ∙ ap (λ s. sequences_of (rule_of d.encoding) s y) m.at_start
 
-  no_mark : (y : List ℕ) → encoding_by (mark_in (phase_of d.life) y) d.encoding ≡ d.encoding
-  no_mark y = ap (λ l. encoding_by (mark_in (phase_of l) y) d.encoding) m.converting
+  no_mark : (y : List ℕ) → encoding_of_mark_or (mark_in (phase_of d.life) y) d.encoding ≡ d.encoding
+  no_mark y = ap (λ l. encoding_of_mark_or (mark_in (phase_of l) y) d.encoding) m.converting
 
-  unfinished : finished d ≡ false
+  unfinished : has_finished d ≡ false
   unfinished = ap has_ended m.converting
 
 -- what is lent of a chunk
@@ -62,7 +62,7 @@ module _ (d : DecoderState) (src : List ℕ) (ended : Bool) (n : ℕ) (within : 
   abbrev after : ReaderState
   after = record { decoder = d; unread = drop n src; ended = ended }
 
-  comes_first : (z : List ℕ) → owed before z ≡ own (take n src) ++ owed after z
+  comes_first : (z : List ℕ) → owed_sequences before z ≡ own (take n src) ++ owed_sequences after z
   comes_first z =
       between_sequences d o.between (src ++ z)
       ∙ ap (λ x. sequences_of (rule_of d.encoding) 0 (x ++ z)) (sym (take-append-drop n src))
@@ -70,9 +70,9 @@ module _ (d : DecoderState) (src : List ℕ) (ended : Bool) (n : ℕ) (within : 
       ∙ own_first (rule_of d.encoding) o.compatible (take n src) (drop n src ++ z) o.ascii
       ∙ ap (λ ss. own (take n src) ++ ss) (sym (between_sequences d o.between (drop n src ++ z)))
 
-  pub Reads-lent : (told : Option (List ℕ)) → Reads told told before after [] (take n src) false
-  Reads-lent told = record {
-    given = TellsNext-none told;
+  pub ReadsOwed-lent : (told : Option (List ℕ)) → ReadsOwed told told before after [] (take n src) false
+  ReadsOwed-lent told = record {
+    given = ConsumesRemaining-none told;
     none_behind = λ e. (refl, e);
     done = own (take n src);
     residual = λ z h. comes_first z;
@@ -88,19 +88,19 @@ or_false true = refl
 or_false false = refl
 
 pub HandsOut-lent : (told : Option (List ℕ)) (d : DecoderState) (src : List ℕ) (ended : Bool) (n : ℕ) (had : Bool) → n ≤ length src
-    → IsOwnText d (take n src) → (ended ≡ true → TellsNoMore told)
+    → IsOwnText d (take n src) → (ended ≡ true → IsExhausted told)
     → HandsOut told told (record { decoder = d; unread = src; ended = ended }) (record { decoder = d; unread = drop n src; ended = ended }) (take n src) had had
 HandsOut-lent told d src ended n had within o none = record {
   bytes = [];
   malformed = false;
-  reads = Reads-lent d src ended n within o told;
+  reads = ReadsOwed-lent d src ended n within o told;
   flag = or_false had;
   none_told = none;
 }
 
 -- the same, by places in the buffer
 pub HandsOut-chunk : (told : Option (List ℕ)) (d : DecoderState) (filled at n : ℕ) (xs : List ℕ) (ended had : Bool) → at ≤ filled → filled ≤ length xs
-    → n ≤ filled - at → IsOwnText d (take n (take (filled - at) (drop at xs))) → (ended ≡ true → TellsNoMore told)
+    → n ≤ filled - at → IsOwnText d (take n (take (filled - at) (drop at xs))) → (ended ≡ true → IsExhausted told)
     → HandsOut told told (record { decoder = d; unread = take (filled - at) (drop at xs); ended = ended })
     (record { decoder = d; unread = take (filled - (at + n)) (drop (at + n) xs); ended = ended }) (take n (drop (at + n - n) xs)) had had
 HandsOut-chunk told d filled at n xs ended had h w within o none =
@@ -121,15 +121,15 @@ pub FailsToRead-pull : (t₀ t₁ : Option (List ℕ)) (failed_before failed_aft
     → a.ended ≡ false → failed_before ≡ false → FailsToRead t₀ t₁ failed_before failed_after a b
 FailsToRead-pull t₀ t₁ failed_before failed_after a b same failed stays unended going =
     rw (same, stays)
-    (record { bytes = []; malformed = false; reads = Reads-none t₀ a; not_ended = unended; not_before = going; why = inl failed })
+    (record { bytes = []; malformed = false; reads = ReadsOwed-none t₀ a; not_ended = unended; not_before = going; why = inl failed })
 
 -- a read after a chunk was pulled
-module _ (t₀ t₁ t₂ : Option (List ℕ)) (a b c : ReaderState) (f : Fills t₀ t₁ a b) where
+module _ (t₀ t₁ t₂ : Option (List ℕ)) (a b c : ReaderState) (f : FillsBuffer t₀ t₁ a b) where
   pub HandsOut-filled : (wrote : List ℕ) (had_before had_after : Bool) → HandsOut t₁ t₂ b c wrote had_before had_after → HandsOut t₀ t₂ a c wrote had_before had_after
   HandsOut-filled wrote had_before had_after h = record {
     bytes = f.bytes ++ h.bytes;
     malformed = h.malformed;
-    reads = Reads-then t₀ t₁ t₂ a b c f.bytes h.bytes [] wrote false h.malformed f.reads h.reads;
+    reads = ReadsOwed-then t₀ t₁ t₂ a b c f.bytes h.bytes [] wrote false h.malformed f.reads h.reads;
     flag = h.flag;
     none_told = h.none_told;
   }
@@ -138,7 +138,7 @@ module _ (t₀ t₁ t₂ : Option (List ℕ)) (a b c : ReaderState) (f : Fills t
   FailsToRead-filled failed_before failed_between failed_after e h = record {
     bytes = f.bytes ++ h.bytes;
     malformed = h.malformed;
-    reads = Reads-then t₀ t₁ t₂ a b c f.bytes h.bytes [] [] false h.malformed f.reads h.reads;
+    reads = ReadsOwed-then t₀ t₁ t₂ a b c f.bytes h.bytes [] [] false h.malformed f.reads h.reads;
     not_ended = h.not_ended;
     not_before = sym e ∙ h.not_before;
     why = elim h.why [

@@ -3,7 +3,7 @@ use Rattle.std.proofs.Common.{◌≡◌, ℕ, List, [], ◌++◌, Option, Some, 
 use Rattle.std.specs.declared.result.Result.{Result}
 use Rattle.std.specs.Prelude.{Ok, Err, OnErr}
 use Rattle.std.specs.Io.KnownBytes.{prepend_known, IsAtEnd}
-use Rattle.enc_reader.specs.Source.{TellsNext, TellsNoMore}
+use Rattle.enc_reader.specs.Source.{ConsumesRemaining, IsExhausted}
 
 prepend_known-nil : (known : Option (List ℕ)) → prepend_known [] known ≡ known
 prepend_known-nil None = refl
@@ -13,18 +13,18 @@ prepend_known-append : (known : Option (List ℕ)) (a b : List ℕ) → prepend_
 prepend_known-append None a b = refl
 prepend_known-append (Some xs) a b = ap Some (sym (append_assoc a b xs))
 
-pub TellsNext-none : (known : Option (List ℕ)) → TellsNext known known []
-TellsNext-none known = sym (prepend_known-nil known)
+pub ConsumesRemaining-none : (known : Option (List ℕ)) → ConsumesRemaining known known []
+ConsumesRemaining-none known = sym (prepend_known-nil known)
 
-pub TellsNext-then : (k₀ k₁ k₂ : Option (List ℕ)) (a b : List ℕ) → TellsNext k₀ k₁ a → TellsNext k₁ k₂ b → TellsNext k₀ k₂ (a ++ b)
-TellsNext-then k₀ k₁ k₂ a b h₁ h₂ = h₁ ∙ ap (λ k. prepend_known a k) h₂ ∙ prepend_known-append k₂ a b
+pub ConsumesRemaining-then : (k₀ k₁ k₂ : Option (List ℕ)) (a b : List ℕ) → ConsumesRemaining k₀ k₁ a → ConsumesRemaining k₁ k₂ b → ConsumesRemaining k₀ k₂ (a ++ b)
+ConsumesRemaining-then k₀ k₁ k₂ a b h₁ h₂ = h₁ ∙ ap (λ k. prepend_known a k) h₂ ∙ prepend_known-append k₂ a b
 
 -- At the end no byte is still to come.
-pub none_more : (told : Option (List ℕ)) → IsAtEnd told → TellsNoMore told
+pub none_more : (told : Option (List ℕ)) → IsAtEnd told → IsExhausted told
 none_more None e = refl
 none_more (Some xs) e = ap Some e
 
-pub at_end : (told : Option (List ℕ)) → TellsNoMore told → IsAtEnd told
+pub at_end : (told : Option (List ℕ)) → IsExhausted told → IsAtEnd told
 at_end None e = tt
 at_end (Some xs) e = cc
 

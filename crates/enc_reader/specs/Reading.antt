@@ -3,12 +3,12 @@ use Rattle.std.specs.Prelude.{◌≡◌, ℕ, ◌+◌, ◌*◌, ◌-◌, ◌^◌
 use Rattle.std.specs.Char.{encode_utf8}
 use Rattle.std.specs.Io.KnownBytes.{IsAtEnd}
 use Rattle.enc_units.specs.Output.{AreScalars, units_of_text}
-use Rattle.enc_machine.specs.Sequence.{Sequence, text_of, any_malformed}
+use Rattle.enc_machine.specs.Sequence.{Sequence, sequence_text, any_malformed}
 use Rattle.encoding_rs.specs.declared.bom.BomHandling.TheVariants.{Sniff}
 use Rattle.encoding_rs.specs.declared.encoding.Encoding.{Encoding}
-use Rattle.encoding_rs.specs.LifeCycle.{phase_of, mark_in, encoding_by}
-use Rattle.encoding_rs.specs.Decoding.{DecoderState, finished, fresh, remaining_sequences}
-use Rattle.enc_reader.specs.Source.{TellsNext, TellsNoMore}
+use Rattle.encoding_rs.specs.LifeCycle.{phase_of, mark_in, encoding_of_mark_or}
+use Rattle.encoding_rs.specs.Decoding.{DecoderState, has_finished, fresh_decoder, remaining_sequences}
+use Rattle.enc_reader.specs.Source.{ConsumesRemaining, IsExhausted}
 
 -- A reader between two reads: its decoder, the bytes that the source has given and that are not decoded yet, and whether the
 -- source has come to its end.
@@ -19,59 +19,60 @@ pub record ReaderState : Type 0 where
 
 -- one that has read nothing
 abbrev pub fresh_reader : Encoding → ReaderState
-fresh_reader e = record { decoder = fresh Sniff e; unread = []; ended = false }
+fresh_reader e = record { decoder = fresh_decoder Sniff e; unread = []; ended = false }
 
 -- What a reader owes: the sequences still to come if these bytes are all that its source still gives. Their text is what it
 -- still has to hand out.
-abbrev pub owed : ReaderState → List ℕ → List Sequence
-owed s z = remaining_sequences s.decoder (s.unread ++ z)
+abbrev pub owed_sequences : ReaderState → List ℕ → List Sequence
+owed_sequences s z = remaining_sequences s.decoder (s.unread ++ z)
 
 -- The encoding of all that it owes then: that of the mark in front of it, where one may still come, or else its decoder's.
 abbrev pub owed_encoding : ReaderState → List ℕ → Encoding
-owed_encoding s z = encoding_by (mark_in (phase_of s.decoder.life) (s.decoder.pending ++ (s.unread ++ z))) s.decoder.encoding
+owed_encoding s z = encoding_of_mark_or (mark_in (phase_of s.decoder.life) (s.decoder.pending ++ (s.unread ++ z))) s.decoder.encoding
 
 -- How far a reader is from the end: bytes that are not decoded count twice, those pending once, and so does the end.
-abbrev pub distance : ReaderState → ℕ
-distance s = if finished s.decoder then 0 else 1 + (2 * length s.unread + length s.decoder.pending)
+abbrev pub distance_to_end : ReaderState → ℕ
+distance_to_end s = if has_finished s.decoder then 0 else 1 + (2 * length s.unread + length s.decoder.pending)
 
 -- What is handed out of what is owed, while the source gives these bytes.
-pub record Reads (told_before told_after : Option (List ℕ)) (old new : ReaderState) (bytes wrote : List ℕ) (malformed : Bool) : Type 0 where
-  pub given : TellsNext told_before told_after bytes
+pub record ReadsOwed (told_before told_after : Option (List ℕ)) (old new : ReaderState) (bytes wrote : List ℕ) (malformed : Bool) : Type 0 where
+  pub given : ConsumesRemaining told_before told_after bytes
   -- It gives none behind its end.
   pub none_behind : old.ended ≡ true → (bytes ≡ []) × (new.ended ≡ true)
   -- The sequences owed before are those that are done and those owed now, whatever the source still gives.
   pub done : List Sequence
-  pub residual : (z : List ℕ) → (new.ended ≡ true → z ≡ []) → owed old (bytes ++ z) ≡ done ++ owed new z
+  pub residual : (z : List ℕ) → (new.ended ≡ true → z ≡ [])
+      → owed_sequences old (bytes ++ z) ≡ done ++ owed_sequences new z
   pub encoding : (z : List ℕ) → (new.ended ≡ true → z ≡ []) → owed_encoding new z ≡ owed_encoding old (bytes ++ z)
   -- What is handed out is their text, in whole characters.
-  pub scalars : AreScalars (text_of done)
-  pub text : wrote ≡ units_of_text encode_utf8 (text_of done)
+  pub scalars : AreScalars (sequence_text done)
+  pub text : wrote ≡ units_of_text encode_utf8 (sequence_text done)
   pub flag : malformed ≡ any_malformed done
   -- Where it is some, the reader is nearer to the end.
-  pub nearer : distance new + min 1 (length wrote) ≤ distance old + 2 * length bytes
+  pub nearer : distance_to_end new + min 1 (length wrote) ≤ distance_to_end old + 2 * length bytes
 
 -- A read that is answered: it is kept whether U+FFFD was handed out for something malformed, and once the end of the source was
 -- seen it tells no byte more.
 pub record HandsOut (told_before told_after : Option (List ℕ)) (old new : ReaderState) (wrote : List ℕ) (had_before had_after : Bool) : Type 0 where
   pub bytes : List ℕ
   pub malformed : Bool
-  pub reads : Reads told_before told_after old new bytes wrote malformed
+  pub reads : ReadsOwed told_before told_after old new bytes wrote malformed
   pub flag : had_after ≡ (had_before || malformed)
-  pub none_told : new.ended ≡ true → TellsNoMore told_after
+  pub none_told : new.ended ≡ true → IsExhausted told_after
 
 -- The end: the source has come to its own and tells no byte, and nothing is owed.
-pub record IsAtItsEnd (told : Option (List ℕ)) (s : ReaderState) : Type 0 where
+pub record IsReaderAtEnd (told : Option (List ℕ)) (s : ReaderState) : Type 0 where
   pub seen : s.ended ≡ true
   pub none_told : IsAtEnd told
-  pub finished : finished s.decoder ≡ true
-  pub none_owed : owed s [] ≡ []
+  pub finished : has_finished s.decoder ≡ true
+  pub none_owed : owed_sequences s [] ≡ []
 
 -- A failed read: it hands out nothing and has seen no end. Either the source, which had not failed before, failed in this read, or
 -- it gave at least 2^64 - 1 bytes.
 pub record FailsToRead (told_before told_after : Option (List ℕ)) (failed_before failed_after : Bool) (old new : ReaderState) : Type 0 where
   pub bytes : List ℕ
   pub malformed : Bool
-  pub reads : Reads told_before told_after old new bytes [] malformed
+  pub reads : ReadsOwed told_before told_after old new bytes [] malformed
   pub not_ended : new.ended ≡ false
   pub not_before : failed_before ≡ false
   pub why : (failed_after ≡ true) ⊎ (2 ^ 64 - 1 ≤ length bytes)

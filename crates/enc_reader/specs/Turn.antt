@@ -3,35 +3,35 @@ use Rattle.std.specs.Prelude.{◌≡◌, ℕ, ◌<◌, Bool, true, false, List, 
 use Rattle.enc_units.specs.Validity.{AreAscii}
 use Rattle.enc_codec.specs.Properties.{IsAsciiCompatible}
 use Rattle.encoding_rs.specs.Encodings.{rule_of}
-use Rattle.encoding_rs.specs.Decoding.{DecoderState, finished}
-use Rattle.encoding_rs.specs.Latin1.{MayBeLatin1}
-use Rattle.enc_reader.specs.Reading.{ReaderState, Reads}
+use Rattle.encoding_rs.specs.Decoding.{DecoderState, has_finished}
+use Rattle.encoding_rs.specs.Latin1.{DecoderMayBeLatin1}
+use Rattle.enc_reader.specs.Reading.{ReaderState, ReadsOwed}
 
 -- A reader that has nothing to decode, and whose source has not come to its end.
 pub record IsWaiting (s : ReaderState) : Type 0 where
   pub unread : s.unread ≡ []
   pub not_ended : s.ended ≡ false
-  pub going : finished s.decoder ≡ false
+  pub going : has_finished s.decoder ≡ false
 
 -- A chunk is pulled: some bytes, or the end of the source.
-pub record Pulls (told_before told_after : Option (List ℕ)) (old new : ReaderState) : Type 0 where
+pub record PullsChunk (told_before told_after : Option (List ℕ)) (old new : ReaderState) : Type 0 where
   pub bytes : List ℕ
-  pub reads : Reads told_before told_after old new bytes [] false
+  pub reads : ReadsOwed told_before told_after old new bytes [] false
   pub some : new.ended ≡ false → 0 < length bytes
 
 -- A turn hands out text, or is at the end, or waits for more bytes. The source gives none in it, whatever it tells.
 pub record IsTurn (old new : ReaderState) (wrote : List ℕ) (replaced waits : Bool) : Type 0 where
-  pub reads : (told : Option (List ℕ)) → Reads told told old new [] wrote replaced
+  pub reads : (told : Option (List ℕ)) → ReadsOwed told told old new [] wrote replaced
   pub waiting : waits ≡ true → IsWaiting new
-  pub text_or_end : waits ≡ false → wrote ≡ [] → finished new.decoder ≡ true
+  pub text_or_end : waits ≡ false → wrote ≡ [] → has_finished new.decoder ≡ true
 
 -- A chunk is pulled where every byte is decoded, and nothing is handed out.
-pub record Fills (told_before told_after : Option (List ℕ)) (old new : ReaderState) : Type 0 where
+pub record FillsBuffer (told_before told_after : Option (List ℕ)) (old new : ReaderState) : Type 0 where
   pub bytes : List ℕ
-  pub reads : Reads told_before told_after old new bytes [] false
+  pub reads : ReadsOwed told_before told_after old new bytes [] false
 
 -- ASCII bytes that are offered next, to a decoder between two sequences of an ASCII-compatible encoding: they are their own text.
 pub record IsOwnText (d : DecoderState) (bytes : List ℕ) : Type 0 where
-  pub between : MayBeLatin1 d
+  pub between : DecoderMayBeLatin1 d
   pub compatible : IsAsciiCompatible (rule_of d.encoding)
   pub ascii : AreAscii bytes

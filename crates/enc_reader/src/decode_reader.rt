@@ -4,8 +4,8 @@ ghost use Rattle.std.specs.Prelude.{◌≡◌, ◌↔◌, ◌-◌, ◌<◌, ◌�
 ghost use Rattle.encoding_rs.specs.declared.bom.BomHandling.TheVariants.{Sniff};
 ghost use Rattle.encoding_rs.specs.declared.encoding.TheConstants.{UTF_8};
 ghost use Rattle.std.specs.Char.{encode_utf8};
-ghost use Rattle.encoding_rs.specs.Decoding.{finished, ConvertsReplacing};
-ghost use Rattle.enc_reader.specs.Source.{TellsNoMore};
+ghost use Rattle.encoding_rs.specs.Decoding.{has_finished, AnswersDecodeReplacing};
+ghost use Rattle.enc_reader.specs.Source.{IsExhausted};
 ghost use Rattle.std.proofs.Props.{props};
 
 use crate::source::Source;
@@ -27,7 +27,7 @@ pub enum ReadFault {
 
 /// The text of a read that may lend it: [`DecodeReader::text`] has the bytes.
 #[derive(Clone, Copy, Debug)]
-pub struct Handed {
+pub struct HandedText {
     /// How many bytes it has.
     len: usize,
     /// Whether they stand in the reader's own buffer, before the bytes that are not decoded yet.
@@ -70,10 +70,10 @@ fn decode_between(
     dst: &mut [u8],
     last: bool,
 ) -> (CoderResult, usize, usize, bool)
-    requires going { finished decoder.old ≡ false }
+    requires going { has_finished decoder.old ≡ false }
     requires before { at ≤ filled }
     requires within { filled ≤ length input.old }
-    ensures call { ConvertsReplacing encode_utf8 4 decoder.old decoder.new (take (filled - at) (drop at input.old)) last (length dst.old)
+    ensures call { AnswersDecodeReplacing encode_utf8 4 decoder.old decoder.new (take (filled - at) (drop at input.old)) last (length dst.old)
         result.0 result.1 (take result.2 dst.new) result.3 }
     ensures written { result.2 ≤ length dst.old }
     ensures behind { drop result.2 dst.new ≡ drop result.2 dst.old }
@@ -102,16 +102,17 @@ pub struct DecodeReader<'a, R: Source> {
     ghost decoded: { at ≤ filled },
     ghost within: { filled ≤ length input.now },
     ghost some: { 0 < length input.now },
-    ghost seen: { finished decoder ≡ true → ended ≡ true },
-    ghost none_told: { ended ≡ true → TellsNoMore (R.told reader.now) } by { Prim.hlevel props },
+    ghost seen: { has_finished decoder ≡ true → ended ≡ true },
+    ghost none_told: { ended ≡ true
+        → IsExhausted (R.remaining reader.now) } by { Prim.hlevel props },
     ghost going: { failed ≡ false → R.has_failed reader.now ≡ false },
 }
 
 impl<'a, R: Source> DecodeReader<'a, R> {
     ghost use Rattle.std.specs.Prelude.{ℕ, List};
     ghost use Rattle.encoding_rs.specs.Decoding.{whole_encoding, whole_sequences};
-    ghost use Rattle.enc_reader.specs.Reading.{FailsToRead, HandsOut, IsAtItsEnd, fresh_reader, owed, owed_encoding};
-    ghost use Rattle.enc_reader.specs.Turn.{Fills, IsOwnText, IsTurn, IsWaiting, Pulls};
+    ghost use Rattle.enc_reader.specs.Reading.{FailsToRead, HandsOut, IsReaderAtEnd, fresh_reader, owed_sequences, owed_encoding};
+    ghost use Rattle.enc_reader.specs.Turn.{FillsBuffer, IsOwnText, IsTurn, IsWaiting, PullsChunk};
     ghost use Rattle.enc_reader.specs.Reader.{IsAtHand, handed_text, state_of, written_len};
 
     /// A reader of `reader`, through the buffer `input`, which decodes by `encoding`, or by UTF-8 where none is given, unless a
@@ -124,7 +125,7 @@ impl<'a, R: Source> DecodeReader<'a, R> {
     ) -> DecodeReader<'a, R>
         requires { 0 < length input.old }
         ensures fresh { state_of result ≡ fresh_reader (unwrap_or encoding UTF_8) }
-        ensures owed { (z : List ℕ) → owed (state_of result) z ≡ whole_sequences Sniff (unwrap_or encoding UTF_8) z }
+        ensures owed { (z : List ℕ) → owed_sequences (state_of result) z ≡ whole_sequences Sniff (unwrap_or encoding UTF_8) z }
         ensures encoding { (z : List ℕ) → owed_encoding (state_of result) z ≡ whole_encoding Sniff (unwrap_or encoding UTF_8) z }
         ensures failed { result.failed ≡ R.has_failed reader.old }
         ensures no_errors { result.had_errors ≡ false }
@@ -149,10 +150,10 @@ impl<'a, R: Source> DecodeReader<'a, R> {
     fn pull(&mut self) -> Result<(), ReadFault>
         requires waiting { IsWaiting (state_of self.old) }
         requires going { self.old.failed ≡ false }
-        ensures ok { OnOk result (Pulls (R.told self.old.reader.now) (R.told self.new.reader.now) (state_of self.old) (state_of self.new)) }
+        ensures ok { OnOk result (PullsChunk (R.remaining self.old.reader.now) (R.remaining self.new.reader.now) (state_of self.old) (state_of self.new)) }
         ensures kept { OnOk result (R.has_failed self.new.reader.now ≡ R.has_failed self.old.reader.now) }
         ensures going { OnOk result (self.new.failed ≡ self.old.failed) }
-        ensures none_given { OnErr result (R.told self.new.reader.now ≡ R.told self.old.reader.now) }
+        ensures none_given { OnErr result (R.remaining self.new.reader.now ≡ R.remaining self.old.reader.now) }
         ensures err { OnErr result (R.has_failed self.new.reader.now ≡ true) }
         ensures failed { OnErr result (self.new.failed ≡ true) }
         ensures same { OnErr result (state_of self.new ≡ state_of self.old) }
@@ -214,16 +215,16 @@ impl<'a, R: Source> DecodeReader<'a, R> {
     /// tried again), and `Failed` from then on. The bytes of `dst` behind those written stay. Takes no memory.
     pub fn read_str(&mut self, dst: &mut [u8]) -> Result<usize, ReadFault>
         requires { 4 ≤ length dst.old }
-        ensures ok { IfOk result (λ n. HandsOut (R.told self.old.reader.now) (R.told self.new.reader.now) (state_of self.old) (state_of self.new)
+        ensures ok { IfOk result (λ n. HandsOut (R.remaining self.old.reader.now) (R.remaining self.new.reader.now) (state_of self.old) (state_of self.new)
             (take n dst.new) self.old.had_errors self.new.had_errors) }
         ensures within { IfOk result (λ n. n ≤ length dst.new) }
         ensures utf_8 { IfOk result (λ n. IsUtf8 (take n dst.new)) }
         ensures behind { IfOk result (λ n. drop n dst.new ≡ drop n dst.old) }
-        ensures end { IfOk result (λ n. n ≡ 0 → IsAtItsEnd (R.told self.new.reader.now) (state_of self.new)) }
+        ensures end { IfOk result (λ n. n ≡ 0 → IsReaderAtEnd (R.remaining self.new.reader.now) (state_of self.new)) }
         ensures kept { OnOk result (R.has_failed self.new.reader.now ≡ R.has_failed self.old.reader.now) }
         ensures unwritten { OnErr result (dst.new ≡ dst.old) }
         ensures no_error { OnErr result (self.new.had_errors ≡ self.old.had_errors) }
-        ensures reader_fault { IsErrOf result ReadFault.Reader → FailsToRead (R.told self.old.reader.now) (R.told self.new.reader.now)
+        ensures reader_fault { IsErrOf result ReadFault.Reader → FailsToRead (R.remaining self.old.reader.now) (R.remaining self.new.reader.now)
             (R.has_failed self.old.reader.now) (R.has_failed self.new.reader.now) (state_of self.old) (state_of self.new) }
         ensures from_then_on { IsErrOf result ReadFault.Failed ↔ self.old.failed ≡ true }
         ensures unchanged { IsErrOf result ReadFault.Failed → self.new ≡ self.old }
@@ -255,10 +256,10 @@ impl<'a, R: Source> DecodeReader<'a, R> {
     /// the source has failed.
     fn fill(&mut self) -> Result<(), ReadFault>
         requires going { self.old.failed ≡ false }
-        ensures ok { OnOk result (Fills (R.told self.old.reader.now) (R.told self.new.reader.now) (state_of self.old) (state_of self.new)) }
+        ensures ok { OnOk result (FillsBuffer (R.remaining self.old.reader.now) (R.remaining self.new.reader.now) (state_of self.old) (state_of self.new)) }
         ensures kept { OnOk result (R.has_failed self.new.reader.now ≡ R.has_failed self.old.reader.now) }
         ensures going { OnOk result (self.new.failed ≡ false) }
-        ensures err { OnErr result (FailsToRead (R.told self.old.reader.now) (R.told self.new.reader.now)
+        ensures err { OnErr result (FailsToRead (R.remaining self.old.reader.now) (R.remaining self.new.reader.now)
             (R.has_failed self.old.reader.now) (R.has_failed self.new.reader.now) (state_of self.old) (state_of self.new)) }
         ensures failed { OnErr result (self.new.failed ≡ true) }
         ensures fault { IfErr result (λ fault. fault ≡ ReadFault.Reader) }
@@ -294,19 +295,19 @@ impl<'a, R: Source> DecodeReader<'a, R> {
     ///
     /// What it lends is ASCII that an ASCII-compatible encoding decodes to itself, 4096 bytes and more; `dst` stays then. Errors
     /// are those of `read_str`. Takes no memory.
-    pub fn read_or_lend(&mut self, dst: &mut [u8]) -> Result<Handed, ReadFault>
+    pub fn read_or_lend(&mut self, dst: &mut [u8]) -> Result<HandedText, ReadFault>
         requires { 4 ≤ length dst.old }
-        ensures ok { IfOk result (λ handed. HandsOut (R.told self.old.reader.now) (R.told self.new.reader.now) (state_of self.old) (state_of self.new)
+        ensures ok { IfOk result (λ handed. HandsOut (R.remaining self.old.reader.now) (R.remaining self.new.reader.now) (state_of self.old) (state_of self.new)
             (handed_text self.new dst.new handed) self.old.had_errors self.new.had_errors) }
         ensures at_hand { IfOk result (λ handed. IsAtHand self.new dst.new handed) }
         ensures utf_8 { IfOk result (λ handed. IsUtf8 (handed_text self.new dst.new handed)) }
-        ensures end { IfOk result (λ handed. handed_text self.new dst.new handed ≡ [] → IsAtItsEnd (R.told self.new.reader.now) (state_of self.new)) }
+        ensures end { IfOk result (λ handed. handed_text self.new dst.new handed ≡ [] → IsReaderAtEnd (R.remaining self.new.reader.now) (state_of self.new)) }
         ensures rest { IfOk result (λ handed. drop (written_len handed) dst.new ≡ drop (written_len handed) dst.old) }
         ensures length { length dst.new ≡ length dst.old }
         ensures kept { OnOk result (R.has_failed self.new.reader.now ≡ R.has_failed self.old.reader.now) }
         ensures unwritten { OnErr result (dst.new ≡ dst.old) }
         ensures no_error { OnErr result (self.new.had_errors ≡ self.old.had_errors) }
-        ensures reader_fault { IsErrOf result ReadFault.Reader → FailsToRead (R.told self.old.reader.now) (R.told self.new.reader.now)
+        ensures reader_fault { IsErrOf result ReadFault.Reader → FailsToRead (R.remaining self.old.reader.now) (R.remaining self.new.reader.now)
             (R.has_failed self.old.reader.now) (R.has_failed self.new.reader.now) (state_of self.old) (state_of self.new) }
         ensures from_then_on { IsErrOf result ReadFault.Failed ↔ self.old.failed ≡ true }
         ensures unchanged { IsErrOf result ReadFault.Failed → self.new ≡ self.old }
@@ -321,14 +322,14 @@ impl<'a, R: Source> DecodeReader<'a, R> {
         let len = self.ascii_ahead();
         if len >= LEAST_LENT {
             self.at += len;
-            return Ok(Handed { len, lent: true });
+            return Ok(HandedText { len, lent: true });
         }
         let len = self.read_str(dst)?;
-        Ok(Handed { len, lent: false })
+        Ok(HandedText { len, lent: false })
     }
 
     /// The text that the last read has handed out, which was given `dst`. Condition: there was no read and no write to `dst` since.
-    pub fn text<'b>(&'b self, dst: &'b [u8], handed: Handed) -> &'b [u8]
+    pub fn text<'b>(&'b self, dst: &'b [u8], handed: HandedText) -> &'b [u8]
         requires { IsAtHand self.now dst.now handed }
         ensures { result.now ≡ handed_text self.now dst.now handed }
     {

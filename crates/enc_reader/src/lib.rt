@@ -5,5 +5,5 @@
 mod decode_reader;
 mod source;
 
-pub use decode_reader::{DecodeReader, Handed, ReadFault};
+pub use decode_reader::{DecodeReader, HandedText, ReadFault};
 pub use source::{FromRead, Source};

@@ -2,14 +2,14 @@
 
 ghost use Rattle.std.specs.Prelude.{◌≡◌, ℕ, List, ◌≤◌, ◌<◌, length, take, Option, Bool, true, false, None, IfOk, OnOk, OnErr};
 ghost use Rattle.std.specs.Io.KnownBytes.{IsAtEnd, ReadConsumes};
-ghost use Rattle.enc_reader.specs.Source.{TellsNext};
+ghost use Rattle.enc_reader.specs.Source.{ConsumesRemaining};
 
 use std::io::Read;
 
 /// Where bytes come from, a buffer at a time.
 pub trait Source {
     // The bytes still to come, where it tells them.
-    ghost told: { Self → Option (List ℕ) };
+    ghost remaining: { Self → Option (List ℕ) };
 
     // Whether a pull has failed.
     ghost has_failed: { Self → Bool };
@@ -19,10 +19,10 @@ pub trait Source {
     fn pull(&mut self, buf: &mut [u8]) -> Result<usize, ()>
         requires going { has_failed self.old ≡ false }
         ensures bound { IfOk result (λ n. n ≤ length buf.new) }
-        ensures bytes { IfOk result (λ n. TellsNext (told self.old) (told self.new) (take n buf.new)) }
-        ensures end { IfOk result (λ n. n ≡ 0 → 0 < length buf.new → IsAtEnd (told self.new)) }
+        ensures bytes { IfOk result (λ n. ConsumesRemaining (remaining self.old) (remaining self.new) (take n buf.new)) }
+        ensures end { IfOk result (λ n. n ≡ 0 → 0 < length buf.new → IsAtEnd (remaining self.new)) }
         ensures ok { OnOk result (has_failed self.new ≡ has_failed self.old) }
-        ensures none_given { OnErr result (told self.new ≡ told self.old) }
+        ensures none_given { OnErr result (remaining self.new ≡ remaining self.old) }
         ensures err { OnErr result (has_failed self.new ≡ true) };
 
     /// Whether a pull has failed.
@@ -51,7 +51,7 @@ impl<R: Read> FromRead<R> {
 }
 
 impl<R: Read> Source for FromRead<R> {
-    ghost told = { λ _. None };
+    ghost remaining = { λ _. None };
 
     ghost has_failed = { λ source. source.failed };
 

@@ -9,21 +9,21 @@ use Rattle.enc_units.proofs.Utf8CharsLemmas.{their_units}
 use Rattle.enc_machine.proofs.SequenceLemmas.{units_of_text-append}
 use Rattle.enc_encoders.specs.declared.character_set.CharacterSet.{CharacterSet}
 use Rattle.enc_encoders.specs.declared.character_set.CharacterSet.TheVariants.{Ascii}
-use Rattle.enc_encoders.specs.Stateless.{stateless}
+use Rattle.enc_encoders.specs.Stateless.{stateless_rule}
 use Rattle.enc_encoders.specs.Utf8.{utf_8_bytes}
-use Rattle.enc_encoders.specs.Text.{bytes_behind, with_references}
-use Rattle.enc_encoders.specs.Steps.{chars_of}
-use Rattle.enc_references.specs.Treatment.{stop_of}
+use Rattle.enc_encoders.specs.Text.{bytes_after_text, with_references}
+use Rattle.enc_encoders.specs.Steps.{step_chars}
+use Rattle.enc_references.specs.ErrorMode.{encoder_result_of}
 use Rattle.enc_references.specs.Unmappable.{any_unmappable}
 use Rattle.enc_references.proofs.UnmappableLemmas.{any_reported_is, any_unmappable-append}
 use Rattle.encoding_rs.specs.declared.encoding.Encoding.{Encoding}
 use Rattle.encoding_rs.specs.declared.encoding.TheConstants.{UTF_8}
 use Rattle.encoding_rs.specs.Encodings.{output_rule}
-use Rattle.encoding_rs.specs.Encoder.{EncoderState, EncodesInto, raw_state, replacing}
-use Rattle.enc_recode.specs.Sink.{TakesMore, TakesPrefix}
-use Rattle.enc_recode.specs.Writing.{bytes_from, EncodesText, HasEncoded, StopsWithin}
-use Rattle.enc_recode.proofs.KnownLemmas.{TakesMore-none, TakesMore-then}
-use Rattle.encoding_rs.proofs.UnreadLemmas.{chars_behind, all_read}
+use Rattle.encoding_rs.specs.Encoder.{EncoderState, EncodesInto, raw_state, html_mode}
+use Rattle.enc_recode.specs.Sink.{AppendsContents, AppendsPrefix}
+use Rattle.enc_recode.specs.Writing.{bytes_from_state, EncodesText, HasEncoded, StopsWithin}
+use Rattle.enc_recode.proofs.SourceSinkLemmas.{AppendsContents-none, AppendsContents-then}
+use Rattle.encoding_rs.proofs.UnreadTextLemmas.{chars_behind, all_read}
 
 pub not_ended : {P : Type 0} → false ≡ true → P
 not_ended e = cc
@@ -37,14 +37,15 @@ EncodesText-none s text last = record { encoding = refl; barred = refl; front = 
 
 -- one call
 pub EncodesText-call : (old new : EncoderState) (text : List ℕ) (last : Bool) (before after : List ℕ) (result : CoderResult) (read written : ℕ) (replaced : Bool)
-    (c : EncodesInto encode_utf8 (replacing old) old new text last before after (stop_of result) read written replaced)
+    (c : EncodesInto encode_utf8 (html_mode old) old new text last before after (encoder_result_of result) read written
+    replaced)
     → EncodesText old new text c.encodes.rest last (take written after) replaced
 EncodesText-call old new text last before after InputEmpty read written replaced c =
     let d = c.encodes.call in
     record {
       encoding = c.encodes.encoding;
       barred = c.encodes.barred;
-      front = chars_of d.done;
+      front = step_chars d.done;
       reads = d.reads;
       residual = d.text;
       flag = d.flag ∙ any_reported_is (raw_state old) (raw_state new) text c.encodes.rest last d.done d.reads d.rule d.remaining;
@@ -54,7 +55,7 @@ EncodesText-call old new text last before after OutputFull read written replaced
     record {
       encoding = c.encodes.encoding;
       barred = c.encodes.barred;
-      front = chars_of d.done;
+      front = step_chars d.done;
       reads = d.reads;
       residual = d.text;
       flag = d.flag ∙ any_reported_is (raw_state old) (raw_state new) text c.encodes.rest last d.done d.reads d.rule d.remaining;
@@ -78,7 +79,7 @@ EncodesText-then a b c text mid unread last w₁ w₂ r₁ r₂ p q = record {
   barred = q.barred ∙ p.barred;
   front = p.front ++ q.front;
   reads = p.reads ∙ ap (λ t. p.front ++ t) q.reads ∙ sym (append_assoc p.front q.front unread);
-  residual = λ z h. p.residual z h ∙ ap (λ t. w₁ ++ t) (q.residual z h) ∙ sym (append_assoc w₁ w₂ (bytes_from c (unread ++ z)));
+  residual = λ z h. p.residual z h ∙ ap (λ t. w₁ ++ t) (q.residual z h) ∙ sym (append_assoc w₁ w₂ (bytes_from_state c (unread ++ z)));
   flag = flags a b p.front q.front r₁ r₂ p.encoding p.barred p.flag q.flag;
 }
 
@@ -90,22 +91,22 @@ EncodesText-more a b c t₁ t₂ last w₁ w₂ r₁ r₂ p q = record {
   barred = q.barred ∙ p.barred;
   front = p.front ++ q.front;
   reads = ap (λ t. t ++ t₂) (p.reads ∙ append-nil p.front) ∙ ap (λ t. p.front ++ t) q.reads ∙ sym (append_assoc p.front q.front []);
-  residual = λ z h. ap (bytes_from a) (append_assoc t₁ t₂ z) ∙ p.residual (t₂ ++ z) (λ f. not_ended f)
-      ∙ ap (λ t. w₁ ++ t) (q.residual z h) ∙ sym (append_assoc w₁ w₂ (bytes_from c z));
+  residual = λ z h. ap (bytes_from_state a) (append_assoc t₁ t₂ z) ∙ p.residual (t₂ ++ z) (λ f. not_ended f)
+      ∙ ap (λ t. w₁ ++ t) (q.residual z h) ∙ sym (append_assoc w₁ w₂ (bytes_from_state c z));
   flag = flags a b p.front q.front r₁ r₂ p.encoding p.barred p.flag q.flag;
 }
 
 -- UTF-8 is written as it is
 
-all_mapped : (t : List ℕ) → any_unmappable (stateless utf_8_bytes) t ≡ false
+all_mapped : (t : List ℕ) → any_unmappable (stateless_rule utf_8_bytes) t ≡ false
 all_mapped [] = refl
 all_mapped (c ∷ t) = all_mapped t
 
-no_references : (t : List ℕ) → with_references (stateless utf_8_bytes) t ≡ t
+no_references : (t : List ℕ) → with_references (stateless_rule utf_8_bytes) t ≡ t
 no_references [] = refl
 no_references (c ∷ t) = ap (λ x. c ∷ x) (no_references t)
 
-behind_is : (u t : List ℕ) → bytes_behind (stateless utf_8_bytes) Ascii u t ≡ units_of_text encode_utf8 t
+behind_is : (u t : List ℕ) → bytes_after_text (stateless_rule utf_8_bytes) Ascii u t ≡ units_of_text encode_utf8 t
 behind_is u [] = refl
 behind_is u (c ∷ t) = ap (λ x. encode_utf8 c ++ x) (behind_is (u ++ c ∷ []) t)
 
@@ -113,8 +114,8 @@ abbrev utf_8_state : EncoderState
 utf_8_state = record { encoding = UTF_8; barred = []; set = Ascii }
 
 -- in UTF-8 the bytes of a text are its code units
-pub bytes_are_units : (t : List ℕ) → bytes_from utf_8_state t ≡ units_of_text encode_utf8 t
-bytes_are_units t = ap (bytes_behind (stateless utf_8_bytes) Ascii []) (no_references t) ∙ behind_is [] t
+pub bytes_are_units : (t : List ℕ) → bytes_from_state utf_8_state t ≡ units_of_text encode_utf8 t
+bytes_are_units t = ap (bytes_after_text (stateless_rule utf_8_bytes) Ascii []) (no_references t) ∙ behind_is [] t
 
 is_utf_8_state : (s : EncoderState) → s.encoding ≡ UTF_8 → (s.set ≡ Ascii) × (s.barred ≡ []) → s ≡ utf_8_state
 is_utf_8_state s e f =
@@ -139,13 +140,13 @@ EncodesText-utf_8 s text last e f u =
 
 -- What was written is taken, and of what is written then a beginning.
 pub StopsWithin-text : (a c : EncoderState) (text unread : List ℕ) (last : Bool) (k₀ k₁ k₂ : Option (List ℕ)) (w₁ w₂ : List ℕ) (r : Bool)
-    → EncodesText a c text unread last (w₁ ++ w₂) r → TakesMore k₀ k₁ w₁ → TakesPrefix k₁ k₂ w₂ → StopsWithin (bytes_from a) text last k₀ k₂
+    → EncodesText a c text unread last (w₁ ++ w₂) r → AppendsContents k₀ k₁ w₁ → AppendsPrefix k₁ k₂ w₂ → StopsWithin (bytes_from_state a) text last k₀ k₂
 StopsWithin-text a c text unread last k₀ k₁ k₂ w₁ w₂ r p m t = record {
   wrote = w₁ ++ t.wrote;
-  unwritten = λ z h. t.unwritten ++ bytes_from c (unread ++ z);
-  prefix = λ z h. p.residual z h ∙ ap (λ w. (w₁ ++ w) ++ bytes_from c (unread ++ z)) t.prefix
-      ∙ regroup w₁ t.wrote t.unwritten (bytes_from c (unread ++ z));
-  taken = TakesMore-then k₀ k₁ k₂ w₁ t.wrote m t.taken;
+  unwritten = λ z h. t.unwritten ++ bytes_from_state c (unread ++ z);
+  prefix = λ z h. p.residual z h ∙ ap (λ w. (w₁ ++ w) ++ bytes_from_state c (unread ++ z)) t.prefix
+      ∙ regroup w₁ t.wrote t.unwritten (bytes_from_state c (unread ++ z));
+  taken = AppendsContents-then k₀ k₁ k₂ w₁ t.wrote m t.taken;
 }
 
 -- A text that is cut between characters
@@ -153,44 +154,46 @@ StopsWithin-text a c text unread last k₀ k₁ k₂ w₁ w₂ r p m t = record 
 -- What a sink takes
 
 pub HasEncoded-none : (s : EncoderState) (text : List ℕ) (last : Bool) (k : Option (List ℕ)) → HasEncoded s s text text last k k false
-HasEncoded-none s text last k = record { wrote = []; encoded = EncodesText-none s text last; taken = TakesMore-none k }
+HasEncoded-none s text last k =
+    record { wrote = []; encoded = EncodesText-none s text last; taken = AppendsContents-none k }
 
 pub HasEncoded-more : (a b c : EncoderState) (t₁ t₂ : List ℕ) (last : Bool) (k₀ k₁ k₂ : Option (List ℕ)) (r₁ r₂ : Bool)
     → HasEncoded a b t₁ [] false k₀ k₁ r₁ → HasEncoded b c t₂ [] last k₁ k₂ r₂ → HasEncoded a c (t₁ ++ t₂) [] last k₀ k₂ (r₁ || r₂)
 HasEncoded-more a b c t₁ t₂ last k₀ k₁ k₂ r₁ r₂ p q = record {
   wrote = p.wrote ++ q.wrote;
   encoded = EncodesText-more a b c t₁ t₂ last p.wrote q.wrote r₁ r₂ p.encoded q.encoded;
-  taken = TakesMore-then k₀ k₁ k₂ p.wrote q.wrote p.taken q.taken;
+  taken = AppendsContents-then k₀ k₁ k₂ p.wrote q.wrote p.taken q.taken;
 }
 
 -- a call of an encoder that is offered what is unread of a text
 module _ (a b c : EncoderState) (text rest : List ℕ) (last : Bool) (k₀ k₁ : Option (List ℕ)) (r₁ r₂ : Bool) (before after : List ℕ) (result : CoderResult) (read written : ℕ)
     (u : IsUtf8 rest) (p : HasEncoded a b text (chars rest) last k₀ k₁ r₁)
-    (q : EncodesInto encode_utf8 (replacing b) b c (chars rest) last before after (stop_of result) read written r₂) where
+    (q : EncodesInto encode_utf8 (html_mode b) b c (chars rest) last before after (encoder_result_of result) read written r₂) where
   made : EncodesText a c text q.encodes.rest last (p.wrote ++ take written after) (r₁ || r₂)
   made =
       EncodesText-then a b c text (chars rest) q.encodes.rest last p.wrote (take written after) r₁ r₂ p.encoded
       (EncodesText-call b c (chars rest) last before after result read written r₂ q)
 
   unread_is : chars (drop read rest) ≡ q.encodes.rest
-  unread_is = chars_behind rest (chars_of q.encodes.call.done) q.encodes.rest read u q.encodes.call.reads q.encodes.call.units
+  unread_is = chars_behind rest (step_chars q.encodes.call.done) q.encodes.rest read u q.encodes.call.reads q.encodes.call.units
 
   module _ (k₂ : Option (List ℕ)) where
-    taken_all : (unread : List ℕ) → unread ≡ q.encodes.rest → TakesMore k₁ k₂ (take written after) → HasEncoded a c text unread last k₀ k₂ (r₁ || r₂)
+    taken_all : (unread : List ℕ) → unread ≡ q.encodes.rest → AppendsContents k₁ k₂ (take written after) → HasEncoded a c text unread last k₀ k₂ (r₁ || r₂)
     taken_all unread e t = record {
       wrote = p.wrote ++ take written after;
       encoded = rw e made;
-      taken = TakesMore-then k₀ k₁ k₂ p.wrote (take written after) p.taken t;
+      taken = AppendsContents-then k₀ k₁ k₂ p.wrote (take written after) p.taken t;
     }
 
     -- whose bytes are taken
-    pub HasEncoded-call : (unread : List ℕ) → unread ≡ drop read rest → TakesMore k₁ k₂ (take written after) → HasEncoded a c text (chars unread) last k₀ k₂ (r₁ || r₂)
+    pub HasEncoded-call : (unread : List ℕ) → unread ≡ drop read rest → AppendsContents k₁ k₂ (take written after) → HasEncoded a c text (chars unread) last k₀ k₂ (r₁ || r₂)
     HasEncoded-call unread e t = taken_all (chars unread) (ap chars e ∙ unread_is) t
 
     -- and that has come to the end
-    pub HasEncoded-last : result ≡ InputEmpty → TakesMore k₁ k₂ (take written after) → HasEncoded a c text [] last k₀ k₂ (r₁ || r₂)
+    pub HasEncoded-last : result ≡ InputEmpty → AppendsContents k₁ k₂ (take written after) → HasEncoded a c text [] last k₀ k₂ (r₁ || r₂)
     HasEncoded-last e t = taken_all [] (all_read b c (chars rest) last (length before) result read (take written after) r₂ q.encodes e) t
 
     -- or are taken in part
-    pub StopsWithin-encoding : TakesPrefix k₁ k₂ (take written after) → StopsWithin (bytes_from a) text last k₀ k₂
+    pub StopsWithin-encoding : AppendsPrefix k₁ k₂ (take written after)
+        → StopsWithin (bytes_from_state a) text last k₀ k₂
     StopsWithin-encoding t = StopsWithin-text a c text q.encodes.rest last k₀ k₁ k₂ p.wrote (take written after) (r₁ || r₂) made p.taken t

@@ -1,3 +1,3 @@
-pub mod KnownLemmas
+pub mod SourceSinkLemmas
 pub mod EncodingLemmas
 pub mod RunLemmas

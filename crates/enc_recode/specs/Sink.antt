@@ -3,12 +3,12 @@ use Rattle.std.specs.Prelude.{◌≡◌, ℕ, List, ◌++◌, Option}
 use Rattle.std.specs.Io.KnownBytes.{append_known}
 
 -- These bytes more have been taken. A sink that tells nothing goes on telling nothing.
-abbrev pub TakesMore : Option (List ℕ) → Option (List ℕ) → List ℕ → Type 0
-TakesMore old new bytes = new ≡ append_known old bytes
+abbrev pub AppendsContents : Option (List ℕ) → Option (List ℕ) → List ℕ → Type 0
+AppendsContents old new bytes = new ≡ append_known old bytes
 
 -- Some of these bytes more have been taken, the first ones.
-pub record TakesPrefix (old new : Option (List ℕ)) (bytes : List ℕ) : Type 0 where
+pub record AppendsPrefix (old new : Option (List ℕ)) (bytes : List ℕ) : Type 0 where
   pub wrote : List ℕ
   pub unwritten : List ℕ
   pub prefix : bytes ≡ wrote ++ unwritten
-  pub taken : TakesMore old new wrote
+  pub taken : AppendsContents old new wrote

@@ -4,9 +4,9 @@ ghost use Rattle.std.specs.Prelude.{◌≡◌, ◌<◌, ◌≤◌, length, [], t
 ghost use Rattle.enc_encoders.specs.declared.character_set.CharacterSet.TheVariants.{Ascii};
 ghost use Rattle.encoding_rs.specs.declared.encoding.TheConstants.{UTF_8};
 ghost use Rattle.encoding_rs.specs.Encoder.{fresh_encoder};
-ghost use Rattle.enc_recode.specs.Sink.{TakesMore, TakesPrefix};
-ghost use Rattle.enc_recode.specs.Writing.{CanWrite, HasEncoded, StopsWithin, bytes_from};
-ghost use Rattle.enc_recode.specs.Run.{Recodes, side};
+ghost use Rattle.enc_recode.specs.Sink.{AppendsContents, AppendsPrefix};
+ghost use Rattle.enc_recode.specs.Writing.{CanWrite, HasEncoded, StopsWithin, bytes_from_state};
+ghost use Rattle.enc_recode.specs.Run.{IsRecodeRun, side};
 
 use crate::sink::Sink;
 use enc_reader::{DecodeReader, Source};
@@ -25,9 +25,11 @@ pub enum RecodeFault {
 /// which is `Write`, the sink has failed and has taken the first of them only.
 fn push_all<W: Sink>(writer: &mut W, bytes: &[u8]) -> Result<(), RecodeFault>
     requires going { W.has_failed writer.old ≡ false }
-    ensures ok { OnOk result (TakesMore (W.taken writer.old) (W.taken writer.new) bytes.now) }
+    ensures ok { OnOk result
+        (AppendsContents (W.contents writer.old) (W.contents writer.new) bytes.now) }
     ensures kept { OnOk result (W.has_failed writer.new ≡ W.has_failed writer.old) }
-    ensures err { OnErr result (TakesPrefix (W.taken writer.old) (W.taken writer.new) bytes.now) }
+    ensures err { OnErr result
+        (AppendsPrefix (W.contents writer.old) (W.contents writer.new) bytes.now) }
     ensures failed { OnErr result (W.has_failed writer.new ≡ true) }
     ensures fault { IfErr result (λ fault. fault ≡ RecodeFault.Write) }
 {
@@ -54,12 +56,12 @@ fn push_encoded<W: Sink>(
     requires going { W.has_failed writer.old ≡ false }
     requires room { 14 ≤ length output.old }
     ensures ok { IfOk result (HasEncoded encoder.old encoder.new (chars text.now) [] last
-        (W.taken writer.old) (W.taken writer.new)) }
+        (W.contents writer.old) (W.contents writer.new)) }
     ensures ended { OnOk result (last ≡ true → encoder.new.set ≡ Ascii) }
     ensures kept { OnOk result (W.has_failed writer.new ≡ W.has_failed writer.old) }
     ensures room_kept { length output.new ≡ length output.old }
-    ensures err { OnErr result (StopsWithin (bytes_from encoder.old) (chars text.now) last
-        (W.taken writer.old) (W.taken writer.new)) }
+    ensures err { OnErr result (StopsWithin (bytes_from_state encoder.old) (chars text.now) last
+        (W.contents writer.old) (W.contents writer.new)) }
     ensures failed { OnErr result (W.has_failed writer.new ≡ true) }
     ensures fault { IfErr result (λ fault. fault ≡ RecodeFault.Write) }
 {
@@ -91,12 +93,12 @@ fn push_text<W: Sink>(
     requires utf8 { IsUtf8 text.now }
     requires room { CanWrite encoder.old (length output.old) }
     ensures ok { IfOk result (HasEncoded encoder.old encoder.new (chars text.now) [] last
-        (W.taken writer.old) (W.taken writer.new)) }
+        (W.contents writer.old) (W.contents writer.new)) }
     ensures ended { OnOk result (last ≡ true → encoder.new.set ≡ Ascii) }
     ensures kept { OnOk result (W.has_failed writer.new ≡ W.has_failed writer.old) }
     ensures room_kept { OnOk result (CanWrite encoder.new (length output.new)) }
-    ensures err { OnErr result (StopsWithin (bytes_from encoder.old) (chars text.now) last
-        (W.taken writer.old) (W.taken writer.new)) }
+    ensures err { OnErr result (StopsWithin (bytes_from_state encoder.old) (chars text.now) last
+        (W.contents writer.old) (W.contents writer.new)) }
     ensures failed { OnErr result (W.has_failed writer.new ≡ true) }
     ensures fault { IfErr result (λ fault. fault ≡ RecodeFault.Write) }
 {
@@ -129,8 +131,8 @@ fn run_through<R: Source, W: Sink>(
     requires some { 0 < length input.old }
     requires text_room { 4 ≤ length text.old }
     requires room { CanWrite (fresh_encoder [] to) (length output.old) }
-    ensures { Recodes from to (side (R.told reader.old) (R.has_failed reader.old)) (side (R.told reader.new) (R.has_failed reader.new))
-        (side (W.taken writer.old) (W.has_failed writer.old)) (side (W.taken writer.new) (W.has_failed writer.new)) result }
+    ensures { IsRecodeRun from to (side (R.remaining reader.old) (R.has_failed reader.old)) (side (R.remaining reader.new) (R.has_failed reader.new))
+        (side (W.contents writer.old) (W.has_failed writer.old)) (side (W.contents writer.new) (W.has_failed writer.new)) result }
 {
     let mut decoding = DecodeReader::new(reader, Some(from), input);
     let mut encoder = to.new_encoder();
@@ -168,8 +170,8 @@ pub fn run<R: Source, W: Sink>(
     from: Encoding,
     to: Encoding,
 ) -> Result<bool, RecodeFault>
-    ensures { Recodes from to (side (R.told reader.old) (R.has_failed reader.old)) (side (R.told reader.new) (R.has_failed reader.new))
-        (side (W.taken writer.old) (W.has_failed writer.old)) (side (W.taken writer.new) (W.has_failed writer.new)) result }
+    ensures { IsRecodeRun from to (side (R.remaining reader.old) (R.has_failed reader.old)) (side (R.remaining reader.new) (R.has_failed reader.new))
+        (side (W.contents writer.old) (W.has_failed writer.old)) (side (W.contents writer.new) (W.has_failed writer.new)) result }
 {
     if reader.failed() {
         return Err(RecodeFault::Read);

@@ -2,14 +2,14 @@
 
 ghost use Rattle.std.specs.Prelude.{◌≡◌, ℕ, List, ◌≤◌, ◌<◌, length, take, Option, Bool, true, false, None, IfOk, OnOk, OnErr};
 ghost use Rattle.std.specs.Io.KnownBytes.{WriteAppends};
-ghost use Rattle.enc_recode.specs.Sink.{TakesMore};
+ghost use Rattle.enc_recode.specs.Sink.{AppendsContents};
 
 use std::io::Write;
 
 /// Where bytes go, a buffer at a time.
 pub trait Sink {
     // The bytes that it has taken, where it tells them.
-    ghost taken: { Self → Option (List ℕ) };
+    ghost contents: { Self → Option (List ℕ) };
 
     // Whether a push has failed.
     ghost has_failed: { Self → Bool };
@@ -20,9 +20,9 @@ pub trait Sink {
         requires going { has_failed self.old ≡ false }
         ensures bound { IfOk result (λ n. n ≤ length buf.now) }
         ensures some { IfOk result (λ n. 0 < length buf.now → 0 < n) }
-        ensures bytes { IfOk result (λ n. TakesMore (taken self.old) (taken self.new) (take n buf.now)) }
+        ensures bytes { IfOk result (λ n. AppendsContents (contents self.old) (contents self.new) (take n buf.now)) }
         ensures ok { OnOk result (has_failed self.new ≡ has_failed self.old) }
-        ensures none_taken { OnErr result (taken self.new ≡ taken self.old) }
+        ensures none_taken { OnErr result (contents self.new ≡ contents self.old) }
         ensures err { OnErr result (has_failed self.new ≡ true) };
 
     /// Whether a push has failed.
@@ -51,7 +51,7 @@ impl<W: Write> FromWrite<W> {
 }
 
 impl<W: Write> Sink for FromWrite<W> {
-    ghost taken = { λ _. None };
+    ghost contents = { λ _. None };
 
     ghost has_failed = { λ sink. sink.failed };
 

@@ -1,7 +1,7 @@
 pub mod ReferenceLemmas
-pub mod StopLemmas
-pub mod AllLemmas
+pub mod ReferenceStopLemmas
+pub mod TotalRuleLemmas
 pub mod SliceLemmas
-pub mod Turns
+pub mod ReferenceProgressLemmas
 pub mod UnmappableLemmas
 pub mod NeedLemmas

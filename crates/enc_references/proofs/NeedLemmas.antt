@@ -3,20 +3,20 @@ use Rattle.std.proofs.Common.{◌≡◌, ℕ, ◌+◌, ◌≤◌, inl, inr, Bool
 use Rattle.std.proofs.lemmas.Bool.{false≢true}
 use Rattle.enc_encoders.specs.declared.encoder_result.EncoderResult.{EncoderResult}
 use Rattle.enc_encoders.specs.declared.encoder_result.EncoderResult.TheVariants.{InputEmpty, OutputFull, Unmappable}
-use Rattle.enc_encoders.specs.EncoderRule.{RawState, IsLawful}
-use Rattle.enc_encoders.specs.Steps.{Step, steps_from, chars_of, any_reported}
-use Rattle.enc_encoders.specs.Call.{Stops}
-use Rattle.enc_encoders.specs.Need.{need, MeetsNeed}
+use Rattle.enc_encoders.specs.EncoderRule.{RawEncoderState, IsLawfulEncoderRule}
+use Rattle.enc_encoders.specs.Steps.{Step, steps_from_state, step_chars, any_reported}
+use Rattle.enc_encoders.specs.Call.{EncoderStops}
+use Rattle.enc_encoders.specs.Need.{encode_need, MeetsEncodeNeed}
 use Rattle.enc_encoders.proofs.NeedLemmas.{meets_need, left, at_next}
-use Rattle.enc_encoders.proofs.CountLemmas.{first_bytes, first_few}
+use Rattle.enc_encoders.proofs.StepCountLemmas.{first_bytes, first_few}
 use Rattle.enc_encoders.proofs.TextLemmas.{unreferred}
-use Rattle.enc_references.specs.Treatment.{Treatment, Reported, Replaced, CallBy, StopsBy, IsFull, ends_in_report}
+use Rattle.enc_references.specs.ErrorMode.{EncodeErrorMode, Fatal, Html, EncoderCallInMode, StopsInMode, IsFull, ends_in_report}
 use Rattle.enc_references.specs.Unmappable.{any_unmappable}
 use Rattle.enc_references.proofs.UnmappableLemmas.{any_reported_is, any_unmappable-append}
 
-module _ (units_of : ℕ → List ℕ) (old new : RawState) (src rest : List ℕ) (last : Bool) (room : ℕ) (result : EncoderResult) (read : ℕ) (wrote : List ℕ) (replaced : Bool) where
+module _ (units_of : ℕ → List ℕ) (old new : RawEncoderState) (src rest : List ℕ) (last : Bool) (room : ℕ) (result : EncoderResult) (read : ℕ) (wrote : List ℕ) (replaced : Bool) where
   -- a call that reports unmappable characters meets its need
-  pub reporting_meets_need : CallBy units_of Reported old new src rest last room result read wrote replaced → MeetsNeed old new src rest last room result (length wrote)
+  pub reporting_meets_need : EncoderCallInMode units_of Fatal old new src rest last room result read wrote replaced → MeetsEncodeNeed old new src rest last room result (length wrote)
   reporting_meets_need c = meets_need old new src rest last room result wrote (record {
     done = c.done;
     reads = c.reads;
@@ -42,58 +42,58 @@ one_reported (p ∷ q ∷ ps) e = ap (λ b. is_some p.report || b) (one_reported
     or_true false = refl
 
 -- A call that puts references: where no character is unmappable, and the room has the need and the bytes that are kept back, it reads all.
-module _ (old new : RawState) (src rest : List ℕ) (last : Bool) (room kept : ℕ) (done : List Step) (reads : src ≡ chars_of done ++ rest)
-    (remaining : steps_from old last src ≡ done ++ steps_from new last rest) (rule : new.rule ≡ old.rule)
-    (mappable : any_unmappable old.rule src ≡ false) (room_is : need old last src + kept ≤ room) where
+module _ (old new : RawEncoderState) (src rest : List ℕ) (last : Bool) (room kept : ℕ) (done : List Step) (reads : src ≡ step_chars done ++ rest)
+    (remaining : steps_from_state old last src ≡ done ++ steps_from_state new last rest) (rule : new.rule ≡ old.rule)
+    (mappable : any_unmappable old.rule src ≡ false) (room_is : encode_need old last src + kept ≤ room) where
   none_reported : any_reported done ≡ false
   none_reported =
       any_reported_is old new src rest last done reads rule remaining
-      ∙ neither _ (any_unmappable old.rule rest) (sym (any_unmappable-append old.rule (chars_of done) rest) ∙ ap (any_unmappable old.rule) (sym reads) ∙ mappable)
+      ∙ neither _ (any_unmappable old.rule rest) (sym (any_unmappable-append old.rule (step_chars done) rest) ∙ ap (any_unmappable old.rule) (sym reads) ∙ mappable)
 
   not_full : IsFull kept new rest last room done → ⊥
   not_full (inl n) =
-      let next = at_next n.next n.others (steps_from new last rest) n.comes n.not_report in
+      let next = at_next n.next n.others (steps_from_state new last rest) n.comes n.not_report in
       omega (arith, room_is, n.full, next, left old new src rest last done none_reported remaining, ap length (unreferred done none_reported))
   not_full (inr (inl r)) = absurd (false≢true (sym none_reported ∙ one_reported done r.reference))
   not_full (inr (inr s)) = omega (arith, room_is, s.small)
 
-module _ (units_of : ℕ → List ℕ) (kept : ℕ) (old new : RawState) (src rest : List ℕ) (last : Bool) (room read : ℕ) (wrote : List ℕ) (replaced : Bool) where
-  pub reads_all : (result : EncoderResult) → CallBy units_of (Replaced kept) old new src rest last room result read wrote replaced → any_unmappable old.rule src ≡ false
-      → need old last src + kept ≤ room → result ≡ InputEmpty
+module _ (units_of : ℕ → List ℕ) (kept : ℕ) (old new : RawEncoderState) (src rest : List ℕ) (last : Bool) (room read : ℕ) (wrote : List ℕ) (replaced : Bool) where
+  pub reads_all : (result : EncoderResult) → EncoderCallInMode units_of (Html kept) old new src rest last room result read wrote replaced → any_unmappable old.rule src ≡ false
+      → encode_need old last src + kept ≤ room → result ≡ InputEmpty
   reads_all InputEmpty c m l = refl
   reads_all OutputFull c m l = absurd (not_full old new src rest last room kept c.done c.reads c.remaining c.rule m l c.stops)
   reads_all (Unmappable k) c m l = absurd c.stops
 
 -- how many bytes a call keeps back
-abbrev pub kept_by : Treatment → ℕ
-kept_by Reported = 0
-kept_by (Replaced kept) = kept
+abbrev pub kept_by : EncodeErrorMode → ℕ
+kept_by Fatal = 0
+kept_by (Html kept) = kept
 
 -- A call with four bytes and those that are kept back takes a step, where it hasn't read all.
 
-too_long : (v : RawState) → IsLawful v.rule → (last : Bool) (t : List ℕ) (next : Step) (others : List Step) → steps_from v last t ≡ next ∷ others → length next.bytes ≤ 4
+too_long : (v : RawEncoderState) → IsLawfulEncoderRule v.rule → (last : Bool) (t : List ℕ) (next : Step) (others : List Step) → steps_from_state v last t ≡ next ∷ others → length next.bytes ≤ 4
 too_long v l last t next others e = omega (arith, ap first_bytes e, first_few v.rule l last v.set t)
 
 some_ending : (ps : List Step) → ends_in_report ps ≡ true → 1 ≤ length ps
 some_ending [] e = absurd (false≢true e)
 some_ending (p ∷ ps) e = omega arith
 
-module _ (new : RawState) (lawful : IsLawful new.rule) (rest : List ℕ) (last : Bool) (room : ℕ) where
+module _ (new : RawEncoderState) (lawful : IsLawfulEncoderRule new.rule) (rest : List ℕ) (last : Bool) (room : ℕ) where
   takes_when_full : (kept : ℕ) → 4 + kept ≤ room → (done : List Step) → IsFull kept new rest last room done → 1 ≤ length done
   takes_when_full kept l (p ∷ done) f = omega arith
   takes_when_full kept l [] (inl n) = absurd (omega (arith, l, n.full, too_long new lawful last rest n.next n.others n.comes))
   takes_when_full kept l [] (inr (inl r)) = absurd (false≢true r.reference)
   takes_when_full kept l [] (inr (inr s)) = absurd (omega (arith, l, s.small))
 
-  takes_reporting : 4 ≤ room → (done : List Step) (result : EncoderResult) → (result ≡ InputEmpty → ⊥) → Stops new rest last room done result → 1 ≤ length done
+  takes_reporting : 4 ≤ room → (done : List Step) (result : EncoderResult) → (result ≡ InputEmpty → ⊥) → EncoderStops new rest last room done result → 1 ≤ length done
   takes_reporting l done InputEmpty n s = absurd (n refl)
   takes_reporting l (p ∷ done) OutputFull n s = omega arith
   takes_reporting l [] OutputFull n s = absurd (omega (arith, l, s.full, too_long new lawful last rest s.next s.others s.comes))
   takes_reporting l done (Unmappable c) n s = omega (arith, ap length s.then_report, length-append s.before (s.report ∷ []))
 
-  pub takes_step : (treatment : Treatment) → 4 + kept_by treatment ≤ room → (done : List Step) (result : EncoderResult) → (result ≡ InputEmpty → ⊥)
-      → StopsBy treatment new rest last room done result → 1 ≤ length done
-  takes_step Reported l done result n s = takes_reporting (omega (arith, l)) done result n s
-  takes_step (Replaced kept) l done InputEmpty n s = absurd (n refl)
-  takes_step (Replaced kept) l done OutputFull n s = takes_when_full kept l done s
-  takes_step (Replaced kept) l done (Unmappable c) n s = absurd s
+  pub takes_step : (mode : EncodeErrorMode) → 4 + kept_by mode ≤ room → (done : List Step) (result : EncoderResult) → (result ≡ InputEmpty → ⊥)
+      → StopsInMode mode new rest last room done result → 1 ≤ length done
+  takes_step Fatal l done result n s = takes_reporting (omega (arith, l)) done result n s
+  takes_step (Html kept) l done InputEmpty n s = absurd (n refl)
+  takes_step (Html kept) l done OutputFull n s = takes_when_full kept l done s
+  takes_step (Html kept) l done (Unmappable c) n s = absurd s

@@ -3,8 +3,8 @@ use Rattle.std.proofs.Common.{◌≡◌, ℕ, Bool, true, false, not, ◌||◌, 
 use Rattle.std.proofs.lemmas.List.{append_cancel_right}
 use Rattle.enc_encoders.specs.declared.character_set.CharacterSet.{CharacterSet}
 use Rattle.enc_encoders.specs.declared.character_set.CharacterSet.TheVariants.{Ascii, Roman, Jis0208}
-use Rattle.enc_encoders.specs.EncoderRule.{EncoderRule, RawState, set_for}
-use Rattle.enc_encoders.specs.Steps.{Step, steps_of, steps_from, chars_of, any_reported, escaping, escape_step, char_step, first_written, last_step}
+use Rattle.enc_encoders.specs.EncoderRule.{EncoderRule, RawEncoderState, set_for}
+use Rattle.enc_encoders.specs.Steps.{Step, steps_of, steps_from_state, step_chars, any_reported, escape_steps_before, escape_step, char_step, first_written_char, steps_at_end}
 use Rattle.enc_references.specs.Unmappable.{any_unmappable, report_for, reports_of}
 
 abbrev pub reports_by : Option ℕ → List ℕ
@@ -30,7 +30,7 @@ none_escaping : (b : Bool) (s : CharacterSet) → reports_in (if b then [] else 
 none_escaping true s = refl
 none_escaping false s = refl
 
-none_at_end : (last : Bool) (s : CharacterSet) → reports_in (if last then last_step s else []) ≡ []
+none_at_end : (last : Bool) (s : CharacterSet) → reports_in (if last then steps_at_end s else []) ≡ []
 none_at_end false s = refl
 none_at_end true Ascii = refl
 none_at_end true Roman = refl
@@ -44,21 +44,21 @@ steps_report : (e : EncoderRule) (last : Bool) (s : CharacterSet) (t : List ℕ)
 unfolding steps_of
 steps_report e last s [] = none_at_end last s
 steps_report e last s (c ∷ t) =
-    let d = first_written c (e.bytes c) in
+    let d = first_written_char c (e.bytes c) in
     let others = char_step e (set_for e s d) c (e.bytes c) ∷ steps_of e last (set_for e s d) t in
-    reports_in-append (escaping e s d) others ∙ ap (λ x. x ++ reports_in others) (none_escaping (e.has s d) (e.designated d))
+    reports_in-append (escape_steps_before e s d) others ∙ ap (λ x. x ++ reports_in others) (none_escaping (e.has s d) (e.designated d))
     ∙ ap (λ x. x ++ reports_in (steps_of e last (set_for e s d) t)) (one_reported e (set_for e s d) c (e.bytes c))
     ∙ ap (λ x. report_for e c (e.bytes c) ++ x) (steps_report e last (set_for e s d) t)
 
-module _ (old new : RawState) (src rest : List ℕ) (last : Bool) (done : List Step) (reads : src ≡ chars_of done ++ rest) (rule : new.rule ≡ old.rule)
-    (remaining : steps_from old last src ≡ done ++ steps_from new last rest) where
+module _ (old new : RawEncoderState) (src rest : List ℕ) (last : Bool) (done : List Step) (reads : src ≡ step_chars done ++ rest) (rule : new.rule ≡ old.rule)
+    (remaining : steps_from_state old last src ≡ done ++ steps_from_state new last rest) where
   -- of steps that a call took
-  pub reports_are : reports_in done ≡ reports_of old.rule (chars_of done)
+  pub reports_are : reports_in done ≡ reports_of old.rule (step_chars done)
   reports_are =
-      append_cancel_right (reports_in done) (reports_of old.rule (chars_of done)) (reports_of old.rule rest)
+      append_cancel_right (reports_in done) (reports_of old.rule (step_chars done)) (reports_of old.rule rest)
       (ap (λ t. reports_in done ++ t) (ap (λ e. reports_of e rest) (sym rule) ∙ sym (steps_report new.rule last new.set rest))
-      ∙ sym (reports_in-append done (steps_from new last rest)) ∙ ap reports_in (sym remaining) ∙ steps_report old.rule last old.set src
-      ∙ ap (reports_of old.rule) reads ∙ reports_of-append old.rule (chars_of done) rest)
+      ∙ sym (reports_in-append done (steps_from_state new last rest)) ∙ ap reports_in (sym remaining) ∙ steps_report old.rule last old.set src
+      ∙ ap (reports_of old.rule) reads ∙ reports_of-append old.rule (step_chars done) rest)
 
 -- whether there is one
 
@@ -82,11 +82,11 @@ any_of : (e : EncoderRule) (t : List ℕ) → any_unmappable e t ≡ some_in (re
 any_of e [] = refl
 any_of e (c ∷ t) = any_of_one e c (e.bytes c) (reports_of e t) (any_unmappable e t) (any_of e t)
 
-module _ (old new : RawState) (src rest : List ℕ) (last : Bool) (done : List Step) (reads : src ≡ chars_of done ++ rest) (rule : new.rule ≡ old.rule)
-    (remaining : steps_from old last src ≡ done ++ steps_from new last rest) where
-  pub any_reported_is : any_reported done ≡ any_unmappable old.rule (chars_of done)
+module _ (old new : RawEncoderState) (src rest : List ℕ) (last : Bool) (done : List Step) (reads : src ≡ step_chars done ++ rest) (rule : new.rule ≡ old.rule)
+    (remaining : steps_from_state old last src ≡ done ++ steps_from_state new last rest) where
+  pub any_reported_is : any_reported done ≡ any_unmappable old.rule (step_chars done)
   any_reported_is =
-      any_in done ∙ ap some_in (reports_are old new src rest last done reads rule remaining) ∙ sym (any_of old.rule (chars_of done))
+      any_in done ∙ ap some_in (reports_are old new src rest last done reads rule remaining) ∙ sym (any_of old.rule (step_chars done))
 
 or_assoc : (a b c : Bool) → ((a || b) || c) ≡ (a || (b || c))
 or_assoc a b c = elim a as (λ a. ((a || b) || c) ≡ (a || (b || c))) [ true ↦ refl | false ↦ refl ]

@@ -1,3 +1,3 @@
-pub mod Treatment
+pub mod ErrorMode
 pub mod Replacing
 pub mod Unmappable

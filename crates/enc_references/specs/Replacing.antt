@@ -3,19 +3,19 @@ use Rattle.std.specs.Prelude.{◌≡◌, ℕ, ◌+◌, Bool, true, false, List, 
 use Rattle.enc_calls.specs.declared.coder_result.CoderResult.{CoderResult}
 use Rattle.enc_calls.specs.declared.coder_result.CoderResult.TheVariants.{InputEmpty, OutputFull}
 use Rattle.enc_encoders.specs.declared.encoder_result.EncoderResult.{EncoderResult}
-use Rattle.enc_encoders.specs.EncoderRule.{RawState}
+use Rattle.enc_encoders.specs.EncoderRule.{RawEncoderState}
 use Rattle.enc_encoders.specs.Text.{KeepsText}
-use Rattle.enc_encoders.specs.Call.{Call}
+use Rattle.enc_encoders.specs.Call.{EncoderCall}
 
 -- why a call stops where no bytes fit any more, by whether nothing is left
-abbrev pub stop_by : Bool → CoderResult
-stop_by true = InputEmpty
-stop_by false = OutputFull
+abbrev pub result_when_full : Bool → CoderResult
+result_when_full true = InputEmpty
+result_when_full false = OutputFull
 
 -- a call of the raw encoder, behind n bytes of a slice
-pub record EncodesBehind (old new : RawState) (src rest : List ℕ) (last : Bool) (room n : ℕ) (before after : List ℕ) (result : EncoderResult) (written : ℕ) : Type 0 where
+pub record EncodesAfter (old new : RawEncoderState) (src rest : List ℕ) (last : Bool) (room n : ℕ) (before after : List ℕ) (result : EncoderResult) (written : ℕ) : Type 0 where
   pub wrote : List ℕ
   pub count : written ≡ length wrote
   pub onto : after ≡ take n before ++ (wrote ++ drop (n + written) before)
-  pub call : Call old new src rest last room result wrote
+  pub call : EncoderCall old new src rest last room result wrote
   pub text : KeepsText old new src rest last result wrote

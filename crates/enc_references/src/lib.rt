@@ -6,6 +6,6 @@ mod encoding;
 mod reference;
 mod replacing;
 
-pub use encoding::{encode_all, encode_reporting};
+pub use encoding::{encode_mappable, encode_reporting};
 pub use reference::{LONGEST_REFERENCE, put_reference};
 pub use replacing::encode_replacing;

@@ -1,8 +1,8 @@
 //! Calls that put a decimal reference in the place of each unmappable character.
 
 ghost use Rattle.std.specs.Prelude.{◌≡◌, ◌+◌, ◌-◌, ◌≤◌, length, take, drop};
-ghost use Rattle.enc_references.specs.Replacing.{EncodesBehind, stop_by};
-ghost use Rattle.enc_references.specs.Treatment.{CallBy, Replaced, nothing_left, stop_of};
+ghost use Rattle.enc_references.specs.Replacing.{EncodesAfter, result_when_full};
+ghost use Rattle.enc_references.specs.ErrorMode.{EncoderCallInMode, Html, is_nothing_left, encoder_result_of};
 
 use crate::reference::{LONGEST_REFERENCE, put_reference};
 use enc_calls::CoderResult;
@@ -10,8 +10,9 @@ use enc_encoders::{EncoderResult, RawEncoder};
 use enc_units::Chars;
 
 /// Why a call stops where no bytes fit any more: whether something is left to do.
-fn stop_when_full<E: RawEncoder, C: Chars>(encoder: &E, src: &C, last: bool) -> CoderResult
-    ensures { result ≡ stop_by (nothing_left (E.state encoder.now) (C.rest src.now) last) }
+fn full_result<E: RawEncoder, C: Chars>(encoder: &E, src: &C, last: bool) -> CoderResult
+    ensures { result
+        ≡ result_when_full (is_nothing_left (E.state encoder.now) (C.rest src.now) last) }
 {
     match src.peek() {
         Some(_) => CoderResult::OutputFull,
@@ -26,7 +27,7 @@ fn stop_when_full<E: RawEncoder, C: Chars>(encoder: &E, src: &C, last: bool) -> 
 }
 
 /// A call of an encoder onto the part of a slice behind the bytes that are written, up to a limit.
-fn encode_behind<E: RawEncoder, C: Chars>(
+fn encode_after<E: RawEncoder, C: Chars>(
     encoder: &mut E,
     src: &mut C,
     dst: &mut [u8],
@@ -36,7 +37,7 @@ fn encode_behind<E: RawEncoder, C: Chars>(
 ) -> (EncoderResult, usize)
     requires behind { written ≤ limit }
     requires within { limit ≤ length dst.old }
-    ensures { EncodesBehind (E.state encoder.old) (E.state encoder.new) (C.rest src.old) (C.rest src.new) last
+    ensures { EncodesAfter (E.state encoder.old) (E.state encoder.new) (C.rest src.old) (C.rest src.new) last
         (limit - written) written dst.old dst.new result.0 result.1 }
 {
     let (result, _, wrote) = encoder.encode(src, &mut dst[written..limit], last);
@@ -57,18 +58,18 @@ pub fn encode_replacing<E: RawEncoder, C: Chars>(
 ) -> (CoderResult, usize, usize, bool)
     ensures within { result.2 ≤ length dst.old }
     ensures behind { drop result.2 dst.new ≡ drop result.2 dst.old }
-    ensures call { CallBy C.units_of (Replaced 10) (E.state encoder.old) (E.state encoder.new) (C.rest src.old) (C.rest src.new) last
-        (length dst.old) (stop_of result.0) result.1 (take result.2 dst.new) result.3 }
+    ensures call { EncoderCallInMode C.units_of (Html 10) (E.state encoder.old) (E.state encoder.new) (C.rest src.old) (C.rest src.new) last
+        (length dst.old) (encoder_result_of result.0) result.1 (take result.2 dst.new) result.3 }
 {
     if dst.len() < LONGEST_REFERENCE {
-        return (stop_when_full(encoder, src, last), 0, 0, false);
+        return (full_result(encoder, src, last), 0, 0, false);
     }
     let unread = src.unread();
     let limit = dst.len() - LONGEST_REFERENCE;
     let mut written = 0;
     let mut replaced = false;
     loop {
-        let (result, wrote) = encode_behind(encoder, src, dst, written, limit, last);
+        let (result, wrote) = encode_after(encoder, src, dst, written, limit, last);
         written += wrote;
         match result {
             EncoderResult::InputEmpty => {
@@ -93,7 +94,7 @@ pub fn encode_replacing<E: RawEncoder, C: Chars>(
             }
         }
         if written >= limit {
-            let stop = stop_when_full(encoder, src, last);
+            let stop = full_result(encoder, src, last);
             return (stop, unread - src.unread(), written, replaced);
         }
     }

@@ -3,10 +3,10 @@ use Rattle.std.proofs.Common.{◌≡◌, ℕ, Bool, true, false, is_some, not, �
 use Rattle.enc_machine.specs.Segmentation.{Rule}
 use Rattle.enc_encoders.specs.declared.character_set.CharacterSet.{CharacterSet}
 use Rattle.enc_encoders.specs.EncoderRule.{EncoderRule}
-use Rattle.enc_encoders.specs.Text.{escape_before, or_nothing, bytes_behind}
-use Rattle.enc_encoders.specs.Barring.{is_barred, except, barring}
+use Rattle.enc_encoders.specs.Text.{escape_before, list_or_empty, bytes_after_text}
+use Rattle.enc_encoders.specs.Barring.{is_barred, bytes_unless_barred, barring_rule}
 use Rattle.enc_references.specs.Unmappable.{any_unmappable}
-use Rattle.enc_round_trip.proofs.BackLemmas.{IsReadBack, first_mapped}
+use Rattle.enc_round_trip.proofs.ReadBackLemmas.{IsReadBack, first_mapped}
 
 -- a character that has bytes has those of the encoding without the list
 
@@ -14,30 +14,30 @@ not_barred : (t : Bool) (x : Option (List ℕ)) → is_some (if t then None else
 not_barred true x h = cc
 not_barred false x h = refl
 
-same_bytes : (b : List ℕ) (bytes : ℕ → Option (List ℕ)) (c : ℕ) → is_some (except b bytes c) ≡ true → except b bytes c ≡ bytes c
+same_bytes : (b : List ℕ) (bytes : ℕ → Option (List ℕ)) (c : ℕ) → is_some (bytes_unless_barred b bytes c) ≡ true → bytes_unless_barred b bytes c ≡ bytes c
 same_bytes b bytes c h = not_barred (is_barred b c) (bytes c) h
 
 found : (t : Bool) (x : Option (List ℕ)) (b : List ℕ) → (if t then None else x) ≡ Some b → x ≡ Some b
 found true x b e = cc
 found false x b e = e
 
-pub except_is_read : (b : List ℕ) (rule : Rule) (bytes : ℕ → Option (List ℕ)) (back : ℕ → ℕ) → IsReadBack rule bytes back → IsReadBack rule (except b bytes) back
+pub except_is_read : (b : List ℕ) (rule : Rule) (bytes : ℕ → Option (List ℕ)) (back : ℕ → ℕ) → IsReadBack rule bytes back → IsReadBack rule (bytes_unless_barred b bytes) back
 except_is_read b rule bytes back h = record { each = λ c s x e. h.each c s x (found (is_barred b c) (bytes c) x e) }
 
 -- and so has a text
 
 module _ (b : List ℕ) (e : EncoderRule) where
-  pub still_mapped : (t : List ℕ) → any_unmappable (barring b e) t ≡ false → any_unmappable e t ≡ false
+  pub still_mapped : (t : List ℕ) → any_unmappable (barring_rule b e) t ≡ false → any_unmappable e t ≡ false
   still_mapped [] m = refl
   still_mapped (c ∷ t) m =
-      let f = first_mapped (barring b e) c t m in
+      let f = first_mapped (barring_rule b e) c t m in
       let same = same_bytes b e.bytes c f.0 in
       ap (λ (x : Option (List ℕ)). not (is_some x) || any_unmappable e t) (sym same) ∙ ap (λ x. not x || any_unmappable e t) f.0 ∙ still_mapped t f.1
 
-  pub same_bytes_behind : (s : CharacterSet) (u t : List ℕ) → any_unmappable (barring b e) t ≡ false → bytes_behind (barring b e) s u t ≡ bytes_behind e s u t
+  pub same_bytes_behind : (s : CharacterSet) (u t : List ℕ) → any_unmappable (barring_rule b e) t ≡ false → bytes_after_text (barring_rule b e) s u t ≡ bytes_after_text e s u t
   same_bytes_behind s u [] m = refl
   same_bytes_behind s u (c ∷ t) m =
-      let f = first_mapped (barring b e) c t m in
+      let f = first_mapped (barring_rule b e) c t m in
       let front = escape_before e (e.set_after s u) c in
-      ap (λ (x : Option (List ℕ)). front ++ (or_nothing x ++ bytes_behind (barring b e) s (u ++ c ∷ []) t)) (same_bytes b e.bytes c f.0)
-      ∙ ap (λ x. front ++ (or_nothing (e.bytes c) ++ x)) (same_bytes_behind s (u ++ c ∷ []) t f.1)
+      ap (λ (x : Option (List ℕ)). front ++ (list_or_empty x ++ bytes_after_text (barring_rule b e) s (u ++ c ∷ []) t)) (same_bytes b e.bytes c f.0)
+      ∙ ap (λ x. front ++ (list_or_empty (e.bytes c) ++ x)) (same_bytes_behind s (u ++ c ∷ []) t f.1)

@@ -3,48 +3,48 @@ use Rattle.std.proofs.Common.{◌≡◌, ℕ, ◌+◌, ◌-◌, ◌*◌, ◌/◌
 use Rattle.std.proofs.lemmas.Bool.{cond-true, cond-false, and_from, and_left, lt-ltb}
 use Rattle.std.proofs.lemmas.Bool.Decides.{nat_tests}
 use Rattle.enc_index.specs.Runs.{jis0208_at}
-use Rattle.enc_pointers.specs.Pointers.{jis0208_pointer, always}
-use Rattle.enc_machine.specs.Taking.{IsPiece}
+use Rattle.enc_pointers.specs.Pointers.{jis0208_pointer, any_pointer}
+use Rattle.enc_machine.specs.Taking.{IsWholeChar}
 use Rattle.enc_multi_byte.specs.DoubleByte.{text_of_char, first_prefix, single_prefix, trail_prefix}
 use Rattle.enc_multi_byte.specs.MultiByte.{multi_byte_rule}
-use Rattle.enc_multi_byte.specs.EucJp.{euc_pointer, euc_jp_lead, euc_jp_single, euc_jp_pair as read_pair, euc_jp_prefix}
+use Rattle.enc_multi_byte.specs.EucJp.{euc_pair_pointer, is_euc_jp_lead, euc_jp_single_char, euc_jp_pair_char as read_pair, euc_jp_prefix}
 use Rattle.enc_multi_byte.proofs.MultiBytePieces.{complete_one, complete_two}
-use Rattle.enc_encoders.specs.Japanese.{is_katakana, katakana_byte, with_wide_minus}
-use Rattle.enc_encoders.specs.EucJp.{euc_jp_pair, euc_jp_other, euc_jp_bytes}
-use Rattle.enc_round_trip.specs.RoundTrip.{with_latin}
-use Rattle.enc_round_trip.proofs.BackLemmas.{IsReadBack, with_ascii_is_read, by_test, same_bytes, same_char}
+use Rattle.enc_encoders.specs.Japanese.{is_halfwidth_katakana, katakana_byte, with_fullwidth_minus}
+use Rattle.enc_encoders.specs.EucJp.{euc_jp_pair_bytes, euc_jp_other, euc_jp_bytes}
+use Rattle.enc_round_trip.specs.RoundTrip.{ascii_twin_or}
+use Rattle.enc_round_trip.proofs.ReadBackLemmas.{IsReadBack, with_ascii_is_read, by_test, same_bytes, same_char}
 use Rattle.enc_round_trip.proofs.PointerLemmas.{IsPointer, by_pointer}
 use Rattle.enc_round_trip.proofs.DoubleByteBack.{within}
 use Rattle.enc_round_trip.proofs.JapaneseBack.{at_jis0208_pointer, katakana_byte_is_read, low_not_latin, latin_is_read}
 
 abbrev Piece : List ℕ → ℕ → Type 0
-Piece b c = IsPiece (multi_byte_rule euc_jp_prefix) 0 b c
+Piece b c = IsWholeChar (multi_byte_rule euc_jp_prefix) 0 b c
 
 low_piece : (b : ℕ) → b < 0x80 → Piece (b ∷ []) b
 low_piece b l =
-    let n : euc_jp_lead b ≡ false = grind (arith, nat_tests) in
-    complete_one euc_jp_prefix b b (ap (λ t. first_prefix t (euc_jp_single b)) n ∙ ap single_prefix (cond-true _ _ _ (lt-ltb b 0x80 l)))
+    let n : is_euc_jp_lead b ≡ false = grind (arith, nat_tests) in
+    complete_one euc_jp_prefix b b (ap (λ t. first_prefix t (euc_jp_single_char b)) n ∙ ap single_prefix (cond-true _ _ _ (lt-ltb b 0x80 l)))
 
-pair_piece : (a b c : ℕ) → euc_jp_lead a ≡ true → (a == 0x8F) ≡ false → read_pair a b ≡ Some c → Piece (a ∷ b ∷ []) c
+pair_piece : (a b c : ℕ) → is_euc_jp_lead a ≡ true → (a == 0x8F) ≡ false → read_pair a b ≡ Some c → Piece (a ∷ b ∷ []) c
 pair_piece a b c l n e =
-    complete_two euc_jp_prefix a b c (ap (λ t. first_prefix t (euc_jp_single a)) l)
+    complete_two euc_jp_prefix a b c (ap (λ t. first_prefix t (euc_jp_single_char a)) l)
     (cond-false _ _ _ (and_left _ _ n) ∙ ap (λ o. trail_prefix 1 b (text_of_char o)) e)
 
 -- half-width katakana behind 8E
-katakana_piece : (c : ℕ) → is_katakana c ≡ true → Piece (0x8E ∷ katakana_byte c ∷ []) c
+katakana_piece : (c : ℕ) → is_halfwidth_katakana c ≡ true → Piece (0x8E ∷ katakana_byte c ∷ []) c
 katakana_piece c k = pair_piece 0x8E (katakana_byte c) c refl refl (katakana_byte_is_read c k)
 
 -- pairs of jis0208
 
-is_lead : (a : ℕ) → 0xA1 ≤ a → a ≤ 0xFE → euc_jp_lead a ≡ true
+is_lead : (a : ℕ) → 0xA1 ≤ a → a ≤ 0xFE → is_euc_jp_lead a ≡ true
 is_lead a l h = grind (arith, nat_tests)
 
-two_read : (a b c : ℕ) → 0xA1 ≤ a → a ≤ 0xFE → 0xA1 ≤ b → b ≤ 0xFE → jis0208_at (euc_pointer a b) ≡ Some c → read_pair a b ≡ Some c
+two_read : (a b c : ℕ) → 0xA1 ≤ a → a ≤ 0xFE → 0xA1 ≤ b → b ≤ 0xFE → jis0208_at (euc_pair_pointer a b) ≡ Some c → read_pair a b ≡ Some c
 two_read a b c k l m n e =
     let other : (a == 0x8E) ≡ false = grind (arith, nat_tests) in
     cond-false _ _ _ other ∙ cond-true _ _ _ (and_from _ _ (within 0xA1 0xFE a k l) (within 0xA1 0xFE b m n)) ∙ e
 
-two_piece : (c p : ℕ) → IsPointer jis0208_at always 8836 c p → Piece (euc_jp_pair p) c
+two_piece : (c p : ℕ) → IsPointer jis0208_at any_pointer 8836 c p → Piece (euc_jp_pair_bytes p) c
 two_piece c p h =
     let l = h.below in
     let same : (p / 94 + 0xA1 - 0xA1) * 94 + (p % 94 + 0xA1 - 0xA1) ≡ p = omega arith in
@@ -57,19 +57,20 @@ two_piece c p h =
 
 -- all characters
 
-itself : (c : ℕ) → (c == 0x2212) ≡ false → c ≡ with_wide_minus c
+itself : (c : ℕ) → (c == 0x2212) ≡ false → c ≡ with_fullwidth_minus c
 itself c n = sym (cond-false _ _ _ n)
 
-beyond : (c : ℕ) (b : List ℕ) → euc_jp_other c ≡ Some b → Piece b (with_latin with_wide_minus c)
+beyond : (c : ℕ) (b : List ℕ) → euc_jp_other c ≡ Some b → Piece b (ascii_twin_or with_fullwidth_minus c)
 beyond c b =
-    latin_is_read (multi_byte_rule euc_jp_prefix) _ with_wide_minus c b low_piece
-    (λ yen line. by_test (is_katakana c) _ _ b
-    (λ k. same_bytes (λ x. Piece x (with_wide_minus c)) _ b (same_char _ 0 _ c (with_wide_minus c) (itself c (grind (arith, nat_tests))) (katakana_piece c k)))
-    (λ k. by_pointer (λ x. Piece x (with_wide_minus c)) euc_jp_pair (jis0208_pointer (with_wide_minus c)) b
-    (λ p f. two_piece (with_wide_minus c) p (at_jis0208_pointer (with_wide_minus c) p f))))
+    latin_is_read (multi_byte_rule euc_jp_prefix) _ with_fullwidth_minus c b low_piece
+    (λ yen line. by_test (is_halfwidth_katakana c) _ _ b
+    (λ k. same_bytes (λ x. Piece x (with_fullwidth_minus c)) _ b (same_char _ 0 _ c (with_fullwidth_minus c) (itself c (grind (arith, nat_tests))) (katakana_piece c k)))
+    (λ k. by_pointer (λ x. Piece x (with_fullwidth_minus c)) euc_jp_pair_bytes
+    (jis0208_pointer (with_fullwidth_minus c)) b
+    (λ p f. two_piece (with_fullwidth_minus c) p (at_jis0208_pointer (with_fullwidth_minus c) p f))))
 
-pub euc_jp_is_read : IsReadBack (multi_byte_rule euc_jp_prefix) euc_jp_bytes (with_latin with_wide_minus)
+pub euc_jp_is_read : IsReadBack (multi_byte_rule euc_jp_prefix) euc_jp_bytes (ascii_twin_or with_fullwidth_minus)
 euc_jp_is_read =
-    with_ascii_is_read (multi_byte_rule euc_jp_prefix) euc_jp_other (with_latin with_wide_minus)
-    (λ c l. same_char _ 0 (c ∷ []) c (with_latin with_wide_minus c) (itself c (grind (arith, nat_tests)) ∙ low_not_latin with_wide_minus c (omega arith)) (low_piece c l))
+    with_ascii_is_read (multi_byte_rule euc_jp_prefix) euc_jp_other (ascii_twin_or with_fullwidth_minus)
+    (λ c l. same_char _ 0 (c ∷ []) c (ascii_twin_or with_fullwidth_minus c) (itself c (grind (arith, nat_tests)) ∙ low_not_latin with_fullwidth_minus c (omega arith)) (low_piece c l))
     (λ c b l. beyond c b)

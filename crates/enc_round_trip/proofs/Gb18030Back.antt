@@ -4,87 +4,87 @@ use Rattle.std.proofs.lemmas.Bool.{cond-true, cond-false, lt-ltb}
 use Rattle.std.proofs.lemmas.Bool.Decides.{nat_tests}
 use Rattle.std.specs.Cmp.{second_so}
 use Rattle.enc_index.specs.Runs.{gb18030_at, gb18030_ranges_at}
-use Rattle.enc_pointers.specs.Pointers.{gb18030_pointer, gb18030_ranges_pointer, is_ranges_pointer, pointer_of, always, never}
+use Rattle.enc_pointers.specs.Pointers.{gb18030_pointer, gb18030_ranges_pointer, is_ranges_pointer, pointer_of, any_pointer, no_character}
 use Rattle.enc_machine.specs.declared.byte_codec.Kind.TheVariants.{Valid}
 use Rattle.enc_machine.specs.declared.byte_codec.Text.TheVariants.{One}
-use Rattle.enc_machine.specs.Taking.{IsPiece}
+use Rattle.enc_machine.specs.Taking.{IsWholeChar}
 use Rattle.enc_multi_byte.specs.declared.multi_byte.Prefix.TheVariants.{Complete, Incomplete}
 use Rattle.enc_multi_byte.specs.DoubleByte.{text_of_char, first_prefix, single_prefix, trail_prefix}
 use Rattle.enc_multi_byte.specs.MultiByte.{multi_byte_rule}
 use Rattle.enc_multi_byte.specs.Gb18030 as decoder
 use Rattle.enc_multi_byte.proofs.MultiByteLemmas.{settled_first, settles_complete}
 use Rattle.enc_multi_byte.proofs.MultiBytePieces.{complete_one, complete_two}
-use Rattle.enc_encoders.specs.Stateless.{bytes_by}
-use Rattle.enc_encoders.specs.Gb18030.{gb18030_trail, gb18030_pair, gb18030_four, two_or_four, gb18030_other, gb18030_bytes}
-use Rattle.enc_round_trip.proofs.BackLemmas.{IsReadBack, with_ascii_is_read, by_test, same_bytes, no_bytes, same_char}
+use Rattle.enc_encoders.specs.Stateless.{bytes_of_pointer}
+use Rattle.enc_encoders.specs.Gb18030.{gb18030_trail_byte, gb18030_pair_bytes, gb18030_four_bytes, two_or_four_bytes, gb18030_other, gb18030_bytes}
+use Rattle.enc_round_trip.proofs.ReadBackLemmas.{IsReadBack, with_ascii_is_read, by_test, same_bytes, no_bytes, same_char}
 use Rattle.enc_round_trip.proofs.PointerLemmas.{IsPointer, is_pointer, by_pointer}
 use Rattle.enc_round_trip.proofs.DoubleByteBack.{within}
 
 abbrev Piece : List ℕ → ℕ → Type 0
-Piece b c = IsPiece (multi_byte_rule decoder.gb18030_prefix) 0 b c
+Piece b c = IsWholeChar (multi_byte_rule decoder.gb18030_prefix) 0 b c
 
 low_piece : (b : ℕ) → b < 0x80 → Piece (b ∷ []) b
 low_piece b l =
-    let n : decoder.gb18030_lead b ≡ false = grind (arith, nat_tests) in
+    let n : decoder.is_gb18030_lead b ≡ false = grind (arith, nat_tests) in
     complete_one decoder.gb18030_prefix b b
-    (ap (λ t. first_prefix t (decoder.gb18030_single b)) n ∙ ap single_prefix (cond-true _ _ _ (lt-ltb b 0x80 l)))
+    (ap (λ t. first_prefix t (decoder.gb18030_single_char b)) n ∙ ap single_prefix (cond-true _ _ _ (lt-ltb b 0x80 l)))
 
 euro_piece : Piece (0x80 ∷ []) 0x20AC
 euro_piece = complete_one decoder.gb18030_prefix 0x80 0x20AC refl
 
 leads : (a : ℕ) → 0x81 ≤ a → a ≤ 0xFE → decoder.gb18030_prefix (a ∷ []) ≡ Incomplete
-leads a l h = ap (λ t. first_prefix t (decoder.gb18030_single a)) (within 0x81 0xFE a l h)
+leads a l h = ap (λ t. first_prefix t (decoder.gb18030_single_char a)) (within 0x81 0xFE a l h)
 
 -- two bytes
 
-is_trail : (cell : ℕ) → cell < 190 → decoder.gb18030_trail (gb18030_trail cell) ≡ true
+is_trail : (cell : ℕ) → cell < 190 → decoder.is_gb18030_trail (gb18030_trail_byte cell) ≡ true
 is_trail cell l = grind (arith, nat_tests)
 
-no_digit : (cell : ℕ) → cell < 190 → decoder.is_digit (gb18030_trail cell) ≡ false
+no_digit : (cell : ℕ) → cell < 190 → decoder.is_digit (gb18030_trail_byte cell) ≡ false
 no_digit cell l = grind (arith, nat_tests)
 
-cell_of : (cell : ℕ) → cell < 190 → gb18030_trail cell - (if nat_lt (gb18030_trail cell) 0x7F then 0x40 else 0x41) ≡ cell
+cell_of : (cell : ℕ) → cell < 190 → gb18030_trail_byte cell - (if nat_lt (gb18030_trail_byte cell) 0x7F then 0x40 else 0x41) ≡ cell
 cell_of cell l = grind (arith, nat_tests)
 
-two_pointer : (p : ℕ) → decoder.gb18030_pointer (p / 190 + 0x81) (gb18030_trail (p % 190)) ≡ p
+two_pointer : (p : ℕ) → decoder.gb18030_pair_pointer (p / 190 + 0x81) (gb18030_trail_byte (p % 190)) ≡ p
 two_pointer p = omega (arith, cell_of (p % 190) (omega arith))
 
-two_read : (c p : ℕ) → IsPointer gb18030_at always 23940 c p → decoder.gb18030_prefix (gb18030_pair p) ≡ Complete (One c)
+two_read : (c p : ℕ) → IsPointer gb18030_at any_pointer 23940 c p → decoder.gb18030_prefix (gb18030_pair_bytes p) ≡ Complete (One c)
 two_read c p h =
     let cell : p % 190 < 190 = omega arith in
     cond-false _ _ _ (no_digit (p % 190) cell)
-    ∙ ap (λ o. trail_prefix 1 (gb18030_trail (p % 190)) (text_of_char o))
+    ∙ ap (λ o. trail_prefix 1 (gb18030_trail_byte (p % 190)) (text_of_char o))
     (cond-true _ _ _ (is_trail (p % 190) cell) ∙ ap gb18030_at (two_pointer p) ∙ h.has)
 
-two_piece : (c p : ℕ) → IsPointer gb18030_at always 23940 c p → Piece (gb18030_pair p) c
+two_piece : (c p : ℕ) → IsPointer gb18030_at any_pointer 23940 c p → Piece (gb18030_pair_bytes p) c
 two_piece c p h =
     let l = h.below in
-    complete_two decoder.gb18030_prefix (p / 190 + 0x81) (gb18030_trail (p % 190)) c (leads (p / 190 + 0x81) (omega arith) (omega arith)) (two_read c p h)
+    complete_two decoder.gb18030_prefix (p / 190 + 0x81) (gb18030_trail_byte (p % 190)) c (leads (p / 190 + 0x81) (omega arith) (omega arith)) (two_read c p h)
 
-two_at : (c p : ℕ) → gb18030_pointer c ≡ Some p → IsPointer gb18030_at always 23940 c p
+two_at : (c p : ℕ) → gb18030_pointer c ≡ Some p → IsPointer gb18030_at any_pointer 23940 c p
 unfolding gb18030_pointer
-two_at c p f = is_pointer gb18030_at always never 23940 c p f
+two_at c p f = is_pointer gb18030_at any_pointer no_character 23940 c p f
 
 -- four bytes
 
 four_complete : (a b c d ch : ℕ) → 0x81 ≤ a → a ≤ 0xFE → 0x30 ≤ b → b ≤ 0x39 → 0x81 ≤ c → c ≤ 0xFE → 0x30 ≤ d → d ≤ 0x39
-    → decoder.ranges_char (decoder.ranges_pointer a b c d) ≡ Some ch → Piece (a ∷ b ∷ c ∷ d ∷ []) ch
+    → decoder.ranges_code_point (decoder.four_byte_pointer a b c d) ≡ Some ch → Piece (a ∷ b ∷ c ∷ d ∷ []) ch
 four_complete a b c d ch al ah bl bh cl ch' dl dh e y =
     settled_first decoder.gb18030_prefix 0 (a ∷ b ∷ c ∷ []) d y 4 (One ch) Valid
     (leads a al ah, (cond-true _ _ _ (within 0x30 0x39 b bl bh), (cond-true _ _ _ (within 0x81 0xFE c cl ch'), tt)))
     (settles_complete decoder.gb18030_prefix (a ∷ b ∷ c ∷ d ∷ []) (One ch) (omega arith)
-    (cond-true _ _ _ (within 0x30 0x39 d dl dh) ∙ ap decoder.four_prefix e))
+    (cond-true _ _ _ (within 0x30 0x39 d dl dh) ∙ ap decoder.four_byte_prefix e))
 
-four_pointer : (p : ℕ) → decoder.ranges_pointer (p / 12600 + 0x81) (p % 12600 / 1260 + 0x30) (p % 1260 / 10 + 0x81) (p % 10 + 0x30) ≡ p
+four_pointer : (p : ℕ) → decoder.four_byte_pointer (p / 12600 + 0x81) (p % 12600 / 1260 + 0x30) (p % 1260 / 10 + 0x81) (p % 10 + 0x30) ≡ p
 four_pointer p = omega arith
 
-four_piece : (c p : ℕ) → p < 1237576 → decoder.ranges_char p ≡ Some c → Piece (gb18030_four p) c
+four_piece : (c p : ℕ) → p < 1237576 → decoder.ranges_code_point p ≡ Some c → Piece (gb18030_four_bytes p) c
 four_piece c p l e =
     four_complete (p / 12600 + 0x81) (p % 12600 / 1260 + 0x30) (p % 1260 / 10 + 0x81) (p % 10 + 0x30) c
     (omega arith) (omega arith) (omega arith) (omega arith) (omega arith) (omega arith) (omega arith) (omega arith)
-    (ap decoder.ranges_char (four_pointer p) ∙ e)
+    (ap decoder.ranges_code_point (four_pointer p) ∙ e)
 
-in_ranges : (c p : ℕ) → IsPointer gb18030_ranges_at is_ranges_pointer 1237576 c p → decoder.ranges_char p ≡ Some c
+in_ranges : (c p : ℕ) → IsPointer gb18030_ranges_at is_ranges_pointer 1237576 c p → decoder.ranges_code_point p ≡ Some c
 in_ranges c p h =
     let l = h.below in
     let n = h.counted in
@@ -97,26 +97,26 @@ in_ranges c p h =
     not_alone p n = grind (arith, nat_tests)
 
 -- the pointer 7457 has U+E7C7
-four_at : (c p : ℕ) (t : Bool) → (c == 0xE7C7) ≡ t → cond t (Some 7457) (pointer_of gb18030_ranges_at is_ranges_pointer never 1237576 c) ≡ Some p → Piece (gb18030_four p) c
+four_at : (c p : ℕ) (t : Bool) → (c == 0xE7C7) ≡ t → cond t (Some 7457) (pointer_of gb18030_ranges_at is_ranges_pointer no_character 1237576 c) ≡ Some p → Piece (gb18030_four_bytes p) c
 four_at c p true t e =
     let same : 7457 ≡ p = cc in
     let char : 0xE7C7 ≡ c = grind (arith, nat_tests) in
-    subst (λ q. Piece (gb18030_four q) c) same (four_piece c 7457 (omega arith) (ap Some char))
+    subst (λ q. Piece (gb18030_four_bytes q) c) same (four_piece c 7457 (omega arith) (ap Some char))
 four_at c p false t e =
-    let h = is_pointer gb18030_ranges_at is_ranges_pointer never 1237576 c p e in
+    let h = is_pointer gb18030_ranges_at is_ranges_pointer no_character 1237576 c p e in
     four_piece c p h.below (in_ranges c p h)
 
-four : (c p : ℕ) → gb18030_ranges_pointer c ≡ Some p → Piece (gb18030_four p) c
+four : (c p : ℕ) → gb18030_ranges_pointer c ≡ Some p → Piece (gb18030_four_bytes p) c
 unfolding gb18030_ranges_pointer
 four c p e = four_at c p (c == 0xE7C7) refl e
 
 -- all characters
 
-two_or_four_read : (is_gbk : Bool) (c : ℕ) (o : Option ℕ) (b : List ℕ) → gb18030_pointer c ≡ o → two_or_four is_gbk c o ≡ Some b → Piece b c
-two_or_four_read is_gbk c (Some p) b q e = same_bytes (λ x. Piece x c) (gb18030_pair p) b (two_piece c p (two_at c p q)) e
+two_or_four_read : (is_gbk : Bool) (c : ℕ) (o : Option ℕ) (b : List ℕ) → gb18030_pointer c ≡ o → two_or_four_bytes is_gbk c o ≡ Some b → Piece b c
+two_or_four_read is_gbk c (Some p) b q e = same_bytes (λ x. Piece x c) (gb18030_pair_bytes p) b (two_piece c p (two_at c p q)) e
 two_or_four_read is_gbk c None b q e =
-    by_test is_gbk None (bytes_by gb18030_four (gb18030_ranges_pointer c)) b (λ t f. no_bytes b f)
-    (λ t f. by_pointer (λ x. Piece x c) gb18030_four (gb18030_ranges_pointer c) b (four c) f) e
+    by_test is_gbk None (bytes_of_pointer gb18030_four_bytes (gb18030_ranges_pointer c)) b (λ t f. no_bytes b f)
+    (λ t f. by_pointer (λ x. Piece x c) gb18030_four_bytes (gb18030_ranges_pointer c) b (four c) f) e
 
 beyond : (is_gbk : Bool) (c : ℕ) (b : List ℕ) → gb18030_other is_gbk c ≡ Some b → Piece b c
 beyond is_gbk c b e =

@@ -3,27 +3,27 @@ use Rattle.std.proofs.Common.{◌≡◌, ℕ, ◌+◌, ◌-◌, ◌*◌, ◌/◌
 use Rattle.std.proofs.lemmas.Bool.{cond-true, cond-false, or_parts, or_left, or_right, or_from}
 use Rattle.std.proofs.lemmas.Bool.Decides.{nat_tests}
 use Rattle.enc_index.specs.Runs.{jis0208_at}
-use Rattle.enc_pointers.specs.Pointers.{jis0208_pointer, always}
-use Rattle.enc_machine.specs.Sequence.{text_of, any_malformed}
-use Rattle.enc_machine.specs.Taking.{IsPiece}
-use Rattle.enc_machine.proofs.ToldLemmas.{true_or_false}
+use Rattle.enc_pointers.specs.Pointers.{jis0208_pointer, any_pointer}
+use Rattle.enc_machine.specs.Sequence.{sequence_text, any_malformed}
+use Rattle.enc_machine.specs.Taking.{IsWholeChar}
+use Rattle.enc_machine.proofs.FirstSequenceLemmas.{true_or_false}
 use Rattle.enc_iso_2022_jp.specs.declared.iso_2022_jp.CharacterSet.{CharacterSet as Read}
 use Rattle.enc_iso_2022_jp.specs.declared.iso_2022_jp.CharacterSet.TheVariants as read
 use Rattle.enc_iso_2022_jp.specs.declared.iso_2022_jp.Escape.{Escape}
 use Rattle.enc_iso_2022_jp.specs.declared.iso_2022_jp.Escape.TheVariants.{ToAscii, ToRoman, ToJis0208Of1983}
-use Rattle.enc_iso_2022_jp.specs.Iso2022Jp.{set_number, designated, is_lead, one_byte_char, two_byte_char, iso_2022_jp_rule as jp_rule}
+use Rattle.enc_iso_2022_jp.specs.Iso2022Jp.{set_number, designated_set, is_lead_byte, one_byte_char, two_byte_char, iso_2022_jp_rule as jp_rule}
 use Rattle.enc_iso_2022_jp.specs.Iso2022JpState.{escape_bytes, escape_set}
 use Rattle.enc_iso_2022_jp.proofs.Iso2022JpLemmas.{skipped_escape}
 use Rattle.enc_iso_2022_jp.proofs.Iso2022JpRule.{other_front}
 use Rattle.enc_iso_2022_jp.proofs.Iso2022JpPieces.{alone_piece, pair_piece}
 use Rattle.enc_encoders.specs.declared.character_set.CharacterSet.{CharacterSet}
 use Rattle.enc_encoders.specs.declared.character_set.CharacterSet.TheVariants.{Ascii, Roman, Jis0208}
-use Rattle.enc_encoders.specs.Text.{escape, escape_at_end, or_nothing, bytes_behind, bytes_of_text}
-use Rattle.enc_encoders.specs.Japanese.{is_katakana}
-use Rattle.enc_encoders.specs.Iso2022Jp.{class_of, has_class, set_of_class, is_shift, looked_up, jis0208_pair, iso_2022_jp_bytes, iso_2022_jp}
+use Rattle.enc_encoders.specs.Text.{escape_sequence, escape_at_end, list_or_empty, bytes_after_text, bytes_of_text}
+use Rattle.enc_encoders.specs.Japanese.{is_halfwidth_katakana}
+use Rattle.enc_encoders.specs.Iso2022Jp.{class_of, has_class, set_of_class, is_shift, lookup_char, jis0208_pair_bytes, iso_2022_jp_bytes, iso_2022_jp_encoder_rule}
 use Rattle.enc_encoders.proofs.Iso2022JpLemmas.{iso_2022_jp_is_lawful}
 use Rattle.enc_references.specs.Unmappable.{any_unmappable}
-use Rattle.enc_round_trip.proofs.BackLemmas.{IsReadAs, read_nothing, read_more, first_mapped, by_test, same_bytes, no_bytes}
+use Rattle.enc_round_trip.proofs.ReadBackLemmas.{IsReadAs, read_nothing, read_more, first_mapped, by_test, same_bytes, no_bytes}
 use Rattle.enc_round_trip.proofs.PointerLemmas.{IsPointer, by_pointer}
 use Rattle.enc_round_trip.proofs.DoubleByteBack.{within}
 use Rattle.enc_round_trip.proofs.JapaneseBack.{at_jis0208_pointer}
@@ -40,22 +40,22 @@ number s = set_number (as_read s)
 
 -- an escape sequence has no text where none follows it directly
 
-skipped_is_read : (set : ℕ) (e : Escape) (z t : List ℕ) → designated z ≡ None → IsReadAs jp_rule (set_number (escape_set e)) z t → IsReadAs jp_rule set (escape_bytes e ++ z) t
+skipped_is_read : (set : ℕ) (e : Escape) (z t : List ℕ) → designated_set z ≡ None → IsReadAs jp_rule (set_number (escape_set e)) z t → IsReadAs jp_rule set (escape_bytes e ++ z) t
 skipped_is_read set e z t n h =
     let first = skipped_escape set e z n in
-    record { none_malformed = ap any_malformed first ∙ h.none_malformed; text = ap text_of first ∙ h.text }
+    record { none_malformed = ap any_malformed first ∙ h.none_malformed; text = ap sequence_text first ∙ h.text }
 
-behind_escape : (set : ℕ) (s : CharacterSet) (z t : List ℕ) → designated z ≡ None → IsReadAs jp_rule (number s) z t → IsReadAs jp_rule set (escape s ++ z) t
+behind_escape : (set : ℕ) (s : CharacterSet) (z t : List ℕ) → designated_set z ≡ None → IsReadAs jp_rule (number s) z t → IsReadAs jp_rule set (escape_sequence s ++ z) t
 behind_escape set Ascii = skipped_is_read set ToAscii
 behind_escape set Roman = skipped_is_read set ToRoman
 behind_escape set Jis0208 = skipped_is_read set ToJis0208Of1983
 
 -- A character's bytes are read in the set in which it is written, and begin with no escape sequence.
 record IsReadIn (s : CharacterSet) (b : List ℕ) (c : ℕ) : Type 0 where
-  piece : IsPiece jp_rule (number s) b c
-  plain : (y : List ℕ) → designated (b ++ y) ≡ None
+  piece : IsWholeChar jp_rule (number s) b c
+  plain : (y : List ℕ) → designated_set (b ++ y) ≡ None
 
-one_read : (s : CharacterSet) (b c : ℕ) → one_byte_char (as_read s) b ≡ Some c → is_lead (as_read s) b ≡ false → eqb b 0x1B ≡ false → IsReadIn s (b ∷ []) c
+one_read : (s : CharacterSet) (b c : ℕ) → one_byte_char (as_read s) b ≡ Some c → is_lead_byte (as_read s) b ≡ false → eqb b 0x1B ≡ false → IsReadIn s (b ∷ []) c
 one_read s b c e l n = record { piece = alone_piece (as_read s) b c e l; plain = λ y. other_front b y n }
 
 -- The set in which a character is written has it: which sets these are, by the character.
@@ -96,11 +96,11 @@ no_escape : (c : ℕ) → is_shift c ≡ false → eqb c 0x1B ≡ false
 no_escape c n = grind (arith, nat_tests)
 
 in_ascii : (c : ℕ) → nat_lt c 0x80 ≡ true → is_shift c ≡ false → IsReadIn Ascii (c ∷ []) c
-unfolding one_byte_char is_lead
+unfolding one_byte_char is_lead_byte
 in_ascii c l n = (let t = is_ascii c l n in one_read Ascii c c (rw t refl) refl (no_escape c n))
 
 in_roman : (c : ℕ) → nat_lt c 0x80 ≡ true → is_shift c ≡ false → (c == 0x5C || c == 0x7E) ≡ false → IsReadIn Roman (c ∷ []) c
-unfolding one_byte_char is_lead
+unfolding one_byte_char is_lead_byte
 in_roman c l n k =
     let a = or_parts (c == 0x5C) (c == 0x7E) k in
     let t = is_ascii c l n in
@@ -109,17 +109,17 @@ in_roman c l n k =
     one_read Roman c c (rw (b, d, t) refl) refl (no_escape c n)
 
 yen_read : IsReadIn Roman (0x5C ∷ []) 0xA5
-unfolding one_byte_char is_lead
+unfolding one_byte_char is_lead_byte
 yen_read = one_read Roman 0x5C 0xA5 refl refl refl
 
 line_read : IsReadIn Roman (0x7E ∷ []) 0x203E
-unfolding one_byte_char is_lead
+unfolding one_byte_char is_lead_byte
 line_read = one_read Roman 0x7E 0x203E refl refl refl
 
 -- pairs of jis0208
 
 two_read : (a b c : ℕ) → 0x21 ≤ a → a ≤ 0x7E → 0x21 ≤ b → b ≤ 0x7E → jis0208_at ((a - 0x21) * 94 + (b - 0x21)) ≡ Some c → IsReadIn Jis0208 (a ∷ b ∷ []) c
-unfolding two_byte_char is_lead
+unfolding two_byte_char is_lead_byte
 two_read a b c k l m n e =
     let other : eqb a 0x1B ≡ false = grind (arith, nat_tests) in
     record {
@@ -127,7 +127,7 @@ two_read a b c k l m n e =
       plain = λ y. other_front a (b ∷ y) other;
     }
 
-kanji_read : (c p : ℕ) → IsPointer jis0208_at always 8836 c p → IsReadIn Jis0208 (jis0208_pair p) c
+kanji_read : (c p : ℕ) → IsPointer jis0208_at any_pointer 8836 c p → IsReadIn Jis0208 (jis0208_pair_bytes p) c
 kanji_read c p f =
     let l = f.below in
     let same : (p / 94 + 0x21 - 0x21) * 94 + (p % 94 + 0x21 - 0x21) ≡ p = omega arith in
@@ -135,10 +135,10 @@ kanji_read c p f =
 
 -- all characters
 
-itself : (c : ℕ) → is_katakana c ≡ false → (c == 0x2212) ≡ false → c ≡ looked_up c
+itself : (c : ℕ) → is_halfwidth_katakana c ≡ false → (c == 0x2212) ≡ false → c ≡ lookup_char c
 itself c k m = sym (cond-false _ _ _ k ∙ cond-false _ _ _ m)
 
-low_itself : (c : ℕ) → c < 0x80 → c ≡ looked_up c
+low_itself : (c : ℕ) → c < 0x80 → c ≡ lookup_char c
 low_itself c l = itself c (grind (arith, nat_tests)) (grind (arith, nat_tests))
 
 valued : (s : CharacterSet) (b : List ℕ) (c d : ℕ) → c ≡ d → IsReadIn s b c → IsReadIn s b d
@@ -147,9 +147,9 @@ valued s b c d e h = subst (IsReadIn s b) e h
 there : (s d : CharacterSet) (b : List ℕ) (c : ℕ) → s ≡ d → IsReadIn d b c → IsReadIn s b c
 there s d b c e h = subst (λ x. IsReadIn x b c) (sym e) h
 
-low_read : (s : CharacterSet) (c : ℕ) → has s c ≡ true → nat_lt c 0x80 ≡ true → is_shift c ≡ false → IsReadIn s (c ∷ []) (looked_up c)
+low_read : (s : CharacterSet) (c : ℕ) → has s c ≡ true → nat_lt c 0x80 ≡ true → is_shift c ≡ false → IsReadIn s (c ∷ []) (lookup_char c)
 low_read s c h t n =
-    valued s (c ∷ []) c (looked_up c) (low_itself c (grind (arith, nat_tests)))
+    valued s (c ∷ []) c (lookup_char c) (low_itself c (grind (arith, nat_tests)))
     (elim (true_or_false (c == 0x5C || c == 0x7E)) [
       | inl k ↦ there s Ascii (c ∷ []) c (latin_set s c k h) (in_ascii c t n)
       | inr k ↦ elim (neutral_set s c k t h) [
@@ -161,26 +161,27 @@ low_read s c h t n =
 no_latin : (c : ℕ) → nat_lt c 0x80 ≡ false → (c == 0x5C || c == 0x7E) ≡ false
 no_latin c l = grind (arith, nat_tests)
 
-char_read : (s : CharacterSet) (c : ℕ) (b : List ℕ) → has s c ≡ true → iso_2022_jp_bytes c ≡ Some b → IsReadIn s b (looked_up c)
+char_read : (s : CharacterSet) (c : ℕ) (b : List ℕ) → has s c ≡ true → iso_2022_jp_bytes c ≡ Some b → IsReadIn s b (lookup_char c)
 char_read s c b h e =
     by_test (nat_lt c 0x80) _ _ b
     (λ t. by_test (is_shift c) None (Some (c ∷ [])) b (λ n f. no_bytes b f)
-    (λ n f. same_bytes (λ x. IsReadIn s x (looked_up c)) (c ∷ []) b (low_read s c h t n) f))
+    (λ n f. same_bytes (λ x. IsReadIn s x (lookup_char c)) (c ∷ []) b (low_read s c h t n) f))
     (λ l. by_test (c == 0xA5) _ _ b
     (λ t f. (let r : 0xA5 ≡ c = grind (arith, nat_tests) in
-    same_bytes (λ x. IsReadIn s x (looked_up c)) (0x5C ∷ []) b
-    (there s Roman (0x5C ∷ []) (looked_up c) (roman_set s c (no_latin c l) l (or_left _ _ t) h) (valued Roman (0x5C ∷ []) 0xA5 (looked_up c) (ap looked_up r) yen_read)) f))
+    same_bytes (λ x. IsReadIn s x (lookup_char c)) (0x5C ∷ []) b
+    (there s Roman (0x5C ∷ []) (lookup_char c) (roman_set s c (no_latin c l) l (or_left _ _ t) h) (valued Roman (0x5C ∷ []) 0xA5 (lookup_char c) (ap lookup_char r) yen_read)) f))
     (λ yen. by_test (c == 0x203E) _ _ b
     (λ t f. (let r : 0x203E ≡ c = grind (arith, nat_tests) in
-    same_bytes (λ x. IsReadIn s x (looked_up c)) (0x7E ∷ []) b
-    (there s Roman (0x7E ∷ []) (looked_up c) (roman_set s c (no_latin c l) l (or_right _ _ t) h) (valued Roman (0x7E ∷ []) 0x203E (looked_up c) (ap looked_up r) line_read)) f))
-    (λ line f. by_pointer (λ x. IsReadIn s x (looked_up c)) jis0208_pair (jis0208_pointer (looked_up c)) b
-    (λ p g. there s Jis0208 (jis0208_pair p) (looked_up c) (kanji_set s c (no_latin c l) l (or_from _ _ yen line) h)
-    (kanji_read (looked_up c) p (at_jis0208_pointer (looked_up c) p g))) f))) e
+    same_bytes (λ x. IsReadIn s x (lookup_char c)) (0x7E ∷ []) b
+    (there s Roman (0x7E ∷ []) (lookup_char c) (roman_set s c (no_latin c l) l (or_right _ _ t) h) (valued Roman (0x7E ∷ []) 0x203E (lookup_char c) (ap lookup_char r) line_read)) f))
+    (λ line f. by_pointer (λ x. IsReadIn s x (lookup_char c)) jis0208_pair_bytes (jis0208_pointer (lookup_char c)) b
+    (λ p g. there s Jis0208 (jis0208_pair_bytes p) (lookup_char c)
+    (kanji_set s c (no_latin c l) l (or_from _ _ yen line) h)
+    (kanji_read (lookup_char c) p (at_jis0208_pointer (lookup_char c) p g))) f))) e
 
 -- texts
 
-one : (s : CharacterSet) (c : ℕ) (b : Option (List ℕ)) → has s c ≡ true → iso_2022_jp_bytes c ≡ b → is_some b ≡ true → IsReadIn s (or_nothing b) (looked_up c)
+one : (s : CharacterSet) (c : ℕ) (b : Option (List ℕ)) → has s c ≡ true → iso_2022_jp_bytes c ≡ b → is_some b ≡ true → IsReadIn s (list_or_empty b) (lookup_char c)
 one s c None h e m = cc
 one s c (Some b) h e m = char_read s c b h e
 
@@ -190,29 +191,30 @@ char_then s b y t c p h = read_more jp_rule (number s) b c y t p.piece h
 -- the bytes of a character with the escape sequence before it, by whether the set in force has it
 step : (s : CharacterSet) (c : ℕ) (y t : List ℕ) (is_there : Bool) → has s c ≡ is_there → is_some (iso_2022_jp_bytes c) ≡ true
     → IsReadAs jp_rule (number (cond is_there s (set_of_class (class_of c)))) y t
-    → IsReadAs jp_rule (number s) (cond is_there [] (escape (set_of_class (class_of c))) ++ (or_nothing (iso_2022_jp_bytes c) ++ y)) (looked_up c ∷ t)
+    → IsReadAs jp_rule (number s) (cond is_there [] (escape_sequence (set_of_class (class_of c))) ++ (list_or_empty (iso_2022_jp_bytes c) ++ y)) (lookup_char c ∷ t)
 unfolding has
-step s c y t true e m h = char_then s _ y t (looked_up c) (one s c (iso_2022_jp_bytes c) e refl m) h
+step s c y t true e m h = char_then s _ y t (lookup_char c) (one s c (iso_2022_jp_bytes c) e refl m) h
 step s c y t false e m h =
     let d = set_of_class (class_of c) in
     let p = one d c (iso_2022_jp_bytes c) (iso_2022_jp_is_lawful.designates c) refl m in
-    behind_escape (number s) d (or_nothing (iso_2022_jp_bytes c) ++ y) (looked_up c ∷ t) (p.plain y) (char_then d _ y t (looked_up c) p h)
+    behind_escape (number s) d (list_or_empty (iso_2022_jp_bytes c) ++ y) (lookup_char c ∷ t) (p.plain y) (char_then d _ y t (lookup_char c) p h)
 
 ends : (s : CharacterSet) → IsReadAs jp_rule (number s) (escape_at_end s) []
 ends Ascii = read_nothing jp_rule 0
 ends Roman = behind_escape 1 Ascii [] [] refl (read_nothing jp_rule 0)
 ends Jis0208 = behind_escape 3 Ascii [] [] refl (read_nothing jp_rule 0)
 
-behind_is_read : (u t : List ℕ) → any_unmappable iso_2022_jp t ≡ false
-    → IsReadAs jp_rule (number (iso_2022_jp.set_after Ascii u)) (bytes_behind iso_2022_jp Ascii u t) (map looked_up t)
+behind_is_read : (u t : List ℕ) → any_unmappable iso_2022_jp_encoder_rule t ≡ false
+    → IsReadAs jp_rule (number (iso_2022_jp_encoder_rule.set_after Ascii u))
+    (bytes_after_text iso_2022_jp_encoder_rule Ascii u t) (map lookup_char t)
 unfolding has
-behind_is_read u [] m = ends (iso_2022_jp.set_after Ascii u)
+behind_is_read u [] m = ends (iso_2022_jp_encoder_rule.set_after Ascii u)
 behind_is_read u (c ∷ t) m =
-    let s = iso_2022_jp.set_after Ascii u in
-    let rest = bytes_behind iso_2022_jp Ascii (u ++ c ∷ []) t in
-    let f = first_mapped iso_2022_jp c t m in
-    step s c rest (map looked_up t) (has s c) refl f.0
-    (subst (λ x. IsReadAs jp_rule (number x) rest (map looked_up t)) (iso_2022_jp_is_lawful.set_after_more Ascii u c) (behind_is_read (u ++ c ∷ []) t f.1))
+    let s = iso_2022_jp_encoder_rule.set_after Ascii u in
+    let rest = bytes_after_text iso_2022_jp_encoder_rule Ascii (u ++ c ∷ []) t in
+    let f = first_mapped iso_2022_jp_encoder_rule c t m in
+    step s c rest (map lookup_char t) (has s c) refl f.0
+    (subst (λ x. IsReadAs jp_rule (number x) rest (map lookup_char t)) (iso_2022_jp_is_lawful.set_after_more Ascii u c) (behind_is_read (u ++ c ∷ []) t f.1))
 
-pub iso_2022_jp_is_read : (t : List ℕ) → any_unmappable iso_2022_jp t ≡ false → IsReadAs jp_rule 0 (bytes_of_text iso_2022_jp Ascii t) (map looked_up t)
+pub iso_2022_jp_is_read : (t : List ℕ) → any_unmappable iso_2022_jp_encoder_rule t ≡ false → IsReadAs jp_rule 0 (bytes_of_text iso_2022_jp_encoder_rule Ascii t) (map lookup_char t)
 iso_2022_jp_is_read t m = behind_is_read [] t m

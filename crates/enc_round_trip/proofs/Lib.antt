@@ -1,4 +1,4 @@
-pub mod BackLemmas
+pub mod ReadBackLemmas
 pub mod BarringBack
 pub mod PointerLemmas
 pub mod OneByteBack

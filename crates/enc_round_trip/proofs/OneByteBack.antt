@@ -7,15 +7,15 @@ use Rattle.enc_index.specs.declared.table.Planes.TheVariants.{Basic}
 use Rattle.enc_index.specs.declared.single_byte_index.SingleByteIndex.{SingleByteIndex}
 use Rattle.enc_index.specs.Index.{index_at}
 use Rattle.enc_index.specs.Runs.{single_byte_runs}
-use Rattle.enc_pointers.specs.Pointers.{single_byte_pointer, always, never}
-use Rattle.enc_machine.specs.Taking.{IsPiece}
+use Rattle.enc_pointers.specs.Pointers.{single_byte_pointer, any_pointer, no_character}
+use Rattle.enc_machine.specs.Taking.{IsWholeChar}
 use Rattle.enc_utf.specs.Utf8.{utf_8_rule}
 use Rattle.enc_utf.proofs.Utf8Pieces.{utf8_piece}
 use Rattle.enc_single_byte.specs.OneByte.{one_byte_rule, single_byte_char, x_user_defined_char}
 use Rattle.enc_single_byte.proofs.OneByteLemmas.{one_byte_piece}
 use Rattle.enc_encoders.specs.Utf8.{utf_8_bytes}
-use Rattle.enc_encoders.specs.SingleByte.{single_byte, single_byte_bytes, x_user_defined_other, x_user_defined_bytes}
-use Rattle.enc_round_trip.proofs.BackLemmas.{IsReadBack, with_ascii_is_read, by_test, same_bytes, no_bytes}
+use Rattle.enc_encoders.specs.SingleByte.{single_byte_of_pointer, single_byte_bytes, x_user_defined_other, x_user_defined_bytes}
+use Rattle.enc_round_trip.proofs.ReadBackLemmas.{IsReadBack, with_ascii_is_read, by_test, same_bytes, no_bytes}
 use Rattle.enc_round_trip.proofs.PointerLemmas.{is_pointer, by_pointer}
 
 pub utf_8_is_read : IsReadBack utf_8_rule utf_8_bytes (λ c. c)
@@ -32,7 +32,7 @@ other_char p other = let e : nat_lt (p + 0x80) 0x80 ≡ false = grind (arith, na
 single_byte_at : (index : SingleByteIndex) (c p : ℕ) → single_byte_pointer index c ≡ Some p → single_byte_char (single_byte_runs index) (p + 0x80) ≡ Some c
 unfolding single_byte_pointer
 single_byte_at index c p f =
-    let h = is_pointer (λ q. index_at Basic (single_byte_runs index) q) always never 128 c p f in
+    let h = is_pointer (λ q. index_at Basic (single_byte_runs index) q) any_pointer no_character 128 c p f in
     let same : p + 0x80 - 0x80 ≡ p = omega arith in
     other_char p _ ∙ ap (index_at Basic (single_byte_runs index)) same ∙ h.has
 
@@ -41,7 +41,8 @@ single_byte_is_read index =
     let char = single_byte_char (single_byte_runs index) in
     with_ascii_is_read (one_byte_rule char) _ (λ c. c)
     (λ c l. one_byte_piece char c c (ascii_char c _ l))
-    (λ c b l e. by_pointer (λ x. IsPiece (one_byte_rule char) 0 x c) single_byte (single_byte_pointer index c) b
+    (λ c b l e. by_pointer (λ x. IsWholeChar (one_byte_rule char) 0 x c) single_byte_of_pointer
+    (single_byte_pointer index c) b
     (λ p f. one_byte_piece char (p + 0x80) c (single_byte_at index c p f)) e)
 
 user_defined_at : (c : ℕ) → (nat_le 0xF780 c && nat_le c 0xF7FF) ≡ true → x_user_defined_char (c - 0xF780 + 0x80) ≡ Some c
@@ -55,5 +56,5 @@ x_user_defined_is_read =
     with_ascii_is_read (one_byte_rule x_user_defined_char) x_user_defined_other (λ c. c)
     (λ c l. one_byte_piece x_user_defined_char c c (ascii_char c _ l))
     (λ c b l e. by_test (nat_le 0xF780 c && nat_le c 0xF7FF) (Some ((c - 0xF780 + 0x80) ∷ [])) None b
-    (λ t f. same_bytes (λ x. IsPiece (one_byte_rule x_user_defined_char) 0 x c) _ b (one_byte_piece x_user_defined_char (c - 0xF780 + 0x80) c (user_defined_at c t)) f)
+    (λ t f. same_bytes (λ x. IsWholeChar (one_byte_rule x_user_defined_char) 0 x c) _ b (one_byte_piece x_user_defined_char (c - 0xF780 + 0x80) c (user_defined_at c t)) f)
     (λ t f. no_bytes b f) e)

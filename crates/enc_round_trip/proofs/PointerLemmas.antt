@@ -2,14 +2,14 @@
 use Rattle.std.proofs.Common.{◌≡◌, ℕ, zero, suc, ◌<◌, Bool, true, false, ◌&&◌, cond, Option, Some, None, List, refl, ap, subst, arith}
 use Rattle.std.proofs.lemmas.Bool.Decides.{nat_tests}
 use Rattle.std.specs.Cmp.{first_so, second_so}
-use Rattle.enc_pointers.specs.Pointers.{first_below, last_below, if_none, is_character, pointer_of}
-use Rattle.enc_encoders.specs.Stateless.{bytes_by}
+use Rattle.enc_pointers.specs.Pointers.{first_below, last_below, pointer_or, is_character, pointer_of}
+use Rattle.enc_encoders.specs.Stateless.{bytes_of_pointer}
 
 module _ (test : ℕ → Bool) where
   abbrev Passes : ℕ → ℕ → Type 0
   Passes n p = (p < n) × (test p ≡ true)
 
-  first_or_here : (o : Option ℕ) (b : Bool) (n p : ℕ) → (o ≡ Some p → Passes n p) → test n ≡ b → if_none o (cond b (Some n) None) ≡ Some p → Passes (suc n) p
+  first_or_here : (o : Option ℕ) (b : Bool) (n p : ℕ) → (o ≡ Some p → Passes n p) → test n ≡ b → pointer_or o (cond b (Some n) None) ≡ Some p → Passes (suc n) p
   first_or_here (Some q) b n p h t e = let r = h e in (omega (arith, r.0), r.1)
   first_or_here None true n p h t e = let f : n ≡ p = cc in (omega arith, subst (λ k. test k ≡ true) f t)
   first_or_here None false n p h t e = cc
@@ -48,6 +48,6 @@ is_pointer at counts is_by_last bound c p e =
     record { below = h.0; counted = first_so _ _ h.1; has = has_character c (at p) (second_so _ _ h.1) }
 
 -- the bytes of a pointer
-pub by_pointer : (P : List ℕ → Type 0) (bytes : ℕ → List ℕ) (o : Option ℕ) (b : List ℕ) → ((p : ℕ) → o ≡ Some p → P (bytes p)) → bytes_by bytes o ≡ Some b → P b
+pub by_pointer : (P : List ℕ → Type 0) (bytes : ℕ → List ℕ) (o : Option ℕ) (b : List ℕ) → ((p : ℕ) → o ≡ Some p → P (bytes p)) → bytes_of_pointer bytes o ≡ Some b → P b
 by_pointer P bytes None b h e = cc
 by_pointer P bytes (Some p) b h e = let f : bytes p ≡ b = cc in subst P f (h p refl)

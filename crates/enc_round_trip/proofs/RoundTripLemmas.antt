@@ -1,7 +1,7 @@
 -- What each encoder writes, its decoder reads back: the one proof that goes through all codecs.
 use Rattle.std.proofs.Common.{◌≡◌, ℕ, true, false, Option, Some, None, List, [], ◌∷◌, map, refl, ap, sym, subst, ◌∙◌}
 use Rattle.enc_units.specs.Output.{AreScalars}
-use Rattle.enc_machine.specs.Sequence.{text_of}
+use Rattle.enc_machine.specs.Sequence.{sequence_text}
 use Rattle.enc_machine.specs.Segmentation.{sequences_of}
 use Rattle.enc_codec.specs.declared.codec.Codec.{Codec}
 use Rattle.enc_codec.specs.declared.codec.Codec.TheVariants.{Utf8, Utf16Be, Utf16Le, SingleByte, Big5, EucKr, ShiftJis, EucJp, Gbk, Gb18030, Iso2022Jp, XUserDefined, Replacement}
@@ -9,11 +9,11 @@ use Rattle.enc_codec.specs.Codecs.{codec_rule}
 use Rattle.enc_encoders.specs.declared.character_set.CharacterSet.TheVariants.{Ascii}
 use Rattle.enc_encoders.specs.EncoderRule.{EncoderRule}
 use Rattle.enc_encoders.specs.Text.{bytes_of_text}
-use Rattle.enc_encoders.specs.Barring.{barring}
+use Rattle.enc_encoders.specs.Barring.{barring_rule}
 use Rattle.enc_encode.specs.Encoders.{encoder_rule}
 use Rattle.enc_references.specs.Unmappable.{any_unmappable}
-use Rattle.enc_round_trip.specs.RoundTrip.{read_back, keeps_characters}
-use Rattle.enc_round_trip.proofs.BackLemmas.{IsReadAs, text_is_read}
+use Rattle.enc_round_trip.specs.RoundTrip.{char_read_back, keeps_characters}
+use Rattle.enc_round_trip.proofs.ReadBackLemmas.{IsReadAs, text_is_read}
 use Rattle.enc_round_trip.proofs.BarringBack.{except_is_read, still_mapped, same_bytes_behind}
 use Rattle.enc_round_trip.proofs.OneByteBack.{utf_8_is_read, single_byte_is_read, x_user_defined_is_read}
 use Rattle.enc_round_trip.proofs.DoubleByteBack.{euc_kr_is_read, big5_is_read}
@@ -24,7 +24,7 @@ use Rattle.enc_round_trip.proofs.Iso2022JpBack.{iso_2022_jp_is_read}
 
 abbrev pub IsReadIfAny : Codec → Option EncoderRule → Type 0
 IsReadIfAny codec None = Unit {0}
-IsReadIfAny codec (Some e) = (t : List ℕ) → AreScalars t → any_unmappable e t ≡ false → IsReadAs (codec_rule codec) 0 (bytes_of_text e Ascii t) (map (read_back codec) t)
+IsReadIfAny codec (Some e) = (t : List ℕ) → AreScalars t → any_unmappable e t ≡ false → IsReadAs (codec_rule codec) 0 (bytes_of_text e Ascii t) (map (char_read_back codec) t)
 
 pub read_if_any : (c : Codec) → IsReadIfAny c (encoder_rule c)
 read_if_any Utf8 = text_is_read _ _ _ utf_8_is_read
@@ -42,10 +42,10 @@ read_if_any XUserDefined = text_is_read _ _ _ x_user_defined_is_read
 read_if_any Iso2022Jp = λ t s m. iso_2022_jp_is_read t m
 
 -- by the rule that the codec has, whatever is barred
-pub is_read : (c : Codec) (b : List ℕ) (e : EncoderRule) (t : List ℕ) → encoder_rule c ≡ Some e → AreScalars t → any_unmappable (barring b e) t ≡ false
-    → IsReadAs (codec_rule c) 0 (bytes_of_text (barring b e) Ascii t) (map (read_back c) t)
+pub is_read : (c : Codec) (b : List ℕ) (e : EncoderRule) (t : List ℕ) → encoder_rule c ≡ Some e → AreScalars t → any_unmappable (barring_rule b e) t ≡ false
+    → IsReadAs (codec_rule c) 0 (bytes_of_text (barring_rule b e) Ascii t) (map (char_read_back c) t)
 is_read c b e t q s m =
-    subst (λ y. IsReadAs (codec_rule c) 0 y (map (read_back c) t)) (sym (same_bytes_behind b e Ascii [] t m))
+    subst (λ y. IsReadAs (codec_rule c) 0 y (map (char_read_back c) t)) (sym (same_bytes_behind b e Ascii [] t m))
     ((subst (IsReadIfAny c) q (read_if_any c)) t s (still_mapped b e t m))
 
 -- each character is read back as itself, where the codec keeps characters
@@ -54,12 +54,12 @@ map_of : (f : ℕ → ℕ) → ((c : ℕ) → f c ≡ c) → (t : List ℕ) → 
 map_of f h [] = refl
 map_of f h (c ∷ t) = ap (λ x. x ∷ map f t) (h c) ∙ ap (λ x. c ∷ x) (map_of f h t)
 
-keeps : (c : Codec) → keeps_characters c ≡ true → (n : ℕ) → read_back c n ≡ n
+keeps : (c : Codec) → keeps_characters c ≡ true → (n : ℕ) → char_read_back c n ≡ n
 keeps ShiftJis h n = cc
 keeps EucJp h n = cc
 keeps Iso2022Jp h n = cc
 keeps _ h n = refl
 
-pub same_text : (c : Codec) (b : List ℕ) (e : EncoderRule) (t : List ℕ) → encoder_rule c ≡ Some e → AreScalars t → any_unmappable (barring b e) t ≡ false → keeps_characters c ≡ true
-    → text_of (sequences_of (codec_rule c) 0 (bytes_of_text (barring b e) Ascii t)) ≡ t
-same_text c b e t q s m k = (is_read c b e t q s m).text ∙ map_of (read_back c) (keeps c k) t
+pub same_text : (c : Codec) (b : List ℕ) (e : EncoderRule) (t : List ℕ) → encoder_rule c ≡ Some e → AreScalars t → any_unmappable (barring_rule b e) t ≡ false → keeps_characters c ≡ true
+    → sequence_text (sequences_of (codec_rule c) 0 (bytes_of_text (barring_rule b e) Ascii t)) ≡ t
+same_text c b e t q s m k = (is_read c b e t q s m).text ∙ map_of (char_read_back c) (keeps c k) t

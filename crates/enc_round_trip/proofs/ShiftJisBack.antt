@@ -3,73 +3,74 @@ use Rattle.std.proofs.Common.{◌≡◌, ℕ, ◌+◌, ◌-◌, ◌*◌, ◌/◌
 use Rattle.std.proofs.lemmas.Bool.{cond-true, cond-false, or_left, or_right, or_from}
 use Rattle.std.proofs.lemmas.Bool.Decides.{nat_tests}
 use Rattle.enc_index.specs.Runs.{jis0208_at}
-use Rattle.enc_pointers.specs.Pointers.{shift_jis_pointer, is_shift_jis_pointer, never}
+use Rattle.enc_pointers.specs.Pointers.{shift_jis_pointer, is_shift_jis_pointer, no_character}
 use Rattle.enc_machine.specs.declared.byte_codec.Text.TheVariants.{One}
-use Rattle.enc_machine.specs.Taking.{IsPiece}
+use Rattle.enc_machine.specs.Taking.{IsWholeChar}
 use Rattle.enc_multi_byte.specs.DoubleByte.{text_of_char}
 use Rattle.enc_multi_byte.specs.MultiByte.{multi_byte_rule}
 use Rattle.enc_multi_byte.specs.ShiftJis as decoder
-use Rattle.enc_encoders.specs.Japanese.{is_katakana, katakana_byte, with_wide_minus}
-use Rattle.enc_encoders.specs.ShiftJis.{shift_jis_lead, shift_jis_trail, shift_jis_pair, shift_jis_other, shift_jis_bytes}
-use Rattle.enc_round_trip.specs.RoundTrip.{with_latin, or_private_use, read_in_shift_jis}
-use Rattle.enc_round_trip.proofs.BackLemmas.{IsReadBack, with_ascii_is_read, by_test, same_bytes, same_char}
+use Rattle.enc_encoders.specs.Japanese.{is_halfwidth_katakana, katakana_byte, with_fullwidth_minus}
+use Rattle.enc_encoders.specs.ShiftJis.{shift_jis_lead_byte, shift_jis_trail_byte, shift_jis_pair_bytes, shift_jis_other, shift_jis_bytes}
+use Rattle.enc_round_trip.specs.RoundTrip.{ascii_twin_or, private_use_or, char_read_in_shift_jis}
+use Rattle.enc_round_trip.proofs.ReadBackLemmas.{IsReadBack, with_ascii_is_read, by_test, same_bytes, same_char}
 use Rattle.enc_round_trip.proofs.PointerLemmas.{IsPointer, is_pointer, by_pointer}
 use Rattle.enc_round_trip.proofs.DoubleByteBack.{single_piece, pair_piece}
 use Rattle.enc_round_trip.proofs.JapaneseBack.{katakana_byte_is_read, low_not_latin, latin_is_read}
 
 -- a row tells its lead, and a cell its trail, and the other way
 
-is_lead : (row : ℕ) → row < 60 → decoder.shift_jis_lead (shift_jis_lead row) ≡ true
+is_lead : (row : ℕ) → row < 60 → decoder.is_shift_jis_lead (shift_jis_lead_byte row) ≡ true
 is_lead row l = grind (arith, nat_tests)
 
-row_of : (row : ℕ) → row < 60 → shift_jis_lead row - (if nat_lt (shift_jis_lead row) 0xA0 then 0x81 else 0xC1) ≡ row
+row_of : (row : ℕ) → row < 60
+    → shift_jis_lead_byte row - (if nat_lt (shift_jis_lead_byte row) 0xA0 then 0x81 else 0xC1) ≡ row
 row_of row l = grind (arith, nat_tests)
 
-is_trail : (cell : ℕ) → cell < 188 → decoder.shift_jis_trail (shift_jis_trail cell) ≡ true
+is_trail : (cell : ℕ) → cell < 188 → decoder.is_shift_jis_trail (shift_jis_trail_byte cell) ≡ true
 is_trail cell l = grind (arith, nat_tests)
 
-cell_of : (cell : ℕ) → cell < 188 → shift_jis_trail cell - (if nat_lt (shift_jis_trail cell) 0x7F then 0x40 else 0x41) ≡ cell
+cell_of : (cell : ℕ) → cell < 188 → shift_jis_trail_byte cell - (if nat_lt (shift_jis_trail_byte cell) 0x7F then 0x40 else 0x41) ≡ cell
 cell_of cell l = grind (arith, nat_tests)
 
-pointer_of_pair : (p : ℕ) → p < 11280 → decoder.shift_jis_pointer (shift_jis_lead (p / 188)) (shift_jis_trail (p % 188)) ≡ p
+pointer_of_pair : (p : ℕ) → p < 11280 → decoder.shift_jis_pair_pointer (shift_jis_lead_byte (p / 188)) (shift_jis_trail_byte (p % 188)) ≡ p
 pointer_of_pair p l =
     let row = row_of (p / 188) (omega arith) in
     let cell = cell_of (p % 188) (omega arith) in
-    ap (λ r. r * 188 + (shift_jis_trail (p % 188) - (if nat_lt (shift_jis_trail (p % 188)) 0x7F then 0x40 else 0x41))) row
+    ap (λ r. r * 188 + (shift_jis_trail_byte (p % 188) - (if nat_lt (shift_jis_trail_byte (p % 188)) 0x7F then 0x40 else 0x41))) row
     ∙ ap (λ x. p / 188 * 188 + x) cell ∙ omega arith
 
 -- the character at a pointer
-char_at : (t : Bool) (p c : ℕ) → (nat_le 8836 p && nat_le p 10715) ≡ t → jis0208_at p ≡ Some c → decoder.shift_jis_char p ≡ Some (or_private_use c (Some p))
+char_at : (t : Bool) (p c : ℕ) → (nat_le 8836 p && nat_le p 10715) ≡ t → jis0208_at p ≡ Some c → decoder.shift_jis_pointer_char p ≡ Some (private_use_or c (Some p))
 char_at true p c t e = cond-true _ _ _ t ∙ ap Some (sym (cond-true _ _ _ t))
 char_at false p c t e = cond-false _ _ _ t ∙ e ∙ ap Some (sym (cond-false _ _ _ t))
 
 is_pair : (c p : ℕ) → IsPointer jis0208_at is_shift_jis_pointer 11280 c p
-    → decoder.shift_jis_pair (shift_jis_lead (p / 188)) (shift_jis_trail (p % 188)) ≡ Some (One (or_private_use c (Some p)))
+    → decoder.shift_jis_pair_text (shift_jis_lead_byte (p / 188)) (shift_jis_trail_byte (p % 188)) ≡ Some (One (private_use_or c (Some p)))
 is_pair c p h =
-    ap text_of_char (cond-true _ _ _ (is_trail (p % 188) (omega arith)) ∙ ap decoder.shift_jis_char (pointer_of_pair p h.below) ∙ char_at _ p c refl h.has)
+    ap text_of_char (cond-true _ _ _ (is_trail (p % 188) (omega arith)) ∙ ap decoder.shift_jis_pointer_char (pointer_of_pair p h.below) ∙ char_at _ p c refl h.has)
 
 at_pointer : (c p : ℕ) → shift_jis_pointer c ≡ Some p → IsPointer jis0208_at is_shift_jis_pointer 11280 c p
 unfolding shift_jis_pointer
-at_pointer c p f = is_pointer jis0208_at is_shift_jis_pointer never 11280 c p f
+at_pointer c p f = is_pointer jis0208_at is_shift_jis_pointer no_character 11280 c p f
 
 -- single bytes
 
 abbrev Piece : List ℕ → ℕ → Type 0
-Piece b c = IsPiece (multi_byte_rule decoder.shift_jis_prefix) 0 b c
+Piece b c = IsWholeChar (multi_byte_rule decoder.shift_jis_prefix) 0 b c
 
 low_piece : (b : ℕ) → b ≤ 0x80 → Piece (b ∷ []) b
 low_piece b l =
     let t : nat_le b 0x80 ≡ true = grind (arith, nat_tests) in
-    single_piece decoder.shift_jis_lead decoder.shift_jis_single decoder.shift_jis_pair b b (grind (arith, nat_tests)) (cond-true _ _ _ t)
+    single_piece decoder.is_shift_jis_lead decoder.shift_jis_single_char decoder.shift_jis_pair_text b b (grind (arith, nat_tests)) (cond-true _ _ _ t)
 
-katakana_piece : (c : ℕ) → is_katakana c ≡ true → Piece (katakana_byte c ∷ []) c
+katakana_piece : (c : ℕ) → is_halfwidth_katakana c ≡ true → Piece (katakana_byte c ∷ []) c
 katakana_piece c k =
     let low : 0xFF61 ≤ c = grind (arith, nat_tests) in
     let high : c ≤ 0xFF9F = grind (arith, nat_tests) in
-    single_piece decoder.shift_jis_lead decoder.shift_jis_single decoder.shift_jis_pair (katakana_byte c) c (not_lead c low high)
+    single_piece decoder.is_shift_jis_lead decoder.shift_jis_single_char decoder.shift_jis_pair_text (katakana_byte c) c (not_lead c low high)
     (cond-false _ _ _ (not_low c low) ∙ katakana_byte_is_read c k)
   where
-    not_lead : (c : ℕ) → 0xFF61 ≤ c → c ≤ 0xFF9F → decoder.shift_jis_lead (katakana_byte c) ≡ false
+    not_lead : (c : ℕ) → 0xFF61 ≤ c → c ≤ 0xFF9F → decoder.is_shift_jis_lead (katakana_byte c) ≡ false
     not_lead c l h = grind (arith, nat_tests)
 
     not_low : (c : ℕ) → 0xFF61 ≤ c → nat_le (katakana_byte c) 0x80 ≡ false
@@ -77,35 +78,37 @@ katakana_piece c k =
 
 -- all characters
 
-itself : (c : ℕ) → (nat_le c 0x80 || is_katakana c) ≡ true → c ≡ read_in_shift_jis c
+itself : (c : ℕ) → (nat_le c 0x80 || is_halfwidth_katakana c) ≡ true → c ≡ char_read_in_shift_jis c
 itself c t = sym (cond-true _ _ _ t)
 
-low_itself : (c : ℕ) → c ≤ 0x80 → c ≡ with_latin read_in_shift_jis c
-low_itself c l = itself c (or_left _ _ (le-leb c 0x80 l)) ∙ low_not_latin read_in_shift_jis c l
+low_itself : (c : ℕ) → c ≤ 0x80 → c ≡ ascii_twin_or char_read_in_shift_jis c
+low_itself c l = itself c (or_left _ _ (le-leb c 0x80 l)) ∙ low_not_latin char_read_in_shift_jis c l
 
-by_index : (c p : ℕ) → nat_le c 0x80 ≡ false → is_katakana c ≡ false → shift_jis_pointer (with_wide_minus c) ≡ Some p → Piece (shift_jis_pair p) (read_in_shift_jis c)
+by_index : (c p : ℕ) → nat_le c 0x80 ≡ false → is_halfwidth_katakana c ≡ false → shift_jis_pointer (with_fullwidth_minus c) ≡ Some p → Piece (shift_jis_pair_bytes p) (char_read_in_shift_jis c)
 by_index c p l k f =
-    let h = at_pointer (with_wide_minus c) p f in
-    let e : or_private_use (with_wide_minus c) (Some p) ≡ read_in_shift_jis c =
-    ap (or_private_use (with_wide_minus c)) (sym f) ∙ sym (cond-false _ _ _ (or_from _ _ l k)) in
-    same_char _ 0 (shift_jis_pair p) _ (read_in_shift_jis c) e
-    (pair_piece decoder.shift_jis_lead decoder.shift_jis_single decoder.shift_jis_pair (shift_jis_lead (p / 188)) (shift_jis_trail (p % 188)) _
-    (is_lead (p / 188) (let l = h.below in omega arith)) (is_pair (with_wide_minus c) p h))
+    let h = at_pointer (with_fullwidth_minus c) p f in
+    let e : private_use_or (with_fullwidth_minus c) (Some p) ≡ char_read_in_shift_jis c =
+    ap (private_use_or (with_fullwidth_minus c)) (sym f) ∙ sym (cond-false _ _ _ (or_from _ _ l k)) in
+    same_char _ 0 (shift_jis_pair_bytes p) _ (char_read_in_shift_jis c) e
+    (pair_piece decoder.is_shift_jis_lead decoder.shift_jis_single_char decoder.shift_jis_pair_text (shift_jis_lead_byte (p / 188)) (shift_jis_trail_byte (p % 188)) _
+    (is_lead (p / 188) (let l = h.below in omega arith)) (is_pair (with_fullwidth_minus c) p h))
 
-beyond : (c : ℕ) (b : List ℕ) → 0x80 ≤ c → shift_jis_other c ≡ Some b → Piece b (with_latin read_in_shift_jis c)
+beyond : (c : ℕ) (b : List ℕ) → 0x80 ≤ c → shift_jis_other c ≡ Some b → Piece b (ascii_twin_or char_read_in_shift_jis c)
 beyond c b l =
     by_test (c == 0x80) _ _ b
     (λ t. (let s : 0x80 ≡ c = grind (arith, nat_tests) in
-    same_bytes (λ x. Piece x (with_latin read_in_shift_jis c)) (0x80 ∷ []) b
-    (same_char _ 0 (0x80 ∷ []) 0x80 (with_latin read_in_shift_jis c) (s ∙ low_itself c (omega arith)) (low_piece 0x80 (omega arith)))))
-    (λ n. latin_is_read (multi_byte_rule decoder.shift_jis_prefix) _ read_in_shift_jis c b (λ a m. low_piece a (omega arith))
-    (λ yen line. by_test (is_katakana c) _ _ b
-    (λ k. same_bytes (λ x. Piece x (read_in_shift_jis c)) (katakana_byte c ∷ []) b
-    (same_char _ 0 (katakana_byte c ∷ []) c (read_in_shift_jis c) (itself c (or_right _ _ k)) (katakana_piece c k)))
-    (λ k. by_pointer (λ x. Piece x (read_in_shift_jis c)) shift_jis_pair (shift_jis_pointer (with_wide_minus c)) b
+    same_bytes (λ x. Piece x (ascii_twin_or char_read_in_shift_jis c)) (0x80 ∷ []) b
+    (same_char _ 0 (0x80 ∷ []) 0x80 (ascii_twin_or char_read_in_shift_jis c) (s ∙ low_itself c (omega arith)) (low_piece 0x80 (omega arith)))))
+    (λ n. latin_is_read (multi_byte_rule decoder.shift_jis_prefix) _ char_read_in_shift_jis c b (λ a m. low_piece a (omega arith))
+    (λ yen line. by_test (is_halfwidth_katakana c) _ _ b
+    (λ k. same_bytes (λ x. Piece x (char_read_in_shift_jis c)) (katakana_byte c ∷ []) b
+    (same_char _ 0 (katakana_byte c ∷ []) c (char_read_in_shift_jis c) (itself c (or_right _ _ k))
+    (katakana_piece c k)))
+    (λ k. by_pointer (λ x. Piece x (char_read_in_shift_jis c)) shift_jis_pair_bytes
+    (shift_jis_pointer (with_fullwidth_minus c)) b
     (λ p. by_index c p (grind (arith, nat_tests)) k))))
 
-pub shift_jis_is_read : IsReadBack (multi_byte_rule decoder.shift_jis_prefix) shift_jis_bytes (with_latin read_in_shift_jis)
+pub shift_jis_is_read : IsReadBack (multi_byte_rule decoder.shift_jis_prefix) shift_jis_bytes (ascii_twin_or char_read_in_shift_jis)
 shift_jis_is_read =
-    with_ascii_is_read (multi_byte_rule decoder.shift_jis_prefix) shift_jis_other (with_latin read_in_shift_jis)
-    (λ c l. same_char _ 0 (c ∷ []) c (with_latin read_in_shift_jis c) (low_itself c (omega arith)) (low_piece c (omega arith))) beyond
+    with_ascii_is_read (multi_byte_rule decoder.shift_jis_prefix) shift_jis_other (ascii_twin_or char_read_in_shift_jis)
+    (λ c l. same_char _ 0 (c ∷ []) c (ascii_twin_or char_read_in_shift_jis c) (low_itself c (omega arith)) (low_piece c (omega arith))) beyond

@@ -4,13 +4,13 @@ use Rattle.std.proofs.lemmas.Bool.Decides.{nat_tests}
 use Rattle.std.specs.Char.{encode_utf8}
 use Rattle.std.specs.Char.Escape.{encode_utf16}
 use Rattle.enc_units.specs.Output.{units_of_text}
-use Rattle.enc_units.specs.Checked.{times}
-use Rattle.enc_machine.specs.Segmentation.{Rule, one_byte_head, head_sequence, sequences_behind, sequences_of}
+use Rattle.enc_units.specs.Checked.{checked_mul}
+use Rattle.enc_machine.specs.Segmentation.{Rule, one_byte_head, head_sequence, sequences_after, sequences_of}
 use Rattle.enc_machine.specs.Remainder.{AreBytes}
 use Rattle.enc_machine.specs.CodecState.{CodecState, remainder_of}
-use Rattle.enc_machine.specs.Call.{Treatment, Replaced, Reported}
+use Rattle.enc_machine.specs.Call.{DecodeErrorMode, Replacement, Fatal}
 use Rattle.enc_machine.specs.declared.text_lengths.TextLengths.TheVariants as lengths
-use Rattle.enc_machine.specs.Need.{NeedPasses, AreEnough, IsBasicText}
+use Rattle.enc_machine.specs.Need.{NeedExceeds, AreEnoughForCodec, IsBmpText}
 use Rattle.enc_machine.proofs.NeedLemmas.{units, units-both, units-one}
 use Rattle.enc_machine.proofs.EnoughLemmas.{thrice_is, same_some, needed_less, needs_all, basic_by, bounded}
 use Rattle.enc_index.specs.Index.{Run, index_at, entry_character, is_entry_code_point}
@@ -57,44 +57,44 @@ module _ (character : ℕ → Option ℕ) (basic : AreBasic character) where
   abbrev rule : Rule
   rule = one_byte_rule character
 
-  head_is_basic : (set b : ℕ) (c : Option ℕ) → b < 256 → character b ≡ c → IsBasicText (one_byte_head set c).text
+  head_is_basic : (set b : ℕ) (c : Option ℕ) → b < 256 → character b ≡ c → IsBmpText (one_byte_head set c).text
   head_is_basic set b None l e = basic_by 0xFFFD (omega arith)
   head_is_basic set b (Some c) l e = basic_by c (basic b c l e)
 
   -- so many code units at most for each byte
-  module _ (units_of : ℕ → List ℕ) (each : ℕ) (most : (text : List ℕ) → IsBasicText text → length (units_of_text units_of text) ≤ each) where
+  module _ (units_of : ℕ → List ℕ) (each : ℕ) (most : (text : List ℕ) → IsBmpText text → length (units_of_text units_of text) ≤ each) where
     bounded_bytes : (set : ℕ) (z : List ℕ) → AreBytes z → units units_of (sequences_of rule set z) ≤ each * length z
-    unfolding one_byte_rule sequences_behind
+    unfolding one_byte_rule sequences_after
     bounded_bytes set [] a = omega arith
     bounded_bytes set (b ∷ z) a = first set b z (character b) (head_is_basic set b (character b) a.0 refl) (λ s. bounded_bytes s z a.1)
       where
-        first : (set b : ℕ) (z : List ℕ) (c : Option ℕ) → IsBasicText (one_byte_head set c).text → ((s : ℕ) → units units_of (sequences_of rule s z) ≤ each * length z)
-            → units units_of (head_sequence (one_byte_head set c) b z ∷ sequences_behind rule (one_byte_head set c).set (one_byte_head set c).more z) ≤ each * suc (length z)
+        first : (set b : ℕ) (z : List ℕ) (c : Option ℕ) → IsBmpText (one_byte_head set c).text → ((s : ℕ) → units units_of (sequences_of rule s z) ≤ each * length z)
+            → units units_of (head_sequence (one_byte_head set c) b z ∷ sequences_after rule (one_byte_head set c).set (one_byte_head set c).more z) ≤ each * suc (length z)
         first set b z None t h = grind (arith, most _ t, h set, units-both units_of (head_sequence (one_byte_head set None) b z ∷ []) (sequences_of rule set z), units-one units_of (head_sequence (one_byte_head set None) b z) _ refl)
         first set b z (Some c) t h = grind (arith, most _ t, h set, units-both units_of (head_sequence (one_byte_head set (Some c)) b z ∷ []) (sequences_of rule set z), units-one units_of (head_sequence (one_byte_head set (Some c)) b z) _ refl)
 
   abbrev state : CodecState
   state = record { rule = rule; set = 0; pending = [] }
 
-  never : (units_of : ℕ → List ℕ) (each : ℕ) → ((text : List ℕ) → IsBasicText text → length (units_of_text units_of text) ≤ each)
-      → (treatment : Treatment) (src : List ℕ) (last : Bool) (n : ℕ) → AreBytes src → each * length src ≤ n → NeedPasses units_of treatment (remainder_of state) src last n → ⊥
-  never units_of each most treatment src last n a l p =
-      omega (arith, l, bounded_bytes units_of each most 0 src a, needed_less units_of treatment (sequences_of rule 0 src), needs_all units_of treatment state src last n p)
+  never : (units_of : ℕ → List ℕ) (each : ℕ) → ((text : List ℕ) → IsBmpText text → length (units_of_text units_of text) ≤ each)
+      → (mode : DecodeErrorMode) (src : List ℕ) (last : Bool) (n : ℕ) → AreBytes src → each * length src ≤ n → NeedExceeds units_of mode (remainder_of state) src last n → ⊥
+  never units_of each most mode src last n a l p =
+      omega (arith, l, bounded_bytes units_of each most 0 src a, needed_less units_of mode (sequences_of rule 0 src), needs_all units_of mode state src last n p)
 
-  one_byte_enough : AreEnough lengths.OneByte state
+  one_byte_enough : AreEnoughForCodec lengths.OneByte state
   one_byte_enough = record {
-    utf_8 = λ src last n a e. never encode_utf8 3 (λ t b. b.utf_8) Replaced src last n a (thrice src n e);
-    reporting = λ keeps src last n a e. never encode_utf8 3 (λ t b. b.utf_8) (Reported keeps) src last n a (thrice src n e);
-    utf_16 = λ treatment src last n a e. never encode_utf16 1 (λ t b. b.utf_16) treatment src last n a (omega (arith, same_some (length src) n e));
+    utf_8 = λ src last n a e. never encode_utf8 3 (λ t b. b.utf_8) Replacement src last n a (thrice src n e);
+    reporting = λ keeps src last n a e. never encode_utf8 3 (λ t b. b.utf_8) (Fatal keeps) src last n a (thrice src n e);
+    utf_16 = λ mode src last n a e. never encode_utf16 1 (λ t b. b.utf_16) mode src last n a (omega (arith, same_some (length src) n e));
   }
     where
-      thrice : (src : List ℕ) (n : ℕ) → times (Some (length src)) 3 ≡ Some n → 3 * length src ≤ n
+      thrice : (src : List ℕ) (n : ℕ) → checked_mul (Some (length src)) 3 ≡ Some n → 3 * length src ≤ n
       thrice src n e = omega (arith, thrice_is (Some (length src)) (length src) n (λ k f. sym (same_some (length src) k f)) e)
 
-pub single_byte_enough : (runs : List Run) → AreEnough lengths.OneByte (single_byte_state runs)
+pub single_byte_enough : (runs : List Run) → AreEnoughForCodec lengths.OneByte (single_byte_state runs)
 single_byte_enough runs = one_byte_enough (single_byte_char runs) (single_byte_is_basic runs)
 
-pub x_user_defined_enough : AreEnough lengths.OneByte x_user_defined_state
+pub x_user_defined_enough : AreEnoughForCodec lengths.OneByte x_user_defined_state
 x_user_defined_enough = one_byte_enough x_user_defined_char x_user_defined_is_basic
 
 -- replacement: U+FFFD once
@@ -109,24 +109,24 @@ module _ (units_of : ℕ → List ℕ) where
   step zero b z = omega arith
   step (suc set) b z = omega arith
 
-  replacement_never : (reported : Bool) (treatment : Treatment) (src : List ℕ) (last : Bool) (n : ℕ) → length (units_of_text units_of (0xFFFD ∷ [])) ≤ n
-      → NeedPasses units_of treatment (remainder_of (replacement_state reported)) src last n → ⊥
-  replacement_never reported treatment src last n l p =
+  replacement_never : (reported : Bool) (mode : DecodeErrorMode) (src : List ℕ) (last : Bool) (n : ℕ) → length (units_of_text units_of (0xFFFD ∷ [])) ≤ n
+      → NeedExceeds units_of mode (remainder_of (replacement_state reported)) src last n → ⊥
+  replacement_never reported mode src last n l p =
       omega (
         arith,
         l,
         by_state reported,
-        needed_less units_of treatment (sequences_of replacement_rule (replacement_state reported).set src),
-        needs_all units_of treatment (replacement_state reported) src last n p,
+        needed_less units_of mode (sequences_of replacement_rule (replacement_state reported).set src),
+        needs_all units_of mode (replacement_state reported) src last n p,
       )
     where
       by_state : (r : Bool) → units units_of (sequences_of replacement_rule (replacement_state r).set src) ≤ length (units_of_text units_of (0xFFFD ∷ []))
       by_state false = bounded units_of replacement_rule most_of step 0 src
       by_state true = let b = bounded units_of replacement_rule most_of step 1 src in omega (arith, b)
 
-pub replacement_enough : (reported : Bool) → AreEnough lengths.Replacement (replacement_state reported)
+pub replacement_enough : (reported : Bool) → AreEnoughForCodec lengths.Replacement (replacement_state reported)
 replacement_enough reported = let b = basic_by 0xFFFD (omega arith) in record {
-  utf_8 = λ src last n _ e. replacement_never encode_utf8 reported Replaced src last n (omega (arith, b.utf_8, same_some 3 n e));
-  reporting = λ keeps src last n _ e. replacement_never encode_utf8 reported (Reported keeps) src last n (omega (arith, b.utf_8, same_some 3 n e));
-  utf_16 = λ treatment src last n _ e. replacement_never encode_utf16 reported treatment src last n (omega (arith, b.utf_16, same_some 1 n e));
+  utf_8 = λ src last n _ e. replacement_never encode_utf8 reported Replacement src last n (omega (arith, b.utf_8, same_some 3 n e));
+  reporting = λ keeps src last n _ e. replacement_never encode_utf8 reported (Fatal keeps) src last n (omega (arith, b.utf_8, same_some 3 n e));
+  utf_16 = λ mode src last n _ e. replacement_never encode_utf16 reported mode src last n (omega (arith, b.utf_16, same_some 1 n e));
 }

@@ -4,15 +4,15 @@ use Rattle.enc_machine.specs.declared.byte_codec.Kind.TheVariants.{Valid, Malfor
 use Rattle.enc_machine.specs.declared.byte_codec.Text.TheVariants.{One}
 use Rattle.enc_machine.specs.Segmentation.{Head, head_sequence, sequences_of, one_byte_head}
 use Rattle.enc_machine.specs.CodecState.{CodecState}
-use Rattle.enc_machine.specs.CodecLaw.{Acts}
-use Rattle.enc_machine.specs.RuleLaws.{HasTexts, HasLookahead, IsSmallText, HasSmallTexts, IsToldBy, IsLawful}
+use Rattle.enc_machine.specs.CodecLaw.{HandlesByte}
+use Rattle.enc_machine.specs.RuleLaws.{HasTexts, HasLookahead, IsSmallText, HasSmallTexts, IsDeterminedWithin, IsLawfulRule}
 use Rattle.enc_single_byte.specs.OneByte.{one_byte_rule, one_byte_step, single_byte_char, x_user_defined_char}
 use Rattle.enc_single_byte.specs.OneByteState.{one_byte_state}
 use Rattle.enc_machine.proofs.SegmentationLemmas.{sequences_of-cons}
-use Rattle.enc_machine.proofs.ShowLemmas.{shows_with}
-use Rattle.enc_machine.specs.Taking.{IsPiece}
-use Rattle.enc_machine.specs.Latin1.{HasNoBytes}
-use Rattle.enc_machine.proofs.ToldLemmas.{looks_at_none}
+use Rattle.enc_machine.proofs.EmissionLemmas.{shows_with}
+use Rattle.enc_machine.specs.Taking.{IsWholeChar}
+use Rattle.enc_machine.specs.Latin1.{HasNoByteSequences}
+use Rattle.enc_machine.proofs.FirstSequenceLemmas.{looks_at_none}
 use Rattle.enc_machine.proofs.RuleLemmas.{one_small}
 use Rattle.enc_machine.proofs.Latin1Lemmas.{has_bytes_by}
 
@@ -32,7 +32,7 @@ module _ (character : ℕ → Option ℕ) where
 
   -- a byte shows its character, or that it is malformed
   pub one_byte_acts : {C : Type 0} (state : C → CodecState) (c : C) → state c ≡ one_byte_state character
-      → (b : ℕ) (found : Option ℕ) → found ≡ character b → Acts state c b (one_byte_step c found)
+      → (b : ℕ) (found : Option ℕ) → found ≡ character b → HandlesByte state c b (one_byte_step c found)
   one_byte_acts state c s b (Some a) e =
       shows_with state c c (One a) Valid 1 b refl (rw s refl) (rw s refl) refl (λ m. cc)
       (λ z. rw s (first b (Some a) _ (sym e) refl z))
@@ -41,11 +41,11 @@ module _ (character : ℕ → Option ℕ) where
       (λ z. rw s (first b None _ (sym e) refl z))
 
   -- a byte that has a character
-  pub one_byte_piece : (b c : ℕ) → character b ≡ Some c → IsPiece (one_byte_rule character) 0 (b ∷ []) c
+  pub one_byte_piece : (b c : ℕ) → character b ≡ Some c → IsWholeChar (one_byte_rule character) 0 (b ∷ []) c
   one_byte_piece b c e y = first b (Some c) _ e refl y
 
   -- such a byte is a character by itself
-  pub one_byte_has_bytes : (b c : ℕ) → character b ≡ Some c → ¬ (HasNoBytes (one_byte_rule character))
+  pub one_byte_has_bytes : (b c : ℕ) → character b ≡ Some c → ¬ (HasNoByteSequences (one_byte_rule character))
   one_byte_has_bytes b c e =
       let h = head_is 0 b [] (Some c) e in
       has_bytes_by (one_byte_rule character) b [] (ap (λ (t : Head). t.kind) h) (ap (λ (t : Head). t.more) h)
@@ -59,7 +59,7 @@ module _ (character : ℕ → Option ℕ) where
   small set None = one_small 0xFFFD
 
   -- a byte is told by itself
-  told_by_itself : (set b : ℕ) (z : List ℕ) → IsToldBy (one_byte_rule character) set b z 0
+  told_by_itself : (set b : ℕ) (z : List ℕ) → IsDeterminedWithin (one_byte_rule character) set b z 0
   unfolding one_byte_rule
   told_by_itself set b z = record { there = (let e = no_more set (character b) in omega arith); same = λ y. refl }
 
@@ -73,7 +73,7 @@ module _ (character : ℕ → Option ℕ) where
   unfolding one_byte_rule
   has_small_texts set b z = small set (character b)
 
-  pub one_byte_is_lawful : IsLawful (one_byte_rule character)
+  pub one_byte_is_lawful : IsLawfulRule (one_byte_rule character)
   one_byte_is_lawful = record { lookahead = has_lookahead; small_texts = has_small_texts }
 
 has_text : (set : ℕ) (character : Option ℕ) → (one_byte_head set character).text ≡ [] → ⊥
@@ -87,8 +87,8 @@ one_byte_has_texts character set b z e = has_text set (character b) e
 
 -- an ASCII byte is a character by itself
 
-pub single_byte_has_bytes : (runs : List (ℕ × ℕ × ℕ)) → ¬ (HasNoBytes (one_byte_rule (single_byte_char runs)))
+pub single_byte_has_bytes : (runs : List (ℕ × ℕ × ℕ)) → ¬ (HasNoByteSequences (one_byte_rule (single_byte_char runs)))
 single_byte_has_bytes runs = one_byte_has_bytes (single_byte_char runs) 0x61 0x61 refl
 
-pub x_user_defined_has_bytes : ¬ (HasNoBytes (one_byte_rule x_user_defined_char))
+pub x_user_defined_has_bytes : ¬ (HasNoByteSequences (one_byte_rule x_user_defined_char))
 x_user_defined_has_bytes = one_byte_has_bytes x_user_defined_char 0x61 0x61 refl

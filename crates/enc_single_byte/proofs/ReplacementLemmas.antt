@@ -2,19 +2,19 @@
 use Rattle.std.proofs.Common.{ℕ, zero, suc, true, false, List, refl, arith, inl}
 use Rattle.enc_machine.specs.declared.byte_codec.Kind.TheVariants.{Skipped, Malformed}
 use Rattle.enc_machine.specs.declared.byte_codec.Text.TheVariants.{Nothing, One}
-use Rattle.enc_machine.specs.declared.byte_codec.Step.TheVariants.{Show}
-use Rattle.enc_machine.specs.CodecLaw.{Acts}
-use Rattle.enc_machine.specs.Latin1.{HasNoBytes}
-use Rattle.enc_machine.specs.RuleLaws.{HasLookahead, HasSmallTexts, IsToldBy, IsLawful}
+use Rattle.enc_machine.specs.declared.byte_codec.HandlerResult.TheVariants.{Emit}
+use Rattle.enc_machine.specs.CodecLaw.{HandlesByte}
+use Rattle.enc_machine.specs.Latin1.{HasNoByteSequences}
+use Rattle.enc_machine.specs.RuleLaws.{HasLookahead, HasSmallTexts, IsDeterminedWithin, IsLawfulRule}
 use Rattle.enc_single_byte.specs.Replacement.{replacement_rule, replacement_state}
 use Rattle.enc_machine.proofs.SegmentationLemmas.{sequences_of-cons}
-use Rattle.enc_machine.proofs.ShowLemmas.{shows_with}
-use Rattle.enc_machine.proofs.ToldLemmas.{looks_at_none}
+use Rattle.enc_machine.proofs.EmissionLemmas.{shows_with}
+use Rattle.enc_machine.proofs.FirstSequenceLemmas.{looks_at_none}
 use Rattle.enc_machine.proofs.RuleLemmas.{one_small, none_small}
 
 -- the first byte
 pub first_acts : (b : ℕ)
-    → Acts replacement_state false b (Show (record { text = One 0xFFFD; kind = Malformed; len = 1; takes_byte = true; next = true }))
+    → HandlesByte replacement_state false b (Emit (record { text = One 0xFFFD; kind = Malformed; len = 1; takes_byte = true; next = true }))
 unfolding replacement_rule
 first_acts b =
     shows_with replacement_state false true (One 0xFFFD) Malformed 1 b refl refl refl refl (λ _. (refl, omega arith))
@@ -22,14 +22,14 @@ first_acts b =
 
 -- another byte
 pub later_acts : (b : ℕ)
-    → Acts replacement_state true b (Show (record { text = Nothing; kind = Skipped; len = 1; takes_byte = true; next = true }))
+    → HandlesByte replacement_state true b (Emit (record { text = Nothing; kind = Skipped; len = 1; takes_byte = true; next = true }))
 unfolding replacement_rule
 later_acts b =
     shows_with replacement_state true true Nothing Skipped 1 b refl refl refl refl (λ m. cc)
     (λ z. sequences_of-cons replacement_rule 1 b z)
 
 -- each byte is told by itself
-pub told_by_itself : (set b : ℕ) (z : List ℕ) → IsToldBy replacement_rule set b z 0
+pub told_by_itself : (set b : ℕ) (z : List ℕ) → IsDeterminedWithin replacement_rule set b z 0
 unfolding replacement_rule
 told_by_itself zero b z = record { there = omega arith; same = λ y. refl }
 told_by_itself (suc set) b z = record { there = omega arith; same = λ y. refl }
@@ -45,10 +45,10 @@ unfolding replacement_rule
 has_small_texts zero b z = one_small 0xFFFD
 has_small_texts (suc set) b z = none_small
 
-pub replacement_is_lawful : IsLawful replacement_rule
+pub replacement_is_lawful : IsLawfulRule replacement_rule
 replacement_is_lawful = record { lookahead = has_lookahead; small_texts = has_small_texts }
 
 -- no byte is valid
-pub replacement_has_no_bytes : HasNoBytes replacement_rule
+pub replacement_has_no_bytes : HasNoByteSequences replacement_rule
 unfolding replacement_rule
 replacement_has_no_bytes b z v = absurd (cc)

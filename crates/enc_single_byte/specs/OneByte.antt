@@ -3,8 +3,8 @@
 use Rattle.std.specs.Prelude.{ℕ, ◌+◌, ◌-◌, true, nat_lt, Option, Some, None, List, if◌then◌else◌}
 use Rattle.enc_machine.specs.declared.byte_codec.Kind.TheVariants.{Valid, Malformed}
 use Rattle.enc_machine.specs.declared.byte_codec.Text.TheVariants.{One}
-use Rattle.enc_machine.specs.declared.byte_codec.Step.{Step}
-use Rattle.enc_machine.specs.declared.byte_codec.Step.TheVariants.{Show}
+use Rattle.enc_machine.specs.declared.byte_codec.HandlerResult.{HandlerResult}
+use Rattle.enc_machine.specs.declared.byte_codec.HandlerResult.TheVariants.{Emit}
 use Rattle.enc_machine.specs.Segmentation.{Rule, one_byte_head}
 use Rattle.enc_index.specs.declared.table.Planes.TheVariants.{Basic}
 use Rattle.enc_index.specs.Index.{index_at}
@@ -22,6 +22,6 @@ unfoldable pub one_byte_rule : (ℕ → Option ℕ) → Rule
 one_byte_rule character set b z = one_byte_head set (character b)
 
 -- what such a byte shows
-abbrev pub one_byte_step : {C : Type 0} → C → Option ℕ → Step C
-one_byte_step c (Some a) = Show (record { text = One a; kind = Valid; len = 1; takes_byte = true; next = c })
-one_byte_step c None = Show (record { text = One 0xFFFD; kind = Malformed; len = 1; takes_byte = true; next = c })
+abbrev pub one_byte_step : {C : Type 0} → C → Option ℕ → HandlerResult C
+one_byte_step c (Some a) = Emit (record { text = One a; kind = Valid; len = 1; takes_byte = true; next = c })
+one_byte_step c None = Emit (record { text = One 0xFFFD; kind = Malformed; len = 1; takes_byte = true; next = c })

@@ -3,17 +3,17 @@
 ghost use Rattle.std.specs.Prelude.{◌≡◌};
 ghost use Rattle.enc_single_byte.specs.OneByte.{one_byte_step};
 
-use enc_machine::{Kind, Shown, Step, Text};
+use enc_machine::{Emission, HandlerResult, Kind, Text};
 
 /// A byte that stands alone shows its character, or is malformed where it has none. The state stays.
-pub fn show_byte<C>(codec: C, character: Option<char>) -> Step<C>
+pub fn show_byte<C>(codec: C, character: Option<char>) -> HandlerResult<C>
     ensures { result ≡ one_byte_step codec character }
 {
     let (shown, kind) = match character {
         Some(found) => (found, Kind::Valid),
         None => ('\u{FFFD}', Kind::Malformed),
     };
-    Step::Show(Shown {
+    HandlerResult::Emit(Emission {
         text: Text::One(shown),
         kind,
         len: 1,

@@ -3,7 +3,7 @@
 ghost use Rattle.std.specs.Prelude.{◌≡◌, true, false};
 
 use enc_machine::{
-    ByteCodec, DecoderResult, Kind, RawDecoder, Shown, Step, Text, TextLengths, run,
+    ByteCodec, DecoderResult, Emission, HandlerResult, Kind, RawDecoder, Text, TextLengths, run,
 };
 use enc_units::Units;
 use std::marker::Model;
@@ -37,10 +37,10 @@ impl ReplacementDecoder {
 }
 
 /// What a byte shows. Behind it the first byte has been reported.
-fn show_byte(text: Text, kind: Kind) -> Step<ReplacementDecoder>
-    ensures { result ≡ Step.Show (record { text = text; kind = kind; len = 1; takes_byte = true; next = true }) }
+fn show_byte(text: Text, kind: Kind) -> HandlerResult<ReplacementDecoder>
+    ensures { result ≡ HandlerResult.Emit (record { text = text; kind = kind; len = 1; takes_byte = true; next = true }) }
 {
-    Step::Show(Shown {
+    HandlerResult::Emit(Emission {
         text,
         kind,
         len: 1,
@@ -56,7 +56,7 @@ impl ByteCodec for ReplacementDecoder {
 
     ghost state = { replacement_state };
 
-    fn next_step(self, byte: u8) -> Step<ReplacementDecoder> {
+    fn next_step(self, byte: u8) -> HandlerResult<ReplacementDecoder> {
         if self.error_reported {
             show_byte(Text::Nothing, Kind::Skipped)
         } else {
@@ -64,12 +64,12 @@ impl ByteCodec for ReplacementDecoder {
         }
     }
 
-    #[tactic(auto, using(enc_machine::proofs::ShowLemmas::nothing_pending))]
-    fn ready(self) -> Option<Shown<ReplacementDecoder>> {
+    #[tactic(auto, using(enc_machine::proofs::EmissionLemmas::nothing_pending))]
+    fn ready(self) -> Option<Emission<ReplacementDecoder>> {
         None
     }
 
-    fn at_end(self) -> Option<Shown<ReplacementDecoder>> {
+    fn at_end(self) -> Option<Emission<ReplacementDecoder>> {
         None
     }
 

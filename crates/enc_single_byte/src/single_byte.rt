@@ -7,7 +7,7 @@ ghost use Rattle.enc_index.specs.Runs.{single_byte_runs};
 use crate::one_byte::show_byte;
 use enc_index::SingleByteIndex;
 use enc_machine::{
-    ByteCodec, DecoderResult, RawDecoder, Shown, Step, TextLengths, latin1_up_to, run,
+    ByteCodec, DecoderResult, Emission, HandlerResult, RawDecoder, TextLengths, latin1_up_to, run,
 };
 use enc_units::{Pieces, Units, put_run};
 
@@ -41,9 +41,9 @@ fn character_of(index: SingleByteIndex, byte: u8) -> Option<char>
 
 impl Pieces for SingleByteDecoder {
     ghost use Rattle.enc_single_byte.specs.OneByteState.{single_byte_state};
-    ghost use Rattle.enc_machine.specs.Taking.{IsPiece};
+    ghost use Rattle.enc_machine.specs.Taking.{IsWholeChar};
 
-    ghost means = { λ d. IsPiece (single_byte_state (single_byte_runs d.index)).rule 0 };
+    ghost means = { λ d. IsWholeChar (single_byte_state (single_byte_runs d.index)).rule 0 };
 
     #[inline(always)]
     fn piece(self, src: &[u8], at: usize) -> Option<(char, usize)> {
@@ -74,16 +74,16 @@ impl ByteCodec for SingleByteDecoder {
         (self, put_run(out, self, src))
     }
 
-    fn next_step(self, byte: u8) -> Step<SingleByteDecoder> {
+    fn next_step(self, byte: u8) -> HandlerResult<SingleByteDecoder> {
         show_byte(self, character_of(self.index, byte))
     }
 
-    #[tactic(auto, using(enc_machine::proofs::ShowLemmas::nothing_pending))]
-    fn ready(self) -> Option<Shown<SingleByteDecoder>> {
+    #[tactic(auto, using(enc_machine::proofs::EmissionLemmas::nothing_pending))]
+    fn ready(self) -> Option<Emission<SingleByteDecoder>> {
         None
     }
 
-    fn at_end(self) -> Option<Shown<SingleByteDecoder>> {
+    fn at_end(self) -> Option<Emission<SingleByteDecoder>> {
         None
     }
 

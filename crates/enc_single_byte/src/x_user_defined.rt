@@ -5,7 +5,7 @@ ghost use Rattle.enc_single_byte.specs.OneByte.{x_user_defined_char};
 
 use crate::one_byte::show_byte;
 use enc_machine::{
-    ByteCodec, DecoderResult, RawDecoder, Shown, Step, TextLengths, latin1_up_to, run,
+    ByteCodec, DecoderResult, Emission, HandlerResult, RawDecoder, TextLengths, latin1_up_to, run,
 };
 use enc_units::{Pieces, Units, put_run};
 
@@ -33,9 +33,9 @@ fn character_of(byte: u8) -> char
 
 impl Pieces for XUserDefinedDecoder {
     ghost use Rattle.enc_single_byte.specs.OneByteState.{x_user_defined_state};
-    ghost use Rattle.enc_machine.specs.Taking.{IsPiece};
+    ghost use Rattle.enc_machine.specs.Taking.{IsWholeChar};
 
-    ghost means = { λ _. IsPiece x_user_defined_state.rule 0 };
+    ghost means = { λ _. IsWholeChar x_user_defined_state.rule 0 };
 
     #[inline(always)]
     fn piece(self, src: &[u8], at: usize) -> Option<(char, usize)> {
@@ -61,16 +61,16 @@ impl ByteCodec for XUserDefinedDecoder {
         (self, put_run(out, self, src))
     }
 
-    fn next_step(self, byte: u8) -> Step<XUserDefinedDecoder> {
+    fn next_step(self, byte: u8) -> HandlerResult<XUserDefinedDecoder> {
         show_byte(self, Some(character_of(byte)))
     }
 
-    #[tactic(auto, using(enc_machine::proofs::ShowLemmas::nothing_pending))]
-    fn ready(self) -> Option<Shown<XUserDefinedDecoder>> {
+    #[tactic(auto, using(enc_machine::proofs::EmissionLemmas::nothing_pending))]
+    fn ready(self) -> Option<Emission<XUserDefinedDecoder>> {
         None
     }
 
-    fn at_end(self) -> Option<Shown<XUserDefinedDecoder>> {
+    fn at_end(self) -> Option<Emission<XUserDefinedDecoder>> {
         None
     }
 

@@ -4,7 +4,7 @@ use Rattle.std.specs.Char.Escape.{encode_utf16}
 use Rattle.std.specs.Char.Utf16.{utf16_lossy_chars, is_high_surrogate, is_low_surrogate, surrogate_pair_char}
 use Rattle.std.proofs.lemmas.Str.{encodes-chars, utf16_chars-nil, utf16_chars_lone, utf16_chars_pair}
 use Rattle.enc_units.specs.Output.{units_of_text}
-use Rattle.enc_units.specs.Surrogates.{lossy_unit, IsPair, First}
+use Rattle.enc_units.specs.Surrogates.{lossy_unit_char, IsSurrogatePair, IsFirstUtf16Char}
 use Rattle.std.specs.Option.{unwrap_or}
 use Rattle.std.proofs.lemmas.Bool.Decides.{nat_tests}
 use Rattle.std.proofs.lemmas.List.{drop-drop, get_or-drop}
@@ -17,28 +17,28 @@ utf8_length bs u = sym (ap length (their_units (chars bs) ∙ encodes-chars bs u
 pub lossy_nil : utf16_lossy_chars [] ≡ []
 lossy_nil = ap (map (λ o. unwrap_or o 0xFFFD)) utf16_chars-nil
 
-pub lossy_lone : (u : ℕ) (us : List ℕ) → ¬ (IsPair u (get_or us 0 0)) → utf16_lossy_chars (u ∷ us) ≡ lossy_unit u ∷ utf16_lossy_chars us
+pub lossy_lone : (u : ℕ) (us : List ℕ) → ¬ (IsSurrogatePair u (get_or us 0 0)) → utf16_lossy_chars (u ∷ us) ≡ lossy_unit_char u ∷ utf16_lossy_chars us
 lossy_lone u us n = ap (map (λ o. unwrap_or o 0xFFFD)) (utf16_chars_lone u us n)
 
-pub lossy_pair : (u v : ℕ) (us : List ℕ) → IsPair u v → utf16_lossy_chars (u ∷ v ∷ us) ≡ surrogate_pair_char u v ∷ utf16_lossy_chars us
+pub lossy_pair : (u v : ℕ) (us : List ℕ) → IsSurrogatePair u v → utf16_lossy_chars (u ∷ v ∷ us) ≡ surrogate_pair_char u v ∷ utf16_lossy_chars us
 lossy_pair u v us p = ap (map (λ o. unwrap_or o 0xFFFD)) (utf16_chars_pair u v us p)
 
 true_or_false : (t : Bool) → (t ≡ true) ⊎ (t ≡ false)
 true_or_false true = inl refl
 true_or_false false = inr refl
 
-lone_narrow : (u : ℕ) → u < 0x1_0000 → lossy_unit u < 0x1_0000
+lone_narrow : (u : ℕ) → u < 0x1_0000 → lossy_unit_char u < 0x1_0000
 lone_narrow u h = elim (true_or_false (nat_le 0xD800 u && nat_lt u 0xE000)) [ inl e ↦ rw e (omega arith) | inr e ↦ rw e h ]
 
-pub first_lone : (us : List ℕ) → 1 ≤ length us → get_or us 0 0 < 0x1_0000 → (IsPair (get_or us 0 0) (get_or us 1 0) → ⊥) → First us (lossy_unit (get_or us 0 0)) 1
+pub first_lone : (us : List ℕ) → 1 ≤ length us → get_or us 0 0 < 0x1_0000 → (IsSurrogatePair (get_or us 0 0) (get_or us 1 0) → ⊥) → IsFirstUtf16Char us (lossy_unit_char (get_or us 0 0)) 1
 first_lone [] h f n = absurd (omega arith)
 first_lone (u ∷ us) h f n = record {
   within = h;
   chars = lossy_lone u us n;
-  width = sym (ap length (one_unit (lossy_unit u) (lone_narrow u f)));
+  width = sym (ap length (one_unit (lossy_unit_char u) (lone_narrow u f)));
 }
 
-pub first_pair : (us : List ℕ) → 2 ≤ length us → IsPair (get_or us 0 0) (get_or us 1 0) → First us (surrogate_pair_char (get_or us 0 0) (get_or us 1 0)) 2
+pub first_pair : (us : List ℕ) → 2 ≤ length us → IsSurrogatePair (get_or us 0 0) (get_or us 1 0) → IsFirstUtf16Char us (surrogate_pair_char (get_or us 0 0) (get_or us 1 0)) 2
 first_pair [] h p = absurd (omega arith)
 first_pair (u ∷ []) h p = absurd (omega arith)
 first_pair (u ∷ v ∷ us) h p = record {
@@ -47,7 +47,7 @@ first_pair (u ∷ v ∷ us) h p = record {
   width = sym (ap length (two_units (surrogate_pair_char u v) (omega arith)));
 }
 
-decide_pair : (u v : ℕ) → IsPair u v ⊎ (IsPair u v → ⊥)
+decide_pair : (u v : ℕ) → IsSurrogatePair u v ⊎ (IsSurrogatePair u v → ⊥)
 decide_pair u v = elim (true_or_false (is_high_surrogate u && is_low_surrogate v)) [
   | inl e ↦ inl (grind (arith, nat_tests))
   | inr e ↦ inr (λ p. grind (arith, nat_tests))
@@ -56,7 +56,7 @@ decide_pair u v = elim (true_or_false (is_high_surrogate u && is_low_surrogate v
 abbrev pub AreUnits : List ℕ → Type 0
 AreUnits us = (i : ℕ) → get_or us i 0 < 0x1_0000
 
-step : (us : List ℕ) (c n : ℕ) → First us c n → length (drop n us) ≡ length (units_of_text encode_utf16 (utf16_lossy_chars (drop n us)))
+step : (us : List ℕ) (c n : ℕ) → IsFirstUtf16Char us c n → length (drop n us) ≡ length (units_of_text encode_utf16 (utf16_lossy_chars (drop n us)))
     → length us ≡ length (units_of_text encode_utf16 (utf16_lossy_chars us))
 step us c n f e = rw (f.chars, length-append) (omega (arith, f.within, f.width, e, length-drop n us))
 
@@ -74,7 +74,7 @@ utf16_length (u ∷ v ∷ us) h = elim (decide_pair u v) [
 record HasFirst (us : List ℕ) : Type 0 where
   char : ℕ
   units : ℕ
-  first : First us char units
+  first : IsFirstUtf16Char us char units
 
 first_of : (u : ℕ) (us : List ℕ) → AreUnits (u ∷ us) → HasFirst (u ∷ us)
 first_of u [] h = record { char = _; units = 1; first = first_lone (u ∷ []) (omega arith) (h 0) (λ p. omega (arith, p.2)) }
@@ -107,7 +107,7 @@ lossy_behind (u ∷ us) h (c ∷ cs) rest e =
     ap (λ k. utf16_lossy_chars (drop k (u ∷ us))) w ∙ ap utf16_lossy_chars (sym (drop-drop n i.units (u ∷ us)))
     ∙ lossy_behind (drop i.units (u ∷ us)) (units-drop i.units (u ∷ us) h) cs rest (tails _ _ _ _ f)
 
-pub peeks : (us : List ℕ) (r : Option (ℕ × ℕ)) → MatchOption r (us ≡ []) (λ p. First us p.0 p.1)
+pub peeks : (us : List ℕ) (r : Option (ℕ × ℕ)) → MatchOption r (us ≡ []) (λ p. IsFirstUtf16Char us p.0 p.1)
     → MatchOption r (utf16_lossy_chars us ≡ []) (λ p. utf16_lossy_chars us ≡ p.0 ∷ drop 1 (utf16_lossy_chars us))
 peeks us None e = rw e lossy_nil
 peeks us (Some p) f = rw f.chars refl
@@ -118,17 +118,17 @@ some_units (u ∷ us) h = omega arith
 
 -- a first unit beyond ASCII is of a character beyond ASCII
 
-high_lone : (u : ℕ) → 0x80 ≤ u → 0x80 ≤ lossy_unit u
+high_lone : (u : ℕ) → 0x80 ≤ u → 0x80 ≤ lossy_unit_char u
 high_lone u h = elim (true_or_false (nat_le 0xD800 u && nat_lt u 0xE000)) [
   | inl e ↦ rw e
       (omega arith)
   | inr e ↦ rw e h
 ]
 
-high_pair : (u v : ℕ) → IsPair u v → 0x80 ≤ surrogate_pair_char u v
+high_pair : (u v : ℕ) → IsSurrogatePair u v → 0x80 ≤ surrogate_pair_char u v
 high_pair u v p = omega arith
 
-pub beyond_ascii : (us : List ℕ) (c n : ℕ) → First us c n → 0x80 ≤ get_or us 0 0 → 0x80 ≤ c
+pub beyond_ascii : (us : List ℕ) (c n : ℕ) → IsFirstUtf16Char us c n → 0x80 ≤ get_or us 0 0 → 0x80 ≤ c
 beyond_ascii [] c n f h = absurd (omega (arith, h))
 beyond_ascii (u ∷ []) c n f h =
     let same = heads _ _ _ _ (sym (lossy_lone u [] (λ p. omega (arith, p.2))) ∙ f.chars) in

@@ -15,10 +15,10 @@ use Rattle.std.specs.Int.{to_le_bytes}
 use lib.Lanes.{Each1, put_chunk}
 use mir.Syntax.{w16, w32}
 use mir.Val.{Fits}
-use Rattle.enc_units.specs.CodeUnits.{unit_of, units_of_bytes, AreCodeUnits, word_of, bytes_of_words}
-use Rattle.enc_units.specs.Gathering.{Gathers}
+use Rattle.enc_units.specs.CodeUnits.{unit_of, units_of_bytes, AreCodeUnits, unit_word, bytes_of_words}
+use Rattle.enc_units.specs.Gathering.{GathersChars}
 use Rattle.enc_units.specs.Output.{AreScalars, units_of_text}
-use Rattle.enc_units.specs.Pieces.{Reads}
+use Rattle.enc_units.specs.Pieces.{ReadsPieces}
 use Rattle.enc_units.specs.Validity.{AreAscii}
 use Rattle.enc_units.proofs.GatherLemmas.{utf8_two, utf8_three, gathers_then, stored_lanes}
 use Rattle.enc_units.proofs.PiecesLemmas.{reads_none, reads_one, reads_then, reads_wider}
@@ -41,13 +41,13 @@ two_same a b x y e f = ap (λ z. z ∷ b ∷ []) e ∙ ap (λ z. x ∷ z ∷ [])
 three_same : (a b c x y z : ℕ) → a ≡ x → b ≡ y → c ≡ z → a ∷ b ∷ c ∷ [] ≡ x ∷ y ∷ z ∷ []
 three_same a b c x y z e f g = ap (λ t. t ∷ b ∷ c ∷ []) e ∙ ap (λ t. x ∷ t) (two_same b c y z f g)
 
-word_of_one : (u : ℕ) → u < 128 → word_of u ≡ 16777216 + u
+word_of_one : (u : ℕ) → u < 128 → unit_word u ≡ 16777216 + u
 word_of_one u h = rw (lt-ltb u 128 h) (omega arith)
 
-word_of_two : (u : ℕ) → 128 ≤ u → u < 2048 → word_of u ≡ 33554432 + 32960 + u / 64 + u % 64 * 256
+word_of_two : (u : ℕ) → 128 ≤ u → u < 2048 → unit_word u ≡ 33554432 + 32960 + u / 64 + u % 64 * 256
 word_of_two u l h = rw (le-ltb u 128 l, lt-ltb u 2048 h) (omega arith)
 
-word_of_three : (u : ℕ) → 2048 ≤ u → word_of u ≡ 58720256 + 32992 + u / 4096 + u / 64 % 64 * 256 + u % 64 * 65536
+word_of_three : (u : ℕ) → 2048 ≤ u → unit_word u ≡ 58720256 + 32992 + u / 4096 + u / 64 % 64 * 256 + u % 64 * 65536
 word_of_three u l = rw (le-ltb u 128 (omega arith), le-ltb u 2048 l) (omega arith)
 
 one_spelt : (w u : ℕ) → u < 128 → w ≡ 16777216 + u → Spells w (encode_utf8 u)
@@ -67,26 +67,26 @@ three_spelt w u l h e =
     spelt w 3 (encode_utf8 u) (omega arith) (omega arith)
     (three_same _ _ _ _ _ _ (omega arith) (omega arith) (omega arith) ∙ sym (utf8_three u l h))
 
-word_spelt : (u : ℕ) → u < 65536 → Spells (word_of u) (encode_utf8 u)
+word_spelt : (u : ℕ) → u < 65536 → Spells (unit_word u) (encode_utf8 u)
 word_spelt u h = elim (cases_lt u 128) [
-  | inl a ↦ one_spelt (word_of u) u a (word_of_one u a)
+  | inl a ↦ one_spelt (unit_word u) u a (word_of_one u a)
   | inr a ↦ elim (cases_lt u 2048) [
-    | inl b ↦ two_spelt (word_of u) u a b (word_of_two u a b)
-    | inr b ↦ three_spelt (word_of u) u b h (word_of_three u b)
+    | inl b ↦ two_spelt (unit_word u) u a b (word_of_two u a b)
+    | inr b ↦ three_spelt (unit_word u) u b h (word_of_three u b)
   ]
 ]
 
-pub few_bytes : (us : List ℕ) → Each1 (Fits w16) us → All (λ word. word / 0x100_0000 ≤ 4) (map word_of us)
+pub few_bytes : (us : List ℕ) → Each1 (Fits w16) us → All (λ word. word / 0x100_0000 ≤ 4) (map unit_word us)
 few_bytes [] f k d h = absurd (omega arith)
 few_bytes (u ∷ us) f zero d h = (word_spelt u f.0.fits).0
 few_bytes (u ∷ us) f (suc k) d h = few_bytes us f.1 k d (omega arith)
 
 pub words_spelt : (us : List ℕ) → Each1 (Fits w16) us → (n : ℕ)
-    → bytes_of_words (take n (map word_of us)) ≡ units_of_text encode_utf8 (take n us)
+    → bytes_of_words (take n (map unit_word us)) ≡ units_of_text encode_utf8 (take n us)
 words_spelt us f zero = refl
 words_spelt [] f (suc n) = refl
 words_spelt (u ∷ us) f (suc n) =
-    ap (λ z. z ++ bytes_of_words (take n (map word_of us))) (word_spelt u f.0.fits).1
+    ap (λ z. z ++ bytes_of_words (take n (map unit_word us))) (word_spelt u f.0.fits).1
     ∙ ap (λ z. encode_utf8 u ++ z) (words_spelt us f.1 n)
 
 -- one more word that is stored
@@ -147,7 +147,7 @@ units_long big (suc n) (a ∷ b ∷ bs) e = ap suc (units_long big n bs (omega a
 
 module _ (Means : List ℕ → ℕ → Type 0) (big : Bool) (mean : AreCodeUnits Means big) where
   reads_units : (n : ℕ) (bytes : List ℕ) → n + n ≤ length bytes → AreScalars (take n (units_of_bytes big bytes))
-      → Reads Means bytes (n + n) (take n (units_of_bytes big bytes))
+      → ReadsPieces Means bytes (n + n) (take n (units_of_bytes big bytes))
   reads_units zero bytes h s = reads_none Means bytes
   reads_units (suc n) [] h s = absurd (omega arith)
   reads_units (suc n) (a ∷ []) h s = absurd (omega arith)
@@ -155,20 +155,20 @@ module _ (Means : List ℕ → ℕ → Type 0) (big : Bool) (mean : AreCodeUnits
       let u = unit_of big a b in
       let more = take n (units_of_bytes big bs) in
       let long : 2 + (n + n) ≡ suc n + suc n = omega arith in
-      subst (λ k. Reads Means (a ∷ b ∷ bs) k (u ∷ more)) long
+      subst (λ k. ReadsPieces Means (a ∷ b ∷ bs) k (u ∷ more)) long
       (reads_then Means (a ∷ b ∷ bs) 2 (n + n) (u ∷ []) more
       (reads_one Means (a ∷ b ∷ bs) 2 u (omega arith) (omega arith) (mean a b (and_parts _ _ s).0))
       (reads_units n bs (omega arith) (and_parts _ _ s).1))
 
   pub gathers_units : (units_of : ℕ → List ℕ) (n : ℕ) (src units before after : List ℕ) → n ≤ 8 → 16 ≤ length src
       → units ≡ units_of_bytes big (take 16 src) → AreScalars (take n units)
-      → after ≡ before ++ units_of_text units_of (take n units) → Gathers units_of Means src (2 * n) before after
+      → after ≡ before ++ units_of_text units_of (take n units) → GathersChars units_of Means src (2 * n) before after
   gathers_units units_of n src units before after h l e s w =
       let twice : n + n ≡ 2 * n = omega arith in
-      subst (λ k. Gathers units_of Means src k before after) twice (record {
+      subst (λ k. GathersChars units_of Means src k before after) twice (record {
         text = take n units;
         scalars = s;
-        reads = subst (λ us. Reads Means src (n + n) (take n us)) (sym e)
+        reads = subst (λ us. ReadsPieces Means src (n + n) (take n us)) (sym e)
             (reads_wider Means src 16 (n + n) (take n (units_of_bytes big (take 16 src)))
             (reads_units n (take 16 src) (omega (arith, length-take 16 src))
             (subst (λ us. AreScalars (take n us)) e s)));
@@ -180,7 +180,7 @@ module _ (Means : List ℕ → ℕ → Type 0) (big : Bool) (mean : AreCodeUnits
       → units ≡ units_of_bytes big (take 16 src) → AreScalars (take n units)
       → ((k : ℕ) → bytes_of_words (take k words) ≡ units_of_text encode_utf8 (take k units))
       → after ≡ before ++ bytes_of_words (take n words)
-      → Gathers encode_utf8 Means src (2 * n) before after
+      → GathersChars encode_utf8 Means src (2 * n) before after
   gathers_words n src units words before after h l e s t w =
       gathers_units encode_utf8 n src units before after h l e s (w ∙ ap (λ z. before ++ z) (t n))
 
@@ -189,8 +189,8 @@ module _ (Means : List ℕ → ℕ → Type 0) (big : Bool) (mean : AreCodeUnits
       → at + 8 ≤ length buffer
       → units ≡ units_of_bytes big (take 16 (drop read src)) → AreScalars (take n units)
       → units_of_text encode_utf16 (take n units) ≡ take n units
-      → Gathers encode_utf16 Means src read [] (take at buffer)
-      → Gathers encode_utf16 Means src (read + 2 * n) [] (take (at + n) (put_chunk at buffer units))
+      → GathersChars encode_utf16 Means src read [] (take at buffer)
+      → GathersChars encode_utf16 Means src (read + 2 * n) [] (take (at + n) (put_chunk at buffer units))
   gathers_lanes n at read src units buffer few inside room e s alone p =
       let rest = drop read src in
       let long : 16 ≤ length rest = omega (arith, length-drop read src) in
@@ -205,14 +205,15 @@ module _ (Means : List ℕ → ℕ → Type 0) (big : Bool) (mean : AreCodeUnits
       → units ≡ units_of_bytes big (take 16 (drop read src)) → AreScalars (take 8 units)
       → units_of_text encode_utf16 (take 8 units) ≡ take 8 units
       → more ≡ units_of_bytes big (take 16 (drop (read + 16) src)) → AreScalars (take 8 more)
-      → units_of_text encode_utf16 (take 8 more) ≡ take 8 more → Gathers encode_utf16 Means src read [] (take at buffer)
-      → Gathers encode_utf16 Means src (read + 32) [] (take (at + 16) (put_chunk (at + 8) (put_chunk at buffer units) more))
+      → units_of_text encode_utf16 (take 8 more) ≡ take 8 more
+      → GathersChars encode_utf16 Means src read [] (take at buffer)
+      → GathersChars encode_utf16 Means src (read + 32) [] (take (at + 16) (put_chunk (at + 8) (put_chunk at buffer units) more))
   gathers_both at read src units more buffer inside room e s alone f t alone_too p =
       let first = put_chunk at buffer units in
       let both = put_chunk (at + 8) first more in
       let read_all : read + 16 + 2 * 8 ≡ read + 32 = omega arith in
       let put_all : at + 8 + 8 ≡ at + 16 = omega arith in
-      subst (λ k. Gathers encode_utf16 Means src k [] (take (at + 16) both)) read_all
-      (subst (λ k. Gathers encode_utf16 Means src (read + 16 + 2 * 8) [] (take k both)) put_all
+      subst (λ k. GathersChars encode_utf16 Means src k [] (take (at + 16) both)) read_all
+      (subst (λ k. GathersChars encode_utf16 Means src (read + 16 + 2 * 8) [] (take k both)) put_all
       (gathers_lanes 8 (at + 8) (read + 16) src more first (omega arith) (omega arith) (omega (arith, length-put_chunk at buffer units)) f t alone_too
       (gathers_lanes 8 at read src units buffer (omega arith) (omega arith) (omega arith) e s alone p)))

@@ -10,10 +10,10 @@ use Rattle.std.specs.Char.{IsScalar, encode_utf8}
 use Rattle.std.specs.Char.Escape.{encode_utf16}
 use Rattle.std.proofs.Math.ListN.{set}
 use lib.Lanes.{put_chunk}
-use Rattle.enc_units.specs.Output.{Output, appended, units_of_text}
+use Rattle.enc_units.specs.Output.{Output, with_appended, units_of_text}
 use Rattle.enc_units.specs.Validity.{AreAscii}
 use Rattle.enc_units.specs.Pieces.{PutsPieces}
-use Rattle.enc_units.specs.Gathering.{Gathers, IsByteText, AreByteTexts, IsByteUnit, AreByteUnits}
+use Rattle.enc_units.specs.Gathering.{GathersChars, IsByteText, AreByteTexts, IsByteUnit, AreByteUnits}
 use Rattle.enc_units.specs.declared.gather.Encoded.{Encoded}
 use Rattle.enc_units.proofs.PiecesLemmas.{reads_none, reads_then, reads_one, reads_ascii, units-append}
 use Rattle.enc_units.proofs.UnitsLemmas.{one_unit}
@@ -56,12 +56,12 @@ utf8_four c l = rw (le-ltb c 128 (omega arith), le-ltb c 2048 (omega arith), le-
 -- what is gathered
 
 pub gathers_nothing : (units_of : ℕ → List ℕ) (Means : List ℕ → ℕ → Type 0) (src before after : List ℕ) → after ≡ before
-    → Gathers units_of Means src 0 before after
+    → GathersChars units_of Means src 0 before after
 gathers_nothing units_of Means src before after e = record { text = []; scalars = refl; reads = reads_none Means src; written = e ∙ sym (append-nil before) }
 
 pub gathers_then : (units_of : ℕ → List ℕ) (Means : List ℕ → ℕ → Type 0) (src : List ℕ) (a n : ℕ) (before mid after : List ℕ)
-    → Gathers units_of Means src a before mid → Gathers units_of Means (drop a src) n mid after
-    → Gathers units_of Means src (a + n) before after
+    → GathersChars units_of Means src a before mid → GathersChars units_of Means (drop a src) n mid after
+    → GathersChars units_of Means src (a + n) before after
 gathers_then units_of Means src a n before mid after p q = record {
   text = p.text ++ q.text;
   scalars = scalars-append p.text q.text p.scalars q.scalars;
@@ -72,16 +72,17 @@ gathers_then units_of Means src a n before mid after p q = record {
 
 -- the same, where the rest is named by its place in the whole input
 pub gathers_on : (units_of : ℕ → List ℕ) (Means : List ℕ → ℕ → Type 0) (src : List ℕ) (from a n : ℕ) (before mid after : List ℕ)
-    → Gathers units_of Means (drop from src) a before mid → Gathers units_of Means (drop (from + a) src) n mid after
-    → Gathers units_of Means (drop from src) (a + n) before after
+    → GathersChars units_of Means (drop from src) a before mid
+    → GathersChars units_of Means (drop (from + a) src) n mid after
+    → GathersChars units_of Means (drop from src) (a + n) before after
 gathers_on units_of Means src from a n before mid after p q =
     gathers_then units_of Means (drop from src) a n before mid after p
-    (subst (λ rest. Gathers units_of Means rest n mid after) (sym (drop-drop a from src)) q)
+    (subst (λ rest. GathersChars units_of Means rest n mid after) (sym (drop-drop a from src)) q)
 
 pub gathers_ascii : (units_of : ℕ → List ℕ) (Means : List ℕ → ℕ → Type 0) (src : List ℕ) (n : ℕ) (before after : List ℕ)
     → ((b : ℕ) → b < 0x80 → Means (b ∷ []) b)
     → ((bs : List ℕ) → AreAscii bs → units_of_text units_of bs ≡ bs) → n ≤ length src → AreAscii (take n src)
-    → after ≡ before ++ take n src → Gathers units_of Means src n before after
+    → after ≡ before ++ take n src → GathersChars units_of Means src n before after
 gathers_ascii units_of Means src n before after h alone w a e = record {
   text = take n src;
   scalars = ascii_scalars (take n src) a;
@@ -91,7 +92,7 @@ gathers_ascii units_of Means src n before after h alone w a e = record {
 
 pub gathers_one : (units_of : ℕ → List ℕ) (Means : List ℕ → ℕ → Type 0) (src : List ℕ) (n c : ℕ) (before after : List ℕ)
     → 0 < n → n ≤ length src → IsScalar c
-    → Means (take n src) c → after ≡ before ++ units_of c → Gathers units_of Means src n before after
+    → Means (take n src) c → after ≡ before ++ units_of c → GathersChars units_of Means src n before after
 gathers_one units_of Means src n c before after h w i m e = record {
   text = c ∷ [];
   scalars = one_scalar c i;
@@ -110,8 +111,8 @@ get_or_drop (suc n) i (x ∷ xs) = get_or_drop n i xs ∙ ap (λ k. get_or (x �
 -- a byte that has a text
 pub gathers_byte : (Means : List ℕ → ℕ → Type 0) (src : List ℕ) (from read : ℕ) (before mid after : List ℕ) (text : Encoded)
     → IsByteText Means (get_or src (from + read) 0) text → 0 < text.len → from + read < length src
-    → Gathers encode_utf8 Means (drop from src) read before mid
-    → after ≡ mid ++ take text.len text.bytes → Gathers encode_utf8 Means (drop from src) (read + 1) before after
+    → GathersChars encode_utf8 Means (drop from src) read before mid
+    → after ≡ mid ++ take text.len text.bytes → GathersChars encode_utf8 Means (drop from src) (read + 1) before after
 gathers_byte Means src from read before mid after text t some inside p e =
     let rest = drop from src in
     let long : read < length rest = omega (arith, length-drop from src) in
@@ -125,8 +126,8 @@ gathers_byte Means src from read before mid after text t some inside p e =
 pub gathers_byte_unit : (Means : List ℕ → ℕ → Type 0) (src : List ℕ) (from read at : ℕ) (before buffer : List ℕ) (unit : ℕ)
     → IsByteUnit Means (get_or src (from + read) 0) unit → 0 < unit → unit < 0x1_0000 → from + read < length src
     → at + read < length buffer
-    → Gathers encode_utf16 Means (drop from src) read before (take (at + read) buffer)
-    → Gathers encode_utf16 Means (drop from src) (read + 1) before (take (at + (read + 1)) (set buffer (at + read) unit))
+    → GathersChars encode_utf16 Means (drop from src) read before (take (at + read) buffer)
+    → GathersChars encode_utf16 Means (drop from src) (read + 1) before (take (at + (read + 1)) (set buffer (at + read) unit))
 gathers_byte_unit Means src from read at before buffer unit u some basic inside room p =
     let rest = drop from src in
     let long : read < length rest = omega (arith, length-drop from src) in
@@ -154,12 +155,12 @@ no_texts Means text e = (
 
 -- what is gathered is put out
 pub puts_gathered : (units_of : ℕ → List ℕ) (Means : List ℕ → ℕ → Type 0) (before after : Output) (src : List ℕ) (n : ℕ) (units : List ℕ)
-    → Gathers units_of Means src n [] units
-    → length units ≤ before.room → after ≡ appended before units → PutsPieces units_of Means before after src n
+    → GathersChars units_of Means src n [] units
+    → length units ≤ before.room → after ≡ with_appended before units → PutsPieces units_of Means before after src n
 puts_gathered units_of Means before after src n units p f e = record {
   text = p.text;
   scalars = p.scalars;
   reads = p.reads;
   fits = omega (arith, ap length p.written);
-  written = e ∙ ap (appended before) p.written;
+  written = e ∙ ap (with_appended before) p.written;
 }

@@ -10,21 +10,21 @@ use Rattle.std.specs.List.{range_with_len}
 use lib.Lanes.{zip2, top, sel_l, put_chunk}
 use Rattle.std.proofs.Math.Seq.{take-append_seam}
 use Rattle.std.proofs.lemmas.Slice.{drop-append-drop}
-use Rattle.enc_units.specs.Pieces.{Piece, bytes_of, chars_of, AllMean}
+use Rattle.enc_units.specs.Pieces.{Piece, piece_bytes, piece_chars, EachMeansChar}
 use Rattle.enc_units.specs.Mappings.{WritesMapped, AreWrittenAsThemselves}
 use Rattle.enc_units.proofs.Utf8Lanes.{below, top_flag}
 
-bytes_of-append : (ps qs : List Piece) → bytes_of (ps ++ qs) ≡ bytes_of ps ++ bytes_of qs
-bytes_of-append [] qs = refl
-bytes_of-append (p ∷ ps) qs = ap (λ x. p.bytes ++ x) (bytes_of-append ps qs)
-    ∙ sym (append_assoc p.bytes (bytes_of ps) (bytes_of qs))
+piece_bytes-append : (ps qs : List Piece) → piece_bytes (ps ++ qs) ≡ piece_bytes ps ++ piece_bytes qs
+piece_bytes-append [] qs = refl
+piece_bytes-append (p ∷ ps) qs = ap (λ x. p.bytes ++ x) (piece_bytes-append ps qs)
+    ∙ sym (append_assoc p.bytes (piece_bytes ps) (piece_bytes qs))
 
-chars_of-append : (ps qs : List Piece) → chars_of (ps ++ qs) ≡ chars_of ps ++ chars_of qs
-chars_of-append [] qs = refl
-chars_of-append (p ∷ ps) qs = ap (λ x. p.char ∷ x) (chars_of-append ps qs)
+piece_chars-append : (ps qs : List Piece) → piece_chars (ps ++ qs) ≡ piece_chars ps ++ piece_chars qs
+piece_chars-append [] qs = refl
+piece_chars-append (p ∷ ps) qs = ap (λ x. p.char ∷ x) (piece_chars-append ps qs)
 
-mean-append : (Means : List ℕ → ℕ → Type 0) (ps qs : List Piece) → AllMean Means ps → AllMean Means qs
-    → AllMean Means (ps ++ qs)
+mean-append : (Means : List ℕ → ℕ → Type 0) (ps qs : List Piece) → EachMeansChar Means ps → EachMeansChar Means qs
+    → EachMeansChar Means (ps ++ qs)
 mean-append Means [] qs m n = n
 mean-append Means (p ∷ ps) qs m n = (m.0, mean-append Means ps qs m.1 n)
 
@@ -44,9 +44,9 @@ module _ (Means : List ℕ → ℕ → Type 0) where
       → WritesMapped Means src between before mid at n → WritesMapped Means between rest mid after (at + n) k
       → WritesMapped Means src rest before after at (n + k)
   maps_both src between rest before mid after at n k v w =
-      let x = bytes_of v.pieces in
-      let y = bytes_of w.pieces in
-      let both = bytes_of-append v.pieces w.pieces in
+      let x = piece_bytes v.pieces in
+      let y = piece_bytes w.pieces in
+      let both = piece_bytes-append v.pieces w.pieces in
       let first_long : length (take at before) ≡ at = length-take-le at before (omega (arith, v.fits)) in
       let long : length mid ≡ length before = omega (
         arith,
@@ -77,9 +77,9 @@ module _ (Means : List ℕ → ℕ → Type 0) where
       (omega arith) count in
       record {
         pieces = v.pieces ++ w.pieces;
-        reads = v.reads ∙ ap (λ z. chars_of v.pieces ++ z) w.reads
-            ∙ sym (append_assoc (chars_of v.pieces) (chars_of w.pieces) rest)
-            ∙ ap (λ z. z ++ rest) (sym (chars_of-append v.pieces w.pieces));
+        reads = v.reads ∙ ap (λ z. piece_chars v.pieces ++ z) w.reads
+            ∙ sym (append_assoc (piece_chars v.pieces) (piece_chars w.pieces) rest)
+            ∙ ap (λ z. z ++ rest) (sym (piece_chars-append v.pieces w.pieces));
         mean = mean-append Means v.pieces w.pieces v.mean w.mean;
         count = omega (arith, ap length both, length-append x y, v.count, w.count);
         fits = omega (arith, w.fits, long);
@@ -88,7 +88,7 @@ module _ (Means : List ℕ → ℕ → Type 0) where
             ∙ append_assoc (take at before) x (y ++ drop ((at + n) + k) before)
             ∙ ap (λ z. take at before ++ z) (sym (append_assoc x y (drop ((at + n) + k) before)))
             ∙ ap (λ z. take at before ++ (z ++ drop ((at + n) + k) before)) (sym both)
-            ∙ ap (λ m. take at before ++ (bytes_of (v.pieces ++ w.pieces) ++ drop m before)) (omega arith);
+            ∙ ap (λ m. take at before ++ (piece_bytes (v.pieces ++ w.pieces) ++ drop m before)) (omega arith);
       }
 
   -- one character
@@ -109,15 +109,15 @@ module _ (Means : List ℕ → ℕ → Type 0) where
   themselves [] = []
   themselves (b ∷ bs) = record { bytes = b ∷ []; char = b } ∷ themselves bs
 
-  their_bytes : (bs : List ℕ) → bytes_of (themselves bs) ≡ bs
+  their_bytes : (bs : List ℕ) → piece_bytes (themselves bs) ≡ bs
   their_bytes [] = refl
   their_bytes (b ∷ bs) = ap (λ x. b ∷ x) (their_bytes bs)
 
-  their_chars : (bs : List ℕ) → chars_of (themselves bs) ≡ bs
+  their_chars : (bs : List ℕ) → piece_chars (themselves bs) ≡ bs
   their_chars [] = refl
   their_chars (b ∷ bs) = ap (λ x. b ∷ x) (their_chars bs)
 
-  they_mean : (bs : List ℕ) → AreWrittenAsThemselves Means bs → AllMean Means (themselves bs)
+  they_mean : (bs : List ℕ) → AreWrittenAsThemselves Means bs → EachMeansChar Means (themselves bs)
   they_mean [] a = tt
   they_mean (b ∷ bs) a = ((a 0 0 (omega arith)).1, they_mean bs (λ k d l. a (suc k) d (omega arith)))
 
@@ -143,8 +143,8 @@ module _ (Means : List ℕ → ℕ → Type 0) where
         w.count,
         w.fits,
         ap length w.onto,
-        length-append (take at before) (bytes_of w.pieces ++ drop (at + n) before),
-        length-append (bytes_of w.pieces) (drop (at + n) before),
+        length-append (take at before) (piece_bytes w.pieces ++ drop (at + n) before),
+        length-append (piece_bytes w.pieces) (drop (at + n) before),
         length-take at before,
         length-drop (at + n) before,
       )

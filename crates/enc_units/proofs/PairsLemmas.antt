@@ -8,7 +8,7 @@ use Rattle.std.specs.Char.{IsScalar, encode_utf8}
 use Rattle.std.specs.Char.Escape.{encode_utf16}
 use Rattle.std.specs.Int.{w32, to_le_bytes}
 use Rattle.enc_units.specs.declared.ends.TheConstants.{ENDS}
-use Rattle.enc_units.specs.Gathering.{Gathers}
+use Rattle.enc_units.specs.Gathering.{GathersChars}
 use Rattle.enc_units.specs.Pairs.{byte_or_pair, MeansWord, MeansUnit, four_ends, end_after}
 use Rattle.enc_units.proofs.GatherLemmas.{gathers_then, gathers_one, get_or_drop}
 use Rattle.enc_units.proofs.UnitsLemmas.{one_unit}
@@ -117,14 +117,14 @@ module _ (Means : List ℕ → ℕ → Type 0) (src : List ℕ) (from read next 
 
   gathers_front : (units_of : ℕ → List ℕ) (t : Bool) (c : ℕ) (before mid after : List ℕ) → eqb (next - read) 2 ≡ t
       → IsScalar c
-      → Means (byte_or_pair t first second) c → Gathers units_of Means (drop from src) read before mid
+      → Means (byte_or_pair t first second) c → GathersChars units_of Means (drop from src) read before mid
       → after ≡ mid ++ units_of c
-      → Gathers units_of Means (drop from src) next before after
+      → GathersChars units_of Means (drop from src) next before after
   gathers_front units_of t c before mid after e s m p w =
       let up = goes_up read next h in
       let some : 0 < next - read = grind (arith, nat_tests) in
       let whole : read + (next - read) ≡ next = omega (arith, up.0) in
-      subst (λ n. Gathers units_of Means (drop from src) n before after) whole
+      subst (λ n. GathersChars units_of Means (drop from src) n before after) whole
       (gathers_then units_of Means (drop from src) read (next - read) before mid after p
       (gathers_one units_of Means (drop read (drop from src)) (next - read) c mid after some
       (omega (arith, up.1, rest_long, length-drop read (drop from src))) s
@@ -133,16 +133,16 @@ module _ (Means : List ℕ → ℕ → Type 0) (src : List ℕ) (from read next 
   -- one more character, as a word
   pub gathers_word : (word : ℕ) (before mid after : List ℕ)
       → MeansWord Means (byte_or_pair (eqb (next - read) 2) first second) word
-      → Gathers encode_utf8 Means (drop from src) read before mid
+      → GathersChars encode_utf8 Means (drop from src) read before mid
       → after ≡ mid ++ take (word / 0x100_0000) (to_le_bytes w32 word)
-      → Gathers encode_utf8 Means (drop from src) next before after
+      → GathersChars encode_utf8 Means (drop from src) next before after
   gathers_word word before mid after m p w =
       gathers_front encode_utf8 (eqb (next - read) 2) m.char before mid after refl m.scalar m.means p (w ∙ ap (λ z. mid ++ z) m.utf8)
 
   -- one more character, as a code unit
   pub gathers_unit : (unit : ℕ) (before mid after : List ℕ) → unit < 0x1_0000
       → MeansUnit Means (byte_or_pair (eqb (next - read) 2) first second) unit
-      → Gathers encode_utf16 Means (drop from src) read before mid → after ≡ mid ++ unit ∷ []
-      → Gathers encode_utf16 Means (drop from src) next before after
+      → GathersChars encode_utf16 Means (drop from src) read before mid → after ≡ mid ++ unit ∷ []
+      → GathersChars encode_utf16 Means (drop from src) next before after
   gathers_unit unit before mid after l m p w =
       gathers_front encode_utf16 (eqb (next - read) 2) unit before mid after refl m.scalar m.means p (w ∙ ap (λ z. mid ++ z) (sym (one_unit unit l)))

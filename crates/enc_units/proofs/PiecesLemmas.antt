@@ -3,32 +3,32 @@ use Rattle.std.proofs.Common.{◌≡◌, ℕ, suc, ◌+◌, ◌<◌, ◌≤◌, 
 use Rattle.std.proofs.lemmas.Bool.Decides.{nat_tests}
 use Rattle.std.proofs.lemmas.List.{take-take}
 use Rattle.std.specs.Char.{IsScalar}
-use Rattle.enc_units.specs.Output.{Output, appended, units_of_text}
+use Rattle.enc_units.specs.Output.{Output, with_appended, units_of_text}
 use Rattle.enc_units.specs.Validity.{AreAscii}
 use Rattle.enc_units.specs.AsciiRun.{PutsAscii}
-use Rattle.enc_units.specs.Pieces.{Piece, bytes_of, chars_of, AllMean, Reads, PutsPieces}
-use Rattle.enc_units.proofs.OutputLemmas.{appended-nil, appended-appended, room_left}
+use Rattle.enc_units.specs.Pieces.{Piece, piece_bytes, piece_chars, EachMeansChar, ReadsPieces, PutsPieces}
+use Rattle.enc_units.proofs.OutputLemmas.{with_appended-nil, with_appended-with_appended, room_left}
 use Rattle.enc_units.proofs.ScalarLemmas.{one_scalar, scalars-append, ascii_scalars}
 
-bytes_of-append : (ps qs : List Piece) → bytes_of (ps ++ qs) ≡ bytes_of ps ++ bytes_of qs
-bytes_of-append [] qs = refl
-bytes_of-append (p ∷ ps) qs = ap (λ z. p.bytes ++ z) (bytes_of-append ps qs) ∙ sym (append_assoc p.bytes (bytes_of ps) (bytes_of qs))
+piece_bytes-append : (ps qs : List Piece) → piece_bytes (ps ++ qs) ≡ piece_bytes ps ++ piece_bytes qs
+piece_bytes-append [] qs = refl
+piece_bytes-append (p ∷ ps) qs = ap (λ z. p.bytes ++ z) (piece_bytes-append ps qs) ∙ sym (append_assoc p.bytes (piece_bytes ps) (piece_bytes qs))
 
-chars_of-append : (ps qs : List Piece) → chars_of (ps ++ qs) ≡ chars_of ps ++ chars_of qs
-chars_of-append [] qs = refl
-chars_of-append (p ∷ ps) qs = ap (λ z. p.char ∷ z) (chars_of-append ps qs)
+piece_chars-append : (ps qs : List Piece) → piece_chars (ps ++ qs) ≡ piece_chars ps ++ piece_chars qs
+piece_chars-append [] qs = refl
+piece_chars-append (p ∷ ps) qs = ap (λ z. p.char ∷ z) (piece_chars-append ps qs)
 
 pub units-append : (units_of : ℕ → List ℕ) (cs ds : List ℕ) → units_of_text units_of (cs ++ ds) ≡ units_of_text units_of cs ++ units_of_text units_of ds
 units-append units_of [] ds = refl
 units-append units_of (c ∷ cs) ds =
     ap (λ t. units_of c ++ t) (units-append units_of cs ds) ∙ sym (append_assoc (units_of c) (units_of_text units_of cs) (units_of_text units_of ds))
 
-AllMean-append : (Means : List ℕ → ℕ → Type 0) (ps qs : List Piece) → AllMean Means ps → AllMean Means qs → AllMean Means (ps ++ qs)
-AllMean-append Means [] qs a b = b
-AllMean-append Means (p ∷ ps) qs a b = (a.0, AllMean-append Means ps qs a.1 b)
+EachMeansChar-append : (Means : List ℕ → ℕ → Type 0) (ps qs : List Piece) → EachMeansChar Means ps → EachMeansChar Means qs → EachMeansChar Means (ps ++ qs)
+EachMeansChar-append Means [] qs a b = b
+EachMeansChar-append Means (p ∷ ps) qs a b = (a.0, EachMeansChar-append Means ps qs a.1 b)
 
 -- none
-pub reads_none : (Means : List ℕ → ℕ → Type 0) (src : List ℕ) → Reads Means src 0 []
+pub reads_none : (Means : List ℕ → ℕ → Type 0) (src : List ℕ) → ReadsPieces Means src 0 []
 reads_none Means src = record {
   pieces = [];
   within = omega arith;
@@ -39,18 +39,18 @@ reads_none Means src = record {
 }
 
 -- more behind them
-pub reads_then : (Means : List ℕ → ℕ → Type 0) (src : List ℕ) (a n : ℕ) (s t : List ℕ) → Reads Means src a s → Reads Means (drop a src) n t → Reads Means src (a + n) (s ++ t)
+pub reads_then : (Means : List ℕ → ℕ → Type 0) (src : List ℕ) (a n : ℕ) (s t : List ℕ) → ReadsPieces Means src a s → ReadsPieces Means (drop a src) n t → ReadsPieces Means src (a + n) (s ++ t)
 reads_then Means src a n s t p q = record {
   pieces = p.pieces ++ q.pieces;
   within = omega (arith, p.within, q.within, length-drop a src);
-  bytes = bytes_of-append p.pieces q.pieces ∙ ap (λ z. z ++ bytes_of q.pieces) p.bytes ∙ ap (λ z. take a src ++ z) q.bytes ∙ sym (take-add a n src);
-  chars = chars_of-append p.pieces q.pieces ∙ ap (λ z. z ++ chars_of q.pieces) p.chars ∙ ap (λ z. s ++ z) q.chars;
-  mean = AllMean-append Means p.pieces q.pieces p.mean q.mean;
+  bytes = piece_bytes-append p.pieces q.pieces ∙ ap (λ z. z ++ piece_bytes q.pieces) p.bytes ∙ ap (λ z. take a src ++ z) q.bytes ∙ sym (take-add a n src);
+  chars = piece_chars-append p.pieces q.pieces ∙ ap (λ z. z ++ piece_chars q.pieces) p.chars ∙ ap (λ z. s ++ z) q.chars;
+  mean = EachMeansChar-append Means p.pieces q.pieces p.mean q.mean;
   none = λ z. ap (λ ps. ps ++ q.pieces) (p.none (omega arith)) ∙ q.none (omega arith);
 }
 
 -- one
-pub reads_one : (Means : List ℕ → ℕ → Type 0) (src : List ℕ) (n c : ℕ) → 0 < n → n ≤ length src → Means (take n src) c → Reads Means src n (c ∷ [])
+pub reads_one : (Means : List ℕ → ℕ → Type 0) (src : List ℕ) (n c : ℕ) → 0 < n → n ≤ length src → Means (take n src) c → ReadsPieces Means src n (c ∷ [])
 reads_one Means src n c h w m = record {
   pieces = record { bytes = take n src; char = c } ∷ [];
   within = w;
@@ -64,21 +64,21 @@ abbrev alone : List ℕ → List Piece
 alone [] = []
 alone (b ∷ bs) = record { bytes = b ∷ []; char = b } ∷ alone bs
 
-alone_bytes : (bs : List ℕ) → bytes_of (alone bs) ≡ bs
+alone_bytes : (bs : List ℕ) → piece_bytes (alone bs) ≡ bs
 alone_bytes [] = refl
 alone_bytes (b ∷ bs) = ap (λ x. b ∷ x) (alone_bytes bs)
 
-alone_chars : (bs : List ℕ) → chars_of (alone bs) ≡ bs
+alone_chars : (bs : List ℕ) → piece_chars (alone bs) ≡ bs
 alone_chars [] = refl
 alone_chars (b ∷ bs) = ap (λ x. b ∷ x) (alone_chars bs)
 
-alone_mean : (Means : List ℕ → ℕ → Type 0) → ((b : ℕ) → b < 0x80 → Means (b ∷ []) b) → (bs : List ℕ) → AreAscii bs → AllMean Means (alone bs)
+alone_mean : (Means : List ℕ → ℕ → Type 0) → ((b : ℕ) → b < 0x80 → Means (b ∷ []) b) → (bs : List ℕ) → AreAscii bs → EachMeansChar Means (alone bs)
 alone_mean Means h [] a = tt
 alone_mean Means h (b ∷ bs) a = (h b (a 0 0 (omega arith)), alone_mean Means h bs (λ k d l. a (suc k) d (omega arith)))
 
 -- ASCII bytes
 pub reads_ascii : (Means : List ℕ → ℕ → Type 0) (src : List ℕ) (n : ℕ) → ((b : ℕ) → b < 0x80 → Means (b ∷ []) b) → n ≤ length src → AreAscii (take n src)
-    → Reads Means src n (take n src)
+    → ReadsPieces Means src n (take n src)
 reads_ascii Means src n h w a = record {
   pieces = alone (take n src);
   within = w;
@@ -95,7 +95,7 @@ start units_of Means o src = record {
   scalars = refl;
   reads = reads_none Means src;
   fits = omega arith;
-  written = sym (appended-nil o);
+  written = sym (with_appended-nil o);
 }
 
 -- more pieces put out behind them
@@ -110,7 +110,7 @@ then units_of Means before mid after src a n p q =
       scalars = scalars-append p.text q.text p.scalars q.scalars;
       reads = reads_then Means src a n p.text q.text p.reads q.reads;
       fits = omega (arith, ap length both, length-append x y, p.fits, q.fits, room_left before mid x p.written);
-      written = q.written ∙ ap (λ o. appended o y) p.written ∙ appended-appended before x y ∙ ap (appended before) (sym both);
+      written = q.written ∙ ap (λ o. with_appended o y) p.written ∙ with_appended-with_appended before x y ∙ ap (with_appended before) (sym both);
     }
 
 -- ASCII bytes
@@ -126,7 +126,7 @@ ascii_pieces units_of Means before after src n h p = record {
 
 -- one piece
 pub one_piece : (units_of : ℕ → List ℕ) (Means : List ℕ → ℕ → Type 0) (before after : Output) (src : List ℕ) (n c : ℕ)
-    → 0 < n → n ≤ length src → IsScalar c → Means (take n src) c → nat_le (length (units_of c)) before.room ≡ true → after ≡ appended before (units_of c)
+    → 0 < n → n ≤ length src → IsScalar c → Means (take n src) c → nat_le (length (units_of c)) before.room ≡ true → after ≡ with_appended before (units_of c)
     → PutsPieces units_of Means before after src n
 one_piece units_of Means before after src n c h w i m f e =
     let units = append-nil (units_of c) in
@@ -135,7 +135,7 @@ one_piece units_of Means before after src n c h w i m f e =
       scalars = one_scalar c i;
       reads = reads_one Means src n c h w m;
       fits = let l : length (units_of c) ≤ before.room = grind (arith, nat_tests) in omega (arith, l, ap length units);
-      written = e ∙ ap (appended before) (sym units);
+      written = e ∙ ap (with_appended before) (sym units);
     }
 
 -- the same of what is told of the bytes behind the first a
@@ -150,7 +150,7 @@ pub same_then : (units_of : ℕ → List ℕ) (Means : List ℕ → ℕ → Type
 same_then units_of Means before mid after src n e p = subst (λ (o : Output). PutsPieces units_of Means before o src n) (sym e) p
 
 pub reads_wider : (Means : List ℕ → ℕ → Type 0) (src : List ℕ) (m n : ℕ) (text : List ℕ)
-    → Reads Means (take m src) n text → Reads Means src n text
+    → ReadsPieces Means (take m src) n text → ReadsPieces Means src n text
 reads_wider Means src m n text r = record {
   pieces = r.pieces;
   within = omega (arith, r.within, length-take m src);
@@ -166,7 +166,7 @@ pub puts_wider : (units_of : ℕ → List ℕ) (Means : List ℕ → ℕ → Typ
 puts_wider units_of Means before after src m n front e p = record {
   text = p.text;
   scalars = p.scalars;
-  reads = reads_wider Means src m n p.text (subst (λ z. Reads Means z n p.text) e p.reads);
+  reads = reads_wider Means src m n p.text (subst (λ z. ReadsPieces Means z n p.text) e p.reads);
   fits = p.fits;
   written = p.written;
 }
@@ -178,10 +178,10 @@ puts_same units_of means a b before after src n e p = subst (λ t. PutsPieces un
 
 -- what the bytes mean by one reading, they mean by another
 
-AllMean-weaker : (Means Other : List ℕ → ℕ → Type 0) → ((bytes : List ℕ) (c : ℕ) → Means bytes c → Other bytes c) → (ps : List Piece) → AllMean Means ps
-    → AllMean Other ps
-AllMean-weaker Means Other h [] m = tt
-AllMean-weaker Means Other h (p ∷ ps) m = (h p.bytes p.char m.0, AllMean-weaker Means Other h ps m.1)
+EachMeansChar-weaker : (Means Other : List ℕ → ℕ → Type 0) → ((bytes : List ℕ) (c : ℕ) → Means bytes c → Other bytes c) → (ps : List Piece) → EachMeansChar Means ps
+    → EachMeansChar Other ps
+EachMeansChar-weaker Means Other h [] m = tt
+EachMeansChar-weaker Means Other h (p ∷ ps) m = (h p.bytes p.char m.0, EachMeansChar-weaker Means Other h ps m.1)
 
 pub puts_as : (units_of : ℕ → List ℕ) (Means Other : List ℕ → ℕ → Type 0) (before after : Output) (src : List ℕ) (n : ℕ)
     → ((bytes : List ℕ) (c : ℕ) → Means bytes c → Other bytes c) → PutsPieces units_of Means before after src n → PutsPieces units_of Other before after src n
@@ -195,7 +195,7 @@ puts_as units_of Means Other before after src n h p =
         within = r.within;
         bytes = r.bytes;
         chars = r.chars;
-        mean = AllMean-weaker Means Other h r.pieces r.mean;
+        mean = EachMeansChar-weaker Means Other h r.pieces r.mean;
         none = r.none;
       };
       fits = p.fits;

@@ -14,7 +14,7 @@ use lib.Count.{count_trailing_zeros}
 use lib.Lanes.{Each1, zip2, sel_l, mask_l, top, number_l, digits_l}
 use mir.Syntax.{w8, w16}
 use mir.Val.{Fits}
-use Rattle.enc_units.specs.CodeUnits.{units_of_bytes, front_of, rest_of, word_of}
+use Rattle.enc_units.specs.CodeUnits.{units_of_bytes, unit_word_low, unit_word_high, unit_word}
 use Rattle.enc_units.specs.Output.{AreScalars}
 use Rattle.enc_units.proofs.ScalarLemmas.{scalars-cons}
 
@@ -172,18 +172,18 @@ choice s t p q a b c x y e f g h =
     ap (λ r. cond r a (cond t b c)) e ∙ ap (λ r. cond p a (cond r b c)) f ∙ ap (λ r. cond p a (cond q r c)) g
     ∙ ap (λ r. cond p a (cond q x r)) h
 
-front_is : (u : ℕ) → u < 65536 → front_lane u ≡ front_of u
+front_is : (u : ℕ) → u < 65536 → front_lane u ≡ unit_word_low u
 front_is u h =
     choice _ _ _ _ u _ _ _ _ (top_of (ltb u 128)) (top_of (ltb u 2048)) (two_is u (bit_and u 63) h (low_bits u))
     (three_is u (bit_and (u / 64) 63) h (low_bits (u / 64)))
 
-each_front : (us : List ℕ) → Each1 (Fits w16) us → front_lanes (length us) us ≡ map front_of us
+each_front : (us : List ℕ) → Each1 (Fits w16) us → front_lanes (length us) us ≡ map unit_word_low us
 each_front [] f = refl
 each_front (u ∷ us) f = ap (λ x. x ∷ front_lanes (length us) us) (front_is u f.0.fits)
-    ∙ ap (λ z. front_of u ∷ z) (each_front us f.1)
+    ∙ ap (λ z. unit_word_low u ∷ z) (each_front us f.1)
 
-pub fronts_are : (n : ℕ) (us : List ℕ) → length us ≡ n → Each1 (Fits w16) us → front_lanes n us ≡ map front_of us
-fronts_are n us e f = subst (λ k. front_lanes k us ≡ map front_of us) e (each_front us f)
+pub fronts_are : (n : ℕ) (us : List ℕ) → length us ≡ n → Each1 (Fits w16) us → front_lanes n us ≡ map unit_word_low us
+fronts_are n us e f = subst (λ k. front_lanes k us ≡ map unit_word_low us) e (each_front us f)
 
 abbrev rest_lanes : ℕ → List ℕ → List ℕ
 rest_lanes n us = picked n 128 us (replicate n 256)
@@ -195,23 +195,23 @@ rest_lane u = cond (top 15 (lt16 u 128)) 256 (cond (top 15 (lt16 u 2048)) 512 (a
 third_is : (u low : ℕ) → low ≡ u % 64 → add16 low 896 ≡ 896 + u % 64
 third_is u low e = omega arith
 
-rest_is : (u : ℕ) → rest_lane u ≡ rest_of u
+rest_is : (u : ℕ) → rest_lane u ≡ unit_word_high u
 rest_is u = choice _ _ _ _ 256 512 _ 512 _ (top_of (ltb u 128)) (top_of (ltb u 2048)) refl
     (third_is u (bit_and u 63) (low_bits u))
 
-each_rest : (us : List ℕ) → rest_lanes (length us) us ≡ map rest_of us
+each_rest : (us : List ℕ) → rest_lanes (length us) us ≡ map unit_word_high us
 each_rest [] = refl
-each_rest (u ∷ us) = ap (λ x. x ∷ rest_lanes (length us) us) (rest_is u) ∙ ap (λ z. rest_of u ∷ z) (each_rest us)
+each_rest (u ∷ us) = ap (λ x. x ∷ rest_lanes (length us) us) (rest_is u) ∙ ap (λ z. unit_word_high u ∷ z) (each_rest us)
 
-pub rests_are : (n : ℕ) (us : List ℕ) → length us ≡ n → rest_lanes n us ≡ map rest_of us
-rests_are n us e = subst (λ k. rest_lanes k us ≡ map rest_of us) e (each_rest us)
+pub rests_are : (n : ℕ) (us : List ℕ) → length us ≡ n → rest_lanes n us ≡ map unit_word_high us
+rests_are n us e = subst (λ k. rest_lanes k us ≡ map unit_word_high us) e (each_rest us)
 
 -- words
 
-two_below : (u : ℕ) → u < 65536 → front_of u < 65536
+two_below : (u : ℕ) → u < 65536 → unit_word_low u < 65536
 two_below u h = grind (arith, nat_tests)
 
-rest_below : (u : ℕ) → rest_of u < 1024
+rest_below : (u : ℕ) → unit_word_high u < 1024
 rest_below u = grind (arith, nat_tests)
 
 abbrev word_lanes : ℕ → List ℕ → List ℕ → List ℕ
@@ -223,15 +223,15 @@ joined : (front rest : ℕ) → front < 65536 → rest < 1024
 joined front rest h k = omega arith
 
 each_word : (us : List ℕ) → Each1 (Fits w16) us
-    → word_lanes (length us) (map front_of us) (map rest_of us) ≡ map word_of us
+    → word_lanes (length us) (map unit_word_low us) (map unit_word_high us) ≡ map unit_word us
 each_word [] f = refl
 each_word (u ∷ us) f =
-    ap (λ x. x ∷ word_lanes (length us) (map front_of us) (map rest_of us))
-    (joined (front_of u) (rest_of u) (two_below u f.0.fits) (rest_below u))
-    ∙ ap (λ z. word_of u ∷ z) (each_word us f.1)
+    ap (λ x. x ∷ word_lanes (length us) (map unit_word_low us) (map unit_word_high us))
+    (joined (unit_word_low u) (unit_word_high u) (two_below u f.0.fits) (rest_below u))
+    ∙ ap (λ z. unit_word u ∷ z) (each_word us f.1)
 
-pub words_are : (n : ℕ) (us fs rs : List ℕ) → length us ≡ n → Each1 (Fits w16) us → fs ≡ map front_of us
-    → rs ≡ map rest_of us → word_lanes n fs rs ≡ map word_of us
+pub words_are : (n : ℕ) (us fs rs : List ℕ) → length us ≡ n → Each1 (Fits w16) us → fs ≡ map unit_word_low us
+    → rs ≡ map unit_word_high us → word_lanes n fs rs ≡ map unit_word us
 words_are n us fs rs e f p q =
-    ap (λ z. word_lanes n z rs) p ∙ ap (word_lanes n (map front_of us)) q
-    ∙ subst (λ k. word_lanes k (map front_of us) (map rest_of us) ≡ map word_of us) e (each_word us f)
+    ap (λ z. word_lanes n z rs) p ∙ ap (word_lanes n (map unit_word_low us)) q
+    ∙ subst (λ k. word_lanes k (map unit_word_low us) (map unit_word_high us) ≡ map unit_word us) e (each_word us f)

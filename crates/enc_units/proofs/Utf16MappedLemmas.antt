@@ -5,17 +5,17 @@ use Rattle.std.proofs.Common.{take-append-drop}
 use Rattle.std.proofs.lemmas.Bool.Decides.{nat_tests}
 use Rattle.std.proofs.lemmas.List.{length-map, take-take}
 use Rattle.std.specs.Char.Utf16.{utf16_lossy_chars}
-use Rattle.enc_units.specs.Surrogates.{lossy_unit}
+use Rattle.enc_units.specs.Surrogates.{lossy_unit_char}
 use Rattle.enc_units.specs.Validity.{AreAscii}
 use Rattle.enc_units.proofs.CharsLemmas.{lossy_lone}
 use Rattle.enc_units.proofs.LaneLemmas.{all_fewer}
-use Rattle.enc_units.proofs.WrittenLemmas.{HasFront, sixteen}
+use Rattle.enc_units.proofs.WriteLoopLemmas.{HasFront, sixteen}
 
 -- no condition: surrogates without their partners are read as U+FFFD
 abbrev pub Any : List ℕ → Type 0
 Any us = Unit {0}
 
-low_unit : (u : ℕ) → u < 0x80 → lossy_unit u ≡ u
+low_unit : (u : ℕ) → u < 0x80 → lossy_unit_char u ≡ u
 low_unit u h = let low : (nat_le 0xD800 u && nat_lt u 0xE000) ≡ false = grind (arith, nat_tests) in rw low refl
 
 lossy_ascii : (us rest : List ℕ) → AreAscii us → utf16_lossy_chars (us ++ rest) ≡ us ++ utf16_lossy_chars rest

@@ -5,19 +5,19 @@ use Rattle.std.proofs.Math.Utf8.{low_scalar}
 use Rattle.std.proofs.lemmas.Str.{length-encode, len_utf8_bounds, encode_ascii}
 use Rattle.std.specs.Char.{encode_utf8}
 use Rattle.std.specs.Str.{all_scalars, encode_utf8_all}
-use Rattle.enc_units.specs.Output.{Output, appended, units_of_text}
+use Rattle.enc_units.specs.Output.{Output, with_appended, units_of_text}
 use Rattle.enc_units.specs.Validity.{IsWellFormedUtf8}
-use Rattle.enc_units.specs.Pieces.{Piece, bytes_of, chars_of, AllMean, IsUtf8Char, Reads, PutsPieces}
+use Rattle.enc_units.specs.Pieces.{Piece, piece_bytes, piece_chars, EachMeansChar, IsUtf8Char, ReadsPieces, PutsPieces}
 
 abbrev pieces_of : List ℕ → List Piece
 pieces_of [] = []
 pieces_of (c ∷ cs) = record { bytes = encode_utf8 c; char = c } ∷ pieces_of cs
 
-their_bytes : (cs : List ℕ) → bytes_of (pieces_of cs) ≡ encode_utf8_all cs
+their_bytes : (cs : List ℕ) → piece_bytes (pieces_of cs) ≡ encode_utf8_all cs
 their_bytes [] = refl
 their_bytes (c ∷ cs) = ap (λ x. encode_utf8 c ++ x) (their_bytes cs)
 
-their_chars : (cs : List ℕ) → chars_of (pieces_of cs) ≡ cs
+their_chars : (cs : List ℕ) → piece_chars (pieces_of cs) ≡ cs
 their_chars [] = refl
 their_chars (c ∷ cs) = ap (λ x. c ∷ x) (their_chars cs)
 
@@ -25,7 +25,7 @@ pub their_units : (cs : List ℕ) → units_of_text encode_utf8 cs ≡ encode_ut
 their_units [] = refl
 their_units (c ∷ cs) = ap (λ x. encode_utf8 c ++ x) (their_units cs)
 
-they_mean : (cs : List ℕ) → all_scalars cs ≡ true → AllMean IsUtf8Char (pieces_of cs)
+they_mean : (cs : List ℕ) → all_scalars cs ≡ true → EachMeansChar IsUtf8Char (pieces_of cs)
 they_mean [] e = tt
 they_mean (c ∷ cs) e = let p = and_parts _ _ e in ((p.0, refl), they_mean cs p.1)
 
@@ -39,7 +39,7 @@ ascii_char b h = (low_scalar b (omega arith), sym (encode_ascii b h))
 
 -- they are read
 pub reads_utf8 : (src : List ℕ) (n : ℕ) → n ≤ length src → (u : IsWellFormedUtf8 (take n src))
-    → Reads IsUtf8Char src n u.0
+    → ReadsPieces IsUtf8Char src n u.0
 reads_utf8 src n l u = record {
   pieces = pieces_of u.0;
   within = l;
@@ -50,7 +50,7 @@ reads_utf8 src n l u = record {
 }
 
 -- and put out as their bytes
-pub puts_utf8 : (before after : Output) (src : List ℕ) (n : ℕ) → n ≤ length src → n ≤ before.room → IsWellFormedUtf8 (take n src) → after ≡ appended before (take n src)
+pub puts_utf8 : (before after : Output) (src : List ℕ) (n : ℕ) → n ≤ length src → n ≤ before.room → IsWellFormedUtf8 (take n src) → after ≡ with_appended before (take n src)
     → PutsPieces encode_utf8 IsUtf8Char before after src n
 puts_utf8 before after src n l f u e =
     let units = their_units u.0 ∙ u.1.1 in
@@ -59,5 +59,5 @@ puts_utf8 before after src n l f u e =
       scalars = u.1.0;
       reads = reads_utf8 src n l u;
       fits = omega (arith, ap length units, length-take n src);
-      written = e ∙ ap (appended before) (sym units);
+      written = e ∙ ap (with_appended before) (sym units);
     }

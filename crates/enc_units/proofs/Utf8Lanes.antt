@@ -10,7 +10,7 @@ use Rattle.std.proofs.lemmas.Simd.{map-map, mask_l-mod, zip2_of_maps, splat_is_m
 use Rattle.std.proofs.lemmas.Simd.{none_from_empty_mask, get_or-chunk, bit_mask_l}
 use Rattle.std.specs.List.{range_with_len}
 use lib.Lanes.{zip2, mask_l, top, chunk, sel_l}
-use Rattle.enc_units.specs.Utf8Run.{Follows, FollowsAt}
+use Rattle.enc_units.specs.Utf8Run.{CanFollowBytes, CanFollowBytesAt}
 
 abbrev places : List ℕ
 places = range_with_len 0 16
@@ -141,7 +141,7 @@ module _ (z y x b : ℕ) (e : wrong z y x b ≡ false) where
   continues : (leb 0x80 b && ltb b 0xC0) ≡ true → (0x80 ≤ b) × (b < 0xC0)
   continues h = let p = and_parts _ _ h in (leb-true _ _ p.0, ltb-true _ _ p.1)
 
-  follows : Follows z y x b
+  follows : CanFollowBytes z y x b
   follows = record {
     behind_first = λ h. continues (sym parts.0 ∙ rw (le-leb 0xC0 x h) refl);
     behind_second = λ h. continues (sym parts.0 ∙ ap (λ t. t || leb 0xF0 z) (or_true (leb 0xC0 x) (leb 0xE0 y) (le-leb 0xE0 y h)));
@@ -163,16 +163,17 @@ module _ (zs ys xs bs : List ℕ) (lz : length zs ≡ 16) (ly : length ys ≡ 16
         (either (same_as 0xED 0xE0 xs lx (at_least 0xA0 bs lb)) (same_as 0xF4 0xF0 xs lx (at_least 0x90 bs lb))),
   )
 
-  pub lanes_follow : eqb (mask_l (map (top 7) flags.0) % 2 ^ 64) 0 ≡ true → (k : ℕ) → k < 16 → Follows (get_or zs k 0) (get_or ys k 0) (get_or xs k 0) (get_or bs k 0)
+  pub lanes_follow : eqb (mask_l (map (top 7) flags.0) % 2 ^ 64) 0 ≡ true → (k : ℕ) → k < 16 → CanFollowBytes (get_or zs k 0) (get_or ys k 0) (get_or xs k 0) (get_or bs k 0)
   lanes_follow e k h = follows (get_or zs k 0) (get_or ys k 0) (get_or xs k 0) (get_or bs k 0) (none_set flags.0 _ flags.1 e k h)
 
-along : {z y x b z' y' x' b' : ℕ} → z ≡ z' → y ≡ y' → x ≡ x' → b ≡ b' → Follows z y x b → Follows z' y' x' b'
+along : {z y x b z' y' x' b' : ℕ} → z ≡ z' → y ≡ y' → x ≡ x' → b ≡ b' → CanFollowBytes z y x b
+    → CanFollowBytes z' y' x' b'
 along {z} {y} {x} {b} {z'} {y'} {x'} {b'} p q r s f =
-    subst (λ v. Follows z' y' x' v) s (subst (λ v. Follows z' y' v b) r (subst (λ v. Follows z' v x b) q (subst (λ v. Follows v y x b) p f)))
+    subst (λ v. CanFollowBytes z' y' x' v) s (subst (λ v. CanFollowBytes z' y' v b) r (subst (λ v. CanFollowBytes z' v x b) q (subst (λ v. CanFollowBytes v y x b) p f)))
 
 pub block_follows : (src : List ℕ) (at : ℕ)
-    → ((j : ℕ) → j < 16 → Follows (get_or (chunk at 16 src) j 0) (get_or (chunk (at + 1) 16 src) j 0) (get_or (chunk (at + 2) 16 src) j 0) (get_or (chunk (at + 3) 16 src) j 0))
-    → (k : ℕ) → at ≤ k → k < at + 16 → FollowsAt src k
+    → ((j : ℕ) → j < 16 → CanFollowBytes (get_or (chunk at 16 src) j 0) (get_or (chunk (at + 1) 16 src) j 0) (get_or (chunk (at + 2) 16 src) j 0) (get_or (chunk (at + 3) 16 src) j 0))
+    → (k : ℕ) → at ≤ k → k < at + 16 → CanFollowBytesAt src k
 block_follows src at h k from to =
     let j = k - at in
     let few : j < 16 = omega arith in

@@ -9,9 +9,9 @@ use Rattle.std.proofs.lemmas.Str.{chars_past_char, IsUtf8-past_char, encode_asci
 use Rattle.std.proofs.Math.Seq.{drop-append_seam}
 use Rattle.std.specs.Char.{IsScalar, encode_utf8}
 use Rattle.std.specs.Str.{all_scalars, encode_utf8_all}
-use Rattle.enc_units.specs.Mappings.{FirstOfUtf8, AreWrittenAsThemselves}
+use Rattle.enc_units.specs.Mappings.{IsFirstUtf8Char, AreWrittenAsThemselves}
 use Rattle.enc_units.proofs.GatherLemmas.{utf8_two, utf8_three, utf8_four}
-use Rattle.enc_units.proofs.WrittenLemmas.{HasFront}
+use Rattle.enc_units.proofs.WriteLoopLemmas.{HasFront}
 
 -- a character and its UTF-8 in front
 record Front (bs : List ℕ) : Type 0 where
@@ -35,10 +35,10 @@ at_front bs c rest code e f i d = ap (λ x. get_or x i d) (e ∙ ap (λ x. x ++ 
 pub record IsFirst (bs : List ℕ) (c n : ℕ) : Type 0 where
   pub scalar : IsScalar c
   pub beyond : 0x80 ≤ c
-  pub first : FirstOfUtf8 bs c n
+  pub first : IsFirstUtf8Char bs c n
 
 first_is : (bs : List ℕ) (c : ℕ) (rest code : List ℕ) → IsUtf8 bs → bs ≡ encode_utf8 c ++ rest
-    → encode_utf8 c ≡ code → FirstOfUtf8 bs c (length code)
+    → encode_utf8 c ≡ code → IsFirstUtf8Char bs c (length code)
 first_is bs c rest code u e f =
     let is : bs ≡ code ++ rest = e ∙ ap (λ x. x ++ rest) f in
     let after : drop (length code) bs ≡ rest = ap (drop (length code)) is ∙ drop-append_seam code rest in
@@ -61,7 +61,7 @@ module _ (bs : List ℕ) (u : IsUtf8 bs) where
     three : 0xE0 ≤ b 0 → b 0 < 0xF0 → IsFirst bs ((b 0 % 16 * 64 + b 1 % 64) * 64 + b 2 % 64) 3
     four : 0xF0 ≤ b 0 → IsFirst bs (((b 0 % 8 * 64 + b 1 % 64) * 64 + b 2 % 64) * 64 + b 3 % 64) 4
 
-  equal : (c d n : ℕ) (s : IsScalar c) → 0x80 ≤ c → FirstOfUtf8 bs c n → c ≡ d → IsFirst bs d n
+  equal : (c d n : ℕ) (s : IsScalar c) → 0x80 ≤ c → IsFirstUtf8Char bs c n → c ≡ d → IsFirst bs d n
   equal c d n s l f e = subst (λ x. IsFirst bs x n) e (record { scalar = s; beyond = l; first = f })
 
   split : 0 < length bs → 0x80 ≤ b 0 → Split

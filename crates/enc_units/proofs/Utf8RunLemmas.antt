@@ -6,7 +6,7 @@ use Rattle.std.proofs.lemmas.Simd.{get_or-chunk}
 use Rattle.std.proofs.lemmas.Str.{IsUtf8-nil, IsUtf8-append}
 use Rattle.std.proofs.str.Valid.{of_one, of_two, of_three, of_four}
 use Rattle.enc_units.specs.Validity.{IsWellFormedUtf8, AreAscii}
-use Rattle.enc_units.specs.Utf8Run.{Follows, FollowsAt, IsBetween}
+use Rattle.enc_units.specs.Utf8Run.{CanFollowBytes, CanFollowBytesAt, IsCharBoundaryAfter}
 
 abbrev AreBetween : ℕ → ℕ → ℕ → Type 0
 AreBetween z y x = (z < 0xF0) × (y < 0xE0) × (x < 0xC0)
@@ -14,7 +14,7 @@ AreBetween z y x = (z < 0xF0) × (y < 0xE0) × (x < 0xC0)
 -- each of the bytes may stand behind the three before it, and at the end nothing is wanted
 abbrev AllFollow : ℕ → ℕ → ℕ → List ℕ → Type 0
 AllFollow z y x [] = AreBetween z y x
-AllFollow z y x (b ∷ bs) = Follows z y x b × AllFollow y x b bs
+AllFollow z y x (b ∷ bs) = CanFollowBytes z y x b × AllFollow y x b bs
 
 unless : (a n : ℕ) {P : Type 0} → (a ≡ n → P) → (a ≡ n → ⊥) ⊎ P
 unless a n f = elim (cases_eq a n) [ inl e ↦ inr (f e) | inr e ↦ inl e ]
@@ -47,13 +47,13 @@ four a b c d h f e g j k =
 -- and of several
 
 module _ (n : ℕ) (rest : (z y x : ℕ) (bs : List ℕ) → length bs ≤ n → AreBetween z y x → AllFollow z y x bs → IsWellFormedUtf8 bs) where
-  fourth : (y z a b c : ℕ) (bs : List ℕ) → length bs ≤ n → (0xF0 ≤ a) × (a ≤ 0xF4) → (0x80 ≤ b) × (b < 0xC0) → Follows y z a b → (0x80 ≤ c) × (c < 0xC0)
+  fourth : (y z a b c : ℕ) (bs : List ℕ) → length bs ≤ n → (0xF0 ≤ a) × (a ≤ 0xF4) → (0x80 ≤ b) × (b < 0xC0) → CanFollowBytes y z a b → (0x80 ≤ c) × (c < 0xC0)
       → AllFollow a b c bs → IsWellFormedUtf8 (a ∷ b ∷ c ∷ bs)
   fourth y z a b c [] l h f s e v = absurd (omega arith)
   fourth y z a b c (d ∷ bs) l h f s e v =
       IsUtf8-append (a ∷ b ∷ c ∷ d ∷ []) bs (four a b c d h f s.behind_0xf0 s.behind_0xf4 e (v.0.behind_third h.0)) (rest b c d bs (omega arith) (omega (arith, v.0.behind_third h.0)) v.1)
 
-  third : (y z a b : ℕ) (bs : List ℕ) → length bs ≤ n → (0xE0 ≤ a) × (a ≤ 0xF4) → (0x80 ≤ b) × (b < 0xC0) → Follows y z a b → AllFollow z a b bs
+  third : (y z a b : ℕ) (bs : List ℕ) → length bs ≤ n → (0xE0 ≤ a) × (a ≤ 0xF4) → (0x80 ≤ b) × (b < 0xC0) → CanFollowBytes y z a b → AllFollow z a b bs
       → IsWellFormedUtf8 (a ∷ b ∷ bs)
   third y z a b [] l h f s v = absurd (omega arith)
   third y z a b (c ∷ bs) l h f s v =
@@ -86,13 +86,13 @@ all_utf8 zero z y x (b ∷ bs) l h v = absurd (omega arith)
 all_utf8 (suc n) z y x bs l h v = first n (all_utf8 n) z y x bs l h v
 
 -- the same told by places
-all_follow : (n z y x : ℕ) (bs : List ℕ) → n ≤ length bs → ((k : ℕ) → k < n → FollowsAt (z ∷ y ∷ x ∷ bs) k) → IsBetween (z ∷ y ∷ x ∷ bs) n
+all_follow : (n z y x : ℕ) (bs : List ℕ) → n ≤ length bs → ((k : ℕ) → k < n → CanFollowBytesAt (z ∷ y ∷ x ∷ bs) k) → IsCharBoundaryAfter (z ∷ y ∷ x ∷ bs) n
     → AllFollow z y x (take n bs)
 all_follow zero z y x bs l h e = e
 all_follow (suc n) z y x [] l h e = absurd (omega arith)
 all_follow (suc n) z y x (b ∷ bs) l h e = (h 0 (omega arith), all_follow n y x b bs (omega arith) (λ k u. h (suc k) (omega arith)) e)
 
-pub blocks_utf8 : (n : ℕ) (src : List ℕ) → n + 3 ≤ length src → IsBetween src 0 → ((k : ℕ) → k < n → FollowsAt src k) → IsBetween src n
+pub blocks_utf8 : (n : ℕ) (src : List ℕ) → n + 3 ≤ length src → IsCharBoundaryAfter src 0 → ((k : ℕ) → k < n → CanFollowBytesAt src k) → IsCharBoundaryAfter src n
     → IsWellFormedUtf8 (take n (drop 3 src))
 blocks_utf8 n [] l b h e = absurd (omega arith)
 blocks_utf8 n (z ∷ []) l b h e = absurd (omega arith)
@@ -146,25 +146,25 @@ longer_from src at n h a b =
     longer src at n a (subst (λ r. IsWellFormedUtf8 (take n r)) rest b)
 
 -- behind three bytes that want nothing, ASCII follows
-module _ (src : List ℕ) (at n : ℕ) (l : at + 3 + n ≤ length src) (b : IsBetween src at) (a : AreAscii (take n (drop (at + 3) src))) where
+module _ (src : List ℕ) (at n : ℕ) (l : at + 3 + n ≤ length src) (b : IsCharBoundaryAfter src at) (a : AreAscii (take n (drop (at + 3) src))) where
   low : (m : ℕ) → at + 3 ≤ m → m < at + 3 + n → get_or src m 0 < 0x80
   low m from to =
       let place : at + 3 + (m - (at + 3)) ≡ m = omega arith in
       subst (λ v. v < 0x80) (get_or-chunk (at + 3) n src (m - (at + 3)) 0 (omega arith) ∙ ap (λ k. get_or src k 0) place)
       (a (m - (at + 3)) 0 (omega (arith, length-take n (drop (at + 3) src), length-drop (at + 3) src)))
 
-  between : (d : ℕ) → d < n → IsBetween src (at + d)
-  between zero h = let e : at ≡ at + 0 = omega arith in subst (IsBetween src) e b
+  between : (d : ℕ) → d < n → IsCharBoundaryAfter src (at + d)
+  between zero h = let e : at ≡ at + 0 = omega arith in subst (IsCharBoundaryAfter src) e b
   between (suc d) h =
       let e : suc (at + d) ≡ at + suc d = omega arith in
       let p = between d (omega arith) in
       let q = low (suc (suc (suc (at + d)))) (omega arith) (omega arith) in
-      subst (IsBetween src) e (omega arith, omega arith, omega arith)
+      subst (IsCharBoundaryAfter src) e (omega arith, omega arith, omega arith)
 
-  pub ascii_follows : (k : ℕ) → at ≤ k → k < at + n → FollowsAt src k
+  pub ascii_follows : (k : ℕ) → at ≤ k → k < at + n → CanFollowBytesAt src k
   ascii_follows k from to =
       let e : at + (k - at) ≡ k = omega arith in
-      let p : IsBetween src k = subst (IsBetween src) e (between (k - at) (omega arith)) in
+      let p : IsCharBoundaryAfter src k = subst (IsCharBoundaryAfter src) e (between (k - at) (omega arith)) in
       let q = low (suc (suc (suc k))) (omega arith) (omega arith) in
       record {
         behind_first = λ w. absurd (omega arith);

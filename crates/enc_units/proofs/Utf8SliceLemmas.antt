@@ -7,7 +7,7 @@ use Rattle.std.proofs.Math.Seq.{take-append_seam, drop-append_seam}
 use Rattle.std.specs.Borrow.{GName}
 use Rattle.std.specs.Char.{encode_utf8}
 use borrow.Rule.Slice.PartMut.{put_mid}
-use Rattle.enc_units.specs.Output.{appended, units_of_text, slice_output}
+use Rattle.enc_units.specs.Output.{with_appended, units_of_text, slice_output}
 use Rattle.enc_units.specs.Validity.{AreAscii}
 use Rattle.enc_units.proofs.OutputLemmas.{same_output}
 
@@ -34,7 +34,7 @@ module _ (len n : ℕ) (dst src new : List ℕ) (borrow : GName) (within : len �
   long = omega (arith, length-append (take len dst) (take n src), length-take len dst, length-take n src)
 
   -- the slice once bytes are copied behind those written
-  pub grown : slice_output (len + n) (put_mid len (length dst - len) dst new) borrow ≡ appended (slice_output len dst borrow) (take n src)
+  pub grown : slice_output (len + n) (put_mid len (length dst - len) dst new) borrow ≡ with_appended (slice_output len dst borrow) (take n src)
   grown = same_output borrow
       (ap (take (len + n)) whole ∙ seam_take (len + n) (take len dst ++ take n src) (drop n (drop len dst)) long)
       (omega (arith, ap length whole, length-append (take len dst ++ take n src) (drop n (drop len dst)), long, length-drop n (drop len dst), length-drop len dst, length-take n src))
@@ -50,7 +50,7 @@ module _ (len n : ℕ) (dst ys : List ℕ) (borrow : GName) (within : len + n �
   put_long : length (take len dst ++ ys) ≡ len + n
   put_long = omega (arith, length-append (take len dst) ys, length-take len dst)
 
-  pub grown_by : slice_output (len + n) (put_mid len (len + n - len) dst ys) borrow ≡ appended (slice_output len dst borrow) ys
+  pub grown_by : slice_output (len + n) (put_mid len (len + n - len) dst ys) borrow ≡ with_appended (slice_output len dst borrow) ys
   grown_by = same_output borrow
       (ap (take (len + n)) put_whole ∙ seam_take (len + n) (take len dst ++ ys) (drop n (drop len dst)) put_long)
       (omega (arith, ap length put_whole, length-append (take len dst ++ ys) (drop n (drop len dst)), put_long, length-drop n (drop len dst), length-drop len dst))

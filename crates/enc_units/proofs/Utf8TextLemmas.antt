@@ -9,9 +9,9 @@ use Rattle.std.specs.Char.{IsScalar, encode_utf8}
 use Rattle.std.specs.Char.Escape.{encode_utf16}
 use Rattle.enc_units.specs.Output.{AreScalars, units_of_text}
 use Rattle.enc_units.specs.Validity.{IsWellFormedUtf8}
-use Rattle.enc_units.specs.Gathering.{Gathers}
+use Rattle.enc_units.specs.Gathering.{GathersChars}
 use Rattle.enc_units.specs.Pieces.{IsUtf8Char}
-use Rattle.enc_units.specs.Utf8Units.{gives_unit, code_unit, two_before, unit_at, units_from}
+use Rattle.enc_units.specs.Utf8Units.{gives_unit, code_unit_of_byte, byte_two_before, unit_at, units_from}
 use Rattle.enc_units.proofs.GatherLemmas.{utf8_two, utf8_three, utf8_four}
 use Rattle.enc_units.proofs.UnitsLemmas.{one_unit, two_units, scalar_range}
 use Rattle.enc_units.proofs.Utf8CharsLemmas.{their_units, reads_utf8}
@@ -19,31 +19,33 @@ use Rattle.enc_units.proofs.Utf8UnitsLemmas.{if_one, low_unit}
 
 -- the units of single bytes
 
-gives_one : (z a b w c : ℕ) → gives_unit z a ≡ true → code_unit a b w ≡ c
-    → if_one (gives_unit z a) (code_unit a b w) ≡ c ∷ []
-gives_one z a b w c g e = ap (λ t. if_one t (code_unit a b w)) g ∙ ap (λ x. x ∷ []) e
+gives_one : (z a b w c : ℕ) → gives_unit z a ≡ true → code_unit_of_byte a b w ≡ c
+    → if_one (gives_unit z a) (code_unit_of_byte a b w) ≡ c ∷ []
+gives_one z a b w c g e = ap (λ t. if_one t (code_unit_of_byte a b w)) g ∙ ap (λ x. x ∷ []) e
 
 gives_none : (z b u : ℕ) → z < 0xF0 → (0x80 ≤ b) × (b < 0xC0) → if_one (gives_unit z b) u ≡ []
 gives_none z b u h f = let none : gives_unit z b ≡ false = grind (arith, nat_tests) in ap (λ t. if_one t u) none
 
 of_two : (z w c : ℕ) → 0x80 ≤ c → c < 0x800
-    → if_one (gives_unit z (192 + c / 64)) (code_unit (192 + c / 64) (128 + c % 64) w) ≡ c ∷ []
+    → if_one (gives_unit z (192 + c / 64)) (code_unit_of_byte (192 + c / 64) (128 + c % 64) w) ≡ c ∷ []
 of_two z w c l h = gives_one z (192 + c / 64) (128 + c % 64) w c (grind (arith, nat_tests)) (grind (arith, nat_tests))
 
 of_three : (z c : ℕ) → 0x800 ≤ c → c < 0x1_0000
-    → if_one (gives_unit z (224 + c / 4096)) (code_unit (224 + c / 4096) (128 + c / 64 % 64) (128 + c % 64)) ≡ c ∷ []
+    → if_one (gives_unit z (224 + c / 4096)) (code_unit_of_byte (224 + c / 4096) (128 + c / 64 % 64) (128 + c % 64)) ≡ c
+    ∷ []
 of_three z c l h = gives_one z (224 + c / 4096) (128 + c / 64 % 64) (128 + c % 64) c (grind (arith, nat_tests))
     (grind (arith, nat_tests))
 
 of_four : (z c : ℕ) → 0x1_0000 ≤ c → c < 0x11_0000
     → if_one (gives_unit z (240 + c / 262144))
-    (code_unit (240 + c / 262144) (128 + c / 4096 % 64) (128 + c / 64 % 64)) ≡ (0xD800 + (c - 0x1_0000) / 0x400) ∷ []
+    (code_unit_of_byte (240 + c / 262144) (128 + c / 4096 % 64) (128 + c / 64 % 64)) ≡ (0xD800 + (c - 0x1_0000) / 0x400)
+    ∷ []
 of_four z c l h =
     gives_one z (240 + c / 262144) (128 + c / 4096 % 64) (128 + c / 64 % 64) (0xD800 + (c - 0x1_0000) / 0x400)
     (grind (arith, nat_tests)) (grind (arith, nat_tests))
 
 of_second : (z w c : ℕ) → 0xF0 ≤ z → 0x1_0000 ≤ c → c < 0x11_0000
-    → if_one (gives_unit z (128 + c / 64 % 64)) (code_unit (128 + c / 64 % 64) (128 + c % 64) w)
+    → if_one (gives_unit z (128 + c / 64 % 64)) (code_unit_of_byte (128 + c / 64 % 64) (128 + c % 64) w)
     ≡ (0xDC00 + (c - 0x1_0000) % 0x400) ∷ []
 of_second z w c g l h =
     gives_one z (128 + c / 64 % 64) (128 + c % 64) w (0xDC00 + (c - 0x1_0000) % 0x400) (grind (arith, nat_tests))
@@ -68,11 +70,12 @@ stands src at (suc n) h =
 
 abbrev Gives : List ℕ → List ℕ → Type 0
 Gives src t =
-    (at : ℕ) → two_before src at < 0xF0 → two_before src (suc at) < 0xF0 → Stand src at (units_of_text encode_utf8 t)
+    (at : ℕ) → byte_two_before src at < 0xF0 → byte_two_before src (suc at) < 0xF0
+    → Stand src at (units_of_text encode_utf8 t)
     → units_from src at (length (units_of_text encode_utf8 t)) ≡ units_of_text encode_utf16 t
 
-module _ (src : List ℕ) (c : ℕ) (t : List ℕ) (rest : Gives src t) (at : ℕ) (y : two_before src at < 0xF0)
-    (x : two_before src (suc at) < 0xF0) where
+module _ (src : List ℕ) (c : ℕ) (t : List ℕ) (rest : Gives src t) (at : ℕ) (y : byte_two_before src at < 0xF0)
+    (x : byte_two_before src (suc at) < 0xF0) where
   abbrev bytes : List ℕ
   bytes = units_of_text encode_utf8 t
 
@@ -82,24 +85,24 @@ module _ (src : List ℕ) (c : ℕ) (t : List ℕ) (rest : Gives src t) (at : �
 
   one_byte : c < 0x80 → Goal (c ∷ []) (c ∷ [])
   one_byte h s =
-      let first : unit_at src at ≡ c ∷ [] = rw s.0 (low_unit (two_before src at) c _ _ h) in
+      let first : unit_at src at ≡ c ∷ [] = rw s.0 (low_unit (byte_two_before src at) c _ _ h) in
       ap (λ z. z ++ units_from src (suc at) (length bytes)) first
       ∙ ap (λ z. c ∷ z) (rest (suc at) x (omega (arith, s.0)) s.1)
 
   two_bytes : 0x80 ≤ c → c < 0x800 → Goal ((192 + c / 64) ∷ (128 + c % 64) ∷ []) (c ∷ [])
   two_bytes l h s =
-      let first : unit_at src at ≡ c ∷ [] = rw (s.0, s.1.0) (of_two (two_before src at) _ c l h) in
+      let first : unit_at src at ≡ c ∷ [] = rw (s.0, s.1.0) (of_two (byte_two_before src at) _ c l h) in
       let second : unit_at src (suc at) ≡ [] =
-      gives_none (two_before src (suc at)) (get_or src (suc at) 0) _ x (omega (arith, s.1.0)) in
+      gives_none (byte_two_before src (suc at)) (get_or src (suc at) 0) _ x (omega (arith, s.1.0)) in
       ap (λ z. z ++ (unit_at src (suc at) ++ units_from src (suc (suc at)) (length bytes))) first
       ∙ ap (λ z. c ∷ (z ++ units_from src (suc (suc at)) (length bytes))) second
       ∙ ap (λ z. c ∷ z) (rest (suc (suc at)) (omega (arith, s.0)) (omega (arith, s.1.0)) s.1.1)
 
   three_bytes : 0x800 ≤ c → c < 0x1_0000 → Goal ((224 + c / 4096) ∷ (128 + c / 64 % 64) ∷ (128 + c % 64) ∷ []) (c ∷ [])
   three_bytes l h s =
-      let first : unit_at src at ≡ c ∷ [] = rw (s.0, s.1.0, s.1.1.0) (of_three (two_before src at) c l h) in
+      let first : unit_at src at ≡ c ∷ [] = rw (s.0, s.1.0, s.1.1.0) (of_three (byte_two_before src at) c l h) in
       let second : unit_at src (suc at) ≡ [] =
-      gives_none (two_before src (suc at)) (get_or src (suc at) 0) _ x (omega (arith, s.1.0)) in
+      gives_none (byte_two_before src (suc at)) (get_or src (suc at) 0) _ x (omega (arith, s.1.0)) in
       let third : unit_at src (suc (suc at)) ≡ [] =
       gives_none (get_or src at 0) (get_or src (suc (suc at)) 0) _ (omega (arith, s.0))
       (omega (arith, s.1.1.0)) in
@@ -116,9 +119,9 @@ module _ (src : List ℕ) (c : ℕ) (t : List ℕ) (rest : Gives src t) (at : �
       let high = 0xD800 + (c - 0x1_0000) / 0x400 in
       let low = 0xDC00 + (c - 0x1_0000) % 0x400 in
       let last = suc (suc (suc at)) in
-      let first : unit_at src at ≡ high ∷ [] = rw (s.0, s.1.0, s.1.1.0) (of_four (two_before src at) c l h) in
+      let first : unit_at src at ≡ high ∷ [] = rw (s.0, s.1.0, s.1.1.0) (of_four (byte_two_before src at) c l h) in
       let second : unit_at src (suc at) ≡ [] =
-      gives_none (two_before src (suc at)) (get_or src (suc at) 0) _ x (omega (arith, s.1.0)) in
+      gives_none (byte_two_before src (suc at)) (get_or src (suc at) 0) _ x (omega (arith, s.1.0)) in
       let third : unit_at src (suc (suc at)) ≡ low ∷ [] =
       rw (s.1.1.0, s.1.1.1.0) (of_second (get_or src at 0) _ c (omega (arith, s.0)) l h) in
       let fourth : unit_at src last ≡ [] =
@@ -155,7 +158,7 @@ units_of_utf8 src (c ∷ t) a at y x s = let p =
 -- well-formed bytes in front are gathered as their code units
 pub gathers_units : (src : List ℕ) (n : ℕ) (after : List ℕ) → n ≤ length src → IsWellFormedUtf8 (take n src)
     → after ≡ units_from src 0 n
-    → Gathers encode_utf16 IsUtf8Char src n [] after
+    → GathersChars encode_utf16 IsUtf8Char src n [] after
 gathers_units src n after l u e =
     let bytes : units_of_text encode_utf8 u.0 ≡ take n src = their_units u.0 ∙ u.1.1 in
     let long : length (units_of_text encode_utf8 u.0) ≡ n = omega (arith, ap length bytes, length-take n src) in

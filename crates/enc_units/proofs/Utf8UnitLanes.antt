@@ -12,7 +12,7 @@ use Rattle.std.proofs.lemmas.Simd.{map-map, zip2_of_maps, splat_is_map, pick_l_w
 use Rattle.std.specs.List.{range_with_len}
 use lib.Lanes.{zip2, mask_l, top, sel_l, Each1}
 use mir.Val.{Fits}
-use Rattle.enc_units.specs.Utf8Units.{gives_unit, code_unit}
+use Rattle.enc_units.specs.Utf8Units.{gives_unit, code_unit_of_byte}
 use Rattle.enc_units.proofs.Utf8Lanes.{IsFlags, at_least, below, either, none_set, flag_bit}
 
 abbrev places : List ℕ
@@ -127,7 +127,7 @@ module _ (xs ys zs : List ℕ) (la : length xs ≡ 16) (lb : length ys ≡ 16) (
   narrow_at k h = lane_at narrows.1 k h
 
 pub narrow_unit : (a b c : ℕ) → a < 0xF0 → b < 0x100 → c < 0x100 → gives_unit 0 a ≡ true
-    → narrow a b c ≡ code_unit a b c
+    → narrow a b c ≡ code_unit_of_byte a b c
 narrow_unit a b c h lb lc g = grind (arith, nat_tests)
 
 -- and of all
@@ -177,7 +177,7 @@ low_is : (a b : ℕ) → 0x80 ≤ a → a < 0xC0 → b < 0x100 → low a b ≡ (
 low_is a b h l m =
     ap (λ x. (x + 0xDC00) % 0x1_0000) (and_mask ((pair a b + 0xFF80) % 0x1_0000) 10) ∙ omega arith
 
-pub all_units_are : (a b c : ℕ) → a < 0x100 → b < 0x100 → c < 0x100 → any_unit a b c ≡ code_unit a b c
+pub all_units_are : (a b c : ℕ) → a < 0x100 → b < 0x100 → c < 0x100 → any_unit a b c ≡ code_unit_of_byte a b c
 all_units_are a b c la lb lc = elim (cases_lt a 0x80) [
   | inl h ↦ grind (arith, nat_tests)
   | inr h ↦ elim (cases_lt a 0xC0) [

@@ -11,16 +11,16 @@ use Rattle.std.proofs.Math.ListN.{set}
 use Rattle.std.proofs.lemmas.Simd.{get_or-chunk, pick_l_left, pick_l-range_with_len}
 use Rattle.std.specs.List.{range_with_len}
 use lib.Lanes.{chunk, pick_l}
-use Rattle.enc_units.specs.Utf8Units.{gives_unit, code_unit, two_before, unit_at, units_from, marked_places, marked}
+use Rattle.enc_units.specs.Utf8Units.{gives_unit, code_unit_of_byte, byte_two_before, unit_at, units_from, marked_places, marked_code_units}
 use borrow.Rule.Slice.PartMut.{put_mid}
 use Rattle.enc_units.proofs.Utf8SliceLemmas.{seam_take, seam_drop}
 
 -- the lanes of a load, by their places in the input
 
 pub units_here : (src : List ℕ) (at k u : ℕ) → k < 16
-    → u ≡ code_unit (get_or (chunk at 16 src) k 0) (get_or (chunk (at + 1) 16 src) k 0)
+    → u ≡ code_unit_of_byte (get_or (chunk at 16 src) k 0) (get_or (chunk (at + 1) 16 src) k 0)
     (get_or (chunk (at + 2) 16 src) k 0)
-    → u ≡ code_unit (get_or src (at + k) 0) (get_or src (at + k + 1) 0) (get_or src (at + k + 2) 0)
+    → u ≡ code_unit_of_byte (get_or src (at + k) 0) (get_or src (at + k + 1) 0) (get_or src (at + k + 2) 0)
 units_here src at k u h e =
     let lane : (i m : ℕ) → i + k ≡ m → get_or (chunk i 16 src) k 0 ≡ get_or src m 0 =
     λ i m p. get_or-chunk i 16 src k 0 h ∙ ap (λ n. get_or src n 0) p in
@@ -32,10 +32,10 @@ units_here src at k u h e =
     ) refl
 
 pub before_here : (src : List ℕ) (at k : ℕ) → 2 ≤ at → k < 16
-    → get_or (chunk (at - 2) 16 src) k 0 ≡ two_before src (at + k)
+    → get_or (chunk (at - 2) 16 src) k 0 ≡ byte_two_before src (at + k)
 before_here src at k h l =
     let place : suc (suc (at - 2 + k)) ≡ at + k = omega arith in
-    get_or-chunk (at - 2) 16 src k 0 l ∙ ap (two_before src) place
+    get_or-chunk (at - 2) 16 src k 0 l ∙ ap (byte_two_before src) place
 
 pub first_alone : (z a : ℕ) → z < 0xF0 → gives_unit z a ≡ true → gives_unit 0 a ≡ true
 first_alone z a h g = grind (arith, nat_tests)
@@ -70,7 +70,7 @@ few_one true u = omega arith
 few_one false u = omega arith
 
 one_few : (src : List ℕ) (at : ℕ) → length (unit_at src at) ≤ 1
-one_few src at = few_one (gives_unit (two_before src at) (get_or src at 0)) _
+one_few src at = few_one (gives_unit (byte_two_before src at) (get_or src at 0)) _
 
 pub units_few : (src : List ℕ) (at n : ℕ) → length (units_from src at n) ≤ n
 units_few src at zero = omega arith
@@ -79,7 +79,7 @@ units_few src at (suc n) =
 
 -- that of an ASCII byte
 
-pub low_unit : (z a b c : ℕ) → a < 0x80 → if_one (gives_unit z a) (code_unit a b c) ≡ a ∷ []
+pub low_unit : (z a b c : ℕ) → a < 0x80 → if_one (gives_unit z a) (code_unit_of_byte a b c) ≡ a ∷ []
 low_unit z a b c h = rw (lt-ltb a 0x80 h) refl
 
 -- those that the bits of a mask mark
@@ -91,9 +91,10 @@ one_marked true bit from u units e f = ap (λ b. map (λ k. get_or units k 0) (i
 one_marked false bit from u units e f = ap (λ b. map (λ k. get_or units k 0) (if b == 1 then from ∷ [] else [])) e
 
 pub marked_from : (src : List ℕ) (n at from marks : ℕ) (units : List ℕ)
-    → ((k : ℕ) → k < n → marks / 2 ^ k % 2 ≡ cond (gives_unit (two_before src (at + k)) (get_or src (at + k) 0)) 1 0)
-    → ((k : ℕ) → k < n → gives_unit (two_before src (at + k)) (get_or src (at + k) 0) ≡ true
-    → get_or units (from + k) 0 ≡ code_unit (get_or src (at + k) 0) (get_or src (at + k + 1) 0)
+    → ((k : ℕ) → k < n
+    → marks / 2 ^ k % 2 ≡ cond (gives_unit (byte_two_before src (at + k)) (get_or src (at + k) 0)) 1 0)
+    → ((k : ℕ) → k < n → gives_unit (byte_two_before src (at + k)) (get_or src (at + k) 0) ≡ true
+    → get_or units (from + k) 0 ≡ code_unit_of_byte (get_or src (at + k) 0) (get_or src (at + k + 1) 0)
     (get_or src (at + k + 2) 0))
     → map (λ k. get_or units k 0) (marked_places marks from n) ≡ units_from src at n
 marked_from src zero at from marks units b u = refl
@@ -101,59 +102,63 @@ marked_from src (suc n) at from marks units b u =
     map-append (λ k. get_or units k 0) (if marks % 2 == 1 then from ∷ [] else [])
     (marked_places (marks / 2) (suc from) n)
     ∙ ap (λ z. z ++ map (λ k. get_or units k 0) (marked_places (marks / 2) (suc from) n))
-    (one_marked (gives_unit (two_before src at) (get_or src at 0)) (marks % 2) from _ units first_bit first_unit)
+    (one_marked (gives_unit (byte_two_before src at) (get_or src at 0)) (marks % 2) from _ units first_bit first_unit)
     ∙ ap (λ z. unit_at src at ++ z) (marked_from src n (suc at) (suc from) (marks / 2) units rest_bits rest_units)
   where
     here : at + 0 ≡ at
     here = omega arith
 
-    first_bit : marks % 2 ≡ cond (gives_unit (two_before src at) (get_or src at 0)) 1 0
-    first_bit = whole ∙ subst (λ i. marks / 1 % 2 ≡ cond (gives_unit (two_before src i) (get_or src i 0)) 1 0) here
+    first_bit : marks % 2 ≡ cond (gives_unit (byte_two_before src at) (get_or src at 0)) 1 0
+    first_bit = whole ∙ subst (λ i. marks / 1 % 2 ≡ cond (gives_unit (byte_two_before src i) (get_or src i 0)) 1 0) here
         (b 0 (omega arith))
       where
         whole : marks % 2 ≡ marks / 1 % 2
         whole = omega arith
 
-    first_unit : gives_unit (two_before src at) (get_or src at 0) ≡ true
-        → get_or units from 0 ≡ code_unit (get_or src at 0) (get_or src (suc at) 0) (get_or src (suc (suc at)) 0)
+    first_unit : gives_unit (byte_two_before src at) (get_or src at 0) ≡ true
+        → get_or units from 0 ≡ code_unit_of_byte (get_or src at 0) (get_or src (suc at) 0)
+        (get_or src (suc (suc at)) 0)
     first_unit g =
         let next : at + 1 ≡ suc at = omega arith in
         let second : at + 2 ≡ suc (suc at) = omega arith in
         let start : from ≡ from + 0 = omega arith in
         ap (λ i. get_or units i 0) start
-        ∙ u 0 (omega arith) (ap (λ i. gives_unit (two_before src i) (get_or src i 0)) here ∙ g)
+        ∙ u 0 (omega arith) (ap (λ i. gives_unit (byte_two_before src i) (get_or src i 0)) here ∙ g)
         ∙ rw (here, next, second) refl
 
     on : (k : ℕ) → at + suc k ≡ suc at + k
     on k = omega arith
 
     rest_bits : (k : ℕ) → k < n → marks / 2 / 2 ^ k % 2
-        ≡ cond (gives_unit (two_before src (suc at + k)) (get_or src (suc at + k) 0)) 1 0
+        ≡ cond (gives_unit (byte_two_before src (suc at + k)) (get_or src (suc at + k) 0)) 1 0
     rest_bits k h =
         let more : 1 + k ≡ suc k = omega arith in
         ap (λ x. x % 2) (shr-shr marks 1 k ∙ ap (λ i. marks / 2 ^ i) more)
-        ∙ subst (λ i. marks / 2 ^ suc k % 2 ≡ cond (gives_unit (two_before src i) (get_or src i 0)) 1 0) (on k)
+        ∙ subst (λ i. marks / 2 ^ suc k % 2 ≡ cond (gives_unit (byte_two_before src i) (get_or src i 0)) 1 0) (on k)
         (b (suc k) (omega arith))
 
-    rest_units : (k : ℕ) → k < n → gives_unit (two_before src (suc at + k)) (get_or src (suc at + k) 0) ≡ true
+    rest_units : (k : ℕ) → k < n → gives_unit (byte_two_before src (suc at + k)) (get_or src (suc at + k) 0) ≡ true
         → get_or units (suc from + k) 0
-        ≡ code_unit (get_or src (suc at + k) 0) (get_or src (suc at + k + 1) 0) (get_or src (suc at + k + 2) 0)
+        ≡ code_unit_of_byte (get_or src (suc at + k) 0) (get_or src (suc at + k + 1) 0) (get_or src (suc at + k + 2) 0)
     rest_units k h g =
         let unit : suc from + k ≡ from + suc k = omega arith in
         ap (λ i. get_or units i 0) unit
-        ∙ u (suc k) (omega arith) (ap (λ i. gives_unit (two_before src i) (get_or src i 0)) (on k) ∙ g)
-        ∙ ap (λ i. code_unit (get_or src i 0) (get_or src (i + 1) 0) (get_or src (i + 2) 0)) (on k)
+        ∙ u (suc k) (omega arith) (ap (λ i. gives_unit (byte_two_before src i) (get_or src i 0)) (on k) ∙ g)
+        ∙ ap (λ i. code_unit_of_byte (get_or src i 0) (get_or src (i + 1) 0) (get_or src (i + 2) 0)) (on k)
 
 -- sixteen lanes are eight and eight
 sixteen_from : (src : List ℕ) (at marks : ℕ) (units lower upper : List ℕ)
-    → ((k : ℕ) → k < 16 → marks / 2 ^ k % 2 ≡ cond (gives_unit (two_before src (at + k)) (get_or src (at + k) 0)) 1 0)
-    → ((k : ℕ) → k < 16 → gives_unit (two_before src (at + k)) (get_or src (at + k) 0) ≡ true
-    → get_or units k 0 ≡ code_unit (get_or src (at + k) 0) (get_or src (at + k + 1) 0) (get_or src (at + k + 2) 0))
+    → ((k : ℕ) → k < 16
+    → marks / 2 ^ k % 2 ≡ cond (gives_unit (byte_two_before src (at + k)) (get_or src (at + k) 0)) 1 0)
+    → ((k : ℕ) → k < 16 → gives_unit (byte_two_before src (at + k)) (get_or src (at + k) 0) ≡ true
+    → get_or units k 0 ≡ code_unit_of_byte (get_or src (at + k) 0) (get_or src (at + k + 1) 0)
+    (get_or src (at + k + 2) 0))
     → ((k : ℕ) → k < 8 → get_or lower k 0 ≡ get_or units k 0)
     → ((k : ℕ) → k < 8 → get_or upper k 0 ≡ get_or units (8 + k) 0)
-    → marked marks lower ++ marked (marks / 0x100) upper ≡ units_from src at 16
+    → marked_code_units marks lower ++ marked_code_units (marks / 0x100) upper ≡ units_from src at 16
 sixteen_from src at marks units lower upper b u l r =
-    ap (λ z. z ++ marked (marks / 0x100) upper) (marked_from src 8 at 0 marks lower (λ k h. b k (omega arith)) first)
+    ap (λ z. z ++ marked_code_units (marks / 0x100) upper)
+    (marked_from src 8 at 0 marks lower (λ k h. b k (omega arith)) first)
     ∙ ap (λ z. units_from src at 8 ++ z) (marked_from src 8 (at + 8) 0 (marks / 0x100) upper bits second)
     ∙ sym (units_split src at 8 8)
   where
@@ -163,25 +168,25 @@ sixteen_from src at marks units lower upper b u l r =
     on : (k : ℕ) → at + (8 + k) ≡ at + 8 + k
     on k = omega arith
 
-    first : (k : ℕ) → k < 8 → gives_unit (two_before src (at + k)) (get_or src (at + k) 0) ≡ true
-        → get_or lower (0 + k) 0 ≡ code_unit (get_or src (at + k) 0) (get_or src (at + k + 1) 0)
+    first : (k : ℕ) → k < 8 → gives_unit (byte_two_before src (at + k)) (get_or src (at + k) 0) ≡ true
+        → get_or lower (0 + k) 0 ≡ code_unit_of_byte (get_or src (at + k) 0) (get_or src (at + k + 1) 0)
         (get_or src (at + k + 2) 0)
     first k h g = ap (λ i. get_or lower i 0) (none k) ∙ l k h ∙ u k (omega arith) g
 
     bits : (k : ℕ) → k < 8 → marks / 0x100 / 2 ^ k % 2
-        ≡ cond (gives_unit (two_before src (at + 8 + k)) (get_or src (at + 8 + k) 0)) 1 0
+        ≡ cond (gives_unit (byte_two_before src (at + 8 + k)) (get_or src (at + 8 + k) 0)) 1 0
     bits k h =
         ap (λ x. x % 2) (shr-shr marks 8 k)
-        ∙ subst (λ i. marks / 2 ^ (8 + k) % 2 ≡ cond (gives_unit (two_before src i) (get_or src i 0)) 1 0) (on k)
+        ∙ subst (λ i. marks / 2 ^ (8 + k) % 2 ≡ cond (gives_unit (byte_two_before src i) (get_or src i 0)) 1 0) (on k)
         (b (8 + k) (omega arith))
 
-    second : (k : ℕ) → k < 8 → gives_unit (two_before src (at + 8 + k)) (get_or src (at + 8 + k) 0) ≡ true
-        → get_or upper (0 + k) 0 ≡ code_unit (get_or src (at + 8 + k) 0) (get_or src (at + 8 + k + 1) 0)
+    second : (k : ℕ) → k < 8 → gives_unit (byte_two_before src (at + 8 + k)) (get_or src (at + 8 + k) 0) ≡ true
+        → get_or upper (0 + k) 0 ≡ code_unit_of_byte (get_or src (at + 8 + k) 0) (get_or src (at + 8 + k + 1) 0)
         (get_or src (at + 8 + k + 2) 0)
     second k h g =
         ap (λ i. get_or upper i 0) (none k) ∙ r k h
-        ∙ u (8 + k) (omega arith) (ap (λ i. gives_unit (two_before src i) (get_or src i 0)) (on k) ∙ g)
-        ∙ ap (λ i. code_unit (get_or src i 0) (get_or src (i + 1) 0) (get_or src (i + 2) 0)) (on k)
+        ∙ u (8 + k) (omega arith) (ap (λ i. gives_unit (byte_two_before src i) (get_or src i 0)) (on k) ∙ g)
+        ∙ ap (λ i. code_unit_of_byte (get_or src i 0) (get_or src (i + 1) 0) (get_or src (i + 2) 0)) (on k)
 
 -- lanes that are taken out
 
@@ -205,15 +210,18 @@ upper_at units long k h =
     ∙ get_or-chunk 8 8 units k 0 h
 
 pub stores_sixteen : (src : List ℕ) (at marks end middle after : ℕ) (units old one two : List ℕ) → length units ≡ 16
-    → ((k : ℕ) → k < 16 → marks / 2 ^ k % 2 ≡ cond (gives_unit (two_before src (at + k)) (get_or src (at + k) 0)) 1 0)
-    → ((k : ℕ) → k < 16 → gives_unit (two_before src (at + k)) (get_or src (at + k) 0) ≡ true
-    → get_or units k 0 ≡ code_unit (get_or src (at + k) 0) (get_or src (at + k + 1) 0) (get_or src (at + k + 2) 0))
-    → take middle one ≡ take end old ++ marked marks (lower units)
-    → take after two ≡ take middle one ++ marked (marks / 0x100) (upper units)
+    → ((k : ℕ) → k < 16
+    → marks / 2 ^ k % 2 ≡ cond (gives_unit (byte_two_before src (at + k)) (get_or src (at + k) 0)) 1 0)
+    → ((k : ℕ) → k < 16 → gives_unit (byte_two_before src (at + k)) (get_or src (at + k) 0) ≡ true
+    → get_or units k 0 ≡ code_unit_of_byte (get_or src (at + k) 0) (get_or src (at + k + 1) 0)
+    (get_or src (at + k + 2) 0))
+    → take middle one ≡ take end old ++ marked_code_units marks (lower units)
+    → take after two ≡ take middle one ++ marked_code_units (marks / 0x100) (upper units)
     → take after two ≡ take end old ++ units_from src at 16
 stores_sixteen src at marks end middle after units old one two long b u e f =
-    f ∙ ap (λ z. z ++ marked (marks / 0x100) (upper units)) e
-    ∙ append_assoc (take end old) (marked marks (lower units)) (marked (marks / 0x100) (upper units))
+    f ∙ ap (λ z. z ++ marked_code_units (marks / 0x100) (upper units)) e
+    ∙ append_assoc (take end old) (marked_code_units marks (lower units))
+    (marked_code_units (marks / 0x100) (upper units))
     ∙ ap (λ z. take end old ++ z)
     (sixteen_from src at marks units (lower units) (upper units) b u (lower_at units long) (upper_at units long))
 
@@ -223,12 +231,13 @@ module _ (src : List ℕ) (at : ℕ) (after : 2 ≤ at) where
   pub bits_here : (marks : ℕ)
       → ((k : ℕ) → k < 16 → marks / 2 ^ k % 2
       ≡ cond (gives_unit (get_or (chunk (at - 2) 16 src) k 0) (get_or (chunk at 16 src) k 0)) 1 0)
-      → (k : ℕ) → k < 16 → marks / 2 ^ k % 2 ≡ cond (gives_unit (two_before src (at + k)) (get_or src (at + k) 0)) 1 0
+      → (k : ℕ) → k < 16
+      → marks / 2 ^ k % 2 ≡ cond (gives_unit (byte_two_before src (at + k)) (get_or src (at + k) 0)) 1 0
   bits_here marks b k h =
       b k h ∙ ap (λ z. cond (gives_unit z (get_or (chunk at 16 src) k 0)) 1 0) (before_here src at k after h)
-      ∙ ap (λ x. cond (gives_unit (two_before src (at + k)) x) 1 0) (get_or-chunk at 16 src k 0 h)
+      ∙ ap (λ x. cond (gives_unit (byte_two_before src (at + k)) x) 1 0) (get_or-chunk at 16 src k 0 h)
 
-  pub given_here : (k : ℕ) → k < 16 → gives_unit (two_before src (at + k)) (get_or src (at + k) 0) ≡ true
+  pub given_here : (k : ℕ) → k < 16 → gives_unit (byte_two_before src (at + k)) (get_or src (at + k) 0) ≡ true
       → gives_unit (get_or (chunk (at - 2) 16 src) k 0) (get_or src (at + k) 0) ≡ true
   given_here k h g = ap (λ z. gives_unit z (get_or src (at + k) 0)) (before_here src at k after h) ∙ g
 
@@ -255,8 +264,8 @@ stores_one end unit old t u h e f = stored_at end unit old h ∙ ap (λ x. take 
     ∙ ap (λ b. take end old ++ if_one b u) (sym e)
 
 pub next_bytes : (src : List ℕ) (at unit : ℕ)
-    → unit ≡ code_unit (get_or src at 0) (get_or src (at + 1) 0) (get_or src (at + 2) 0)
-    → unit ≡ code_unit (get_or src at 0) (get_or src (suc at) 0) (get_or src (suc (suc at)) 0)
+    → unit ≡ code_unit_of_byte (get_or src at 0) (get_or src (at + 1) 0) (get_or src (at + 2) 0)
+    → unit ≡ code_unit_of_byte (get_or src at 0) (get_or src (suc at) 0) (get_or src (suc (suc at)) 0)
 next_bytes src at unit e =
     let next : at + 1 ≡ suc at = omega arith in
     let second : at + 2 ≡ suc (suc at) = omega arith in

@@ -1,6 +1,6 @@
 -- Runs of ASCII bytes that are put out.
 use Rattle.std.specs.Prelude.{◌≡◌, ℕ, ◌+◌, ◌<◌, ◌≤◌, List, length, take, slice_index}
-use Rattle.enc_units.specs.Output.{Output, appended, units_of_text}
+use Rattle.enc_units.specs.Output.{Output, with_appended, units_of_text}
 use Rattle.enc_units.specs.Validity.{AreAscii}
 
 -- The first n bytes are ASCII, fit, and are put out as characters in turn, and so are no more of them.
@@ -8,5 +8,5 @@ pub record PutsAscii (units_of : ℕ → List ℕ) (before after : Output) (src 
   pub within : n ≤ length src
   pub ascii : AreAscii (take n src)
   pub fits : length (units_of_text units_of (take n src)) ≤ before.room
-  pub written : after ≡ appended before (units_of_text units_of (take n src))
+  pub written : after ≡ with_appended before (units_of_text units_of (take n src))
   pub longest : n < length src → slice_index src n < 0x80 → before.room < length (units_of_text units_of (take (n + 1) src))

@@ -2,24 +2,24 @@
 use Rattle.std.specs.Prelude.{ℕ, ◌+◌, ◌*◌, ◌/◌, ◌^◌, Option, Some, None, nat_lt, max, if◌then◌else◌}
 
 -- a number that is a usize
-abbrev pub fitting : ℕ → Option ℕ
-fitting n = if nat_lt n (2 ^ 64) then Some n else None
+abbrev pub checked_usize : ℕ → Option ℕ
+checked_usize n = if nat_lt n (2 ^ 64) then Some n else None
 
-abbrev pub plus : Option ℕ → ℕ → Option ℕ
-plus None b = None
-plus (Some a) b = fitting (a + b)
+abbrev pub checked_add : Option ℕ → ℕ → Option ℕ
+checked_add None b = None
+checked_add (Some a) b = checked_usize (a + b)
 
-abbrev pub times : Option ℕ → ℕ → Option ℕ
-times None b = None
-times (Some a) b = fitting (a * b)
+abbrev pub checked_mul : Option ℕ → ℕ → Option ℕ
+checked_mul None b = None
+checked_mul (Some a) b = checked_usize (a * b)
 
 -- rounded down
-abbrev pub half : Option ℕ → Option ℕ
-half None = None
-half (Some a) = Some (a / 2)
+abbrev pub checked_half : Option ℕ → Option ℕ
+checked_half None = None
+checked_half (Some a) = Some (a / 2)
 
 -- the greater of two, where both are there
-abbrev pub greater : Option ℕ → Option ℕ → Option ℕ
-greater None b = None
-greater (Some a) None = None
-greater (Some a) (Some b) = Some (max a b)
+abbrev pub checked_max : Option ℕ → Option ℕ → Option ℕ
+checked_max None b = None
+checked_max (Some a) None = None
+checked_max (Some a) (Some b) = Some (max a b)

@@ -19,19 +19,19 @@ AreCodeUnits Means big_endian = (first second : ℕ) → IsScalar (unit_of big_e
     → Means (first ∷ second ∷ []) (unit_of big_endian first second)
 
 -- the first two bytes of the UTF-8 of one code unit, the first lowest (Unicode Standard 3.9, table 3-6)
-abbrev pub front_of : ℕ → ℕ
-front_of unit =
+abbrev pub unit_word_low : ℕ → ℕ
+unit_word_low unit =
     if nat_lt unit 0x80 then unit
     else if nat_lt unit 0x800 then 0x80C0 + unit / 64 + unit % 64 * 256
     else 0x80E0 + unit / 4096 + unit / 64 % 64 * 256
 
 -- the third, and the number of bytes above it
-abbrev pub rest_of : ℕ → ℕ
-rest_of unit = if nat_lt unit 0x80 then 0x100 else if nat_lt unit 0x800 then 0x200 else 0x380 + unit % 64
+abbrev pub unit_word_high : ℕ → ℕ
+unit_word_high unit = if nat_lt unit 0x80 then 0x100 else if nat_lt unit 0x800 then 0x200 else 0x380 + unit % 64
 
 -- both
-abbrev pub word_of : ℕ → ℕ
-word_of unit = front_of unit + rest_of unit * 65536
+abbrev pub unit_word : ℕ → ℕ
+unit_word unit = unit_word_low unit + unit_word_high unit * 65536
 
 -- the bytes that are in words, as many as each says
 abbrev pub bytes_of_words : List ℕ → List ℕ

@@ -3,14 +3,14 @@ use Rattle.std.specs.Prelude.{◌≡◌, ℕ, ◌<◌, ◌≤◌, List, [], ◌�
 use Rattle.std.specs.Char.{IsScalar, encode_utf8}
 use Rattle.enc_units.specs.declared.gather.Encoded.{Encoded}
 use Rattle.enc_units.specs.Output.{AreScalars, units_of_text}
-use Rattle.enc_units.specs.Pieces.{Reads}
+use Rattle.enc_units.specs.Pieces.{ReadsPieces}
 use Rattle.enc_units.specs.Pairs.{MeansUnit}
 
 -- The first n bytes are characters, and their code units follow those that were there before.
-pub record Gathers (units_of : ℕ → List ℕ) (Means : List ℕ → ℕ → Type 0) (src : List ℕ) (n : ℕ) (before after : List ℕ) : Type 0 where
+pub record GathersChars (units_of : ℕ → List ℕ) (Means : List ℕ → ℕ → Type 0) (src : List ℕ) (n : ℕ) (before after : List ℕ) : Type 0 where
   pub text : List ℕ
   pub scalars : AreScalars text
-  pub reads : Reads Means src n text
+  pub reads : ReadsPieces Means src n text
   pub written : after ≡ before ++ units_of_text units_of text
 
 -- A byte has no text, or that of the character which it is by itself.

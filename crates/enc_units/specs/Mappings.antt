@@ -1,6 +1,6 @@
 -- The bytes of characters, as they are looked up and written in runs.
 use Rattle.std.specs.Prelude.{◌≡◌, ℕ, ◌+◌, ◌<◌, ◌≤◌, All, List, [], ◌∷◌, ◌++◌, length, take, drop, chars, IsUtf8}
-use Rattle.enc_units.specs.Pieces.{Piece, bytes_of, chars_of, AllMean}
+use Rattle.enc_units.specs.Pieces.{Piece, piece_bytes, piece_chars, EachMeansChar}
 
 -- an ASCII character that is written as itself
 abbrev pub IsWrittenAsItself : (List ℕ → ℕ → Type 0) → ℕ → Type 0
@@ -13,14 +13,14 @@ AreWrittenAsThemselves Means = All (IsWrittenAsItself Means)
 -- before and after them stay.
 pub record WritesMapped (Means : List ℕ → ℕ → Type 0) (src rest before after : List ℕ) (at n : ℕ) : Type 0 where
   pub pieces : List Piece
-  pub reads : src ≡ chars_of pieces ++ rest
-  pub mean : AllMean Means pieces
-  pub count : n ≡ length (bytes_of pieces)
+  pub reads : src ≡ piece_chars pieces ++ rest
+  pub mean : EachMeansChar Means pieces
+  pub count : n ≡ length (piece_bytes pieces)
   pub fits : at + n ≤ length before
-  pub onto : after ≡ take at before ++ (bytes_of pieces ++ drop (at + n) before)
+  pub onto : after ≡ take at before ++ (piece_bytes pieces ++ drop (at + n) before)
 
 -- UTF-8 begins with a character of n bytes
-pub record FirstOfUtf8 (bytes : List ℕ) (c n : ℕ) : Type 0 where
+pub record IsFirstUtf8Char (bytes : List ℕ) (c n : ℕ) : Type 0 where
   pub within : n ≤ length bytes
   pub utf8 : IsUtf8 (drop n bytes)
   pub chars : chars bytes ≡ c ∷ chars (drop n bytes)

@@ -3,6 +3,6 @@
 use Rattle.std.specs.Prelude.{ℕ, ◌&&◌, nat_le, nat_lt, List, [], ◌∷◌, if◌then◌else◌}
 
 -- the bytes with 00 for each of those from 80 to BF that come first
-abbrev pub without_rest : List ℕ → List ℕ
-without_rest [] = []
-without_rest (b ∷ z) = if nat_le 0x80 b && nat_lt b 0xC0 then 0 ∷ without_rest z else b ∷ z
+abbrev pub without_continuations : List ℕ → List ℕ
+without_continuations [] = []
+without_continuations (b ∷ z) = if nat_le 0x80 b && nat_lt b 0xC0 then 0 ∷ without_continuations z else b ∷ z

@@ -1,15 +1,15 @@
 -- Which bytes may follow which in well-formed UTF-8 (Unicode Standard 3.9, table 3-7).
 use Rattle.std.specs.Prelude.{◌≡◌, ℕ, suc, ◌<◌, ◌≤◌, ◌⊎◌, List, slice_index}
 
-abbrev Continues : ℕ → Type 0
-Continues b = (0x80 ≤ b) × (b < 0xC0)
+abbrev IsContinuationByte : ℕ → Type 0
+IsContinuationByte b = (0x80 ≤ b) × (b < 0xC0)
 
 -- The byte may stand behind these three: it continues a character just where one of them wants that, begins one that
 -- there is, and as a second byte is one that the first allows.
-pub record Follows (third second first byte : ℕ) : Type 0 where
-  pub behind_first : 0xC0 ≤ first → Continues byte
-  pub behind_second : 0xE0 ≤ second → Continues byte
-  pub behind_third : 0xF0 ≤ third → Continues byte
+pub record CanFollowBytes (third second first byte : ℕ) : Type 0 where
+  pub behind_first : 0xC0 ≤ first → IsContinuationByte byte
+  pub behind_second : 0xE0 ≤ second → IsContinuationByte byte
+  pub behind_third : 0xF0 ≤ third → IsContinuationByte byte
   pub begins : first < 0xC0 → second < 0xE0 → third < 0xF0 → (byte < 0x80) ⊎ ((0xC2 ≤ byte) × (byte ≤ 0xF4))
   pub behind_0xe0 : first ≡ 0xE0 → 0xA0 ≤ byte
   pub behind_0xed : first ≡ 0xED → byte < 0xA0
@@ -17,9 +17,9 @@ pub record Follows (third second first byte : ℕ) : Type 0 where
   pub behind_0xf4 : first ≡ 0xF4 → byte < 0x90
 
 -- the byte three places on may follow
-abbrev pub FollowsAt : List ℕ → ℕ → Type 0
-FollowsAt bytes k = Follows (slice_index bytes k) (slice_index bytes (suc k)) (slice_index bytes (suc (suc k))) (slice_index bytes (suc (suc (suc k))))
+abbrev pub CanFollowBytesAt : List ℕ → ℕ → Type 0
+CanFollowBytesAt bytes k = CanFollowBytes (slice_index bytes k) (slice_index bytes (suc k)) (slice_index bytes (suc (suc k))) (slice_index bytes (suc (suc (suc k))))
 
 -- none of the three bytes from here on wants another behind them
-abbrev pub IsBetween : List ℕ → ℕ → Type 0
-IsBetween bytes k = (slice_index bytes k < 0xF0) × (slice_index bytes (suc k) < 0xE0) × (slice_index bytes (suc (suc k)) < 0xC0)
+abbrev pub IsCharBoundaryAfter : List ℕ → ℕ → Type 0
+IsCharBoundaryAfter bytes k = (slice_index bytes k < 0xF0) × (slice_index bytes (suc k) < 0xE0) × (slice_index bytes (suc (suc k)) < 0xC0)

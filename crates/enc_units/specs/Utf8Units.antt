@@ -6,27 +6,27 @@ use Rattle.std.specs.Prelude.{slice_index, nat_le, nat_lt, if◌then◌else◌}
 
 -- whether a byte gives a code unit, by the one two places before it
 abbrev pub gives_unit : ℕ → ℕ → Bool
-gives_unit two_before byte = (nat_lt byte 0x80 || nat_le 0xC0 byte) || nat_le 0xF0 two_before
+gives_unit byte_two_before byte = (nat_lt byte 0x80 || nat_le 0xC0 byte) || nat_le 0xF0 byte_two_before
 
 -- the code unit of a byte, by the two after it
-abbrev pub code_unit : ℕ → ℕ → ℕ → ℕ
-code_unit first second third =
+abbrev pub code_unit_of_byte : ℕ → ℕ → ℕ → ℕ
+code_unit_of_byte first second third =
     if nat_lt first 0x80 then first
     else if nat_lt first 0xC0 then (first * 0x40 + second - 0x80) % 0x400 + 0xDC00
     else if nat_lt first 0xE0 then (first * 0x40 + second + 0xCF80) % 0x1_0000
     else if nat_lt first 0xF0 then (first * 0x1000 + second * 0x40 + third + 0xDF80) % 0x1_0000
     else (first * 0x100 + second * 4 + third / 0x10 + 0xE5B8) % 0x1_0000
 
-abbrev pub two_before : List ℕ → ℕ → ℕ
-two_before src zero = 0
-two_before src (suc zero) = 0
-two_before src (suc (suc at)) = slice_index src at
+abbrev pub byte_two_before : List ℕ → ℕ → ℕ
+byte_two_before src zero = 0
+byte_two_before src (suc zero) = 0
+byte_two_before src (suc (suc at)) = slice_index src at
 
 -- the code unit that the byte at a place gives, if it gives one
 abbrev pub unit_at : List ℕ → ℕ → List ℕ
 unit_at src at =
-    if gives_unit (two_before src at) (slice_index src at)
-    then code_unit (slice_index src at) (slice_index src (suc at)) (slice_index src (suc (suc at))) ∷ []
+    if gives_unit (byte_two_before src at) (slice_index src at)
+    then code_unit_of_byte (slice_index src at) (slice_index src (suc at)) (slice_index src (suc (suc at))) ∷ []
     else []
 
 -- those of n bytes
@@ -40,5 +40,5 @@ marked_places marks from zero = []
 marked_places marks from (suc n) = (if marks % 2 == 1 then from ∷ [] else []) ++ marked_places (marks / 2) (suc from) n
 
 -- those of eight code units that are marked
-abbrev pub marked : ℕ → List ℕ → List ℕ
-marked marks units = map (λ k. slice_index units k) (marked_places marks 0 8)
+abbrev pub marked_code_units : ℕ → List ℕ → List ℕ
+marked_code_units marks units = map (λ k. slice_index units k) (marked_places marks 0 8)

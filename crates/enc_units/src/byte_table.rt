@@ -2,7 +2,7 @@
 
 ghost use Rattle.std.specs.Prelude.{◌≡◌, ℕ, ◌+◌, ◌<◌, ◌≤◌, [], ◌∷◌, length, take, drop, IsTrue};
 ghost use Rattle.std.specs.Char.{encode_utf8};
-ghost use Rattle.enc_units.specs.Gathering.{Gathers, AreByteTexts};
+ghost use Rattle.enc_units.specs.Gathering.{GathersChars, AreByteTexts};
 ghost use Rattle.enc_units.specs.Validity.{AreAscii};
 
 use crate::gather::{Encoded, Gather, store_text, utf8_of};
@@ -65,7 +65,7 @@ fn store_bytes<P: Pieces>(
     ensures read { result.0 ≤ 16 }
     ensures bound { result.1 ≤ at + 64 }
     ensures len { length buffer.new ≡ length buffer.old }
-    ensures gathers { Gathers encode_utf8 (P.means table.now.pieces) (drop from src.now) result.0 (take at buffer.old)
+    ensures gathers { GathersChars encode_utf8 (P.means table.now.pieces) (drop from src.now) result.0 (take at buffer.old)
         (take result.1 buffer.new) }
 {
     let mut read = 0;
@@ -120,7 +120,7 @@ fn store_hop<P: Pieces>(
     ensures some { IsTrue result.2 → 0 < result.0 }
     ensures bound { result.1 ≤ at + result.0 + 3 }
     ensures len { length buffer.new ≡ length buffer.old }
-    ensures gathers { Gathers encode_utf8 (P.means table.now.pieces) (drop from src.now) result.0 (take at buffer.old)
+    ensures gathers { GathersChars encode_utf8 (P.means table.now.pieces) (drop from src.now) result.0 (take at buffer.old)
         (take result.1 buffer.new) }
 {
     u8x64::from_slice(&src[from..]).copy_to_slice(&mut buffer[at..]);
@@ -151,7 +151,7 @@ fn store_hops<P: Pieces>(
     ensures some { IsTrue result.2 → 0 < result.0 }
     ensures bound { result.1 ≤ at + 80 }
     ensures len { length buffer.new ≡ length buffer.old }
-    ensures gathers { Gathers encode_utf8 (P.means table.now.pieces) (drop from src.now) result.0 (take at buffer.old)
+    ensures gathers { GathersChars encode_utf8 (P.means table.now.pieces) (drop from src.now) result.0 (take at buffer.old)
         (take result.1 buffer.new) }
 {
     let ascii = ascii_from(lanes, 0, 62);
@@ -181,7 +181,7 @@ fn store_turn<P: Pieces>(
     ensures some { IsTrue result.2 → 0 < result.0 }
     ensures bound { result.1 ≤ at + 80 }
     ensures len { length buffer.new ≡ length buffer.old }
-    ensures gathers { Gathers encode_utf8 (P.means table.now.pieces) (drop from src.now) result.0 (take at buffer.old)
+    ensures gathers { GathersChars encode_utf8 (P.means table.now.pieces) (drop from src.now) result.0 (take at buffer.old)
         (take result.1 buffer.new) }
 {
     let lanes = u8x64::from_slice(&src[from..]);

@@ -3,7 +3,7 @@
 ghost use Rattle.std.specs.Prelude.{◌≡◌, ◌+◌, ◌<◌, ◌≤◌, length, take, drop};
 ghost use Rattle.std.specs.Char.{IsScalar};
 ghost use Rattle.std.specs.Char.Escape.{encode_utf16};
-ghost use Rattle.enc_units.specs.Gathering.{Gathers, AreByteUnits};
+ghost use Rattle.enc_units.specs.Gathering.{GathersChars, AreByteUnits};
 
 use crate::gather::Gather;
 use crate::pieces::Pieces;
@@ -61,7 +61,7 @@ fn store_step<P: Pieces>(
     requires units { AreByteUnits (P.means table.now.pieces) table.now.units }
     ensures bound { result ≤ 16 }
     ensures len { length buffer.new ≡ length buffer.old }
-    ensures gathers { Gathers encode_utf16 (P.means table.now.pieces) (drop from src.now) result (take at buffer.old)
+    ensures gathers { GathersChars encode_utf16 (P.means table.now.pieces) (drop from src.now) result (take at buffer.old)
         (take (at + result) buffer.new) }
 {
     let mut read = 0;

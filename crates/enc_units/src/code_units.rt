@@ -5,8 +5,8 @@ ghost use Rattle.std.specs.Prelude.{length, map, take, drop};
 ghost use Rattle.std.specs.Char.{encode_utf8};
 ghost use Rattle.std.specs.Char.Escape.{encode_utf16};
 ghost use Rattle.enc_units.specs.CodeUnits.{AreCodeUnits, units_of_bytes, bytes_of_words};
-ghost use Rattle.enc_units.specs.CodeUnits.{front_of, rest_of};
-ghost use Rattle.enc_units.specs.Gathering.{Gathers};
+ghost use Rattle.enc_units.specs.CodeUnits.{unit_word_low, unit_word_high};
+ghost use Rattle.enc_units.specs.Gathering.{GathersChars};
 ghost use Rattle.enc_units.specs.Output.{AreScalars, units_of_text};
 ghost use Rattle.enc_units.specs.Validity.{AreAscii};
 
@@ -72,7 +72,7 @@ fn units_before_surrogate(units: u16x8) -> usize
 /// The first two bytes of the UTF-8 of each code unit.
 #[inline(always)]
 fn fronts(units: u16x8) -> u16x8
-    ensures { result ≡ map front_of units }
+    ensures { result ≡ map unit_word_low units }
 {
     let upper = units >> u16x8::splat(6);
     let low = (units & u16x8::splat(63)) << u16x8::splat(8);
@@ -86,7 +86,7 @@ fn fronts(units: u16x8) -> u16x8
 /// The third byte, with the number of bytes above it.
 #[inline(always)]
 fn rests(units: u16x8) -> u16x8
-    ensures { result ≡ map rest_of units }
+    ensures { result ≡ map unit_word_high units }
 {
     let three = (units & u16x8::splat(63)) + u16x8::splat(0x380);
     let more = units

@@ -5,7 +5,7 @@ ghost use Rattle.std.specs.Char.{IsScalar, encode_utf8};
 ghost use Rattle.std.specs.Char.Escape.{encode_utf16};
 ghost use Rattle.std.specs.Int.{w32, to_le_bytes};
 ghost use Rattle.enc_units.specs.Validity.{AreAscii};
-ghost use Rattle.enc_units.specs.Gathering.{Gathers};
+ghost use Rattle.enc_units.specs.Gathering.{GathersChars};
 
 use crate::pieces::Pieces;
 use std::simd::prelude::*;
@@ -203,14 +203,14 @@ pub(crate) trait Gather {
         requires ready { ready self.now }
         ensures len { length buffer.new ≡ length buffer.old }
         ensures bound { result.1 ≤ length buffer.new }
-        ensures gathers { Gathers encode_utf8 (means self.now) src.now result.0 [] (take result.1 buffer.new) };
+        ensures gathers { GathersChars encode_utf8 (means self.now) src.now result.0 [] (take result.1 buffer.new) };
 
     /// The same in UTF-16, in a buffer of code units.
     fn gather_units(&self, buffer: &mut [u16], room: usize, src: &[u8]) -> (usize, usize)
         requires ready { ready self.now }
         ensures len { length buffer.new ≡ length buffer.old }
         ensures bound { result.1 ≤ length buffer.new }
-        ensures gathers { Gathers encode_utf16 (means self.now) src.now result.0 [] (take result.1 buffer.new) }
+        ensures gathers { GathersChars encode_utf16 (means self.now) src.now result.0 [] (take result.1 buffer.new) }
     {
         let _gather = self;
         let _room = room;

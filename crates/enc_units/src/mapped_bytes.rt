@@ -1,7 +1,7 @@
 //! The bytes of mapped characters, written into a slice.
 
 ghost use Rattle.std.specs.Prelude.{◌≡◌, ◌+◌, ◌≤◌, ◌++◌, length, take, drop};
-ghost use Rattle.enc_units.specs.Bytes.{bytes_of};
+ghost use Rattle.enc_units.specs.Bytes.{byte_list};
 
 use crate::bytes::Bytes;
 use std::simd::prelude::*;
@@ -16,9 +16,9 @@ const PLACES: [u8; 16] = [0, 1, 2, 3, 4, 5, 6, 7, 8, 9, 10, 11, 12, 13, 14, 15];
 #[inline(never)]
 fn put_any(dst: &mut [u8], at: usize, bytes: Bytes) -> usize
     requires { at + 4 ≤ length dst.old }
-    ensures count { result ≡ length (bytes_of bytes) }
+    ensures count { result ≡ length (byte_list bytes) }
     ensures few { result ≤ 4 }
-    ensures put { dst.new ≡ take at dst.old ++ (bytes_of bytes ++ drop (at + result) dst.old) }
+    ensures put { dst.new ≡ take at dst.old ++ (byte_list bytes ++ drop (at + result) dst.old) }
 {
     dst[at..at + bytes.len].copy_from_slice(&bytes.bytes[..bytes.len]);
     bytes.len
@@ -28,9 +28,9 @@ fn put_any(dst: &mut [u8], at: usize, bytes: Bytes) -> usize
 #[inline(always)]
 pub(crate) fn put_bytes(dst: &mut [u8], at: usize, bytes: Bytes) -> usize
     requires { at + 4 ≤ length dst.old }
-    ensures count { result ≡ length (bytes_of bytes) }
+    ensures count { result ≡ length (byte_list bytes) }
     ensures few { result ≤ 4 }
-    ensures put { dst.new ≡ take at dst.old ++ (bytes_of bytes ++ drop (at + result) dst.old) }
+    ensures put { dst.new ≡ take at dst.old ++ (byte_list bytes ++ drop (at + result) dst.old) }
 {
     if bytes.len == 1 {
         dst[at] = bytes.bytes[0];

@@ -1,7 +1,7 @@
 //! The bytes of characters, as the loops over runs ask for them.
 
 ghost use Rattle.std.specs.Prelude.{ℕ, ◌≤◌, List, IfSome, take};
-ghost use Rattle.enc_units.specs.Bytes.{bytes_of};
+ghost use Rattle.enc_units.specs.Bytes.{byte_list};
 ghost use Rattle.enc_units.specs.Mappings.{AreWrittenAsThemselves};
 
 use crate::bytes::Bytes;
@@ -15,7 +15,7 @@ pub trait Mapping: Copy {
     /// The bytes of a character beyond ASCII, or `None` where it ends a run. Takes no memory.
     fn bytes_in_run(self, c: char) -> Option<Bytes>
         requires { 0x80 ≤ c }
-        ensures { IfSome result (λ b. means self (bytes_of b) c) };
+        ensures { IfSome result (λ b. means self (byte_list b) c) };
 
     /// How many of sixteen bytes in front are ASCII characters that are written as themselves, or fewer. Takes no
     /// memory.

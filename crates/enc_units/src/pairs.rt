@@ -3,7 +3,7 @@
 ghost use Rattle.std.specs.Prelude.{◌≡◌, ◌+◌, ◌<◌, ◌≤◌, length, take, drop};
 ghost use Rattle.std.specs.Char.{encode_utf8};
 ghost use Rattle.std.specs.Char.Escape.{encode_utf16};
-ghost use Rattle.enc_units.specs.Gathering.{Gathers};
+ghost use Rattle.enc_units.specs.Gathering.{GathersChars};
 ghost use Rattle.enc_units.specs.Pairs.{four_ends};
 
 use crate::ascii::are_ascii;
@@ -43,7 +43,7 @@ fn store_four<P: Pieces>(
     ensures read { result.0 ≤ 8 }
     ensures bound { result.1 ≤ at + 16 }
     ensures len { length buffer.new ≡ length buffer.old }
-    ensures gathers { Gathers encode_utf8 (P.means pieces) (drop from src.now) result.0 (take at buffer.old)
+    ensures gathers { GathersChars encode_utf8 (P.means pieces) (drop from src.now) result.0 (take at buffer.old)
         (take result.1 buffer.new) }
 {
     let ends = ends_of(leads);
@@ -77,7 +77,7 @@ fn store_eight<P: Pieces>(
     requires room { at + 32 ≤ length buffer.old }
     ensures bound { result.1 ≤ at + 32 }
     ensures len { length buffer.new ≡ length buffer.old }
-    ensures gathers { Gathers encode_utf8 (P.means pieces) (drop from src.now) result.0 (take at buffer.old)
+    ensures gathers { GathersChars encode_utf8 (P.means pieces) (drop from src.now) result.0 (take at buffer.old)
         (take result.1 buffer.new) }
 {
     let (first, end, is_whole) = store_four(pieces, buffer, at, src, from, leads);
@@ -110,7 +110,7 @@ fn store_four_units<P: Pieces>(
     ensures read { result.0 ≤ 8 }
     ensures bound { result.1 ≤ at + 4 }
     ensures len { length buffer.new ≡ length buffer.old }
-    ensures gathers { Gathers encode_utf16 (P.means pieces) (drop from src.now) result.0 (take at buffer.old)
+    ensures gathers { GathersChars encode_utf16 (P.means pieces) (drop from src.now) result.0 (take at buffer.old)
         (take result.1 buffer.new) }
 {
     let ends = ends_of(leads);
@@ -145,7 +145,7 @@ fn store_eight_units<P: Pieces>(
     requires room { at + 8 ≤ length buffer.old }
     ensures bound { result.1 ≤ at + 8 }
     ensures len { length buffer.new ≡ length buffer.old }
-    ensures gathers { Gathers encode_utf16 (P.means pieces) (drop from src.now) result.0 (take at buffer.old)
+    ensures gathers { GathersChars encode_utf16 (P.means pieces) (drop from src.now) result.0 (take at buffer.old)
         (take result.1 buffer.new) }
 {
     let (first, end, is_whole) = store_four_units(pieces, buffer, at, src, from, leads);

@@ -4,7 +4,7 @@ ghost use Rattle.std.specs.Prelude.{◌≡◌, ◌+◌, ◌-◌, ◌<◌, ◌≤
 ghost use Rattle.std.specs.Char.{encode_utf8};
 ghost use Rattle.std.specs.Str.{IsUtf8};
 ghost use Rattle.std.specs.String.{string_bytes, string_len, string_capacity};
-ghost use Rattle.enc_units.specs.Output.{DetermineTexts, appended, string_output};
+ghost use Rattle.enc_units.specs.Output.{DetermineTexts, with_appended, string_output};
 
 use crate::ascii::ascii_len;
 use crate::laws::utf_8_units_determine_a_text;
@@ -42,7 +42,7 @@ impl<'a> StringTail<'a> {
         requires utf8 { IsUtf8 bytes.now }
         requires fits { length bytes.now ≤ self.old.room }
         ensures { string_output (string_bytes self.new.text.now) self.new.room self.new.text.ghost_name
-            ≡ appended (string_output (string_bytes self.old.text.now) self.old.room self.old.text.ghost_name) bytes.now }
+            ≡ with_appended (string_output (string_bytes self.old.text.now) self.old.room self.old.text.ghost_name) bytes.now }
     {
         let _ = self
             .text

@@ -4,7 +4,7 @@ ghost use Rattle.std.specs.Prelude.{◌≡◌, ◌≤◌, ◌<◌, length, Match
 ghost use Rattle.std.specs.Char.Escape.{encode_utf16};
 ghost use Rattle.std.specs.Char.Utf16.{utf16_lossy_chars, surrogate_pair_char};
 ghost use Rattle.enc_units.specs.Output.{units_of_text};
-ghost use Rattle.enc_units.specs.Surrogates.{lossy_unit, IsPair, First};
+ghost use Rattle.enc_units.specs.Surrogates.{lossy_unit_char, IsSurrogatePair, IsFirstUtf16Char};
 
 use crate::chars::Chars;
 use crate::mapped_bytes::MARGIN;
@@ -30,7 +30,7 @@ impl<'a> Utf16Chars<'a> {
 /// The character of a code unit that is in no pair.
 #[inline(always)]
 fn lone(unit: u16) -> char
-    ensures { result ≡ lossy_unit unit }
+    ensures { result ≡ lossy_unit_char unit }
 {
     char::from_u32(unit as u32).unwrap_or('\u{FFFD}')
 }
@@ -51,8 +51,9 @@ fn pair(high: u16, low: u16) -> char
 /// Whether the first two code units are a surrogate pair.
 #[inline(always)]
 fn begins_with_pair(units: &[u16]) -> bool
-    ensures pair { IsTrue result → (2 ≤ length units.now) × IsPair (slice_index units.now 0) (slice_index units.now 1) }
-    ensures lone { IsFalse result → IsPair (slice_index units.now 0) (slice_index units.now 1) → ⊥ }
+    ensures pair { IsTrue result → (2 ≤ length units.now) × IsSurrogatePair (slice_index units.now 0) (slice_index units.now 1) }
+    ensures lone { IsFalse result
+        → IsSurrogatePair (slice_index units.now 0) (slice_index units.now 1) → ⊥ }
 {
     if units.len() < 2 {
         return false;
@@ -65,7 +66,7 @@ fn begins_with_pair(units: &[u16]) -> bool
 /// The first character, and how many code units it is read from.
 #[inline(always)]
 pub(crate) fn first(units: &[u16]) -> Option<(char, usize)>
-    ensures { MatchOption result (units.now ≡ []) (λ p. First units.now p.0 p.1) }
+    ensures { MatchOption result (units.now ≡ []) (λ p. IsFirstUtf16Char units.now p.0 p.1) }
 {
     if units.is_empty() {
         return None;

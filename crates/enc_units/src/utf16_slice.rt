@@ -4,7 +4,7 @@ ghost use Rattle.std.specs.Prelude.{◌≡◌, ◌-◌, ◌≤◌, ◌++◌, len
 ghost use Rattle.std.specs.Char.{IsScalar};
 ghost use Rattle.std.specs.Char.Escape.{encode_utf16};
 ghost use Rattle.enc_units.specs.AsciiRun.{PutsAscii};
-ghost use Rattle.enc_units.specs.Output.{DetermineTexts, appended, slice_output};
+ghost use Rattle.enc_units.specs.Output.{DetermineTexts, with_appended, slice_output};
 ghost use Rattle.enc_units.specs.Pieces.{PutsPieces, IsUtf8Char};
 
 use crate::byte_units::ByteUnits;
@@ -56,7 +56,7 @@ impl<'a> Utf16Slice<'a> {
         ensures fits { result ≡ nat_le (length (encode_utf16 c)) (length self.old.dst.now - self.old.len) }
         ensures scalar { IsScalar c }
         ensures written { IsTrue result → slice_output self.new.len self.new.dst.now self.new.dst.ghost_name
-            ≡ appended (slice_output self.old.len self.old.dst.now self.old.dst.ghost_name) (encode_utf16 c) }
+            ≡ with_appended (slice_output self.old.len self.old.dst.now self.old.dst.ghost_name) (encode_utf16 c) }
         ensures unchanged { IsFalse result → slice_output self.new.len self.new.dst.now self.new.dst.ghost_name
             ≡ slice_output self.old.len self.old.dst.now self.old.dst.ghost_name }
     {
@@ -88,7 +88,7 @@ impl<'a> Utf16Slice<'a> {
     fn append_units(&mut self, units: &[u16]) -> bool
         ensures fits { IsTrue result → length units.now ≤ length self.old.dst.now - self.old.len }
         ensures written { IsTrue result → slice_output self.new.len self.new.dst.now self.new.dst.ghost_name
-            ≡ appended (slice_output self.old.len self.old.dst.now self.old.dst.ghost_name) units.now }
+            ≡ with_appended (slice_output self.old.len self.old.dst.now self.old.dst.ghost_name) units.now }
         ensures unchanged { IsFalse result → slice_output self.new.len self.new.dst.now self.new.dst.ghost_name
             ≡ slice_output self.old.len self.old.dst.now self.old.dst.ghost_name }
     {

@@ -2,7 +2,7 @@
 
 ghost use Rattle.std.specs.Prelude.{ℕ, ◌+◌, ◌<◌, ◌≤◌, length, take, drop, slice_index, IsTrue};
 ghost use Rattle.enc_units.specs.Validity.{IsWellFormedUtf8};
-ghost use Rattle.enc_units.specs.Utf8Run.{Follows, FollowsAt, IsBetween};
+ghost use Rattle.enc_units.specs.Utf8Run.{CanFollowBytes, CanFollowBytesAt, IsCharBoundaryAfter};
 
 use crate::ascii::are_all_ascii;
 use std::simd::prelude::*;
@@ -70,7 +70,7 @@ fn chars_len(src: &[u8]) -> usize
 #[inline(always)]
 fn is_between(src: &[u8], at: usize) -> bool
     requires { at + 3 ≤ length src.now }
-    ensures { IsTrue result → IsBetween src.now at }
+    ensures { IsTrue result → IsCharBoundaryAfter src.now at }
 {
     src[at] < 0xF0 && src[at + 1] < 0xE0 && src[at + 2] < 0xC0
 }
@@ -79,7 +79,7 @@ fn is_between(src: &[u8], at: usize) -> bool
 #[inline(always)]
 fn follow(third: u8x16, second: u8x16, first: u8x16, bytes: u8x16) -> bool
     ensures { IsTrue result → (k : ℕ) → k < 16 →
-        Follows (slice_index third k) (slice_index second k) (slice_index first k) (slice_index bytes k) }
+        CanFollowBytes (slice_index third k) (slice_index second k) (slice_index first k) (slice_index bytes k) }
 {
     let wanted = first.simd_ge(u8x16::splat(0xC0))
         | second.simd_ge(u8x16::splat(0xE0))
@@ -101,7 +101,7 @@ fn follow(third: u8x16, second: u8x16, first: u8x16, bytes: u8x16) -> bool
 #[inline(always)]
 fn block_follows(src: &[u8], at: usize) -> bool
     requires { at + 19 ≤ length src.now }
-    ensures { IsTrue result → (k : ℕ) → at ≤ k → k < at + 16 → FollowsAt src.now k }
+    ensures { IsTrue result → (k : ℕ) → at ≤ k → k < at + 16 → CanFollowBytesAt src.now k }
 {
     follow(
         u8x16::from_slice(&src[at..]),
@@ -115,7 +115,7 @@ fn block_follows(src: &[u8], at: usize) -> bool
 #[inline(always)]
 fn four_blocks_follow(src: &[u8], at: usize) -> bool
     requires { at + 67 ≤ length src.now }
-    ensures { IsTrue result → (k : ℕ) → at ≤ k → k < at + 64 → FollowsAt src.now k }
+    ensures { IsTrue result → (k : ℕ) → at ≤ k → k < at + 64 → CanFollowBytesAt src.now k }
 {
     block_follows(src, at)
         && block_follows(src, at + 16)
@@ -127,7 +127,7 @@ fn four_blocks_follow(src: &[u8], at: usize) -> bool
 #[inline(always)]
 fn ascii_follows(src: &[u8], at: usize) -> bool
     requires { at + 67 ≤ length src.now }
-    ensures { IsTrue result → (k : ℕ) → at ≤ k → k < at + 64 → FollowsAt src.now k }
+    ensures { IsTrue result → (k : ℕ) → at ≤ k → k < at + 64 → CanFollowBytesAt src.now k }
 {
     are_all_ascii(u8x64::from_slice(&src[at + 3..])) && is_between(src, at)
 }
@@ -137,7 +137,7 @@ fn ascii_follows(src: &[u8], at: usize) -> bool
 fn following(src: &[u8]) -> usize
     requires { 3 ≤ length src.now }
     ensures within { result + 3 ≤ length src.now }
-    ensures follow { (k : ℕ) → k < result → FollowsAt src.now k }
+    ensures follow { (k : ℕ) → k < result → CanFollowBytesAt src.now k }
 {
     let mut at = 0;
     while 67 <= src.len() - at {

@@ -1,7 +1,7 @@
 //! Runs of mapped characters, read from UTF-8.
 
 ghost use Rattle.std.specs.Prelude.{◌≡◌, ◌+◌, ◌≤◌, length, drop, chars, IsUtf8, slice_index};
-ghost use Rattle.enc_units.specs.Mappings.{FirstOfUtf8, WritesMapped};
+ghost use Rattle.enc_units.specs.Mappings.{IsFirstUtf8Char, WritesMapped};
 
 use crate::mapped_bytes::{MARGIN, put_bytes, put_lanes};
 use crate::mapping::Mapping;
@@ -21,7 +21,7 @@ fn found_at(src: &[u8], at: usize) -> Found
     requires utf8 { IsUtf8 (drop at src.now) }
     requires beyond { 0x80 ≤ slice_index src.now at }
     ensures beyond { 0x80 ≤ result.c }
-    ensures first { FirstOfUtf8 (drop at src.now) result.c result.width }
+    ensures first { IsFirstUtf8Char (drop at src.now) result.c result.width }
     ensures some { 1 ≤ result.width }
     ensures few { result.width ≤ 4 }
 {

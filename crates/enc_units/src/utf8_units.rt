@@ -4,10 +4,10 @@
 ghost use Rattle.std.specs.Prelude.{◌≡◌, ℕ, ◌+◌, ◌-◌, ◌/◌, ◌%◌, ◌^◌, ◌<◌, ◌≤◌, ◌++◌, []};
 ghost use Rattle.std.specs.Prelude.{map, length, take, drop, slice_index, IsTrue, if◌then◌else◌};
 ghost use Rattle.std.specs.Char.Escape.{encode_utf16};
-ghost use Rattle.enc_units.specs.Gathering.{Gathers};
+ghost use Rattle.enc_units.specs.Gathering.{GathersChars};
 ghost use Rattle.enc_units.specs.Pieces.{IsUtf8Char};
-ghost use Rattle.enc_units.specs.Utf8Units.{gives_unit, code_unit, two_before, unit_at};
-ghost use Rattle.enc_units.specs.Utf8Units.{units_from, marked};
+ghost use Rattle.enc_units.specs.Utf8Units.{gives_unit, code_unit_of_byte, byte_two_before, unit_at};
+ghost use Rattle.enc_units.specs.Utf8Units.{units_from, marked_code_units};
 ghost use Rattle.enc_units.specs.Validity.{IsWellFormedUtf8};
 
 use crate::marked::MARKED;
@@ -23,7 +23,7 @@ const ENOUGH: usize = 256;
 /// The code unit that a byte gives, by the two after it.
 #[inline(always)]
 fn unit_of(first: u8, second: u8, third: u8) -> u16
-    ensures { result ≡ code_unit first second third }
+    ensures { result ≡ code_unit_of_byte first second third }
 {
     let pair = first as u32 * 0x40 + second as u32;
     let triple = pair * 0x40 + third as u32;
@@ -47,7 +47,7 @@ fn narrow_units(first: u8x16, second: u8x16, third: u8x16) -> u16x16
     ensures { (k : ℕ) → k < 16 → slice_index first k < 0xF0 →
         IsTrue (gives_unit 0 (slice_index first k)) →
         slice_index result k ≡
-        code_unit (slice_index first k) (slice_index second k) (slice_index third k) }
+        code_unit_of_byte (slice_index first k) (slice_index second k) (slice_index third k) }
 {
     let first = first.cast::<u16>();
     let pair = first * u16x16::splat(0x40) + second.cast::<u16>();
@@ -62,7 +62,7 @@ fn narrow_units(first: u8x16, second: u8x16, third: u8x16) -> u16x16
 fn all_units(first: u8x16, second: u8x16, third: u8x16) -> u16x16
     ensures { (k : ℕ) → k < 16 →
         slice_index result k ≡
-        code_unit (slice_index first k) (slice_index second k) (slice_index third k) }
+        code_unit_of_byte (slice_index first k) (slice_index second k) (slice_index third k) }
 {
     let first = first.cast::<u16>();
     let third = third.cast::<u16>();
@@ -92,7 +92,7 @@ fn units_of(before: u8x16, src: &[u8], at: usize) -> u16x16
     requires { at + 18 ≤ length src.now }
     ensures { (k : ℕ) → k < 16 →
         IsTrue (gives_unit (slice_index before k) (slice_index src.now (at + k))) →
-        slice_index result k ≡ code_unit (slice_index src.now (at + k))
+        slice_index result k ≡ code_unit_of_byte (slice_index src.now (at + k))
         (slice_index src.now (at + k + 1)) (slice_index src.now (at + k + 2)) }
 {
     let first = u8x16::from_slice(&src[at..]);
@@ -131,7 +131,7 @@ fn store_marked(buffer: &mut [u16], at: usize, units: u16x8, marks: u64) -> usiz
     requires { at + 8 ≤ length buffer.old }
     ensures bound { result ≤ at + 8 }
     ensures len { length buffer.new ≡ length buffer.old }
-    ensures stored { take result buffer.new ≡ take at buffer.old ++ marked marks units }
+    ensures stored { take result buffer.new ≡ take at buffer.old ++ marked_code_units marks units }
 {
     let mask = (marks % 0x100) as usize;
     let places = u8x16::from_slice(&MARKED[mask * 16..]);
@@ -160,7 +160,7 @@ fn store_sixteen(buffer: &mut [u16], end: usize, src: &[u8], at: usize) -> usize
 #[inline(always)]
 fn byte_before(src: &[u8], at: usize) -> u8
     requires { at < length src.now }
-    ensures { result ≡ two_before src.now at }
+    ensures { result ≡ byte_two_before src.now at }
 {
     if at < 2 { 0 } else { src[at - 2] }
 }
@@ -169,7 +169,7 @@ fn byte_before(src: &[u8], at: usize) -> u8
 #[inline(always)]
 fn gives(src: &[u8], at: usize) -> bool
     requires { at < length src.now }
-    ensures { result ≡ gives_unit (two_before src.now at) (slice_index src.now at) }
+    ensures { result ≡ gives_unit (byte_two_before src.now at) (slice_index src.now at) }
 {
     let byte = src[at];
     byte < 0x80 || 0xC0 <= byte || 0xF0 <= byte_before(src, at)
@@ -229,7 +229,7 @@ pub(crate) fn write_units(dst: &mut [u16], src: &[u8], len: usize) -> usize
     ensures bound { result ≤ length dst.old }
     ensures len { length dst.new ≡ length dst.old }
     ensures rest { drop result dst.new ≡ drop result dst.old }
-    ensures gathers { Gathers encode_utf16 IsUtf8Char src.now len [] (take result dst.new) }
+    ensures gathers { GathersChars encode_utf16 IsUtf8Char src.now len [] (take result dst.new) }
 {
     let mut buffer = [0; BUFFER];
     let mut read = 0;

@@ -5,9 +5,9 @@ use Rattle.std.proofs.lemmas.Bool.Decides.{nat_tests}
 use Rattle.std.specs.Char.{encode_utf8}
 use Rattle.enc_machine.specs.declared.byte_codec.Kind.TheVariants.{Valid, Malformed}
 use Rattle.enc_units.specs.Output.{units_of_text}
-use Rattle.enc_machine.specs.Sequence.{Sequence, text_of, is_malformed, any_malformed}
+use Rattle.enc_machine.specs.Sequence.{Sequence, sequence_text, is_malformed, any_malformed}
 use Rattle.enc_machine.specs.Segmentation.{Head, head_sequence, sequences_of}
-use Rattle.enc_utf.specs.Utf8.{sequence_len, is_second, is_continuation, continuations, go_on, reach, scalar_of, utf_8_rule}
+use Rattle.enc_utf.specs.Utf8.{sequence_len, is_second_byte, is_continuation, continuations, continuing_len, well_formed_tail_len, scalar_of, utf_8_rule}
 use Rattle.enc_machine.proofs.SequenceLemmas.{or_assoc, or_false}
 use Rattle.enc_machine.proofs.SegmentationLemmas.{sequences_of-cons, sequences_of-nil}
 use Rattle.enc_utf.proofs.Utf8Lemmas.{valid_head, malformed_head}
@@ -25,17 +25,17 @@ continuations-within (suc n) (c ∷ z) =
 
 -- how far the bytes after a lead byte reach
 
-go_on-within : (b n : ℕ) (z : List ℕ) → go_on b n z ≤ length z
-go_on-within b zero z = omega arith
-go_on-within b (suc n) [] = omega arith
-go_on-within b (suc n) (c ∷ z) =
-    elim (is_second b c) as (λ t. cond t (suc (continuations n z)) 0 ≤ suc (length z)) [
+continuing_len-within : (b n : ℕ) (z : List ℕ) → continuing_len b n z ≤ length z
+continuing_len-within b zero z = omega arith
+continuing_len-within b (suc n) [] = omega arith
+continuing_len-within b (suc n) (c ∷ z) =
+    elim (is_second_byte b c) as (λ t. cond t (suc (continuations n z)) 0 ≤ suc (length z)) [
       | true ↦ let h = continuations-within n z in omega arith
       | false ↦ omega arith
     ]
 
-pub reach-within : (b : ℕ) (z : List ℕ) → reach b z ≤ length z
-reach-within b z = go_on-within b (sequence_len b - 1) z
+pub well_formed_tail_len-within : (b : ℕ) (z : List ℕ) → well_formed_tail_len b z ≤ length z
+well_formed_tail_len-within b z = continuing_len-within b (sequence_len b - 1) z
 
 -- the continuation bytes of a list, where there are n
 
@@ -53,12 +53,12 @@ all_continue (suc n) (c ∷ z) e =
     ] refl
 
 abbrev pub GoOn : ℕ → ℕ → List ℕ → Type 0
-GoOn a n z = (1 ≤ length z) × (is_second a (get_or z 0 0) ≡ true) × (z ≡ get_or z 0 0 ∷ drop 1 z) × Continue n (drop 1 z)
+GoOn a n z = (1 ≤ length z) × (is_second_byte a (get_or z 0 0) ≡ true) × (z ≡ get_or z 0 0 ∷ drop 1 z) × Continue n (drop 1 z)
 
-all_go_on : (a n : ℕ) (z : List ℕ) → go_on a (suc n) z ≡ suc n → GoOn a n z
+all_go_on : (a n : ℕ) (z : List ℕ) → continuing_len a (suc n) z ≡ suc n → GoOn a n z
 all_go_on a n [] e = absurd (omega arith)
 all_go_on a n (c ∷ z) e =
-    elim (is_second a c) as (λ t. is_second a c ≡ t → GoOn a n (c ∷ z)) [
+    elim (is_second_byte a c) as (λ t. is_second_byte a c ≡ t → GoOn a n (c ∷ z)) [
       | true ↦ λ h. (let f : suc (continuations n z) ≡ suc n = rw h at e in (omega arith, h, refl, all_continue n z (omega arith)))
       | false ↦ λ h. (let f : 0 ≡ suc n = rw h at e in absurd (omega arith))
     ] refl
@@ -67,32 +67,32 @@ all_go_on a n (c ∷ z) e =
 
 pub record Whole4 (a : ℕ) (z : List ℕ) : Type 0 where
   pub some : 3 ≤ length z
-  pub second : is_second a (get_or z 0 0) ≡ true
+  pub second : is_second_byte a (get_or z 0 0) ≡ true
   pub third : is_continuation (get_or z 1 0) ≡ true
   pub fourth : is_continuation (get_or z 2 0) ≡ true
-  pub bytes : take (reach a z) z ≡ get_or z 0 0 ∷ get_or z 1 0 ∷ get_or z 2 0 ∷ []
+  pub bytes : take (well_formed_tail_len a z) z ≡ get_or z 0 0 ∷ get_or z 1 0 ∷ get_or z 2 0 ∷ []
 
-whole4 : (a : ℕ) (z : List ℕ) → GoOn a 2 z → reach a z ≡ 3 → Whole4 a z
+whole4 : (a : ℕ) (z : List ℕ) → GoOn a 2 z → well_formed_tail_len a z ≡ 3 → Whole4 a z
 whole4 a [] h r = absurd (omega arith)
 whole4 a (b ∷ []) h r = absurd (omega arith)
 whole4 a (b ∷ c ∷ []) h r = absurd (omega arith)
 whole4 a (b ∷ c ∷ d ∷ z) h r = record { some = omega arith; second = h.1; third = h.3.1; fourth = h.3.3.1; bytes = rw r refl }
 
-pub whole_four : (a : ℕ) (z : List ℕ) → sequence_len a ≡ 4 → reach a z + 1 ≡ sequence_len a → Whole4 a z
+pub whole_four : (a : ℕ) (z : List ℕ) → sequence_len a ≡ 4 → well_formed_tail_len a z + 1 ≡ sequence_len a → Whole4 a z
 whole_four a z s e =
-    let r : reach a z ≡ 3 = omega arith in
+    let r : well_formed_tail_len a z ≡ 3 = omega arith in
     let f : sequence_len a - 1 ≡ 3 = omega arith in
-    whole4 a z (all_go_on a 2 z (ap (λ n. go_on a n z) (sym f) ∙ r)) r
+    whole4 a z (all_go_on a 2 z (ap (λ n. continuing_len a n z) (sym f) ∙ r)) r
 
 -- the head of the rule, by whether the sequence is whole
 
-pub whole_head : (b : ℕ) (z : List ℕ) → reach b z + 1 ≡ sequence_len b
-    → utf_8_rule 0 b z ≡ record { more = reach b z; text = scalar_of (b ∷ take (reach b z) z) ∷ []; kind = Valid; set = 0 }
-whole_head b z e = valid_head b z (reach b z) refl (grind (arith, nat_tests))
+pub whole_head : (b : ℕ) (z : List ℕ) → well_formed_tail_len b z + 1 ≡ sequence_len b
+    → utf_8_rule 0 b z ≡ record { more = well_formed_tail_len b z; text = scalar_of (b ∷ take (well_formed_tail_len b z) z) ∷ []; kind = Valid; set = 0 }
+whole_head b z e = valid_head b z (well_formed_tail_len b z) refl (grind (arith, nat_tests))
 
-pub malformed_first : (b : ℕ) (z : List ℕ) → (reach b z + 1 ≡ sequence_len b → ⊥)
-    → utf_8_rule 0 b z ≡ record { more = reach b z; text = 0xFFFD ∷ []; kind = Malformed; set = 0 }
-malformed_first b z e = malformed_head b z (reach b z) refl (grind (arith, nat_tests))
+pub malformed_first : (b : ℕ) (z : List ℕ) → (well_formed_tail_len b z + 1 ≡ sequence_len b → ⊥)
+    → utf_8_rule 0 b z ≡ record { more = well_formed_tail_len b z; text = 0xFFFD ∷ []; kind = Malformed; set = 0 }
+malformed_first b z e = malformed_head b z (well_formed_tail_len b z) refl (grind (arith, nat_tests))
 
 -- no sequence changes the designated character set
 
@@ -102,7 +102,7 @@ either_set false x y e f = f
 
 rule_set : (b : ℕ) (z : List ℕ) → (utf_8_rule 0 b z).set ≡ 0
 unfolding utf_8_rule
-rule_set b z = either_set (eqb (reach b z + 1) (sequence_len b)) _ _ refl refl
+rule_set b z = either_set (eqb (well_formed_tail_len b z + 1) (sequence_len b)) _ _ refl refl
 
 -- what a sequence found at the front adds to the text and to the errors
 
@@ -110,13 +110,13 @@ abbrev pub head_of : List ℕ → Head
 head_of rest = utf_8_rule 0 (get_or rest 0 0) (drop 1 rest)
 
 abbrev pub text_of_bytes : List ℕ → List ℕ
-text_of_bytes z = units_of_text encode_utf8 (text_of (sequences_of utf_8_rule 0 z))
+text_of_bytes z = units_of_text encode_utf8 (sequence_text (sequences_of utf_8_rule 0 z))
 
 abbrev pub malformed_bytes : List ℕ → Bool
 malformed_bytes z = any_malformed (sequences_of utf_8_rule 0 z)
 
 text_of_front : (h : Head) (b : ℕ) (z : List ℕ) (ss : List Sequence) (c : ℕ) → h.text ≡ c ∷ []
-    → units_of_text encode_utf8 (text_of (head_sequence h b z ∷ ss)) ≡ encode_utf8 c ++ units_of_text encode_utf8 (text_of ss)
+    → units_of_text encode_utf8 (sequence_text (head_sequence h b z ∷ ss)) ≡ encode_utf8 c ++ units_of_text encode_utf8 (sequence_text ss)
 text_of_front h b z ss c e = rw e refl
 
 behind_front : (b : ℕ) (z : List ℕ) (n : ℕ) → n ≡ (utf_8_rule 0 b z).more + 1
@@ -133,7 +133,7 @@ pub front_text : (rest : List ℕ) (n c : ℕ) → 0 < length rest → n ≡ (he
     → text_of_bytes rest ≡ encode_utf8 c ++ text_of_bytes (drop n rest)
 front_text [] n c h e t = absurd (omega arith)
 front_text (b ∷ z) n c h e t =
-    ap (λ ss. units_of_text encode_utf8 (text_of ss)) (first_behind b z n e)
+    ap (λ ss. units_of_text encode_utf8 (sequence_text ss)) (first_behind b z n e)
     ∙ text_of_front (utf_8_rule 0 b z) b z (sequences_of utf_8_rule 0 (drop n (b ∷ z))) c t
 
 pub front_malformed : (rest : List ℕ) (n : ℕ) (m : Bool) → 0 < length rest → n ≡ (head_of rest).more + 1 → m ≡ is_malformed (head_of rest).kind
@@ -170,9 +170,9 @@ nothing_behind : (bytes : List ℕ) (read : ℕ) → length bytes ≤ read → s
 nothing_behind bytes read h = ap (sequences_of utf_8_rule 0) (drop_of_length-le bytes h) ∙ sequences_of-nil utf_8_rule 0
 
 pub all_decoded : (bytes : List ℕ) (read : ℕ) (wrote : List ℕ) (had_errors : Bool) → Decoded bytes read wrote had_errors → length bytes ≤ read
-    → (wrote ≡ units_of_text encode_utf8 (text_of (sequences_of utf_8_rule 0 bytes))) × (had_errors ≡ any_malformed (sequences_of utf_8_rule 0 bytes))
+    → (wrote ≡ units_of_text encode_utf8 (sequence_text (sequences_of utf_8_rule 0 bytes))) × (had_errors ≡ any_malformed (sequences_of utf_8_rule 0 bytes))
 all_decoded bytes read wrote had_errors d h =
     let n = nothing_behind bytes read h in (
-      sym (append-nil wrote) ∙ ap (λ ss. wrote ++ units_of_text encode_utf8 (text_of ss)) (sym n) ∙ d.text,
+      sym (append-nil wrote) ∙ ap (λ ss. wrote ++ units_of_text encode_utf8 (sequence_text ss)) (sym n) ∙ d.text,
       sym (or_false had_errors) ∙ ap (λ ss. had_errors || any_malformed ss) (sym n) ∙ d.malformed,
     )

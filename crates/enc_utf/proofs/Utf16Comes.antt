@@ -3,16 +3,16 @@ use Rattle.std.proofs.Common.{◌≡◌, ℕ, ◌<◌, ◌≤◌, Bool, true, fa
 use Rattle.std.proofs.lemmas.List.{append-nil}
 use Rattle.enc_machine.specs.declared.byte_codec.Kind.TheVariants.{Valid, Malformed}
 use Rattle.enc_machine.specs.declared.byte_codec.Text.TheVariants.{One as Character}
-use Rattle.enc_machine.specs.declared.byte_codec.Shown.{Shown}
-use Rattle.enc_machine.specs.declared.byte_codec.Step.TheVariants.{Show}
+use Rattle.enc_machine.specs.declared.byte_codec.Emission.{Emission}
+use Rattle.enc_machine.specs.declared.byte_codec.HandlerResult.TheVariants.{Emit}
 use Rattle.enc_machine.specs.declared.pending.Pending.{Pending}
 use Rattle.enc_machine.specs.declared.pending.Pending.TheVariants.{Nothing, One, Two, Three}
-use Rattle.enc_machine.specs.Pending.{pending_bytes}
+use Rattle.enc_machine.specs.Pending.{bytes_of_pending}
 use Rattle.enc_machine.specs.Segmentation.{Head, head_sequence, sequences_of}
-use Rattle.enc_machine.specs.CodecLaw.{Acts, IsAtEnd}
-use Rattle.enc_utf.specs.Utf16.{code_unit, is_lead, is_trail, pair_scalar, utf_16_rule}
+use Rattle.enc_machine.specs.CodecLaw.{HandlesByte, IsNextAtEnd}
+use Rattle.enc_utf.specs.Utf16.{code_unit, is_lead_surrogate, is_trail_surrogate, pair_scalar, utf_16_rule}
 use Rattle.enc_utf.specs.Utf16State.{Utf16State, with_pending, begins_with_lead, utf_16_state}
-use Rattle.enc_machine.proofs.ShowLemmas.{shows_with, shows_before, shows_at}
+use Rattle.enc_machine.proofs.EmissionLemmas.{shows_with, shows_before, shows_at}
 use Rattle.enc_machine.proofs.SegmentationLemmas.{sequences_of-head}
 use Rattle.enc_utf.proofs.Utf16Lemmas.{one_head, character_first, trail_first, lead_at_end, lead_and_byte, pair_first, lead_alone}
 
@@ -26,7 +26,7 @@ module _ (big : Bool) where
 
   -- a character, and a malformed sequence
 
-  abbrev pub valid_shown : ℕ → ℕ → Shown Utf16State
+  abbrev pub valid_shown : ℕ → ℕ → Emission Utf16State
   valid_shown len character = record {
     text = Character character;
     kind = Valid;
@@ -35,7 +35,7 @@ module _ (big : Bool) where
     next = with_pending big Nothing;
   }
 
-  abbrev pub malformed_shown : ℕ → Bool → Pending → Shown Utf16State
+  abbrev pub malformed_shown : ℕ → Bool → Pending → Emission Utf16State
   malformed_shown len takes next = record {
     text = Character 0xFFFD;
     kind = Malformed;
@@ -47,14 +47,15 @@ module _ (big : Bool) where
   -- the second byte of a code unit
 
   pub shows_character : (a b character : ℕ) → character ≡ code_unit big a b
-      → is_lead (code_unit big a b) ≡ false → is_trail (code_unit big a b) ≡ false
-      → Acts utf_16_state (with_pending big (One a)) b (Show (valid_shown 2 character))
+      → is_lead_surrogate (code_unit big a b) ≡ false → is_trail_surrogate (code_unit big a b) ≡ false
+      → HandlesByte utf_16_state (with_pending big (One a)) b (Emit (valid_shown 2 character))
   shows_character a b character s l t =
       shows_with utf_16_state (at (One a)) (at Nothing) (Character character) Valid 2 b refl refl refl refl (λ m. cc)
       (λ z. rw s (first a (b ∷ z) _ (character_first big 0 a b z l t)))
 
-  pub shows_trail : (a b : ℕ) → is_lead (code_unit big a b) ≡ false → is_trail (code_unit big a b) ≡ true
-      → Acts utf_16_state (with_pending big (One a)) b (Show (malformed_shown 2 true Nothing))
+  pub shows_trail : (a b : ℕ) → is_lead_surrogate (code_unit big a b) ≡ false
+      → is_trail_surrogate (code_unit big a b) ≡ true
+      → HandlesByte utf_16_state (with_pending big (One a)) b (Emit (malformed_shown 2 true Nothing))
   shows_trail a b l t =
       shows_with utf_16_state (at (One a)) (at Nothing) (Character 0xFFFD) Malformed 2 b refl refl refl refl (λ _. (refl, omega arith))
       (λ z. first a (b ∷ z) _ (trail_first big 0 a b z l t))
@@ -62,14 +63,15 @@ module _ (big : Bool) where
   -- the second byte of the code unit behind a lead surrogate, which is left to be read anew where it is no trail
 
   pub shows_pair : (a b c d character : ℕ) → character ≡ pair_scalar (code_unit big a b) (code_unit big c d)
-      → is_lead (code_unit big a b) ≡ true → is_trail (code_unit big c d) ≡ true
-      → Acts utf_16_state (with_pending big (Three a b c)) d (Show (valid_shown 4 character))
+      → is_lead_surrogate (code_unit big a b) ≡ true → is_trail_surrogate (code_unit big c d) ≡ true
+      → HandlesByte utf_16_state (with_pending big (Three a b c)) d (Emit (valid_shown 4 character))
   shows_pair a b c d character s l t =
       shows_with utf_16_state (at (Three a b c)) (at Nothing) (Character character) Valid 4 d refl refl refl refl (λ m. cc)
       (λ z. rw s (first a (b ∷ c ∷ d ∷ z) _ (pair_first big 0 a b c d z l t)))
 
-  pub shows_lead : (a b c d : ℕ) → is_lead (code_unit big a b) ≡ true → is_trail (code_unit big c d) ≡ false
-      → Acts utf_16_state (with_pending big (Three a b c)) d (Show (malformed_shown 2 false (One c)))
+  pub shows_lead : (a b c d : ℕ) → is_lead_surrogate (code_unit big a b) ≡ true
+      → is_trail_surrogate (code_unit big c d) ≡ false
+      → HandlesByte utf_16_state (with_pending big (Three a b c)) d (Emit (malformed_shown 2 false (One c)))
   shows_lead a b c d l t =
       shows_at utf_16_state (at (Three a b c)) (at (One c)) (Character 0xFFFD) Malformed 2 d (a ∷ b ∷ []) refl refl refl
       (omega arith) refl (λ _. (refl, (omega arith, omega arith, omega arith)))
@@ -77,20 +79,20 @@ module _ (big : Bool) where
 
   -- what is left over at the end of the input
 
-  left_over_comes : (p : Pending) (len : ℕ) → len ≡ length (pending_bytes p) → 0 < len → len ≤ 3
-      → sequences_of (utf_16_rule big) 0 (pending_bytes p)
-      ≡ record { bytes = pending_bytes p; text = 0xFFFD ∷ []; kind = Malformed; set = 0 } ∷ sequences_of (utf_16_rule big) 0 []
-      → IsAtEnd utf_16_state (at p) (Some (malformed_shown len false Nothing))
+  left_over_comes : (p : Pending) (len : ℕ) → len ≡ length (bytes_of_pending p) → 0 < len → len ≤ 3
+      → sequences_of (utf_16_rule big) 0 (bytes_of_pending p)
+      ≡ record { bytes = bytes_of_pending p; text = 0xFFFD ∷ []; kind = Malformed; set = 0 } ∷ sequences_of (utf_16_rule big) 0 []
+      → IsNextAtEnd utf_16_state (at p) (Some (malformed_shown len false Nothing))
   left_over_comes p len n s k e = (
-    shows_before utf_16_state (at p) (at Nothing) (Character 0xFFFD) Malformed len _ (pending_bytes p) refl
-        (sym (append-nil (pending_bytes p))) n s refl (λ _. (refl, (omega arith, omega arith, omega arith)))
+    shows_before utf_16_state (at p) (at Nothing) (Character 0xFFFD) Malformed len _ (bytes_of_pending p) refl
+        (sym (append-nil (bytes_of_pending p))) n s refl (λ _. (refl, (omega arith, omega arith, omega arith)))
         (λ y m. rw m (rw append-nil e)),
     refl,
   )
 
-  pub shows_left_over : (p : Pending) (len : ℕ) → len ≡ length (pending_bytes p)
+  pub shows_left_over : (p : Pending) (len : ℕ) → len ≡ length (bytes_of_pending p)
       → IsTrue (begins_with_lead big p) → (p ≡ Nothing → ⊥)
-      → IsAtEnd utf_16_state (with_pending big p) (Some (malformed_shown len false Nothing))
+      → IsNextAtEnd utf_16_state (with_pending big p) (Some (malformed_shown len false Nothing))
   shows_left_over Nothing len n w h = absurd (h refl)
   shows_left_over (One a) len n w h =
       left_over_comes (One a) len n (omega arith) (omega arith) (first a [] _ (one_head big 0 a))

@@ -3,23 +3,23 @@ use Rattle.std.proofs.Common.{◌≡◌, ℕ, ◌+◌, ◌*◌, ◌/◌, ◌<◌
 use Rattle.std.specs.Char.{encode_utf8}
 use Rattle.std.specs.Char.Escape.{encode_utf16}
 use Rattle.enc_units.specs.Output.{units_of_text}
-use Rattle.enc_units.specs.Checked.{plus, times, half}
+use Rattle.enc_units.specs.Checked.{checked_add, checked_mul, checked_half}
 use Rattle.enc_machine.specs.Segmentation.{Head, head_sequence, sequences_of, character_head, malformed_head}
 use Rattle.enc_machine.specs.Remainder.{AreBytes}
 use Rattle.enc_machine.specs.CodecState.{remainder_of}
-use Rattle.enc_machine.specs.Call.{Treatment, Replaced, Reported}
+use Rattle.enc_machine.specs.Call.{DecodeErrorMode, Replacement, Fatal}
 use Rattle.enc_machine.specs.RuleLaws.{IsSmallText}
 use Rattle.enc_machine.specs.declared.pending.Pending.{Pending}
 use Rattle.enc_machine.specs.declared.pending.Pending.TheVariants.{Nothing, One, Two, Three}
-use Rattle.enc_machine.specs.Pending.{pending_bytes}
+use Rattle.enc_machine.specs.Pending.{bytes_of_pending}
 use Rattle.enc_machine.specs.declared.text_lengths.TextLengths.TheVariants as lengths
-use Rattle.enc_machine.specs.Need.{NeedPasses, AreEnough, IsBasicText}
+use Rattle.enc_machine.specs.Need.{NeedExceeds, AreEnoughForCodec, IsBmpText}
 use Rattle.enc_machine.proofs.RuleLemmas.{one_small}
-use Rattle.enc_machine.proofs.ToldLemmas.{true_or_false}
+use Rattle.enc_machine.proofs.FirstSequenceLemmas.{true_or_false}
 use Rattle.enc_machine.proofs.SegmentationLemmas.{sequences_of-head, sequences_of-nil}
 use Rattle.enc_machine.proofs.NeedLemmas.{units, units-both, units-one}
 use Rattle.enc_machine.proofs.EnoughLemmas.{plus_is, times_is, half_is, same_some, needed_less, needs_all, basic_by}
-use Rattle.enc_utf.specs.Utf16.{code_unit, is_lead, is_trail, pair_scalar, utf_16_rule}
+use Rattle.enc_utf.specs.Utf16.{code_unit, is_lead_surrogate, is_trail_surrogate, pair_scalar, utf_16_rule}
 use Rattle.enc_utf.specs.Utf16State.{Utf16State, begins_with_lead, utf_16_state}
 use Rattle.enc_utf.proofs.Utf16Lemmas.{one_head, character_first, trail_first, lead_at_end, lead_and_byte, pair_first, lead_alone}
 
@@ -37,7 +37,7 @@ same_most f a n m e h = subst (λ k. a ≤ f k + 1) e h
 -- `each` units for two bytes, and `most` for n of them. A character that is none of the Basic Multilingual Plane has one more, and
 -- no more than twice as many.
 module _ (units_of : ℕ → List ℕ) (each : ℕ) (most : ℕ → ℕ) (one : each ≤ most 1) (more : (n : ℕ) → most n + each ≤ most (suc (suc n)))
-    (basic : (text : List ℕ) → IsBasicText text → length (units_of_text units_of text) ≤ each)
+    (basic : (text : List ℕ) → IsBmpText text → length (units_of_text units_of text) ≤ each)
     (small : (text : List ℕ) → IsSmallText text → (length (units_of_text units_of text) ≤ each + 1) × (length (units_of_text units_of text) ≤ each + each))
     (big : Bool) where
   abbrev of_bytes : ℕ → List ℕ → ℕ
@@ -64,12 +64,12 @@ module _ (units_of : ℕ → List ℕ) (each : ℕ) (most : ℕ → ℕ) (one : 
   one_byte set b = omega (arith, one, replaced, nothing set, then_rest set b [] (malformed_head set 0) (one_head big set b))
 
   -- a lead surrogate
-  lead : (set b c : ℕ) (z : List ℕ) → is_lead (code_unit big b c) ≡ true → of_bytes set z ≤ most (length z)
+  lead : (set b c : ℕ) (z : List ℕ) → is_lead_surrogate (code_unit big b c) ≡ true → of_bytes set z ≤ most (length z)
       → ((d e : ℕ) (y : List ℕ) → z ≡ d ∷ e ∷ y → of_bytes set y ≤ most (length y)) → of_bytes set (b ∷ c ∷ z) ≤ most (suc (suc (length z)))
   lead set b c [] l h k = omega (arith, more 0, replaced, nothing set, h, then_rest set b (c ∷ []) (malformed_head set 1) (lead_at_end big set b c l))
   lead set b c (d ∷ []) l h k =
       omega (arith, more 1, replaced, nothing set, h, then_rest set b (c ∷ d ∷ []) (malformed_head set 2) (lead_and_byte big set b c d l))
-  lead set b c (d ∷ e ∷ y) l h k = elim (true_or_false (is_trail (code_unit big d e))) [
+  lead set b c (d ∷ e ∷ y) l h k = elim (true_or_false (is_trail_surrogate (code_unit big d e))) [
     | inl t ↦ (let p = pair_scalar (code_unit big b c) (code_unit big d e) in
         omega (
           arith,
@@ -85,9 +85,9 @@ module _ (units_of : ℕ → List ℕ) (each : ℕ) (most : ℕ → ℕ) (one : 
   -- a code unit, of which a character may have so many units more
   unit : (extra set b c : ℕ) (z : List ℕ) → of_char (code_unit big b c) ≤ each + extra → of_bytes set z ≤ most (length z)
       → ((d e : ℕ) (y : List ℕ) → z ≡ d ∷ e ∷ y → of_bytes set y ≤ most (length y)) → of_bytes set (b ∷ c ∷ z) ≤ most (suc (suc (length z))) + extra
-  unit extra set b c z u h k = elim (true_or_false (is_lead (code_unit big b c))) [
+  unit extra set b c z u h k = elim (true_or_false (is_lead_surrogate (code_unit big b c))) [
     | inl l ↦ omega (arith, lead set b c z l h k)
-    | inr n ↦ elim (true_or_false (is_trail (code_unit big b c))) [
+    | inr n ↦ elim (true_or_false (is_trail_surrogate (code_unit big b c))) [
       | inl t ↦ omega (arith, replaced, h, more (length z), then_rest set b (c ∷ z) (malformed_head set 1) (trail_first big set b c z n t))
       | inr m ↦ omega (arith, u, h, more (length z), then_rest set b (c ∷ z) (character_head set 1 (code_unit big b c)) (character_first big set b c z n m))
     ]
@@ -118,14 +118,14 @@ module _ (units_of : ℕ → List ℕ) (each : ℕ) (most : ℕ → ℕ) (one : 
       unit 1 set b c (d ∷ e ∷ y) ((small (code_unit big b c ∷ []) (one_small (code_unit big b c))).0) (bytes_bounded set (d ∷ e ∷ y) a.1) (same set d e y (bytes_bounded set y a.1.1.1))
 
   -- behind a lead surrogate, and a byte more
-  two_bounded : (set b c : ℕ) (z : List ℕ) → is_lead (code_unit big b c) ≡ true → AreBytes z → of_bytes set (b ∷ c ∷ z) ≤ most (suc (suc (length z)))
+  two_bounded : (set b c : ℕ) (z : List ℕ) → is_lead_surrogate (code_unit big b c) ≡ true → AreBytes z → of_bytes set (b ∷ c ∷ z) ≤ most (suc (suc (length z)))
   two_bounded set b c [] l a = lead set b c [] l (bytes_bounded set [] tt) (λ d e y f. absurd (cc))
   two_bounded set b c (d ∷ []) l a = lead set b c (d ∷ []) l (bytes_bounded set (d ∷ []) a) (λ d e y f. absurd (cc))
   two_bounded set b c (d ∷ e ∷ y) l a = lead set b c (d ∷ e ∷ y) l (bytes_bounded set (d ∷ e ∷ y) a) (same set d e y (bytes_bounded set y a.1.1))
 
-  three_bounded : (set b c d : ℕ) (z : List ℕ) → is_lead (code_unit big b c) ≡ true → AreBytes z → of_bytes set (b ∷ c ∷ d ∷ z) ≤ most (suc (suc (suc (length z)))) + 1
+  three_bounded : (set b c d : ℕ) (z : List ℕ) → is_lead_surrogate (code_unit big b c) ≡ true → AreBytes z → of_bytes set (b ∷ c ∷ d ∷ z) ≤ most (suc (suc (suc (length z)))) + 1
   three_bounded set b c d [] l a = omega (arith, more 1, replaced, nothing set, then_rest set b (c ∷ d ∷ []) (malformed_head set 2) (lead_and_byte big set b c d l))
-  three_bounded set b c d (e ∷ y) l a = elim (true_or_false (is_trail (code_unit big d e))) [
+  three_bounded set b c d (e ∷ y) l a = elim (true_or_false (is_trail_surrogate (code_unit big d e))) [
     | inl t ↦ (let p = pair_scalar (code_unit big b c) (code_unit big d e) in
         omega (
           arith,
@@ -144,61 +144,63 @@ module _ (units_of : ℕ → List ℕ) (each : ℕ) (most : ℕ → ℕ) (one : 
     )
   ]
 
-  pending_bounded : (p : Pending) (z : List ℕ) → begins_with_lead big p ≡ true → AreBytes z → of_bytes 0 (pending_bytes p ++ z) ≤ most (length (pending_bytes p) + length z) + 1
+  pending_bounded : (p : Pending) (z : List ℕ) → begins_with_lead big p ≡ true → AreBytes z → of_bytes 0 (bytes_of_pending p ++ z) ≤ most (length (bytes_of_pending p) + length z) + 1
   pending_bounded Nothing z l a = weaker most _ (length z) (0 + length z) (omega arith) (bytes_bounded 0 z a)
   pending_bounded (One b) z l a = same_most most _ (suc (length z)) (1 + length z) (omega arith) (first_bounded 0 b z a)
   pending_bounded (Two b c) z l a = weaker most _ (suc (suc (length z))) (2 + length z) (omega arith) (two_bounded 0 b c z l a)
   pending_bounded (Three b c d) z l a = same_most most _ (suc (suc (suc (length z)))) (3 + length z) (omega arith) (three_bounded 0 b c d z l a)
 
-  never : (s : Utf16State) → s.big_endian ≡ big → begins_with_lead big s.pending ≡ true → (treatment : Treatment) (src : List ℕ) (last : Bool) (n : ℕ) → AreBytes src
-      → most (length (pending_bytes s.pending) + length src) + 1 ≤ n → NeedPasses units_of treatment (remainder_of (utf_16_state s)) src last n → ⊥
-  never s e l treatment src last n a m p =
+  never : (s : Utf16State) → s.big_endian ≡ big → begins_with_lead big s.pending ≡ true → (mode : DecodeErrorMode) (src : List ℕ) (last : Bool) (n : ℕ) → AreBytes src
+      → most (length (bytes_of_pending s.pending) + length src) + 1 ≤ n → NeedExceeds units_of mode (remainder_of (utf_16_state s)) src last n → ⊥
+  never s e l mode src last n a m p =
       omega (
         arith,
         m,
         pending_bounded s.pending src l a,
         same_rule,
-        needed_less units_of treatment (sequences_of (utf_16_rule s.big_endian) 0 (pending_bytes s.pending ++ src)),
-        needs_all units_of treatment (utf_16_state s) src last n p,
+        needed_less units_of mode (sequences_of (utf_16_rule s.big_endian) 0 (bytes_of_pending s.pending ++ src)),
+        needs_all units_of mode (utf_16_state s) src last n p,
       )
     where
-      same_rule : units units_of (sequences_of (utf_16_rule s.big_endian) 0 (pending_bytes s.pending ++ src)) ≡ of_bytes 0 (pending_bytes s.pending ++ src)
-      same_rule = ap (λ t. units units_of (sequences_of (utf_16_rule t) 0 (pending_bytes s.pending ++ src))) e
+      same_rule : units units_of (sequences_of (utf_16_rule s.big_endian) 0 (bytes_of_pending s.pending ++ src)) ≡ of_bytes 0 (bytes_of_pending s.pending ++ src)
+      same_rule = ap (λ t. units units_of (sequences_of (utf_16_rule t) 0 (bytes_of_pending s.pending ++ src))) e
 
 -- the formulas: as many code units as pairs of bytes, rounded up, and one more
 
-halved : (n h q : ℕ) → half (plus (plus (Some n) h) 1) ≡ Some q → q ≡ (h + n + 1) / 2
+halved : (n h q : ℕ) → checked_half (checked_add (checked_add (Some n) h) 1) ≡ Some q → q ≡ (h + n + 1) / 2
 halved n h q e =
-    let f = half_is (plus (plus (Some n) h) 1) q e in
-    let g = plus_is (plus (Some n) h) 1 f.0 f.1 in
+    let f = half_is (checked_add (checked_add (Some n) h) 1) q e in
+    let g = plus_is (checked_add (Some n) h) 1 f.0 f.1 in
     let k = plus_is (Some n) h g.0 g.1 in
     f.2 ∙ ap (λ m. m / 2) (omega (arith, g.2, k.2, same_some n k.0 k.1))
 
-thrice : (n h q : ℕ) → plus (times (half (plus (plus (Some n) h) 1)) 3) 1 ≡ Some q → q ≡ 3 * ((h + n + 1) / 2) + 1
+thrice : (n h q : ℕ) → checked_add (checked_mul (checked_half (checked_add (checked_add (Some n) h) 1)) 3) 1 ≡ Some q
+    → q ≡ 3 * ((h + n + 1) / 2) + 1
 thrice n h q e =
-    let f = plus_is (times (half (plus (plus (Some n) h) 1)) 3) 1 q e in
-    let g = times_is (half (plus (plus (Some n) h) 1)) 3 f.0 f.1 in
+    let f = plus_is (checked_mul (checked_half (checked_add (checked_add (Some n) h) 1)) 3) 1 q e in
+    let g = times_is (checked_half (checked_add (checked_add (Some n) h) 1)) 3 f.0 f.1 in
     omega (arith, f.2, g.2, halved n h g.0 g.1)
 
-once : (n h q : ℕ) → plus (half (plus (plus (Some n) h) 1)) 1 ≡ Some q → q ≡ (h + n + 1) / 2 + 1
+once : (n h q : ℕ) → checked_add (checked_half (checked_add (checked_add (Some n) h) 1)) 1 ≡ Some q
+    → q ≡ (h + n + 1) / 2 + 1
 once n h q e =
-    let f = plus_is (half (plus (plus (Some n) h) 1)) 1 q e in
+    let f = plus_is (checked_half (checked_add (checked_add (Some n) h) 1)) 1 q e in
     omega (arith, f.2, halved n h f.0 f.1)
 
 module _ (s : Utf16State) (l : begins_with_lead s.big_endian s.pending ≡ true) where
-  never_utf_8 : (treatment : Treatment) (src : List ℕ) (last : Bool) (n : ℕ) → AreBytes src → 3 * ((length (pending_bytes s.pending) + length src + 1) / 2) + 1 ≤ n
-      → NeedPasses encode_utf8 treatment (remainder_of (utf_16_state s)) src last n → ⊥
+  never_utf_8 : (mode : DecodeErrorMode) (src : List ℕ) (last : Bool) (n : ℕ) → AreBytes src → 3 * ((length (bytes_of_pending s.pending) + length src + 1) / 2) + 1 ≤ n
+      → NeedExceeds encode_utf8 mode (remainder_of (utf_16_state s)) src last n → ⊥
   never_utf_8 = never encode_utf8 3 (λ n. 3 * ((n + 1) / 2)) (omega arith) (λ n. omega arith) (λ t b. b.utf_8) (λ t b. (omega (arith, b.utf_8), omega (arith, b.utf_8)))
       s.big_endian s refl l
 
-  never_utf_16 : (treatment : Treatment) (src : List ℕ) (last : Bool) (n : ℕ) → AreBytes src → (length (pending_bytes s.pending) + length src + 1) / 2 + 1 ≤ n
-      → NeedPasses encode_utf16 treatment (remainder_of (utf_16_state s)) src last n → ⊥
+  never_utf_16 : (mode : DecodeErrorMode) (src : List ℕ) (last : Bool) (n : ℕ) → AreBytes src → (length (bytes_of_pending s.pending) + length src + 1) / 2 + 1 ≤ n
+      → NeedExceeds encode_utf16 mode (remainder_of (utf_16_state s)) src last n → ⊥
   never_utf_16 = never encode_utf16 1 (λ n. (n + 1) / 2) (omega arith) (λ n. omega arith) (λ t b. b.utf_16) (λ t b. (omega (arith, b.utf_16), omega (arith, b.utf_16)))
       s.big_endian s refl l
 
-  pub utf_16_enough : AreEnough lengths.Utf16 (utf_16_state s)
+  pub utf_16_enough : AreEnoughForCodec lengths.Utf16 (utf_16_state s)
   utf_16_enough = record {
-    utf_8 = λ src last n a e. never_utf_8 Replaced src last n a (omega (arith, thrice (length src) (length (pending_bytes s.pending)) n e));
-    reporting = λ keeps src last n a e. never_utf_8 (Reported keeps) src last n a (omega (arith, thrice (length src) (length (pending_bytes s.pending)) n e));
-    utf_16 = λ treatment src last n a e. never_utf_16 treatment src last n a (omega (arith, once (length src) (length (pending_bytes s.pending)) n e));
+    utf_8 = λ src last n a e. never_utf_8 Replacement src last n a (omega (arith, thrice (length src) (length (bytes_of_pending s.pending)) n e));
+    reporting = λ keeps src last n a e. never_utf_8 (Fatal keeps) src last n a (omega (arith, thrice (length src) (length (bytes_of_pending s.pending)) n e));
+    utf_16 = λ mode src last n a e. never_utf_16 mode src last n a (omega (arith, once (length src) (length (bytes_of_pending s.pending)) n e));
   }

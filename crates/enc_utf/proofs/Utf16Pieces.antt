@@ -3,28 +3,28 @@ use Rattle.std.proofs.Common.{◌≡◌, ◌∙◌, ℕ, Bool, true, false, [], 
 use Rattle.std.proofs.lemmas.Bool.Decides.{nat_tests}
 use Rattle.std.specs.Char.{IsScalar}
 use Rattle.enc_units.specs.CodeUnits.{AreCodeUnits, unit_of}
-use Rattle.enc_utf.specs.Utf16.{code_unit, is_lead, is_trail, pair_scalar, utf_16_rule}
-use Rattle.enc_machine.specs.Taking.{IsPiece}
+use Rattle.enc_utf.specs.Utf16.{code_unit, is_lead_surrogate, is_trail_surrogate, pair_scalar, utf_16_rule}
+use Rattle.enc_machine.specs.Taking.{IsWholeChar}
 use Rattle.enc_machine.proofs.SegmentationLemmas.{sequences_of-head}
 use Rattle.enc_utf.proofs.Utf16Lemmas.{character_first, pair_first}
 
 module _ (big : Bool) where
-  pub unit_piece : (a b c : ℕ) → c ≡ code_unit big a b → is_lead (code_unit big a b) ≡ false → is_trail (code_unit big a b) ≡ false
-      → IsPiece (utf_16_rule big) 0 (a ∷ b ∷ []) c
+  pub unit_piece : (a b c : ℕ) → c ≡ code_unit big a b → is_lead_surrogate (code_unit big a b) ≡ false → is_trail_surrogate (code_unit big a b) ≡ false
+      → IsWholeChar (utf_16_rule big) 0 (a ∷ b ∷ []) c
   unit_piece a b c s l t y = rw s (sequences_of-head (utf_16_rule big) 0 a (b ∷ y) _ (character_first big 0 a b y l t))
 
-  pub pair_piece : (a b d e c : ℕ) → c ≡ pair_scalar (code_unit big a b) (code_unit big d e) → is_lead (code_unit big a b) ≡ true
-      → is_trail (code_unit big d e) ≡ true → IsPiece (utf_16_rule big) 0 (a ∷ b ∷ d ∷ e ∷ []) c
+  pub pair_piece : (a b d e c : ℕ) → c ≡ pair_scalar (code_unit big a b) (code_unit big d e) → is_lead_surrogate (code_unit big a b) ≡ true
+      → is_trail_surrogate (code_unit big d e) ≡ true → IsWholeChar (utf_16_rule big) 0 (a ∷ b ∷ d ∷ e ∷ []) c
   pair_piece a b d e c s l t y = rw s (sequences_of-head (utf_16_rule big) 0 a (b ∷ d ∷ e ∷ y) _ (pair_first big 0 a b d e y l t))
 
 -- by the code unit's number alone
 
-no_lead : (u : ℕ) → IsScalar u → is_lead u ≡ false
-unfolding is_lead
+no_lead : (u : ℕ) → IsScalar u → is_lead_surrogate u ≡ false
+unfolding is_lead_surrogate
 no_lead u s = grind (arith, nat_tests)
 
-no_trail : (u : ℕ) → IsScalar u → is_trail u ≡ false
-unfolding is_trail
+no_trail : (u : ℕ) → IsScalar u → is_trail_surrogate u ≡ false
+unfolding is_trail_surrogate
 no_trail u s = grind (arith, nat_tests)
 
 same_unit : (big : Bool) (a b : ℕ) → unit_of big a b ≡ code_unit big a b
@@ -32,8 +32,8 @@ unfolding code_unit
 same_unit true a b = refl
 same_unit false a b = refl
 
-pub units_are_pieces : (big : Bool) → AreCodeUnits (IsPiece (utf_16_rule big) 0) big
+pub units_are_pieces : (big : Bool) → AreCodeUnits (IsWholeChar (utf_16_rule big) 0) big
 units_are_pieces big a b s =
     let e = same_unit big a b in
-    unit_piece big a b (unit_of big a b) e (ap is_lead (sym e) ∙ no_lead (unit_of big a b) s)
-    (ap is_trail (sym e) ∙ no_trail (unit_of big a b) s)
+    unit_piece big a b (unit_of big a b) e (ap is_lead_surrogate (sym e) ∙ no_lead (unit_of big a b) s)
+    (ap is_trail_surrogate (sym e) ∙ no_trail (unit_of big a b) s)

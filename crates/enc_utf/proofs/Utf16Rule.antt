@@ -3,11 +3,11 @@
 use Rattle.std.proofs.Common.{◌≡◌, ℕ, ◌<◌, Bool, true, false, List, [], ◌∷◌, refl, ap, ◌∙◌, sym, arith, subst, inl, inr}
 use Rattle.enc_machine.specs.declared.byte_codec.Kind.TheVariants.{Valid, Malformed}
 use Rattle.enc_machine.specs.Segmentation.{Head}
-use Rattle.enc_machine.specs.RuleLaws.{HasTexts, IsSmallText, HasSmallTexts, IsToldBy, IsToldByEnd, IsLawful}
-use Rattle.enc_machine.specs.Latin1.{HasNoBytes}
-use Rattle.enc_utf.specs.Utf16.{code_unit, is_lead, is_trail, lead_head, utf_16_rule}
+use Rattle.enc_machine.specs.RuleLaws.{HasTexts, IsSmallText, HasSmallTexts, IsDeterminedWithin, IsDeterminedByEnd, IsLawfulRule}
+use Rattle.enc_machine.specs.Latin1.{HasNoByteSequences}
+use Rattle.enc_utf.specs.Utf16.{code_unit, is_lead_surrogate, is_trail_surrogate, lead_surrogate_head, utf_16_rule}
 use Rattle.enc_machine.proofs.RuleLemmas.{one_small}
-use Rattle.enc_machine.proofs.ToldLemmas.{true_or_false, told_by, looks_by, IsToldInTime, lookahead_by}
+use Rattle.enc_machine.proofs.FirstSequenceLemmas.{true_or_false, told_by, looks_by, IsToldInTime, lookahead_by}
 use Rattle.enc_utf.proofs.Utf16Lemmas.{either_head, one_head, character_first, trail_first, lead_at_end, lead_and_byte, pair_first, lead_alone, has_form}
 
 -- heads that differ
@@ -19,8 +19,9 @@ kind_differs : (h x : Head) → x ≡ h → h.kind ≡ Malformed → x.kind ≡ 
 kind_differs h x e m v = let k = ap (λ (t : Head). t.kind) e in cc
 
 -- a trail surrogate
-trail_exists : (big : Bool) → (d : ℕ) × (e : ℕ) × (d < 256) × (e < 256) × (is_trail (code_unit big d e) ≡ true)
-unfolding code_unit is_trail
+trail_exists : (big : Bool)
+    → (d : ℕ) × (e : ℕ) × (d < 256) × (e < 256) × (is_trail_surrogate (code_unit big d e) ≡ true)
+unfolding code_unit is_trail_surrogate
 trail_exists true = (0xDC, 0, omega arith, omega arith, refl)
 trail_exists false = (0, 0xDC, omega arith, omega arith, refl)
 
@@ -28,15 +29,15 @@ module _ (big : Bool) where
   -- what only the end of the input tells
 
   two_bytes : (set b c : ℕ) → (utf_16_rule big set b (c ∷ [])).more ≡ 1
-  two_bytes set b c = elim (true_or_false (is_lead (code_unit big b c))) [
+  two_bytes set b c = elim (true_or_false (is_lead_surrogate (code_unit big b c))) [
     | inl l ↦ ap (λ (h : Head). h.more) (lead_at_end big set b c l)
-    | inr n ↦ elim (true_or_false (is_trail (code_unit big b c))) [
+    | inr n ↦ elim (true_or_false (is_trail_surrogate (code_unit big b c))) [
       | inl t ↦ ap (λ (h : Head). h.more) (trail_first big set b c [] n t)
       | inr m ↦ ap (λ (h : Head). h.more) (character_first big set b c [] n m)
     ]
   ]
 
-  pub one_by_end : (set b : ℕ) → IsToldByEnd (utf_16_rule big) set b []
+  pub one_by_end : (set b : ℕ) → IsDeterminedByEnd (utf_16_rule big) set b []
   one_by_end set b = record {
     within = (let k = ap (λ (h : Head). h.more) (one_head big set b) in omega (arith, k));
     more = 0 ∷ [];
@@ -45,7 +46,8 @@ module _ (big : Bool) where
     near = omega arith;
   }
 
-  pub lead_by_end : (set b c : ℕ) → is_lead (code_unit big b c) ≡ true → IsToldByEnd (utf_16_rule big) set b (c ∷ [])
+  pub lead_by_end : (set b c : ℕ) → is_lead_surrogate (code_unit big b c) ≡ true
+      → IsDeterminedByEnd (utf_16_rule big) set b (c ∷ [])
   lead_by_end set b c l =
       let w = trail_exists big in record {
         within = (let k = ap (λ (h : Head). h.more) (lead_at_end big set b c l) in omega (arith, k));
@@ -55,13 +57,13 @@ module _ (big : Bool) where
         near = omega arith;
       }
 
-  pub three_by_end : (set b c d : ℕ) → is_lead (code_unit big b c) ≡ true → IsToldByEnd (utf_16_rule big) set b (c ∷ d ∷ [])
+  pub three_by_end : (set b c d : ℕ) → is_lead_surrogate (code_unit big b c) ≡ true → IsDeterminedByEnd (utf_16_rule big) set b (c ∷ d ∷ [])
   three_by_end set b c d l = record {
     within = (let k = ap (λ (h : Head). h.more) (lead_and_byte big set b c d l) in omega (arith, k));
     more = 0 ∷ [];
     bytes = (omega arith, tt);
     other =
-        let end = lead_and_byte big set b c d l in elim (true_or_false (is_trail (code_unit big d 0))) [
+        let end = lead_and_byte big set b c d l in elim (true_or_false (is_trail_surrogate (code_unit big d 0))) [
           | inl t ↦ more_differs _ _ _ _ (pair_first big set b c d 0 [] l t) end (λ q. omega arith)
           | inr n ↦ more_differs _ _ _ _ (lead_alone big set b c d 0 [] l n) end (λ q. omega arith)
         ];
@@ -70,17 +72,17 @@ module _ (big : Bool) where
 
   -- every sequence
 
-  unit_told : (set b c : ℕ) (z : List ℕ) → is_lead (code_unit big b c) ≡ false → IsToldBy (utf_16_rule big) set b (c ∷ z) 0
-  unit_told set b c z n = elim (true_or_false (is_trail (code_unit big b c))) [
+  unit_told : (set b c : ℕ) (z : List ℕ) → is_lead_surrogate (code_unit big b c) ≡ false → IsDeterminedWithin (utf_16_rule big) set b (c ∷ z) 0
+  unit_told set b c z n = elim (true_or_false (is_trail_surrogate (code_unit big b c))) [
     | inl t ↦ let h = λ (y : List ℕ). trail_first big set b c y n t in told_by (utf_16_rule big) set b (c ∷ z) 0 _ (h z) (omega arith) h
     | inr m ↦ let h = λ (y : List ℕ). character_first big set b c y n m in told_by (utf_16_rule big) set b (c ∷ z) 0 _ (h z) (omega arith) h
   ]
 
-  lead_told : (set b c : ℕ) (z : List ℕ) → is_lead (code_unit big b c) ≡ true
+  lead_told : (set b c : ℕ) (z : List ℕ) → is_lead_surrogate (code_unit big b c) ≡ true
       → IsToldInTime (utf_16_rule big) set b (c ∷ z)
   lead_told set b c [] l = inr (kind_differs _ _ (lead_at_end big set b c l) refl, inr (lead_by_end set b c l))
   lead_told set b c (d ∷ []) l = inr (kind_differs _ _ (lead_and_byte big set b c d l) refl, inr (three_by_end set b c d l))
-  lead_told set b c (d ∷ e ∷ z) l = elim (true_or_false (is_trail (code_unit big d e))) [
+  lead_told set b c (d ∷ e ∷ z) l = elim (true_or_false (is_trail_surrogate (code_unit big d e))) [
     | inl t ↦ inl (told_by (utf_16_rule big) set b (c ∷ d ∷ e ∷ z) 0 _ (pair_first big set b c d e z l t) (omega arith)
         (λ y. pair_first big set b c d e y l t))
     | inr n ↦ inr (
@@ -97,7 +99,7 @@ module _ (big : Bool) where
 
   told : (set b : ℕ) (z : List ℕ) → IsToldInTime (utf_16_rule big) set b z
   told set b [] = inr (kind_differs _ _ (one_head big set b) refl, inr (one_by_end set b))
-  told set b (c ∷ z) = elim (true_or_false (is_lead (code_unit big b c))) [
+  told set b (c ∷ z) = elim (true_or_false (is_lead_surrogate (code_unit big b c))) [
     | inl l ↦ lead_told set b c z l
     | inr n ↦ inl (unit_told set b c z n)
   ]
@@ -110,7 +112,7 @@ module _ (big : Bool) where
   pub utf_16_has_texts : HasTexts (utf_16_rule big)
   utf_16_has_texts set b z e = let f = (has_form big set b z).1.1 in cc
 
-  pub utf_16_is_lawful : IsLawful (utf_16_rule big)
+  pub utf_16_is_lawful : IsLawfulRule (utf_16_rule big)
   utf_16_is_lawful = record { lookahead = lookahead_by (utf_16_rule big) told; small_texts = utf_16_has_small_texts }
 
 -- a character has two bytes or four
@@ -118,14 +120,14 @@ module _ (big : Bool) where
 abbrev HasMore : Head → Type 0
 HasMore h = h.kind ≡ Valid → 0 < h.more
 
-lead_has_more : (big : Bool) (set lead : ℕ) (z : List ℕ) → HasMore (lead_head big set lead z)
+lead_has_more : (big : Bool) (set lead : ℕ) (z : List ℕ) → HasMore (lead_surrogate_head big set lead z)
 lead_has_more big set lead [] v = omega arith
 lead_has_more big set lead (d ∷ []) v = omega arith
-lead_has_more big set lead (d ∷ e ∷ z) v = either_head HasMore (is_trail (code_unit big d e)) _ _ (λ _. omega arith) (λ _. omega arith) v
+lead_has_more big set lead (d ∷ e ∷ z) v = either_head HasMore (is_trail_surrogate (code_unit big d e)) _ _ (λ _. omega arith) (λ _. omega arith) v
 
-pub utf_16_has_no_bytes : (big : Bool) → HasNoBytes (utf_16_rule big)
+pub utf_16_has_no_bytes : (big : Bool) → HasNoByteSequences (utf_16_rule big)
 unfolding utf_16_rule
 utf_16_has_no_bytes big b [] v = absurd (cc)
 utf_16_has_no_bytes big b (c ∷ z) v =
     let u = code_unit big b c in
-    either_head HasMore (is_lead u) _ _ (lead_has_more big 0 u z) (either_head HasMore (is_trail u) _ _ (λ _. omega arith) (λ _. omega arith)) v
+    either_head HasMore (is_lead_surrogate u) _ _ (lead_has_more big 0 u z) (either_head HasMore (is_trail_surrogate u) _ _ (λ _. omega arith) (λ _. omega arith)) v

@@ -6,8 +6,8 @@ use Rattle.enc_utf.specs.Utf16.{utf_16_rule}
 use Rattle.enc_machine.specs.declared.pending.Pending.{Pending}
 use Rattle.enc_machine.specs.declared.pending.Pending.TheVariants.{Nothing, One, Two, Three}
 use Rattle.enc_utf.specs.Utf16State.{with_pending, begins_with_lead, utf_16_state}
-use Rattle.enc_machine.proofs.ShowLemmas.{nothing_pending}
-use Rattle.enc_machine.proofs.ToldLemmas.{undetermined_by_end}
+use Rattle.enc_machine.proofs.EmissionLemmas.{nothing_pending}
+use Rattle.enc_machine.proofs.FirstSequenceLemmas.{undetermined_by_end}
 use Rattle.enc_utf.proofs.Utf16Lemmas.{has_form}
 use Rattle.enc_utf.proofs.Utf16Rule.{one_by_end, lead_by_end, three_by_end}
 

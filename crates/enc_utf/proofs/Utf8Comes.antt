@@ -3,65 +3,66 @@ use Rattle.std.proofs.Common.{◌≡◌, ℕ, ◌+◌, ◌<◌, true, false, Som
 use Rattle.std.proofs.lemmas.List.{append-nil}
 use Rattle.enc_machine.specs.declared.byte_codec.Kind.TheVariants.{Valid, Malformed}
 use Rattle.enc_machine.specs.declared.byte_codec.Text.TheVariants.{One as Character}
-use Rattle.enc_machine.specs.declared.byte_codec.Shown.{Shown}
-use Rattle.enc_machine.proofs.ShowLemmas.{shows_with, shows_before}
-use Rattle.enc_machine.specs.declared.byte_codec.Step.TheVariants.{Show}
+use Rattle.enc_machine.specs.declared.byte_codec.Emission.{Emission}
+use Rattle.enc_machine.proofs.EmissionLemmas.{shows_with, shows_before}
+use Rattle.enc_machine.specs.declared.byte_codec.HandlerResult.TheVariants.{Emit}
 use Rattle.enc_machine.specs.Segmentation.{sequences_of}
-use Rattle.enc_machine.specs.CodecLaw.{Acts, Comes, IsAtEnd}
+use Rattle.enc_machine.specs.CodecLaw.{HandlesByte, IsNextSequence, IsNextAtEnd}
 use Rattle.enc_utf.specs.Utf8.{scalar_of, utf_8_rule}
 use Rattle.enc_machine.specs.declared.pending.Pending.{Pending}
 use Rattle.enc_machine.specs.declared.pending.Pending.TheVariants.{Nothing, One, Two, Three}
-use Rattle.enc_machine.specs.Pending.{pending_bytes}
-use Rattle.enc_utf.specs.Utf8State.{wants_more, utf_8_state}
+use Rattle.enc_machine.specs.Pending.{bytes_of_pending}
+use Rattle.enc_utf.specs.Utf8State.{is_incomplete, utf_8_state}
 use Rattle.enc_machine.proofs.SegmentationLemmas.{sequences_of-nil}
 use Rattle.enc_utf.proofs.Utf8Lemmas.{valid_sequence, malformed_sequence, one_end, two_end, three_end}
 use Rattle.enc_utf.proofs.Utf8Undetermined.{one_wants, two_want, three_want}
 
 -- a byte completes a character
-pub completes : (p : Pending) (b character len : ℕ) → len ≡ length (pending_bytes p) + 1 → character ≡ scalar_of (pending_bytes p ++ b ∷ [])
-    → ((z : List ℕ) → sequences_of utf_8_rule 0 (pending_bytes p ++ b ∷ z)
-    ≡ valid_sequence (pending_bytes p ++ b ∷ []) ∷ sequences_of utf_8_rule 0 z)
-    → Acts utf_8_state p b (Show (record { text = Character character; kind = Valid; len = len; takes_byte = true; next = Nothing }))
+pub completes : (p : Pending) (b character len : ℕ) → len ≡ length (bytes_of_pending p) + 1 → character ≡ scalar_of (bytes_of_pending p ++ b ∷ [])
+    → ((z : List ℕ) → sequences_of utf_8_rule 0 (bytes_of_pending p ++ b ∷ z)
+    ≡ valid_sequence (bytes_of_pending p ++ b ∷ []) ∷ sequences_of utf_8_rule 0 z)
+    → HandlesByte utf_8_state p b (Emit (record { text = Character character; kind = Valid; len = len; takes_byte = true; next = Nothing }))
 completes p b character len n s h = shows_with utf_8_state p Nothing (Character character) Valid len b refl refl n refl (λ m. cc) (λ z. rw s (h z))
 
 -- a byte that begins no sequence
 pub malformed_with : (b : ℕ) → ((z : List ℕ) → sequences_of utf_8_rule 0 (b ∷ z) ≡ malformed_sequence (b ∷ []) ∷ sequences_of utf_8_rule 0 z)
-    → Acts utf_8_state Nothing b (Show (record { text = Character 0xFFFD; kind = Malformed; len = 1; takes_byte = true; next = Nothing }))
+    → HandlesByte utf_8_state Nothing b (Emit (record { text = Character 0xFFFD; kind = Malformed; len = 1; takes_byte = true; next = Nothing }))
 malformed_with b h = shows_with utf_8_state Nothing Nothing (Character 0xFFFD) Malformed 1 b refl refl refl refl (λ _. (refl, omega arith)) h
 
 -- the pending bytes are malformed, and what shows it isn't read
-abbrev pub pending_malformed : ℕ → Shown Pending
+abbrev pub pending_malformed : ℕ → Emission Pending
 pending_malformed len = record { text = Character 0xFFFD; kind = Malformed; len = len; takes_byte = false; next = Nothing }
 
-few : (p : Pending) (len : ℕ) → len ≡ length (pending_bytes p) → len ≤ 4
+few : (p : Pending) (len : ℕ) → len ≡ length (bytes_of_pending p) → len ≤ 4
 few Nothing len e = omega arith
 few (One a) len e = omega arith
 few (Two a b) len e = omega arith
 few (Three a b c) len e = omega arith
 
-comes_malformed : (p : Pending) (may_follow : List ℕ → Type 0) (len : ℕ) → len ≡ length (pending_bytes p) → 0 < len
-    → ((y : List ℕ) → may_follow y → sequences_of utf_8_rule 0 (pending_bytes p ++ y) ≡ malformed_sequence (pending_bytes p) ∷ sequences_of utf_8_rule 0 y)
-    → Comes utf_8_state p may_follow [] (pending_malformed len)
+comes_malformed : (p : Pending) (may_follow : List ℕ → Type 0) (len : ℕ) → len ≡ length (bytes_of_pending p) → 0 < len
+    → ((y : List ℕ) → may_follow y → sequences_of utf_8_rule 0 (bytes_of_pending p ++ y) ≡ malformed_sequence (bytes_of_pending p) ∷ sequences_of utf_8_rule 0 y)
+    → IsNextSequence utf_8_state p may_follow [] (pending_malformed len)
 comes_malformed p may_follow len n s h =
-    shows_before utf_8_state p Nothing (Character 0xFFFD) Malformed len may_follow (pending_bytes p) refl (sym (append-nil (pending_bytes p))) n s refl
+    shows_before utf_8_state p Nothing (Character 0xFFFD) Malformed len may_follow (bytes_of_pending p) refl (sym (append-nil (bytes_of_pending p))) n s refl
     (λ _. (refl, (few p len n, omega arith, let k = few p len n in omega arith))) h
 
 -- a byte shows it
-pub malformed_before : (p : Pending) (b len : ℕ) → len ≡ length (pending_bytes p) → 0 < len
-    → ((z : List ℕ) → sequences_of utf_8_rule 0 (pending_bytes p ++ b ∷ z) ≡ malformed_sequence (pending_bytes p) ∷ sequences_of utf_8_rule 0 (b ∷ z))
-    → Acts utf_8_state p b (Show (pending_malformed len))
+pub malformed_before : (p : Pending) (b len : ℕ) → len ≡ length (bytes_of_pending p) → 0 < len
+    → ((z : List ℕ) → sequences_of utf_8_rule 0 (bytes_of_pending p ++ b ∷ z) ≡ malformed_sequence (bytes_of_pending p) ∷ sequences_of utf_8_rule 0 (b ∷ z))
+    → HandlesByte utf_8_state p b (Emit (pending_malformed len))
 malformed_before p b len n s h = (comes_malformed p _ len n s (λ y m. rw m.1 (h m.0)), λ t. cc)
 
 -- the end of the input shows it
-malformed_at_end : (p : Pending) (len : ℕ) → len ≡ length (pending_bytes p) → 0 < len
-    → sequences_of utf_8_rule 0 (pending_bytes p) ≡ malformed_sequence (pending_bytes p) ∷ []
-    → IsAtEnd utf_8_state p (Some (pending_malformed len))
+malformed_at_end : (p : Pending) (len : ℕ) → len ≡ length (bytes_of_pending p) → 0 < len
+    → sequences_of utf_8_rule 0 (bytes_of_pending p) ≡ malformed_sequence (bytes_of_pending p) ∷ []
+    → IsNextAtEnd utf_8_state p (Some (pending_malformed len))
 malformed_at_end p len n s h =
-    let e = h ∙ ap (λ ss. malformed_sequence (pending_bytes p) ∷ ss) (sym (sequences_of-nil utf_8_rule 0)) in
+    let e = h ∙ ap (λ ss. malformed_sequence (bytes_of_pending p) ∷ ss) (sym (sequences_of-nil utf_8_rule 0)) in
     (comes_malformed p _ len n s (λ y m. rw m (rw append-nil e)), refl)
 
-pub comes_at_end : (p : Pending) (len : ℕ) → len ≡ length (pending_bytes p) → IsTrue (wants_more p) → (p ≡ Nothing → ⊥)
-    → IsAtEnd utf_8_state p (Some (pending_malformed len))
+pub comes_at_end : (p : Pending) (len : ℕ) → len ≡ length (bytes_of_pending p) → IsTrue (is_incomplete p)
+    → (p ≡ Nothing → ⊥)
+    → IsNextAtEnd utf_8_state p (Some (pending_malformed len))
 comes_at_end Nothing len n w h = absurd (h refl)
 comes_at_end (One a) len n w h = malformed_at_end (One a) len n (omega arith) (one_end a (one_wants a w))
 comes_at_end (Two a b) len n w h = let k = two_want a b w in malformed_at_end (Two a b) len n (omega arith) (two_end a b k.0 k.1)

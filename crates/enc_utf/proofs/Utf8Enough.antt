@@ -7,19 +7,19 @@ use Rattle.std.proofs.lemmas.Str.{length-encode, len_utf8_bounds}
 use Rattle.std.specs.Char.{encode_utf8, len_utf8}
 use Rattle.std.specs.Char.Escape.{encode_utf16}
 use Rattle.enc_units.specs.Output.{units_of_text}
-use Rattle.enc_units.specs.Checked.{plus, times}
+use Rattle.enc_units.specs.Checked.{checked_add, checked_mul}
 use Rattle.enc_machine.specs.Sequence.{Sequence, is_malformed}
-use Rattle.enc_machine.specs.Segmentation.{Head, head_sequence, sequences_behind, sequences_of}
+use Rattle.enc_machine.specs.Segmentation.{Head, head_sequence, sequences_after, sequences_of}
 use Rattle.enc_machine.specs.CodecState.{CodecState}
-use Rattle.enc_machine.specs.Call.{Replaced, Reported}
+use Rattle.enc_machine.specs.Call.{Replacement, Fatal}
 use Rattle.enc_machine.specs.declared.text_lengths.TextLengths.TheVariants as lengths
-use Rattle.enc_machine.specs.Need.{before_malformed, needed_units, AreEnough, IsBasicText}
-use Rattle.enc_machine.proofs.ToldLemmas.{true_or_false}
+use Rattle.enc_machine.specs.Need.{sequences_before_malformed, needed_units, AreEnoughForCodec, IsBmpText}
+use Rattle.enc_machine.proofs.FirstSequenceLemmas.{true_or_false}
 use Rattle.enc_machine.proofs.NeedLemmas.{units, units-both, units-one}
 use Rattle.enc_machine.proofs.EnoughLemmas.{plus_is, sum_is, thrice_is, never_passes, HasFewUnits, few_by_single_bytes, utf_8_bounded, utf_16_bounded, basic_by}
-use Rattle.enc_utf.specs.Utf8.{sequence_len, is_second, is_continuation, continuations, go_on, reach, scalar_of, utf_8_rule}
+use Rattle.enc_utf.specs.Utf8.{sequence_len, is_second_byte, is_continuation, continuations, continuing_len, well_formed_tail_len, scalar_of, utf_8_rule}
 use Rattle.enc_utf.proofs.Utf8Rule.{utf_8_is_lawful}
-use Rattle.enc_utf.proofs.Utf8Lemmas.{reach-end, reach-no_second, reach-second, two_range, three_range, continuation_range, second_range}
+use Rattle.enc_utf.proofs.Utf8Lemmas.{well_formed_tail_len-end, well_formed_tail_len-no_second, well_formed_tail_len-second, two_range, three_range, continuation_range, second_range}
 
 -- how far bytes reach at most
 
@@ -32,10 +32,10 @@ continuations-within (suc n) (c ∷ z) = by_test (is_continuation c) (continuati
     by_test true h = omega (arith, h)
     by_test false h = omega arith
 
-go_on-within : (b n : ℕ) (z : List ℕ) → go_on b n z ≤ length z
-go_on-within b zero z = omega arith
-go_on-within b (suc n) [] = omega arith
-go_on-within b (suc n) (c ∷ z) = by_test (is_second b c) (continuations-within n z)
+continuing_len-within : (b n : ℕ) (z : List ℕ) → continuing_len b n z ≤ length z
+continuing_len-within b zero z = omega arith
+continuing_len-within b (suc n) [] = omega arith
+continuing_len-within b (suc n) (c ∷ z) = by_test (is_second_byte b c) (continuations-within n z)
   where
     by_test : (t : Bool) → continuations n z ≤ length z → cond t (suc (continuations n z)) 0 ≤ suc (length z)
     by_test true h = omega (arith, h)
@@ -46,27 +46,27 @@ taken zero z h = refl
 taken (suc n) [] h = absurd (omega arith)
 taken (suc n) (c ∷ z) h = ap suc (taken n z (omega (arith, h)))
 
-reach_taken : (b : ℕ) (z : List ℕ) → length (take (reach b z) z) ≡ reach b z
-reach_taken b z = taken (reach b z) z (go_on-within b (sequence_len b - 1) z)
+reach_taken : (b : ℕ) (z : List ℕ) → length (take (well_formed_tail_len b z) z) ≡ well_formed_tail_len b z
+reach_taken b z = taken (well_formed_tail_len b z) z (continuing_len-within b (sequence_len b - 1) z)
 
 -- by whether a whole sequence stands there
 either_head : (P : Head → Type 0) (t : Bool) (x y : Head) → (t ≡ true → P x) → (t ≡ false → P y) → P (cond t x y)
 either_head P true x y f g = f refl
 either_head P false x y f g = g refl
 
-replaced : IsBasicText (0xFFFD ∷ [])
+replaced : IsBmpText (0xFFFD ∷ [])
 replaced = basic_by 0xFFFD (omega arith)
 
 one_below : (b : ℕ) → sequence_len b ≡ 1 → b < 0x80
 unfolding sequence_len
 one_below b e = grind (arith, nat_tests)
 
-alone_is_basic : (set b : ℕ) (z : List ℕ) → length (take (utf_8_rule set b z).more z) ≡ 0 → IsBasicText (utf_8_rule set b z).text
+alone_is_basic : (set b : ℕ) (z : List ℕ) → length (take (utf_8_rule set b z).more z) ≡ 0 → IsBmpText (utf_8_rule set b z).text
 unfolding utf_8_rule
-alone_is_basic set b z n = either_head (λ h. length (take h.more z) ≡ 0 → IsBasicText h.text) (eqb (reach b z + 1) (sequence_len b)) _ _
-    (λ t m. let r : reach b z ≡ 0 = omega (arith, m, reach_taken b z) in
+alone_is_basic set b z n = either_head (λ h. length (take h.more z) ≡ 0 → IsBmpText h.text) (eqb (well_formed_tail_len b z + 1) (sequence_len b)) _ _
+    (λ t m. let r : well_formed_tail_len b z ≡ 0 = omega (arith, m, reach_taken b z) in
     let s : sequence_len b ≡ 1 = grind (arith, nat_tests) in
-    subst (λ k. IsBasicText (scalar_of (b ∷ take k z) ∷ [])) (sym r) (basic_by b (let l = one_below b s in omega (arith, l))))
+    subst (λ k. IsBmpText (scalar_of (b ∷ take k z) ∷ [])) (sym r) (basic_by b (let l = one_below b s in omega (arith, l))))
     (λ f m. replaced) n
 
 utf_8_few : HasFewUnits utf_8_rule
@@ -83,14 +83,15 @@ len_two c l = grind (arith, nat_tests)
 len_three : (c : ℕ) → c < 0x1_0000 → len_utf8 c ≤ 3
 len_three c l = grind (arith, nat_tests)
 
-second_stands : (b c : ℕ) (z : List ℕ) → 2 ≤ sequence_len b → 1 ≤ reach b (c ∷ z) → is_second b c ≡ true
-second_stands b c z s r = elim (true_or_false (is_second b c)) [
+second_stands : (b c : ℕ) (z : List ℕ) → 2 ≤ sequence_len b → 1 ≤ well_formed_tail_len b (c ∷ z)
+    → is_second_byte b c ≡ true
+second_stands b c z s r = elim (true_or_false (is_second_byte b c)) [
   | inl t ↦ t
-  | inr f ↦ absurd (omega (arith, r, reach-no_second b c z s f))
+  | inr f ↦ absurd (omega (arith, r, well_formed_tail_len-no_second b c z s f))
 ]
 
-two_below : (b : ℕ) (z : List ℕ) → sequence_len b ≡ 2 → reach b z ≡ 1 → scalar_of (b ∷ take 1 z) < 0x800
-two_below b [] s r = absurd (omega (arith, r, reach-end b))
+two_below : (b : ℕ) (z : List ℕ) → sequence_len b ≡ 2 → well_formed_tail_len b z ≡ 1 → scalar_of (b ∷ take 1 z) < 0x800
+two_below b [] s r = absurd (omega (arith, r, well_formed_tail_len-end b))
 two_below b (c ∷ z) s r =
     let f = two_range b s in
     let g = second_range b c (second_stands b c z (omega (arith, s)) (omega (arith, r))) in
@@ -103,11 +104,12 @@ continues (d ∷ y) e = elim (true_or_false (is_continuation d)) [
   | inr f ↦ absurd (omega (arith, e, cond-false _ (suc 0) 0 f))
 ]
 
-three_below : (b : ℕ) (z : List ℕ) → sequence_len b ≡ 3 → reach b z ≡ 2 → scalar_of (b ∷ take 2 z) < 0x1_0000
-three_below b [] s r = absurd (omega (arith, r, reach-end b))
+three_below : (b : ℕ) (z : List ℕ) → sequence_len b ≡ 3 → well_formed_tail_len b z ≡ 2
+    → scalar_of (b ∷ take 2 z) < 0x1_0000
+three_below b [] s r = absurd (omega (arith, r, well_formed_tail_len-end b))
 three_below b (c ∷ z) s r =
     let t = second_stands b c z (omega (arith, s)) (omega (arith, r)) in
-    let k = reach-second b c z (omega (arith, s)) t in
+    let k = well_formed_tail_len-second b c z (omega (arith, s)) t in
     let m : sequence_len b - 2 ≡ 1 = omega (arith, s) in
     let n = continues z (omega (arith, r, k, ap (λ a. continuations a z) m)) in
     let f = three_range b s in
@@ -115,7 +117,7 @@ three_below b (c ∷ z) s r =
     let h = continuation_range n.0 n.3 in
     subst (λ (y : List ℕ). scalar_of (b ∷ c ∷ take 1 y) < 0x1_0000) (sym n.2) (omega (arith, f.0, f.1, g.0, g.1, h.0, h.1))
 
-valid_units : (b : ℕ) (z : List ℕ) (n : ℕ) → reach b z ≡ n → sequence_len b ≡ suc n → len_utf8 (scalar_of (b ∷ take n z)) ≤ suc n
+valid_units : (b : ℕ) (z : List ℕ) (n : ℕ) → well_formed_tail_len b z ≡ n → sequence_len b ≡ suc n → len_utf8 (scalar_of (b ∷ take n z)) ≤ suc n
 valid_units b z zero r s = len_one b (one_below b s)
 valid_units b z (suc zero) r s = len_two _ (two_below b z s r)
 valid_units b z (suc (suc zero)) r s = len_three _ (three_below b z s r)
@@ -125,25 +127,25 @@ no_more_than_bytes : (set b : ℕ) (z : List ℕ) → is_malformed (utf_8_rule s
     → length (units_of_text encode_utf8 (utf_8_rule set b z).text) ≤ suc (length (take (utf_8_rule set b z).more z))
 unfolding utf_8_rule
 no_more_than_bytes set b z v = either_head
-    (λ h. is_malformed h.kind ≡ false → length (units_of_text encode_utf8 h.text) ≤ suc (length (take h.more z))) (eqb (reach b z + 1) (sequence_len b)) _ _
-    (λ t m. let c = scalar_of (b ∷ take (reach b z) z) in
-    let s : sequence_len b ≡ suc (reach b z) = grind (arith, nat_tests) in
-    omega (arith, valid_units b z (reach b z) refl s, reach_taken b z, length-encode c, length-append (encode_utf8 c) []))
+    (λ h. is_malformed h.kind ≡ false → length (units_of_text encode_utf8 h.text) ≤ suc (length (take h.more z))) (eqb (well_formed_tail_len b z + 1) (sequence_len b)) _ _
+    (λ t m. let c = scalar_of (b ∷ take (well_formed_tail_len b z) z) in
+    let s : sequence_len b ≡ suc (well_formed_tail_len b z) = grind (arith, nat_tests) in
+    omega (arith, valid_units b z (well_formed_tail_len b z) refl s, reach_taken b z, length-encode c, length-append (encode_utf8 c) []))
     (λ f m. absurd (cc)) v
 
 three_of_malformed : (set b : ℕ) (z : List ℕ) → is_malformed (utf_8_rule set b z).kind ≡ true → length (units_of_text encode_utf8 (utf_8_rule set b z).text) ≤ 3
 unfolding utf_8_rule
-three_of_malformed set b z v = either_head (λ h. is_malformed h.kind ≡ true → length (units_of_text encode_utf8 h.text) ≤ 3) (eqb (reach b z + 1) (sequence_len b)) _ _
+three_of_malformed set b z v = either_head (λ h. is_malformed h.kind ≡ true → length (units_of_text encode_utf8 h.text) ≤ 3) (eqb (well_formed_tail_len b z + 1) (sequence_len b)) _ _
     (λ t m. absurd (cc)) (λ f m. replaced.utf_8) v
 
-before_bounded : (keeps : Bool) (set k : ℕ) (z : List ℕ) → units encode_utf8 (before_malformed keeps (sequences_behind utf_8_rule set k z)) ≤ length (drop k z) + 3
-unfolding sequences_behind
+before_bounded : (keeps : Bool) (set k : ℕ) (z : List ℕ) → units encode_utf8 (sequences_before_malformed keeps (sequences_after utf_8_rule set k z)) ≤ length (drop k z) + 3
+unfolding sequences_after
 before_bounded keeps set zero [] = omega arith
 before_bounded keeps set (suc k) [] = omega arith
 before_bounded keeps set (suc k) (b ∷ z) = before_bounded keeps set k z
 before_bounded keeps set zero (b ∷ z) =
     let h = utf_8_rule set b z in
-    first (is_malformed h.kind) keeps (head_sequence h b z) (before_malformed keeps (sequences_behind utf_8_rule h.set h.more z)) (length (drop h.more z)) (suc (length z))
+    first (is_malformed h.kind) keeps (head_sequence h b z) (sequences_before_malformed keeps (sequences_after utf_8_rule h.set h.more z)) (length (drop h.more z)) (suc (length z))
     (before_bounded keeps h.set h.more z) (λ e. three_of_malformed set b z e) (λ e. no_more_than_bytes set b z e)
     (omega (arith, length-append (take h.more z) (drop h.more z), ap length (take-append-drop h.more z)))
   where
@@ -154,30 +156,30 @@ before_bounded keeps set zero (b ∷ z) =
     first true false s rest left all h m v e = omega arith
     first false k s rest left all h m v e = let n = v refl in omega (arith, n, h, e, units-one encode_utf8 s s.text refl, units-both encode_utf8 (s ∷ []) rest)
 
-pub utf_8_enough : (v : CodecState) → v.rule ≡ utf_8_rule → AreEnough lengths.Utf8 v
+pub utf_8_enough : (v : CodecState) → v.rule ≡ utf_8_rule → AreEnoughForCodec lengths.Utf8 v
 utf_8_enough v r = record {
-  utf_8 = λ src last n _ e. never_passes encode_utf8 Replaced (λ k. 3 * k) v (utf_8_bounded v few) src last n (with_replacement src n e);
-  reporting = λ keeps src last n _ e. never_passes encode_utf8 (Reported keeps) (λ k. k + 3) v (reporting_bounded keeps) src last n (reporting src n e);
-  utf_16 = λ treatment src last n _ e. never_passes encode_utf16 treatment (λ k. k) v (utf_16_bounded v few treatment) src last n (into_utf_16 src n e);
+  utf_8 = λ src last n _ e. never_passes encode_utf8 Replacement (λ k. 3 * k) v (utf_8_bounded v few) src last n (with_replacement src n e);
+  reporting = λ keeps src last n _ e. never_passes encode_utf8 (Fatal keeps) (λ k. k + 3) v (reporting_bounded keeps) src last n (reporting src n e);
+  utf_16 = λ mode src last n _ e. never_passes encode_utf16 mode (λ k. k) v (utf_16_bounded v few mode) src last n (into_utf_16 src n e);
 }
   where
     few : HasFewUnits v.rule
     few = subst HasFewUnits (sym r) utf_8_few
 
-    reporting_bounded : (keeps : Bool) (z : List ℕ) → needed_units encode_utf8 (Reported keeps) (sequences_of v.rule v.set z) ≤ length z + 3
-    reporting_bounded keeps z = subst (λ t. needed_units encode_utf8 (Reported keeps) (sequences_of t v.set z) ≤ length z + 3) (sym r) (before_bounded keeps v.set 0 z)
+    reporting_bounded : (keeps : Bool) (z : List ℕ) → needed_units encode_utf8 (Fatal keeps) (sequences_of v.rule v.set z) ≤ length z + 3
+    reporting_bounded keeps z = subst (λ t. needed_units encode_utf8 (Fatal keeps) (sequences_of t v.set z) ≤ length z + 3) (sym r) (before_bounded keeps v.set 0 z)
 
-    with_replacement : (src : List ℕ) (n : ℕ) → plus (times (plus (Some (length src)) (length v.pending)) 3) 3 ≡ Some n → 3 * (length v.pending + length src) ≤ n
+    with_replacement : (src : List ℕ) (n : ℕ) → checked_add (checked_mul (checked_add (Some (length src)) (length v.pending)) 3) 3 ≡ Some n → 3 * (length v.pending + length src) ≤ n
     with_replacement src n e =
-        let p = plus_is (times (plus (Some (length src)) (length v.pending)) 3) 3 n e in
-        omega (arith, p.2, thrice_is (plus (Some (length src)) (length v.pending)) (length src + length v.pending) p.0 (λ a f. sum_is (length src) (length v.pending) a f) p.1)
+        let p = plus_is (checked_mul (checked_add (Some (length src)) (length v.pending)) 3) 3 n e in
+        omega (arith, p.2, thrice_is (checked_add (Some (length src)) (length v.pending)) (length src + length v.pending) p.0 (λ a f. sum_is (length src) (length v.pending) a f) p.1)
 
-    reporting : (src : List ℕ) (n : ℕ) → plus (plus (Some (length src)) (length v.pending)) 3 ≡ Some n → length v.pending + length src + 3 ≤ n
+    reporting : (src : List ℕ) (n : ℕ) → checked_add (checked_add (Some (length src)) (length v.pending)) 3 ≡ Some n → length v.pending + length src + 3 ≤ n
     reporting src n e =
-        let p = plus_is (plus (Some (length src)) (length v.pending)) 3 n e in
+        let p = plus_is (checked_add (Some (length src)) (length v.pending)) 3 n e in
         omega (arith, p.2, sum_is (length src) (length v.pending) p.0 p.1)
 
-    into_utf_16 : (src : List ℕ) (n : ℕ) → plus (plus (Some (length src)) (length v.pending)) 1 ≡ Some n → length v.pending + length src ≤ n
+    into_utf_16 : (src : List ℕ) (n : ℕ) → checked_add (checked_add (Some (length src)) (length v.pending)) 1 ≡ Some n → length v.pending + length src ≤ n
     into_utf_16 src n e =
-        let p = plus_is (plus (Some (length src)) (length v.pending)) 1 n e in
+        let p = plus_is (checked_add (Some (length src)) (length v.pending)) 1 n e in
         omega (arith, p.2, sum_is (length src) (length v.pending) p.0 p.1)

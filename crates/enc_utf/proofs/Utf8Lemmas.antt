@@ -5,7 +5,7 @@ use Rattle.std.specs.Char.{InScalarRange}
 use Rattle.enc_machine.specs.declared.byte_codec.Kind.TheVariants.{Valid, Malformed}
 use Rattle.enc_machine.specs.Sequence.{Sequence}
 use Rattle.enc_machine.specs.Segmentation.{sequences_of}
-use Rattle.enc_utf.specs.Utf8.{sequence_len, is_second, is_continuation, continuations, go_on, reach, scalar_of, utf_8_rule}
+use Rattle.enc_utf.specs.Utf8.{sequence_len, is_second_byte, is_continuation, continuations, continuing_len, well_formed_tail_len, scalar_of, utf_8_rule}
 use Rattle.enc_machine.proofs.SegmentationLemmas.{sequences_of-head, sequences_of-nil}
 
 abbrev pub valid_sequence : List ℕ → Sequence
@@ -16,21 +16,21 @@ malformed_sequence bytes = record { bytes = bytes; text = 0xFFFD ∷ []; kind = 
 
 -- what stands first
 
-pub valid_head : (b : ℕ) (z : List ℕ) (m : ℕ) → reach b z ≡ m → eqb (m + 1) (sequence_len b) ≡ true
+pub valid_head : (b : ℕ) (z : List ℕ) (m : ℕ) → well_formed_tail_len b z ≡ m → eqb (m + 1) (sequence_len b) ≡ true
     → utf_8_rule 0 b z ≡ record { more = m; text = scalar_of (b ∷ take m z) ∷ []; kind = Valid; set = 0 }
 unfolding utf_8_rule
 valid_head b z m r e = rw (r, e) refl
 
-pub malformed_head : (b : ℕ) (z : List ℕ) (m : ℕ) → reach b z ≡ m → eqb (m + 1) (sequence_len b) ≡ false
+pub malformed_head : (b : ℕ) (z : List ℕ) (m : ℕ) → well_formed_tail_len b z ≡ m → eqb (m + 1) (sequence_len b) ≡ false
     → utf_8_rule 0 b z ≡ record { more = m; text = 0xFFFD ∷ []; kind = Malformed; set = 0 }
 unfolding utf_8_rule
 malformed_head b z m r e = rw (r, e) refl
 
-valid_first : (b : ℕ) (z : List ℕ) (m : ℕ) → reach b z ≡ m → eqb (m + 1) (sequence_len b) ≡ true
+valid_first : (b : ℕ) (z : List ℕ) (m : ℕ) → well_formed_tail_len b z ≡ m → eqb (m + 1) (sequence_len b) ≡ true
     → sequences_of utf_8_rule 0 (b ∷ z) ≡ valid_sequence (b ∷ take m z) ∷ sequences_of utf_8_rule 0 (drop m z)
 valid_first b z m r e = sequences_of-head utf_8_rule 0 b z _ (valid_head b z m r e)
 
-malformed_first : (b : ℕ) (z : List ℕ) (m : ℕ) → reach b z ≡ m → eqb (m + 1) (sequence_len b) ≡ false
+malformed_first : (b : ℕ) (z : List ℕ) (m : ℕ) → well_formed_tail_len b z ≡ m → eqb (m + 1) (sequence_len b) ≡ false
     → sequences_of utf_8_rule 0 (b ∷ z) ≡ malformed_sequence (b ∷ take m z) ∷ sequences_of utf_8_rule 0 (drop m z)
 malformed_first b z m r e = sequences_of-head utf_8_rule 0 b z _ (malformed_head b z m r e)
 
@@ -56,9 +56,9 @@ pub continuation_range : (c : ℕ) → is_continuation c ≡ true → (0x80 ≤ 
 unfolding is_continuation
 continuation_range c h = (grind (arith, nat_tests), grind (arith, nat_tests))
 
-pub second_range : (a b : ℕ) → is_second a b ≡ true → (0x80 ≤ b) × (b ≤ 0xBF)
+pub second_range : (a b : ℕ) → is_second_byte a b ≡ true → (0x80 ≤ b) × (b ≤ 0xBF)
     × (a ≡ 0xE0 → 0xA0 ≤ b) × (a ≡ 0xED → b ≤ 0x9F) × (a ≡ 0xF0 → 0x90 ≤ b) × (a ≡ 0xF4 → b ≤ 0x8F)
-unfolding is_second
+unfolding is_second_byte
 second_range a b h = (
   grind (arith, nat_tests),
   grind (arith, nat_tests),
@@ -70,18 +70,22 @@ second_range a b h = (
 
 -- how far the bytes reach
 
-reach-alone : (b : ℕ) (z : List ℕ) → sequence_len b ≤ 1 → reach b z ≡ 0
-reach-alone b z h = let e : sequence_len b - 1 ≡ 0 = omega arith in rw e refl
+well_formed_tail_len-alone : (b : ℕ) (z : List ℕ) → sequence_len b ≤ 1 → well_formed_tail_len b z ≡ 0
+well_formed_tail_len-alone b z h = let e : sequence_len b - 1 ≡ 0 = omega arith in rw e refl
 
-pub reach-end : (a : ℕ) → reach a [] ≡ 0
-reach-end a = elim (sequence_len a - 1) as (λ n. go_on a n [] ≡ 0) [ zero ↦ refl | suc n ↦ refl ]
+pub well_formed_tail_len-end : (a : ℕ) → well_formed_tail_len a [] ≡ 0
+well_formed_tail_len-end a =
+    elim (sequence_len a - 1) as (λ n. continuing_len a n [] ≡ 0) [ zero ↦ refl | suc n ↦ refl ]
 
-pub reach-no_second : (a b : ℕ) (z : List ℕ) → 2 ≤ sequence_len a → is_second a b ≡ false → reach a (b ∷ z) ≡ 0
-reach-no_second a b z h e = let f : sequence_len a - 1 ≡ suc (sequence_len a - 2) = omega arith in rw (f, e) refl
+pub well_formed_tail_len-no_second : (a b : ℕ) (z : List ℕ) → 2 ≤ sequence_len a → is_second_byte a b ≡ false
+    → well_formed_tail_len a (b ∷ z) ≡ 0
+well_formed_tail_len-no_second a b z h e = let f : sequence_len a - 1 ≡ suc (sequence_len a - 2) = omega arith in
+    rw (f, e) refl
 
-pub reach-second : (a b : ℕ) (z : List ℕ) → 2 ≤ sequence_len a → is_second a b ≡ true
-    → reach a (b ∷ z) ≡ suc (continuations (sequence_len a - 2) z)
-reach-second a b z h e = let f : sequence_len a - 1 ≡ suc (sequence_len a - 2) = omega arith in rw (f, e) refl
+pub well_formed_tail_len-second : (a b : ℕ) (z : List ℕ) → 2 ≤ sequence_len a → is_second_byte a b ≡ true
+    → well_formed_tail_len a (b ∷ z) ≡ suc (continuations (sequence_len a - 2) z)
+well_formed_tail_len-second a b z h e = let f : sequence_len a - 1 ≡ suc (sequence_len a - 2) = omega arith in
+    rw (f, e) refl
 
 continuations-none : (n c : ℕ) (z : List ℕ) → is_continuation c ≡ false → continuations n (c ∷ z) ≡ 0
 continuations-none zero c z e = refl
@@ -95,68 +99,74 @@ continuations-end (suc n) = refl
 
 pub none_malformed : (b : ℕ) (z : List ℕ) → sequence_len b ≡ 0
     → sequences_of utf_8_rule 0 (b ∷ z) ≡ malformed_sequence (b ∷ []) ∷ sequences_of utf_8_rule 0 z
-none_malformed b z s = malformed_first b z 0 (reach-alone b z (omega arith)) (rw s refl)
+none_malformed b z s = malformed_first b z 0 (well_formed_tail_len-alone b z (omega arith)) (rw s refl)
 
 pub one_valid : (b : ℕ) (z : List ℕ) → sequence_len b ≡ 1
     → sequences_of utf_8_rule 0 (b ∷ z) ≡ valid_sequence (b ∷ []) ∷ sequences_of utf_8_rule 0 z
-one_valid b z s = valid_first b z 0 (reach-alone b z (omega arith)) (rw s refl)
+one_valid b z s = valid_first b z 0 (well_formed_tail_len-alone b z (omega arith)) (rw s refl)
 
 -- a lead byte
 
-pub one_malformed : (a b : ℕ) (z : List ℕ) → 2 ≤ sequence_len a → is_second a b ≡ false
+pub one_malformed : (a b : ℕ) (z : List ℕ) → 2 ≤ sequence_len a → is_second_byte a b ≡ false
     → sequences_of utf_8_rule 0 (a ∷ b ∷ z) ≡ malformed_sequence (a ∷ []) ∷ sequences_of utf_8_rule 0 (b ∷ z)
-one_malformed a b z s e = malformed_first a (b ∷ z) 0 (reach-no_second a b z s e) (grind (arith, nat_tests))
+one_malformed a b z s e =
+    malformed_first a (b ∷ z) 0 (well_formed_tail_len-no_second a b z s e) (grind (arith, nat_tests))
 
 pub one_end : (a : ℕ) → 2 ≤ sequence_len a → sequences_of utf_8_rule 0 (a ∷ []) ≡ malformed_sequence (a ∷ []) ∷ []
 one_end a s =
-    malformed_first a [] 0 (reach-end a) (grind (arith, nat_tests))
+    malformed_first a [] 0 (well_formed_tail_len-end a) (grind (arith, nat_tests))
     ∙ ap (λ ss. malformed_sequence (a ∷ []) ∷ ss) (sequences_of-nil utf_8_rule 0)
 
-pub two_valid : (a b : ℕ) (z : List ℕ) → sequence_len a ≡ 2 → is_second a b ≡ true
+pub two_valid : (a b : ℕ) (z : List ℕ) → sequence_len a ≡ 2 → is_second_byte a b ≡ true
     → sequences_of utf_8_rule 0 (a ∷ b ∷ z) ≡ valid_sequence (a ∷ b ∷ []) ∷ sequences_of utf_8_rule 0 z
-two_valid a b z s e = valid_first a (b ∷ z) 1 (reach-second a b z (omega arith) e ∙ rw s refl) (rw s refl)
+two_valid a b z s e =
+    valid_first a (b ∷ z) 1 (well_formed_tail_len-second a b z (omega arith) e ∙ rw s refl) (rw s refl)
 
 -- a lead byte and its second byte
 
-pub two_malformed : (a b c : ℕ) (z : List ℕ) → 3 ≤ sequence_len a → is_second a b ≡ true → is_continuation c ≡ false
+pub two_malformed : (a b c : ℕ) (z : List ℕ) → 3 ≤ sequence_len a → is_second_byte a b ≡ true
+    → is_continuation c ≡ false
     → sequences_of utf_8_rule 0 (a ∷ b ∷ c ∷ z) ≡ malformed_sequence (a ∷ b ∷ []) ∷ sequences_of utf_8_rule 0 (c ∷ z)
 two_malformed a b c z s e t =
-    malformed_first a (b ∷ c ∷ z) 1 (reach-second a b (c ∷ z) (omega arith) e ∙ ap suc (continuations-none (sequence_len a - 2) c z t))
+    malformed_first a (b ∷ c ∷ z) 1 (well_formed_tail_len-second a b (c ∷ z) (omega arith) e ∙ ap suc (continuations-none (sequence_len a - 2) c z t))
     (grind (arith, nat_tests))
 
-pub two_end : (a b : ℕ) → 3 ≤ sequence_len a → is_second a b ≡ true
+pub two_end : (a b : ℕ) → 3 ≤ sequence_len a → is_second_byte a b ≡ true
     → sequences_of utf_8_rule 0 (a ∷ b ∷ []) ≡ malformed_sequence (a ∷ b ∷ []) ∷ []
 two_end a b s e =
-    malformed_first a (b ∷ []) 1 (reach-second a b [] (omega arith) e ∙ ap suc (continuations-end (sequence_len a - 2))) (grind (arith, nat_tests))
+    malformed_first a (b ∷ []) 1 (well_formed_tail_len-second a b [] (omega arith) e ∙ ap suc (continuations-end (sequence_len a - 2))) (grind (arith, nat_tests))
     ∙ ap (λ ss. malformed_sequence (a ∷ b ∷ []) ∷ ss) (sequences_of-nil utf_8_rule 0)
 
-pub three_valid : (a b c : ℕ) (z : List ℕ) → sequence_len a ≡ 3 → is_second a b ≡ true → is_continuation c ≡ true
+pub three_valid : (a b c : ℕ) (z : List ℕ) → sequence_len a ≡ 3 → is_second_byte a b ≡ true → is_continuation c ≡ true
     → sequences_of utf_8_rule 0 (a ∷ b ∷ c ∷ z) ≡ valid_sequence (a ∷ b ∷ c ∷ []) ∷ sequences_of utf_8_rule 0 z
-three_valid a b c z s e t = valid_first a (b ∷ c ∷ z) 2 (reach-second a b (c ∷ z) (omega arith) e ∙ rw (s, t) refl) (rw s refl)
+three_valid a b c z s e t = valid_first a (b ∷ c ∷ z) 2 (well_formed_tail_len-second a b (c ∷ z) (omega arith) e ∙ rw (s, t) refl) (rw s refl)
 
 -- three bytes of four
 
 pub three_malformed : (a b c d : ℕ) (z : List ℕ)
-    → sequence_len a ≡ 4 → is_second a b ≡ true → is_continuation c ≡ true → is_continuation d ≡ false
+    → sequence_len a ≡ 4 → is_second_byte a b ≡ true → is_continuation c ≡ true → is_continuation d ≡ false
     → sequences_of utf_8_rule 0 (a ∷ b ∷ c ∷ d ∷ z) ≡ malformed_sequence (a ∷ b ∷ c ∷ []) ∷ sequences_of utf_8_rule 0 (d ∷ z)
 three_malformed a b c d z s e t u =
-    malformed_first a (b ∷ c ∷ d ∷ z) 2 (reach-second a b (c ∷ d ∷ z) (omega arith) e ∙ rw (s, t, u) refl) (rw s refl)
+    malformed_first a (b ∷ c ∷ d ∷ z) 2 (well_formed_tail_len-second a b (c ∷ d ∷ z) (omega arith) e
+    ∙ rw (s, t, u) refl) (rw s refl)
 
-pub three_end : (a b c : ℕ) → sequence_len a ≡ 4 → is_second a b ≡ true → is_continuation c ≡ true
+pub three_end : (a b c : ℕ) → sequence_len a ≡ 4 → is_second_byte a b ≡ true → is_continuation c ≡ true
     → sequences_of utf_8_rule 0 (a ∷ b ∷ c ∷ []) ≡ malformed_sequence (a ∷ b ∷ c ∷ []) ∷ []
 three_end a b c s e t =
-    malformed_first a (b ∷ c ∷ []) 2 (reach-second a b (c ∷ []) (omega arith) e ∙ rw (s, t) refl) (rw s refl)
+    malformed_first a (b ∷ c ∷ []) 2 (well_formed_tail_len-second a b (c ∷ []) (omega arith) e ∙ rw (s, t) refl)
+    (rw s refl)
     ∙ ap (λ ss. malformed_sequence (a ∷ b ∷ c ∷ []) ∷ ss) (sequences_of-nil utf_8_rule 0)
 
 pub four_valid : (a b c d : ℕ) (z : List ℕ)
-    → sequence_len a ≡ 4 → is_second a b ≡ true → is_continuation c ≡ true → is_continuation d ≡ true
+    → sequence_len a ≡ 4 → is_second_byte a b ≡ true → is_continuation c ≡ true → is_continuation d ≡ true
     → sequences_of utf_8_rule 0 (a ∷ b ∷ c ∷ d ∷ z) ≡ valid_sequence (a ∷ b ∷ c ∷ d ∷ []) ∷ sequences_of utf_8_rule 0 z
 four_valid a b c d z s e t u =
-    valid_first a (b ∷ c ∷ d ∷ z) 3 (reach-second a b (c ∷ d ∷ z) (omega arith) e ∙ rw (s, t, u) refl) (rw s refl)
+    valid_first a (b ∷ c ∷ d ∷ z) 3 (well_formed_tail_len-second a b (c ∷ d ∷ z) (omega arith) e ∙ rw (s, t, u) refl)
+    (rw s refl)
 
 -- the scalar values
 
-pub two_scalar : (a b : ℕ) → sequence_len a ≡ 2 → is_second a b ≡ true → InScalarRange (scalar_of (a ∷ b ∷ []))
+pub two_scalar : (a b : ℕ) → sequence_len a ≡ 2 → is_second_byte a b ≡ true → InScalarRange (scalar_of (a ∷ b ∷ []))
 two_scalar a b s e = let r = two_range a s in let t = second_range a b e in inl (omega arith)
 
 at_most_or_above : (a n : ℕ) → (a ≤ n) ⊎ (n < a)
@@ -166,7 +176,7 @@ below_surrogates : (a b c : ℕ) → 0xE0 ≤ a → a ≤ 0xED → b ≤ 0xBF �
     → scalar_of (a ∷ b ∷ c ∷ []) < 0xD800
 below_surrogates a b c h k u v w = grind arith
 
-pub three_scalar : (a b c : ℕ) → sequence_len a ≡ 3 → is_second a b ≡ true → is_continuation c ≡ true
+pub three_scalar : (a b c : ℕ) → sequence_len a ≡ 3 → is_second_byte a b ≡ true → is_continuation c ≡ true
     → InScalarRange (scalar_of (a ∷ b ∷ c ∷ []))
 three_scalar a b c s e t =
     let r = three_range a s in let u = second_range a b e in let v = continuation_range c t in
@@ -178,7 +188,7 @@ supplementary : (a b c d : ℕ) → 0xF0 ≤ a → a < 0xF5 → 0x80 ≤ b → b
 supplementary a b c d h k l u v w x y = (grind arith, grind arith)
 
 pub four_scalar : (a b c d : ℕ)
-    → sequence_len a ≡ 4 → is_second a b ≡ true → is_continuation c ≡ true → is_continuation d ≡ true
+    → sequence_len a ≡ 4 → is_second_byte a b ≡ true → is_continuation c ≡ true → is_continuation d ≡ true
     → InScalarRange (scalar_of (a ∷ b ∷ c ∷ d ∷ []))
 four_scalar a b c d s e t x =
     let r = four_range a s in let u = second_range a b e in let v = continuation_range c t in let w = continuation_range d x in

@@ -5,9 +5,9 @@ use Rattle.std.proofs.lemmas.Bool.Decides.{nat_tests, leb_tells}
 use Rattle.std.proofs.lemmas.List.{take-append-le, take-take, length-take-le}
 use Rattle.enc_machine.specs.declared.byte_codec.Kind.TheVariants.{Valid, Malformed}
 use Rattle.enc_machine.specs.Segmentation.{Head}
-use Rattle.enc_machine.specs.RuleLaws.{IsToldBy, IsToldByEnd, HasLookahead}
-use Rattle.enc_utf.specs.Utf8.{sequence_len, is_second, is_continuation, continuations, go_on, reach, lower_bound, scalar_of, utf_8_rule}
-use Rattle.enc_machine.proofs.ToldLemmas.{true_or_false, looks_by, IsToldInTime, lookahead_by}
+use Rattle.enc_machine.specs.RuleLaws.{IsDeterminedWithin, IsDeterminedByEnd, HasLookahead}
+use Rattle.enc_utf.specs.Utf8.{sequence_len, is_second_byte, is_continuation, continuations, continuing_len, well_formed_tail_len, second_byte_min, scalar_of, utf_8_rule}
+use Rattle.enc_machine.proofs.FirstSequenceLemmas.{true_or_false, looks_by, IsToldInTime, lookahead_by}
 use Rattle.enc_utf.proofs.Utf8Lemmas.{continuations-end}
 
 -- What shows how far the bytes reach is the byte behind those, or that no more are wanted.
@@ -22,12 +22,12 @@ continuations-told (suc n) (suc k) (c ∷ z) y l h = elim (true_or_false (is_con
   | inr f ↦ rw f refl
 ]
 
-go_on-told : (b n k : ℕ) (z y : List ℕ) → k ≤ length z → (k ≤ go_on b n z → n ≤ k)
-    → go_on b n (take k z ++ y) ≡ go_on b n z
-go_on-told b zero k z y l h = refl
-go_on-told b (suc n) zero z y l h = absurd (let q = h (omega arith) in omega arith)
-go_on-told b (suc n) (suc k) [] y l h = absurd (omega arith)
-go_on-told b (suc n) (suc k) (c ∷ z) y l h = elim (true_or_false (is_second b c)) [
+continuing_len-told : (b n k : ℕ) (z y : List ℕ) → k ≤ length z → (k ≤ continuing_len b n z → n ≤ k)
+    → continuing_len b n (take k z ++ y) ≡ continuing_len b n z
+continuing_len-told b zero k z y l h = refl
+continuing_len-told b (suc n) zero z y l h = absurd (let q = h (omega arith) in omega arith)
+continuing_len-told b (suc n) (suc k) [] y l h = absurd (omega arith)
+continuing_len-told b (suc n) (suc k) (c ∷ z) y l h = elim (true_or_false (is_second_byte b c)) [
   | inl t ↦ rw t (ap suc (continuations-told n k z y (omega arith) (λ q. let m = (rw t at h) (omega arith) in omega arith)))
   | inr f ↦ rw f refl
 ]
@@ -42,10 +42,10 @@ continuations-within (suc n) (c ∷ z) = elim (true_or_false (is_continuation c)
   | inr f ↦ rw f (omega arith, omega arith)
 ]
 
-go_on-within : (b n : ℕ) (z : List ℕ) → (go_on b n z ≤ n) × (go_on b n z ≤ length z)
-go_on-within b zero z = (omega arith, omega arith)
-go_on-within b (suc n) [] = (omega arith, omega arith)
-go_on-within b (suc n) (c ∷ z) = elim (true_or_false (is_second b c)) [
+continuing_len-within : (b n : ℕ) (z : List ℕ) → (continuing_len b n z ≤ n) × (continuing_len b n z ≤ length z)
+continuing_len-within b zero z = (omega arith, omega arith)
+continuing_len-within b (suc n) [] = (omega arith, omega arith)
+continuing_len-within b (suc n) (c ∷ z) = elim (true_or_false (is_second_byte b c)) [
   | inl t ↦ rw t (let h = continuations-within n z in (omega arith, omega arith))
   | inr f ↦ rw f (omega arith, omega arith)
 ]
@@ -66,16 +66,16 @@ continuations-more (suc n) (c ∷ z) e l = elim (true_or_false (is_continuation 
   | inr t ↦ let f = rw t at e in absurd (omega arith)
 ]
 
-lower_follows : (a : ℕ) → is_second a (lower_bound a) ≡ true
-unfolding is_second
+lower_follows : (a : ℕ) → is_second_byte a (second_byte_min a) ≡ true
+unfolding is_second_byte
 lower_follows a = grind (arith, nat_tests)
 
-lower_is_byte : (a : ℕ) → lower_bound a < 256
+lower_is_byte : (a : ℕ) → second_byte_min a < 256
 lower_is_byte a = grind (arith, nat_tests)
 
 -- the least byte that goes on
 next_byte : ℕ → List ℕ → ℕ
-next_byte b [] = lower_bound b
+next_byte b [] = second_byte_min b
 next_byte b (c ∷ z) = 0x80
 
 next_is_byte : (b : ℕ) (z : List ℕ) → next_byte b z < 256
@@ -83,12 +83,12 @@ unfolding next_byte
 next_is_byte b [] = lower_is_byte b
 next_is_byte b (c ∷ z) = omega arith
 
-go_on-more : (b n : ℕ) (z : List ℕ) → go_on b n z ≡ length z → length z < n
-    → go_on b n (z ++ next_byte b z ∷ []) ≡ suc (length z)
+continuing_len-more : (b n : ℕ) (z : List ℕ) → continuing_len b n z ≡ length z → length z < n
+    → continuing_len b n (z ++ next_byte b z ∷ []) ≡ suc (length z)
 unfolding next_byte
-go_on-more b zero z e l = absurd (omega arith)
-go_on-more b (suc n) [] e l = rw (lower_follows b) (ap suc (continuations-end n))
-go_on-more b (suc n) (c ∷ z) e l = elim (true_or_false (is_second b c)) [
+continuing_len-more b zero z e l = absurd (omega arith)
+continuing_len-more b (suc n) [] e l = rw (lower_follows b) (ap suc (continuations-end n))
+continuing_len-more b (suc n) (c ∷ z) e l = elim (true_or_false (is_second_byte b c)) [
   | inl t ↦ let f = rw t at e in rw t (ap suc (continuations-more n z (omega arith) (omega arith)))
   | inr t ↦ let f = rw t at e in absurd (omega arith)
 ]
@@ -100,56 +100,64 @@ head_of set b m x =
     cond (eqb (m + 1) (sequence_len b)) (record { more = m; text = scalar_of (b ∷ x) ∷ []; kind = Valid; set = set })
     (record { more = m; text = 0xFFFD ∷ []; kind = Malformed; set = set })
 
-by_reach : (set b : ℕ) (z : List ℕ) → utf_8_rule set b z ≡ head_of set b (reach b z) (take (reach b z) z)
+by_reach : (set b : ℕ) (z : List ℕ)
+    → utf_8_rule set b z ≡ head_of set b (well_formed_tail_len b z) (take (well_formed_tail_len b z) z)
 unfolding utf_8_rule
 by_reach set b z = refl
 
 more_of : (set b m : ℕ) (x : List ℕ) → (head_of set b m x).more ≡ m
 more_of set b m x = elim (true_or_false (eqb (m + 1) (sequence_len b))) [ inl t ↦ rw t refl | inr f ↦ rw f refl ]
 
-more_is_reach : (set b : ℕ) (z : List ℕ) → (utf_8_rule set b z).more ≡ reach b z
-more_is_reach set b z = ap (λ (h : Head). h.more) (by_reach set b z) ∙ more_of set b (reach b z) (take (reach b z) z)
+more_is_reach : (set b : ℕ) (z : List ℕ) → (utf_8_rule set b z).more ≡ well_formed_tail_len b z
+more_is_reach set b z = ap (λ (h : Head). h.more) (by_reach set b z)
+    ∙ more_of set b (well_formed_tail_len b z) (take (well_formed_tail_len b z) z)
 
 pub within : (set b : ℕ) (z : List ℕ) → (utf_8_rule set b z).more ≤ length z
-within set b z = let w = go_on-within b (sequence_len b - 1) z in omega (arith, more_is_reach set b z, w.1)
+within set b z = let w = continuing_len-within b (sequence_len b - 1) z in omega (arith, more_is_reach set b z, w.1)
 
-same_rule : (set b : ℕ) (y z : List ℕ) → reach b y ≡ reach b z → take (reach b z) y ≡ take (reach b z) z
+same_rule : (set b : ℕ) (y z : List ℕ) → well_formed_tail_len b y ≡ well_formed_tail_len b z
+    → take (well_formed_tail_len b z) y ≡ take (well_formed_tail_len b z) z
     → utf_8_rule set b y ≡ utf_8_rule set b z
 same_rule set b y z e t =
-    by_reach set b y ∙ ap (λ m. head_of set b m (take m y)) e ∙ ap (head_of set b (reach b z)) t ∙ sym (by_reach set b z)
+    by_reach set b y ∙ ap (λ m. head_of set b m (take m y)) e ∙ ap (head_of set b (well_formed_tail_len b z)) t ∙ sym (by_reach set b z)
 
 -- every sequence
 
-told_at : (set b k n : ℕ) (z : List ℕ) → k ≡ reach b z + n → k ≤ length z → (k ≤ reach b z → sequence_len b - 1 ≤ k)
-    → IsToldBy utf_8_rule set b z n
+told_at : (set b k n : ℕ) (z : List ℕ) → k ≡ well_formed_tail_len b z + n → k ≤ length z
+    → (k ≤ well_formed_tail_len b z → sequence_len b - 1 ≤ k)
+    → IsDeterminedWithin utf_8_rule set b z n
 told_at set b k n z e l h =
     let m : (utf_8_rule set b z).more + n ≡ k = ap (λ j. j + n) (more_is_reach set b z) ∙ sym e in
-    let r : reach b z ≤ k = omega (arith, e) in
+    let r : well_formed_tail_len b z ≤ k = omega (arith, e) in
     let q : length (take k z) ≡ k = length-take-le k z l in record {
       there = omega (arith, m);
       same = λ y. ap (λ j. utf_8_rule set b (take j z ++ y)) m
-          ∙ same_rule set b (take k z ++ y) z (go_on-told b (sequence_len b - 1) k z y l h)
-          (take-append-le (reach b z) (take k z) y (omega (arith, q, r)) ∙ take-take (reach b z) k z r);
+          ∙ same_rule set b (take k z ++ y) z (continuing_len-told b (sequence_len b - 1) k z y l h)
+          (take-append-le (well_formed_tail_len b z) (take k z) y (omega (arith, q, r))
+          ∙ take-take (well_formed_tail_len b z) k z r);
     }
 
-stops_short : (set b : ℕ) (z : List ℕ) → reach b z < sequence_len b - 1 → (utf_8_rule set b z).kind ≡ Valid → ⊥
+stops_short : (set b : ℕ) (z : List ℕ) → well_formed_tail_len b z < sequence_len b - 1
+    → (utf_8_rule set b z).kind ≡ Valid → ⊥
 stops_short set b z l v =
-    let n : eqb (reach b z + 1) (sequence_len b) ≡ false = not_equal (reach b z) (sequence_len b) l in
+    let n : eqb (well_formed_tail_len b z + 1) (sequence_len b) ≡ false =
+    not_equal (well_formed_tail_len b z) (sequence_len b) l in
     let k = rw n at (by_reach set b z) in let m = ap (λ (h : Head). h.kind) k in cc
   where
     not_equal : (m n : ℕ) → m < n - 1 → eqb (m + 1) n ≡ false
     not_equal m n l = grind (arith, nat_tests)
 
-pub by_end : (set b : ℕ) (z : List ℕ) → reach b z ≡ length z → length z < sequence_len b - 1
-    → IsToldByEnd utf_8_rule set b z
+pub by_end : (set b : ℕ) (z : List ℕ) → well_formed_tail_len b z ≡ length z → length z < sequence_len b - 1
+    → IsDeterminedByEnd utf_8_rule set b z
 by_end set b z e l = record {
   within = within set b z;
   more = next_byte b z ∷ [];
   bytes = (next_is_byte b z, tt);
   near = omega (arith, more_is_reach set b z, e);
   other = λ q.
-      let m : reach b (z ++ next_byte b z ∷ []) ≡ suc (length z) = go_on-more b (sequence_len b - 1) z e l in
-      let n : reach b (z ++ next_byte b z ∷ []) ≡ reach b z =
+      let m : well_formed_tail_len b (z ++ next_byte b z ∷ []) ≡ suc (length z) =
+      continuing_len-more b (sequence_len b - 1) z e l in
+      let n : well_formed_tail_len b (z ++ next_byte b z ∷ []) ≡ well_formed_tail_len b z =
       sym (more_is_reach set b (z ++ next_byte b z ∷ [])) ∙ ap (λ (h : Head). h.more) q ∙ more_is_reach set b z in
       let k : suc (length z) ≡ length z = sym m ∙ n ∙ e in omega (arith, k);
 }
@@ -164,31 +172,33 @@ continuations-alone (suc n) (c ∷ z) = elim (true_or_false (is_continuation c))
   | inr f ↦ rw f refl
 ]
 
-go_on-alone : (b n : ℕ) (z : List ℕ) → go_on b n (take (go_on b n z) z) ≡ go_on b n z
-go_on-alone b zero z = refl
-go_on-alone b (suc n) [] = refl
-go_on-alone b (suc n) (c ∷ z) = elim (true_or_false (is_second b c)) [
+continuing_len-alone : (b n : ℕ) (z : List ℕ)
+    → continuing_len b n (take (continuing_len b n z) z) ≡ continuing_len b n z
+continuing_len-alone b zero z = refl
+continuing_len-alone b (suc n) [] = refl
+continuing_len-alone b (suc n) (c ∷ z) = elim (true_or_false (is_second_byte b c)) [
   | inl t ↦ rw (t, t) (ap suc (continuations-alone n z))
   | inr f ↦ rw f refl
 ]
 
-reach_alone : (b : ℕ) (z : List ℕ) → reach b (take (reach b z) z) ≡ reach b z
-reach_alone b z = go_on-alone b (sequence_len b - 1) z
+reach_alone : (b : ℕ) (z : List ℕ)
+    → well_formed_tail_len b (take (well_formed_tail_len b z) z) ≡ well_formed_tail_len b z
+reach_alone b z = continuing_len-alone b (sequence_len b - 1) z
 
 told : (set b : ℕ) (z : List ℕ) → IsToldInTime utf_8_rule set b z
 told set b z =
-    let w = go_on-within b (sequence_len b - 1) z in
-    elim (leb_tells (sequence_len b - 1) (reach b z)) [
-      | inl t ↦ inl (told_at set b (reach b z) 0 z (omega arith) w.1 (λ _. t.1))
+    let w = continuing_len-within b (sequence_len b - 1) z in
+    elim (leb_tells (sequence_len b - 1) (well_formed_tail_len b z)) [
+      | inl t ↦ inl (told_at set b (well_formed_tail_len b z) 0 z (omega arith) w.1 (λ _. t.1))
       | inr s ↦ inr (
         stops_short set b z s.1,
-        elim (leb_tells (suc (reach b z)) (length z)) [
+        elim (leb_tells (suc (well_formed_tail_len b z)) (length z)) [
           | inl l ↦ inl (
             1,
             omega arith,
-            looks_by utf_8_rule set b z 0 (reach b z) (told_at set b (suc (reach b z)) 1 z (omega arith) l.1 (λ q. absurd (omega (arith, q))))
+            looks_by utf_8_rule set b z 0 (well_formed_tail_len b z) (told_at set b (suc (well_formed_tail_len b z)) 1 z (omega arith) l.1 (λ q. absurd (omega (arith, q))))
                 (let m = more_is_reach set b z in omega (arith, m))
-                (by_end set b (take (reach b z) z) (reach_alone b z ∙ sym (length-take-le (reach b z) z w.1)) (let k = length-take-le (reach b z) z w.1 in omega (arith, k, s.1))),
+                (by_end set b (take (well_formed_tail_len b z) z) (reach_alone b z ∙ sym (length-take-le (well_formed_tail_len b z) z w.1)) (let k = length-take-le (well_formed_tail_len b z) z w.1 in omega (arith, k, s.1))),
           )
           | inr g ↦ inr (by_end set b z (omega (arith, g.1, w.1)) (omega (arith, g.1, w.1, s.1)))
         ],

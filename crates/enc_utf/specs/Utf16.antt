@@ -8,11 +8,11 @@ code_unit true b c = b * 256 + c
 code_unit false b c = c * 256 + b
 
 -- the surrogates that begin a pair, and those that end it
-unfoldable pub is_lead : ℕ → Bool
-is_lead u = nat_le 0xD800 u && nat_le u 0xDBFF
+unfoldable pub is_lead_surrogate : ℕ → Bool
+is_lead_surrogate u = nat_le 0xD800 u && nat_le u 0xDBFF
 
-unfoldable pub is_trail : ℕ → Bool
-is_trail u = nat_le 0xDC00 u && nat_le u 0xDFFF
+unfoldable pub is_trail_surrogate : ℕ → Bool
+is_trail_surrogate u = nat_le 0xDC00 u && nat_le u 0xDFFF
 
 -- the scalar value of a surrogate pair
 unfoldable pub pair_scalar : ℕ → ℕ → ℕ
@@ -20,20 +20,20 @@ pair_scalar lead trail = 0x10000 + (lead - 0xD800) * 0x400 + (trail - 0xDC00)
 
 -- a code unit that begins no pair
 abbrev pub unit_head : ℕ → ℕ → Head
-unit_head set u = if is_trail u then malformed_head set 1 else character_head set 1 u
+unit_head set u = if is_trail_surrogate u then malformed_head set 1 else character_head set 1 u
 
 -- A lead surrogate, by the bytes behind it: it begins a pair, or is malformed. A code unit behind it that is no
 -- trail is read anew, but a single byte that the input ends with is malformed with it.
-abbrev pub lead_head : Bool → ℕ → ℕ → List ℕ → Head
-lead_head big set lead [] = malformed_head set 1
-lead_head big set lead (d ∷ []) = malformed_head set 2
-lead_head big set lead (d ∷ e ∷ z) =
-    if is_trail (code_unit big d e) then character_head set 3 (pair_scalar lead (code_unit big d e))
+abbrev pub lead_surrogate_head : Bool → ℕ → ℕ → List ℕ → Head
+lead_surrogate_head big set lead [] = malformed_head set 1
+lead_surrogate_head big set lead (d ∷ []) = malformed_head set 2
+lead_surrogate_head big set lead (d ∷ e ∷ z) =
+    if is_trail_surrogate (code_unit big d e) then character_head set 3 (pair_scalar lead (code_unit big d e))
     else malformed_head set 1
 
 -- what stands first, big-endian or little-endian: a single byte that the input ends with is malformed
 unfoldable pub utf_16_rule : Bool → Rule
 utf_16_rule big set b [] = malformed_head set 0
 utf_16_rule big set b (c ∷ z) =
-    if is_lead (code_unit big b c) then lead_head big set (code_unit big b c) z
+    if is_lead_surrogate (code_unit big b c) then lead_surrogate_head big set (code_unit big b c) z
     else unit_head set (code_unit big b c)

@@ -2,8 +2,8 @@
 use Rattle.std.specs.Prelude.{Bool, true}
 use Rattle.enc_machine.specs.declared.pending.Pending.{Pending}
 use Rattle.enc_machine.specs.declared.pending.Pending.TheVariants.{Nothing, One, Two, Three}
-use Rattle.enc_machine.specs.Pending.{pending_bytes}
-use Rattle.enc_utf.specs.Utf16.{code_unit, is_lead, utf_16_rule}
+use Rattle.enc_machine.specs.Pending.{bytes_of_pending}
+use Rattle.enc_utf.specs.Utf16.{code_unit, is_lead_surrogate, utf_16_rule}
 use Rattle.enc_machine.specs.CodecState.{CodecState}
 
 -- the byte order and the pending bytes
@@ -18,8 +18,8 @@ with_pending big p = record { big_endian = big; pending = p }
 abbrev pub begins_with_lead : Bool → Pending → Bool
 begins_with_lead big Nothing = true
 begins_with_lead big (One a) = true
-begins_with_lead big (Two a b) = is_lead (code_unit big a b)
-begins_with_lead big (Three a b c) = is_lead (code_unit big a b)
+begins_with_lead big (Two a b) = is_lead_surrogate (code_unit big a b)
+begins_with_lead big (Three a b c) = is_lead_surrogate (code_unit big a b)
 
 abbrev pub utf_16_state : Utf16State → CodecState
-utf_16_state s = record { rule = utf_16_rule s.big_endian; set = 0; pending = pending_bytes s.pending }
+utf_16_state s = record { rule = utf_16_rule s.big_endian; set = 0; pending = bytes_of_pending s.pending }

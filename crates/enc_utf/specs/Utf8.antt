@@ -12,14 +12,14 @@ sequence_len b =
     else if nat_lt b 0xF0 then 3 else if nat_lt b 0xF5 then 4 else 0
 
 -- the range of the second byte, by the first
-abbrev pub lower_bound : ℕ → ℕ
-lower_bound b = if b == 0xE0 then 0xA0 else if b == 0xF0 then 0x90 else 0x80
+abbrev pub second_byte_min : ℕ → ℕ
+second_byte_min b = if b == 0xE0 then 0xA0 else if b == 0xF0 then 0x90 else 0x80
 
-abbrev pub upper_bound : ℕ → ℕ
-upper_bound b = if b == 0xED then 0x9F else if b == 0xF4 then 0x8F else 0xBF
+abbrev pub second_byte_max : ℕ → ℕ
+second_byte_max b = if b == 0xED then 0x9F else if b == 0xF4 then 0x8F else 0xBF
 
-unfoldable pub is_second : ℕ → ℕ → Bool
-is_second b c = nat_le (lower_bound b) c && nat_le c (upper_bound b)
+unfoldable pub is_second_byte : ℕ → ℕ → Bool
+is_second_byte b c = nat_le (second_byte_min b) c && nat_le c (second_byte_max b)
 
 -- the range of the third and the fourth byte
 unfoldable pub is_continuation : ℕ → Bool
@@ -32,10 +32,10 @@ continuations (suc n) [] = 0
 continuations (suc n) (c ∷ z) = if is_continuation c then suc (continuations n z) else 0
 
 -- how many bytes after the first go on with a sequence that wants n more
-abbrev pub go_on : ℕ → ℕ → List ℕ → ℕ
-go_on b zero z = 0
-go_on b (suc n) [] = 0
-go_on b (suc n) (c ∷ z) = if is_second b c then suc (continuations n z) else 0
+abbrev pub continuing_len : ℕ → ℕ → List ℕ → ℕ
+continuing_len b zero z = 0
+continuing_len b (suc n) [] = 0
+continuing_len b (suc n) (c ∷ z) = if is_second_byte b c then suc (continuations n z) else 0
 
 -- the scalar value of a well-formed sequence (Unicode Standard 3.9, table 3-6)
 abbrev pub scalar_of : List ℕ → ℕ
@@ -46,13 +46,18 @@ scalar_of (a ∷ b ∷ c ∷ []) = (a - 0xE0) * 4096 + (b - 0x80) * 64 + (c - 0x
 scalar_of (a ∷ b ∷ c ∷ d ∷ z) = (a - 0xF0) * 262144 + (b - 0x80) * 4096 + (c - 0x80) * 64 + (d - 0x80)
 
 -- how many bytes after the first begin a well-formed sequence with it
-abbrev pub reach : ℕ → List ℕ → ℕ
-reach b z = go_on b (sequence_len b - 1) z
+abbrev pub well_formed_tail_len : ℕ → List ℕ → ℕ
+well_formed_tail_len b z = continuing_len b (sequence_len b - 1) z
 
 -- What reaches as far as a whole sequence is valid. What doesn't is malformed: the longest prefix that begins a
 -- well-formed sequence, and at least one byte.
 unfoldable pub utf_8_rule : Rule
 utf_8_rule set b z =
-    if reach b z + 1 == sequence_len b
-    then record { more = reach b z; text = scalar_of (b ∷ take (reach b z) z) ∷ []; kind = Valid; set = set }
-    else record { more = reach b z; text = 0xFFFD ∷ []; kind = Malformed; set = set }
+    if well_formed_tail_len b z + 1 == sequence_len b
+    then record {
+      more = well_formed_tail_len b z;
+      text = scalar_of (b ∷ take (well_formed_tail_len b z) z) ∷ [];
+      kind = Valid;
+      set = set;
+    }
+    else record { more = well_formed_tail_len b z; text = 0xFFFD ∷ []; kind = Malformed; set = set }

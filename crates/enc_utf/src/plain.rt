@@ -4,12 +4,12 @@
 ghost use Rattle.std.specs.Prelude.{◌≡◌, ◌+◌, ◌<◌, ◌≤◌, [], ◌∷◌, ◌++◌, length, take, drop, slice_index, IfOk, OnOk};
 ghost use Rattle.std.specs.Char.{encode_utf8};
 ghost use Rattle.enc_units.specs.Output.{units_of_text};
-ghost use Rattle.enc_machine.specs.Sequence.{is_malformed as malformed_kind, text_of, any_malformed};
+ghost use Rattle.enc_machine.specs.Sequence.{is_malformed as malformed_kind, sequence_text, any_malformed};
 ghost use Rattle.enc_machine.specs.Segmentation.{sequences_of};
-ghost use Rattle.enc_utf.specs.Utf8.{continuations as continuations_of, reach as reach_of, sequence_len as len_by_lead, scalar_of, utf_8_rule};
+ghost use Rattle.enc_utf.specs.Utf8.{continuations as continuations_of, well_formed_tail_len as reach_of, sequence_len as len_by_lead, scalar_of, utf_8_rule};
 
 use crate::utf_8::{
-    four_byte_char, is_continuation, is_second, sequence_len, three_byte_char, two_byte_char,
+    four_byte_char, is_continuation, is_second_byte, sequence_len, three_byte_char, two_byte_char,
 };
 use std::alloc::{AllocError, Global};
 
@@ -51,7 +51,7 @@ fn continuations(most: u8, bytes: &[u8]) -> u8
 }
 
 /// How many of the bytes after a lead byte begin a well-formed sequence with it.
-fn reach(lead: u8, after: &[u8]) -> u8
+fn well_formed_tail_len(lead: u8, after: &[u8]) -> u8
     ensures value { result ≡ reach_of lead after.now }
     ensures bound { result ≤ 3 }
 {
@@ -62,7 +62,7 @@ fn reach(lead: u8, after: &[u8]) -> u8
     match after.split_first() {
         None => 0,
         Some((second, rest)) => {
-            if !is_second(lead, *second) {
+            if !is_second_byte(lead, *second) {
                 return 0;
             }
             1 + continuations(len - 2, rest)
@@ -93,7 +93,7 @@ fn first_sequence(rest: &[u8]) -> Found
 {
     let lead = rest[0];
     let (_, after) = rest.split_at(1);
-    let more = reach(lead, after);
+    let more = well_formed_tail_len(lead, after);
     let len = more as usize + 1;
     if more + 1 == sequence_len(lead) {
         let character = character_of(lead, after);
@@ -122,7 +122,7 @@ fn append(text: &mut Vec<u8>, character: char) -> Result<(), AllocError>
 /// Decodes a whole input of UTF-8 (Encoding Standard 8.1.1). It fails only where memory does.
 pub fn decode_utf_8(alloc: Global, bytes: &[u8]) -> Result<PlainText, AllocError>
     ensures text { IfOk result (λ plain.
-        plain.text.items ≡ units_of_text encode_utf8 (text_of (sequences_of utf_8_rule 0 bytes.now))) }
+        plain.text.items ≡ units_of_text encode_utf8 (sequence_text (sequences_of utf_8_rule 0 bytes.now))) }
     ensures had_errors { IfOk result (λ plain. plain.had_errors ≡ any_malformed (sequences_of utf_8_rule 0 bytes.now)) }
 {
     let mut text = Vec::new(alloc);

@@ -1,12 +1,13 @@
 //! The UTF-16 codecs (Encoding Standard 14.2 to 14.4).
 
 ghost use Rattle.std.specs.Prelude.{◌≡◌, true, false, IsTrue};
-ghost use Rattle.enc_utf.specs.Utf16.{code_unit as unit_of, is_lead as begins_pair, is_trail as ends_pair, pair_scalar};
+ghost use Rattle.enc_utf.specs.Utf16.{code_unit as unit_of, is_lead_surrogate as begins_pair, is_trail_surrogate as ends_pair, pair_scalar};
 ghost use Rattle.enc_utf.specs.Utf16State.{with_pending, begins_with_lead, utf_16_state};
-ghost use Rattle.enc_machine.specs.CodecLaw.{Acts};
+ghost use Rattle.enc_machine.specs.CodecLaw.{HandlesByte};
 
 use enc_machine::{
-    ByteCodec, DecoderResult, Kind, Pending, RawDecoder, Shown, Step, Text, TextLengths, run,
+    ByteCodec, DecoderResult, Emission, HandlerResult, Kind, Pending, RawDecoder, Text,
+    TextLengths, run,
 };
 use enc_units::{Pieces, Units, put_run};
 use std::marker::Model;
@@ -57,16 +58,16 @@ fn code_unit(big_endian: bool, first: u8, second: u8) -> u16
 }
 
 /// Whether a code unit begins a surrogate pair.
-#[tactic(auto, unfolding(crate::specs::Utf16::is_lead))]
-fn is_lead(unit: u16) -> bool
+#[tactic(auto, unfolding(crate::specs::Utf16::is_lead_surrogate))]
+fn is_lead_surrogate(unit: u16) -> bool
     ensures { result ≡ begins_pair unit }
 {
     unit >= 0xD800 && unit <= 0xDBFF
 }
 
 /// Whether a code unit ends a surrogate pair.
-#[tactic(auto, unfolding(crate::specs::Utf16::is_trail))]
-fn is_trail(unit: u16) -> bool
+#[tactic(auto, unfolding(crate::specs::Utf16::is_trail_surrogate))]
+fn is_trail_surrogate(unit: u16) -> bool
     ensures { result ≡ ends_pair unit }
 {
     unit >= 0xDC00 && unit <= 0xDFFF
@@ -93,8 +94,8 @@ fn pair_char(lead: u16, trail: u16) -> char
 }
 
 /// A byte completes a character.
-fn valid(big_endian: bool, character: char, len: u8) -> Step<Utf16Decoder>
-    ensures { result ≡ Step.Show (record {
+fn valid(big_endian: bool, character: char, len: u8) -> HandlerResult<Utf16Decoder>
+    ensures { result ≡ HandlerResult.Emit (record {
       text = Text.One character;
       kind = Kind.Valid;
       len = len;
@@ -102,7 +103,7 @@ fn valid(big_endian: bool, character: char, len: u8) -> Step<Utf16Decoder>
       next = with_pending big_endian Pending.Nothing;
     }) }
 {
-    Step::Show(Shown {
+    HandlerResult::Emit(Emission {
         text: Text::One(character),
         kind: Kind::Valid,
         len,
@@ -112,7 +113,7 @@ fn valid(big_endian: bool, character: char, len: u8) -> Step<Utf16Decoder>
 }
 
 /// A malformed sequence, with the byte that shows it or before it.
-fn malformed(len: u8, takes_byte: bool, next: Utf16Decoder) -> Shown<Utf16Decoder>
+fn malformed(len: u8, takes_byte: bool, next: Utf16Decoder) -> Emission<Utf16Decoder>
     ensures { result ≡ record {
       text = Text.One 0xFFFD;
       kind = Kind.Malformed;
@@ -121,7 +122,7 @@ fn malformed(len: u8, takes_byte: bool, next: Utf16Decoder) -> Shown<Utf16Decode
       next = next;
     } }
 {
-    Shown {
+    Emission {
         text: Text::One('\u{FFFD}'),
         kind: Kind::Malformed,
         len,
@@ -130,64 +131,71 @@ fn malformed(len: u8, takes_byte: bool, next: Utf16Decoder) -> Shown<Utf16Decode
     }
 }
 
-fn step_first(big_endian: bool, byte: u8) -> Step<Utf16Decoder>
-    ensures { Acts utf_16_state (with_pending big_endian Pending.Nothing) byte result }
+fn step_first(big_endian: bool, byte: u8) -> HandlerResult<Utf16Decoder>
+    ensures { HandlesByte utf_16_state (with_pending big_endian Pending.Nothing) byte result }
 {
-    Step::Wait(Utf16Decoder {
+    HandlerResult::Continue(Utf16Decoder {
         big_endian,
         pending: Pending::One(byte),
     })
 }
 
-fn step_second(big_endian: bool, first: u8, byte: u8) -> Step<Utf16Decoder>
-    ensures { Acts utf_16_state (with_pending big_endian (Pending.One first)) byte result }
+fn step_second(big_endian: bool, first: u8, byte: u8) -> HandlerResult<Utf16Decoder>
+    ensures { HandlesByte utf_16_state (with_pending big_endian (Pending.One first)) byte result }
 {
     let unit = code_unit(big_endian, first, byte);
-    if is_lead(unit) {
-        Step::Wait(Utf16Decoder {
+    if is_lead_surrogate(unit) {
+        HandlerResult::Continue(Utf16Decoder {
             big_endian,
             pending: Pending::Two(first, byte),
         })
-    } else if is_trail(unit) {
-        Step::Show(malformed(2, true, Utf16Decoder::new(big_endian)))
+    } else if is_trail_surrogate(unit) {
+        HandlerResult::Emit(malformed(2, true, Utf16Decoder::new(big_endian)))
     } else {
         valid(big_endian, unit_char(unit), 2)
     }
 }
 
-fn step_third(big_endian: bool, first: u8, second: u8, byte: u8) -> Step<Utf16Decoder>
+fn step_third(big_endian: bool, first: u8, second: u8, byte: u8) -> HandlerResult<Utf16Decoder>
     requires { IsTrue (begins_with_lead big_endian (Pending.Two first second)) }
-    ensures { Acts utf_16_state (with_pending big_endian (Pending.Two first second)) byte result }
+    ensures { HandlesByte utf_16_state (with_pending big_endian (Pending.Two first second)) byte
+        result }
 {
-    Step::Wait(Utf16Decoder {
+    HandlerResult::Continue(Utf16Decoder {
         big_endian,
         pending: Pending::Three(first, second, byte),
     })
 }
 
 /// Where the second code unit ends no pair, it is left to be read anew.
-fn step_fourth(big_endian: bool, first: u8, second: u8, third: u8, byte: u8) -> Step<Utf16Decoder>
+fn step_fourth(
+    big_endian: bool,
+    first: u8,
+    second: u8,
+    third: u8,
+    byte: u8,
+) -> HandlerResult<Utf16Decoder>
     requires { IsTrue (begins_with_lead big_endian (Pending.Three first second third)) }
-    ensures { Acts utf_16_state (with_pending big_endian (Pending.Three first second third)) byte result }
+    ensures { HandlesByte utf_16_state (with_pending big_endian (Pending.Three first second third)) byte result }
 {
     let lead = code_unit(big_endian, first, second);
     let unit = code_unit(big_endian, third, byte);
-    if is_trail(unit) {
+    if is_trail_surrogate(unit) {
         valid(big_endian, pair_char(lead, unit), 4)
     } else {
         let next = Utf16Decoder {
             big_endian,
             pending: Pending::One(third),
         };
-        Step::Show(malformed(2, false, next))
+        HandlerResult::Emit(malformed(2, false, next))
     }
 }
 
 impl Pieces for Utf16Decoder {
     ghost use Rattle.enc_utf.specs.Utf16.{utf_16_rule};
-    ghost use Rattle.enc_machine.specs.Taking.{IsPiece};
+    ghost use Rattle.enc_machine.specs.Taking.{IsWholeChar};
 
-    ghost means = { λ d. IsPiece (utf_16_rule d.big_endian) 0 };
+    ghost means = { λ d. IsWholeChar (utf_16_rule d.big_endian) 0 };
 
     #[inline(always)]
     fn piece(self, src: &[u8], at: usize) -> Option<(char, usize)> {
@@ -196,17 +204,17 @@ impl Pieces for Utf16Decoder {
             return None;
         }
         let unit = code_unit(self.big_endian, src[at], src[at + 1]);
-        if is_trail(unit) {
+        if is_trail_surrogate(unit) {
             return None;
         }
-        if !is_lead(unit) {
+        if !is_lead_surrogate(unit) {
             return Some((unit_char(unit), 2));
         }
         if left < 4 {
             return None;
         }
         let trail = code_unit(self.big_endian, src[at + 2], src[at + 3]);
-        if !is_trail(trail) {
+        if !is_trail_surrogate(trail) {
             return None;
         }
         Some((pair_char(unit, trail), 4))
@@ -235,7 +243,7 @@ impl ByteCodec for Utf16Decoder {
         }
     }
 
-    fn next_step(self, byte: u8) -> Step<Utf16Decoder> {
+    fn next_step(self, byte: u8) -> HandlerResult<Utf16Decoder> {
         match self.pending {
             Pending::Nothing => step_first(self.big_endian, byte),
             Pending::One(first) => step_second(self.big_endian, first, byte),
@@ -246,12 +254,12 @@ impl ByteCodec for Utf16Decoder {
         }
     }
 
-    fn ready(self) -> Option<Shown<Utf16Decoder>> {
+    fn ready(self) -> Option<Emission<Utf16Decoder>> {
         let _pending = self.pending;
         None
     }
 
-    fn at_end(self) -> Option<Shown<Utf16Decoder>> {
+    fn at_end(self) -> Option<Emission<Utf16Decoder>> {
         match self.pending {
             Pending::Nothing => None,
             _ => Some(malformed(self.held(), false, Utf16Decoder::new(self.big_endian))),

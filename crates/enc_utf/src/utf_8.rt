@@ -1,13 +1,13 @@
 //! The UTF-8 codec (Encoding Standard 8.1.1).
 
 ghost use Rattle.std.specs.Prelude.{◌≡◌, ◌<◌, [], ◌∷◌, true, false, IsTrue};
-ghost use Rattle.enc_utf.specs.Utf8.{sequence_len as len_by_lead, is_second as second_follows, is_continuation as continues, scalar_of};
-ghost use Rattle.enc_utf.specs.Utf8State.{wants_more, utf_8_state};
-ghost use Rattle.enc_machine.specs.CodecLaw.{Acts};
+ghost use Rattle.enc_utf.specs.Utf8.{sequence_len as len_by_lead, is_second_byte as second_follows, is_continuation as continues, scalar_of};
+ghost use Rattle.enc_utf.specs.Utf8State.{is_incomplete, utf_8_state};
+ghost use Rattle.enc_machine.specs.CodecLaw.{HandlesByte};
 
 use enc_machine::{
-    ByteCodec, DecoderResult, Kind, Pending, RawDecoder, Shown, Step, Text, TextLengths,
-    latin1_up_to, run,
+    ByteCodec, DecoderResult, Emission, HandlerResult, Kind, Pending, RawDecoder, Text,
+    TextLengths, latin1_up_to, run,
 };
 use enc_units::Units;
 use std::marker::Model;
@@ -21,13 +21,13 @@ pub struct Utf8Decoder {
 impl Model for Utf8Decoder {
     ghost use Rattle.std.specs.Prelude.{IsTrue};
     ghost use Rattle.enc_machine.specs.declared.pending.Pending.{Pending};
-    ghost use Rattle.enc_utf.specs.Utf8State.{wants_more};
+    ghost use Rattle.enc_utf.specs.Utf8State.{is_incomplete};
 
     ghost Value = { Pending };
 
     ghost view = { λ d. d.pending };
 
-    ghost invariant = { λ d. IsTrue (wants_more d.pending) };
+    ghost invariant = { λ d. IsTrue (is_incomplete d.pending) };
 
     ghost inverse = { λ p. record { pending = p } };
 }
@@ -59,8 +59,8 @@ pub fn sequence_len(lead: u8) -> u8
 }
 
 /// Whether a byte may follow a lead byte.
-#[tactic(auto, unfolding(crate::specs::Utf8::is_second))]
-pub fn is_second(lead: u8, byte: u8) -> bool
+#[tactic(auto, unfolding(crate::specs::Utf8::is_second_byte))]
+pub fn is_second_byte(lead: u8, byte: u8) -> bool
     ensures { result ≡ second_follows lead byte }
 {
     let lower = match lead {
@@ -121,8 +121,8 @@ pub fn four_byte_char(first: u8, second: u8, third: u8, fourth: u8) -> char
 }
 
 /// A byte completes a character.
-fn valid(character: char, len: u8) -> Step<Utf8Decoder>
-    ensures { result ≡ Step.Show (record {
+fn valid(character: char, len: u8) -> HandlerResult<Utf8Decoder>
+    ensures { result ≡ HandlerResult.Emit (record {
       text = Text.One character;
       kind = Kind.Valid;
       len = len;
@@ -130,7 +130,7 @@ fn valid(character: char, len: u8) -> Step<Utf8Decoder>
       next = Pending.Nothing;
     }) }
 {
-    Step::Show(Shown {
+    HandlerResult::Emit(Emission {
         text: Text::One(character),
         kind: Kind::Valid,
         len,
@@ -140,7 +140,7 @@ fn valid(character: char, len: u8) -> Step<Utf8Decoder>
 }
 
 /// A malformed sequence, with the byte that shows it or before it.
-fn malformed(len: u8, takes_byte: bool) -> Shown<Utf8Decoder>
+fn malformed(len: u8, takes_byte: bool) -> Emission<Utf8Decoder>
     ensures { result ≡ record {
       text = Text.One 0xFFFD;
       kind = Kind.Malformed;
@@ -149,7 +149,7 @@ fn malformed(len: u8, takes_byte: bool) -> Shown<Utf8Decoder>
       next = Pending.Nothing;
     } }
 {
-    Shown {
+    Emission {
         text: Text::One('\u{FFFD}'),
         kind: Kind::Malformed,
         len,
@@ -158,54 +158,54 @@ fn malformed(len: u8, takes_byte: bool) -> Shown<Utf8Decoder>
     }
 }
 
-fn step_first(byte: u8) -> Step<Utf8Decoder>
-    ensures { Acts utf_8_state Pending.Nothing byte result }
+fn step_first(byte: u8) -> HandlerResult<Utf8Decoder>
+    ensures { HandlesByte utf_8_state Pending.Nothing byte result }
 {
     match sequence_len(byte) {
-        0 => Step::Show(malformed(1, true)),
+        0 => HandlerResult::Emit(malformed(1, true)),
         1 => valid(byte as char, 1),
-        _ => Step::Wait(Utf8Decoder {
+        _ => HandlerResult::Continue(Utf8Decoder {
             pending: Pending::One(byte),
         }),
     }
 }
 
-fn step_second(first: u8, byte: u8) -> Step<Utf8Decoder>
-    requires { IsTrue (wants_more (Pending.One first)) }
-    ensures { Acts utf_8_state (Pending.One first) byte result }
+fn step_second(first: u8, byte: u8) -> HandlerResult<Utf8Decoder>
+    requires { IsTrue (is_incomplete (Pending.One first)) }
+    ensures { HandlesByte utf_8_state (Pending.One first) byte result }
 {
-    if !is_second(first, byte) {
-        Step::Show(malformed(1, false))
+    if !is_second_byte(first, byte) {
+        HandlerResult::Emit(malformed(1, false))
     } else if sequence_len(first) == 2 {
         valid(two_byte_char(first, byte), 2)
     } else {
-        Step::Wait(Utf8Decoder {
+        HandlerResult::Continue(Utf8Decoder {
             pending: Pending::Two(first, byte),
         })
     }
 }
 
-fn step_third(first: u8, second: u8, byte: u8) -> Step<Utf8Decoder>
-    requires { IsTrue (wants_more (Pending.Two first second)) }
-    ensures { Acts utf_8_state (Pending.Two first second) byte result }
+fn step_third(first: u8, second: u8, byte: u8) -> HandlerResult<Utf8Decoder>
+    requires { IsTrue (is_incomplete (Pending.Two first second)) }
+    ensures { HandlesByte utf_8_state (Pending.Two first second) byte result }
 {
     if !is_continuation(byte) {
-        Step::Show(malformed(2, false))
+        HandlerResult::Emit(malformed(2, false))
     } else if sequence_len(first) == 3 {
         valid(three_byte_char(first, second, byte), 3)
     } else {
-        Step::Wait(Utf8Decoder {
+        HandlerResult::Continue(Utf8Decoder {
             pending: Pending::Three(first, second, byte),
         })
     }
 }
 
-fn step_fourth(first: u8, second: u8, third: u8, byte: u8) -> Step<Utf8Decoder>
-    requires { IsTrue (wants_more (Pending.Three first second third)) }
-    ensures { Acts utf_8_state (Pending.Three first second third) byte result }
+fn step_fourth(first: u8, second: u8, third: u8, byte: u8) -> HandlerResult<Utf8Decoder>
+    requires { IsTrue (is_incomplete (Pending.Three first second third)) }
+    ensures { HandlesByte utf_8_state (Pending.Three first second third) byte result }
 {
     if !is_continuation(byte) {
-        Step::Show(malformed(3, false))
+        HandlerResult::Emit(malformed(3, false))
     } else {
         valid(four_byte_char(first, second, third, byte), 4)
     }
@@ -224,7 +224,7 @@ impl ByteCodec for Utf8Decoder {
         }
     }
 
-    fn next_step(self, byte: u8) -> Step<Utf8Decoder> {
+    fn next_step(self, byte: u8) -> HandlerResult<Utf8Decoder> {
         match self.pending {
             Pending::Nothing => step_first(byte),
             Pending::One(first) => step_second(first, byte),
@@ -233,12 +233,12 @@ impl ByteCodec for Utf8Decoder {
         }
     }
 
-    fn ready(self) -> Option<Shown<Utf8Decoder>> {
+    fn ready(self) -> Option<Emission<Utf8Decoder>> {
         let _pending = self.pending;
         None
     }
 
-    fn at_end(self) -> Option<Shown<Utf8Decoder>> {
+    fn at_end(self) -> Option<Emission<Utf8Decoder>> {
         match self.pending {
             Pending::Nothing => None,
             _ => Some(malformed(self.held(), false)),

@@ -11,7 +11,7 @@ use Rattle.std.proofs.lemmas.Str.{chars_from_encodes, IsUtf8-nil, chars-append, 
 use Rattle.std.specs.Char.{encode_utf8}
 use Rattle.std.specs.Str.{IsUtf8, IsCharBoundary, encode_utf8_all}
 use Rattle.enc_units.specs.Output.{units_of_text}
-use Rattle.encoding_rs.specs.Run.{units_by}
+use Rattle.encoding_rs.specs.Run.{units_of_call}
 
 -- what is left of a text behind so many characters
 pub record IsBehind (text rest : List ℕ) (count : ℕ) : Type 0 where
@@ -130,7 +130,7 @@ cut_at_end text rest found reached count b e l n =
     let it = subst (λ (x : List ℕ). IsBehind text x reached) (sym e) b in
     record { reached = reached; behind = it; chars = at_end text found reached count it (ap length e ∙ n) l }
 
-pub some_units : (utf16 : Bool) (c : ℕ) → 1 ≤ length (units_by utf16 c)
+pub some_units : (utf16 : Bool) (c : ℕ) → 1 ≤ length (units_of_call utf16 c)
 some_units false c = omega (arith, length-encode c, len_utf8_bounds c)
 some_units true c = some_of (nat_lt c 0x1_0000)
   where

@@ -11,44 +11,44 @@ use Rattle.std.specs.Str.{IsUtf8, encode_utf8_all}
 use Rattle.enc_encoders.specs.declared.character_set.CharacterSet.TheVariants.{Ascii}
 use Rattle.enc_encoders.specs.declared.encoder_result.EncoderResult.{EncoderResult}
 use Rattle.enc_encoders.specs.declared.encoder_result.EncoderResult.TheVariants.{InputEmpty, OutputFull, Unmappable}
-use Rattle.enc_encoders.specs.EncoderRule.{EncoderRule, RawState, IsLawful}
-use Rattle.enc_encoders.specs.Steps.{Step, chars_of, any_reported}
+use Rattle.enc_encoders.specs.EncoderRule.{EncoderRule, RawEncoderState, IsLawfulEncoderRule}
+use Rattle.enc_encoders.specs.Steps.{Step, step_chars, any_reported}
 use Rattle.enc_encoders.specs.Text.{escape_at_end, bytes_of_text, with_references, reference_after}
-use Rattle.enc_encoders.specs.Call.{Stops}
+use Rattle.enc_encoders.specs.Call.{EncoderStops}
 use Rattle.enc_encoders.proofs.StepLemmas.{any_reported-append}
 use Rattle.enc_encoders.proofs.TextLemmas.{parted}
-use Rattle.enc_references.specs.Treatment.{Treatment, Reported, Replaced, is_replaced, CallBy, StopsBy}
+use Rattle.enc_references.specs.ErrorMode.{EncodeErrorMode, Fatal, Html, is_html_mode, EncoderCallInMode, StopsInMode}
 use Rattle.enc_references.specs.Unmappable.{any_unmappable, reports_of}
 use Rattle.enc_references.proofs.UnmappableLemmas.{reports_by, reports_in, reports_in-append, any_reported_is, reports_are, any_unmappable-append, reports_of-append}
 use Rattle.encoding_rs.specs.declared.encoding.Encoding.{Encoding}
 use Rattle.encoding_rs.specs.declared.encode_run.EncodeCall.{EncodeCall}
 use Rattle.encoding_rs.specs.Encodings.{output_rule}
-use Rattle.encoding_rs.specs.Encoder.{EncoderState, kept_in, fresh_encoder, raw_state, Encodes}
+use Rattle.encoding_rs.specs.Encoder.{EncoderState, room_kept_for_references, fresh_encoder, raw_state, EncodesChunk}
 use Rattle.enc_units.specs.Output.{units_of_text}
-use Rattle.encoding_rs.specs.Run.{units_by}
+use Rattle.encoding_rs.specs.Run.{units_of_call}
 use Rattle.enc_machine.proofs.SequenceLemmas.{or_false}
 use Rattle.encoding_rs.proofs.ReferenceLemmas.{lawful_of}
-use Rattle.encoding_rs.proofs.ProgressLemmas.{output_rule_is}
-use Rattle.encoding_rs.proofs.RunLemmas.{map-one, first_flag, rest_flags, no_flags, reaches}
-use Rattle.encoding_rs.specs.EncodeRun.{treatment_by, report_of, is_report, is_empty, MakesCall, EncodeState, encode_start, GoesOn, IsEncodeRun, whole_bytes, EncodePart, chars_in, reported_in, all_report, HasEncoded}
+use Rattle.encoding_rs.proofs.EncoderProgressLemmas.{output_rule_is}
+use Rattle.encoding_rs.proofs.DecodeRunLemmas.{map-one, first_flag, rest_flags, no_flags, reaches}
+use Rattle.encoding_rs.specs.EncodeRun.{encode_error_mode, reported_character, is_unmappable_result, is_input_empty_result, MakesEncodeCall, EncodeRunState, encode_run_start, EncodeRunAdvances, IsEncodeRun, whole_bytes, EncodeRunPart, chars_of_parts, reports_of_parts, all_report_unmappable, HasRunEncoding}
 
 -- an empty text has no bytes
-nothing_of : (e : EncoderRule) → IsLawful e → bytes_of_text e Ascii [] ≡ []
+nothing_of : (e : EncoderRule) → IsLawfulEncoderRule e → bytes_of_text e Ascii [] ≡ []
 nothing_of e l = ap escape_at_end (l.set_after_none Ascii)
 
 -- What the calls of a run have come to: what is written, and what is still to come.
-pub record Written (b : List ℕ) (e : Encoding) (text : List ℕ) (calls : List EncodeCall) (s : EncodeState) : Type 0 where
-  pub parts : List EncodePart
+pub record Written (b : List ℕ) (e : Encoding) (text : List ℕ) (calls : List EncodeCall) (s : EncodeRunState) : Type 0 where
+  pub parts : List EncodeRunPart
   pub rule : (raw_state s.encoder).rule ≡ output_rule b e
-  pub chars : text ≡ chars_in parts ++ drop s.read text
-  pub count : s.read ≡ length (chars_in parts)
-  pub calls_are : map (λ (p : EncodePart). p.replaces) parts ≡ map (λ (c : EncodeCall). c.replace) calls
+  pub chars : text ≡ chars_of_parts parts ++ drop s.read text
+  pub count : s.read ≡ length (chars_of_parts parts)
+  pub calls_are : map (λ (p : EncodeRunPart). p.replaces) parts ≡ map (λ (c : EncodeCall). c.replace) calls
   pub bytes : whole_bytes b e text ≡ s.bytes ++ bytes_of_text (raw_state s.encoder).rule s.encoder.set (with_references (raw_state s.encoder).rule (drop s.read text))
-  pub reported : s.unmappables ≡ reported_in (output_rule b e) parts
-  pub flag : s.had_unmappables ≡ any_unmappable (output_rule b e) (chars_in parts)
+  pub reported : s.unmappables ≡ reports_of_parts (output_rule b e) parts
+  pub flag : s.had_unmappables ≡ any_unmappable (output_rule b e) (chars_of_parts parts)
   pub ended : s.finished ≡ true → (drop s.read text ≡ []) × (s.encoder.set ≡ Ascii)
 
-pub start : (b : List ℕ) (e : Encoding) (text : List ℕ) → Written b e text [] (encode_start b e)
+pub start : (b : List ℕ) (e : Encoding) (text : List ℕ) → Written b e text [] (encode_run_start b e)
 start b e text =
     let same : output_rule b e ≡ (raw_state (fresh_encoder b e)).rule = sym (output_rule_is b e) in
     record {
@@ -65,17 +65,19 @@ start b e text =
 
 -- one part more
 
-chars_in-one : (ps : List EncodePart) (p : EncodePart) → chars_in (ps ++ p ∷ []) ≡ chars_in ps ++ p.chars
-chars_in-one [] p = append-nil p.chars
-chars_in-one (q ∷ ps) p = ap (λ x. q.chars ++ x) (chars_in-one ps p) ∙ sym (append_assoc q.chars (chars_in ps) p.chars)
+chars_of_parts-one : (ps : List EncodeRunPart) (p : EncodeRunPart)
+    → chars_of_parts (ps ++ p ∷ []) ≡ chars_of_parts ps ++ p.chars
+chars_of_parts-one [] p = append-nil p.chars
+chars_of_parts-one (q ∷ ps) p = ap (λ x. q.chars ++ x) (chars_of_parts-one ps p)
+    ∙ sym (append_assoc q.chars (chars_of_parts ps) p.chars)
 
-abbrev reported_by : EncoderRule → EncodePart → List ℕ
+abbrev reported_by : EncoderRule → EncodeRunPart → List ℕ
 reported_by rule p = if p.replaces then [] else reports_of rule p.chars
 
-reported_in-one : (rule : EncoderRule) (ps : List EncodePart) (p : EncodePart) → reported_in rule (ps ++ p ∷ []) ≡ reported_in rule ps ++ reported_by rule p
-reported_in-one rule [] p = append-nil (reported_by rule p)
-reported_in-one rule (q ∷ ps) p =
-    ap (λ x. reported_by rule q ++ x) (reported_in-one rule ps p) ∙ sym (append_assoc (reported_by rule q) (reported_in rule ps) (reported_by rule p))
+reports_of_parts-one : (rule : EncoderRule) (ps : List EncodeRunPart) (p : EncodeRunPart) → reports_of_parts rule (ps ++ p ∷ []) ≡ reports_of_parts rule ps ++ reported_by rule p
+reports_of_parts-one rule [] p = append-nil (reported_by rule p)
+reports_of_parts-one rule (q ∷ ps) p =
+    ap (λ x. reported_by rule q ++ x) (reports_of_parts-one rule ps p) ∙ sym (append_assoc (reported_by rule q) (reports_of_parts rule ps) (reported_by rule p))
 
 -- what a call has reported
 
@@ -89,8 +91,8 @@ one_in : (r : Option ℕ) (c : ℕ) → r ≡ Some c → reports_by r ≡ c ∷ 
 one_in r c e = ap reports_by e
 
 -- the steps of a call without replacement
-report_is : (new : RawState) (rest : List ℕ) (last : Bool) (room : ℕ) (done : List Step) (result : EncoderResult) → Stops new rest last room done result
-    → (report_of result ≡ reports_in done) × (is_report result ≡ any_reported done)
+report_is : (new : RawEncoderState) (rest : List ℕ) (last : Bool) (room : ℕ) (done : List Step) (result : EncoderResult) → EncoderStops new rest last room done result
+    → (reported_character result ≡ reports_in done) × (is_unmappable_result result ≡ any_reported done)
 report_is new rest last room done InputEmpty s = (sym (none_in done s.none_reported), sym s.none_reported)
 report_is new rest last room done OutputFull s = (sym (none_in done s.none_reported), sym s.none_reported)
 report_is new rest last room done (Unmappable c) s =
@@ -102,33 +104,33 @@ report_is new rest last room done (Unmappable c) s =
     )
 
 -- the steps of a call with replacement
-none_told : (kept : ℕ) (new : RawState) (rest : List ℕ) (last : Bool) (room : ℕ) (done : List Step) (result : EncoderResult) → StopsBy (Replaced kept) new rest last room done result
-    → (report_of result ≡ []) × (is_report result ≡ false)
+none_told : (kept : ℕ) (new : RawEncoderState) (rest : List ℕ) (last : Bool) (room : ℕ) (done : List Step) (result : EncoderResult) → StopsInMode (Html kept) new rest last room done result
+    → (reported_character result ≡ []) × (is_unmappable_result result ≡ false)
 none_told kept new rest last room done InputEmpty s = (refl, refl)
 none_told kept new rest last room done OutputFull s = (refl, refl)
 none_told kept new rest last room done (Unmappable c) s = absurd s
 
 -- what a call tells of unmappable characters, by its steps
-tells : (replace : Bool) (v : EncoderState) (new : RawState) (rest : List ℕ) (last : Bool) (room : ℕ) (done : List Step) (result : EncoderResult) (replaced : Bool)
-    → replaced ≡ (is_replaced (treatment_by replace v) && any_reported done) → StopsBy (treatment_by replace v) new rest last room done result
-    → (report_of result ≡ (if replace then [] else reports_in done)) × ((replaced || is_report result) ≡ any_reported done)
+tells : (replace : Bool) (v : EncoderState) (new : RawEncoderState) (rest : List ℕ) (last : Bool) (room : ℕ) (done : List Step) (result : EncoderResult) (replaced : Bool)
+    → replaced ≡ (is_html_mode (encode_error_mode replace v) && any_reported done) → StopsInMode (encode_error_mode replace v) new rest last room done result
+    → (reported_character result ≡ (if replace then [] else reports_in done)) × ((replaced || is_unmappable_result result) ≡ any_reported done)
 tells true v new rest last room done result replaced f s =
-    let none = none_told (kept_in v.barred v.encoding) new rest last room done result s in
+    let none = none_told (room_kept_for_references v.barred v.encoding) new rest last room done result s in
     (none.0, ap (λ b. replaced || b) none.1 ∙ or_false replaced ∙ f)
 tells false v new rest last room done result replaced f s =
     let told = report_is new rest last room done result s in
-    (told.0, ap (λ b. b || is_report result) f ∙ told.1)
+    (told.0, ap (λ b. b || is_unmappable_result result) f ∙ told.1)
 
 -- where a call has ended the text, nothing is left
-pub left_nothing : (treatment : Treatment) (new : RawState) (rest : List ℕ) (last : Bool) (room : ℕ) (done : List Step) (result : EncoderResult) → StopsBy treatment new rest last room done result
-    → is_empty result ≡ true → rest ≡ []
-left_nothing Reported new rest last room done InputEmpty s e = s.all_read
-left_nothing (Replaced kept) new [] last room done InputEmpty s e = refl
-left_nothing (Replaced kept) new (c ∷ t) last room done InputEmpty s e = absurd (true≢false (sym s))
-left_nothing treatment new rest last room done OutputFull s e = absurd (true≢false (sym e))
-left_nothing treatment new rest last room done (Unmappable c) s e = absurd (true≢false (sym e))
+pub left_nothing : (mode : EncodeErrorMode) (new : RawEncoderState) (rest : List ℕ) (last : Bool) (room : ℕ) (done : List Step) (result : EncoderResult) → StopsInMode mode new rest last room done result
+    → is_input_empty_result result ≡ true → rest ≡ []
+left_nothing Fatal new rest last room done InputEmpty s e = s.all_read
+left_nothing (Html kept) new [] last room done InputEmpty s e = refl
+left_nothing (Html kept) new (c ∷ t) last room done InputEmpty s e = absurd (true≢false (sym s))
+left_nothing mode new rest last room done OutputFull s e = absurd (true≢false (sym e))
+left_nothing mode new rest last room done (Unmappable c) s e = absurd (true≢false (sym e))
 
-is_empty_is : (result : EncoderResult) → is_empty result ≡ true → result ≡ InputEmpty
+is_empty_is : (result : EncoderResult) → is_input_empty_result result ≡ true → result ≡ InputEmpty
 is_empty_is InputEmpty e = refl
 is_empty_is OutputFull e = absurd (true≢false (sym e))
 is_empty_is (Unmappable c) e = absurd (true≢false (sym e))
@@ -138,22 +140,22 @@ pub nothing_later : (unread : List ℕ) (offer : ℕ) → nat_le (length unread)
 nothing_later unread offer l = drop_of_length-le unread (reaches (length unread) offer l)
 
 module _ (made : EncodeCall) (old new : EncoderState) (unread before after : List ℕ) (result : EncoderResult) (more : ℕ) (replaced : Bool)
-    (call : MakesCall made old new unread before after result more replaced) where
+    (call : MakesEncodeCall made old new unread before after result more replaced) where
   -- the characters that a call has read, and those behind them
-  unread_in : unread ≡ chars_of call.encodes.call.done ++ (call.encodes.rest ++ drop made.offer unread)
+  unread_in : unread ≡ step_chars call.encodes.call.done ++ (call.encodes.rest ++ drop made.offer unread)
   unread_in =
       sym (take-append-drop made.offer unread) ∙ ap (λ t. t ++ drop made.offer unread) call.encodes.call.reads
-      ∙ append_assoc (chars_of call.encodes.call.done) call.encodes.rest (drop made.offer unread)
+      ∙ append_assoc (step_chars call.encodes.call.done) call.encodes.rest (drop made.offer unread)
 
   pub behind_call : drop more unread ≡ call.encodes.rest ++ drop made.offer unread
   behind_call =
-      ap (λ n. drop n unread) call.chars ∙ ap (drop (length (chars_of call.encodes.call.done))) unread_in
-      ∙ drop-append_seam (chars_of call.encodes.call.done) (call.encodes.rest ++ drop made.offer unread)
+      ap (λ n. drop n unread) call.chars ∙ ap (drop (length (step_chars call.encodes.call.done))) unread_in
+      ∙ drop-append_seam (step_chars call.encodes.call.done) (call.encodes.rest ++ drop made.offer unread)
 
 -- One call more.
-module _ (b : List ℕ) (e : Encoding) (text : List ℕ) (calls : List EncodeCall) (s : EncodeState) (w : Written b e text calls s) (made : EncodeCall) (new : EncoderState) (after : List ℕ)
-    (result : EncoderResult) (more : ℕ) (replaced : Bool) (call : MakesCall made s.encoder new (drop s.read text) s.bytes after result more replaced) where
-  abbrev raw : CallBy (units_by made.utf16) (treatment_by made.replace s.encoder) (raw_state s.encoder) (raw_state new) (take made.offer (drop s.read text)) call.encodes.rest
+module _ (b : List ℕ) (e : Encoding) (text : List ℕ) (calls : List EncodeCall) (s : EncodeRunState) (w : Written b e text calls s) (made : EncodeCall) (new : EncoderState) (after : List ℕ)
+    (result : EncoderResult) (more : ℕ) (replaced : Bool) (call : MakesEncodeCall made s.encoder new (drop s.read text) s.bytes after result more replaced) where
+  abbrev raw : EncoderCallInMode (units_of_call made.utf16) (encode_error_mode made.replace s.encoder) (raw_state s.encoder) (raw_state new) (take made.offer (drop s.read text)) call.encodes.rest
       (nat_le (length (drop s.read text)) made.offer) made.room result call.units call.wrote replaced
   raw = call.encodes.call
 
@@ -163,7 +165,7 @@ module _ (b : List ℕ) (e : Encoding) (text : List ℕ) (calls : List EncodeCal
   abbrev later : List ℕ
   later = drop made.offer unread
 
-  unread_is : unread ≡ chars_of raw.done ++ (call.encodes.rest ++ later)
+  unread_is : unread ≡ step_chars raw.done ++ (call.encodes.rest ++ later)
   unread_is = unread_in made s.encoder new unread s.bytes after result more replaced call
 
   pub behind : drop (s.read + more) text ≡ call.encodes.rest ++ later
@@ -184,23 +186,23 @@ module _ (b : List ℕ) (e : Encoding) (text : List ℕ) (calls : List EncodeCal
       tail : List ℕ
       tail = bytes_of_text (raw_state new).rule new.set (with_references (raw_state new).rule (drop (s.read + more) text))
 
-  told : (report_of result ≡ (if made.replace then [] else reports_in raw.done)) × ((replaced || is_report result) ≡ any_reported raw.done)
+  told : (reported_character result ≡ (if made.replace then [] else reports_in raw.done)) × ((replaced || is_unmappable_result result) ≡ any_reported raw.done)
   told = tells made.replace s.encoder (raw_state new) call.encodes.rest (nat_le (length unread) made.offer) made.room raw.done result replaced raw.flag raw.stops
 
-  abbrev part : EncodePart
-  part = record { replaces = made.replace; chars = chars_of raw.done }
+  abbrev part : EncodeRunPart
+  part = record { replaces = made.replace; chars = step_chars raw.done }
 
-  reports : report_of result ≡ reported_by (output_rule b e) part
+  reports : reported_character result ≡ reported_by (output_rule b e) part
   reports =
       told.0 ∙ ap (λ t. if made.replace then [] else t) (reports_are (raw_state s.encoder) (raw_state new) _ call.encodes.rest _ raw.done raw.reads raw.rule raw.remaining
-      ∙ ap (λ r. reports_of r (chars_of raw.done)) w.rule)
+      ∙ ap (λ r. reports_of r (step_chars raw.done)) w.rule)
 
-  any : (replaced || is_report result) ≡ any_unmappable (output_rule b e) (chars_of raw.done)
+  any : (replaced || is_unmappable_result result) ≡ any_unmappable (output_rule b e) (step_chars raw.done)
   any =
       told.1 ∙ any_reported_is (raw_state s.encoder) (raw_state new) _ call.encodes.rest _ raw.done raw.reads raw.rule raw.remaining
-      ∙ ap (λ r. any_unmappable r (chars_of raw.done)) w.rule
+      ∙ ap (λ r. any_unmappable r (step_chars raw.done)) w.rule
 
-  ends : (nat_le (length unread) made.offer && is_empty result) ≡ true → (drop (s.read + more) text ≡ []) × (new.set ≡ Ascii)
+  ends : (nat_le (length unread) made.offer && is_input_empty_result result) ≡ true → (drop (s.read + more) text ≡ []) × (new.set ≡ Ascii)
   ends f =
       let both = and_parts _ _ f in
       let none = left_nothing _ (raw_state new) call.encodes.rest _ made.room raw.done result raw.stops both.1 in
@@ -210,42 +212,44 @@ module _ (b : List ℕ) (e : Encoding) (text : List ℕ) (calls : List EncodeCal
     encoder = new;
     read = s.read + more;
     bytes = after;
-    unmappables = s.unmappables ++ report_of result;
-    had_unmappables = s.had_unmappables || (replaced || is_report result);
-    finished = nat_le (length (drop s.read text)) made.offer && is_empty result;
+    unmappables = s.unmappables ++ reported_character result;
+    had_unmappables = s.had_unmappables || (replaced || is_unmappable_result result);
+    finished = nat_le (length (drop s.read text)) made.offer && is_input_empty_result result;
   })
   written_on = record {
     parts = w.parts ++ part ∷ [];
     rule = kept_rule ∙ w.rule;
-    chars = w.chars ∙ ap (λ t. chars_in w.parts ++ t) (unread_is ∙ ap (λ t. chars_of raw.done ++ t) (sym behind))
-        ∙ sym (append_assoc (chars_in w.parts) (chars_of raw.done) (drop (s.read + more) text)) ∙ ap (λ t. t ++ drop (s.read + more) text) (sym (chars_in-one w.parts part));
-    count = omega (arith, w.count, call.chars, ap length (chars_in-one w.parts part), length-append (chars_in w.parts) (chars_of raw.done));
-    calls_are = map-one (λ (p : EncodePart). p.replaces) w.parts part ∙ ap (λ x. x ++ made.replace ∷ []) w.calls_are ∙ sym (map-one (λ (c : EncodeCall). c.replace) calls made);
+    chars = w.chars
+        ∙ ap (λ t. chars_of_parts w.parts ++ t) (unread_is ∙ ap (λ t. step_chars raw.done ++ t) (sym behind))
+        ∙ sym (append_assoc (chars_of_parts w.parts) (step_chars raw.done) (drop (s.read + more) text)) ∙ ap (λ t. t ++ drop (s.read + more) text) (sym (chars_of_parts-one w.parts part));
+    count = omega (arith, w.count, call.chars, ap length (chars_of_parts-one w.parts part), length-append (chars_of_parts w.parts) (step_chars raw.done));
+    calls_are = map-one (λ (p : EncodeRunPart). p.replaces) w.parts part ∙ ap (λ x. x ++ made.replace ∷ []) w.calls_are ∙ sym (map-one (λ (c : EncodeCall). c.replace) calls made);
     bytes = written;
-    reported = ap (λ x. x ++ report_of result) w.reported ∙ ap (λ x. reported_in (output_rule b e) w.parts ++ x) reports ∙ sym (reported_in-one (output_rule b e) w.parts part);
-    flag = ap (λ t. t || (replaced || is_report result)) w.flag ∙ ap (λ t. any_unmappable (output_rule b e) (chars_in w.parts) || t) any
-        ∙ sym (any_unmappable-append (output_rule b e) (chars_in w.parts) (chars_of raw.done)) ∙ ap (any_unmappable (output_rule b e)) (sym (chars_in-one w.parts part));
+    reported = ap (λ x. x ++ reported_character result) w.reported ∙ ap (λ x. reports_of_parts (output_rule b e) w.parts ++ x) reports ∙ sym (reports_of_parts-one (output_rule b e) w.parts part);
+    flag = ap (λ t. t || (replaced || is_unmappable_result result)) w.flag ∙ ap (λ t. any_unmappable (output_rule b e) (chars_of_parts w.parts) || t) any
+        ∙ sym (any_unmappable-append (output_rule b e) (chars_of_parts w.parts) (step_chars raw.done)) ∙ ap (any_unmappable (output_rule b e)) (sym (chars_of_parts-one w.parts part));
     ended = ends;
   }
 
 -- the calls of a run, and one more
-runs_on : (text : List ℕ) (calls : List EncodeCall) (made : EncodeCall) (a b c : EncodeState) → IsEncodeRun text calls a b → GoesOn text made b c → IsEncodeRun text (calls ++ made ∷ []) a c
-runs_on text [] made a b c r g = (c, subst (λ (x : EncodeState). GoesOn text made x c) (sym r) g, refl)
+runs_on : (text : List ℕ) (calls : List EncodeCall) (made : EncodeCall) (a b c : EncodeRunState) → IsEncodeRun text calls a b → EncodeRunAdvances text made b c → IsEncodeRun text (calls ++ made ∷ []) a c
+runs_on text [] made a b c r g = (c, subst (λ (x : EncodeRunState). EncodeRunAdvances text made x c) (sym r) g, refl)
 runs_on text (call ∷ calls) made a b c r g = (r.0, r.1, runs_on text calls made r.0 b c r.2 g)
 
 -- the same, for the calls of a list
-pub runs_next : (text : List ℕ) (calls : List EncodeCall) (n k : ℕ) (d : EncodeCall) (a b c : EncodeState) → n ≡ k → k < length calls → IsEncodeRun text (take n calls) a b
-    → GoesOn text (get_or calls k d) b c → IsEncodeRun text (take (n + 1) calls) a c
+pub runs_next : (text : List ℕ) (calls : List EncodeCall) (n k : ℕ) (d : EncodeCall) (a b c : EncodeRunState) → n ≡ k → k < length calls → IsEncodeRun text (take n calls) a b
+    → EncodeRunAdvances text (get_or calls k d) b c → IsEncodeRun text (take (n + 1) calls) a c
 runs_next text calls n k d a b c e h r g =
     subst (λ (x : List EncodeCall). IsEncodeRun text x a c) (sym (take_more calls n d (rw e h)))
-    (runs_on text (take n calls) (get_or calls n d) a b c r (subst (λ i. GoesOn text (get_or calls i d) b c) (sym e) g))
+    (runs_on text (take n calls) (get_or calls n d) a b c r
+    (subst (λ i. EncodeRunAdvances text (get_or calls i d) b c) (sym e) g))
 
-pub takes_next : (b : List ℕ) (e : Encoding) (text : List ℕ) (calls : List EncodeCall) (n k : ℕ) (d : EncodeCall) (s : EncodeState) → n ≡ k → k < length calls
+pub takes_next : (b : List ℕ) (e : Encoding) (text : List ℕ) (calls : List EncodeCall) (n k : ℕ) (d : EncodeCall) (s : EncodeRunState) → n ≡ k → k < length calls
     → Written b e text (take n calls ++ get_or calls k d ∷ []) s → Written b e text (take (n + 1) calls) s
 takes_next b e text calls n k d s f h r =
     subst (λ x. Written b e text x s) (ap (λ i. take n calls ++ get_or calls i d ∷ []) (sym f) ∙ sym (take_more calls n d (rw f h))) r
 
-pub has_encoded : (b : List ℕ) (e : Encoding) (text : List ℕ) (calls : List EncodeCall) (s : EncodeState) → Written b e text calls s → HasEncoded b e text calls s.bytes s.read s.unmappables s.had_unmappables
+pub has_encoded : (b : List ℕ) (e : Encoding) (text : List ℕ) (calls : List EncodeCall) (s : EncodeRunState) → Written b e text calls s → HasRunEncoding b e text calls s.bytes s.read s.unmappables s.had_unmappables
 has_encoded b e text calls s w = record {
   parts = w.parts;
   unread = drop s.read text;
@@ -258,24 +262,24 @@ has_encoded b e text calls s w = record {
   flag = w.flag;
 }
 
-pub within : (b : List ℕ) (e : Encoding) (text : List ℕ) (calls : List EncodeCall) (s : EncodeState) → Written b e text calls s → s.read ≤ length text
-within b e text calls s w = omega (arith, w.count, ap length w.chars, length-append (chars_in w.parts) (drop s.read text))
+pub within : (b : List ℕ) (e : Encoding) (text : List ℕ) (calls : List EncodeCall) (s : EncodeRunState) → Written b e text calls s → s.read ≤ length text
+within b e text calls s w = omega (arith, w.count, ap length w.chars, length-append (chars_of_parts w.parts) (drop s.read text))
 
 -- where all calls report, all unmappable characters are reported
 
-all_reported : (rule : EncoderRule) (ps : List EncodePart) (cs : List EncodeCall) → map (λ (p : EncodePart). p.replaces) ps ≡ map (λ (c : EncodeCall). c.replace) cs → all_report cs ≡ true
-    → reported_in rule ps ≡ reports_of rule (chars_in ps)
+all_reported : (rule : EncoderRule) (ps : List EncodeRunPart) (cs : List EncodeCall) → map (λ (p : EncodeRunPart). p.replaces) ps ≡ map (λ (c : EncodeCall). c.replace) cs → all_report_unmappable cs ≡ true
+    → reports_of_parts rule ps ≡ reports_of rule (chars_of_parts ps)
 all_reported rule [] cs g r = refl
-all_reported rule (p ∷ ps) [] g r = absurd (no_flags p.replaces (map (λ (q : EncodePart). q.replaces) ps) g)
+all_reported rule (p ∷ ps) [] g r = absurd (no_flags p.replaces (map (λ (q : EncodeRunPart). q.replaces) ps) g)
 all_reported rule (p ∷ ps) (c ∷ cs) g r =
     let both = and_parts _ _ r in
     let off : p.replaces ≡ false = first_flag _ _ _ _ g ∙ not-true c.replace both.0 in
-    ap (λ b. (if b then [] else reports_of rule p.chars) ++ reported_in rule ps) off
-    ∙ ap (λ x. reports_of rule p.chars ++ x) (all_reported rule ps cs (rest_flags _ _ _ _ g) both.1) ∙ sym (reports_of-append rule p.chars (chars_in ps))
+    ap (λ b. (if b then [] else reports_of rule p.chars) ++ reports_of_parts rule ps) off
+    ∙ ap (λ x. reports_of rule p.chars ++ x) (all_reported rule ps cs (rest_flags _ _ _ _ g) both.1) ∙ sym (reports_of-append rule p.chars (chars_of_parts ps))
 
-module _ (b : List ℕ) (e : Encoding) (text : List ℕ) (calls : List EncodeCall) (s : EncodeState) (w : Written b e text calls s) (f : s.finished ≡ true) where
-  all_chars : chars_in w.parts ≡ text
-  all_chars = sym (w.chars ∙ ap (λ t. chars_in w.parts ++ t) (w.ended f).0 ∙ append-nil (chars_in w.parts))
+module _ (b : List ℕ) (e : Encoding) (text : List ℕ) (calls : List EncodeCall) (s : EncodeRunState) (w : Written b e text calls s) (f : s.finished ≡ true) where
+  all_chars : chars_of_parts w.parts ≡ text
+  all_chars = sym (w.chars ∙ ap (λ t. chars_of_parts w.parts ++ t) (w.ended f).0 ∙ append-nil (chars_of_parts w.parts))
 
   -- so it is all of the bytes
   pub all_bytes : s.bytes ≡ whole_bytes b e text
@@ -287,7 +291,7 @@ module _ (b : List ℕ) (e : Encoding) (text : List ℕ) (calls : List EncodeCal
   pub any_char : s.had_unmappables ≡ any_unmappable (output_rule b e) text
   any_char = w.flag ∙ ap (any_unmappable (output_rule b e)) all_chars
 
-  pub all_reports : all_report calls ≡ true → s.unmappables ≡ reports_of (output_rule b e) text
+  pub all_reports : all_report_unmappable calls ≡ true → s.unmappables ≡ reports_of (output_rule b e) text
   all_reports r = w.reported ∙ all_reported (output_rule b e) w.parts calls w.calls_are r ∙ ap (reports_of (output_rule b e)) all_chars
 
   pub all_read : s.read ≡ length text
@@ -311,18 +315,18 @@ is_last n m offer last l h = leb_by m offer last (λ e. h.0 (grind (arith, nat_t
 
 -- A call that is offered the next characters is one of a run.
 pub makes_call : (call : EncodeCall) (old new : EncoderState) (unread chunk before wrote after : List ℕ) (last : Bool) (result : EncoderResult) (units read : ℕ) (replaced : Bool)
-    → Encodes (units_by call.utf16) (treatment_by call.replace old) old new chunk last call.room result units wrote replaced
+    → EncodesChunk (units_of_call call.utf16) (encode_error_mode call.replace old) old new chunk last call.room result units wrote replaced
     → chunk ≡ take call.offer unread → last ≡ nat_le (length unread) call.offer → after ≡ (before ++ wrote) ++ reference_after result
-    → ((front back : List ℕ) → chunk ≡ front ++ back → units ≡ length (units_of_text (units_by call.utf16) front) → read ≡ length front)
-    → MakesCall call old new unread before after result read replaced
+    → ((front back : List ℕ) → chunk ≡ front ++ back → units ≡ length (units_of_text (units_of_call call.utf16) front) → read ≡ length front)
+    → MakesEncodeCall call old new unread before after result read replaced
 makes_call call old new unread chunk before wrote after last result units read replaced e t l a n =
-    let made : Encodes (units_by call.utf16) (treatment_by call.replace old) old new (take call.offer unread) (nat_le (length unread) call.offer) call.room result units wrote replaced =
-    subst (λ (b : Bool). Encodes (units_by call.utf16) (treatment_by call.replace old) old new (take call.offer unread) b call.room result units wrote replaced) l
-    (subst (λ (x : List ℕ). Encodes (units_by call.utf16) (treatment_by call.replace old) old new x last call.room result units wrote replaced) t e) in
+    let made : EncodesChunk (units_of_call call.utf16) (encode_error_mode call.replace old) old new (take call.offer unread) (nat_le (length unread) call.offer) call.room result units wrote replaced =
+    subst (λ (b : Bool). EncodesChunk (units_of_call call.utf16) (encode_error_mode call.replace old) old new (take call.offer unread) b call.room result units wrote replaced) l
+    (subst (λ (x : List ℕ). EncodesChunk (units_of_call call.utf16) (encode_error_mode call.replace old) old new x last call.room result units wrote replaced) t e) in
     record {
       wrote = wrote;
       units = units;
       encodes = made;
-      chars = n (chars_of made.call.done) made.rest (t ∙ made.call.reads) made.call.units;
+      chars = n (step_chars made.call.done) made.rest (t ∙ made.call.reads) made.call.units;
       bytes = a ∙ append_assoc before wrote (reference_after result);
     }

@@ -2,22 +2,22 @@
 use Rattle.std.proofs.Common.{◌≡◌, ℕ, ◌+◌, ◌-◌, ◌≤◌, Bool, true, false, not, is_some, Option, Some, None, option_map, List, [], ◌∷◌, ◌++◌, length, take, drop, refl, ap, sym, subst, ◌∙◌, arith, append_assoc, length-append, length-take, if◌then◌else◌}
 use Rattle.std.proofs.lemmas.List.{drop-take, take-append-le, take-append-drop}
 use Rattle.std.proofs.Math.Seq.{drop-append_seam}
-use Rattle.enc_encoders.specs.EncoderRule.{EncoderRule, RawState, is_pending}
-use Rattle.enc_encoders.specs.Barring.{barring}
+use Rattle.enc_encoders.specs.EncoderRule.{EncoderRule, RawEncoderState, is_escape_due}
+use Rattle.enc_encoders.specs.Barring.{barring_rule}
 use Rattle.enc_encoders.specs.declared.character_set.CharacterSet.TheVariants.{Ascii, Roman, Jis0208}
 use Rattle.enc_encoders.specs.declared.character_set.CharacterSet.{CharacterSet}
 use Rattle.enc_encoders.specs.declared.encoder_result.EncoderResult.{EncoderResult}
 use Rattle.enc_encoders.specs.declared.encoder_result.EncoderResult.TheVariants.{InputEmpty, OutputFull, Unmappable}
 use Rattle.enc_encoders.specs.Steps.{Step}
-use Rattle.enc_references.specs.Treatment.{Treatment, Reported, Replaced, MapsAll, CallBy, StopsBy, nothing_left}
+use Rattle.enc_references.specs.ErrorMode.{EncodeErrorMode, Fatal, Html, MapsEveryCharacter, EncoderCallInMode, StopsInMode, is_nothing_left}
 use Rattle.enc_encode.specs.Encoders.{encoder_rule}
 use Rattle.encoding_rs.specs.declared.encoding.Id.{Id}
 use Rattle.encoding_rs.specs.declared.encoding.Id.TheVariants.{Utf8}
 use Rattle.encoding_rs.specs.declared.encoding.Encoding.{Encoding}
 use Rattle.encoding_rs.specs.EncodingTable.{codec_by_id, output_by_id}
-use Rattle.encoding_rs.specs.Encodings.{or_utf_8, output_rule}
+use Rattle.encoding_rs.specs.Encodings.{rule_or_utf_8, output_rule}
 use Rattle.encoding_rs.specs.Properties.{output_encoding_of}
-use Rattle.encoding_rs.specs.Encoder.{EncoderState, Encodes, is_utf_8, has_every, replacing_in}
+use Rattle.encoding_rs.specs.Encoder.{EncoderState, EncodesChunk, is_utf_8, maps_every_character, html_mode_in}
 
 has_encoder_by_id : (id : Id) → is_some (encoder_rule (codec_by_id (output_by_id id))) ≡ true
 has_encoder_by_id Utf8 = refl
@@ -28,75 +28,75 @@ pub has_encoder : (e : Encoding) → is_some (encoder_rule (codec_by_id (output_
 has_encoder e = has_encoder_by_id e.id
 
 -- an encoder of the codec's rule, without the characters that are barred, writes by the encoding's
-pub is_output_rule : (b : List ℕ) (o : Option EncoderRule) (rule : EncoderRule) → option_map (barring b) o ≡ Some rule → rule ≡ barring b (or_utf_8 o)
+pub is_output_rule : (b : List ℕ) (o : Option EncoderRule) (rule : EncoderRule) → option_map (barring_rule b) o ≡ Some rule → rule ≡ barring_rule b (rule_or_utf_8 o)
 is_output_rule b None rule e = cc
 is_output_rule b (Some x) rule e = cc
 
 -- how many bytes are kept back, where every character is mappable and elsewhere
-pub kept_by : (b : List ℕ) (e : Encoding) (every : Bool) → has_every b e ≡ every → Replaced (if every then 0 else 10) ≡ replacing_in b e
-kept_by b e every h = ap (λ t. Replaced (if t then 0 else 10)) (sym h)
+pub kept_by : (b : List ℕ) (e : Encoding) (every : Bool) → maps_every_character b e ≡ every → Html (if every then 0 else 10) ≡ html_mode_in b e
+kept_by b e every h = ap (λ t. Html (if t then 0 else 10)) (sym h)
 
 rule_by_id : Id → EncoderRule
-rule_by_id id = or_utf_8 (encoder_rule (codec_by_id id))
+rule_by_id id = rule_or_utf_8 (encoder_rule (codec_by_id id))
 
 utf_8_has : (id : Id) → is_utf_8 id ≡ true → id ≡ Utf8
 utf_8_has Utf8 h = refl
 utf_8_has _ h = cc
 
 -- UTF-8 has every character, where none is barred
-pub maps_all : (b : List ℕ) (e : Encoding) (rule : EncoderRule) → rule ≡ output_rule b e → has_every b e ≡ true → MapsAll rule
+pub maps_all : (b : List ℕ) (e : Encoding) (rule : EncoderRule) → rule ≡ output_rule b e → maps_every_character b e ≡ true → MapsEveryCharacter rule
 unfolding rule_by_id
-maps_all [] e rule r h = subst MapsAll (sym (r ∙ ap rule_by_id (utf_8_has e.id h))) (λ c. refl)
+maps_all [] e rule r h = subst MapsEveryCharacter (sym (r ∙ ap rule_by_id (utf_8_has e.id h))) (λ c. refl)
 maps_all (x ∷ b) e rule r h = cc
 
 -- a call that has ended the text leaves ASCII designated
 
-ascii_left : (s : CharacterSet) → not (is_pending s) ≡ true → s ≡ Ascii
+ascii_left : (s : CharacterSet) → not (is_escape_due s) ≡ true → s ≡ Ascii
 ascii_left Ascii h = refl
 ascii_left Roman h = cc
 ascii_left Jis0208 h = cc
 
-nothing_pending : (v : RawState) (rest : List ℕ) (last : Bool) → nothing_left v rest last ≡ true → last ≡ true → v.set ≡ Ascii
+nothing_pending : (v : RawEncoderState) (rest : List ℕ) (last : Bool) → is_nothing_left v rest last ≡ true → last ≡ true → v.set ≡ Ascii
 nothing_pending v [] true h l = ascii_left v.set h
 nothing_pending v [] false h l = cc
 nothing_pending v (c ∷ t) last h l = cc
 
-ends_in_ascii : (treatment : Treatment) (new : RawState) (rest : List ℕ) (last : Bool) (room : ℕ) (done : List Step) (result : EncoderResult) → StopsBy treatment new rest last room done result
+ends_in_ascii : (mode : EncodeErrorMode) (new : RawEncoderState) (rest : List ℕ) (last : Bool) (room : ℕ) (done : List Step) (result : EncoderResult) → StopsInMode mode new rest last room done result
     → result ≡ InputEmpty → last ≡ true → new.set ≡ Ascii
-ends_in_ascii Reported new rest last room done InputEmpty s q l = s.ended l
-ends_in_ascii (Replaced kept) new rest last room done InputEmpty s q l = nothing_pending new rest last s l
-ends_in_ascii treatment new rest last room done OutputFull s q l = cc
-ends_in_ascii treatment new rest last room done (Unmappable k) s q l = cc
+ends_in_ascii Fatal new rest last room done InputEmpty s q l = s.ended l
+ends_in_ascii (Html kept) new rest last room done InputEmpty s q l = nothing_pending new rest last s l
+ends_in_ascii mode new rest last room done OutputFull s q l = cc
+ends_in_ascii mode new rest last room done (Unmappable k) s q l = cc
 
 -- A call of the raw encoder is one of the encoder.
-module _ (units_of : ℕ → List ℕ) (b : List ℕ) (e : Encoding) (old new : RawState) (keeps : old.rule ≡ output_rule b e) (treatment : Treatment)
+module _ (units_of : ℕ → List ℕ) (b : List ℕ) (e : Encoding) (old new : RawEncoderState) (keeps : old.rule ≡ output_rule b e) (mode : EncodeErrorMode)
     (src rest : List ℕ) (last : Bool) (room : ℕ) (result : EncoderResult) (read : ℕ) (wrote : List ℕ) (replaced : Bool)
-    (call : CallBy units_of treatment old new src rest last room result read wrote replaced) where
+    (call : EncoderCallInMode units_of mode old new src rest last room result read wrote replaced) where
   pub rule_stays : new.rule ≡ output_rule b e
   rule_stays = call.rule ∙ keeps
 
-  same : (v : RawState) → v.rule ≡ output_rule b e → v ≡ record { rule = output_rule b e; set = v.set }
-  same v q = let made : EncoderRule → RawState = λ r. record { rule = r; set = v.set } in ap made q
+  same : (v : RawEncoderState) → v.rule ≡ output_rule b e → v ≡ record { rule = output_rule b e; set = v.set }
+  same v q = let made : EncoderRule → RawEncoderState = λ r. record { rule = r; set = v.set } in ap made q
 
-  encodes : Encodes units_of treatment (record { encoding = e; barred = b; set = old.set }) (record { encoding = e; barred = b; set = new.set }) src last room result read wrote replaced
+  encodes : EncodesChunk units_of mode (record { encoding = e; barred = b; set = old.set }) (record { encoding = e; barred = b; set = new.set }) src last room result read wrote replaced
   encodes = record {
     encoding = refl;
     barred = refl;
     rest = rest;
-    call = subst (λ (v : RawState). CallBy units_of treatment v (record { rule = output_rule b e; set = new.set }) src rest last room result read wrote replaced) (same old keeps)
-        (subst (λ (v : RawState). CallBy units_of treatment old v src rest last room result read wrote replaced) (same new rule_stays) call);
-    ended = λ q l. let made : CharacterSet → EncoderState = λ s. record { encoding = e; barred = b; set = s } in ap made (ends_in_ascii treatment new rest last room call.done result call.stops q l);
+    call = subst (λ (v : RawEncoderState). EncoderCallInMode units_of mode v (record { rule = output_rule b e; set = new.set }) src rest last room result read wrote replaced) (same old keeps)
+        (subst (λ (v : RawEncoderState). EncoderCallInMode units_of mode old v src rest last room result read wrote replaced) (same new rule_stays) call);
+    ended = λ q l. let made : CharacterSet → EncoderState = λ s. record { encoding = e; barred = b; set = s } in ap made (ends_in_ascii mode new rest last room call.done result call.stops q l);
   }
 
-  pub encodes_by : (t : Treatment) → treatment ≡ t → Encodes units_of t (record { encoding = e; barred = b; set = old.set }) (record { encoding = e; barred = b; set = new.set }) src last room result read wrote replaced
-  encodes_by t h = subst (λ (x : Treatment). Encodes units_of x (record { encoding = e; barred = b; set = old.set }) (record { encoding = e; barred = b; set = new.set }) src last room result read wrote replaced) h encodes
+  pub encodes_by : (t : EncodeErrorMode) → mode ≡ t → EncodesChunk units_of t (record { encoding = e; barred = b; set = old.set }) (record { encoding = e; barred = b; set = new.set }) src last room result read wrote replaced
+  encodes_by t h = subst (λ (x : EncodeErrorMode). EncodesChunk units_of x (record { encoding = e; barred = b; set = old.set }) (record { encoding = e; barred = b; set = new.set }) src last room result read wrote replaced) h encodes
 
 -- A call whose bytes are at the end of another list than the one that it wrote into.
-pub in_tail : (units_of : ℕ → List ℕ) (treatment : Treatment) (old new : EncoderState) (src : List ℕ) (last : Bool) (room size : ℕ) (result : EncoderResult) (read : ℕ) (wrote tail : List ℕ) (replaced : Bool)
-    → room ≡ size → wrote ≡ tail → Encodes units_of treatment old new src last room result read wrote replaced → Encodes units_of treatment old new src last size result read tail replaced
-in_tail units_of treatment old new src last room size result read wrote tail replaced r w e =
-    subst (λ (n : ℕ). Encodes units_of treatment old new src last n result read tail replaced) r
-    (subst (λ (x : List ℕ). Encodes units_of treatment old new src last room result read x replaced) w e)
+pub in_tail : (units_of : ℕ → List ℕ) (mode : EncodeErrorMode) (old new : EncoderState) (src : List ℕ) (last : Bool) (room size : ℕ) (result : EncoderResult) (read : ℕ) (wrote tail : List ℕ) (replaced : Bool)
+    → room ≡ size → wrote ≡ tail → EncodesChunk units_of mode old new src last room result read wrote replaced → EncodesChunk units_of mode old new src last size result read tail replaced
+in_tail units_of mode old new src last room size result read wrote tail replaced r w e =
+    subst (λ (n : ℕ). EncodesChunk units_of mode old new src last n result read tail replaced) r
+    (subst (λ (x : List ℕ). EncodesChunk units_of mode old new src last room result read x replaced) w e)
 
 -- What a list has behind its front, where it was cut behind what was written there.
 pub tail_of : (front slice post junk final : List ℕ) (len written n : ℕ) → length front ≡ len → written ≤ length slice → len + written ≤ n

@@ -1,8 +1,8 @@
 -- What the rule of each encoding keeps.
 use Rattle.std.proofs.Common.{◌≡◌, ◌∙◌, ap, sym, subst, refl, true, false, inl, inr, ◌⊎◌}
 use Rattle.enc_machine.specs.Segmentation.{Rule}
-use Rattle.enc_machine.specs.RuleLaws.{HasLookahead, HasTexts, HasSmallTexts, IsLawful}
-use Rattle.enc_machine.specs.Latin1.{HasNoBytes}
+use Rattle.enc_machine.specs.RuleLaws.{HasLookahead, HasTexts, HasSmallTexts, IsLawfulRule}
+use Rattle.enc_machine.specs.Latin1.{HasNoByteSequences}
 use Rattle.enc_machine.specs.declared.byte_codec.Text.TheVariants.{One}
 use Rattle.enc_utf.proofs.Utf8Rule.{utf_8_has_texts, utf_8_is_lawful, utf_8_has_bytes}
 use Rattle.enc_utf.proofs.Utf16Rule.{utf_16_has_texts, utf_16_is_lawful, utf_16_has_no_bytes}
@@ -31,13 +31,13 @@ use Rattle.encoding_rs.specs.Latin1.{has_byte_characters}
 
 -- Some byte is a valid sequence by itself, or none is.
 abbrev pub TellsBytes : Bool → Rule → Type 0
-TellsBytes true rule = ¬ (HasNoBytes rule)
-TellsBytes false rule = HasNoBytes rule
+TellsBytes true rule = ¬ (HasNoByteSequences rule)
+TellsBytes false rule = HasNoByteSequences rule
 
 -- Its texts are small, its lookahead is short, each of its sequences has a text, but in two encodings, and some byte is one
 -- by itself, but in three.
 pub record KeepsLaws (may_lack : Type 0) (has_bytes : Bool) (rule : Rule) : Type 0 where
-  pub lawful : IsLawful rule
+  pub lawful : IsLawfulRule rule
   pub texts : (may_lack → ⊥) → HasTexts rule
   pub bytes : TellsBytes has_bytes rule
 

@@ -6,18 +6,18 @@ use Rattle.std.proofs.lemmas.List.{append-nil, length-append}
 use Rattle.std.proofs.Math.ListN.{length-drop}
 use Rattle.std.specs.Char.{encode_utf8}
 use Rattle.std.specs.Char.Escape.{encode_utf16}
-use Rattle.enc_units.specs.Checked.{fitting, plus, times, half, greater}
+use Rattle.enc_units.specs.Checked.{checked_usize, checked_add, checked_mul, checked_half, checked_max}
 use Rattle.enc_machine.specs.declared.text_lengths.TextLengths.{TextLengths}
 use Rattle.enc_machine.specs.declared.text_lengths.TextLengths.TheVariants as by
 use Rattle.enc_machine.specs.Sequence.{Sequence}
 use Rattle.enc_machine.specs.Segmentation.{Rule, sequences_of}
 use Rattle.enc_machine.specs.CodecState.{CodecState}
-use Rattle.enc_machine.specs.Remainder.{AreBytes, Begins}
-use Rattle.enc_machine.specs.Call.{Treatment, Replaced, Reported}
-use Rattle.enc_machine.specs.Need.{needed_units, NeedPasses, IsEnough, AreEnough}
+use Rattle.enc_machine.specs.Remainder.{AreBytes, AreFirstSequences}
+use Rattle.enc_machine.specs.Call.{DecodeErrorMode, Replacement, Fatal}
+use Rattle.enc_machine.specs.Need.{needed_units, NeedExceeds, IsEnoughForCodec, AreEnoughForCodec}
 use Rattle.enc_machine.proofs.NeedLemmas.{at_end}
 use Rattle.enc_machine.proofs.EnoughLemmas.{same_some}
-use Rattle.enc_codec.specs.Codecs.{codec_lengths, fresh_state}
+use Rattle.enc_codec.specs.Codecs.{codec_lengths, initial_state}
 use Rattle.enc_codec.proofs.EnoughLemmas.{codec_enough}
 use Rattle.encoding_rs.specs.declared.encoding.Id.{Id}
 use Rattle.encoding_rs.specs.declared.encoding.Encoding.{Encoding}
@@ -27,10 +27,10 @@ use Rattle.encoding_rs.specs.EncodingTable.{codec_by_id}
 use Rattle.encoding_rs.specs.Encodings.{rule_of}
 use Rattle.encoding_rs.specs.declared.life_cycle.LifeCycle.{LifeCycle}
 use Rattle.encoding_rs.specs.declared.life_cycle.LifeCycle.TheVariants.{AtStart, AtUtf8Start, AtUtf16BeStart, AtUtf16LeStart, SeenUtf8First, SeenUtf8Second, SeenUtf16BeFirst, SeenUtf16LeFirst, ConvertingWithPendingBb, Converting, Finished}
-use Rattle.encoding_rs.specs.Bom.{Mark, marks, utf_8_mark, utf_16be_mark, utf_16le_mark, find_mark, sequences_by}
-use Rattle.encoding_rs.specs.LifeCycle.{phase_of, awaits_mark, held_bytes}
-use Rattle.encoding_rs.specs.Decoding.{DecoderState, remaining_sequences, decoder_remainder, pending_bytes, state_by, unread_bytes, HoldsBack, HasOwnMark}
-use Rattle.encoding_rs.specs.Lengths.{length_by, length_in, max_length, own, own_or, of_sum, Asks, units_asked, IsEnoughRoom}
+use Rattle.encoding_rs.specs.Bom.{Mark, marks, utf_8_mark, utf_16be_mark, utf_16le_mark, find_mark, sequences_by_mark}
+use Rattle.encoding_rs.specs.LifeCycle.{phase_of, awaits_mark, held_mark_bytes}
+use Rattle.encoding_rs.specs.Decoding.{DecoderState, remaining_sequences, decoder_remainder, held_or_pending_bytes, decoder_state_of, unread_bytes, HeldBytesMatchCodec, LooksForOwnMark}
+use Rattle.encoding_rs.specs.Lengths.{formula_length, life_cycle_length, max_length, idle_length, length_with_mark, length_at, IsForMode, query_units, IsEnoughRoom}
 
 -- Formulas fall with the number of bytes.
 
@@ -42,14 +42,14 @@ fitting_fits : (m q : ℕ) (t : Bool) → nat_lt m (2 ^ 64) ≡ t → cond t (So
 fitting_fits m q true t e = (grind (arith, nat_tests), cc)
 fitting_fits m q false t e = absurd (cc)
 
-fits_below : (n m : ℕ) → n ≤ m → m < 2 ^ 64 → fitting n ≡ Some n
+fits_below : (n m : ℕ) → n ≤ m → m < 2 ^ 64 → checked_usize n ≡ Some n
 fits_below n m l h = by_test (nat_lt n (2 ^ 64)) (grind (arith, nat_tests))
   where
     by_test : (t : Bool) → t ≡ true → cond t (Some n) None ≡ Some n
     by_test true e = refl
     by_test false e = absurd (cc)
 
-no_more_fitting : (n m : ℕ) → n ≤ m → IsNoMore (fitting n) (fitting m)
+no_more_fitting : (n m : ℕ) → n ≤ m → IsNoMore (checked_usize n) (checked_usize m)
 no_more_fitting n m l q e =
     let f = fitting_fits m q (nat_lt m (2 ^ 64)) refl e in
     (n, fits_below n m l f.0, omega (arith, l, f.1))
@@ -57,30 +57,30 @@ no_more_fitting n m l q e =
 no_more_some : (n m : ℕ) → n ≤ m → IsNoMore (Some n) (Some m)
 no_more_some n m l q e = (n, refl, omega (arith, l, same_some m q e))
 
-no_more_plus : (few many : Option ℕ) (k : ℕ) → IsNoMore few many → IsNoMore (plus few k) (plus many k)
+no_more_plus : (few many : Option ℕ) (k : ℕ) → IsNoMore few many → IsNoMore (checked_add few k) (checked_add many k)
 no_more_plus few None k h q e = absurd (cc)
 no_more_plus few (Some m) k h q e =
     let f = h m refl in
     let g = no_more_fitting (f.0 + k) (m + k) (omega (arith, f.2)) q e in
-    (g.0, ap (λ o. plus o k) f.1 ∙ g.1, g.2)
+    (g.0, ap (λ o. checked_add o k) f.1 ∙ g.1, g.2)
 
-no_more_times : (few many : Option ℕ) → IsNoMore few many → IsNoMore (times few 3) (times many 3)
+no_more_times : (few many : Option ℕ) → IsNoMore few many → IsNoMore (checked_mul few 3) (checked_mul many 3)
 no_more_times few None h q e = absurd (cc)
 no_more_times few (Some m) h q e =
     let f = h m refl in
     let g = no_more_fitting (f.0 * 3) (m * 3) (omega (arith, f.2)) q e in
-    (g.0, ap (λ o. times o 3) f.1 ∙ g.1, g.2)
+    (g.0, ap (λ o. checked_mul o 3) f.1 ∙ g.1, g.2)
 
-no_more_half : (few many : Option ℕ) → IsNoMore few many → IsNoMore (half few) (half many)
+no_more_half : (few many : Option ℕ) → IsNoMore few many → IsNoMore (checked_half few) (checked_half many)
 no_more_half few None h q e = absurd (cc)
 no_more_half few (Some m) h q e =
     let f = h m refl in
-    (f.0 / 2, ap half f.1, omega (arith, f.2, same_some (m / 2) q e))
+    (f.0 / 2, ap checked_half f.1, omega (arith, f.2, same_some (m / 2) q e))
 
-no_more_sum : (n h m k : ℕ) → n + h ≤ m + k → IsNoMore (plus (Some n) h) (plus (Some m) k)
+no_more_sum : (n h m k : ℕ) → n + h ≤ m + k → IsNoMore (checked_add (Some n) h) (checked_add (Some m) k)
 no_more_sum n h m k l = no_more_fitting (n + h) (m + k) l
 
-pub no_more : (q : Query) (f : TextLengths) (n h m k : ℕ) → n ≤ m → n + h ≤ m + k → IsNoMore (length_by q f n h) (length_by q f m k)
+pub no_more : (q : Query) (f : TextLengths) (n h m k : ℕ) → n ≤ m → n + h ≤ m + k → IsNoMore (formula_length q f n h) (formula_length q f m k)
 no_more query.Utf8 by.Utf8 n h m k l s = no_more_plus _ _ 3 (no_more_times _ _ (no_more_sum n h m k s))
 no_more query.Utf8 by.Utf16 n h m k l s = no_more_plus _ _ 1 (no_more_times _ _ (no_more_half _ _ (no_more_plus _ _ 1 (no_more_sum n h m k s))))
 no_more query.Utf8 by.OneByte n h m k l s = no_more_times _ _ (no_more_some n m l)
@@ -98,35 +98,35 @@ no_more query.Utf16 by.Replacement n h m k l s = no_more_some 1 1 (omega arith)
 no_more query.Utf16 by.MultiByte n h m k l s = no_more_sum n h m k s
 
 -- each of two lengths is no more than the greater
-greater_of : (a b : Option ℕ) (q : ℕ) → greater a b ≡ Some q → (m : ℕ) × (n : ℕ) × (a ≡ Some m) × (b ≡ Some n) × (m ≤ q) × (n ≤ q)
+greater_of : (a b : Option ℕ) (q : ℕ) → checked_max a b ≡ Some q → (m : ℕ) × (n : ℕ) × (a ≡ Some m) × (b ≡ Some n) × (m ≤ q) × (n ≤ q)
 greater_of None b q e = absurd (cc)
 greater_of (Some a) None q e = absurd (cc)
 greater_of (Some a) (Some b) q e = let f = same_some (max a b) q e in (a, b, refl, refl, omega (arith, f), omega (arith, f))
 
-summed : (f : ℕ → Option ℕ) (n : ℕ) (q : ℕ) → of_sum f (plus (Some n) 2) ≡ Some q → f (n + 2) ≡ Some q
+summed : (f : ℕ → Option ℕ) (n : ℕ) (q : ℕ) → length_at f (checked_add (Some n) 2) ≡ Some q → f (n + 2) ≡ Some q
 summed f n q e = by_test (nat_lt (n + 2) (2 ^ 64)) e
   where
-    by_test : (t : Bool) → of_sum f (cond t (Some (n + 2)) None) ≡ Some q → f (n + 2) ≡ Some q
+    by_test : (t : Bool) → length_at f (cond t (Some (n + 2)) None) ≡ Some q → f (n + 2) ≡ Some q
     by_test true e = e
     by_test false e = absurd (cc)
 
 -- which of the lengths that are enough a query asks
-asked : (q : Query) (f : TextLengths) (v : CodecState) (treatment : Treatment) → Asks q treatment → AreEnough f v → IsEnough (units_asked q) treatment (length_by q f) v
-asked query.Utf8 f v Replaced a h = h.utf_8
-asked query.Utf8 f v (Reported keeps) a h = absurd a
-asked query.Utf8Reporting f v Replaced a h = absurd a
-asked query.Utf8Reporting f v (Reported keeps) a h = h.reporting keeps
-asked query.Utf16 f v treatment a h = h.utf_16 treatment
+asked : (q : Query) (f : TextLengths) (v : CodecState) (mode : DecodeErrorMode) → IsForMode q mode → AreEnoughForCodec f v → IsEnoughForCodec (query_units q) mode (formula_length q f) v
+asked query.Utf8 f v Replacement a h = h.utf_8
+asked query.Utf8 f v (Fatal keeps) a h = absurd a
+asked query.Utf8Reporting f v Replacement a h = absurd a
+asked query.Utf8Reporting f v (Fatal keeps) a h = h.reporting keeps
+asked query.Utf16 f v mode a h = h.utf_16 mode
 
 -- Sequences in front of those of a codec don't need more than is told, for as many bytes or more.
-module _ (q : Query) (treatment : Treatment) (asks : Asks q treatment) (front : List Sequence) where
-  never_more : (f : TextLengths) (w : CodecState) → AreEnough f w → (src : List ℕ) → AreBytes src → (m k told : ℕ) → length src ≤ m → length src + length w.pending ≤ m + k
-      → length_by q f m k ≡ Some told → Begins front (sequences_of w.rule w.set (w.pending ++ src)) → told < needed_units (units_asked q) treatment front → ⊥
+module _ (q : Query) (mode : DecodeErrorMode) (asks : IsForMode q mode) (front : List Sequence) where
+  never_more : (f : TextLengths) (w : CodecState) → AreEnoughForCodec f w → (src : List ℕ) → AreBytes src → (m k told : ℕ) → length src ≤ m → length src + length w.pending ≤ m + k
+      → formula_length q f m k ≡ Some told → AreFirstSequences front (sequences_of w.rule w.set (w.pending ++ src)) → told < needed_units (query_units q) mode front → ⊥
   never_more f w h src a m k told l s e b p =
       let n = no_more q f (length src) (length w.pending) m k l s told e in
-      asked q f w treatment asks h src true n.0 a n.1 (record { sequences = front; determined = b; more = omega (arith, n.2, p) })
+      asked q f w mode asks h src true n.0 a n.1 (record { sequences = front; determined = b; more = omega (arith, n.2, p) })
 
-  less_needed : (few told : ℕ) → few ≤ told → told < needed_units (units_asked q) treatment front → few < needed_units (units_asked q) treatment front
+  less_needed : (few told : ℕ) → few ≤ told → told < needed_units (query_units q) mode front → few < needed_units (query_units q) mode front
   less_needed few told l p = omega (arith, l, p)
 
 pub are_bytes_drop : (n : ℕ) (z : List ℕ) → AreBytes z → AreBytes (drop n z)
@@ -134,153 +134,154 @@ are_bytes_drop zero z a = a
 are_bytes_drop (suc n) [] a = tt
 are_bytes_drop (suc n) (b ∷ z) a = are_bytes_drop n z a.1
 
-none_begins : (front : List Sequence) → Begins front [] → front ≡ []
+none_begins : (front : List Sequence) → AreFirstSequences front [] → front ≡ []
 none_begins [] b = refl
 none_begins (s ∷ ss) b = absurd (let e = b.1 in cc)
 
-none_needs : (units_of : ℕ → List ℕ) (treatment : Treatment) → needed_units units_of treatment [] ≡ 0
-none_needs units_of Replaced = refl
-none_needs units_of (Reported keeps) = refl
+none_needs : (units_of : ℕ → List ℕ) (mode : DecodeErrorMode) → needed_units units_of mode [] ≡ 0
+none_needs units_of Replacement = refl
+none_needs units_of (Fatal keeps) = refl
 
-module _ (q : Query) (treatment : Treatment) (asks : Asks q treatment) (e : Encoding) (front : List Sequence) (told : ℕ) (passes : told < needed_units (units_asked q) treatment front) where
+module _ (q : Query) (mode : DecodeErrorMode) (asks : IsForMode q mode) (e : Encoding) (front : List Sequence) (told : ℕ) (passes : told < needed_units (query_units q) mode front) where
   abbrev formulas : TextLengths
   formulas = codec_lengths (codec_by_id e.id)
 
   -- text of the encoding's own, and of that of a mark
 
-  own_text : (bytes : List ℕ) → AreBytes bytes → (n few : ℕ) → length bytes ≤ n → few ≤ told → own q formulas n ≡ Some few → Begins front (sequences_of (rule_of e) 0 bytes) → ⊥
+  own_text : (bytes : List ℕ) → AreBytes bytes → (n few : ℕ) → length bytes ≤ n → few ≤ told → idle_length q formulas n ≡ Some few → AreFirstSequences front (sequences_of (rule_of e) 0 bytes) → ⊥
   own_text bytes a n few l t f b =
-      never_more q treatment asks front formulas (fresh_state (rule_of e)) (codec_enough (codec_by_id e.id)) bytes a n 0 few l (omega (arith, l)) f b
-      (less_needed q treatment asks front few told t passes)
+      never_more q mode asks front formulas (initial_state (rule_of e)) (codec_enough (codec_by_id e.id)) bytes a n 0 few l (omega (arith, l)) f b
+      (less_needed q mode asks front few told t passes)
 
-  marked_text : (m : Mark) (bytes : List ℕ) → AreBytes bytes → (n few : ℕ) → length bytes ≤ n → few ≤ told → own q (codec_lengths (codec_by_id m.encoding.id)) n ≡ Some few
-      → Begins front (sequences_of (rule_of m.encoding) 0 (drop (length m.bytes) bytes)) → ⊥
+  marked_text : (m : Mark) (bytes : List ℕ) → AreBytes bytes → (n few : ℕ) → length bytes ≤ n → few ≤ told → idle_length q (codec_lengths (codec_by_id m.encoding.id)) n ≡ Some few
+      → AreFirstSequences front (sequences_of (rule_of m.encoding) 0 (drop (length m.bytes) bytes)) → ⊥
   marked_text m bytes a n few l t f b =
       let d = length-drop (length m.bytes) bytes in
-      never_more q treatment asks front (codec_lengths (codec_by_id m.encoding.id)) (fresh_state (rule_of m.encoding)) (codec_enough (codec_by_id m.encoding.id))
+      never_more q mode asks front (codec_lengths (codec_by_id m.encoding.id)) (initial_state (rule_of m.encoding)) (codec_enough (codec_by_id m.encoding.id))
       (drop (length m.bytes) bytes) (are_bytes_drop (length m.bytes) bytes a) n 0 few (omega (arith, l, d)) (omega (arith, l, d)) f b
-      (less_needed q treatment asks front few told t passes)
+      (less_needed q mode asks front few told t passes)
 
   -- where one mark may come, or all three
-  one_mark : (t : Bool) (m : Mark) (bytes : List ℕ) → (Begins front (sequences_of (rule_of e) 0 bytes) → ⊥) → (Begins front (sequences_of (rule_of m.encoding) 0 (drop (length m.bytes) bytes)) → ⊥)
-      → Begins front (sequences_by (cond t (Some m) None) e bytes) → ⊥
+  one_mark : (t : Bool) (m : Mark) (bytes : List ℕ) → (AreFirstSequences front (sequences_of (rule_of e) 0 bytes) → ⊥) → (AreFirstSequences front (sequences_of (rule_of m.encoding) 0 (drop (length m.bytes) bytes)) → ⊥)
+      → AreFirstSequences front (sequences_by_mark (cond t (Some m) None) e bytes) → ⊥
   one_mark true m bytes n y b = y b
   one_mark false m bytes n y b = n b
 
-  three_marks : (t u w : Bool) (bytes : List ℕ) → (Begins front (sequences_of (rule_of e) 0 bytes) → ⊥) → ((m : Mark) → (m ≡ utf_8_mark) ⊎ ((m ≡ utf_16be_mark) ⊎ (m ≡ utf_16le_mark))
-      → Begins front (sequences_of (rule_of m.encoding) 0 (drop (length m.bytes) bytes)) → ⊥)
-      → Begins front (sequences_by (cond t (Some utf_8_mark) (cond u (Some utf_16be_mark) (cond w (Some utf_16le_mark) None))) e bytes) → ⊥
+  three_marks : (t u w : Bool) (bytes : List ℕ) → (AreFirstSequences front (sequences_of (rule_of e) 0 bytes) → ⊥) → ((m : Mark) → (m ≡ utf_8_mark) ⊎ ((m ≡ utf_16be_mark) ⊎ (m ≡ utf_16le_mark))
+      → AreFirstSequences front (sequences_of (rule_of m.encoding) 0 (drop (length m.bytes) bytes)) → ⊥)
+      → AreFirstSequences front (sequences_by_mark (cond t (Some utf_8_mark) (cond u (Some utf_16be_mark) (cond w (Some utf_16le_mark) None))) e bytes) → ⊥
   three_marks true u w bytes n y b = y utf_8_mark (inl refl) b
   three_marks false true w bytes n y b = y utf_16be_mark (inr (inl refl)) b
   three_marks false false true bytes n y b = y utf_16le_mark (inr (inr refl)) b
   three_marks false false false bytes n y b = n b
 
   -- by how far it has come, where a mark may come: the bytes held, and those offered
-  at_start : (src : List ℕ) → AreBytes src → length_in q AtStart formulas (length src) 0 ≡ Some told → Begins front (sequences_by (find_mark marks src) e src) → ⊥
+  at_start : (src : List ℕ) → AreBytes src → life_cycle_length q AtStart formulas (length src) 0 ≡ Some told → AreFirstSequences front (sequences_by_mark (find_mark marks src) e src) → ⊥
   at_start src a f b =
-      let g = greater_of (own q by.Utf8 (length src)) (own_or q by.Utf16 formulas (length src)) told f in
-      let h = greater_of (own q by.Utf16 (length src)) (own q formulas (length src)) g.1 g.3 in
+      let g = greater_of (idle_length q by.Utf8 (length src)) (length_with_mark q by.Utf16 formulas (length src)) told
+      f in
+      let h = greater_of (idle_length q by.Utf16 (length src)) (idle_length q formulas (length src)) g.1 g.3 in
       three_marks _ _ _ src (own_text src a (length src) h.1 (omega arith) (omega (arith, g.5, h.5)) h.3)
       (λ m k. elim k [
-        | inl x ↦ marked_text m src a (length src) g.0 (omega arith) g.4 (ap (λ (y : Mark). own q (codec_lengths (codec_by_id y.encoding.id)) (length src)) x ∙ g.2)
+        | inl x ↦ marked_text m src a (length src) g.0 (omega arith) g.4 (ap (λ (y : Mark). idle_length q (codec_lengths (codec_by_id y.encoding.id)) (length src)) x ∙ g.2)
         | inr z ↦ elim z [
-          | inl x ↦ marked_text m src a (length src) h.0 (omega arith) (omega (arith, g.5, h.4)) (ap (λ (y : Mark). own q (codec_lengths (codec_by_id y.encoding.id)) (length src)) x ∙ h.2)
-          | inr x ↦ marked_text m src a (length src) h.0 (omega arith) (omega (arith, g.5, h.4)) (ap (λ (y : Mark). own q (codec_lengths (codec_by_id y.encoding.id)) (length src)) x ∙ h.2)
+          | inl x ↦ marked_text m src a (length src) h.0 (omega arith) (omega (arith, g.5, h.4)) (ap (λ (y : Mark). idle_length q (codec_lengths (codec_by_id y.encoding.id)) (length src)) x ∙ h.2)
+          | inr x ↦ marked_text m src a (length src) h.0 (omega arith) (omega (arith, g.5, h.4)) (ap (λ (y : Mark). idle_length q (codec_lengths (codec_by_id y.encoding.id)) (length src)) x ∙ h.2)
         ]
       ]) b
 
   -- its own mark alone
-  at_own_start : (m : Mark) → e.id ≡ m.encoding.id → (t : Bool) (src : List ℕ) → AreBytes src → own q formulas (length src) ≡ Some told → Begins front (sequences_by (cond t (Some m) None) e src) → ⊥
+  at_own_start : (m : Mark) → e.id ≡ m.encoding.id → (t : Bool) (src : List ℕ) → AreBytes src → idle_length q formulas (length src) ≡ Some told → AreFirstSequences front (sequences_by_mark (cond t (Some m) None) e src) → ⊥
   at_own_start m i t src a f =
       one_mark t m src (own_text src a (length src) told (omega arith) (omega arith) f)
-      (marked_text m src a (length src) told (omega arith) (omega arith) (ap (λ (x : Id). own q (codec_lengths (codec_by_id x)) (length src)) (sym i) ∙ f))
+      (marked_text m src a (length src) told (omega arith) (omega arith) (ap (λ (x : Id). idle_length q (codec_lengths (codec_by_id x)) (length src)) (sym i) ∙ f))
 
   -- bytes of a mark are held
   seen : (m : Mark) (lengths : TextLengths) → codec_lengths (codec_by_id m.encoding.id) ≡ lengths → (t : Bool) (held src : List ℕ) → length held ≤ 2 → AreBytes (held ++ src)
-      → of_sum (own_or q lengths formulas) (plus (Some (length src)) 2) ≡ Some told → Begins front (sequences_by (cond t (Some m) None) e (held ++ src)) → ⊥
+      → length_at (length_with_mark q lengths formulas) (checked_add (Some (length src)) 2) ≡ Some told → AreFirstSequences front (sequences_by_mark (cond t (Some m) None) e (held ++ src)) → ⊥
   seen m lengths k t held src l a f =
       let size = length-append held src in
-      let g = greater_of (own q lengths (length src + 2)) (own q formulas (length src + 2)) told (summed (own_or q lengths formulas) (length src) told f) in
+      let g = greater_of (idle_length q lengths (length src + 2)) (idle_length q formulas (length src + 2)) told (summed (length_with_mark q lengths formulas) (length src) told f) in
       one_mark t m (held ++ src) (own_text (held ++ src) a (length src + 2) g.1 (omega (arith, l, size)) g.5 g.3)
-      (marked_text m (held ++ src) a (length src + 2) g.0 (omega (arith, l, size)) g.4 (ap (λ x. own q x (length src + 2)) k ∙ g.2))
+      (marked_text m (held ++ src) a (length src + 2) g.0 (omega (arith, l, size)) g.4 (ap (λ x. idle_length q x (length src + 2)) k ∙ g.2))
 
   -- what a codec has pending, and a BB
-  module _ (v : CodecState) (rule : rule_of e ≡ v.rule) (enough : AreEnough formulas v) where
-    converting : (src : List ℕ) → AreBytes src → length_by q formulas (length src) (length v.pending) ≡ Some told → Begins front (sequences_of (rule_of e) v.set (v.pending ++ src)) → ⊥
+  module _ (v : CodecState) (rule : rule_of e ≡ v.rule) (enough : AreEnoughForCodec formulas v) where
+    converting : (src : List ℕ) → AreBytes src → formula_length q formulas (length src) (length v.pending) ≡ Some told → AreFirstSequences front (sequences_of (rule_of e) v.set (v.pending ++ src)) → ⊥
     converting src a f b =
-        never_more q treatment asks front formulas v enough src a (length src) (length v.pending) told (omega arith) (omega arith) f
-        (subst (λ (r : Rule). Begins front (sequences_of r v.set (v.pending ++ src))) rule b) passes
+        never_more q mode asks front formulas v enough src a (length src) (length v.pending) told (omega arith) (omega arith) f
+        (subst (λ (r : Rule). AreFirstSequences front (sequences_of r v.set (v.pending ++ src))) rule b) passes
 
-    with_bb : (src : List ℕ) → AreBytes src → of_sum (own q formulas) (plus (Some (length src)) 2) ≡ Some told → (v.pending ≡ []) ⊎ (v.pending ≡ 0xBB ∷ [])
-        → Begins front (sequences_of (rule_of e) v.set (0xBB ∷ src)) → ⊥
+    with_bb : (src : List ℕ) → AreBytes src → length_at (idle_length q formulas) (checked_add (Some (length src)) 2) ≡ Some told → (v.pending ≡ []) ⊎ (v.pending ≡ 0xBB ∷ [])
+        → AreFirstSequences front (sequences_of (rule_of e) v.set (0xBB ∷ src)) → ⊥
     with_bb src a f (inl n) b =
-        never_more q treatment asks front formulas v enough (0xBB ∷ src) (omega arith, a) (length src + 2) 0 told (omega arith) (omega (arith, ap length n)) (summed (own q formulas) (length src) told f)
-        (subst (λ (x : List ℕ). Begins front (sequences_of v.rule v.set (x ++ 0xBB ∷ src))) (sym n) (subst (λ (r : Rule). Begins front (sequences_of r v.set (0xBB ∷ src))) rule b)) passes
+        never_more q mode asks front formulas v enough (0xBB ∷ src) (omega arith, a) (length src + 2) 0 told (omega arith) (omega (arith, ap length n)) (summed (idle_length q formulas) (length src) told f)
+        (subst (λ (x : List ℕ). AreFirstSequences front (sequences_of v.rule v.set (x ++ 0xBB ∷ src))) (sym n) (subst (λ (r : Rule). AreFirstSequences front (sequences_of r v.set (0xBB ∷ src))) rule b)) passes
     with_bb src a f (inr n) b =
-        never_more q treatment asks front formulas v enough src a (length src + 2) 0 told (omega arith) (omega (arith, ap length n)) (summed (own q formulas) (length src) told f)
-        (subst (λ (x : List ℕ). Begins front (sequences_of v.rule v.set (x ++ src))) (sym n) (subst (λ (r : Rule). Begins front (sequences_of r v.set (0xBB ∷ src))) rule b)) passes
+        never_more q mode asks front formulas v enough src a (length src + 2) 0 told (omega arith) (omega (arith, ap length n)) (summed (idle_length q formulas) (length src) told f)
+        (subst (λ (x : List ℕ). AreFirstSequences front (sequences_of v.rule v.set (x ++ src))) (sym n) (subst (λ (r : Rule). AreFirstSequences front (sequences_of r v.set (0xBB ∷ src))) rule b)) passes
 
 none_unread : (n : ℕ) → 0 < n → unread_bytes ConvertingWithPendingBb n ≡ []
 none_unread n l = let e : (n == 0) ≡ false = grind (arith, nat_tests) in cond-false _ _ _ e
 
-bb_pending : (pending : List ℕ) → pending_bytes (0xBB ∷ []) pending ≡ pending ++ unread_bytes ConvertingWithPendingBb (length pending) → (pending ≡ []) ⊎ (pending ≡ 0xBB ∷ [])
+bb_pending : (pending : List ℕ) → held_or_pending_bytes (0xBB ∷ []) pending ≡ pending ++ unread_bytes ConvertingWithPendingBb (length pending) → (pending ≡ []) ⊎ (pending ≡ 0xBB ∷ [])
 bb_pending [] h = inl refl
 bb_pending (c ∷ z) h = inr (sym (h ∙ ap (λ y. (c ∷ z) ++ y) (none_unread (length (c ∷ z)) (omega arith)) ∙ append-nil (c ∷ z)))
 
 -- What is told is enough, by how far the decoder has come.
-pub told_enough : (q : Query) (treatment : Treatment) → Asks q treatment → (e : Encoding) (life : LifeCycle) (v : CodecState) → rule_of e ≡ v.rule → HoldsBack life v → HasOwnMark e.id life
-    → AreEnough (codec_lengths (codec_by_id e.id)) v → (src : List ℕ) (last : Bool) (told : ℕ) → AreBytes src
-    → max_length q (state_by e life v) (length src) ≡ Some told → NeedPasses (units_asked q) treatment (decoder_remainder (state_by e life v)) src last told → ⊥
-told_enough q treatment asks e life v rule holds own_mark enough src last told a f p =
-    by_life life (holds.unread) (holds.behind) own_mark f (at_end last (remaining_sequences (state_by e life v)) src p.sequences p.determined)
+pub told_enough : (q : Query) (mode : DecodeErrorMode) → IsForMode q mode → (e : Encoding) (life : LifeCycle) (v : CodecState) → rule_of e ≡ v.rule → HeldBytesMatchCodec life v → LooksForOwnMark e.id life
+    → AreEnoughForCodec (codec_lengths (codec_by_id e.id)) v → (src : List ℕ) (last : Bool) (told : ℕ) → AreBytes src
+    → max_length q (decoder_state_of e life v) (length src) ≡ Some told → NeedExceeds (query_units q) mode (decoder_remainder (decoder_state_of e life v)) src last told → ⊥
+told_enough q mode asks e life v rule holds own_mark enough src last told a f p =
+    by_life life (holds.unread) (holds.behind) own_mark f (at_end last (remaining_sequences (decoder_state_of e life v)) src p.sequences p.determined)
   where
     by_life : (life : LifeCycle) → (awaits_mark (phase_of life) ≡ true → (v.set ≡ 0) × (v.pending ≡ []))
-        → pending_bytes (held_bytes life) v.pending ≡ v.pending ++ unread_bytes life (length v.pending) → HasOwnMark e.id life
-        → max_length q (state_by e life v) (length src) ≡ Some told → Begins p.sequences (remaining_sequences (state_by e life v) src) → ⊥
+        → held_or_pending_bytes (held_mark_bytes life) v.pending ≡ v.pending ++ unread_bytes life (length v.pending) → LooksForOwnMark e.id life
+        → max_length q (decoder_state_of e life v) (length src) ≡ Some told → AreFirstSequences p.sequences (remaining_sequences (decoder_state_of e life v) src) → ⊥
     by_life AtStart u h o f b =
-        at_start q treatment asks e p.sequences told p.more src a (subst (λ (x : List ℕ). length_in q AtStart (codec_lengths (codec_by_id e.id)) (length src) (length x) ≡ Some told) (u refl).1 f)
-        (subst (λ (x : List ℕ). Begins p.sequences (sequences_by (find_mark marks (x ++ src)) e (x ++ src))) (u refl).1 b)
+        at_start q mode asks e p.sequences told p.more src a (subst (λ (x : List ℕ). life_cycle_length q AtStart (codec_lengths (codec_by_id e.id)) (length src) (length x) ≡ Some told) (u refl).1 f)
+        (subst (λ (x : List ℕ). AreFirstSequences p.sequences (sequences_by_mark (find_mark marks (x ++ src)) e (x ++ src))) (u refl).1 b)
     by_life AtUtf8Start u h o f b =
-        at_own_start q treatment asks e p.sequences told p.more utf_8_mark o _ src a f
-        (subst (λ (x : List ℕ). Begins p.sequences (sequences_by (find_mark (utf_8_mark ∷ []) (x ++ src)) e (x ++ src))) (u refl).1 b)
+        at_own_start q mode asks e p.sequences told p.more utf_8_mark o _ src a f
+        (subst (λ (x : List ℕ). AreFirstSequences p.sequences (sequences_by_mark (find_mark (utf_8_mark ∷ []) (x ++ src)) e (x ++ src))) (u refl).1 b)
     by_life AtUtf16BeStart u h o f b =
-        at_own_start q treatment asks e p.sequences told p.more utf_16be_mark o _ src a f
-        (subst (λ (x : List ℕ). Begins p.sequences (sequences_by (find_mark (utf_16be_mark ∷ []) (x ++ src)) e (x ++ src))) (u refl).1 b)
+        at_own_start q mode asks e p.sequences told p.more utf_16be_mark o _ src a f
+        (subst (λ (x : List ℕ). AreFirstSequences p.sequences (sequences_by_mark (find_mark (utf_16be_mark ∷ []) (x ++ src)) e (x ++ src))) (u refl).1 b)
     by_life AtUtf16LeStart u h o f b =
-        at_own_start q treatment asks e p.sequences told p.more utf_16le_mark o _ src a f
-        (subst (λ (x : List ℕ). Begins p.sequences (sequences_by (find_mark (utf_16le_mark ∷ []) (x ++ src)) e (x ++ src))) (u refl).1 b)
-    by_life SeenUtf8First u h o f b = seen q treatment asks e p.sequences told p.more utf_8_mark by.Utf8 refl _ (0xEF ∷ []) src (omega arith) (omega arith, a) f b
-    by_life SeenUtf8Second u h o f b = seen q treatment asks e p.sequences told p.more utf_8_mark by.Utf8 refl _ (0xEF ∷ 0xBB ∷ []) src (omega arith) (omega arith, (omega arith, a)) f b
-    by_life SeenUtf16BeFirst u h o f b = seen q treatment asks e p.sequences told p.more utf_16be_mark by.Utf16 refl _ (0xFE ∷ []) src (omega arith) (omega arith, a) f b
-    by_life SeenUtf16LeFirst u h o f b = seen q treatment asks e p.sequences told p.more utf_16le_mark by.Utf16 refl _ (0xFF ∷ []) src (omega arith) (omega arith, a) f b
-    by_life ConvertingWithPendingBb u h o f b = with_bb q treatment asks e p.sequences told p.more v rule enough src a f (bb_pending v.pending h) b
-    by_life Converting u h o f b = converting q treatment asks e p.sequences told p.more v rule enough src a f b
+        at_own_start q mode asks e p.sequences told p.more utf_16le_mark o _ src a f
+        (subst (λ (x : List ℕ). AreFirstSequences p.sequences (sequences_by_mark (find_mark (utf_16le_mark ∷ []) (x ++ src)) e (x ++ src))) (u refl).1 b)
+    by_life SeenUtf8First u h o f b = seen q mode asks e p.sequences told p.more utf_8_mark by.Utf8 refl _ (0xEF ∷ []) src (omega arith) (omega arith, a) f b
+    by_life SeenUtf8Second u h o f b = seen q mode asks e p.sequences told p.more utf_8_mark by.Utf8 refl _ (0xEF ∷ 0xBB ∷ []) src (omega arith) (omega arith, (omega arith, a)) f b
+    by_life SeenUtf16BeFirst u h o f b = seen q mode asks e p.sequences told p.more utf_16be_mark by.Utf16 refl _ (0xFE ∷ []) src (omega arith) (omega arith, a) f b
+    by_life SeenUtf16LeFirst u h o f b = seen q mode asks e p.sequences told p.more utf_16le_mark by.Utf16 refl _ (0xFF ∷ []) src (omega arith) (omega arith, a) f b
+    by_life ConvertingWithPendingBb u h o f b = with_bb q mode asks e p.sequences told p.more v rule enough src a f (bb_pending v.pending h) b
+    by_life Converting u h o f b = converting q mode asks e p.sequences told p.more v rule enough src a f b
     by_life Finished u h o f b =
         let n = none_begins p.sequences b in let m = p.more in
-        omega (arith, m, ap (needed_units (units_asked q) treatment) n, none_needs (units_asked q) treatment)
+        omega (arith, m, ap (needed_units (query_units q) mode) n, none_needs (query_units q) mode)
 
 -- so each query tells a room that is enough for the calls that it is for
-pub told_room : (q : Query) (e : Encoding) (life : LifeCycle) (v : CodecState) → rule_of e ≡ v.rule → HoldsBack life v → HasOwnMark e.id life → AreEnough (codec_lengths (codec_by_id e.id)) v
-    → (n : ℕ) (result : Option ℕ) → result ≡ max_length q (state_by e life v) n
-    → IfSome result (λ room. (treatment : Treatment) → Asks q treatment → IsEnoughRoom (units_asked q) treatment (state_by e life v) n room)
+pub told_room : (q : Query) (e : Encoding) (life : LifeCycle) (v : CodecState) → rule_of e ≡ v.rule → HeldBytesMatchCodec life v → LooksForOwnMark e.id life → AreEnoughForCodec (codec_lengths (codec_by_id e.id)) v
+    → (n : ℕ) (result : Option ℕ) → result ≡ max_length q (decoder_state_of e life v) n
+    → IfSome result (λ room. (mode : DecodeErrorMode) → IsForMode q mode → IsEnoughRoom (query_units q) mode (decoder_state_of e life v) n room)
 told_room q e life v rule holds own_mark enough n None r = tt
-told_room q e life v rule holds own_mark enough n (Some room) r = λ treatment asks src last a l p.
-    told_enough q treatment asks e life v rule holds own_mark enough src last room a (ap (max_length q (state_by e life v)) l ∙ sym r) p
+told_room q e life v rule holds own_mark enough n (Some room) r = λ mode asks src last a l p.
+    told_enough q mode asks e life v rule holds own_mark enough src last room a (ap (max_length q (decoder_state_of e life v)) l ∙ sym r) p
 
 -- the same of each query
 
 abbrev TellsRoom : Query → DecoderState → ℕ → Option ℕ → Type 0
-TellsRoom q d n result = IfSome result (λ room. (treatment : Treatment) → Asks q treatment → IsEnoughRoom (units_asked q) treatment d n room)
+TellsRoom q d n result = IfSome result (λ room. (mode : DecodeErrorMode) → IsForMode q mode → IsEnoughRoom (query_units q) mode d n room)
 
-pub room_with_replacement : (d : DecoderState) (n : ℕ) (result : Option ℕ) → TellsRoom query.Utf8 d n result → IfSome result (IsEnoughRoom encode_utf8 Replaced d n)
+pub room_with_replacement : (d : DecoderState) (n : ℕ) (result : Option ℕ) → TellsRoom query.Utf8 d n result → IfSome result (IsEnoughRoom encode_utf8 Replacement d n)
 room_with_replacement d n None h = tt
-room_with_replacement d n (Some room) h = h Replaced tt
+room_with_replacement d n (Some room) h = h Replacement tt
 
-pub room_to_report : (d : DecoderState) (n : ℕ) (result : Option ℕ) → TellsRoom query.Utf8Reporting d n result → IfSome result (IsEnoughRoom encode_utf8 (Reported false) d n)
+pub room_to_report : (d : DecoderState) (n : ℕ) (result : Option ℕ) → TellsRoom query.Utf8Reporting d n result → IfSome result (IsEnoughRoom encode_utf8 (Fatal false) d n)
 room_to_report d n None h = tt
-room_to_report d n (Some room) h = h (Reported false) tt
+room_to_report d n (Some room) h = h (Fatal false) tt
 
 pub room_in_utf_16 : (d : DecoderState) (n : ℕ) (result : Option ℕ) → TellsRoom query.Utf16 d n result
-    → IfSome result (λ room. (treatment : Treatment) → IsEnoughRoom encode_utf16 treatment d n room)
+    → IfSome result (λ room. (mode : DecodeErrorMode) → IsEnoughRoom encode_utf16 mode d n room)
 room_in_utf_16 d n None h = tt
-room_in_utf_16 d n (Some room) h = λ treatment. h treatment tt
+room_in_utf_16 d n (Some room) h = λ mode. h mode tt

@@ -8,13 +8,13 @@ use Rattle.std.specs.Cmp.{first_so, second_so}
 use Rattle.std.proofs.lemmas.Bool.{false≢true}
 use Rattle.std.proofs.lemmas.Slice.Eq.{bytes_eq-Decides}
 use Rattle.std.proofs.lemmas.Str.Ascii.{trim_ascii_is}
-use Rattle.enc_labels.specs.Place.{place_of}
+use Rattle.enc_labels.specs.Place.{word_place}
 use Rattle.enc_labels.specs.Table.{table}
 use Rattle.encoding_rs.specs.declared.encoding.Encoding.{Encoding}
-use Rattle.encoding_rs.specs.Labels.{labelled, paired_with, trim_start, trim_end, get}
+use Rattle.encoding_rs.specs.Labels.{label_pairs, encoding_paired_with, trim_start, trim_end, encoding_of_label}
 
 -- at the place of a word stands that word
-placed : (labels : List (List ℕ)) (word : List ℕ) (i : ℕ) → place_of labels word ≡ Some i → get_or labels i [] ≡ word
+placed : (labels : List (List ℕ)) (word : List ℕ) (i : ℕ) → word_place labels word ≡ Some i → get_or labels i [] ≡ word
 placed [] word i h = absurd (let no : ⊥ = cc in no)
 placed (label ∷ labels) word i h = by_test (bytes_eq label word) refl (λ j e. placed labels word j e)
   where
@@ -22,13 +22,13 @@ placed (label ∷ labels) word i h = by_test (bytes_eq label word) refl (λ j e.
     behind None f g = absurd (let no : ⊥ = cc in no)
     behind (Some j) f g = let k : suc j ≡ i = cc in ap (λ n. get_or (label ∷ labels) n []) (sym k) ∙ f j refl
 
-    by_test : (b : Bool) → bytes_eq label word ≡ b → ((j : ℕ) → place_of labels word ≡ Some j → get_or labels j [] ≡ word) → get_or (label ∷ labels) i [] ≡ word
+    by_test : (b : Bool) → bytes_eq label word ≡ b → ((j : ℕ) → word_place labels word ≡ Some j → get_or labels j [] ≡ word) → get_or (label ∷ labels) i [] ≡ word
     by_test true e f =
-        let g : Some 0 ≡ Some i = sym (ap (λ (b : Bool). if b then Some 0 else option_map suc (place_of labels word)) e) ∙ h in
+        let g : Some 0 ≡ Some i = sym (ap (λ (b : Bool). if b then Some 0 else option_map suc (word_place labels word)) e) ∙ h in
         let k : 0 ≡ i = cc in
         ap (λ n. get_or (label ∷ labels) n []) (sym k) ∙ (bytes_eq-Decides label word).0 e
     by_test false e f =
-        behind (place_of labels word) f (sym (ap (λ (b : Bool). if b then Some 0 else option_map suc (place_of labels word)) e) ∙ h)
+        behind (word_place labels word) f (sym (ap (λ (b : Bool). if b then Some 0 else option_map suc (word_place labels word)) e) ∙ h)
 
 -- the encodings in the order of the labels
 
@@ -42,23 +42,23 @@ at_place (label ∷ labels) (e ∷ encodings) f (suc i) d h l = at_place labels 
 -- a word that is no label of the table is no label
 
 have_places : List (List ℕ × Encoding) → Bool
-have_places pairs = list_all (λ pair. is_some (place_of table pair.0)) pairs
+have_places pairs = list_all (λ pair. is_some (word_place table pair.0)) pairs
 
-all_have_places : have_places labelled ≡ true
-unfolding have_places labelled table
+all_have_places : have_places label_pairs ≡ true
+unfolding have_places label_pairs table
 all_have_places = refl
 
-unplaced : (pairs : List (List ℕ × Encoding)) (word : List ℕ) → have_places pairs ≡ true → place_of table word ≡ None → paired_with pairs word ≡ None
+unplaced : (pairs : List (List ℕ × Encoding)) (word : List ℕ) → have_places pairs ≡ true → word_place table word ≡ None → encoding_paired_with pairs word ≡ None
 unfolding have_places
 unplaced [] word h n = refl
 unplaced (pair ∷ pairs) word h n =
-    let first : is_some (place_of table pair.0) ≡ true = first_so (is_some (place_of table pair.0)) (have_places pairs) h in
+    let first : is_some (word_place table pair.0) ≡ true = first_so (is_some (word_place table pair.0)) (have_places pairs) h in
     let o : bytes_eq pair.0 word ≡ false = other (bytes_eq pair.0 word) refl first in
-    let rest : paired_with pairs word ≡ None = unplaced pairs word (second_so (is_some (place_of table pair.0)) (have_places pairs) h) n in
+    let rest : encoding_paired_with pairs word ≡ None = unplaced pairs word (second_so (is_some (word_place table pair.0)) (have_places pairs) h) n in
     rw (o, rest) refl
   where
-    other : (b : Bool) → bytes_eq pair.0 word ≡ b → is_some (place_of table pair.0) ≡ true → bytes_eq pair.0 word ≡ false
-    other true e s = absurd (false≢true (sym (ap is_some (ap (place_of table) ((bytes_eq-Decides pair.0 word).0 e) ∙ n)) ∙ s))
+    other : (b : Bool) → bytes_eq pair.0 word ≡ b → is_some (word_place table pair.0) ≡ true → bytes_eq pair.0 word ≡ false
+    other true e s = absurd (false≢true (sym (ap is_some (ap (word_place table) ((bytes_eq-Decides pair.0 word).0 e) ∙ n)) ∙ s))
     other false e s = e
 
 -- what the place of a trimmed label tells
@@ -66,10 +66,11 @@ module _ (label trimmed : List ℕ) (trim : IsTrimAscii label trimmed) where
   word_is : map to_ascii_lowercase trimmed ≡ map to_ascii_lowercase (trim_end (trim_start label))
   word_is = ap (map to_ascii_lowercase) (trim_ascii_is label trimmed (trim_start label) refl trim)
 
-  pub gets : (encodings : List Encoding) (i : ℕ) (d : Encoding) → map Some encodings ≡ map (paired_with labelled) table → i < length encodings
-      → Some i ≡ place_of table (map to_ascii_lowercase trimmed) → Some (get_or encodings i d) ≡ get label
+  pub gets : (encodings : List Encoding) (i : ℕ) (d : Encoding) → map Some encodings ≡ map (encoding_paired_with label_pairs) table → i < length encodings
+      → Some i ≡ word_place table (map to_ascii_lowercase trimmed)
+      → Some (get_or encodings i d) ≡ encoding_of_label label
   gets encodings i d h l p =
-      at_place table encodings (paired_with labelled) i d h l ∙ ap (paired_with labelled) (placed table (map to_ascii_lowercase trimmed) i (sym p) ∙ word_is)
+      at_place table encodings (encoding_paired_with label_pairs) i d h l ∙ ap (encoding_paired_with label_pairs) (placed table (map to_ascii_lowercase trimmed) i (sym p) ∙ word_is)
 
-  pub gets_none : None ≡ place_of table (map to_ascii_lowercase trimmed) → None ≡ get label
-  gets_none p = sym (unplaced labelled (map to_ascii_lowercase trimmed) all_have_places (sym p)) ∙ ap (paired_with labelled) word_is
+  pub gets_none : None ≡ word_place table (map to_ascii_lowercase trimmed) → None ≡ encoding_of_label label
+  gets_none p = sym (unplaced label_pairs (map to_ascii_lowercase trimmed) all_have_places (sym p)) ∙ ap (encoding_paired_with label_pairs) word_is

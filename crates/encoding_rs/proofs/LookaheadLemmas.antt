@@ -6,8 +6,8 @@ use Rattle.enc_machine.specs.declared.byte_codec.Kind.TheVariants.{Valid, Skippe
 use Rattle.enc_machine.specs.Sequence.{Sequence}
 use Rattle.enc_machine.specs.Segmentation.{Rule, sequences_of}
 use Rattle.enc_machine.specs.Remainder.{AreBytes, Determines}
-use Rattle.enc_machine.specs.RuleLaws.{IsToldBy, Looks, IsToldByEnd, HasLookahead}
-use Rattle.enc_machine.specs.Lookahead.{ReachBehind}
+use Rattle.enc_machine.specs.RuleLaws.{IsDeterminedWithin, IsLookahead, IsDeterminedByEnd, HasLookahead}
+use Rattle.enc_machine.specs.Lookahead.{CoverLookahead}
 use Rattle.enc_machine.proofs.ByteLemmas.{bytes-drop}
 use Rattle.enc_machine.proofs.LookaheadLemmas.{left_of, reach_behind, determine_if_behind, no_more_than, at_most_three}
 use Rattle.enc_single_byte.proofs.ReplacementLemmas.{told_by_itself}
@@ -16,44 +16,44 @@ use Rattle.encoding_rs.specs.declared.encoding.Encoding.{Encoding}
 use Rattle.encoding_rs.specs.declared.encoding.TheConstants.{REPLACEMENT, ISO_2022_JP}
 use Rattle.encoding_rs.specs.declared.bom.BomHandling.{BomHandling}
 use Rattle.encoding_rs.specs.Encodings.{rule_of}
-use Rattle.encoding_rs.specs.Bom.{Mark, marks_looked_for, find_mark, sequences_by}
-use Rattle.encoding_rs.specs.LifeCycle.{mark_bytes, encoding_by}
+use Rattle.encoding_rs.specs.Bom.{Mark, marks_looked_for, find_mark, sequences_by_mark}
+use Rattle.encoding_rs.specs.LifeCycle.{mark_bytes, encoding_of_mark_or}
 use Rattle.encoding_rs.specs.Decoding.{whole_sequences}
-use Rattle.encoding_rs.specs.MarkLaws.{MayBeginMark, behind}
+use Rattle.encoding_rs.specs.MarkLaws.{MayBeginMark, bytes_after_mark}
 use Rattle.encoding_rs.specs.Lookahead.{MayLook}
 use Rattle.encoding_rs.proofs.EncodingLemmas.{lookahead_of}
-use Rattle.encoding_rs.proofs.SettledLemmas.{told, found_fits, undetermined, by_rule}
+use Rattle.encoding_rs.proofs.MarkFirstLemmas.{told, found_fits, undetermined, by_rule}
 
 -- by the kind of the sequence
 
-looks_not : (rule : Rule) (set b : ℕ) (z : List ℕ) (n : ℕ) → AreBytes z → Looks rule set b z n → IsToldBy rule set b z 0 → n ≡ 0
+looks_not : (rule : Rule) (set b : ℕ) (z : List ℕ) (n : ℕ) → AreBytes z → IsLookahead rule set b z n → IsDeterminedWithin rule set b z 0 → n ≡ 0
 looks_not rule set b z n a l t = let m = no_more_than rule set b z n 0 a l t in omega (arith, m)
 
-some_more : (rule : Rule) (set b : ℕ) (z : List ℕ) (n : ℕ) → Looks rule set b z n → (IsToldBy rule set b z 0 → ⊥) → 1 ≤ n
+some_more : (rule : Rule) (set b : ℕ) (z : List ℕ) (n : ℕ) → IsLookahead rule set b z n → (IsDeterminedWithin rule set b z 0 → ⊥) → 1 ≤ n
 some_more rule set b z zero l f = absurd (f l.told)
 some_more rule set b z (suc n) l f = omega arith
 
-pub may_look : (e : Encoding) (set b : ℕ) (z : List ℕ) (n : ℕ) → AreBytes z → Looks (rule_of e) set b z n → (kind : Kind) → (rule_of e set b z).kind ≡ kind → MayLook e kind n
+pub may_look : (e : Encoding) (set b : ℕ) (z : List ℕ) (n : ℕ) → AreBytes z → IsLookahead (rule_of e) set b z n → (kind : Kind) → (rule_of e set b z).kind ≡ kind → MayLook e kind n
 may_look e set b z n a l Valid k = looks_not (rule_of e) set b z n a l ((lookahead_of e).valid set b z k)
 may_look e set b z n a l Skipped k = (
   at_most_three (rule_of e) (lookahead_of e) set b z n a l,
-  (λ r. looks_not (rule_of e) set b z n a l (subst (λ (f : Encoding). IsToldBy (rule_of f) set b z 0) (sym r) (told_by_itself set b z))),
+  (λ r. looks_not (rule_of e) set b z n a l (subst (λ (f : Encoding). IsDeterminedWithin (rule_of f) set b z 0) (sym r) (told_by_itself set b z))),
   (λ j. some_more (rule_of e) set b z n l
-      (subst (λ (f : Encoding). (rule_of f set b z).kind ≡ Skipped → IsToldBy (rule_of f) set b z 0 → ⊥) (sym j) (looks_behind_skipped.not_alone set b z) k)),
+      (subst (λ (f : Encoding). (rule_of f set b z).kind ≡ Skipped → IsDeterminedWithin (rule_of f) set b z 0 → ⊥) (sym j) (looks_behind_skipped.not_alone set b z) k)),
 )
 may_look e set b z n a l Malformed k = at_most_three (rule_of e) (lookahead_of e) set b z n a l
 may_look e set b z n a l RepeatedEscape k = at_most_three (rule_of e) (lookahead_of e) set b z n a l
 
-pub looks_or_ends : (e : Encoding) (set b : ℕ) (z : List ℕ) → ((n : ℕ) × Looks (rule_of e) set b z n) ⊎ IsToldByEnd (rule_of e) set b z
+pub looks_or_ends : (e : Encoding) (set b : ℕ) (z : List ℕ) → ((n : ℕ) × IsLookahead (rule_of e) set b z n) ⊎ IsDeterminedByEnd (rule_of e) set b z
 looks_or_ends e set b z = elim ((lookahead_of e).others set b z) [ inl t ↦ inl (t.0, t.2) | inr f ↦ inr f ]
 
 -- after the byte order mark
 
-sequences_are : (found : Option Mark) (e : Encoding) (bytes : List ℕ) → sequences_by found e bytes ≡ sequences_of (rule_of (encoding_by found e)) 0 (behind found bytes)
+sequences_are : (found : Option Mark) (e : Encoding) (bytes : List ℕ) → sequences_by_mark found e bytes ≡ sequences_of (rule_of (encoding_of_mark_or found e)) 0 (bytes_after_mark found bytes)
 sequences_are None e bytes = refl
 sequences_are (Some m) e bytes = refl
 
-bytes_behind : (found : Option Mark) (bytes : List ℕ) → AreBytes bytes → AreBytes (behind found bytes)
+bytes_behind : (found : Option Mark) (bytes : List ℕ) → AreBytes bytes → AreBytes (bytes_after_mark found bytes)
 bytes_behind None bytes a = a
 bytes_behind (Some m) bytes a = bytes-drop (length m.bytes) bytes a
 
@@ -62,11 +62,11 @@ mark_fits looked_for x None e = omega arith
 mark_fits looked_for x (Some m) e = found_fits looked_for x m e
 
 front_behind : (found : Option Mark) (bytes : List ℕ) (k : ℕ) → length (mark_bytes found) ≤ k
-    → behind found (take k bytes) ≡ take (k - length (mark_bytes found)) (behind found bytes)
+    → bytes_after_mark found (take k bytes) ≡ take (k - length (mark_bytes found)) (bytes_after_mark found bytes)
 front_behind None bytes k h = ap (λ i. take i bytes) (let e : k ≡ k - 0 = omega arith in e)
 front_behind (Some m) bytes k h = left_of (length m.bytes) k bytes h
 
-length_behind : (found : Option Mark) (bytes : List ℕ) → length (behind found bytes) ≡ length bytes - length (mark_bytes found)
+length_behind : (found : Option Mark) (bytes : List ℕ) → length (bytes_after_mark found bytes) ≡ length bytes - length (mark_bytes found)
 length_behind None bytes = omega arith
 length_behind (Some m) bytes = length-drop (length m.bytes) bytes
 
@@ -79,10 +79,10 @@ module _ (handling : BomHandling) (e : Encoding) (bytes : List ℕ) (s : Sequenc
   found = find_mark looked_for bytes
 
   abbrev rule : Rule
-  rule = rule_of (encoding_by found e)
+  rule = rule_of (encoding_of_mark_or found e)
 
   abbrev left : List ℕ
-  left = behind found bytes
+  left = bytes_after_mark found bytes
 
   abbrev mark_len : ℕ
   mark_len = length (mark_bytes found)
@@ -106,11 +106,11 @@ module _ (handling : BomHandling) (e : Encoding) (bytes : List ℕ) (s : Sequenc
         (by_rule handling e (take k bytes) (s ∷ ss) found same n)
 
   pub determined_whole : Determines (whole_sequences handling e) (take k bytes) (s ∷ ss)
-      ↔ ((MayBeginMark looked_for (take k bytes) → ⊥) × ReachBehind rule 0 left (s ∷ ss) (k - mark_len))
+      ↔ ((MayBeginMark looked_for (take k bytes) → ⊥) × CoverLookahead rule 0 left (s ∷ ss) (k - mark_len))
   determined_whole = (
     (λ d. let n : MayBeginMark looked_for (take k bytes) → ⊥ = λ i. undetermined handling e (take k bytes) s ss i d in (
       n,
-      reach_behind rule (lookahead_of (encoding_by found e)) (s ∷ ss) rest 0 (k - mark_len) left (bytes_behind found bytes a) all (few n) ((by_front n).0 d),
+      reach_behind rule (lookahead_of (encoding_of_mark_or found e)) (s ∷ ss) rest 0 (k - mark_len) left (bytes_behind found bytes a) all (few n) ((by_front n).0 d),
     )),
-    (λ r. (by_front r.0).1 (determine_if_behind rule (lookahead_of (encoding_by found e)) (s ∷ ss) rest 0 (k - mark_len) left all (few r.0) r.1)),
+    (λ r. (by_front r.0).1 (determine_if_behind rule (lookahead_of (encoding_of_mark_or found e)) (s ∷ ss) rest 0 (k - mark_len) left all (few r.0) r.1)),
   )

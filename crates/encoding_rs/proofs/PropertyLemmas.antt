@@ -2,7 +2,7 @@
 use Rattle.std.proofs.Common.{◌≡◌, ℕ, ◌<◌, ◌↔◌, Bool, true, false, Option, Some, refl, subst}
 use Rattle.enc_machine.specs.Segmentation.{Rule}
 use Rattle.enc_single_byte.specs.OneByte.{one_byte_rule}
-use Rattle.enc_codec.specs.Properties.{IsAsciiCompatible, IsSingleByte, TellsBbByItself}
+use Rattle.enc_codec.specs.Properties.{IsAsciiCompatible, IsSingleByte, DeterminesBbByItself}
 use Rattle.enc_codec.proofs.PropertyLemmas.{utf_8_is_ascii_compatible, utf_8_is_not_single_byte, utf_16_is_not_ascii_compatible, utf_16_is_not_single_byte, one_byte_is_ascii_compatible, single_byte_ascii, x_user_defined_ascii, one_byte_is_single_byte, multi_byte_is_ascii_compatible, big5_has_ascii, euc_kr_has_ascii, shift_jis_has_ascii, euc_jp_has_ascii, gb18030_has_ascii, big5_is_not_single_byte, euc_kr_is_not_single_byte, shift_jis_is_not_single_byte, euc_jp_is_not_single_byte, gb18030_is_not_single_byte, iso_2022_jp_is_not_ascii_compatible, iso_2022_jp_is_not_single_byte, replacement_is_not_ascii_compatible, replacement_is_not_single_byte}
 use Rattle.enc_codec.proofs.MarkByteLemmas.{utf_8_tells_bb, utf_16_tells_bb, one_byte_tells_bb, big5_tells_bb, euc_kr_tells_bb, shift_jis_tells_bb, euc_jp_tells_bb, gb18030_tells_bb, iso_2022_jp_tells_bb, replacement_tells_bb}
 use Rattle.encoding_rs.specs.declared.encoding.Id.{Id}
@@ -23,7 +23,7 @@ Tells false p = ¬ p
 record HasProperties (compatible single_byte : Bool) (rule : Rule) : Type 0 where
   ascii : Tells compatible (IsAsciiCompatible rule)
   single : Tells single_byte (IsSingleByte rule)
-  bb : TellsBbByItself rule
+  bb : DeterminesBbByItself rule
 
 one_byte : (character : ℕ → Option ℕ) → ((b : ℕ) → b < 0x80 → character b ≡ Some b) → HasProperties true true (one_byte_rule character)
 one_byte character a = record { ascii = one_byte_is_ascii_compatible character a; single = one_byte_is_single_byte character; bb = one_byte_tells_bb character }
@@ -127,5 +127,5 @@ tells_single_byte e =
     let has : Bool → Type 0 = λ t. Tells t (IsSingleByte (rule_of e)) in
     list_tells _ _ (subst has (listed_single_byte e.id) (properties_of e).single)
 
-pub tells_bb : (e : Encoding) → TellsBbByItself (rule_of e)
+pub tells_bb : (e : Encoding) → DeterminesBbByItself (rule_of e)
 tells_bb e = (properties_of e).bb

@@ -1,10 +1,10 @@
 -- Texts with references in the place of unmappable characters.
 use Rattle.std.proofs.Common.{◌≡◌, ℕ, false, not, ◌||◌, is_some, Option, Some, None, List, [], ◌∷◌, ◌++◌, inl, refl, ap, sym, ◌∙◌, append_assoc}
-use Rattle.enc_encoders.specs.EncoderRule.{EncoderRule, IsLawful}
+use Rattle.enc_encoders.specs.EncoderRule.{EncoderRule, IsLawfulEncoderRule}
 use Rattle.enc_encoders.specs.Text.{reference, with_reference, with_references}
 use Rattle.enc_encoders.specs.Utf8.{utf_8_bytes}
 use Rattle.enc_encoders.proofs.StatelessLemmas.{stateless_is_lawful, utf_8_writes_ascii}
-use Rattle.enc_encoders.proofs.FewLemmas.{few_utf_8}
+use Rattle.enc_encoders.proofs.FourByteLemmas.{few_utf_8}
 use Rattle.enc_encoders.proofs.BarringLemmas.{barring_is_lawful}
 use Rattle.enc_encoders.proofs.TextLemmas.{AreOfReferences, reference_is}
 use Rattle.enc_encode.specs.Encoders.{encoder_rule}
@@ -13,22 +13,22 @@ use Rattle.enc_references.specs.Unmappable.{any_unmappable}
 use Rattle.enc_references.proofs.UnmappableLemmas.{any_unmappable-append}
 use Rattle.encoding_rs.specs.declared.encoding.Encoding.{Encoding}
 use Rattle.encoding_rs.specs.EncodingTable.{codec_by_id}
-use Rattle.encoding_rs.specs.Encodings.{or_utf_8, output_rule}
+use Rattle.encoding_rs.specs.Encodings.{rule_or_utf_8, output_rule}
 
-or_lawful : (found : Option EncoderRule) → IsLawfulIfAny found → IsLawful (or_utf_8 found)
+or_lawful : (found : Option EncoderRule) → IsLawfulIfAny found → IsLawfulEncoderRule (rule_or_utf_8 found)
 or_lawful None h = stateless_is_lawful utf_8_bytes utf_8_writes_ascii few_utf_8
 or_lawful (Some e) h = h
 
 -- what holds of the rule of every encoder, whatever is barred
-pub lawful_of : (b : List ℕ) (e : Encoding) → IsLawful (output_rule b e)
-lawful_of b e = barring_is_lawful b (or_utf_8 (encoder_rule (codec_by_id e.id))) (or_lawful (encoder_rule (codec_by_id e.id)) (lawful_if_any (codec_by_id e.id)))
+pub lawful_of : (b : List ℕ) (e : Encoding) → IsLawfulEncoderRule (output_rule b e)
+lawful_of b e = barring_is_lawful b (rule_or_utf_8 (encoder_rule (codec_by_id e.id))) (or_lawful (encoder_rule (codec_by_id e.id)) (lawful_if_any (codec_by_id e.id)))
 
 with_references-append : (e : EncoderRule) (a b : List ℕ) → with_references e (a ++ b) ≡ with_references e a ++ with_references e b
 with_references-append e [] b = refl
 with_references-append e (c ∷ a) b =
     ap (λ t. with_reference e c (e.bytes c) ++ t) (with_references-append e a b) ∙ sym (append_assoc (with_reference e c (e.bytes c)) (with_references e a) (with_references e b))
 
-module _ (e : EncoderRule) (l : IsLawful e) where
+module _ (e : EncoderRule) (l : IsLawfulEncoderRule e) where
   -- a mappable character stays, and so does a reference
 
   mapped_stays : (c : ℕ) (b : List ℕ) (t : List ℕ) → e.bytes c ≡ Some b → with_references e (c ∷ t) ≡ c ∷ with_references e t

@@ -6,40 +6,40 @@ use Rattle.std.specs.Char.{IsScalar}
 use Rattle.std.specs.Cmp.{first_so, second_so}
 use Rattle.enc_units.specs.Output.{AreScalars}
 use Rattle.enc_units.proofs.ScalarLemmas.{scalars-append}
-use Rattle.enc_machine.specs.Sequence.{text_of, any_malformed}
+use Rattle.enc_machine.specs.Sequence.{sequence_text, any_malformed}
 use Rattle.enc_machine.specs.Segmentation.{sequences_of}
 use Rattle.enc_encoders.specs.declared.character_set.CharacterSet.TheVariants.{Ascii}
-use Rattle.enc_encoders.specs.EncoderRule.{EncoderRule, IsOfReferences}
+use Rattle.enc_encoders.specs.EncoderRule.{EncoderRule, IsReferenceCharacter}
 use Rattle.enc_encoders.specs.Text.{reference, with_reference, with_references, bytes_of_text}
 use Rattle.enc_encoders.proofs.TextLemmas.{AreOfReferences, reference_is}
 use Rattle.enc_encode.specs.Encoders.{encoder_rule}
 use Rattle.enc_references.specs.Unmappable.{any_unmappable}
-use Rattle.enc_round_trip.specs.RoundTrip.{read_back, keeps_characters}
-use Rattle.enc_round_trip.proofs.BackLemmas.{IsReadAs}
+use Rattle.enc_round_trip.specs.RoundTrip.{char_read_back, keeps_characters}
+use Rattle.enc_round_trip.proofs.ReadBackLemmas.{IsReadAs}
 use Rattle.enc_round_trip.proofs.RoundTripLemmas.{is_read, same_text}
 use Rattle.encoding_rs.specs.declared.encoding.Id.{Id}
 use Rattle.encoding_rs.specs.declared.encoding.Id.TheVariants.{EucJp, ShiftJis, Iso2022Jp}
 use Rattle.encoding_rs.specs.declared.encoding.Encoding.{Encoding}
 use Rattle.encoding_rs.specs.EncodingTable.{codec_by_id}
-use Rattle.encoding_rs.specs.Encodings.{or_utf_8, output_rule, rule_of}
+use Rattle.encoding_rs.specs.Encodings.{rule_or_utf_8, output_rule, rule_of}
 use Rattle.encoding_rs.specs.Properties.{output_encoding_of}
 use Rattle.encoding_rs.specs.EncodeRun.{whole_bytes}
 use Rattle.encoding_rs.proofs.EncoderLemmas.{has_encoder}
-use Rattle.encoding_rs.proofs.ProgressLemmas.{same_rule}
+use Rattle.encoding_rs.proofs.EncoderProgressLemmas.{same_rule}
 use Rattle.encoding_rs.proofs.ReferenceLemmas.{lawful_of, all_mapped}
 
 -- the rule of the output encoding is that of its codec
 
-found : (o : Option EncoderRule) → is_some o ≡ true → o ≡ Some (or_utf_8 o)
+found : (o : Option EncoderRule) → is_some o ≡ true → o ≡ Some (rule_or_utf_8 o)
 found None h = cc
 found (Some e) h = refl
 
-encoder_is : (e : Encoding) → encoder_rule (codec_by_id (output_encoding_of e).id) ≡ Some (or_utf_8 (encoder_rule (codec_by_id e.id)))
+encoder_is : (e : Encoding) → encoder_rule (codec_by_id (output_encoding_of e).id) ≡ Some (rule_or_utf_8 (encoder_rule (codec_by_id e.id)))
 encoder_is e = found (encoder_rule (codec_by_id (output_encoding_of e).id)) (has_encoder e) ∙ ap Some (same_rule e.id)
 
 pub decoded : (b : List ℕ) (e : Encoding) (t : List ℕ) → AreScalars t → any_unmappable (output_rule b e) t ≡ false
-    → IsReadAs (rule_of (output_encoding_of e)) 0 (bytes_of_text (output_rule b e) Ascii t) (map (read_back (codec_by_id (output_encoding_of e).id)) t)
-decoded b e t s m = is_read (codec_by_id (output_encoding_of e).id) b (or_utf_8 (encoder_rule (codec_by_id e.id))) t (encoder_is e) s m
+    → IsReadAs (rule_of (output_encoding_of e)) 0 (bytes_of_text (output_rule b e) Ascii t) (map (char_read_back (codec_by_id (output_encoding_of e).id)) t)
+decoded b e t s m = is_read (codec_by_id (output_encoding_of e).id) b (rule_or_utf_8 (encoder_rule (codec_by_id e.id))) t (encoder_is e) s m
 
 -- all but three give each character back
 
@@ -54,15 +54,15 @@ of_id id = record { id = id }
 
 pub decoded_text : (b : List ℕ) (e : Encoding) (t : List ℕ) → AreScalars t → any_unmappable (output_rule b e) t ≡ false
     → output_encoding_of e ≢ record { id = EucJp } → output_encoding_of e ≢ record { id = ShiftJis } → output_encoding_of e ≢ record { id = Iso2022Jp }
-    → text_of (sequences_of (rule_of (output_encoding_of e)) 0 (bytes_of_text (output_rule b e) Ascii t)) ≡ t
+    → sequence_text (sequences_of (rule_of (output_encoding_of e)) 0 (bytes_of_text (output_rule b e) Ascii t)) ≡ t
 unfolding of_id
 decoded_text b e t s m euc shift iso =
-    same_text (codec_by_id (output_encoding_of e).id) b (or_utf_8 (encoder_rule (codec_by_id e.id))) t (encoder_is e) s m
+    same_text (codec_by_id (output_encoding_of e).id) b (rule_or_utf_8 (encoder_rule (codec_by_id e.id))) t (encoder_is e) s m
     (keeps (output_encoding_of e).id (λ q. euc (ap of_id q)) (λ q. shift (ap of_id q)) (λ q. iso (ap of_id q)))
 
 -- references are of scalar values
 
-is_scalar : (c : ℕ) → IsOfReferences c → IsScalar c
+is_scalar : (c : ℕ) → IsReferenceCharacter c → IsScalar c
 is_scalar c h = let l : c < 0x80 = omega arith in ascii_scalar c l
   where
     ascii_scalar : (c : ℕ) → c < 0x80 → IsScalar c

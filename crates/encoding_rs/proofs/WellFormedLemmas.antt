@@ -7,7 +7,7 @@ use Rattle.std.specs.Str.{IsUtf8, all_scalars, encode_utf8_all}
 use Rattle.std.specs.Cmp.{first_so, second_so}
 use Rattle.enc_machine.specs.Sequence.{Sequence, any_malformed}
 use Rattle.enc_machine.specs.Segmentation.{sequences_of}
-use Rattle.enc_utf.specs.Utf8.{sequence_len, is_second, is_continuation, scalar_of, utf_8_rule}
+use Rattle.enc_utf.specs.Utf8.{sequence_len, is_second_byte, is_continuation, scalar_of, utf_8_rule}
 use Rattle.enc_machine.proofs.SegmentationLemmas.{sequences_of-nil}
 use Rattle.enc_utf.proofs.Utf8Lemmas.{valid_sequence, malformed_sequence, two_range, three_range, four_range, at_most_four, second_range, continuation_range, none_malformed, one_valid, one_malformed, one_end, two_valid, two_malformed, two_end, three_valid, three_malformed, three_end, four_valid, two_scalar, three_scalar, four_scalar}
 
@@ -40,7 +40,8 @@ ascii_range a s = grind (arith, nat_tests)
 same_two : (a b x y : ℕ) → x ≡ a → y ≡ b → x ∷ y ∷ [] ≡ a ∷ b ∷ []
 same_two a b x y e f = cc
 
-two_encoded : (a b : ℕ) → sequence_len a ≡ 2 → is_second a b ≡ true → encode_utf8 (scalar_of (a ∷ b ∷ [])) ≡ a ∷ b ∷ []
+two_encoded : (a b : ℕ) → sequence_len a ≡ 2 → is_second_byte a b ≡ true
+    → encode_utf8 (scalar_of (a ∷ b ∷ [])) ≡ a ∷ b ∷ []
 two_encoded a b s e =
     let r = two_range a s in let t = second_range a b e in
     encoded_two _ (omega arith) (omega arith) ∙ same_two a b _ _ (omega arith) (omega arith)
@@ -48,7 +49,7 @@ two_encoded a b s e =
 same_three : (a b c x y z : ℕ) → x ≡ a → y ≡ b → z ≡ c → x ∷ y ∷ z ∷ [] ≡ a ∷ b ∷ c ∷ []
 same_three a b c x y z e f g = cc
 
-three_encoded : (a b c : ℕ) → sequence_len a ≡ 3 → is_second a b ≡ true → is_continuation c ≡ true
+three_encoded : (a b c : ℕ) → sequence_len a ≡ 3 → is_second_byte a b ≡ true → is_continuation c ≡ true
     → encode_utf8 (scalar_of (a ∷ b ∷ c ∷ [])) ≡ a ∷ b ∷ c ∷ []
 three_encoded a b c s e t =
     let r = three_range a s in let u = second_range a b e in let v = continuation_range c t in
@@ -59,7 +60,7 @@ same_four : (a b c d x y z w : ℕ) → x ≡ a → y ≡ b → z ≡ c → w �
 same_four a b c d x y z w e f g h = cc
 
 four_encoded : (a b c d : ℕ)
-    → sequence_len a ≡ 4 → is_second a b ≡ true → is_continuation c ≡ true → is_continuation d ≡ true
+    → sequence_len a ≡ 4 → is_second_byte a b ≡ true → is_continuation c ≡ true → is_continuation d ≡ true
     → encode_utf8 (scalar_of (a ∷ b ∷ c ∷ d ∷ [])) ≡ a ∷ b ∷ c ∷ d ∷ []
 four_encoded a b c d s e t x =
     let r = four_range a s in let u = second_range a b e in
@@ -89,13 +90,13 @@ malformed_front : (z bytes : List ℕ) (ss : List Sequence)
 malformed_front z bytes ss s = inr (ap any_malformed s)
 
 front_four : (t : Bool) (a b c d : ℕ) (z : List ℕ)
-    → sequence_len a ≡ 4 → is_second a b ≡ true → is_continuation c ≡ true → is_continuation d ≡ t → Front (a ∷ b ∷ c ∷ d ∷ z)
+    → sequence_len a ≡ 4 → is_second_byte a b ≡ true → is_continuation c ≡ true → is_continuation d ≡ t → Front (a ∷ b ∷ c ∷ d ∷ z)
 front_four false a b c d z s e f g = malformed_front _ _ _ (three_malformed a b c d z s e f g)
 front_four true a b c d z s e f g =
     valid_front _ (a ∷ b ∷ c ∷ d ∷ []) z
     (four_scalar a b c d s e f g) (four_encoded a b c d s e f g) (four_valid a b c d z s e f g)
 
-front_three : (t : Bool) (n a b c : ℕ) (z : List ℕ) → sequence_len a ≡ n + 3 → is_second a b ≡ true
+front_three : (t : Bool) (n a b c : ℕ) (z : List ℕ) → sequence_len a ≡ n + 3 → is_second_byte a b ≡ true
     → is_continuation c ≡ t → Front (a ∷ b ∷ c ∷ z)
 front_three false n a b c z s e f = malformed_front _ _ _ (two_malformed a b c z (omega arith) e f)
 front_three true zero a b c z s e f =
@@ -106,7 +107,7 @@ front_three true (suc n) a b c [] s e f =
 front_three true (suc n) a b c (d ∷ z) s e f =
     let most = at_most_four a in front_four (is_continuation d) a b c d z (omega arith) e f refl
 
-front_two : (t : Bool) (n a b : ℕ) (z : List ℕ) → sequence_len a ≡ n + 2 → is_second a b ≡ t → Front (a ∷ b ∷ z)
+front_two : (t : Bool) (n a b : ℕ) (z : List ℕ) → sequence_len a ≡ n + 2 → is_second_byte a b ≡ t → Front (a ∷ b ∷ z)
 front_two false n a b z s e = malformed_front _ _ _ (one_malformed a b z (omega arith) e)
 front_two true zero a b z s e =
     valid_front _ (a ∷ b ∷ []) z (two_scalar a b s e) (two_encoded a b s e) (two_valid a b z s e)
@@ -118,7 +119,7 @@ front_one zero a z s = malformed_front _ _ _ (none_malformed a z s)
 front_one (suc zero) a z s =
     let h = ascii_range a s in valid_front a (a ∷ []) z (inl (omega arith)) (encode_ascii a h) (one_valid a z s)
 front_one (suc (suc n)) a [] s = malformed_front _ _ _ (one_end a (omega arith))
-front_one (suc (suc n)) a (b ∷ z) s = front_two (is_second a b) n a b z (omega arith) refl
+front_one (suc (suc n)) a (b ∷ z) s = front_two (is_second_byte a b) n a b z (omega arith) refl
 
 -- What has no malformed sequence is the encoded form of some characters.
 pub well_formed : (n : ℕ) (z : List ℕ) → length z ≤ n → malformed_bytes z ≡ false → IsUtf8 z
@@ -158,8 +159,8 @@ unfolding is_continuation
 continues c h k = grind (arith, nat_tests)
 
 is_second_by : (a b : ℕ) → 0x80 ≤ b → b ≤ 0xBF → (a ≡ 0xE0 → 0xA0 ≤ b) → (a ≡ 0xED → b ≤ 0x9F)
-    → (a ≡ 0xF0 → 0x90 ≤ b) → (a ≡ 0xF4 → b ≤ 0x8F) → is_second a b ≡ true
-unfolding is_second
+    → (a ≡ 0xF0 → 0x90 ≤ b) → (a ≡ 0xF4 → b ≤ 0x8F) → is_second_byte a b ≡ true
+unfolding is_second_byte
 is_second_by a b h k u v w x = grind (arith, nat_tests)
 
 scalar_bound : (c : ℕ) → InScalarRange c → c < 0x110000

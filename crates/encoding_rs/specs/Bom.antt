@@ -37,19 +37,19 @@ abbrev pub bom_of : List ℕ → Option (Encoding × ℕ)
 bom_of bytes = option_map (λ m. (m.encoding, length m.bytes)) (find_mark marks bytes)
 
 -- the mark of an encoding, if it has one
-abbrev pub own_marks : Id → List Mark
-own_marks Utf8 = utf_8_mark ∷ []
-own_marks Utf16be = utf_16be_mark ∷ []
-own_marks Utf16le = utf_16le_mark ∷ []
-own_marks _ = []
+abbrev pub marks_of_encoding : Id → List Mark
+marks_of_encoding Utf8 = utf_8_mark ∷ []
+marks_of_encoding Utf16be = utf_16be_mark ∷ []
+marks_of_encoding Utf16le = utf_16le_mark ∷ []
+marks_of_encoding _ = []
 
 -- The marks that are looked for: all three, the encoding's own, or none.
 abbrev pub marks_looked_for : BomHandling → Encoding → List Mark
 marks_looked_for Off e = []
 marks_looked_for Sniff e = marks
-marks_looked_for Remove e = own_marks e.id
+marks_looked_for Remove e = marks_of_encoding e.id
 
 -- The sequences of bytes that begin with a mark: those behind it, by its encoding; or with none: by this one.
-abbrev pub sequences_by : Option Mark → Encoding → List ℕ → List Sequence
-sequences_by None e bytes = sequences_of (rule_of e) 0 bytes
-sequences_by (Some m) e bytes = sequences_of (rule_of m.encoding) 0 (drop (length m.bytes) bytes)
+abbrev pub sequences_by_mark : Option Mark → Encoding → List ℕ → List Sequence
+sequences_by_mark None e bytes = sequences_of (rule_of e) 0 bytes
+sequences_by_mark (Some m) e bytes = sequences_of (rule_of m.encoding) 0 (drop (length m.bytes) bytes)

@@ -7,6 +7,6 @@ abbrev pub most_units : Bool → ℕ
 most_units utf16 = if utf16 then 2 else 4
 
 -- a call that is offered a byte and has room for any character
-pub record GoesFurther (call : DecodeCall) : Type 0 where
+pub record CanDecodeMore (call : DecodeCall) : Type 0 where
   pub offered : 1 ≤ call.offer
   pub roomy : most_units call.utf16 ≤ call.room

@@ -7,13 +7,13 @@ use Rattle.encoding_rs.specs.declared.encode_run.EncodeCall.{EncodeCall}
 use Rattle.encoding_rs.specs.declared.encode_run.EncodeReport.{EncodeReport}
 use Rattle.encoding_rs.specs.Encodings.{output_rule}
 use Rattle.encoding_rs.specs.Encoder.{EncoderState}
-use Rattle.encoding_rs.specs.EncodeRun.{IsEncodeRun, HasEncoded, encode_start, whole_bytes, all_report}
-use Rattle.encoding_rs.specs.EncodeEnd.{GoesFurther}
+use Rattle.encoding_rs.specs.EncodeRun.{IsEncodeRun, HasRunEncoding, encode_run_start, whole_bytes, all_report_unmappable}
+use Rattle.encoding_rs.specs.EncodeEnd.{CanEncodeMore}
 
 -- The report of a run of these calls, where the text is written in the output encoding of this one and these characters are barred.
 pub record IsReportOf (b : List ℕ) (e : Encoding) (text : List ℕ) (given : List EncodeCall) (report : EncodeReport) : Type 0 where
   -- It is that of the calls made, one after another.
-  pub run : (encoder : EncoderState) × IsEncodeRun text (take report.calls given) (encode_start b e) (record {
+  pub run : (encoder : EncoderState) × IsEncodeRun text (take report.calls given) (encode_run_start b e) (record {
     encoder = encoder;
     read = report.read;
     bytes = report.bytes.items;
@@ -26,11 +26,11 @@ pub record IsReportOf (b : List ℕ) (e : Encoding) (text : List ℕ) (given : L
   pub calls : report.calls ≤ length given
   -- Where each call is offered a character and has room for four bytes beside those that it keeps back, two calls for each character
   -- and two more come to the end.
-  pub end : All (GoesFurther b e) given → (report.calls ≤ 2 * length text + 2) × (2 * length text + 2 ≤ length given → report.finished ≡ true)
+  pub end : All (CanEncodeMore b e) given → (report.calls ≤ 2 * length text + 2) × (2 * length text + 2 ≤ length given → report.finished ≡ true)
   -- What has come out is always a beginning of the bytes of the one text.
-  pub beginning : HasEncoded b e text (take report.calls given) report.bytes.items report.read report.unmappables.items report.had_unmappables
+  pub beginning : HasRunEncoding b e text (take report.calls given) report.bytes.items report.read report.unmappables.items report.had_unmappables
   -- At the end it is all of them.
   pub bytes : report.finished ≡ true → report.bytes.items ≡ whole_bytes b e text
   pub flag : report.finished ≡ true → report.had_unmappables ≡ any_unmappable (output_rule b e) text
-  pub unmappables : report.finished ≡ true → all_report (take report.calls given) ≡ true → report.unmappables.items ≡ reports_of (output_rule b e) text
+  pub unmappables : report.finished ≡ true → all_report_unmappable (take report.calls given) ≡ true → report.unmappables.items ≡ reports_of (output_rule b e) text
   pub read : report.finished ≡ true → report.read ≡ length text

@@ -7,47 +7,47 @@ use Rattle.enc_encoders.specs.declared.character_set.CharacterSet.TheVariants.{A
 use Rattle.enc_encoders.specs.declared.encoder_result.EncoderResult.{EncoderResult}
 use Rattle.enc_encoders.specs.declared.encoder_result.EncoderResult.TheVariants.{InputEmpty, OutputFull, Unmappable}
 use Rattle.enc_encoders.specs.EncoderRule.{EncoderRule}
-use Rattle.enc_encoders.specs.Steps.{chars_of}
+use Rattle.enc_encoders.specs.Steps.{step_chars}
 use Rattle.enc_encoders.specs.Text.{bytes_of_text, with_references, reference_after}
-use Rattle.enc_references.specs.Treatment.{Treatment, Reported}
+use Rattle.enc_references.specs.ErrorMode.{EncodeErrorMode, Fatal}
 use Rattle.enc_references.specs.Unmappable.{any_unmappable, reports_of}
 use Rattle.encoding_rs.specs.Encodings.{output_rule}
-use Rattle.encoding_rs.specs.Encoder.{EncoderState, fresh_encoder, replacing, Encodes}
-use Rattle.encoding_rs.specs.Run.{units_by}
+use Rattle.encoding_rs.specs.Encoder.{EncoderState, fresh_encoder, html_mode, EncodesChunk}
+use Rattle.encoding_rs.specs.Run.{units_of_call}
 
 -- what a call does with unmappable characters
-abbrev pub treatment_by : Bool → EncoderState → Treatment
-treatment_by replace v = if replace then replacing v else Reported
+abbrev pub encode_error_mode : Bool → EncoderState → EncodeErrorMode
+encode_error_mode replace v = if replace then html_mode v else Fatal
 
 -- the character that a call has reported
-abbrev pub report_of : EncoderResult → List ℕ
-report_of InputEmpty = []
-report_of OutputFull = []
-report_of (Unmappable c) = c ∷ []
+abbrev pub reported_character : EncoderResult → List ℕ
+reported_character InputEmpty = []
+reported_character OutputFull = []
+reported_character (Unmappable c) = c ∷ []
 
-abbrev pub is_report : EncoderResult → Bool
-is_report InputEmpty = false
-is_report OutputFull = false
-is_report (Unmappable c) = true
+abbrev pub is_unmappable_result : EncoderResult → Bool
+is_unmappable_result InputEmpty = false
+is_unmappable_result OutputFull = false
+is_unmappable_result (Unmappable c) = true
 
-abbrev pub is_empty : EncoderResult → Bool
-is_empty InputEmpty = true
-is_empty OutputFull = false
-is_empty (Unmappable c) = false
+abbrev pub is_input_empty_result : EncoderResult → Bool
+is_input_empty_result InputEmpty = true
+is_input_empty_result OutputFull = false
+is_input_empty_result (Unmappable c) = false
 
 -- A call of a run: it is offered the next characters of those unread, or all of them where fewer are left, is told that
 -- nothing follows exactly where the offer reaches the end, and its bytes are appended, with the reference to a character that
 -- it has reported.
-pub record MakesCall (call : EncodeCall) (old new : EncoderState) (unread before after : List ℕ) (result : EncoderResult) (read : ℕ) (replaced : Bool) : Type 0 where
+pub record MakesEncodeCall (call : EncodeCall) (old new : EncoderState) (unread before after : List ℕ) (result : EncoderResult) (read : ℕ) (replaced : Bool) : Type 0 where
   pub wrote : List ℕ
   pub units : ℕ
-  pub encodes : Encodes (units_by call.utf16) (treatment_by call.replace old) old new (take call.offer unread) (nat_le (length unread) call.offer) call.room result units wrote replaced
-  pub chars : read ≡ length (chars_of encodes.call.done)
+  pub encodes : EncodesChunk (units_of_call call.utf16) (encode_error_mode call.replace old) old new (take call.offer unread) (nat_le (length unread) call.offer) call.room result units wrote replaced
+  pub chars : read ≡ length (step_chars encodes.call.done)
   pub bytes : after ≡ before ++ (wrote ++ reference_after result)
 
 -- what a run has come to: the encoder, how many characters it has read, its bytes, the characters that were reported, whether
 -- any was unmappable, and whether the end of the text was told and reached
-pub record EncodeState : Type 0 where
+pub record EncodeRunState : Type 0 where
   pub encoder : EncoderState
   pub read : ℕ
   pub bytes : List ℕ
@@ -55,59 +55,59 @@ pub record EncodeState : Type 0 where
   pub had_unmappables : Bool
   pub finished : Bool
 
-abbrev pub encode_start : List ℕ → Encoding → EncodeState
-encode_start b e = record { encoder = fresh_encoder b e; read = 0; bytes = []; unmappables = []; had_unmappables = false; finished = false }
+abbrev pub encode_run_start : List ℕ → Encoding → EncodeRunState
+encode_run_start b e = record { encoder = fresh_encoder b e; read = 0; bytes = []; unmappables = []; had_unmappables = false; finished = false }
 
 -- a run goes on by one call, where the end isn't reached
-pub record GoesOn (text : List ℕ) (made : EncodeCall) (old new : EncodeState) : Type 0 where
+pub record EncodeRunAdvances (text : List ℕ) (made : EncodeCall) (old new : EncodeRunState) : Type 0 where
   pub result : EncoderResult
   pub more : ℕ
   pub replaced : Bool
   pub not_finished : old.finished ≡ false
-  pub call : MakesCall made old.encoder new.encoder (drop old.read text) old.bytes new.bytes result more replaced
+  pub call : MakesEncodeCall made old.encoder new.encoder (drop old.read text) old.bytes new.bytes result more replaced
   pub read : new.read ≡ old.read + more
-  pub unmappables : new.unmappables ≡ old.unmappables ++ report_of result
-  pub flag : new.had_unmappables ≡ (old.had_unmappables || (replaced || is_report result))
-  pub finished : new.finished ≡ (nat_le (length (drop old.read text)) made.offer && is_empty result)
+  pub unmappables : new.unmappables ≡ old.unmappables ++ reported_character result
+  pub flag : new.had_unmappables ≡ (old.had_unmappables || (replaced || is_unmappable_result result))
+  pub finished : new.finished ≡ (nat_le (length (drop old.read text)) made.offer && is_input_empty_result result)
 
 -- these calls, in turn, lead from one state to the other
-abbrev pub IsEncodeRun : List ℕ → List EncodeCall → EncodeState → EncodeState → Type 0
+abbrev pub IsEncodeRun : List ℕ → List EncodeCall → EncodeRunState → EncodeRunState → Type 0
 IsEncodeRun text [] old new = old ≡ new
-IsEncodeRun text (call ∷ calls) old new = (mid : EncodeState) × GoesOn text call old mid × IsEncodeRun text calls mid new
+IsEncodeRun text (call ∷ calls) old new = (mid : EncodeRunState) × EncodeRunAdvances text call old mid × IsEncodeRun text calls mid new
 
 -- the bytes of a whole text, where a decimal reference stands in the place of each unmappable character
 abbrev pub whole_bytes : List ℕ → Encoding → List ℕ → List ℕ
 whole_bytes b e text = bytes_of_text (output_rule b e) Ascii (with_references (output_rule b e) text)
 
 -- the characters that one call has read, and whether it replaced those that are unmappable
-pub record EncodePart : Type 0 where
+pub record EncodeRunPart : Type 0 where
   pub replaces : Bool
   pub chars : List ℕ
 
-abbrev pub chars_in : List EncodePart → List ℕ
-chars_in [] = []
-chars_in (p ∷ ps) = p.chars ++ chars_in ps
+abbrev pub chars_of_parts : List EncodeRunPart → List ℕ
+chars_of_parts [] = []
+chars_of_parts (p ∷ ps) = p.chars ++ chars_of_parts ps
 
 -- those that were reported
-abbrev pub reported_in : EncoderRule → List EncodePart → List ℕ
-reported_in rule [] = []
-reported_in rule (p ∷ ps) = (if p.replaces then [] else reports_of rule p.chars) ++ reported_in rule ps
+abbrev pub reports_of_parts : EncoderRule → List EncodeRunPart → List ℕ
+reports_of_parts rule [] = []
+reports_of_parts rule (p ∷ ps) = (if p.replaces then [] else reports_of rule p.chars) ++ reports_of_parts rule ps
 
 -- whether all calls report unmappable characters
-abbrev pub all_report : List EncodeCall → Bool
-all_report [] = true
-all_report (call ∷ calls) = not call.replace && all_report calls
+abbrev pub all_report_unmappable : List EncodeCall → Bool
+all_report_unmappable [] = true
+all_report_unmappable (call ∷ calls) = not call.replace && all_report_unmappable calls
 
 -- What calls have come to: the characters read are a beginning of the text, in a part for each call, and the bytes are a
 -- beginning of those of the whole text.
-pub record HasEncoded (b : List ℕ) (e : Encoding) (text : List ℕ) (calls : List EncodeCall) (bytes : List ℕ) (read : ℕ) (unmappables : List ℕ) (had_unmappables : Bool) : Type 0 where
-  pub parts : List EncodePart
+pub record HasRunEncoding (b : List ℕ) (e : Encoding) (text : List ℕ) (calls : List EncodeCall) (bytes : List ℕ) (read : ℕ) (unmappables : List ℕ) (had_unmappables : Bool) : Type 0 where
+  pub parts : List EncodeRunPart
   pub unread : List ℕ
   pub more : List ℕ
-  pub chars : text ≡ chars_in parts ++ unread
-  pub count : read ≡ length (chars_in parts)
-  pub calls_are : map (λ (p : EncodePart). p.replaces) parts ≡ map (λ (c : EncodeCall). c.replace) calls
+  pub chars : text ≡ chars_of_parts parts ++ unread
+  pub count : read ≡ length (chars_of_parts parts)
+  pub calls_are : map (λ (p : EncodeRunPart). p.replaces) parts ≡ map (λ (c : EncodeCall). c.replace) calls
   pub beginning : whole_bytes b e text ≡ bytes ++ more
   -- the unmappable characters that were met by calls which report them, in order, as they are reported
-  pub reported : unmappables ≡ reported_in (output_rule b e) parts
-  pub flag : had_unmappables ≡ any_unmappable (output_rule b e) (chars_in parts)
+  pub reported : unmappables ≡ reports_of_parts (output_rule b e) parts
+  pub flag : had_unmappables ≡ any_unmappable (output_rule b e) (chars_of_parts parts)

@@ -3,8 +3,8 @@ use Rattle.std.specs.Prelude.{ℕ, Option, Some, None, List}
 use Rattle.enc_machine.specs.Segmentation.{Rule}
 use Rattle.enc_codec.specs.Codecs.{codec_rule}
 use Rattle.enc_encoders.specs.EncoderRule.{EncoderRule}
-use Rattle.enc_encoders.specs.Stateless.{stateless}
-use Rattle.enc_encoders.specs.Barring.{barring}
+use Rattle.enc_encoders.specs.Stateless.{stateless_rule}
+use Rattle.enc_encoders.specs.Barring.{barring_rule}
 use Rattle.enc_encoders.specs.Utf8.{utf_8_bytes}
 use Rattle.enc_encode.specs.Encoders.{encoder_rule}
 use Rattle.encoding_rs.specs.declared.encoding.Id.{Id}
@@ -18,12 +18,12 @@ rule_by_id id = codec_rule (codec_by_id id)
 abbrev pub rule_of : Encoding → Rule
 rule_of e = rule_by_id e.id
 
-abbrev pub or_utf_8 : Option EncoderRule → EncoderRule
-or_utf_8 None = stateless utf_8_bytes
-or_utf_8 (Some rule) = rule
+abbrev pub rule_or_utf_8 : Option EncoderRule → EncoderRule
+rule_or_utf_8 None = stateless_rule utf_8_bytes
+rule_or_utf_8 (Some rule) = rule
 
 -- The rule by which a text is written where this encoding is asked for and these characters are barred: its own, or UTF-8's if it
 -- has no encoder (4.3, "get an output encoding"). Its `bytes` says which characters are mappable: those that have bytes by the rules
 -- of the encoding, and don't stand in the list.
 abbrev pub output_rule : List ℕ → Encoding → EncoderRule
-output_rule b e = barring b (or_utf_8 (encoder_rule (codec_by_id e.id)))
+output_rule b e = barring_rule b (rule_or_utf_8 (encoder_rule (codec_by_id e.id)))

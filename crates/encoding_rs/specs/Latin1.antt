@@ -15,13 +15,13 @@ has_byte_characters _ = true
 
 -- A byte may be the character of its own number: no byte order mark may come any more, none is pending, the character set
 -- designated is that of the start, and the encoding has such bytes.
-pub record MayBeLatin1 (d : DecoderState) : Type 0 where
+pub record DecoderMayBeLatin1 (d : DecoderState) : Type 0 where
   pub converting : d.life ≡ Converting
   pub none_pending : d.pending ≡ []
   pub at_start : d.set ≡ 0
   pub encoding : has_byte_characters d.encoding.id ≡ true
 
 -- what is told of bytes: none where no byte may be so, and else how many are
-abbrev pub TellsLatin1 : DecoderState → List ℕ → Option ℕ → Type 0
-TellsLatin1 d bytes None = ¬ (MayBeLatin1 d)
-TellsLatin1 d bytes (Some k) = MayBeLatin1 d × IsLatin1Prefix (remaining_sequences d) bytes k
+abbrev pub AnswersDecoderLatin1 : DecoderState → List ℕ → Option ℕ → Type 0
+AnswersDecoderLatin1 d bytes None = ¬ (DecoderMayBeLatin1 d)
+AnswersDecoderLatin1 d bytes (Some k) = DecoderMayBeLatin1 d × IsLatin1Prefix (remaining_sequences d) bytes k

@@ -2,10 +2,10 @@
 use Rattle.std.specs.Prelude.{◌≡◌, ℕ, Bool, Option, Some, None, List, length}
 use Rattle.std.specs.Char.{encode_utf8}
 use Rattle.std.specs.Char.Escape.{encode_utf16}
-use Rattle.enc_machine.specs.Call.{Treatment, Replaced, Reported}
+use Rattle.enc_machine.specs.Call.{DecodeErrorMode, Replacement, Fatal}
 use Rattle.enc_machine.specs.Remainder.{AreBytes}
-use Rattle.enc_machine.specs.Need.{NeedPasses}
-use Rattle.enc_units.specs.Checked.{plus, greater}
+use Rattle.enc_machine.specs.Need.{NeedExceeds}
+use Rattle.enc_units.specs.Checked.{checked_add, checked_max}
 use Rattle.enc_machine.specs.declared.text_lengths.TextLengths.{TextLengths}
 use Rattle.enc_machine.specs.declared.text_lengths.TextLengths.TheVariants as by
 use Rattle.enc_machine.specs.Lengths.{utf_8_length, reporting_length, utf_16_length}
@@ -21,60 +21,62 @@ use Rattle.encoding_rs.specs.EncodingTable.{codec_by_id}
 use Rattle.encoding_rs.specs.Decoding.{DecoderState, decoder_remainder}
 
 -- the formula that is in force
-abbrev pub length_by : Query → TextLengths → ℕ → ℕ → Option ℕ
-length_by Utf8 lengths n h = utf_8_length lengths n h
-length_by Utf8Reporting lengths n h = reporting_length lengths n h
-length_by Utf16 lengths n h = utf_16_length lengths n h
+abbrev pub formula_length : Query → TextLengths → ℕ → ℕ → Option ℕ
+formula_length Utf8 lengths n h = utf_8_length lengths n h
+formula_length Utf8Reporting lengths n h = reporting_length lengths n h
+formula_length Utf16 lengths n h = utf_16_length lengths n h
 
 -- of a codec that holds nothing
-abbrev pub own : Query → TextLengths → ℕ → Option ℕ
-own q lengths n = length_by q lengths n 0
+abbrev pub idle_length : Query → TextLengths → ℕ → Option ℕ
+idle_length q lengths n = formula_length q lengths n 0
 
 -- the greater of that and of the encoding whose mark may come
-abbrev pub own_or : Query → TextLengths → TextLengths → ℕ → Option ℕ
-own_or q of_mark lengths n = greater (own q of_mark n) (own q lengths n)
+abbrev pub length_with_mark : Query → TextLengths → TextLengths → ℕ → Option ℕ
+length_with_mark q of_mark lengths n = checked_max (idle_length q of_mark n) (idle_length q lengths n)
 
 -- of a sum, if it is a usize
-abbrev pub of_sum : (ℕ → Option ℕ) → Option ℕ → Option ℕ
-of_sum f None = None
-of_sum f (Some n) = f n
+abbrev pub length_at : (ℕ → Option ℕ) → Option ℕ → Option ℕ
+length_at f None = None
+length_at f (Some n) = f n
 
 -- By how far a decoder has come with a mark, for n bytes more, where its codec holds h. Where bytes of a mark are held, which are
 -- two at most, the codec has yet to read them.
-abbrev pub length_in : Query → LifeCycle → TextLengths → ℕ → ℕ → Option ℕ
-length_in q Converting lengths n h = length_by q lengths n h
-length_in q AtUtf8Start lengths n h = own q lengths n
-length_in q AtUtf16BeStart lengths n h = own q lengths n
-length_in q AtUtf16LeStart lengths n h = own q lengths n
-length_in q AtStart lengths n h = greater (own q by.Utf8 n) (own_or q by.Utf16 lengths n)
-length_in q SeenUtf8First lengths n h = of_sum (own_or q by.Utf8 lengths) (plus (Some n) 2)
-length_in q SeenUtf8Second lengths n h = of_sum (own_or q by.Utf8 lengths) (plus (Some n) 2)
-length_in q SeenUtf16BeFirst lengths n h = of_sum (own_or q by.Utf16 lengths) (plus (Some n) 2)
-length_in q SeenUtf16LeFirst lengths n h = of_sum (own_or q by.Utf16 lengths) (plus (Some n) 2)
-length_in q ConvertingWithPendingBb lengths n h = of_sum (own q lengths) (plus (Some n) 2)
-length_in q Finished lengths n h = length_by q lengths n h
+abbrev pub life_cycle_length : Query → LifeCycle → TextLengths → ℕ → ℕ → Option ℕ
+life_cycle_length q Converting lengths n h = formula_length q lengths n h
+life_cycle_length q AtUtf8Start lengths n h = idle_length q lengths n
+life_cycle_length q AtUtf16BeStart lengths n h = idle_length q lengths n
+life_cycle_length q AtUtf16LeStart lengths n h = idle_length q lengths n
+life_cycle_length q AtStart lengths n h = checked_max (idle_length q by.Utf8 n) (length_with_mark q by.Utf16 lengths n)
+life_cycle_length q SeenUtf8First lengths n h = length_at (length_with_mark q by.Utf8 lengths) (checked_add (Some n) 2)
+life_cycle_length q SeenUtf8Second lengths n h = length_at (length_with_mark q by.Utf8 lengths) (checked_add (Some n) 2)
+life_cycle_length q SeenUtf16BeFirst lengths n h =
+    length_at (length_with_mark q by.Utf16 lengths) (checked_add (Some n) 2)
+life_cycle_length q SeenUtf16LeFirst lengths n h =
+    length_at (length_with_mark q by.Utf16 lengths) (checked_add (Some n) 2)
+life_cycle_length q ConvertingWithPendingBb lengths n h = length_at (idle_length q lengths) (checked_add (Some n) 2)
+life_cycle_length q Finished lengths n h = formula_length q lengths n h
 
 -- The length to allocate for what a decoder makes of n bytes more.
 abbrev pub max_length : Query → DecoderState → ℕ → Option ℕ
-max_length q d n = length_in q d.life (codec_lengths (codec_by_id d.encoding.id)) n (length d.pending)
+max_length q d n = life_cycle_length q d.life (codec_lengths (codec_by_id d.encoding.id)) n (length d.pending)
 
 -- the code units that a query is about, and the calls that it is for
-abbrev pub units_asked : Query → ℕ → List ℕ
-units_asked Utf8 = encode_utf8
-units_asked Utf8Reporting = encode_utf8
-units_asked Utf16 = encode_utf16
+abbrev pub query_units : Query → ℕ → List ℕ
+query_units Utf8 = encode_utf8
+query_units Utf8Reporting = encode_utf8
+query_units Utf16 = encode_utf16
 
-abbrev pub Asks : Query → Treatment → Type 0
-Asks Utf8 Replaced = Unit {0}
-Asks Utf8 (Reported keeps_room) = ⊥
-Asks Utf8Reporting Replaced = ⊥
-Asks Utf8Reporting (Reported keeps_room) = Unit {0}
-Asks Utf16 treatment = Unit {0}
+abbrev pub IsForMode : Query → DecodeErrorMode → Type 0
+IsForMode Utf8 Replacement = Unit {0}
+IsForMode Utf8 (Fatal keeps_room) = ⊥
+IsForMode Utf8Reporting Replacement = ⊥
+IsForMode Utf8Reporting (Fatal keeps_room) = Unit {0}
+IsForMode Utf16 mode = Unit {0}
 
 -- So much room is enough for a call of a kind that is offered n bytes: what it needs doesn't pass it.
-abbrev pub IsEnoughRoom : (ℕ → List ℕ) → Treatment → DecoderState → ℕ → ℕ → Type 0
-IsEnoughRoom units_of treatment d n room =
-    (src : List ℕ) (last : Bool) → AreBytes src → length src ≡ n → NeedPasses units_of treatment (decoder_remainder d) src last room → ⊥
+abbrev pub IsEnoughRoom : (ℕ → List ℕ) → DecodeErrorMode → DecoderState → ℕ → ℕ → Type 0
+IsEnoughRoom units_of mode d n room =
+    (src : List ℕ) (last : Bool) → AreBytes src → length src ≡ n → NeedExceeds units_of mode (decoder_remainder d) src last room → ⊥
 
 -- by which formulas the lengths go to allocate for bytes of an encoding
 abbrev pub output_lengths : Encoding → ByteLengths

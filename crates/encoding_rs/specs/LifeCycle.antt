@@ -1,12 +1,12 @@
 -- The life cycle of a decoder (Encoding Standard 6, "decode", for a stream that comes in parts).
 use Rattle.std.specs.Prelude.{ℕ, Bool, true, false, if◌then◌else◌, List, [], ◌∷◌, Option, Some, None, bytes_eq}
-use Rattle.enc_machine.specs.Sequence.{Sequence, bytes_of}
+use Rattle.enc_machine.specs.Sequence.{Sequence, sequence_bytes}
 use Rattle.enc_machine.specs.Segmentation.{sequences_of}
 use Rattle.encoding_rs.specs.declared.encoding.Encoding.{Encoding}
 use Rattle.encoding_rs.specs.declared.life_cycle.LifeCycle.{LifeCycle}
 use Rattle.encoding_rs.specs.declared.life_cycle.LifeCycle.TheVariants.{AtStart, AtUtf8Start, AtUtf16BeStart, AtUtf16LeStart, SeenUtf8First, SeenUtf8Second, SeenUtf16BeFirst, SeenUtf16LeFirst, ConvertingWithPendingBb, Converting, Finished}
 use Rattle.encoding_rs.specs.Encodings.{rule_of}
-use Rattle.encoding_rs.specs.Bom.{Mark, marks, utf_8_mark, utf_16be_mark, utf_16le_mark, find_mark, sequences_by}
+use Rattle.encoding_rs.specs.Bom.{Mark, marks, utf_8_mark, utf_16be_mark, utf_16le_mark, find_mark, sequences_by_mark}
 
 -- What the bytes at hand are: they may begin with one of these marks, or stand behind where one may come, or nothing
 -- may come any more.
@@ -45,59 +45,59 @@ mark_bytes None = []
 mark_bytes (Some m) = m.bytes
 
 -- the encoding once this was found
-abbrev pub encoding_by : Option Mark → Encoding → Encoding
-encoding_by None e = e
-encoding_by (Some m) e = m.encoding
+abbrev pub encoding_of_mark_or : Option Mark → Encoding → Encoding
+encoding_of_mark_or None e = e
+encoding_of_mark_or (Some m) e = m.encoding
 
 -- the sequences of the bytes at hand, by the encoding and the designated character set
 abbrev pub sequences_in : Phase → Encoding → ℕ → List ℕ → List Sequence
-sequences_in (InFront looked_for) e set bytes = sequences_by (find_mark looked_for bytes) e bytes
+sequences_in (InFront looked_for) e set bytes = sequences_by_mark (find_mark looked_for bytes) e bytes
 sequences_in Within e set bytes = sequences_of (rule_of e) set bytes
 sequences_in Ended e set bytes = []
 
 -- the bytes of a mark that each state holds
-abbrev pub held_bytes : LifeCycle → List ℕ
-held_bytes SeenUtf8First = 0xEF ∷ []
-held_bytes SeenUtf8Second = 0xEF ∷ 0xBB ∷ []
-held_bytes SeenUtf16BeFirst = 0xFE ∷ []
-held_bytes SeenUtf16LeFirst = 0xFF ∷ []
-held_bytes ConvertingWithPendingBb = 0xBB ∷ []
-held_bytes _ = []
+abbrev pub held_mark_bytes : LifeCycle → List ℕ
+held_mark_bytes SeenUtf8First = 0xEF ∷ []
+held_mark_bytes SeenUtf8Second = 0xEF ∷ 0xBB ∷ []
+held_mark_bytes SeenUtf16BeFirst = 0xFE ∷ []
+held_mark_bytes SeenUtf16LeFirst = 0xFF ∷ []
+held_mark_bytes ConvertingWithPendingBb = 0xBB ∷ []
+held_mark_bytes _ = []
 
 -- The states that each state may go on to while no sequence is put out, with the bytes then held: for each front of a
 -- mark looked for that begins with the bytes held now. A pending BB stays so.
-abbrev pub fronts : LifeCycle → List (List ℕ × LifeCycle)
-fronts AtStart =
+abbrev pub mark_prefixes : LifeCycle → List (List ℕ × LifeCycle)
+mark_prefixes AtStart =
     ([], AtStart) ∷ (0xEF ∷ [], SeenUtf8First) ∷ (0xEF ∷ 0xBB ∷ [], SeenUtf8Second)
     ∷ (0xFE ∷ [], SeenUtf16BeFirst) ∷ (0xFF ∷ [], SeenUtf16LeFirst) ∷ []
-fronts AtUtf8Start = ([], AtUtf8Start) ∷ (0xEF ∷ [], SeenUtf8First) ∷ (0xEF ∷ 0xBB ∷ [], SeenUtf8Second) ∷ []
-fronts AtUtf16BeStart = ([], AtUtf16BeStart) ∷ (0xFE ∷ [], SeenUtf16BeFirst) ∷ []
-fronts AtUtf16LeStart = ([], AtUtf16LeStart) ∷ (0xFF ∷ [], SeenUtf16LeFirst) ∷ []
-fronts SeenUtf8First = (0xEF ∷ [], SeenUtf8First) ∷ (0xEF ∷ 0xBB ∷ [], SeenUtf8Second) ∷ []
-fronts SeenUtf8Second = (0xEF ∷ 0xBB ∷ [], SeenUtf8Second) ∷ []
-fronts SeenUtf16BeFirst = (0xFE ∷ [], SeenUtf16BeFirst) ∷ []
-fronts SeenUtf16LeFirst = (0xFF ∷ [], SeenUtf16LeFirst) ∷ []
-fronts ConvertingWithPendingBb = (0xBB ∷ [], ConvertingWithPendingBb) ∷ []
-fronts Converting = []
-fronts Finished = []
+mark_prefixes AtUtf8Start = ([], AtUtf8Start) ∷ (0xEF ∷ [], SeenUtf8First) ∷ (0xEF ∷ 0xBB ∷ [], SeenUtf8Second) ∷ []
+mark_prefixes AtUtf16BeStart = ([], AtUtf16BeStart) ∷ (0xFE ∷ [], SeenUtf16BeFirst) ∷ []
+mark_prefixes AtUtf16LeStart = ([], AtUtf16LeStart) ∷ (0xFF ∷ [], SeenUtf16LeFirst) ∷ []
+mark_prefixes SeenUtf8First = (0xEF ∷ [], SeenUtf8First) ∷ (0xEF ∷ 0xBB ∷ [], SeenUtf8Second) ∷ []
+mark_prefixes SeenUtf8Second = (0xEF ∷ 0xBB ∷ [], SeenUtf8Second) ∷ []
+mark_prefixes SeenUtf16BeFirst = (0xFE ∷ [], SeenUtf16BeFirst) ∷ []
+mark_prefixes SeenUtf16LeFirst = (0xFF ∷ [], SeenUtf16LeFirst) ∷ []
+mark_prefixes ConvertingWithPendingBb = (0xBB ∷ [], ConvertingWithPendingBb) ∷ []
+mark_prefixes Converting = []
+mark_prefixes Finished = []
 
-abbrev pub state_at : List (List ℕ × LifeCycle) → List ℕ → Option LifeCycle
-state_at [] bytes = None
-state_at (front ∷ others) bytes = if bytes_eq front.0 bytes then Some front.1 else state_at others bytes
+abbrev pub life_at_prefix : List (List ℕ × LifeCycle) → List ℕ → Option LifeCycle
+life_at_prefix [] bytes = None
+life_at_prefix (front ∷ others) bytes = if bytes_eq front.0 bytes then Some front.1 else life_at_prefix others bytes
 
 -- the state once these bytes are done of those that a state holds: BB stays where EF BB was held
-abbrev pub left_behind : LifeCycle → List ℕ → LifeCycle
-left_behind SeenUtf8Second done = if bytes_eq (0xEF ∷ []) done then ConvertingWithPendingBb else Converting
-left_behind _ done = Converting
+abbrev pub life_after_bytes : LifeCycle → List ℕ → LifeCycle
+life_after_bytes SeenUtf8Second done = if bytes_eq (0xEF ∷ []) done then ConvertingWithPendingBb else Converting
+life_after_bytes _ done = Converting
 
 -- by the front that the bytes at hand are, if they are one, and the sequences done
-abbrev pub state_behind : Option LifeCycle → List Sequence → LifeCycle
-state_behind None done = Converting
-state_behind (Some front) [] = front
-state_behind (Some front) (s ∷ ss) = left_behind front (bytes_of (s ∷ ss))
+abbrev pub life_after_sequences : Option LifeCycle → List Sequence → LifeCycle
+life_after_sequences None done = Converting
+life_after_sequences (Some front) [] = front
+life_after_sequences (Some front) (s ∷ ss) = life_after_bytes front (sequence_bytes (s ∷ ss))
 
 -- The life cycle behind a call: by whether the end was reached, the bytes that were pending and those that were read,
 -- joined, and the sequences done.
 abbrev pub life_after : LifeCycle → Bool → List ℕ → List Sequence → LifeCycle
 life_after life true bytes done = Finished
-life_after life false bytes done = state_behind (state_at (fronts life) bytes) done
+life_after life false bytes done = life_after_sequences (life_at_prefix (mark_prefixes life) bytes) done

@@ -12,6 +12,6 @@ MayBeginMark [] x = ⊥
 MayBeginMark (m ∷ others) x = IsProperPrefix x m.bytes ⊎ MayBeginMark others x
 
 -- the bytes behind a mark, if one is in front
-abbrev pub behind : Option Mark → List ℕ → List ℕ
-behind None x = x
-behind (Some m) x = drop (length m.bytes) x
+abbrev pub bytes_after_mark : Option Mark → List ℕ → List ℕ
+bytes_after_mark None x = x
+bytes_after_mark (Some m) x = drop (length m.bytes) x

@@ -3,10 +3,10 @@ use Rattle.std.specs.Prelude.{◌≡◌, ℕ, ◌≤◌, Bool, false, List, ◌+
 use Rattle.enc_units.specs.Output.{units_of_text}
 use Rattle.enc_encoders.specs.declared.encoder_result.EncoderResult.{EncoderResult}
 use Rattle.enc_encoders.specs.declared.encoder_result.EncoderResult.TheVariants.{InputEmpty}
-use Rattle.enc_encoders.specs.Need.{need, MeetsNeed}
+use Rattle.enc_encoders.specs.Need.{encode_need, MeetsEncodeNeed}
 use Rattle.enc_references.specs.Unmappable.{any_unmappable}
 use Rattle.encoding_rs.specs.Encodings.{output_rule}
-use Rattle.encoding_rs.specs.Encoder.{EncoderState, raw_state, replacing, Encodes}
+use Rattle.encoding_rs.specs.Encoder.{EncoderState, raw_state, html_mode, EncodesChunk}
 
 -- A call that reports unmappable characters, by its need: it is full exactly where that of the text that it is offered passes the
 -- room, and what it writes is taken off. It has read so many code units, and the rest is unread.
@@ -15,11 +15,11 @@ pub record EncodesByNeed (units_of : ℕ → List ℕ) (old new : EncoderState) 
   pub rest : List ℕ
   pub parts : src ≡ front ++ rest
   pub units : read ≡ length (units_of_text units_of front)
-  pub meets : MeetsNeed (raw_state old) (raw_state new) src rest last room result written
+  pub meets : MeetsEncodeNeed (raw_state old) (raw_state new) src rest last room result written
 
 -- From this state on so much room is enough for a call that is offered n code units, up to an unmappable character.
-abbrev pub IsEnough : (ℕ → List ℕ) → EncoderState → ℕ → ℕ → Type 0
-IsEnough units_of v n room = (src : List ℕ) (last : Bool) → length (units_of_text units_of src) ≡ n → need (raw_state v) last src ≤ room
+abbrev pub IsEnoughForEncoding : (ℕ → List ℕ) → EncoderState → ℕ → ℕ → Type 0
+IsEnoughForEncoding units_of v n room = (src : List ℕ) (last : Bool) → length (units_of_text units_of src) ≡ n → encode_need (raw_state v) last src ≤ room
 
 -- It is enough for a call that puts references, where no character of the n code units is unmappable: with this room or more the
 -- call reads all.
@@ -27,4 +27,4 @@ abbrev pub IsEnoughIfMappable : (ℕ → List ℕ) → EncoderState → ℕ → 
 IsEnoughIfMappable units_of v n enough =
     (src wrote : List ℕ) (last : Bool) (new : EncoderState) (room read : ℕ) (result : EncoderResult) (replaced : Bool)
     → length (units_of_text units_of src) ≡ n → any_unmappable (output_rule v.barred v.encoding) src ≡ false → enough ≤ room
-    → Encodes units_of (replacing v) v new src last room result read wrote replaced → result ≡ InputEmpty
+    → EncodesChunk units_of (html_mode v) v new src last room result read wrote replaced → result ≡ InputEmpty

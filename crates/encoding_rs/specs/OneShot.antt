@@ -2,7 +2,7 @@
 -- or fail", for any encoding, and "encode").
 use Rattle.std.specs.Prelude.{◌≡◌, ℕ, ◌≤◌, ◌⊎◌, Bool, true, Option, Some, None, List, [], ◌++◌, chars, length, drop, if◌then◌else◌}
 use Rattle.std.specs.Char.{encode_utf8}
-use Rattle.enc_units.specs.Checked.{plus}
+use Rattle.enc_units.specs.Checked.{checked_add}
 use Rattle.enc_encoders.specs.Text.{bytes_of_text, with_references}
 use Rattle.enc_encoders.specs.Lengths.{from_utf_8_length}
 use Rattle.encoding_rs.specs.declared.bom.BomHandling.{BomHandling}
@@ -10,15 +10,15 @@ use Rattle.encoding_rs.specs.declared.bom.BomHandling.TheVariants.{Off}
 use Rattle.encoding_rs.specs.declared.encoding.Encoding.{Encoding}
 use Rattle.enc_calls.specs.declared.coder_result.CoderResult.TheVariants.{OutputFull}
 use Rattle.encoding_rs.specs.declared.lengths.Query.TheVariants.{Utf8, Utf8Reporting}
-use Rattle.encoding_rs.specs.Decoding.{DecoderState, fresh, whole_utf_8, whole_malformed, ConvertsReplacing}
-use Rattle.encoding_rs.specs.Encoder.{EncoderState, raw_state, kept_in}
+use Rattle.encoding_rs.specs.Decoding.{DecoderState, fresh_decoder, whole_utf_8, whole_malformed, AnswersDecodeReplacing}
+use Rattle.encoding_rs.specs.Encoder.{EncoderState, raw_state, room_kept_for_references}
 use Rattle.encoding_rs.specs.EncodeRun.{whole_bytes}
 use Rattle.encoding_rs.specs.Properties.{output_encoding_of}
 use Rattle.encoding_rs.specs.Lengths.{max_length, output_lengths}
 
 -- the text in UTF-8 of bytes that have nothing malformed
-abbrev pub strict_utf_8 : Encoding → List ℕ → Option (List ℕ)
-strict_utf_8 e bytes = if whole_malformed Off e bytes then None else Some (whole_utf_8 Off e bytes)
+abbrev pub utf_8_without_replacement : Encoding → List ℕ → Option (List ℕ)
+utf_8_without_replacement e bytes = if whole_malformed Off e bytes then None else Some (whole_utf_8 Off e bytes)
 
 -- there is a length, and this room is not less
 abbrev pub HasRoomFor : Option ℕ → ℕ → Type 0
@@ -27,23 +27,24 @@ HasRoomFor (Some more) room = more ≤ room
 
 -- the first length query: for the whole input, without replacement
 abbrev pub first_length : BomHandling → Encoding → List ℕ → Option ℕ
-first_length handling e bytes = max_length Utf8Reporting (fresh handling e) (length bytes)
+first_length handling e bytes = max_length Utf8Reporting (fresh_decoder handling e) (length bytes)
 
 -- A call with the whole input answers `OutputFull` in an output of at least that length. Then the length query for the remaining
 -- bytes, or its sum with the bytes written, overflows usize.
-pub record IsTooLongBehind (handling : BomHandling) (e : Encoding) (bytes : List ℕ) : Type 0 where
+pub record IsTooLongAfterFull (handling : BomHandling) (e : Encoding) (bytes : List ℕ) : Type 0 where
   pub room : ℕ
   pub enough : HasRoomFor (first_length handling e bytes) room
   pub state : DecoderState
   pub read : ℕ
   pub wrote : List ℕ
   pub replaced : Bool
-  pub call : ConvertsReplacing encode_utf8 4 (fresh handling e) state bytes true room OutputFull read wrote replaced
-  pub passes : plus (max_length Utf8 state (length (drop read bytes))) (length wrote) ≡ None
+  pub call : AnswersDecodeReplacing encode_utf8 4 (fresh_decoder handling e) state bytes true room OutputFull read wrote
+      replaced
+  pub passes : checked_add (max_length Utf8 state (length (drop read bytes))) (length wrote) ≡ None
 
 -- The first length query overflows usize, or the one after the first call does.
 abbrev pub IsTooLong : BomHandling → Encoding → List ℕ → Type 0
-IsTooLong handling e bytes = (first_length handling e bytes ≡ None) ⊎ IsTooLongBehind handling e bytes
+IsTooLong handling e bytes = (first_length handling e bytes ≡ None) ⊎ IsTooLongAfterFull handling e bytes
 
 -- What calls of an encoder from which nothing is barred have come to: the bytes of the whole text are those written and those of
 -- the text unread.
@@ -54,7 +55,7 @@ pub record HasWritten (e : Encoding) (text unread : List ℕ) (state : EncoderSt
 
 -- the length query of an encoder for n remaining bytes of UTF-8
 abbrev pub length_to_encode : Encoding → ℕ → Option ℕ
-length_to_encode e n = plus (from_utf_8_length (output_lengths e) n) (kept_in [] e)
+length_to_encode e n = checked_add (from_utf_8_length (output_lengths e) n) (room_kept_for_references [] e)
 
 -- For a suffix of the text, in UTF-8, the length query overflows usize, by itself or with the bytes written.
 pub record IsTooLongToEncode (e : Encoding) (text : List ℕ) : Type 0 where
@@ -64,4 +65,4 @@ pub record IsTooLongToEncode (e : Encoding) (text : List ℕ) : Type 0 where
   pub state : EncoderState
   pub wrote : List ℕ
   pub written : HasWritten e (chars text) (chars unread) state wrote
-  pub passes : plus (length_to_encode (output_encoding_of e) (length unread)) (length wrote) ≡ None
+  pub passes : checked_add (length_to_encode (output_encoding_of e) (length unread)) (length wrote) ≡ None

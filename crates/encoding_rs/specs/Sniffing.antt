@@ -8,44 +8,46 @@ use Rattle.encoding_rs.specs.declared.sniffing.Sniffed.{Sniffed}
 use Rattle.encoding_rs.specs.declared.sniffing.Sniffed.TheVariants.{Open, Text}
 use Rattle.encoding_rs.specs.declared.sniffing.Sniffed.TheVariants as sniffed
 use Rattle.encoding_rs.specs.Bom.{Mark}
-use Rattle.encoding_rs.specs.LifeCycle.{phase_of, awaits_mark, mark_in, held_bytes, fronts, state_at}
+use Rattle.encoding_rs.specs.LifeCycle.{phase_of, awaits_mark, mark_in, held_mark_bytes, mark_prefixes, life_at_prefix}
 
 -- These bytes lead from one state to another: it holds them too, and says the same of all that may follow.
-pub record Reaches (old new : LifeCycle) (x : List ℕ) : Type 0 where
-  pub held : held_bytes old ++ x ≡ held_bytes new
+pub record ExtendsHeldMark (old new : LifeCycle) (x : List ℕ) : Type 0 where
+  pub held : held_mark_bytes old ++ x ≡ held_mark_bytes new
   pub awaits : awaits_mark (phase_of new) ≡ awaits_mark (phase_of old)
-  pub marks : (y : List ℕ) → mark_in (phase_of old) (held_bytes new ++ y) ≡ mark_in (phase_of new) (held_bytes new ++ y)
-  pub states : (y : List ℕ) → state_at (fronts old) (held_bytes new ++ y) ≡ state_at (fronts new) (held_bytes new ++ y)
+  pub marks : (y : List ℕ)
+      → mark_in (phase_of old) (held_mark_bytes new ++ y) ≡ mark_in (phase_of new) (held_mark_bytes new ++ y)
+  pub states : (y : List ℕ) → life_at_prefix (mark_prefixes old) (held_mark_bytes new ++ y)
+      ≡ life_at_prefix (mark_prefixes new) (held_mark_bytes new ++ y)
   pub stays : awaits_mark (phase_of old) ≡ false → new ≡ old
 
 -- With these bytes a mark is whole, which tells this encoding.
-pub record EndsMark (life : LifeCycle) (x : List ℕ) (e : Encoding) : Type 0 where
+pub record CompletesMark (life : LifeCycle) (x : List ℕ) (e : Encoding) : Type 0 where
   pub mark : Mark
   pub tells : mark.encoding ≡ e
-  pub whole : held_bytes life ++ x ≡ mark.bytes
+  pub whole : held_mark_bytes life ++ x ≡ mark.bytes
   pub found : (y : List ℕ) → mark_in (phase_of life) (mark.bytes ++ y) ≡ Some mark
-  pub no_front : (y : List ℕ) → state_at (fronts life) (mark.bytes ++ y) ≡ None
+  pub no_front : (y : List ℕ) → life_at_prefix (mark_prefixes life) (mark.bytes ++ y) ≡ None
   pub awaits : awaits_mark (phase_of life) ≡ true
 
 -- Behind the bytes held this byte belongs to no mark, whatever follows it.
-pub record RulesOutMarks (life : LifeCycle) (b : ℕ) : Type 0 where
-  pub no_mark : (y : List ℕ) → mark_in (phase_of life) (held_bytes life ++ b ∷ y) ≡ None
-  pub no_front : (y : List ℕ) → state_at (fronts life) (held_bytes life ++ b ∷ y) ≡ None
+pub record ExcludesMarks (life : LifeCycle) (b : ℕ) : Type 0 where
+  pub no_mark : (y : List ℕ) → mark_in (phase_of life) (held_mark_bytes life ++ b ∷ y) ≡ None
+  pub no_front : (y : List ℕ) → life_at_prefix (mark_prefixes life) (held_mark_bytes life ++ b ∷ y) ≡ None
 
 -- No mark comes in front of these bytes, which nothing follows where `last`.
-pub record IsText (life : LifeCycle) (src : List ℕ) (last : Bool) : Type 0 where
-  pub rules_out : (b : ℕ) (z : List ℕ) → src ≡ b ∷ z → RulesOutMarks life b
+pub record HasNoMark (life : LifeCycle) (src : List ℕ) (last : Bool) : Type 0 where
+  pub rules_out : (b : ℕ) (z : List ℕ) → src ≡ b ∷ z → ExcludesMarks life b
   pub ends : src ≡ [] → awaits_mark (phase_of life) ≡ true → last ≡ true
 
 -- what a byte is
 abbrev pub IsMarkByte : LifeCycle → ℕ → MarkByte → Type 0
-IsMarkByte life b (Holds new) = Reaches life new (b ∷ [])
-IsMarkByte life b (Ends e) = EndsMark life (b ∷ []) e
-IsMarkByte life b RulesOut = RulesOutMarks life b
+IsMarkByte life b (Holds new) = ExtendsHeldMark life new (b ∷ [])
+IsMarkByte life b (Ends e) = CompletesMark life (b ∷ []) e
+IsMarkByte life b RulesOut = ExcludesMarks life b
 
 -- what stands in front, and how many bytes of the offer that concerns
 abbrev pub IsSniffed : LifeCycle → List ℕ → Bool → Sniffed → ℕ → Type 0
 IsSniffed life src last (Open new) n =
-    (n ≡ length src) × (last ≡ false) × (awaits_mark (phase_of new) ≡ true) × Reaches life new src
-IsSniffed life src last (sniffed.Mark e) n = EndsMark life (take n src) e
-IsSniffed life src last (Text new) n = Reaches life new (take n src) × IsText new (drop n src) last
+    (n ≡ length src) × (last ≡ false) × (awaits_mark (phase_of new) ≡ true) × ExtendsHeldMark life new src
+IsSniffed life src last (sniffed.Mark e) n = CompletesMark life (take n src) e
+IsSniffed life src last (Text new) n = ExtendsHeldMark life new (take n src) × HasNoMark new (drop n src) last

@@ -4,7 +4,7 @@ ghost use Rattle.std.specs.Prelude.{◌≡◌, ◌↔◌, ◌≤◌, ◌++◌, �
 ghost use Rattle.std.specs.Char.Utf16.{utf16_lossy_chars};
 ghost use Rattle.std.specs.Str.{IsCharBoundary};
 ghost use Rattle.enc_units.specs.Output.{units_of_text};
-ghost use Rattle.encoding_rs.specs.Run.{units_by};
+ghost use Rattle.encoding_rs.specs.Run.{units_of_call};
 
 use std::alloc::{AllocError, Global};
 
@@ -35,14 +35,14 @@ pub fn split_at_char(text: &str, count: usize) -> (&str, &str)
 /// How many code units a character has.
 fn width(c: char, utf16: bool) -> usize
     ensures some { 1 ≤ result }
-    ensures value { result ≡ length (units_by utf16 c) }
+    ensures value { result ≡ length (units_of_call utf16 c) }
 {
     if utf16 { c.len_utf16() } else { c.len_utf8() }
 }
 
 /// How many characters in front of a text have so many code units, which end behind one.
 pub fn chars_in_units(text: &str, units: usize, utf16: bool) -> usize
-    ensures { (front back : List ℕ) → chars text.now ≡ front ++ back → units ≡ length (units_of_text (units_by utf16) front)
+    ensures { (front back : List ℕ) → chars text.now ≡ front ++ back → units ≡ length (units_of_text (units_of_call utf16) front)
         → result ≡ length front }
 {
     let mut rest = text.chars();

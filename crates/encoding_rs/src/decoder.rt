@@ -6,15 +6,15 @@ ghost use Rattle.std.specs.Char.Escape.{encode_utf16};
 ghost use Rattle.std.specs.String.{string_bytes, string_len, string_capacity};
 ghost use Rattle.std.specs.Str.{IsUtf8};
 ghost use Rattle.enc_units.specs.Validity.{IsWellFormedUtf8};
-ghost use Rattle.enc_machine.specs.Call.{Treatment, Replaced, Reported, is_end};
+ghost use Rattle.enc_machine.specs.Call.{DecodeErrorMode, Replacement, Fatal, reaches_end};
 ghost use Rattle.encoding_rs.specs.declared.bom.BomHandling.TheVariants as handling;
-ghost use Rattle.enc_units.specs.Rest.{without_rest};
-ghost use Rattle.encoding_rs.specs.Latin1.{TellsLatin1};
-ghost use Rattle.encoding_rs.specs.Lengths.{max_length, Asks, units_asked, IsEnoughRoom};
+ghost use Rattle.enc_units.specs.Rest.{without_continuations};
+ghost use Rattle.encoding_rs.specs.Latin1.{AnswersDecoderLatin1};
+ghost use Rattle.encoding_rs.specs.Lengths.{max_length, IsForMode, query_units, IsEnoughRoom};
 ghost use Rattle.encoding_rs.specs.declared.lengths.Query.TheVariants as query;
-ghost use Rattle.encoding_rs.specs.Sniffing.{IsText};
-ghost use Rattle.enc_calls.specs.Replacing.{stop_of, treatment_of};
-ghost use Rattle.encoding_rs.specs.Decoding.{fresh, finished, start_life, TellsHeld, DecodesInto, ConvertsInto, ConvertsReplacing, ConvertsReporting};
+ghost use Rattle.encoding_rs.specs.Sniffing.{HasNoMark};
+ghost use Rattle.enc_calls.specs.Replacing.{decoder_result_of, decode_error_mode};
+ghost use Rattle.encoding_rs.specs.Decoding.{fresh_decoder, has_finished, start_life, PendingAreHeldBytes, DecodesInto, AnswersDecodeInto, AnswersDecodeReplacing, AnswersDecodeReporting};
 
 use crate::bom::BomHandling;
 use crate::encoding::{Encoding, Id, codec_of};
@@ -41,14 +41,14 @@ pub struct Decoder {
 }
 
 impl Model for Decoder {
-    ghost use Rattle.encoding_rs.specs.Decoding.{DecoderState, state_by, KeepsTo, KeepsFormulas};
-    ghost use Rattle.enc_codec.specs.Variant.{variant_state, variant_lengths};
+    ghost use Rattle.encoding_rs.specs.Decoding.{DecoderState, decoder_state_of, HasCodecOf, HasFormulasOf};
+    ghost use Rattle.enc_codec.specs.Variant.{variant_decoder_state, variant_decoder_lengths};
 
     ghost Value = { DecoderState };
 
-    ghost view = { λ d. state_by d.encoding d.life (variant_state d.codec) };
+    ghost view = { λ d. decoder_state_of d.encoding d.life (variant_decoder_state d.codec) };
 
-    ghost invariant = { λ d. KeepsTo d.encoding d.life (variant_state d.codec) × KeepsFormulas d.encoding d.life (variant_lengths d.codec) };
+    ghost invariant = { λ d. HasCodecOf d.encoding d.life (variant_decoder_state d.codec) × HasFormulasOf d.encoding d.life (variant_decoder_lengths d.codec) };
 }
 
 impl fmt::Debug for Decoder {
@@ -77,7 +77,7 @@ impl Encoding {
     /// A decoder that looks for all three byte order marks, and becomes one of the mark's encoding where there is one
     /// (Encoding Standard 6, "decode"). It has read nothing. Takes no memory.
     pub fn new_decoder(self) -> Decoder
-        ensures { result ≡ fresh handling.Sniff self }
+        ensures { result ≡ fresh_decoder handling.Sniff self }
     {
         Decoder::start(self, BomHandling::Sniff)
     }
@@ -85,7 +85,7 @@ impl Encoding {
     /// A decoder that looks for the byte order mark of its own encoding and drops it (Encoding Standard 6, "UTF-8
     /// decode", for any encoding); only UTF-8, UTF-16BE and UTF-16LE have one. It has read nothing. Takes no memory.
     pub fn new_decoder_with_bom_removal(self) -> Decoder
-        ensures { result ≡ fresh handling.Remove self }
+        ensures { result ≡ fresh_decoder handling.Remove self }
     {
         Decoder::start(self, BomHandling::Remove)
     }
@@ -93,7 +93,7 @@ impl Encoding {
     /// A decoder that looks for no byte order mark (Encoding Standard 6, "UTF-8 decode without BOM", for any
     /// encoding). It has read nothing. Takes no memory.
     pub fn new_decoder_without_bom_handling(self) -> Decoder
-        ensures { result ≡ fresh handling.Off self }
+        ensures { result ≡ fresh_decoder handling.Off self }
     {
         Decoder::start(self, BomHandling::Off)
     }
@@ -102,7 +102,7 @@ impl Encoding {
 impl Decoder {
     /// A decoder that looks for these marks. It has read nothing.
     pub(crate) fn start(encoding: Encoding, handling: BomHandling) -> Decoder
-        ensures { result ≡ fresh handling encoding }
+        ensures { result ≡ fresh_decoder handling encoding }
     {
         let life = match handling {
             BomHandling::Off => LifeCycle::Converting,
@@ -125,7 +125,7 @@ impl Decoder {
 
     /// Whether a call with `last` has answered `InputEmpty`. No more may be converted then.
     pub fn is_finished(&self) -> bool
-        ensures { result ≡ finished self.now }
+        ensures { result ≡ has_finished self.now }
     {
         match self.life {
             LifeCycle::Finished => true,
@@ -136,8 +136,8 @@ impl Decoder {
     /// The length to allocate for calls of a kind.
     fn max_length(&self, query: Query, byte_length: usize) -> Option<usize>
         ensures length { result ≡ max_length query self.now byte_length }
-        ensures enough { IfSome result (λ room. (treatment : Treatment) → Asks query treatment
-            → IsEnoughRoom (units_asked query) treatment self.now byte_length room) }
+        ensures enough { IfSome result (λ room. (mode : DecodeErrorMode) → IsForMode query mode
+            → IsEnoughRoom (query_units query) mode self.now byte_length room) }
     {
         let formulas = self.codec.text_lengths();
         query.max_length(self.life, formulas, byte_length, self.codec.held())
@@ -147,18 +147,18 @@ impl Decoder {
     /// [`Decoder::decode_to_utf8`] and its kin. `None` where a step of the formula passes `usize`. The decoder stays as it is.
     /// Condition: it is not finished. Takes no memory.
     pub fn max_utf8_buffer_length(&self, byte_length: usize) -> Option<usize>
-        requires { finished self.now ≡ false }
+        requires { has_finished self.now ≡ false }
         ensures length { result ≡ max_length query.Utf8 self.now byte_length }
-        ensures enough { IfSome result (IsEnoughRoom encode_utf8 Replaced self.now byte_length) }
+        ensures enough { IfSome result (IsEnoughRoom encode_utf8 Replacement self.now byte_length) }
     {
         self.max_length(Query::Utf8, byte_length)
     }
 
     /// The same for calls without replacement.
     pub fn max_utf8_buffer_length_without_replacement(&self, byte_length: usize) -> Option<usize>
-        requires { finished self.now ≡ false }
+        requires { has_finished self.now ≡ false }
         ensures length { result ≡ max_length query.Utf8Reporting self.now byte_length }
-        ensures enough { IfSome result (IsEnoughRoom encode_utf8 (Reported false) self.now byte_length) }
+        ensures enough { IfSome result (IsEnoughRoom encode_utf8 (Fatal false) self.now byte_length) }
     {
         self.max_length(Query::Utf8Reporting, byte_length)
     }
@@ -167,9 +167,9 @@ impl Decoder {
     /// `None` where a step of the formula passes `usize`. The decoder stays as it is. Condition: it is not finished. Takes no
     /// memory.
     pub fn max_utf16_buffer_length(&self, byte_length: usize) -> Option<usize>
-        requires { finished self.now ≡ false }
+        requires { has_finished self.now ≡ false }
         ensures length { result ≡ max_length query.Utf16 self.now byte_length }
-        ensures enough { IfSome result (λ room. (treatment : Treatment) → IsEnoughRoom encode_utf16 treatment self.now byte_length room) }
+        ensures enough { IfSome result (λ room. (mode : DecodeErrorMode) → IsEnoughRoom encode_utf16 mode self.now byte_length room) }
     {
         self.max_length(Query::Utf16, byte_length)
     }
@@ -180,7 +180,7 @@ impl Decoder {
     /// character set than ASCII is designated (ISO-2022-JP), and for UTF-16LE, UTF-16BE and replacement. In Shift_JIS the
     /// byte 0x80 counts, which is U+0080. The decoder stays as it is. Takes no memory.
     pub fn latin1_byte_compatible_up_to(&self, bytes: &[u8]) -> Option<usize>
-        ensures { TellsLatin1 self.now bytes.now result }
+        ensures { AnswersDecoderLatin1 self.now bytes.now result }
     {
         match self.life {
             LifeCycle::Converting => self.codec.latin1_byte_compatible_up_to(bytes),
@@ -196,9 +196,9 @@ impl Decoder {
         last: bool,
         replace: bool,
     ) -> (DecoderResult, usize, bool)
-        requires open { finished self.old ≡ false }
-        requires text { IsText self.old.life src.now last }
-        ensures call { DecodesInto U.units_of (treatment_of replace) self.old self.new src.now last (U.output out.old) (U.output out.new)
+        requires open { has_finished self.old ≡ false }
+        requires text { HasNoMark self.old.life src.now last }
+        ensures call { DecodesInto U.units_of (decode_error_mode replace) self.old self.new src.now last (U.output out.old) (U.output out.new)
             result.0 result.1 result.2 }
     {
         convert_text(&mut self.life, &mut self.codec, src, out, last, replace)
@@ -212,10 +212,10 @@ impl Decoder {
         last: bool,
         replace: bool,
     ) -> (DecoderResult, usize, bool)
-        requires { finished self.old ≡ false }
-        ensures call { DecodesInto U.units_of (treatment_of replace) self.old self.new src.now last (U.output out.old) (U.output out.new)
+        requires { has_finished self.old ≡ false }
+        ensures call { DecodesInto U.units_of (decode_error_mode replace) self.old self.new src.now last (U.output out.old) (U.output out.new)
             result.0 result.1 result.2 }
-        ensures held { TellsHeld self.old }
+        ensures held { PendingAreHeldBytes self.old }
     {
         let (sniffed, len) = sniff(self.life, src, last);
         let (_, rest) = src.split_at(len);
@@ -244,9 +244,9 @@ impl Decoder {
         out: &mut U,
         last: bool,
     ) -> (CoderResult, usize, bool)
-        requires { finished self.old ≡ false }
-        ensures { ConvertsInto U.units_of Replaced self.old self.new src.now last (U.output out.old) (U.output out.new)
-            (stop_of result.0) result.1 result.2 }
+        requires { has_finished self.old ≡ false }
+        ensures { AnswersDecodeInto U.units_of Replacement self.old self.new src.now last (U.output out.old) (U.output out.new)
+            (decoder_result_of result.0) result.1 result.2 }
     {
         U::laws();
         let (result, read, replaced) = self.convert(src, out, last, true);
@@ -264,8 +264,8 @@ impl Decoder {
         out: &mut U,
         last: bool,
     ) -> (DecoderResult, usize)
-        requires { finished self.old ≡ false }
-        ensures { ConvertsInto U.units_of (Reported false) self.old self.new src.now last (U.output out.old) (U.output out.new)
+        requires { has_finished self.old ≡ false }
+        ensures { AnswersDecodeInto U.units_of (Fatal false) self.old self.new src.now last (U.output out.old) (U.output out.new)
             result.0 result.1 false }
     {
         U::laws();
@@ -290,14 +290,14 @@ impl Decoder {
         dst: &mut [u8],
         last: bool,
     ) -> (CoderResult, usize, usize, bool)
-        requires { finished self.old ≡ false }
-        ensures call { ConvertsReplacing encode_utf8 4 self.old self.new src.now last (length dst.old)
+        requires { has_finished self.old ≡ false }
+        ensures call { AnswersDecodeReplacing encode_utf8 4 self.old self.new src.now last (length dst.old)
             result.0 result.1 (take result.2 dst.new) result.3 }
         ensures read { result.1 ≤ length src.now }
         ensures written { result.2 ≤ length dst.old }
         ensures text { IsUtf8 (take result.2 dst.new) }
         ensures behind { drop result.2 dst.new ≡ drop result.2 dst.old }
-        ensures ended { finished self.new ≡ is_end last (stop_of result.0) }
+        ensures ended { has_finished self.new ≡ reaches_end last (decoder_result_of result.0) }
         ensures progress { result.0 ≡ CoderResult.OutputFull → 4 ≤ length dst.old →
             length self.new.pending + (length src.now - result.1) < length self.old.pending + length src.now }
     {
@@ -322,14 +322,14 @@ impl Decoder {
         dst: &mut [u8],
         last: bool,
     ) -> (DecoderResult, usize, usize)
-        requires { finished self.old ≡ false }
-        ensures call { ConvertsReporting encode_utf8 4 self.old self.new src.now last (length dst.old)
+        requires { has_finished self.old ≡ false }
+        ensures call { AnswersDecodeReporting encode_utf8 4 self.old self.new src.now last (length dst.old)
             result.0 result.1 (take result.2 dst.new) }
         ensures read { result.1 ≤ length src.now }
         ensures written { result.2 ≤ length dst.old }
         ensures text { IsUtf8 (take result.2 dst.new) }
         ensures behind { drop result.2 dst.new ≡ drop result.2 dst.old }
-        ensures ended { finished self.new ≡ is_end last result.0 }
+        ensures ended { has_finished self.new ≡ reaches_end last result.0 }
         ensures progress { result.0 ≡ DecoderResult.OutputFull → 4 ≤ length dst.old →
             length self.new.pending + (length src.now - result.1) < length self.old.pending + length src.now }
     {
@@ -349,13 +349,13 @@ impl Decoder {
         dst: &mut [u16],
         last: bool,
     ) -> (CoderResult, usize, usize, bool)
-        requires { finished self.old ≡ false }
-        ensures call { ConvertsReplacing encode_utf16 2 self.old self.new src.now last (length dst.old)
+        requires { has_finished self.old ≡ false }
+        ensures call { AnswersDecodeReplacing encode_utf16 2 self.old self.new src.now last (length dst.old)
             result.0 result.1 (take result.2 dst.new) result.3 }
         ensures read { result.1 ≤ length src.now }
         ensures written { result.2 ≤ length dst.old }
         ensures behind { drop result.2 dst.new ≡ drop result.2 dst.old }
-        ensures ended { finished self.new ≡ is_end last (stop_of result.0) }
+        ensures ended { has_finished self.new ≡ reaches_end last (decoder_result_of result.0) }
         ensures progress { result.0 ≡ CoderResult.OutputFull → 2 ≤ length dst.old →
             length self.new.pending + (length src.now - result.1) < length self.old.pending + length src.now }
     {
@@ -375,13 +375,13 @@ impl Decoder {
         dst: &mut [u16],
         last: bool,
     ) -> (DecoderResult, usize, usize)
-        requires { finished self.old ≡ false }
-        ensures call { ConvertsReporting encode_utf16 2 self.old self.new src.now last (length dst.old)
+        requires { has_finished self.old ≡ false }
+        ensures call { AnswersDecodeReporting encode_utf16 2 self.old self.new src.now last (length dst.old)
             result.0 result.1 (take result.2 dst.new) }
         ensures read { result.1 ≤ length src.now }
         ensures written { result.2 ≤ length dst.old }
         ensures behind { drop result.2 dst.new ≡ drop result.2 dst.old }
-        ensures ended { finished self.new ≡ is_end last result.0 }
+        ensures ended { has_finished self.new ≡ reaches_end last result.0 }
         ensures progress { result.0 ≡ DecoderResult.OutputFull → 2 ≤ length dst.old →
             length self.new.pending + (length src.now - result.1) < length self.old.pending + length src.now }
     {
@@ -402,16 +402,16 @@ impl Decoder {
         dst: &mut [u8],
         last: bool,
     ) -> (CoderResult, usize, usize, bool)
-        requires open { finished self.old ≡ false }
+        requires open { has_finished self.old ≡ false }
         requires utf8 { IsWellFormedUtf8 dst.old }
-        ensures call { ConvertsReplacing encode_utf8 4 self.old self.new src.now last (length dst.old)
+        ensures call { AnswersDecodeReplacing encode_utf8 4 self.old self.new src.now last (length dst.old)
             result.0 result.1 (take result.2 dst.new) result.3 }
         ensures read { result.1 ≤ length src.now }
         ensures written { result.2 ≤ length dst.old }
         ensures text { IsUtf8 (take result.2 dst.new) }
-        ensures behind { drop result.2 dst.new ≡ without_rest (drop result.2 dst.old) }
+        ensures behind { drop result.2 dst.new ≡ without_continuations (drop result.2 dst.old) }
         ensures utf8 { IsWellFormedUtf8 dst.new }
-        ensures ended { finished self.new ≡ is_end last (stop_of result.0) }
+        ensures ended { has_finished self.new ≡ reaches_end last (decoder_result_of result.0) }
         ensures progress { result.0 ≡ CoderResult.OutputFull → 4 ≤ length dst.old →
             length self.new.pending + (length src.now - result.1) < length self.old.pending + length src.now }
     {
@@ -429,16 +429,16 @@ impl Decoder {
         dst: &mut [u8],
         last: bool,
     ) -> (DecoderResult, usize, usize)
-        requires open { finished self.old ≡ false }
+        requires open { has_finished self.old ≡ false }
         requires utf8 { IsWellFormedUtf8 dst.old }
-        ensures call { ConvertsReporting encode_utf8 4 self.old self.new src.now last (length dst.old)
+        ensures call { AnswersDecodeReporting encode_utf8 4 self.old self.new src.now last (length dst.old)
             result.0 result.1 (take result.2 dst.new) }
         ensures read { result.1 ≤ length src.now }
         ensures written { result.2 ≤ length dst.old }
         ensures text { IsUtf8 (take result.2 dst.new) }
-        ensures behind { drop result.2 dst.new ≡ without_rest (drop result.2 dst.old) }
+        ensures behind { drop result.2 dst.new ≡ without_continuations (drop result.2 dst.old) }
         ensures utf8 { IsWellFormedUtf8 dst.new }
-        ensures ended { finished self.new ≡ is_end last result.0 }
+        ensures ended { has_finished self.new ≡ reaches_end last result.0 }
         ensures progress { result.0 ≡ DecoderResult.OutputFull → 4 ≤ length dst.old →
             length self.new.pending + (length src.now - result.1) < length self.old.pending + length src.now }
     {
@@ -459,12 +459,12 @@ impl Decoder {
         dst: &mut String,
         last: bool,
     ) -> (CoderResult, usize, bool)
-        requires { finished self.old ≡ false }
-        ensures call { ConvertsReplacing encode_utf8 4 self.old self.new src.now last (string_capacity dst.old - string_len dst.old)
+        requires { has_finished self.old ≡ false }
+        ensures call { AnswersDecodeReplacing encode_utf8 4 self.old self.new src.now last (string_capacity dst.old - string_len dst.old)
             result.0 result.1 (drop (length (string_bytes dst.old)) (string_bytes dst.new)) result.2 }
         ensures read { result.1 ≤ length src.now }
         ensures appended { take (length (string_bytes dst.old)) (string_bytes dst.new) ≡ string_bytes dst.old }
-        ensures ended { finished self.new ≡ is_end last (stop_of result.0) }
+        ensures ended { has_finished self.new ≡ reaches_end last (decoder_result_of result.0) }
         ensures progress { result.0 ≡ CoderResult.OutputFull → 4 ≤ string_capacity dst.old - string_len dst.old →
             length self.new.pending + (length src.now - result.1) < length self.old.pending + length src.now }
     {
@@ -480,12 +480,12 @@ impl Decoder {
         dst: &mut String,
         last: bool,
     ) -> (DecoderResult, usize)
-        requires { finished self.old ≡ false }
-        ensures call { ConvertsReporting encode_utf8 4 self.old self.new src.now last (string_capacity dst.old - string_len dst.old)
+        requires { has_finished self.old ≡ false }
+        ensures call { AnswersDecodeReporting encode_utf8 4 self.old self.new src.now last (string_capacity dst.old - string_len dst.old)
             result.0 result.1 (drop (length (string_bytes dst.old)) (string_bytes dst.new)) }
         ensures read { result.1 ≤ length src.now }
         ensures appended { take (length (string_bytes dst.old)) (string_bytes dst.new) ≡ string_bytes dst.old }
-        ensures ended { finished self.new ≡ is_end last result.0 }
+        ensures ended { has_finished self.new ≡ reaches_end last result.0 }
         ensures progress { result.0 ≡ DecoderResult.OutputFull → 4 ≤ string_capacity dst.old - string_len dst.old →
             length self.new.pending + (length src.now - result.1) < length self.old.pending + length src.now }
     {

@@ -4,11 +4,11 @@ ghost use Rattle.std.specs.Prelude.{◌≡◌, ◌++◌, ◌&&◌, [], true, fal
 ghost use Rattle.std.specs.Char.{encode_utf8};
 ghost use Rattle.std.specs.Char.Escape.{encode_utf16};
 ghost use Rattle.enc_encoders.specs.Text.{reference_after};
-ghost use Rattle.enc_references.specs.Treatment.{stop_of};
+ghost use Rattle.enc_references.specs.ErrorMode.{encoder_result_of};
 ghost use Rattle.enc_encoders.specs.Barring.{are_beyond_ascii};
-ghost use Rattle.encoding_rs.specs.Encoder.{Encodes};
-ghost use Rattle.encoding_rs.specs.Run.{units_by};
-ghost use Rattle.encoding_rs.specs.EncodeRun.{treatment_by, report_of, is_report, is_empty, MakesCall};
+ghost use Rattle.encoding_rs.specs.Encoder.{EncodesChunk};
+ghost use Rattle.encoding_rs.specs.Run.{units_of_call};
+ghost use Rattle.encoding_rs.specs.EncodeRun.{encode_error_mode, reported_character, is_unmappable_result, is_input_empty_result, MakesEncodeCall};
 ghost use Rattle.encoding_rs.specs.EncodeReport.{IsReportOf};
 
 use crate::chars_of_text::{chars_in_units, split_at_char, utf16_of};
@@ -61,7 +61,8 @@ struct Made {
 
 /// What a call with replacement did.
 fn made_replacing(stop: CoderResult, read: usize, replaced: bool) -> Made
-    ensures { result ≡ record { result = stop_of stop; read = read; replaced = replaced } }
+    ensures { result
+        ≡ record { result = encoder_result_of stop; read = read; replaced = replaced } }
 {
     let result = match stop {
         CoderResult::InputEmpty => EncoderResult::InputEmpty,
@@ -82,7 +83,7 @@ fn call_from_utf8(
     last: bool,
     call: EncodeCall,
 ) -> Result<(Made, Vec<u8>), AllocError>
-    ensures { IfOk result (λ done. Encodes encode_utf8 (treatment_by call.replace encoder.old) encoder.old encoder.new (chars chunk.now) last
+    ensures { IfOk result (λ done. EncodesChunk encode_utf8 (encode_error_mode call.replace encoder.old) encoder.old encoder.new (chars chunk.now) last
         call.room done.0.result done.0.read done.1.items done.0.replaced) }
 {
     let mut bytes = Vec::with_capacity(alloc, call.room)?;
@@ -109,7 +110,7 @@ fn call_from_utf16(
     last: bool,
     call: EncodeCall,
 ) -> Result<(Made, Vec<u8>), AllocError>
-    ensures { IfOk result (λ done. Encodes encode_utf16 (treatment_by call.replace encoder.old) encoder.old encoder.new (chars chunk.now) last
+    ensures { IfOk result (λ done. EncodesChunk encode_utf16 (encode_error_mode call.replace encoder.old) encoder.old encoder.new (chars chunk.now) last
         call.room done.0.result done.0.read done.1.items done.0.replaced) }
 {
     let units = utf16_of(alloc, chunk)?;
@@ -139,7 +140,7 @@ fn call_from(
     last: bool,
     call: EncodeCall,
 ) -> Result<(Made, Vec<u8>), AllocError>
-    ensures { IfOk result (λ done. Encodes (units_by call.utf16) (treatment_by call.replace encoder.old) encoder.old encoder.new (chars chunk.now) last
+    ensures { IfOk result (λ done. EncodesChunk (units_of_call call.utf16) (encode_error_mode call.replace encoder.old) encoder.old encoder.new (chars chunk.now) last
         call.room done.0.result done.0.read done.1.items done.0.replaced) }
 {
     if call.utf16 {
@@ -162,7 +163,8 @@ fn append_reference(bytes: &mut Vec<u8>, stop: EncoderResult) -> Result<(), Allo
 
 /// Takes note of the character that a call has reported, if it has.
 fn note_report(unmappables: &mut Vec<char>, stop: EncoderResult) -> Result<(), AllocError>
-    ensures { OnOk result (unmappables.new.items ≡ unmappables.old.items ++ report_of stop) }
+    ensures { OnOk result
+        (unmappables.new.items ≡ unmappables.old.items ++ reported_character stop) }
 {
     let EncoderResult::Unmappable(c) = stop else {
         return Ok(());
@@ -175,7 +177,7 @@ fn note_report(unmappables: &mut Vec<char>, stop: EncoderResult) -> Result<(), A
 
 /// Whether a call has reported an unmappable character.
 fn reports(stop: EncoderResult) -> bool
-    ensures { result ≡ is_report stop }
+    ensures { result ≡ is_unmappable_result stop }
 {
     match stop {
         EncoderResult::InputEmpty => false,
@@ -186,7 +188,7 @@ fn reports(stop: EncoderResult) -> bool
 
 /// Whether a call has read all that it was offered.
 fn reads_all(stop: EncoderResult) -> bool
-    ensures { result ≡ is_empty stop }
+    ensures { result ≡ is_input_empty_result stop }
 {
     match stop {
         EncoderResult::InputEmpty => true,
@@ -204,9 +206,10 @@ fn make_call(
     call: EncodeCall,
     bytes: &mut Vec<u8>,
 ) -> Result<(Made, bool), AllocError>
-    ensures call { IfOk result (λ made. MakesCall call encoder.old encoder.new (chars unread.now)
+    ensures call { IfOk result
+        (λ made. MakesEncodeCall call encoder.old encoder.new (chars unread.now)
         bytes.old.items bytes.new.items made.0.result made.0.read made.0.replaced) }
-    ensures ended { IfOk result (λ made. made.1 ≡ (nat_le (length (chars unread.now)) call.offer && is_empty made.0.result)) }
+    ensures ended { IfOk result (λ made. made.1 ≡ (nat_le (length (chars unread.now)) call.offer && is_input_empty_result made.0.result)) }
 {
     let (chunk, behind) = split_at_char(unread, call.offer);
     let last = behind.is_empty();

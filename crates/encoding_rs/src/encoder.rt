@@ -7,21 +7,21 @@ ghost use Rattle.std.specs.Char.{encode_utf8};
 ghost use Rattle.std.specs.Char.Escape.{encode_utf16};
 ghost use Rattle.std.specs.Char.Utf16.{utf16_lossy_chars};
 ghost use Rattle.enc_encoders.specs.Barring.{are_beyond_ascii};
-ghost use Rattle.enc_encoders.specs.EncoderRule.{is_pending};
-ghost use Rattle.enc_references.specs.Treatment.{Reported, stop_of};
-ghost use Rattle.enc_units.specs.Checked.{plus};
+ghost use Rattle.enc_encoders.specs.EncoderRule.{is_escape_due};
+ghost use Rattle.enc_references.specs.ErrorMode.{Fatal, encoder_result_of};
+ghost use Rattle.enc_units.specs.Checked.{checked_add};
 ghost use Rattle.enc_encoders.specs.Lengths.{from_utf_8_length, from_utf_16_length};
-ghost use Rattle.enc_encoders.specs.Need.{AreEnough};
-ghost use Rattle.encoding_rs.specs.Encoder.{Encodes, EncodesInto, fresh_encoder, has_every as wanted_every, kept_in, raw_state, replacing, steps_left};
+ghost use Rattle.enc_encoders.specs.Need.{AreEnoughForEncoder};
+ghost use Rattle.encoding_rs.specs.Encoder.{EncodesChunk, EncodesInto, fresh_encoder, maps_every_character as wanted_every, room_kept_for_references, raw_state, html_mode, steps_left};
 ghost use Rattle.encoding_rs.specs.Lengths.{output_lengths};
-ghost use Rattle.encoding_rs.specs.Need.{EncodesByNeed, IsEnough, IsEnoughIfMappable};
+ghost use Rattle.encoding_rs.specs.Need.{EncodesByNeed, IsEnoughForEncoding, IsEnoughIfMappable};
 
 use crate::encoding::{Encoding, Id, codec_of};
 use enc_calls::CoderResult;
 use enc_encode::{
     ByteLengths, EncoderResult, RawEncoder, VariantEncoder, byte_lengths, new_encoder,
 };
-use enc_references::{LONGEST_REFERENCE, encode_all, encode_replacing, encode_reporting};
+use enc_references::{LONGEST_REFERENCE, encode_mappable, encode_replacing, encode_reporting};
 use enc_units::{Chars, Utf8Chars, Utf16Chars};
 use std::fmt;
 use std::marker::Model;
@@ -41,15 +41,16 @@ pub struct Encoder {
 
 impl Model for Encoder {
     ghost use Rattle.std.specs.Prelude.{◌≡◌};
-    ghost use Rattle.enc_encode.specs.Variant.{variant_state};
+    ghost use Rattle.enc_encode.specs.Variant.{variant_encoder_state};
     ghost use Rattle.encoding_rs.specs.Encodings.{output_rule};
     ghost use Rattle.encoding_rs.specs.Encoder.{EncoderState};
 
     ghost Value = { EncoderState };
 
-    ghost view = { λ e. record { encoding = e.encoding; barred = e.barred.now; set = (variant_state e.raw).set } };
+    ghost view = { λ e. record { encoding = e.encoding; barred = e.barred.now; set = (variant_encoder_state e.raw).set } };
 
-    ghost invariant = { λ e. (variant_state e.raw).rule ≡ output_rule e.barred.now e.encoding };
+    ghost invariant = { λ e. (variant_encoder_state e.raw).rule
+        ≡ output_rule e.barred.now e.encoding };
 }
 
 impl fmt::Debug for Encoder {
@@ -98,7 +99,7 @@ impl Encoder {
     /// Whether another character set than ASCII is designated, so that an escape sequence is still to come at the end of the
     /// text: in ISO-2022-JP alone. Takes no memory.
     pub fn has_pending_state(&self) -> bool
-        ensures { result ≡ is_pending self.now.set }
+        ensures { result ≡ is_escape_due self.now.set }
     {
         self.raw.has_pending_state()
     }
@@ -106,13 +107,14 @@ impl Encoder {
     /// Which formulas tell how many bytes a text may have.
     fn byte_lengths(&self) -> ByteLengths
         ensures lengths { result ≡ output_lengths self.now.encoding }
-        ensures enough { AreEnough (output_lengths self.now.encoding) (raw_state self.now) }
+        ensures enough { AreEnoughForEncoder (output_lengths self.now.encoding)
+            (raw_state self.now) }
     {
         byte_lengths(codec_of(self.encoding))
     }
 
     /// Whether every character is mappable: in UTF-8, where none is barred.
-    fn has_every(&self) -> bool
+    fn maps_every_character(&self) -> bool
         ensures { result ≡ wanted_every self.now.barred self.now.encoding }
     {
         match self.encoding.id {
@@ -123,9 +125,9 @@ impl Encoder {
 
     /// How many bytes at the end of an output are kept back for references.
     fn kept(&self) -> usize
-        ensures { result ≡ kept_in self.now.barred self.now.encoding }
+        ensures { result ≡ room_kept_for_references self.now.barred self.now.encoding }
     {
-        if self.has_every() {
+        if self.maps_every_character() {
             0
         } else {
             LONGEST_REFERENCE
@@ -140,7 +142,7 @@ impl Encoder {
         byte_length: usize,
     ) -> Option<usize>
         ensures formula { result ≡ from_utf_8_length (output_lengths self.now.encoding) byte_length }
-        ensures enough { IfSome result (IsEnough encode_utf8 self.now byte_length) }
+        ensures enough { IfSome result (IsEnoughForEncoding encode_utf8 self.now byte_length) }
     {
         self.byte_lengths().from_utf8(byte_length)
     }
@@ -151,7 +153,7 @@ impl Encoder {
         u16_length: usize,
     ) -> Option<usize>
         ensures formula { result ≡ from_utf_16_length (output_lengths self.now.encoding) u16_length }
-        ensures enough { IfSome result (IsEnough encode_utf16 self.now u16_length) }
+        ensures enough { IfSome result (IsEnoughForEncoding encode_utf16 self.now u16_length) }
     {
         self.byte_lengths().from_utf16(u16_length)
     }
@@ -161,7 +163,7 @@ impl Encoder {
     /// with that reads all.
     /// `None` where a step of the formula passes `usize`. Takes no memory.
     pub fn max_buffer_length_from_utf8_if_no_unmappables(&self, byte_length: usize) -> Option<usize>
-        ensures formula { result ≡ plus (from_utf_8_length (output_lengths self.now.encoding) byte_length) (kept_in self.now.barred self.now.encoding) }
+        ensures formula { result ≡ checked_add (from_utf_8_length (output_lengths self.now.encoding) byte_length) (room_kept_for_references self.now.barred self.now.encoding) }
         ensures enough { IfSome result (IsEnoughIfMappable encode_utf8 self.now byte_length) }
     {
         self.max_buffer_length_from_utf8_without_replacement(byte_length)?
@@ -170,7 +172,7 @@ impl Encoder {
 
     /// The same for [`Encoder::encode_from_utf16`], of so many code units of UTF-16.
     pub fn max_buffer_length_from_utf16_if_no_unmappables(&self, u16_length: usize) -> Option<usize>
-        ensures formula { result ≡ plus (from_utf_16_length (output_lengths self.now.encoding) u16_length) (kept_in self.now.barred self.now.encoding) }
+        ensures formula { result ≡ checked_add (from_utf_16_length (output_lengths self.now.encoding) u16_length) (room_kept_for_references self.now.barred self.now.encoding) }
         ensures enough { IfSome result (IsEnoughIfMappable encode_utf16 self.now u16_length) }
     {
         self.max_buffer_length_from_utf16_without_replacement(u16_length)?
@@ -184,7 +186,7 @@ impl Encoder {
         dst: &mut [u8],
         last: bool,
     ) -> (EncoderResult, usize, usize)
-        ensures { EncodesInto C.units_of Reported self.old self.new (C.rest src.old) last dst.old dst.new result.0 result.1 result.2 false }
+        ensures { EncodesInto C.units_of Fatal self.old self.new (C.rest src.old) last dst.old dst.new result.0 result.1 result.2 false }
     {
         encode_reporting(&mut self.raw, src, dst, last)
     }
@@ -196,11 +198,11 @@ impl Encoder {
         dst: &mut [u8],
         last: bool,
     ) -> (CoderResult, usize, usize, bool)
-        ensures { EncodesInto C.units_of (replacing self.old) self.old self.new (C.rest src.old) last dst.old dst.new
-            (stop_of result.0) result.1 result.2 result.3 }
+        ensures { EncodesInto C.units_of (html_mode self.old) self.old self.new (C.rest src.old) last dst.old dst.new
+            (encoder_result_of result.0) result.1 result.2 result.3 }
     {
-        if self.has_every() {
-            let (stop, read, written) = encode_all(&mut self.raw, src, dst, last);
+        if self.maps_every_character() {
+            let (stop, read, written) = encode_mappable(&mut self.raw, src, dst, last);
             return (stop, read, written, false);
         }
         encode_replacing(&mut self.raw, src, dst, last)
@@ -225,8 +227,8 @@ impl Encoder {
         dst: &mut [u8],
         last: bool,
     ) -> (CoderResult, usize, usize, bool)
-        ensures call { EncodesInto encode_utf8 (replacing self.old) self.old self.new (chars src.now) last dst.old dst.new
-            (stop_of result.0) result.1 result.2 result.3 }
+        ensures call { EncodesInto encode_utf8 (html_mode self.old) self.old self.new (chars src.now) last dst.old dst.new
+            (encoder_result_of result.0) result.1 result.2 result.3 }
         ensures read { result.1 ≤ length src.now }
         ensures boundary { IsCharBoundary src.now result.1 }
         ensures written { result.2 ≤ length dst.old }
@@ -246,8 +248,8 @@ impl Encoder {
         dst: &mut [u8],
         last: bool,
     ) -> (CoderResult, usize, usize, bool)
-        ensures call { EncodesInto encode_utf16 (replacing self.old) self.old self.new (utf16_lossy_chars src.now) last dst.old dst.new
-            (stop_of result.0) result.1 result.2 result.3 }
+        ensures call { EncodesInto encode_utf16 (html_mode self.old) self.old self.new (utf16_lossy_chars src.now) last dst.old dst.new
+            (encoder_result_of result.0) result.1 result.2 result.3 }
         ensures read { result.1 ≤ length src.now }
         ensures written { result.2 ≤ length dst.old }
         ensures behind { drop result.2 dst.new ≡ drop result.2 dst.old }
@@ -267,8 +269,9 @@ impl Encoder {
         dst: &mut Vec<u8>,
         last: bool,
     ) -> (CoderResult, usize, bool)
-        ensures call { Encodes encode_utf8 (replacing self.old) self.old self.new (chars src.now) last (vec_capacity dst.old - vec_len dst.old)
-            (stop_of result.0) result.1 (drop (length dst.old.items) dst.new.items) result.2 }
+        ensures call { EncodesChunk encode_utf8 (html_mode self.old) self.old self.new (chars src.now) last (vec_capacity dst.old - vec_len dst.old)
+            (encoder_result_of result.0) result.1 (drop (length dst.old.items) dst.new.items)
+            result.2 }
         ensures read { result.1 ≤ length src.now }
         ensures boundary { IsCharBoundary src.now result.1 }
         ensures appended { take (length dst.old.items) dst.new.items ≡ dst.old.items }
@@ -290,7 +293,7 @@ impl Encoder {
         dst: &mut Vec<u8>,
         last: bool,
     ) -> (EncoderResult, usize)
-        ensures call { Encodes encode_utf8 Reported self.old self.new (chars src.now) last (vec_capacity dst.old - vec_len dst.old)
+        ensures call { EncodesChunk encode_utf8 Fatal self.old self.new (chars src.now) last (vec_capacity dst.old - vec_len dst.old)
             result.0 result.1 (drop (length dst.old.items) dst.new.items) false }
         ensures need { EncodesByNeed encode_utf8 self.old self.new (chars src.now) last (vec_capacity dst.old - vec_len dst.old)
             result.0 result.1 (length (drop (length dst.old.items) dst.new.items)) }
@@ -329,7 +332,7 @@ impl Encoder {
         dst: &mut [u8],
         last: bool,
     ) -> (EncoderResult, usize, usize)
-        ensures call { EncodesInto encode_utf8 Reported self.old self.new (chars src.now) last dst.old dst.new result.0 result.1 result.2 false }
+        ensures call { EncodesInto encode_utf8 Fatal self.old self.new (chars src.now) last dst.old dst.new result.0 result.1 result.2 false }
         ensures need { EncodesByNeed encode_utf8 self.old self.new (chars src.now) last (length dst.old) result.0 result.1 result.2 }
         ensures read { result.1 ≤ length src.now }
         ensures boundary { IsCharBoundary src.now result.1 }
@@ -350,7 +353,7 @@ impl Encoder {
         dst: &mut [u8],
         last: bool,
     ) -> (EncoderResult, usize, usize)
-        ensures call { EncodesInto encode_utf16 Reported self.old self.new (utf16_lossy_chars src.now) last dst.old dst.new result.0 result.1 result.2 false }
+        ensures call { EncodesInto encode_utf16 Fatal self.old self.new (utf16_lossy_chars src.now) last dst.old dst.new result.0 result.1 result.2 false }
         ensures need { EncodesByNeed encode_utf16 self.old self.new (utf16_lossy_chars src.now) last (length dst.old) result.0 result.1 result.2 }
         ensures read { result.1 ≤ length src.now }
         ensures written { result.2 ≤ length dst.old }

@@ -6,7 +6,7 @@
 ghost use Rattle.std.specs.Prelude.{◌≡◌, Some, map, length};
 ghost use Rattle.encoding_rs.specs.EncodingTable.{codec_by_id, name_by_id, output_by_id};
 ghost use Rattle.encoding_rs.specs.EncodingTable.{ascii_compatible_by_id, single_byte_by_id};
-ghost use Rattle.encoding_rs.specs.Labels.{labelled, get};
+ghost use Rattle.encoding_rs.specs.Labels.{label_pairs, encoding_of_label};
 
 use crate::encoding::*;
 use enc_codec::Codec;
@@ -384,8 +384,9 @@ pub(crate) const ENCODINGS: [Encoding; 228] = [
 
 /// There are 228 labels, and each names the one encoding that it is paired with.
 pub fn labels_name_one_encoding()
-    ensures count { length labelled ≡ 228 }
-    ensures each { map (λ pair. get pair.0) labelled ≡ map (λ pair. Some pair.1) labelled }
+    ensures count { length label_pairs ≡ 228 }
+    ensures each { map (λ pair. encoding_of_label pair.0) label_pairs
+        ≡ map (λ pair. Some pair.1) label_pairs }
 {}
 
 /// The second constant of each encoding is equal to the first.

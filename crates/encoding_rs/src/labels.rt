@@ -2,7 +2,7 @@
 
 ghost use Rattle.std.specs.Prelude.{◌≡◌, Some, map, length};
 ghost use Rattle.enc_labels.specs.Table.{table};
-ghost use Rattle.encoding_rs.specs.Labels.{labelled, paired_with, get, get_no_replacement};
+ghost use Rattle.encoding_rs.specs.Labels.{label_pairs, encoding_paired_with, encoding_of_label, encoding_of_label_no_replacement};
 
 use crate::encoding::{Encoding, REPLACEMENT};
 use crate::encoding_table::ENCODINGS;
@@ -10,7 +10,7 @@ use enc_labels::place;
 
 /// The encodings of the labels.
 fn encodings() -> &'static [Encoding]
-    ensures each { map Some result.now ≡ map (paired_with labelled) table }
+    ensures each { map Some result.now ≡ map (encoding_paired_with label_pairs) table }
     ensures count { length result.now ≡ length table }
 {
     &ENCODINGS
@@ -21,7 +21,7 @@ impl Encoding {
     /// ASCII whitespace before and behind it or not: tab, line feed, form feed, carriage return and space. `None`
     /// where no encoding has the label. Takes no memory.
     pub fn for_label(label: &[u8]) -> Option<Encoding>
-        ensures { result ≡ get label.now }
+        ensures { result ≡ encoding_of_label label.now }
     {
         let place = place(label.trim_ascii())?;
         Some(encodings()[place])
@@ -29,7 +29,7 @@ impl Encoding {
 
     /// The same, but that a label of replacement names nothing: `None`. Takes no memory.
     pub fn for_label_no_replacement(label: &[u8]) -> Option<Encoding>
-        ensures { result ≡ get_no_replacement label.now }
+        ensures { result ≡ encoding_of_label_no_replacement label.now }
     {
         let encoding = Encoding::for_label(label)?;
         if encoding == REPLACEMENT {

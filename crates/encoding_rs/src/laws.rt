@@ -4,27 +4,27 @@ ghost use Rattle.std.specs.Prelude.{◌≡◌, ◌≢◌, ◌↔◌, ℕ, ◌-�
 ghost use Rattle.encoding_rs.specs.declared.bom.BomHandling.TheVariants as handling;
 ghost use Rattle.encoding_rs.specs.Bom.{marks_looked_for, find_mark};
 ghost use Rattle.enc_encode.specs.Encoders.{encoder_rule};
-ghost use Rattle.enc_encoders.specs.Barring.{stands_in, are_beyond_ascii};
+ghost use Rattle.enc_encoders.specs.Barring.{contains_char, are_beyond_ascii};
 ghost use Rattle.enc_encoders.specs.Text.{bytes_of_text, with_references};
 ghost use Rattle.enc_encoders.specs.declared.character_set.CharacterSet.TheVariants.{Ascii};
 ghost use Rattle.enc_references.specs.Unmappable.{any_unmappable};
 ghost use Rattle.encoding_rs.specs.EncodingTable.{codec_by_id};
 ghost use Rattle.encoding_rs.specs.Encodings.{output_rule, rule_of};
-ghost use Rattle.encoding_rs.specs.LifeCycle.{mark_bytes, encoding_by};
-ghost use Rattle.encoding_rs.specs.MarkLaws.{MayBeginMark, behind as behind_mark};
+ghost use Rattle.encoding_rs.specs.LifeCycle.{mark_bytes, encoding_of_mark_or};
+ghost use Rattle.encoding_rs.specs.MarkLaws.{MayBeginMark, bytes_after_mark as behind_mark};
 ghost use Rattle.encoding_rs.specs.Decoding.{whole_sequences, whole_malformed};
 ghost use Rattle.encoding_rs.specs.EncodeRun.{whole_bytes};
-ghost use Rattle.encoding_rs.specs.Labels.{get};
+ghost use Rattle.encoding_rs.specs.Labels.{encoding_of_label};
 ghost use Rattle.encoding_rs.specs.Names.{name_of};
 ghost use Rattle.encoding_rs.specs.Properties.{output_encoding_of, is_ascii_compatible, is_single_byte};
-ghost use Rattle.enc_codec.specs.Properties.{IsAsciiCompatible, IsSingleByte, TellsBbByItself};
-ghost use Rattle.enc_machine.specs.Sequence.{Sequence, bytes_of, text_of};
+ghost use Rattle.enc_codec.specs.Properties.{IsAsciiCompatible, IsSingleByte, DeterminesBbByItself};
+ghost use Rattle.enc_machine.specs.Sequence.{Sequence, sequence_bytes, sequence_text};
 ghost use Rattle.enc_machine.specs.Segmentation.{sequences_of, IsSegmentation};
 ghost use Rattle.enc_machine.specs.Remainder.{AreBytes, Determines};
-ghost use Rattle.enc_machine.specs.RuleLaws.{HasTexts, Looks, IsToldByEnd};
-ghost use Rattle.enc_machine.specs.Lookahead.{ReachBehind};
+ghost use Rattle.enc_machine.specs.RuleLaws.{HasTexts, IsLookahead, IsDeterminedByEnd};
+ghost use Rattle.enc_machine.specs.Lookahead.{CoverLookahead};
 ghost use Rattle.encoding_rs.specs.Lookahead.{MayLook};
-ghost use Rattle.enc_round_trip.specs.RoundTrip.{read_back};
+ghost use Rattle.enc_round_trip.specs.RoundTrip.{char_read_back};
 ghost use Rattle.enc_units.specs.Output.{AreScalars};
 ghost use Rattle.enc_units.specs.Validity.{IsWellFormedUtf8};
 
@@ -71,7 +71,7 @@ pub fn mark_is_told_first(encoding: Encoding, handling: BomHandling)
     // The others determine what the rule alone does of the bytes behind the mark.
     ensures then { (x : List ℕ) (ss : List Sequence) → (MayBeginMark (marks_looked_for handling encoding) x → ⊥)
         → Determines (whole_sequences handling encoding) x ss
-        ↔ Determines (sequences_of (rule_of (encoding_by (find_mark (marks_looked_for handling encoding) x) encoding)) 0)
+        ↔ Determines (sequences_of (rule_of (encoding_of_mark_or (find_mark (marks_looked_for handling encoding) x) encoding)) 0)
         (behind_mark (find_mark (marks_looked_for handling encoding) x) x) ss }
 {
     let _ = (encoding, handling);
@@ -87,13 +87,13 @@ pub fn lookahead_is_exact(encoding: Encoding, handling: BomHandling)
         → whole_sequences handling encoding bytes ≡ (s ∷ ss) ++ rest → k ≤ length bytes
         → Determines (whole_sequences handling encoding) (take k bytes) (s ∷ ss)
         ↔ ((MayBeginMark (marks_looked_for handling encoding) (take k bytes) → ⊥)
-        × ReachBehind (rule_of (encoding_by (find_mark (marks_looked_for handling encoding) bytes) encoding)) 0
+        × CoverLookahead (rule_of (encoding_of_mark_or (find_mark (marks_looked_for handling encoding) bytes) encoding)) 0
         (behind_mark (find_mark (marks_looked_for handling encoding) bytes) bytes) (s ∷ ss)
         (k - length (mark_bytes (find_mark (marks_looked_for handling encoding) bytes)))) }
 
     // Each sequence has a lookahead, unless only the end of the input determines it.
-    ensures some { (set b : ℕ) (z : List ℕ) → ((n : ℕ) × Looks (rule_of encoding) set b z n) ⊎ IsToldByEnd (rule_of encoding) set b z }
-    ensures kinds { (set b : ℕ) (z : List ℕ) (n : ℕ) → AreBytes z → Looks (rule_of encoding) set b z n
+    ensures some { (set b : ℕ) (z : List ℕ) → ((n : ℕ) × IsLookahead (rule_of encoding) set b z n) ⊎ IsDeterminedByEnd (rule_of encoding) set b z }
+    ensures kinds { (set b : ℕ) (z : List ℕ) (n : ℕ) → AreBytes z → IsLookahead (rule_of encoding) set b z n
         → MayLook encoding (rule_of encoding set b z).kind n }
 {
     let _ = (encoding, handling);
@@ -103,12 +103,12 @@ pub fn lookahead_is_exact(encoding: Encoding, handling: BomHandling)
 /// segmentation.
 pub fn sequences_are_the_bytes(encoding: Encoding, handling: BomHandling)
     ensures joined { (bytes : List ℕ) → mark_bytes (find_mark (marks_looked_for handling encoding) bytes)
-        ++ bytes_of (whole_sequences handling encoding bytes) ≡ bytes }
+        ++ sequence_bytes (whole_sequences handling encoding bytes) ≡ bytes }
 
     // They are told by the rule, each at its place, and no others are.
-    ensures told { (bytes : List ℕ) → IsSegmentation (rule_of (encoding_by (find_mark (marks_looked_for handling encoding) bytes) encoding)) 0
+    ensures told { (bytes : List ℕ) → IsSegmentation (rule_of (encoding_of_mark_or (find_mark (marks_looked_for handling encoding) bytes) encoding)) 0
         (behind_mark (find_mark (marks_looked_for handling encoding) bytes) bytes) (whole_sequences handling encoding bytes) }
-    ensures one { (bytes : List ℕ) (ss : List Sequence) → IsSegmentation (rule_of (encoding_by (find_mark (marks_looked_for handling encoding) bytes) encoding)) 0
+    ensures one { (bytes : List ℕ) (ss : List Sequence) → IsSegmentation (rule_of (encoding_of_mark_or (find_mark (marks_looked_for handling encoding) bytes) encoding)) 0
         (behind_mark (find_mark (marks_looked_for handling encoding) bytes) bytes) ss → ss ≡ whole_sequences handling encoding bytes }
 {
     let _ = (encoding, handling);
@@ -131,7 +131,7 @@ pub fn equal_hash_alike<H: Hasher>(a: Encoding, b: Encoding, first: &mut H, seco
 
 /// An encoding's name is a label of it.
 pub fn names_are_labels(encoding: Encoding)
-    ensures { get (name_of encoding) ≡ Some encoding }
+    ensures { encoding_of_label (name_of encoding) ≡ Some encoding }
 {
     let _ = encoding;
 }
@@ -161,7 +161,7 @@ pub fn single_byte_decode_bytes(encoding: Encoding)
 ///
 /// So after an incomplete byte order mark EF BB, a decoder that has written EF and still holds BB has read no byte after BB.
 pub fn pending_bb_is_told_by_itself(encoding: Encoding)
-    ensures { TellsBbByItself (rule_of encoding) }
+    ensures { DeterminesBbByItself (rule_of encoding) }
 {
     let _ = encoding;
 }
@@ -190,7 +190,7 @@ pub fn references_are_mappable(encoding: Encoding)
 /// unmappable beside those that are so to any encoder of its encoding; all others have the bytes that they have without a list.
 pub fn barred_characters_are_unmappable(encoding: Encoding)
     ensures { (barred : List ℕ) (c : ℕ) → are_beyond_ascii barred ≡ true
-        → (output_rule barred encoding).bytes c ≡ (if stands_in barred c then None else (output_rule [] encoding).bytes c) }
+        → (output_rule barred encoding).bytes c ≡ (if contains_char barred c then None else (output_rule [] encoding).bytes c) }
 {
     let _ = encoding;
 }
@@ -205,12 +205,12 @@ pub fn encoded_text_decodes_back(encoding: Encoding)
     // They decode to the same text, except in EUC-JP, Shift_JIS and ISO-2022-JP.
     ensures same_text { (barred text : List ℕ) → AreScalars text → any_unmappable (output_rule barred encoding) text ≡ false
         → output_encoding_of encoding ≢ EUC_JP → output_encoding_of encoding ≢ SHIFT_JIS → output_encoding_of encoding ≢ ISO_2022_JP
-        → text_of (whole_sequences handling.Off (output_encoding_of encoding) (bytes_of_text (output_rule barred encoding) Ascii text)) ≡ text }
+        → sequence_text (whole_sequences handling.Off (output_encoding_of encoding) (bytes_of_text (output_rule barred encoding) Ascii text)) ≡ text }
 
     // In those three too each character is decoded to one, to itself or to another that has its bytes.
     ensures characters { (barred text : List ℕ) → AreScalars text → any_unmappable (output_rule barred encoding) text ≡ false
-        → text_of (whole_sequences handling.Off (output_encoding_of encoding) (bytes_of_text (output_rule barred encoding) Ascii text))
-        ≡ map (read_back (codec_by_id (output_encoding_of encoding).id)) text }
+        → sequence_text (whole_sequences handling.Off (output_encoding_of encoding) (bytes_of_text (output_rule barred encoding) Ascii text))
+        ≡ map (char_read_back (codec_by_id (output_encoding_of encoding).id)) text }
 
     // The bytes of a text with references in the place of unmappable characters have no malformed sequence either.
     ensures references { (barred text : List ℕ) → AreScalars text

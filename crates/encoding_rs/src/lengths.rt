@@ -1,8 +1,8 @@
 //! Lengths to allocate for what a decoder writes.
 
 ghost use Rattle.std.specs.Prelude.{◌≡◌};
-ghost use Rattle.enc_units.specs.Checked.{greater as greater_of};
-ghost use Rattle.encoding_rs.specs.Lengths.{length_by, length_in, own_or};
+ghost use Rattle.enc_units.specs.Checked.{checked_max as greater_of};
+ghost use Rattle.encoding_rs.specs.Lengths.{formula_length, life_cycle_length, length_with_mark};
 
 use crate::life_cycle::LifeCycle;
 use enc_codec::TextLengths;
@@ -28,7 +28,7 @@ fn greater(a: Option<usize>, b: Option<usize>) -> Option<usize>
 impl Query {
     /// The length for so many bytes more, where a codec holds so many.
     fn length(self, formulas: TextLengths, bytes: usize, held: usize) -> Option<usize>
-        ensures { result ≡ length_by self formulas bytes held }
+        ensures { result ≡ formula_length self formulas bytes held }
     {
         match self {
             Query::Utf8 => formulas.utf8(bytes, held),
@@ -39,7 +39,7 @@ impl Query {
 
     /// The greater of those of two kinds of codecs that hold nothing.
     fn own_or(self, of_mark: TextLengths, own: TextLengths, bytes: usize) -> Option<usize>
-        ensures { result ≡ own_or self of_mark own bytes }
+        ensures { result ≡ length_with_mark self of_mark own bytes }
     {
         greater(self.length(of_mark, bytes, 0), self.length(own, bytes, 0))
     }
@@ -52,7 +52,7 @@ impl Query {
         bytes: usize,
         held: usize,
     ) -> Option<usize>
-        ensures { result ≡ length_in self life own bytes held }
+        ensures { result ≡ life_cycle_length self life own bytes held }
     {
         match life {
             LifeCycle::Converting | LifeCycle::Finished => self.length(own, bytes, held),

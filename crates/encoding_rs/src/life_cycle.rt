@@ -1,7 +1,7 @@
 //! The life cycle of a decoder: how far it has come with a byte order mark (Encoding Standard 6, "decode").
 
 ghost use Rattle.std.specs.Prelude.{◌≡◌, if◌then◌else◌};
-ghost use Rattle.encoding_rs.specs.LifeCycle.{phase_of, awaits_mark as awaits, held_bytes};
+ghost use Rattle.encoding_rs.specs.LifeCycle.{phase_of, awaits_mark as awaits, held_mark_bytes};
 ghost use Rattle.encoding_rs.specs.Sniffing.{IsMarkByte};
 
 use crate::encoding::{Encoding, UTF_8, UTF_16BE, UTF_16LE};
@@ -79,7 +79,7 @@ impl LifeCycle {
 
     /// The bytes of a mark that are read and not given to a codec.
     pub(crate) fn held(self) -> &'static [u8]
-        ensures { result.now ≡ held_bytes self }
+        ensures { result.now ≡ held_mark_bytes self }
     {
         match self {
             LifeCycle::SeenUtf8First => b"\xEF",

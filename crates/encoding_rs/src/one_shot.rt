@@ -3,14 +3,14 @@
 ghost use Rattle.std.specs.Prelude.{◌≡◌, ◌≢◌, ◌-◌, ◌≤◌, [], true, false, chars, length, IfOk, IsOk, IfErr, IsErrOf, OnOk, OnErr, option_map, Some, None};
 ghost use Rattle.std.specs.Vec.{vec_len, vec_capacity};
 ghost use Rattle.std.specs.String.{string_bytes, string_len, string_capacity};
-ghost use Rattle.enc_units.specs.Checked.{plus};
+ghost use Rattle.enc_units.specs.Checked.{checked_add};
 ghost use Rattle.enc_references.specs.Unmappable.{any_unmappable};
 ghost use Rattle.encoding_rs.specs.declared.bom.BomHandling.TheVariants as handling;
 ghost use Rattle.encoding_rs.specs.Encodings.{output_rule};
 ghost use Rattle.encoding_rs.specs.Properties.{output_encoding_of};
 ghost use Rattle.encoding_rs.specs.Decoding.{whole_encoding, whole_utf_8, whole_malformed};
 ghost use Rattle.encoding_rs.specs.EncodeRun.{whole_bytes};
-ghost use Rattle.encoding_rs.specs.OneShot.{strict_utf_8, HasRoomFor, first_length, length_to_encode, IsTooLong, IsTooLongToEncode};
+ghost use Rattle.encoding_rs.specs.OneShot.{utf_8_without_replacement, HasRoomFor, first_length, length_to_encode, IsTooLong, IsTooLongToEncode};
 
 use crate::bom::BomHandling;
 use crate::decoder::Decoder;
@@ -32,8 +32,8 @@ pub enum OneShotError {
 fn length_behind(length: Option<usize>, written: usize) -> Result<usize, OneShotError>
     ensures value { IfOk result (λ more. length ≡ Some more) }
     ensures fault { IfErr result (λ fault. fault ≡ OneShotError.TooLong) }
-    ensures too_long { OnErr result (plus length written ≡ None) }
-    ensures fits { OnOk result (plus length written ≢ None) }
+    ensures too_long { OnErr result (checked_add length written ≡ None) }
+    ensures fits { OnOk result (checked_add length written ≢ None) }
     ensures alone { OnErr result (written ≡ 0 → length ≡ None) }
 {
     let Some(length) = length else {
@@ -50,8 +50,9 @@ fn make_room(text: &mut String, length: Option<usize>) -> Result<(), OneShotErro
     ensures bytes { string_bytes text.new ≡ string_bytes text.old }
     ensures room { OnOk result (4 ≤ string_capacity text.new - string_len text.new) }
     ensures enough { OnOk result (HasRoomFor length (string_capacity text.new - string_len text.new)) }
-    ensures too_long { IsErrOf result OneShotError.TooLong → plus length (string_len text.old) ≡ None }
-    ensures none { plus length (string_len text.old) ≡ None → IsErrOf result OneShotError.TooLong }
+    ensures too_long { IsErrOf result OneShotError.TooLong → checked_add length (string_len text.old) ≡ None }
+    ensures none { checked_add length (string_len text.old) ≡ None
+        → IsErrOf result OneShotError.TooLong }
     ensures alone { IsErrOf result OneShotError.TooLong → string_bytes text.old ≡ [] → length ≡ None }
 {
     let more = length_behind(length, text.len())?;
@@ -65,8 +66,9 @@ fn make_room(text: &mut String, length: Option<usize>) -> Result<(), OneShotErro
 fn make_byte_room(bytes: &mut Vec<u8>, length: Option<usize>) -> Result<(), OneShotError>
     ensures bytes { bytes.new.items ≡ bytes.old.items }
     ensures room { OnOk result (14 ≤ vec_capacity bytes.new - vec_len bytes.new) }
-    ensures too_long { IsErrOf result OneShotError.TooLong → plus length (vec_len bytes.old) ≡ None }
-    ensures none { plus length (vec_len bytes.old) ≡ None → IsErrOf result OneShotError.TooLong }
+    ensures too_long { IsErrOf result OneShotError.TooLong → checked_add length (vec_len bytes.old) ≡ None }
+    ensures none { checked_add length (vec_len bytes.old) ≡ None
+        → IsErrOf result OneShotError.TooLong }
 {
     let more = length_behind(length, bytes.len())?;
     match bytes.reserve(more.max(14)) {
@@ -180,7 +182,7 @@ impl Encoding {
         alloc: Global,
         bytes: &[u8],
     ) -> Result<Option<String>, OneShotError>
-        ensures text { IfOk result (λ answer. option_map string_bytes answer ≡ strict_utf_8 self bytes.now) }
+        ensures text { IfOk result (λ answer. option_map string_bytes answer ≡ utf_8_without_replacement self bytes.now) }
         ensures too_long { IsErrOf result OneShotError.TooLong → first_length handling.Off self bytes.now ≡ None }
         ensures first { bytes.now ≢ [] → first_length handling.Off self bytes.now ≡ None → IsErrOf result OneShotError.TooLong }
         ensures empty { bytes.now ≡ [] → IsOk result }

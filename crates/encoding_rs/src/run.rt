@@ -5,10 +5,10 @@ ghost use Rattle.std.specs.List.{All};
 ghost use Rattle.std.specs.Char.{encode_utf8};
 ghost use Rattle.std.specs.Char.Escape.{encode_utf16};
 ghost use Rattle.std.specs.String.{string_bytes};
-ghost use Rattle.enc_calls.specs.Replacing.{stop_of};
-ghost use Rattle.encoding_rs.specs.Decoding.{DecoderState, finished, whole_encoding, whole_utf_8, whole_malformed};
-ghost use Rattle.encoding_rs.specs.DecodeEnd.{GoesFurther};
-ghost use Rattle.encoding_rs.specs.Run.{units_by, AnswersCall, MakesCall, is_reported, fault_of, IsRun, HasRun, run_start, whole_faults, all_report};
+ghost use Rattle.enc_calls.specs.Replacing.{decoder_result_of};
+ghost use Rattle.encoding_rs.specs.Decoding.{DecoderState, has_finished, whole_encoding, whole_utf_8, whole_malformed};
+ghost use Rattle.encoding_rs.specs.DecodeEnd.{CanDecodeMore};
+ghost use Rattle.encoding_rs.specs.Run.{units_of_call, AnswersDecodeCall, MakesDecodeCall, is_malformed_result, fault_of_result, IsDecodeRun, HasRunDecoding, decode_run_start, whole_faults, all_report_malformed};
 
 pub use crate::bom::BomHandling;
 use crate::decoder::Decoder;
@@ -68,7 +68,8 @@ struct Made {
 
 /// What a call with replacement did.
 fn made_replacing(stop: CoderResult, read: usize, replaced: bool) -> Made
-    ensures { result ≡ record { result = stop_of stop; read = read; replaced = replaced } }
+    ensures { result
+        ≡ record { result = decoder_result_of stop; read = read; replaced = replaced } }
 {
     let result = match stop {
         CoderResult::InputEmpty => DecoderResult::InputEmpty,
@@ -89,8 +90,8 @@ fn call_to_utf8(
     last: bool,
     call: DecodeCall,
 ) -> Result<(Made, String), AllocError>
-    requires { finished decoder.old ≡ false }
-    ensures { IfOk result (λ done. AnswersCall encode_utf8 call decoder.old decoder.new chunk.now last
+    requires { has_finished decoder.old ≡ false }
+    ensures { IfOk result (λ done. AnswersDecodeCall encode_utf8 call decoder.old decoder.new chunk.now last
         done.0.result done.0.read done.0.replaced (string_bytes done.1)) }
 {
     let mut text = String::with_capacity(alloc, call.room)?;
@@ -115,8 +116,8 @@ fn call_to_utf16(
     last: bool,
     call: DecodeCall,
 ) -> Result<(Made, String), AllocError>
-    requires { finished decoder.old ≡ false }
-    ensures { IfOk result (λ done. AnswersCall encode_utf16 call decoder.old decoder.new chunk.now last
+    requires { has_finished decoder.old ≡ false }
+    ensures { IfOk result (λ done. AnswersDecodeCall encode_utf16 call decoder.old decoder.new chunk.now last
         done.0.result done.0.read done.0.replaced (string_bytes done.1)) }
 {
     let mut units = vec![in alloc; 0; call.room]?;
@@ -145,8 +146,8 @@ fn call_to(
     last: bool,
     call: DecodeCall,
 ) -> Result<(Made, String), AllocError>
-    requires { finished decoder.old ≡ false }
-    ensures { IfOk result (λ done. AnswersCall (units_by call.utf16) call decoder.old decoder.new chunk.now last
+    requires { has_finished decoder.old ≡ false }
+    ensures { IfOk result (λ done. AnswersDecodeCall (units_of_call call.utf16) call decoder.old decoder.new chunk.now last
         done.0.result done.0.read done.0.replaced (string_bytes done.1)) }
 {
     if call.utf16 {
@@ -157,7 +158,7 @@ fn call_to(
 
 /// Whether a call has reported a malformed sequence.
 fn reports(stop: DecoderResult) -> bool
-    ensures { result ≡ is_reported stop }
+    ensures { result ≡ is_malformed_result stop }
 {
     match stop {
         DecoderResult::InputEmpty => false,
@@ -174,8 +175,8 @@ fn make_call(
     call: DecodeCall,
     text: &mut String,
 ) -> Result<Made, AllocError>
-    requires { finished decoder.old ≡ false }
-    ensures { IfOk result (λ made. MakesCall call decoder.old decoder.new unread.now
+    requires { has_finished decoder.old ≡ false }
+    ensures { IfOk result (λ made. MakesDecodeCall call decoder.old decoder.new unread.now
         (string_bytes text.old) (string_bytes text.new) made.result made.read made.replaced) }
 {
     let (chunk, _) = unread.split_at(call.offer.min(unread.len()));
@@ -194,7 +195,7 @@ fn note_fault(
     stop: DecoderResult,
     read: usize,
 ) -> Result<(), AllocError>
-    ensures { OnOk result (faults.new.items ≡ faults.old.items ++ fault_of stop read) }
+    ensures { OnOk result (faults.new.items ≡ faults.old.items ++ fault_of_result stop read) }
 {
     match stop {
         DecoderResult::InputEmpty => Ok(()),
@@ -229,8 +230,8 @@ pub fn decode_run(
     calls: &[DecodeCall],
 ) -> Result<DecodeReport, RunError>
     // The report is that of the calls made, one after another.
-    ensures run { IfOk result (λ report. (decoder : DecoderState) × (finished decoder ≡ report.finished) × (decoder.encoding ≡ report.encoding)
-        × IsRun bytes.now (take report.calls calls.now) (run_start handling encoding)
+    ensures run { IfOk result (λ report. (decoder : DecoderState) × (has_finished decoder ≡ report.finished) × (decoder.encoding ≡ report.encoding)
+        × IsDecodeRun bytes.now (take report.calls calls.now) (decode_run_start handling encoding)
         (record { decoder = decoder; read = report.read; text = string_bytes report.text; faults = report.faults.items; had_errors = report.had_errors })) }
 
     // All calls are made, unless the end is reached before.
@@ -239,17 +240,17 @@ pub fn decode_run(
 
     // Where each call is offered a byte and has room for any character, the end is reached: two calls for each byte, and one more,
     // are enough.
-    ensures end { IfOk result (λ report. All GoesFurther calls.now → (report.calls ≤ 2 * length bytes.now + 1)
+    ensures end { IfOk result (λ report. All CanDecodeMore calls.now → (report.calls ≤ 2 * length bytes.now + 1)
         × (2 * length bytes.now + 1 ≤ length calls.now → report.finished ≡ true)) }
 
     // What has come out is always a beginning of the one text, and each malformed sequence of it stands at its place.
-    ensures beginning { IfOk result (λ report. HasRun handling encoding bytes.now (take report.calls calls.now)
+    ensures beginning { IfOk result (λ report. HasRunDecoding handling encoding bytes.now (take report.calls calls.now)
         (string_bytes report.text) report.faults.items report.had_errors report.finished) }
 
     // At the end it is all of it.
     ensures text { IfOk result (λ report. report.finished ≡ true → string_bytes report.text ≡ whole_utf_8 handling encoding bytes.now) }
     ensures errors { IfOk result (λ report. report.finished ≡ true → report.had_errors ≡ whole_malformed handling encoding bytes.now) }
-    ensures faults { IfOk result (λ report. report.finished ≡ true → all_report (take report.calls calls.now) ≡ true →
+    ensures faults { IfOk result (λ report. report.finished ≡ true → all_report_malformed (take report.calls calls.now) ≡ true →
         report.faults.items ≡ whole_faults handling encoding bytes.now) }
     ensures read { IfOk result (λ report. report.finished ≡ true → report.read ≡ length bytes.now) }
     ensures encoding { IfOk result (λ report. report.finished ≡ true → report.encoding ≡ whole_encoding handling encoding bytes.now) }

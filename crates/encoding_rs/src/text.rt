@@ -4,12 +4,12 @@ ghost use Rattle.std.specs.Prelude.{◌≡◌, ℕ, ◌+◌, ◌-◌, ◌≤◌,
 ghost use Rattle.encoding_rs.specs.declared.encoding.Encoding.{Encoding};
 ghost use Rattle.encoding_rs.specs.declared.encoding.Id.{Id};
 ghost use Rattle.encoding_rs.specs.Encodings.{rule_of};
-ghost use Rattle.enc_calls.specs.Replacing.{treatment_of};
-ghost use Rattle.encoding_rs.specs.Decoding.{has_ended, unread_bytes, state_by, HoldsBack, HasOwnMark, DecodesInto};
-ghost use Rattle.encoding_rs.specs.Sniffing.{IsText};
+ghost use Rattle.enc_calls.specs.Replacing.{decode_error_mode};
+ghost use Rattle.encoding_rs.specs.Decoding.{has_ended, unread_bytes, decoder_state_of, HeldBytesMatchCodec, LooksForOwnMark, DecodesInto};
+ghost use Rattle.encoding_rs.specs.Sniffing.{HasNoMark};
 
 use crate::life_cycle::LifeCycle;
-use enc_calls::{convert, is_end, placed};
+use enc_calls::{convert, reaches_end, shift_malformed};
 use enc_codec::{DecoderResult, RawDecoder};
 use enc_units::Units;
 
@@ -31,21 +31,25 @@ pub(crate) fn convert_text<D: RawDecoder, U: Units>(
     replace: bool,
 ) -> (DecoderResult, usize, bool)
     requires open { has_ended life.old ≡ false }
-    requires text { IsText life.old src.now last }
-    requires holds { HoldsBack life.old (D.state codec.old) }
+    requires text { HasNoMark life.old src.now last }
+    requires holds { HeldBytesMatchCodec life.old (D.state codec.old) }
     ensures call { (e : Encoding) → rule_of e ≡ (D.state codec.old).rule →
-        DecodesInto U.units_of (treatment_of replace) (state_by e life.old (D.state codec.old)) (state_by e life.new (D.state codec.new))
+        DecodesInto U.units_of (decode_error_mode replace) (decoder_state_of e life.old (D.state codec.old)) (decoder_state_of e life.new (D.state codec.new))
         src.now last (U.output out.old) (U.output out.new) result.0 result.1 result.2 }
     ensures rule { (D.state codec.new).rule ≡ (D.state codec.old).rule }
     ensures formulas { D.formulas codec.new ≡ D.formulas codec.old }
-    ensures own { (id : Id) → HasOwnMark id life.old → HasOwnMark id life.new }
-    ensures holds { HoldsBack life.new (D.state codec.new) }
+    ensures own { (id : Id) → LooksForOwnMark id life.old → LooksForOwnMark id life.new }
+    ensures holds { HeldBytesMatchCodec life.new (D.state codec.new) }
 {
     let before = *codec;
     let held = unread(*life, before.held());
     let done = convert(codec, held, src, out, last, replace);
-    let stop = (placed(done.result, done.left), done.read, done.replaced);
-    if is_end(last, done.result) {
+    let stop = (
+        shift_malformed(done.result, done.left),
+        done.read,
+        done.replaced,
+    );
+    if reaches_end(last, done.result) {
         *life = LifeCycle::Finished;
         return stop;
     }

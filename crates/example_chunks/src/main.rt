@@ -4,7 +4,7 @@
 #![tactic(auto)]
 
 ghost use Rattle.std.specs.Prelude.{◌≡◌, false, OnOk};
-ghost use Rattle.encoding_rs.specs.Decoding.{finished};
+ghost use Rattle.encoding_rs.specs.Decoding.{has_finished};
 
 use enc_reader::{DecodeReader, FromRead};
 use encoding_rs::{CoderResult, Decoder, Encoder, Encoding};
@@ -22,8 +22,8 @@ fn decode_chunk<W: Write>(
     last: bool,
     out: &mut W,
 ) -> io::Result<bool>
-    requires { finished decoder.old ≡ false }
-    ensures { OnOk result (finished decoder.new ≡ last) }
+    requires { has_finished decoder.old ≡ false }
+    ensures { OnOk result (has_finished decoder.new ≡ last) }
 {
     let mut text = [0; LENGTH];
     let mut unread = chunk;

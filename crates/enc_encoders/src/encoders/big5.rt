@@ -1,8 +1,8 @@
 //! The Big5 encoder (Encoding Standard 11.1.2).
 
 ghost use Rattle.std.specs.Prelude.{◌≡◌, ◌<◌};
-ghost use Rattle.enc_units.specs.Bytes.{bytes_of};
-ghost use Rattle.enc_encoders.specs.Big5.{big5_pair, big5_trail};
+ghost use Rattle.enc_units.specs.Bytes.{byte_list};
+ghost use Rattle.enc_encoders.specs.Big5.{big5_pair_bytes, big5_trail_byte};
 
 use crate::barring::Barring;
 use crate::byte_lengths::ByteLengths;
@@ -22,7 +22,7 @@ pub type Big5Encoder = StatelessEncoder<Barring<Big5>>;
 #[inline(always)]
 fn trail(cell: u32) -> u8
     requires { cell < 157 }
-    ensures { result ≡ big5_trail cell }
+    ensures { result ≡ big5_trail_byte cell }
 {
     (cell + (if cell < 0x3F { 0x40 } else { 0x62 })) as u8
 }
@@ -31,7 +31,7 @@ fn trail(cell: u32) -> u8
 #[inline(always)]
 fn pair(pointer: u32) -> Bytes
     requires { pointer < 19782 }
-    ensures { bytes_of result ≡ big5_pair pointer }
+    ensures { byte_list result ≡ big5_pair_bytes pointer }
 {
     two((pointer / 157 + 0x81) as u8, trail(pointer % 157))
 }
@@ -56,6 +56,6 @@ impl Repertoire for Big5 {
         ByteLengths::TwoBytes
     }
 
-    #[tactic(auto, using(crate::proofs::StatelessLemmas::with_ascii_writes_ascii, crate::proofs::FewLemmas::few_big5, crate::proofs::EnoughLemmas::keeps_big5))]
+    #[tactic(auto, using(crate::proofs::StatelessLemmas::with_ascii_writes_ascii, crate::proofs::FourByteLemmas::few_big5, crate::proofs::EnoughLemmas::keeps_big5))]
     fn laws(self) {}
 }

@@ -1,10 +1,10 @@
 //! The EUC-JP encoder (Encoding Standard 12.1.2).
 
 ghost use Rattle.std.specs.Prelude.{◌≡◌, ◌<◌};
-ghost use Rattle.enc_units.specs.Bytes.{bytes_of};
-ghost use Rattle.enc_encoders.specs.EucJp.{euc_jp_pair};
+ghost use Rattle.enc_units.specs.Bytes.{byte_list};
+ghost use Rattle.enc_encoders.specs.EucJp.{euc_jp_pair_bytes};
 
-use super::japanese::{is_katakana, katakana_byte, with_wide_minus};
+use super::japanese::{is_halfwidth_katakana, katakana_byte, with_fullwidth_minus};
 use crate::barring::Barring;
 use crate::byte_lengths::ByteLengths;
 use crate::made_bytes::{one, two};
@@ -24,7 +24,7 @@ pub type EucJpEncoder = StatelessEncoder<Barring<EucJp>>;
 #[inline(always)]
 fn pair(pointer: u32) -> Bytes
     requires { pointer < 8836 }
-    ensures { bytes_of result ≡ euc_jp_pair pointer }
+    ensures { byte_list result ≡ euc_jp_pair_bytes pointer }
 {
     two((pointer / 94 + 0xA1) as u8, (pointer % 94 + 0xA1) as u8)
 }
@@ -45,10 +45,10 @@ impl Repertoire for EucJp {
         if c == '\u{203E}' {
             return Some(one(0x7E));
         }
-        if is_katakana(c) {
+        if is_halfwidth_katakana(c) {
             return Some(two(0x8E, katakana_byte(c)));
         }
-        match jis0208(with_wide_minus(c)) {
+        match jis0208(with_fullwidth_minus(c)) {
             Some(pointer) => Some(pair(pointer)),
             None => None,
         }
@@ -58,6 +58,6 @@ impl Repertoire for EucJp {
         ByteLengths::TwoBytes
     }
 
-    #[tactic(auto, using(crate::proofs::StatelessLemmas::with_ascii_writes_ascii, crate::proofs::FewLemmas::few_euc_jp, crate::proofs::EnoughLemmas::keeps_euc_jp))]
+    #[tactic(auto, using(crate::proofs::StatelessLemmas::with_ascii_writes_ascii, crate::proofs::FourByteLemmas::few_euc_jp, crate::proofs::EnoughLemmas::keeps_euc_jp))]
     fn laws(self) {}
 }

@@ -1,8 +1,8 @@
 //! The EUC-KR encoder (Encoding Standard 13.1.2).
 
 ghost use Rattle.std.specs.Prelude.{◌≡◌, ◌<◌};
-ghost use Rattle.enc_units.specs.Bytes.{bytes_of};
-ghost use Rattle.enc_encoders.specs.EucKr.{euc_kr_pair};
+ghost use Rattle.enc_units.specs.Bytes.{byte_list};
+ghost use Rattle.enc_encoders.specs.EucKr.{euc_kr_pair_bytes};
 
 use crate::barring::Barring;
 use crate::byte_lengths::ByteLengths;
@@ -22,7 +22,7 @@ pub type EucKrEncoder = StatelessEncoder<Barring<EucKr>>;
 #[inline(always)]
 fn pair(pointer: u32) -> Bytes
     requires { pointer < 23940 }
-    ensures { bytes_of result ≡ euc_kr_pair pointer }
+    ensures { byte_list result ≡ euc_kr_pair_bytes pointer }
 {
     two((pointer / 190 + 0x81) as u8, (pointer % 190 + 0x41) as u8)
 }
@@ -47,6 +47,6 @@ impl Repertoire for EucKr {
         ByteLengths::TwoBytes
     }
 
-    #[tactic(auto, using(crate::proofs::StatelessLemmas::with_ascii_writes_ascii, crate::proofs::FewLemmas::few_euc_kr, crate::proofs::EnoughLemmas::keeps_euc_kr))]
+    #[tactic(auto, using(crate::proofs::StatelessLemmas::with_ascii_writes_ascii, crate::proofs::FourByteLemmas::few_euc_kr, crate::proofs::EnoughLemmas::keeps_euc_kr))]
     fn laws(self) {}
 }

@@ -1,11 +1,11 @@
 //! The gb18030 encoder, and GBK's (Encoding Standard 10.2.2).
 
 ghost use Rattle.std.specs.Prelude.{◌≡◌, ◌<◌};
-ghost use Rattle.enc_units.specs.Bytes.{bytes_of};
+ghost use Rattle.enc_units.specs.Bytes.{byte_list};
 ghost use Rattle.enc_encoders.specs.CharLaw.{AreBytesOf};
-ghost use Rattle.enc_encoders.specs.Gb18030.{gb18030_pair, gb18030_trail, gb18030_four, two_or_four as wanted_bytes};
+ghost use Rattle.enc_encoders.specs.Gb18030.{gb18030_pair_bytes, gb18030_trail_byte, gb18030_four_bytes, two_or_four_bytes as wanted_bytes};
 ghost use Rattle.enc_pointers.specs.Pointers.{gb18030_pointer, gb18030_ranges_pointer};
-ghost use Rattle.enc_encoders.specs.Stateless.{bytes_by};
+ghost use Rattle.enc_encoders.specs.Stateless.{bytes_of_pointer};
 
 use crate::barring::Barring;
 use crate::byte_lengths::ByteLengths;
@@ -29,7 +29,7 @@ pub type Gb18030Encoder = StatelessEncoder<Barring<Gb18030>>;
 #[inline(always)]
 fn trail(cell: u32) -> u8
     requires { cell < 190 }
-    ensures { result ≡ gb18030_trail cell }
+    ensures { result ≡ gb18030_trail_byte cell }
 {
     (cell + (if cell < 0x3F { 0x40 } else { 0x41 })) as u8
 }
@@ -38,7 +38,7 @@ fn trail(cell: u32) -> u8
 #[inline(always)]
 fn pair(pointer: u32) -> Bytes
     requires { pointer < 23940 }
-    ensures { bytes_of result ≡ gb18030_pair pointer }
+    ensures { byte_list result ≡ gb18030_pair_bytes pointer }
 {
     two((pointer / 190 + 0x81) as u8, trail(pointer % 190))
 }
@@ -46,7 +46,7 @@ fn pair(pointer: u32) -> Bytes
 /// The four bytes of a pointer of the ranges.
 fn four_bytes(pointer: u32) -> Bytes
     requires { pointer < 1237576 }
-    ensures { bytes_of result ≡ gb18030_four pointer }
+    ensures { byte_list result ≡ gb18030_four_bytes pointer }
 {
     four(
         (pointer / 12600 + 0x81) as u8,
@@ -59,7 +59,7 @@ fn four_bytes(pointer: u32) -> Bytes
 /// Four bytes, by the ranges.
 #[inline(never)]
 fn by_ranges(c: char) -> Option<Bytes>
-    ensures { AreBytesOf (bytes_by gb18030_four (gb18030_ranges_pointer c)) result }
+    ensures { AreBytesOf (bytes_of_pointer gb18030_four_bytes (gb18030_ranges_pointer c)) result }
 {
     match gb18030_ranges(c) {
         Some(pointer) => Some(four_bytes(pointer)),
@@ -69,7 +69,7 @@ fn by_ranges(c: char) -> Option<Bytes>
 
 /// Two bytes, or in gb18030 four.
 #[inline(always)]
-fn two_or_four(is_gbk: bool, c: char) -> Option<Bytes>
+fn two_or_four_bytes(is_gbk: bool, c: char) -> Option<Bytes>
     ensures { AreBytesOf (wanted_bytes is_gbk c (gb18030_pointer c)) result }
 {
     if let Some(pointer) = gb18030(c) {
@@ -96,7 +96,7 @@ impl Repertoire for Gb18030 {
         if self.is_gbk && c == '\u{20AC}' {
             return Some(one(0x80));
         }
-        two_or_four(self.is_gbk, c)
+        two_or_four_bytes(self.is_gbk, c)
     }
 
     fn byte_lengths(self) -> ByteLengths {
@@ -107,6 +107,6 @@ impl Repertoire for Gb18030 {
         }
     }
 
-    #[tactic(auto, using(crate::proofs::StatelessLemmas::with_ascii_writes_ascii, crate::proofs::FewLemmas::few_gb18030, crate::proofs::EnoughLemmas::keeps_gb18030))]
+    #[tactic(auto, using(crate::proofs::StatelessLemmas::with_ascii_writes_ascii, crate::proofs::FourByteLemmas::few_gb18030, crate::proofs::EnoughLemmas::keeps_gb18030))]
     fn laws(self) {}
 }

@@ -3,11 +3,11 @@
 ghost use Rattle.std.specs.Prelude.{◌≡◌, ◌<◌, ◌≤◌, take};
 ghost use Rattle.enc_units.specs.Validity.{AreIso2022JpAscii};
 ghost use Rattle.enc_encoders.specs.declared.character_set.CharacterSet.TheVariants.{Ascii};
-ghost use Rattle.enc_encoders.specs.Iso2022Jp.{class_of as wanted_class, has_class as wanted_has, set_of_class as wanted_set, looked_up as wanted_looked_up, is_shift as wanted_shift, iso_2022_jp_bytes as wanted_bytes, iso_2022_jp_reported, jis0208_pair as wanted_pair};
-ghost use Rattle.enc_units.specs.Bytes.{bytes_of};
+ghost use Rattle.enc_encoders.specs.Iso2022Jp.{class_of as wanted_class, has_class as wanted_has, set_of_class as wanted_set, lookup_char as wanted_looked_up, is_shift as wanted_shift, iso_2022_jp_bytes as wanted_bytes, iso_2022_jp_reported_char, jis0208_pair_bytes as wanted_pair};
+ghost use Rattle.enc_units.specs.Bytes.{byte_list};
 ghost use Rattle.enc_encoders.specs.CharLaw.{AreBytesOf};
 
-use super::japanese::{is_katakana, with_wide_minus};
+use super::japanese::{is_halfwidth_katakana, with_fullwidth_minus};
 use super::katakana::KATAKANA;
 use crate::barring::is_barred;
 use crate::byte_lengths::ByteLengths;
@@ -106,13 +106,13 @@ fn set_of_class(class: CharClass) -> CharacterSet
 /// The character that is looked up.
 #[tactic(auto, using(crate::proofs::KatakanaLemmas::katakana_are))]
 #[inline(always)]
-fn looked_up(c: char) -> char
+fn lookup_char(c: char) -> char
     ensures { result ≡ wanted_looked_up c }
 {
-    if is_katakana(c) {
+    if is_halfwidth_katakana(c) {
         return KATAKANA[(c as u32 - 0xFF61) as usize];
     }
-    with_wide_minus(c)
+    with_fullwidth_minus(c)
 }
 
 /// Shift out, shift in or escape.
@@ -127,7 +127,7 @@ fn is_shift(code: u32) -> bool
 #[inline(always)]
 fn pair(pointer: u32) -> Bytes
     requires { pointer < 8836 }
-    ensures { bytes_of result ≡ wanted_pair pointer }
+    ensures { byte_list result ≡ wanted_pair pointer }
 {
     two((pointer / 94 + 0x21) as u8, (pointer % 94 + 0x21) as u8)
 }
@@ -162,7 +162,7 @@ fn iso_2022_jp_bytes(c: char) -> Option<Bytes>
     if code == 0x203E {
         return Some(one(0x7E));
     }
-    match jis0208(looked_up(c)) {
+    match jis0208(lookup_char(c)) {
         Some(pointer) => Some(pair(pointer)),
         None => None,
     }
@@ -170,16 +170,16 @@ fn iso_2022_jp_bytes(c: char) -> Option<Bytes>
 
 /// What an unmappable character is reported as.
 fn reported(c: char) -> char
-    ensures { result ≡ iso_2022_jp_reported c }
+    ensures { result ≡ iso_2022_jp_reported_char c }
 {
     if is_shift(c as u32) { '\u{FFFD}' } else { c }
 }
 
 impl Mapping for Plain {
     ghost use Rattle.enc_encoders.specs.Runs.{IsWrittenIn};
-    ghost use Rattle.enc_encoders.specs.Iso2022Jp.{iso_2022_jp};
+    ghost use Rattle.enc_encoders.specs.Iso2022Jp.{iso_2022_jp_encoder_rule};
 
-    ghost means = { λ e. IsWrittenIn iso_2022_jp e.set };
+    ghost means = { λ e. IsWrittenIn iso_2022_jp_encoder_rule e.set };
 
     #[inline(always)]
     fn bytes_in_run(self, c: char) -> Option<Bytes> {
@@ -200,9 +200,9 @@ impl Mapping for Plain {
 
 impl CharEncoder for Plain {
     ghost use Rattle.std.specs.Prelude.{[]};
-    ghost use Rattle.enc_encoders.specs.Iso2022Jp.{iso_2022_jp_state};
+    ghost use Rattle.enc_encoders.specs.Iso2022Jp.{iso_2022_jp_encoder_state};
 
-    ghost state = { λ e. iso_2022_jp_state [] e.set };
+    ghost state = { λ e. iso_2022_jp_encoder_state [] e.set };
 
     #[inline(always)]
     fn write_run<C: Chars>(self, src: &mut C, dst: &mut [u8], from: usize) -> usize {
@@ -244,9 +244,9 @@ impl CharEncoder for Plain {
 }
 
 impl CharEncoder for Iso2022JpEncoder {
-    ghost use Rattle.enc_encoders.specs.Iso2022Jp.{iso_2022_jp_state};
+    ghost use Rattle.enc_encoders.specs.Iso2022Jp.{iso_2022_jp_encoder_state};
 
-    ghost state = { λ e. iso_2022_jp_state e.barred.now e.plain.set };
+    ghost state = { λ e. iso_2022_jp_encoder_state e.barred.now e.plain.set };
 
     fn bytes(self, c: char) -> Option<Bytes> {
         if is_barred(self.barred, c) {
@@ -297,9 +297,9 @@ impl Iso2022JpEncoder {
 
 impl RawEncoder for Iso2022JpEncoder {
     ghost use Rattle.enc_encoders.specs.declared.byte_lengths.ByteLengths.TheVariants as lengths;
-    ghost use Rattle.enc_encoders.specs.Iso2022Jp.{iso_2022_jp_state};
+    ghost use Rattle.enc_encoders.specs.Iso2022Jp.{iso_2022_jp_encoder_state};
 
-    ghost state = { λ e. iso_2022_jp_state e.barred.now e.plain.set };
+    ghost state = { λ e. iso_2022_jp_encoder_state e.barred.now e.plain.set };
 
     ghost formulas = { λ _. lengths.Iso2022Jp };
 

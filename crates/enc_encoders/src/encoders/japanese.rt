@@ -1,11 +1,11 @@
 //! What the three Japanese encodings have in common.
 
 ghost use Rattle.std.specs.Prelude.{◌≡◌, true};
-ghost use Rattle.enc_encoders.specs.Japanese.{is_katakana as wanted_katakana, katakana_byte as wanted_byte, with_wide_minus as wanted_minus};
+ghost use Rattle.enc_encoders.specs.Japanese.{is_halfwidth_katakana as wanted_katakana, katakana_byte as wanted_byte, with_fullwidth_minus as wanted_minus};
 
 /// Whether a character is half-width katakana.
 #[inline(always)]
-pub fn is_katakana(c: char) -> bool
+pub fn is_halfwidth_katakana(c: char) -> bool
     ensures { result ≡ wanted_katakana c }
 {
     let c = c as u32;
@@ -23,7 +23,7 @@ pub fn katakana_byte(c: char) -> u8
 
 /// A character, but the full-width minus sign for the minus sign.
 #[inline(always)]
-pub fn with_wide_minus(c: char) -> char
+pub fn with_fullwidth_minus(c: char) -> char
     ensures { result ≡ wanted_minus c }
 {
     if c == '\u{2212}' { '\u{FF0D}' } else { c }

@@ -1,10 +1,10 @@
 //! The Shift_JIS encoder (Encoding Standard 12.3.2).
 
 ghost use Rattle.std.specs.Prelude.{◌≡◌, ◌<◌};
-ghost use Rattle.enc_units.specs.Bytes.{bytes_of};
-ghost use Rattle.enc_encoders.specs.ShiftJis.{shift_jis_pair, shift_jis_lead, shift_jis_trail};
+ghost use Rattle.enc_units.specs.Bytes.{byte_list};
+ghost use Rattle.enc_encoders.specs.ShiftJis.{shift_jis_pair_bytes, shift_jis_lead_byte, shift_jis_trail_byte};
 
-use super::japanese::{is_katakana, katakana_byte, with_wide_minus};
+use super::japanese::{is_halfwidth_katakana, katakana_byte, with_fullwidth_minus};
 use crate::barring::Barring;
 use crate::byte_lengths::ByteLengths;
 use crate::made_bytes::{one, two};
@@ -23,7 +23,7 @@ pub type ShiftJisEncoder = StatelessEncoder<Barring<ShiftJis>>;
 #[inline(always)]
 fn lead(row: u32) -> u8
     requires { row < 60 }
-    ensures { result ≡ shift_jis_lead row }
+    ensures { result ≡ shift_jis_lead_byte row }
 {
     (row + (if row < 0x1F { 0x81 } else { 0xC1 })) as u8
 }
@@ -32,7 +32,7 @@ fn lead(row: u32) -> u8
 #[inline(always)]
 fn trail(cell: u32) -> u8
     requires { cell < 188 }
-    ensures { result ≡ shift_jis_trail cell }
+    ensures { result ≡ shift_jis_trail_byte cell }
 {
     (cell + (if cell < 0x3F { 0x40 } else { 0x41 })) as u8
 }
@@ -41,7 +41,7 @@ fn trail(cell: u32) -> u8
 #[inline(always)]
 fn pair(pointer: u32) -> Bytes
     requires { pointer < 11280 }
-    ensures { bytes_of result ≡ shift_jis_pair pointer }
+    ensures { byte_list result ≡ shift_jis_pair_bytes pointer }
 {
     two(lead(pointer / 188), trail(pointer % 188))
 }
@@ -65,10 +65,10 @@ impl Repertoire for ShiftJis {
         if c == '\u{203E}' {
             return Some(one(0x7E));
         }
-        if is_katakana(c) {
+        if is_halfwidth_katakana(c) {
             return Some(one(katakana_byte(c)));
         }
-        match shift_jis(with_wide_minus(c)) {
+        match shift_jis(with_fullwidth_minus(c)) {
             Some(pointer) => Some(pair(pointer)),
             None => None,
         }
@@ -78,6 +78,6 @@ impl Repertoire for ShiftJis {
         ByteLengths::TwoBytes
     }
 
-    #[tactic(auto, using(crate::proofs::StatelessLemmas::with_ascii_writes_ascii, crate::proofs::FewLemmas::few_shift_jis, crate::proofs::EnoughLemmas::keeps_shift_jis))]
+    #[tactic(auto, using(crate::proofs::StatelessLemmas::with_ascii_writes_ascii, crate::proofs::FourByteLemmas::few_shift_jis, crate::proofs::EnoughLemmas::keeps_shift_jis))]
     fn laws(self) {}
 }

@@ -1,8 +1,8 @@
 //! The encoders of the legacy single-byte encodings (Encoding Standard 9.2).
 
 ghost use Rattle.std.specs.Prelude.{◌≡◌, ◌<◌};
-ghost use Rattle.enc_units.specs.Bytes.{bytes_of};
-ghost use Rattle.enc_encoders.specs.SingleByte.{single_byte as byte_of_pointer};
+ghost use Rattle.enc_units.specs.Bytes.{byte_list};
+ghost use Rattle.enc_encoders.specs.SingleByte.{single_byte_of_pointer as byte_of_pointer};
 
 use crate::barring::Barring;
 use crate::byte_lengths::ByteLengths;
@@ -26,7 +26,7 @@ pub type SingleByteEncoder = StatelessEncoder<Barring<SingleByte>>;
 #[inline(always)]
 fn upper(pointer: u32) -> Bytes
     requires { pointer < 128 }
-    ensures { bytes_of result ≡ byte_of_pointer pointer }
+    ensures { byte_list result ≡ byte_of_pointer pointer }
 {
     one((pointer + 0x80) as u8)
 }
@@ -51,6 +51,6 @@ impl Repertoire for SingleByte {
         ByteLengths::OneByte
     }
 
-    #[tactic(auto, using(crate::proofs::StatelessLemmas::with_ascii_writes_ascii, crate::proofs::FewLemmas::few_single_byte, crate::proofs::EnoughLemmas::keeps_single_byte))]
+    #[tactic(auto, using(crate::proofs::StatelessLemmas::with_ascii_writes_ascii, crate::proofs::FourByteLemmas::few_single_byte, crate::proofs::EnoughLemmas::keeps_single_byte))]
     fn laws(self) {}
 }

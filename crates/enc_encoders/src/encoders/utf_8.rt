@@ -1,7 +1,7 @@
 //! The UTF-8 encoder (Encoding Standard 8.1.2).
 
 ghost use Rattle.std.specs.Prelude.{◌≡◌, encode_utf8};
-ghost use Rattle.enc_units.specs.Bytes.{bytes_of};
+ghost use Rattle.enc_units.specs.Bytes.{byte_list};
 
 use crate::barring::Barring;
 use crate::byte_lengths::ByteLengths;
@@ -17,7 +17,7 @@ pub type Utf8Encoder = StatelessEncoder<Barring<Utf8>>;
 
 /// The bytes of a character.
 fn utf8_bytes(c: char) -> Bytes
-    ensures { bytes_of result ≡ encode_utf8 c }
+    ensures { byte_list result ≡ encode_utf8 c }
 {
     let mut local = [0; 4];
     let text = c.encode_utf8(&mut local).as_bytes();
@@ -44,6 +44,6 @@ impl Repertoire for Utf8 {
         ByteLengths::Utf8
     }
 
-    #[tactic(auto, using(crate::proofs::StatelessLemmas::utf_8_writes_ascii, crate::proofs::FewLemmas::few_utf_8, crate::proofs::EnoughLemmas::keeps_utf_8))]
+    #[tactic(auto, using(crate::proofs::StatelessLemmas::utf_8_writes_ascii, crate::proofs::FourByteLemmas::few_utf_8, crate::proofs::EnoughLemmas::keeps_utf_8))]
     fn laws(self) {}
 }

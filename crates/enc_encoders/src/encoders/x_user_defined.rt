@@ -34,6 +34,6 @@ impl Repertoire for XUserDefined {
         ByteLengths::OneByte
     }
 
-    #[tactic(auto, using(crate::proofs::StatelessLemmas::with_ascii_writes_ascii, crate::proofs::FewLemmas::few_x_user_defined, crate::proofs::EnoughLemmas::keeps_x_user_defined))]
+    #[tactic(auto, using(crate::proofs::StatelessLemmas::with_ascii_writes_ascii, crate::proofs::FourByteLemmas::few_x_user_defined, crate::proofs::EnoughLemmas::keeps_x_user_defined))]
     fn laws(self) {}
 }

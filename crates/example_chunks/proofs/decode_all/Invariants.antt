@@ -1,6 +1,6 @@
 use Rattle.std.proofs.Common.{◌≡◌, false, length}
-use Rattle.encoding_rs.specs.Decoding.{finished}
+use Rattle.encoding_rs.specs.Decoding.{has_finished}
 use Rattle.example_chunks.proofs.decode_all.Given as goal
 
 abbrev pub invariant-chunks : goal.invariant-chunks
-invariant-chunks g l = finished l.decoder ≡ false
+invariant-chunks g l = has_finished l.decoder ≡ false

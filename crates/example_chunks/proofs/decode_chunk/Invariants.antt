@@ -1,9 +1,9 @@
 use Rattle.std.proofs.Common.{◌≡◌, ◌+◌, false, length}
-use Rattle.encoding_rs.specs.Decoding.{finished}
+use Rattle.encoding_rs.specs.Decoding.{has_finished}
 use Rattle.example_chunks.proofs.decode_chunk.Given as goal
 
 abbrev pub invariant-pieces : goal.invariant-pieces
-invariant-pieces g l = record { going : finished l.decoder ≡ false; room : length l.text ≡ 256 }
+invariant-pieces g l = record { going : has_finished l.decoder ≡ false; room : length l.text ≡ 256 }
 
 abbrev pub decreases-pieces : goal.decreases-pieces
 decreases-pieces g l = length l.decoder.pending + length l.unread

@@ -1,7 +1,7 @@
 //! One call of a decoder into any of its outputs, with answers of one form.
 
 ghost use Rattle.std.specs.Prelude.{◌≡◌, false};
-ghost use Rattle.encoding_rs.specs.Decoding.{finished};
+ghost use Rattle.encoding_rs.specs.Decoding.{has_finished};
 
 use crate::cases::{Case, expect};
 use crate::decoding::rows::split;
@@ -61,7 +61,7 @@ fn reporting((stop, read, written): (DecoderResult, usize, usize)) -> Answer {
 
 /// Calls a decoder into UTF-8.
 fn to_utf8(decoder: &mut Decoder, given: Given<'_>, dst: &mut [u8]) -> Answer
-    requires { finished decoder.old ≡ false }
+    requires { has_finished decoder.old ≡ false }
 {
     if given.reporting {
         return reporting(decoder.decode_to_utf8_without_replacement(given.src, dst, given.last));
@@ -71,7 +71,7 @@ fn to_utf8(decoder: &mut Decoder, given: Given<'_>, dst: &mut [u8]) -> Answer
 
 /// Calls a decoder into UTF-16.
 fn to_utf16(decoder: &mut Decoder, given: Given<'_>, dst: &mut [u16]) -> Answer
-    requires { finished decoder.old ≡ false }
+    requires { has_finished decoder.old ≡ false }
 {
     if given.reporting {
         return reporting(decoder.decode_to_utf16_without_replacement(given.src, dst, given.last));
@@ -81,7 +81,7 @@ fn to_utf16(decoder: &mut Decoder, given: Given<'_>, dst: &mut [u16]) -> Answer
 
 /// Calls a decoder into a `str`.
 fn to_str(decoder: &mut Decoder, given: Given<'_>, dst: &mut [u8]) -> Result<Answer, Fail>
-    requires { finished decoder.old ≡ false }
+    requires { has_finished decoder.old ≡ false }
 {
     if str::from_utf8(dst).is_err() {
         return Err(Fail::new("the text to be written over is not UTF-8"));
@@ -95,7 +95,7 @@ fn to_str(decoder: &mut Decoder, given: Given<'_>, dst: &mut [u8]) -> Result<Ans
 
 /// Calls a decoder into a `String`. The answer has no count of the bytes written.
 fn to_string(decoder: &mut Decoder, given: Given<'_>, dst: &mut String) -> Answer
-    requires { finished decoder.old ≡ false }
+    requires { has_finished decoder.old ≡ false }
 {
     if given.reporting {
         let (result, read) = decoder.decode_to_string_without_replacement(
@@ -142,7 +142,7 @@ fn call_into_utf8(
     text: &mut Vec<u8>,
     case: &Case<'_>,
 ) -> Result<Answer, Fail>
-    requires { finished decoder.old ≡ false }
+    requires { has_finished decoder.old ≡ false }
 {
     let mut buffer = [OLD_BYTE; BUFFER];
     let room = given.room.min(BUFFER);
@@ -162,7 +162,7 @@ fn call_into_utf16(
     text: &mut Vec<u8>,
     case: &Case<'_>,
 ) -> Result<Answer, Fail>
-    requires { finished decoder.old ≡ false }
+    requires { has_finished decoder.old ≡ false }
 {
     let mut buffer = [OLD_UNIT; BUFFER];
     let room = given.room.min(BUFFER);
@@ -205,7 +205,7 @@ fn call_into_str(
     text: &mut Vec<u8>,
     case: &Case<'_>,
 ) -> Result<Answer, Fail>
-    requires { finished decoder.old ≡ false }
+    requires { has_finished decoder.old ≡ false }
 {
     let (old, _) = split(OLD[given.room % 4].as_bytes(), given.room);
     expect(old.len() == given.room, "a room that is too great", case)?;
@@ -230,7 +230,7 @@ fn call_into_string(
     text: &mut Vec<u8>,
     case: &Case<'_>,
 ) -> Result<Answer, Fail>
-    requires { finished decoder.old ≡ false }
+    requires { has_finished decoder.old ≡ false }
 {
     let capacity = IN_FRONT.len().saturating_add(given.room);
     let mut string = String::with_capacity(alloc, capacity)?;

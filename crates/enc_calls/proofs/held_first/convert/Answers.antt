@@ -1,7 +1,7 @@
 use Rattle.std.proofs.Common.{◌≡◌, rules}
 use Rattle.enc_machine.specs.declared.decoder_result.DecoderResult.TheVariants.{InputEmpty}
 use Rattle.enc_machine.proofs.ByteLemmas.{bytes_of_slice}
-use Rattle.enc_calls.proofs.JoinLemmas.{no_bytes, none_held, none_follow, stops_in_held, joins}
+use Rattle.enc_calls.proofs.JoinedCallLemmas.{no_bytes, none_held, none_follow, stops_in_held, joins}
 use Rattle.enc_calls.proofs.held_first.convert.Goals as goal
 
 pub returns-then-is_empty-clause-call : goal.returns-then-is_empty-clause-call

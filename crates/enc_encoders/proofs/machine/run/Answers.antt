@@ -1,7 +1,7 @@
 use Rattle.std.proofs.Common.{◌≡◌, ℕ, ◌<◌, ◌≤◌, refl, arith}
-use Rattle.enc_encoders.specs.CharLaw.{left_of}
+use Rattle.enc_encoders.specs.CharLaw.{unread_chars}
 use Rattle.enc_encoders.proofs.RunLemmas.{run_further, no_more_steps}
-use Rattle.enc_encoders.proofs.Progress.{fewer, fewer_behind}
+use Rattle.enc_encoders.proofs.EncodeProgressLemmas.{fewer, fewer_behind}
 use Rattle.enc_encoders.proofs.MachineLemmas.{stays, reports, overflows, takes, fewer_steps, no_report}
 use Rattle.enc_encoders.proofs.TextLemmas.{into_keeps_text}
 use Rattle.enc_encoders.proofs.NeedLemmas.{into_meets_need}
@@ -35,7 +35,7 @@ lt_le a b k l h = omega arith
 
 pub loop-taken-smaller : goal.loop-taken-smaller
 loop-taken-smaller g c =
-    let left : g.C.Chars.rest c.if-taken.src ≡ left_of c.in-Some.taken.reads
+    let left : g.C.Chars.rest c.if-taken.src ≡ unread_chars c.in-Some.taken.reads
     (g.C.Chars.rest c.loop-taken.src) = elim c.if-taken.branch [
       | then-taken w ↦ rw (w.src-is, w.if-taken.true) w.advance-then-taken.ensures
       | else-taken w ↦ rw (w.src-is, w.if-taken.false) refl
@@ -46,7 +46,7 @@ loop-taken-smaller g c =
 
 pub loop-taken-preserved : goal.loop-taken-preserved
 loop-taken-preserved g c =
-    let left : g.C.Chars.rest c.if-taken.src ≡ left_of c.in-Some.taken.reads
+    let left : g.C.Chars.rest c.if-taken.src ≡ unread_chars c.in-Some.taken.reads
     (g.C.Chars.rest c.loop-taken.src) = elim c.if-taken.branch [
       | then-taken w ↦ rw (w.src-is, w.if-taken.true) w.advance-then-taken.ensures
       | else-taken w ↦ rw (w.src-is, w.if-taken.false) refl

@@ -1,6 +1,6 @@
 use Rattle.std.proofs.Common.{length}
-use Rattle.enc_encoders.specs.Steps.{steps_from}
-use Rattle.enc_encoders.proofs.Progress.{Writing}
+use Rattle.enc_encoders.specs.Steps.{steps_from_state}
+use Rattle.enc_encoders.proofs.EncodeProgressLemmas.{Writing}
 use Rattle.enc_encoders.proofs.machine.run.Given as goal
 
 abbrev pub invariant-loop-taken : goal.invariant-loop-taken
@@ -9,4 +9,4 @@ invariant-loop-taken g l =
 
 -- each turn takes one step off
 abbrev pub decreases-loop-taken : goal.decreases-loop-taken
-decreases-loop-taken g l = length (steps_from (g.E.CharEncoder.state l.state) l.last (g.C.Chars.rest l.src))
+decreases-loop-taken g l = length (steps_from_state (g.E.CharEncoder.state l.state) l.last (g.C.Chars.rest l.src))

@@ -1,5 +1,5 @@
 use Rattle.std.proofs.Common.{arith, sym}
-use Rattle.enc_index.proofs.HalvesLemmas.{right, left, hit, nothing}
+use Rattle.enc_index.proofs.RunSearchLemmas.{right, left, hit, nothing}
 use Rattle.enc_index.proofs.search.run_with.Goals as goal
 
 pub loop-low-preserved-then-last-number : goal.loop-low-preserved-then-last-number

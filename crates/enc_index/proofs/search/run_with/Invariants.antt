@@ -1,5 +1,5 @@
 use Rattle.std.proofs.Common.{◌-◌}
-use Rattle.enc_index.proofs.HalvesLemmas.{Halving}
+use Rattle.enc_index.proofs.RunSearchLemmas.{Halving}
 use Rattle.enc_index.proofs.search.run_with.Given as goal
 
 abbrev pub invariant-loop-low : goal.invariant-loop-low

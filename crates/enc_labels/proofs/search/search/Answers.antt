@@ -1,6 +1,6 @@
 use Rattle.std.proofs.Common.{◌<◌, sym, subst, ◌∙◌, arith}
-use Rattle.enc_labels.specs.Order.{number_of}
-use Rattle.enc_labels.proofs.HalvesLemmas.{right, left, hit, nothing, start, text_at}
+use Rattle.enc_labels.specs.Order.{word_number}
+use Rattle.enc_labels.proofs.WordSearchLemmas.{right, left, hit, nothing, start, text_at}
 use Rattle.enc_labels.proofs.search.search.Goals as goal
 
 pub loop-low-init : goal.loop-low-init
@@ -10,7 +10,7 @@ pub loop-low-preserved-in-Less : goal.loop-low-preserved-in-Less
 loop-low-preserved-in-Less c =
     let t = text_at c.args.table.now _ _ (let w = c.loop-low.invariant.within in omega arith) ∙ sym c.as_bytes.ensures.value in
     record {
-      halves = right _ c.requires _ _ _ _ c.loop-low.invariant.halves (omega arith) (omega arith) (subst (λ x. number_of x < number_of c.args.word.now) (sym t) c.in-Less.ensures);
+      halves = right _ c.requires _ _ _ _ c.loop-low.invariant.halves (omega arith) (omega arith) (subst (λ x. word_number x < word_number c.args.word.now) (sym t) c.in-Less.ensures);
       within = c.loop-low.invariant.within;
     }
 
@@ -23,7 +23,7 @@ pub loop-low-preserved : goal.loop-low-preserved
 loop-low-preserved c =
     let t = text_at c.args.table.now _ _ (let w = c.loop-low.invariant.within in omega arith) ∙ sym c.as_bytes.ensures.value in
     record {
-      halves = left _ c.requires _ _ _ _ c.loop-low.invariant.halves (omega arith) (omega arith) (subst (λ x. number_of c.args.word.now < number_of x) (sym t) c.in-Greater.ensures);
+      halves = left _ c.requires _ _ _ _ c.loop-low.invariant.halves (omega arith) (omega arith) (subst (λ x. word_number c.args.word.now < word_number x) (sym t) c.in-Greater.ensures);
       within = (let w = c.loop-low.invariant.within in omega arith);
     }
 

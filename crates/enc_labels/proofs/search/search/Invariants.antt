@@ -1,6 +1,6 @@
 use Rattle.std.proofs.Common.{◌-◌, ◌≤◌, length}
 use Rattle.enc_labels.specs.Place.{texts_of}
-use Rattle.enc_labels.proofs.HalvesLemmas.{Halving}
+use Rattle.enc_labels.proofs.WordSearchLemmas.{Halving}
 use Rattle.enc_labels.proofs.search.search.Given as goal
 
 abbrev pub invariant-loop-low : goal.invariant-loop-low

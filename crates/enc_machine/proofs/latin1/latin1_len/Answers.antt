@@ -9,13 +9,13 @@ returns-in_default g c = latin1_ends_waiting g.C.ByteCodec.state _ _ _ _ c.loop-
 
 pub returns-then-not-shows_itself : goal.returns-then-not-shows_itself
 returns-then-not-shows_itself g c =
-    latin1_ends_showing g.C.ByteCodec.state _ _ _ _ c.loop-at.invariant c.loop-at-test.true _ c.in-Show.ensures (c.shows_itself.ensures.no c.if-not-shows_itself.true)
+    latin1_ends_showing g.C.ByteCodec.state _ _ _ _ c.loop-at.invariant c.loop-at-test.true _ c.in-Emit.ensures (c.shows_itself.ensures.no c.if-not-shows_itself.true)
 
 pub loop-at-preserved : goal.loop-at-preserved
 loop-at-preserved g c =
     let told = c.shows_itself.ensures in
     let shows = c.if-not-shows_itself.false in
-    latin1_goes_on g.C.ByteCodec.state _ _ _ _ c.loop-at.invariant c.loop-at-test.true _ c.in-Show.ensures (told.takes shows) (told.kind shows) (told.text shows)
+    latin1_goes_on g.C.ByteCodec.state _ _ _ _ c.loop-at.invariant c.loop-at-test.true _ c.in-Emit.ensures (told.takes shows) (told.kind shows) (told.text shows)
 
 pub returns : goal.returns
 returns g c = latin1_all g.C.ByteCodec.state _ _ _ _ c.loop-at.invariant c.loop-at-test.false

@@ -1,5 +1,5 @@
 use Rattle.std.proofs.Common.{refl, ◌∙◌, arith}
-use Rattle.enc_machine.proofs.ComingLemmas.{holds_rule}
+use Rattle.enc_machine.proofs.NextEventLemmas.{holds_rule}
 use Rattle.enc_machine.proofs.MachineLemmas.{begin, stays, holds, stops_full, puts_with, puts_before, reports_with, reports_before}
 use Rattle.enc_machine.proofs.TakingLemmas.{ahead, fewer_with, fewer_before}
 use Rattle.enc_machine.proofs.NeedLemmas.{meets_into}
@@ -9,17 +9,17 @@ use Rattle.enc_machine.proofs.machine.run.Goals.{then-shown, else-shown}
 pub loop-state-init : goal.loop-state-init
 loop-state-init g c = record { writing = begin _ _ _ _ _; rule = refl }
 
-pub returns-in-Stay-clause-call : goal.returns-in-Stay-clause-call
-returns-in-Stay-clause-call g c =
+pub returns-in-NeedsInput-clause-call : goal.returns-in-NeedsInput-clause-call
+returns-in-NeedsInput-clause-call g c =
     let a = ahead _ g.C.ByteCodec.state _ _ _ _ _ _ _ _ _ _ c.loop-state.invariant.writing _ c.split_at.ensures.back c.take_run-taken.ensures c.loop-state.invariant.rule in
-    stays _ g.C.ByteCodec.state _ c.take_run-taken.result.0 _ _ c.args.fault_room _ _ _ a.writing a.rule c.in-Stay.ensures
+    stays _ g.C.ByteCodec.state _ c.take_run-taken.result.0 _ _ c.args.fault_room _ _ _ a.writing a.rule c.in-NeedsInput.ensures
 
-pub loop-state-preserved-in-Hold : goal.loop-state-preserved-in-Hold
-loop-state-preserved-in-Hold g c =
+pub loop-state-preserved-in-HoldsByte : goal.loop-state-preserved-in-HoldsByte
+loop-state-preserved-in-HoldsByte g c =
     let a = ahead _ g.C.ByteCodec.state _ _ _ _ _ _ _ _ _ _ c.loop-state.invariant.writing _ c.split_at.ensures.back c.take_run-taken.ensures c.loop-state.invariant.rule in
     record {
-      writing = holds _ g.C.ByteCodec.state _ c.take_run-taken.result.0 _ _ c.args.fault_room _ _ _ a.writing a.rule _ c.in-Hold.ensures;
-      rule = holds_rule _ _ _ c.in-Hold.ensures.1.0 ∙ a.rule;
+      writing = holds _ g.C.ByteCodec.state _ c.take_run-taken.result.0 _ _ c.args.fault_room _ _ _ a.writing a.rule _ c.in-HoldsByte.ensures;
+      rule = holds_rule _ _ _ c.in-HoldsByte.ensures.1.0 ∙ a.rule;
     }
 
 pub returns-then-is_reported-clause-call : goal.returns-then-is_reported-clause-call
@@ -28,14 +28,14 @@ returns-then-is_reported-clause-call g c =
     let malformed = c.is_reported.ensures.malformed c.if-is_reported.true in
     let room = c.is_reported.ensures.room c.if-is_reported.true in
     elim c.if-shown.branch [
-      | then-shown w ↦ rw w.end-is (reports_with _ g.C.ByteCodec.state _ c.take_run-taken.result.0 _ _ c.args.fault_room _ _ _ a.writing a.rule _ _ c.in-Next.ensures malformed w.if-shown.true c.held.ensures room)
-      | else-shown w ↦ rw w.end-is (reports_before _ g.C.ByteCodec.state _ c.take_run-taken.result.0 _ _ c.args.fault_room _ _ _ a.writing a.rule _ _ c.in-Next.ensures malformed w.if-shown.false c.held.ensures room)
+      | then-shown w ↦ rw w.end-is (reports_with _ g.C.ByteCodec.state _ c.take_run-taken.result.0 _ _ c.args.fault_room _ _ _ a.writing a.rule _ _ c.in-Emits.ensures malformed w.if-shown.true c.held.ensures room)
+      | else-shown w ↦ rw w.end-is (reports_before _ g.C.ByteCodec.state _ c.take_run-taken.result.0 _ _ c.args.fault_room _ _ _ a.writing a.rule _ _ c.in-Emits.ensures malformed w.if-shown.false c.held.ensures room)
     ]
 
 pub returns-then-not-put_out-clause-call : goal.returns-then-not-put_out-clause-call
 returns-then-not-put_out-clause-call g c =
     let a = ahead _ g.C.ByteCodec.state _ _ _ _ _ _ _ _ _ _ c.loop-state.invariant.writing _ c.split_at.ensures.back c.take_run-taken.ensures c.loop-state.invariant.rule in
-    stops_full _ g.C.ByteCodec.state _ c.take_run-taken.result.0 _ _ c.args.fault_room _ _ _ a.writing a.rule _ _ c.in-Next.ensures
+    stops_full _ g.C.ByteCodec.state _ c.take_run-taken.result.0 _ _ c.args.fault_room _ _ _ a.writing a.rule _ _ c.in-Emits.ensures
     (c.put_out.ensures.unchanged c.if-not-put_out.true) (c.is_reported.ensures.asked c.if-is_reported.false) (c.is_reported.ensures.full c.if-is_reported.false)
     (c.put_out.ensures.full c.if-not-put_out.true)
 
@@ -48,10 +48,10 @@ loop-state-preserved g c =
     let written = c.put_out.ensures.written c.if-not-put_out.false in
     record {
       writing = elim c.if-shown.branch [
-        | then-shown w ↦ rw w.end-is (puts_with _ g.C.ByteCodec.state _ c.take_run-taken.result.0 _ _ c.args.fault_room _ _ _ a.writing a.rule _ _ c.in-Next.ensures valid w.if-shown.true scalars fits written)
-        | else-shown w ↦ rw w.end-is (puts_before _ g.C.ByteCodec.state _ c.take_run-taken.result.0 _ _ c.args.fault_room _ _ _ a.writing a.rule _ _ c.in-Next.ensures valid w.if-shown.false scalars fits written)
+        | then-shown w ↦ rw w.end-is (puts_with _ g.C.ByteCodec.state _ c.take_run-taken.result.0 _ _ c.args.fault_room _ _ _ a.writing a.rule _ _ c.in-Emits.ensures valid w.if-shown.true scalars fits written)
+        | else-shown w ↦ rw w.end-is (puts_before _ g.C.ByteCodec.state _ c.take_run-taken.result.0 _ _ c.args.fault_room _ _ _ a.writing a.rule _ _ c.in-Emits.ensures valid w.if-shown.false scalars fits written)
       ];
-      rule = c.in-Next.ensures.0.same_rule ∙ a.rule;
+      rule = c.in-Emits.ensures.0.same_rule ∙ a.rule;
     }
 
 pub loop-state-smaller : goal.loop-state-smaller
@@ -59,16 +59,16 @@ loop-state-smaller g c =
     let a = ahead _ g.C.ByteCodec.state _ _ _ _ _ _ _ _ _ _ c.loop-state.invariant.writing _ c.split_at.ensures.back c.take_run-taken.ensures c.loop-state.invariant.rule in
     elim c.if-shown.branch [
       | then-shown w ↦
-          let f = fewer_with g.C.ByteCodec.state _ _ _ _ c.in-Next.ensures.0 w.if-shown.true in
-          let h = (c.in-Next.ensures.1 w.if-shown.true).0 in
+          let f = fewer_with g.C.ByteCodec.state _ _ _ _ c.in-Emits.ensures.0 w.if-shown.true in
+          let h = (c.in-Emits.ensures.1 w.if-shown.true).0 in
           omega (arith, f, h, a.pending, a.within, w.end-is)
-      | else-shown w ↦ let f = fewer_before g.C.ByteCodec.state _ _ _ _ c.in-Next.ensures.0 w.if-shown.false in omega (arith, f, a.pending, a.within, w.end-is)
+      | else-shown w ↦ let f = fewer_before g.C.ByteCodec.state _ _ _ _ c.in-Emits.ensures.0 w.if-shown.false in omega (arith, f, a.pending, a.within, w.end-is)
     ]
 
 -- what a call needs, by what it does
 
-pub returns-in-Stay-clause-need : goal.returns-in-Stay-clause-need
-returns-in-Stay-clause-need g c = meets_into _ _ _ _ _ _ _ _ _ _ _ (returns-in-Stay-clause-call g c)
+pub returns-in-NeedsInput-clause-need : goal.returns-in-NeedsInput-clause-need
+returns-in-NeedsInput-clause-need g c = meets_into _ _ _ _ _ _ _ _ _ _ _ (returns-in-NeedsInput-clause-call g c)
 
 pub returns-then-is_reported-clause-need : goal.returns-then-is_reported-clause-need
 returns-then-is_reported-clause-need g c = meets_into _ _ _ _ _ _ _ _ _ _ _ (returns-then-is_reported-clause-call g c)

@@ -1,6 +1,6 @@
 use Rattle.std.proofs.Common.{◌≡◌, ◌+◌, ◌-◌, ◌*◌, length}
 use Rattle.enc_machine.specs.CodecState.{remainder_of}
-use Rattle.enc_machine.proofs.Progress.{Writing}
+use Rattle.enc_machine.proofs.DecodeProgressLemmas.{Writing}
 use Rattle.enc_machine.proofs.machine.run.Given as goal
 
 abbrev pub invariant-loop-state : goal.invariant-loop-state

@@ -1,11 +1,11 @@
 use Rattle.std.proofs.Common.{◌≡◌, ◌≤◌, ◌-◌, length, take}
-use Rattle.enc_recode.specs.Sink.{TakesMore}
+use Rattle.enc_recode.specs.Sink.{AppendsContents}
 use Rattle.enc_recode.proofs.engine.push_all.Given as goal
 
 abbrev pub invariant-loop-at : goal.invariant-loop-at
 invariant-loop-at g l = record {
   within : l.at ≤ length l.bytes;
-  taken : TakesMore (g.W.Sink.taken l.initial.writer) (g.W.Sink.taken l.writer) (take l.at l.bytes);
+  taken : AppendsContents (g.W.Sink.contents l.initial.writer) (g.W.Sink.contents l.writer) (take l.at l.bytes);
   kept : g.W.Sink.has_failed l.writer ≡ g.W.Sink.has_failed l.initial.writer;
 }
 

@@ -1,7 +1,7 @@
 use Rattle.std.proofs.Common.{rules, ◌≡◌, []}
 use Rattle.encoding_rs.specs.declared.encoding.TheConstants.{UTF_8}
 use Rattle.enc_reader.proofs.SourceLemmas.{on_err}
-use Rattle.enc_recode.proofs.KnownLemmas.{TakesMore-none}
+use Rattle.enc_recode.proofs.SourceSinkLemmas.{AppendsContents-none}
 use Rattle.enc_recode.proofs.EncodingLemmas.{EncodesText-utf_8, StopsWithin-text}
 use Rattle.enc_recode.proofs.engine.push_text.Goals as goal
 
@@ -10,7 +10,7 @@ returns-in_err-push_all-clause-err g c =
     let is_utf_8 : c.args.encoder.now.encoding ≡ UTF_8 = search rules in
     let made = EncodesText-utf_8 c.args.encoder.now c.args.text.now c.args.last is_utf_8 (c.requires.room.utf_8 is_utf_8) c.requires.utf8 in
     on_err c.from_residual.result _
-    (StopsWithin-text _ _ _ _ _ _ _ _ [] c.args.text.now _ made (TakesMore-none _) c.in_err-push_all.ensures.err)
+    (StopsWithin-text _ _ _ _ _ _ _ _ [] c.args.text.now _ made (AppendsContents-none _) c.in_err-push_all.ensures.err)
 
 pub returns-then-eq-clause-ok : goal.returns-then-eq-clause-ok
 returns-then-eq-clause-ok g c =

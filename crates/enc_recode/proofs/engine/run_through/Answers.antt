@@ -1,6 +1,6 @@
 use Rattle.std.proofs.Common.{refl, rules, ◌≡◌, ◌<◌, ◌∙◌, sym, length, true, false}
 use Rattle.std.proofs.lemmas.Bool.{false≢true}
-use Rattle.enc_recode.proofs.RunLemmas.{HandsOut-by, has_failed-between, has_failed-reading, Recodes-ok, Recodes-read, Recodes-write, HasRun-start, HasRun-more, RunsToEnd-last, RunsToEnd-by, RunsToFault-between, RunsToFault-within, RunsToFault-reading, RunsToFault-by, is_readers, no_text, some_text}
+use Rattle.enc_recode.proofs.RunLemmas.{HandsOut-by, has_failed-between, has_failed-reading, IsRecodeRun-ok, IsRecodeRun-read, IsRecodeRun-write, HasRun-start, HasRun-more, RunsToEnd-last, RunsToEnd-by, RunsToFault-between, RunsToFault-within, RunsToFault-reading, RunsToFault-by, is_readers, no_text, some_text}
 use Rattle.enc_recode.proofs.engine.run_through.Goals as goal
 
 pub reads-init : goal.reads-init
@@ -18,14 +18,14 @@ pub returns-in_default : goal.returns-in_default
 returns-in_default g c =
     let i = c.reads.invariant in
     let fault = is_readers c.read_or_lend.result (search rules) (λ f. false≢true (sym i.going ∙ c.read_or_lend.ensures.from_then_on.0 f)) in
-    Recodes-read _ _ _ _ _ _
+    IsRecodeRun-read _ _ _ _ _ _
     (RunsToFault-by _ _ _ _ _ _ _ (search rules) (RunsToFault-reading _ _ _ _ _ _ _ _ _ _ _ i.ran _ _ _ _ (c.read_or_lend.ensures.reader_fault fault)))
     (search (rules, has_failed-reading _ _ _ _ _ _ _ _ _ _ _ i.ran _ _ _ _ (c.read_or_lend.ensures.reader_fault fault)))
 
 pub returns-in_err-replaced : goal.returns-in_err-replaced
 returns-in_err-replaced g c =
-    Recodes-write _ _ _ _ _ _ _ (search rules)
-    (RunsToFault-by _ _ _ (g.R.Source.told c.read_or_lend.new.self.reader.now) _ _ _ (search rules)
+    IsRecodeRun-write _ _ _ _ _ _ _ (search rules)
+    (RunsToFault-by _ _ _ (g.R.Source.remaining c.read_or_lend.new.self.reader.now) _ _ _ (search rules)
     (RunsToFault-within _ _ _ _ _ _ _ _ _ _ _ _ _ _ _ c.reads.invariant.ran (HandsOut-by _ _ _ _ _ _ _ _ c.text-piece.ensures c.in-Ok.ensures.ok) _ _
     (λ (last : c.is_empty-last.result ≡ true). c.in-Ok.ensures.end (no_text _ (search rules))) c.in_err-replaced.ensures.err))
     (search rules)
@@ -33,8 +33,9 @@ returns-in_err-replaced g c =
 pub returns-then-last : goal.returns-then-last
 returns-then-last g c =
     let last : c.is_empty-last.result ≡ true = search rules in
-    Recodes-ok _ _ _ _ _ _ _ _ refl
-    (RunsToEnd-by _ _ _ (g.R.Source.told c.read_or_lend.new.self.reader.now) _ _ _ _ _ (search rules) (search rules)
+    IsRecodeRun-ok _ _ _ _ _ _ _ _ refl
+    (RunsToEnd-by _ _ _ (g.R.Source.remaining c.read_or_lend.new.self.reader.now) _ _ _ _ _ (search rules)
+    (search rules)
     (RunsToEnd-last _ _ _ _ _ _ _ _ _ _ _ _ _ _ _ c.reads.invariant.ran (HandsOut-by _ _ _ _ _ _ _ _ c.text-piece.ensures c.in-Ok.ensures.ok)
     _ _ _ _ c.in_ok-replaced.ensures.ok (c.in-Ok.ensures.end (no_text _ (search rules))) (c.in_ok-replaced.ensures.ended last) last))
     (search rules) (search rules)
@@ -55,5 +56,5 @@ reads-preserved g c =
 
 pub returns : goal.returns
 returns g c =
-    Recodes-read _ _ _ _ _ _ (RunsToFault-by _ _ _ _ _ _ _ (search rules) (RunsToFault-between _ _ _ _ _ _ _ _ _ _ _ c.reads.invariant.ran))
+    IsRecodeRun-read _ _ _ _ _ _ (RunsToFault-by _ _ _ _ _ _ _ (search rules) (RunsToFault-between _ _ _ _ _ _ _ _ _ _ _ c.reads.invariant.ran))
     (has_failed-between _ _ _ _ _ _ _ _ _ _ _ c.reads.invariant.ran _ (search rules))

@@ -1,6 +1,6 @@
 use Rattle.std.proofs.Common.{length}
-use Rattle.enc_encoders.specs.Steps.{steps_from}
-use Rattle.enc_references.proofs.Turns.{Writing}
+use Rattle.enc_encoders.specs.Steps.{steps_from_state}
+use Rattle.enc_references.proofs.ReferenceProgressLemmas.{Writing}
 use Rattle.enc_references.proofs.replacing.encode_replacing.Given as goal
 
 abbrev pub invariant-loop-src : goal.invariant-loop-src
@@ -10,4 +10,4 @@ invariant-loop-src g l =
 
 -- each turn takes the step of a report off
 abbrev pub decreases-loop-src : goal.decreases-loop-src
-decreases-loop-src g l = length (steps_from (g.E.RawEncoder.state l.encoder) l.last (g.C.Chars.rest l.src))
+decreases-loop-src g l = length (steps_from_state (g.E.RawEncoder.state l.encoder) l.last (g.C.Chars.rest l.src))

@@ -1,5 +1,5 @@
 use Rattle.std.proofs.Common.{arith}
-use Rattle.enc_units.proofs.HopLemmas.{ascii_after}
+use Rattle.enc_units.proofs.AsciiMaskLemmas.{ascii_after}
 use Rattle.enc_units.proofs.byte_table.ascii_from.Goals as goal
 
 pub returns-clause-ascii : goal.returns-clause-ascii

@@ -1,7 +1,7 @@
 use Rattle.std.proofs.Common.{◌≡◌, ◌+◌, arith, drop, subst, take}
 use Rattle.enc_units.specs.Validity.{AreAscii}
 use Rattle.enc_units.proofs.GatherLemmas.{gathers_on}
-use Rattle.enc_units.proofs.HopLemmas.{ascii_loaded}
+use Rattle.enc_units.proofs.AsciiMaskLemmas.{ascii_loaded}
 use Rattle.enc_units.proofs.byte_table.store_hops.Goals as goal
 
 pub store_hop-first-requires-clause-are_ascii : goal.store_hop-first-requires-clause-are_ascii

@@ -1,5 +1,5 @@
 use Rattle.std.proofs.Common.{arith, inl, inr}
-use Rattle.enc_units.proofs.RestLemmas.{goes_on, ends, none_next}
+use Rattle.enc_units.proofs.OverwrittenTextLemmas.{goes_on, ends, none_next}
 use Rattle.enc_units.proofs.rest.clear_rest.Goals as goal
 
 pub loop-end-preserved : goal.loop-end-preserved

@@ -1,5 +1,5 @@
 use Rattle.std.proofs.Common.{◌-◌, length}
-use Rattle.enc_units.proofs.RestLemmas.{Cleared}
+use Rattle.enc_units.proofs.OverwrittenTextLemmas.{Cleared}
 use Rattle.enc_units.proofs.rest.clear_rest.Given as goal
 
 abbrev pub invariant-loop-end : goal.invariant-loop-end

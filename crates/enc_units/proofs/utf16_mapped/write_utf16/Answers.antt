@@ -3,7 +3,7 @@ use Rattle.enc_units.proofs.CharsLemmas.{beyond_ascii, first_unit}
 use Rattle.enc_units.specs.Mappings.{IsWrittenAsItself}
 use Rattle.enc_units.proofs.LaneLemmas.{all_fewer}
 use Rattle.enc_units.proofs.Utf16MappedLemmas.{unit_lanes, low_lanes_long, front_long}
-use Rattle.enc_units.proofs.WrittenLemmas.{rest_long, ascii_further, whole_further, one_further}
+use Rattle.enc_units.proofs.WriteLoopLemmas.{rest_long, ascii_further, whole_further, one_further}
 use Rattle.enc_units.proofs.utf16_mapped.write_utf16.Goals as goal
 
 pub loop-read-preserved-then-len-eq16 : goal.loop-read-preserved-then-len-eq16

@@ -1,7 +1,7 @@
 use Rattle.std.proofs.Common.{◌-◌, length}
 use Rattle.std.specs.Char.Utf16.{utf16_lossy_chars}
 use Rattle.enc_units.proofs.Utf16MappedLemmas.{Any}
-use Rattle.enc_units.proofs.WrittenLemmas.{Written}
+use Rattle.enc_units.proofs.WriteLoopLemmas.{Written}
 use Rattle.enc_units.proofs.utf16_mapped.write_utf16.Given as goal
 
 abbrev pub invariant-loop-read : goal.invariant-loop-read

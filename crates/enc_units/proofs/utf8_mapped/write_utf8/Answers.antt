@@ -1,6 +1,6 @@
 use Rattle.std.proofs.Common.{refl, arith}
 use Rattle.enc_units.proofs.Utf8MappedLemmas.{ascii_lanes}
-use Rattle.enc_units.proofs.WrittenLemmas.{rest_long, sixteen, lanes_long, ascii_further, whole_further, one_further}
+use Rattle.enc_units.proofs.WriteLoopLemmas.{rest_long, sixteen, lanes_long, ascii_further, whole_further, one_further}
 use Rattle.enc_units.proofs.utf8_mapped.write_utf8.Goals as goal
 
 pub loop-read-preserved-then-len-eq16 : goal.loop-read-preserved-then-len-eq16

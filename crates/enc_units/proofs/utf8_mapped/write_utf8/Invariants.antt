@@ -1,5 +1,5 @@
 use Rattle.std.proofs.Common.{◌-◌, length, chars, IsUtf8}
-use Rattle.enc_units.proofs.WrittenLemmas.{Written}
+use Rattle.enc_units.proofs.WriteLoopLemmas.{Written}
 use Rattle.enc_units.proofs.utf8_mapped.write_utf8.Given as goal
 
 abbrev pub invariant-loop-read : goal.invariant-loop-read

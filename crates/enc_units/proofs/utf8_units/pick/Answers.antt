@@ -1,4 +1,4 @@
-use Rattle.enc_units.proofs.MarkedLemmas.{places_fit, picked}
+use Rattle.enc_units.proofs.MaskedUnitLemmas.{places_fit, picked}
 use Rattle.enc_units.proofs.utf8_units.pick.Goals as goal
 
 pub swizzle : goal.swizzle

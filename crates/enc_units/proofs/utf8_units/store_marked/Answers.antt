@@ -1,5 +1,5 @@
 use Rattle.std.proofs.Common.{◌%◌, arith}
-use Rattle.enc_units.proofs.MarkedLemmas.{row_is, row_long, stores_marked}
+use Rattle.enc_units.proofs.MaskedUnitLemmas.{row_is, row_long, stores_marked}
 use Rattle.enc_units.proofs.utf8_units.store_marked.Goals as goal
 
 pub pick-requires : goal.pick-requires

@@ -1,7 +1,7 @@
 -- For any marks that are bytes and of which none begins another.
 use Rattle.std.proofs.Common.{refl}
 use Rattle.encoding_rs.specs.Bom.{marks_looked_for}
-use Rattle.encoding_rs.proofs.SettledLemmas as settled
+use Rattle.encoding_rs.proofs.MarkFirstLemmas as settled
 use Rattle.encoding_rs.proofs.laws.mark_is_told_first.Goals as goal
 
 pub returns-clause-told : goal.returns-clause-told

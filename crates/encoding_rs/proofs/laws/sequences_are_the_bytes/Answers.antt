@@ -1,4 +1,4 @@
-use Rattle.encoding_rs.proofs.WholeLemmas.{joined, told, one}
+use Rattle.encoding_rs.proofs.WholeInputLemmas.{joined, told, one}
 use Rattle.encoding_rs.proofs.laws.sequences_are_the_bytes.Goals as goal
 
 pub returns : goal.returns

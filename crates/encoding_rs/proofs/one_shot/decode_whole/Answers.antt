@@ -2,22 +2,22 @@ use Rattle.std.proofs.Common.{rules, ◌≡◌, false, [], None, length, refl, a
 use Rattle.std.specs.String.{string_bytes}
 use Rattle.std.specs.Char.{encode_utf8}
 use Rattle.enc_calls.specs.declared.coder_result.CoderResult.TheVariants.{InputEmpty, OutputFull}
-use Rattle.enc_calls.specs.Replacing.{stop_of}
+use Rattle.enc_calls.specs.Replacing.{decoder_result_of}
 use Rattle.enc_units.specs.Output.{units_of_text}
-use Rattle.enc_machine.specs.Sequence.{text_of, any_malformed}
+use Rattle.enc_machine.specs.Sequence.{sequence_text, any_malformed}
 use Rattle.enc_machine.specs.Remainder.{AreBytes}
 use Rattle.enc_machine.proofs.ByteLemmas.{bytes_of_slice}
 use Rattle.encoding_rs.specs.declared.lengths.Query.TheVariants.{Utf8Reporting}
 use Rattle.encoding_rs.specs.Lengths.{max_length}
-use Rattle.encoding_rs.proofs.EndLemmas.{only_put, whole_text, whole_flag}
+use Rattle.encoding_rs.proofs.EndOfInputLemmas.{only_put, whole_text, whole_flag}
 use Rattle.encoding_rs.proofs.EnoughLemmas.{are_bytes_drop}
-use Rattle.encoding_rs.proofs.OneShotLemmas.{nothing, none_whole, none_decoded, first_call, next_call, still_open, now_finished, never_full, too_long_behind}
+use Rattle.encoding_rs.proofs.OneShotDecodeLemmas.{nothing, none_whole, none_decoded, first_call, next_call, still_open, now_finished, never_full, too_long_behind}
 use Rattle.encoding_rs.proofs.one_shot.decode_whole.Goals as goal
 
 pub returns-then-is_empty-clause-text : goal.returns-then-is_empty-clause-text
 returns-then-is_empty-clause-text c =
     let none = nothing c.args.bytes.now (c.if-is_empty.ensures) in
-    c.new-text.ensures.bytes ∙ ap (λ ss. units_of_text encode_utf8 (text_of ss)) (sym (none_whole c.args.handling c.args.encoding c.args.bytes.now none))
+    c.new-text.ensures.bytes ∙ ap (λ ss. units_of_text encode_utf8 (sequence_text ss)) (sym (none_whole c.args.handling c.args.encoding c.args.bytes.now none))
 
 pub returns-then-is_empty-clause-flag : goal.returns-then-is_empty-clause-flag
 returns-then-is_empty-clause-flag c =
@@ -69,7 +69,7 @@ pub unreachable-requires : goal.unreachable-requires
 unreachable-requires c =
     let are : AreBytes c.split_at.result.1.now = rw c.split_at.ensures.back (are_bytes_drop _ _ (bytes_of_slice _ c.type_inv.bytes)) in
     never_full _ _ _ _ _ _ _ _ _ _ _ c.max_utf8_buffer_length-length.ensures.enough c.in_ok-make_room-2.ensures.enough are refl
-    c.decode_to_string.ensures.call.need (ap stop_of c.in-OutputFull-default-default.is-0)
+    c.decode_to_string.ensures.call.need (ap decoder_result_of c.in-OutputFull-default-default.is-0)
 
 pub returns-clause-text : goal.returns-clause-text
 returns-clause-text c =

@@ -1,5 +1,5 @@
 use Rattle.std.proofs.Common.{◌≡◌, ◌∙◌, ap, sym, length, take, rules}
-use Rattle.encoding_rs.proofs.RunLemmas.{answers, replaces, reporting, refilled, by_utf_16}
+use Rattle.encoding_rs.proofs.DecodeRunLemmas.{answers, replaces, reporting, refilled, by_utf_16}
 use Rattle.encoding_rs.proofs.run.call_to_utf16.Goals as goal
 
 pub returns-then-call : goal.returns-then-call

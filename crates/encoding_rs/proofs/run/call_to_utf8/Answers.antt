@@ -1,5 +1,5 @@
 use Rattle.std.proofs.Common.{rules}
-use Rattle.encoding_rs.proofs.RunLemmas.{answers, replaces, reporting}
+use Rattle.encoding_rs.proofs.DecodeRunLemmas.{answers, replaces, reporting}
 use Rattle.encoding_rs.proofs.run.call_to_utf8.Goals as goal
 
 pub returns-then-call : goal.returns-then-call

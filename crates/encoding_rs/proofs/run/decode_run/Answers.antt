@@ -1,7 +1,7 @@
 use Rattle.std.proofs.Common.{take, drop, arith, true≢false, refl, sym, ◌∙◌, rules}
-use Rattle.encoding_rs.proofs.EndLemmas.{fresh_open}
-use Rattle.encoding_rs.proofs.RunLemmas.{start, decodes_on, within_on, all_read, runs_next, takes_next, has_run, whole_text, whole_flag, whole_places}
-use Rattle.encoding_rs.proofs.AheadLemmas.{fresh_ahead, told_on, at_end}
+use Rattle.encoding_rs.proofs.EndOfInputLemmas.{fresh_open}
+use Rattle.encoding_rs.proofs.DecodeRunLemmas.{start, decodes_on, within_on, all_read, runs_next, takes_next, has_run, whole_text, whole_flag, whole_places}
+use Rattle.encoding_rs.proofs.WholeEncodingLemmas.{fresh_ahead, told_on, at_end}
 use Rattle.encoding_rs.proofs.DecodeEndLemmas.{ends}
 use Rattle.encoding_rs.proofs.run.decode_run.Goals as goal
 

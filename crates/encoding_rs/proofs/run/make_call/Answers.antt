@@ -1,7 +1,7 @@
 use Rattle.std.proofs.Common.{◌≡◌, ◌∙◌, ◌++◌, ap, sym, append-nil, rules}
 use Rattle.std.specs.Char.{encode_utf8}
 use Rattle.std.specs.String.{string_bytes}
-use Rattle.encoding_rs.proofs.RunLemmas.{offered, nothing_for, replacement_for}
+use Rattle.encoding_rs.proofs.DecodeRunLemmas.{offered, nothing_for, replacement_for}
 use Rattle.encoding_rs.proofs.run.make_call.Goals as goal
 
 pub returns-then-not-reports : goal.returns-then-not-reports

@@ -1,14 +1,14 @@
 use Rattle.std.proofs.Common.{◌≡◌, ◌+◌, sym, ◌∙◌, ap, arith, length}
 use Rattle.enc_machine.proofs.ByteLemmas.{bytes_of_slice}
-use Rattle.encoding_rs.proofs.HeldLemmas.{ends, stays, goes_on, stays_bb, leaves_bb, holds_bb, both_equal, not_both_equal, all_equal, not_all_equal}
+use Rattle.encoding_rs.proofs.HeldMarkLemmas.{ends, stays, goes_on, stays_bb, leaves_bb, holds_bb, both_equal, not_both_equal, all_equal, not_all_equal}
 use Rattle.encoding_rs.proofs.text.convert_text.Goals as goal
 
-pub returns-then-is_end-clause-call : goal.returns-then-is_end-clause-call
-returns-then-is_end-clause-call g c = λ e same.
+pub returns-then-reaches_end-clause-call : goal.returns-then-reaches_end-clause-call
+returns-then-reaches_end-clause-call g c = λ e same.
     let made = rw (c.unread-held.ensures, c.held.ensures.count) at c.convert-done.ensures.call in
     let reads = rw (c.unread-held.ensures, c.held.ensures.count) at c.convert-done.ensures.reads in
-    rw c.placed.ensures (ends _ e _ _ _ _ (bytes_of_slice _ c.type_inv.src) _ _ same c.convert-done.ensures.rule c.requires.open c.requires.text c.requires.holds _ _ _ _ made.wrote _ reads _ made.call made.accounted made.onto
-    (sym c.is_end.ensures ∙ c.if-is_end.true))
+    rw c.shift_malformed.ensures (ends _ e _ _ _ _ (bytes_of_slice _ c.type_inv.src) _ _ same c.convert-done.ensures.rule c.requires.open c.requires.text c.requires.holds _ _ _ _ made.wrote _ reads _ made.call made.accounted made.onto
+    (sym c.reaches_end.ensures ∙ c.if-reaches_end.true))
 
 pub returns-then-untouched-clause-call : goal.returns-then-untouched-clause-call
 returns-then-untouched-clause-call g c = λ e same.
@@ -16,8 +16,8 @@ returns-then-untouched-clause-call g c = λ e same.
     let reads = rw (c.unread-held.ensures, c.held.ensures.count) at c.convert-done.ensures.reads in
     let t = both_equal _ _ _ c.if-untouched.true in
     let held = ap length (rw c.held.ensures.count at c.unread-held.ensures) in
-    rw c.placed.ensures (stays _ e _ _ _ _ (bytes_of_slice _ c.type_inv.src) _ _ same c.convert-done.ensures.rule c.requires.open c.requires.text c.requires.holds _ _ _ _ made.wrote _ reads _ made.call made.accounted made.onto
-    (sym c.is_end.ensures ∙ c.if-is_end.false) t.0 (let u = t.1 in omega (arith, c.held-2.ensures.count, c.held.ensures.count)))
+    rw c.shift_malformed.ensures (stays _ e _ _ _ _ (bytes_of_slice _ c.type_inv.src) _ _ same c.convert-done.ensures.rule c.requires.open c.requires.text c.requires.holds _ _ _ _ made.wrote _ reads _ made.call made.accounted made.onto
+    (sym c.reaches_end.ensures ∙ c.if-reaches_end.false) t.0 (let u = t.1 in omega (arith, c.held-2.ensures.count, c.held.ensures.count)))
 
 pub returns-then-leaves_bb-clause-call : goal.returns-then-leaves_bb-clause-call
 returns-then-leaves_bb-clause-call g c = λ e same.
@@ -25,8 +25,8 @@ returns-then-leaves_bb-clause-call g c = λ e same.
     let reads = rw (c.unread-held.ensures, c.held.ensures.count) at c.convert-done.ensures.reads in
     let t = all_equal _ _ _ _ _ c.if-leaves_bb.true in
     let held = ap length (rw c.held.ensures.count at c.unread-held.ensures) in
-    rw c.placed.ensures (stays_bb _ e _ _ _ _ (bytes_of_slice _ c.type_inv.src) _ _ same c.convert-done.ensures.rule c.requires.open c.requires.text c.requires.holds _ _ _ _ made.wrote _ reads _ made.call made.accounted made.onto
-    (sym c.is_end.ensures ∙ c.if-is_end.false) t.0 (sym held ∙ t.1) (let u = t.2 in omega (arith, c.held-2.ensures.count)))
+    rw c.shift_malformed.ensures (stays_bb _ e _ _ _ _ (bytes_of_slice _ c.type_inv.src) _ _ same c.convert-done.ensures.rule c.requires.open c.requires.text c.requires.holds _ _ _ _ made.wrote _ reads _ made.call made.accounted made.onto
+    (sym c.reaches_end.ensures ∙ c.if-reaches_end.false) t.0 (sym held ∙ t.1) (let u = t.2 in omega (arith, c.held-2.ensures.count)))
 
 pub returns-then-leaves_bb-clause-holds : goal.returns-then-leaves_bb-clause-holds
 returns-then-leaves_bb-clause-holds g c =
@@ -43,8 +43,8 @@ returns-clause-call g c = λ e same.
     let made = rw (c.unread-held.ensures, c.held.ensures.count) at c.convert-done.ensures.call in
     let reads = rw (c.unread-held.ensures, c.held.ensures.count) at c.convert-done.ensures.reads in
     let held = ap length (rw c.held.ensures.count at c.unread-held.ensures) in
-    rw c.placed.ensures (goes_on _ e _ _ _ _ (bytes_of_slice _ c.type_inv.src) _ _ same c.convert-done.ensures.rule c.requires.open c.requires.text c.requires.holds _ _ _ _ made.wrote _ reads _ made.call made.accounted
-    (sym c.is_end.ensures ∙ c.if-is_end.false)
+    rw c.shift_malformed.ensures (goes_on _ e _ _ _ _ (bytes_of_slice _ c.type_inv.src) _ _ same c.convert-done.ensures.rule c.requires.open c.requires.text c.requires.holds _ _ _ _ made.wrote _ reads _ made.call made.accounted
+    (sym c.reaches_end.ensures ∙ c.if-reaches_end.false)
     (λ z n. not_both_equal _ _ _ c.if-untouched.false z (omega (arith, c.held-2.ensures.count, c.held.ensures.count)))
     (λ z two one. not_all_equal _ _ _ _ _ c.if-leaves_bb.false z (held ∙ two) (omega (arith, c.held-2.ensures.count)))
     made.onto)

@@ -1,9 +1,10 @@
 use Rattle.std.proofs.Common.{ap}
-use Rattle.enc_iso_2022_jp.specs.Iso2022JpState.{holding, held_bytes, iso_2022_jp_state}
-use Rattle.enc_machine.proofs.ShowLemmas.{nothing_pending}
+use Rattle.enc_iso_2022_jp.specs.Iso2022JpState.{state_with_held, bytes_of_held, iso_2022_jp_state}
+use Rattle.enc_machine.proofs.EmissionLemmas.{nothing_pending}
 use Rattle.enc_iso_2022_jp.proofs.iso_2022_jp.Iso2022JpDecoderByteCodec.ready.Goals as goal
 
 pub returns-in-None : goal.returns-in-None
 returns-in-None c =
     rw (← c.self.view_is)
-    (nothing_pending (iso_2022_jp_state (holding c.self.inside.set c.self.inside.held)) (ap held_bytes c.in-None.is))
+    (nothing_pending (iso_2022_jp_state (state_with_held c.self.inside.set c.self.inside.held))
+    (ap bytes_of_held c.in-None.is))

@@ -1,5 +1,5 @@
 use Rattle.std.proofs.Common.{◌∙◌, ap, sym, arith}
-use Rattle.enc_iso_2022_jp.specs.Iso2022JpState.{Iso2022JpState, held_bytes, iso_2022_jp_state}
+use Rattle.enc_iso_2022_jp.specs.Iso2022JpState.{Iso2022JpState, bytes_of_held, iso_2022_jp_state}
 use Rattle.enc_machine.proofs.TakingLemmas.{takes_both}
 use Rattle.enc_machine.proofs.PieceLemmas.{takes_pieces}
 use Rattle.enc_iso_2022_jp.proofs.iso_2022_jp.Iso2022JpDecoderByteCodec.take_run.Goals as goal
@@ -7,7 +7,7 @@ use Rattle.enc_iso_2022_jp.proofs.iso_2022_jp.Iso2022JpDecoderByteCodec.take_run
 pub loop-state-init : goal.loop-state-init
 loop-state-init g c =
     let none = ap (λ (s : Iso2022JpState). s.held) (sym c.self.view_is) ∙ c.in-None.is in
-    record { run = takes_pieces g.U.Units.units_of iso_2022_jp_state c.args.self _ _ _ _ (ap held_bytes none) c.put_pieces-read.ensures; none_held = none }
+    record { run = takes_pieces g.U.Units.units_of iso_2022_jp_state c.args.self _ _ _ _ (ap bytes_of_held none) c.put_pieces-read.ensures; none_held = none }
 
 pub split_at-requires : goal.split_at-requires
 split_at-requires g c = c.loop-state.invariant.run.within

@@ -1,5 +1,5 @@
 use Rattle.std.proofs.Common.{[], subst}
-use Rattle.enc_machine.specs.Pending.{pending_bytes}
+use Rattle.enc_machine.specs.Pending.{bytes_of_pending}
 use Rattle.enc_multi_byte.specs.MultiByte.{AreIncomplete}
 use Rattle.enc_multi_byte.specs.EucJp.{euc_jp_prefix}
 use Rattle.enc_multi_byte.proofs.DoubleByteLemmas.{trail_finished}
@@ -7,4 +7,4 @@ use Rattle.enc_multi_byte.proofs.euc_jp.EucJpMultiByte.classify.Goals as goal
 
 pub unreachable-requires : goal.unreachable-requires
 unreachable-requires c =
-    let u = subst (λ p. AreIncomplete euc_jp_prefix [] (pending_bytes p)) c.in-Three.is c.requires in trail_finished 2 _ _ u.1.1.0
+    let u = subst (λ p. AreIncomplete euc_jp_prefix [] (bytes_of_pending p)) c.in-Three.is c.requires in trail_finished 2 _ _ u.1.1.0

@@ -1,6 +1,6 @@
 use Rattle.std.proofs.Common.{[], ◌∷◌, ◌++◌, ap, sym, ◌∙◌, refl, arith, drop}
 use Rattle.std.proofs.lemmas.List.{length-append}
-use Rattle.enc_machine.specs.Pending.{pending_bytes}
+use Rattle.enc_machine.specs.Pending.{bytes_of_pending}
 use Rattle.enc_multi_byte.specs.MultiByte.{multi_byte_state}
 use Rattle.enc_multi_byte.proofs.MultiByteLemmas.{settles_complete, settles_malformed}
 use Rattle.enc_multi_byte.proofs.MultiByteComes.{at_most_three, first_and_rest, shows_pending}
@@ -8,32 +8,32 @@ use Rattle.enc_multi_byte.proofs.multi_byte.MultiByteDecoder.shown_first.Goals a
 
 pub returns-in-Complete-clause-shown : goal.returns-in-Complete-clause-shown
 returns-in-Complete-clause-shown g c =
-    let front = pending_bytes c.loop-byte.front in
+    let front = bytes_of_pending c.loop-byte.front in
     let e = length-append front (c.in-Some.byte ∷ []) in
     let n = c.len-len.ensures in
     rw c.complete.ensures.is (
-      shows_pending g.E.MultiByte.prefix c.laws.ensures (λ d. multi_byte_state g.E.MultiByte.prefix (pending_bytes d.pending))
+      shows_pending g.E.MultiByte.prefix c.laws.ensures (λ d. multi_byte_state g.E.MultiByte.prefix (bytes_of_pending d.pending))
           c.args.self c.complete.result.next _ refl _ front c.in-Some.byte _ _ _ _ _
-          (c.loop-byte.invariant.0 ∙ ap (λ z. front ++ z) (first_and_rest (pending_bytes c.loop-byte.rest) c.in-Some.byte (sym c.first.ensures ∙ c.in-Some.is)))
+          (c.loop-byte.invariant.0 ∙ ap (λ z. front ++ z) (first_and_rest (bytes_of_pending c.loop-byte.rest) c.in-Some.byte (sym c.first.ensures ∙ c.in-Some.is)))
           c.loop-byte.invariant.1
           (settles_complete g.E.MultiByte.prefix (front ++ c.in-Some.byte ∷ []) c.in-Complete.text (omega (arith, e)) (sym c.classify.ensures ∙ c.in-Complete.is))
           (at_most_three c.args.self.pending) (omega (arith, e, n))
-          (ap (λ p. multi_byte_state g.E.MultiByte.prefix (pending_bytes p)) c.complete.ensures.next
-          ∙ ap (multi_byte_state g.E.MultiByte.prefix) (c.behind.ensures ∙ ap (λ i. drop i (pending_bytes c.args.self.pending)) (omega (arith, e, n)))),
+          (ap (λ p. multi_byte_state g.E.MultiByte.prefix (bytes_of_pending p)) c.complete.ensures.next
+          ∙ ap (multi_byte_state g.E.MultiByte.prefix) (c.behind.ensures ∙ ap (λ i. drop i (bytes_of_pending c.args.self.pending)) (omega (arith, e, n)))),
       refl,
     )
 
 pub returns-in-Malformed-clause-shown : goal.returns-in-Malformed-clause-shown
 returns-in-Malformed-clause-shown g c =
-    let front = pending_bytes c.loop-byte.front in
+    let front = bytes_of_pending c.loop-byte.front in
     rw c.malformed.ensures.is (
-      shows_pending g.E.MultiByte.prefix c.laws.ensures (λ d. multi_byte_state g.E.MultiByte.prefix (pending_bytes d.pending))
+      shows_pending g.E.MultiByte.prefix c.laws.ensures (λ d. multi_byte_state g.E.MultiByte.prefix (bytes_of_pending d.pending))
           c.args.self c.malformed.result.next _ refl _ front c.in-Some.byte _ _ _ _ _
-          (c.loop-byte.invariant.0 ∙ ap (λ z. front ++ z) (first_and_rest (pending_bytes c.loop-byte.rest) c.in-Some.byte (sym c.first.ensures ∙ c.in-Some.is)))
+          (c.loop-byte.invariant.0 ∙ ap (λ z. front ++ z) (first_and_rest (bytes_of_pending c.loop-byte.rest) c.in-Some.byte (sym c.first.ensures ∙ c.in-Some.is)))
           c.loop-byte.invariant.1
           (settles_malformed g.E.MultiByte.prefix c.laws.ensures (front ++ c.in-Some.byte ∷ []) c.in-Malformed.len (sym c.classify.ensures ∙ c.in-Malformed.is))
           (at_most_three c.args.self.pending) refl
-          (ap (λ p. multi_byte_state g.E.MultiByte.prefix (pending_bytes p)) c.malformed.ensures.next
+          (ap (λ p. multi_byte_state g.E.MultiByte.prefix (bytes_of_pending p)) c.malformed.ensures.next
           ∙ ap (multi_byte_state g.E.MultiByte.prefix) c.behind-in-Malformed.ensures),
       refl,
     )

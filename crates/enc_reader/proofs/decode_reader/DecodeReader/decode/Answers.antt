@@ -1,6 +1,6 @@
 use Rattle.std.proofs.Common.{rules, ◌≡◌, ◌≤◌, length, take, [], true, false, not, ap, sym, ◌∙◌}
 use Rattle.std.proofs.lemmas.Bool.{false≢true}
-use Rattle.encoding_rs.specs.Decoding.{finished}
+use Rattle.encoding_rs.specs.Decoding.{has_finished}
 use Rattle.enc_reader.proofs.ReadingLemmas.{IsTurn-chunk, some_text, opposite, all_read, only_at_end}
 use Rattle.enc_reader.proofs.decode_reader.DecodeReader.decode.Goals as goal
 
@@ -17,10 +17,10 @@ returns-clause-turn g c =
     let r = c.args.self.now in
     let none : take c.without_text-2.result.written c.decode_between-read.new.dst ≡ [] = ap (λ n. take n c.decode_between-read.new.dst) c.without_text-2.ensures.written in
     let wrote : take c.without_text-2.result.written c.decode_between-read.new.dst ≡ take c.decode_between-read.result.2 c.decode_between-read.new.dst = search rules in
-    let waits : c.without_text-2.result.waits ≡ not (finished c.decode_between-read.new.decoder) = search rules in
+    let waits : c.without_text-2.result.waits ≡ not (has_finished c.decode_between-read.new.decoder) = search rules in
     rw (wrote, c.without_text-2.ensures.replaced)
     (IsTurn-chunk _ _ _ _ _ _ _ _ _ _ _ _ c.without_text-2.result.waits c.decode_between-read.ensures.call.decodes (search rules) r.decoded r.within c.if-self.false c.requires.room (search rules)
-    (λ t. (sym wrote ∙ none, opposite (finished c.decode_between-read.new.decoder) true (sym waits ∙ t))) (λ f _. opposite (finished c.decode_between-read.new.decoder) false (sym waits ∙ f)))
+    (λ t. (sym wrote ∙ none, opposite (has_finished c.decode_between-read.new.decoder) true (sym waits ∙ t))) (λ f _. opposite (has_finished c.decode_between-read.new.decoder) false (sym waits ∙ f)))
 
 pub invariant_of-self : goal.invariant_of-self
 invariant_of-self g c =

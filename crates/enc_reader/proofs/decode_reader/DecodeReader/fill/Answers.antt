@@ -1,5 +1,5 @@
 use Rattle.std.proofs.Common.{rules, ◌≡◌, [], false}
-use Rattle.enc_reader.proofs.ReadingLemmas.{Reads-none}
+use Rattle.enc_reader.proofs.ReadingLemmas.{ReadsOwed-none}
 use Rattle.enc_reader.proofs.SourceLemmas.{on_err}
 use Rattle.enc_reader.proofs.LendingLemmas.{FailsToRead-pull}
 use Rattle.enc_reader.proofs.decode_reader.DecodeReader.fill.Goals as goal
@@ -13,4 +13,4 @@ returns-in_err-pull-clause-err g c =
     (FailsToRead-pull _ _ _ _ _ _ failed.none_given failed.err failed.same unended (r.going c.requires.going))
 
 pub returns-else-self-clause-ok : goal.returns-else-self-clause-ok
-returns-else-self-clause-ok g c = record { bytes = []; reads = Reads-none _ _ }
+returns-else-self-clause-ok g c = record { bytes = []; reads = ReadsOwed-none _ _ }

@@ -5,7 +5,7 @@ use Rattle.enc_reader.proofs.decode_reader.DecodeReader.read_str.Goals as goal
 
 pub pulls-init : goal.pulls-init
 pulls-init g c =
-    let told = g.R.Source.told in
+    let told = g.R.Source.remaining in
     record {
       read = rw c.decode-turn.ensures.reader (HasRead-turn _ _ _ _ _ _ c.decode-turn.ensures.turn);
       within = search rules;
@@ -20,7 +20,7 @@ pulls-init g c =
 
 pub pulls-preserved : goal.pulls-preserved
 pulls-preserved g c =
-    let told = g.R.Source.told in
+    let told = g.R.Source.remaining in
     let i = c.pulls.invariant in
     let none : take c.pulls.turn.written c.pulls.dst ≡ [] = ap (λ n. take n c.pulls.dst) (i.none c.pulls-test.true) in
     let waited : HasRead (told c.args.self.now.reader.now) (told c.pulls.self.reader.now) (state_of c.args.self.now) (state_of c.pulls.self) [] c.pulls.replaced true c.pulls.pulls =

@@ -2,7 +2,7 @@ use Rattle.std.proofs.Common.{◌≡◌, ◌∙◌, ◌+◌, ◌++◌, ap, arith
 use Rattle.std.proofs.lemmas.List.{take-take, map-id}
 use Rattle.std.proofs.lemmas.Simd.{length-put_chunk}
 use lib.Lanes.{put_chunk}
-use Rattle.enc_units.proofs.FrontLemmas.{ascii_units_16}
+use Rattle.enc_units.proofs.AsciiPrefixLemmas.{ascii_units_16}
 use Rattle.enc_units.proofs.GatherLemmas.{gathers_then, gathers_ascii, gathers_one, stored_lanes}
 use Rattle.enc_units.proofs.pairs.PairsGather.gather_units.Goals as goal
 

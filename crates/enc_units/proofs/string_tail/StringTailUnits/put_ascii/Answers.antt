@@ -1,4 +1,4 @@
-use Rattle.enc_units.proofs.FrontLemmas.{front_utf8, puts_front}
+use Rattle.enc_units.proofs.AsciiPrefixLemmas.{front_utf8, puts_front}
 use Rattle.enc_units.proofs.Utf8SliceLemmas.{ascii_units}
 use Rattle.std.specs.Char.{encode_utf8}
 use Rattle.enc_units.proofs.string_tail.StringTailUnits.put_ascii.Goals as goal

@@ -1,5 +1,5 @@
 use Rattle.std.proofs.Common.{refl, arith, rules}
-use Rattle.enc_units.proofs.FrontLemmas.{gathered_utf8, appends_gathered}
+use Rattle.enc_units.proofs.AsciiPrefixLemmas.{gathered_utf8, appends_gathered}
 use Rattle.enc_units.proofs.string_tail.StringTailUnits.put_pieces.Goals as goal
 
 pub append-requires-clause-utf8 : goal.append-requires-clause-utf8

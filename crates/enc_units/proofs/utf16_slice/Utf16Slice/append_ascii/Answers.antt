@@ -1,9 +1,9 @@
 use Rattle.std.proofs.Common.{◌≡◌, ◌+◌, ◌-◌, ◌≤◌, ◌∙◌, ap, sym, arith, length, take, drop, length-take, length-drop}
 use Rattle.std.proofs.Common.{inl, inr}
 use Rattle.std.proofs.lemmas.Bool.{cases_lt}
-use Rattle.enc_units.specs.Output.{appended}
+use Rattle.enc_units.specs.Output.{with_appended}
 use Rattle.enc_units.proofs.AsciiLemmas.{ascii_one}
-use Rattle.enc_units.proofs.FrontLemmas.{ascii_units_16}
+use Rattle.enc_units.proofs.AsciiPrefixLemmas.{ascii_units_16}
 use Rattle.enc_units.proofs.Utf8SliceLemmas.{grown}
 use Rattle.enc_units.proofs.utf16_slice.Utf16Slice.append_ascii.Goals as goal
 
@@ -22,7 +22,7 @@ returns c =
       ascii = e.ascii;
       fits = omega (arith, ap length units, length-take n src);
       written = grown s.len n s.dst.now src _ s.dst.ghost_name (omega arith) e.read room e.stored
-          ∙ ap (appended _) (sym units);
+          ∙ ap (with_appended _) (sym units);
       longest = λ more low. elim (cases_lt n (length s.dst.now - s.len)) [
         | inl l ↦ absurd (omega (arith, e.ends more (omega arith)))
         | inr g ↦ omega (

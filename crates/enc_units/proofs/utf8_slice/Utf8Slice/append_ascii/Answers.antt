@@ -1,6 +1,6 @@
 use Rattle.std.proofs.Common.{◌≡◌, ◌+◌, ◌-◌, ◌≤◌, ◌∙◌, ap, sym, arith, length, take, drop, length-take, length-drop, inl, inr}
 use Rattle.std.proofs.lemmas.Bool.{cases_lt}
-use Rattle.enc_units.specs.Output.{appended}
+use Rattle.enc_units.specs.Output.{with_appended}
 use Rattle.enc_units.proofs.AsciiLemmas.{ascii_one}
 use Rattle.enc_units.proofs.Utf8SliceLemmas.{ascii_units, grown}
 use Rattle.enc_units.proofs.utf8_slice.Utf8Slice.append_ascii.Goals as goal
@@ -19,7 +19,7 @@ returns c =
       within = e.read;
       ascii = e.ascii;
       fits = omega (arith, ap length units, length-take n src);
-      written = grown s.len n s.dst.now src _ s.dst.ghost_name (omega arith) e.read room e.copied ∙ ap (appended _) (sym units);
+      written = grown s.len n s.dst.now src _ s.dst.ghost_name (omega arith) e.read room e.copied ∙ ap (with_appended _) (sym units);
       longest = λ more low. elim (cases_lt n (length s.dst.now - s.len)) [
         | inl l ↦ absurd (omega (arith, e.ends more (omega arith)))
         | inr g ↦ omega (arith, ap length (ascii_units (take (n + 1) src) (ascii_one n src e.ascii more low)), length-take (n + 1) src)

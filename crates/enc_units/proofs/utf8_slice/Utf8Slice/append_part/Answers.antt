@@ -1,6 +1,6 @@
 use Rattle.std.proofs.Common.{◌≡◌, ◌≤◌, length, take, ap, ◌∙◌, subst, arith, length-take}
 use Rattle.std.proofs.lemmas.List.{take-take}
-use Rattle.enc_units.specs.Output.{appended}
+use Rattle.enc_units.specs.Output.{with_appended}
 use Rattle.enc_units.specs.Validity.{IsWellFormedUtf8}
 use Rattle.enc_units.proofs.Utf8CharsLemmas.{puts_utf8}
 use Rattle.enc_units.proofs.Utf8SliceLemmas.{grown_by}
@@ -17,4 +17,4 @@ returns c =
     let few : n ≤ most = omega (arith, told.within, length-take most src) in
     let copied : c.copy_from_slice.new.self ≡ take n src = c.copy_from_slice.ensures.after in
     puts_utf8 _ _ src n (omega arith) (omega arith) (subst IsWellFormedUtf8 (take-take n most src few) told.utf8)
-    (grown_by slice.len n slice.dst.now c.copy_from_slice.new.self slice.dst.ghost_name (omega arith) (omega (arith, ap length copied, length-take n src)) ∙ ap (appended _) copied)
+    (grown_by slice.len n slice.dst.now c.copy_from_slice.new.self slice.dst.ghost_name (omega arith) (omega (arith, ap length copied, length-take n src)) ∙ ap (with_appended _) copied)

@@ -1,15 +1,15 @@
 use Rattle.std.proofs.Common.{refl, sym, ◌∙◌, ap, subst, take}
 use Rattle.std.proofs.Math.Seq.{take-length}
 use Rattle.enc_machine.proofs.ByteLemmas.{bytes_of_slice}
-use Rattle.encoding_rs.specs.Sniffing.{Reaches}
-use Rattle.encoding_rs.proofs.HeldLemmas.{tells_held}
-use Rattle.encoding_rs.proofs.BehindLemmas.{behind_a_mark, behind_text, all_held, awaiting_goes_on}
+use Rattle.encoding_rs.specs.Sniffing.{ExtendsHeldMark}
+use Rattle.encoding_rs.proofs.HeldMarkLemmas.{tells_held}
+use Rattle.encoding_rs.proofs.AfterMarkLemmas.{behind_a_mark, behind_text, all_held, awaiting_goes_on}
 use Rattle.encoding_rs.proofs.decoder.Decoder.convert.Goals as goal
 
 pub returns-in-Open : goal.returns-in-Open
 returns-in-Open g c =
     let f = rw c.in-Open.is at c.sniff-sniffed.ensures.sniffed in
-    let r = subst (Reaches c.self.inside.life c.in-Open.life) (sym (ap (λ n. take n c.args.src.now) f.0 ∙ take-length c.args.src.now)) f.3 in
+    let r = subst (ExtendsHeldMark c.self.inside.life c.in-Open.life) (sym (ap (λ n. take n c.args.src.now) f.0 ∙ take-length c.args.src.now)) f.3 in
     record { call = rw (← c.self.view_is, f.1) (all_held _ _ _ _ _ _ c.self.invariant.0.1 c.sniff-sniffed.ensures.within r (sym r.awaits ∙ f.2) _ _ _ (awaiting_goes_on _ f.2) f.0); held = rw (← c.self.view_is) (tells_held _ _ _ c.self.invariant.0.1) }
 
 pub returns-in-Mark : goal.returns-in-Mark

@@ -1,4 +1,4 @@
-use Rattle.encoding_rs.proofs.FullLemmas.{converts_into}
+use Rattle.encoding_rs.proofs.OutputFullLemmas.{converts_into}
 use Rattle.encoding_rs.proofs.decoder.Decoder.convert_replacing.Goals as goal
 
 pub returns-in-OutputFull : goal.returns-in-OutputFull

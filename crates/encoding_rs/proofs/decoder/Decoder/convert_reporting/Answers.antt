@@ -1,4 +1,4 @@
-use Rattle.encoding_rs.proofs.FullLemmas.{reports_into}
+use Rattle.encoding_rs.proofs.OutputFullLemmas.{reports_into}
 use Rattle.encoding_rs.proofs.decoder.Decoder.convert_reporting.Goals as goal
 
 pub returns : goal.returns

@@ -1,8 +1,8 @@
 use Rattle.std.proofs.Common.{length, ap, refl, rules}
 use Rattle.std.specs.String.{string_bytes}
-use Rattle.encoding_rs.proofs.EndLemmas.{finishes_by}
-use Rattle.enc_calls.specs.Replacing.{stop_of}
-use Rattle.encoding_rs.proofs.FullLemmas.{over_text, in_front, four_bytes}
+use Rattle.encoding_rs.proofs.EndOfInputLemmas.{finishes_by}
+use Rattle.enc_calls.specs.Replacing.{decoder_result_of}
+use Rattle.encoding_rs.proofs.OutputFullLemmas.{over_text, in_front, four_bytes}
 use Rattle.encoding_rs.proofs.decoder.Decoder.decode_to_string.Goals as goal
 
 pub returns-clause-call : goal.returns-clause-call
@@ -23,4 +23,4 @@ pub returns-clause-ended : goal.returns-clause-ended
 returns-clause-ended c = finishes_by _ _ _ _ _ _ _ _ _ _ _ (returns-clause-call c).decodes
 
 pub returns-clause-progress : goal.returns-clause-progress
-returns-clause-progress c = λ full. (returns-clause-call c).progress (ap stop_of full)
+returns-clause-progress c = λ full. (returns-clause-call c).progress (ap decoder_result_of full)

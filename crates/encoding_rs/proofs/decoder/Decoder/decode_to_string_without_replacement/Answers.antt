@@ -1,7 +1,7 @@
 use Rattle.std.proofs.Common.{length, refl, rules}
 use Rattle.std.specs.String.{string_bytes}
-use Rattle.encoding_rs.proofs.EndLemmas.{finishes_by}
-use Rattle.encoding_rs.proofs.FullLemmas.{over_text, in_front, four_bytes}
+use Rattle.encoding_rs.proofs.EndOfInputLemmas.{finishes_by}
+use Rattle.encoding_rs.proofs.OutputFullLemmas.{over_text, in_front, four_bytes}
 use Rattle.encoding_rs.proofs.decoder.Decoder.decode_to_string_without_replacement.Goals as goal
 
 pub returns-clause-call : goal.returns-clause-call

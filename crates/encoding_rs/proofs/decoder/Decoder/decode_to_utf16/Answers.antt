@@ -1,7 +1,7 @@
 use Rattle.std.proofs.Common.{length, ap, refl, arith, rules}
-use Rattle.encoding_rs.proofs.EndLemmas.{finishes_by}
-use Rattle.enc_calls.specs.Replacing.{stop_of}
-use Rattle.encoding_rs.proofs.FullLemmas.{over_slice, two_units}
+use Rattle.encoding_rs.proofs.EndOfInputLemmas.{finishes_by}
+use Rattle.enc_calls.specs.Replacing.{decoder_result_of}
+use Rattle.encoding_rs.proofs.OutputFullLemmas.{over_slice, two_units}
 use Rattle.encoding_rs.proofs.decoder.Decoder.decode_to_utf16.Goals as goal
 
 pub returns-clause-call : goal.returns-clause-call
@@ -16,4 +16,4 @@ pub returns-clause-ended : goal.returns-clause-ended
 returns-clause-ended c = finishes_by _ _ _ _ _ _ _ _ _ _ _ (returns-clause-call c).decodes
 
 pub returns-clause-progress : goal.returns-clause-progress
-returns-clause-progress c = λ full. (returns-clause-call c).progress (ap stop_of full)
+returns-clause-progress c = λ full. (returns-clause-call c).progress (ap decoder_result_of full)

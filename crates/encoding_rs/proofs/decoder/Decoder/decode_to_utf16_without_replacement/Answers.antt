@@ -1,6 +1,6 @@
 use Rattle.std.proofs.Common.{length, refl, arith, rules}
-use Rattle.encoding_rs.proofs.EndLemmas.{finishes_by}
-use Rattle.encoding_rs.proofs.FullLemmas.{over_slice, two_units}
+use Rattle.encoding_rs.proofs.EndOfInputLemmas.{finishes_by}
+use Rattle.encoding_rs.proofs.OutputFullLemmas.{over_slice, two_units}
 use Rattle.encoding_rs.proofs.decoder.Decoder.decode_to_utf16_without_replacement.Goals as goal
 
 pub returns-clause-call : goal.returns-clause-call

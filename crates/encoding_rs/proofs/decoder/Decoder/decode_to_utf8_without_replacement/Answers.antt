@@ -1,7 +1,7 @@
 use Rattle.std.proofs.Common.{length, refl, arith, rules}
-use Rattle.enc_units.proofs.FrontLemmas.{text_utf8}
-use Rattle.encoding_rs.proofs.EndLemmas.{finishes_by}
-use Rattle.encoding_rs.proofs.FullLemmas.{over_slice, four_bytes}
+use Rattle.enc_units.proofs.AsciiPrefixLemmas.{text_utf8}
+use Rattle.encoding_rs.proofs.EndOfInputLemmas.{finishes_by}
+use Rattle.encoding_rs.proofs.OutputFullLemmas.{over_slice, four_bytes}
 use Rattle.encoding_rs.proofs.decoder.Decoder.decode_to_utf8_without_replacement.Goals as goal
 
 pub returns-clause-call : goal.returns-clause-call

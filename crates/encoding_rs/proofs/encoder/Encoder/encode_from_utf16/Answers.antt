@@ -1,5 +1,5 @@
-use Rattle.encoding_rs.proofs.UnreadLemmas.{ends_within, lossy_unread}
-use Rattle.encoding_rs.proofs.ProgressLemmas.{goes_on}
+use Rattle.encoding_rs.proofs.UnreadTextLemmas.{ends_within, lossy_unread}
+use Rattle.encoding_rs.proofs.EncoderProgressLemmas.{goes_on}
 use Rattle.encoding_rs.proofs.encoder.Encoder.encode_from_utf16.Goals as goal
 
 pub returns-clause-read : goal.returns-clause-read

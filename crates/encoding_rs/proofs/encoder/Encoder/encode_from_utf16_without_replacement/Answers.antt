@@ -2,8 +2,8 @@ use Rattle.std.proofs.Common.{false, rules}
 use Rattle.std.specs.Char.Escape.{encode_utf16}
 use Rattle.std.specs.Char.Utf16.{utf16_lossy_chars}
 use Rattle.encoding_rs.proofs.NeedLemmas.{into_by_need}
-use Rattle.encoding_rs.proofs.UnreadLemmas.{ends_within, lossy_unread}
-use Rattle.encoding_rs.proofs.ProgressLemmas.{reports_on}
+use Rattle.encoding_rs.proofs.UnreadTextLemmas.{ends_within, lossy_unread}
+use Rattle.encoding_rs.proofs.EncoderProgressLemmas.{reports_on}
 use Rattle.encoding_rs.proofs.encoder.Encoder.encode_from_utf16_without_replacement.Goals as goal
 
 pub returns-clause-need : goal.returns-clause-need

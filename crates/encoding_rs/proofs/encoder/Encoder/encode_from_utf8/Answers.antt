@@ -1,5 +1,5 @@
-use Rattle.encoding_rs.proofs.UnreadLemmas.{ends_between, chars_unread}
-use Rattle.encoding_rs.proofs.ProgressLemmas.{goes_on}
+use Rattle.encoding_rs.proofs.UnreadTextLemmas.{ends_between, chars_unread}
+use Rattle.encoding_rs.proofs.EncoderProgressLemmas.{goes_on}
 use Rattle.encoding_rs.proofs.encoder.Encoder.encode_from_utf8.Goals as goal
 
 pub returns-clause-boundary : goal.returns-clause-boundary

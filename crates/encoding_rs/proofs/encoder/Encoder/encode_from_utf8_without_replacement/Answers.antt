@@ -1,8 +1,8 @@
 use Rattle.std.proofs.Common.{chars, false, rules}
 use Rattle.std.specs.Char.{encode_utf8}
 use Rattle.encoding_rs.proofs.NeedLemmas.{into_by_need}
-use Rattle.encoding_rs.proofs.UnreadLemmas.{ends_between, chars_unread}
-use Rattle.encoding_rs.proofs.ProgressLemmas.{reports_on}
+use Rattle.encoding_rs.proofs.UnreadTextLemmas.{ends_between, chars_unread}
+use Rattle.encoding_rs.proofs.EncoderProgressLemmas.{reports_on}
 use Rattle.encoding_rs.proofs.encoder.Encoder.encode_from_utf8_without_replacement.Goals as goal
 
 pub returns-clause-need : goal.returns-clause-need

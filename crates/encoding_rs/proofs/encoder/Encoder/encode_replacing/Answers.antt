@@ -2,11 +2,11 @@ use Rattle.std.proofs.Common.{◌∙◌, sym, true, false}
 use Rattle.encoding_rs.proofs.EncoderLemmas.{kept_by, encodes_by}
 use Rattle.encoding_rs.proofs.encoder.Encoder.encode_replacing.Goals as goal
 
-pub returns-then-has_every : goal.returns-then-has_every
-returns-then-has_every g c =
+pub returns-then-maps_every_character : goal.returns-then-maps_every_character
+returns-then-maps_every_character g c =
     let v = c.self.inside in
-    let made = c.encode_all-stop.ensures in
-    let every = rw (← c.self.view_is) at (sym c.has_every.ensures ∙ c.if-has_every.true) in
+    let made = c.encode_mappable-stop.ensures in
+    let every = rw (← c.self.view_is) at (sym c.maps_every_character.ensures ∙ c.if-maps_every_character.true) in
     rw (← c.self.view_is) (record {
       within = made.within;
       behind = made.behind;
@@ -17,7 +17,7 @@ pub returns : goal.returns
 returns g c =
     let v = c.self.inside in
     let made = c.encode_replacing.ensures in
-    let every = rw (← c.self.view_is) at (sym c.has_every.ensures ∙ c.if-has_every.false) in
+    let every = rw (← c.self.view_is) at (sym c.maps_every_character.ensures ∙ c.if-maps_every_character.false) in
     rw (← c.self.view_is) (record {
       within = made.within;
       behind = made.behind;

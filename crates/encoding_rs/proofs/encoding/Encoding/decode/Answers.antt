@@ -1,6 +1,6 @@
 use Rattle.std.proofs.Common.{sym, ◌∙◌}
 use Rattle.encoding_rs.specs.Bom.{marks, find_mark}
-use Rattle.encoding_rs.proofs.OneShotLemmas.{told_by, told_none}
+use Rattle.encoding_rs.proofs.OneShotDecodeLemmas.{told_by, told_none}
 use Rattle.encoding_rs.proofs.encoding.Encoding.decode.Goals as goal
 use Rattle.encoding_rs.proofs.encoding.Encoding.decode.Goals.{in-Some, in-None}
 

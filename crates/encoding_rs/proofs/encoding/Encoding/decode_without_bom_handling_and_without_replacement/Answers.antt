@@ -3,7 +3,7 @@ use Rattle.std.specs.String.{string_bytes}
 use Rattle.enc_machine.proofs.ByteLemmas.{bytes_of_slice}
 use Rattle.encoding_rs.specs.declared.bom.BomHandling.TheVariants.{Off}
 use Rattle.encoding_rs.specs.Decoding.{HasDecoded}
-use Rattle.encoding_rs.proofs.OneShotLemmas.{nothing, none_decoded, none_strict, strict_end, strict_report, never_full}
+use Rattle.encoding_rs.proofs.OneShotDecodeLemmas.{nothing, none_decoded, none_strict, strict_end, strict_report, never_full}
 use Rattle.encoding_rs.proofs.encoding.Encoding.decode_without_bom_handling_and_without_replacement.Goals as goal
 
 pub returns-then-is_empty-clause-text : goal.returns-then-is_empty-clause-text

@@ -2,9 +2,9 @@ use Rattle.std.proofs.Common.{rules, ◌≡◌, ◌≤◌, ◌-◌, ◌∙◌, [
 use Rattle.std.proofs.lemmas.List.{take-append-drop}
 use Rattle.std.specs.Vec.{vec_len, vec_capacity}
 use Rattle.enc_calls.specs.declared.coder_result.CoderResult.TheVariants.{InputEmpty}
-use Rattle.encoding_rs.proofs.OneShotLemmas.{nothing}
-use Rattle.encoding_rs.proofs.UnreadLemmas.{no_chars}
-use Rattle.encoding_rs.proofs.WrittenLemmas.{none_written, none_asked, nothing_written, written_on, flagged_on, written_all, flagged_all}
+use Rattle.encoding_rs.proofs.OneShotDecodeLemmas.{nothing}
+use Rattle.encoding_rs.proofs.UnreadTextLemmas.{no_chars}
+use Rattle.encoding_rs.proofs.OneShotEncodeLemmas.{none_written, none_asked, nothing_written, written_on, flagged_on, written_all, flagged_all}
 use Rattle.encoding_rs.proofs.encoding.Encoding.encode.Goals as goal
 
 pub calls-init : goal.calls-init

@@ -1,0 +1,89 @@
+-- Texts are read back where each character is, in encodings without escape sequences.
+use Rattle.std.proofs.Common.{◌≡◌, ℕ, ◌<◌, ◌≤◌, Bool, true, false, nat_lt, cond, not, is_some, Option, Some, None, List, [], ◌∷◌, ◌++◌, map, refl, ap, subst, ◌∙◌, arith}
+use Rattle.std.proofs.lemmas.Bool.{or_parts}
+use Rattle.std.proofs.lemmas.Bool.Decides.{nat_tests}
+use Rattle.std.specs.Char.{IsScalar}
+use Rattle.std.specs.Cmp.{first_so, second_so}
+use Rattle.enc_units.specs.Output.{AreScalars}
+use Rattle.enc_machine.specs.Sequence.{sequence_text, any_malformed}
+use Rattle.enc_machine.specs.Segmentation.{Rule, sequences_of}
+use Rattle.enc_machine.specs.Taking.{IsWholeChar}
+use Rattle.enc_machine.proofs.SegmentationLemmas.{sequences_of-nil}
+use Rattle.enc_encoders.specs.declared.character_set.CharacterSet.TheVariants.{Ascii}
+use Rattle.enc_encoders.specs.EncoderRule.{EncoderRule}
+use Rattle.enc_encoders.specs.Stateless.{stateless_rule, with_ascii}
+use Rattle.enc_encoders.specs.Text.{list_or_empty, bytes_after_text, bytes_of_text}
+use Rattle.enc_references.specs.Unmappable.{any_unmappable}
+
+-- no sequence of these bytes is malformed, and this is their text
+pub record IsReadAs (rule : Rule) (set : ℕ) (bytes chars : List ℕ) : Type 0 where
+  pub none_malformed : any_malformed (sequences_of rule set bytes) ≡ false
+  pub text : sequence_text (sequences_of rule set bytes) ≡ chars
+
+pub read_nothing : (rule : Rule) (set : ℕ) → IsReadAs rule set [] []
+read_nothing rule set = record { none_malformed = ap any_malformed (sequences_of-nil rule set); text = ap sequence_text (sequences_of-nil rule set) }
+
+-- a character, and what is behind it
+pub read_more : (rule : Rule) (set : ℕ) (b : List ℕ) (c : ℕ) (y t : List ℕ) → IsWholeChar rule set b c → IsReadAs rule set y t → IsReadAs rule set (b ++ y) (c ∷ t)
+read_more rule set b c y t p h = record {
+  none_malformed = ap any_malformed (p y) ∙ h.none_malformed;
+  text = ap sequence_text (p y) ∙ ap (λ x. c ∷ x) h.text;
+}
+
+-- the first character of a text without an unmappable one has bytes, and there is none behind it
+
+is_mapped : (b : Bool) → not b ≡ false → b ≡ true
+is_mapped true h = refl
+is_mapped false h = cc
+
+pub first_mapped : (e : EncoderRule) (c : ℕ) (t : List ℕ) → any_unmappable e (c ∷ t) ≡ false → (is_some (e.bytes c) ≡ true) × (any_unmappable e t ≡ false)
+first_mapped e c t h =
+    let p = or_parts (not (is_some (e.bytes c))) (any_unmappable e t) h in
+    (is_mapped (is_some (e.bytes c)) p.0, p.1)
+
+-- the bytes of each character are read as one character, whatever follows them
+pub record IsReadBack (rule : Rule) (bytes : ℕ → Option (List ℕ)) (back : ℕ → ℕ) : Type 0 where
+  pub each : (c : ℕ) → IsScalar c → (b : List ℕ) → bytes c ≡ Some b → IsWholeChar rule 0 b (back c)
+
+module _ (rule : Rule) (bytes : ℕ → Option (List ℕ)) (back : ℕ → ℕ) (h : IsReadBack rule bytes back) where
+  one : (c : ℕ) (b : Option (List ℕ)) → bytes c ≡ b → is_some b ≡ true → IsScalar c → IsWholeChar rule 0 (list_or_empty b) (back c)
+  one c None e m s = cc
+  one c (Some b) e m s = h.each c s b e
+
+  behind_is_read : (u t : List ℕ) → AreScalars t → any_unmappable (stateless_rule bytes) t ≡ false → IsReadAs rule 0 (bytes_after_text (stateless_rule bytes) Ascii u t) (map back t)
+  behind_is_read u [] s m = read_nothing rule 0
+  behind_is_read u (c ∷ t) s m =
+      let f = first_mapped (stateless_rule bytes) c t m in
+      read_more rule 0 (list_or_empty (bytes c)) (back c) (bytes_after_text (stateless_rule bytes) Ascii (u ++ c ∷ []) t) (map back t)
+      (one c (bytes c) refl f.0 (first_so _ _ s)) (behind_is_read (u ++ c ∷ []) t (second_so _ _ s) f.1)
+
+  -- and so is a text
+  pub text_is_read : (t : List ℕ) → AreScalars t → any_unmappable (stateless_rule bytes) t ≡ false → IsReadAs rule 0 (bytes_of_text (stateless_rule bytes) Ascii t) (map back t)
+  text_is_read t s m = behind_is_read [] t s m
+
+-- by cases
+
+pub by_test : {P : Type 0} (t : Bool) (x y : Option (List ℕ)) (b : List ℕ) → (t ≡ true → x ≡ Some b → P) → (t ≡ false → y ≡ Some b → P) → cond t x y ≡ Some b → P
+by_test true x y b f g e = f refl e
+by_test false x y b f g e = g refl e
+
+pub same_bytes : (P : List ℕ → Type 0) (a b : List ℕ) → P a → Some a ≡ Some b → P b
+same_bytes P a b p e = let f : a ≡ b = cc in subst P f p
+
+pub no_bytes : {P : Type 0} (b : List ℕ) → None ≡ Some b → P
+no_bytes b e = cc
+
+-- ASCII, and the characters beyond it
+pub with_ascii_is_read : (rule : Rule) (others : ℕ → Option (List ℕ)) (back : ℕ → ℕ) → ((c : ℕ) → c < 0x80 → IsWholeChar rule 0 (c ∷ []) (back c))
+    → ((c : ℕ) (b : List ℕ) → 0x80 ≤ c → others c ≡ Some b → IsWholeChar rule 0 b (back c)) → IsReadBack rule (with_ascii others) back
+with_ascii_is_read rule others back ascii beyond = record {
+  each = λ c s b e. by_test (nat_lt c 0x80) (Some (c ∷ [])) (others c) b
+      (λ t f. same_bytes (λ x. IsWholeChar rule 0 x (back c)) (c ∷ []) b (ascii c (grind (arith, nat_tests))) f)
+      (λ t f. beyond c b (grind (arith, nat_tests)) f)
+      e;
+}
+
+-- the same bytes, read as the same character
+pub same_char : (rule : Rule) (set : ℕ) (b : List ℕ) (c d : ℕ) → c ≡ d → IsWholeChar rule set b c
+    → IsWholeChar rule set b d
+same_char rule set b c d e p = subst (IsWholeChar rule set b) e p
