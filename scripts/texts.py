@@ -1,18 +1,9 @@
-"""Texts to recode, and what they are in UTF-8 by Python's codecs.
+"""Texts to recode, for scripts/round-trips: lines for each encoding, with Python's codec of it.
 
-texts.py ENCODING MIB INPUT WANT    writes a text in the encoding to INPUT, and the same in UTF-8 to WANT
-texts.py --to ENCODING MIB INPUT WANT    the other way round: in UTF-8 to INPUT, and in the encoding to WANT
-texts.py --behind MARK MIB INPUT WANT    the same, in the encoding that the mark tells, behind it
-texts.py --encodings    each encoding with iconv's name for it, or - where it has none
-texts.py --outputs    the same of those that are written, and not UTF-8 in their place
-
-A text is a block of lines, again and again, up to so many MiB of input: a line of ASCII, and behind it real text
-in languages that the encoding is for. Most of it is the first article of the Universal Declaration of Human
-Rights. It has characters on which Python, iconv and the Encoding Standard agree. So there are no combining marks
-in Hebrew and Vietnamese, which iconv composes. Texts to be encoded have none that the Encoding Standard only decodes.
+A text is a line of ASCII, and after it real text in languages that the encoding is for. Most of it is the first article
+of the Universal Declaration of Human Rights. It has characters on which Python and the Encoding Standard agree. Texts to
+be encoded have none that the Encoding Standard only decodes.
 """
-
-import sys
 
 ENGLISH = "The quick brown fox jumps over the lazy dog, 1234567890 times.\n"
 GERMAN = "Zwölf Boxkämpfer jagen Viktor quer über den großen Sylter Deich.\n"
@@ -117,58 +108,51 @@ X_USER_DEFINED = "".join(map(chr, range(0xF780, 0xF800))) + "\n"
 # lines with characters that the Encoding Standard decodes and doesn't encode: additions for Hong Kong, and JIS X 0212
 DECODED_ALONE = {"big5": "佢哋搭𨋢。\n", "euc-jp": "森鷗外\n"}
 
-# label: (Python's codec, iconv's name, the text behind a line of ASCII)
+# label: (Python's codec, the text after a line of ASCII)
 ENCODINGS = {
-    "utf-8": ("utf-8", "utf-8", MIXED),
-    "utf-16be": ("utf-16-be", "utf-16be", MIXED),
-    "utf-16le": ("utf-16-le", "utf-16le", MIXED),
-    "ibm866": ("cp866", "ibm866", RUSSIAN),
-    "iso-8859-2": ("iso8859_2", "iso-8859-2", CZECH + POLISH),
-    "iso-8859-3": ("iso8859_3", "iso-8859-3", ESPERANTO + MALTESE),
-    "iso-8859-4": ("iso8859_4", "iso-8859-4", LATVIAN + LITHUANIAN),
-    "iso-8859-5": ("iso8859_5", "iso-8859-5", SERBIAN + RUSSIAN),
-    "iso-8859-6": ("iso8859_6", "iso-8859-6", ARABIC),
-    "iso-8859-7": ("iso8859_7", "iso-8859-7", GREEK),
-    "iso-8859-8": ("iso8859_8", "iso-8859-8", HEBREW),
-    "iso-8859-8-i": ("iso8859_8", "iso-8859-8", HEBREW),
-    "iso-8859-10": ("iso8859_10", "iso-8859-10", NORDIC),
-    "iso-8859-13": ("iso8859_13", "iso-8859-13", LITHUANIAN + LATVIAN),
-    "iso-8859-14": ("iso8859_14", "iso-8859-14", CELTIC),
-    "iso-8859-15": ("iso8859_15", "iso-8859-15", FRENCH + "Le cœur de l'œuvre, 12 €.\n"),
-    "iso-8859-16": ("iso8859_16", "iso-8859-16", ROMANIAN),
-    "koi8-r": ("koi8_r", "koi8-r", RUSSIAN),
-    "koi8-u": ("koi8_u", "koi8-u", UKRAINIAN),
-    "macintosh": ("mac_roman", "macintosh", FRENCH + "“Le cœur de l’œuvre”, 12 €.\n"),
-    "windows-874": ("cp874", "cp874", THAI),
-    "windows-1250": ("cp1250", "cp1250", POLISH + CZECH),
-    "windows-1251": ("cp1251", "cp1251", RUSSIAN + UKRAINIAN),
-    "windows-1252": ("cp1252", "cp1252", FRENCH + GERMAN + "“Le cœur de l’œuvre”, 12 €.\n"),
-    "windows-1253": ("cp1253", "cp1253", GREEK),
-    "windows-1254": ("cp1254", "cp1254", TURKISH),
-    "windows-1255": ("cp1255", "cp1255", HEBREW),
-    "windows-1256": ("cp1256", "cp1256", ARABIC),
-    "windows-1257": ("cp1257", "cp1257", LATVIAN + LITHUANIAN),
-    "windows-1258": ("cp1258", "cp1258", VIETNAMESE),
-    "x-mac-cyrillic": ("mac_cyrillic", "mac-uk", UKRAINIAN + RUSSIAN),
-    "x-user-defined": ("x-user-defined", "-", X_USER_DEFINED),
-    "gbk": ("gbk", "gbk", CHINESE),
-    "gb18030": ("gb18030", "gb18030", CHINESE + "€ £ 🐈 𠀋\n"),
-    "big5": ("big5hkscs", "big5-hkscs", CHINESE_TRADITIONAL + DECODED_ALONE["big5"]),
-    "euc-jp": ("euc_jp", "euc-jp", JAPANESE + KANA + HALF_WIDTH + DECODED_ALONE["euc-jp"]),
-    "iso-2022-jp": ("iso2022_jp", "iso-2022-jp", JAPANESE + KANA),
-    "shift_jis": ("cp932", "cp932", JAPANESE + KANA + HALF_WIDTH),
-    "euc-kr": ("cp949", "cp949", KOREAN + "똠방각하\n"),
+    "utf-8": ("utf-8", MIXED),
+    "utf-16be": ("utf-16-be", MIXED),
+    "utf-16le": ("utf-16-le", MIXED),
+    "ibm866": ("cp866", RUSSIAN),
+    "iso-8859-2": ("iso8859_2", CZECH + POLISH),
+    "iso-8859-3": ("iso8859_3", ESPERANTO + MALTESE),
+    "iso-8859-4": ("iso8859_4", LATVIAN + LITHUANIAN),
+    "iso-8859-5": ("iso8859_5", SERBIAN + RUSSIAN),
+    "iso-8859-6": ("iso8859_6", ARABIC),
+    "iso-8859-7": ("iso8859_7", GREEK),
+    "iso-8859-8": ("iso8859_8", HEBREW),
+    "iso-8859-8-i": ("iso8859_8", HEBREW),
+    "iso-8859-10": ("iso8859_10", NORDIC),
+    "iso-8859-13": ("iso8859_13", LITHUANIAN + LATVIAN),
+    "iso-8859-14": ("iso8859_14", CELTIC),
+    "iso-8859-15": ("iso8859_15", FRENCH + "Le cœur de l'œuvre, 12 €.\n"),
+    "iso-8859-16": ("iso8859_16", ROMANIAN),
+    "koi8-r": ("koi8_r", RUSSIAN),
+    "koi8-u": ("koi8_u", UKRAINIAN),
+    "macintosh": ("mac_roman", FRENCH + "“Le cœur de l’œuvre”, 12 €.\n"),
+    "windows-874": ("cp874", THAI),
+    "windows-1250": ("cp1250", POLISH + CZECH),
+    "windows-1251": ("cp1251", RUSSIAN + UKRAINIAN),
+    "windows-1252": ("cp1252", FRENCH + GERMAN + "“Le cœur de l’œuvre”, 12 €.\n"),
+    "windows-1253": ("cp1253", GREEK),
+    "windows-1254": ("cp1254", TURKISH),
+    "windows-1255": ("cp1255", HEBREW),
+    "windows-1256": ("cp1256", ARABIC),
+    "windows-1257": ("cp1257", LATVIAN + LITHUANIAN),
+    "windows-1258": ("cp1258", VIETNAMESE),
+    "x-mac-cyrillic": ("mac_cyrillic", UKRAINIAN + RUSSIAN),
+    "x-user-defined": ("x-user-defined", X_USER_DEFINED),
+    "gbk": ("gbk", CHINESE),
+    "gb18030": ("gb18030", CHINESE + "€ £ 🐈 𠀋\n"),
+    "big5": ("big5hkscs", CHINESE_TRADITIONAL + DECODED_ALONE["big5"]),
+    "euc-jp": ("euc_jp", JAPANESE + KANA + HALF_WIDTH + DECODED_ALONE["euc-jp"]),
+    "iso-2022-jp": ("iso2022_jp", JAPANESE + KANA),
+    "shift_jis": ("cp932", JAPANESE + KANA + HALF_WIDTH),
+    "euc-kr": ("cp949", KOREAN + "똠방각하\n"),
 }
 
 # UTF-8 is written in their place
 NOT_WRITTEN = ("utf-16be", "utf-16le")
-
-# the encoding that each mark tells, with its bytes
-MARKS = {
-    "efbbbf": "utf-8",
-    "feff": "utf-16be",
-    "fffe": "utf-16le",
-}
 
 
 def encode(codec, text):
@@ -186,47 +170,5 @@ def decode(codec, data):
 
 def lines(label, to_encode=False):
     """Lines for the encoding."""
-    more = ENCODINGS[label][2]
+    more = ENCODINGS[label][1]
     return ENGLISH + (more.replace(DECODED_ALONE.get(label, "\0"), "") if to_encode else more)
-
-
-def block(label, to_encode=False):
-    """Lines in the encoding, and what they are in UTF-8."""
-    codec = ENCODINGS[label][0]
-    data = encode(codec, lines(label, to_encode))
-    return data, decode(codec, data).encode("utf-8")
-
-
-def write(path, front, data, count):
-    with open(path, "wb") as file:
-        file.write(front)
-        for _ in range(count):
-            file.write(data)
-
-
-def main(arguments):
-    if arguments in (["--encodings"], ["--outputs"]):
-        for label, (_, name, _) in ENCODINGS.items():
-            if arguments == ["--encodings"] or label not in NOT_WRITTEN:
-                print(label, name)
-        return
-    mark = ""
-    to_encode = arguments[0] == "--to"
-    if to_encode:
-        arguments = arguments[1:]
-    elif arguments[0] == "--behind":
-        mark = arguments[1]
-        arguments = [MARKS[mark]] + arguments[2:]
-    label, mib, source, want = arguments
-    data, text = block(label, to_encode)
-    # a block of many lines is written at once
-    lines_of_block = max(1, (1 << 16) // len(data))
-    count = max(1, int(float(mib) * (1 << 20)) // (len(data) * lines_of_block))
-    if to_encode:
-        data, text = text, data
-    write(source, bytes.fromhex(mark), data * lines_of_block, count)
-    write(want, b"", text * lines_of_block, count)
-
-
-if __name__ == "__main__":
-    main(sys.argv[1:])
