@@ -1,4 +1,4 @@
-"""The codecs that crates/enc_codec/src/codec.rt names, and where each is found. For scripts/size and scripts/documents."""
+"""The codecs that crates/enc_codec/src/codec.rt names, and where each is found. For scripts/documents."""
 
 import glob
 import os
@@ -39,11 +39,6 @@ class Decoder:
 
     def rule(self):
         return f"crates/{self.crate}/specs/{RULE_OF.get(self.name, self.name)}.antt"
-
-    def names_it(self, line):
-        """Whether a line of another file names it."""
-        word = rf"\b{self.name}(Decoder|State|Lemmas|Rule|Be|Le)?\b|\b{self.module}\w*\b|\b{self.module.upper()}\w*\b"
-        return re.search(word, line) is not None
 
 
 def codec_names():
