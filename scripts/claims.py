@@ -96,6 +96,7 @@ def passed_on(modules):
 
 
 def functions_of(crate):
+    """The functions of a crate, but those that are public within it alone."""
     modules = sources(crate)
     shown = passed_on(modules)
     for module, text in modules:
@@ -167,7 +168,7 @@ class Claims:
     def add(self, cells):
         functions, clauses = (cell.split(";") for cell in cells[-2:])
         if len(cells) != 3 or len(functions) != len(clauses) or not all(map(LABEL.search, clauses)):
-            self.wrong.append(f"the cells don't have the parts that they should have: {cells[0]}")
+            self.wrong.append(f"a row has three cells, and clauses for each part of its functions: {cells[0]}")
         for part, labels in zip(functions, clauses):
             for function in self.functions_in(part):
                 self.add_clauses(function, labels)
