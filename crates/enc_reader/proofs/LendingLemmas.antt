@@ -39,7 +39,8 @@ own_first : (rule : Rule) → IsAsciiCompatible rule → (bs z : List ℕ) → A
 own_first rule c [] z a = refl
 own_first rule c (b ∷ bs) z a =
     c b (a 0 0 (omega arith)) (bs ++ z)
-    ∙ ap (λ ss. record { bytes = b ∷ []; text = b ∷ []; kind = Valid; set = 0 } ∷ ss) (own_first rule c bs z (λ k d h. a (suc k) d (omega arith)))
+    ∙ ap (λ ss. record { bytes = b ∷ []; text = b ∷ []; kind = Valid; set = 0 } ∷ ss)
+    (own_first rule c bs z (λ k d h. a (suc k) d (omega arith)))
 
 module _ (d : DecoderState) (m : DecoderMayBeLatin1 d) where
   between_sequences : (y : List ℕ) → remaining_sequences d y ≡ sequences_of (rule_of d.encoding) 0 y
@@ -55,7 +56,8 @@ module _ (d : DecoderState) (m : DecoderMayBeLatin1 d) where
   unfinished = ap has_ended m.converting
 
 -- what is lent of a chunk
-module _ (d : DecoderState) (src : List ℕ) (ended : Bool) (n : ℕ) (within : n ≤ length src) (o : IsOwnText d (take n src)) where
+module _ (d : DecoderState) (src : List ℕ) (ended : Bool) (n : ℕ) (within : n ≤ length src)
+    (o : IsOwnText d (take n src)) where
   abbrev before : ReaderState
   before = record { decoder = d; unread = src; ended = ended }
 
@@ -70,62 +72,82 @@ module _ (d : DecoderState) (src : List ℕ) (ended : Bool) (n : ℕ) (within : 
       ∙ own_first (rule_of d.encoding) o.compatible (take n src) (drop n src ++ z) o.ascii
       ∙ ap (λ ss. own (take n src) ++ ss) (sym (between_sequences d o.between (drop n src ++ z)))
 
-  pub ReadsOwed-lent : (told : Option (List ℕ)) → ReadsOwed told told before after [] (take n src) false
-  ReadsOwed-lent told = record {
-    given = ConsumesRemaining-none told;
+  pub ReadsOwed-lent : (source : Option (List ℕ)) → ReadsOwed source source before after [] (take n src) false
+  ReadsOwed-lent source = record {
+    given = ConsumesRemaining-none source;
     none_behind = λ e. (refl, e);
     done = own (take n src);
     residual = λ z h. comes_first z;
-    encoding = λ z h. no_mark d o.between (d.pending ++ (drop n src ++ z)) ∙ sym (no_mark d o.between (d.pending ++ (src ++ z)));
+    encoding = λ z h. no_mark d o.between (d.pending ++ (drop n src ++ z))
+        ∙ sym (no_mark d o.between (d.pending ++ (src ++ z)));
     scalars = subst AreScalars (sym (own_text (take n src))) (ascii_scalars (take n src) o.ascii);
     text = sym (ascii_units (take n src) o.ascii) ∙ ap (units_of_text encode_utf8) (sym (own_text (take n src)));
     flag = sym (own_valid (take n src));
-    nearer = omega (arith, before_end before (unfinished d o.between), before_end after (unfinished d o.between), length-drop n src, length-take n src);
+    nearer =
+        let going = unfinished d o.between in
+        omega (arith, before_end before going, before_end after going, length-drop n src, length-take n src);
   }
 
 or_false : (b : Bool) → b ≡ (b || false)
 or_false true = refl
 or_false false = refl
 
-pub HandsOut-lent : (told : Option (List ℕ)) (d : DecoderState) (src : List ℕ) (ended : Bool) (n : ℕ) (had : Bool) → n ≤ length src
-    → IsOwnText d (take n src) → (ended ≡ true → IsExhausted told)
-    → HandsOut told told (record { decoder = d; unread = src; ended = ended }) (record { decoder = d; unread = drop n src; ended = ended }) (take n src) had had
-HandsOut-lent told d src ended n had within o none = record {
+-- a reader, by its decoder and the bytes that are not decoded
+abbrev reader_with : DecoderState → Bool → List ℕ → ReaderState
+reader_with d ended unread = record { decoder = d; unread = unread; ended = ended }
+
+pub HandsOut-lent : (source : Option (List ℕ)) (d : DecoderState) (src : List ℕ) (ended : Bool) (n : ℕ) (had : Bool)
+    → n ≤ length src
+    → IsOwnText d (take n src) → (ended ≡ true → IsExhausted source)
+    → HandsOut source source (reader_with d ended src) (reader_with d ended (drop n src)) (take n src) had had
+HandsOut-lent source d src ended n had within o none = record {
   bytes = [];
   malformed = false;
-  reads = ReadsOwed-lent d src ended n within o told;
+  reads = ReadsOwed-lent d src ended n within o source;
   flag = or_false had;
   none_told = none;
 }
 
 -- the same, by places in the buffer
-pub HandsOut-chunk : (told : Option (List ℕ)) (d : DecoderState) (filled at n : ℕ) (xs : List ℕ) (ended had : Bool) → at ≤ filled → filled ≤ length xs
-    → n ≤ filled - at → IsOwnText d (take n (take (filled - at) (drop at xs))) → (ended ≡ true → IsExhausted told)
-    → HandsOut told told (record { decoder = d; unread = take (filled - at) (drop at xs); ended = ended })
-    (record { decoder = d; unread = take (filled - (at + n)) (drop (at + n) xs); ended = ended }) (take n (drop (at + n - n) xs)) had had
-HandsOut-chunk told d filled at n xs ended had h w within o none =
+pub HandsOut-chunk : (source : Option (List ℕ)) (d : DecoderState) (filled at n : ℕ) (xs : List ℕ) (ended had : Bool)
+    → at ≤ filled → filled ≤ length xs
+    → n ≤ filled - at → IsOwnText d (take n (take (filled - at) (drop at xs))) → (ended ≡ true → IsExhausted source)
+    → HandsOut source source (reader_with d ended (take (filled - at) (drop at xs)))
+    (reader_with d ended (take (filled - (at + n)) (drop (at + n) xs))) (take n (drop (at + n - n) xs)) had had
+HandsOut-chunk source d filled at n xs ended had h w within o none =
     let src : List ℕ = take (filled - at) (drop at xs) in
     let few : n ≤ length src = omega (arith, h, w, within, length-take (filled - at) (drop at xs), length-drop at xs) in
     let place : at ≡ at + n - n = omega arith in
-    let text : take n src ≡ take n (drop (at + n - n) xs) = take-take n (filled - at) (drop at xs) within ∙ ap (λ k. take n (drop k xs)) place in
-    subst (λ u. HandsOut told told (record { decoder = d; unread = src; ended = ended }) (record { decoder = d; unread = u; ended = ended }) (take n (drop (at + n - n) xs)) had had)
+    let text : take n src ≡ take n (drop (at + n - n) xs) =
+    take-take n (filled - at) (drop at xs) within ∙ ap (λ k. take n (drop k xs)) place in
+    subst (λ u. HandsOut source source (reader_with d ended src) (reader_with d ended u) (take n (drop (at + n - n) xs)) had had)
     (left_of filled at n xs h few)
-    (subst (λ t. HandsOut told told (record { decoder = d; unread = src; ended = ended }) (record { decoder = d; unread = drop n src; ended = ended }) t had had)
-    text (HandsOut-lent told d src ended n had few o none))
+    (subst (λ t. HandsOut source source (reader_with d ended src) (reader_with d ended (drop n src)) t had had)
+    text (HandsOut-lent source d src ended n had few o none))
 
-pub handed_is_utf_8 : (t₀ t : Option (List ℕ)) (a b : ReaderState) (wrote : List ℕ) (had_before had_after : Bool) → HandsOut t₀ t a b wrote had_before had_after → IsUtf8 wrote
+pub handed_is_utf_8 : (t₀ t : Option (List ℕ)) (a b : ReaderState) (wrote : List ℕ) (had_before had_after : Bool)
+    → HandsOut t₀ t a b wrote had_before had_after → IsUtf8 wrote
 handed_is_utf_8 t₀ t a b wrote had_before had_after h = handed_utf_8 t₀ t a b h.bytes wrote h.malformed h.reads
 
 -- a chunk that can't be pulled
-pub FailsToRead-pull : (t₀ t₁ : Option (List ℕ)) (failed_before failed_after : Bool) (a b : ReaderState) → t₁ ≡ t₀ → failed_after ≡ true → b ≡ a
+pub FailsToRead-pull : (t₀ t₁ : Option (List ℕ)) (failed_before failed_after : Bool) (a b : ReaderState)
+    → t₁ ≡ t₀ → failed_after ≡ true → b ≡ a
     → a.ended ≡ false → failed_before ≡ false → FailsToRead t₀ t₁ failed_before failed_after a b
 FailsToRead-pull t₀ t₁ failed_before failed_after a b same failed stays unended going =
     rw (same, stays)
-    (record { bytes = []; malformed = false; reads = ReadsOwed-none t₀ a; not_ended = unended; not_before = going; why = inl failed })
+    (record {
+      bytes = [];
+      malformed = false;
+      reads = ReadsOwed-none t₀ a;
+      not_ended = unended;
+      not_before = going;
+      why = inl failed;
+    })
 
 -- a read after a chunk was pulled
 module _ (t₀ t₁ t₂ : Option (List ℕ)) (a b c : ReaderState) (f : FillsBuffer t₀ t₁ a b) where
-  pub HandsOut-filled : (wrote : List ℕ) (had_before had_after : Bool) → HandsOut t₁ t₂ b c wrote had_before had_after → HandsOut t₀ t₂ a c wrote had_before had_after
+  pub HandsOut-filled : (wrote : List ℕ) (had_before had_after : Bool)
+      → HandsOut t₁ t₂ b c wrote had_before had_after → HandsOut t₀ t₂ a c wrote had_before had_after
   HandsOut-filled wrote had_before had_after h = record {
     bytes = f.bytes ++ h.bytes;
     malformed = h.malformed;
@@ -134,7 +156,8 @@ module _ (t₀ t₁ t₂ : Option (List ℕ)) (a b c : ReaderState) (f : FillsBu
     none_told = h.none_told;
   }
 
-  pub FailsToRead-filled : (failed_before failed_between failed_after : Bool) → failed_between ≡ failed_before → FailsToRead t₁ t₂ failed_between failed_after b c → FailsToRead t₀ t₂ failed_before failed_after a c
+  pub FailsToRead-filled : (failed_before failed_between failed_after : Bool) → failed_between ≡ failed_before
+      → FailsToRead t₁ t₂ failed_between failed_after b c → FailsToRead t₀ t₂ failed_before failed_after a c
   FailsToRead-filled failed_before failed_between failed_after e h = record {
     bytes = f.bytes ++ h.bytes;
     malformed = h.malformed;
