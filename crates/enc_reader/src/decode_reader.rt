@@ -73,7 +73,8 @@ fn decode_between(
     requires going { has_finished decoder.old ≡ false }
     requires before { at ≤ filled }
     requires within { filled ≤ length input.old }
-    ensures call { AnswersDecodeReplacing encode_utf8 4 decoder.old decoder.new (take (filled - at) (drop at input.old)) last (length dst.old)
+    ensures call { AnswersDecodeReplacing encode_utf8 4 decoder.old decoder.new
+        (take (filled - at) (drop at input.old)) last (length dst.old)
         result.0 result.1 (take result.2 dst.new) result.3 }
     ensures written { result.2 ≤ length dst.old }
     ensures behind { drop result.2 dst.new ≡ drop result.2 dst.old }
@@ -125,8 +126,10 @@ impl<'a, R: Source> DecodeReader<'a, R> {
     ) -> DecodeReader<'a, R>
         requires { 0 < length input.old }
         ensures fresh { state_of result ≡ fresh_reader (unwrap_or encoding UTF_8) }
-        ensures owed { (z : List ℕ) → owed_sequences (state_of result) z ≡ whole_sequences Sniff (unwrap_or encoding UTF_8) z }
-        ensures encoding { (z : List ℕ) → owed_encoding (state_of result) z ≡ whole_encoding Sniff (unwrap_or encoding UTF_8) z }
+        ensures owed { (z : List ℕ) → owed_sequences (state_of result) z ≡ whole_sequences Sniff
+            (unwrap_or encoding UTF_8) z }
+        ensures encoding { (z : List ℕ) → owed_encoding (state_of result) z ≡ whole_encoding Sniff
+            (unwrap_or encoding UTF_8) z }
         ensures failed { result.failed ≡ R.has_failed reader.old }
         ensures no_errors { result.had_errors ≡ false }
         ensures reader { result.reader.now ≡ reader.old }
@@ -150,7 +153,8 @@ impl<'a, R: Source> DecodeReader<'a, R> {
     fn pull(&mut self) -> Result<(), ReadFault>
         requires waiting { IsWaiting (state_of self.old) }
         requires going { self.old.failed ≡ false }
-        ensures ok { OnOk result (PullsChunk (R.remaining self.old.reader.now) (R.remaining self.new.reader.now) (state_of self.old) (state_of self.new)) }
+        ensures ok { OnOk result (PullsChunk (R.remaining self.old.reader.now) (R.remaining self.new.reader.now)
+            (state_of self.old) (state_of self.new)) }
         ensures kept { OnOk result (R.has_failed self.new.reader.now ≡ R.has_failed self.old.reader.now) }
         ensures going { OnOk result (self.new.failed ≡ self.old.failed) }
         ensures none_given { OnErr result (R.remaining self.new.reader.now ≡ R.remaining self.old.reader.now) }
@@ -174,7 +178,8 @@ impl<'a, R: Source> DecodeReader<'a, R> {
     /// Decodes what is unread, or the end, as far as there is room.
     fn decode(&mut self, dst: &mut [u8]) -> Turn
         requires room { 4 ≤ length dst.old }
-        ensures turn { IsTurn (state_of self.old) (state_of self.new) (take result.written dst.new) result.replaced result.waits }
+        ensures turn { IsTurn (state_of self.old) (state_of self.new)
+            (take result.written dst.new) result.replaced result.waits }
         ensures written { result.written ≤ length dst.new }
         ensures behind { drop result.written dst.new ≡ drop result.written dst.old }
         ensures waits { result.waits ≡ true → result.written ≡ 0 }
@@ -215,7 +220,8 @@ impl<'a, R: Source> DecodeReader<'a, R> {
     /// tried again), and `Failed` from then on. The bytes of `dst` behind those written stay. Takes no memory.
     pub fn read_str(&mut self, dst: &mut [u8]) -> Result<usize, ReadFault>
         requires { 4 ≤ length dst.old }
-        ensures ok { IfOk result (λ n. HandsOut (R.remaining self.old.reader.now) (R.remaining self.new.reader.now) (state_of self.old) (state_of self.new)
+        ensures ok { IfOk result (λ n. HandsOut (R.remaining self.old.reader.now) (R.remaining self.new.reader.now)
+            (state_of self.old) (state_of self.new)
             (take n dst.new) self.old.had_errors self.new.had_errors) }
         ensures within { IfOk result (λ n. n ≤ length dst.new) }
         ensures utf_8 { IfOk result (λ n. IsUtf8 (take n dst.new)) }
@@ -224,8 +230,10 @@ impl<'a, R: Source> DecodeReader<'a, R> {
         ensures kept { OnOk result (R.has_failed self.new.reader.now ≡ R.has_failed self.old.reader.now) }
         ensures unwritten { OnErr result (dst.new ≡ dst.old) }
         ensures no_error { OnErr result (self.new.had_errors ≡ self.old.had_errors) }
-        ensures reader_fault { IsErrOf result ReadFault.Reader → FailsToRead (R.remaining self.old.reader.now) (R.remaining self.new.reader.now)
-            (R.has_failed self.old.reader.now) (R.has_failed self.new.reader.now) (state_of self.old) (state_of self.new) }
+        ensures reader_fault { IsErrOf result ReadFault.Reader → FailsToRead (R.remaining self.old.reader.now)
+            (R.remaining self.new.reader.now)
+            (R.has_failed self.old.reader.now) (R.has_failed self.new.reader.now) (state_of self.old)
+            (state_of self.new) }
         ensures from_then_on { IsErrOf result ReadFault.Failed ↔ self.old.failed ≡ true }
         ensures unchanged { IsErrOf result ReadFault.Failed → self.new ≡ self.old }
         ensures going { OnOk result (self.new.failed ≡ false) }
@@ -256,11 +264,13 @@ impl<'a, R: Source> DecodeReader<'a, R> {
     /// the source has failed.
     fn fill(&mut self) -> Result<(), ReadFault>
         requires going { self.old.failed ≡ false }
-        ensures ok { OnOk result (FillsBuffer (R.remaining self.old.reader.now) (R.remaining self.new.reader.now) (state_of self.old) (state_of self.new)) }
+        ensures ok { OnOk result (FillsBuffer (R.remaining self.old.reader.now) (R.remaining self.new.reader.now)
+            (state_of self.old) (state_of self.new)) }
         ensures kept { OnOk result (R.has_failed self.new.reader.now ≡ R.has_failed self.old.reader.now) }
         ensures going { OnOk result (self.new.failed ≡ false) }
         ensures err { OnErr result (FailsToRead (R.remaining self.old.reader.now) (R.remaining self.new.reader.now)
-            (R.has_failed self.old.reader.now) (R.has_failed self.new.reader.now) (state_of self.old) (state_of self.new)) }
+            (R.has_failed self.old.reader.now) (R.has_failed self.new.reader.now) (state_of self.old)
+            (state_of self.new)) }
         ensures failed { OnErr result (self.new.failed ≡ true) }
         ensures fault { IfErr result (λ fault. fault ≡ ReadFault.Reader) }
         ensures had_errors { self.new.had_errors ≡ self.old.had_errors }
@@ -297,18 +307,22 @@ impl<'a, R: Source> DecodeReader<'a, R> {
     /// are those of `read_str`. Takes no memory.
     pub fn read_or_lend(&mut self, dst: &mut [u8]) -> Result<HandedText, ReadFault>
         requires { 4 ≤ length dst.old }
-        ensures ok { IfOk result (λ handed. HandsOut (R.remaining self.old.reader.now) (R.remaining self.new.reader.now) (state_of self.old) (state_of self.new)
+        ensures ok { IfOk result (λ handed. HandsOut (R.remaining self.old.reader.now)
+            (R.remaining self.new.reader.now) (state_of self.old) (state_of self.new)
             (handed_text self.new dst.new handed) self.old.had_errors self.new.had_errors) }
         ensures at_hand { IfOk result (λ handed. IsAtHand self.new dst.new handed) }
         ensures utf_8 { IfOk result (λ handed. IsUtf8 (handed_text self.new dst.new handed)) }
-        ensures end { IfOk result (λ handed. handed_text self.new dst.new handed ≡ [] → IsReaderAtEnd (R.remaining self.new.reader.now) (state_of self.new)) }
+        ensures end { IfOk result (λ handed. handed_text self.new dst.new handed ≡ [] → IsReaderAtEnd
+            (R.remaining self.new.reader.now) (state_of self.new)) }
         ensures rest { IfOk result (λ handed. drop (written_len handed) dst.new ≡ drop (written_len handed) dst.old) }
         ensures length { length dst.new ≡ length dst.old }
         ensures kept { OnOk result (R.has_failed self.new.reader.now ≡ R.has_failed self.old.reader.now) }
         ensures unwritten { OnErr result (dst.new ≡ dst.old) }
         ensures no_error { OnErr result (self.new.had_errors ≡ self.old.had_errors) }
-        ensures reader_fault { IsErrOf result ReadFault.Reader → FailsToRead (R.remaining self.old.reader.now) (R.remaining self.new.reader.now)
-            (R.has_failed self.old.reader.now) (R.has_failed self.new.reader.now) (state_of self.old) (state_of self.new) }
+        ensures reader_fault { IsErrOf result ReadFault.Reader → FailsToRead (R.remaining self.old.reader.now)
+            (R.remaining self.new.reader.now)
+            (R.has_failed self.old.reader.now) (R.has_failed self.new.reader.now) (state_of self.old)
+            (state_of self.new) }
         ensures from_then_on { IsErrOf result ReadFault.Failed ↔ self.old.failed ≡ true }
         ensures unchanged { IsErrOf result ReadFault.Failed → self.new ≡ self.old }
         ensures going { OnOk result (self.new.failed ≡ false) }
