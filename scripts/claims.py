@@ -23,7 +23,7 @@ from tree import CRATES, crates, read
 CLAIMS = "docs/PROVED.md"
 
 # Crates and traits all of whose public clauses are claims.
-CRATES_CLAIMED = ("encoding_rs", "enc_reader", "enc_recode")
+CRATES_CLAIMED = ("enc_stream", "encoding_rs", "enc_reader", "recode_engine")
 TRAITS_CLAIMED = ("Units", "Chars", "RawDecoder", "RawEncoder", "Source", "Sink")
 
 UNLABELLED = "its clause"
@@ -31,7 +31,7 @@ UNLABELLED = "its clause"
 CONTRACT = re.compile(r"\n +(?=(?:requires|ensures) )|\{\}?\n|;\n")
 CLAUSE = re.compile(r"\s*(?://.*\s+)*(requires|ensures) (\w+ )?(?=\{)")
 LABEL = re.compile(r"(?:`(\w+)`|(its clause|every clause))(?: \((.*?)\))?")
-DEFINITION = re.compile(r"(?:(?:abbrev|unfoldable|pub|record|data) )+(?!mod )([^\s:({]+)")
+DEFINITION = re.compile(r"(?:(?:abbrev|unfoldable|pub|record|data) )+(?!mod |use )([^\s:({]+)")
 
 
 @dataclass(eq=False)

@@ -1,6 +1,7 @@
 """The list of encodings in data/encodings.txt. For the scripts that go through them."""
 
 import os
+import re
 import sys
 from typing import NamedTuple
 
@@ -22,7 +23,7 @@ class Encoding(NamedTuple):
 
     @property
     def ident(self):
-        """Its variant of `Id`."""
+        """Its variant of `EncodingId`."""
         return "".join(part.capitalize() for part in self.constant.split("_"))
 
     @property
@@ -107,3 +108,20 @@ def pairs_of(encodings):
 def single_byte_of(encodings):
     """The legacy single-byte encodings: those that have an index."""
     return [it for it in encodings if it.index]
+
+
+def wrapped(words, indent, separator, end, width=100):
+    """Words in lines: `separator` stands between two, and `end` at the end of each line but the last."""
+    lines, line = [], ""
+    for word in words:
+        longer = f"{line}{separator}{word}" if line else word
+        if line and len(indent) + len(longer) + len(end) > width:
+            lines.append(line)
+            longer = word
+        line = longer
+    return (end + "\n").join(indent + it for it in [*lines, line])
+
+
+def natural(word):
+    """The order of names in an import, as rt fmt has it: numbers by their value, and _ before letters."""
+    return [(0, int(it), "") if it.isdigit() else (1, 0, it.replace("_", " ")) for it in re.findall(r"\d+|\D+", word)]

@@ -5,6 +5,9 @@ of the Universal Declaration of Human Rights. It has characters on which Python 
 be encoded have none that the Encoding Standard only decodes.
 """
 
+from codec_list import read_lists, sequences_of
+from encoding_list import read_list
+
 ENGLISH = "The quick brown fox jumps over the lazy dog, 1234567890 times.\n"
 GERMAN = "Zwölf Boxkämpfer jagen Viktor quer über den großen Sylter Deich.\n"
 KANA = "いろはにほへと ちりぬるを わかよたれそ つねならむ。「カタカナ」・「一」\n"
@@ -151,6 +154,15 @@ ENCODINGS = {
     "euc-kr": ("cp949", KOREAN + "똠방각하\n"),
 }
 
+# Encodings of two bytes that have no text above: the bytes of each character. Their texts are the characters that
+# data/codecs.txt has for tests.
+BY_INDEX = {}
+for pairs in read_lists().pairs:
+    label = next(it.name.lower() for it in read_list() if it.codec == pairs.decoder)
+    if label not in ENCODINGS:
+        BY_INDEX[label] = {character: data for data, character in reversed(sequences_of(pairs)) if character}
+        ENCODINGS[label] = (label, "".join(character for character, _ in pairs.characters) + "\n")
+
 # UTF-8 is written in their place
 NOT_WRITTEN = ("utf-16be", "utf-16le")
 
@@ -159,13 +171,27 @@ def encode(codec, text):
     """No other converter here knows x-user-defined: a byte from 80 on is the character that is F700 more."""
     if codec == "x-user-defined":
         return bytes(ord(character) % 0xF700 for character in text)
+    if codec in BY_INDEX:
+        return b"".join(BY_INDEX[codec].get(it) or it.encode("ascii") for it in text)
     return text.encode(codec)
 
 
 def decode(codec, data):
     if codec == "x-user-defined":
         return "".join(chr(byte if byte < 0x80 else 0xF700 + byte) for byte in data)
+    if codec in BY_INDEX:
+        return decoded_by_index({two: character for character, two in BY_INDEX[codec].items()}, data)
     return data.decode(codec)
+
+
+def decoded_by_index(characters, data):
+    """The text of ASCII and pairs of bytes."""
+    text, place = "", 0
+    while place < len(data):
+        width = 1 if data[place] < 0x80 else 2
+        text += characters[data[place : place + 2]] if width == 2 else chr(data[place])
+        place += width
+    return text
 
 
 def lines(label, to_encode=False):

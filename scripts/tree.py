@@ -1,14 +1,13 @@
-"""The codecs that crates/enc_codec/src/codec.rt names, and where each is found. For scripts/documents."""
+"""The decoders of data/codecs.txt, and where each is found. For scripts/documents."""
 
 import glob
 import os
 import re
 
-TOP = os.path.dirname(os.path.dirname(os.path.abspath(__file__)))
-CRATES = os.path.join(TOP, "crates")
+from codec_list import read_lists
+from encoding_list import TOP
 
-# Codecs that have the decoder of another name.
-DECODER_OF = {"Utf16Be": "Utf16", "Utf16Le": "Utf16", "Gbk": "Gb18030"}
+CRATES = os.path.join(TOP, "crates")
 
 # Codecs whose rule is in a file of another name: each byte stands alone.
 RULE_OF = {"SingleByte": "OneByte", "XUserDefined": "OneByte"}
@@ -22,9 +21,10 @@ def read(path):
 class Decoder:
     """A decoder, by the name that its codecs have in the code."""
 
-    def __init__(self, name):
+    def __init__(self, name, codecs):
         self.name = name
-        self.codecs = []
+        self.codecs = [it.name for it in codecs]
+        self.encoder = codecs[0].encoder
         sources = [path for family in families() for path in glob.glob(f"{CRATES}/{family}/src/*.rt")]
         found = [path for path in sources if os.path.basename(path)[:-3].replace("_", "") == name.lower()]
         self.source = os.path.relpath(found[0], TOP) if len(found) == 1 else None
@@ -41,28 +41,21 @@ class Decoder:
         return f"crates/{self.crate}/specs/{RULE_OF.get(self.name, self.name)}.antt"
 
 
-def codec_names():
-    """The variants of `Codec`."""
-    body = re.search(r"pub enum Codec \{(.*?)\n\}", read("crates/enc_codec/src/codec.rt"), re.S)[1]
-    return re.findall(r"^    (\w+)", body, re.M)
-
-
 def decoders():
     """Each decoder once, in the order of the codecs."""
     found = {}
-    for codec in codec_names():
-        name = DECODER_OF.get(codec, codec)
-        found.setdefault(name, Decoder(name)).codecs.append(codec)
-    return list(found.values())
+    for codec in read_lists().codecs:
+        found.setdefault(codec.decoder, []).append(codec)
+    return [Decoder(*it) for it in found.items()]
 
 
 def crates():
     """The crates, lowest first, each with those that it may name."""
-    lines = [line.partition(":") for line in read("crates.txt").splitlines() if line]
-    return {name: named.split() for name, _, named in lines}
+    lines = re.findall(r"^(\w+) *:(.*)$", read("crates.txt"), re.M)
+    return {name: named.split() for name, named in lines}
 
 
 def families():
     """The crates of codecs: those below the choice that stand on the loop."""
     named = crates()
-    return [it for it in named["enc_codec"] if "enc_machine" in named[it]]
+    return [it for it in named["enc_codec"] if "enc_decoder" in named[it]]

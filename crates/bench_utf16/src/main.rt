@@ -1,9 +1,10 @@
-//! Encodes and decodes UTF-16 for scripts/bench. `bench_utf16 encode LABEL` encodes code units of
-//! UTF-16LE from standard input, with decimal references for characters that the encoding doesn't
-//! have. `bench_utf16 decode LABEL` decodes standard input to UTF-16LE, with U+FFFD for each
-//! malformed sequence. The status is 0 where nothing was replaced, 1 where something was, 2 where
-//! the arguments are wrong, and 3 after an I/O error or where a read to encode ends within a code
-//! unit.
+//! Encodes and decodes UTF-16 for scripts/bench.
+//!
+//! `bench_utf16 encode LABEL` encodes code units of UTF-16LE from standard input, with a decimal
+//! reference for each unmappable character. `bench_utf16 decode LABEL` decodes standard input to
+//! UTF-16LE, with U+FFFD for each malformed sequence. The status is 0 if nothing was replaced, 1 if
+//! something was, 2 for wrong arguments, and 3 after an I/O error or if a read to encode ends
+//! within a code unit.
 #![tactic(auto)]
 
 ghost use Rattle.std.specs.Prelude.{◌≡◌, ◌≤◌, false, length, OnOk};
@@ -15,16 +16,17 @@ use std::process::ExitCode;
 use std::simd::prelude::*;
 use std::{env, io};
 
-/// How many bytes are read at a time, and how many bytes or code units a call writes at most.
+/// The number of bytes read at a time, and the greatest number of bytes or code units that a call
+/// writes.
 const LENGTH: usize = 65536;
 
-/// How many code units are read at a time.
+/// The number of code units read at a time.
 const UNITS: usize = 32768;
 
-/// How many bytes the code units of a call have at most.
+/// The greatest number of bytes of the code units of a call.
 const UNIT_BYTES: usize = 131072;
 
-/// Puts the code units of some bytes into a slice, and returns how many.
+/// Puts the code units of some bytes into a slice, and returns their number.
 fn units_of(bytes: &[u8], units: &mut [u16]) -> usize
     ensures { result ≤ length units.new }
 {
@@ -35,8 +37,8 @@ fn units_of(bytes: &[u8], units: &mut [u16]) -> usize
     count
 }
 
-/// Encodes code units, and writes their bytes in as many pieces as it takes. Returns whether a character was
-/// unmappable.
+/// Encodes code units, and writes their bytes in as many pieces as it takes. Returns whether a
+/// character was unmappable.
 fn encode<W: Write>(
     encoder: &mut Encoder,
     units: &[u16],
@@ -60,7 +62,7 @@ fn encode<W: Write>(
     }
 }
 
-/// Encodes all code units that a reader gives.
+/// Encodes all code units of a reader.
 fn encode_all<R: Read, W: Write>(
     input: &mut R,
     out: &mut W,
@@ -84,7 +86,7 @@ fn encode_all<R: Read, W: Write>(
     Err(io::Error::from(ErrorKind::Other))
 }
 
-/// Puts the bytes of some code units into a slice, in UTF-16LE, and returns how many.
+/// Puts the bytes of some code units into a slice, in UTF-16LE, and returns their number.
 fn bytes_of(units: &[u16], bytes: &mut [u8]) -> usize
     ensures { result ≤ length bytes.new }
 {
@@ -105,7 +107,7 @@ fn bytes_of(units: &[u16], bytes: &mut [u8]) -> usize
 }
 
 /// Decodes a chunk, and writes its code units in as many pieces as it takes. A call decodes into
-/// `units`, and `bytes` takes their bytes. Returns whether something was malformed.
+/// `units`, and `bytes` takes their bytes. Returns whether a sequence was malformed.
 fn decode<W: Write>(
     decoder: &mut Decoder,
     chunk: &[u8],
@@ -132,7 +134,7 @@ fn decode<W: Write>(
     }
 }
 
-/// Decodes all bytes that a reader gives.
+/// Decodes all bytes of a reader.
 fn decode_all<R: Read, W: Write>(
     input: &mut R,
     out: &mut W,
@@ -160,7 +162,7 @@ fn decode_all<R: Read, W: Write>(
     Err(io::Error::from(ErrorKind::Other))
 }
 
-/// The two arguments, if there are exactly two.
+/// Returns the two arguments, if there are exactly two.
 fn words(rt: &HostRuntime) -> io::Result<Option<(String, String)>> {
     let mut args = env::args(rt)?;
     let _program = args.next();

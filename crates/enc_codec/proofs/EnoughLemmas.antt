@@ -1,19 +1,21 @@
 -- Which lengths are enough for a decoder that has read nothing, by its codec.
+-- Rows by codec are written by scripts/make-codecs from data/codecs.txt.
 use Rattle.std.proofs.Common.{true, false, [], refl}
-use Rattle.enc_machine.specs.declared.pending.Pending.TheVariants.{Nothing}
-use Rattle.enc_machine.specs.Need.{AreEnoughForCodec}
+use Rattle.enc_decoder.specs.declared.pending.Pending.TheVariants.{Nothing}
+use Rattle.enc_decoder.specs.Need.{AreEnoughForCodec}
 use Rattle.enc_index.specs.Runs.{single_byte_runs}
-use Rattle.enc_utf.proofs.Utf8Enough.{utf_8_enough}
-use Rattle.enc_utf.proofs.Utf16Enough.{utf_16_enough}
-use Rattle.enc_single_byte.proofs.EnoughLemmas.{single_byte_enough, x_user_defined_enough, replacement_enough}
-use Rattle.enc_multi_byte.proofs.DoubleByteLemmas.{double_byte_laws}
-use Rattle.enc_multi_byte.proofs.PairLemmas.{big5_pairs, euc_kr_pairs, shift_jis_pairs}
-use Rattle.enc_multi_byte.proofs.EucJpLemmas.{euc_jp_laws}
-use Rattle.enc_multi_byte.proofs.Gb18030Lemmas.{gb18030_laws}
-use Rattle.enc_multi_byte.proofs.MultiByteEnough.{multi_bytes_enough}
-use Rattle.enc_iso_2022_jp.proofs.Iso2022JpEnough.{iso_2022_jp_enough}
-use Rattle.enc_codec.specs.declared.codec.Codec.{Codec}
-use Rattle.enc_codec.specs.declared.codec.Codec.TheVariants.{Utf8, Utf16Be, Utf16Le, SingleByte, Big5, EucKr, ShiftJis, EucJp, Gbk, Gb18030, Iso2022Jp, XUserDefined, Replacement}
+use Rattle.enc_decoder_utf.proofs.Utf8Enough.{utf_8_enough}
+use Rattle.enc_decoder_utf.proofs.Utf16Enough.{utf_16_enough}
+use Rattle.enc_decoder_single_byte.proofs.EnoughLemmas.{single_byte_enough, x_user_defined_enough, replacement_enough}
+use Rattle.enc_decoder_multi_byte.proofs.DoubleByteLemmas.{double_byte_laws}
+use Rattle.enc_decoder_multi_byte.proofs.PairLemmas.{big5_pairs, euc_kr_pairs, shift_jis_pairs}
+use Rattle.enc_decoder_multi_byte.proofs.EucJpLemmas.{euc_jp_laws}
+use Rattle.enc_decoder_multi_byte.proofs.Gb18030Lemmas.{gb18030_laws}
+use Rattle.enc_decoder_multi_byte.proofs.MultiByteEnough.{multi_bytes_enough}
+use Rattle.enc_decoder_iso_2022_jp.proofs.Iso2022JpEnough.{iso_2022_jp_enough}
+use Rattle.enc_index.specs.declared.codec.Codec.{Codec}
+use Rattle.enc_index.specs.declared.codec.Codec.TheVariants.{Utf8, Utf16Be, Utf16Le, SingleByte, Big5, EucKr, ShiftJis}
+use Rattle.enc_index.specs.declared.codec.Codec.TheVariants.{EucJp, Gbk, Gb18030, Iso2022Jp, XUserDefined, Replacement}
 use Rattle.enc_codec.specs.Codecs.{codec_rule, codec_lengths, initial_state}
 
 pub codec_enough : (c : Codec) → AreEnoughForCodec (codec_lengths c) (initial_state (codec_rule c))

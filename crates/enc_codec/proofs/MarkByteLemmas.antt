@@ -1,32 +1,33 @@
 -- A pending BB needs no lookahead, by the rule of each codec.
-use Rattle.std.proofs.Common.{◌≡◌, ℕ, ◌+◌, ◌≤◌, Bool, true, false, Option, Some, None, List, [], ◌∷◌, length, refl, ap, ◌∙◌, sym, arith, inl, inr}
-use Rattle.enc_machine.specs.declared.byte_codec.Text.{Text}
-use Rattle.enc_machine.specs.Segmentation.{Head, Rule, one_byte_head}
-use Rattle.enc_machine.specs.RuleLaws.{IsDeterminedWithin}
-use Rattle.enc_machine.proofs.FirstSequenceLemmas.{true_or_false}
-use Rattle.enc_utf.specs.Utf8.{sequence_len, is_second_byte, is_continuation, continuations, utf_8_rule}
-use Rattle.enc_utf.specs.Utf16.{code_unit, is_lead_surrogate as is_lead_unit, is_trail_surrogate, utf_16_rule}
-use Rattle.enc_single_byte.specs.OneByte.{one_byte_rule}
-use Rattle.enc_single_byte.specs.Replacement.{replacement_rule}
-use Rattle.enc_multi_byte.specs.declared.multi_byte.Prefix.{Prefix}
-use Rattle.enc_multi_byte.specs.declared.multi_byte.Prefix.TheVariants.{Incomplete}
-use Rattle.enc_multi_byte.specs.DoubleByte.{trail_prefix}
-use Rattle.enc_multi_byte.specs.MultiByte.{multi_byte_rule, prefix_head}
-use Rattle.enc_multi_byte.specs.Big5.{big5_prefix}
-use Rattle.enc_multi_byte.specs.EucKr.{euc_kr_prefix}
-use Rattle.enc_multi_byte.specs.ShiftJis.{shift_jis_prefix}
-use Rattle.enc_multi_byte.specs.EucJp.{euc_jp_prefix}
-use Rattle.enc_multi_byte.specs.Gb18030.{gb18030_prefix}
-use Rattle.enc_iso_2022_jp.specs.Iso2022Jp.{iso_2022_jp_rule, is_lead_byte, one_byte_char}
+-- Rows by codec are written by scripts/make-codecs from data/codecs.txt.
+use Rattle.std.proofs.Common.{◌≡◌, ℕ, Bool, true, false, Option, Some, None, List, [], ◌∷◌, refl, ap}
+use Rattle.std.proofs.Common.{◌∙◌, sym, arith, inl, inr}
+use Rattle.enc_decoder.specs.declared.byte_codec.Text.{Text}
+use Rattle.enc_decoder.specs.Segmentation.{one_byte_head}
+use Rattle.enc_decoder.proofs.FirstSequenceLemmas.{true_or_false}
+use Rattle.enc_decoder_utf.specs.Utf8.{sequence_len, is_second_byte, is_continuation, utf_8_rule}
+use Rattle.enc_decoder_utf.specs.Utf16.{code_unit, is_lead_surrogate as is_lead_unit, is_trail_surrogate, utf_16_rule}
+use Rattle.enc_decoder_single_byte.specs.OneByte.{one_byte_rule}
+use Rattle.enc_decoder_single_byte.specs.Replacement.{replacement_rule}
+use Rattle.enc_decoder_multi_byte.specs.declared.multi_byte.Prefix.{Prefix}
+use Rattle.enc_decoder_multi_byte.specs.declared.multi_byte.Prefix.TheVariants.{Incomplete}
+use Rattle.enc_decoder_multi_byte.specs.DoubleByte.{trail_prefix}
+use Rattle.enc_decoder_multi_byte.specs.MultiByte.{multi_byte_rule, prefix_head}
+use Rattle.enc_decoder_multi_byte.specs.Big5.{big5_prefix}
+use Rattle.enc_decoder_multi_byte.specs.EucKr.{euc_kr_prefix}
+use Rattle.enc_decoder_multi_byte.specs.ShiftJis.{shift_jis_prefix}
+use Rattle.enc_decoder_multi_byte.specs.EucJp.{euc_jp_prefix}
+use Rattle.enc_decoder_multi_byte.specs.Gb18030.{gb18030_prefix}
+use Rattle.enc_decoder_iso_2022_jp.specs.Iso2022Jp.{iso_2022_jp_rule, is_lead_byte, one_byte_char}
 use Rattle.enc_codec.specs.Properties.{DeterminesBbByItself}
 
 -- in UTF-8 BB goes on with EF
 pub utf_8_tells_bb : DeterminesBbByItself utf_8_rule
 unfolding utf_8_rule sequence_len is_second_byte is_continuation
-utf_8_tells_bb [] e y = absurd (cc)
-utf_8_tells_bb (c ∷ z) e y = elim (true_or_false (is_continuation c)) [
-  | inl t ↦ absurd (let f = rw t at e in cc)
-  | inr t ↦ absurd (let f = rw t at e in cc)
+utf_8_tells_bb [] ef_alone y = absurd (cc)
+utf_8_tells_bb (c ∷ z) ef_alone y = elim (true_or_false (is_continuation c)) [
+  | inl t ↦ absurd (let f = rw t at ef_alone in cc)
+  | inr t ↦ absurd (let f = rw t at ef_alone in cc)
 ]
 
 -- in UTF-16 they are a code unit, and no surrogate

@@ -1,30 +1,32 @@
 -- Which rules are ASCII-compatible, and which are single-byte.
-use Rattle.std.proofs.Common.{◌≡◌, ℕ, ◌<◌, Bool, true, false, Option, Some, None, List, [], ◌∷◌, length, refl, ap, ◌∙◌, sym, subst, arith}
+-- Rows by codec are written by scripts/make-codecs from data/codecs.txt.
+use Rattle.std.proofs.Common.{◌≡◌, ℕ, ◌<◌, Bool, true, false, Option, Some, None, List, [], ◌∷◌, length, refl, ap, ◌∙◌}
+use Rattle.std.proofs.Common.{sym, subst, arith}
 use Rattle.std.proofs.lemmas.Bool.{cond-true, lt-ltb}
 use Rattle.std.proofs.lemmas.Bool.Decides.{nat_tests}
 use Rattle.std.specs.List.{AllByRecursion}
-use Rattle.enc_machine.specs.declared.byte_codec.Text.TheVariants.{One}
-use Rattle.enc_machine.specs.Sequence.{Sequence}
-use Rattle.enc_machine.specs.Segmentation.{Head, Rule, one_byte_head, head_sequence, sequences_after, sequences_of}
-use Rattle.enc_machine.specs.Remainder.{AreBytes}
-use Rattle.enc_machine.proofs.SegmentationLemmas.{sequences_of-cons}
-use Rattle.enc_utf.specs.Utf8.{sequence_len, is_second_byte, is_continuation, utf_8_rule}
-use Rattle.enc_utf.specs.Utf16.{code_unit, is_lead_surrogate, is_trail_surrogate, utf_16_rule}
-use Rattle.enc_utf.proofs.Utf8Lemmas.{one_valid}
-use Rattle.enc_single_byte.specs.OneByte.{one_byte_rule, single_byte_char, x_user_defined_char}
-use Rattle.enc_single_byte.specs.Replacement.{replacement_rule}
-use Rattle.enc_single_byte.proofs.OneByteLemmas.{one_byte_piece}
-use Rattle.enc_multi_byte.specs.declared.multi_byte.Prefix.{Prefix}
-use Rattle.enc_multi_byte.specs.declared.multi_byte.Prefix.TheVariants.{Complete, Malformed, Incomplete}
-use Rattle.enc_multi_byte.specs.DoubleByte.{first_prefix, single_prefix}
-use Rattle.enc_multi_byte.specs.MultiByte.{multi_byte_rule, prefix_head, HasAscii}
-use Rattle.enc_multi_byte.specs.Big5.{is_big5_lead, big5_prefix}
-use Rattle.enc_multi_byte.specs.EucKr.{is_euc_kr_lead, euc_kr_prefix}
-use Rattle.enc_multi_byte.specs.ShiftJis.{is_shift_jis_lead, shift_jis_single_char, shift_jis_prefix}
-use Rattle.enc_multi_byte.specs.EucJp.{is_euc_jp_lead, euc_jp_prefix}
-use Rattle.enc_multi_byte.specs.Gb18030.{is_gb18030_lead, gb18030_single_char, gb18030_prefix}
-use Rattle.enc_multi_byte.proofs.MultiBytePieces.{complete_one}
-use Rattle.enc_iso_2022_jp.specs.Iso2022Jp.{iso_2022_jp_rule}
+use Rattle.enc_decoder.specs.declared.byte_codec.Text.TheVariants.{One}
+use Rattle.enc_decoder.specs.Sequence.{Sequence}
+use Rattle.enc_decoder.specs.Segmentation.{Head, Rule, one_byte_head, head_sequence, sequences_after, sequences_of}
+use Rattle.enc_decoder.specs.Remainder.{AreBytes}
+use Rattle.enc_decoder.proofs.SegmentationLemmas.{sequences_of-cons}
+use Rattle.enc_decoder_utf.specs.Utf8.{sequence_len, is_second_byte, is_continuation, utf_8_rule}
+use Rattle.enc_decoder_utf.specs.Utf16.{code_unit, is_lead_surrogate, is_trail_surrogate, utf_16_rule}
+use Rattle.enc_decoder_utf.proofs.Utf8Lemmas.{one_valid}
+use Rattle.enc_decoder_single_byte.specs.OneByte.{one_byte_rule, single_byte_char, x_user_defined_char}
+use Rattle.enc_decoder_single_byte.specs.Replacement.{replacement_rule}
+use Rattle.enc_decoder_single_byte.proofs.OneByteLemmas.{one_byte_piece}
+use Rattle.enc_decoder_multi_byte.specs.declared.multi_byte.Prefix.{Prefix}
+use Rattle.enc_decoder_multi_byte.specs.declared.multi_byte.Prefix.TheVariants.{Complete, Malformed, Incomplete}
+use Rattle.enc_decoder_multi_byte.specs.DoubleByte.{first_prefix, single_prefix}
+use Rattle.enc_decoder_multi_byte.specs.MultiByte.{multi_byte_rule, prefix_head, HasAscii}
+use Rattle.enc_decoder_multi_byte.specs.Big5.{is_big5_lead, big5_prefix}
+use Rattle.enc_decoder_multi_byte.specs.EucKr.{is_euc_kr_lead, euc_kr_prefix}
+use Rattle.enc_decoder_multi_byte.specs.ShiftJis.{is_shift_jis_lead, shift_jis_single_char, shift_jis_prefix}
+use Rattle.enc_decoder_multi_byte.specs.EucJp.{is_euc_jp_lead, euc_jp_prefix}
+use Rattle.enc_decoder_multi_byte.specs.Gb18030.{is_gb18030_lead, gb18030_single_char, gb18030_prefix}
+use Rattle.enc_decoder_multi_byte.proofs.MultiBytePieces.{complete_one}
+use Rattle.enc_decoder_iso_2022_jp.specs.Iso2022Jp.{iso_2022_jp_rule}
 use Rattle.enc_codec.specs.Properties.{IsAsciiCompatible, IsByteWithText, IsSingleByte}
 
 first_text : (s t : Sequence) (ss ts : List Sequence) → s ∷ ss ≡ t ∷ ts → s.text ≡ t.text
@@ -33,7 +35,8 @@ first_text s t ss ts e = cc
 -- a byte below 0x80 that is U+FFFD, and a sequence of more than one byte
 
 replaced : (rule : Rule) (b : ℕ) → b < 0x80 → (rule 0 b []).text ≡ 0xFFFD ∷ [] → ¬ (IsAsciiCompatible rule)
-replaced rule b l e h = differs b l (sym e ∙ first_text _ _ _ _ (sym (sequences_of-cons rule 0 b []) ∙ h b l []))
+replaced rule b is_ascii e h =
+    differs b is_ascii (sym e ∙ first_text _ _ _ _ (sym (sequences_of-cons rule 0 b []) ∙ h b is_ascii []))
   where
     differs : (b : ℕ) → b < 0x80 → 0xFFFD ∷ [] ≡ b ∷ [] → ⊥
     differs b l e = let f : 0xFFFD ≡ b = cc in omega arith
@@ -79,8 +82,8 @@ one_byte_is_single_byte character bytes a = each 0 bytes
   where
     first : (set b : ℕ) (z : List ℕ) (c : Option ℕ) → ((set : ℕ) → AllByRecursion IsByteWithText (sequences_of (one_byte_rule character) set z))
         → AllByRecursion IsByteWithText (head_sequence (one_byte_head set c) b z ∷ sequences_after (one_byte_rule character) (one_byte_head set c).set (one_byte_head set c).more z)
-    first set b z None h = (record { one = refl; text = λ e. cc }, h set)
-    first set b z (Some c) h = (record { one = refl; text = λ e. cc }, h set)
+    first set b z None rest_holds = (record { one = refl; text = λ e. cc }, rest_holds set)
+    first set b z (Some c) rest_holds = (record { one = refl; text = λ e. cc }, rest_holds set)
 
     each : (set : ℕ) (bytes : List ℕ) → AllByRecursion IsByteWithText (sequences_of (one_byte_rule character) set bytes)
     each set [] = tt

@@ -1,23 +1,25 @@
--- Which rule each codec has.
+-- The rule of each codec's decoder, and its formulas for lengths.
+-- Rows by codec are written by scripts/make-codecs from data/codecs.txt.
 use Rattle.std.specs.Prelude.{true, false, []}
-use Rattle.enc_codec.specs.declared.codec.Codec.{Codec}
-use Rattle.enc_codec.specs.declared.codec.Codec.TheVariants.{Utf8, Utf16Be, Utf16Le, SingleByte, Big5, EucKr, ShiftJis, EucJp, Gbk, Gb18030, Iso2022Jp, XUserDefined, Replacement}
+use Rattle.enc_index.specs.declared.codec.Codec.{Codec}
+use Rattle.enc_index.specs.declared.codec.Codec.TheVariants.{Utf8, Utf16Be, Utf16Le, SingleByte, Big5, EucKr, ShiftJis}
+use Rattle.enc_index.specs.declared.codec.Codec.TheVariants.{EucJp, Gbk, Gb18030, Iso2022Jp, XUserDefined, Replacement}
 use Rattle.enc_index.specs.Runs.{single_byte_runs}
-use Rattle.enc_machine.specs.Segmentation.{Rule}
-use Rattle.enc_machine.specs.CodecState.{CodecState}
-use Rattle.enc_machine.specs.declared.text_lengths.TextLengths.{TextLengths}
-use Rattle.enc_machine.specs.declared.text_lengths.TextLengths.TheVariants as lengths
-use Rattle.enc_utf.specs.Utf8.{utf_8_rule}
-use Rattle.enc_utf.specs.Utf16.{utf_16_rule}
-use Rattle.enc_single_byte.specs.OneByte.{one_byte_rule, single_byte_char, x_user_defined_char}
-use Rattle.enc_multi_byte.specs.MultiByte.{multi_byte_rule}
-use Rattle.enc_multi_byte.specs.Big5.{big5_prefix}
-use Rattle.enc_multi_byte.specs.EucKr.{euc_kr_prefix}
-use Rattle.enc_multi_byte.specs.ShiftJis.{shift_jis_prefix}
-use Rattle.enc_multi_byte.specs.EucJp.{euc_jp_prefix}
-use Rattle.enc_multi_byte.specs.Gb18030.{gb18030_prefix}
-use Rattle.enc_single_byte.specs.Replacement.{replacement_rule}
-use Rattle.enc_iso_2022_jp.specs.Iso2022Jp.{iso_2022_jp_rule}
+use Rattle.enc_decoder.specs.Segmentation.{Rule}
+use Rattle.enc_decoder.specs.CodecState.{CodecState}
+use Rattle.enc_decoder.specs.declared.text_lengths.TextLengths.{TextLengths}
+use Rattle.enc_decoder.specs.declared.text_lengths.TextLengths.TheVariants as lengths
+use Rattle.enc_decoder_utf.specs.Utf8.{utf_8_rule}
+use Rattle.enc_decoder_utf.specs.Utf16.{utf_16_rule}
+use Rattle.enc_decoder_single_byte.specs.OneByte.{one_byte_rule, single_byte_char, x_user_defined_char}
+use Rattle.enc_decoder_multi_byte.specs.MultiByte.{multi_byte_rule}
+use Rattle.enc_decoder_multi_byte.specs.Big5.{big5_prefix}
+use Rattle.enc_decoder_multi_byte.specs.EucKr.{euc_kr_prefix}
+use Rattle.enc_decoder_multi_byte.specs.ShiftJis.{shift_jis_prefix}
+use Rattle.enc_decoder_multi_byte.specs.EucJp.{euc_jp_prefix}
+use Rattle.enc_decoder_multi_byte.specs.Gb18030.{gb18030_prefix}
+use Rattle.enc_decoder_single_byte.specs.Replacement.{replacement_rule}
+use Rattle.enc_decoder_iso_2022_jp.specs.Iso2022Jp.{iso_2022_jp_rule}
 
 abbrev pub codec_rule : Codec → Rule
 codec_rule Utf8 = utf_8_rule
@@ -38,7 +40,7 @@ codec_rule Iso2022Jp = iso_2022_jp_rule
 abbrev pub initial_state : Rule → CodecState
 initial_state rule = record { rule = rule; set = 0; pending = [] }
 
--- and the formulas for lengths to allocate
+-- the formulas for lengths to allocate
 abbrev pub codec_lengths : Codec → TextLengths
 codec_lengths Utf8 = lengths.Utf8
 codec_lengths Utf16Be = lengths.Utf16

@@ -1,17 +1,18 @@
--- What it is to be ASCII-compatible, and to be single-byte, of the rule of an encoding.
+-- Rules of encodings that are ASCII-compatible, and of those that are single-byte.
 use Rattle.std.specs.Prelude.{◌≡◌, ℕ, ◌<◌, List, [], ◌∷◌, length}
 use Rattle.std.specs.List.{AllByRecursion}
-use Rattle.enc_machine.specs.Sequence.{Sequence}
-use Rattle.enc_machine.specs.Segmentation.{Rule, sequences_of}
-use Rattle.enc_machine.specs.Remainder.{AreBytes}
-use Rattle.enc_machine.specs.RuleLaws.{IsDeterminedWithin}
-use Rattle.enc_machine.specs.Taking.{IsWholeChar}
+use Rattle.enc_decoder.specs.Sequence.{Sequence}
+use Rattle.enc_decoder.specs.Segmentation.{Rule, sequences_of}
+use Rattle.enc_decoder.specs.Remainder.{AreBytes}
+use Rattle.enc_decoder.specs.RuleLaws.{IsDeterminedWithin}
+use Rattle.enc_decoder.specs.Taking.{IsWholeChar}
 
--- To a decoder that has read nothing each byte below 0x80 is a sequence by itself, of the character of its number, whatever
--- follows it.
+-- To a decoder that has read nothing, each byte below 0x80 is a sequence by itself, of the character with its number,
+-- whatever follows it.
 abbrev pub IsAsciiCompatible : Rule → Type 0
 IsAsciiCompatible rule = (b : ℕ) → b < 0x80 → IsWholeChar rule 0 (b ∷ []) b
 
+-- a sequence of one byte that has a text
 pub record IsByteWithText (s : Sequence) : Type 0 where
   pub one : length s.bytes ≡ 1
   pub text : s.text ≡ [] → ⊥

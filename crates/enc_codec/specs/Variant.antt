@@ -1,22 +1,25 @@
--- The state of a decoder of any encoding.
+-- The state of a decoder of any encoding, and its formulas for lengths.
+-- Rows by codec are written by scripts/make-codecs from data/codecs.txt.
 use Rattle.enc_codec.specs.declared.variant.VariantDecoder.{VariantDecoder}
-use Rattle.enc_codec.specs.declared.variant.VariantDecoder.TheVariants.{Utf8, Utf16, SingleByte, Big5, EucKr, ShiftJis, EucJp, Gb18030, Iso2022Jp, XUserDefined, Replacement}
-use Rattle.enc_machine.specs.CodecState.{CodecState}
-use Rattle.enc_machine.specs.declared.text_lengths.TextLengths.{TextLengths}
-use Rattle.enc_machine.specs.declared.text_lengths.TextLengths.TheVariants as lengths
-use Rattle.enc_utf.specs.Utf8State.{utf_8_state}
-use Rattle.enc_utf.specs.Utf16State.{utf_16_state}
+use Rattle.enc_codec.specs.declared.variant.VariantDecoder.TheVariants.{Utf8, Utf16, SingleByte, Big5, EucKr, ShiftJis}
+use Rattle.enc_codec.specs.declared.variant.VariantDecoder.TheVariants.{EucJp, Gb18030, Iso2022Jp, XUserDefined}
+use Rattle.enc_codec.specs.declared.variant.VariantDecoder.TheVariants.{Replacement}
+use Rattle.enc_decoder.specs.CodecState.{CodecState}
+use Rattle.enc_decoder.specs.declared.text_lengths.TextLengths.{TextLengths}
+use Rattle.enc_decoder.specs.declared.text_lengths.TextLengths.TheVariants as lengths
+use Rattle.enc_decoder_utf.specs.Utf8State.{utf_8_state}
+use Rattle.enc_decoder_utf.specs.Utf16State.{utf_16_state}
 use Rattle.enc_index.specs.Runs.{single_byte_runs}
-use Rattle.enc_single_byte.specs.OneByteState.{single_byte_state, x_user_defined_state}
-use Rattle.enc_machine.specs.Pending.{bytes_of_pending}
-use Rattle.enc_multi_byte.specs.MultiByte.{multi_byte_state}
-use Rattle.enc_multi_byte.specs.Big5.{big5_prefix}
-use Rattle.enc_multi_byte.specs.EucKr.{euc_kr_prefix}
-use Rattle.enc_multi_byte.specs.ShiftJis.{shift_jis_prefix}
-use Rattle.enc_multi_byte.specs.EucJp.{euc_jp_prefix}
-use Rattle.enc_multi_byte.specs.Gb18030.{gb18030_prefix}
-use Rattle.enc_single_byte.specs.Replacement.{replacement_state}
-use Rattle.enc_iso_2022_jp.specs.Iso2022JpState.{iso_2022_jp_state}
+use Rattle.enc_decoder_single_byte.specs.OneByteState.{single_byte_state, x_user_defined_state}
+use Rattle.enc_decoder.specs.Pending.{bytes_of_pending}
+use Rattle.enc_decoder_multi_byte.specs.MultiByte.{multi_byte_state}
+use Rattle.enc_decoder_multi_byte.specs.Big5.{big5_prefix}
+use Rattle.enc_decoder_multi_byte.specs.EucKr.{euc_kr_prefix}
+use Rattle.enc_decoder_multi_byte.specs.ShiftJis.{shift_jis_prefix}
+use Rattle.enc_decoder_multi_byte.specs.EucJp.{euc_jp_prefix}
+use Rattle.enc_decoder_multi_byte.specs.Gb18030.{gb18030_prefix}
+use Rattle.enc_decoder_single_byte.specs.Replacement.{replacement_state}
+use Rattle.enc_decoder_iso_2022_jp.specs.Iso2022JpState.{iso_2022_jp_state}
 
 abbrev pub variant_decoder_state : VariantDecoder → CodecState
 variant_decoder_state (Utf8 d) = utf_8_state d

@@ -1,16 +1,19 @@
-//! Which codec an encoding has, and a decoder that is any of them.
+//! The codec of an encoding, and a decoder that is any of them.
+//!
+//! Rows by codec are written by scripts/make-codecs from data/codecs.txt.
 #![tactic(auto)]
 
-mod codec;
+mod choice;
 mod variant;
 
-pub use codec::Codec;
-pub use enc_index::{List, Planes, SingleByteIndex};
-pub use enc_iso_2022_jp::Iso2022JpDecoder;
-pub use enc_machine::{DecoderResult, RawDecoder, TextLengths};
-pub use enc_multi_byte::{
+pub use choice::NewDecoder;
+pub use enc_decoder::{RawDecoder, TextLengths};
+pub use enc_decoder_iso_2022_jp::Iso2022JpDecoder;
+pub use enc_decoder_multi_byte::{
     Big5Decoder, EucJpDecoder, EucKrDecoder, Gb18030Decoder, ShiftJisDecoder,
 };
-pub use enc_single_byte::{ReplacementDecoder, SingleByteDecoder, XUserDefinedDecoder};
-pub use enc_utf::{Utf8Decoder, Utf16Decoder};
+pub use enc_decoder_single_byte::{ReplacementDecoder, SingleByteDecoder, XUserDefinedDecoder};
+pub use enc_decoder_utf::{Utf8Decoder, Utf16Decoder};
+pub use enc_index::{Codec, List, Planes, SingleByteIndex};
+pub use enc_units::DecoderResult;
 pub use variant::VariantDecoder;

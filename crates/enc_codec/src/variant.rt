@@ -1,36 +1,40 @@
-//! One decoder of any encoding.
+//! A decoder of any encoding.
+//!
+//! Rows by codec are written by scripts/make-codecs from data/codecs.txt.
 
-use enc_iso_2022_jp::Iso2022JpDecoder;
-use enc_machine::{DecoderResult, RawDecoder, TextLengths};
-use enc_multi_byte::{Big5Decoder, EucJpDecoder, EucKrDecoder, Gb18030Decoder, ShiftJisDecoder};
-use enc_single_byte::{ReplacementDecoder, SingleByteDecoder, XUserDefinedDecoder};
-use enc_units::Units;
-use enc_utf::{Utf8Decoder, Utf16Decoder};
+use enc_decoder::{RawDecoder, TextLengths};
+use enc_decoder_iso_2022_jp::Iso2022JpDecoder;
+use enc_decoder_multi_byte::{
+    Big5Decoder, EucJpDecoder, EucKrDecoder, Gb18030Decoder, ShiftJisDecoder,
+};
+use enc_decoder_single_byte::{ReplacementDecoder, SingleByteDecoder, XUserDefinedDecoder};
+use enc_decoder_utf::{Utf8Decoder, Utf16Decoder};
+use enc_units::{DecoderResult, Units};
 
-/// A decoder of any encoding. It is what the decoder in it is.
+/// A decoder of any encoding. It does what the decoder in it does.
 #[derive(Clone, Copy)]
 pub enum VariantDecoder {
-    /// Of UTF-8.
+    /// The decoder of UTF-8.
     Utf8(Utf8Decoder),
-    /// Of UTF-16, of either byte order.
+    /// The decoder of UTF-16, of either byte order.
     Utf16(Utf16Decoder),
-    /// Of a legacy single-byte encoding.
+    /// The decoder of a legacy single-byte encoding.
     SingleByte(SingleByteDecoder),
-    /// Of Big5.
+    /// The decoder of Big5.
     Big5(Big5Decoder),
-    /// Of EUC-KR.
+    /// The decoder of EUC-KR.
     EucKr(EucKrDecoder),
-    /// Of Shift_JIS.
+    /// The decoder of Shift_JIS.
     ShiftJis(ShiftJisDecoder),
-    /// Of EUC-JP.
+    /// The decoder of EUC-JP.
     EucJp(EucJpDecoder),
-    /// Of gb18030, and of GBK.
+    /// The decoder of gb18030 and GBK.
     Gb18030(Gb18030Decoder),
-    /// Of x-user-defined.
+    /// The decoder of x-user-defined.
     XUserDefined(XUserDefinedDecoder),
-    /// Of the replacement encoding.
+    /// The decoder of the replacement encoding.
     Replacement(ReplacementDecoder),
-    /// Of ISO-2022-JP.
+    /// The decoder of ISO-2022-JP.
     Iso2022Jp(Iso2022JpDecoder),
 }
 

@@ -1,27 +1,32 @@
 -- The lengths of every encoding are enough.
+-- Rows by codec are written by scripts/make-codecs from data/codecs.txt.
 use Rattle.std.proofs.Common.{◌≡◌, ℕ, true, false, Option, Some, None, List, refl, ap, sym, subst}
 use Rattle.std.proofs.lemmas.Bool.{false≢true}
-use Rattle.enc_codec.specs.declared.codec.Codec.{Codec}
-use Rattle.enc_codec.specs.declared.codec.Codec.TheVariants as codec
-use Rattle.enc_encoders.specs.declared.byte_lengths.ByteLengths.{ByteLengths}
-use Rattle.enc_encoders.specs.declared.byte_lengths.ByteLengths.TheVariants as lengths
-use Rattle.enc_encoders.specs.declared.character_set.CharacterSet.TheVariants.{Ascii}
-use Rattle.enc_encoders.specs.EncoderRule.{EncoderRule, RawEncoderState}
-use Rattle.enc_encoders.specs.Need.{AreEnoughForEncoder}
-use Rattle.enc_encoders.specs.Stateless.{stateless_rule, stateless_state, KeepsLengths}
-use Rattle.enc_encoders.specs.Barring.{bytes_unless_barred, barring_rule}
-use Rattle.enc_encoders.specs.SingleByte.{single_byte_bytes, x_user_defined_bytes}
-use Rattle.enc_encoders.specs.Utf8.{utf_8_bytes}
-use Rattle.enc_encoders.specs.Big5.{big5_bytes}
-use Rattle.enc_encoders.specs.EucKr.{euc_kr_bytes}
-use Rattle.enc_encoders.specs.ShiftJis.{shift_jis_bytes}
-use Rattle.enc_encoders.specs.EucJp.{euc_jp_bytes}
-use Rattle.enc_encoders.specs.Gb18030.{gb18030_bytes}
-use Rattle.enc_encoders.specs.Iso2022Jp.{iso_2022_jp_encoder_rule, iso_2022_jp_encoder_state}
-use Rattle.enc_encoders.proofs.EnoughLemmas.{stateless_enough, iso_2022_jp_enough, keeps_utf_8, keeps_single_byte, keeps_x_user_defined, keeps_big5, keeps_euc_kr, keeps_shift_jis, keeps_euc_jp, keeps_gb18030}
-use Rattle.enc_encoders.proofs.BarringLemmas.{except_keeps}
+use Rattle.enc_index.specs.declared.codec.Codec.{Codec}
+use Rattle.enc_index.specs.declared.codec.Codec.TheVariants as codec
+use Rattle.enc_encoder.specs.declared.byte_lengths.ByteLengths.{ByteLengths}
+use Rattle.enc_encoder.specs.declared.byte_lengths.ByteLengths.TheVariants as lengths
+use Rattle.enc_encoder.specs.declared.character_set.CharacterSet.TheVariants.{Ascii}
+use Rattle.enc_encoder.specs.EncoderRule.{EncoderRule, RawEncoderState}
+use Rattle.enc_encoder.specs.Need.{AreEnoughForEncoder}
+use Rattle.enc_encoder.specs.Stateless.{stateless_rule, stateless_state, KeepsLengths}
+use Rattle.enc_encoder.specs.Barring.{bytes_unless_barred, barring_rule}
+use Rattle.enc_encode.specs.SingleByte.{single_byte_bytes, x_user_defined_bytes}
+use Rattle.enc_encode.specs.Utf8.{utf_8_bytes}
+use Rattle.enc_encode.specs.Big5.{big5_bytes}
+use Rattle.enc_encode.specs.EucKr.{euc_kr_bytes}
+use Rattle.enc_encode.specs.ShiftJis.{shift_jis_bytes}
+use Rattle.enc_encode.specs.EucJp.{euc_jp_bytes}
+use Rattle.enc_encode.specs.Gb18030.{gb18030_bytes}
+use Rattle.enc_encode.specs.Iso2022Jp.{iso_2022_jp_encoder_rule, iso_2022_jp_encoder_state}
+use Rattle.enc_encoder.proofs.EnoughLemmas.{stateless_enough}
+use Rattle.enc_encode.proofs.Iso2022JpEnough.{iso_2022_jp_enough}
+use Rattle.enc_encode.proofs.RepertoireLemmas.{keeps_utf_8, keeps_single_byte, keeps_x_user_defined, keeps_big5}
+use Rattle.enc_encode.proofs.RepertoireLemmas.{keeps_euc_kr, keeps_shift_jis, keeps_euc_jp, keeps_gb18030}
+use Rattle.enc_encoder.proofs.BarringLemmas.{except_keeps}
 use Rattle.enc_encode.specs.declared.variant.VariantEncoder.{VariantEncoder}
-use Rattle.enc_encode.specs.declared.variant.VariantEncoder.TheVariants.{Utf8, SingleByte, Big5, EucKr, ShiftJis, EucJp, Gb18030, Iso2022Jp, XUserDefined}
+use Rattle.enc_encode.specs.declared.variant.VariantEncoder.TheVariants.{Utf8, SingleByte, Big5, EucKr, ShiftJis, EucJp}
+use Rattle.enc_encode.specs.declared.variant.VariantEncoder.TheVariants.{Gb18030, Iso2022Jp, XUserDefined}
 use Rattle.enc_encode.specs.Encoders.{encoder_rule, encoder_lengths}
 use Rattle.enc_encode.specs.Variant.{variant_encoder_state}
 

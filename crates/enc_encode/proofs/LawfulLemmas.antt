@@ -1,18 +1,22 @@
 -- The laws of every encoding's rule.
+-- Rows by codec are written by scripts/make-codecs from data/codecs.txt.
 use Rattle.std.proofs.Common.{Option, Some, None, true, false}
-use Rattle.enc_codec.specs.declared.codec.Codec.{Codec}
-use Rattle.enc_codec.specs.declared.codec.Codec.TheVariants.{Utf8, Utf16Be, Utf16Le, SingleByte, Big5, EucKr, ShiftJis, EucJp, Gbk, Gb18030, Iso2022Jp, XUserDefined, Replacement}
-use Rattle.enc_encoders.specs.EncoderRule.{EncoderRule, IsLawfulEncoderRule}
-use Rattle.enc_encoders.specs.SingleByte.{single_byte_bytes, x_user_defined_bytes}
-use Rattle.enc_encoders.specs.Utf8.{utf_8_bytes}
-use Rattle.enc_encoders.specs.Big5.{big5_bytes}
-use Rattle.enc_encoders.specs.EucKr.{euc_kr_bytes}
-use Rattle.enc_encoders.specs.ShiftJis.{shift_jis_bytes}
-use Rattle.enc_encoders.specs.EucJp.{euc_jp_bytes}
-use Rattle.enc_encoders.specs.Gb18030.{gb18030_bytes}
-use Rattle.enc_encoders.proofs.FourByteLemmas.{few_utf_8, few_single_byte, few_big5, few_euc_kr, few_shift_jis, few_euc_jp, few_gb18030, few_x_user_defined}
-use Rattle.enc_encoders.proofs.StatelessLemmas.{stateless_is_lawful, utf_8_writes_ascii, with_ascii_writes_ascii}
-use Rattle.enc_encoders.proofs.Iso2022JpLemmas.{iso_2022_jp_is_lawful}
+use Rattle.enc_index.specs.declared.codec.Codec.{Codec}
+use Rattle.enc_index.specs.declared.codec.Codec.TheVariants.{Utf8, Utf16Be, Utf16Le, SingleByte, Big5, EucKr, ShiftJis}
+use Rattle.enc_index.specs.declared.codec.Codec.TheVariants.{EucJp, Gbk, Gb18030, Iso2022Jp, XUserDefined, Replacement}
+use Rattle.enc_encoder.specs.EncoderRule.{EncoderRule, IsLawfulEncoderRule}
+use Rattle.enc_encode.specs.SingleByte.{single_byte_bytes, x_user_defined_bytes}
+use Rattle.enc_encode.specs.Utf8.{utf_8_bytes}
+use Rattle.enc_encode.specs.Big5.{big5_bytes}
+use Rattle.enc_encode.specs.EucKr.{euc_kr_bytes}
+use Rattle.enc_encode.specs.ShiftJis.{shift_jis_bytes}
+use Rattle.enc_encode.specs.EucJp.{euc_jp_bytes}
+use Rattle.enc_encode.specs.Gb18030.{gb18030_bytes}
+use Rattle.enc_encode.proofs.FourByteLemmas.{few_utf_8, few_single_byte, few_big5, few_euc_kr, few_shift_jis}
+use Rattle.enc_encode.proofs.FourByteLemmas.{few_euc_jp, few_gb18030, few_x_user_defined}
+use Rattle.enc_encoder.proofs.StatelessLemmas.{stateless_is_lawful, with_ascii_writes_ascii}
+use Rattle.enc_encode.proofs.RepertoireLemmas.{utf_8_writes_ascii}
+use Rattle.enc_encode.proofs.Iso2022JpLemmas.{iso_2022_jp_is_lawful}
 use Rattle.enc_encode.specs.Encoders.{encoder_rule}
 
 abbrev pub IsLawfulIfAny : Option EncoderRule → Type 0

@@ -1,2 +1,7 @@
+pub mod FourByteLemmas
+pub mod RepertoireLemmas
+pub mod Iso2022JpLemmas
+pub mod Iso2022JpEnough
+mod KatakanaLemmas
 pub mod LawfulLemmas
 pub mod EnoughLemmas

@@ -1,21 +1,23 @@
--- By which rule each encoding is written, if it has an encoder (Encoding Standard 4.3, "get an encoder").
+-- The rule of each encoding's encoder, if it has one (Encoding Standard 4.3, "get an encoder").
+-- Rows by codec are written by scripts/make-codecs from data/codecs.txt.
 use Rattle.std.specs.Prelude.{true, false, Option, Some, None}
-use Rattle.enc_codec.specs.declared.codec.Codec.{Codec}
-use Rattle.enc_codec.specs.declared.codec.Codec.TheVariants.{Utf8, Utf16Be, Utf16Le, SingleByte, Big5, EucKr, ShiftJis, EucJp, Gbk, Gb18030, Iso2022Jp, XUserDefined, Replacement}
-use Rattle.enc_encoders.specs.EncoderRule.{EncoderRule}
-use Rattle.enc_encoders.specs.declared.byte_lengths.ByteLengths.{ByteLengths}
-use Rattle.enc_encoders.specs.declared.byte_lengths.ByteLengths.TheVariants as lengths
-use Rattle.enc_encoders.specs.Stateless.{stateless_rule}
-use Rattle.enc_encoders.specs.Utf8.{utf_8_bytes}
-use Rattle.enc_encoders.specs.SingleByte.{single_byte_bytes, x_user_defined_bytes}
-use Rattle.enc_encoders.specs.Big5.{big5_bytes}
-use Rattle.enc_encoders.specs.EucKr.{euc_kr_bytes}
-use Rattle.enc_encoders.specs.ShiftJis.{shift_jis_bytes}
-use Rattle.enc_encoders.specs.EucJp.{euc_jp_bytes}
-use Rattle.enc_encoders.specs.Gb18030.{gb18030_bytes}
-use Rattle.enc_encoders.specs.Iso2022Jp.{iso_2022_jp_encoder_rule}
+use Rattle.enc_index.specs.declared.codec.Codec.{Codec}
+use Rattle.enc_index.specs.declared.codec.Codec.TheVariants.{Utf8, Utf16Be, Utf16Le, SingleByte, Big5, EucKr, ShiftJis}
+use Rattle.enc_index.specs.declared.codec.Codec.TheVariants.{EucJp, Gbk, Gb18030, Iso2022Jp, XUserDefined, Replacement}
+use Rattle.enc_encoder.specs.EncoderRule.{EncoderRule}
+use Rattle.enc_encoder.specs.declared.byte_lengths.ByteLengths.{ByteLengths}
+use Rattle.enc_encoder.specs.declared.byte_lengths.ByteLengths.TheVariants as lengths
+use Rattle.enc_encoder.specs.Stateless.{stateless_rule}
+use Rattle.enc_encode.specs.Utf8.{utf_8_bytes}
+use Rattle.enc_encode.specs.SingleByte.{single_byte_bytes, x_user_defined_bytes}
+use Rattle.enc_encode.specs.Big5.{big5_bytes}
+use Rattle.enc_encode.specs.EucKr.{euc_kr_bytes}
+use Rattle.enc_encode.specs.ShiftJis.{shift_jis_bytes}
+use Rattle.enc_encode.specs.EucJp.{euc_jp_bytes}
+use Rattle.enc_encode.specs.Gb18030.{gb18030_bytes}
+use Rattle.enc_encode.specs.Iso2022Jp.{iso_2022_jp_encoder_rule}
 
--- Where a caller bars characters of a list b, its rule is `barring b` of this.
+-- If a caller bars the characters b, the rule is `barring_rule b` of this.
 abbrev pub encoder_rule : Codec → Option EncoderRule
 encoder_rule Utf8 = Some (stateless_rule utf_8_bytes)
 encoder_rule Utf16Be = None
@@ -31,7 +33,7 @@ encoder_rule XUserDefined = Some (stateless_rule x_user_defined_bytes)
 encoder_rule Replacement = None
 encoder_rule Iso2022Jp = Some iso_2022_jp_encoder_rule
 
--- By which formulas the lengths to allocate go; those without an encoder are written in UTF-8
+-- The formulas for lengths to allocate. Without an encoder the output encoding is UTF-8.
 abbrev pub encoder_lengths : Codec → ByteLengths
 encoder_lengths Utf8 = lengths.Utf8
 encoder_lengths Utf16Be = lengths.Utf8

@@ -1,21 +1,23 @@
--- The state of an encoder of any encoding.
+-- The state of an encoder of any encoding, and its formulas for lengths.
+-- Rows by codec are written by scripts/make-codecs from data/codecs.txt.
 use Rattle.enc_encode.specs.declared.variant.VariantEncoder.{VariantEncoder}
-use Rattle.enc_encode.specs.declared.variant.VariantEncoder.TheVariants.{Utf8, SingleByte, Big5, EucKr, ShiftJis, EucJp, Gb18030, Iso2022Jp, XUserDefined}
-use Rattle.enc_encoders.specs.EncoderRule.{RawEncoderState}
-use Rattle.enc_encoders.specs.declared.byte_lengths.ByteLengths.{ByteLengths}
-use Rattle.enc_encoders.specs.declared.byte_lengths.ByteLengths.TheVariants as lengths
-use Rattle.enc_encoders.specs.Stateless.{stateless_state}
-use Rattle.enc_encoders.specs.Barring.{bytes_unless_barred}
-use Rattle.enc_encoders.specs.Utf8.{utf_8_bytes}
-use Rattle.enc_encoders.specs.SingleByte.{single_byte_bytes, x_user_defined_bytes}
-use Rattle.enc_encoders.specs.Big5.{big5_bytes}
-use Rattle.enc_encoders.specs.EucKr.{euc_kr_bytes}
-use Rattle.enc_encoders.specs.ShiftJis.{shift_jis_bytes}
-use Rattle.enc_encoders.specs.EucJp.{euc_jp_bytes}
-use Rattle.enc_encoders.specs.Gb18030.{gb18030_bytes, gb18030_lengths}
-use Rattle.enc_encoders.specs.Iso2022Jp.{iso_2022_jp_encoder_state}
+use Rattle.enc_encode.specs.declared.variant.VariantEncoder.TheVariants.{Utf8, SingleByte, Big5, EucKr, ShiftJis, EucJp}
+use Rattle.enc_encode.specs.declared.variant.VariantEncoder.TheVariants.{Gb18030, Iso2022Jp, XUserDefined}
+use Rattle.enc_encoder.specs.EncoderRule.{RawEncoderState}
+use Rattle.enc_encoder.specs.declared.byte_lengths.ByteLengths.{ByteLengths}
+use Rattle.enc_encoder.specs.declared.byte_lengths.ByteLengths.TheVariants as lengths
+use Rattle.enc_encoder.specs.Stateless.{stateless_state}
+use Rattle.enc_encoder.specs.Barring.{bytes_unless_barred}
+use Rattle.enc_encode.specs.Utf8.{utf_8_bytes}
+use Rattle.enc_encode.specs.SingleByte.{single_byte_bytes, x_user_defined_bytes}
+use Rattle.enc_encode.specs.Big5.{big5_bytes}
+use Rattle.enc_encode.specs.EucKr.{euc_kr_bytes}
+use Rattle.enc_encode.specs.ShiftJis.{shift_jis_bytes}
+use Rattle.enc_encode.specs.EucJp.{euc_jp_bytes}
+use Rattle.enc_encode.specs.Gb18030.{gb18030_bytes, gb18030_lengths}
+use Rattle.enc_encode.specs.Iso2022Jp.{iso_2022_jp_encoder_state}
 
--- its rule, from which the characters are barred that its caller bars
+-- its rule, with the characters barred that its caller bars
 abbrev pub variant_encoder_state : VariantEncoder → RawEncoderState
 variant_encoder_state (Utf8 e) = stateless_state (bytes_unless_barred e.repertoire.barred.now utf_8_bytes)
 variant_encoder_state (SingleByte e) = stateless_state (bytes_unless_barred e.repertoire.barred.now (single_byte_bytes e.repertoire.repertoire.index))
@@ -27,7 +29,7 @@ variant_encoder_state (Gb18030 e) = stateless_state (bytes_unless_barred e.reper
     (gb18030_bytes e.repertoire.repertoire.is_gbk))
 variant_encoder_state (XUserDefined e) =
     stateless_state (bytes_unless_barred e.repertoire.barred.now x_user_defined_bytes)
-variant_encoder_state (Iso2022Jp e) = iso_2022_jp_encoder_state e.barred.now e.plain.set
+variant_encoder_state (Iso2022Jp e) = iso_2022_jp_encoder_state e.barred.now e.set
 
 -- its formulas for lengths to allocate
 abbrev pub variant_encoder_lengths : VariantEncoder → ByteLengths

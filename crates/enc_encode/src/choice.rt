@@ -1,20 +1,29 @@
-//! Which encoder an encoding has.
+//! The encoders of the encodings.
+//!
+//! Rows by codec are written by scripts/make-codecs from data/codecs.txt.
 
 ghost use Rattle.std.specs.Prelude.{◌≡◌, Some, is_some, true, option_map};
-ghost use Rattle.enc_encoders.specs.Barring.{are_beyond_ascii, barring_rule};
-ghost use Rattle.enc_encoders.specs.declared.character_set.CharacterSet.TheVariants.{Ascii};
+ghost use Rattle.enc_encoder.specs.Barring.{are_beyond_ascii, barring_rule};
+ghost use Rattle.enc_encoder.specs.declared.character_set.CharacterSet.TheVariants.{Ascii};
 ghost use Rattle.enc_encode.specs.Encoders.{encoder_rule, encoder_lengths};
 ghost use Rattle.enc_encode.specs.Variant.{variant_encoder_state, variant_encoder_lengths};
 
+use crate::encoders::big5::{Big5, Big5Encoder};
+use crate::encoders::euc_jp::{EucJp, EucJpEncoder};
+use crate::encoders::euc_kr::{EucKr, EucKrEncoder};
+use crate::encoders::gb18030::{Gb18030, Gb18030Encoder};
+use crate::encoders::iso_2022_jp::Iso2022JpEncoder;
+use crate::encoders::shift_jis::{ShiftJis, ShiftJisEncoder};
+use crate::encoders::single_byte::{SingleByte, SingleByteEncoder};
+use crate::encoders::utf_8::{Utf8, Utf8Encoder};
+use crate::encoders::x_user_defined::{XUserDefined, XUserDefinedEncoder};
 use crate::variant::VariantEncoder;
-use enc_codec::Codec;
-use enc_encoders::{
-    Barring, Big5, Big5Encoder, ByteLengths, EucJp, EucJpEncoder, EucKr, EucKrEncoder, Gb18030,
-    Gb18030Encoder, Iso2022JpEncoder, ShiftJis, ShiftJisEncoder, SingleByte, SingleByteEncoder,
-    Utf8, Utf8Encoder, XUserDefined, XUserDefinedEncoder,
-};
+use enc_encoder::{Barring, ByteLengths};
+use enc_index::Codec;
 
-/// Whether an encoding has an encoder: all have one but UTF-16BE, UTF-16LE and replacement. Takes no memory.
+/// Returns whether an encoding has an encoder: all except UTF-16BE, UTF-16LE and replacement.
+///
+/// Takes no memory.
 pub fn has_encoder(codec: Codec) -> bool
     ensures { result ≡ is_some (encoder_rule codec) }
 {
@@ -24,7 +33,7 @@ pub fn has_encoder(codec: Codec) -> bool
     }
 }
 
-/// The encoder of gb18030, or of GBK.
+/// Returns the encoder of gb18030, or of GBK.
 fn new_gb18030(is_gbk: bool, barred: &'static [char]) -> Gb18030Encoder
     ensures is_gbk { result.repertoire.repertoire.is_gbk ≡ is_gbk }
     ensures barred { result.repertoire.barred.now ≡ barred.now }
@@ -32,8 +41,11 @@ fn new_gb18030(is_gbk: bool, barred: &'static [char]) -> Gb18030Encoder
     Gb18030Encoder::new(Barring::new(Gb18030 { is_gbk }, barred))
 }
 
-/// An encoder at the start of a text, to which these characters are unmappable too. It keeps them, also behind the end of the text.
-/// Conditions: the encoding has an encoder, and each of the characters is U+0080 or above. Takes no memory.
+/// Returns an encoder at the start of a text, with barred characters.
+///
+/// The characters of `barred` are unmappable too. The encoder keeps the list, also after the end of
+/// the text. Takes no memory. Conditions: the encoding has an encoder, and each character of the
+/// list is U+0080 or above.
 pub fn new_encoder(codec: Codec, barred: &'static [char]) -> VariantEncoder
     requires encoder { is_some (encoder_rule codec) ≡ true }
     requires barred { are_beyond_ascii barred.now ≡ true }
@@ -66,8 +78,9 @@ pub fn new_encoder(codec: Codec, barred: &'static [char]) -> VariantEncoder
     }
 }
 
-/// Which formulas tell the greatest number of bytes of a text that is written where an encoding is asked for: those of UTF-8, if
-/// it has no encoder. Takes no memory.
+/// Returns the formulas for the lengths to allocate in the output encoding.
+///
+/// They are those of UTF-8 if the encoding has no encoder. Takes no memory.
 pub fn byte_lengths(codec: Codec) -> ByteLengths
     ensures { result ≡ encoder_lengths codec }
 {

@@ -1,15 +1,24 @@
-//! Which encoder an encoding has, and an encoder that is any of them.
+//! The nine encoders, each by the bytes of its characters, the encoder of an encoding, and an
+//! encoder that is any of them.
+//!
+//! Rows by codec are written by scripts/make-codecs from data/codecs.txt.
 #![tactic(auto)]
 
 mod choice;
+mod encoders;
 mod variant;
 
 pub use choice::{byte_lengths, has_encoder, new_encoder};
-pub use enc_codec::Codec;
-pub use enc_encoders::{
-    Barring, Big5, Big5Encoder, ByteLengths, CharacterSet, EncoderResult, EucJp, EucJpEncoder,
-    EucKr, EucKrEncoder, Gb18030, Gb18030Encoder, Iso2022JpEncoder, RawEncoder, ShiftJis,
-    ShiftJisEncoder, SingleByte, SingleByteEncoder, Utf8, Utf8Encoder, XUserDefined,
-    XUserDefinedEncoder,
-};
+pub use enc_encoder::{Barring, ByteLengths, CharacterSet, RawEncoder};
+pub use enc_index::Codec;
+pub use enc_units::EncoderResult;
+pub use encoders::big5::{Big5, Big5Encoder};
+pub use encoders::euc_jp::{EucJp, EucJpEncoder};
+pub use encoders::euc_kr::{EucKr, EucKrEncoder};
+pub use encoders::gb18030::{Gb18030, Gb18030Encoder};
+pub use encoders::iso_2022_jp::Iso2022JpEncoder;
+pub use encoders::shift_jis::{ShiftJis, ShiftJisEncoder};
+pub use encoders::single_byte::{SingleByte, SingleByteEncoder};
+pub use encoders::utf_8::{Utf8, Utf8Encoder};
+pub use encoders::x_user_defined::{XUserDefined, XUserDefinedEncoder};
 pub use variant::VariantEncoder;

@@ -1,32 +1,39 @@
-//! One encoder of any encoding.
+//! An encoder of any encoding.
+//!
+//! Rows by codec are written by scripts/make-codecs from data/codecs.txt.
 
-use enc_encoders::{
-    Big5Encoder, ByteLengths, EncoderResult, EucJpEncoder, EucKrEncoder, Gb18030Encoder,
-    Iso2022JpEncoder, RawEncoder, ShiftJisEncoder, SingleByteEncoder, Utf8Encoder,
-    XUserDefinedEncoder,
-};
-use enc_units::Chars;
+use crate::encoders::big5::Big5Encoder;
+use crate::encoders::euc_jp::EucJpEncoder;
+use crate::encoders::euc_kr::EucKrEncoder;
+use crate::encoders::gb18030::Gb18030Encoder;
+use crate::encoders::iso_2022_jp::Iso2022JpEncoder;
+use crate::encoders::shift_jis::ShiftJisEncoder;
+use crate::encoders::single_byte::SingleByteEncoder;
+use crate::encoders::utf_8::Utf8Encoder;
+use crate::encoders::x_user_defined::XUserDefinedEncoder;
+use enc_encoder::{ByteLengths, RawEncoder};
+use enc_units::{Chars, EncoderResult};
 
-/// An encoder of any encoding. It is what the encoder in it is.
+/// An encoder of any encoding. It does what the encoder in it does.
 #[derive(Clone, Copy)]
 pub enum VariantEncoder {
-    /// Of UTF-8.
+    /// The encoder of UTF-8.
     Utf8(Utf8Encoder),
-    /// Of a legacy single-byte encoding.
+    /// The encoder of a legacy single-byte encoding.
     SingleByte(SingleByteEncoder),
-    /// Of Big5.
+    /// The encoder of Big5.
     Big5(Big5Encoder),
-    /// Of EUC-KR.
+    /// The encoder of EUC-KR.
     EucKr(EucKrEncoder),
-    /// Of Shift_JIS.
+    /// The encoder of Shift_JIS.
     ShiftJis(ShiftJisEncoder),
-    /// Of EUC-JP.
+    /// The encoder of EUC-JP.
     EucJp(EucJpEncoder),
-    /// Of gb18030, and of GBK.
+    /// The encoder of gb18030 and GBK.
     Gb18030(Gb18030Encoder),
-    /// Of x-user-defined.
+    /// The encoder of x-user-defined.
     XUserDefined(XUserDefinedEncoder),
-    /// Of ISO-2022-JP.
+    /// The encoder of ISO-2022-JP.
     Iso2022Jp(Iso2022JpEncoder),
 }
 

@@ -1,4 +1,5 @@
 -- Where the characters of a grid stand, and that a grid that fits the table of its index has them there.
+-- Rows by index are written by scripts/make-codecs from data/codecs.txt.
 use Rattle.std.proofs.Common.{◌≡◌, ℕ, suc, ◌+◌, ◌-◌, ◌*◌, ◌/◌, ◌%◌, ◌<◌, ◌≤◌, Bool, true, refl, sym, ap, ◌∙◌, subst}
 use Rattle.std.proofs.Common.{cond, nat_lt, List, get_or, drop, length, Option, None, Some, arith, inl, inr, lt-ltb}
 use Rattle.std.proofs.Common.{le-ltb}
@@ -27,7 +28,7 @@ module _ (grid : Grid) where
   abbrev pub pointer_char : ℕ → Option ℕ
   pointer_char pointer = index_at (planes_of (grid_index grid)) (runs_of (grid_index grid)) pointer
 
-  -- at a single byte, that of ASCII, or none
+  -- the character of a single byte: an ASCII byte, or none
   pub grid_char-of_ascii : (b : ℕ) → b < 128 → grid_char grid b ≡ Some b
   unfolding grid_char
   grid_char-of_ascii b l = cond-true _ _ _ (lt-ltb b 128 l)
@@ -72,10 +73,10 @@ past_table planes ts character p e l = sym e ∙ ap (entry_character planes) (ge
 
 -- no pointer has a character that is past the rows
 pointer_char-past : (grid : Grid) (p : ℕ) → grid_rows grid * grid_width grid ≤ p → pointer_char grid p ≡ None
-pointer_char-past Big5 p l = past_table All BIG5_TABLE _ p (big5_table p) l
-pointer_char-past EucKr p l = past_table Basic EUC_KR_TABLE _ p (euc_kr_table p) l
-pointer_char-past Gb18030 p l = past_table Basic GB18030_TABLE _ p (gb18030_table p) l
-pointer_char-past Jis0208 p l = past_table Basic JIS0208_TABLE _ p (jis0208_table p) l
+pointer_char-past Big5 p is_past = past_table All BIG5_TABLE _ p (big5_table p) is_past
+pointer_char-past EucKr p is_past = past_table Basic EUC_KR_TABLE _ p (euc_kr_table p) is_past
+pointer_char-past Gb18030 p is_past = past_table Basic GB18030_TABLE _ p (gb18030_table p) is_past
+pointer_char-past Jis0208 p is_past = past_table Basic JIS0208_TABLE _ p (jis0208_table p) is_past
 
 -- none in the rows after those of the index
 pub grid_char-of_empty : (grid : Grid) (r c : ℕ) → grid_rows grid ≤ r → c ≤ grid_width grid
@@ -83,7 +84,7 @@ pub grid_char-of_empty : (grid : Grid) (r c : ℕ) → grid_rows grid ≤ r → 
 grid_char-of_empty grid r c l m =
     elim (cases_lt c (grid_width grid)) [
       | inl low ↦
-          let past : grid_rows grid * grid_width grid ≤ r * grid_width grid = mul-le-mul_right (grid_width grid) l in
+          let is_past : grid_rows grid * grid_width grid ≤ r * grid_width grid = mul-le-mul_right (grid_width grid) l in
           grid_char-of_column grid r c low ∙ pointer_char-past grid (r * grid_width grid + c) (omega arith)
       | inr last ↦
           let e : grid_width grid ≡ c = omega arith in

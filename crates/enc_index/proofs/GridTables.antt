@@ -1,4 +1,5 @@
 -- The grids have the characters of their indexes.
+-- Rows by index are written by scripts/make-codecs from data/codecs.txt.
 use Rattle.std.proofs.Common.{◌≡◌, ℕ, ◌<◌, true, refl, sym, subst, get_or, Some}
 use Rattle.std.specs.Char.{IsScalar}
 use Rattle.enc_index.specs.declared.grid.Grid.{Grid}

@@ -30,62 +30,64 @@ module _ (fits : ℕ → ℕ → Bool) (width : ℕ) where
 
   rows_ok-last : (gs : List ℕ) (left : ℕ) (ts : List ℕ) → rows_ok gs left ts ≡ true → get_or gs left 0 ≡ 0
   unfolding rows_ok
-  rows_ok-last [] left ts h = refl
-  rows_ok-last (g ∷ gs) zero ts h = eqb-true g 0 (and_parts (g == 0) (rows_ok gs width ts) h).0
-  rows_ok-last (g ∷ gs) (suc left) [] h = rows_ok-last gs left [] (and_parts (g == 0) (rows_ok gs left []) h).1
-  rows_ok-last (g ∷ gs) (suc left) (t ∷ ts) h = rows_ok-last gs left ts (and_parts (fits t g) (rows_ok gs left ts) h).1
+  rows_ok-last [] left ts ok = refl
+  rows_ok-last (g ∷ gs) zero ts ok = eqb-true g 0 (and_parts (g == 0) (rows_ok gs width ts) ok).0
+  rows_ok-last (g ∷ gs) (suc left) [] ok = rows_ok-last gs left [] (and_parts (g == 0) (rows_ok gs left []) ok).1
+  rows_ok-last (g ∷ gs) (suc left) (t ∷ ts) ok =
+      rows_ok-last gs left ts (and_parts (fits t g) (rows_ok gs left ts) ok).1
 
   rows_ok-column : (gs : List ℕ) (left : ℕ) (ts : List ℕ) → rows_ok gs left ts ≡ true
       → (c : ℕ) → c < left → 0 < get_or gs c 0 → fits (get_or ts c 0) (get_or gs c 0) ≡ true
   unfolding rows_ok
-  rows_ok-column [] left ts h c l p = absurd (omega arith)
-  rows_ok-column (g ∷ gs) zero ts h c l p = absurd (omega arith)
-  rows_ok-column (g ∷ gs) (suc left) [] h zero l p =
-      let z : g ≡ 0 = eqb-true g 0 (and_parts (g == 0) (rows_ok gs left []) h).0 in absurd (omega arith)
-  rows_ok-column (g ∷ gs) (suc left) [] h (suc c) l p =
-      rows_ok-column gs left [] (and_parts (g == 0) (rows_ok gs left []) h).1 c (omega arith) p
-  rows_ok-column (g ∷ gs) (suc left) (t ∷ ts) h zero l p = (and_parts (fits t g) (rows_ok gs left ts) h).0
-  rows_ok-column (g ∷ gs) (suc left) (t ∷ ts) h (suc c) l p =
-      rows_ok-column gs left ts (and_parts (fits t g) (rows_ok gs left ts) h).1 c (omega arith) p
+  rows_ok-column [] left ts ok c l mapped = absurd (omega arith)
+  rows_ok-column (g ∷ gs) zero ts ok c l mapped = absurd (omega arith)
+  rows_ok-column (g ∷ gs) (suc left) [] ok zero l mapped =
+      let z : g ≡ 0 = eqb-true g 0 (and_parts (g == 0) (rows_ok gs left []) ok).0 in absurd (omega arith)
+  rows_ok-column (g ∷ gs) (suc left) [] ok (suc c) l mapped =
+      rows_ok-column gs left [] (and_parts (g == 0) (rows_ok gs left []) ok).1 c (omega arith) mapped
+  rows_ok-column (g ∷ gs) (suc left) (t ∷ ts) ok zero l mapped = (and_parts (fits t g) (rows_ok gs left ts) ok).0
+  rows_ok-column (g ∷ gs) (suc left) (t ∷ ts) ok (suc c) l mapped =
+      rows_ok-column gs left ts (and_parts (fits t g) (rows_ok gs left ts) ok).1 c (omega arith) mapped
 
   rows_ok-next : (gs : List ℕ) (left : ℕ) (ts : List ℕ) → rows_ok gs left ts ≡ true
       → rows_ok (drop (suc left) gs) width (drop left ts) ≡ true
   unfolding rows_ok
-  rows_ok-next [] left ts h = refl
-  rows_ok-next (g ∷ gs) zero ts h = (and_parts (g == 0) (rows_ok gs width ts) h).1
-  rows_ok-next (g ∷ gs) (suc left) [] h =
+  rows_ok-next [] left ts ok = refl
+  rows_ok-next (g ∷ gs) zero ts ok = (and_parts (g == 0) (rows_ok gs width ts) ok).1
+  rows_ok-next (g ∷ gs) (suc left) [] ok =
       subst (λ ts. rows_ok (drop (suc left) gs) width ts ≡ true) (drop_none left)
-      (rows_ok-next gs left [] (and_parts (g == 0) (rows_ok gs left []) h).1)
-  rows_ok-next (g ∷ gs) (suc left) (t ∷ ts) h = rows_ok-next gs left ts (and_parts (fits t g) (rows_ok gs left ts) h).1
+      (rows_ok-next gs left [] (and_parts (g == 0) (rows_ok gs left []) ok).1)
+  rows_ok-next (g ∷ gs) (suc left) (t ∷ ts) ok =
+      rows_ok-next gs left ts (and_parts (fits t g) (rows_ok gs left ts) ok).1
 
   -- i is a place in row r, at column c
   pub rows_ok-last_of : (r : ℕ) (gs ts : List ℕ) (i : ℕ) → rows_ok gs width ts ≡ true → i ≡ r * suc width + width
       → get_or gs i 0 ≡ 0
-  rows_ok-last_of zero gs ts i h e =
-      ap (λ k. get_or gs k 0) (omega arith) ∙ rows_ok-last gs width ts h
-  rows_ok-last_of (suc r) gs ts i h e =
+  rows_ok-last_of zero gs ts i ok e =
+      ap (λ k. get_or gs k 0) (omega arith) ∙ rows_ok-last gs width ts ok
+  rows_ok-last_of (suc r) gs ts i ok e =
       let s = suc-mul r (suc width) in
       sym (after_drop (suc width) (r * suc width + width) i gs (omega arith))
       ∙ rows_ok-last_of r (drop (suc width) gs) (drop width ts) (r * suc width + width)
-      (rows_ok-next gs width ts h) refl
+      (rows_ok-next gs width ts ok) refl
 
   pub rows_ok-at : (r : ℕ) (gs ts : List ℕ) (c i p : ℕ) → rows_ok gs width ts ≡ true → c < width
       → i ≡ r * suc width + c → p ≡ r * width + c → 0 < get_or gs i 0 → fits (get_or ts p 0) (get_or gs i 0) ≡ true
-  rows_ok-at zero gs ts c i p h l e f some =
-      let a : c ≡ i = omega arith in
+  rows_ok-at zero gs ts c i p ok within e f some =
+      let same_place : c ≡ i = omega arith in
       let b : c ≡ p = omega arith in
       subst (λ k. fits (get_or ts k 0) (get_or gs i 0) ≡ true) b
-      (subst (λ k. fits (get_or ts c 0) (get_or gs k 0) ≡ true) a
-      (rows_ok-column gs width ts h c l (subst (λ k. 0 < get_or gs k 0) (sym a) some)))
-  rows_ok-at (suc r) gs ts c i p h l e f some =
+      (subst (λ k. fits (get_or ts c 0) (get_or gs k 0) ≡ true) same_place
+      (rows_ok-column gs width ts ok c within (subst (λ k. 0 < get_or gs k 0) (sym same_place) some)))
+  rows_ok-at (suc r) gs ts c i p ok within e f some =
       let s = suc-mul r (suc width) in
       let t = suc-mul r width in
-      let a = after_drop (suc width) (r * suc width + c) i gs (omega arith) in
+      let at_row = after_drop (suc width) (r * suc width + c) i gs (omega arith) in
       let b = after_drop width (r * width + c) p ts (omega arith) in
       subst (λ k. fits k (get_or gs i 0) ≡ true) b
-      (subst (λ k. fits (get_or (drop width ts) (r * width + c) 0) k ≡ true) a
+      (subst (λ k. fits (get_or (drop width ts) (r * width + c) 0) k ≡ true) at_row
       (rows_ok-at r (drop (suc width) gs) (drop width ts) c (r * suc width + c) (r * width + c)
-      (rows_ok-next gs width ts h) l refl refl (subst (λ k. 0 < k) (sym a) some)))
+      (rows_ok-next gs width ts ok) within refl refl (subst (λ k. 0 < k) (sym at_row) some)))
 
 module _ (kind : ℕ → ℕ → Bool) where
   -- an entry fits the code point of a pointer, and one of the first 256 fits its byte
@@ -105,24 +107,24 @@ module _ (kind : ℕ → ℕ → Bool) where
     pub places_ok-byte : (gs : List ℕ) (left b : ℕ) → places_ok planes width ts gs left b ≡ true
         → (i : ℕ) → i < left → 0 < get_or gs i 0 → byte_ok (b + i) (get_or gs i 0) ≡ true
     unfolding places_ok
-    places_ok-byte [] left b h i l some = absurd (omega arith)
-    places_ok-byte (g ∷ gs) zero b h i l some = absurd (omega arith)
-    places_ok-byte (g ∷ gs) (suc left) b h zero l some =
+    places_ok-byte [] left b ok i l some = absurd (omega arith)
+    places_ok-byte (g ∷ gs) zero b ok i l some = absurd (omega arith)
+    places_ok-byte (g ∷ gs) (suc left) b ok zero l some =
         let e : b ≡ b + 0 = omega arith in
-        subst (λ k. byte_ok k g ≡ true) e (and_parts (byte_ok b g) (places_ok planes width ts gs left (b + 1)) h).0
-    places_ok-byte (g ∷ gs) (suc left) b h (suc i) l some =
+        subst (λ k. byte_ok k g ≡ true) e (and_parts (byte_ok b g) (places_ok planes width ts gs left (b + 1)) ok).0
+    places_ok-byte (g ∷ gs) (suc left) b ok (suc i) l some =
         let e : b + 1 + i ≡ b + suc i = omega arith in
-        let rest = (and_parts (byte_ok b g) (places_ok planes width ts gs left (b + 1)) h).1 in
+        let rest = (and_parts (byte_ok b g) (places_ok planes width ts gs left (b + 1)) ok).1 in
         subst (λ k. byte_ok k (get_or gs i 0) ≡ true) e (places_ok-byte gs left (b + 1) rest i (omega arith) some)
 
     pub places_ok-rows : (gs : List ℕ) (left b : ℕ) → places_ok planes width ts gs left b ≡ true
         → rows_ok (entry_ok planes) width (drop left gs) width ts ≡ true
     unfolding places_ok rows_ok
-    places_ok-rows [] left b h =
+    places_ok-rows [] left b ok =
         subst (λ gs. rows_ok (entry_ok planes) width gs width ts ≡ true) (sym (drop_none left)) refl
-    places_ok-rows (g ∷ gs) zero b h = h
-    places_ok-rows (g ∷ gs) (suc left) b h =
-        places_ok-rows gs left (b + 1) (and_parts (byte_ok b g) (places_ok planes width ts gs left (b + 1)) h).1
+    places_ok-rows (g ∷ gs) zero b ok = ok
+    places_ok-rows (g ∷ gs) (suc left) b ok =
+        places_ok-rows gs left (b + 1) (and_parts (byte_ok b g) (places_ok planes width ts gs left (b + 1)) ok).1
 
   -- there is a character, and the entry is right for it
   abbrev pub Found : Option ℕ → ℕ → Type 0

@@ -1,4 +1,5 @@
 -- The tables of the multi-byte indexes have what their runs say.
+-- Rows by index are written by scripts/make-codecs from data/codecs.txt.
 use Rattle.std.proofs.Common.{◌≡◌, ℕ, true, refl, get_or}
 use Rattle.enc_index.specs.declared.table.Planes.TheVariants.{Basic, All}
 use Rattle.enc_index.specs.declared.list.List.TheVariants.{Big5, EucKr, Gb18030, Gb18030Ranges, Jis0208, Jis0212}

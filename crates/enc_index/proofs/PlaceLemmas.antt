@@ -15,10 +15,12 @@ tabulates f k (x ∷ xs) = x == f k && tabulates f (k + 1) xs
 tabulated_from : (f : ℕ → ℕ) (k : ℕ) (xs : List ℕ) → tabulates f k xs ≡ true → (i : ℕ) → i < length xs
     → get_or xs i 0 ≡ f (k + i)
 unfolding tabulates
-tabulated_from f k [] h i l = absurd (omega arith)
-tabulated_from f k (x ∷ xs) h zero l = eqb-true x (f k) (and_parts (x == f k) (tabulates f (k + 1) xs) h).0 ∙ ap f (omega arith)
-tabulated_from f k (x ∷ xs) h (suc i) l =
-    tabulated_from f (k + 1) xs (and_parts (x == f k) (tabulates f (k + 1) xs) h).1 i (omega arith) ∙ ap f (omega arith)
+tabulated_from f k [] is_tabulated i l = absurd (omega arith)
+tabulated_from f k (x ∷ xs) is_tabulated zero l =
+    eqb-true x (f k) (and_parts (x == f k) (tabulates f (k + 1) xs) is_tabulated).0 ∙ ap f (omega arith)
+tabulated_from f k (x ∷ xs) is_tabulated (suc i) l =
+    tabulated_from f (k + 1) xs (and_parts (x == f k) (tabulates f (k + 1) xs) is_tabulated).1 i (omega arith)
+    ∙ ap f (omega arith)
 
 pub tabulated : (f : ℕ → ℕ) (xs : List ℕ) → tabulates f 0 xs ≡ true → (i : ℕ) → i < length xs → get_or xs i 0 ≡ f i
 tabulated f xs h i l = tabulated_from f 0 xs h i l ∙ ap f (omega arith)
@@ -27,13 +29,15 @@ tabulated f xs h i l = tabulated_from f 0 xs h i l ∙ ap f (omega arith)
 abbrev pub both : (ℕ → ℕ) → (ℕ → ℕ) → ℕ → ℕ
 both rows columns i = cond (nat_lt i 256) (rows i) (columns (i - 256))
 
-module _ (rows columns : ℕ → ℕ) (xs : List ℕ) (h : tabulates (both rows columns) 0 xs ≡ true) (long : length xs ≡ 512) where
+module _ (rows columns : ℕ → ℕ) (xs : List ℕ) (is_tabulated : tabulates (both rows columns) 0 xs ≡ true)
+    (long : length xs ≡ 512) where
   pub row_in : (a : ℕ) → a < 256 → get_or xs a 0 ≡ rows a
-  row_in a l = tabulated (both rows columns) xs h a (omega arith) ∙ cond-true _ _ _ (lt-ltb a 256 l)
+  row_in a l = tabulated (both rows columns) xs is_tabulated a (omega arith) ∙ cond-true _ _ _ (lt-ltb a 256 l)
 
   pub column_in : (b : ℕ) → b < 256 → get_or xs (256 + b) 0 ≡ columns b
   column_in b l =
-      tabulated (both rows columns) xs h (256 + b) (omega arith) ∙ cond-false _ _ _ (le-ltb (256 + b) 256 (omega arith)) ∙ ap columns (omega arith)
+      tabulated (both rows columns) xs is_tabulated (256 + b) (omega arith)
+      ∙ cond-false _ _ _ (le-ltb (256 + b) 256 (omega arith)) ∙ ap columns (omega arith)
 
 pub same_some : (b c : ℕ) → Some b ≡ Some c → b ≡ c
 same_some b c e = cc
@@ -54,15 +58,20 @@ record Stands (grid : Grid) (row column c : ℕ) : Type 0 where
 -- a character at a row and a column is that of their pointer
 stands : (grid : Grid) (row column c : ℕ) → column ≤ grid_width grid
     → grid_char grid (256 + row * (grid_width grid + 1) + column) ≡ Some c → Stands grid row column c
-stands grid row column c l e =
+stands grid row column c l has_char =
     let place = 256 + row * (grid_width grid + 1) + column in
     elim (cases_lt row (grid_rows grid)) [
-      | inr past ↦ absurd (some_none _ c (grid_char-of_empty grid row column past l) e)
+      | inr past ↦ absurd (some_none _ c (grid_char-of_empty grid row column past l) has_char)
       | inl r ↦ elim (cases_lt column (grid_width grid)) [
-        | inl k ↦ record { in_rows = r; in_columns = k; is = sym (grid_char-of_column grid row column k) ∙ e }
+        | inl within_width ↦ record {
+          in_rows = r;
+          in_columns = within_width;
+          is = sym (grid_char-of_column grid row column within_width) ∙ has_char;
+        }
         | inr past ↦
             let last : column ≡ grid_width grid = omega arith in
-            absurd (some_none _ c (ap (λ k. grid_char grid (256 + row * (grid_width grid + 1) + k)) last ∙ grid_char-of_last grid row) e)
+            absurd (some_none _ c (ap (λ k. grid_char grid (256 + row * (grid_width grid + 1) + k)) last
+            ∙ grid_char-of_last grid row) has_char)
       ]
     ]
 
@@ -85,14 +94,15 @@ module _ (grid : Grid) (is_lead is_trail : ℕ → Bool) (row extra column : ℕ
       let r = cond (is_lead a) (row a) (grid_rows grid) in
       let k = cond (is_trail b) (column b) (grid_width grid) in
       let at : place ≡ 256 + (r + extra b) * (grid_width grid + 1) + k = omega arith in
-      let s = stands grid (r + extra b) k c (bounded (is_trail b) small) (ap (grid_char grid) (sym at) ∙ g) in
-      let lead = below (is_lead a) (row a) (grid_rows grid) (omega (arith, s.in_rows)) in
-      let trail = below (is_trail b) (column b) (grid_width grid) s.in_columns in
+      let row_and_column = stands grid (r + extra b) k c (bounded (is_trail b) small)
+      (ap (grid_char grid) (sym at) ∙ g) in
+      let lead = below (is_lead a) (row a) (grid_rows grid) (omega (arith, row_and_column.in_rows)) in
+      let trail = below (is_trail b) (column b) (grid_width grid) row_and_column.in_columns in
       record {
         lead = lead;
         trail = trail;
         is = sym (ap (λ p. pointer_char grid p) (ap (λ x. (x + extra b) * grid_width grid + k) (cond-true _ _ _ lead)
-            ∙ ap (λ x. (row a + extra b) * grid_width grid + x) (cond-true _ _ _ trail))) ∙ s.is;
+            ∙ ap (λ x. (row a + extra b) * grid_width grid + x) (cond-true _ _ _ trail))) ∙ row_and_column.is;
       }
     where
       bounded : (t : Bool) → (t ≡ true → column b < grid_width grid)

@@ -1,5 +1,6 @@
 -- The character of a pointer by the first run that has it.
-use Rattle.std.proofs.Common.{◌≡◌, ℕ, ◌+◌, ◌-◌, Bool, true, false, ◌&&◌, nat_le, List, [], ◌∷◌, cond, Option, Some, None, refl}
+use Rattle.std.proofs.Common.{◌≡◌, ℕ, ◌+◌, ◌-◌, Bool, true, false, ◌&&◌, nat_le, List, [], ◌∷◌, cond, Option, Some}
+use Rattle.std.proofs.Common.{None, refl}
 use Rattle.enc_index.specs.declared.table.Planes.{Planes}
 use Rattle.enc_index.specs.Index.{Run, entry_character, index_at}
 use Rattle.enc_index.specs.Search.{run_with_pointer}

@@ -1,5 +1,7 @@
 -- A table of code points has what the runs say, by a test that goes through both once.
-use Rattle.std.proofs.Common.{◌≡◌, ℕ, zero, suc, ◌+◌, ◌-◌, ◌<◌, ◌≤◌, Bool, true, false, refl, sym, ap, ◌∙◌, subst, cond, ◌&&◌, ◌==◌, nat_lt, List, [], ◌∷◌, get_or, None, arith, inl, inr, eqb-true, le-leb, lt-ltb, le-ltb}
+use Rattle.std.proofs.Common.{◌≡◌, ℕ, zero, suc, ◌+◌, ◌-◌, ◌<◌, ◌≤◌, Bool, true, false, refl, sym, ap, ◌∙◌, subst, cond}
+use Rattle.std.proofs.Common.{◌&&◌, ◌==◌, nat_lt, List, [], ◌∷◌, get_or, None, arith, inl, inr, eqb-true, le-leb}
+use Rattle.std.proofs.Common.{lt-ltb, le-ltb}
 use Rattle.std.proofs.lemmas.Bool.{cond-true, cond-false, and_parts, and_left, and_right, and_from, cases_lt, lt-leb}
 use Rattle.enc_index.specs.declared.table.Planes.{Planes}
 use Rattle.enc_index.specs.Index.{Run, index_at, entry_character}
@@ -18,28 +20,31 @@ table_ok p (r ∷ rs) (t ∷ ts) =
     let inner = cond (nat_lt p r.1) within ends in
     cond (nat_lt p r.0) before inner
 
--- the first run ends at p or behind it, and the others come after it
+-- the first run ends at p or after it, and the others come after it
 abbrev Going : ℕ → List Run → Type 0
 Going p [] = Unit {0}
 Going p (r ∷ rs) = (p ≤ r.1) × (r.0 ≤ r.1) × (are_ascending_runs (r.1 + 1) rs ≡ true)
 
 ascending-going : (p : ℕ) (runs : List Run) → are_ascending_runs p runs ≡ true → Going p runs
 ascending-going p [] h = tt
-ascending-going p (r ∷ rs) h = let t = ascending_parts p r rs h in (omega (arith, t.0, t.1), t.1, t.2)
+ascending-going p (r ∷ rs) h =
+    let parts = ascending_parts p r rs h in (omega (arith, parts.0, parts.1), parts.1, parts.2)
 
 -- the three cases of the test
-module _ (p : ℕ) (r : Run) (rs : List Run) (t : ℕ) (ts : List ℕ) (h : table_ok p (r ∷ rs) (t ∷ ts) ≡ true) where
+module _ (p : ℕ) (r : Run) (rs : List Run) (t : ℕ) (ts : List ℕ) (ok : table_ok p (r ∷ rs) (t ∷ ts) ≡ true) where
   table_ok-before : p < r.0 → (t == 0 ≡ true) × (table_ok (p + 1) (r ∷ rs) ts ≡ true)
   unfolding table_ok
-  table_ok-before l = and_parts _ _ (sym (cond-true _ _ _ (lt-ltb p r.0 l)) ∙ h)
+  table_ok-before l = and_parts _ _ (sym (cond-true _ _ _ (lt-ltb p r.0 l)) ∙ ok)
 
   table_ok-within : r.0 ≤ p → p < r.1 → (t == r.2 + (p - r.0) ≡ true) × (table_ok (p + 1) (r ∷ rs) ts ≡ true)
   unfolding table_ok
-  table_ok-within l m = and_parts _ _ (sym (cond-true _ _ _ (lt-ltb p r.1 m)) ∙ sym (cond-false _ _ _ (le-ltb p r.0 l)) ∙ h)
+  table_ok-within l m =
+      and_parts _ _ (sym (cond-true _ _ _ (lt-ltb p r.1 m)) ∙ sym (cond-false _ _ _ (le-ltb p r.0 l)) ∙ ok)
 
   table_ok-ends : r.0 ≤ p → r.1 ≤ p → (t == r.2 + (p - r.0) ≡ true) × (table_ok (p + 1) rs ts ≡ true)
   unfolding table_ok
-  table_ok-ends l m = and_parts _ _ (sym (cond-false _ _ _ (le-ltb p r.1 m)) ∙ sym (cond-false _ _ _ (le-ltb p r.0 l)) ∙ h)
+  table_ok-ends l m =
+      and_parts _ _ (sym (cond-false _ _ _ (le-ltb p r.1 m)) ∙ sym (cond-false _ _ _ (le-ltb p r.0 l)) ∙ ok)
 
 module _ (planes : Planes) where
   pub index_at-before : (r : Run) (rs : List Run) (q : ℕ) → q < r.0 → index_at planes (r ∷ rs) q ≡ index_at planes rs q
@@ -56,8 +61,9 @@ module _ (planes : Planes) where
   pub index_at-below : (low : ℕ) (rs : List Run) (q : ℕ) → are_ascending_runs low rs ≡ true → q < low → index_at planes rs q ≡ None
   index_at-below low [] q h lt = refl
   index_at-below low (r ∷ rs) q h lt =
-      let t = ascending_parts low r rs h in
-      index_at-before r rs q (omega (arith, t.0)) ∙ index_at-below (r.1 + 1) rs q t.2 (omega (arith, t.0, t.1))
+      let parts = ascending_parts low r rs h in
+      index_at-before r rs q (omega (arith, parts.0))
+      ∙ index_at-below (r.1 + 1) rs q parts.2 (omega (arith, parts.0, parts.1))
 
   none : (t : ℕ) → t == 0 ≡ true → entry_character planes t ≡ None
   none t h = ap (entry_character planes) (eqb-true t 0 h)
@@ -73,42 +79,47 @@ module _ (planes : Planes) where
 
   entry_character-head : (t : ℕ) (ts : List ℕ) (p : ℕ) (r : Run) (rs : List Run) → Going p (r ∷ rs) → table_ok p (r ∷ rs) (t ∷ ts) ≡ true
       → entry_character planes t ≡ index_at planes (r ∷ rs) p
-  entry_character-head t ts p r rs g h =
+  entry_character-head t ts p r rs going ok =
       elim (cases_lt p r.0) [
         | inl before ↦
-            none t (table_ok-before p r rs t ts h before).0
-            ∙ sym (index_at-before r rs p before ∙ index_at-below (r.1 + 1) rs p g.2 (omega (arith, g.1)))
+            none t (table_ok-before p r rs t ts ok before).0
+            ∙ sym (index_at-before r rs p before ∙ index_at-below (r.1 + 1) rs p going.2 (omega (arith, going.1)))
         | inr from ↦
             elim (cases_lt p r.1) [
               | inl within ↦
-                  some t _ (table_ok-within p r rs t ts h from within).0 ∙ sym (index_at-within r rs p from g.0)
+                  some t _ (table_ok-within p r rs t ts ok from within).0 ∙ sym (index_at-within r rs p from going.0)
               | inr ends ↦
-                  some t _ (table_ok-ends p r rs t ts h from ends).0 ∙ sym (index_at-within r rs p from g.0)
+                  some t _ (table_ok-ends p r rs t ts ok from ends).0 ∙ sym (index_at-within r rs p from going.0)
             ]
       ]
 
   pub entry_character-index_at : (ts : List ℕ) (p : ℕ) (runs : List Run) → Going p runs → table_ok p runs ts ≡ true
       → (i : ℕ) → entry_character planes (get_or ts i 0) ≡ index_at planes runs (p + i)
   unfolding table_ok
-  entry_character-index_at [] p [] g h i = refl
-  entry_character-index_at [] p (r ∷ rs) g h i = cc
-  entry_character-index_at (t ∷ ts) p [] g h zero = none t (and_parts (t == 0) (table_ok (p + 1) [] ts) h).0
-  entry_character-index_at (t ∷ ts) p [] g h (suc i) = entry_character-index_at ts (p + 1) [] tt (and_parts (t == 0) (table_ok (p + 1) [] ts) h).1 i
-  entry_character-index_at (t ∷ ts) p (r ∷ rs) g h zero = entry_character-head t ts p r rs g h ∙ at_zero (r ∷ rs) p
-  entry_character-index_at (t ∷ ts) p (r ∷ rs) g h (suc i) =
+  entry_character-index_at [] p [] going ok i = refl
+  entry_character-index_at [] p (r ∷ rs) going ok i = cc
+  entry_character-index_at (t ∷ ts) p [] going ok zero = none t (and_parts (t == 0) (table_ok (p + 1) [] ts) ok).0
+  entry_character-index_at (t ∷ ts) p [] going ok (suc i) =
+      entry_character-index_at ts (p + 1) [] tt (and_parts (t == 0) (table_ok (p + 1) [] ts) ok).1 i
+  entry_character-index_at (t ∷ ts) p (r ∷ rs) going ok zero =
+      entry_character-head t ts p r rs going ok ∙ at_zero (r ∷ rs) p
+  entry_character-index_at (t ∷ ts) p (r ∷ rs) going ok (suc i) =
       elim (cases_lt p r.0) [
         | inl before ↦
-            entry_character-index_at ts (p + 1) (r ∷ rs) (omega (arith, g.1), g.1, g.2) (table_ok-before p r rs t ts h before).1 i
+            entry_character-index_at ts (p + 1) (r ∷ rs) (omega (arith, going.1), going.1, going.2)
+            (table_ok-before p r rs t ts ok before).1 i
             ∙ at_suc (r ∷ rs) p i
         | inr from ↦
             elim (cases_lt p r.1) [
               | inl within ↦
-                  entry_character-index_at ts (p + 1) (r ∷ rs) (omega arith, g.1, g.2) (table_ok-within p r rs t ts h from within).1 i
+                  entry_character-index_at ts (p + 1) (r ∷ rs) (omega arith, going.1, going.2)
+                  (table_ok-within p r rs t ts ok from within).1 i
                   ∙ at_suc (r ∷ rs) p i
               | inr ends ↦
-                  let here : r.1 ≡ p = omega (arith, g.0) in
-                  entry_character-index_at ts (p + 1) rs (ascending-going (p + 1) rs (subst (λ k. are_ascending_runs (k + 1) rs ≡ true) here g.2))
-                  (table_ok-ends p r rs t ts h from ends).1 i
+                  let here : r.1 ≡ p = omega (arith, going.0) in
+                  entry_character-index_at ts (p + 1) rs
+                  (ascending-going (p + 1) rs (subst (λ k. are_ascending_runs (k + 1) rs ≡ true) here going.2))
+                  (table_ok-ends p r rs t ts ok from ends).1 i
                   ∙ at_suc rs p i ∙ sym (index_at-after r rs (p + suc i) (omega arith))
             ]
       ]

@@ -1,4 +1,5 @@
--- Grids: indexes laid out by rows, where the place of two bytes is a sum. The characters are those of the index.
+-- Grids: double-byte indexes laid out by rows, in which the place of two bytes is a sum.
+-- Rows by index are written by scripts/make-codecs from data/codecs.txt.
 use Rattle.std.specs.Prelude.{◌≡◌, ℕ, ◌+◌, ◌-◌, ◌*◌, ◌/◌, ◌%◌, ◌≤◌, nat_lt, Option, Some, None, take, if◌then◌else◌}
 use Rattle.std.specs.Char.{IsScalar, encode_utf8}
 use Rattle.std.specs.Int.{to_le_bytes, w32}
@@ -17,14 +18,14 @@ grid_index EucKr = IndexEucKr
 grid_index Gb18030 = IndexGb18030
 grid_index Jis0208 = IndexJis0208
 
--- how many pointers are in a row
+-- the number of pointers in a row
 abbrev pub grid_width : Grid → ℕ
 grid_width Big5 = 157
 grid_width EucKr = 190
 grid_width Gb18030 = 190
 grid_width Jis0208 = 94
 
--- how many rows of pointers there are
+-- the number of rows of pointers
 abbrev pub grid_rows : Grid → ℕ
 grid_rows Big5 = 126
 grid_rows EucKr = 126
@@ -35,7 +36,8 @@ grid_rows Jis0208 = 120
 abbrev pub grid_len : Grid → ℕ
 grid_len grid = 256 + (grid_rows grid + 2) * (grid_width grid + 1)
 
--- after the places of single bytes: the character of the pointer at a row and a column, and none in the last column
+-- the character of a place after those of single bytes: that of the pointer at its row and column, and none in the last
+-- column
 abbrev pub cell_char : Grid → ℕ → Option ℕ
 cell_char grid cell =
     let width = grid_width grid in
@@ -49,13 +51,13 @@ unfoldable pub grid_char : Grid → ℕ → Option ℕ
 grid_char grid place =
     if nat_lt place 128 then Some place else (if nat_lt place 256 then None else cell_char grid (place - 256))
 
--- a word has the UTF-8 of a character: its bytes, the first lowest, and their number in the highest byte, 3 at most
+-- the word has the UTF-8 of a character: its bytes, the first lowest, and their number in the highest byte, at most 3
 pub record IsUtf8Word (c word : ℕ) : Type 0 where
   pub scalar : IsScalar c
   pub bound : word / 0x100_0000 ≤ 3
   pub bytes : take (word / 0x100_0000) (to_le_bytes w32 word) ≡ encode_utf8 c
 
--- there is a character, and a word has its UTF-8
+-- there is a character, and the word has its UTF-8
 pub record HasWord (character : Option ℕ) (word : ℕ) : Type 0 where
   pub c : ℕ
   pub is : character ≡ Some c

@@ -1,12 +1,33 @@
 -- The indexes by name (Encoding Standard 5). Their runs don't unfold: no proof of an encoding reads an entry.
+-- Rows by index are written by scripts/make-codecs from data/codecs.txt and data/encodings.txt.
 use Rattle.std.specs.Prelude.{ℕ, Option, List}
 use Rattle.enc_index.specs.declared.table.Planes.{Planes}
 use Rattle.enc_index.specs.declared.table.Planes.TheVariants.{Basic, All}
 use Rattle.enc_index.specs.declared.list.List.{List as Index}
-use Rattle.enc_index.specs.declared.list.List.TheVariants.{SingleByte, Big5, EucKr, Gb18030, Gb18030Ranges, Jis0208, Jis0212}
+use Rattle.enc_index.specs.declared.list.List.TheVariants.{SingleByte, Big5, EucKr, Gb18030, Gb18030Ranges, Jis0208}
+use Rattle.enc_index.specs.declared.list.List.TheVariants.{Jis0212}
 use Rattle.enc_index.specs.declared.single_byte_index.SingleByteIndex.{SingleByteIndex}
-use Rattle.enc_index.specs.declared.single_byte_index.SingleByteIndex.TheVariants.{Ibm866, Iso88592, Iso88593, Iso88594, Iso88595, Iso88596, Iso88597, Iso88598, Iso885910, Iso885913, Iso885914, Iso885915, Iso885916, Koi8R, Koi8U, Macintosh, Windows874, Windows1250, Windows1251, Windows1252, Windows1253, Windows1254, Windows1255, Windows1256, Windows1257, Windows1258, XMacCyrillic}
-use Rattle.enc_index.specs.declared.data.single_byte.TheConstants.{IBM866_RUNS, ISO_8859_2_RUNS, ISO_8859_3_RUNS, ISO_8859_4_RUNS, ISO_8859_5_RUNS, ISO_8859_6_RUNS, ISO_8859_7_RUNS, ISO_8859_8_RUNS, ISO_8859_10_RUNS, ISO_8859_13_RUNS, ISO_8859_14_RUNS, ISO_8859_15_RUNS, ISO_8859_16_RUNS, KOI8_R_RUNS, KOI8_U_RUNS, MACINTOSH_RUNS, WINDOWS_874_RUNS, WINDOWS_1250_RUNS, WINDOWS_1251_RUNS, WINDOWS_1252_RUNS, WINDOWS_1253_RUNS, WINDOWS_1254_RUNS, WINDOWS_1255_RUNS, WINDOWS_1256_RUNS, WINDOWS_1257_RUNS, WINDOWS_1258_RUNS, X_MAC_CYRILLIC_RUNS}
+use Rattle.enc_index.specs.declared.single_byte_index.SingleByteIndex.TheVariants.{Ibm866, Iso88592, Iso88593, Iso88594}
+use Rattle.enc_index.specs.declared.single_byte_index.SingleByteIndex.TheVariants.{Iso88595, Iso88596, Iso88597}
+use Rattle.enc_index.specs.declared.single_byte_index.SingleByteIndex.TheVariants.{Iso88598, Iso885910, Iso885913}
+use Rattle.enc_index.specs.declared.single_byte_index.SingleByteIndex.TheVariants.{Iso885914, Iso885915, Iso885916}
+use Rattle.enc_index.specs.declared.single_byte_index.SingleByteIndex.TheVariants.{Koi8R, Koi8U, Macintosh, Windows874}
+use Rattle.enc_index.specs.declared.single_byte_index.SingleByteIndex.TheVariants.{Windows1250, Windows1251}
+use Rattle.enc_index.specs.declared.single_byte_index.SingleByteIndex.TheVariants.{Windows1252, Windows1253}
+use Rattle.enc_index.specs.declared.single_byte_index.SingleByteIndex.TheVariants.{Windows1254, Windows1255}
+use Rattle.enc_index.specs.declared.single_byte_index.SingleByteIndex.TheVariants.{Windows1256, Windows1257}
+use Rattle.enc_index.specs.declared.single_byte_index.SingleByteIndex.TheVariants.{Windows1258, XMacCyrillic}
+use Rattle.enc_index.specs.declared.data.single_byte.TheConstants.{IBM866_RUNS, ISO_8859_2_RUNS, ISO_8859_3_RUNS}
+use Rattle.enc_index.specs.declared.data.single_byte.TheConstants.{ISO_8859_4_RUNS, ISO_8859_5_RUNS, ISO_8859_6_RUNS}
+use Rattle.enc_index.specs.declared.data.single_byte.TheConstants.{ISO_8859_7_RUNS, ISO_8859_8_RUNS, ISO_8859_10_RUNS}
+use Rattle.enc_index.specs.declared.data.single_byte.TheConstants.{ISO_8859_13_RUNS, ISO_8859_14_RUNS, ISO_8859_15_RUNS}
+use Rattle.enc_index.specs.declared.data.single_byte.TheConstants.{ISO_8859_16_RUNS, KOI8_R_RUNS, KOI8_U_RUNS}
+use Rattle.enc_index.specs.declared.data.single_byte.TheConstants.{MACINTOSH_RUNS, WINDOWS_874_RUNS, WINDOWS_1250_RUNS}
+use Rattle.enc_index.specs.declared.data.single_byte.TheConstants.{WINDOWS_1251_RUNS, WINDOWS_1252_RUNS}
+use Rattle.enc_index.specs.declared.data.single_byte.TheConstants.{WINDOWS_1253_RUNS, WINDOWS_1254_RUNS}
+use Rattle.enc_index.specs.declared.data.single_byte.TheConstants.{WINDOWS_1255_RUNS, WINDOWS_1256_RUNS}
+use Rattle.enc_index.specs.declared.data.single_byte.TheConstants.{WINDOWS_1257_RUNS, WINDOWS_1258_RUNS}
+use Rattle.enc_index.specs.declared.data.single_byte.TheConstants.{X_MAC_CYRILLIC_RUNS}
 use Rattle.enc_index.specs.declared.data.big5.TheConstants.{BIG5_RUNS}
 use Rattle.enc_index.specs.declared.data.euc_kr.TheConstants.{EUC_KR_RUNS}
 use Rattle.enc_index.specs.declared.data.gb18030.TheConstants.{GB18030_RUNS}
@@ -55,7 +76,7 @@ runs_of Gb18030Ranges = GB18030_RANGES_RUNS.now
 runs_of Jis0208 = JIS0208_RUNS.now
 runs_of Jis0212 = JIS0212_RUNS.now
 
--- where its characters are
+-- the planes that contain its characters
 abbrev pub planes_of : Index → Planes
 planes_of (SingleByte index) = Basic
 planes_of Big5 = All
@@ -65,7 +86,7 @@ planes_of Gb18030Ranges = All
 planes_of Jis0208 = Basic
 planes_of Jis0212 = Basic
 
--- the character of a pointer in each ("index code point")
+-- the character of a pointer in each index ("index code point")
 abbrev pub big5_at : ℕ → Option ℕ
 big5_at pointer = index_at All (runs_of Big5) pointer
 

@@ -1,8 +1,8 @@
--- Runs in ascending order, as a search by halves wants them.
+-- Ascending runs, as binary search requires them.
 use Rattle.std.specs.Prelude.{ℕ, ◌+◌, Bool, true, ◌&&◌, nat_le, Option, Some, None, List, [], ◌∷◌, if◌then◌else◌}
 use Rattle.enc_index.specs.Index.{Run}
 
--- each run begins at the bound or behind it, and ends before the next one begins
+-- each run begins at the bound or after it, and ends before the next one begins
 unfoldable pub are_ascending_runs : ℕ → List Run → Bool
 are_ascending_runs bound [] = true
 are_ascending_runs bound (run ∷ runs) =

@@ -1,7 +1,17 @@
--- Where the tables of the single-byte indexes stand, one after another.
+-- The numbers of the single-byte indexes, by which their tables follow one another.
+-- Rows by index are written by scripts/make-codecs from data/encodings.txt.
 use Rattle.std.specs.Prelude.{ℕ}
 use Rattle.enc_index.specs.declared.single_byte_index.SingleByteIndex.{SingleByteIndex}
-use Rattle.enc_index.specs.declared.single_byte_index.SingleByteIndex.TheVariants.{Ibm866, Iso88592, Iso88593, Iso88594, Iso88595, Iso88596, Iso88597, Iso88598, Iso885910, Iso885913, Iso885914, Iso885915, Iso885916, Koi8R, Koi8U, Macintosh, Windows874, Windows1250, Windows1251, Windows1252, Windows1253, Windows1254, Windows1255, Windows1256, Windows1257, Windows1258, XMacCyrillic}
+use Rattle.enc_index.specs.declared.single_byte_index.SingleByteIndex.TheVariants.{Ibm866, Iso88592, Iso88593, Iso88594}
+use Rattle.enc_index.specs.declared.single_byte_index.SingleByteIndex.TheVariants.{Iso88595, Iso88596, Iso88597}
+use Rattle.enc_index.specs.declared.single_byte_index.SingleByteIndex.TheVariants.{Iso88598, Iso885910, Iso885913}
+use Rattle.enc_index.specs.declared.single_byte_index.SingleByteIndex.TheVariants.{Iso885914, Iso885915, Iso885916}
+use Rattle.enc_index.specs.declared.single_byte_index.SingleByteIndex.TheVariants.{Koi8R, Koi8U, Macintosh, Windows874}
+use Rattle.enc_index.specs.declared.single_byte_index.SingleByteIndex.TheVariants.{Windows1250, Windows1251}
+use Rattle.enc_index.specs.declared.single_byte_index.SingleByteIndex.TheVariants.{Windows1252, Windows1253}
+use Rattle.enc_index.specs.declared.single_byte_index.SingleByteIndex.TheVariants.{Windows1254, Windows1255}
+use Rattle.enc_index.specs.declared.single_byte_index.SingleByteIndex.TheVariants.{Windows1256, Windows1257}
+use Rattle.enc_index.specs.declared.single_byte_index.SingleByteIndex.TheVariants.{Windows1258, XMacCyrillic}
 
 abbrev pub table_number : SingleByteIndex → ℕ
 table_number Ibm866 = 0

@@ -1,4 +1,6 @@
 //! Grids: double-byte indexes laid out by rows, for loops that look two bytes up with no branch.
+//!
+//! Rows by index are written by scripts/make-codecs from data/codecs.txt.
 
 ghost use Rattle.std.specs.Prelude.{◌≡◌, ◌<◌, Some};
 ghost use Rattle.std.specs.Char.{IsScalar};
@@ -9,14 +11,14 @@ use crate::data::euc_kr_grid::{EUC_KR_UNITS, EUC_KR_WORDS};
 use crate::data::gb18030_grid::{GB18030_UNITS, GB18030_WORDS};
 use crate::data::jis0208_grid::{JIS0208_UNITS, JIS0208_WORDS};
 
-/// A double-byte index laid out by rows, by name. Its places are, in this order:
+/// A double-byte index laid out by rows, by its name. Its places are, in this order:
 ///
 /// - 256 places for single bytes. The first 128 are ASCII, and the others are empty.
 /// - The rows of the index. Each has a place for each of its pointers, and an empty one for bad
 ///   trail bytes.
 /// - Two empty rows, for bad lead bytes.
 ///
-/// The place of two bytes is a sum: where the row of the lead begins, and the column of the trail.
+/// The place of two bytes is a sum: the first place of the lead's row, and the column of the trail.
 #[derive(Clone, Copy)]
 pub enum Grid {
     /// Index Big5: 126 rows of 157 pointers.
@@ -30,10 +32,10 @@ pub enum Grid {
 }
 
 impl Grid {
-    /// The UTF-8 of the character at a place, as a word: its bytes, the first lowest, and their
-    /// number in the highest byte. 0 if the place is empty or the character has four bytes.
+    /// Returns the UTF-8 of the character at a place, as a word.
     ///
-    /// It takes one load, and no memory.
+    /// The word has the bytes, the first lowest, and their number in the highest byte. 0 if the
+    /// place is empty or the character has four bytes. One load. Takes no memory.
     #[inline(always)]
     pub fn word(self, place: usize) -> u32
         requires { place < grid_len self }
@@ -47,10 +49,10 @@ impl Grid {
         }
     }
 
-    /// The UTF-16 code unit of the character at a place. 0 if the place is empty or the character
-    /// has two units. At place 0 it is the unit of U+0000, which is 0 too.
+    /// Returns the UTF-16 code unit of the character at a place.
     ///
-    /// It takes one load, and no memory.
+    /// 0 if the place is empty or the character has two code units. At place 0 it is the code unit
+    /// of U+0000, which is 0 too. One load. Takes no memory.
     #[inline(always)]
     pub fn unit(self, place: usize) -> u16
         requires { place < grid_len self }

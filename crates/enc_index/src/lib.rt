@@ -1,7 +1,8 @@
-//! The indexes of the Encoding Standard (5): their entries, and look-ups of characters by pointers in constant time,
-//! proved equal to what the entries say.
+//! The indexes of the Encoding Standard (5): their entries, and the characters of pointers in
+//! constant time, proved equal to the entries; and the names of the codecs.
 #![tactic(auto)]
 
+mod codec;
 mod data;
 mod grid;
 mod list;
@@ -9,6 +10,7 @@ mod search;
 mod single_byte_index;
 mod table;
 
+pub use codec::Codec;
 pub use grid::Grid;
 pub use list::List;
 pub use search::run_with;

@@ -1,4 +1,6 @@
 //! The indexes by name (Encoding Standard 5).
+//!
+//! Rows by index are written by scripts/make-codecs from data/codecs.txt.
 
 ghost use Rattle.std.specs.Prelude.{◌≡◌};
 ghost use Rattle.enc_index.specs.Index.{index_at};
@@ -14,9 +16,11 @@ use crate::search::character_among;
 use crate::single_byte_index::SingleByteIndex;
 use crate::table::{Planes, character_in, character_in_all};
 
-/// An index, by name. It stands for its entries: pairs of a pointer and the code point of a character. They are
-/// given as runs; a run (first pointer, last pointer, first code point) stands for the entries (first pointer,
-/// code point), (first pointer + 1, code point + 1) and so on to the last pointer.
+/// An index, by its name: entries, which are pairs of a pointer and the code point of a character.
+///
+/// They are given as runs. A run (first pointer, last pointer, first code point) stands for the
+/// entries (first pointer, code point), (first pointer + 1, code point + 1) and so on to the last
+/// pointer.
 #[derive(Clone, Copy)]
 pub enum List {
     /// The index of a legacy single-byte encoding.
@@ -25,9 +29,9 @@ pub enum List {
     Big5,
     /// Index EUC-KR.
     EucKr,
-    /// Index gb18030, of two bytes.
+    /// Index gb18030, for two bytes.
     Gb18030,
-    /// Index gb18030 ranges, of four bytes.
+    /// Index gb18030 ranges, for four bytes.
     Gb18030Ranges,
     /// Index jis0208.
     Jis0208,
@@ -36,9 +40,11 @@ pub enum List {
 }
 
 impl List {
-    /// The character of a pointer ("index code point"), by the first run that has it. `None` for an unmapped
-    /// pointer: where no run has it, or its code point is 0, a surrogate or past the last of the index's planes.
-    /// It takes one load from a table, or of gb18030 ranges a search by halves. Takes no memory.
+    /// Returns the character of a pointer ("index code point"), by the first run that has it.
+    ///
+    /// `None` for an unmapped pointer: no run has it, or its code point is 0, a surrogate or past
+    /// the index's planes. One load from a table, or for gb18030 ranges a binary search. Takes no
+    /// memory.
     #[inline(always)]
     pub fn at(&self, pointer: u32) -> Option<char>
         ensures { result ≡ index_at (planes_of self.now) (runs_of self.now) pointer }
@@ -54,7 +60,7 @@ impl List {
         }
     }
 
-    /// Its runs, in the order of their pointers. Takes no memory.
+    /// Returns its runs, in the order of their pointers. Takes no memory.
     pub fn runs(&self) -> &'static [(u32, u32, u32)]
         ensures { result.now ≡ runs_of self.now }
     {
@@ -69,7 +75,7 @@ impl List {
         }
     }
 
-    /// Where its characters are. Takes no memory.
+    /// Returns the planes that contain its characters. Takes no memory.
     pub fn planes(&self) -> Planes
         ensures { result ≡ planes_of self.now }
     {

@@ -1,4 +1,4 @@
-//! Runs in ascending order, searched by halves.
+//! Binary search in ascending runs.
 
 ghost use Rattle.std.specs.Prelude.{◌≡◌, ◌≤◌, true, IfSome};
 ghost use Rattle.enc_index.specs.Index.{index_at};
@@ -6,7 +6,7 @@ ghost use Rattle.enc_index.specs.Search.{are_ascending_runs, run_with_pointer};
 
 use crate::table::{Planes, character_behind};
 
-/// The first run that has a number. It takes a search by halves, and no memory.
+/// Returns the first run that has a number, by binary search. Takes no memory.
 ///
 /// - `runs`: ascend, and none overlaps another.
 pub fn run_with(runs: &[(u32, u32, u32)], number: u32) -> Option<(u32, u32, u32)>
@@ -30,7 +30,7 @@ pub fn run_with(runs: &[(u32, u32, u32)], number: u32) -> Option<(u32, u32, u32)
     None
 }
 
-/// The character of a pointer, by the first run that has it.
+/// Returns the character of a pointer, by the first run that has it.
 pub(crate) fn character_among(
     planes: Planes,
     runs: &[(u32, u32, u32)],

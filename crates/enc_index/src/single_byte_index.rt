@@ -1,4 +1,7 @@
-//! The indexes of the legacy single-byte encodings by name (Encoding Standard 9, "index single-byte").
+//! The indexes of the legacy single-byte encodings by name (Encoding Standard 9, "index
+//! single-byte").
+//!
+//! Rows by index are written by scripts/make-codecs from data/encodings.txt.
 
 ghost use Rattle.std.specs.Prelude.{◌≡◌, ◌<◌};
 ghost use Rattle.enc_index.specs.Index.{index_at};
@@ -16,8 +19,9 @@ use crate::data::single_byte::{
 };
 use crate::table::character_in;
 
-/// The index of a legacy single-byte encoding, by name. A pointer is a byte less 0x80. ISO-8859-8-I has that of
-/// ISO-8859-8.
+/// The index of a legacy single-byte encoding, by its name.
+///
+/// A pointer is a byte less 0x80. ISO-8859-8-I has the index of ISO-8859-8.
 #[derive(Clone, Copy)]
 pub enum SingleByteIndex {
     /// Of IBM866.
@@ -77,8 +81,9 @@ pub enum SingleByteIndex {
 }
 
 impl SingleByteIndex {
-    /// The character of a pointer, by the first run that has it. `None` for an unmapped pointer, as every one from
-    /// 128 on is. It takes one load. Takes no memory.
+    /// Returns the character of a pointer, by the first run that has it.
+    ///
+    /// `None` if it is unmapped, as every one from 128 on. One load from a table. Takes no memory.
     #[inline(always)]
     pub fn at(self, pointer: u32) -> Option<char>
         ensures { result ≡ index_at Basic (single_byte_runs self) pointer }
@@ -87,7 +92,7 @@ impl SingleByteIndex {
         character_in(&SINGLE_BYTE_TABLE[from..from + 128], pointer)
     }
 
-    /// Its runs, in the order of their pointers. Takes no memory.
+    /// Returns its runs, in the order of their pointers. Takes no memory.
     pub fn runs(self) -> &'static [(u32, u32, u32)]
         ensures { result.now ≡ single_byte_runs self }
     {
@@ -122,7 +127,9 @@ impl SingleByteIndex {
         }
     }
 
-    /// Its number, from 0 to 26, in the order above: where it stands among tables of them all. Takes no memory.
+    /// Returns its number, from 0 to 26, in the order above: its place among the tables of all.
+    ///
+    /// Takes no memory.
     #[inline(always)]
     pub fn number(self) -> usize
         ensures which { result ≡ table_number self }

@@ -4,16 +4,16 @@ ghost use Rattle.std.specs.Prelude.{◌≡◌, ◌+◌, get_or};
 ghost use Rattle.enc_index.specs.Index.{entry_character, last_code_point};
 ghost use Rattle.enc_index.specs.declared.table.Planes.TheVariants.{All, Basic};
 
-/// The planes of Unicode that an index's entries are in.
+/// The planes of Unicode that contain an index's characters.
 #[derive(Clone, Copy)]
 pub enum Planes {
-    /// The basic one, to U+FFFF.
+    /// The basic plane, to U+FFFF.
     Basic,
-    /// All of them, to U+10FFFF.
+    /// All planes, to U+10FFFF.
     All,
 }
 
-/// The last code point of the planes.
+/// Returns the last code point of the planes.
 #[inline(always)]
 fn last_of(planes: Planes) -> u32
     ensures { result ≡ last_code_point planes }
@@ -24,7 +24,7 @@ fn last_of(planes: Planes) -> u32
     }
 }
 
-/// The character of a code point, if an entry can have it.
+/// Returns the character of a code point, if an entry can have it.
 #[inline(always)]
 fn mapped(planes: Planes, code_point: u32) -> Option<char>
     ensures { result ≡ entry_character planes code_point }
@@ -35,7 +35,7 @@ fn mapped(planes: Planes, code_point: u32) -> Option<char>
     char::from_u32(code_point)
 }
 
-/// The character so many code points behind another.
+/// Returns the character `offset` code points after another.
 #[inline(always)]
 pub(crate) fn character_behind(planes: Planes, code_point: u32, offset: u32) -> Option<char>
     ensures { result ≡ entry_character planes (code_point + offset) }
@@ -46,7 +46,7 @@ pub(crate) fn character_behind(planes: Planes, code_point: u32, offset: u32) -> 
     }
 }
 
-/// The character of a pointer in a table of code points of the basic plane.
+/// Returns the character of a pointer in a table of code points of the basic plane.
 #[inline(always)]
 pub(crate) fn character_in(table: &[u16], pointer: u32) -> Option<char>
     ensures { result ≡ entry_character Basic (get_or table.now pointer 0) }
@@ -58,7 +58,7 @@ pub(crate) fn character_in(table: &[u16], pointer: u32) -> Option<char>
     None
 }
 
-/// The character of a pointer in a table of code points of all planes.
+/// Returns the character of a pointer in a table of code points of all planes.
 #[inline(always)]
 pub(crate) fn character_in_all(table: &[u32], pointer: u32) -> Option<char>
     ensures { result ≡ entry_character All (get_or table.now pointer 0) }

@@ -1,5 +1,7 @@
 -- ASCII that is handed out where it was read, and a read after a chunk was pulled.
-use Rattle.std.proofs.Common.{◌≡◌, ℕ, suc, ◌+◌, ◌-◌, ◌≤◌, inl, inr, Bool, true, false, ◌||◌, List, [], ◌∷◌, ◌++◌, length, take, drop, Option, refl, ap, ◌∙◌, sym, subst, arith, IsUtf8, append_assoc, length-append}
+use Rattle.std.proofs.Common.{◌≡◌, ℕ, suc, ◌+◌, ◌-◌, ◌≤◌, inl, inr, Bool, true, false, ◌||◌, List, [], ◌∷◌, ◌++◌}
+use Rattle.std.proofs.Common.{length, take, drop, Option, refl, ap, ◌∙◌, sym, subst, arith, IsUtf8, append_assoc}
+use Rattle.std.proofs.Common.{length-append}
 use Rattle.std.proofs.Math.ListN.{length-drop}
 use Rattle.std.proofs.lemmas.List.{length-take, take-append-drop, take-take}
 use Rattle.std.specs.Char.{encode_utf8}
@@ -7,14 +9,14 @@ use Rattle.enc_units.specs.Output.{AreScalars, units_of_text}
 use Rattle.enc_units.specs.Validity.{AreAscii}
 use Rattle.enc_units.proofs.ScalarLemmas.{ascii_scalars}
 use Rattle.enc_units.proofs.Utf8SliceLemmas.{ascii_units}
-use Rattle.enc_machine.specs.declared.byte_codec.Kind.TheVariants.{Valid}
-use Rattle.enc_machine.specs.Sequence.{Sequence, sequence_text, any_malformed}
-use Rattle.enc_machine.specs.Segmentation.{Rule, sequences_of}
+use Rattle.enc_decoder.specs.declared.byte_codec.Kind.TheVariants.{Valid}
+use Rattle.enc_decoder.specs.Sequence.{Sequence, sequence_text, any_malformed}
+use Rattle.enc_decoder.specs.Segmentation.{Rule, sequences_of}
 use Rattle.enc_codec.specs.Properties.{IsAsciiCompatible}
-use Rattle.encoding_rs.specs.LifeCycle.{phase_of, mark_in, encoding_of_mark_or, sequences_in}
-use Rattle.encoding_rs.specs.Encodings.{rule_of}
-use Rattle.encoding_rs.specs.Decoding.{DecoderState, has_finished, has_ended, remaining_sequences}
-use Rattle.encoding_rs.specs.Latin1.{DecoderMayBeLatin1}
+use Rattle.enc_stream.specs.LifeCycle.{phase_of, mark_in, encoding_of_mark_or, sequences_in}
+use Rattle.enc_stream.specs.Encodings.{rule_of}
+use Rattle.enc_stream.specs.Decoding.{DecoderState, has_finished, has_ended, remaining_sequences}
+use Rattle.enc_stream.specs.Latin1.{DecoderMayBeLatin1}
 use Rattle.enc_reader.specs.Source.{IsExhausted}
 use Rattle.enc_reader.specs.Reading.{ReaderState, ReadsOwed, HandsOut, FailsToRead, owed_sequences}
 use Rattle.enc_reader.specs.Turn.{FillsBuffer, IsOwnText}
@@ -36,28 +38,28 @@ own_valid (b ∷ bs) = own_valid bs
 
 own_first : (rule : Rule) → IsAsciiCompatible rule → (bs z : List ℕ) → AreAscii bs
     → sequences_of rule 0 (bs ++ z) ≡ own bs ++ sequences_of rule 0 z
-own_first rule c [] z a = refl
-own_first rule c (b ∷ bs) z a =
-    c b (a 0 0 (omega arith)) (bs ++ z)
+own_first rule is_compatible [] z are_ascii = refl
+own_first rule is_compatible (b ∷ bs) z are_ascii =
+    is_compatible b (are_ascii 0 0 (omega arith)) (bs ++ z)
     ∙ ap (λ ss. record { bytes = b ∷ []; text = b ∷ []; kind = Valid; set = 0 } ∷ ss)
-    (own_first rule c bs z (λ k d h. a (suc k) d (omega arith)))
+    (own_first rule is_compatible bs z (λ k d h. are_ascii (suc k) d (omega arith)))
 
-module _ (d : DecoderState) (m : DecoderMayBeLatin1 d) where
+module _ (d : DecoderState) (may_be_latin1 : DecoderMayBeLatin1 d) where
   between_sequences : (y : List ℕ) → remaining_sequences d y ≡ sequences_of (rule_of d.encoding) 0 y
   between_sequences y =
-      ap (λ l. sequences_in (phase_of l) d.encoding d.set (d.pending ++ y)) m.converting
-      ∙ ap (λ p. sequences_of (rule_of d.encoding) d.set (p ++ y)) m.none_pending
-      ∙ ap (λ s. sequences_of (rule_of d.encoding) s y) m.at_start
+      ap (λ l. sequences_in (phase_of l) d.encoding d.set (d.pending ++ y)) may_be_latin1.converting
+      ∙ ap (λ p. sequences_of (rule_of d.encoding) d.set (p ++ y)) may_be_latin1.none_pending
+      ∙ ap (λ s. sequences_of (rule_of d.encoding) s y) may_be_latin1.at_start
 
   no_mark : (y : List ℕ) → encoding_of_mark_or (mark_in (phase_of d.life) y) d.encoding ≡ d.encoding
-  no_mark y = ap (λ l. encoding_of_mark_or (mark_in (phase_of l) y) d.encoding) m.converting
+  no_mark y = ap (λ l. encoding_of_mark_or (mark_in (phase_of l) y) d.encoding) may_be_latin1.converting
 
   unfinished : has_finished d ≡ false
-  unfinished = ap has_ended m.converting
+  unfinished = ap has_ended may_be_latin1.converting
 
--- what is lent of a chunk
+-- the part of a chunk that is lent
 module _ (d : DecoderState) (src : List ℕ) (ended : Bool) (n : ℕ) (within : n ≤ length src)
-    (o : IsOwnText d (take n src)) where
+    (is_own : IsOwnText d (take n src)) where
   abbrev before : ReaderState
   before = record { decoder = d; unread = src; ended = ended }
 
@@ -66,11 +68,11 @@ module _ (d : DecoderState) (src : List ℕ) (ended : Bool) (n : ℕ) (within : 
 
   comes_first : (z : List ℕ) → owed_sequences before z ≡ own (take n src) ++ owed_sequences after z
   comes_first z =
-      between_sequences d o.between (src ++ z)
+      between_sequences d is_own.between (src ++ z)
       ∙ ap (λ x. sequences_of (rule_of d.encoding) 0 (x ++ z)) (sym (take-append-drop n src))
       ∙ ap (sequences_of (rule_of d.encoding) 0) (append_assoc (take n src) (drop n src) z)
-      ∙ own_first (rule_of d.encoding) o.compatible (take n src) (drop n src ++ z) o.ascii
-      ∙ ap (λ ss. own (take n src) ++ ss) (sym (between_sequences d o.between (drop n src ++ z)))
+      ∙ own_first (rule_of d.encoding) is_own.compatible (take n src) (drop n src ++ z) is_own.ascii
+      ∙ ap (λ ss. own (take n src) ++ ss) (sym (between_sequences d is_own.between (drop n src ++ z)))
 
   pub ReadsOwed-lent : (source : Option (List ℕ)) → ReadsOwed source source before after [] (take n src) false
   ReadsOwed-lent source = record {
@@ -78,13 +80,13 @@ module _ (d : DecoderState) (src : List ℕ) (ended : Bool) (n : ℕ) (within : 
     none_behind = λ e. (refl, e);
     done = own (take n src);
     residual = λ z h. comes_first z;
-    encoding = λ z h. no_mark d o.between (d.pending ++ (drop n src ++ z))
-        ∙ sym (no_mark d o.between (d.pending ++ (src ++ z)));
-    scalars = subst AreScalars (sym (own_text (take n src))) (ascii_scalars (take n src) o.ascii);
-    text = sym (ascii_units (take n src) o.ascii) ∙ ap (units_of_text encode_utf8) (sym (own_text (take n src)));
+    encoding = λ z h. no_mark d is_own.between (d.pending ++ (drop n src ++ z))
+        ∙ sym (no_mark d is_own.between (d.pending ++ (src ++ z)));
+    scalars = subst AreScalars (sym (own_text (take n src))) (ascii_scalars (take n src) is_own.ascii);
+    text = sym (ascii_units (take n src) is_own.ascii) ∙ ap (units_of_text encode_utf8) (sym (own_text (take n src)));
     flag = sym (own_valid (take n src));
     nearer =
-        let going = unfinished d o.between in
+        let going = unfinished d is_own.between in
         omega (arith, before_end before going, before_end after going, length-drop n src, length-take n src);
   }
 
@@ -114,20 +116,28 @@ pub HandsOut-chunk : (source : Option (List ℕ)) (d : DecoderState) (filled at 
     → n ≤ filled - at → IsOwnText d (take n (take (filled - at) (drop at xs))) → (ended ≡ true → IsExhausted source)
     → HandsOut source source (reader_with d ended (take (filled - at) (drop at xs)))
     (reader_with d ended (take (filled - (at + n)) (drop (at + n) xs))) (take n (drop (at + n - n) xs)) had had
-HandsOut-chunk source d filled at n xs ended had h w within o none =
+HandsOut-chunk source d filled at n xs ended had within_filled w within o none =
     let src : List ℕ = take (filled - at) (drop at xs) in
-    let few : n ≤ length src = omega (arith, h, w, within, length-take (filled - at) (drop at xs), length-drop at xs) in
+    let few : n ≤ length src = omega (
+      arith,
+      within_filled,
+      w,
+      within,
+      length-take (filled - at) (drop at xs),
+      length-drop at xs,
+    ) in
     let place : at ≡ at + n - n = omega arith in
     let text : take n src ≡ take n (drop (at + n - n) xs) =
     take-take n (filled - at) (drop at xs) within ∙ ap (λ k. take n (drop k xs)) place in
     subst (λ u. HandsOut source source (reader_with d ended src) (reader_with d ended u) (take n (drop (at + n - n) xs)) had had)
-    (left_of filled at n xs h few)
+    (left_of filled at n xs within_filled few)
     (subst (λ t. HandsOut source source (reader_with d ended src) (reader_with d ended (drop n src)) t had had)
     text (HandsOut-lent source d src ended n had few o none))
 
-pub handed_is_utf_8 : (t₀ t : Option (List ℕ)) (a b : ReaderState) (wrote : List ℕ) (had_before had_after : Bool)
+pub handed_is_utf_8 : {t₀ t : Option (List ℕ)} {a b : ReaderState} {wrote : List ℕ} {had_before had_after : Bool}
     → HandsOut t₀ t a b wrote had_before had_after → IsUtf8 wrote
-handed_is_utf_8 t₀ t a b wrote had_before had_after h = handed_utf_8 t₀ t a b h.bytes wrote h.malformed h.reads
+handed_is_utf_8 {t₀ = t₀} {t = t} {a = a} {b = b} {wrote = wrote} hands_out =
+    handed_utf_8 t₀ t a b hands_out.bytes wrote hands_out.malformed hands_out.reads
 
 -- a chunk that can't be pulled
 pub FailsToRead-pull : (t₀ t₁ : Option (List ℕ)) (failed_before failed_after : Bool) (a b : ReaderState)
@@ -145,27 +155,31 @@ FailsToRead-pull t₀ t₁ failed_before failed_after a b same failed stays unen
     })
 
 -- a read after a chunk was pulled
-module _ (t₀ t₁ t₂ : Option (List ℕ)) (a b c : ReaderState) (f : FillsBuffer t₀ t₁ a b) where
-  pub HandsOut-filled : (wrote : List ℕ) (had_before had_after : Bool)
+module _ {t₀ t₁ t₂ : Option (List ℕ)} {a b c : ReaderState} (fills_buffer : FillsBuffer t₀ t₁ a b) where
+  pub HandsOut-filled : {wrote : List ℕ} {had_before had_after : Bool}
       → HandsOut t₁ t₂ b c wrote had_before had_after → HandsOut t₀ t₂ a c wrote had_before had_after
-  HandsOut-filled wrote had_before had_after h = record {
-    bytes = f.bytes ++ h.bytes;
-    malformed = h.malformed;
-    reads = ReadsOwed-then t₀ t₁ t₂ a b c f.bytes h.bytes [] wrote false h.malformed f.reads h.reads;
-    flag = h.flag;
-    none_told = h.none_told;
+  HandsOut-filled {wrote = wrote} hands_out = record {
+    bytes = fills_buffer.bytes ++ hands_out.bytes;
+    malformed = hands_out.malformed;
+    reads =
+        ReadsOwed-then t₀ t₁ t₂ a b c fills_buffer.bytes hands_out.bytes [] wrote false hands_out.malformed
+        fills_buffer.reads
+        hands_out.reads;
+    flag = hands_out.flag;
+    none_told = hands_out.none_told;
   }
 
-  pub FailsToRead-filled : (failed_before failed_between failed_after : Bool) → failed_between ≡ failed_before
+  pub FailsToRead-filled : {failed_before failed_between failed_after : Bool} → failed_between ≡ failed_before
       → FailsToRead t₁ t₂ failed_between failed_after b c → FailsToRead t₀ t₂ failed_before failed_after a c
-  FailsToRead-filled failed_before failed_between failed_after e h = record {
-    bytes = f.bytes ++ h.bytes;
-    malformed = h.malformed;
-    reads = ReadsOwed-then t₀ t₁ t₂ a b c f.bytes h.bytes [] [] false h.malformed f.reads h.reads;
-    not_ended = h.not_ended;
-    not_before = sym e ∙ h.not_before;
-    why = elim h.why [
+  FailsToRead-filled e fails = record {
+    bytes = fills_buffer.bytes ++ fails.bytes;
+    malformed = fails.malformed;
+    reads = ReadsOwed-then t₀ t₁ t₂ a b c fills_buffer.bytes fails.bytes [] [] false fails.malformed fills_buffer.reads
+        fails.reads;
+    not_ended = fails.not_ended;
+    not_before = sym e ∙ fails.not_before;
+    why = elim fails.why [
       | inl t ↦ inl t
-      | inr l ↦ inr (omega (arith, l, length-append f.bytes h.bytes))
+      | inr l ↦ inr (omega (arith, l, length-append fills_buffer.bytes fails.bytes))
     ];
   }

@@ -1,4 +1,4 @@
--- What a source tells, over several pulls.
+-- What a source gives, over several pulls.
 use Rattle.std.proofs.Common.{◌≡◌, ℕ, List, [], ◌++◌, Option, Some, None, refl, ap, ◌∙◌, sym, append_assoc}
 use Rattle.std.specs.declared.result.Result.{Result}
 use Rattle.std.specs.Prelude.{Ok, Err, OnErr}
@@ -20,11 +20,11 @@ pub ConsumesRemaining-then : (k₀ k₁ k₂ : Option (List ℕ)) (a b : List �
 ConsumesRemaining-then k₀ k₁ k₂ a b h₁ h₂ = h₁ ∙ ap (λ k. prepend_known a k) h₂ ∙ prepend_known-append k₂ a b
 
 -- At the end no byte is still to come.
-pub none_more : (told : Option (List ℕ)) → IsAtEnd told → IsExhausted told
+pub none_more : (known : Option (List ℕ)) → IsAtEnd known → IsExhausted known
 none_more None e = refl
 none_more (Some xs) e = ap Some e
 
-pub at_end : (told : Option (List ℕ)) → IsExhausted told → IsAtEnd told
+pub at_end : (known : Option (List ℕ)) → IsExhausted known → IsAtEnd known
 at_end None e = tt
 at_end (Some xs) e = cc
 

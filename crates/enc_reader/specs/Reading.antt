@@ -1,58 +1,59 @@
--- Reading text from a source through a buffer (Encoding Standard 6, "decode", a part at a time).
+-- Reading text from a source through a buffer (Encoding Standard 6, "decode", a chunk at a time).
 use Rattle.std.specs.Prelude.{◌≡◌, ℕ, ◌+◌, ◌*◌, ◌-◌, ◌^◌, ◌≤◌, ◌⊎◌, min, Bool, true, false, ◌||◌, List, [], ◌++◌, length, Option, if◌then◌else◌}
 use Rattle.std.specs.Char.{encode_utf8}
 use Rattle.std.specs.Io.KnownBytes.{IsAtEnd}
 use Rattle.enc_units.specs.Output.{AreScalars, units_of_text}
-use Rattle.enc_machine.specs.Sequence.{Sequence, sequence_text, any_malformed}
-use Rattle.encoding_rs.specs.declared.bom.BomHandling.TheVariants.{Sniff}
-use Rattle.encoding_rs.specs.declared.encoding.Encoding.{Encoding}
-use Rattle.encoding_rs.specs.LifeCycle.{phase_of, mark_in, encoding_of_mark_or}
-use Rattle.encoding_rs.specs.Decoding.{DecoderState, has_finished, fresh_decoder, remaining_sequences}
+use Rattle.enc_decoder.specs.Sequence.{Sequence, sequence_text, any_malformed}
+use Rattle.enc_stream.specs.declared.bom.BomHandling.TheVariants.{Sniff}
+use Rattle.enc_stream.specs.declared.encoding.Encoding.{Encoding}
+use Rattle.enc_stream.specs.LifeCycle.{phase_of, mark_in, encoding_of_mark_or}
+use Rattle.enc_stream.specs.Decoding.{DecoderState, has_finished, fresh_decoder, remaining_sequences}
 use Rattle.enc_reader.specs.Source.{ConsumesRemaining, IsExhausted}
 
--- A reader between two reads: its decoder, the bytes that the source has given and that are not decoded yet, and whether the
--- source has come to its end.
+-- The state of a reader between two reads: its decoder, the bytes given by the source and not decoded yet, and whether
+-- the source is at its end.
 pub record ReaderState : Type 0 where
   pub decoder : DecoderState
   pub unread : List ℕ
   pub ended : Bool
 
--- one that has read nothing
+-- a reader that has read nothing
 abbrev pub fresh_reader : Encoding → ReaderState
 fresh_reader e = record { decoder = fresh_decoder Sniff e; unread = []; ended = false }
 
--- What a reader owes: the sequences still to come if these bytes are all that its source still gives. Their text is what it
--- still has to hand out.
+-- The sequences that a reader owes: those still to come if the source still gives exactly the bytes z. Their text is
+-- still to be handed out.
 abbrev pub owed_sequences : ReaderState → List ℕ → List Sequence
 owed_sequences s z = remaining_sequences s.decoder (s.unread ++ z)
 
--- The encoding of all that it owes then: that of the mark in front of it, where one may still come, or else its decoder's.
+-- The encoding of these sequences: that of the byte order mark that they begin with, if one may come, or else the
+-- decoder's.
 abbrev pub owed_encoding : ReaderState → List ℕ → Encoding
 owed_encoding s z = encoding_of_mark_or (mark_in (phase_of s.decoder.life) (s.decoder.pending ++ (s.unread ++ z))) s.decoder.encoding
 
--- How far a reader is from the end: bytes that are not decoded count twice, those pending once, and so does the end.
+-- The distance of a reader from the end: two for each undecoded byte, one for each pending byte, and one for the end.
 abbrev pub distance_to_end : ReaderState → ℕ
 distance_to_end s = if has_finished s.decoder then 0 else 1 + (2 * length s.unread + length s.decoder.pending)
 
--- What is handed out of what is owed, while the source gives these bytes.
+-- A part of a read, in which the source gives `bytes`, and the text `wrote` is handed out.
 pub record ReadsOwed (told_before told_after : Option (List ℕ)) (old new : ReaderState) (bytes wrote : List ℕ) (malformed : Bool) : Type 0 where
   pub given : ConsumesRemaining told_before told_after bytes
-  -- It gives none behind its end.
+  -- After its end the source gives nothing.
   pub none_behind : old.ended ≡ true → (bytes ≡ []) × (new.ended ≡ true)
-  -- The sequences owed before are those that are done and those owed now, whatever the source still gives.
+  -- The sequences owed before are those done and those owed now, whatever the source still gives.
   pub done : List Sequence
   pub residual : (z : List ℕ) → (new.ended ≡ true → z ≡ [])
       → owed_sequences old (bytes ++ z) ≡ done ++ owed_sequences new z
   pub encoding : (z : List ℕ) → (new.ended ≡ true → z ≡ []) → owed_encoding new z ≡ owed_encoding old (bytes ++ z)
-  -- What is handed out is their text, in whole characters.
+  -- The text handed out is that of the sequences done, in whole characters.
   pub scalars : AreScalars (sequence_text done)
   pub text : wrote ≡ units_of_text encode_utf8 (sequence_text done)
   pub flag : malformed ≡ any_malformed done
-  -- Where it is some, the reader is nearer to the end.
+  -- If it is not empty, the reader comes nearer to the end.
   pub nearer : distance_to_end new + min 1 (length wrote) ≤ distance_to_end old + 2 * length bytes
 
--- A read that is answered: it is kept whether U+FFFD was handed out for something malformed, and once the end of the source was
--- seen it tells no byte more.
+-- A read that returns `Ok`. The reader remembers whether U+FFFD was handed out for a malformed sequence. After its end
+-- the source has no more bytes.
 pub record HandsOut (told_before told_after : Option (List ℕ)) (old new : ReaderState) (wrote : List ℕ) (had_before had_after : Bool) : Type 0 where
   pub bytes : List ℕ
   pub malformed : Bool
@@ -60,15 +61,15 @@ pub record HandsOut (told_before told_after : Option (List ℕ)) (old new : Read
   pub flag : had_after ≡ (had_before || malformed)
   pub none_told : new.ended ≡ true → IsExhausted told_after
 
--- The end: the source has come to its own and tells no byte, and nothing is owed.
+-- The end: the source is at its end, and nothing is owed.
 pub record IsReaderAtEnd (told : Option (List ℕ)) (s : ReaderState) : Type 0 where
   pub seen : s.ended ≡ true
   pub none_told : IsAtEnd told
   pub finished : has_finished s.decoder ≡ true
   pub none_owed : owed_sequences s [] ≡ []
 
--- A failed read: it hands out nothing and has seen no end. Either the source, which had not failed before, failed in this read, or
--- it gave at least 2^64 - 1 bytes.
+-- A read that fails: it hands out nothing and has seen no end. The source, which had not failed before, failed in this
+-- read, or gave at least 2^64 - 1 bytes.
 pub record FailsToRead (told_before told_after : Option (List ℕ)) (failed_before failed_after : Bool) (old new : ReaderState) : Type 0 where
   pub bytes : List ℕ
   pub malformed : Bool

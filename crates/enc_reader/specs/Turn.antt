@@ -1,13 +1,13 @@
--- The steps of a read: a chunk of bytes that is pulled from the source, and a turn of the decoder.
+-- The steps of a read: pulling a chunk from the source, and a turn of the decoder.
 use Rattle.std.specs.Prelude.{◌≡◌, ℕ, ◌<◌, Bool, true, false, List, [], length, Option}
 use Rattle.enc_units.specs.Validity.{AreAscii}
 use Rattle.enc_codec.specs.Properties.{IsAsciiCompatible}
-use Rattle.encoding_rs.specs.Encodings.{rule_of}
-use Rattle.encoding_rs.specs.Decoding.{DecoderState, has_finished}
-use Rattle.encoding_rs.specs.Latin1.{DecoderMayBeLatin1}
+use Rattle.enc_stream.specs.Encodings.{rule_of}
+use Rattle.enc_stream.specs.Decoding.{DecoderState, has_finished}
+use Rattle.enc_stream.specs.Latin1.{DecoderMayBeLatin1}
 use Rattle.enc_reader.specs.Reading.{ReaderState, ReadsOwed}
 
--- A reader that has nothing to decode, and whose source has not come to its end.
+-- The reader has nothing to decode, and its source is not at its end.
 pub record IsWaiting (s : ReaderState) : Type 0 where
   pub unread : s.unread ≡ []
   pub not_ended : s.ended ≡ false
@@ -19,18 +19,19 @@ pub record PullsChunk (told_before told_after : Option (List ℕ)) (old new : Re
   pub reads : ReadsOwed told_before told_after old new bytes [] false
   pub some : new.ended ≡ false → 0 < length bytes
 
--- A turn hands out text, or is at the end, or waits for more bytes. The source gives none in it, whatever it tells.
+-- A turn hands out text, is at the end, or waits for more bytes. The source gives none in it.
 pub record IsTurn (old new : ReaderState) (wrote : List ℕ) (replaced waits : Bool) : Type 0 where
   pub reads : (told : Option (List ℕ)) → ReadsOwed told told old new [] wrote replaced
   pub waiting : waits ≡ true → IsWaiting new
   pub text_or_end : waits ≡ false → wrote ≡ [] → has_finished new.decoder ≡ true
 
--- A chunk is pulled where every byte is decoded, and nothing is handed out.
+-- A chunk is pulled if every byte is decoded. Nothing is handed out.
 pub record FillsBuffer (told_before told_after : Option (List ℕ)) (old new : ReaderState) : Type 0 where
   pub bytes : List ℕ
   pub reads : ReadsOwed told_before told_after old new bytes [] false
 
--- ASCII bytes that are offered next, to a decoder between two sequences of an ASCII-compatible encoding: they are their own text.
+-- ASCII bytes that come next, to a decoder between two sequences of an ASCII-compatible encoding. They are their own
+-- text.
 pub record IsOwnText (d : DecoderState) (bytes : List ℕ) : Type 0 where
   pub between : DecoderMayBeLatin1 d
   pub compatible : IsAsciiCompatible (rule_of d.encoding)

@@ -1,52 +1,54 @@
-//! A reader of text.
+//! The reader of text.
 
-ghost use Rattle.std.specs.Prelude.{◌≡◌, ◌↔◌, ◌-◌, ◌<◌, ◌≤◌, length, take, drop, [], true, false, IsUtf8, Option, Some, None, IfOk, OnOk, OnErr, IsErrOf, unwrap_or, IfErr};
-ghost use Rattle.encoding_rs.specs.declared.bom.BomHandling.TheVariants.{Sniff};
-ghost use Rattle.encoding_rs.specs.declared.encoding.TheConstants.{UTF_8};
+ghost use Rattle.std.specs.Prelude.{◌≡◌, ◌↔◌, ◌-◌, ◌<◌, ◌≤◌, length, take, drop, [], true, false, IsUtf8, Option, Some};
+ghost use Rattle.std.specs.Prelude.{None, IfOk, OnOk, OnErr, IsErrOf, unwrap_or, IfErr};
+ghost use Rattle.enc_stream.specs.declared.bom.BomHandling.TheVariants.{Sniff};
+ghost use Rattle.enc_stream.specs.declared.encoding.TheConstants.{UTF_8};
 ghost use Rattle.std.specs.Char.{encode_utf8};
-ghost use Rattle.encoding_rs.specs.Decoding.{has_finished, AnswersDecodeReplacing};
+ghost use Rattle.enc_stream.specs.Decoding.{has_finished, AnswersDecodeReplacing};
 ghost use Rattle.enc_reader.specs.Source.{IsExhausted};
 ghost use Rattle.std.proofs.Props.{props};
 
 use crate::source::Source;
-use encoding_rs::laws::ascii_compatible_decode_ascii;
-use encoding_rs::{CoderResult, Decoder, Encoding, UTF_8};
+use enc_stream::laws::ascii_compatible_decode_ascii;
+use enc_stream::{CoderResult, Decoder, Encoding, UTF_8};
 
-/// ASCII is lent from this many bytes on. Fewer are decoded together with what follows them, since a caller writes each text
-/// by itself.
+/// The least number of ASCII bytes that are lent. Fewer are decoded together with those that
+/// follow, since a caller writes each text by itself.
 const LEAST_LENT: usize = 4096;
 
-/// Why a read has failed.
+/// Why a read failed.
 #[derive(PartialEq, Eq, Debug, Drop)]
 pub enum ReadFault {
-    /// The source has failed in this read, or has given bytes 2^64 - 1 times in it without text and without its end.
+    /// The source failed in this read, or returned bytes 2^64 - 1 times in it with neither text nor
+    /// end.
     Reader = 1,
     /// A read before has failed.
     Failed = 2,
 }
 
-/// The text of a read that may lend it: [`DecodeReader::text`] has the bytes.
+/// The text of a read that may lend it. [`DecodeReader::text`] returns its bytes.
 #[derive(Clone, Copy, Debug)]
 pub struct HandedText {
-    /// How many bytes it has.
+    /// Its length in bytes.
     len: usize,
-    /// Whether they stand in the reader's own buffer, before the bytes that are not decoded yet.
+    /// Whether it is in the reader's own buffer, before the undecoded bytes.
     lent: bool,
 }
 
-/// What a turn of the decoder has come to.
+/// The result of a turn of the decoder.
 #[derive(Clone, Copy)]
 struct Turn {
-    /// How many bytes of text it has written.
+    /// The number of bytes of text written.
     written: usize,
-    /// Whether it has put out U+FFFD for something malformed.
+    /// Whether U+FFFD was written for a malformed sequence.
     replaced: bool,
-    /// Whether there is neither text nor the end, and more bytes have to come.
+    /// Whether more bytes must be read: there is neither text nor the end.
     waits: bool,
 }
 
 impl Turn {
-    /// One that has written nothing.
+    /// Returns a turn that has written nothing.
     fn without_text(replaced: bool, waits: bool) -> Turn
         ensures written { result.written ≡ 0 }
         ensures replaced { result.replaced ≡ replaced }
@@ -60,8 +62,8 @@ impl Turn {
     }
 }
 
-/// Decodes the bytes of `input` from the place `at` to the place `filled`. (The buffer is passed on as it is lent, for then its
-/// bytes are known to stay.)
+/// Decodes the bytes of `input` from `at` to `filled`. (The buffer is passed on as it is borrowed,
+/// so that its bytes are known to stay.)
 fn decode_between(
     decoder: &mut Decoder,
     input: &mut [u8],
@@ -77,26 +79,28 @@ fn decode_between(
         (take (filled - at) (drop at input.old)) last (length dst.old)
         result.0 result.1 (take result.2 dst.new) result.3 }
     ensures written { result.2 ≤ length dst.old }
-    ensures behind { drop result.2 dst.new ≡ drop result.2 dst.old }
+    ensures rest { drop result.2 dst.new ≡ drop result.2 dst.old }
     ensures kept { input.new ≡ input.old }
 {
     decoder.decode_to_utf8(&input[at..filled], dst, last)
 }
 
-/// Reads a source of bytes as text (Encoding Standard 6, "decode", a part at a time): it hands out UTF-8 in buffers of any size
-/// from four bytes on, with U+FFFD for each malformed sequence. Where the bytes begin with a byte order mark, the encoding that
-/// it tells decodes them, and it is no text.
+/// Reads a source of bytes as text, a chunk at a time (Encoding Standard 6, "decode").
 ///
-/// It has the source and the buffer that it reads into on loan, and takes no memory.
+/// It writes UTF-8 into buffers of any size from four bytes on, with U+FFFD for each malformed
+/// sequence. If the bytes begin with a byte order mark, its encoding is used, and the byte order
+/// mark is no part of the text.
+///
+/// It borrows the source and the buffer that it reads into, and takes no memory.
 #[derive(Drop)]
 pub struct DecodeReader<'a, R: Source> {
     reader: &'a mut R,
     decoder: Decoder,
     input: &'a mut [u8],
-    // the bytes of `input` that the source has given last, and how many of them are decoded
+    // the bytes of `input` that the source has returned last, and how many of them are decoded
     filled: usize,
     at: usize,
-    // whether the source has come to its end
+    // whether the source is at its end
     ended: bool,
     failed: bool,
     had_errors: bool,
@@ -111,14 +115,16 @@ pub struct DecodeReader<'a, R: Source> {
 
 impl<'a, R: Source> DecodeReader<'a, R> {
     ghost use Rattle.std.specs.Prelude.{ℕ, List};
-    ghost use Rattle.encoding_rs.specs.Decoding.{whole_encoding, whole_sequences};
+    ghost use Rattle.enc_stream.specs.Decoding.{whole_encoding, whole_sequences};
     ghost use Rattle.enc_reader.specs.Reading.{FailsToRead, HandsOut, IsReaderAtEnd, fresh_reader, owed_sequences, owed_encoding};
     ghost use Rattle.enc_reader.specs.Turn.{FillsBuffer, IsOwnText, IsTurn, IsWaiting, PullsChunk};
     ghost use Rattle.enc_reader.specs.Reader.{IsAtHand, handed_text, state_of, written_len};
 
-    /// A reader of `reader`, through the buffer `input`, which decodes by `encoding`, or by UTF-8 where none is given, unless a
-    /// byte order mark tells another. It reads nothing yet. If the source has failed, so has the reader. Condition: `input` is not
-    /// empty. Takes no memory.
+    /// Returns a reader of `reader`, through the buffer `input`.
+    ///
+    /// It decodes by `encoding`, or by UTF-8 if that is `None`. A byte order mark overrides both.
+    /// Nothing is read yet. If the source has failed, so has the reader. Takes no memory.
+    /// Condition: `input` is not empty.
     pub fn new(
         reader: &'a mut R,
         encoding: Option<Encoding>,
@@ -149,15 +155,18 @@ impl<'a, R: Source> DecodeReader<'a, R> {
         }
     }
 
-    /// Reads the next chunk into the buffer, of which all is decoded. On `Err`, which is `Reader`, the source has failed.
+    /// Reads the next chunk into the buffer, whose bytes are all decoded. After an `Err`, which is
+    /// `Reader`, the source has failed.
     fn pull(&mut self) -> Result<(), ReadFault>
         requires waiting { IsWaiting (state_of self.old) }
         requires going { self.old.failed ≡ false }
-        ensures ok { OnOk result (PullsChunk (R.remaining self.old.reader.now) (R.remaining self.new.reader.now)
-            (state_of self.old) (state_of self.new)) }
-        ensures kept { OnOk result (R.has_failed self.new.reader.now ≡ R.has_failed self.old.reader.now) }
+        ensures ok { OnOk result (PullsChunk (R.remaining self.old.reader.now)
+            (R.remaining self.new.reader.now) (state_of self.old) (state_of self.new)) }
+        ensures kept { OnOk result (R.has_failed self.new.reader.now
+            ≡ R.has_failed self.old.reader.now) }
         ensures going { OnOk result (self.new.failed ≡ self.old.failed) }
-        ensures none_given { OnErr result (R.remaining self.new.reader.now ≡ R.remaining self.old.reader.now) }
+        ensures none_given { OnErr result (R.remaining self.new.reader.now
+            ≡ R.remaining self.old.reader.now) }
         ensures err { OnErr result (R.has_failed self.new.reader.now ≡ true) }
         ensures failed { OnErr result (self.new.failed ≡ true) }
         ensures same { OnErr result (state_of self.new ≡ state_of self.old) }
@@ -175,13 +184,13 @@ impl<'a, R: Source> DecodeReader<'a, R> {
         Ok(())
     }
 
-    /// Decodes what is unread, or the end, as far as there is room.
+    /// Decodes the unread bytes, or the end, as far as there is room.
     fn decode(&mut self, dst: &mut [u8]) -> Turn
         requires room { 4 ≤ length dst.old }
         ensures turn { IsTurn (state_of self.old) (state_of self.new)
             (take result.written dst.new) result.replaced result.waits }
         ensures written { result.written ≤ length dst.new }
-        ensures behind { drop result.written dst.new ≡ drop result.written dst.old }
+        ensures rest { drop result.written dst.new ≡ drop result.written dst.old }
         ensures waits { result.waits ≡ true → result.written ≡ 0 }
         ensures reader { self.new.reader ≡ self.old.reader }
         ensures failed { self.new.failed ≡ self.old.failed }
@@ -212,28 +221,33 @@ impl<'a, R: Source> DecodeReader<'a, R> {
         Turn::without_text(replaced, !self.decoder.is_finished())
     }
 
-    /// Hands out the next text in UTF-8, as many whole characters as there is room for, and answers how many bytes they have:
-    /// 0 only at the end, which it goes on answering. It reads from the source only while this read has written nothing, so an
-    /// answer may be shorter than the room. Condition: `dst` has four bytes or more.
+    /// Writes the next text to `dst`, in UTF-8: as many whole characters as fit.
     ///
-    /// On `Err` nothing is written: `Reader` where the source has failed in this read (any error of it is a fault, and none is
-    /// tried again), and `Failed` from then on. The bytes of `dst` behind those written stay. Takes no memory.
+    /// Returns the number of bytes written, 0 only at the end, and then in each later read. The
+    /// source is read only while this read has written nothing, so the text may be shorter than the
+    /// room. The bytes of `dst` after the text are unchanged. Takes no memory. Condition: `dst` has
+    /// at least four bytes.
+    ///
+    /// Errors write nothing: `Reader` if the source failed in this read (no error of it is tried
+    /// again), and `Failed` in each later read.
     pub fn read_str(&mut self, dst: &mut [u8]) -> Result<usize, ReadFault>
         requires { 4 ≤ length dst.old }
-        ensures ok { IfOk result (λ n. HandsOut (R.remaining self.old.reader.now) (R.remaining self.new.reader.now)
-            (state_of self.old) (state_of self.new)
+        ensures ok { IfOk result (λ n. HandsOut (R.remaining self.old.reader.now)
+            (R.remaining self.new.reader.now) (state_of self.old) (state_of self.new)
             (take n dst.new) self.old.had_errors self.new.had_errors) }
         ensures within { IfOk result (λ n. n ≤ length dst.new) }
         ensures utf_8 { IfOk result (λ n. IsUtf8 (take n dst.new)) }
-        ensures behind { IfOk result (λ n. drop n dst.new ≡ drop n dst.old) }
-        ensures end { IfOk result (λ n. n ≡ 0 → IsReaderAtEnd (R.remaining self.new.reader.now) (state_of self.new)) }
-        ensures kept { OnOk result (R.has_failed self.new.reader.now ≡ R.has_failed self.old.reader.now) }
+        ensures rest { IfOk result (λ n. drop n dst.new ≡ drop n dst.old) }
+        ensures end { IfOk result (λ n. n ≡ 0 → IsReaderAtEnd (R.remaining self.new.reader.now)
+            (state_of self.new)) }
+        ensures kept { OnOk result (R.has_failed self.new.reader.now
+            ≡ R.has_failed self.old.reader.now) }
         ensures unwritten { OnErr result (dst.new ≡ dst.old) }
         ensures no_error { OnErr result (self.new.had_errors ≡ self.old.had_errors) }
-        ensures reader_fault { IsErrOf result ReadFault.Reader → FailsToRead (R.remaining self.old.reader.now)
-            (R.remaining self.new.reader.now)
-            (R.has_failed self.old.reader.now) (R.has_failed self.new.reader.now) (state_of self.old)
-            (state_of self.new) }
+        ensures reader_fault { IsErrOf result ReadFault.Reader
+            → FailsToRead (R.remaining self.old.reader.now) (R.remaining self.new.reader.now)
+            (R.has_failed self.old.reader.now) (R.has_failed self.new.reader.now)
+            (state_of self.old) (state_of self.new) }
         ensures from_then_on { IsErrOf result ReadFault.Failed ↔ self.old.failed ≡ true }
         ensures unchanged { IsErrOf result ReadFault.Failed → self.new ≡ self.old }
         ensures going { OnOk result (self.new.failed ≡ false) }
@@ -260,17 +274,18 @@ impl<'a, R: Source> DecodeReader<'a, R> {
         Ok(turn.written)
     }
 
-    /// Reads the next chunk if every byte of the one before is decoded and the source has not ended. On `Err`, which is `Reader`,
-    /// the source has failed.
+    /// Reads the next chunk if all bytes before are decoded and the source is not at its end. After
+    /// an `Err`, which is `Reader`, the source has failed.
     fn fill(&mut self) -> Result<(), ReadFault>
         requires going { self.old.failed ≡ false }
-        ensures ok { OnOk result (FillsBuffer (R.remaining self.old.reader.now) (R.remaining self.new.reader.now)
-            (state_of self.old) (state_of self.new)) }
-        ensures kept { OnOk result (R.has_failed self.new.reader.now ≡ R.has_failed self.old.reader.now) }
+        ensures ok { OnOk result (FillsBuffer (R.remaining self.old.reader.now)
+            (R.remaining self.new.reader.now) (state_of self.old) (state_of self.new)) }
+        ensures kept { OnOk result (R.has_failed self.new.reader.now
+            ≡ R.has_failed self.old.reader.now) }
         ensures going { OnOk result (self.new.failed ≡ false) }
-        ensures err { OnErr result (FailsToRead (R.remaining self.old.reader.now) (R.remaining self.new.reader.now)
-            (R.has_failed self.old.reader.now) (R.has_failed self.new.reader.now) (state_of self.old)
-            (state_of self.new)) }
+        ensures err { OnErr result (FailsToRead (R.remaining self.old.reader.now)
+            (R.remaining self.new.reader.now) (R.has_failed self.old.reader.now)
+            (R.has_failed self.new.reader.now) (state_of self.old) (state_of self.new)) }
         ensures failed { OnErr result (self.new.failed ≡ true) }
         ensures fault { IfErr result (λ fault. fault ≡ ReadFault.Reader) }
         ensures had_errors { self.new.had_errors ≡ self.old.had_errors }
@@ -282,11 +297,14 @@ impl<'a, R: Source> DecodeReader<'a, R> {
         Ok(())
     }
 
-    /// How many unread bytes in front are ASCII and their own text: 0 in an encoding that is not ASCII-compatible, as long as a
-    /// byte order mark may come, and within a sequence.
+    /// Returns the number of unread bytes at the front that are ASCII and their own text.
+    ///
+    /// It is 0 in an encoding that is not ASCII-compatible, while a byte order mark may come, and
+    /// within a sequence.
     fn ascii_ahead(&self) -> usize
         ensures within { result ≤ self.now.filled - self.now.at }
-        ensures own { 0 < result → IsOwnText (state_of self.now).decoder (take result (state_of self.now).unread) }
+        ensures own { 0 < result → IsOwnText (state_of self.now).decoder
+            (take result (state_of self.now).unread) }
     {
         let encoding = self.decoder.encoding();
         ascii_compatible_decode_ascii(encoding);
@@ -299,12 +317,13 @@ impl<'a, R: Source> DecodeReader<'a, R> {
         }
     }
 
-    /// Hands out the next text as [`DecodeReader::read_str`] does, but copies no long stretch of ASCII: it lends it, where it was
-    /// read, in the reader's own buffer. [`DecodeReader::text`] returns the text, which is empty only at the end, until the next
-    /// read. Condition: `dst` has four bytes or more.
+    /// Hands out the next text as [`DecodeReader::read_str`] does, but lends long ASCII.
     ///
-    /// What it lends is ASCII that an ASCII-compatible encoding decodes to itself, 4096 bytes and more; `dst` stays then. Errors
-    /// are those of `read_str`. Takes no memory.
+    /// Lent text stays in the reader's own buffer, and is not copied. [`DecodeReader::text`]
+    /// returns the text, until the next read. It is empty only at the end. At least 4096 bytes are
+    /// lent, and only if an ASCII-compatible encoding decodes them to themselves; `dst` is
+    /// unchanged then. Errors are those of `read_str`. Takes no memory. Condition: `dst` has at
+    /// least four bytes.
     pub fn read_or_lend(&mut self, dst: &mut [u8]) -> Result<HandedText, ReadFault>
         requires { 4 ≤ length dst.old }
         ensures ok { IfOk result (λ handed. HandsOut (R.remaining self.old.reader.now)
@@ -312,17 +331,19 @@ impl<'a, R: Source> DecodeReader<'a, R> {
             (handed_text self.new dst.new handed) self.old.had_errors self.new.had_errors) }
         ensures at_hand { IfOk result (λ handed. IsAtHand self.new dst.new handed) }
         ensures utf_8 { IfOk result (λ handed. IsUtf8 (handed_text self.new dst.new handed)) }
-        ensures end { IfOk result (λ handed. handed_text self.new dst.new handed ≡ [] → IsReaderAtEnd
-            (R.remaining self.new.reader.now) (state_of self.new)) }
-        ensures rest { IfOk result (λ handed. drop (written_len handed) dst.new ≡ drop (written_len handed) dst.old) }
+        ensures end { IfOk result (λ handed. handed_text self.new dst.new handed ≡ []
+            → IsReaderAtEnd (R.remaining self.new.reader.now) (state_of self.new)) }
+        ensures rest { IfOk result (λ handed. drop (written_len handed) dst.new
+            ≡ drop (written_len handed) dst.old) }
         ensures length { length dst.new ≡ length dst.old }
-        ensures kept { OnOk result (R.has_failed self.new.reader.now ≡ R.has_failed self.old.reader.now) }
+        ensures kept { OnOk result (R.has_failed self.new.reader.now
+            ≡ R.has_failed self.old.reader.now) }
         ensures unwritten { OnErr result (dst.new ≡ dst.old) }
         ensures no_error { OnErr result (self.new.had_errors ≡ self.old.had_errors) }
-        ensures reader_fault { IsErrOf result ReadFault.Reader → FailsToRead (R.remaining self.old.reader.now)
-            (R.remaining self.new.reader.now)
-            (R.has_failed self.old.reader.now) (R.has_failed self.new.reader.now) (state_of self.old)
-            (state_of self.new) }
+        ensures reader_fault { IsErrOf result ReadFault.Reader
+            → FailsToRead (R.remaining self.old.reader.now) (R.remaining self.new.reader.now)
+            (R.has_failed self.old.reader.now) (R.has_failed self.new.reader.now)
+            (state_of self.old) (state_of self.new) }
         ensures from_then_on { IsErrOf result ReadFault.Failed ↔ self.old.failed ≡ true }
         ensures unchanged { IsErrOf result ReadFault.Failed → self.new ≡ self.old }
         ensures going { OnOk result (self.new.failed ≡ false) }
@@ -342,7 +363,9 @@ impl<'a, R: Source> DecodeReader<'a, R> {
         Ok(HandedText { len, lent: false })
     }
 
-    /// The text that the last read has handed out, which was given `dst`. Condition: there was no read and no write to `dst` since.
+    /// Returns the text of the last read, which got `dst`.
+    ///
+    /// Takes no memory. Condition: there was no read, and no write to `dst`, since.
     pub fn text<'b>(&'b self, dst: &'b [u8], handed: HandedText) -> &'b [u8]
         requires { IsAtHand self.now dst.now handed }
         ensures { result.now ≡ handed_text self.now dst.now handed }
@@ -354,15 +377,19 @@ impl<'a, R: Source> DecodeReader<'a, R> {
         }
     }
 
-    /// The encoding that its decoder decodes: that of a mark that was read, or else the one that it was made with. It may be
-    /// asked at any time, after a fault too.
+    /// Returns the encoding that its decoder decodes, after a fault too.
+    ///
+    /// That is the encoding of a byte order mark read, or otherwise the one that it was made with.
+    /// Takes no memory.
     pub fn encoding(&self) -> Encoding
         ensures { result ≡ self.now.decoder.encoding }
     {
         self.decoder.encoding()
     }
 
-    /// Whether U+FFFD was handed out for something malformed. It may be asked at any time, after a fault too.
+    /// Returns whether U+FFFD was handed out for a malformed sequence.
+    ///
+    /// It may be called after a fault too. Takes no memory.
     pub fn had_errors(&self) -> bool
         ensures { result ≡ self.now.had_errors }
     {

@@ -1,5 +1,6 @@
-//! Reading text: bytes are read from a [`Source`] a buffer at a time and handed out as UTF-8 ([`DecodeReader`]). [`FromRead`]
-//! makes a source of any reader.
+//! Reading text: a [`DecodeReader`] reads bytes from a [`Source`] and hands them out as UTF-8.
+//!
+//! It reads a buffer at a time. [`FromRead`] makes a source of any reader.
 #![tactic(auto)]
 
 mod decode_reader;

@@ -1,36 +1,40 @@
 //! Sources of bytes.
 
-ghost use Rattle.std.specs.Prelude.{◌≡◌, ℕ, List, ◌≤◌, ◌<◌, length, take, Option, Bool, true, false, None, IfOk, OnOk, OnErr};
+ghost use Rattle.std.specs.Prelude.{◌≡◌, ℕ, List, ◌≤◌, ◌<◌, length, take, Option, Bool, true, false, None, IfOk, OnOk};
+ghost use Rattle.std.specs.Prelude.{OnErr};
 ghost use Rattle.std.specs.Io.KnownBytes.{IsAtEnd, ReadConsumes};
 ghost use Rattle.enc_reader.specs.Source.{ConsumesRemaining};
 
 use std::io::Read;
 
-/// Where bytes come from, a buffer at a time.
+/// A source of bytes, a buffer at a time.
 pub trait Source {
-    // The bytes still to come, where it tells them.
+    // The bytes still to come, if the source models them.
     ghost remaining: { Self → Option (List ℕ) };
 
-    // Whether a pull has failed.
+    // Returns whether a pull has failed.
     ghost has_failed: { Self → Bool };
 
-    /// Puts the next bytes at the front of `buf` and answers how many they are: 0 of a buffer that is
-    /// not empty only at the end. After an `Err` it has failed, and has given none. Condition: it has not failed before.
+    /// Writes the next bytes to the start of `buf`, and returns their number.
+    ///
+    /// It is 0 for a buffer that is not empty only at the end. After an `Err` the source has failed
+    /// and has given no bytes. Condition: it has not failed before.
     fn pull(&mut self, buf: &mut [u8]) -> Result<usize, ()>
         requires going { has_failed self.old ≡ false }
         ensures bound { IfOk result (λ n. n ≤ length buf.new) }
-        ensures bytes { IfOk result (λ n. ConsumesRemaining (remaining self.old) (remaining self.new) (take n buf.new)) }
+        ensures bytes { IfOk result (λ n. ConsumesRemaining (remaining self.old)
+            (remaining self.new) (take n buf.new)) }
         ensures end { IfOk result (λ n. n ≡ 0 → 0 < length buf.new → IsAtEnd (remaining self.new)) }
         ensures ok { OnOk result (has_failed self.new ≡ has_failed self.old) }
         ensures none_given { OnErr result (remaining self.new ≡ remaining self.old) }
         ensures err { OnErr result (has_failed self.new ≡ true) };
 
-    /// Whether a pull has failed.
+    /// Returns whether a pull has failed.
     fn failed(&self) -> bool
         ensures { result ≡ has_failed self.now };
 }
 
-/// A source over any reader. It tells no bytes, since a reader may not know them.
+/// A source over any reader. It models no bytes, since a reader may not know them.
 #[derive(Drop)]
 pub struct FromRead<R: Read> {
     inner: R,
@@ -38,7 +42,7 @@ pub struct FromRead<R: Read> {
 }
 
 impl<R: Read> FromRead<R> {
-    /// A source that reads from `inner`, and has not failed. It takes no memory.
+    /// Returns a source that reads from `inner` and has not failed. Takes no memory.
     pub fn new(inner: R) -> FromRead<R>
         ensures inner { result.inner ≡ inner }
         ensures not_failed { result.failed ≡ false }
@@ -55,11 +59,12 @@ impl<R: Read> Source for FromRead<R> {
 
     ghost has_failed = { λ source. source.failed };
 
-    /// One `read` of the reader, of which any error is a fault.
+    /// Calls `read` of the reader once. Any error is a failure.
     fn pull(&mut self, buf: &mut [u8]) -> Result<usize, ()>
         requires going { self.old.failed ≡ false }
         ensures bound { IfOk result (λ n. n ≤ length buf.new) }
-        ensures read { ReadConsumes (R.remaining self.old.inner) (R.remaining self.new.inner) result buf.new }
+        ensures read { ReadConsumes (R.remaining self.old.inner) (R.remaining self.new.inner) result
+            buf.new }
         ensures ok { OnOk result (self.new.failed ≡ self.old.failed) }
         ensures err { OnErr result (self.new.failed ≡ true) }
     {

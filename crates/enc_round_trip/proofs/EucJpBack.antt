@@ -1,16 +1,18 @@
--- What EUC-JP gives back.
-use Rattle.std.proofs.Common.{◌≡◌, ℕ, ◌+◌, ◌-◌, ◌*◌, ◌/◌, ◌%◌, ◌<◌, ◌≤◌, true, false, ◌==◌, Some, List, [], ◌∷◌, refl, ap, sym, ◌∙◌, arith}
+-- The characters that EUC-JP gives back.
+use Rattle.std.proofs.Common.{◌≡◌, ℕ, ◌+◌, ◌-◌, ◌*◌, ◌/◌, ◌%◌, ◌<◌, ◌≤◌, true, false, ◌==◌, Some, List, [], ◌∷◌, refl}
+use Rattle.std.proofs.Common.{ap, sym, ◌∙◌, arith}
 use Rattle.std.proofs.lemmas.Bool.{cond-true, cond-false, and_from, and_left, lt-ltb}
 use Rattle.std.proofs.lemmas.Bool.Decides.{nat_tests}
 use Rattle.enc_index.specs.Runs.{jis0208_at}
-use Rattle.enc_pointers.specs.Pointers.{jis0208_pointer, any_pointer}
-use Rattle.enc_machine.specs.Taking.{IsWholeChar}
-use Rattle.enc_multi_byte.specs.DoubleByte.{text_of_char, first_prefix, single_prefix, trail_prefix}
-use Rattle.enc_multi_byte.specs.MultiByte.{multi_byte_rule}
-use Rattle.enc_multi_byte.specs.EucJp.{euc_pair_pointer, is_euc_jp_lead, euc_jp_single_char, euc_jp_pair_char as read_pair, euc_jp_prefix}
-use Rattle.enc_multi_byte.proofs.MultiBytePieces.{complete_one, complete_two}
-use Rattle.enc_encoders.specs.Japanese.{is_halfwidth_katakana, katakana_byte, with_fullwidth_minus}
-use Rattle.enc_encoders.specs.EucJp.{euc_jp_pair_bytes, euc_jp_other, euc_jp_bytes}
+use Rattle.enc_index_pointers.specs.Pointers.{jis0208_pointer, any_pointer}
+use Rattle.enc_decoder.specs.Taking.{IsWholeChar}
+use Rattle.enc_decoder_multi_byte.specs.DoubleByte.{text_of_char, first_prefix, single_prefix, trail_prefix}
+use Rattle.enc_decoder_multi_byte.specs.MultiByte.{multi_byte_rule}
+use Rattle.enc_decoder_multi_byte.specs.EucJp.{euc_pair_pointer, is_euc_jp_lead, euc_jp_single_char}
+use Rattle.enc_decoder_multi_byte.specs.EucJp.{euc_jp_pair_char as read_pair, euc_jp_prefix}
+use Rattle.enc_decoder_multi_byte.proofs.MultiBytePieces.{complete_one, complete_two}
+use Rattle.enc_encode.specs.Japanese.{is_halfwidth_katakana, katakana_byte, with_fullwidth_minus}
+use Rattle.enc_encode.specs.EucJp.{euc_jp_pair_bytes, euc_jp_other, euc_jp_bytes}
 use Rattle.enc_round_trip.specs.RoundTrip.{ascii_twin_or}
 use Rattle.enc_round_trip.proofs.ReadBackLemmas.{IsReadBack, with_ascii_is_read, by_test, same_bytes, same_char}
 use Rattle.enc_round_trip.proofs.PointerLemmas.{IsPointer, by_pointer}
@@ -30,7 +32,7 @@ pair_piece a b c l n e =
     complete_two euc_jp_prefix a b c (ap (λ t. first_prefix t (euc_jp_single_char a)) l)
     (cond-false _ _ _ (and_left _ _ n) ∙ ap (λ o. trail_prefix 1 b (text_of_char o)) e)
 
--- half-width katakana behind 8E
+-- half-width katakana after 8E
 katakana_piece : (c : ℕ) → is_halfwidth_katakana c ≡ true → Piece (0x8E ∷ katakana_byte c ∷ []) c
 katakana_piece c k = pair_piece 0x8E (katakana_byte c) c refl refl (katakana_byte_is_read c k)
 
@@ -45,12 +47,13 @@ two_read a b c k l m n e =
     cond-false _ _ _ other ∙ cond-true _ _ _ (and_from _ _ (within 0xA1 0xFE a k l) (within 0xA1 0xFE b m n)) ∙ e
 
 two_piece : (c p : ℕ) → IsPointer jis0208_at any_pointer 8836 c p → Piece (euc_jp_pair_bytes p) c
-two_piece c p h =
-    let l = h.below in
+two_piece c p has_pointer =
+    let l = has_pointer.below in
     let same : (p / 94 + 0xA1 - 0xA1) * 94 + (p % 94 + 0xA1 - 0xA1) ≡ p = omega arith in
     let other : (p / 94 + 0xA1 == 0x8F) ≡ false = differs (p / 94) in
     pair_piece (p / 94 + 0xA1) (p % 94 + 0xA1) c (is_lead (p / 94 + 0xA1) (omega arith) (omega arith)) other
-    (two_read (p / 94 + 0xA1) (p % 94 + 0xA1) c (omega arith) (omega arith) (omega arith) (omega arith) (ap jis0208_at same ∙ h.has))
+    (two_read (p / 94 + 0xA1) (p % 94 + 0xA1) c (omega arith) (omega arith) (omega arith) (omega arith)
+    (ap jis0208_at same ∙ has_pointer.has))
   where
     differs : (n : ℕ) → (n + 0xA1 == 0x8F) ≡ false
     differs n = grind (arith, nat_tests)

@@ -1,22 +1,26 @@
 -- gb18030 and GBK give each character back.
-use Rattle.std.proofs.Common.{◌≡◌, ℕ, ◌+◌, ◌-◌, ◌/◌, ◌%◌, ◌<◌, ◌≤◌, Bool, true, false, cond, nat_lt, ◌&&◌, ◌==◌, Option, Some, None, List, [], ◌∷◌, refl, ap, subst, ◌∙◌, arith, if◌then◌else◌}
+use Rattle.std.proofs.Common.{◌≡◌, ℕ, ◌+◌, ◌-◌, ◌/◌, ◌%◌, ◌<◌, ◌≤◌, Bool, true, false, cond, nat_lt, ◌&&◌, ◌==◌, Option}
+use Rattle.std.proofs.Common.{Some, None, List, [], ◌∷◌, refl, ap, subst, ◌∙◌, arith, if◌then◌else◌}
 use Rattle.std.proofs.lemmas.Bool.{cond-true, cond-false, lt-ltb}
 use Rattle.std.proofs.lemmas.Bool.Decides.{nat_tests}
 use Rattle.std.specs.Cmp.{second_so}
 use Rattle.enc_index.specs.Runs.{gb18030_at, gb18030_ranges_at}
-use Rattle.enc_pointers.specs.Pointers.{gb18030_pointer, gb18030_ranges_pointer, is_ranges_pointer, pointer_of, any_pointer, no_character}
-use Rattle.enc_machine.specs.declared.byte_codec.Kind.TheVariants.{Valid}
-use Rattle.enc_machine.specs.declared.byte_codec.Text.TheVariants.{One}
-use Rattle.enc_machine.specs.Taking.{IsWholeChar}
-use Rattle.enc_multi_byte.specs.declared.multi_byte.Prefix.TheVariants.{Complete, Incomplete}
-use Rattle.enc_multi_byte.specs.DoubleByte.{text_of_char, first_prefix, single_prefix, trail_prefix}
-use Rattle.enc_multi_byte.specs.MultiByte.{multi_byte_rule}
-use Rattle.enc_multi_byte.specs.Gb18030 as decoder
-use Rattle.enc_multi_byte.proofs.MultiByteLemmas.{settled_first, settles_complete}
-use Rattle.enc_multi_byte.proofs.MultiBytePieces.{complete_one, complete_two}
-use Rattle.enc_encoders.specs.Stateless.{bytes_of_pointer}
-use Rattle.enc_encoders.specs.Gb18030.{gb18030_trail_byte, gb18030_pair_bytes, gb18030_four_bytes, two_or_four_bytes, gb18030_other, gb18030_bytes}
-use Rattle.enc_round_trip.proofs.ReadBackLemmas.{IsReadBack, with_ascii_is_read, by_test, same_bytes, no_bytes, same_char}
+use Rattle.enc_index_pointers.specs.Pointers.{gb18030_pointer, gb18030_ranges_pointer, is_ranges_pointer, pointer_of}
+use Rattle.enc_index_pointers.specs.Pointers.{any_pointer, no_character}
+use Rattle.enc_decoder.specs.declared.byte_codec.Kind.TheVariants.{Valid}
+use Rattle.enc_decoder.specs.declared.byte_codec.Text.TheVariants.{One}
+use Rattle.enc_decoder.specs.Taking.{IsWholeChar}
+use Rattle.enc_decoder_multi_byte.specs.declared.multi_byte.Prefix.TheVariants.{Complete, Incomplete}
+use Rattle.enc_decoder_multi_byte.specs.DoubleByte.{text_of_char, first_prefix, single_prefix, trail_prefix}
+use Rattle.enc_decoder_multi_byte.specs.MultiByte.{multi_byte_rule}
+use Rattle.enc_decoder_multi_byte.specs.Gb18030 as decoder
+use Rattle.enc_decoder_multi_byte.proofs.MultiByteLemmas.{settled_first, settles_complete}
+use Rattle.enc_decoder_multi_byte.proofs.MultiBytePieces.{complete_one, complete_two}
+use Rattle.enc_encoder.specs.Stateless.{bytes_of_pointer}
+use Rattle.enc_encode.specs.Gb18030.{gb18030_trail_byte, gb18030_pair_bytes, gb18030_four_bytes, two_or_four_bytes}
+use Rattle.enc_encode.specs.Gb18030.{gb18030_other, gb18030_bytes}
+use Rattle.enc_round_trip.proofs.ReadBackLemmas.{IsReadBack, with_ascii_is_read, by_test, same_bytes, no_bytes}
+use Rattle.enc_round_trip.proofs.ReadBackLemmas.{same_char}
 use Rattle.enc_round_trip.proofs.PointerLemmas.{IsPointer, is_pointer, by_pointer}
 use Rattle.enc_round_trip.proofs.DoubleByteBack.{within}
 
@@ -57,9 +61,10 @@ two_read c p h =
     (cond-true _ _ _ (is_trail (p % 190) cell) ∙ ap gb18030_at (two_pointer p) ∙ h.has)
 
 two_piece : (c p : ℕ) → IsPointer gb18030_at any_pointer 23940 c p → Piece (gb18030_pair_bytes p) c
-two_piece c p h =
-    let l = h.below in
-    complete_two decoder.gb18030_prefix (p / 190 + 0x81) (gb18030_trail_byte (p % 190)) c (leads (p / 190 + 0x81) (omega arith) (omega arith)) (two_read c p h)
+two_piece c p has_pointer =
+    let l = has_pointer.below in
+    complete_two decoder.gb18030_prefix (p / 190 + 0x81) (gb18030_trail_byte (p % 190)) c
+    (leads (p / 190 + 0x81) (omega arith) (omega arith)) (two_read c p has_pointer)
 
 two_at : (c p : ℕ) → gb18030_pointer c ≡ Some p → IsPointer gb18030_at any_pointer 23940 c p
 unfolding gb18030_pointer
@@ -85,10 +90,10 @@ four_piece c p l e =
     (ap decoder.ranges_code_point (four_pointer p) ∙ e)
 
 in_ranges : (c p : ℕ) → IsPointer gb18030_ranges_at is_ranges_pointer 1237576 c p → decoder.ranges_code_point p ≡ Some c
-in_ranges c p h =
-    let l = h.below in
-    let n = h.counted in
-    cond-false _ _ _ (not_beyond p l n) ∙ cond-false _ _ _ (not_alone p n) ∙ h.has
+in_ranges c p has_pointer =
+    let l = has_pointer.below in
+    let counted = has_pointer.counted in
+    cond-false _ _ _ (not_beyond p l counted) ∙ cond-false _ _ _ (not_alone p counted) ∙ has_pointer.has
   where
     not_beyond : (p : ℕ) → p < 1237576 → is_ranges_pointer p ≡ true → decoder.is_beyond_ranges p ≡ false
     not_beyond p l n = grind (arith, nat_tests)
@@ -103,8 +108,8 @@ four_at c p true t e =
     let char : 0xE7C7 ≡ c = grind (arith, nat_tests) in
     subst (λ q. Piece (gb18030_four_bytes q) c) same (four_piece c 7457 (omega arith) (ap Some char))
 four_at c p false t e =
-    let h = is_pointer gb18030_ranges_at is_ranges_pointer no_character 1237576 c p e in
-    four_piece c p h.below (in_ranges c p h)
+    let has_pointer = is_pointer gb18030_ranges_at is_ranges_pointer no_character 1237576 c p e in
+    four_piece c p has_pointer.below (in_ranges c p has_pointer)
 
 four : (c p : ℕ) → gb18030_ranges_pointer c ≡ Some p → Piece (gb18030_four_bytes p) c
 unfolding gb18030_ranges_pointer

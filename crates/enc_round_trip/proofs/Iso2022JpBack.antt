@@ -1,29 +1,34 @@
--- What ISO-2022-JP gives back: escape sequences have no text, and none follows another directly.
-use Rattle.std.proofs.Common.{◌≡◌, ℕ, ◌+◌, ◌-◌, ◌*◌, ◌/◌, ◌%◌, ◌<◌, ◌≤◌, Bool, true, false, cond, eqb, nat_lt, ◌&&◌, ◌||◌, ◌==◌, not, is_some, Option, Some, None, List, [], ◌∷◌, ◌++◌, map, refl, ap, sym, subst, ◌∙◌, ◌⊎◌, arith, inl, inr}
+-- The characters that ISO-2022-JP gives back: escape sequences have no text, and none follows another directly.
+use Rattle.std.proofs.Common.{◌≡◌, ℕ, ◌+◌, ◌-◌, ◌*◌, ◌/◌, ◌%◌, ◌<◌, ◌≤◌, Bool, true, false, cond, eqb, nat_lt, ◌&&◌}
+use Rattle.std.proofs.Common.{◌||◌, ◌==◌, not, is_some, Option, Some, None, List, [], ◌∷◌, ◌++◌, map, refl, ap, sym}
+use Rattle.std.proofs.Common.{subst, ◌∙◌, ◌⊎◌, arith, inl, inr}
 use Rattle.std.proofs.lemmas.Bool.{cond-true, cond-false, or_parts, or_left, or_right, or_from}
 use Rattle.std.proofs.lemmas.Bool.Decides.{nat_tests}
 use Rattle.enc_index.specs.Runs.{jis0208_at}
-use Rattle.enc_pointers.specs.Pointers.{jis0208_pointer, any_pointer}
-use Rattle.enc_machine.specs.Sequence.{sequence_text, any_malformed}
-use Rattle.enc_machine.specs.Taking.{IsWholeChar}
-use Rattle.enc_machine.proofs.FirstSequenceLemmas.{true_or_false}
-use Rattle.enc_iso_2022_jp.specs.declared.iso_2022_jp.CharacterSet.{CharacterSet as Read}
-use Rattle.enc_iso_2022_jp.specs.declared.iso_2022_jp.CharacterSet.TheVariants as read
-use Rattle.enc_iso_2022_jp.specs.declared.iso_2022_jp.Escape.{Escape}
-use Rattle.enc_iso_2022_jp.specs.declared.iso_2022_jp.Escape.TheVariants.{ToAscii, ToRoman, ToJis0208Of1983}
-use Rattle.enc_iso_2022_jp.specs.Iso2022Jp.{set_number, designated_set, is_lead_byte, one_byte_char, two_byte_char, iso_2022_jp_rule as jp_rule}
-use Rattle.enc_iso_2022_jp.specs.Iso2022JpState.{escape_bytes, escape_set}
-use Rattle.enc_iso_2022_jp.proofs.Iso2022JpLemmas.{skipped_escape}
-use Rattle.enc_iso_2022_jp.proofs.Iso2022JpRule.{other_front}
-use Rattle.enc_iso_2022_jp.proofs.Iso2022JpPieces.{alone_piece, pair_piece}
-use Rattle.enc_encoders.specs.declared.character_set.CharacterSet.{CharacterSet}
-use Rattle.enc_encoders.specs.declared.character_set.CharacterSet.TheVariants.{Ascii, Roman, Jis0208}
-use Rattle.enc_encoders.specs.Text.{escape_sequence, escape_at_end, list_or_empty, bytes_after_text, bytes_of_text}
-use Rattle.enc_encoders.specs.Japanese.{is_halfwidth_katakana}
-use Rattle.enc_encoders.specs.Iso2022Jp.{class_of, has_class, set_of_class, is_shift, lookup_char, jis0208_pair_bytes, iso_2022_jp_bytes, iso_2022_jp_encoder_rule}
-use Rattle.enc_encoders.proofs.Iso2022JpLemmas.{iso_2022_jp_is_lawful}
-use Rattle.enc_references.specs.Unmappable.{any_unmappable}
-use Rattle.enc_round_trip.proofs.ReadBackLemmas.{IsReadAs, read_nothing, read_more, first_mapped, by_test, same_bytes, no_bytes}
+use Rattle.enc_index_pointers.specs.Pointers.{jis0208_pointer, any_pointer}
+use Rattle.enc_decoder.specs.Sequence.{sequence_text, any_malformed}
+use Rattle.enc_decoder.specs.Taking.{IsWholeChar}
+use Rattle.enc_decoder.proofs.FirstSequenceLemmas.{true_or_false}
+use Rattle.enc_decoder_iso_2022_jp.specs.declared.iso_2022_jp.CharacterSet.{CharacterSet as Read}
+use Rattle.enc_decoder_iso_2022_jp.specs.declared.iso_2022_jp.CharacterSet.TheVariants as read
+use Rattle.enc_decoder_iso_2022_jp.specs.declared.iso_2022_jp.Escape.{Escape}
+use Rattle.enc_decoder_iso_2022_jp.specs.declared.iso_2022_jp.Escape.TheVariants.{ToAscii, ToRoman, ToJis0208Of1983}
+use Rattle.enc_decoder_iso_2022_jp.specs.Iso2022Jp.{set_number, designated_set, is_lead_byte, one_byte_char}
+use Rattle.enc_decoder_iso_2022_jp.specs.Iso2022Jp.{two_byte_char, iso_2022_jp_rule as jp_rule}
+use Rattle.enc_decoder_iso_2022_jp.specs.Iso2022JpState.{escape_bytes, escape_set}
+use Rattle.enc_decoder_iso_2022_jp.proofs.Iso2022JpLemmas.{skipped_escape}
+use Rattle.enc_decoder_iso_2022_jp.proofs.Iso2022JpRule.{other_front}
+use Rattle.enc_decoder_iso_2022_jp.proofs.Iso2022JpPieces.{alone_piece, pair_piece}
+use Rattle.enc_encoder.specs.declared.character_set.CharacterSet.{CharacterSet}
+use Rattle.enc_encoder.specs.declared.character_set.CharacterSet.TheVariants.{Ascii, Roman, Jis0208}
+use Rattle.enc_encoder.specs.Text.{escape_sequence, escape_at_end, list_or_empty, bytes_after_text, bytes_of_text}
+use Rattle.enc_encode.specs.Japanese.{is_halfwidth_katakana}
+use Rattle.enc_encode.specs.Iso2022Jp.{class_of, has_class, set_of_class, is_shift, lookup_char, jis0208_pair_bytes}
+use Rattle.enc_encode.specs.Iso2022Jp.{iso_2022_jp_bytes, iso_2022_jp_encoder_rule}
+use Rattle.enc_encode.proofs.Iso2022JpLemmas.{iso_2022_jp_is_lawful}
+use Rattle.enc_encoder.specs.Unmappable.{any_unmappable}
+use Rattle.enc_round_trip.proofs.ReadBackLemmas.{IsReadAs, read_nothing, read_more, first_mapped, by_test, same_bytes}
+use Rattle.enc_round_trip.proofs.ReadBackLemmas.{no_bytes}
 use Rattle.enc_round_trip.proofs.PointerLemmas.{IsPointer, by_pointer}
 use Rattle.enc_round_trip.proofs.DoubleByteBack.{within}
 use Rattle.enc_round_trip.proofs.JapaneseBack.{at_jis0208_pointer}
@@ -41,14 +46,19 @@ number s = set_number (as_read s)
 -- an escape sequence has no text where none follows it directly
 
 skipped_is_read : (set : ℕ) (e : Escape) (z t : List ℕ) → designated_set z ≡ None → IsReadAs jp_rule (set_number (escape_set e)) z t → IsReadAs jp_rule set (escape_bytes e ++ z) t
-skipped_is_read set e z t n h =
+skipped_is_read set e z t n rest_is_read =
     let first = skipped_escape set e z n in
-    record { none_malformed = ap any_malformed first ∙ h.none_malformed; text = ap sequence_text first ∙ h.text }
+    record {
+      none_malformed = ap any_malformed first ∙ rest_is_read.none_malformed;
+      text = ap sequence_text first
+          ∙ rest_is_read.text;
+    }
 
-behind_escape : (set : ℕ) (s : CharacterSet) (z t : List ℕ) → designated_set z ≡ None → IsReadAs jp_rule (number s) z t → IsReadAs jp_rule set (escape_sequence s ++ z) t
-behind_escape set Ascii = skipped_is_read set ToAscii
-behind_escape set Roman = skipped_is_read set ToRoman
-behind_escape set Jis0208 = skipped_is_read set ToJis0208Of1983
+after_escape : (set : ℕ) (s : CharacterSet) (z t : List ℕ) → designated_set z ≡ None → IsReadAs jp_rule (number s) z t
+    → IsReadAs jp_rule set (escape_sequence s ++ z) t
+after_escape set Ascii = skipped_is_read set ToAscii
+after_escape set Roman = skipped_is_read set ToRoman
+after_escape set Jis0208 = skipped_is_read set ToJis0208Of1983
 
 -- A character's bytes are read in the set in which it is written, and begin with no escape sequence.
 record IsReadIn (s : CharacterSet) (b : List ℕ) (c : ℕ) : Type 0 where
@@ -97,16 +107,16 @@ no_escape c n = grind (arith, nat_tests)
 
 in_ascii : (c : ℕ) → nat_lt c 0x80 ≡ true → is_shift c ≡ false → IsReadIn Ascii (c ∷ []) c
 unfolding one_byte_char is_lead_byte
-in_ascii c l n = (let t = is_ascii c l n in one_read Ascii c c (rw t refl) refl (no_escape c n))
+in_ascii c l not_shift = (let t = is_ascii c l not_shift in one_read Ascii c c (rw t refl) refl (no_escape c not_shift))
 
 in_roman : (c : ℕ) → nat_lt c 0x80 ≡ true → is_shift c ≡ false → (c == 0x5C || c == 0x7E) ≡ false → IsReadIn Roman (c ∷ []) c
 unfolding one_byte_char is_lead_byte
-in_roman c l n k =
-    let a = or_parts (c == 0x5C) (c == 0x7E) k in
-    let t = is_ascii c l n in
-    let b = a.0 in
-    let d = a.1 in
-    one_read Roman c c (rw (b, d, t) refl) refl (no_escape c n)
+in_roman c l not_shift k =
+    let either = or_parts (c == 0x5C) (c == 0x7E) k in
+    let t = is_ascii c l not_shift in
+    let b = either.0 in
+    let d = either.1 in
+    one_read Roman c c (rw (b, d, t) refl) refl (no_escape c not_shift)
 
 yen_read : IsReadIn Roman (0x5C ∷ []) 0xA5
 unfolding one_byte_char is_lead_byte
@@ -128,10 +138,11 @@ two_read a b c k l m n e =
     }
 
 kanji_read : (c p : ℕ) → IsPointer jis0208_at any_pointer 8836 c p → IsReadIn Jis0208 (jis0208_pair_bytes p) c
-kanji_read c p f =
-    let l = f.below in
+kanji_read c p has_pointer =
+    let l = has_pointer.below in
     let same : (p / 94 + 0x21 - 0x21) * 94 + (p % 94 + 0x21 - 0x21) ≡ p = omega arith in
-    two_read (p / 94 + 0x21) (p % 94 + 0x21) c (omega arith) (omega arith) (omega arith) (omega arith) (ap jis0208_at same ∙ f.has)
+    two_read (p / 94 + 0x21) (p % 94 + 0x21) c (omega arith) (omega arith) (omega arith) (omega arith)
+    (ap jis0208_at same ∙ has_pointer.has)
 
 -- all characters
 
@@ -148,13 +159,13 @@ there : (s d : CharacterSet) (b : List ℕ) (c : ℕ) → s ≡ d → IsReadIn d
 there s d b c e h = subst (λ x. IsReadIn x b c) (sym e) h
 
 low_read : (s : CharacterSet) (c : ℕ) → has s c ≡ true → nat_lt c 0x80 ≡ true → is_shift c ≡ false → IsReadIn s (c ∷ []) (lookup_char c)
-low_read s c h t n =
+low_read s c has_char is_low not_shift =
     valued s (c ∷ []) c (lookup_char c) (low_itself c (grind (arith, nat_tests)))
     (elim (true_or_false (c == 0x5C || c == 0x7E)) [
-      | inl k ↦ there s Ascii (c ∷ []) c (latin_set s c k h) (in_ascii c t n)
-      | inr k ↦ elim (neutral_set s c k t h) [
-        | inl e ↦ there s Ascii (c ∷ []) c e (in_ascii c t n)
-        | inr e ↦ there s Roman (c ∷ []) c e (in_roman c t n k)
+      | inl k ↦ there s Ascii (c ∷ []) c (latin_set s c k has_char) (in_ascii c is_low not_shift)
+      | inr k ↦ elim (neutral_set s c k is_low has_char) [
+        | inl e ↦ there s Ascii (c ∷ []) c e (in_ascii c is_low not_shift)
+        | inr e ↦ there s Roman (c ∷ []) c e (in_roman c is_low not_shift k)
       ]
     ])
 
@@ -162,21 +173,23 @@ no_latin : (c : ℕ) → nat_lt c 0x80 ≡ false → (c == 0x5C || c == 0x7E) �
 no_latin c l = grind (arith, nat_tests)
 
 char_read : (s : CharacterSet) (c : ℕ) (b : List ℕ) → has s c ≡ true → iso_2022_jp_bytes c ≡ Some b → IsReadIn s b (lookup_char c)
-char_read s c b h e =
+char_read s c b has_char e =
     by_test (nat_lt c 0x80) _ _ b
     (λ t. by_test (is_shift c) None (Some (c ∷ [])) b (λ n f. no_bytes b f)
-    (λ n f. same_bytes (λ x. IsReadIn s x (lookup_char c)) (c ∷ []) b (low_read s c h t n) f))
+    (λ n f. same_bytes (λ x. IsReadIn s x (lookup_char c)) (c ∷ []) b (low_read s c has_char t n) f))
     (λ l. by_test (c == 0xA5) _ _ b
     (λ t f. (let r : 0xA5 ≡ c = grind (arith, nat_tests) in
     same_bytes (λ x. IsReadIn s x (lookup_char c)) (0x5C ∷ []) b
-    (there s Roman (0x5C ∷ []) (lookup_char c) (roman_set s c (no_latin c l) l (or_left _ _ t) h) (valued Roman (0x5C ∷ []) 0xA5 (lookup_char c) (ap lookup_char r) yen_read)) f))
+    (there s Roman (0x5C ∷ []) (lookup_char c) (roman_set s c (no_latin c l) l (or_left _ _ t) has_char)
+    (valued Roman (0x5C ∷ []) 0xA5 (lookup_char c) (ap lookup_char r) yen_read)) f))
     (λ yen. by_test (c == 0x203E) _ _ b
     (λ t f. (let r : 0x203E ≡ c = grind (arith, nat_tests) in
     same_bytes (λ x. IsReadIn s x (lookup_char c)) (0x7E ∷ []) b
-    (there s Roman (0x7E ∷ []) (lookup_char c) (roman_set s c (no_latin c l) l (or_right _ _ t) h) (valued Roman (0x7E ∷ []) 0x203E (lookup_char c) (ap lookup_char r) line_read)) f))
+    (there s Roman (0x7E ∷ []) (lookup_char c) (roman_set s c (no_latin c l) l (or_right _ _ t) has_char)
+    (valued Roman (0x7E ∷ []) 0x203E (lookup_char c) (ap lookup_char r) line_read)) f))
     (λ line f. by_pointer (λ x. IsReadIn s x (lookup_char c)) jis0208_pair_bytes (jis0208_pointer (lookup_char c)) b
     (λ p g. there s Jis0208 (jis0208_pair_bytes p) (lookup_char c)
-    (kanji_set s c (no_latin c l) l (or_from _ _ yen line) h)
+    (kanji_set s c (no_latin c l) l (or_from _ _ yen line) has_char)
     (kanji_read (lookup_char c) p (at_jis0208_pointer (lookup_char c) p g))) f))) e
 
 -- texts
@@ -196,25 +209,27 @@ unfolding has
 step s c y t true e m h = char_then s _ y t (lookup_char c) (one s c (iso_2022_jp_bytes c) e refl m) h
 step s c y t false e m h =
     let d = set_of_class (class_of c) in
-    let p = one d c (iso_2022_jp_bytes c) (iso_2022_jp_is_lawful.designates c) refl m in
-    behind_escape (number s) d (list_or_empty (iso_2022_jp_bytes c) ++ y) (lookup_char c ∷ t) (p.plain y) (char_then d _ y t (lookup_char c) p h)
+    let one_step = one d c (iso_2022_jp_bytes c) (iso_2022_jp_is_lawful.designates c) refl m in
+    after_escape (number s) d (list_or_empty (iso_2022_jp_bytes c) ++ y) (lookup_char c ∷ t) (one_step.plain y)
+    (char_then d _ y t (lookup_char c) one_step h)
 
 ends : (s : CharacterSet) → IsReadAs jp_rule (number s) (escape_at_end s) []
 ends Ascii = read_nothing jp_rule 0
-ends Roman = behind_escape 1 Ascii [] [] refl (read_nothing jp_rule 0)
-ends Jis0208 = behind_escape 3 Ascii [] [] refl (read_nothing jp_rule 0)
+ends Roman = after_escape 1 Ascii [] [] refl (read_nothing jp_rule 0)
+ends Jis0208 = after_escape 3 Ascii [] [] refl (read_nothing jp_rule 0)
 
-behind_is_read : (u t : List ℕ) → any_unmappable iso_2022_jp_encoder_rule t ≡ false
+suffix_is_read : (u t : List ℕ) → any_unmappable iso_2022_jp_encoder_rule t ≡ false
     → IsReadAs jp_rule (number (iso_2022_jp_encoder_rule.set_after Ascii u))
     (bytes_after_text iso_2022_jp_encoder_rule Ascii u t) (map lookup_char t)
 unfolding has
-behind_is_read u [] m = ends (iso_2022_jp_encoder_rule.set_after Ascii u)
-behind_is_read u (c ∷ t) m =
+suffix_is_read u [] m = ends (iso_2022_jp_encoder_rule.set_after Ascii u)
+suffix_is_read u (c ∷ t) m =
     let s = iso_2022_jp_encoder_rule.set_after Ascii u in
     let rest = bytes_after_text iso_2022_jp_encoder_rule Ascii (u ++ c ∷ []) t in
-    let f = first_mapped iso_2022_jp_encoder_rule c t m in
-    step s c rest (map lookup_char t) (has s c) refl f.0
-    (subst (λ x. IsReadAs jp_rule (number x) rest (map lookup_char t)) (iso_2022_jp_is_lawful.set_after_more Ascii u c) (behind_is_read (u ++ c ∷ []) t f.1))
+    let both = first_mapped iso_2022_jp_encoder_rule c t m in
+    step s c rest (map lookup_char t) (has s c) refl both.0
+    (subst (λ x. IsReadAs jp_rule (number x) rest (map lookup_char t)) (iso_2022_jp_is_lawful.set_after_more Ascii u c)
+    (suffix_is_read (u ++ c ∷ []) t both.1))
 
 pub iso_2022_jp_is_read : (t : List ℕ) → any_unmappable iso_2022_jp_encoder_rule t ≡ false → IsReadAs jp_rule 0 (bytes_of_text iso_2022_jp_encoder_rule Ascii t) (map lookup_char t)
-iso_2022_jp_is_read t m = behind_is_read [] t m
+iso_2022_jp_is_read t m = suffix_is_read [] t m

@@ -1,13 +1,14 @@
--- What the Japanese encodings have in common.
-use Rattle.std.proofs.Common.{◌≡◌, ℕ, ◌<◌, ◌≤◌, true, false, ◌==◌, Option, Some, None, List, [], ◌∷◌, ap, sym, ◌∙◌, arith, if◌then◌else◌}
+-- Lemmas that the Japanese encodings share.
+use Rattle.std.proofs.Common.{◌≡◌, ℕ, ◌<◌, ◌≤◌, true, false, ◌==◌, Option, Some, None, List, [], ◌∷◌, ap, sym, ◌∙◌}
+use Rattle.std.proofs.Common.{arith, if◌then◌else◌}
 use Rattle.std.proofs.lemmas.Bool.{cond-true, cond-false}
 use Rattle.std.proofs.lemmas.Bool.Decides.{nat_tests}
 use Rattle.enc_index.specs.Runs.{jis0208_at}
-use Rattle.enc_pointers.specs.Pointers.{jis0208_pointer, any_pointer, no_character}
-use Rattle.enc_machine.specs.Segmentation.{Rule}
-use Rattle.enc_machine.specs.Taking.{IsWholeChar}
-use Rattle.enc_multi_byte.specs.Katakana as read
-use Rattle.enc_encoders.specs.Japanese.{is_halfwidth_katakana, katakana_byte}
+use Rattle.enc_index_pointers.specs.Pointers.{jis0208_pointer, any_pointer, no_character}
+use Rattle.enc_decoder.specs.Segmentation.{Rule}
+use Rattle.enc_decoder.specs.Taking.{IsWholeChar}
+use Rattle.enc_decoder_multi_byte.specs.Katakana as read
+use Rattle.enc_encode.specs.Japanese.{is_halfwidth_katakana, katakana_byte}
 use Rattle.enc_round_trip.specs.RoundTrip.{ascii_twin_or}
 use Rattle.enc_round_trip.proofs.ReadBackLemmas.{by_test, same_bytes, same_char}
 use Rattle.enc_round_trip.proofs.PointerLemmas.{IsPointer, is_pointer}

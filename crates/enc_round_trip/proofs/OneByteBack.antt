@@ -1,5 +1,6 @@
 -- UTF-8, the legacy single-byte encodings and x-user-defined give each character back.
-use Rattle.std.proofs.Common.{◌≡◌, ℕ, ◌+◌, ◌-◌, ◌<◌, ◌≤◌, true, false, nat_lt, nat_le, ◌&&◌, Option, Some, None, [], ◌∷◌, ap, sym, ◌∙◌, arith, if◌then◌else◌}
+use Rattle.std.proofs.Common.{◌≡◌, ℕ, ◌+◌, ◌-◌, ◌<◌, ◌≤◌, true, false, nat_lt, nat_le, ◌&&◌, Option, Some, None, []}
+use Rattle.std.proofs.Common.{◌∷◌, ap, sym, ◌∙◌, arith, if◌then◌else◌}
 use Rattle.std.proofs.lemmas.Bool.{lt-ltb, cond-true, cond-false}
 use Rattle.std.proofs.lemmas.Bool.Decides.{nat_tests}
 use Rattle.std.specs.Char.{encode_utf8}
@@ -7,14 +8,15 @@ use Rattle.enc_index.specs.declared.table.Planes.TheVariants.{Basic}
 use Rattle.enc_index.specs.declared.single_byte_index.SingleByteIndex.{SingleByteIndex}
 use Rattle.enc_index.specs.Index.{index_at}
 use Rattle.enc_index.specs.Runs.{single_byte_runs}
-use Rattle.enc_pointers.specs.Pointers.{single_byte_pointer, any_pointer, no_character}
-use Rattle.enc_machine.specs.Taking.{IsWholeChar}
-use Rattle.enc_utf.specs.Utf8.{utf_8_rule}
-use Rattle.enc_utf.proofs.Utf8Pieces.{utf8_piece}
-use Rattle.enc_single_byte.specs.OneByte.{one_byte_rule, single_byte_char, x_user_defined_char}
-use Rattle.enc_single_byte.proofs.OneByteLemmas.{one_byte_piece}
-use Rattle.enc_encoders.specs.Utf8.{utf_8_bytes}
-use Rattle.enc_encoders.specs.SingleByte.{single_byte_of_pointer, single_byte_bytes, x_user_defined_other, x_user_defined_bytes}
+use Rattle.enc_index_pointers.specs.Pointers.{single_byte_pointer, any_pointer, no_character}
+use Rattle.enc_decoder.specs.Taking.{IsWholeChar}
+use Rattle.enc_decoder_utf.specs.Utf8.{utf_8_rule}
+use Rattle.enc_decoder_utf.proofs.Utf8Pieces.{utf8_piece}
+use Rattle.enc_decoder_single_byte.specs.OneByte.{one_byte_rule, single_byte_char, x_user_defined_char}
+use Rattle.enc_decoder_single_byte.proofs.OneByteLemmas.{one_byte_piece}
+use Rattle.enc_encode.specs.Utf8.{utf_8_bytes}
+use Rattle.enc_encode.specs.SingleByte.{single_byte_of_pointer, single_byte_bytes, x_user_defined_other}
+use Rattle.enc_encode.specs.SingleByte.{x_user_defined_bytes}
 use Rattle.enc_round_trip.proofs.ReadBackLemmas.{IsReadBack, with_ascii_is_read, by_test, same_bytes, no_bytes}
 use Rattle.enc_round_trip.proofs.PointerLemmas.{is_pointer, by_pointer}
 

@@ -1,16 +1,17 @@
 -- The pointer of a character is one at which the index has it, whatever rows stand there.
-use Rattle.std.proofs.Common.{◌≡◌, ℕ, zero, suc, ◌<◌, Bool, true, false, ◌&&◌, cond, Option, Some, None, List, refl, ap, subst, arith}
+use Rattle.std.proofs.Common.{◌≡◌, ℕ, zero, suc, ◌<◌, Bool, true, false, ◌&&◌, cond, Option, Some, None, List, refl, ap}
+use Rattle.std.proofs.Common.{subst, arith}
 use Rattle.std.proofs.lemmas.Bool.Decides.{nat_tests}
 use Rattle.std.specs.Cmp.{first_so, second_so}
-use Rattle.enc_pointers.specs.Pointers.{first_below, last_below, pointer_or, is_character, pointer_of}
-use Rattle.enc_encoders.specs.Stateless.{bytes_of_pointer}
+use Rattle.enc_index_pointers.specs.Pointers.{first_below, last_below, pointer_or, is_character, pointer_of}
+use Rattle.enc_encoder.specs.Stateless.{bytes_of_pointer}
 
 module _ (test : ℕ → Bool) where
   abbrev Passes : ℕ → ℕ → Type 0
   Passes n p = (p < n) × (test p ≡ true)
 
   first_or_here : (o : Option ℕ) (b : Bool) (n p : ℕ) → (o ≡ Some p → Passes n p) → test n ≡ b → pointer_or o (cond b (Some n) None) ≡ Some p → Passes (suc n) p
-  first_or_here (Some q) b n p h t e = let r = h e in (omega (arith, r.0), r.1)
+  first_or_here (Some q) b n p h t e = let found = h e in (omega (arith, found.0), found.1)
   first_or_here None true n p h t e = let f : n ≡ p = cc in (omega arith, subst (λ k. test k ≡ true) f t)
   first_or_here None false n p h t e = cc
 
@@ -21,7 +22,7 @@ module _ (test : ℕ → Bool) where
 
   here_or_last : (o : Option ℕ) (b : Bool) (n p : ℕ) → (o ≡ Some p → Passes n p) → test n ≡ b → cond b (Some n) o ≡ Some p → Passes (suc n) p
   here_or_last o true n p h t e = let f : n ≡ p = cc in (omega arith, subst (λ k. test k ≡ true) f t)
-  here_or_last o false n p h t e = let r = h e in (omega (arith, r.0), r.1)
+  here_or_last o false n p h t e = let found = h e in (omega (arith, found.0), found.1)
 
   last_passes : (n p : ℕ) → last_below test n ≡ Some p → Passes n p
   unfolding last_below
@@ -44,8 +45,12 @@ pub record IsPointer (at : ℕ → Option ℕ) (counts : ℕ → Bool) (bound c 
 
 pub is_pointer : (at : ℕ → Option ℕ) (counts is_by_last : ℕ → Bool) (bound c p : ℕ) → pointer_of at counts is_by_last bound c ≡ Some p → IsPointer at counts bound c p
 is_pointer at counts is_by_last bound c p e =
-    let h = by_last_passes (λ q. counts q && is_character c (at q)) (is_by_last c) bound p e in
-    record { below = h.0; counted = first_so _ _ h.1; has = has_character c (at p) (second_so _ _ h.1) }
+    let is_last = by_last_passes (λ q. counts q && is_character c (at q)) (is_by_last c) bound p e in
+    record {
+      below = is_last.0;
+      counted = first_so _ _ is_last.1;
+      has = has_character c (at p) (second_so _ _ is_last.1);
+    }
 
 -- the bytes of a pointer
 pub by_pointer : (P : List ℕ → Type 0) (bytes : ℕ → List ℕ) (o : Option ℕ) (b : List ℕ) → ((p : ℕ) → o ≡ Some p → P (bytes p)) → bytes_of_pointer bytes o ≡ Some b → P b

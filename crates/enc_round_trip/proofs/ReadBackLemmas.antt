@@ -1,19 +1,20 @@
 -- Texts are read back where each character is, in encodings without escape sequences.
-use Rattle.std.proofs.Common.{◌≡◌, ℕ, ◌<◌, ◌≤◌, Bool, true, false, nat_lt, cond, not, is_some, Option, Some, None, List, [], ◌∷◌, ◌++◌, map, refl, ap, subst, ◌∙◌, arith}
+use Rattle.std.proofs.Common.{◌≡◌, ℕ, ◌<◌, ◌≤◌, Bool, true, false, nat_lt, cond, not, is_some, Option, Some, None, List}
+use Rattle.std.proofs.Common.{[], ◌∷◌, ◌++◌, map, refl, ap, subst, ◌∙◌, arith}
 use Rattle.std.proofs.lemmas.Bool.{or_parts}
 use Rattle.std.proofs.lemmas.Bool.Decides.{nat_tests}
 use Rattle.std.specs.Char.{IsScalar}
 use Rattle.std.specs.Cmp.{first_so, second_so}
 use Rattle.enc_units.specs.Output.{AreScalars}
-use Rattle.enc_machine.specs.Sequence.{sequence_text, any_malformed}
-use Rattle.enc_machine.specs.Segmentation.{Rule, sequences_of}
-use Rattle.enc_machine.specs.Taking.{IsWholeChar}
-use Rattle.enc_machine.proofs.SegmentationLemmas.{sequences_of-nil}
-use Rattle.enc_encoders.specs.declared.character_set.CharacterSet.TheVariants.{Ascii}
-use Rattle.enc_encoders.specs.EncoderRule.{EncoderRule}
-use Rattle.enc_encoders.specs.Stateless.{stateless_rule, with_ascii}
-use Rattle.enc_encoders.specs.Text.{list_or_empty, bytes_after_text, bytes_of_text}
-use Rattle.enc_references.specs.Unmappable.{any_unmappable}
+use Rattle.enc_decoder.specs.Sequence.{sequence_text, any_malformed}
+use Rattle.enc_decoder.specs.Segmentation.{Rule, sequences_of}
+use Rattle.enc_decoder.specs.Taking.{IsWholeChar}
+use Rattle.enc_decoder.proofs.SegmentationLemmas.{sequences_of-nil}
+use Rattle.enc_encoder.specs.declared.character_set.CharacterSet.TheVariants.{Ascii}
+use Rattle.enc_encoder.specs.EncoderRule.{EncoderRule}
+use Rattle.enc_encoder.specs.Stateless.{stateless_rule, with_ascii}
+use Rattle.enc_encoder.specs.Text.{list_or_empty, bytes_after_text, bytes_of_text}
+use Rattle.enc_encoder.specs.Unmappable.{any_unmappable}
 
 -- no sequence of these bytes is malformed, and this is their text
 pub record IsReadAs (rule : Rule) (set : ℕ) (bytes chars : List ℕ) : Type 0 where
@@ -23,14 +24,14 @@ pub record IsReadAs (rule : Rule) (set : ℕ) (bytes chars : List ℕ) : Type 0 
 pub read_nothing : (rule : Rule) (set : ℕ) → IsReadAs rule set [] []
 read_nothing rule set = record { none_malformed = ap any_malformed (sequences_of-nil rule set); text = ap sequence_text (sequences_of-nil rule set) }
 
--- a character, and what is behind it
+-- a character, and the text after it
 pub read_more : (rule : Rule) (set : ℕ) (b : List ℕ) (c : ℕ) (y t : List ℕ) → IsWholeChar rule set b c → IsReadAs rule set y t → IsReadAs rule set (b ++ y) (c ∷ t)
-read_more rule set b c y t p h = record {
-  none_malformed = ap any_malformed (p y) ∙ h.none_malformed;
-  text = ap sequence_text (p y) ∙ ap (λ x. c ∷ x) h.text;
+read_more rule set b c y t is_whole_char rest_is_read = record {
+  none_malformed = ap any_malformed (is_whole_char y) ∙ rest_is_read.none_malformed;
+  text = ap sequence_text (is_whole_char y) ∙ ap (λ x. c ∷ x) rest_is_read.text;
 }
 
--- the first character of a text without an unmappable one has bytes, and there is none behind it
+-- the first character of a text without an unmappable one has bytes, and no later one is unmappable
 
 is_mapped : (b : Bool) → not b ≡ false → b ≡ true
 is_mapped true h = refl
@@ -38,8 +39,8 @@ is_mapped false h = cc
 
 pub first_mapped : (e : EncoderRule) (c : ℕ) (t : List ℕ) → any_unmappable e (c ∷ t) ≡ false → (is_some (e.bytes c) ≡ true) × (any_unmappable e t ≡ false)
 first_mapped e c t h =
-    let p = or_parts (not (is_some (e.bytes c))) (any_unmappable e t) h in
-    (is_mapped (is_some (e.bytes c)) p.0, p.1)
+    let both = or_parts (not (is_some (e.bytes c))) (any_unmappable e t) h in
+    (is_mapped (is_some (e.bytes c)) both.0, both.1)
 
 -- the bytes of each character are read as one character, whatever follows them
 pub record IsReadBack (rule : Rule) (bytes : ℕ → Option (List ℕ)) (back : ℕ → ℕ) : Type 0 where
@@ -50,16 +51,18 @@ module _ (rule : Rule) (bytes : ℕ → Option (List ℕ)) (back : ℕ → ℕ) 
   one c None e m s = cc
   one c (Some b) e m s = h.each c s b e
 
-  behind_is_read : (u t : List ℕ) → AreScalars t → any_unmappable (stateless_rule bytes) t ≡ false → IsReadAs rule 0 (bytes_after_text (stateless_rule bytes) Ascii u t) (map back t)
-  behind_is_read u [] s m = read_nothing rule 0
-  behind_is_read u (c ∷ t) s m =
-      let f = first_mapped (stateless_rule bytes) c t m in
+  suffix_is_read : (u t : List ℕ) → AreScalars t → any_unmappable (stateless_rule bytes) t ≡ false
+      → IsReadAs rule 0 (bytes_after_text (stateless_rule bytes) Ascii u t) (map back t)
+  suffix_is_read u [] scalars m = read_nothing rule 0
+  suffix_is_read u (c ∷ t) scalars m =
+      let both = first_mapped (stateless_rule bytes) c t m in
       read_more rule 0 (list_or_empty (bytes c)) (back c) (bytes_after_text (stateless_rule bytes) Ascii (u ++ c ∷ []) t) (map back t)
-      (one c (bytes c) refl f.0 (first_so _ _ s)) (behind_is_read (u ++ c ∷ []) t (second_so _ _ s) f.1)
+      (one c (bytes c) refl both.0 (first_so _ _ scalars))
+      (suffix_is_read (u ++ c ∷ []) t (second_so _ _ scalars) both.1)
 
   -- and so is a text
   pub text_is_read : (t : List ℕ) → AreScalars t → any_unmappable (stateless_rule bytes) t ≡ false → IsReadAs rule 0 (bytes_of_text (stateless_rule bytes) Ascii t) (map back t)
-  text_is_read t s m = behind_is_read [] t s m
+  text_is_read t s m = suffix_is_read [] t s m
 
 -- by cases
 

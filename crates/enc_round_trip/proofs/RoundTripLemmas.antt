@@ -1,20 +1,22 @@
--- What each encoder writes, its decoder reads back: the one proof that goes through all codecs.
+-- Each decoder reads back the bytes of its encoder: the one proof that goes through all codecs.
+-- Rows by codec are written by scripts/make-codecs from data/codecs.txt.
 use Rattle.std.proofs.Common.{◌≡◌, ℕ, true, false, Option, Some, None, List, [], ◌∷◌, map, refl, ap, sym, subst, ◌∙◌}
 use Rattle.enc_units.specs.Output.{AreScalars}
-use Rattle.enc_machine.specs.Sequence.{sequence_text}
-use Rattle.enc_machine.specs.Segmentation.{sequences_of}
-use Rattle.enc_codec.specs.declared.codec.Codec.{Codec}
-use Rattle.enc_codec.specs.declared.codec.Codec.TheVariants.{Utf8, Utf16Be, Utf16Le, SingleByte, Big5, EucKr, ShiftJis, EucJp, Gbk, Gb18030, Iso2022Jp, XUserDefined, Replacement}
+use Rattle.enc_decoder.specs.Sequence.{sequence_text}
+use Rattle.enc_decoder.specs.Segmentation.{sequences_of}
+use Rattle.enc_index.specs.declared.codec.Codec.{Codec}
+use Rattle.enc_index.specs.declared.codec.Codec.TheVariants.{Utf8, Utf16Be, Utf16Le, SingleByte, Big5, EucKr, ShiftJis}
+use Rattle.enc_index.specs.declared.codec.Codec.TheVariants.{EucJp, Gbk, Gb18030, Iso2022Jp, XUserDefined, Replacement}
 use Rattle.enc_codec.specs.Codecs.{codec_rule}
-use Rattle.enc_encoders.specs.declared.character_set.CharacterSet.TheVariants.{Ascii}
-use Rattle.enc_encoders.specs.EncoderRule.{EncoderRule}
-use Rattle.enc_encoders.specs.Text.{bytes_of_text}
-use Rattle.enc_encoders.specs.Barring.{barring_rule}
+use Rattle.enc_encoder.specs.declared.character_set.CharacterSet.TheVariants.{Ascii}
+use Rattle.enc_encoder.specs.EncoderRule.{EncoderRule}
+use Rattle.enc_encoder.specs.Text.{bytes_of_text}
+use Rattle.enc_encoder.specs.Barring.{barring_rule}
 use Rattle.enc_encode.specs.Encoders.{encoder_rule}
-use Rattle.enc_references.specs.Unmappable.{any_unmappable}
+use Rattle.enc_encoder.specs.Unmappable.{any_unmappable}
 use Rattle.enc_round_trip.specs.RoundTrip.{char_read_back, keeps_characters}
 use Rattle.enc_round_trip.proofs.ReadBackLemmas.{IsReadAs, text_is_read}
-use Rattle.enc_round_trip.proofs.BarringBack.{except_is_read, still_mapped, same_bytes_behind}
+use Rattle.enc_round_trip.proofs.BarringBack.{still_mapped, same_bytes_after}
 use Rattle.enc_round_trip.proofs.OneByteBack.{utf_8_is_read, single_byte_is_read, x_user_defined_is_read}
 use Rattle.enc_round_trip.proofs.DoubleByteBack.{euc_kr_is_read, big5_is_read}
 use Rattle.enc_round_trip.proofs.ShiftJisBack.{shift_jis_is_read}
@@ -44,15 +46,16 @@ read_if_any Iso2022Jp = λ t s m. iso_2022_jp_is_read t m
 -- by the rule that the codec has, whatever is barred
 pub is_read : (c : Codec) (b : List ℕ) (e : EncoderRule) (t : List ℕ) → encoder_rule c ≡ Some e → AreScalars t → any_unmappable (barring_rule b e) t ≡ false
     → IsReadAs (codec_rule c) 0 (bytes_of_text (barring_rule b e) Ascii t) (map (char_read_back c) t)
-is_read c b e t q s m =
-    subst (λ y. IsReadAs (codec_rule c) 0 y (map (char_read_back c) t)) (sym (same_bytes_behind b e Ascii [] t m))
-    ((subst (IsReadIfAny c) q (read_if_any c)) t s (still_mapped b e t m))
+is_read c b e t q s all_mapped =
+    subst (λ y. IsReadAs (codec_rule c) 0 y (map (char_read_back c) t))
+    (sym (same_bytes_after b e Ascii [] t all_mapped))
+    ((subst (IsReadIfAny c) q (read_if_any c)) t s (still_mapped b e t all_mapped))
 
 -- each character is read back as itself, where the codec keeps characters
 
 map_of : (f : ℕ → ℕ) → ((c : ℕ) → f c ≡ c) → (t : List ℕ) → map f t ≡ t
-map_of f h [] = refl
-map_of f h (c ∷ t) = ap (λ x. x ∷ map f t) (h c) ∙ ap (λ x. c ∷ x) (map_of f h t)
+map_of f same_char [] = refl
+map_of f same_char (c ∷ t) = ap (λ x. x ∷ map f t) (same_char c) ∙ ap (λ x. c ∷ x) (map_of f same_char t)
 
 keeps : (c : Codec) → keeps_characters c ≡ true → (n : ℕ) → char_read_back c n ≡ n
 keeps ShiftJis h n = cc

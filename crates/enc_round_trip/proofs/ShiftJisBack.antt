@@ -1,23 +1,25 @@
--- What Shift_JIS gives back.
-use Rattle.std.proofs.Common.{◌≡◌, ℕ, ◌+◌, ◌-◌, ◌*◌, ◌/◌, ◌%◌, ◌<◌, ◌≤◌, Bool, true, false, nat_lt, nat_le, ◌&&◌, ◌||◌, ◌==◌, Some, List, [], ◌∷◌, refl, ap, sym, ◌∙◌, arith, le-leb, if◌then◌else◌}
+-- The characters that Shift_JIS gives back.
+use Rattle.std.proofs.Common.{◌≡◌, ℕ, ◌+◌, ◌-◌, ◌*◌, ◌/◌, ◌%◌, ◌<◌, ◌≤◌, Bool, true, false, nat_lt, nat_le, ◌&&◌, ◌||◌}
+use Rattle.std.proofs.Common.{◌==◌, Some, List, [], ◌∷◌, refl, ap, sym, ◌∙◌, arith, le-leb, if◌then◌else◌}
 use Rattle.std.proofs.lemmas.Bool.{cond-true, cond-false, or_left, or_right, or_from}
 use Rattle.std.proofs.lemmas.Bool.Decides.{nat_tests}
 use Rattle.enc_index.specs.Runs.{jis0208_at}
-use Rattle.enc_pointers.specs.Pointers.{shift_jis_pointer, is_shift_jis_pointer, no_character}
-use Rattle.enc_machine.specs.declared.byte_codec.Text.TheVariants.{One}
-use Rattle.enc_machine.specs.Taking.{IsWholeChar}
-use Rattle.enc_multi_byte.specs.DoubleByte.{text_of_char}
-use Rattle.enc_multi_byte.specs.MultiByte.{multi_byte_rule}
-use Rattle.enc_multi_byte.specs.ShiftJis as decoder
-use Rattle.enc_encoders.specs.Japanese.{is_halfwidth_katakana, katakana_byte, with_fullwidth_minus}
-use Rattle.enc_encoders.specs.ShiftJis.{shift_jis_lead_byte, shift_jis_trail_byte, shift_jis_pair_bytes, shift_jis_other, shift_jis_bytes}
+use Rattle.enc_index_pointers.specs.Pointers.{shift_jis_pointer, is_shift_jis_pointer, no_character}
+use Rattle.enc_decoder.specs.declared.byte_codec.Text.TheVariants.{One}
+use Rattle.enc_decoder.specs.Taking.{IsWholeChar}
+use Rattle.enc_decoder_multi_byte.specs.DoubleByte.{text_of_char}
+use Rattle.enc_decoder_multi_byte.specs.MultiByte.{multi_byte_rule}
+use Rattle.enc_decoder_multi_byte.specs.ShiftJis as decoder
+use Rattle.enc_encode.specs.Japanese.{is_halfwidth_katakana, katakana_byte, with_fullwidth_minus}
+use Rattle.enc_encode.specs.ShiftJis.{shift_jis_lead_byte, shift_jis_trail_byte, shift_jis_pair_bytes, shift_jis_other}
+use Rattle.enc_encode.specs.ShiftJis.{shift_jis_bytes}
 use Rattle.enc_round_trip.specs.RoundTrip.{ascii_twin_or, private_use_or, char_read_in_shift_jis}
 use Rattle.enc_round_trip.proofs.ReadBackLemmas.{IsReadBack, with_ascii_is_read, by_test, same_bytes, same_char}
 use Rattle.enc_round_trip.proofs.PointerLemmas.{IsPointer, is_pointer, by_pointer}
 use Rattle.enc_round_trip.proofs.DoubleByteBack.{single_piece, pair_piece}
 use Rattle.enc_round_trip.proofs.JapaneseBack.{katakana_byte_is_read, low_not_latin, latin_is_read}
 
--- a row tells its lead, and a cell its trail, and the other way
+-- a row determines its lead, a cell its trail, and back
 
 is_lead : (row : ℕ) → row < 60 → decoder.is_shift_jis_lead (shift_jis_lead_byte row) ≡ true
 is_lead row l = grind (arith, nat_tests)
@@ -41,13 +43,14 @@ pointer_of_pair p l =
 
 -- the character at a pointer
 char_at : (t : Bool) (p c : ℕ) → (nat_le 8836 p && nat_le p 10715) ≡ t → jis0208_at p ≡ Some c → decoder.shift_jis_pointer_char p ≡ Some (private_use_or c (Some p))
-char_at true p c t e = cond-true _ _ _ t ∙ ap Some (sym (cond-true _ _ _ t))
-char_at false p c t e = cond-false _ _ _ t ∙ e ∙ ap Some (sym (cond-false _ _ _ t))
+char_at true p c in_gap e = cond-true _ _ _ in_gap ∙ ap Some (sym (cond-true _ _ _ in_gap))
+char_at false p c in_gap e = cond-false _ _ _ in_gap ∙ e ∙ ap Some (sym (cond-false _ _ _ in_gap))
 
 is_pair : (c p : ℕ) → IsPointer jis0208_at is_shift_jis_pointer 11280 c p
     → decoder.shift_jis_pair_text (shift_jis_lead_byte (p / 188)) (shift_jis_trail_byte (p % 188)) ≡ Some (One (private_use_or c (Some p)))
-is_pair c p h =
-    ap text_of_char (cond-true _ _ _ (is_trail (p % 188) (omega arith)) ∙ ap decoder.shift_jis_pointer_char (pointer_of_pair p h.below) ∙ char_at _ p c refl h.has)
+is_pair c p has_pointer =
+    ap text_of_char (cond-true _ _ _ (is_trail (p % 188) (omega arith))
+    ∙ ap decoder.shift_jis_pointer_char (pointer_of_pair p has_pointer.below) ∙ char_at _ p c refl has_pointer.has)
 
 at_pointer : (c p : ℕ) → shift_jis_pointer c ≡ Some p → IsPointer jis0208_at is_shift_jis_pointer 11280 c p
 unfolding shift_jis_pointer
@@ -82,16 +85,17 @@ itself : (c : ℕ) → (nat_le c 0x80 || is_halfwidth_katakana c) ≡ true → c
 itself c t = sym (cond-true _ _ _ t)
 
 low_itself : (c : ℕ) → c ≤ 0x80 → c ≡ ascii_twin_or char_read_in_shift_jis c
-low_itself c l = itself c (or_left _ _ (le-leb c 0x80 l)) ∙ low_not_latin char_read_in_shift_jis c l
+low_itself c is_ascii =
+    itself c (or_left _ _ (le-leb c 0x80 is_ascii)) ∙ low_not_latin char_read_in_shift_jis c is_ascii
 
 by_index : (c p : ℕ) → nat_le c 0x80 ≡ false → is_halfwidth_katakana c ≡ false → shift_jis_pointer (with_fullwidth_minus c) ≡ Some p → Piece (shift_jis_pair_bytes p) (char_read_in_shift_jis c)
-by_index c p l k f =
-    let h = at_pointer (with_fullwidth_minus c) p f in
+by_index c p l k is_some_pointer =
+    let has_pointer = at_pointer (with_fullwidth_minus c) p is_some_pointer in
     let e : private_use_or (with_fullwidth_minus c) (Some p) ≡ char_read_in_shift_jis c =
-    ap (private_use_or (with_fullwidth_minus c)) (sym f) ∙ sym (cond-false _ _ _ (or_from _ _ l k)) in
+    ap (private_use_or (with_fullwidth_minus c)) (sym is_some_pointer) ∙ sym (cond-false _ _ _ (or_from _ _ l k)) in
     same_char _ 0 (shift_jis_pair_bytes p) _ (char_read_in_shift_jis c) e
     (pair_piece decoder.is_shift_jis_lead decoder.shift_jis_single_char decoder.shift_jis_pair_text (shift_jis_lead_byte (p / 188)) (shift_jis_trail_byte (p % 188)) _
-    (is_lead (p / 188) (let l = h.below in omega arith)) (is_pair (with_fullwidth_minus c) p h))
+    (is_lead (p / 188) (let l = has_pointer.below in omega arith)) (is_pair (with_fullwidth_minus c) p has_pointer))
 
 beyond : (c : ℕ) (b : List ℕ) → 0x80 ≤ c → shift_jis_other c ≡ Some b → Piece b (ascii_twin_or char_read_in_shift_jis c)
 beyond c b l =
@@ -101,9 +105,9 @@ beyond c b l =
     (same_char _ 0 (0x80 ∷ []) 0x80 (ascii_twin_or char_read_in_shift_jis c) (s ∙ low_itself c (omega arith)) (low_piece 0x80 (omega arith)))))
     (λ n. latin_is_read (multi_byte_rule decoder.shift_jis_prefix) _ char_read_in_shift_jis c b (λ a m. low_piece a (omega arith))
     (λ yen line. by_test (is_halfwidth_katakana c) _ _ b
-    (λ k. same_bytes (λ x. Piece x (char_read_in_shift_jis c)) (katakana_byte c ∷ []) b
-    (same_char _ 0 (katakana_byte c ∷ []) c (char_read_in_shift_jis c) (itself c (or_right _ _ k))
-    (katakana_piece c k)))
+    (λ is_katakana. same_bytes (λ x. Piece x (char_read_in_shift_jis c)) (katakana_byte c ∷ []) b
+    (same_char _ 0 (katakana_byte c ∷ []) c (char_read_in_shift_jis c) (itself c (or_right _ _ is_katakana))
+    (katakana_piece c is_katakana)))
     (λ k. by_pointer (λ x. Piece x (char_read_in_shift_jis c)) shift_jis_pair_bytes
     (shift_jis_pointer (with_fullwidth_minus c)) b
     (λ p. by_index c p (grind (arith, nat_tests)) k))))

@@ -1,35 +1,37 @@
--- Texts that are written and read back (Encoding Standard 4.1, "process a queue", with an encoder and then with a decoder).
+-- Texts that are encoded and decoded again (Encoding Standard 4.1, "process a queue", with an encoder and then with a
+-- decoder).
 use Rattle.std.specs.Prelude.{ℕ, ◌+◌, ◌-◌, Bool, true, false, ◌==◌, ◌&&◌, ◌||◌, nat_le, Option, Some, None, if◌then◌else◌}
-use Rattle.enc_codec.specs.declared.codec.Codec.{Codec}
-use Rattle.enc_codec.specs.declared.codec.Codec.TheVariants.{ShiftJis, EucJp, Iso2022Jp}
-use Rattle.enc_pointers.specs.Pointers.{shift_jis_pointer}
-use Rattle.enc_encoders.specs.Japanese.{is_halfwidth_katakana, with_fullwidth_minus}
-use Rattle.enc_encoders.specs.Iso2022Jp.{lookup_char}
+use Rattle.enc_index.specs.declared.codec.Codec.{Codec}
+use Rattle.enc_index.specs.declared.codec.Codec.TheVariants.{ShiftJis, EucJp, Iso2022Jp}
+use Rattle.enc_index_pointers.specs.Pointers.{shift_jis_pointer}
+use Rattle.enc_encode.specs.Japanese.{is_halfwidth_katakana, with_fullwidth_minus}
+use Rattle.enc_encode.specs.Iso2022Jp.{lookup_char}
 
 -- U+00A5 and U+203E have the bytes of `\` and `~`
 abbrev pub ascii_twin_or : (ℕ → ℕ) → ℕ → ℕ
 ascii_twin_or others c = if c == 0xA5 then 0x5C else if c == 0x203E then 0x7E else others c
 
--- The character of a pointer in Shift_JIS: one of private use, by the pointer alone, or that of the index. (No row of the
--- standard's index has a pointer of those of private use.)
+-- The character of a pointer in Shift_JIS: one of private use, by the pointer alone, or that of the index. (The
+-- standard's index has no entry at a pointer for private use.)
 abbrev pub private_use_or : ℕ → Option ℕ → ℕ
 private_use_or c None = c
 private_use_or c (Some p) = if nat_le 8836 p && nat_le p 10715 then 0xE000 + (p - 8836) else c
 
+-- the character that the bytes of one decode to in Shift_JIS, except those of `\` and `~`
 abbrev pub char_read_in_shift_jis : ℕ → ℕ
 char_read_in_shift_jis c =
     if nat_le c 0x80 || is_halfwidth_katakana c then c
     else private_use_or (with_fullwidth_minus c) (shift_jis_pointer (with_fullwidth_minus c))
 
--- What is read back of a character that was written: in the three encodings of Japan another one has its bytes in some
--- cases (Encoding Standard 12.1.2, 12.2.2 and 12.3.2), and else it is that character.
+-- The character that the bytes of a character decode to. It is the same one, except in some cases in the three Japanese
+-- encodings, in which another has its bytes (Encoding Standard 12.1.2, 12.2.2 and 12.3.2).
 abbrev pub char_read_back : Codec → ℕ → ℕ
 char_read_back ShiftJis c = ascii_twin_or char_read_in_shift_jis c
 char_read_back EucJp c = ascii_twin_or with_fullwidth_minus c
 char_read_back Iso2022Jp c = lookup_char c
 char_read_back _ c = c
 
--- whether each character is read back as itself
+-- whether each character decodes to itself
 abbrev pub keeps_characters : Codec → Bool
 keeps_characters ShiftJis = false
 keeps_characters EucJp = false

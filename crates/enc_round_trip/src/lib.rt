@@ -1,4 +1,4 @@
-//! What the encoders write, the decoders read back.
+//! The round trip of a text through an encoder and the decoder of the same codec.
 #![tactic(auto)]
 
 pub mod laws;

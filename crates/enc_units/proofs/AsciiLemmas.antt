@@ -1,5 +1,8 @@
 -- Lanes of ASCII bytes.
-use Rattle.std.proofs.Common.{◌≡◌, ℕ, zero, suc, ◌+◌, ◌%◌, ◌^◌, ◌<◌, Bool, true, false, cond, eqb, leb, List, [], ◌∷◌, map, length, get_or, replicate, take, drop, refl, ap, ◌∙◌, sym, subst, arith, eqb-true, leb-false, take-add, drop-cons, append_assoc, drop-drop, length-append, length-take, length-drop, ◌++◌, ◌≤◌}
+use Rattle.std.proofs.Common.{◌≡◌, ℕ, zero, suc, ◌+◌, ◌%◌, ◌^◌, ◌<◌, Bool, true, false, cond, eqb, leb, List, [], ◌∷◌}
+use Rattle.std.proofs.Common.{map, length, get_or, replicate, take, drop, refl, ap, ◌∙◌, sym, subst, arith, eqb-true}
+use Rattle.std.proofs.Common.{leb-false, take-add, drop-cons, append_assoc, drop-drop, length-append, length-take}
+use Rattle.std.proofs.Common.{length-drop, ◌++◌, ◌≤◌}
 use Rattle.std.proofs.lemmas.Bool.Decides.{nat_tests}
 use Rattle.std.proofs.lemmas.List.{length-take-le, length-map, take_more}
 use Rattle.std.proofs.lemmas.List.Elements.{All-append}
@@ -21,13 +24,13 @@ none_high (x ∷ xs) e zero d h = go (leb 128 x) refl (omega arith)
     go false p q = leb-false _ _ p
 none_high (x ∷ xs) e (suc k) d h = none_high xs (omega arith) k d (omega arith)
 
--- the mask of a comparison of so many lanes
+-- the mask of a comparison of n lanes
 pub ascii_of_mask : (n : ℕ) (xs : List ℕ) → n ≤ 64 → length xs ≡ n → eqb (mask_l (map (top 7) (zip2 at_least (replicate n 128) xs)) % 2 ^ 64) 0 ≡ true → AreAscii xs
 ascii_of_mask n xs few long e =
     none_high xs (ap (λ n. mask_l (map (top 7) (zip2 at_least (replicate n 128) xs))) long
     ∙ sym (mask_l-mod _ 64 (omega (arith, length-map (zip2 at_least (replicate n 128) xs) (top 7), length-zip2 at_least (replicate n 128) xs (length-replicate {A = ℕ} n 128 ∙ sym long), length-replicate {A = ℕ} n 128))) ∙ eqb-true _ _ e)
 
--- so many bytes more are ASCII
+-- n bytes more are ASCII
 pub ascii_more : (i n : ℕ) (xs : List ℕ) → AreAscii (take i xs) → AreAscii (take n (drop i xs)) → AreAscii (take (i + n) xs)
 ascii_more i n xs a b = subst AreAscii (sym (take-add i n xs)) (All-append (λ b. b < 0x80) (take i xs) (take n (drop i xs)) a b)
 
@@ -45,7 +48,7 @@ at_seam a b ys h =
     ∙ ap (λ x. x ++ (ys ++ drop (length ys) (drop (length a) (a ++ b)))) (take-append_seam a b)
     ∙ ap (λ x. a ++ (ys ++ drop (length ys) x)) (drop-append_seam a b)
 
--- what is copied, and what lies behind it
+-- the bytes that are copied, and those after them
 pub copied_more : (i n : ℕ) (src dst old : List ℕ) → i + n ≤ length src → i + n ≤ length old → dst ≡ take i src ++ drop i old
     → put_chunk i dst (take n (drop i src)) ≡ take (i + n) src ++ drop (i + n) old
 copied_more i n src dst old h k e =

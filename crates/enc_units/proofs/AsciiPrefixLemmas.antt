@@ -1,5 +1,6 @@
 -- Runs of ASCII in front of what fits, and what was gathered apart.
-use Rattle.std.proofs.Common.{◌≡◌, ℕ, suc, ◌+◌, ◌<◌, ◌≤◌, List, [], ◌∷◌, ◌++◌, length, get_or, take, refl, ap, ◌∙◌, sym, subst, arith, length-take, inl, inr}
+use Rattle.std.proofs.Common.{◌≡◌, ℕ, suc, ◌+◌, ◌<◌, ◌≤◌, List, [], ◌∷◌, ◌++◌, length, get_or, take, refl, ap, ◌∙◌, sym}
+use Rattle.std.proofs.Common.{subst, arith, length-take, inl, inr}
 use Rattle.std.proofs.lemmas.Bool.{cases_lt, lt-ltb}
 use Rattle.std.proofs.lemmas.List.{take-take, get_or-take}
 use Rattle.std.specs.Prelude.{min}
@@ -17,10 +18,11 @@ use Rattle.enc_units.proofs.Utf8SliceLemmas.{ascii_units}
 
 -- ASCII bytes are their own code units in UTF-16 too
 pub ascii_units_16 : (bs : List ℕ) → AreAscii bs → units_of_text encode_utf16 bs ≡ bs
-ascii_units_16 [] a = refl
-ascii_units_16 (b ∷ bs) a =
-    let h : b < 0x1_0000 = (let k = a 0 0 (omega arith) in omega arith) in
-    ap (λ x. x ++ units_of_text encode_utf16 bs) (one_unit b h) ∙ ap (λ x. b ∷ x) (ascii_units_16 bs (λ k d l. a (suc k) d (omega arith)))
+ascii_units_16 [] are_ascii = refl
+ascii_units_16 (b ∷ bs) are_ascii =
+    let h : b < 0x1_0000 = (let k = are_ascii 0 0 (omega arith) in omega arith) in
+    ap (λ x. x ++ units_of_text encode_utf16 bs) (one_unit b h)
+    ∙ ap (λ x. b ∷ x) (ascii_units_16 bs (λ k d l. are_ascii (suc k) d (omega arith)))
   where
     one_unit : (c : ℕ) → c < 0x1_0000 → encode_utf16 c ≡ c ∷ []
     one_unit c h = rw (lt-ltb c 0x1_0000 h) refl
@@ -29,9 +31,9 @@ ascii_units_16 (b ∷ bs) a =
 pub puts_front : (units_of : ℕ → List ℕ) → ((bs : List ℕ) → AreAscii bs → units_of_text units_of bs ≡ bs) → (before after : Output) (src front : List ℕ) (n most : ℕ) → front ≡ take most src
     → most ≡ min (length src) before.room → n ≤ length front → AreAscii (take n front) → (n < length front → 0x80 ≤ get_or front n 0) → after ≡ with_appended before (take n src)
     → PutsAscii units_of before after src n
-puts_front units_of own before after src front n most f m l a ends e =
-    let few : n ≤ most = omega (arith, ap length f, length-take most src) in
-    let ascii : AreAscii (take n src) = subst AreAscii (ap (take n) f ∙ take-take n most src few) a in
+puts_front units_of own before after src front n most is_front m l a ends e =
+    let few : n ≤ most = omega (arith, ap length is_front, length-take most src) in
+    let ascii : AreAscii (take n src) = subst AreAscii (ap (take n) is_front ∙ take-take n most src few) a in
     let units = own (take n src) ascii in
     record {
       within = omega arith;
@@ -40,8 +42,9 @@ puts_front units_of own before after src front n most f m l a ends e =
       written = e ∙ ap (with_appended before) (sym units);
       longest = λ more low. elim (cases_lt n most) [
         | inl h ↦
-            let here : get_or front n 0 ≡ get_or src n 0 = ap (λ z. get_or z n 0) f ∙ get_or-take most src n 0 h in
-            absurd (omega (arith, ends (omega (arith, ap length f, length-take most src)), here))
+            let here : get_or front n 0 ≡ get_or src n 0 = ap (λ z. get_or z n 0) is_front
+            ∙ get_or-take most src n 0 h in
+            absurd (omega (arith, ends (omega (arith, ap length is_front, length-take most src)), here))
         | inr h ↦ omega (arith, ap length (own (take (n + 1) src) (ascii_one n src ascii more low)), length-take (n + 1) src)
       ];
     }
@@ -51,9 +54,9 @@ pub text_utf8 : (units text : List ℕ) → AreScalars text → units ≡ units_
 text_utf8 units text s e = (text, (s, sym (their_units text) ∙ sym e))
 
 pub front_utf8 : (src front : List ℕ) (n most : ℕ) → front ≡ take most src → n ≤ length front → AreAscii (take n front) → IsUtf8 (take n src)
-front_utf8 src front n most f l a =
-    let few : n ≤ most = omega (arith, ap length f, length-take most src) in
-    let ascii : AreAscii (take n src) = subst AreAscii (ap (take n) f ∙ take-take n most src few) a in
+front_utf8 src front n most is_front l a =
+    let few : n ≤ most = omega (arith, ap length is_front, length-take most src) in
+    let ascii : AreAscii (take n src) = subst AreAscii (ap (take n) is_front ∙ take-take n most src few) a in
     text_utf8 (take n src) (take n src) (ascii_scalars (take n src) ascii) (sym (ascii_units (take n src) ascii))
 
 -- what was put out to an output that was empty
@@ -61,14 +64,15 @@ pub written_is : (before after : Output) (units text : List ℕ) → after ≡ w
 written_is before after units text e w a = sym a ∙ ap (λ (o : Output). o.written) e ∙ ap (λ x. x ++ units) w
 
 pub gathered_utf8 : (Means : List ℕ → ℕ → Type 0) (before after : Output) (src : List ℕ) (n : ℕ) (units : List ℕ) → PutsPieces encode_utf8 Means before after src n → before.written ≡ [] → after.written ≡ units → IsUtf8 units
-gathered_utf8 Means before after src n units p w a = text_utf8 units p.text p.scalars (written_is before after _ units p.written w a)
+gathered_utf8 Means before after src n units puts w a =
+    text_utf8 units puts.text puts.scalars (written_is before after _ units puts.written w a)
 
 pub appends_gathered : (Means : List ℕ → ℕ → Type 0) (before after o then : Output) (src : List ℕ) (n : ℕ) (units : List ℕ) → PutsPieces encode_utf8 Means before after src n → before.written ≡ [] → after.written ≡ units
     → before.room ≤ o.room → then ≡ with_appended o units → PutsPieces encode_utf8 Means o then src n
-appends_gathered Means before after o then src n units p w a r e = record {
-  text = p.text;
-  scalars = p.scalars;
-  reads = p.reads;
-  fits = omega (arith, p.fits, r);
-  written = e ∙ ap (with_appended o) (written_is before after _ units p.written w a);
+appends_gathered Means before after o then src n units puts w a r e = record {
+  text = puts.text;
+  scalars = puts.scalars;
+  reads = puts.reads;
+  fits = omega (arith, puts.fits, r);
+  written = e ∙ ap (with_appended o) (written_is before after _ units puts.written w a);
 }

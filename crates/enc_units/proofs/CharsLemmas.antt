@@ -1,5 +1,8 @@
 -- The code units of a text, and the characters of code units.
-use Rattle.std.proofs.Common.{◌==◌, Option, Some, None, MatchOption, ◌≡◌, ℕ, ◌+◌, zero, suc, ◌<◌, ◌≤◌, Bool, true, false, List, [], ◌∷◌, ◌++◌, length, get_or, drop, refl, ap, ◌∙◌, sym, arith, length-append, length-drop, map, encode_utf8, chars, IsUtf8, nat_le, nat_lt, ◌&&◌, ◌⊎◌, inl, inr}
+use Rattle.std.proofs.Common.{◌==◌, Option, Some, None, MatchOption, ◌≡◌, ℕ, ◌+◌, zero, suc, ◌<◌, ◌≤◌, Bool, true}
+use Rattle.std.proofs.Common.{false, List, [], ◌∷◌, ◌++◌, length, get_or, drop, refl, ap, ◌∙◌, sym, arith}
+use Rattle.std.proofs.Common.{length-append, length-drop, map, encode_utf8, chars, IsUtf8, nat_le, nat_lt, ◌&&◌, ◌⊎◌}
+use Rattle.std.proofs.Common.{inl, inr}
 use Rattle.std.specs.Char.Escape.{encode_utf16}
 use Rattle.std.specs.Char.Utf16.{utf16_lossy_chars, is_high_surrogate, is_low_surrogate, surrogate_pair_char}
 use Rattle.std.proofs.lemmas.Str.{encodes-chars, utf16_chars-nil, utf16_chars_lone, utf16_chars_pair}
@@ -58,15 +61,18 @@ AreUnits us = (i : ℕ) → get_or us i 0 < 0x1_0000
 
 step : (us : List ℕ) (c n : ℕ) → IsFirstUtf16Char us c n → length (drop n us) ≡ length (units_of_text encode_utf16 (utf16_lossy_chars (drop n us)))
     → length us ≡ length (units_of_text encode_utf16 (utf16_lossy_chars us))
-step us c n f e = rw (f.chars, length-append) (omega (arith, f.within, f.width, e, length-drop n us))
+step us c n begins e =
+    rw (begins.chars, length-append) (omega (arith, begins.within, begins.width, e, length-drop n us))
 
 pub utf16_length : (us : List ℕ) → AreUnits us → length us ≡ length (units_of_text encode_utf16 (utf16_lossy_chars us))
-utf16_length [] h = rw lossy_nil refl
-utf16_length (u ∷ []) h =
-    step (u ∷ []) _ 1 (first_lone (u ∷ []) (omega arith) (h 0) (λ p. omega (arith, p.2))) (rw lossy_nil refl)
-utf16_length (u ∷ v ∷ us) h = elim (decide_pair u v) [
-  | inl p ↦ step (u ∷ v ∷ us) _ 2 (first_pair (u ∷ v ∷ us) (omega arith) p) (utf16_length us (λ i. h (suc (suc i))))
-  | inr n ↦ step (u ∷ v ∷ us) _ 1 (first_lone (u ∷ v ∷ us) (omega arith) (h 0) n) (utf16_length (v ∷ us) (λ i. h (suc i)))
+utf16_length [] are_units = rw lossy_nil refl
+utf16_length (u ∷ []) are_units =
+    step (u ∷ []) _ 1 (first_lone (u ∷ []) (omega arith) (are_units 0) (λ p. omega (arith, p.2))) (rw lossy_nil refl)
+utf16_length (u ∷ v ∷ us) are_units = elim (decide_pair u v) [
+  | inl p ↦ step (u ∷ v ∷ us) _ 2 (first_pair (u ∷ v ∷ us) (omega arith) p)
+      (utf16_length us (λ i. are_units (suc (suc i))))
+  | inr n ↦ step (u ∷ v ∷ us) _ 1 (first_lone (u ∷ v ∷ us) (omega arith) (are_units 0) n)
+      (utf16_length (v ∷ us) (λ i. are_units (suc i)))
 ]
 
 -- The characters of the rest, after the units of the first characters.
@@ -77,16 +83,17 @@ record HasFirst (us : List ℕ) : Type 0 where
   first : IsFirstUtf16Char us char units
 
 first_of : (u : ℕ) (us : List ℕ) → AreUnits (u ∷ us) → HasFirst (u ∷ us)
-first_of u [] h = record { char = _; units = 1; first = first_lone (u ∷ []) (omega arith) (h 0) (λ p. omega (arith, p.2)) }
-first_of u (v ∷ us) h = elim (decide_pair u v) [
+first_of u [] are_units =
+    record { char = _; units = 1; first = first_lone (u ∷ []) (omega arith) (are_units 0) (λ p. omega (arith, p.2)) }
+first_of u (v ∷ us) are_units = elim (decide_pair u v) [
   | inl p ↦ record { char = _; units = 2; first = first_pair (u ∷ v ∷ us) (omega arith) p }
-  | inr n ↦ record { char = _; units = 1; first = first_lone (u ∷ v ∷ us) (omega arith) (h 0) n }
+  | inr n ↦ record { char = _; units = 1; first = first_lone (u ∷ v ∷ us) (omega arith) (are_units 0) n }
 ]
 
 units-drop : (n : ℕ) (us : List ℕ) → AreUnits us → AreUnits (drop n us)
-units-drop zero us h = h
-units-drop (suc n) [] h = h
-units-drop (suc n) (u ∷ us) h = units-drop n us (λ i. h (suc i))
+units-drop zero us are_units = are_units
+units-drop (suc n) [] are_units = are_units
+units-drop (suc n) (u ∷ us) are_units = units-drop n us (λ i. are_units (suc i))
 
 heads : (a b : ℕ) (y z : List ℕ) → a ∷ y ≡ b ∷ z → a ≡ b
 heads a b y z e = cc
@@ -96,16 +103,18 @@ tails a b y z e = cc
 
 pub lossy_behind : (us : List ℕ) → AreUnits us → (cs rest : List ℕ) → utf16_lossy_chars us ≡ cs ++ rest
     → utf16_lossy_chars (drop (length (units_of_text encode_utf16 cs)) us) ≡ rest
-lossy_behind us h [] rest e = e
-lossy_behind [] h (c ∷ cs) rest e = absurd (let f : [] ≡ c ∷ (cs ++ rest) = sym lossy_nil ∙ e in cc)
-lossy_behind (u ∷ us) h (c ∷ cs) rest e =
-    let i = first_of u us h in
-    let f = sym i.first.chars ∙ e in
+lossy_behind us are_units [] rest whole = whole
+lossy_behind [] are_units (c ∷ cs) rest whole = absurd (let f : [] ≡ c ∷ (cs ++ rest) = sym lossy_nil ∙ whole in cc)
+lossy_behind (u ∷ us) are_units (c ∷ cs) rest whole =
+    let begins = first_of u us are_units in
+    let same = sym begins.first.chars ∙ whole in
     let n = length (units_of_text encode_utf16 cs) in
-    let w : length (units_of_text encode_utf16 (c ∷ cs)) ≡ i.units + n =
-    length-append (encode_utf16 c) (units_of_text encode_utf16 cs) ∙ ap (λ d. length (encode_utf16 d) + n) (sym (heads _ _ _ _ f)) ∙ ap (λ k. k + n) (sym i.first.width) in
-    ap (λ k. utf16_lossy_chars (drop k (u ∷ us))) w ∙ ap utf16_lossy_chars (sym (drop-drop n i.units (u ∷ us)))
-    ∙ lossy_behind (drop i.units (u ∷ us)) (units-drop i.units (u ∷ us) h) cs rest (tails _ _ _ _ f)
+    let w : length (units_of_text encode_utf16 (c ∷ cs)) ≡ begins.units + n =
+    length-append (encode_utf16 c) (units_of_text encode_utf16 cs)
+    ∙ ap (λ d. length (encode_utf16 d) + n) (sym (heads _ _ _ _ same)) ∙ ap (λ k. k + n) (sym begins.first.width) in
+    ap (λ k. utf16_lossy_chars (drop k (u ∷ us))) w ∙ ap utf16_lossy_chars (sym (drop-drop n begins.units (u ∷ us)))
+    ∙ lossy_behind (drop begins.units (u ∷ us)) (units-drop begins.units (u ∷ us) are_units) cs rest
+    (tails _ _ _ _ same)
 
 pub peeks : (us : List ℕ) (r : Option (ℕ × ℕ)) → MatchOption r (us ≡ []) (λ p. IsFirstUtf16Char us p.0 p.1)
     → MatchOption r (utf16_lossy_chars us ≡ []) (λ p. utf16_lossy_chars us ≡ p.0 ∷ drop 1 (utf16_lossy_chars us))
@@ -129,13 +138,15 @@ high_pair : (u v : ℕ) → IsSurrogatePair u v → 0x80 ≤ surrogate_pair_char
 high_pair u v p = omega arith
 
 pub beyond_ascii : (us : List ℕ) (c n : ℕ) → IsFirstUtf16Char us c n → 0x80 ≤ get_or us 0 0 → 0x80 ≤ c
-beyond_ascii [] c n f h = absurd (omega (arith, h))
-beyond_ascii (u ∷ []) c n f h =
-    let same = heads _ _ _ _ (sym (lossy_lone u [] (λ p. omega (arith, p.2))) ∙ f.chars) in
-    omega (arith, same, high_lone u h)
-beyond_ascii (u ∷ v ∷ us) c n f h = elim (decide_pair u v) [
-  | inl p ↦ let same = heads _ _ _ _ (sym (lossy_pair u v us p) ∙ f.chars) in omega (arith, same, high_pair u v p)
-  | inr p ↦ let same = heads _ _ _ _ (sym (lossy_lone u (v ∷ us) p) ∙ f.chars) in omega (arith, same, high_lone u h)
+beyond_ascii [] c n begins is_beyond_ascii = absurd (omega (arith, is_beyond_ascii))
+beyond_ascii (u ∷ []) c n begins is_beyond_ascii =
+    let same = heads _ _ _ _ (sym (lossy_lone u [] (λ p. omega (arith, p.2))) ∙ begins.chars) in
+    omega (arith, same, high_lone u is_beyond_ascii)
+beyond_ascii (u ∷ v ∷ us) c n begins is_beyond_ascii = elim (decide_pair u v) [
+  | inl is_pair ↦ let same = heads _ _ _ _ (sym (lossy_pair u v us is_pair) ∙ begins.chars) in
+      omega (arith, same, high_pair u v is_pair)
+  | inr p ↦ let same = heads _ _ _ _ (sym (lossy_lone u (v ∷ us) p) ∙ begins.chars) in
+      omega (arith, same, high_lone u is_beyond_ascii)
 ]
 
 pub first_unit : (at : ℕ) (us rest : List ℕ) → rest ≡ drop at us → 0x80 ≤ get_or us at 0 → 0x80 ≤ get_or rest 0 0

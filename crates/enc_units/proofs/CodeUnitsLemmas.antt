@@ -69,25 +69,25 @@ three_spelt w u l h e =
 
 word_spelt : (u : ℕ) → u < 65536 → Spells (unit_word u) (encode_utf8 u)
 word_spelt u h = elim (cases_lt u 128) [
-  | inl a ↦ one_spelt (unit_word u) u a (word_of_one u a)
-  | inr a ↦ elim (cases_lt u 2048) [
-    | inl b ↦ two_spelt (unit_word u) u a b (word_of_two u a b)
-    | inr b ↦ three_spelt (unit_word u) u b h (word_of_three u b)
+  | inl is_ascii ↦ one_spelt (unit_word u) u is_ascii (word_of_one u is_ascii)
+  | inr beyond_ascii ↦ elim (cases_lt u 2048) [
+    | inl two_bytes ↦ two_spelt (unit_word u) u beyond_ascii two_bytes (word_of_two u beyond_ascii two_bytes)
+    | inr three_bytes ↦ three_spelt (unit_word u) u three_bytes h (word_of_three u three_bytes)
   ]
 ]
 
 pub few_bytes : (us : List ℕ) → Each1 (Fits w16) us → All (λ word. word / 0x100_0000 ≤ 4) (map unit_word us)
-few_bytes [] f k d h = absurd (omega arith)
-few_bytes (u ∷ us) f zero d h = (word_spelt u f.0.fits).0
-few_bytes (u ∷ us) f (suc k) d h = few_bytes us f.1 k d (omega arith)
+few_bytes [] fit k d h = absurd (omega arith)
+few_bytes (u ∷ us) fit zero d h = (word_spelt u fit.0.fits).0
+few_bytes (u ∷ us) fit (suc k) d h = few_bytes us fit.1 k d (omega arith)
 
 pub words_spelt : (us : List ℕ) → Each1 (Fits w16) us → (n : ℕ)
     → bytes_of_words (take n (map unit_word us)) ≡ units_of_text encode_utf8 (take n us)
-words_spelt us f zero = refl
-words_spelt [] f (suc n) = refl
-words_spelt (u ∷ us) f (suc n) =
-    ap (λ z. z ++ bytes_of_words (take n (map unit_word us))) (word_spelt u f.0.fits).1
-    ∙ ap (λ z. encode_utf8 u ++ z) (words_spelt us f.1 n)
+words_spelt us fit zero = refl
+words_spelt [] fit (suc n) = refl
+words_spelt (u ∷ us) fit (suc n) =
+    ap (λ z. z ++ bytes_of_words (take n (map unit_word us))) (word_spelt u fit.0.fits).1
+    ∙ ap (λ z. encode_utf8 u ++ z) (words_spelt us fit.1 n)
 
 -- one more word that is stored
 
@@ -131,10 +131,11 @@ front_ascii us long a = subst AreScalars (sym (take_all 8 us (omega arith))) (as
 
 -- code units are their own UTF-16, if none is above U+FFFF
 pub units_alone : (us : List ℕ) → Each1 (Fits w16) us → (n : ℕ) → units_of_text encode_utf16 (take n us) ≡ take n us
-units_alone us f zero = refl
-units_alone [] f (suc n) = refl
-units_alone (u ∷ us) f (suc n) =
-    ap (λ z. z ++ units_of_text encode_utf16 (take n us)) (one_unit u f.0.fits) ∙ ap (λ z. u ∷ z) (units_alone us f.1 n)
+units_alone us fit zero = refl
+units_alone [] fit (suc n) = refl
+units_alone (u ∷ us) fit (suc n) =
+    ap (λ z. z ++ units_of_text encode_utf16 (take n us)) (one_unit u fit.0.fits)
+    ∙ ap (λ z. u ∷ z) (units_alone us fit.1 n)
 
 -- characters of one code unit each
 
@@ -148,30 +149,30 @@ units_long big (suc n) (a ∷ b ∷ bs) e = ap suc (units_long big n bs (omega a
 module _ (Means : List ℕ → ℕ → Type 0) (big : Bool) (mean : AreCodeUnits Means big) where
   reads_units : (n : ℕ) (bytes : List ℕ) → n + n ≤ length bytes → AreScalars (take n (units_of_bytes big bytes))
       → ReadsPieces Means bytes (n + n) (take n (units_of_bytes big bytes))
-  reads_units zero bytes h s = reads_none Means bytes
-  reads_units (suc n) [] h s = absurd (omega arith)
-  reads_units (suc n) (a ∷ []) h s = absurd (omega arith)
-  reads_units (suc n) (a ∷ b ∷ bs) h s =
+  reads_units zero bytes h are_scalars = reads_none Means bytes
+  reads_units (suc n) [] h are_scalars = absurd (omega arith)
+  reads_units (suc n) (a ∷ []) h are_scalars = absurd (omega arith)
+  reads_units (suc n) (a ∷ b ∷ bs) h are_scalars =
       let u = unit_of big a b in
       let more = take n (units_of_bytes big bs) in
       let long : 2 + (n + n) ≡ suc n + suc n = omega arith in
       subst (λ k. ReadsPieces Means (a ∷ b ∷ bs) k (u ∷ more)) long
       (reads_then Means (a ∷ b ∷ bs) 2 (n + n) (u ∷ []) more
-      (reads_one Means (a ∷ b ∷ bs) 2 u (omega arith) (omega arith) (mean a b (and_parts _ _ s).0))
-      (reads_units n bs (omega arith) (and_parts _ _ s).1))
+      (reads_one Means (a ∷ b ∷ bs) 2 u (omega arith) (omega arith) (mean a b (and_parts _ _ are_scalars).0))
+      (reads_units n bs (omega arith) (and_parts _ _ are_scalars).1))
 
   pub gathers_units : (units_of : ℕ → List ℕ) (n : ℕ) (src units before after : List ℕ) → n ≤ 8 → 16 ≤ length src
       → units ≡ units_of_bytes big (take 16 src) → AreScalars (take n units)
       → after ≡ before ++ units_of_text units_of (take n units) → GathersChars units_of Means src (2 * n) before after
-  gathers_units units_of n src units before after h l e s w =
+  gathers_units units_of n src units before after h l are_units are_scalars w =
       let twice : n + n ≡ 2 * n = omega arith in
       subst (λ k. GathersChars units_of Means src k before after) twice (record {
         text = take n units;
-        scalars = s;
-        reads = subst (λ us. ReadsPieces Means src (n + n) (take n us)) (sym e)
+        scalars = are_scalars;
+        reads = subst (λ us. ReadsPieces Means src (n + n) (take n us)) (sym are_units)
             (reads_wider Means src 16 (n + n) (take n (units_of_bytes big (take 16 src)))
             (reads_units n (take 16 src) (omega (arith, length-take 16 src))
-            (subst (λ us. AreScalars (take n us)) e s)));
+            (subst (λ us. AreScalars (take n us)) are_units are_scalars)));
         written = w;
       })
 
@@ -181,8 +182,8 @@ module _ (Means : List ℕ → ℕ → Type 0) (big : Bool) (mean : AreCodeUnits
       → ((k : ℕ) → bytes_of_words (take k words) ≡ units_of_text encode_utf8 (take k units))
       → after ≡ before ++ bytes_of_words (take n words)
       → GathersChars encode_utf8 Means src (2 * n) before after
-  gathers_words n src units words before after h l e s t w =
-      gathers_units encode_utf8 n src units before after h l e s (w ∙ ap (λ z. before ++ z) (t n))
+  gathers_words n src units words before after h l are_units are_scalars t w =
+      gathers_units encode_utf8 n src units before after h l are_units are_scalars (w ∙ ap (λ z. before ++ z) (t n))
 
   -- the same in UTF-16, where all eight are stored as they are
   pub gathers_lanes : (n at read : ℕ) (src units buffer : List ℕ) → n ≤ 8 → 16 ≤ length src - read
@@ -191,13 +192,13 @@ module _ (Means : List ℕ → ℕ → Type 0) (big : Bool) (mean : AreCodeUnits
       → units_of_text encode_utf16 (take n units) ≡ take n units
       → GathersChars encode_utf16 Means src read [] (take at buffer)
       → GathersChars encode_utf16 Means src (read + 2 * n) [] (take (at + n) (put_chunk at buffer units))
-  gathers_lanes n at read src units buffer few inside room e s alone p =
+  gathers_lanes n at read src units buffer few inside room are_units are_scalars alone gathers =
       let rest = drop read src in
       let long : 16 ≤ length rest = omega (arith, length-drop read src) in
       let bytes : length (take 16 rest) ≡ 16 = omega (arith, length-take 16 rest) in
-      let eight = ap length e ∙ units_long big 8 (take 16 rest) bytes in
-      gathers_then encode_utf16 Means src read (2 * n) [] (take at buffer) _ p
-      (gathers_units encode_utf16 n rest units (take at buffer) _ few long e s
+      let eight = ap length are_units ∙ units_long big 8 (take 16 rest) bytes in
+      gathers_then gathers
+      (gathers_units encode_utf16 n rest units (take at buffer) _ few long are_units are_scalars
       (stored_lanes at n buffer units (omega (arith, eight)) (omega (arith, eight)) ∙ ap (λ z. take at buffer ++ z) (sym alone)))
 
   -- sixteen of them
@@ -208,12 +209,15 @@ module _ (Means : List ℕ → ℕ → Type 0) (big : Bool) (mean : AreCodeUnits
       → units_of_text encode_utf16 (take 8 more) ≡ take 8 more
       → GathersChars encode_utf16 Means src read [] (take at buffer)
       → GathersChars encode_utf16 Means src (read + 32) [] (take (at + 16) (put_chunk (at + 8) (put_chunk at buffer units) more))
-  gathers_both at read src units more buffer inside room e s alone f t alone_too p =
+  gathers_both at read src units more buffer inside room are_units are_scalars alone more_are_units more_are_scalars
+      alone_too gathers =
       let first = put_chunk at buffer units in
       let both = put_chunk (at + 8) first more in
       let read_all : read + 16 + 2 * 8 ≡ read + 32 = omega arith in
       let put_all : at + 8 + 8 ≡ at + 16 = omega arith in
       subst (λ k. GathersChars encode_utf16 Means src k [] (take (at + 16) both)) read_all
       (subst (λ k. GathersChars encode_utf16 Means src (read + 16 + 2 * 8) [] (take k both)) put_all
-      (gathers_lanes 8 (at + 8) (read + 16) src more first (omega arith) (omega arith) (omega (arith, length-put_chunk at buffer units)) f t alone_too
-      (gathers_lanes 8 at read src units buffer (omega arith) (omega arith) (omega arith) e s alone p)))
+      (gathers_lanes 8 (at + 8) (read + 16) src more first (omega arith) (omega arith)
+      (omega (arith, length-put_chunk at buffer units)) more_are_units more_are_scalars alone_too
+      (gathers_lanes 8 at read src units buffer (omega arith) (omega arith) (omega arith) are_units are_scalars alone
+      gathers)))

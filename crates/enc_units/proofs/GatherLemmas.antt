@@ -1,4 +1,4 @@
--- What is gathered one behind another.
+-- Characters that are gathered one after another.
 use Rattle.std.proofs.Common.{◌≡◌, ℕ, zero, suc, ◌+◌, ◌/◌, ◌%◌, ◌<◌, ◌≤◌, List, [], ◌∷◌, ◌++◌, length, get_or}
 use Rattle.std.proofs.Common.{replicate, take, drop, refl, ap, ◌∙◌, sym, subst, arith, append_assoc, append-nil}
 use Rattle.std.proofs.Common.{length-drop, take-add, drop-cons, drop-drop}
@@ -19,14 +19,14 @@ use Rattle.enc_units.proofs.PiecesLemmas.{reads_none, reads_then, reads_one, rea
 use Rattle.enc_units.proofs.UnitsLemmas.{one_unit}
 use Rattle.enc_units.proofs.ScalarLemmas.{one_scalar, scalars-append, ascii_scalars}
 
--- what is stored behind what was there
+-- a list that is stored after what was there
 
 take_front : (n : ℕ) (ys zs : List ℕ) → n ≤ length ys → take n (ys ++ zs) ≡ take n ys
 take_front zero ys zs h = refl
 take_front (suc n) [] zs h = absurd (omega arith)
 take_front (suc n) (y ∷ ys) zs h = ap (λ t. y ∷ t) (take_front n ys zs (omega arith))
 
--- the first of what is stored
+-- the first units that are stored
 pub stored_front : (at n : ℕ) (old ys zs : List ℕ) → at ≤ length old → n ≤ length ys → take (at + n) (take at old ++ (ys ++ zs)) ≡ take at old ++ take n ys
 stored_front at n old ys zs h k =
     let xs = take at old ++ (ys ++ zs) in
@@ -53,41 +53,42 @@ pub utf8_four : (c : ℕ) → 65536 ≤ c → encode_utf8 c ≡ (240 + c / 26214
 unfolding encode_utf8
 utf8_four c l = rw (le-ltb c 128 (omega arith), le-ltb c 2048 (omega arith), le-ltb c 65536 l) refl
 
--- what is gathered
+-- gathered characters
 
 pub gathers_nothing : (units_of : ℕ → List ℕ) (Means : List ℕ → ℕ → Type 0) (src before after : List ℕ) → after ≡ before
     → GathersChars units_of Means src 0 before after
 gathers_nothing units_of Means src before after e = record { text = []; scalars = refl; reads = reads_none Means src; written = e ∙ sym (append-nil before) }
 
-pub gathers_then : (units_of : ℕ → List ℕ) (Means : List ℕ → ℕ → Type 0) (src : List ℕ) (a n : ℕ) (before mid after : List ℕ)
-    → GathersChars units_of Means src a before mid → GathersChars units_of Means (drop a src) n mid after
-    → GathersChars units_of Means src (a + n) before after
-gathers_then units_of Means src a n before mid after p q = record {
-  text = p.text ++ q.text;
-  scalars = scalars-append p.text q.text p.scalars q.scalars;
-  reads = reads_then Means src a n p.text q.text p.reads q.reads;
-  written = q.written ∙ ap (λ z. z ++ units_of_text units_of q.text) p.written
-      ∙ append_assoc before (units_of_text units_of p.text) (units_of_text units_of q.text) ∙ ap (λ z. before ++ z) (sym (units-append units_of p.text q.text));
-}
+module _ {units_of : ℕ → List ℕ} {Means : List ℕ → ℕ → Type 0} {src : List ℕ} {a n : ℕ} {before mid after : List ℕ}
+    (first : GathersChars units_of Means src a before mid)
+    (then_more : GathersChars units_of Means (drop a src) n mid after) where
+  pub gathers_then : GathersChars units_of Means src (a + n) before after
+  gathers_then = record {
+    text = first.text ++ then_more.text;
+    scalars = scalars-append first.text then_more.text first.scalars then_more.scalars;
+    reads = reads_then Means src a n first.text then_more.text first.reads then_more.reads;
+    written = then_more.written ∙ ap (λ z. z ++ units_of_text units_of then_more.text) first.written
+        ∙ append_assoc before (units_of_text units_of first.text) (units_of_text units_of then_more.text)
+        ∙ ap (λ z. before ++ z) (sym (units-append units_of first.text then_more.text));
+  }
 
 -- the same, where the rest is named by its place in the whole input
-pub gathers_on : (units_of : ℕ → List ℕ) (Means : List ℕ → ℕ → Type 0) (src : List ℕ) (from a n : ℕ) (before mid after : List ℕ)
-    → GathersChars units_of Means (drop from src) a before mid
-    → GathersChars units_of Means (drop (from + a) src) n mid after
-    → GathersChars units_of Means (drop from src) (a + n) before after
-gathers_on units_of Means src from a n before mid after p q =
-    gathers_then units_of Means (drop from src) a n before mid after p
-    (subst (λ rest. GathersChars units_of Means rest n mid after) (sym (drop-drop a from src)) q)
+module _ {units_of : ℕ → List ℕ} {Means : List ℕ → ℕ → Type 0} {a n : ℕ} {before mid after : List ℕ}
+    (src : List ℕ) (from : ℕ) (p : GathersChars units_of Means (drop from src) a before mid)
+    (q : GathersChars units_of Means (drop (from + a) src) n mid after) where
+  pub gathers_on : GathersChars units_of Means (drop from src) (a + n) before after
+  gathers_on = gathers_then p
+      (subst (λ rest. GathersChars units_of Means rest n mid after) (sym (drop-drop a from src)) q)
 
-pub gathers_ascii : (units_of : ℕ → List ℕ) (Means : List ℕ → ℕ → Type 0) (src : List ℕ) (n : ℕ) (before after : List ℕ)
+pub gathers_ascii : {units_of : ℕ → List ℕ} {Means : List ℕ → ℕ → Type 0} {src : List ℕ} {n : ℕ} {before after : List ℕ}
     → ((b : ℕ) → b < 0x80 → Means (b ∷ []) b)
     → ((bs : List ℕ) → AreAscii bs → units_of_text units_of bs ≡ bs) → n ≤ length src → AreAscii (take n src)
     → after ≡ before ++ take n src → GathersChars units_of Means src n before after
-gathers_ascii units_of Means src n before after h alone w a e = record {
+gathers_ascii {Means = Means} {src = src} {n = n} {before = before} h alone w are_ascii e = record {
   text = take n src;
-  scalars = ascii_scalars (take n src) a;
-  reads = reads_ascii Means src n h w a;
-  written = e ∙ ap (λ z. before ++ z) (sym (alone (take n src) a));
+  scalars = ascii_scalars (take n src) are_ascii;
+  reads = reads_ascii Means src n h w are_ascii;
+  written = e ∙ ap (λ z. before ++ z) (sym (alone (take n src) are_ascii));
 }
 
 pub gathers_one : (units_of : ℕ → List ℕ) (Means : List ℕ → ℕ → Type 0) (src : List ℕ) (n c : ℕ) (before after : List ℕ)
@@ -103,10 +104,10 @@ gathers_one units_of Means src n c before after h w i m e = record {
 pub get_or_drop : (n i : ℕ) (xs : List ℕ) → get_or (drop n xs) i 0 ≡ get_or xs (n + i) 0
 get_or_drop zero i xs = ap (λ k. get_or xs k 0) (omega arith)
 get_or_drop (suc n) i [] = refl
-get_or_drop (suc n) i (x ∷ xs) = get_or_drop n i xs ∙ ap (λ k. get_or (x ∷ xs) k 0) behind
+get_or_drop (suc n) i (x ∷ xs) = get_or_drop n i xs ∙ ap (λ k. get_or (x ∷ xs) k 0) next
   where
-    behind : suc (n + i) ≡ suc n + i
-    behind = omega arith
+    next : suc (n + i) ≡ suc n + i
+    next = omega arith
 
 -- a byte that has a text
 pub gathers_byte : (Means : List ℕ → ℕ → Type 0) (src : List ℕ) (from read : ℕ) (before mid after : List ℕ) (text : Encoded)
@@ -118,7 +119,7 @@ gathers_byte Means src from read before mid after text t some inside p e =
     let long : read < length rest = omega (arith, length-drop from src) in
     let byte = ap (take 1) (drop-cons rest read 0 long) ∙ ap (λ b. b ∷ []) (get_or_drop from read src) in
     let found = t.char some in
-    gathers_then encode_utf8 Means rest read 1 before mid after p
+    gathers_then p
     (gathers_one encode_utf8 Means (drop read rest) 1 found.0 mid after (omega arith) (omega (arith, length-drop read rest)) found.1 (subst (λ z. Means z found.0) (sym byte) found.2)
     (e ∙ ap (λ z. mid ++ z) found.3))
 
@@ -134,7 +135,7 @@ gathers_byte_unit Means src from read at before buffer unit u some basic inside 
     let byte = ap (take 1) (drop-cons rest read 0 long) ∙ ap (λ b. b ∷ []) (get_or_drop from read src) in
     let found = u.char some in
     let next : at + (read + 1) ≡ at + read + 1 = omega arith in
-    gathers_then encode_utf16 Means rest read 1 before (take (at + read) buffer) _ p
+    gathers_then p
     (gathers_one encode_utf16 Means (drop read rest) 1 unit (take (at + read) buffer) _ (omega arith) (omega (arith, length-drop read rest)) found.scalar
     (subst (λ z. Means z unit) (sym byte) found.means)
     (ap (λ k. take k (set buffer (at + read) unit)) next ∙ take_more_set buffer (at + read) unit room ∙ ap (λ z. take (at + read) buffer ++ z) (sym (one_unit unit basic))))
@@ -153,14 +154,14 @@ no_texts Means text e = (
   λ byte none h. subst (IsByteText Means byte) (sym (get_or-replicate 256 byte text none h)) (record { bound = omega arith; char = λ l. absurd (omega arith) }),
 )
 
--- what is gathered is put out
+-- gathered characters are put out
 pub puts_gathered : (units_of : ℕ → List ℕ) (Means : List ℕ → ℕ → Type 0) (before after : Output) (src : List ℕ) (n : ℕ) (units : List ℕ)
     → GathersChars units_of Means src n [] units
     → length units ≤ before.room → after ≡ with_appended before units → PutsPieces units_of Means before after src n
-puts_gathered units_of Means before after src n units p f e = record {
-  text = p.text;
-  scalars = p.scalars;
-  reads = p.reads;
-  fits = omega (arith, ap length p.written);
-  written = e ∙ ap (with_appended before) p.written;
+puts_gathered units_of Means before after src n units gathers f e = record {
+  text = gathers.text;
+  scalars = gathers.scalars;
+  reads = gathers.reads;
+  fits = omega (arith, ap length gathers.written);
+  written = e ∙ ap (with_appended before) gathers.written;
 }

@@ -25,8 +25,8 @@ piece_chars-append (p ∷ ps) qs = ap (λ x. p.char ∷ x) (piece_chars-append p
 
 mean-append : (Means : List ℕ → ℕ → Type 0) (ps qs : List Piece) → EachMeansChar Means ps → EachMeansChar Means qs
     → EachMeansChar Means (ps ++ qs)
-mean-append Means [] qs m n = n
-mean-append Means (p ∷ ps) qs m n = (m.0, mean-append Means ps qs m.1 n)
+mean-append Means [] qs first_mean others_mean = others_mean
+mean-append Means (p ∷ ps) qs first_mean others_mean = (first_mean.0, mean-append Means ps qs first_mean.1 others_mean)
 
 module _ (Means : List ℕ → ℕ → Type 0) where
   pub maps_none : (src before : List ℕ) (at : ℕ) → at ≤ length before → WritesMapped Means src src before before at 0
@@ -43,31 +43,31 @@ module _ (Means : List ℕ → ℕ → Type 0) where
   pub maps_both : (src between rest before mid after : List ℕ) (at n k : ℕ)
       → WritesMapped Means src between before mid at n → WritesMapped Means between rest mid after (at + n) k
       → WritesMapped Means src rest before after at (n + k)
-  maps_both src between rest before mid after at n k v w =
-      let x = piece_bytes v.pieces in
-      let y = piece_bytes w.pieces in
-      let both = piece_bytes-append v.pieces w.pieces in
-      let first_long : length (take at before) ≡ at = length-take-le at before (omega (arith, v.fits)) in
+  maps_both src between rest before mid after at n k first then_more =
+      let x = piece_bytes first.pieces in
+      let y = piece_bytes then_more.pieces in
+      let both = piece_bytes-append first.pieces then_more.pieces in
+      let first_long : length (take at before) ≡ at = length-take-le at before (omega (arith, first.fits)) in
       let long : length mid ≡ length before = omega (
         arith,
-        ap length v.onto,
+        ap length first.onto,
         length-append (take at before)
             (x ++ drop (at + n) before),
         length-append x (drop (at + n) before),
         length-drop
             (at + n) before,
-        v.count,
-        v.fits,
+        first.count,
+        first.fits,
         first_long,
       ) in
-      let mid_is : mid ≡ (take at before ++ x) ++ drop (at + n) before = v.onto
+      let mid_is : mid ≡ (take at before ++ x) ++ drop (at + n) before = first.onto
       ∙ sym (append_assoc (take at before) x (drop (at + n) before)) in
       let count : length (take at before ++ x) ≡ at + n = omega (
         arith,
         length-append
             (take at before) x,
         first_long,
-        v.count,
+        first.count,
       ) in
       let front : take (at + n) mid ≡ take at before ++ x =
       ap (λ z. take (at + n) z) mid_is ∙ ap (λ m. take m ((take at before ++ x) ++ drop (at + n) before))
@@ -76,19 +76,20 @@ module _ (Means : List ℕ → ℕ → Type 0) where
       ap (drop ((at + n) + k)) mid_is ∙ drop-append-drop (at + n) before (take at before ++ x) ((at + n) + k)
       (omega arith) count in
       record {
-        pieces = v.pieces ++ w.pieces;
-        reads = v.reads ∙ ap (λ z. piece_chars v.pieces ++ z) w.reads
-            ∙ sym (append_assoc (piece_chars v.pieces) (piece_chars w.pieces) rest)
-            ∙ ap (λ z. z ++ rest) (sym (piece_chars-append v.pieces w.pieces));
-        mean = mean-append Means v.pieces w.pieces v.mean w.mean;
-        count = omega (arith, ap length both, length-append x y, v.count, w.count);
-        fits = omega (arith, w.fits, long);
-        onto = w.onto ∙ ap (λ z. z ++ (y ++ drop ((at + n) + k) mid)) front
+        pieces = first.pieces ++ then_more.pieces;
+        reads = first.reads ∙ ap (λ z. piece_chars first.pieces ++ z) then_more.reads
+            ∙ sym (append_assoc (piece_chars first.pieces) (piece_chars then_more.pieces) rest)
+            ∙ ap (λ z. z ++ rest) (sym (piece_chars-append first.pieces then_more.pieces));
+        mean = mean-append Means first.pieces then_more.pieces first.mean then_more.mean;
+        count = omega (arith, ap length both, length-append x y, first.count, then_more.count);
+        fits = omega (arith, then_more.fits, long);
+        onto = then_more.onto ∙ ap (λ z. z ++ (y ++ drop ((at + n) + k) mid)) front
             ∙ ap (λ z. (take at before ++ x) ++ (y ++ z)) back
             ∙ append_assoc (take at before) x (y ++ drop ((at + n) + k) before)
             ∙ ap (λ z. take at before ++ z) (sym (append_assoc x y (drop ((at + n) + k) before)))
             ∙ ap (λ z. take at before ++ (z ++ drop ((at + n) + k) before)) (sym both)
-            ∙ ap (λ m. take at before ++ (piece_bytes (v.pieces ++ w.pieces) ++ drop m before)) (omega arith);
+            ∙ ap (λ m. take at before ++ (piece_bytes (first.pieces ++ then_more.pieces) ++ drop m before))
+            (omega arith);
       }
 
   -- one character
@@ -118,8 +119,9 @@ module _ (Means : List ℕ → ℕ → Type 0) where
   their_chars (b ∷ bs) = ap (λ x. b ∷ x) (their_chars bs)
 
   they_mean : (bs : List ℕ) → AreWrittenAsThemselves Means bs → EachMeansChar Means (themselves bs)
-  they_mean [] a = tt
-  they_mean (b ∷ bs) a = ((a 0 0 (omega arith)).1, they_mean bs (λ k d l. a (suc k) d (omega arith)))
+  they_mean [] written_alike = tt
+  they_mean (b ∷ bs) written_alike =
+      ((written_alike 0 0 (omega arith)).1, they_mean bs (λ k d l. written_alike (suc k) d (omega arith)))
 
   pub maps_ascii : (src rest before after : List ℕ) (at n : ℕ) (bs : List ℕ) → AreWrittenAsThemselves Means bs
       → src ≡ bs ++ rest → n ≡ length bs
@@ -137,14 +139,14 @@ module _ (Means : List ℕ → ℕ → Type 0) where
   -- the slice keeps its length
   pub same_length : (src rest before after : List ℕ) (at n : ℕ) → WritesMapped Means src rest before after at n
       → length after ≡ length before
-  same_length src rest before after at n w =
+  same_length src rest before after at n writes =
       omega (
         arith,
-        w.count,
-        w.fits,
-        ap length w.onto,
-        length-append (take at before) (piece_bytes w.pieces ++ drop (at + n) before),
-        length-append (piece_bytes w.pieces) (drop (at + n) before),
+        writes.count,
+        writes.fits,
+        ap length writes.onto,
+        length-append (take at before) (piece_bytes writes.pieces ++ drop (at + n) before),
+        length-append (piece_bytes writes.pieces) (drop (at + n) before),
         length-take at before,
         length-drop (at + n) before,
       )
@@ -181,14 +183,14 @@ chosen_is n =
     ∙ ap (λ g. map g (range_with_len 0 16)) (λ i k. top_flag (ltb (get_or lane_numbers k 0) n) i)
 
 blended : (n : ℕ) (a b : List ℕ) → length a ≡ 16 → length b ≡ 16 → sel_l (chosen n) a b ≡ take n a ++ drop n b
-blended n a b l m =
-    ap (λ z. sel_l z a b) (chosen_is n) ∙ ap (λ k. sel_l (map (λ k. ltb k n) (range_with_len 0 k)) a b) (sym l)
-    ∙ some_front 0 n n a b (omega arith) (l ∙ sym m)
+blended n a b is_sixteen m =
+    ap (λ z. sel_l z a b) (chosen_is n) ∙ ap (λ k. sel_l (map (λ k. ltb k n) (range_with_len 0 k)) a b) (sym is_sixteen)
+    ∙ some_front 0 n n a b (omega arith) (is_sixteen ∙ sym m)
 
--- and stored where the others were
+-- the chosen lanes are stored where the others were
 pub stored_blend : (at n : ℕ) (old a : List ℕ) → at + 16 ≤ length old → n ≤ 16 → length a ≡ 16
     → put_chunk at old (sel_l (chosen n) a (take 16 (drop at old))) ≡ take at old ++ (take n a ++ drop (at + n) old)
-stored_blend at n old a h k l =
+stored_blend at n old a h k is_sixteen =
     let d = drop at old in
     let b = take 16 d in
     let long : length b ≡ 16 = omega (arith, length-take 16 d, length-drop at old) in
@@ -199,18 +201,18 @@ stored_blend at n old a h k l =
           (drop n b),
       length-take n a,
       length-drop n b,
-      l,
+      is_sixteen,
       long,
     ) in
     let whole : drop n b ++ drop 16 d ≡ drop n d =
     sym (drop-append-le n b (drop 16 d) (omega arith)) ∙ ap (drop n) (take-append-drop 16 d) in
-    ap (put_chunk at old) (blended n a b l long)
+    ap (put_chunk at old) (blended n a b is_sixteen long)
     ∙ put_chunk_is at old ys (omega arith)
     ∙ ap (λ m. take at old ++ (ys ++ drop m d)) ys_long
     ∙ ap (λ z. take at old ++ z) (append_assoc (take n a) (drop n b) (drop 16 d) ∙ ap (λ z. take n a ++ z) (whole
     ∙ drop-drop n at old))
 
--- all sixteen
+-- all sixteen lanes are stored
 pub stored_whole : (at : ℕ) (old a : List ℕ) → at + 16 ≤ length old → length a ≡ 16
     → put_chunk at old a ≡ take at old ++ (take 16 a ++ drop (at + 16) old)
 stored_whole at old a h l =

@@ -87,42 +87,42 @@ marked_count = refl
 row_at : (n m k : ℕ) (rows : List ℕ) → rows_ok n m rows ≡ true → k < n
     → row_ok (m + k) (take 16 (drop (k * 16) rows)) ≡ true
 unfolding rows_ok
-row_at zero m k rows h l = absurd (omega arith)
-row_at (suc n) m zero rows h l =
+row_at zero m k rows ok l = absurd (omega arith)
+row_at (suc n) m zero rows ok l =
     let here : m ≡ m + 0 = omega arith in
-    subst (λ i. row_ok i (take 16 rows) ≡ true) here (and_parts _ _ h).0
-row_at (suc n) m (suc k) rows h l =
+    subst (λ i. row_ok i (take 16 rows) ≡ true) here (and_parts _ _ ok).0
+row_at (suc n) m (suc k) rows ok l =
     let place : suc m + k ≡ m + suc k = omega arith in
     subst (λ i. row_ok i (take 16 (drop (suc k * 16) rows)) ≡ true) place
     (subst (λ z. row_ok (suc m + k) (take 16 z) ≡ true) (drop-drop (k * 16) 16 rows ∙ ap (λ i. drop i rows) skip)
-    (row_at n (suc m) k (drop 16 rows) (and_parts _ _ h).1 (omega arith)))
+    (row_at n (suc m) k (drop 16 rows) (and_parts _ _ ok).1 (omega arith)))
   where
     skip : 16 + k * 16 ≡ suc k * 16
     skip = omega arith
 
 under : (n : ℕ) (xs : List ℕ) → all_under n xs ≡ true → (k : ℕ) → k < length xs → get_or xs k 0 < n
 unfolding all_under
-under n [] h k l = absurd (omega arith)
-under n (x ∷ xs) h zero l = ltb-true _ _ (and_parts _ _ h).0
-under n (x ∷ xs) h (suc k) l = under n xs (and_parts _ _ h).1 k (omega arith)
+under n [] all_below k l = absurd (omega arith)
+under n (x ∷ xs) all_below zero l = ltb-true _ _ (and_parts _ _ all_below).0
+under n (x ∷ xs) all_below (suc k) l = under n xs (and_parts _ _ all_below).1 k (omega arith)
 
 begin_both : (ps row : List ℕ) → begins (both_bytes ps) row ≡ true → (j : ℕ) → j < length ps
     → (get_or row (2 * j) 0 ≡ 2 * get_or ps j 0) × (get_or row (2 * j + 1) 0 ≡ 2 * get_or ps j 0 + 1)
 unfolding begins
-begin_both [] row h j l = absurd (omega arith)
-begin_both (p ∷ ps) [] h j l = cc
-begin_both (p ∷ ps) (a ∷ []) h j l = absurd (false_is (and_parts _ _ h).1)
+begin_both [] row begin j l = absurd (omega arith)
+begin_both (p ∷ ps) [] begin j l = cc
+begin_both (p ∷ ps) (a ∷ []) begin j l = absurd (false_is (and_parts _ _ begin).1)
   where
     false_is : Bool.false ≡ true → ⊥
     false_is e = cc
-begin_both (p ∷ ps) (a ∷ b ∷ row) h zero l =
-    let f = and_parts _ _ h in
-    (eqb-true _ _ f.0, eqb-true _ _ (and_parts _ _ f.1).0)
-begin_both (p ∷ ps) (a ∷ b ∷ row) h (suc j) l =
+begin_both (p ∷ ps) (a ∷ b ∷ row) begin zero l =
+    let parts = and_parts _ _ begin in
+    (eqb-true _ _ parts.0, eqb-true _ _ (and_parts _ _ parts.1).0)
+begin_both (p ∷ ps) (a ∷ b ∷ row) begin (suc j) l =
     let even : suc (suc (2 * j)) ≡ 2 * suc j = omega arith in
     let odd : suc (suc (2 * j + 1)) ≡ 2 * suc j + 1 = omega arith in
     let few : j < length ps = omega arith in
-    let f = and_parts _ _ h in
+    let f = and_parts _ _ begin in
     let rest = begin_both ps row (and_parts _ _ f.1).1 j few in
     (ap (λ i. get_or (a ∷ b ∷ row) i 0) (sym even) ∙ rest.0, ap (λ i. get_or (a ∷ b ∷ row) i 0) (sym odd) ∙ rest.1)
 
@@ -134,7 +134,7 @@ pub record IsRow (mask : ℕ) (row : List ℕ) : Type 0 where
   pub evens : (j : ℕ) → j < ones mask → get_or row (2 * j) 0 ≡ 2 * get_or (marked_places mask 0 8) j 0
   pub odds : (j : ℕ) → j < ones mask → get_or row (2 * j + 1) 0 ≡ 2 * get_or (marked_places mask 0 8) j 0 + 1
 
--- as it is read from a part of the table
+-- the row of a mask, as it is read from a part of the table
 abbrev pub row_of : ℕ → List ℕ
 row_of mask = take 16 (take (4096 - mask * 16) (drop (mask * 16) MARKED))
 
@@ -146,22 +146,23 @@ row_long mask h = ap length (row_of_table mask h)
     ∙ omega (arith, length-take 16 (drop (mask * 16) MARKED), length-drop (mask * 16) MARKED, marked_count)
 
 pub row_is : (mask : ℕ) → mask < 256 → IsRow mask (row_of mask)
-row_is mask h =
+row_is mask is_byte =
     let row = row_of mask in
     let this : 0 + mask ≡ mask = omega arith in
     let ok : row_ok mask row ≡ true = subst (λ m. row_ok m row ≡ true) this
-    (subst (λ z. row_ok (0 + mask) z ≡ true) (sym (row_of_table mask h)) (row_at 256 0 mask MARKED marked_ok h)) in
-    let long = row_long mask h in
-    let f = and_parts _ _ ok in
-    let g = and_parts _ _ f.1 in
-    let i = and_parts _ _ g.1 in
-    let count : length (marked_places mask 0 8) ≡ ones mask = eqb-true _ _ i.1 in
+    (subst (λ z. row_ok (0 + mask) z ≡ true) (sym (row_of_table mask is_byte))
+    (row_at 256 0 mask MARKED marked_ok is_byte)) in
+    let long = row_long mask is_byte in
+    let pairs_begin = and_parts _ _ ok in
+    let row_within = and_parts _ _ pairs_begin.1 in
+    let units_within = and_parts _ _ row_within.1 in
+    let count : length (marked_places mask 0 8) ≡ ones mask = eqb-true _ _ units_within.1 in
     record {
-      within = λ k l. under 16 row g.0 k (omega arith);
+      within = λ k l. under 16 row row_within.0 k (omega arith);
       count = count;
-      units = λ j l. under 8 (marked_places mask 0 8) i.0 j (omega arith);
-      evens = λ j l. (begin_both (marked_places mask 0 8) row f.0 j (omega arith)).0;
-      odds = λ j l. (begin_both (marked_places mask 0 8) row f.0 j (omega arith)).1;
+      units = λ j l. under 8 (marked_places mask 0 8) units_within.0 j (omega arith);
+      evens = λ j l. (begin_both (marked_places mask 0 8) row pairs_begin.0 j (omega arith)).0;
+      odds = λ j l. (begin_both (marked_places mask 0 8) row pairs_begin.0 j (omega arith)).1;
     }
 
 digit_below : (n x k : ℕ) → get_or (digits_l 0x100 n x) k 0 < 0x100
@@ -179,7 +180,7 @@ two_of xs i h =
     next = omega arith
 
 module _ (units row : List ℕ) (mask : ℕ) (long : length units ≡ 8) (fit : Each1 (Fits w16) units)
-    (sixteen : length row ≡ 16) (r : IsRow mask row) where
+    (sixteen : length row ≡ 16) (is_row : IsRow mask row) where
   abbrev bytes : List ℕ
   bytes = digits_l 0x100 16 (number_l 0x1_0000 units)
 
@@ -225,41 +226,43 @@ module _ (units row : List ℕ) (mask : ℕ) (long : length units ≡ 8) (fit : 
 
   unit_at : (j : ℕ) → j < ones mask → mask < 0x100
       → get_or stored j 0 ≡ get_or units (get_or (marked_places mask 0 8) j 0) 0
-  unit_at j h m =
+  unit_at j below_count m =
       let p = get_or (marked_places mask 0 8) j 0 in
       let few : j < 8 = omega (arith, ones-le 8 mask m) in
       let low : get_or chosen (2 * j) 0 ≡ get_or units p 0 % 0x100 =
-      chosen_at (2 * j) (omega arith) ∙ ap (λ i. get_or bytes i 0) (r.evens j h) ∙ low_byte p (r.units j h) in
+      chosen_at (2 * j) (omega arith) ∙ ap (λ i. get_or bytes i 0) (is_row.evens j below_count)
+      ∙ low_byte p (is_row.units j below_count) in
       let high : get_or chosen (2 * j + 1) 0 ≡ get_or units p 0 / 0x100 % 0x100 =
-      chosen_at (2 * j + 1) (omega arith) ∙ ap (λ i. get_or bytes i 0) (r.odds j h) ∙ high_byte p (r.units j h) in
-      stored_at j few ∙ omega (arith, low, high, unit_below p (r.units j h))
+      chosen_at (2 * j + 1) (omega arith) ∙ ap (λ i. get_or bytes i 0) (is_row.odds j below_count)
+      ∙ high_byte p (is_row.units j below_count) in
+      stored_at j few ∙ omega (arith, low, high, unit_below p (is_row.units j below_count))
 
   pub marked_units : mask < 0x100 → take (ones mask) stored ≡ map (λ k. get_or units k 0) (marked_places mask 0 8)
-  marked_units m =
-      let few = ones-le 8 mask m in
+  marked_units is_byte =
+      let few = ones-le 8 mask is_byte in
       same_number_lists _ _
       (omega (
         arith,
         length-take (ones mask) stored,
         length-map (marked_places mask 0 8)
             (λ k. get_or units k 0),
-        r.count,
+        is_row.count,
       ))
       (λ k h.
-      let l : k < ones mask = omega (arith, length-take (ones mask) stored) in
-      get_or-take (ones mask) stored k 0 l ∙ unit_at k l m
-      ∙ sym (get_or-map (λ k. get_or units k 0) (marked_places mask 0 8) k 0 0 (omega (arith, r.count))))
+      let below_count : k < ones mask = omega (arith, length-take (ones mask) stored) in
+      get_or-take (ones mask) stored k 0 below_count ∙ unit_at k below_count is_byte
+      ∙ sym (get_or-map (λ k. get_or units k 0) (marked_places mask 0 8) k 0 0 (omega (arith, is_row.count))))
 
--- those of the marks are stored
+-- the marked units are stored
 pub stores_marked : (at marks : ℕ) (units row picked old : List ℕ) → at + 8 ≤ length old → length units ≡ 8
     → Each1 (Fits w16) units → length row ≡ 16 → IsRow (marks % 0x100) row
     → picked ≡ map (λ p. get_or (digits_l 0x100 16 (number_l 0x1_0000 units)) p 0) row
     → take (at + ones (marks % 0x100)) (put_chunk at old (digits_l 0x1_0000 8 (number_l 0x100 picked))) ≡ take at old
     ++ marked_code_units marks units
-stores_marked at marks units row picked old room long fit row_long r e =
+stores_marked at marks units row picked old room long fit row_long is_row e =
     let below : marks % 0x100 < 0x100 = omega arith in
     ap (λ z. take (at + ones (marks % 0x100)) (put_chunk at old (digits_l 0x1_0000 8 (number_l 0x100 z)))) e
-    ∙ stored_lanes at (ones (marks % 0x100)) old (stored units row (marks % 0x100) long fit row_long r) room
+    ∙ stored_lanes at (ones (marks % 0x100)) old (stored units row (marks % 0x100) long fit row_long is_row) room
     (ones-le 8 (marks % 0x100) below)
-    ∙ ap (λ z. take at old ++ z) (marked_units units row (marks % 0x100) long fit row_long r below
+    ∙ ap (λ z. take at old ++ z) (marked_units units row (marks % 0x100) long fit row_long is_row below
     ∙ ap (map (λ k. get_or units k 0)) (low_bits marks 0))

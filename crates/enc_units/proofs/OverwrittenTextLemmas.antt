@@ -1,5 +1,7 @@
--- Behind text that is written over other text, all is well-formed once the rest of a character is made 00.
-use Rattle.std.proofs.Common.{◌≡◌, ℕ, zero, suc, ◌+◌, ◌-◌, ◌/◌, ◌%◌, ◌<◌, ◌≤◌, ◌&&◌, Bool, true, false, nat_le, nat_lt, if◌then◌else◌, List, [], ◌∷◌, ◌++◌, length, take, drop, get_or, refl, ap, ◌∙◌, sym, subst, arith, append_assoc, drop-cons, drop-drop, ◌⊎◌, inl, inr}
+-- Where text is written over other text, all is well-formed once the rest of a character is made 00.
+use Rattle.std.proofs.Common.{◌≡◌, ℕ, zero, suc, ◌+◌, ◌-◌, ◌/◌, ◌%◌, ◌<◌, ◌≤◌, ◌&&◌, Bool, true, false, nat_le, nat_lt}
+use Rattle.std.proofs.Common.{if◌then◌else◌, List, [], ◌∷◌, ◌++◌, length, take, drop, get_or, refl, ap, ◌∙◌, sym, subst}
+use Rattle.std.proofs.Common.{arith, append_assoc, drop-cons, drop-drop, ◌⊎◌, inl, inr}
 use Rattle.std.proofs.lemmas.Bool.{and_parts, cases_lt}
 use Rattle.std.proofs.lemmas.Bool.Decides.{nat_tests}
 use Rattle.std.proofs.lemmas.List.{take-append-drop, drop-append-le}
@@ -54,7 +56,7 @@ data Form (c : ℕ) : Type 0 where
 
 form_of : (c : ℕ) → IsScalar c → Form c
 form_of c s = elim (cases_lt c 0x80) [
-  | inl h ↦ One h (encode_ascii c h)
+  | inl is_ascii ↦ One is_ascii (encode_ascii c is_ascii)
   | inr h ↦ elim (cases_lt c 0x800) [
     | inl k ↦ Two (192 + c / 64) (128 + c % 64) (omega arith) (omega arith) (omega arith) (utf8_two c h k)
     | inr k ↦ elim (cases_lt c 0x10000) [
@@ -77,48 +79,60 @@ stays : (cs : List ℕ) → all_scalars cs ≡ true → without_continuations (e
 stays [] s = refl
 stays (c ∷ cs) s = let p = and_parts _ _ s in stays_by c (encode_utf8_all cs) (form_of c p.0)
 
--- what is left of a character behind its first bytes, and other text
+-- the rest of a character after its first bytes, and other text
 rest_by : (c n : ℕ) (z : List ℕ) → Form c → n < length (encode_utf8 c) → IsUtf8 (encode_utf8 c ++ z) → IsUtf8 (without_continuations z) → IsUtf8 (without_continuations (drop n (encode_utf8 c) ++ z))
-rest_by c zero z f h u v = subst IsUtf8 (sym (stays_by c z f)) u
-rest_by c (suc n) z (One k e) h u v = absurd (omega (arith, ap length e))
-rest_by c (suc zero) z (Two a b _ k l e) h u v = subst (λ x. IsUtf8 (without_continuations (drop 1 x ++ z))) (sym e) (cleared b z k l v)
-rest_by c (suc (suc n)) z (Two a b _ k l e) h u v = absurd (omega (arith, ap length e))
-rest_by c (suc zero) z (Three a b d _ k l m o e) h u v = subst (λ x. IsUtf8 (without_continuations (drop 1 x ++ z))) (sym e) (cleared b (d ∷ z) k l (cleared d z m o v))
-rest_by c (suc (suc zero)) z (Three a b d _ k l m o e) h u v = subst (λ x. IsUtf8 (without_continuations (drop 2 x ++ z))) (sym e) (cleared d z m o v)
-rest_by c (suc (suc (suc n))) z (Three a b d _ k l m o e) h u v = absurd (omega (arith, ap length e))
-rest_by c (suc zero) z (Four a b d f _ k l m o p q e) h u v =
-    subst (λ x. IsUtf8 (without_continuations (drop 1 x ++ z))) (sym e) (cleared b (d ∷ f ∷ z) k l (cleared d (f ∷ z) m o (cleared f z p q v)))
-rest_by c (suc (suc zero)) z (Four a b d f _ k l m o p q e) h u v =
-    subst (λ x. IsUtf8 (without_continuations (drop 2 x ++ z))) (sym e) (cleared d (f ∷ z) m o (cleared f z p q v))
-rest_by c (suc (suc (suc zero))) z (Four a b d f _ k l m o p q e) h u v = subst (λ x. IsUtf8 (without_continuations (drop 3 x ++ z))) (sym e) (cleared f z p q v)
-rest_by c (suc (suc (suc (suc n)))) z (Four a b d f _ k l m o p q e) h u v = absurd (omega (arith, ap length e))
+rest_by c zero z f h u rest_is_utf8 = subst IsUtf8 (sym (stays_by c z f)) u
+rest_by c (suc n) z (One k e) h u rest_is_utf8 = absurd (omega (arith, ap length e))
+rest_by c (suc zero) z (Two a b _ k l e) h u rest_is_utf8 =
+    subst (λ x. IsUtf8 (without_continuations (drop 1 x ++ z))) (sym e) (cleared b z k l rest_is_utf8)
+rest_by c (suc (suc n)) z (Two a b _ k l e) h u rest_is_utf8 = absurd (omega (arith, ap length e))
+rest_by c (suc zero) z (Three a b d _ k l m o e) h u rest_is_utf8 =
+    subst (λ x. IsUtf8 (without_continuations (drop 1 x ++ z))) (sym e)
+    (cleared b (d ∷ z) k l (cleared d z m o rest_is_utf8))
+rest_by c (suc (suc zero)) z (Three a b d _ k l m o e) h u rest_is_utf8 =
+    subst (λ x. IsUtf8 (without_continuations (drop 2 x ++ z))) (sym e) (cleared d z m o rest_is_utf8)
+rest_by c (suc (suc (suc n))) z (Three a b d _ k l m o e) h u rest_is_utf8 = absurd (omega (arith, ap length e))
+rest_by c (suc zero) z (Four a b d f _ k l m o p q e) h u rest_is_utf8 =
+    subst (λ x. IsUtf8 (without_continuations (drop 1 x ++ z))) (sym e)
+    (cleared b (d ∷ f ∷ z) k l (cleared d (f ∷ z) m o (cleared f z p q rest_is_utf8)))
+rest_by c (suc (suc zero)) z (Four a b d f _ k l m o p q e) h u rest_is_utf8 =
+    subst (λ x. IsUtf8 (without_continuations (drop 2 x ++ z))) (sym e)
+    (cleared d (f ∷ z) m o (cleared f z p q rest_is_utf8))
+rest_by c (suc (suc (suc zero))) z (Four a b d f _ k l m o p q e) h u rest_is_utf8 =
+    subst (λ x. IsUtf8 (without_continuations (drop 3 x ++ z))) (sym e) (cleared f z p q rest_is_utf8)
+rest_by c (suc (suc (suc (suc n)))) z (Four a b d f _ k l m o p q e) h u rest_is_utf8 =
+    absurd (omega (arith, ap length e))
 
 drop_nil : (n : ℕ) → ◌≡◌ {A = List ℕ} (drop n []) []
 drop_nil zero = refl
 drop_nil (suc n) = refl
 
 rest_of : (cs : List ℕ) (n : ℕ) → all_scalars cs ≡ true → IsUtf8 (without_continuations (drop n (encode_utf8_all cs)))
-rest_of [] n s = subst (λ x. IsUtf8 (without_continuations x)) (sym (drop_nil n)) ([], (refl, refl))
-rest_of (c ∷ cs) n s =
-    let p = and_parts _ _ s in
+rest_of [] n are_scalars = subst (λ x. IsUtf8 (without_continuations x)) (sym (drop_nil n)) ([], (refl, refl))
+rest_of (c ∷ cs) n are_scalars =
+    let scalar_parts = and_parts _ _ are_scalars in
     let z = encode_utf8_all cs in
     elim (cases_lt n (length (encode_utf8 c))) [
       | inl h ↦ subst (λ x. IsUtf8 (without_continuations x)) (sym (drop-append-le n (encode_utf8 c) z (omega arith)))
-          (rest_by c n z (form_of c p.0) h (c ∷ cs, (s, refl)) (subst IsUtf8 (sym (stays cs p.1)) (cs, (p.1, refl))))
+          (rest_by c n z (form_of c scalar_parts.0) h (c ∷ cs, (are_scalars, refl))
+          (subst IsUtf8 (sym (stays cs scalar_parts.1)) (cs, (scalar_parts.1, refl))))
       | inr h ↦
           let m = n - length (encode_utf8 c) in
           let e : n ≡ length (encode_utf8 c) + m = omega arith in
-          subst (λ x. IsUtf8 (without_continuations x)) (sym (ap (λ k. drop k (encode_utf8 c ++ z)) e ∙ drop-append-add (encode_utf8 c) z m)) (rest_of cs m p.1)
+          subst (λ x. IsUtf8 (without_continuations x))
+          (sym (ap (λ k. drop k (encode_utf8 c ++ z)) e ∙ drop-append-add (encode_utf8 c) z m))
+          (rest_of cs m scalar_parts.1)
     ]
 
--- the text that is written, and what is behind it once its rest is made 00
+-- the text that is written is well-formed with the bytes after it, once the rest of a character is made 00
 pub is_text : (bytes old : List ℕ) (n : ℕ) (text : List ℕ) → IsUtf8 old → AreScalars text → take n bytes ≡ units_of_text encode_utf8 text → drop n bytes ≡ without_continuations (drop n old) → IsUtf8 bytes
-is_text bytes old n text u s e f =
+is_text bytes old n text utf8 s e f =
     subst IsUtf8 (take-append-drop n bytes)
     (IsUtf8-append (take n bytes) (drop n bytes) (text, (s, sym (their_units text) ∙ sym e))
-    (subst IsUtf8 (sym f) (subst (λ x. IsUtf8 (without_continuations (drop n x))) u.1.1 (rest_of u.0 n u.1.0))))
+    (subst IsUtf8 (sym f) (subst (λ x. IsUtf8 (without_continuations (drop n x))) utf8.1.1
+    (rest_of utf8.0 n utf8.1.0))))
 
--- the loop over the rest: of the bytes behind the first `at`, those before `end` are done
+-- the loop over the rest: of the bytes after the first `at`, those before `end` are done
 
 pub record Cleared (at end : ℕ) (old new : List ℕ) : Type 0 where
   pub from : at ≤ end
@@ -126,7 +140,7 @@ pub record Cleared (at end : ℕ) (old new : List ℕ) : Type 0 where
   pub len : length new ≡ length old
   pub front : take at new ≡ take at old
   pub done : take (end - at) (drop at new) ++ without_continuations (drop end old) ≡ without_continuations (drop at old)
-  pub behind : drop end new ≡ drop end old
+  pub rest : drop end new ≡ drop end old
 
 pub begin : (at : ℕ) (old : List ℕ) → at ≤ length old → Cleared at at old old
 begin at old h = record {
@@ -135,7 +149,7 @@ begin at old h = record {
   len = refl;
   front = refl;
   done = ap (λ n. take n (drop at old) ++ without_continuations (drop at old)) (let e : at - at ≡ 0 = omega arith in e);
-  behind = refl;
+  rest = refl;
 }
 
 next_front : (at end : ℕ) (new : List ℕ) (x : ℕ) → at ≤ end → end < length new → take at (set new end x) ≡ take at new
@@ -144,11 +158,11 @@ next_front (suc at) zero new x h k = absurd (omega arith)
 next_front (suc at) (suc end) [] x h k = absurd (omega arith)
 next_front (suc at) (suc end) (b ∷ new) x h k = ap (λ z. b ∷ z) (next_front at end new x (omega arith) (omega arith))
 
-next_behind : (end : ℕ) (new : List ℕ) (x : ℕ) → end < length new → drop (suc end) (set new end x) ≡ drop (suc end) new
-next_behind zero [] x k = absurd (omega arith)
-next_behind zero (b ∷ new) x k = refl
-next_behind (suc end) [] x k = absurd (omega arith)
-next_behind (suc end) (b ∷ new) x k = next_behind end new x (omega arith)
+next_rest : (end : ℕ) (new : List ℕ) (x : ℕ) → end < length new → drop (suc end) (set new end x) ≡ drop (suc end) new
+next_rest zero [] x k = absurd (omega arith)
+next_rest zero (b ∷ new) x k = refl
+next_rest (suc end) [] x k = absurd (omega arith)
+next_rest (suc end) (b ∷ new) x k = next_rest end new x (omega arith)
 
 next_zero : (end : ℕ) (new : List ℕ) (x : ℕ) → end < length new → take (suc end) (set new end x) ≡ take end new ++ x ∷ []
 next_zero zero [] x k = absurd (omega arith)
@@ -183,17 +197,22 @@ same_rest end old new l h e = rest_same _ _ _ _ (sym (drop-cons new end 0 (omega
     rest_same a b x y f = cc
 
 one_more : (at end : ℕ) (old new : List ℕ) → Cleared at end old new → end < length new → 0x80 ≤ get_or new end 0 → get_or new end 0 < 0xC0 → Cleared at (suc end) old (set new end 0)
-one_more at end old new c h k l =
-    let same = same_byte end old new c.len (omega (arith, c.len)) c.behind in
+one_more at end old new is_cleared has_next k l =
+    let same = same_byte end old new is_cleared.len (omega (arith, is_cleared.len)) is_cleared.rest in
     let test = between (get_or old end 0) (omega arith) (omega arith) in
     record {
-      from = omega (arith, c.from);
-      within = omega (arith, c.len);
-      len = length-set new end 0 ∙ c.len;
-      front = next_front at end new 0 c.from h ∙ c.front;
-      done = ap (λ x. x ++ without_continuations (drop (suc end) old)) (next_done at end new 0 c.from h) ∙ append_assoc (take (end - at) (drop at new)) (0 ∷ []) (without_continuations (drop (suc end) old))
-          ∙ ap (λ x. take (end - at) (drop at new) ++ x) (sym (ap without_continuations (drop-cons old end 0 (omega (arith, c.len))) ∙ cond_yes _ _ _ test)) ∙ c.done;
-      behind = next_behind end new 0 h ∙ same_rest end old new c.len (omega (arith, c.len)) c.behind;
+      from = omega (arith, is_cleared.from);
+      within = omega (arith, is_cleared.len);
+      len = length-set new end 0 ∙ is_cleared.len;
+      front = next_front at end new 0 is_cleared.from has_next ∙ is_cleared.front;
+      done =
+          ap (λ x. x ++ without_continuations (drop (suc end) old)) (next_done at end new 0 is_cleared.from has_next)
+          ∙ append_assoc (take (end - at) (drop at new)) (0 ∷ []) (without_continuations (drop (suc end) old))
+          ∙ ap (λ x. take (end - at) (drop at new) ++ x)
+          (sym (ap without_continuations (drop-cons old end 0 (omega (arith, is_cleared.len)))
+          ∙ cond_yes _ _ _ test)) ∙ is_cleared.done;
+      rest = next_rest end new 0 has_next ∙ same_rest end old new is_cleared.len (omega (arith, is_cleared.len))
+          is_cleared.rest;
     }
 
 pub goes_on : (at end : ℕ) (old new : List ℕ) → Cleared at end old new → end < length new → 0x80 ≤ get_or new end 0 → get_or new end 0 < 0xC0 → Cleared at (end + 1) old (set new end 0)
@@ -202,19 +221,30 @@ goes_on at end old new c h k l =
 
 -- where no byte of a rest is next, it is done
 pub ends : (at end : ℕ) (old new : List ℕ) → Cleared at end old new → without_continuations (drop end old) ≡ drop end old → drop at new ≡ without_continuations (drop at old)
-ends at end old new c e =
+ends at end old new is_cleared e =
     let n = end - at in
-    let g : end ≡ at + n = omega (arith, c.from) in
-    sym (take-append-drop n (drop at new)) ∙ ap (λ x. take n (drop at new) ++ x) (drop-drop n at new ∙ ap (λ k. drop k new) (sym g) ∙ c.behind ∙ sym e) ∙ c.done
+    let g : end ≡ at + n = omega (arith, is_cleared.from) in
+    sym (take-append-drop n (drop at new))
+    ∙ ap (λ x. take n (drop at new) ++ x) (drop-drop n at new ∙ ap (λ k. drop k new) (sym g) ∙ is_cleared.rest
+    ∙ sym e) ∙ is_cleared.done
 
 pub none_left : (end : ℕ) (old : List ℕ) → length old ≤ end → without_continuations (drop end old) ≡ drop end old
-none_left end old h = ap without_continuations (drop_of_length-le old h) ∙ sym (drop_of_length-le old h)
+none_left end old at_end = ap without_continuations (drop_of_length-le old at_end) ∙ sym (drop_of_length-le old at_end)
 
 pub none_next : (at end : ℕ) (old new : List ℕ) → Cleared at end old new → end < length new → (get_or new end 0 < 0x80) ⊎ (0xC0 ≤ get_or new end 0) → without_continuations (drop end old) ≡ drop end old
-none_next at end old new c h n =
-    let same = same_byte end old new c.len (omega (arith, c.len)) c.behind in
-    ap without_continuations (drop-cons old end 0 (omega (arith, c.len))) ∙ cond_no _ _ _ (no_rest n) ∙ sym (drop-cons old end 0 (omega (arith, c.len)))
+none_next at end old new is_cleared h n =
+    let same = same_byte end old new is_cleared.len (omega (arith, is_cleared.len)) is_cleared.rest in
+    ap without_continuations (drop-cons old end 0 (omega (arith, is_cleared.len))) ∙ cond_no _ _ _ (no_rest n)
+    ∙ sym (drop-cons old end 0 (omega (arith, is_cleared.len)))
   where
     no_rest : (get_or new end 0 < 0x80) ⊎ (0xC0 ≤ get_or new end 0) → (nat_le 0x80 (get_or old end 0) && nat_lt (get_or old end 0) 0xC0) ≡ false
-    no_rest (inl l) = low (get_or old end 0) (omega (arith, same_byte end old new c.len (omega (arith, c.len)) c.behind))
-    no_rest (inr l) = high (get_or old end 0) (omega (arith, same_byte end old new c.len (omega (arith, c.len)) c.behind))
+    no_rest (inl l) =
+        low (get_or old end 0) (omega (
+          arith,
+          same_byte end old new is_cleared.len (omega (arith, is_cleared.len)) is_cleared.rest,
+        ))
+    no_rest (inr l) =
+        high (get_or old end 0) (omega (
+          arith,
+          same_byte end old new is_cleared.len (omega (arith, is_cleared.len)) is_cleared.rest,
+        ))

@@ -38,9 +38,9 @@ ends_count = refl
 
 row_is_ok : (rows : List (List ℕ)) → rows_ok rows ≡ true → (i : ℕ) → i < length rows → row_ok (get_or rows i []) ≡ true
 unfolding rows_ok
-row_is_ok [] h i l = absurd (omega arith)
-row_is_ok (row ∷ rows) h zero l = (and_parts (row_ok row) (rows_ok rows) h).0
-row_is_ok (row ∷ rows) h (suc i) l = row_is_ok rows (and_parts (row_ok row) (rows_ok rows) h).1 i (omega arith)
+row_is_ok [] ok i l = absurd (omega arith)
+row_is_ok (row ∷ rows) ok zero l = (and_parts (row_ok row) (rows_ok rows) ok).0
+row_is_ok (row ∷ rows) ok (suc i) l = row_is_ok rows (and_parts (row_ok row) (rows_ok rows) ok).1 i (omega arith)
 
 -- the four tests of a row
 module _ (a b c d : ℕ) (es : List ℕ) (h : row_ok (a ∷ b ∷ c ∷ d ∷ es) ≡ true) where
@@ -56,15 +56,15 @@ module _ (a b c d : ℕ) (es : List ℕ) (h : row_ok (a ∷ b ∷ c ∷ d ∷ es
 
 row_goes : (row : List ℕ) → row_ok row ≡ true → (k : ℕ) → k < 4 → goes (end_after row k) (end_after row (suc k)) ≡ true
 unfolding row_ok
-row_goes [] h k l = cc
-row_goes (a ∷ []) h k l = cc
-row_goes (a ∷ b ∷ []) h k l = cc
-row_goes (a ∷ b ∷ c ∷ []) h k l = cc
-row_goes (a ∷ b ∷ c ∷ d ∷ es) h zero l = (from_first a b c d es h).0
-row_goes (a ∷ b ∷ c ∷ d ∷ es) h (suc zero) l = (from_second a b c d es h).0
-row_goes (a ∷ b ∷ c ∷ d ∷ es) h (suc (suc zero)) l = (from_third a b c d es h).0
-row_goes (a ∷ b ∷ c ∷ d ∷ es) h (suc (suc (suc zero))) l = (from_third a b c d es h).1
-row_goes (a ∷ b ∷ c ∷ d ∷ es) h (suc (suc (suc (suc k)))) l = absurd (omega arith)
+row_goes [] ok k l = cc
+row_goes (a ∷ []) ok k l = cc
+row_goes (a ∷ b ∷ []) ok k l = cc
+row_goes (a ∷ b ∷ c ∷ []) ok k l = cc
+row_goes (a ∷ b ∷ c ∷ d ∷ es) ok zero l = (from_first a b c d es ok).0
+row_goes (a ∷ b ∷ c ∷ d ∷ es) ok (suc zero) l = (from_second a b c d es ok).0
+row_goes (a ∷ b ∷ c ∷ d ∷ es) ok (suc (suc zero)) l = (from_third a b c d es ok).0
+row_goes (a ∷ b ∷ c ∷ d ∷ es) ok (suc (suc (suc zero))) l = (from_third a b c d es ok).1
+row_goes (a ∷ b ∷ c ∷ d ∷ es) ok (suc (suc (suc (suc k)))) l = absurd (omega arith)
 
 pub end_next : (ends : List ℕ) (k : ℕ) → get_or ends k 0 ≡ end_after ends (k + 1)
 end_next ends k = ap (end_after ends) (let n : suc k ≡ k + 1 = omega arith in n)
@@ -86,7 +86,8 @@ goes_one a b h e = grind (arith, nat_tests)
 goes_two : (a b : ℕ) → goes a b ≡ true → eqb (b - a) 2 ≡ true → b ≡ a + 2
 goes_two a b h e = grind (arith, nat_tests)
 
-module _ (Means : List ℕ → ℕ → Type 0) (src : List ℕ) (from read next : ℕ) (h : goes read next ≡ true) (inside : from + read + 2 ≤ length src) where
+module _ (Means : List ℕ → ℕ → Type 0) (src : List ℕ) (from read next : ℕ) (goes_on : goes read next ≡ true)
+    (inside : from + read + 2 ≤ length src) where
   abbrev first : ℕ
   first = get_or src (from + read) 0
 
@@ -112,8 +113,12 @@ module _ (Means : List ℕ → ℕ → Type 0) (src : List ℕ) (from read next 
   -- the bytes up to where the next character begins
   front_is : (t : Bool) → eqb (next - read) 2 ≡ t
       → take (next - read) (drop read (drop from src)) ≡ byte_or_pair t first second
-  front_is true e = ap (λ k. take k (drop read (drop from src))) (let m : next - read ≡ 2 = omega (arith, goes_two read next h e) in m) ∙ two_front
-  front_is false e = ap (λ k. take k (drop read (drop from src))) (let m : next - read ≡ 1 = omega (arith, goes_one read next h e) in m) ∙ one_front
+  front_is true is_two =
+      ap (λ k. take k (drop read (drop from src)))
+      (let m : next - read ≡ 2 = omega (arith, goes_two read next goes_on is_two) in m) ∙ two_front
+  front_is false is_two =
+      ap (λ k. take k (drop read (drop from src)))
+      (let m : next - read ≡ 1 = omega (arith, goes_one read next goes_on is_two) in m) ∙ one_front
 
   gathers_front : (units_of : ℕ → List ℕ) (t : Bool) (c : ℕ) (before mid after : List ℕ) → eqb (next - read) 2 ≡ t
       → IsScalar c
@@ -121,11 +126,11 @@ module _ (Means : List ℕ → ℕ → Type 0) (src : List ℕ) (from read next 
       → after ≡ mid ++ units_of c
       → GathersChars units_of Means (drop from src) next before after
   gathers_front units_of t c before mid after e s m p w =
-      let up = goes_up read next h in
+      let up = goes_up read next goes_on in
       let some : 0 < next - read = grind (arith, nat_tests) in
       let whole : read + (next - read) ≡ next = omega (arith, up.0) in
       subst (λ n. GathersChars units_of Means (drop from src) n before after) whole
-      (gathers_then units_of Means (drop from src) read (next - read) before mid after p
+      (gathers_then p
       (gathers_one units_of Means (drop read (drop from src)) (next - read) c mid after some
       (omega (arith, up.1, rest_long, length-drop read (drop from src))) s
       (subst (λ z. Means z c) (sym (front_is t e)) m) w))
@@ -136,13 +141,15 @@ module _ (Means : List ℕ → ℕ → Type 0) (src : List ℕ) (from read next 
       → GathersChars encode_utf8 Means (drop from src) read before mid
       → after ≡ mid ++ take (word / 0x100_0000) (to_le_bytes w32 word)
       → GathersChars encode_utf8 Means (drop from src) next before after
-  gathers_word word before mid after m p w =
-      gathers_front encode_utf8 (eqb (next - read) 2) m.char before mid after refl m.scalar m.means p (w ∙ ap (λ z. mid ++ z) m.utf8)
+  gathers_word word before mid after means p w =
+      gathers_front encode_utf8 (eqb (next - read) 2) means.char before mid after refl means.scalar means.means p
+      (w ∙ ap (λ z. mid ++ z) means.utf8)
 
   -- one more character, as a code unit
   pub gathers_unit : (unit : ℕ) (before mid after : List ℕ) → unit < 0x1_0000
       → MeansUnit Means (byte_or_pair (eqb (next - read) 2) first second) unit
       → GathersChars encode_utf16 Means (drop from src) read before mid → after ≡ mid ++ unit ∷ []
       → GathersChars encode_utf16 Means (drop from src) next before after
-  gathers_unit unit before mid after l m p w =
-      gathers_front encode_utf16 (eqb (next - read) 2) unit before mid after refl m.scalar m.means p (w ∙ ap (λ z. mid ++ z) (sym (one_unit unit l)))
+  gathers_unit unit before mid after l means p w =
+      gathers_front encode_utf16 (eqb (next - read) 2) unit before mid after refl means.scalar means.means p
+      (w ∙ ap (λ z. mid ++ z) (sym (one_unit unit l)))

@@ -1,5 +1,7 @@
--- Pieces one behind another, and put out so.
-use Rattle.std.proofs.Common.{◌≡◌, ℕ, suc, ◌+◌, ◌<◌, ◌≤◌, true, List, [], ◌∷◌, ◌++◌, length, take, drop, refl, ap, ◌∙◌, sym, subst, arith, append_assoc, append-nil, length-append, length-drop, take-add, nat_le, length-take}
+-- Pieces that follow one another, read and put out.
+use Rattle.std.proofs.Common.{◌≡◌, ℕ, suc, ◌+◌, ◌<◌, ◌≤◌, true, List, [], ◌∷◌, ◌++◌, length, take, drop, refl, ap, ◌∙◌}
+use Rattle.std.proofs.Common.{sym, subst, arith, append_assoc, append-nil, length-append, length-drop, take-add, nat_le}
+use Rattle.std.proofs.Common.{length-take}
 use Rattle.std.proofs.lemmas.Bool.Decides.{nat_tests}
 use Rattle.std.proofs.lemmas.List.{take-take}
 use Rattle.std.specs.Char.{IsScalar}
@@ -24,10 +26,11 @@ units-append units_of (c ∷ cs) ds =
     ap (λ t. units_of c ++ t) (units-append units_of cs ds) ∙ sym (append_assoc (units_of c) (units_of_text units_of cs) (units_of_text units_of ds))
 
 EachMeansChar-append : (Means : List ℕ → ℕ → Type 0) (ps qs : List Piece) → EachMeansChar Means ps → EachMeansChar Means qs → EachMeansChar Means (ps ++ qs)
-EachMeansChar-append Means [] qs a b = b
-EachMeansChar-append Means (p ∷ ps) qs a b = (a.0, EachMeansChar-append Means ps qs a.1 b)
+EachMeansChar-append Means [] qs first_mean others_mean = others_mean
+EachMeansChar-append Means (p ∷ ps) qs first_mean others_mean =
+    (first_mean.0, EachMeansChar-append Means ps qs first_mean.1 others_mean)
 
--- none
+-- no piece is read
 pub reads_none : (Means : List ℕ → ℕ → Type 0) (src : List ℕ) → ReadsPieces Means src 0 []
 reads_none Means src = record {
   pieces = [];
@@ -38,18 +41,20 @@ reads_none Means src = record {
   none = λ _. refl;
 }
 
--- more behind them
+-- more pieces are read after them
 pub reads_then : (Means : List ℕ → ℕ → Type 0) (src : List ℕ) (a n : ℕ) (s t : List ℕ) → ReadsPieces Means src a s → ReadsPieces Means (drop a src) n t → ReadsPieces Means src (a + n) (s ++ t)
-reads_then Means src a n s t p q = record {
-  pieces = p.pieces ++ q.pieces;
-  within = omega (arith, p.within, q.within, length-drop a src);
-  bytes = piece_bytes-append p.pieces q.pieces ∙ ap (λ z. z ++ piece_bytes q.pieces) p.bytes ∙ ap (λ z. take a src ++ z) q.bytes ∙ sym (take-add a n src);
-  chars = piece_chars-append p.pieces q.pieces ∙ ap (λ z. z ++ piece_chars q.pieces) p.chars ∙ ap (λ z. s ++ z) q.chars;
-  mean = EachMeansChar-append Means p.pieces q.pieces p.mean q.mean;
-  none = λ z. ap (λ ps. ps ++ q.pieces) (p.none (omega arith)) ∙ q.none (omega arith);
+reads_then Means src a n s t first then_more = record {
+  pieces = first.pieces ++ then_more.pieces;
+  within = omega (arith, first.within, then_more.within, length-drop a src);
+  bytes = piece_bytes-append first.pieces then_more.pieces ∙ ap (λ z. z ++ piece_bytes then_more.pieces) first.bytes
+      ∙ ap (λ z. take a src ++ z) then_more.bytes ∙ sym (take-add a n src);
+  chars = piece_chars-append first.pieces then_more.pieces ∙ ap (λ z. z ++ piece_chars then_more.pieces) first.chars
+      ∙ ap (λ z. s ++ z) then_more.chars;
+  mean = EachMeansChar-append Means first.pieces then_more.pieces first.mean then_more.mean;
+  none = λ z. ap (λ ps. ps ++ then_more.pieces) (first.none (omega arith)) ∙ then_more.none (omega arith);
 }
 
--- one
+-- one piece is read
 pub reads_one : (Means : List ℕ → ℕ → Type 0) (src : List ℕ) (n c : ℕ) → 0 < n → n ≤ length src → Means (take n src) c → ReadsPieces Means src n (c ∷ [])
 reads_one Means src n c h w m = record {
   pieces = record { bytes = take n src; char = c } ∷ [];
@@ -73,8 +78,11 @@ alone_chars [] = refl
 alone_chars (b ∷ bs) = ap (λ x. b ∷ x) (alone_chars bs)
 
 alone_mean : (Means : List ℕ → ℕ → Type 0) → ((b : ℕ) → b < 0x80 → Means (b ∷ []) b) → (bs : List ℕ) → AreAscii bs → EachMeansChar Means (alone bs)
-alone_mean Means h [] a = tt
-alone_mean Means h (b ∷ bs) a = (h b (a 0 0 (omega arith)), alone_mean Means h bs (λ k d l. a (suc k) d (omega arith)))
+alone_mean Means each_means [] are_ascii = tt
+alone_mean Means each_means (b ∷ bs) are_ascii = (
+  each_means b (are_ascii 0 0 (omega arith)),
+  alone_mean Means each_means bs (λ k d l. are_ascii (suc k) d (omega arith)),
+)
 
 -- ASCII bytes
 pub reads_ascii : (Means : List ℕ → ℕ → Type 0) (src : List ℕ) (n : ℕ) → ((b : ℕ) → b < 0x80 → Means (b ∷ []) b) → n ≤ length src → AreAscii (take n src)
@@ -98,37 +106,48 @@ start units_of Means o src = record {
   written = sym (with_appended-nil o);
 }
 
--- more pieces put out behind them
-pub then : (units_of : ℕ → List ℕ) (Means : List ℕ → ℕ → Type 0) (before mid after : Output) (src : List ℕ) (a n : ℕ)
-    → PutsPieces units_of Means before mid src a → PutsPieces units_of Means mid after (drop a src) n → PutsPieces units_of Means before after src (a + n)
-then units_of Means before mid after src a n p q =
-    let x = units_of_text units_of p.text in
-    let y = units_of_text units_of q.text in
-    let both = units-append units_of p.text q.text in
-    record {
-      text = p.text ++ q.text;
-      scalars = scalars-append p.text q.text p.scalars q.scalars;
-      reads = reads_then Means src a n p.text q.text p.reads q.reads;
-      fits = omega (arith, ap length both, length-append x y, p.fits, q.fits, room_left before mid x p.written);
-      written = q.written ∙ ap (λ o. with_appended o y) p.written ∙ with_appended-with_appended before x y ∙ ap (with_appended before) (sym both);
-    }
+-- more pieces are put out after them
+module _ {units_of : ℕ → List ℕ} {Means : List ℕ → ℕ → Type 0} {before mid after : Output} {src : List ℕ} {a n : ℕ}
+    (first : PutsPieces units_of Means before mid src a) (then_more : PutsPieces units_of Means mid after (drop a src)
+    n) where
+  pub then : PutsPieces units_of Means before after src (a + n)
+  then =
+      let x = units_of_text units_of first.text in
+      let y = units_of_text units_of then_more.text in
+      let both = units-append units_of first.text then_more.text in
+      record {
+        text = first.text ++ then_more.text;
+        scalars = scalars-append first.text then_more.text first.scalars then_more.scalars;
+        reads = reads_then Means src a n first.text then_more.text first.reads then_more.reads;
+        fits = omega (
+          arith,
+          ap length both,
+          length-append x y,
+          first.fits,
+          then_more.fits,
+          room_left before mid x first.written,
+        );
+        written = then_more.written ∙ ap (λ o. with_appended o y) first.written ∙ with_appended-with_appended before x y
+            ∙ ap (with_appended before) (sym both);
+      }
 
 -- ASCII bytes
-pub ascii_pieces : (units_of : ℕ → List ℕ) (Means : List ℕ → ℕ → Type 0) (before after : Output) (src : List ℕ) (n : ℕ)
+pub ascii_pieces : {units_of : ℕ → List ℕ} {Means : List ℕ → ℕ → Type 0} {before after : Output} {src : List ℕ} {n : ℕ}
     → ((b : ℕ) → b < 0x80 → Means (b ∷ []) b) → PutsAscii units_of before after src n → PutsPieces units_of Means before after src n
-ascii_pieces units_of Means before after src n h p = record {
+ascii_pieces {Means = Means} {src = src} {n = n} h puts = record {
   text = take n src;
-  scalars = ascii_scalars (take n src) p.ascii;
-  reads = reads_ascii Means src n h p.within p.ascii;
-  fits = p.fits;
-  written = p.written;
+  scalars = ascii_scalars (take n src) puts.ascii;
+  reads = reads_ascii Means src n h puts.within puts.ascii;
+  fits = puts.fits;
+  written = puts.written;
 }
 
 -- one piece
-pub one_piece : (units_of : ℕ → List ℕ) (Means : List ℕ → ℕ → Type 0) (before after : Output) (src : List ℕ) (n c : ℕ)
+pub one_piece : {units_of : ℕ → List ℕ} {Means : List ℕ → ℕ → Type 0} {before after : Output} {src : List ℕ} {n : ℕ}
+    (c : ℕ)
     → 0 < n → n ≤ length src → IsScalar c → Means (take n src) c → nat_le (length (units_of c)) before.room ≡ true → after ≡ with_appended before (units_of c)
     → PutsPieces units_of Means before after src n
-one_piece units_of Means before after src n c h w i m f e =
+one_piece {units_of = units_of} {Means = Means} {before = before} {src = src} {n = n} c h w i m f e =
     let units = append-nil (units_of c) in
     record {
       text = c ∷ [];
@@ -138,40 +157,43 @@ one_piece units_of Means before after src n c h w i m f e =
       written = e ∙ ap (with_appended before) (sym units);
     }
 
--- the same of what is told of the bytes behind the first a
-pub then_rest : (units_of : ℕ → List ℕ) (Means : List ℕ → ℕ → Type 0) (before mid after : Output) (src : List ℕ) (a n : ℕ) (rest : List ℕ) → rest ≡ drop a src
-    → PutsPieces units_of Means before mid src a → PutsPieces units_of Means mid after rest n → PutsPieces units_of Means before after src (a + n)
-then_rest units_of Means before mid after src a n rest e p q =
-    then units_of Means before mid after src a n p (subst (λ z. PutsPieces units_of Means mid after z n) e q)
+-- the same, where the rest is a list of its own
+module _ {units_of : ℕ → List ℕ} {Means : List ℕ → ℕ → Type 0} {before mid after : Output} {src rest : List ℕ}
+    {a n : ℕ} where
+  pub then_rest : rest ≡ drop a src → PutsPieces units_of Means before mid src a
+      → PutsPieces units_of Means mid after rest n
+      → PutsPieces units_of Means before after src (a + n)
+  then_rest e p q = then p (subst (λ z. PutsPieces units_of Means mid after z n) e q)
 
--- where the output is told to be as it was
-pub same_then : (units_of : ℕ → List ℕ) (Means : List ℕ → ℕ → Type 0) (before mid after : Output) (src : List ℕ) (n : ℕ)
+-- the same, where the output is known to be as it was
+pub same_then : {units_of : ℕ → List ℕ} {Means : List ℕ → ℕ → Type 0} {before mid after : Output} {src : List ℕ} {n : ℕ}
     → after ≡ mid → PutsPieces units_of Means before mid src n → PutsPieces units_of Means before after src n
-same_then units_of Means before mid after src n e p = subst (λ (o : Output). PutsPieces units_of Means before o src n) (sym e) p
+same_then {units_of = units_of} {Means = Means} {before = before} {src = src} {n = n} e p = subst
+    (λ (o : Output). PutsPieces units_of Means before o src n) (sym e) p
 
 pub reads_wider : (Means : List ℕ → ℕ → Type 0) (src : List ℕ) (m n : ℕ) (text : List ℕ)
     → ReadsPieces Means (take m src) n text → ReadsPieces Means src n text
-reads_wider Means src m n text r = record {
-  pieces = r.pieces;
-  within = omega (arith, r.within, length-take m src);
-  bytes = r.bytes ∙ take-take n m src (omega (arith, r.within, length-take m src));
-  chars = r.chars;
-  mean = r.mean;
-  none = r.none;
+reads_wider Means src m n text reads = record {
+  pieces = reads.pieces;
+  within = omega (arith, reads.within, length-take m src);
+  bytes = reads.bytes ∙ take-take n m src (omega (arith, reads.within, length-take m src));
+  chars = reads.chars;
+  mean = reads.mean;
+  none = reads.none;
 }
 
--- what is told of the bytes in front
+-- pieces of the first m bytes are pieces of all
 pub puts_wider : (units_of : ℕ → List ℕ) (Means : List ℕ → ℕ → Type 0) (before after : Output) (src : List ℕ) (m n : ℕ) (front : List ℕ) → front ≡ take m src
     → PutsPieces units_of Means before after front n → PutsPieces units_of Means before after src n
-puts_wider units_of Means before after src m n front e p = record {
-  text = p.text;
-  scalars = p.scalars;
-  reads = reads_wider Means src m n p.text (subst (λ z. ReadsPieces Means z n p.text) e p.reads);
-  fits = p.fits;
-  written = p.written;
+puts_wider units_of Means before after src m n front e puts = record {
+  text = puts.text;
+  scalars = puts.scalars;
+  reads = reads_wider Means src m n puts.text (subst (λ z. ReadsPieces Means z n puts.text) e puts.reads);
+  fits = puts.fits;
+  written = puts.written;
 }
 
--- where what bytes mean is told of another that is the same
+-- the same by an equal meaning
 pub puts_same : (units_of : ℕ → List ℕ) {T : Type 0} (means : T → List ℕ → ℕ → Type 0) (a b : T) (before after : Output) (src : List ℕ) (n : ℕ) → a ≡ b
     → PutsPieces units_of (means a) before after src n → PutsPieces units_of (means b) before after src n
 puts_same units_of means a b before after src n e p = subst (λ t. PutsPieces units_of (means t) before after src n) e p
@@ -180,24 +202,25 @@ puts_same units_of means a b before after src n e p = subst (λ t. PutsPieces un
 
 EachMeansChar-weaker : (Means Other : List ℕ → ℕ → Type 0) → ((bytes : List ℕ) (c : ℕ) → Means bytes c → Other bytes c) → (ps : List Piece) → EachMeansChar Means ps
     → EachMeansChar Other ps
-EachMeansChar-weaker Means Other h [] m = tt
-EachMeansChar-weaker Means Other h (p ∷ ps) m = (h p.bytes p.char m.0, EachMeansChar-weaker Means Other h ps m.1)
+EachMeansChar-weaker Means Other weaker [] mean = tt
+EachMeansChar-weaker Means Other weaker (p ∷ ps) mean =
+    (weaker p.bytes p.char mean.0, EachMeansChar-weaker Means Other weaker ps mean.1)
 
 pub puts_as : (units_of : ℕ → List ℕ) (Means Other : List ℕ → ℕ → Type 0) (before after : Output) (src : List ℕ) (n : ℕ)
     → ((bytes : List ℕ) (c : ℕ) → Means bytes c → Other bytes c) → PutsPieces units_of Means before after src n → PutsPieces units_of Other before after src n
-puts_as units_of Means Other before after src n h p =
-    let r = p.reads in
+puts_as units_of Means Other before after src n h puts =
+    let reads = puts.reads in
     record {
-      text = p.text;
-      scalars = p.scalars;
+      text = puts.text;
+      scalars = puts.scalars;
       reads = record {
-        pieces = r.pieces;
-        within = r.within;
-        bytes = r.bytes;
-        chars = r.chars;
-        mean = EachMeansChar-weaker Means Other h r.pieces r.mean;
-        none = r.none;
+        pieces = reads.pieces;
+        within = reads.within;
+        bytes = reads.bytes;
+        chars = reads.chars;
+        mean = EachMeansChar-weaker Means Other h reads.pieces reads.mean;
+        none = reads.none;
       };
-      fits = p.fits;
-      written = p.written;
+      fits = puts.fits;
+      written = puts.written;
     }

@@ -14,10 +14,14 @@ pub scalars-cons : (c : ℕ) (cs : List ℕ) → IsScalar c → AreScalars cs �
 scalars-cons c cs h k = ap (λ t. t && all_scalars cs) h ∙ k
 
 pub scalars-append : (cs ds : List ℕ) → AreScalars cs → AreScalars ds → AreScalars (cs ++ ds)
-scalars-append [] ds h k = k
-scalars-append (c ∷ cs) ds h k = let p = and_parts _ _ h in scalars-cons c (cs ++ ds) p.0 (scalars-append cs ds p.1 k)
+scalars-append [] ds h others_are = others_are
+scalars-append (c ∷ cs) ds h others_are =
+    let scalar_parts = and_parts _ _ h in
+    scalars-cons c (cs ++ ds) scalar_parts.0 (scalars-append cs ds scalar_parts.1 others_are)
 
--- and so are ASCII bytes
+-- ASCII bytes are scalar values
 pub ascii_scalars : (bs : List ℕ) → AreAscii bs → AreScalars bs
-ascii_scalars [] a = refl
-ascii_scalars (b ∷ bs) a = scalars-cons b bs (low_scalar b (let h = a 0 0 (omega arith) in omega arith)) (ascii_scalars bs (λ k d h. a (suc k) d (omega arith)))
+ascii_scalars [] are_ascii = refl
+ascii_scalars (b ∷ bs) are_ascii =
+    scalars-cons b bs (low_scalar b (let h = are_ascii 0 0 (omega arith) in omega arith))
+    (ascii_scalars bs (λ k d h. are_ascii (suc k) d (omega arith)))

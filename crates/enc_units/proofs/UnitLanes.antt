@@ -42,16 +42,17 @@ after_two a b rest h k = omega arith
 
 pub little_units : (n : ℕ) (bytes : List ℕ) → length bytes ≡ n + n → Each1 (Fits w8) bytes
     → digits_l 65536 n (number_l 256 bytes) ≡ units_of_bytes false bytes
-little_units zero [] e f = refl
-little_units zero (a ∷ bs) e f = absurd (omega arith)
-little_units (suc n) [] e f = absurd (omega arith)
-little_units (suc n) (a ∷ []) e f = absurd (omega arith)
-little_units (suc n) (a ∷ b ∷ bs) e f =
-    let h : a < 256 = f.0.fits in
-    let k : b < 256 = f.1.0.fits in
-    ap (λ u. u ∷ digits_l 65536 n (number_l 256 (a ∷ b ∷ bs) / 65536)) (low_two a b (number_l 256 bs) h k)
-    ∙ ap (λ z. (b * 256 + a) ∷ z) (ap (digits_l 65536 n) (after_two a b (number_l 256 bs) h k)
-    ∙ little_units n bs (omega arith) f.1.1)
+little_units zero [] e fit = refl
+little_units zero (a ∷ bs) e fit = absurd (omega arith)
+little_units (suc n) [] e fit = absurd (omega arith)
+little_units (suc n) (a ∷ []) e fit = absurd (omega arith)
+little_units (suc n) (a ∷ b ∷ bs) e fit =
+    let first_fits : a < 256 = fit.0.fits in
+    let second_fits : b < 256 = fit.1.0.fits in
+    ap (λ u. u ∷ digits_l 65536 n (number_l 256 (a ∷ b ∷ bs) / 65536))
+    (low_two a b (number_l 256 bs) first_fits second_fits)
+    ∙ ap (λ z. (b * 256 + a) ∷ z) (ap (digits_l 65536 n) (after_two a b (number_l 256 bs) first_fits second_fits)
+    ∙ little_units n bs (omega arith) fit.1.1)
 
 abbrev swapped : ℕ → List ℕ → List ℕ
 swapped n us = zip2 add16 (zip2 shl16 us (replicate n 8)) (zip2 shr16 us (replicate n 8))
@@ -61,19 +62,19 @@ swaps a b h k = omega arith
 
 swapped_units : (n : ℕ) (bytes : List ℕ) → length bytes ≡ n + n → Each1 (Fits w8) bytes
     → swapped n (units_of_bytes false bytes) ≡ units_of_bytes true bytes
-swapped_units zero [] e f = refl
-swapped_units zero (a ∷ bs) e f = absurd (omega arith)
-swapped_units (suc n) [] e f = absurd (omega arith)
-swapped_units (suc n) (a ∷ []) e f = absurd (omega arith)
-swapped_units (suc n) (a ∷ b ∷ bs) e f =
-    let h : a < 256 = f.0.fits in
-    let k : b < 256 = f.1.0.fits in
-    ap (λ u. u ∷ swapped n (units_of_bytes false bs)) (swaps a b h k)
-    ∙ ap (λ z. (a * 256 + b) ∷ z) (swapped_units n bs (omega arith) f.1.1)
+swapped_units zero [] e fit = refl
+swapped_units zero (a ∷ bs) e fit = absurd (omega arith)
+swapped_units (suc n) [] e fit = absurd (omega arith)
+swapped_units (suc n) (a ∷ []) e fit = absurd (omega arith)
+swapped_units (suc n) (a ∷ b ∷ bs) e fit =
+    let first_fits : a < 256 = fit.0.fits in
+    let second_fits : b < 256 = fit.1.0.fits in
+    ap (λ u. u ∷ swapped n (units_of_bytes false bs)) (swaps a b first_fits second_fits)
+    ∙ ap (λ z. (a * 256 + b) ∷ z) (swapped_units n bs (omega arith) fit.1.1)
 
 pub big_units : (n : ℕ) (bytes : List ℕ) → length bytes ≡ n + n → Each1 (Fits w8) bytes
     → swapped n (digits_l 65536 n (number_l 256 bytes)) ≡ units_of_bytes true bytes
-big_units n bytes e f = ap (swapped n) (little_units n bytes e f) ∙ swapped_units n bytes e f
+big_units n bytes two_each fit = ap (swapped n) (little_units n bytes two_each fit) ∙ swapped_units n bytes two_each fit
 
 -- the first surrogate
 
@@ -94,9 +95,9 @@ one_more u n us true h a =
     subst (λ k. AreScalars (take k (u ∷ us))) next (scalars-cons u (take n us) (h refl) a)
 
 first_scalars : (us : List ℕ) → Each1 (Fits w16) us → AreScalars (take (before us) us)
-first_scalars [] f = refl
-first_scalars (u ∷ us) f = one_more u (before us) us (not (is_surrogate u)) (no_surrogate u f.0.fits)
-    (first_scalars us f.1)
+first_scalars [] fit = refl
+first_scalars (u ∷ us) fit = one_more u (before us) us (not (is_surrogate u)) (no_surrogate u fit.0.fits)
+    (first_scalars us fit.1)
 
 module _ (us : List ℕ) (long : length us ≡ 8) (fits : Each1 (Fits w16) us) (mask : ℕ)
     (is : mask ≡ mask_l (map (top 15) (zip2 (λ a b. cond (eqb a b) 65535 0) (zip2 shr16 us (replicate 8 11))
@@ -173,14 +174,14 @@ choice s t p q a b c x y e f g h =
     ∙ ap (λ r. cond p a (cond q x r)) h
 
 front_is : (u : ℕ) → u < 65536 → front_lane u ≡ unit_word_low u
-front_is u h =
-    choice _ _ _ _ u _ _ _ _ (top_of (ltb u 128)) (top_of (ltb u 2048)) (two_is u (bit_and u 63) h (low_bits u))
-    (three_is u (bit_and (u / 64) 63) h (low_bits (u / 64)))
+front_is u fits_unit =
+    choice _ _ _ _ u _ _ _ _ (top_of (ltb u 128)) (top_of (ltb u 2048)) (two_is u (bit_and u 63) fits_unit (low_bits u))
+    (three_is u (bit_and (u / 64) 63) fits_unit (low_bits (u / 64)))
 
 each_front : (us : List ℕ) → Each1 (Fits w16) us → front_lanes (length us) us ≡ map unit_word_low us
-each_front [] f = refl
-each_front (u ∷ us) f = ap (λ x. x ∷ front_lanes (length us) us) (front_is u f.0.fits)
-    ∙ ap (λ z. unit_word_low u ∷ z) (each_front us f.1)
+each_front [] fit = refl
+each_front (u ∷ us) fit = ap (λ x. x ∷ front_lanes (length us) us) (front_is u fit.0.fits)
+    ∙ ap (λ z. unit_word_low u ∷ z) (each_front us fit.1)
 
 pub fronts_are : (n : ℕ) (us : List ℕ) → length us ≡ n → Each1 (Fits w16) us → front_lanes n us ≡ map unit_word_low us
 fronts_are n us e f = subst (λ k. front_lanes k us ≡ map unit_word_low us) e (each_front us f)
@@ -206,7 +207,7 @@ each_rest (u ∷ us) = ap (λ x. x ∷ rest_lanes (length us) us) (rest_is u) �
 pub rests_are : (n : ℕ) (us : List ℕ) → length us ≡ n → rest_lanes n us ≡ map unit_word_high us
 rests_are n us e = subst (λ k. rest_lanes k us ≡ map unit_word_high us) e (each_rest us)
 
--- words
+-- the word of a code unit, by its lanes
 
 two_below : (u : ℕ) → u < 65536 → unit_word_low u < 65536
 two_below u h = grind (arith, nat_tests)
@@ -224,11 +225,11 @@ joined front rest h k = omega arith
 
 each_word : (us : List ℕ) → Each1 (Fits w16) us
     → word_lanes (length us) (map unit_word_low us) (map unit_word_high us) ≡ map unit_word us
-each_word [] f = refl
-each_word (u ∷ us) f =
+each_word [] fit = refl
+each_word (u ∷ us) fit =
     ap (λ x. x ∷ word_lanes (length us) (map unit_word_low us) (map unit_word_high us))
-    (joined (unit_word_low u) (unit_word_high u) (two_below u f.0.fits) (rest_below u))
-    ∙ ap (λ z. unit_word u ∷ z) (each_word us f.1)
+    (joined (unit_word_low u) (unit_word_high u) (two_below u fit.0.fits) (rest_below u))
+    ∙ ap (λ z. unit_word u ∷ z) (each_word us fit.1)
 
 pub words_are : (n : ℕ) (us fs rs : List ℕ) → length us ≡ n → Each1 (Fits w16) us → fs ≡ map unit_word_low us
     → rs ≡ map unit_word_high us → word_lanes n fs rs ≡ map unit_word us

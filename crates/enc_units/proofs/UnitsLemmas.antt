@@ -1,5 +1,6 @@
--- The code units of a text determine it, and those of UTF-16 tell it.
-use Rattle.std.proofs.Common.{◌≡◌, ℕ, ◌+◌, ◌-◌, ◌/◌, ◌%◌, ◌<◌, ◌≤◌, List, [], ◌∷◌, ◌++◌, map, refl, ap, ◌∙◌, sym, arith, inl, inr, Option, Some}
+-- The code units of a text determine it, and those of UTF-16 are read back as it.
+use Rattle.std.proofs.Common.{◌≡◌, ℕ, ◌+◌, ◌-◌, ◌/◌, ◌%◌, ◌<◌, ◌≤◌, List, [], ◌∷◌, ◌++◌, map, refl, ap, ◌∙◌, sym, arith}
+use Rattle.std.proofs.Common.{inl, inr, Option, Some}
 use Rattle.std.proofs.lemmas.Bool.{and_parts, cases_lt, lt-ltb, le-ltb, le-leb, lt-leb}
 use Rattle.std.proofs.lemmas.Bool.Decides.{nat_tests}
 use Rattle.std.proofs.lemmas.Str.{encodes_same, utf16_chars-nil, utf16_chars_lone, utf16_chars_pair}
@@ -45,30 +46,35 @@ same_pair : (c d : ℕ) → 0x1_0000 ≤ c → 0x1_0000 ≤ d → 0xD800 + (c - 
 same_pair c d l m e f = omega arith
 
 one_same : (c d : ℕ) (x y : List ℕ) → IsScalar c → IsScalar d → encode_utf16 c ++ x ≡ encode_utf16 d ++ y → (c ≡ d) × (x ≡ y)
-one_same c d x y s r e = elim (cases_lt c 0x1_0000) [
-  | inl l ↦ elim (cases_lt d 0x1_0000) [
+one_same c d x y scalar also_scalar same_units = elim (cases_lt c 0x1_0000) [
+  | inl one_unit_c ↦ elim (cases_lt d 0x1_0000) [
     | inl m ↦
-        let f = sym (ap (λ z. z ++ x) (one_unit c l)) ∙ e ∙ ap (λ z. z ++ y) (one_unit d m) in
-        (first_same c d x y f, rest_same c d x y f)
-    | inr m ↦
-        let f = sym (ap (λ z. z ++ x) (one_unit c l)) ∙ e ∙ ap (λ z. z ++ y) (two_units d m) in
-        absurd (not_both c d l m s r (first_same _ _ _ _ f))
+        let same = sym (ap (λ z. z ++ x) (one_unit c one_unit_c)) ∙ same_units ∙ ap (λ z. z ++ y) (one_unit d m) in
+        (first_same c d x y same, rest_same c d x y same)
+    | inr two_units_d ↦
+        let f = sym (ap (λ z. z ++ x) (one_unit c one_unit_c)) ∙ same_units
+        ∙ ap (λ z. z ++ y) (two_units d two_units_d) in
+        absurd (not_both c d one_unit_c two_units_d scalar also_scalar (first_same _ _ _ _ f))
   ]
-  | inr l ↦ elim (cases_lt d 0x1_0000) [
-    | inl m ↦
-        let f = sym (ap (λ z. z ++ y) (one_unit d m)) ∙ sym e ∙ ap (λ z. z ++ x) (two_units c l) in
-        absurd (not_both d c m l r s (first_same _ _ _ _ f))
-    | inr m ↦
-        let f = sym (ap (λ z. z ++ x) (two_units c l)) ∙ e ∙ ap (λ z. z ++ y) (two_units d m) in
-        let g = rest_same _ _ _ _ f in
-        (same_pair c d l m (first_same _ _ _ _ f) (first_same _ _ _ _ g), rest_same _ _ _ _ g)
+  | inr two_units_c ↦ elim (cases_lt d 0x1_0000) [
+    | inl one_unit_d ↦
+        let f = sym (ap (λ z. z ++ y) (one_unit d one_unit_d)) ∙ sym same_units
+        ∙ ap (λ z. z ++ x) (two_units c two_units_c) in
+        absurd (not_both d c one_unit_d two_units_c also_scalar scalar (first_same _ _ _ _ f))
+    | inr two_units_d ↦
+        let same = sym (ap (λ z. z ++ x) (two_units c two_units_c)) ∙ same_units
+        ∙ ap (λ z. z ++ y) (two_units d two_units_d) in
+        let same_trail = rest_same _ _ _ _ same in (
+          same_pair c d two_units_c two_units_d (first_same _ _ _ _ same) (first_same _ _ _ _ same_trail),
+          rest_same _ _ _ _ same_trail,
+        )
   ]
 ]
 
 no_units : (c : ℕ) (x : List ℕ) → encode_utf16 c ++ x ≡ [] → ⊥
-no_units c x e = elim (cases_lt c 0x1_0000) [
-  | inl l ↦ no_first _ _ (sym (ap (λ z. z ++ x) (one_unit c l)) ∙ e)
-  | inr l ↦ no_first _ _ (sym (ap (λ z. z ++ x) (two_units c l)) ∙ e)
+no_units c x is_empty = elim (cases_lt c 0x1_0000) [
+  | inl l ↦ no_first _ _ (sym (ap (λ z. z ++ x) (one_unit c l)) ∙ is_empty)
+  | inr l ↦ no_first _ _ (sym (ap (λ z. z ++ x) (two_units c l)) ∙ is_empty)
 ]
 
 pub utf_16_determines : DetermineTexts encode_utf16
@@ -76,35 +82,40 @@ utf_16_determines [] [] s r e = refl
 utf_16_determines [] (d ∷ u) s r e = absurd (no_units d _ (sym e))
 utf_16_determines (c ∷ t) [] s r e = absurd (no_units c _ e)
 utf_16_determines (c ∷ t) (d ∷ u) s r e =
-    let p = and_parts _ _ s in
-    let q = and_parts _ _ r in
-    let f = one_same c d (units_of_text encode_utf16 t) (units_of_text encode_utf16 u) p.0 q.0 e in
-    ap (λ x. x ∷ t) f.0 ∙ ap (λ z. d ∷ z) (utf_16_determines t u p.1 q.1 f.1)
+    let scalar_parts = and_parts _ _ s in
+    let other_parts = and_parts _ _ r in
+    let same_first = one_same c d (units_of_text encode_utf16 t) (units_of_text encode_utf16 u) scalar_parts.0
+    other_parts.0 e in
+    ap (λ x. x ∷ t) same_first.0 ∙ ap (λ z. d ∷ z) (utf_16_determines t u scalar_parts.1 other_parts.1 same_first.1)
 
 -- read back, they are the text
 
 alone : (c : ℕ) → c < 0x1_0000 → IsScalar c → lone_unit_char c ≡ Some c
 alone c l s = elim (scalar_range c s) [
   | inl h ↦ rw (lt-leb 0xD800 c h) refl
-  | inr h ↦ rw (le-leb 0xD800 c (omega (arith, h.0)), le-ltb c 0xE000 h.0) refl
+  | inr is_above ↦ rw (le-leb 0xD800 c (omega (arith, is_above.0)), le-ltb c 0xE000 is_above.0) refl
 ]
 
 lossy-cons : (o : Option ℕ) (os : List (Option ℕ)) → map (λ p. unwrap_or p 0xFFFD) (o ∷ os) ≡ unwrap_or o 0xFFFD ∷ map (λ p. unwrap_or p 0xFFFD) os
 lossy-cons o os = refl
 
 one_back : (c : ℕ) (us : List ℕ) → IsScalar c → utf16_lossy_chars (encode_utf16 c ++ us) ≡ c ∷ utf16_lossy_chars us
-one_back c us s = elim (cases_lt c 0x1_0000) [
-  | inl l ↦
-      ap (λ z. utf16_lossy_chars (z ++ us)) (one_unit c l)
-      ∙ ap (map (λ o. unwrap_or o 0xFFFD)) (utf16_chars_lone c us (λ p. elim (scalar_range c s) [ inl h ↦ omega (arith, p.0) | inr h ↦ omega (arith, h.0, p.1) ]))
-      ∙ ap (λ (o : Option ℕ). unwrap_or o 0xFFFD ∷ utf16_lossy_chars us) (alone c l s)
-  | inr l ↦
-      let m : c < 0x11_0000 = elim (scalar_range c s) [ inl h ↦ omega arith | inr h ↦ omega (arith, h.1) ] in
+one_back c us scalar = elim (cases_lt c 0x1_0000) [
+  | inl one_unit_c ↦
+      ap (λ z. utf16_lossy_chars (z ++ us)) (one_unit c one_unit_c)
+      ∙ ap (map (λ o. unwrap_or o 0xFFFD))
+      (utf16_chars_lone c us (λ no_surrogates. elim (scalar_range c scalar) [
+        | inl h ↦ omega (arith, no_surrogates.0)
+        | inr h ↦ omega (arith, h.0, no_surrogates.1)
+      ]))
+      ∙ ap (λ (o : Option ℕ). unwrap_or o 0xFFFD ∷ utf16_lossy_chars us) (alone c one_unit_c scalar)
+  | inr two_units_c ↦
+      let m : c < 0x11_0000 = elim (scalar_range c scalar) [ inl h ↦ omega arith | inr h ↦ omega (arith, h.1) ] in
       let u = 0xD800 + (c - 0x1_0000) / 0x400 in
       let v = 0xDC00 + (c - 0x1_0000) % 0x400 in
-      ap (λ z. utf16_lossy_chars (z ++ us)) (two_units c l)
+      ap (λ z. utf16_lossy_chars (z ++ us)) (two_units c two_units_c)
       ∙ ap (map (λ o. unwrap_or o 0xFFFD)) (utf16_chars_pair u v us (omega arith, omega arith, omega arith, omega arith))
-      ∙ ap (λ x. x ∷ utf16_lossy_chars us) (back c l)
+      ∙ ap (λ x. x ∷ utf16_lossy_chars us) (back c two_units_c)
 ]
   where
     back : (c : ℕ) → 0x1_0000 ≤ c → surrogate_pair_char (0xD800 + (c - 0x1_0000) / 0x400) (0xDC00 + (c - 0x1_0000) % 0x400) ≡ c
@@ -113,5 +124,5 @@ one_back c us s = elim (cases_lt c 0x1_0000) [
 pub utf_16_read_back : (t : List ℕ) → AreScalars t → utf16_lossy_chars (units_of_text encode_utf16 t) ≡ t
 utf_16_read_back [] s = ap (map (λ o. unwrap_or o 0xFFFD)) utf16_chars-nil
 utf_16_read_back (c ∷ t) s =
-    let p = and_parts _ _ s in
-    one_back c (units_of_text encode_utf16 t) p.0 ∙ ap (λ z. c ∷ z) (utf_16_read_back t p.1)
+    let scalar_parts = and_parts _ _ s in
+    one_back c (units_of_text encode_utf16 t) scalar_parts.0 ∙ ap (λ z. c ∷ z) (utf_16_read_back t scalar_parts.1)

@@ -19,19 +19,21 @@ low_unit : (u : ℕ) → u < 0x80 → lossy_unit_char u ≡ u
 low_unit u h = let low : (nat_le 0xD800 u && nat_lt u 0xE000) ≡ false = grind (arith, nat_tests) in rw low refl
 
 lossy_ascii : (us rest : List ℕ) → AreAscii us → utf16_lossy_chars (us ++ rest) ≡ us ++ utf16_lossy_chars rest
-lossy_ascii [] rest a = refl
-lossy_ascii (u ∷ us) rest a =
-    let h = a 0 0 (omega arith) in
-    lossy_lone u (us ++ rest) (λ p. omega (arith, p.0, h)) ∙ ap (λ x. x ∷ utf16_lossy_chars (us ++ rest)) (low_unit u h)
-    ∙ ap (λ x. u ∷ x) (lossy_ascii us rest (λ k d l. a (suc k) d (omega arith)))
+lossy_ascii [] rest are_ascii = refl
+lossy_ascii (u ∷ us) rest are_ascii =
+    let is_ascii = are_ascii 0 0 (omega arith) in
+    lossy_lone u (us ++ rest) (λ p. omega (arith, p.0, is_ascii))
+    ∙ ap (λ x. x ∷ utf16_lossy_chars (us ++ rest)) (low_unit u is_ascii)
+    ∙ ap (λ x. u ∷ x) (lossy_ascii us rest (λ k d l. are_ascii (suc k) d (omega arith)))
 
 -- units below 0x80 are their own lower bytes
 low_bytes : (us : List ℕ) → AreAscii us → map (λ u. u % 0x80) us ≡ us
-low_bytes [] a = refl
-low_bytes (u ∷ us) a =
-    let h = a 0 0 (omega arith) in
+low_bytes [] are_ascii = refl
+low_bytes (u ∷ us) are_ascii =
+    let h = are_ascii 0 0 (omega arith) in
     let low : u % 0x80 ≡ u = omega arith in
-    ap (λ x. x ∷ map (λ u. u % 0x80) us) low ∙ ap (λ x. u ∷ x) (low_bytes us (λ k d l. a (suc k) d (omega arith)))
+    ap (λ x. x ∷ map (λ u. u % 0x80) us) low
+    ∙ ap (λ x. u ∷ x) (low_bytes us (λ k d l. are_ascii (suc k) d (omega arith)))
 
 take_map : (n : ℕ) (us : List ℕ) → take n (map (λ u. u % 0x80) us) ≡ map (λ u. u % 0x80) (take n us)
 take_map zero us = refl

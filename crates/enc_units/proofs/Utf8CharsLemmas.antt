@@ -1,5 +1,6 @@
 -- The characters of well-formed UTF-8.
-use Rattle.std.proofs.Common.{◌≡◌, ℕ, ◌<◌, ◌≤◌, true, List, [], ◌∷◌, ◌++◌, length, take, refl, ap, ◌∙◌, sym, arith, length-append, length-take}
+use Rattle.std.proofs.Common.{◌≡◌, ℕ, ◌<◌, ◌≤◌, true, List, [], ◌∷◌, ◌++◌, length, take, refl, ap, ◌∙◌, sym, arith}
+use Rattle.std.proofs.Common.{length-append, length-take}
 use Rattle.std.proofs.lemmas.Bool.{and_parts}
 use Rattle.std.proofs.Math.Utf8.{low_scalar}
 use Rattle.std.proofs.lemmas.Str.{length-encode, len_utf8_bounds, encode_ascii}
@@ -27,7 +28,7 @@ their_units (c ∷ cs) = ap (λ x. encode_utf8 c ++ x) (their_units cs)
 
 they_mean : (cs : List ℕ) → all_scalars cs ≡ true → EachMeansChar IsUtf8Char (pieces_of cs)
 they_mean [] e = tt
-they_mean (c ∷ cs) e = let p = and_parts _ _ e in ((p.0, refl), they_mean cs p.1)
+they_mean (c ∷ cs) e = let scalar_parts = and_parts _ _ e in ((scalar_parts.0, refl), they_mean cs scalar_parts.1)
 
 none_of : (cs : List ℕ) → length (encode_utf8_all cs) ≡ 0 → pieces_of cs ≡ []
 none_of [] e = refl
@@ -37,27 +38,27 @@ none_of (c ∷ cs) e = absurd (omega (arith, length-append (encode_utf8 c) (enco
 pub ascii_char : (b : ℕ) → b < 0x80 → IsUtf8Char (b ∷ []) b
 ascii_char b h = (low_scalar b (omega arith), sym (encode_ascii b h))
 
--- they are read
-pub reads_utf8 : (src : List ℕ) (n : ℕ) → n ≤ length src → (u : IsWellFormedUtf8 (take n src))
-    → ReadsPieces IsUtf8Char src n u.0
-reads_utf8 src n l u = record {
-  pieces = pieces_of u.0;
+-- the characters of well-formed bytes are read
+pub reads_utf8 : (src : List ℕ) (n : ℕ) → n ≤ length src → (utf8 : IsWellFormedUtf8 (take n src))
+    → ReadsPieces IsUtf8Char src n utf8.0
+reads_utf8 src n l utf8 = record {
+  pieces = pieces_of utf8.0;
   within = l;
-  bytes = their_bytes u.0 ∙ u.1.1;
-  chars = their_chars u.0;
-  mean = they_mean u.0 u.1.0;
-  none = λ z. none_of u.0 (omega (arith, ap length u.1.1, length-take n src));
+  bytes = their_bytes utf8.0 ∙ utf8.1.1;
+  chars = their_chars utf8.0;
+  mean = they_mean utf8.0 utf8.1.0;
+  none = λ z. none_of utf8.0 (omega (arith, ap length utf8.1.1, length-take n src));
 }
 
--- and put out as their bytes
+-- and well-formed bytes are put out as they are
 pub puts_utf8 : (before after : Output) (src : List ℕ) (n : ℕ) → n ≤ length src → n ≤ before.room → IsWellFormedUtf8 (take n src) → after ≡ with_appended before (take n src)
     → PutsPieces encode_utf8 IsUtf8Char before after src n
-puts_utf8 before after src n l f u e =
-    let units = their_units u.0 ∙ u.1.1 in
+puts_utf8 before after src n l f utf8 e =
+    let units = their_units utf8.0 ∙ utf8.1.1 in
     record {
-      text = u.0;
-      scalars = u.1.0;
-      reads = reads_utf8 src n l u;
+      text = utf8.0;
+      scalars = utf8.1.0;
+      reads = reads_utf8 src n l utf8;
       fits = omega (arith, ap length units, length-take n src);
       written = e ∙ ap (with_appended before) (sym units);
     }

@@ -116,13 +116,13 @@ wrong z y x b =
     || (eqb x (cond (leb 0xA0 b) 0xED 0xE0) || eqb x (cond (leb 0x90 b) 0xF4 0xF0))
 
 neither : (t u : Bool) → (t || u) ≡ false → (t ≡ false) × (u ≡ false)
-neither true u e = absurd (true≢false e)
-neither false u e = (refl, e)
+neither true u none = absurd (true≢false none)
+neither false u none = (refl, none)
 
 alike : (t u : Bool) → differ t u ≡ false → t ≡ u
-alike true true e = refl
-alike true false e = absurd (true≢false e)
-alike false u e = sym e
+alike true true same = refl
+alike true false same = absurd (true≢false same)
+alike false u same = sym same
 
 or_true : (t u : Bool) → u ≡ true → (t || u) ≡ true
 or_true true u e = refl
@@ -132,14 +132,14 @@ module _ (z y x b : ℕ) (e : wrong z y x b ≡ false) where
   parts : (((leb 0xC0 x || leb 0xE0 y) || leb 0xF0 z) ≡ (leb 0x80 b && ltb b 0xC0)) × ((leb 0xC0 b && ltb b 0xC2) ≡ false) × (leb 0xF5 b ≡ false)
       × (eqb x (cond (leb 0xA0 b) 0xED 0xE0) ≡ false) × (eqb x (cond (leb 0x90 b) 0xF4 0xF0) ≡ false)
   parts =
-      let l = neither _ _ e in
-      let m = neither _ _ l.0 in
-      let n = neither _ _ m.1 in
-      let o = neither _ _ l.1 in
-      (alike _ _ m.0, n.0, n.1, o.0, o.1)
+      let not_fourth = neither _ _ e in
+      let not_third = neither _ _ not_fourth.0 in
+      let not_second = neither _ _ not_third.1 in
+      let not_first = neither _ _ not_fourth.1 in
+      (alike _ _ not_third.0, not_second.0, not_second.1, not_first.0, not_first.1)
 
   continues : (leb 0x80 b && ltb b 0xC0) ≡ true → (0x80 ≤ b) × (b < 0xC0)
-  continues h = let p = and_parts _ _ h in (leb-true _ _ p.0, ltb-true _ _ p.1)
+  continues h = let tests = and_parts _ _ h in (leb-true _ _ tests.0, ltb-true _ _ tests.1)
 
   follows : CanFollowBytes z y x b
   follows = record {

@@ -21,11 +21,12 @@ record Front (bs : List ℕ) : Type 0 where
   scalar : IsScalar c
 
 front : (bs : List ℕ) → IsUtf8 bs → 0 < length bs → Front bs
-front bs u h = by u.0 u.1.0 u.1.1
+front bs utf8 h = by utf8.0 utf8.1.0 utf8.1.1
   where
     by : (cs : List ℕ) → all_scalars cs ≡ true → encode_utf8_all cs ≡ bs → Front bs
-    by [] s e = absurd (omega (arith, ap length e))
-    by (c ∷ cs) s e = record { c = c; rest = encode_utf8_all cs; is = sym e; scalar = (and_parts _ _ s).0 }
+    by [] s bytes_are = absurd (omega (arith, ap length bytes_are))
+    by (c ∷ cs) s bytes_are =
+        record { c = c; rest = encode_utf8_all cs; is = sym bytes_are; scalar = (and_parts _ _ s).0 }
 
 at_front : (bs : List ℕ) (c : ℕ) (rest code : List ℕ) → bs ≡ encode_utf8 c ++ rest → encode_utf8 c ≡ code
     → (i d : ℕ) → get_or bs i d ≡ get_or (code ++ rest) i d
@@ -39,19 +40,19 @@ pub record IsFirst (bs : List ℕ) (c n : ℕ) : Type 0 where
 
 first_is : (bs : List ℕ) (c : ℕ) (rest code : List ℕ) → IsUtf8 bs → bs ≡ encode_utf8 c ++ rest
     → encode_utf8 c ≡ code → IsFirstUtf8Char bs c (length code)
-first_is bs c rest code u e f =
-    let is : bs ≡ code ++ rest = e ∙ ap (λ x. x ++ rest) f in
+first_is bs c rest code utf8 is_front f =
+    let is : bs ≡ code ++ rest = is_front ∙ ap (λ x. x ++ rest) f in
     let after : drop (length code) bs ≡ rest = ap (drop (length code)) is ∙ drop-append_seam code rest in
     record {
       within = omega (arith, ap length is, length-append code rest);
-      utf8 = subst IsUtf8 (sym after) (IsUtf8-past_char bs rest c u e);
-      chars = chars_past_char bs rest c u e ∙ ap (λ x. c ∷ chars x) (sym after);
+      utf8 = subst IsUtf8 (sym after) (IsUtf8-past_char bs rest c utf8 is_front);
+      chars = chars_past_char bs rest c utf8 is_front ∙ ap (λ x. c ∷ chars x) (sym after);
     }
 
 below_most : (c : ℕ) → IsScalar c → c < 0x11_0000
 below_most c h = grind (arith, nat_tests)
 
-module _ (bs : List ℕ) (u : IsUtf8 bs) where
+module _ (bs : List ℕ) (utf8 : IsUtf8 bs) where
   abbrev b : ℕ → ℕ
   b i = get_or bs i 0
 
@@ -66,51 +67,57 @@ module _ (bs : List ℕ) (u : IsUtf8 bs) where
 
   split : 0 < length bs → 0x80 ≤ b 0 → Split
   split h low =
-      let f = front bs u h in
-      elim (cases_lt f.c 0x80) [
-        | inl one ↦ let e = at_front bs f.c f.rest (f.c ∷ []) f.is (encode_ascii f.c one) 0 0 in absurd (omega
+      let begins = front bs utf8 h in
+      elim (cases_lt begins.c 0x80) [
+        | inl one ↦ let e = at_front bs begins.c begins.rest (begins.c ∷ []) begins.is (encode_ascii begins.c one) 0
+            0 in absurd (omega
             (arith, e))
-        | inr more ↦ elim (cases_lt f.c 0x800) [
+        | inr more ↦ elim (cases_lt begins.c 0x800) [
           | inl below ↦
-              let code = utf8_two f.c more below in
-              let e = at_front bs f.c f.rest _ f.is code 0 0 in
-              let g = at_front bs f.c f.rest _ f.is code 1 0 in
+              let code = utf8_two begins.c more below in
+              let first = at_front bs begins.c begins.rest _ begins.is code 0 0 in
+              let g = at_front bs begins.c begins.rest _ begins.is code 1 0 in
               record {
-                two = λ x. equal f.c _ 2 f.scalar more (first_is bs f.c f.rest _ u f.is code) (omega (arith, e, g));
-                three = λ x y. absurd (omega (arith, e));
-                four = λ x. absurd (omega (arith, e));
+                two = λ x. equal begins.c _ 2 begins.scalar more
+                    (first_is bs begins.c begins.rest _ utf8 begins.is code) (omega (arith, first, g));
+                three = λ x y. absurd (omega (arith, first));
+                four = λ x. absurd (omega (arith, first));
               }
-          | inr above ↦ elim (cases_lt f.c 0x10000) [
+          | inr above ↦ elim (cases_lt begins.c 0x10000) [
             | inl below ↦
-                let code = utf8_three f.c above below in
-                let e = at_front bs f.c f.rest _ f.is code 0 0 in
-                let g = at_front bs f.c f.rest _ f.is code 1 0 in
-                let k = at_front bs f.c f.rest _ f.is code 2 0 in
+                let code = utf8_three begins.c above below in
+                let first = at_front bs begins.c begins.rest _ begins.is code 0 0 in
+                let g = at_front bs begins.c begins.rest _ begins.is code 1 0 in
+                let k = at_front bs begins.c begins.rest _ begins.is code 2 0 in
                 record {
-                  two = λ x. absurd (omega (arith, e));
-                  three = λ x y. equal f.c _ 3 f.scalar more (first_is bs f.c f.rest _ u f.is code) (omega
-                      (arith, e, g, k));
-                  four = λ x. absurd (omega (arith, e));
+                  two = λ x. absurd (omega (arith, first));
+                  three =
+                      λ x y. equal begins.c _ 3 begins.scalar more
+                      (first_is bs begins.c begins.rest _ utf8 begins.is code) (omega
+                      (arith, first, g, k));
+                  four = λ x. absurd (omega (arith, first));
                 }
             | inr far ↦
-                let code = utf8_four f.c far in
-                let e = at_front bs f.c f.rest _ f.is code 0 0 in
-                let g = at_front bs f.c f.rest _ f.is code 1 0 in
-                let k = at_front bs f.c f.rest _ f.is code 2 0 in
-                let m = at_front bs f.c f.rest _ f.is code 3 0 in
-                let most = below_most f.c f.scalar in
+                let code = utf8_four begins.c far in
+                let first = at_front bs begins.c begins.rest _ begins.is code 0 0 in
+                let g = at_front bs begins.c begins.rest _ begins.is code 1 0 in
+                let k = at_front bs begins.c begins.rest _ begins.is code 2 0 in
+                let m = at_front bs begins.c begins.rest _ begins.is code 3 0 in
+                let most = below_most begins.c begins.scalar in
                 record {
-                  two = λ x. absurd (omega (arith, e));
-                  three = λ x y. absurd (omega (arith, e));
-                  four = λ x. equal f.c _ 4 f.scalar more (first_is bs f.c f.rest _ u f.is code) (omega
-                      (arith, e, g, k, m));
+                  two = λ x. absurd (omega (arith, first));
+                  three = λ x y. absurd (omega (arith, first));
+                  four =
+                      λ x. equal begins.c _ 4 begins.scalar more
+                      (first_is bs begins.c begins.rest _ utf8 begins.is code) (omega
+                      (arith, first, g, k, m));
                 }
           ]
         ]
       ]
 
 -- at a place of a slice
-module _ (src : List ℕ) (at : ℕ) (u : IsUtf8 (drop at src)) (h : at + 4 ≤ length src)
+module _ (src : List ℕ) (at : ℕ) (utf8 : IsUtf8 (drop at src)) (h : at + 4 ≤ length src)
     (low : 0x80 ≤ get_or src at 0) where
   abbrev d : List ℕ
   d = drop at src
@@ -118,8 +125,8 @@ module _ (src : List ℕ) (at : ℕ) (u : IsUtf8 (drop at src)) (h : at + 4 ≤ 
   at_first : get_or d 0 0 ≡ get_or src at 0
   at_first = get_or-drop at src 0 0 ∙ ap (λ k. get_or src k 0) (omega arith)
 
-  all : Split d u
-  all = split d u (omega (arith, length-drop at src)) (omega (arith, at_first))
+  all : Split d utf8
+  all = split d utf8 (omega (arith, length-drop at src)) (omega (arith, at_first))
 
   pub two_at : get_or src at 0 < 0xE0 → IsFirst d (get_or src at 0 % 32 * 64 + get_or src (at + 1) 0 % 64) 2
   two_at l =
@@ -154,19 +161,20 @@ module _ (src : List ℕ) (at : ℕ) (u : IsUtf8 (drop at src)) (h : at + 4 ≤ 
 
 ascii_first : (Means : List ℕ → ℕ → Type 0) (bs rest : List ℕ) → AreWrittenAsThemselves Means bs
     → IsUtf8 (bs ++ rest) → IsUtf8 rest × (chars (bs ++ rest) ≡ bs ++ chars rest)
-ascii_first Means [] rest a u = (u, refl)
-ascii_first Means (b ∷ bs) rest a u =
-    let e : b ∷ (bs ++ rest) ≡ encode_utf8 b ++ (bs ++ rest) = ap (λ x. x ++ (bs ++ rest)) (sym (encode_ascii b
-    (a 0 0 (omega arith)).0)) in
-    let later = ascii_first Means bs rest (λ k d l. a (suc k) d (omega arith)) (IsUtf8-past_char (b ∷ (bs ++ rest))
-    (bs ++ rest) b u e) in
-    (later.0, chars_past_char (b ∷ (bs ++ rest)) (bs ++ rest) b u e ∙ ap (λ x. b ∷ x) later.1)
+ascii_first Means [] rest written_alike utf8 = (utf8, refl)
+ascii_first Means (b ∷ bs) rest written_alike utf8 =
+    let is_front : b ∷ (bs ++ rest) ≡ encode_utf8 b ++ (bs ++ rest) = ap (λ x. x ++ (bs ++ rest)) (sym (encode_ascii b
+    (written_alike 0 0 (omega arith)).0)) in
+    let later = ascii_first Means bs rest (λ k d l. written_alike (suc k) d (omega arith))
+    (IsUtf8-past_char (b ∷ (bs ++ rest))
+    (bs ++ rest) b utf8 is_front) in
+    (later.0, chars_past_char (b ∷ (bs ++ rest)) (bs ++ rest) b utf8 is_front ∙ ap (λ x. b ∷ x) later.1)
 
 ascii_in_front : (Means : List ℕ → ℕ → Type 0) (n : ℕ) (bs : List ℕ) → IsUtf8 bs
     → AreWrittenAsThemselves Means (take n bs) → IsUtf8 (drop n bs) × (chars bs ≡ take n bs ++ chars (drop n bs))
 ascii_in_front Means n bs u a =
-    let r = ascii_first Means (take n bs) (drop n bs) a (subst IsUtf8 (sym (take-append-drop n bs)) u) in
-    (r.0, ap chars (sym (take-append-drop n bs)) ∙ r.1)
+    let begins = ascii_first Means (take n bs) (drop n bs) a (subst IsUtf8 (sym (take-append-drop n bs)) u) in
+    (begins.0, ap chars (sym (take-append-drop n bs)) ∙ begins.1)
 
 -- the ASCII in front of sixteen lanes
 pub ascii_lanes : (Means : List ℕ → ℕ → Type 0) (n : ℕ) (bs lanes : List ℕ) → IsUtf8 bs → 16 ≤ length bs → n ≤ 16
@@ -174,11 +182,11 @@ pub ascii_lanes : (Means : List ℕ → ℕ → Type 0) (n : ℕ) (bs lanes : Li
     → HasFront chars IsUtf8 bs (take n lanes)
 ascii_lanes Means n bs lanes u h few e a =
     let same : take n lanes ≡ take n bs = ap (take n) e ∙ take-take n 16 bs few in
-    let f = ascii_in_front Means n bs u (subst (AreWrittenAsThemselves Means) same a) in
+    let in_front = ascii_in_front Means n bs u (subst (AreWrittenAsThemselves Means) same a) in
     let long : length (take n lanes) ≡ n = omega (arith, ap length same, length-take n bs) in
     record {
       within = omega (arith, long);
-      ok = subst (λ k. IsUtf8 (drop k bs)) (sym long) f.0;
-      chars = f.1 ∙ ap (λ z. z ++ chars (drop n bs)) (sym same)
+      ok = subst (λ k. IsUtf8 (drop k bs)) (sym long) in_front.0;
+      chars = in_front.1 ∙ ap (λ z. z ++ chars (drop n bs)) (sym same)
           ∙ ap (λ k. take n lanes ++ chars (drop k bs)) (sym long);
     }

@@ -1,5 +1,6 @@
 -- Bytes that follow one another as in well-formed UTF-8 are well-formed.
-use Rattle.std.proofs.Common.{◌≡◌, ℕ, zero, suc, ◌+◌, ◌-◌, ◌<◌, ◌≤◌, ◌⊎◌, List, [], ◌∷◌, length, get_or, take, drop, sym, ap, subst, arith, ◌∙◌, inl, inr, take-add, drop-drop, length-take, length-drop}
+use Rattle.std.proofs.Common.{◌≡◌, ℕ, zero, suc, ◌+◌, ◌-◌, ◌<◌, ◌≤◌, ◌⊎◌, List, [], ◌∷◌, length, get_or, take, drop}
+use Rattle.std.proofs.Common.{sym, ap, subst, arith, ◌∙◌, inl, inr, take-add, drop-drop, length-take, length-drop}
 use Rattle.std.proofs.lemmas.Bool.{cases_lt, cases_eq}
 use Rattle.std.proofs.lemmas.List.{take_all}
 use Rattle.std.proofs.lemmas.Simd.{get_or-chunk}
@@ -11,7 +12,7 @@ use Rattle.enc_units.specs.Utf8Run.{CanFollowBytes, CanFollowBytesAt, IsCharBoun
 abbrev AreBetween : ℕ → ℕ → ℕ → Type 0
 AreBetween z y x = (z < 0xF0) × (y < 0xE0) × (x < 0xC0)
 
--- each of the bytes may stand behind the three before it, and at the end nothing is wanted
+-- each of the bytes can follow the three before it, and the last character is complete
 abbrev AllFollow : ℕ → ℕ → ℕ → List ℕ → Type 0
 AllFollow z y x [] = AreBetween z y x
 AllFollow z y x (b ∷ bs) = CanFollowBytes z y x b × AllFollow y x b bs
@@ -29,12 +30,15 @@ two a b h f = of_two (a ∷ b ∷ []) 0 (omega arith) h f
 
 pub three : (a b c : ℕ) → (0xE0 ≤ a) × (a < 0xF0) → (0x80 ≤ b) × (b < 0xC0) → (a ≡ 0xE0 → 0xA0 ≤ b) → (a ≡ 0xED → b < 0xA0) → (0x80 ≤ c) × (c < 0xC0)
     → IsWellFormedUtf8 (a ∷ b ∷ c ∷ [])
-three a b c h f e d g =
+three a b c h f e below_surrogates g =
     let least = unless a 0xE0 e in
-    let most = unless a 0xED d in
+    let most = unless a 0xED below_surrogates in
     of_three (a ∷ b ∷ c ∷ []) 0 (omega arith) h f g (omega arith) (elim (cases_lt a 0xED) [
       | inl s ↦ inl (omega arith)
-      | inr s ↦ elim (cases_lt 0xED a) [ inl t ↦ inr (omega arith) | inr t ↦ inl (omega (arith, d (omega arith))) ]
+      | inr s ↦ elim (cases_lt 0xED a) [
+        | inl t ↦ inr (omega arith)
+        | inr t ↦ inl (omega (arith, below_surrogates (omega arith)))
+      ]
     ])
 
 pub four : (a b c d : ℕ) → (0xF0 ≤ a) × (a ≤ 0xF4) → (0x80 ≤ b) × (b < 0xC0) → (a ≡ 0xF0 → 0x90 ≤ b) → (a ≡ 0xF4 → b < 0x90) → (0x80 ≤ c) × (c < 0xC0)
@@ -44,40 +48,47 @@ four a b c d h f e g j k =
     let most = unless a 0xF4 g in
     of_four (a ∷ b ∷ c ∷ d ∷ []) 0 (omega arith) h.0 f j k (omega arith)
 
--- and of several
+-- the bytes of several characters
 
 module _ (n : ℕ) (rest : (z y x : ℕ) (bs : List ℕ) → length bs ≤ n → AreBetween z y x → AllFollow z y x bs → IsWellFormedUtf8 bs) where
   fourth : (y z a b c : ℕ) (bs : List ℕ) → length bs ≤ n → (0xF0 ≤ a) × (a ≤ 0xF4) → (0x80 ≤ b) × (b < 0xC0) → CanFollowBytes y z a b → (0x80 ≤ c) × (c < 0xC0)
       → AllFollow a b c bs → IsWellFormedUtf8 (a ∷ b ∷ c ∷ bs)
-  fourth y z a b c [] l h f s e v = absurd (omega arith)
-  fourth y z a b c (d ∷ bs) l h f s e v =
-      IsUtf8-append (a ∷ b ∷ c ∷ d ∷ []) bs (four a b c d h f s.behind_0xf0 s.behind_0xf4 e (v.0.behind_third h.0)) (rest b c d bs (omega arith) (omega (arith, v.0.behind_third h.0)) v.1)
+  fourth y z a b c [] l leads_four f second_follows e rest_follow = absurd (omega arith)
+  fourth y z a b c (d ∷ bs) l leads_four f second_follows e rest_follow =
+      IsUtf8-append (a ∷ b ∷ c ∷ d ∷ []) bs
+      (four a b c d leads_four f second_follows.behind_0xf0 second_follows.behind_0xf4 e
+      (rest_follow.0.behind_third leads_four.0))
+      (rest b c d bs (omega arith) (omega (arith, rest_follow.0.behind_third leads_four.0)) rest_follow.1)
 
   third : (y z a b : ℕ) (bs : List ℕ) → length bs ≤ n → (0xE0 ≤ a) × (a ≤ 0xF4) → (0x80 ≤ b) × (b < 0xC0) → CanFollowBytes y z a b → AllFollow z a b bs
       → IsWellFormedUtf8 (a ∷ b ∷ bs)
-  third y z a b [] l h f s v = absurd (omega arith)
-  third y z a b (c ∷ bs) l h f s v =
-      let e = v.0.behind_second h.0 in
+  third y z a b [] l leads_three continues second_follows rest_follow = absurd (omega arith)
+  third y z a b (c ∷ bs) l leads_three continues second_follows rest_follow =
+      let continues_too = rest_follow.0.behind_second leads_three.0 in
       elim (cases_lt a 0xF0) [
-        | inl u ↦ IsUtf8-append (a ∷ b ∷ c ∷ []) bs (three a b c (h.0, u) f s.behind_0xe0 s.behind_0xed e) (rest a b c bs (omega arith) (omega arith) v.1)
-        | inr u ↦ fourth y z a b c bs (omega arith) (u, h.1) f s e v.1
+        | inl u ↦ IsUtf8-append (a ∷ b ∷ c ∷ []) bs
+            (three a b c (leads_three.0, u) continues second_follows.behind_0xe0 second_follows.behind_0xed
+            continues_too) (rest a b c bs (omega arith) (omega arith) rest_follow.1)
+        | inr u ↦ fourth y z a b c bs (omega arith) (u, leads_three.1) continues second_follows continues_too
+            rest_follow.1
       ]
 
   second : (y z a : ℕ) (bs : List ℕ) → length bs ≤ n → z < 0xC0 → (0xC2 ≤ a) × (a ≤ 0xF4) → AllFollow y z a bs → IsWellFormedUtf8 (a ∷ bs)
-  second y z a [] l k h v = absurd (omega arith)
-  second y z a (b ∷ bs) l k h v =
-      let f = v.0.behind_first (omega arith) in
+  second y z a [] l k leads rest_follow = absurd (omega arith)
+  second y z a (b ∷ bs) l k leads rest_follow =
+      let continues = rest_follow.0.behind_first (omega arith) in
       elim (cases_lt a 0xE0) [
-        | inl u ↦ IsUtf8-append (a ∷ b ∷ []) bs (two a b (h.0, u) f) (rest z a b bs (omega arith) (omega arith) v.1)
-        | inr u ↦ third y z a b bs (omega arith) (u, h.1) f v.0 v.1
+        | inl u ↦ IsUtf8-append (a ∷ b ∷ []) bs (two a b (leads.0, u) continues)
+            (rest z a b bs (omega arith) (omega arith) rest_follow.1)
+        | inr u ↦ third y z a b bs (omega arith) (u, leads.1) continues rest_follow.0 rest_follow.1
       ]
 
   first : (z y x : ℕ) (bs : List ℕ) → length bs ≤ suc n → AreBetween z y x → AllFollow z y x bs → IsWellFormedUtf8 bs
-  first z y x [] l h v = IsUtf8-nil
-  first z y x (a ∷ bs) l h v =
-      elim (v.0.begins h.2 h.1 h.0) [
-        | inl u ↦ IsUtf8-append (a ∷ []) bs (one a u) (rest y x a bs (omega arith) (omega arith) v.1)
-        | inr u ↦ second y x a bs (omega arith) h.2 u v.1
+  first z y x [] l is_between rest_follow = IsUtf8-nil
+  first z y x (a ∷ bs) l is_between rest_follow =
+      elim (rest_follow.0.begins is_between.2 is_between.1 is_between.0) [
+        | inl u ↦ IsUtf8-append (a ∷ []) bs (one a u) (rest y x a bs (omega arith) (omega arith) rest_follow.1)
+        | inr u ↦ second y x a bs (omega arith) is_between.2 u rest_follow.1
       ]
 
 all_utf8 : (n z y x : ℕ) (bs : List ℕ) → length bs ≤ n → AreBetween z y x → AllFollow z y x bs → IsWellFormedUtf8 bs
@@ -85,12 +96,13 @@ all_utf8 zero z y x [] l h v = IsUtf8-nil
 all_utf8 zero z y x (b ∷ bs) l h v = absurd (omega arith)
 all_utf8 (suc n) z y x bs l h v = first n (all_utf8 n) z y x bs l h v
 
--- the same told by places
+-- the same by places
 all_follow : (n z y x : ℕ) (bs : List ℕ) → n ≤ length bs → ((k : ℕ) → k < n → CanFollowBytesAt (z ∷ y ∷ x ∷ bs) k) → IsCharBoundaryAfter (z ∷ y ∷ x ∷ bs) n
     → AllFollow z y x (take n bs)
-all_follow zero z y x bs l h e = e
-all_follow (suc n) z y x [] l h e = absurd (omega arith)
-all_follow (suc n) z y x (b ∷ bs) l h e = (h 0 (omega arith), all_follow n y x b bs (omega arith) (λ k u. h (suc k) (omega arith)) e)
+all_follow zero z y x bs l follow ends_char = ends_char
+all_follow (suc n) z y x [] l follow ends_char = absurd (omega arith)
+all_follow (suc n) z y x (b ∷ bs) l follow ends_char =
+    (follow 0 (omega arith), all_follow n y x b bs (omega arith) (λ k u. follow (suc k) (omega arith)) ends_char)
 
 pub blocks_utf8 : (n : ℕ) (src : List ℕ) → n + 3 ≤ length src → IsCharBoundaryAfter src 0 → ((k : ℕ) → k < n → CanFollowBytesAt src k) → IsCharBoundaryAfter src n
     → IsWellFormedUtf8 (take n (drop 3 src))
@@ -128,7 +140,7 @@ four_front (a ∷ b ∷ []) l h f e d g j = absurd (omega arith)
 four_front (a ∷ b ∷ c ∷ []) l h f e d g j = absurd (omega arith)
 four_front (a ∷ b ∷ c ∷ d' ∷ bs) l h f e d g j = four a b c d' h f e d g j
 
--- so many bytes more
+-- n bytes more are well-formed
 
 rest_is : (src : List ℕ) (at : ℕ) → take (length src - at) (drop at src) ≡ drop at src
 rest_is src at = take_all (length src - at) (drop at src) (omega (arith, length-drop at src))
@@ -145,7 +157,7 @@ longer_from src at n h a b =
     let rest = ap (drop 3) (rest_is src (at - 3)) ∙ drop-drop 3 (at - 3) src ∙ ap (λ m. drop m src) place ∙ sym (rest_is src at) in
     longer src at n a (subst (λ r. IsWellFormedUtf8 (take n r)) rest b)
 
--- behind three bytes that want nothing, ASCII follows
+-- after a complete character, ASCII can follow
 module _ (src : List ℕ) (at n : ℕ) (l : at + 3 + n ≤ length src) (b : IsCharBoundaryAfter src at) (a : AreAscii (take n (drop (at + 3) src))) where
   low : (m : ℕ) → at + 3 ≤ m → m < at + 3 + n → get_or src m 0 < 0x80
   low m from to =

@@ -1,5 +1,6 @@
 -- What an output in UTF-8 shows.
-use Rattle.std.proofs.Common.{◌≡◌, ℕ, suc, ◌+◌, ◌-◌, ◌≤◌, List, [], ◌∷◌, ◌++◌, length, take, drop, refl, ap, ◌∙◌, sym, arith, append_assoc, append-nil, length-append, length-take, length-drop}
+use Rattle.std.proofs.Common.{◌≡◌, ℕ, suc, ◌+◌, ◌-◌, ◌≤◌, List, [], ◌∷◌, ◌++◌, length, take, drop, refl, ap, ◌∙◌, sym}
+use Rattle.std.proofs.Common.{arith, append_assoc, append-nil, length-append, length-take, length-drop}
 use Rattle.std.proofs.lemmas.List.{take_all}
 use Rattle.std.proofs.lemmas.Str.{encode_ascii}
 use Rattle.std.proofs.Math.ListN.{drop_of_length-le}
@@ -13,8 +14,10 @@ use Rattle.enc_units.proofs.OutputLemmas.{same_output}
 
 -- ASCII bytes are their own code units
 pub ascii_units : (bs : List ℕ) → AreAscii bs → units_of_text encode_utf8 bs ≡ bs
-ascii_units [] a = refl
-ascii_units (b ∷ bs) a = ap (λ x. x ++ units_of_text encode_utf8 bs) (encode_ascii b (a 0 0 (omega arith))) ∙ ap (λ x. b ∷ x) (ascii_units bs (λ k d h. a (suc k) d (omega arith)))
+ascii_units [] are_ascii = refl
+ascii_units (b ∷ bs) are_ascii =
+    ap (λ x. x ++ units_of_text encode_utf8 bs) (encode_ascii b (are_ascii 0 0 (omega arith)))
+    ∙ ap (λ x. b ∷ x) (ascii_units bs (λ k d h. are_ascii (suc k) d (omega arith)))
 
 pub seam_take : (m : ℕ) (x y : List ℕ) → length x ≡ m → take m (x ++ y) ≡ x
 seam_take m x y e = ap (λ k. take k (x ++ y)) (sym e) ∙ take-append_seam x y
@@ -33,7 +36,7 @@ module _ (len n : ℕ) (dst src new : List ℕ) (borrow : GName) (within : len �
   long : length (take len dst ++ take n src) ≡ len + n
   long = omega (arith, length-append (take len dst) (take n src), length-take len dst, length-take n src)
 
-  -- the slice once bytes are copied behind those written
+  -- the slice once bytes are copied after those written
   pub grown : slice_output (len + n) (put_mid len (length dst - len) dst new) borrow ≡ with_appended (slice_output len dst borrow) (take n src)
   grown = same_output borrow
       (ap (take (len + n)) whole ∙ seam_take (len + n) (take len dst ++ take n src) (drop n (drop len dst)) long)

@@ -75,7 +75,7 @@ Gives src t =
     → units_from src at (length (units_of_text encode_utf8 t)) ≡ units_of_text encode_utf16 t
 
 module _ (src : List ℕ) (c : ℕ) (t : List ℕ) (rest : Gives src t) (at : ℕ) (y : byte_two_before src at < 0xF0)
-    (x : byte_two_before src (suc at) < 0xF0) where
+    (no_fourth : byte_two_before src (suc at) < 0xF0) where
   abbrev bytes : List ℕ
   bytes = units_of_text encode_utf8 t
 
@@ -87,13 +87,13 @@ module _ (src : List ℕ) (c : ℕ) (t : List ℕ) (rest : Gives src t) (at : �
   one_byte h s =
       let first : unit_at src at ≡ c ∷ [] = rw s.0 (low_unit (byte_two_before src at) c _ _ h) in
       ap (λ z. z ++ units_from src (suc at) (length bytes)) first
-      ∙ ap (λ z. c ∷ z) (rest (suc at) x (omega (arith, s.0)) s.1)
+      ∙ ap (λ z. c ∷ z) (rest (suc at) no_fourth (omega (arith, s.0)) s.1)
 
   two_bytes : 0x80 ≤ c → c < 0x800 → Goal ((192 + c / 64) ∷ (128 + c % 64) ∷ []) (c ∷ [])
   two_bytes l h s =
       let first : unit_at src at ≡ c ∷ [] = rw (s.0, s.1.0) (of_two (byte_two_before src at) _ c l h) in
       let second : unit_at src (suc at) ≡ [] =
-      gives_none (byte_two_before src (suc at)) (get_or src (suc at) 0) _ x (omega (arith, s.1.0)) in
+      gives_none (byte_two_before src (suc at)) (get_or src (suc at) 0) _ no_fourth (omega (arith, s.1.0)) in
       ap (λ z. z ++ (unit_at src (suc at) ++ units_from src (suc (suc at)) (length bytes))) first
       ∙ ap (λ z. c ∷ (z ++ units_from src (suc (suc at)) (length bytes))) second
       ∙ ap (λ z. c ∷ z) (rest (suc (suc at)) (omega (arith, s.0)) (omega (arith, s.1.0)) s.1.1)
@@ -102,7 +102,7 @@ module _ (src : List ℕ) (c : ℕ) (t : List ℕ) (rest : Gives src t) (at : �
   three_bytes l h s =
       let first : unit_at src at ≡ c ∷ [] = rw (s.0, s.1.0, s.1.1.0) (of_three (byte_two_before src at) c l h) in
       let second : unit_at src (suc at) ≡ [] =
-      gives_none (byte_two_before src (suc at)) (get_or src (suc at) 0) _ x (omega (arith, s.1.0)) in
+      gives_none (byte_two_before src (suc at)) (get_or src (suc at) 0) _ no_fourth (omega (arith, s.1.0)) in
       let third : unit_at src (suc (suc at)) ≡ [] =
       gives_none (get_or src at 0) (get_or src (suc (suc at)) 0) _ (omega (arith, s.0))
       (omega (arith, s.1.1.0)) in
@@ -115,15 +115,16 @@ module _ (src : List ℕ) (c : ℕ) (t : List ℕ) (rest : Gives src t) (at : �
   four_bytes : 0x1_0000 ≤ c → c < 0x11_0000
       → Goal ((240 + c / 262144) ∷ (128 + c / 4096 % 64) ∷ (128 + c / 64 % 64) ∷ (128 + c % 64) ∷ [])
       ((0xD800 + (c - 0x1_0000) / 0x400) ∷ (0xDC00 + (c - 0x1_0000) % 0x400) ∷ [])
-  four_bytes l h s =
+  four_bytes beyond_basic below_most s =
       let high = 0xD800 + (c - 0x1_0000) / 0x400 in
       let low = 0xDC00 + (c - 0x1_0000) % 0x400 in
       let last = suc (suc (suc at)) in
-      let first : unit_at src at ≡ high ∷ [] = rw (s.0, s.1.0, s.1.1.0) (of_four (byte_two_before src at) c l h) in
+      let first : unit_at src at ≡ high ∷ [] =
+      rw (s.0, s.1.0, s.1.1.0) (of_four (byte_two_before src at) c beyond_basic below_most) in
       let second : unit_at src (suc at) ≡ [] =
-      gives_none (byte_two_before src (suc at)) (get_or src (suc at) 0) _ x (omega (arith, s.1.0)) in
+      gives_none (byte_two_before src (suc at)) (get_or src (suc at) 0) _ no_fourth (omega (arith, s.1.0)) in
       let third : unit_at src (suc (suc at)) ≡ low ∷ [] =
-      rw (s.1.1.0, s.1.1.1.0) (of_second (get_or src at 0) _ c (omega (arith, s.0)) l h) in
+      rw (s.1.1.0, s.1.1.1.0) (of_second (get_or src at 0) _ c (omega (arith, s.0)) beyond_basic below_most) in
       let fourth : unit_at src last ≡ [] =
       gives_none (get_or src (suc at) 0) (get_or src last 0) _ (omega (arith, s.1.0))
       (omega (arith, s.1.1.1.0)) in
@@ -140,33 +141,36 @@ module _ (src : List ℕ) (c : ℕ) (t : List ℕ) (rest : Gives src t) (at : �
 
   one_more : IsScalar c → Goal (encode_utf8 c) (encode_utf16 c)
   one_more i = elim (cases_lt c 0x80) [
-    | inl h ↦ along (encode_ascii c h) (one_unit c (omega arith)) (one_byte h)
-    | inr l ↦ elim (cases_lt c 0x800) [
-      | inl h ↦ along (utf8_two c l h) (one_unit c (omega arith)) (two_bytes l h)
-      | inr m ↦ elim (cases_lt c 0x1_0000) [
-        | inl h ↦ along (utf8_three c m h) (one_unit c h) (three_bytes m h)
-        | inr n ↦ along (utf8_four c n) (two_units c n) (four_bytes n (scalar_below c i))
+    | inl one_byte_char ↦ along (encode_ascii c one_byte_char) (one_unit c (omega arith)) (one_byte one_byte_char)
+    | inr two_or_more ↦ elim (cases_lt c 0x800) [
+      | inl two_byte_char ↦ along (utf8_two c two_or_more two_byte_char) (one_unit c (omega arith))
+          (two_bytes two_or_more two_byte_char)
+      | inr three_or_more ↦ elim (cases_lt c 0x1_0000) [
+        | inl three_byte_char ↦ along (utf8_three c three_or_more three_byte_char) (one_unit c three_byte_char)
+            (three_bytes three_or_more three_byte_char)
+        | inr four_byte_char ↦ along (utf8_four c four_byte_char) (two_units c four_byte_char)
+            (four_bytes four_byte_char (scalar_below c i))
       ]
     ]
   ]
 
 pub units_of_utf8 : (src t : List ℕ) → AreScalars t → Gives src t
 units_of_utf8 src [] a at y x s = refl
-units_of_utf8 src (c ∷ t) a at y x s = let p =
-    and_parts _ _ a in one_more src c t (units_of_utf8 src t p.1) at y x p.0 s
+units_of_utf8 src (c ∷ t) a at y x s = let scalar_parts =
+    and_parts _ _ a in one_more src c t (units_of_utf8 src t scalar_parts.1) at y x scalar_parts.0 s
 
 -- well-formed bytes in front are gathered as their code units
 pub gathers_units : (src : List ℕ) (n : ℕ) (after : List ℕ) → n ≤ length src → IsWellFormedUtf8 (take n src)
     → after ≡ units_from src 0 n
     → GathersChars encode_utf16 IsUtf8Char src n [] after
-gathers_units src n after l u e =
-    let bytes : units_of_text encode_utf8 u.0 ≡ take n src = their_units u.0 ∙ u.1.1 in
-    let long : length (units_of_text encode_utf8 u.0) ≡ n = omega (arith, ap length bytes, length-take n src) in
+gathers_units src n after l utf8 e =
+    let bytes : units_of_text encode_utf8 utf8.0 ≡ take n src = their_units utf8.0 ∙ utf8.1.1 in
+    let long : length (units_of_text encode_utf8 utf8.0) ≡ n = omega (arith, ap length bytes, length-take n src) in
     record {
-      text = u.0;
-      scalars = u.1.0;
-      reads = reads_utf8 src n l u;
+      text = utf8.0;
+      scalars = utf8.1.0;
+      reads = reads_utf8 src n l utf8;
       written = e ∙ sym (ap (units_from src 0) long)
-          ∙ units_of_utf8 src u.0 u.1.0 0 (omega arith) (omega arith)
+          ∙ units_of_utf8 src utf8.0 utf8.1.0 0 (omega arith) (omega arith)
           (subst (Stand src 0) (sym bytes) (stands src 0 n (omega arith)));
     }

@@ -130,7 +130,7 @@ pub narrow_unit : (a b c : ℕ) → a < 0xF0 → b < 0x100 → c < 0x100 → giv
     → narrow a b c ≡ code_unit_of_byte a b c
 narrow_unit a b c h lb lc g = grind (arith, nat_tests)
 
--- and of all
+-- the code units of characters of up to four bytes
 
 abbrev low : ℕ → ℕ → ℕ
 low a b = (bit_and ((pair a b + 0xFF80) % 0x1_0000) 0x3FF + 0xDC00) % 0x1_0000
@@ -187,7 +187,7 @@ all_units_are a b c la lb lc = elim (cases_lt a 0x80) [
 ]
 
 pub lane_bound : (xs : List ℕ) (k : ℕ) → (length xs ≡ 16) × Each1 (Fits w8) xs → k < 16 → get_or xs k 0 < 0x100
-lane_bound xs k f h = (Each1-get_or (Fits w8) xs k 0 (omega (arith, f.0)) f.1).fits
+lane_bound xs k sixteen_bytes h = (Each1-get_or (Fits w8) xs k 0 (omega (arith, sixteen_bytes.0)) sixteen_bytes.1).fits
 
 -- tests of sixteen bytes
 

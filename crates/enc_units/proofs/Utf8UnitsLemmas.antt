@@ -11,7 +11,8 @@ use Rattle.std.proofs.Math.ListN.{set}
 use Rattle.std.proofs.lemmas.Simd.{get_or-chunk, pick_l_left, pick_l-range_with_len}
 use Rattle.std.specs.List.{range_with_len}
 use lib.Lanes.{chunk, pick_l}
-use Rattle.enc_units.specs.Utf8Units.{gives_unit, code_unit_of_byte, byte_two_before, unit_at, units_from, marked_places, marked_code_units}
+use Rattle.enc_units.specs.Utf8Units.{gives_unit, code_unit_of_byte, byte_two_before, unit_at, units_from}
+use Rattle.enc_units.specs.Utf8Units.{marked_places, marked_code_units}
 use borrow.Rule.Slice.PartMut.{put_mid}
 use Rattle.enc_units.proofs.Utf8SliceLemmas.{seam_take, seam_drop}
 
@@ -40,7 +41,7 @@ before_here src at k h l =
 pub first_alone : (z a : ℕ) → z < 0xF0 → gives_unit z a ≡ true → gives_unit 0 a ≡ true
 first_alone z a h g = grind (arith, nat_tests)
 
--- those of bytes one after another
+-- the units of a and b more bytes are those of a bytes and those of b
 
 pub units_split : (src : List ℕ) (at a b : ℕ)
     → units_from src at (a + b) ≡ units_from src at a ++ units_from src (at + a) b
@@ -77,18 +78,20 @@ units_few src at zero = omega arith
 units_few src at (suc n) =
     omega (arith, length-append (unit_at src at) (units_from src (suc at) n), one_few src at, units_few src (suc at) n)
 
--- that of an ASCII byte
+-- the code unit of an ASCII byte
 
 pub low_unit : (z a b c : ℕ) → a < 0x80 → if_one (gives_unit z a) (code_unit_of_byte a b c) ≡ a ∷ []
 low_unit z a b c h = rw (lt-ltb a 0x80 h) refl
 
--- those that the bits of a mask mark
+-- the units at the places that the bits of a mask mark
 
 one_marked : (t : Bool) (bit from u : ℕ) (units : List ℕ) → bit ≡ cond t 1 0 → (t ≡ true → get_or units from 0 ≡ u)
     → map (λ k. get_or units k 0) (if bit == 1 then from ∷ [] else []) ≡ if_one t u
-one_marked true bit from u units e f = ap (λ b. map (λ k. get_or units k 0) (if b == 1 then from ∷ [] else [])) e
+one_marked true bit from u units is_bit f =
+    ap (λ b. map (λ k. get_or units k 0) (if b == 1 then from ∷ [] else [])) is_bit
     ∙ ap (λ x. x ∷ []) (f refl)
-one_marked false bit from u units e f = ap (λ b. map (λ k. get_or units k 0) (if b == 1 then from ∷ [] else [])) e
+one_marked false bit from u units is_bit f =
+    ap (λ b. map (λ k. get_or units k 0) (if b == 1 then from ∷ [] else [])) is_bit
 
 pub marked_from : (src : List ℕ) (n at from marks : ℕ) (units : List ℕ)
     → ((k : ℕ) → k < n
@@ -97,8 +100,8 @@ pub marked_from : (src : List ℕ) (n at from marks : ℕ) (units : List ℕ)
     → get_or units (from + k) 0 ≡ code_unit_of_byte (get_or src (at + k) 0) (get_or src (at + k + 1) 0)
     (get_or src (at + k + 2) 0))
     → map (λ k. get_or units k 0) (marked_places marks from n) ≡ units_from src at n
-marked_from src zero at from marks units b u = refl
-marked_from src (suc n) at from marks units b u =
+marked_from src zero at from marks units mark_bits unit_values = refl
+marked_from src (suc n) at from marks units mark_bits unit_values =
     map-append (λ k. get_or units k 0) (if marks % 2 == 1 then from ∷ [] else [])
     (marked_places (marks / 2) (suc from) n)
     ∙ ap (λ z. z ++ map (λ k. get_or units k 0) (marked_places (marks / 2) (suc from) n))
@@ -110,7 +113,7 @@ marked_from src (suc n) at from marks units b u =
 
     first_bit : marks % 2 ≡ cond (gives_unit (byte_two_before src at) (get_or src at 0)) 1 0
     first_bit = whole ∙ subst (λ i. marks / 1 % 2 ≡ cond (gives_unit (byte_two_before src i) (get_or src i 0)) 1 0) here
-        (b 0 (omega arith))
+        (mark_bits 0 (omega arith))
       where
         whole : marks % 2 ≡ marks / 1 % 2
         whole = omega arith
@@ -123,7 +126,7 @@ marked_from src (suc n) at from marks units b u =
         let second : at + 2 ≡ suc (suc at) = omega arith in
         let start : from ≡ from + 0 = omega arith in
         ap (λ i. get_or units i 0) start
-        ∙ u 0 (omega arith) (ap (λ i. gives_unit (byte_two_before src i) (get_or src i 0)) here ∙ g)
+        ∙ unit_values 0 (omega arith) (ap (λ i. gives_unit (byte_two_before src i) (get_or src i 0)) here ∙ g)
         ∙ rw (here, next, second) refl
 
     on : (k : ℕ) → at + suc k ≡ suc at + k
@@ -135,7 +138,7 @@ marked_from src (suc n) at from marks units b u =
         let more : 1 + k ≡ suc k = omega arith in
         ap (λ x. x % 2) (shr-shr marks 1 k ∙ ap (λ i. marks / 2 ^ i) more)
         ∙ subst (λ i. marks / 2 ^ suc k % 2 ≡ cond (gives_unit (byte_two_before src i) (get_or src i 0)) 1 0) (on k)
-        (b (suc k) (omega arith))
+        (mark_bits (suc k) (omega arith))
 
     rest_units : (k : ℕ) → k < n → gives_unit (byte_two_before src (suc at + k)) (get_or src (suc at + k) 0) ≡ true
         → get_or units (suc from + k) 0
@@ -143,7 +146,7 @@ marked_from src (suc n) at from marks units b u =
     rest_units k h g =
         let unit : suc from + k ≡ from + suc k = omega arith in
         ap (λ i. get_or units i 0) unit
-        ∙ u (suc k) (omega arith) (ap (λ i. gives_unit (byte_two_before src i) (get_or src i 0)) (on k) ∙ g)
+        ∙ unit_values (suc k) (omega arith) (ap (λ i. gives_unit (byte_two_before src i) (get_or src i 0)) (on k) ∙ g)
         ∙ ap (λ i. code_unit_of_byte (get_or src i 0) (get_or src (i + 1) 0) (get_or src (i + 2) 0)) (on k)
 
 -- sixteen lanes are eight and eight
@@ -156,9 +159,9 @@ sixteen_from : (src : List ℕ) (at marks : ℕ) (units lower upper : List ℕ)
     → ((k : ℕ) → k < 8 → get_or lower k 0 ≡ get_or units k 0)
     → ((k : ℕ) → k < 8 → get_or upper k 0 ≡ get_or units (8 + k) 0)
     → marked_code_units marks lower ++ marked_code_units (marks / 0x100) upper ≡ units_from src at 16
-sixteen_from src at marks units lower upper b u l r =
+sixteen_from src at marks units lower upper mark_bits unit_values l r =
     ap (λ z. z ++ marked_code_units (marks / 0x100) upper)
-    (marked_from src 8 at 0 marks lower (λ k h. b k (omega arith)) first)
+    (marked_from src 8 at 0 marks lower (λ k h. mark_bits k (omega arith)) first)
     ∙ ap (λ z. units_from src at 8 ++ z) (marked_from src 8 (at + 8) 0 (marks / 0x100) upper bits second)
     ∙ sym (units_split src at 8 8)
   where
@@ -171,21 +174,21 @@ sixteen_from src at marks units lower upper b u l r =
     first : (k : ℕ) → k < 8 → gives_unit (byte_two_before src (at + k)) (get_or src (at + k) 0) ≡ true
         → get_or lower (0 + k) 0 ≡ code_unit_of_byte (get_or src (at + k) 0) (get_or src (at + k + 1) 0)
         (get_or src (at + k + 2) 0)
-    first k h g = ap (λ i. get_or lower i 0) (none k) ∙ l k h ∙ u k (omega arith) g
+    first k h g = ap (λ i. get_or lower i 0) (none k) ∙ l k h ∙ unit_values k (omega arith) g
 
     bits : (k : ℕ) → k < 8 → marks / 0x100 / 2 ^ k % 2
         ≡ cond (gives_unit (byte_two_before src (at + 8 + k)) (get_or src (at + 8 + k) 0)) 1 0
     bits k h =
         ap (λ x. x % 2) (shr-shr marks 8 k)
         ∙ subst (λ i. marks / 2 ^ (8 + k) % 2 ≡ cond (gives_unit (byte_two_before src i) (get_or src i 0)) 1 0) (on k)
-        (b (8 + k) (omega arith))
+        (mark_bits (8 + k) (omega arith))
 
     second : (k : ℕ) → k < 8 → gives_unit (byte_two_before src (at + 8 + k)) (get_or src (at + 8 + k) 0) ≡ true
         → get_or upper (0 + k) 0 ≡ code_unit_of_byte (get_or src (at + 8 + k) 0) (get_or src (at + 8 + k + 1) 0)
         (get_or src (at + 8 + k + 2) 0)
     second k h g =
         ap (λ i. get_or upper i 0) (none k) ∙ r k h
-        ∙ u (8 + k) (omega arith) (ap (λ i. gives_unit (byte_two_before src i) (get_or src i 0)) (on k) ∙ g)
+        ∙ unit_values (8 + k) (omega arith) (ap (λ i. gives_unit (byte_two_before src i) (get_or src i 0)) (on k) ∙ g)
         ∙ ap (λ i. code_unit_of_byte (get_or src i 0) (get_or src (i + 1) 0) (get_or src (i + 2) 0)) (on k)
 
 -- lanes that are taken out
@@ -233,9 +236,10 @@ module _ (src : List ℕ) (at : ℕ) (after : 2 ≤ at) where
       ≡ cond (gives_unit (get_or (chunk (at - 2) 16 src) k 0) (get_or (chunk at 16 src) k 0)) 1 0)
       → (k : ℕ) → k < 16
       → marks / 2 ^ k % 2 ≡ cond (gives_unit (byte_two_before src (at + k)) (get_or src (at + k) 0)) 1 0
-  bits_here marks b k h =
-      b k h ∙ ap (λ z. cond (gives_unit z (get_or (chunk at 16 src) k 0)) 1 0) (before_here src at k after h)
-      ∙ ap (λ x. cond (gives_unit (byte_two_before src (at + k)) x) 1 0) (get_or-chunk at 16 src k 0 h)
+  bits_here marks b k below_sixteen =
+      b k below_sixteen ∙ ap (λ z. cond (gives_unit z (get_or (chunk at 16 src) k 0)) 1 0)
+      (before_here src at k after below_sixteen)
+      ∙ ap (λ x. cond (gives_unit (byte_two_before src (at + k)) x) 1 0) (get_or-chunk at 16 src k 0 below_sixteen)
 
   pub given_here : (k : ℕ) → k < 16 → gives_unit (byte_two_before src (at + k)) (get_or src (at + k) 0) ≡ true
       → gives_unit (get_or (chunk (at - 2) 16 src) k 0) (get_or src (at + k) 0) ≡ true
@@ -285,7 +289,7 @@ gathered_more src from at n end after old new h e f =
     ∙ ap (λ i. units_from src from (at - from) ++ units_from src i n) (sym place)
     ∙ sym (units_split src from (at - from) n) ∙ ap (units_from src from) count
 
--- and written after those before them
+-- units are written after those before them
 
 module _ (src : List ℕ) (read next written n : ℕ) (dst first ys : List ℕ) (room : written + n ≤ length dst)
     (as_many : length ys ≡ n) (on : read ≤ next)

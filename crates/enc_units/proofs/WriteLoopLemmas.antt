@@ -6,7 +6,7 @@ use lib.Lanes.{put_chunk}
 use Rattle.enc_units.specs.Mappings.{WritesMapped, AreWrittenAsThemselves}
 use Rattle.enc_units.proofs.MappingLemmas.{maps_ascii, maps_both, maps_one, same_length, stored_whole}
 
--- lengths
+-- how long the rests are
 
 pub rest_long : (at : ℕ) (src : List ℕ) → at + 16 ≤ length src → 16 ≤ length (drop at src)
 rest_long at src h = omega (arith, length-drop at src)
@@ -34,60 +34,66 @@ module _ (chars_in : List ℕ → List ℕ) (Ok : List ℕ → Type 0) (Means : 
     pub ok : Ok (drop read src)
     pub writes : WritesMapped Means (chars_in src) (chars_in (drop read src)) first dst from (at - from)
 
-  further : (dst dst' : List ℕ) (read at n k : ℕ) → Written dst read at → read + n ≤ length src
-      → Ok (drop (read + n) src)
+-- what follows when that is so
+module _ {chars_in : List ℕ → List ℕ} {Ok : List ℕ → Type 0} {Means : List ℕ → ℕ → Type 0} {src first dst : List ℕ}
+    {from read at : ℕ} (written : Written chars_in Ok Means src first from dst read at) where
+  abbrev IsWritten : List ℕ → ℕ → ℕ → Type 0
+  IsWritten = Written chars_in Ok Means src first from
+
+  further : (dst' : List ℕ) (n k : ℕ) → read + n ≤ length src → Ok (drop (read + n) src)
       → WritesMapped Means (chars_in (drop read src)) (chars_in (drop (read + n) src)) dst dst' at k
-      → Written dst' (read + n) (at + k)
-  further dst dst' read at n k i l u w =
-      let place : at ≡ from + (at - from) = omega (arith, i.ahead) in
+      → IsWritten dst' (read + n) (at + k)
+  further dst' n k l u writes_more =
+      let place : at ≡ from + (at - from) = omega (arith, written.ahead) in
       let both = maps_both Means (chars_in src) (chars_in (drop read src)) (chars_in (drop
-      (read + n) src)) first dst dst' from (at - from) k i.writes
+      (read + n) src)) first dst dst' from (at - from) k written.writes
       (subst (λ x. WritesMapped Means (chars_in (drop read src)) (chars_in (drop
-      (read + n) src)) dst dst' x k) place w) in
-      let count : (at - from) + k ≡ at + k - from = omega (arith, i.ahead) in
-      let long : length dst' ≡ length dst = same_length Means _ _ dst dst' at k w in
+      (read + n) src)) dst dst' x k) place writes_more) in
+      let count : (at - from) + k ≡ at + k - from = omega (arith, written.ahead) in
+      let long : length dst' ≡ length dst = same_length Means _ _ dst dst' at k writes_more in
       record {
         within = l;
-        ahead = omega (arith, i.ahead);
-        long = long ∙ i.long;
-        room = omega (arith, long, w.fits);
+        ahead = omega (arith, written.ahead);
+        long = long ∙ written.long;
+        room = omega (arith, long, writes_more.fits);
         ok = u;
         writes = subst (λ x. WritesMapped Means (chars_in src) (chars_in (drop
             (read + n) src)) first dst' from x) count both;
       }
 
-  -- with ASCII
-  pub ascii_further : (dst dst' bs : List ℕ) (read at n : ℕ) → Written dst read at → length bs ≡ n
-      → at + n ≤ length dst → HasFront chars_in Ok (drop read src) bs
+  -- the loop goes on with ASCII
+  pub ascii_further : {dst' bs : List ℕ} {n : ℕ} → length bs ≡ n → at + n ≤ length dst
+      → HasFront chars_in Ok (drop read src) bs
       → AreWrittenAsThemselves Means bs → dst' ≡ take at dst ++ (bs ++ drop (at + n) dst)
-      → Written dst' (read + n) (at + n)
-  ascii_further dst dst' bs read at n i e l f a o =
+      → IsWritten dst' (read + n) (at + n)
+  ascii_further {dst' = dst'} {bs = bs} {n = n} as_long l begins a o =
       let d = drop read src in
-      let after : drop (length bs) d ≡ drop (read + n) src = ap (λ k. drop k d) e ∙ drop-drop n read src in
-      further dst dst' read at n n i (omega (arith, i.within, f.within, length-drop read src, e)) (subst Ok after f.ok)
-      (maps_ascii Means (chars_in d) (chars_in (drop (read + n) src)) dst dst' at n bs a (f.chars
-      ∙ ap (λ x. bs ++ chars_in x) after) (sym e) l o)
+      let after : drop (length bs) d ≡ drop (read + n) src = ap (λ k. drop k d) as_long ∙ drop-drop n read src in
+      further dst' n n
+      (omega (arith, written.within, begins.within, length-drop read src, as_long)) (subst Ok after begins.ok)
+      (maps_ascii Means (chars_in d) (chars_in (drop (read + n) src)) dst dst' at n bs a (begins.chars
+      ∙ ap (λ x. bs ++ chars_in x) after) (sym as_long) l o)
 
-  -- with sixteen lanes of it
-  pub whole_further : (dst lanes : List ℕ) (read at n : ℕ) → Written dst read at → length lanes ≡ 16 → n ≡ 16
+  -- with sixteen lanes of ASCII
+  pub whole_further : (lanes : List ℕ) {n : ℕ} → length lanes ≡ 16 → n ≡ 16
       → at + 16 ≤ length dst
       → HasFront chars_in Ok (drop read src) (take n lanes) → AreWrittenAsThemselves Means (take n lanes)
-      → Written (put_chunk at dst lanes) (read + 16) (at + 16)
-  whole_further dst lanes read at n i long e l f a =
+      → IsWritten (put_chunk at dst lanes) (read + 16) (at + 16)
+  whole_further lanes {n = n} long e fits f a =
       let all : take n lanes ≡ lanes = take_all n lanes (omega arith) in
-      ascii_further dst (put_chunk at dst lanes) lanes read at 16 i long l (subst (HasFront chars_in Ok
+      ascii_further long fits (subst (HasFront chars_in Ok
       (drop read src)) all f) (subst (AreWrittenAsThemselves Means) all a)
-      (stored_whole at dst lanes l long ∙ ap (λ z. take at dst ++ (z ++ drop (at + 16) dst)) (take_all 16 lanes
+      (stored_whole at dst lanes fits long ∙ ap (λ z. take at dst ++ (z ++ drop (at + 16) dst)) (take_all 16 lanes
       (omega (arith, long))))
 
-  -- with one character
-  pub one_further : (dst dst' bytes : List ℕ) (read at c n k : ℕ) → Written dst read at
-      → n ≤ length (drop read src) → Ok (drop n (drop read src))
+  -- with the bytes of one character
+  pub one_further : (bytes : List ℕ) (n : ℕ) {dst' : List ℕ} {c k : ℕ} → n ≤ length (drop read src)
+      → Ok (drop n (drop read src))
       → chars_in (drop read src) ≡ c ∷ chars_in (drop n (drop read src)) → Means bytes c → k ≡ length bytes
       → at + k ≤ length dst
-      → dst' ≡ take at dst ++ (bytes ++ drop (at + k) dst) → Written dst' (read + n) (at + k)
-  one_further dst dst' bytes read at c n k i w u f m e l o =
+      → dst' ≡ take at dst ++ (bytes ++ drop (at + k) dst) → IsWritten dst' (read + n) (at + k)
+  one_further bytes n {dst' = dst'} {c = c} {k = k} w u f m e l o =
       let after = drop-drop n read src in
-      further dst dst' read at n k i (omega (arith, i.within, w, length-drop read src)) (subst Ok after u)
+      further dst' n k (omega (arith, written.within, w, length-drop read src)) (subst Ok after u)
       (maps_one Means (chars_in (drop read src)) (chars_in (drop (read + n) src)) dst dst' at k c bytes (f
       ∙ ap (λ x. c ∷ chars_in x) after) m e l o)

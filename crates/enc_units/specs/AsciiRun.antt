@@ -1,9 +1,9 @@
--- Runs of ASCII bytes that are put out.
+-- Runs of ASCII bytes that are written to an output.
 use Rattle.std.specs.Prelude.{◌≡◌, ℕ, ◌+◌, ◌<◌, ◌≤◌, List, length, take, slice_index}
 use Rattle.enc_units.specs.Output.{Output, with_appended, units_of_text}
 use Rattle.enc_units.specs.Validity.{AreAscii}
 
--- The first n bytes are ASCII, fit, and are put out as characters in turn, and so are no more of them.
+-- The first n bytes are ASCII, fit, and are written as characters. The next byte is not ASCII or does not fit.
 pub record PutsAscii (units_of : ℕ → List ℕ) (before after : Output) (src : List ℕ) (n : ℕ) : Type 0 where
   pub within : n ≤ length src
   pub ascii : AreAscii (take n src)

@@ -1,4 +1,4 @@
--- Characters that are gathered as code units.
+-- Characters that are collected in a buffer as code units.
 use Rattle.std.specs.Prelude.{◌≡◌, ℕ, ◌<◌, ◌≤◌, List, [], ◌∷◌, ◌++◌, length, take, get_or}
 use Rattle.std.specs.Char.{IsScalar, encode_utf8}
 use Rattle.enc_units.specs.declared.gather.Encoded.{Encoded}
@@ -13,7 +13,7 @@ pub record GathersChars (units_of : ℕ → List ℕ) (Means : List ℕ → ℕ 
   pub reads : ReadsPieces Means src n text
   pub written : after ≡ before ++ units_of_text units_of text
 
--- A byte has no text, or that of the character which it is by itself.
+-- A byte has no text, or that of a character if it is one by itself.
 pub record IsByteText (Means : List ℕ → ℕ → Type 0) (byte : ℕ) (text : Encoded) : Type 0 where
   pub bound : text.len ≤ 4
   pub char : 0 < text.len → (c : ℕ) × IsScalar c × Means (byte ∷ []) c × (take text.len text.bytes ≡ encode_utf8 c)
@@ -22,7 +22,7 @@ pub record IsByteText (Means : List ℕ → ℕ → Type 0) (byte : ℕ) (text :
 abbrev pub AreByteTexts : (List ℕ → ℕ → Type 0) → List Encoded → Type 0
 AreByteTexts Means texts = (length texts ≡ 256) × ((byte : ℕ) (none : Encoded) → byte < 256 → IsByteText Means byte (get_or texts byte none))
 
--- A byte has the code unit 0, or that of the character which it is by itself.
+-- A byte has the code unit 0, or that of a character if it is one by itself.
 pub record IsByteUnit (Means : List ℕ → ℕ → Type 0) (byte unit : ℕ) : Type 0 where
   pub bound : unit < 0x1_0000
   pub char : 0 < unit → MeansUnit Means (byte ∷ []) unit

@@ -1,4 +1,4 @@
--- The bytes of characters, as they are looked up and written in runs.
+-- The bytes of characters, looked up and written in runs.
 use Rattle.std.specs.Prelude.{◌≡◌, ℕ, ◌+◌, ◌<◌, ◌≤◌, All, List, [], ◌∷◌, ◌++◌, length, take, drop, chars, IsUtf8}
 use Rattle.enc_units.specs.Pieces.{Piece, piece_bytes, piece_chars, EachMeansChar}
 
@@ -6,11 +6,12 @@ use Rattle.enc_units.specs.Pieces.{Piece, piece_bytes, piece_chars, EachMeansCha
 abbrev pub IsWrittenAsItself : (List ℕ → ℕ → Type 0) → ℕ → Type 0
 IsWrittenAsItself Means b = (b < 0x80) × Means (b ∷ []) b
 
+-- each is such a character
 abbrev pub AreWrittenAsThemselves : (List ℕ → ℕ → Type 0) → List ℕ → Type 0
 AreWrittenAsThemselves Means = All (IsWrittenAsItself Means)
 
--- The first characters of an input are read, and their bytes are written in turn into a slice, from `at` on. Bytes
--- before and after them stay.
+-- The first characters of an input are read, and their bytes are written one after another to a slice, from `at` on.
+-- All other bytes of the slice are unchanged.
 pub record WritesMapped (Means : List ℕ → ℕ → Type 0) (src rest before after : List ℕ) (at n : ℕ) : Type 0 where
   pub pieces : List Piece
   pub reads : src ≡ piece_chars pieces ++ rest
@@ -19,7 +20,7 @@ pub record WritesMapped (Means : List ℕ → ℕ → Type 0) (src rest before a
   pub fits : at + n ≤ length before
   pub onto : after ≡ take at before ++ (piece_bytes pieces ++ drop (at + n) before)
 
--- UTF-8 begins with a character of n bytes
+-- UTF-8 begins with the character c, of n bytes
 pub record IsFirstUtf8Char (bytes : List ℕ) (c n : ℕ) : Type 0 where
   pub within : n ≤ length bytes
   pub utf8 : IsUtf8 (drop n bytes)

@@ -1,4 +1,4 @@
--- Characters of one byte or two, and the ends of four of them.
+-- Characters of one byte or two, and the offsets at which four of them end.
 use Rattle.std.specs.Prelude.{◌≡◌, ℕ, zero, suc, ◌/◌, ◌%◌, ◌≤◌, Bool, List, [], ◌∷◌, take, get_or, if◌then◌else◌}
 use Rattle.std.specs.Char.{IsScalar, encode_utf8}
 use Rattle.std.specs.Int.{w32, to_le_bytes}
@@ -8,7 +8,8 @@ use Rattle.enc_units.specs.declared.ends.TheConstants.{ENDS}
 abbrev pub byte_or_pair : Bool → ℕ → ℕ → List ℕ
 byte_or_pair is_pair first second = if is_pair then first ∷ second ∷ [] else first ∷ []
 
--- These bytes are a character whose UTF-8 the word has: its bytes, the first lowest, and their number in the highest.
+-- These bytes are a character. The word has its UTF-8: the bytes, the first lowest, and their number in the highest
+-- byte.
 pub record MeansWord (Means : List ℕ → ℕ → Type 0) (bytes : List ℕ) (word : ℕ) : Type 0 where
   pub char : ℕ
   pub scalar : IsScalar char
@@ -16,16 +17,16 @@ pub record MeansWord (Means : List ℕ → ℕ → Type 0) (bytes : List ℕ) (w
   pub bound : word / 0x100_0000 ≤ 4
   pub utf8 : take (word / 0x100_0000) (to_le_bytes w32 word) ≡ encode_utf8 char
 
--- These bytes are this character, of one code unit in UTF-16.
+-- These bytes are this character, which has one code unit in UTF-16.
 pub record MeansUnit (Means : List ℕ → ℕ → Type 0) (bytes : List ℕ) (unit : ℕ) : Type 0 where
   pub scalar : IsScalar unit
   pub means : Means bytes unit
 
--- where each of four characters ends, by which of eight bytes lead a pair
+-- the offsets at which four characters end, by which of eight bytes are the lead of a pair
 abbrev pub four_ends : ℕ → List ℕ
 four_ends leads = get_or ENDS (leads % 0x100) []
 
--- where the first n characters end: of none at 0
+-- the offset at which the first n characters end
 abbrev pub end_after : List ℕ → ℕ → ℕ
 end_after ends zero = 0
 end_after ends (suc n) = get_or ends n 0

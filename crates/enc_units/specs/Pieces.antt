@@ -1,4 +1,4 @@
--- Characters of an input, by the bytes that each is made of.
+-- Pieces of an input: a character with the bytes that it is made of.
 use Rattle.std.specs.Prelude.{◌≡◌, ℕ, ◌≤◌, List, [], ◌∷◌, ◌++◌, length, take}
 use Rattle.std.specs.Char.{IsScalar, encode_utf8}
 use Rattle.enc_units.specs.Output.{Output, AreScalars, with_appended, units_of_text}
@@ -7,17 +7,17 @@ pub record Piece : Type 0 where
   pub bytes : List ℕ
   pub char : ℕ
 
--- their bytes, joined
+-- the bytes of all pieces, joined
 abbrev pub piece_bytes : List Piece → List ℕ
 piece_bytes [] = []
 piece_bytes (p ∷ ps) = p.bytes ++ piece_bytes ps
 
--- their characters
+-- the characters of all pieces
 abbrev pub piece_chars : List Piece → List ℕ
 piece_chars [] = []
 piece_chars (p ∷ ps) = p.char ∷ piece_chars ps
 
--- the bytes of each mean its character
+-- the bytes of each piece mean its character
 abbrev pub EachMeansChar : (List ℕ → ℕ → Type 0) → List Piece → Type 0
 EachMeansChar Means [] = Unit {0}
 EachMeansChar Means (p ∷ ps) = Means p.bytes p.char × EachMeansChar Means ps
@@ -35,7 +35,7 @@ pub record ReadsPieces (Means : List ℕ → ℕ → Type 0) (src : List ℕ) (n
   pub mean : EachMeansChar Means pieces
   pub none : n ≡ 0 → pieces ≡ []
 
--- The first n bytes are pieces whose characters fit and are put out in turn.
+-- The first n bytes are pieces. Their characters fit and are written.
 pub record PutsPieces (units_of : ℕ → List ℕ) (Means : List ℕ → ℕ → Type 0) (before after : Output) (src : List ℕ) (n : ℕ) : Type 0 where
   pub text : List ℕ
   pub scalars : AreScalars text

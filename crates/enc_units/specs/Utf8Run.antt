@@ -1,11 +1,11 @@
--- Which bytes may follow which in well-formed UTF-8 (Unicode Standard 3.9, table 3-7).
+-- Bytes that may follow one another in well-formed UTF-8 (Unicode Standard 3.9, table 3-7).
 use Rattle.std.specs.Prelude.{◌≡◌, ℕ, suc, ◌<◌, ◌≤◌, ◌⊎◌, List, slice_index}
 
 abbrev IsContinuationByte : ℕ → Type 0
 IsContinuationByte b = (0x80 ≤ b) × (b < 0xC0)
 
--- The byte may stand behind these three: it continues a character just where one of them wants that, begins one that
--- there is, and as a second byte is one that the first allows.
+-- The byte may follow these three: it is a continuation byte exactly if one of them requires it, and otherwise begins a
+-- character. A second byte is in the range that the first allows.
 pub record CanFollowBytes (third second first byte : ℕ) : Type 0 where
   pub behind_first : 0xC0 ≤ first → IsContinuationByte byte
   pub behind_second : 0xE0 ≤ second → IsContinuationByte byte
@@ -16,10 +16,10 @@ pub record CanFollowBytes (third second first byte : ℕ) : Type 0 where
   pub behind_0xf0 : first ≡ 0xF0 → 0x90 ≤ byte
   pub behind_0xf4 : first ≡ 0xF4 → byte < 0x90
 
--- the byte three places on may follow
+-- the fourth byte from k on may follow the three before it
 abbrev pub CanFollowBytesAt : List ℕ → ℕ → Type 0
 CanFollowBytesAt bytes k = CanFollowBytes (slice_index bytes k) (slice_index bytes (suc k)) (slice_index bytes (suc (suc k))) (slice_index bytes (suc (suc (suc k))))
 
--- none of the three bytes from here on wants another behind them
+-- none of the three bytes from k on requires a byte after them
 abbrev pub IsCharBoundaryAfter : List ℕ → ℕ → Type 0
 IsCharBoundaryAfter bytes k = (slice_index bytes k < 0xF0) × (slice_index bytes (suc k) < 0xE0) × (slice_index bytes (suc (suc k)) < 0xC0)

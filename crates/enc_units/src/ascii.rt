@@ -5,7 +5,7 @@ ghost use Rattle.enc_units.specs.Validity.{AreAscii};
 
 use std::simd::prelude::*;
 
-/// Whether all of sixteen bytes are ASCII.
+/// Returns whether all of sixteen bytes are ASCII.
 #[inline(always)]
 pub(crate) fn are_ascii(lanes: u8x16) -> bool
     ensures { IsTrue result → AreAscii lanes }
@@ -13,7 +13,7 @@ pub(crate) fn are_ascii(lanes: u8x16) -> bool
     lanes.simd_ge(u8x16::splat(0x80)).to_bitmask() == 0
 }
 
-/// Whether all of 64 bytes are ASCII.
+/// Returns whether all of 64 bytes are ASCII.
 #[inline(always)]
 pub fn are_all_ascii(lanes: u8x64) -> bool
     ensures { IsTrue result → AreAscii lanes }
@@ -21,7 +21,7 @@ pub fn are_all_ascii(lanes: u8x64) -> bool
     lanes.simd_ge(u8x64::splat(0x80)).to_bitmask() == 0
 }
 
-/// How many of sixteen bytes stand before the first that is this one.
+/// Returns how many of sixteen bytes come before the first that is `byte`.
 #[inline(always)]
 pub fn len_before(lanes: u8x16, byte: u8) -> usize
     ensures bound { result ≤ 16 }
@@ -35,7 +35,7 @@ pub fn len_before(lanes: u8x16, byte: u8) -> usize
     }
 }
 
-/// How many bytes in front are ASCII, in whole steps of 64 and then of sixteen.
+/// Returns the length of a prefix that is ASCII, in whole steps of 64 and then of sixteen bytes.
 #[inline(always)]
 fn ascii_steps(bytes: &[u8]) -> usize
     ensures within { result ≤ length bytes.now }
@@ -57,7 +57,7 @@ fn ascii_steps(bytes: &[u8]) -> usize
     at
 }
 
-/// How many bytes in front are ASCII: all, or those before one that isn't.
+/// Returns the length of the longest prefix that is ASCII.
 #[inline(always)]
 pub fn ascii_len(bytes: &[u8]) -> usize
     ensures within { result ≤ length bytes.now }
@@ -71,7 +71,8 @@ pub fn ascii_len(bytes: &[u8]) -> usize
     at
 }
 
-/// Copies ASCII bytes from the front of `src`, at most `most`, in whole steps of 64, and returns how many.
+/// Copies ASCII bytes from the front of `src`, at most `most`, in whole steps of 64. Returns their
+/// number.
 #[inline(always)]
 fn copy_strides(src: &[u8], dst: &mut [u8], most: usize) -> usize
     requires read { most ≤ length src.now }
@@ -92,14 +93,15 @@ fn copy_strides(src: &[u8], dst: &mut [u8], most: usize) -> usize
     at
 }
 
-/// Copies the ASCII bytes in front, as many as there is room for, and answers how many.
+/// Copies the ASCII bytes at the front, as many as fit. Returns their number.
 #[inline(always)]
 pub fn copy_ascii(src: &[u8], dst: &mut [u8]) -> usize
     ensures read { result ≤ length src.now }
     ensures room { result ≤ length dst.old }
     ensures ascii { AreAscii (take result src.now) }
     ensures copied { dst.new ≡ take result src.now ++ drop result dst.old }
-    ensures ends { result < length src.now → result < length dst.old → 0x80 ≤ slice_index src.now result }
+    ensures ends { result < length src.now → result < length dst.old
+        → 0x80 ≤ slice_index src.now result }
 {
     let most = if src.len() < dst.len() {
         src.len()

@@ -1,4 +1,4 @@
-//! Characters of single bytes, by a table of their UTF-8 that is made for a run.
+//! Characters of single bytes, by a table of their UTF-8 that is built for a run.
 
 ghost use Rattle.std.specs.Prelude.{◌≡◌, ℕ, ◌+◌, ◌<◌, ◌≤◌, [], ◌∷◌, length, take, drop, IsTrue};
 ghost use Rattle.std.specs.Char.{encode_utf8};
@@ -12,16 +12,16 @@ use std::simd::prelude::*;
 /// The length of a buffer for `gather` of a table.
 pub(crate) const TABLE_BUFFER: usize = 2128;
 
-/// How many bytes are looked up one after another.
+/// The number of bytes looked up one after another.
 const STEP: usize = 16;
 
-/// How many bytes are loaded at once.
+/// The number of bytes loaded at once.
 const LANES: usize = 64;
 
-/// A turn writes no more bytes.
+/// A turn writes at most this number of bytes.
 const TURN: usize = 80;
 
-/// The UTF-8 of the character that each byte is by itself, or none.
+/// The UTF-8 of each byte that is a character by itself, and nothing for the others.
 #[derive(Clone, Copy)]
 pub(crate) struct ByteTable<P> {
     pieces: P,
@@ -29,7 +29,7 @@ pub(crate) struct ByteTable<P> {
 }
 
 impl<P: Pieces> ByteTable<P> {
-    /// That of these pieces.
+    /// Returns the table of these pieces.
     pub(crate) fn of(pieces: P) -> ByteTable<P>
         ensures pieces { result.pieces ≡ pieces }
         ensures texts { AreByteTexts (P.means result.pieces) result.texts }
@@ -49,8 +49,9 @@ impl<P: Pieces> ByteTable<P> {
     }
 }
 
-/// Stores the UTF-8 of sixteen bytes of `src` from `from` on, or of those before one that is no character, behind the
-/// first `at` bytes of a buffer, and answers how many bytes were read and where the UTF-8 ends.
+/// Stores the UTF-8 of sixteen bytes of `src` from `from` on, after the first `at` bytes of a
+/// buffer. It stops at a byte that is no character. Returns the number of bytes read and the end of
+/// their UTF-8.
 #[inline(always)]
 fn store_bytes<P: Pieces>(
     table: &ByteTable<P>,
@@ -65,8 +66,8 @@ fn store_bytes<P: Pieces>(
     ensures read { result.0 ≤ 16 }
     ensures bound { result.1 ≤ at + 64 }
     ensures len { length buffer.new ≡ length buffer.old }
-    ensures gathers { GathersChars encode_utf8 (P.means table.now.pieces) (drop from src.now) result.0 (take at buffer.old)
-        (take result.1 buffer.new) }
+    ensures gathers { GathersChars encode_utf8 (P.means table.now.pieces) (drop from src.now)
+        result.0 (take at buffer.old) (take result.1 buffer.new) }
 {
     let mut read = 0;
     let mut end = at;
@@ -81,7 +82,8 @@ fn store_bytes<P: Pieces>(
     (read, end)
 }
 
-/// How many of 64 bytes after the first `from` are ASCII before one that isn't, and at most `most`.
+/// Returns how many of 64 bytes from `from` on come before the first that is not ASCII, and at most
+/// `most`.
 #[inline(always)]
 fn ascii_from(lanes: u8x64, from: usize, most: usize) -> usize
     requires { from + most < 64 }
@@ -92,15 +94,17 @@ fn ascii_from(lanes: u8x64, from: usize, most: usize) -> usize
     ((others >> from as u64).trailing_zeros() as usize).min(most)
 }
 
-/// Whether many of 64 bytes are not ASCII. It is a guess, and changes no output.
+/// Returns whether many of 64 bytes are not ASCII. It is a guess, and changes no output.
 #[inline(always)]
 fn are_dense(lanes: u8x64) -> bool {
     lanes.simd_ge(u8x64::splat(0x80)).to_bitmask().count_ones() > 8
 }
 
-/// Stores `ascii` bytes of `src` from `from` on, which are ASCII, and the UTF-8 of the byte that follows, after the
-/// first `at` bytes of a buffer. Returns how many bytes it read, where their UTF-8 ends, and whether the byte that
-/// follows is a character.
+/// Stores `ascii` ASCII bytes of `src` from `from` on, and the UTF-8 of the byte after them, after
+/// the first `at` bytes of a buffer.
+///
+/// Returns the number of bytes read, the end of their UTF-8, and whether the byte after the ASCII
+/// is a character.
 #[inline(always)]
 fn store_hop<P: Pieces>(
     table: &ByteTable<P>,
@@ -120,8 +124,8 @@ fn store_hop<P: Pieces>(
     ensures some { IsTrue result.2 → 0 < result.0 }
     ensures bound { result.1 ≤ at + result.0 + 3 }
     ensures len { length buffer.new ≡ length buffer.old }
-    ensures gathers { GathersChars encode_utf8 (P.means table.now.pieces) (drop from src.now) result.0 (take at buffer.old)
-        (take result.1 buffer.new) }
+    ensures gathers { GathersChars encode_utf8 (P.means table.now.pieces) (drop from src.now)
+        result.0 (take at buffer.old) (take result.1 buffer.new) }
 {
     u8x64::from_slice(&src[from..]).copy_to_slice(&mut buffer[at..]);
     let text = table.texts[src[from + ascii] as usize];
@@ -131,8 +135,9 @@ fn store_hop<P: Pieces>(
     (ascii + 1, store_text(buffer, at + ascii, text), true)
 }
 
-/// Stores the UTF-8 of the 64 bytes of `src` from `from` on, which `lanes` holds, up to the second that isn't ASCII or
-/// to one that is no character. Returns the same as `store_hop`.
+/// Stores the UTF-8 of the 64 bytes of `src` from `from` on, which `lanes` holds. It stops after
+/// the second byte that is not ASCII, or at one that is no character. Returns the same as
+/// `store_hop`.
 #[inline(always)]
 fn store_hops<P: Pieces>(
     table: &ByteTable<P>,
@@ -151,8 +156,8 @@ fn store_hops<P: Pieces>(
     ensures some { IsTrue result.2 → 0 < result.0 }
     ensures bound { result.1 ≤ at + 80 }
     ensures len { length buffer.new ≡ length buffer.old }
-    ensures gathers { GathersChars encode_utf8 (P.means table.now.pieces) (drop from src.now) result.0 (take at buffer.old)
-        (take result.1 buffer.new) }
+    ensures gathers { GathersChars encode_utf8 (P.means table.now.pieces) (drop from src.now)
+        result.0 (take at buffer.old) (take result.1 buffer.new) }
 {
     let ascii = ascii_from(lanes, 0, 62);
     let (first, end, is_whole) = store_hop(table, buffer, at, src, from, ascii);
@@ -164,8 +169,11 @@ fn store_hops<P: Pieces>(
     (first + second, end, is_whole)
 }
 
-/// Stores the UTF-8 of at most 64 bytes of `src` from `from` on after the first `at` bytes of a buffer: by hops from
-/// one byte that isn't ASCII to the next, or byte by byte where many are not. Returns the same as `store_hop`.
+/// Stores the UTF-8 of at most 64 bytes of `src` from `from` on after the first `at` bytes of a
+/// buffer.
+///
+/// It hops from one byte that is not ASCII to the next, or goes byte by byte if many are not.
+/// Returns the same as `store_hop`.
 #[inline(always)]
 fn store_turn<P: Pieces>(
     table: &ByteTable<P>,
@@ -181,8 +189,8 @@ fn store_turn<P: Pieces>(
     ensures some { IsTrue result.2 → 0 < result.0 }
     ensures bound { result.1 ≤ at + 80 }
     ensures len { length buffer.new ≡ length buffer.old }
-    ensures gathers { GathersChars encode_utf8 (P.means table.now.pieces) (drop from src.now) result.0 (take at buffer.old)
-        (take result.1 buffer.new) }
+    ensures gathers { GathersChars encode_utf8 (P.means table.now.pieces) (drop from src.now)
+        result.0 (take at buffer.old) (take result.1 buffer.new) }
 {
     let lanes = u8x64::from_slice(&src[from..]);
     if !table.pieces.has_ascii() || are_dense(lanes) {
@@ -201,8 +209,8 @@ impl<P: Pieces> Gather for ByteTable<P> {
         self.pieces.has_ascii()
     }
 
-    /// It leaves off at a byte that is no character, and 80 bytes before the end of the room or 128 before that of
-    /// `src`.
+    /// Stops at a byte that is no character, and 80 bytes before the end of the room or 128 before
+    /// that of `src`.
     #[inline(always)]
     fn gather(&self, buffer: &mut [u8], room: usize, src: &[u8]) -> (usize, usize) {
         let limit = buffer.len().saturating_sub(LANES).min(room);

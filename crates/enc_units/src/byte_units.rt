@@ -1,4 +1,4 @@
-//! Characters of single bytes in UTF-16, by a table that is made for a run.
+//! Characters of single bytes in UTF-16, by a table that is built for a run.
 
 ghost use Rattle.std.specs.Prelude.{◌≡◌, ◌+◌, ◌<◌, ◌≤◌, length, take, drop};
 ghost use Rattle.std.specs.Char.{IsScalar};
@@ -8,17 +8,17 @@ ghost use Rattle.enc_units.specs.Gathering.{GathersChars, AreByteUnits};
 use crate::gather::Gather;
 use crate::pieces::Pieces;
 
-/// How many bytes are looked up one after another.
+/// The number of bytes looked up one after another.
 const STEP: usize = 16;
 
-/// The code unit of the character that each byte is by itself, or 0.
+/// The code unit of each byte that is a character by itself, and 0 for the others.
 #[derive(Clone, Copy)]
 pub(crate) struct ByteUnits<P> {
     pieces: P,
     units: [u16; 256],
 }
 
-/// The code unit of a character, or 0 if it has two.
+/// Returns the code unit of a character, or 0 if it has two.
 #[inline(always)]
 fn unit_of(character: char) -> u16
     ensures is { 0 < result → result ≡ character }
@@ -29,7 +29,7 @@ fn unit_of(character: char) -> u16
 }
 
 impl<P: Pieces> ByteUnits<P> {
-    /// That of these pieces.
+    /// Returns the table of these pieces.
     pub(crate) fn of(pieces: P) -> ByteUnits<P>
         ensures pieces { result.pieces ≡ pieces }
         ensures units { AreByteUnits (P.means result.pieces) result.units }
@@ -46,8 +46,8 @@ impl<P: Pieces> ByteUnits<P> {
     }
 }
 
-/// Stores the code units of sixteen bytes of `src` from `from` on, or of those before one that has none, after the first
-/// `at` code units of a buffer. Returns how many.
+/// Stores the code units of sixteen bytes of `src` from `from` on, after the first `at` code units
+/// of a buffer. It stops at a byte that has none. Returns their number.
 #[inline(always)]
 fn store_step<P: Pieces>(
     table: &ByteUnits<P>,
@@ -61,8 +61,8 @@ fn store_step<P: Pieces>(
     requires units { AreByteUnits (P.means table.now.pieces) table.now.units }
     ensures bound { result ≤ 16 }
     ensures len { length buffer.new ≡ length buffer.old }
-    ensures gathers { GathersChars encode_utf16 (P.means table.now.pieces) (drop from src.now) result (take at buffer.old)
-        (take (at + result) buffer.new) }
+    ensures gathers { GathersChars encode_utf16 (P.means table.now.pieces) (drop from src.now)
+        result (take at buffer.old) (take (at + result) buffer.new) }
 {
     let mut read = 0;
     while read < STEP {
@@ -85,7 +85,7 @@ impl<P: Pieces> Gather for ByteUnits<P> {
         self.pieces.has_ascii()
     }
 
-    /// It has no table for UTF-8, and gathers nothing.
+    /// Collects nothing: there is no table for UTF-8.
     fn gather(&self, buffer: &mut [u8], room: usize, src: &[u8]) -> (usize, usize) {
         let _table = self;
         let _room = room;
@@ -94,7 +94,8 @@ impl<P: Pieces> Gather for ByteUnits<P> {
         (0, 0)
     }
 
-    /// It leaves off at a byte that has no code unit, and 16 before the end of the room or 32 before that of `src`.
+    /// Stops at a byte that has no code unit, and 16 before the end of the room or 32 before that
+    /// of `src`.
     #[inline(always)]
     fn gather_units(&self, buffer: &mut [u16], room: usize, src: &[u8]) -> (usize, usize) {
         let limit = buffer.len().min(room);

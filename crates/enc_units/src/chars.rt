@@ -6,31 +6,38 @@ ghost use Rattle.enc_units.specs.Mappings.{WritesMapped};
 
 use crate::mapping::Mapping;
 
-/// An input that gives characters, each read from its code units.
+/// An input of characters, each with its code units.
 pub trait Chars {
     // the code units of a character
     ghost units_of: { ℕ → List ℕ };
 
-    // the characters that are still to come
+    // the characters still to come
     ghost rest: { Self → List ℕ };
 
-    /// How many code units are unread. Takes no memory.
+    /// Returns the number of unread code units. Takes no memory.
     fn unread(&self) -> usize
         ensures { result ≡ length (units_of_text units_of (rest self.now)) };
 
-    /// The next character and how many code units it is read from, or `None` at the end. Takes no memory.
+    /// Returns the next character and the number of its code units, or `None` at the end.
+    ///
+    /// Takes no memory.
     fn peek(&self) -> Option<(char, usize)>
-        ensures first { MatchOption result (rest self.now ≡ []) (λ p. rest self.now ≡ p.0 ∷ drop 1 (rest self.now)) }
+        ensures first { MatchOption result (rest self.now ≡ [])
+            (λ p. rest self.now ≡ p.0 ∷ drop 1 (rest self.now)) }
         ensures width { IfSome result (λ p. p.1 ≡ length (units_of p.0)) };
 
-    /// Reads the next character. Takes no memory.
+    /// Reads the next character. Takes no memory. Condition: the input is not at its end.
     fn advance(&mut self)
         requires { rest self.old ≢ [] }
         ensures { rest self.new ≡ drop 1 (rest self.old) };
 
-    /// Reads the first characters and writes their bytes into a slice, from `from` on. Returns the number of bytes
-    /// written. The run need not be maximal: it may be empty. Takes no memory.
+    /// Reads the first characters and writes their bytes to a slice, from `from` on.
+    ///
+    /// Returns the number of bytes written.
+    ///
+    /// The run need not be maximal: it may be empty. Takes no memory.
     fn write_mapped<M: Mapping>(&mut self, mapping: M, dst: &mut [u8], from: usize) -> usize
         requires { from ≤ length dst.old }
-        ensures { WritesMapped (M.means mapping) (rest self.old) (rest self.new) dst.old dst.new from result };
+        ensures { WritesMapped (M.means mapping) (rest self.old) (rest self.new) dst.old dst.new
+            from result };
 }

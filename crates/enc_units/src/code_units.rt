@@ -1,4 +1,4 @@
-//! Characters of one code unit of UTF-16, eight at a time with no branch on their lengths.
+//! Characters of one code unit of UTF-16, eight at a time, with no branch on their lengths.
 
 ghost use Rattle.std.specs.Prelude.{◌≡◌, ℕ, ◌+◌, ◌*◌, ◌/◌, ◌<◌, ◌≤◌, ◌++◌, All, IsTrue};
 ghost use Rattle.std.specs.Prelude.{length, map, take, drop};
@@ -14,13 +14,13 @@ use crate::gather::{Gather, store_text, store_units, store_word, utf8_of};
 use crate::pieces::Pieces;
 use std::simd::prelude::*;
 
-/// No more is stored at once: eight code units, and a character after them.
+/// At most this number of bytes is stored at once: eight code units, and a character after them.
 const STEP: usize = 36;
 
-/// No more code units are stored at once.
+/// At most this number of code units is stored at once.
 const UNITS_STEP: usize = 16;
 
-/// The eight code units of sixteen bytes.
+/// Returns the eight code units of sixteen bytes.
 #[inline(always)]
 fn units_in(bytes: u8x16, big_endian: bool) -> u16x8
     ensures { result ≡ units_of_bytes big_endian bytes }
@@ -32,7 +32,7 @@ fn units_in(bytes: u8x16, big_endian: bool) -> u16x8
     units
 }
 
-/// Whether all of eight code units are ASCII.
+/// Returns whether all of eight code units are ASCII.
 #[inline(always)]
 fn are_ascii_units(units: u16x8) -> bool
     ensures { IsTrue result → AreAscii units }
@@ -40,7 +40,7 @@ fn are_ascii_units(units: u16x8) -> bool
     units.simd_ge(u16x8::splat(0x80)).to_bitmask() == 0
 }
 
-/// Whether none of eight code units is a surrogate.
+/// Returns whether none of eight code units is a surrogate.
 #[inline(always)]
 fn are_scalars(units: u16x8) -> bool
     ensures scalars { IsTrue result → AreScalars (take 8 units) }
@@ -52,7 +52,7 @@ fn are_scalars(units: u16x8) -> bool
         == 0
 }
 
-/// How many of eight code units stand before the first surrogate.
+/// Returns how many of eight code units come before the first surrogate.
 #[inline(always)]
 fn units_before_surrogate(units: u16x8) -> usize
     ensures bound { result ≤ 8 }
@@ -69,7 +69,7 @@ fn units_before_surrogate(units: u16x8) -> usize
     }
 }
 
-/// The first two bytes of the UTF-8 of each code unit.
+/// Returns the first two bytes of the UTF-8 of each code unit.
 #[inline(always)]
 fn fronts(units: u16x8) -> u16x8
     ensures { result ≡ map unit_word_low units }
@@ -83,7 +83,7 @@ fn fronts(units: u16x8) -> u16x8
     units.simd_lt(u16x8::splat(0x80)).select(units, more)
 }
 
-/// The third byte, with the number of bytes above it.
+/// Returns the third byte of the UTF-8 of each code unit, with the number of bytes above it.
 #[inline(always)]
 fn rests(units: u16x8) -> u16x8
     ensures { result ≡ map unit_word_high units }
@@ -97,8 +97,8 @@ fn rests(units: u16x8) -> u16x8
         .select(u16x8::splat(0x100), more)
 }
 
-/// The UTF-8 of each code unit as a word: its bytes, the first lowest, and their number in the
-/// highest byte.
+/// Returns the UTF-8 of each code unit as a word: its bytes, the first lowest, and their number in
+/// the highest byte.
 #[inline(always)]
 fn words_of(units: u16x8) -> [u32; 8]
     ensures bound { All (λ word. word / 0x1000000 ≤ 4) result }
@@ -109,8 +109,8 @@ fn words_of(units: u16x8) -> [u32; 8]
     (fronts(units).cast::<u32>() + rests).to_array()
 }
 
-/// Stores the bytes of the first `len` words after the first `at` bytes of a buffer. Returns where
-/// they end.
+/// Stores the bytes of the first `len` words after the first `at` bytes of a buffer. Returns their
+/// end.
 #[inline(always)]
 fn store_words(buffer: &mut [u8], at: usize, words: [u32; 8], len: usize) -> usize
     requires room { at + 32 ≤ length buffer.old }
@@ -146,7 +146,7 @@ impl<P: Pieces> Gather for CodeUnits<P> {
         false
     }
 
-    /// It stops where no character is known to begin, and 36 bytes before the end of the room or 32
+    /// Stops where no character is known to begin, and 36 bytes before the end of the room or 32
     /// before that of `src`.
     #[inline(always)]
     fn gather(&self, buffer: &mut [u8], room: usize, src: &[u8]) -> (usize, usize) {
@@ -184,7 +184,7 @@ impl<P: Pieces> Gather for CodeUnits<P> {
         (read, written)
     }
 
-    /// It stops as `gather` does, but 16 code units before the end of the room.
+    /// Stops as `gather` does, but 16 code units before the end of the room.
     #[inline(always)]
     fn gather_units(&self, buffer: &mut [u16], room: usize, src: &[u8]) -> (usize, usize) {
         let limit = buffer.len().min(room);

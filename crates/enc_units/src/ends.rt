@@ -2,7 +2,7 @@
 //!
 //! Written by scripts/make-indexes: change the script and run it, and not this file.
 
-/// Where each of four characters ends, by which of eight bytes lead a pair: four ends for each mask.
+/// The offsets at which four characters end, by a mask of the lead bytes among eight bytes.
 #[rattlefmt::skip]
 pub(crate) static ENDS: [[u8; 4]; 256] = [
     [1, 2, 3, 4], [2, 3, 4, 5], [1, 3, 4, 5], [2, 3, 4, 5], [1, 2, 4, 5], [2, 4, 5, 6], [1, 3, 4, 5], [2, 4, 5, 6], [1, 2, 3, 5], [2, 3, 5, 6], [1, 3, 5, 6], [2, 3, 5, 6], [1, 2, 4, 5], [2, 4, 5, 6], [1, 3, 5, 6], [2, 4, 5, 6], [1, 2, 3, 4], [2, 3, 4, 6], [1, 3, 4, 6], [2, 3, 4, 6], [1, 2, 4, 6], [2, 4, 6, 7], [1, 3, 4, 6], [2, 4, 6, 7], [1, 2, 3, 5], [2, 3, 5, 6], [1, 3, 5, 6], [2, 3, 5, 6], [1, 2, 4, 6], [2, 4, 6, 7], [1, 3, 5, 6], [2, 4, 6, 7],

@@ -1,6 +1,8 @@
-//! Characters gathered as UTF-8 in a buffer of fixed length, so that an output takes many of them at once.
+//! Characters collected as UTF-8 in a buffer of fixed length, so that an output takes many of them
+//! at once.
 
-ghost use Rattle.std.specs.Prelude.{◌≡◌, ℕ, ◌+◌, ◌/◌, ◌<◌, ◌≤◌, List, [], ◌∷◌, ◌++◌, length, take, drop, slice_index, IsTrue};
+ghost use Rattle.std.specs.Prelude.{◌≡◌, ℕ, ◌+◌, ◌/◌, ◌<◌, ◌≤◌, List, [], ◌∷◌, ◌++◌, length, take, drop, slice_index};
+ghost use Rattle.std.specs.Prelude.{IsTrue};
 ghost use Rattle.std.specs.Char.{IsScalar, encode_utf8};
 ghost use Rattle.std.specs.Char.Escape.{encode_utf16};
 ghost use Rattle.std.specs.Int.{w32, to_le_bytes};
@@ -10,16 +12,16 @@ ghost use Rattle.enc_units.specs.Gathering.{GathersChars};
 use crate::pieces::Pieces;
 use std::simd::prelude::*;
 
-/// Fewer bytes are not gathered, nor is anything where there is less room.
+/// The least number of bytes, and the least room, for which characters are collected.
 pub(crate) const SHORT: usize = 64;
 
-/// The length of a buffer, where characters are gathered without a table.
+/// The length of a buffer, if there is no table.
 pub(crate) const BUFFER: usize = 304;
 
 /// The length of a buffer of code units.
 pub(crate) const UNITS_BUFFER: usize = 144;
 
-/// A turn writes no more bytes, where characters are gathered one by one.
+/// A turn writes at most this number of bytes, if characters are collected one by one.
 const STEP: usize = 16;
 
 /// The UTF-8 of a character, or nothing: the first `len` of four bytes.
@@ -29,7 +31,7 @@ pub(crate) struct Encoded {
     pub(crate) len: u32,
 }
 
-/// The UTF-8 of a character that has two bytes (Unicode Standard 3.9, table 3-6).
+/// Returns the UTF-8 of a character of two bytes (Unicode Standard 3.9, table 3-6).
 #[inline(always)]
 pub(crate) fn two_bytes(character: char) -> [u8; 2]
     requires from { 0x80 ≤ character }
@@ -40,7 +42,7 @@ pub(crate) fn two_bytes(character: char) -> [u8; 2]
     [0xC0 + (scalar / 64) as u8, 0x80 + (scalar % 64) as u8]
 }
 
-/// The UTF-8 of a character that has three bytes.
+/// Returns the UTF-8 of a character of three bytes.
 #[inline(always)]
 pub(crate) fn three_bytes(character: char) -> [u8; 3]
     requires from { 0x800 ≤ character }
@@ -56,7 +58,7 @@ pub(crate) fn three_bytes(character: char) -> [u8; 3]
     ]
 }
 
-/// The UTF-8 of a character that has four bytes.
+/// Returns the UTF-8 of a character of four bytes.
 #[inline(always)]
 pub(crate) fn four_bytes(character: char) -> [u8; 4]
     requires from { 0x10000 ≤ character }
@@ -73,7 +75,7 @@ pub(crate) fn four_bytes(character: char) -> [u8; 4]
     ]
 }
 
-/// The UTF-8 of a character (Unicode Standard 3.9, table 3-6).
+/// Returns the UTF-8 of a character (Unicode Standard 3.9, table 3-6).
 #[inline(always)]
 pub(crate) fn utf8_of(character: char) -> Encoded
     ensures some { 1 ≤ result.len }
@@ -109,7 +111,7 @@ pub(crate) fn utf8_of(character: char) -> Encoded
     }
 }
 
-/// How many of sixteen bytes are ASCII, before one that isn't.
+/// Returns how many of sixteen bytes come before the first that is not ASCII.
 #[inline(always)]
 pub fn ascii_in(lanes: u8x16) -> usize
     ensures bound { result ≤ 16 }
@@ -124,8 +126,8 @@ pub fn ascii_in(lanes: u8x16) -> usize
     }
 }
 
-/// Stores the sixteen bytes of `src` from `from` on behind the first `at` of a buffer, and answers how many of them
-/// are ASCII before one that isn't.
+/// Stores the sixteen bytes of `src` from `from` on after the first `at` bytes of a buffer. Returns
+/// how many of them come before the first that is not ASCII.
 #[inline(always)]
 pub(crate) fn store_ascii(buffer: &mut [u8], at: usize, src: &[u8], from: usize) -> usize
     requires from { from + 16 ≤ length src.now }
@@ -134,41 +136,45 @@ pub(crate) fn store_ascii(buffer: &mut [u8], at: usize, src: &[u8], from: usize)
     ensures ascii { AreAscii (take result (drop from src.now)) }
     ensures some { slice_index src.now from < 0x80 → 0 < result }
     ensures len { length buffer.new ≡ length buffer.old }
-    ensures stored { take (at + result) buffer.new ≡ take at buffer.old ++ take result (drop from src.now) }
+    ensures stored { take (at + result) buffer.new ≡ take at buffer.old
+        ++ take result (drop from src.now) }
 {
     let lanes = u8x16::from_slice(&src[from..]);
     lanes.copy_to_slice(&mut buffer[at..]);
     ascii_in(lanes)
 }
 
-/// Stores a text behind the first `at` bytes of a buffer, and answers where it ends.
+/// Stores a character's UTF-8 after the first `at` bytes of a buffer. Returns its end.
 #[inline(always)]
 pub(crate) fn store_text(buffer: &mut [u8], at: usize, text: Encoded) -> usize
     requires room { at + 4 ≤ length buffer.old }
     requires bound { text.len ≤ 4 }
     ensures end { result ≡ at + text.len }
     ensures len { length buffer.new ≡ length buffer.old }
-    ensures stored { take (at + text.len) buffer.new ≡ take at buffer.old ++ take text.len text.bytes }
+    ensures stored { take (at + text.len) buffer.new ≡ take at buffer.old
+        ++ take text.len text.bytes }
 {
     buffer[at..at + 4].copy_from_slice(&text.bytes);
     at + text.len as usize
 }
 
-/// Stores the UTF-8 that a word has, its bytes, the first lowest, and their number in the highest, after the first `at`
-/// bytes of a buffer. Returns where it ends.
+/// Stores the UTF-8 in a word after the first `at` bytes of a buffer. Returns its end.
+///
+/// The word has the bytes, the first lowest, and their number in the highest byte.
 #[inline(always)]
 pub(crate) fn store_word(buffer: &mut [u8], at: usize, word: u32) -> usize
     requires room { at + 4 ≤ length buffer.old }
     requires bound { word / 0x1000000 ≤ 4 }
     ensures end { result ≡ at + word / 0x1000000 }
     ensures len { length buffer.new ≡ length buffer.old }
-    ensures stored { take result buffer.new ≡ take at buffer.old ++ take (word / 0x1000000) (to_le_bytes w32 word) }
+    ensures stored { take result buffer.new ≡ take at buffer.old
+        ++ take (word / 0x1000000) (to_le_bytes w32 word) }
 {
     buffer[at..at + 4].copy_from_slice(&word.to_le_bytes());
     at + (word / 0x1000000) as usize
 }
 
-/// Stores the code units of a character after the first `at` of a buffer, and returns where they end.
+/// Stores the code units of a character after the first `at` of a buffer. Returns their end.
 #[inline(always)]
 pub(crate) fn store_units(buffer: &mut [u16], at: usize, character: char) -> usize
     requires { at + 2 ≤ length buffer.old }
@@ -185,32 +191,35 @@ pub(crate) fn store_units(buffer: &mut [u16], at: usize, character: char) -> usi
     at + width
 }
 
-/// A way to gather characters.
+/// A way to collect characters in a buffer.
 pub(crate) trait Gather {
-    // whether bytes are a character
+    // the bytes mean the character
     ghost means: { Self → List ℕ → ℕ → Type 0 };
 
-    // what has to hold
+    // the condition of a call
     ghost ready: { Self → Type 0 };
 
-    /// Whether each byte below 0x80 is the ASCII character of that number.
+    /// Returns whether each byte below 0x80 is the ASCII character with that number.
     fn has_ascii(&self) -> bool
         ensures { IsTrue result → (b : ℕ) → b < 0x80 → means self.now (b ∷ []) b };
 
-    /// Gathers the first characters of `src`, any number of them. Aims at no more UTF-8 than `room`. Returns how many
-    /// bytes it read, and how many it wrote from the start of the buffer on.
+    /// Writes the first characters of `src`, any number of them, to the start of the buffer.
+    ///
+    /// Aims at no more UTF-8 than `room`. Returns the number of bytes read and of bytes written.
     fn gather(&self, buffer: &mut [u8], room: usize, src: &[u8]) -> (usize, usize)
         requires ready { ready self.now }
         ensures len { length buffer.new ≡ length buffer.old }
         ensures bound { result.1 ≤ length buffer.new }
-        ensures gathers { GathersChars encode_utf8 (means self.now) src.now result.0 [] (take result.1 buffer.new) };
+        ensures gathers { GathersChars encode_utf8 (means self.now) src.now result.0 []
+            (take result.1 buffer.new) };
 
-    /// The same in UTF-16, in a buffer of code units.
+    /// Does the same in UTF-16, in a buffer of code units.
     fn gather_units(&self, buffer: &mut [u16], room: usize, src: &[u8]) -> (usize, usize)
         requires ready { ready self.now }
         ensures len { length buffer.new ≡ length buffer.old }
         ensures bound { result.1 ≤ length buffer.new }
-        ensures gathers { GathersChars encode_utf16 (means self.now) src.now result.0 [] (take result.1 buffer.new) }
+        ensures gathers { GathersChars encode_utf16 (means self.now) src.now result.0 []
+            (take result.1 buffer.new) }
     {
         let _gather = self;
         let _room = room;
@@ -235,8 +244,8 @@ impl<P: Pieces> Gather for OneByOne<P> {
         self.pieces.has_ascii()
     }
 
-    /// It leaves off where no character is known to begin, and 16 bytes before the end of the room or 32 before that of
-    /// `src`.
+    /// Stops where no character is known to begin, and 16 bytes before the end of the room or 32
+    /// before that of `src`.
     #[inline(always)]
     fn gather(&self, buffer: &mut [u8], room: usize, src: &[u8]) -> (usize, usize) {
         let has_ascii = self.pieces.has_ascii();

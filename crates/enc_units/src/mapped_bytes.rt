@@ -1,4 +1,4 @@
-//! The bytes of mapped characters, written into a slice.
+//! The bytes of mapped characters, written to a slice.
 
 ghost use Rattle.std.specs.Prelude.{◌≡◌, ◌+◌, ◌≤◌, ◌++◌, length, take, drop};
 ghost use Rattle.enc_units.specs.Bytes.{byte_list};
@@ -6,13 +6,14 @@ ghost use Rattle.enc_units.specs.Bytes.{byte_list};
 use crate::bytes::Bytes;
 use std::simd::prelude::*;
 
-/// A run ends this many code units before the end of its input, and this many bytes before the end of its slice.
+/// A run ends this many code units before the end of its input, and this many bytes before the end
+/// of its slice.
 pub(crate) const MARGIN: usize = 32;
 
-/// The places of sixteen lanes.
+/// The numbers of sixteen lanes.
 const PLACES: [u8; 16] = [0, 1, 2, 3, 4, 5, 6, 7, 8, 9, 10, 11, 12, 13, 14, 15];
 
-/// Writes up to four bytes, and returns their number. The bytes after them stay.
+/// Writes up to four bytes, and returns their number. The bytes after them are unchanged.
 #[inline(never)]
 fn put_any(dst: &mut [u8], at: usize, bytes: Bytes) -> usize
     requires { at + 4 ≤ length dst.old }
@@ -24,7 +25,8 @@ fn put_any(dst: &mut [u8], at: usize, bytes: Bytes) -> usize
     bytes.len
 }
 
-/// Writes up to four bytes, as [`put_any`] does. One or two go from registers to memory, and not through an array.
+/// Writes up to four bytes, as [`put_any`] does. One or two go from registers to memory, without an
+/// array.
 #[inline(always)]
 pub(crate) fn put_bytes(dst: &mut [u8], at: usize, bytes: Bytes) -> usize
     requires { at + 4 ≤ length dst.old }
@@ -44,7 +46,7 @@ pub(crate) fn put_bytes(dst: &mut [u8], at: usize, bytes: Bytes) -> usize
     put_any(dst, at, bytes)
 }
 
-/// Writes the first `len` of sixteen bytes. The bytes after them stay.
+/// Writes the first `len` of sixteen bytes. The bytes after them are unchanged.
 #[inline(always)]
 pub(crate) fn put_lanes(dst: &mut [u8], at: usize, lanes: u8x16, len: usize)
     requires room { at + 16 ≤ length dst.old }

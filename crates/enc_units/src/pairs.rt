@@ -1,4 +1,4 @@
-//! Characters of one byte or two, four at a time with no branch on which they are.
+//! Characters of one byte or two, eight at a time, with no branch on their lengths.
 
 ghost use Rattle.std.specs.Prelude.{◌≡◌, ◌+◌, ◌<◌, ◌≤◌, length, take, drop};
 ghost use Rattle.std.specs.Char.{encode_utf8};
@@ -12,14 +12,13 @@ use crate::gather::{Gather, store_text, store_units, store_word, utf8_of};
 use crate::pieces::Pieces;
 use std::simd::prelude::*;
 
-/// A turn writes no more bytes: eight characters, and one after them.
+/// A turn writes at most this number of bytes: eight characters, and one after them.
 const STEP: usize = 36;
 
-/// No more code units are stored at once.
+/// At most this number of code units is stored at once.
 const UNITS_STEP: usize = 16;
 
-/// Where each of four characters ends, counted from the start of the first, if these of the bytes from there on lead a
-/// pair.
+/// Returns the offsets at which four characters end, by which of the bytes are the lead of a pair.
 #[inline(always)]
 fn ends_of(leads: u64) -> [u8; 4]
     ensures { result ≡ four_ends leads }
@@ -27,8 +26,11 @@ fn ends_of(leads: u64) -> [u8; 4]
     ENDS[(leads % 0x100) as usize]
 }
 
-/// Stores the UTF-8 of four characters, or of those before one that isn't known, after the first `at` bytes of a buffer.
-/// Returns how many bytes of `src` they have from `from` on, where their UTF-8 ends, and whether they are four.
+/// Stores the UTF-8 of four characters, or of those before one that is not known, after the first
+/// `at` bytes of a buffer.
+///
+/// Returns how many bytes of `src` they have from `from` on, the end of their UTF-8, and whether
+/// they are four.
 #[inline(always)]
 fn store_four<P: Pieces>(
     pieces: P,
@@ -43,8 +45,8 @@ fn store_four<P: Pieces>(
     ensures read { result.0 ≤ 8 }
     ensures bound { result.1 ≤ at + 16 }
     ensures len { length buffer.new ≡ length buffer.old }
-    ensures gathers { GathersChars encode_utf8 (P.means pieces) (drop from src.now) result.0 (take at buffer.old)
-        (take result.1 buffer.new) }
+    ensures gathers { GathersChars encode_utf8 (P.means pieces) (drop from src.now) result.0
+        (take at buffer.old) (take result.1 buffer.new) }
 {
     let ends = ends_of(leads);
     let mut read = 0;
@@ -63,7 +65,7 @@ fn store_four<P: Pieces>(
     (read, end, true)
 }
 
-/// The same of eight characters.
+/// Does the same for eight characters.
 #[inline(always)]
 fn store_eight<P: Pieces>(
     pieces: P,
@@ -77,8 +79,8 @@ fn store_eight<P: Pieces>(
     requires room { at + 32 ≤ length buffer.old }
     ensures bound { result.1 ≤ at + 32 }
     ensures len { length buffer.new ≡ length buffer.old }
-    ensures gathers { GathersChars encode_utf8 (P.means pieces) (drop from src.now) result.0 (take at buffer.old)
-        (take result.1 buffer.new) }
+    ensures gathers { GathersChars encode_utf8 (P.means pieces) (drop from src.now) result.0
+        (take at buffer.old) (take result.1 buffer.new) }
 {
     let (first, end, is_whole) = store_four(pieces, buffer, at, src, from, leads);
     if !is_whole {
@@ -95,7 +97,7 @@ fn store_eight<P: Pieces>(
     (first + second, end)
 }
 
-/// The same as `store_four`, in UTF-16.
+/// Does the same as `store_four`, in UTF-16.
 #[inline(always)]
 fn store_four_units<P: Pieces>(
     pieces: P,
@@ -110,8 +112,8 @@ fn store_four_units<P: Pieces>(
     ensures read { result.0 ≤ 8 }
     ensures bound { result.1 ≤ at + 4 }
     ensures len { length buffer.new ≡ length buffer.old }
-    ensures gathers { GathersChars encode_utf16 (P.means pieces) (drop from src.now) result.0 (take at buffer.old)
-        (take result.1 buffer.new) }
+    ensures gathers { GathersChars encode_utf16 (P.means pieces) (drop from src.now) result.0
+        (take at buffer.old) (take result.1 buffer.new) }
 {
     let ends = ends_of(leads);
     let mut read = 0;
@@ -131,7 +133,7 @@ fn store_four_units<P: Pieces>(
     (read, end, true)
 }
 
-/// The same as `store_eight`, in UTF-16.
+/// Does the same as `store_eight`, in UTF-16.
 #[inline(always)]
 fn store_eight_units<P: Pieces>(
     pieces: P,
@@ -145,8 +147,8 @@ fn store_eight_units<P: Pieces>(
     requires room { at + 8 ≤ length buffer.old }
     ensures bound { result.1 ≤ at + 8 }
     ensures len { length buffer.new ≡ length buffer.old }
-    ensures gathers { GathersChars encode_utf16 (P.means pieces) (drop from src.now) result.0 (take at buffer.old)
-        (take result.1 buffer.new) }
+    ensures gathers { GathersChars encode_utf16 (P.means pieces) (drop from src.now) result.0
+        (take at buffer.old) (take result.1 buffer.new) }
 {
     let (first, end, is_whole) = store_four_units(pieces, buffer, at, src, from, leads);
     if !is_whole {
@@ -178,8 +180,8 @@ impl<P: Pieces> Gather for Pairs<P> {
         self.pieces.has_ascii()
     }
 
-    /// It leaves off where no character is known to begin, and 36 bytes before the end of the room or 32 before that of
-    /// `src`.
+    /// Stops where no character is known to begin, and 36 bytes before the end of the room or 32
+    /// before that of `src`.
     #[inline(always)]
     fn gather(&self, buffer: &mut [u8], room: usize, src: &[u8]) -> (usize, usize) {
         let has_ascii = self.pieces.has_ascii();
@@ -214,7 +216,7 @@ impl<P: Pieces> Gather for Pairs<P> {
         (read, written)
     }
 
-    /// It leaves off as `gather` does, but 16 code units before the end of the room.
+    /// Stops as `gather` does, but 16 code units before the end of the room.
     #[inline(always)]
     fn gather_units(&self, buffer: &mut [u16], room: usize, src: &[u8]) -> (usize, usize) {
         let has_ascii = self.pieces.has_ascii();

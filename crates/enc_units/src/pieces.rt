@@ -8,25 +8,27 @@ ghost use Rattle.enc_units.specs.Pairs.{byte_or_pair, MeansWord, MeansUnit};
 use crate::units::Units;
 use std::simd::prelude::*;
 
-/// Which bytes of an input are which character, whatever stands behind them.
+/// Finds the characters of an input: bytes that are a character, whatever follows them.
 pub trait Pieces: Copy {
-    // whether bytes are a character
+    // the bytes mean the character
     ghost means: { Self → List ℕ → ℕ → Type 0 };
 
-    /// The character whose bytes begin at `at`, and how many they are, at least one. `None` where no character is
-    /// known to begin there. Takes no memory.
+    /// Returns the character whose bytes begin at `at`, and their number, at least one.
+    ///
+    /// `None` if no character is known to begin there. Takes no memory.
     fn piece(self, src: &[u8], at: usize) -> Option<(char, usize)>
         requires { at < length src.now }
         ensures some { IfSome result (λ p. 0 < p.1) }
         ensures within { IfSome result (λ p. p.1 ≤ length (drop at src.now)) }
         ensures means { IfSome result (λ p. means self (take p.1 (drop at src.now)) p.0) };
 
-    /// Whether each byte below 0x80 is the ASCII character of that number. Takes no memory.
+    /// Returns whether each byte below 0x80 is the ASCII character with that number.
+    ///
+    /// Takes no memory.
     fn has_ascii(self) -> bool
         ensures { IsTrue result → (b : ℕ) → b < 0x80 → means self (b ∷ []) b };
 
-    /// Whether the input is UTF-16: then the byte order of its code units, true for big-endian.
-    /// Takes no memory.
+    /// Returns the byte order if the input is UTF-16: true for big-endian. Takes no memory.
     fn code_units(self) -> Option<bool>
         ensures { IfSome result (AreCodeUnits (means self)) }
     {
@@ -34,32 +36,38 @@ pub trait Pieces: Copy {
         None
     }
 
-    /// Whether it pays to look characters up by `word` and `unit`: where most are a byte or two. The output is the same
-    /// either way. Takes no memory.
+    /// Returns whether looking characters up by `word` and `unit` pays: most have one byte or two.
+    ///
+    /// The output is the same either way. Takes no memory.
     fn are_pairs(self) -> bool {
         let _pieces = self;
         false
     }
 
-    /// How many characters of a run are written one by one before the rest is looked up by `word`: some, where runs of
-    /// random bytes are short, and none, where they are long or the runs of a text are short too. The output is the
-    /// same for every number. Takes no memory.
+    /// Returns how many characters of a run are written one by one, before lookups by `word`.
+    ///
+    /// Some if runs of random bytes are short, and none if they are long or the runs of a text are
+    /// short too. The output is the same for every number. Takes no memory.
     fn few(self) -> usize {
         let _pieces = self;
         0
     }
 
-    /// Which of sixteen bytes lead a pair if a character begins there, the first byte in the lowest bit. It is a guess:
-    /// a wrong one costs time, and changes no output. Takes no memory.
+    /// Returns which of sixteen bytes are the lead of a pair, the first in the lowest bit.
+    ///
+    /// It is a guess, for bytes at which a character begins: a wrong one costs time, and changes no
+    /// output. Takes no memory.
     #[inline(always)]
     fn leads(self, bytes: u8x16) -> u64 {
         let _pieces = self;
         bytes.simd_ge(u8x16::splat(0x80)).to_bitmask()
     }
 
-    /// The UTF-8 of the character that the first byte is, or both as a pair: its bytes, the first lowest, and their
-    /// number in the highest byte. 0 where there is no such character, or none that is known. One load from a table and
-    /// no branch. Takes no memory.
+    /// Returns the UTF-8 of the character that the first byte is, or the pair, as a word.
+    ///
+    /// The word has the bytes, the first lowest, and their number in the highest byte. 0 if they
+    /// are no character, or none that is known. One load from a table and no branch. Takes no
+    /// memory.
     #[inline(always)]
     fn word(self, is_pair: bool, first: u8, second: u8) -> u32
         ensures { 0 < result → MeansWord (means self) (byte_or_pair is_pair first second) result }
@@ -69,7 +77,7 @@ pub trait Pieces: Copy {
         0
     }
 
-    /// The same character as a code unit of UTF-16, or 0. Takes no memory.
+    /// Returns the same character as a code unit of UTF-16, or 0. Takes no memory.
     #[inline(always)]
     fn unit(self, is_pair: bool, first: u8, second: u8) -> u16
         ensures { 0 < result → MeansUnit (means self) (byte_or_pair is_pair first second) result }
@@ -79,20 +87,25 @@ pub trait Pieces: Copy {
         0
     }
 
-    /// Whether it pays to look each byte up in a table: where most bytes are a character by themselves. What is
-    /// written is the same either way. Takes no memory.
+    /// Returns whether looking each byte up in a table pays.
+    ///
+    /// It does if most bytes are a character by themselves. The output is the same either way.
+    /// Takes no memory.
     fn are_bytes(self) -> bool {
         let _pieces = self;
         false
     }
 }
 
-/// Writes the characters that the bytes in front of `src` are, as `put_pieces` of the output does, and answers how many
-/// bytes they have. It is a function by itself, and no part of the loop over bytes that calls it: so that one stays small
-/// enough to be compiled into the loop that replaces what is malformed. Takes no memory.
+/// Writes characters from the front of `src`, as `put_pieces` of the output does.
+///
+/// Returns their length in bytes. Takes no memory. It is a function of its own, so that the loop
+/// over bytes that calls it stays small enough to be inlined into the loop that replaces malformed
+/// sequences.
 #[inline(never)]
 pub fn put_run<U: Units, P: Pieces>(out: &mut U, pieces: P, src: &[u8]) -> usize
-    ensures { PutsPieces U.units_of (P.means pieces) (U.output out.old) (U.output out.new) src.now result }
+    ensures { PutsPieces U.units_of (P.means pieces) (U.output out.old) (U.output out.new) src.now
+        result }
 {
     out.put_pieces(pieces, src)
 }

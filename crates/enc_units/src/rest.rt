@@ -1,14 +1,16 @@
-//! What is left of a character whose first bytes are written over.
+//! The rest of a character whose first bytes are overwritten.
 
 ghost use Rattle.std.specs.Prelude.{◌≡◌, ◌≤◌, length, take, drop};
 ghost use Rattle.enc_units.specs.Rest.{without_continuations};
 
-/// Makes the bytes from 0x80 to 0xBF that follow the first `at` directly 00: what is left there of a character whose first
-/// bytes were written over. All other bytes stay. Condition: there are `at` bytes. Takes no memory.
+/// Sets the bytes from 0x80 to 0xBF that directly follow the first `at` to 00.
+///
+/// They are the rest of a character whose first bytes were overwritten. All other bytes are
+/// unchanged. Takes no memory. Condition: there are at least `at` bytes.
 pub fn clear_rest(dst: &mut [u8], at: usize)
     requires { at ≤ length dst.old }
     ensures front { take at dst.new ≡ take at dst.old }
-    ensures behind { drop at dst.new ≡ without_continuations (drop at dst.old) }
+    ensures rest { drop at dst.new ≡ without_continuations (drop at dst.old) }
     ensures len { length dst.new ≡ length dst.old }
 {
     let mut end = at;

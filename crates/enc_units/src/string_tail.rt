@@ -13,11 +13,13 @@ use crate::units::Units;
 use crate::utf8::utf8_front;
 use crate::utf8_slice::Utf8Slice;
 
-/// Characters are gathered in so many bytes before they are appended, where there is room for so many.
+/// The length of the buffer in which characters are collected before they are appended. With less
+/// room, none are.
 const GATHERED: usize = 256;
 
-/// A String that takes UTF-8 within its capacity: its room is the capacity less the length. What it takes is appended, and
-/// nothing is moved and no memory taken for it.
+/// A String that takes UTF-8 within its capacity: its room is the spare capacity.
+///
+/// Appending takes no memory.
 #[derive(Drop)]
 pub struct StringTail<'a> {
     text: &'a mut String,
@@ -26,7 +28,7 @@ pub struct StringTail<'a> {
 }
 
 impl<'a> StringTail<'a> {
-    /// The whole spare capacity. Takes no memory.
+    /// Returns an output into the whole spare capacity. Takes no memory.
     pub fn new(text: &'a mut String) -> StringTail<'a>
         ensures same_borrow { result.text.ghost_name ≡ text.entry.ghost_name }
         ensures now { result.text.now ≡ text.old }
@@ -41,8 +43,10 @@ impl<'a> StringTail<'a> {
     fn append(&mut self, bytes: &[u8])
         requires utf8 { IsUtf8 bytes.now }
         requires fits { length bytes.now ≤ self.old.room }
-        ensures { string_output (string_bytes self.new.text.now) self.new.room self.new.text.ghost_name
-            ≡ with_appended (string_output (string_bytes self.old.text.now) self.old.room self.old.text.ghost_name) bytes.now }
+        ensures { string_output (string_bytes self.new.text.now) self.new.room
+            self.new.text.ghost_name
+            ≡ with_appended (string_output (string_bytes self.old.text.now) self.old.room
+            self.old.text.ghost_name) bytes.now }
     {
         let _ = self
             .text

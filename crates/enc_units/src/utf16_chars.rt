@@ -11,15 +11,17 @@ use crate::mapped_bytes::MARGIN;
 use crate::mapping::Mapping;
 use crate::utf16_mapped::write_utf16;
 
-/// The characters of code units of UTF-16, where a surrogate without its partner is U+FFFD (Unicode Standard 3.9, D91).
-/// They are read by themselves: a pair of which only one half is here is no pair.
+/// The characters of code units of UTF-16 (Unicode Standard 3.9, D91).
+///
+/// A surrogate without its partner is U+FFFD. The code units are read by themselves: half a pair is
+/// no pair.
 #[derive(Drop)]
 pub struct Utf16Chars<'a> {
     units: &'a [u16],
 }
 
 impl<'a> Utf16Chars<'a> {
-    /// All characters of some code units. Takes no memory.
+    /// Returns the input of all characters of some code units. Takes no memory.
     pub fn new(units: &'a [u16]) -> Utf16Chars<'a>
         ensures { result.units.now ≡ units.now }
     {
@@ -27,7 +29,7 @@ impl<'a> Utf16Chars<'a> {
     }
 }
 
-/// The character of a code unit that is in no pair.
+/// Returns the character of a code unit that is in no pair.
 #[inline(always)]
 fn lone(unit: u16) -> char
     ensures { result ≡ lossy_unit_char unit }
@@ -35,7 +37,7 @@ fn lone(unit: u16) -> char
     char::from_u32(unit as u32).unwrap_or('\u{FFFD}')
 }
 
-/// The character of a surrogate pair.
+/// Returns the character of a surrogate pair.
 #[inline(always)]
 fn pair(high: u16, low: u16) -> char
     requires high_from { 0xD800 ≤ high }
@@ -48,10 +50,11 @@ fn pair(high: u16, low: u16) -> char
     char::from_u32(code).unwrap()
 }
 
-/// Whether the first two code units are a surrogate pair.
+/// Returns whether the first two code units are a surrogate pair.
 #[inline(always)]
 fn begins_with_pair(units: &[u16]) -> bool
-    ensures pair { IsTrue result → (2 ≤ length units.now) × IsSurrogatePair (slice_index units.now 0) (slice_index units.now 1) }
+    ensures pair { IsTrue result → (2 ≤ length units.now)
+        × IsSurrogatePair (slice_index units.now 0) (slice_index units.now 1) }
     ensures lone { IsFalse result
         → IsSurrogatePair (slice_index units.now 0) (slice_index units.now 1) → ⊥ }
 {
@@ -63,7 +66,7 @@ fn begins_with_pair(units: &[u16]) -> bool
     0xD800 <= high && high < 0xDC00 && 0xDC00 <= low && low < 0xE000
 }
 
-/// The first character, and how many code units it is read from.
+/// Returns the first character and the number of its code units.
 #[inline(always)]
 pub(crate) fn first(units: &[u16]) -> Option<(char, usize)>
     ensures { MatchOption result (units.now ≡ []) (λ p. IsFirstUtf16Char units.now p.0 p.1) }
@@ -77,7 +80,8 @@ pub(crate) fn first(units: &[u16]) -> Option<(char, usize)>
     Some((lone(units[0]), 1))
 }
 
-/// How many code units there are, which is also how many their characters have: U+FFFD has one, as what it stands for.
+/// Returns the number of code units, which is also that of their characters: U+FFFD has one, as the
+/// surrogate in its place.
 fn unit_count(units: &[u16]) -> usize
     ensures { result ≡ length (units_of_text encode_utf16 (utf16_lossy_chars units.now)) }
 {

@@ -10,7 +10,7 @@ use crate::mapping::Mapping;
 use crate::utf16_chars::first;
 use std::simd::prelude::*;
 
-/// How many of sixteen code units are ASCII, before one that isn't.
+/// Returns how many of sixteen code units come before the first that is not ASCII.
 #[inline(always)]
 fn ascii_units(units: Simd<u16, 16>) -> usize
     ensures bound { result ≤ 16 }
@@ -24,7 +24,7 @@ fn ascii_units(units: Simd<u16, 16>) -> usize
     }
 }
 
-/// The lower seven bits of sixteen code units, which are all of those that are ASCII.
+/// Returns the lower seven bits of sixteen code units, which are all bits of those that are ASCII.
 #[inline(always)]
 fn low_bytes(units: Simd<u16, 16>) -> u8x16
     ensures { result ≡ map (λ u. u % 0x80) units }
@@ -32,8 +32,9 @@ fn low_bytes(units: Simd<u16, 16>) -> u8x16
     (units & Simd::<u16, 16>::splat(0x7F)).cast::<u8>()
 }
 
-/// Writes the bytes of the first characters of UTF-16 into a slice, from `from` on. Returns the numbers of code units
-/// read and of bytes written. The run need not be maximal.
+/// Writes the bytes of the first characters of UTF-16 to a slice, from `from` on.
+///
+/// Returns the numbers of code units read and of bytes written. The run need not be maximal.
 #[inline(never)]
 pub(crate) fn write_utf16<M: Mapping>(
     mapping: M,

@@ -19,10 +19,11 @@ use crate::utf8_pieces::Utf8Pieces;
 use crate::utf8_units::write_units;
 use crate::widen::{is_nearly_ascii, widen_ascii};
 
-/// The number of bytes of UTF-8 that are looked at before they are written: few enough to be in the nearest cache then.
+/// The number of bytes of UTF-8 that are checked before they are written: few enough to be in the
+/// nearest cache then.
 const PART: usize = 4096;
 
-/// A table is made for a run of so many bytes.
+/// The least number of bytes of a run for which a table is built.
 const LONG: usize = 1024;
 
 /// A slice that takes UTF-16 from its start on.
@@ -34,7 +35,7 @@ pub struct Utf16Slice<'a> {
 }
 
 impl<'a> Utf16Slice<'a> {
-    /// The whole slice, with nothing written yet. Takes no memory.
+    /// Returns an output into the whole slice, with nothing written. Takes no memory.
     pub fn new(dst: &'a mut [u16]) -> Utf16Slice<'a>
         ensures same_borrow { result.dst.ghost_name ≡ dst.entry.ghost_name }
         ensures now { result.dst.now ≡ dst.old }
@@ -43,21 +44,24 @@ impl<'a> Utf16Slice<'a> {
         Utf16Slice { dst, len: 0 }
     }
 
-    /// How many code units were written.
+    /// Returns the number of code units written.
     pub fn len(&self) -> usize
         ensures { result ≡ self.now.len }
     {
         self.len
     }
 
-    /// Writes the code units of a character and answers true, or writes nothing where they don't fit.
+    /// Writes a character and returns true, or writes nothing and returns false if it does not fit.
     #[inline(always)]
     fn append(&mut self, c: char) -> bool
-        ensures fits { result ≡ nat_le (length (encode_utf16 c)) (length self.old.dst.now - self.old.len) }
+        ensures fits { result ≡ nat_le (length (encode_utf16 c))
+            (length self.old.dst.now - self.old.len) }
         ensures scalar { IsScalar c }
-        ensures written { IsTrue result → slice_output self.new.len self.new.dst.now self.new.dst.ghost_name
-            ≡ with_appended (slice_output self.old.len self.old.dst.now self.old.dst.ghost_name) (encode_utf16 c) }
-        ensures unchanged { IsFalse result → slice_output self.new.len self.new.dst.now self.new.dst.ghost_name
+        ensures written { IsTrue result
+            → slice_output self.new.len self.new.dst.now self.new.dst.ghost_name ≡ with_appended
+            (slice_output self.old.len self.old.dst.now self.old.dst.ghost_name) (encode_utf16 c) }
+        ensures unchanged { IsFalse result
+            → slice_output self.new.len self.new.dst.now self.new.dst.ghost_name
             ≡ slice_output self.old.len self.old.dst.now self.old.dst.ghost_name }
     {
         let width = c.len_utf16();
@@ -71,7 +75,7 @@ impl<'a> Utf16Slice<'a> {
         true
     }
 
-    /// Writes the ASCII in front, as much as fits, and answers how much.
+    /// Writes the ASCII at the front, as much as fits, and returns its length.
     #[inline(always)]
     fn append_ascii(&mut self, src: &[u8]) -> usize
         ensures { PutsAscii encode_utf16
@@ -83,13 +87,15 @@ impl<'a> Utf16Slice<'a> {
         len
     }
 
-    /// Writes code units and returns true, or writes nothing where they don't fit.
+    /// Writes code units and returns true, or writes nothing and returns false if they do not fit.
     #[inline(always)]
     fn append_units(&mut self, units: &[u16]) -> bool
         ensures fits { IsTrue result → length units.now ≤ length self.old.dst.now - self.old.len }
-        ensures written { IsTrue result → slice_output self.new.len self.new.dst.now self.new.dst.ghost_name
-            ≡ with_appended (slice_output self.old.len self.old.dst.now self.old.dst.ghost_name) units.now }
-        ensures unchanged { IsFalse result → slice_output self.new.len self.new.dst.now self.new.dst.ghost_name
+        ensures written { IsTrue result
+            → slice_output self.new.len self.new.dst.now self.new.dst.ghost_name ≡ with_appended
+            (slice_output self.old.len self.old.dst.now self.old.dst.ghost_name) units.now }
+        ensures unchanged { IsFalse result
+            → slice_output self.new.len self.new.dst.now self.new.dst.ghost_name
             ≡ slice_output self.old.len self.old.dst.now self.old.dst.ghost_name }
     {
         if units.len() > self.dst.len() - self.len {
@@ -100,7 +106,8 @@ impl<'a> Utf16Slice<'a> {
         true
     }
 
-    /// Writes the ASCII in front, as much as fits, where ASCII bytes are characters, and returns how much.
+    /// Writes the ASCII at the front, as much as fits, if ASCII bytes are characters. Returns its
+    /// length.
     #[inline(always)]
     fn append_ascii_of<G: Gather>(&mut self, by: &G, src: &[u8]) -> usize
         ensures { PutsPieces encode_utf16 (G.means by.now)
@@ -113,8 +120,8 @@ impl<'a> Utf16Slice<'a> {
         self.append_ascii(src)
     }
 
-    /// Writes ASCII, and characters that are gathered, a buffer of them at once, until nothing is gathered, and returns how
-    /// many bytes they have.
+    /// Writes ASCII, and characters collected in a buffer, until none are found. Returns their
+    /// length in bytes.
     #[inline(always)]
     fn append_gathered<G: Gather>(&mut self, by: &G, buffer: &mut [u16], src: &[u8]) -> usize
         requires { G.ready by.now }
@@ -138,8 +145,9 @@ impl<'a> Utf16Slice<'a> {
         }
     }
 
-    /// Writes the characters in front by a table of bytes, and returns how many bytes they have. It is a function by itself,
-    /// since the table is cleared at each call.
+    /// Writes the characters at the front by a table of bytes. Returns their length in bytes.
+    ///
+    /// It is a function of its own, since the table is cleared at each call.
     #[inline(never)]
     fn append_by_table<P: Pieces>(&mut self, pieces: P, src: &[u8]) -> usize
         ensures { PutsPieces encode_utf16 (P.means pieces)
@@ -149,8 +157,8 @@ impl<'a> Utf16Slice<'a> {
         self.append_gathered(&ByteUnits::of(pieces), &mut [0; UNITS_BUFFER], src)
     }
 
-    /// Writes the characters in front that are gathered, where there are bytes enough, and returns how many bytes they
-    /// have.
+    /// Writes the characters at the front that can be collected in a buffer, if there are bytes
+    /// enough. Returns their length in bytes.
     #[inline(always)]
     fn append_run<P: Pieces>(&mut self, pieces: P, src: &[u8]) -> usize
         ensures { PutsPieces encode_utf16 (P.means pieces)
@@ -173,8 +181,8 @@ impl<'a> Utf16Slice<'a> {
         0
     }
 
-    /// Writes well-formed UTF-8 in front, as much as is seen in a part, and returns how much: none
-    /// of a short one.
+    /// Writes well-formed UTF-8 from the front, as much as is checked in a part, and nothing if
+    /// that is short. Returns its length.
     #[inline(always)]
     fn append_part(&mut self, src: &[u8]) -> usize
         ensures { PutsPieces encode_utf16 IsUtf8Char
@@ -194,8 +202,8 @@ impl<'a> Utf16Slice<'a> {
         taken
     }
 
-    /// Writes the character in front, if it is well-formed UTF-8 and fits, and returns how many
-    /// bytes it has.
+    /// Writes the character at the front, if it is well-formed UTF-8 and fits. Returns its length
+    /// in bytes.
     #[inline(always)]
     fn append_char(&mut self, src: &[u8]) -> usize
         ensures { PutsPieces encode_utf16 IsUtf8Char
@@ -214,8 +222,8 @@ impl<'a> Utf16Slice<'a> {
         len
     }
 
-    /// Writes well-formed UTF-8 in front, a part or the first character of nearly ASCII text, and
-    /// returns how much.
+    /// Writes well-formed UTF-8 from the front: a part, or the first character of nearly ASCII
+    /// text. Returns its length.
     #[inline(always)]
     fn append_some(&mut self, src: &[u8]) -> usize
         ensures { PutsPieces encode_utf16 IsUtf8Char
@@ -228,8 +236,8 @@ impl<'a> Utf16Slice<'a> {
         self.append_part(src)
     }
 
-    /// Writes well-formed UTF-8 in front, part by part with the ASCII after each, then one by one,
-    /// and returns how much.
+    /// Writes well-formed UTF-8 from the front, in parts with the ASCII after each, and then one by
+    /// one. Returns its length.
     #[inline(never)]
     fn append_utf8(&mut self, src: &[u8]) -> usize
         ensures { PutsPieces encode_utf16 IsUtf8Char
@@ -249,8 +257,10 @@ impl<'a> Utf16Slice<'a> {
         }
     }
 
-    /// Writes the characters in front one by one, but ASCII as runs, and answers how many bytes they have. It leaves off
-    /// where no character is known to begin, or the next one doesn't fit.
+    /// Writes the characters at the front one by one, but ASCII in runs. Returns their length in
+    /// bytes.
+    ///
+    /// It stops where no character is known to begin, or the next one does not fit.
     #[inline(always)]
     fn append_each<P: Pieces>(&mut self, pieces: P, src: &[u8]) -> usize
         ensures { PutsPieces encode_utf16 (P.means pieces)

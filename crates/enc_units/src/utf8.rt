@@ -7,8 +7,9 @@ ghost use Rattle.enc_units.specs.Utf8Run.{CanFollowBytes, CanFollowBytesAt, IsCh
 use crate::ascii::are_all_ascii;
 use std::simd::prelude::*;
 
-/// How many bytes the well-formed sequence in front of some has, 0 where none is shown to stand there (Unicode
-/// Standard 3.9, table 3-7).
+/// Returns the length in bytes of the well-formed sequence at the front, or 0 if none is found.
+///
+/// Unicode Standard 3.9, table 3-7, lists the well-formed sequences.
 #[inline(always)]
 pub fn char_len(src: &[u8]) -> usize
     ensures within { result ≤ length src.now }
@@ -49,7 +50,8 @@ pub fn char_len(src: &[u8]) -> usize
     4
 }
 
-/// How many bytes the well-formed sequences in front of some have that begin within the first sixteen bytes.
+/// Returns the length of a prefix of well-formed sequences, which begin within the first sixteen
+/// bytes.
 #[inline(always)]
 fn chars_len(src: &[u8]) -> usize
     ensures within { result ≤ length src.now }
@@ -66,7 +68,7 @@ fn chars_len(src: &[u8]) -> usize
     at
 }
 
-/// Whether no sequence that begins in three bytes wants a byte behind them.
+/// Returns whether no sequence that begins in three bytes requires a byte after them.
 #[inline(always)]
 fn is_between(src: &[u8], at: usize) -> bool
     requires { at + 3 ≤ length src.now }
@@ -75,11 +77,11 @@ fn is_between(src: &[u8], at: usize) -> bool
     src[at] < 0xF0 && src[at + 1] < 0xE0 && src[at + 2] < 0xC0
 }
 
-/// Whether each of sixteen bytes may follow the three before it.
+/// Returns whether each of sixteen bytes may follow the three before it.
 #[inline(always)]
 fn follow(third: u8x16, second: u8x16, first: u8x16, bytes: u8x16) -> bool
-    ensures { IsTrue result → (k : ℕ) → k < 16 →
-        CanFollowBytes (slice_index third k) (slice_index second k) (slice_index first k) (slice_index bytes k) }
+    ensures { IsTrue result → (k : ℕ) → k < 16 → CanFollowBytes (slice_index third k)
+        (slice_index second k) (slice_index first k) (slice_index bytes k) }
 {
     let wanted = first.simd_ge(u8x16::splat(0xC0))
         | second.simd_ge(u8x16::splat(0xE0))
@@ -97,7 +99,8 @@ fn follow(third: u8x16, second: u8x16, first: u8x16, bytes: u8x16) -> bool
     ((wanted ^ continues) | never | outside).to_bitmask() == 0
 }
 
-/// Whether the sixteen bytes behind three may follow.
+/// Returns whether each of the sixteen bytes after the three at `at` may follow the three before
+/// it.
 #[inline(always)]
 fn block_follows(src: &[u8], at: usize) -> bool
     requires { at + 19 ≤ length src.now }
@@ -111,7 +114,7 @@ fn block_follows(src: &[u8], at: usize) -> bool
     )
 }
 
-/// Whether the 64 bytes behind three may follow.
+/// Returns whether each of the 64 bytes after the three at `at` may follow the three before it.
 #[inline(always)]
 fn four_blocks_follow(src: &[u8], at: usize) -> bool
     requires { at + 67 ≤ length src.now }
@@ -123,7 +126,8 @@ fn four_blocks_follow(src: &[u8], at: usize) -> bool
         && block_follows(src, at + 48)
 }
 
-/// Whether the 64 bytes behind three are ASCII, and nothing else is wanted there.
+/// Returns whether the 64 bytes after the three at `at` are ASCII, and these three require no other
+/// byte.
 #[inline(always)]
 fn ascii_follows(src: &[u8], at: usize) -> bool
     requires { at + 67 ≤ length src.now }
@@ -132,7 +136,7 @@ fn ascii_follows(src: &[u8], at: usize) -> bool
     are_all_ascii(u8x64::from_slice(&src[at + 3..])) && is_between(src, at)
 }
 
-/// How many bytes behind the first three are seen in blocks to follow.
+/// Returns a number of bytes after the first three that may follow one another, found in blocks.
 #[inline(always)]
 fn following(src: &[u8]) -> usize
     requires { 3 ≤ length src.now }
@@ -152,7 +156,8 @@ fn following(src: &[u8]) -> usize
     at
 }
 
-/// How many bytes behind the first three are seen in blocks to be well-formed, where those three end a character.
+/// Returns a number of bytes after the first three that are well-formed, found in blocks. It is 0
+/// unless these three end a character.
 #[inline(always)]
 fn blocks_len(src: &[u8]) -> usize
     requires { 3 ≤ length src.now }
@@ -169,7 +174,9 @@ fn blocks_len(src: &[u8]) -> usize
     end
 }
 
-/// How many bytes in front are well-formed UTF-8. It may leave off before any character, as near the end.
+/// Returns the length of a prefix that is well-formed UTF-8.
+///
+/// It need not be maximal, as near the end.
 #[inline(always)]
 pub fn utf8_front(src: &[u8]) -> usize
     ensures within { result ≤ length src.now }

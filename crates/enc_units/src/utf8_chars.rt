@@ -15,7 +15,7 @@ pub struct Utf8Chars<'a> {
 }
 
 impl<'a> Utf8Chars<'a> {
-    /// All characters of a text. Takes no memory.
+    /// Returns the input of all characters of a text. Takes no memory.
     pub fn new(text: &'a str) -> Utf8Chars<'a>
         ensures { result.text.now ≡ text.now }
     {
@@ -23,7 +23,7 @@ impl<'a> Utf8Chars<'a> {
     }
 }
 
-/// How many bytes a text has, which are those of its characters.
+/// Returns the number of bytes of a text, which are those of its characters.
 fn unit_count(text: &str) -> usize
     ensures { result ≡ length (units_of_text encode_utf8 (chars text.now)) }
 {

@@ -7,14 +7,14 @@ use crate::mapped_bytes::{MARGIN, put_bytes, put_lanes};
 use crate::mapping::Mapping;
 use std::simd::prelude::*;
 
-/// A character of UTF-8 and how many bytes it has.
+/// A character of UTF-8 and the number of its bytes.
 #[derive(Clone, Copy)]
 struct Found {
     c: char,
     width: usize,
 }
 
-/// The character beyond ASCII that begins at `at` (Unicode Standard 3.9, table 3-6).
+/// Returns the character beyond ASCII that begins at `at` (Unicode Standard 3.9, table 3-6).
 #[inline(always)]
 fn found_at(src: &[u8], at: usize) -> Found
     requires within { at + 4 ≤ length src.now }
@@ -48,8 +48,9 @@ fn found_at(src: &[u8], at: usize) -> Found
     }
 }
 
-/// Writes the bytes of the first characters of UTF-8 into a slice, from `from` on. Returns the numbers of bytes read
-/// and written. The run need not be maximal.
+/// Writes the bytes of the first characters of UTF-8 to a slice, from `from` on.
+///
+/// Returns the numbers of bytes read and written. The run need not be maximal.
 #[inline(never)]
 pub(crate) fn write_utf8<M: Mapping>(
     mapping: M,
@@ -61,8 +62,8 @@ pub(crate) fn write_utf8<M: Mapping>(
     requires within { from ≤ length dst.old }
     ensures within { result.0 ≤ length src.now }
     ensures utf8 { IsUtf8 (drop result.0 src.now) }
-    ensures writes { WritesMapped (M.means mapping) (chars src.now) (chars (drop result.0 src.now)) dst.old dst.new from
-        result.1 }
+    ensures writes { WritesMapped (M.means mapping) (chars src.now) (chars (drop result.0 src.now))
+        dst.old dst.new from result.1 }
 {
     let mut read = 0;
     let mut at = from;

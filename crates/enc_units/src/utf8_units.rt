@@ -1,5 +1,5 @@
-//! Well-formed UTF-8 as UTF-16, sixteen bytes at a time. There is no branch on which characters
-//! have one, two or three bytes.
+//! Well-formed UTF-8 as UTF-16, sixteen bytes at a time, with no branch on whether characters have
+//! one, two or three bytes.
 
 ghost use Rattle.std.specs.Prelude.{◌≡◌, ℕ, ◌+◌, ◌-◌, ◌/◌, ◌%◌, ◌^◌, ◌<◌, ◌≤◌, ◌++◌, []};
 ghost use Rattle.std.specs.Prelude.{map, length, take, drop, slice_index, IsTrue, if◌then◌else◌};
@@ -16,11 +16,11 @@ use std::simd::prelude::*;
 /// The length of the buffer.
 const BUFFER: usize = 304;
 
-/// Once more code units are there, no further bytes are read. The bytes read at once give at most
+/// No bytes are read once there are more code units than this. The bytes read at once give at most
 /// sixteen.
 const ENOUGH: usize = 256;
 
-/// The code unit that a byte gives, by the two after it.
+/// Returns the code unit that a byte gives, by the two after it.
 #[inline(always)]
 fn unit_of(first: u8, second: u8, third: u8) -> u16
     ensures { result ≡ code_unit_of_byte first second third }
@@ -41,7 +41,8 @@ fn unit_of(first: u8, second: u8, third: u8) -> u16
     (unit % 0x10000) as u16
 }
 
-/// The code units of sixteen bytes, if those that give one begin characters of at most three bytes.
+/// Returns the code units of sixteen bytes, if those that give one begin characters of at most
+/// three bytes.
 #[inline(always)]
 fn narrow_units(first: u8x16, second: u8x16, third: u8x16) -> u16x16
     ensures { (k : ℕ) → k < 16 → slice_index first k < 0xF0 →
@@ -57,7 +58,7 @@ fn narrow_units(first: u8x16, second: u8x16, third: u8x16) -> u16x16
     first.simd_lt(u16x16::splat(0x80)).select(first, long)
 }
 
-/// The code units of sixteen bytes.
+/// Returns the code units of sixteen bytes.
 #[inline(always)]
 fn all_units(first: u8x16, second: u8x16, third: u8x16) -> u16x16
     ensures { (k : ℕ) → k < 16 →
@@ -77,7 +78,7 @@ fn all_units(first: u8x16, second: u8x16, third: u8x16) -> u16x16
     first.simd_ge(u16x16::splat(0xF0)).select(four, long)
 }
 
-/// Whether all of sixteen bytes are below 0xF0: none begins a character of four bytes.
+/// Returns whether all of sixteen bytes are below 0xF0: none begins a character of four bytes.
 #[inline(always)]
 fn are_narrow(bytes: u8x16) -> bool
     ensures { IsTrue result → (k : ℕ) → k < 16 → slice_index bytes k < 0xF0 }
@@ -85,8 +86,8 @@ fn are_narrow(bytes: u8x16) -> bool
     bytes.simd_ge(u8x16::splat(0xF0)).to_bitmask() == 0
 }
 
-/// The code units of the sixteen bytes from a place on, where they give one. `before` is the
-/// sixteen bytes that begin two places before.
+/// Returns the code units of the sixteen bytes from `at` on that give one. `before` has the sixteen
+/// bytes that begin two before them.
 #[inline(always)]
 fn units_of(before: u8x16, src: &[u8], at: usize) -> u16x16
     requires { at + 18 ≤ length src.now }
@@ -104,8 +105,8 @@ fn units_of(before: u8x16, src: &[u8], at: usize) -> u16x16
     all_units(first, second, third)
 }
 
-/// Which of sixteen bytes give a code unit, the first in the lowest bit, by the sixteen that begin
-/// two places before.
+/// Returns which of sixteen bytes give a code unit, the first in the lowest bit. `before` has the
+/// sixteen that begin two before them.
 #[inline(always)]
 fn marks_of(before: u8x16, bytes: u8x16) -> u64
     ensures { (k : ℕ) → k < 16 → result / 2 ^ k % 2 ≡
@@ -115,7 +116,7 @@ fn marks_of(before: u8x16, bytes: u8x16) -> u64
     (begin | before.simd_ge(u8x16::splat(0xF0))).to_bitmask()
 }
 
-/// The bytes at these places.
+/// Returns the bytes at these places.
 #[inline(always)]
 fn pick(bytes: u8x16, places: u8x16) -> u8x16
     requires { (k : ℕ) → k < 16 → slice_index places k < 16 }
@@ -124,8 +125,8 @@ fn pick(bytes: u8x16, places: u8x16) -> u8x16
     bytes.swizzle_dyn(places)
 }
 
-/// Stores those of eight code units that are marked after the first `at` of a buffer, and returns
-/// where they end.
+/// Stores those of eight code units whose bits are set, after the first `at` of a buffer. Returns
+/// their end.
 #[inline(always)]
 fn store_marked(buffer: &mut [u16], at: usize, units: u16x8, marks: u64) -> usize
     requires { at + 8 ≤ length buffer.old }
@@ -139,7 +140,7 @@ fn store_marked(buffer: &mut [u16], at: usize, units: u16x8, marks: u64) -> usiz
     at + mask.count_ones() as usize
 }
 
-/// Stores the code units of the sixteen bytes from a place on, and returns where they end.
+/// Stores the code units of the sixteen bytes from `at` on. Returns their end.
 #[inline(always)]
 fn store_sixteen(buffer: &mut [u16], end: usize, src: &[u8], at: usize) -> usize
     requires after { 2 ≤ at }
@@ -156,7 +157,7 @@ fn store_sixteen(buffer: &mut [u16], end: usize, src: &[u8], at: usize) -> usize
     store_marked(buffer, middle, units.extract::<8, 8>(), marks / 0x100)
 }
 
-/// The byte two places before, or 0.
+/// Returns the byte two before `at`, or 0.
 #[inline(always)]
 fn byte_before(src: &[u8], at: usize) -> u8
     requires { at < length src.now }
@@ -165,7 +166,7 @@ fn byte_before(src: &[u8], at: usize) -> u8
     if at < 2 { 0 } else { src[at - 2] }
 }
 
-/// Whether the byte at a place gives a code unit.
+/// Returns whether the byte at `at` gives a code unit.
 #[inline(always)]
 fn gives(src: &[u8], at: usize) -> bool
     requires { at < length src.now }
@@ -175,7 +176,7 @@ fn gives(src: &[u8], at: usize) -> bool
     byte < 0x80 || 0xC0 <= byte || 0xF0 <= byte_before(src, at)
 }
 
-/// Stores the code unit of the byte at a place, if it gives one, and returns where it ends.
+/// Stores the code unit of the byte at `at`, if it gives one. Returns its end.
 #[inline(always)]
 fn store_one(buffer: &mut [u16], end: usize, src: &[u8], at: usize) -> usize
     requires from { at + 2 < length src.now }
@@ -192,7 +193,7 @@ fn store_one(buffer: &mut [u16], end: usize, src: &[u8], at: usize) -> usize
 }
 
 /// Stores the code units of the bytes from `from` on, up to `to` or until the buffer has enough.
-/// Returns where it leaves off, and how many code units there are.
+/// Returns the end of the bytes and the number of code units.
 #[inline(never)]
 fn gather_units(buffer: &mut [u16], src: &[u8], from: usize, to: usize) -> (usize, usize)
     requires some { from < to }
@@ -219,8 +220,10 @@ fn gather_units(buffer: &mut [u16], src: &[u8], from: usize, to: usize) -> (usiz
     (at, end)
 }
 
-/// Writes the UTF-16 of well-formed UTF-8, the first `len` bytes, to the front of a slice. Returns
-/// how many code units it has. The rest of the slice stays.
+/// Writes the UTF-16 of the first `len` bytes, which are well-formed UTF-8, to the start of a
+/// slice.
+///
+/// Returns the number of code units. The rest of the slice is unchanged.
 #[inline(never)]
 pub(crate) fn write_units(dst: &mut [u16], src: &[u8], len: usize) -> usize
     requires utf8 { IsWellFormedUtf8 (take len src.now) }

@@ -6,7 +6,7 @@ ghost use Rattle.enc_units.specs.Validity.{AreAscii};
 use crate::ascii::are_ascii;
 use std::simd::prelude::*;
 
-/// Stores the ASCII bytes in front as code units, as many as fit, and returns how many.
+/// Stores the ASCII bytes at the front as code units, as many as fit. Returns their number.
 #[inline(always)]
 pub(crate) fn widen_ascii(src: &[u8], dst: &mut [u16]) -> usize
     ensures read { result ≤ length src.now }
@@ -36,8 +36,10 @@ pub(crate) fn widen_ascii(src: &[u8], dst: &mut [u16]) -> usize
     at
 }
 
-/// Whether at most four of the next 64 bytes are beyond ASCII. Such text is faster as ASCII and
-/// single characters. It is a guess: the output is the same either way.
+/// Returns whether at most four of the next 64 bytes are beyond ASCII. Such text is faster as ASCII
+/// and single characters.
+///
+/// It is a guess: the output is the same either way.
 #[inline(always)]
 pub(crate) fn is_nearly_ascii(src: &[u8]) -> bool {
     if src.len() < 64 {

@@ -1,19 +1,23 @@
 -- Places in a text, counted in characters.
-use Rattle.std.proofs.Common.{◌≡◌, ◌↔◌, ℕ, suc, zero, ◌+◌, ◌-◌, ◌<◌, ◌≤◌, Bool, true, false, List, [], ◌∷◌, ◌++◌, chars, length, take, drop, nat_lt, ◌/◌, ◌%◌, cond, refl, ap, ◌∙◌, sym, arith, subst, append-nil, length-append, length-drop}
+use Rattle.std.proofs.Common.{◌≡◌, ◌↔◌, ℕ, suc, zero, ◌+◌, ◌-◌, ◌<◌, ◌≤◌, Bool, true, false, List, [], ◌∷◌, ◌++◌, chars}
+use Rattle.std.proofs.Common.{length, take, drop, nat_lt, ◌/◌, ◌%◌, cond, refl, ap, ◌∙◌, sym, arith, subst, append-nil}
+use Rattle.std.proofs.Common.{length-append, length-drop}
 use Rattle.std.proofs.lemmas.List.{append_cancel_right, take-append-drop, drop-drop, drop-append-le}
 use Rattle.std.proofs.Math.ListN.{drop_of_length-le}
 use Rattle.std.proofs.Math.Seq.{take-add}
 use Rattle.std.specs.Char.Escape.{encode_utf16}
 use Rattle.std.specs.Char.Utf16.{utf16_lossy_chars}
 use Rattle.enc_units.proofs.UnitsLemmas.{utf_16_read_back}
-use Rattle.enc_encoders.proofs.StepLemmas.{units_of_text-append}
-use Rattle.std.proofs.lemmas.Str.{chars_from_encodes, IsUtf8-nil, chars-append, chars_past_char, IsUtf8-past_char, scalars-chars, encodes-chars, IsUtf8-take, IsUtf8-drop, IsCharBoundary-from_drop, length-encode, len_utf8_bounds}
+use Rattle.enc_encoder.proofs.StepLemmas.{units_of_text-append}
+use Rattle.std.proofs.lemmas.Str.{chars_from_encodes, IsUtf8-nil, chars-append, chars_past_char, IsUtf8-past_char}
+use Rattle.std.proofs.lemmas.Str.{scalars-chars, encodes-chars, IsUtf8-take, IsUtf8-drop, IsCharBoundary-from_drop}
+use Rattle.std.proofs.lemmas.Str.{length-encode, len_utf8_bounds}
 use Rattle.std.specs.Char.{encode_utf8}
 use Rattle.std.specs.Str.{IsUtf8, IsCharBoundary, encode_utf8_all}
 use Rattle.enc_units.specs.Output.{units_of_text}
 use Rattle.encoding_rs.specs.Run.{units_of_call}
 
--- what is left of a text behind so many characters
+-- the rest of a text after n characters
 pub record IsBehind (text rest : List ℕ) (count : ℕ) : Type 0 where
   pub few : count + length rest ≤ length text
   pub end : rest ≡ drop (length text - length rest) text
@@ -28,45 +32,49 @@ past [] x = refl
 past (y ∷ a) x = past a x
 
 pub one_more : (text rest others : List ℕ) (count c : ℕ) → IsBehind text rest count → rest ≡ encode_utf8 c ++ others → IsBehind text others (count + 1)
-one_more text rest others count c b e =
+one_more text rest others count c follows rest_is =
     let width = length (encode_utf8 c) in
-    let len : length rest ≡ width + length others = ap length e ∙ length-append (encode_utf8 c) others in
+    let len : length rest ≡ width + length others = ap length rest_is ∙ length-append (encode_utf8 c) others in
     let some : 1 ≤ width = omega (arith, length-encode c, len_utf8_bounds c) in
-    let others_are : others ≡ drop width rest = sym (ap (drop width) e ∙ past (encode_utf8 c) others) in
+    let others_are : others ≡ drop width rest = sym (ap (drop width) rest_is ∙ past (encode_utf8 c) others) in
     record {
-      few = omega (arith, len, b.few, some);
+      few = omega (arith, len, follows.few, some);
       end =
-          others_are ∙ ap (drop width) b.end ∙ drop-drop width (length text - length rest) text
-          ∙ ap (λ n. drop n text) (let f : length text - length rest + width ≡ length text - length others = omega (arith, len, b.few) in f);
-      utf8 = IsUtf8-past_char rest others c b.utf8 e;
-      chars = sym (ap (drop 1) (sym b.chars ∙ chars_past_char rest others c b.utf8 e)) ∙ drop-drop 1 count (chars text);
+          others_are ∙ ap (drop width) follows.end ∙ drop-drop width (length text - length rest) text
+          ∙ ap (λ n. drop n text) (let f : length text - length rest + width ≡ length text - length others = omega
+          (arith, len, follows.few) in f);
+      utf8 = IsUtf8-past_char rest others c follows.utf8 rest_is;
+      chars = sym (ap (drop 1) (sym follows.chars ∙ chars_past_char rest others c follows.utf8 rest_is))
+          ∙ drop-drop 1 count (chars text);
     }
 
 no_chars : (l : List ℕ) → length l ≡ 0 → chars l ≡ []
 no_chars [] e = sym (chars_from_encodes [] [] IsUtf8-nil refl)
 no_chars (x ∷ l) e = cc
 
--- where nothing is left, nothing is behind more characters either
+-- if nothing is left after n characters, nothing is left after more
 pub at_end : (text rest : List ℕ) (count more : ℕ) → IsBehind text rest count → length rest ≡ 0 → count ≤ more → chars rest ≡ drop more (chars text)
 at_end text rest count more b e h =
     let none = no_chars rest e in
     none ∙ sym (drop_of_length-le (chars text) (omega (arith, h, length-drop count (chars text), ap length (sym b.chars ∙ none))))
 
 pub boundary : (text rest : List ℕ) (count : ℕ) → IsBehind text rest count → IsCharBoundary text (length text - length rest)
-boundary text rest count b = IsCharBoundary-from_drop text (length text - length rest) (omega arith) (subst IsUtf8 b.end b.utf8)
+boundary text rest count follows =
+    IsCharBoundary-from_drop text (length text - length rest) (omega arith) (subst IsUtf8 follows.end follows.utf8)
 
--- so many characters, and those behind them
+-- n characters, and those after them
 pub front_chars : (text rest : List ℕ) (count n : ℕ) → IsUtf8 text → IsBehind text rest count → chars rest ≡ drop n (chars text)
     → chars (take (length text - length rest) text) ≡ take n (chars text)
-front_chars text rest count n u b e =
+front_chars text rest count n u follows e =
     let at = length text - length rest in
     append_cancel_right (chars (take at text)) (take n (chars text)) (drop n (chars text))
-    (ap (λ t. chars (take at text) ++ t) (sym e ∙ ap chars b.end) ∙ sym (chars-append (take at text) (drop at text) (IsUtf8-take text at u (boundary text rest count b)))
+    (ap (λ t. chars (take at text) ++ t) (sym e ∙ ap chars follows.end)
+    ∙ sym (chars-append (take at text) (drop at text) (IsUtf8-take text at u (boundary text rest count follows)))
     ∙ ap chars (take-append-drop at text) ∙ sym (take-append-drop n (chars text)))
 
--- Characters that have so many units.
+-- Characters that have n code units.
 
--- what is left of a front of the text that has so many units, of which these are left
+-- the rest of a prefix of the text with n code units, when these are left
 abbrev pub Leaves : (ℕ → List ℕ) → List ℕ → ℕ → ℕ → ℕ → Type 0
 Leaves units_of text units count left = (front back : List ℕ) → chars text ≡ front ++ back → units ≡ length (units_of_text units_of front)
     → (count ≤ length front) × (left ≡ length (units_of_text units_of (drop count front)))
@@ -86,10 +94,11 @@ one_left units_of (d ∷ others) back more c left width w h e s =
 
 pub takes_one : (units_of : ℕ → List ℕ) (text rest others : List ℕ) (units count left c width : ℕ) → IsBehind text rest count → rest ≡ encode_utf8 c ++ others
     → width ≡ length (units_of c) → 0 < left → Leaves units_of text units count left → Leaves units_of text units (count + 1) (left - width)
-takes_one units_of text rest others units count left c width b r w h l front back e u =
+takes_one units_of text rest others units count left c width follows r w h l front back e u =
     let now = l front back e u in
     let rest_is : c ∷ chars others ≡ drop count front ++ back =
-    sym (chars_past_char rest others c b.utf8 r) ∙ b.chars ∙ left_of front back (drop count (chars text)) count now.0 (ap (drop count) e) in
+    sym (chars_past_char rest others c follows.utf8 r) ∙ follows.chars
+    ∙ left_of front back (drop count (chars text)) count now.0 (ap (drop count) e) in
     let next = one_left units_of (drop count front) back (chars others) c left width w h now.1 rest_is in
     (omega (arith, next.0, length-drop count front), next.1 ∙ ap (λ x. length (units_of_text units_of x)) (drop-drop 1 count front))
 
@@ -97,38 +106,44 @@ none_left : (units_of : ℕ → List ℕ) → ((c : ℕ) → 1 ≤ length (units
 none_left units_of h [] e = refl
 none_left units_of h (c ∷ t) e = absurd (omega (arith, h c, length-append (units_of c) (units_of_text units_of t), e))
 
--- where no unit is left, they are all
+-- if no code unit is left, the n characters are all of them
 pub all_taken : (units_of : ℕ → List ℕ) → ((c : ℕ) → 1 ≤ length (units_of c)) → (text : List ℕ) (units count : ℕ) → Leaves units_of text units count 0
     → (front back : List ℕ) → chars text ≡ front ++ back → units ≡ length (units_of_text units_of front) → count ≡ length front
 all_taken units_of h text units count l front back e u =
     let now = l front back e u in
     omega (arith, now.0, length-drop count front, none_left units_of h (drop count front) (sym now.1))
 
--- where no character is left, they are all too
+-- if no character is left, they are all too
 pub at_end_taken : (units_of : ℕ → List ℕ) (text rest : List ℕ) (units count left : ℕ) → IsBehind text rest count → length rest ≡ 0 → Leaves units_of text units count left
     → (front back : List ℕ) → chars text ≡ front ++ back → units ≡ length (units_of_text units_of front) → count ≡ length front
-at_end_taken units_of text rest units count left b r l front back e u =
-    let now = l front back e u in
+at_end_taken units_of text rest units count left b r l front back chars_are u =
+    let now = l front back chars_are u in
     let none : [] ≡ drop count front ++ back =
-    sym (no_chars rest r) ∙ b.chars ∙ left_of front back (drop count (chars text)) count now.0 (ap (drop count) e) in
+    sym (no_chars rest r) ∙ b.chars
+    ∙ left_of front back (drop count (chars text)) count now.0 (ap (drop count) chars_are) in
     omega (arith, now.0, length-drop count front, ap length none, length-append (drop count front) back)
 
--- The rest of a text behind so many characters, or nothing where it has fewer.
+-- The rest of a text after n characters, or nothing if it has fewer.
 pub record IsCut (text rest : List ℕ) (count : ℕ) : Type 0 where
   pub reached : ℕ
-  pub behind : IsBehind text rest reached
+  pub follows : IsBehind text rest reached
   pub chars : chars rest ≡ drop count (chars text)
 
 pub cut_at : (text rest found : List ℕ) (reached count : ℕ) → IsBehind text rest reached → found ≡ rest → reached ≤ count → count ≤ reached → IsCut text found count
 cut_at text rest found reached count b e l h =
     let same : reached ≡ count = omega arith in
     let it = subst (λ (x : List ℕ). IsBehind text x reached) (sym e) b in
-    record { reached = reached; behind = it; chars = it.chars ∙ ap (λ n. drop n (chars text)) same }
+    record { reached = reached; follows = it; chars = it.chars ∙ ap (λ n. drop n (chars text)) same }
 
 pub cut_at_end : (text rest found : List ℕ) (reached count : ℕ) → IsBehind text rest reached → found ≡ rest → reached ≤ count → length rest ≡ 0 → IsCut text found count
-cut_at_end text rest found reached count b e l n =
-    let it = subst (λ (x : List ℕ). IsBehind text x reached) (sym e) b in
-    record { reached = reached; behind = it; chars = at_end text found reached count it (ap length e ∙ n) l }
+cut_at_end text rest found reached count b found_is_rest l n =
+    let it = subst (λ (x : List ℕ). IsBehind text x reached) (sym found_is_rest) b in
+    record {
+      reached = reached;
+      follows = it;
+      chars = at_end text found reached count it (ap length found_is_rest
+          ∙ n) l;
+    }
 
 pub some_units : (utf16 : Bool) (c : ℕ) → 1 ≤ length (units_of_call utf16 c)
 some_units false c = omega (arith, length-encode c, len_utf8_bounds c)
@@ -144,25 +159,27 @@ none_now units_of text units count (suc left) l h = absurd (omega arith)
 
 -- A text in UTF-16.
 
--- the units of the characters in front of what is left
+-- the code units of the characters before the rest
 pub record Converted (text rest units : List ℕ) : Type 0 where
   pub count : ℕ
-  pub behind : IsBehind text rest count
+  pub follows : IsBehind text rest count
   pub are : units ≡ units_of_text encode_utf16 (take count (chars text))
 
 pub none_converted : (text : List ℕ) → IsUtf8 text → Converted text text []
-none_converted text u = record { count = 0; behind = begin text u; are = refl }
+none_converted text u = record { count = 0; follows = begin text u; are = refl }
 
--- one character more
+-- one more character
 take_one : (t more : List ℕ) (n c : ℕ) → drop n t ≡ c ∷ more → take (n + 1) t ≡ take n t ++ c ∷ []
 take_one t more n c e = take-add n 1 t ∙ ap (λ x. take n t ++ take 1 x) e
 
 pub converts_one : (text rest others units after : List ℕ) (c : ℕ) → Converted text rest units → rest ≡ encode_utf8 c ++ others → after ≡ units ++ encode_utf16 c → Converted text others after
-converts_one text rest others units after c v r a = record {
-  count = v.count + 1;
-  behind = one_more text rest others v.count c v.behind r;
-  are = a ∙ ap (λ x. x ++ encode_utf16 c) v.are ∙ sym (units-one (take v.count (chars text)) c)
-      ∙ ap (units_of_text encode_utf16) (sym (take_one (chars text) (chars others) v.count c (sym v.behind.chars ∙ chars_past_char rest others c v.behind.utf8 r)));
+converts_one text rest others units after c converted rest_is a = record {
+  count = converted.count + 1;
+  follows = one_more text rest others converted.count c converted.follows rest_is;
+  are = a ∙ ap (λ x. x ++ encode_utf16 c) converted.are ∙ sym (units-one (take converted.count (chars text)) c)
+      ∙ ap (units_of_text encode_utf16)
+      (sym (take_one (chars text) (chars others) converted.count c (sym converted.follows.chars
+      ∙ chars_past_char rest others c converted.follows.utf8 rest_is)));
 }
   where
     units-one : (t : List ℕ) (c : ℕ) → units_of_text encode_utf16 (t ++ c ∷ []) ≡ units_of_text encode_utf16 t ++ encode_utf16 c
@@ -170,20 +187,24 @@ converts_one text rest others units after c v r a = record {
 
 -- all of them are the text's
 pub all_converted : (text rest units : List ℕ) → IsUtf8 text → Converted text rest units → length rest ≡ 0 → utf16_lossy_chars units ≡ chars text
-all_converted text rest units u v e =
-    let none : drop v.count (chars text) ≡ [] = sym v.behind.chars ∙ no_chars rest e in
-    let all : take v.count (chars text) ≡ chars text =
-    sym (append-nil (take v.count (chars text))) ∙ ap (λ x. take v.count (chars text) ++ x) (sym none) ∙ take-append-drop v.count (chars text) in
-    ap utf16_lossy_chars (v.are ∙ ap (units_of_text encode_utf16) all) ∙ utf_16_read_back (chars text) (scalars-chars text u)
+all_converted text rest units u converted e =
+    let none : drop converted.count (chars text) ≡ [] = sym converted.follows.chars ∙ no_chars rest e in
+    let all : take converted.count (chars text) ≡ chars text =
+    sym (append-nil (take converted.count (chars text))) ∙ ap (λ x. take converted.count (chars text) ++ x) (sym none)
+    ∙ take-append-drop converted.count (chars text) in
+    ap utf16_lossy_chars (converted.are ∙ ap (units_of_text encode_utf16) all)
+    ∙ utf_16_read_back (chars text) (scalars-chars text u)
 
--- Nothing is behind so many characters just where there are no more.
+-- Nothing follows n characters exactly if there are no more.
 
 some_bytes : (t : List ℕ) → IsUtf8 t → chars t ≡ [] → length t ≡ 0
 some_bytes t u e = ap length (sym (encodes-chars t u) ∙ ap encode_utf8_all e)
 
-pub none_behind : (text behind : List ℕ) (place count : ℕ) → IsUtf8 text → IsCharBoundary text place → behind ≡ drop place text → chars behind ≡ drop count (chars text)
-    → (length behind ≡ 0) ↔ (length (chars text) ≤ count)
-none_behind text behind place count u b e c = (
-  (λ z. omega (arith, length-drop count (chars text), ap length (sym c ∙ no_chars behind z))),
-  (λ h. some_bytes behind (subst IsUtf8 (sym e) (IsUtf8-drop text place u b)) (c ∙ drop_of_length-le (chars text) h)),
+pub none_after : (text after : List ℕ) (place count : ℕ) → IsUtf8 text → IsCharBoundary text place
+    → after ≡ drop place text → chars after ≡ drop count (chars text)
+    → (length after ≡ 0) ↔ (length (chars text) ≤ count)
+none_after text after place count u b e chars_are = (
+  (λ z. omega (arith, length-drop count (chars text), ap length (sym chars_are ∙ no_chars after z))),
+  (λ h. some_bytes after (subst IsUtf8 (sym e) (IsUtf8-drop text place u b)) (chars_are
+      ∙ drop_of_length-le (chars text) h)),
 )

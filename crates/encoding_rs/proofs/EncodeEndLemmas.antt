@@ -1,27 +1,29 @@
 -- Each call of a run of an encoder takes a step, or ends it.
-use Rattle.std.proofs.Common.{◌≡◌, ℕ, ◌+◌, ◌*◌, ◌<◌, ◌≤◌, ◌⊎◌, inl, inr, Bool, true, false, ◌&&◌, List, [], ◌∷◌, ◌++◌, length, take, drop, nat_le, refl, ap, ◌∙◌, sym, subst, arith, length-append}
+use Rattle.std.proofs.Common.{◌≡◌, ℕ, ◌+◌, ◌*◌, ◌<◌, ◌≤◌, ◌⊎◌, inl, inr, Bool, true, false, ◌&&◌, List, [], ◌∷◌, ◌++◌}
+use Rattle.std.proofs.Common.{length, take, drop, nat_le, refl, ap, ◌∙◌, sym, subst, arith, length-append}
 use Rattle.std.specs.List.{All}
 use Rattle.std.proofs.lemmas.Bool.{false≢true}
 use Rattle.std.proofs.lemmas.Bool.Decides.{nat_tests}
 use Rattle.std.proofs.lemmas.List.{take-append-drop, drop-drop, length-take}
 use Rattle.std.proofs.lemmas.List.Elements.{All-head, All-tail, All-take}
-use Rattle.enc_encoders.specs.declared.encoder_result.EncoderResult.{EncoderResult}
-use Rattle.enc_encoders.specs.declared.encoder_result.EncoderResult.TheVariants.{InputEmpty, OutputFull, Unmappable}
-use Rattle.enc_encoders.specs.EncoderRule.{IsLawfulEncoderRule}
-use Rattle.enc_encoders.specs.Steps.{Step, steps_from_state, step_chars}
-use Rattle.enc_encoders.proofs.StepCountLemmas.{few_steps}
-use Rattle.enc_encoders.proofs.PrefixStepLemmas.{follows}
-use Rattle.enc_references.specs.ErrorMode.{EncoderCallInMode}
-use Rattle.enc_references.proofs.NeedLemmas.{kept_by, takes_step}
-use Rattle.encoding_rs.specs.declared.encoding.Encoding.{Encoding}
+use Rattle.enc_units.specs.declared.encoder_result.EncoderResult.{EncoderResult}
+use Rattle.enc_units.specs.declared.encoder_result.EncoderResult.TheVariants.{InputEmpty, OutputFull, Unmappable}
+use Rattle.enc_encoder.specs.EncoderRule.{IsLawfulEncoderRule}
+use Rattle.enc_encoder.specs.Steps.{Step, steps_from_state, step_chars}
+use Rattle.enc_encoder.proofs.StepCountLemmas.{few_steps}
+use Rattle.enc_encoder.proofs.PrefixStepLemmas.{follows}
+use Rattle.enc_encoder.specs.ErrorMode.{EncoderCallInMode}
+use Rattle.enc_encoder.proofs.NeedInModeLemmas.{kept_by, takes_step}
+use Rattle.enc_stream.specs.declared.encoding.Encoding.{Encoding}
 use Rattle.encoding_rs.specs.declared.encode_run.EncodeCall.{EncodeCall}
-use Rattle.encoding_rs.specs.Properties.{output_encoding_of}
-use Rattle.encoding_rs.specs.Encoder.{EncoderState, room_kept_for_references, raw_state}
-use Rattle.encoding_rs.specs.EncodeRun.{encode_error_mode, is_input_empty_result, MakesEncodeCall, EncodeRunState, encode_run_start, EncodeRunAdvances, IsEncodeRun}
+use Rattle.enc_stream.specs.Properties.{output_encoding_of}
+use Rattle.enc_stream.specs.Encoder.{EncoderState, room_kept_for_references, raw_state}
+use Rattle.encoding_rs.specs.EncodeRun.{encode_error_mode, is_input_empty_result, MakesEncodeCall, EncodeRunState}
+use Rattle.encoding_rs.specs.EncodeRun.{encode_run_start, EncodeRunAdvances, IsEncodeRun}
 use Rattle.encoding_rs.specs.EncodeEnd.{least_room, CanEncodeMore}
 use Rattle.encoding_rs.specs.Run.{units_of_call}
-use Rattle.encoding_rs.proofs.ReferenceLemmas.{lawful_of}
-use Rattle.encoding_rs.proofs.EncodeRunLemmas.{nothing_later, behind_call, left_nothing}
+use Rattle.enc_stream.proofs.ReferenceLemmas.{lawful_of}
+use Rattle.encoding_rs.proofs.EncodeRunLemmas.{nothing_later, left_nothing, after_call}
 
 -- how many steps are to come
 abbrev to_come : EncoderState → List ℕ → ℕ
@@ -55,10 +57,12 @@ module _ (b : List ℕ) (e : Encoding) (made : EncodeCall) (old new : EncoderSta
   raw = call.encodes.call
 
   when_empty : is_input_empty_result result ≡ true → 1 ≤ length raw.done
-  when_empty h =
+  when_empty is_empty =
       let beyond : nat_le (length unread) made.offer ≡ false =
-      more_left last (is_input_empty_result result) goes_on h in
-      let none = left_nothing (encode_error_mode made.replace old) (raw_state new) call.encodes.rest last made.room raw.done result raw.stops h in
+      more_left last (is_input_empty_result result) goes_on is_empty in
+      let none =
+      left_nothing (encode_error_mode made.replace old) (raw_state new) call.encodes.rest last made.room raw.done
+      result raw.stops is_empty in
       let some : 1 ≤ length (take made.offer unread) = grind (arith, nat_tests, length-take made.offer unread, further.offered, beyond) in
       some_read (take made.offer unread) call.encodes.rest raw.done raw.reads none some
 
@@ -77,10 +81,11 @@ module _ (b : List ℕ) (e : Encoding) (made : EncodeCall) (old new : EncoderSta
       let split : length (steps_from_state (raw_state old) true unread) ≡ length (raw.done ++ steps_from_state (raw_state new) true (drop more unread)) =
       ap (λ t. length (steps_from_state (raw_state old) true t)) (sym (take-append-drop made.offer unread))
       ∙ ap length all
-      ∙ ap (λ t. length (raw.done ++ steps_from_state (raw_state new) true t)) (sym (behind_call made old new unread before after result more replaced call)) in
+      ∙ ap (λ t. length (raw.done ++ steps_from_state (raw_state new) true t))
+      (sym (after_call made old new unread before after result more replaced call)) in
       omega (arith, split, length-append raw.done (steps_from_state (raw_state new) true (drop more unread)), some_done)
 
--- behind the end no call is made
+-- no call is made after the end
 ended : (text : List ℕ) (calls : List EncodeCall) (a b : EncodeRunState) → IsEncodeRun text calls a b → a.finished ≡ true → (length calls ≡ 0) × (b.finished ≡ true)
 ended text [] a b r f = (refl, ap (λ (s : EncodeRunState). s.finished) (sym r) ∙ f)
 ended text (call ∷ calls) a b r f = absurd (false≢true (sym r.1.not_finished ∙ f))
@@ -90,26 +95,35 @@ left text s = to_come s.encoder (drop s.read text)
 
 one_fewer : (l : List ℕ) (e : Encoding) (text : List ℕ) (call : EncodeCall) (a b : EncodeRunState) → IsLawfulEncoderRule (raw_state a.encoder).rule → a.encoder.encoding ≡ output_encoding_of e
     → a.encoder.barred ≡ l → CanEncodeMore l e call → EncodeRunAdvances text call a b → b.finished ≡ false → left text b < left text a
-one_fewer l e text call a b w q r h g f =
-    let less = fewer l e call a.encoder b.encoder (drop a.read text) a.bytes b.bytes g.result g.more g.replaced w q r h g.call (sym g.finished ∙ f) in
-    let behind : drop g.more (drop a.read text) ≡ drop b.read text = drop-drop g.more a.read text ∙ ap (λ n. drop n text) (sym g.read) in
-    omega (arith, less, ap (to_come b.encoder) behind)
+one_fewer l e text call a b w q r h advances f =
+    let less =
+    fewer l e call a.encoder b.encoder (drop a.read text) a.bytes b.bytes advances.result advances.more
+    advances.replaced w q r h advances.call (sym advances.finished ∙ f) in
+    let rest_is : drop advances.more (drop a.read text) ≡ drop b.read text =
+    drop-drop advances.more a.read text ∙ ap (λ n. drop n text) (sym advances.read) in
+    omega (arith, less, ap (to_come b.encoder) rest_is)
 
 -- so a run has no more calls than steps, and one that ends it
 goes : (l : List ℕ) (e : Encoding) (text : List ℕ) (calls : List EncodeCall) (a b : EncodeRunState) → IsLawfulEncoderRule (raw_state a.encoder).rule → a.encoder.encoding ≡ output_encoding_of e
     → a.encoder.barred ≡ l → All (CanEncodeMore l e) calls → IsEncodeRun text calls a b → (length calls ≤ left text a + 1) × (b.finished ≡ false → length calls ≤ left text a)
-goes l e text [] a b w q k h r = (omega arith, λ f. omega arith)
-goes l e text (call ∷ calls) a b w q k h r =
-    by_end r.0.finished refl
-    (goes l e text calls r.0 b (subst IsLawfulEncoderRule (sym r.1.call.encodes.call.rule) w) (r.1.call.encodes.encoding ∙ q) (r.1.call.encodes.barred ∙ k) (All-tail (CanEncodeMore l e) call calls h) r.2)
+goes l e text [] a b lawful encoding_is barred_is all_can_go_on runs = (omega arith, λ f. omega arith)
+goes l e text (call ∷ calls) a b lawful encoding_is barred_is all_can_go_on runs =
+    by_end runs.0.finished refl
+    (goes l e text calls runs.0 b (subst IsLawfulEncoderRule (sym runs.1.call.encodes.call.rule) lawful)
+    (runs.1.call.encodes.encoding ∙ encoding_is) (runs.1.call.encodes.barred
+    ∙ barred_is) (All-tail (CanEncodeMore l e) call calls all_can_go_on) runs.2)
   where
-    by_end : (f : Bool) → r.0.finished ≡ f → (length calls ≤ left text r.0 + 1) × (b.finished ≡ false → length calls ≤ left text r.0)
+    by_end : (f : Bool) → runs.0.finished ≡ f
+        → (length calls ≤ left text runs.0 + 1) × (b.finished ≡ false → length calls ≤ left text runs.0)
         → (length (call ∷ calls) ≤ left text a + 1) × (b.finished ≡ false → length (call ∷ calls) ≤ left text a)
     by_end true f further =
-        let none = ended text calls r.0 b r.2 f in
+        let none = ended text calls runs.0 b runs.2 f in
         (omega (arith, none.0), λ g. absurd (false≢true (sym g ∙ none.1)))
     by_end false f further =
-        let less = one_fewer l e text call a r.0 w q k (All-head (CanEncodeMore l e) call calls h) r.1 f in
+        let less =
+        one_fewer l e text call a runs.0 lawful encoding_is barred_is
+        (All-head (CanEncodeMore l e) call calls all_can_go_on)
+        runs.1 f in
         (omega (arith, less, further.0), λ g. omega (arith, less, further.1 g))
 
 -- Two calls for each character, and two more, are enough.

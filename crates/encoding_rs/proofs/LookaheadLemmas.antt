@@ -1,28 +1,28 @@
 -- The lookahead of decoders, with byte order marks.
-use Rattle.std.proofs.Common.{◌≡◌, ℕ, ◌+◌, ◌-◌, ◌<◌, ◌≤◌, ◌↔◌, zero, suc, List, [], ◌∷◌, ◌++◌, length, take, drop, Option, Some, None, refl, ap, ◌∙◌, sym, subst, arith, ◌⊎◌, inl, inr}
+use Rattle.std.proofs.Common.{◌≡◌, ℕ, ◌-◌, ◌≤◌, ◌↔◌, zero, suc, List, ◌∷◌, ◌++◌, length, take, drop, Option, Some, None}
+use Rattle.std.proofs.Common.{refl, ap, ◌∙◌, sym, subst, arith, ◌⊎◌, inl, inr}
 use Rattle.std.proofs.lemmas.List.{length-take-le, take-append-drop, length-drop}
-use Rattle.enc_machine.specs.declared.byte_codec.Kind.{Kind}
-use Rattle.enc_machine.specs.declared.byte_codec.Kind.TheVariants.{Valid, Skipped, Malformed, RepeatedEscape}
-use Rattle.enc_machine.specs.Sequence.{Sequence}
-use Rattle.enc_machine.specs.Segmentation.{Rule, sequences_of}
-use Rattle.enc_machine.specs.Remainder.{AreBytes, Determines}
-use Rattle.enc_machine.specs.RuleLaws.{IsDeterminedWithin, IsLookahead, IsDeterminedByEnd, HasLookahead}
-use Rattle.enc_machine.specs.Lookahead.{CoverLookahead}
-use Rattle.enc_machine.proofs.ByteLemmas.{bytes-drop}
-use Rattle.enc_machine.proofs.LookaheadLemmas.{left_of, reach_behind, determine_if_behind, no_more_than, at_most_three}
-use Rattle.enc_single_byte.proofs.ReplacementLemmas.{told_by_itself}
-use Rattle.enc_iso_2022_jp.proofs.Iso2022JpRule.{looks_behind_skipped}
-use Rattle.encoding_rs.specs.declared.encoding.Encoding.{Encoding}
-use Rattle.encoding_rs.specs.declared.encoding.TheConstants.{REPLACEMENT, ISO_2022_JP}
-use Rattle.encoding_rs.specs.declared.bom.BomHandling.{BomHandling}
-use Rattle.encoding_rs.specs.Encodings.{rule_of}
-use Rattle.encoding_rs.specs.Bom.{Mark, marks_looked_for, find_mark, sequences_by_mark}
-use Rattle.encoding_rs.specs.LifeCycle.{mark_bytes, encoding_of_mark_or}
-use Rattle.encoding_rs.specs.Decoding.{whole_sequences}
-use Rattle.encoding_rs.specs.MarkLaws.{MayBeginMark, bytes_after_mark}
+use Rattle.enc_decoder.specs.declared.byte_codec.Kind.{Kind}
+use Rattle.enc_decoder.specs.declared.byte_codec.Kind.TheVariants.{Valid, Skipped, Malformed, RepeatedEscape}
+use Rattle.enc_decoder.specs.Sequence.{Sequence}
+use Rattle.enc_decoder.specs.Segmentation.{Rule, sequences_of}
+use Rattle.enc_decoder.specs.Remainder.{AreBytes, Determines}
+use Rattle.enc_decoder.specs.RuleLaws.{IsDeterminedWithin, IsLookahead, IsDeterminedByEnd}
+use Rattle.enc_decoder.specs.Lookahead.{CoverLookahead}
+use Rattle.enc_decoder.proofs.ByteLemmas.{bytes-drop}
+use Rattle.enc_decoder.proofs.LookaheadLemmas.{left_of, reach_behind, determine_if_behind, no_more_than, at_most_three}
+use Rattle.enc_decoder_single_byte.proofs.ReplacementLemmas.{told_by_itself}
+use Rattle.enc_decoder_iso_2022_jp.proofs.Iso2022JpRule.{looks_behind_skipped}
+use Rattle.enc_stream.specs.declared.encoding.Encoding.{Encoding}
+use Rattle.enc_stream.specs.declared.bom.BomHandling.{BomHandling}
+use Rattle.enc_stream.specs.Encodings.{rule_of}
+use Rattle.enc_stream.specs.Bom.{Mark, marks_looked_for, find_mark, sequences_by_mark}
+use Rattle.enc_stream.specs.LifeCycle.{mark_bytes, encoding_of_mark_or}
+use Rattle.enc_stream.specs.Decoding.{whole_sequences}
+use Rattle.enc_stream.specs.MarkLaws.{MayBeginMark, bytes_after_mark}
 use Rattle.encoding_rs.specs.Lookahead.{MayLook}
-use Rattle.encoding_rs.proofs.EncodingLemmas.{lookahead_of}
-use Rattle.encoding_rs.proofs.MarkFirstLemmas.{told, found_fits, undetermined, by_rule}
+use Rattle.enc_stream.proofs.EncodingLemmas.{lookahead_of}
+use Rattle.enc_stream.proofs.MarkFirstLemmas.{found_fits, undetermined, by_rule, mark_is_decided}
 
 -- by the kind of the sequence
 
@@ -34,18 +34,28 @@ some_more rule set b z zero l f = absurd (f l.told)
 some_more rule set b z (suc n) l f = omega arith
 
 pub may_look : (e : Encoding) (set b : ℕ) (z : List ℕ) (n : ℕ) → AreBytes z → IsLookahead (rule_of e) set b z n → (kind : Kind) → (rule_of e set b z).kind ≡ kind → MayLook e kind n
-may_look e set b z n a l Valid k = looks_not (rule_of e) set b z n a l ((lookahead_of e).valid set b z k)
-may_look e set b z n a l Skipped k = (
-  at_most_three (rule_of e) (lookahead_of e) set b z n a l,
-  (λ r. looks_not (rule_of e) set b z n a l (subst (λ (f : Encoding). IsDeterminedWithin (rule_of f) set b z 0) (sym r) (told_by_itself set b z))),
-  (λ j. some_more (rule_of e) set b z n l
+may_look e set b z n are_bytes is_lookahead Valid k =
+    looks_not (rule_of e) set b z n are_bytes is_lookahead ((lookahead_of e).valid set b z k)
+may_look e set b z n are_bytes is_lookahead Skipped k = (
+  at_most_three (rule_of e) (lookahead_of e) set b z n are_bytes is_lookahead,
+  (λ r. looks_not (rule_of e) set b z n are_bytes is_lookahead
+      (subst (λ (f : Encoding). IsDeterminedWithin (rule_of f) set b z 0) (sym r) (told_by_itself set b z))),
+  (λ j. some_more (rule_of e) set b z n is_lookahead
       (subst (λ (f : Encoding). (rule_of f set b z).kind ≡ Skipped → IsDeterminedWithin (rule_of f) set b z 0 → ⊥) (sym j) (looks_behind_skipped.not_alone set b z) k)),
 )
-may_look e set b z n a l Malformed k = at_most_three (rule_of e) (lookahead_of e) set b z n a l
-may_look e set b z n a l RepeatedEscape k = at_most_three (rule_of e) (lookahead_of e) set b z n a l
+may_look e set b z n are_bytes is_lookahead Malformed k =
+    at_most_three (rule_of e) (lookahead_of e) set b z n are_bytes is_lookahead
+may_look e set b z n are_bytes is_lookahead RepeatedEscape k =
+    at_most_three (rule_of e) (lookahead_of e) set b z n are_bytes is_lookahead
 
 pub looks_or_ends : (e : Encoding) (set b : ℕ) (z : List ℕ) → ((n : ℕ) × IsLookahead (rule_of e) set b z n) ⊎ IsDeterminedByEnd (rule_of e) set b z
-looks_or_ends e set b z = elim ((lookahead_of e).others set b z) [ inl t ↦ inl (t.0, t.2) | inr f ↦ inr f ]
+looks_or_ends e set b z = elim ((lookahead_of e).others set b z) [
+  | inl has_lookahead ↦ inl (
+    has_lookahead.0,
+    has_lookahead.2,
+  )
+  | inr f ↦ inr f
+]
 
 -- after the byte order mark
 
@@ -53,25 +63,26 @@ sequences_are : (found : Option Mark) (e : Encoding) (bytes : List ℕ) → sequ
 sequences_are None e bytes = refl
 sequences_are (Some m) e bytes = refl
 
-bytes_behind : (found : Option Mark) (bytes : List ℕ) → AreBytes bytes → AreBytes (bytes_after_mark found bytes)
-bytes_behind None bytes a = a
-bytes_behind (Some m) bytes a = bytes-drop (length m.bytes) bytes a
+bytes_after : (found : Option Mark) (bytes : List ℕ) → AreBytes bytes → AreBytes (bytes_after_mark found bytes)
+bytes_after None bytes a = a
+bytes_after (Some m) bytes a = bytes-drop (length m.bytes) bytes a
 
 mark_fits : (looked_for : List Mark) (x : List ℕ) (found : Option Mark) → find_mark looked_for x ≡ found → length (mark_bytes found) ≤ length x
 mark_fits looked_for x None e = omega arith
 mark_fits looked_for x (Some m) e = found_fits looked_for x m e
 
-front_behind : (found : Option Mark) (bytes : List ℕ) (k : ℕ) → length (mark_bytes found) ≤ k
+front_after : (found : Option Mark) (bytes : List ℕ) (k : ℕ) → length (mark_bytes found) ≤ k
     → bytes_after_mark found (take k bytes) ≡ take (k - length (mark_bytes found)) (bytes_after_mark found bytes)
-front_behind None bytes k h = ap (λ i. take i bytes) (let e : k ≡ k - 0 = omega arith in e)
-front_behind (Some m) bytes k h = left_of (length m.bytes) k bytes h
+front_after None bytes k h = ap (λ i. take i bytes) (let e : k ≡ k - 0 = omega arith in e)
+front_after (Some m) bytes k h = left_of (length m.bytes) k bytes h
 
-length_behind : (found : Option Mark) (bytes : List ℕ) → length (bytes_after_mark found bytes) ≡ length bytes - length (mark_bytes found)
-length_behind None bytes = omega arith
-length_behind (Some m) bytes = length-drop (length m.bytes) bytes
+length_after : (found : Option Mark) (bytes : List ℕ)
+    → length (bytes_after_mark found bytes) ≡ length bytes - length (mark_bytes found)
+length_after None bytes = omega arith
+length_after (Some m) bytes = length-drop (length m.bytes) bytes
 
 module _ (handling : BomHandling) (e : Encoding) (bytes : List ℕ) (s : Sequence) (ss rest : List Sequence) (k : ℕ)
-    (a : AreBytes bytes) (whole : whole_sequences handling e bytes ≡ (s ∷ ss) ++ rest) (l : k ≤ length bytes) where
+    (a : AreBytes bytes) (whole : whole_sequences handling e bytes ≡ (s ∷ ss) ++ rest) (inside : k ≤ length bytes) where
   abbrev looked_for : List Mark
   looked_for = marks_looked_for handling e
 
@@ -90,27 +101,33 @@ module _ (handling : BomHandling) (e : Encoding) (bytes : List ℕ) (s : Sequenc
   all : sequences_of rule 0 left ≡ (s ∷ ss) ++ rest
   all = sym (sequences_are found e bytes) ∙ whole
 
-  module _ (n : MayBeginMark looked_for (take k bytes) → ⊥) where
+  module _ (mark_decided : MayBeginMark looked_for (take k bytes) → ⊥) where
     same : found ≡ find_mark looked_for (take k bytes)
-    same = ap (find_mark looked_for) (sym (take-append-drop k bytes)) ∙ told looked_for (take k bytes) (drop k bytes) n
+    same = ap (find_mark looked_for) (sym (take-append-drop k bytes))
+        ∙ mark_is_decided looked_for (take k bytes) (drop k bytes) mark_decided
 
     fits : mark_len ≤ k
-    fits = let f = mark_fits looked_for (take k bytes) found (sym same) in let t = length-take-le k bytes l in omega (arith, f, t)
+    fits = let f = mark_fits looked_for (take k bytes) found (sym same) in let t = length-take-le k bytes inside in
+        omega (arith, f, t)
 
     few : k - mark_len ≤ length left
-    few = let t = length_behind found bytes in omega (arith, t, l)
+    few = let t = length_after found bytes in omega (arith, t, inside)
 
     by_front : Determines (whole_sequences handling e) (take k bytes) (s ∷ ss) ↔ Determines (sequences_of rule 0) (take (k - mark_len) left) (s ∷ ss)
     by_front =
-        subst (λ x. Determines (whole_sequences handling e) (take k bytes) (s ∷ ss) ↔ Determines (sequences_of rule 0) x (s ∷ ss)) (front_behind found bytes k fits)
-        (by_rule handling e (take k bytes) (s ∷ ss) found same n)
+        subst (λ x. Determines (whole_sequences handling e) (take k bytes) (s ∷ ss) ↔ Determines (sequences_of rule 0) x
+        (s ∷ ss)) (front_after found bytes k fits)
+        (by_rule handling e (take k bytes) (s ∷ ss) found same mark_decided)
 
   pub determined_whole : Determines (whole_sequences handling e) (take k bytes) (s ∷ ss)
       ↔ ((MayBeginMark looked_for (take k bytes) → ⊥) × CoverLookahead rule 0 left (s ∷ ss) (k - mark_len))
   determined_whole = (
-    (λ d. let n : MayBeginMark looked_for (take k bytes) → ⊥ = λ i. undetermined handling e (take k bytes) s ss i d in (
-      n,
-      reach_behind rule (lookahead_of (encoding_of_mark_or found e)) (s ∷ ss) rest 0 (k - mark_len) left (bytes_behind found bytes a) all (few n) ((by_front n).0 d),
-    )),
-    (λ r. (by_front r.0).1 (determine_if_behind rule (lookahead_of (encoding_of_mark_or found e)) (s ∷ ss) rest 0 (k - mark_len) left all (few r.0) r.1)),
+    (λ determined. let mark_decided : MayBeginMark looked_for (take k bytes)
+        → ⊥ = λ i. undetermined handling e (take k bytes) s ss i determined in (
+          mark_decided,
+          reach_behind rule (lookahead_of (encoding_of_mark_or found e)) (s ∷ ss) rest 0 (k - mark_len) left
+              (bytes_after found bytes a) all (few mark_decided) ((by_front mark_decided).0 determined),
+        )),
+    (λ both. (by_front both.0).1 (determine_if_behind rule (lookahead_of (encoding_of_mark_or found e)) (s ∷ ss) rest 0
+        (k - mark_len) left all (few both.0) both.1)),
   )

@@ -1,32 +1,33 @@
--- What is encoded in an output encoding is decoded back.
-use Rattle.std.proofs.Common.{◌≡◌, ◌≢◌, ℕ, ◌<◌, true, false, is_some, Option, Some, None, List, [], ◌∷◌, map, refl, ap, ◌∙◌, arith, inl}
+-- Text encoded in an output encoding is decoded back.
+use Rattle.std.proofs.Common.{◌≡◌, ◌≢◌, ℕ, ◌<◌, true, false, is_some, Option, Some, None, List, [], ◌∷◌, map, refl, ap}
+use Rattle.std.proofs.Common.{◌∙◌, arith, inl}
 use Rattle.std.proofs.lemmas.Bool.{and_from}
 use Rattle.std.proofs.lemmas.Bool.Decides.{nat_tests}
 use Rattle.std.specs.Char.{IsScalar}
 use Rattle.std.specs.Cmp.{first_so, second_so}
 use Rattle.enc_units.specs.Output.{AreScalars}
 use Rattle.enc_units.proofs.ScalarLemmas.{scalars-append}
-use Rattle.enc_machine.specs.Sequence.{sequence_text, any_malformed}
-use Rattle.enc_machine.specs.Segmentation.{sequences_of}
-use Rattle.enc_encoders.specs.declared.character_set.CharacterSet.TheVariants.{Ascii}
-use Rattle.enc_encoders.specs.EncoderRule.{EncoderRule, IsReferenceCharacter}
-use Rattle.enc_encoders.specs.Text.{reference, with_reference, with_references, bytes_of_text}
-use Rattle.enc_encoders.proofs.TextLemmas.{AreOfReferences, reference_is}
+use Rattle.enc_decoder.specs.Sequence.{sequence_text, any_malformed}
+use Rattle.enc_decoder.specs.Segmentation.{sequences_of}
+use Rattle.enc_encoder.specs.declared.character_set.CharacterSet.TheVariants.{Ascii}
+use Rattle.enc_encoder.specs.EncoderRule.{EncoderRule, IsReferenceCharacter}
+use Rattle.enc_encoder.specs.Text.{reference, with_reference, with_references, bytes_of_text}
+use Rattle.enc_encoder.proofs.TextLemmas.{AreOfReferences, reference_is}
 use Rattle.enc_encode.specs.Encoders.{encoder_rule}
-use Rattle.enc_references.specs.Unmappable.{any_unmappable}
+use Rattle.enc_encoder.specs.Unmappable.{any_unmappable}
 use Rattle.enc_round_trip.specs.RoundTrip.{char_read_back, keeps_characters}
 use Rattle.enc_round_trip.proofs.ReadBackLemmas.{IsReadAs}
 use Rattle.enc_round_trip.proofs.RoundTripLemmas.{is_read, same_text}
-use Rattle.encoding_rs.specs.declared.encoding.Id.{Id}
-use Rattle.encoding_rs.specs.declared.encoding.Id.TheVariants.{EucJp, ShiftJis, Iso2022Jp}
-use Rattle.encoding_rs.specs.declared.encoding.Encoding.{Encoding}
-use Rattle.encoding_rs.specs.EncodingTable.{codec_by_id}
-use Rattle.encoding_rs.specs.Encodings.{rule_or_utf_8, output_rule, rule_of}
-use Rattle.encoding_rs.specs.Properties.{output_encoding_of}
-use Rattle.encoding_rs.specs.EncodeRun.{whole_bytes}
-use Rattle.encoding_rs.proofs.EncoderLemmas.{has_encoder}
-use Rattle.encoding_rs.proofs.EncoderProgressLemmas.{same_rule}
-use Rattle.encoding_rs.proofs.ReferenceLemmas.{lawful_of, all_mapped}
+use Rattle.enc_names.specs.declared.encoding_id.EncodingId.{EncodingId}
+use Rattle.enc_names.specs.declared.encoding_id.EncodingId.TheVariants.{EucJp, ShiftJis, Iso2022Jp}
+use Rattle.enc_stream.specs.declared.encoding.Encoding.{Encoding}
+use Rattle.enc_names.specs.EncodingTable.{codec_by_id}
+use Rattle.enc_stream.specs.Encodings.{rule_or_utf_8, output_rule, rule_of}
+use Rattle.enc_stream.specs.Properties.{output_encoding_of}
+use Rattle.enc_stream.specs.Encoder.{whole_bytes}
+use Rattle.enc_stream.proofs.EncoderLemmas.{has_encoder}
+use Rattle.enc_stream.proofs.EncoderProgressLemmas.{same_rule}
+use Rattle.enc_stream.proofs.ReferenceLemmas.{lawful_of, all_mapped}
 
 -- the rule of the output encoding is that of its codec
 
@@ -43,13 +44,13 @@ decoded b e t s m = is_read (codec_by_id (output_encoding_of e).id) b (rule_or_u
 
 -- all but three give each character back
 
-keeps : (id : Id) → (id ≡ EucJp → ⊥) → (id ≡ ShiftJis → ⊥) → (id ≡ Iso2022Jp → ⊥) → keeps_characters (codec_by_id id) ≡ true
+keeps : (id : EncodingId) → (id ≡ EucJp → ⊥) → (id ≡ ShiftJis → ⊥) → (id ≡ Iso2022Jp → ⊥) → keeps_characters (codec_by_id id) ≡ true
 keeps EucJp euc shift iso = absurd (euc refl)
 keeps ShiftJis euc shift iso = absurd (shift refl)
 keeps Iso2022Jp euc shift iso = absurd (iso refl)
 keeps _ euc shift iso = refl
 
-of_id : Id → Encoding
+of_id : EncodingId → Encoding
 of_id id = record { id = id }
 
 pub decoded_text : (b : List ℕ) (e : Encoding) (t : List ℕ) → AreScalars t → any_unmappable (output_rule b e) t ≡ false
@@ -69,8 +70,8 @@ is_scalar c h = let l : c < 0x80 = omega arith in ascii_scalar c l
     ascii_scalar c l = grind (arith, nat_tests)
 
 are_scalars : (t : List ℕ) → AreOfReferences t → AreScalars t
-are_scalars [] h = refl
-are_scalars (c ∷ t) h = and_from _ _ (is_scalar c h.0) (are_scalars t h.1)
+are_scalars [] of_references = refl
+are_scalars (c ∷ t) of_references = and_from _ _ (is_scalar c of_references.0) (are_scalars t of_references.1)
 
 reference_scalars : (c : ℕ) → AreScalars (reference c)
 reference_scalars c = are_scalars (reference c) (inl refl, reference_is c)
@@ -80,9 +81,10 @@ one_scalars e c None s = reference_scalars (e.reported c)
 one_scalars e c (Some b) s = and_from _ _ s refl
 
 with_references_scalars : (e : EncoderRule) (t : List ℕ) → AreScalars t → AreScalars (with_references e t)
-with_references_scalars e [] s = refl
-with_references_scalars e (c ∷ t) s =
-    scalars-append (with_reference e c (e.bytes c)) (with_references e t) (one_scalars e c (e.bytes c) (first_so _ _ s)) (with_references_scalars e t (second_so _ _ s))
+with_references_scalars e [] scalars = refl
+with_references_scalars e (c ∷ t) scalars =
+    scalars-append (with_reference e c (e.bytes c)) (with_references e t)
+    (one_scalars e c (e.bytes c) (first_so _ _ scalars)) (with_references_scalars e t (second_so _ _ scalars))
 
 pub decoded_references : (b : List ℕ) (e : Encoding) (t : List ℕ) → AreScalars t → any_malformed (sequences_of (rule_of (output_encoding_of e)) 0 (whole_bytes b e t)) ≡ false
 decoded_references b e t s =

@@ -1,15 +1,21 @@
 -- Well-formed UTF-8 is what has no malformed sequence by UTF-8's rule.
-use Rattle.std.proofs.Common.{◌≡◌, ℕ, ◌+◌, ◌/◌, ◌%◌, ◌<◌, ◌≤◌, zero, suc, Bool, true, false, true≢false, List, [], ◌∷◌, ◌++◌, length, refl, ap, sym, subst, ◌∙◌, ◌⊎◌, inl, inr, arith, length-append}
+use Rattle.std.proofs.Common.{◌≡◌, ℕ, ◌+◌, ◌/◌, ◌%◌, ◌<◌, ◌≤◌, zero, suc, Bool, true, false, true≢false, List, [], ◌∷◌}
+use Rattle.std.proofs.Common.{◌++◌, length, refl, ap, sym, subst, ◌∙◌, ◌⊎◌, inl, inr, arith, length-append}
 use Rattle.std.proofs.lemmas.Bool.Decides.{nat_tests, leb_tells}
-use Rattle.std.proofs.lemmas.Str.{encode_ascii, IsUtf8-nil, IsUtf8-append, IsUtf8-encode, length-encode, len_utf8_bounds}
+use Rattle.std.proofs.lemmas.Str.{encode_ascii, IsUtf8-nil, IsUtf8-append, IsUtf8-encode, length-encode}
+use Rattle.std.proofs.lemmas.Str.{len_utf8_bounds}
 use Rattle.std.specs.Char.{encode_utf8, IsScalar, InScalarRange}
 use Rattle.std.specs.Str.{IsUtf8, all_scalars, encode_utf8_all}
 use Rattle.std.specs.Cmp.{first_so, second_so}
-use Rattle.enc_machine.specs.Sequence.{Sequence, any_malformed}
-use Rattle.enc_machine.specs.Segmentation.{sequences_of}
-use Rattle.enc_utf.specs.Utf8.{sequence_len, is_second_byte, is_continuation, scalar_of, utf_8_rule}
-use Rattle.enc_machine.proofs.SegmentationLemmas.{sequences_of-nil}
-use Rattle.enc_utf.proofs.Utf8Lemmas.{valid_sequence, malformed_sequence, two_range, three_range, four_range, at_most_four, second_range, continuation_range, none_malformed, one_valid, one_malformed, one_end, two_valid, two_malformed, two_end, three_valid, three_malformed, three_end, four_valid, two_scalar, three_scalar, four_scalar}
+use Rattle.enc_decoder.specs.Sequence.{Sequence, any_malformed}
+use Rattle.enc_decoder.specs.Segmentation.{sequences_of}
+use Rattle.enc_decoder_utf.specs.Utf8.{sequence_len, is_second_byte, is_continuation, scalar_of, utf_8_rule}
+use Rattle.enc_decoder.proofs.SegmentationLemmas.{sequences_of-nil}
+use Rattle.enc_decoder_utf.proofs.Utf8Lemmas.{valid_sequence, malformed_sequence, two_range, three_range, four_range}
+use Rattle.enc_decoder_utf.proofs.Utf8Lemmas.{at_most_four, second_range, continuation_range, none_malformed, one_valid}
+use Rattle.enc_decoder_utf.proofs.Utf8Lemmas.{one_malformed, one_end, two_valid, two_malformed, two_end, three_valid}
+use Rattle.enc_decoder_utf.proofs.Utf8Lemmas.{three_malformed, three_end, four_valid, two_scalar, three_scalar}
+use Rattle.enc_decoder_utf.proofs.Utf8Lemmas.{four_scalar}
 
 -- whether a sequence of UTF-8 in these bytes is malformed
 abbrev pub malformed_bytes : List ℕ → Bool
@@ -68,7 +74,7 @@ four_encoded a b c d s e t x =
     let above : 0x10000 ≤ scalar_of (a ∷ b ∷ c ∷ d ∷ []) = grind arith in
     encoded_four _ above ∙ same_four a b c d _ _ _ _ (omega arith) (omega arith) (omega arith) (omega arith)
 
--- what stands in front: a character and the rest, or what is malformed
+-- the bytes begin with a character, or are malformed
 
 scalar_in_range : (c : ℕ) → InScalarRange c → IsScalar c
 scalar_in_range c (inl h) = grind (arith, nat_tests)
@@ -91,49 +97,62 @@ malformed_front z bytes ss s = inr (ap any_malformed s)
 
 front_four : (t : Bool) (a b c d : ℕ) (z : List ℕ)
     → sequence_len a ≡ 4 → is_second_byte a b ≡ true → is_continuation c ≡ true → is_continuation d ≡ t → Front (a ∷ b ∷ c ∷ d ∷ z)
-front_four false a b c d z s e f g = malformed_front _ _ _ (three_malformed a b c d z s e f g)
-front_four true a b c d z s e f g =
+front_four false a b c d z length_is second_is third_is fourth_is =
+    malformed_front _ _ _ (three_malformed a b c d z length_is second_is third_is fourth_is)
+front_four true a b c d z length_is second_is third_is fourth_is =
     valid_front _ (a ∷ b ∷ c ∷ d ∷ []) z
-    (four_scalar a b c d s e f g) (four_encoded a b c d s e f g) (four_valid a b c d z s e f g)
+    (four_scalar a b c d length_is second_is third_is fourth_is)
+    (four_encoded a b c d length_is second_is third_is fourth_is)
+    (four_valid a b c d z length_is second_is third_is fourth_is)
 
 front_three : (t : Bool) (n a b c : ℕ) (z : List ℕ) → sequence_len a ≡ n + 3 → is_second_byte a b ≡ true
     → is_continuation c ≡ t → Front (a ∷ b ∷ c ∷ z)
-front_three false n a b c z s e f = malformed_front _ _ _ (two_malformed a b c z (omega arith) e f)
-front_three true zero a b c z s e f =
+front_three false n a b c z length_is second_is third_is =
+    malformed_front _ _ _ (two_malformed a b c z (omega arith) second_is third_is)
+front_three true zero a b c z length_is second_is third_is =
     valid_front _ (a ∷ b ∷ c ∷ []) z
-    (three_scalar a b c s e f) (three_encoded a b c s e f) (three_valid a b c z s e f)
-front_three true (suc n) a b c [] s e f =
-    let most = at_most_four a in malformed_front _ _ _ (three_end a b c (omega arith) e f)
-front_three true (suc n) a b c (d ∷ z) s e f =
-    let most = at_most_four a in front_four (is_continuation d) a b c d z (omega arith) e f refl
+    (three_scalar a b c length_is second_is third_is) (three_encoded a b c length_is second_is third_is)
+    (three_valid a b c z length_is second_is third_is)
+front_three true (suc n) a b c [] length_is second_is third_is =
+    let most = at_most_four a in malformed_front _ _ _ (three_end a b c (omega arith) second_is third_is)
+front_three true (suc n) a b c (d ∷ z) length_is second_is third_is =
+    let most = at_most_four a in front_four (is_continuation d) a b c d z (omega arith) second_is third_is refl
 
 front_two : (t : Bool) (n a b : ℕ) (z : List ℕ) → sequence_len a ≡ n + 2 → is_second_byte a b ≡ t → Front (a ∷ b ∷ z)
-front_two false n a b z s e = malformed_front _ _ _ (one_malformed a b z (omega arith) e)
-front_two true zero a b z s e =
-    valid_front _ (a ∷ b ∷ []) z (two_scalar a b s e) (two_encoded a b s e) (two_valid a b z s e)
-front_two true (suc n) a b [] s e = malformed_front _ _ _ (two_end a b (omega arith) e)
-front_two true (suc n) a b (c ∷ z) s e = front_three (is_continuation c) n a b c z (omega arith) e refl
+front_two false n a b z length_is second_is = malformed_front _ _ _ (one_malformed a b z (omega arith) second_is)
+front_two true zero a b z length_is second_is =
+    valid_front _ (a ∷ b ∷ []) z (two_scalar a b length_is second_is) (two_encoded a b length_is second_is)
+    (two_valid a b z length_is second_is)
+front_two true (suc n) a b [] length_is second_is = malformed_front _ _ _ (two_end a b (omega arith) second_is)
+front_two true (suc n) a b (c ∷ z) length_is second_is =
+    front_three (is_continuation c) n a b c z (omega arith) second_is refl
 
 front_one : (n a : ℕ) (z : List ℕ) → sequence_len a ≡ n → Front (a ∷ z)
-front_one zero a z s = malformed_front _ _ _ (none_malformed a z s)
-front_one (suc zero) a z s =
-    let h = ascii_range a s in valid_front a (a ∷ []) z (inl (omega arith)) (encode_ascii a h) (one_valid a z s)
-front_one (suc (suc n)) a [] s = malformed_front _ _ _ (one_end a (omega arith))
-front_one (suc (suc n)) a (b ∷ z) s = front_two (is_second_byte a b) n a b z (omega arith) refl
+front_one zero a z sequence_len_is = malformed_front _ _ _ (none_malformed a z sequence_len_is)
+front_one (suc zero) a z sequence_len_is =
+    let h = ascii_range a sequence_len_is in
+    valid_front a (a ∷ []) z (inl (omega arith)) (encode_ascii a h) (one_valid a z sequence_len_is)
+front_one (suc (suc n)) a [] sequence_len_is = malformed_front _ _ _ (one_end a (omega arith))
+front_one (suc (suc n)) a (b ∷ z) sequence_len_is = front_two (is_second_byte a b) n a b z (omega arith) refl
 
 -- What has no malformed sequence is the encoded form of some characters.
 pub well_formed : (n : ℕ) (z : List ℕ) → length z ≤ n → malformed_bytes z ≡ false → IsUtf8 z
-well_formed n [] h e = IsUtf8-nil
-well_formed zero (a ∷ z) h e = absurd (omega arith)
-well_formed (suc n) (a ∷ z) h e =
+well_formed n [] h all_well = IsUtf8-nil
+well_formed zero (a ∷ z) h all_well = absurd (omega arith)
+well_formed (suc n) (a ∷ z) h all_well =
     elim (front_one (sequence_len a) a z refl) [
-      | inl f ↦
-          let longer = len_utf8_bounds f.0 in
-          let shorter : length f.1 ≤ n =
-          omega (arith, ap length f.3, length-append (encode_utf8 f.0) f.1, length-encode f.0) in
-          let rest : IsUtf8 f.1 = well_formed n f.1 shorter (sym f.4 ∙ e) in
-          subst IsUtf8 (sym f.3) (IsUtf8-append _ _ (IsUtf8-encode f.0 f.2) rest)
-      | inr m ↦ absurd (true≢false (sym m ∙ e))
+      | inl first_char ↦
+          let longer = len_utf8_bounds first_char.0 in
+          let shorter : length first_char.1 ≤ n =
+          omega (
+            arith,
+            ap length first_char.3,
+            length-append (encode_utf8 first_char.0) first_char.1,
+            length-encode first_char.0,
+          ) in
+          let rest : IsUtf8 first_char.1 = well_formed n first_char.1 shorter (sym first_char.4 ∙ all_well) in
+          subst IsUtf8 (sym first_char.3) (IsUtf8-append _ _ (IsUtf8-encode first_char.0 first_char.2) rest)
+      | inr m ↦ absurd (true≢false (sym m ∙ all_well))
     ]
 
 -- The encoded form of a character is well-formed.
@@ -207,7 +226,7 @@ front_of_four c rest h k =
 -- by the size of its number
 encoded_front : (c : ℕ) (rest : List ℕ) → InScalarRange c
     → malformed_bytes (encode_utf8 c ++ rest) ≡ malformed_bytes rest
-encoded_front c rest r =
+encoded_front c rest in_range =
     elim (below_or_not c 0x80) [
       | inl h ↦
           ap (λ front. malformed_bytes (front ++ rest)) (encode_ascii c h)
@@ -215,14 +234,14 @@ encoded_front c rest r =
       | inr h ↦ elim (below_or_not c 0x800) [
         | inl k ↦ front_of_two c rest h k
         | inr k ↦ elim (below_or_not c 0x10000) [
-          | inl l ↦ front_of_three c rest k l r
-          | inr l ↦ front_of_four c rest l (scalar_bound c r)
+          | inl l ↦ front_of_three c rest k l in_range
+          | inr l ↦ front_of_four c rest l (scalar_bound c in_range)
         ]
       ]
     ]
 
 pub none_malformed_in : (text : List ℕ) → all_scalars text ≡ true → malformed_bytes (encode_utf8_all text) ≡ false
-none_malformed_in [] e = ap any_malformed (sequences_of-nil utf_8_rule 0)
-none_malformed_in (c ∷ text) e =
-    encoded_front c (encode_utf8_all text) (range_of_scalar c (first_so _ _ e))
-    ∙ none_malformed_in text (second_so _ _ e)
+none_malformed_in [] are_scalars = ap any_malformed (sequences_of-nil utf_8_rule 0)
+none_malformed_in (c ∷ text) are_scalars =
+    encoded_front c (encode_utf8_all text) (range_of_scalar c (first_so _ _ are_scalars))
+    ∙ none_malformed_in text (second_so _ _ are_scalars)

@@ -1,21 +1,21 @@
--- Whole runs of an encoder: lists of calls of any kinds, with any offers and any rooms (Encoding Standard 4.1, "process a
--- queue", in parts).
+-- Runs of an encoder: lists of calls with any error mode, chunk and room (Encoding Standard 4.1, "process a queue", in
+-- parts).
 use Rattle.std.specs.Prelude.{◌≡◌, ℕ, ◌+◌, Bool, true, false, not, ◌&&◌, ◌||◌, nat_le, List, [], ◌∷◌, ◌++◌, map, length, take, drop, if◌then◌else◌}
-use Rattle.encoding_rs.specs.declared.encoding.Encoding.{Encoding}
+use Rattle.enc_stream.specs.declared.encoding.Encoding.{Encoding}
 use Rattle.encoding_rs.specs.declared.encode_run.EncodeCall.{EncodeCall}
-use Rattle.enc_encoders.specs.declared.character_set.CharacterSet.TheVariants.{Ascii}
-use Rattle.enc_encoders.specs.declared.encoder_result.EncoderResult.{EncoderResult}
-use Rattle.enc_encoders.specs.declared.encoder_result.EncoderResult.TheVariants.{InputEmpty, OutputFull, Unmappable}
-use Rattle.enc_encoders.specs.EncoderRule.{EncoderRule}
-use Rattle.enc_encoders.specs.Steps.{step_chars}
-use Rattle.enc_encoders.specs.Text.{bytes_of_text, with_references, reference_after}
-use Rattle.enc_references.specs.ErrorMode.{EncodeErrorMode, Fatal}
-use Rattle.enc_references.specs.Unmappable.{any_unmappable, reports_of}
-use Rattle.encoding_rs.specs.Encodings.{output_rule}
-use Rattle.encoding_rs.specs.Encoder.{EncoderState, fresh_encoder, html_mode, EncodesChunk}
+use Rattle.enc_units.specs.declared.encoder_result.EncoderResult.{EncoderResult}
+use Rattle.enc_units.specs.declared.encoder_result.EncoderResult.TheVariants.{InputEmpty, OutputFull, Unmappable}
+use Rattle.enc_encoder.specs.EncoderRule.{EncoderRule}
+use Rattle.enc_encoder.specs.Steps.{step_chars}
+use Rattle.enc_encoder.specs.Text.{reference_after}
+use Rattle.enc_encoder.specs.ErrorMode.{EncodeErrorMode, Fatal}
+use Rattle.enc_encoder.specs.Unmappable.{any_unmappable, reports_of}
+use Rattle.enc_encoder.specs.Text.{reference_after}
+use Rattle.enc_stream.specs.Encodings.{output_rule}
+use Rattle.enc_stream.specs.Encoder.{EncoderState, fresh_encoder, html_mode, whole_bytes, EncodesChunk}
 use Rattle.encoding_rs.specs.Run.{units_of_call}
 
--- what a call does with unmappable characters
+-- the error mode of a call
 abbrev pub encode_error_mode : Bool → EncoderState → EncodeErrorMode
 encode_error_mode replace v = if replace then html_mode v else Fatal
 
@@ -25,19 +25,20 @@ reported_character InputEmpty = []
 reported_character OutputFull = []
 reported_character (Unmappable c) = c ∷ []
 
+-- whether a call has reported an unmappable character
 abbrev pub is_unmappable_result : EncoderResult → Bool
 is_unmappable_result InputEmpty = false
 is_unmappable_result OutputFull = false
 is_unmappable_result (Unmappable c) = true
 
+-- whether a call has read all of its input
 abbrev pub is_input_empty_result : EncoderResult → Bool
 is_input_empty_result InputEmpty = true
 is_input_empty_result OutputFull = false
 is_input_empty_result (Unmappable c) = false
 
--- A call of a run: it is offered the next characters of those unread, or all of them where fewer are left, is told that
--- nothing follows exactly where the offer reaches the end, and its bytes are appended, with the reference to a character that
--- it has reported.
+-- A call of a run: it gets the unread characters, at most `offer` of them, and `last` exactly if that is all of them.
+-- Its bytes are appended, and the reference to a character that it has reported.
 pub record MakesEncodeCall (call : EncodeCall) (old new : EncoderState) (unread before after : List ℕ) (result : EncoderResult) (read : ℕ) (replaced : Bool) : Type 0 where
   pub wrote : List ℕ
   pub units : ℕ
@@ -45,8 +46,8 @@ pub record MakesEncodeCall (call : EncodeCall) (old new : EncoderState) (unread 
   pub chars : read ≡ length (step_chars encodes.call.done)
   pub bytes : after ≡ before ++ (wrote ++ reference_after result)
 
--- what a run has come to: the encoder, how many characters it has read, its bytes, the characters that were reported, whether
--- any was unmappable, and whether the end of the text was told and reached
+-- the state of a run: the encoder, the number of characters read, the bytes, the characters reported, whether a
+-- character was unmappable, and whether the end is reached
 pub record EncodeRunState : Type 0 where
   pub encoder : EncoderState
   pub read : ℕ
@@ -55,10 +56,11 @@ pub record EncodeRunState : Type 0 where
   pub had_unmappables : Bool
   pub finished : Bool
 
+-- a run that has made no call
 abbrev pub encode_run_start : List ℕ → Encoding → EncodeRunState
 encode_run_start b e = record { encoder = fresh_encoder b e; read = 0; bytes = []; unmappables = []; had_unmappables = false; finished = false }
 
--- a run goes on by one call, where the end isn't reached
+-- a run advances by one call, unless it is at the end
 pub record EncodeRunAdvances (text : List ℕ) (made : EncodeCall) (old new : EncodeRunState) : Type 0 where
   pub result : EncoderResult
   pub more : ℕ
@@ -75,20 +77,17 @@ abbrev pub IsEncodeRun : List ℕ → List EncodeCall → EncodeRunState → Enc
 IsEncodeRun text [] old new = old ≡ new
 IsEncodeRun text (call ∷ calls) old new = (mid : EncodeRunState) × EncodeRunAdvances text call old mid × IsEncodeRun text calls mid new
 
--- the bytes of a whole text, where a decimal reference stands in the place of each unmappable character
-abbrev pub whole_bytes : List ℕ → Encoding → List ℕ → List ℕ
-whole_bytes b e text = bytes_of_text (output_rule b e) Ascii (with_references (output_rule b e) text)
-
--- the characters that one call has read, and whether it replaced those that are unmappable
+-- the characters that one call has read, and whether its error mode is html
 pub record EncodeRunPart : Type 0 where
   pub replaces : Bool
   pub chars : List ℕ
 
+-- the characters of all parts
 abbrev pub chars_of_parts : List EncodeRunPart → List ℕ
 chars_of_parts [] = []
 chars_of_parts (p ∷ ps) = p.chars ++ chars_of_parts ps
 
--- those that were reported
+-- the unmappable characters reported
 abbrev pub reports_of_parts : EncoderRule → List EncodeRunPart → List ℕ
 reports_of_parts rule [] = []
 reports_of_parts rule (p ∷ ps) = (if p.replaces then [] else reports_of rule p.chars) ++ reports_of_parts rule ps
@@ -98,8 +97,7 @@ abbrev pub all_report_unmappable : List EncodeCall → Bool
 all_report_unmappable [] = true
 all_report_unmappable (call ∷ calls) = not call.replace && all_report_unmappable calls
 
--- What calls have come to: the characters read are a beginning of the text, in a part for each call, and the bytes are a
--- beginning of those of the whole text.
+-- The result of some calls: each has read a part of the text, and the bytes are a prefix of those of the whole text.
 pub record HasRunEncoding (b : List ℕ) (e : Encoding) (text : List ℕ) (calls : List EncodeCall) (bytes : List ℕ) (read : ℕ) (unmappables : List ℕ) (had_unmappables : Bool) : Type 0 where
   pub parts : List EncodeRunPart
   pub unread : List ℕ
@@ -108,6 +106,6 @@ pub record HasRunEncoding (b : List ℕ) (e : Encoding) (text : List ℕ) (calls
   pub count : read ≡ length (chars_of_parts parts)
   pub calls_are : map (λ (p : EncodeRunPart). p.replaces) parts ≡ map (λ (c : EncodeCall). c.replace) calls
   pub beginning : whole_bytes b e text ≡ bytes ++ more
-  -- the unmappable characters that were met by calls which report them, in order, as they are reported
+  -- the unmappable characters met by calls that report them, in order, as reported
   pub reported : unmappables ≡ reports_of_parts (output_rule b e) parts
   pub flag : had_unmappables ≡ any_unmappable (output_rule b e) (chars_of_parts parts)

@@ -1,19 +1,20 @@
--- Whole runs: lists of calls of any kinds, with any offers and any rooms (Encoding Standard 4.1, "process a queue", in
+-- Runs of a decoder: lists of calls with any error mode, chunk and room (Encoding Standard 4.1, "process a queue", in
 -- parts).
-use Rattle.std.specs.Prelude.{◌≡◌, ℕ, ◌+◌, ◌-◌, Bool, true, false, not, ◌&&◌, ◌||◌, nat_le, List, [], ◌∷◌, ◌++◌, map, length, take, drop, if◌then◌else◌}
+use Rattle.std.specs.Prelude.{◌≡◌, ℕ, ◌+◌, ◌-◌, Bool, true, false, not, ◌&&◌, ◌||◌, nat_le, List, [], ◌∷◌, ◌++◌, map}
+use Rattle.std.specs.Prelude.{length, take, drop, if◌then◌else◌}
 use Rattle.std.specs.Char.{encode_utf8}
 use Rattle.std.specs.Char.Escape.{encode_utf16}
-use Rattle.encoding_rs.specs.declared.encoding.Encoding.{Encoding}
-use Rattle.encoding_rs.specs.declared.bom.BomHandling.{BomHandling}
+use Rattle.enc_stream.specs.declared.encoding.Encoding.{Encoding}
+use Rattle.enc_stream.specs.declared.bom.BomHandling.{BomHandling}
 use Rattle.encoding_rs.specs.declared.run.DecodeCall.{DecodeCall}
-use Rattle.enc_machine.specs.declared.decoder_result.DecoderResult.{DecoderResult}
-use Rattle.enc_machine.specs.declared.decoder_result.DecoderResult.TheVariants.{InputEmpty, OutputFull, Malformed}
+use Rattle.enc_units.specs.declared.decoder_result.DecoderResult.{DecoderResult}
+use Rattle.enc_units.specs.declared.decoder_result.DecoderResult.TheVariants.{InputEmpty, OutputFull, Malformed}
 use Rattle.enc_units.specs.Output.{AreScalars, units_of_text}
-use Rattle.enc_machine.specs.Sequence.{Sequence, sequence_bytes, sequence_text, is_malformed, any_malformed}
-use Rattle.enc_calls.specs.Replacing.{decode_error_mode}
-use Rattle.encoding_rs.specs.Bom.{marks_looked_for, find_mark}
-use Rattle.encoding_rs.specs.LifeCycle.{mark_bytes}
-use Rattle.encoding_rs.specs.Decoding.{DecoderState, fresh_decoder, has_finished, whole_sequences, DecodesChunk}
+use Rattle.enc_decoder.specs.Sequence.{Sequence, sequence_bytes, sequence_text, is_malformed, any_malformed}
+use Rattle.enc_decoder.specs.Replacing.{decode_error_mode}
+use Rattle.enc_stream.specs.Bom.{marks_looked_for, find_mark}
+use Rattle.enc_stream.specs.LifeCycle.{mark_bytes}
+use Rattle.enc_stream.specs.Decoding.{DecoderState, fresh_decoder, has_finished, whole_sequences, DecodesChunk}
 
 -- the code units that a call decodes to
 abbrev pub units_of_call : Bool → ℕ → List ℕ
@@ -26,36 +27,35 @@ is_malformed_result InputEmpty = false
 is_malformed_result OutputFull = false
 is_malformed_result (Malformed l a) = true
 
--- the text that a run puts in its place
+-- the text that a run puts in the place of a malformed sequence
 abbrev pub replacement_text : DecoderResult → List ℕ
 replacement_text InputEmpty = []
 replacement_text OutputFull = []
 replacement_text (Malformed l a) = 0xFFFD ∷ []
 
--- Where it starts in the whole input, and how many bytes it has, once so many bytes are read: the last a of them left
--- off, it is the l bytes before.
+-- The offset in the whole input, and the length, of a malformed sequence reported when `read` bytes are read: the l
+-- bytes before the last a.
 abbrev pub fault_of_result : DecoderResult → ℕ → List (ℕ × ℕ)
 fault_of_result InputEmpty read = []
 fault_of_result OutputFull read = []
 fault_of_result (Malformed l a) read = (read - a - l, l) ∷ []
 
--- A call that is offered these bytes, and a text, in UTF-8, whose code units it has written.
+-- A call with these bytes, and the text that it has written, in UTF-8.
 pub record AnswersDecodeCall (units_of : ℕ → List ℕ) (call : DecodeCall) (old new : DecoderState) (chunk : List ℕ) (last : Bool) (result : DecoderResult) (read : ℕ) (replaced : Bool) (utf_8 : List ℕ) : Type 0 where
   pub text : List ℕ
   pub scalars : AreScalars text
   pub is : utf_8 ≡ units_of_text encode_utf8 text
   pub decodes : DecodesChunk units_of (decode_error_mode call.replace) old new chunk last call.room result read (units_of_text units_of text) replaced
 
--- A call of a run: it is offered the next bytes of those unread, or all of them where fewer are left, is told
--- that nothing follows exactly where the offer reaches the end, and its text is appended, with U+FFFD where it has
--- reported a malformed sequence.
+-- A call of a run: it gets the unread bytes, at most `offer` of them, and `last` exactly if that is all of them. Its
+-- text is appended, and U+FFFD for a malformed sequence that it has reported.
 pub record MakesDecodeCall (call : DecodeCall) (old new : DecoderState) (unread before after : List ℕ) (result : DecoderResult) (read : ℕ) (replaced : Bool) : Type 0 where
   pub wrote : List ℕ
   pub answers : AnswersDecodeCall (units_of_call call.utf16) call old new (take call.offer unread) (nat_le (length unread) call.offer) result read replaced wrote
   pub text : after ≡ (before ++ wrote) ++ units_of_text encode_utf8 (replacement_text result)
 
--- what a run has come to: the decoder, how many bytes it has read, its text in UTF-8, the places of the malformed sequences
--- that were reported, and whether anything was malformed
+-- the state of a run: the decoder, the number of bytes read, the text in UTF-8, the offset and length of each malformed
+-- sequence reported, and whether a sequence was malformed
 pub record DecodeRunState : Type 0 where
   pub decoder : DecoderState
   pub read : ℕ
@@ -63,11 +63,12 @@ pub record DecodeRunState : Type 0 where
   pub faults : List (ℕ × ℕ)
   pub had_errors : Bool
 
+-- a run that has made no call
 abbrev pub decode_run_start : BomHandling → Encoding → DecodeRunState
 decode_run_start handling e =
     record { decoder = fresh_decoder handling e; read = 0; text = []; faults = []; had_errors = false }
 
--- a run goes on by one call, of a decoder that hasn't ended
+-- a run advances by one call, unless its decoder is finished
 pub record DecodeRunAdvances (bytes : List ℕ) (made : DecodeCall) (old new : DecodeRunState) : Type 0 where
   pub result : DecoderResult
   pub more : ℕ
@@ -84,40 +85,42 @@ IsDecodeRun bytes [] old new = old ≡ new
 IsDecodeRun bytes (call ∷ calls) old new = (mid : DecodeRunState) × DecodeRunAdvances bytes call old mid
     × IsDecodeRun bytes calls mid new
 
--- where malformed sequences start, and how many bytes they have, if the first sequence starts at a place
+-- the offset and length of each malformed sequence, if the first sequence has the offset `at`
 abbrev pub faults_from : ℕ → List Sequence → List (ℕ × ℕ)
 faults_from at [] = []
 faults_from at (s ∷ ss) =
     if is_malformed s.kind then (at, length s.bytes) ∷ faults_from (at + length s.bytes) ss else faults_from (at + length s.bytes) ss
 
--- the sequences of a whole input start behind a mark
+-- the offset of the first sequence of a whole input: the length of the byte order mark, if one is found
 abbrev pub whole_start : BomHandling → Encoding → List ℕ → ℕ
 whole_start handling e bytes = length (mark_bytes (find_mark (marks_looked_for handling e) bytes))
 
+-- the offset and length of each malformed sequence of a whole input
 abbrev pub whole_faults : BomHandling → Encoding → List ℕ → List (ℕ × ℕ)
 whole_faults handling e bytes = faults_from (whole_start handling e bytes) (whole_sequences handling e bytes)
 
--- the sequences that one call has done, and whether it replaced those that are malformed
+-- the sequences that one call has done, and whether it is with replacement
 pub record DecodeRunPart : Type 0 where
   pub replaces : Bool
   pub done : List Sequence
 
+-- the sequences of all parts
 abbrev pub sequences_of_parts : List DecodeRunPart → List Sequence
 sequences_of_parts [] = []
 sequences_of_parts (p ∷ ps) = p.done ++ sequences_of_parts ps
 
--- the places of those that were reported
+-- the offset and length of each malformed sequence reported
 abbrev pub reported_faults_from : ℕ → List DecodeRunPart → List (ℕ × ℕ)
 reported_faults_from at [] = []
 reported_faults_from at (p ∷ ps) = (if p.replaces then [] else faults_from at p.done) ++ reported_faults_from (at + length (sequence_bytes p.done)) ps
 
--- whether all calls report what is malformed
+-- whether all calls report malformed sequences
 abbrev pub all_report_malformed : List DecodeCall → Bool
 all_report_malformed [] = true
 all_report_malformed (call ∷ calls) = not call.replace && all_report_malformed calls
 
--- What calls have come to: what is done is a beginning, in whole sequences, of those of the whole input, in a part for
--- each call. A finished run has done all of them, skipped ones included.
+-- The result of some calls: each has done a part of the sequences of the whole input, from the first on. A finished run
+-- has done all of them, skipped ones included.
 pub record HasRunDecoding (handling : BomHandling) (e : Encoding) (bytes : List ℕ) (calls : List DecodeCall) (text : List ℕ) (faults : List (ℕ × ℕ)) (had_errors ended : Bool) : Type 0 where
   pub parts : List DecodeRunPart
   pub rest : List Sequence
@@ -125,6 +128,6 @@ pub record HasRunDecoding (handling : BomHandling) (e : Encoding) (bytes : List 
   pub all : ended ≡ true → rest ≡ []
   pub calls_are : map (λ (p : DecodeRunPart). p.replaces) parts ≡ map (λ (c : DecodeCall). c.replace) calls
   pub text_of_done : text ≡ units_of_text encode_utf8 (sequence_text (sequences_of_parts parts))
-  -- the malformed sequences that were met by calls which report them, in order and at their places in the whole input
+  -- the malformed sequences met by calls that report them, in order and at their offsets in the whole input
   pub reported : faults ≡ reported_faults_from (whole_start handling e bytes) parts
   pub flag : had_errors ≡ any_malformed (sequences_of_parts parts)

@@ -1,4 +1,4 @@
-//! Places in a text, counted in characters.
+//! Positions in a text, counted in characters.
 
 ghost use Rattle.std.specs.Prelude.{◌≡◌, ◌↔◌, ◌≤◌, ◌++◌, ℕ, List, chars, length, take, drop, IfOk};
 ghost use Rattle.std.specs.Char.Utf16.{utf16_lossy_chars};
@@ -8,7 +8,7 @@ ghost use Rattle.encoding_rs.specs.Run.{units_of_call};
 
 use std::alloc::{AllocError, Global};
 
-/// Where so many characters of a text end, or the text where it has fewer.
+/// Returns the offset of the end of the first `count` characters, or of the text if it has fewer.
 fn place_behind(text: &str, count: usize) -> usize
     ensures boundary { IsCharBoundary text.now result }
     ensures front { chars (take result text.now) ≡ take count (chars text.now) }
@@ -23,7 +23,7 @@ fn place_behind(text: &str, count: usize) -> usize
     text.len() - rest.as_str().len()
 }
 
-/// Cuts a text behind so many characters, or at its end where it has fewer.
+/// Splits a text after `count` characters, or at its end if it has fewer.
 pub fn split_at_char(text: &str, count: usize) -> (&str, &str)
     ensures front { chars result.0.now ≡ take count (chars text.now) }
     ensures back { chars result.1.now ≡ drop count (chars text.now) }
@@ -32,7 +32,7 @@ pub fn split_at_char(text: &str, count: usize) -> (&str, &str)
     text.split_at(place_behind(text, count))
 }
 
-/// How many code units a character has.
+/// Returns the number of code units of a character, at least one.
 fn width(c: char, utf16: bool) -> usize
     ensures some { 1 ≤ result }
     ensures value { result ≡ length (units_of_call utf16 c) }
@@ -40,7 +40,9 @@ fn width(c: char, utf16: bool) -> usize
     if utf16 { c.len_utf16() } else { c.len_utf8() }
 }
 
-/// How many characters in front of a text have so many code units, which end behind one.
+/// Returns the number of characters in the first `units` code units of a text.
+///
+/// Condition for that: they end after a character.
 pub fn chars_in_units(text: &str, units: usize, utf16: bool) -> usize
     ensures { (front back : List ℕ) → chars text.now ≡ front ++ back → units ≡ length (units_of_text (units_of_call utf16) front)
         → result ≡ length front }
@@ -58,7 +60,7 @@ pub fn chars_in_units(text: &str, units: usize, utf16: bool) -> usize
     count
 }
 
-/// A text in UTF-16. Takes memory for it.
+/// Returns a text in UTF-16. Takes memory for it.
 pub fn utf16_of(alloc: Global, text: &str) -> Result<Vec<u16>, AllocError>
     ensures { IfOk result (λ units. utf16_lossy_chars units.items ≡ chars text.now) }
 {

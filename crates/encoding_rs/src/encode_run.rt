@@ -1,57 +1,55 @@
-//! Whole runs of an encoder: what any list of calls comes to.
+//! Whole runs of an encoder: the result of any list of calls.
 
 ghost use Rattle.std.specs.Prelude.{◌≡◌, ◌++◌, ◌&&◌, [], true, false, nat_le, chars, length, IfOk, OnOk};
 ghost use Rattle.std.specs.Char.{encode_utf8};
 ghost use Rattle.std.specs.Char.Escape.{encode_utf16};
-ghost use Rattle.enc_encoders.specs.Text.{reference_after};
-ghost use Rattle.enc_references.specs.ErrorMode.{encoder_result_of};
-ghost use Rattle.enc_encoders.specs.Barring.{are_beyond_ascii};
-ghost use Rattle.encoding_rs.specs.Encoder.{EncodesChunk};
+ghost use Rattle.enc_encoder.specs.Text.{reference_after};
+ghost use Rattle.enc_units.specs.Results.{encoder_result_of};
+ghost use Rattle.enc_encoder.specs.Barring.{are_beyond_ascii};
+ghost use Rattle.enc_stream.specs.Encoder.{EncodesChunk};
 ghost use Rattle.encoding_rs.specs.Run.{units_of_call};
-ghost use Rattle.encoding_rs.specs.EncodeRun.{encode_error_mode, reported_character, is_unmappable_result, is_input_empty_result, MakesEncodeCall};
+ghost use Rattle.encoding_rs.specs.EncodeRun.{encode_error_mode, reported_character, is_unmappable_result};
+ghost use Rattle.encoding_rs.specs.EncodeRun.{is_input_empty_result, MakesEncodeCall};
 ghost use Rattle.encoding_rs.specs.EncodeReport.{IsReportOf};
 
 use crate::chars_of_text::{chars_in_units, split_at_char, utf16_of};
-use crate::encoder::Encoder;
-use crate::encoding::Encoding;
 use crate::run::RunError;
-use enc_calls::CoderResult;
-use enc_encode::EncoderResult;
-use enc_references::put_reference;
+use enc_encoder::put_reference;
+use enc_stream::{Encoder, Encoding};
+use enc_units::{CoderResult, EncoderResult};
 use std::alloc::{AllocError, Global};
 
-/// One call of a run: from which code units it encodes, what it does with unmappable characters, how many characters it is
-/// offered, and how much room its output has.
+/// One call of a run: the input's code units, the error mode, the length of the chunk and the room.
 #[derive(Clone, Copy)]
 pub struct EncodeCall {
-    /// It encodes from UTF-16, and else from UTF-8.
+    /// Encodes from UTF-16, and otherwise from UTF-8.
     pub utf16: bool,
-    /// It puts a decimal reference in the place of each unmappable character, and else reports it.
+    /// Writes a decimal reference for each unmappable character, and otherwise reports it.
     pub replace: bool,
-    /// How many characters it is offered, if so many are left.
+    /// The length of the chunk in characters, or less at the end of the text.
     pub offer: usize,
-    /// How many bytes its output can take.
+    /// The length of the output in bytes.
     pub room: usize,
 }
 
-/// What a run came to.
+/// The result of a run.
 #[derive(Drop)]
 pub struct EncodeReport {
     /// The bytes.
     pub bytes: Vec<u8>,
-    /// How many characters were read.
+    /// The number of characters read.
     pub read: usize,
-    /// The characters that were reported as unmappable, in order.
+    /// The characters reported as unmappable, in order.
     pub unmappables: Vec<char>,
-    /// Whether any character was unmappable.
+    /// Whether a character was unmappable.
     pub had_unmappables: bool,
-    /// Whether the end of the text was told and reached.
+    /// Whether the end of the text is reached.
     pub finished: bool,
-    /// How many calls were made.
+    /// The number of calls made.
     pub calls: usize,
 }
 
-/// What one call of a run did, with what it has read in code units or in characters.
+/// The result of one call of a run. The number read is in code units or in characters.
 #[derive(Clone, Copy)]
 struct Made {
     result: EncoderResult,
@@ -59,7 +57,7 @@ struct Made {
     replaced: bool,
 }
 
-/// What a call with replacement did.
+/// Returns the result of a call with replacement.
 fn made_replacing(stop: CoderResult, read: usize, replaced: bool) -> Made
     ensures { result
         ≡ record { result = encoder_result_of stop; read = read; replaced = replaced } }
@@ -75,7 +73,7 @@ fn made_replacing(stop: CoderResult, read: usize, replaced: bool) -> Made
     }
 }
 
-/// Makes one call from UTF-8: what it did, and its bytes.
+/// Makes one call from UTF-8. Returns its result and its bytes.
 fn call_from_utf8(
     alloc: Global,
     encoder: &mut Encoder,
@@ -102,7 +100,7 @@ fn call_from_utf8(
     Ok((made, bytes))
 }
 
-/// The same from UTF-16.
+/// Makes one call from UTF-16. Returns its result and its bytes.
 fn call_from_utf16(
     alloc: Global,
     encoder: &mut Encoder,
@@ -132,7 +130,7 @@ fn call_from_utf16(
     Ok((made, bytes))
 }
 
-/// Makes one call from the units that it asks for.
+/// Makes one call from UTF-8 or UTF-16. Returns its result and its bytes.
 fn call_from(
     alloc: Global,
     encoder: &mut Encoder,
@@ -149,7 +147,7 @@ fn call_from(
     call_from_utf8(alloc, encoder, chunk, last, call)
 }
 
-/// Appends the reference to the character that a call has reported, if it has.
+/// Appends the decimal reference to the character that a call has reported, if any.
 fn append_reference(bytes: &mut Vec<u8>, stop: EncoderResult) -> Result<(), AllocError>
     ensures { OnOk result (bytes.new.items ≡ bytes.old.items ++ reference_after stop) }
 {
@@ -161,7 +159,7 @@ fn append_reference(bytes: &mut Vec<u8>, stop: EncoderResult) -> Result<(), Allo
     bytes.extend_from_slice(&reference[..len])
 }
 
-/// Takes note of the character that a call has reported, if it has.
+/// Appends the character that a call has reported, if any.
 fn note_report(unmappables: &mut Vec<char>, stop: EncoderResult) -> Result<(), AllocError>
     ensures { OnOk result
         (unmappables.new.items ≡ unmappables.old.items ++ reported_character stop) }
@@ -175,7 +173,7 @@ fn note_report(unmappables: &mut Vec<char>, stop: EncoderResult) -> Result<(), A
     }
 }
 
-/// Whether a call has reported an unmappable character.
+/// Returns whether a call has reported an unmappable character.
 fn reports(stop: EncoderResult) -> bool
     ensures { result ≡ is_unmappable_result stop }
 {
@@ -186,7 +184,7 @@ fn reports(stop: EncoderResult) -> bool
     }
 }
 
-/// Whether a call has read all that it was offered.
+/// Returns whether a call has read all of its input.
 fn reads_all(stop: EncoderResult) -> bool
     ensures { result ≡ is_input_empty_result stop }
 {
@@ -197,8 +195,8 @@ fn reads_all(stop: EncoderResult) -> bool
     }
 }
 
-/// Makes one call of a run: what it did, in characters, and whether it has ended the text. Where it reports an unmappable
-/// character, the reference to that is appended.
+/// Makes one call of a run, and appends the reference for an unmappable character that it reports.
+/// Returns its result, in characters, and whether it has ended the text.
 fn make_call(
     alloc: Global,
     encoder: &mut Encoder,
@@ -222,15 +220,18 @@ fn make_call(
     Ok((made, ended))
 }
 
-/// Encodes a text by the calls, in turn, with a new encoder of the output encoding. Each call is offered the next characters
-/// behind those that were read, or all that remain where these are fewer, and is told that nothing follows exactly where the
-/// offer reaches the end. It is a call from UTF-8 or UTF-16, with replacement or without; where one reports an unmappable
-/// character, the run puts the decimal reference to that in its place. Calls behind the end are not made.
+/// Encodes `text` by `calls`, in turn, with a new encoder of the output encoding.
 ///
-/// However the calls cut the text between characters, whatever rooms they have and whatever kinds they are of, the bytes
-/// are a beginning of those of the whole text, in which a decimal reference stands in the place of each unmappable
-/// character, and all of them where the run is finished. Takes memory for the report and for each call's input and
-/// output, and answers [`RunError::Memory`] where it is refused, and only there.
+/// Each call gets the unread characters, at most `offer` of them, and `last` exactly if that is all
+/// of them. If it reports an unmappable character, the run puts the decimal reference in its place.
+/// No call is made after the end.
+///
+/// The bytes are a prefix of those of the whole text with references, and all of them if the run
+/// finished. This holds however the calls split the text between characters and however small their
+/// outputs are, from UTF-8 or UTF-16, with replacement or without.
+///
+/// Takes memory for the report and for each call's input and output. Error: [`RunError::Memory`] if
+/// and only if memory is refused.
 pub fn encode_run(
     alloc: Global,
     encoding: Encoding,
@@ -242,8 +243,10 @@ pub fn encode_run(
     encode_run_barring(alloc, encoding, &[], text, calls)
 }
 
-/// The same, with an encoder to which the characters of a list are unmappable too. Condition: each is U+0080 or above
-/// ([`Encoding::barred_ok`]).
+/// Encodes `text` by `calls`, with barred characters.
+///
+/// The same as [`encode_run`], with an encoder to which the characters of `barred` are unmappable
+/// too. Condition: each character of the list is U+0080 or above ([`Encoding::barred_ok`]).
 pub fn encode_run_barring(
     alloc: Global,
     encoding: Encoding,

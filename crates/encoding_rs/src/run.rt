@@ -1,64 +1,64 @@
-//! Whole runs of a decoder or an encoder: what any list of calls comes to.
+//! Whole runs of a decoder: the result of any list of calls.
 
 ghost use Rattle.std.specs.Prelude.{◌≡◌, ◌+◌, ◌*◌, ◌≤◌, ◌⊎◌, ◌++◌, true, false, length, take, IfOk, OnOk};
 ghost use Rattle.std.specs.List.{All};
 ghost use Rattle.std.specs.Char.{encode_utf8};
 ghost use Rattle.std.specs.Char.Escape.{encode_utf16};
 ghost use Rattle.std.specs.String.{string_bytes};
-ghost use Rattle.enc_calls.specs.Replacing.{decoder_result_of};
-ghost use Rattle.encoding_rs.specs.Decoding.{DecoderState, has_finished, whole_encoding, whole_utf_8, whole_malformed};
+ghost use Rattle.enc_units.specs.Results.{decoder_result_of};
+ghost use Rattle.enc_stream.specs.Decoding.{DecoderState, fresh_decoder, has_finished, whole_encoding, whole_utf_8};
+ghost use Rattle.enc_stream.specs.Decoding.{whole_malformed};
 ghost use Rattle.encoding_rs.specs.DecodeEnd.{CanDecodeMore};
-ghost use Rattle.encoding_rs.specs.Run.{units_of_call, AnswersDecodeCall, MakesDecodeCall, is_malformed_result, fault_of_result, IsDecodeRun, HasRunDecoding, decode_run_start, whole_faults, all_report_malformed};
+ghost use Rattle.encoding_rs.specs.Run.{units_of_call, AnswersDecodeCall, MakesDecodeCall, is_malformed_result};
+ghost use Rattle.encoding_rs.specs.Run.{fault_of_result, IsDecodeRun, HasRunDecoding, decode_run_start, whole_faults};
+ghost use Rattle.encoding_rs.specs.Run.{all_report_malformed};
 
-pub use crate::bom::BomHandling;
-use crate::decoder::Decoder;
 pub use crate::encode_run::{EncodeCall, EncodeReport, encode_run, encode_run_barring};
-use crate::encoding::Encoding;
-use enc_calls::CoderResult;
-use enc_codec::DecoderResult;
+pub use enc_stream::BomHandling;
+use enc_stream::{Decoder, Encoding};
+use enc_units::{CoderResult, DecoderResult};
 use std::alloc::{AllocError, Global};
 
-/// One call of a run: to which code units it decodes, what it does with what is malformed, how many bytes it is offered,
-/// and how much room its output has.
+/// One call of a run: the output's code units, the error mode, the chunk's length and the room.
 #[derive(Clone, Copy)]
 pub struct DecodeCall {
-    /// It decodes to UTF-16, and else to UTF-8.
+    /// Decodes to UTF-16, and otherwise to UTF-8.
     pub utf16: bool,
-    /// It puts U+FFFD in the place of each malformed sequence, and else reports it.
+    /// Writes U+FFFD for each malformed sequence, and otherwise reports it.
     pub replace: bool,
-    /// How many bytes it is offered, if so many are left.
+    /// The length of the chunk in bytes, or less at the end of the input.
     pub offer: usize,
-    /// How many code units its output can take.
+    /// The length of the output in code units.
     pub room: usize,
 }
 
-/// What a run came to.
+/// The result of a run.
 #[derive(Drop)]
 pub struct DecodeReport {
     /// The text.
     pub text: String,
-    /// How many bytes were read.
+    /// The number of bytes read.
     pub read: usize,
-    /// Where each malformed sequence that was reported starts in the whole input, and how many bytes it has.
+    /// The offset in the whole input, and the length in bytes, of each malformed sequence reported.
     pub faults: Vec<(usize, usize)>,
-    /// Whether anything was malformed.
+    /// Whether a sequence was malformed.
     pub had_errors: bool,
-    /// Whether the end of the input was told and reached.
+    /// Whether the decoder is finished.
     pub finished: bool,
-    /// The encoding: that of a mark that was sniffed, or else the one that the run was given.
+    /// The encoding of a sniffed byte order mark, or otherwise the one given.
     pub encoding: Encoding,
-    /// How many calls were made.
+    /// The number of calls made.
     pub calls: usize,
 }
 
-/// Why a run gave no report.
+/// Why a run failed.
 #[derive(PartialEq, Eq, Debug, Drop)]
 pub enum RunError {
-    /// Memory ran out.
+    /// Memory was refused.
     Memory = 1,
 }
 
-/// What one call of a run did.
+/// The result of one call of a run.
 #[derive(Clone, Copy)]
 struct Made {
     result: DecoderResult,
@@ -66,7 +66,7 @@ struct Made {
     replaced: bool,
 }
 
-/// What a call with replacement did.
+/// Returns the result of a call with replacement.
 fn made_replacing(stop: CoderResult, read: usize, replaced: bool) -> Made
     ensures { result
         ≡ record { result = decoder_result_of stop; read = read; replaced = replaced } }
@@ -82,7 +82,7 @@ fn made_replacing(stop: CoderResult, read: usize, replaced: bool) -> Made
     }
 }
 
-/// Makes one call into UTF-8: what it did, and its text.
+/// Makes one call into UTF-8. Returns its result and its text.
 fn call_to_utf8(
     alloc: Global,
     decoder: &mut Decoder,
@@ -108,7 +108,7 @@ fn call_to_utf8(
     Ok((made, text))
 }
 
-/// Makes one call into UTF-16: what it did, and its text.
+/// Makes one call into UTF-16. Returns its result and its text.
 fn call_to_utf16(
     alloc: Global,
     decoder: &mut Decoder,
@@ -138,7 +138,7 @@ fn call_to_utf16(
     Ok((made, text))
 }
 
-/// Makes one call into the units that it asks for.
+/// Makes one call into UTF-8 or UTF-16. Returns its result and its text.
 fn call_to(
     alloc: Global,
     decoder: &mut Decoder,
@@ -156,7 +156,7 @@ fn call_to(
     call_to_utf8(alloc, decoder, chunk, last, call)
 }
 
-/// Whether a call has reported a malformed sequence.
+/// Returns whether a call has reported a malformed sequence.
 fn reports(stop: DecoderResult) -> bool
     ensures { result ≡ is_malformed_result stop }
 {
@@ -167,7 +167,7 @@ fn reports(stop: DecoderResult) -> bool
     }
 }
 
-/// Makes one call of a run. Where it reports a malformed sequence, U+FFFD is appended for that.
+/// Makes one call of a run, and appends U+FFFD for a malformed sequence that it reports.
 fn make_call(
     alloc: Global,
     decoder: &mut Decoder,
@@ -189,7 +189,7 @@ fn make_call(
     Ok(made)
 }
 
-/// Takes note of where the malformed sequence is that a call has reported, if it has.
+/// Appends the offset and length of the malformed sequence that a call has reported, if any.
 fn note_fault(
     faults: &mut Vec<(usize, usize)>,
     stop: DecoderResult,
@@ -212,16 +212,29 @@ fn note_fault(
     }
 }
 
-/// Decodes the bytes by the calls, in turn, with a new decoder that looks for the byte order marks that `handling`
-/// names. Each call is offered the next bytes behind those that were read, or all that remain where these are fewer,
-/// and is told that nothing follows exactly where the offer reaches the end. It is a call into UTF-8 or UTF-16, with
-/// replacement or without; where one reports a malformed sequence, the run puts U+FFFD in its place. Calls behind the
-/// end are not made.
+/// Returns a decoder that looks for the byte order marks of `handling`. It has read nothing.
+fn new_decoder(encoding: Encoding, handling: BomHandling) -> Decoder
+    ensures { result ≡ fresh_decoder handling encoding }
+{
+    match handling {
+        BomHandling::Off => encoding.new_decoder_without_bom_handling(),
+        BomHandling::Sniff => encoding.new_decoder(),
+        BomHandling::Remove => encoding.new_decoder_with_bom_removal(),
+    }
+}
+
+/// Decodes `bytes` by `calls`, in turn, with a new decoder.
 ///
-/// However the calls cut the bytes, whatever rooms they have and whatever kinds they are of, the text is a beginning of
-/// the one text of the whole input, and all of it where the run is finished. A mark that is found is no part of the
-/// text. Takes memory for the report and for each call's output, and answers [`RunError::Memory`] where it is refused,
-/// and only there.
+/// The decoder handles byte order marks by `handling`. Each call gets the unread bytes, at most
+/// `offer` of them, and `last` exactly if that is all of them. If it reports a malformed sequence,
+/// the run puts U+FFFD in its place. No call is made after the end.
+///
+/// The text is a prefix of the text of the whole input, and all of it if the run finished. This
+/// holds however the calls split the input and however small their outputs are, to UTF-8 or UTF-16,
+/// with replacement or without. A byte order mark that is found is no part of the text.
+///
+/// Takes memory for the report and for each call's output. Error: [`RunError::Memory`] if and only
+/// if memory is refused.
 pub fn decode_run(
     alloc: Global,
     encoding: Encoding,
@@ -234,20 +247,21 @@ pub fn decode_run(
         × IsDecodeRun bytes.now (take report.calls calls.now) (decode_run_start handling encoding)
         (record { decoder = decoder; read = report.read; text = string_bytes report.text; faults = report.faults.items; had_errors = report.had_errors })) }
 
-    // All calls are made, unless the end is reached before.
+    // All calls are made, unless the end is reached first.
     ensures made { IfOk result (λ report. (report.finished ≡ true) ⊎ (report.calls ≡ length calls.now)) }
     ensures calls { IfOk result (λ report. report.calls ≤ length calls.now) }
 
-    // Where each call is offered a byte and has room for any character, the end is reached: two calls for each byte, and one more,
-    // are enough.
+    // If every call gets a byte and has room for a character, the end is reached within 2n + 1
+    // calls for n bytes.
     ensures end { IfOk result (λ report. All CanDecodeMore calls.now → (report.calls ≤ 2 * length bytes.now + 1)
         × (2 * length bytes.now + 1 ≤ length calls.now → report.finished ≡ true)) }
 
-    // What has come out is always a beginning of the one text, and each malformed sequence of it stands at its place.
+    // The text is always a prefix of the whole input's, and each malformed sequence is at its
+    // offset.
     ensures beginning { IfOk result (λ report. HasRunDecoding handling encoding bytes.now (take report.calls calls.now)
         (string_bytes report.text) report.faults.items report.had_errors report.finished) }
 
-    // At the end it is all of it.
+    // At the end the text is all of it.
     ensures text { IfOk result (λ report. report.finished ≡ true → string_bytes report.text ≡ whole_utf_8 handling encoding bytes.now) }
     ensures errors { IfOk result (λ report. report.finished ≡ true → report.had_errors ≡ whole_malformed handling encoding bytes.now) }
     ensures faults { IfOk result (λ report. report.finished ≡ true → all_report_malformed (take report.calls calls.now) ≡ true →
@@ -255,7 +269,7 @@ pub fn decode_run(
     ensures read { IfOk result (λ report. report.finished ≡ true → report.read ≡ length bytes.now) }
     ensures encoding { IfOk result (λ report. report.finished ≡ true → report.encoding ≡ whole_encoding handling encoding bytes.now) }
 {
-    let mut decoder = Decoder::start(encoding, handling);
+    let mut decoder = new_decoder(encoding, handling);
     let mut text = String::new(alloc);
     let mut faults = Vec::new(alloc);
     let mut read = 0;

@@ -1,6 +1,9 @@
-//! How a caller decodes and encodes in chunks. `example_chunks decode LABEL` decodes standard input to UTF-8, and
-//! `example_chunks encode LABEL` encodes UTF-8 from standard input, with decimal references for characters that the encoding doesn't
-//! have. The status is 0 where nothing was replaced, 1 where something was, 2 where the arguments are wrong, and 3 after a fault.
+//! Decodes and encodes in chunks, as a caller does.
+//!
+//! `example_chunks decode LABEL` decodes standard input to UTF-8, and `example_chunks encode LABEL`
+//! encodes UTF-8 from standard input, with a decimal reference for each unmappable character. The
+//! status is 0 if nothing was replaced, 1 if something was, 2 for wrong arguments, and 3 after a
+//! fault.
 #![tactic(auto)]
 
 ghost use Rattle.std.specs.Prelude.{◌≡◌, false, OnOk};
@@ -12,10 +15,11 @@ use std::io::{ErrorKind, Read, Write};
 use std::process::ExitCode;
 use std::{env, io};
 
-/// The length of each buffer. Any will do from 4 bytes on to decode, and from 14 to encode.
+/// The length of each buffer. At least 4 bytes are needed to decode, and 14 to encode.
 const LENGTH: usize = 256;
 
-/// Decodes a chunk, and writes its text in as many pieces as it takes. Answers whether something was malformed.
+/// Decodes a chunk, and writes its text in as many pieces as it takes. Returns whether a sequence
+/// was malformed.
 fn decode_chunk<W: Write>(
     decoder: &mut Decoder,
     chunk: &[u8],
@@ -39,7 +43,7 @@ fn decode_chunk<W: Write>(
     }
 }
 
-/// Decodes all that a reader gives, a chunk at a time.
+/// Decodes all input of a reader, a chunk at a time.
 fn decode_all<R: Read, W: Write>(
     input: &mut R,
     out: &mut W,
@@ -58,7 +62,8 @@ fn decode_all<R: Read, W: Write>(
     Err(io::Error::from(ErrorKind::Other))
 }
 
-/// Encodes a text, and writes its bytes in as many pieces as it takes. Answers whether a character was unmappable.
+/// Encodes a text, and writes its bytes in as many pieces as it takes. Returns whether a character
+/// was unmappable.
 fn encode_text<W: Write>(
     encoder: &mut Encoder,
     text: &str,
@@ -82,7 +87,7 @@ fn encode_text<W: Write>(
     }
 }
 
-/// Encodes all text that a reader gives, a piece at a time.
+/// Encodes all text of a reader, a piece at a time.
 fn encode_all<R: Read, W: Write>(
     input: &mut R,
     out: &mut W,
@@ -107,7 +112,7 @@ fn encode_all<R: Read, W: Write>(
     Err(io::Error::from(ErrorKind::Other))
 }
 
-/// The two arguments, if there are just two.
+/// Returns the two arguments, if there are exactly two.
 fn words(rt: &HostRuntime) -> io::Result<Option<(String, String)>> {
     let mut args = env::args(rt)?;
     let _program = args.next();

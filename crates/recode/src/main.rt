@@ -1,12 +1,14 @@
-//! Recodes standard input to standard output: `recode FROM TO` decodes by the encoding that the label FROM names, and writes the
-//! output encoding of the one that TO names.
+//! Recodes standard input to standard output.
+//!
+//! `recode FROM TO` decodes by the encoding that the label FROM names, and writes the output
+//! encoding of the one that TO names.
 #![tactic(auto)]
 
-pub use enc_recode::{FromRead, FromWrite, RecodeFault, Sink, Source, labels, run, status};
+pub use recode_engine::{FromRead, FromWrite, RecodeFault, Sink, Source, labels, run, status};
 use std::process::ExitCode;
 use std::{env, io};
 
-/// The two arguments, if there are just two. An `Err` where an argument can't be read.
+/// Returns the two arguments, if there are exactly two. An `Err` if an argument cannot be read.
 fn words(rt: &HostRuntime) -> io::Result<Option<(String, String)>> {
     let mut args = env::args(rt)?;
     let _program = args.next();
@@ -19,7 +21,7 @@ fn words(rt: &HostRuntime) -> io::Result<Option<(String, String)>> {
     }
 }
 
-/// Tells standard error why a run has ended, unless it came to the end of the input.
+/// Writes to standard error why a run has stopped, unless it has reached the end of the input.
 fn report(rt: &HostRuntime, outcome: &Result<bool, RecodeFault>) {
     let _ = match outcome {
         Ok(_) => Ok(()),

@@ -1,8 +1,8 @@
-//! How a helper fails: with a message that names the case.
+//! The failure of a helper: a message that names the case.
 
 use std::test::Fail;
 
-/// What a failed comparison names.
+/// The case that a failed comparison names.
 #[derive(Clone, Copy)]
 pub struct Case<'a> {
     /// The name of the encoding.

@@ -1,4 +1,4 @@
-//! What runs the rows over decoders: over those of encodings, into each output, and over a codec's decoder by itself.
+//! Runs of the rows over decoders: those of encodings, into each output, and a codec's decoder.
 
 mod calls;
 mod cuts;

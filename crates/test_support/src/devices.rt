@@ -1,10 +1,11 @@
-//! Readers and writers over memory, driven by lists of steps: each call does what the next step says.
+//! Readers and writers over memory, driven by lists of steps: each call does what the next step
+//! says.
 
 use std::alloc::Global;
 use std::io;
 use std::io::{ErrorKind, Read, Write};
 
-/// What a device does at a call.
+/// The action of a device at a call.
 #[derive(Clone, Copy)]
 pub enum Step {
     /// Moves at most this many bytes.
@@ -19,7 +20,8 @@ pub const BYTE: Step = Step::Move(1);
 /// As many bytes as there are, or as there is room for.
 pub const ALL_BYTES: Step = Step::Move(usize::MAX);
 
-/// The steps of a device, in turn. The last one is also that of each later call, and a device without steps moves all.
+/// The steps of a device, in turn. The last one is also that of each later call, and a device
+/// without steps moves all.
 #[derive(Clone, Copy)]
 pub struct Steps<'a> {
     rest: &'a [Step],
@@ -42,7 +44,7 @@ impl<'a> Steps<'a> {
         *step
     }
 
-    /// How many bytes the next call moves at most, or its error.
+    /// Returns the greatest number of bytes of the next call, or its error.
     fn turn(&mut self) -> io::Result<usize> {
         match self.next_step() {
             Step::Move(most) => Ok(most),
@@ -51,12 +53,12 @@ impl<'a> Steps<'a> {
     }
 }
 
-/// Gives bytes by steps: at least one while it has any, since 0 would say that it has come to its end.
+/// Gives bytes by steps: at least one while it has any, since 0 would mean that it is at its end.
 #[derive(Drop)]
 pub struct StepReader<'a> {
     rest: &'a [u8],
     steps: Steps<'a>,
-    /// How many calls there were.
+    /// The number of calls.
     pub calls: usize,
 }
 
@@ -85,9 +87,9 @@ pub struct StepWriter<'a> {
     steps: Steps<'a>,
     /// The bytes that it has taken.
     pub taken: Vec<u8>,
-    /// How many calls there were.
+    /// The number of calls.
     pub calls: usize,
-    /// How many of them had no byte to write.
+    /// The number of calls without a byte to write.
     pub empty_calls: usize,
 }
 

@@ -1,4 +1,5 @@
-//! Runs texts through the encoder of an encoding, from each form of input and into each form of output.
+//! Runs texts through the encoder of an encoding, from each form of input and into each form of
+//! output.
 
 pub mod call_rows;
 pub mod calls;

@@ -69,12 +69,12 @@ fn compare_text(text: Option<String>, want: &Pattern) -> Result<(), Fail> {
     }
 }
 
-/// Where memory was refused to a test.
+/// The refusals of memory in a test.
 #[derive(Clone, Copy)]
 pub struct Refused {
-    /// To its input, which it made a second time then.
+    /// Whether memory was refused to its input, which it then made a second time.
     pub input: bool,
-    /// To its call, which it made a second time then.
+    /// Whether memory was refused to its call, which it then made a second time.
     pub call: bool,
 }
 
@@ -117,7 +117,8 @@ pub enum Call {
     WithoutBomHandlingAndWithoutReplacement,
 }
 
-/// The answer of a one-shot call of a decoder: the text, the encoding that was used, and whether something was malformed.
+/// The answer of a one-shot call of a decoder: the text, the encoding that was used, and whether
+/// something was malformed.
 type Answer = (Option<String>, Encoding, bool);
 
 /// Makes a one-shot call.

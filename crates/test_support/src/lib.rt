@@ -1,8 +1,9 @@
-//! What the test crates share: the table of all encodings, the forms of their rows, devices that are driven by steps, and what
-//! runs rows over decoders and encoders.
+//! Helpers of the test crates: the table of all encodings, the forms of rows, devices driven by
+//! steps, and runs of rows over decoders and encoders.
 //!
-//! It is a library so that its functions are proved once, and stay proved while rows change. A library may not abort: a helper
-//! returns a `Fail` that names the case where something is not as the row says, and a test passes it on by `?`.
+//! It is a library so that its functions are proved once, and stay proved while rows change. A
+//! library may not abort: a helper returns a `Fail` that names the case if a row does not hold, and
+//! a test passes it on by `?`.
 #![tactic(auto)]
 
 pub mod cases;

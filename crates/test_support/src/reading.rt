@@ -7,7 +7,8 @@ use encoding_rs::Encoding;
 use std::alloc::Global;
 use std::test::Fail;
 
-/// Reads once, into a buffer of four bytes: the read returns `want`, and the buffer begins with `text`.
+/// Reads once, into a buffer of four bytes: the read returns `want`, and the buffer begins with
+/// `text`.
 pub fn compare_read<R: Source>(
     reader: &mut DecodeReader<'_, R>,
     want: Result<usize, ReadFault>,
@@ -24,7 +25,7 @@ pub fn compare_read<R: Source>(
     expect(dst.as_slice().starts_with(text), "text of a read", &case)
 }
 
-/// What all reads together have come to.
+/// The result of all reads together.
 #[derive(Drop)]
 pub struct AllRead {
     pub text: Vec<u8>,
@@ -33,8 +34,8 @@ pub struct AllRead {
     pub fault: Option<ReadFault>,
 }
 
-/// Reads to the end or to a fault, through a buffer to read into, of at least one byte, and one for a part of the text, of at
-/// least four.
+/// Reads to the end or to a fault, through a buffer to read into, of at least one byte, and one for
+/// a part of the text, of at least four.
 pub fn read_all(
     alloc: Global,
     device: StepReader<'_>,
@@ -67,7 +68,8 @@ pub fn read_all(
     })
 }
 
-/// Reads an input a byte at a time, and in parts, through short buffers: what comes out is what `decode` gives for the whole of it.
+/// Reads an input a byte at a time, and in parts, through short buffers, and compares the text with
+/// that of `decode`.
 pub fn compare_with_whole(alloc: Global, encoding: Encoding, bytes: &[u8]) -> Result<(), Fail> {
     let (text, decoded_by, had_errors) = encoding.decode(alloc, bytes)?;
     for step in [BYTE, Step::Move(3), Step::Move(usize::MAX)] {

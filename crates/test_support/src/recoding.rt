@@ -1,9 +1,9 @@
-//! Runs of `enc_recode::run` over devices that are driven by steps.
+//! Runs of `recode_engine::run` over devices that are driven by steps.
 
 use crate::cases::{Case, expect};
 use crate::devices::{Step, StepReader, StepWriter, Steps};
-use enc_recode::{FromRead, FromWrite, RecodeFault, Sink, Source, run};
 use encoding_rs::Encoding;
+use recode_engine::{FromRead, FromWrite, RecodeFault, Sink, Source, run};
 use std::alloc::Global;
 use std::io::ErrorKind;
 use std::test::Fail;
@@ -20,17 +20,17 @@ pub const NOTHING: Step = Step::Move(0);
 /// The calls of the reader for three chunks and for the end.
 pub const READS: usize = 4;
 
-/// What a run over devices has come to.
+/// The result of a run over devices.
 #[derive(Drop)]
 pub struct Ran {
     pub outcome: Result<bool, RecodeFault>,
     pub written: Vec<u8>,
-    /// How many calls of the reader and of the writer there were.
+    /// The numbers of calls of the reader and of the writer.
     pub reads: usize,
     pub writes: usize,
 }
 
-/// What a failed comparison names of a run.
+/// The case that a failed comparison of a run names.
 fn case_of(from: Encoding, input: &[u8]) -> Case<'_> {
     Case {
         name: from.name(),
@@ -39,8 +39,8 @@ fn case_of(from: Encoding, input: &[u8]) -> Case<'_> {
     }
 }
 
-/// Runs from a reader to a writer, each driven by its steps. Exactly the side that the outcome names has failed, and the writer
-/// is never asked to write nothing.
+/// Runs from a reader to a writer, each driven by its steps. Exactly the side that the outcome
+/// names has failed, and the writer is never asked to write nothing.
 pub fn run_by(
     alloc: Global,
     (from, to): (Encoding, Encoding),
@@ -76,8 +76,8 @@ pub fn run_whole(
     run_by(alloc, encodings, input, (&[], &[]))
 }
 
-/// The encodings to decode from and to write, an input, the steps by which it comes in three chunks that cut characters,
-/// whether something is replaced, and the bytes of the whole run.
+/// The encodings to decode from and to write, an input, the steps by which it comes in three chunks
+/// that cut characters, whether something is replaced, and the bytes of the whole run.
 pub type CutRow = (
     (Encoding, Encoding),
     &'static [u8],
@@ -100,8 +100,8 @@ pub fn steps_but(alloc: Global, steps: &[Step], nth: usize, step: Step) -> Resul
     Ok(changed)
 }
 
-/// A run that one of its devices ends, at its nth call: the outcome names the device, and the bytes written are a prefix of those
-/// of the whole run.
+/// A run that one of its devices ends, at its nth call: the outcome names the device, and the bytes
+/// written are a prefix of those of the whole run.
 fn compare_stopped(ran: &Ran, fault: RecodeFault, nth: usize, row: &CutRow) -> Result<(), Fail> {
     let ((from, _), input, _, _, want) = row;
     let case = case_of(*from, *input);
@@ -137,8 +137,8 @@ pub fn compare_write_faults(
     Ok(())
 }
 
-/// The reader fails at each of its calls in turn: by itself; after a writer that fails at an earlier call; and before a writer
-/// that fails at the next one.
+/// The reader fails at each of its calls in turn: by itself; after a writer that fails at an
+/// earlier call; and before a writer that fails at the next one.
 pub fn compare_read_faults(alloc: Global, row: &CutRow, writes: &[Step]) -> Result<(), Fail> {
     let (encodings, input, cuts, _, _) = row;
     for nth in 1..=READS {

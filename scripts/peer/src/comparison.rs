@@ -8,18 +8,18 @@ use std::ops::Range;
 
 /// So many inputs that differ are looked into in each encoding; the others are counted.
 const EXPLAINED: u64 = 6;
-/// So many bytes are shown, where one that stands many times in a row counts once.
+/// The number of bytes shown. One that is repeated many times counts once.
 const BYTES_SHOWN: usize = 64;
-/// A byte is written once where it stands so many times in a row, or more often.
+/// A byte is written once if it is repeated this many times or more.
 const MANY: usize = 8;
 /// So many parts of each size, the last ones, are tried to be left out of an input that differs.
 const PARTS: usize = 128;
 
 /// The comparison of a pair of encodings, or of several one after another.
 pub struct Comparison {
-    /// What is decoded.
+    /// The encoding to decode.
     pub encoding: &'static Encoding,
-    /// What is written.
+    /// The encoding to write.
     pub to: &'static Encoding,
     pub recode: Recode,
     /// How many inputs were given to both, each a run of its own.
@@ -30,7 +30,7 @@ pub struct Comparison {
     pub bytes: u64,
     /// How many inputs differ.
     pub differ: u64,
-    /// What is said of the first of them.
+    /// The report on the first of them.
     pub report: String,
     /// The smallest inputs that were found so far.
     shown: Vec<Vec<u8>>,

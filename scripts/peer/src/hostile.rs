@@ -38,7 +38,7 @@ pub fn alone(comparison: &mut Comparison, sampled: usize, seed: u64) -> io::Resu
     Ok(())
 }
 
-/// Byte order marks, whole, broken off and damaged, with nothing, a token, text or random bytes behind them.
+/// Byte order marks, whole, broken off and damaged, and after them nothing, a token, text or random bytes.
 pub fn marks(comparison: &mut Comparison, sampled: usize, seed: u64) -> io::Result<()> {
     let encoding = comparison.encoding;
     let mut random = Random::new(seed, encoding.name());
@@ -116,7 +116,7 @@ pub fn boundaries(comparison: &mut Comparison, seed: u64) -> io::Result<()> {
     Ok(())
 }
 
-/// At the end of each buffer one of the tokens, so many bytes before it, and a random token behind it.
+/// One of the tokens across the end of each buffer, `before` bytes before it, and then a random token.
 fn across(filler: &[u8], tokens: &[&[u8]], before: usize, random: &mut Random) -> Vec<u8> {
     let mut input = Vec::new();
     for (number, token) in tokens.iter().enumerate() {
@@ -189,7 +189,7 @@ fn damaged(text: &[u8], random: &mut Random, encoding: &'static Encoding) -> Vec
     input
 }
 
-/// One damage before the rest, and what is left of it.
+/// One damage before the rest, and the rest after it.
 fn damage<'a>(rest: &'a [u8], input: &mut Vec<u8>, random: &mut Random, encoding: &'static Encoding) -> &'a [u8] {
     let some = rest.len().min(1 + random.below(5));
     match random.below(5) {

@@ -49,8 +49,8 @@ pub fn has_changed(encoding: &'static Encoding) -> bool {
 /// What recode has to make of an input: what the crate does, sniffing, and with references, with the characters since
 /// GB18030-2022.
 ///
-/// The characters before come from their own sequences alone (`strays` tells whether), and only where no byte order
-/// mark told another encoding, so none can stand for anything else.
+/// The characters before come from their own sequences alone (`strays` checks that), and only if no byte order
+/// mark set another encoding, so none can stand for anything else.
 pub fn wanted(encoding: &'static Encoding, to: &'static Encoding, input: &[u8]) -> Answer {
     let (text, used, replaced) = encoding.decode(input);
     let text = if has_changed(used) { text.chars().map(since).collect() } else { text.into_owned() };

@@ -20,7 +20,7 @@ const EDGES: &str = concat!(
 /// Those that are tried at each place before the end of a buffer.
 const AT_ENDS: [&str; 8] = ["💩", "\u{10FFFF}", "é", "あ", "¥", "あ\u{10FFFF}¥", "¥💩あ", "\u{80}\u{100}\u{E5E5}"];
 
-/// Every character, with a line feed behind it.
+/// Every character, with a line feed after it.
 pub fn every_character(comparison: &mut Comparison) -> io::Result<()> {
     let all: String = ('\0'..=char::MAX).flat_map(|character| [character, '\n']).collect();
     comparison.sequences += all.chars().count() as u64 / 2;
@@ -69,7 +69,7 @@ pub fn short(comparison: &mut Comparison, rounds: usize, seed: u64) -> io::Resul
     Ok(())
 }
 
-/// A text of about so many bytes, of characters at the edges, characters of the encoding, any characters, and lines.
+/// A text of about `length` bytes: characters at the edges, characters of the encoding, any characters, and lines.
 fn mixed(encoding: &'static Encoding, random: &mut Random, length: usize) -> String {
     let edges: Vec<char> = EDGES.chars().collect();
     let lines: Vec<&str> = TEXT.lines().collect();

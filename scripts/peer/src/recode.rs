@@ -19,7 +19,7 @@ pub enum Delivery {
     Pipe,
     /// A pipe, written in pieces of these sizes in turn.
     Pieces(&'static [usize]),
-    /// The same, with a pause behind each piece, so that the program mostly reads one at a time.
+    /// The same, with a pause after each piece, so that the program mostly reads one at a time.
     Slow(&'static [usize]),
 }
 
@@ -68,7 +68,7 @@ impl Recode {
     }
 }
 
-/// Writes the input and closes the pipe. A program that reads no further is told by its answer.
+/// Writes the input and closes the pipe. The answer of a program shows whether it has read no further.
 fn write_pieces(mut stdin: Option<ChildStdin>, input: &[u8], sizes: &[usize], pause: Duration) {
     let mut rest = input;
     for size in sizes.iter().cycle() {

@@ -7,11 +7,11 @@ use crate::tokens;
 use encoding_rs::{Encoding, ISO_2022_JP, UTF_16BE, UTF_16LE};
 use std::io;
 
-/// So many sequences are joined to one input.
+/// The number of sequences that are joined to one input.
 const JOINED: usize = 65536;
 
-/// Sequences joined to inputs: all of them to one, and those in which nothing is malformed to another, of which the
-/// status has to be 0.
+/// Sequences joined to inputs: all of them to one, and those in which nothing is malformed to another, whose status has
+/// to be 0.
 struct Joiner<'a> {
     comparison: &'a mut Comparison,
     all: Vec<u8>,
@@ -49,8 +49,8 @@ impl<'a> Joiner<'a> {
 }
 
 /// Appends a sequence, and what brings every decoder back to its first state. A line feed does: it is no part of a
-/// longer sequence. UTF-16 needs a whole unit of them, and one more behind a sequence of an odd length. ISO-2022-JP has
-/// to go back to ASCII, with a character behind the escape sequence, for two in a row are malformed.
+/// longer sequence. UTF-16 needs a whole unit of them, and one more after a sequence of an odd length. ISO-2022-JP has
+/// to go back to ASCII, with a character after the escape sequence, since two in a row are malformed.
 fn push_apart(joined: &mut Vec<u8>, encoding: &'static Encoding, sequence: &[u8]) {
     joined.extend_from_slice(sequence);
     if encoding == UTF_16BE || encoding == UTF_16LE {
@@ -62,7 +62,7 @@ fn push_apart(joined: &mut Vec<u8>, encoding: &'static Encoding, sequence: &[u8]
     }
 }
 
-/// Every sequence of so many bytes, 1 to 3, behind the bytes in front.
+/// Every sequence of `length` bytes, 1 to 3, after the bytes `front`.
 pub fn every(comparison: &mut Comparison, front: &[u8], length: usize) -> io::Result<()> {
     let mut joiner = Joiner::new(comparison);
     for number in 0..1_u32 << (8 * length) {
@@ -71,7 +71,7 @@ pub fn every(comparison: &mut Comparison, front: &[u8], length: usize) -> io::Re
     joiner.flush()
 }
 
-/// Random sequences of so many bytes.
+/// Random sequences of `length` bytes.
 pub fn sample(comparison: &mut Comparison, length: usize, count: usize, seed: u64) -> io::Result<()> {
     let mut random = Random::new(seed, comparison.encoding.name());
     let mut joiner = Joiner::new(comparison);
@@ -81,7 +81,7 @@ pub fn sample(comparison: &mut Comparison, length: usize, count: usize, seed: u6
     joiner.flush()
 }
 
-/// Every string of so many tokens of the encoding.
+/// Every string of `length` tokens of the encoding.
 pub fn every_of_tokens(comparison: &mut Comparison, length: u32) -> io::Result<()> {
     let tokens = tokens::tokens(comparison.encoding);
     let mut joiner = Joiner::new(comparison);
@@ -91,7 +91,7 @@ pub fn every_of_tokens(comparison: &mut Comparison, length: u32) -> io::Result<(
     joiner.flush()
 }
 
-/// The string of so many tokens with this number.
+/// The string of `length` tokens with this number.
 pub fn of_tokens(tokens: &[tokens::Token], number: usize, length: u32) -> Vec<u8> {
     let mut rest = number;
     let mut sequence = Vec::new();
@@ -102,7 +102,7 @@ pub fn of_tokens(tokens: &[tokens::Token], number: usize, length: u32) -> Vec<u8
     sequence
 }
 
-/// Random strings of up to so many tokens.
+/// Random strings of at most `most` tokens.
 pub fn sample_of_tokens(comparison: &mut Comparison, most: usize, count: usize, seed: u64) -> io::Result<()> {
     let tokens = tokens::tokens(comparison.encoding);
     let mut random = Random::new(seed, comparison.encoding.name());
@@ -140,8 +140,8 @@ pub fn every_pair_of_surrogates(comparison: &mut Comparison) -> io::Result<()> {
     joiner.flush()
 }
 
-/// Every scalar value in UTF-8, and four bytes of which the first is F0 to F5, the second any, and the others lie at
-/// the ends of ranges.
+/// Every scalar value in UTF-8, and four bytes: the first F0 to F5, the second any, and the others at the ends of
+/// ranges.
 pub fn every_four_of_utf_8(comparison: &mut Comparison) -> io::Result<()> {
     const EDGES: [u8; 12] = [0x00, 0x7F, 0x80, 0x8F, 0x90, 0x9F, 0xA0, 0xBF, 0xC0, 0xC2, 0xEF, 0xF0];
     let mut joiner = Joiner::new(comparison);

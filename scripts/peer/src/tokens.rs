@@ -85,7 +85,7 @@ pub fn tokens(encoding: &'static Encoding) -> &'static [Token] {
     }
 }
 
-/// The bytes behind which every two bytes are tried: where the state depends on more than three bytes.
+/// The bytes after which every two bytes are tried, if the state depends on more than three bytes.
 pub fn fronts(encoding: &'static Encoding) -> &'static [Token] {
     match encoding.name() {
         "UTF-16BE" | "UTF-16LE" => &[b"\xd8\0", b"\xdb\xff", b"\xdc\0", b"\xdf\xff", b"\0\xd8", b"\xff\xdb", b"\0\xdc"],
@@ -95,7 +95,7 @@ pub fn fronts(encoding: &'static Encoding) -> &'static [Token] {
     }
 }
 
-/// Byte order marks, broken off, whole, twice, one behind another, and damaged.
+/// Byte order marks, broken off, whole, twice, one after another, and damaged.
 pub const MARKS: &[Token] = &[
     b"\xef", b"\xef\xbb", b"\xef\xbb\xbf", b"\xfe", b"\xfe\xff", b"\xff", b"\xff\xfe", b"\xef\xbb\xbf\xef\xbb\xbf",
     b"\xef\xbb\xbf\xef\xbb", b"\xfe\xff\xfe\xff", b"\xff\xfe\xff\xfe", b"\xfe\xff\xff\xfe", b"\xff\xfe\xfe\xff",

@@ -3,8 +3,8 @@
 //! Written by scripts/make-indexes from data/indexes/index-euc-kr.txt:
 //! change that text and run the script, and not this file.
 //!
-//! Each run is its first pointer, its last pointer, and the code point of the first; the code points of the
-//! pointers behind it follow one by one.
+//! Each run is its first pointer, its last pointer, and the code point of the first. The code
+//! points of the pointers after it follow one by one.
 
 /// The runs of index EUC-KR.
 #[rattlefmt::skip]

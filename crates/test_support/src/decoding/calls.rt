@@ -8,8 +8,8 @@ use encoding_rs::{CoderResult, Decoder, DecoderResult, Encoding};
 use std::alloc::Global;
 use std::test::Fail;
 
-/// One call with replacement: its bytes, whether they are the last ones, and its room; and what has to come of it: result,
-/// bytes read, bytes written, whether something was replaced; and the text.
+/// One call with replacement: its bytes, whether they are the last ones, and its room; and what has
+/// to come of it: result, bytes read, bytes written, whether something was replaced; and the text.
 pub type Call<'a> = (
     &'a [u8],
     bool,
@@ -27,7 +27,7 @@ pub type ReportingCall<'a> = (
     &'a str,
 );
 
-/// A new decoder that looks for these byte order marks.
+/// Returns a new decoder that looks for these byte order marks.
 pub fn new_decoder(encoding: Encoding, handling: BomHandling) -> Decoder {
     match handling {
         BomHandling::Off => encoding.new_decoder_without_bom_handling(),
@@ -36,7 +36,8 @@ pub fn new_decoder(encoding: Encoding, handling: BomHandling) -> Decoder {
     }
 }
 
-/// Makes a call. Its answer and its text have to be these, and the decoder is finished exactly if the last bytes are all read.
+/// Makes a call. Its answer and its text have to be these, and the decoder is finished exactly if
+/// the last bytes are all read.
 pub fn make_call(
     alloc: Global,
     decoder: &mut Decoder,
@@ -118,7 +119,7 @@ pub fn decode_whole(alloc: Global, encoding: Encoding, src: &[u8], text: &str) -
     make_calls(alloc, encoding, &[(src, true, MOST_ROOM, want, text)])
 }
 
-/// Offers a chunk, which is all read, with replacement. Appends its text to `text`.
+/// Decodes a chunk, which is all read, with replacement. Appends its text to `text`.
 pub(crate) fn decode_chunk(
     alloc: Global,
     decoder: &mut Decoder,

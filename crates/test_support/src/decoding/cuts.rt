@@ -9,13 +9,14 @@ use crate::decoding::raw::compare_raw_cuts;
 use crate::decoding::rows::{Cut, Input, Row, input_of};
 use crate::decoding::runs::{Run, Use, run_cut};
 use crate::decoding::small_offers::compare_after_broken_marks;
-use enc_machine::RawDecoder;
+use enc_decoder::RawDecoder;
 use encoding_rs::Encoding;
 use encoding_rs::run::BomHandling;
 use std::alloc::Global;
 use std::test::Fail;
 
-/// The room, in code units of the output, in which an input reaches its end if it does in `room` bytes of UTF-8.
+/// The room, in code units of the output, in which an input reaches its end if it does in `room`
+/// bytes of UTF-8.
 fn room_enough(output: Output, room: usize) -> usize {
     if output != Output::Utf16 {
         return room;
@@ -33,7 +34,8 @@ fn compare_finished(run: &Run, input: &Input<'_>, case: &Case<'_>) -> Result<(),
     expect(run.had_errors == is_malformed, "errors or none", case)
 }
 
-/// The malformed sequences were reported in order, each at its offset, and all of them in a finished run.
+/// The malformed sequences were reported in order, each at its offset, and all of them in a
+/// finished run.
 fn compare_places(run: &Run, input: &Input<'_>, case: &Case<'_>) -> Result<(), Fail> {
     let reported = run.malformed.as_slice();
     let is_prefix = input.malformed.starts_with(reported);
@@ -82,7 +84,8 @@ fn compare_cut(
     compare(&run, way, input, room)
 }
 
-/// One offer of the whole input, with this room for each call, comes to what offers of single bytes come to.
+/// Compares one call with the whole input, with this room for each call, with calls of single
+/// bytes.
 pub fn compare_offers(alloc: Global, way: Use, input: &Input<'_>, room: usize) -> Result<(), Fail> {
     let whole = run_cut(alloc, way, input.bytes, Cut::At(0), room)?;
     let single = run_cut(alloc, way, input.bytes, Cut::Everywhere, room)?;
@@ -96,7 +99,8 @@ pub fn compare_offers(alloc: Global, way: Use, input: &Input<'_>, room: usize) -
     expect_bytes(&whole.text, &single.text, "single bytes differ", &case)
 }
 
-/// Runs an input through every cut, or, if not `wide`, uncut, in single bytes, and cut in the middle.
+/// Runs an input through every cut, or, if not `wide`, uncut, in single bytes, and cut in the
+/// middle.
 fn compare_each_cut(
     alloc: Global,
     (way, wide): (Use, bool),
@@ -114,12 +118,12 @@ fn compare_each_cut(
     Ok(())
 }
 
-/// How an input is run into other outputs than UTF-8.
+/// The runs of an input into other outputs than UTF-8.
 #[derive(Clone, Copy, PartialEq, Eq)]
 pub enum Others {
     /// Not at all.
     No,
-    /// Through few cuts, with rooms of less than four units.
+    /// Through few cuts, with less than four code units of room.
     Few,
     /// As into UTF-8.
     All,
@@ -141,8 +145,9 @@ fn compare_output(
     Ok(())
 }
 
-/// Runs an input with each room below `rooms`, with and without replacement: into UTF-8 through every cut, and into the other
-/// outputs as `others` says; through one-shot calls; and in the rooms that length queries return.
+/// Runs an input with each room below `rooms`, with and without replacement: into UTF-8 through
+/// every cut, and into the other outputs by `others`; through one-shot calls; and in the rooms of
+/// length queries.
 pub fn compare_uses(
     alloc: Global,
     (way, others): (Use, Others),
@@ -162,8 +167,8 @@ pub fn compare_uses(
     Ok(())
 }
 
-/// Runs an input through cuts, with rooms 0 to 9, with and without replacement, into all outputs, and through runs of mixed
-/// calls.
+/// Runs an input through cuts, with rooms 0 to 9, with and without replacement, into all outputs,
+/// and through runs of mixed calls.
 pub fn compare_cuts_of(
     alloc: Global,
     (way, others): (Use, Others),
@@ -173,8 +178,9 @@ pub fn compare_cuts_of(
     compare_mixed(alloc, way, input)
 }
 
-/// Runs the input of each row through every cut and room, by the encoding and by a new decoder of it by itself, and in single bytes
-/// after byte order marks that break off. The first row goes into all outputs so.
+/// Runs the input of each row through every cut and room, by the encoding and by a new decoder of
+/// it by itself, and in single bytes after byte order marks that break off. The first row goes into
+/// all outputs so.
 pub fn compare_all(
     alloc: Global,
     (encoding, decoder): (Encoding, impl RawDecoder),

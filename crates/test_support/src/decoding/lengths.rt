@@ -34,7 +34,8 @@ pub(crate) fn queried_room(decoder: &Decoder, way: Use, bytes: usize) -> Result<
     }
 }
 
-/// The room that is returned for the rest of an input is enough for it with replacement, and up to a malformed sequence without.
+/// The room that is returned for the rest of an input is enough for it with replacement, and up to
+/// a malformed sequence without.
 fn compare_rest(alloc: Global, way: Use, (front, rest): (&[u8], &[u8])) -> Result<(), Fail> {
     let mut decoder = new_decoder(way.encoding, way.handling);
     let mut text = Vec::new(alloc);

@@ -1,4 +1,4 @@
-//! Runs of calls that change units, error mode, offer and room from one to the next.
+//! Runs of calls that change code units, error mode, chunk and room from one to the next.
 
 use crate::cases::{Case, expect, expect_bytes};
 use crate::decoding::rows::{Input, split};
@@ -8,8 +8,8 @@ use encoding_rs::run::{DecodeCall, DecodeReport, decode_run};
 use std::alloc::{AllocError, Global};
 use std::test::Fail;
 
-/// `count` calls: units take turns by two, error modes by three, offers by five and rooms by seven, so that each meets each.
-/// Without `replaces` all report malformed sequences.
+/// Returns `count` calls. Code units take turns by two, error modes by three, chunks by five and
+/// rooms by seven, so that each meets each. Without `replaces` all report malformed sequences.
 fn mixed_calls(alloc: Global, count: usize, replaces: bool) -> Result<Vec<DecodeCall>, AllocError> {
     let mut calls = Vec::new(alloc);
     for number in 0..count {
@@ -63,8 +63,8 @@ fn compare_report(
     expect(has_each || !has_all, "malformed sequences missing", case)
 }
 
-/// These calls come to what the whole input comes to, with all of its malformed sequences if they are to have all, and the
-/// first seven of them to a prefix of it.
+/// Compares the calls with the whole input, with all of its malformed sequences if they are to have
+/// all. The first seven calls come to a prefix of it.
 fn compare_calls(
     alloc: Global,
     (way, by): (Use, Encoding),
@@ -86,7 +86,8 @@ fn compare_calls(
     compare_faults(&begun.faults, input, &case)
 }
 
-/// Runs of mixed calls, which begin at several places of the pattern, come to what the whole input comes to.
+/// Compares runs of mixed calls, which begin at several offsets of the pattern, with the whole
+/// input.
 pub fn compare_mixed(alloc: Global, way: Use, input: &Input<'_>) -> Result<(), Fail> {
     let by = run_whole(alloc, way, input.bytes)?.encoding;
     let count = input.bytes.len().saturating_mul(6).saturating_add(64);

@@ -1,4 +1,4 @@
-//! One-shot calls, beside runs of their mode.
+//! One-shot calls, compared with runs of their mode.
 
 use crate::cases::{Case, expect, expect_bytes};
 use crate::decoding::calls::new_decoder;
@@ -10,11 +10,11 @@ use encoding_rs::{CoderResult, Decoder, Encoding, OneShotError};
 use std::alloc::Global;
 use std::test::Fail;
 
-/// An encoding, and the byte order marks that are looked for.
+/// An encoding, and the byte order marks looked for.
 pub type Mode = (Encoding, BomHandling);
 
-/// The answer of the one-shot call with replacement that looks for these marks: the text, the encoding that was used, and whether
-/// something was malformed.
+/// Returns the answer of the one-shot call with replacement that looks for these byte order marks:
+/// the text, the encoding that was used, and whether a sequence was malformed.
 pub fn decode_at_once(
     alloc: Global,
     (encoding, handling): Mode,
@@ -28,7 +28,8 @@ pub fn decode_at_once(
     Ok((text, encoding, had_errors))
 }
 
-/// The call without replacement returns the text, or nothing if something is malformed.
+/// Compares the call without replacement: it returns the text, or nothing if a sequence is
+/// malformed.
 pub fn compare_strict(
     alloc: Global,
     (encoding, bytes): (Encoding, &[u8]),
@@ -47,7 +48,8 @@ pub fn compare_strict(
     }
 }
 
-/// One-shot calls come to what a run of one call with room enough comes to. Returns its text, and whether something was malformed.
+/// Compares one-shot calls with a run of one call that has room enough. Returns its text, and
+/// whether a sequence was malformed.
 pub fn compare_with_run(
     alloc: Global,
     (encoding, handling): Mode,
@@ -79,7 +81,8 @@ pub fn compare_with_run(
     Ok((text, had_errors))
 }
 
-/// One-shot calls of the mode of a use come to the text of the input, and a reader to that of the call that looks for all marks.
+/// Compares one-shot calls of the mode of a use with the text of the input, and a reader with the
+/// call that looks for all byte order marks.
 pub(crate) fn compare_at_once(alloc: Global, way: Use, input: &Input<'_>) -> Result<(), Fail> {
     let case = Case {
         name: way.encoding.name(),
@@ -97,7 +100,8 @@ pub(crate) fn compare_at_once(alloc: Global, way: Use, input: &Input<'_>) -> Res
 /// No call of a single byte writes more.
 const ROOM: usize = 32;
 
-/// A call reads all of a chunk, and writes what comes next. Returns the text that is still to come.
+/// Makes a call, which reads all of a chunk and writes the next text. Returns the text still to
+/// come.
 fn decode_next<'a>(
     decoder: &mut Decoder,
     (chunk, last): (&[u8], bool),
@@ -117,7 +121,7 @@ fn decode_next<'a>(
     Ok(rest)
 }
 
-/// A decoder that is offered the bytes one by one writes this text.
+/// Compares the text of a decoder that gets the bytes one by one with this text.
 pub fn compare_single_bytes(
     (encoding, handling): Mode,
     bytes: &[u8],

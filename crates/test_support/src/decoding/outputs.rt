@@ -38,7 +38,8 @@ pub struct Given<'a> {
     pub reporting: bool,
 }
 
-/// The answer of a call: why it stopped, bytes read, code units written, and whether something was replaced.
+/// The answer of a call: why it stopped, bytes read, code units written, and whether a malformed
+/// sequence was replaced.
 pub type Answer = (DecoderResult, usize, usize, bool);
 
 /// The result of a call with replacement, as one without replacement has it.
@@ -107,7 +108,7 @@ fn to_string(decoder: &mut Decoder, given: Given<'_>, dst: &mut String) -> Answe
     (result_of(stop), read, 0, replaced)
 }
 
-/// Fails unless each unit is this one.
+/// Fails unless each code unit is this one.
 fn expect_each<T: PartialEq>(units: &[T], want: &T, case: &Case<'_>) -> Result<(), Fail> {
     for unit in units {
         if unit != want {
@@ -117,7 +118,7 @@ fn expect_each<T: PartialEq>(units: &[T], want: &T, case: &Case<'_>) -> Result<(
     Ok(())
 }
 
-/// The units that a call has written. All others have to be `old`.
+/// Returns the code units that a call has written. All others have to be `old`.
 pub(crate) fn written_part<'a, T: PartialEq>(
     units: &'a [T],
     old: &T,
@@ -177,7 +178,8 @@ fn call_into_utf16(
     Ok(answer)
 }
 
-/// Characters of four bytes, after one of the bytes by which a room is more than a multiple of four.
+/// Characters of four bytes, after one of the bytes by which a room is more than a multiple of
+/// four.
 const OLD: [&str; 4] = [
     "💩💩💩💩💩💩💩💩💩💩💩💩💩💩💩💩",
     "a💩💩💩💩💩💩💩💩💩💩💩💩💩💩💩",
@@ -185,7 +187,7 @@ const OLD: [&str; 4] = [
     "€💩💩💩💩💩💩💩💩💩💩💩💩💩💩💩",
 ];
 
-/// After the text, the rest of a character that was written over is 00, and all else stays.
+/// After the text, the rest of an overwritten character is 00, and all other bytes are unchanged.
 fn compare_rest(old: &[u8], new: &[u8], case: &Case<'_>) -> Result<(), Fail> {
     let mut is_rest = true;
     for (was, is) in old.iter().zip(new) {
@@ -251,8 +253,8 @@ fn call_into_string(
     Ok((result, read, appended.len(), replaced))
 }
 
-/// Makes a call, appends its text to `text`, and returns its answer. Fails if the decoder is finished, and if what follows the
-/// text in the output is not as it has to be.
+/// Makes a call, appends its text to `text`, and returns its answer. Fails if the decoder is
+/// finished, or if the output after the text is wrong.
 pub fn call_into(
     alloc: Global,
     decoder: &mut Decoder,

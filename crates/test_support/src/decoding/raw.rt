@@ -1,10 +1,12 @@
-//! What runs the rows over a codec's decoder by itself: over any `RawDecoder`, without its `Encoding`.
+//! Runs of the rows over a codec's decoder by itself: over any `RawDecoder`, without its
+//! `Encoding`.
 
 use crate::cases::{Case, expect};
 use crate::decoding::outputs::written_part;
 use crate::decoding::raw_calls::call;
 use crate::decoding::rows::{Cut, Input, MOST_ROOM, REPLACEMENT_CHARACTER, chunks_of, split};
-use enc_machine::{DecoderResult, RawDecoder};
+use enc_decoder::RawDecoder;
+use enc_units::DecoderResult;
 use std::alloc::Global;
 use std::test::Fail;
 
@@ -17,7 +19,7 @@ const MOST_HELD: usize = 5;
 /// No input of a row takes more calls for a chunk.
 const MOST_CALLS: usize = 128;
 
-/// What a call has come to.
+/// The result of a call.
 #[derive(Clone, Copy)]
 struct Outcome {
     result: DecoderResult,
@@ -25,11 +27,12 @@ struct Outcome {
     written: usize,
     /// The room that it left.
     left: usize,
-    /// How many bytes are held after it.
+    /// The number of pending bytes after it.
     held: usize,
 }
 
-/// How far the calls of one decoder have come in an example. The caller puts U+FFFD where a malformed sequence is reported.
+/// The state of one decoder's calls in an example. The caller puts U+FFFD where a malformed
+/// sequence is reported.
 #[derive(Clone, Copy)]
 struct Progress<'a> {
     case: Case<'a>,
@@ -38,7 +41,7 @@ struct Progress<'a> {
     /// A malformed sequence is reported only if U+FFFD fits.
     fault_room: bool,
     read: usize,
-    /// How many of the bytes read are of sequences that were put out or reported. The others are held.
+    /// The number of bytes read whose sequences were put out or reported. The others are pending.
     done: usize,
     /// The text that is still to come.
     text: &'a [u8],
@@ -72,8 +75,8 @@ fn take_bytes(progress: &mut Progress<'_>, outcome: Outcome) -> Result<(), Fail>
     Ok(())
 }
 
-/// A malformed sequence of `len` bytes is reported: it is the next one, and ends where the held bytes begin, `after` bytes
-/// before the end of those read.
+/// A malformed sequence of `len` bytes is reported: it is the next one, and ends where the held
+/// bytes begin, `after` bytes before the end of those read.
 fn take_report(progress: &mut Progress<'_>, len: usize, after: usize) -> Result<(), Fail> {
     let case = progress.case;
     let end = progress.done.saturating_add(after);
@@ -87,7 +90,8 @@ fn take_report(progress: &mut Progress<'_>, len: usize, after: usize) -> Result<
     take_text(progress, REPLACEMENT_CHARACTER.as_bytes())
 }
 
-/// The output is full: what comes next doesn't fit. That is a malformed sequence only if room is kept for U+FFFD.
+/// The output is full: the next output does not fit. That is a malformed sequence only if room is
+/// kept for U+FFFD.
 fn compare_full(progress: &Progress<'_>, left: usize) -> Result<(), Fail> {
     let to_come = progress.text;
     let is_malformed = !progress.malformed.is_empty()
@@ -140,7 +144,7 @@ fn compare_next(progress: &Progress<'_>) -> Result<(), Fail> {
     }
 }
 
-/// Makes a call, which writes what comes next and leaves what follows it.
+/// Makes a call, which writes the next output and leaves the rest.
 fn make_call(
     decoder: &mut impl RawDecoder,
     progress: &mut Progress<'_>,
@@ -169,7 +173,7 @@ fn make_call(
     })
 }
 
-/// Makes a call, and compares what it has come to.
+/// Makes a call, and compares its result.
 fn step(
     decoder: &mut impl RawDecoder,
     progress: &mut Progress<'_>,
@@ -194,8 +198,8 @@ fn is_idle(outcome: Outcome) -> bool {
     outcome.result == DecoderResult::OutputFull && outcome.read == 0 && outcome.written == 0
 }
 
-/// Offers a chunk, and again its unread rest, until all is read. After a call that neither reads nor writes, the next one
-/// has room enough.
+/// Passes a chunk, and again its unread rest, until all is read. After a call that neither reads
+/// nor writes, the next one has room enough.
 fn offer(
     decoder: &mut impl RawDecoder,
     progress: &mut Progress<'_>,
@@ -216,7 +220,7 @@ fn offer(
     expect(false, "no end", &progress.case)
 }
 
-/// Offers an input in chunks. All of its text has to come of it, and each malformed sequence.
+/// Passes an input in chunks. All of its text has to come out, and each malformed sequence.
 fn run(
     alloc: Global,
     mut decoder: impl RawDecoder,
@@ -248,8 +252,8 @@ fn compare_each_cut(
     run(alloc, decoder, progress, Cut::Everywhere)
 }
 
-/// Runs an input through every cut, by copies of a new decoder: with rooms 0 to 9 and room enough, and with room kept
-/// for U+FFFD and without. The name is that of the encoding.
+/// Runs an input through every cut, by copies of a new decoder: with rooms 0 to 9 and room enough,
+/// and with room kept for U+FFFD and without. The name is that of the encoding.
 pub(crate) fn compare_raw_cuts(
     alloc: Global,
     (name, decoder): (&'static str, impl RawDecoder),

@@ -1,9 +1,10 @@
-//! Calls of a codec's decoder by itself, which report malformed sequences, and the bytes that it holds after each.
+//! Calls of a codec's decoder by itself, which report malformed sequences, and the bytes that it
+//! holds after each.
 
 use crate::cases::{Case, expect, expect_bytes};
 use crate::decoding::outputs::written_part;
-use enc_machine::{DecoderResult, RawDecoder};
-use enc_units::{Units, Utf8Slice};
+use enc_decoder::RawDecoder;
+use enc_units::{DecoderResult, Units, Utf8Slice};
 use std::test::Fail;
 
 /// The answer of a call: why it stopped, bytes read, bytes written, and the room that it left.
@@ -24,8 +25,8 @@ pub(crate) fn call(
 /// The room of each call here.
 const ROOM: usize = 8;
 
-/// A call with room for eight bytes: its result with how many bytes it reads and how many are held then, and its text.
-/// The bytes that follow the text stay.
+/// A call with room for eight bytes: its result with how many bytes it reads and how many are held
+/// then, and its text. The bytes that follow the text stay.
 pub fn make_call(
     decoder: &mut impl RawDecoder,
     (src, last): (&[u8], bool),
@@ -54,13 +55,15 @@ pub fn end(decoder: &mut impl RawDecoder, src: &[u8], text: &str) -> Result<(), 
     make_call(decoder, (src, true), want, text)
 }
 
-/// A call that is not the last one reads all of its bytes, writes nothing, and leaves `held` bytes held.
+/// A call that is not the last one reads all of its bytes, writes nothing, and leaves `held` bytes
+/// held.
 pub fn hold(decoder: &mut impl RawDecoder, src: &[u8], held: usize) -> Result<(), Fail> {
     let want = (DecoderResult::InputEmpty, src.len(), held);
     make_call(decoder, (src, false), want, "")
 }
 
-/// The last call stops at a malformed sequence: its numbers, how many bytes are read, and the text before it.
+/// The last call stops at a malformed sequence: its numbers, how many bytes are read, and the text
+/// before it.
 pub fn stop(
     decoder: &mut impl RawDecoder,
     src: &[u8],

@@ -1,4 +1,4 @@
-//! Inputs that are read as text through a `DecodeReader`, from a source that gives a byte at a time.
+//! Inputs read as text through a `DecodeReader`, from a source that gives a byte at a time.
 
 use crate::cases::{Case, expect, expect_bytes};
 use crate::decoding::rows::split;
@@ -27,7 +27,7 @@ fn read_text<R: Source>(
     Err(Fail::new("a reader comes to no end"))
 }
 
-/// Bytes that are read one by one come to the text, the encoding and the flag that `decode` returns for the whole of them.
+/// Compares bytes that are read one by one with the text, the encoding and the flag of `decode`.
 pub fn compare_read(alloc: Global, encoding: Encoding, bytes: &[u8]) -> Result<(), Fail> {
     let (text, by, had_errors) = encoding.decode(alloc, bytes)?;
     let mut source = FromRead::new(StepReader::new(bytes, &[BYTE]));

@@ -1,4 +1,5 @@
-//! The form of an example: an input, its text, and the offsets of its malformed sequences. All decoders run the same.
+//! The form of an example: an input, its text, and the offsets of its malformed sequences. All
+//! decoders run the same.
 
 use std::alloc::{AllocError, Global};
 
@@ -8,7 +9,7 @@ pub const MOST_ROOM: usize = 64;
 /// U+FFFD, which stands for a malformed sequence.
 pub(crate) const REPLACEMENT_CHARACTER: &str = "\u{FFFD}";
 
-/// An input, and what has to come of it.
+/// An input, and its expected text.
 #[derive(Clone, Copy)]
 pub struct Input<'a> {
     /// The bytes.
@@ -21,8 +22,8 @@ pub struct Input<'a> {
     pub room: usize,
 }
 
-/// A row of a table: the bytes, the text, the malformed sequences and the room of an input. Tables are constants of such rows,
-/// since the prover looks at each row that a function makes.
+/// A row of a table: the bytes, the text, the malformed sequences and the room of an input. Tables
+/// are constants of such rows, since the prover looks at each row that a function makes.
 pub type Row = (
     &'static [u8],
     &'static str,
@@ -40,7 +41,7 @@ pub fn input_of(row: &Row) -> Input<'static> {
     }
 }
 
-/// How an input is cut into chunks.
+/// The way in which an input is split into chunks.
 #[derive(Clone, Copy)]
 pub enum Cut {
     /// Not at all.

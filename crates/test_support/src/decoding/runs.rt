@@ -13,7 +13,7 @@ use std::test::Fail;
 /// No input of a row takes more calls for a chunk.
 const MOST_CALLS: usize = 64;
 
-/// How a decoder is used.
+/// The way in which a decoder is used.
 #[derive(Clone, Copy)]
 pub struct Use {
     /// The encoding.
@@ -22,11 +22,12 @@ pub struct Use {
     pub handling: BomHandling,
     /// The output.
     pub output: Output,
-    /// The calls are without replacement, and the caller puts U+FFFD where a malformed sequence is reported.
+    /// The calls are without replacement, and the caller puts U+FFFD where a malformed sequence is
+    /// reported.
     pub reporting: bool,
     /// A call that neither reads nor writes is made again, and then once more with room enough.
     pub widens: bool,
-    /// Each call has the room that a length query returns for the bytes offered, and is never full.
+    /// Each call has the room of the length query for its bytes, and is never full.
     pub queries: bool,
 }
 
@@ -44,22 +45,22 @@ impl Use {
     }
 }
 
-/// What the calls of one decoder have come to.
+/// The result of one decoder's calls.
 #[derive(Drop)]
 pub struct Run {
     way: Use,
     room: usize,
     /// The text.
     pub text: Vec<u8>,
-    /// How many bytes were read in all.
+    /// The number of bytes read in all.
     read: usize,
     /// Whether a malformed sequence was replaced or reported.
     pub had_errors: bool,
     /// The offset and the length of each malformed sequence that was reported.
     pub malformed: Vec<(usize, usize)>,
-    /// How many calls in a row have neither read nor written.
+    /// The number of calls in a row that have neither read nor written.
     idle: usize,
-    /// It can't go on, or a call that was made again did something else.
+    /// It cannot go on, or a repeated call did something else.
     pub is_stuck: bool,
     /// Whether the decoder is finished.
     pub is_finished: bool,
@@ -83,7 +84,7 @@ fn start(alloc: Global, way: Use, room: usize) -> Run {
     }
 }
 
-/// The room of the next call, which is offered `bytes` bytes.
+/// Returns the room of the next call, which gets `bytes` bytes.
 fn next_room(decoder: &Decoder, run: &Run, bytes: usize) -> Result<usize, Fail> {
     if run.way.queries {
         return queried_room(decoder, run.way, bytes);
@@ -106,7 +107,8 @@ fn note_idle(run: &mut Run, is_idle: bool) {
     };
 }
 
-/// Takes note of a malformed sequence that was reported: its length, and how many bytes were read after it.
+/// Records a malformed sequence that was reported: its length, and the number of bytes read after
+/// it.
 fn note_report(run: &mut Run, len: usize, after: usize, case: &Case<'_>) -> Result<(), Fail> {
     let start = run.read.saturating_sub(after).saturating_sub(len);
     let is_within = len.saturating_add(after) <= run.read;
@@ -134,7 +136,7 @@ fn note_answer(run: &mut Run, answer: Answer, case: &Case<'_>) -> Result<(), Fai
     }
 }
 
-/// Makes a call. Returns how many bytes it has read, or `None` if all is read.
+/// Makes a call. Returns the number of bytes that it has read, or `None` if all is read.
 fn step(
     alloc: Global,
     decoder: &mut Decoder,
@@ -163,7 +165,7 @@ fn step(
     Ok(Some(answer.1))
 }
 
-/// Offers a chunk, and again its unread rest, until all is read or a call neither reads nor writes.
+/// Passes a chunk, and again its unread rest, until all is read or a call neither reads nor writes.
 fn offer(
     alloc: Global,
     decoder: &mut Decoder,
@@ -186,7 +188,7 @@ fn offer(
     Ok(())
 }
 
-/// Offers the chunks, with this room for each call. The last chunk is offered as the last.
+/// Passes the chunks, with this room for each call. The last chunk is passed as the last.
 pub fn run_chunks(alloc: Global, way: Use, chunks: &[&[u8]], room: usize) -> Result<Run, Fail> {
     let mut decoder = new_decoder(way.encoding, way.handling);
     let mut run = start(alloc, way, room);
@@ -200,13 +202,13 @@ pub fn run_chunks(alloc: Global, way: Use, chunks: &[&[u8]], room: usize) -> Res
     Ok(run)
 }
 
-/// Offers an input cut in this way.
+/// Passes an input split in this way.
 pub fn run_cut(alloc: Global, way: Use, bytes: &[u8], cut: Cut, room: usize) -> Result<Run, Fail> {
     let chunks = chunks_of(alloc, bytes, cut)?;
     run_chunks(alloc, way, &chunks, room)
 }
 
-/// Offers the whole input at once, with room enough.
+/// Passes the whole input at once, with room enough.
 pub fn run_whole(alloc: Global, way: Use, bytes: &[u8]) -> Result<Run, Fail> {
     run_chunks(alloc, way, &[bytes], MOST_ROOM)
 }

@@ -1,5 +1,5 @@
-//! Decoders that are offered a byte at a time. In the rooms that length queries return they are never full, and with room for any
-//! character their runs end within two calls for each byte and one more.
+//! Decoders that get a byte at a time. In the rooms of length queries they are never full. With
+//! room for any character, n bytes take at most 2n + 1 calls.
 
 use crate::cases::{Case, expect, expect_bytes};
 use crate::decoding::outputs::Output;
@@ -16,7 +16,7 @@ const FRONTS: [&[u8]; 5] = [b"", b"\xEF", b"\xEF\xBB", b"\xFE", b"\xFF"];
 /// No room here is greater.
 const GREATEST_ROOM: usize = 7;
 
-/// `count` calls of the kind of a use. Each is offered a byte.
+/// Returns `count` calls of the kind of a use, with a byte each.
 fn single_byte_calls(
     alloc: Global,
     way: Use,
@@ -40,8 +40,8 @@ fn has_room_for_any(way: Use, room: usize) -> bool {
     room >= 4
 }
 
-/// A run of two calls for each byte and one more has written a prefix of this text; all of it, if each call has room for any
-/// character.
+/// Compares the end of a run of 2n + 1 calls for n bytes: it has written a prefix of this text, and
+/// all of it if each call has room for any character.
 fn compare_end(
     alloc: Global,
     (way, room): (Use, usize),
@@ -64,8 +64,8 @@ fn compare_end(
     expect(!has_room_for_any(way, room), "not finished", &case)
 }
 
-/// The text of an input at once is also that of its single bytes, in the rooms that length queries return, in which the decoder
-/// is never full. A run in each room from 0 to 7 writes a prefix of it.
+/// Compares single bytes with the input at once, in the rooms of length queries, in which the
+/// decoder is never full. A run in each room from 0 to 7 writes a prefix of the text.
 fn compare_single_offers(alloc: Global, way: Use, bytes: &[u8]) -> Result<(), Fail> {
     let case = Case {
         name: way.encoding.name(),
@@ -87,7 +87,7 @@ fn compare_single_offers(alloc: Global, way: Use, bytes: &[u8]) -> Result<(), Fa
     Ok(())
 }
 
-/// Offers single bytes into code units of UTF-8 and of UTF-16, with replacement and without.
+/// Decodes single bytes into UTF-8 and UTF-16, with replacement and without.
 pub fn compare_small_offers(
     alloc: Global,
     (encoding, handling): (Encoding, BomHandling),
@@ -106,7 +106,8 @@ pub fn compare_small_offers(
     Ok(())
 }
 
-/// The same after marks that break off, by decoders that look for all marks, for that of their encoding, and for none.
+/// The same after byte order marks that break off, by decoders that look for all, for that of their
+/// encoding, and for none.
 pub(crate) fn compare_after_broken_marks(
     alloc: Global,
     encoding: Encoding,

@@ -9,8 +9,8 @@ use encoding_rs::{CoderResult, Encoder, EncoderResult};
 use std::alloc::Global;
 use std::test::Fail;
 
-/// A call without replacement: text, whether it ends there, and room; then the result, the code units
-/// read and the bytes written; and these bytes.
+/// A call without replacement: text, whether it ends there, and room; then the result, the code
+/// units read and the bytes written; and these bytes.
 pub type EncoderCall<'a> = (
     &'a str,
     bool,

@@ -15,7 +15,7 @@ const UNTOUCHED: u8 = 0xA5;
 /// The contents of a `Vec` before a call.
 const FRONT: &[u8] = b"ab";
 
-/// The arguments of a call, beside its output.
+/// The arguments of a call, without its output.
 #[derive(Clone, Copy)]
 pub struct Offer<'a> {
     /// The text.
@@ -147,7 +147,8 @@ pub fn call_to_slice(
     Ok(answer)
 }
 
-/// Makes a call into a `Vec`, and appends the bytes that it writes. Contents and capacity of the `Vec` stay.
+/// Makes a call into a `Vec`, and appends the bytes that it writes. Contents and capacity of the
+/// `Vec` stay.
 fn call_to_vec(
     alloc: Global,
     encoder: &mut Encoder,
@@ -175,7 +176,8 @@ fn call_to_vec(
     Ok(answer)
 }
 
-/// Makes a call, and appends the bytes that it writes. `read` is in bytes of UTF-8 whatever it reads.
+/// Makes a call, and appends the bytes that it writes. `read` is in bytes of UTF-8 whatever it
+/// reads.
 pub fn make_call(
     alloc: Global,
     encoder: &mut Encoder,

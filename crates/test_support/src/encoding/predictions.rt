@@ -31,7 +31,8 @@ fn stop_after(encoder: &Encoder, offer: &Offer<'_>, read: usize) -> EncoderResul
     }
 }
 
-/// Makes a call without replacement, as far as `bytes` has fewer than `limit` bytes, and appends its bytes.
+/// Makes a call without replacement, as far as `bytes` has fewer than `limit` bytes, and appends
+/// its bytes.
 fn report_to(
     alloc: Global,
     encoder: &mut Encoder,
@@ -50,7 +51,8 @@ fn report_to(
     Ok(answer.stop)
 }
 
-/// Predicts the answer of a call with replacement that keeps `kept` bytes back, and appends its bytes.
+/// Predicts the answer of a call with replacement that keeps `kept` bytes back, and appends its
+/// bytes.
 pub fn predict(
     alloc: Global,
     (encoder, kept): (&mut Encoder, usize),

@@ -10,7 +10,8 @@ use encoding_rs::{Encoder, EncoderResult, Encoding};
 use std::alloc::Global;
 use std::test::Fail;
 
-/// A row of a table: a text, and its bytes, with a decimal reference in place of each unmappable character.
+/// A row of a table: a text, and its bytes, with a decimal reference in place of each unmappable
+/// character.
 pub type EncoderRow = (&'static str, &'static [u8]);
 
 /// A text and its bytes.
@@ -22,13 +23,14 @@ const MOST_CALLS: usize = 256;
 /// The rooms of runs are less than this. In small rooms a run may be stuck.
 const ROOMS: usize = 25;
 
-/// The rooms of long texts are less than this. Calls with 32 bytes of room and more write many characters at once.
+/// The rooms of long texts are less than this. Calls with 32 bytes of room and more write many
+/// characters at once.
 const LONG_ROOMS: usize = 41;
 
 /// Room for any character and its reference, and for no more than one character at a time.
 const STEP_ROOM: usize = 16;
 
-/// What the calls of one encoder have come to.
+/// The result of one encoder's calls.
 #[derive(Drop)]
 struct Run {
     encoder: Encoder,
@@ -38,7 +40,7 @@ struct Run {
     way: Way,
     room: usize,
     bytes: Vec<u8>,
-    /// Whether a reference stands among the bytes.
+    /// Whether the bytes have a reference.
     replaced: bool,
     /// Whether the last call could neither read nor write.
     is_stuck: bool,
@@ -101,7 +103,7 @@ fn call(alloc: Global, run: &mut Run, offer: &Offer<'_>) -> Result<Answer, Fail>
     Ok(answer)
 }
 
-/// Offers a text, and again the unread rest, until all is read, or a call neither reads nor writes.
+/// Passes a text, and again the unread rest, until all is read, or a call neither reads nor writes.
 /// Appends a reference to each character that is reported.
 fn offer(alloc: Global, run: &mut Run, text: &str, last: bool) -> Result<(), Fail> {
     let (mut unread, room) = (text, run.room);
@@ -135,8 +137,8 @@ fn offer(alloc: Global, run: &mut Run, text: &str, last: bool) -> Result<(), Fai
     Err(Fail::new(format_args!("{text} takes more than {MOST_CALLS} calls")))
 }
 
-/// Compares the output with the row. It is a prefix of the row's bytes if the run is stuck in a small room,
-/// and else all of them.
+/// Compares the output with the row. It is a prefix of the row's bytes if the run is stuck in a
+/// small room, and otherwise all of them.
 fn compare(run: &Run, row: Encoded<'_>) -> Result<(), Fail> {
     let case = case_of(run.asked, row.0, run.room);
     let (bytes, way) = (run.bytes.as_slice(), run.way);
@@ -188,8 +190,8 @@ fn run_characters(
     Ok(run)
 }
 
-/// Runs a row in two parts and a character at a time, in each room and way; and by single characters in the
-/// rooms that length queries return.
+/// Runs a row in two parts and a character at a time, in each room and way; and by single
+/// characters in the rooms that length queries return.
 pub fn compare_cuts(alloc: Global, asked: Asked, row: &EncoderRow) -> Result<(), Fail> {
     compare_single_characters(alloc, asked, row)?;
     for way in ALL_WAYS {
@@ -204,8 +206,9 @@ pub fn compare_cuts(alloc: Global, asked: Asked, row: &EncoderRow) -> Result<(),
     Ok(())
 }
 
-/// Runs a long text in two parts, cut between any two characters, in each room from 0 to 40 and each way into a
-/// slice. The bytes have to be those of single characters, each in a call of its own.
+/// Runs a long text in two parts, cut between any two characters, in each room from 0 to 40 and
+/// each way into a slice. The bytes have to be those of single characters, each in a call of its
+/// own.
 pub fn compare_long(alloc: Global, encoding: Encoding, text: &str) -> Result<(), Fail> {
     let asked = (encoding, &[] as &'static [char]);
     for way in SLICE_WAYS {
@@ -230,15 +233,15 @@ pub fn compare_encoded(alloc: Global, encoding: Encoding, rows: &[EncoderRow]) -
     Ok(())
 }
 
-/// Runs a text in one offer.
+/// Runs a text in one call.
 fn run_whole(alloc: Global, encoding: Encoding, way: Way, text: &str) -> Result<Run, Fail> {
     let mut run = start(alloc, (encoding, &[]), way, MOST_ROOM)?;
     offer(alloc, &mut run, text, true)?;
     Ok(run)
 }
 
-/// Compares each way with the others and with a one-shot call. The text has an unmappable character, unless
-/// its encoding can encode everything.
+/// Compares each way with the others and with a one-shot call. The text has an unmappable
+/// character, unless its encoding can encode everything.
 pub fn compare_ways(alloc: Global, encoding: Encoding, text: &str) -> Result<(), Fail> {
     let case = case_of((encoding, &[]), text, MOST_ROOM);
     let whole = compare_with_run(alloc, encoding, text)?;

@@ -1,6 +1,6 @@
-//! Encoders that are offered a character at a time. The room that a length query returns is enough; and a
-//! run with room for any character, and for a reference where it writes some, ends within two calls for each
-//! character and two more.
+//! Encoders that get a character at a time. The room of a length query is enough. With room for any
+//! character, and for a reference if it writes some, a run of n characters takes at most 2n + 2
+//! calls.
 
 use crate::cases::{expect, expect_bytes};
 use crate::encoding::calls::{MOST_ROOM, Offer, make_call, rest_of};
@@ -12,7 +12,8 @@ use encoding_rs::{Encoder, EncoderResult, Encoding};
 use std::alloc::Global;
 use std::test::Fail;
 
-/// Rooms of a run: too small for any character, for some and for none, and the same with 10 bytes kept back.
+/// Rooms of a run: too small for any character, for some and for none, and the same with 10 bytes
+/// kept back.
 const ROOMS: [usize; 13] = [0, 1, 2, 3, 4, 5, 6, 7, 12, 13, 14, 15, 17];
 
 /// The length query for a text: with replacement, if none of its characters is unmappable.
@@ -27,8 +28,8 @@ fn queried_room(encoder: &Encoder, way: Way, text: &str) -> usize {
     length.unwrap_or(MOST_ROOM)
 }
 
-/// Offers a text, and again the unread rest, each in its queried room, until it is read. The output is full
-/// at most after a reference.
+/// Passes a text, and again the unread rest, each in its queried room, until it is read. The output
+/// is full at most after a reference.
 fn offer_in_queried_room(
     alloc: Global,
     (encoder, way): (&mut Encoder, Way),
@@ -71,7 +72,7 @@ fn compare_queried_rooms(
     expect_bytes(&bytes, row.1, way.name(), &case_of(asked, row.0, MOST_ROOM))
 }
 
-/// Makes calls that are offered a character each: two for each character, and two more.
+/// Makes calls that get a character each: two for each character, and two more.
 fn run_by_characters(
     alloc: Global,
     ((encoding, barred), way): (Asked, Way),
@@ -92,7 +93,8 @@ fn run_by_characters(
     Ok(encode_run_barring(alloc, encoding, barred, text, &calls)?)
 }
 
-/// Compares a run with the row. If it does not finish, it has too little room and has written a prefix.
+/// Compares a run with the row. If it does not finish, it has too little room and has written a
+/// prefix.
 fn compare_end(
     alloc: Global,
     (asked, way): (Asked, Way),

@@ -37,7 +37,8 @@ pub fn compare_with_run(alloc: Global, encoding: Encoding, text: &str) -> Result
     Ok(bytes)
 }
 
-/// Offers a text in one call, which reads it and writes the next of `expected`. Returns the rest of these.
+/// Passes a text in one call, which reads it and writes the next of `expected`. Returns the rest of
+/// these.
 fn encode_next<'a>(
     encoder: &mut Encoder,
     (text, last): (&str, bool),

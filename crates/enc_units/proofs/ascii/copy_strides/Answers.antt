@@ -4,8 +4,8 @@ use Rattle.enc_units.proofs.ascii.copy_strides.Goals as goal
 
 pub loop-at-preserved : goal.loop-at-preserved
 loop-at-preserved c =
-    let i = c.loop-at.invariant in (
+    let invariant = c.loop-at.invariant in (
       omega arith,
-      ascii_more _ _ _ i.1 (c.are_all_ascii.ensures c.if-not-are_all_ascii.false),
-      copied_more c.loop-at.at 64 c.args.src.now c.loop-at.dst c.args.dst.now (omega arith) (omega arith) i.2,
+      ascii_more _ _ _ invariant.1 (c.are_all_ascii.ensures c.if-not-are_all_ascii.false),
+      copied_more c.loop-at.at 64 c.args.src.now c.loop-at.dst c.args.dst.now (omega arith) (omega arith) invariant.2,
     )

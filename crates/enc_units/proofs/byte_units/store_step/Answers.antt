@@ -7,9 +7,9 @@ loop-read-init g c = (omega arith, refl, gathers_nothing _ _ _ _ _ (ap (λ k. ta
 
 pub loop-read-preserved : goal.loop-read-preserved
 loop-read-preserved g c =
-    let i = c.loop-read.invariant in
-    let u = c.requires.units.1 _ _ (omega arith) in (
+    let invariant = c.loop-read.invariant in
+    let is_unit = c.requires.units.1 _ _ (omega arith) in (
       omega arith,
-      length-set c.loop-read.buffer (c.args.at + c.loop-read.read) _ ∙ i.1,
-      gathers_byte_unit _ _ _ _ _ _ _ _ u (omega arith) u.bound (omega arith) (omega arith) i.2,
+      length-set c.loop-read.buffer (c.args.at + c.loop-read.read) _ ∙ invariant.1,
+      gathers_byte_unit _ _ _ _ _ _ _ _ is_unit (omega arith) is_unit.bound (omega arith) (omega arith) invariant.2,
     )

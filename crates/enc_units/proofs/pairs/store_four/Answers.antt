@@ -11,17 +11,18 @@ overflow_sub-next g c = (goes_up _ _ (end_goes c.args.leads c.loop-count.count _
 
 pub loop-count-preserved : goal.loop-count-preserved
 loop-count-preserved g c =
-    let i = c.loop-count.invariant in
-    let e = c.store_word-end.ensures in
+    let invariant = c.loop-count.invariant in
+    let stored = c.store_word-end.ensures in
     let next = get_or c.ends_of-ends.result c.loop-count.count 0 in
-    let h : goes c.loop-count.read next ≡ true = end_goes c.args.leads c.loop-count.count _ _ c.ends_of-ends.ensures c.loop-count-test.true i.1 in
-    let up = goes_up c.loop-count.read next h in
-    let w = c.word-word.ensures (omega arith) in (
+    let goes_on : goes c.loop-count.read next ≡ true =
+    end_goes c.args.leads c.loop-count.count _ _ c.ends_of-ends.ensures c.loop-count-test.true invariant.1 in
+    let up = goes_up c.loop-count.read next goes_on in
+    let is_word = c.word-word.ensures (omega arith) in (
       omega arith,
       end_next c.ends_of-ends.result c.loop-count.count,
-      omega (arith, i.2, up.1),
-      omega (arith, i.3, e.end, w.bound),
-      e.len ∙ i.4,
-      gathers_word _ c.args.src.now c.args.from c.loop-count.read next h (omega arith) _ _ _ _ w i.5
-          e.stored,
+      omega (arith, invariant.2, up.1),
+      omega (arith, invariant.3, stored.end, is_word.bound),
+      stored.len ∙ invariant.4,
+      gathers_word _ c.args.src.now c.args.from c.loop-count.read next goes_on (omega arith) _ _ _ _ is_word invariant.5
+          stored.stored,
     )

@@ -12,16 +12,18 @@ overflow_sub-next g c = (goes_up _ _ (end_goes c.args.leads c.loop-count.count _
 
 pub loop-count-preserved : goal.loop-count-preserved
 loop-count-preserved g c =
-    let i = c.loop-count.invariant in
+    let invariant = c.loop-count.invariant in
     let next = get_or c.ends_of-ends.result c.loop-count.count 0 in
-    let h : goes c.loop-count.read next ≡ true = end_goes c.args.leads c.loop-count.count _ _ c.ends_of-ends.ensures c.loop-count-test.true i.1 in
-    let up = goes_up c.loop-count.read next h in
+    let goes_on : goes c.loop-count.read next ≡ true =
+    end_goes c.args.leads c.loop-count.count _ _ c.ends_of-ends.ensures c.loop-count-test.true invariant.1 in
+    let up = goes_up c.loop-count.read next goes_on in
     let u = c.unit-unit.ensures (omega arith) in (
       omega arith,
       end_next c.ends_of-ends.result c.loop-count.count,
-      omega (arith, i.2, up.1),
-      omega (arith, i.3),
-      length-set c.loop-count.buffer c.loop-count.end c.unit-unit.result ∙ i.4,
-      gathers_unit _ c.args.src.now c.args.from c.loop-count.read next h (omega arith) _ _ _ _ (omega arith) u i.5
+      omega (arith, invariant.2, up.1),
+      omega (arith, invariant.3),
+      length-set c.loop-count.buffer c.loop-count.end c.unit-unit.result ∙ invariant.4,
+      gathers_unit _ c.args.src.now c.args.from c.loop-count.read next goes_on (omega arith) _ _ _ _ (omega arith) u
+          invariant.5
           (take_more_set c.loop-count.buffer c.loop-count.end c.unit-unit.result (omega arith)),
     )

@@ -5,8 +5,10 @@ use Rattle.enc_units.proofs.rest.clear_rest.Goals as goal
 pub loop-end-preserved : goal.loop-end-preserved
 loop-end-preserved c = goes_on _ _ _ _ c.loop-end.invariant (omega arith) (omega arith) (omega arith)
 
-pub returns-else-dst-end-lt192-clause-behind : goal.returns-else-dst-end-lt192-clause-behind
-returns-else-dst-end-lt192-clause-behind c = ends _ _ _ _ c.loop-end.invariant (none_next _ _ _ _ c.loop-end.invariant (omega arith) (inr (omega arith)))
+pub returns-else-dst-end-lt192-clause-rest : goal.returns-else-dst-end-lt192-clause-rest
+returns-else-dst-end-lt192-clause-rest c =
+    ends _ _ _ _ c.loop-end.invariant (none_next _ _ _ _ c.loop-end.invariant (omega arith) (inr (omega arith)))
 
-pub returns-else-dst-end-ge128-clause-behind : goal.returns-else-dst-end-ge128-clause-behind
-returns-else-dst-end-ge128-clause-behind c = ends _ _ _ _ c.loop-end.invariant (none_next _ _ _ _ c.loop-end.invariant (omega arith) (inl (omega arith)))
+pub returns-else-dst-end-ge128-clause-rest : goal.returns-else-dst-end-ge128-clause-rest
+returns-else-dst-end-ge128-clause-rest c =
+    ends _ _ _ _ c.loop-end.invariant (none_next _ _ _ _ c.loop-end.invariant (omega arith) (inl (omega arith)))

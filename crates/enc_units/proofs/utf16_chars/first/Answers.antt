@@ -5,8 +5,9 @@ use Rattle.enc_units.proofs.utf16_chars.first.Goals as goal
 
 pub returns-then-begins_with_pair : goal.returns-then-begins_with_pair
 returns-then-begins_with_pair c =
-    let p = c.begins_with_pair.ensures.pair c.if-begins_with_pair.true in
-    subst (λ (x : ℕ). IsFirstUtf16Char c.args.units.now x 2) (sym c.pair.ensures) (first_pair c.args.units.now p.0 p.1)
+    let is_pair = c.begins_with_pair.ensures.pair c.if-begins_with_pair.true in
+    subst (λ (x : ℕ). IsFirstUtf16Char c.args.units.now x 2) (sym c.pair.ensures)
+    (first_pair c.args.units.now is_pair.0 is_pair.1)
 
 pub returns : goal.returns
 returns c =

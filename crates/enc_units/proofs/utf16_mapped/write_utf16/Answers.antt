@@ -8,7 +8,7 @@ use Rattle.enc_units.proofs.utf16_mapped.write_utf16.Goals as goal
 
 pub loop-read-preserved-then-len-eq16 : goal.loop-read-preserved-then-len-eq16
 loop-read-preserved-then-len-eq16 g c =
-    whole_further _ _ _ _ _ _ _ _ _ _ _ c.loop-read.invariant
+    whole_further c.loop-read.invariant _
     (low_lanes_long c.loop-read.read c.args.src.now _ c.low_bytes-lanes.ensures
     (omega arith)) c.if-len-eq16.true (omega arith)
     (unit_lanes _ _ _ _ (rest_long c.loop-read.read c.args.src.now (omega arith)) (omega
@@ -18,7 +18,7 @@ loop-read-preserved-then-len-eq16 g c =
 
 pub loop-read-preserved-then-unit-lt128 : goal.loop-read-preserved-then-unit-lt128
 loop-read-preserved-then-unit-lt128 g c =
-    ascii_further _ _ _ _ _ _ _ _ _ _ _ _ c.loop-read.invariant
+    ascii_further c.loop-read.invariant
     (front_long c.min-len.result c.low_bytes-lanes.result (low_lanes_long c.loop-read.read c.args.src.now _
     c.low_bytes-lanes.ensures (omega arith)) (omega (arith, c.min-len.ensures, c.ascii_units.ensures.bound)))
     (omega (arith, c.min-len.ensures, c.ascii_units.ensures.bound))
@@ -34,8 +34,8 @@ bytes_in_run-requires g c =
 
 pub loop-read-preserved : goal.loop-read-preserved
 loop-read-preserved g c =
-    let f = c.in-Some.ensures in
-    let e = c.split_at.ensures.back in
-    one_further _ _ _ _ _ _ _ _ _ _ _ _ _ _ c.loop-read.invariant (rw (sym e) f.within) tt (rw
-    (sym e) f.chars) c.in-Some-bytes_in_run.ensures c.put_bytes-at.ensures.count
+    let first = c.in-Some.ensures in
+    let back = c.split_at.ensures.back in
+    one_further c.loop-read.invariant _ _ (rw (sym back) first.within) tt (rw
+    (sym back) first.chars) c.in-Some-bytes_in_run.ensures c.put_bytes-at.ensures.count
     (omega (arith, c.put_bytes-at.ensures.few, c.put_bytes-at.ensures.count)) c.put_bytes-at.ensures.put

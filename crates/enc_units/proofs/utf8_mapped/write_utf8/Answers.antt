@@ -5,7 +5,7 @@ use Rattle.enc_units.proofs.utf8_mapped.write_utf8.Goals as goal
 
 pub loop-read-preserved-then-len-eq16 : goal.loop-read-preserved-then-len-eq16
 loop-read-preserved-then-len-eq16 g c =
-    whole_further _ _ _ _ _ _ _ _ _ _ _ c.loop-read.invariant (sixteen c.loop-read.read c.args.src.now
+    whole_further c.loop-read.invariant _ (sixteen c.loop-read.read c.args.src.now
     (omega arith)) c.if-len-eq16.true (omega arith)
     (ascii_lanes (g.M.Mapping.means c.args.mapping) _ _ _ c.loop-read.invariant.ok
     (rest_long c.loop-read.read c.args.src.now (omega arith)) c.ascii_len-len.ensures.bound refl
@@ -13,7 +13,7 @@ loop-read-preserved-then-len-eq16 g c =
 
 pub loop-read-preserved-then-src-read-lt128 : goal.loop-read-preserved-then-src-read-lt128
 loop-read-preserved-then-src-read-lt128 g c =
-    ascii_further _ _ _ _ _ _ _ _ _ _ _ _ c.loop-read.invariant
+    ascii_further c.loop-read.invariant
     (lanes_long c.ascii_len-len.result c.loop-read.read c.args.src.now
     (omega arith) c.ascii_len-len.ensures.bound) (omega (arith, c.ascii_len-len.ensures.bound))
     (ascii_lanes (g.M.Mapping.means c.args.mapping) _ _ _ c.loop-read.invariant.ok
@@ -22,6 +22,6 @@ loop-read-preserved-then-src-read-lt128 g c =
 
 pub loop-read-preserved : goal.loop-read-preserved
 loop-read-preserved g c =
-    let f = c.found_at-found.ensures.first in
-    one_further _ _ _ _ _ _ _ _ _ _ _ _ _ _ c.loop-read.invariant f.within f.utf8 f.chars c.in-Some.ensures
+    let first = c.found_at-found.ensures.first in
+    one_further c.loop-read.invariant _ _ first.within first.utf8 first.chars c.in-Some.ensures
     c.put_bytes-at.ensures.count (omega arith) c.put_bytes-at.ensures.put

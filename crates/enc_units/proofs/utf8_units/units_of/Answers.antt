@@ -5,12 +5,12 @@ use Rattle.enc_units.proofs.Utf8UnitsLemmas.{units_here, first_alone}
 use Rattle.enc_units.proofs.utf8_units.units_of.Goals as goal
 
 pub returns-then-are_narrow-2 : goal.returns-then-are_narrow-2
-returns-then-are_narrow-2 c k h g =
-    units_here c.args.src.now c.args.at k _ h
-    (c.narrow_units.ensures k h (c.are_narrow.ensures c.if-are_narrow.true k h)
-    (ap (gives_unit 0) (get_or-chunk c.args.at 16 c.args.src.now k 0 h)
+returns-then-are_narrow-2 c k below g =
+    units_here c.args.src.now c.args.at k _ below
+    (c.narrow_units.ensures k below (c.are_narrow.ensures c.if-are_narrow.true k below)
+    (ap (gives_unit 0) (get_or-chunk c.args.at 16 c.args.src.now k 0 below)
     ∙ first_alone _ (get_or c.args.src.now (c.args.at + k) 0)
-    (c.are_narrow-then-are_narrow.ensures c.if-are_narrow-2.true k h) g))
+    (c.are_narrow-then-are_narrow.ensures c.if-are_narrow-2.true k below) g))
 
 pub returns : goal.returns
-returns c k h g = units_here c.args.src.now c.args.at k _ h (c.all_units.ensures k h)
+returns c k below g = units_here c.args.src.now c.args.at k _ below (c.all_units.ensures k below)

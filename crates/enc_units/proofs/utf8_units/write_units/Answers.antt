@@ -6,30 +6,36 @@ use Rattle.enc_units.proofs.utf8_units.write_units.Goals as goal
 
 pub returns-clause-gathers : goal.returns-clause-gathers
 returns-clause-gathers c =
-    let i = c.loop-read.invariant in
+    let invariant = c.loop-read.invariant in
     let all : c.loop-read.read ≡ c.args.len = omega arith in
-    gathers_units c.args.src.now c.args.len _ (omega arith) c.requires.utf8 (i.5 ∙ ap (units_from c.args.src.now 0) all)
+    gathers_units c.args.src.now c.args.len _ (omega arith) c.requires.utf8
+    (invariant.5 ∙ ap (units_from c.args.src.now 0) all)
 
 pub loop-read-preserved : goal.loop-read-preserved
 loop-read-preserved c =
-    let i = c.loop-read.invariant in
+    let invariant = c.loop-read.invariant in
     let r = c.loop-read in
     let src = c.args.src.now in
-    let e = c.gather_units-next.ensures in
+    let gathered = c.gather_units-next.ensures in
     let next = c.gather_units-next.result.0 in
     let end = c.gather_units-next.result.1 in
     let ys = c.copy_from_slice.new.self in
     let copied : ys ≡ take end c.gather_units-next.new.buffer = c.copy_from_slice.ensures.after in
     let many : length ys ≡ end = omega
-    (arith, ap length copied, length-take end c.gather_units-next.new.buffer, e.bound) in
-    let on : r.read ≤ next = omega (arith, e.some) in
-    let room : r.written + end ≤ length r.dst = omega (arith, e.few, e.within, i.1, i.3) in
-    let more = copied ∙ e.gathered in (
-      e.within,
-      omega (arith, i.1, e.few, e.some),
-      e.len ∙ i.2,
-      writes_long src r.read next r.written end r.dst c.args.dst.now ys room many on i.4 i.5 i.6 more ∙ i.3,
-      writes_count src r.read next r.written end r.dst c.args.dst.now ys room many on i.4 i.5 i.6 more,
-      writes_more src r.read next r.written end r.dst c.args.dst.now ys room many on i.4 i.5 i.6 more,
-      writes_rest src r.read next r.written end r.dst c.args.dst.now ys room many on i.4 i.5 i.6 more,
+    (arith, ap length copied, length-take end c.gather_units-next.new.buffer, gathered.bound) in
+    let on : r.read ≤ next = omega (arith, gathered.some) in
+    let room : r.written + end ≤ length r.dst =
+    omega (arith, gathered.few, gathered.within, invariant.1, invariant.3) in
+    let more = copied ∙ gathered.gathered in (
+      gathered.within,
+      omega (arith, invariant.1, gathered.few, gathered.some),
+      gathered.len ∙ invariant.2,
+      writes_long src r.read next r.written end r.dst c.args.dst.now ys room many on invariant.4 invariant.5
+          invariant.6 more ∙ invariant.3,
+      writes_count src r.read next r.written end r.dst c.args.dst.now ys room many on invariant.4 invariant.5
+          invariant.6 more,
+      writes_more src r.read next r.written end r.dst c.args.dst.now ys room many on invariant.4 invariant.5
+          invariant.6 more,
+      writes_rest src r.read next r.written end r.dst c.args.dst.now ys room many on invariant.4 invariant.5
+          invariant.6 more,
     )

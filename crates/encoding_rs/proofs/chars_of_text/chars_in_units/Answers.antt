@@ -1,24 +1,35 @@
 use Rattle.std.proofs.Common.{arith}
 use Rattle.encoding_rs.specs.Run.{units_of_call}
-use Rattle.encoding_rs.proofs.CharsOfTextLemmas.{begin, one_more, none_taken, takes_one, all_taken, at_end_taken, some_units, none_now}
+use Rattle.encoding_rs.proofs.CharsOfTextLemmas.{begin, one_more, none_taken, takes_one, all_taken, at_end_taken}
+use Rattle.encoding_rs.proofs.CharsOfTextLemmas.{some_units, none_now}
 use Rattle.encoding_rs.proofs.chars_of_text.chars_in_units.Goals as goal
 
 pub loop-left-init : goal.loop-left-init
-loop-left-init c = rw c.chars-rest.ensures.rest (record { behind = begin c.args.text.now c.utf8.text; leaves = none_taken (units_of_call c.args.utf16) c.args.text.now c.args.units })
+loop-left-init c =
+    rw c.chars-rest.ensures.rest (record {
+      follows = begin c.args.text.now c.utf8.text;
+      leaves = none_taken (units_of_call c.args.utf16) c.args.text.now c.args.units;
+    })
 
 pub loop-left-preserved : goal.loop-left-preserved
 loop-left-preserved c =
-    let i = c.loop-left.invariant in
+    let invariant = c.loop-left.invariant in
     rw c.saturating_sub-left.ensures (record {
-      behind = one_more _ _ _ _ c.in-Some.c i.behind c.in-Some.ensures.steps.0;
-      leaves = takes_one (units_of_call c.args.utf16) _ _ _ _ _ _ c.in-Some.c _ i.behind c.in-Some.ensures.steps.0 c.width.ensures.value c.loop-left-test.true i.leaves;
+      follows = one_more _ _ _ _ c.in-Some.c invariant.follows c.in-Some.ensures.steps.0;
+      leaves =
+          takes_one (units_of_call c.args.utf16) _ _ _ _ _ _ c.in-Some.c _ invariant.follows c.in-Some.ensures.steps.0
+          c.width.ensures.value c.loop-left-test.true invariant.leaves;
     })
 
 pub overflow_add-count : goal.overflow_add-count
-overflow_add-count c = let b = (one_more _ _ _ _ c.in-Some.c c.loop-left.invariant.behind c.in-Some.ensures.steps.0).few in search (arith, b)
+overflow_add-count c =
+    let b = (one_more _ _ _ _ c.in-Some.c c.loop-left.invariant.follows c.in-Some.ensures.steps.0).few in
+    search (arith, b)
 
 pub returns-after-loop-left : goal.returns-after-loop-left
 returns-after-loop-left c = all_taken (units_of_call c.args.utf16) (some_units c.args.utf16) _ _ _ (none_now (units_of_call c.args.utf16) _ _ _ _ c.loop-left.invariant.leaves c.loop-left-test.false)
 
 pub returns-in_default : goal.returns-in_default
-returns-in_default c = at_end_taken (units_of_call c.args.utf16) _ _ _ _ _ c.loop-left.invariant.behind c.in_default.ensures.steps.0.0 c.loop-left.invariant.leaves
+returns-in_default c =
+    at_end_taken (units_of_call c.args.utf16) _ _ _ _ _ c.loop-left.invariant.follows c.in_default.ensures.steps.0.0
+    c.loop-left.invariant.leaves

@@ -17,13 +17,13 @@ cut c = elim c.loop-test.branch [
 ]
 
 pub overflow_sub-result : goal.overflow_sub-result
-overflow_sub-result c = let b = (cut c).behind.few in omega arith
+overflow_sub-result c = let b = (cut c).follows.few in omega arith
 
 pub returns-clause-boundary : goal.returns-clause-boundary
-returns-clause-boundary c = boundary _ _ _ (cut c).behind
+returns-clause-boundary c = boundary _ _ _ (cut c).follows
 
 pub returns-clause-front : goal.returns-clause-front
-returns-clause-front c = front_chars _ _ _ _ c.utf8.text (cut c).behind (cut c).chars
+returns-clause-front c = front_chars _ _ _ _ c.utf8.text (cut c).follows (cut c).chars
 
 pub returns-clause-back : goal.returns-clause-back
-returns-clause-back c = ap chars (sym (cut c).behind.end) ∙ (cut c).chars
+returns-clause-back c = ap chars (sym (cut c).follows.end) ∙ (cut c).chars

@@ -1,5 +1,5 @@
 use Rattle.std.proofs.Common.{◌≡◌, ◌∙◌, ◌&&◌, ◌++◌, ap, length, chars, nat_le, rules}
-use Rattle.enc_encoders.specs.Text.{reference_after}
+use Rattle.enc_encoder.specs.Text.{reference_after}
 use Rattle.encoding_rs.proofs.EncodeRunLemmas.{is_last, makes_call}
 use Rattle.encoding_rs.proofs.encode_run.make_call.Goals as goal
 

@@ -1,5 +1,5 @@
 use Rattle.std.proofs.Common.{refl}
-use Rattle.encoding_rs.proofs.EncodingLemmas as encodings
+use Rattle.enc_stream.proofs.EncodingLemmas as encodings
 use Rattle.encoding_rs.proofs.laws.has_texts.Goals as goal
 
 pub returns : goal.returns

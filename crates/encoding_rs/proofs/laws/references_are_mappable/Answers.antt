@@ -1,4 +1,4 @@
-use Rattle.encoding_rs.proofs.ReferenceLemmas.{lawful_of, once, all_mapped}
+use Rattle.enc_stream.proofs.ReferenceLemmas.{lawful_of, once, all_mapped}
 use Rattle.encoding_rs.proofs.laws.references_are_mappable.Goals as goal
 
 pub returns-clause-once : goal.returns-clause-once

@@ -1,4 +1,4 @@
-use Rattle.enc_utf.proofs.Utf8Rule as texts
+use Rattle.enc_decoder_utf.proofs.Utf8Rule as texts
 use Rattle.encoding_rs.proofs.laws.utf_8_has_texts.Goals as goal
 
 pub returns : goal.returns

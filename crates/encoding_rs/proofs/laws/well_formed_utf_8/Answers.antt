@@ -6,6 +6,6 @@ use Rattle.encoding_rs.proofs.laws.well_formed_utf_8.Goals as goal
 pub returns : goal.returns
 returns c =
     let bytes = c.args.bytes.now in (
-      λ f. ap utf_8.malformed_bytes (sym f.1.1) ∙ utf_8.none_malformed_in f.0 f.1.0,
+      λ found. ap utf_8.malformed_bytes (sym found.1.1) ∙ utf_8.none_malformed_in found.0 found.1.0,
       utf_8.well_formed (length bytes) bytes (omega arith),
     )

@@ -1,3 +1,4 @@
+-- Rows by codec are written by scripts/make-codecs from data/codecs.txt.
 use Rattle.enc_codec.proofs.variant.VariantDecoderRawDecoder.decode_replacing.Goals as goal
 
 pub returns-in-Big5-clause-lawful : goal.returns-in-Big5-clause-lawful

@@ -1,3 +1,4 @@
+-- Rows by codec are written by scripts/make-codecs from data/codecs.txt.
 use Rattle.enc_codec.proofs.variant.VariantDecoderRawDecoder.text_lengths.Goals as goal
 
 pub returns-in-Big5-clause-enough : goal.returns-in-Big5-clause-enough

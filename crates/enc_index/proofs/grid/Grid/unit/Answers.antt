@@ -1,3 +1,4 @@
+-- Rows by index are written by scripts/make-codecs from data/codecs.txt.
 use Rattle.enc_index.proofs.GridTables.{big5_unit, euc_kr_unit, gb18030_unit, jis0208_unit}
 use Rattle.enc_index.proofs.grid.Grid.unit.Goals as goal
 

@@ -1,3 +1,4 @@
+-- Rows by index are written by scripts/make-codecs from data/codecs.txt.
 use Rattle.enc_index.proofs.GridTables.{big5_word, euc_kr_word, gb18030_word, jis0208_word}
 use Rattle.enc_index.proofs.grid.Grid.word.Goals as goal
 

@@ -1,8 +1,10 @@
+-- Rows by index are written by scripts/make-codecs from data/codecs.txt.
 use Rattle.std.proofs.Common.{◌≡◌, ◌∙◌, ℕ, ap, sym}
 use Rattle.enc_index.specs.declared.list.List.{List as Index}
 use Rattle.enc_index.specs.Index.{index_at}
 use Rattle.enc_index.specs.Runs.{planes_of, runs_of}
-use Rattle.enc_index.proofs.MultiByteTables.{big5_table, euc_kr_table, gb18030_table, gb18030_ranges_ascends, jis0208_table, jis0212_table}
+use Rattle.enc_index.proofs.MultiByteTables.{big5_table, euc_kr_table, gb18030_table, gb18030_ranges_ascends}
+use Rattle.enc_index.proofs.MultiByteTables.{jis0208_table, jis0212_table}
 use Rattle.enc_index.proofs.list.List.at.Goals as goal
 
 -- an arm's index is the one that was asked

@@ -1,3 +1,4 @@
+-- Rows by index are written by scripts/make-codecs from data/codecs.txt.
 use Rattle.std.proofs.Common.{◌∙◌, ap, sym}
 use Rattle.enc_index.specs.Runs.{runs_of}
 use Rattle.enc_index.proofs.list.List.runs.Goals as goal

@@ -7,7 +7,7 @@ returns-then-len-ge-LEAST_LENT-clause-ok g c =
     let r = c.fill.new.self in
     let some : 0 < c.ascii_ahead-len.result = omega arith in
     rw c.fill.ensures.had_errors
-    (HandsOut-filled _ _ _ _ _ _ c.in_ok-fill.ensures.ok _ _ _
+    (HandsOut-filled c.in_ok-fill.ensures.ok
     (HandsOut-chunk _ _ r.filled r.at c.ascii_ahead-len.result r.input.now _ _ r.decoded r.within c.ascii_ahead-len.ensures.within
     (c.ascii_ahead-len.ensures.own some) r.none_told))
 
@@ -15,14 +15,14 @@ pub returns-then-len-ge-LEAST_LENT-clause-utf_8 : goal.returns-then-len-ge-LEAST
 returns-then-len-ge-LEAST_LENT-clause-utf_8 g c =
     let r = c.fill.new.self in
     let some : 0 < c.ascii_ahead-len.result = omega arith in
-    handed_is_utf_8 _ _ _ _ _ _ _
+    handed_is_utf_8
     (HandsOut-chunk _ _ r.filled r.at c.ascii_ahead-len.result r.input.now _ r.had_errors r.decoded r.within c.ascii_ahead-len.ensures.within
     (c.ascii_ahead-len.ensures.own some) r.none_told)
 
 pub returns-in_err-len-clause-reader_fault : goal.returns-in_err-len-clause-reader_fault
 returns-in_err-len-clause-reader_fault g c =
-    λ e. FailsToRead-filled _ _ _ _ _ _ c.in_ok-fill.ensures.ok _ _ _ c.in_ok-fill.ensures.kept (c.in_err-len.ensures.reader_fault (search rules))
+    λ e. FailsToRead-filled c.in_ok-fill.ensures.ok c.in_ok-fill.ensures.kept (c.in_err-len.ensures.reader_fault (search rules))
 
 pub returns-clause-ok : goal.returns-clause-ok
 returns-clause-ok g c =
-    rw (← c.fill.ensures.had_errors) (HandsOut-filled _ _ _ _ _ _ c.in_ok-fill.ensures.ok _ _ _ c.in_ok-len.ensures.ok)
+    rw (← c.fill.ensures.had_errors) (HandsOut-filled c.in_ok-fill.ensures.ok c.in_ok-len.ensures.ok)

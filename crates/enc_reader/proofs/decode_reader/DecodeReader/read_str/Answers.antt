@@ -5,11 +5,11 @@ use Rattle.enc_reader.proofs.decode_reader.DecodeReader.read_str.Goals as goal
 
 pub pulls-init : goal.pulls-init
 pulls-init g c =
-    let told = g.R.Source.remaining in
+    let remaining = g.R.Source.remaining in
     record {
-      read = rw c.decode-turn.ensures.reader (HasRead-turn _ _ _ _ _ _ c.decode-turn.ensures.turn);
+      read = rw c.decode-turn.ensures.reader (HasRead-turn c.decode-turn.ensures.turn);
       within = search rules;
-      behind = search rules;
+      rest = search rules;
       none = search rules;
       room = search rules;
       going = search rules;
@@ -20,17 +20,23 @@ pulls-init g c =
 
 pub pulls-preserved : goal.pulls-preserved
 pulls-preserved g c =
-    let told = g.R.Source.remaining in
-    let i = c.pulls.invariant in
-    let none : take c.pulls.turn.written c.pulls.dst ≡ [] = ap (λ n. take n c.pulls.dst) (i.none c.pulls-test.true) in
-    let waited : HasRead (told c.args.self.now.reader.now) (told c.pulls.self.reader.now) (state_of c.args.self.now) (state_of c.pulls.self) [] c.pulls.replaced true c.pulls.pulls =
-    subst (λ w. HasRead (told c.args.self.now.reader.now) (told c.pulls.self.reader.now) (state_of c.args.self.now) (state_of c.pulls.self) w c.pulls.replaced true c.pulls.pulls) none
-    (subst (λ b. HasRead (told c.args.self.now.reader.now) (told c.pulls.self.reader.now) (state_of c.args.self.now) (state_of c.pulls.self) (take c.pulls.turn.written c.pulls.dst) c.pulls.replaced b c.pulls.pulls) c.pulls-test.true i.read) in
+    let remaining = g.R.Source.remaining in
+    let invariant = c.pulls.invariant in
+    let none : take c.pulls.turn.written c.pulls.dst ≡ [] =
+    ap (λ n. take n c.pulls.dst) (invariant.none c.pulls-test.true) in
+    let waited : HasRead (remaining c.args.self.now.reader.now) (remaining c.pulls.self.reader.now)
+    (state_of c.args.self.now) (state_of c.pulls.self) [] c.pulls.replaced true c.pulls.pulls =
+    subst (λ w. HasRead (remaining c.args.self.now.reader.now) (remaining c.pulls.self.reader.now)
+    (state_of c.args.self.now) (state_of c.pulls.self) w c.pulls.replaced true c.pulls.pulls) none
+    (subst (λ b. HasRead (remaining c.args.self.now.reader.now) (remaining c.pulls.self.reader.now)
+    (state_of c.args.self.now)
+    (state_of c.pulls.self) (take c.pulls.turn.written c.pulls.dst) c.pulls.replaced b c.pulls.pulls)
+    c.pulls-test.true invariant.read) in
     record {
       read = rw c.decode-turn-in-pulls.ensures.reader
-          (HasRead-more _ _ _ _ _ _ _ _ _ _ _ waited c.in_ok-pull.ensures.ok _ c.decode-turn-in-pulls.ensures.turn);
+          (HasRead-more waited c.in_ok-pull.ensures.ok c.decode-turn-in-pulls.ensures.turn);
       within = search rules;
-      behind = search rules;
+      rest = search rules;
       none = search rules;
       room = search rules;
       going = search rules;

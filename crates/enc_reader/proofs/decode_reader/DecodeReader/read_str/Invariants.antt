@@ -8,7 +8,7 @@ invariant-pulls g l = record {
   read : HasRead (g.R.Source.remaining l.fn.self.reader.now) (g.R.Source.remaining l.self.reader.now) (state_of l.fn.self) (state_of l.self) (take l.turn.written l.dst)
       l.replaced l.turn.waits l.pulls;
   within : l.turn.written ≤ length l.dst;
-  behind : drop l.turn.written l.dst ≡ drop l.turn.written l.fn.dst;
+  rest : drop l.turn.written l.dst ≡ drop l.turn.written l.fn.dst;
   none : l.turn.waits ≡ true → l.turn.written ≡ 0;
   room : length l.dst ≡ length l.fn.dst;
   going : l.self.failed ≡ false;

@@ -4,10 +4,14 @@ use Rattle.enc_units.proofs.byte_table.ByteTableGather.gather.Goals as goal
 
 pub loop-written-preserved : goal.loop-written-preserved
 loop-written-preserved g c =
-    let i = c.loop-written.invariant in
-    let e = c.store_turn-more.ensures in
-    (omega (arith, e.len, i.0), omega (arith, e.bound), e.len ∙ i.2, gathers_then _ _ _ _ _ _ _ _ i.3 e.gathers)
+    let invariant = c.loop-written.invariant in
+    let stored = c.store_turn-more.ensures in (
+      omega (arith, stored.len, invariant.0),
+      omega (arith, stored.bound),
+      stored.len ∙ invariant.2,
+      gathers_then invariant.3 stored.gathers,
+    )
 
 pub returns-then-not-is_whole-clause-gathers : goal.returns-then-not-is_whole-clause-gathers
 returns-then-not-is_whole-clause-gathers g c =
-    gathers_then _ _ _ _ _ _ _ _ c.loop-written.invariant.3 c.store_turn-more.ensures.gathers
+    gathers_then c.loop-written.invariant.3 c.store_turn-more.ensures.gathers

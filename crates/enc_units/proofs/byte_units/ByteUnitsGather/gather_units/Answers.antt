@@ -4,9 +4,13 @@ use Rattle.enc_units.proofs.byte_units.ByteUnitsGather.gather_units.Goals as goa
 
 pub loop-count-preserved : goal.loop-count-preserved
 loop-count-preserved g c =
-    let i = c.loop-count.invariant in
-    let e = c.store_step-more.ensures in
-    (omega (arith, e.len, i.0), omega (arith, e.bound), e.len ∙ i.2, gathers_then _ _ _ _ _ _ _ _ i.3 e.gathers)
+    let invariant = c.loop-count.invariant in
+    let stored = c.store_step-more.ensures in (
+      omega (arith, stored.len, invariant.0),
+      omega (arith, stored.bound),
+      stored.len ∙ invariant.2,
+      gathers_then invariant.3 stored.gathers,
+    )
 
 pub returns-then-more-lt-STEP-clause-gathers : goal.returns-then-more-lt-STEP-clause-gathers
-returns-then-more-lt-STEP-clause-gathers g c = gathers_then _ _ _ _ _ _ _ _ c.loop-count.invariant.3 c.store_step-more.ensures.gathers
+returns-then-more-lt-STEP-clause-gathers g c = gathers_then c.loop-count.invariant.3 c.store_step-more.ensures.gathers

@@ -7,34 +7,40 @@ use Rattle.enc_units.proofs.pairs.PairsGather.gather.Goals as goal
 
 pub loop-written-preserved-then-are_ascii : goal.loop-written-preserved-then-are_ascii
 loop-written-preserved-then-are_ascii g c =
-    let i = c.loop-written.invariant in
+    let invariant = c.loop-written.invariant in
     let rest = drop c.loop-written.read c.args.src.now in
     let long : length (take 16 rest) ≡ 16 = omega (arith, length-take 16 rest, length-drop c.loop-written.read c.args.src.now) in (
-      omega (arith, length-put_chunk c.loop-written.written c.loop-written.buffer (take 16 rest), i.0),
+      omega (arith, length-put_chunk c.loop-written.written c.loop-written.buffer (take 16 rest), invariant.0),
       omega arith,
-      length-put_chunk c.loop-written.written c.loop-written.buffer _ ∙ i.2,
-      gathers_then _ _ _ _ _ _ _ _ i.3 (gathers_ascii _ _ _ _ _ _ (c.has_ascii-has_ascii.ensures c.if-has_ascii.true) ascii_units (omega (arith, length-drop c.loop-written.read c.args.src.now))
+      length-put_chunk c.loop-written.written c.loop-written.buffer _ ∙ invariant.2,
+      gathers_then invariant.3
+          (gathers_ascii (c.has_ascii-has_ascii.ensures c.if-has_ascii.true) ascii_units
+          (omega (arith, length-drop c.loop-written.read c.args.src.now))
           (c.are_ascii.ensures c.if-are_ascii.true)
           (stored_lanes c.loop-written.written 16 c.loop-written.buffer (take 16 rest) (omega arith) (omega arith) ∙ ap (λ z. take c.loop-written.written c.loop-written.buffer ++ z) (take-take 16 16 rest (omega arith)))),
     )
 
 pub loop-written-preserved-then-more-gt0 : goal.loop-written-preserved-then-more-gt0
 loop-written-preserved-then-more-gt0 g c =
-    let i = c.loop-written.invariant in
-    let e = c.store_eight-more.ensures in
-    (omega (arith, e.len, i.0), omega (arith, e.bound), e.len ∙ i.2, gathers_then _ _ _ _ _ _ _ _ i.3 e.gathers)
+    let invariant = c.loop-written.invariant in
+    let stored = c.store_eight-more.ensures in (
+      omega (arith, stored.len, invariant.0),
+      omega (arith, stored.bound),
+      stored.len ∙ invariant.2,
+      gathers_then invariant.3 stored.gathers,
+    )
 
 pub loop-written-preserved : goal.loop-written-preserved
 loop-written-preserved g c =
-    let i = c.loop-written.invariant in
-    let m = c.store_eight-more.ensures in
-    let e = c.store_text-written.ensures in
-    let p = c.in-Some.ensures in
-    let text = ap (λ n. take n c.store_text-written.new.buffer) e.end ∙ e.stored
+    let invariant = c.loop-written.invariant in
+    let stored_pairs = c.store_eight-more.ensures in
+    let stored_text = c.store_text-written.ensures in
+    let found = c.in-Some.ensures in
+    let text = ap (λ n. take n c.store_text-written.new.buffer) stored_text.end ∙ stored_text.stored
     ∙ ap (λ z. take c.store_eight-more.result.1 c.store_eight-more.new.buffer ++ z) c.utf8_of.ensures.bytes in (
-      omega (arith, e.len, m.len, i.0),
-      omega (arith, e.end, m.bound, c.utf8_of.ensures.bound),
-      e.len ∙ m.len ∙ i.2,
-      gathers_then _ _ _ _ _ _ _ _ (gathers_then _ _ _ _ _ _ _ _ i.3 m.gathers)
-          (gathers_one _ _ _ _ _ _ _ p.some p.within c.utf8_of.ensures.scalar p.means text),
+      omega (arith, stored_text.len, stored_pairs.len, invariant.0),
+      omega (arith, stored_text.end, stored_pairs.bound, c.utf8_of.ensures.bound),
+      stored_text.len ∙ stored_pairs.len ∙ invariant.2,
+      gathers_then (gathers_then invariant.3 stored_pairs.gathers)
+          (gathers_one _ _ _ _ _ _ _ found.some found.within c.utf8_of.ensures.scalar found.means text),
     )

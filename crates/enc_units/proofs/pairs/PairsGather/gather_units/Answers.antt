@@ -8,32 +8,42 @@ use Rattle.enc_units.proofs.pairs.PairsGather.gather_units.Goals as goal
 
 pub loop-written-preserved-then-are_ascii : goal.loop-written-preserved-then-are_ascii
 loop-written-preserved-then-are_ascii g c =
-    let i = c.loop-written.invariant in
+    let invariant = c.loop-written.invariant in
     let rest = drop c.loop-written.read c.args.src.now in
     let long : length (take 16 rest) ≡ 16 = omega (arith, length-take 16 rest, length-drop c.loop-written.read c.args.src.now) in (
-      omega (arith, length-put_chunk c.loop-written.written c.loop-written.buffer (map (λ (x : ℕ). x) (take 16 rest)), i.0),
+      omega (
+        arith,
+        length-put_chunk c.loop-written.written c.loop-written.buffer (map (λ (x : ℕ). x) (take 16 rest)),
+        invariant.0,
+      ),
       omega arith,
-      length-put_chunk c.loop-written.written c.loop-written.buffer _ ∙ i.2,
-      gathers_then _ _ _ _ _ _ _ _ i.3 (gathers_ascii _ _ _ _ _ _ (c.has_ascii-has_ascii.ensures c.if-has_ascii.true) ascii_units_16 (omega (arith, length-drop c.loop-written.read c.args.src.now))
+      length-put_chunk c.loop-written.written c.loop-written.buffer _ ∙ invariant.2,
+      gathers_then invariant.3
+          (gathers_ascii (c.has_ascii-has_ascii.ensures c.if-has_ascii.true) ascii_units_16
+          (omega (arith, length-drop c.loop-written.read c.args.src.now))
           (c.are_ascii.ensures c.if-are_ascii.true)
           (ap (λ z. take (c.loop-written.written + 16) (put_chunk c.loop-written.written c.loop-written.buffer z)) (map-id (take 16 rest)) ∙ stored_lanes c.loop-written.written 16 c.loop-written.buffer (take 16 rest) (omega arith) (omega arith) ∙ ap (λ z. take c.loop-written.written c.loop-written.buffer ++ z) (take-take 16 16 rest (omega arith)))),
     )
 
 pub loop-written-preserved-then-more-gt0 : goal.loop-written-preserved-then-more-gt0
 loop-written-preserved-then-more-gt0 g c =
-    let i = c.loop-written.invariant in
-    let e = c.store_eight_units-more.ensures in
-    (omega (arith, e.len, i.0), omega (arith, e.bound), e.len ∙ i.2, gathers_then _ _ _ _ _ _ _ _ i.3 e.gathers)
+    let invariant = c.loop-written.invariant in
+    let stored = c.store_eight_units-more.ensures in (
+      omega (arith, stored.len, invariant.0),
+      omega (arith, stored.bound),
+      stored.len ∙ invariant.2,
+      gathers_then invariant.3 stored.gathers,
+    )
 
 pub loop-written-preserved : goal.loop-written-preserved
 loop-written-preserved g c =
-    let i = c.loop-written.invariant in
-    let m = c.store_eight_units-more.ensures in
-    let e = c.store_units-written.ensures in
-    let p = c.in-Some.ensures in (
-      omega (arith, e.len, m.len, i.0),
-      omega (arith, e.bound, m.bound),
-      e.len ∙ m.len ∙ i.2,
-      gathers_then _ _ _ _ _ _ _ _ (gathers_then _ _ _ _ _ _ _ _ i.3 m.gathers)
-          (gathers_one _ _ _ _ _ _ _ p.some p.within e.scalar p.means e.stored),
+    let invariant = c.loop-written.invariant in
+    let stored_pairs = c.store_eight_units-more.ensures in
+    let stored = c.store_units-written.ensures in
+    let found = c.in-Some.ensures in (
+      omega (arith, stored.len, stored_pairs.len, invariant.0),
+      omega (arith, stored.bound, stored_pairs.bound),
+      stored.len ∙ stored_pairs.len ∙ invariant.2,
+      gathers_then (gathers_then invariant.3 stored_pairs.gathers)
+          (gathers_one _ _ _ _ _ _ _ found.some found.within stored.scalar found.means stored.stored),
     )

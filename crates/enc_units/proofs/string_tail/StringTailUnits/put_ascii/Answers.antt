@@ -4,7 +4,12 @@ use Rattle.std.specs.Char.{encode_utf8}
 use Rattle.enc_units.proofs.string_tail.StringTailUnits.put_ascii.Goals as goal
 
 pub append-requires-clause-utf8 : goal.append-requires-clause-utf8
-append-requires-clause-utf8 c = let e = c.ascii_len-len.ensures in front_utf8 _ _ _ c.min.result c.split_at.ensures.front e.within e.ascii
+append-requires-clause-utf8 c =
+    let are_ascii = c.ascii_len-len.ensures in
+    front_utf8 _ _ _ c.min.result c.split_at.ensures.front are_ascii.within are_ascii.ascii
 
 pub returns : goal.returns
-returns c = let e = c.ascii_len-len.ensures in puts_front encode_utf8 ascii_units _ _ _ _ _ c.min.result c.split_at.ensures.front c.min.ensures e.within e.ascii e.ends c.append.ensures
+returns c =
+    let are_ascii = c.ascii_len-len.ensures in
+    puts_front encode_utf8 ascii_units _ _ _ _ _ c.min.result c.split_at.ensures.front c.min.ensures are_ascii.within
+    are_ascii.ascii are_ascii.ends c.append.ensures

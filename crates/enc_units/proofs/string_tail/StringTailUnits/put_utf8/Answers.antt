@@ -7,7 +7,14 @@ use Rattle.enc_units.proofs.string_tail.StringTailUnits.put_utf8.Goals as goal
 pub returns : goal.returns
 returns c =
     let n = c.utf8_front-len.result in
-    let told = c.utf8_front-len.ensures in
+    let valid = c.utf8_front-len.ensures in
     let front = c.split_at.ensures.front in
-    let few : n ≤ c.min.result = omega (arith, told.within, ap length front, length-take c.min.result c.args.src.now) in
-    puts_utf8 _ _ c.args.src.now n (omega arith) (omega arith) (subst IsWellFormedUtf8 (ap (take n) front ∙ take-take n c.min.result c.args.src.now few) told.utf8) c.append.ensures
+    let few : n ≤ c.min.result = omega (
+      arith,
+      valid.within,
+      ap length front,
+      length-take c.min.result c.args.src.now,
+    ) in
+    puts_utf8 _ _ c.args.src.now n (omega arith) (omega arith)
+    (subst IsWellFormedUtf8 (ap (take n) front ∙ take-take n c.min.result c.args.src.now few) valid.utf8)
+    c.append.ensures

@@ -5,4 +5,4 @@ pub returns-then-not-has_ascii : goal.returns-then-not-has_ascii
 returns-then-not-has_ascii g c = start _ _ _ _
 
 pub returns : goal.returns
-returns g c = ascii_pieces _ _ _ _ _ _ (c.has_ascii.ensures c.if-not-has_ascii.false) c.append_ascii.ensures
+returns g c = ascii_pieces (c.has_ascii.ensures c.if-not-has_ascii.false) c.append_ascii.ensures

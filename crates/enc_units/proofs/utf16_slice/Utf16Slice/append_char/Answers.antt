@@ -7,7 +7,8 @@ returns-then-src-eq0 c = start _ _ _ _
 
 pub returns : goal.returns
 returns c =
-    let p = c.in-Some.ensures in
-    let a = c.append.ensures in
-    let t = c.if-not-append.false in
-    one_piece _ _ _ _ _ _ _ p.some p.within a.scalar p.means (sym a.fits ∙ t) (a.written t)
+    let peeked = c.in-Some.ensures in
+    let appended = c.append.ensures in
+    let was_appended = c.if-not-append.false in
+    one_piece _ peeked.some peeked.within appended.scalar peeked.means (sym appended.fits ∙ was_appended)
+    (appended.written was_appended)

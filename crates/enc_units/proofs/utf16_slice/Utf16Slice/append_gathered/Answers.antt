@@ -4,16 +4,16 @@ use Rattle.enc_units.proofs.GatherLemmas.{puts_gathered}
 use Rattle.enc_units.proofs.utf16_slice.Utf16Slice.append_gathered.Goals as goal
 
 pub returns-then-read-eq0 : goal.returns-then-read-eq0
-returns-then-read-eq0 g c = then_rest _ _ _ _ _ _ _ _ _ c.split_at.ensures.back c.loop-at.invariant c.append_ascii_of-at.ensures
+returns-then-read-eq0 g c = then_rest c.split_at.ensures.back c.loop-at.invariant c.append_ascii_of-at.ensures
 
 pub returns-then-not-append_units : goal.returns-then-not-append_units
 returns-then-not-append_units g c =
-    same_then _ _ _ _ _ _ _ (c.append_units.ensures.unchanged c.if-not-append_units.true)
-    (then_rest _ _ _ _ _ _ _ _ _ c.split_at.ensures.back c.loop-at.invariant c.append_ascii_of-at.ensures)
+    same_then (c.append_units.ensures.unchanged c.if-not-append_units.true)
+    (then_rest c.split_at.ensures.back c.loop-at.invariant c.append_ascii_of-at.ensures)
 
 pub loop-at-preserved : goal.loop-at-preserved
 loop-at-preserved g c =
     let e = c.gather_units-read.ensures in
-    then_rest _ _ _ _ _ _ _ _ _ c.split_at-in-loop-at.ensures.back
-    (then_rest _ _ _ _ _ _ _ _ _ c.split_at.ensures.back c.loop-at.invariant c.append_ascii_of-at.ensures)
+    then_rest c.split_at-in-loop-at.ensures.back
+    (then_rest c.split_at.ensures.back c.loop-at.invariant c.append_ascii_of-at.ensures)
     (puts_gathered _ _ _ _ _ _ _ e.gathers (omega (arith, c.append_units.ensures.fits c.if-not-append_units.false)) (c.append_units.ensures.written c.if-not-append_units.false))

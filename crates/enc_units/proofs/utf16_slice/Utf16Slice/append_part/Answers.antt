@@ -39,7 +39,7 @@ returns c =
     let slice = c.args.self.now in
     let n = c.write_units-written.result in
     let new = c.write_units-written.new.dst in
-    let e = c.write_units-written.ensures in
+    let written = c.write_units-written.ensures in
     let part = take (length slice.dst.now - slice.len) (drop slice.len slice.dst.now) in
     let long : length part ≡ length slice.dst.now - slice.len =
     omega (
@@ -48,8 +48,9 @@ returns c =
           (drop slice.len slice.dst.now),
       length-drop slice.len slice.dst.now,
     ) in
-    let within : n ≤ length slice.dst.now - slice.len = omega (arith, e.bound) in
-    let read : n ≤ length new = omega (arith, e.bound, e.len) in
-    let copied : new ≡ take n new ++ drop n part = sym (take-append-drop n new) ∙ ap (λ z. take n new ++ z) e.rest in
-    puts_gathered _ _ _ _ _ _ (take n new) e.gathers (omega (arith, length-take n new))
+    let within : n ≤ length slice.dst.now - slice.len = omega (arith, written.bound) in
+    let read : n ≤ length new = omega (arith, written.bound, written.len) in
+    let copied : new ≡ take n new ++ drop n part = sym (take-append-drop n new)
+    ∙ ap (λ z. take n new ++ z) written.rest in
+    puts_gathered _ _ _ _ _ _ (take n new) written.gathers (omega (arith, length-take n new))
     (grown slice.len n slice.dst.now new new slice.dst.ghost_name (omega arith) read within copied)

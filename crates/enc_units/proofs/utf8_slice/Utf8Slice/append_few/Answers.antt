@@ -7,7 +7,9 @@ loop-count-init g c = start _ _ _ _
 
 pub loop-count-preserved : goal.loop-count-preserved
 loop-count-preserved g c =
-    let p = c.in-Some.ensures in
-    let a = c.append_char.ensures in
-    let t = c.if-not-append_char.false in
-    then _ _ _ _ _ _ _ _ c.loop-count.invariant (one_piece _ _ _ _ _ _ _ p.some p.within a.scalar p.means (sym a.fits ∙ t) (a.written t))
+    let peeked = c.in-Some.ensures in
+    let appended = c.append_char.ensures in
+    let was_appended = c.if-not-append_char.false in
+    then c.loop-count.invariant
+    (one_piece _ peeked.some peeked.within appended.scalar peeked.means
+    (sym appended.fits ∙ was_appended) (appended.written was_appended))

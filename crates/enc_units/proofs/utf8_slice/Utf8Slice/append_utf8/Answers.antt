@@ -3,10 +3,10 @@ use Rattle.enc_units.proofs.Utf8CharsLemmas.{ascii_char}
 use Rattle.enc_units.proofs.utf8_slice.Utf8Slice.append_utf8.Goals as goal
 
 pub returns-then-taken-lt-SHORT : goal.returns-then-taken-lt-SHORT
-returns-then-taken-lt-SHORT c = then_rest _ _ _ _ _ _ _ _ _ c.split_at.ensures.back c.loop-at.invariant c.append_part-taken.ensures
+returns-then-taken-lt-SHORT c = then_rest c.split_at.ensures.back c.loop-at.invariant c.append_part-taken.ensures
 
 pub loop-at-preserved : goal.loop-at-preserved
 loop-at-preserved c =
-    then_rest _ _ _ _ _ _ _ _ _ c.split_at-in-loop-at.ensures.back
-    (then_rest _ _ _ _ _ _ _ _ _ c.split_at.ensures.back c.loop-at.invariant c.append_part-taken.ensures)
-    (ascii_pieces _ _ _ _ _ _ ascii_char c.append_ascii-at.ensures)
+    then_rest c.split_at-in-loop-at.ensures.back
+    (then_rest c.split_at.ensures.back c.loop-at.invariant c.append_part-taken.ensures)
+    (ascii_pieces ascii_char c.append_ascii-at.ensures)

@@ -1,2 +1,0 @@
-pub mod ShiftedInputLemmas
-pub mod JoinedCallLemmas

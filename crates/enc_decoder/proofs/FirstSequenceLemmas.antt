@@ -1,0 +1,93 @@
+-- The bytes that determine the first sequence, for every rule.
+use Rattle.std.proofs.Common.{◌≡◌, ℕ, ◌+◌, ◌≤◌, suc, Bool, true, false, List, [], ◌∷◌, ◌++◌, length, take, drop, refl}
+use Rattle.std.proofs.Common.{ap, ◌∙◌, sym, arith, subst, append-nil, append_assoc, ◌⊎◌, inl, inr}
+use Rattle.std.proofs.lemmas.List.{length-take-le, take-take, take-append-drop}
+use Rattle.enc_decoder.specs.declared.byte_codec.Kind.{Kind}
+use Rattle.enc_decoder.specs.declared.byte_codec.Kind.TheVariants.{Valid}
+use Rattle.enc_decoder.specs.Sequence.{Sequence}
+use Rattle.enc_decoder.specs.Segmentation.{Rule, Head, head_sequence, sequences_of}
+use Rattle.enc_decoder.specs.Remainder.{IsUndetermined}
+use Rattle.enc_decoder.specs.RuleLaws.{IsDeterminedWithin, IsLookahead, IsDeterminedByEnd, HasBoundedLookahead}
+use Rattle.enc_decoder.specs.RuleLaws.{HasLookahead}
+use Rattle.enc_decoder.proofs.ByteLemmas.{bytes-append, bytes-take, bytes-drop}
+use Rattle.enc_decoder.proofs.SegmentationLemmas.{sequences_of-cons}
+use Rattle.enc_decoder.proofs.EmissionLemmas.{undetermined_by}
+
+pub true_or_false : (t : Bool) → (t ≡ true) ⊎ (t ≡ false)
+true_or_false true = inl refl
+true_or_false false = inr refl
+
+-- the same head with whatever follows
+pub determined_by_head : (rule : Rule) (set b : ℕ) (z : List ℕ) (n : ℕ) (h : Head) → rule set b z ≡ h
+    → h.more + n ≤ length z
+    → ((y : List ℕ) → rule set b (take (h.more + n) z ++ y) ≡ h) → IsDeterminedWithin rule set b z n
+determined_by_head rule set b z n h is_head l f = record {
+  there = subst (λ (k : Head). k.more + n ≤ length z) (sym is_head) l;
+  same = λ y. ap (λ (k : Head). rule set b (take (k.more + n) z ++ y)) is_head ∙ f y ∙ sym is_head;
+}
+
+-- the bytes themselves are enough
+pub looks_at_none : (rule : Rule) (set b : ℕ) (z : List ℕ) → IsDeterminedWithin rule set b z 0
+    → IsLookahead rule set b z 0
+looks_at_none rule set b z t = record { told = t; least = λ a m l f. omega (arith, l) }
+
+-- n bytes after it determine it, and after one less only the end would
+pub looks_by : (rule : Rule) (set b : ℕ) (z : List ℕ) (n k : ℕ) → IsDeterminedWithin rule set b z (suc n) → k ≡ (rule set b z).more + n
+    → IsDeterminedByEnd rule set b (take k z) → IsLookahead rule set b z (suc n)
+looks_by rule set b z n k t e by_end = record {
+  told = t;
+  least = λ a m l same.
+      let x = take k z in
+      let i = (rule set b z).more + m in
+      let few : i ≤ k = omega (arith, e, l) in
+      let front : take i z ++ drop i x ≡ x = ap (λ w. w ++ drop i x) (sym (take-take i k z few)) ∙ take-append-drop i x in
+      let rest = bytes-drop i x (bytes-take k z a) in
+      let first = ap (rule set b) (sym front) ∙ same (drop i x) rest in
+      let then = ap (rule set b) (ap (λ w. w ++ by_end.more) (sym front)
+      ∙ append_assoc (take i z) (drop i x) by_end.more)
+      ∙ same (drop i x ++ by_end.more) (bytes-append (drop i x) by_end.more rest by_end.bytes) in
+      by_end.other (then ∙ sym first);
+}
+
+-- What the law asks of one sequence: its own bytes determine it, or it is not valid and a few more bytes do.
+abbrev pub IsDeterminedSoon : Rule → ℕ → ℕ → List ℕ → Type 0
+IsDeterminedSoon rule set b z = IsDeterminedWithin rule set b z 0
+    ⊎ (((rule set b z).kind ≡ Valid → ⊥) × HasBoundedLookahead rule set b z)
+
+pub lookahead_by : (rule : Rule) → ((set b : ℕ) (z : List ℕ) → IsDeterminedSoon rule set b z) → HasLookahead rule
+lookahead_by rule determined = record {
+  valid = λ set b z v. elim (determined set b z) [ inl t ↦ t | inr u ↦ absurd (u.0 v) ];
+  others = λ set b z. elim (determined set b z) [
+    | inl t ↦ inl (0, omega arith, looks_at_none rule set b z t)
+    | inr u ↦ u.1
+  ];
+}
+
+-- no sequence is longer than the bytes that are there
+pub within_by : (rule : Rule) → HasLookahead rule → (set b : ℕ) (z : List ℕ) → (rule set b z).more ≤ length z
+within_by rule h set b z = elim (h.others set b z) [ inl t ↦ (let w = t.2.told.there in omega arith) | inr e ↦ e.within ]
+
+same_head : (h k : Head) → h.more ≡ k.more → h.text ≡ k.text → h.kind ≡ k.kind → h.set ≡ k.set → h ≡ k
+same_head h k m t n s =
+    let made : ℕ → List ℕ → Kind → ℕ → Head = λ a b c d. record { more = a; text = b; kind = c; set = d } in
+    ap (λ a. made a h.text h.kind h.set) m ∙ ap (λ b. made k.more b h.kind h.set) t
+    ∙ ap (λ c. made k.more k.text c h.set) n ∙ ap (made k.more k.text k.kind) s
+
+tails : (a b : ℕ) (y z : List ℕ) → a ∷ y ≡ b ∷ z → y ≡ z
+tails a b y z e = cc
+
+pub same_by_sequence : (h k : Head) (b : ℕ) (y z : List ℕ) → h.more ≤ length y → k.more ≤ length z
+    → head_sequence h b y ≡ head_sequence k b z → h ≡ k
+same_by_sequence h k b y z m n same =
+    let t : take h.more y ≡ take k.more z = tails b b _ _ (ap (λ (s : Sequence). s.bytes) same) in
+    same_head h k (sym (length-take-le h.more y m) ∙ ap length t ∙ length-take-le k.more z n)
+    (ap (λ (s : Sequence). s.text) same) (ap (λ (s : Sequence). s.kind) same) (ap (λ (s : Sequence). s.set) same)
+
+-- Bytes that only the end of the input makes a sequence determine nothing.
+pub undetermined_by_end : (rule : Rule) (set b : ℕ) (z : List ℕ) → ((y : List ℕ) → (rule set b y).more ≤ length y)
+    → IsDeterminedByEnd rule set b z → IsUndetermined (λ y. sequences_of rule set (b ∷ (z ++ y)))
+undetermined_by_end rule set b z within by_end =
+    undetermined_by (λ y. sequences_of rule set (b ∷ (z ++ y))) [] by_end.more _ _ _ _ tt by_end.bytes
+    (ap (λ y. sequences_of rule set (b ∷ y)) (append-nil z) ∙ sequences_of-cons rule set b z)
+    (sequences_of-cons rule set b (z ++ by_end.more))
+    (λ e. by_end.other (same_by_sequence _ _ b (z ++ by_end.more) z (within (z ++ by_end.more)) (within z) (sym e)))

@@ -1,0 +1,201 @@
+-- A prefix determines the first sequences exactly if it contains them and their lookahead.
+use Rattle.std.proofs.Common.{◌≡◌, ℕ, ◌+◌, ◌-◌, ◌≤◌, ◌↔◌, zero, suc, List, [], ◌∷◌, ◌++◌, length, take, drop, refl, ap}
+use Rattle.std.proofs.Common.{◌∙◌, sym, subst, arith, append_assoc, inl, inr}
+use Rattle.std.proofs.lemmas.Bool.Decides.{leb_tells}
+use Rattle.std.proofs.lemmas.List.{length-take-le, take-append-le, take-take, take-append-drop, drop-append-le}
+use Rattle.std.proofs.lemmas.List.{drop-take, length-drop}
+use Rattle.enc_decoder.specs.Sequence.{Sequence}
+use Rattle.enc_decoder.specs.Segmentation.{Rule, Head, head_sequence, sequences_of}
+use Rattle.enc_decoder.specs.Remainder.{AreBytes, AreFirstSequences, Determines}
+use Rattle.enc_decoder.specs.RuleLaws.{IsDeterminedWithin, IsLookahead, IsDeterminedByEnd, HasLookahead}
+use Rattle.enc_decoder.specs.Lookahead.{CoverLookahead}
+use Rattle.enc_decoder.proofs.ByteLemmas.{bytes-append, bytes-drop}
+use Rattle.enc_decoder.proofs.SegmentationLemmas.{sequences_of-nil, sequences_of-cons}
+use Rattle.enc_decoder.proofs.FirstSequenceLemmas.{same_by_sequence, within_by}
+
+first_is : (s t : Sequence) (ss ts : List Sequence) → s ∷ ss ≡ t ∷ ts → s ≡ t
+first_is s t ss ts e = cc
+
+rest_is : (s t : Sequence) (ss ts : List Sequence) → s ∷ ss ≡ t ∷ ts → ss ≡ ts
+rest_is s t ss ts e = cc
+
+none_begin : (s : Sequence) (ss : List Sequence) → AreFirstSequences (s ∷ ss) [] → ⊥
+none_begin s ss first = let f : [] ≡ s ∷ (ss ++ first.0) = first.1 in cc
+
+-- the first k bytes without the first n
+pub left_of : (n k : ℕ) (z : List ℕ) → n ≤ k → drop n (take k z) ≡ take (k - n) (drop n z)
+left_of n k z h = ap (λ i. drop n (take i z)) (let e : k ≡ n + (k - n) = omega (arith, h) in e) ∙ drop-take n (k - n) z
+
+module _ (rule : Rule) (law : HasLookahead rule) where
+  module _ (set b : ℕ) (z : List ℕ) (s : Sequence) (ss rest : List Sequence)
+      (whole : sequences_of rule set (b ∷ z) ≡ (s ∷ ss) ++ rest) where
+    abbrev more : ℕ
+    more = (rule set b z).more
+
+    s_is : s ≡ head_sequence (rule set b z) b z
+    s_is = first_is _ _ _ _ (sym whole ∙ sequences_of-cons rule set b z)
+
+    following : sequences_of rule (rule set b z).set (drop more z) ≡ ss ++ rest
+    following = rest_is _ _ _ _ (sym (sequences_of-cons rule set b z) ∙ whole)
+
+    -- other bytes with the same first sequence have the same head
+    same_head : (y : List ℕ) → AreFirstSequences (s ∷ ss) (sequences_of rule set (b ∷ y)) → rule set b y ≡ rule set b z
+    same_head y g =
+        same_by_sequence (rule set b y) (rule set b z) b y z (within_by rule law set b y) (within_by rule law set b z)
+        (first_is _ _ _ _ (sym (sequences_of-cons rule set b y) ∙ g.1) ∙ s_is)
+
+    -- any bytes may follow the lookahead
+    still_determined : (n j : ℕ) → IsDeterminedWithin rule set b z n → more + n ≤ j → (y : List ℕ)
+        → rule set b (take j z ++ y) ≡ rule set b z
+    still_determined n j t l y =
+        let i = more + n in
+        ap (rule set b) (ap (λ x. x ++ y) (sym (take-append-drop i (take j z))
+        ∙ ap (λ x. x ++ drop i (take j z)) (take-take i j z l)) ∙ append_assoc (take i z) (drop i (take j z)) y)
+        ∙ t.same (drop i (take j z) ++ y)
+
+    -- then this sequence comes first, and the others are those of the rest
+    shown : (n j : ℕ) → IsDeterminedWithin rule set b z n → more + n ≤ j → j ≤ length z → (y : List ℕ)
+        → sequences_of rule set (b ∷ (take j z ++ y)) ≡ s ∷ sequences_of rule (rule set b z).set
+        (take (j - more) (drop more z) ++ y)
+    shown n j t contains w y =
+        let as_long : length (take j z) ≡ j = length-take-le j z w in
+        let e = still_determined n j t contains y in
+        sequences_of-cons rule set b (take j z ++ y)
+        ∙ ap (λ (h : Head). head_sequence h b (take j z ++ y) ∷ sequences_of rule h.set (drop h.more (take j z ++ y))) e
+        ∙ ap (λ x. record {
+          bytes = b ∷ x;
+          text = (rule set b z).text;
+          kind = (rule set b z).kind;
+          set =
+              (rule set b z).set;
+        } ∷ sequences_of rule (rule set b z).set (drop more (take j z ++ y)))
+        (take-append-le more (take j z) y (omega (arith, as_long, contains))
+        ∙ take-take more j z (omega (arith, contains)))
+        ∙ ap (λ (x : Sequence). x ∷ sequences_of rule (rule set b z).set (drop more (take j z ++ y))) (sym s_is)
+        ∙ ap (λ x. s ∷ sequences_of rule (rule set b z).set x)
+        (drop-append-le more (take j z) y (omega (arith, as_long, contains))
+        ∙ ap (λ x. x ++ y) (left_of more j z (omega (arith, contains))))
+
+    module _ (are_bytes : AreBytes z) (j : ℕ) (enough_bytes : j ≤ length z)
+        (determines : Determines (sequences_of rule set) (b ∷ take j z) (s ∷ ss)) where
+      not_by_end : IsDeterminedByEnd rule set b z → ⊥
+      not_by_end by_end =
+          let g = determines (drop j z ++ by_end.more)
+          (bytes-append (drop j z) by_end.more (bytes-drop j z are_bytes) by_end.bytes) in
+          let x : take j z ++ (drop j z ++ by_end.more) ≡ z ++ by_end.more =
+          sym (append_assoc (take j z) (drop j z) by_end.more)
+          ∙ ap (λ y. y ++ by_end.more) (take-append-drop j z) in
+          by_end.other (sym (ap (rule set b) x) ∙ same_head (take j z ++ (drop j z ++ by_end.more)) g)
+
+      -- they contain the sequence
+      own_bytes : more ≤ j
+      own_bytes =
+          let h = same_head (take j z ++ []) (determines [] tt) in
+          let k = within_by rule law set b (take j z ++ []) in
+          let m : (rule set b (take j z ++ [])).more ≡ more = ap (λ (t : Head). t.more) h in
+          let l : length (take j z ++ []) ≡ j = ap length (nil_after (take j z)) ∙ length-take-le j z enough_bytes in
+          omega (arith, k, m, l)
+        where
+          nil_after : (x : List ℕ) → x ++ [] ≡ x
+          nil_after [] = refl
+          nil_after (c ∷ x) = ap (λ y. c ∷ y) (nil_after x)
+
+      enough : (n : ℕ) → IsLookahead rule set b z n → more + n ≤ j
+      enough n t = elim (leb_tells (more + n) j) [
+        | inl l ↦ l.1
+        | inr f ↦ absurd (
+            let contains = own_bytes in let g = f.1 in
+            let i : more + (j - more) ≡ j = omega (arith, contains) in
+            t.least are_bytes (j - more) (omega (arith, contains, g))
+            (λ y e. ap (λ k. rule set b (take k z ++ y)) i ∙ same_head (take j z ++ y) (determines y e)))
+      ]
+
+      looked : (n : ℕ) × IsLookahead rule set b z n × (1 + more + n ≤ suc j)
+      looked = elim (law.others set b z) [
+        | inl found ↦ (found.0, found.2, (let l = enough found.0 found.2 in omega (arith, l)))
+        | inr e ↦ absurd (not_by_end e)
+      ]
+
+      rest_determined : Determines (sequences_of rule (rule set b z).set) (take (j - more) (drop more z)) ss
+      rest_determined = λ y e.
+          let first = determines y e in let lookahead = looked in (
+            first.0,
+            rest_is _ _ _ _ (sym (shown lookahead.0 j lookahead.1.told
+                (let l = lookahead.2 in omega (arith, l)) enough_bytes y) ∙ first.1),
+          )
+
+  pub reach_behind : (ss rest : List Sequence) (set k : ℕ) (z : List ℕ) → AreBytes z
+      → sequences_of rule set z ≡ ss ++ rest → k ≤ length z
+      → Determines (sequences_of rule set) (take k z) ss → CoverLookahead rule set z ss k
+  reach_behind [] rest set k z are_bytes whole l determines = tt
+  reach_behind (s ∷ ss) rest set k [] are_bytes whole l determines =
+      none_begin s ss (subst (AreFirstSequences (s ∷ ss)) (sequences_of-nil rule set) (rest, whole))
+  reach_behind (s ∷ ss) rest set zero (b ∷ z) are_bytes whole l determines =
+      absurd (none_begin s ss (subst (AreFirstSequences (s ∷ ss)) (sequences_of-nil rule set) (determines [] tt)))
+  reach_behind (s ∷ ss) rest set (suc j) (b ∷ z) are_bytes whole l determines =
+      let enough_bytes : j ≤ length z = omega (arith, l) in
+      let m = (rule set b z).more in
+      let contains = own_bytes set b z s ss rest whole are_bytes.1 j enough_bytes determines in (
+        looked set b z s ss rest whole are_bytes.1 j enough_bytes determines,
+        subst (CoverLookahead rule (rule set b z).set (drop m z) ss)
+            (let x : j - m ≡ suc j - (1 + m) = omega (arith, contains) in x)
+            (reach_behind ss rest (rule set b z).set (j - m) (drop m z) (bytes-drop m z are_bytes.1)
+            (following set b z s ss rest whole)
+            (let n = length-drop m z in omega (arith, n, enough_bytes, contains))
+            (rest_determined set b z s ss rest whole are_bytes.1 j enough_bytes determines)),
+      )
+
+  pub determine_if_behind : (ss rest : List Sequence) (set k : ℕ) (z : List ℕ) → sequences_of rule set z ≡ ss ++ rest
+      → k ≤ length z
+      → CoverLookahead rule set z ss k → Determines (sequences_of rule set) (take k z) ss
+  determine_if_behind [] rest set k z whole l covers = λ y a. (sequences_of rule set (take k z ++ y), refl)
+  determine_if_behind (s ∷ ss) rest set k [] whole l covers = absurd covers
+  determine_if_behind (s ∷ ss) rest set zero (b ∷ z) whole l covers = absurd (let f = covers.0.2 in omega (arith, f))
+  determine_if_behind (s ∷ ss) rest set (suc j) (b ∷ z) whole l covers =
+      let enough_bytes : j ≤ length z = omega (arith, l) in
+      let m = (rule set b z).more in
+      let t = covers.0.1.told in let contains = covers.0.2 in
+      let n = length-drop m z in
+      let x : suc j - (1 + m) ≡ j - m = omega (arith, contains) in
+      let d = determine_if_behind ss rest (rule set b z).set (j - m) (drop m z) (following set b z s ss rest whole)
+      (omega (arith, n, enough_bytes, contains))
+      (subst (CoverLookahead rule (rule set b z).set (drop m z) ss) x covers.1) in
+      λ y a. let first = d y a in (
+        first.0,
+        shown set b z s ss rest whole covers.0.0 j t (omega (arith, contains)) enough_bytes y
+            ∙ ap (λ ts. s ∷ ts) first.1,
+      )
+
+  -- The first k bytes of an input determine its first sequences exactly if they contain them and their lookahead.
+  pub determined_by : (ss rest : List Sequence) (set k : ℕ) (z : List ℕ) → AreBytes z
+      → sequences_of rule set z ≡ ss ++ rest → k ≤ length z
+      → Determines (sequences_of rule set) (take k z) ss ↔ CoverLookahead rule set z ss k
+  determined_by ss rest set k z a whole enough_bytes =
+      (reach_behind ss rest set k z a whole enough_bytes, determine_if_behind ss rest set k z whole enough_bytes)
+
+-- bytes determine it or only the end does, not both
+pub determined_not_by_end : (rule : Rule) (set b : ℕ) (z : List ℕ) (n : ℕ) → IsDeterminedWithin rule set b z n
+    → IsDeterminedByEnd rule set b z → ⊥
+determined_not_by_end rule set b z n t by_end =
+    let i = (rule set b z).more + n in
+    by_end.other (
+    ap (rule set b) (ap (λ x. x ++ by_end.more) (sym (take-append-drop i z))
+    ∙ append_assoc (take i z) (drop i z) by_end.more) ∙ t.same (drop i z ++ by_end.more)
+    )
+
+-- the lookahead is the least
+pub no_more_than : (rule : Rule) (set b : ℕ) (z : List ℕ) (n m : ℕ) → AreBytes z → IsLookahead rule set b z n
+    → IsDeterminedWithin rule set b z m → n ≤ m
+no_more_than rule set b z n m a l t = elim (leb_tells n m) [
+  | inl h ↦ h.1
+  | inr f ↦ absurd (l.least a m f.1 (λ y _. t.same y))
+]
+
+-- it is at most three
+pub at_most_three : (rule : Rule) → HasLookahead rule → (set b : ℕ) (z : List ℕ) (n : ℕ) → AreBytes z
+    → IsLookahead rule set b z n → n ≤ 3
+at_most_three rule law set b z n a lookahead = elim (law.others set b z) [
+  | inl found ↦ (let k = found.1 in let m = no_more_than rule set b z n found.0 a lookahead found.2.told in
+      omega (arith, k, m))
+  | inr e ↦ absurd (determined_not_by_end rule set b z n lookahead.told e)
+]

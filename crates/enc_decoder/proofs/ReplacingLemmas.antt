@@ -1,0 +1,116 @@
+-- Error mode "replacement" over an output: the loop that puts U+FFFD out for malformed sequences.
+use Rattle.std.proofs.Common.{◌≡◌, ℕ, ◌+◌, ◌-◌, ◌<◌, ◌≤◌, Bool, true, false, List, [], ◌++◌, length, take, drop, refl}
+use Rattle.std.proofs.Common.{ap, ◌∙◌, sym, arith, subst, nat_le, length-append, length-drop}
+use Rattle.std.proofs.Math.ListN.{length-take}
+use Rattle.std.proofs.lemmas.Bool.Decides.{nat_tests}
+use Rattle.enc_units.specs.declared.decoder_result.DecoderResult.{DecoderResult}
+use Rattle.enc_units.specs.declared.decoder_result.DecoderResult.TheVariants.{InputEmpty, OutputFull, Malformed}
+use Rattle.enc_units.specs.Output.{Output, with_appended}
+use Rattle.enc_decoder.specs.Sequence.{sequence_bytes}
+use Rattle.enc_decoder.specs.Remainder.{Remainder, AreBytes}
+use Rattle.enc_decoder.specs.Call.{RawDecoderCall, DecoderCallInto, Replacement, Fatal}
+use Rattle.enc_decoder.proofs.SequenceLemmas.{sequence_bytes-one}
+use Rattle.enc_units.proofs.OutputLemmas.{with_appended-nil, with_appended-with_appended, room_left}
+use Rattle.enc_decoder.proofs.SuccessiveCallLemmas as successive
+use Rattle.enc_decoder.proofs.SuccessiveCallLemmas.{Turned}
+
+-- how far the loop has come over an output
+pub record Turning (units_of : ℕ → List ℕ) (old : Remainder) (src : List ℕ) (last : Bool) (before after : Output)
+    (read : ℕ) (now : Remainder) (replaced : Bool) : Type 0 where
+  pub wrote : List ℕ
+  pub onto : after ≡ with_appended before wrote
+  pub turned : Turned units_of old src last before.room read now wrote replaced
+
+pub begin : (units_of : ℕ → List ℕ) (old : Remainder) (src : List ℕ) (last : Bool) (before : Output)
+    → Turning units_of old src last before before 0 old false
+begin units_of old src last before =
+    record {
+      wrote = [];
+      onto = sym (with_appended-nil before);
+      turned = successive.start units_of old src last before.room;
+    }
+
+fits_then : (n room : ℕ) → n ≤ room → nat_le n room ≡ true
+fits_then n room h = grind (arith, nat_tests)
+
+-- the bytes that are pending or unread
+at_hand : (old new : List ℕ) (src bytes next : List ℕ) (n : ℕ) → old ++ take n src ≡ (bytes ++ next) ++ new
+    → n ≤ length src → 0 < length next
+    → length new + (length src - n) < length old + length src
+at_hand old new src bytes next n e h s =
+    let f = ap length e in let g = length-append old (take n src) in let i = length-append
+    (bytes ++ next) new in let j = length-append bytes next in let k = length-take n src in
+    omega arith
+
+module _ (units_of : ℕ → List ℕ) (old : Remainder) (src : List ℕ) (bytes : AreBytes src) (last : Bool)
+    (before after : Output) (read : ℕ) (now : Remainder) (replaced : Bool)
+    (turning : Turning units_of old src last before after read now replaced) where
+  room_at : {result : DecoderResult} (new : Remainder) (n : ℕ) (more : List ℕ)
+      → RawDecoderCall units_of now new (drop read src) last (Fatal true) after.room result n more false
+      → RawDecoderCall units_of now new (drop read src) last (Fatal true) (before.room - length turning.wrote) result n
+      more
+      false
+  room_at {result} new n more c =
+      subst (λ r. RawDecoderCall units_of now new (drop read src) last (Fatal true) r result n more false)
+      (room_left before after turning.wrote turning.onto) c
+
+  onto_on : (then : Output) (more : List ℕ) → then ≡ with_appended after more
+      → then ≡ with_appended before (turning.wrote ++ more)
+  onto_on then more e =
+      e ∙ ap (λ o. with_appended o more) turning.onto ∙ with_appended-with_appended before turning.wrote more
+
+  pub empties : (new : Remainder) (n : ℕ) (then : Output) → DecoderCallInto units_of now new (drop read src) last
+      (Fatal true) after then InputEmpty n false
+      → DecoderCallInto units_of old new src last Replacement before then InputEmpty (read + n) replaced
+  empties new n then next_call = record {
+    wrote = turning.wrote ++ next_call.wrote;
+    onto = onto_on then next_call.wrote next_call.onto;
+    call =
+        successive.empties units_of old src bytes last before.room read now turning.wrote replaced turning.turned new
+        n
+        next_call.wrote (room_at new n next_call.wrote next_call.call);
+  }
+
+  pub fills : (new : Remainder) (n : ℕ) (then : Output) → DecoderCallInto units_of now new (drop read src) last
+      (Fatal true) after then OutputFull n false
+      → DecoderCallInto units_of old new src last Replacement before then OutputFull (read + n) replaced
+  fills new n then next_call = record {
+    wrote = turning.wrote ++ next_call.wrote;
+    onto = onto_on then next_call.wrote next_call.onto;
+    call = successive.fills units_of old src bytes last before.room read now turning.wrote replaced turning.turned new n
+        next_call.wrote (room_at new n next_call.wrote next_call.call);
+  }
+
+  module _ (new : Remainder) (n l a : ℕ) (then : Output)
+      (next_call : DecoderCallInto units_of now new (drop read src) last (Fatal true) after then (Malformed l a) n
+      false)
+    where
+      -- there is room for U+FFFD
+      pub fits : nat_le (length (units_of 0xFFFD)) then.room ≡ true
+      fits =
+          let e = room_left after then next_call.wrote next_call.onto in let f = ap length next_call.call.call.text in
+          let g =
+          next_call.call.call.stops.room_kept refl in
+          fits_then (length (units_of 0xFFFD)) then.room (omega arith)
+
+      pub replaces : (end : Output) → end ≡ with_appended then (units_of 0xFFFD)
+          → Turning units_of old src last before end (read + n) new true
+      replaces end e = record {
+        wrote = (turning.wrote ++ next_call.wrote) ++ units_of 0xFFFD;
+        onto = e ∙ ap (λ o. with_appended o (units_of 0xFFFD)) (onto_on then next_call.wrote next_call.onto)
+            ∙ with_appended-with_appended before (turning.wrote ++ next_call.wrote) (units_of 0xFFFD);
+        turned =
+            successive.replaces units_of old src bytes last before.room read now turning.wrote replaced turning.turned
+            new n l a next_call.wrote (room_at new n next_call.wrote next_call.call);
+      }
+
+      pub falls : length new.pending + (length src - (read + n)) < length now.pending + (length src - read)
+      falls =
+          let stopped = next_call.call.call.stops in
+          let e = ap (λ x. x ++ new.pending) (ap sequence_bytes stopped.then_next
+          ∙ sequence_bytes-one next_call.call.call.put stopped.next) in
+          let h = at_hand now.pending new.pending (drop read src) (sequence_bytes next_call.call.call.put)
+          stopped.next.bytes n (next_call.call.accounted ∙ e) next_call.call.call.within
+          (let f = stopped.not_empty in let g = stopped.len in omega arith) in
+          let i = length-drop read src in
+          omega (arith, turning.turned.within)

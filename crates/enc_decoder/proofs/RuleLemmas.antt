@@ -1,0 +1,96 @@
+-- What holds of each sequence of a rule.
+use Rattle.std.proofs.Common.{◌≡◌, ℕ, ◌<◌, ◌≤◌, zero, suc, Bool, true, false, cond, nat_lt, List, [], ◌∷◌, ◌++◌, length}
+use Rattle.std.proofs.Common.{refl, ap, sym, arith, subst}
+use Rattle.std.proofs.lemmas.List.{length-append}
+use Rattle.std.proofs.lemmas.Str.{length-encode, len_utf8_bounds}
+use Rattle.std.specs.Char.{encode_utf8}
+use Rattle.std.specs.Char.Escape.{encode_utf16}
+use Rattle.enc_units.specs.Output.{units_of_text}
+use Rattle.enc_decoder.specs.Sequence.{Sequence, sequence_text}
+use Rattle.enc_decoder.specs.Segmentation.{Rule, head_sequence, sequences_after, sequences_of}
+use Rattle.enc_decoder.specs.RuleLaws.{HasTexts, IsSmallText, HasSmallTexts}
+
+record IsOfRule (rule : Rule) (s : Sequence) : Type 0 where
+  set : ℕ
+  first : ℕ
+  following : List ℕ
+  is : s ≡ head_sequence (rule set first following) first following
+
+abbrev AreOfRule : Rule → List Sequence → Type 0
+AreOfRule rule [] = Unit {0}
+AreOfRule rule (s ∷ ss) = IsOfRule rule s × AreOfRule rule ss
+
+rest_of_rule : (rule : Rule) (set k : ℕ) (z : List ℕ) → AreOfRule rule (sequences_after rule set k z)
+unfolding sequences_after
+rest_of_rule rule set k [] = tt
+rest_of_rule rule set zero (b ∷ z) = (
+  record { set = set; first = b; following = z; is = refl },
+  rest_of_rule rule (rule set b z).set (rule set b z).more z,
+)
+rest_of_rule rule set (suc k) (b ∷ z) = rest_of_rule rule set k z
+
+one_of : (rule : Rule) (done : List Sequence) (s : Sequence) (rest : List Sequence)
+    → AreOfRule rule (done ++ s ∷ rest) → IsOfRule rule s
+one_of rule [] s rest all = all.0
+one_of rule (t ∷ done) s rest all = one_of rule done s rest all.1
+
+is_of_rule : (rule : Rule) (set : ℕ) (z : List ℕ) (done : List Sequence) (s : Sequence) (rest : List Sequence)
+    → sequences_of rule set z ≡ done ++ s ∷ rest → IsOfRule rule s
+is_of_rule rule set z done s rest e = one_of rule done s rest (subst (AreOfRule rule) e (rest_of_rule rule set 0 z))
+
+some_bytes : (rule : Rule) (s : Sequence) → IsOfRule rule s → 0 < length s.bytes
+some_bytes rule s h = let e = ap (λ (t : Sequence). length t.bytes) h.is in omega arith
+
+no_text : (rule : Rule) → HasTexts rule → (s : Sequence) (ss : List Sequence) → IsOfRule rule s
+    → sequence_text (s ∷ ss) ≡ [] → ⊥
+no_text rule has s ss of_rule e =
+    has of_rule.set of_rule.first of_rule.following
+    (front_nil (rule of_rule.set of_rule.first of_rule.following).text (sequence_text ss)
+    (subst (λ (t : Sequence). t.text ++ sequence_text ss ≡ []) of_rule.is e))
+  where
+    front_nil : (a b : List ℕ) → a ++ b ≡ [] → a ≡ []
+    front_nil [] b e = refl
+    front_nil (x ∷ a) b e = cc
+
+-- a sequence has a byte
+pub has_bytes : (rule : Rule) (set : ℕ) (z : List ℕ) (done : List Sequence) (s : Sequence) (rest : List Sequence) → sequences_of rule set z ≡ done ++ s ∷ rest → 0 < length s.bytes
+has_bytes rule set z done s rest e = some_bytes rule s (is_of_rule rule set z done s rest e)
+
+-- where each has a text, none is done without one
+pub none_without_text : (rule : Rule) → HasTexts rule → (set : ℕ) (z : List ℕ) (done rest : List Sequence) → sequences_of rule set z ≡ done ++ rest → sequence_text done ≡ [] → done ≡ []
+none_without_text rule has set z [] rest e t = refl
+none_without_text rule has set z (s ∷ done) rest e t =
+    absurd (no_text rule has s done (is_of_rule rule set z [] s (done ++ rest) e) t)
+
+-- where each has a small text, so has this one
+pub small_text : (rule : Rule) → HasSmallTexts rule → (set : ℕ) (z : List ℕ) (done : List Sequence) (s : Sequence) (rest : List Sequence) → sequences_of rule set z ≡ done ++ s ∷ rest
+    → IsSmallText s.text
+small_text rule small set z done s rest e =
+    let of_rule = is_of_rule rule set z done s rest e in
+    subst (λ (t : Sequence). IsSmallText t.text) (sym of_rule.is) (small of_rule.set of_rule.first of_rule.following)
+
+units_bounds : (c : ℕ) → (1 ≤ length (encode_utf8 c)) × (length (encode_utf8 c) ≤ 4)
+units_bounds c = rw length-encode (len_utf8_bounds c)
+
+pub utf_16_bounds : (c : ℕ) → (1 ≤ length (encode_utf16 c)) × (length (encode_utf16 c) ≤ 2)
+utf_16_bounds c = by_plane _ _ _ (nat_lt c 0x1_0000)
+  where
+    by_plane : (a b d : ℕ) (t : Bool) → (1 ≤ length (cond t (a ∷ []) (b ∷ d ∷ []))) × (length (cond t (a ∷ []) (b ∷ d ∷ [])) ≤ 2)
+    by_plane a b d true = (omega arith, omega arith)
+    by_plane a b d false = (omega arith, omega arith)
+
+-- one character is a small text, and so is none
+pub one_small : (c : ℕ) → IsSmallText (c ∷ [])
+one_small c =
+    let b = units_bounds c in let d = utf_16_bounds c in
+    record { utf_8 = omega (arith, length-append (encode_utf8 c) []); utf_16 = omega (arith, d.1, length-append (encode_utf16 c) []) }
+
+pub none_small : IsSmallText []
+none_small = record { utf_8 = omega arith; utf_16 = omega arith }
+
+-- a text without units is empty
+pub no_units : (text : List ℕ) → units_of_text encode_utf8 text ≡ [] → text ≡ []
+no_units [] e = refl
+no_units (c ∷ text) e =
+    let b = units_bounds c in
+    absurd (omega (arith, length-append (encode_utf8 c) (units_of_text encode_utf8 text), ap length e))

@@ -1,0 +1,437 @@
+-- A call of an inner decoder is a call of an outer one, whose input is shifted: after sequences that are done, after
+-- bytes that are dropped, or with held bytes in front.
+use Rattle.std.proofs.Common.{◌≡◌, ℕ, ◌+◌, ◌-◌, ◌<◌, ◌≤◌, Bool, true, false, List, [], ◌∷◌, ◌++◌, length, take, drop}
+use Rattle.std.proofs.Common.{refl, ap, ◌∙◌, sym, arith, append_assoc, ◌||◌, inl, inr, subst, ◌⊎◌}
+use Rattle.std.proofs.lemmas.Bool.{false≢true}
+use Rattle.std.proofs.lemmas.Bool.Decides.{nat_tests, leb_tells}
+use Rattle.std.proofs.lemmas.List.{append-nil, length-append}
+use Rattle.std.proofs.Math.ListN.{drop_of_length-le, length-take}
+use Rattle.enc_decoder.specs.declared.byte_codec.Kind.{Kind}
+use Rattle.enc_decoder.specs.declared.byte_codec.Kind.TheVariants as kind
+use Rattle.enc_units.specs.declared.decoder_result.DecoderResult.{DecoderResult}
+use Rattle.enc_units.specs.declared.decoder_result.DecoderResult.TheVariants.{InputEmpty, OutputFull, Malformed}
+use Rattle.enc_units.specs.Output.{AreScalars, units_of_text}
+use Rattle.enc_decoder.specs.Sequence.{Sequence, sequence_bytes, sequence_text, is_repeated_escape, any_malformed}
+use Rattle.enc_decoder.specs.Sequence.{set_after}
+use Rattle.enc_decoder.specs.Remainder.{Remainder, AreBytes, AreFirstSequences, Determines, AreDetermined}
+use Rattle.enc_decoder.specs.Call.{DecoderCall, DecodeErrorMode, AreReportedLens, ReadsToReported, is_replacement_mode}
+use Rattle.enc_decoder.proofs.SequenceLemmas.{sequence_bytes-one, units-append, any_malformed-append, scalars_of-append}
+use Rattle.enc_decoder.proofs.DeterminedLemmas.{begins_after}
+use Rattle.enc_decoder.proofs.ByteLemmas.{determines_by_more}
+use Rattle.enc_decoder.proofs.SuccessiveCallLemmas.{first_of}
+
+-- How the input of an inner decoder lies in that of an outer one. From `from` on, the outer one makes of its first n
+-- bytes the sequences done before and those that the inner one makes of its first n + more - less bytes. Less than
+-- `below` bytes determine no more of the outer one than the sequences done before.
+pub record Carries (old inner : Remainder) (src bytes : List ℕ) (last : Bool) (before : List Sequence)
+    (more less from below : ℕ) : Type 0 where
+  pub len : length src + more ≡ length bytes + less
+  pub near : from ≤ below
+  pub shift : less ≤ from + more
+  pub plain : (z : List ℕ) → (last ≡ true → z ≡ []) → old.sequences (src ++ z) ≡ before ++ inner.sequences (bytes ++ z)
+  pub by_prefix : (n : ℕ) → from ≤ n → n ≤ length src → (y : List ℕ)
+      → old.sequences (take n src ++ y) ≡ before ++ inner.sequences (take (n + more - less) bytes ++ y)
+  pub none_below : (n : ℕ) → n < below → (s : Sequence) (ss : List Sequence)
+      → Determines old.sequences (take n src) (before ++ s ∷ ss) → ⊥
+
+-- How many bytes the outer one has read, where the inner one has read n.
+pub record Reads (src : List ℕ) (more less from below n read : ℕ) : Type 0 where
+  pub within : read ≤ length src
+  pub there : n ≤ read + more - less
+  pub back : less ≤ read + more
+  pub soon : from ≤ read + 1
+  pub exact : (read ≡ 0) ⊎ ((read < below) ⊎ ((from ≤ read) × (read + more - less ≡ n)))
+  pub none : n ≡ 0 → (read ≡ 0) ⊎ (read < below)
+
+-- What the outer one is then, by what the inner one is, with `left` held bytes left.
+pub record Follows (old then new : Remainder) (src bytes : List ℕ) (last : Bool) (result : DecoderResult)
+    (before done : List Sequence) (left below n read : ℕ) : Type 0 where
+  pub after : (z : List ℕ) → (last ≡ true → z ≡ []) → then.sequences (drop n bytes ++ z)
+      ≡ new.sequences (drop read src ++ z)
+  pub set : new.set ≡ set_after old.set (before ++ done)
+  pub pending : length new.pending ≡ length then.pending + left
+  pub none_pending : last ≡ true → result ≡ InputEmpty → new.pending ≡ []
+  pub same : (new.pending ≡ then.pending) ⊎ ((read ≡ 0) ⊎ (read < below))
+
+-- What has been written before, so that the inner one has so much room.
+pub record Wrote (units_of : ℕ → List ℕ) (mode : DecodeErrorMode) (room room_left : ℕ) (before : List Sequence)
+    (wrote : List ℕ) (replaced : Bool) : Type 0 where
+  pub text : wrote ≡ units_of_text units_of (sequence_text before)
+  pub scalars : AreScalars (sequence_text before)
+  pub fits : length wrote ≤ room
+  pub at : room_left ≡ room - length wrote
+  pub flag : replaced ≡ any_malformed before
+  pub none : is_replacement_mode mode ≡ false → replaced ≡ false
+
+pub nothing_wrote : (units_of : ℕ → List ℕ) (mode : DecodeErrorMode) (room : ℕ)
+    → Wrote units_of mode room room [] [] false
+nothing_wrote units_of mode room = record {
+  text = refl;
+  scalars = refl;
+  fits = omega arith;
+  at = omega arith;
+  flag =
+      refl;
+  none = λ _. refl;
+}
+
+none_of_both : (a b : Bool) → a ≡ false → b ≡ false → (a || b) ≡ false
+none_of_both a b e f = ap (λ x. x || b) e ∙ f
+
+-- a sequence of one byte, and one more after it
+one_and_one : (k : Kind) (l a left : ℕ) → l ≡ 1 → a ≡ 0 → left ≡ 1 → AreReportedLens k l a
+    → AreReportedLens k l (a + left)
+one_and_one kind.Valid l a left e f g h = (omega arith, omega arith, omega arith)
+one_and_one kind.Skipped l a left e f g h = (omega arith, omega arith, omega arith)
+one_and_one kind.Malformed l a left e f g h = (omega arith, omega arith, omega arith)
+one_and_one kind.RepeatedEscape l a left e f g h = let i = h.0 in absurd (omega arith)
+
+is_six : (k : Kind) (l a : ℕ) → is_repeated_escape k ≡ true → AreReportedLens k l a → l + a ≡ 6
+is_six kind.Valid l a is_repeated lens = absurd (false≢true is_repeated)
+is_six kind.Skipped l a is_repeated lens = absurd (false≢true is_repeated)
+is_six kind.Malformed l a is_repeated lens = absurd (false≢true is_repeated)
+is_six kind.RepeatedEscape l a is_repeated lens = let f = lens.0 in let g = lens.1 in omega arith
+
+-- one number is at most another, or more
+pub most_or_more : (m n : ℕ) → (m ≤ n) ⊎ (n < m)
+most_or_more m n = grind (arith, nat_tests, leb_tells m n)
+
+module _ (units_of : ℕ → List ℕ) (old inner : Remainder) (src bytes : List ℕ) (are : AreBytes bytes) (last : Bool)
+    (mode : DecodeErrorMode) (room room_left : ℕ)
+    (before : List Sequence) (wrote : List ℕ) (had : Bool) (more less from below n read left : ℕ)
+    (then new : Remainder) (written : List ℕ) (replaced : Bool)
+    (carries : Carries old inner src bytes last before more less from below)
+    (reads : Reads src more less from below n read)
+    (before_call : Wrote units_of mode room room_left before wrote had) where
+  -- what the inner one determines, the outer one determines after the sequences done before
+  shown : (m k : ℕ) (ss : List Sequence) → from ≤ k → k ≤ length src → m ≤ k + more - less
+      → Determines inner.sequences (take m bytes) ss → Determines old.sequences (take k src) (before ++ ss)
+  shown m k ss h i j d z b =
+      let first = determines_by_more inner.sequences bytes m (k + more - less) ss are j d z b in
+      (first.0, carries.by_prefix k h i z ∙ ap (λ x. before ++ x) first.1 ∙ sym (append_assoc before ss first.0))
+
+  -- and the other way
+  hidden : (m k : ℕ) (ss : List Sequence) → from ≤ k → k ≤ length src → k + more - less ≡ m
+      → Determines old.sequences (take k src) (before ++ ss) → Determines inner.sequences (take m bytes) ss
+  hidden m k ss h i j d z b =
+      subst (λ x. AreFirstSequences ss (inner.sequences (take x bytes ++ z))) j
+      (begins_after before ss (inner.sequences (take (k + more - less) bytes ++ z))
+      (old.sequences (take k src ++ z)) (carries.by_prefix k h i z) (d z b))
+
+  unshown : (ts : List Sequence) → (x : Sequence) × (rest : List Sequence) × (ts ≡ x ∷ rest) → (k : ℕ) → k < below
+      → Determines old.sequences (take k src) (before ++ ts) → ⊥
+  unshown ts some k h d =
+      carries.none_below k h some.0 some.1 (subst (λ x. Determines old.sequences (take k src) (before ++ x)) some.2 d)
+
+  not_shown : (ts : List Sequence) → (x : Sequence) × (rest : List Sequence) × (ts ≡ x ∷ rest)
+      → (n ≡ 0) ⊎ (Determines inner.sequences (take n bytes) ts → ⊥) → (read ≡ 0)
+      ⊎ (Determines old.sequences (take read src) (before ++ ts) → ⊥)
+  not_shown ts some h = elim reads.exact [
+    | inl e ↦ inl e
+    | inr e ↦ elim e [
+      | inl i ↦ inr (unshown ts some read i)
+      | inr past_prefix ↦ elim h [
+        | inl j ↦ elim (reads.none j) [ inl k ↦ inl k | inr k ↦ inr (unshown ts some read k) ]
+        | inr j ↦ inr (λ d. j (hidden n read ts past_prefix.0 reads.within past_prefix.1 d))
+      ]
+    ]
+  ]
+
+  inner_reads : n ≤ length bytes
+  inner_reads = omega (arith, reads.there, reads.within, carries.len, reads.back)
+
+  more_to_read : read < length src → n < length bytes
+  more_to_read h = omega (arith, reads.there, carries.len, reads.back)
+
+  shown_next : (ts : List Sequence) → (n < length bytes → Determines inner.sequences (take (n + 1) bytes) ts)
+      → read < length src → Determines old.sequences (take (read + 1) src) (before ++ ts)
+  shown_next ts h i =
+      shown (n + 1) (read + 1) ts reads.soon (omega arith) (omega (arith, reads.there, reads.back)) (h (more_to_read i))
+
+  determined_on : (l : Bool) → ((z : List ℕ) → (l ≡ true → z ≡ []) → old.sequences (src ++ z) ≡ before
+      ++ inner.sequences (bytes ++ z))
+      → (ts : List Sequence) → AreDetermined l inner.sequences bytes ts → AreDetermined l old.sequences src
+      (before ++ ts)
+  determined_on true whole ts are_determined = (
+    are_determined.0,
+    ap old.sequences (sym (append-nil src)) ∙ whole [] (λ _. refl)
+        ∙ ap (λ x. before ++ inner.sequences x) (append-nil bytes) ∙ ap (λ x. before ++ x) are_determined.1
+        ∙ sym (append_assoc before ts are_determined.0),
+  )
+  determined_on false whole ts are_determined =
+      λ z b. let first = are_determined z b in (
+        first.0,
+        whole z (λ h. absurd (false≢true h)) ∙ ap (λ x. before ++ x) first.1
+            ∙ sym (append_assoc before ts first.0),
+      )
+
+  all_read : n ≡ length bytes → read ≡ length src
+  all_read e = omega (arith, reads.there, reads.within, carries.len, reads.back)
+
+  -- the text, the room and the flag
+
+  text_on : (ts : List Sequence) → written ≡ units_of_text units_of (sequence_text ts)
+      → wrote ++ written ≡ units_of_text units_of (sequence_text (before ++ ts))
+  text_on ts e =
+      ap (λ x. x ++ written) before_call.text ∙ ap (λ x. units_of_text units_of (sequence_text before) ++ x) e
+      ∙ sym (units-append units_of before ts)
+
+  fits_on : length written ≤ room_left → length (wrote ++ written) ≤ room
+  fits_on h = omega (arith, before_call.fits, before_call.at, length-append wrote written)
+
+  flag_on : (ts : List Sequence) → replaced ≡ any_malformed ts → (had || replaced) ≡ any_malformed (before ++ ts)
+  flag_on ts e =
+      ap (λ b. b || replaced) before_call.flag ∙ ap (λ b. any_malformed before || b) e
+      ∙ sym (any_malformed-append before ts)
+
+  length_on : (ts : List Sequence) → length (units_of_text units_of (sequence_text (before ++ ts)))
+      ≡ length wrote + length (units_of_text units_of (sequence_text ts))
+  length_on ts =
+      ap length (units-append units_of before ts) ∙ length-append (units_of_text units_of (sequence_text before))
+      (units_of_text units_of (sequence_text ts))
+      ∙ ap (λ x. length x + length (units_of_text units_of (sequence_text ts))) (sym before_call.text)
+
+  residual_on : {result : DecoderResult}
+      → (inner_call : DecoderCall units_of inner then bytes last mode room_left result n written replaced)
+      → Follows old then new src bytes last result before inner_call.done left below n read
+      → (z : List ℕ) → (last ≡ true → z ≡ []) → old.sequences (src ++ z) ≡ (before ++ inner_call.done) ++ new.sequences
+      (drop read src ++ z)
+  residual_on inner_call h z ends =
+      carries.plain z ends ∙ ap (λ x. before ++ x) (inner_call.residual z ends)
+      ∙ sym (append_assoc before inner_call.done (then.sequences (drop n bytes ++ z)))
+      ∙ ap (λ x. (before ++ inner_call.done) ++ x) (h.after z ends)
+
+  -- the inner one comes to the end of its input
+  pub carries_empty : (inner_call : DecoderCall units_of inner then bytes last mode room_left InputEmpty n written
+      replaced)
+      → Follows old then new src bytes last InputEmpty before inner_call.done left below n read
+      → (e : DecoderCall units_of old new src last mode room InputEmpty read (wrote ++ written) (had || replaced))
+      × (e.done ≡ before ++ inner_call.done)
+  carries_empty inner_call follows = (
+    record {
+      put = before ++ inner_call.put;
+      done = before ++ inner_call.done;
+      within = reads.within;
+      residual = residual_on inner_call follows;
+      set = follows.set;
+      text = text_on inner_call.put inner_call.text;
+      scalars = scalars_of-append before inner_call.put before_call.scalars inner_call.scalars;
+      fits = fits_on inner_call.fits;
+      flag = flag_on inner_call.put inner_call.flag;
+      none_replaced = λ is_fatal. none_of_both had replaced (before_call.none is_fatal)
+          (inner_call.none_replaced is_fatal);
+      stops = record {
+        only_put = ap (λ x. before ++ x) inner_call.stops.only_put;
+        all_read = all_read inner_call.stops.all_read;
+        none_determined = λ not_last s d. inner_call.stops.none_determined not_last s (λ z b.
+            begins_after before (inner_call.done ++ s ∷ []) (inner.sequences (bytes ++ z)) (old.sequences (src ++ z))
+            (carries.plain z (λ t. absurd (false≢true (sym not_last ∙ t))))
+            (subst (λ x. AreFirstSequences x (old.sequences (src ++ z))) (append_assoc before inner_call.done (s ∷ []))
+            (d z b)));
+        none_left = λ l.
+            ap (λ x. new.sequences (x ++ []))
+            (sym (drop_of_length-le src (let e = all_read inner_call.stops.all_read in omega arith)))
+            ∙ sym (follows.after [] (λ _. refl))
+            ∙ ap (λ x. then.sequences (x ++ []))
+            (drop_of_length-le bytes (let e = inner_call.stops.all_read in omega arith)) ∙ inner_call.stops.none_left l;
+        none_pending = λ l. follows.none_pending l refl;
+      };
+    },
+    refl,
+  )
+
+  -- the inner one stops for want of room
+  pub carries_full : (inner_call : DecoderCall units_of inner then bytes last mode room_left OutputFull n written
+      replaced)
+      → Follows old then new src bytes last OutputFull before inner_call.done left below n read
+      → (e : DecoderCall units_of old new src last mode room OutputFull read (wrote ++ written) (had || replaced))
+      × (e.done ≡ before ++ inner_call.done)
+  carries_full inner_call follows = (
+    record {
+      put = before ++ inner_call.put;
+      done = before ++ inner_call.done;
+      within = reads.within;
+      residual = residual_on inner_call follows;
+      set = follows.set;
+      text = text_on inner_call.put inner_call.text;
+      scalars = scalars_of-append before inner_call.put before_call.scalars inner_call.scalars;
+      fits = fits_on inner_call.fits;
+      flag = flag_on inner_call.put inner_call.flag;
+      none_replaced = λ is_fatal. none_of_both had replaced (before_call.none is_fatal)
+          (inner_call.none_replaced is_fatal);
+      stops = record {
+        only_put = ap (λ x. before ++ x) inner_call.stops.only_put;
+        next = inner_call.stops.next;
+        determined = regrouped (AreDetermined last old.sequences src)
+            (determined_on last carries.plain (inner_call.done ++ inner_call.stops.next ∷ [])
+            inner_call.stops.determined);
+        not_reported = inner_call.stops.not_reported;
+        full = let e = length_on inner_call.done in let i = inner_call.stops.full in let j = before_call.fits in
+            let k = before_call.at in omega arith;
+        reads = record {
+          not_shown = regrouped (λ x. (read ≡ 0) ⊎ (Determines old.sequences (take read src) x → ⊥))
+              (not_shown (inner_call.done ++ inner_call.stops.next ∷ [])
+              (first_of inner_call.done inner_call.stops.next)
+              inner_call.stops.reads.not_shown);
+          shown_next = λ i. regrouped (Determines old.sequences (take (read + 1) src))
+              (shown_next (inner_call.done ++ inner_call.stops.next ∷ []) inner_call.stops.reads.shown_next i);
+        };
+      };
+    },
+    refl,
+  )
+    where
+      regrouped : (P : List Sequence → Type 0) → P (before ++ (inner_call.done ++ inner_call.stops.next ∷ []))
+          → P ((before ++ inner_call.done) ++ inner_call.stops.next ∷ [])
+      regrouped P = subst P (sym (append_assoc before inner_call.done (inner_call.stops.next ∷ [])))
+
+  module _ (l a : ℕ) (inner_call : DecoderCall units_of inner then bytes last mode room_left (Malformed l a) n written
+      replaced) where
+    abbrev Accounted : Type 0
+    Accounted = (inner.pending ≡ []) × (inner.pending ++ take n bytes ≡ sequence_bytes inner_call.done ++ then.pending)
+
+    -- Where the inner one reports a malformed sequence: whether all bytes that it has read are read, or else fewer than
+    -- a repeated escape and the byte that shows it have; and whether held bytes are left.
+    abbrev Placed : Type 0
+    Placed = ((from ≤ read) ⊎ ((n ≤ 5) × Accounted)) × ((left ≡ 0) ⊎ ((left ≡ 1) × (n ≡ 1) × Accounted))
+
+    done_is : inner_call.done ≡ inner_call.put ++ inner_call.stops.next ∷ []
+    done_is = inner_call.stops.then_next
+
+    some : (x : Sequence) × (rest : List Sequence) × (inner_call.done ≡ x ∷ rest)
+    some = let begins = first_of inner_call.put inner_call.stops.next in (begins.0, begins.1, done_is ∙ begins.2)
+
+    few : Accounted → l + a ≤ n
+    few accounted =
+        let i = ap length accounted.1 in let j = ap length (ap (λ x. x ++ take n bytes) accounted.0) in let k =
+        length-take n bytes in
+        let m = length-append (sequence_bytes inner_call.done) then.pending in let o =
+        ap length (ap sequence_bytes done_is ∙ sequence_bytes-one inner_call.put inner_call.stops.next) in
+        let q = length-append (sequence_bytes inner_call.put) inner_call.stops.next.bytes in let r =
+        inner_call.stops.len in let t =
+        inner_call.stops.behind in
+        omega (arith, inner_reads)
+
+    bounds : Placed → AreReportedLens inner_call.stops.next.kind l (a + left)
+    bounds p = elim p.1 [
+      | inl e ↦ subst (AreReportedLens inner_call.stops.next.kind l) (let i : a ≡ a + left = omega arith in i)
+          inner_call.stops.bounds
+      | inr one_left ↦ let i = few one_left.2 in let j = inner_call.stops.not_empty in
+          one_and_one inner_call.stops.next.kind l a left (omega arith) (omega arith) one_left.0 inner_call.stops.bounds
+    ]
+
+    at_hand : Placed → is_repeated_escape inner_call.stops.next.kind ≡ true → from ≤ read
+    at_hand p r = elim p.0 [
+      | inl e ↦ e
+      | inr e ↦ let i = few e.1 in let j = is_six inner_call.stops.next.kind l a r inner_call.stops.bounds in
+          absurd (omega arith)
+    ]
+
+    -- how many bytes are read for it
+    reads_on : (late : Bool) → (late ≡ true → from ≤ read) → (new.pending ≡ then.pending)
+        ⊎ ((read ≡ 0) ⊎ (read < below))
+        → ReadsToReported late inner.sequences bytes inner_call.done n then.pending
+        → ReadsToReported late old.sequences src (before ++ inner_call.done) read new.pending
+    reads_on true h p reported = record {
+      not_shown = elim reads.exact [
+        | inl e ↦ inl e
+        | inr e ↦ elim e [
+          | inl i ↦ inr (unshown inner_call.done some (read - 1) (omega arith))
+          | inr i ↦ elim reported.not_shown [
+            | inl j ↦ elim (reads.none j) [
+              | inl k ↦ inl k
+              | inr k ↦ inr (unshown inner_call.done some (read - 1) (omega arith))
+            ]
+            | inr j ↦ elim (most_or_more read from) [
+              | inl k ↦ at_once k
+              | inr k ↦ one_less i j k
+            ]
+          ]
+        ]
+      ];
+      shown = shown n read inner_call.done (h refl) reads.within reads.there reported.shown;
+    }
+      where
+        at_once : read ≤ from → (read ≡ 0) ⊎ (Determines old.sequences (take (read - 1) src) (before ++ inner_call.done)
+            → ⊥)
+        at_once k =
+            elim (most_or_more read 0) [
+              | inl e ↦ inl (omega arith)
+              | inr e ↦ inr (unshown inner_call.done some (read - 1) (omega (arith, carries.near)))
+            ]
+
+        one_less : (from ≤ read) × (read + more - less ≡ n)
+            → (Determines inner.sequences (take (n - 1) bytes) inner_call.done → ⊥) → from < read
+            → (read ≡ 0) ⊎ (Determines old.sequences (take (read - 1) src) (before ++ inner_call.done) → ⊥)
+        one_less i j k =
+            inr (λ d. j (hidden (n - 1) (read - 1) inner_call.done (omega arith) (omega (arith, reads.within))
+            (let e = i.1 in omega (arith, carries.shift)) d))
+    reads_on false h p reported = record {
+      not_shown = elim p [
+        | inl e ↦ elim reported.not_shown [ inl i ↦ inl (e ∙ i) | inr i ↦ inr (not_shown inner_call.done some i) ]
+        | inr e ↦ inr (elim e [ inl i ↦ inl i | inr i ↦ inr (unshown inner_call.done some read i) ])
+      ];
+      shown_next = shown_next inner_call.done reported.shown_next;
+    }
+
+    -- it is reported
+    pub carries_malformed : Follows old then new src bytes last (Malformed l a) before inner_call.done left below n read
+        → Placed
+        → (e : DecoderCall units_of old new src last mode room (Malformed l (a + left)) read (wrote ++ written)
+        (had || replaced)) × (e.done ≡ before ++ inner_call.done)
+    carries_malformed follows placed = (
+      record {
+        put = before ++ inner_call.put;
+        done = before ++ inner_call.done;
+        within = reads.within;
+        residual = residual_on inner_call follows;
+        set = follows.set;
+        text = text_on inner_call.put inner_call.text;
+        scalars = scalars_of-append before inner_call.put before_call.scalars inner_call.scalars;
+        fits = fits_on inner_call.fits;
+        flag = flag_on inner_call.put inner_call.flag;
+        none_replaced = λ is_fatal. none_of_both had replaced (before_call.none is_fatal)
+            (inner_call.none_replaced is_fatal);
+        stops = record {
+          next = inner_call.stops.next;
+          then_next = ap (λ x. before ++ x) done_is
+              ∙ sym (append_assoc before inner_call.put (inner_call.stops.next ∷ []));
+          malformed = inner_call.stops.malformed;
+          replacement = inner_call.stops.replacement;
+          not_replaced = inner_call.stops.not_replaced;
+          len = inner_call.stops.len;
+          not_empty = inner_call.stops.not_empty;
+          behind = let e = follows.pending in let i = inner_call.stops.behind in omega arith;
+          bounds = bounds placed;
+          room_kept = λ k. let e = length_on inner_call.put in let i = inner_call.stops.room_kept k in
+              let j = before_call.fits in let m = before_call.at in omega arith;
+          determined = determined_on last carries.plain inner_call.done inner_call.stops.determined;
+          none_behind = none_after;
+          reads = reads_on (is_repeated_escape inner_call.stops.next.kind) (at_hand placed) follows.same
+              inner_call.stops.reads;
+        };
+      },
+      refl,
+    )
+      where
+        hides : (s : Sequence) → (Determines old.sequences (take read src) (before ++ (inner_call.done ++ s ∷ [])) → ⊥)
+            → Determines old.sequences (take read src) ((before ++ inner_call.done) ++ s ∷ []) → ⊥
+        hides s h d =
+            h (subst (Determines old.sequences (take read src)) (append_assoc before inner_call.done (s ∷ [])) d)
+
+        none_after : (read ≡ 0) ⊎ ((s : Sequence) → Determines old.sequences (take read src)
+            ((before ++ inner_call.done) ++ s ∷ []) → ⊥)
+        none_after = elim reads.exact [
+          | inl e ↦ inl e
+          | inr e ↦ elim e [
+            | inl i ↦ inr (λ s. hides s (unshown (inner_call.done ++ s ∷ []) (first_of inner_call.done s) read i))
+            | inr past_prefix ↦ elim inner_call.stops.none_behind [
+              | inl j ↦ elim (reads.none j) [
+                | inl k ↦ inl k
+                | inr k ↦ inr (λ s. hides s (unshown (inner_call.done ++ s ∷ []) (first_of inner_call.done s) read k))
+              ]
+              | inr j ↦ inr (λ s. hides s (λ d. j s
+                  (hidden n read (inner_call.done ++ s ∷ []) past_prefix.0 reads.within past_prefix.1 d)))
+            ]
+          ]
+        ]

@@ -1,0 +1,31 @@
+use Rattle.std.proofs.Common.{refl, ◌∙◌}
+use Rattle.enc_decoder.proofs.ByteLemmas.{bytes_of_slice}
+use Rattle.enc_decoder.proofs.ReplacingLemmas.{begin, empties, fills, fits, replaces, falls}
+use Rattle.enc_decoder.proofs.raw_decoder.RawDecoder.decode_replacing.Goals as goal
+
+pub loop-out-init : goal.loop-out-init
+loop-out-init g c = record { turning = begin _ _ _ _ _; rule = refl; formulas = refl }
+
+pub returns-in-InputEmpty-clause-call : goal.returns-in-InputEmpty-clause-call
+returns-in-InputEmpty-clause-call g c = empties _ _ _ (bytes_of_slice _ c.type_inv.src) _ _ _ _ _ _ c.loop-out.invariant.turning _ _ _
+    (rw (c.split_at.ensures.back, c.in-InputEmpty.is) at c.decode-result.ensures.call)
+
+pub returns-in-OutputFull-clause-call : goal.returns-in-OutputFull-clause-call
+returns-in-OutputFull-clause-call g c = fills _ _ _ (bytes_of_slice _ c.type_inv.src) _ _ _ _ _ _ c.loop-out.invariant.turning _ _ _
+    (rw (c.split_at.ensures.back, c.in-OutputFull.is) at c.decode-result.ensures.call)
+
+pub loop-out-smaller : goal.loop-out-smaller
+loop-out-smaller g c =
+    let call = rw (c.split_at.ensures.back, c.in-Malformed.is) at c.decode-result.ensures.call in
+    falls _ _ _ (bytes_of_slice _ c.type_inv.src) _ _ _ _ _ _ c.loop-out.invariant.turning _ _ _ _ _ call
+
+pub loop-out-preserved : goal.loop-out-preserved
+loop-out-preserved g c =
+    let call = rw (c.split_at.ensures.back, c.in-Malformed.is) at c.decode-result.ensures.call in
+    let room = fits _ _ _ (bytes_of_slice _ c.type_inv.src) _ _ _ _ _ _ c.loop-out.invariant.turning _ _ _ _ _ call in
+    record {
+      turning = replaces _ _ _ (bytes_of_slice _ c.type_inv.src) _ _ _ _ _ _ c.loop-out.invariant.turning _ _ _ _ _ call _
+          (c.put.ensures.written (c.put.ensures.fits ∙ room));
+      rule = c.decode-result.ensures.rule ∙ c.loop-out.invariant.rule;
+      formulas = c.decode-result.ensures.formulas ∙ c.loop-out.invariant.formulas;
+    }

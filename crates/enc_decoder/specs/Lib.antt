@@ -1,0 +1,15 @@
+pub mod Sequence
+pub mod Segmentation
+pub mod Remainder
+pub mod Call
+pub mod CodecState
+pub mod CodecLaw
+pub mod RuleLaws
+pub mod Pending
+pub mod Taking
+pub mod Latin1
+pub mod Lengths
+pub mod Need
+pub mod Lookahead
+pub mod Replacing
+pub mod Converting

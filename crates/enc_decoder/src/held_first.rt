@@ -1,0 +1,119 @@
+//! A codec's call over held bytes and those that follow them.
+
+ghost use Rattle.std.specs.Prelude.{◌≡◌, ℕ, ◌+◌, ◌-◌, ◌≤◌, ◌++◌, length};
+ghost use Rattle.enc_decoder.specs.CodecState.{remainder_of};
+ghost use Rattle.enc_decoder.specs.Call.{DecoderCallInto, reaches_end as ends};
+ghost use Rattle.enc_decoder.specs.Converting.{PrefixedCallInto, ReadsHeldFirst, shifted_result};
+ghost use Rattle.enc_decoder.specs.Replacing.{decode_error_mode};
+
+use crate::RawDecoder;
+use enc_units::{DecoderResult, Units};
+
+/// The result of a conversion.
+#[derive(Clone, Copy)]
+pub struct Converted {
+    /// Why it stopped.
+    pub result: DecoderResult,
+    /// The number of held bytes not read.
+    pub left: usize,
+    /// The number of other bytes read.
+    pub read: usize,
+    /// Whether a malformed sequence was replaced.
+    pub replaced: bool,
+}
+
+/// Decodes until all is read, the next sequence does not fit, or, without replacement, one is
+/// malformed.
+fn decode_any<D: RawDecoder, U: Units>(
+    codec: &mut D,
+    src: &[u8],
+    out: &mut U,
+    last: bool,
+    replace: bool,
+) -> (DecoderResult, usize, bool)
+    ensures call { DecoderCallInto U.units_of (remainder_of (D.state codec.old)) (remainder_of (D.state codec.new)) src.now last
+        (decode_error_mode replace) (U.output out.old) (U.output out.new) result.0 result.1
+        result.2 }
+    ensures rule { (D.state codec.new).rule ≡ (D.state codec.old).rule }
+    ensures formulas { D.formulas codec.new ≡ D.formulas codec.old }
+{
+    if replace {
+        return codec.decode_replacing(src, out, last);
+    }
+    let (stop, read) = codec.decode(src, out, last, false);
+    (stop, read, false)
+}
+
+/// Decodes the held bytes and then those of `src`, as if they came together. Takes no memory.
+pub fn convert<D: RawDecoder, U: Units>(
+    codec: &mut D,
+    held: &[u8],
+    src: &[u8],
+    out: &mut U,
+    last: bool,
+    replace: bool,
+) -> Converted
+    ensures call { PrefixedCallInto U.units_of (remainder_of (D.state codec.old)) (remainder_of (D.state codec.new)) (held.now ++ src.now) last
+        (decode_error_mode replace) (U.output out.old) (U.output out.new) result.result (length held.now - result.left + result.read) result.replaced }
+    ensures reads { ReadsHeldFirst held.now src.now result.left result.read }
+    ensures rule { (D.state codec.new).rule ≡ (D.state codec.old).rule }
+    ensures formulas { D.formulas codec.new ≡ D.formulas codec.old }
+{
+    if held.is_empty() {
+        let (result, read, replaced) = decode_any(codec, src, out, last, replace);
+        return Converted {
+            result,
+            left: 0,
+            read,
+            replaced,
+        };
+    }
+    if src.is_empty() {
+        let (result, given, replaced) = decode_any(codec, held, out, last, replace);
+        return Converted {
+            result,
+            left: held.len() - given,
+            read: 0,
+            replaced,
+        };
+    }
+    let (result, given, replaced) = decode_any(codec, held, out, false, replace);
+    if result != DecoderResult::InputEmpty {
+        return Converted {
+            result,
+            left: held.len() - given,
+            read: 0,
+            replaced,
+        };
+    }
+    let (result, read, also) = decode_any(codec, src, out, last, replace);
+    Converted {
+        result,
+        left: 0,
+        read,
+        replaced: replaced | also,
+    }
+}
+
+/// Returns whether a call has reached the end of the input.
+pub fn reaches_end(last: bool, stop: DecoderResult) -> bool
+    ensures { result ≡ ends last stop }
+{
+    match stop {
+        DecoderResult::InputEmpty => last,
+        DecoderResult::OutputFull => false,
+        DecoderResult::Malformed(_, _) => false,
+    }
+}
+
+/// Returns the same result, if `held` bytes more are held after those of the codec.
+pub fn shift_malformed(stop: DecoderResult, held: usize) -> DecoderResult
+    requires few { (l a : ℕ) → stop ≡ DecoderResult.Malformed l a → a + held ≤ 255 }
+    ensures { result ≡ shifted_result stop held }
+{
+    match stop {
+        DecoderResult::InputEmpty => stop,
+        DecoderResult::OutputFull => stop,
+        DecoderResult::Malformed(len, behind) => DecoderResult::Malformed(len, behind + held as u8),
+    }
+}

@@ -1,0 +1,19 @@
+//! The contract of every decoder, the loop over the bytes of a call that keeps it for every codec,
+//! and calls over held bytes and the bytes that follow them.
+#![tactic(auto)]
+
+mod byte_codec;
+mod held_first;
+mod latin1;
+mod machine;
+mod pending;
+mod raw_decoder;
+mod text_lengths;
+
+pub use byte_codec::{ByteCodec, Emission, HandlerResult, Kind, Text};
+pub use held_first::{Converted, convert, reaches_end, shift_malformed};
+pub use latin1::latin1_up_to;
+pub use machine::{report_or_run, run};
+pub use pending::Pending;
+pub use raw_decoder::RawDecoder;
+pub use text_lengths::TextLengths;

@@ -1,0 +1,226 @@
+//! The loop over the bytes of a call, for every codec and every output.
+
+ghost use Rattle.std.specs.Prelude.{◌≡◌, ◌-◌, ◌<◌, ◌≤◌, Bool, true, false, length, nat_le, IsTrue, IsFalse};
+ghost use Rattle.enc_units.specs.Output.{AreScalars, with_appended, units_of_text};
+ghost use Rattle.enc_decoder.specs.CodecState.{remainder_of};
+ghost use Rattle.enc_decoder.specs.CodecLaw.{IsNextEvent, text_chars, lone_fault};
+ghost use Rattle.enc_decoder.specs.declared.machine.NextEvent.TheVariants as comings;
+ghost use Rattle.enc_decoder.specs.Call.{DecoderCallInto, Fatal};
+ghost use Rattle.enc_decoder.specs.Need.{MeetsDecodeNeed};
+ghost use Rattle.enc_decoder.specs.Sequence.{is_malformed as malformed_kind};
+
+use crate::byte_codec::{ByteCodec, Emission, HandlerResult, Kind, Text};
+use enc_units::{DecoderResult, Units};
+
+/// The next event of a call.
+#[derive(Clone, Copy)]
+enum NextEvent<C> {
+    /// Nothing: more input is needed.
+    NeedsInput,
+    /// A byte that is held.
+    HoldsByte(C),
+    /// A sequence.
+    Emits(Emission<C>),
+}
+
+/// Returns whether the next byte is malformed by itself.
+#[inline(always)]
+fn is_at_lone_fault<C: ByteCodec>(codec: C, src: &[u8], read: usize) -> bool
+    ensures { IsTrue result → (last : Bool) → IsNextEvent C.state codec src.now read last (comings.Emits (lone_fault codec)) }
+{
+    read < src.len() && codec.is_lone_fault(src[read])
+}
+
+/// Returns the next event: a sequence that the pending bytes, the next byte or the end determines,
+/// a byte to hold, or nothing.
+fn what_comes<C: ByteCodec>(codec: C, src: &[u8], read: usize, last: bool) -> NextEvent<C>
+    requires { read ≤ length src.now }
+    ensures { IsNextEvent C.state codec src.now read last result }
+{
+    if is_at_lone_fault(codec, src, read) {
+        return NextEvent::Emits(Emission {
+            text: Text::One('\u{FFFD}'),
+            kind: Kind::Malformed,
+            len: 1,
+            takes_byte: true,
+            next: codec,
+        });
+    }
+    match codec.ready() {
+        Some(shown) => NextEvent::Emits(shown),
+        None => {
+            if read < src.len() {
+                match codec.next_step(src[read]) {
+                    HandlerResult::Continue(next) => NextEvent::HoldsByte(next),
+                    HandlerResult::Emit(shown) => NextEvent::Emits(shown),
+                }
+            } else if last {
+                match codec.at_end() {
+                    Some(shown) => NextEvent::Emits(shown),
+                    None => NextEvent::NeedsInput,
+                }
+            } else {
+                NextEvent::NeedsInput
+            }
+        }
+    }
+}
+
+/// Returns the number of code units of a text.
+fn width<U: Units>(text: Text) -> usize
+    ensures { result ≡ length (units_of_text U.units_of (text_chars text)) }
+{
+    match text {
+        Text::Nothing => 0,
+        Text::One(first) => U::width(first),
+        Text::Two(first, second) => U::width(first) + U::width(second),
+    }
+}
+
+/// Writes a text and returns true, or writes nothing and returns false if it does not fit.
+#[inline(always)]
+fn put_text<U: Units>(out: &mut U, text: Text) -> bool
+    ensures fits { result ≡ nat_le (length (units_of_text U.units_of (text_chars text))) (U.output out.old).room }
+    ensures scalars { IsTrue result → AreScalars (text_chars text) }
+    ensures written { IsTrue result → U.output out.new ≡ with_appended (U.output out.old) (units_of_text U.units_of (text_chars text)) }
+    ensures unchanged { IsFalse result → U.output out.new ≡ U.output out.old }
+{
+    if width::<U>(text) > out.room() {
+        return false;
+    }
+    match text {
+        Text::Nothing => true,
+        Text::One(first) => out.put(first),
+        Text::Two(first, second) => out.put(first) && out.put(second),
+    }
+}
+
+/// Writes the text of a sequence and returns true, or writes nothing and returns false if it is
+/// malformed or does not fit.
+#[inline(always)]
+fn put_out<U: Units>(out: &mut U, kind: Kind, text: Text) -> bool
+    ensures valid { IsTrue result → malformed_kind kind ≡ false }
+    ensures scalars { IsTrue result → AreScalars (text_chars text) }
+    ensures fits { IsTrue result → nat_le (length (units_of_text U.units_of (text_chars text))) (U.output out.old).room ≡ true }
+    ensures written { IsTrue result → U.output out.new ≡ with_appended (U.output out.old) (units_of_text U.units_of (text_chars text)) }
+    ensures full { IsFalse result → malformed_kind kind ≡ false →
+        nat_le (length (units_of_text U.units_of (text_chars text))) (U.output out.old).room
+        ≡ false }
+    ensures unchanged { IsFalse result → U.output out.new ≡ U.output out.old }
+{
+    if kind.is_malformed() {
+        return false;
+    }
+    put_text(out, text)
+}
+
+/// Returns whether a sequence is to be reported: it is malformed, and U+FFFD fits or `fault_room`
+/// is false.
+fn is_reported<U: Units>(out: &U, kind: Kind, fault_room: bool) -> bool
+    ensures malformed { IsTrue result → malformed_kind kind ≡ true }
+    ensures room { IsTrue result → fault_room ≡ true → length (U.units_of 0xFFFD) ≤ (U.output out.now).room }
+    ensures asked { IsFalse result → malformed_kind kind ≡ true → fault_room ≡ true }
+    ensures full { IsFalse result → malformed_kind kind ≡ true → (U.output out.now).room < length (U.units_of 0xFFFD) }
+{
+    if !kind.is_malformed() {
+        return false;
+    }
+    if !fault_room {
+        return true;
+    }
+    out.room() >= U::width('\u{FFFD}')
+}
+
+/// Decodes by a codec that takes one byte at a time: the loop of every decoder's call.
+///
+/// It stops when all input is read, the next sequence does not fit, or one is malformed. With
+/// `fault_room` a malformed sequence is reported only if U+FFFD fits, and otherwise the output is
+/// full. Takes no memory.
+pub fn run<C: ByteCodec, U: Units>(
+    codec: &mut C,
+    src: &[u8],
+    out: &mut U,
+    last: bool,
+    fault_room: bool,
+) -> (DecoderResult, usize)
+    ensures call { DecoderCallInto U.units_of (remainder_of (C.state codec.old)) (remainder_of (C.state codec.new)) src.now last
+        (Fatal fault_room) (U.output out.old) (U.output out.new) result.0 result.1 false }
+    ensures rule { (C.state codec.new).rule ≡ (C.state codec.old).rule }
+    ensures need { MeetsDecodeNeed U.units_of (Fatal fault_room) (remainder_of (C.state codec.old)) (remainder_of (C.state codec.new)) src.now last
+        (U.output out.old).room result.0 result.1 ((U.output out.old).room - (U.output out.new).room) }
+{
+    let mut state = *codec;
+    let mut read = 0;
+    loop {
+        let (_, rest) = src.split_at(read);
+        let (ahead, taken) = state.take_run(rest, out);
+        state = ahead;
+        read += taken;
+        let shown = match what_comes(state, src, read, last) {
+            NextEvent::NeedsInput => {
+                *codec = state;
+                return (DecoderResult::InputEmpty, read);
+            }
+            NextEvent::HoldsByte(next) => {
+                state = next;
+                read += 1;
+                continue;
+            }
+            NextEvent::Emits(shown) => shown,
+        };
+        let end = if shown.takes_byte { read + 1 } else { read };
+        if is_reported(out, shown.kind, fault_room) {
+            *codec = shown.next;
+            return (DecoderResult::Malformed(shown.len, shown.next.held()), end);
+        }
+        if !put_out(out, shown.kind, shown.text) {
+            *codec = state;
+            return (DecoderResult::OutputFull, read);
+        }
+        state = shown.next;
+        read = end;
+    }
+}
+
+/// Does the same, as a function of its own, so that the loop that calls it stays small.
+#[inline(never)]
+fn run_apart<C: ByteCodec, U: Units>(
+    codec: &mut C,
+    src: &[u8],
+    out: &mut U,
+    last: bool,
+    fault_room: bool,
+) -> (DecoderResult, usize)
+    ensures call { DecoderCallInto U.units_of (remainder_of (C.state codec.old)) (remainder_of (C.state codec.new)) src.now last
+        (Fatal fault_room) (U.output out.old) (U.output out.new) result.0 result.1 false }
+    ensures rule { (C.state codec.new).rule ≡ (C.state codec.old).rule }
+    ensures need { MeetsDecodeNeed U.units_of (Fatal fault_room) (remainder_of (C.state codec.old)) (remainder_of (C.state codec.new)) src.now last
+        (U.output out.old).room result.0 result.1 ((U.output out.old).room - (U.output out.new).room) }
+{
+    run(codec, src, out, last, fault_room)
+}
+
+/// Does the same for a codec whose runs are long code.
+///
+/// It reports a first byte that is malformed by itself at once, and leaves all else to a function
+/// of its own.
+#[inline(always)]
+pub fn report_or_run<C: ByteCodec, U: Units>(
+    codec: &mut C,
+    src: &[u8],
+    out: &mut U,
+    last: bool,
+    fault_room: bool,
+) -> (DecoderResult, usize)
+    ensures call { DecoderCallInto U.units_of (remainder_of (C.state codec.old)) (remainder_of (C.state codec.new)) src.now last
+        (Fatal fault_room) (U.output out.old) (U.output out.new) result.0 result.1 false }
+    ensures rule { (C.state codec.new).rule ≡ (C.state codec.old).rule }
+    ensures need { MeetsDecodeNeed U.units_of (Fatal fault_room) (remainder_of (C.state codec.old)) (remainder_of (C.state codec.new)) src.now last
+        (U.output out.old).room result.0 result.1 ((U.output out.old).room - (U.output out.new).room) }
+{
+    let state = *codec;
+    if is_at_lone_fault(state, src, 0) && is_reported(out, Kind::Malformed, fault_room) {
+        return (DecoderResult::Malformed(1, state.held()), 1);
+    }
+    run_apart(codec, src, out, last, fault_room)
+}

@@ -1,0 +1,145 @@
+-- Characters of ISO-2022-JP are pieces, and a run may begin with an escape sequence.
+use Rattle.std.proofs.Common.{◌≡◌, ℕ, ◌+◌, ◌<◌, true, false, eqb, Option, Some, None, List, [], ◌∷◌, ◌++◌, length, take}
+use Rattle.std.proofs.Common.{drop, get_or, refl, ap, ◌∙◌, sym, subst, arith, append_assoc, length-drop, take-add}
+use Rattle.std.proofs.Common.{drop-cons, inl, inr}
+use Rattle.std.proofs.lemmas.List.{take-append-drop}
+use Rattle.std.specs.Option.{IfSome}
+use Rattle.enc_units.specs.Output.{Output}
+use Rattle.enc_units.specs.Pieces.{PutsPieces}
+use Rattle.enc_decoder.specs.declared.byte_codec.Kind.TheVariants.{Skipped}
+use Rattle.enc_decoder_iso_2022_jp.specs.declared.iso_2022_jp.CharacterSet.{CharacterSet}
+use Rattle.enc_decoder_iso_2022_jp.specs.declared.iso_2022_jp.CharacterSet.TheVariants.{Ascii, Roman, Katakana, Jis0208}
+use Rattle.enc_decoder_iso_2022_jp.specs.declared.iso_2022_jp.Intermediate.{Intermediate}
+use Rattle.enc_decoder_iso_2022_jp.specs.declared.iso_2022_jp.Escape.{Escape}
+use Rattle.enc_decoder_iso_2022_jp.specs.declared.iso_2022_jp.Escape.TheVariants.{ToAscii, ToRoman, ToKatakana}
+use Rattle.enc_decoder_iso_2022_jp.specs.declared.iso_2022_jp.Escape.TheVariants.{ToJis0208Of1978, ToJis0208Of1983}
+use Rattle.enc_decoder.specs.Sequence.{Sequence}
+use Rattle.enc_decoder.specs.Segmentation.{sequences_of}
+use Rattle.enc_decoder_iso_2022_jp.specs.Iso2022Jp.{set_number, designated_set, is_lead_byte, one_byte_char}
+use Rattle.enc_decoder_iso_2022_jp.specs.Iso2022Jp.{two_byte_char, iso_2022_jp_rule as jp_rule}
+use Rattle.enc_decoder_iso_2022_jp.specs.Iso2022JpState.{Iso2022JpState, state_with_held, intermediate_byte}
+use Rattle.enc_decoder_iso_2022_jp.specs.Iso2022JpState.{escape_bytes, escape_set, bytes_of_held, StandsAlone}
+use Rattle.enc_decoder_iso_2022_jp.specs.Iso2022JpState.{iso_2022_jp_state as jp_state}
+use Rattle.enc_decoder.specs.Taking.{TakesRun, IsWholeChar}
+use Rattle.enc_decoder.proofs.SegmentationLemmas.{sequences_of-head}
+use Rattle.enc_decoder.proofs.TakingLemmas.{front}
+use Rattle.enc_decoder.proofs.PieceLemmas.{takes_pieces, three_of}
+use Rattle.enc_decoder.proofs.FirstSequenceLemmas.{true_or_false}
+use Rattle.enc_decoder_iso_2022_jp.proofs.Iso2022JpLemmas.{skipped_escape}
+use Rattle.enc_decoder_iso_2022_jp.proofs.Iso2022JpRule.{is_escape_byte, other_front}
+use Rattle.enc_decoder_iso_2022_jp.proofs.Iso2022JpComes.{alone, pair}
+
+-- 1B is no character, and ends none
+
+none_alone : (s : CharacterSet) → one_byte_char s 0x1B ≡ None
+unfolding one_byte_char
+none_alone Ascii = refl
+none_alone Roman = refl
+none_alone Katakana = refl
+none_alone Jis0208 = refl
+
+none_after : (lead : ℕ) → two_byte_char lead 0x1B ≡ None
+unfolding two_byte_char
+none_after lead = refl
+
+none_some : (c : ℕ) → None ≡ Some c → ⊥
+none_some c e = cc
+
+other_alone : (s : CharacterSet) (b c : ℕ) → one_byte_char s b ≡ Some c → eqb b 0x1B ≡ false
+other_alone s b c e = elim (true_or_false (eqb b 0x1B)) [
+  | inl t ↦ absurd (none_some c (sym (none_alone s) ∙ ap (one_byte_char s) (sym (is_escape_byte b t)) ∙ e))
+  | inr n ↦ n
+]
+
+other_after : (lead b c : ℕ) → two_byte_char lead b ≡ Some c → eqb b 0x1B ≡ false
+other_after lead b c e = elim (true_or_false (eqb b 0x1B)) [
+  | inl t ↦ absurd (none_some c (sym (none_after lead) ∙ ap (two_byte_char lead) (sym (is_escape_byte b t)) ∙ e))
+  | inr n ↦ n
+]
+
+-- a byte that is a character, and two
+
+pub alone_piece : (s : CharacterSet) (b c : ℕ) → one_byte_char s b ≡ Some c → is_lead_byte s b ≡ false
+    → IsWholeChar jp_rule (set_number s) (b ∷ []) c
+alone_piece s b c is_char l y =
+    sequences_of-head jp_rule (set_number s) b y _ (alone s b (Some c) (sym is_char) l (other_alone s b c is_char) y)
+
+pub pair_piece : (s : CharacterSet) (lead b c : ℕ) → two_byte_char lead b ≡ Some c → is_lead_byte s lead ≡ true
+    → IsWholeChar jp_rule (set_number s) (lead ∷ b ∷ []) c
+pair_piece s lead b c is_char l y =
+    sequences_of-head jp_rule (set_number s) lead (b ∷ y) _
+    (pair s lead b (Some c) (sym is_char) l (other_after lead b c is_char) y)
+
+-- an escape sequence, and the bytes after it
+
+abbrev skipped : Escape → Sequence
+skipped e = record { bytes = escape_bytes e; text = []; kind = Skipped; set = set_number (escape_set e) }
+
+three_first : (e : Escape) (z : List ℕ) → (take 3 (escape_bytes e ++ z) ≡ escape_bytes e)
+    × (drop 3 (escape_bytes e ++ z) ≡ z)
+three_first ToAscii z = (refl, refl)
+three_first ToRoman z = (refl, refl)
+three_first ToKatakana z = (refl, refl)
+three_first ToJis0208Of1978 z = (refl, refl)
+three_first ToJis0208Of1983 z = (refl, refl)
+
+-- the escape sequence of three bytes in front, if they are one
+pub stands_alone : (src : List ℕ) (i : Intermediate) (found : Option Escape) → 3 < length src → get_or src 0 0 ≡ 0x1B
+    → get_or src 1 0 ≡ intermediate_byte i
+    → eqb (get_or src 3 0) 0x1B ≡ false → IfSome found (λ e. escape_bytes e ≡ 0x1B ∷ intermediate_byte i ∷ get_or src 2
+    0 ∷ [])
+    → IfSome found (λ e. StandsAlone src e)
+stands_alone src i None l first second other s = tt
+stands_alone src i (Some e) l first second other s =
+    let names_set : get_or src 0 0 ∷ get_or src 1 0 ∷ get_or src 2 0 ∷ [] ≡ escape_bytes e =
+    rw (first, second) (sym s) in
+    record {
+      byte = get_or src 3 0;
+      rest = drop 4 src;
+      bytes = sym (take-append-drop 3 src) ∙ ap (λ x. x ++ drop 3 src) (three_of src 0 (omega arith) ∙ names_set)
+          ∙ ap (λ x. escape_bytes e ++ x) (drop-cons src 3 0 l);
+      other = other;
+    }
+
+after_escape : (units_of : ℕ → List ℕ) (s : CharacterSet) (e : Escape) (n : Iso2022JpState) (src : List ℕ) (more : ℕ)
+    (before after : Output)
+    → StandsAlone src e → 0 < more → TakesRun units_of jp_state (state_with_held (escape_set e) None) n
+    (drop 3 src) more before after
+    → TakesRun units_of jp_state (state_with_held s None) n src (3 + more) before after
+after_escape units_of s e n src more before after is_alone some taken =
+    let three = ap (take 3) is_alone.bytes ∙ (three_first e (is_alone.byte ∷ is_alone.rest)).0 in
+    let begins = front more (drop 3 src) is_alone.byte is_alone.rest some
+    (ap (drop 3) is_alone.bytes ∙ (three_first e (is_alone.byte ∷ is_alone.rest)).1) in
+    let bytes = take more (drop 3 src) in
+    record {
+      taken = skipped e ∷ taken.taken;
+      within = omega (arith, some, taken.within, length-drop 3 src);
+      bytes = ap (λ z. escape_bytes e ++ z) taken.bytes ∙ ap (λ x. x ++ bytes) (sym three) ∙ sym (take-add 3 more src);
+      first = λ y. ap (sequences_of jp_rule (set_number s)) (ap (λ x. x ++ y) (take-add 3 more src)
+          ∙ append_assoc (take 3 src) bytes y
+          ∙ ap (λ x. x ++ (bytes ++ y)) three)
+          ∙ skipped_escape (set_number s) e (bytes ++ y)
+          (ap (λ x. designated_set (x ++ y)) begins.1 ∙ other_front is_alone.byte (begins.0 ++ y) is_alone.other)
+          ∙ ap (λ ss. skipped e ∷ ss) (taken.first y);
+      behind = taken.behind;
+      none_malformed = taken.none_malformed;
+      scalars = taken.scalars;
+      fits = taken.fits;
+      written = taken.written;
+      none_pending = λ _. refl;
+      none_taken = λ z. absurd (omega arith);
+    }
+
+-- An escape sequence is taken with the pieces after it.
+pub takes_escape : (units_of : ℕ → List ℕ) (c n : Iso2022JpState) (e : Escape) (src rest : List ℕ) (more : ℕ)
+    (before after : Output)
+    → c.held ≡ None → n ≡ state_with_held (escape_set e) None → rest ≡ drop 3 src → StandsAlone src e → 0 < more
+    → PutsPieces units_of (IsWholeChar jp_rule (set_number n.set)) before after rest more
+    → TakesRun units_of jp_state c n src (3 + more) before after
+takes_escape units_of c n e src rest more before after held next back a h p =
+    let t = takes_pieces units_of jp_state n rest more before after (ap (λ (s : Iso2022JpState). bytes_of_held s.held)
+    next) p in
+    let u = subst (λ (m : Iso2022JpState). TakesRun units_of jp_state m n rest more before after) next t in
+    subst (λ o. TakesRun units_of jp_state (state_with_held c.set o) n src (3 + more) before after) (sym held)
+    (after_escape units_of c.set e n src more before after a h
+    (subst (λ z. TakesRun units_of jp_state (state_with_held (escape_set e) None) n z more before after) back u))

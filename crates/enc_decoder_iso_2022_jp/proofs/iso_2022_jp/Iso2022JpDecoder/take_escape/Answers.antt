@@ -1,0 +1,11 @@
+use Rattle.std.proofs.Common.{None, ◌∙◌, ap, arith}
+use Rattle.enc_decoder_iso_2022_jp.specs.Iso2022JpState.{state_with_held}
+use Rattle.enc_decoder_iso_2022_jp.proofs.Iso2022JpPieces.{takes_escape}
+use Rattle.enc_decoder_iso_2022_jp.proofs.iso_2022_jp.Iso2022JpDecoder.take_escape.Goals as goal
+
+pub returns-clause-run : goal.returns-clause-run
+returns-clause-run g c =
+    takes_escape g.U.Units.units_of c.args.self c.with_held-next.result c.in-Some.escape _ _ _ _ _ c.requires
+    (c.with_held-next.ensures ∙ ap (λ s. state_with_held s None) c.set.ensures) c.split_at.ensures.back
+    c.in-Some.ensures
+    (omega (arith, c.if-taken-eq0.false)) c.put_pieces-taken.ensures

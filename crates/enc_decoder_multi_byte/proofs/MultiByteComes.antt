@@ -1,0 +1,180 @@
+-- Legacy multi-byte encodings: what pending bytes and the next byte show.
+use Rattle.std.proofs.Common.{◌≡◌, ℕ, ◌+◌, ◌-◌, ◌<◌, ◌≤◌, Bool, true, false, nat_lt, List, [], ◌∷◌, ◌++◌, length, take}
+use Rattle.std.proofs.Common.{drop, refl, ap, ◌∙◌, sym, arith, append-nil, append_assoc, Option, Some, None, IfSome}
+use Rattle.std.proofs.Common.{IsNone}
+use Rattle.std.proofs.lemmas.List.{length-append, length-drop, take-append-le, drop-append-le, take-append-drop}
+use Rattle.std.proofs.lemmas.List.{length-take-le}
+use Rattle.std.proofs.lemmas.Bool.Decides.{nat_tests}
+use Rattle.std.proofs.Math.Seq.{take-length, drop-length}
+use Rattle.std.proofs.Math.ListN.{drop_of_length-le}
+use Rattle.enc_decoder.specs.declared.byte_codec.Kind.{Kind}
+use Rattle.enc_decoder.specs.declared.byte_codec.Kind.TheVariants.{Malformed}
+use Rattle.enc_decoder.specs.declared.byte_codec.Text.{Text}
+use Rattle.enc_decoder.specs.declared.byte_codec.Text.TheVariants.{One as Character}
+use Rattle.enc_decoder.specs.declared.pending.Pending.{Pending}
+use Rattle.enc_decoder.specs.declared.pending.Pending.TheVariants.{Nothing, One, Two, Three}
+use Rattle.enc_decoder.specs.Pending.{bytes_of_pending, first_byte}
+use Rattle.enc_decoder.specs.declared.byte_codec.Emission.{Emission}
+use Rattle.enc_decoder.specs.declared.byte_codec.HandlerResult.TheVariants.{Continue, Emit}
+use Rattle.enc_decoder_multi_byte.specs.declared.multi_byte.Prefix.{Prefix}
+use Rattle.enc_decoder_multi_byte.specs.declared.multi_byte.Prefix.TheVariants.{Incomplete}
+use Rattle.enc_decoder.specs.Segmentation.{sequences_of}
+use Rattle.enc_decoder.specs.CodecState.{CodecState}
+use Rattle.enc_decoder.specs.CodecLaw.{text_chars, IsNextSequence, HandlesByte, IsNextOfPending, IsNextAtEnd}
+use Rattle.enc_decoder_multi_byte.specs.MultiByte.{multi_byte_rule, multi_byte_state, AreIncomplete, ArePrefixes}
+use Rattle.enc_decoder.proofs.SegmentationLemmas.{sequences_of-head}
+use Rattle.enc_decoder.proofs.EmissionLemmas.{shows_with, shows_at, shows_before}
+use Rattle.enc_decoder_multi_byte.proofs.MultiByteLemmas.{one_more, Settles, settled_first, all_malformed}
+use Rattle.enc_decoder_multi_byte.proofs.MultiByteRule.{undetermined}
+
+-- three bytes at most are pending
+pub at_most_three : (p : Pending) → length (bytes_of_pending p) ≤ 3
+at_most_three Nothing = omega arith
+at_most_three (One a) = omega arith
+at_most_three (Two a b) = omega arith
+at_most_three (Three a b c) = omega arith
+
+pub some_pending : (p : Pending) → (p ≡ Nothing → ⊥) → 0 < length (bytes_of_pending p)
+some_pending Nothing n = absurd (n refl)
+some_pending (One a) n = omega arith
+some_pending (Two a b) n = omega arith
+some_pending (Three a b c) n = omega arith
+
+-- the first of some bytes, and the others
+pub first_and_rest : (z : List ℕ) (a : ℕ) → first_byte z ≡ Some a → z ≡ a ∷ drop 1 z
+first_and_rest [] a e = cc
+first_and_rest (b ∷ z) a e = cc
+
+module _ (prefix : List ℕ → Prefix) (laws : ArePrefixes prefix) {C : Type 0} (state : C → CodecState) (c next : C)
+    (p : List ℕ) (now : state c ≡ multi_byte_state prefix p) where
+  rule_stays : (q : List ℕ) → state next ≡ multi_byte_state prefix q → (state next).rule ≡ (state c).rule
+  rule_stays q then = ap (λ (s : CodecState). s.rule) then ∙ sym (ap (λ (s : CodecState). s.rule) now)
+
+  -- the pending bytes show what the first of them are
+  pub shows_pending : (may_follow : List ℕ → Type 0) (w : List ℕ) (x : ℕ) (rest : List ℕ) (n len : ℕ) (text : Text) (kind : Kind)
+      → p ≡ w ++ x ∷ rest → AreIncomplete prefix [] w → Settles prefix (w ++ x ∷ []) n text kind → length p ≤ 3 → len ≡ n
+      → state next ≡ multi_byte_state prefix (drop n p)
+      → IsNextSequence state c may_follow []
+      (record { text = text; kind = kind; len = len; takes_byte = false; next = next })
+  shows_pending may_follow w x rest n len text kind parts u settles l m then =
+      let front_and_rest : p ≡ (w ++ x ∷ []) ++ rest = parts ∙ sym (append_assoc w (x ∷ []) rest) in
+      let lengths : length p ≡ length (w ++ x ∷ []) + length rest =
+      ap length front_and_rest ∙ length-append (w ++ x ∷ []) rest in
+      let t : take n p ≡ take n (w ++ x ∷ []) = ap (take n) front_and_rest
+      ∙ take-append-le n (w ++ x ∷ []) rest settles.own in
+      let d : drop n p ≡ drop n (w ++ x ∷ []) ++ rest = ap (drop n) front_and_rest
+      ∙ drop-append-le n (w ++ x ∷ []) rest settles.own in
+      let g : length (take n p) ≡ n = length-take-le n p (omega (arith, lengths, settles.own)) in
+      let h : length (drop n p) ≤ 3 = omega (arith, length-drop n p) in
+      shows_before state c next text kind len may_follow (take n p) (rule_stays _ then)
+      (ap (λ (s : CodecState). s.pending) now ∙ sym (take-append-drop n p) ∙ ap (λ y. take n p ++ y) (sym (ap (λ (s : CodecState). s.pending) then)))
+      (m ∙ sym g) (omega (arith, settles.some)) settles.no_escape
+      (λ b. (
+        settles.replaced b,
+        (let i = ap (λ (s : CodecState). length s.pending) then in
+            (omega (arith, lengths, settles.own), omega arith, omega (arith, lengths, settles.own))),
+      ))
+      (λ y _. rw (now, then)
+      (ap (λ z. sequences_of (multi_byte_rule prefix) 0 (z ++ y)) parts
+      ∙ ap (sequences_of (multi_byte_rule prefix) 0) (append_assoc w (x ∷ rest) y)
+      ∙ settled_first prefix 0 w x (rest ++ y) n text kind u settles
+      ∙ ap (λ b. record { bytes = b; text = text_chars text; kind = kind; set = 0 } ∷ sequences_of (multi_byte_rule prefix) 0 (drop n (w ++ x ∷ []) ++ (rest ++ y))) (sym t)
+      ∙ ap (λ z. record { bytes = take n p; text = text_chars text; kind = kind; set = 0 } ∷ sequences_of (multi_byte_rule prefix) 0 z)
+      (sym (append_assoc (drop n (w ++ x ∷ [])) rest y) ∙ ap (λ z. z ++ y) (sym d))))
+
+  -- the byte after them is the last of a sequence
+  pub shows_byte_with : (b n len : ℕ) (text : Text) (kind : Kind) → AreIncomplete prefix [] p → Settles prefix (p ++ b ∷ []) n text kind
+      → length p ≤ 3 → length p < n → len ≡ n → state next ≡ multi_byte_state prefix []
+      → HandlesByte state c b (Emit (record { text = text; kind = kind; len = len; takes_byte = true; next = next }))
+  shows_byte_with b n len text kind u settles l k m then =
+      let one_longer : length (p ++ b ∷ []) ≡ length p + 1 = length-append p (b ∷ []) in
+      let is_all : n ≡ length (p ++ b ∷ []) = omega (arith, settles.own, one_longer) in
+      let t : take n (p ++ b ∷ []) ≡ p ++ b ∷ [] = ap (λ i. take i (p ++ b ∷ [])) is_all ∙ take-length (p ++ b ∷ []) in
+      let d : drop n (p ++ b ∷ []) ≡ [] = drop_of_length-le (p ++ b ∷ []) (omega arith) in
+      shows_with state c next text kind len b (rule_stays _ then) (ap (λ (s : CodecState). s.pending) then)
+      (m ∙ is_all ∙ one_longer ∙ ap (λ (s : CodecState). length s.pending + 1) (sym now)) settles.no_escape
+      (λ i. (settles.replaced i, omega (arith, one_longer)))
+      (λ z. rw (now, then)
+      (settled_first prefix 0 p b z n text kind u settles
+      ∙ ap (λ y. record { bytes = y; text = text_chars text; kind = kind; set = 0 } ∷ sequences_of (multi_byte_rule prefix) 0 (drop n (p ++ b ∷ []) ++ z)) t
+      ∙ ap (λ y. record { bytes = p ++ b ∷ []; text = text_chars text; kind = kind; set = 0 } ∷ sequences_of (multi_byte_rule prefix) 0 (y ++ z)) d))
+
+  -- the byte after them shows that the first of them are malformed, and is not one of those
+  pub shows_byte_before : (b n len : ℕ) (text : Text) (kind : Kind) → AreIncomplete prefix [] p → Settles prefix (p ++ b ∷ []) n text kind
+      → length p ≤ 3 → n ≤ length p → len ≡ n → state next ≡ multi_byte_state prefix (drop n p)
+      → HandlesByte state c b (Emit (record { text = text; kind = kind; len = len; takes_byte = false; next = next }))
+  shows_byte_before b n len text kind u settles l is_pending m then =
+      let t : take n (p ++ b ∷ []) ≡ take n p = take-append-le n p (b ∷ []) is_pending in
+      let d : drop n (p ++ b ∷ []) ≡ drop n p ++ b ∷ [] = drop-append-le n p (b ∷ []) is_pending in
+      let g : length (take n p) ≡ n = length-take-le n p is_pending in
+      let h : length (drop n p) ≤ 3 = omega (arith, length-drop n p) in
+      shows_at state c next text kind len b (take n p) (rule_stays _ then)
+      (ap (λ (s : CodecState). s.pending) now ∙ sym (take-append-drop n p) ∙ ap (λ y. take n p ++ y) (sym (ap (λ (s : CodecState). s.pending) then)))
+      (m ∙ sym g) (omega (arith, settles.some)) settles.no_escape
+      (λ i. (
+        settles.replaced i,
+        (let j = ap (λ (s : CodecState). length s.pending) then in
+            (omega arith, omega arith, omega (arith, length-drop n p))),
+      ))
+      (λ z. rw (now, then)
+      (settled_first prefix 0 p b z n text kind u settles
+      ∙ ap (λ y. record { bytes = y; text = text_chars text; kind = kind; set = 0 } ∷ sequences_of (multi_byte_rule prefix) 0 (drop n (p ++ b ∷ []) ++ z)) t
+      ∙ ap (λ y. record { bytes = take n p; text = text_chars text; kind = kind; set = 0 } ∷ sequences_of (multi_byte_rule prefix) 0 y)
+      (ap (λ y. y ++ z) d ∙ append_assoc (drop n p) (b ∷ []) z)))
+
+  -- it shows one or the other
+  pub shows_byte : (b n len : ℕ) (text : Text) (kind : Kind) (takes : Bool) → takes ≡ nat_lt (length p) n
+      → AreIncomplete prefix [] p → Settles prefix (p ++ b ∷ []) n text kind → length p ≤ 3 → len ≡ n
+      → state next ≡ multi_byte_state prefix (drop n p)
+      → HandlesByte state c b (Emit (record { text = text; kind = kind; len = len; takes_byte = takes; next = next }))
+  shows_byte b n len text kind true e are_incomplete settles few is_length then =
+      let k : length p < n = grind (arith, nat_tests) in
+      shows_byte_with b n len text kind are_incomplete settles few k is_length
+      (then ∙ ap (multi_byte_state prefix) (drop_of_length-le p (omega arith)))
+  shows_byte b n len text kind false e are_incomplete settles few is_length then =
+      shows_byte_before b n len text kind are_incomplete settles few (grind (arith, nat_tests)) is_length then
+
+  -- it is held
+  pub waits : (b : ℕ) → AreIncomplete prefix [] p → prefix (p ++ b ∷ []) ≡ Incomplete → state next ≡ multi_byte_state prefix (p ++ b ∷ [])
+      → HandlesByte state c b (Continue next)
+  waits b u e then = (
+    then ∙ ap (λ (s : CodecState). record s { pending = s.pending ++ b ∷ [] }) (sym now),
+    undetermined prefix laws (state next) (p ++ b ∷ []) then (one_more prefix [] p b u e),
+  )
+
+  -- what they show by themselves, unless all of them are incomplete
+  pub ready_by : (r : Option (Emission C)) → IfSome r (λ shown. IsNextOfPending state c (Some shown)) → (IsNone r → AreIncomplete prefix [] p)
+      → IsNextOfPending state c r
+  ready_by None h u = undetermined prefix laws (state c) p now (u refl)
+  ready_by (Some shown) h u = h
+
+  -- the end of the input leaves all of them malformed
+  pub left_over : (len : ℕ) → AreIncomplete prefix [] p → 0 < length p → length p ≤ 3 → len ≡ length p → state next ≡ multi_byte_state prefix []
+      → IsNextAtEnd state c (Some (record { text = Character 0xFFFD; kind = Malformed; len = len; takes_byte = false; next = next }))
+  left_over len u s l m then = (
+    shows_before state c next (Character 0xFFFD) Malformed len _ p (rule_stays _ then)
+        (ap (λ (s : CodecState). s.pending) now ∙ sym (append-nil p) ∙ ap (λ y. p ++ y) (sym (ap (λ (s : CodecState). s.pending) then)))
+        m (omega arith) refl
+        (λ _. (refl, (let j = ap (λ (s : CodecState). length s.pending) then in (omega arith, omega arith, omega arith))))
+        (λ y ends. rw (now, then)
+        (ap (λ z. sequences_of (multi_byte_rule prefix) 0 (p ++ z)) ends
+        ∙ ap (sequences_of (multi_byte_rule prefix) 0) (append-nil p) ∙ malformed_first p u s
+        ∙ ap (λ z. record {
+          bytes = p;
+          text = 0xFFFD ∷ [];
+          kind = Malformed;
+          set = 0;
+        } ∷ sequences_of (multi_byte_rule prefix) 0 z) (sym ends))),
+    refl,
+  )
+    where
+      malformed_first : (p : List ℕ) → AreIncomplete prefix [] p → 0 < length p
+          → sequences_of (multi_byte_rule prefix) 0 p
+          ≡ record { bytes = p; text = 0xFFFD ∷ []; kind = Malformed; set = 0 } ∷ sequences_of (multi_byte_rule prefix) 0 []
+      malformed_first [] u s = absurd (omega arith)
+      malformed_first (a ∷ w) u s =
+          let m : length (a ∷ w) - 1 ≡ length w = omega arith in
+          sequences_of-head (multi_byte_rule prefix) 0 a w _ (all_malformed prefix 0 a w u)
+          ∙ ap (λ i. record { bytes = a ∷ take i w; text = 0xFFFD ∷ []; kind = Malformed; set = 0 } ∷ sequences_of (multi_byte_rule prefix) 0 (drop i w)) m
+          ∙ ap (λ y. record { bytes = a ∷ y; text = 0xFFFD ∷ []; kind = Malformed; set = 0 } ∷ sequences_of (multi_byte_rule prefix) 0 (drop (length w) w)) (take-length w)
+          ∙ ap (λ y. record { bytes = a ∷ w; text = 0xFFFD ∷ []; kind = Malformed; set = 0 } ∷ sequences_of (multi_byte_rule prefix) 0 y) (drop-length w)

@@ -1,0 +1,11 @@
+use Rattle.std.proofs.Common.{refl}
+use Rattle.enc_decoder.specs.Pending.{bytes_of_pending}
+use Rattle.enc_decoder_multi_byte.specs.MultiByte.{multi_byte_state}
+use Rattle.enc_decoder_multi_byte.proofs.MultiByteComes.{ready_by}
+use Rattle.enc_decoder_multi_byte.proofs.multi_byte.MultiByteDecoderByteCodec.ready.Goals as goal
+
+pub returns : goal.returns
+returns g c =
+    ready_by g.E.MultiByte.prefix c.laws.ensures
+    (λ d. multi_byte_state g.E.MultiByte.prefix (bytes_of_pending d.pending))
+    c.args.self c.args.self _ refl _ c.shown_first.ensures.shown c.shown_first.ensures.incomplete

@@ -1,0 +1,90 @@
+//! The Big5 decoder (Encoding Standard 11.1.1).
+
+ghost use Rattle.std.specs.Prelude.{◌≡◌};
+ghost use Rattle.enc_decoder_multi_byte.specs.Big5.{is_big5_trail, big5_pointer_text};
+
+use crate::double_byte::{Double, DoubleByte, text_of};
+use crate::multi_byte::MultiByteDecoder;
+use crate::places::BIG5_PLACES;
+use enc_decoder::Text;
+use enc_index::{Grid, List};
+
+/// Big5 (Encoding Standard 11.1): ASCII, and two bytes by index Big5.
+///
+/// Four pairs of bytes are two characters each.
+#[derive(Clone, Copy)]
+pub struct Big5;
+
+/// The Big5 decoder (Encoding Standard 11.1.1).
+pub type Big5Decoder = MultiByteDecoder<Double<Big5>>;
+
+/// Returns whether a byte can follow a lead byte.
+///
+/// There is no branch between the two ranges, since text has bytes of both in an order that no
+/// processor predicts.
+fn is_trail(byte: u8) -> bool
+    ensures { result ≡ is_big5_trail byte }
+{
+    (byte >= 0x40 && byte <= 0x7E) | (byte >= 0xA1 && byte <= 0xFE)
+}
+
+/// Returns the text of a pointer.
+fn text_at(pointer: u32) -> Option<Text>
+    ensures { result ≡ big5_pointer_text pointer }
+{
+    match pointer {
+        1133 => Some(Text::Two('\u{CA}', '\u{304}')),
+        1135 => Some(Text::Two('\u{CA}', '\u{30C}')),
+        1164 => Some(Text::Two('\u{EA}', '\u{304}')),
+        1166 => Some(Text::Two('\u{EA}', '\u{30C}')),
+        _ => text_of(List::Big5.at(pointer)),
+    }
+}
+
+impl DoubleByte for Big5 {
+    ghost use Rattle.enc_index.specs.declared.grid.Grid.TheVariants as grids;
+    ghost use Rattle.enc_decoder_multi_byte.specs.Big5.{is_big5_lead, big5_single_char, big5_pair_text};
+
+    ghost leads = { is_big5_lead };
+
+    ghost singles = { big5_single_char };
+
+    ghost pairs = { big5_pair_text };
+
+    fn is_lead(byte: u8) -> bool {
+        byte >= 0x81 && byte <= 0xFE
+    }
+
+    fn single(byte: u8) -> Option<char> {
+        if byte < 0x80 {
+            Some(byte as char)
+        } else {
+            None
+        }
+    }
+
+    #[inline(always)]
+    fn pair(lead: u8, trail: u8) -> Option<Text> {
+        if !is_trail(trail) {
+            return None;
+        }
+        let offset = if trail < 0x7F { 0x40 } else { 0x62 };
+        text_at((lead as u32 - 0x81) * 157 + (trail as u32 - offset))
+    }
+
+    ghost pairs_in = { grids.Big5 };
+
+    fn grid() -> Grid {
+        Grid::Big5
+    }
+
+    #[inline(always)]
+    fn pair_place(first: u8, second: u8) -> usize {
+        BIG5_PLACES[first as usize] as usize + BIG5_PLACES[0x100 + second as usize] as usize
+    }
+
+    #[tactic(auto, using(crate::proofs::PairLemmas::big5_pairs))]
+    fn laws() {}
+
+    fn ascii() {}
+}

@@ -1,0 +1,21 @@
+//! Decoders of the legacy multi-byte encodings without escape sequences: Big5, EUC-KR, Shift_JIS,
+//! EUC-JP, gb18030.
+//!
+//! Rows by codec are written by scripts/make-codecs from data/codecs.txt.
+#![tactic(auto)]
+
+mod big5;
+mod double_byte;
+mod euc_jp;
+mod euc_kr;
+mod gb18030;
+mod katakana;
+mod multi_byte;
+mod places;
+mod shift_jis;
+
+pub use big5::Big5Decoder;
+pub use euc_jp::EucJpDecoder;
+pub use euc_kr::EucKrDecoder;
+pub use gb18030::Gb18030Decoder;
+pub use shift_jis::ShiftJisDecoder;

@@ -1,0 +1,355 @@
+//! The decoders of the legacy multi-byte encodings without escape sequences.
+
+ghost use Rattle.std.specs.Prelude.{◌≡◌, ℕ, ◌+◌, ◌<◌, List, [], ◌∷◌, ◌++◌, true, false, Some, IfSome, IsNone};
+ghost use Rattle.enc_index.specs.Grid.{grid_len, grid_char};
+ghost use Rattle.enc_units.specs.Pairs.{byte_or_pair};
+ghost use Rattle.enc_decoder.specs.Pending.{bytes_of_pending};
+ghost use Rattle.enc_decoder.specs.Taking.{IsWholeChar};
+ghost use Rattle.enc_decoder.specs.CodecLaw.{HandlesByte, IsNextOfPending, IsNextAtEnd};
+ghost use Rattle.enc_decoder_multi_byte.specs.MultiByte.{multi_byte_state, AreIncomplete, ArePrefixes, HasAscii};
+ghost use Rattle.enc_decoder_multi_byte.specs.MultiByte.{IsCharPair, multi_byte_rule};
+
+use enc_decoder::{
+    ByteCodec, Emission, HandlerResult, Kind, Pending, RawDecoder, Text, TextLengths, latin1_up_to,
+    run,
+};
+use enc_index::Grid;
+use enc_units::{DecoderResult, Pieces, Units, put_run};
+use std::marker::PhantomData;
+
+/// The kind of the first bytes of an input.
+#[derive(Clone, Copy)]
+pub enum Prefix {
+    /// A valid sequence, with its text.
+    Complete(Text),
+    /// Malformed: this many of them from the first on.
+    Malformed(u8),
+    /// Neither: the next byte is needed.
+    Incomplete,
+}
+
+/// A legacy multi-byte encoding without escape sequences, by the kinds of prefixes.
+pub trait MultiByte: Copy {
+    ghost use Rattle.enc_index.specs.declared.grid.Grid.{Grid};
+    ghost use Rattle.enc_decoder_multi_byte.specs.declared.multi_byte.Prefix.{Prefix};
+
+    // the kind of a prefix, if all shorter ones are incomplete
+    ghost prefix: { List ℕ → Prefix };
+
+    /// Returns the kind of an incomplete prefix with one byte more.
+    fn classify(pending: Pending, byte: u8) -> Prefix
+        requires { AreIncomplete prefix [] (bytes_of_pending pending) }
+        ensures { result ≡ prefix (bytes_of_pending pending ++ byte ∷ []) };
+
+    /// Returns how many characters of a run are written one by one: more than most runs of random
+    /// bytes have.
+    fn few() -> usize {
+        16
+    }
+
+    /// Returns the character of two bytes, if the first is none by itself.
+    ///
+    /// It is that of `classify` for one and then the other, without a prefix between. `None` if
+    /// they are no character, or two, or if that is not known.
+    fn pair_char(lead: u8, byte: u8) -> Option<char>
+        ensures { IfSome result (λ c. IsCharPair prefix lead byte c) };
+
+    // the grid in which pairs are looked up
+    ghost pairs_in: { Grid };
+
+    /// Returns the grid in which pairs are looked up.
+    fn grid() -> Grid
+        ensures { result ≡ pairs_in };
+
+    /// Returns the place of two bytes in the grid.
+    ///
+    /// A character there is theirs, and the first byte is none by itself.
+    fn pair_place(first: u8, second: u8) -> usize
+        ensures within { result < grid_len pairs_in }
+        ensures is_pair { (c : ℕ) → grid_char pairs_in result ≡ Some c
+            → IsCharPair prefix first second c };
+
+    /// The laws of all prefixes. The call does nothing.
+    fn laws()
+        ensures { ArePrefixes prefix };
+
+    /// An ASCII byte is the character with its number. The call does nothing.
+    fn ascii()
+        ensures { HasAscii prefix };
+}
+
+/// The decoder of a legacy multi-byte encoding without escape sequences.
+///
+/// Its pending bytes are an incomplete prefix, or bytes that were restored after a malformed
+/// sequence.
+#[derive(Clone, Copy)]
+pub struct MultiByteDecoder<E> {
+    pending: Pending,
+    encoding: PhantomData<E>,
+}
+
+impl<E: MultiByte> MultiByteDecoder<E> {
+    /// Returns a decoder that has read nothing. Takes no memory.
+    pub fn new() -> MultiByteDecoder<E>
+        ensures { result.pending ≡ Pending.Nothing }
+    {
+        MultiByteDecoder::holding(Pending::Nothing)
+    }
+
+    /// Returns the sequence that the pending bytes determine by themselves. `None` if all of them
+    /// are an incomplete prefix.
+    #[inline(always)]
+    fn shown_first(self) -> Option<Emission<MultiByteDecoder<E>>>
+        ensures shown { IfSome result (λ shown. IsNextOfPending
+            (λ d. multi_byte_state E.prefix (bytes_of_pending d.pending)) self (Some shown)) }
+        ensures incomplete { IsNone result → AreIncomplete E.prefix []
+            (bytes_of_pending self.pending) }
+    {
+        E::laws();
+        let mut front = Pending::Nothing;
+        let mut rest = self.pending;
+        while let Some(byte) = rest.first() {
+            match E::classify(front, byte) {
+                Prefix::Complete(text) => {
+                    let len = front.len() + 1;
+                    return Some(complete(text, len, false, self.pending.behind(len)));
+                }
+                Prefix::Malformed(len) => {
+                    return Some(malformed(len, false, self.pending.behind(len)));
+                }
+                Prefix::Incomplete => {
+                    front = front.with(byte);
+                    rest = rest.behind(1);
+                }
+            }
+        }
+        None
+    }
+
+    /// Returns the effect of the byte after an incomplete prefix.
+    fn step(self, byte: u8) -> HandlerResult<MultiByteDecoder<E>>
+        requires { AreIncomplete E.prefix [] (bytes_of_pending self.pending) }
+        ensures { HandlesByte (λ d. multi_byte_state E.prefix (bytes_of_pending d.pending)) self
+            byte result }
+    {
+        E::laws();
+        match E::classify(self.pending, byte) {
+            Prefix::Complete(text) => {
+                let len = self.pending.len() + 1;
+                HandlerResult::Emit(complete(text, len, true, Pending::Nothing))
+            }
+            Prefix::Malformed(len) => {
+                let takes_byte = len > self.pending.len();
+                HandlerResult::Emit(malformed(len, takes_byte, self.pending.behind(len)))
+            }
+            Prefix::Incomplete => HandlerResult::Continue(MultiByteDecoder::holding(
+                self.pending.with(byte),
+            )),
+        }
+    }
+
+    /// Returns the sequence at the end of the input: an incomplete prefix is malformed as a whole.
+    fn left_over(self) -> Option<Emission<MultiByteDecoder<E>>>
+        requires { AreIncomplete E.prefix [] (bytes_of_pending self.pending) }
+        ensures { IsNextAtEnd (λ d. multi_byte_state E.prefix (bytes_of_pending d.pending)) self
+            result }
+    {
+        E::laws();
+        match self.pending {
+            Pending::Nothing => None,
+            pending => Some(malformed(pending.len(), false, Pending::Nothing)),
+        }
+    }
+
+    /// Returns a decoder with these pending bytes.
+    fn holding(pending: Pending) -> MultiByteDecoder<E>
+        ensures { result.pending ≡ pending }
+    {
+        MultiByteDecoder {
+            pending,
+            encoding: PhantomData,
+        }
+    }
+}
+
+/// Returns a valid sequence, with or without the byte that determines it.
+fn complete<E: MultiByte>(
+    text: Text,
+    len: u8,
+    takes_byte: bool,
+    behind: Pending,
+) -> Emission<MultiByteDecoder<E>>
+    ensures is { result ≡ record {
+      text = text;
+      kind = Kind.Valid;
+      len = len;
+      takes_byte = takes_byte;
+      next = result.next;
+    } }
+    ensures next { result.next.pending ≡ behind }
+{
+    Emission {
+        text,
+        kind: Kind::Valid,
+        len,
+        takes_byte,
+        next: MultiByteDecoder::holding(behind),
+    }
+}
+
+/// Returns a malformed sequence, with or without the byte that determines it.
+fn malformed<E: MultiByte>(
+    len: u8,
+    takes_byte: bool,
+    behind: Pending,
+) -> Emission<MultiByteDecoder<E>>
+    ensures is { result ≡ record {
+      text = Text.One 0xFFFD;
+      kind = Kind.Malformed;
+      len = len;
+      takes_byte = takes_byte;
+      next = result.next;
+    } }
+    ensures next { result.next.pending ≡ behind }
+{
+    Emission {
+        text: Text::One('\u{FFFD}'),
+        kind: Kind::Malformed,
+        len,
+        takes_byte,
+        next: MultiByteDecoder::holding(behind),
+    }
+}
+
+/// Returns the place in the grid of a byte or of a pair, with no branch.
+#[inline(always)]
+fn place_of<E: MultiByte>(is_pair: bool, first: u8, second: u8) -> usize
+    ensures within { result < grid_len E.pairs_in }
+    ensures means { (c : ℕ) → grid_char E.pairs_in result ≡ Some c
+        → IsWholeChar (multi_byte_rule E.prefix) 0 (byte_or_pair is_pair first second) c }
+{
+    E::ascii();
+    let place = E::pair_place(first, second);
+    if is_pair { place } else { first as usize }
+}
+
+impl<E: MultiByte> Pieces for MultiByteDecoder<E> {
+    ghost use Rattle.enc_decoder_multi_byte.specs.MultiByte.{multi_byte_rule};
+    ghost use Rattle.enc_decoder.specs.Taking.{IsWholeChar};
+
+    ghost means = { λ _. IsWholeChar (multi_byte_rule E.prefix) 0 };
+
+    #[inline(always)]
+    fn piece(self, src: &[u8], at: usize) -> Option<(char, usize)> {
+        let lead = src[at];
+        if lead < 0x80 {
+            E::ascii();
+            return Some((lead as char, 1));
+        }
+        if at + 1 < src.len() {
+            if let Some(character) = E::pair_char(lead, src[at + 1]) {
+                return Some((character, 2));
+            }
+        }
+        match E::classify(Pending::Nothing, lead) {
+            Prefix::Complete(Text::One(character)) => Some((character, 1)),
+            _ => None,
+        }
+    }
+
+    fn has_ascii(self) -> bool {
+        E::ascii();
+        true
+    }
+
+    fn are_pairs(self) -> bool {
+        true
+    }
+
+    fn few(self) -> usize {
+        E::few()
+    }
+
+    #[inline(always)]
+    fn word(self, is_pair: bool, first: u8, second: u8) -> u32 {
+        E::grid().word(place_of::<E>(is_pair, first, second))
+    }
+
+    #[inline(always)]
+    fn unit(self, is_pair: bool, first: u8, second: u8) -> u16 {
+        E::grid().unit(place_of::<E>(is_pair, first, second))
+    }
+}
+
+impl<E: MultiByte> ByteCodec for MultiByteDecoder<E> {
+    ghost use Rattle.enc_decoder.specs.Pending.{bytes_of_pending};
+    ghost use Rattle.enc_decoder_multi_byte.specs.MultiByte.{multi_byte_state};
+
+    ghost state = { λ d. multi_byte_state E.prefix (bytes_of_pending d.pending) };
+
+    #[inline(always)]
+    fn take_run<U: Units>(self, src: &[u8], out: &mut U) -> (MultiByteDecoder<E>, usize) {
+        match self.pending {
+            Pending::Nothing => (self, put_run(out, self, src)),
+            _ => (self, 0),
+        }
+    }
+
+    fn next_step(self, byte: u8) -> HandlerResult<MultiByteDecoder<E>> {
+        match self.shown_first() {
+            Some(shown) => HandlerResult::Emit(shown),
+            None => self.step(byte),
+        }
+    }
+
+    fn ready(self) -> Option<Emission<MultiByteDecoder<E>>> {
+        E::laws();
+        self.shown_first()
+    }
+
+    fn at_end(self) -> Option<Emission<MultiByteDecoder<E>>> {
+        match self.shown_first() {
+            Some(shown) => Some(shown),
+            None => self.left_over(),
+        }
+    }
+
+    fn held(self) -> u8 {
+        self.pending.len()
+    }
+}
+
+impl<E: MultiByte> RawDecoder for MultiByteDecoder<E> {
+    ghost use Rattle.enc_decoder.specs.declared.text_lengths.TextLengths.TheVariants as lengths;
+    ghost use Rattle.enc_decoder.specs.Pending.{bytes_of_pending};
+    ghost use Rattle.enc_decoder_multi_byte.specs.MultiByte.{multi_byte_state};
+
+    ghost state = { λ d. multi_byte_state E.prefix (bytes_of_pending d.pending) };
+
+    ghost formulas = { λ _. lengths.MultiByte };
+
+    fn decode<U: Units>(
+        &mut self,
+        src: &[u8],
+        out: &mut U,
+        last: bool,
+        fault_room: bool,
+    ) -> (DecoderResult, usize) {
+        E::laws();
+        run(self, src, out, last, fault_room)
+    }
+
+    fn held(&self) -> usize {
+        ByteCodec::held(*self) as usize
+    }
+
+    fn latin1_byte_compatible_up_to(&self, bytes: &[u8]) -> Option<usize> {
+        E::ascii();
+        latin1_up_to(*self, bytes)
+    }
+
+    fn text_lengths(&self) -> TextLengths {
+        E::laws();
+        TextLengths::MultiByte
+    }
+}

@@ -1,0 +1,88 @@
+//! The Shift_JIS decoder (Encoding Standard 12.3.1).
+
+ghost use Rattle.std.specs.Prelude.{◌≡◌};
+ghost use Rattle.enc_decoder_multi_byte.specs.ShiftJis.{is_shift_jis_trail, shift_jis_pointer_char};
+
+use crate::double_byte::{Double, DoubleByte, text_of};
+use crate::katakana::katakana;
+use crate::multi_byte::MultiByteDecoder;
+use crate::places::SHIFT_JIS_PLACES;
+use enc_decoder::Text;
+use enc_index::{Grid, List};
+
+/// Shift_JIS (Encoding Standard 12.3): ASCII and 80, half-width katakana, and two bytes by index
+/// jis0208 or in the private use area.
+#[derive(Clone, Copy)]
+pub struct ShiftJis;
+
+/// The Shift_JIS decoder (Encoding Standard 12.3.1).
+pub type ShiftJisDecoder = MultiByteDecoder<Double<ShiftJis>>;
+
+/// Returns whether a byte can follow a lead byte.
+///
+/// There is no branch between the two ranges, since text has bytes of both in an order that no
+/// processor predicts.
+fn is_trail(byte: u8) -> bool
+    ensures { result ≡ is_shift_jis_trail byte }
+{
+    (byte >= 0x40 && byte <= 0x7E) | (byte >= 0x80 && byte <= 0xFC)
+}
+
+/// Returns the character of a pointer.
+fn character_at(pointer: u32) -> Option<char>
+    ensures { result ≡ shift_jis_pointer_char pointer }
+{
+    match pointer {
+        8836..=10715 => char::from_u32(0xE000 + (pointer - 8836)),
+        _ => List::Jis0208.at(pointer),
+    }
+}
+
+impl DoubleByte for ShiftJis {
+    ghost use Rattle.enc_index.specs.declared.grid.Grid.TheVariants as grids;
+    ghost use Rattle.enc_decoder_multi_byte.specs.ShiftJis.{is_shift_jis_lead, shift_jis_single_char, shift_jis_pair_text};
+
+    ghost leads = { is_shift_jis_lead };
+
+    ghost singles = { shift_jis_single_char };
+
+    ghost pairs = { shift_jis_pair_text };
+
+    fn is_lead(byte: u8) -> bool {
+        (byte >= 0x81 && byte <= 0x9F) | (byte >= 0xE0 && byte <= 0xFC)
+    }
+
+    fn single(byte: u8) -> Option<char> {
+        match byte {
+            0x00..=0x80 => Some(byte as char),
+            0xA1..=0xDF => Some(katakana(byte)),
+            _ => None,
+        }
+    }
+
+    fn pair(lead: u8, trail: u8) -> Option<Text> {
+        if !is_trail(trail) {
+            return None;
+        }
+        let first = if lead < 0xA0 { 0x81 } else { 0xC1 };
+        let offset = if trail < 0x7F { 0x40 } else { 0x41 };
+        text_of(character_at((lead as u32 - first) * 188 + (trail as u32 - offset)))
+    }
+
+    ghost pairs_in = { grids.Jis0208 };
+
+    fn grid() -> Grid {
+        Grid::Jis0208
+    }
+
+    #[inline(always)]
+    fn pair_place(first: u8, second: u8) -> usize {
+        SHIFT_JIS_PLACES[first as usize] as usize
+            + SHIFT_JIS_PLACES[0x100 + second as usize] as usize
+    }
+
+    #[tactic(auto, using(crate::proofs::PairLemmas::shift_jis_pairs))]
+    fn laws() {}
+
+    fn ascii() {}
+}

@@ -1,0 +1,11 @@
+use Rattle.std.proofs.Common.{◌∙◌, sym}
+use Rattle.enc_index.specs.Runs.{single_byte_runs}
+use Rattle.enc_decoder_single_byte.specs.OneByte.{single_byte_char}
+use Rattle.enc_decoder_single_byte.proofs.OneByteLemmas.{one_byte_piece}
+use Rattle.enc_decoder.proofs.PieceLemmas.{one_of, same_piece}
+use Rattle.enc_decoder_single_byte.proofs.single_byte.SingleByteDecoderPieces.piece.Goals as goal
+
+pub returns-in-Some-clause-means : goal.returns-in-Some-clause-means
+returns-in-Some-clause-means c =
+    same_piece _ 0 _ _ _ (one_of c.args.src.now c.args.at c.requires)
+    (one_byte_piece (single_byte_char (single_byte_runs c.args.self.index)) _ _ (sym c.character_of.ensures ∙ c.in-Some.is))

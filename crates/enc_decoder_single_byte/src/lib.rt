@@ -1,0 +1,12 @@
+//! Decoders of encodings in which each byte is a sequence by itself: the legacy single-byte ones,
+//! x-user-defined, and replacement.
+#![tactic(auto)]
+
+mod one_byte;
+mod replacement;
+mod single_byte;
+mod x_user_defined;
+
+pub use replacement::ReplacementDecoder;
+pub use single_byte::SingleByteDecoder;
+pub use x_user_defined::XUserDefinedDecoder;

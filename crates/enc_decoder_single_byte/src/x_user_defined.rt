@@ -1,0 +1,112 @@
+//! The x-user-defined decoder (Encoding Standard 14.5).
+
+ghost use Rattle.std.specs.Prelude.{◌≡◌, Some};
+ghost use Rattle.enc_decoder_single_byte.specs.OneByte.{x_user_defined_char};
+
+use crate::one_byte::show_byte;
+use enc_decoder::{ByteCodec, Emission, HandlerResult, RawDecoder, TextLengths, latin1_up_to, run};
+use enc_units::{DecoderResult, Pieces, Units, put_run};
+
+/// The x-user-defined decoder (Encoding Standard 14.5).
+///
+/// A byte below 0x80 is the character with its number. 0x80 to 0xFF are U+F780 to U+F7FF.
+#[derive(Clone, Copy)]
+pub struct XUserDefinedDecoder;
+
+impl XUserDefinedDecoder {
+    /// Returns a decoder. Takes no memory.
+    pub fn new() -> XUserDefinedDecoder {
+        XUserDefinedDecoder
+    }
+}
+
+/// Returns the character of a byte.
+fn character_of(byte: u8) -> char
+    ensures { Some result ≡ x_user_defined_char byte }
+{
+    if byte < 0x80 {
+        return byte as char;
+    }
+    char::from_u32(0xF780 + (byte as u32 - 0x80)).unwrap()
+}
+
+impl Pieces for XUserDefinedDecoder {
+    ghost use Rattle.enc_decoder_single_byte.specs.OneByteState.{x_user_defined_state};
+    ghost use Rattle.enc_decoder.specs.Taking.{IsWholeChar};
+
+    ghost means = { λ _. IsWholeChar x_user_defined_state.rule 0 };
+
+    #[inline(always)]
+    fn piece(self, src: &[u8], at: usize) -> Option<(char, usize)> {
+        Some((character_of(src[at]), 1))
+    }
+
+    fn has_ascii(self) -> bool {
+        true
+    }
+
+    fn are_bytes(self) -> bool {
+        true
+    }
+}
+
+impl ByteCodec for XUserDefinedDecoder {
+    ghost use Rattle.enc_decoder_single_byte.specs.OneByteState.{x_user_defined_state};
+
+    ghost state = { λ _. x_user_defined_state };
+
+    #[inline(always)]
+    fn take_run<U: Units>(self, src: &[u8], out: &mut U) -> (XUserDefinedDecoder, usize) {
+        (self, put_run(out, self, src))
+    }
+
+    fn next_step(self, byte: u8) -> HandlerResult<XUserDefinedDecoder> {
+        show_byte(self, Some(character_of(byte)))
+    }
+
+    #[tactic(auto, using(enc_decoder::proofs::EmissionLemmas::nothing_pending))]
+    fn ready(self) -> Option<Emission<XUserDefinedDecoder>> {
+        None
+    }
+
+    fn at_end(self) -> Option<Emission<XUserDefinedDecoder>> {
+        None
+    }
+
+    fn held(self) -> u8 {
+        0
+    }
+}
+
+impl RawDecoder for XUserDefinedDecoder {
+    ghost use Rattle.enc_decoder.specs.declared.text_lengths.TextLengths.TheVariants as lengths;
+    ghost use Rattle.enc_decoder_single_byte.specs.OneByteState.{x_user_defined_state};
+
+    ghost state = { λ _. x_user_defined_state };
+
+    ghost formulas = { λ _. lengths.OneByte };
+
+    fn decode<U: Units>(
+        &mut self,
+        src: &[u8],
+        out: &mut U,
+        last: bool,
+        fault_room: bool,
+    ) -> (DecoderResult, usize) {
+        run(self, src, out, last, fault_room)
+    }
+
+    fn held(&self) -> usize {
+        ByteCodec::held(*self) as usize
+    }
+
+    #[tactic(auto, using(crate::proofs::OneByteLemmas::x_user_defined_has_bytes))]
+    fn latin1_byte_compatible_up_to(&self, bytes: &[u8]) -> Option<usize> {
+        latin1_up_to(*self, bytes)
+    }
+
+    #[tactic(auto, using(crate::proofs::EnoughLemmas::x_user_defined_enough))]
+    fn text_lengths(&self) -> TextLengths {
+        TextLengths::OneByte
+    }
+}

@@ -1,0 +1,122 @@
+-- The sets of ISO-2022-JP, read backward and carried forward.
+use Rattle.std.proofs.Common.{◌≡◌, ℕ, ◌<◌, ◌≤◌, take, Bool, true, false, ◌==◌, ◌||◌, nat_lt, Option, Some, None, List}
+use Rattle.std.proofs.Common.{[], ◌∷◌, ◌++◌, reverse, refl, ap, ◌∙◌, sym, arith, if◌then◌else◌}
+use Rattle.std.proofs.lemmas.List.{reverse-append}
+use Rattle.std.proofs.lemmas.Bool.Decides.{nat_tests}
+use Rattle.enc_encoder.specs.declared.character_set.CharacterSet.{CharacterSet}
+use Rattle.enc_encoder.specs.declared.character_set.CharacterSet.TheVariants.{Ascii, Roman, Jis0208}
+use Rattle.enc_encode.specs.declared.encoders.iso_2022_jp.CharClass.{CharClass}
+use Rattle.enc_encode.specs.declared.encoders.iso_2022_jp.CharClass.TheVariants as class
+use Rattle.enc_encoder.specs.EncoderRule.{IsLawfulEncoderRule, IsReferenceCharacter, set_for}
+use Rattle.enc_encode.specs.Iso2022Jp.{class_of, has_class, set_of_class, last_class_after, last_non_neutral_class}
+use Rattle.enc_encode.specs.Iso2022Jp.{stays_in_roman, set_after_class, set_after_reversed, is_shift, iso_2022_jp_bytes}
+use Rattle.enc_encode.specs.Iso2022Jp.{iso_2022_jp_encoder_rule}
+use Rattle.std.specs.Prelude.{All, ◌≢◌}
+use Rattle.enc_units.specs.Validity.{AreIso2022JpAscii}
+use Rattle.enc_units.proofs.LaneLemmas.{all_fewer}
+use Rattle.enc_encode.proofs.FourByteLemmas.{few_iso_2022_jp}
+
+is_roman : CharacterSet → Bool
+is_roman Ascii = false
+is_roman Roman = true
+is_roman Jis0208 = false
+
+-- the set in which a character of a class is written
+for_class : CharacterSet → CharClass → CharacterSet
+for_class s k = if has_class s k then s else set_of_class k
+
+none_is : (s : CharacterSet) → is_roman s ≡ stays_in_roman s None
+unfolding is_roman
+none_is Ascii = refl
+none_is Roman = refl
+none_is Jis0208 = refl
+
+set_by_is : (s : CharacterSet) (k : CharClass) (o : Option CharClass) → is_roman (set_after_class k (stays_in_roman s (last_class_after k o))) ≡ stays_in_roman s (last_class_after k o)
+unfolding is_roman
+set_by_is s class.Neutral o = elim (stays_in_roman s o) as (λ b. is_roman (if b then Roman else Ascii) ≡ b) [ true ↦ refl | false ↦ refl ]
+set_by_is s class.Latin o = elim s as (λ s. is_roman (if stays_in_roman s (Some class.Latin) then Roman else Ascii) ≡ stays_in_roman s (Some class.Latin)) [ Ascii ↦ refl | Roman ↦ refl | Jis0208 ↦ refl ]
+set_by_is s class.Roman o = elim s as (λ s. is_roman (if stays_in_roman s (Some class.Roman) then Roman else Ascii) ≡ stays_in_roman s (Some class.Roman)) [ Ascii ↦ refl | Roman ↦ refl | Jis0208 ↦ refl ]
+set_by_is s class.Kanji o = elim s as (λ s. is_roman Jis0208 ≡ stays_in_roman s (Some class.Kanji)) [ Ascii ↦ refl | Roman ↦ refl | Jis0208 ↦ refl ]
+
+-- Roman is in force where it was left on
+roman_is : (s : CharacterSet) (u : List ℕ)
+    → is_roman (set_after_reversed s u) ≡ stays_in_roman s (last_non_neutral_class u)
+roman_is s [] = none_is s
+roman_is s (c ∷ u) =
+    set_by_is s (class_of c) (last_non_neutral_class u)
+
+carried : (s t : CharacterSet) (k : CharClass) (o : Option CharClass) → is_roman t ≡ stays_in_roman s o → set_after_class k (stays_in_roman s (last_class_after k o)) ≡ for_class t k
+unfolding is_roman for_class
+carried s Ascii class.Neutral o e = rw (sym e) refl
+carried s Roman class.Neutral o e = rw (sym e) refl
+carried s Jis0208 class.Neutral o e = rw (sym e) refl
+carried Ascii Ascii class.Latin o e = refl
+carried Roman Ascii class.Latin o e = refl
+carried Jis0208 Ascii class.Latin o e = refl
+carried Ascii Roman class.Latin o e = refl
+carried Roman Roman class.Latin o e = refl
+carried Jis0208 Roman class.Latin o e = refl
+carried Ascii Jis0208 class.Latin o e = refl
+carried Roman Jis0208 class.Latin o e = refl
+carried Jis0208 Jis0208 class.Latin o e = refl
+carried Ascii Ascii class.Roman o e = refl
+carried Roman Ascii class.Roman o e = refl
+carried Jis0208 Ascii class.Roman o e = refl
+carried Ascii Roman class.Roman o e = refl
+carried Roman Roman class.Roman o e = refl
+carried Jis0208 Roman class.Roman o e = refl
+carried Ascii Jis0208 class.Roman o e = refl
+carried Roman Jis0208 class.Roman o e = refl
+carried Jis0208 Jis0208 class.Roman o e = refl
+carried s Ascii class.Kanji o e = refl
+carried s Roman class.Kanji o e = refl
+carried s Jis0208 class.Kanji o e = refl
+
+-- one character more
+read_back-cons : (s : CharacterSet) (c : ℕ) (u : List ℕ) → set_after_reversed s (c ∷ u) ≡ set_for iso_2022_jp_encoder_rule (set_after_reversed s u) c
+unfolding for_class
+read_back-cons s c u =
+    carried s (set_after_reversed s u) (class_of c) (last_non_neutral_class u) (roman_is s u)
+
+set_after_more : (s : CharacterSet) (t : List ℕ) (c : ℕ) → set_after_reversed s (reverse (t ++ c ∷ [])) ≡ set_for iso_2022_jp_encoder_rule (set_after_reversed s (reverse t)) c
+set_after_more s t c = ap (set_after_reversed s) (reverse-append t (c ∷ [])) ∙ read_back-cons s c (reverse t)
+
+own : (k : CharClass) → has_class (set_of_class k) k ≡ true
+own class.Neutral = refl
+own class.Latin = refl
+own class.Roman = refl
+own class.Kanji = refl
+
+neutral : (c : ℕ) → IsReferenceCharacter c → class_of c ≡ class.Neutral
+neutral c r =
+    let a : (c == 0x5C || c == 0x7E) ≡ false = grind (arith, nat_tests) in
+    let b : nat_lt c 0x80 ≡ true = grind (arith, nat_tests) in
+    rw (a, b) refl
+
+itself : (c : ℕ) → IsReferenceCharacter c → iso_2022_jp_bytes c ≡ Some (c ∷ [])
+itself c r =
+    let a : is_shift c ≡ false = grind (arith, nat_tests) in
+    let b : nat_lt c 0x80 ≡ true = grind (arith, nat_tests) in
+    rw (b, a) refl
+
+pub iso_2022_jp_is_lawful : IsLawfulEncoderRule iso_2022_jp_encoder_rule
+iso_2022_jp_is_lawful = record {
+  designates = λ c. own (class_of c);
+  set_after_none = λ s. refl;
+  set_after_more = set_after_more;
+  references = itself;
+  one_set = λ s c r. ap (has_class s) (neutral c r);
+  few = few_iso_2022_jp;
+}
+
+-- the first n of sixteen bytes, before one that isn't ASCII, a shift or an escape
+pub unshifted : (xs : List ℕ) (n a b c d : ℕ) → n ≤ a → n ≤ b → n ≤ c → n ≤ d → All (λ x. x < 0x80) (take a xs)
+    → All (λ x. x ≢ 0x0E) (take b xs)
+    → All (λ x. x ≢ 0x0F) (take c xs) → All (λ x. x ≢ 0x1B) (take d xs) → AreIso2022JpAscii (take n xs)
+unshifted xs n a b c d la lb lc ld ascii out in_ escape k e h = (
+  all_fewer (λ x. x < 0x80) n a xs la ascii k e h,
+  all_fewer (λ x. x ≢ 0x0E) n b xs lb out k e h,
+  all_fewer
+      (λ x. x ≢ 0x0F) n c xs lc in_ k e h,
+  all_fewer (λ x. x ≢ 0x1B) n d xs ld escape k e h,
+)

@@ -1,0 +1,15 @@
+//! The encoders, each by the bytes of its characters.
+//!
+//! Rows by codec are written by scripts/make-codecs from data/codecs.txt.
+
+pub mod big5;
+pub mod euc_jp;
+pub mod euc_kr;
+pub mod gb18030;
+pub mod iso_2022_jp;
+mod japanese;
+mod katakana;
+pub mod shift_jis;
+pub mod single_byte;
+pub mod utf_8;
+pub mod x_user_defined;

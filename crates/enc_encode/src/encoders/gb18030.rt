@@ -1,0 +1,110 @@
+//! The gb18030 encoder, which is also that of GBK (Encoding Standard 10.2.2).
+
+ghost use Rattle.std.specs.Prelude.{◌≡◌, ◌<◌};
+ghost use Rattle.enc_units.specs.Bytes.{byte_list};
+ghost use Rattle.enc_encoder.specs.CharLaw.{AreBytesOf};
+ghost use Rattle.enc_encode.specs.Gb18030.{gb18030_pair_bytes, gb18030_trail_byte, gb18030_four_bytes};
+ghost use Rattle.enc_encode.specs.Gb18030.{two_or_four_bytes as wanted_bytes};
+ghost use Rattle.enc_index_pointers.specs.Pointers.{gb18030_pointer, gb18030_ranges_pointer};
+ghost use Rattle.enc_encoder.specs.Stateless.{bytes_of_pointer};
+
+use enc_encoder::{Barring, ByteLengths, Repertoire, StatelessEncoder, four, one, two};
+use enc_index_pointers::{gb18030, gb18030_ranges};
+use enc_units::Bytes;
+
+/// gb18030 (Encoding Standard 10.2): ASCII, two bytes by index gb18030, and four bytes by its
+/// ranges. GBK (10.1) has no four bytes, and one byte for U+20AC.
+#[derive(Clone, Copy)]
+pub struct Gb18030 {
+    /// Whether it is GBK.
+    pub is_gbk: bool,
+}
+
+/// The gb18030 encoder, which is also that of GBK (Encoding Standard 10.2.2).
+pub type Gb18030Encoder = StatelessEncoder<Barring<Gb18030>>;
+
+/// Returns the second byte of a cell.
+#[inline(always)]
+fn trail(cell: u32) -> u8
+    requires { cell < 190 }
+    ensures { result ≡ gb18030_trail_byte cell }
+{
+    (cell + (if cell < 0x3F { 0x40 } else { 0x41 })) as u8
+}
+
+/// Returns the two bytes of a pointer.
+#[inline(always)]
+fn pair(pointer: u32) -> Bytes
+    requires { pointer < 23940 }
+    ensures { byte_list result ≡ gb18030_pair_bytes pointer }
+{
+    two((pointer / 190 + 0x81) as u8, trail(pointer % 190))
+}
+
+/// Returns the four bytes of a pointer of the ranges.
+fn four_bytes(pointer: u32) -> Bytes
+    requires { pointer < 1237576 }
+    ensures { byte_list result ≡ gb18030_four_bytes pointer }
+{
+    four(
+        (pointer / 12600 + 0x81) as u8,
+        (pointer % 12600 / 1260 + 0x30) as u8,
+        (pointer % 1260 / 10 + 0x81) as u8,
+        (pointer % 10 + 0x30) as u8,
+    )
+}
+
+/// Returns the four bytes of a character, by the ranges.
+#[inline(never)]
+fn by_ranges(c: char) -> Option<Bytes>
+    ensures { AreBytesOf (bytes_of_pointer gb18030_four_bytes (gb18030_ranges_pointer c)) result }
+{
+    match gb18030_ranges(c) {
+        Some(pointer) => Some(four_bytes(pointer)),
+        None => None,
+    }
+}
+
+/// Returns the two bytes of a character, or in gb18030 four.
+#[inline(always)]
+fn two_or_four_bytes(is_gbk: bool, c: char) -> Option<Bytes>
+    ensures { AreBytesOf (wanted_bytes is_gbk c (gb18030_pointer c)) result }
+{
+    if let Some(pointer) = gb18030(c) {
+        return Some(pair(pointer));
+    }
+    if is_gbk {
+        return None;
+    }
+    by_ranges(c)
+}
+
+impl Repertoire for Gb18030 {
+    ghost use Rattle.enc_encode.specs.Gb18030.{gb18030_bytes, gb18030_lengths};
+
+    ghost bytes_for = { λ r. gb18030_bytes r.is_gbk };
+
+    ghost lengths = { λ r. gb18030_lengths r.is_gbk };
+
+    #[inline(always)]
+    fn bytes_beyond_ascii(self, c: char) -> Option<Bytes> {
+        if c == '\u{E5E5}' {
+            return None;
+        }
+        if self.is_gbk && c == '\u{20AC}' {
+            return Some(one(0x80));
+        }
+        two_or_four_bytes(self.is_gbk, c)
+    }
+
+    fn byte_lengths(self) -> ByteLengths {
+        if self.is_gbk {
+            ByteLengths::TwoBytes
+        } else {
+            ByteLengths::Gb18030
+        }
+    }
+
+    #[tactic(auto, using(enc_encoder::proofs::StatelessLemmas::with_ascii_writes_ascii, crate::proofs::FourByteLemmas::few_gb18030, crate::proofs::RepertoireLemmas::keeps_gb18030))]
+    fn laws(self) {}
+}

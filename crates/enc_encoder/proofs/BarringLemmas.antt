@@ -1,0 +1,103 @@
+-- Encodings from which characters are barred keep their laws.
+use Rattle.std.proofs.Common.{◌≡◌, ℕ, ◌<◌, ◌≤◌, Bool, true, false, ◌==◌, ◌||◌, ◌&&◌, nat_le, Option, None, List, []}
+use Rattle.std.proofs.Common.{◌∷◌, length, refl, ap, ◌∙◌, sym, subst, arith, eqb-true, if◌then◌else◌}
+use Rattle.std.proofs.lemmas.Bool.Decides.{nat_tests}
+use Rattle.enc_encoder.specs.declared.byte_lengths.ByteLengths.{ByteLengths}
+use Rattle.enc_encoder.specs.declared.character_set.CharacterSet.TheVariants.{Ascii}
+use Rattle.enc_encoder.specs.EncoderRule.{EncoderRule, RawEncoderState, IsLawfulEncoderRule, AreAtMostFour}
+use Rattle.enc_encoder.specs.Stateless.{WritesAscii, WritesAtMostFour, KeepsLengths, stateless_rule, stateless_state}
+use Rattle.enc_encoder.specs.Barring.{contains_char, is_barred, are_beyond_ascii, bytes_unless_barred, barring_rule}
+use Rattle.enc_encoder.proofs.SizeLemmas.{size}
+use Rattle.enc_encoder.proofs.StatelessLemmas.{of_references_is_ascii}
+
+and_false : (a : Bool) → (a && false) ≡ false
+and_false true = refl
+and_false false = refl
+
+-- ASCII is not barred
+not_barred : (b : List ℕ) (c : ℕ) → c < 0x80 → is_barred b c ≡ false
+not_barred b c l =
+    let low : nat_le 0x80 c ≡ false = grind (arith, nat_tests) in
+    ap (λ t. contains_char b c && t) low ∙ and_false (contains_char b c)
+
+few_if : (t : Bool) (x : Option (List ℕ)) → AreAtMostFour x → AreAtMostFour (if t then None else x)
+few_if true x h = tt
+few_if false x h = h
+
+-- no character has more bytes
+fewer_if : (t : Bool) (x : Option (List ℕ)) → size (if t then None else x) ≤ size x
+fewer_if true x = omega arith
+fewer_if false x = omega arith
+
+pub fewer : (b : List ℕ) (bytes : ℕ → Option (List ℕ)) (c : ℕ) → size (bytes_unless_barred b bytes c) ≤ size (bytes c)
+fewer b bytes c = fewer_if (is_barred b c) (bytes c)
+
+pub except_writes_ascii : (b : List ℕ) (bytes : ℕ → Option (List ℕ)) → WritesAscii bytes
+    → WritesAscii (bytes_unless_barred b bytes)
+except_writes_ascii b bytes w c is_ascii = rw (not_barred b c is_ascii) (w c is_ascii)
+
+pub except_writes_few : (b : List ℕ) (bytes : ℕ → Option (List ℕ)) → WritesAtMostFour bytes
+    → WritesAtMostFour (bytes_unless_barred b bytes)
+except_writes_few b bytes w = record { few = λ c. few_if (is_barred b c) (bytes c) (w.few c) }
+
+pub except_keeps : (b : List ℕ) (lengths : ByteLengths) (bytes : ℕ → Option (List ℕ)) → KeepsLengths lengths bytes → KeepsLengths lengths (bytes_unless_barred b bytes)
+except_keeps b lengths bytes keeps_lengths = record {
+  by_utf_8 = λ c. omega (arith, fewer b bytes c, keeps_lengths.by_utf_8 c);
+  by_utf_16 = λ c. omega (arith, fewer b bytes c, keeps_lengths.by_utf_16 c);
+}
+
+-- of the rule of any encoding
+pub barring_is_lawful : (b : List ℕ) (e : EncoderRule) → IsLawfulEncoderRule e → IsLawfulEncoderRule (barring_rule b e)
+barring_is_lawful b e lawful = record {
+  designates = lawful.designates;
+  set_after_none = lawful.set_after_none;
+  set_after_more = lawful.set_after_more;
+  references =
+      λ c is_reference. rw (not_barred b c (of_references_is_ascii c is_reference)) (lawful.references c is_reference);
+  one_set = lawful.one_set;
+  few = λ c. few_if (is_barred b c) (e.bytes c) (lawful.few c);
+}
+
+-- a list that callers may name
+
+and_first : (a b : Bool) → (a && b) ≡ true → a ≡ true
+and_first true b h = refl
+and_first false b h = h
+
+and_second : (a b : Bool) → (a && b) ≡ true → b ≡ true
+and_second true b h = h
+and_second false b h = cc
+
+by_first : (x c : ℕ) (first later all : Bool) → (x == c) ≡ first → (nat_le 0x80 x && all) ≡ true → (first || later) ≡ true → (all ≡ true → later ≡ true → nat_le 0x80 c ≡ true)
+    → nat_le 0x80 c ≡ true
+by_first x c true later all e h s by_later = let f = and_first (nat_le 0x80 x) all h in grind (arith, nat_tests, e, f)
+by_first x c false later all e h s by_later = by_later (and_second (nat_le 0x80 x) all h) s
+
+-- a character of a list that has no ASCII is beyond ASCII
+beyond : (b : List ℕ) (c : ℕ) → are_beyond_ascii b ≡ true → contains_char b c ≡ true → nat_le 0x80 c ≡ true
+beyond [] c h s = cc
+beyond (x ∷ b) c h s = by_first x c (x == c) (contains_char b c) (are_beyond_ascii b) refl h s (beyond b c)
+
+and_if : (s t : Bool) → (s ≡ true → t ≡ true) → (s && t) ≡ s
+and_if true t h = h refl
+and_if false t h = refl
+
+-- so such a list bars just the characters that stand in it
+pub barred_is : (b : List ℕ) (c : ℕ) → are_beyond_ascii b ≡ true → is_barred b c ≡ contains_char b c
+barred_is b c h = and_if (contains_char b c) (nat_le 0x80 c) (beyond b c h)
+
+-- a call of the encoder without a list is one of the encoder with an empty list
+
+pub none_barred : (b : List ℕ) → true ≡ (length b == 0) → b ≡ []
+none_barred [] h = refl
+none_barred (x ∷ b) h = absurd (omega (arith, eqb-true (length (x ∷ b)) 0 (sym h)))
+
+pub unlisted : (P : RawEncoderState → RawEncoderState → Type 0) (f f' h : ℕ → Option (List ℕ)) (b : List ℕ) → b ≡ []
+    → f ≡ f'
+    → stateless_rule h ≡ stateless_rule f
+    → P (stateless_state f) (stateless_state h)
+    → P (stateless_state (bytes_unless_barred b f')) (stateless_state (bytes_unless_barred b f'))
+unlisted P f f' h b e q r c =
+    subst (λ b. P (stateless_state (bytes_unless_barred b f')) (stateless_state (bytes_unless_barred b f'))) (sym e)
+    (subst (λ f. P (stateless_state f) (stateless_state f)) q (subst (λ r. P (stateless_state f)
+    (record { rule = r; set = Ascii })) r c))

@@ -1,0 +1,13 @@
+pub mod EncoderRule
+pub mod Text
+pub mod Steps
+pub mod Call
+pub mod CharLaw
+pub mod Stateless
+pub mod Barring
+pub mod Lengths
+pub mod Need
+pub mod Runs
+pub mod ErrorMode
+pub mod Replacing
+pub mod Unmappable

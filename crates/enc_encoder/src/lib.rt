@@ -1,0 +1,29 @@
+//! The contract of every encoder, the loop over the characters of a call that keeps it, and calls
+//! by error mode: a decimal reference in place of each unmappable character, or a report of it.
+#![tactic(auto)]
+
+mod barring;
+mod byte_lengths;
+mod char_encoder;
+mod character_set;
+mod encoding;
+mod machine;
+mod made_bytes;
+mod raw_encoder;
+mod reference;
+mod replacing;
+mod stateless;
+mod transition;
+mod transitions;
+
+pub use barring::{BarredChars, Barring, CharList, NoChars};
+pub use byte_lengths::ByteLengths;
+pub use char_encoder::CharEncoder;
+pub use character_set::CharacterSet;
+pub use encoding::{encode_mappable, encode_reporting};
+pub use machine::run;
+pub use made_bytes::{four, one, two};
+pub use raw_encoder::RawEncoder;
+pub use reference::{LONGEST_REFERENCE, put_reference};
+pub use replacing::encode_replacing;
+pub use stateless::{Repertoire, StatelessEncoder};

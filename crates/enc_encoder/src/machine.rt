@@ -1,0 +1,110 @@
+//! The loop over the characters of a call, for every encoder and every input.
+
+ghost use Rattle.std.specs.Prelude.{◌≡◌, ℕ, ◌+◌, ◌-◌, ◌<◌, ◌≤◌, ◌++◌, length, take, drop, IsTrue, IsFalse};
+ghost use Rattle.enc_units.specs.Bytes.{byte_list};
+ghost use Rattle.enc_encoder.specs.CharLaw.{HandlesCharacter, IsStepAtEnd, IsNextStepOfCall};
+ghost use Rattle.enc_encoder.specs.Call.{EncoderCallInto};
+ghost use Rattle.enc_encoder.specs.EncoderRule.{IsLawfulEncoderRule};
+ghost use Rattle.enc_encoder.specs.Text.{KeepsText};
+ghost use Rattle.enc_encoder.specs.Need.{MeetsEncodeNeed};
+
+use crate::char_encoder::CharEncoder;
+use crate::character_set::CharacterSet;
+use crate::transition::Transition;
+use crate::transitions::{first_written_char, take_char, take_escape};
+use enc_units::{Bytes, Chars, EncoderResult};
+
+/// Returns the first step for the next character.
+#[inline(always)]
+fn next_step<E: CharEncoder>(encoder: E, c: char) -> Transition<E>
+    ensures { HandlesCharacter E.state encoder c result }
+{
+    let found = encoder.bytes(c);
+    match encoder.escape_before(first_written_char(c, found)) {
+        Some(next) => take_escape(next, next.set()),
+        None => take_char(encoder, encoder.reported(c), found),
+    }
+}
+
+/// Returns the step at the end of the text, if there is one.
+fn step_at_end<E: CharEncoder>(encoder: E) -> Option<Transition<E>>
+    ensures { IsStepAtEnd E.state encoder result }
+{
+    match encoder.escape_at_end() {
+        Some(next) => Some(take_escape(next, CharacterSet::Ascii)),
+        None => None,
+    }
+}
+
+/// Returns the next step of a call: for the next character, or at the end of the text, or none.
+#[inline(always)]
+fn what_comes<E: CharEncoder, C: Chars>(encoder: E, src: &C, last: bool) -> Option<Transition<E>>
+    ensures { IsNextStepOfCall E.state encoder (C.rest src.now) last result }
+{
+    match src.peek() {
+        Some((c, _)) => Some(next_step(encoder, c)),
+        None => { if last { step_at_end(encoder) } else { None } }
+    }
+}
+
+/// Writes bytes after those written and returns true, or writes nothing and returns false if they
+/// do not fit.
+#[inline(always)]
+fn put(dst: &mut [u8], written: usize, bytes: Bytes) -> bool
+    requires { written ≤ length dst.old }
+    ensures count { bytes.len ≡ length (byte_list bytes) }
+    ensures fits { IsTrue result → written + length (byte_list bytes) ≤ length dst.old }
+    ensures full { IsFalse result → length dst.old < written + length (byte_list bytes) }
+    ensures put { IsTrue result → dst.new ≡ take written dst.old ++ (byte_list bytes ++ drop (written + length (byte_list bytes)) dst.old) }
+    ensures unchanged { IsFalse result → dst.new ≡ dst.old }
+{
+    if bytes.len > dst.len() - written {
+        return false;
+    }
+    dst[written..written + bytes.len].copy_from_slice(&bytes.bytes[..bytes.len]);
+    true
+}
+
+/// Encodes by an encoder that takes one character at a time: the loop of every encoder's call.
+///
+/// It stops when all characters are read, the bytes that come next do not fit, or a character is
+/// unmappable. Takes no memory.
+pub fn run<E: CharEncoder, C: Chars>(
+    encoder: &mut E,
+    src: &mut C,
+    dst: &mut [u8],
+    last: bool,
+) -> (EncoderResult, usize, usize)
+    requires lawful { IsLawfulEncoderRule (E.state encoder.old).rule }
+    ensures call { EncoderCallInto C.units_of (E.state encoder.old) (E.state encoder.new) (C.rest src.old) (C.rest src.new) last
+        dst.old dst.new result.0 result.1 result.2 }
+    ensures text { KeepsText (E.state encoder.old) (E.state encoder.new) (C.rest src.old) (C.rest src.new) last result.0
+        (take result.2 dst.new) }
+    ensures need { MeetsEncodeNeed (E.state encoder.old) (E.state encoder.new) (C.rest src.old) (C.rest src.new) last (length dst.old)
+        result.0 result.2 }
+{
+    let unread = src.unread();
+    let mut state = *encoder;
+    let mut written = 0;
+    loop {
+        let Some(taken) = what_comes(state, src, last) else {
+            *encoder = state;
+            return (EncoderResult::InputEmpty, unread - src.unread(), written);
+        };
+        if let Some(c) = taken.report {
+            src.advance();
+            *encoder = taken.next;
+            return (EncoderResult::Unmappable(c), unread - src.unread(), written);
+        }
+        if !put(dst, written, taken.bytes) {
+            *encoder = state;
+            return (EncoderResult::OutputFull, unread - src.unread(), written);
+        }
+        if taken.reads {
+            src.advance();
+        }
+        written += taken.bytes.len;
+        state = taken.next;
+        written += state.write_run(src, dst, written);
+    }
+}

@@ -1,0 +1,77 @@
+//! The contract of every encoder.
+
+ghost use Rattle.std.specs.Prelude.{◌≡◌, length, take};
+ghost use Rattle.enc_encoder.specs.EncoderRule.{RawEncoderState, IsLawfulEncoderRule, is_escape_due};
+ghost use Rattle.enc_encoder.specs.Call.{EncoderCallInto};
+ghost use Rattle.enc_encoder.specs.Text.{KeepsText};
+ghost use Rattle.enc_encoder.specs.Need.{MeetsEncodeNeed, AreEnoughForEncoder};
+ghost use Rattle.enc_encoder.specs.Lengths.{from_utf_8_length, from_utf_16_length};
+ghost use Rattle.enc_encoder.specs.declared.byte_lengths.ByteLengths.{ByteLengths};
+
+use crate::byte_lengths::ByteLengths;
+use enc_units::{Chars, EncoderResult};
+
+/// An encoder of one encoding (Encoding Standard 4.1).
+///
+/// Its value is a state between two calls: its rule, which gives the bytes of characters, and the
+/// designated character set. After the end of a text it is at the start of another.
+pub trait RawEncoder {
+    // its rule, and the designated character set
+    ghost state: { Self → RawEncoderState };
+
+    // the formulas for lengths to allocate
+    ghost formulas: { Self → ByteLengths };
+
+    /// Encodes a chunk, without replacement (Encoding Standard 4.1, error mode "fatal").
+    ///
+    /// It stops when all characters are read, the bytes that come next do not fit into `dst`, or a
+    /// character is unmappable. With `last` nothing follows `src`, and the text is ended. Returns
+    /// why it stopped, the number of code units read from `src`, and the number of bytes written to
+    /// `dst`.
+    ///
+    /// The bytes of a character are written together; an escape sequence before it may be written
+    /// alone. The bytes of `dst` after those written are unchanged. Takes no memory.
+    fn encode<C: Chars>(
+        &mut self,
+        src: &mut C,
+        dst: &mut [u8],
+        last: bool,
+    ) -> (EncoderResult, usize, usize)
+        ensures call { EncoderCallInto C.units_of (state self.old) (state self.new) (C.rest src.old) (C.rest src.new) last
+            dst.old dst.new result.0 result.1 result.2 }
+        ensures text { KeepsText (state self.old) (state self.new) (C.rest src.old) (C.rest src.new) last result.0
+            (take result.2 dst.new) }
+        ensures need { MeetsEncodeNeed (state self.old) (state self.new) (C.rest src.old) (C.rest src.new) last (length dst.old)
+            result.0 result.2 }
+        ensures lawful { IsLawfulEncoderRule (state self.old).rule }
+        ensures formulas { formulas self.new ≡ formulas self.old };
+
+    /// Returns whether an escape sequence is due at the end of the text.
+    ///
+    /// That is so while a character set other than ASCII is designated. Takes no memory.
+    fn has_pending_state(&self) -> bool
+        ensures { result ≡ is_escape_due (state self.now).set };
+
+    /// Returns the formulas for the lengths to allocate, which are enough from any state on.
+    ///
+    /// Takes no memory.
+    fn byte_lengths(&self) -> ByteLengths
+        ensures formulas { result ≡ formulas self.now }
+        ensures enough { AreEnoughForEncoder (formulas self.now) (state self.now) };
+
+    /// Returns the length in bytes to allocate for `byte_length` more bytes of UTF-8.
+    ///
+    /// It is enough without replacement. `None` if it overflows `usize`. Takes no memory.
+    fn max_buffer_length_from_utf8_without_replacement(&self, byte_length: usize) -> Option<usize>
+        ensures { result ≡ from_utf_8_length (formulas self.now) byte_length }
+    {
+        self.byte_lengths().from_utf8(byte_length)
+    }
+
+    /// Returns the same for `u16_length` code units of UTF-16. Takes no memory.
+    fn max_buffer_length_from_utf16_without_replacement(&self, u16_length: usize) -> Option<usize>
+        ensures { result ≡ from_utf_16_length (formulas self.now) u16_length }
+    {
+        self.byte_lengths().from_utf16(u16_length)
+    }
+}

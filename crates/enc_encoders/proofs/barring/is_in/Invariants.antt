@@ -1,7 +1,0 @@
-use Rattle.std.proofs.Common.{◌≡◌, drop}
-use Rattle.enc_encoders.specs.Barring.{contains_char}
-use Rattle.enc_encoders.proofs.barring.is_in.Given as goal
-
--- none of those before is the character
-abbrev pub invariant-loop-i : goal.invariant-loop-i
-invariant-loop-i l = contains_char l.barred l.c ≡ contains_char (drop l.i l.barred) l.c

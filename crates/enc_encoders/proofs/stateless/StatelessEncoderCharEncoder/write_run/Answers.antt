@@ -1,8 +1,0 @@
-use Rattle.enc_encoders.specs.declared.character_set.CharacterSet.TheVariants.{Ascii}
-use Rattle.enc_encoders.specs.Stateless.{stateless_rule}
-use Rattle.enc_encoders.proofs.RunLemmas.{writes_in_set}
-use Rattle.enc_encoders.proofs.stateless.StatelessEncoderCharEncoder.write_run.Goals as goal
-
-pub returns : goal.returns
-returns g c = writes_in_set (stateless_rule (g.R.Repertoire.bytes_for c.args.self.repertoire)) Ascii _ _ _ _ _ _
-    c.write_mapped.ensures

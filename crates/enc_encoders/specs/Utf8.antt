@@ -1,5 +1,0 @@
--- UTF-8 (Encoding Standard 8.1.2, "UTF-8 encoder"; Unicode Standard 3.9, D92).
-use Rattle.std.specs.Prelude.{ℕ, Option, Some, List, encode_utf8}
-
-abbrev pub utf_8_bytes : ℕ → Option (List ℕ)
-utf_8_bytes c = Some (encode_utf8 c)

@@ -1,3 +1,0 @@
-pub mod OrderLemmas
-pub mod WordSearchLemmas
-pub mod TableLemmas

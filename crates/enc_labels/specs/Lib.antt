@@ -1,4 +1,0 @@
-pub mod Order
-pub mod Place
-pub mod Table
-pub mod Words

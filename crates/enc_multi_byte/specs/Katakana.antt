@@ -1,9 +1,0 @@
--- Half-width katakana in the Japanese encodings (Encoding Standard 12).
-use Rattle.std.specs.Prelude.{ℕ, ◌+◌, ◌-◌, Bool, ◌&&◌, nat_le}
-
-abbrev pub is_katakana_byte : ℕ → Bool
-is_katakana_byte b = nat_le 0xA1 b && nat_le b 0xDF
-
--- A1 to DF are U+FF61 to U+FF9F
-abbrev pub katakana_of_byte : ℕ → ℕ
-katakana_of_byte b = 0xFF61 + (b - 0xA1)

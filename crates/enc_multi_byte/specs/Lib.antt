@@ -1,8 +1,0 @@
-pub mod MultiByte
-pub mod DoubleByte
-pub mod EucKr
-pub mod Big5
-pub mod Katakana
-pub mod ShiftJis
-pub mod EucJp
-pub mod Gb18030

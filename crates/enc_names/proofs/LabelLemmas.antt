@@ -1,0 +1,93 @@
+-- The place of a label in the table gives its encoding.
+use Rattle.std.proofs.Common.{◌≡◌, ◌∙◌, ℕ, zero, suc, ◌<◌, Bool, true, false, List, [], ◌∷◌, map, length, get_or}
+use Rattle.std.proofs.Common.{Option, Some, None, is_some, refl, sym, ap, arith}
+use Rattle.std.specs.Prelude.{option_map, if◌then◌else◌}
+use Rattle.std.specs.List.{list_all}
+use Rattle.std.specs.Char.{to_ascii_lowercase}
+use Rattle.std.specs.Str.{bytes_eq, IsTrimAscii}
+use Rattle.std.specs.Cmp.{first_so, second_so}
+use Rattle.std.proofs.lemmas.Bool.{false≢true}
+use Rattle.std.proofs.lemmas.Slice.Eq.{bytes_eq-Decides}
+use Rattle.std.proofs.lemmas.Str.Ascii.{trim_ascii_is}
+use Rattle.enc_names.specs.Place.{word_place}
+use Rattle.enc_names.specs.Table.{table}
+use Rattle.enc_names.specs.declared.encoding_id.EncodingId.{EncodingId}
+use Rattle.enc_names.specs.LabelIds.{id_pairs, id_paired_with, trim_start, trim_end, id_of_label}
+
+-- at the place of a word stands that word
+placed : (labels : List (List ℕ)) (word : List ℕ) (i : ℕ) → word_place labels word ≡ Some i → get_or labels i [] ≡ word
+placed [] word i found_at = absurd (let no : ⊥ = cc in no)
+placed (label ∷ labels) word i found_at = by_test (bytes_eq label word) refl (λ j e. placed labels word j e)
+  where
+    later : (o : Option ℕ) → ((j : ℕ) → o ≡ Some j → get_or labels j [] ≡ word) → option_map suc o ≡ Some i
+        → get_or (label ∷ labels) i [] ≡ word
+    later None f g = absurd (let no : ⊥ = cc in no)
+    later (Some j) f g = let k : suc j ≡ i = cc in ap (λ n. get_or (label ∷ labels) n []) (sym k) ∙ f j refl
+
+    by_test : (b : Bool) → bytes_eq label word ≡ b → ((j : ℕ) → word_place labels word ≡ Some j
+        → get_or labels j [] ≡ word) → get_or (label ∷ labels) i [] ≡ word
+    by_test true equal_is f =
+        let g : Some 0 ≡ Some i =
+        sym (ap (λ (b : Bool). if b then Some 0 else option_map suc (word_place labels word)) equal_is)
+        ∙ found_at in
+        let k : 0 ≡ i = cc in
+        ap (λ n. get_or (label ∷ labels) n []) (sym k) ∙ (bytes_eq-Decides label word).0 equal_is
+    by_test false equal_is f =
+        later (word_place labels word) f
+        (sym (ap (λ (b : Bool). if b then Some 0 else option_map suc (word_place labels word)) equal_is) ∙ found_at)
+
+-- the encodings in the order of the labels
+
+at_place : (labels : List (List ℕ)) (encodings : List EncodingId) (f : List ℕ → Option EncodingId) (i : ℕ)
+    (d : EncodingId) → map Some encodings ≡ map f labels → i < length encodings
+    → Some (get_or encodings i d) ≡ f (get_or labels i [])
+at_place labels [] f i d h l = absurd (let no : ⊥ = omega arith in no)
+at_place [] (e ∷ encodings) f i d h l = absurd (let no : ⊥ = cc in no)
+at_place (label ∷ labels) (e ∷ encodings) f zero d h l = cc
+at_place (label ∷ labels) (e ∷ encodings) f (suc i) d h l = at_place labels encodings f i d
+    (let t : map Some encodings ≡ map f labels = cc in t) (omega arith)
+
+-- a word that is no label of the table is no label
+
+have_places : List (List ℕ × EncodingId) → Bool
+have_places pairs = list_all (λ pair. is_some (word_place table pair.0)) pairs
+
+all_have_places : have_places id_pairs ≡ true
+unfolding have_places id_pairs table
+all_have_places = refl
+
+unplaced : (pairs : List (List ℕ × EncodingId)) (word : List ℕ) → have_places pairs ≡ true
+    → word_place table word ≡ None → id_paired_with pairs word ≡ None
+unfolding have_places
+unplaced [] word places_hold not_found = refl
+unplaced (pair ∷ pairs) word places_hold not_found =
+    let first : is_some (word_place table pair.0) ≡ true =
+    first_so (is_some (word_place table pair.0)) (have_places pairs) places_hold in
+    let o : bytes_eq pair.0 word ≡ false = other (bytes_eq pair.0 word) refl first in
+    let rest : id_paired_with pairs word ≡ None =
+    unplaced pairs word (second_so (is_some (word_place table pair.0)) (have_places pairs) places_hold) not_found in
+    rw (o, rest) refl
+  where
+    other : (b : Bool) → bytes_eq pair.0 word ≡ b → is_some (word_place table pair.0) ≡ true
+        → bytes_eq pair.0 word ≡ false
+    other true e s =
+        absurd (false≢true (sym (ap is_some (ap (word_place table) ((bytes_eq-Decides pair.0 word).0 e) ∙ not_found))
+        ∙ s))
+    other false e s = e
+
+-- the place of a trimmed label gives its encoding
+module _ (label trimmed : List ℕ) (trim : IsTrimAscii label trimmed) where
+  word_is : map to_ascii_lowercase trimmed ≡ map to_ascii_lowercase (trim_end (trim_start label))
+  word_is = ap (map to_ascii_lowercase) (trim_ascii_is label trimmed (trim_start label) refl trim)
+
+  pub gets : (encodings : List EncodingId) (i : ℕ) (d : EncodingId) → map Some encodings
+      ≡ map (id_paired_with id_pairs) table → i < length encodings
+      → Some i ≡ word_place table (map to_ascii_lowercase trimmed)
+      → Some (get_or encodings i d) ≡ id_of_label label
+  gets encodings i d h l p =
+      at_place table encodings (id_paired_with id_pairs) i d h l ∙ ap (id_paired_with id_pairs)
+      (placed table (map to_ascii_lowercase trimmed) i (sym p) ∙ word_is)
+
+  pub gets_none : None ≡ word_place table (map to_ascii_lowercase trimmed) → None ≡ id_of_label label
+  gets_none p = sym (unplaced id_pairs (map to_ascii_lowercase trimmed) all_have_places (sym p))
+      ∙ ap (id_paired_with id_pairs) word_is

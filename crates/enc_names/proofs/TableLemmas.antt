@@ -1,0 +1,56 @@
+-- The table, by computation.
+use Rattle.std.proofs.Common.{◌≡◌, ℕ, suc, ◌<◌, ◌≤◌, true, false, Bool, List, [], ◌∷◌, length, map, Option, Some, None}
+use Rattle.std.proofs.Common.{refl, ap, arith, nat_le, leb-true}
+use Rattle.std.specs.Prelude.{IfSome}
+use Rattle.std.specs.Borrow.{Bor}
+use Rattle.std.specs.Char.{to_ascii_lowercase}
+use Rattle.std.specs.List.{list_all}
+use Rattle.std.specs.Str.{bytes_eq}
+use Rattle.std.specs.Cmp.{first_so, second_so}
+use Rattle.std.proofs.lemmas.Slice.Eq.{bytes_eq-Decides}
+use Rattle.enc_names.specs.Order.{are_ascending_words}
+use Rattle.enc_names.specs.Place.{word_place, texts_of}
+use Rattle.enc_names.specs.Table.{table}
+use Rattle.enc_names.specs.declared.words.TheConstants.{LONGEST}
+use Rattle.enc_names.proofs.WordSearchLemmas.{texts_len}
+
+pub table_ascends : are_ascending_words table ≡ true
+unfolding are_ascending_words table
+table_ascends = refl
+
+-- no label is longer than the longest
+
+are_short : List (List ℕ) → Bool
+are_short words = list_all (λ word. nat_le (length word) LONGEST) words
+
+table_is_short : are_short table ≡ true
+unfolding are_short table
+table_is_short = refl
+
+map_len : (f : ℕ → ℕ) (word : List ℕ) → length (map f word) ≡ length word
+map_len f [] = refl
+map_len f (b ∷ word) = ap suc (map_len f word)
+
+none_longer : (words : List (List ℕ)) (word : List ℕ) → are_short words ≡ true → LONGEST < length word → word_place words word ≡ None
+unfolding are_short
+none_longer [] word all_short l = refl
+none_longer (one ∷ words) word all_short l =
+    let m : length one ≤ LONGEST =
+    leb-true (length one) LONGEST (first_so (nat_le (length one) LONGEST) (are_short words) all_short) in
+    let o : bytes_eq one word ≡ false = other (bytes_eq one word) refl m in
+    let n : word_place words word ≡ None =
+    none_longer words word (second_so (nat_le (length one) LONGEST) (are_short words) all_short) l in
+    rw (o, n) refl
+  where
+    other : (b : Bool) → bytes_eq one word ≡ b → length one ≤ LONGEST → bytes_eq one word ≡ false
+    other true compared m =
+        absurd (let f = ap length ((bytes_eq-Decides one word).0 compared) in let no : ⊥ = omega arith in no)
+    other false compared m = compared
+
+pub longer_is_none : (word : List ℕ) → LONGEST < length word → word_place table (map to_ascii_lowercase word) ≡ None
+longer_is_none word l = none_longer table (map to_ascii_lowercase word) table_is_short (let e = map_len to_ascii_lowercase word in omega arith)
+
+-- a place among the texts of the table is one in the table
+pub within_table : (texts : List (Bor (List ℕ))) (place : Option ℕ) → texts_of texts ≡ table → IfSome place (λ i. i < length texts) → IfSome place (λ i. i < length table)
+within_table texts None e h = h
+within_table texts (Some i) e h = let n = texts_len texts in let m = ap length e in omega arith

@@ -1,0 +1,13 @@
+//! The encodings by identifier: names, labels, codecs and properties (Encoding Standard 4.2).
+//! Labels are in a table with binary search.
+#![tactic(auto)]
+
+mod encoding_id;
+mod encoding_table;
+mod labels;
+pub mod laws;
+mod search;
+mod table;
+mod words;
+
+pub use encoding_id::EncodingId;

@@ -1,6 +1,0 @@
-use Rattle.std.proofs.Common.{◌∙◌}
-use Rattle.enc_pointers.proofs.MultiBytePages.{big5_pages}
-use Rattle.enc_pointers.proofs.pointers.big5.Goals as goal
-
-pub returns-clause-value : goal.returns-clause-value
-returns-clause-value c = c.pointer_in.ensures.value ∙ big5_pages c.args.c

@@ -1,6 +1,0 @@
-use Rattle.std.proofs.Common.{◌∙◌}
-use Rattle.enc_pointers.proofs.MultiBytePages.{euc_kr_pages}
-use Rattle.enc_pointers.proofs.pointers.euc_kr.Goals as goal
-
-pub returns-clause-value : goal.returns-clause-value
-returns-clause-value c = c.pointer_in.ensures.value ∙ euc_kr_pages c.args.c

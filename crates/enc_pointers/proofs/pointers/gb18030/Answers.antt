@@ -1,6 +1,0 @@
-use Rattle.std.proofs.Common.{◌∙◌}
-use Rattle.enc_pointers.proofs.MultiBytePages.{gb18030_pages}
-use Rattle.enc_pointers.proofs.pointers.gb18030.Goals as goal
-
-pub returns-clause-value : goal.returns-clause-value
-returns-clause-value c = c.pointer_in.ensures.value ∙ gb18030_pages c.args.c

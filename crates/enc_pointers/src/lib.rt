@@ -1,9 +1,0 @@
-//! The pointers of characters in the indexes of the Encoding Standard (5), as encoders look them up in constant time,
-//! proved equal to what the indexes' entries say.
-#![tactic(auto)]
-
-mod look_up;
-mod pages;
-mod pointers;
-
-pub use pointers::{big5, euc_kr, gb18030, gb18030_ranges, jis0208, shift_jis, single_byte};

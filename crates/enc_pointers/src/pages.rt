@@ -1,8 +1,0 @@
-//! The pages of pointers, which scripts/make-indexes writes from data/indexes.
-
-pub mod big5;
-pub mod euc_kr;
-pub mod gb18030;
-pub mod gb18030_ranges;
-pub mod jis0208;
-pub mod single_byte;

@@ -1,9 +1,0 @@
-use Rattle.std.proofs.Common.{rules, refl}
-use Rattle.enc_recode.proofs.RunLemmas.{IsRecodeRun-read, IsRecodeRun-write, RunsToFault-none}
-use Rattle.enc_recode.proofs.engine.run.Goals as goal
-
-pub returns-then-failed : goal.returns-then-failed
-returns-then-failed g c = IsRecodeRun-read _ _ _ _ _ _ (RunsToFault-none _ _ _ _) (search rules)
-
-pub returns-then-failed-2 : goal.returns-then-failed-2
-returns-then-failed-2 g c = IsRecodeRun-write _ _ _ _ _ _ _ refl (RunsToFault-none _ _ _ _) (search rules)

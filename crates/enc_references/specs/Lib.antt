@@ -1,3 +1,0 @@
-pub mod ErrorMode
-pub mod Replacing
-pub mod Unmappable

@@ -1,0 +1,122 @@
+-- The encoders of the encodings.
+use Rattle.std.proofs.Common.{◌≡◌, ℕ, ◌+◌, ◌-◌, ◌≤◌, Bool, true, false, not, is_some, Option, Some, None, option_map}
+use Rattle.std.proofs.Common.{List, [], ◌∷◌, ◌++◌, length, take, drop, refl, ap, sym, subst, ◌∙◌, arith, append_assoc}
+use Rattle.std.proofs.Common.{length-append, length-take, if◌then◌else◌}
+use Rattle.std.proofs.lemmas.List.{drop-take, take-append-le, take-append-drop}
+use Rattle.std.proofs.Math.Seq.{drop-append_seam}
+use Rattle.enc_encoder.specs.EncoderRule.{EncoderRule, RawEncoderState, is_escape_due}
+use Rattle.enc_encoder.specs.Barring.{barring_rule}
+use Rattle.enc_encoder.specs.declared.character_set.CharacterSet.TheVariants.{Ascii, Roman, Jis0208}
+use Rattle.enc_encoder.specs.declared.character_set.CharacterSet.{CharacterSet}
+use Rattle.enc_units.specs.declared.encoder_result.EncoderResult.{EncoderResult}
+use Rattle.enc_units.specs.declared.encoder_result.EncoderResult.TheVariants.{InputEmpty, OutputFull, Unmappable}
+use Rattle.enc_encoder.specs.Steps.{Step}
+use Rattle.enc_encoder.specs.ErrorMode.{EncodeErrorMode, Fatal, Html, MapsEveryCharacter, EncoderCallInMode}
+use Rattle.enc_encoder.specs.ErrorMode.{StopsInMode, is_nothing_left}
+use Rattle.enc_encode.specs.Encoders.{encoder_rule}
+use Rattle.enc_names.specs.declared.encoding_id.EncodingId.{EncodingId}
+use Rattle.enc_names.specs.declared.encoding_id.EncodingId.TheVariants.{Utf8}
+use Rattle.enc_stream.specs.declared.encoding.Encoding.{Encoding}
+use Rattle.enc_names.specs.EncodingTable.{codec_by_id, output_by_id}
+use Rattle.enc_stream.specs.Encodings.{rule_or_utf_8, output_rule}
+use Rattle.enc_stream.specs.Properties.{output_encoding_of}
+use Rattle.enc_stream.specs.Encoder.{EncoderState, EncodesChunk, is_utf_8, maps_every_character, html_mode_in}
+
+has_encoder_by_id : (id : EncodingId) → is_some (encoder_rule (codec_by_id (output_by_id id))) ≡ true
+has_encoder_by_id Utf8 = refl
+has_encoder_by_id _ = refl
+
+-- the output encoding has an encoder
+pub has_encoder : (e : Encoding) → is_some (encoder_rule (codec_by_id (output_encoding_of e).id)) ≡ true
+has_encoder e = has_encoder_by_id e.id
+
+-- an encoder of the codec's rule, without the characters that are barred, writes by the encoding's
+pub is_output_rule : (b : List ℕ) (o : Option EncoderRule) (rule : EncoderRule) → option_map (barring_rule b) o ≡ Some rule → rule ≡ barring_rule b (rule_or_utf_8 o)
+is_output_rule b None rule e = cc
+is_output_rule b (Some x) rule e = cc
+
+-- how many bytes are kept back, where every character is mappable and elsewhere
+pub kept_by : (b : List ℕ) (e : Encoding) (every : Bool) → maps_every_character b e ≡ every → Html (if every then 0 else 10) ≡ html_mode_in b e
+kept_by b e every h = ap (λ t. Html (if t then 0 else 10)) (sym h)
+
+rule_by_id : EncodingId → EncoderRule
+rule_by_id id = rule_or_utf_8 (encoder_rule (codec_by_id id))
+
+utf_8_has : (id : EncodingId) → is_utf_8 id ≡ true → id ≡ Utf8
+utf_8_has Utf8 h = refl
+utf_8_has _ h = cc
+
+-- UTF-8 has every character, where none is barred
+pub maps_all : (b : List ℕ) (e : Encoding) (rule : EncoderRule) → rule ≡ output_rule b e → maps_every_character b e ≡ true → MapsEveryCharacter rule
+unfolding rule_by_id
+maps_all [] e rule r h = subst MapsEveryCharacter (sym (r ∙ ap rule_by_id (utf_8_has e.id h))) (λ c. refl)
+maps_all (x ∷ b) e rule r h = cc
+
+-- a call that has ended the text leaves ASCII designated
+
+ascii_left : (s : CharacterSet) → not (is_escape_due s) ≡ true → s ≡ Ascii
+ascii_left Ascii h = refl
+ascii_left Roman h = cc
+ascii_left Jis0208 h = cc
+
+nothing_pending : (v : RawEncoderState) (rest : List ℕ) (last : Bool) → is_nothing_left v rest last ≡ true → last ≡ true → v.set ≡ Ascii
+nothing_pending v [] true h l = ascii_left v.set h
+nothing_pending v [] false h l = cc
+nothing_pending v (c ∷ t) last h l = cc
+
+ends_in_ascii : (mode : EncodeErrorMode) (new : RawEncoderState) (rest : List ℕ) (last : Bool) (room : ℕ) (done : List Step) (result : EncoderResult) → StopsInMode mode new rest last room done result
+    → result ≡ InputEmpty → last ≡ true → new.set ≡ Ascii
+ends_in_ascii Fatal new rest last room done InputEmpty s q l = s.ended l
+ends_in_ascii (Html kept) new rest last room done InputEmpty s q l = nothing_pending new rest last s l
+ends_in_ascii mode new rest last room done OutputFull s q l = cc
+ends_in_ascii mode new rest last room done (Unmappable k) s q l = cc
+
+-- A call of the raw encoder is one of the encoder.
+module _ (units_of : ℕ → List ℕ) (b : List ℕ) (e : Encoding) (old new : RawEncoderState) (keeps : old.rule ≡ output_rule b e) (mode : EncodeErrorMode)
+    (src rest : List ℕ) (last : Bool) (room : ℕ) (result : EncoderResult) (read : ℕ) (wrote : List ℕ) (replaced : Bool)
+    (call : EncoderCallInMode units_of mode old new src rest last room result read wrote replaced) where
+  pub rule_stays : new.rule ≡ output_rule b e
+  rule_stays = call.rule ∙ keeps
+
+  same : (v : RawEncoderState) → v.rule ≡ output_rule b e → v ≡ record { rule = output_rule b e; set = v.set }
+  same v q = let made : EncoderRule → RawEncoderState = λ r. record { rule = r; set = v.set } in ap made q
+
+  encodes : EncodesChunk units_of mode (record { encoding = e; barred = b; set = old.set }) (record { encoding = e; barred = b; set = new.set }) src last room result read wrote replaced
+  encodes = record {
+    encoding = refl;
+    barred = refl;
+    rest = rest;
+    call = subst (λ (v : RawEncoderState). EncoderCallInMode units_of mode v (record { rule = output_rule b e; set = new.set }) src rest last room result read wrote replaced) (same old keeps)
+        (subst (λ (v : RawEncoderState). EncoderCallInMode units_of mode old v src rest last room result read wrote replaced) (same new rule_stays) call);
+    ended = λ q l. let made : CharacterSet → EncoderState = λ s. record { encoding = e; barred = b; set = s } in ap made (ends_in_ascii mode new rest last room call.done result call.stops q l);
+  }
+
+  pub encodes_by : (t : EncodeErrorMode) → mode ≡ t → EncodesChunk units_of t (record { encoding = e; barred = b; set = old.set }) (record { encoding = e; barred = b; set = new.set }) src last room result read wrote replaced
+  encodes_by t h = subst (λ (x : EncodeErrorMode). EncodesChunk units_of x (record { encoding = e; barred = b; set = old.set }) (record { encoding = e; barred = b; set = new.set }) src last room result read wrote replaced) h encodes
+
+-- A call whose bytes are at the end of another list than the one that it wrote into.
+pub in_tail : (units_of : ℕ → List ℕ) (mode : EncodeErrorMode) (old new : EncoderState) (src : List ℕ) (last : Bool) (room size : ℕ) (result : EncoderResult) (read : ℕ) (wrote tail : List ℕ) (replaced : Bool)
+    → room ≡ size → wrote ≡ tail → EncodesChunk units_of mode old new src last room result read wrote replaced → EncodesChunk units_of mode old new src last size result read tail replaced
+in_tail units_of mode old new src last room size result read wrote tail replaced r w e =
+    subst (λ (n : ℕ). EncodesChunk units_of mode old new src last n result read tail replaced) r
+    (subst (λ (x : List ℕ). EncodesChunk units_of mode old new src last room result read x replaced) w e)
+
+-- The rest of a list after its front, if it was cut after the bytes written there.
+pub tail_of : (front slice post junk final : List ℕ) (len written n : ℕ) → length front ≡ len → written ≤ length slice → len + written ≤ n
+    → final ≡ take (len + written) (take n ((front ++ (slice ++ post)) ++ junk)) → take written slice ≡ drop len final
+tail_of front slice post junk final len written n f written_fits room_fits e =
+    let following = slice ++ (post ++ junk) in
+    let all = (front ++ (slice ++ post)) ++ junk in
+    let split : all ≡ front ++ following =
+    append_assoc front (slice ++ post) junk ∙ ap (λ x. front ++ x) (append_assoc slice post junk) in
+    let m = n - len in
+    let dropped : drop len (take n all) ≡ take m following =
+    ap (λ k. drop len (take k all)) (let k : n ≡ len + m = omega (arith, room_fits) in k) ∙ drop-take len m all
+    ∙ ap (take m) (ap (drop len) split
+    ∙ ap (λ k. drop k (front ++ following)) (sym f) ∙ drop-append_seam front following) in
+    let reach : written ≤ length (take m following) =
+    omega (arith, room_fits, written_fits, length-take m following, length-append slice (post ++ junk)) in
+    sym (ap (drop len) e ∙ drop-take len written (take n all) ∙ ap (take written) dropped
+    ∙ sym (take-append-le written (take m following) (drop m following) reach)
+    ∙ ap (take written) (take-append-drop m following)
+    ∙ take-append-le written slice (post ++ junk) written_fits)

@@ -1,0 +1,272 @@
+-- One-shot calls: the text and the state after calls of a decoder that are offered the whole input.
+use Rattle.std.proofs.Common.{◌≡◌, ℕ, Bool, true, false, true≢false, List, [], ◌∷◌, ◌++◌, length, take, drop, refl, ap}
+use Rattle.std.proofs.Common.{◌∙◌, sym, subst, arith, append_assoc, append-nil, ◌||◌, if◌then◌else◌}
+use Rattle.std.proofs.lemmas.Bool.Decides.{nat_tests}
+use Rattle.std.proofs.lemmas.List.{take-append-drop}
+use Rattle.std.specs.Prelude.{Option, Some, None, IfSome, option_map, ◌==◌}
+use Rattle.std.specs.Char.{encode_utf8}
+use Rattle.enc_stream.specs.declared.bom.BomHandling.{BomHandling}
+use Rattle.enc_stream.specs.declared.bom.BomHandling.TheVariants.{Off, Sniff, Remove}
+use Rattle.enc_stream.specs.declared.encoding.Encoding.{Encoding}
+use Rattle.enc_names.specs.declared.encoding_id.EncodingId.{EncodingId}
+use Rattle.enc_names.specs.declared.encoding_id.EncodingId.TheVariants.{Utf8, Utf16be, Utf16le}
+use Rattle.enc_units.specs.declared.decoder_result.DecoderResult.{DecoderResult}
+use Rattle.enc_units.specs.declared.decoder_result.DecoderResult.TheVariants.{InputEmpty, OutputFull, Malformed}
+use Rattle.enc_units.specs.declared.coder_result.CoderResult.{CoderResult}
+use Rattle.enc_units.specs.declared.coder_result.CoderResult.TheVariants as coder
+use Rattle.enc_units.specs.Results.{decoder_result_of}
+use Rattle.enc_units.specs.Output.{units_of_text}
+use Rattle.enc_decoder.specs.Sequence.{Sequence, sequence_text, is_malformed, any_malformed}
+use Rattle.enc_decoder.specs.Call.{DecodeErrorMode, Fatal, reaches_end}
+use Rattle.enc_decoder.specs.Need.{MeetsDecodeNeed}
+use Rattle.enc_decoder.specs.Remainder.{AreBytes}
+use Rattle.enc_decoder.proofs.SequenceLemmas.{units-append, any_malformed-append}
+use Rattle.enc_decoder.proofs.SegmentationLemmas.{sequences_of-nil}
+use Rattle.enc_stream.specs.Encodings.{rule_of}
+use Rattle.enc_stream.specs.Bom.{Mark, marks_of_encoding, find_mark, sequences_by_mark}
+use Rattle.enc_stream.specs.LifeCycle.{encoding_of_mark_or}
+use Rattle.enc_stream.specs.Decoding.{DecoderState, has_finished, fresh_decoder, decoder_remainder, remaining_sequences}
+use Rattle.enc_stream.specs.Decoding.{whole_sequences, whole_utf_8, whole_malformed, DecodesChunk, DecodesReplacing}
+use Rattle.enc_stream.specs.Decoding.{AnswersDecodeReplacing, HasDecoded}
+use Rattle.enc_units.specs.Checked.{checked_add}
+use Rattle.enc_stream.specs.declared.lengths.Query.TheVariants as query
+use Rattle.enc_stream.specs.declared.lengths.Query.TheVariants.{Utf8Reporting}
+use Rattle.enc_stream.specs.Lengths.{max_length, IsEnoughRoom}
+use Rattle.enc_stream.specs.OneShot.{utf_8_without_replacement, HasRoomFor, IsTooLongAfterFull}
+use Rattle.enc_stream.proofs.EndOfInputLemmas.{fresh_sequences, finishes_by, finishes, whole_text, whole_flag}
+
+pub nothing : (bytes : List ℕ) → true ≡ (length bytes == 0) → bytes ≡ []
+nothing [] h = refl
+nothing (b ∷ bytes) h = let f : length (b ∷ bytes) ≡ 0 = grind (arith, nat_tests) in absurd (omega (arith, f))
+
+-- an empty input has no sequence
+
+removal_none : (id : EncodingId) → find_mark (marks_of_encoding id) [] ≡ None
+removal_none Utf8 = refl
+removal_none Utf16be = refl
+removal_none Utf16le = refl
+removal_none _ = refl
+
+pub none_whole : (handling : BomHandling) (e : Encoding) (bytes : List ℕ) → bytes ≡ []
+    → whole_sequences handling e bytes ≡ []
+none_whole Off e bytes h = ap (whole_sequences Off e) h ∙ sequences_of-nil (rule_of e) 0
+none_whole Sniff e bytes h = ap (whole_sequences Sniff e) h ∙ sequences_of-nil (rule_of e) 0
+none_whole Remove e bytes h =
+    ap (whole_sequences Remove e) h ∙ ap (λ (m : Option Mark). sequences_by_mark m e []) (removal_none e.id)
+    ∙ sequences_of-nil (rule_of e) 0
+
+-- no call
+pub none_decoded : (handling : BomHandling) (e : Encoding) (bytes : List ℕ) → HasDecoded handling e bytes bytes true
+    (fresh_decoder handling e) [] false
+none_decoded handling e bytes = record {
+  done = [];
+  whole = λ z h. fresh_sequences handling e (bytes ++ z);
+  text =
+      refl;
+  flag = refl;
+}
+
+-- One more call, whose text follows the text already written.
+module _ (handling : BomHandling) (e : Encoding) (bytes src : List ℕ) (old new : DecoderState) (before after : List ℕ)
+    (had : Bool) (decoded : HasDecoded handling e bytes src true old before had)
+    (mode : DecodeErrorMode) (room : ℕ) (result : DecoderResult) (read : ℕ) (replaced : Bool)
+    (decodes : DecodesChunk encode_utf8 mode old new src true room result read (drop (length before) after)
+    replaced) where
+  all_done : whole_sequences handling e bytes ≡ (decoded.done ++ decodes.call.done) ++ remaining_sequences new
+      (drop read src ++ [])
+  all_done =
+      ap (whole_sequences handling e) (sym (append-nil bytes)) ∙ decoded.whole [] (λ _. refl)
+      ∙ ap (λ ss. decoded.done ++ ss) (decodes.call.residual [] (λ _. refl))
+      ∙ sym (append_assoc decoded.done decodes.call.done (remaining_sequences new (drop read src ++ [])))
+
+  -- if the call puts out all sequences that it does, their text is appended
+  pub goes_on : take (length before) after ≡ before → decodes.call.put ≡ decodes.call.done
+      → HasDecoded handling e bytes (drop read src) true new after (had || replaced)
+  goes_on t all_put = record {
+    done = decoded.done ++ decodes.call.done;
+    whole = λ z at_end. decoded.whole z at_end ∙ ap (λ ss. decoded.done ++ ss) (decodes.call.residual z at_end)
+        ∙ sym (append_assoc decoded.done decodes.call.done (remaining_sequences new (drop read src ++ z)));
+    text = sym (take-append-drop (length before) after) ∙ ap (λ x. x ++ drop (length before) after) (t ∙ decoded.text)
+        ∙ ap (λ x. units_of_text encode_utf8 (sequence_text decoded.done) ++ x) (decodes.call.text
+        ∙ ap (λ ss. units_of_text encode_utf8 (sequence_text ss)) all_put)
+        ∙ sym (units-append encode_utf8 decoded.done decodes.call.done);
+    flag =
+        ap (λ x. x || replaced) decoded.flag
+        ∙ ap (λ x. any_malformed decoded.done || x) (decodes.call.flag ∙ ap any_malformed all_put)
+        ∙ sym (any_malformed-append decoded.done decodes.call.done);
+  }
+
+-- The same if the call is offered the unread bytes, and writes after the text already written.
+pub next_call : (handling : BomHandling) (e : Encoding) (bytes unread : List ℕ) (old new : DecoderState)
+    (wrote : List ℕ) (had : Bool) → HasDecoded handling e bytes unread true old wrote had
+    → (src before after : List ℕ) → src ≡ unread → before ≡ wrote → (mode : DecodeErrorMode) (room : ℕ)
+    (result : DecoderResult) (read : ℕ) (replaced : Bool)
+    → (decodes : DecodesChunk encode_utf8 mode old new src true room result read (drop (length before) after) replaced)
+    → take (length before) after ≡ before → decodes.call.put ≡ decodes.call.done
+    → HasDecoded handling e bytes (drop read src) true new after (had || replaced)
+next_call handling e bytes unread old new wrote had h src before after s b mode room result read replaced d t p =
+    let g : HasDecoded handling e bytes src true old before had = rw (s, b) h in
+    goes_on handling e bytes src old new before after had g mode room result read replaced d t p
+
+-- and of the first call
+pub first_call : (handling : BomHandling) (e : Encoding) (bytes : List ℕ) (old new : DecoderState)
+    → old ≡ fresh_decoder handling e
+    → (before after : List ℕ) → before ≡ [] → (mode : DecodeErrorMode) (room : ℕ) (result : DecoderResult) (read : ℕ)
+    (replaced : Bool)
+    → (decodes : DecodesChunk encode_utf8 mode old new bytes true room result read (drop (length before) after)
+    replaced) → take (length before) after ≡ before → decodes.call.put ≡ decodes.call.done
+    → HasDecoded handling e bytes (drop read bytes) true new after replaced
+first_call handling e bytes old new o before after b mode room result read replaced d t p =
+    let g : HasDecoded handling e bytes bytes true old [] false = rw o (none_decoded handling e bytes) in
+    next_call handling e bytes bytes old new [] false g bytes before after refl b mode room result read replaced d t p
+
+or_true : (b : Bool) → (b || true) ≡ true
+or_true true = refl
+or_true false = refl
+
+any_of_last : (ss ts : List Sequence) (s : Sequence) → is_malformed s.kind ≡ true
+    → any_malformed ((ss ++ s ∷ []) ++ ts) ≡ true
+any_of_last [] ts s h = ap (λ b. b || any_malformed ts) h
+any_of_last (t ∷ ss) ts s h = ap (λ b. is_malformed t.kind || b) (any_of_last ss ts s h) ∙ or_true (is_malformed t.kind)
+
+-- a malformed sequence that is reported is one of the whole input
+pub is_malformed_input : (handling : BomHandling) (e : Encoding) (bytes src : List ℕ) (old new : DecoderState)
+    (before after : List ℕ) (had : Bool) (h : HasDecoded handling e bytes src true old before had)
+    (mode : DecodeErrorMode) (room l a read : ℕ) (replaced : Bool)
+    → DecodesChunk encode_utf8 mode old new src true room (Malformed l a) read (drop (length before) after) replaced
+    → whole_malformed handling e bytes ≡ true
+is_malformed_input handling e bytes src old new before after had decoded mode room l a read replaced decodes =
+    let at = decodes.call.stops in
+    let rest = remaining_sequences new (drop read src ++ []) in
+    ap any_malformed (all_done handling e bytes src old new before after had decoded mode room (Malformed l a) read
+    replaced decodes
+    ∙ ap (λ ss. (decoded.done ++ ss) ++ rest) at.then_next
+    ∙ ap (λ ss. ss ++ rest) (sym (append_assoc decoded.done decodes.call.put (at.next ∷ []))))
+    ∙ any_of_last (decoded.done ++ decodes.call.put) rest at.next at.malformed
+
+-- a call that is not at the end leaves a decoder open
+pub still_open : (old new : DecoderState) (src : List ℕ) (room : ℕ) (result : CoderResult) (read : ℕ) (wrote : List ℕ)
+    (replaced : Bool)
+    → DecodesReplacing encode_utf8 old new src true room result read wrote replaced → ¬ (result ≡ coder.InputEmpty)
+    → has_finished new ≡ false
+still_open old new src room coder.InputEmpty read wrote replaced d n = absurd (n refl)
+still_open old new src room coder.OutputFull read wrote replaced d n = finishes old new src true room coder.OutputFull
+    read wrote replaced d
+
+-- and one that is leaves it finished
+pub now_finished : (old new : DecoderState) (src : List ℕ) (room : ℕ) (result : CoderResult) (read : ℕ)
+    (wrote : List ℕ) (replaced : Bool)
+    → DecodesReplacing encode_utf8 old new src true room result read wrote replaced → result ≡ coder.InputEmpty
+    → has_finished new ≡ true
+now_finished old new src room result read wrote replaced d f = finishes old new src true room result read wrote
+    replaced d ∙ ap (λ r. reaches_end true (decoder_result_of r)) f
+
+-- with enough room a call is never full
+pub never_full : (units_of : ℕ → List ℕ) (mode : DecodeErrorMode) (length_answered : Option ℕ) (old new : DecoderState)
+    (src : List ℕ) (n room : ℕ)
+    (result : DecoderResult) (read written : ℕ)
+    → IfSome length_answered (IsEnoughRoom units_of mode old n) → HasRoomFor length_answered room → AreBytes src
+    → length src ≡ n
+    → MeetsDecodeNeed units_of mode (decoder_remainder old) (decoder_remainder new) src true room result read written
+    → result ≡ OutputFull → ⊥
+never_full units_of mode None old new src n room result read written enough has are l m f = has
+never_full units_of mode (Some answer) old new src n room result read written enough has are l m f =
+    let exceeds = m.full.0 f in let more = exceeds.more in
+    enough src true are l (record {
+      sequences = exceeds.sequences;
+      determined = exceeds.determined;
+      more = omega (arith, has, more);
+    })
+
+-- The first call answers `OutputFull`, and the length query after it overflows usize.
+pub too_long_after : (handling : BomHandling) (e : Encoding) (bytes : List ℕ) (old new : DecoderState)
+    → old ≡ fresh_decoder handling e
+    → (length_answered : Option ℕ) → length_answered ≡ max_length Utf8Reporting old (length bytes) → (room : ℕ)
+    → HasRoomFor length_answered room
+    → (result : CoderResult) → ¬ (result ≡ coder.InputEmpty) → (read : ℕ) (wrote : List ℕ) (replaced : Bool)
+    → AnswersDecodeReplacing encode_utf8 4 old new bytes true room result read wrote replaced
+    → checked_add (max_length query.Utf8 new (length (drop read bytes))) (length wrote) ≡ None
+    → IsTooLongAfterFull handling e bytes
+too_long_after handling e bytes old new is_fresh answer t room h coder.InputEmpty n read wrote replaced call p =
+    absurd (n refl)
+too_long_after handling e bytes old new is_fresh answer t room h coder.OutputFull n read wrote replaced call p = record {
+  room = room;
+  enough =
+      subst (λ (n : Option ℕ). HasRoomFor n room) (t ∙ ap (λ d. max_length Utf8Reporting d (length bytes)) is_fresh) h;
+  state = new;
+  read = read;
+  wrote = wrote;
+  replaced = replaced;
+  call =
+      subst (λ d. AnswersDecodeReplacing encode_utf8 4 d new bytes true room coder.OutputFull read wrote replaced)
+      is_fresh
+      call;
+  passes = p;
+}
+
+-- the encoding of a mark, with its length
+
+abbrev pub encoding_and_length : Mark → Encoding × ℕ
+encoding_and_length m = (m.encoding, length m.bytes)
+
+pub encoding_by_mark : (found : Option Mark) (e other : Encoding) (n : ℕ)
+    → option_map encoding_and_length found ≡ Some (other, n) → other ≡ encoding_of_mark_or found e
+encoding_by_mark None e other n h = cc
+encoding_by_mark (Some m) e other n h = let f : encoding_and_length m ≡ (other, n) = cc in
+    sym (ap (λ (p : Encoding × ℕ). p.0) f)
+
+pub encoding_without_mark : (found : Option Mark) (e : Encoding) → option_map encoding_and_length found ≡ None
+    → e ≡ encoding_of_mark_or found e
+encoding_without_mark None e h = refl
+encoding_without_mark (Some m) e h = cc
+
+-- calls that report malformed sequences
+
+strict_if : (malformed : Bool) (text : List ℕ) → malformed ≡ false → Some text ≡ (if malformed then None else Some text)
+strict_if true text h = absurd (true≢false h)
+strict_if false text h = refl
+
+none_if : (malformed : Bool) (text : List ℕ) → malformed ≡ true → None ≡ (if malformed then None else Some text)
+none_if true text h = refl
+none_if false text h = absurd (true≢false (sym h))
+
+pub none_strict : (e : Encoding) (bytes : List ℕ) → bytes ≡ [] → Some [] ≡ utf_8_without_replacement e bytes
+none_strict e bytes h = ap (λ ss. if any_malformed ss then None else Some (units_of_text encode_utf8
+    (sequence_text ss))) (sym (none_whole Off e bytes h))
+
+pub strict_none : (e : Encoding) (bytes : List ℕ) → whole_malformed Off e bytes ≡ true
+    → None ≡ utf_8_without_replacement e bytes
+strict_none e bytes h = none_if (whole_malformed Off e bytes) (whole_utf_8 Off e bytes) h
+
+pub strict_text : (e : Encoding) (bytes unread : List ℕ) (state : DecoderState) (text : List ℕ)
+    → HasDecoded Off e bytes unread true state text false → has_finished state ≡ true
+    → Some text ≡ utf_8_without_replacement e bytes
+strict_text e bytes unread state text decoded finished =
+    strict_if (whole_malformed Off e bytes) text (sym (whole_flag Off e bytes unread state text false decoded finished))
+    ∙ ap (λ t. if whole_malformed Off e bytes then None else Some t)
+    (whole_text Off e bytes unread state text false decoded finished)
+
+-- one more call
+module _ (e : Encoding) (bytes src : List ℕ) (old new : DecoderState) (before after : List ℕ)
+    (decoded : HasDecoded Off e bytes src true old before false) (room read : ℕ) where
+  pub strict_end : (result : DecoderResult) → DecodesChunk encode_utf8 (Fatal false) old new src true room result read
+      (drop (length before) after) false
+      → take (length before) after ≡ before → result ≡ InputEmpty → Some after ≡ utf_8_without_replacement e bytes
+  strict_end InputEmpty decodes t f =
+      strict_text e bytes (drop read src) new after
+      (goes_on Off e bytes src old new before after false decoded (Fatal false) room InputEmpty read false decodes t
+      (sym decodes.call.stops.only_put))
+      (finishes_by encode_utf8 (Fatal false) old new src true room InputEmpty read (drop (length before) after) false
+      decodes)
+  strict_end OutputFull decodes t f = cc
+  strict_end (Malformed l a) decodes t f = cc
+
+  pub strict_report : (result : DecoderResult) (l a : ℕ) → DecodesChunk encode_utf8
+      (Fatal false) old new src true room result read (drop (length before) after) false
+      → result ≡ Malformed l a → None ≡ utf_8_without_replacement e bytes
+  strict_report InputEmpty l a d f = cc
+  strict_report OutputFull l a d f = cc
+  strict_report (Malformed k b) l a d f =
+      strict_none e bytes (is_malformed_input Off e bytes src old new before after false decoded (Fatal false) room k b
+      read
+      false d)

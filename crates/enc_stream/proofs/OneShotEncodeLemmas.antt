@@ -1,0 +1,144 @@
+-- One-shot calls: the bytes and the state after calls of an encoder that are offered the whole text.
+use Rattle.std.proofs.Common.{◌≡◌, ℕ, Bool, true, ◌||◌, List, [], ◌++◌, length, take, drop, refl, ap, ◌∙◌, sym}
+use Rattle.std.proofs.Common.{append_assoc, append-nil, chars, IsUtf8}
+use Rattle.std.specs.Prelude.{Option, None}
+use Rattle.std.proofs.lemmas.List.{take-append-drop}
+use Rattle.std.specs.Char.{encode_utf8}
+use Rattle.enc_units.specs.declared.coder_result.CoderResult.{CoderResult}
+use Rattle.enc_units.specs.declared.coder_result.CoderResult.TheVariants.{InputEmpty, OutputFull}
+use Rattle.enc_encoder.specs.declared.character_set.CharacterSet.{CharacterSet}
+use Rattle.enc_encoder.specs.declared.character_set.CharacterSet.TheVariants.{Ascii}
+use Rattle.enc_encoder.specs.EncoderRule.{EncoderRule}
+use Rattle.enc_encoder.specs.Text.{bytes_of_text, with_references}
+use Rattle.enc_encoder.specs.Steps.{step_chars}
+use Rattle.enc_units.specs.Results.{encoder_result_of}
+use Rattle.enc_encoder.specs.Unmappable.{any_unmappable}
+use Rattle.enc_encoder.proofs.UnmappableLemmas.{any_reported_is, any_unmappable-append}
+use Rattle.enc_stream.specs.declared.encoding.Encoding.{Encoding}
+use Rattle.enc_stream.specs.Encodings.{output_rule}
+use Rattle.enc_stream.specs.Encoder.{EncoderState, EncodesChunk, fresh_encoder, raw_state, room_kept_for_references}
+use Rattle.enc_stream.specs.Encoder.{html_mode}
+use Rattle.enc_stream.specs.Encoder.{whole_bytes}
+use Rattle.enc_units.specs.Checked.{checked_add}
+use Rattle.enc_encoder.specs.Lengths.{from_utf_8_length}
+use Rattle.enc_stream.specs.Lengths.{output_lengths}
+use Rattle.enc_stream.specs.Properties.{output_encoding_of}
+use Rattle.enc_stream.specs.OneShot.{HasWritten, length_to_encode}
+use Rattle.enc_decoder.proofs.SequenceLemmas.{or_assoc, or_false}
+use Rattle.enc_stream.proofs.EncoderProgressLemmas.{none_due, output_rule_is}
+use Rattle.enc_stream.proofs.UnreadTextLemmas.{all_read, chars_after}
+
+-- the bytes of a text, by an encoder's rule and set
+abbrev bytes_by : EncoderRule → CharacterSet → List ℕ → List ℕ
+bytes_by rule set text = bytes_of_text rule set (with_references rule text)
+
+-- no call
+pub none_written : (e : Encoding) (text : List ℕ) → HasWritten e text text (fresh_encoder [] e) []
+none_written e text = record {
+  encoding = refl;
+  barred = refl;
+  whole = ap (λ rule. bytes_by rule Ascii text)
+      (sym (output_rule_is [] e));
+}
+
+-- no text
+pub nothing_written : (e : Encoding) (text : List ℕ) → text ≡ [] → [] ≡ whole_bytes [] e text
+nothing_written e text h = sym (none_due [] e) ∙ ap (whole_bytes [] e) (sym h)
+
+-- at the end of the text all its bytes are written
+pub all_written : (e : Encoding) (text : List ℕ) (state : EncoderState) (wrote : List ℕ)
+    → HasWritten e text [] state wrote → state.set ≡ Ascii → wrote ≡ whole_bytes [] e text
+all_written e text state wrote w h =
+    sym (append-nil wrote) ∙ ap (λ x. wrote ++ x) (sym (none_due state.barred state.encoding))
+    ∙ ap (λ (s : CharacterSet). wrote ++ bytes_by (raw_state state).rule s []) (sym h)
+    ∙ sym w.whole
+
+-- While the whole text is unread, the length query is that of the whole text, and overflows where that does.
+pub none_asked : (e : Encoding) (text rest unread : List ℕ) (state : EncoderState) (wrote : List ℕ)
+    → HasWritten e text rest state wrote
+    → (all : List ℕ) → unread ≡ all → length_to_encode (output_encoding_of e) (length all) ≡ None → (answer : Option ℕ)
+    → answer ≡ checked_add (from_utf_8_length (output_lengths state.encoding) (length unread))
+    (room_kept_for_references state.barred state.encoding) → (n : ℕ) → checked_add answer n ≡ None
+none_asked e text rest unread state wrote written_so_far all u none answer t n =
+    ap (λ m. checked_add m n) (
+    t ∙ ap (λ x. checked_add (from_utf_8_length (output_lengths state.encoding) (length x))
+    (room_kept_for_references state.barred state.encoding)) u
+    ∙ ap (λ b. checked_add (from_utf_8_length (output_lengths state.encoding) (length all))
+    (room_kept_for_references b state.encoding)) written_so_far.barred
+    ∙ ap (λ o. length_to_encode o (length all)) written_so_far.encoding ∙ none
+    )
+
+-- One more call, whose bytes follow those already written.
+module _ (e : Encoding) (text rest : List ℕ) (old new : EncoderState) (before after : List ℕ) (had : Bool)
+    (u : IsUtf8 rest) (written_so_far : HasWritten e text (chars rest) old before)
+    (f : any_unmappable (output_rule [] e) text ≡ (had || any_unmappable (output_rule [] e) (chars rest))) (room : ℕ)
+    (result : CoderResult) (read : ℕ) (replaced : Bool)
+    (encodes : EncodesChunk encode_utf8 (html_mode old) old new (chars rest) true room (encoder_result_of result) read
+    (drop (length before) after) replaced) (t : take (length before) after ≡ before) where
+  abbrev front : List ℕ
+  front = step_chars encodes.call.done
+
+  unread_is : chars (drop read rest) ≡ encodes.rest
+  unread_is = chars_after rest front encodes.rest read u encodes.call.reads encodes.call.units
+
+  rule_is : (raw_state old).rule ≡ output_rule [] e
+  rule_is = ap (λ b. output_rule b old.encoding) written_so_far.barred ∙ ap (output_rule []) written_so_far.encoding
+      ∙ output_rule_is [] e
+
+  written : (unread : List ℕ) → unread ≡ encodes.rest → HasWritten e text unread new after
+  written unread h = record {
+    encoding = encodes.encoding ∙ written_so_far.encoding;
+    barred = encodes.barred ∙ written_so_far.barred;
+    whole =
+        written_so_far.whole ∙ ap (λ x. before ++ bytes_by (raw_state old).rule old.set x)
+        (sym (append-nil (chars rest)))
+        ∙ ap (λ x. before ++ x) (kept_text result encodes)
+        ∙ sym (append_assoc before (drop (length before) after) _)
+        ∙ ap (λ x. x ++ bytes_by (raw_state new).rule new.set encodes.rest)
+        (ap (λ x. x ++ drop (length before) after) (sym t) ∙ take-append-drop (length before) after)
+        ∙ ap (λ x. after ++ bytes_by (raw_state new).rule new.set x) (sym h);
+  }
+    where
+      kept_text : (r : CoderResult) (k : EncodesChunk encode_utf8 (html_mode old) old new (chars rest) true room
+          (encoder_result_of r) read (drop (length before) after) replaced)
+          → bytes_by (raw_state old).rule old.set (chars rest ++ []) ≡ drop (length before) after
+          ++ bytes_by (raw_state new).rule new.set k.rest
+      kept_text InputEmpty encodes_chunk =
+          encodes_chunk.call.text [] (λ _. refl)
+          ∙ ap (λ x. drop (length before) after ++ bytes_by (raw_state new).rule new.set x)
+          (append-nil encodes_chunk.rest)
+      kept_text OutputFull encodes_chunk =
+          encodes_chunk.call.text [] (λ _. refl)
+          ∙ ap (λ x. drop (length before) after ++ bytes_by (raw_state new).rule new.set x)
+          (append-nil encodes_chunk.rest)
+
+  flagged : (unread : List ℕ) → unread ≡ encodes.rest
+      → any_unmappable (output_rule [] e) text ≡ ((had || replaced) || any_unmappable (output_rule [] e) unread)
+  flagged unread h =
+      f ∙ ap (λ x. had || any_unmappable (output_rule [] e) x) encodes.call.reads
+      ∙ ap (λ b. had || b) (any_unmappable-append (output_rule [] e) front encodes.rest)
+      ∙ ap (λ b. had || (b || any_unmappable (output_rule [] e) encodes.rest))
+      (ap (λ rule. any_unmappable rule front) (sym rule_is)
+      ∙ sym (encodes.call.flag ∙ any_reported_is (raw_state old) (raw_state new) (chars rest) encodes.rest true
+      encodes.call.done encodes.call.reads encodes.call.rule encodes.call.remaining))
+      ∙ sym (or_assoc had replaced (any_unmappable (output_rule [] e) encodes.rest))
+      ∙ ap (λ x. (had || replaced) || any_unmappable (output_rule [] e) x) (sym h)
+
+  -- that is not the last
+  pub written_on : (unread : List ℕ) → unread ≡ drop read rest → HasWritten e text (chars unread) new after
+  written_on unread h = written (chars unread) (ap chars h ∙ unread_is)
+
+  pub flagged_on : (unread : List ℕ) → unread ≡ drop read rest → any_unmappable (output_rule [] e) text
+      ≡ ((had || replaced) || any_unmappable (output_rule [] e) (chars unread))
+  flagged_on unread h = flagged (chars unread) (ap chars h ∙ unread_is)
+
+  -- and that is
+  pub written_all : result ≡ InputEmpty → after ≡ whole_bytes [] e text
+  written_all is_empty = all_written e text new after
+      (written [] (all_read old new (chars rest) true room result read (drop (length before) after) replaced encodes
+      is_empty)) (ap (λ (v : EncoderState). v.set) (encodes.ended (ap encoder_result_of is_empty) refl))
+
+  pub flagged_all : result ≡ InputEmpty → (had || replaced) ≡ any_unmappable (output_rule [] e) text
+  flagged_all h =
+      sym (flagged [] (all_read old new (chars rest) true room result read (drop (length before) after) replaced encodes
+      h) ∙ or_false (had || replaced))

@@ -1,0 +1,95 @@
+-- The rest of a text in UTF-8 that a call of an encoder leaves unread.
+use Rattle.std.proofs.Common.{◌≡◌, ℕ, Bool, true, List, [], ◌∷◌, ◌++◌, ◌≤◌, length, drop, refl, ap, ◌∙◌, sym, arith}
+use Rattle.std.proofs.Common.{length-append, chars, IsUtf8}
+use Rattle.std.proofs.lemmas.Str.{encodes-chars, chars-encodes, chars_from_encodes, IsCharBoundary-at_seam}
+use Rattle.std.proofs.Math.Seq.{drop-append_seam}
+use Rattle.std.specs.Str.{all_scalars, IsCharBoundary}
+use Rattle.std.specs.Cmp.{second_so}
+use Rattle.std.specs.Char.{encode_utf8}
+use Rattle.std.specs.Char.Escape.{encode_utf16}
+use Rattle.std.specs.Char.Utf16.{utf16_lossy_chars}
+use Rattle.enc_units.specs.declared.coder_result.CoderResult.{CoderResult}
+use Rattle.enc_units.specs.declared.coder_result.CoderResult.TheVariants.{InputEmpty, OutputFull}
+use Rattle.enc_units.specs.Output.{units_of_text}
+use Rattle.enc_units.proofs.Utf8CharsLemmas.{their_units}
+use Rattle.enc_units.proofs.CharsLemmas.{AreUnits, utf16_length, lossy_behind}
+use Rattle.enc_decoder.proofs.SequenceLemmas.{units_of_text-append}
+use Rattle.enc_encoder.specs.EncoderRule.{RawEncoderState}
+use Rattle.enc_units.specs.declared.encoder_result.EncoderResult.{EncoderResult}
+use Rattle.enc_encoder.specs.Steps.{step_chars}
+use Rattle.enc_encoder.specs.ErrorMode.{EncodeErrorMode, is_nothing_left}
+use Rattle.enc_units.specs.Results.{encoder_result_of}
+use Rattle.enc_stream.specs.Encoder.{EncoderState, EncodesChunk, raw_state, html_mode}
+
+-- no bytes are no characters
+pub no_chars : (text : List ℕ) → text ≡ [] → chars text ≡ []
+no_chars text h = ap chars h ∙ chars-encodes [] refl
+
+scalars_after : (xs ys : List ℕ) → all_scalars (xs ++ ys) ≡ true → all_scalars ys ≡ true
+scalars_after [] ys h = h
+scalars_after (c ∷ xs) ys h = scalars_after xs ys (second_so _ _ h)
+
+module _ (text front rest : List ℕ) (n : ℕ) (is_utf_8 : IsUtf8 text) (parts : chars text ≡ front ++ rest)
+    (size : n ≡ length (units_of_text encode_utf8 front)) where
+  bytes_are : text ≡ units_of_text encode_utf8 front ++ units_of_text encode_utf8 rest
+  bytes_are =
+      sym (encodes-chars text is_utf_8) ∙ sym (their_units (chars text)) ∙ ap (units_of_text encode_utf8) parts
+      ∙ units_of_text-append encode_utf8 front rest
+
+  rest_scalars : all_scalars rest ≡ true
+  rest_scalars =
+      scalars_after front rest (ap all_scalars (sym parts
+      ∙ sym (chars_from_encodes is_utf_8.0 text is_utf_8 is_utf_8.1.1)) ∙ is_utf_8.1.0)
+
+  rest_utf_8 : IsUtf8 (units_of_text encode_utf8 rest)
+  rest_utf_8 = (rest, (rest_scalars, sym (their_units rest)))
+
+  pub boundary : IsCharBoundary text n
+  boundary = rw size (IsCharBoundary-at_seam text (units_of_text encode_utf8 front) (units_of_text encode_utf8 rest) bytes_are rest_utf_8)
+
+  pub chars_after : chars (drop n text) ≡ rest
+  chars_after =
+      ap chars (ap (drop n) bytes_are ∙ ap (λ k. drop k (units_of_text encode_utf8 front ++ units_of_text encode_utf8 rest)) size
+      ∙ drop-append_seam (units_of_text encode_utf8 front) (units_of_text encode_utf8 rest) ∙ their_units rest)
+      ∙ chars-encodes rest rest_scalars
+
+-- Where a call has come to the end of a text, no character is unread.
+none_left : (v : RawEncoderState) (rest : List ℕ) (last : Bool) → is_nothing_left v rest last ≡ true → [] ≡ rest
+none_left v [] last h = refl
+none_left v (c ∷ rest) last h = cc
+
+pub all_read : (old new : EncoderState) (text : List ℕ) (last : Bool) (room : ℕ) (result : CoderResult) (read : ℕ) (wrote : List ℕ) (replaced : Bool)
+    (c : EncodesChunk encode_utf8 (html_mode old) old new text last room (encoder_result_of result) read wrote replaced) → result ≡ InputEmpty → [] ≡ c.rest
+all_read old new text last room InputEmpty read wrote replaced encodes e =
+    none_left (raw_state new) encodes.rest last encodes.call.stops
+all_read old new text last room OutputFull read wrote replaced encodes e = cc
+
+-- A call reads UTF-8 up to a boundary between two characters.
+pub ends_between : (text : List ℕ) → IsUtf8 text → (mode : EncodeErrorMode) (old new : EncoderState) (last : Bool) (room : ℕ) (result : EncoderResult) (read : ℕ) (wrote : List ℕ) (replaced : Bool)
+    → EncodesChunk encode_utf8 mode old new (chars text) last room result read wrote replaced → IsCharBoundary text read
+ends_between text u mode old new last room result read wrote replaced encodes =
+    boundary text (step_chars encodes.call.done) encodes.rest read u encodes.call.reads encodes.call.units
+
+-- A call reads no more UTF-16 than there is.
+pub ends_within : (text : List ℕ) → AreUnits text → (mode : EncodeErrorMode) (old new : EncoderState) (last : Bool) (room : ℕ) (result : EncoderResult) (read : ℕ) (wrote : List ℕ) (replaced : Bool)
+    → EncodesChunk encode_utf16 mode old new (utf16_lossy_chars text) last room result read wrote replaced → read ≤ length text
+ends_within text u mode old new last room result read wrote replaced encodes =
+    let all = utf16_length text u ∙ ap (λ t. length (units_of_text encode_utf16 t)) encodes.call.reads
+    ∙ ap length (units_of_text-append encode_utf16 (step_chars encodes.call.done) encodes.rest) in
+    let parts = length-append (units_of_text encode_utf16 (step_chars encodes.call.done))
+    (units_of_text encode_utf16 encodes.rest) in
+    let r = encodes.call.units in
+    omega (arith, all, parts, r)
+
+-- The characters of the unread rest.
+
+pub chars_unread : (text : List ℕ) → IsUtf8 text → (mode : EncodeErrorMode) (old new : EncoderState) (last : Bool) (room : ℕ) (result : EncoderResult) (read : ℕ) (wrote : List ℕ) (replaced : Bool)
+    (e : EncodesChunk encode_utf8 mode old new (chars text) last room result read wrote replaced) → chars (drop read text) ≡ e.rest
+chars_unread text u mode old new last room result read wrote replaced encodes =
+    chars_after text (step_chars encodes.call.done) encodes.rest read u encodes.call.reads encodes.call.units
+
+pub lossy_unread : (text : List ℕ) → AreUnits text → (mode : EncodeErrorMode) (old new : EncoderState) (last : Bool) (room : ℕ) (result : EncoderResult) (read : ℕ) (wrote : List ℕ) (replaced : Bool)
+    (e : EncodesChunk encode_utf16 mode old new (utf16_lossy_chars text) last room result read wrote replaced) → utf16_lossy_chars (drop read text) ≡ e.rest
+lossy_unread text u mode old new last room result read wrote replaced encodes =
+    ap (λ n. utf16_lossy_chars (drop n text)) encodes.call.units
+    ∙ lossy_behind text u (step_chars encodes.call.done) encodes.rest encodes.call.reads

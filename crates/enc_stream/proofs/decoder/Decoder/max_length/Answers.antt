@@ -1,0 +1,14 @@
+use Rattle.std.proofs.Common.{sym, subst, rules}
+use Rattle.enc_decoder.specs.declared.text_lengths.TextLengths.{TextLengths}
+use Rattle.enc_decoder.specs.Need.{AreEnoughForCodec}
+use Rattle.enc_codec.specs.Variant.{variant_decoder_state}
+use Rattle.enc_stream.proofs.decoder.Decoder.max_length.Goals as goal
+use Rattle.enc_stream.proofs.EnoughLemmas.{room_is_enough}
+
+pub returns-clause-enough : goal.returns-clause-enough
+returns-clause-enough c =
+    let d = c.self.inside in
+    let kept = c.self.invariant in
+    rw (← c.self.view_is)
+    (room_is_enough c.args.query d.encoding d.life (variant_decoder_state d.codec) kept.0.0 kept.0.1 kept.1.1
+    (subst (λ (f : TextLengths). AreEnoughForCodec f (variant_decoder_state d.codec)) (sym kept.1.0) c.text_lengths-formulas.ensures.enough) c.args.byte_length _ (search rules))

@@ -1,0 +1,14 @@
+use Rattle.enc_stream.proofs.UnreadTextLemmas.{ends_between, chars_unread}
+use Rattle.enc_stream.proofs.EncoderProgressLemmas.{goes_on}
+use Rattle.enc_stream.proofs.encoder.Encoder.encode_from_utf8.Goals as goal
+
+pub returns-clause-boundary : goal.returns-clause-boundary
+returns-clause-boundary c = ends_between _ c.utf8.src _ _ _ _ _ _ _ _ _ (rw c.new-chars.ensures at c.encode_replacing.ensures.encodes)
+
+pub returns-clause-read : goal.returns-clause-read
+returns-clause-read c = (returns-clause-boundary c).0
+
+pub returns-clause-progress : goal.returns-clause-progress
+returns-clause-progress c = λ on room.
+    let encodes = rw c.new-chars.ensures at c.encode_replacing.ensures.encodes in
+    rw (chars_unread _ c.utf8.src _ _ _ _ _ _ _ _ _ encodes) (goes_on _ _ _ _ _ _ _ _ _ _ encodes on room)

@@ -1,0 +1,86 @@
+use Rattle.std.proofs.Common.{rules, ◌≡◌, ◌∙◌, [], ◌++◌, ap, sym, append_assoc, take, chars, refl}
+use Rattle.std.proofs.lemmas.List.{take-append-drop}
+use Rattle.enc_units.specs.declared.coder_result.CoderResult.TheVariants.{InputEmpty}
+use Rattle.enc_stream.proofs.OneShotDecodeLemmas.{nothing}
+use Rattle.enc_stream.proofs.UnreadTextLemmas.{no_chars}
+use Rattle.enc_stream.proofs.OneShotEncodeLemmas.{none_written, none_asked, nothing_written, written_on, flagged_on}
+use Rattle.enc_stream.proofs.OneShotEncodeLemmas.{written_all, flagged_all}
+use Rattle.enc_stream.proofs.encoding.Encoding.encode.Goals as goal
+
+pub calls-init : goal.calls-init
+calls-init c = rw (c.new_encoder-encoder.ensures, c.new-bytes.ensures.items) (
+  c.utf8.text,
+  record {
+    written = none_written c.args.self (chars c.args.text.now);
+    flag = refl;
+    front = [];
+    rest = refl;
+    start = λ none. refl;
+  },
+)
+
+pub returns-then-is_empty-clause-bytes : goal.returns-then-is_empty-clause-bytes
+returns-then-is_empty-clause-bytes c =
+    c.new-bytes.ensures.items ∙ nothing_written c.args.self (chars c.args.text.now)
+    (no_chars c.args.text.now (nothing c.args.text.now (c.if-is_empty.ensures)))
+
+pub returns-then-is_empty-clause-flag : goal.returns-then-is_empty-clause-flag
+returns-then-is_empty-clause-flag c = rw (no_chars c.args.text.now (nothing c.args.text.now (c.if-is_empty.ensures)))
+    refl
+
+pub returns-in_err-make_byte_room-clause-too_long :
+    goal.returns-in_err-make_byte_room-clause-too_long
+returns-in_err-make_byte_room-clause-too_long c = λ too_long. record {
+  front = c.calls.invariant.1.front;
+  unread = c.calls.unread.now;
+  rest = c.calls.invariant.1.rest;
+  state = c.calls.encoder;
+  wrote = c.calls.bytes.items;
+  written = c.calls.invariant.1.written;
+  passes = search rules;
+}
+
+pub returns-then-eq-clause-bytes : goal.returns-then-eq-clause-bytes
+returns-then-eq-clause-bytes c =
+    let invariant = c.calls.invariant in
+    let w = rw (← c.in_ok-make_byte_room.ensures.bytes) at invariant.1.written in
+    let encoded = c.encode_from_utf8_to_vec-stop.ensures in
+    let at_end : c.encode_from_utf8_to_vec-stop.result.0 ≡ InputEmpty = search rules in
+    written_all _ _ _ _ _ _ _ _ invariant.0 w invariant.1.flag _ _ _ _ encoded.call encoded.appended at_end
+
+pub returns-then-eq-clause-flag : goal.returns-then-eq-clause-flag
+returns-then-eq-clause-flag c =
+    let invariant = c.calls.invariant in
+    let w = rw (← c.in_ok-make_byte_room.ensures.bytes) at invariant.1.written in
+    let encoded = c.encode_from_utf8_to_vec-stop.ensures in
+    let at_end : c.encode_from_utf8_to_vec-stop.result.0 ≡ InputEmpty = search rules in
+    flagged_all _ _ _ _ _ _ _ _ invariant.0 w invariant.1.flag _ _ _ _ encoded.call encoded.appended at_end
+
+pub calls-preserved : goal.calls-preserved
+calls-preserved c =
+    let invariant = c.calls.invariant in
+    let written_so_far = rw (← c.in_ok-make_byte_room.ensures.bytes) at invariant.1.written in
+    let encoded = c.encode_from_utf8_to_vec-stop.ensures in (
+      search rules,
+      record {
+        written =
+            written_on _ _ _ _ _ _ _ _ invariant.0 written_so_far invariant.1.flag _ _ _ _ encoded.call encoded.appended
+            _ c.split_at.ensures.back;
+        flag =
+            flagged_on _ _ _ _ _ _ _ _ invariant.0 written_so_far invariant.1.flag _ _ _ _ encoded.call encoded.appended
+            _ c.split_at.ensures.back;
+        front = invariant.1.front ++ take c.encode_from_utf8_to_vec-stop.result.1 c.calls.unread.now;
+        rest =
+            invariant.1.rest ∙ ap (λ x. invariant.1.front ++ x)
+            (sym (take-append-drop c.encode_from_utf8_to_vec-stop.result.1 c.calls.unread.now))
+            ∙ sym (append_assoc invariant.1.front (take c.encode_from_utf8_to_vec-stop.result.1 c.calls.unread.now) _)
+            ∙ ap (λ x. (invariant.1.front ++ take c.encode_from_utf8_to_vec-stop.result.1 c.calls.unread.now) ++ x)
+            (sym c.split_at.ensures.back);
+        start = λ none. absurd (
+            let n =
+            none_asked _ _ _ _ _ _ invariant.1.written _ (invariant.1.start none) none _
+            c.max_buffer_length_from_utf8_if_no_unmappables-length.ensures.formula _ in
+            let e = c.in_ok-make_byte_room.ensures.none n in cc
+            );
+      },
+    )

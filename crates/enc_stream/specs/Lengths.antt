@@ -1,0 +1,87 @@
+-- The lengths to allocate for the output of a decoder or an encoder.
+use Rattle.std.specs.Prelude.{◌≡◌, ℕ, Bool, Option, Some, None, List, length}
+use Rattle.std.specs.Char.{encode_utf8}
+use Rattle.std.specs.Char.Escape.{encode_utf16}
+use Rattle.enc_decoder.specs.Call.{DecodeErrorMode, Replacement, Fatal}
+use Rattle.enc_decoder.specs.Remainder.{AreBytes}
+use Rattle.enc_decoder.specs.Need.{NeedExceeds}
+use Rattle.enc_units.specs.Checked.{checked_add, checked_max}
+use Rattle.enc_decoder.specs.declared.text_lengths.TextLengths.{TextLengths}
+use Rattle.enc_decoder.specs.declared.text_lengths.TextLengths.TheVariants as by
+use Rattle.enc_decoder.specs.Lengths.{utf_8_length, reporting_length, utf_16_length}
+use Rattle.enc_codec.specs.Codecs.{codec_lengths}
+use Rattle.enc_encoder.specs.declared.byte_lengths.ByteLengths.{ByteLengths}
+use Rattle.enc_encode.specs.Encoders.{encoder_lengths}
+use Rattle.enc_stream.specs.declared.encoding.Encoding.{Encoding}
+use Rattle.enc_stream.specs.declared.lengths.Query.{Query}
+use Rattle.enc_stream.specs.declared.lengths.Query.TheVariants.{Utf8, Utf8Reporting, Utf16}
+use Rattle.enc_stream.specs.declared.life_cycle.LifeCycle.{LifeCycle}
+use Rattle.enc_stream.specs.declared.life_cycle.LifeCycle.TheVariants.{AtStart, AtUtf8Start, AtUtf16BeStart}
+use Rattle.enc_stream.specs.declared.life_cycle.LifeCycle.TheVariants.{AtUtf16LeStart, SeenUtf8First, SeenUtf8Second}
+use Rattle.enc_stream.specs.declared.life_cycle.LifeCycle.TheVariants.{SeenUtf16BeFirst, SeenUtf16LeFirst}
+use Rattle.enc_stream.specs.declared.life_cycle.LifeCycle.TheVariants.{ConvertingWithPendingBb, Converting, Finished}
+use Rattle.enc_names.specs.EncodingTable.{codec_by_id}
+use Rattle.enc_stream.specs.Decoding.{DecoderState, decoder_remainder}
+
+-- the formula of a query, for n more bytes and a codec that holds h
+abbrev pub formula_length : Query → TextLengths → ℕ → ℕ → Option ℕ
+formula_length Utf8 lengths n h = utf_8_length lengths n h
+formula_length Utf8Reporting lengths n h = reporting_length lengths n h
+formula_length Utf16 lengths n h = utf_16_length lengths n h
+
+-- the formula for a codec that holds nothing
+abbrev pub idle_length : Query → TextLengths → ℕ → Option ℕ
+idle_length q lengths n = formula_length q lengths n 0
+
+-- the greater of two lengths: for this encoding, and for that of a byte order mark that may come
+abbrev pub length_with_mark : Query → TextLengths → TextLengths → ℕ → Option ℕ
+length_with_mark q of_mark lengths n = checked_max (idle_length q of_mark n) (idle_length q lengths n)
+
+-- the length for a sum of bytes, if the sum is a usize
+abbrev pub length_at : (ℕ → Option ℕ) → Option ℕ → Option ℕ
+length_at f None = None
+length_at f (Some n) = f n
+
+-- The length for n more bytes, by the life cycle. The codec holds h bytes. If bytes of a byte order mark are held, at
+-- most two, the codec has yet to read them.
+abbrev pub life_cycle_length : Query → LifeCycle → TextLengths → ℕ → ℕ → Option ℕ
+life_cycle_length q Converting lengths n h = formula_length q lengths n h
+life_cycle_length q AtUtf8Start lengths n h = idle_length q lengths n
+life_cycle_length q AtUtf16BeStart lengths n h = idle_length q lengths n
+life_cycle_length q AtUtf16LeStart lengths n h = idle_length q lengths n
+life_cycle_length q AtStart lengths n h = checked_max (idle_length q by.Utf8 n) (length_with_mark q by.Utf16 lengths n)
+life_cycle_length q SeenUtf8First lengths n h = length_at (length_with_mark q by.Utf8 lengths) (checked_add (Some n) 2)
+life_cycle_length q SeenUtf8Second lengths n h = length_at (length_with_mark q by.Utf8 lengths) (checked_add (Some n) 2)
+life_cycle_length q SeenUtf16BeFirst lengths n h =
+    length_at (length_with_mark q by.Utf16 lengths) (checked_add (Some n) 2)
+life_cycle_length q SeenUtf16LeFirst lengths n h =
+    length_at (length_with_mark q by.Utf16 lengths) (checked_add (Some n) 2)
+life_cycle_length q ConvertingWithPendingBb lengths n h = length_at (idle_length q lengths) (checked_add (Some n) 2)
+life_cycle_length q Finished lengths n h = formula_length q lengths n h
+
+-- The length to allocate for a decoder's output from n more bytes.
+abbrev pub max_length : Query → DecoderState → ℕ → Option ℕ
+max_length q d n = life_cycle_length q d.life (codec_lengths (codec_by_id d.encoding.id)) n (length d.pending)
+
+-- the code units of a query, and the error modes of its calls
+abbrev pub query_units : Query → ℕ → List ℕ
+query_units Utf8 = encode_utf8
+query_units Utf8Reporting = encode_utf8
+query_units Utf16 = encode_utf16
+
+-- the query is for calls of this error mode
+abbrev pub IsForMode : Query → DecodeErrorMode → Type 0
+IsForMode Utf8 Replacement = Unit {0}
+IsForMode Utf8 (Fatal keeps_room) = ⊥
+IsForMode Utf8Reporting Replacement = ⊥
+IsForMode Utf8Reporting (Fatal keeps_room) = Unit {0}
+IsForMode Utf16 mode = Unit {0}
+
+-- The room is enough for any call with n bytes: its need does not exceed it.
+abbrev pub IsEnoughRoom : (ℕ → List ℕ) → DecodeErrorMode → DecoderState → ℕ → ℕ → Type 0
+IsEnoughRoom units_of mode d n room =
+    (src : List ℕ) (last : Bool) → AreBytes src → length src ≡ n → NeedExceeds units_of mode (decoder_remainder d) src last room → ⊥
+
+-- the formulas of an encoding's encoder
+abbrev pub output_lengths : Encoding → ByteLengths
+output_lengths e = encoder_lengths (codec_by_id e.id)

@@ -1,0 +1,16 @@
+pub mod Encodings
+pub mod Bom
+pub mod LifeCycle
+pub mod Sniffing
+pub mod Decoding
+pub mod MarkLaws
+pub mod Latin1
+pub mod Names
+pub mod Labels
+pub mod Properties
+pub mod Encoder
+pub mod Lengths
+pub mod Need
+pub mod OneShot
+pub use Rattle.enc_names.specs.EncodingTable
+pub use Rattle.enc_names.specs.LabelIds

@@ -1,0 +1,38 @@
+//! Byte order marks (Encoding Standard 6, "BOM sniff").
+
+ghost use Rattle.std.specs.Prelude.{◌≡◌};
+ghost use Rattle.enc_stream.specs.Bom.{bom_of};
+
+use crate::encoding::{Encoding, UTF_8, UTF_16BE, UTF_16LE};
+
+/// The byte order marks that a decoder looks for.
+#[derive(Clone, Copy)]
+pub enum BomHandling {
+    /// None.
+    Off,
+    /// All three. The byte order mark determines the encoding.
+    Sniff,
+    /// That of its own encoding.
+    Remove,
+}
+
+impl Encoding {
+    /// Returns the encoding and the length of the byte order mark at the start of `buffer`.
+    ///
+    /// That is "BOM sniff" of Encoding Standard 6. The length is in bytes. `None` if there is none.
+    /// Only the first three bytes are read. Takes no memory.
+    pub fn for_bom(buffer: &[u8]) -> Option<(Encoding, usize)>
+        ensures { result ≡ bom_of buffer.now }
+    {
+        if buffer.starts_with(b"\xEF\xBB\xBF") {
+            return Some((UTF_8, 3));
+        }
+        if buffer.starts_with(b"\xFE\xFF") {
+            return Some((UTF_16BE, 2));
+        }
+        if buffer.starts_with(b"\xFF\xFE") {
+            return Some((UTF_16LE, 2));
+        }
+        None
+    }
+}

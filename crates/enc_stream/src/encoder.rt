@@ -1,0 +1,412 @@
+//! Encoders.
+
+ghost use Rattle.std.specs.Prelude.{◌≡◌, ◌-◌, ◌<◌, ◌≤◌, chars, true, false, [], length, take, drop, IfSome};
+ghost use Rattle.std.specs.Str.{IsCharBoundary};
+ghost use Rattle.std.specs.Vec.{vec_len, vec_capacity};
+ghost use Rattle.std.specs.Char.{encode_utf8};
+ghost use Rattle.std.specs.Char.Escape.{encode_utf16};
+ghost use Rattle.std.specs.Char.Utf16.{utf16_lossy_chars};
+ghost use Rattle.enc_encoder.specs.Barring.{are_beyond_ascii};
+ghost use Rattle.enc_encoder.specs.EncoderRule.{is_escape_due};
+ghost use Rattle.enc_encoder.specs.ErrorMode.{Fatal};
+ghost use Rattle.enc_units.specs.Results.{encoder_result_of};
+ghost use Rattle.enc_units.specs.Checked.{checked_add};
+ghost use Rattle.enc_encoder.specs.Lengths.{from_utf_8_length, from_utf_16_length};
+ghost use Rattle.enc_encoder.specs.Need.{AreEnoughForEncoder};
+ghost use Rattle.enc_stream.specs.Encoder.{EncodesChunk, EncodesInto, fresh_encoder};
+ghost use Rattle.enc_stream.specs.Encoder.{maps_every_character as wanted_every, room_kept_for_references, raw_state};
+ghost use Rattle.enc_stream.specs.Encoder.{html_mode, steps_left};
+ghost use Rattle.enc_stream.specs.Lengths.{output_lengths};
+ghost use Rattle.enc_stream.specs.Need.{EncodesByNeed, IsEnoughForEncoding, IsEnoughIfMappable};
+
+use crate::encoding::{Encoding, codec_of};
+use enc_encode::{ByteLengths, RawEncoder, VariantEncoder, byte_lengths, new_encoder};
+use enc_encoder::{LONGEST_REFERENCE, encode_mappable, encode_replacing, encode_reporting};
+use enc_names::EncodingId;
+use enc_units::{Chars, CoderResult, EncoderResult, Utf8Chars, Utf16Chars};
+use std::fmt;
+use std::marker::Model;
+
+/// Converts text into bytes, in chunks and output buffers of any size (Encoding Standard 4.1).
+///
+/// Encoding in chunks always produces a prefix of encoding the whole text at once, and all of it at
+/// the end, if the text is split between characters. Each unmappable character becomes a decimal
+/// reference: calls with replacement write it, and the caller writes it for one that is reported.
+///
+/// Between calls the encoder keeps the designated character set, which only ISO-2022-JP has, and
+/// the list of barred characters.
+#[derive(Drop)]
+pub struct Encoder {
+    encoding: Encoding,
+    barred: &'static [char],
+    raw: VariantEncoder,
+}
+
+impl Model for Encoder {
+    ghost use Rattle.std.specs.Prelude.{◌≡◌};
+    ghost use Rattle.enc_encode.specs.Variant.{variant_encoder_state};
+    ghost use Rattle.enc_stream.specs.Encodings.{output_rule};
+    ghost use Rattle.enc_stream.specs.Encoder.{EncoderState};
+
+    ghost Value = { EncoderState };
+
+    ghost view = { λ e. record { encoding = e.encoding; barred = e.barred.now; set = (variant_encoder_state e.raw).set } };
+
+    ghost invariant = { λ e. (variant_encoder_state e.raw).rule
+        ≡ output_rule e.barred.now e.encoding };
+}
+
+impl fmt::Debug for Encoder {
+    /// Writes the encoding, and whether an escape sequence is due at the end of the text.
+    fn fmt<W: fmt::Write>(&self, f: &mut fmt::Formatter<W>) -> fmt::Result {
+        f.debug_struct("Encoder")
+            .field("encoding", &self.encoding)
+            .field("pending", &self.has_pending_state())
+            .finish()
+    }
+}
+
+impl Encoding {
+    /// Returns an encoder of its output encoding (Encoding Standard 4.3, "get an output encoding").
+    ///
+    /// That is UTF-8 for UTF-16BE, UTF-16LE and replacement, and the encoding itself otherwise. The
+    /// encoder is at the start of a text. Takes no memory.
+    pub fn new_encoder(self) -> Encoder
+        ensures { result ≡ fresh_encoder [] self }
+    {
+        self.new_encoder_barring(&[])
+    }
+
+    /// Returns an encoder of its output encoding, with barred characters.
+    ///
+    /// The characters of `barred` are unmappable too. The list bars the character itself, before
+    /// another is looked up in its place. The encoder keeps the list, also after the end of a text.
+    /// Takes no memory. Condition: each character of the list is U+0080 or above
+    /// ([`Encoding::barred_ok`]).
+    pub fn new_encoder_barring(self, barred: &'static [char]) -> Encoder
+        requires { are_beyond_ascii barred.now ≡ true }
+        ensures { result ≡ fresh_encoder barred.now self }
+    {
+        let encoding = self.output_encoding();
+        Encoder {
+            encoding,
+            barred,
+            raw: new_encoder(codec_of(encoding), barred),
+        }
+    }
+}
+
+impl Encoder {
+    /// Returns the encoding that it writes, which is an output encoding. Takes no memory.
+    pub fn encoding(&self) -> Encoding
+        ensures { result ≡ self.now.encoding }
+    {
+        self.encoding
+    }
+
+    /// Returns whether an escape sequence is due at the end of the text.
+    ///
+    /// That is so while a character set other than ASCII is designated, in ISO-2022-JP alone. Takes
+    /// no memory.
+    pub fn has_pending_state(&self) -> bool
+        ensures { result ≡ is_escape_due self.now.set }
+    {
+        self.raw.has_pending_state()
+    }
+
+    /// Returns the formulas for the number of bytes of a text.
+    fn byte_lengths(&self) -> ByteLengths
+        ensures lengths { result ≡ output_lengths self.now.encoding }
+        ensures enough { AreEnoughForEncoder (output_lengths self.now.encoding)
+            (raw_state self.now) }
+    {
+        byte_lengths(codec_of(self.encoding))
+    }
+
+    /// Returns whether every character is mappable: in UTF-8, if none is barred.
+    fn maps_every_character(&self) -> bool
+        ensures { result ≡ wanted_every self.now.barred self.now.encoding }
+    {
+        match self.encoding.id {
+            EncodingId::Utf8 => self.barred.is_empty(),
+            _ => false,
+        }
+    }
+
+    /// Returns the number of bytes at the end of an output that are kept free for references.
+    fn kept(&self) -> usize
+        ensures { result ≡ room_kept_for_references self.now.barred self.now.encoding }
+    {
+        if self.maps_every_character() {
+            0
+        } else {
+            LONGEST_REFERENCE
+        }
+    }
+
+    /// Returns the length in bytes to allocate for UTF-8 input, without replacement.
+    ///
+    /// With that, [`Encoder::encode_from_utf8_without_replacement`] never returns `OutputFull` for
+    /// `byte_length` more bytes. `None` if a step of the formula overflows `usize`. Takes no
+    /// memory.
+    pub fn max_buffer_length_from_utf8_without_replacement(
+        &self,
+        byte_length: usize,
+    ) -> Option<usize>
+        ensures formula { result ≡ from_utf_8_length (output_lengths self.now.encoding) byte_length }
+        ensures enough { IfSome result (IsEnoughForEncoding encode_utf8 self.now byte_length) }
+    {
+        self.byte_lengths().from_utf8(byte_length)
+    }
+
+    /// Returns the length in bytes to allocate for UTF-16 input, without replacement.
+    ///
+    /// With that, [`Encoder::encode_from_utf16_without_replacement`] never returns `OutputFull` for
+    /// `u16_length` more code units. `None` if a step of the formula overflows `usize`. Takes no
+    /// memory.
+    pub fn max_buffer_length_from_utf16_without_replacement(
+        &self,
+        u16_length: usize,
+    ) -> Option<usize>
+        ensures formula { result ≡ from_utf_16_length (output_lengths self.now.encoding) u16_length }
+        ensures enough { IfSome result (IsEnoughForEncoding encode_utf16 self.now u16_length) }
+    {
+        self.byte_lengths().from_utf16(u16_length)
+    }
+
+    /// Returns the length in bytes to allocate for UTF-8 input, with replacement.
+    ///
+    /// If no character of `byte_length` more bytes is unmappable, one call of
+    /// [`Encoder::encode_from_utf8`] reads all then. The length includes the 10 bytes that are kept
+    /// free for references, unless the encoding is UTF-8 and no character is barred. `None` if a
+    /// step of the formula overflows `usize`. Takes no memory.
+    pub fn max_buffer_length_from_utf8_if_no_unmappables(&self, byte_length: usize) -> Option<usize>
+        ensures formula { result ≡ checked_add (from_utf_8_length (output_lengths self.now.encoding) byte_length) (room_kept_for_references self.now.barred self.now.encoding) }
+        ensures enough { IfSome result (IsEnoughIfMappable encode_utf8 self.now byte_length) }
+    {
+        self.max_buffer_length_from_utf8_without_replacement(byte_length)?
+            .checked_add(self.kept())
+    }
+
+    /// Returns the length in bytes to allocate for UTF-16 input, with replacement.
+    ///
+    /// If no character of `u16_length` more code units is unmappable, one call of
+    /// [`Encoder::encode_from_utf16`] reads all then. The same as
+    /// [`Encoder::max_buffer_length_from_utf8_if_no_unmappables`] otherwise.
+    pub fn max_buffer_length_from_utf16_if_no_unmappables(&self, u16_length: usize) -> Option<usize>
+        ensures formula { result ≡ checked_add (from_utf_16_length (output_lengths self.now.encoding) u16_length) (room_kept_for_references self.now.barred self.now.encoding) }
+        ensures enough { IfSome result (IsEnoughIfMappable encode_utf16 self.now u16_length) }
+    {
+        self.max_buffer_length_from_utf16_without_replacement(u16_length)?
+            .checked_add(self.kept())
+    }
+
+    /// Encodes the characters of an input, up to an unmappable one.
+    fn encode_reporting<C: Chars>(
+        &mut self,
+        src: &mut C,
+        dst: &mut [u8],
+        last: bool,
+    ) -> (EncoderResult, usize, usize)
+        ensures { EncodesInto C.units_of Fatal self.old self.new (C.rest src.old) last dst.old dst.new result.0 result.1 result.2 false }
+    {
+        encode_reporting(&mut self.raw, src, dst, last)
+    }
+
+    /// Encodes the characters of an input, with a decimal reference for each unmappable one.
+    fn encode_replacing<C: Chars>(
+        &mut self,
+        src: &mut C,
+        dst: &mut [u8],
+        last: bool,
+    ) -> (CoderResult, usize, usize, bool)
+        ensures { EncodesInto C.units_of (html_mode self.old) self.old self.new (C.rest src.old) last dst.old dst.new
+            (encoder_result_of result.0) result.1 result.2 result.3 }
+    {
+        if self.maps_every_character() {
+            let (stop, read, written) = encode_mappable(&mut self.raw, src, dst, last);
+            return (stop, read, written, false);
+        }
+        encode_replacing(&mut self.raw, src, dst, last)
+    }
+
+    /// Encodes a chunk of text, with replacement.
+    ///
+    /// That is error mode "html" of Encoding Standard 4.1: a decimal reference is written for each
+    /// unmappable character. A reference is `&#`, the character's number and `;`. In ISO-2022-JP
+    /// U+000E, U+000F and U+001B get the reference of U+FFFD. With `last` nothing follows `src`.
+    /// Returns why the call stopped, the number of bytes read from `src`, the number of bytes
+    /// written to `dst`, and whether a reference was written.
+    ///
+    /// - `InputEmpty`: all of `src` is read. With `last` the text is ended, and the encoder is at
+    ///   the start of another.
+    /// - `OutputFull`: the bytes that come next do not fit. Their character is unread.
+    ///
+    /// The last 10 bytes of `dst` are kept free for references, unless the encoding is UTF-8 and no
+    /// character is barred. With fewer than 10 bytes the call does nothing. After a reference that
+    /// reaches these 10 bytes it writes no more. In both cases it returns `InputEmpty` if
+    /// nothing is left to do, and otherwise `OutputFull`.
+    ///
+    /// Any length of `dst` will do, 0 too; with 14 bytes, or 4 if none are kept free, each call
+    /// makes progress. The bytes of `dst` after those written are unchanged. Takes no memory.
+    pub fn encode_from_utf8(
+        &mut self,
+        src: &str,
+        dst: &mut [u8],
+        last: bool,
+    ) -> (CoderResult, usize, usize, bool)
+        ensures call { EncodesInto encode_utf8 (html_mode self.old) self.old self.new (chars src.now) last dst.old dst.new
+            (encoder_result_of result.0) result.1 result.2 result.3 }
+        ensures read { result.1 ≤ length src.now }
+        ensures boundary { IsCharBoundary src.now result.1 }
+        ensures written { result.2 ≤ length dst.old }
+        ensures rest { drop result.2 dst.new ≡ drop result.2 dst.old }
+        ensures progress { (result.0 ≡ CoderResult.InputEmpty → ⊥) → 14 ≤ length dst.old →
+            steps_left self.new last (chars (drop result.1 src.now)) < steps_left self.old last (chars src.now) }
+    {
+        let mut chars = Utf8Chars::new(src);
+        self.encode_replacing(&mut chars, dst, last)
+    }
+
+    /// Encodes a chunk of UTF-16, with replacement.
+    ///
+    /// The same as [`Encoder::encode_from_utf8`], except that the number read is in code units. A
+    /// surrogate without its partner in `src` is U+FFFD: so are both halves of a pair that is split
+    /// between two calls.
+    pub fn encode_from_utf16(
+        &mut self,
+        src: &[u16],
+        dst: &mut [u8],
+        last: bool,
+    ) -> (CoderResult, usize, usize, bool)
+        ensures call { EncodesInto encode_utf16 (html_mode self.old) self.old self.new (utf16_lossy_chars src.now) last dst.old dst.new
+            (encoder_result_of result.0) result.1 result.2 result.3 }
+        ensures read { result.1 ≤ length src.now }
+        ensures written { result.2 ≤ length dst.old }
+        ensures rest { drop result.2 dst.new ≡ drop result.2 dst.old }
+        ensures progress { (result.0 ≡ CoderResult.InputEmpty → ⊥) → 14 ≤ length dst.old →
+            steps_left self.new last (utf16_lossy_chars (drop result.1 src.now)) < steps_left self.old last (utf16_lossy_chars src.now) }
+    {
+        let mut units = Utf16Chars::new(src);
+        self.encode_replacing(&mut units, dst, last)
+    }
+
+    /// Encodes a chunk of text and appends its bytes to a Vec, with replacement.
+    ///
+    /// The same as [`Encoder::encode_from_utf8`] into a slice as long as the Vec's spare capacity,
+    /// which may be 0. Returns why the call stopped, the number of bytes read from `src`, and
+    /// whether a reference was written. Appends within the capacity: takes no memory.
+    pub fn encode_from_utf8_to_vec(
+        &mut self,
+        src: &str,
+        dst: &mut Vec<u8>,
+        last: bool,
+    ) -> (CoderResult, usize, bool)
+        ensures call { EncodesChunk encode_utf8 (html_mode self.old) self.old self.new (chars src.now) last (vec_capacity dst.old - vec_len dst.old)
+            (encoder_result_of result.0) result.1 (drop (length dst.old.items) dst.new.items)
+            result.2 }
+        ensures read { result.1 ≤ length src.now }
+        ensures boundary { IsCharBoundary src.now result.1 }
+        ensures appended { take (length dst.old.items) dst.new.items ≡ dst.old.items }
+        ensures progress { (result.0 ≡ CoderResult.InputEmpty → ⊥) → 14 ≤ vec_capacity dst.old - vec_len dst.old →
+            steps_left self.new last (chars (drop result.1 src.now)) < steps_left self.old last (chars src.now) }
+    {
+        let len = dst.len();
+        let _ = dst.resize(dst.capacity(), 0);
+        let (stop, read, written, replaced) = self.encode_from_utf8(src, &mut dst[len..], last);
+        dst.truncate(len + written);
+        (stop, read, replaced)
+    }
+
+    /// Encodes a chunk of text and appends its bytes to a Vec, without replacement.
+    ///
+    /// The same as [`Encoder::encode_from_utf8_without_replacement`] into a slice as long as the
+    /// Vec's spare capacity, which may be 0. Returns why the call stopped, and the number of bytes
+    /// read from `src`. Appends within the capacity: takes no memory.
+    pub fn encode_from_utf8_to_vec_without_replacement(
+        &mut self,
+        src: &str,
+        dst: &mut Vec<u8>,
+        last: bool,
+    ) -> (EncoderResult, usize)
+        ensures call { EncodesChunk encode_utf8 Fatal self.old self.new (chars src.now) last (vec_capacity dst.old - vec_len dst.old)
+            result.0 result.1 (drop (length dst.old.items) dst.new.items) false }
+        ensures need { EncodesByNeed encode_utf8 self.old self.new (chars src.now) last (vec_capacity dst.old - vec_len dst.old)
+            result.0 result.1 (length (drop (length dst.old.items) dst.new.items)) }
+        ensures read { result.1 ≤ length src.now }
+        ensures boundary { IsCharBoundary src.now result.1 }
+        ensures appended { take (length dst.old.items) dst.new.items ≡ dst.old.items }
+        ensures progress { (result.0 ≡ EncoderResult.InputEmpty → ⊥) → 4 ≤ vec_capacity dst.old - vec_len dst.old →
+            steps_left self.new last (chars (drop result.1 src.now)) < steps_left self.old last (chars src.now) }
+    {
+        let len = dst.len();
+        let _ = dst.resize(dst.capacity(), 0);
+        let (result, read, written) = self.encode_from_utf8_without_replacement(
+            src,
+            &mut dst[len..],
+            last,
+        );
+        dst.truncate(len + written);
+        (result, read)
+    }
+
+    /// Encodes a chunk of text, without replacement: up to an unmappable character.
+    ///
+    /// That is error mode "fatal" of Encoding Standard 4.1, except that the next call continues
+    /// after the character. With `last` nothing follows `src`. Returns why the call stopped, the
+    /// number of bytes read from `src`, and the number of bytes written to `dst`.
+    ///
+    /// - `InputEmpty`: all of `src` is read. With `last` the text is ended, and the encoder is at
+    ///   the start of another.
+    /// - `OutputFull`: the bytes that come next do not fit. Their character is unread. This happens
+    ///   exactly if the bytes of `src` up to an unmappable character are more than `dst` can hold.
+    /// - `Unmappable(c)`: the encoding has no bytes for the last character read. It is c; in
+    ///   ISO-2022-JP c is U+FFFD for U+000E, U+000F and U+001B. The caller may write a decimal
+    ///   reference to c (`&#`, its number and `;`) there: the designated character set has these
+    ///   characters.
+    ///
+    /// Any length of `dst` will do, 0 too; with four bytes each call makes progress. The bytes of a
+    /// character are written together; an escape sequence before it may be written alone. The bytes
+    /// of `dst` after those written are unchanged. Takes no memory.
+    pub fn encode_from_utf8_without_replacement(
+        &mut self,
+        src: &str,
+        dst: &mut [u8],
+        last: bool,
+    ) -> (EncoderResult, usize, usize)
+        ensures call { EncodesInto encode_utf8 Fatal self.old self.new (chars src.now) last dst.old dst.new result.0 result.1 result.2 false }
+        ensures need { EncodesByNeed encode_utf8 self.old self.new (chars src.now) last (length dst.old) result.0 result.1 result.2 }
+        ensures read { result.1 ≤ length src.now }
+        ensures boundary { IsCharBoundary src.now result.1 }
+        ensures written { result.2 ≤ length dst.old }
+        ensures rest { drop result.2 dst.new ≡ drop result.2 dst.old }
+        ensures progress { (result.0 ≡ EncoderResult.InputEmpty → ⊥) → 4 ≤ length dst.old →
+            steps_left self.new last (chars (drop result.1 src.now)) < steps_left self.old last (chars src.now) }
+    {
+        let mut chars = Utf8Chars::new(src);
+        self.encode_reporting(&mut chars, dst, last)
+    }
+
+    /// Encodes a chunk of UTF-16, without replacement.
+    ///
+    /// The same as [`Encoder::encode_from_utf8_without_replacement`], except that the number read
+    /// is in code units. A surrogate without its partner in `src` is U+FFFD: so are both halves of
+    /// a pair that is split between two calls.
+    pub fn encode_from_utf16_without_replacement(
+        &mut self,
+        src: &[u16],
+        dst: &mut [u8],
+        last: bool,
+    ) -> (EncoderResult, usize, usize)
+        ensures call { EncodesInto encode_utf16 Fatal self.old self.new (utf16_lossy_chars src.now) last dst.old dst.new result.0 result.1 result.2 false }
+        ensures need { EncodesByNeed encode_utf16 self.old self.new (utf16_lossy_chars src.now) last (length dst.old) result.0 result.1 result.2 }
+        ensures read { result.1 ≤ length src.now }
+        ensures written { result.2 ≤ length dst.old }
+        ensures rest { drop result.2 dst.new ≡ drop result.2 dst.old }
+        ensures progress { (result.0 ≡ EncoderResult.InputEmpty → ⊥) → 4 ≤ length dst.old →
+            steps_left self.new last (utf16_lossy_chars (drop result.1 src.now)) < steps_left self.old last (utf16_lossy_chars src.now) }
+    {
+        let mut units = Utf16Chars::new(src);
+        self.encode_reporting(&mut units, dst, last)
+    }
+}

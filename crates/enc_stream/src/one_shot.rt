@@ -1,0 +1,253 @@
+//! One-shot calls, for whole inputs.
+
+ghost use Rattle.std.specs.Prelude.{◌≡◌, ◌≢◌, ◌-◌, ◌≤◌, [], true, false, chars, length, IfOk, IsOk, IfErr, IsErrOf};
+ghost use Rattle.std.specs.Prelude.{OnOk, OnErr, option_map, Some, None};
+ghost use Rattle.std.specs.Vec.{vec_len, vec_capacity};
+ghost use Rattle.std.specs.String.{string_bytes, string_len, string_capacity};
+ghost use Rattle.enc_units.specs.Checked.{checked_add};
+ghost use Rattle.enc_encoder.specs.Unmappable.{any_unmappable};
+ghost use Rattle.enc_stream.specs.declared.bom.BomHandling.TheVariants as handling;
+ghost use Rattle.enc_stream.specs.Encodings.{output_rule};
+ghost use Rattle.enc_stream.specs.Properties.{output_encoding_of};
+ghost use Rattle.enc_stream.specs.Decoding.{whole_encoding, whole_utf_8, whole_malformed};
+ghost use Rattle.enc_stream.specs.Encoder.{whole_bytes};
+ghost use Rattle.enc_stream.specs.OneShot.{utf_8_without_replacement, HasRoomFor, first_length, length_to_encode};
+ghost use Rattle.enc_stream.specs.OneShot.{IsTooLong, IsTooLongToEncode};
+
+use crate::bom::BomHandling;
+use crate::decoder::Decoder;
+use crate::encoding::Encoding;
+use enc_units::{CoderResult, DecoderResult};
+use std::alloc::Global;
+
+/// Why a one-shot call failed.
+#[derive(PartialEq, Eq, Debug, Drop)]
+pub enum OneShotError {
+    /// Memory was refused.
+    Memory = 1,
+    /// A length query, or its sum with the length written before, overflowed `usize`.
+    TooLong = 2,
+}
+
+/// Returns a length to allocate, if it does not overflow after `written` bytes.
+fn length_behind(length: Option<usize>, written: usize) -> Result<usize, OneShotError>
+    ensures value { IfOk result (λ more. length ≡ Some more) }
+    ensures fault { IfErr result (λ fault. fault ≡ OneShotError.TooLong) }
+    ensures too_long { OnErr result (checked_add length written ≡ None) }
+    ensures fits { OnOk result (checked_add length written ≢ None) }
+    ensures alone { OnErr result (written ≡ 0 → length ≡ None) }
+{
+    let Some(length) = length else {
+        return Err(OneShotError::TooLong);
+    };
+    match length.checked_add(written) {
+        Some(_) => Ok(length),
+        None => Err(OneShotError::TooLong),
+    }
+}
+
+/// Makes room in a String for `length` more bytes, and for one character at least.
+fn make_room(text: &mut String, length: Option<usize>) -> Result<(), OneShotError>
+    ensures bytes { string_bytes text.new ≡ string_bytes text.old }
+    ensures room { OnOk result (4 ≤ string_capacity text.new - string_len text.new) }
+    ensures enough { OnOk result (HasRoomFor length (string_capacity text.new - string_len text.new)) }
+    ensures too_long { IsErrOf result OneShotError.TooLong → checked_add length (string_len text.old) ≡ None }
+    ensures none { checked_add length (string_len text.old) ≡ None
+        → IsErrOf result OneShotError.TooLong }
+    ensures alone { IsErrOf result OneShotError.TooLong → string_bytes text.old ≡ [] → length ≡ None }
+{
+    let more = length_behind(length, text.len())?;
+    match text.reserve(more.max(4)) {
+        Ok(()) => Ok(()),
+        Err(_) => Err(OneShotError::Memory),
+    }
+}
+
+/// Makes room in a Vec for `length` more bytes, and for a reference and one character at least.
+fn make_byte_room(bytes: &mut Vec<u8>, length: Option<usize>) -> Result<(), OneShotError>
+    ensures bytes { bytes.new.items ≡ bytes.old.items }
+    ensures room { OnOk result (14 ≤ vec_capacity bytes.new - vec_len bytes.new) }
+    ensures too_long { IsErrOf result OneShotError.TooLong → checked_add length (vec_len bytes.old) ≡ None }
+    ensures none { checked_add length (vec_len bytes.old) ≡ None
+        → IsErrOf result OneShotError.TooLong }
+{
+    let more = length_behind(length, bytes.len())?;
+    match bytes.reserve(more.max(14)) {
+        Ok(()) => Ok(()),
+        Err(_) => Err(OneShotError::Memory),
+    }
+}
+
+/// Decodes a whole input, with U+FFFD for each malformed sequence.
+///
+/// One call is enough if nothing is malformed. Otherwise a second call may follow, after a growth
+/// for the rest of the input.
+fn decode_whole(
+    alloc: Global,
+    encoding: Encoding,
+    handling: BomHandling,
+    bytes: &[u8],
+) -> Result<(String, bool), OneShotError>
+    ensures text { IfOk result (λ answer. string_bytes answer.0 ≡ whole_utf_8 handling encoding bytes.now) }
+    ensures flag { IfOk result (λ answer. answer.1 ≡ whole_malformed handling encoding bytes.now) }
+    ensures too_long { IsErrOf result OneShotError.TooLong → IsTooLong handling encoding bytes.now }
+    ensures first { bytes.now ≢ [] → first_length handling encoding bytes.now ≡ None → IsErrOf result OneShotError.TooLong }
+    ensures empty { bytes.now ≡ [] → IsOk result }
+{
+    let mut text = String::new(alloc);
+    if bytes.is_empty() {
+        return Ok((text, false));
+    }
+    let mut decoder = Decoder::start(encoding, handling);
+    let length = decoder.max_utf8_buffer_length_without_replacement(bytes.len());
+    make_room(&mut text, length)?;
+    let (stop, read, had_errors) = decoder.decode_to_string(bytes, &mut text, true);
+    if stop == CoderResult::InputEmpty {
+        return Ok((text, had_errors));
+    }
+    let (_, unread) = bytes.split_at(read);
+    let length = decoder.max_utf8_buffer_length(unread.len());
+    make_room(&mut text, length)?;
+    match decoder.decode_to_string(unread, &mut text, true) {
+        (CoderResult::InputEmpty, _, replaced) => Ok((text, had_errors | replaced)),
+        (CoderResult::OutputFull, _, _) => unreachable!(),
+    }
+}
+
+impl Encoding {
+    /// Decodes a whole input, with replacement (Encoding Standard 6, "decode").
+    ///
+    /// If the input begins with a byte order mark, its encoding is used, and the byte order mark is
+    /// no part of the text. Returns the text, the encoding that was used, and whether a sequence
+    /// was malformed.
+    ///
+    /// Takes memory for the text: one growth if nothing is malformed, and at most two otherwise. An
+    /// empty input takes none. Errors: [`OneShotError::TooLong`] if a length to allocate, or its
+    /// sum with the length written before, overflows `usize`; [`OneShotError::Memory`] if and only
+    /// if memory is refused.
+    pub fn decode(
+        self,
+        alloc: Global,
+        bytes: &[u8],
+    ) -> Result<(String, Encoding, bool), OneShotError>
+        ensures text { IfOk result (λ answer. string_bytes answer.0 ≡ whole_utf_8 handling.Sniff self bytes.now) }
+        ensures encoding { IfOk result (λ answer. answer.1 ≡ whole_encoding handling.Sniff self bytes.now) }
+        ensures flag { IfOk result (λ answer. answer.2 ≡ whole_malformed handling.Sniff self bytes.now) }
+        ensures too_long { IsErrOf result OneShotError.TooLong → IsTooLong handling.Sniff self bytes.now }
+        ensures first { bytes.now ≢ [] → first_length handling.Sniff self bytes.now ≡ None → IsErrOf result OneShotError.TooLong }
+        ensures empty { bytes.now ≡ [] → IsOk result }
+    {
+        let (text, had_errors) = decode_whole(alloc, self, BomHandling::Sniff, bytes)?;
+        let encoding = match Encoding::for_bom(bytes) {
+            Some((marked, _)) => marked,
+            None => self,
+        };
+        Ok((text, encoding, had_errors))
+    }
+
+    /// Decodes a whole input without the byte order mark of this encoding, with replacement.
+    ///
+    /// That is "UTF-8 decode" of Encoding Standard 6, for any encoding. Returns the text, and
+    /// whether a sequence was malformed. Memory and errors are those of [`Encoding::decode`].
+    pub fn decode_with_bom_removal(
+        self,
+        alloc: Global,
+        bytes: &[u8],
+    ) -> Result<(String, bool), OneShotError>
+        ensures text { IfOk result (λ answer. string_bytes answer.0 ≡ whole_utf_8 handling.Remove self bytes.now) }
+        ensures flag { IfOk result (λ answer. answer.1 ≡ whole_malformed handling.Remove self bytes.now) }
+        ensures too_long { IsErrOf result OneShotError.TooLong → IsTooLong handling.Remove self bytes.now }
+        ensures first { bytes.now ≢ [] → first_length handling.Remove self bytes.now ≡ None → IsErrOf result OneShotError.TooLong }
+        ensures empty { bytes.now ≡ [] → IsOk result }
+    {
+        decode_whole(alloc, self, BomHandling::Remove, bytes)
+    }
+
+    /// Decodes a whole input, a byte order mark included, with replacement.
+    ///
+    /// That is "UTF-8 decode without BOM" of Encoding Standard 6, for any encoding. Returns the
+    /// text, and whether a sequence was malformed. Memory and errors are those of
+    /// [`Encoding::decode`].
+    pub fn decode_without_bom_handling(
+        self,
+        alloc: Global,
+        bytes: &[u8],
+    ) -> Result<(String, bool), OneShotError>
+        ensures text { IfOk result (λ answer. string_bytes answer.0 ≡ whole_utf_8 handling.Off self bytes.now) }
+        ensures flag { IfOk result (λ answer. answer.1 ≡ whole_malformed handling.Off self bytes.now) }
+        ensures too_long { IsErrOf result OneShotError.TooLong → IsTooLong handling.Off self bytes.now }
+        ensures first { bytes.now ≢ [] → first_length handling.Off self bytes.now ≡ None → IsErrOf result OneShotError.TooLong }
+        ensures empty { bytes.now ≡ [] → IsOk result }
+    {
+        decode_whole(alloc, self, BomHandling::Off, bytes)
+    }
+
+    /// Decodes a whole input, a byte order mark included, if nothing in it is malformed.
+    ///
+    /// That is "UTF-8 decode without BOM or fail" of Encoding Standard 6, for any encoding. Returns
+    /// the text, or `None` exactly if a sequence is malformed. Takes memory for the text in one
+    /// growth, and none for an empty input. Errors are those of [`Encoding::decode`].
+    pub fn decode_without_bom_handling_and_without_replacement(
+        self,
+        alloc: Global,
+        bytes: &[u8],
+    ) -> Result<Option<String>, OneShotError>
+        ensures text { IfOk result (λ answer. option_map string_bytes answer ≡ utf_8_without_replacement self bytes.now) }
+        ensures too_long { IsErrOf result OneShotError.TooLong → first_length handling.Off self bytes.now ≡ None }
+        ensures first { bytes.now ≢ [] → first_length handling.Off self bytes.now ≡ None → IsErrOf result OneShotError.TooLong }
+        ensures empty { bytes.now ≡ [] → IsOk result }
+    {
+        let mut text = String::new(alloc);
+        if bytes.is_empty() {
+            return Ok(Some(text));
+        }
+        let mut decoder = Decoder::start(self, BomHandling::Off);
+        let length = decoder.max_utf8_buffer_length_without_replacement(bytes.len());
+        make_room(&mut text, length)?;
+        let (stop, _) = decoder.decode_to_string_without_replacement(bytes, &mut text, true);
+        match stop {
+            DecoderResult::InputEmpty => Ok(Some(text)),
+            DecoderResult::Malformed(_, _) => Ok(None),
+            DecoderResult::OutputFull => unreachable!(),
+        }
+    }
+
+    /// Encodes a whole text, with replacement (Encoding Standard 6, "encode").
+    ///
+    /// It is encoded in the output encoding, with a decimal reference for each unmappable
+    /// character. Returns the bytes, the output encoding, and whether a character was unmappable.
+    ///
+    /// Takes memory for the bytes: one growth if nothing is unmappable, and otherwise one or more.
+    /// An empty text takes none. Errors are those of [`Encoding::decode`].
+    pub fn encode(
+        self,
+        alloc: Global,
+        text: &str,
+    ) -> Result<(Vec<u8>, Encoding, bool), OneShotError>
+        ensures bytes { IfOk result (λ answer. answer.0.items ≡ whole_bytes [] self (chars text.now)) }
+        ensures encoding { IfOk result (λ answer. answer.1 ≡ output_encoding_of self) }
+        ensures flag { IfOk result (λ answer. answer.2 ≡ any_unmappable (output_rule [] self) (chars text.now)) }
+        ensures too_long { IsErrOf result OneShotError.TooLong → IsTooLongToEncode self text.now }
+        ensures first { text.now ≢ [] → length_to_encode (output_encoding_of self) (length text.now) ≡ None → IsErrOf result OneShotError.TooLong }
+        ensures empty { text.now ≡ [] → IsOk result }
+    {
+        let mut bytes = Vec::new(alloc);
+        let mut encoder = self.new_encoder();
+        let mut had_unmappables = false;
+        let mut unread = text;
+        if text.is_empty() {
+            return Ok((bytes, encoder.encoding(), false));
+        }
+        'calls: loop {
+            let length = encoder.max_buffer_length_from_utf8_if_no_unmappables(unread.len());
+            make_byte_room(&mut bytes, length)?;
+            let (stop, read, replaced) = encoder.encode_from_utf8_to_vec(unread, &mut bytes, true);
+            had_unmappables |= replaced;
+            if stop == CoderResult::InputEmpty {
+                return Ok((bytes, encoder.encoding(), had_unmappables));
+            }
+            let (_, rest) = unread.split_at(read);
+            unread = rest;
+        }
+    }
+}

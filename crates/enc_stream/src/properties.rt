@@ -1,0 +1,71 @@
+//! Names and properties of the encodings (Encoding Standard 4.2 and 4.3).
+
+ghost use Rattle.std.specs.Prelude.{◌≡◌, ◌↔◌, IsTrue};
+ghost use Rattle.enc_encoder.specs.Barring.{are_beyond_ascii};
+ghost use Rattle.enc_stream.specs.Names.{name_of};
+ghost use Rattle.enc_stream.specs.Properties.{output_encoding_of, is_ascii_compatible, is_single_byte};
+
+use crate::encoding::{Encoding, UTF_8};
+
+impl Encoding {
+    /// Returns its name (Encoding Standard 4.2), which is one of its labels. Takes no memory.
+    pub fn name(self) -> &'static str
+        ensures { result.now ≡ name_of self }
+    {
+        self.id.name()
+    }
+
+    /// Returns its output encoding (Encoding Standard 4.3, "get an output encoding").
+    ///
+    /// That is UTF-8 for replacement, UTF-16BE and UTF-16LE, and the encoding itself otherwise.
+    /// Takes no memory.
+    pub fn output_encoding(self) -> Encoding
+        ensures { result ≡ output_encoding_of self }
+    {
+        Encoding {
+            id: self.id.output(),
+        }
+    }
+
+    /// Returns whether [`Encoding::new_encoder_barring`] accepts a list.
+    ///
+    /// It does if each character is U+0080 or above, so that references can be written. Takes no
+    /// memory.
+    pub fn barred_ok(barred: &[char]) -> bool
+        ensures { result ≡ are_beyond_ascii barred.now }
+    {
+        for i in 0..barred.len() {
+            if (barred[i] as u32) < 0x80 {
+                return false;
+            }
+        }
+        true
+    }
+
+    /// Returns whether its output encoding is UTF-8, which has every character. Takes no memory.
+    pub fn can_encode_everything(self) -> bool
+        ensures { IsTrue result ↔ (output_encoding_of self ≡ UTF_8) }
+    {
+        self.output_encoding() == UTF_8
+    }
+
+    /// Returns whether bytes below 0x80 are the ASCII characters with their numbers.
+    ///
+    /// Then these characters are also written so. False for replacement, UTF-16BE, UTF-16LE and
+    /// ISO-2022-JP, and true otherwise. Takes no memory.
+    pub fn is_ascii_compatible(self) -> bool
+        ensures { result ≡ is_ascii_compatible self }
+    {
+        self.id.is_ascii_compatible()
+    }
+
+    /// Returns whether each of its bytes is a character by itself.
+    ///
+    /// True for the 28 legacy single-byte encodings (Encoding Standard 9) and x-user-defined, and
+    /// false otherwise. Takes no memory.
+    pub fn is_single_byte(self) -> bool
+        ensures { result ≡ is_single_byte self }
+    {
+        self.id.is_single_byte()
+    }
+}

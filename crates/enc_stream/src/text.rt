@@ -1,0 +1,72 @@
+//! Text decoded by a codec. Its first bytes may be held as those of a byte order mark.
+
+ghost use Rattle.std.specs.Prelude.{◌≡◌, ℕ, ◌+◌, ◌-◌, ◌≤◌, ◌++◌, false, length};
+ghost use Rattle.enc_stream.specs.declared.encoding.Encoding.{Encoding};
+ghost use Rattle.enc_names.specs.declared.encoding_id.EncodingId.{EncodingId};
+ghost use Rattle.enc_stream.specs.Encodings.{rule_of};
+ghost use Rattle.enc_decoder.specs.Replacing.{decode_error_mode};
+ghost use Rattle.enc_stream.specs.Decoding.{has_ended, unread_bytes, decoder_state_of, HeldBytesMatchCodec};
+ghost use Rattle.enc_stream.specs.Decoding.{LooksForOwnMark, DecodesInto};
+ghost use Rattle.enc_stream.specs.Sniffing.{HasNoMark};
+
+use crate::life_cycle::LifeCycle;
+use enc_codec::RawDecoder;
+use enc_decoder::{convert, reaches_end, shift_malformed};
+use enc_units::{DecoderResult, Units};
+
+/// Returns the held bytes of a byte order mark that the codec has not read. It has `pending` bytes
+/// pending.
+fn unread(life: LifeCycle, pending: usize) -> &'static [u8]
+    ensures { result.now ≡ unread_bytes life pending }
+{
+    if pending == 0 { life.held() } else { b"" }
+}
+
+/// Decodes text: the held bytes of a byte order mark, and then `src`.
+///
+/// The codec is unchanged if the call puts out and reports nothing, and reads nothing of `src`.
+pub(crate) fn convert_text<D: RawDecoder, U: Units>(
+    life: &mut LifeCycle,
+    codec: &mut D,
+    src: &[u8],
+    out: &mut U,
+    last: bool,
+    replace: bool,
+) -> (DecoderResult, usize, bool)
+    requires open { has_ended life.old ≡ false }
+    requires text { HasNoMark life.old src.now last }
+    requires holds { HeldBytesMatchCodec life.old (D.state codec.old) }
+    ensures call { (e : Encoding) → rule_of e ≡ (D.state codec.old).rule →
+        DecodesInto U.units_of (decode_error_mode replace) (decoder_state_of e life.old (D.state codec.old)) (decoder_state_of e life.new (D.state codec.new))
+        src.now last (U.output out.old) (U.output out.new) result.0 result.1 result.2 }
+    ensures rule { (D.state codec.new).rule ≡ (D.state codec.old).rule }
+    ensures formulas { D.formulas codec.new ≡ D.formulas codec.old }
+    ensures own { (id : EncodingId) → LooksForOwnMark id life.old → LooksForOwnMark id life.new }
+    ensures holds { HeldBytesMatchCodec life.new (D.state codec.new) }
+{
+    let before = *codec;
+    let held = unread(*life, before.held());
+    let done = convert(codec, held, src, out, last, replace);
+    let stop = (
+        shift_malformed(done.result, done.left),
+        done.read,
+        done.replaced,
+    );
+    if reaches_end(last, done.result) {
+        *life = LifeCycle::Finished;
+        return stop;
+    }
+    let pending = codec.held() + done.left;
+    let untouched = (done.read == 0) & (pending == before.held() + held.len());
+    if untouched {
+        *codec = before;
+        return stop;
+    }
+    let leaves_bb = (done.read == 0) & ((held.len() == 2) & (pending == 1));
+    if leaves_bb {
+        *life = LifeCycle::ConvertingWithPendingBb;
+        return stop;
+    }
+    *life = LifeCycle::Converting;
+    stop
+}

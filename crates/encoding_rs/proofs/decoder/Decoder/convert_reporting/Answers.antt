@@ -1,5 +1,0 @@
-use Rattle.encoding_rs.proofs.OutputFullLemmas.{reports_into}
-use Rattle.encoding_rs.proofs.decoder.Decoder.convert_reporting.Goals as goal
-
-pub returns : goal.returns
-returns g c = reports_into _ _ _ _ _ _ _ _ _ _ c.laws.ensures c.convert-result.ensures.held c.requires c.convert-result.ensures.call

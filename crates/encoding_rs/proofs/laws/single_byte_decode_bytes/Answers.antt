@@ -1,5 +1,0 @@
-use Rattle.encoding_rs.proofs.PropertyLemmas.{tells_single_byte}
-use Rattle.encoding_rs.proofs.laws.single_byte_decode_bytes.Goals as goal
-
-pub returns : goal.returns
-returns c = tells_single_byte _

@@ -1,0 +1,44 @@
+-- The result of several calls of an encoder, and the bytes that a sink has taken of it.
+use Rattle.std.specs.Prelude.{◌≡◌, ℕ, ◌≤◌, Bool, true, List, [], ◌++◌, Option}
+use Rattle.enc_encoder.specs.declared.character_set.CharacterSet.TheVariants.{Ascii}
+use Rattle.enc_encoder.specs.Text.{bytes_of_text, with_references}
+use Rattle.enc_encoder.specs.Unmappable.{any_unmappable}
+use Rattle.enc_stream.specs.declared.encoding.TheConstants.{UTF_8}
+use Rattle.enc_stream.specs.Encoder.{EncoderState, raw_state}
+use Rattle.recode_engine.specs.Sink.{AppendsContents}
+
+-- the bytes of a text still to be encoded, with references
+abbrev pub bytes_from_state : EncoderState → List ℕ → List ℕ
+bytes_from_state state text =
+    bytes_of_text (raw_state state).rule state.set (with_references (raw_state state).rule text)
+
+-- An encoder reads a text up to the characters `unread`. If `last`, nothing follows them.
+pub record EncodesText (old new : EncoderState) (text unread : List ℕ) (last : Bool) (wrote : List ℕ) (replaced : Bool) : Type 0 where
+  pub encoding : new.encoding ≡ old.encoding
+  pub barred : new.barred ≡ old.barred
+  -- the characters read
+  pub front : List ℕ
+  pub reads : text ≡ front ++ unread
+  -- The bytes to write before are those written and those still to write now.
+  pub residual : (z : List ℕ) → (last ≡ true → z ≡ []) → bytes_from_state old (text ++ z) ≡ wrote ++ bytes_from_state new (unread ++ z)
+  pub flag : replaced ≡ any_unmappable (raw_state old).rule front
+
+-- A text is encoded up to the characters `unread`, and a sink has taken the bytes.
+pub record HasEncoded (old new : EncoderState) (text unread : List ℕ) (last : Bool)
+    (taken_before taken_after : Option (List ℕ)) (replaced : Bool) : Type 0 where
+  pub wrote : List ℕ
+  pub encoded : EncodesText old new text unread last wrote replaced
+  pub taken : AppendsContents taken_before taken_after wrote
+
+-- A sink has taken a prefix of the bytes for a text, whatever follows the text.
+pub record StopsWithin (owed : List ℕ → List ℕ) (text : List ℕ) (last : Bool) (taken_before taken_after : Option (List ℕ)) : Type 0 where
+  pub wrote : List ℕ
+  pub unwritten : (z : List ℕ) → (last ≡ true → z ≡ []) → List ℕ
+  pub prefix : (z : List ℕ) (h : last ≡ true → z ≡ []) → owed (text ++ z) ≡ wrote ++ unwritten z h
+  pub taken : AppendsContents taken_before taken_after wrote
+
+-- UTF-8 needs no room: its text is written as it is, with no character set but ASCII and no character barred. In other
+-- encodings 14 bytes let each call make progress.
+pub record CanWrite (state : EncoderState) (room : ℕ) : Type 0 where
+  pub utf_8 : state.encoding ≡ UTF_8 → (state.set ≡ Ascii) × (state.barred ≡ [])
+  pub others : ¬ (state.encoding ≡ UTF_8) → 14 ≤ room

@@ -1,0 +1,16 @@
+//! Recoding: [`run`] reads bytes from a [`Source`], recodes them, and writes them to a [`Sink`].
+//!
+//! [`FromRead`] and [`FromWrite`] make a source of any reader and a sink of any writer. [`labels`]
+//! finds the encodings of a run by their labels, and [`status`] returns its exit status.
+#![tactic(auto)]
+
+mod engine;
+mod exit;
+mod label_pair;
+mod sink;
+
+pub use enc_reader::{FromRead, Source};
+pub use engine::{RecodeFault, run};
+pub use exit::status;
+pub use label_pair::labels;
+pub use sink::{FromWrite, Sink};

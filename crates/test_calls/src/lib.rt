@@ -1,0 +1,26 @@
+//! Tests of `encoding_rs`: names, labels, properties and byte order marks of all encodings,
+//! outputs, length queries, one-shot calls and runs. `test_codecs` tests each decoder,
+//! `test_encoders` each encoder.
+//!
+//! Expected values come from outside, as each table says: from examples of the Encoding Standard,
+//! from Unicode's tables, and from other converters.
+#![tactic(auto)]
+
+#[cfg(test)]
+mod bom;
+#[cfg(test)]
+mod calls;
+#[cfg(test)]
+mod encodings;
+#[cfg(test)]
+mod ends;
+#[cfg(test)]
+mod long_texts;
+#[cfg(test)]
+mod one_shot;
+#[cfg(test)]
+mod outputs;
+#[cfg(test)]
+mod queries;
+#[cfg(test)]
+mod runs;

@@ -1,0 +1,255 @@
+//! One-shot calls: rows of the Encoding Standard's "decode", "UTF-8 decode", "UTF-8 decode without
+//! BOM" and "UTF-8 decode without BOM or fail" (6) by hand, and long inputs compared with runs and
+//! single bytes. All rows of the other modules go through one-shot calls too
+//! (`test_support::decoding`).
+
+use encoding_rs::run::BomHandling;
+use encoding_rs::*;
+use std::alloc::{AllocError, Global};
+use std::process::Abort;
+use std::test::Fail;
+use test_support::decoding::{
+    compare_single_bytes, compare_strict, compare_with_run, decode_at_once,
+};
+use test_support::encodings::TABLE;
+
+const OFF: BomHandling = BomHandling::Off;
+
+const SNIFF: BomHandling = BomHandling::Sniff;
+
+const REMOVE: BomHandling = BomHandling::Remove;
+
+/// An encoding, the byte order marks looked for, and the bytes; their text, the encoding that is
+/// returned, and whether a sequence is malformed.
+type WholeRow = (
+    Encoding,
+    BomHandling,
+    &'static [u8],
+    &'static str,
+    Encoding,
+    bool,
+);
+
+/// UTF-8 after its byte order mark.
+const MARKED: &[u8] = b"\xEF\xBB\xBF\xE2\x82\xAC\xC3\xA4";
+
+/// The same with a malformed byte.
+const FAULTY: &[u8] = b"\xEF\xBB\xBF\xE2\x82\xAC\x80\xC3\xA4";
+
+const WHOLE_ROWS: &[WholeRow] = &[
+    (
+        SHIFT_JIS,
+        SNIFF,
+        b"\x83\x6E\x83\x8D\x81\x5B\x81\x45\x83\x8F\x81\x5B\x83\x8B\x83\x68",
+        "\u{30CF}\u{30ED}\u{30FC}\u{30FB}\u{30EF}\u{30FC}\u{30EB}\u{30C9}",
+        SHIFT_JIS,
+        false,
+    ),
+    (WINDOWS_1257, SNIFF, b"", "", WINDOWS_1257, false),
+    (REPLACEMENT, SNIFF, b"AB", "\u{FFFD}", REPLACEMENT, true),
+    (REPLACEMENT, SNIFF, b"", "", REPLACEMENT, false),
+    (UTF_8, OFF, b"\xE2\x82\xAC", "\u{20AC}", UTF_8, false),
+    (UTF_8, OFF, b"\xE2\x82", "\u{FFFD}", UTF_8, true),
+    // a byte order mark sets the encoding, or is dropped, or is text
+    (WINDOWS_1257, SNIFF, MARKED, "\u{20AC}\u{E4}", UTF_8, false),
+    (UTF_8, SNIFF, MARKED, "\u{20AC}\u{E4}", UTF_8, false),
+    (
+        WINDOWS_1257,
+        SNIFF,
+        FAULTY,
+        "\u{20AC}\u{FFFD}\u{E4}",
+        UTF_8,
+        true,
+    ),
+    (UTF_8, SNIFF, FAULTY, "\u{20AC}\u{FFFD}\u{E4}", UTF_8, true),
+    (WINDOWS_1257, SNIFF, b"\xFF\xFEa\x00", "a", UTF_16LE, false),
+    (UTF_8, REMOVE, MARKED, "\u{20AC}\u{E4}", UTF_8, false),
+    (
+        WINDOWS_1257,
+        REMOVE,
+        MARKED,
+        "\u{13C}\u{BB}\u{E6}\u{101}\u{201A}\u{AC}\u{106}\u{A4}",
+        WINDOWS_1257,
+        false,
+    ),
+    (UTF_8, OFF, MARKED, "\u{FEFF}\u{20AC}\u{E4}", UTF_8, false),
+    (
+        UTF_8,
+        OFF,
+        FAULTY,
+        "\u{FEFF}\u{20AC}\u{FFFD}\u{E4}",
+        UTF_8,
+        true,
+    ),
+    // incomplete sequences at the end
+    (ISO_2022_JP, OFF, b"a\x1B$B", "a", ISO_2022_JP, false),
+    (ISO_2022_JP, OFF, b"a\x1B$", "a\u{FFFD}$", ISO_2022_JP, true),
+];
+
+/// Compares a one-shot call, and that without replacement if no byte order mark is looked for.
+fn compare_whole(rt: &impl Abort, alloc: Global, row: &WholeRow) -> Result<(), Fail> {
+    let (encoding, handling, bytes, want, used, is_malformed) = *row;
+    let (text, by, had_errors) = decode_at_once(alloc, (encoding, handling), bytes)?;
+    assert_eq!(rt; text.as_bytes(), want.as_bytes(), "{encoding:?} {bytes:?}");
+    assert_eq!(rt;
+        (by, had_errors),
+        (used, is_malformed),
+        "{encoding:?} {bytes:?}"
+    );
+    match handling {
+        BomHandling::Off => {
+            let answer = (want.as_bytes(), is_malformed);
+            compare_strict(alloc, (encoding, bytes), answer)
+        }
+        BomHandling::Sniff | BomHandling::Remove => Ok(()),
+    }
+}
+
+#[test]
+fn whole_inputs_have_these_texts(rt: HostRuntime) -> Result<(), Fail> {
+    for row in WHOLE_ROWS {
+        compare_whole(&rt, rt.alloc(), row)?;
+    }
+    Ok(())
+}
+
+/// Bytes of windows-1257 without a byte order mark, their text, and whether a sequence is
+/// malformed.
+const UNMARKED: &[(&[u8], &str, bool)] = &[
+    (b"abc", "abc", false),
+    (b"abc\x80\xE4", "abc\u{20AC}\u{E4}", false),
+    (b"abc\x80\xA1\xE4", "abc\u{20AC}\u{FFFD}\u{E4}", true),
+];
+
+#[test]
+fn without_a_mark_all_calls_are_alike(rt: HostRuntime) -> Result<(), Fail> {
+    for (bytes, text, is_malformed) in UNMARKED {
+        for handling in [SNIFF, REMOVE, OFF] {
+            let row = (
+                WINDOWS_1257,
+                handling,
+                *bytes,
+                *text,
+                WINDOWS_1257,
+                *is_malformed,
+            );
+            compare_whole(&rt, rt.alloc(), &row)?;
+        }
+    }
+    Ok(())
+}
+
+#[test]
+fn reasons_are_told_apart(rt: HostRuntime) -> Result<(), Fail> {
+    let (memory, too_long) = (OneShotError::Memory, OneShotError::TooLong);
+    assert_ne!(rt; memory, too_long);
+    assert_eq!(rt;
+        format!(in rt.alloc(); "{memory:?} {too_long:?}")?.as_str(),
+        "Memory TooLong"
+    );
+    Ok(())
+}
+
+/// The length of the long input, in bytes.
+const LONG: usize = 100_000;
+
+/// Bytes of all encodings: words, characters in one encoding or another, escape sequences, and
+/// incomplete sequences.
+const PIECES: &[&[u8]] = &[
+    b"The quick brown fox jumps over the lazy dog. ",
+    b"caf\xE9 \x93na\xEFve\x94",
+    b"\xE2\x82\xAC\xF0\x9F\x92\xA9\xC3\xA4",
+    b"\x1B$BF|K\\8l\x1B(B",
+    b"\x1B(J\\~\x1B(I1",
+    b"\x93\xFA\x96\x7B\x8C\xEA",
+    b"\xA4\x48\xA4\xA7\xAA\xEC",
+    b"\xC7\xD1\xB1\xDB",
+    b"\x95\x32\x82\x36\x81\x30",
+    b"\x8F\xB0\xA1\x8E\xB1",
+    b"\x3D\xD8\xA9\xDC\xD8\x3D\xDC\xA9",
+];
+
+/// The number of times that the first piece stands between two others.
+const STRETCH: usize = 16;
+
+/// Returns the long input, the same each time: pieces, single bytes, and stretches of ASCII, in the
+/// order of a linear congruential generator.
+fn long_bytes(alloc: Global) -> Result<Vec<u8>, AllocError> {
+    let mut bytes = Vec::new(alloc);
+    let mut state = 1_u64;
+    for _ in 0..LONG {
+        state = state
+            .wrapping_mul(6_364_136_223_846_793_005)
+            .wrapping_add(1_442_695_040_888_963_407);
+        let [kind, number, byte, ..] = state.to_be_bytes();
+        match PIECES.get((kind / 8) as usize) {
+            Some(piece) => bytes.extend_from_slice(piece)?,
+            None => bytes.extend_from_slice(&[number, byte])?,
+        }
+        if kind < 128 {
+            for _ in 0..STRETCH {
+                bytes.extend_from_slice(PIECES[0])?;
+            }
+        }
+        if bytes.len() >= LONG {
+            break;
+        }
+    }
+    bytes.truncate(LONG);
+    Ok(bytes)
+}
+
+#[test]
+fn two_encodings_have_two_names_for_debugging(rt: HostRuntime) -> Result<(), Fail> {
+    for (i, (one, _, _)) in TABLE.iter().enumerate() {
+        let text = format!(in rt.alloc(); "{one:?}")?;
+        assert!(rt; !text.is_empty());
+        for (j, (other, _, _)) in TABLE.iter().enumerate() {
+            let other = format!(in rt.alloc(); "{other:?}")?;
+            assert_eq!(rt; text == other, i == j, "{other}");
+        }
+    }
+    Ok(())
+}
+
+#[test]
+fn decoders_and_encoders_are_told_for_debugging(rt: HostRuntime) -> Result<(), Fail> {
+    let mut decoder = UTF_8.new_decoder();
+    let text = format!(in rt.alloc(); "{decoder:?}")?;
+    let want = "Decoder { encoding: Encoding { id: Utf8 }, finished: false }";
+    assert_eq!(rt; text.as_str(), want);
+    let _ = decoder.decode_to_utf8(b"", &mut [], true);
+    let text = format!(in rt.alloc(); "{decoder:?}")?;
+    let want = "Decoder { encoding: Encoding { id: Utf8 }, finished: true }";
+    assert_eq!(rt; text.as_str(), want);
+    let mut encoder = ISO_2022_JP.new_encoder();
+    let text = format!(in rt.alloc(); "{encoder:?}")?;
+    let want = "Encoder { encoding: Encoding { id: Iso2022Jp }, pending: false }";
+    assert_eq!(rt; text.as_str(), want);
+    let _ = encoder.encode_from_utf8_without_replacement("あ", &mut [0; 8], false);
+    let text = format!(in rt.alloc(); "{encoder:?}")?;
+    let want = "Encoder { encoding: Encoding { id: Iso2022Jp }, pending: true }";
+    assert_eq!(rt; text.as_str(), want);
+    Ok(())
+}
+
+/// Decodes the long input at once, in each mode, and compares that with a run, and with single
+/// bytes.
+fn compare_long(alloc: Global, encoding: Encoding, bytes: &[u8]) -> Result<(), Fail> {
+    for handling in [SNIFF, REMOVE, OFF] {
+        let mode = (encoding, handling);
+        let (text, _) = compare_with_run(alloc, mode, bytes)?;
+        compare_single_bytes(mode, bytes, text.as_bytes())?;
+    }
+    Ok(())
+}
+
+#[test]
+fn long_inputs_of_every_encoding(rt: HostRuntime) -> Result<(), Fail> {
+    let bytes = long_bytes(rt.alloc())?;
+    assert_eq!(rt; bytes.len(), LONG);
+    for (encoding, _, _) in TABLE {
+        compare_long(rt.alloc(), *encoding, &bytes)?;
+    }
+    Ok(())
+}

@@ -1,0 +1,455 @@
+//! Length queries of decoders, with the formulas of their codecs computed by hand: in every state,
+//! and at the greatest lengths that have an answer.
+//!
+//! Rows by codec are written by scripts/make-codecs from data/codecs.txt.
+
+use encoding_rs::run::BomHandling;
+use encoding_rs::{
+    BIG5, CoderResult, Decoder, DecoderResult, EUC_JP, EUC_KR, Encoding, GB18030, GBK, ISO_2022_JP,
+    KOI8_R, REPLACEMENT, SHIFT_JIS, UTF_8, UTF_16BE, UTF_16LE, WINDOWS_1252, X_USER_DEFINED,
+};
+use std::process::Abort;
+use std::test::Fail;
+use test_support::decoding::{
+    Call, ReportingCall, make_calls_of, make_reporting_calls_of, new_decoder,
+};
+
+const EMPTY: CoderResult = CoderResult::InputEmpty;
+
+const FULL: CoderResult = CoderResult::OutputFull;
+
+const OFF: BomHandling = BomHandling::Off;
+
+const SNIFF: BomHandling = BomHandling::Sniff;
+
+const REMOVE: BomHandling = BomHandling::Remove;
+
+const MAX: usize = usize::MAX;
+
+/// The lengths for calls into UTF-8 with replacement, for those without, and for calls into UTF-16.
+type Lengths = (Option<usize>, Option<usize>, Option<usize>);
+
+/// An encoding, the byte order marks looked for, and the bytes read; then a number of bytes, and
+/// the lengths for these.
+type QueryRow = (Encoding, BomHandling, &'static [u8], usize, Lengths);
+
+/// Returns the lengths of a decoder for `bytes` more bytes.
+fn lengths(rt: &impl Abort, decoder: &Decoder, bytes: usize) -> Lengths {
+    assert!(rt; !decoder.is_finished());
+    (
+        decoder.max_utf8_buffer_length(bytes),
+        decoder.max_utf8_buffer_length_without_replacement(bytes),
+        decoder.max_utf16_buffer_length(bytes),
+    )
+}
+
+/// Returns a decoder that has read these bytes.
+fn decoder_behind(
+    rt: &impl Abort,
+    (encoding, handling): (Encoding, BomHandling),
+    bytes: &[u8],
+) -> Decoder {
+    let mut decoder = new_decoder(encoding, handling);
+    let mut buffer = [0; 16];
+    assert!(rt; !decoder.is_finished());
+    let (result, read, _, _) = decoder.decode_to_utf8(bytes, &mut buffer, false);
+    assert_eq!(rt; (result, read), (EMPTY, bytes.len()));
+    decoder
+}
+
+/// Compares a decoder's lengths with each row.
+fn compare_lengths(rt: &impl Abort, rows: &[QueryRow]) {
+    for (encoding, handling, bytes, more, want) in rows {
+        let decoder = decoder_behind(rt, (*encoding, *handling), bytes);
+        let answers = lengths(rt, &decoder, *more);
+        assert_eq!(rt; answers, *want, "{encoding:?} {bytes:?} {more}");
+    }
+}
+
+const OWN_ROWS: &[QueryRow] = &[
+    (UTF_8, OFF, b"", 0, (Some(3), Some(3), Some(1))),
+    (UTF_8, OFF, b"", 2, (Some(9), Some(5), Some(3))),
+    (UTF_8, OFF, b"\xE2", 2, (Some(12), Some(6), Some(4))),
+    (UTF_8, OFF, b"\xF0\x9F\x92", 1, (Some(15), Some(7), Some(5))),
+    (UTF_16LE, OFF, b"", 0, (Some(1), Some(1), Some(1))),
+    (UTF_16LE, OFF, b"", 3, (Some(7), Some(7), Some(3))),
+    (UTF_16LE, OFF, b"\x3D", 0, (Some(4), Some(4), Some(2))),
+    (
+        UTF_16LE,
+        OFF,
+        b"\x3D\xD8\xA9",
+        1,
+        (Some(7), Some(7), Some(3)),
+    ),
+    (UTF_16BE, OFF, b"", 4, (Some(7), Some(7), Some(3))),
+    (UTF_16BE, OFF, b"\xD8\x3D", 1, (Some(7), Some(7), Some(3))),
+    (WINDOWS_1252, OFF, b"", 0, (Some(0), Some(0), Some(0))),
+    (WINDOWS_1252, OFF, b"\xE9", 5, (Some(15), Some(15), Some(5))),
+    (KOI8_R, OFF, b"", 5, (Some(15), Some(15), Some(5))),
+    (X_USER_DEFINED, OFF, b"", 5, (Some(15), Some(15), Some(5))),
+    (REPLACEMENT, OFF, b"", 0, (Some(3), Some(3), Some(1))),
+    (REPLACEMENT, OFF, b"\x41", 9, (Some(3), Some(3), Some(1))),
+    (BIG5, OFF, b"\xA4", 2, (Some(9), Some(9), Some(3))),
+    (EUC_KR, OFF, b"\xB0", 2, (Some(9), Some(9), Some(3))),
+    (SHIFT_JIS, OFF, b"\x83", 2, (Some(9), Some(9), Some(3))),
+    (EUC_JP, OFF, b"\x8F\xB0", 2, (Some(12), Some(12), Some(4))),
+    (GBK, OFF, b"\x81\x30", 2, (Some(12), Some(12), Some(4))),
+    (
+        GB18030,
+        OFF,
+        b"\x81\x30\x81",
+        1,
+        (Some(12), Some(12), Some(4)),
+    ),
+    (GB18030, OFF, b"", 4, (Some(12), Some(12), Some(4))),
+    (ISO_2022_JP, OFF, b"", 4, (Some(12), Some(12), Some(4))),
+    (ISO_2022_JP, OFF, b"\x1B", 1, (Some(6), Some(6), Some(2))),
+    (
+        ISO_2022_JP,
+        OFF,
+        b"\x1B\x28\x4A",
+        1,
+        (Some(12), Some(12), Some(4)),
+    ),
+];
+
+#[test]
+fn each_codec_has_its_formulas(rt: HostRuntime) {
+    compare_lengths(&rt, OWN_ROWS);
+}
+
+const MARK_ROWS: &[QueryRow] = &[
+    // a decoder that looks for all byte order marks, at the start
+    (WINDOWS_1252, SNIFF, b"", 0, (Some(3), Some(3), Some(1))),
+    (UTF_8, SNIFF, b"", 4, (Some(15), Some(7), Some(5))),
+    (UTF_16LE, SNIFF, b"", 4, (Some(15), Some(7), Some(5))),
+    (REPLACEMENT, SNIFF, b"", 4, (Some(15), Some(7), Some(5))),
+    (SHIFT_JIS, SNIFF, b"", 2, (Some(9), Some(6), Some(3))),
+    (SHIFT_JIS, SNIFF, b"", 5, (Some(18), Some(15), Some(6))),
+    (WINDOWS_1252, SNIFF, b"", MAX, (None, None, None)),
+    // after the first bytes of the byte order mark of UTF-8
+    (WINDOWS_1252, SNIFF, b"\xEF", 0, (Some(9), Some(6), Some(3))),
+    (
+        WINDOWS_1252,
+        SNIFF,
+        b"\xEF\xBB",
+        1,
+        (Some(12), Some(9), Some(4)),
+    ),
+    (UTF_8, SNIFF, b"\xEF", 1, (Some(12), Some(6), Some(4))),
+    (UTF_16BE, SNIFF, b"\xEF\xBB", 0, (Some(9), Some(5), Some(3))),
+    (REPLACEMENT, SNIFF, b"\xEF", 0, (Some(9), Some(5), Some(3))),
+    (SHIFT_JIS, SNIFF, b"\xEF", 3, (Some(18), Some(15), Some(6))),
+    // after the first byte of a byte order mark of UTF-16
+    (WINDOWS_1252, SNIFF, b"\xFE", 0, (Some(6), Some(6), Some(2))),
+    (WINDOWS_1252, SNIFF, b"\xFF", 1, (Some(9), Some(9), Some(3))),
+    (UTF_8, SNIFF, b"\xFE", 1, (Some(12), Some(7), Some(4))),
+    (UTF_16LE, SNIFF, b"\xFF", 1, (Some(7), Some(7), Some(3))),
+    (REPLACEMENT, SNIFF, b"\xFF", 1, (Some(7), Some(7), Some(3))),
+    (SHIFT_JIS, SNIFF, b"\xFE", 1, (Some(9), Some(9), Some(3))),
+    // after a byte order mark, and after other bytes
+    (
+        WINDOWS_1252,
+        SNIFF,
+        b"\xEF\xBB\xBF",
+        2,
+        (Some(9), Some(5), Some(3)),
+    ),
+    (
+        WINDOWS_1252,
+        SNIFF,
+        b"\xEF\xBB\xBF\xE2",
+        2,
+        (Some(12), Some(6), Some(4)),
+    ),
+    (
+        WINDOWS_1252,
+        SNIFF,
+        b"\xFF\xFE",
+        3,
+        (Some(7), Some(7), Some(3)),
+    ),
+    (WINDOWS_1252, SNIFF, b"\x61", 2, (Some(6), Some(6), Some(2))),
+    (
+        SHIFT_JIS,
+        SNIFF,
+        b"\x61\x83",
+        2,
+        (Some(9), Some(9), Some(3)),
+    ),
+    // a decoder that looks for the byte order mark of its own encoding
+    (UTF_8, REMOVE, b"", 2, (Some(9), Some(5), Some(3))),
+    (UTF_8, REMOVE, b"\xEF", 0, (Some(9), Some(5), Some(3))),
+    (UTF_8, REMOVE, b"\xEF\xBB", 1, (Some(12), Some(6), Some(4))),
+    (
+        UTF_8,
+        REMOVE,
+        b"\xEF\xBB\xBF",
+        2,
+        (Some(9), Some(5), Some(3)),
+    ),
+    (UTF_16LE, REMOVE, b"", 3, (Some(7), Some(7), Some(3))),
+    (UTF_16LE, REMOVE, b"\xFF", 1, (Some(7), Some(7), Some(3))),
+    (UTF_16BE, REMOVE, b"", 0, (Some(1), Some(1), Some(1))),
+    (UTF_16BE, REMOVE, b"\xFE", 0, (Some(4), Some(4), Some(2))),
+    (WINDOWS_1252, REMOVE, b"", 5, (Some(15), Some(15), Some(5))),
+];
+
+#[test]
+fn a_mark_that_may_come_counts(rt: HostRuntime) {
+    compare_lengths(&rt, MARK_ROWS);
+}
+
+/// The greatest number of bytes that has a length, and this length.
+type Limit = (usize, usize);
+
+/// The limit for each of the calls of `Lengths`.
+type LimitRow = (Encoding, BomHandling, &'static [u8], (Limit, Limit, Limit));
+
+const LIMIT_ROWS: &[LimitRow] = &[
+    (
+        UTF_8,
+        OFF,
+        b"",
+        (
+            (6_148_914_691_236_517_204, MAX),
+            (MAX - 3, MAX),
+            (MAX - 1, MAX),
+        ),
+    ),
+    (
+        UTF_8,
+        OFF,
+        b"\xE2",
+        (
+            (6_148_914_691_236_517_203, MAX),
+            (MAX - 4, MAX),
+            (MAX - 2, MAX),
+        ),
+    ),
+    (
+        UTF_16LE,
+        OFF,
+        b"",
+        (
+            (12_297_829_382_473_034_408, MAX - 2),
+            (12_297_829_382_473_034_408, MAX - 2),
+            (MAX - 1, 9_223_372_036_854_775_808),
+        ),
+    ),
+    (
+        UTF_16BE,
+        OFF,
+        b"\xD8",
+        (
+            (12_297_829_382_473_034_407, MAX - 2),
+            (12_297_829_382_473_034_407, MAX - 2),
+            (MAX - 2, 9_223_372_036_854_775_808),
+        ),
+    ),
+    (
+        WINDOWS_1252,
+        OFF,
+        b"",
+        (
+            (6_148_914_691_236_517_205, MAX),
+            (6_148_914_691_236_517_205, MAX),
+            (MAX, MAX),
+        ),
+    ),
+    (
+        X_USER_DEFINED,
+        OFF,
+        b"",
+        (
+            (6_148_914_691_236_517_205, MAX),
+            (6_148_914_691_236_517_205, MAX),
+            (MAX, MAX),
+        ),
+    ),
+    (REPLACEMENT, OFF, b"", ((MAX, 3), (MAX, 3), (MAX, 1))),
+    (
+        SHIFT_JIS,
+        OFF,
+        b"",
+        (
+            (6_148_914_691_236_517_205, MAX),
+            (6_148_914_691_236_517_205, MAX),
+            (MAX, MAX),
+        ),
+    ),
+    (
+        GB18030,
+        OFF,
+        b"\x81\x30\x81",
+        (
+            (6_148_914_691_236_517_202, MAX),
+            (6_148_914_691_236_517_202, MAX),
+            (MAX - 3, MAX),
+        ),
+    ),
+    (
+        WINDOWS_1252,
+        SNIFF,
+        b"",
+        (
+            (6_148_914_691_236_517_204, MAX),
+            (6_148_914_691_236_517_205, MAX),
+            (MAX - 1, MAX),
+        ),
+    ),
+    (
+        UTF_8,
+        SNIFF,
+        b"",
+        (
+            (6_148_914_691_236_517_204, MAX),
+            (12_297_829_382_473_034_408, MAX - 2),
+            (MAX - 1, MAX),
+        ),
+    ),
+    (
+        WINDOWS_1252,
+        SNIFF,
+        b"\xEF",
+        (
+            (6_148_914_691_236_517_202, MAX),
+            (6_148_914_691_236_517_203, MAX),
+            (MAX - 3, MAX),
+        ),
+    ),
+    (
+        UTF_16LE,
+        SNIFF,
+        b"\xEF",
+        (
+            (6_148_914_691_236_517_202, MAX),
+            (12_297_829_382_473_034_406, MAX - 2),
+            (MAX - 3, MAX),
+        ),
+    ),
+    (
+        WINDOWS_1252,
+        SNIFF,
+        b"\xFE",
+        (
+            (6_148_914_691_236_517_203, MAX),
+            (6_148_914_691_236_517_203, MAX),
+            (MAX - 3, MAX - 1),
+        ),
+    ),
+    (
+        REPLACEMENT,
+        SNIFF,
+        b"\xFF",
+        (
+            (12_297_829_382_473_034_406, MAX - 2),
+            (12_297_829_382_473_034_406, MAX - 2),
+            (MAX - 3, 9_223_372_036_854_775_808),
+        ),
+    ),
+    (
+        UTF_8,
+        REMOVE,
+        b"\xEF",
+        (
+            (6_148_914_691_236_517_202, MAX),
+            (MAX - 5, MAX),
+            (MAX - 3, MAX),
+        ),
+    ),
+];
+
+/// The greatest length is returned, and none for a byte more.
+fn compare_limits(rt: &impl Abort, decoder: &Decoder, limits: (Limit, Limit, Limit)) {
+    let (utf_8, reporting, utf_16) = limits;
+    assert_eq!(rt; lengths(rt, decoder, utf_8.0).0, Some(utf_8.1));
+    assert_eq!(rt; lengths(rt, decoder, reporting.0).1, Some(reporting.1));
+    assert_eq!(rt; lengths(rt, decoder, utf_16.0).2, Some(utf_16.1));
+    if let Some(more) = utf_8.0.checked_add(1) {
+        assert_eq!(rt; lengths(rt, decoder, more).0, None, "{more}");
+    }
+    if let Some(more) = reporting.0.checked_add(1) {
+        assert_eq!(rt; lengths(rt, decoder, more).1, None, "{more}");
+    }
+    if let Some(more) = utf_16.0.checked_add(1) {
+        assert_eq!(rt; lengths(rt, decoder, more).2, None, "{more}");
+    }
+}
+
+#[test]
+fn no_length_passes_the_greatest_number(rt: HostRuntime) {
+    for (encoding, handling, bytes, limits) in LIMIT_ROWS {
+        let decoder = decoder_behind(&rt, (*encoding, *handling), bytes);
+        compare_limits(&rt, &decoder, *limits);
+    }
+}
+
+const A_MARK_BROKE_OFF: &[Call<'static>] = &[
+    (b"\xEF\xBB", false, 4, (EMPTY, 2, 0, false), ""),
+    (b"ab", true, 4, (FULL, 0, 3, false), "\u{F7EF}"),
+];
+
+const THEN: &[Call<'static>] = &[
+    (b"ab", true, 4, (FULL, 1, 4, false), "\u{F7BB}a"),
+    (b"b", true, 4, (EMPTY, 1, 1, false), "b"),
+];
+
+const BEHIND_A_MARK: &[ReportingCall<'static>] = &[(
+    b"\xEF\xBB\xBFA",
+    true,
+    7,
+    (DecoderResult::InputEmpty, 4, 1),
+    "A",
+)];
+
+#[test]
+fn lengths_between_calls(rt: HostRuntime) -> Result<(), Fail> {
+    let mut decoder = X_USER_DEFINED.new_decoder();
+    make_calls_of(rt.alloc(), &mut decoder, A_MARK_BROKE_OFF)?;
+    // BB is still to come out
+    let want = (Some(12), Some(12), Some(4));
+    assert_eq!(rt; lengths(&rt, &decoder, 2), want);
+    make_calls_of(rt.alloc(), &mut decoder, THEN)?;
+    let mut decoder = REPLACEMENT.new_decoder();
+    assert_eq!(rt; lengths(&rt, &decoder, 4).1, Some(7));
+    make_reporting_calls_of(rt.alloc(), &mut decoder, BEHIND_A_MARK)
+}
+
+/// Chunks, each with whether it is the last one.
+type Chunks = &'static [(&'static [u8], bool)];
+
+const BROKEN_MARKS: &[(Encoding, Chunks)] = &[
+    (UTF_16LE, &[(b"\xFF", false), (b"\xFF", true)]),
+    (UTF_8, &[(b"\xFF", false), (b"\xFF", true)]),
+    (
+        UTF_16LE,
+        &[(b"\xEF", false), (b"\xBB", false), (b"\xFF", true)],
+    ),
+    (
+        UTF_8,
+        &[(b"\xEF", false), (b"\xBB", false), (b"\xFF", true)],
+    ),
+    (UTF_16LE, &[(b"\xFF\xFF", true)]),
+];
+
+/// A call into UTF-16 reads all of a chunk, in the room of the length query for it.
+fn decode_in_room(rt: &impl Abort, decoder: &mut Decoder, (chunk, last): (&[u8], bool)) {
+    let mut units = [0; 16];
+    let room = lengths(rt, decoder, chunk.len()).2.unwrap_or(MAX);
+    assert!(rt; room <= 16);
+    assert!(rt; !decoder.is_finished());
+    let (result, read, _, _) = decoder.decode_to_utf16(chunk, &mut units[..room], last);
+    assert_eq!(rt; (result, read), (EMPTY, chunk.len()));
+}
+
+#[test]
+fn a_mark_that_breaks_off_has_room(rt: HostRuntime) {
+    for (encoding, chunks) in BROKEN_MARKS {
+        let mut decoder = encoding.new_decoder();
+        for chunk in *chunks {
+            decode_in_room(&rt, &mut decoder, *chunk);
+        }
+        assert!(rt; decoder.is_finished());
+    }
+}

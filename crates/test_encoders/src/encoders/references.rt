@@ -1,0 +1,218 @@
+//! Calls with references in place of unmappable characters: single ones, and one text in every
+//! encoding.
+//!
+//! The answers are by hand from the room that a call keeps free, and the bytes from the Encoding
+//! Standard's encoders.
+//!
+//! Rows by codec are written by scripts/make-codecs from data/codecs.txt.
+
+use encoding_rs::*;
+use std::test::Fail;
+use test_support::encoding::call_rows::{ReplacingCall, make_replacing_calls};
+use test_support::encoding::runs::{EncoderRow, compare_encoded, compare_ways};
+
+const EMPTY: CoderResult = CoderResult::InputEmpty;
+
+const FULL: CoderResult = CoderResult::OutputFull;
+
+type Calls = &'static [ReplacingCall<'static>];
+
+/// The calls of one encoder in each row.
+const ROWS: &[(Encoding, Calls)] = &[
+    // the reference ends in the room that is kept back: the call writes no more
+    (
+        ISO_2022_JP,
+        &[(
+            "\u{A5}💩",
+            false,
+            18,
+            (EMPTY, 6, 13, true),
+            b"\x1B(J\\&#128169;",
+        )],
+    ),
+    (
+        ISO_2022_JP,
+        &[
+            (
+                "\u{A5}💩",
+                true,
+                18,
+                (FULL, 6, 13, true),
+                b"\x1B(J\\&#128169;",
+            ),
+            ("", true, 18, (EMPTY, 0, 3, false), b"\x1B(B"),
+        ],
+    ),
+    // the escape sequence before the reference does not fit
+    (
+        ISO_2022_JP,
+        &[
+            (
+                "\u{3041}\u{FFFF}",
+                true,
+                17,
+                (FULL, 3, 5, false),
+                b"\x1B$B$!",
+            ),
+            (
+                "\u{FFFF}",
+                true,
+                18,
+                (EMPTY, 3, 11, true),
+                b"\x1B(B&#65535;",
+            ),
+        ],
+    ),
+    // a call with fewer than 10 bytes does nothing, and only a pending state keeps it from its end
+    (ISO_2022_JP, &[("", false, 8, (EMPTY, 0, 0, false), b"")]),
+    (ISO_2022_JP, &[("", true, 8, (EMPTY, 0, 0, false), b"")]),
+    (
+        ISO_2022_JP,
+        &[
+            ("\u{A5}", false, 16, (EMPTY, 2, 4, false), b"\x1B(J\\"),
+            ("", false, 8, (EMPTY, 0, 0, false), b""),
+            ("", true, 8, (FULL, 0, 0, false), b""),
+            ("", true, 12, (FULL, 0, 0, false), b""),
+            ("", true, 13, (EMPTY, 0, 3, false), b"\x1B(B"),
+        ],
+    ),
+    (
+        ISO_2022_JP,
+        &[("💩", false, 13, (EMPTY, 4, 9, true), b"&#128169;")],
+    ),
+    (
+        ISO_2022_JP,
+        &[("💩", true, 13, (EMPTY, 4, 9, true), b"&#128169;")],
+    ),
+    (
+        WINDOWS_1252,
+        &[
+            ("a", true, 9, (FULL, 0, 0, false), b""),
+            ("a", true, 10, (FULL, 0, 0, false), b""),
+            ("a", true, 11, (EMPTY, 1, 1, false), b"a"),
+            // there is room for the longest reference
+            ("💩", true, 9, (FULL, 0, 0, false), b""),
+            ("💩", true, 10, (EMPTY, 4, 9, true), b"&#128169;"),
+            ("💩a", true, 10, (FULL, 4, 9, true), b"&#128169;"),
+            ("\u{10FFFF}", true, 10, (EMPTY, 4, 10, true), b"&#1114111;"),
+        ],
+    ),
+    // one reference ends before the room that is kept back, and another in it
+    (
+        WINDOWS_1252,
+        &[
+            ("\u{100}\u{100}", true, 16, (FULL, 2, 6, true), b"&#256;"),
+            (
+                "\u{100}\u{100}",
+                true,
+                17,
+                (EMPTY, 4, 12, true),
+                b"&#256;&#256;",
+            ),
+            ("\u{100}a", true, 17, (EMPTY, 3, 7, true), b"&#256;a"),
+        ],
+    ),
+    // nothing is kept back
+    (
+        UTF_8,
+        &[
+            ("a", true, 1, (EMPTY, 1, 1, false), b"a"),
+            ("💩", true, 3, (FULL, 0, 0, false), b""),
+            ("💩", true, 4, (EMPTY, 4, 4, false), b"\xF0\x9F\x92\xA9"),
+            ("", true, 0, (EMPTY, 0, 0, false), b""),
+        ],
+    ),
+];
+
+#[test]
+fn keeps_room_back_for_references(rt: HostRuntime) -> Result<(), Fail> {
+    for (encoding, calls) in ROWS {
+        make_replacing_calls(rt.alloc(), (*encoding, &[]), calls)?;
+    }
+    Ok(())
+}
+
+/// Texts in which references are next to each other, next to escape sequences, and at the end.
+const TEXTS: &[(Encoding, EncoderRow)] = &[
+    (ISO_2022_JP, ("\u{3041}\u{FFFF}", b"\x1B$B$!\x1B(B&#65535;")),
+    (ISO_2022_JP, ("💩\u{3041}", b"&#128169;\x1B$B$!\x1B(B")),
+    (SHIFT_JIS, ("a💩b", b"a&#128169;b")),
+    (WINDOWS_1252, ("\u{100}\u{10FFFF}a", b"&#256;&#1114111;a")),
+    (UTF_8, ("a💩", b"a\xF0\x9F\x92\xA9")),
+];
+
+#[test]
+fn cuts_and_rooms_change_no_reference(rt: HostRuntime) -> Result<(), Fail> {
+    for (encoding, row) in TEXTS {
+        compare_encoded(rt.alloc(), *encoding, &[*row])?;
+    }
+    Ok(())
+}
+
+const HALVES: [(&[u16], bool); 2] = [(&[0xD83D], false), (&[0xDCA9], true)];
+
+#[test]
+fn halves_of_a_pair_have_a_reference_each(rt: HostRuntime) {
+    let mut encoder = WINDOWS_1252.new_encoder();
+    for (half, last) in HALVES {
+        let mut bytes = [0; 18];
+        let outcome = encoder.encode_from_utf16(half, &mut bytes, last);
+        assert_eq!(rt; outcome, (CoderResult::InputEmpty, 1, 8, true));
+        assert_eq!(rt; &bytes[..8], b"&#65533;".as_slice());
+        assert_eq!(rt; bytes[8], 0);
+    }
+}
+
+/// A text of each encoding, with one unmappable character, unless the encoding can encode
+/// everything.
+#[rattlefmt::skip]
+const MIXED: [(Encoding, &str); 40] = [
+    (UTF_8, "aé€💩"),
+    (REPLACEMENT, "aé€💩"),
+    (UTF_16BE, "aé€💩"),
+    (UTF_16LE, "aé€💩"),
+    (IBM866, "aЖ💩я"),
+    (ISO_8859_2, "ař€ů"),
+    (ISO_8859_3, "aĥ€ŭ"),
+    (ISO_8859_4, "aķ€ū"),
+    (ISO_8859_5, "aЉ€ђ"),
+    (ISO_8859_6, "aي€ج"),
+    (ISO_8859_7, "aΞ💩€"),
+    (ISO_8859_8, "aד€ג"),
+    (ISO_8859_8_I, "aש€ן"),
+    (ISO_8859_10, "aŋ€ŧ"),
+    (ISO_8859_13, "aį€ū"),
+    (ISO_8859_14, "aḃ€ŵ"),
+    (ISO_8859_15, "a€\u{A4}œ"),
+    (ISO_8859_16, "aș💩€"),
+    (KOI8_R, "aё€Ю"),
+    (KOI8_U, "aґ€ї"),
+    (MACINTOSH, "a€ř≈"),
+    (WINDOWS_874, "aเ💩€"),
+    (WINDOWS_1250, "aż💩€"),
+    (WINDOWS_1251, "aЩ💩€"),
+    (WINDOWS_1252, "aéĀ€"),
+    (WINDOWS_1253, "aψ💩€"),
+    (WINDOWS_1254, "ağ💩€"),
+    (WINDOWS_1255, "aש💩₪"),
+    (WINDOWS_1256, "aگ💩€"),
+    (WINDOWS_1257, "aį💩€"),
+    (WINDOWS_1258, "a₫ř€"),
+    (X_MAC_CYRILLIC, "aї💩€"),
+    (X_USER_DEFINED, "a\u{F780}\u{80}\u{F7FF}"),
+    (GBK, "a中💩€"),
+    (GB18030, "a中\u{E5E5}𠀀"),
+    (BIG5, "a中💩一"),
+    (EUC_JP, "aあ丂ｱ"),
+    (ISO_2022_JP, "aあ💩日"),
+    (SHIFT_JIS, "aあ💩ｱ"),
+    (EUC_KR, "a가💩뷁"),
+];
+
+#[test]
+fn references_are_those_of_reports(rt: HostRuntime) -> Result<(), Fail> {
+    for (encoding, text) in MIXED {
+        compare_ways(rt.alloc(), encoding, text)?;
+    }
+    Ok(())
+}

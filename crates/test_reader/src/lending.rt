@@ -1,0 +1,91 @@
+//! Reads that lend long stretches of ASCII in place of copying them.
+
+use enc_reader::{DecodeReader, FromRead};
+use encoding_rs::{Encoding, WINDOWS_1252};
+use std::alloc::Global;
+use std::test::Fail;
+use test_support::encodings::TABLE;
+
+/// Appends `len` letters of the alphabet, one after another.
+fn push_letters(bytes: &mut Vec<u8>, len: usize) -> Result<(), Fail> {
+    for i in 0..len {
+        bytes.push(b'a' + (i % 26) as u8)?;
+    }
+    Ok(())
+}
+
+#[test]
+fn lends_ascii_where_it_was_read(rt: HostRuntime) -> Result<(), Fail> {
+    let mut letters = Vec::new(rt.alloc());
+    push_letters(&mut letters, 9000)?;
+    let mut bytes = Vec::new(rt.alloc());
+    bytes.extend_from_slice(b"caf\xE9 ")?;
+    bytes.extend_from_slice(letters.as_slice())?;
+    bytes.extend_from_slice(b"\x80")?;
+    let mut source = FromRead::new(bytes.as_slice());
+    let mut input = [0; 16384];
+    let mut reader = DecodeReader::new(&mut source, Some(WINDOWS_1252), &mut input);
+    let mut part = [0; 6];
+    for want in ["café ".as_bytes(), letters.as_slice(), "€".as_bytes(), b""] {
+        let before = part;
+        let Ok(handed) = reader.read_or_lend(&mut part) else {
+            return Err("the source can't be read".into());
+        };
+        assert_eq!(rt; reader.text(&part, handed), want);
+        // lent text stays in its place, and the buffer given is unchanged
+        assert!(rt; want.len() <= 6 || part == before);
+    }
+    assert!(rt; !reader.had_errors());
+    Ok(())
+}
+
+/// Returns the text of some bytes, by reads that lend.
+fn read_lent(alloc: Global, encoding: Encoding, bytes: &[u8]) -> Result<(Vec<u8>, bool), Fail> {
+    let mut source = FromRead::new(bytes);
+    let mut input = [0; 5000];
+    let mut reader = DecodeReader::new(&mut source, Some(encoding), &mut input);
+    let mut part = [0; 64];
+    let mut text = Vec::new(alloc);
+    for _ in 0..u64::MAX {
+        let Ok(handed) = reader.read_or_lend(&mut part) else {
+            return Err("the source can't be read".into());
+        };
+        let piece = reader.text(&part, handed);
+        if piece.is_empty() {
+            break;
+        }
+        text.extend_from_slice(piece)?;
+    }
+    Ok((text, reader.had_errors()))
+}
+
+/// Bytes between two long stretches of ASCII: characters of several encodings, an escape sequence
+/// that ISO-2022-JP stays within, lead bytes that the stretch follows, and a byte order mark that
+/// is none there.
+const BETWEEN: &[&[u8]] = &[
+    b"",
+    b"caf\xE9",
+    b"\xE6\x97\xA5\xF0\x9F\x92\xA9",
+    b"\x93\xFA\x96",
+    b"\x1B$B",
+    b"\x81\x30\x81",
+    b"\xEF\xBB\xBF",
+    b"\x3D\xD8\xA9",
+];
+
+#[test]
+fn lends_the_text_of_the_whole_input(rt: HostRuntime) -> Result<(), Fail> {
+    for (encoding, _, _) in TABLE {
+        for between in BETWEEN {
+            let mut bytes = Vec::new(rt.alloc());
+            push_letters(&mut bytes, 9999)?;
+            bytes.extend_from_slice(*between)?;
+            push_letters(&mut bytes, 11111)?;
+            let (want, _, had_errors) = encoding.decode(rt.alloc(), bytes.as_slice())?;
+            let read = read_lent(rt.alloc(), *encoding, bytes.as_slice())?;
+            assert_eq!(rt; read.0.as_slice(), want.as_bytes(), "{between:?}");
+            assert_eq!(rt; read.1, had_errors, "{between:?}");
+        }
+    }
+    Ok(())
+}

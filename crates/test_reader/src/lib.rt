@@ -1,0 +1,11 @@
+//! Text that is read through a `DecodeReader`: from sources that give a few bytes a read, or fail,
+//! into small buffers.
+//!
+//! This crate has tests alone. Expected values come from the Encoding Standard and from Python's
+//! codecs. The text of a whole input is that of `decode`.
+#![tactic(auto)]
+
+#[cfg(test)]
+mod lending;
+#[cfg(test)]
+mod reads;
