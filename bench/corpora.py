@@ -26,8 +26,8 @@ MANUALS = {
 RUNNING = "running text"
 SHORT = "short strings"
 
-# Where converters disagree, so that none is left out of a row for one character: dashes, waves and signs of which
-# JIS X 0208, Big5 and Unicode's tables for them each have another.
+# Characters on which converters disagree, so that none is left out of a row for one character: dashes, waves and signs for
+# which JIS X 0208, Big5 and Unicode's tables for them each have another.
 APART = re.compile("[〜～−－•／＼∥‖∕·・—―…⋯¢£¬￠￡￢¥‾]")
 
 # A line that has characters of four bytes in UTF-8, for the mixed corpora.
@@ -171,7 +171,7 @@ def lines(cache, language, kind):
 
 
 def mixed(texts):
-    """A line of each language in turn, and a row of pictures behind every fortieth."""
+    """A line of each language in turn, and a row of pictures after every fortieth."""
     made = []
     for number in range(max(map(len, texts))):
         made += [text[number % len(text)] for text in texts]

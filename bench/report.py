@@ -6,7 +6,6 @@ END = "<!-- to here -->"
 DECODING = "How many times as fast as the crate encoding_rs recode decodes"
 DECODING_UNITS = "The rate of decoding to UTF-16 by that of the crate encoding_rs"
 ENCODING = "How many times as fast as the best of encoding_rs, iconv and uconv recode encodes"
-UNITS_COLUMN = "`bench_utf16` is the column `recode` here."
 PEERS = ("encoding_rs", "iconv", "uconv")
 
 # The pictures: the name of each, its way, its title, and the programs that it compares with.
@@ -77,12 +76,12 @@ def text(circumstances, rows):
             parts.append(f"On ASCII recode has {ascii_text[0].ratio(('cat',)):.2f} times the speed of `cat`.")
     if ways["to-units"]:
         parts += ["### From each encoding to UTF-16", f"![{DECODING_UNITS}, for each text](speed-utf16.svg)"]
-        parts += [UNITS_COLUMN, table(ways["to-units"], ["recode", "encoding_rs"], ("encoding_rs",))]
+        parts.append(table(ways["to-units"], ["recode", "encoding_rs"], ("encoding_rs",)))
     if ways["encode"]:
         parts += ["### From UTF-8 to each encoding", f"![{ENCODING}, for each text](speed-encoding.svg)"]
         parts.append(table(ways["encode"], ["recode", "before", *PEERS], PEERS))
     if ways["from-units"]:
-        parts += ["### From UTF-16 to each encoding", UNITS_COLUMN]
+        parts.append("### From UTF-16 to each encoding")
         parts.append(table(ways["from-units"], ["recode", "encoding_rs"], ("encoding_rs",)))
     return "\n\n".join(parts)
 

@@ -13,7 +13,7 @@ use std::process::ExitCode;
 /// How many bytes the buffers of `recode` have, and how many code units the buffer of UTF-16.
 const BUFFER: usize = 64 << 10;
 
-/// The file behind a standard stream, without the stream's own buffer.
+/// The file of a standard stream, without the stream's own buffer.
 fn unbuffered(stream: BorrowedFd<'_>) -> io::Result<File> {
     Ok(File::from(stream.try_clone_to_owned()?))
 }
