@@ -22,33 +22,33 @@ use Rattle.enc_decoder_iso_2022_jp.specs.Iso2022Jp.{iso_2022_jp_rule, is_lead_by
 use Rattle.enc_codec.specs.Properties.{DeterminesBbByItself}
 
 -- in UTF-8 BB goes on with EF
-pub utf_8_tells_bb : DeterminesBbByItself utf_8_rule
+pub utf_8_shows_bb : DeterminesBbByItself utf_8_rule
 unfolding utf_8_rule sequence_len is_second_byte is_continuation
-utf_8_tells_bb [] ef_alone y = absurd (cc)
-utf_8_tells_bb (c ∷ z) ef_alone y = elim (true_or_false (is_continuation c)) [
+utf_8_shows_bb [] ef_alone y = absurd (cc)
+utf_8_shows_bb (c ∷ z) ef_alone y = elim (true_or_false (is_continuation c)) [
   | inl t ↦ absurd (let f = rw t at ef_alone in cc)
   | inr t ↦ absurd (let f = rw t at ef_alone in cc)
 ]
 
 -- in UTF-16 they are a code unit, and no surrogate
-pub utf_16_tells_bb : (big : Bool) → DeterminesBbByItself (utf_16_rule big)
+pub utf_16_shows_bb : (big : Bool) → DeterminesBbByItself (utf_16_rule big)
 unfolding utf_16_rule code_unit is_lead_unit is_trail_surrogate
-utf_16_tells_bb true z e y = absurd (cc)
-utf_16_tells_bb false z e y = absurd (cc)
+utf_16_shows_bb true z e y = absurd (cc)
+utf_16_shows_bb false z e y = absurd (cc)
 
-pub one_byte_tells_bb : (character : ℕ → Option ℕ) → DeterminesBbByItself (one_byte_rule character)
+pub one_byte_shows_bb : (character : ℕ → Option ℕ) → DeterminesBbByItself (one_byte_rule character)
 unfolding one_byte_rule
-one_byte_tells_bb character z e y = (alone _ (character 0xBB), record { there = (let f = alone (one_byte_head 0 (character 0xEF)).set (character 0xBB) in omega arith); same = λ x. refl })
+one_byte_shows_bb character z e y = (alone _ (character 0xBB), record { there = (let f = alone (one_byte_head 0 (character 0xEF)).set (character 0xBB) in omega arith); same = λ x. refl })
   where
     alone : (set : ℕ) (found : Option ℕ) → (one_byte_head set found).more ≡ 0
     alone set None = refl
     alone set (Some c) = refl
 
 -- where EF leads, BB is its trail, or is malformed with it
-multi_byte_tells_bb : (prefix : List ℕ → Prefix) (text : Option Text) → prefix (0xEF ∷ []) ≡ Incomplete → prefix (0xEF ∷ 0xBB ∷ []) ≡ trail_prefix 1 0xBB text
+multi_byte_shows_bb : (prefix : List ℕ → Prefix) (text : Option Text) → prefix (0xEF ∷ []) ≡ Incomplete → prefix (0xEF ∷ 0xBB ∷ []) ≡ trail_prefix 1 0xBB text
     → DeterminesBbByItself (multi_byte_rule prefix)
 unfolding multi_byte_rule
-multi_byte_tells_bb prefix text f g z e y = absurd (two text (sym first ∙ e))
+multi_byte_shows_bb prefix text f g z e y = absurd (two text (sym first ∙ e))
   where
     first : (prefix_head prefix 0 (0xEF ∷ []) (prefix (0xEF ∷ [])) (0xBB ∷ z)).more ≡ (prefix_head prefix 0 (0xEF ∷ 0xBB ∷ []) (trail_prefix 1 0xBB text) z).more
     first =
@@ -58,27 +58,27 @@ multi_byte_tells_bb prefix text f g z e y = absurd (two text (sym first ∙ e))
     two None h = cc
     two (Some t) h = cc
 
-pub big5_tells_bb : DeterminesBbByItself (multi_byte_rule big5_prefix)
-big5_tells_bb = multi_byte_tells_bb big5_prefix _ refl refl
+pub big5_shows_bb : DeterminesBbByItself (multi_byte_rule big5_prefix)
+big5_shows_bb = multi_byte_shows_bb big5_prefix _ refl refl
 
-pub euc_kr_tells_bb : DeterminesBbByItself (multi_byte_rule euc_kr_prefix)
-euc_kr_tells_bb = multi_byte_tells_bb euc_kr_prefix _ refl refl
+pub euc_kr_shows_bb : DeterminesBbByItself (multi_byte_rule euc_kr_prefix)
+euc_kr_shows_bb = multi_byte_shows_bb euc_kr_prefix _ refl refl
 
-pub shift_jis_tells_bb : DeterminesBbByItself (multi_byte_rule shift_jis_prefix)
-shift_jis_tells_bb = multi_byte_tells_bb shift_jis_prefix _ refl refl
+pub shift_jis_shows_bb : DeterminesBbByItself (multi_byte_rule shift_jis_prefix)
+shift_jis_shows_bb = multi_byte_shows_bb shift_jis_prefix _ refl refl
 
-pub euc_jp_tells_bb : DeterminesBbByItself (multi_byte_rule euc_jp_prefix)
-euc_jp_tells_bb = multi_byte_tells_bb euc_jp_prefix _ refl refl
+pub euc_jp_shows_bb : DeterminesBbByItself (multi_byte_rule euc_jp_prefix)
+euc_jp_shows_bb = multi_byte_shows_bb euc_jp_prefix _ refl refl
 
-pub gb18030_tells_bb : DeterminesBbByItself (multi_byte_rule gb18030_prefix)
-gb18030_tells_bb = multi_byte_tells_bb gb18030_prefix _ refl refl
+pub gb18030_shows_bb : DeterminesBbByItself (multi_byte_rule gb18030_prefix)
+gb18030_shows_bb = multi_byte_shows_bb gb18030_prefix _ refl refl
 
 -- in ASCII both are malformed, each by itself
-pub iso_2022_jp_tells_bb : DeterminesBbByItself iso_2022_jp_rule
+pub iso_2022_jp_shows_bb : DeterminesBbByItself iso_2022_jp_rule
 unfolding iso_2022_jp_rule is_lead_byte one_byte_char
-iso_2022_jp_tells_bb z e y = (refl, record { there = omega arith; same = λ x. refl })
+iso_2022_jp_shows_bb z e y = (refl, record { there = omega arith; same = λ x. refl })
 
 -- the first byte is malformed, and all later ones are skipped
-pub replacement_tells_bb : DeterminesBbByItself replacement_rule
+pub replacement_shows_bb : DeterminesBbByItself replacement_rule
 unfolding replacement_rule
-replacement_tells_bb z e y = (refl, record { there = omega arith; same = λ x. refl })
+replacement_shows_bb z e y = (refl, record { there = omega arith; same = λ x. refl })

@@ -128,11 +128,11 @@ module _ (units_of : ℕ → List ℕ) (old : Remainder) (src : List ℕ) (last 
         not_replaced = refl;
         len = n;
         not_empty = ne;
-        behind = k;
+        pending = k;
         bounds = bs;
         room_kept = λ m. room_for_replacement wrote progress.text (f m);
         determined = determined units_of old src last room read now wrote progress q (λ y m. (_, comes y m));
-        none_behind = fewer_undetermined units_of old src last room read now wrote progress q progress.undetermined;
+        none_after = fewer_undetermined units_of old src last room read now wrote progress q progress.undetermined;
         reads = rw i (record {
           not_shown = elim progress.undetermined [ inl z ↦ inr (inl z) | inr u ↦ inr (inr (u q)) ];
           shown_next = shown units_of old src last room read now wrote progress q (λ y m. (_, comes y m));
@@ -192,7 +192,7 @@ module _ (units_of : ℕ → List ℕ) (old : Remainder) (src : List ℕ) (last 
             not_replaced = refl;
             len = n;
             not_empty = ne;
-            behind = k;
+            pending = k;
             bounds = bs;
             room_kept = λ m. room_for_replacement wrote progress.text (f m);
             determined = determined_at last old.sequences src (progress.done ++ q ∷ [])
@@ -200,7 +200,7 @@ module _ (units_of : ℕ → List ℕ) (old : Remainder) (src : List ℕ) (last 
                   next.sequences (drop (read + 1) src ++ z),
                   sym (ap old.sequences (past src (read + 1) z)) ∙ all (drop (read + 1) src ++ z),
                 ));
-            none_behind = inr (none_determined old.sequences next.sequences (take (read + 1) src)
+            none_after = inr (none_determined old.sequences next.sequences (take (read + 1) src)
                 (progress.done ++ q ∷ []) all d);
             reads = reads_with next.pending (progress.done ++ q ∷ []) (is_repeated_escape q.kind) i u through;
           };

@@ -29,13 +29,13 @@ determined_by_head rule set b z n h is_head l f = record {
 -- the bytes themselves are enough
 pub looks_at_none : (rule : Rule) (set b : ℕ) (z : List ℕ) → IsDeterminedWithin rule set b z 0
     → IsLookahead rule set b z 0
-looks_at_none rule set b z t = record { told = t; least = λ a m l f. omega (arith, l) }
+looks_at_none rule set b z t = record { determined = t; least = λ a m l f. omega (arith, l) }
 
 -- n bytes after it determine it, and after one less only the end would
 pub looks_by : (rule : Rule) (set b : ℕ) (z : List ℕ) (n k : ℕ) → IsDeterminedWithin rule set b z (suc n) → k ≡ (rule set b z).more + n
     → IsDeterminedByEnd rule set b (take k z) → IsLookahead rule set b z (suc n)
 looks_by rule set b z n k t e by_end = record {
-  told = t;
+  determined = t;
   least = λ a m l same.
       let x = take k z in
       let i = (rule set b z).more + m in
@@ -65,7 +65,7 @@ lookahead_by rule determined = record {
 
 -- no sequence is longer than the bytes that are there
 pub within_by : (rule : Rule) → HasLookahead rule → (set b : ℕ) (z : List ℕ) → (rule set b z).more ≤ length z
-within_by rule h set b z = elim (h.others set b z) [ inl t ↦ (let w = t.2.told.there in omega arith) | inr e ↦ e.within ]
+within_by rule h set b z = elim (h.others set b z) [ inl t ↦ (let w = t.2.determined.there in omega arith) | inr e ↦ e.within ]
 
 same_head : (h k : Head) → h.more ≡ k.more → h.text ≡ k.text → h.kind ≡ k.kind → h.set ≡ k.set → h ≡ k
 same_head h k m t n s =

@@ -172,12 +172,12 @@ module _ (units_of : ℕ → List ℕ) (old new : Remainder) (held src : List �
         not_replaced = held_call.stops.not_replaced;
         len = held_call.stops.len;
         not_empty = held_call.stops.not_empty;
-        behind = held_call.stops.behind;
+        pending = held_call.stops.pending;
         bounds = held_call.stops.bounds;
         room_kept = held_call.stops.room_kept;
         determined = known_at last held_call.done held_call.stops.determined;
-        none_behind = subst (λ x. (read ≡ 0) ⊎ ((s : Sequence) → Determines old.sequences x (held_call.done ++ s ∷ [])
-            → ⊥)) (sym (given read held_call.within)) held_call.stops.none_behind;
+        none_after = subst (λ x. (read ≡ 0) ⊎ ((s : Sequence) → Determines old.sequences x (held_call.done ++ s ∷ [])
+            → ⊥)) (sym (given read held_call.within)) held_call.stops.none_after;
         reads = reads_still (is_repeated_escape held_call.stops.next.kind) held_call.done held_call.within
             held_call.stops.determined held_call.stops.reads;
       };

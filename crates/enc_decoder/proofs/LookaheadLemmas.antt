@@ -120,44 +120,44 @@ module _ (rule : Rule) (law : HasLookahead rule) where
       rest_determined = λ y e.
           let first = determines y e in let lookahead = looked in (
             first.0,
-            rest_is _ _ _ _ (sym (shown lookahead.0 j lookahead.1.told
+            rest_is _ _ _ _ (sym (shown lookahead.0 j lookahead.1.determined
                 (let l = lookahead.2 in omega (arith, l)) enough_bytes y) ∙ first.1),
           )
 
-  pub reach_behind : (ss rest : List Sequence) (set k : ℕ) (z : List ℕ) → AreBytes z
+  pub reach_after : (ss rest : List Sequence) (set k : ℕ) (z : List ℕ) → AreBytes z
       → sequences_of rule set z ≡ ss ++ rest → k ≤ length z
       → Determines (sequences_of rule set) (take k z) ss → CoverLookahead rule set z ss k
-  reach_behind [] rest set k z are_bytes whole l determines = tt
-  reach_behind (s ∷ ss) rest set k [] are_bytes whole l determines =
+  reach_after [] rest set k z are_bytes whole l determines = tt
+  reach_after (s ∷ ss) rest set k [] are_bytes whole l determines =
       none_begin s ss (subst (AreFirstSequences (s ∷ ss)) (sequences_of-nil rule set) (rest, whole))
-  reach_behind (s ∷ ss) rest set zero (b ∷ z) are_bytes whole l determines =
+  reach_after (s ∷ ss) rest set zero (b ∷ z) are_bytes whole l determines =
       absurd (none_begin s ss (subst (AreFirstSequences (s ∷ ss)) (sequences_of-nil rule set) (determines [] tt)))
-  reach_behind (s ∷ ss) rest set (suc j) (b ∷ z) are_bytes whole l determines =
+  reach_after (s ∷ ss) rest set (suc j) (b ∷ z) are_bytes whole l determines =
       let enough_bytes : j ≤ length z = omega (arith, l) in
       let m = (rule set b z).more in
       let contains = own_bytes set b z s ss rest whole are_bytes.1 j enough_bytes determines in (
         looked set b z s ss rest whole are_bytes.1 j enough_bytes determines,
         subst (CoverLookahead rule (rule set b z).set (drop m z) ss)
             (let x : j - m ≡ suc j - (1 + m) = omega (arith, contains) in x)
-            (reach_behind ss rest (rule set b z).set (j - m) (drop m z) (bytes-drop m z are_bytes.1)
+            (reach_after ss rest (rule set b z).set (j - m) (drop m z) (bytes-drop m z are_bytes.1)
             (following set b z s ss rest whole)
             (let n = length-drop m z in omega (arith, n, enough_bytes, contains))
             (rest_determined set b z s ss rest whole are_bytes.1 j enough_bytes determines)),
       )
 
-  pub determine_if_behind : (ss rest : List Sequence) (set k : ℕ) (z : List ℕ) → sequences_of rule set z ≡ ss ++ rest
+  pub determine_if_after : (ss rest : List Sequence) (set k : ℕ) (z : List ℕ) → sequences_of rule set z ≡ ss ++ rest
       → k ≤ length z
       → CoverLookahead rule set z ss k → Determines (sequences_of rule set) (take k z) ss
-  determine_if_behind [] rest set k z whole l covers = λ y a. (sequences_of rule set (take k z ++ y), refl)
-  determine_if_behind (s ∷ ss) rest set k [] whole l covers = absurd covers
-  determine_if_behind (s ∷ ss) rest set zero (b ∷ z) whole l covers = absurd (let f = covers.0.2 in omega (arith, f))
-  determine_if_behind (s ∷ ss) rest set (suc j) (b ∷ z) whole l covers =
+  determine_if_after [] rest set k z whole l covers = λ y a. (sequences_of rule set (take k z ++ y), refl)
+  determine_if_after (s ∷ ss) rest set k [] whole l covers = absurd covers
+  determine_if_after (s ∷ ss) rest set zero (b ∷ z) whole l covers = absurd (let f = covers.0.2 in omega (arith, f))
+  determine_if_after (s ∷ ss) rest set (suc j) (b ∷ z) whole l covers =
       let enough_bytes : j ≤ length z = omega (arith, l) in
       let m = (rule set b z).more in
-      let t = covers.0.1.told in let contains = covers.0.2 in
+      let t = covers.0.1.determined in let contains = covers.0.2 in
       let n = length-drop m z in
       let x : suc j - (1 + m) ≡ j - m = omega (arith, contains) in
-      let d = determine_if_behind ss rest (rule set b z).set (j - m) (drop m z) (following set b z s ss rest whole)
+      let d = determine_if_after ss rest (rule set b z).set (j - m) (drop m z) (following set b z s ss rest whole)
       (omega (arith, n, enough_bytes, contains))
       (subst (CoverLookahead rule (rule set b z).set (drop m z) ss) x covers.1) in
       λ y a. let first = d y a in (
@@ -171,7 +171,7 @@ module _ (rule : Rule) (law : HasLookahead rule) where
       → sequences_of rule set z ≡ ss ++ rest → k ≤ length z
       → Determines (sequences_of rule set) (take k z) ss ↔ CoverLookahead rule set z ss k
   determined_by ss rest set k z a whole enough_bytes =
-      (reach_behind ss rest set k z a whole enough_bytes, determine_if_behind ss rest set k z whole enough_bytes)
+      (reach_after ss rest set k z a whole enough_bytes, determine_if_after ss rest set k z whole enough_bytes)
 
 -- bytes determine it or only the end does, not both
 pub determined_not_by_end : (rule : Rule) (set b : ℕ) (z : List ℕ) (n : ℕ) → IsDeterminedWithin rule set b z n
@@ -195,7 +195,7 @@ no_more_than rule set b z n m a l t = elim (leb_tells n m) [
 pub at_most_three : (rule : Rule) → HasLookahead rule → (set b : ℕ) (z : List ℕ) (n : ℕ) → AreBytes z
     → IsLookahead rule set b z n → n ≤ 3
 at_most_three rule law set b z n a lookahead = elim (law.others set b z) [
-  | inl found ↦ (let k = found.1 in let m = no_more_than rule set b z n found.0 a lookahead found.2.told in
+  | inl found ↦ (let k = found.1 in let m = no_more_than rule set b z n found.0 a lookahead found.2.determined in
       omega (arith, k, m))
-  | inr e ↦ absurd (determined_not_by_end rule set b z n lookahead.told e)
+  | inr e ↦ absurd (determined_not_by_end rule set b z n lookahead.determined e)
 ]

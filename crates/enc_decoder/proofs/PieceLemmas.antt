@@ -55,7 +55,7 @@ takes_pieces units_of state c src n before after none_pending puts =
           ∙ ap (λ x. sequences_of v.rule v.set (x ++ y)) (sym reads.bytes)
           ∙ whole_first v.rule v.set reads.pieces y reads.mean
           ∙ ap (λ q. ss ++ sequences_of v.rule v.set (q ++ y)) (sym none_pending);
-      behind = ap (λ s. record v { set = s }) (sym (whole_set v.set reads.pieces));
+      next_state = ap (λ s. record v { set = s }) (sym (whole_set v.set reads.pieces));
       none_malformed = whole_valid v.set reads.pieces;
       scalars = subst AreScalars (sym (whole_text v.set reads.pieces ∙ reads.chars)) puts.scalars;
       fits = omega (arith, puts.fits, ap length units);

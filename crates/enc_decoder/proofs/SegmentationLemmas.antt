@@ -106,5 +106,5 @@ rest_is_segmentation rule set (suc k) [] = refl
 rest_is_segmentation rule set zero (b ∷ z) = (refl, rest_is_segmentation rule (rule set b z).set (rule set b z).more z)
 rest_is_segmentation rule set (suc k) (b ∷ z) = rest_is_segmentation rule set k z
 
-pub is_told : (rule : Rule) (set : ℕ) (z : List ℕ) → IsSegmentation rule set z (sequences_of rule set z)
-is_told rule set z = rest_is_segmentation rule set 0 z
+pub sequences_are_segmentation : (rule : Rule) (set : ℕ) (z : List ℕ) → IsSegmentation rule set z (sequences_of rule set z)
+sequences_are_segmentation rule set z = rest_is_segmentation rule set 0 z

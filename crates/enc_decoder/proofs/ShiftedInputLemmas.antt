@@ -309,7 +309,7 @@ module _ (units_of : ℕ → List ℕ) (old inner : Remainder) (src bytes : List
         ap length (ap sequence_bytes done_is ∙ sequence_bytes-one inner_call.put inner_call.stops.next) in
         let q = length-append (sequence_bytes inner_call.put) inner_call.stops.next.bytes in let r =
         inner_call.stops.len in let t =
-        inner_call.stops.behind in
+        inner_call.stops.pending in
         omega (arith, inner_reads)
 
     bounds : Placed → AreReportedLens inner_call.stops.next.kind l (a + left)
@@ -401,12 +401,12 @@ module _ (units_of : ℕ → List ℕ) (old inner : Remainder) (src bytes : List
           not_replaced = inner_call.stops.not_replaced;
           len = inner_call.stops.len;
           not_empty = inner_call.stops.not_empty;
-          behind = let e = follows.pending in let i = inner_call.stops.behind in omega arith;
+          pending = let e = follows.pending in let i = inner_call.stops.pending in omega arith;
           bounds = bounds placed;
           room_kept = λ k. let e = length_on inner_call.put in let i = inner_call.stops.room_kept k in
               let j = before_call.fits in let m = before_call.at in omega arith;
           determined = determined_on last carries.plain inner_call.done inner_call.stops.determined;
-          none_behind = none_after;
+          none_after = none_after;
           reads = reads_on (is_repeated_escape inner_call.stops.next.kind) (at_hand placed) follows.same
               inner_call.stops.reads;
         };
@@ -425,7 +425,7 @@ module _ (units_of : ℕ → List ℕ) (old inner : Remainder) (src bytes : List
           | inl e ↦ inl e
           | inr e ↦ elim e [
             | inl i ↦ inr (λ s. hides s (unshown (inner_call.done ++ s ∷ []) (first_of inner_call.done s) read i))
-            | inr past_prefix ↦ elim inner_call.stops.none_behind [
+            | inr past_prefix ↦ elim inner_call.stops.none_after [
               | inl j ↦ elim (reads.none j) [
                 | inl k ↦ inl k
                 | inr k ↦ inr (λ s. hides s (unshown (inner_call.done ++ s ∷ []) (first_of inner_call.done s) read k))

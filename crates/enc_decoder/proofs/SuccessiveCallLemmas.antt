@@ -365,5 +365,5 @@ module _ (units_of : ℕ → List ℕ) (old : Remainder) (src : List ℕ) (bytes
         shown_next = λ h. shown_on n next_call.call.done (omega arith)
             (reads_next (is_repeated_escape stopped.next.kind) now.sequences rest next_call.call.done n new.pending
             (bytes-drop read src bytes) stopped.reads (let e = length-drop read src in omega arith));
-        none_after = none_after_on n next_call.call.done stopped.none_behind;
+        none_after = none_after_on n next_call.call.done stopped.none_after;
       }

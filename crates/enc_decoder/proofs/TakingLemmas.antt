@@ -40,7 +40,7 @@ module _ {C : Type 0} (units_of : ℕ → List ℕ) (state : C → CodecState) (
   stays : took ≡ 0 → Writing units_of (remainder_of v) src last before then (read + took) (remainder_of (state n))
   stays z =
       let none = t.none_taken z in
-      let state_is : state n ≡ state c = t.behind ∙ ap (λ ss. record (state c) { set = set_after (state c).set ss })
+      let state_is : state n ≡ state c = t.next_state ∙ ap (λ ss. record (state c) { set = set_after (state c).set ss })
       none in
       let then_is : then ≡ at = t.written ∙ ap (λ ss. with_appended at (units_of_text units_of (sequence_text ss)))
       none ∙ with_appended-nil at in
@@ -68,7 +68,7 @@ module _ {C : Type 0} (units_of : ℕ → List ℕ) (state : C → CodecState) (
   }
 
   pending_after : 0 < took → (state n).pending ≡ []
-  pending_after h = ap (λ (s : CodecState). s.pending) t.behind ∙ t.none_pending h
+  pending_after h = ap (λ (s : CodecState). s.pending) t.next_state ∙ t.none_pending h
 
   residual : 0 < took → (y : List ℕ) → (remainder_of v).sequences (take (read + took) src ++ y) ≡ done
       ++ (remainder_of (state n)).sequences y
@@ -97,7 +97,7 @@ module _ {C : Type 0} (units_of : ℕ → List ℕ) (state : C → CodecState) (
       within = omega (arith, t.within, length-drop read src, writing.progress.within);
       residual = λ y _. residual some y;
       accounted = accounted some;
-      set = ap (λ (s : CodecState). s.set) t.behind ∙ ap (λ x. set_after x t.taken) writing.progress.set
+      set = ap (λ (s : CodecState). s.set) t.next_state ∙ ap (λ x. set_after x t.taken) writing.progress.set
           ∙ sym (set_after-append v.set writing.progress.done t.taken);
       text = ap (λ x. x ++ units) writing.progress.text ∙ sym (units-append units_of writing.progress.done t.taken);
       fits = omega (
@@ -121,8 +121,8 @@ module _ {C : Type 0} (units_of : ℕ → List ℕ) (state : C → CodecState) (
   pub ahead : (state c).rule ≡ v.rule → Ahead units_of state v c n src last before then (read + took)
   ahead same = record {
     writing = takes;
-    rule = ap (λ (s : CodecState). s.rule) t.behind ∙ same;
-    pending = ap (λ (s : CodecState). length s.pending) t.behind;
+    rule = ap (λ (s : CodecState). s.rule) t.next_state ∙ same;
+    pending = ap (λ (s : CodecState). length s.pending) t.next_state;
     within = omega (arith, t.within, length-drop read src, writing.progress.within);
   }
 
@@ -162,7 +162,7 @@ takes_none units_of state c src o = record {
   within = omega arith;
   bytes = refl;
   first = λ y. refl;
-  behind = refl;
+  next_state = refl;
   none_malformed = refl;
   scalars = refl;
   fits = omega arith;
@@ -193,9 +193,9 @@ takes_both units_of state c m n src read more before mid after rest e takes_run 
           ∙ append_assoc (take read src) bytes w)
           ∙ takes_run.first (bytes ++ w) ∙ ap (λ ss. takes_run.taken ++ ss) (takes_more.first w)
           ∙ sym (append_assoc takes_run.taken takes_more.taken ((remainder_of (state n)).sequences w));
-      behind =
-          takes_more.behind ∙ ap (λ (s : CodecState). record s { set = set_after s.set takes_more.taken })
-          takes_run.behind
+      next_state =
+          takes_more.next_state ∙ ap (λ (s : CodecState). record s { set = set_after s.set takes_more.taken })
+          takes_run.next_state
           ∙ ap (λ k. record (state c) { set = k })
           (sym (set_after-append (state c).set takes_run.taken takes_more.taken));
       none_malformed = any_malformed-append takes_run.taken takes_more.taken
@@ -214,7 +214,7 @@ takes_both units_of state c m n src read more before mid after rest e takes_run 
           ∙ ap (with_appended before) (sym both);
       none_pending = λ h. elim (cases_lt 0 read) [
         | inl r ↦ takes_run.none_pending r
-        | inr r ↦ sym (ap (λ (s : CodecState). s.pending) takes_run.behind) ∙ takes_more.none_pending (omega arith)
+        | inr r ↦ sym (ap (λ (s : CodecState). s.pending) takes_run.next_state) ∙ takes_more.none_pending (omega arith)
       ];
       none_taken = λ z. ap (λ ss. ss ++ takes_more.taken) (takes_run.none_taken (omega arith))
           ∙ takes_more.none_taken (omega arith);

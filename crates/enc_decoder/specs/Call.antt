@@ -103,12 +103,12 @@ pub record AtMalformed (units_of : ℕ → List ℕ) (old new : Remainder) (src 
   pub not_replaced : is_replacement_mode mode ≡ false
   pub len : l ≡ length next.bytes
   pub not_empty : 0 < l
-  pub behind : a ≡ length new.pending
+  pub pending : a ≡ length new.pending
   pub bounds : AreReportedLens next.kind l a
   pub room_kept : keeps_room mode ≡ true → length (units_of_text units_of (sequence_text put)) + length (units_of 0xFFFD) ≤ room
   pub determined : AreDetermined last old.sequences src done
   -- the bytes read determine no sequence after it
-  pub none_behind : (read ≡ 0) ⊎ ((s : Sequence) → Determines old.sequences (take read src) (done ++ s ∷ []) → ⊥)
+  pub none_after : (read ≡ 0) ⊎ ((s : Sequence) → Determines old.sequences (take read src) (done ++ s ∷ []) → ⊥)
   pub reads : ReadsToReported (is_repeated_escape next.kind) old.sequences src done read new.pending
 
 -- why a call stopped

@@ -27,7 +27,7 @@ pub record IsDeterminedWithin (rule : Rule) (set b : ℕ) (z : List ℕ) (n : �
 
 -- The lookahead of the first sequence is n: the next n bytes determine it, and fewer do not.
 pub record IsLookahead (rule : Rule) (set b : ℕ) (z : List ℕ) (n : ℕ) : Type 0 where
-  pub told : IsDeterminedWithin rule set b z n
+  pub determined : IsDeterminedWithin rule set b z n
   pub least : AreBytes z → (m : ℕ) → m < n
       → ((y : List ℕ) → AreBytes y → rule set b (take ((rule set b z).more + m) z ++ y) ≡ rule set b z) → ⊥
 

@@ -17,7 +17,7 @@ pub record TakesRun {C : Type 0} (units_of : ℕ → List ℕ) (state : C → Co
   pub within : read ≤ length src
   pub bytes : sequence_bytes taken ≡ take read src
   pub first : (y : List ℕ) → (remainder_of (state c)).sequences (take read src ++ y) ≡ taken ++ (remainder_of (state n)).sequences y
-  pub behind : state n ≡ record (state c) { set = set_after (state c).set taken }
+  pub next_state : state n ≡ record (state c) { set = set_after (state c).set taken }
   pub none_malformed : any_malformed taken ≡ false
   pub scalars : AreScalars (sequence_text taken)
   pub fits : length (units_of_text units_of (sequence_text taken)) ≤ before.room

@@ -114,6 +114,9 @@ pub fn shift_malformed(stop: DecoderResult, held: usize) -> DecoderResult
     match stop {
         DecoderResult::InputEmpty => stop,
         DecoderResult::OutputFull => stop,
-        DecoderResult::Malformed(len, behind) => DecoderResult::Malformed(len, behind + held as u8),
+        DecoderResult::Malformed(len, pending) => DecoderResult::Malformed(
+            len,
+            pending + held as u8,
+        ),
     }
 }

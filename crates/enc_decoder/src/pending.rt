@@ -38,7 +38,7 @@ impl Pending {
     }
 
     /// Returns those after the first `count`.
-    pub fn behind(self, count: u8) -> Pending
+    pub fn skip(self, count: u8) -> Pending
         ensures { bytes_of_pending result ≡ drop count (bytes_of_pending self) }
     {
         match (count, self) {

@@ -121,7 +121,7 @@ after_escape units_of s e n src more before after is_alone some taken =
           ∙ skipped_escape (set_number s) e (bytes ++ y)
           (ap (λ x. designated_set (x ++ y)) begins.1 ∙ other_front is_alone.byte (begins.0 ++ y) is_alone.other)
           ∙ ap (λ ss. skipped e ∷ ss) (taken.first y);
-      behind = taken.behind;
+      next_state = taken.next_state;
       none_malformed = taken.none_malformed;
       scalars = taken.scalars;
       fits = taken.fits;

@@ -411,13 +411,13 @@ some_more : (set b : ℕ) (z : List ℕ) (n : ℕ) → (IsDeterminedWithin jp_ru
 some_more set b z zero f t = absurd (f t)
 some_more set b z (suc n) f t = omega arith
 
-pub looks_behind_skipped : HasSkippedLookahead jp_rule
-looks_behind_skipped = record {
+pub looks_after_skipped : HasSkippedLookahead jp_rule
+looks_after_skipped = record {
   not_alone = not_alone;
   soon = λ set b z k. elim (iso_2022_jp_is_lawful.lookahead.others set b z) [
     | inl lookahead ↦ inl (
       lookahead.0,
-      some_more set b z lookahead.0 (not_alone set b z k) lookahead.2.told,
+      some_more set b z lookahead.0 (not_alone set b z k) lookahead.2.determined,
       lookahead.1,
       lookahead.2,
     )

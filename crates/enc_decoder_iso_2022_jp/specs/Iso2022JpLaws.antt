@@ -26,7 +26,7 @@ set_number_or set (Some s) = set_number s
 -- there is none.
 abbrev pub SetsAreOfLastEscapes : Rule → Type 0
 SetsAreOfLastEscapes rule =
-    (set : ℕ) (z : List ℕ) (before behind : List Sequence) → sequences_of rule set z ≡ before ++ behind
+    (set : ℕ) (z : List ℕ) (before others : List Sequence) → sequences_of rule set z ≡ before ++ others
     → set_after set before ≡ set_number_or set (last_designated_set (sequence_bytes before))
 
 -- A skipped escape sequence is never determined by its own bytes. One to three bytes after it determine it, or the end

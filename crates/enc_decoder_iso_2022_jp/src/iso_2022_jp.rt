@@ -608,8 +608,8 @@ impl Iso2022JpDecoder {
             return (self, 0);
         };
         let next = with_held(escape.set(), None);
-        let (_, behind) = src.split_at(3);
-        let taken = out.put_pieces(next, behind);
+        let (_, unread) = src.split_at(3);
+        let taken = out.put_pieces(next, unread);
         if taken == 0 {
             return (self, 0);
         }

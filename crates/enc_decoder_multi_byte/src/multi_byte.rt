@@ -112,14 +112,14 @@ impl<E: MultiByte> MultiByteDecoder<E> {
             match E::classify(front, byte) {
                 Prefix::Complete(text) => {
                     let len = front.len() + 1;
-                    return Some(complete(text, len, false, self.pending.behind(len)));
+                    return Some(complete(text, len, false, self.pending.skip(len)));
                 }
                 Prefix::Malformed(len) => {
-                    return Some(malformed(len, false, self.pending.behind(len)));
+                    return Some(malformed(len, false, self.pending.skip(len)));
                 }
                 Prefix::Incomplete => {
                     front = front.with(byte);
-                    rest = rest.behind(1);
+                    rest = rest.skip(1);
                 }
             }
         }
@@ -140,7 +140,7 @@ impl<E: MultiByte> MultiByteDecoder<E> {
             }
             Prefix::Malformed(len) => {
                 let takes_byte = len > self.pending.len();
-                HandlerResult::Emit(malformed(len, takes_byte, self.pending.behind(len)))
+                HandlerResult::Emit(malformed(len, takes_byte, self.pending.skip(len)))
             }
             Prefix::Incomplete => HandlerResult::Continue(MultiByteDecoder::holding(
                 self.pending.with(byte),
@@ -177,7 +177,7 @@ fn complete<E: MultiByte>(
     text: Text,
     len: u8,
     takes_byte: bool,
-    behind: Pending,
+    rest: Pending,
 ) -> Emission<MultiByteDecoder<E>>
     ensures is { result ≡ record {
       text = text;
@@ -186,14 +186,14 @@ fn complete<E: MultiByte>(
       takes_byte = takes_byte;
       next = result.next;
     } }
-    ensures next { result.next.pending ≡ behind }
+    ensures next { result.next.pending ≡ rest }
 {
     Emission {
         text,
         kind: Kind::Valid,
         len,
         takes_byte,
-        next: MultiByteDecoder::holding(behind),
+        next: MultiByteDecoder::holding(rest),
     }
 }
 
@@ -201,7 +201,7 @@ fn complete<E: MultiByte>(
 fn malformed<E: MultiByte>(
     len: u8,
     takes_byte: bool,
-    behind: Pending,
+    rest: Pending,
 ) -> Emission<MultiByteDecoder<E>>
     ensures is { result ≡ record {
       text = Text.One 0xFFFD;
@@ -210,14 +210,14 @@ fn malformed<E: MultiByte>(
       takes_byte = takes_byte;
       next = result.next;
     } }
-    ensures next { result.next.pending ≡ behind }
+    ensures next { result.next.pending ≡ rest }
 {
     Emission {
         text: Text::One('\u{FFFD}'),
         kind: Kind::Malformed,
         len,
         takes_byte,
-        next: MultiByteDecoder::holding(behind),
+        next: MultiByteDecoder::holding(rest),
     }
 }
 

@@ -29,15 +29,15 @@ later_acts b =
     (λ z. sequences_of-cons replacement_rule 1 b z)
 
 -- each byte determines its sequence by itself
-pub told_by_itself : (set b : ℕ) (z : List ℕ) → IsDeterminedWithin replacement_rule set b z 0
+pub determined_alone : (set b : ℕ) (z : List ℕ) → IsDeterminedWithin replacement_rule set b z 0
 unfolding replacement_rule
-told_by_itself zero b z = record { there = omega arith; same = λ y. refl }
-told_by_itself (suc set) b z = record { there = omega arith; same = λ y. refl }
+determined_alone zero b z = record { there = omega arith; same = λ y. refl }
+determined_alone (suc set) b z = record { there = omega arith; same = λ y. refl }
 
 has_lookahead : HasLookahead replacement_rule
 has_lookahead = record {
-  valid = λ set b z _. told_by_itself set b z;
-  others = λ set b z. inl (0, omega arith, looks_at_none replacement_rule set b z (told_by_itself set b z));
+  valid = λ set b z _. determined_alone set b z;
+  others = λ set b z. inl (0, omega arith, looks_at_none replacement_rule set b z (determined_alone set b z));
 }
 
 has_small_texts : HasSmallTexts replacement_rule

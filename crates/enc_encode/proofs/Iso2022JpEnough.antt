@@ -14,7 +14,7 @@ use Rattle.enc_encoder.proofs.SizeLemmas.{size}
 use Rattle.enc_encode.proofs.FourByteLemmas.{most_iso_2022_jp, most_ascii_iso_2022_jp}
 use Rattle.enc_encoder.specs.Barring.{barring_rule}
 use Rattle.enc_encoder.proofs.BarringLemmas.{fewer}
-use Rattle.enc_encoder.proofs.EnoughLemmas.{within_utf_8, within_utf_16, bounded, utf_8_told, utf_16_told, three_before}
+use Rattle.enc_encoder.proofs.EnoughLemmas.{within_utf_8, within_utf_16, bounded, utf_8_length_is, utf_16_length_is, three_before}
 use Rattle.enc_encoder.proofs.EnoughLemmas.{three_at_end}
 
 -- of a character, where these are barred
@@ -39,13 +39,13 @@ module _ (b : List ℕ) where
   iso_2022_jp_enough set = record {
     from_utf_8 = λ src last q e. omega (
       arith,
-      utf_8_told Iso2022Jp (length (units_of_text encode_utf8 src)) q e,
+      utf_8_length_is Iso2022Jp (length (units_of_text encode_utf8 src)) q e,
       bounded rule encode_utf8 4 3 (λ s. Unit {0}) (λ s c _. tt) (λ s _. three_at_end s)
           (λ s c _. within_utf_8 (cost s c) 4 c (four_in_ascii s c) (omega (arith, five s c))) last src set tt,
     );
     from_utf_16 = λ src last q e. omega (
       arith,
-      utf_16_told Iso2022Jp (length (units_of_text encode_utf16 src)) q e,
+      utf_16_length_is Iso2022Jp (length (units_of_text encode_utf16 src)) q e,
       bounded rule encode_utf16 5 3 (λ s. Unit {0}) (λ s c _. tt) (λ s _. three_at_end s)
           (λ s c _. within_utf_16 (cost s c) 5 c (five s c)) last src set tt,
     );

@@ -139,23 +139,23 @@ ending Iso2022Jp = 3
 some_is : (n q : ℕ) → Some n ≡ Some q → n ≡ q
 some_is n q e = cc
 
-pub utf_8_told : (lengths : ByteLengths) (n q : ℕ) → from_utf_8_length lengths n ≡ Some q
+pub utf_8_length_is : (lengths : ByteLengths) (n q : ℕ) → from_utf_8_length lengths n ≡ Some q
     → max_bytes_per_utf_8_unit lengths * n + ending lengths ≡ q
-utf_8_told Utf8 n q e = omega (arith, some_is n q e)
-utf_8_told OneByte n q e = omega (arith, some_is n q e)
-utf_8_told TwoBytes n q e = omega (arith, some_is n q e)
-utf_8_told Gb18030 n q e = omega (arith, fitting_is (n * 2) q e)
-utf_8_told Iso2022Jp n q e =
+utf_8_length_is Utf8 n q e = omega (arith, some_is n q e)
+utf_8_length_is OneByte n q e = omega (arith, some_is n q e)
+utf_8_length_is TwoBytes n q e = omega (arith, some_is n q e)
+utf_8_length_is Gb18030 n q e = omega (arith, fitting_is (n * 2) q e)
+utf_8_length_is Iso2022Jp n q e =
     let sum = plus_is (checked_mul (Some n) 4) 3 q e in
     omega (arith, fitting_is (n * 4) sum.0 sum.1.0, sum.1.1)
 
-pub utf_16_told : (lengths : ByteLengths) (n q : ℕ) → from_utf_16_length lengths n ≡ Some q
+pub utf_16_length_is : (lengths : ByteLengths) (n q : ℕ) → from_utf_16_length lengths n ≡ Some q
     → max_bytes_per_utf_16_unit lengths * n + ending lengths ≡ q
-utf_16_told Utf8 n q e = omega (arith, fitting_is (n * 3) q e)
-utf_16_told OneByte n q e = omega (arith, some_is n q e)
-utf_16_told TwoBytes n q e = omega (arith, fitting_is (n * 2) q e)
-utf_16_told Gb18030 n q e = omega (arith, fitting_is (n * 4) q e)
-utf_16_told Iso2022Jp n q e =
+utf_16_length_is Utf8 n q e = omega (arith, fitting_is (n * 3) q e)
+utf_16_length_is OneByte n q e = omega (arith, some_is n q e)
+utf_16_length_is TwoBytes n q e = omega (arith, fitting_is (n * 2) q e)
+utf_16_length_is Gb18030 n q e = omega (arith, fitting_is (n * 4) q e)
+utf_16_length_is Iso2022Jp n q e =
     let sum = plus_is (checked_mul (Some n) 5) 3 q e in
     omega (arith, fitting_is (n * 5) sum.0 sum.1.0, sum.1.1)
 
@@ -173,13 +173,13 @@ pub stateless_enough : (lengths : ByteLengths) (bytes : ℕ → Option (List ℕ
 stateless_enough lengths bytes keeps_lengths = record {
   from_utf_8 = λ src last q e. omega (
     arith,
-    utf_8_told lengths (length (units_of_text encode_utf8 src)) q e,
+    utf_8_length_is lengths (length (units_of_text encode_utf8 src)) q e,
     bounded (stateless_rule bytes) encode_utf8 (max_bytes_per_utf_8_unit lengths) 0 (λ s. s ≡ Ascii) (stays_ascii bytes)
         none_at_end (λ s c _. omega (arith, keeps_lengths.by_utf_8 c)) last src Ascii refl,
   );
   from_utf_16 = λ src last q e. omega (
     arith,
-    utf_16_told lengths (length (units_of_text encode_utf16 src)) q e,
+    utf_16_length_is lengths (length (units_of_text encode_utf16 src)) q e,
     bounded (stateless_rule bytes) encode_utf16 (max_bytes_per_utf_16_unit lengths) 0 (λ s. s ≡ Ascii)
         (stays_ascii bytes) none_at_end (λ s c _. omega (arith, keeps_lengths.by_utf_16 c)) last src Ascii refl,
   );

@@ -4,7 +4,7 @@ ghost use Rattle.std.specs.Prelude.{◌≡◌, ◌≤◌, true, IfSome};
 ghost use Rattle.enc_index.specs.Index.{index_at};
 ghost use Rattle.enc_index.specs.Search.{are_ascending_runs, run_with_pointer};
 
-use crate::table::{Planes, character_behind};
+use crate::table::{Planes, character_after};
 
 /// Returns the first run that has a number, by binary search. Takes no memory.
 ///
@@ -40,7 +40,7 @@ pub(crate) fn character_among(
     ensures { result ≡ index_at planes runs.now pointer }
 {
     match run_with(runs, pointer) {
-        Some((first, _, code_point)) => character_behind(planes, code_point, pointer - first),
+        Some((first, _, code_point)) => character_after(planes, code_point, pointer - first),
         None => None,
     }
 }

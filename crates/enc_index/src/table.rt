@@ -37,7 +37,7 @@ fn mapped(planes: Planes, code_point: u32) -> Option<char>
 
 /// Returns the character `offset` code points after another.
 #[inline(always)]
-pub(crate) fn character_behind(planes: Planes, code_point: u32, offset: u32) -> Option<char>
+pub(crate) fn character_after(planes: Planes, code_point: u32, offset: u32) -> Option<char>
     ensures { result ≡ entry_character planes (code_point + offset) }
 {
     match code_point.checked_add(offset) {

@@ -77,7 +77,7 @@ module _ (d : DecoderState) (src : List ℕ) (ended : Bool) (n : ℕ) (within : 
   pub ReadsOwed-lent : (source : Option (List ℕ)) → ReadsOwed source source before after [] (take n src) false
   ReadsOwed-lent source = record {
     given = ConsumesRemaining-none source;
-    none_behind = λ e. (refl, e);
+    none_after = λ e. (refl, e);
     done = own (take n src);
     residual = λ z h. comes_first z;
     encoding = λ z h. no_mark d is_own.between (d.pending ++ (drop n src ++ z))
@@ -107,7 +107,7 @@ HandsOut-lent source d src ended n had within o none = record {
   malformed = false;
   reads = ReadsOwed-lent d src ended n within o source;
   flag = or_false had;
-  none_told = none;
+  exhausted = none;
 }
 
 -- the same, by places in the buffer
@@ -166,7 +166,7 @@ module _ {t₀ t₁ t₂ : Option (List ℕ)} {a b c : ReaderState} (fills_buffe
         fills_buffer.reads
         hands_out.reads;
     flag = hands_out.flag;
-    none_told = hands_out.none_told;
+    exhausted = hands_out.exhausted;
   }
 
   pub FailsToRead-filled : {failed_before failed_between failed_after : Bool} → failed_between ≡ failed_before

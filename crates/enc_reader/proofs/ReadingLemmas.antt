@@ -34,7 +34,7 @@ use Rattle.enc_reader.proofs.SourceLemmas.{ConsumesRemaining-none, ConsumesRemai
 pub ReadsOwed-none : (known : Option (List ℕ)) (s : ReaderState) → ReadsOwed known known s s [] [] false
 ReadsOwed-none known s = record {
   given = ConsumesRemaining-none known;
-  none_behind = λ e. (refl, e);
+  none_after = λ e. (refl, e);
   done = [];
   residual = λ z h. refl;
   encoding = λ z h. refl;
@@ -49,11 +49,11 @@ pub ReadsOwed-then : (t₀ t₁ t₂ : Option (List ℕ)) (a b c : ReaderState) 
     → ReadsOwed t₀ t₁ a b x w₁ m₁ → ReadsOwed t₁ t₂ b c y w₂ m₂ → ReadsOwed t₀ t₂ a c (x ++ y) (w₁ ++ w₂) (m₁ || m₂)
 ReadsOwed-then t₀ t₁ t₂ a b c x y w₁ w₂ m₁ m₂ first then_more =
     let rest_is_empty : (z : List ℕ) → (c.ended ≡ true → z ≡ []) → b.ended ≡ true → y ++ z ≡ [] =
-    λ z h e. let ended = then_more.none_behind e in ap (λ u. u ++ z) ended.0 ∙ h ended.1 in
+    λ z h e. let ended = then_more.none_after e in ap (λ u. u ++ z) ended.0 ∙ h ended.1 in
     record {
       given = ConsumesRemaining-then t₀ t₁ t₂ x y first.given then_more.given;
-      none_behind = λ e. let first_ended = first.none_behind e in
-          let then_ended = then_more.none_behind first_ended.1 in
+      none_after = λ e. let first_ended = first.none_after e in
+          let then_ended = then_more.none_after first_ended.1 in
           (ap (λ u. u ++ y) first_ended.0 ∙ then_ended.0, then_ended.1);
       done = first.done ++ then_more.done;
       residual = λ z ends. ap (owed_sequences a) (append_assoc x y z) ∙ first.residual (y ++ z) (rest_is_empty z ends)
@@ -84,7 +84,7 @@ ReadsOwed-pull t₀ t₁ s x ended waits t =
     let now : ReaderState = record { decoder = s.decoder; unread = x; ended = ended } in
     record {
       given = t;
-      none_behind = λ e. absurd (false≢true (sym waits.not_ended ∙ e));
+      none_after = λ e. absurd (false≢true (sym waits.not_ended ∙ e));
       done = [];
       residual = λ z h. ap (λ u. owed_sequences (record { decoder = s.decoder; unread = u; ended = false }) (x ++ z))
           waits.unread;
@@ -121,7 +121,7 @@ module _ (old new : DecoderState) (src : List ℕ) (last : Bool) (room : ℕ) (r
       let all_put = only_put old new src last room result read wrote replaced decodes in
       record {
         given = ConsumesRemaining-none known;
-        none_behind = λ f. (refl, f);
+        none_after = λ f. (refl, f);
         done = decodes.call.done;
         residual = decodes.call.residual;
         encoding = λ z none. still_ahead encode_utf8 Replacement old new src last room (decoder_result_of result) read
@@ -203,7 +203,7 @@ module _ {t₀ t₁ t₂ : Option (List ℕ)} {s₀ s₁ s₂ s₃ : ReaderState
         (ReadsOwed-then t₀ t₁ t₂ s₀ s₁ s₃ has_read.bytes (pulls_chunk.bytes ++ []) [] w₁ r₀ r₁ has_read.reads
         (ReadsOwed-then t₁ t₂ t₂ s₁ s₂ s₃ pulls_chunk.bytes [] [] w₁ false r₁ pulls_chunk.reads (turn.reads t₂)));
     enough = λ w. elim (true_or_false s₂.ended) [
-      | inl e ↦ absurd (false≢true (sym (turn.waiting w).not_ended ∙ ((turn.reads t₂).none_behind e).1))
+      | inl e ↦ absurd (false≢true (sym (turn.waiting w).not_ended ∙ ((turn.reads t₂).none_after e).1))
       | inr e ↦ (let some : 0 < length pulls_chunk.bytes = pulls_chunk.some e in
           omega (arith, some, has_read.enough refl, length-append has_read.bytes pulls_chunk.bytes))
     ];
@@ -218,7 +218,7 @@ pub IsReaderAtEnd-is : (known : Option (List ℕ)) (s : ReaderState) → has_fin
     → IsAtEnd known → IsReaderAtEnd known s
 IsReaderAtEnd-is known s is_finished e t = record {
   seen = e;
-  none_told = t;
+  exhausted = t;
   finished = is_finished;
   none_owed = none_left s.decoder.life s.decoder.encoding s.decoder.set (s.decoder.pending ++ (s.unread ++ []))
       is_finished;

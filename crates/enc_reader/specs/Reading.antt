@@ -36,10 +36,10 @@ abbrev pub distance_to_end : ReaderState → ℕ
 distance_to_end s = if has_finished s.decoder then 0 else 1 + (2 * length s.unread + length s.decoder.pending)
 
 -- A part of a read, in which the source gives `bytes`, and the text `wrote` is handed out.
-pub record ReadsOwed (told_before told_after : Option (List ℕ)) (old new : ReaderState) (bytes wrote : List ℕ) (malformed : Bool) : Type 0 where
-  pub given : ConsumesRemaining told_before told_after bytes
+pub record ReadsOwed (remaining_before remaining_after : Option (List ℕ)) (old new : ReaderState) (bytes wrote : List ℕ) (malformed : Bool) : Type 0 where
+  pub given : ConsumesRemaining remaining_before remaining_after bytes
   -- After its end the source gives nothing.
-  pub none_behind : old.ended ≡ true → (bytes ≡ []) × (new.ended ≡ true)
+  pub none_after : old.ended ≡ true → (bytes ≡ []) × (new.ended ≡ true)
   -- The sequences owed before are those done and those owed now, whatever the source still gives.
   pub done : List Sequence
   pub residual : (z : List ℕ) → (new.ended ≡ true → z ≡ [])
@@ -54,26 +54,26 @@ pub record ReadsOwed (told_before told_after : Option (List ℕ)) (old new : Rea
 
 -- A read that returns `Ok`. The reader remembers whether U+FFFD was handed out for a malformed sequence. After its end
 -- the source has no more bytes.
-pub record HandsOut (told_before told_after : Option (List ℕ)) (old new : ReaderState) (wrote : List ℕ) (had_before had_after : Bool) : Type 0 where
+pub record HandsOut (remaining_before remaining_after : Option (List ℕ)) (old new : ReaderState) (wrote : List ℕ) (had_before had_after : Bool) : Type 0 where
   pub bytes : List ℕ
   pub malformed : Bool
-  pub reads : ReadsOwed told_before told_after old new bytes wrote malformed
+  pub reads : ReadsOwed remaining_before remaining_after old new bytes wrote malformed
   pub flag : had_after ≡ (had_before || malformed)
-  pub none_told : new.ended ≡ true → IsExhausted told_after
+  pub exhausted : new.ended ≡ true → IsExhausted remaining_after
 
 -- The end: the source is at its end, and nothing is owed.
-pub record IsReaderAtEnd (told : Option (List ℕ)) (s : ReaderState) : Type 0 where
+pub record IsReaderAtEnd (remaining : Option (List ℕ)) (s : ReaderState) : Type 0 where
   pub seen : s.ended ≡ true
-  pub none_told : IsAtEnd told
+  pub exhausted : IsAtEnd remaining
   pub finished : has_finished s.decoder ≡ true
   pub none_owed : owed_sequences s [] ≡ []
 
 -- A read that fails: it hands out nothing and has seen no end. The source, which had not failed before, failed in this
 -- read, or gave at least 2^64 - 1 bytes.
-pub record FailsToRead (told_before told_after : Option (List ℕ)) (failed_before failed_after : Bool) (old new : ReaderState) : Type 0 where
+pub record FailsToRead (remaining_before remaining_after : Option (List ℕ)) (failed_before failed_after : Bool) (old new : ReaderState) : Type 0 where
   pub bytes : List ℕ
   pub malformed : Bool
-  pub reads : ReadsOwed told_before told_after old new bytes [] malformed
+  pub reads : ReadsOwed remaining_before remaining_after old new bytes [] malformed
   pub not_ended : new.ended ≡ false
   pub not_before : failed_before ≡ false
   pub why : (failed_after ≡ true) ⊎ (2 ^ 64 - 1 ≤ length bytes)

@@ -8,4 +8,4 @@ ConsumesRemaining old new bytes = old ≡ prepend_known bytes new
 
 -- No byte is still to come, if the source models its bytes.
 abbrev pub IsExhausted : Option (List ℕ) → Type 0
-IsExhausted told = told ≡ option_map (λ _. []) told
+IsExhausted remaining = remaining ≡ option_map (λ _. []) remaining

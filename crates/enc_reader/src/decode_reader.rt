@@ -108,7 +108,7 @@ pub struct DecodeReader<'a, R: Source> {
     ghost within: { filled ≤ length input.now },
     ghost some: { 0 < length input.now },
     ghost seen: { has_finished decoder ≡ true → ended ≡ true },
-    ghost none_told: { ended ≡ true
+    ghost exhausted: { ended ≡ true
         → IsExhausted (R.remaining reader.now) } by { Prim.hlevel props },
     ghost going: { failed ≡ false → R.has_failed reader.now ≡ false },
 }

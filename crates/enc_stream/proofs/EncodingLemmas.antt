@@ -32,16 +32,16 @@ use Rattle.enc_stream.specs.Encodings.{rule_of}
 use Rattle.enc_stream.specs.Latin1.{has_byte_characters}
 
 -- Some byte is a valid sequence by itself, or none is.
-abbrev pub TellsBytes : Bool → Rule → Type 0
-TellsBytes true rule = ¬ (HasNoByteSequences rule)
-TellsBytes false rule = HasNoByteSequences rule
+abbrev pub DecidesBytes : Bool → Rule → Type 0
+DecidesBytes true rule = ¬ (HasNoByteSequences rule)
+DecidesBytes false rule = HasNoByteSequences rule
 
 -- Its texts are small, its lookahead is short, each of its sequences has a text, but in two encodings, and some byte is one
 -- by itself, but in three.
 pub record KeepsLaws (may_lack : Type 0) (has_bytes : Bool) (rule : Rule) : Type 0 where
   pub lawful : IsLawfulRule rule
   pub texts : (may_lack → ⊥) → HasTexts rule
-  pub bytes : TellsBytes has_bytes rule
+  pub bytes : DecidesBytes has_bytes rule
 
 one_byte_laws : (may_lack : Type 0) (character : ℕ → Option ℕ) → character 0x61 ≡ Some 0x61 → KeepsLaws may_lack true (one_byte_rule character)
 one_byte_laws may_lack character e =
@@ -125,8 +125,8 @@ pub small_texts : (e : Encoding) → HasSmallTexts (rule_of e)
 small_texts e = (laws_of e).lawful.small_texts
 
 -- whether some byte is a sequence by itself
-pub tells_bytes : (e : Encoding) → TellsBytes (has_byte_characters e.id) (rule_of e)
-tells_bytes e = subst (λ (b : Bool). TellsBytes b (rule_of e)) (has_byte_codec e.id) (laws_of e).bytes
+pub decides_bytes : (e : Encoding) → DecidesBytes (has_byte_characters e.id) (rule_of e)
+decides_bytes e = subst (λ (b : Bool). DecidesBytes b (rule_of e)) (has_byte_codec e.id) (laws_of e).bytes
 
 abbrev encoding_at : EncodingId → Encoding
 encoding_at id = record { id = id }

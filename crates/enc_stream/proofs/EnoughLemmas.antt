@@ -353,21 +353,21 @@ room_is_enough q e life v rule holds own_mark enough n (Some room) r = λ mode a
 
 -- the same of each query
 
-abbrev TellsRoom : Query → DecoderState → ℕ → Option ℕ → Type 0
-TellsRoom q d n result = IfSome result (λ room. (mode : DecodeErrorMode) → IsForMode q mode
+abbrev ReportsRoom : Query → DecoderState → ℕ → Option ℕ → Type 0
+ReportsRoom q d n result = IfSome result (λ room. (mode : DecodeErrorMode) → IsForMode q mode
     → IsEnoughRoom (query_units q) mode d n room)
 
-pub room_with_replacement : (d : DecoderState) (n : ℕ) (result : Option ℕ) → TellsRoom query.Utf8 d n result
+pub room_with_replacement : (d : DecoderState) (n : ℕ) (result : Option ℕ) → ReportsRoom query.Utf8 d n result
     → IfSome result (IsEnoughRoom encode_utf8 Replacement d n)
 room_with_replacement d n None h = tt
 room_with_replacement d n (Some room) h = h Replacement tt
 
-pub room_to_report : (d : DecoderState) (n : ℕ) (result : Option ℕ) → TellsRoom query.Utf8Reporting d n result
+pub room_to_report : (d : DecoderState) (n : ℕ) (result : Option ℕ) → ReportsRoom query.Utf8Reporting d n result
     → IfSome result (IsEnoughRoom encode_utf8 (Fatal false) d n)
 room_to_report d n None h = tt
 room_to_report d n (Some room) h = h (Fatal false) tt
 
-pub room_in_utf_16 : (d : DecoderState) (n : ℕ) (result : Option ℕ) → TellsRoom query.Utf16 d n result
+pub room_in_utf_16 : (d : DecoderState) (n : ℕ) (result : Option ℕ) → ReportsRoom query.Utf16 d n result
     → IfSome result (λ room. (mode : DecodeErrorMode) → IsEnoughRoom encode_utf16 mode d n room)
 room_in_utf_16 d n None h = tt
 room_in_utf_16 d n (Some room) h = λ mode. h mode tt

@@ -85,9 +85,9 @@ held_first [] p b rest e = cc
 held_first (x ∷ held) p b rest e = refl
 
 -- the pending bytes of a decoder are those it holds of a mark
-pub tells_held : (e : Encoding) (life : LifeCycle) (v : CodecState) → HeldBytesMatchCodec life v
+pub shows_held : (e : Encoding) (life : LifeCycle) (v : CodecState) → HeldBytesMatchCodec life v
     → PendingAreHeldBytes (decoder_state_of e life v)
-tells_held e life v h = record {
+shows_held e life v h = record {
   in_front = λ a. pending_of_held (held_mark_bytes life) v.pending (h.unread a).1;
   held = λ b others f. held_first (held_mark_bytes life) v.pending b others f;
 }
@@ -325,7 +325,7 @@ module _ (units_of : ℕ → List ℕ) (e : Encoding) (life : LifeCycle) (v w : 
           same = inr (inl nothing_read);
         }))
         refl (none_read ∙ ap (λ d. sequence_bytes d ++ pending) (sym nothing))
-        (sym (let are_held = tells_held e life v holds in
+        (sym (let are_held = shows_held e life v holds in
         own_state life pending going are_held.in_front are_held.held)
         ∙ ap (λ x. life_after_sequences (life_at_prefix (mark_prefixes life) x) []) (sym none_read)
         ∙ ap (life_after_sequences (life_at_prefix (mark_prefixes life) (pending ++ take read src))) (sym nothing)

@@ -4,26 +4,26 @@ use Rattle.std.proofs.lemmas.Bool.{false≢true}
 use Rattle.enc_decoder.specs.Segmentation.{Rule, sequences_of}
 use Rattle.enc_decoder.specs.CodecState.{CodecState}
 use Rattle.enc_decoder.specs.Latin1.{IsLatin1Prefix, HasNoByteSequences, CodecMayBeLatin1 as CodecMay}
-use Rattle.enc_decoder.specs.Latin1.{AnswersCodecLatin1 as CodecTells}
+use Rattle.enc_decoder.specs.Latin1.{AnswersCodecLatin1 as CodecAnswers}
 use Rattle.enc_stream.specs.declared.encoding.Encoding.{Encoding}
 use Rattle.enc_stream.specs.declared.life_cycle.LifeCycle.{LifeCycle}
 use Rattle.enc_stream.specs.declared.life_cycle.LifeCycle.TheVariants.{Converting}
 use Rattle.enc_stream.specs.Encodings.{rule_of}
 use Rattle.enc_stream.specs.Decoding.{decoder_state_of}
 use Rattle.enc_stream.specs.Latin1.{has_byte_characters, DecoderMayBeLatin1, AnswersDecoderLatin1}
-use Rattle.enc_stream.proofs.EncodingLemmas.{TellsBytes, tells_bytes}
+use Rattle.enc_stream.proofs.EncodingLemmas.{DecidesBytes, decides_bytes}
 
-has_some : (has : Bool) (rule : Rule) → TellsBytes has rule → has ≡ true → ¬ (HasNoByteSequences rule)
+has_some : (has : Bool) (rule : Rule) → DecidesBytes has rule → has ≡ true → ¬ (HasNoByteSequences rule)
 has_some true rule t e = t
 has_some false rule t e = absurd (false≢true e)
 
-some_has : (has : Bool) (rule : Rule) → TellsBytes has rule → ¬ (HasNoByteSequences rule) → has ≡ true
+some_has : (has : Bool) (rule : Rule) → DecidesBytes has rule → ¬ (HasNoByteSequences rule) → has ≡ true
 some_has true rule t n = refl
 some_has false rule t n = absurd (n t)
 
 module _ (e : Encoding) (codec : CodecState) (same_rule : rule_of e ≡ codec.rule) where
-  by_bytes : TellsBytes (has_byte_characters e.id) codec.rule
-  by_bytes = subst (TellsBytes (has_byte_characters e.id)) same_rule (tells_bytes e)
+  by_bytes : DecidesBytes (has_byte_characters e.id) codec.rule
+  by_bytes = subst (DecidesBytes (has_byte_characters e.id)) same_rule (decides_bytes e)
 
   as_codec : DecoderMayBeLatin1 (decoder_state_of e Converting codec) → CodecMay codec
   as_codec may_be_latin1 = record {
@@ -40,10 +40,10 @@ module _ (e : Encoding) (codec : CodecState) (same_rule : rule_of e ≡ codec.ru
     encoding = some_has _ _ by_bytes may_be_latin1.has_bytes;
   }
 
-  converting_tells : (bytes : List ℕ) (answer : Option ℕ) → CodecTells codec bytes answer
+  converting_shows : (bytes : List ℕ) (answer : Option ℕ) → CodecAnswers codec bytes answer
       → AnswersDecoderLatin1 (decoder_state_of e Converting codec) bytes answer
-  converting_tells bytes None n = λ m. n (as_codec m)
-  converting_tells bytes (Some k) counted = (
+  converting_shows bytes None n = λ m. n (as_codec m)
+  converting_shows bytes (Some k) counted = (
     as_decoder counted.0,
     subst (λ (rule : Rule). IsLatin1Prefix
         (λ y. sequences_of rule codec.set (codec.pending ++ y))
@@ -51,7 +51,7 @@ module _ (e : Encoding) (codec : CodecState) (same_rule : rule_of e ≡ codec.ru
   )
 
   -- after the place of a mark
-  pub tells_latin1 : (life : LifeCycle) → life ≡ Converting → (bytes : List ℕ) (answer : Option ℕ)
-      → CodecTells codec bytes answer → AnswersDecoderLatin1 (decoder_state_of e life codec) bytes answer
-  tells_latin1 life i bytes answer t = subst (λ (l : LifeCycle). AnswersDecoderLatin1 (decoder_state_of e l codec)
-      bytes answer) (sym i) (converting_tells bytes answer t)
+  pub shows_latin1 : (life : LifeCycle) → life ≡ Converting → (bytes : List ℕ) (answer : Option ℕ)
+      → CodecAnswers codec bytes answer → AnswersDecoderLatin1 (decoder_state_of e life codec) bytes answer
+  shows_latin1 life i bytes answer t = subst (λ (l : LifeCycle). AnswersDecoderLatin1 (decoder_state_of e l codec)
+      bytes answer) (sym i) (converting_shows bytes answer t)

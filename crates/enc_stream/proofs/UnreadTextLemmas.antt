@@ -12,7 +12,7 @@ use Rattle.enc_units.specs.declared.coder_result.CoderResult.{CoderResult}
 use Rattle.enc_units.specs.declared.coder_result.CoderResult.TheVariants.{InputEmpty, OutputFull}
 use Rattle.enc_units.specs.Output.{units_of_text}
 use Rattle.enc_units.proofs.Utf8CharsLemmas.{their_units}
-use Rattle.enc_units.proofs.CharsLemmas.{AreUnits, utf16_length, lossy_behind}
+use Rattle.enc_units.proofs.CharsLemmas.{AreUnits, utf16_length, lossy_after}
 use Rattle.enc_decoder.proofs.SequenceLemmas.{units_of_text-append}
 use Rattle.enc_encoder.specs.EncoderRule.{RawEncoderState}
 use Rattle.enc_units.specs.declared.encoder_result.EncoderResult.{EncoderResult}
@@ -92,4 +92,4 @@ pub lossy_unread : (text : List ℕ) → AreUnits text → (mode : EncodeErrorMo
     (e : EncodesChunk encode_utf16 mode old new (utf16_lossy_chars text) last room result read wrote replaced) → utf16_lossy_chars (drop read text) ≡ e.rest
 lossy_unread text u mode old new last room result read wrote replaced encodes =
     ap (λ n. utf16_lossy_chars (drop n text)) encodes.call.units
-    ∙ lossy_behind text u (step_chars encodes.call.done) encodes.rest encodes.call.reads
+    ∙ lossy_after text u (step_chars encodes.call.done) encodes.rest encodes.call.reads

@@ -8,7 +8,7 @@ use Rattle.enc_stream.specs.declared.encoding.Encoding.{Encoding}
 use Rattle.enc_stream.specs.declared.bom.BomHandling.{BomHandling}
 use Rattle.enc_decoder.specs.Sequence.{Sequence, sequence_bytes}
 use Rattle.enc_decoder.specs.Segmentation.{IsSegmentation}
-use Rattle.enc_decoder.proofs.SegmentationLemmas.{all_bytes, is_told, is_one}
+use Rattle.enc_decoder.proofs.SegmentationLemmas.{all_bytes, sequences_are_segmentation, is_one}
 use Rattle.enc_decoder.proofs.FirstSequenceLemmas.{true_or_false}
 use Rattle.enc_stream.specs.Encodings.{rule_of}
 use Rattle.enc_stream.specs.Bom.{Mark, find_mark, marks_looked_for, sequences_by_mark}
@@ -48,8 +48,8 @@ joined handling e bytes = joined_by (find_mark (marks_looked_for handling e) byt
 
 is_segmented_by : (found : Option Mark) (e : Encoding) (x : List ℕ)
     → IsSegmentation (rule_of (encoding_of_mark_or found e)) 0 (bytes_after_mark found x) (sequences_by_mark found e x)
-is_segmented_by None e x = is_told (rule_of e) 0 x
-is_segmented_by (Some m) e x = is_told (rule_of m.encoding) 0 (drop (length m.bytes) x)
+is_segmented_by None e x = sequences_are_segmentation (rule_of e) 0 x
+is_segmented_by (Some m) e x = sequences_are_segmentation (rule_of m.encoding) 0 (drop (length m.bytes) x)
 
 one_by : (found : Option Mark) (e : Encoding) (x : List ℕ) (ss : List Sequence) → IsSegmentation (rule_of (encoding_of_mark_or found e)) 0 (bytes_after_mark found x) ss → ss ≡ sequences_by_mark found e x
 one_by None e x ss h = is_one (rule_of e) 0 x ss h

@@ -30,7 +30,7 @@ pub enum OneShotError {
 }
 
 /// Returns a length to allocate, if it does not overflow after `written` bytes.
-fn length_behind(length: Option<usize>, written: usize) -> Result<usize, OneShotError>
+fn length_after(length: Option<usize>, written: usize) -> Result<usize, OneShotError>
     ensures value { IfOk result (λ more. length ≡ Some more) }
     ensures fault { IfErr result (λ fault. fault ≡ OneShotError.TooLong) }
     ensures too_long { OnErr result (checked_add length written ≡ None) }
@@ -56,7 +56,7 @@ fn make_room(text: &mut String, length: Option<usize>) -> Result<(), OneShotErro
         → IsErrOf result OneShotError.TooLong }
     ensures alone { IsErrOf result OneShotError.TooLong → string_bytes text.old ≡ [] → length ≡ None }
 {
-    let more = length_behind(length, text.len())?;
+    let more = length_after(length, text.len())?;
     match text.reserve(more.max(4)) {
         Ok(()) => Ok(()),
         Err(_) => Err(OneShotError::Memory),
@@ -71,7 +71,7 @@ fn make_byte_room(bytes: &mut Vec<u8>, length: Option<usize>) -> Result<(), OneS
     ensures none { checked_add length (vec_len bytes.old) ≡ None
         → IsErrOf result OneShotError.TooLong }
 {
-    let more = length_behind(length, bytes.len())?;
+    let more = length_after(length, bytes.len())?;
     match bytes.reserve(more.max(14)) {
         Ok(()) => Ok(()),
         Err(_) => Err(OneShotError::Memory),

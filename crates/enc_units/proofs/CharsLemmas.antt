@@ -101,11 +101,11 @@ heads a b y z e = cc
 tails : (a b : ℕ) (y z : List ℕ) → a ∷ y ≡ b ∷ z → y ≡ z
 tails a b y z e = cc
 
-pub lossy_behind : (us : List ℕ) → AreUnits us → (cs rest : List ℕ) → utf16_lossy_chars us ≡ cs ++ rest
+pub lossy_after : (us : List ℕ) → AreUnits us → (cs rest : List ℕ) → utf16_lossy_chars us ≡ cs ++ rest
     → utf16_lossy_chars (drop (length (units_of_text encode_utf16 cs)) us) ≡ rest
-lossy_behind us are_units [] rest whole = whole
-lossy_behind [] are_units (c ∷ cs) rest whole = absurd (let f : [] ≡ c ∷ (cs ++ rest) = sym lossy_nil ∙ whole in cc)
-lossy_behind (u ∷ us) are_units (c ∷ cs) rest whole =
+lossy_after us are_units [] rest whole = whole
+lossy_after [] are_units (c ∷ cs) rest whole = absurd (let f : [] ≡ c ∷ (cs ++ rest) = sym lossy_nil ∙ whole in cc)
+lossy_after (u ∷ us) are_units (c ∷ cs) rest whole =
     let begins = first_of u us are_units in
     let same = sym begins.first.chars ∙ whole in
     let n = length (units_of_text encode_utf16 cs) in
@@ -113,7 +113,7 @@ lossy_behind (u ∷ us) are_units (c ∷ cs) rest whole =
     length-append (encode_utf16 c) (units_of_text encode_utf16 cs)
     ∙ ap (λ d. length (encode_utf16 d) + n) (sym (heads _ _ _ _ same)) ∙ ap (λ k. k + n) (sym begins.first.width) in
     ap (λ k. utf16_lossy_chars (drop k (u ∷ us))) w ∙ ap utf16_lossy_chars (sym (drop-drop n begins.units (u ∷ us)))
-    ∙ lossy_behind (drop begins.units (u ∷ us)) (units-drop begins.units (u ∷ us) are_units) cs rest
+    ∙ lossy_after (drop begins.units (u ∷ us)) (units-drop begins.units (u ∷ us) are_units) cs rest
     (tails _ _ _ _ same)
 
 pub peeks : (us : List ℕ) (r : Option (ℕ × ℕ)) → MatchOption r (us ≡ []) (λ p. IsFirstUtf16Char us p.0 p.1)

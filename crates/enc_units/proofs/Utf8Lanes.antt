@@ -143,14 +143,14 @@ module _ (z y x b : ℕ) (e : wrong z y x b ≡ false) where
 
   follows : CanFollowBytes z y x b
   follows = record {
-    behind_first = λ h. continues (sym parts.0 ∙ rw (le-leb 0xC0 x h) refl);
-    behind_second = λ h. continues (sym parts.0 ∙ ap (λ t. t || leb 0xF0 z) (or_true (leb 0xC0 x) (leb 0xE0 y) (le-leb 0xE0 y h)));
-    behind_third = λ h. continues (sym parts.0 ∙ or_true (leb 0xC0 x || leb 0xE0 y) (leb 0xF0 z) (le-leb 0xF0 z h));
+    after_first = λ h. continues (sym parts.0 ∙ rw (le-leb 0xC0 x h) refl);
+    after_second = λ h. continues (sym parts.0 ∙ ap (λ t. t || leb 0xF0 z) (or_true (leb 0xC0 x) (leb 0xE0 y) (le-leb 0xE0 y h)));
+    after_third = λ h. continues (sym parts.0 ∙ or_true (leb 0xC0 x || leb 0xE0 y) (leb 0xF0 z) (le-leb 0xF0 z h));
     begins = λ f g h. let p = parts in grind (arith, nat_tests);
-    behind_0xe0 = λ h. let p = parts.3 in grind (arith, nat_tests);
-    behind_0xed = λ h. let p = parts.3 in grind (arith, nat_tests);
-    behind_0xf0 = λ h. let p = parts.4 in grind (arith, nat_tests);
-    behind_0xf4 = λ h. let p = parts.4 in grind (arith, nat_tests);
+    after_0xe0 = λ h. let p = parts.3 in grind (arith, nat_tests);
+    after_0xed = λ h. let p = parts.3 in grind (arith, nat_tests);
+    after_0xf0 = λ h. let p = parts.4 in grind (arith, nat_tests);
+    after_0xf4 = λ h. let p = parts.4 in grind (arith, nat_tests);
   }
 
 module _ (zs ys xs bs : List ℕ) (lz : length zs ≡ 16) (ly : length ys ≡ 16) (lx : length xs ≡ 16) (lb : length bs ≡ 16) where

@@ -56,18 +56,18 @@ module _ (n : ℕ) (rest : (z y x : ℕ) (bs : List ℕ) → length bs ≤ n →
   fourth y z a b c [] l leads_four f second_follows e rest_follow = absurd (omega arith)
   fourth y z a b c (d ∷ bs) l leads_four f second_follows e rest_follow =
       IsUtf8-append (a ∷ b ∷ c ∷ d ∷ []) bs
-      (four a b c d leads_four f second_follows.behind_0xf0 second_follows.behind_0xf4 e
-      (rest_follow.0.behind_third leads_four.0))
-      (rest b c d bs (omega arith) (omega (arith, rest_follow.0.behind_third leads_four.0)) rest_follow.1)
+      (four a b c d leads_four f second_follows.after_0xf0 second_follows.after_0xf4 e
+      (rest_follow.0.after_third leads_four.0))
+      (rest b c d bs (omega arith) (omega (arith, rest_follow.0.after_third leads_four.0)) rest_follow.1)
 
   third : (y z a b : ℕ) (bs : List ℕ) → length bs ≤ n → (0xE0 ≤ a) × (a ≤ 0xF4) → (0x80 ≤ b) × (b < 0xC0) → CanFollowBytes y z a b → AllFollow z a b bs
       → IsWellFormedUtf8 (a ∷ b ∷ bs)
   third y z a b [] l leads_three continues second_follows rest_follow = absurd (omega arith)
   third y z a b (c ∷ bs) l leads_three continues second_follows rest_follow =
-      let continues_too = rest_follow.0.behind_second leads_three.0 in
+      let continues_too = rest_follow.0.after_second leads_three.0 in
       elim (cases_lt a 0xF0) [
         | inl u ↦ IsUtf8-append (a ∷ b ∷ c ∷ []) bs
-            (three a b c (leads_three.0, u) continues second_follows.behind_0xe0 second_follows.behind_0xed
+            (three a b c (leads_three.0, u) continues second_follows.after_0xe0 second_follows.after_0xed
             continues_too) (rest a b c bs (omega arith) (omega arith) rest_follow.1)
         | inr u ↦ fourth y z a b c bs (omega arith) (u, leads_three.1) continues second_follows continues_too
             rest_follow.1
@@ -76,7 +76,7 @@ module _ (n : ℕ) (rest : (z y x : ℕ) (bs : List ℕ) → length bs ≤ n →
   second : (y z a : ℕ) (bs : List ℕ) → length bs ≤ n → z < 0xC0 → (0xC2 ≤ a) × (a ≤ 0xF4) → AllFollow y z a bs → IsWellFormedUtf8 (a ∷ bs)
   second y z a [] l k leads rest_follow = absurd (omega arith)
   second y z a (b ∷ bs) l k leads rest_follow =
-      let continues = rest_follow.0.behind_first (omega arith) in
+      let continues = rest_follow.0.after_first (omega arith) in
       elim (cases_lt a 0xE0) [
         | inl u ↦ IsUtf8-append (a ∷ b ∷ []) bs (two a b (leads.0, u) continues)
             (rest z a b bs (omega arith) (omega arith) rest_follow.1)
@@ -179,12 +179,12 @@ module _ (src : List ℕ) (at n : ℕ) (l : at + 3 + n ≤ length src) (b : IsCh
       let p : IsCharBoundaryAfter src k = subst (IsCharBoundaryAfter src) e (between (k - at) (omega arith)) in
       let q = low (suc (suc (suc k))) (omega arith) (omega arith) in
       record {
-        behind_first = λ w. absurd (omega arith);
-        behind_second = λ w. absurd (omega arith);
-        behind_third = λ w. absurd (omega arith);
+        after_first = λ w. absurd (omega arith);
+        after_second = λ w. absurd (omega arith);
+        after_third = λ w. absurd (omega arith);
         begins = λ _ _ _. inl q;
-        behind_0xe0 = λ w. absurd (omega arith);
-        behind_0xed = λ w. absurd (omega arith);
-        behind_0xf0 = λ w. absurd (omega arith);
-        behind_0xf4 = λ w. absurd (omega arith);
+        after_0xe0 = λ w. absurd (omega arith);
+        after_0xed = λ w. absurd (omega arith);
+        after_0xf0 = λ w. absurd (omega arith);
+        after_0xf4 = λ w. absurd (omega arith);
       }

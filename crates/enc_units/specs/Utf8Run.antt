@@ -7,14 +7,14 @@ IsContinuationByte b = (0x80 ≤ b) × (b < 0xC0)
 -- The byte may follow these three: it is a continuation byte exactly if one of them requires it, and otherwise begins a
 -- character. A second byte is in the range that the first allows.
 pub record CanFollowBytes (third second first byte : ℕ) : Type 0 where
-  pub behind_first : 0xC0 ≤ first → IsContinuationByte byte
-  pub behind_second : 0xE0 ≤ second → IsContinuationByte byte
-  pub behind_third : 0xF0 ≤ third → IsContinuationByte byte
+  pub after_first : 0xC0 ≤ first → IsContinuationByte byte
+  pub after_second : 0xE0 ≤ second → IsContinuationByte byte
+  pub after_third : 0xF0 ≤ third → IsContinuationByte byte
   pub begins : first < 0xC0 → second < 0xE0 → third < 0xF0 → (byte < 0x80) ⊎ ((0xC2 ≤ byte) × (byte ≤ 0xF4))
-  pub behind_0xe0 : first ≡ 0xE0 → 0xA0 ≤ byte
-  pub behind_0xed : first ≡ 0xED → byte < 0xA0
-  pub behind_0xf0 : first ≡ 0xF0 → 0x90 ≤ byte
-  pub behind_0xf4 : first ≡ 0xF4 → byte < 0x90
+  pub after_0xe0 : first ≡ 0xE0 → 0xA0 ≤ byte
+  pub after_0xed : first ≡ 0xED → byte < 0xA0
+  pub after_0xf0 : first ≡ 0xF0 → 0x90 ≤ byte
+  pub after_0xf4 : first ≡ 0xF4 → byte < 0x90
 
 -- the fourth byte from k on may follow the three before it
 abbrev pub CanFollowBytesAt : List ℕ → ℕ → Type 0

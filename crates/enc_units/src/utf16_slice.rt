@@ -133,8 +133,8 @@ impl<'a> Utf16Slice<'a> {
         loop {
             let (_, rest) = src.split_at(at);
             at += self.append_ascii_of(by, rest);
-            let (_, behind) = src.split_at(at);
-            let (read, written) = by.gather_units(buffer, self.dst.len() - self.len, behind);
+            let (_, unread) = src.split_at(at);
+            let (read, written) = by.gather_units(buffer, self.dst.len() - self.len, unread);
             if read == 0 {
                 return at;
             }

@@ -18,20 +18,20 @@ use Rattle.enc_units.specs.Output.{units_of_text}
 use Rattle.encoding_rs.specs.Run.{units_of_call}
 
 -- the rest of a text after n characters
-pub record IsBehind (text rest : List ℕ) (count : ℕ) : Type 0 where
+pub record IsAfter (text rest : List ℕ) (count : ℕ) : Type 0 where
   pub few : count + length rest ≤ length text
   pub end : rest ≡ drop (length text - length rest) text
   pub utf8 : IsUtf8 rest
   pub chars : chars rest ≡ drop count (chars text)
 
-pub begin : (text : List ℕ) → IsUtf8 text → IsBehind text text 0
+pub begin : (text : List ℕ) → IsUtf8 text → IsAfter text text 0
 begin text u = record { few = omega arith; end = ap (λ n. drop n text) (let e : 0 ≡ length text - length text = omega arith in e); utf8 = u; chars = refl }
 
 past : (a x : List ℕ) → drop (length a) (a ++ x) ≡ x
 past [] x = refl
 past (y ∷ a) x = past a x
 
-pub one_more : (text rest others : List ℕ) (count c : ℕ) → IsBehind text rest count → rest ≡ encode_utf8 c ++ others → IsBehind text others (count + 1)
+pub one_more : (text rest others : List ℕ) (count c : ℕ) → IsAfter text rest count → rest ≡ encode_utf8 c ++ others → IsAfter text others (count + 1)
 one_more text rest others count c follows rest_is =
     let width = length (encode_utf8 c) in
     let len : length rest ≡ width + length others = ap length rest_is ∙ length-append (encode_utf8 c) others in
@@ -53,17 +53,17 @@ no_chars [] e = sym (chars_from_encodes [] [] IsUtf8-nil refl)
 no_chars (x ∷ l) e = cc
 
 -- if nothing is left after n characters, nothing is left after more
-pub at_end : (text rest : List ℕ) (count more : ℕ) → IsBehind text rest count → length rest ≡ 0 → count ≤ more → chars rest ≡ drop more (chars text)
+pub at_end : (text rest : List ℕ) (count more : ℕ) → IsAfter text rest count → length rest ≡ 0 → count ≤ more → chars rest ≡ drop more (chars text)
 at_end text rest count more b e h =
     let none = no_chars rest e in
     none ∙ sym (drop_of_length-le (chars text) (omega (arith, h, length-drop count (chars text), ap length (sym b.chars ∙ none))))
 
-pub boundary : (text rest : List ℕ) (count : ℕ) → IsBehind text rest count → IsCharBoundary text (length text - length rest)
+pub boundary : (text rest : List ℕ) (count : ℕ) → IsAfter text rest count → IsCharBoundary text (length text - length rest)
 boundary text rest count follows =
     IsCharBoundary-from_drop text (length text - length rest) (omega arith) (subst IsUtf8 follows.end follows.utf8)
 
 -- n characters, and those after them
-pub front_chars : (text rest : List ℕ) (count n : ℕ) → IsUtf8 text → IsBehind text rest count → chars rest ≡ drop n (chars text)
+pub front_chars : (text rest : List ℕ) (count n : ℕ) → IsUtf8 text → IsAfter text rest count → chars rest ≡ drop n (chars text)
     → chars (take (length text - length rest) text) ≡ take n (chars text)
 front_chars text rest count n u follows e =
     let at = length text - length rest in
@@ -92,7 +92,7 @@ one_left units_of (d ∷ others) back more c left width w h e s =
     let same : c ≡ d = cc in
     (omega arith, (let l = length-append (units_of d) (units_of_text units_of others) in let v = ap (λ x. length (units_of x)) same in omega (arith, e, l, w, v)))
 
-pub takes_one : (units_of : ℕ → List ℕ) (text rest others : List ℕ) (units count left c width : ℕ) → IsBehind text rest count → rest ≡ encode_utf8 c ++ others
+pub takes_one : (units_of : ℕ → List ℕ) (text rest others : List ℕ) (units count left c width : ℕ) → IsAfter text rest count → rest ≡ encode_utf8 c ++ others
     → width ≡ length (units_of c) → 0 < left → Leaves units_of text units count left → Leaves units_of text units (count + 1) (left - width)
 takes_one units_of text rest others units count left c width follows r w h l front back e u =
     let now = l front back e u in
@@ -114,7 +114,7 @@ all_taken units_of h text units count l front back e u =
     omega (arith, now.0, length-drop count front, none_left units_of h (drop count front) (sym now.1))
 
 -- if no character is left, they are all too
-pub at_end_taken : (units_of : ℕ → List ℕ) (text rest : List ℕ) (units count left : ℕ) → IsBehind text rest count → length rest ≡ 0 → Leaves units_of text units count left
+pub at_end_taken : (units_of : ℕ → List ℕ) (text rest : List ℕ) (units count left : ℕ) → IsAfter text rest count → length rest ≡ 0 → Leaves units_of text units count left
     → (front back : List ℕ) → chars text ≡ front ++ back → units ≡ length (units_of_text units_of front) → count ≡ length front
 at_end_taken units_of text rest units count left b r l front back chars_are u =
     let now = l front back chars_are u in
@@ -126,18 +126,18 @@ at_end_taken units_of text rest units count left b r l front back chars_are u =
 -- The rest of a text after n characters, or nothing if it has fewer.
 pub record IsCut (text rest : List ℕ) (count : ℕ) : Type 0 where
   pub reached : ℕ
-  pub follows : IsBehind text rest reached
+  pub follows : IsAfter text rest reached
   pub chars : chars rest ≡ drop count (chars text)
 
-pub cut_at : (text rest found : List ℕ) (reached count : ℕ) → IsBehind text rest reached → found ≡ rest → reached ≤ count → count ≤ reached → IsCut text found count
+pub cut_at : (text rest found : List ℕ) (reached count : ℕ) → IsAfter text rest reached → found ≡ rest → reached ≤ count → count ≤ reached → IsCut text found count
 cut_at text rest found reached count b e l h =
     let same : reached ≡ count = omega arith in
-    let it = subst (λ (x : List ℕ). IsBehind text x reached) (sym e) b in
+    let it = subst (λ (x : List ℕ). IsAfter text x reached) (sym e) b in
     record { reached = reached; follows = it; chars = it.chars ∙ ap (λ n. drop n (chars text)) same }
 
-pub cut_at_end : (text rest found : List ℕ) (reached count : ℕ) → IsBehind text rest reached → found ≡ rest → reached ≤ count → length rest ≡ 0 → IsCut text found count
+pub cut_at_end : (text rest found : List ℕ) (reached count : ℕ) → IsAfter text rest reached → found ≡ rest → reached ≤ count → length rest ≡ 0 → IsCut text found count
 cut_at_end text rest found reached count b found_is_rest l n =
-    let it = subst (λ (x : List ℕ). IsBehind text x reached) (sym found_is_rest) b in
+    let it = subst (λ (x : List ℕ). IsAfter text x reached) (sym found_is_rest) b in
     record {
       reached = reached;
       follows = it;
@@ -162,7 +162,7 @@ none_now units_of text units count (suc left) l h = absurd (omega arith)
 -- the code units of the characters before the rest
 pub record Converted (text rest units : List ℕ) : Type 0 where
   pub count : ℕ
-  pub follows : IsBehind text rest count
+  pub follows : IsAfter text rest count
   pub are : units ≡ units_of_text encode_utf16 (take count (chars text))
 
 pub none_converted : (text : List ℕ) → IsUtf8 text → Converted text text []

@@ -256,7 +256,7 @@ module _ (handling : BomHandling) (e : Encoding) (bytes : List ℕ) (read : ℕ)
         length-append (sequence_bytes (sequences_of_parts done_so_far.parts)) (sequence_bytes decodes.call.done) in
         let k = ap length (ap sequence_bytes stops.then_next ∙ sequence_bytes-one decodes.call.put stops.next) in
         let o = length-append (sequence_bytes decodes.call.put) stops.next.bytes in
-        let q = stops.len in let t = stops.behind in
+        let q = stops.len in let t = stops.pending in
         pair_is _ _ _ _ (omega arith) q
         ∙ sym (ap (faults_from (whole_start handling e bytes + length
         (sequence_bytes (sequences_of_parts done_so_far.parts)))) stops.then_next

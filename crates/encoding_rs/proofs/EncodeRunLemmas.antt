@@ -121,13 +121,13 @@ none_reported_in_mode kept new rest last room done OutputFull s = (refl, refl)
 none_reported_in_mode kept new rest last room done (Unmappable c) s = absurd s
 
 -- the character that a call reports and its flag, by its steps
-tells : (replace : Bool) (v : EncoderState) (new : RawEncoderState) (rest : List ℕ) (last : Bool) (room : ℕ) (done : List Step) (result : EncoderResult) (replaced : Bool)
+report_of_call : (replace : Bool) (v : EncoderState) (new : RawEncoderState) (rest : List ℕ) (last : Bool) (room : ℕ) (done : List Step) (result : EncoderResult) (replaced : Bool)
     → replaced ≡ (is_html_mode (encode_error_mode replace v) && any_reported done) → StopsInMode (encode_error_mode replace v) new rest last room done result
     → (reported_character result ≡ (if replace then [] else reports_in done)) × ((replaced || is_unmappable_result result) ≡ any_reported done)
-tells true v new rest last room done result replaced f s =
+report_of_call true v new rest last room done result replaced f s =
     let none = none_reported_in_mode (room_kept_for_references v.barred v.encoding) new rest last room done result s in
     (none.0, ap (λ b. replaced || b) none.1 ∙ or_false replaced ∙ f)
-tells false v new rest last room done result replaced f s =
+report_of_call false v new rest last room done result replaced f s =
     let report_holds = report_is new rest last room done result s in
     (report_holds.0, ap (λ b. b || is_unmappable_result result) f ∙ report_holds.1)
 
@@ -202,7 +202,7 @@ module _ (b : List ℕ) (e : Encoding) (text : List ℕ) (calls : List EncodeCal
   report_holds : (reported_character result ≡ (if made.replace then [] else reports_in raw.done))
       × ((replaced || is_unmappable_result result) ≡ any_reported raw.done)
   report_holds =
-      tells made.replace s.encoder (raw_state new) call.encodes.rest (nat_le (length unread) made.offer) made.room
+      report_of_call made.replace s.encoder (raw_state new) call.encodes.rest (nat_le (length unread) made.offer) made.room
       raw.done result replaced raw.flag raw.stops
 
   abbrev part : EncodeRunPart

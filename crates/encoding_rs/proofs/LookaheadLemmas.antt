@@ -10,9 +10,9 @@ use Rattle.enc_decoder.specs.Remainder.{AreBytes, Determines}
 use Rattle.enc_decoder.specs.RuleLaws.{IsDeterminedWithin, IsLookahead, IsDeterminedByEnd}
 use Rattle.enc_decoder.specs.Lookahead.{CoverLookahead}
 use Rattle.enc_decoder.proofs.ByteLemmas.{bytes-drop}
-use Rattle.enc_decoder.proofs.LookaheadLemmas.{left_of, reach_behind, determine_if_behind, no_more_than, at_most_three}
-use Rattle.enc_decoder_single_byte.proofs.ReplacementLemmas.{told_by_itself}
-use Rattle.enc_decoder_iso_2022_jp.proofs.Iso2022JpRule.{looks_behind_skipped}
+use Rattle.enc_decoder.proofs.LookaheadLemmas.{left_of, reach_after, determine_if_after, no_more_than, at_most_three}
+use Rattle.enc_decoder_single_byte.proofs.ReplacementLemmas.{determined_alone}
+use Rattle.enc_decoder_iso_2022_jp.proofs.Iso2022JpRule.{looks_after_skipped}
 use Rattle.enc_stream.specs.declared.encoding.Encoding.{Encoding}
 use Rattle.enc_stream.specs.declared.bom.BomHandling.{BomHandling}
 use Rattle.enc_stream.specs.Encodings.{rule_of}
@@ -30,7 +30,7 @@ looks_not : (rule : Rule) (set b : ℕ) (z : List ℕ) (n : ℕ) → AreBytes z 
 looks_not rule set b z n a l t = let m = no_more_than rule set b z n 0 a l t in omega (arith, m)
 
 some_more : (rule : Rule) (set b : ℕ) (z : List ℕ) (n : ℕ) → IsLookahead rule set b z n → (IsDeterminedWithin rule set b z 0 → ⊥) → 1 ≤ n
-some_more rule set b z zero l f = absurd (f l.told)
+some_more rule set b z zero l f = absurd (f l.determined)
 some_more rule set b z (suc n) l f = omega arith
 
 pub may_look : (e : Encoding) (set b : ℕ) (z : List ℕ) (n : ℕ) → AreBytes z → IsLookahead (rule_of e) set b z n → (kind : Kind) → (rule_of e set b z).kind ≡ kind → MayLook e kind n
@@ -39,9 +39,9 @@ may_look e set b z n are_bytes is_lookahead Valid k =
 may_look e set b z n are_bytes is_lookahead Skipped k = (
   at_most_three (rule_of e) (lookahead_of e) set b z n are_bytes is_lookahead,
   (λ r. looks_not (rule_of e) set b z n are_bytes is_lookahead
-      (subst (λ (f : Encoding). IsDeterminedWithin (rule_of f) set b z 0) (sym r) (told_by_itself set b z))),
+      (subst (λ (f : Encoding). IsDeterminedWithin (rule_of f) set b z 0) (sym r) (determined_alone set b z))),
   (λ j. some_more (rule_of e) set b z n is_lookahead
-      (subst (λ (f : Encoding). (rule_of f set b z).kind ≡ Skipped → IsDeterminedWithin (rule_of f) set b z 0 → ⊥) (sym j) (looks_behind_skipped.not_alone set b z) k)),
+      (subst (λ (f : Encoding). (rule_of f set b z).kind ≡ Skipped → IsDeterminedWithin (rule_of f) set b z 0 → ⊥) (sym j) (looks_after_skipped.not_alone set b z) k)),
 )
 may_look e set b z n are_bytes is_lookahead Malformed k =
     at_most_three (rule_of e) (lookahead_of e) set b z n are_bytes is_lookahead
@@ -125,9 +125,9 @@ module _ (handling : BomHandling) (e : Encoding) (bytes : List ℕ) (s : Sequenc
     (λ determined. let mark_decided : MayBeginMark looked_for (take k bytes)
         → ⊥ = λ i. undetermined handling e (take k bytes) s ss i determined in (
           mark_decided,
-          reach_behind rule (lookahead_of (encoding_of_mark_or found e)) (s ∷ ss) rest 0 (k - mark_len) left
+          reach_after rule (lookahead_of (encoding_of_mark_or found e)) (s ∷ ss) rest 0 (k - mark_len) left
               (bytes_after found bytes a) all (few mark_decided) ((by_front mark_decided).0 determined),
         )),
-    (λ both. (by_front both.0).1 (determine_if_behind rule (lookahead_of (encoding_of_mark_or found e)) (s ∷ ss) rest 0
+    (λ both. (by_front both.0).1 (determine_if_after rule (lookahead_of (encoding_of_mark_or found e)) (s ∷ ss) rest 0
         (k - mark_len) left all (few both.0) both.1)),
   )

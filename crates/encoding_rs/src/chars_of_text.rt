@@ -9,7 +9,7 @@ ghost use Rattle.encoding_rs.specs.Run.{units_of_call};
 use std::alloc::{AllocError, Global};
 
 /// Returns the offset of the end of the first `count` characters, or of the text if it has fewer.
-fn place_behind(text: &str, count: usize) -> usize
+fn place_after(text: &str, count: usize) -> usize
     ensures boundary { IsCharBoundary text.now result }
     ensures front { chars (take result text.now) ≡ take count (chars text.now) }
     ensures back { chars (drop result text.now) ≡ drop count (chars text.now) }
@@ -29,7 +29,7 @@ pub fn split_at_char(text: &str, count: usize) -> (&str, &str)
     ensures back { chars result.1.now ≡ drop count (chars text.now) }
     ensures none_left { (length result.1.now ≡ 0) ↔ (length (chars text.now) ≤ count) }
 {
-    text.split_at(place_behind(text, count))
+    text.split_at(place_after(text, count))
 }
 
 /// Returns the number of code units of a character, at least one.

@@ -209,8 +209,8 @@ fn make_call(
         bytes.old.items bytes.new.items made.0.result made.0.read made.0.replaced) }
     ensures ended { IfOk result (λ made. made.1 ≡ (nat_le (length (chars unread.now)) call.offer && is_input_empty_result made.0.result)) }
 {
-    let (chunk, behind) = split_at_char(unread, call.offer);
-    let last = behind.is_empty();
+    let (chunk, rest) = split_at_char(unread, call.offer);
+    let last = rest.is_empty();
     let (made, wrote) = call_from(alloc, encoder, chunk, last, call)?;
     bytes.extend_from_slice(&wrote)?;
     append_reference(bytes, made.result)?;
@@ -275,8 +275,8 @@ pub fn encode_run_barring(
         let Ok(()) = note_report(&mut unmappables, done.result) else {
             return Err(RunError::Memory);
         };
-        let (_, behind) = split_at_char(unread, done.read);
-        unread = behind;
+        let (_, rest) = split_at_char(unread, done.read);
+        unread = rest;
         read += done.read;
         had_unmappables |= done.replaced | reports(done.result);
         finished = ended;

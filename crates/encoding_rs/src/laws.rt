@@ -61,7 +61,7 @@ pub fn well_formed_utf_8(bytes: &[u8])
 }
 
 /// A prefix first determines whether there is a byte order mark, and then sequences.
-pub fn mark_is_told_first(encoding: Encoding, handling: BomHandling)
+pub fn mark_is_determined_first(encoding: Encoding, handling: BomHandling)
     // A prefix that is no proper prefix of a byte order mark looked for determines which one there
     // is.
     ensures decided { (x y : List ℕ) → (MayBeginMark (marks_looked_for handling encoding) x → ⊥)
@@ -145,7 +145,7 @@ pub fn names_are_labels(encoding: Encoding)
 ///
 /// So a decoder that has written EF of an incomplete byte order mark EF BB, and still holds BB, has
 /// read no byte after BB.
-pub fn pending_bb_is_told_by_itself(encoding: Encoding)
+pub fn pending_bb_is_determined_alone(encoding: Encoding)
     ensures { DeterminesBbByItself (rule_of encoding) }
 {
     let _ = encoding;

@@ -125,7 +125,7 @@ module _ {from to : Encoding} {t₀ t₁ t₂ k₀ k₁ : Option (List ℕ)} {ol
       (sequence_text (owed_sequences (fresh_reader from) x))) (append_assoc so_far.bytes hands_out.bytes z)
       ∙ ap (bytes_from_state (fresh_encoder [] to))
       (owed_text t₀ t₁ (fresh_reader from) old so_far.bytes so_far.wrote m₁ so_far.reads (hands_out.bytes ++ z)
-      (λ e. let ended = hands_out.reads.none_behind e in ap (λ x. x ++ z) ended.0 ∙ ends ended.1))
+      (λ e. let ended = hands_out.reads.none_after e in ap (λ x. x ++ z) ended.0 ∙ ends ended.1))
       ∙ so_far.encoded.encoded.residual (sequence_text (owed_sequences old (hands_out.bytes ++ z))) (λ f. not_ended f)
       ∙ ap (λ x. so_far.encoded.wrote ++ bytes_from_state encoder x)
       (owed_text t₁ t₂ old new hands_out.bytes w hands_out.malformed hands_out.reads z ends)
@@ -141,7 +141,7 @@ module _ {from to : Encoding} {t₀ t₁ t₂ k₀ k₁ : Option (List ℕ)} {ol
       bytes = bytes;
       wrote = so_far.wrote ++ w;
       reads = reads_on;
-      is_exhausted = hands_out.none_told;
+      is_exhausted = hands_out.exhausted;
       encoded = subst (λ l. HasEncoded (fresh_encoder [] to) after (chars (so_far.wrote ++ w)) [] l k₀ k₂ (r₁ || r₂)) f
           encoded_on;
       enough = omega (arith, so_far.enough, hands_out.reads.nearer, some, length-append so_far.bytes hands_out.bytes);
@@ -175,8 +175,8 @@ module _ {from to : Encoding} {t₀ t₁ t₂ k₀ k₁ : Option (List ℕ)} {ol
       pub RunsToEnd-last : RunsToEnd from to t₀ t₂ k₀ k₂ (m₂ || (r₁ || r₂))
       RunsToEnd-last = record {
         bytes = bytes;
-        all_read = all_given t₀ t₂ bytes reads_on.given end.none_told;
-        none_left = none_remaining t₀ t₂ bytes reads_on.given end.none_told;
+        all_read = all_given t₀ t₂ bytes reads_on.given end.exhausted;
+        none_left = none_remaining t₀ t₂ bytes reads_on.given end.exhausted;
         flag = flag_is;
         written = rw (← bytes_are) encoded_on.taken;
       }
@@ -191,7 +191,7 @@ module _ {from to : Encoding} {t₀ t₁ t₂ k₀ k₁ : Option (List ℕ)} {ol
         bytes = bytes;
         given = reads_on.given;
         ended = new.ended;
-        none_left = hands_out.none_told;
+        none_left = hands_out.exhausted;
         wrote = so_far.encoded.wrote ++ stops.wrote;
         written = AppendsContents-then k₀ k₁ k₂ so_far.encoded.wrote stops.wrote so_far.encoded.taken stops.taken;
         prefix = λ z h. (
@@ -224,7 +224,7 @@ module _ {from to : Encoding} {t₀ t₁ k₀ k₁ : Option (List ℕ)} {old : R
               (append_assoc so_far.bytes x z)
               ∙ ap (bytes_from_state (fresh_encoder [] to))
               (owed_text t₀ t₁ (fresh_reader from) old so_far.bytes so_far.wrote m₁ so_far.reads (x ++ z)
-              (λ e. let ended = reads_owed.none_behind e in ap (λ u. u ++ z) ended.0 ∙ h ended.1))
+              (λ e. let ended = reads_owed.none_after e in ap (λ u. u ++ z) ended.0 ∙ h ended.1))
               ∙ so_far.encoded.encoded.residual (sequence_text (owed_sequences old (x ++ z))) (λ f. not_ended f),
         );
       }

@@ -32,26 +32,26 @@ abbrev pub any_replaced : Encoding → Encoding → List ℕ → Bool
 any_replaced from to bytes = whole_malformed Sniff from bytes || any_unmappable (output_rule [] to) (whole_text from bytes)
 
 -- A run that has reached the end of its source, by the bytes that the two sides model before and after it.
-pub record RunsToEnd (from to : Encoding) (told_before told_after : Option (List ℕ))
+pub record RunsToEnd (from to : Encoding) (remaining_before remaining_after : Option (List ℕ))
     (taken_before taken_after : Option (List ℕ)) (replaced : Bool) : Type 0 where
   -- the bytes read: all those of the source, which has none left
   pub bytes : List ℕ
-  pub all_read : IfSome told_before (λ all. bytes ≡ all)
-  pub none_left : told_after ≡ option_map (λ _. []) told_before
+  pub all_read : IfSome remaining_before (λ all. bytes ≡ all)
+  pub none_left : remaining_after ≡ option_map (λ _. []) remaining_before
   -- whether a sequence or a character was replaced
   pub flag : replaced ≡ any_replaced from to bytes
   -- the sink has taken exactly the bytes of their text
   pub written : AppendsContents taken_before taken_after (recoded_bytes from to bytes)
 
 -- A run that a fault has stopped.
-pub record RunsToFault (from to : Encoding) (told_before told_after : Option (List ℕ))
+pub record RunsToFault (from to : Encoding) (remaining_before remaining_after : Option (List ℕ))
     (taken_before taken_after : Option (List ℕ)) : Type 0 where
   -- the bytes that the source gave during the run
   pub bytes : List ℕ
-  pub given : ConsumesRemaining told_before told_after bytes
+  pub given : ConsumesRemaining remaining_before remaining_after bytes
   -- whether the run has seen the end of the source, which has no more bytes then
   pub ended : Bool
-  pub none_left : ended ≡ true → IsExhausted told_after
+  pub none_left : ended ≡ true → IsExhausted remaining_after
   -- The sink has taken a prefix of the bytes of their text, whatever bytes follow them. Nothing follows them if the
   -- source was at its end.
   pub wrote : List ℕ

@@ -35,7 +35,7 @@ const REPORT_AT_THE_END: &[ReportingCall<'static>] = &[
 ];
 
 #[test]
-fn a_byte_behind_a_broken_mark_waits_for_its_report(rt: HostRuntime) -> Result<(), Fail> {
+fn a_byte_after_a_broken_mark_waits_for_its_report(rt: HostRuntime) -> Result<(), Fail> {
     make_reporting_calls_of(rt.alloc(), &mut ISO_2022_JP.new_decoder(), REPORTS_IN_TURN)?;
     make_reporting_calls_of(
         rt.alloc(),
@@ -61,7 +61,7 @@ const NOTHING_OFFERED: &[Call<'static>] = &[
 ];
 
 #[test]
-fn a_byte_behind_a_broken_mark_waits_for_room(rt: HostRuntime) -> Result<(), Fail> {
+fn a_byte_after_a_broken_mark_waits_for_room(rt: HostRuntime) -> Result<(), Fail> {
     make_calls_of(rt.alloc(), &mut X_USER_DEFINED.new_decoder(), ROOM_FOR_ONE)?;
     // it comes out of a call without input
     make_calls_of(
@@ -108,7 +108,7 @@ const MARK_IN_TWO: &[Call<'static>] = &[
 ];
 
 #[test]
-fn a_mark_tells_the_encoding(rt: HostRuntime) -> Result<(), Fail> {
+fn a_mark_sets_the_encoding(rt: HostRuntime) -> Result<(), Fail> {
     let mut decoder = WINDOWS_1252.new_decoder();
     let whole = (
         b"\xEF\xBB\xBF\x61".as_slice(),
@@ -138,7 +138,7 @@ const MARKS: &[(&[u8], Encoding)] = &[
 const HANDLINGS: &[BomHandling] = &[BomHandling::Off, BomHandling::Sniff, BomHandling::Remove];
 
 /// Returns the encoding of a decoder after these bytes, each in a call of its own, and the end.
-fn encoding_behind(rt: &impl Abort, mut decoder: Decoder, bytes: &[u8]) -> Encoding {
+fn encoding_after(rt: &impl Abort, mut decoder: Decoder, bytes: &[u8]) -> Encoding {
     let mut buffer = [0; 16];
     for byte in bytes.chunks(1) {
         assert!(rt; !decoder.is_finished());
@@ -158,12 +158,12 @@ fn compare_used(rt: &impl Abort, encoding: Encoding, bytes: &[u8], used: Encodin
         assert_eq!(rt; decoder.encoding(), encoding);
         let is_sniffing = *handling == BomHandling::Sniff;
         let want = if is_sniffing { used } else { encoding };
-        assert_eq!(rt; encoding_behind(rt, decoder, bytes), want);
+        assert_eq!(rt; encoding_after(rt, decoder, bytes), want);
     }
 }
 
 #[test]
-fn only_a_whole_mark_that_is_sniffed_tells_the_encoding(rt: HostRuntime) {
+fn only_a_whole_mark_that_is_sniffed_sets_the_encoding(rt: HostRuntime) {
     for (encoding, _, _) in TABLE {
         for (mark, used) in MARKS {
             compare_used(&rt, *encoding, mark, *used);
@@ -196,7 +196,7 @@ const BROKEN: &[&[u8]] = &[
 
 /// Bytes after a whole byte order mark: none, ASCII or one character of UTF-16, and a second byte
 /// order mark.
-const BEHIND: &[&[u8]] = &[b"", b"a", b"ab", b"\xEF\xBB\xBF", b"\xFE\xFF\xFF\xFE"];
+const AFTER_MARKS: &[&[u8]] = &[b"", b"a", b"ab", b"\xEF\xBB\xBF", b"\xFE\xFF\xFF\xFE"];
 
 /// The malformed sequences of a run, in an input that has `front` bytes before those of the run.
 fn places_after(alloc: Global, run: &Run, front: usize) -> Result<Vec<(usize, usize)>, AllocError> {
@@ -290,12 +290,12 @@ fn compare_marks(
     alloc: Global,
     encoding: Encoding,
     handling: BomHandling,
-    behind: &[u8],
+    rest: &[u8],
 ) -> Result<(), Fail> {
     for (mark, used) in MARKS {
         let mut bytes = Vec::new(alloc);
         bytes.extend_from_slice(mark)?;
-        bytes.extend_from_slice(behind)?;
+        bytes.extend_from_slice(rest)?;
         let is_looked_for = match handling {
             BomHandling::Off => false,
             BomHandling::Sniff => true,
@@ -314,14 +314,14 @@ fn compare_marks(
 #[test]
 fn whole_marks_are_dropped(rt: HostRuntime) -> Result<(), Fail> {
     for (encoding, _, _) in TABLE {
-        for behind in BEHIND {
-            compare_marks(rt.alloc(), *encoding, BomHandling::Sniff, behind)?;
+        for rest in AFTER_MARKS {
+            compare_marks(rt.alloc(), *encoding, BomHandling::Sniff, rest)?;
         }
         compare_marks(rt.alloc(), *encoding, BomHandling::Remove, b"ab")?;
     }
     for (_, encoding) in MARKS {
-        for behind in BEHIND {
-            compare_marks(rt.alloc(), *encoding, BomHandling::Remove, behind)?;
+        for rest in AFTER_MARKS {
+            compare_marks(rt.alloc(), *encoding, BomHandling::Remove, rest)?;
         }
     }
     Ok(())
@@ -408,7 +408,7 @@ const SNIFFING: &[Encoding] = &[
 ];
 
 #[test]
-fn text_behind_a_mark_is_of_its_encoding(rt: HostRuntime) -> Result<(), Fail> {
+fn text_after_a_mark_is_of_its_encoding(rt: HostRuntime) -> Result<(), Fail> {
     for (used, row) in MARKED_ROWS {
         let input = input_of(row);
         let removing = Use::new(*used, BomHandling::Remove);
@@ -539,7 +539,7 @@ const RUN_ROWS: &[((Encoding, BomHandling), &[u8], (&str, bool))] = &[
 ];
 
 #[test]
-fn runs_look_for_the_marks_that_they_are_told(rt: HostRuntime) -> Result<(), Fail> {
+fn runs_look_for_the_marks_asked_for(rt: HostRuntime) -> Result<(), Fail> {
     for (way, bytes, want) in RUN_ROWS {
         compare_run(&rt, rt.alloc(), *way, bytes, *want)?;
     }

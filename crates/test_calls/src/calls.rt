@@ -7,7 +7,7 @@ use std::test::Fail;
 use test_support::encodings::SECOND_CONSTANTS;
 
 #[test]
-fn tells_its_encoding(rt: HostRuntime) -> Result<(), Fail> {
+fn names_its_encoding(rt: HostRuntime) -> Result<(), Fail> {
     let decoder = WINDOWS_1252.new_decoder_without_bom_handling();
     assert_eq!(rt; decoder.encoding(), WINDOWS_1252);
     assert!(rt; !decoder.is_finished());

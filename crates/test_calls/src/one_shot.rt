@@ -140,7 +140,7 @@ fn without_a_mark_all_calls_are_alike(rt: HostRuntime) -> Result<(), Fail> {
 }
 
 #[test]
-fn reasons_are_told_apart(rt: HostRuntime) -> Result<(), Fail> {
+fn reasons_have_different_texts(rt: HostRuntime) -> Result<(), Fail> {
     let (memory, too_long) = (OneShotError::Memory, OneShotError::TooLong);
     assert_ne!(rt; memory, too_long);
     assert_eq!(rt;
@@ -213,7 +213,7 @@ fn two_encodings_have_two_names_for_debugging(rt: HostRuntime) -> Result<(), Fai
 }
 
 #[test]
-fn decoders_and_encoders_are_told_for_debugging(rt: HostRuntime) -> Result<(), Fail> {
+fn decoders_and_encoders_have_debug_texts(rt: HostRuntime) -> Result<(), Fail> {
     let mut decoder = UTF_8.new_decoder();
     let text = format!(in rt.alloc(); "{decoder:?}")?;
     let want = "Decoder { encoding: Encoding { id: Utf8 }, finished: false }";

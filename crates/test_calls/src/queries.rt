@@ -44,7 +44,7 @@ fn lengths(rt: &impl Abort, decoder: &Decoder, bytes: usize) -> Lengths {
 }
 
 /// Returns a decoder that has read these bytes.
-fn decoder_behind(
+fn decoder_after(
     rt: &impl Abort,
     (encoding, handling): (Encoding, BomHandling),
     bytes: &[u8],
@@ -60,7 +60,7 @@ fn decoder_behind(
 /// Compares a decoder's lengths with each row.
 fn compare_lengths(rt: &impl Abort, rows: &[QueryRow]) {
     for (encoding, handling, bytes, more, want) in rows {
-        let decoder = decoder_behind(rt, (*encoding, *handling), bytes);
+        let decoder = decoder_after(rt, (*encoding, *handling), bytes);
         let answers = lengths(rt, &decoder, *more);
         assert_eq!(rt; answers, *want, "{encoding:?} {bytes:?} {more}");
     }
@@ -380,7 +380,7 @@ fn compare_limits(rt: &impl Abort, decoder: &Decoder, limits: (Limit, Limit, Lim
 #[test]
 fn no_length_passes_the_greatest_number(rt: HostRuntime) {
     for (encoding, handling, bytes, limits) in LIMIT_ROWS {
-        let decoder = decoder_behind(&rt, (*encoding, *handling), bytes);
+        let decoder = decoder_after(&rt, (*encoding, *handling), bytes);
         compare_limits(&rt, &decoder, *limits);
     }
 }

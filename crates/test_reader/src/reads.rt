@@ -12,7 +12,7 @@ use test_support::reading::{compare_read, compare_with_whole, read_all};
 const FAULT: Step = Step::Fail(ErrorKind::BrokenPipe);
 
 #[test]
-fn reads_behind_a_mark_in_parts(rt: HostRuntime) -> Result<(), Fail> {
+fn reads_after_a_mark_in_parts(rt: HostRuntime) -> Result<(), Fail> {
     let steps = [BYTE, BYTE, BYTE, Step::Move(2), BYTE];
     let mut source = FromRead::new(StepReader::new(b"\xEF\xBB\xBF\xE2\x82\xAC", &steps));
     let mut input = [0; 4];
@@ -43,7 +43,7 @@ fn reads_what_is_malformed(rt: HostRuntime) -> Result<(), Fail> {
 }
 
 #[test]
-fn tells_a_fault_once(rt: HostRuntime) -> Result<(), Fail> {
+fn reports_a_fault_once(rt: HostRuntime) -> Result<(), Fail> {
     let mut device = StepReader::new(b"ab", &[BYTE, FAULT, BYTE]);
     let mut source = FromRead::new(&mut device);
     let mut input = [0; 8];

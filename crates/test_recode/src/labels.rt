@@ -34,7 +34,7 @@ fn knows_labels(rt: HostRuntime) {
 }
 
 #[test]
-fn tells_status(rt: HostRuntime) {
+fn reports_its_status(rt: HostRuntime) {
     assert_eq!(rt; status(&Ok(false)), 0);
     assert_eq!(rt; status(&Ok(true)), 1);
     assert_eq!(rt; status(&Err(RecodeFault::Read)), 3);

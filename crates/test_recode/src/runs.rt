@@ -165,7 +165,7 @@ const FAULTS: &[FaultRow] = &[
 ];
 
 #[test]
-fn tells_faults(rt: HostRuntime) -> Result<(), Fail> {
+fn reports_faults(rt: HostRuntime) -> Result<(), Fail> {
     for (encodings, input, reads, writes, reader_fails, want) in FAULTS {
         let ran = run_by(rt.alloc(), *encodings, *input, (*reads, *writes))?;
         let fault = if *reader_fails {
@@ -214,7 +214,7 @@ const CUTS: &[CutRow] = &[
 ];
 
 #[test]
-fn tells_each_fault_of_three_chunks(rt: HostRuntime) -> Result<(), Fail> {
+fn reports_each_fault_of_three_chunks(rt: HostRuntime) -> Result<(), Fail> {
     for row in CUTS {
         let (encodings, input, cuts, replaced, want) = row;
         for write in [ALL_BYTES, BYTE, Step::Move(2)] {

@@ -50,20 +50,20 @@ pub fn marks(comparison: &mut Comparison, sampled: usize, seed: u64) -> io::Resu
         }
         for number in 0..sampled {
             let length = random.below(300);
-            let behind = behind_mark(encoding, &mut random, number, length);
+            let behind = after_mark(encoding, &mut random, number, length);
             comparison.compare(&[mark, &behind[..]].concat(), Delivery::Pipe)?;
         }
         for sizes in SHORT_PIECES {
             let behind = random_tokens(encoding, &mut random, 8);
             comparison.compare(&[mark, &behind[..]].concat(), Delivery::Slow(sizes))?;
         }
-        let long = behind_mark(encoding, &mut random, 1, 2 * BUFFER);
+        let long = after_mark(encoding, &mut random, 1, 2 * BUFFER);
         comparison.compare(&[mark, &long[..]].concat(), Delivery::File)?;
     }
     Ok(())
 }
 
-fn behind_mark(encoding: &'static Encoding, random: &mut Random, kind: usize, length: usize) -> Vec<u8> {
+fn after_mark(encoding: &'static Encoding, random: &mut Random, kind: usize, length: usize) -> Vec<u8> {
     match kind % 5 {
         0 => random.bytes(length),
         1 => random_tokens(encoding, random, length),

@@ -100,7 +100,7 @@ const MALFORMED: &[Row] = &[
 ];
 
 #[test]
-fn tells_what_is_malformed(rt: HostRuntime) -> Result<(), Fail> {
+fn reports_malformed_sequences(rt: HostRuntime) -> Result<(), Fail> {
     compare_all(rt.alloc(), (BIG5, Big5Decoder::new()), MALFORMED)
 }
 

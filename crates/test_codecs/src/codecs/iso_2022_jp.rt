@@ -273,7 +273,7 @@ fn the_decoder_decodes_each_set(rt: HostRuntime) -> Result<(), Fail> {
 }
 
 #[test]
-fn the_decoder_holds_an_escape_until_the_next_is_told(rt: HostRuntime) -> Result<(), Fail> {
+fn the_decoder_holds_an_escape_until_the_next_is_determined(rt: HostRuntime) -> Result<(), Fail> {
     let mut decoder = Iso2022JpDecoder::new();
     hold(&mut decoder, b"\x1B", 1)?;
     hold(&mut decoder, b"(", 2)?;

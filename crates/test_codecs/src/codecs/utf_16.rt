@@ -125,7 +125,7 @@ fn the_decoder_decodes_a_pair(rt: HostRuntime) -> Result<(), Fail> {
 }
 
 #[test]
-fn the_decoder_reads_anew_behind_a_lead_surrogate(rt: HostRuntime) -> Result<(), Fail> {
+fn the_decoder_reads_anew_after_a_lead_surrogate(rt: HostRuntime) -> Result<(), Fail> {
     let mut decoder = Utf16Decoder::new(false);
     stop(&mut decoder, b"\x3D\xD8A\0", (2, 1), 3, "")?;
     end(&mut decoder, b"\0", "A")

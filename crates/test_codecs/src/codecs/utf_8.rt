@@ -73,7 +73,7 @@ fn a_malformed_sequence_waits_for_room(rt: HostRuntime) -> Result<(), Fail> {
 }
 
 #[test]
-fn a_sequence_behind_a_malformed_one_waits_for_room(rt: HostRuntime) -> Result<(), Fail> {
+fn a_sequence_after_a_malformed_one_waits_for_room(rt: HostRuntime) -> Result<(), Fail> {
     let (empty, full) = (CoderResult::InputEmpty, CoderResult::OutputFull);
     let rows = [
         (2, (full, 2, 0, false), ""),

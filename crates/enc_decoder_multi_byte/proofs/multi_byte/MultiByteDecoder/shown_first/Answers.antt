@@ -21,7 +21,7 @@ returns-in-Complete-clause-shown g c =
           (at_most_three c.args.self.pending) (omega (arith, one_longer, is_len))
           (ap (λ p. multi_byte_state g.E.MultiByte.prefix (bytes_of_pending p)) c.complete.ensures.next
           ∙ ap (multi_byte_state g.E.MultiByte.prefix)
-          (c.behind.ensures ∙ ap (λ i. drop i (bytes_of_pending c.args.self.pending))
+          (c.skip.ensures ∙ ap (λ i. drop i (bytes_of_pending c.args.self.pending))
           (omega (arith, one_longer, is_len)))),
       refl,
     )
@@ -37,6 +37,6 @@ returns-in-Malformed-clause-shown g c =
           (settles_malformed g.E.MultiByte.prefix c.laws.ensures (front ++ c.in-Some.byte ∷ []) c.in-Malformed.len (sym c.classify.ensures ∙ c.in-Malformed.is))
           (at_most_three c.args.self.pending) refl
           (ap (λ p. multi_byte_state g.E.MultiByte.prefix (bytes_of_pending p)) c.malformed.ensures.next
-          ∙ ap (multi_byte_state g.E.MultiByte.prefix) c.behind-in-Malformed.ensures),
+          ∙ ap (multi_byte_state g.E.MultiByte.prefix) c.skip-in-Malformed.ensures),
       refl,
     )

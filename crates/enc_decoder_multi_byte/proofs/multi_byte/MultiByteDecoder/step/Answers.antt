@@ -26,7 +26,7 @@ returns-in-Malformed g c =
     (sym c.classify.ensures ∙ c.in-Malformed.is))
     (at_most_three c.args.self.pending) refl
     (ap (λ p. multi_byte_state g.E.MultiByte.prefix (bytes_of_pending p)) c.malformed.ensures.next
-    ∙ ap (multi_byte_state g.E.MultiByte.prefix) c.behind.ensures))
+    ∙ ap (multi_byte_state g.E.MultiByte.prefix) c.skip.ensures))
 
 pub returns-in-Incomplete : goal.returns-in-Incomplete
 returns-in-Incomplete g c =

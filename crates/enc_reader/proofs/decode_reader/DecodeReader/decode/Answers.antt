@@ -31,6 +31,6 @@ invariant_of-self g c =
       within = rw c.decode_between-read.ensures.kept r.within;
       some = rw c.decode_between-read.ensures.kept r.some;
       seen = λ f. only_at_end _ _ _ _ _ _ _ _ _ decodes f;
-      none_told = r.none_told;
+      exhausted = r.exhausted;
       going = r.going;
     }

@@ -9,7 +9,7 @@ returns-then-len-ge-LEAST_LENT-clause-ok g c =
     rw c.fill.ensures.had_errors
     (HandsOut-filled c.in_ok-fill.ensures.ok
     (HandsOut-chunk _ _ r.filled r.at c.ascii_ahead-len.result r.input.now _ _ r.decoded r.within c.ascii_ahead-len.ensures.within
-    (c.ascii_ahead-len.ensures.own some) r.none_told))
+    (c.ascii_ahead-len.ensures.own some) r.exhausted))
 
 pub returns-then-len-ge-LEAST_LENT-clause-utf_8 : goal.returns-then-len-ge-LEAST_LENT-clause-utf_8
 returns-then-len-ge-LEAST_LENT-clause-utf_8 g c =
@@ -17,7 +17,7 @@ returns-then-len-ge-LEAST_LENT-clause-utf_8 g c =
     let some : 0 < c.ascii_ahead-len.result = omega arith in
     handed_is_utf_8
     (HandsOut-chunk _ _ r.filled r.at c.ascii_ahead-len.result r.input.now _ r.had_errors r.decoded r.within c.ascii_ahead-len.ensures.within
-    (c.ascii_ahead-len.ensures.own some) r.none_told)
+    (c.ascii_ahead-len.ensures.own some) r.exhausted)
 
 pub returns-in_err-len-clause-reader_fault : goal.returns-in_err-len-clause-reader_fault
 returns-in_err-len-clause-reader_fault g c =

@@ -2,7 +2,7 @@ use Rattle.std.proofs.Common.{refl, sym, ◌∙◌, ap, subst, take}
 use Rattle.std.proofs.Math.Seq.{take-length}
 use Rattle.enc_decoder.proofs.ByteLemmas.{bytes_of_slice}
 use Rattle.enc_stream.specs.Sniffing.{ExtendsHeldMark}
-use Rattle.enc_stream.proofs.HeldMarkLemmas.{tells_held}
+use Rattle.enc_stream.proofs.HeldMarkLemmas.{shows_held}
 use Rattle.enc_stream.proofs.AfterMarkLemmas.{all_held, awaiting_goes_on, after_a_mark, after_text}
 use Rattle.enc_stream.proofs.decoder.Decoder.convert.Goals as goal
 
@@ -16,7 +16,7 @@ returns-in-Open g c =
       call = rw (← c.self.view_is, sniffed.1)
           (all_held _ _ _ _ _ _ c.self.invariant.0.1 c.sniff-sniffed.ensures.within extends (sym extends.awaits
           ∙ sniffed.2) _ _ _ (awaiting_goes_on _ sniffed.2) sniffed.0);
-      held = rw (← c.self.view_is) (tells_held _ _ _ c.self.invariant.0.1);
+      held = rw (← c.self.view_is) (shows_held _ _ _ c.self.invariant.0.1);
     }
 
 pub returns-in-Mark : goal.returns-in-Mark
@@ -28,7 +28,7 @@ returns-in-Mark g c =
           (bytes_of_slice _ c.type_inv.src) _ _ _ _ _ _ _
           (rw (c.split_at.ensures.back, c.self-in-Mark.view_is, c.start.ensures) at
           c.convert_text-result.ensures.call));
-      held = rw (← c.self.view_is) (tells_held _ _ _ c.self.invariant.0.1);
+      held = rw (← c.self.view_is) (shows_held _ _ _ c.self.invariant.0.1);
     }
 
 pub returns-in-Text : goal.returns-in-Text
@@ -39,5 +39,5 @@ returns-in-Text g c =
           rw (← c.self.view_is) (after_text _ _ _ _ _ _ _ c.self.invariant.0.1 c.sniff-sniffed.ensures.within f.0 refl _
           _ (bytes_of_slice _ c.type_inv.src) _ _ _ _ _ _ _
           (rw c.split_at.ensures.back at c.convert_text-result-in-Text.ensures.call));
-      held = rw (← c.self.view_is) (tells_held _ _ _ c.self.invariant.0.1);
+      held = rw (← c.self.view_is) (shows_held _ _ _ c.self.invariant.0.1);
     }

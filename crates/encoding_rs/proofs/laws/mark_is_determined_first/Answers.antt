@@ -2,7 +2,7 @@
 use Rattle.std.proofs.Common.{refl}
 use Rattle.enc_stream.specs.Bom.{marks_looked_for}
 use Rattle.enc_stream.proofs.MarkFirstLemmas as settled
-use Rattle.encoding_rs.proofs.laws.mark_is_told_first.Goals as goal
+use Rattle.encoding_rs.proofs.laws.mark_is_determined_first.Goals as goal
 
 pub returns-clause-decided : goal.returns-clause-decided
 returns-clause-decided c = settled.mark_is_decided (marks_looked_for c.args.handling c.args.encoding)

@@ -1,7 +1,7 @@
 use Rattle.std.proofs.Common.{◌∙◌, ap, sym, arith, chars}
 use Rattle.encoding_rs.proofs.CharsOfTextLemmas.{IsCut, begin, one_more, boundary, front_chars, cut_at, cut_at_end}
-use Rattle.encoding_rs.proofs.chars_of_text.place_behind.Goals.{else-loop-test, then-loop-test+in_default}
-use Rattle.encoding_rs.proofs.chars_of_text.place_behind.Goals as goal
+use Rattle.encoding_rs.proofs.chars_of_text.place_after.Goals.{else-loop-test, then-loop-test+in_default}
+use Rattle.encoding_rs.proofs.chars_of_text.place_after.Goals as goal
 
 pub loop-init : goal.loop-init
 loop-init c = rw c.chars-rest.ensures.rest (begin c.args.text.now c.utf8.text)
