@@ -51,6 +51,7 @@ const PADDED: &[u8] =
 const WORDS: &[(&[u8], Option<Encoding>)] = &[
     (PADDED, Some(UTF_8)),
     (b"unicode11utf8", Some(UTF_8)),
+    (b"utf-8", Some(UTF_8)),
     (b"UTF-8", Some(UTF_8)),
     (b"utf-16be", Some(UTF_16BE)),
     (b"latin2", Some(ISO_8859_2)),

@@ -324,10 +324,10 @@ fn compare_latin_1(
     want: Option<usize>,
 ) {
     let mut decoder = new_decoder(encoding, handling);
-    let mut buffer = [0; MOST_ROOM];
+    let mut units = [0; 4];
     for chunk in chunks {
         assert!(rt; !decoder.is_finished());
-        let (stop, _, _, _) = decoder.decode_to_utf8(chunk, &mut buffer, false);
+        let (stop, _, _, _) = decoder.decode_to_utf16(chunk, &mut units, false);
         assert_eq!(rt; stop, CoderResult::InputEmpty);
     }
     assert_eq!(rt;

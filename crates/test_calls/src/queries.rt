@@ -433,14 +433,25 @@ const BROKEN_MARKS: &[(Encoding, Chunks)] = &[
     (UTF_16LE, &[(b"\xFF\xFF", true)]),
 ];
 
-/// A call into UTF-16 reads all of a chunk, in the room of the length query for it.
-fn decode_in_room(rt: &impl Abort, decoder: &mut Decoder, (chunk, last): (&[u8], bool)) {
-    let mut units = [0; 16];
-    let room = lengths(rt, decoder, chunk.len()).2.unwrap_or(MAX);
-    assert!(rt; room <= 16);
+/// Decodes a chunk into UTF-16, and reads all of it. Returns the number of code units written.
+fn decode_chunk(
+    rt: &impl Abort,
+    decoder: &mut Decoder,
+    (chunk, last): (&[u8], bool),
+    units: &mut [u16],
+) -> usize {
     assert!(rt; !decoder.is_finished());
-    let (result, read, _, _) = decoder.decode_to_utf16(chunk, &mut units[..room], last);
+    let (result, read, written, _) = decoder.decode_to_utf16(chunk, units, last);
     assert_eq!(rt; (result, read), (EMPTY, chunk.len()));
+    written
+}
+
+/// Decodes a chunk in the room of the length query for it.
+fn decode_in_room(rt: &impl Abort, decoder: &mut Decoder, chunk: (&[u8], bool)) {
+    let mut units = [0; 16];
+    let room = lengths(rt, decoder, chunk.0.len()).2.unwrap_or(MAX);
+    assert!(rt; room <= 16);
+    let _ = decode_chunk(rt, decoder, chunk, &mut units[..room]);
 }
 
 #[test]
@@ -451,5 +462,85 @@ fn a_mark_that_breaks_off_has_room(rt: HostRuntime) {
             decode_in_room(&rt, &mut decoder, *chunk);
         }
         assert!(rt; decoder.is_finished());
+    }
+}
+
+/// Chunks of a decoder of windows-1252 that looks for all byte order marks, their text in UTF-16,
+/// and the encoding of the decoder after them.
+type SniffedRow = (&'static [&'static [u8]], &'static [u16], Encoding);
+
+const SNIFFED: &[SniffedRow] = &[
+    (&[b"ab"], &[0x61, 0x62], WINDOWS_1252),
+    // the byte order mark of UTF-8
+    (&[b"\xEF\xBB\xBFab"], &[0x61, 0x62], UTF_8),
+    (&[b"\xEF", b"\xBB\xBFab"], &[0x61, 0x62], UTF_8),
+    (&[b"\xEF\xBB", b"\xBFab"], &[0x61, 0x62], UTF_8),
+    (&[b"\xEF\xBB\xBF", b"ab"], &[0x61, 0x62], UTF_8),
+    (&[b"\xEF\xBB\xBFa", b"b"], &[0x61, 0x62], UTF_8),
+    (&[b"\xEF\xBB", b"\xBF", b"ab"], &[0x61, 0x62], UTF_8),
+    (&[b"\xEF", b"\xBB", b"\xBFab"], &[0x61, 0x62], UTF_8),
+    (&[b"\xEF", b"\xBB\xBF", b"ab"], &[0x61, 0x62], UTF_8),
+    (
+        &[b"\xEF", b"\xBB", b"\xBF", b"a", b"b"],
+        &[0x61, 0x62],
+        UTF_8,
+    ),
+    (&[b"\xEF\xBB\xBF"], &[], UTF_8),
+    // one that breaks off
+    (&[b"\xEF\xBBab"], &[0xEF, 0xBB, 0x61, 0x62], WINDOWS_1252),
+    (
+        &[b"\xEF", b"\xBBab"],
+        &[0xEF, 0xBB, 0x61, 0x62],
+        WINDOWS_1252,
+    ),
+    (&[b"\xEFab"], &[0xEF, 0x61, 0x62], WINDOWS_1252),
+    (&[b"\xEF", b"ab"], &[0xEF, 0x61, 0x62], WINDOWS_1252),
+    (&[b"\xEF\xBB"], &[0xEF, 0xBB], WINDOWS_1252),
+    (&[b"\xEF", b"\xBB"], &[0xEF, 0xBB], WINDOWS_1252),
+    (&[b"\xEF"], &[0xEF], WINDOWS_1252),
+    (&[b"\xFEab"], &[0xFE, 0x61, 0x62], WINDOWS_1252),
+    (&[b"\xFE", b"ab"], &[0xFE, 0x61, 0x62], WINDOWS_1252),
+    (&[b"\xFE"], &[0xFE], WINDOWS_1252),
+    (&[b"\xFFab"], &[0xFF, 0x61, 0x62], WINDOWS_1252),
+    (&[b"\xFF", b"ab"], &[0xFF, 0x61, 0x62], WINDOWS_1252),
+    (&[b"\xFF"], &[0xFF], WINDOWS_1252),
+    // those of UTF-16
+    (&[b"\xFE\xFF"], &[], UTF_16BE),
+    (&[b"\xFE", b"\xFF"], &[], UTF_16BE),
+    (&[b"\xFF\xFE"], &[], UTF_16LE),
+    (&[b"\xFF", b"\xFE"], &[], UTF_16LE),
+];
+
+/// The number of bytes in the chunks.
+fn bytes_in(chunks: &[&[u8]]) -> usize {
+    let mut bytes = 0_usize;
+    for chunk in chunks {
+        bytes = bytes.saturating_add(chunk.len());
+    }
+    bytes
+}
+
+/// Decodes the chunks one after the other, in the room of one length query for all of them.
+fn compare_sniffed(rt: &impl Abort, (chunks, want, used): SniffedRow) {
+    let mut decoder = WINDOWS_1252.new_decoder();
+    let mut units = [0; 16];
+    let room = lengths(rt, &decoder, bytes_in(chunks)).2.unwrap_or(MAX);
+    let (mut written, mut to_come) = (0_usize, chunks.len());
+    for chunk in chunks {
+        to_come = to_come.saturating_sub(1);
+        assert!(rt; written <= room && room <= 16);
+        let dst = &mut units[written..room];
+        let more = decode_chunk(rt, &mut decoder, (*chunk, to_come == 0), dst);
+        written = written.saturating_add(more);
+    }
+    assert!(rt; written <= 16);
+    assert_eq!(rt; &units[..written], want, "{chunks:?}");
+    assert_eq!(rt; decoder.encoding(), used, "{chunks:?}");
+}
+
+#[test]
+fn one_room_is_enough_for_all_chunks(rt: HostRuntime) {
+    for row in SNIFFED {
+        compare_sniffed(&rt, *row);
     }
 }

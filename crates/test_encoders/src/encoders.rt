@@ -13,8 +13,8 @@ mod runs;
 mod sums;
 
 use encoding_rs::{
-    BIG5, EUC_JP, EUC_KR, EncoderResult, GB18030, GBK, ISO_2022_JP, REPLACEMENT, SHIFT_JIS, UTF_8,
-    UTF_16BE, UTF_16LE, WINDOWS_1252, WINDOWS_1257, X_USER_DEFINED,
+    BIG5, EUC_JP, EUC_KR, EncoderResult, Encoding, GB18030, GBK, ISO_2022_JP, REPLACEMENT,
+    SHIFT_JIS, UTF_8, UTF_16BE, UTF_16LE, WINDOWS_1252, WINDOWS_1257, X_USER_DEFINED,
 };
 use std::test::Fail;
 use test_support::encoding::call_rows::{EncoderCall, make_call_from_utf16, make_encoder_calls};
@@ -141,38 +141,50 @@ fn encodes_chinese(rt: HostRuntime) -> Result<(), Fail> {
     compare_encoded(rt.alloc(), GBK, GBK_ROWS)
 }
 
-const SHIFT_JIS_CALLS: &[EncoderCall<'static>] = &[
-    ("abc一", false, 4, (FULL, 3, 3), b"abc"),
-    ("一", true, 1, (FULL, 0, 0), b""),
-    ("一", true, 2, (EMPTY, 3, 2), b"\x88\xEA"),
-];
-
-const GB18030_CALLS: &[EncoderCall<'static>] = &[
-    ("abc𐀀", false, 6, (FULL, 3, 3), b"abc"),
-    ("𐀀", false, 4, (EMPTY, 4, 4), b"\x900\x810"),
+/// The calls of one encoder in each row.
+const STOPS: &[(Encoding, &[EncoderCall<'static>])] = &[
     (
-        "\u{E5E5}",
-        true,
-        4,
-        (EncoderResult::Unmappable('\u{E5E5}'), 3, 0),
-        b"",
+        SHIFT_JIS,
+        &[
+            ("abc一", false, 4, (FULL, 3, 3), b"abc"),
+            ("一", true, 1, (FULL, 0, 0), b""),
+            ("一", true, 2, (EMPTY, 3, 2), b"\x88\xEA"),
+        ],
     ),
+    (
+        GB18030,
+        &[
+            ("abc𐀀", false, 6, (FULL, 3, 3), b"abc"),
+            ("𐀀", false, 4, (EMPTY, 4, 4), b"\x900\x810"),
+            (
+                "\u{E5E5}",
+                true,
+                4,
+                (EncoderResult::Unmappable('\u{E5E5}'), 3, 0),
+                b"",
+            ),
+        ],
+    ),
+    (GB18030, &[("abc\u{FF00}", false, 6, (FULL, 3, 3), b"abc")]),
 ];
 
-const THEN_KANJI: &[u16] = &[0x61, 0x62, 0x63, 0x4E00];
-
-const THEN_A_PAIR: &[u16] = &[0x61, 0x62, 0x63, 0xD800, 0xDC00];
+/// Texts of UTF-16 that are not the last, and a room in which the last character doesn't fit.
+const STOPS_FROM_UTF16: &[(Encoding, &[u16], usize)] = &[
+    (SHIFT_JIS, &[0x61, 0x62, 0x63, 0x4E00], 4),
+    (GB18030, &[0x61, 0x62, 0x63, 0xD800, 0xDC00], 6),
+    (GB18030, &[0x61, 0x62, 0x63, 0xFF00], 6),
+];
 
 #[test]
 fn stops_before_what_does_not_fit(rt: HostRuntime) -> Result<(), Fail> {
-    let (mut shift_jis, mut gb18030) = (SHIFT_JIS.new_encoder(), GB18030.new_encoder());
-    make_encoder_calls(rt.alloc(), &mut shift_jis, SHIFT_JIS_CALLS)?;
-    make_encoder_calls(rt.alloc(), &mut gb18030, GB18030_CALLS)?;
-    let (mut shift_jis, mut gb18030) = (SHIFT_JIS.new_encoder(), GB18030.new_encoder());
-    let abc = (THEN_KANJI, false, 4);
-    make_call_from_utf16(rt.alloc(), &mut shift_jis, abc, (FULL, 3, 3), b"abc")?;
-    let abc = (THEN_A_PAIR, false, 6);
-    make_call_from_utf16(rt.alloc(), &mut gb18030, abc, (FULL, 3, 3), b"abc")
+    for (encoding, calls) in STOPS {
+        make_encoder_calls(rt.alloc(), &mut encoding.new_encoder(), calls)?;
+    }
+    for (encoding, units, room) in STOPS_FROM_UTF16 {
+        let (mut encoder, abc) = (encoding.new_encoder(), (*units, false, *room));
+        make_call_from_utf16(rt.alloc(), &mut encoder, abc, (FULL, 3, 3), b"abc")?;
+    }
+    Ok(())
 }
 
 const AFTER_KANJI: &[EncoderCall<'static>] = &[

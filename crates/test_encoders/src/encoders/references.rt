@@ -64,8 +64,13 @@ const ROWS: &[(Encoding, Calls)] = &[
         ],
     ),
     // a call with fewer than 10 bytes does nothing, and only a pending state keeps it from its end
-    (ISO_2022_JP, &[("", false, 8, (EMPTY, 0, 0, false), b"")]),
-    (ISO_2022_JP, &[("", true, 8, (EMPTY, 0, 0, false), b"")]),
+    (
+        ISO_2022_JP,
+        &[
+            ("", false, 8, (EMPTY, 0, 0, false), b""),
+            ("", true, 8, (EMPTY, 0, 0, false), b""),
+        ],
+    ),
     (
         ISO_2022_JP,
         &[
