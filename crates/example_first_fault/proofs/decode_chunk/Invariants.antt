@@ -1,0 +1,6 @@
+use Rattle.std.proofs.Common.{◌≡◌, false}
+use Rattle.encoding_rs.specs.Decoding.{has_finished}
+use Rattle.example_first_fault.proofs.decode_chunk.Given as goal
+
+abbrev pub invariant-pieces : goal.invariant-pieces
+invariant-pieces l = has_finished l.decoder ≡ false
