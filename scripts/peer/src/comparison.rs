@@ -1,7 +1,7 @@
 //! Comparing both on inputs from one encoding to another, counting, and finding the smallest input that differs.
-use crate::oracle::{self, Answer};
 use crate::recode::{Delivery, Recode};
 use encoding_rs::Encoding;
+use peer::oracle::{self, Answer};
 use std::fmt::Write;
 use std::io;
 use std::ops::Range;

@@ -1,14 +1,13 @@
 //! Random and hostile whole inputs.
 use crate::comparison::Comparison;
-use crate::random::Random;
 use crate::recode::Delivery;
 use crate::sequences::of_tokens;
-use crate::tokens::{tokens, MARKS};
-use encoding_rs::{Encoding, UTF_16BE, UTF_16LE};
+use encoding_rs::{Encoding, UTF_16BE};
+use peer::inputs::{damaged, kinds, random_tokens, text_of, TEXT};
+use peer::random::Random;
+use peer::tokens::{tokens, MARKS};
 use std::io;
 
-/// Lines in many languages.
-pub const TEXT: &str = include_str!("../text.txt");
 /// So long are recode's own buffers.
 pub const BUFFER: usize = 65536;
 /// How long the long inputs are: about one, two and more buffers.
@@ -93,13 +92,6 @@ pub fn random(comparison: &mut Comparison, short: usize, rounds: usize, seed: u6
     Ok(())
 }
 
-/// An input of each kind, all of about this length.
-pub fn kinds(encoding: &'static Encoding, random: &mut Random, length: usize) -> [Vec<u8>; 4] {
-    let text = text_of(encoding, length);
-    let damaged = damaged(&text, random, encoding);
-    [random.bytes(length), random_tokens(encoding, random, length), text, damaged]
-}
-
 /// Tokens that lie across the ends of recode's buffers, at each place that its longest sequence can have there.
 pub fn boundaries(comparison: &mut Comparison, seed: u64) -> io::Result<()> {
     let encoding = comparison.encoding;
@@ -144,64 +136,4 @@ pub fn pieces(comparison: &mut Comparison, seed: u64) -> io::Result<()> {
         }
     }
     Ok(())
-}
-
-/// Random tokens to this length, where the last may be broken off.
-fn random_tokens(encoding: &'static Encoding, random: &mut Random, length: usize) -> Vec<u8> {
-    let tokens = tokens(encoding);
-    let mut input = Vec::new();
-    while input.len() < length {
-        input.extend_from_slice(random.pick::<&[u8]>(tokens));
-        if random.below(8) == 0 {
-            input.push(random.byte());
-        }
-    }
-    input.truncate(length);
-    input
-}
-
-/// So many bytes of the text in the encoding, from its start on, again and again; the last character may be broken off.
-/// What the encoding doesn't have is written as a decimal reference.
-fn text_of(encoding: &'static Encoding, length: usize) -> Vec<u8> {
-    in_encoding(encoding, TEXT).into_iter().cycle().take(length).collect()
-}
-
-/// A text in the encoding, for recode to decode.
-pub fn in_encoding(encoding: &'static Encoding, text: &str) -> Vec<u8> {
-    if encoding == UTF_16BE {
-        text.encode_utf16().flat_map(u16::to_be_bytes).collect()
-    } else if encoding == UTF_16LE {
-        text.encode_utf16().flat_map(u16::to_le_bytes).collect()
-    } else {
-        encoding.encode(text).0.into_owned()
-    }
-}
-
-/// The text with damage at random places: bytes changed, left out, put in, doubled and cut off.
-fn damaged(text: &[u8], random: &mut Random, encoding: &'static Encoding) -> Vec<u8> {
-    let mut input = Vec::new();
-    let mut rest = text;
-    while !rest.is_empty() {
-        let whole = rest.len().min(random.below(200));
-        input.extend_from_slice(&rest[..whole]);
-        rest = damage(&rest[whole..], &mut input, random, encoding);
-    }
-    input
-}
-
-/// One damage before the rest, and the rest after it.
-fn damage<'a>(rest: &'a [u8], input: &mut Vec<u8>, random: &mut Random, encoding: &'static Encoding) -> &'a [u8] {
-    let some = rest.len().min(1 + random.below(5));
-    match random.below(5) {
-        0 => input.push(random.byte()),
-        1 => return &rest[some..],
-        2 => input.extend_from_slice(&rest[..some]),
-        3 => input.extend_from_slice(random.pick::<&[u8]>(tokens(encoding))),
-        _ if rest.is_empty() => {}
-        _ => {
-            input.push(rest[0] ^ (1 << random.below(8)));
-            return &rest[1..];
-        }
-    }
-    rest
 }

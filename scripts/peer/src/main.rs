@@ -5,16 +5,13 @@
 //! run.
 mod comparison;
 mod hostile;
-mod oracle;
 mod pairs;
-mod random;
 mod recode;
 mod sequences;
-#[rustfmt::skip]
-mod tokens;
 
 use comparison::{hex, Comparison};
 use encoding_rs::{Encoding, REPLACEMENT, UTF_16BE, UTF_16LE, UTF_8};
+use peer::{oracle, tokens};
 use recode::{Delivery, Recode};
 use std::io;
 use std::path::PathBuf;

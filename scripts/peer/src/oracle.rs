@@ -95,7 +95,8 @@ impl Changed {
     }
 }
 
-fn since(character: char) -> char {
+/// The character since GB18030-2022.
+pub fn since(character: char) -> char {
     match CHANGED.iter().find(|changed| changed.before == character) {
         Some(changed) => changed.since,
         None => character,

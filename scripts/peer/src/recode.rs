@@ -1,5 +1,5 @@
 //! Running the program recode on an input.
-use crate::oracle::Answer;
+use peer::oracle::Answer;
 use std::fs::File;
 use std::io::{self, Read, Write};
 use std::path::PathBuf;

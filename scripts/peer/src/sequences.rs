@@ -1,10 +1,9 @@
 //! Every sequence of some length, and samples of longer ones, joined so that each is decoded from the first state on.
 use crate::comparison::Comparison;
-use crate::oracle;
-use crate::random::Random;
 use crate::recode::Delivery;
-use crate::tokens;
 use encoding_rs::{Encoding, ISO_2022_JP, UTF_16BE, UTF_16LE};
+use peer::random::Random;
+use peer::{oracle, tokens};
 use std::io;
 
 /// The number of sequences that are joined to one input.

@@ -6,10 +6,7 @@
 //! are without replacement 0x200 and the character that is reported, and with it the bytes of its reference, with the
 //! escape sequence that may follow, and 0x200. The characters that GB18030-2022 changed are left out in GB18030 and GBK.
 use encoding_rs::{BIG5, EncoderResult, Encoding, GB18030, GBK};
-
-#[path = "../oracle.rs"]
-#[allow(dead_code)]
-mod oracle;
+use peer::oracle;
 
 const OFFSET_BASIS: u64 = 0xCBF2_9CE4_8422_2325;
 const PRIME: u64 = 0x100_0000_01B3;

@@ -1,0 +1,141 @@
+//! The lines that describe calls.
+
+ghost use Rattle.std.specs.Prelude.{◌<◌};
+
+use crate::LENGTH;
+use encoding_rs::{BomHandling, Encoding};
+use std::alloc::{AllocError, Global};
+
+/// A line: a call of a new decoder or encoder, and the input that it gets before.
+#[derive(Drop)]
+pub struct Line {
+    pub decodes: bool,
+    pub encoding: Encoding,
+    /// The byte order marks that a decoder looks for.
+    pub marks: BomHandling,
+    before: Vec<u8>,
+    chunk: Vec<u8>,
+    room: usize,
+    last: bool,
+    utf16: bool,
+    replaces: bool,
+}
+
+/// How a call is made.
+#[derive(Clone, Copy)]
+pub struct Call<'a> {
+    /// The input: bytes to decode, UTF-8 or code units in UTF-16BE to encode.
+    pub src: &'a [u8],
+    /// The greatest number of units to write.
+    pub room: usize,
+    pub last: bool,
+    pub utf16: bool,
+    pub replaces: bool,
+}
+
+impl Line {
+    /// The call before, whose answer does not count.
+    pub fn before(&self) -> Call<'_> {
+        Call {
+            src: &self.before,
+            room: LENGTH,
+            last: false,
+            utf16: self.utf16,
+            replaces: true,
+        }
+    }
+
+    /// The call.
+    pub fn call(&self) -> Call<'_> {
+        Call {
+            src: &self.chunk,
+            room: self.room,
+            last: self.last,
+            utf16: self.utf16,
+            replaces: self.replaces,
+        }
+    }
+}
+
+impl<'a> Call<'a> {
+    /// The call for the rest of the input, from the byte `at` on.
+    pub fn rest(self, at: usize) -> Call<'a> {
+        let (_, src) = self.src.split_at(at.min(self.src.len()));
+        Call {
+            src,
+            room: LENGTH,
+            last: true,
+            replaces: true,
+            ..self
+        }
+    }
+}
+
+/// Returns the value of a hexadecimal digit, or 0 for another byte.
+fn digit(byte: u8) -> u8
+    ensures { result < 16 }
+{
+    match byte {
+        b'0'..=b'9' => byte - b'0',
+        b'A'..=b'F' => byte - b'A' + 10,
+        _ => 0,
+    }
+}
+
+/// Returns the bytes that pairs of hexadecimal digits stand for. None stand in `-`.
+fn bytes_of(alloc: Global, word: &str) -> Result<Vec<u8>, AllocError> {
+    let digits = word.as_bytes();
+    let mut bytes = Vec::new(alloc);
+    for i in 0..digits.len() / 2 {
+        bytes.push(16 * digit(digits[2 * i]) + digit(digits[2 * i + 1]))?;
+    }
+    Ok(bytes)
+}
+
+/// Returns the byte order marks that a word names.
+fn marks_of(word: &str) -> BomHandling {
+    match word {
+        "sniff" => BomHandling::Sniff,
+        "remove" => BomHandling::Remove,
+        _ => BomHandling::Off,
+    }
+}
+
+/// Reads a line. `None` if a word is missing, a label is unknown or a room is no number.
+pub fn line_of(alloc: Global, line: &str) -> Result<Option<Line>, AllocError> {
+    let mut words = line.split_ascii_whitespace();
+    let (Some(direction), Some(label), Some(marks), Some(before), Some(chunk)) = (
+        words.next(),
+        words.next(),
+        words.next(),
+        words.next(),
+        words.next(),
+    ) else {
+        return Ok(None);
+    };
+    let (Some(room), Some(last), Some(units), Some(mode)) = (
+        words.next(),
+        words.next(),
+        words.next(),
+        words.next(),
+    ) else {
+        return Ok(None);
+    };
+    let (Some(encoding), Some(room)) = (
+        Encoding::for_label(label.as_bytes()),
+        room.parse::<usize>().ok(),
+    ) else {
+        return Ok(None);
+    };
+    Ok(Some(Line {
+        decodes: direction == "decode",
+        encoding,
+        marks: marks_of(marks),
+        before: bytes_of(alloc, before)?,
+        chunk: bytes_of(alloc, chunk)?,
+        room,
+        last: last == "last",
+        utf16: units == "utf16",
+        replaces: mode == "replace",
+    }))
+}

@@ -1,0 +1,419 @@
+"""Compares single calls of the library with those of the Rust crate encoding_rs: compare_calls.py OURS CRATE SEED COUNT | -
+
+For scripts/compare-crate. OURS is the program of crates/compare_calls, which says how a line stands for a call. CRATE is
+the program of scripts/peer/src/bin/calls. It makes COUNT random and hostile lines, and answers as OURS does. Compared are
+the result, the units read and written, the flag, the units, the encoding after the call, the length that the call's query
+returned before, the length of the Latin-1 prefix or whether an encoder had a pending state, and the units that the rest
+of the input gives.
+
+Where the two differ by design, or where the crate has a fault, a rule says so. Each line comes under one of RULES or
+differs. Of the first lines that differ the smallest that was found is shown. The status is 0 where none differs.
+"""
+
+import collections
+import itertools
+import re
+import subprocess
+import sys
+from dataclasses import dataclass, replace
+
+# The number of lines that are compared at a time, and of those that differ and are shown.
+BATCH, SHOWN = 100_000, 5
+# The room of a call for the rest of an input.
+AMPLE = 4096
+
+ALIKE = "alike in each answer"
+EARLIER = "the crate returns OutputFull, at an earlier place or for a later sequence"
+PENDING = "Malformed at one place, with other bytes read and pending"
+HELD_MARK = "Malformed at EF, where the crate does not count the BB that it holds"
+AHEAD = "OutputFull at one place of UTF-16, where the crate has read the code unit that does not fit"
+PANIC = "the crate panics, in less room than it asks for or where U+FFFD does not fit"
+LOST = "the crate loses the lead byte that it holds"
+SPLIT = "the crate takes a pair of surrogates at the end of the room for two without a partner"
+RULES = (ALIKE, EARLIER, PENDING, HELD_MARK, AHEAD, PANIC, LOST, SPLIT)
+
+RENEWED = "characters that GB18030-2022 changed"
+OTHER_LENGTHS = "other lengths, as the tables have them"
+BYTE_80 = "a Latin-1 prefix that the crate ends at byte 80 of Shift_JIS"
+ASCII_END = "a Latin-1 prefix in whose length the crate leaves out the ASCII bytes at the end"
+NOTES = (RENEWED, OTHER_LENGTHS, BYTE_80, ASCII_END)
+
+TWO_BYTES = ("Big5", "EUC-KR", "Shift_JIS")
+UTF_16 = ("UTF-16BE", "UTF-16LE")
+SECOND_HALVES = [bytes([it]) for it in range(0xDC, 0xE0)]
+BIG5_PAIRS = ("\u00ca\u0304", "\u00ca\u030c", "\u00ea\u0304", "\u00ea\u030c")
+MULTI_BYTE = (*TWO_BYTES, "EUC-JP", "GBK", "gb18030", "ISO-2022-JP", "UTF-8", *UTF_16, "replacement")
+# The crate's lengths for n units, where the library has others: to UTF-8 with and without replacement, to UTF-16, from
+# UTF-8, and from UTF-16, without the room for a reference.
+CRATE_LENGTHS = {
+    "Big5": lambda n: (3 + 3 * n, 2 + 2 * n, 1 + n, n + 1, 2 * n),
+    "EUC-JP": lambda n: (3 * n, 2 + n + (n + 1) // 2, n, n + 1, 2 * n),
+    "EUC-KR": lambda n: (3 * n, 2 + n + (n + 1) // 2, n, n + 1, 2 * n),
+    "GBK": lambda n: (1 + 3 * n, 1 + 3 * n, 1 + n, n + 3, 2 * n + 2),
+    "gb18030": lambda n: (1 + 3 * n, 1 + 3 * n, 1 + n, 2 * n + 2, 4 * n),
+    "ISO-2022-JP": lambda n: (3 * n, 3 * n, n, 3 * n + 3, 4 * n + 3 + (n + 1) // 2),
+    "Shift_JIS": lambda n: (3 * n, 3 * n, n, n + 1, 2 * n),
+}
+# The same of the library.
+LENGTHS = {it: lambda n: (3 * n, 3 * n, n, n, 2 * n) for it in CRATE_LENGTHS}
+LENGTHS["gb18030"] = lambda n: (3 * n, 3 * n, n, 2 * n, 4 * n)
+LENGTHS["ISO-2022-JP"] = lambda n: (3 * n, 3 * n, n, 4 * n + 3, 5 * n + 3)
+
+
+@dataclass(frozen=True)
+class Line:
+    """A call, after one for the bytes `before`."""
+
+    direction: str
+    label: str
+    marks: str
+    before: bytes
+    chunk: bytes
+    room: int
+    last: str
+    units: str
+    mode: str
+
+    @classmethod
+    def of(cls, text):
+        direction, label, marks, before, chunk, room, *rest = text.split()
+        return cls(direction, label, marks, unhex(before), unhex(chunk), int(room), *rest)
+
+    def __str__(self):
+        words = (self.direction, self.label, self.marks, hexed(self.before), hexed(self.chunk), str(self.room))
+        return " ".join((*words, self.last, self.units, self.mode))
+
+    @property
+    def decodes(self):
+        return self.direction == "decode"
+
+    @property
+    def replaces(self):
+        return self.mode == "replace"
+
+    @property
+    def width(self):
+        """The bytes of a unit of the input."""
+        return 1 if self.decodes or self.units == "utf8" else 2
+
+    @property
+    def code(self):
+        """Python's codec of the units that a decoder writes."""
+        return "utf-8" if self.units == "utf8" else "utf-16-be"
+
+    @property
+    def least(self):
+        """The room with which the crate always makes progress."""
+        if self.decodes:
+            return 4 if self.units == "utf8" else 2
+        return 14 if self.replaces else 4
+
+
+@dataclass(frozen=True)
+class Answer:
+    """The answer of a program to a line."""
+
+    result: str
+    read: int
+    written: int
+    replaced: str
+    units: bytes
+    encoding: str
+    query: int
+    state: str
+    rest: bytes
+    is_renewed: bool = False
+
+    @classmethod
+    def of(cls, text):
+        result, read, written, replaced, units, encoding, query, state, rest = text.split()
+        return cls(result, int(read), int(written), replaced, unhex(units), encoding, int(query), state, unhex(rest))
+
+    @property
+    def malformed(self):
+        """The two numbers of `Malformed`, or none."""
+        return [int(it) for it in re.findall(r"\d+", self.result)] if self.result.startswith("Malformed") else []
+
+    def call(self):
+        """The call itself, without its encoding, the queries and the rest."""
+        return self.result, self.read, self.written, self.replaced, self.units
+
+    def whole(self, line):
+        """The units of the call and of the rest, with a replacement for a sequence or character that is reported."""
+        middle = b""
+        if self.malformed:
+            middle = "\ufffd".encode(line.code)
+        elif self.result.startswith("Unmappable"):
+            middle = b"&#%d;" % int(self.result[11:-1], 16)
+        return self.units + middle + self.rest
+
+
+def unhex(digits):
+    return b"" if digits == "-" else bytes.fromhex(digits)
+
+
+def hexed(data):
+    return data.hex().upper() or "-"
+
+
+class Programs:
+    """Both programs, and the characters that GB18030-2022 changed: code points before, and those since."""
+
+    def __init__(self, ours, crate):
+        self.ours, self.crate = [ours], [crate, "answers"]
+        changed = subprocess.run([crate, "changed"], stdout=subprocess.PIPE, check=True).stdout.decode()
+        self.since = {int(before, 16): int(since, 16) for before, since in map(str.split, changed.splitlines())}
+
+    @staticmethod
+    def answers(program, lines):
+        text = "".join(f"{it}\n" for it in lines).encode()
+        return subprocess.run(program, input=text, stdout=subprocess.PIPE, check=True).stdout.decode().splitlines()
+
+    def of_ours(self, lines):
+        return [Answer.of(it) for it in self.answers(self.ours, lines)]
+
+    def of_crate(self, lines):
+        """The crate's answers, with the characters since GB18030-2022. None where it panics."""
+        found = zip(lines, self.answers(self.crate, lines), strict=True)
+        return [None if it == "panic" else self.renewed(line, Answer.of(it)) for line, it in found]
+
+    def renewed(self, line, answer):
+        if not line.decodes or answer.encoding not in ("gb18030", "GBK"):
+            return answer
+        parts = (answer.units, answer.rest)
+        units, rest = (it.decode(line.code).translate(self.since).encode(line.code) for it in parts)
+        return replace(answer, units=units, rest=rest, is_renewed=(units, rest) != (answer.units, answer.rest))
+
+
+def length(line, lengths):
+    """A length of a table for the call."""
+    to_utf_8, reporting, to_utf_16, from_utf_8, from_utf_16 = lengths(len(line.chunk) // line.width)
+    if line.decodes:
+        return to_utf_16 if line.units == "utf16" else to_utf_8 if line.replaces else reporting
+    return (from_utf_8 if line.units == "utf8" else from_utf_16) + (10 if line.replaces else 0)
+
+
+def has_lengths(line, ours, crate):
+    """Whether the queries return the same or, where they differ by design and no byte is held, the lengths of the tables."""
+    if line.label not in LENGTHS:
+        return ours.query == crate.query
+    if line.decodes and (line.before or line.marks != "off"):
+        return True
+    wanted = length(line, LENGTHS[line.label]), length(line, CRATE_LENGTHS[line.label])
+    return (ours.query, crate.query) == wanted
+
+
+def note_of_state(line, ours, crate):
+    """Why the Latin-1 prefixes differ in length, or none."""
+    if "-" in (ours.state, crate.state):
+        return None
+    begin, end = int(crate.state), int(ours.state)
+    more = line.chunk[begin:end]
+    if crate.encoding == "Shift_JIS" and begin < end and line.chunk[begin] == max(more) == 0x80:
+        return BYTE_80
+    if line.label not in MULTI_BYTE and begin < end == len(line.chunk) and more.isascii():
+        return ASCII_END
+    return None
+
+
+def notes_of(line, ours, crate):
+    """The differences by design beside the rule of a line."""
+    if crate is None:
+        return []
+    notes = [RENEWED] * crate.is_renewed + [OTHER_LENGTHS] * (ours.query != crate.query)
+    return notes + ([note_of_state(line, ours, crate)] if ours.state != crate.state else [])
+
+
+def is_full_early(line, ours, crate):
+    """Whether the crate may return OutputFull: its query returns more than the room, or an encoder meets a character
+    that is unmappable, and less than its least room is left. It has written and read no more than the library."""
+    may = line.room < crate.query or (not line.decodes and ours.replaced == "true")
+    begins = ours.units.startswith(crate.units) and crate.read <= ours.read
+    flag = crate.replaced == ours.replaced or (crate.replaced, ours.replaced) == ("false", "true")
+    return may and line.room - crate.written < line.least and begins and flag
+
+
+def is_ahead(line, ours, crate):
+    """Whether both have stopped after U+FFFD for a lead surrogate, and the crate has read the unit after that whole."""
+    at_one_place = ours.result == "OutputFull" and ours.units == crate.units and crate.units.endswith(b"\xef\xbf\xbd")
+    return at_one_place and crate.encoding in UTF_16 and line.replaces and crate.read == ours.read + 1
+
+
+def rule_of_malformed(line, ours, crate):
+    """The rule for two results `Malformed(l, a)`: the sequence ends a bytes before the last byte read."""
+    (ours_long, ours_after), (crate_long, crate_after) = ours.malformed, crate.malformed
+    if ours_long != crate_long or ours.units != crate.units:
+        return None
+    apart = crate.read - crate_after - (ours.read - ours_after)
+    if line.marks == "sniff" and line.before == b"\xef\xbb" and crate.read == ours.read == 0 and apart == 1:
+        return HELD_MARK
+    return PENDING if apart == 0 else None
+
+
+def may_panic(line, ours):
+    """Whether the crate asks for more room: as always, for the held bytes of a byte order mark each as U+FFFD, and for
+    U+FFFD where the library stops before it."""
+    held = line.marks != "off" and line.before == b"\xef\xbb" and line.units == "utf8"
+    is_full = line.replaces and ours.result == "OutputFull" and ours.rest.startswith("\ufffd".encode(line.code))
+    return line.decodes and (is_full or line.room < (6 if held else line.least))
+
+
+def next_units(line, ours):
+    """The number of units of the next text of a decoder, which in Big5 may be of two characters."""
+    text = ours.rest.decode(line.code)
+    pair = ours.encoding == "Big5" and text[:2] in BIG5_PAIRS
+    return len(text[: 2 if pair else 1].encode(line.code)) // (1 if line.units == "utf8" else 2)
+
+
+def is_needless(line, ours):
+    """Whether the library returns OutputFull though the next text fits or the room is as long as its query says."""
+    if ours.result != "OutputFull":
+        return False
+    promised = line.decodes or not line.replaces or ours.replaced == "false"
+    left = line.room - ours.written
+    fits = next_units(line, ours) <= left if line.decodes else line.least <= left
+    return fits or (promised and line.room >= ours.query)
+
+
+def agree_beside(line, ours, crate):
+    """Whether the library needs its OutputFull and, unless the crate panics, the queries and the encodings agree."""
+    if is_needless(line, ours):
+        return False
+    agree = crate is None or (has_lengths(line, ours, crate) and ours.encoding == crate.encoding)
+    return agree and None not in notes_of(line, ours, crate)
+
+
+def rule_of(line, ours, crate):
+    """The rule by which two answers agree, or none."""
+    if not agree_beside(line, ours, crate):
+        return None
+    if crate is None:
+        return PANIC if may_panic(line, ours) else None
+    if ours.whole(line) != crate.whole(line):
+        return None
+    if ours.call() == crate.call():
+        return ALIKE
+    if crate.result == "OutputFull":
+        return AHEAD if is_ahead(line, ours, crate) else EARLIER if is_full_early(line, ours, crate) else None
+    return rule_of_malformed(line, ours, crate) if ours.malformed and crate.malformed else None
+
+
+def may_lose(line, crate):
+    """Whether the crate has a fault here: a decoder of one byte or two reads nothing, and forgets the lead byte."""
+    if not line.decodes or crate is None or crate.encoding not in TWO_BYTES or crate.read or crate.written:
+        return False
+    is_full = crate.result == "OutputFull" and line.room < line.least
+    return is_full or (crate.result == "InputEmpty" and not line.chunk and line.last == "more")
+
+
+def may_split(line, crate):
+    """Whether the crate has a fault here: an encoder of single bytes reads the lead of a pair of surrogates alone, since
+    only one byte is left before the end of the room or the part kept for references. That of U+FFFD has 8 bytes."""
+    if line.decodes or line.units == "utf8" or line.label in MULTI_BYTE or crate is None or not crate.read:
+        return False
+    lead, trail = line.chunk[2 * crate.read - 2], line.chunk[2 * crate.read : 2 * crate.read + 1]
+    left = line.room - crate.written
+    return lead & 0xFC == 0xD8 and trail in SECOND_HALVES and left == (10 + 1 - 8 if line.replaces else 1)
+
+
+def other_lines(line, crate):
+    """The lines as which the crate takes this one by a fault, each with its rule."""
+    if may_lose(line, crate):
+        alone = replace(line, label=crate.encoding, marks="off", before=b"", room=AMPLE, last="last", mode="replace")
+        return [(LOST, alone)]
+    if may_split(line, crate):
+        front, rest = line.chunk[: 2 * crate.read - 2], line.chunk[2 * crate.read + 2 :]
+        return [(SPLIT, replace(line, chunk=front + b"\xff\xfd\xff\xfd" + rest))]
+    return []
+
+
+def agrees_as(rule, other, ours, crate):
+    """Whether the crate answers to a line as the library does to another."""
+    return ours.units == crate.rest if rule == LOST else rule_of(other, ours, crate) == ALIKE
+
+
+def judge(programs, lines):
+    """The rule of each line, or none, and the notes on all."""
+    ours, crate = programs.of_ours(lines), programs.of_crate(lines)
+    rules = [rule_of(*it) for it in zip(lines, ours, crate, strict=True)]
+    open_lines = [at for at, rule in enumerate(rules) if not rule and agree_beside(lines[at], ours[at], crate[at])]
+    others = [(at, *it) for at in open_lines for it in other_lines(lines[at], crate[at])]
+    for (at, rule, line), answer in zip(others, programs.of_ours([it[2] for it in others]), strict=True):
+        if agrees_as(rule, line, answer, crate[at]):
+            rules[at] = rule
+    notes = collections.Counter(note for it in zip(lines, ours, crate) for note in notes_of(*it))
+    return rules, notes
+
+
+def smaller(line):
+    """Lines that have a little less than this one."""
+    if line.room:
+        yield replace(line, room=line.room - 1)
+    for name in ("before", "chunk"):
+        data = getattr(line, name)
+        for at in range(0, len(data), line.width):
+            yield replace(line, **{name: data[:at] + data[at + line.width :]})
+
+
+def smallest(programs, line):
+    """A line that differs, as long as one of those that have less does."""
+    while True:
+        less = list(smaller(line))
+        differing = [it for it, rule in zip(less, judge(programs, less)[0], strict=True) if not rule]
+        if not differing:
+            return line
+        line = differing[0]
+
+
+def show(programs, line):
+    line = smallest(programs, line)
+    print(f"  differs: {line}")
+    for name, program in (("the library", programs.ours), ("the crate", programs.crate)):
+        print(f"    {name}: {programs.answers(program, [line])[0]}")
+
+
+def in_room(programs, texts):
+    """Lines. Where the room is `+N`, it is N more than the library's query returns."""
+    lines = [Line.of(it) for it in texts]
+    above = [at for at, it in enumerate(texts) if it.split()[5].startswith("+")]
+    for at, answer in zip(above, programs.of_ours([lines[at] for at in above]), strict=True):
+        lines[at] = replace(lines[at], room=answer.query + lines[at].room)
+    return lines
+
+
+def batches(made):
+    """Lines, in batches."""
+    while texts := list(itertools.islice(made, BATCH)):
+        yield texts
+
+
+def lines_of(crate, how):
+    """The lines of standard input, or random and hostile ones that the crate's program makes."""
+    if how == ["-"]:
+        return sys.stdin
+    seed, count = how
+    return subprocess.Popen([crate, "lines", seed, count], stdout=subprocess.PIPE, text=True).stdout
+
+
+def main(words):
+    ours, crate, *how = words
+    programs, counts, notes, shown = Programs(ours, crate), collections.Counter(), collections.Counter(), 0
+    for texts in batches(lines_of(crate, how)):
+        lines = in_room(programs, texts)
+        rules, more = judge(programs, lines)
+        counts.update(rules)
+        notes.update(more)
+        for line in [it for it, rule in zip(lines, rules, strict=True) if not rule][: SHOWN - shown]:
+            shown += 1
+            show(programs, line)
+    for rule in RULES:
+        print(f"{counts[rule]:>9} calls: {rule}")
+    for note in NOTES:
+        print(f"{notes[note]:>9} of these with {note}")
+    total, differ = sum(counts.values()), counts[None]
+    print(f"compare-crate: {total - differ} calls alike or apart by a rule, {differ} differ")
+    return int(differ > 0 or total == 0 or (len(how) == 2 and total != int(how[1])))
+
+
+if __name__ == "__main__":
+    sys.exit(main(sys.argv[1:]))

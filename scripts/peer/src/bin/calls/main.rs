@@ -1,0 +1,45 @@
+//! calls lines SEED COUNT: writes random and hostile lines of single calls, in the form of crates/compare_calls.
+//! calls answers: writes the answers of the Rust crate encoding_rs to the lines of standard input.
+//! calls fuzz OURS: makes the call of standard input by the crate and by OURS, a build of crates/compare_calls.
+//! calls seeds FOLDER, calls kept PATH..: write inputs of a fuzzer to begin with, and lines of those that it has kept.
+//! calls changed: writes the characters that GB18030-2022 changed, before and since, as code points.
+mod answers;
+mod fuzz;
+mod lines;
+
+use peer::oracle::CHANGED;
+use peer::random::Random;
+use std::io::{self, BufRead, BufWriter, Write};
+use std::process::ExitCode;
+
+fn main() -> io::Result<ExitCode> {
+    let arguments: Vec<String> = std::env::args().skip(1).collect();
+    let words: Vec<&str> = arguments.iter().map(String::as_str).collect();
+    let mut out = BufWriter::new(io::stdout().lock());
+    match words[..] {
+        ["lines", seed, count] => {
+            let (Ok(seed), Ok(count)) = (seed.parse(), count.parse::<usize>()) else { return Ok(ExitCode::from(2)) };
+            let mut random = Random::new(seed, "calls");
+            for _ in 0..count {
+                writeln!(out, "{}", lines::line(&mut random))?;
+            }
+        }
+        ["answers"] => {
+            std::panic::set_hook(Box::new(|_| ()));
+            for line in io::stdin().lock().lines() {
+                writeln!(out, "{}", answers::answer(&line?))?;
+            }
+        }
+        ["fuzz", ours] => fuzz::compare(ours)?,
+        ["seeds", folder] => fuzz::write_seeds(folder)?,
+        ["kept", ref paths @ ..] => fuzz::write_kept(paths, &mut out)?,
+        ["changed"] => {
+            for changed in CHANGED {
+                writeln!(out, "{:04X} {:04X}", u32::from(changed.before), u32::from(changed.since))?;
+            }
+        }
+        _ => return Ok(ExitCode::from(2)),
+    }
+    out.flush()?;
+    Ok(ExitCode::SUCCESS)
+}

@@ -1,0 +1,6 @@
+//! Shared by the programs of this package: inputs, numbers that look random, and the answers of the Rust crate.
+pub mod inputs;
+pub mod oracle;
+pub mod random;
+#[rustfmt::skip]
+pub mod tokens;
