@@ -49,40 +49,49 @@ class Row:
         return min(self.times[program] for program in programs if program in self.times) / self.times["recode"]
 
 
-def table(rows, programs, peers):
-    """A table in Markdown: rates, and that of recode by the fastest peer and, if measured, by its own before."""
+def table(rows, programs, peers, units=(), way=""):
+    """A table in Markdown: rates, and that of recode by the fastest peer and, if measured, by its own before. To the right are
+    those of the same texts to or from UTF-16, beside the crate alone."""
     programs = [program for program in programs if any(program in row.times for row in rows)]
     name = "encoding_rs" if len(peers) == 1 else "the best of the three"
     compared = [(name, peers)] + ([("before", ("before",))] if "before" in programs else [])
     heads = ["Text", *programs] + [f"recode by {head}" for head, _ in compared]
+    heads += [f"recode {way}", f"encoding_rs {way}", "one by the other"] if units else []
+    other = {row.title: row for row in units}
     made = ["| " + " | ".join(heads) + " |", "|---" * len(heads) + "|"]
     for row in rows:
         cells = [row.title] + [row.rate(program) for program in programs]
         cells += [f"{row.ratio(names):.2f}" for _, names in compared]
-        made.append("| " + " | ".join(cells) + " |")
+        made.append("| " + " | ".join(cells + unit_cells(other.get(row.title), units)) + " |")
     return "\n".join(made)
 
 
+def unit_cells(row, units):
+    """The rates of a text to or from UTF-16, or empty cells where it was not measured."""
+    if not row:
+        return ["", "", ""] if units else []
+    return [row.rate("recode"), row.rate("encoding_rs"), f"{row.ratio(('encoding_rs',)):.2f}"]
+
+
 def text(circumstances, rows):
-    """The circumstances of the measurement, and a table for each way with its picture."""
+    """The circumstances of the measurement, and a table for each way with its pictures."""
     parts = [circumstances]
     ways = {way: [row for row in rows if row.way == way] for way in ("decode", "to-units", "encode", "from-units")}
     if ways["decode"]:
         programs = ["recode", "before", *PEERS, "cat"]
-        parts += ["### From each encoding to UTF-8", f"![{DECODING}, for each text](speed.svg)"]
-        parts.append(table(ways["decode"], programs, ("encoding_rs",)))
+        pictures = f"![{DECODING}, for each text](speed.svg)\n![{DECODING_UNITS}, for each text](speed-utf16.svg)"
+        parts += ["### From each encoding to UTF-8 and to UTF-16", pictures]
+        parts.append(table(ways["decode"], programs, ("encoding_rs",), ways["to-units"], "to UTF-16"))
         ascii_text = [row for row in ways["decode"] if "cat" in row.times and row.title.startswith("ASCII")]
         if ascii_text:
             parts.append(f"On ASCII recode has {ascii_text[0].ratio(('cat',)):.2f} times the speed of `cat`.")
-    if ways["to-units"]:
-        parts += ["### From each encoding to UTF-16", f"![{DECODING_UNITS}, for each text](speed-utf16.svg)"]
-        parts.append(table(ways["to-units"], ["recode", "encoding_rs"], ("encoding_rs",)))
+    elif ways["to-units"]:
+        parts += ["### From each encoding to UTF-16", table(ways["to-units"], ["recode", "encoding_rs"], ("encoding_rs",))]
     if ways["encode"]:
-        parts += ["### From UTF-8 to each encoding", f"![{ENCODING}, for each text](speed-encoding.svg)"]
-        parts.append(table(ways["encode"], ["recode", "before", *PEERS], PEERS))
-    if ways["from-units"]:
-        parts.append("### From UTF-16 to each encoding")
-        parts.append(table(ways["from-units"], ["recode", "encoding_rs"], ("encoding_rs",)))
+        parts += ["### From UTF-8 and from UTF-16 to each encoding", f"![{ENCODING}, for each text](speed-encoding.svg)"]
+        parts.append(table(ways["encode"], ["recode", "before", *PEERS], PEERS, ways["from-units"], "from UTF-16"))
+    elif ways["from-units"]:
+        parts += ["### From UTF-16 to each encoding", table(ways["from-units"], ["recode", "encoding_rs"], ("encoding_rs",))]
     return "\n\n".join(parts)
 
 
