@@ -38,8 +38,8 @@ pub fn random_tokens(encoding: &'static Encoding, random: &mut Random, length: u
     input
 }
 
-/// So many bytes of the text in the encoding, from its start on, again and again; the last character may be broken off.
-/// What the encoding doesn't have is written as a decimal reference.
+/// A number of bytes of the text in the encoding, from its start on, again and again. The last character may be cut off.
+/// Characters that the encoding lacks are decimal references.
 pub fn text_of(encoding: &'static Encoding, length: usize) -> Vec<u8> {
     in_encoding(encoding, TEXT).into_iter().cycle().take(length).collect()
 }

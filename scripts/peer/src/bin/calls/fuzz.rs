@@ -81,7 +81,7 @@ fn line_of(input: &[u8]) -> Option<String> {
     Some(format!("{direction} {label} {marks} {} {} {room} {last} {units} {mode}", hex(&before), hex(&chunk)))
 }
 
-/// What an encoder reads: UTF-8 of which malformed parts are U+FFFD, or code units.
+/// The input of an encoder: UTF-8, with U+FFFD for malformed parts, or code units.
 fn text(label: &str, utf16: bool, bytes: &[u8]) -> Vec<u8> {
     let is_changed = |it: &char| CHANGED.iter().any(|changed| changed.before == *it || changed.since == *it);
     let has_changed = Encoding::for_label(label.as_bytes()).is_some_and(has_changed);
@@ -113,7 +113,7 @@ pub fn compare(ours: &str) -> io::Result<()> {
     Ok(())
 }
 
-/// What must be the same: the encoding, and the text of the call with that of the rest of the input.
+/// The encoding, and the text of the call with that of the rest of the input: these must be the same.
 fn outcome(line: &str, answer: &str) -> (String, Vec<u8>) {
     let words: Vec<&str> = answer.split(' ').collect();
     let [result, _, _, _, units, encoding, _, _, rest] = words[..] else { return (String::from(answer), Vec::new()) };
