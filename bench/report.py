@@ -50,8 +50,8 @@ class Row:
 
 
 def table(rows, programs, peers, units=(), way=""):
-    """A table in Markdown: rates, and that of recode by the fastest peer and, if measured, by its own before. To the right are
-    those of the same texts to or from UTF-16, beside the crate alone."""
+    """A table in Markdown: rates, and that of recode by the fastest peer and, if measured, by its own before. To the
+    right are those of the same texts to or from UTF-16, beside the crate alone."""
     programs = [program for program in programs if any(program in row.times for row in rows)]
     name = "encoding_rs" if len(peers) == 1 else "the best of the three"
     compared = [(name, peers)] + ([("before", ("before",))] if "before" in programs else [])

@@ -1,10 +1,10 @@
-"""Compares single calls of the library with those of the Rust crate encoding_rs: compare_calls.py OURS CRATE SEED COUNT | -
+"""Compares single calls with those of the Rust crate encoding_rs: compare_calls.py OURS CRATE SEED COUNT | -
 
-For scripts/compare-crate. OURS is the program of crates/compare_calls, which says how a line stands for a call. CRATE is
-the program of scripts/peer/src/bin/calls. It makes COUNT random and hostile lines, and answers as OURS does. Compared are
-the result, the units read and written, the flag, the units, the encoding after the call, the length that the call's query
-returned before, the length of the Latin-1 prefix or whether an encoder had a pending state, and the units that the rest
-of the input gives.
+For scripts/compare-crate. OURS is the program of crates/compare_calls, which says how a line stands for a call. CRATE
+is the program of scripts/peer/src/bin/calls. It makes COUNT random and hostile lines (with - they are those of standard
+input), and answers as OURS does. Compared are the result, the units read and written, the flag, the units, the encoding
+after the call, the length that the call's query returned before, the length of the Latin-1 prefix or whether an encoder
+had a pending state, and the units that the rest of the input gives.
 
 Where the two differ by design, or where the crate has a fault, a rule says so. Each line comes under one of RULES or
 differs. Of the first lines that differ the smallest that was found is shown. The status is 0 where none differs.
