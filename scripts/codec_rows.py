@@ -42,7 +42,7 @@ def depth(length):
 
 
 def depths_of(index):
-    """The depths of the table of an index, of its pages and of their list, by the texts of which they are made."""
+    """The depths of the table of an index, of its pages and of their list, by the texts that they are made from."""
     with open(os.path.join(TOP, f"data/indexes/index-{index.name}.txt"), encoding="ascii") as file:
         numbers = [int(line.split()[1], 16) for line in file if line[0].isdigit()]
     pages, page_of = 64 * (1 + len({it // 64 for it in numbers})), max(numbers) // 64 + 1

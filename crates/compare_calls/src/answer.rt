@@ -47,7 +47,7 @@ impl fmt::Display for Stop {
 
 impl Answer {
     /// The answer of a call with replacement.
-    pub fn of_replacing(outcome: (CoderResult, usize, usize, bool)) -> Answer
+    pub(crate) fn of_replacing(outcome: (CoderResult, usize, usize, bool)) -> Answer
         ensures read { result.read ≡ outcome.1 }
         ensures written { result.written ≡ outcome.2 }
     {
@@ -61,7 +61,7 @@ impl Answer {
     }
 
     /// The answer of a call of a decoder without replacement.
-    pub fn of_decoding(outcome: (DecoderResult, usize, usize)) -> Answer
+    pub(crate) fn of_decoding(outcome: (DecoderResult, usize, usize)) -> Answer
         ensures read { result.read ≡ outcome.1 }
         ensures written { result.written ≡ outcome.2 }
     {
@@ -75,7 +75,7 @@ impl Answer {
     }
 
     /// The answer of a call of an encoder without replacement.
-    pub fn of_encoding(outcome: (EncoderResult, usize, usize)) -> Answer
+    pub(crate) fn of_encoding(outcome: (EncoderResult, usize, usize)) -> Answer
         ensures read { result.read ≡ outcome.1 }
         ensures written { result.written ≡ outcome.2 }
     {
@@ -89,7 +89,7 @@ impl Answer {
     }
 
     /// Returns whether all input was read.
-    pub fn is_end(&self) -> bool {
+    pub(crate) fn is_end(&self) -> bool {
         matches!(
             self.stop,
             Stop::Coder(CoderResult::InputEmpty) | Stop::Encoder(EncoderResult::InputEmpty)
@@ -97,7 +97,7 @@ impl Answer {
     }
 
     /// Writes all but the units.
-    pub fn write<W: Write>(&self, out: &mut W) -> io::Result<()> {
+    pub(crate) fn write<W: Write>(&self, out: &mut W) -> io::Result<()> {
         write!(out, "{} {} {} ", self.stop, self.read, self.written)?;
         match self.replaced {
             None => write!(out, "- "),
@@ -107,7 +107,7 @@ impl Answer {
 }
 
 /// Writes bytes in hexadecimal, or `-` for none.
-pub fn write_bytes<W: Write>(out: &mut W, bytes: &[u8]) -> io::Result<()> {
+pub(crate) fn write_bytes<W: Write>(out: &mut W, bytes: &[u8]) -> io::Result<()> {
     if bytes.is_empty() {
         return write!(out, "-");
     }
@@ -118,7 +118,7 @@ pub fn write_bytes<W: Write>(out: &mut W, bytes: &[u8]) -> io::Result<()> {
 }
 
 /// Writes code units in hexadecimal, or `-` for none.
-pub fn write_units<W: Write>(out: &mut W, units: &[u16]) -> io::Result<()> {
+pub(crate) fn write_units<W: Write>(out: &mut W, units: &[u16]) -> io::Result<()> {
     if units.is_empty() {
         return write!(out, "-");
     }

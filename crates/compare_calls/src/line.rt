@@ -35,7 +35,7 @@ pub struct Call<'a> {
 
 impl Line {
     /// The call before, whose answer does not count.
-    pub fn before(&self) -> Call<'_> {
+    pub(crate) fn before(&self) -> Call<'_> {
         Call {
             src: &self.before,
             room: LENGTH,
@@ -46,7 +46,7 @@ impl Line {
     }
 
     /// The call.
-    pub fn call(&self) -> Call<'_> {
+    pub(crate) fn call(&self) -> Call<'_> {
         Call {
             src: &self.chunk,
             room: self.room,
@@ -59,7 +59,7 @@ impl Line {
 
 impl<'a> Call<'a> {
     /// The call for the rest of the input, from the byte `at` on.
-    pub fn rest(self, at: usize) -> Call<'a> {
+    pub(crate) fn rest(self, at: usize) -> Call<'a> {
         let (_, src) = self.src.split_at(at.min(self.src.len()));
         Call {
             src,
@@ -102,7 +102,7 @@ fn marks_of(word: &str) -> BomHandling {
 }
 
 /// Reads a line. `None` if a word is missing, a label is unknown or a room is no number.
-pub fn line_of(alloc: Global, line: &str) -> Result<Option<Line>, AllocError> {
+pub(crate) fn line_of(alloc: Global, line: &str) -> Result<Option<Line>, AllocError> {
     let mut words = line.split_ascii_whitespace();
     let (Some(direction), Some(label), Some(marks), Some(before), Some(chunk)) = (
         words.next(),
