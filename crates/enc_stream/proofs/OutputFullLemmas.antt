@@ -14,7 +14,10 @@ use Rattle.enc_stream.specs.declared.life_cycle.LifeCycle.TheVariants.{AtUtf16Le
 use Rattle.enc_stream.specs.declared.life_cycle.LifeCycle.TheVariants.{SeenUtf16BeFirst, SeenUtf16LeFirst}
 use Rattle.enc_stream.specs.declared.life_cycle.LifeCycle.TheVariants.{ConvertingWithPendingBb, Converting, Finished}
 use Rattle.enc_units.specs.declared.decoder_result.DecoderResult.{DecoderResult}
-use Rattle.enc_units.specs.declared.decoder_result.DecoderResult.TheVariants.{OutputFull}
+use Rattle.enc_units.specs.declared.decoder_result.DecoderResult.TheVariants.{InputEmpty, OutputFull, Malformed}
+use Rattle.enc_units.specs.declared.coder_result.CoderResult.{CoderResult}
+use Rattle.enc_units.specs.declared.coder_result.CoderResult.TheVariants as coder
+use Rattle.enc_units.specs.Results.{decoder_result_of}
 use Rattle.enc_units.specs.Output.{Output, DetermineTexts, units_of_text}
 use Rattle.enc_decoder.specs.Sequence.{Sequence, sequence_bytes, sequence_text, set_after}
 use Rattle.enc_decoder.specs.Segmentation.{Rule, sequences_of}
@@ -32,6 +35,7 @@ use Rattle.enc_stream.specs.Decoding.{DecoderState, has_ended, has_finished, rem
 use Rattle.enc_stream.specs.Decoding.{DecodesChunk, DecodesInto, TakesSmallTexts, AnswersDecode, AnswersDecodeInto}
 use Rattle.enc_stream.specs.Decoding.{IsUnchangedButSkips}
 use Rattle.enc_decoder.proofs.NeedLemmas.{meets_need}
+use Rattle.enc_decoder.proofs.SequenceLemmas.{sequence_bytes-one}
 use Rattle.enc_decoder.proofs.RuleLemmas.{none_without_text, has_bytes, small_text}
 use Rattle.enc_decoder.proofs.SegmentationLemmas.{sequences_of-nil}
 use Rattle.enc_decoder_utf.proofs.Utf8Rule.{utf_8_has_texts}
@@ -194,6 +198,23 @@ module _ (units_of : ℕ → List ℕ) (determine : DetermineTexts units_of) (mo
       (remaining_sequences new (drop read src ++ [])) (sym with_text.is ∙ decodes.call.residual [] (λ _. refl))
       (no_text w)
 
+-- A malformed sequence that is reported has bytes: fewer bytes are pending or unread.
+less_at_malformed : (units_of : ℕ → List ℕ) (mode : DecodeErrorMode) (old new : DecoderState) (src : List ℕ) (last : Bool) (room read l a : ℕ) (wrote : List ℕ) (replaced : Bool)
+    → DecodesChunk units_of mode old new src last room (Malformed l a) read wrote replaced → length new.pending + (length src - read) < length old.pending + length src
+less_at_malformed units_of mode old new src last room read l a wrote replaced decodes =
+    let stops = decodes.call.stops in
+    let mark : List ℕ = mark_bytes (mark_in (phase_of old.life) (old.pending ++ take read src)) in
+    let all = ap length decodes.accounted in
+    let bytes_read = length-append old.pending (take read src) in
+    let after_mark = length-append mark (sequence_bytes decodes.call.done ++ new.pending) in
+    let then_pending = length-append (sequence_bytes decodes.call.done) new.pending in
+    let one_more =
+    ap (λ ss. length (sequence_bytes ss)) stops.then_next ∙ ap length (sequence_bytes-one decodes.call.put stops.next) in
+    let reported = length-append (sequence_bytes decodes.call.put) stops.next.bytes in
+    let some = stops.not_empty in let len = stops.len in
+    let taken = length-take read src in let within = decodes.call.within in
+    omega arith
+
 -- A call that stops for want of room, and has read nothing and written nothing.
 module _ (units_of : ℕ → List ℕ) (determine : DetermineTexts units_of) (mode : DecodeErrorMode)
     (old new : DecoderState) (pending_are_held : PendingAreHeldBytes old) (going : has_finished old ≡ false)
@@ -258,12 +279,22 @@ converts units_of least mode old new src last room result read wrote replaced de
           λ f r w has. just_the_same units_of determine mode old new pending_are_held going src last room read wrote
           replaced
           (full f) r (ap length w) has;
-      progress =
-          λ f h. less_at_hand units_of determine mode old new src last room read wrote replaced (full f) least takes h;
+      progress = less result decodes_chunk;
     }
   where
     full : result ≡ OutputFull → DecodesChunk units_of mode old new src last room OutputFull read wrote replaced
     full f = subst (λ x. DecodesChunk units_of mode old new src last room x read wrote replaced) f decodes_chunk
+
+    less : (x : DecoderResult) → DecodesChunk units_of mode old new src last room x read wrote replaced
+        → (x ≡ InputEmpty → ⊥) → least ≤ room → length new.pending + (length src - read) < length old.pending + length src
+    less InputEmpty d on h = absurd (on refl)
+    less OutputFull d on h = less_at_hand units_of determine mode old new src last room read wrote replaced d least takes h
+    less (Malformed l a) d on h = less_at_malformed units_of mode old new src last room read l a wrote replaced d
+
+-- a call with replacement that goes on does so without replacement
+pub still_goes_on : (r : CoderResult) → (r ≡ coder.InputEmpty → ⊥) → decoder_result_of r ≡ InputEmpty → ⊥
+still_goes_on coder.InputEmpty on e = on refl
+still_goes_on coder.OutputFull on e = cc
 
 pub converts_into : (units_of : ℕ → List ℕ) (mode : DecodeErrorMode) (old new : DecoderState) (src : List ℕ) (last : Bool) (before after : Output) (result : DecoderResult) (read : ℕ) (replaced : Bool)
     → DetermineTexts units_of → PendingAreHeldBytes old → has_finished old ≡ false

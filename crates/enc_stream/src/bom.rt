@@ -1,6 +1,6 @@
 //! Byte order marks (Encoding Standard 6, "BOM sniff").
 
-ghost use Rattle.std.specs.Prelude.{◌≡◌};
+ghost use Rattle.std.specs.Prelude.{◌≡◌, ◌≤◌, length, IfSome};
 ghost use Rattle.enc_stream.specs.Bom.{bom_of};
 
 use crate::encoding::{Encoding, UTF_8, UTF_16BE, UTF_16LE};
@@ -22,7 +22,8 @@ impl Encoding {
     /// That is "BOM sniff" of Encoding Standard 6. The length is in bytes. `None` if there is none.
     /// Only the first three bytes are read. Takes no memory.
     pub fn for_bom(buffer: &[u8]) -> Option<(Encoding, usize)>
-        ensures { result ≡ bom_of buffer.now }
+        ensures mark { result ≡ bom_of buffer.now }
+        ensures within { IfSome result (λ found. found.1 ≤ length buffer.now) }
     {
         if buffer.starts_with(b"\xEF\xBB\xBF") {
             return Some((UTF_8, 3));

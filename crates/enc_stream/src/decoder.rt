@@ -330,7 +330,7 @@ impl Decoder {
         ensures text { IsUtf8 (take result.2 dst.new) }
         ensures rest { drop result.2 dst.new ≡ drop result.2 dst.old }
         ensures ended { has_finished self.new ≡ reaches_end last (decoder_result_of result.0) }
-        ensures progress { result.0 ≡ CoderResult.OutputFull → 4 ≤ length dst.old →
+        ensures progress { (result.0 ≡ CoderResult.InputEmpty → ⊥) → 4 ≤ length dst.old →
             length self.new.pending + (length src.now - result.1) < length self.old.pending + length src.now }
     {
         let mut out = Utf8Slice::new(dst);
@@ -366,7 +366,7 @@ impl Decoder {
         ensures text { IsUtf8 (take result.2 dst.new) }
         ensures rest { drop result.2 dst.new ≡ drop result.2 dst.old }
         ensures ended { has_finished self.new ≡ reaches_end last result.0 }
-        ensures progress { result.0 ≡ DecoderResult.OutputFull → 4 ≤ length dst.old →
+        ensures progress { (result.0 ≡ DecoderResult.InputEmpty → ⊥) → 4 ≤ length dst.old →
             length self.new.pending + (length src.now - result.1) < length self.old.pending + length src.now }
     {
         let mut out = Utf8Slice::new(dst);
@@ -395,7 +395,7 @@ impl Decoder {
         ensures written { result.2 ≤ length dst.old }
         ensures rest { drop result.2 dst.new ≡ drop result.2 dst.old }
         ensures ended { has_finished self.new ≡ reaches_end last (decoder_result_of result.0) }
-        ensures progress { result.0 ≡ CoderResult.OutputFull → 2 ≤ length dst.old →
+        ensures progress { (result.0 ≡ CoderResult.InputEmpty → ⊥) → 2 ≤ length dst.old →
             length self.new.pending + (length src.now - result.1) < length self.old.pending + length src.now }
     {
         let mut units = Utf16Slice::new(dst);
@@ -424,7 +424,7 @@ impl Decoder {
         ensures written { result.2 ≤ length dst.old }
         ensures rest { drop result.2 dst.new ≡ drop result.2 dst.old }
         ensures ended { has_finished self.new ≡ reaches_end last result.0 }
-        ensures progress { result.0 ≡ DecoderResult.OutputFull → 2 ≤ length dst.old →
+        ensures progress { (result.0 ≡ DecoderResult.InputEmpty → ⊥) → 2 ≤ length dst.old →
             length self.new.pending + (length src.now - result.1) < length self.old.pending + length src.now }
     {
         let mut units = Utf16Slice::new(dst);
@@ -455,7 +455,7 @@ impl Decoder {
         ensures rest { drop result.2 dst.new ≡ without_continuations (drop result.2 dst.old) }
         ensures utf8 { IsWellFormedUtf8 dst.new }
         ensures ended { has_finished self.new ≡ reaches_end last (decoder_result_of result.0) }
-        ensures progress { result.0 ≡ CoderResult.OutputFull → 4 ≤ length dst.old →
+        ensures progress { (result.0 ≡ CoderResult.InputEmpty → ⊥) → 4 ≤ length dst.old →
             length self.new.pending + (length src.now - result.1) < length self.old.pending + length src.now }
     {
         let (result, read, written, replaced) = self.decode_to_utf8(src, dst, last);
@@ -485,7 +485,7 @@ impl Decoder {
         ensures rest { drop result.2 dst.new ≡ without_continuations (drop result.2 dst.old) }
         ensures utf8 { IsWellFormedUtf8 dst.new }
         ensures ended { has_finished self.new ≡ reaches_end last result.0 }
-        ensures progress { result.0 ≡ DecoderResult.OutputFull → 4 ≤ length dst.old →
+        ensures progress { (result.0 ≡ DecoderResult.InputEmpty → ⊥) → 4 ≤ length dst.old →
             length self.new.pending + (length src.now - result.1) < length self.old.pending + length src.now }
     {
         let (result, read, len) = self.decode_to_utf8_without_replacement(src, dst, last);
@@ -512,7 +512,7 @@ impl Decoder {
         ensures read { result.1 ≤ length src.now }
         ensures appended { take (length (string_bytes dst.old)) (string_bytes dst.new) ≡ string_bytes dst.old }
         ensures ended { has_finished self.new ≡ reaches_end last (decoder_result_of result.0) }
-        ensures progress { result.0 ≡ CoderResult.OutputFull → 4 ≤ string_capacity dst.old - string_len dst.old →
+        ensures progress { (result.0 ≡ CoderResult.InputEmpty → ⊥) → 4 ≤ string_capacity dst.old - string_len dst.old →
             length self.new.pending + (length src.now - result.1) < length self.old.pending + length src.now }
     {
         let mut tail = StringTail::new(dst);
@@ -538,7 +538,7 @@ impl Decoder {
         ensures read { result.1 ≤ length src.now }
         ensures appended { take (length (string_bytes dst.old)) (string_bytes dst.new) ≡ string_bytes dst.old }
         ensures ended { has_finished self.new ≡ reaches_end last result.0 }
-        ensures progress { result.0 ≡ DecoderResult.OutputFull → 4 ≤ string_capacity dst.old - string_len dst.old →
+        ensures progress { (result.0 ≡ DecoderResult.InputEmpty → ⊥) → 4 ≤ string_capacity dst.old - string_len dst.old →
             length self.new.pending + (length src.now - result.1) < length self.old.pending + length src.now }
     {
         let mut tail = StringTail::new(dst);

@@ -1,8 +1,7 @@
-use Rattle.std.proofs.Common.{length, ap, refl, rules}
+use Rattle.std.proofs.Common.{length, refl, rules}
 use Rattle.std.specs.String.{string_bytes}
 use Rattle.enc_stream.proofs.EndOfInputLemmas.{finishes_by}
-use Rattle.enc_units.specs.Results.{decoder_result_of}
-use Rattle.enc_stream.proofs.OutputFullLemmas.{over_text, in_front, four_bytes}
+use Rattle.enc_stream.proofs.OutputFullLemmas.{over_text, in_front, four_bytes, still_goes_on}
 use Rattle.enc_stream.proofs.decoder.Decoder.decode_to_string.Goals as goal
 
 pub returns-clause-call : goal.returns-clause-call
@@ -23,4 +22,4 @@ pub returns-clause-ended : goal.returns-clause-ended
 returns-clause-ended c = finishes_by _ _ _ _ _ _ _ _ _ _ _ (returns-clause-call c).decodes
 
 pub returns-clause-progress : goal.returns-clause-progress
-returns-clause-progress c = λ full. (returns-clause-call c).progress (ap decoder_result_of full)
+returns-clause-progress c = λ on. (returns-clause-call c).progress (still_goes_on _ on)

@@ -1,7 +1,6 @@
-use Rattle.std.proofs.Common.{length, ap, refl, arith, rules}
+use Rattle.std.proofs.Common.{length, refl, arith, rules}
 use Rattle.enc_stream.proofs.EndOfInputLemmas.{finishes_by}
-use Rattle.enc_units.specs.Results.{decoder_result_of}
-use Rattle.enc_stream.proofs.OutputFullLemmas.{over_slice, two_units}
+use Rattle.enc_stream.proofs.OutputFullLemmas.{over_slice, two_units, still_goes_on}
 use Rattle.enc_stream.proofs.decoder.Decoder.decode_to_utf16.Goals as goal
 
 pub returns-clause-call : goal.returns-clause-call
@@ -16,4 +15,4 @@ pub returns-clause-ended : goal.returns-clause-ended
 returns-clause-ended c = finishes_by _ _ _ _ _ _ _ _ _ _ _ (returns-clause-call c).decodes
 
 pub returns-clause-progress : goal.returns-clause-progress
-returns-clause-progress c = λ full. (returns-clause-call c).progress (ap decoder_result_of full)
+returns-clause-progress c = λ on. (returns-clause-call c).progress (still_goes_on _ on)

@@ -8,7 +8,7 @@ pub returns-clause-encoding : goal.returns-clause-encoding
 returns-clause-encoding c =
     elim c.match-for_bom.branch [
       | in-Some w ↦ w.encoding-is ∙ encoding_by_mark (find_mark marks c.args.bytes.now) c.args.self _ _
-          (sym c.for_bom.ensures ∙ w.in-Some.is)
+          (sym c.for_bom.ensures.mark ∙ w.in-Some.is)
       | in-None w ↦ w.encoding-is ∙ encoding_without_mark (find_mark marks c.args.bytes.now) c.args.self
-          (sym c.for_bom.ensures ∙ w.in-None.is)
+          (sym c.for_bom.ensures.mark ∙ w.in-None.is)
     ]
