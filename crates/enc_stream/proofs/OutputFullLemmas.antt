@@ -199,8 +199,10 @@ module _ (units_of : ℕ → List ℕ) (determine : DetermineTexts units_of) (mo
       (no_text w)
 
 -- A malformed sequence that is reported has bytes: fewer bytes are pending or unread.
-less_at_malformed : (units_of : ℕ → List ℕ) (mode : DecodeErrorMode) (old new : DecoderState) (src : List ℕ) (last : Bool) (room read l a : ℕ) (wrote : List ℕ) (replaced : Bool)
-    → DecodesChunk units_of mode old new src last room (Malformed l a) read wrote replaced → length new.pending + (length src - read) < length old.pending + length src
+less_at_malformed : (units_of : ℕ → List ℕ) (mode : DecodeErrorMode) (old new : DecoderState) (src : List ℕ)
+    (last : Bool) (room read l a : ℕ) (wrote : List ℕ) (replaced : Bool)
+    → DecodesChunk units_of mode old new src last room (Malformed l a) read wrote replaced
+    → length new.pending + (length src - read) < length old.pending + length src
 less_at_malformed units_of mode old new src last room read l a wrote replaced decodes =
     let stops = decodes.call.stops in
     let mark : List ℕ = mark_bytes (mark_in (phase_of old.life) (old.pending ++ take read src)) in
@@ -209,7 +211,8 @@ less_at_malformed units_of mode old new src last room read l a wrote replaced de
     let after_mark = length-append mark (sequence_bytes decodes.call.done ++ new.pending) in
     let then_pending = length-append (sequence_bytes decodes.call.done) new.pending in
     let one_more =
-    ap (λ ss. length (sequence_bytes ss)) stops.then_next ∙ ap length (sequence_bytes-one decodes.call.put stops.next) in
+    ap (λ ss. length (sequence_bytes ss)) stops.then_next
+    ∙ ap length (sequence_bytes-one decodes.call.put stops.next) in
     let reported = length-append (sequence_bytes decodes.call.put) stops.next.bytes in
     let some = stops.not_empty in let len = stops.len in
     let taken = length-take read src in let within = decodes.call.within in
@@ -286,9 +289,11 @@ converts units_of least mode old new src last room result read wrote replaced de
     full f = subst (λ x. DecodesChunk units_of mode old new src last room x read wrote replaced) f decodes_chunk
 
     less : (x : DecoderResult) → DecodesChunk units_of mode old new src last room x read wrote replaced
-        → (x ≡ InputEmpty → ⊥) → least ≤ room → length new.pending + (length src - read) < length old.pending + length src
+        → (x ≡ InputEmpty → ⊥) → least ≤ room
+        → length new.pending + (length src - read) < length old.pending + length src
     less InputEmpty d on h = absurd (on refl)
-    less OutputFull d on h = less_at_hand units_of determine mode old new src last room read wrote replaced d least takes h
+    less OutputFull d on h =
+        less_at_hand units_of determine mode old new src last room read wrote replaced d least takes h
     less (Malformed l a) d on h = less_at_malformed units_of mode old new src last room read l a wrote replaced d
 
 -- a call with replacement that goes on does so without replacement

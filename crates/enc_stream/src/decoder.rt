@@ -538,7 +538,8 @@ impl Decoder {
         ensures read { result.1 ≤ length src.now }
         ensures appended { take (length (string_bytes dst.old)) (string_bytes dst.new) ≡ string_bytes dst.old }
         ensures ended { has_finished self.new ≡ reaches_end last result.0 }
-        ensures progress { (result.0 ≡ DecoderResult.InputEmpty → ⊥) → 4 ≤ string_capacity dst.old - string_len dst.old →
+        ensures progress { (result.0 ≡ DecoderResult.InputEmpty → ⊥) →
+            4 ≤ string_capacity dst.old - string_len dst.old →
             length self.new.pending + (length src.now - result.1) < length self.old.pending + length src.now }
     {
         let mut tail = StringTail::new(dst);
