@@ -1,4 +1,6 @@
 //! Calls on long inputs, each made a second time if memory is refused to the first.
+//!
+//! A call is made after a number of growths: one of its input, and others that are freed at once.
 
 use crate::cases::{Case, expect};
 use encoding_rs::run::{
@@ -7,11 +9,10 @@ use encoding_rs::run::{
 };
 use encoding_rs::{Encoding, OneShotError};
 use std::alloc::{AllocError, Global};
-use std::io::Print;
 use std::test::Fail;
 
 /// The length of each input, in bytes.
-pub const LONG: usize = 100_000;
+pub const LONG: usize = 10_000;
 
 /// Bytes at the front, and then a unit a number of times.
 #[derive(Clone, Copy)]
@@ -69,39 +70,21 @@ fn compare_text(text: Option<String>, want: &Pattern) -> Result<(), Fail> {
     }
 }
 
-/// The refusals of memory in a test.
-#[derive(Clone, Copy)]
-pub struct Refused {
-    /// Whether memory was refused to its input, which it then made a second time.
-    pub input: bool,
-    /// Whether memory was refused to its call, which it then made a second time.
-    pub call: bool,
+/// Takes memory some times, and frees it.
+pub fn grow(alloc: Global, times: usize) -> Result<(), Fail> {
+    for _ in 0..times {
+        let _freed = Vec::<u8>::with_capacity(alloc, 1)?;
+    }
+    Ok(())
 }
 
-/// The bytes of a pattern, and whether memory for them was refused at first.
-fn input_of(alloc: Global, pattern: &Pattern) -> Result<(Vec<u8>, bool), Fail> {
+/// The bytes of a pattern. It grows a number of times, at least once.
+fn input_of(alloc: Global, pattern: &Pattern, growths: usize) -> Result<Vec<u8>, Fail> {
     if length_of(pattern) != LONG {
         return Err(Fail::new("a pattern has another length"));
     }
-    match filled(alloc, pattern) {
-        Ok(bytes) => Ok((bytes, false)),
-        Err(_) => Ok((filled(alloc, pattern)?, true)),
-    }
-}
-
-/// Takes memory once after the call, and prints a line for each refusal.
-pub fn print_refused(rt: &impl Print, alloc: Global, refused: Refused) -> Result<(), Fail> {
-    let is_refused_after = Vec::<u8>::with_capacity(alloc, 1).is_err();
-    if refused.input {
-        println!(rt; "refused: input")?;
-    }
-    if refused.call {
-        println!(rt; "refused: call")?;
-    }
-    if is_refused_after {
-        println!(rt; "refused: behind")?;
-    }
-    Ok(())
+    grow(alloc, growths.saturating_sub(1))?;
+    Ok(filled(alloc, pattern)?)
 }
 
 /// A one-shot call of a decoder.
@@ -204,11 +187,12 @@ fn decode_again(alloc: Global, row: &DecodeRow, bytes: &[u8]) -> Result<(Answer,
     }
 }
 
-/// Makes the call, and a second time if memory is refused.
-pub fn compare_decode(rt: &impl Print, alloc: Global, row: &DecodeRow) -> Result<(), Fail> {
+/// Makes the call after some growths, and a second time if memory is refused. Returns whether it
+/// was.
+pub fn compare_decode(alloc: Global, row: &DecodeRow, growths: usize) -> Result<bool, Fail> {
     let case = case_of(row.encoding, &row.bytes);
-    let (bytes, input) = input_of(alloc, &row.bytes)?;
-    let ((text, used, had_errors), call) = decode_again(alloc, row, &bytes)?;
+    let bytes = input_of(alloc, &row.bytes, growths)?;
+    let ((text, used, had_errors), is_refused) = decode_again(alloc, row, &bytes)?;
     expect(used == row.used, "another encoding is used", &case)?;
     expect(
         had_errors == row.is_malformed,
@@ -216,7 +200,7 @@ pub fn compare_decode(rt: &impl Print, alloc: Global, row: &DecodeRow) -> Result
         &case,
     )?;
     compare_text(text, &row.text)?;
-    print_refused(rt, alloc, Refused { input, call })
+    Ok(is_refused)
 }
 
 /// A text, the encoding that it is asked for in, and its bytes.
@@ -248,11 +232,13 @@ fn encode_again(
     }
 }
 
-/// Encodes the text, and a second time if memory is refused.
-pub fn compare_encode(rt: &impl Print, alloc: Global, row: &EncodeRow) -> Result<(), Fail> {
+/// Encodes the text after some growths, and a second time if memory is refused. Returns whether it
+/// was.
+pub fn compare_encode(alloc: Global, row: &EncodeRow, growths: usize) -> Result<bool, Fail> {
     let case = case_of(row.encoding, &row.text);
-    let (utf8, input) = input_of(alloc, &row.text)?;
-    let ((bytes, used, had_unmappables), call) = encode_again(alloc, row, str::from_utf8(&utf8)?)?;
+    let utf8 = input_of(alloc, &row.text, growths)?;
+    let (answer, is_refused) = encode_again(alloc, row, str::from_utf8(&utf8)?)?;
+    let (bytes, used, had_unmappables) = answer;
     expect(used == row.encoding, "another encoding is used", &case)?;
     let is_same = had_unmappables == row.has_references;
     expect(
@@ -261,7 +247,7 @@ pub fn compare_encode(rt: &impl Print, alloc: Global, row: &EncodeRow) -> Result
         &case,
     )?;
     compare(&bytes, &row.bytes)?;
-    print_refused(rt, alloc, Refused { input, call })
+    Ok(is_refused)
 }
 
 /// A run of a decoder that finishes in two calls. The first one reports a malformed sequence.
@@ -332,12 +318,13 @@ fn compare_decode_report(report: &DecodeReport, row: &DecodeRunRow) -> Result<()
     )
 }
 
-/// Makes the run, and a second time if memory is refused.
-pub fn compare_decode_run(rt: &impl Print, alloc: Global, row: &DecodeRunRow) -> Result<(), Fail> {
-    let (bytes, input) = input_of(alloc, &row.bytes)?;
-    let (report, call) = decode_run_again(alloc, row, &bytes)?;
+/// Makes the run after some growths, and a second time if memory is refused. Returns whether it
+/// was.
+pub fn compare_decode_run(alloc: Global, row: &DecodeRunRow, growths: usize) -> Result<bool, Fail> {
+    let bytes = input_of(alloc, &row.bytes, growths)?;
+    let (report, is_refused) = decode_run_again(alloc, row, &bytes)?;
     compare_decode_report(&report, row)?;
-    print_refused(rt, alloc, Refused { input, call })
+    Ok(is_refused)
 }
 
 /// A run of an encoder that finishes in two calls. The first one reports an unmappable character.
@@ -407,10 +394,11 @@ fn compare_encode_report(report: &EncodeReport, row: &EncodeRunRow) -> Result<()
     expect(report.finished, "the run does not finish", &case)
 }
 
-/// Makes the run, and a second time if memory is refused.
-pub fn compare_encode_run(rt: &impl Print, alloc: Global, row: &EncodeRunRow) -> Result<(), Fail> {
-    let (utf8, input) = input_of(alloc, &row.text)?;
-    let (report, call) = encode_run_again(alloc, row, str::from_utf8(&utf8)?)?;
+/// Makes the run after some growths, and a second time if memory is refused. Returns whether it
+/// was.
+pub fn compare_encode_run(alloc: Global, row: &EncodeRunRow, growths: usize) -> Result<bool, Fail> {
+    let utf8 = input_of(alloc, &row.text, growths)?;
+    let (report, is_refused) = encode_run_again(alloc, row, str::from_utf8(&utf8)?)?;
     compare_encode_report(&report, row)?;
-    print_refused(rt, alloc, Refused { input, call })
+    Ok(is_refused)
 }
