@@ -15,7 +15,7 @@ use test_support::decoding::{
     compare_small_offers, compare_uses, input_of, make_calls_of, make_reporting_calls_of,
     new_decoder, run_whole,
 };
-use test_support::encodings::TABLE;
+use test_support::encodings::table;
 
 const EMPTY: CoderResult = CoderResult::InputEmpty;
 
@@ -118,9 +118,9 @@ fn a_mark_sets_the_encoding(rt: HostRuntime) -> Result<(), Fail> {
         "",
     );
     make_calls_of(rt.alloc(), &mut decoder, &[whole])?;
-    assert_eq!(rt; decoder.encoding(), UTF_8);
+    assert!(rt; decoder.encoding() == UTF_8);
     make_calls_of(rt.alloc(), &mut decoder, BEHIND_THE_MARK)?;
-    assert_eq!(rt; decoder.encoding(), UTF_8);
+    assert!(rt; decoder.encoding() == UTF_8);
     make_calls_of(
         rt.alloc(),
         &mut UTF_16BE.new_decoder_with_bom_removal(),
@@ -146,7 +146,7 @@ fn encoding_after(rt: &impl Abort, mut decoder: Decoder, bytes: &[u8]) -> Encodi
     }
     assert!(rt; !decoder.is_finished());
     let (result, _, _, _) = decoder.decode_to_utf8(&[], &mut buffer, true);
-    assert_eq!(rt; result, EMPTY);
+    assert!(rt; result == EMPTY);
     decoder.encoding()
 }
 
@@ -155,16 +155,16 @@ fn encoding_after(rt: &impl Abort, mut decoder: Decoder, bytes: &[u8]) -> Encodi
 fn compare_used(rt: &impl Abort, encoding: Encoding, bytes: &[u8], used: Encoding) {
     for handling in HANDLINGS {
         let decoder = new_decoder(encoding, *handling);
-        assert_eq!(rt; decoder.encoding(), encoding);
+        assert!(rt; decoder.encoding() == encoding);
         let is_sniffing = *handling == BomHandling::Sniff;
         let want = if is_sniffing { used } else { encoding };
-        assert_eq!(rt; encoding_after(rt, decoder, bytes), want);
+        assert!(rt; encoding_after(rt, decoder, bytes) == want);
     }
 }
 
 #[test]
 fn only_a_whole_mark_that_is_sniffed_sets_the_encoding(rt: HostRuntime) {
-    for (encoding, _, _) in TABLE {
+    for (encoding, _, _) in table() {
         for (mark, used) in MARKS {
             compare_used(&rt, *encoding, mark, *used);
         }
@@ -275,7 +275,7 @@ fn compare_broken(alloc: Global, encoding: Encoding, handling: BomHandling) -> R
 
 #[test]
 fn marks_that_break_off_are_text(rt: HostRuntime) -> Result<(), Fail> {
-    for (encoding, _, _) in TABLE {
+    for (encoding, _, _) in table() {
         compare_broken(rt.alloc(), *encoding, BomHandling::Sniff)?;
     }
     for (_, encoding) in MARKS {
@@ -313,7 +313,7 @@ fn compare_marks(
 
 #[test]
 fn whole_marks_are_dropped(rt: HostRuntime) -> Result<(), Fail> {
-    for (encoding, _, _) in TABLE {
+    for (encoding, _, _) in table() {
         for rest in AFTER_MARKS {
             compare_marks(rt.alloc(), *encoding, BomHandling::Sniff, rest)?;
         }
@@ -471,10 +471,10 @@ fn compare_run(
     }; 16];
     let report = decode_run(alloc, encoding, handling, bytes, &calls)?;
     assert!(rt; report.finished && report.calls <= 16);
-    assert_eq!(rt; report.text.as_bytes(), text.as_bytes());
-    assert_eq!(rt; (report.read, report.had_errors), (bytes.len(), had_errors));
+    assert!(rt; report.text.as_bytes() == text.as_bytes());
+    assert!(rt; (report.read, report.had_errors) == (bytes.len(), had_errors));
     let report = decode_run(alloc, encoding, handling, bytes, &calls[..1])?;
-    assert_eq!(rt; (report.finished, report.calls, report.read), (false, 1, 1));
+    assert!(rt; (report.finished, report.calls, report.read) == (false, 1, 1));
     assert!(rt; text.as_bytes().starts_with(report.text.as_bytes()));
     Ok(())
 }

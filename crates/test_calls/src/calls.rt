@@ -9,14 +9,11 @@ use test_support::encodings::SECOND_CONSTANTS;
 #[test]
 fn names_its_encoding(rt: HostRuntime) -> Result<(), Fail> {
     let decoder = WINDOWS_1252.new_decoder_without_bom_handling();
-    assert_eq!(rt; decoder.encoding(), WINDOWS_1252);
+    assert!(rt; decoder.encoding() == WINDOWS_1252);
     assert!(rt; !decoder.is_finished());
-    assert_ne!(rt; ISO_8859_8, ISO_8859_8_I);
+    assert!(rt; ISO_8859_8 != ISO_8859_8_I);
     let (empty, full) = (CoderResult::InputEmpty, CoderResult::OutputFull);
-    assert_eq!(rt;
-        format!(in rt.alloc(); "{empty:?} {full:?}")?.as_str(),
-        "InputEmpty OutputFull"
-    );
+    assert!(rt; format!(in rt.alloc(); "{empty:?} {full:?}")?.as_str() == "InputEmpty OutputFull");
     Ok(())
 }
 
@@ -27,25 +24,22 @@ fn decodes_in_chunks(rt: HostRuntime) {
     let mut decoder = SHIFT_JIS.new_decoder();
     // half of a character: its first byte is read, and nothing is written
     let outcome = decoder.decode_to_utf8(b"\x93", &mut text, false);
-    assert_eq!(rt; outcome, (CoderResult::InputEmpty, 1, 0, false));
+    assert!(rt; outcome == (CoderResult::InputEmpty, 1, 0, false));
     // the rest, with `last`: all is read, three bytes are written, and nothing was malformed
     assert!(rt; !decoder.is_finished());
     let outcome = decoder.decode_to_utf8(b"\xFA", &mut text, true);
-    assert_eq!(rt; outcome, (CoderResult::InputEmpty, 1, 3, false));
-    assert_eq!(rt; &text[..3], "日".as_bytes());
+    assert!(rt; outcome == (CoderResult::InputEmpty, 1, 3, false));
+    assert!(rt; &text[..3] == "日".as_bytes());
 }
 
 // The README shows the first call.
 #[test]
 fn recodes_at_once(rt: HostRuntime) -> Result<(), Fail> {
     let (text, encoding, had_errors) = WINDOWS_1257.decode(rt.alloc(), b"abc\x80\xA1\xE4")?;
-    assert_eq!(rt;
-        (text.as_str(), encoding, had_errors),
-        ("abc€\u{FFFD}ä", WINDOWS_1257, true)
-    );
+    assert!(rt; (text.as_str(), encoding, had_errors) == ("abc€\u{FFFD}ä", WINDOWS_1257, true));
     let (bytes, encoding, had_unmappables) = WINDOWS_1257.encode(rt.alloc(), "abc€ä日")?;
-    assert_eq!(rt; &bytes[..], b"abc\x80\xE4&#26085;".as_slice());
-    assert_eq!(rt; (encoding, had_unmappables), (WINDOWS_1257, true));
+    assert!(rt; &bytes[..] == b"abc\x80\xE4&#26085;".as_slice());
+    assert!(rt; (encoding, had_unmappables) == (WINDOWS_1257, true));
     Ok(())
 }
 
@@ -57,11 +51,11 @@ fn encodes_in_chunks(rt: HostRuntime) {
     // an escape sequence and two bytes for one character; the escape sequence at the end is still
     // to come
     let outcome = encoder.encode_from_utf8_without_replacement("あ", &mut bytes, false);
-    assert_eq!(rt; outcome, (EncoderResult::InputEmpty, 3, 5));
-    assert_eq!(rt; &bytes[..5], b"\x1B$B$\"".as_slice());
+    assert!(rt; outcome == (EncoderResult::InputEmpty, 3, 5));
+    assert!(rt; &bytes[..5] == b"\x1B$B$\"".as_slice());
     let outcome = encoder.encode_from_utf8_without_replacement("", &mut bytes, true);
-    assert_eq!(rt; outcome, (EncoderResult::InputEmpty, 0, 3));
-    assert_eq!(rt; &bytes[..3], b"\x1B(B".as_slice());
+    assert!(rt; outcome == (EncoderResult::InputEmpty, 0, 3));
+    assert!(rt; &bytes[..3] == b"\x1B(B".as_slice());
 }
 
 #[test]
@@ -69,32 +63,32 @@ fn looks_for_marks(rt: HostRuntime) {
     let bytes = b"\xFE\xFF\x00a";
     let mut buffer = [0; 8];
     let mut decoder = UTF_8.new_decoder();
-    assert_eq!(rt; decoder.encoding(), UTF_8);
+    assert!(rt; decoder.encoding() == UTF_8);
     assert!(rt; !decoder.is_finished());
     let outcome = decoder.decode_to_utf8(bytes, &mut buffer, true);
-    assert_eq!(rt; outcome, (CoderResult::InputEmpty, 4, 1, false));
-    assert_eq!(rt; buffer[0], b'a');
-    assert_eq!(rt; decoder.encoding(), UTF_16BE);
+    assert!(rt; outcome == (CoderResult::InputEmpty, 4, 1, false));
+    assert!(rt; buffer[0] == b'a');
+    assert!(rt; decoder.encoding() == UTF_16BE);
     assert!(rt; decoder.is_finished());
     let mut decoder = UTF_16BE.new_decoder_with_bom_removal();
     assert!(rt; !decoder.is_finished());
     let outcome = decoder.decode_to_utf8_without_replacement(bytes, &mut buffer, true);
-    assert_eq!(rt; outcome, (DecoderResult::InputEmpty, 4, 1));
+    assert!(rt; outcome == (DecoderResult::InputEmpty, 4, 1));
     let mut decoder = UTF_16LE.new_decoder_with_bom_removal();
     assert!(rt; !decoder.is_finished());
     let outcome = decoder.decode_to_utf8_without_replacement(bytes, &mut buffer, true);
-    assert_eq!(rt; outcome, (DecoderResult::InputEmpty, 4, 6));
-    assert_eq!(rt; decoder.encoding(), UTF_16LE);
+    assert!(rt; outcome == (DecoderResult::InputEmpty, 4, 6));
+    assert!(rt; decoder.encoding() == UTF_16LE);
 }
 
 #[test]
 fn second_constants_are_equal(rt: HostRuntime) {
     for (encoding, second) in SECOND_CONSTANTS {
-        assert_eq!(rt; *encoding, *second);
+        assert!(rt; *encoding == *second);
     }
     for i in 0..SECOND_CONSTANTS.len() {
         for j in 0..SECOND_CONSTANTS.len() {
-            assert_eq!(rt; SECOND_CONSTANTS[i].0 == SECOND_CONSTANTS[j].0, i == j);
+            assert!(rt; (SECOND_CONSTANTS[i].0 == SECOND_CONSTANTS[j].0) == (i == j));
         }
     }
 }
@@ -115,8 +109,8 @@ fn a_run_looks_for_marks(rt: HostRuntime) -> Result<(), Fail> {
         let bytes = b"\xEF\xBB\xBFa";
         let report = decode_run(rt.alloc(), WINDOWS_1252, handling, bytes, &calls)?;
         assert!(rt; report.finished && !report.had_errors);
-        assert_eq!(rt; report.text.as_bytes(), want.as_bytes());
-        assert_eq!(rt; (report.read, report.calls), (4, 4));
+        assert!(rt; report.text.as_bytes() == want.as_bytes());
+        assert!(rt; (report.read, report.calls) == (4, 4));
     }
     Ok(())
 }
@@ -140,15 +134,12 @@ fn a_run_makes_its_calls(rt: HostRuntime) -> Result<(), Fail> {
     ];
     let report = decode_run(rt.alloc(), UTF_8, BomHandling::Off, bytes, &calls)?;
     assert!(rt; report.finished && report.had_errors);
-    assert_eq!(rt; report.text.as_bytes(), "a€\u{FFFD}".as_bytes());
-    assert_eq!(rt; (report.read, report.calls), (5, 5));
+    assert!(rt; report.text.as_bytes() == "a€\u{FFFD}".as_bytes());
+    assert!(rt; (report.read, report.calls) == (5, 5));
     let report = decode_run(rt.alloc(), UTF_8, BomHandling::Off, bytes, &calls[..3])?;
     assert!(rt; !report.finished && !report.had_errors);
-    assert_eq!(rt; report.text.as_bytes(), b"a".as_slice());
-    assert_eq!(rt; report.read, 3);
-    assert_eq!(rt;
-        format!(in rt.alloc(); "{:?}", RunError::Memory)?.as_str(),
-        "Memory"
-    );
+    assert!(rt; report.text.as_bytes() == b"a".as_slice());
+    assert!(rt; report.read == 3);
+    assert!(rt; format!(in rt.alloc(); "{:?}", RunError::Memory)?.as_str() == "Memory");
     Ok(())
 }

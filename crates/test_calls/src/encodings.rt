@@ -8,7 +8,7 @@ use std::alloc::Global;
 use std::collections::HashSet;
 use std::process::Abort;
 use std::test::Fail;
-use test_support::encodings::{LABELS, PROPERTIES, TABLE};
+use test_support::encodings::{LABELS, PROPERTIES, table};
 
 /// Compares a label: as it is, in capitals and with whitespace around it, and with one letter more,
 /// which names nothing.
@@ -21,27 +21,26 @@ fn compare_label(
     let capitals = label.to_ascii_uppercase(alloc)?;
     let blanks = format!(in alloc; "\t\n\u{C}\r {label} \r\u{C}\n\t")?;
     let longer = format!(in alloc; "{label}x")?;
-    assert_eq!(rt; Encoding::for_label(label.as_bytes()), want, "{label}");
-    assert_eq!(rt;
-        Encoding::for_label(capitals.as_bytes()),
-        want,
-        "{capitals}"
+    assert!(rt;
+        Encoding::for_label(label.as_bytes()) == want
+            && Encoding::for_label(capitals.as_bytes()) == want
+            && Encoding::for_label(blanks.as_bytes()) == want
+            && Encoding::for_label(longer.as_bytes()) == None,
+        "{label}"
     );
-    assert_eq!(rt; Encoding::for_label(blanks.as_bytes()), want, "{blanks}");
-    assert_eq!(rt; Encoding::for_label(longer.as_bytes()), None, "{longer}");
     Ok(())
 }
 
 #[test]
 fn each_label_names_its_encoding(rt: HostRuntime) -> Result<(), Fail> {
     let mut count = 0usize;
-    for (encoding, _, labels) in TABLE {
+    for (encoding, _, labels) in table() {
         for label in labels.split(' ') {
             compare_label(&rt, rt.alloc(), label, Some(*encoding))?;
             count = count.saturating_add(1);
         }
     }
-    assert_eq!(rt; count, LABELS);
+    assert!(rt; count == LABELS);
     Ok(())
 }
 
@@ -75,7 +74,7 @@ const WORDS: &[(&[u8], Option<Encoding>)] = &[
 #[test]
 fn only_labels_name_encodings(rt: HostRuntime) {
     for (label, want) in WORDS {
-        assert_eq!(rt; Encoding::for_label(label), *want, "{label:?}");
+        assert!(rt; Encoding::for_label(label) == *want, "{label:?}");
     }
 }
 
@@ -87,24 +86,24 @@ fn compare_label_no_replacement(rt: &impl Abort, label: &str, encoding: Encoding
         Some(encoding)
     };
     let answer = Encoding::for_label_no_replacement(label.as_bytes());
-    assert_eq!(rt; answer, want, "{label}");
+    assert!(rt; answer == want, "{label}");
 }
 
 #[test]
 fn no_label_names_replacement_where_it_is_left_out(rt: HostRuntime) {
-    for (encoding, _, labels) in TABLE {
+    for (encoding, _, labels) in table() {
         for label in labels.split(' ') {
             compare_label_no_replacement(&rt, label, *encoding);
         }
     }
-    assert_eq!(rt; Encoding::for_label_no_replacement(b"hz-gb-2312"), None);
-    assert_eq!(rt; Encoding::for_label_no_replacement(b"bogus"), None);
+    assert!(rt; Encoding::for_label_no_replacement(b"hz-gb-2312") == None);
+    assert!(rt; Encoding::for_label_no_replacement(b"bogus") == None);
 }
 
 #[test]
 fn each_encoding_has_its_name(rt: HostRuntime) {
-    for (encoding, name, _) in TABLE {
-        assert_eq!(rt; encoding.name(), *name);
+    for (encoding, name, _) in table() {
+        assert!(rt; encoding.name() == *name);
     }
 }
 
@@ -112,18 +111,13 @@ fn each_encoding_has_its_name(rt: HostRuntime) {
 fn each_encoding_has_its_properties(rt: HostRuntime) {
     for (encoding, output, is_ascii_compatible, is_single_byte) in PROPERTIES {
         let is_everything = *output == UTF_8;
-        assert_eq!(rt; encoding.output_encoding(), *output);
-        assert_eq!(rt;
-            encoding.can_encode_everything(),
-            is_everything,
+        assert!(rt; encoding.output_encoding() == *output);
+        assert!(rt;
+            encoding.can_encode_everything() == is_everything
+                && encoding.is_ascii_compatible() == *is_ascii_compatible
+                && encoding.is_single_byte() == *is_single_byte,
             "{encoding:?}"
         );
-        assert_eq!(rt;
-            encoding.is_ascii_compatible(),
-            *is_ascii_compatible,
-            "{encoding:?}"
-        );
-        assert_eq!(rt; encoding.is_single_byte(), *is_single_byte, "{encoding:?}");
     }
 }
 
@@ -144,19 +138,19 @@ const MARKS: &[(&[u8], Option<(Encoding, usize)>)] = &[
 #[test]
 fn marks_tell_their_encodings(rt: HostRuntime) {
     for (bytes, want) in MARKS {
-        assert_eq!(rt; Encoding::for_bom(bytes), *want, "{bytes:?}");
+        assert!(rt; Encoding::for_bom(bytes) == *want, "{bytes:?}");
     }
 }
 
 #[test]
 fn prefixes_end_before_what_is_invalid(rt: HostRuntime) {
-    assert_eq!(rt; Encoding::utf8_valid_up_to(b"\x61\xED\xA0\x80"), 1);
-    assert_eq!(rt; Encoding::utf8_valid_up_to(b"\xE2\x82"), 0);
-    assert_eq!(rt; Encoding::utf8_valid_up_to(b"\xE2\x82\xAC"), 3);
-    assert_eq!(rt; Encoding::ascii_valid_up_to(b"\x61\x80"), 1);
-    assert_eq!(rt; Encoding::ascii_valid_up_to(b"\x61\x0E\x7F"), 3);
-    assert_eq!(rt; Encoding::iso_2022_jp_ascii_valid_up_to(b"\x61\x0E"), 1);
-    assert_eq!(rt; Encoding::iso_2022_jp_ascii_valid_up_to(b"\x61\x7F"), 2);
+    assert!(rt; Encoding::utf8_valid_up_to(b"\x61\xED\xA0\x80") == 1);
+    assert!(rt; Encoding::utf8_valid_up_to(b"\xE2\x82") == 0);
+    assert!(rt; Encoding::utf8_valid_up_to(b"\xE2\x82\xAC") == 3);
+    assert!(rt; Encoding::ascii_valid_up_to(b"\x61\x80") == 1);
+    assert!(rt; Encoding::ascii_valid_up_to(b"\x61\x0E\x7F") == 3);
+    assert!(rt; Encoding::iso_2022_jp_ascii_valid_up_to(b"\x61\x0E") == 1);
+    assert!(rt; Encoding::iso_2022_jp_ascii_valid_up_to(b"\x61\x7F") == 2);
 }
 
 #[test]
@@ -170,6 +164,6 @@ fn a_set_holds_what_was_put_in(rt: HostRuntime) -> Result<(), Fail> {
     assert!(rt; set.remove(&ISO_2022_JP));
     assert!(rt; set.contains(&UTF_8));
     assert!(rt; !set.contains(&ISO_2022_JP));
-    assert_eq!(rt; set.len(), 1);
+    assert!(rt; set.len() == 1);
     Ok(())
 }

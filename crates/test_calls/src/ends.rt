@@ -20,11 +20,11 @@ fn a_pending_escape_sequence_counts_until_it_is_taken(rt: HostRuntime) -> Result
     let mut decoder = ISO_2022_JP.new_decoder_without_bom_handling();
     make_calls_of(rt.alloc(), &mut decoder, AN_ESCAPE)?;
     assert!(rt; !decoder.is_finished());
-    assert_eq!(rt; decoder.max_utf8_buffer_length(1), Some(12));
+    assert!(rt; decoder.max_utf8_buffer_length(1) == Some(12));
     // without room it is taken, since the byte after it shows that no other one follows
     make_calls_of(rt.alloc(), &mut decoder, NO_ROOM_BEHIND_IT)?;
     assert!(rt; !decoder.is_finished());
-    assert_eq!(rt; decoder.max_utf8_buffer_length(1), Some(3));
+    assert!(rt; decoder.max_utf8_buffer_length(1) == Some(3));
     make_calls_of(rt.alloc(), &mut decoder, ROOM_BEHIND_IT)
 }
 
@@ -37,10 +37,10 @@ fn a_byte_of_a_mark_counts_while_it_is_held(rt: HostRuntime) -> Result<(), Fail>
     let mut decoder = SHIFT_JIS.new_decoder();
     make_calls_of(rt.alloc(), &mut decoder, FIRST_OF_A_MARK)?;
     assert!(rt; !decoder.is_finished());
-    assert_eq!(rt; decoder.max_utf8_buffer_length(0), Some(9));
+    assert!(rt; decoder.max_utf8_buffer_length(0) == Some(9));
     make_calls_of(rt.alloc(), &mut decoder, NO_MARK_AND_NO_ROOM)?;
     assert!(rt; !decoder.is_finished());
-    assert_eq!(rt; decoder.max_utf8_buffer_length(0), Some(9));
+    assert!(rt; decoder.max_utf8_buffer_length(0) == Some(9));
     Ok(())
 }
 
@@ -56,9 +56,9 @@ const ONE_BYTE: DecodeCall = DecodeCall {
 fn a_run_of_single_bytes_ends_within_its_calls(rt: HostRuntime) -> Result<(), Fail> {
     let bytes = b"\x810\x81\xFF";
     let report = decode_run(rt.alloc(), GB18030, BomHandling::Off, bytes, &[ONE_BYTE; 9])?;
-    assert_eq!(rt; report.text.as_str(), "\u{FFFD}0\u{FFFD}");
-    assert_eq!(rt; report.faults.as_slice(), [(0, 1), (2, 2)].as_slice());
-    assert_eq!(rt; (report.read, report.calls), (4, 6));
+    assert!(rt; report.text.as_str() == "\u{FFFD}0\u{FFFD}");
+    assert!(rt; report.faults.as_slice() == [(0, 1), (2, 2)].as_slice());
+    assert!(rt; (report.read, report.calls) == (4, 6));
     assert!(rt; report.finished && report.had_errors);
     Ok(())
 }

@@ -1,6 +1,6 @@
 //! Tests of `encoding_rs`: names, labels, properties and byte order marks of all encodings,
-//! outputs, length queries, one-shot calls and runs. `test_codecs` tests each decoder,
-//! `test_encoders` each encoder.
+//! outputs, length queries, one-shot calls and runs; of `enc_reader`; and of `recode_engine`.
+//! `test_codecs` tests each decoder and encoder.
 //!
 //! Expected values come from outside, as each table says: from examples of the Encoding Standard,
 //! from Unicode's tables, and from other converters.
@@ -22,5 +22,9 @@ mod one_shot;
 mod outputs;
 #[cfg(test)]
 mod queries;
+#[cfg(test)]
+mod reader;
+#[cfg(test)]
+mod recode;
 #[cfg(test)]
 mod runs;

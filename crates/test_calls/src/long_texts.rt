@@ -104,9 +104,13 @@ fn decode_row(
     };
     let calls = vec![in alloc; call; MOST_CALLS]?;
     let report = decode_run(alloc, encoding, BomHandling::Off, src.as_slice(), &calls)?;
-    assert!(rt; report.finished && report.read == src.len(), "{encoding:?}");
-    assert!(rt; !report.had_errors, "{encoding:?}");
-    assert_eq!(rt; report.text.as_str(), want.as_str(), "{encoding:?}");
+    assert!(rt;
+        report.finished
+            && report.read == src.len()
+            && !report.had_errors
+            && report.text.as_str() == want.as_str(),
+        "{encoding:?}"
+    );
     Ok(())
 }
 

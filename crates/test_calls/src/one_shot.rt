@@ -11,7 +11,7 @@ use std::test::Fail;
 use test_support::decoding::{
     compare_single_bytes, compare_strict, compare_with_run, decode_at_once,
 };
-use test_support::encodings::TABLE;
+use test_support::encodings::table;
 
 const OFF: BomHandling = BomHandling::Off;
 
@@ -90,10 +90,8 @@ const WHOLE_ROWS: &[WholeRow] = &[
 fn compare_whole(rt: &impl Abort, alloc: Global, row: &WholeRow) -> Result<(), Fail> {
     let (encoding, handling, bytes, want, used, is_malformed) = *row;
     let (text, by, had_errors) = decode_at_once(alloc, (encoding, handling), bytes)?;
-    assert_eq!(rt; text.as_bytes(), want.as_bytes(), "{encoding:?} {bytes:?}");
-    assert_eq!(rt;
-        (by, had_errors),
-        (used, is_malformed),
+    assert!(rt;
+        text.as_bytes() == want.as_bytes() && (by, had_errors) == (used, is_malformed),
         "{encoding:?} {bytes:?}"
     );
     match handling {
@@ -142,11 +140,8 @@ fn without_a_mark_all_calls_are_alike(rt: HostRuntime) -> Result<(), Fail> {
 #[test]
 fn reasons_have_different_texts(rt: HostRuntime) -> Result<(), Fail> {
     let (memory, too_long) = (OneShotError::Memory, OneShotError::TooLong);
-    assert_ne!(rt; memory, too_long);
-    assert_eq!(rt;
-        format!(in rt.alloc(); "{memory:?} {too_long:?}")?.as_str(),
-        "Memory TooLong"
-    );
+    assert!(rt; memory != too_long);
+    assert!(rt; format!(in rt.alloc(); "{memory:?} {too_long:?}")?.as_str() == "Memory TooLong");
     Ok(())
 }
 
@@ -201,12 +196,12 @@ fn long_bytes(alloc: Global) -> Result<Vec<u8>, AllocError> {
 
 #[test]
 fn two_encodings_have_two_names_for_debugging(rt: HostRuntime) -> Result<(), Fail> {
-    for (i, (one, _, _)) in TABLE.iter().enumerate() {
+    for (i, (one, _, _)) in table().iter().enumerate() {
         let text = format!(in rt.alloc(); "{one:?}")?;
         assert!(rt; !text.is_empty());
-        for (j, (other, _, _)) in TABLE.iter().enumerate() {
+        for (j, (other, _, _)) in table().iter().enumerate() {
             let other = format!(in rt.alloc(); "{other:?}")?;
-            assert_eq!(rt; text == other, i == j, "{other}");
+            assert!(rt; (text == other) == (i == j), "{other}");
         }
     }
     Ok(())
@@ -217,19 +212,19 @@ fn decoders_and_encoders_have_debug_texts(rt: HostRuntime) -> Result<(), Fail> {
     let mut decoder = UTF_8.new_decoder();
     let text = format!(in rt.alloc(); "{decoder:?}")?;
     let want = "Decoder { encoding: Encoding { id: Utf8 }, finished: false }";
-    assert_eq!(rt; text.as_str(), want);
+    assert!(rt; text.as_str() == want);
     let _ = decoder.decode_to_utf8(b"", &mut [], true);
     let text = format!(in rt.alloc(); "{decoder:?}")?;
     let want = "Decoder { encoding: Encoding { id: Utf8 }, finished: true }";
-    assert_eq!(rt; text.as_str(), want);
+    assert!(rt; text.as_str() == want);
     let mut encoder = ISO_2022_JP.new_encoder();
     let text = format!(in rt.alloc(); "{encoder:?}")?;
     let want = "Encoder { encoding: Encoding { id: Iso2022Jp }, pending: false }";
-    assert_eq!(rt; text.as_str(), want);
+    assert!(rt; text.as_str() == want);
     let _ = encoder.encode_from_utf8_without_replacement("あ", &mut [0; 8], false);
     let text = format!(in rt.alloc(); "{encoder:?}")?;
     let want = "Encoder { encoding: Encoding { id: Iso2022Jp }, pending: true }";
-    assert_eq!(rt; text.as_str(), want);
+    assert!(rt; text.as_str() == want);
     Ok(())
 }
 
@@ -247,8 +242,8 @@ fn compare_long(alloc: Global, encoding: Encoding, bytes: &[u8]) -> Result<(), F
 #[test]
 fn long_inputs_of_every_encoding(rt: HostRuntime) -> Result<(), Fail> {
     let bytes = long_bytes(rt.alloc())?;
-    assert_eq!(rt; bytes.len(), LONG);
-    for (encoding, _, _) in TABLE {
+    assert!(rt; bytes.len() == LONG);
+    for (encoding, _, _) in table() {
         compare_long(rt.alloc(), *encoding, &bytes)?;
     }
     Ok(())

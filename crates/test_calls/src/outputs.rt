@@ -12,7 +12,7 @@ use test_support::decoding::{
     ALL_OUTPUTS, Answer, Cut, Given, MOST_ROOM, Output, Run, Use, make_call, new_decoder,
     run_chunks, run_cut,
 };
-use test_support::encodings::TABLE;
+use test_support::encodings::table;
 
 const EMPTY: DecoderResult = DecoderResult::InputEmpty;
 
@@ -46,7 +46,7 @@ fn make_rows(rt: &impl Abort, alloc: Global, case: Case, output: Output) -> Resu
         make_call(alloc, &mut decoder, (output, given), (*want, text))?;
     }
     assert!(rt; decoder.is_finished());
-    assert_eq!(rt; decoder.encoding(), case.used);
+    assert!(rt; decoder.encoding() == case.used);
     Ok(())
 }
 
@@ -180,33 +180,37 @@ fn text_is_written_over_or_appended(rt: HostRuntime) -> Result<(), Fail> {
     let mut decoder = UTF_8.new_decoder_without_bom_handling();
     assert!(rt; !decoder.is_finished() && str::from_utf8(&text).is_ok());
     let outcome = decoder.decode_to_str(b"a", &mut text, true);
-    assert_eq!(rt; outcome, (CoderResult::InputEmpty, 1, 1, false));
-    assert_eq!(rt; text, [0x61, 0x00, 0xC3, 0xA9]);
+    assert!(rt; outcome == (CoderResult::InputEmpty, 1, 1, false));
+    assert!(rt; text == [0x61, 0x00, 0xC3, 0xA9]);
     // no room at all
     let mut string = String::new(rt.alloc());
     let mut decoder = UTF_8.new_decoder_without_bom_handling();
     assert!(rt; !decoder.is_finished());
     let outcome = decoder.decode_to_string(b"a", &mut string, false);
-    assert_eq!(rt; outcome, (CoderResult::OutputFull, 0, false));
+    assert!(rt; outcome == (CoderResult::OutputFull, 0, false));
     assert!(rt; !decoder.is_finished());
     let outcome = decoder.decode_to_string_without_replacement(b"a", &mut string, false);
-    assert_eq!(rt; outcome, (DecoderResult::OutputFull, 0));
-    assert_eq!(rt; (string.as_str(), string.capacity()), ("", 0));
+    assert!(rt; outcome == (DecoderResult::OutputFull, 0));
+    assert!(rt; (string.as_str(), string.capacity()) == ("", 0));
     // what fits is appended
     let mut string = String::with_capacity(rt.alloc(), 6)?;
     string.push_str("xy")?;
     assert!(rt; !decoder.is_finished());
     let outcome = decoder.decode_to_string(b"a\xE2\x82\xACb", &mut string, true);
-    assert_eq!(rt; outcome, (CoderResult::OutputFull, 4, false));
-    assert_eq!(rt; (string.as_str(), string.capacity()), ("xya€", 6));
+    assert!(rt; outcome == (CoderResult::OutputFull, 4, false));
+    assert!(rt; (string.as_str(), string.capacity()) == ("xya€", 6));
     Ok(())
 }
 
 /// Compares the end of a run with this text and encoding. Nothing is malformed.
 fn compare_end(rt: &impl Abort, run: &Run, bytes: &[u8], (text, used): (&str, Encoding)) {
-    assert_eq!(rt; run.text.as_slice(), text.as_bytes(), "{bytes:?}");
-    assert!(rt; !run.had_errors && run.is_finished, "{bytes:?}");
-    assert_eq!(rt; run.encoding, used, "{bytes:?}");
+    assert!(rt;
+        run.text.as_slice() == text.as_bytes()
+            && !run.had_errors
+            && run.is_finished
+            && run.encoding == used,
+        "{bytes:?}"
+    );
 }
 
 /// Decodes with 12 code units of room in each call, in single bytes and split at one or two
@@ -278,7 +282,7 @@ fn a_word_in_chunks_into_eight_bytes(rt: HostRuntime) -> Result<(), Fail> {
             ..Use::new(SHIFT_JIS, BomHandling::Sniff)
         };
         let run = run_chunks(rt.alloc(), way, &chunks, 8)?;
-        assert_eq!(rt; run.text.as_slice(), text.as_bytes());
+        assert!(rt; run.text.as_slice() == text.as_bytes());
         assert!(rt; !run.had_errors && run.is_finished);
     }
     Ok(())
@@ -328,11 +332,10 @@ fn compare_latin_1(
     for chunk in chunks {
         assert!(rt; !decoder.is_finished());
         let (stop, _, _, _) = decoder.decode_to_utf16(chunk, &mut units, false);
-        assert_eq!(rt; stop, CoderResult::InputEmpty);
+        assert!(rt; stop == CoderResult::InputEmpty);
     }
-    assert_eq!(rt;
-        decoder.latin1_byte_compatible_up_to(bytes),
-        want,
+    assert!(rt;
+        decoder.latin1_byte_compatible_up_to(bytes) == want,
         "{encoding:?} {chunks:?}"
     );
 }
@@ -379,7 +382,7 @@ const LATIN_1_ROWS: &[Latin1Row] = &[
 
 #[test]
 fn bytes_that_can_be_taken_for_latin_1(rt: HostRuntime) {
-    for (encoding, _, _) in TABLE {
+    for (encoding, _, _) in table() {
         let known = LATIN_1_COUNTS.iter().find(|row| row.0 == *encoding);
         let want = known.map_or(Some(1), |row| row.1);
         compare_latin_1(&rt, (*encoding, BomHandling::Off), &[], LATIN_1, want);
@@ -391,7 +394,7 @@ fn bytes_that_can_be_taken_for_latin_1(rt: HostRuntime) {
     assert!(rt; !decoder.is_finished());
     let (_, _, _, _) = decoder.decode_to_utf8(&[], &mut [], true);
     assert!(rt; decoder.is_finished());
-    assert_eq!(rt; decoder.latin1_byte_compatible_up_to(LATIN_1), None);
+    assert!(rt; decoder.latin1_byte_compatible_up_to(LATIN_1) == None);
 }
 
 /// Returns a call with this chunk length and this room.
@@ -413,11 +416,11 @@ fn a_run_may_change_its_units(rt: HostRuntime) -> Result<(), Fail> {
     ];
     let bytes = b"\xE2\x82\xAC\xFF";
     let report = decode_run(rt.alloc(), UTF_8, BomHandling::Off, bytes, &calls)?;
-    assert_eq!(rt; report.text.as_str(), "€\u{FFFD}");
-    assert_eq!(rt; (report.read, report.calls), (4, 3));
-    assert_eq!(rt; report.faults.as_slice(), [(3, 1)].as_slice());
+    assert!(rt; report.text.as_str() == "€\u{FFFD}");
+    assert!(rt; (report.read, report.calls) == (4, 3));
+    assert!(rt; report.faults.as_slice() == [(3, 1)].as_slice());
     assert!(rt; report.had_errors && report.finished);
-    assert_eq!(rt; report.encoding, UTF_8);
+    assert!(rt; report.encoding == UTF_8);
     Ok(())
 }
 
@@ -471,14 +474,15 @@ fn compare_long(
         let calls = vec![in alloc; call(utf16, replace, (bytes.len(), room)); 4096]?;
         let report = decode_run(alloc, encoding, off, bytes, &calls)?;
         assert!(rt; report.finished && report.read == bytes.len());
-        assert_eq!(rt; report.had_errors, want.had_errors, "{encoding:?}");
-        assert_eq!(rt; report.text.as_str(), want.text.as_str(), "{encoding:?}");
+        assert!(rt;
+            report.had_errors == want.had_errors && report.text.as_str() == want.text.as_str(),
+            "{encoding:?}"
+        );
         if replace {
             assert!(rt; report.faults.is_empty(), "{encoding:?}");
         } else {
-            assert_eq!(rt;
-                report.faults.as_slice(),
-                want.faults.as_slice(),
+            assert!(rt;
+                report.faults.as_slice() == want.faults.as_slice(),
                 "{encoding:?}"
             );
         }

@@ -53,7 +53,7 @@ fn decoder_after(
     let mut buffer = [0; 16];
     assert!(rt; !decoder.is_finished());
     let (result, read, _, _) = decoder.decode_to_utf8(bytes, &mut buffer, false);
-    assert_eq!(rt; (result, read), (EMPTY, bytes.len()));
+    assert!(rt; (result, read) == (EMPTY, bytes.len()));
     decoder
 }
 
@@ -62,7 +62,7 @@ fn compare_lengths(rt: &impl Abort, rows: &[QueryRow]) {
     for (encoding, handling, bytes, more, want) in rows {
         let decoder = decoder_after(rt, (*encoding, *handling), bytes);
         let answers = lengths(rt, &decoder, *more);
-        assert_eq!(rt; answers, *want, "{encoding:?} {bytes:?} {more}");
+        assert!(rt; answers == *want, "{encoding:?} {bytes:?} {more}");
     }
 }
 
@@ -363,17 +363,17 @@ const LIMIT_ROWS: &[LimitRow] = &[
 /// The greatest length is returned, and none for a byte more.
 fn compare_limits(rt: &impl Abort, decoder: &Decoder, limits: (Limit, Limit, Limit)) {
     let (utf_8, reporting, utf_16) = limits;
-    assert_eq!(rt; lengths(rt, decoder, utf_8.0).0, Some(utf_8.1));
-    assert_eq!(rt; lengths(rt, decoder, reporting.0).1, Some(reporting.1));
-    assert_eq!(rt; lengths(rt, decoder, utf_16.0).2, Some(utf_16.1));
+    assert!(rt; lengths(rt, decoder, utf_8.0).0 == Some(utf_8.1));
+    assert!(rt; lengths(rt, decoder, reporting.0).1 == Some(reporting.1));
+    assert!(rt; lengths(rt, decoder, utf_16.0).2 == Some(utf_16.1));
     if let Some(more) = utf_8.0.checked_add(1) {
-        assert_eq!(rt; lengths(rt, decoder, more).0, None, "{more}");
+        assert!(rt; lengths(rt, decoder, more).0 == None, "{more}");
     }
     if let Some(more) = reporting.0.checked_add(1) {
-        assert_eq!(rt; lengths(rt, decoder, more).1, None, "{more}");
+        assert!(rt; lengths(rt, decoder, more).1 == None, "{more}");
     }
     if let Some(more) = utf_16.0.checked_add(1) {
-        assert_eq!(rt; lengths(rt, decoder, more).2, None, "{more}");
+        assert!(rt; lengths(rt, decoder, more).2 == None, "{more}");
     }
 }
 
@@ -409,10 +409,10 @@ fn lengths_between_calls(rt: HostRuntime) -> Result<(), Fail> {
     make_calls_of(rt.alloc(), &mut decoder, A_MARK_BROKE_OFF)?;
     // BB is still to come out
     let want = (Some(12), Some(12), Some(4));
-    assert_eq!(rt; lengths(&rt, &decoder, 2), want);
+    assert!(rt; lengths(&rt, &decoder, 2) == want);
     make_calls_of(rt.alloc(), &mut decoder, THEN)?;
     let mut decoder = REPLACEMENT.new_decoder();
-    assert_eq!(rt; lengths(&rt, &decoder, 4).1, Some(7));
+    assert!(rt; lengths(&rt, &decoder, 4).1 == Some(7));
     make_reporting_calls_of(rt.alloc(), &mut decoder, BEHIND_A_MARK)
 }
 
@@ -442,7 +442,7 @@ fn decode_chunk(
 ) -> usize {
     assert!(rt; !decoder.is_finished());
     let (result, read, written, _) = decoder.decode_to_utf16(chunk, units, last);
-    assert_eq!(rt; (result, read), (EMPTY, chunk.len()));
+    assert!(rt; (result, read) == (EMPTY, chunk.len()));
     written
 }
 
@@ -534,8 +534,10 @@ fn compare_sniffed(rt: &impl Abort, (chunks, want, used): SniffedRow) {
         written = written.saturating_add(more);
     }
     assert!(rt; written <= 16);
-    assert_eq!(rt; &units[..written], want, "{chunks:?}");
-    assert_eq!(rt; decoder.encoding(), used, "{chunks:?}");
+    assert!(rt;
+        &units[..written] == want && decoder.encoding() == used,
+        "{chunks:?}"
+    );
 }
 
 #[test]

@@ -125,31 +125,20 @@ fn compare_fills(
     );
     let in_turn = fill(rt, encoding, (bytes, 1), &mut single[..room], reporting);
     assert!(rt;
-        at_once == in_turn,
-        "{encoding:?} {bytes:?} {room} {reporting}"
-    );
-    assert_eq!(rt;
-        whole.as_slice(),
-        single.as_slice(),
+        at_once == in_turn && whole.as_slice() == single.as_slice(),
         "{encoding:?} {bytes:?} {room} {reporting}"
     );
     if !at_once.is_full {
-        assert_eq!(rt; at_once.read, bytes.len(), "{encoding:?} {bytes:?} {room}");
-        assert_eq!(rt;
-            at_once.had_errors,
-            !input.malformed.is_empty(),
+        assert!(rt;
+            at_once.read == bytes.len() && at_once.had_errors == !input.malformed.is_empty(),
             "{encoding:?} {bytes:?} {room}"
         );
     }
     assert!(rt; at_once.written <= MOST_ROOM);
     if !reporting {
         assert!(rt;
-            input.text.starts_with(&whole[..at_once.written]),
-            "{encoding:?} {bytes:?} {room}"
-        );
-        assert_eq!(rt;
-            at_once.is_full,
-            room < input.text.len(),
+            input.text.starts_with(&whole[..at_once.written])
+                && at_once.is_full == (room < input.text.len()),
             "{encoding:?} {bytes:?} {room}"
         );
     }
@@ -183,7 +172,7 @@ fn compare_rooms(
     encoding: Encoding,
     input: &Input<'_>,
 ) -> Result<(), Fail> {
-    assert_eq!(rt; input.bytes.len(), LENGTH);
+    assert!(rt; input.bytes.len() == LENGTH);
     assert!(rt; input.text.len() < ROOMS);
     for reporting in [false, true] {
         for room in 0..ROOMS {

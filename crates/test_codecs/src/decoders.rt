@@ -24,7 +24,7 @@ fn each_codec_decodes_a_character(rt: HostRuntime) -> Result<(), Fail> {
 
 /// The decoder holds each of the bytes.
 fn hold_three(rt: &impl Abort, mut decoder: VariantDecoder, bytes: [u8; 3]) -> Result<(), Fail> {
-    assert_eq!(rt; decoder.held(), 0);
+    assert!(rt; decoder.held() == 0);
     hold(&mut decoder, &bytes[..1], 1)?;
     hold(&mut decoder, &bytes[1..2], 2)?;
     hold(&mut decoder, &bytes[2..], 3)
@@ -52,8 +52,8 @@ fn call_with_malformed(
     let mut out = Utf8Slice::new(&mut dst[..room]);
     let mut decoder = codec.new_decoder();
     let outcome = decoder.decode(src, &mut out, true, fault_room);
-    assert_eq!(rt; outcome, want);
-    assert_eq!(rt; out.len(), 0);
+    assert!(rt; outcome == want);
+    assert!(rt; out.len() == 0);
 }
 
 #[test]
@@ -128,12 +128,12 @@ fn decoders_by_themselves_tell_lengths(rt: HostRuntime) {
         let mut buffer = [0; 16];
         let mut out = Utf8Slice::new(&mut buffer);
         let (result, read) = decoder.decode(bytes, &mut out, false, false);
-        assert_eq!(rt; (result, read), (DecoderResult::InputEmpty, bytes.len()));
+        assert!(rt; (result, read) == (DecoderResult::InputEmpty, bytes.len()));
         let answers = (
             decoder.max_utf8_buffer_length(*more),
             decoder.max_utf8_buffer_length_without_replacement(*more),
             decoder.max_utf16_buffer_length(*more),
         );
-        assert_eq!(rt; answers, *want, "{bytes:?} {more}");
+        assert!(rt; answers == *want, "{bytes:?} {more}");
     }
 }

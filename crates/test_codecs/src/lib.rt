@@ -1,8 +1,9 @@
-//! Tests of each decoder, with every split of its input and every small output buffer; of index
-//! look-ups, and of outputs.
+//! Tests of each decoder and encoder, with every split of its input and every small output buffer;
+//! of index look-ups, and of outputs.
 //!
 //! Each codec has a module in `codecs` with a table of rows. One call runs the rows through the
-//! `Encoding` and through the codec's `RawDecoder`. Expected values come from outside, as each
+//! `Encoding` and through the codec's `RawDecoder`. `encoders` has texts and their bytes, with
+//! references and without, from both forms of input. Expected values come from outside, as each
 //! table says: from examples of the Encoding Standard, from Unicode's tables, and from other
 //! converters.
 #![tactic(auto)]
@@ -11,6 +12,8 @@
 mod codecs;
 #[cfg(test)]
 mod decoders;
+#[cfg(test)]
+mod encoders;
 #[cfg(test)]
 mod indexes;
 #[cfg(test)]

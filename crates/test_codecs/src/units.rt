@@ -11,7 +11,7 @@ use std::test::Fail;
 
 /// The output's constant for U+FFFD is its width.
 fn compare_fault<U: Units>(rt: &impl Abort) {
-    assert_eq!(rt; U::FAULT, U::width('\u{FFFD}'));
+    assert!(rt; U::FAULT == U::width('\u{FFFD}'));
 }
 
 #[test]
@@ -25,24 +25,24 @@ fn a_fault_is_as_wide_as_its_character(rt: HostRuntime) {
 fn utf_8_takes_whole_characters_alone(rt: HostRuntime) {
     let mut dst = [0x61, 0x62, 0x63];
     let mut out = Utf8Slice::new(&mut dst);
-    assert_eq!(rt; (out.len(), out.room()), (0, 3));
+    assert!(rt; (out.len(), out.room()) == (0, 3));
     assert!(rt; out.put('é'));
-    assert_eq!(rt; (out.len(), out.room()), (2, 1));
+    assert!(rt; (out.len(), out.room()) == (2, 1));
     assert!(rt; !out.put('é'));
-    assert_eq!(rt; (out.len(), out.room()), (2, 1));
-    assert_eq!(rt; dst, [0xC3, 0xA9, 0x63]);
+    assert!(rt; (out.len(), out.room()) == (2, 1));
+    assert!(rt; dst == [0xC3, 0xA9, 0x63]);
 }
 
 #[test]
 fn utf_16_takes_whole_pairs_alone(rt: HostRuntime) {
     let mut dst = [1, 2, 3, 4];
     let mut out = Utf16Slice::new(&mut dst);
-    assert_eq!(rt; (out.len(), out.room()), (0, 4));
+    assert!(rt; (out.len(), out.room()) == (0, 4));
     assert!(rt; out.put('é'));
     assert!(rt; out.put('\u{10FFFF}'));
     assert!(rt; !out.put('\u{10000}'));
-    assert_eq!(rt; (out.len(), out.room()), (3, 1));
-    assert_eq!(rt; dst, [0xE9, 0xDBFF, 0xDFFF, 4]);
+    assert!(rt; (out.len(), out.room()) == (3, 1));
+    assert!(rt; dst == [0xE9, 0xDBFF, 0xDFFF, 4]);
 }
 
 #[test]
@@ -50,15 +50,15 @@ fn a_string_takes_what_fits_and_never_grows(rt: HostRuntime) -> Result<(), Fail>
     let mut text = String::with_capacity(rt.alloc(), 8)?;
     text.push_str("ab")?;
     let mut out = StringTail::new(&mut text);
-    assert_eq!(rt; out.room(), 6);
+    assert!(rt; out.room() == 6);
     assert!(rt; out.put('€'));
-    assert_eq!(rt; out.put_ascii("cd\u{E9}".as_bytes()), 2);
-    assert_eq!(rt; out.room(), 1);
+    assert!(rt; out.put_ascii("cd\u{E9}".as_bytes()) == 2);
+    assert!(rt; out.room() == 1);
     assert!(rt; !out.put('é'));
-    assert_eq!(rt; out.put_utf8("é".as_bytes()), 0);
-    assert_eq!(rt; out.put_utf8(b"e\xFF"), 1);
-    assert_eq!(rt; out.room(), 0);
-    assert_eq!(rt; (text.as_str(), text.capacity()), ("ab€cde", 8));
+    assert!(rt; out.put_utf8("é".as_bytes()) == 0);
+    assert!(rt; out.put_utf8(b"e\xFF") == 1);
+    assert!(rt; out.room() == 0);
+    assert!(rt; (text.as_str(), text.capacity()) == ("ab€cde", 8));
     Ok(())
 }
 
@@ -66,11 +66,8 @@ fn a_string_takes_what_fits_and_never_grows(rt: HostRuntime) -> Result<(), Fail>
 fn a_string_without_spare_capacity_takes_nothing(rt: HostRuntime) {
     let mut text = String::new(rt.alloc());
     let mut out = StringTail::new(&mut text);
-    assert_eq!(rt;
-        (out.room(), out.put('a'), out.put_ascii(b"a")),
-        (0, false, 0)
-    );
-    assert_eq!(rt; text.as_str(), "");
+    assert!(rt; (out.room(), out.put('a'), out.put_ascii(b"a")) == (0, false, 0));
+    assert!(rt; text.as_str() == "");
 }
 
 /// Characters of one to four bytes, more than a block of 64 bytes.
@@ -91,8 +88,10 @@ fn well_formed_utf_8_ends_before_what_is_malformed(rt: HostRuntime) {
             src[at] = other;
             let mut dst = [0; 200];
             let taken = Utf8Slice::new(&mut dst).put_utf8(&src);
-            assert_eq!(rt; taken, utf8_valid_up_to(&src), "{other} at {at}");
-            assert_eq!(rt; &dst[..taken], &src[..taken], "{other} at {at}");
+            assert!(rt;
+                taken == utf8_valid_up_to(&src) && &dst[..taken] == &src[..taken],
+                "{other} at {at}"
+            );
         }
     }
 }
@@ -103,10 +102,10 @@ fn well_formed_utf_8_ends_where_it_is_full(rt: HostRuntime) {
     for room in 0..text.len() {
         let mut dst = [0xFF; 200];
         let taken = Utf8Slice::new(&mut dst[..room]).put_utf8(text);
-        assert_eq!(rt; taken, utf8_valid_up_to(&text[..room]), "room of {room}");
-        assert_eq!(rt; &dst[..taken], &text[..taken], "room of {room}");
         assert!(rt;
-            dst[taken..].iter().all(|byte| *byte == 0xFF),
+            taken == utf8_valid_up_to(&text[..room])
+                && &dst[..taken] == &text[..taken]
+                && dst[taken..].iter().all(|byte| *byte == 0xFF),
             "room of {room}"
         );
     }
@@ -133,10 +132,10 @@ fn utf_16_ends_before_what_is_malformed_or_does_not_fit(rt: HostRuntime) {
             20 | 21 => (23, 20),
             _ => (27, 22),
         };
-        assert_eq!(rt; taken, bytes, "room of {room}");
-        assert_eq!(rt; &dst[..units], &UNITS[..units], "room of {room}");
         assert!(rt;
-            dst[units..].iter().all(|unit| *unit == 7),
+            taken == bytes
+                && &dst[..units] == &UNITS[..units]
+                && dst[units..].iter().all(|unit| *unit == 7),
             "room of {room}"
         );
     }
@@ -146,13 +145,13 @@ fn utf_16_ends_before_what_is_malformed_or_does_not_fit(rt: HostRuntime) {
 fn the_rest_of_a_character_becomes_null(rt: HostRuntime) {
     let mut dst = *b"a\xA9\xBF\x80\xC3\xA9";
     clear_rest(&mut dst, 1);
-    assert_eq!(rt; &dst, b"a\0\0\0\xC3\xA9");
+    assert!(rt; &dst == b"a\0\0\0\xC3\xA9");
     clear_rest(&mut dst, 4);
-    assert_eq!(rt; &dst, b"a\0\0\0\xC3\xA9");
+    assert!(rt; &dst == b"a\0\0\0\xC3\xA9");
     clear_rest(&mut dst, 6);
-    assert_eq!(rt; &dst, b"a\0\0\0\xC3\xA9");
+    assert!(rt; &dst == b"a\0\0\0\xC3\xA9");
     clear_rest(&mut dst, 5);
-    assert_eq!(rt; &dst, b"a\0\0\0\xC3\0");
+    assert!(rt; &dst == b"a\0\0\0\xC3\0");
 }
 
 /// Bytes, and the length of their longest prefix that is well-formed UTF-8.
@@ -186,13 +185,12 @@ const ASCII: &[(&[u8], usize, usize)] = &[
 #[test]
 fn bytes_are_valid_up_to_what_is_not(rt: HostRuntime) {
     for (bytes, want) in UTF_8 {
-        assert_eq!(rt; utf8_valid_up_to(bytes), *want, "of {bytes:?}");
+        assert!(rt; utf8_valid_up_to(bytes) == *want, "of {bytes:?}");
     }
     for (bytes, ascii, iso_2022_jp_ascii) in ASCII {
-        assert_eq!(rt; ascii_valid_up_to(bytes), *ascii, "of {bytes:?}");
-        assert_eq!(rt;
-            iso_2022_jp_ascii_valid_up_to(bytes),
-            *iso_2022_jp_ascii,
+        assert!(rt;
+            ascii_valid_up_to(bytes) == *ascii
+                && iso_2022_jp_ascii_valid_up_to(bytes) == *iso_2022_jp_ascii,
             "of {bytes:?}"
         );
     }

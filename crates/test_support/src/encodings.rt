@@ -1,4 +1,4 @@
-//! All encodings. A test that runs over `TABLE` takes in every encoding.
+//! All encodings. A test that runs over `table()` takes in every encoding.
 //!
 //! Written by scripts/make-encodings from data/encodings.txt:
 //! change that list and run the script, and not this file.
@@ -8,9 +8,9 @@ use encoding_rs::*;
 /// The number of labels.
 pub const LABELS: usize = 228;
 
-/// Each encoding with its name and its labels.
+/// The rows of `table`.
 #[rattlefmt::skip]
-pub const TABLE: &[(Encoding, &str, &str)] = &[
+const TABLE: &[(Encoding, &str, &str)] = &[
     (UTF_8, "UTF-8", "unicode-1-1-utf-8 unicode11utf8 unicode20utf8 utf-8 utf8 x-unicode20utf8"),
     (IBM866, "IBM866", "866 cp866 csibm866 ibm866"),
     (ISO_8859_2, "ISO-8859-2", "csisolatin2 iso-8859-2 iso-ir-101 iso8859-2 iso88592 iso_8859-2 iso_8859-2:1987 l2 latin2"),
@@ -52,6 +52,12 @@ pub const TABLE: &[(Encoding, &str, &str)] = &[
     (UTF_16LE, "UTF-16LE", "csunicode iso-10646-ucs-2 ucs-2 unicode unicodefeff utf-16 utf-16le"),
     (X_USER_DEFINED, "x-user-defined", "x-user-defined"),
 ];
+
+/// Each encoding with its name and its labels. Not a constant: the prover looks at all rows of a
+/// constant in each function that names it.
+pub fn table() -> &'static [(Encoding, &'static str, &'static str)] {
+    TABLE
+}
 
 /// Each encoding with its second constant.
 #[rattlefmt::skip]

@@ -16,7 +16,7 @@ fn results_of_decoders_are_compared_and_printed(rt: HostRuntime) -> Result<(), F
     );
     assert!(rt; are_equal(&one, &one) && !are_equal(&one, &two));
     assert!(rt; !are_equal(&DecoderResult::InputEmpty, &DecoderResult::OutputFull));
-    assert_eq!(rt; debug_text(rt.alloc(), &one)?.as_str(), "Malformed(1, 0)");
+    assert!(rt; debug_text(rt.alloc(), &one)?.as_str() == "Malformed(1, 0)");
     Ok(())
 }
 
@@ -27,28 +27,25 @@ fn decode_in_parts<D: RawDecoder>(rt: &impl Abort, start: D) {
     let mut dst: [u8; 8] = [0; 8];
     let mut out = Utf8Slice::new(&mut dst);
     let answer: (DecoderResult, usize) = decoder.decode(b"\xE2", &mut out, false, false);
-    assert_eq!(rt; answer, (DecoderResult::InputEmpty, 1));
+    assert!(rt; answer == (DecoderResult::InputEmpty, 1));
     let held: usize = decoder.held();
     let utf_8: Option<usize> = decoder.max_utf8_buffer_length(2);
     let reporting: Option<usize> = decoder.max_utf8_buffer_length_without_replacement(2);
     let utf_16: Option<usize> = decoder.max_utf16_buffer_length(2);
-    assert_eq!(rt;
-        (held, utf_8, reporting, utf_16),
-        (1, Some(12), Some(6), Some(4))
-    );
+    assert!(rt; (held, utf_8, reporting, utf_16) == (1, Some(12), Some(6), Some(4)));
     // no byte stands for itself while one is held
     let latin1: (Option<usize>, Option<usize>) = (
         start.latin1_byte_compatible_up_to(b"ab\xC3\xA9"),
         decoder.latin1_byte_compatible_up_to(b"ab"),
     );
-    assert_eq!(rt; latin1, (Some(2), None));
+    assert!(rt; latin1 == (Some(2), None));
     let answer: (DecoderResult, usize, bool) = decoder.decode_replacing(
         b"\x82\xAC\xFF",
         &mut out,
         true,
     );
-    assert_eq!(rt; answer, (DecoderResult::InputEmpty, 3, true));
-    assert_eq!(rt; &dst[..6], "€\u{FFFD}".as_bytes());
+    assert!(rt; answer == (DecoderResult::InputEmpty, 3, true));
+    assert!(rt; &dst[..6] == "€\u{FFFD}".as_bytes());
 }
 
 #[test]
@@ -63,9 +60,9 @@ fn a_malformed_byte_is_reported_with_room_for_its_character(rt: HostRuntime) {
     let mut dst: [u8; 2] = [0; 2];
     let mut out = Utf8Slice::new(&mut dst);
     let with_room = decoder.decode(b"\xFF", &mut out, true, true);
-    assert_eq!(rt; with_room, (DecoderResult::OutputFull, 0));
+    assert!(rt; with_room == (DecoderResult::OutputFull, 0));
     let without = decoder.decode(b"\xFF", &mut out, true, false);
-    assert_eq!(rt; without, (DecoderResult::Malformed(1, 0), 1));
+    assert!(rt; without == (DecoderResult::Malformed(1, 0), 1));
 }
 
 /// Decodes some bytes by a new decoder: this is their text.
@@ -73,8 +70,8 @@ fn decode_text<D: RawDecoder>(rt: &impl Abort, mut decoder: D, bytes: &[u8], tex
     let mut dst: [u8; 8] = [0; 8];
     let mut out = Utf8Slice::new(&mut dst);
     let answer = decoder.decode(bytes, &mut out, true, false);
-    assert_eq!(rt; answer, (DecoderResult::InputEmpty, bytes.len()));
-    assert_eq!(rt; out.len(), text.len());
+    assert!(rt; answer == (DecoderResult::InputEmpty, bytes.len()));
+    assert!(rt; out.len() == text.len());
     assert!(rt; dst.as_slice().starts_with(text.as_bytes()));
 }
 
@@ -149,7 +146,7 @@ fn each_codec_has_a_decoder(rt: HostRuntime) -> Result<(), Fail> {
     for (codec, name, bytes, text) in CODECS {
         let (codec, _) = copies(*codec)?;
         let decoder: VariantDecoder = codec.new_decoder();
-        assert_eq!(rt; variant_name(&decoder), *name);
+        assert!(rt; variant_name(&decoder) == *name);
         decode_all(&rt, decoder, *bytes, *text)?;
     }
     Ok(())
@@ -179,8 +176,8 @@ fn each_index_has_characters_by_pointer(rt: HostRuntime) -> Result<(), Fail> {
             return Err("no run has the pointer".into());
         };
         let offset = pointer.wrapping_sub(*first);
-        assert_eq!(rt; number.wrapping_add(offset), *want as u32);
-        assert_eq!(rt; (character, list.at(u32::MAX)), (Some(*want), None));
+        assert!(rt; number.wrapping_add(offset) == *want as u32);
+        assert!(rt; (character, list.at(u32::MAX)) == (Some(*want), None));
     }
     Ok(())
 }
@@ -221,7 +218,7 @@ fn each_single_byte_index_has_a_character_of_byte_e4(rt: HostRuntime) -> Result<
     for (index, want) in SINGLE_BYTE_INDEXES {
         let (index, _) = copies(*index)?;
         let character: Option<char> = index.at(0xE4 - 0x80);
-        assert_eq!(rt; character, Some(*want));
+        assert!(rt; character == Some(*want));
     }
     Ok(())
 }

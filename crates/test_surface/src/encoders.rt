@@ -22,7 +22,7 @@ fn results_of_encoders_are_compared_and_printed(rt: HostRuntime) -> Result<(), F
     );
     assert!(rt; are_equal(&one, &one) && !are_equal(&one, &two));
     assert!(rt; !are_equal(&EncoderResult::InputEmpty, &EncoderResult::OutputFull));
-    assert_eq!(rt; debug_text(rt.alloc(), &one)?.as_str(), "Unmappable('é')");
+    assert!(rt; debug_text(rt.alloc(), &one)?.as_str() == "Unmappable('é')");
     Ok(())
 }
 
@@ -33,19 +33,16 @@ fn encode_in_parts<E: RawEncoder>(rt: &impl Abort, encoder: &mut E) {
     let mut src = Utf8Chars::new("あ");
     let answer: (EncoderResult, usize, usize) = encoder.encode(&mut src, &mut dst, false);
     let is_pending: bool = encoder.has_pending_state();
-    assert_eq!(rt;
-        (answer, is_pending),
-        ((EncoderResult::InputEmpty, 3, 5), true)
-    );
-    assert_eq!(rt; &dst, b"\x1B$B$\"");
+    assert!(rt; (answer, is_pending) == ((EncoderResult::InputEmpty, 3, 5), true));
+    assert!(rt; &dst == b"\x1B$B$\"");
     let mut src = Utf16Chars::new(&[0x3042, 0xD83D, 0xDCA9]);
     let answer = encoder.encode(&mut src, &mut dst, false);
-    assert_eq!(rt; answer, (EncoderResult::Unmappable('💩'), 3, 5));
+    assert!(rt; answer == (EncoderResult::Unmappable('💩'), 3, 5));
     let answer = encoder.encode(&mut Utf8Chars::new("あ"), &mut [], true);
-    assert_eq!(rt; answer, (EncoderResult::OutputFull, 0, 0));
+    assert!(rt; answer == (EncoderResult::OutputFull, 0, 0));
     let from_utf_8: Option<usize> = encoder.max_buffer_length_from_utf8_without_replacement(1);
     let from_utf_16: Option<usize> = encoder.max_buffer_length_from_utf16_without_replacement(1);
-    assert_eq!(rt; (from_utf_8, from_utf_16), (Some(7), Some(8)));
+    assert!(rt; (from_utf_8, from_utf_16) == (Some(7), Some(8)));
 }
 
 #[test]
@@ -60,7 +57,7 @@ fn encode_all<E: RawEncoder + Drop>(rt: &impl Abort, mut encoder: E, text: &str,
     let mut dst: [u8; 8] = [0; 8];
     let answer = encoder.encode(&mut Utf8Chars::new(text), &mut dst, true);
     let want = (EncoderResult::InputEmpty, text.len(), bytes.len());
-    assert_eq!(rt; answer, want);
+    assert!(rt; answer == want);
     assert!(rt; dst.as_slice().starts_with(bytes));
 }
 
@@ -125,7 +122,7 @@ fn each_codec_but_three_has_an_encoder(rt: HostRuntime) {
         let is_there: bool = has_encoder(*codec);
         assert!(rt; is_there);
         let encoder: VariantEncoder = new_encoder(*codec, &[]);
-        assert_eq!(rt; variant_name(&encoder), *name);
+        assert!(rt; variant_name(&encoder) == *name);
         encode_all(&rt, encoder, *text, *bytes);
     }
     for codec in [Codec::Utf16Be, Codec::Utf16Le, Codec::Replacement] {
@@ -137,5 +134,5 @@ fn each_codec_but_three_has_an_encoder(rt: HostRuntime) {
 fn barred_characters_are_unmappable(rt: HostRuntime) {
     let mut encoder = new_encoder(Codec::Utf8, &['é']);
     let answer = encoder.encode(&mut Utf8Chars::new("aé"), &mut [0; 8], true);
-    assert_eq!(rt; answer, (EncoderResult::Unmappable('é'), 3, 1));
+    assert!(rt; answer == (EncoderResult::Unmappable('é'), 3, 1));
 }

@@ -12,9 +12,9 @@ use std::test::Fail;
 fn faults_of_a_reader_are_compared_and_printed(rt: HostRuntime) -> Result<(), Fail> {
     assert!(rt; are_equal(&ReadFault::Reader, &ReadFault::Reader));
     assert!(rt; !are_equal(&ReadFault::Reader, &ReadFault::Failed));
-    assert_eq!(rt; (ReadFault::Reader as u8, ReadFault::Failed as u8), (1, 2));
+    assert!(rt; (ReadFault::Reader as u8, ReadFault::Failed as u8) == (1, 2));
     let text = debug_text(rt.alloc(), &ReadFault::Failed)?;
-    assert_eq!(rt; text.as_str(), "Failed");
+    assert!(rt; text.as_str() == "Failed");
     Ok(())
 }
 
@@ -34,7 +34,7 @@ fn pull_once<S: Source>(rt: &impl Abort, source: &mut S, want: (Result<usize, ()
     let mut buf: [u8; 2] = [0; 2];
     let answer: Result<usize, ()> = source.pull(&mut buf);
     let has_failed: bool = source.failed();
-    assert_eq!(rt; (answer, has_failed), want);
+    assert!(rt; (answer, has_failed) == want);
 }
 
 #[test]
@@ -52,19 +52,19 @@ fn a_reader_hands_out_text(rt: HostRuntime) -> Result<(), Fail> {
     let mut input: [u8; 8] = [0; 8];
     let mut reader = DecodeReader::new(&mut source, Some(WINDOWS_1252), &mut input);
     let (encoding, had_errors): (Encoding, bool) = (reader.encoding(), reader.had_errors());
-    assert_eq!(rt; (encoding, had_errors), (WINDOWS_1252, false));
+    assert!(rt; (encoding, had_errors) == (WINDOWS_1252, false));
     let mut dst: [u8; 4] = [0; 4];
     let answer: Result<usize, ReadFault> = reader.read_str(&mut dst);
-    assert_eq!(rt; answer, Ok(4));
-    assert_eq!(rt; dst.as_slice(), "a\u{FFFD}".as_bytes());
-    assert_eq!(rt; (reader.encoding(), reader.had_errors()), (UTF_8, true));
+    assert!(rt; answer == Ok(4));
+    assert!(rt; dst.as_slice() == "a\u{FFFD}".as_bytes());
+    assert!(rt; (reader.encoding(), reader.had_errors()) == (UTF_8, true));
     let answer: Result<HandedText, ReadFault> = reader.read_or_lend(&mut dst);
     let Ok(handed) = answer else {
         return Err("the source can't be read".into());
     };
     // the end
     let text: &[u8] = reader.text(&dst, handed);
-    assert_eq!(rt; text, b"".as_slice());
+    assert!(rt; text == b"".as_slice());
     Ok(())
 }
 
@@ -73,7 +73,7 @@ fn a_reader_reports_a_fault_once(rt: HostRuntime) {
     let mut source = FromRead::new(Broken);
     let mut input: [u8; 8] = [0; 8];
     let mut reader = DecodeReader::new(&mut source, None, &mut input);
-    assert_eq!(rt; reader.read_str(&mut [0; 4]), Err(ReadFault::Reader));
-    assert_eq!(rt; reader.read_str(&mut [0; 4]), Err(ReadFault::Failed));
-    assert_eq!(rt; (reader.encoding(), reader.had_errors()), (UTF_8, false));
+    assert!(rt; reader.read_str(&mut [0; 4]) == Err(ReadFault::Reader));
+    assert!(rt; reader.read_str(&mut [0; 4]) == Err(ReadFault::Failed));
+    assert!(rt; (reader.encoding(), reader.had_errors()) == (UTF_8, false));
 }

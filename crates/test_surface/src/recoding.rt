@@ -13,9 +13,9 @@ use std::test::Fail;
 fn faults_of_a_run_are_compared_and_printed(rt: HostRuntime) -> Result<(), Fail> {
     assert!(rt; are_equal(&RecodeFault::Read, &RecodeFault::Read));
     assert!(rt; !are_equal(&RecodeFault::Read, &RecodeFault::Write));
-    assert_eq!(rt; (RecodeFault::Read as u8, RecodeFault::Write as u8), (1, 2));
+    assert!(rt; (RecodeFault::Read as u8, RecodeFault::Write as u8) == (1, 2));
     let text = debug_text(rt.alloc(), &RecodeFault::Write)?;
-    assert_eq!(rt; text.as_str(), "Write");
+    assert!(rt; text.as_str() == "Write");
     Ok(())
 }
 
@@ -44,14 +44,14 @@ fn push_once<S: Sink>(rt: &impl Abort, sink: &mut S, want: (Result<usize, ()>, b
     assert!(rt; !sink.failed());
     let answer: Result<usize, ()> = sink.push(b"ab");
     let has_failed: bool = sink.failed();
-    assert_eq!(rt; (answer, has_failed), want);
+    assert!(rt; (answer, has_failed) == want);
 }
 
 #[test]
 fn a_sink_takes_bytes_until_it_fails(rt: HostRuntime) {
     let mut written: Vec<u8> = Vec::new(rt.alloc());
     push_once(&rt, &mut FromWrite::new(&mut written), (Ok(2), false));
-    assert_eq!(rt; written.as_slice(), b"ab".as_slice());
+    assert!(rt; written.as_slice() == b"ab".as_slice());
     push_once(&rt, &mut FromWrite::new(Broken), (Err(()), true));
 }
 
@@ -70,25 +70,25 @@ fn a_run_recodes_and_has_a_status(rt: HostRuntime) {
     let mut written: Vec<u8> = Vec::new(rt.alloc());
     let mut sink = FromWrite::new(&mut written);
     let answer = run_between(&mut FromRead::new(b"a".as_slice()), &mut sink);
-    assert_eq!(rt; answer, (Ok(false), 0));
+    assert!(rt; answer == (Ok(false), 0));
     let answer = run_between(&mut FromRead::new(b"\xE9".as_slice()), &mut sink);
-    assert_eq!(rt; answer, (Ok(true), 1));
-    assert_eq!(rt; written.as_slice(), b"a&#233;".as_slice());
+    assert!(rt; answer == (Ok(true), 1));
+    assert!(rt; written.as_slice() == b"a&#233;".as_slice());
 }
 
 #[test]
 fn a_run_names_the_device_that_failed(rt: HostRuntime) {
     let answer = run_between(&mut FromRead::new(Broken), &mut FromWrite::new(Broken));
-    assert_eq!(rt; answer, (Err(RecodeFault::Read), 3));
+    assert!(rt; answer == (Err(RecodeFault::Read), 3));
     let mut source = FromRead::new(b"a".as_slice());
     let answer = run_between(&mut source, &mut FromWrite::new(Broken));
-    assert_eq!(rt; answer, (Err(RecodeFault::Write), 3));
+    assert!(rt; answer == (Err(RecodeFault::Write), 3));
 }
 
 #[test]
 fn two_labels_name_encodings(rt: HostRuntime) {
     let found: Option<(Encoding, Encoding)> = labels("Latin1", "utf8");
-    assert_eq!(rt; found, Some((WINDOWS_1252, UTF_8)));
-    assert_eq!(rt; labels("nonsense", "utf-8"), None);
-    assert_eq!(rt; labels("utf-8", "replacement"), None);
+    assert!(rt; found == Some((WINDOWS_1252, UTF_8)));
+    assert!(rt; labels("nonsense", "utf-8") == None);
+    assert!(rt; labels("utf-8", "replacement") == None);
 }

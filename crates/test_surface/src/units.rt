@@ -14,8 +14,8 @@ fn write_two_texts<U: Units>(rt: &impl Abort, out: &mut U, want: Widths) {
     let is_written: bool = out.put('é');
     let ascii: usize = out.put_ascii(b"ab\x80c");
     let room: usize = out.room();
-    assert_eq!(rt; (fault, narrow, wide, room), want);
-    assert_eq!(rt; (is_written, ascii), (true, 2));
+    assert!(rt; (fault, narrow, wide, room) == want);
+    assert!(rt; (is_written, ascii) == (true, 2));
 }
 
 #[test]
@@ -23,16 +23,16 @@ fn outputs_take_characters_and_ascii(rt: HostRuntime) -> Result<(), Fail> {
     let mut bytes: [u8; 8] = [0; 8];
     let mut out = Utf8Slice::new(&mut bytes);
     write_two_texts(&rt, &mut out, (3, 2, 4, 4));
-    assert_eq!(rt; out.len(), 4);
-    assert_eq!(rt; &bytes, b"\xC3\xA9ab\0\0\0\0");
+    assert!(rt; out.len() == 4);
+    assert!(rt; &bytes == b"\xC3\xA9ab\0\0\0\0");
     let mut units: [u16; 8] = [0; 8];
     let mut out = Utf16Slice::new(&mut units);
     write_two_texts(&rt, &mut out, (1, 1, 2, 5));
-    assert_eq!(rt; out.len(), 3);
-    assert_eq!(rt; units, [0xE9, 0x61, 0x62, 0, 0, 0, 0, 0]);
+    assert!(rt; out.len() == 3);
+    assert!(rt; units == [0xE9, 0x61, 0x62, 0, 0, 0, 0, 0]);
     let mut text = String::with_capacity(rt.alloc(), 8)?;
     write_two_texts(&rt, &mut StringTail::new(&mut text), (3, 2, 4, 4));
-    assert_eq!(rt; text.as_str(), "éab");
+    assert!(rt; text.as_str() == "éab");
     Ok(())
 }
 
@@ -41,11 +41,11 @@ fn read_all<C: Chars>(rt: &impl Abort, input: &mut C, want: &[(char, usize)]) {
     for (character, units) in want {
         let unread: usize = input.unread();
         let next: Option<(char, usize)> = input.peek();
-        assert_eq!(rt; next, Some((*character, *units)));
+        assert!(rt; next == Some((*character, *units)));
         input.advance();
-        assert_eq!(rt; input.unread().checked_add(*units), Some(unread));
+        assert!(rt; input.unread().checked_add(*units) == Some(unread));
     }
-    assert_eq!(rt; (input.peek(), input.unread()), (None, 0));
+    assert!(rt; (input.peek(), input.unread()) == (None, 0));
 }
 
 #[test]
@@ -62,5 +62,5 @@ fn prefixes_are_valid_up_to_a_byte(rt: HostRuntime) {
     let utf_8: usize = enc_units::utf8_valid_up_to(b"a\xC3\xA9\xED\xA0\x80");
     let ascii: usize = enc_units::ascii_valid_up_to(b"a\x1B\x80");
     let iso_2022_jp: usize = enc_units::iso_2022_jp_ascii_valid_up_to(b"a\x1B\x80");
-    assert_eq!(rt; (utf_8, ascii, iso_2022_jp), (3, 2, 1));
+    assert!(rt; (utf_8, ascii, iso_2022_jp) == (3, 2, 1));
 }

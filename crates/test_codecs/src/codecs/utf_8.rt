@@ -120,8 +120,8 @@ fn malformed_sequences_are_placed(rt: HostRuntime) -> Result<(), Fail> {
 fn compare_plain(rt: &impl Abort, alloc: Global, row: &Row) -> Result<(), Fail> {
     let input = input_of(row);
     let plain = decode_utf_8(alloc, input.bytes)?;
-    assert_eq!(rt; plain.text.as_slice(), input.text);
-    assert_eq!(rt; plain.had_errors, !input.malformed.is_empty());
+    assert!(rt; plain.text.as_slice() == input.text);
+    assert!(rt; plain.had_errors == !input.malformed.is_empty());
     Ok(())
 }
 

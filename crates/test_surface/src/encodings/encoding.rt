@@ -24,23 +24,23 @@ fn equal_encodings_are_the_same_and_hash_alike(rt: HostRuntime) {
     assert!(rt; is_same && !laws::equal_are_the_same(UTF_8, SHIFT_JIS));
     let (mut first, mut second) = (DefaultHasher::new(), DefaultHasher::new());
     laws::equal_hash_alike(UTF_8, UTF_8, &mut first, &mut second);
-    assert_eq!(rt; first.finish(), second.finish());
+    assert!(rt; first.finish() == second.finish());
 }
 
 #[test]
 fn an_encoding_is_found_by_label_or_byte_order_mark(rt: HostRuntime) {
     let found: Option<Encoding> = Encoding::for_label(b" \tSJIS\r\n");
-    assert_eq!(rt; found, Some(SHIFT_JIS));
-    assert_eq!(rt; Encoding::for_label(b"bogus"), None);
+    assert!(rt; found == Some(SHIFT_JIS));
+    assert!(rt; Encoding::for_label(b"bogus") == None);
     let found: Option<Encoding> = Encoding::for_label_no_replacement(b"latin1");
-    assert_eq!(rt; found, Some(WINDOWS_1252));
-    assert_eq!(rt; Encoding::for_label(b"hz-gb-2312"), Some(REPLACEMENT));
-    assert_eq!(rt; Encoding::for_label_no_replacement(b"hz-gb-2312"), None);
+    assert!(rt; found == Some(WINDOWS_1252));
+    assert!(rt; Encoding::for_label(b"hz-gb-2312") == Some(REPLACEMENT));
+    assert!(rt; Encoding::for_label_no_replacement(b"hz-gb-2312") == None);
     let found: Option<(Encoding, usize)> = Encoding::for_bom(b"\xEF\xBB\xBFa");
-    assert_eq!(rt; found, Some((UTF_8, 3)));
-    assert_eq!(rt; Encoding::for_bom(b"\xFE\xFF"), Some((UTF_16BE, 2)));
-    assert_eq!(rt; Encoding::for_bom(b"\xFF\xFE"), Some((UTF_16LE, 2)));
-    assert_eq!(rt; Encoding::for_bom(b"\xEF\xBB"), None);
+    assert!(rt; found == Some((UTF_8, 3)));
+    assert!(rt; Encoding::for_bom(b"\xFE\xFF") == Some((UTF_16BE, 2)));
+    assert!(rt; Encoding::for_bom(b"\xFF\xFE") == Some((UTF_16LE, 2)));
+    assert!(rt; Encoding::for_bom(b"\xEF\xBB") == None);
 }
 
 /// An encoding, its name and output encoding, and whether it encodes everything, is
@@ -63,13 +63,13 @@ fn an_encoding_has_its_properties(rt: HostRuntime) {
     for (encoding, want_name, want_output, want) in PROPERTIES {
         let name: &'static str = encoding.name();
         let output: Encoding = encoding.output_encoding();
-        assert_eq!(rt; (name, output), (*want_name, *want_output));
+        assert!(rt; (name, output) == (*want_name, *want_output));
         let properties: [bool; 3] = [
             encoding.can_encode_everything(),
             encoding.is_ascii_compatible(),
             encoding.is_single_byte(),
         ];
-        assert_eq!(rt; properties, *want, "{name}");
+        assert!(rt; properties == *want, "{name}");
     }
 }
 
@@ -78,7 +78,7 @@ fn prefixes_are_valid_up_to_a_byte(rt: HostRuntime) {
     let utf_8: usize = Encoding::utf8_valid_up_to(b"a\xC3\xA9\xED\xA0\x80");
     let ascii: usize = Encoding::ascii_valid_up_to(b"a\x1B\x80");
     let iso_2022_jp: usize = Encoding::iso_2022_jp_ascii_valid_up_to(b"a\x1B\x80");
-    assert_eq!(rt; (utf_8, ascii, iso_2022_jp), (3, 2, 1));
+    assert!(rt; (utf_8, ascii, iso_2022_jp) == (3, 2, 1));
 }
 
 #[test]
@@ -87,12 +87,12 @@ fn an_encoding_makes_decoders_and_encoders(rt: HostRuntime) {
     let removing: Decoder = UTF_16BE.new_decoder_with_bom_removal();
     let plain: Decoder = UTF_16BE.new_decoder_without_bom_handling();
     for decoder in [sniffing, removing, plain] {
-        assert_eq!(rt; decoder.encoding(), UTF_16BE);
+        assert!(rt; decoder.encoding() == UTF_16BE);
     }
     let encoder: Encoder = UTF_16BE.new_encoder();
-    assert_eq!(rt; encoder.encoding(), UTF_8);
+    assert!(rt; encoder.encoding() == UTF_8);
     let is_allowed: bool = Encoding::barred_ok(&['é', '\u{80}']);
     assert!(rt; is_allowed && Encoding::barred_ok(&[]) && !Encoding::barred_ok(&['a']));
     let encoder: Encoder = SHIFT_JIS.new_encoder_barring(&['ハ']);
-    assert_eq!(rt; encoder.encoding(), SHIFT_JIS);
+    assert!(rt; encoder.encoding() == SHIFT_JIS);
 }

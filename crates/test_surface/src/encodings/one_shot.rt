@@ -8,12 +8,9 @@ use std::test::Fail;
 fn errors_of_one_shot_calls_are_compared_and_printed(rt: HostRuntime) -> Result<(), Fail> {
     assert!(rt; are_equal(&OneShotError::Memory, &OneShotError::Memory));
     assert!(rt; !are_equal(&OneShotError::Memory, &OneShotError::TooLong));
-    assert_eq!(rt;
-        (OneShotError::Memory as u8, OneShotError::TooLong as u8),
-        (1, 2)
-    );
+    assert!(rt; (OneShotError::Memory as u8, OneShotError::TooLong as u8) == (1, 2));
     let text = debug_text(rt.alloc(), &OneShotError::TooLong)?;
-    assert_eq!(rt; text.as_str(), "TooLong");
+    assert!(rt; text.as_str() == "TooLong");
     Ok(())
 }
 
@@ -27,10 +24,10 @@ fn decode_looks_for_each_mark(rt: HostRuntime) -> Result<(), Fail> {
         MARKED,
     );
     let (text, encoding, had_errors) = answer?;
-    assert_eq!(rt; (text.as_str(), encoding, had_errors), ("€ä", UTF_8, false));
+    assert!(rt; (text.as_str(), encoding, had_errors) == ("€ä", UTF_8, false));
     let (text, encoding, had_errors) = WINDOWS_1257.decode(rt.alloc(), b"abc\x80\xA1\xE4")?;
     let want = ("abc€\u{FFFD}ä", WINDOWS_1257, true);
-    assert_eq!(rt; (text.as_str(), encoding, had_errors), want);
+    assert!(rt; (text.as_str(), encoding, had_errors) == want);
     Ok(())
 }
 
@@ -41,9 +38,9 @@ fn decode_with_bom_removal_looks_for_its_own(rt: HostRuntime) -> Result<(), Fail
         MARKED,
     );
     let (text, had_errors) = answer?;
-    assert_eq!(rt; (text.as_str(), had_errors), ("€ä", false));
+    assert!(rt; (text.as_str(), had_errors) == ("€ä", false));
     let (text, had_errors) = WINDOWS_1257.decode_with_bom_removal(rt.alloc(), MARKED)?;
-    assert_eq!(rt; (text.as_str(), had_errors), ("ļ»æā‚¬Ć¤", false));
+    assert!(rt; (text.as_str(), had_errors) == ("ļ»æā‚¬Ć¤", false));
     Ok(())
 }
 
@@ -54,7 +51,7 @@ fn decode_without_bom_handling_looks_for_none(rt: HostRuntime) -> Result<(), Fai
         MARKED,
     );
     let (text, had_errors) = answer?;
-    assert_eq!(rt; (text.as_str(), had_errors), ("\u{FEFF}€ä", false));
+    assert!(rt; (text.as_str(), had_errors) == ("\u{FEFF}€ä", false));
     Ok(())
 }
 
@@ -65,7 +62,7 @@ fn decode_without_replacement_gives_none_of_malformed_bytes(rt: HostRuntime) -> 
     let Some(text) = answer? else {
         return Err("nothing is malformed".into());
     };
-    assert_eq!(rt; text.as_str(), "\u{FEFF}€ä");
+    assert!(rt; text.as_str() == "\u{FEFF}€ä");
     let none = UTF_8.decode_without_bom_handling_and_without_replacement(rt.alloc(), b"\xE2\x82")?;
     assert!(rt; none.is_none());
     Ok(())
@@ -78,7 +75,7 @@ fn encode_writes_references(rt: HostRuntime) -> Result<(), Fail> {
         "一é",
     );
     let (bytes, encoding, had_unmappables) = answer?;
-    assert_eq!(rt; bytes.as_slice(), b"\x88\xEA&#233;".as_slice());
-    assert_eq!(rt; (encoding, had_unmappables), (SHIFT_JIS, true));
+    assert!(rt; bytes.as_slice() == b"\x88\xEA&#233;".as_slice());
+    assert!(rt; (encoding, had_unmappables) == (SHIFT_JIS, true));
     Ok(())
 }

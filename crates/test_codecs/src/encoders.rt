@@ -8,6 +8,8 @@
 
 mod barred;
 mod long_texts;
+mod one_shot;
+mod queries;
 mod references;
 mod runs;
 mod sums;

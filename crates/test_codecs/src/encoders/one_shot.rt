@@ -7,7 +7,7 @@ use std::alloc::{AllocError, Global};
 use std::test::Fail;
 use test_support::cases::{Case, expect};
 use test_support::encoding::whole_texts::{compare_by_characters, compare_with_run};
-use test_support::encodings::TABLE;
+use test_support::encodings::table;
 
 /// An encoding and a text; its bytes, the encoding that is reported, and whether a character is
 /// unmappable.
@@ -40,9 +40,9 @@ const WHOLE_ROWS: &[WholeRow] = &[
 fn whole_texts_have_these_bytes(rt: HostRuntime) -> Result<(), Fail> {
     for (encoding, text, want, output, is_unmappable) in WHOLE_ROWS {
         let (bytes, by, had_unmappables) = encoding.encode(rt.alloc(), text)?;
-        assert_eq!(rt; bytes.as_slice(), *want, "{encoding:?} {text}");
+        assert!(rt; bytes.as_slice() == *want, "{encoding:?} {text}");
         let answer = (by, had_unmappables);
-        assert_eq!(rt; answer, (*output, *is_unmappable), "{encoding:?} {text}");
+        assert!(rt; answer == (*output, *is_unmappable), "{encoding:?} {text}");
     }
     Ok(())
 }
@@ -92,8 +92,8 @@ fn compare_decoded(alloc: Global, encoding: Encoding, bytes: &[u8]) -> Result<()
 fn long_texts_of_every_encoding(rt: HostRuntime) -> Result<(), Fail> {
     let alloc = rt.alloc();
     let text = long_text(alloc)?;
-    assert_eq!(rt; text.len(), LONG);
-    for (encoding, _, _) in TABLE {
+    assert!(rt; text.len() == LONG);
+    for (encoding, _, _) in table() {
         let bytes = compare_with_run(alloc, *encoding, &text)?;
         compare_by_characters(*encoding, &text, &bytes)?;
         compare_decoded(alloc, encoding.output_encoding(), &bytes)?;

@@ -7,7 +7,7 @@ use recode_engine::{FromRead, FromWrite, RecodeFault, Sink, Source};
 use std::alloc::Global;
 use std::test::Fail;
 use test_support::devices::{ALL_BYTES, BYTE, Step};
-use test_support::encodings::TABLE;
+use test_support::encodings::table;
 use test_support::recoding::{
     CutRow, FAULT, INTERRUPTED, NOTHING, READS, Ran, compare_read_faults, compare_write_faults,
     run_by, run_whole,
@@ -30,8 +30,10 @@ const WHOLE: &[(&[u8], &[u8], bool)] = &[
 fn recodes(rt: HostRuntime) -> Result<(), Fail> {
     for (input, want, replaced) in WHOLE {
         let ran = run_whole(rt.alloc(), (UTF_8, UTF_8), *input)?;
-        assert_eq!(rt; ran.outcome, Ok(*replaced), "of {input:?}");
-        assert_eq!(rt; ran.written.as_slice(), *want, "of {input:?}");
+        assert!(rt;
+            ran.outcome == Ok(*replaced) && ran.written.as_slice() == *want,
+            "of {input:?}"
+        );
     }
     Ok(())
 }
@@ -173,8 +175,10 @@ fn reports_faults(rt: HostRuntime) -> Result<(), Fail> {
         } else {
             RecodeFault::Write
         };
-        assert_eq!(rt; ran.outcome, Err(fault), "of {input:?}");
-        assert_eq!(rt; ran.written.as_slice(), *want, "of {input:?}");
+        assert!(rt;
+            ran.outcome == Err(fault) && ran.written.as_slice() == *want,
+            "of {input:?}"
+        );
     }
     Ok(())
 }
@@ -220,9 +224,12 @@ fn reports_each_fault_of_three_chunks(rt: HostRuntime) -> Result<(), Fail> {
         for write in [ALL_BYTES, BYTE, Step::Move(2)] {
             let writes = [write];
             let ran = run_by(rt.alloc(), *encodings, *input, (*cuts, &writes))?;
-            assert_eq!(rt; ran.outcome, Ok(*replaced), "of {input:?}");
-            assert_eq!(rt; ran.written.as_slice(), *want, "of {input:?}");
-            assert_eq!(rt; ran.reads, READS, "of {input:?}");
+            assert!(rt;
+                ran.outcome == Ok(*replaced)
+                    && ran.written.as_slice() == *want
+                    && ran.reads == READS,
+                "of {input:?}"
+            );
             compare_write_faults(rt.alloc(), row, (*cuts, &writes), ran.writes)?;
             compare_read_faults(rt.alloc(), row, &writes)?;
         }
@@ -234,8 +241,8 @@ fn reports_each_fault_of_three_chunks(rt: HostRuntime) -> Result<(), Fail> {
 fn recodes_many_chunks(rt: HostRuntime) -> Result<(), Fail> {
     let long = vec![in rt.alloc(); 0xFFu8; 200_000]?;
     let ran = run_whole(rt.alloc(), (UTF_8, UTF_8), long.as_slice())?;
-    assert_eq!(rt; ran.outcome, Ok(true));
-    assert_eq!(rt; ran.written.len(), 600_000);
+    assert!(rt; ran.outcome == Ok(true));
+    assert!(rt; ran.written.len() == 600_000);
     Ok(())
 }
 
@@ -244,17 +251,17 @@ fn pulls_and_pushes(rt: HostRuntime) -> Result<(), Fail> {
     let text: &[u8] = b"abc";
     let mut source = FromRead::new(text);
     let mut buf = [0u8; 2];
-    assert_eq!(rt; source.pull(&mut buf), Ok(2));
-    assert_eq!(rt; buf, [97, 98]);
-    assert_eq!(rt; source.pull(&mut buf), Ok(1));
-    assert_eq!(rt; source.pull(&mut buf), Ok(0));
-    assert_eq!(rt; source.failed(), false);
+    assert!(rt; source.pull(&mut buf) == Ok(2));
+    assert!(rt; buf == [97, 98]);
+    assert!(rt; source.pull(&mut buf) == Ok(1));
+    assert!(rt; source.pull(&mut buf) == Ok(0));
+    assert!(rt; source.failed() == false);
     let mut written = Vec::new(rt.alloc());
     let mut sink = FromWrite::new(&mut written);
-    assert_eq!(rt; sink.push(b"ab"), Ok(2));
-    assert_eq!(rt; sink.push(b""), Ok(0));
-    assert_eq!(rt; sink.failed(), false);
-    assert_eq!(rt; written.as_slice(), b"ab".as_slice());
+    assert!(rt; sink.push(b"ab") == Ok(2));
+    assert!(rt; sink.push(b"") == Ok(0));
+    assert!(rt; sink.failed() == false);
+    assert!(rt; written.as_slice() == b"ab".as_slice());
     Ok(())
 }
 
@@ -342,8 +349,10 @@ const LINES: &[(&str, &str, &[u8], &str, bool)] = &[
 fn recodes_a_line_of_each_kind_of_encoding(rt: HostRuntime) -> Result<(), Fail> {
     for (from, to, input, want, is_replaced) in LINES {
         let ran = recode_bytes(rt.alloc(), (*from, *to), *input)?;
-        assert_eq!(rt; ran.written.as_slice(), want.as_bytes(), "of {from}");
-        assert_eq!(rt; ran.outcome, Ok(*is_replaced), "of {from}");
+        assert!(rt;
+            ran.written.as_slice() == want.as_bytes() && ran.outcome == Ok(*is_replaced),
+            "of {from}"
+        );
     }
     Ok(())
 }
@@ -383,12 +392,10 @@ const MARKS: &[(&str, &[u8], &str, bool)] = &[
 fn looks_for_a_mark_in_front(rt: HostRuntime) -> Result<(), Fail> {
     for (from, input, want, is_replaced) in MARKS {
         let ran = recode_bytes(rt.alloc(), (*from, "utf-8"), *input)?;
-        assert_eq!(rt;
-            ran.written.as_slice(),
-            want.as_bytes(),
+        assert!(rt;
+            ran.written.as_slice() == want.as_bytes() && ran.outcome == Ok(*is_replaced),
             "of {from} {input:?}"
         );
-        assert_eq!(rt; ran.outcome, Ok(*is_replaced), "of {from} {input:?}");
     }
     Ok(())
 }
@@ -410,8 +417,10 @@ fn joins_a_mark_that_comes_in_parts(rt: HostRuntime) -> Result<(), Fail> {
             *input,
             (&[BYTE], &[ALL_BYTES]),
         )?;
-        assert_eq!(rt; ran.outcome, Ok(false), "of {input:?}");
-        assert_eq!(rt; ran.written.as_slice(), want.as_bytes(), "of {input:?}");
+        assert!(rt;
+            ran.outcome == Ok(false) && ran.written.as_slice() == want.as_bytes(),
+            "of {input:?}"
+        );
     }
     Ok(())
 }
@@ -506,13 +515,17 @@ const INPUTS: &[Row] = &[
 fn writes_other_encodings(rt: HostRuntime) -> Result<(), Fail> {
     for (text, to, want, is_replaced) in TEXTS {
         let ran = recode_bytes(rt.alloc(), ("utf-8", *to), (*text).as_bytes())?;
-        assert_eq!(rt; ran.written.as_slice(), *want, "{text} to {to}");
-        assert_eq!(rt; ran.outcome, Ok(*is_replaced), "{text} to {to}");
+        assert!(rt;
+            ran.written.as_slice() == *want && ran.outcome == Ok(*is_replaced),
+            "{text} to {to}"
+        );
     }
     for (from, to, input, want, is_replaced) in INPUTS {
         let ran = recode_bytes(rt.alloc(), (*from, *to), *input)?;
-        assert_eq!(rt; ran.written.as_slice(), *want, "from {from} to {to}");
-        assert_eq!(rt; ran.outcome, Ok(*is_replaced), "from {from} to {to}");
+        assert!(rt;
+            ran.written.as_slice() == *want && ran.outcome == Ok(*is_replaced),
+            "from {from} to {to}"
+        );
     }
     Ok(())
 }
@@ -524,20 +537,15 @@ const OF_ALL_KINDS: &str =
 #[test]
 fn writes_each_encoding_in_small_parts(rt: HostRuntime) -> Result<(), Fail> {
     let text = OF_ALL_KINDS.as_bytes();
-    for (to, _, _) in TABLE {
+    for (to, _, _) in table() {
         let name = to.name();
         let ran = run_whole(rt.alloc(), (UTF_8, *to), text)?;
         let slow = run_by(rt.alloc(), (UTF_8, *to), text, (&[BYTE], &[BYTE]))?;
-        assert_eq!(rt; ran.outcome, Ok(!to.can_encode_everything()), "to {name}");
-        assert_eq!(rt; slow.outcome, ran.outcome, "to {name}");
-        assert_eq!(rt;
-            slow.written.as_slice(),
-            ran.written.as_slice(),
-            "to {name}"
-        );
-        assert_eq!(rt;
-            ran.written.as_slice() == text,
-            to.can_encode_everything(),
+        assert!(rt;
+            ran.outcome == Ok(!to.can_encode_everything())
+                && slow.outcome == ran.outcome
+                && slow.written.as_slice() == ran.written.as_slice()
+                && (ran.written.as_slice() == text) == to.can_encode_everything(),
             "to {name}"
         );
     }
@@ -548,11 +556,11 @@ fn writes_each_encoding_in_small_parts(rt: HostRuntime) -> Result<(), Fail> {
 fn encodes_many_chunks(rt: HostRuntime) -> Result<(), Fail> {
     let long = vec![in rt.alloc(); 0xE9u8; 200_000]?;
     let ran = run_whole(rt.alloc(), (WINDOWS_1252, SHIFT_JIS), long.as_slice())?;
-    assert_eq!(rt; ran.outcome, Ok(true));
-    assert_eq!(rt; ran.written.len(), 1_200_000);
+    assert!(rt; ran.outcome == Ok(true));
+    assert!(rt; ran.written.len() == 1_200_000);
     let Some((front, _)) = ran.written.as_slice().split_at_checked(12) else {
         return Err("nothing written".into());
     };
-    assert_eq!(rt; front, b"&#233;&#233;".as_slice());
+    assert!(rt; front == b"&#233;&#233;".as_slice());
     Ok(())
 }

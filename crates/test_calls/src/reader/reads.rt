@@ -5,7 +5,7 @@ use encoding_rs::{Encoding, SHIFT_JIS, UTF_8, WINDOWS_1252};
 use std::io::ErrorKind;
 use std::test::Fail;
 use test_support::devices::{BYTE, Step, StepReader};
-use test_support::encodings::TABLE;
+use test_support::encodings::table;
 use test_support::reading::{compare_read, compare_with_whole, read_all};
 
 /// A step that fails.
@@ -17,11 +17,11 @@ fn reads_after_a_mark_in_parts(rt: HostRuntime) -> Result<(), Fail> {
     let mut source = FromRead::new(StepReader::new(b"\xEF\xBB\xBF\xE2\x82\xAC", &steps));
     let mut input = [0; 4];
     let mut reader = DecodeReader::new(&mut source, Some(WINDOWS_1252), &mut input);
-    assert_eq!(rt; reader.encoding(), WINDOWS_1252);
+    assert!(rt; reader.encoding() == WINDOWS_1252);
     compare_read(&mut reader, Ok(3), b"\xE2\x82\xAC")?;
     compare_read(&mut reader, Ok(0), b"")?;
     compare_read(&mut reader, Ok(0), b"")?;
-    assert_eq!(rt; (reader.encoding(), reader.had_errors()), (UTF_8, false));
+    assert!(rt; (reader.encoding(), reader.had_errors()) == (UTF_8, false));
     Ok(())
 }
 
@@ -36,9 +36,9 @@ fn reads_what_is_malformed(rt: HostRuntime) -> Result<(), Fail> {
     assert!(rt; reader.had_errors());
     compare_read(&mut reader, Ok(1), b"b")?;
     compare_read(&mut reader, Ok(0), b"")?;
-    assert_eq!(rt; (reader.encoding(), reader.had_errors()), (UTF_8, true));
+    assert!(rt; (reader.encoding(), reader.had_errors()) == (UTF_8, true));
     // it was read once for the text and once for the end
-    assert_eq!(rt; device.calls, 2);
+    assert!(rt; device.calls == 2);
     Ok(())
 }
 
@@ -51,10 +51,10 @@ fn reports_a_fault_once(rt: HostRuntime) -> Result<(), Fail> {
     compare_read(&mut reader, Ok(1), b"a")?;
     compare_read(&mut reader, Err(ReadFault::Reader), b"\0\0\0\0")?;
     compare_read(&mut reader, Err(ReadFault::Failed), b"\0\0\0\0")?;
-    assert_eq!(rt; (reader.encoding(), reader.had_errors()), (UTF_8, false));
+    assert!(rt; (reader.encoding(), reader.had_errors()) == (UTF_8, false));
     assert!(rt; source.failed());
     // none is tried again
-    assert_eq!(rt; device.calls, 2);
+    assert!(rt; device.calls == 2);
     Ok(())
 }
 
@@ -102,7 +102,7 @@ const INPUTS: &[&[u8]] = &[
 
 #[test]
 fn reads_the_text_of_the_whole_input(rt: HostRuntime) -> Result<(), Fail> {
-    for (encoding, _, _) in TABLE {
+    for (encoding, _, _) in table() {
         for bytes in INPUTS {
             compare_with_whole(rt.alloc(), *encoding, *bytes)?;
         }
@@ -142,9 +142,11 @@ fn reads_the_text_in_front_of_a_fault(rt: HostRuntime) -> Result<(), Fail> {
             let mut part = [0; 4];
             let device = StepReader::new(bytes, *steps);
             let read = read_all(rt.alloc(), device, encoding, &mut input, &mut part)?;
-            assert_eq!(rt; read.fault, Some(ReadFault::Reader), "{bytes:?}");
-            assert_eq!(rt; read.text.as_slice(), text.as_bytes(), "{bytes:?}");
-            assert_eq!(rt; (read.encoding, read.had_errors), (encoding, false));
+            assert!(rt;
+                read.fault == Some(ReadFault::Reader) && read.text.as_slice() == text.as_bytes(),
+                "{bytes:?}"
+            );
+            assert!(rt; (read.encoding, read.had_errors) == (encoding, false));
         }
     }
     Ok(())
@@ -165,10 +167,7 @@ fn reads_a_file_as_text(rt: HostRuntime) -> Result<(), Fail> {
             Err(_) => return Err("the file can't be read".into()),
         }
     }
-    assert_eq!(rt; text.as_slice(), "日本語\n".as_bytes());
-    assert_eq!(rt;
-        (reader.encoding(), reader.had_errors()),
-        (SHIFT_JIS, false)
-    );
+    assert!(rt; text.as_slice() == "日本語\n".as_bytes());
+    assert!(rt; (reader.encoding(), reader.had_errors()) == (SHIFT_JIS, false));
     Ok(())
 }
