@@ -6,13 +6,13 @@ use std::fmt::Write;
 use std::io;
 use std::ops::Range;
 
-/// So many inputs that differ are looked into in each encoding; the others are counted.
+/// The most differing inputs that are looked into in each encoding; the others are counted.
 const EXPLAINED: u64 = 6;
 /// The number of bytes shown. One that is repeated many times counts once.
 const BYTES_SHOWN: usize = 64;
 /// A byte is written once if it is repeated this many times or more.
 const MANY: usize = 8;
-/// So many parts of each size, the last ones, are tried to be left out of an input that differs.
+/// The number of parts of each size, the last ones, that are left out of a differing input in turn.
 const PARTS: usize = 128;
 
 /// The comparison of a pair of encodings, or of several one after another.
@@ -91,7 +91,7 @@ impl Comparison {
         writeln!(self.report, "  {name} to {to} differs on {}", hex(input)).ok();
         for (program, answer) in [("the crate", wanted), ("recode", got)] {
             let (text, status) = (hex(&answer.text[same..]), answer.status);
-            writeln!(self.report, "    {program}: status {status}, behind {same} bytes that are alike: {text}").ok();
+            writeln!(self.report, "    {program}: status {status}, after {same} equal bytes: {text}").ok();
         }
     }
 

@@ -49,12 +49,12 @@ pub fn marks(comparison: &mut Comparison, sampled: usize, seed: u64) -> io::Resu
         }
         for number in 0..sampled {
             let length = random.below(300);
-            let behind = after_mark(encoding, &mut random, number, length);
-            comparison.compare(&[mark, &behind[..]].concat(), Delivery::Pipe)?;
+            let rest = after_mark(encoding, &mut random, number, length);
+            comparison.compare(&[mark, &rest[..]].concat(), Delivery::Pipe)?;
         }
         for sizes in SHORT_PIECES {
-            let behind = random_tokens(encoding, &mut random, 8);
-            comparison.compare(&[mark, &behind[..]].concat(), Delivery::Slow(sizes))?;
+            let rest = random_tokens(encoding, &mut random, 8);
+            comparison.compare(&[mark, &rest[..]].concat(), Delivery::Slow(sizes))?;
         }
         let long = after_mark(encoding, &mut random, 1, 2 * BUFFER);
         comparison.compare(&[mark, &long[..]].concat(), Delivery::File)?;

@@ -23,7 +23,7 @@ pub enum Delivery {
     Slow(&'static [usize]),
 }
 
-/// So many bytes fit into a pipe before anything is read.
+/// The number of bytes that fit into a pipe before anything is read.
 const PIPE: usize = 4096;
 
 /// The program, with a file of its own for its inputs.
@@ -72,12 +72,12 @@ impl Recode {
 fn write_pieces(mut stdin: Option<ChildStdin>, input: &[u8], sizes: &[usize], pause: Duration) {
     let mut rest = input;
     for size in sizes.iter().cycle() {
-        let (piece, behind) = rest.split_at(rest.len().min(*size));
+        let (piece, after) = rest.split_at(rest.len().min(*size));
         let written = stdin.as_mut().map(|pipe| pipe.write_all(piece));
         if piece.is_empty() || !matches!(written, Some(Ok(()))) {
             return;
         }
-        rest = behind;
+        rest = after;
         if !pause.is_zero() {
             thread::sleep(pause);
         }
