@@ -299,12 +299,12 @@ module _ {e : Encoding} {life : LifeCycle} {v : CodecState} {src : List ℕ} {la
 
   -- all bytes held are read
   taken_all : left ≡ 0 → take total (held ++ src) ≡ held ++ take read src
-  taken_all none_left =
+  taken_all all_held_read =
       let all_and_read : total ≡ length held + read = omega arith in
       ap (λ n. take n (held ++ src)) all_and_read ∙ take-append-add held src read
 
   dropped_all : left ≡ 0 → drop total (held ++ src) ≡ drop read src
-  dropped_all none_left =
+  dropped_all all_held_read =
       let all_and_read : total ≡ length held + read = omega arith in
       ap (λ n. drop n (held ++ src)) all_and_read ∙ drop-append-add held src read
 
@@ -382,8 +382,8 @@ module _ {e : Encoding} {life : LifeCycle} {v : CodecState} {src : List ℕ} {la
             absurd (omega arith)
 
     accounted_all : left ≡ 0 → pending ++ take read src ≡ sequence_bytes made.call.done ++ w.pending
-    accounted_all none_left =
-        at_hand text (take read src) ∙ ap (λ x. v.pending ++ x) (sym (taken_all none_left)) ∙ made.accounted
+    accounted_all all_held_read =
+        at_hand text (take read src) ∙ ap (λ x. v.pending ++ x) (sym (taken_all all_held_read)) ∙ made.accounted
 
     -- the decoder's call, by its state after it
     into : (new : DecoderState)
@@ -410,12 +410,12 @@ module _ {e : Encoding} {life : LifeCycle} {v : CodecState} {src : List ℕ} {la
           };
         }
 
-    called : IsPlaced stop → (new : Remainder)
+    call_over_src : IsPlaced stop → (new : Remainder)
         → Follows (decoder_remainder (decoder_state_of e life v)) (remainder_of w) new src (held ++ src) last stop []
         made.call.done left settled total read
         → (d : DecoderCall units_of (decoder_remainder (decoder_state_of e life v)) new src last mode before.room
         (shifted_result stop left) read made.wrote replaced) × (d.done ≡ made.call.done)
-    called placed new follows =
+    call_over_src placed new follows =
         call_by units_of w mode before.room made.wrote replaced stop made.call made.accounted placed new follows
 
     -- At the end of the input.
@@ -430,11 +430,13 @@ module _ {e : Encoding} {life : LifeCycle} {v : CodecState} {src : List ℕ} {la
         subst (λ x. DecoderStops units_of (remainder_of v) (remainder_of w) (held ++ src) last mode before.room
         made.call.put made.call.done total x) at_empty made.call.stops in
         let nothing_left : left ≡ 0 =
-        (let read_all = stops.all_read in let joined_length = length-append held src in
+        (let read_all = stops.all_read in
+        let joined_length = length-append held src in
         let within_src = reads_held.within in
-        let within_held = reads_held.most in omega arith) in
+        let within_held = reads_held.most in
+        omega arith) in
         into (decoder_state_of e Finished w)
-        (called (λ l m x. absurd (let not_empty = sym at_empty ∙ x in empty_not_malformed l m not_empty))
+        (call_over_src (λ l m x. absurd (empty_not_malformed l m (sym at_empty ∙ x)))
         (decoder_remainder (decoder_state_of e Finished w))
         (record {
           after =
@@ -460,7 +462,7 @@ module _ {e : Encoding} {life : LifeCycle} {v : CodecState} {src : List ℕ} {la
         let none_read : pending ++ take read src ≡ pending =
         ap (λ k. pending ++ take k src) nothing_read ∙ append-nil pending in
         into (decoder_state_of e life v)
-        (called
+        (call_over_src
         (λ l m x. absurd (malformed_is_done units_of w mode before.room made.wrote replaced stop made.call nothing l m
         x))
         (decoder_remainder (decoder_state_of e life v))
@@ -515,8 +517,8 @@ module _ {e : Encoding} {life : LifeCycle} {v : CodecState} {src : List ℕ} {la
           ap (λ x. life_after_sequences (life_at_prefix (mark_prefixes life) x) made.call.done) (append-nil pending)
           ∙ converts life v.pending made.call.done text.going (λ x. (text.holds.unread x).1)
           (λ d. touched (sym n_is_read) (let none_long = ap (λ x. length (sequence_bytes x)) d in
-          let all_done = done_len in let none_left = nothing_left in omega arith))
-          (λ s l. no_bb (sym n_is_read) (two_held s) (let all_done = done_len in let none_left = nothing_left in
+          let all_done = done_len in let all_held_read = nothing_left in omega arith))
+          (λ s l. no_bb (sym n_is_read) (two_held s) (let all_done = done_len in let all_held_read = nothing_left in
           let two = two_held s in let none_pending = none_pending_at s in omega arith))
         where
           none_pending_at : life ≡ SeenUtf8Second → length v.pending ≡ 0
@@ -536,7 +538,7 @@ module _ {e : Encoding} {life : LifeCycle} {v : CodecState} {src : List ℕ} {la
           before after (shifted_result stop left) read replaced
       goes_on =
           into (decoder_state_of e Converting w)
-          (called (λ l m x. inl nothing_left)
+          (call_over_src (λ l m x. inl nothing_left)
           (decoder_remainder (decoder_state_of e Converting w))
           (record {
             after = λ y l.
@@ -544,7 +546,7 @@ module _ {e : Encoding} {life : LifeCycle} {v : CodecState} {src : List ℕ} {la
                 ∙ ap (λ (q : Rule). sequences_of q w.set (w.pending ++ (drop read src ++ y)))
                 (kept ∙ sym text.same_rule);
             set = made.call.set;
-            pending = let none_left = nothing_left in omega arith;
+            pending = let all_held_read = nothing_left in omega arith;
             none_pending = λ l x. absurd (not_at_end last stop not_ended l x);
             same = inl refl;
           }))
@@ -564,7 +566,7 @@ module _ {e : Encoding} {life : LifeCycle} {v : CodecState} {src : List ℕ} {la
         let none_read : pending ++ take read src ≡ 0xEF ∷ 0xBB ∷ [] =
         ap (λ k. pending ++ take k src) nothing_read ∙ append-nil pending ∙ full in
         into (decoder_state_of e ConvertingWithPendingBb w)
-        (called (λ l m x. by_left (most_or_more left 0) leaves.none (omega arith))
+        (call_over_src (λ l m x. by_left (most_or_more left 0) leaves.none (omega arith))
         (decoder_remainder (decoder_state_of e ConvertingWithPendingBb w))
         (record {
           after = λ y l.

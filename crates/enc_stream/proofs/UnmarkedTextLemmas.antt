@@ -196,8 +196,8 @@ first_byte n [] y h i = absurd (omega arith)
 first_byte zero (b ∷ z) y h i = absurd (omega arith)
 first_byte (suc n) (b ∷ z) y h i = (b, z, take n z ++ y, refl, refl)
 
--- A decoder of the encoding e that is not at its end has text in src: no byte order mark precedes it. The state v of
--- its codec fits.
+-- A decoder of the encoding e, with the state v of its codec, reads src as text: it is not at its end, and no byte
+-- order mark precedes src.
 pub record ReadsText (e : Encoding) (life : LifeCycle) (v : CodecState) (src : List ℕ) (last : Bool) : Type 0 where
   pub bytes : AreBytes src
   pub same_rule : rule_of e ≡ v.rule
