@@ -50,16 +50,17 @@ module _ (units_of : ℕ → List ℕ) (mode : DecodeErrorMode) (old mid : Decod
 
   carries : Carries (decoder_remainder old) (decoder_remainder mid) src (drop len src) last [] 0 len len (len + 1)
   carries = record {
-    len = let g = length-drop len src in let h = leads_to.within in omega arith;
+    len = let rest_length = length-drop len src in let within_src = leads_to.within in omega arith;
     near = omega arith;
     shift = omega arith;
     plain = λ z l. ap (remaining_sequences old) (whole z) ∙ leads_to.same (drop len src ++ z);
     by_prefix = λ n h i y.
-        let g : n ≡ len + (n - len) = omega arith in
-        let k : n - len ≡ n + 0 - len = omega arith in
-        ap (λ m. remaining_sequences old (take m src ++ y)) g ∙ ap (remaining_sequences old) (part (n - len) y)
+        let past_prefix : n ≡ len + (n - len) = omega arith in
+        let as_shifted : n - len ≡ n + 0 - len = omega arith in
+        ap (λ m. remaining_sequences old (take m src ++ y)) past_prefix
+        ∙ ap (remaining_sequences old) (part (n - len) y)
         ∙ leads_to.same (take (n - len) (drop len src) ++ y)
-        ∙ ap (λ m. remaining_sequences mid (take m (drop len src) ++ y)) k;
+        ∙ ap (λ m. remaining_sequences mid (take m (drop len src) ++ y)) as_shifted;
     none_below =
         λ n h s ss d. leads_to.nothing s ss (determines_by_more (remaining_sequences old) src n len (s ∷ ss) are
         (omega arith) d);
@@ -68,7 +69,7 @@ module _ (units_of : ℕ → List ℕ) (mode : DecodeErrorMode) (old mid : Decod
   module _ (n : ℕ) (written : List ℕ) (replaced : Bool) (new : DecoderState) where
     reads : n ≤ length (drop len src) → Reads src 0 len len (len + 1) n (len + n)
     reads h = record {
-      within = let g = length-drop len src in let i = leads_to.within in omega arith;
+      within = let rest_length = length-drop len src in let within_src = leads_to.within in omega arith;
       there = omega arith;
       back = omega arith;
       soon = omega arith;
@@ -76,8 +77,12 @@ module _ (units_of : ℕ → List ℕ) (mode : DecodeErrorMode) (old mid : Decod
       none = λ e. inr (omega arith);
     }
 
-    follows : {result : DecoderResult} (c : DecoderCall units_of (decoder_remainder mid) (decoder_remainder new) (drop len src) last mode room result n written replaced) → (last ≡ true → result ≡ InputEmpty → new.pending ≡ [])
-        → Follows (decoder_remainder old) (decoder_remainder new) (decoder_remainder new) src (drop len src) last result [] c.done 0 (len + 1) n (len + n)
+    follows : {result : DecoderResult}
+        (c : DecoderCall units_of (decoder_remainder mid) (decoder_remainder new) (drop len src) last mode room result n
+        written replaced)
+        → (last ≡ true → result ≡ InputEmpty → new.pending ≡ [])
+        → Follows (decoder_remainder old) (decoder_remainder new) (decoder_remainder new) src (drop len src) last result
+        [] c.done 0 (len + 1) n (len + n)
     follows call p = record {
       after = λ z l. ap (λ x. remaining_sequences new (x ++ z)) (drop-drop n len src);
       set = call.set ∙ ap (λ s. set_after s call.done) leads_to.set;
@@ -90,28 +95,35 @@ module _ (units_of : ℕ → List ℕ) (mode : DecodeErrorMode) (old mid : Decod
     pub called_after : (result : DecoderResult)
         (c : DecoderCall units_of (decoder_remainder mid) (decoder_remainder new) (drop len src) last mode room result n
         written replaced)
-        → (d : DecoderCall units_of (decoder_remainder old) (decoder_remainder new) src last mode room result (len + n) written replaced) × (d.done ≡ c.done)
+        → (d : DecoderCall units_of (decoder_remainder old) (decoder_remainder new) src last mode room result (len + n)
+        written replaced) × (d.done ≡ c.done)
     called_after InputEmpty call =
-        carries_empty units_of (decoder_remainder old) (decoder_remainder mid) src (drop len src) (bytes-drop len src are) last mode room room [] [] false 0 len len (len + 1) n (len + n) 0
+        carries_empty units_of (decoder_remainder old) (decoder_remainder mid) src (drop len src)
+        (bytes-drop len src are) last mode room room [] [] false 0 len len (len + 1) n (len + n) 0
         (decoder_remainder new) (decoder_remainder new) written replaced carries (reads call.within)
         (nothing_wrote units_of mode room) call (follows call (λ l _. call.stops.none_pending l))
     called_after OutputFull call =
-        carries_full units_of (decoder_remainder old) (decoder_remainder mid) src (drop len src) (bytes-drop len src are) last mode room room [] [] false 0 len len (len + 1) n (len + n) 0
+        carries_full units_of (decoder_remainder old) (decoder_remainder mid) src (drop len src)
+        (bytes-drop len src are) last mode room room [] [] false 0 len len (len + 1) n (len + n) 0
         (decoder_remainder new) (decoder_remainder new) written replaced carries (reads call.within)
         (nothing_wrote units_of mode room) call (follows call (λ _ e. cc))
     called_after (Malformed l a) call =
+        let none_added : a + 0 ≡ a = omega arith in
         subst (λ x. (d : DecoderCall units_of (decoder_remainder old) (decoder_remainder new) src last mode room
-        (Malformed l x) (len + n) written replaced) × (d.done ≡ call.done)) (let e : a + 0 ≡ a = omega arith in e)
-        (carries_malformed units_of (decoder_remainder old) (decoder_remainder mid) src (drop len src) (bytes-drop len src are) last mode room room [] [] false 0 len len (len + 1) n (len + n) 0
+        (Malformed l x) (len + n) written replaced) × (d.done ≡ call.done)) none_added
+        (carries_malformed units_of (decoder_remainder old) (decoder_remainder mid) src (drop len src)
+        (bytes-drop len src are) last mode room room [] [] false 0 len len (len + 1) n (len + n) 0
         (decoder_remainder new) (decoder_remainder new) written replaced carries (reads call.within)
         (nothing_wrote units_of mode room) l a call (follows call (λ _ e. cc)) (inl (omega arith), inl refl))
 
 -- After a mark.
 
-pending_reaches : (life : LifeCycle) (e : Encoding) (v : CodecState) → HeldBytesMatchCodec life v → awaits_mark (phase_of life) ≡ true → (decoder_state_of e life v).pending ≡ held_mark_bytes life
+pending_reaches : (life : LifeCycle) (e : Encoding) (v : CodecState) → HeldBytesMatchCodec life v
+    → awaits_mark (phase_of life) ≡ true → (decoder_state_of e life v).pending ≡ held_mark_bytes life
 pending_reaches life e v h a = pending_of_held (held_mark_bytes life) v.pending (h.unread a).1
 
-converting_after : (life : LifeCycle) (b : Bool) (x y : List ℕ) (done : List Sequence) → life_at_prefix (mark_prefixes life) x ≡ None → life_after Converting b y done ≡ life_after life b x done
+converting_after : (life : LifeCycle) (b : Bool) (x y : List ℕ) (done : List Sequence)
+    → life_at_prefix (mark_prefixes life) x ≡ None → life_after Converting b y done ≡ life_after life b x done
 converting_after life true x y done h = refl
 converting_after life false x y done h = sym (ap (λ o. life_after_sequences o done) h)
 
@@ -177,14 +189,17 @@ module _ (e to : Encoding) (life : LifeCycle) (v : CodecState) (src : List ℕ) 
 
 -- After bytes that might have begun one.
 
-sequences_alike : (p q : Phase) (e : Encoding) (set : ℕ) (x : List ℕ) → awaits_mark p ≡ true → awaits_mark q ≡ true → mark_in p x ≡ mark_in q x → sequences_in p e set x ≡ sequences_in q e set x
+sequences_alike : (p q : Phase) (e : Encoding) (set : ℕ) (x : List ℕ) → awaits_mark p ≡ true
+    → awaits_mark q ≡ true → mark_in p x ≡ mark_in q x → sequences_in p e set x ≡ sequences_in q e set x
 sequences_alike (InFront a) (InFront b) e set x g h m = ap (λ o. sequences_by_mark o e x) m
 sequences_alike (InFront a) Within e set x g h m = absurd (false≢true h)
 sequences_alike (InFront a) Ended e set x g h m = absurd (false≢true h)
 sequences_alike Within q e set x g h m = absurd (false≢true g)
 sequences_alike Ended q e set x g h m = absurd (false≢true g)
 
-state_alike : (life now : LifeCycle) (b : Bool) (x : List ℕ) (done : List Sequence) → life_at_prefix (mark_prefixes life) x ≡ life_at_prefix (mark_prefixes now) x → life_after now b x done ≡ life_after life b x done
+state_alike : (life now : LifeCycle) (b : Bool) (x : List ℕ) (done : List Sequence)
+    → life_at_prefix (mark_prefixes life) x ≡ life_at_prefix (mark_prefixes now) x
+    → life_after now b x done ≡ life_after life b x done
 state_alike life now true x done h = refl
 state_alike life now false x done h = sym (ap (λ o. life_after_sequences o done) h)
 
@@ -232,11 +247,14 @@ module _ (e : Encoding) (life now : LifeCycle) (v : CodecState) (src : List ℕ)
       let call_of_all =
       called_after units_of mode from held src are last before.room len leads_to_held n decodes_rest.wrote replaced
       new result decodes_rest.decodes.call in
-      let y : List ℕ = take n (drop len src) in
-      let all : from.pending ++ take (len + n) src ≡ held_mark_bytes now ++ y = ap (λ x. from.pending ++ x) (take-add len n src) ∙ at_held y in
-      let same : from.pending ++ take (len + n) src ≡ held.pending ++ y = all ∙ ap (λ x. x ++ y) (sym held_pending) in
-      let found : mark_in (phase_of now) (held.pending ++ y) ≡ mark_in (phase_of life) (from.pending ++ take (len + n) src) =
-      ap (λ x. mark_in (phase_of now) (x ++ y)) held_pending ∙ sym (extends.marks y)
+      let rest_read : List ℕ = take n (drop len src) in
+      let all : from.pending ++ take (len + n) src ≡ held_mark_bytes now ++ rest_read =
+      ap (λ x. from.pending ++ x) (take-add len n src) ∙ at_held rest_read in
+      let same : from.pending ++ take (len + n) src ≡ held.pending ++ rest_read =
+      all ∙ ap (λ x. x ++ rest_read) (sym held_pending) in
+      let found : mark_in (phase_of now) (held.pending ++ rest_read)
+      ≡ mark_in (phase_of life) (from.pending ++ take (len + n) src) =
+      ap (λ x. mark_in (phase_of now) (x ++ rest_read)) held_pending ∙ sym (extends.marks rest_read)
       ∙ ap (mark_in (phase_of life)) (sym all) in
       record {
         wrote = decodes_rest.wrote;
@@ -254,17 +272,19 @@ module _ (e : Encoding) (life now : LifeCycle) (v : CodecState) (src : List ℕ)
               decodes_rest.decodes.call.done) (sym same)
               ∙ state_alike life now (reaches_end last result) (from.pending ++ take (len + n) src)
               decodes_rest.decodes.call.done
-              (ap (life_at_prefix (mark_prefixes life)) all ∙ extends.states y
+              (ap (life_at_prefix (mark_prefixes life)) all ∙ extends.states rest_read
               ∙ ap (life_at_prefix (mark_prefixes now)) (sym all))
               ∙ ap (life_after life (reaches_end last result) (from.pending ++ take (len + n) src)) (sym call_of_all.1);
         };
       }
 
   -- All of the offer might begin one.
-  pub all_held : (units_of : ℕ → List ℕ) (mode : DecodeErrorMode) (out : Output) → has_ended now ≡ false → len ≡ length src → DecodesInto units_of mode from held src false out out InputEmpty len false
+  pub all_held : (units_of : ℕ → List ℕ) (mode : DecodeErrorMode) (out : Output) → has_ended now ≡ false
+      → len ≡ length src → DecodesInto units_of mode from held src false out out InputEmpty len false
   all_held units_of mode out going reads_all =
-      let whole : take len src ≡ src = ap (λ n. take n src) reads_all ∙ take-length src in
-      let all : from.pending ++ take len src ≡ held_mark_bytes now = ap (λ x. from.pending ++ x) (sym (append-nil (take len src))) ∙ at_held [] ∙ append-nil (held_mark_bytes now) in
+      let all_taken : take len src ≡ src = ap (λ n. take n src) reads_all ∙ take-length src in
+      let all : from.pending ++ take len src ≡ held_mark_bytes now =
+      ap (λ x. from.pending ++ x) (sym (append-nil (take len src))) ∙ at_held [] ∙ append-nil (held_mark_bytes now) in
       let found : mark_in (phase_of life) (from.pending ++ take len src) ≡ None =
       ap (mark_in (phase_of life)) (all ∙ sym (append-nil (held_mark_bytes now))) ∙ extends.marks []
       ∙ held_unmarked now in
@@ -276,7 +296,7 @@ module _ (e : Encoding) (life now : LifeCycle) (v : CodecState) (src : List ℕ)
             put = [];
             done = [];
             within = in_src;
-            residual = λ z l. ap (λ x. remaining_sequences from (x ++ z)) (sym whole) ∙ after_held z
+            residual = λ z l. ap (λ x. remaining_sequences from (x ++ z)) (sym all_taken) ∙ after_held z
                 ∙ ap (λ x. remaining_sequences held (x ++ z)) (sym (drop_of_length-le src (omega arith)));
             set = refl;
             text = refl;
@@ -287,14 +307,17 @@ module _ (e : Encoding) (life now : LifeCycle) (v : CodecState) (src : List ℕ)
             stops = record {
               only_put = refl;
               all_read = reads_all;
-              none_determined = λ _ s d. leads_to_held.nothing s [] (subst (λ x. Determines (remaining_sequences from) x (s ∷ [])) (sym whole) d);
+              none_determined = λ _ s d. leads_to_held.nothing s []
+                  (subst (λ x. Determines (remaining_sequences from) x (s ∷ [])) (sym all_taken) d);
               none_left = λ l. absurd (false≢true l);
               none_pending = λ l. absurd (false≢true l);
             };
           };
           accounted = all ∙ sym held_pending ∙ ap (λ o. mark_bytes o ++ held.pending) (sym found);
           encoding = ap (λ o. encoding_of_mark_or o e) (sym found);
-          life = sym (own_state now held.pending going (λ _. held_pending) (λ _ _ _. held_pending)) ∙ ap (λ x. life_after_sequences (life_at_prefix (mark_prefixes now) x) []) (held_pending ∙ sym (append-nil (held_mark_bytes now)))
+          life = sym (own_state now held.pending going (λ _. held_pending) (λ _ _ _. held_pending))
+              ∙ ap (λ x. life_after_sequences (life_at_prefix (mark_prefixes now) x) [])
+              (held_pending ∙ sym (append-nil (held_mark_bytes now)))
               ∙ ap (λ o. life_after_sequences o []) (sym (extends.states []))
               ∙ ap (λ x. life_after_sequences (life_at_prefix (mark_prefixes life) x) [])
               (append-nil (held_mark_bytes now) ∙ sym all);
@@ -307,13 +330,14 @@ awaiting_goes_on AtStart h = refl
 awaiting_goes_on _ h = refl
 
 none_more : (x y : List ℕ) → x ++ y ≡ x → length y ≡ 0
-none_more x y e = let f = ap length e in let g = length-append x y in omega arith
+none_more x y e = let same_length = ap length e in let joined_length = length-append x y in omega arith
 
 -- After the bytes before text.
 pub after_text : (e : Encoding) (life now : LifeCycle) (v : CodecState) (src : List ℕ) (len : ℕ) (awaits : Bool)
     → HeldBytesMatchCodec life v → len ≤ length src → ExtendsHeldMark life now (take len src)
     → awaits_mark (phase_of life) ≡ awaits
-    → (units_of : ℕ → List ℕ) (mode : DecodeErrorMode) (are : AreBytes src) (last : Bool) (before after : Output) (new : DecoderState) (result : DecoderResult) (n : ℕ) (replaced : Bool)
+    → (units_of : ℕ → List ℕ) (mode : DecodeErrorMode) (are : AreBytes src) (last : Bool) (before after : Output)
+    (new : DecoderState) (result : DecoderResult) (n : ℕ) (replaced : Bool)
     → DecodesInto units_of mode (decoder_state_of e now v) new (drop len src) last before after result n replaced
     → DecodesInto units_of mode (decoder_state_of e life v) new src last before after result (len + n) replaced
 after_text e life now v src len true holds in_src extends awaits units_of mode are last before after new result n
@@ -324,8 +348,12 @@ after_text e life now v src len false holds in_src extends awaits units_of mode 
     replaced d =
     let same : now ≡ life = extends.stays awaits in
     let none : len ≡ 0 =
-    (let f = none_more (held_mark_bytes life) (take len src) (extends.held ∙ ap held_mark_bytes same) in
-    let g = length-take len src in omega arith) in
-    subst (λ k. DecodesInto units_of mode (decoder_state_of e life v) new src last before after result k replaced) (let f : n ≡ len + n = omega arith in f)
-    (subst (λ k. DecodesInto units_of mode (decoder_state_of e life v) new (drop k src) last before after result n replaced) none
-    (subst (λ l. DecodesInto units_of mode (decoder_state_of e l v) new (drop len src) last before after result n replaced) same d))
+    (let none_taken = none_more (held_mark_bytes life) (take len src) (extends.held ∙ ap held_mark_bytes same) in
+    let taken_length = length-take len src in omega arith) in
+    let as_read : n ≡ len + n = omega arith in
+    subst (λ k. DecodesInto units_of mode (decoder_state_of e life v) new src last before after result k replaced)
+    as_read
+    (subst (λ k. DecodesInto units_of mode (decoder_state_of e life v) new (drop k src) last before after result n
+    replaced) none
+    (subst (λ l. DecodesInto units_of mode (decoder_state_of e l v) new (drop len src) last before after result n
+    replaced) same d))

@@ -42,7 +42,8 @@ few_last true Ascii = omega arith
 few_last true Roman = omega arith
 few_last true Jis0208 = omega arith
 
-few_char : (e : EncoderRule) (s : CharacterSet) (c : ℕ) (b : Option (List ℕ)) → AreAtMostFour b → length (char_step e s c b).bytes ≤ 4
+few_char : (e : EncoderRule) (s : CharacterSet) (c : ℕ) (b : Option (List ℕ)) → AreAtMostFour b
+    → length (char_step e s c b).bytes ≤ 4
 few_char e s c None h = omega arith
 few_char e s c (Some b) h = h
 
@@ -51,34 +52,43 @@ few_first : (has : Bool) (s : CharacterSet) (p : Step) (ps : List Step) → leng
 few_first true s p ps h = h
 few_first false s p ps h = few_escape s
 
-few_step : (e : EncoderRule) (last : Bool) (s : CharacterSet) (t : List ℕ) → ((c : ℕ) → AreAtMostFour (e.bytes c)) → first_len (steps_of e last s t) ≤ 4
+few_step : (e : EncoderRule) (last : Bool) (s : CharacterSet) (t : List ℕ)
+    → ((c : ℕ) → AreAtMostFour (e.bytes c)) → first_len (steps_of e last s t) ≤ 4
 unfolding steps_of
 few_step e last s [] h = few_last last s
 few_step e last s (c ∷ t) h =
-    let d = first_written_char c (e.bytes c) in
-    few_first (e.has s d) (e.designated d) (char_step e (set_for e s d) c (e.bytes c)) (steps_of e last (set_for e s d) t)
-    (few_char e (set_for e s d) c (e.bytes c) (h c))
+    let first_written = first_written_char c (e.bytes c) in
+    few_first (e.has s first_written) (e.designated first_written)
+    (char_step e (set_for e s first_written) c (e.bytes c))
+    (steps_of e last (set_for e s first_written) t)
+    (few_char e (set_for e s first_written) c (e.bytes c) (h c))
 
 few_kept : (every : Bool) → (if every then 0 else 10) ≤ 10
 few_kept true = omega arith
 few_kept false = omega arith
 
 -- a step more was done
-some_done : (kept : ℕ) (new : RawEncoderState) (rest : List ℕ) (last : Bool) (room : ℕ) → kept ≤ 10 → 14 ≤ room → first_len (steps_from_state new last rest) ≤ 4
+some_done : (kept : ℕ) (new : RawEncoderState) (rest : List ℕ) (last : Bool) (room : ℕ) → kept ≤ 10
+    → 14 ≤ room → first_len (steps_from_state new last rest) ≤ 4
     → IsFull kept new rest last room [] → ⊥
-some_done kept new rest last room k r h (inl at) = let few : length at.next.bytes ≤ 4 = subst (λ x. first_len x ≤ 4) at.comes h in omega (arith, at.full, few)
-some_done kept new rest last room k r h (inr (inl at)) = let e = at.reference in cc
+some_done kept new rest last room k r h (inl at) =
+    let few : length at.next.bytes ≤ 4 = subst (λ x. first_len x ≤ 4) at.comes h in
+    omega (arith, at.full, few)
+some_done kept new rest last room k r h (inr (inl at)) = let no_reference = at.reference in cc
 some_done kept new rest last room k r h (inr (inr at)) = omega (arith, at.small)
 
-fewer_left : (kept : ℕ) (old new : RawEncoderState) (src rest : List ℕ) (last : Bool) (room : ℕ) (done : List Step) → kept ≤ 10 → 14 ≤ room
-    → first_len (steps_from_state new last rest) ≤ 4 → IsFull kept new rest last room done → steps_from_state old last src ≡ done ++ steps_from_state new last rest
+fewer_left : (kept : ℕ) (old new : RawEncoderState) (src rest : List ℕ) (last : Bool) (room : ℕ) (done : List Step)
+    → kept ≤ 10 → 14 ≤ room
+    → first_len (steps_from_state new last rest) ≤ 4 → IsFull kept new rest last room done
+    → steps_from_state old last src ≡ done ++ steps_from_state new last rest
     → length (steps_from_state new last rest) < length (steps_from_state old last src)
 fewer_left kept old new src rest last room [] k r h full e = absurd (some_done kept new rest last room k r h full)
 fewer_left kept old new src rest last room (p ∷ done) k r h full e =
     omega (arith, ap length e, length-append (p ∷ done) (steps_from_state new last rest))
 
 -- A call that is not at the end has done a step.
-pub goes_on : (units_of : ℕ → List ℕ) (old new : EncoderState) (text : List ℕ) (last : Bool) (room : ℕ) (result : CoderResult) (read : ℕ) (wrote : List ℕ) (replaced : Bool)
+pub goes_on : (units_of : ℕ → List ℕ) (old new : EncoderState) (text : List ℕ) (last : Bool) (room : ℕ)
+    (result : CoderResult) (read : ℕ) (wrote : List ℕ) (replaced : Bool)
     (c : EncodesChunk units_of (html_mode old) old new text last room (encoder_result_of result) read wrote replaced)
     → ¬ (result ≡ InputEmpty) → 14 ≤ room → steps_left new last c.rest < steps_left old last text
 goes_on units_of old new text last room InputEmpty read wrote replaced encodes n r = absurd (n refl)
@@ -111,19 +121,27 @@ not_one_more : (x : List Step) (p : Step) → [] ≡ x ++ p ∷ [] → ⊥
 not_one_more [] p e = cc
 not_one_more (q ∷ x) p e = cc
 
-some_reported : (new : RawEncoderState) (rest : List ℕ) (last : Bool) (room : ℕ) → 4 ≤ room → first_len (steps_from_state new last rest) ≤ 4 → (result : EncoderResult) → ¬ (result ≡ raw.InputEmpty)
+some_reported : (new : RawEncoderState) (rest : List ℕ) (last : Bool) (room : ℕ) → 4 ≤ room
+    → first_len (steps_from_state new last rest) ≤ 4 → (result : EncoderResult) → ¬ (result ≡ raw.InputEmpty)
     → EncoderStops new rest last room [] result → ⊥
 some_reported new rest last room r h raw.InputEmpty n at = n refl
-some_reported new rest last room r h raw.OutputFull n at = let few : length at.next.bytes ≤ 4 = subst (λ x. first_len x ≤ 4) at.comes h in omega (arith, at.full, few)
+some_reported new rest last room r h raw.OutputFull n at =
+    let few : length at.next.bytes ≤ 4 = subst (λ x. first_len x ≤ 4) at.comes h in
+    omega (arith, at.full, few)
 some_reported new rest last room r h (raw.Unmappable c) n at = not_one_more at.before at.report at.then_report
 
-fewer_reported : (old new : RawEncoderState) (src rest : List ℕ) (last : Bool) (room : ℕ) (done : List Step) → 4 ≤ room → first_len (steps_from_state new last rest) ≤ 4 → (result : EncoderResult)
-    → ¬ (result ≡ raw.InputEmpty) → EncoderStops new rest last room done result → steps_from_state old last src ≡ done ++ steps_from_state new last rest
+fewer_reported : (old new : RawEncoderState) (src rest : List ℕ) (last : Bool) (room : ℕ) (done : List Step)
+    → 4 ≤ room → first_len (steps_from_state new last rest) ≤ 4 → (result : EncoderResult)
+    → ¬ (result ≡ raw.InputEmpty) → EncoderStops new rest last room done result
+    → steps_from_state old last src ≡ done ++ steps_from_state new last rest
     → length (steps_from_state new last rest) < length (steps_from_state old last src)
-fewer_reported old new src rest last room [] r h result n at e = absurd (some_reported new rest last room r h result n at)
-fewer_reported old new src rest last room (p ∷ done) r h result n at e = omega (arith, ap length e, length-append (p ∷ done) (steps_from_state new last rest))
+fewer_reported old new src rest last room [] r h result n at e =
+    absurd (some_reported new rest last room r h result n at)
+fewer_reported old new src rest last room (p ∷ done) r h result n at e =
+    omega (arith, ap length e, length-append (p ∷ done) (steps_from_state new last rest))
 
-pub reports_on : (units_of : ℕ → List ℕ) (old new : EncoderState) (text : List ℕ) (last : Bool) (room : ℕ) (result : EncoderResult) (read : ℕ) (wrote : List ℕ) (replaced : Bool)
+pub reports_on : (units_of : ℕ → List ℕ) (old new : EncoderState) (text : List ℕ) (last : Bool) (room : ℕ)
+    (result : EncoderResult) (read : ℕ) (wrote : List ℕ) (replaced : Bool)
     (c : EncodesChunk units_of Fatal old new text last room result read wrote replaced)
     → ¬ (result ≡ raw.InputEmpty) → 4 ≤ room → steps_left new last c.rest < steps_left old last text
 reports_on units_of old new text last room result read wrote replaced encodes n r =

@@ -31,8 +31,8 @@ same_start (a ∷ p) (b ∷ x) y n = elim (true_or_false (eqb a b)) [
       (same_start p x y (λ is_prefix. n (
         is_prefix.0,
         is_prefix.1,
-        (let h : p ≡ x ++ is_prefix.0 ∷ is_prefix.1 = is_prefix.2 in
-            let e : a ≡ b = eqb-true a b same_byte in cc),
+        (let rest_is : p ≡ x ++ is_prefix.0 ∷ is_prefix.1 = is_prefix.2 in
+            let same : a ≡ b = eqb-true a b same_byte in cc),
       )))
   | inr f ↦ rw f refl
 ]
@@ -51,18 +51,19 @@ pub start_fits : (p x : List ℕ) → starts_with nat_eq x p ≡ true → length
 start_fits [] x starts = omega arith
 start_fits (a ∷ p) [] starts = absurd (false≢true starts)
 start_fits (a ∷ p) (b ∷ x) starts = elim (true_or_false (eqb a b)) [
-  | inl t ↦ let h : length p ≤ length x = start_fits p x (rw t at starts) in omega arith
+  | inl t ↦ let rest_fits : length p ≤ length x = start_fits p x (rw t at starts) in omega arith
   | inr f ↦ absurd (false≢true (rw f at starts))
 ]
 
 -- and so is one that is found
-pub found_fits : (looked_for : List Mark) (x : List ℕ) (m : Mark) → find_mark looked_for x ≡ Some m → length m.bytes ≤ length x
+pub found_fits : (looked_for : List Mark) (x : List ℕ) (m : Mark) → find_mark looked_for x ≡ Some m
+    → length m.bytes ≤ length x
 found_fits [] x m e = absurd (let none : ⊥ = cc in none)
 found_fits (k ∷ others) x m e = elim (true_or_false (starts_with nat_eq x k.bytes)) [
-  | inl starts ↦ (let h : length k.bytes ≤ length x = start_fits k.bytes x starts in
-      let f : (if starts_with nat_eq x k.bytes then Some k else find_mark others x) ≡ Some k =
+  | inl starts ↦ (let mark_fits : length k.bytes ≤ length x = start_fits k.bytes x starts in
+      let found_first : (if starts_with nat_eq x k.bytes then Some k else find_mark others x) ≡ Some k =
       ap (λ t. if t then Some k else find_mark others x) starts in
-      let same : k ≡ m = cc in subst (λ (l : Mark). length l.bytes ≤ length x) same h)
+      let same : k ≡ m = cc in subst (λ (l : Mark). length l.bytes ≤ length x) same mark_fits)
   | inr f ↦ found_fits others x m (sym (ap (λ t. if t then Some k else find_mark others x) f) ∙ e)
 ]
 
@@ -95,7 +96,8 @@ found_own Utf16be = ((omega arith, (omega arith, tt)), refl, tt)
 found_own Utf16le = ((omega arith, (omega arith, tt)), refl, tt)
 found_own _ = tt
 
-found_looked_for : (handling : BomHandling) (e : Encoding) → AreFound (marks_looked_for handling e) (marks_looked_for handling e)
+found_looked_for : (handling : BomHandling) (e : Encoding)
+    → AreFound (marks_looked_for handling e) (marks_looked_for handling e)
 unfolding AreFound
 found_looked_for Off e = tt
 found_looked_for Sniff e = (
@@ -110,32 +112,35 @@ bytes_after [] y b = b
 bytes_after (a ∷ x) y b = bytes_after x y b.1
 
 none_begun : (all : List Sequence) (s : Sequence) (ss : List Sequence) → all ≡ [] → AreFirstSequences (s ∷ ss) all → ⊥
-none_begun all s ss e come_first = let f : all ≡ s ∷ (ss ++ come_first.0) = come_first.1 in cc
+none_begun all s ss e come_first = let begins : all ≡ s ∷ (ss ++ come_first.0) = come_first.1 in cc
 
 -- a mark alone has no sequences
-no_sequences : (all : List Mark) (m : Mark) (e : Encoding) → find_mark all m.bytes ≡ Some m → sequences_by_mark (find_mark all m.bytes) e m.bytes ≡ []
+no_sequences : (all : List Mark) (m : Mark) (e : Encoding) → find_mark all m.bytes ≡ Some m
+    → sequences_by_mark (find_mark all m.bytes) e m.bytes ≡ []
 no_sequences all m e found =
     ap (λ o. sequences_by_mark o e m.bytes) found
     ∙ ap (sequences_of (rule_of m.encoding) 0) (drop-length m.bytes)
     ∙ sequences_of-nil (rule_of m.encoding) 0
 
 -- so what may begin one determines nothing
-undetermined_in : (all looked_for : List Mark) (e : Encoding) (x : List ℕ) (s : Sequence) (ss : List Sequence) → AreFound all looked_for
+undetermined_in : (all looked_for : List Mark) (e : Encoding) (x : List ℕ) (s : Sequence) (ss : List Sequence)
+    → AreFound all looked_for
     → MayBeginMark looked_for x → Determines (λ bytes. sequences_by_mark (find_mark all bytes) e bytes) x (s ∷ ss) → ⊥
 unfolding AreFound
 undetermined_in all [] e x s ss are_found i d = i
 undetermined_in all (m ∷ others) e x s ss are_found (inl is_prefix) d =
-    let z : List ℕ = is_prefix.0 ∷ is_prefix.1 in
-    let whole : m.bytes ≡ x ++ z = is_prefix.2 in
+    let more : List ℕ = is_prefix.0 ∷ is_prefix.1 in
+    let whole : m.bytes ≡ x ++ more = is_prefix.2 in
     none_begun _ s ss
     (ap (λ t. sequences_by_mark (find_mark all t) e t) (sym whole) ∙ no_sequences all m e are_found.1)
-    (d z (bytes_after x z (subst AreBytes whole are_found.0)))
+    (d more (bytes_after x more (subst AreBytes whole are_found.0)))
 undetermined_in all (m ∷ others) e x s ss are_found (inr i) d = undetermined_in all others e x s ss are_found.2 i d
 
 pub undetermined : (handling : BomHandling) (e : Encoding) (x : List ℕ) (s : Sequence) (ss : List Sequence)
     → MayBeginMark (marks_looked_for handling e) x → Determines (whole_sequences handling e) x (s ∷ ss) → ⊥
 undetermined handling e x s ss i d =
-    undetermined_in (marks_looked_for handling e) (marks_looked_for handling e) e x s ss (found_looked_for handling e) i d
+    undetermined_in (marks_looked_for handling e) (marks_looked_for handling e) e x s ss
+    (found_looked_for handling e) i d
 
 -- what some sequences determine others do, where they are the same whatever follows
 determines_as : (left right : List ℕ → List Sequence) (x y : List ℕ) (ss : List Sequence)
@@ -143,12 +148,17 @@ determines_as : (left right : List ℕ → List Sequence) (x y : List ℕ) (ss :
 determines_as left right x y ss same d = λ z b. let determined = d z b in (determined.0, sym (same z) ∙ determined.1)
 
 -- Once the mark in front is decided, the bytes after it determine the same, both ways.
-pub by_rule : (handling : BomHandling) (e : Encoding) (x : List ℕ) (ss : List Sequence) (found : Option Mark) → found ≡ find_mark (marks_looked_for handling e) x
+pub by_rule : (handling : BomHandling) (e : Encoding) (x : List ℕ) (ss : List Sequence) (found : Option Mark)
+    → found ≡ find_mark (marks_looked_for handling e) x
     → (MayBeginMark (marks_looked_for handling e) x → ⊥)
-    → Determines (whole_sequences handling e) x ss ↔ Determines (sequences_of (rule_of (encoding_of_mark_or found e)) 0) (bytes_after_mark found x) ss
+    → Determines (whole_sequences handling e) x ss
+    ↔ Determines (sequences_of (rule_of (encoding_of_mark_or found e)) 0) (bytes_after_mark found x) ss
 by_rule handling e x ss found is n =
-    let same : (z : List ℕ) → whole_sequences handling e (x ++ z) ≡ sequences_of (rule_of (encoding_of_mark_or found e)) 0 (bytes_after_mark found x ++ z) =
+    let same : (z : List ℕ) → whole_sequences handling e (x ++ z)
+    ≡ sequences_of (rule_of (encoding_of_mark_or found e)) 0 (bytes_after_mark found x ++ z) =
     rw is (λ z. same_sequences (marks_looked_for handling e) e x z n) in (
-      determines_as (whole_sequences handling e) (sequences_of (rule_of (encoding_of_mark_or found e)) 0) x (bytes_after_mark found x) ss same,
-      determines_as (sequences_of (rule_of (encoding_of_mark_or found e)) 0) (whole_sequences handling e) (bytes_after_mark found x) x ss (λ z. sym (same z)),
+      determines_as (whole_sequences handling e) (sequences_of (rule_of (encoding_of_mark_or found e)) 0) x
+          (bytes_after_mark found x) ss same,
+      determines_as (sequences_of (rule_of (encoding_of_mark_or found e)) 0) (whole_sequences handling e)
+          (bytes_after_mark found x) x ss (λ z. sym (same z)),
     )

@@ -54,19 +54,22 @@ record ByRule (P : Rule → Type 0) (sequences : List Sequence) : Type 0 where
   is : sequences ≡ sequences_of rule set bytes
   holds : P rule
 
-module _ (P : Rule → Type 0) (utf_8 : P utf_8_rule) (utf_16be : P (utf_16_rule true)) (utf_16le : P (utf_16_rule false)) where
+module _ (P : Rule → Type 0) (utf_8 : P utf_8_rule) (utf_16be : P (utf_16_rule true))
+    (utf_16le : P (utf_16_rule false)) where
   abbrev AllHave : List Mark → Type 0
   AllHave [] = Unit {0}
   AllHave (m ∷ others) = P (rule_of m.encoding) × AllHave others
 
-  if_found : (b : Bool) (m n : Mark) (other : Option Mark) → P (rule_of m.encoding) → (other ≡ Some n → P (rule_of n.encoding)) → (if b then Some m else other) ≡ Some n → P (rule_of n.encoding)
+  if_found : (b : Bool) (m n : Mark) (other : Option Mark) → P (rule_of m.encoding)
+      → (other ≡ Some n → P (rule_of n.encoding)) → (if b then Some m else other) ≡ Some n → P (rule_of n.encoding)
   if_found true m n other h k e = subst (λ (x : Mark). P (rule_of x.encoding)) (same m n e) h
     where
       same : (x y : Mark) → Some x ≡ Some y → x ≡ y
       same x y f = cc
   if_found false m n other h k e = k e
 
-  found : (looked_for : List Mark) (x : List ℕ) (m : Mark) → AllHave looked_for → find_mark looked_for x ≡ Some m → P (rule_of m.encoding)
+  found : (looked_for : List Mark) (x : List ℕ) (m : Mark) → AllHave looked_for → find_mark looked_for x ≡ Some m
+      → P (rule_of m.encoding)
   found [] x m all_have e = cc
   found (n ∷ others) x m all_have e =
       if_found _ n m (find_mark others x) all_have.0 (λ f. found others x m all_have.1 f) e
@@ -89,7 +92,8 @@ module _ (P : Rule → Type 0) (utf_8 : P utf_8_rule) (utf_16be : P (utf_16_rule
   phase_has Converting = tt
   phase_has Finished = tt
 
-  by_phase : (p : Phase) (e : Encoding) (set : ℕ) (x : List ℕ) → PhaseHas p → P (rule_of e) → ByRule P (sequences_in p e set x)
+  by_phase : (p : Phase) (e : Encoding) (set : ℕ) (x : List ℕ) → PhaseHas p → P (rule_of e)
+      → ByRule P (sequences_in p e set x)
   by_phase (InFront looked_for) e set x h k = by_mark (find_mark looked_for x) refl
     where
       by_mark : (o : Option Mark) → find_mark looked_for x ≡ o → ByRule P (sequences_in (InFront looked_for) e set x)
@@ -103,27 +107,39 @@ module _ (P : Rule → Type 0) (utf_8 : P utf_8_rule) (utf_16be : P (utf_16_rule
         holds = found looked_for x m h mark_is;
       }
   by_phase Within e set x h k = record { rule = rule_of e; set = set; bytes = x; is = refl; holds = k }
-  by_phase Ended e set x h k = record { rule = rule_of e; set = set; bytes = []; is = sym (sequences_of-nil (rule_of e) set); holds = k }
+  by_phase Ended e set x h k = record {
+    rule = rule_of e;
+    set = set;
+    bytes = [];
+    is = sym (sequences_of-nil (rule_of e) set);
+    holds = k;
+  }
 
   by_rule : (d : DecoderState) (y : List ℕ) → P (rule_of d.encoding) → ByRule P (remaining_sequences d y)
   by_rule d y h = by_phase (phase_of d.life) d.encoding d.set (d.pending ++ y) (phase_has d.life) h
 
-begins_at : (last : Bool) (remaining : List ℕ → List Sequence) (x : List ℕ) (ss : List Sequence) → AreDetermined last remaining x ss → (z : List ℕ) × (AreFirstSequences ss (remaining z))
+begins_at : (last : Bool) (remaining : List ℕ → List Sequence) (x : List ℕ) (ss : List Sequence)
+    → AreDetermined last remaining x ss → (z : List ℕ) × (AreFirstSequences ss (remaining z))
 begins_at true remaining x ss d = (x, d)
 begins_at false remaining x ss d = (x ++ [], d [] tt)
 
 -- the bytes pending are no mark
-own_unmarked : (p : Phase) (pending held : List ℕ) → mark_in p (held ++ []) ≡ None → (awaits_mark p ≡ true → pending ≡ held) → mark_in p pending ≡ None
+own_unmarked : (p : Phase) (pending held : List ℕ) → mark_in p (held ++ []) ≡ None
+    → (awaits_mark p ≡ true → pending ≡ held) → mark_in p pending ≡ None
 own_unmarked (InFront looked_for) pending held h f = ap (find_mark looked_for) (f refl ∙ sym (append-nil held)) ∙ h
 own_unmarked Within pending held h f = refl
 own_unmarked Ended pending held h f = refl
 
-same_state : (a b : DecoderState) → a.encoding ≡ b.encoding → a.life ≡ b.life → a.set ≡ b.set → a.pending ≡ b.pending → a ≡ b
+same_state : (a b : DecoderState)
+    → a.encoding ≡ b.encoding → a.life ≡ b.life → a.set ≡ b.set → a.pending ≡ b.pending → a ≡ b
 same_state a b e l s p =
-    let made : Encoding → LifeCycle → ℕ → List ℕ → DecoderState = λ w x y z. record { encoding = w; life = x; set = y; pending = z } in
-    ap (λ w. made w a.life a.set a.pending) e ∙ ap (λ x. made b.encoding x a.set a.pending) l ∙ ap (λ y. made b.encoding b.life y a.pending) s ∙ ap (made b.encoding b.life b.set) p
+    let made : Encoding → LifeCycle → ℕ → List ℕ → DecoderState =
+    λ w x y z. record { encoding = w; life = x; set = y; pending = z } in
+    ap (λ w. made w a.life a.set a.pending) e ∙ ap (λ x. made b.encoding x a.set a.pending) l
+    ∙ ap (λ y. made b.encoding b.life y a.pending) s ∙ ap (made b.encoding b.life b.set) p
 
-module _ (units_of : ℕ → List ℕ) (determine : DetermineTexts units_of) (mode : DecodeErrorMode) (old new : DecoderState) (src : List ℕ) (last : Bool) (room read : ℕ) (wrote : List ℕ) (replaced : Bool)
+module _ (units_of : ℕ → List ℕ) (determine : DetermineTexts units_of) (mode : DecodeErrorMode)
+    (old new : DecoderState) (src : List ℕ) (last : Bool) (room read : ℕ) (wrote : List ℕ) (replaced : Bool)
     (decodes : DecodesChunk units_of mode old new src last room OutputFull read wrote replaced) where
   -- where nothing is written, nothing that has a text is done
   no_text : length wrote ≡ 0 → sequence_text decodes.call.done ≡ []
@@ -133,7 +149,8 @@ module _ (units_of : ℕ → List ℕ) (determine : DetermineTexts units_of) (mo
       ∙ no_bytes wrote w)
 
   -- With room for a small text something is done: fewer bytes are pending or unread.
-  pub less_at_hand : (least : ℕ) → TakesSmallTexts units_of least → least ≤ room → length new.pending + (length src - read) < length old.pending + length src
+  pub less_at_hand : (least : ℕ) → TakesSmallTexts units_of least → least ≤ room
+      → length new.pending + (length src - read) < length old.pending + length src
   less_at_hand least takes h =
       let begins =
       begins_at last (remaining_sequences old) src (decodes.call.done ++ decodes.call.stops.next ∷ [])
@@ -146,11 +163,13 @@ module _ (units_of : ℕ → List ℕ) (determine : DetermineTexts units_of) (mo
       sym few_units.is ∙ begins.1.1 ∙ append_assoc decodes.call.done (decodes.call.stops.next ∷ []) begins.1.0 in
       let some = some_done few_units.rule few_units.holds few_units.set few_units.bytes decodes.call.done begins.1.0 cut
       decodes.call.stops.full in
-      let x : List ℕ = mark_bytes (mark_in (phase_of old.life) (old.pending ++ take read src)) in
-      let e = ap length decodes.accounted in let f = length-append old.pending (take read src) in
-      let g = length-append x (sequence_bytes decodes.call.done ++ new.pending) in
-      let i = length-append (sequence_bytes decodes.call.done) new.pending in let k = length-take read src in
-      let m = decodes.call.within in
+      let mark : List ℕ = mark_bytes (mark_in (phase_of old.life) (old.pending ++ take read src)) in
+      let all = ap length decodes.accounted in
+      let bytes_read = length-append old.pending (take read src) in
+      let after_mark = length-append mark (sequence_bytes decodes.call.done ++ new.pending) in
+      let then_pending = length-append (sequence_bytes decodes.call.done) new.pending in
+      let taken = length-take read src in
+      let within = decodes.call.within in
       omega arith
     where
       some_done : (rule : Rule) → HasSmallTexts rule → (set : ℕ) (z : List ℕ) (done rest : List Sequence)
@@ -158,11 +177,12 @@ module _ (units_of : ℕ → List ℕ) (determine : DetermineTexts units_of) (mo
           → room < length (units_of_text units_of (sequence_text done)) + length
           (units_of_text units_of decodes.call.stops.next.text) → 0 < length (sequence_bytes done)
       some_done rule small set z [] rest e f =
-          let g = takes decodes.call.stops.next.text (small_text rule small set z [] decodes.call.stops.next rest e) in
+          let fits =
+          takes decodes.call.stops.next.text (small_text rule small set z [] decodes.call.stops.next rest e) in
           absurd (omega arith)
       some_done rule small set z (x ∷ done) rest e f =
-          let g = has_bytes rule set z [] x (done ++ decodes.call.stops.next ∷ rest) e in
-          let l = length-append x.bytes (sequence_bytes done) in omega arith
+          let some_bytes = has_bytes rule set z [] x (done ++ decodes.call.stops.next ∷ rest) e in
+          let joined_length = length-append x.bytes (sequence_bytes done) in omega arith
 
   -- and a sequence that is done has a text: something is written.
   pub some_written : (least : ℕ) → TakesSmallTexts units_of least → least ≤ room → 0 < length wrote
@@ -267,9 +287,11 @@ module _ (units_of : ℕ → List ℕ) (determine : DetermineTexts units_of) (mo
       none_written)
 
 -- what a call does, and what that says where it stops for want of room
-pub converts : (units_of : ℕ → List ℕ) (least : ℕ) (mode : DecodeErrorMode) (old new : DecoderState) (src : List ℕ) (last : Bool) (room : ℕ) (result : DecoderResult) (read : ℕ) (wrote : List ℕ) (replaced : Bool)
+pub converts : (units_of : ℕ → List ℕ) (least : ℕ) (mode : DecodeErrorMode) (old new : DecoderState) (src : List ℕ)
+    (last : Bool) (room : ℕ) (result : DecoderResult) (read : ℕ) (wrote : List ℕ) (replaced : Bool)
     → DetermineTexts units_of → TakesSmallTexts units_of least → PendingAreHeldBytes old → has_finished old ≡ false
-    → DecodesChunk units_of mode old new src last room result read wrote replaced → AnswersDecode units_of least mode old new src last room result read wrote replaced
+    → DecodesChunk units_of mode old new src last room result read wrote replaced
+    → AnswersDecode units_of least mode old new src last room result read wrote replaced
 converts units_of least mode old new src last room result read wrote replaced determine takes pending_are_held going
     decodes_chunk = record {
       decodes = decodes_chunk;
@@ -301,9 +323,11 @@ pub still_goes_on : (r : CoderResult) → (r ≡ coder.InputEmpty → ⊥) → d
 still_goes_on coder.InputEmpty on e = on refl
 still_goes_on coder.OutputFull on e = cc
 
-pub converts_into : (units_of : ℕ → List ℕ) (mode : DecodeErrorMode) (old new : DecoderState) (src : List ℕ) (last : Bool) (before after : Output) (result : DecoderResult) (read : ℕ) (replaced : Bool)
+pub converts_into : (units_of : ℕ → List ℕ) (mode : DecodeErrorMode) (old new : DecoderState) (src : List ℕ)
+    (last : Bool) (before after : Output) (result : DecoderResult) (read : ℕ) (replaced : Bool)
     → DetermineTexts units_of → PendingAreHeldBytes old → has_finished old ≡ false
-    → DecodesInto units_of mode old new src last before after result read replaced → AnswersDecodeInto units_of mode old new src last before after result read replaced
+    → DecodesInto units_of mode old new src last before after result read replaced
+    → AnswersDecodeInto units_of mode old new src last before after result read replaced
 converts_into units_of mode old new src last before after result read replaced determine pending_are_held going
     decodes = record {
       wrote = decodes.wrote;
@@ -314,9 +338,11 @@ converts_into units_of mode old new src last before after result read replaced d
     }
 
 -- a call that reports replaces nothing
-pub reports_into : (units_of : ℕ → List ℕ) (old new : DecoderState) (src : List ℕ) (last : Bool) (before after : Output) (result : DecoderResult) (read : ℕ) (replaced : Bool)
+pub reports_into : (units_of : ℕ → List ℕ) (old new : DecoderState) (src : List ℕ) (last : Bool)
+    (before after : Output) (result : DecoderResult) (read : ℕ) (replaced : Bool)
     → DetermineTexts units_of → PendingAreHeldBytes old → has_finished old ≡ false
-    → DecodesInto units_of (Fatal false) old new src last before after result read replaced → AnswersDecodeInto units_of (Fatal false) old new src last before after result read false
+    → DecodesInto units_of (Fatal false) old new src last before after result read replaced
+    → AnswersDecodeInto units_of (Fatal false) old new src last before after result read false
 reports_into units_of old new src last before after result read replaced determine pending_are_held going decodes =
     subst (AnswersDecodeInto units_of (Fatal false) old new src last before after result read)
     (decodes.decodes.call.none_replaced refl)
@@ -325,34 +351,45 @@ reports_into units_of old new src last before after result read replaced determi
     decodes)
 
 -- A call over an output that is empty as yet.
-pub over_slice : (units_of : ℕ → List ℕ) (least : ℕ) (mode : DecodeErrorMode) (old new : DecoderState) (src : List ℕ) (last : Bool) (before after : Output) (result : DecoderResult) (read : ℕ) (replaced : Bool) (text : List ℕ) (room : ℕ)
-    → TakesSmallTexts units_of least → AnswersDecodeInto units_of mode old new src last before after result read replaced → before.written ≡ [] → before.room ≡ room → after.written ≡ text
+pub over_slice : (units_of : ℕ → List ℕ) (least : ℕ) (mode : DecodeErrorMode) (old new : DecoderState) (src : List ℕ)
+    (last : Bool) (before after : Output) (result : DecoderResult) (read : ℕ) (replaced : Bool)
+    (text : List ℕ) (room : ℕ)
+    → TakesSmallTexts units_of least
+    → AnswersDecodeInto units_of mode old new src last before after result read replaced
+    → before.written ≡ [] → before.room ≡ room → after.written ≡ text
     → AnswersDecode units_of least mode old new src last room result read text replaced
 over_slice units_of least mode old new src last before after result read replaced text room takes answers w r a =
-    let e : answers.wrote ≡ text =
+    let wrote_text : answers.wrote ≡ text =
     sym (ap (λ x. x ++ answers.wrote) w) ∙ sym (ap (λ (o : Output). o.written) answers.onto) ∙ a in
-    subst (λ x. AnswersDecode units_of least mode old new src last room result read x replaced) e
+    subst (λ x. AnswersDecode units_of least mode old new src last room result read x replaced) wrote_text
     (subst (λ n. AnswersDecode units_of least mode old new src last n result read answers.wrote replaced) r
     (answers.converts least takes))
 
 -- A call over an output that has a text already.
-pub over_text : (units_of : ℕ → List ℕ) (least : ℕ) (mode : DecodeErrorMode) (old new : DecoderState) (src : List ℕ) (last : Bool) (before after : Output) (result : DecoderResult) (read : ℕ) (replaced : Bool) (text now : List ℕ) (len room : ℕ)
-    → TakesSmallTexts units_of least → AnswersDecodeInto units_of mode old new src last before after result read replaced → before.written ≡ text → length text ≡ len → before.room ≡ room → after.written ≡ now
+pub over_text : (units_of : ℕ → List ℕ) (least : ℕ) (mode : DecodeErrorMode) (old new : DecoderState) (src : List ℕ)
+    (last : Bool) (before after : Output) (result : DecoderResult) (read : ℕ) (replaced : Bool)
+    (text now : List ℕ) (len room : ℕ)
+    → TakesSmallTexts units_of least
+    → AnswersDecodeInto units_of mode old new src last before after result read replaced
+    → before.written ≡ text → length text ≡ len → before.room ≡ room → after.written ≡ now
     → AnswersDecode units_of least mode old new src last room result read (drop len now) replaced
 over_text units_of least mode old new src last before after result read replaced text now len room takes answers w l r
     a =
     let all : now ≡ text ++ answers.wrote = sym a ∙ ap (λ (o : Output). o.written) answers.onto
     ∙ ap (λ x. x ++ answers.wrote) w in
-    let e : answers.wrote ≡ drop len now =
+    let wrote_rest : answers.wrote ≡ drop len now =
     sym (drop-append_seam text answers.wrote) ∙ ap (λ n. drop n (text ++ answers.wrote)) l
     ∙ ap (drop len) (sym all) in
-    subst (λ x. AnswersDecode units_of least mode old new src last room result read x replaced) e
+    subst (λ x. AnswersDecode units_of least mode old new src last room result read x replaced) wrote_rest
     (subst (λ n. AnswersDecode units_of least mode old new src last n result read answers.wrote replaced) r
     (answers.converts least takes))
 
 -- what was there stays in front
-pub in_front : (units_of : ℕ → List ℕ) (mode : DecodeErrorMode) (old new : DecoderState) (src : List ℕ) (last : Bool) (before after : Output) (result : DecoderResult) (read : ℕ) (replaced : Bool) (text now : List ℕ) (len : ℕ)
-    → AnswersDecodeInto units_of mode old new src last before after result read replaced → before.written ≡ text → length text ≡ len → after.written ≡ now → take len now ≡ text
+pub in_front : (units_of : ℕ → List ℕ) (mode : DecodeErrorMode) (old new : DecoderState) (src : List ℕ)
+    (last : Bool) (before after : Output) (result : DecoderResult) (read : ℕ) (replaced : Bool)
+    (text now : List ℕ) (len : ℕ)
+    → AnswersDecodeInto units_of mode old new src last before after result read replaced
+    → before.written ≡ text → length text ≡ len → after.written ≡ now → take len now ≡ text
 in_front units_of mode old new src last before after result read replaced text now len answers w l a =
     ap (take len) (sym a ∙ ap (λ (o : Output). o.written) answers.onto ∙ ap (λ x. x ++ answers.wrote) w)
     ∙ ap (λ n. take n (text ++ answers.wrote)) (sym l) ∙ take-append_seam text answers.wrote

@@ -70,29 +70,79 @@ record CanEnd (life : LifeCycle) : Type 0 where
   nothing : drop (length mark.bytes) (held_mark_bytes life ++ more) ≡ []
 
 can_end : (life : LifeCycle) → awaits_mark (phase_of life) ≡ true → CanEnd life
-can_end AtStart h = record { more = 0xFE ∷ 0xFF ∷ []; bytes = (omega arith, (omega arith, tt)); mark = utf_16be_mark; found = refl; nothing = refl }
-can_end AtUtf8Start h = record { more = 0xEF ∷ 0xBB ∷ 0xBF ∷ []; bytes = (omega arith, (omega arith, (omega arith, tt))); mark = utf_8_mark; found = refl; nothing = refl }
-can_end AtUtf16BeStart h = record { more = 0xFE ∷ 0xFF ∷ []; bytes = (omega arith, (omega arith, tt)); mark = utf_16be_mark; found = refl; nothing = refl }
-can_end AtUtf16LeStart h = record { more = 0xFF ∷ 0xFE ∷ []; bytes = (omega arith, (omega arith, tt)); mark = utf_16le_mark; found = refl; nothing = refl }
-can_end SeenUtf8First h = record { more = 0xBB ∷ 0xBF ∷ []; bytes = (omega arith, (omega arith, tt)); mark = utf_8_mark; found = refl; nothing = refl }
-can_end SeenUtf8Second h = record { more = 0xBF ∷ []; bytes = (omega arith, tt); mark = utf_8_mark; found = refl; nothing = refl }
-can_end SeenUtf16BeFirst h = record { more = 0xFF ∷ []; bytes = (omega arith, tt); mark = utf_16be_mark; found = refl; nothing = refl }
-can_end SeenUtf16LeFirst h = record { more = 0xFE ∷ []; bytes = (omega arith, tt); mark = utf_16le_mark; found = refl; nothing = refl }
+can_end AtStart h = record {
+  more = 0xFE ∷ 0xFF ∷ [];
+  bytes = (omega arith, (omega arith, tt));
+  mark = utf_16be_mark;
+  found = refl;
+  nothing = refl;
+}
+can_end AtUtf8Start h = record {
+  more = 0xEF ∷ 0xBB ∷ 0xBF ∷ [];
+  bytes = (omega arith, (omega arith, (omega arith, tt)));
+  mark = utf_8_mark;
+  found = refl;
+  nothing = refl;
+}
+can_end AtUtf16BeStart h = record {
+  more = 0xFE ∷ 0xFF ∷ [];
+  bytes = (omega arith, (omega arith, tt));
+  mark = utf_16be_mark;
+  found = refl;
+  nothing = refl;
+}
+can_end AtUtf16LeStart h = record {
+  more = 0xFF ∷ 0xFE ∷ [];
+  bytes = (omega arith, (omega arith, tt));
+  mark = utf_16le_mark;
+  found = refl;
+  nothing = refl;
+}
+can_end SeenUtf8First h = record {
+  more = 0xBB ∷ 0xBF ∷ [];
+  bytes = (omega arith, (omega arith, tt));
+  mark = utf_8_mark;
+  found = refl;
+  nothing = refl;
+}
+can_end SeenUtf8Second h = record {
+  more = 0xBF ∷ [];
+  bytes = (omega arith, tt);
+  mark = utf_8_mark;
+  found = refl;
+  nothing = refl;
+}
+can_end SeenUtf16BeFirst h = record {
+  more = 0xFF ∷ [];
+  bytes = (omega arith, tt);
+  mark = utf_16be_mark;
+  found = refl;
+  nothing = refl;
+}
+can_end SeenUtf16LeFirst h = record {
+  more = 0xFE ∷ [];
+  bytes = (omega arith, tt);
+  mark = utf_16le_mark;
+  found = refl;
+  nothing = refl;
+}
 can_end ConvertingWithPendingBb h = absurd (false≢true h)
 can_end Converting h = absurd (false≢true h)
 can_end Finished h = absurd (false≢true h)
 
 pub none_begins : (s : Sequence) (ss all : List Sequence) → all ≡ [] → AreFirstSequences (s ∷ ss) all → ⊥
-none_begins s ss all e b = let f = b.1 in cc
+none_begins s ss all e b = let comes_first = b.1 in cc
 
 -- after a mark the sequences are those of its encoding
-pub marked_sequences : (p : Phase) (e : Encoding) (set : ℕ) (m : Mark) (x : List ℕ) → mark_in p x ≡ Some m → sequences_in p e set x ≡ sequences_of (rule_of m.encoding) 0 (drop (length m.bytes) x)
+pub marked_sequences : (p : Phase) (e : Encoding) (set : ℕ) (m : Mark) (x : List ℕ)
+    → mark_in p x ≡ Some m → sequences_in p e set x ≡ sequences_of (rule_of m.encoding) 0 (drop (length m.bytes) x)
 marked_sequences (InFront looked_for) e set m x f = ap (λ o. sequences_by_mark o e x) f
 marked_sequences Within e set m x f = cc
 marked_sequences Ended e set m x f = cc
 
 -- as long as a mark may come, the bytes held determine nothing
-pub undetermined_in_front : (e : Encoding) (set : ℕ) (life : LifeCycle) → awaits_mark (phase_of life) ≡ true → (s : Sequence) (ss : List Sequence)
+pub undetermined_in_front : (e : Encoding) (set : ℕ) (life : LifeCycle)
+    → awaits_mark (phase_of life) ≡ true → (s : Sequence) (ss : List Sequence)
     → Determines (λ y. sequences_in (phase_of life) e set (held_mark_bytes life ++ y)) [] (s ∷ ss) → ⊥
 undetermined_in_front e set life h s ss d =
     let end_allowed = can_end life h in
@@ -102,8 +152,11 @@ undetermined_in_front e set life h s ss d =
     ∙ sequences_of-nil (rule_of end_allowed.mark.encoding) 0) (d end_allowed.more end_allowed.bytes)
 
 -- without a mark, the sequences are those of the rule
-pub unmarked_sequences : (p : Phase) (e : Encoding) (set : ℕ) (x : List ℕ) → IsOpen p → mark_in p x ≡ None → (awaits_mark p ≡ true → set ≡ 0) → sequences_in p e set x ≡ sequences_of (rule_of e) set x
-unmarked_sequences (InFront looked_for) e set x o n z = ap (λ m. sequences_by_mark m e x) n ∙ ap (λ k. sequences_of (rule_of e) k x) (sym (z refl))
+pub unmarked_sequences : (p : Phase) (e : Encoding) (set : ℕ) (x : List ℕ)
+    → IsOpen p → mark_in p x ≡ None → (awaits_mark p ≡ true → set ≡ 0)
+    → sequences_in p e set x ≡ sequences_of (rule_of e) set x
+unmarked_sequences (InFront looked_for) e set x o n z =
+    ap (λ m. sequences_by_mark m e x) n ∙ ap (λ k. sequences_of (rule_of e) k x) (sym (z refl))
 unmarked_sequences Within e set x o n z = refl
 unmarked_sequences Ended e set x o n z = absurd o
 
@@ -137,13 +190,23 @@ pub pending_of_held : (held pending : List ℕ) → pending ≡ [] → held_or_p
 pending_of_held [] pending e = e
 pending_of_held (b ∷ held) pending e = refl
 
-pub first_byte : (n : ℕ) (src y : List ℕ) → 1 ≤ n → n ≤ length src → (b : ℕ) × (z : List ℕ) × (x : List ℕ) × (src ≡ b ∷ z) × (take n src ++ y ≡ b ∷ x)
+pub first_byte : (n : ℕ) (src y : List ℕ) → 1 ≤ n → n ≤ length src
+    → (b : ℕ) × (z : List ℕ) × (x : List ℕ) × (src ≡ b ∷ z) × (take n src ++ y ≡ b ∷ x)
 first_byte n [] y h i = absurd (omega arith)
 first_byte zero (b ∷ z) y h i = absurd (omega arith)
 first_byte (suc n) (b ∷ z) y h i = (b, z, take n z ++ y, refl, refl)
 
-module _ (e : Encoding) (life : LifeCycle) (v : CodecState) (src : List ℕ) (also : AreBytes src) (last : Bool)
-    (same : rule_of e ≡ v.rule) (going : has_ended life ≡ false) (text : HasNoMark life src last) (holds : HeldBytesMatchCodec life v) where
+-- A decoder of the encoding e, with the state v of its codec, reads src as text: it is not at its end, and no byte
+-- order mark precedes src.
+pub record ReadsText (e : Encoding) (life : LifeCycle) (v : CodecState) (src : List ℕ) (last : Bool) : Type 0 where
+  pub bytes : AreBytes src
+  pub same_rule : rule_of e ≡ v.rule
+  pub going : has_ended life ≡ false
+  pub no_mark : HasNoMark life src last
+  pub holds : HeldBytesMatchCodec life v
+
+module _ {e : Encoding} {life : LifeCycle} {v : CodecState} {src : List ℕ} {last : Bool}
+    (text : ReadsText e life v src last) where
   abbrev pub held : List ℕ
   held = unread_bytes life (length v.pending)
 
@@ -151,14 +214,16 @@ module _ (e : Encoding) (life : LifeCycle) (v : CodecState) (src : List ℕ) (al
   pending = held_or_pending_bytes (held_mark_bytes life) v.pending
 
   pub at_hand : (y : List ℕ) → pending ++ y ≡ v.pending ++ (held ++ y)
-  at_hand y = ap (λ x. x ++ y) holds.held ∙ append_assoc v.pending held y
+  at_hand y = ap (λ x. x ++ y) text.holds.held ∙ append_assoc v.pending held y
 
   pub pending_in_front : awaits_mark (phase_of life) ≡ true → pending ≡ held_mark_bytes life
-  pending_in_front a = pending_of_held (held_mark_bytes life) v.pending (holds.unread a).1
+  pending_in_front a = pending_of_held (held_mark_bytes life) v.pending (text.holds.unread a).1
 
   -- no mark comes
 
-  unmarked_by : (y : List ℕ) → (awaits_mark (phase_of life) ≡ true → mark_in (phase_of life) (held_mark_bytes life ++ y) ≡ None) → mark_in (phase_of life) (pending ++ y) ≡ None
+  unmarked_by : (y : List ℕ)
+      → (awaits_mark (phase_of life) ≡ true → mark_in (phase_of life) (held_mark_bytes life ++ y) ≡ None)
+      → mark_in (phase_of life) (pending ++ y) ≡ None
   unmarked_by y h =
       none_unless_awaited (phase_of life) (pending ++ y)
       (λ awaits. ap (λ x. mark_in (phase_of life) (x ++ y)) (pending_in_front awaits) ∙ h awaits)
@@ -168,34 +233,42 @@ module _ (e : Encoding) (life : LifeCycle) (v : CodecState) (src : List ℕ) (al
   unmarked_after n h i y = unmarked_by (take n src ++ y) (λ a.
       let first = first_byte n src y (h a) i in
       ap (λ x. mark_in (phase_of life) (held_mark_bytes life ++ x)) first.4
-      ∙ (text.rules_out first.0 first.1 first.3).no_mark first.2)
+      ∙ (text.no_mark.rules_out first.0 first.1 first.3).no_mark first.2)
 
   pub unmarked_all : (z : List ℕ) → (last ≡ true → z ≡ []) → mark_in (phase_of life) (pending ++ (src ++ z)) ≡ None
   unmarked_all z l = unmarked_by (src ++ z) (λ a. by_bytes src refl a)
     where
-      by_bytes : (x : List ℕ) → src ≡ x → awaits_mark (phase_of life) ≡ true → mark_in (phase_of life) (held_mark_bytes life ++ (src ++ z)) ≡ None
+      by_bytes : (x : List ℕ) → src ≡ x → awaits_mark (phase_of life) ≡ true
+          → mark_in (phase_of life) (held_mark_bytes life ++ (src ++ z)) ≡ None
       by_bytes [] src_is a = ap (λ x. mark_in (phase_of life) (held_mark_bytes life ++ (x ++ z))) src_is
-          ∙ ap (λ x. mark_in (phase_of life) (held_mark_bytes life ++ x)) (l (text.ends src_is a)) ∙ held_unmarked life
+          ∙ ap (λ x. mark_in (phase_of life) (held_mark_bytes life ++ x)) (l (text.no_mark.ends src_is a))
+          ∙ held_unmarked life
       by_bytes (b ∷ x) src_is a = ap (λ t. mark_in (phase_of life) (held_mark_bytes life ++ (t ++ z))) src_is
-          ∙ (text.rules_out b x src_is).no_mark (x ++ z)
+          ∙ (text.no_mark.rules_out b x src_is).no_mark (x ++ z)
 
   -- so the sequences are those of the codec
-  pub by_codec : (y : List ℕ) → mark_in (phase_of life) (pending ++ y) ≡ None → remaining_sequences (decoder_state_of e life v) y ≡ (remainder_of v).sequences (held ++ y)
+  pub by_codec : (y : List ℕ) → mark_in (phase_of life) (pending ++ y) ≡ None
+      → remaining_sequences (decoder_state_of e life v) y ≡ (remainder_of v).sequences (held ++ y)
   by_codec y n =
-      unmarked_sequences (phase_of life) e v.set (pending ++ y) (open_phase life going) n (λ a. (holds.unread a).0)
-      ∙ ap (λ (r : Rule). sequences_of r v.set (pending ++ y)) same ∙ ap (sequences_of v.rule v.set) (at_hand y)
+      unmarked_sequences (phase_of life) e v.set (pending ++ y) (open_phase life text.going) n
+      (λ a. (text.holds.unread a).0)
+      ∙ ap (λ (r : Rule). sequences_of r v.set (pending ++ y)) text.same_rule
+      ∙ ap (sequences_of v.rule v.set) (at_hand y)
 
-  pub carries : Carries (decoder_remainder (decoder_state_of e life v)) (remainder_of v) src (held ++ src) last [] (length held) 0 (settled_from (phase_of life)) (settled_from (phase_of life))
+  pub carries : Carries (decoder_remainder (decoder_state_of e life v)) (remainder_of v) src (held ++ src) last []
+      (length held) 0 (settled_from (phase_of life)) (settled_from (phase_of life))
   carries = record {
-    len = let f = length-append held src in omega arith;
+    len = let joined_length = length-append held src in omega arith;
     near = omega arith;
     shift = omega arith;
-    plain = λ z l. by_codec (src ++ z) (unmarked_all z l) ∙ ap (remainder_of v).sequences (sym (append_assoc held src z));
+    plain = λ z l.
+        by_codec (src ++ z) (unmarked_all z l) ∙ ap (remainder_of v).sequences (sym (append_assoc held src z));
     by_prefix = λ n h i y.
-        let f : length held + n ≡ n + length held - 0 = omega arith in
+        let as_shifted : length held + n ≡ n + length held - 0 = omega arith in
         by_codec (take n src ++ y) (unmarked_after n (settled_if_awaited (phase_of life) n h) i y)
-        ∙ ap (remainder_of v).sequences (sym (append_assoc held (take n src) y)) ∙ ap (λ x. (remainder_of v).sequences (x ++ y)) (sym (take-append-add held src n))
-        ∙ ap (λ k. (remainder_of v).sequences (take k (held ++ src) ++ y)) f;
+        ∙ ap (remainder_of v).sequences (sym (append_assoc held (take n src) y))
+        ∙ ap (λ x. (remainder_of v).sequences (x ++ y)) (sym (take-append-add held src n))
+        ∙ ap (λ k. (remainder_of v).sequences (take k (held ++ src) ++ y)) as_shifted;
     none_below = λ n h s ss d.
         let awaited = awaited_unless_settled (phase_of life) n h in
         undetermined_in_front e v.set life awaited.1 s ss (λ y b.
@@ -206,12 +279,14 @@ module _ (e : Encoding) (life : LifeCycle) (v : CodecState) (src : List ℕ) (al
         (d y b)));
   }
 
-  pub reads_on : (left read : ℕ) → ReadsHeldFirst held src left read → Reads src (length held) 0 (settled_from (phase_of life)) (settled_from (phase_of life)) (length held - left + read) read
-  reads_on left read held_first = record {
+  pub reads_on : {left read : ℕ} → ReadsHeldFirst held src left read
+      → Reads src (length held) 0 (settled_from (phase_of life)) (settled_from (phase_of life))
+      (length held - left + read) read
+  reads_on {left} {read} held_first = record {
     within = held_first.within;
-    there = let f = held_first.most in omega arith;
+    there = let few_left = held_first.most in omega arith;
     back = omega arith;
-    soon = let f = settled_soon (phase_of life) in omega arith;
+    soon = let by_one = settled_soon (phase_of life) in omega arith;
     exact = elim held_first.first [
       | inl f ↦ by_number read held_first.within f
       | inr f ↦ inl f
@@ -219,9 +294,11 @@ module _ (e : Encoding) (life : LifeCycle) (v : CodecState) (src : List ℕ) (al
     none = λ f. inl (omega arith);
   }
     where
-      by_number : (n : ℕ) → n ≤ length src → left ≡ 0 → (n ≡ 0) ⊎ ((n < settled_from (phase_of life)) ⊎ ((settled_from (phase_of life) ≤ n) × (n + length held - 0 ≡ length held - left + n)))
+      by_number : (n : ℕ) → n ≤ length src → left ≡ 0
+          → (n ≡ 0) ⊎ ((n < settled_from (phase_of life))
+          ⊎ ((settled_from (phase_of life) ≤ n) × (n + length held - 0 ≡ length held - left + n)))
       by_number zero h f = inl refl
-      by_number (suc n) h f = let g = settled_soon (phase_of life) in inr (inr (omega arith, omega arith))
+      by_number (suc n) h f = let by_one = settled_soon (phase_of life) in inr (inr (omega arith, omega arith))
 
   -- the bytes at hand that are read begin with no mark
   pub unmarked_read : (n : ℕ) → n ≤ length src → mark_in (phase_of life) (pending ++ take n src) ≡ None

@@ -69,7 +69,7 @@ start_stays (a ∷ p) (b ∷ x) y starts = elim (true_or_false (eqb a b)) [
 start_within : (p x y : List ℕ) → starts_with nat_eq (x ++ y) p ≡ true → length p ≤ length x
     → starts_with nat_eq x p ≡ true
 start_within [] x y starts l = refl
-start_within (a ∷ p) [] y starts l = absurd (let f : ⊥ = omega arith in f)
+start_within (a ∷ p) [] y starts l = absurd (let too_long : ⊥ = omega arith in too_long)
 start_within (a ∷ p) (b ∷ x) y starts l = elim (true_or_false (eqb a b)) [
   | inl same_byte ↦ rw same_byte (start_within p x y (rw same_byte at starts) (omega arith))
   | inr f ↦ absurd (false≢true (rw f at starts))
@@ -90,9 +90,9 @@ same_mark (m ∷ others) x y equal_length = elim (true_or_false (starts_with nat
   | inl starts ↦ rw (starts, start_stays m.bytes x y starts) refl
   | inr starts_not ↦ elim (true_or_false (starts_with nat_eq (x ++ y) m.bytes)) [
     | inl starts_later ↦
-        let n : length m.bytes ≡ length (mark_bytes (find_mark others x)) =
+        let as_long_as_other : length m.bytes ≡ length (mark_bytes (find_mark others x)) =
         rw (starts_not, starts_later) at equal_length in
-        let k = mark_fits others x in
+        let other_fits = mark_fits others x in
         absurd (false≢true (sym starts_not ∙ start_within m.bytes x y starts_later (omega arith)))
     | inr never_starts ↦ rw (starts_not, never_starts)
         (same_mark others x y (rw (starts_not, never_starts) at equal_length))
@@ -138,7 +138,7 @@ is_ahead : (life front : LifeCycle) (states : List (List ℕ × LifeCycle)) (x :
 is_ahead life front [] x ahead prefix_is = absurd (let no : ⊥ = cc in no)
 is_ahead life front (one ∷ others) x ahead prefix_is = elim (true_or_false (bytes_eq one.0 x)) [
   | inl same_bytes ↦
-      let f : Some one.1 ≡ Some front = rw same_bytes at prefix_is in
+      let found_front : Some one.1 ≡ Some front = rw same_bytes at prefix_is in
       let same : one.1 ≡ front = cc in
       subst (IsAhead life x) same (subst (λ z. IsAhead life z one.1) ((bytes_eq-Decides one.0 x).0 same_bytes) ahead.0)
   | inr f ↦ is_ahead life front others x ahead.1 (rw f at prefix_is)
@@ -200,28 +200,30 @@ module _ (units_of : ℕ → List ℕ) (mode : DecodeErrorMode) (old new : Decod
   same_length : (looked_for : List Mark) → phase_of old.life ≡ InFront looked_for → phase_of new.life ≡ Within
       → length (mark_bytes (find_mark looked_for (x ++ rest))) ≡ length (mark_bytes (find_mark looked_for x))
   same_length looked_for phase_is w =
-      let m = mark_bytes (find_mark looked_for all) in
-      let ss = sequences_by_mark (find_mark looked_for all) old.encoding all in
-      let j : m ++ sequence_bytes ss ≡ all = joined_by (find_mark looked_for all) old.encoding all
-      (found_is looked_for all) in
-      let r : ss ≡ decodes.call.done ++ remaining_sequences new rest =
+      let mark = mark_bytes (find_mark looked_for all) in
+      let all_sequences = sequences_by_mark (find_mark looked_for all) old.encoding all in
+      let mark_and_sequences : mark ++ sequence_bytes all_sequences ≡ all =
+      joined_by (find_mark looked_for all) old.encoding all (found_is looked_for all) in
+      let done_and_remaining : all_sequences ≡ decodes.call.done ++ remaining_sequences new rest =
       ap (λ p. sequences_in p old.encoding old.set all) (sym phase_is) ∙ decodes.call.residual y none in
-      let b : sequence_bytes ss ≡ sequence_bytes decodes.call.done ++ (new.pending ++ rest) =
-      ap sequence_bytes r ∙ sequence_bytes-append decodes.call.done (remaining_sequences new rest)
+      let all_sequence_bytes : sequence_bytes all_sequences
+      ≡ sequence_bytes decodes.call.done ++ (new.pending ++ rest) =
+      ap sequence_bytes done_and_remaining ∙ sequence_bytes-append decodes.call.done (remaining_sequences new rest)
       ∙ ap (λ z. sequence_bytes decodes.call.done ++ z) (within_bytes new rest w) in
-      let a : x ≡ mark_bytes (find_mark looked_for x) ++ (sequence_bytes decodes.call.done ++ new.pending) =
+      let bytes_read : x ≡ mark_bytes (find_mark looked_for x) ++ (sequence_bytes decodes.call.done ++ new.pending) =
       decodes.accounted ∙ ap (λ p. mark_bytes (mark_in p x) ++ (sequence_bytes decodes.call.done ++ new.pending))
       phase_is in
-      let g = ap length (sym j ∙ ap (λ z. m ++ z) b) in
-      let h = ap length a in
-      let i = ap length in_parts in
-      let k = length-append m (sequence_bytes decodes.call.done ++ (new.pending ++ rest)) in
-      let l = length-append (sequence_bytes decodes.call.done) (new.pending ++ rest) in
-      let n = length-append new.pending rest in
-      let o = length-append x rest in
-      let q = length-append (mark_bytes (find_mark looked_for x)) (sequence_bytes decodes.call.done ++ new.pending) in
-      let s = length-append (sequence_bytes decodes.call.done) new.pending in
-      let t = ap (λ z. length (mark_bytes (find_mark looked_for z))) in_parts in
+      let all_length = ap length (sym mark_and_sequences ∙ ap (λ z. mark ++ z) all_sequence_bytes) in
+      let read_length = ap length bytes_read in
+      let parts_length = ap length in_parts in
+      let marked_length = length-append mark (sequence_bytes decodes.call.done ++ (new.pending ++ rest)) in
+      let done_length = length-append (sequence_bytes decodes.call.done) (new.pending ++ rest) in
+      let pending_length = length-append new.pending rest in
+      let joined_length = length-append x rest in
+      let read_mark_length =
+      length-append (mark_bytes (find_mark looked_for x)) (sequence_bytes decodes.call.done ++ new.pending) in
+      let read_done_length = length-append (sequence_bytes decodes.call.done) new.pending in
+      let same_mark_length = ap (λ z. length (mark_bytes (find_mark looked_for z))) in_parts in
       omega arith
 
   same_in : (p : Phase) → phase_of old.life ≡ p → phase_of new.life ≡ Within → mark_in p (x ++ rest) ≡ mark_in p x
@@ -242,9 +244,10 @@ module _ (units_of : ℕ → List ℕ) (mode : DecodeErrorMode) (old new : Decod
   goes_to_end h =
       let finished = finishes_by units_of mode old new src last room result read wrote replaced decodes ∙ h in
       let ends = ends_read units_of mode old new src last room result read wrote replaced decodes finished in
-      let n : rest ≡ [] = ap (λ z. drop read src ++ z) (none ends.0) ∙ append-nil (drop read src)
-      ∙ drop_of_length-le src (let k = ends.1 in omega arith) in
-      by_read (ap (λ z. mark_in (phase_of old.life) (x ++ z)) n ∙ ap (mark_in (phase_of old.life)) (append-nil x))
+      let none_unread : rest ≡ [] = ap (λ z. drop read src ++ z) (none ends.0) ∙ append-nil (drop read src)
+      ∙ drop_of_length-le src (let all_read = ends.1 in omega arith) in
+      by_read (ap (λ z. mark_in (phase_of old.life) (x ++ z)) none_unread
+      ∙ ap (mark_in (phase_of old.life)) (append-nil x))
       (at_end new rest finished)
 
   -- nothing is done, and the bytes are those of a front
@@ -253,13 +256,13 @@ module _ (units_of : ℕ → List ℕ) (mode : DecodeErrorMode) (old new : Decod
   goes_in_front front life_is s n = elim (is_ahead old.life front (mark_prefixes old.life) x (are_ahead old.life) s) [
     | inl w ↦ goes_within (ap phase_of life_is ∙ w)
     | inr stays_ahead ↦
-        let p : x ≡ new.pending =
+        let now_pending : x ≡ new.pending =
         decodes.accounted ∙ ap (λ m. mark_bytes m ++ (sequence_bytes decodes.call.done ++ new.pending))
         stays_ahead.0 ∙ ap (λ ss. sequence_bytes ss ++ new.pending) n in
         ap (λ e. encoding_of_mark_or (mark_in (phase_of new.life) (new.pending ++ rest)) e) (decodes.encoding
         ∙ ap (λ m. encoding_of_mark_or m old.encoding) stays_ahead.0)
         ∙ ap (λ f. encoding_of_mark_or (mark_in (phase_of f) (new.pending ++ rest)) old.encoding) life_is
-        ∙ ap (λ z. encoding_of_mark_or (mark_in (phase_of front) (z ++ rest)) old.encoding) (sym p)
+        ∙ ap (λ z. encoding_of_mark_or (mark_in (phase_of front) (z ++ rest)) old.encoding) (sym now_pending)
         ∙ ap (λ m. encoding_of_mark_or m old.encoding) (stays_ahead.1 rest)
         ∙ ap (λ z. encoding_of_mark_or (mark_in (phase_of old.life) z) old.encoding) (sym in_parts)
   ]

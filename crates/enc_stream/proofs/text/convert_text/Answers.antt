@@ -8,7 +8,13 @@ pub returns-then-reaches_end-clause-call : goal.returns-then-reaches_end-clause-
 returns-then-reaches_end-clause-call g c = λ e same.
     let made = rw (c.unread-held.ensures, c.held.ensures.count) at c.convert-done.ensures.call in
     let reads = rw (c.unread-held.ensures, c.held.ensures.count) at c.convert-done.ensures.reads in
-    rw c.shift_malformed.ensures (ends _ e _ _ _ _ (bytes_of_slice _ c.type_inv.src) _ _ same c.convert-done.ensures.rule c.requires.open c.requires.text c.requires.holds _ _ _ _ made.wrote _ reads _ made.call made.accounted made.onto
+    rw c.shift_malformed.ensures (ends (record {
+      bytes = bytes_of_slice _ c.type_inv.src;
+      same_rule = same;
+      going = c.requires.open;
+      no_mark = c.requires.text;
+      holds = c.requires.holds;
+    }) reads c.convert-done.ensures.rule made
     (sym c.reaches_end.ensures ∙ c.if-reaches_end.true))
 
 pub returns-then-untouched-clause-call : goal.returns-then-untouched-clause-call
@@ -17,7 +23,13 @@ returns-then-untouched-clause-call g c = λ e same.
     let reads = rw (c.unread-held.ensures, c.held.ensures.count) at c.convert-done.ensures.reads in
     let equal = both_equal _ _ _ c.if-untouched.true in
     let held = ap length (rw c.held.ensures.count at c.unread-held.ensures) in
-    rw c.shift_malformed.ensures (stays _ e _ _ _ _ (bytes_of_slice _ c.type_inv.src) _ _ same c.convert-done.ensures.rule c.requires.open c.requires.text c.requires.holds _ _ _ _ made.wrote _ reads _ made.call made.accounted made.onto
+    rw c.shift_malformed.ensures (stays (record {
+      bytes = bytes_of_slice _ c.type_inv.src;
+      same_rule = same;
+      going = c.requires.open;
+      no_mark = c.requires.text;
+      holds = c.requires.holds;
+    }) reads c.convert-done.ensures.rule made
     (sym c.reaches_end.ensures ∙ c.if-reaches_end.false) equal.0 (let u = equal.1 in
     omega (arith, c.held-2.ensures.count, c.held.ensures.count)))
 
@@ -27,7 +39,13 @@ returns-then-leaves_bb-clause-call g c = λ e same.
     let reads = rw (c.unread-held.ensures, c.held.ensures.count) at c.convert-done.ensures.reads in
     let equal = all_equal _ _ _ _ _ c.if-leaves_bb.true in
     let held = ap length (rw c.held.ensures.count at c.unread-held.ensures) in
-    rw c.shift_malformed.ensures (stays_bb _ e _ _ _ _ (bytes_of_slice _ c.type_inv.src) _ _ same c.convert-done.ensures.rule c.requires.open c.requires.text c.requires.holds _ _ _ _ made.wrote _ reads _ made.call made.accounted made.onto
+    rw c.shift_malformed.ensures (stays_bb (record {
+      bytes = bytes_of_slice _ c.type_inv.src;
+      same_rule = same;
+      going = c.requires.open;
+      no_mark = c.requires.text;
+      holds = c.requires.holds;
+    }) reads c.convert-done.ensures.rule made
     (sym c.reaches_end.ensures ∙ c.if-reaches_end.false) equal.0 (sym held ∙ equal.1) (let u = equal.2 in
     omega (arith, c.held-2.ensures.count)))
 
@@ -39,16 +57,21 @@ returns-then-leaves_bb-clause-holds g c =
     let held = ap length (rw c.held.ensures.count at c.unread-held.ensures) in
     let one : length (g.D.RawDecoder.state c.convert-done.new.codec).pending + c.convert-done.result.left ≡ 1 =
     ap (λ n. n + c.convert-done.result.left) (sym c.held-2.ensures.count) ∙ equal.2 in
-    holds_bb (g.D.RawDecoder.state c.args.codec.now) (g.D.RawDecoder.state c.convert-done.new.codec) c.args.src.now made.call.done c.convert-done.result.left c.convert-done.result.read c.args.life.now
-    (leaves_bb _ _ _ _ _ _ _ reads made.accounted equal.0 (sym held ∙ equal.1) one) one
+    holds_bb {v = g.D.RawDecoder.state c.args.codec.now} {done = made.call.done} {life = c.args.life.now}
+    (leaves_bb reads made.accounted equal.0 (sym held ∙ equal.1) one) one
 
 pub returns-clause-call : goal.returns-clause-call
 returns-clause-call g c = λ e same.
     let made = rw (c.unread-held.ensures, c.held.ensures.count) at c.convert-done.ensures.call in
     let reads = rw (c.unread-held.ensures, c.held.ensures.count) at c.convert-done.ensures.reads in
     let held = ap length (rw c.held.ensures.count at c.unread-held.ensures) in
-    rw c.shift_malformed.ensures (goes_on _ e _ _ _ _ (bytes_of_slice _ c.type_inv.src) _ _ same c.convert-done.ensures.rule c.requires.open c.requires.text c.requires.holds _ _ _ _ made.wrote _ reads _ made.call made.accounted
+    rw c.shift_malformed.ensures (goes_on (record {
+      bytes = bytes_of_slice _ c.type_inv.src;
+      same_rule = same;
+      going = c.requires.open;
+      no_mark = c.requires.text;
+      holds = c.requires.holds;
+    }) reads c.convert-done.ensures.rule made
     (sym c.reaches_end.ensures ∙ c.if-reaches_end.false)
     (λ z n. not_both_equal _ _ _ c.if-untouched.false z (omega (arith, c.held-2.ensures.count, c.held.ensures.count)))
-    (λ z two one. not_all_equal _ _ _ _ _ c.if-leaves_bb.false z (held ∙ two) (omega (arith, c.held-2.ensures.count)))
-    made.onto)
+    (λ z two one. not_all_equal _ _ _ _ _ c.if-leaves_bb.false z (held ∙ two) (omega (arith, c.held-2.ensures.count))))
