@@ -234,8 +234,10 @@ handed_utf_8 t₀ t s₀ s bytes wrote malformed reads_owed =
 pub left_of : (filled at read : ℕ) (xs : List ℕ) → at ≤ filled → read ≤ length (take (filled - at) (drop at xs))
     → drop read (take (filled - at) (drop at xs)) ≡ take (filled - (at + read)) (drop (at + read) xs)
 left_of filled at read xs h r =
-    let e : filled - at ≡ read + (filled - (at + read)) = omega (arith, h, r, length-take (filled - at) (drop at xs)) in
-    ap (λ n. drop read (take n (drop at xs))) e ∙ drop-take read (filled - (at + read)) (drop at xs) ∙ ap (take (filled - (at + read))) (drop-drop read at xs)
+    let read_and_left : filled - at ≡ read + (filled - (at + read)) =
+    omega (arith, h, r, length-take (filled - at) (drop at xs)) in
+    ap (λ n. drop read (take n (drop at xs))) read_and_left ∙ drop-take read (filled - (at + read)) (drop at xs)
+    ∙ ap (take (filled - (at + read))) (drop-drop read at xs)
 
 not_all : (at filled : ℕ) → nat_eq at filled ≡ false → ¬ (at ≡ filled)
 not_all at filled h = grind (arith, nat_tests)

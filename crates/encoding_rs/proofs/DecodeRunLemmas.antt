@@ -141,11 +141,11 @@ module _ (bytes : List ℕ) (read : ℕ) (inside : read ≤ length bytes) {made 
       more (units_of_text (units_of_call made.utf16) makes.answers.text) replaced
   decodes = makes.answers.decodes
 
-  left : drop more chunk ++ following ≡ drop (read + more) bytes
+  pub left : drop more chunk ++ following ≡ drop (read + more) bytes
   left = sym (drop-append-le more chunk following decodes.call.within)
       ∙ ap (drop more) (take-append-drop made.offer unread) ∙ drop-drop more read bytes
 
-  nothing_after : last ≡ true → following ≡ []
+  pub nothing_after : last ≡ true → following ≡ []
   nothing_after h = drop_of_length-le unread (reaches (length unread) made.offer h)
 
   goes : remaining_sequences old unread ≡ decodes.call.done ++ remaining_sequences new (drop (read + more) bytes)
@@ -276,7 +276,8 @@ module _ (bytes : List ℕ) (read : ℕ) (inside : read ≤ length bytes) {made 
         let all_bytes = ap length (sequence_bytes-append (sequences_of_parts done_so_far.parts) decodes.call.done) in
         let all_bytes_len =
         length-append (sequence_bytes (sequences_of_parts done_so_far.parts)) (sequence_bytes decodes.call.done) in
-        let done_bytes = ap length (ap sequence_bytes stops.then_next ∙ sequence_bytes-one decodes.call.put stops.next) in
+        let done_bytes =
+        ap length (ap sequence_bytes stops.then_next ∙ sequence_bytes-one decodes.call.put stops.next) in
         let done_bytes_len = length-append (sequence_bytes decodes.call.put) stops.next.bytes in
         let fault_len = stops.len in
         let fault_pending = stops.pending in

@@ -181,7 +181,7 @@ module _ {b : List ℕ} {e : Encoding} {text : List ℕ} {calls : List EncodeCal
   unread_is : unread ≡ step_chars raw.done ++ (call.encodes.rest ++ later)
   unread_is = unread_in call
 
-  rest_unread : drop (s.read + more) text ≡ call.encodes.rest ++ later
+  pub rest_unread : drop (s.read + more) text ≡ call.encodes.rest ++ later
   rest_unread = sym (drop-drop more s.read text) ∙ after_call call
 
   kept_rule : (raw_state new).rule ≡ (raw_state s.encoder).rule

@@ -90,4 +90,5 @@ pub decoded_references : (b : List ℕ) (e : Encoding) (t : List ℕ) → AreSca
     → any_malformed (sequences_of (rule_of (output_encoding_of e)) 0 (whole_bytes b e t)) ≡ false
 decoded_references b e t s =
     let mappable = with_references (output_rule b e) t in
-    (decoded b e mappable (with_references_scalars (output_rule b e) t s) (all_mapped (output_rule b e) (lawful_of b e) t)).none_malformed
+    let scalars = with_references_scalars (output_rule b e) t s in
+    (decoded b e mappable scalars (all_mapped (output_rule b e) (lawful_of b e) t)).none_malformed

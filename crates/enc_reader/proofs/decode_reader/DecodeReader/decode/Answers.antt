@@ -20,8 +20,8 @@ returns-clause-turn g c =
     let wrote : take c.without_text-2.result.written c.decode_between-read.new.dst ≡ take c.decode_between-read.result.2 c.decode_between-read.new.dst = search rules in
     let waits : c.without_text-2.result.waits ≡ not (has_finished c.decode_between-read.new.decoder) = search rules in
     rw (wrote, c.without_text-2.ensures.replaced)
-    (IsTurn-chunk _ _ _ {waits = c.without_text-2.result.waits} c.decode_between-read.ensures.call.decodes (search rules)
-    reader.decoded reader.within c.if-self.false c.requires.room (search rules)
+    (IsTurn-chunk _ _ _ {waits = c.without_text-2.result.waits} c.decode_between-read.ensures.call.decodes
+    (search rules) reader.decoded reader.within c.if-self.false c.requires.room (search rules)
     (λ t. (sym wrote ∙ none, opposite (has_finished c.decode_between-read.new.decoder) true (sym waits ∙ t)))
     (λ f _. opposite (has_finished c.decode_between-read.new.decoder) false (sym waits ∙ f)))
 
