@@ -140,10 +140,10 @@ handed_is_utf_8 {t₀ = t₀} {t = t} {a = a} {b = b} {wrote = wrote} hands_out 
     handed_utf_8 t₀ t a b hands_out.bytes wrote hands_out.malformed hands_out.reads
 
 -- a chunk that can't be pulled
-pub FailsToRead-pull : (t₀ t₁ : Option (List ℕ)) (failed_before failed_after : Bool) (a b : ReaderState)
+pub FailsToRead-pull : {t₀ t₁ : Option (List ℕ)} {failed_before failed_after : Bool} {a b : ReaderState}
     → t₁ ≡ t₀ → failed_after ≡ true → b ≡ a
     → a.ended ≡ false → failed_before ≡ false → FailsToRead t₀ t₁ failed_before failed_after a b
-FailsToRead-pull t₀ t₁ failed_before failed_after a b same failed stays unended going =
+FailsToRead-pull {t₀ = t₀} {a = a} same failed stays unended going =
     rw (same, stays)
     (record {
       bytes = [];

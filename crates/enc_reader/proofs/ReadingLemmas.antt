@@ -234,8 +234,10 @@ handed_utf_8 t₀ t s₀ s bytes wrote malformed reads_owed =
 pub left_of : (filled at read : ℕ) (xs : List ℕ) → at ≤ filled → read ≤ length (take (filled - at) (drop at xs))
     → drop read (take (filled - at) (drop at xs)) ≡ take (filled - (at + read)) (drop (at + read) xs)
 left_of filled at read xs h r =
-    let e : filled - at ≡ read + (filled - (at + read)) = omega (arith, h, r, length-take (filled - at) (drop at xs)) in
-    ap (λ n. drop read (take n (drop at xs))) e ∙ drop-take read (filled - (at + read)) (drop at xs) ∙ ap (take (filled - (at + read))) (drop-drop read at xs)
+    let read_and_left : filled - at ≡ read + (filled - (at + read)) =
+    omega (arith, h, r, length-take (filled - at) (drop at xs)) in
+    ap (λ n. drop read (take n (drop at xs))) read_and_left ∙ drop-take read (filled - (at + read)) (drop at xs)
+    ∙ ap (take (filled - (at + read))) (drop-drop read at xs)
 
 not_all : (at filled : ℕ) → nat_eq at filled ≡ false → ¬ (at ≡ filled)
 not_all at filled h = grind (arith, nat_tests)
@@ -277,10 +279,11 @@ opposite false b negated = ap not negated
 pub all_read : (filled at read : ℕ) (xs : List ℕ) → at ≤ filled → read ≤ length (take (filled - at) (drop at xs)) → at + read ≤ filled
 all_read filled at read xs h r = omega (arith, h, r, length-take (filled - at) (drop at xs))
 
-pub only_at_end : (old new : DecoderState) (src : List ℕ) (last : Bool) (room : ℕ) (result : CoderResult) (read : ℕ) (wrote : List ℕ) (replaced : Bool)
-    → DecodesReplacing encode_utf8 old new src last room result read wrote replaced → has_finished new ≡ true
-    → last ≡ true
-only_at_end old new src last room InputEmpty read wrote replaced decodes is_finished =
-    sym (finishes old new src last room InputEmpty read wrote replaced decodes) ∙ is_finished
-only_at_end old new src last room OutputFull read wrote replaced decodes is_finished =
-    absurd (false≢true (sym (finishes old new src last room OutputFull read wrote replaced decodes) ∙ is_finished))
+module _ {old new : DecoderState} {src : List ℕ} {last : Bool} {room read : ℕ} {wrote : List ℕ} {replaced : Bool} where
+  pub only_at_end : (result : CoderResult)
+      → DecodesReplacing encode_utf8 old new src last room result read wrote replaced → has_finished new ≡ true
+      → last ≡ true
+  only_at_end InputEmpty decodes is_finished =
+      sym (finishes old new src last room InputEmpty read wrote replaced decodes) ∙ is_finished
+  only_at_end OutputFull decodes is_finished =
+      absurd (false≢true (sym (finishes old new src last room OutputFull read wrote replaced decodes) ∙ is_finished))

@@ -1,6 +1,7 @@
 //! The reader of text.
 
-ghost use Rattle.std.specs.Prelude.{◌≡◌, ◌↔◌, ◌-◌, ◌<◌, ◌≤◌, length, take, drop, [], true, false, IsUtf8, Option, Some};
+ghost use Rattle.std.specs.Prelude.{◌≡◌, ◌↔◌, ◌-◌, ◌<◌, ◌≤◌, length, take, drop, [], true, false};
+ghost use Rattle.std.specs.Prelude.{IsUtf8, Option, Some};
 ghost use Rattle.std.specs.Prelude.{None, IfOk, OnOk, OnErr, IsErrOf, unwrap_or, IfErr};
 ghost use Rattle.enc_stream.specs.declared.bom.BomHandling.TheVariants.{Sniff};
 ghost use Rattle.enc_stream.specs.declared.encoding.TheConstants.{UTF_8};
@@ -116,7 +117,8 @@ pub struct DecodeReader<'a, R: Source> {
 impl<'a, R: Source> DecodeReader<'a, R> {
     ghost use Rattle.std.specs.Prelude.{ℕ, List};
     ghost use Rattle.enc_stream.specs.Decoding.{whole_encoding, whole_sequences};
-    ghost use Rattle.enc_reader.specs.Reading.{FailsToRead, HandsOut, IsReaderAtEnd, fresh_reader, owed_sequences, owed_encoding};
+    ghost use Rattle.enc_reader.specs.Reading.{FailsToRead, HandsOut, IsReaderAtEnd, fresh_reader};
+    ghost use Rattle.enc_reader.specs.Reading.{owed_sequences, owed_encoding};
     ghost use Rattle.enc_reader.specs.Turn.{FillsBuffer, IsOwnText, IsTurn, IsWaiting, PullsChunk};
     ghost use Rattle.enc_reader.specs.Reader.{IsAtHand, handed_text, state_of, written_len};
 

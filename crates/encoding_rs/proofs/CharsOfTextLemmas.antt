@@ -25,7 +25,9 @@ pub record IsAfter (text rest : List ℕ) (count : ℕ) : Type 0 where
   pub chars : chars rest ≡ drop count (chars text)
 
 pub begin : (text : List ℕ) → IsUtf8 text → IsAfter text text 0
-begin text u = record { few = omega arith; end = ap (λ n. drop n text) (let e : 0 ≡ length text - length text = omega arith in e); utf8 = u; chars = refl }
+begin text u =
+    let none_before : 0 ≡ length text - length text = omega arith in
+    record { few = omega arith; end = ap (λ n. drop n text) none_before; utf8 = u; chars = refl }
 
 past : (a x : List ℕ) → drop (length a) (a ++ x) ≡ x
 past [] x = refl
@@ -37,12 +39,13 @@ one_more text rest others count c follows rest_is =
     let len : length rest ≡ width + length others = ap length rest_is ∙ length-append (encode_utf8 c) others in
     let some : 1 ≤ width = omega (arith, length-encode c, len_utf8_bounds c) in
     let others_are : others ≡ drop width rest = sym (ap (drop width) rest_is ∙ past (encode_utf8 c) others) in
+    let place_is : length text - length rest + width ≡ length text - length others =
+    omega (arith, len, follows.few) in
     record {
       few = omega (arith, len, follows.few, some);
       end =
           others_are ∙ ap (drop width) follows.end ∙ drop-drop width (length text - length rest) text
-          ∙ ap (λ n. drop n text) (let f : length text - length rest + width ≡ length text - length others = omega
-          (arith, len, follows.few) in f);
+          ∙ ap (λ n. drop n text) place_is;
       utf8 = IsUtf8-past_char rest others c follows.utf8 rest_is;
       chars = sym (ap (drop 1) (sym follows.chars ∙ chars_past_char rest others c follows.utf8 rest_is))
           ∙ drop-drop 1 count (chars text);
@@ -90,17 +93,22 @@ one_left : (units_of : ℕ → List ℕ) (others : List ℕ) (back more : List �
 one_left units_of [] back more c left width w h e s = absurd (omega (arith, h, e))
 one_left units_of (d ∷ others) back more c left width w h e s =
     let same : c ≡ d = cc in
-    (omega arith, (let l = length-append (units_of d) (units_of_text units_of others) in let v = ap (λ x. length (units_of x)) same in omega (arith, e, l, w, v)))
+    let all_units = length-append (units_of d) (units_of_text units_of others) in
+    let same_width = ap (λ x. length (units_of x)) same in
+    (omega arith, omega (arith, e, all_units, w, same_width))
 
-pub takes_one : (units_of : ℕ → List ℕ) (text rest others : List ℕ) (units count left c width : ℕ) → IsAfter text rest count → rest ≡ encode_utf8 c ++ others
-    → width ≡ length (units_of c) → 0 < left → Leaves units_of text units count left → Leaves units_of text units (count + 1) (left - width)
-takes_one units_of text rest others units count left c width follows r w h l front back e u =
+pub takes_one : (units_of : ℕ → List ℕ) {text rest : List ℕ} (others : List ℕ) {units count left : ℕ} (c : ℕ)
+    {width : ℕ} → IsAfter text rest count → rest ≡ encode_utf8 c ++ others → width ≡ length (units_of c) → 0 < left
+    → Leaves units_of text units count left → Leaves units_of text units (count + 1) (left - width)
+takes_one units_of {text} {rest} others {count = count} {left = left} c {width} follows r w h l front back e u =
     let now = l front back e u in
     let rest_is : c ∷ chars others ≡ drop count front ++ back =
     sym (chars_past_char rest others c follows.utf8 r) ∙ follows.chars
     ∙ left_of front back (drop count (chars text)) count now.0 (ap (drop count) e) in
-    let next = one_left units_of (drop count front) back (chars others) c left width w h now.1 rest_is in
-    (omega (arith, next.0, length-drop count front), next.1 ∙ ap (λ x. length (units_of_text units_of x)) (drop-drop 1 count front))
+    let next = one_left units_of (drop count front) back (chars others) c left width w h now.1 rest_is in (
+      omega (arith, next.0, length-drop count front),
+      next.1 ∙ ap (λ x. length (units_of_text units_of x)) (drop-drop 1 count front),
+    )
 
 none_left : (units_of : ℕ → List ℕ) → ((c : ℕ) → 1 ≤ length (units_of c)) → (t : List ℕ) → length (units_of_text units_of t) ≡ 0 → length t ≡ 0
 none_left units_of h [] e = refl

@@ -41,7 +41,8 @@ one_nearer bytes call a b within can_go_on advances =
       omega (arith, within, advances.read, in_offer, size, rest),
       elim (nearer (units_of_call call.utf16) (determined_by call.utf16) (most_units call.utf16) (small_by call.utf16) (decode_error_mode call.replace) a.decoder b.decoder chunk (nat_le (length unread) call.offer)
           call.room can_go_on.roomy advances.more _ advances.replaced advances.result decodes
-          (λ e. let o = beyond (length unread) call.offer e in omega (arith, o, size, can_go_on.offered))) [
+          (λ e. let more_than_offered = beyond (length unread) call.offer e in
+          omega (arith, more_than_offered, size, can_go_on.offered))) [
             | inl f ↦ inl f
             | inr l ↦ inr (omega (arith, l, in_offer, size, rest, advances.read, within))
           ],

@@ -24,7 +24,7 @@ use Rattle.enc_stream.specs.Bom.{marks_looked_for, find_mark}
 use Rattle.enc_stream.specs.LifeCycle.{Within, phase_of, mark_bytes, life_after}
 use Rattle.enc_decoder.specs.Replacing.{decode_error_mode}
 use Rattle.enc_stream.specs.Decoding.{DecoderState, has_finished, fresh_decoder, remaining_sequences, decoder_remainder}
-use Rattle.enc_stream.specs.Decoding.{whole_sequences, whole_encoding, whole_utf_8, whole_malformed, DecodesChunk}
+use Rattle.enc_stream.specs.Decoding.{whole_sequences, whole_utf_8, whole_malformed, DecodesChunk}
 use Rattle.encoding_rs.specs.Run.{units_of_call, is_malformed_result, replacement_text, fault_of_result}
 use Rattle.encoding_rs.specs.Run.{AnswersDecodeCall, MakesDecodeCall, DecodeRunState, DecodeRunAdvances, IsDecodeRun}
 use Rattle.encoding_rs.specs.Run.{faults_from, whole_start, whole_faults, DecodeRunPart, sequences_of_parts}
@@ -87,7 +87,7 @@ plus_assoc a b c = omega arith
 
 reported-one : (at : ℕ) (ps : List DecodeRunPart) (p : DecodeRunPart) → reported_faults_from at (ps ++ p ∷ []) ≡ reported_faults_from at ps ++ reported_by (at + length (sequence_bytes (sequences_of_parts ps))) p
 unfolding reported_by
-reported-one at [] p = append-nil _ ∙ ap (λ n. reported_by n p) (let e : at ≡ at + 0 = omega arith in e)
+reported-one at [] p = append-nil _ ∙ ap (λ n. reported_by n p) (let at_start : at ≡ at + 0 = omega arith in at_start)
 reported-one at (q ∷ ps) p =
     ap (λ x. reported_by at q ++ x) (reported-one (at + length (sequence_bytes q.done)) ps p)
     ∙ sym (append_assoc (reported_by at q) (reported_faults_from (at + length (sequence_bytes q.done)) ps) (reported_by (at + length (sequence_bytes q.done) + length (sequence_bytes (sequences_of_parts ps))) p))
@@ -114,14 +114,16 @@ cond_then false x y e = absurd (true≢false (sym e))
 last_fault : (at : ℕ) (ss : List Sequence) (s : Sequence) → any_malformed ss ≡ false → is_malformed s.kind ≡ true
     → faults_from at (ss ++ s ∷ []) ≡ (at + length (sequence_bytes ss), length s.bytes) ∷ []
 last_fault at [] s none_malformed f =
-    cond_then (is_malformed s.kind) _ _ f ∙ ap (λ n. (n, length s.bytes) ∷ []) (let g : at ≡ at + 0 = omega arith in g)
+    cond_then (is_malformed s.kind) _ _ f
+    ∙ ap (λ n. (n, length s.bytes) ∷ []) (let at_start : at ≡ at + 0 = omega arith in at_start)
 last_fault at (t ∷ ss) s none_malformed f =
     cond_first (is_malformed t.kind) _ _ (first_open (is_malformed t.kind) (any_malformed ss) none_malformed)
     ∙ last_fault (at + length t.bytes) ss s (others_open (is_malformed t.kind) (any_malformed ss) none_malformed) f
     ∙ ap (λ n. (n, length s.bytes) ∷ []) (plus_assoc at (length t.bytes) (length (sequence_bytes ss)) ∙ ap (λ n. at + n) (sym (length-append t.bytes (sequence_bytes ss))))
 
-module _ (handling : BomHandling) (e : Encoding) (bytes : List ℕ) (read : ℕ) (inside : read ≤ length bytes) (calls : List DecodeCall) (made : DecodeCall) (old new : DecoderState) (before after : List ℕ) (faults : List (ℕ × ℕ)) (had : Bool)
-    (result : DecoderResult) (more : ℕ) (replaced : Bool)
+-- one call
+module _ (bytes : List ℕ) (read : ℕ) (inside : read ≤ length bytes) {made : DecodeCall} {old new : DecoderState}
+    {before after : List ℕ} {result : DecoderResult} {more : ℕ} {replaced : Bool}
     (makes : MakesDecodeCall made old new (drop read bytes) before after result more replaced) where
   abbrev unread : List ℕ
   unread = drop read bytes
@@ -159,7 +161,10 @@ module _ (handling : BomHandling) (e : Encoding) (bytes : List ℕ) (read : ℕ)
       determined_by made.utf16 makes.answers.text put makes.answers.scalars decodes.call.scalars decodes.call.text
 
   pub within_on : read + more ≤ length bytes
-  within_on = let w = decodes.call.within in let f = length-take made.offer unread in let g = length-drop read bytes in
+  within_on =
+      let in_chunk = decodes.call.within in
+      let chunk_len = length-take made.offer unread in
+      let unread_len = length-drop read bytes in
       omega arith
 
   pub all_read : has_finished new ≡ true → read + more ≡ length bytes
@@ -167,8 +172,20 @@ module _ (handling : BomHandling) (e : Encoding) (bytes : List ℕ) (read : ℕ)
       let ends =
       ends_read (units_of_call made.utf16) (decode_error_mode made.replace) old new chunk last made.room result more
       (units_of_text (units_of_call made.utf16) makes.answers.text) replaced decodes h in
-      let k = reaches (length unread) made.offer ends.0 in let i = ends.1 in
-      let l = length-take made.offer unread in let j = length-drop read bytes in omega arith
+      let all_offered = reaches (length unread) made.offer ends.0 in
+      let chunk_read = ends.1 in
+      let chunk_len = length-take made.offer unread in
+      let unread_len = length-drop read bytes in
+      omega arith
+
+  -- no call changes the encoding ahead
+  pub encoding_stays : {whole : Encoding} → encoding_ahead old unread ≡ whole
+      → encoding_ahead new (drop (read + more) bytes) ≡ whole
+  encoding_stays old_ahead =
+      ap (encoding_ahead new) (sym left)
+      ∙ still_ahead (units_of_call made.utf16) (decode_error_mode made.replace) old new chunk last made.room result
+      more (units_of_text (units_of_call made.utf16) makes.answers.text) replaced decodes following nothing_after
+      ∙ ap (encoding_ahead old) (take-append-drop made.offer unread) ∙ old_ahead
 
   -- the sequences done are those put out and the one reported
 
@@ -204,7 +221,8 @@ module _ (handling : BomHandling) (e : Encoding) (bytes : List ℕ) (read : ℕ)
           ∙ ap (λ b. any_malformed decodes.call.put || b) stops.malformed ∙ ap (λ b. b || true) (sym decodes.call.flag)
 
   -- this call goes on from the state after the earlier calls
-  module _ (done_so_far : HasDone handling e bytes unread calls old before faults had) where
+  module _ {handling : BomHandling} {e : Encoding} {calls : List DecodeCall} {faults : List (ℕ × ℕ)} {had : Bool}
+      (done_so_far : HasDone handling e bytes unread calls old before faults had) where
     abbrev part : DecodeRunPart
     part = record { replaces = made.replace; done = decodes.call.done }
 
@@ -217,16 +235,20 @@ module _ (handling : BomHandling) (e : Encoding) (bytes : List ℕ) (read : ℕ)
         (remaining_sequences new (drop (read + more) bytes)))
 
     -- the bytes read are the mark, the sequences done and the bytes pending
-    placed : phase_of new.life ≡ Within → read + more ≡ whole_start handling e bytes + length (sequence_bytes all) + length new.pending
-    placed p =
-        let r = drop (read + more) bytes in
-        let i = ap length (sym (joined handling e bytes) ∙ ap (λ ss. mark_bytes (find_mark (marks_looked_for handling e) bytes) ++ sequence_bytes ss) whole_on
-        ∙ ap (λ x. mark_bytes (find_mark (marks_looked_for handling e) bytes) ++ x) (sequence_bytes-append all (remaining_sequences new r) ∙ ap (λ x. sequence_bytes all ++ x) (within_bytes new r p))) in
-        let j = length-append (mark_bytes (find_mark (marks_looked_for handling e) bytes)) (sequence_bytes all ++ (new.pending ++ r)) in
-        let k = length-append (sequence_bytes all) (new.pending ++ r) in
-        let l = length-append new.pending r in
-        let o = length-drop (read + more) bytes in
-        let w = within_on in
+    placed : phase_of new.life ≡ Within
+        → read + more ≡ whole_start handling e bytes + length (sequence_bytes all) + length new.pending
+    placed is_within =
+        let mark = mark_bytes (find_mark (marks_looked_for handling e) bytes) in
+        let unread_now = drop (read + more) bytes in
+        let bytes_len =
+        ap length (sym (joined handling e bytes) ∙ ap (λ ss. mark ++ sequence_bytes ss) whole_on
+        ∙ ap (λ x. mark ++ x) (sequence_bytes-append all (remaining_sequences new unread_now)
+        ∙ ap (λ x. sequence_bytes all ++ x) (within_bytes new unread_now is_within))) in
+        let from_mark = length-append mark (sequence_bytes all ++ (new.pending ++ unread_now)) in
+        let from_done = length-append (sequence_bytes all) (new.pending ++ unread_now) in
+        let from_pending = length-append new.pending unread_now in
+        let unread_now_len = length-drop (read + more) bytes in
+        let read_within = within_on in
         omega arith
 
     reports_at : (b : Bool) (r : DecoderResult) → made.replace ≡ b → result ≡ r
@@ -250,14 +272,16 @@ module _ (handling : BomHandling) (e : Encoding) (bytes : List ℕ) (read : ℕ)
         (old.pending ++ take more chunk) decodes.call.done) g
         ∙ ap (λ x. life_after old.life false (old.pending ++ take more chunk) x) some.2)
         ∙ within_after _ some.0 some.1 in
-        let p = placed phase in
-        let i = ap length (sequence_bytes-append (sequences_of_parts done_so_far.parts) decodes.call.done) in
-        let j =
+        let read_is = placed phase in
+        let all_bytes = ap length (sequence_bytes-append (sequences_of_parts done_so_far.parts) decodes.call.done) in
+        let all_bytes_len =
         length-append (sequence_bytes (sequences_of_parts done_so_far.parts)) (sequence_bytes decodes.call.done) in
-        let k = ap length (ap sequence_bytes stops.then_next ∙ sequence_bytes-one decodes.call.put stops.next) in
-        let o = length-append (sequence_bytes decodes.call.put) stops.next.bytes in
-        let q = stops.len in let t = stops.pending in
-        pair_is _ _ _ _ (omega arith) q
+        let done_bytes =
+        ap length (ap sequence_bytes stops.then_next ∙ sequence_bytes-one decodes.call.put stops.next) in
+        let done_bytes_len = length-append (sequence_bytes decodes.call.put) stops.next.bytes in
+        let fault_len = stops.len in
+        let fault_pending = stops.pending in
+        pair_is _ _ _ _ (omega arith) fault_len
         ∙ sym (ap (faults_from (whole_start handling e bytes + length
         (sequence_bytes (sequences_of_parts done_so_far.parts)))) stops.then_next
         ∙ last_fault _ decodes.call.put stops.next (n refl) stops.malformed)
@@ -271,7 +295,8 @@ module _ (handling : BomHandling) (e : Encoding) (bytes : List ℕ) (read : ℕ)
     none_put : is_replacement_mode (decode_error_mode made.replace) ≡ false → any_malformed decodes.call.put ≡ false
     none_put f = sym decodes.call.flag ∙ decodes.call.none_replaced f
 
-    pub decodes_on : HasDone handling e bytes (drop (read + more) bytes) (calls ++ made ∷ []) new after (faults ++ fault_of_result result (read + more)) (had || (replaced || is_malformed_result result))
+    pub decodes_on : HasDone handling e bytes (drop (read + more) bytes) (calls ++ made ∷ []) new after
+        (faults ++ fault_of_result result (read + more)) (had || (replaced || is_malformed_result result))
     decodes_on = record {
       parts = done_so_far.parts ++ part ∷ [];
       whole =
@@ -311,20 +336,26 @@ replacement_for OutputFull e = absurd (true≢false (sym e))
 replacement_for (Malformed l a) e = append-nil (encode_utf8 0xFFFD)
 
 -- the answer of a call, by the text that it has put out
-pub answers : (units_of : ℕ → List ℕ) (call : DecodeCall) (mode : DecodeErrorMode) (old new : DecoderState) (chunk : List ℕ) (last : Bool) (room : ℕ) (result : DecoderResult) (read : ℕ) (wrote : List ℕ) (replaced : Bool) (utf_8 : List ℕ)
-    → mode ≡ decode_error_mode call.replace → room ≡ call.room → (d : DecodesChunk units_of mode old new chunk last room result read wrote replaced)
-    → ((text : List ℕ) → AreScalars text → wrote ≡ units_of_text units_of text → utf_8 ≡ units_of_text encode_utf8 text) → AnswersDecodeCall units_of call old new chunk last result read replaced utf_8
-answers units_of call mode old new chunk last room result read wrote replaced utf_8 t r decodes_chunk e = record {
-  text = sequence_text decodes_chunk.call.put;
-  scalars = decodes_chunk.call.scalars;
-  is = e (sequence_text decodes_chunk.call.put) decodes_chunk.call.scalars decodes_chunk.call.text;
-  decodes =
-      subst (λ w. DecodesChunk units_of (decode_error_mode call.replace) old new chunk last call.room result read w
-      replaced) decodes_chunk.call.text
-      (subst (λ n. DecodesChunk units_of (decode_error_mode call.replace) old new chunk last n result read wrote
-      replaced) r
-      (subst (λ u. DecodesChunk units_of u old new chunk last room result read wrote replaced) t decodes_chunk));
-}
+module _ {units_of : ℕ → List ℕ} {call : DecodeCall} {mode : DecodeErrorMode} {old new : DecoderState}
+    {chunk : List ℕ} {last : Bool} {room : ℕ} {result : DecoderResult} {read : ℕ} {wrote : List ℕ} {replaced : Bool}
+    {utf_8 : List ℕ} where
+  pub answers : mode ≡ decode_error_mode call.replace → room ≡ call.room
+      → DecodesChunk units_of mode old new chunk last room result read wrote replaced
+      → ((text : List ℕ) → AreScalars text → wrote ≡ units_of_text units_of text
+      → utf_8 ≡ units_of_text encode_utf8 text)
+      → AnswersDecodeCall units_of call old new chunk last result read replaced utf_8
+  answers mode_is room_is decodes_chunk utf_8_is = record {
+    text = sequence_text decodes_chunk.call.put;
+    scalars = decodes_chunk.call.scalars;
+    is = utf_8_is (sequence_text decodes_chunk.call.put) decodes_chunk.call.scalars decodes_chunk.call.text;
+    decodes =
+        subst (λ w. DecodesChunk units_of (decode_error_mode call.replace) old new chunk last call.room result read w
+        replaced) decodes_chunk.call.text
+        (subst (λ n. DecodesChunk units_of (decode_error_mode call.replace) old new chunk last n result read wrote
+        replaced) room_is
+        (subst (λ u. DecodesChunk units_of u old new chunk last room result read wrote replaced) mode_is
+        decodes_chunk));
+  }
 
 pub replaces : (call : DecodeCall) → call.replace ≡ true → Replacement ≡ decode_error_mode call.replace
 replaces call e = sym (ap decode_error_mode e)
@@ -345,13 +376,15 @@ runs_on bytes [] made a b c runs g =
 runs_on bytes (call ∷ calls) made a b c runs g = (runs.0, runs.1, runs_on bytes calls made runs.0 b c runs.2 g)
 
 -- the text put out is a prefix of the text of the whole input
-pub has_run : (handling : BomHandling) (e : Encoding) (bytes unread : List ℕ) (calls : List DecodeCall) (state : DecoderState) (text : List ℕ) (faults : List (ℕ × ℕ)) (had : Bool)
-    → HasDone handling e bytes unread calls state text faults had → (ended : Bool) → has_finished state ≡ ended → HasRunDecoding handling e bytes calls text faults had ended
-has_run handling e bytes unread calls state text faults had done_so_far ended f = record {
+pub has_run : {handling : BomHandling} {e : Encoding} {bytes unread : List ℕ} {calls : List DecodeCall}
+    {state : DecoderState} {text : List ℕ} {faults : List (ℕ × ℕ)} {had ended : Bool}
+    → HasDone handling e bytes unread calls state text faults had → has_finished state ≡ ended
+    → HasRunDecoding handling e bytes calls text faults had ended
+has_run {unread = unread} {state = state} done_so_far ends = record {
   parts = done_so_far.parts;
   rest = remaining_sequences state unread;
   sequences = done_so_far.whole;
-  all = λ t. none_left state.life state.encoding state.set (state.pending ++ unread) (f ∙ t);
+  all = λ t. none_left state.life state.encoding state.set (state.pending ++ unread) (ends ∙ t);
   calls_are = done_so_far.calls_are;
   text_of_done = done_so_far.text_is;
   reported = done_so_far.reported;
@@ -361,7 +394,7 @@ has_run handling e bytes unread calls state text faults had done_so_far ended f 
 -- if all calls report, the faults are the places of the malformed sequences
 
 faults-append : (at : ℕ) (ss ts : List Sequence) → faults_from at (ss ++ ts) ≡ faults_from at ss ++ faults_from (at + length (sequence_bytes ss)) ts
-faults-append at [] ts = ap (λ n. faults_from n ts) (let e : at ≡ at + 0 = omega arith in e)
+faults-append at [] ts = ap (λ n. faults_from n ts) (let at_start : at ≡ at + 0 = omega arith in at_start)
 faults-append at (s ∷ ss) ts =
     ap (λ x. if is_malformed s.kind then (at, length s.bytes) ∷ x else x)
     (faults-append (at + length s.bytes) ss ts ∙ ap (λ n. faults_from (at + length s.bytes) ss ++ faults_from n ts)
@@ -394,13 +427,15 @@ all_reported at (p ∷ ps) (c ∷ cs) same_modes r =
     (all_reported (at + length (sequence_bytes p.done)) ps cs (rest_flags _ _ _ _ same_modes) both.1)
     ∙ sym (faults-append at p.done (sequences_of_parts ps))
 
-module _ (handling : BomHandling) (e : Encoding) (bytes unread : List ℕ) (calls : List DecodeCall) (state : DecoderState) (text : List ℕ) (faults : List (ℕ × ℕ)) (had : Bool)
-    (done_so_far : HasDone handling e bytes unread calls state text faults had) (f : has_finished state ≡ true) where
+module _ {handling : BomHandling} {e : Encoding} {bytes unread : List ℕ} {calls : List DecodeCall}
+    {state : DecoderState} {text : List ℕ} {faults : List (ℕ × ℕ)} {had : Bool}
+    (done_so_far : HasDone handling e bytes unread calls state text faults had)
+    (finished : has_finished state ≡ true) where
   -- a finished run has put out the whole text
   finished_sequences : whole_sequences handling e bytes ≡ sequences_of_parts done_so_far.parts
   finished_sequences =
       done_so_far.whole ∙ ap (λ ss. sequences_of_parts done_so_far.parts ++ ss)
-      (none_left state.life state.encoding state.set (state.pending ++ unread) f)
+      (none_left state.life state.encoding state.set (state.pending ++ unread) finished)
       ∙ append-nil (sequences_of_parts done_so_far.parts)
 
   pub whole_text : text ≡ whole_utf_8 handling e bytes
@@ -415,30 +450,19 @@ module _ (handling : BomHandling) (e : Encoding) (bytes unread : List ℕ) (call
       ∙ ap (faults_from (whole_start handling e bytes)) (sym finished_sequences)
 
 -- the same, for the calls of a list
-pub runs_next : (bytes : List ℕ) (calls : List DecodeCall) (n k : ℕ) (d : DecodeCall) (a b c : DecodeRunState) → n ≡ k → k < length calls → IsDecodeRun bytes (take n calls) a b
+pub runs_next : {bytes : List ℕ} (calls : List DecodeCall) {n k : ℕ} (d : DecodeCall) (a : DecodeRunState)
+    {b c : DecodeRunState} → n ≡ k → k < length calls → IsDecodeRun bytes (take n calls) a b
     → DecodeRunAdvances bytes (get_or calls k d) b c → IsDecodeRun bytes (take (n + 1) calls) a c
-runs_next bytes calls n k d a b c index_is h r g =
+runs_next {bytes} calls {n} d a {b} {c} index_is h r g =
     subst (λ (x : List DecodeCall). IsDecodeRun bytes x a c) (sym (take_more calls n d (rw index_is h)))
     (runs_on bytes (take n calls) (get_or calls n d) a b c r
     (subst (λ i. DecodeRunAdvances bytes (get_or calls i d) b c) (sym index_is) g))
 
-pub takes_next : (handling : BomHandling) (e : Encoding) (bytes unread : List ℕ) (calls : List DecodeCall) (n k : ℕ) (d : DecodeCall) (state : DecoderState) (text : List ℕ) (faults : List (ℕ × ℕ)) (had : Bool) → n ≡ k → k < length calls
-    → HasDone handling e bytes unread (take n calls ++ get_or calls k d ∷ []) state text faults had → HasDone handling e bytes unread (take (n + 1) calls) state text faults had
-takes_next handling e bytes unread calls n k d state text faults had index_is h r =
-    subst (λ x. HasDone handling e bytes unread x state text faults had)
-    (ap (λ i. take n calls ++ get_or calls i d ∷ []) (sym index_is) ∙ sym (take_more calls n d (rw index_is h))) r
-
--- No call of a run changes the encoding of the whole input.
-pub encoding_stays : (handling : BomHandling) (e : Encoding) (bytes : List ℕ) (read : ℕ) (inside : read ≤ length bytes)
-    (calls : List DecodeCall) (made : DecodeCall) (old new : DecoderState) (before after : List ℕ)
-    (faults : List (ℕ × ℕ)) (had : Bool) (result : DecoderResult) (more : ℕ) (replaced : Bool) (m : MakesDecodeCall made old new (drop read bytes) before after result more replaced)
-    → encoding_ahead old (drop read bytes) ≡ whole_encoding handling e bytes → encoding_ahead new (drop (read + more) bytes) ≡ whole_encoding handling e bytes
-encoding_stays handling e bytes read inside calls made old new before after faults had result more replaced makes h =
-    let unread = drop read bytes in
-    ap (encoding_ahead new) (sym (left handling e bytes read inside calls made old new before after faults had result
-    more replaced makes))
-    ∙ still_ahead (units_of_call made.utf16) (decode_error_mode made.replace) old new (take made.offer unread) (nat_le (length unread) made.offer) made.room result more
-    (units_of_text (units_of_call made.utf16) makes.answers.text) replaced makes.answers.decodes
-    (drop made.offer unread)
-    (nothing_after handling e bytes read inside calls made old new before after faults had result more replaced makes)
-    ∙ ap (encoding_ahead old) (take-append-drop made.offer unread) ∙ h
+module _ {handling : BomHandling} {e : Encoding} {bytes unread : List ℕ} {state : DecoderState} {text : List ℕ}
+    {faults : List (ℕ × ℕ)} {had : Bool} where
+  pub takes_next : (calls : List DecodeCall) {n k : ℕ} (d : DecodeCall) → n ≡ k → k < length calls
+      → HasDone handling e bytes unread (take n calls ++ get_or calls k d ∷ []) state text faults had
+      → HasDone handling e bytes unread (take (n + 1) calls) state text faults had
+  takes_next calls {n} d index_is h r =
+      subst (λ x. HasDone handling e bytes unread x state text faults had)
+      (ap (λ i. take n calls ++ get_or calls i d ∷ []) (sym index_is) ∙ sym (take_more calls n d (rw index_is h))) r

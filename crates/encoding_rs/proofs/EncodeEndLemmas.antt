@@ -82,7 +82,7 @@ module _ (b : List ℕ) (e : Encoding) (made : EncodeCall) (old new : EncoderSta
       ap (λ t. length (steps_from_state (raw_state old) true t)) (sym (take-append-drop made.offer unread))
       ∙ ap length all
       ∙ ap (λ t. length (raw.done ++ steps_from_state (raw_state new) true t))
-      (sym (after_call made old new unread before after result more replaced call)) in
+      (sym (after_call call)) in
       omega (arith, split, length-append raw.done (steps_from_state (raw_state new) true (drop more unread)), some_done)
 
 -- no call is made after the end

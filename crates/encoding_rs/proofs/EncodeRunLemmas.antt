@@ -103,12 +103,12 @@ report_is : (new : RawEncoderState) (rest : List ℕ) (last : Bool) (room : ℕ)
 report_is new rest last room done InputEmpty stops = (sym (none_in done stops.none_reported), sym stops.none_reported)
 report_is new rest last room done OutputFull stops = (sym (none_in done stops.none_reported), sym stops.none_reported)
 report_is new rest last room done (Unmappable c) stops =
-    let q = stops.report in (
-      sym (ap reports_in stops.then_report ∙ reports_in-append stops.before (q ∷ [])
-          ∙ ap (λ t. t ++ (reports_by q.report ++ [])) (none_in stops.before stops.none_reported)
-          ∙ append-nil (reports_by q.report) ∙ one_in q.report c stops.reported),
-      sym (ap any_reported stops.then_report ∙ any_reported-append stops.before (q ∷ [])
-          ∙ ap (λ b. b || (is_some q.report || false)) stops.none_reported
+    let last_step = stops.report in (
+      sym (ap reports_in stops.then_report ∙ reports_in-append stops.before (last_step ∷ [])
+          ∙ ap (λ t. t ++ (reports_by last_step.report ++ [])) (none_in stops.before stops.none_reported)
+          ∙ append-nil (reports_by last_step.report) ∙ one_in last_step.report c stops.reported),
+      sym (ap any_reported stops.then_report ∙ any_reported-append stops.before (last_step ∷ [])
+          ∙ ap (λ b. b || (is_some last_step.report || false)) stops.none_reported
           ∙ ap (λ r. is_some r || false) stops.reported),
     )
 
@@ -149,8 +149,8 @@ is_empty_is (Unmappable c) e = absurd (true≢false (sym e))
 pub nothing_later : (unread : List ℕ) (offer : ℕ) → nat_le (length unread) offer ≡ true → drop offer unread ≡ []
 nothing_later unread offer l = drop_of_length-le unread (reaches (length unread) offer l)
 
-module _ (made : EncodeCall) (old new : EncoderState) (unread before after : List ℕ) (result : EncoderResult) (more : ℕ) (replaced : Bool)
-    (call : MakesEncodeCall made old new unread before after result more replaced) where
+module _ {made : EncodeCall} {old new : EncoderState} {unread before after : List ℕ} {result : EncoderResult} {more : ℕ}
+    {replaced : Bool} (call : MakesEncodeCall made old new unread before after result more replaced) where
   -- the characters that a call has read, and those after them
   unread_in : unread ≡ step_chars call.encodes.call.done ++ (call.encodes.rest ++ drop made.offer unread)
   unread_in =
@@ -163,10 +163,12 @@ module _ (made : EncodeCall) (old new : EncoderState) (unread before after : Lis
       ∙ drop-append_seam (step_chars call.encodes.call.done) (call.encodes.rest ++ drop made.offer unread)
 
 -- One more call.
-module _ (b : List ℕ) (e : Encoding) (text : List ℕ) (calls : List EncodeCall) (s : EncodeRunState)
-    (written_so_far : Written b e text calls s) (made : EncodeCall) (new : EncoderState) (after : List ℕ)
-    (result : EncoderResult) (more : ℕ) (replaced : Bool) (call : MakesEncodeCall made s.encoder new (drop s.read text) s.bytes after result more replaced) where
-  abbrev raw : EncoderCallInMode (units_of_call made.utf16) (encode_error_mode made.replace s.encoder) (raw_state s.encoder) (raw_state new) (take made.offer (drop s.read text)) call.encodes.rest
+module _ {b : List ℕ} {e : Encoding} {text : List ℕ} {calls : List EncodeCall} {s : EncodeRunState}
+    (written_so_far : Written b e text calls s) {made : EncodeCall} {new : EncoderState} {after : List ℕ}
+    {result : EncoderResult} {more : ℕ} {replaced : Bool}
+    (call : MakesEncodeCall made s.encoder new (drop s.read text) s.bytes after result more replaced) where
+  abbrev raw : EncoderCallInMode (units_of_call made.utf16) (encode_error_mode made.replace s.encoder)
+      (raw_state s.encoder) (raw_state new) (take made.offer (drop s.read text)) call.encodes.rest
       (nat_le (length (drop s.read text)) made.offer) made.room result call.units call.wrote replaced
   raw = call.encodes.call
 
@@ -177,11 +179,10 @@ module _ (b : List ℕ) (e : Encoding) (text : List ℕ) (calls : List EncodeCal
   later = drop made.offer unread
 
   unread_is : unread ≡ step_chars raw.done ++ (call.encodes.rest ++ later)
-  unread_is = unread_in made s.encoder new unread s.bytes after result more replaced call
+  unread_is = unread_in call
 
   pub rest_unread : drop (s.read + more) text ≡ call.encodes.rest ++ later
-  rest_unread =
-      sym (drop-drop more s.read text) ∙ after_call made s.encoder new unread s.bytes after result more replaced call
+  rest_unread = sym (drop-drop more s.read text) ∙ after_call call
 
   kept_rule : (raw_state new).rule ≡ (raw_state s.encoder).rule
   kept_rule = raw.rule
@@ -275,24 +276,28 @@ runs_on text [] made a b c runs g =
 runs_on text (call ∷ calls) made a b c runs g = (runs.0, runs.1, runs_on text calls made runs.0 b c runs.2 g)
 
 -- the same, for the calls of a list
-pub runs_next : (text : List ℕ) (calls : List EncodeCall) (n k : ℕ) (d : EncodeCall) (a b c : EncodeRunState) → n ≡ k → k < length calls → IsEncodeRun text (take n calls) a b
+pub runs_next : {text : List ℕ} (calls : List EncodeCall) {n k : ℕ} (d : EncodeCall) (a : EncodeRunState)
+    {b c : EncodeRunState} → n ≡ k → k < length calls → IsEncodeRun text (take n calls) a b
     → EncodeRunAdvances text (get_or calls k d) b c → IsEncodeRun text (take (n + 1) calls) a c
-runs_next text calls n k d a b c index_is h r g =
+runs_next {text} calls {n} d a {b} {c} index_is h r g =
     subst (λ (x : List EncodeCall). IsEncodeRun text x a c) (sym (take_more calls n d (rw index_is h)))
     (runs_on text (take n calls) (get_or calls n d) a b c r
     (subst (λ i. EncodeRunAdvances text (get_or calls i d) b c) (sym index_is) g))
 
-pub takes_next : (b : List ℕ) (e : Encoding) (text : List ℕ) (calls : List EncodeCall) (n k : ℕ) (d : EncodeCall) (s : EncodeRunState) → n ≡ k → k < length calls
+pub takes_next : {b : List ℕ} {e : Encoding} {text : List ℕ} (calls : List EncodeCall) {n k : ℕ} (d : EncodeCall)
+    {s : EncodeRunState} → n ≡ k → k < length calls
     → Written b e text (take n calls ++ get_or calls k d ∷ []) s → Written b e text (take (n + 1) calls) s
-takes_next b e text calls n k d s index_is h r =
+takes_next {b} {e} {text} calls {n} d {s} index_is h r =
     subst (λ x. Written b e text x s) (ap (λ i. take n calls ++ get_or calls i d ∷ []) (sym index_is)
     ∙ sym (take_more calls n d (rw index_is h))) r
 
-pub has_encoded : (b : List ℕ) (e : Encoding) (text : List ℕ) (calls : List EncodeCall) (s : EncodeRunState) → Written b e text calls s → HasRunEncoding b e text calls s.bytes s.read s.unmappables s.had_unmappables
-has_encoded b e text calls s written_so_far = record {
+pub has_encoded : {b : List ℕ} {e : Encoding} {text : List ℕ} {calls : List EncodeCall} {s : EncodeRunState}
+    → Written b e text calls s → HasRunEncoding b e text calls s.bytes s.read s.unmappables s.had_unmappables
+has_encoded {text = text} {s = s} written_so_far = record {
   parts = written_so_far.parts;
   unread = drop s.read text;
-  more = bytes_of_text (raw_state s.encoder).rule s.encoder.set (with_references (raw_state s.encoder).rule (drop s.read text));
+  more = bytes_of_text (raw_state s.encoder).rule s.encoder.set
+      (with_references (raw_state s.encoder).rule (drop s.read text));
   chars = written_so_far.chars;
   count = written_so_far.count;
   calls_are = written_so_far.calls_are;
@@ -301,8 +306,9 @@ has_encoded b e text calls s written_so_far = record {
   flag = written_so_far.flag;
 }
 
-pub within : (b : List ℕ) (e : Encoding) (text : List ℕ) (calls : List EncodeCall) (s : EncodeRunState) → Written b e text calls s → s.read ≤ length text
-within b e text calls s written_so_far =
+pub within : {b : List ℕ} {e : Encoding} {text : List ℕ} {calls : List EncodeCall} {s : EncodeRunState}
+    → Written b e text calls s → s.read ≤ length text
+within {text = text} {s = s} written_so_far =
     omega (
       arith,
       written_so_far.count,
@@ -324,7 +330,7 @@ all_reported rule (p ∷ ps) (c ∷ cs) same_modes r =
     ∙ ap (λ x. reports_of rule p.chars ++ x) (all_reported rule ps cs (rest_flags _ _ _ _ same_modes) both.1)
     ∙ sym (reports_of-append rule p.chars (chars_of_parts ps))
 
-module _ (b : List ℕ) (e : Encoding) (text : List ℕ) (calls : List EncodeCall) (s : EncodeRunState)
+module _ {b : List ℕ} {e : Encoding} {text : List ℕ} {calls : List EncodeCall} {s : EncodeRunState}
     (written_so_far : Written b e text calls s) (finished : s.finished ≡ true) where
   all_chars : chars_of_parts written_so_far.parts ≡ text
   all_chars =
@@ -369,21 +375,31 @@ is_last n m offer last last_is reaches_end =
     leb_by m offer last (λ e. reaches_end.0 (grind (arith, nat_tests, sym last_is ∙ e))) (λ e. last_is
     ∙ grind (arith, nat_tests, reaches_end.1 e))
 
+-- a call of an encoder's run, as its encoder makes it
+abbrev Encodes : EncodeCall → EncoderState → EncoderState → List ℕ → Bool → EncoderResult → ℕ → List ℕ → Bool → Type 0
+Encodes call old new src last result units wrote replaced =
+    EncodesChunk (units_of_call call.utf16) (encode_error_mode call.replace old) old new src last call.room result
+    units wrote replaced
+
 -- A call that is offered the next characters is one of a run.
-pub makes_call : (call : EncodeCall) (old new : EncoderState) (unread chunk before wrote after : List ℕ) (last : Bool) (result : EncoderResult) (units read : ℕ) (replaced : Bool)
-    → EncodesChunk (units_of_call call.utf16) (encode_error_mode call.replace old) old new chunk last call.room result units wrote replaced
-    → chunk ≡ take call.offer unread → last ≡ nat_le (length unread) call.offer → after ≡ (before ++ wrote) ++ reference_after result
-    → ((front back : List ℕ) → chunk ≡ front ++ back → units ≡ length (units_of_text (units_of_call call.utf16) front) → read ≡ length front)
-    → MakesEncodeCall call old new unread before after result read replaced
-makes_call call old new unread chunk before wrote after last result units read replaced e chunk_is l a n =
-    let made : EncodesChunk (units_of_call call.utf16) (encode_error_mode call.replace old) old new (take call.offer unread) (nat_le (length unread) call.offer) call.room result units wrote replaced =
-    subst (λ (b : Bool). EncodesChunk (units_of_call call.utf16) (encode_error_mode call.replace old) old new (take call.offer unread) b call.room result units wrote replaced) l
-    (subst (λ (x : List ℕ). EncodesChunk (units_of_call call.utf16) (encode_error_mode call.replace old) old new x last
-    call.room result units wrote replaced) chunk_is e) in
-    record {
-      wrote = wrote;
-      units = units;
-      encodes = made;
-      chars = n (step_chars made.call.done) made.rest (chunk_is ∙ made.call.reads) made.call.units;
-      bytes = a ∙ append_assoc before wrote (reference_after result);
-    }
+module _ {call : EncodeCall} {old new : EncoderState} {unread chunk before wrote after : List ℕ} {last : Bool}
+    {result : EncoderResult} {units read : ℕ} {replaced : Bool} where
+  pub makes_call : Encodes call old new chunk last result units wrote replaced
+      → chunk ≡ take call.offer unread → last ≡ nat_le (length unread) call.offer
+      → after ≡ (before ++ wrote) ++ reference_after result
+      → ((front back : List ℕ) → chunk ≡ front ++ back
+      → units ≡ length (units_of_text (units_of_call call.utf16) front) → read ≡ length front)
+      → MakesEncodeCall call old new unread before after result read replaced
+  makes_call encodes chunk_is last_is bytes_are read_is =
+      let of_chunk : Encodes call old new (take call.offer unread) last result units wrote replaced =
+      subst (λ src. Encodes call old new src last result units wrote replaced) chunk_is encodes in
+      let made =
+      subst (λ final. Encodes call old new (take call.offer unread) final result units wrote replaced) last_is
+      of_chunk in
+      record {
+        wrote = wrote;
+        units = units;
+        encodes = made;
+        chars = read_is (step_chars made.call.done) made.rest (chunk_is ∙ made.call.reads) made.call.units;
+        bytes = bytes_are ∙ append_assoc before wrote (reference_after result);
+      }

@@ -27,7 +27,7 @@ use Rattle.enc_stream.proofs.MarkFirstLemmas.{found_fits, undetermined, by_rule,
 -- by the kind of the sequence
 
 looks_not : (rule : Rule) (set b : ℕ) (z : List ℕ) (n : ℕ) → AreBytes z → IsLookahead rule set b z n → IsDeterminedWithin rule set b z 0 → n ≡ 0
-looks_not rule set b z n a l t = let m = no_more_than rule set b z n 0 a l t in omega (arith, m)
+looks_not rule set b z n a l t = let none_more = no_more_than rule set b z n 0 a l t in omega (arith, none_more)
 
 some_more : (rule : Rule) (set b : ℕ) (z : List ℕ) (n : ℕ) → IsLookahead rule set b z n → (IsDeterminedWithin rule set b z 0 → ⊥) → 1 ≤ n
 some_more rule set b z zero l f = absurd (f l.determined)
@@ -73,7 +73,7 @@ mark_fits looked_for x (Some m) e = found_fits looked_for x m e
 
 front_after : (found : Option Mark) (bytes : List ℕ) (k : ℕ) → length (mark_bytes found) ≤ k
     → bytes_after_mark found (take k bytes) ≡ take (k - length (mark_bytes found)) (bytes_after_mark found bytes)
-front_after None bytes k h = ap (λ i. take i bytes) (let e : k ≡ k - 0 = omega arith in e)
+front_after None bytes k h = ap (λ i. take i bytes) (let no_mark : k ≡ k - 0 = omega arith in no_mark)
 front_after (Some m) bytes k h = left_of (length m.bytes) k bytes h
 
 length_after : (found : Option Mark) (bytes : List ℕ)
@@ -107,11 +107,13 @@ module _ (handling : BomHandling) (e : Encoding) (bytes : List ℕ) (s : Sequenc
         ∙ mark_is_decided looked_for (take k bytes) (drop k bytes) mark_decided
 
     fits : mark_len ≤ k
-    fits = let f = mark_fits looked_for (take k bytes) found (sym same) in let t = length-take-le k bytes inside in
-        omega (arith, f, t)
+    fits =
+        let mark_in_front = mark_fits looked_for (take k bytes) found (sym same) in
+        let front_len = length-take-le k bytes inside in
+        omega (arith, mark_in_front, front_len)
 
     few : k - mark_len ≤ length left
-    few = let t = length_after found bytes in omega (arith, t, inside)
+    few = let left_len = length_after found bytes in omega (arith, left_len, inside)
 
     by_front : Determines (whole_sequences handling e) (take k bytes) (s ∷ ss) ↔ Determines (sequences_of rule 0) (take (k - mark_len) left) (s ∷ ss)
     by_front =

@@ -64,7 +64,7 @@ decoded_text b e t s m euc shift iso =
 -- references are of scalar values
 
 is_scalar : (c : ℕ) → IsReferenceCharacter c → IsScalar c
-is_scalar c h = let l : c < 0x80 = omega arith in ascii_scalar c l
+is_scalar c h = let below : c < 0x80 = omega arith in ascii_scalar c below
   where
     ascii_scalar : (c : ℕ) → c < 0x80 → IsScalar c
     ascii_scalar c l = grind (arith, nat_tests)
@@ -86,7 +86,9 @@ with_references_scalars e (c ∷ t) scalars =
     scalars-append (with_reference e c (e.bytes c)) (with_references e t)
     (one_scalars e c (e.bytes c) (first_so _ _ scalars)) (with_references_scalars e t (second_so _ _ scalars))
 
-pub decoded_references : (b : List ℕ) (e : Encoding) (t : List ℕ) → AreScalars t → any_malformed (sequences_of (rule_of (output_encoding_of e)) 0 (whole_bytes b e t)) ≡ false
+pub decoded_references : (b : List ℕ) (e : Encoding) (t : List ℕ) → AreScalars t
+    → any_malformed (sequences_of (rule_of (output_encoding_of e)) 0 (whole_bytes b e t)) ≡ false
 decoded_references b e t s =
-    let u = with_references (output_rule b e) t in
-    (decoded b e u (with_references_scalars (output_rule b e) t s) (all_mapped (output_rule b e) (lawful_of b e) t)).none_malformed
+    let mappable = with_references (output_rule b e) t in
+    let scalars = with_references_scalars (output_rule b e) t s in
+    (decoded b e mappable scalars (all_mapped (output_rule b e) (lawful_of b e) t)).none_malformed

@@ -49,7 +49,8 @@ same_two a b x y e f = cc
 two_encoded : (a b : ℕ) → sequence_len a ≡ 2 → is_second_byte a b ≡ true
     → encode_utf8 (scalar_of (a ∷ b ∷ [])) ≡ a ∷ b ∷ []
 two_encoded a b s e =
-    let r = two_range a s in let t = second_range a b e in
+    let first_range = two_range a s in
+    let then_range = second_range a b e in
     encoded_two _ (omega arith) (omega arith) ∙ same_two a b _ _ (omega arith) (omega arith)
 
 same_three : (a b c x y z : ℕ) → x ≡ a → y ≡ b → z ≡ c → x ∷ y ∷ z ∷ [] ≡ a ∷ b ∷ c ∷ []
@@ -58,7 +59,9 @@ same_three a b c x y z e f g = cc
 three_encoded : (a b c : ℕ) → sequence_len a ≡ 3 → is_second_byte a b ≡ true → is_continuation c ≡ true
     → encode_utf8 (scalar_of (a ∷ b ∷ c ∷ [])) ≡ a ∷ b ∷ c ∷ []
 three_encoded a b c s e t =
-    let r = three_range a s in let u = second_range a b e in let v = continuation_range c t in
+    let first_range = three_range a s in
+    let then_range = second_range a b e in
+    let third_range = continuation_range c t in
     let above : 0x800 ≤ scalar_of (a ∷ b ∷ c ∷ []) = grind arith in
     encoded_three _ above (omega arith) ∙ same_three a b c _ _ _ (omega arith) (omega arith) (omega arith)
 
@@ -69,8 +72,10 @@ four_encoded : (a b c d : ℕ)
     → sequence_len a ≡ 4 → is_second_byte a b ≡ true → is_continuation c ≡ true → is_continuation d ≡ true
     → encode_utf8 (scalar_of (a ∷ b ∷ c ∷ d ∷ [])) ≡ a ∷ b ∷ c ∷ d ∷ []
 four_encoded a b c d s e t x =
-    let r = four_range a s in let u = second_range a b e in
-    let v = continuation_range c t in let w = continuation_range d x in
+    let first_range = four_range a s in
+    let then_range = second_range a b e in
+    let third_range = continuation_range c t in
+    let fourth_range = continuation_range d x in
     let above : 0x10000 ≤ scalar_of (a ∷ b ∷ c ∷ d ∷ []) = grind arith in
     encoded_four _ above ∙ same_four a b c d _ _ _ _ (omega arith) (omega arith) (omega arith) (omega arith)
 
@@ -130,8 +135,8 @@ front_two true (suc n) a b (c ∷ z) length_is second_is =
 front_one : (n a : ℕ) (z : List ℕ) → sequence_len a ≡ n → Front (a ∷ z)
 front_one zero a z sequence_len_is = malformed_front _ _ _ (none_malformed a z sequence_len_is)
 front_one (suc zero) a z sequence_len_is =
-    let h = ascii_range a sequence_len_is in
-    valid_front a (a ∷ []) z (inl (omega arith)) (encode_ascii a h) (one_valid a z sequence_len_is)
+    let is_ascii = ascii_range a sequence_len_is in
+    valid_front a (a ∷ []) z (inl (omega arith)) (encode_ascii a is_ascii) (one_valid a z sequence_len_is)
 front_one (suc (suc n)) a [] sequence_len_is = malformed_front _ _ _ (one_end a (omega arith))
 front_one (suc (suc n)) a (b ∷ z) sequence_len_is = front_two (is_second_byte a b) n a b z (omega arith) refl
 

@@ -44,8 +44,8 @@ fn width(c: char, utf16: bool) -> usize
 ///
 /// Condition for that: they end after a character.
 pub fn chars_in_units(text: &str, units: usize, utf16: bool) -> usize
-    ensures { (front back : List ℕ) → chars text.now ≡ front ++ back → units ≡ length (units_of_text (units_of_call utf16) front)
-        → result ≡ length front }
+    ensures { (front back : List ℕ) → chars text.now ≡ front ++ back
+        → units ≡ length (units_of_text (units_of_call utf16) front) → result ≡ length front }
 {
     let mut rest = text.chars();
     let mut left = units;

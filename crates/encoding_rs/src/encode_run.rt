@@ -1,6 +1,7 @@
 //! Whole runs of an encoder: the result of any list of calls.
 
-ghost use Rattle.std.specs.Prelude.{◌≡◌, ◌++◌, ◌&&◌, [], true, false, nat_le, chars, length, IfOk, OnOk};
+ghost use Rattle.std.specs.Prelude.{◌≡◌, ◌++◌, ◌&&◌, [], true, false, nat_le, chars, length};
+ghost use Rattle.std.specs.Prelude.{IfOk, OnOk};
 ghost use Rattle.std.specs.Char.{encode_utf8};
 ghost use Rattle.std.specs.Char.Escape.{encode_utf16};
 ghost use Rattle.enc_encoder.specs.Text.{reference_after};
@@ -8,8 +9,9 @@ ghost use Rattle.enc_units.specs.Results.{encoder_result_of};
 ghost use Rattle.enc_encoder.specs.Barring.{are_beyond_ascii};
 ghost use Rattle.enc_stream.specs.Encoder.{EncodesChunk};
 ghost use Rattle.encoding_rs.specs.Run.{units_of_call};
-ghost use Rattle.encoding_rs.specs.EncodeRun.{encode_error_mode, reported_character, is_unmappable_result};
-ghost use Rattle.encoding_rs.specs.EncodeRun.{is_input_empty_result, MakesEncodeCall};
+ghost use Rattle.encoding_rs.specs.EncodeRun.{encode_error_mode, reported_character};
+ghost use Rattle.encoding_rs.specs.EncodeRun.{is_unmappable_result, is_input_empty_result};
+ghost use Rattle.encoding_rs.specs.EncodeRun.{MakesEncodeCall};
 ghost use Rattle.encoding_rs.specs.EncodeReport.{IsReportOf};
 
 use crate::chars_of_text::{chars_in_units, split_at_char, utf16_of};
@@ -81,7 +83,8 @@ fn call_from_utf8(
     last: bool,
     call: EncodeCall,
 ) -> Result<(Made, Vec<u8>), AllocError>
-    ensures { IfOk result (λ done. EncodesChunk encode_utf8 (encode_error_mode call.replace encoder.old) encoder.old encoder.new (chars chunk.now) last
+    ensures { IfOk result (λ done. EncodesChunk encode_utf8
+        (encode_error_mode call.replace encoder.old) encoder.old encoder.new (chars chunk.now) last
         call.room done.0.result done.0.read done.1.items done.0.replaced) }
 {
     let mut bytes = Vec::with_capacity(alloc, call.room)?;
@@ -108,7 +111,8 @@ fn call_from_utf16(
     last: bool,
     call: EncodeCall,
 ) -> Result<(Made, Vec<u8>), AllocError>
-    ensures { IfOk result (λ done. EncodesChunk encode_utf16 (encode_error_mode call.replace encoder.old) encoder.old encoder.new (chars chunk.now) last
+    ensures { IfOk result (λ done. EncodesChunk encode_utf16
+        (encode_error_mode call.replace encoder.old) encoder.old encoder.new (chars chunk.now) last
         call.room done.0.result done.0.read done.1.items done.0.replaced) }
 {
     let units = utf16_of(alloc, chunk)?;
@@ -138,7 +142,8 @@ fn call_from(
     last: bool,
     call: EncodeCall,
 ) -> Result<(Made, Vec<u8>), AllocError>
-    ensures { IfOk result (λ done. EncodesChunk (units_of_call call.utf16) (encode_error_mode call.replace encoder.old) encoder.old encoder.new (chars chunk.now) last
+    ensures { IfOk result (λ done. EncodesChunk (units_of_call call.utf16)
+        (encode_error_mode call.replace encoder.old) encoder.old encoder.new (chars chunk.now) last
         call.room done.0.result done.0.read done.1.items done.0.replaced) }
 {
     if call.utf16 {
@@ -207,7 +212,8 @@ fn make_call(
     ensures call { IfOk result
         (λ made. MakesEncodeCall call encoder.old encoder.new (chars unread.now)
         bytes.old.items bytes.new.items made.0.result made.0.read made.0.replaced) }
-    ensures ended { IfOk result (λ made. made.1 ≡ (nat_le (length (chars unread.now)) call.offer && is_input_empty_result made.0.result)) }
+    ensures ended { IfOk result (λ made. made.1
+        ≡ (nat_le (length (chars unread.now)) call.offer && is_input_empty_result made.0.result)) }
 {
     let (chunk, rest) = split_at_char(unread, call.offer);
     let last = rest.is_empty();

@@ -1,10 +1,11 @@
 //! Laws over the definitions: contracts of functions that do nothing, or only what the law is
 //! about.
 
-ghost use Rattle.std.specs.Prelude.{◌≡◌, ◌≢◌, ◌↔◌, ℕ, ◌-◌, ◌≤◌, ◌⊎◌, take, true, false, is_some, IsTrue, List, [], ◌∷◌};
-ghost use Rattle.std.specs.Prelude.{◌++◌, Some, None, map, length, if◌then◌else◌};
+ghost use Rattle.std.specs.Prelude.{◌≡◌, ◌≢◌, ◌↔◌, ℕ, ◌-◌, ◌≤◌, ◌⊎◌, take, true, false, is_some};
+ghost use Rattle.std.specs.Prelude.{IsTrue, List, [], ◌∷◌, ◌++◌, Some, None, map, length};
+ghost use Rattle.std.specs.Prelude.{if◌then◌else◌};
 ghost use Rattle.enc_stream.specs.declared.bom.BomHandling.TheVariants as handling;
-ghost use Rattle.enc_stream.specs.Bom.{marks_looked_for, find_mark};
+ghost use Rattle.enc_stream.specs.Bom.{marks_looked_for};
 ghost use Rattle.enc_encode.specs.Encoders.{encoder_rule};
 ghost use Rattle.enc_encoder.specs.Barring.{contains_char, are_beyond_ascii};
 ghost use Rattle.enc_encoder.specs.Text.{bytes_of_text, with_references};
@@ -12,8 +13,8 @@ ghost use Rattle.enc_encoder.specs.declared.character_set.CharacterSet.TheVarian
 ghost use Rattle.enc_encoder.specs.Unmappable.{any_unmappable};
 ghost use Rattle.enc_names.specs.EncodingTable.{codec_by_id};
 ghost use Rattle.enc_stream.specs.Encodings.{output_rule, rule_of};
-ghost use Rattle.enc_stream.specs.LifeCycle.{mark_bytes, encoding_of_mark_or};
-ghost use Rattle.enc_stream.specs.MarkLaws.{MayBeginMark, bytes_after_mark as after_mark};
+ghost use Rattle.enc_stream.specs.LifeCycle.{mark_bytes};
+ghost use Rattle.enc_stream.specs.MarkLaws.{MayBeginMark};
 ghost use Rattle.enc_stream.specs.Decoding.{whole_sequences, whole_malformed};
 ghost use Rattle.enc_stream.specs.Encoder.{whole_bytes};
 ghost use Rattle.enc_stream.specs.Labels.{encoding_of_label};
@@ -25,7 +26,7 @@ ghost use Rattle.enc_decoder.specs.Segmentation.{sequences_of, IsSegmentation};
 ghost use Rattle.enc_decoder.specs.Remainder.{AreBytes, Determines};
 ghost use Rattle.enc_decoder.specs.RuleLaws.{HasTexts, IsLookahead, IsDeterminedByEnd};
 ghost use Rattle.enc_decoder.specs.Lookahead.{CoverLookahead};
-ghost use Rattle.encoding_rs.specs.Lookahead.{MayLook};
+ghost use Rattle.encoding_rs.specs.Lookahead.{MayLook, mark_found, rule_found, after_mark_found};
 ghost use Rattle.enc_round_trip.specs.RoundTrip.{char_read_back};
 ghost use Rattle.enc_units.specs.Output.{AreScalars};
 ghost use Rattle.enc_units.specs.Validity.{IsWellFormedUtf8};
@@ -46,7 +47,8 @@ pub fn utf_8_has_texts()
 
 /// In every encoding but replacement and ISO-2022-JP, every sequence has a text.
 pub fn has_texts(encoding: Encoding)
-    ensures { (encoding ≡ REPLACEMENT → ⊥) → (encoding ≡ ISO_2022_JP → ⊥) → HasTexts (rule_of encoding) }
+    ensures { (encoding ≡ REPLACEMENT → ⊥) → (encoding ≡ ISO_2022_JP → ⊥)
+        → HasTexts (rule_of encoding) }
 {
     let _ = (encoding, REPLACEMENT, ISO_2022_JP);
 }
@@ -65,18 +67,20 @@ pub fn mark_is_determined_first(encoding: Encoding, handling: BomHandling)
     // A prefix that is no proper prefix of a byte order mark looked for determines which one there
     // is.
     ensures decided { (x y : List ℕ) → (MayBeginMark (marks_looked_for handling encoding) x → ⊥)
-        → find_mark (marks_looked_for handling encoding) (x ++ y) ≡ find_mark (marks_looked_for handling encoding) x }
+        → mark_found handling encoding (x ++ y) ≡ mark_found handling encoding x }
 
     // A proper prefix of a byte order mark looked for determines no sequence.
-    ensures first { (x : List ℕ) (s : Sequence) (ss : List Sequence) → MayBeginMark (marks_looked_for handling encoding) x
+    ensures first { (x : List ℕ) (s : Sequence) (ss : List Sequence)
+        → MayBeginMark (marks_looked_for handling encoding) x
         → Determines (whole_sequences handling encoding) x (s ∷ ss) → ⊥ }
 
     // Any other prefix determines what the rule alone does, from the bytes after the byte order
     // mark.
-    ensures then { (x : List ℕ) (ss : List Sequence) → (MayBeginMark (marks_looked_for handling encoding) x → ⊥)
+    ensures then { (x : List ℕ) (ss : List Sequence)
+        → (MayBeginMark (marks_looked_for handling encoding) x → ⊥)
         → Determines (whole_sequences handling encoding) x ss
-        ↔ Determines (sequences_of (rule_of (encoding_of_mark_or (find_mark (marks_looked_for handling encoding) x) encoding)) 0)
-        (after_mark (find_mark (marks_looked_for handling encoding) x) x) ss }
+        ↔ Determines (sequences_of (rule_found handling encoding x) 0)
+        (after_mark_found handling encoding x) ss }
 {
     let _ = (encoding, handling);
 }
@@ -87,17 +91,21 @@ pub fn mark_is_determined_first(encoding: Encoding, handling: BomHandling)
 /// order mark, and contain each of these sequences with its lookahead. So the shortest prefix that
 /// determines a sequence and all before it, if there is one, has the greatest of these lengths.
 pub fn lookahead_is_exact(encoding: Encoding, handling: BomHandling)
-    ensures determined { (bytes : List ℕ) (s : Sequence) (ss rest : List Sequence) (k : ℕ) → AreBytes bytes
+    ensures determined { (bytes : List ℕ) (s : Sequence) (ss rest : List Sequence) (k : ℕ)
+        → AreBytes bytes
         → whole_sequences handling encoding bytes ≡ (s ∷ ss) ++ rest → k ≤ length bytes
         → Determines (whole_sequences handling encoding) (take k bytes) (s ∷ ss)
         ↔ ((MayBeginMark (marks_looked_for handling encoding) (take k bytes) → ⊥)
-        × CoverLookahead (rule_of (encoding_of_mark_or (find_mark (marks_looked_for handling encoding) bytes) encoding)) 0
-        (after_mark (find_mark (marks_looked_for handling encoding) bytes) bytes) (s ∷ ss)
-        (k - length (mark_bytes (find_mark (marks_looked_for handling encoding) bytes)))) }
+        × CoverLookahead (rule_found handling encoding bytes) 0
+        (after_mark_found handling encoding bytes) (s ∷ ss)
+        (k - length (mark_bytes (mark_found handling encoding bytes)))) }
 
     // Each sequence has a lookahead, or only the end of the input determines it.
-    ensures some { (set b : ℕ) (z : List ℕ) → ((n : ℕ) × IsLookahead (rule_of encoding) set b z n) ⊎ IsDeterminedByEnd (rule_of encoding) set b z }
-    ensures kinds { (set b : ℕ) (z : List ℕ) (n : ℕ) → AreBytes z → IsLookahead (rule_of encoding) set b z n
+    ensures some { (set b : ℕ) (z : List ℕ)
+        → ((n : ℕ) × IsLookahead (rule_of encoding) set b z n)
+        ⊎ IsDeterminedByEnd (rule_of encoding) set b z }
+    ensures kinds { (set b : ℕ) (z : List ℕ) (n : ℕ) → AreBytes z
+        → IsLookahead (rule_of encoding) set b z n
         → MayLook encoding (rule_of encoding set b z).kind n }
 {
     let _ = (encoding, handling);
@@ -107,14 +115,17 @@ pub fn lookahead_is_exact(encoding: Encoding, handling: BomHandling)
 ///
 /// There is one such segmentation.
 pub fn sequences_are_the_bytes(encoding: Encoding, handling: BomHandling)
-    ensures joined { (bytes : List ℕ) → mark_bytes (find_mark (marks_looked_for handling encoding) bytes)
+    ensures joined { (bytes : List ℕ) → mark_bytes (mark_found handling encoding bytes)
         ++ sequence_bytes (whole_sequences handling encoding bytes) ≡ bytes }
 
     // The rule gives each at its place. No other list is such a segmentation.
-    ensures segmentation { (bytes : List ℕ) → IsSegmentation (rule_of (encoding_of_mark_or (find_mark (marks_looked_for handling encoding) bytes) encoding)) 0
-        (after_mark (find_mark (marks_looked_for handling encoding) bytes) bytes) (whole_sequences handling encoding bytes) }
-    ensures one { (bytes : List ℕ) (ss : List Sequence) → IsSegmentation (rule_of (encoding_of_mark_or (find_mark (marks_looked_for handling encoding) bytes) encoding)) 0
-        (after_mark (find_mark (marks_looked_for handling encoding) bytes) bytes) ss → ss ≡ whole_sequences handling encoding bytes }
+    ensures segmentation { (bytes : List ℕ)
+        → IsSegmentation (rule_found handling encoding bytes) 0
+        (after_mark_found handling encoding bytes) (whole_sequences handling encoding bytes) }
+    ensures one { (bytes : List ℕ) (ss : List Sequence)
+        → IsSegmentation (rule_found handling encoding bytes) 0
+        (after_mark_found handling encoding bytes) ss
+        → ss ≡ whole_sequences handling encoding bytes }
 {
     let _ = (encoding, handling);
 }
@@ -164,10 +175,12 @@ pub fn output_encodings_are_their_own(encoding: Encoding)
 /// So replacing its unmappable characters again changes nothing.
 pub fn references_are_mappable(encoding: Encoding)
     ensures once { (barred text : List ℕ)
-        → with_references (output_rule barred encoding) (with_references (output_rule barred encoding) text)
+        → with_references (output_rule barred encoding)
+        (with_references (output_rule barred encoding) text)
         ≡ with_references (output_rule barred encoding) text }
     ensures mappable { (barred text : List ℕ)
-        → any_unmappable (output_rule barred encoding) (with_references (output_rule barred encoding) text) ≡ false }
+        → any_unmappable (output_rule barred encoding)
+        (with_references (output_rule barred encoding) text) ≡ false }
 {
     let _ = encoding;
 }
@@ -177,7 +190,8 @@ pub fn references_are_mappable(encoding: Encoding)
 /// All others keep their bytes ([`Encoding::new_encoder_barring`]).
 pub fn barred_characters_are_unmappable(encoding: Encoding)
     ensures { (barred : List ℕ) (c : ℕ) → are_beyond_ascii barred ≡ true
-        → (output_rule barred encoding).bytes c ≡ (if contains_char barred c then None else (output_rule [] encoding).bytes c) }
+        → (output_rule barred encoding).bytes c
+        ≡ (if contains_char barred c then None else (output_rule [] encoding).bytes c) }
 {
     let _ = encoding;
 }
@@ -188,23 +202,31 @@ pub fn barred_characters_are_unmappable(encoding: Encoding)
 /// order mark is looked for.
 pub fn encoded_text_decodes_back(encoding: Encoding)
     // The bytes of a text whose characters are all mappable have no malformed sequence.
-    ensures well_formed { (barred text : List ℕ) → AreScalars text → any_unmappable (output_rule barred encoding) text ≡ false
-        → whole_malformed handling.Off (output_encoding_of encoding) (bytes_of_text (output_rule barred encoding) Ascii text) ≡ false }
+    ensures well_formed { (barred text : List ℕ) → AreScalars text
+        → any_unmappable (output_rule barred encoding) text ≡ false
+        → whole_malformed handling.Off (output_encoding_of encoding)
+        (bytes_of_text (output_rule barred encoding) Ascii text) ≡ false }
 
     // They decode to the same text, except in EUC-JP, Shift_JIS and ISO-2022-JP.
-    ensures same_text { (barred text : List ℕ) → AreScalars text → any_unmappable (output_rule barred encoding) text ≡ false
-        → output_encoding_of encoding ≢ EUC_JP → output_encoding_of encoding ≢ SHIFT_JIS → output_encoding_of encoding ≢ ISO_2022_JP
-        → sequence_text (whole_sequences handling.Off (output_encoding_of encoding) (bytes_of_text (output_rule barred encoding) Ascii text)) ≡ text }
+    ensures same_text { (barred text : List ℕ) → AreScalars text
+        → any_unmappable (output_rule barred encoding) text ≡ false
+        → output_encoding_of encoding ≢ EUC_JP → output_encoding_of encoding ≢ SHIFT_JIS
+        → output_encoding_of encoding ≢ ISO_2022_JP
+        → sequence_text (whole_sequences handling.Off (output_encoding_of encoding)
+        (bytes_of_text (output_rule barred encoding) Ascii text)) ≡ text }
 
     // In those three too each character decodes to one character: itself, or another with its
     // bytes.
-    ensures characters { (barred text : List ℕ) → AreScalars text → any_unmappable (output_rule barred encoding) text ≡ false
-        → sequence_text (whole_sequences handling.Off (output_encoding_of encoding) (bytes_of_text (output_rule barred encoding) Ascii text))
+    ensures characters { (barred text : List ℕ) → AreScalars text
+        → any_unmappable (output_rule barred encoding) text ≡ false
+        → sequence_text (whole_sequences handling.Off (output_encoding_of encoding)
+        (bytes_of_text (output_rule barred encoding) Ascii text))
         ≡ map (char_read_back (codec_by_id (output_encoding_of encoding).id)) text }
 
     // The bytes of a text with references have no malformed sequence either.
     ensures references { (barred text : List ℕ) → AreScalars text
-        → whole_malformed handling.Off (output_encoding_of encoding) (whole_bytes barred encoding text) ≡ false }
+        → whole_malformed handling.Off (output_encoding_of encoding)
+        (whole_bytes barred encoding text) ≡ false }
 {
     let _ = (encoding, EUC_JP, SHIFT_JIS, ISO_2022_JP);
 }

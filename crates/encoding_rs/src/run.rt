@@ -1,16 +1,18 @@
 //! Whole runs of a decoder: the result of any list of calls.
 
-ghost use Rattle.std.specs.Prelude.{◌≡◌, ◌+◌, ◌*◌, ◌≤◌, ◌⊎◌, ◌++◌, true, false, length, take, IfOk, OnOk};
+ghost use Rattle.std.specs.Prelude.{◌≡◌, ◌+◌, ◌*◌, ◌≤◌, ◌⊎◌, ◌++◌, true, false, length, take};
+ghost use Rattle.std.specs.Prelude.{IfOk, OnOk};
 ghost use Rattle.std.specs.List.{All};
 ghost use Rattle.std.specs.Char.{encode_utf8};
 ghost use Rattle.std.specs.Char.Escape.{encode_utf16};
 ghost use Rattle.std.specs.String.{string_bytes};
 ghost use Rattle.enc_units.specs.Results.{decoder_result_of};
-ghost use Rattle.enc_stream.specs.Decoding.{DecoderState, fresh_decoder, has_finished, whole_encoding, whole_utf_8};
-ghost use Rattle.enc_stream.specs.Decoding.{whole_malformed};
+ghost use Rattle.enc_stream.specs.Decoding.{DecoderState, fresh_decoder, has_finished};
+ghost use Rattle.enc_stream.specs.Decoding.{whole_encoding, whole_utf_8, whole_malformed};
 ghost use Rattle.encoding_rs.specs.DecodeEnd.{CanDecodeMore};
-ghost use Rattle.encoding_rs.specs.Run.{units_of_call, AnswersDecodeCall, MakesDecodeCall, is_malformed_result};
-ghost use Rattle.encoding_rs.specs.Run.{fault_of_result, IsDecodeRun, HasRunDecoding, decode_run_start, whole_faults};
+ghost use Rattle.encoding_rs.specs.Run.{units_of_call, AnswersDecodeCall, MakesDecodeCall};
+ghost use Rattle.encoding_rs.specs.Run.{is_malformed_result, fault_of_result, IsDecodeRun};
+ghost use Rattle.encoding_rs.specs.Run.{HasRunDecoding, decode_run_start, whole_faults};
 ghost use Rattle.encoding_rs.specs.Run.{all_report_malformed};
 
 pub use crate::encode_run::{EncodeCall, EncodeReport, encode_run, encode_run_barring};
@@ -91,8 +93,8 @@ fn call_to_utf8(
     call: DecodeCall,
 ) -> Result<(Made, String), AllocError>
     requires { has_finished decoder.old ≡ false }
-    ensures { IfOk result (λ done. AnswersDecodeCall encode_utf8 call decoder.old decoder.new chunk.now last
-        done.0.result done.0.read done.0.replaced (string_bytes done.1)) }
+    ensures { IfOk result (λ done. AnswersDecodeCall encode_utf8 call decoder.old decoder.new
+        chunk.now last done.0.result done.0.read done.0.replaced (string_bytes done.1)) }
 {
     let mut text = String::with_capacity(alloc, call.room)?;
     if call.replace {
@@ -117,8 +119,8 @@ fn call_to_utf16(
     call: DecodeCall,
 ) -> Result<(Made, String), AllocError>
     requires { has_finished decoder.old ≡ false }
-    ensures { IfOk result (λ done. AnswersDecodeCall encode_utf16 call decoder.old decoder.new chunk.now last
-        done.0.result done.0.read done.0.replaced (string_bytes done.1)) }
+    ensures { IfOk result (λ done. AnswersDecodeCall encode_utf16 call decoder.old decoder.new
+        chunk.now last done.0.result done.0.read done.0.replaced (string_bytes done.1)) }
 {
     let mut units = vec![in alloc; 0; call.room]?;
     if call.replace {
@@ -147,8 +149,9 @@ fn call_to(
     call: DecodeCall,
 ) -> Result<(Made, String), AllocError>
     requires { has_finished decoder.old ≡ false }
-    ensures { IfOk result (λ done. AnswersDecodeCall (units_of_call call.utf16) call decoder.old decoder.new chunk.now last
-        done.0.result done.0.read done.0.replaced (string_bytes done.1)) }
+    ensures { IfOk result (λ done. AnswersDecodeCall (units_of_call call.utf16) call decoder.old
+        decoder.new chunk.now last done.0.result done.0.read done.0.replaced
+        (string_bytes done.1)) }
 {
     if call.utf16 {
         return call_to_utf16(alloc, decoder, chunk, last, call);
@@ -243,31 +246,45 @@ pub fn decode_run(
     calls: &[DecodeCall],
 ) -> Result<DecodeReport, RunError>
     // The report is that of the calls made, one after another.
-    ensures run { IfOk result (λ report. (decoder : DecoderState) × (has_finished decoder ≡ report.finished) × (decoder.encoding ≡ report.encoding)
+    ensures run { IfOk result (λ report. (decoder : DecoderState)
+        × (has_finished decoder ≡ report.finished) × (decoder.encoding ≡ report.encoding)
         × IsDecodeRun bytes.now (take report.calls calls.now) (decode_run_start handling encoding)
-        (record { decoder = decoder; read = report.read; text = string_bytes report.text; faults = report.faults.items; had_errors = report.had_errors })) }
+        (record {
+          decoder = decoder;
+          read = report.read;
+          text = string_bytes report.text;
+          faults = report.faults.items;
+          had_errors = report.had_errors;
+        })) }
 
     // All calls are made, unless the end is reached first.
-    ensures made { IfOk result (λ report. (report.finished ≡ true) ⊎ (report.calls ≡ length calls.now)) }
+    ensures made { IfOk result (λ report.
+        (report.finished ≡ true) ⊎ (report.calls ≡ length calls.now)) }
     ensures calls { IfOk result (λ report. report.calls ≤ length calls.now) }
 
     // If every call gets a byte and has room for a character, the end is reached within 2n + 1
     // calls for n bytes.
-    ensures end { IfOk result (λ report. All CanDecodeMore calls.now → (report.calls ≤ 2 * length bytes.now + 1)
+    ensures end { IfOk result (λ report. All CanDecodeMore calls.now
+        → (report.calls ≤ 2 * length bytes.now + 1)
         × (2 * length bytes.now + 1 ≤ length calls.now → report.finished ≡ true)) }
 
     // The text is always a prefix of the whole input's, and each malformed sequence is at its
     // offset.
-    ensures beginning { IfOk result (λ report. HasRunDecoding handling encoding bytes.now (take report.calls calls.now)
-        (string_bytes report.text) report.faults.items report.had_errors report.finished) }
+    ensures beginning { IfOk result (λ report. HasRunDecoding handling encoding bytes.now
+        (take report.calls calls.now) (string_bytes report.text) report.faults.items
+        report.had_errors report.finished) }
 
     // At the end the text is all of it.
-    ensures text { IfOk result (λ report. report.finished ≡ true → string_bytes report.text ≡ whole_utf_8 handling encoding bytes.now) }
-    ensures errors { IfOk result (λ report. report.finished ≡ true → report.had_errors ≡ whole_malformed handling encoding bytes.now) }
-    ensures faults { IfOk result (λ report. report.finished ≡ true → all_report_malformed (take report.calls calls.now) ≡ true →
-        report.faults.items ≡ whole_faults handling encoding bytes.now) }
+    ensures text { IfOk result (λ report. report.finished ≡ true
+        → string_bytes report.text ≡ whole_utf_8 handling encoding bytes.now) }
+    ensures errors { IfOk result (λ report. report.finished ≡ true
+        → report.had_errors ≡ whole_malformed handling encoding bytes.now) }
+    ensures faults { IfOk result (λ report. report.finished ≡ true
+        → all_report_malformed (take report.calls calls.now) ≡ true
+        → report.faults.items ≡ whole_faults handling encoding bytes.now) }
     ensures read { IfOk result (λ report. report.finished ≡ true → report.read ≡ length bytes.now) }
-    ensures encoding { IfOk result (λ report. report.finished ≡ true → report.encoding ≡ whole_encoding handling encoding bytes.now) }
+    ensures encoding { IfOk result (λ report. report.finished ≡ true
+        → report.encoding ≡ whole_encoding handling encoding bytes.now) }
 {
     let mut decoder = new_decoder(encoding, handling);
     let mut text = String::new(alloc);

@@ -1,7 +1,7 @@
 //! Decodes a part of a mail by the charset of its header, in chunks of a packet's size.
 //!
-//! `example_mail_part` reads header fields, each on one line, an empty line and a body from standard
-//! input. It writes the text of the body, and then its encoding and whether a sequence was
+//! `example_mail_part` reads header fields, each on one line, an empty line and a body from
+//! standard input. It writes the text of the body, and then its encoding and whether a sequence was
 //! malformed. If the header names no encoding, it is windows-1252, one of whose labels is us-ascii.
 #![tactic(auto)]
 

@@ -81,11 +81,11 @@ HasRun-fresh from to t k = record {
   enough = omega arith;
 }
 
-pub HasRun-start : (from to : Encoding) (t known k : Option (List ℕ)) (reader : ReaderState) (encoder : EncoderState)
-    (malformed : Bool)
+pub HasRun-start : {from to : Encoding} {t known k : Option (List ℕ)} {reader : ReaderState} {encoder : EncoderState}
+    {malformed : Bool}
     → known ≡ t → reader ≡ fresh_reader from → encoder ≡ fresh_encoder [] to → malformed ≡ false
     → HasRun from to t known k k reader encoder malformed false 0
-HasRun-start from to t known k reader encoder malformed a b c d = rw (a, b, c, d) (HasRun-fresh from to t k)
+HasRun-start {from = from} {to = to} {t = t} {k = k} a b c d = rw (a, b, c, d) (HasRun-fresh from to t k)
 
 -- What a run owes is what its reader and its encoder owe that have read nothing.
 owed_is : (from to : Encoding) (bytes : List ℕ) → recoded_bytes from to bytes ≡ bytes_from_state (fresh_encoder [] to) (sequence_text (owed_sequences (fresh_reader from) bytes))

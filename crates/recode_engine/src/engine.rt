@@ -1,6 +1,7 @@
 //! Recoding a source into a sink.
 
-ghost use Rattle.std.specs.Prelude.{◌≡◌, ◌<◌, ◌≤◌, length, [], true, false, chars, IsUtf8, IfOk, IfErr, OnOk, OnErr};
+ghost use Rattle.std.specs.Prelude.{◌≡◌, ◌<◌, ◌≤◌, length, [], true, false, chars, IsUtf8};
+ghost use Rattle.std.specs.Prelude.{IfOk, IfErr, OnOk, OnErr};
 ghost use Rattle.enc_encoder.specs.declared.character_set.CharacterSet.TheVariants.{Ascii};
 ghost use Rattle.enc_stream.specs.declared.encoding.TheConstants.{UTF_8};
 ghost use Rattle.enc_stream.specs.Encoder.{fresh_encoder};

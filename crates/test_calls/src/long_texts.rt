@@ -23,7 +23,8 @@ type Row = (Encoding, &'static [u8], &'static str);
 const ROWS: &[Row] = &[
     (
         UTF_8,
-        b"a\xC3\xA9\xE2\x82\xAC\xF0\x9F\x92\xA9 \xE6\x97\xA5\xE6\x9C\xAC\xE8\xAA\x9E \xD0\xB4\xD0\xB0",
+        b"a\xC3\xA9\xE2\x82\xAC\xF0\x9F\x92\xA9 \xE6\x97\xA5\xE6\x9C\xAC\xE8\xAA\x9E \
+            \xD0\xB4\xD0\xB0",
         "aé€💩 日本語 да",
     ),
     (
@@ -59,7 +60,8 @@ const ROWS: &[Row] = &[
     ),
     (
         ISO_2022_JP,
-        b"\x1B$BF|K\\8lF|K\\8lF|K\\8lF|K\\8lF|K\\8lF|K\\8lF|K\\8lF|K\\8lF|K\\8lF|K\\8lF|K\\8lF|K\\8l\x1B(B abc ",
+        b"\x1B$BF|K\\8lF|K\\8lF|K\\8lF|K\\8lF|K\\8lF|K\\8lF|K\\8lF|K\\8lF|K\\8l\
+            F|K\\8lF|K\\8lF|K\\8l\x1B(B abc ",
         "日本語日本語日本語日本語日本語日本語日本語日本語日本語日本語日本語日本語 abc ",
     ),
     (

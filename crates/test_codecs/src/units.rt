@@ -71,8 +71,8 @@ fn a_string_without_spare_capacity_takes_nothing(rt: HostRuntime) {
 }
 
 /// Characters of one to four bytes, more than a block of 64 bytes.
-const TEXT: &str =
-    "aé€😀 Größe, naïve, привет, 日本語のテキスト, 𝄞 plain ASCII and more of it, as wide as a block is, жжжж 한국어 ḁ";
+const TEXT: &str = "aé€😀 Größe, naïve, привет, 日本語のテキスト, 𝄞 plain ASCII and more of it, \
+    as wide as a block is, жжжж 한국어 ḁ";
 
 const OTHERS: [u8; 11] = [
     0x41, 0x80, 0xBF, 0xC1, 0xC3, 0xE0, 0xED, 0xF0, 0xF4, 0xF5, 0xFF,

@@ -18,7 +18,8 @@ const CYRILLIC: &str =
     "Съешь же ещё этих мягких French rolls, 16 of them или больше é да выпей чаю 💩 №1 конец.";
 
 const USER_DEFINED: &str =
-    "sixteen of ASCII \u{F780}\u{F7FF}\u{F79A}\u{F7C0}\u{F7E1}é日💩\u{F781}\u{F782} and some more ASCII text\u{F7AA}";
+    "sixteen of ASCII \u{F780}\u{F7FF}\u{F79A}\u{F7C0}\u{F7E1}é日💩\u{F781}\u{F782} \
+        and some more ASCII text\u{F7AA}";
 
 const JAPANESE: &str =
     "いろはにほへと and some ASCII here ちりぬるを ｱｲｳ ¥5‾~\\ − 日本語가漢字 €💩 カタカナ\u{1B}\u{E} 終わりました。";

@@ -53,8 +53,8 @@ const LONG: usize = 100_000;
 /// Characters of many encodings.
 const CHARACTERS: &str =
     "The quick brown fox. caf\u{E9} \u{20AC}5, \u{17C}\u{142} \u{416}\u{44F} \u{3A9} \
-                          \u{5D0} \u{64A} \u{E01} \u{65E5}\u{672C}\u{8A9E} \u{3042}\u{30A2}\u{FF71} \
-                          \u{AC00}\u{D7A3} \u{4E02} \u{1F4A9} \u{20000} \u{A5}~\u{1B} \u{F780}\u{80}";
+        \u{5D0} \u{64A} \u{E01} \u{65E5}\u{672C}\u{8A9E} \u{3042}\u{30A2}\u{FF71} \
+        \u{AC00}\u{D7A3} \u{4E02} \u{1F4A9} \u{20000} \u{A5}~\u{1B} \u{F780}\u{80}";
 
 /// The characters over and over, and a's at the end.
 fn long_text(alloc: Global) -> Result<String, AllocError> {

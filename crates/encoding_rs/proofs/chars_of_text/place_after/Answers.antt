@@ -17,7 +17,7 @@ cut c = elim c.loop-test.branch [
 ]
 
 pub overflow_sub-result : goal.overflow_sub-result
-overflow_sub-result c = let b = (cut c).follows.few in omega arith
+overflow_sub-result c = let few = (cut c).follows.few in omega arith
 
 pub returns-clause-boundary : goal.returns-clause-boundary
 returns-clause-boundary c = boundary _ _ _ (cut c).follows

@@ -1,4 +1,4 @@
-use Rattle.std.proofs.Common.{take, drop, arith, true≢false, refl, sym, ◌∙◌, rules}
+use Rattle.std.proofs.Common.{drop, arith, true≢false, refl, sym, ◌∙◌, rules}
 use Rattle.enc_stream.proofs.EndOfInputLemmas.{fresh_open}
 use Rattle.encoding_rs.proofs.DecodeRunLemmas.{start, decodes_on, within_on, all_read, runs_next, takes_next, has_run}
 use Rattle.encoding_rs.proofs.DecodeRunLemmas.{whole_text, whole_flag, whole_places, encoding_stays}
@@ -20,12 +20,9 @@ pub loop-call-preserved : goal.loop-call-preserved
 loop-call-preserved c =
     let makes = rw c.split_at.ensures.back at c.in-Ok.ensures in
     let invariant = c.loop-call.invariant in
-    let done =
-    decodes_on c.args.handling c.args.encoding _ _ invariant.within (take c.loop-call.made c.args.calls.now) _ _ _ _
-    _
-    c.loop-call.faults.items c.loop-call.had_errors _ _ _ makes invariant.done in
+    let done = decodes_on c.args.bytes.now c.loop-call.read invariant.within makes invariant.done in
     rw (c.in-Ok-note_fault.ensures, c.reports.ensures) (record {
-      run = runs_next _ _ _ _ _ _ _ _ invariant.made c.loop-call-test.true invariant.run (record {
+      run = runs_next c.args.calls.now _ _ invariant.made c.loop-call-test.true invariant.run (record {
         result = c.in-Ok.done.result;
         more = c.in-Ok.done.read;
         replaced = c.in-Ok.done.replaced;
@@ -35,27 +32,18 @@ loop-call-preserved c =
         faults = refl;
         flag = refl;
       });
-      done = takes_next _ _ _ _ _ _ _ _ _ _ _ _ invariant.made c.loop-call-test.true done;
-      encoding =
-          encoding_stays c.args.handling c.args.encoding _ _ invariant.within (take c.loop-call.made c.args.calls.now) _
-          _ _ _ _
-          c.loop-call.faults.items c.loop-call.had_errors _ _ _ makes invariant.encoding;
-      within =
-          within_on c.args.handling c.args.encoding _ _ invariant.within (take c.loop-call.made c.args.calls.now) _ _ _
-          _ _
-          c.loop-call.faults.items c.loop-call.had_errors _ _ _ makes;
+      done = takes_next c.args.calls.now _ invariant.made c.loop-call-test.true done;
+      encoding = encoding_stays c.args.bytes.now c.loop-call.read invariant.within makes invariant.encoding;
+      within = within_on c.args.bytes.now c.loop-call.read invariant.within makes;
       made = omega arith;
-      all =
-          all_read c.args.handling c.args.encoding _ _ invariant.within (take c.loop-call.made c.args.calls.now) _ _ _ _
-          _
-          c.loop-call.faults.items c.loop-call.had_errors _ _ _ makes;
+      all = all_read c.args.bytes.now c.loop-call.read invariant.within makes;
     })
 
 pub returns-clause-beginning : goal.returns-clause-beginning
-returns-clause-beginning c = has_run _ _ _ _ _ _ _ _ _ c.loop-call.invariant.done _ (sym c.is_finished-finished.ensures)
+returns-clause-beginning c = has_run c.loop-call.invariant.done (sym c.is_finished-finished.ensures)
 
 pub returns-clause-text : goal.returns-clause-text
-returns-clause-text c = λ f. whole_text _ _ _ _ _ _ _ _ _ c.loop-call.invariant.done (sym c.is_finished-finished.ensures ∙ f)
+returns-clause-text c = λ f. whole_text c.loop-call.invariant.done (sym c.is_finished-finished.ensures ∙ f)
 
 pub returns-clause-encoding : goal.returns-clause-encoding
 returns-clause-encoding c =
@@ -64,10 +52,13 @@ returns-clause-encoding c =
     ∙ c.loop-call.invariant.encoding
 
 pub returns-clause-errors : goal.returns-clause-errors
-returns-clause-errors c = λ f. whole_flag _ _ _ _ _ _ _ _ _ c.loop-call.invariant.done (sym c.is_finished-finished.ensures ∙ f)
+returns-clause-errors c = λ f. whole_flag c.loop-call.invariant.done (sym c.is_finished-finished.ensures ∙ f)
 
 pub returns-clause-faults : goal.returns-clause-faults
-returns-clause-faults c = λ f r. whole_places _ _ _ _ _ _ _ _ _ c.loop-call.invariant.done (sym c.is_finished-finished.ensures ∙ f) r
+returns-clause-faults c = λ f r. whole_places c.loop-call.invariant.done (sym c.is_finished-finished.ensures ∙ f) r
 
 pub returns-clause-end : goal.returns-clause-end
-returns-clause-end c = λ further. rw c.is_finished-finished.ensures (ends c.args.handling c.args.encoding _ _ c.loop-call.made _ (search rules) (search rules) c.loop-call.invariant.run further)
+returns-clause-end c =
+    λ further. rw c.is_finished-finished.ensures
+    (ends c.args.handling c.args.encoding _ _ c.loop-call.made _ (search rules) (search rules)
+    c.loop-call.invariant.run further)

@@ -8,7 +8,8 @@ use Rattle.recode_engine.proofs.engine.run_through.Goals as goal
 
 pub reads-init : goal.reads-init
 reads-init g c = record {
-  ran = HasRun-start _ _ _ _ _ _ _ _ (search rules) c.new-decoding.ensures.fresh c.new_encoder-encoder.ensures c.new-decoding.ensures.no_errors;
+  ran = HasRun-start (search rules) c.new-decoding.ensures.fresh c.new_encoder-encoder.ensures
+      c.new-decoding.ensures.no_errors;
   text_room = c.requires.text_room;
   room = rw c.new_encoder-encoder.ensures c.requires.room;
   going = search rules;

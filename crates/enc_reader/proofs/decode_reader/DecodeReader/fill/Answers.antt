@@ -6,11 +6,11 @@ use Rattle.enc_reader.proofs.decode_reader.DecodeReader.fill.Goals as goal
 
 pub returns-in_err-pull-clause-err : goal.returns-in_err-pull-clause-err
 returns-in_err-pull-clause-err g c =
-    let r = c.args.self.now in
-    let unended : r.ended ≡ false = search rules in
+    let reader = c.args.self.now in
+    let unended : reader.ended ≡ false = search rules in
     let failed = c.in_err-pull.ensures in
     on_err c.from_residual.result _
-    (FailsToRead-pull _ _ _ _ _ _ failed.none_given failed.err failed.same unended (r.going c.requires.going))
+    (FailsToRead-pull failed.none_given failed.err failed.same unended (reader.going c.requires.going))
 
 pub returns-else-self-clause-ok : goal.returns-else-self-clause-ok
 returns-else-self-clause-ok g c = record { bytes = []; reads = ReadsOwed-none _ _ }
