@@ -170,20 +170,20 @@ pub begun_by_end : (set : ℕ) (z : List ℕ) → MayBegin (0x1B ∷ z) → IsDe
 begun_by_end set z may_begin =
     let becomes = becomes_escape set (z ++ may_begin.more) may_begin.set may_begin.becomes in
     let malformed_first = no_escape_first set z may_begin.none_yet in record {
-      within = (let k = ap (λ (h : Head). h.more) malformed_first in omega (arith, k));
+      within = (let more_is = ap (λ (h : Head). h.more) malformed_first in omega (arith, more_is));
       more = may_begin.more;
       bytes = may_begin.bytes;
       other = more_differs _ _ _ _ becomes.1 malformed_first
-          (λ q. let k = escape_is_two_more set may_begin.set becomes.0 in omega (arith, k, q));
-      near = let k = may_begin.short in omega arith;
+          (λ q. let two_more = escape_is_two_more set may_begin.set becomes.0 in omega (arith, two_more, q));
+      near = let is_short = may_begin.short in omega arith;
     }
 
 none_looks : (set : ℕ) (z : List ℕ) (n : ℕ) → IsShownBy (0x1B ∷ z) n → designated_set (0x1B ∷ z) ≡ None
     → IsLookahead jp_rule set 0x1B z n
 none_looks set z n is_shown none_begins =
-    let f = no_escape_first set z none_begins in
-    let l = is_shown.there in
-    least n is_shown.before (determined_at set 0x1B z n n _ (omega arith) f (omega arith)
+    let malformed_first = no_escape_first set z none_begins in
+    let bytes_are_there = is_shown.there in
+    least n is_shown.before (determined_at set 0x1B z n n _ (omega arith) malformed_first (omega arith)
     (λ y. no_escape_first set (take n z ++ y) (is_shown.same y ∙ none_begins)))
   where
     least : (n : ℕ) → MayBegin (take n (0x1B ∷ z)) → IsDeterminedWithin jp_rule set 0x1B z n
@@ -191,13 +191,13 @@ none_looks set z n is_shown none_begins =
     least zero m determined_by_n = looks_at_none jp_rule set 0x1B z determined_by_n
     least (suc i) m determined_by_n =
         looks_by jp_rule set 0x1B z i i determined_by_n
-        (let k = ap (λ (h : Head). h.more) (no_escape_first set z none_begins) in
-        omega (arith, k)) (begun_by_end set (take i z) m)
+        (let more_is = ap (λ (h : Head). h.more) (no_escape_first set z none_begins) in
+        omega (arith, more_is)) (begun_by_end set (take i z) m)
 
 none_begins_determined : (set : ℕ) (z : List ℕ) (n : ℕ) → IsShownBy (0x1B ∷ z) n → designated_set (0x1B ∷ z) ≡ None
     → IsDeterminedSoon jp_rule set 0x1B z
 none_begins_determined set z n is_shown none_begins =
-    let k = is_shown.few in inr (
+    let at_most_two = is_shown.few in inr (
       not_valid _ _ (no_escape_first set z none_begins) (λ v. cc),
       inl (n, omega arith, none_looks set z n is_shown none_begins),
     )
@@ -208,13 +208,13 @@ pub escape_by_end : (set b c : ℕ) (s : CharacterSet) (z : List ℕ) → set_of
     → IsDeterminedByEnd jp_rule set 0x1B (b ∷ c ∷ z)
 escape_by_end set b c s z names_set may_begin =
     let first = named_first set s b c z false names_set (ap is_some may_begin.none_yet) in
-    let g = named_first set s b c (z ++ may_begin.more) true names_set (ap is_some may_begin.becomes) in
-    let n : (jp_rule set 0x1B (b ∷ c ∷ z)).more ≡ 2 = ap (λ (h : Head). h.more) first in
-    let k = may_begin.short in record {
-      within = omega (arith, n);
+    let followed_first = named_first set s b c (z ++ may_begin.more) true names_set (ap is_some may_begin.becomes) in
+    let two_more : (jp_rule set 0x1B (b ∷ c ∷ z)).more ≡ 2 = ap (λ (h : Head). h.more) first in
+    let is_short = may_begin.short in record {
+      within = omega (arith, two_more);
       more = may_begin.more;
       bytes = may_begin.bytes;
-      other = kind_differs _ _ _ _ g first (λ q. cc);
+      other = kind_differs _ _ _ _ followed_first first (λ q. cc);
       near = omega arith;
     }
 
@@ -222,11 +222,12 @@ shown_determined : (set b c : ℕ) (s : CharacterSet) (z : List ℕ) (n : ℕ) �
     → IsShownBy z n
     → IsDeterminedWithin jp_rule set 0x1B (b ∷ c ∷ z) (suc n)
 shown_determined set b c s z n names_set is_shown =
-    let a = is_some (designated_set z) in
-    let l = is_shown.there in
-    determined_at set 0x1B (b ∷ c ∷ z) (suc n) (suc (suc (suc n))) (escape_of set s a)
-    (let k = escape_is_two_more set s a in omega (arith, k)) (named_first set s b c z a names_set refl) (omega arith)
-    (λ y. named_first set s b c (take (suc n) z ++ y) a names_set (ap is_some (is_shown.same y)))
+    let another = is_some (designated_set z) in
+    let bytes_are_there = is_shown.there in
+    determined_at set 0x1B (b ∷ c ∷ z) (suc n) (suc (suc (suc n))) (escape_of set s another)
+    (let two_more = escape_is_two_more set s another in omega (arith, two_more))
+    (named_first set s b c z another names_set refl) (omega arith)
+    (λ y. named_first set s b c (take (suc n) z ++ y) another names_set (ap is_some (is_shown.same y)))
 
 named_determined : (set b c : ℕ) (s : CharacterSet) (z : List ℕ) → set_of_escape_bytes b c ≡ Some s
     → IsDeterminedSoon jp_rule set 0x1B (b ∷ c ∷ z)
@@ -238,11 +239,11 @@ named_determined set b c s z names_set =
         not_valid_alone,
         inl (
           suc is_shown.0,
-          (let k = is_shown.1.few in omega arith),
+          (let at_most_two = is_shown.1.few in omega arith),
           looks_by jp_rule set 0x1B (b ∷ c ∷ z) is_shown.0 (suc (suc is_shown.0))
               (shown_determined set b c s z is_shown.0 names_set is_shown.1)
-              (let k = ap (λ (h : Head). h.more) (named_first set s b c z _ names_set refl) in
-              let m = escape_is_two_more set s (is_some (designated_set z)) in omega (arith, k, m))
+              (let more_is = ap (λ (h : Head). h.more) (named_first set s b c z _ names_set refl) in
+              let two_more = escape_is_two_more set s (is_some (designated_set z)) in omega (arith, more_is, two_more))
               (escape_by_end set b c s (take is_shown.0 z) names_set is_shown.1.before),
         ),
       )
@@ -280,12 +281,12 @@ not_a_trail b = refl
 pub lead_by_end : (set b : ℕ) → is_lead_byte (set_of set) b ≡ true → IsDeterminedByEnd jp_rule set b []
 lead_by_end set b leads =
     let first = lead_first set b [] leads in
-    let g = lead_first set b (0x20 ∷ []) leads ∙ lead_and_trail set b 0x20 [] refl
+    let followed_first = lead_first set b (0x20 ∷ []) leads ∙ lead_and_trail set b 0x20 [] refl
     ∙ ap (two_byte_head set) (not_a_trail b) in record {
-      within = (let k = ap (λ (h : Head). h.more) first in omega (arith, k));
+      within = (let more_is = ap (λ (h : Head). h.more) first in omega (arith, more_is));
       more = 0x20 ∷ [];
       bytes = (omega arith, tt);
-      other = more_differs _ _ _ _ g first (λ q. omega arith);
+      other = more_differs _ _ _ _ followed_first first (λ q. omega arith);
       near = omega arith;
     }
 
@@ -313,7 +314,7 @@ lead_determined set b (c ∷ z) leads = elim (true_or_false (eqb c 0x1B)) [
           omega arith,
           looks_by jp_rule set b (c ∷ z) 0 0
               (determined_at set b (c ∷ z) 1 1 _ (omega arith) (comes z) (omega arith) comes)
-              (let k = ap (λ (h : Head). h.more) (comes z) in omega (arith, k)) (lead_by_end set b leads),
+              (let more_is = ap (λ (h : Head). h.more) (comes z) in omega (arith, more_is)) (lead_by_end set b leads),
         ),
       ))
   | inr n ↦ inl (pair_determined set b c z (two_byte_char b c) refl leads n)
@@ -370,10 +371,12 @@ named_not_alone set b c s z true names_set followed k t =
     skipped_differs _ _ k (λ q. cc) (named_first set s b c z true names_set followed)
 named_not_alone set b c s z false names_set followed k t =
     let first = named_first set s b c z false names_set followed in
-    let n : (jp_rule set 0x1B (b ∷ c ∷ z)).more ≡ 2 = ap (λ (x : Head). x.more) first in
-    let y = 0x1B ∷ 0x28 ∷ 0x42 ∷ [] in
-    let g = subst (λ m. jp_rule set 0x1B (take (m + 0) (b ∷ c ∷ z) ++ y) ≡ jp_rule set 0x1B (b ∷ c ∷ z)) n (t.same y) in
-    kind_differs _ _ _ _ (named_first set s b c y true names_set refl) first (λ q. cc) g
+    let two_more : (jp_rule set 0x1B (b ∷ c ∷ z)).more ≡ 2 = ap (λ (x : Head). x.more) first in
+    let next_escape : List ℕ = 0x1B ∷ 0x28 ∷ 0x42 ∷ [] in
+    let heads_agree =
+    subst (λ m. jp_rule set 0x1B (take (m + 0) (b ∷ c ∷ z) ++ next_escape) ≡ jp_rule set 0x1B (b ∷ c ∷ z))
+    two_more (t.same next_escape) in
+    kind_differs _ _ _ _ (named_first set s b c next_escape true names_set refl) first (λ q. cc) heads_agree
 
 escape_not_alone : (set : ℕ) (z : List ℕ) → (jp_rule set 0x1B z).kind ≡ Skipped
     → IsDeterminedWithin jp_rule set 0x1B z 0 → ⊥
