@@ -29,14 +29,14 @@ use Rattle.enc_decoder_multi_byte.proofs.MultiBytePieces.{complete_one}
 use Rattle.enc_decoder_iso_2022_jp.specs.Iso2022Jp.{iso_2022_jp_rule}
 use Rattle.enc_codec.specs.Properties.{IsAsciiCompatible, IsByteWithText, IsSingleByte}
 
-first_text : (s t : Sequence) (ss ts : List Sequence) → s ∷ ss ≡ t ∷ ts → s.text ≡ t.text
-first_text s t ss ts e = cc
+first_text : {s t : Sequence} {ss ts : List Sequence} → s ∷ ss ≡ t ∷ ts → s.text ≡ t.text
+first_text e = cc
 
 -- a byte below 0x80 that is U+FFFD, and a sequence of more than one byte
 
 replaced : (rule : Rule) (b : ℕ) → b < 0x80 → (rule 0 b []).text ≡ 0xFFFD ∷ [] → ¬ (IsAsciiCompatible rule)
 replaced rule b is_ascii e h =
-    differs b is_ascii (sym e ∙ first_text _ _ _ _ (sym (sequences_of-cons rule 0 b []) ∙ h b is_ascii []))
+    differs b is_ascii (sym e ∙ first_text (sym (sequences_of-cons rule 0 b []) ∙ h b is_ascii []))
   where
     differs : (b : ℕ) → b < 0x80 → 0xFFFD ∷ [] ≡ b ∷ [] → ⊥
     differs b l e = let byte_is_fffd : 0xFFFD ≡ b = cc in omega arith

@@ -131,12 +131,12 @@ after_escape units_of s e n src more before after is_alone some taken =
     }
 
 -- An escape sequence is taken with the pieces after it.
-pub takes_escape : (units_of : ℕ → List ℕ) (c n : Iso2022JpState) (e : Escape) (src rest : List ℕ) (more : ℕ)
-    (before after : Output)
+pub takes_escape : (units_of : ℕ → List ℕ) (c n : Iso2022JpState) (e : Escape) {src rest : List ℕ} {more : ℕ}
+    {before after : Output}
     → c.held ≡ None → n ≡ state_with_held (escape_set e) None → rest ≡ drop 3 src → StandsAlone src e → 0 < more
     → PutsPieces units_of (IsWholeChar jp_rule (set_number n.set)) before after rest more
     → TakesRun units_of jp_state c n src (3 + more) before after
-takes_escape units_of c n e src rest more before after held next back a h p =
+takes_escape units_of c n e {src} {rest} {more} {before} {after} held next back a h p =
     let pieces_taken = takes_pieces units_of jp_state n rest more before after
     (ap (λ (s : Iso2022JpState). bytes_of_held s.held) next) p in
     let run_taken = subst (λ (m : Iso2022JpState). TakesRun units_of jp_state m n rest more before after) next

@@ -73,8 +73,8 @@ module _ (prefix : List ℕ → Prefix) (laws : ArePrefixes prefix) where
 
   -- incomplete bytes at the end of the input
 
-  more_differs : (h k x y : Head) → x ≡ h → y ≡ k → (h.more ≡ k.more → ⊥) → x ≡ y → ⊥
-  more_differs h k x y e f n q = n (ap (λ (t : Head). t.more) (sym e ∙ q ∙ f))
+  more_differs : {h k x y : Head} → x ≡ h → y ≡ k → (h.more ≡ k.more → ⊥) → x ≡ y → ⊥
+  more_differs e f n q = n (ap (λ (t : Head). t.more) (sym e ∙ q ∙ f))
 
   all_incomplete : (a : ℕ) (w : List ℕ) → AreIncomplete prefix [] (a ∷ w) → prefix (a ∷ w) ≡ Incomplete
   all_incomplete a w u = still_incomplete prefix [] (a ∷ w) laws.nothing u
@@ -90,7 +90,7 @@ module _ (prefix : List ℕ → Prefix) (laws : ArePrefixes prefix) where
         within = within set a w;
         more = malformed.byte ∷ [];
         bytes = (malformed.is_byte, tt);
-        other = more_differs _ _ _ _
+        other = more_differs
             (rule_at prefix set (a ∷ w) malformed.byte [] a (w ++ malformed.byte ∷ []) are_incomplete refl
             ∙ settles.head set [])
             (all_malformed prefix set a w are_incomplete)

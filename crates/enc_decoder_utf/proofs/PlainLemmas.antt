@@ -178,9 +178,10 @@ goes_past bytes read wrote had_errors so_far n c m some_left is_length t k w =
 nothing_after : (bytes : List ℕ) (read : ℕ) → length bytes ≤ read → sequences_of utf_8_rule 0 (drop read bytes) ≡ []
 nothing_after bytes read h = ap (sequences_of utf_8_rule 0) (drop_of_length-le bytes h) ∙ sequences_of-nil utf_8_rule 0
 
-pub all_decoded : (bytes : List ℕ) (read : ℕ) (wrote : List ℕ) (had_errors : Bool) → Decoded bytes read wrote had_errors → length bytes ≤ read
+pub all_decoded : {bytes : List ℕ} {read : ℕ} {wrote : List ℕ} {had_errors : Bool}
+    → Decoded bytes read wrote had_errors → length bytes ≤ read
     → (wrote ≡ units_of_text encode_utf8 (sequence_text (sequences_of utf_8_rule 0 bytes))) × (had_errors ≡ any_malformed (sequences_of utf_8_rule 0 bytes))
-all_decoded bytes read wrote had_errors so_far h =
+all_decoded {bytes} {read} {wrote} {had_errors} so_far h =
     let none_left = nothing_after bytes read h in (
       sym (append-nil wrote) ∙ ap (λ ss. wrote ++ units_of_text encode_utf8 (sequence_text ss)) (sym none_left)
           ∙ so_far.text,

@@ -21,7 +21,7 @@ loop-read-preserved c =
     rw appended decoded
 
 pub returns-clause-text : goal.returns-clause-text
-returns-clause-text c = (all_decoded _ _ _ _ c.loop-read.invariant (omega arith)).0
+returns-clause-text c = (all_decoded c.loop-read.invariant (omega arith)).0
 
 pub returns-clause-had_errors : goal.returns-clause-had_errors
-returns-clause-had_errors c = (all_decoded _ _ _ _ c.loop-read.invariant (omega arith)).1
+returns-clause-had_errors c = (all_decoded c.loop-read.invariant (omega arith)).1
