@@ -26,8 +26,8 @@ pub utf_8_shows_bb : DeterminesBbByItself utf_8_rule
 unfolding utf_8_rule sequence_len is_second_byte is_continuation
 utf_8_shows_bb [] ef_alone y = absurd (cc)
 utf_8_shows_bb (c ∷ z) ef_alone y = elim (true_or_false (is_continuation c)) [
-  | inl t ↦ absurd (let f = rw t at ef_alone in cc)
-  | inr t ↦ absurd (let f = rw t at ef_alone in cc)
+  | inl t ↦ absurd (let more_is = rw t at ef_alone in cc)
+  | inr t ↦ absurd (let more_is = rw t at ef_alone in cc)
 ]
 
 -- in UTF-16 they are a code unit, and no surrogate
@@ -38,7 +38,13 @@ utf_16_shows_bb false z e y = absurd (cc)
 
 pub one_byte_shows_bb : (character : ℕ → Option ℕ) → DeterminesBbByItself (one_byte_rule character)
 unfolding one_byte_rule
-one_byte_shows_bb character z e y = (alone _ (character 0xBB), record { there = (let f = alone (one_byte_head 0 (character 0xEF)).set (character 0xBB) in omega arith); same = λ x. refl })
+one_byte_shows_bb character z e y = (
+  alone _ (character 0xBB),
+  record {
+    there = (let none_more = alone (one_byte_head 0 (character 0xEF)).set (character 0xBB) in omega arith);
+    same = λ x. refl;
+  },
+)
   where
     alone : (set : ℕ) (found : Option ℕ) → (one_byte_head set found).more ≡ 0
     alone set None = refl

@@ -29,17 +29,17 @@ use Rattle.enc_decoder_multi_byte.proofs.MultiBytePieces.{complete_one}
 use Rattle.enc_decoder_iso_2022_jp.specs.Iso2022Jp.{iso_2022_jp_rule}
 use Rattle.enc_codec.specs.Properties.{IsAsciiCompatible, IsByteWithText, IsSingleByte}
 
-first_text : (s t : Sequence) (ss ts : List Sequence) → s ∷ ss ≡ t ∷ ts → s.text ≡ t.text
-first_text s t ss ts e = cc
+first_text : {s t : Sequence} {ss ts : List Sequence} → s ∷ ss ≡ t ∷ ts → s.text ≡ t.text
+first_text e = cc
 
 -- a byte below 0x80 that is U+FFFD, and a sequence of more than one byte
 
 replaced : (rule : Rule) (b : ℕ) → b < 0x80 → (rule 0 b []).text ≡ 0xFFFD ∷ [] → ¬ (IsAsciiCompatible rule)
 replaced rule b is_ascii e h =
-    differs b is_ascii (sym e ∙ first_text _ _ _ _ (sym (sequences_of-cons rule 0 b []) ∙ h b is_ascii []))
+    differs b is_ascii (sym e ∙ first_text (sym (sequences_of-cons rule 0 b []) ∙ h b is_ascii []))
   where
     differs : (b : ℕ) → b < 0x80 → 0xFFFD ∷ [] ≡ b ∷ [] → ⊥
-    differs b l e = let f : 0xFFFD ≡ b = cc in omega arith
+    differs b l e = let byte_is_fffd : 0xFFFD ≡ b = cc in omega arith
 
 more_bytes : (rule : Rule) (b : ℕ) (z : List ℕ) → AreBytes (b ∷ z) → (length (head_sequence (rule 0 b z) b z).bytes ≡ 1 → ⊥) → ¬ (IsSingleByte rule)
 more_bytes rule b z a n h = n (subst (AllByRecursion IsByteWithText) (sequences_of-cons rule 0 b z) (h (b ∷ z) a)).0.one
@@ -99,11 +99,13 @@ multi_byte_is_not_single_byte : (prefix : List ℕ → Prefix) (lead : ℕ) → 
     → prefix (lead ∷ 0xFF ∷ []) ≡ Malformed 2 → ¬ (IsSingleByte (multi_byte_rule prefix))
 unfolding multi_byte_rule
 multi_byte_is_not_single_byte prefix lead l e f =
-    let h : prefix_head prefix 0 (lead ∷ []) (prefix (lead ∷ [])) (0xFF ∷ []) ≡ prefix_head prefix 0 (lead ∷ 0xFF ∷ []) (Malformed 2) [] =
+    let head_is : prefix_head prefix 0 (lead ∷ []) (prefix (lead ∷ [])) (0xFF ∷ [])
+    ≡ prefix_head prefix 0 (lead ∷ 0xFF ∷ []) (Malformed 2) [] =
     ap (λ r. prefix_head prefix 0 (lead ∷ []) r (0xFF ∷ [])) e
     ∙ ap (λ r. prefix_head prefix 0 (lead ∷ 0xFF ∷ []) r []) f in
     more_bytes (multi_byte_rule prefix) lead (0xFF ∷ []) (l, (omega arith, tt))
-    (λ o. let o' = subst (λ (t : Head). length (head_sequence t lead (0xFF ∷ [])).bytes ≡ 1) h o in cc)
+    (λ o. let one_byte = subst (λ (t : Head). length (head_sequence t lead (0xFF ∷ [])).bytes ≡ 1) head_is o in
+    cc)
 
 first_alone : (leads : Bool) (single : Option ℕ) (b : ℕ) → leads ≡ false → single ≡ Some b → first_prefix leads single ≡ Complete (One b)
 first_alone leads single b n e = ap (λ t. first_prefix t single) n ∙ ap single_prefix e

@@ -154,7 +154,7 @@ pub shows_repeated : (s : CharacterSet) (e f : Escape) (i : Intermediate) (b : �
 shows_repeated s e f i b is_escape = (
   record {
     bytes = escape_bytes e;
-    some = (let n = three e in omega arith);
+    some = (let three_bytes = three e in omega arith);
     len = three e;
     parts = append_assoc (escape_bytes e) (0x1B ∷ intermediate_byte i ∷ []) (b ∷ [])
         ∙ ap (λ x. escape_bytes e ++ x) (sym is_escape);

@@ -22,7 +22,7 @@ use Rattle.enc_decoder_iso_2022_jp.specs.Iso2022JpState.{escape_bytes, escape_se
 use Rattle.enc_decoder_iso_2022_jp.specs.Iso2022JpState.{iso_2022_jp_state as jp_state}
 use Rattle.enc_decoder.specs.Taking.{TakesRun, IsWholeChar}
 use Rattle.enc_decoder.proofs.SegmentationLemmas.{sequences_of-head}
-use Rattle.enc_decoder.proofs.TakingLemmas.{front}
+use Rattle.enc_decoder.proofs.TakingLemmas.{front, takes_both}
 use Rattle.enc_decoder.proofs.PieceLemmas.{takes_pieces, three_of}
 use Rattle.enc_decoder.proofs.FirstSequenceLemmas.{true_or_false}
 use Rattle.enc_decoder_iso_2022_jp.proofs.Iso2022JpLemmas.{skipped_escape}
@@ -131,15 +131,25 @@ after_escape units_of s e n src more before after is_alone some taken =
     }
 
 -- An escape sequence is taken with the pieces after it.
-pub takes_escape : (units_of : ℕ → List ℕ) (c n : Iso2022JpState) (e : Escape) (src rest : List ℕ) (more : ℕ)
-    (before after : Output)
+pub takes_escape : (units_of : ℕ → List ℕ) (c n : Iso2022JpState) (e : Escape) {src rest : List ℕ} {more : ℕ}
+    {before after : Output}
     → c.held ≡ None → n ≡ state_with_held (escape_set e) None → rest ≡ drop 3 src → StandsAlone src e → 0 < more
     → PutsPieces units_of (IsWholeChar jp_rule (set_number n.set)) before after rest more
     → TakesRun units_of jp_state c n src (3 + more) before after
-takes_escape units_of c n e src rest more before after held next back a h p =
-    let t = takes_pieces units_of jp_state n rest more before after (ap (λ (s : Iso2022JpState). bytes_of_held s.held)
-    next) p in
-    let u = subst (λ (m : Iso2022JpState). TakesRun units_of jp_state m n rest more before after) next t in
+takes_escape units_of c n e {src} {rest} {more} {before} {after} held next back a h p =
+    let pieces_taken = takes_pieces units_of jp_state n rest more before after
+    (ap (λ (s : Iso2022JpState). bytes_of_held s.held) next) p in
+    let run_taken = subst (λ (m : Iso2022JpState). TakesRun units_of jp_state m n rest more before after) next
+    pieces_taken in
     subst (λ o. TakesRun units_of jp_state (state_with_held c.set o) n src (3 + more) before after) (sym held)
     (after_escape units_of c.set e n src more before after a h
-    (subst (λ z. TakesRun units_of jp_state (state_with_held (escape_set e) None) n z more before after) back u))
+    (subst (λ z. TakesRun units_of jp_state (state_with_held (escape_set e) None) n z more before after) back
+    run_taken))
+
+-- A run is taken, and another after it.
+pub takes_run_after : {units_of : ℕ → List ℕ} {c m n : Iso2022JpState} {src rest : List ℕ} {read more : ℕ}
+    {before mid after : Output} → rest ≡ drop read src
+    → TakesRun units_of jp_state c m src read before mid → TakesRun units_of jp_state m n rest more mid after
+    → TakesRun units_of jp_state c n src (read + more) before after
+takes_run_after {units_of} {c} {m} {n} {src} {rest} {read} {more} {before} {mid} {after} rest_is first_run next_run =
+    takes_both units_of jp_state c m n src read more before mid after rest rest_is first_run next_run

@@ -128,14 +128,14 @@ shown_or_begun (a ∷ z) = elim (true_or_false (eqb a 0x1B)) [
 
 -- heads that differ
 
-kind_differs : (h k x y : Head) → x ≡ h → y ≡ k → (h.kind ≡ k.kind → ⊥) → x ≡ y → ⊥
-kind_differs h k x y e f n q = n (ap (λ (t : Head). t.kind) (sym e ∙ q ∙ f))
+kind_differs : {h k x y : Head} → x ≡ h → y ≡ k → (h.kind ≡ k.kind → ⊥) → x ≡ y → ⊥
+kind_differs e f n q = n (ap (λ (t : Head). t.kind) (sym e ∙ q ∙ f))
 
-more_differs : (h k x y : Head) → x ≡ h → y ≡ k → (h.more ≡ k.more → ⊥) → x ≡ y → ⊥
-more_differs h k x y e f n q = n (ap (λ (t : Head). t.more) (sym e ∙ q ∙ f))
+more_differs : {h k x y : Head} → x ≡ h → y ≡ k → (h.more ≡ k.more → ⊥) → x ≡ y → ⊥
+more_differs e f n q = n (ap (λ (t : Head). t.more) (sym e ∙ q ∙ f))
 
-not_valid : (h x : Head) → x ≡ h → (h.kind ≡ Valid → ⊥) → x.kind ≡ Valid → ⊥
-not_valid h x e n v = n (ap (λ (t : Head). t.kind) (sym e) ∙ v)
+not_valid : {h x : Head} → x ≡ h → (h.kind ≡ Valid → ⊥) → x.kind ≡ Valid → ⊥
+not_valid e n v = n (ap (λ (t : Head). t.kind) (sym e) ∙ v)
 
 -- the same head with whatever follows k bytes
 determined_at : (set b : ℕ) (z : List ℕ) (n k : ℕ) (h : Head) → k ≡ h.more + n → jp_rule set b z ≡ h → k ≤ length z
@@ -170,20 +170,20 @@ pub begun_by_end : (set : ℕ) (z : List ℕ) → MayBegin (0x1B ∷ z) → IsDe
 begun_by_end set z may_begin =
     let becomes = becomes_escape set (z ++ may_begin.more) may_begin.set may_begin.becomes in
     let malformed_first = no_escape_first set z may_begin.none_yet in record {
-      within = (let k = ap (λ (h : Head). h.more) malformed_first in omega (arith, k));
+      within = (let more_is = ap (λ (h : Head). h.more) malformed_first in omega (arith, more_is));
       more = may_begin.more;
       bytes = may_begin.bytes;
-      other = more_differs _ _ _ _ becomes.1 malformed_first
-          (λ q. let k = escape_is_two_more set may_begin.set becomes.0 in omega (arith, k, q));
-      near = let k = may_begin.short in omega arith;
+      other = more_differs becomes.1 malformed_first
+          (λ q. let two_more = escape_is_two_more set may_begin.set becomes.0 in omega (arith, two_more, q));
+      near = let is_short = may_begin.short in omega arith;
     }
 
 none_looks : (set : ℕ) (z : List ℕ) (n : ℕ) → IsShownBy (0x1B ∷ z) n → designated_set (0x1B ∷ z) ≡ None
     → IsLookahead jp_rule set 0x1B z n
 none_looks set z n is_shown none_begins =
-    let f = no_escape_first set z none_begins in
-    let l = is_shown.there in
-    least n is_shown.before (determined_at set 0x1B z n n _ (omega arith) f (omega arith)
+    let malformed_first = no_escape_first set z none_begins in
+    let bytes_are_there = is_shown.there in
+    least n is_shown.before (determined_at set 0x1B z n n _ (omega arith) malformed_first (omega arith)
     (λ y. no_escape_first set (take n z ++ y) (is_shown.same y ∙ none_begins)))
   where
     least : (n : ℕ) → MayBegin (take n (0x1B ∷ z)) → IsDeterminedWithin jp_rule set 0x1B z n
@@ -191,14 +191,14 @@ none_looks set z n is_shown none_begins =
     least zero m determined_by_n = looks_at_none jp_rule set 0x1B z determined_by_n
     least (suc i) m determined_by_n =
         looks_by jp_rule set 0x1B z i i determined_by_n
-        (let k = ap (λ (h : Head). h.more) (no_escape_first set z none_begins) in
-        omega (arith, k)) (begun_by_end set (take i z) m)
+        (let more_is = ap (λ (h : Head). h.more) (no_escape_first set z none_begins) in
+        omega (arith, more_is)) (begun_by_end set (take i z) m)
 
 none_begins_determined : (set : ℕ) (z : List ℕ) (n : ℕ) → IsShownBy (0x1B ∷ z) n → designated_set (0x1B ∷ z) ≡ None
     → IsDeterminedSoon jp_rule set 0x1B z
 none_begins_determined set z n is_shown none_begins =
-    let k = is_shown.few in inr (
-      not_valid _ _ (no_escape_first set z none_begins) (λ v. cc),
+    let at_most_two = is_shown.few in inr (
+      not_valid (no_escape_first set z none_begins) (λ v. cc),
       inl (n, omega arith, none_looks set z n is_shown none_begins),
     )
 
@@ -208,13 +208,13 @@ pub escape_by_end : (set b c : ℕ) (s : CharacterSet) (z : List ℕ) → set_of
     → IsDeterminedByEnd jp_rule set 0x1B (b ∷ c ∷ z)
 escape_by_end set b c s z names_set may_begin =
     let first = named_first set s b c z false names_set (ap is_some may_begin.none_yet) in
-    let g = named_first set s b c (z ++ may_begin.more) true names_set (ap is_some may_begin.becomes) in
-    let n : (jp_rule set 0x1B (b ∷ c ∷ z)).more ≡ 2 = ap (λ (h : Head). h.more) first in
-    let k = may_begin.short in record {
-      within = omega (arith, n);
+    let followed_first = named_first set s b c (z ++ may_begin.more) true names_set (ap is_some may_begin.becomes) in
+    let two_more : (jp_rule set 0x1B (b ∷ c ∷ z)).more ≡ 2 = ap (λ (h : Head). h.more) first in
+    let is_short = may_begin.short in record {
+      within = omega (arith, two_more);
       more = may_begin.more;
       bytes = may_begin.bytes;
-      other = kind_differs _ _ _ _ g first (λ q. cc);
+      other = kind_differs followed_first first (λ q. cc);
       near = omega arith;
     }
 
@@ -222,27 +222,28 @@ shown_determined : (set b c : ℕ) (s : CharacterSet) (z : List ℕ) (n : ℕ) �
     → IsShownBy z n
     → IsDeterminedWithin jp_rule set 0x1B (b ∷ c ∷ z) (suc n)
 shown_determined set b c s z n names_set is_shown =
-    let a = is_some (designated_set z) in
-    let l = is_shown.there in
-    determined_at set 0x1B (b ∷ c ∷ z) (suc n) (suc (suc (suc n))) (escape_of set s a)
-    (let k = escape_is_two_more set s a in omega (arith, k)) (named_first set s b c z a names_set refl) (omega arith)
-    (λ y. named_first set s b c (take (suc n) z ++ y) a names_set (ap is_some (is_shown.same y)))
+    let another = is_some (designated_set z) in
+    let bytes_are_there = is_shown.there in
+    determined_at set 0x1B (b ∷ c ∷ z) (suc n) (suc (suc (suc n))) (escape_of set s another)
+    (let two_more = escape_is_two_more set s another in omega (arith, two_more))
+    (named_first set s b c z another names_set refl) (omega arith)
+    (λ y. named_first set s b c (take (suc n) z ++ y) another names_set (ap is_some (is_shown.same y)))
 
 named_determined : (set b c : ℕ) (s : CharacterSet) (z : List ℕ) → set_of_escape_bytes b c ≡ Some s
     → IsDeterminedSoon jp_rule set 0x1B (b ∷ c ∷ z)
 named_determined set b c s z names_set =
-    let not_valid_alone = not_valid _ _ (named_first set s b c z _ names_set refl)
+    let not_valid_alone = not_valid (named_first set s b c z _ names_set refl)
     (escape_not_valid set s (is_some (designated_set z))) in
     elim (shown_or_begun z) [
       | inl is_shown ↦ inr (
         not_valid_alone,
         inl (
           suc is_shown.0,
-          (let k = is_shown.1.few in omega arith),
+          (let at_most_two = is_shown.1.few in omega arith),
           looks_by jp_rule set 0x1B (b ∷ c ∷ z) is_shown.0 (suc (suc is_shown.0))
               (shown_determined set b c s z is_shown.0 names_set is_shown.1)
-              (let k = ap (λ (h : Head). h.more) (named_first set s b c z _ names_set refl) in
-              let m = escape_is_two_more set s (is_some (designated_set z)) in omega (arith, k, m))
+              (let more_is = ap (λ (h : Head). h.more) (named_first set s b c z _ names_set refl) in
+              let two_more = escape_is_two_more set s (is_some (designated_set z)) in omega (arith, more_is, two_more))
               (escape_by_end set b c s (take is_shown.0 z) names_set is_shown.1.before),
         ),
       )
@@ -265,7 +266,7 @@ escape_determined : (set : ℕ) (z : List ℕ) → IsDeterminedSoon jp_rule set 
 escape_determined set z = elim (shown_or_begun (0x1B ∷ z)) [
   | inl is_shown ↦ whole_determined set z is_shown.0 is_shown.1
   | inr may_begin ↦ inr (
-    not_valid _ _ (no_escape_first set z may_begin.none_yet) (λ v. cc),
+    not_valid (no_escape_first set z may_begin.none_yet) (λ v. cc),
     inr (begun_by_end set z may_begin),
   )
 ]
@@ -280,12 +281,12 @@ not_a_trail b = refl
 pub lead_by_end : (set b : ℕ) → is_lead_byte (set_of set) b ≡ true → IsDeterminedByEnd jp_rule set b []
 lead_by_end set b leads =
     let first = lead_first set b [] leads in
-    let g = lead_first set b (0x20 ∷ []) leads ∙ lead_and_trail set b 0x20 [] refl
+    let followed_first = lead_first set b (0x20 ∷ []) leads ∙ lead_and_trail set b 0x20 [] refl
     ∙ ap (two_byte_head set) (not_a_trail b) in record {
-      within = (let k = ap (λ (h : Head). h.more) first in omega (arith, k));
+      within = (let more_is = ap (λ (h : Head). h.more) first in omega (arith, more_is));
       more = 0x20 ∷ [];
       bytes = (omega arith, tt);
-      other = more_differs _ _ _ _ g first (λ q. omega arith);
+      other = more_differs followed_first first (λ q. omega arith);
       near = omega arith;
     }
 
@@ -303,17 +304,17 @@ pair_determined set b c z (Some d) is_char leads no_escape =
 
 lead_determined : (set b : ℕ) (z : List ℕ) → is_lead_byte (set_of set) b ≡ true → IsDeterminedSoon jp_rule set b z
 lead_determined set b [] leads =
-    inr (not_valid _ _ (lead_first set b [] leads) (λ v. cc), inr (lead_by_end set b leads))
+    inr (not_valid (lead_first set b [] leads) (λ v. cc), inr (lead_by_end set b leads))
 lead_determined set b (c ∷ z) leads = elim (true_or_false (eqb c 0x1B)) [
   | inl t ↦ (let comes = λ (y : List ℕ). lead_first set b (c ∷ y) leads ∙ lead_alone set b (c ∷ y) t in
       inr (
-        not_valid _ _ (comes z) (λ v. cc),
+        not_valid (comes z) (λ v. cc),
         inl (
           1,
           omega arith,
           looks_by jp_rule set b (c ∷ z) 0 0
               (determined_at set b (c ∷ z) 1 1 _ (omega arith) (comes z) (omega arith) comes)
-              (let k = ap (λ (h : Head). h.more) (comes z) in omega (arith, k)) (lead_by_end set b leads),
+              (let more_is = ap (λ (h : Head). h.more) (comes z) in omega (arith, more_is)) (lead_by_end set b leads),
         ),
       ))
   | inr n ↦ inl (pair_determined set b c z (two_byte_char b c) refl leads n)
@@ -352,8 +353,8 @@ iso_2022_jp_is_lawful = record { lookahead = lookahead_by jp_rule determined; sm
 
 -- Its own bytes do not determine an escape sequence that is skipped: it is another if an escape sequence follows.
 
-skipped_differs : (h k : Head) → h.kind ≡ Skipped → (k.kind ≡ Skipped → ⊥) → h ≡ k → ⊥
-skipped_differs h k s n e = n (ap (λ (t : Head). t.kind) (sym e) ∙ s)
+skipped_differs : {h k : Head} → h.kind ≡ Skipped → (k.kind ≡ Skipped → ⊥) → h ≡ k → ⊥
+skipped_differs s n e = n (ap (λ (t : Head). t.kind) (sym e) ∙ s)
 
 one_byte_not_skipped : (set : ℕ) (found : Option ℕ) → (one_byte_head set found).kind ≡ Skipped → ⊥
 one_byte_not_skipped set None e = cc
@@ -367,29 +368,31 @@ named_not_alone : (set b c : ℕ) (s : CharacterSet) (z : List ℕ) (another : B
     → is_some (designated_set z) ≡ another → (jp_rule set 0x1B (b ∷ c ∷ z)).kind ≡ Skipped
     → IsDeterminedWithin jp_rule set 0x1B (b ∷ c ∷ z) 0 → ⊥
 named_not_alone set b c s z true names_set followed k t =
-    skipped_differs _ _ k (λ q. cc) (named_first set s b c z true names_set followed)
+    skipped_differs k (λ q. cc) (named_first set s b c z true names_set followed)
 named_not_alone set b c s z false names_set followed k t =
     let first = named_first set s b c z false names_set followed in
-    let n : (jp_rule set 0x1B (b ∷ c ∷ z)).more ≡ 2 = ap (λ (x : Head). x.more) first in
-    let y = 0x1B ∷ 0x28 ∷ 0x42 ∷ [] in
-    let g = subst (λ m. jp_rule set 0x1B (take (m + 0) (b ∷ c ∷ z) ++ y) ≡ jp_rule set 0x1B (b ∷ c ∷ z)) n (t.same y) in
-    kind_differs _ _ _ _ (named_first set s b c y true names_set refl) first (λ q. cc) g
+    let two_more : (jp_rule set 0x1B (b ∷ c ∷ z)).more ≡ 2 = ap (λ (x : Head). x.more) first in
+    let next_escape : List ℕ = 0x1B ∷ 0x28 ∷ 0x42 ∷ [] in
+    let heads_agree =
+    subst (λ m. jp_rule set 0x1B (take (m + 0) (b ∷ c ∷ z) ++ next_escape) ≡ jp_rule set 0x1B (b ∷ c ∷ z))
+    two_more (t.same next_escape) in
+    kind_differs (named_first set s b c next_escape true names_set refl) first (λ q. cc) heads_agree
 
 escape_not_alone : (set : ℕ) (z : List ℕ) → (jp_rule set 0x1B z).kind ≡ Skipped
     → IsDeterminedWithin jp_rule set 0x1B z 0 → ⊥
-escape_not_alone set [] is_skipped t = skipped_differs _ _ is_skipped (λ q. cc) (no_escape_first set [] refl)
+escape_not_alone set [] is_skipped t = skipped_differs is_skipped (λ q. cc) (no_escape_first set [] refl)
 escape_not_alone set (b ∷ []) is_skipped t =
-    skipped_differs _ _ is_skipped (λ q. cc) (no_escape_first set (b ∷ []) refl)
+    skipped_differs is_skipped (λ q. cc) (no_escape_first set (b ∷ []) refl)
 escape_not_alone set (b ∷ c ∷ z) is_skipped t = elim (found_or_not (set_of_escape_bytes b c)) [
-  | inl n ↦ skipped_differs _ _ is_skipped (λ q. cc) (no_escape_first set (b ∷ c ∷ z) n)
+  | inl n ↦ skipped_differs is_skipped (λ q. cc) (no_escape_first set (b ∷ c ∷ z) n)
   | inr found ↦ named_not_alone set b c found.0 z (is_some (designated_set z)) found.1 refl is_skipped t
 ]
 
 lead_not_skipped : (set b : ℕ) (z : List ℕ) → is_lead_byte (set_of set) b ≡ true → (jp_rule set b z).kind ≡ Skipped → ⊥
-lead_not_skipped set b [] leads is_skipped = skipped_differs _ _ is_skipped (λ q. cc) (lead_first set b [] leads)
+lead_not_skipped set b [] leads is_skipped = skipped_differs is_skipped (λ q. cc) (lead_first set b [] leads)
 lead_not_skipped set b (c ∷ z) leads is_skipped = elim (true_or_false (eqb c 0x1B)) [
-  | inl t ↦ skipped_differs _ _ is_skipped (λ q. cc) (lead_first set b (c ∷ z) leads ∙ lead_alone set b (c ∷ z) t)
-  | inr n ↦ skipped_differs _ _ is_skipped (two_bytes_not_skipped set (two_byte_char b c))
+  | inl t ↦ skipped_differs is_skipped (λ q. cc) (lead_first set b (c ∷ z) leads ∙ lead_alone set b (c ∷ z) t)
+  | inr n ↦ skipped_differs is_skipped (two_bytes_not_skipped set (two_byte_char b c))
       (lead_first set b (c ∷ z) leads ∙ lead_and_trail set b c z n)
 ]
 
@@ -400,7 +403,7 @@ not_alone set b z is_skipped t = elim (true_or_false (eqb b 0x1B)) [
       (subst (λ (x : ℕ). IsDeterminedWithin jp_rule set x z 0) is_escape t))
   | inr n ↦ elim (true_or_false (is_lead_byte (set_of set) b)) [
     | inl l ↦ lead_not_skipped set b z l is_skipped
-    | inr l ↦ skipped_differs _ _ is_skipped (one_byte_not_skipped set (one_byte_char (set_of set) b))
+    | inr l ↦ skipped_differs is_skipped (one_byte_not_skipped set (one_byte_char (set_of set) b))
         (alone_first set b z l n)
   ]
 ]

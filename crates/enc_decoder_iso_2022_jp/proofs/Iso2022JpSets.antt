@@ -123,9 +123,9 @@ escape_has_set set [] = not_begun set [] refl
 escape_has_set set (a ∷ []) = not_begun set (a ∷ []) refl
 escape_has_set set (a ∷ c ∷ z) = elim (found_or_not (set_of_escape_bytes a c)) [
   | inl n ↦ not_begun set (a ∷ c ∷ z) n
-  | inr found ↦ (let t = is_some (designated_set z) in
-      has_set_by set 0x1B (a ∷ c ∷ z) _ (escape_first set (a ∷ c ∷ z) (Some found.0) t found.1 refl)
-      (escape set a c z found.0 t found.1))
+  | inr found ↦ (let another = is_some (designated_set z) in
+      has_set_by set 0x1B (a ∷ c ∷ z) _ (escape_first set (a ∷ c ∷ z) (Some found.0) another found.1 refl)
+      (escape set a c z found.0 another found.1))
 ]
 
 lead_has_set : (set b : ℕ) (z : List ℕ) → is_lead_byte (set_of set) b ≡ true → HasSetAfter set b z (jp_rule set b z)
@@ -172,19 +172,19 @@ sets set z [] rest whole = ((z, refl), refl)
 sets set [] (s ∷ before) rest whole =
     absurd (none_first s (before ++ rest) (sym (sequences_of-nil jp_rule set) ∙ whole))
 sets set (b ∷ z) (s ∷ before) rest whole =
-    let h : Head = jp_rule set b z in
+    let head : Head = jp_rule set b z in
     let sequences = sym (sequences_of-cons jp_rule set b z) ∙ whole in
-    let of_rest = sets h.set (drop h.more z) before rest
-    (rest_of (head_sequence h b z) s _ (before ++ rest) sequences) in
-    let w = sequence_bytes before in
+    let of_rest = sets head.set (drop head.more z) before rest
+    (rest_of (head_sequence head b z) s _ (before ++ rest) sequences) in
+    let bytes_before = sequence_bytes before in
     subst (λ (t : Sequence). HasSet set (b ∷ z) (t ∷ before))
-    (first_of (head_sequence h b z) s _ (before ++ rest) sequences) (
+    (first_of (head_sequence head b z) s _ (before ++ rest) sequences) (
       (
         of_rest.0.0,
-        ap (λ x. b ∷ x) (sym (take-append-drop h.more z) ∙ ap (λ x. take h.more z ++ x) of_rest.0.1
-            ∙ sym (append_assoc (take h.more z) w of_rest.0.0)),
+        ap (λ x. b ∷ x) (sym (take-append-drop head.more z) ∙ ap (λ x. take head.more z ++ x) of_rest.0.1
+            ∙ sym (append_assoc (take head.more z) bytes_before of_rest.0.0)),
       ),
-      of_rest.1 ∙ has_set_after set b z w of_rest.0.0 of_rest.0.1,
+      of_rest.1 ∙ has_set_after set b z bytes_before of_rest.0.0 of_rest.0.1,
     )
 
 pub sets_are_of_last_escapes : SetsAreOfLastEscapes jp_rule

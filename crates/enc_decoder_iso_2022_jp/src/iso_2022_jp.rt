@@ -1,18 +1,22 @@
 //! The ISO-2022-JP decoder (Encoding Standard 12.2.1).
 
-ghost use Rattle.std.specs.Prelude.{◌≡◌, ℕ, ◌+◌, ◌-◌, ◌<◌, ◌≤◌, true, false, Option, IfSome, IfNone, IsTrue, List, []};
-ghost use Rattle.std.specs.Prelude.{◌∷◌};
+ghost use Rattle.std.specs.Prelude.{◌≡◌, ℕ, ◌+◌, ◌-◌, ◌<◌, ◌≤◌, true, false, Option, IfSome};
+ghost use Rattle.std.specs.Prelude.{IfNone, IsTrue, List, [], ◌∷◌};
 ghost use Rattle.enc_index.specs.Grid.{grid_len, grid_char};
 ghost use Rattle.enc_index.specs.declared.grid.Grid.TheVariants as grids;
-ghost use Rattle.enc_decoder_iso_2022_jp.specs.Iso2022Jp.{set_of_escape_bytes, ascii_char as char_in_ascii};
+ghost use Rattle.enc_decoder_iso_2022_jp.specs.Iso2022Jp.{set_of_escape_bytes};
+ghost use Rattle.enc_decoder_iso_2022_jp.specs.Iso2022Jp.{ascii_char as char_in_ascii};
 ghost use Rattle.enc_decoder_iso_2022_jp.specs.Iso2022Jp.{roman_char as char_in_roman};
 ghost use Rattle.enc_decoder_iso_2022_jp.specs.Iso2022Jp.{katakana_char as char_in_katakana};
-ghost use Rattle.enc_decoder_iso_2022_jp.specs.Iso2022Jp.{one_byte_char as char_alone, is_jis0208_byte as in_jis0208};
-ghost use Rattle.enc_decoder_iso_2022_jp.specs.Iso2022Jp.{is_lead_byte as begins_pair, two_byte_char};
-ghost use Rattle.enc_decoder_iso_2022_jp.specs.Iso2022JpState.{Iso2022JpState, state_with_held, intermediate_byte};
-ghost use Rattle.enc_decoder_iso_2022_jp.specs.Iso2022JpState.{escape_bytes, escape_set, bytes_of_held, CanHold};
-ghost use Rattle.enc_decoder_iso_2022_jp.specs.Iso2022JpState.{CutsOffHeld, char_or_malformed, StandsAlone};
-ghost use Rattle.enc_decoder_iso_2022_jp.specs.Iso2022JpState.{iso_2022_jp_state};
+ghost use Rattle.enc_decoder_iso_2022_jp.specs.Iso2022Jp.{one_byte_char as char_alone};
+ghost use Rattle.enc_decoder_iso_2022_jp.specs.Iso2022Jp.{is_jis0208_byte as in_jis0208};
+ghost use Rattle.enc_decoder_iso_2022_jp.specs.Iso2022Jp.{is_lead_byte as begins_pair};
+ghost use Rattle.enc_decoder_iso_2022_jp.specs.Iso2022Jp.{two_byte_char};
+ghost use Rattle.enc_decoder_iso_2022_jp.specs.Iso2022JpState.{Iso2022JpState, state_with_held};
+ghost use Rattle.enc_decoder_iso_2022_jp.specs.Iso2022JpState.{intermediate_byte, escape_bytes};
+ghost use Rattle.enc_decoder_iso_2022_jp.specs.Iso2022JpState.{escape_set, bytes_of_held, CanHold};
+ghost use Rattle.enc_decoder_iso_2022_jp.specs.Iso2022JpState.{CutsOffHeld, char_or_malformed};
+ghost use Rattle.enc_decoder_iso_2022_jp.specs.Iso2022JpState.{StandsAlone, iso_2022_jp_state};
 ghost use Rattle.enc_decoder.specs.CodecLaw.{IsNextSequence, HandlesByte, IsNextOfPending};
 ghost use Rattle.enc_decoder.specs.Taking.{TakesRun};
 

@@ -1,7 +1,8 @@
 //! Laws over the definitions: contracts of functions that do nothing.
 
 ghost use Rattle.enc_decoder_iso_2022_jp.specs.Iso2022Jp.{iso_2022_jp_rule};
-ghost use Rattle.enc_decoder_iso_2022_jp.specs.Iso2022JpLaws.{SetsAreOfLastEscapes, HasSkippedLookahead};
+ghost use Rattle.enc_decoder_iso_2022_jp.specs.Iso2022JpLaws.{SetsAreOfLastEscapes};
+ghost use Rattle.enc_decoder_iso_2022_jp.specs.Iso2022JpLaws.{HasSkippedLookahead};
 
 /// In ISO-2022-JP the last escape sequence before determines the designated character set.
 ///

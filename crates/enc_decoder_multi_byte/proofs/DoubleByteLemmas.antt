@@ -19,13 +19,13 @@ one_is_text c = record { some = λ e. cc; small = one_small c }
 
 pub char_is_text : (c : Option ℕ) (text : Text) → text_of_char c ≡ Some text → IsPairText text
 char_is_text None text e = cc
-char_is_text (Some c) text e = subst IsPairText (let f : One c ≡ text = cc in f) (one_is_text c)
+char_is_text (Some c) text e = subst IsPairText (let text_is : One c ≡ text = cc in text_is) (one_is_text c)
 
 -- the first byte
 
 single_is_text : (c : Option ℕ) (text : Text) → single_prefix c ≡ Complete text → IsPairText text
 single_is_text None text e = cc
-single_is_text (Some c) text e = subst IsPairText (let f : One c ≡ text = cc in f) (one_is_text c)
+single_is_text (Some c) text e = subst IsPairText (let text_is : One c ≡ text = cc in text_is) (one_is_text c)
 
 single_malformed : (c : Option ℕ) (n : ℕ) → single_prefix c ≡ Malformed n → n ≡ 1
 single_malformed None n e = cc
@@ -45,7 +45,8 @@ pub first_is_basic : (leads : Bool) (single : Option ℕ) (text : Text) → ((c 
     → IsBmpText (text_chars text)
 first_is_basic true single text b e = absurd (cc)
 first_is_basic false None text b e = absurd (cc)
-first_is_basic false (Some c) text b e = subst (λ t. IsBmpText (text_chars t)) (let f : One c ≡ text = cc in f) (basic_by c (b c refl))
+first_is_basic false (Some c) text b e =
+    subst (λ t. IsBmpText (text_chars t)) (let text_is : One c ≡ text = cc in text_is) (basic_by c (b c refl))
 
 pub ascii_is_basic : (b c : ℕ) → cond (nat_lt b 0x80) (Some b) None ≡ Some c → c < 0x1_0000
 ascii_is_basic b c e = grind (arith, nat_tests)
@@ -57,7 +58,8 @@ trail_text n b None text e = cc
 trail_text n b (Some t) text e = cc
 
 pub trail_malformed : (n b : ℕ) (t : Option Text) (m : ℕ) → trail_prefix n b t ≡ Malformed m → (n ≤ m) × (m ≤ n + 1)
-trail_malformed n b None m e = either (nat_lt b 0x80) (let f : cond (nat_lt b 0x80) n (n + 1) ≡ m = cc in f)
+trail_malformed n b None m e =
+    either (nat_lt b 0x80) (let len_is : cond (nat_lt b 0x80) n (n + 1) ≡ m = cc in len_is)
   where
     either : (t : Bool) → cond t n (n + 1) ≡ m → (n ≤ m) × (m ≤ n + 1)
     either true f = (omega arith, omega arith)
@@ -97,7 +99,7 @@ double_byte_laws is_lead single pair laws =
     malformed : (front : List ℕ) (n : ℕ) → double_byte_prefix is_lead single pair front ≡ Malformed n → (0 < n) × (n ≤ length front)
     malformed [] n is_malformed = cc
     malformed (a ∷ []) n is_malformed =
-        let f = first_malformed (is_lead a) (single a) n is_malformed in (omega arith, omega arith)
+        let len_is_one = first_malformed (is_lead a) (single a) n is_malformed in (omega arith, omega arith)
     malformed (a ∷ b ∷ z) n is_malformed =
         let form = trail_malformed 1 b (pair a b) n is_malformed in (omega (arith, form.0), omega (arith, form.1))
 

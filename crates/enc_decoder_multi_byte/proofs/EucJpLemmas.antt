@@ -22,7 +22,8 @@ texts (a ∷ b ∷ c ∷ z) text complete = char_is_text (euc_jp_triple_char b c
 
 malformed : (front : List ℕ) (n : ℕ) → euc_jp_prefix front ≡ Malformed n → (0 < n) × (n ≤ length front)
 malformed [] n is_malformed = cc
-malformed (a ∷ []) n is_malformed = let f = first_malformed (is_euc_jp_lead a) (euc_jp_single_char a) n is_malformed in
+malformed (a ∷ []) n is_malformed =
+    let len_is_one = first_malformed (is_euc_jp_lead a) (euc_jp_single_char a) n is_malformed in
     (omega arith, omega arith)
 malformed (a ∷ b ∷ []) n is_malformed =
     let form = trail_malformed 1 b (text_of_char (euc_jp_pair_char a b)) n

@@ -18,11 +18,11 @@ use Rattle.enc_decoder_multi_byte.proofs.DoubleByteLemmas.{unless_complete, unle
 four_is_text : (t : Bool) (c : Option ℕ) (text : Text) → cond t (four_byte_prefix c) (Malformed 1) ≡ Complete text → IsPairText text
 four_is_text false c text e = cc
 four_is_text true None text e = cc
-four_is_text true (Some c) text e = subst IsPairText (let f : One c ≡ text = cc in f) (one_is_text c)
+four_is_text true (Some c) text e = subst IsPairText (let text_is : One c ≡ text = cc in text_is) (one_is_text c)
 
 four_malformed : (t : Bool) (c : Option ℕ) (n : ℕ) → cond t (four_byte_prefix c) (Malformed 1) ≡ Malformed n → (0 < n) × (n ≤ 4)
-four_malformed false c n e = let f : 1 ≡ n = cc in (omega arith, omega arith)
-four_malformed true None n e = let f : 4 ≡ n = cc in (omega arith, omega arith)
+four_malformed false c n e = let len_is_one : 1 ≡ n = cc in (omega arith, omega arith)
+four_malformed true None n e = let len_is_four : 4 ≡ n = cc in (omega arith, omega arith)
 four_malformed true (Some c) n e = cc
 
 four_finished : (t : Bool) (c : Option ℕ) → cond t (four_byte_prefix c) (Malformed 1) ≢ Incomplete
@@ -35,22 +35,23 @@ texts [] text complete = cc
 texts (a ∷ []) text complete = first_is_text (is_gb18030_lead a) (gb18030_single_char a) text complete
 texts (a ∷ b ∷ []) text complete =
     char_is_text (gb18030_pair_char a b) text (trail_text 1 b _ text (unless_complete (is_digit b) _ text complete))
-texts (a ∷ b ∷ c ∷ []) text complete = let f = unless_complete (is_gb18030_lead c) (Malformed 1) text complete in cc
+texts (a ∷ b ∷ c ∷ []) text complete =
+    let malformed_and_complete = unless_complete (is_gb18030_lead c) (Malformed 1) text complete in cc
 texts (a ∷ b ∷ c ∷ d ∷ z) text complete =
     four_is_text (is_digit d) (ranges_code_point (four_byte_pointer a b c d)) text complete
 
 malformed : (front : List ℕ) (n : ℕ) → gb18030_prefix front ≡ Malformed n → (0 < n) × (n ≤ length front)
 malformed [] n is_malformed = cc
 malformed (a ∷ []) n is_malformed =
-    let f = first_malformed (is_gb18030_lead a) (gb18030_single_char a) n is_malformed in
+    let len_is_one = first_malformed (is_gb18030_lead a) (gb18030_single_char a) n is_malformed in
     (omega arith, omega arith)
 malformed (a ∷ b ∷ []) n is_malformed =
     let form = trail_malformed 1 b (text_of_char (gb18030_pair_char a b)) n
     (unless_malformed (is_digit b) _ n is_malformed) in
     (omega (arith, form.0), omega (arith, form.1))
 malformed (a ∷ b ∷ c ∷ []) n is_malformed =
-    let f = unless_malformed (is_gb18030_lead c) (Malformed 1) n is_malformed in let g : 1 ≡ n =
-    cc in (omega arith, omega arith)
+    let same_prefix = unless_malformed (is_gb18030_lead c) (Malformed 1) n is_malformed in
+    let len_is_one : 1 ≡ n = cc in (omega arith, omega arith)
 malformed (a ∷ b ∷ c ∷ d ∷ z) n is_malformed =
     let form = four_malformed (is_digit d) (ranges_code_point (four_byte_pointer a b c d)) n is_malformed in
     (form.0, omega (arith, form.1))

@@ -18,6 +18,7 @@ use Rattle.enc_decoder.specs.declared.byte_codec.Emission.{Emission}
 use Rattle.enc_decoder.specs.declared.byte_codec.HandlerResult.TheVariants.{Continue, Emit}
 use Rattle.enc_decoder_multi_byte.specs.declared.multi_byte.Prefix.{Prefix}
 use Rattle.enc_decoder_multi_byte.specs.declared.multi_byte.Prefix.TheVariants.{Incomplete}
+use Rattle.enc_decoder.specs.Sequence.{Sequence}
 use Rattle.enc_decoder.specs.Segmentation.{sequences_of}
 use Rattle.enc_decoder.specs.CodecState.{CodecState}
 use Rattle.enc_decoder.specs.CodecLaw.{text_chars, IsNextSequence, HandlesByte, IsNextOfPending, IsNextAtEnd}
@@ -47,92 +48,104 @@ first_and_rest (b ∷ z) a e = cc
 
 module _ (prefix : List ℕ → Prefix) (laws : ArePrefixes prefix) {C : Type 0} (state : C → CodecState) (c next : C)
     (p : List ℕ) (now : state c ≡ multi_byte_state prefix p) where
+  -- a sequence of these bytes, and those of the bytes that are left
+  abbrev sequence_then : List ℕ → List ℕ → Kind → List ℕ → List Sequence
+  sequence_then bytes text kind left =
+      record { bytes = bytes; text = text; kind = kind; set = 0 } ∷ sequences_of (multi_byte_rule prefix) 0 left
+
   rule_stays : (q : List ℕ) → state next ≡ multi_byte_state prefix q → (state next).rule ≡ (state c).rule
   rule_stays q then = ap (λ (s : CodecState). s.rule) then ∙ sym (ap (λ (s : CodecState). s.rule) now)
 
   -- the pending bytes show what the first of them are
-  pub shows_pending : (may_follow : List ℕ → Type 0) (w : List ℕ) (x : ℕ) (rest : List ℕ) (n len : ℕ) (text : Text) (kind : Kind)
-      → p ≡ w ++ x ∷ rest → AreIncomplete prefix [] w → Settles prefix (w ++ x ∷ []) n text kind → length p ≤ 3 → len ≡ n
+  pub shows_pending : {may_follow : List ℕ → Type 0} (w : List ℕ) (x : ℕ) (rest : List ℕ) {n len : ℕ} {text : Text}
+      {kind : Kind}
+      → p ≡ w ++ x ∷ rest → AreIncomplete prefix [] w → Settles prefix (w ++ x ∷ []) n text kind → length p ≤ 3
+      → len ≡ n
       → state next ≡ multi_byte_state prefix (drop n p)
       → IsNextSequence state c may_follow []
       (record { text = text; kind = kind; len = len; takes_byte = false; next = next })
-  shows_pending may_follow w x rest n len text kind parts u settles l m then =
+  shows_pending {may_follow} w x rest {n} {len} {text} {kind} parts u settles l m then =
       let front_and_rest : p ≡ (w ++ x ∷ []) ++ rest = parts ∙ sym (append_assoc w (x ∷ []) rest) in
       let lengths : length p ≡ length (w ++ x ∷ []) + length rest =
       ap length front_and_rest ∙ length-append (w ++ x ∷ []) rest in
-      let t : take n p ≡ take n (w ++ x ∷ []) = ap (take n) front_and_rest
+      let taken_is : take n p ≡ take n (w ++ x ∷ []) = ap (take n) front_and_rest
       ∙ take-append-le n (w ++ x ∷ []) rest settles.own in
-      let d : drop n p ≡ drop n (w ++ x ∷ []) ++ rest = ap (drop n) front_and_rest
+      let left_is : drop n p ≡ drop n (w ++ x ∷ []) ++ rest = ap (drop n) front_and_rest
       ∙ drop-append-le n (w ++ x ∷ []) rest settles.own in
-      let g : length (take n p) ≡ n = length-take-le n p (omega (arith, lengths, settles.own)) in
-      let h : length (drop n p) ≤ 3 = omega (arith, length-drop n p) in
+      let taken_length : length (take n p) ≡ n = length-take-le n p (omega (arith, lengths, settles.own)) in
+      let few_left : length (drop n p) ≤ 3 = omega (arith, length-drop n p) in
       shows_before state c next text kind len may_follow (take n p) (rule_stays _ then)
-      (ap (λ (s : CodecState). s.pending) now ∙ sym (take-append-drop n p) ∙ ap (λ y. take n p ++ y) (sym (ap (λ (s : CodecState). s.pending) then)))
-      (m ∙ sym g) (omega (arith, settles.some)) settles.no_escape
+      (ap (λ (s : CodecState). s.pending) now ∙ sym (take-append-drop n p)
+      ∙ ap (λ y. take n p ++ y) (sym (ap (λ (s : CodecState). s.pending) then)))
+      (m ∙ sym taken_length) (omega (arith, settles.some)) settles.no_escape
       (λ b. (
         settles.replaced b,
-        (let i = ap (λ (s : CodecState). length s.pending) then in
+        (let pending_length = ap (λ (s : CodecState). length s.pending) then in
             (omega (arith, lengths, settles.own), omega arith, omega (arith, lengths, settles.own))),
       ))
       (λ y _. rw (now, then)
       (ap (λ z. sequences_of (multi_byte_rule prefix) 0 (z ++ y)) parts
       ∙ ap (sequences_of (multi_byte_rule prefix) 0) (append_assoc w (x ∷ rest) y)
       ∙ settled_first prefix 0 w x (rest ++ y) n text kind u settles
-      ∙ ap (λ b. record { bytes = b; text = text_chars text; kind = kind; set = 0 } ∷ sequences_of (multi_byte_rule prefix) 0 (drop n (w ++ x ∷ []) ++ (rest ++ y))) (sym t)
-      ∙ ap (λ z. record { bytes = take n p; text = text_chars text; kind = kind; set = 0 } ∷ sequences_of (multi_byte_rule prefix) 0 z)
-      (sym (append_assoc (drop n (w ++ x ∷ [])) rest y) ∙ ap (λ z. z ++ y) (sym d))))
+      ∙ ap (λ b. sequence_then b (text_chars text) kind (drop n (w ++ x ∷ []) ++ (rest ++ y))) (sym taken_is)
+      ∙ ap (λ z. sequence_then (take n p) (text_chars text) kind z)
+      (sym (append_assoc (drop n (w ++ x ∷ [])) rest y) ∙ ap (λ z. z ++ y) (sym left_is))))
 
   -- the byte after them is the last of a sequence
-  pub shows_byte_with : (b n len : ℕ) (text : Text) (kind : Kind) → AreIncomplete prefix [] p → Settles prefix (p ++ b ∷ []) n text kind
-      → length p ≤ 3 → length p < n → len ≡ n → state next ≡ multi_byte_state prefix []
+  pub shows_byte_with : (b : ℕ) {n len : ℕ} {text : Text} {kind : Kind} → AreIncomplete prefix [] p
+      → Settles prefix (p ++ b ∷ []) n text kind → length p ≤ 3 → length p < n → len ≡ n
+      → state next ≡ multi_byte_state prefix []
       → HandlesByte state c b (Emit (record { text = text; kind = kind; len = len; takes_byte = true; next = next }))
-  shows_byte_with b n len text kind u settles l k m then =
+  shows_byte_with b {n} {len} {text} {kind} u settles l k m then =
       let one_longer : length (p ++ b ∷ []) ≡ length p + 1 = length-append p (b ∷ []) in
       let is_all : n ≡ length (p ++ b ∷ []) = omega (arith, settles.own, one_longer) in
-      let t : take n (p ++ b ∷ []) ≡ p ++ b ∷ [] = ap (λ i. take i (p ++ b ∷ [])) is_all ∙ take-length (p ++ b ∷ []) in
-      let d : drop n (p ++ b ∷ []) ≡ [] = drop_of_length-le (p ++ b ∷ []) (omega arith) in
+      let taken_is : take n (p ++ b ∷ []) ≡ p ++ b ∷ [] =
+      ap (λ i. take i (p ++ b ∷ [])) is_all ∙ take-length (p ++ b ∷ []) in
+      let none_left : drop n (p ++ b ∷ []) ≡ [] = drop_of_length-le (p ++ b ∷ []) (omega arith) in
       shows_with state c next text kind len b (rule_stays _ then) (ap (λ (s : CodecState). s.pending) then)
       (m ∙ is_all ∙ one_longer ∙ ap (λ (s : CodecState). length s.pending + 1) (sym now)) settles.no_escape
       (λ i. (settles.replaced i, omega (arith, one_longer)))
       (λ z. rw (now, then)
       (settled_first prefix 0 p b z n text kind u settles
-      ∙ ap (λ y. record { bytes = y; text = text_chars text; kind = kind; set = 0 } ∷ sequences_of (multi_byte_rule prefix) 0 (drop n (p ++ b ∷ []) ++ z)) t
-      ∙ ap (λ y. record { bytes = p ++ b ∷ []; text = text_chars text; kind = kind; set = 0 } ∷ sequences_of (multi_byte_rule prefix) 0 (y ++ z)) d))
+      ∙ ap (λ y. sequence_then y (text_chars text) kind (drop n (p ++ b ∷ []) ++ z)) taken_is
+      ∙ ap (λ y. sequence_then (p ++ b ∷ []) (text_chars text) kind (y ++ z)) none_left))
 
   -- the byte after them shows that the first of them are malformed, and is not one of those
-  pub shows_byte_before : (b n len : ℕ) (text : Text) (kind : Kind) → AreIncomplete prefix [] p → Settles prefix (p ++ b ∷ []) n text kind
-      → length p ≤ 3 → n ≤ length p → len ≡ n → state next ≡ multi_byte_state prefix (drop n p)
+  pub shows_byte_before : (b : ℕ) {n len : ℕ} {text : Text} {kind : Kind} → AreIncomplete prefix [] p
+      → Settles prefix (p ++ b ∷ []) n text kind → length p ≤ 3 → n ≤ length p → len ≡ n
+      → state next ≡ multi_byte_state prefix (drop n p)
       → HandlesByte state c b (Emit (record { text = text; kind = kind; len = len; takes_byte = false; next = next }))
-  shows_byte_before b n len text kind u settles l is_pending m then =
-      let t : take n (p ++ b ∷ []) ≡ take n p = take-append-le n p (b ∷ []) is_pending in
-      let d : drop n (p ++ b ∷ []) ≡ drop n p ++ b ∷ [] = drop-append-le n p (b ∷ []) is_pending in
-      let g : length (take n p) ≡ n = length-take-le n p is_pending in
-      let h : length (drop n p) ≤ 3 = omega (arith, length-drop n p) in
+  shows_byte_before b {n} {len} {text} {kind} u settles l is_pending m then =
+      let taken_is : take n (p ++ b ∷ []) ≡ take n p = take-append-le n p (b ∷ []) is_pending in
+      let left_is : drop n (p ++ b ∷ []) ≡ drop n p ++ b ∷ [] = drop-append-le n p (b ∷ []) is_pending in
+      let taken_length : length (take n p) ≡ n = length-take-le n p is_pending in
+      let few_left : length (drop n p) ≤ 3 = omega (arith, length-drop n p) in
       shows_at state c next text kind len b (take n p) (rule_stays _ then)
-      (ap (λ (s : CodecState). s.pending) now ∙ sym (take-append-drop n p) ∙ ap (λ y. take n p ++ y) (sym (ap (λ (s : CodecState). s.pending) then)))
-      (m ∙ sym g) (omega (arith, settles.some)) settles.no_escape
+      (ap (λ (s : CodecState). s.pending) now ∙ sym (take-append-drop n p)
+      ∙ ap (λ y. take n p ++ y) (sym (ap (λ (s : CodecState). s.pending) then)))
+      (m ∙ sym taken_length) (omega (arith, settles.some)) settles.no_escape
       (λ i. (
         settles.replaced i,
-        (let j = ap (λ (s : CodecState). length s.pending) then in
+        (let pending_length = ap (λ (s : CodecState). length s.pending) then in
             (omega arith, omega arith, omega (arith, length-drop n p))),
       ))
       (λ z. rw (now, then)
       (settled_first prefix 0 p b z n text kind u settles
-      ∙ ap (λ y. record { bytes = y; text = text_chars text; kind = kind; set = 0 } ∷ sequences_of (multi_byte_rule prefix) 0 (drop n (p ++ b ∷ []) ++ z)) t
-      ∙ ap (λ y. record { bytes = take n p; text = text_chars text; kind = kind; set = 0 } ∷ sequences_of (multi_byte_rule prefix) 0 y)
-      (ap (λ y. y ++ z) d ∙ append_assoc (drop n p) (b ∷ []) z)))
+      ∙ ap (λ y. sequence_then y (text_chars text) kind (drop n (p ++ b ∷ []) ++ z)) taken_is
+      ∙ ap (λ y. sequence_then (take n p) (text_chars text) kind y)
+      (ap (λ y. y ++ z) left_is ∙ append_assoc (drop n p) (b ∷ []) z)))
 
   -- it shows one or the other
-  pub shows_byte : (b n len : ℕ) (text : Text) (kind : Kind) (takes : Bool) → takes ≡ nat_lt (length p) n
+  pub shows_byte : (b : ℕ) {n len : ℕ} {text : Text} {kind : Kind} (takes : Bool) → takes ≡ nat_lt (length p) n
       → AreIncomplete prefix [] p → Settles prefix (p ++ b ∷ []) n text kind → length p ≤ 3 → len ≡ n
       → state next ≡ multi_byte_state prefix (drop n p)
       → HandlesByte state c b (Emit (record { text = text; kind = kind; len = len; takes_byte = takes; next = next }))
-  shows_byte b n len text kind true e are_incomplete settles few is_length then =
-      let k : length p < n = grind (arith, nat_tests) in
-      shows_byte_with b n len text kind are_incomplete settles few k is_length
+  shows_byte b {n} true e are_incomplete settles few is_length then =
+      let is_longer : length p < n = grind (arith, nat_tests) in
+      shows_byte_with b are_incomplete settles few is_longer is_length
       (then ∙ ap (multi_byte_state prefix) (drop_of_length-le p (omega arith)))
-  shows_byte b n len text kind false e are_incomplete settles few is_length then =
-      shows_byte_before b n len text kind are_incomplete settles few (grind (arith, nat_tests)) is_length then
+  shows_byte b false e are_incomplete settles few is_length then =
+      shows_byte_before b are_incomplete settles few (grind (arith, nat_tests)) is_length then
 
   -- it is held
   pub waits : (b : ℕ) → AreIncomplete prefix [] p → prefix (p ++ b ∷ []) ≡ Incomplete → state next ≡ multi_byte_state prefix (p ++ b ∷ [])
@@ -153,28 +166,27 @@ module _ (prefix : List ℕ → Prefix) (laws : ArePrefixes prefix) {C : Type 0}
       → IsNextAtEnd state c (Some (record { text = Character 0xFFFD; kind = Malformed; len = len; takes_byte = false; next = next }))
   left_over len u s l m then = (
     shows_before state c next (Character 0xFFFD) Malformed len _ p (rule_stays _ then)
-        (ap (λ (s : CodecState). s.pending) now ∙ sym (append-nil p) ∙ ap (λ y. p ++ y) (sym (ap (λ (s : CodecState). s.pending) then)))
+        (ap (λ (s : CodecState). s.pending) now ∙ sym (append-nil p)
+        ∙ ap (λ y. p ++ y) (sym (ap (λ (s : CodecState). s.pending) then)))
         m (omega arith) refl
-        (λ _. (refl, (let j = ap (λ (s : CodecState). length s.pending) then in (omega arith, omega arith, omega arith))))
+        (λ _. (
+          refl,
+          (let pending_length = ap (λ (s : CodecState). length s.pending) then in
+              (omega arith, omega arith, omega arith)),
+        ))
         (λ y ends. rw (now, then)
         (ap (λ z. sequences_of (multi_byte_rule prefix) 0 (p ++ z)) ends
         ∙ ap (sequences_of (multi_byte_rule prefix) 0) (append-nil p) ∙ malformed_first p u s
-        ∙ ap (λ z. record {
-          bytes = p;
-          text = 0xFFFD ∷ [];
-          kind = Malformed;
-          set = 0;
-        } ∷ sequences_of (multi_byte_rule prefix) 0 z) (sym ends))),
+        ∙ ap (λ z. sequence_then p (0xFFFD ∷ []) Malformed z) (sym ends))),
     refl,
   )
     where
       malformed_first : (p : List ℕ) → AreIncomplete prefix [] p → 0 < length p
-          → sequences_of (multi_byte_rule prefix) 0 p
-          ≡ record { bytes = p; text = 0xFFFD ∷ []; kind = Malformed; set = 0 } ∷ sequences_of (multi_byte_rule prefix) 0 []
+          → sequences_of (multi_byte_rule prefix) 0 p ≡ sequence_then p (0xFFFD ∷ []) Malformed []
       malformed_first [] u s = absurd (omega arith)
       malformed_first (a ∷ w) u s =
-          let m : length (a ∷ w) - 1 ≡ length w = omega arith in
+          let rest_length : length (a ∷ w) - 1 ≡ length w = omega arith in
           sequences_of-head (multi_byte_rule prefix) 0 a w _ (all_malformed prefix 0 a w u)
-          ∙ ap (λ i. record { bytes = a ∷ take i w; text = 0xFFFD ∷ []; kind = Malformed; set = 0 } ∷ sequences_of (multi_byte_rule prefix) 0 (drop i w)) m
-          ∙ ap (λ y. record { bytes = a ∷ y; text = 0xFFFD ∷ []; kind = Malformed; set = 0 } ∷ sequences_of (multi_byte_rule prefix) 0 (drop (length w) w)) (take-length w)
-          ∙ ap (λ y. record { bytes = a ∷ w; text = 0xFFFD ∷ []; kind = Malformed; set = 0 } ∷ sequences_of (multi_byte_rule prefix) 0 y) (drop-length w)
+          ∙ ap (λ i. sequence_then (a ∷ take i w) (0xFFFD ∷ []) Malformed (drop i w)) rest_length
+          ∙ ap (λ y. sequence_then (a ∷ y) (0xFFFD ∷ []) Malformed (drop (length w) w)) (take-length w)
+          ∙ ap (λ y. sequence_then (a ∷ w) (0xFFFD ∷ []) Malformed y) (drop-length w)

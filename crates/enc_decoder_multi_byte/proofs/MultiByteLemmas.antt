@@ -49,8 +49,10 @@ module _ (prefix : List ℕ → Prefix) where
   unfolding multi_byte_rule
   rule_at set [] c z b x are_incomplete e = cc
   rule_at set (a ∷ w) c z b x are_incomplete e =
-      let f : b ≡ a = cc in let g : x ≡ w ++ c ∷ z = cc in
-      ap (λ n. prefix_head prefix set (n ∷ []) (prefix (n ∷ [])) x) f ∙ ap (λ t. prefix_head prefix set (a ∷ []) (prefix (a ∷ [])) t) g
+      let same_first : b ≡ a = cc in
+      let same_rest : x ≡ w ++ c ∷ z = cc in
+      ap (λ n. prefix_head prefix set (n ∷ []) (prefix (n ∷ [])) x) same_first
+      ∙ ap (λ t. prefix_head prefix set (a ∷ []) (prefix (a ∷ [])) t) same_rest
       ∙ ap (λ r. prefix_head prefix set (a ∷ []) r (w ++ c ∷ z)) are_incomplete.0
       ∙ passes set (a ∷ []) w (c ∷ z) are_incomplete.1
 
@@ -85,12 +87,12 @@ module _ (prefix : List ℕ → Prefix) where
       → AreIncomplete prefix [] w → Settles (w ++ c ∷ []) n text kind → b ∷ x ≡ w ++ c ∷ z
       → sequences_of (multi_byte_rule prefix) set (b ∷ x)
       ≡ record { bytes = take n (b ∷ x); text = text_chars text; kind = kind; set = set } ∷ sequences_of (multi_byte_rule prefix) set (drop n (b ∷ x))
-  settled_sequences set w c z zero text kind b x u settles e = let f = settles.some in absurd (omega arith)
+  settled_sequences set w c z zero text kind b x u settles e = let some_bytes = settles.some in absurd (omega arith)
   settled_sequences set w c z (suc n) text kind b x u settles e =
-      let m : suc n - 1 ≡ n = omega arith in
+      let one_less : suc n - 1 ≡ n = omega arith in
       sequences_of-head (multi_byte_rule prefix) set b x _
       (rule_at set w c z b x u e ∙ settles.head set z
-      ∙ ap (λ k. record { more = k; text = text_chars text; kind = kind; set = set }) m)
+      ∙ ap (λ k. record { more = k; text = text_chars text; kind = kind; set = set }) one_less)
 
   pub settled_first : (set : ℕ) (w : List ℕ) (c : ℕ) (z : List ℕ) (n : ℕ) (text : Text) (kind : Kind)
       → AreIncomplete prefix [] w → Settles (w ++ c ∷ []) n text kind

@@ -44,11 +44,15 @@ module _ (prefix : List ℕ → Prefix) (laws : ArePrefixes prefix) where
     small = (laws.texts front text front_is).small;
   }
   has_form set front (Malformed n) z front_is =
-      let l = (laws.malformed front n front_is).1 in malformed_has_form _ set n (omega arith)
+      let within_front = (laws.malformed front n front_is).1 in malformed_has_form _ set n (omega arith)
   has_form set front Incomplete [] front_is = malformed_has_form _ set (length front) (omega arith)
   has_form set front Incomplete (c ∷ z) front_is =
       let form = has_form set (front ++ c ∷ []) (prefix (front ++ c ∷ [])) z refl in
-      record { within = let w = form.within in longer front c z _ w; some = form.some; small = form.small }
+      record {
+        within = let rest_within = form.within in longer front c z _ rest_within;
+        some = form.some;
+        small = form.small;
+      }
     where
       longer : (front : List ℕ) (c : ℕ) (z : List ℕ) (n : ℕ) → n ≤ (length (front ++ c ∷ []) - 1) + length z
           → n ≤ (length front - 1) + length (c ∷ z)
@@ -57,7 +61,7 @@ module _ (prefix : List ℕ → Prefix) (laws : ArePrefixes prefix) where
 
   within : (set b : ℕ) (z : List ℕ) → (multi_byte_rule prefix set b z).more ≤ length z
   unfolding multi_byte_rule
-  within set b z = let w = (has_form set (b ∷ []) (prefix (b ∷ [])) z refl).within in omega arith
+  within set b z = let head_within = (has_form set (b ∷ []) (prefix (b ∷ [])) z refl).within in omega arith
 
   pub multi_byte_has_texts : HasTexts (multi_byte_rule prefix)
   unfolding multi_byte_rule
@@ -69,8 +73,8 @@ module _ (prefix : List ℕ → Prefix) (laws : ArePrefixes prefix) where
 
   -- incomplete bytes at the end of the input
 
-  more_differs : (h k x y : Head) → x ≡ h → y ≡ k → (h.more ≡ k.more → ⊥) → x ≡ y → ⊥
-  more_differs h k x y e f n q = n (ap (λ (t : Head). t.more) (sym e ∙ q ∙ f))
+  more_differs : {h k x y : Head} → x ≡ h → y ≡ k → (h.more ≡ k.more → ⊥) → x ≡ y → ⊥
+  more_differs e f n q = n (ap (λ (t : Head). t.more) (sym e ∙ q ∙ f))
 
   all_incomplete : (a : ℕ) (w : List ℕ) → AreIncomplete prefix [] (a ∷ w) → prefix (a ∷ w) ≡ Incomplete
   all_incomplete a w u = still_incomplete prefix [] (a ∷ w) laws.nothing u
@@ -80,18 +84,18 @@ module _ (prefix : List ℕ → Prefix) (laws : ArePrefixes prefix) where
   by_end set a w are_incomplete =
       let malformed = laws.can_be_malformed (a ∷ w) (omega arith) (all_incomplete a w are_incomplete) in
       let settles = settles_malformed prefix laws ((a ∷ w) ++ malformed.byte ∷ []) malformed.len malformed.malformed in
-      let o = malformed.other in
-      let p = settles.some in
+      let len_differs = malformed.other in
+      let some_bytes = settles.some in
       record {
         within = within set a w;
         more = malformed.byte ∷ [];
         bytes = (malformed.is_byte, tt);
-        other = more_differs _ _ _ _
+        other = more_differs
             (rule_at prefix set (a ∷ w) malformed.byte [] a (w ++ malformed.byte ∷ []) are_incomplete refl
             ∙ settles.head set [])
             (all_malformed prefix set a w are_incomplete)
-            (λ e. o (omega arith));
-        near = let e = ap (λ (h : Head). h.more) (all_malformed prefix set a w are_incomplete) in omega arith;
+            (λ e. len_differs (omega arith));
+        near = let more_is = ap (λ (h : Head). h.more) (all_malformed prefix set a w are_incomplete) in omega arith;
       }
 
   pub undetermined : (v : CodecState) (w : List ℕ) → v ≡ multi_byte_state prefix w → AreIncomplete prefix [] w
@@ -118,16 +122,18 @@ module _ (prefix : List ℕ → Prefix) (laws : ArePrefixes prefix) where
       → AreIncomplete prefix [] w → b ∷ x ≡ w ++ c ∷ z → Settles prefix (w ++ c ∷ []) n text kind
       → IsDeterminedWithin (multi_byte_rule prefix) set b x (length (w ++ c ∷ []) - n)
   settled_determined set w c z b x n text kind are_incomplete parts settles =
-      let m : length (w ++ c ∷ []) ≡ length w + 1 = length-append w (c ∷ []) in
+      let one_longer : length (w ++ c ∷ []) ≡ length w + 1 = length-append w (c ∷ []) in
       let own_and_rest : (n - 1) + (length (w ++ c ∷ []) - n) ≡ length w =
-      omega (arith, settles.own, settles.some, m) in
-      let l : length (b ∷ x) ≡ length w + length (c ∷ z) = ap length parts ∙ length-append w (c ∷ z) in
-      let f : b ∷ take (length w) x ≡ w ++ c ∷ [] = ap (take (suc (length w))) parts ∙ front_of w c z in
+      omega (arith, settles.own, settles.some, one_longer) in
+      let length_is : length (b ∷ x) ≡ length w + length (c ∷ z) =
+      ap length parts ∙ length-append w (c ∷ z) in
+      let front_is : b ∷ take (length w) x ≡ w ++ c ∷ [] =
+      ap (take (suc (length w))) parts ∙ front_of w c z in
       determined_by_head (multi_byte_rule prefix) set b x (length (w ++ c ∷ []) - n) _
       (rule_at prefix set w c z b x are_incomplete parts ∙ settles.head set z)
-      (omega (arith, own_and_rest, l))
-      (λ y. rule_at prefix set w c y b _ are_incomplete (ap (λ i. b ∷ (take i x ++ y)) own_and_rest ∙ ap (λ t. t ++ y) f
-      ∙ append_assoc w (c ∷ []) y)
+      (omega (arith, own_and_rest, length_is))
+      (λ y. rule_at prefix set w c y b _ are_incomplete
+      (ap (λ i. b ∷ (take i x ++ y)) own_and_rest ∙ ap (λ t. t ++ y) front_is ∙ append_assoc w (c ∷ []) y)
       ∙ settles.head set y)
 
   in_front : (w : List ℕ) (c : ℕ) (z : List ℕ) → take (length w) (w ++ c ∷ z) ≡ w
@@ -146,37 +152,40 @@ module _ (prefix : List ℕ → Prefix) (laws : ArePrefixes prefix) where
   malformed_looks set [] c z b x n (suc i) is_rest are_incomplete parts settles =
       absurd (omega (arith, is_rest, settles.some))
   malformed_looks set (a ∷ w) c z b x n (suc i) is_rest are_incomplete parts settles =
-      let t = subst (IsDeterminedWithin (multi_byte_rule prefix) set b x) (sym is_rest)
+      let determined_by_front = subst (IsDeterminedWithin (multi_byte_rule prefix) set b x) (sym is_rest)
       (settled_determined set (a ∷ w) c z b x n (One 0xFFFD) kinds.Malformed are_incomplete parts settles) in
-      let h : (multi_byte_rule prefix set b x).more ≡ n - 1 =
+      let more_is : (multi_byte_rule prefix set b x).more ≡ n - 1 =
       ap (λ (r : Head). r.more) (rule_at prefix set (a ∷ w) c z b x are_incomplete parts ∙ settles.head set z) in
-      let m : length ((a ∷ w) ++ c ∷ []) ≡ length (a ∷ w) + 1 = length-append (a ∷ w) (c ∷ []) in
-      let f : b ≡ a = cc in
-      let g : x ≡ w ++ c ∷ z = rest_of b a x (w ++ c ∷ z) parts in
-      looks_by (multi_byte_rule prefix) set b x i (length w) t (omega (arith, is_rest, h, m, settles.some, settles.own))
-      (subst (IsDeterminedByEnd (multi_byte_rule prefix) set b) (sym (ap (take (length w)) g ∙ in_front w c z))
-      (subst (λ y. IsDeterminedByEnd (multi_byte_rule prefix) set y w) (sym f) (by_end set a w are_incomplete)))
+      let one_longer : length ((a ∷ w) ++ c ∷ []) ≡ length (a ∷ w) + 1 = length-append (a ∷ w) (c ∷ []) in
+      let same_first : b ≡ a = cc in
+      let same_rest : x ≡ w ++ c ∷ z = rest_of b a x (w ++ c ∷ z) parts in
+      looks_by (multi_byte_rule prefix) set b x i (length w) determined_by_front
+      (omega (arith, is_rest, more_is, one_longer, settles.some, settles.own))
+      (subst (IsDeterminedByEnd (multi_byte_rule prefix) set b)
+      (sym (ap (take (length w)) same_rest ∙ in_front w c z))
+      (subst (λ y. IsDeterminedByEnd (multi_byte_rule prefix) set y w) (sym same_first)
+      (by_end set a w are_incomplete)))
 
   determined_with : (set : ℕ) (w : List ℕ) (c : ℕ) (z : List ℕ) (b : ℕ) (x : List ℕ) (r : Prefix)
       → AreIncomplete prefix [] w → b ∷ x ≡ w ++ c ∷ z → prefix (w ++ c ∷ []) ≡ r
       → (r ≡ Incomplete → IsDeterminedSoon (multi_byte_rule prefix) set b x)
       → IsDeterminedSoon (multi_byte_rule prefix) set b x
   determined_with set w c z b x (Complete text) are_incomplete parts is_prefix further =
-      let m : length (w ++ c ∷ []) ≡ length w + 1 = length-append w (c ∷ []) in
-      let t = settled_determined set w c z b x _ text Valid are_incomplete parts
-      (settles_complete prefix (w ++ c ∷ []) text (omega (arith, m)) is_prefix) in
-      inl (subst (IsDeterminedWithin (multi_byte_rule prefix) set b x) (omega arith) t)
+      let one_longer : length (w ++ c ∷ []) ≡ length w + 1 = length-append w (c ∷ []) in
+      let is_determined = settled_determined set w c z b x _ text Valid are_incomplete parts
+      (settles_complete prefix (w ++ c ∷ []) text (omega (arith, one_longer)) is_prefix) in
+      inl (subst (IsDeterminedWithin (multi_byte_rule prefix) set b x) (omega arith) is_determined)
   determined_with set w c z b x (Malformed n) are_incomplete parts is_prefix further =
       let settles = settles_malformed prefix laws (w ++ c ∷ []) n is_prefix in
-      let m : length (w ++ c ∷ []) ≡ length w + 1 = length-append w (c ∷ []) in
-      let l = at_most_three w are_incomplete in
+      let one_longer : length (w ++ c ∷ []) ≡ length w + 1 = length-append w (c ∷ []) in
+      let few_in_front = at_most_three w are_incomplete in
       inr (
-        (λ v. let k = ap (λ (h : Head). h.kind) (rule_at prefix set w c z b x are_incomplete parts
-            ∙ settles.head set z) in
+        (λ v. let kind_is = ap (λ (h : Head). h.kind)
+            (rule_at prefix set w c z b x are_incomplete parts ∙ settles.head set z) in
             cc),
         inl (
           length (w ++ c ∷ []) - n,
-          omega (arith, settles.some, m, l),
+          omega (arith, settles.some, one_longer, few_in_front),
           malformed_looks set w c z b x n _ refl are_incomplete parts settles,
         ),
       )
@@ -184,13 +193,14 @@ module _ (prefix : List ℕ → Prefix) (laws : ArePrefixes prefix) where
 
   determined_from : (set : ℕ) (w z : List ℕ) (b : ℕ) (x : List ℕ) → AreIncomplete prefix [] w → b ∷ x ≡ w ++ z
       → IsDeterminedSoon (multi_byte_rule prefix) set b x
-  determined_from set [] [] b x are_incomplete parts = absurd (let f = ap length parts in omega arith)
+  determined_from set [] [] b x are_incomplete parts = absurd (let lengths_agree = ap length parts in omega arith)
   determined_from set (a ∷ w) [] b x are_incomplete parts =
-      let f : a ≡ b = cc in let g : w ≡ x = sym (rest_of b a x (w ++ []) parts ∙ append-nil w) in
-      subst (IsDeterminedSoon (multi_byte_rule prefix) set b) g
-      (subst (λ n. IsDeterminedSoon (multi_byte_rule prefix) set n w) f
+      let same_first : a ≡ b = cc in
+      let same_rest : w ≡ x = sym (rest_of b a x (w ++ []) parts ∙ append-nil w) in
+      subst (IsDeterminedSoon (multi_byte_rule prefix) set b) same_rest
+      (subst (λ n. IsDeterminedSoon (multi_byte_rule prefix) set n w) same_first
       (inr (
-        (λ v. let k = ap (λ (h : Head). h.kind) (all_malformed prefix set a w are_incomplete) in cc),
+        (λ v. let kind_is = ap (λ (h : Head). h.kind) (all_malformed prefix set a w are_incomplete) in cc),
         inr (by_end set a w are_incomplete),
       )))
   determined_from set w (c ∷ z) b x are_incomplete parts =

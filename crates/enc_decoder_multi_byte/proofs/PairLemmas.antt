@@ -33,17 +33,17 @@ two_are_text a b e f g h = record {
 }
 
 two : (a b : ℕ) → IsPairText (Two a b) → IsTextOf (Some (Two a b))
-two a b h text e = subst IsPairText (let f : Two a b ≡ text = cc in f) h
+two a b h text e = subst IsPairText (let text_is : Two a b ≡ text = cc in text_is) h
 
 pair_is_text : (a b : ℕ) (text : Text) → big5_pair_text a b ≡ Some text → IsPairText text
 unfolding encode_utf8
 pair_is_text a b =
-    let p = big5_pair_pointer a b in
-    either (is_big5_trail b) (big5_pointer_text p) None
-    (either (p == 1133) _ _ (two 0xCA 0x304 (two_are_text 0xCA 0x304 refl refl refl refl))
-    (either (p == 1135) _ _ (two 0xCA 0x30C (two_are_text 0xCA 0x30C refl refl refl refl))
-    (either (p == 1164) _ _ (two 0xEA 0x304 (two_are_text 0xEA 0x304 refl refl refl refl))
-    (either (p == 1166) _ _ (two 0xEA 0x30C (two_are_text 0xEA 0x30C refl refl refl refl))
+    let pointer = big5_pair_pointer a b in
+    either (is_big5_trail b) (big5_pointer_text pointer) None
+    (either (pointer == 1133) _ _ (two 0xCA 0x304 (two_are_text 0xCA 0x304 refl refl refl refl))
+    (either (pointer == 1135) _ _ (two 0xCA 0x30C (two_are_text 0xCA 0x30C refl refl refl refl))
+    (either (pointer == 1164) _ _ (two 0xEA 0x304 (two_are_text 0xEA 0x304 refl refl refl refl))
+    (either (pointer == 1166) _ _ (two 0xEA 0x30C (two_are_text 0xEA 0x30C refl refl refl refl))
     (char_is_text _)))))
     (λ text e. cc)
 

@@ -43,7 +43,8 @@ fn text_at(pointer: u32) -> Option<Text>
 
 impl DoubleByte for Big5 {
     ghost use Rattle.enc_index.specs.declared.grid.Grid.TheVariants as grids;
-    ghost use Rattle.enc_decoder_multi_byte.specs.Big5.{is_big5_lead, big5_single_char, big5_pair_text};
+    ghost use Rattle.enc_decoder_multi_byte.specs.Big5.{is_big5_lead, big5_single_char};
+    ghost use Rattle.enc_decoder_multi_byte.specs.Big5.{big5_pair_text};
 
     ghost leads = { is_big5_lead };
 

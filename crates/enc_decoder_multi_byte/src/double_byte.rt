@@ -4,7 +4,8 @@ ghost use Rattle.std.specs.Prelude.{◌≡◌, ℕ, ◌+◌, ◌<◌, Bool, Opti
 ghost use Rattle.enc_index.specs.declared.grid.Grid.{Grid};
 ghost use Rattle.enc_index.specs.Grid.{grid_len, grid_char};
 ghost use Rattle.enc_decoder.specs.declared.byte_codec.Text.{Text};
-ghost use Rattle.enc_decoder_multi_byte.specs.DoubleByte.{text_of_char, first_prefix, trail_prefix, ArePairs};
+ghost use Rattle.enc_decoder_multi_byte.specs.DoubleByte.{text_of_char, first_prefix, trail_prefix};
+ghost use Rattle.enc_decoder_multi_byte.specs.DoubleByte.{ArePairs};
 
 use crate::multi_byte::{MultiByte, Prefix};
 use enc_decoder::{Pending, Text};

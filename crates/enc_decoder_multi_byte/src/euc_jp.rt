@@ -1,8 +1,9 @@
 //! The EUC-JP decoder (Encoding Standard 12.1.1).
 
 ghost use Rattle.std.specs.Prelude.{◌≡◌, [], ◌∷◌, true};
-ghost use Rattle.enc_decoder_multi_byte.specs.EucJp.{is_euc_byte as euc, euc_pair_pointer, is_euc_jp_lead};
-ghost use Rattle.enc_decoder_multi_byte.specs.EucJp.{euc_jp_single_char, euc_jp_pair_char, euc_jp_triple_char};
+ghost use Rattle.enc_decoder_multi_byte.specs.EucJp.{is_euc_byte as euc, euc_pair_pointer};
+ghost use Rattle.enc_decoder_multi_byte.specs.EucJp.{is_euc_jp_lead, euc_jp_single_char};
+ghost use Rattle.enc_decoder_multi_byte.specs.EucJp.{euc_jp_pair_char, euc_jp_triple_char};
 ghost use Rattle.enc_decoder_multi_byte.specs.EucJp.{euc_jp_prefix};
 
 use crate::double_byte::{classify_first, classify_trail, text_of};

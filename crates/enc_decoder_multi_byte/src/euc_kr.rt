@@ -17,7 +17,8 @@ pub type EucKrDecoder = MultiByteDecoder<Double<EucKr>>;
 
 impl DoubleByte for EucKr {
     ghost use Rattle.enc_index.specs.declared.grid.Grid.TheVariants as grids;
-    ghost use Rattle.enc_decoder_multi_byte.specs.EucKr.{is_euc_kr_lead, euc_kr_single_char, euc_kr_pair_text};
+    ghost use Rattle.enc_decoder_multi_byte.specs.EucKr.{is_euc_kr_lead, euc_kr_single_char};
+    ghost use Rattle.enc_decoder_multi_byte.specs.EucKr.{euc_kr_pair_text};
 
     ghost leads = { is_euc_kr_lead };
 

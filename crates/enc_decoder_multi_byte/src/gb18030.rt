@@ -1,8 +1,9 @@
 //! The gb18030 decoder, which is also that of GBK (Encoding Standard 10.2.1).
 
 ghost use Rattle.std.specs.Prelude.{◌≡◌, [], ◌∷◌, true};
-ghost use Rattle.enc_decoder_multi_byte.specs.Gb18030.{is_gb18030_lead, is_gb18030_trail, is_digit as digit};
-ghost use Rattle.enc_decoder_multi_byte.specs.Gb18030.{gb18030_single_char, gb18030_pair_char, four_byte_pointer};
+ghost use Rattle.enc_decoder_multi_byte.specs.Gb18030.{is_gb18030_lead, is_gb18030_trail};
+ghost use Rattle.enc_decoder_multi_byte.specs.Gb18030.{is_digit as digit, gb18030_single_char};
+ghost use Rattle.enc_decoder_multi_byte.specs.Gb18030.{gb18030_pair_char, four_byte_pointer};
 ghost use Rattle.enc_decoder_multi_byte.specs.Gb18030.{ranges_code_point, gb18030_prefix};
 
 use crate::double_byte::{classify_first, classify_trail, text_of};

@@ -1,7 +1,8 @@
 //! Half-width katakana.
 
 ghost use Rattle.std.specs.Prelude.{◌≡◌, true};
-ghost use Rattle.enc_decoder_multi_byte.specs.Katakana.{is_katakana_byte, katakana_of_byte as katakana_of};
+ghost use Rattle.enc_decoder_multi_byte.specs.Katakana.{is_katakana_byte};
+ghost use Rattle.enc_decoder_multi_byte.specs.Katakana.{katakana_of_byte as katakana_of};
 
 /// Returns the half-width katakana of a byte from A1 to DF.
 pub fn katakana(byte: u8) -> char

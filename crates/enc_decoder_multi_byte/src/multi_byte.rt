@@ -1,13 +1,15 @@
 //! The decoders of the legacy multi-byte encodings without escape sequences.
 
-ghost use Rattle.std.specs.Prelude.{◌≡◌, ℕ, ◌+◌, ◌<◌, List, [], ◌∷◌, ◌++◌, true, false, Some, IfSome, IsNone};
+ghost use Rattle.std.specs.Prelude.{◌≡◌, ℕ, ◌+◌, ◌<◌, List, [], ◌∷◌, ◌++◌, true, false, Some};
+ghost use Rattle.std.specs.Prelude.{IfSome, IsNone};
 ghost use Rattle.enc_index.specs.Grid.{grid_len, grid_char};
 ghost use Rattle.enc_units.specs.Pairs.{byte_or_pair};
 ghost use Rattle.enc_decoder.specs.Pending.{bytes_of_pending};
 ghost use Rattle.enc_decoder.specs.Taking.{IsWholeChar};
 ghost use Rattle.enc_decoder.specs.CodecLaw.{HandlesByte, IsNextOfPending, IsNextAtEnd};
-ghost use Rattle.enc_decoder_multi_byte.specs.MultiByte.{multi_byte_state, AreIncomplete, ArePrefixes, HasAscii};
-ghost use Rattle.enc_decoder_multi_byte.specs.MultiByte.{IsCharPair, multi_byte_rule};
+ghost use Rattle.enc_decoder_multi_byte.specs.MultiByte.{multi_byte_state, AreIncomplete};
+ghost use Rattle.enc_decoder_multi_byte.specs.MultiByte.{ArePrefixes, HasAscii, IsCharPair};
+ghost use Rattle.enc_decoder_multi_byte.specs.MultiByte.{multi_byte_rule};
 
 use enc_decoder::{
     ByteCodec, Emission, HandlerResult, Kind, Pending, RawDecoder, Text, TextLengths, latin1_up_to,

@@ -40,7 +40,9 @@ fn character_at(pointer: u32) -> Option<char>
 
 impl DoubleByte for ShiftJis {
     ghost use Rattle.enc_index.specs.declared.grid.Grid.TheVariants as grids;
-    ghost use Rattle.enc_decoder_multi_byte.specs.ShiftJis.{is_shift_jis_lead, shift_jis_single_char, shift_jis_pair_text};
+    ghost use Rattle.enc_decoder_multi_byte.specs.ShiftJis.{is_shift_jis_lead};
+    ghost use Rattle.enc_decoder_multi_byte.specs.ShiftJis.{shift_jis_single_char};
+    ghost use Rattle.enc_decoder_multi_byte.specs.ShiftJis.{shift_jis_pair_text};
 
     ghost leads = { is_shift_jis_lead };
 

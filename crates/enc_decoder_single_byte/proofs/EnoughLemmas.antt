@@ -29,7 +29,9 @@ entry_is_basic : (n c : ℕ) → entry_character Basic n ≡ Some c → c < 0x1_
 entry_is_basic n c e = by_test (is_entry_code_point Basic n) refl e
   where
     by_test : (t : Bool) → is_entry_code_point Basic n ≡ t → cond t (Some n) None ≡ Some c → c < 0x1_0000
-    by_test true f is_char = let g : n < 0x1_0000 = grind (arith, nat_tests) in omega (arith, g, same_some n c is_char)
+    by_test true f is_char =
+        let in_basic_plane : n < 0x1_0000 = grind (arith, nat_tests) in
+        omega (arith, in_basic_plane, same_some n c is_char)
     by_test false f is_char = absurd (cc)
 
 index_is_basic : (runs : List Run) (p c : ℕ) → index_at Basic runs p ≡ Some c → c < 0x1_0000
@@ -140,7 +142,8 @@ module _ (units_of : ℕ → List ℕ) where
     where
       by_state : (r : Bool) → units units_of (sequences_of replacement_rule (replacement_state r).set src) ≤ length (units_of_text units_of (0xFFFD ∷ []))
       by_state false = bounded units_of replacement_rule most_of step 0 src
-      by_state true = let b = bounded units_of replacement_rule most_of step 1 src in omega (arith, b)
+      by_state true =
+          let units_bounded = bounded units_of replacement_rule most_of step 1 src in omega (arith, units_bounded)
 
 pub replacement_enough : (reported : Bool) → AreEnoughForCodec lengths.Replacement (replacement_state reported)
 replacement_enough reported = let is_basic = basic_by 0xFFFD (omega arith) in record {

@@ -64,7 +64,8 @@ module _ (character : ℕ → Option ℕ) where
   -- a byte determines its sequence by itself
   determined_by_itself : (set b : ℕ) (z : List ℕ) → IsDeterminedWithin (one_byte_rule character) set b z 0
   unfolding one_byte_rule
-  determined_by_itself set b z = record { there = (let e = no_more set (character b) in omega arith); same = λ y. refl }
+  determined_by_itself set b z =
+      record { there = (let none_more = no_more set (character b) in omega arith); same = λ y. refl }
 
   has_lookahead : HasLookahead (one_byte_rule character)
   has_lookahead = record {

@@ -37,7 +37,8 @@ impl ReplacementDecoder {
 
 /// Returns the effect of a byte. After it the first byte has been reported.
 fn show_byte(text: Text, kind: Kind) -> HandlerResult<ReplacementDecoder>
-    ensures { result ≡ HandlerResult.Emit (record { text = text; kind = kind; len = 1; takes_byte = true; next = true }) }
+    ensures { result ≡ HandlerResult.Emit
+        (record { text = text; kind = kind; len = 1; takes_byte = true; next = true }) }
 {
     HandlerResult::Emit(Emission {
         text,

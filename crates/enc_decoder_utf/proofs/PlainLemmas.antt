@@ -22,7 +22,7 @@ continuations-within zero z = omega arith
 continuations-within (suc n) [] = omega arith
 continuations-within (suc n) (c ∷ z) =
     elim (is_continuation c) as (λ t. cond t (suc (continuations n z)) 0 ≤ suc (length z)) [
-      | true ↦ let h = continuations-within n z in omega arith
+      | true ↦ let rest_within = continuations-within n z in omega arith
       | false ↦ omega arith
     ]
 
@@ -33,7 +33,7 @@ continuing_len-within b zero z = omega arith
 continuing_len-within b (suc n) [] = omega arith
 continuing_len-within b (suc n) (c ∷ z) =
     elim (is_second_byte b c) as (λ t. cond t (suc (continuations n z)) 0 ≤ suc (length z)) [
-      | true ↦ let h = continuations-within n z in omega arith
+      | true ↦ let rest_within = continuations-within n z in omega arith
       | false ↦ omega arith
     ]
 
@@ -51,9 +51,9 @@ all_continue zero z all = tt
 all_continue (suc n) [] all = absurd (omega arith)
 all_continue (suc n) (c ∷ z) all =
     elim (is_continuation c) as (λ t. is_continuation c ≡ t → Continue (suc n) (c ∷ z)) [
-      | true ↦ λ continues. (let f : suc (continuations n z) ≡ suc n = rw continues at all in
+      | true ↦ λ continues. (let count_is : suc (continuations n z) ≡ suc n = rw continues at all in
           (omega arith, continues, refl, all_continue n z (omega arith)))
-      | false ↦ λ h. (let f : 0 ≡ suc n = rw h at all in absurd (omega arith))
+      | false ↦ λ h. (let none_counted : 0 ≡ suc n = rw h at all in absurd (omega arith))
     ] refl
 
 abbrev pub GoOn : ℕ → ℕ → List ℕ → Type 0
@@ -63,9 +63,9 @@ all_go_on : (a n : ℕ) (z : List ℕ) → continuing_len a (suc n) z ≡ suc n 
 all_go_on a n [] all = absurd (omega arith)
 all_go_on a n (c ∷ z) all =
     elim (is_second_byte a c) as (λ t. is_second_byte a c ≡ t → GoOn a n (c ∷ z)) [
-      | true ↦ λ goes_on. (let f : suc (continuations n z) ≡ suc n = rw goes_on at all in
+      | true ↦ λ goes_on. (let count_is : suc (continuations n z) ≡ suc n = rw goes_on at all in
           (omega arith, goes_on, refl, all_continue n z (omega arith)))
-      | false ↦ λ h. (let f : 0 ≡ suc n = rw h at all in absurd (omega arith))
+      | false ↦ λ h. (let none_counted : 0 ≡ suc n = rw h at all in absurd (omega arith))
     ] refl
 
 -- what a sequence that is reached as a whole is made of
@@ -87,8 +87,8 @@ whole4 a (b ∷ c ∷ d ∷ z) goes_on r =
 pub whole_four : (a : ℕ) (z : List ℕ) → sequence_len a ≡ 4 → well_formed_tail_len a z + 1 ≡ sequence_len a → Whole4 a z
 whole_four a z s e =
     let reaches_all : well_formed_tail_len a z ≡ 3 = omega arith in
-    let f : sequence_len a - 1 ≡ 3 = omega arith in
-    whole4 a z (all_go_on a 2 z (ap (λ n. continuing_len a n z) (sym f) ∙ reaches_all)) reaches_all
+    let three_more : sequence_len a - 1 ≡ 3 = omega arith in
+    whole4 a z (all_go_on a 2 z (ap (λ n. continuing_len a n z) (sym three_more) ∙ reaches_all)) reaches_all
 
 -- the head of the rule, by whether the sequence is whole
 
@@ -129,7 +129,8 @@ rest_after : (b : ℕ) (z : List ℕ) (n : ℕ) → n ≡ (utf_8_rule 0 b z).mor
     → sequences_of utf_8_rule (utf_8_rule 0 b z).set (drop (utf_8_rule 0 b z).more z) ≡ sequences_of utf_8_rule 0 (drop n (b ∷ z))
 rest_after b z n e =
     ap (λ set. sequences_of utf_8_rule set (drop (utf_8_rule 0 b z).more z)) (rule_set b z)
-    ∙ ap (λ k. sequences_of utf_8_rule 0 (drop k (b ∷ z))) (let f : suc (utf_8_rule 0 b z).more ≡ n = omega arith in f)
+    ∙ ap (λ k. sequences_of utf_8_rule 0 (drop k (b ∷ z)))
+    (let length_is_n : suc (utf_8_rule 0 b z).more ≡ n = omega arith in length_is_n)
 
 first_then_rest : (b : ℕ) (z : List ℕ) (n : ℕ) → n ≡ (utf_8_rule 0 b z).more + 1
     → sequences_of utf_8_rule 0 (b ∷ z) ≡ head_sequence (utf_8_rule 0 b z) b z ∷ sequences_of utf_8_rule 0 (drop n (b ∷ z))
@@ -177,9 +178,10 @@ goes_past bytes read wrote had_errors so_far n c m some_left is_length t k w =
 nothing_after : (bytes : List ℕ) (read : ℕ) → length bytes ≤ read → sequences_of utf_8_rule 0 (drop read bytes) ≡ []
 nothing_after bytes read h = ap (sequences_of utf_8_rule 0) (drop_of_length-le bytes h) ∙ sequences_of-nil utf_8_rule 0
 
-pub all_decoded : (bytes : List ℕ) (read : ℕ) (wrote : List ℕ) (had_errors : Bool) → Decoded bytes read wrote had_errors → length bytes ≤ read
+pub all_decoded : {bytes : List ℕ} {read : ℕ} {wrote : List ℕ} {had_errors : Bool}
+    → Decoded bytes read wrote had_errors → length bytes ≤ read
     → (wrote ≡ units_of_text encode_utf8 (sequence_text (sequences_of utf_8_rule 0 bytes))) × (had_errors ≡ any_malformed (sequences_of utf_8_rule 0 bytes))
-all_decoded bytes read wrote had_errors so_far h =
+all_decoded {bytes} {read} {wrote} {had_errors} so_far h =
     let none_left = nothing_after bytes read h in (
       sym (append-nil wrote) ∙ ap (λ ss. wrote ++ units_of_text encode_utf8 (sequence_text ss)) (sym none_left)
           ∙ so_far.text,

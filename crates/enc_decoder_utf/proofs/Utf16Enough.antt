@@ -31,7 +31,7 @@ unit_below true b c first_is_byte second_is_byte = omega (arith, first_is_byte, 
 unit_below false b c first_is_byte second_is_byte = omega (arith, first_is_byte, second_is_byte)
 
 weaker : (f : ℕ → ℕ) (a n m : ℕ) → n ≡ m → a ≤ f n → a ≤ f m + 1
-weaker f a n m e h = let g = ap f e in omega (arith, h, g)
+weaker f a n m e h = let values_agree = ap f e in omega (arith, h, values_agree)
 
 same_most : (f : ℕ → ℕ) (a n m : ℕ) → n ≡ m → a ≤ f n + 1 → a ≤ f m + 1
 same_most f a n m e h = subst (λ k. a ≤ f k + 1) e h
@@ -87,14 +87,14 @@ module _ (units_of : ℕ → List ℕ) (each : ℕ) (most : ℕ → ℕ) (one : 
         then_rest set b (c ∷ d ∷ []) (malformed_head set 2) (lead_and_byte big set b c d is_lead),
       )
   lead set b c (d ∷ e ∷ y) is_lead rest_bounded k = elim (true_or_false (is_trail_surrogate (code_unit big d e))) [
-    | inl t ↦ (let p = pair_scalar (code_unit big b c) (code_unit big d e) in
+    | inl t ↦ (let scalar = pair_scalar (code_unit big b c) (code_unit big d e) in
         omega (
           arith,
-          (small (p ∷ []) (one_small p)).1,
+          (small (scalar ∷ []) (one_small scalar)).1,
           k d e y refl,
           more (length y),
           more (suc (suc (length y))),
-          then_rest set b (c ∷ d ∷ e ∷ y) (character_head set 3 p) (pair_first big set b c d e y is_lead t),
+          then_rest set b (c ∷ d ∷ e ∷ y) (character_head set 3 scalar) (pair_first big set b c d e y is_lead t),
         ))
     | inr n ↦ omega (
       arith,
@@ -130,26 +130,27 @@ module _ (units_of : ℕ → List ℕ) (each : ℕ) (most : ℕ → ℕ) (one : 
 
   -- (bytes that are the same)
   same : (set d e : ℕ) (y : List ℕ) → of_bytes set y ≤ most (length y) → (f g : ℕ) (x : List ℕ) → d ∷ e ∷ y ≡ f ∷ g ∷ x → of_bytes set x ≤ most (length x)
-  same set d e y h f g x q = let r : y ≡ x = cc in subst (λ w. of_bytes set w ≤ most (length w)) r h
+  same set d e y h f g x q =
+      let rests_agree : y ≡ x = cc in subst (λ w. of_bytes set w ≤ most (length w)) rests_agree h
 
   bytes_bounded : (set : ℕ) (z : List ℕ) → AreBytes z → of_bytes set z ≤ most (length z)
   bytes_bounded set [] are_bytes = omega (arith, nothing set)
   bytes_bounded set (b ∷ []) are_bytes = one_byte set b
   bytes_bounded set (b ∷ c ∷ []) are_bytes =
-      let u = basic _ (basic_by (code_unit big b c) (unit_below big b c are_bytes.0 are_bytes.1.0)) in
-      omega (arith, unit 0 set b c [] (omega (arith, u)) (bytes_bounded set [] tt) (λ d e y f. absurd (cc)))
+      let unit_bounded = basic _ (basic_by (code_unit big b c) (unit_below big b c are_bytes.0 are_bytes.1.0)) in
+      omega (arith, unit 0 set b c [] (omega (arith, unit_bounded)) (bytes_bounded set [] tt) (λ d e y f. absurd (cc)))
   bytes_bounded set (b ∷ c ∷ d ∷ []) are_bytes =
-      let u = basic _ (basic_by (code_unit big b c) (unit_below big b c are_bytes.0 are_bytes.1.0)) in
+      let unit_bounded = basic _ (basic_by (code_unit big b c) (unit_below big b c are_bytes.0 are_bytes.1.0)) in
       omega (
         arith,
-        unit 0 set b c (d ∷ []) (omega (arith, u)) (bytes_bounded set (d ∷ []) are_bytes.1.1)
+        unit 0 set b c (d ∷ []) (omega (arith, unit_bounded)) (bytes_bounded set (d ∷ []) are_bytes.1.1)
             (λ d e y f. absurd (cc)),
       )
   bytes_bounded set (b ∷ c ∷ d ∷ e ∷ y) are_bytes =
-      let u = basic _ (basic_by (code_unit big b c) (unit_below big b c are_bytes.0 are_bytes.1.0)) in
+      let unit_bounded = basic _ (basic_by (code_unit big b c) (unit_below big b c are_bytes.0 are_bytes.1.0)) in
       omega (
         arith,
-        unit 0 set b c (d ∷ e ∷ y) (omega (arith, u)) (bytes_bounded set (d ∷ e ∷ y) are_bytes.1.1)
+        unit 0 set b c (d ∷ e ∷ y) (omega (arith, unit_bounded)) (bytes_bounded set (d ∷ e ∷ y) are_bytes.1.1)
             (same set d e y (bytes_bounded set y are_bytes.1.1.1.1)),
       )
 
@@ -184,14 +185,14 @@ module _ (units_of : ℕ → List ℕ) (each : ℕ) (most : ℕ → ℕ) (one : 
         then_rest set b (c ∷ d ∷ []) (malformed_head set 2) (lead_and_byte big set b c d is_lead),
       )
   three_bounded set b c d (e ∷ y) is_lead are_bytes = elim (true_or_false (is_trail_surrogate (code_unit big d e))) [
-    | inl t ↦ (let p = pair_scalar (code_unit big b c) (code_unit big d e) in
+    | inl t ↦ (let scalar = pair_scalar (code_unit big b c) (code_unit big d e) in
         omega (
           arith,
-          (small (p ∷ []) (one_small p)).1,
+          (small (scalar ∷ []) (one_small scalar)).1,
           bytes_bounded set y are_bytes.1,
           more (length y),
           more (suc (suc (length y))),
-          then_rest set b (c ∷ d ∷ e ∷ y) (character_head set 3 p) (pair_first big set b c d e y is_lead t),
+          then_rest set b (c ∷ d ∷ e ∷ y) (character_head set 3 scalar) (pair_first big set b c d e y is_lead t),
         ))
     | inr n ↦ omega (
       arith,

@@ -24,7 +24,9 @@ unit_scalar u l e f = grind (arith, nat_tests)
 
 pub pair_in_range : (lead trail : ℕ) → is_lead_surrogate lead ≡ true → is_trail_surrogate trail ≡ true → InScalarRange (pair_scalar lead trail)
 unfolding pair_scalar
-pair_in_range lead trail e f = let r = lead_range lead e in let s = trail_range trail f in inr (omega arith, omega arith)
+pair_in_range lead trail e f =
+    let lead_in_range = lead_range lead e in
+    let trail_in_range = trail_range trail f in inr (omega arith, omega arith)
 
 module _ (big : Bool) where
   -- the first sequence
@@ -77,13 +79,15 @@ lead_has_form : (big : Bool) (set lead c : ℕ) (z : List ℕ) → HasForm (c �
 lead_has_form big set lead c [] = (omega arith, (0xFFFD, refl))
 lead_has_form big set lead c (d ∷ []) = (omega arith, (0xFFFD, refl))
 lead_has_form big set lead c (d ∷ e ∷ z) =
-    let u = code_unit big d e in
-    either_head (HasForm (c ∷ d ∷ e ∷ z)) (is_trail_surrogate u) _ _ (omega arith, (pair_scalar lead u, refl)) (omega arith, (0xFFFD, refl))
+    let next_unit = code_unit big d e in
+    either_head (HasForm (c ∷ d ∷ e ∷ z)) (is_trail_surrogate next_unit) _ _
+    (omega arith, (pair_scalar lead next_unit, refl)) (omega arith, (0xFFFD, refl))
 
 pub has_form : (big : Bool) (set b : ℕ) (z : List ℕ) → HasForm z (utf_16_rule big set b z)
 unfolding utf_16_rule
 has_form big set b [] = (omega arith, (0xFFFD, refl))
 has_form big set b (c ∷ z) =
-    let u = code_unit big b c in
-    either_head (HasForm (c ∷ z)) (is_lead_surrogate u) _ _ (lead_has_form big set u c z)
-    (either_head (HasForm (c ∷ z)) (is_trail_surrogate u) _ _ (omega arith, (0xFFFD, refl)) (omega arith, (u, refl)))
+    let first_unit = code_unit big b c in
+    either_head (HasForm (c ∷ z)) (is_lead_surrogate first_unit) _ _ (lead_has_form big set first_unit c z)
+    (either_head (HasForm (c ∷ z)) (is_trail_surrogate first_unit) _ _
+    (omega arith, (0xFFFD, refl)) (omega arith, (first_unit, refl)))

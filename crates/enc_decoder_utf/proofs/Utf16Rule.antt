@@ -16,11 +16,11 @@ use Rattle.enc_decoder_utf.proofs.Utf16Lemmas.{lead_and_byte, pair_first, lead_a
 
 -- heads that differ
 
-more_differs : (h k x y : Head) → x ≡ h → y ≡ k → (h.more ≡ k.more → ⊥) → x ≡ y → ⊥
-more_differs h k x y e f n q = n (ap (λ (t : Head). t.more) (sym e ∙ q ∙ f))
+more_differs : {h k x y : Head} → x ≡ h → y ≡ k → (h.more ≡ k.more → ⊥) → x ≡ y → ⊥
+more_differs e f n q = n (ap (λ (t : Head). t.more) (sym e ∙ q ∙ f))
 
-kind_differs : (h x : Head) → x ≡ h → h.kind ≡ Malformed → x.kind ≡ Valid → ⊥
-kind_differs h x e m v = let k = ap (λ (t : Head). t.kind) e in cc
+kind_differs : {h x : Head} → x ≡ h → h.kind ≡ Malformed → x.kind ≡ Valid → ⊥
+kind_differs e m v = let kinds_agree = ap (λ (t : Head). t.kind) e in cc
 
 -- a trail surrogate
 trail_exists : (big : Bool)
@@ -43,10 +43,10 @@ module _ (big : Bool) where
 
   pub one_by_end : (set b : ℕ) → IsDeterminedByEnd (utf_16_rule big) set b []
   one_by_end set b = record {
-    within = (let k = ap (λ (h : Head). h.more) (one_head big set b) in omega (arith, k));
+    within = (let more_is = ap (λ (h : Head). h.more) (one_head big set b) in omega (arith, more_is));
     more = 0 ∷ [];
     bytes = (omega arith, tt);
-    other = more_differs _ _ _ _ refl (one_head big set b) (λ q. let k = two_bytes set b 0 in omega arith);
+    other = more_differs refl (one_head big set b) (λ q. let more_is = two_bytes set b 0 in omega arith);
     near = omega arith;
   }
 
@@ -54,10 +54,10 @@ module _ (big : Bool) where
       → IsDeterminedByEnd (utf_16_rule big) set b (c ∷ [])
   lead_by_end set b c is_lead =
       let trail = trail_exists big in record {
-        within = (let k = ap (λ (h : Head). h.more) (lead_at_end big set b c is_lead) in omega (arith, k));
+        within = (let more_is = ap (λ (h : Head). h.more) (lead_at_end big set b c is_lead) in omega (arith, more_is));
         more = trail.0 ∷ trail.1 ∷ [];
         bytes = (trail.2, (trail.3, tt));
-        other = more_differs _ _ _ _ (pair_first big set b c trail.0 trail.1 [] is_lead trail.4)
+        other = more_differs (pair_first big set b c trail.0 trail.1 [] is_lead trail.4)
             (lead_at_end big set b c is_lead) (λ q. omega arith);
         near = omega arith;
       }
@@ -65,13 +65,13 @@ module _ (big : Bool) where
   pub three_by_end : (set b c d : ℕ) → is_lead_surrogate (code_unit big b c) ≡ true
       → IsDeterminedByEnd (utf_16_rule big) set b (c ∷ d ∷ [])
   three_by_end set b c d is_lead = record {
-    within = (let k = ap (λ (h : Head). h.more) (lead_and_byte big set b c d is_lead) in omega (arith, k));
+    within = (let more_is = ap (λ (h : Head). h.more) (lead_and_byte big set b c d is_lead) in omega (arith, more_is));
     more = 0 ∷ [];
     bytes = (omega arith, tt);
     other =
         let end = lead_and_byte big set b c d is_lead in elim (true_or_false (is_trail_surrogate (code_unit big d 0))) [
-          | inl t ↦ more_differs _ _ _ _ (pair_first big set b c d 0 [] is_lead t) end (λ q. omega arith)
-          | inr n ↦ more_differs _ _ _ _ (lead_alone big set b c d 0 [] is_lead n) end (λ q. omega arith)
+          | inl t ↦ more_differs (pair_first big set b c d 0 [] is_lead t) end (λ q. omega arith)
+          | inr n ↦ more_differs (lead_alone big set b c d 0 [] is_lead n) end (λ q. omega arith)
         ];
     near = omega arith;
   }
@@ -90,15 +90,15 @@ module _ (big : Bool) where
   lead_determined : (set b c : ℕ) (z : List ℕ) → is_lead_surrogate (code_unit big b c) ≡ true
       → IsDeterminedSoon (utf_16_rule big) set b (c ∷ z)
   lead_determined set b c [] is_lead =
-      inr (kind_differs _ _ (lead_at_end big set b c is_lead) refl, inr (lead_by_end set b c is_lead))
+      inr (kind_differs (lead_at_end big set b c is_lead) refl, inr (lead_by_end set b c is_lead))
   lead_determined set b c (d ∷ []) is_lead =
-      inr (kind_differs _ _ (lead_and_byte big set b c d is_lead) refl, inr (three_by_end set b c d is_lead))
+      inr (kind_differs (lead_and_byte big set b c d is_lead) refl, inr (three_by_end set b c d is_lead))
   lead_determined set b c (d ∷ e ∷ z) is_lead = elim (true_or_false (is_trail_surrogate (code_unit big d e))) [
     | inl is_trail ↦ inl (determined_by_head (utf_16_rule big) set b (c ∷ d ∷ e ∷ z) 0 _
         (pair_first big set b c d e z is_lead is_trail) (omega arith)
         (λ y. pair_first big set b c d e y is_lead is_trail))
     | inr no_trail ↦ inr (
-      kind_differs _ _ (lead_alone big set b c d e z is_lead no_trail) refl,
+      kind_differs (lead_alone big set b c d e z is_lead no_trail) refl,
       inl (
         2,
         omega arith,
@@ -106,14 +106,15 @@ module _ (big : Bool) where
             (determined_by_head (utf_16_rule big) set b (c ∷ d ∷ e ∷ z) 2 _
             (lead_alone big set b c d e z is_lead no_trail)
             (omega arith) (λ y. lead_alone big set b c d e y is_lead no_trail))
-            (let k = ap (λ (h : Head). h.more) (lead_alone big set b c d e z is_lead no_trail) in omega (arith, k))
+            (let more_is = ap (λ (h : Head). h.more) (lead_alone big set b c d e z is_lead no_trail) in
+            omega (arith, more_is))
             (three_by_end set b c d is_lead),
       ),
     )
   ]
 
   determined : (set b : ℕ) (z : List ℕ) → IsDeterminedSoon (utf_16_rule big) set b z
-  determined set b [] = inr (kind_differs _ _ (one_head big set b) refl, inr (one_by_end set b))
+  determined set b [] = inr (kind_differs (one_head big set b) refl, inr (one_by_end set b))
   determined set b (c ∷ z) = elim (true_or_false (is_lead_surrogate (code_unit big b c))) [
     | inl l ↦ lead_determined set b c z l
     | inr n ↦ inl (unit_determined set b c z n)
@@ -125,7 +126,7 @@ module _ (big : Bool) where
       subst IsSmallText (sym has_text.1) (one_small has_text.0)
 
   pub utf_16_has_texts : HasTexts (utf_16_rule big)
-  utf_16_has_texts set b z e = let f = (has_form big set b z).1.1 in cc
+  utf_16_has_texts set b z e = let text_is = (has_form big set b z).1.1 in cc
 
   pub utf_16_is_lawful : IsLawfulRule (utf_16_rule big)
   utf_16_is_lawful =
@@ -146,6 +147,6 @@ pub utf_16_has_no_bytes : (big : Bool) → HasNoByteSequences (utf_16_rule big)
 unfolding utf_16_rule
 utf_16_has_no_bytes big b [] v = absurd (cc)
 utf_16_has_no_bytes big b (c ∷ z) v =
-    let u = code_unit big b c in
-    either_head HasMore (is_lead_surrogate u) _ _ (lead_has_more big 0 u z) (either_head HasMore (is_trail_surrogate u)
-    _ _ (λ _. omega arith) (λ _. omega arith)) v
+    let first_unit = code_unit big b c in
+    either_head HasMore (is_lead_surrogate first_unit) _ _ (lead_has_more big 0 first_unit z)
+    (either_head HasMore (is_trail_surrogate first_unit) _ _ (λ _. omega arith) (λ _. omega arith)) v

@@ -46,7 +46,8 @@ comes_malformed : (p : Pending) (may_follow : List ℕ → Type 0) (len : ℕ) �
 comes_malformed p may_follow len is_length s h =
     shows_before utf_8_state p Nothing (Character 0xFFFD) Malformed len may_follow (bytes_of_pending p) refl
     (sym (append-nil (bytes_of_pending p))) is_length s refl
-    (λ _. (refl, (few p len is_length, omega arith, let k = few p len is_length in omega arith))) h
+    (λ _. (refl, (few p len is_length, omega arith, let len_is_small = few p len is_length in omega arith)))
+    h
 
 -- a byte shows it
 pub malformed_before : (p : Pending) (b len : ℕ) → len ≡ length (bytes_of_pending p) → 0 < len
@@ -59,8 +60,9 @@ malformed_at_end : (p : Pending) (len : ℕ) → len ≡ length (bytes_of_pendin
     → sequences_of utf_8_rule 0 (bytes_of_pending p) ≡ malformed_sequence (bytes_of_pending p) ∷ []
     → IsNextAtEnd utf_8_state p (Some (pending_malformed len))
 malformed_at_end p len n s h =
-    let e = h ∙ ap (λ ss. malformed_sequence (bytes_of_pending p) ∷ ss) (sym (sequences_of-nil utf_8_rule 0)) in
-    (comes_malformed p _ len n s (λ y m. rw m (rw append-nil e)), refl)
+    let malformed_then_none =
+    h ∙ ap (λ ss. malformed_sequence (bytes_of_pending p) ∷ ss) (sym (sequences_of-nil utf_8_rule 0)) in
+    (comes_malformed p _ len n s (λ y m. rw m (rw append-nil malformed_then_none)), refl)
 
 pub comes_at_end : (p : Pending) (len : ℕ) → len ≡ length (bytes_of_pending p) → IsTrue (is_incomplete p)
     → (p ≡ Nothing → ⊥)

@@ -68,10 +68,13 @@ one_below b e = grind (arith, nat_tests)
 
 alone_is_basic : (set b : ℕ) (z : List ℕ) → length (take (utf_8_rule set b z).more z) ≡ 0 → IsBmpText (utf_8_rule set b z).text
 unfolding utf_8_rule
-alone_is_basic set b z n = either_head (λ h. length (take h.more z) ≡ 0 → IsBmpText h.text) (eqb (well_formed_tail_len b z + 1) (sequence_len b)) _ _
-    (λ t m. let r : well_formed_tail_len b z ≡ 0 = omega (arith, m, reach_taken b z) in
-    let s : sequence_len b ≡ 1 = grind (arith, nat_tests) in
-    subst (λ k. IsBmpText (scalar_of (b ∷ take k z) ∷ [])) (sym r) (basic_by b (let l = one_below b s in omega (arith, l))))
+alone_is_basic set b z n = either_head (λ h. length (take h.more z) ≡ 0 → IsBmpText h.text)
+    (eqb (well_formed_tail_len b z + 1) (sequence_len b)) _ _
+    (λ t m. let reaches_none : well_formed_tail_len b z ≡ 0 = omega (arith, m, reach_taken b z) in
+    let is_one_byte : sequence_len b ≡ 1 = grind (arith, nat_tests) in
+    let is_ascii = one_below b is_one_byte in
+    subst (λ k. IsBmpText (scalar_of (b ∷ take k z) ∷ [])) (sym reaches_none)
+    (basic_by b (omega (arith, is_ascii))))
     (λ f m. replaced) n
 
 utf_8_few : HasFewUnits utf_8_rule
@@ -114,9 +117,9 @@ three_below : (b : ℕ) (z : List ℕ) → sequence_len b ≡ 3 → well_formed_
 three_below b [] three_bytes two_more = absurd (omega (arith, two_more, well_formed_tail_len-end b))
 three_below b (c ∷ z) three_bytes two_more =
     let second = second_stands b c z (omega (arith, three_bytes)) (omega (arith, two_more)) in
-    let k = well_formed_tail_len-second b c z (omega (arith, three_bytes)) second in
-    let m : sequence_len b - 2 ≡ 1 = omega (arith, three_bytes) in
-    let continuing = continues z (omega (arith, two_more, k, ap (λ a. continuations a z) m)) in
+    let reach_is = well_formed_tail_len-second b c z (omega (arith, three_bytes)) second in
+    let one_left : sequence_len b - 2 ≡ 1 = omega (arith, three_bytes) in
+    let continuing = continues z (omega (arith, two_more, reach_is, ap (λ a. continuations a z) one_left)) in
     let lead_in_range = three_range b three_bytes in
     let second_in_range = second_range b c second in
     let third_in_range = continuation_range continuing.0 continuing.3 in
@@ -136,16 +139,23 @@ valid_units b z zero reach is_length = len_one b (one_below b is_length)
 valid_units b z (suc zero) reach is_length = len_two _ (two_below b z is_length reach)
 valid_units b z (suc (suc zero)) reach is_length = len_three _ (three_below b z is_length reach)
 valid_units b z (suc (suc (suc n))) reach is_length =
-    let l = len_utf8_bounds (scalar_of (b ∷ take (suc (suc (suc n))) z)) in omega (arith, l.1)
+    let len_bounds = len_utf8_bounds (scalar_of (b ∷ take (suc (suc (suc n))) z)) in omega (arith, len_bounds.1)
 
 no_more_than_bytes : (set b : ℕ) (z : List ℕ) → is_malformed (utf_8_rule set b z).kind ≡ false
     → length (units_of_text encode_utf8 (utf_8_rule set b z).text) ≤ suc (length (take (utf_8_rule set b z).more z))
 unfolding utf_8_rule
 no_more_than_bytes set b z v = either_head
-    (λ h. is_malformed h.kind ≡ false → length (units_of_text encode_utf8 h.text) ≤ suc (length (take h.more z))) (eqb (well_formed_tail_len b z + 1) (sequence_len b)) _ _
-    (λ t m. let c = scalar_of (b ∷ take (well_formed_tail_len b z) z) in
-    let s : sequence_len b ≡ suc (well_formed_tail_len b z) = grind (arith, nat_tests) in
-    omega (arith, valid_units b z (well_formed_tail_len b z) refl s, reach_taken b z, length-encode c, length-append (encode_utf8 c) []))
+    (λ h. is_malformed h.kind ≡ false → length (units_of_text encode_utf8 h.text) ≤ suc (length (take h.more z)))
+    (eqb (well_formed_tail_len b z + 1) (sequence_len b)) _ _
+    (λ t m. let character = scalar_of (b ∷ take (well_formed_tail_len b z) z) in
+    let len_is : sequence_len b ≡ suc (well_formed_tail_len b z) = grind (arith, nat_tests) in
+    omega (
+      arith,
+      valid_units b z (well_formed_tail_len b z) refl len_is,
+      reach_taken b z,
+      length-encode character,
+      length-append (encode_utf8 character) [],
+    ))
     (λ f m. absurd (cc)) v
 
 three_of_malformed : (set b : ℕ) (z : List ℕ) → is_malformed (utf_8_rule set b z).kind ≡ true → length (units_of_text encode_utf8 (utf_8_rule set b z).text) ≤ 3
@@ -159,17 +169,29 @@ before_bounded keeps set zero [] = omega arith
 before_bounded keeps set (suc k) [] = omega arith
 before_bounded keeps set (suc k) (b ∷ z) = before_bounded keeps set k z
 before_bounded keeps set zero (b ∷ z) =
-    let h = utf_8_rule set b z in
-    first (is_malformed h.kind) keeps (head_sequence h b z) (sequences_before_malformed keeps (sequences_after utf_8_rule h.set h.more z)) (length (drop h.more z)) (suc (length z))
-    (before_bounded keeps h.set h.more z) (λ e. three_of_malformed set b z e) (λ e. no_more_than_bytes set b z e)
-    (omega (arith, length-append (take h.more z) (drop h.more z), ap length (take-append-drop h.more z)))
+    let head = utf_8_rule set b z in
+    first (is_malformed head.kind) keeps (head_sequence head b z)
+    (sequences_before_malformed keeps (sequences_after utf_8_rule head.set head.more z))
+    (length (drop head.more z)) (suc (length z)) (before_bounded keeps head.set head.more z)
+    (λ e. three_of_malformed set b z e) (λ e. no_more_than_bytes set b z e)
+    (omega (arith, length-append (take head.more z) (drop head.more z), ap length (take-append-drop head.more z)))
   where
     first : (t k : Bool) (s : Sequence) (rest : List Sequence) (left all : ℕ) → units encode_utf8 rest ≤ left + 3
         → (t ≡ true → length (units_of_text encode_utf8 s.text) ≤ 3) → (t ≡ false → length (units_of_text encode_utf8 s.text) ≤ length s.bytes) → length s.bytes + left ≡ all
         → units encode_utf8 (cond t (cond k (s ∷ []) []) (s ∷ rest)) ≤ all + 3
-    first true true s rest left all h m v e = let n = m refl in omega (arith, n, units-one encode_utf8 s s.text refl)
+    first true true s rest left all h m v e =
+        let bounded_by_three = m refl in omega (arith, bounded_by_three, units-one encode_utf8 s s.text refl)
     first true false s rest left all h m v e = omega arith
-    first false k s rest left all h m v e = let n = v refl in omega (arith, n, h, e, units-one encode_utf8 s s.text refl, units-both encode_utf8 (s ∷ []) rest)
+    first false k s rest left all h m v e =
+        let bounded_by_bytes = v refl in
+        omega (
+          arith,
+          bounded_by_bytes,
+          h,
+          e,
+          units-one encode_utf8 s s.text refl,
+          units-both encode_utf8 (s ∷ []) rest,
+        )
 
 pub utf_8_enough : (v : CodecState) → v.rule ≡ utf_8_rule → AreEnoughForCodec lengths.Utf8 v
 utf_8_enough v is_utf_8 = record {

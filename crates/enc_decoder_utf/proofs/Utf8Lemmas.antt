@@ -73,7 +73,8 @@ second_range a b h = (
 -- how far the bytes reach
 
 well_formed_tail_len-alone : (b : ℕ) (z : List ℕ) → sequence_len b ≤ 1 → well_formed_tail_len b z ≡ 0
-well_formed_tail_len-alone b z h = let e : sequence_len b - 1 ≡ 0 = omega arith in rw e refl
+well_formed_tail_len-alone b z h =
+    let none_more : sequence_len b - 1 ≡ 0 = omega arith in rw none_more refl
 
 pub well_formed_tail_len-end : (a : ℕ) → well_formed_tail_len a [] ≡ 0
 well_formed_tail_len-end a =
@@ -81,13 +82,15 @@ well_formed_tail_len-end a =
 
 pub well_formed_tail_len-no_second : (a b : ℕ) (z : List ℕ) → 2 ≤ sequence_len a → is_second_byte a b ≡ false
     → well_formed_tail_len a (b ∷ z) ≡ 0
-well_formed_tail_len-no_second a b z h e = let f : sequence_len a - 1 ≡ suc (sequence_len a - 2) = omega arith in
-    rw (f, e) refl
+well_formed_tail_len-no_second a b z h e =
+    let some_more : sequence_len a - 1 ≡ suc (sequence_len a - 2) = omega arith in
+    rw (some_more, e) refl
 
 pub well_formed_tail_len-second : (a b : ℕ) (z : List ℕ) → 2 ≤ sequence_len a → is_second_byte a b ≡ true
     → well_formed_tail_len a (b ∷ z) ≡ suc (continuations (sequence_len a - 2) z)
-well_formed_tail_len-second a b z h e = let f : sequence_len a - 1 ≡ suc (sequence_len a - 2) = omega arith in
-    rw (f, e) refl
+well_formed_tail_len-second a b z h e =
+    let some_more : sequence_len a - 1 ≡ suc (sequence_len a - 2) = omega arith in
+    rw (some_more, e) refl
 
 continuations-none : (n c : ℕ) (z : List ℕ) → is_continuation c ≡ false → continuations n (c ∷ z) ≡ 0
 continuations-none zero c z e = refl
@@ -173,7 +176,9 @@ four_valid a b c d z four_bytes e t u =
 -- the scalar values
 
 pub two_scalar : (a b : ℕ) → sequence_len a ≡ 2 → is_second_byte a b ≡ true → InScalarRange (scalar_of (a ∷ b ∷ []))
-two_scalar a b s e = let r = two_range a s in let t = second_range a b e in inl (omega arith)
+two_scalar a b s e =
+    let lead_in_range = two_range a s in
+    let second_in_range = second_range a b e in inl (omega arith)
 
 at_most_or_above : (a n : ℕ) → (a ≤ n) ⊎ (n < a)
 at_most_or_above a n = grind (arith, nat_tests, leb_tells a n)
@@ -185,9 +190,11 @@ below_surrogates a b c h k u v w = grind arith
 pub three_scalar : (a b c : ℕ) → sequence_len a ≡ 3 → is_second_byte a b ≡ true → is_continuation c ≡ true
     → InScalarRange (scalar_of (a ∷ b ∷ c ∷ []))
 three_scalar a b c s e t =
-    let r = three_range a s in let second_in_range = second_range a b e in let v = continuation_range c t in
+    let lead_in_range = three_range a s in
+    let second_in_range = second_range a b e in
+    let third_in_range = continuation_range c t in
     elim (at_most_or_above a 0xED) [
-      | inl h ↦ inl (below_surrogates a b c r.0 h second_in_range.1 second_in_range.3 v.1)
+      | inl h ↦ inl (below_surrogates a b c lead_in_range.0 h second_in_range.1 second_in_range.3 third_in_range.1)
       | inr h ↦ inr (omega arith, omega arith)
     ]
 
@@ -200,8 +207,10 @@ pub four_scalar : (a b c d : ℕ)
     → sequence_len a ≡ 4 → is_second_byte a b ≡ true → is_continuation c ≡ true → is_continuation d ≡ true
     → InScalarRange (scalar_of (a ∷ b ∷ c ∷ d ∷ []))
 four_scalar a b c d s e t x =
-    let lead_in_range = four_range a s in let second_in_range = second_range a b e in let v =
-    continuation_range c t in let w = continuation_range d x in
-    let f = supplementary a b c d lead_in_range.0 lead_in_range.1 second_in_range.0 second_in_range.1 second_in_range.4
-    second_in_range.5 v.1 w.1 in
-    inr (omega arith, f.1)
+    let lead_in_range = four_range a s in
+    let second_in_range = second_range a b e in
+    let third_in_range = continuation_range c t in
+    let fourth_in_range = continuation_range d x in
+    let scalar_in_range = supplementary a b c d lead_in_range.0 lead_in_range.1 second_in_range.0
+    second_in_range.1 second_in_range.4 second_in_range.5 third_in_range.1 fourth_in_range.1 in
+    inr (omega arith, scalar_in_range.1)

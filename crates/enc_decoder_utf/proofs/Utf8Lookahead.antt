@@ -17,24 +17,26 @@ use Rattle.enc_decoder_utf.proofs.Utf8Lemmas.{continuations-end}
 continuations-determined : (n k : ℕ) (z y : List ℕ) → k ≤ length z → (k ≤ continuations n z → n ≤ k)
     → continuations n (take k z ++ y) ≡ continuations n z
 continuations-determined zero k z y l enough = refl
-continuations-determined (suc n) zero z y l enough = absurd (let q = enough (omega arith) in omega arith)
+continuations-determined (suc n) zero z y l enough =
+    absurd (let no_more_wanted = enough (omega arith) in omega arith)
 continuations-determined (suc n) (suc k) [] y l enough = absurd (omega arith)
 continuations-determined (suc n) (suc k) (c ∷ z) y l enough = elim (true_or_false (is_continuation c)) [
   | inl goes_on ↦ rw goes_on (ap suc
-      (continuations-determined n k z y (omega arith) (λ q. let m = (rw goes_on at enough) (omega arith) in
-      omega arith)))
+      (continuations-determined n k z y (omega arith)
+      (λ q. let no_more_wanted = (rw goes_on at enough) (omega arith) in omega arith)))
   | inr f ↦ rw f refl
 ]
 
 continuing_len-determined : (b n k : ℕ) (z y : List ℕ) → k ≤ length z → (k ≤ continuing_len b n z → n ≤ k)
     → continuing_len b n (take k z ++ y) ≡ continuing_len b n z
 continuing_len-determined b zero k z y l enough = refl
-continuing_len-determined b (suc n) zero z y l enough = absurd (let q = enough (omega arith) in omega arith)
+continuing_len-determined b (suc n) zero z y l enough =
+    absurd (let no_more_wanted = enough (omega arith) in omega arith)
 continuing_len-determined b (suc n) (suc k) [] y l enough = absurd (omega arith)
 continuing_len-determined b (suc n) (suc k) (c ∷ z) y l enough = elim (true_or_false (is_second_byte b c)) [
   | inl goes_on ↦ rw goes_on (ap suc
-      (continuations-determined n k z y (omega arith) (λ q. let m = (rw goes_on at enough) (omega arith) in
-      omega arith)))
+      (continuations-determined n k z y (omega arith)
+      (λ q. let no_more_wanted = (rw goes_on at enough) (omega arith) in omega arith)))
   | inr f ↦ rw f refl
 ]
 
@@ -44,7 +46,7 @@ continuations-within : (n : ℕ) (z : List ℕ) → (continuations n z ≤ n) ×
 continuations-within zero z = (omega arith, omega arith)
 continuations-within (suc n) [] = (omega arith, omega arith)
 continuations-within (suc n) (c ∷ z) = elim (true_or_false (is_continuation c)) [
-  | inl t ↦ rw t (let h = continuations-within n z in (omega arith, omega arith))
+  | inl t ↦ rw t (let rest_within = continuations-within n z in (omega arith, omega arith))
   | inr f ↦ rw f (omega arith, omega arith)
 ]
 
@@ -52,7 +54,7 @@ continuing_len-within : (b n : ℕ) (z : List ℕ) → (continuing_len b n z ≤
 continuing_len-within b zero z = (omega arith, omega arith)
 continuing_len-within b (suc n) [] = (omega arith, omega arith)
 continuing_len-within b (suc n) (c ∷ z) = elim (true_or_false (is_second_byte b c)) [
-  | inl t ↦ rw t (let h = continuations-within n z in (omega arith, omega arith))
+  | inl t ↦ rw t (let rest_within = continuations-within n z in (omega arith, omega arith))
   | inr f ↦ rw f (omega arith, omega arith)
 ]
 
@@ -68,9 +70,9 @@ continuations-more : (n : ℕ) (z : List ℕ) → continuations n z ≡ length z
 continuations-more zero z all_go_on l = absurd (omega arith)
 continuations-more (suc n) [] all_go_on l = rw continues (ap suc (continuations-end n))
 continuations-more (suc n) (c ∷ z) all_go_on l = elim (true_or_false (is_continuation c)) [
-  | inl goes_on ↦ let f = rw goes_on at all_go_on in
+  | inl goes_on ↦ let count_is = rw goes_on at all_go_on in
       rw goes_on (ap suc (continuations-more n z (omega arith) (omega arith)))
-  | inr t ↦ let f = rw t at all_go_on in absurd (omega arith)
+  | inr t ↦ let none_counted = rw t at all_go_on in absurd (omega arith)
 ]
 
 lower_follows : (a : ℕ) → is_second_byte a (second_byte_min a) ≡ true
@@ -96,9 +98,9 @@ unfolding next_byte
 continuing_len-more b zero z all_go_on l = absurd (omega arith)
 continuing_len-more b (suc n) [] all_go_on l = rw (lower_follows b) (ap suc (continuations-end n))
 continuing_len-more b (suc n) (c ∷ z) all_go_on l = elim (true_or_false (is_second_byte b c)) [
-  | inl goes_on ↦ let f = rw goes_on at all_go_on in
+  | inl goes_on ↦ let count_is = rw goes_on at all_go_on in
       rw goes_on (ap suc (continuations-more n z (omega arith) (omega arith)))
-  | inr t ↦ let f = rw t at all_go_on in absurd (omega arith)
+  | inr t ↦ let none_counted = rw t at all_go_on in absurd (omega arith)
 ]
 
 -- the head by how far the bytes reach, and by those bytes
@@ -121,7 +123,9 @@ more_is_reach set b z = ap (λ (h : Head). h.more) (by_reach set b z)
     ∙ more_of set b (well_formed_tail_len b z) (take (well_formed_tail_len b z) z)
 
 pub within : (set b : ℕ) (z : List ℕ) → (utf_8_rule set b z).more ≤ length z
-within set b z = let w = continuing_len-within b (sequence_len b - 1) z in omega (arith, more_is_reach set b z, w.1)
+within set b z =
+    let bounds = continuing_len-within b (sequence_len b - 1) z in
+    omega (arith, more_is_reach set b z, bounds.1)
 
 same_rule : (set b : ℕ) (y z : List ℕ) → well_formed_tail_len b y ≡ well_formed_tail_len b z
     → take (well_formed_tail_len b z) y ≡ take (well_formed_tail_len b z) z
@@ -137,20 +141,21 @@ determined_at : (set b k n : ℕ) (z : List ℕ) → k ≡ well_formed_tail_len 
 determined_at set b k n z is_place there h =
     let length_is : (utf_8_rule set b z).more + n ≡ k = ap (λ j. j + n) (more_is_reach set b z) ∙ sym is_place in
     let contains : well_formed_tail_len b z ≤ k = omega (arith, is_place) in
-    let q : length (take k z) ≡ k = length-take-le k z there in record {
+    let front_length : length (take k z) ≡ k = length-take-le k z there in record {
       there = omega (arith, length_is);
       same = λ y. ap (λ j. utf_8_rule set b (take j z ++ y)) length_is
           ∙ same_rule set b (take k z ++ y) z (continuing_len-determined b (sequence_len b - 1) k z y there h)
-          (take-append-le (well_formed_tail_len b z) (take k z) y (omega (arith, q, contains))
+          (take-append-le (well_formed_tail_len b z) (take k z) y (omega (arith, front_length, contains))
           ∙ take-take (well_formed_tail_len b z) k z contains);
     }
 
 stops_short : (set b : ℕ) (z : List ℕ) → well_formed_tail_len b z < sequence_len b - 1
     → (utf_8_rule set b z).kind ≡ Valid → ⊥
 stops_short set b z l v =
-    let n : eqb (well_formed_tail_len b z + 1) (sequence_len b) ≡ false =
+    let not_whole : eqb (well_formed_tail_len b z + 1) (sequence_len b) ≡ false =
     not_equal (well_formed_tail_len b z) (sequence_len b) l in
-    let k = rw n at (by_reach set b z) in let m = ap (λ (h : Head). h.kind) k in cc
+    let head_is = rw not_whole at (by_reach set b z) in
+    let kind_is = ap (λ (h : Head). h.kind) head_is in cc
   where
     not_equal : (m n : ℕ) → m < n - 1 → eqb (m + 1) n ≡ false
     not_equal m n l = grind (arith, nat_tests)
@@ -163,11 +168,12 @@ by_end set b z all_go_on l = record {
   bytes = (next_is_byte b z, tt);
   near = omega (arith, more_is_reach set b z, all_go_on);
   other = λ q.
-      let m : well_formed_tail_len b (z ++ next_byte b z ∷ []) ≡ suc (length z) =
+      let reaches_next : well_formed_tail_len b (z ++ next_byte b z ∷ []) ≡ suc (length z) =
       continuing_len-more b (sequence_len b - 1) z all_go_on l in
-      let n : well_formed_tail_len b (z ++ next_byte b z ∷ []) ≡ well_formed_tail_len b z =
+      let reach_unchanged : well_formed_tail_len b (z ++ next_byte b z ∷ []) ≡ well_formed_tail_len b z =
       sym (more_is_reach set b (z ++ next_byte b z ∷ [])) ∙ ap (λ (h : Head). h.more) q ∙ more_is_reach set b z in
-      let k : suc (length z) ≡ length z = sym m ∙ n ∙ all_go_on in omega (arith, k);
+      let impossible : suc (length z) ≡ length z = sym reaches_next ∙ reach_unchanged ∙ all_go_on in
+      omega (arith, impossible);
 }
 
 -- the bytes that are reached reach as far by themselves
@@ -207,10 +213,11 @@ determined set b z =
             looks_by utf_8_rule set b z 0 (well_formed_tail_len b z)
                 (determined_at set b (suc (well_formed_tail_len b z)) 1 z (omega arith) l.1
                 (λ q. absurd (omega (arith, q))))
-                (let m = more_is_reach set b z in omega (arith, m))
+                (let more_is = more_is_reach set b z in omega (arith, more_is))
                 (by_end set b (take (well_formed_tail_len b z) z)
                 (reach_alone b z ∙ sym (length-take-le (well_formed_tail_len b z) z bounds.1))
-                (let k = length-take-le (well_formed_tail_len b z) z bounds.1 in omega (arith, k, short.1))),
+                (let front_length = length-take-le (well_formed_tail_len b z) z bounds.1 in
+                omega (arith, front_length, short.1))),
           )
           | inr at_end ↦ inr (by_end set b z (omega (arith, at_end.1, bounds.1))
               (omega (arith, at_end.1, bounds.1, short.1)))

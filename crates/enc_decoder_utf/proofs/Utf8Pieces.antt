@@ -46,29 +46,35 @@ module _ (c : ℕ) where
 
   two : 0x80 ≤ c → c < 0x800 → IsWholeChar utf_8_rule 0 ((0xC0 + c / 64) ∷ next c ∷ []) c
   two h k =
-      let a = 0xC0 + c / 64 in
-      let b = next c in
-      valued (a ∷ b ∷ []) c (omega arith) (λ y. two_valid a b y (two_len a (omega arith) (omega arith))
-      (second_at a b (omega arith, omega arith) (λ e. absurd (omega arith)) (λ e. absurd (omega arith)) (λ e. absurd (omega arith)) (λ e. absurd (omega arith))))
+      let lead = 0xC0 + c / 64 in
+      let second = next c in
+      valued (lead ∷ second ∷ []) c (omega arith)
+      (λ y. two_valid lead second y (two_len lead (omega arith) (omega arith))
+      (second_at lead second (omega arith, omega arith) (λ e. absurd (omega arith)) (λ e. absurd (omega arith))
+      (λ e. absurd (omega arith)) (λ e. absurd (omega arith))))
 
   three : 0x800 ≤ c → c < 0x10000 → (c < 0xD800) ⊎ ((0xE000 ≤ c) × (c < 0x110000)) → IsWholeChar utf_8_rule 0 ((0xE0 + c / 4096) ∷ next (c / 64) ∷ next c ∷ []) c
   three h k s =
-      let a = 0xE0 + c / 4096 in
-      let b = next (c / 64) in
-      let d = next c in
-      valued (a ∷ b ∷ d ∷ []) c (omega arith) (λ y. three_valid a b d y (three_len a (omega arith) (omega arith))
-      (second_at a b (omega arith, omega arith) (λ e. omega arith) (λ e. omega (arith, s)) (λ e. absurd (omega arith)) (λ e. absurd (omega arith)))
-      (continues d (omega arith, omega arith)))
+      let lead = 0xE0 + c / 4096 in
+      let second = next (c / 64) in
+      let third = next c in
+      valued (lead ∷ second ∷ third ∷ []) c (omega arith)
+      (λ y. three_valid lead second third y (three_len lead (omega arith) (omega arith))
+      (second_at lead second (omega arith, omega arith) (λ e. omega arith) (λ e. omega (arith, s))
+      (λ e. absurd (omega arith)) (λ e. absurd (omega arith)))
+      (continues third (omega arith, omega arith)))
 
   four : 0x10000 ≤ c → c < 0x110000 → IsWholeChar utf_8_rule 0 ((0xF0 + c / 262144) ∷ next (c / 4096) ∷ next (c / 64) ∷ next c ∷ []) c
   four h k =
-      let a = 0xF0 + c / 262144 in
-      let b = next (c / 4096) in
-      let d = next (c / 64) in
-      let e = next c in
-      valued (a ∷ b ∷ d ∷ e ∷ []) c (omega arith) (λ y. four_valid a b d e y (four_len a (omega arith) (omega arith))
-      (second_at a b (omega arith, omega arith) (λ z. absurd (omega arith)) (λ z. absurd (omega arith)) (λ z. omega arith) (λ z. omega arith))
-      (continues d (omega arith, omega arith)) (continues e (omega arith, omega arith)))
+      let lead = 0xF0 + c / 262144 in
+      let second = next (c / 4096) in
+      let third = next (c / 64) in
+      let fourth = next c in
+      valued (lead ∷ second ∷ third ∷ fourth ∷ []) c (omega arith)
+      (λ y. four_valid lead second third fourth y (four_len lead (omega arith) (omega arith))
+      (second_at lead second (omega arith, omega arith) (λ z. absurd (omega arith)) (λ z. absurd (omega arith))
+      (λ z. omega arith) (λ z. omega arith))
+      (continues third (omega arith, omega arith)) (continues fourth (omega arith, omega arith)))
 
 written_as : {bytes z : List ℕ} {c : ℕ} → bytes ≡ encode_utf8 c → encode_utf8 c ≡ z → IsWholeChar utf_8_rule 0 z c
     → IsWholeChar utf_8_rule 0 bytes c

@@ -17,7 +17,7 @@ unfolding utf_8_rule
 one_character set b z = either_text (eqb (well_formed_tail_len b z + 1) (sequence_len b)) _ _ _ _ refl refl
 
 pub utf_8_has_texts : HasTexts utf_8_rule
-utf_8_has_texts set b z e = let f = (one_character set b z).1 in cc
+utf_8_has_texts set b z e = let text_is = (one_character set b z).1 in cc
 
 pub utf_8_has_small_texts : HasSmallTexts utf_8_rule
 utf_8_has_small_texts set b z =

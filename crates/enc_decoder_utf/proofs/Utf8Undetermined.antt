@@ -42,10 +42,12 @@ wants_three a b c h e t = grind (arith, nat_tests)
 -- a byte that follows, and completes no sequence
 
 pub second_wants : (a b : ℕ) → IsTrue (is_incomplete (One a)) → sequence_len a ≢ 2 → is_second_byte a b ≡ true → IsTrue (is_incomplete (Two a b))
-second_wants a b w n e = let h = one_wants a w in wants_two a b (omega arith) e
+second_wants a b w n e = let wants = one_wants a w in wants_two a b (omega arith) e
 
 pub third_wants : (a b c : ℕ) → IsTrue (is_incomplete (Two a b)) → sequence_len a ≢ 3 → is_continuation c ≡ true → IsTrue (is_incomplete (Three a b c))
-third_wants a b c w n t = let h = two_want a b w in let k = at_most_four a in wants_three a b c (omega arith) h.1 t
+third_wants a b c w n t =
+    let wants = two_want a b w in
+    let within_four = at_most_four a in wants_three a b c (omega arith) wants.1 t
 
 -- Only the end of the input makes a sequence of pending bytes that want more.
 by_end_only : (a : ℕ) (z : List ℕ) → well_formed_tail_len a z ≡ length z → length z < sequence_len a - 1
@@ -55,15 +57,15 @@ by_end_only a z e l = undetermined_by_end utf_8_rule 0 a z (within 0 a) (by_end 
 pub undetermined : (p : Pending) → IsTrue (is_incomplete p) → IsUndetermined (remainder_of (utf_8_state p)).sequences
 undetermined Nothing incomplete = nothing_pending (utf_8_state Nothing) refl
 undetermined (One a) incomplete =
-    let h = one_wants a incomplete in by_end_only a [] (well_formed_tail_len-end a) (omega arith)
+    let wants = one_wants a incomplete in by_end_only a [] (well_formed_tail_len-end a) (omega arith)
 undetermined (Two a b) incomplete =
     let wants = two_want a b incomplete in
-    let r = well_formed_tail_len-second a b [] (omega (arith, wants.0)) wants.1
+    let reaches_all = well_formed_tail_len-second a b [] (omega (arith, wants.0)) wants.1
     ∙ ap suc (continuations-end (sequence_len a - 2)) in
-    by_end_only a (b ∷ []) r (omega (arith, wants.0))
+    by_end_only a (b ∷ []) reaches_all (omega (arith, wants.0))
 undetermined (Three a b c) incomplete =
     let wants = three_want a b c incomplete in
-    let r : well_formed_tail_len a (b ∷ c ∷ []) ≡ 2 =
+    let reaches_all : well_formed_tail_len a (b ∷ c ∷ []) ≡ 2 =
     well_formed_tail_len-second a b (c ∷ []) (omega (arith, wants.0)) wants.1
     ∙ rw (wants.0, wants.2) refl in
-    by_end_only a (b ∷ c ∷ []) r (omega (arith, wants.0))
+    by_end_only a (b ∷ c ∷ []) reaches_all (omega (arith, wants.0))

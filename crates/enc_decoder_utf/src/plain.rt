@@ -3,12 +3,15 @@
 //!
 //! It is slow: at each sequence it looks at the bytes that follow, and it keeps nothing in between.
 
-ghost use Rattle.std.specs.Prelude.{◌≡◌, ◌+◌, ◌<◌, ◌≤◌, [], ◌∷◌, ◌++◌, length, take, drop, slice_index, IfOk, OnOk};
+ghost use Rattle.std.specs.Prelude.{◌≡◌, ◌+◌, ◌<◌, ◌≤◌, [], ◌∷◌, ◌++◌, length, take, drop};
+ghost use Rattle.std.specs.Prelude.{slice_index, IfOk, OnOk};
 ghost use Rattle.std.specs.Char.{encode_utf8};
 ghost use Rattle.enc_units.specs.Output.{units_of_text};
-ghost use Rattle.enc_decoder.specs.Sequence.{is_malformed as malformed_kind, sequence_text, any_malformed};
+ghost use Rattle.enc_decoder.specs.Sequence.{is_malformed as malformed_kind, sequence_text};
+ghost use Rattle.enc_decoder.specs.Sequence.{any_malformed};
 ghost use Rattle.enc_decoder.specs.Segmentation.{sequences_of};
-ghost use Rattle.enc_decoder_utf.specs.Utf8.{continuations as continuations_of, well_formed_tail_len as reach_of};
+ghost use Rattle.enc_decoder_utf.specs.Utf8.{continuations as continuations_of};
+ghost use Rattle.enc_decoder_utf.specs.Utf8.{well_formed_tail_len as reach_of};
 ghost use Rattle.enc_decoder_utf.specs.Utf8.{sequence_len as len_by_lead, scalar_of, utf_8_rule};
 
 use crate::utf_8::{

@@ -1,7 +1,8 @@
 //! The UTF-16 codecs (Encoding Standard 14.2 to 14.4).
 
 ghost use Rattle.std.specs.Prelude.{◌≡◌, true, false, IsTrue};
-ghost use Rattle.enc_decoder_utf.specs.Utf16.{code_unit as unit_of, is_lead_surrogate as begins_pair};
+ghost use Rattle.enc_decoder_utf.specs.Utf16.{code_unit as unit_of};
+ghost use Rattle.enc_decoder_utf.specs.Utf16.{is_lead_surrogate as begins_pair};
 ghost use Rattle.enc_decoder_utf.specs.Utf16.{is_trail_surrogate as ends_pair, pair_scalar};
 ghost use Rattle.enc_decoder_utf.specs.Utf16State.{with_pending, begins_with_lead, utf_16_state};
 ghost use Rattle.enc_decoder.specs.CodecLaw.{HandlesByte};

@@ -1,7 +1,8 @@
 //! The UTF-8 codec (Encoding Standard 8.1.1).
 
 ghost use Rattle.std.specs.Prelude.{◌≡◌, ◌<◌, [], ◌∷◌, true, false, IsTrue};
-ghost use Rattle.enc_decoder_utf.specs.Utf8.{sequence_len as len_by_lead, is_second_byte as second_follows};
+ghost use Rattle.enc_decoder_utf.specs.Utf8.{sequence_len as len_by_lead};
+ghost use Rattle.enc_decoder_utf.specs.Utf8.{is_second_byte as second_follows};
 ghost use Rattle.enc_decoder_utf.specs.Utf8.{is_continuation as continues, scalar_of};
 ghost use Rattle.enc_decoder_utf.specs.Utf8State.{is_incomplete, utf_8_state};
 ghost use Rattle.enc_decoder.specs.CodecLaw.{HandlesByte};

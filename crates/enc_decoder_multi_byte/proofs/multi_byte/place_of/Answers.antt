@@ -17,12 +17,15 @@ returns-then-is_pair-clause-means g c char e =
 pub returns-else-is_pair-clause-means : goal.returns-else-is_pair-clause-means
 returns-else-is_pair-clause-means g c char has_char =
     let grid = g.E.MultiByte.pairs_in in
-    let b = c.args.first in
-    elim (cases_lt b 128) [
+    let first_byte = c.args.first in
+    elim (cases_lt first_byte 128) [
       | inl low ↦
-          let same : b ≡ char = same_some b char (sym (grid_char-of_ascii grid b low) ∙ has_char) in
-          subst (λ t. IsWholeChar (multi_byte_rule g.E.MultiByte.prefix) 0 (byte_or_pair t b c.args.second) char) (sym c.if-is_pair.false)
-          (subst (IsWholeChar (multi_byte_rule g.E.MultiByte.prefix) 0 (b ∷ [])) same (complete_one g.E.MultiByte.prefix b b (c.ascii.ensures b low)))
-      | inr high ↦ absurd (some_none _ char (grid_char-of_byte grid b high (omega (arith, c.ranges.first.fits)))
-          has_char)
+          let same : first_byte ≡ char =
+          same_some first_byte char (sym (grid_char-of_ascii grid first_byte low) ∙ has_char) in
+          subst (λ t. IsWholeChar (multi_byte_rule g.E.MultiByte.prefix) 0
+          (byte_or_pair t first_byte c.args.second) char) (sym c.if-is_pair.false)
+          (subst (IsWholeChar (multi_byte_rule g.E.MultiByte.prefix) 0 (first_byte ∷ [])) same
+          (complete_one g.E.MultiByte.prefix first_byte first_byte (c.ascii.ensures first_byte low)))
+      | inr high ↦ absurd (some_none _ char
+          (grid_char-of_byte grid first_byte high (omega (arith, c.ranges.first.fits))) has_char)
     ]

@@ -19,9 +19,10 @@ returns-then-not-is_continuation c =
 
 pub returns-then-sequence_len-eq3 : goal.returns-then-sequence_len-eq3
 returns-then-sequence_len-eq3 c =
-    let w = two_want c.args.first c.args.second c.requires in
+    let wants = two_want c.args.first c.args.second c.requires in
     rw c.valid.ensures (completes (Two c.args.first c.args.second) c.args.byte _ _ refl c.three_byte_char.ensures
-    (λ z. three_valid c.args.first c.args.second c.args.byte z (sym c.sequence_len.ensures ∙ c.if-sequence_len-eq3.true) w.1
+    (λ z. three_valid c.args.first c.args.second c.args.byte z
+    (sym c.sequence_len.ensures ∙ c.if-sequence_len-eq3.true) wants.1
     (sym c.is_continuation.ensures ∙ c.if-not-is_continuation.false)))
 
 pub returns-else-sequence_len-eq3 : goal.returns-else-sequence_len-eq3

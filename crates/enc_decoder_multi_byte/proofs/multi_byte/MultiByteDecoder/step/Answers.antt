@@ -9,20 +9,23 @@ use Rattle.enc_decoder_multi_byte.proofs.multi_byte.MultiByteDecoder.step.Goals 
 pub returns-in-Complete : goal.returns-in-Complete
 returns-in-Complete g c =
     let one_longer = length-append (bytes_of_pending c.args.self.pending) (c.args.byte ∷ []) in
-    let n = c.len-len.ensures in
-    rw c.complete.ensures.is (shows_byte_with g.E.MultiByte.prefix c.laws.ensures (λ d. multi_byte_state g.E.MultiByte.prefix (bytes_of_pending d.pending))
-    c.args.self c.complete.result.next _ refl c.args.byte _ _ _ _ c.requires
+    let len_is = c.len-len.ensures in
+    rw c.complete.ensures.is (shows_byte_with g.E.MultiByte.prefix c.laws.ensures
+    (λ d. multi_byte_state g.E.MultiByte.prefix (bytes_of_pending d.pending))
+    c.args.self c.complete.result.next _ refl c.args.byte c.requires
     (settles_complete g.E.MultiByte.prefix (bytes_of_pending c.args.self.pending ++ c.args.byte ∷ [])
     c.in-Complete.text (omega (arith, one_longer))
     (sym c.classify.ensures ∙ c.in-Complete.is))
-    (at_most_three c.args.self.pending) (omega (arith, one_longer)) (omega (arith, one_longer, n))
+    (at_most_three c.args.self.pending) (omega (arith, one_longer)) (omega (arith, one_longer, len_is))
     (ap (λ p. multi_byte_state g.E.MultiByte.prefix (bytes_of_pending p)) c.complete.ensures.next))
 
 pub returns-in-Malformed : goal.returns-in-Malformed
 returns-in-Malformed g c =
-    rw c.malformed.ensures.is (shows_byte g.E.MultiByte.prefix c.laws.ensures (λ d. multi_byte_state g.E.MultiByte.prefix (bytes_of_pending d.pending))
-    c.args.self c.malformed.result.next _ refl c.args.byte c.in-Malformed.len _ _ _ _ (rw c.len.ensures refl) c.requires
-    (settles_malformed g.E.MultiByte.prefix c.laws.ensures (bytes_of_pending c.args.self.pending ++ c.args.byte ∷ []) c.in-Malformed.len
+    rw c.malformed.ensures.is (shows_byte g.E.MultiByte.prefix c.laws.ensures
+    (λ d. multi_byte_state g.E.MultiByte.prefix (bytes_of_pending d.pending))
+    c.args.self c.malformed.result.next _ refl c.args.byte _ (rw c.len.ensures refl) c.requires
+    (settles_malformed g.E.MultiByte.prefix c.laws.ensures
+    (bytes_of_pending c.args.self.pending ++ c.args.byte ∷ []) c.in-Malformed.len
     (sym c.classify.ensures ∙ c.in-Malformed.is))
     (at_most_three c.args.self.pending) refl
     (ap (λ p. multi_byte_state g.E.MultiByte.prefix (bytes_of_pending p)) c.malformed.ensures.next
