@@ -362,11 +362,11 @@ meets_need units_of old new src last mode room result read wrote replaced this_c
     this_call.stops)
 
 -- the same by the rooms of an output before and after
-pub meets_into : (units_of : ℕ → List ℕ) (old new : Remainder) (src : List ℕ) (last : Bool) (mode : DecodeErrorMode) (before after : Output) (result : DecoderResult) (read : ℕ) (replaced : Bool)
+pub meets_into : {units_of : ℕ → List ℕ} {old new : Remainder} {src : List ℕ} {last : Bool} {mode : DecodeErrorMode}
+    {before after : Output} {result : DecoderResult} {read : ℕ} {replaced : Bool}
     → DecoderCallInto units_of old new src last mode before after result read replaced
     → MeetsDecodeNeed units_of mode old new src last before.room result read (before.room - after.room)
-meets_into units_of old new src last mode before after result read replaced this_call =
-    let f = this_call.call.call.fits in
+meets_into {units_of} {old} {new} {src} {last} {mode} {before} {after} {result} {read} {replaced} this_call =
     subst (λ n. MeetsDecodeNeed units_of mode old new src last before.room result read n)
-    (omega (arith, f, ap (λ (o : Output). o.room) this_call.onto))
+    (omega (arith, this_call.call.call.fits, ap (λ (o : Output). o.room) this_call.onto))
     (meets_need units_of old new src last mode before.room result read this_call.wrote replaced this_call.call.call)

@@ -10,4 +10,4 @@ returns-then-is_reported-clause-call g c =
     (c.is_reported.ensures.room c.if-is_reported.true)
 
 pub returns-then-is_reported-clause-need : goal.returns-then-is_reported-clause-need
-returns-then-is_reported-clause-need g c = meets_into _ _ _ _ _ _ _ _ _ _ _ (returns-then-is_reported-clause-call g c)
+returns-then-is_reported-clause-need g c = meets_into (returns-then-is_reported-clause-call g c)

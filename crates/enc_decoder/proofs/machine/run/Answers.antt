@@ -90,10 +90,10 @@ loop-state-smaller g c =
 -- what a call needs, by what it does
 
 pub returns-in-NeedsInput-clause-need : goal.returns-in-NeedsInput-clause-need
-returns-in-NeedsInput-clause-need g c = meets_into _ _ _ _ _ _ _ _ _ _ _ (returns-in-NeedsInput-clause-call g c)
+returns-in-NeedsInput-clause-need g c = meets_into (returns-in-NeedsInput-clause-call g c)
 
 pub returns-then-is_reported-clause-need : goal.returns-then-is_reported-clause-need
-returns-then-is_reported-clause-need g c = meets_into _ _ _ _ _ _ _ _ _ _ _ (returns-then-is_reported-clause-call g c)
+returns-then-is_reported-clause-need g c = meets_into (returns-then-is_reported-clause-call g c)
 
 pub returns-then-not-put_out-clause-need : goal.returns-then-not-put_out-clause-need
-returns-then-not-put_out-clause-need g c = meets_into _ _ _ _ _ _ _ _ _ _ _ (returns-then-not-put_out-clause-call g c)
+returns-then-not-put_out-clause-need g c = meets_into (returns-then-not-put_out-clause-call g c)
