@@ -53,9 +53,9 @@ pub record Latin1Front {C : Type 0} (state : C → CodecState) (v : CodecState) 
       ++ (remainder_of (state now)).sequences y
   pub none_pending : (state now).pending ≡ []
 
-pub latin1_begins : {C : Type 0} (state : C → CodecState) (c : C) (bytes : List ℕ) → (state c).pending ≡ []
+pub latin1_begins : {C : Type 0} {state : C → CodecState} {c : C} {bytes : List ℕ} → (state c).pending ≡ []
     → Latin1Front state (state c) bytes 0 c
-latin1_begins state c bytes n = record {
+latin1_begins n = record {
   within = omega arith;
   front = [];
   themselves = tt;
@@ -63,7 +63,7 @@ latin1_begins state c bytes n = record {
   none_pending = n;
 }
 
-module _ {C : Type 0} (state : C → CodecState) (v : CodecState) (bytes : List ℕ) (k : ℕ) (now : C)
+module _ {C : Type 0} {state : C → CodecState} {v : CodecState} {bytes : List ℕ} {k : ℕ} {now : C}
     (latin1_front : Latin1Front state v bytes k now) where
   -- k bytes are so, if a byte more is not
   prefix_if : (k < length bytes → (s : Sequence) → IsLatin1Sequence s (get_or bytes k 0)

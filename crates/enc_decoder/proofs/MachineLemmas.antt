@@ -22,13 +22,12 @@ use Rattle.enc_decoder.proofs.DecodeProgressLemmas.{accounted_further}
 use Rattle.enc_decoder.proofs.CallLemmas.{empty, full, report_before, report_with}
 use Rattle.enc_decoder.proofs.NextEventLemmas as coming
 
-pub begin : (units_of : ℕ → List ℕ) (v : CodecState) (src : List ℕ) (last : Bool) (before : Output)
+pub begin : {units_of : ℕ → List ℕ} (v : CodecState) {src : List ℕ} {last : Bool} {before : Output}
     → Writing units_of (remainder_of v) src last before before 0 (remainder_of v)
-begin units_of v src last before = record {
+begin v {before = before} = record {
   wrote = [];
   onto = sym (with_appended-nil before);
-  progress = start
-      units_of (remainder_of v) src last before.room;
+  progress = start;
 }
 
 none_left : (v : CodecState) → v.pending ≡ [] → (remainder_of v).sequences [] ≡ []
@@ -40,8 +39,8 @@ one_unit units_of c = append-nil (units_of c)
 not_le : (m n : ℕ) → n < m → nat_le m n ≡ false
 not_le m n h = grind (arith, nat_tests)
 
-module _ {C : Type 0} (units_of : ℕ → List ℕ) (state : C → CodecState) (v : CodecState) (c : C) (src : List ℕ)
-    (last keeps : Bool) (before after : Output) (read : ℕ)
+module _ {C : Type 0} {units_of : ℕ → List ℕ} (state : C → CodecState) {v : CodecState} (c : C) {src : List ℕ}
+    {last : Bool} (keeps : Bool) {before after : Output} {read : ℕ}
     (writing : Writing units_of (remainder_of v) src last before after read (remainder_of (state c)))
     (same : (state c).rule ≡ v.rule) where
   goes : (y : List ℕ) → AreFirstSequences writing.progress.done ((remainder_of v).sequences (take read src ++ y))
@@ -55,8 +54,7 @@ module _ {C : Type 0} (units_of : ℕ → List ℕ) (state : C → CodecState) (
   stays event = record {
     wrote = writing.wrote;
     onto = writing.onto;
-    call = empty units_of (remainder_of v) src last before.room read (remainder_of (state c)) writing.wrote keeps
-        writing.progress goes event.0 event.1 (λ l. none_left (state c) (event.1 l)) event.2;
+    call = empty keeps writing.progress goes event.0 event.1 (λ l. none_left (state c) (event.1 l)) event.2;
   }
 
   pub holds : (n : C) → IsNextEvent state c src read last (HoldsByte n)
@@ -67,8 +65,7 @@ module _ {C : Type 0} (units_of : ℕ → List ℕ) (state : C → CodecState) (
         wrote = writing.wrote;
         onto = writing.onto;
         progress =
-            hold units_of (remainder_of v) src last before.room read (remainder_of (state c)) writing.wrote
-            writing.progress (remainder_of (state n)) event.0
+            hold writing.progress (remainder_of (state n)) event.0
             (coming.holds_pending (state c) (state n) b event.1.0) (coming.holds_set (state c) (state n) b event.1.0)
             (coming.holds_sequences (state c) (state n) b event.1.0) event.1.1;
       }
@@ -83,10 +80,9 @@ module _ {C : Type 0} (units_of : ℕ → List ℕ) (state : C → CodecState) (
     wrote = writing.wrote;
     onto = writing.onto;
     call =
-        full units_of (remainder_of v) src last before.room read (remainder_of (state c)) writing.wrote keeps
-        writing.progress goes
-        (coming.sequence state c src read last s event.0)
-        (coming.comes_first state c src read last s event.0 (λ t. (event.1 t).0)) k
+        full keeps writing.progress goes
+        (coming.sequence event.0)
+        (coming.comes_first event.0 (λ t. (event.1 t).0)) k
         (overflows_after before.room (length writing.wrote) (length (units_of_text units_of (text_chars s.text)))
         writing.progress.fits
         (subst (λ r. nat_le (length (units_of_text units_of (text_chars s.text))) r ≡ false)
@@ -155,11 +151,10 @@ module _ {C : Type 0} (units_of : ℕ → List ℕ) (state : C → CodecState) (
         wrote = writing.wrote ++ units_of_text units_of (text_chars s.text);
         onto = onto_after (text_chars s.text) then o;
         progress =
-            put_with units_of (remainder_of v) src last before.room read (remainder_of (state c)) writing.wrote
-            writing.progress
-            (coming.sequence state c src read last s event.0) (remainder_of (state s.next)) shown.0
-            (coming.parts_with state c src read last s event.0 takes) refl
-            (coming.first_with state c src read last s event.0 takes) shown.2 g i (fits (text_chars s.text) f);
+            put_with writing.progress
+            (coming.sequence event.0) (remainder_of (state s.next)) shown.0
+            (coming.parts_with event.0 takes) refl
+            (coming.first_with event.0 takes) shown.2 g i (fits (text_chars s.text) f);
       }
 
   pub puts_before : (s : Emission C) (then : Output) → IsNextEvent state c src read last (Emits s)
@@ -172,11 +167,10 @@ module _ {C : Type 0} (units_of : ℕ → List ℕ) (state : C → CodecState) (
         wrote = writing.wrote ++ units_of_text units_of (text_chars s.text);
         onto = onto_after (text_chars s.text) then o;
         progress =
-            put_before units_of (remainder_of v) src last before.room read (remainder_of (state c)) writing.wrote
-            writing.progress
-            (coming.sequence state c src read last s event.0) (remainder_of (state s.next))
-            (coming.parts_before state c src read last s event.0 leaves) refl
-            (coming.first_before state c src read last s event.0 leaves) g i (fits (text_chars s.text) f);
+            put_before writing.progress
+            (coming.sequence event.0) (remainder_of (state s.next))
+            (coming.parts_before event.0 leaves) refl
+            (coming.first_before event.0 leaves) g i (fits (text_chars s.text) f);
       }
 
   -- the sequence is malformed, and is reported
@@ -195,27 +189,23 @@ module _ {C : Type 0} (units_of : ℕ → List ℕ) (state : C → CodecState) (
       → DecoderCallInto units_of (remainder_of v) (remainder_of (state s.next)) src last (Fatal keeps) before after
       (Malformed s.len a) read false
   reports_before s a event malformed leaves is_pending r =
-      let q = coming.sequence state c src read last s event.0 in record {
+      let q = coming.sequence event.0 in record {
         wrote = writing.wrote;
         onto = writing.onto;
         call =
-            report_before units_of (remainder_of v) src last before.room read (remainder_of (state c)) writing.wrote
-            keeps
-            writing.progress
-            (coming.sequence state c src read last s event.0) (remainder_of (state s.next)) s.len a
+            report_before keeps writing.progress
+            (coming.sequence event.0) (remainder_of (state s.next)) s.len a
             (λ y g. goes_on v (state s.next) (take read src) y (writing.progress.done ++ q ∷ [])
             (event.0.same_rule ∙ same)
-            (set_then units_of (remainder_of v) src last before.room read (remainder_of (state c)) writing.wrote
-            writing.progress q (remainder_of (state s.next)) refl)
-            (accounted_after units_of (remainder_of v) src last before.room read (remainder_of (state c)) writing.wrote
-            writing.progress q (v.pending ++ take read src) (state s.next).pending
+            (set_then writing.progress q (remainder_of (state s.next)) refl)
+            (accounted_after writing.progress q (v.pending ++ take read src) (state s.next).pending
             (writing.progress.accounted ∙ ap (λ x. sequence_bytes writing.progress.done ++ x)
-            (coming.parts_before state c src read last s event.0 leaves))) g)
-            malformed (coming.not_late state c src read last s event.0 leaves) (event.0.replacement malformed)
+            (coming.parts_before event.0 leaves))) g)
+            malformed (coming.not_late event.0 leaves) (event.0.replacement malformed)
             event.0.len (some_len s event)
             (subst (AreReportedLens s.kind s.len) (sym is_pending) (event.0.bounds malformed)) is_pending (room_kept r)
-            (coming.parts_before state c src read last s event.0 leaves) refl
-            (coming.first_before state c src read last s event.0 leaves);
+            (coming.parts_before event.0 leaves) refl
+            (coming.first_before event.0 leaves);
       }
 
   pub reports_with : (s : Emission C) (a : ℕ) → IsNextEvent state c src read last (Emits s)
@@ -224,29 +214,25 @@ module _ {C : Type 0} (units_of : ℕ → List ℕ) (state : C → CodecState) (
       → DecoderCallInto units_of (remainder_of v) (remainder_of (state s.next)) src last (Fatal keeps) before after
       (Malformed s.len a) (read + 1) false
   reports_with s a event malformed takes is_pending r =
-      let shown = event.1 takes in let q = coming.sequence state c src read last s event.0 in
+      let shown = event.1 takes in let q = coming.sequence event.0 in
       record {
         wrote = writing.wrote;
         onto = writing.onto;
         call =
-            report_with units_of (remainder_of v) src last before.room read (remainder_of (state c)) writing.wrote
-            keeps writing.progress
-            (coming.sequence state c src read last s event.0) (remainder_of (state s.next)) s.len a
+            report_with keeps writing.progress
+            (coming.sequence event.0) (remainder_of (state s.next)) s.len a
             (λ y g. goes_on v (state s.next) (take (read + 1) src) y (writing.progress.done ++ q ∷ [])
             (event.0.same_rule ∙ same)
-            (set_then units_of (remainder_of v) src last before.room read (remainder_of (state c)) writing.wrote
-            writing.progress q (remainder_of (state s.next)) refl)
-            (accounted_after units_of (remainder_of v) src last before.room read (remainder_of (state c)) writing.wrote
-            writing.progress q (v.pending ++ take (read + 1) src) (state s.next).pending
-            (accounted_further units_of (remainder_of v) src last before.room read (remainder_of (state c))
-            writing.wrote writing.progress shown.0
+            (set_then writing.progress q (remainder_of (state s.next)) refl)
+            (accounted_after writing.progress q (v.pending ++ take (read + 1) src) (state s.next).pending
+            (accounted_further writing.progress shown.0
             ∙ ap (λ x. sequence_bytes writing.progress.done ++ x)
-            (coming.parts_with state c src read last s event.0 takes))) g)
+            (coming.parts_with event.0 takes))) g)
             shown.2 malformed (event.0.replacement malformed) (event.0.clean takes)
             event.0.len (some_len s event)
             (subst (AreReportedLens s.kind s.len) (sym is_pending) (event.0.bounds malformed)) is_pending
-            (room_kept r) shown.0 (coming.parts_with state c src read last s event.0 takes) refl
-            (coming.first_with state c src read last s event.0 takes)
-            (λ _ d. coming.not_shown_yet units_of v (state c) src last before.room read writing.wrote writing.progress
-            same shown.1 (coming.sequence state c src read last s event.0) d);
+            (room_kept r) shown.0 (coming.parts_with event.0 takes) refl
+            (coming.first_with event.0 takes)
+            (λ _ d. coming.not_shown_yet v (state c) writing.progress
+            same shown.1 (coming.sequence event.0) d);
       }

@@ -21,13 +21,13 @@ pub record Turning (units_of : ℕ → List ℕ) (old : Remainder) (src : List �
   pub onto : after ≡ with_appended before wrote
   pub turned : Turned units_of old src last before.room read now wrote replaced
 
-pub begin : (units_of : ℕ → List ℕ) (old : Remainder) (src : List ℕ) (last : Bool) (before : Output)
+pub begin : {units_of : ℕ → List ℕ} {old : Remainder} {src : List ℕ} {last : Bool} {before : Output}
     → Turning units_of old src last before before 0 old false
-begin units_of old src last before =
+begin {before = before} =
     record {
       wrote = [];
       onto = sym (with_appended-nil before);
-      turned = successive.start units_of old src last before.room;
+      turned = successive.start;
     }
 
 fits_then : (n room : ℕ) → n ≤ room → nat_le n room ≡ true
@@ -42,15 +42,14 @@ at_hand old new src bytes next n e h s =
     (bytes ++ next) new in let j = length-append bytes next in let k = length-take n src in
     omega arith
 
-module _ (units_of : ℕ → List ℕ) (old : Remainder) (src : List ℕ) (bytes : AreBytes src) (last : Bool)
-    (before after : Output) (read : ℕ) (now : Remainder) (replaced : Bool)
+module _ {units_of : ℕ → List ℕ} {old : Remainder} {src : List ℕ} (bytes : AreBytes src) {last : Bool}
+    {before after : Output} {read : ℕ} {now : Remainder} {replaced : Bool}
     (turning : Turning units_of old src last before after read now replaced) where
-  room_at : {result : DecoderResult} (new : Remainder) (n : ℕ) (more : List ℕ)
+  room_at : {result : DecoderResult} {new : Remainder} {n : ℕ} {more : List ℕ}
       → RawDecoderCall units_of now new (drop read src) last (Fatal true) after.room result n more false
       → RawDecoderCall units_of now new (drop read src) last (Fatal true) (before.room - length turning.wrote) result n
-      more
-      false
-  room_at {result} new n more c =
+      more false
+  room_at {result} {new} {n} {more} c =
       subst (λ r. RawDecoderCall units_of now new (drop read src) last (Fatal true) r result n more false)
       (room_left before after turning.wrote turning.onto) c
 
@@ -59,29 +58,26 @@ module _ (units_of : ℕ → List ℕ) (old : Remainder) (src : List ℕ) (bytes
   onto_on then more e =
       e ∙ ap (λ o. with_appended o more) turning.onto ∙ with_appended-with_appended before turning.wrote more
 
-  pub empties : (new : Remainder) (n : ℕ) (then : Output) → DecoderCallInto units_of now new (drop read src) last
+  pub empties : {new : Remainder} {n : ℕ} {then : Output} → DecoderCallInto units_of now new (drop read src) last
       (Fatal true) after then InputEmpty n false
       → DecoderCallInto units_of old new src last Replacement before then InputEmpty (read + n) replaced
-  empties new n then next_call = record {
+  empties {then = then} next_call = record {
     wrote = turning.wrote ++ next_call.wrote;
     onto = onto_on then next_call.wrote next_call.onto;
     call =
-        successive.empties units_of old src bytes last before.room read now turning.wrote replaced turning.turned new
-        n
-        next_call.wrote (room_at new n next_call.wrote next_call.call);
+        successive.empties bytes turning.turned (room_at next_call.call);
   }
 
-  pub fills : (new : Remainder) (n : ℕ) (then : Output) → DecoderCallInto units_of now new (drop read src) last
+  pub fills : {new : Remainder} {n : ℕ} {then : Output} → DecoderCallInto units_of now new (drop read src) last
       (Fatal true) after then OutputFull n false
       → DecoderCallInto units_of old new src last Replacement before then OutputFull (read + n) replaced
-  fills new n then next_call = record {
+  fills {then = then} next_call = record {
     wrote = turning.wrote ++ next_call.wrote;
     onto = onto_on then next_call.wrote next_call.onto;
-    call = successive.fills units_of old src bytes last before.room read now turning.wrote replaced turning.turned new n
-        next_call.wrote (room_at new n next_call.wrote next_call.call);
+    call = successive.fills bytes turning.turned (room_at next_call.call);
   }
 
-  module _ (new : Remainder) (n l a : ℕ) (then : Output)
+  module _ {new : Remainder} {n l a : ℕ} {then : Output}
       (next_call : DecoderCallInto units_of now new (drop read src) last (Fatal true) after then (Malformed l a) n
       false)
     where
@@ -93,15 +89,14 @@ module _ (units_of : ℕ → List ℕ) (old : Remainder) (src : List ℕ) (bytes
           next_call.call.call.stops.room_kept refl in
           fits_then (length (units_of 0xFFFD)) then.room (omega arith)
 
-      pub replaces : (end : Output) → end ≡ with_appended then (units_of 0xFFFD)
+      pub replaces : {end : Output} → end ≡ with_appended then (units_of 0xFFFD)
           → Turning units_of old src last before end (read + n) new true
-      replaces end e = record {
+      replaces e = record {
         wrote = (turning.wrote ++ next_call.wrote) ++ units_of 0xFFFD;
         onto = e ∙ ap (λ o. with_appended o (units_of 0xFFFD)) (onto_on then next_call.wrote next_call.onto)
             ∙ with_appended-with_appended before (turning.wrote ++ next_call.wrote) (units_of 0xFFFD);
         turned =
-            successive.replaces units_of old src bytes last before.room read now turning.wrote replaced turning.turned
-            new n l a next_call.wrote (room_at new n next_call.wrote next_call.call);
+            successive.replaces bytes turning.turned (room_at next_call.call);
       }
 
       pub falls : length new.pending + (length src - (read + n)) < length now.pending + (length src - read)

@@ -219,8 +219,8 @@ module _ (units_of : ℕ → List ℕ) (old inner : Remainder) (src bytes : List
           ∙ ap (λ x. (before ++ inner_call.done) ++ x) (h.after z ends)
 
       -- the inner one comes to the end of its input
-      pub carries_empty : (inner_call : DecoderCall units_of inner then bytes last mode room_left InputEmpty n written
-          replaced)
+      pub carries_empty :
+          (inner_call : DecoderCall units_of inner then bytes last mode room_left InputEmpty n written replaced)
           → Follows old then new src bytes last InputEmpty before inner_call.done left below n read
           → (e : DecoderCall units_of old new src last mode room InputEmpty read (wrote ++ written) (had || replaced))
           × (e.done ≡ before ++ inner_call.done)
@@ -241,10 +241,11 @@ module _ (units_of : ℕ → List ℕ) (old inner : Remainder) (src bytes : List
             only_put = ap (λ x. before ++ x) inner_call.stops.only_put;
             all_read = all_read carries reads inner_call.stops.all_read;
             none_determined = λ not_last s d. inner_call.stops.none_determined not_last s (λ z b.
-                begins_after before (inner_call.done ++ s ∷ []) (inner.sequences (bytes ++ z)) (old.sequences (src ++ z))
+                begins_after before (inner_call.done ++ s ∷ []) (inner.sequences (bytes ++ z))
+                (old.sequences (src ++ z))
                 (carries.plain z (λ t. absurd (false≢true (sym not_last ∙ t))))
-                (subst (λ x. AreFirstSequences x (old.sequences (src ++ z))) (append_assoc before inner_call.done (s ∷ []))
-                (d z b)));
+                (subst (λ x. AreFirstSequences x (old.sequences (src ++ z)))
+                (append_assoc before inner_call.done (s ∷ [])) (d z b)));
             none_left = λ l.
                 ap (λ x. new.sequences (x ++ []))
                 (sym (drop_of_length-le src (omega (arith, all_read carries reads inner_call.stops.all_read))))
@@ -259,8 +260,8 @@ module _ (units_of : ℕ → List ℕ) (old inner : Remainder) (src bytes : List
       )
 
       -- the inner one stops for want of room
-      pub carries_full : (inner_call : DecoderCall units_of inner then bytes last mode room_left OutputFull n written
-          replaced)
+      pub carries_full :
+          (inner_call : DecoderCall units_of inner then bytes last mode room_left OutputFull n written replaced)
           → Follows old then new src bytes last OutputFull before inner_call.done left below n read
           → (e : DecoderCall units_of old new src last mode room OutputFull read (wrote ++ written) (had || replaced))
           × (e.done ≡ before ++ inner_call.done)
@@ -309,10 +310,12 @@ module _ (units_of : ℕ → List ℕ) (old inner : Remainder) (src bytes : List
               → P ((before ++ inner_call.done) ++ inner_call.stops.next ∷ [])
           regrouped P = subst P (sym (append_assoc before inner_call.done (inner_call.stops.next ∷ [])))
 
-      module _ (l a : ℕ) (inner_call : DecoderCall units_of inner then bytes last mode room_left (Malformed l a) n written
-          replaced) where
+      module _ (l a : ℕ)
+          (inner_call : DecoderCall units_of inner then bytes last mode room_left (Malformed l a) n written replaced)
+          where
         abbrev Accounted : Type 0
-        Accounted = (inner.pending ≡ []) × (inner.pending ++ take n bytes ≡ sequence_bytes inner_call.done ++ then.pending)
+        Accounted = (inner.pending ≡ [])
+            × (inner.pending ++ take n bytes ≡ sequence_bytes inner_call.done ++ then.pending)
 
         -- Where the inner one reports a malformed sequence: whether all bytes that it has read are read, or else fewer
         -- than a repeated escape and the byte that shows it have; and whether held bytes are left.
@@ -411,8 +414,8 @@ module _ (units_of : ℕ → List ℕ) (old inner : Remainder) (src bytes : List
         }
 
         -- it is reported
-        pub carries_malformed : Follows old then new src bytes last (Malformed l a) before inner_call.done left below n read
-            → Placed
+        pub carries_malformed :
+            Follows old then new src bytes last (Malformed l a) before inner_call.done left below n read → Placed
             → (e : DecoderCall units_of old new src last mode room (Malformed l (a + left)) read (wrote ++ written)
             (had || replaced)) × (e.done ≡ before ++ inner_call.done)
         carries_malformed follows placed = (
@@ -455,24 +458,27 @@ module _ (units_of : ℕ → List ℕ) (old inner : Remainder) (src bytes : List
           refl,
         )
           where
-            hides : (s : Sequence) → (Determines old.sequences (take read src) (before ++ (inner_call.done ++ s ∷ [])) → ⊥)
+            hides : (s : Sequence)
+                → (Determines old.sequences (take read src) (before ++ (inner_call.done ++ s ∷ [])) → ⊥)
                 → Determines old.sequences (take read src) ((before ++ inner_call.done) ++ s ∷ []) → ⊥
             hides s h d =
                 h (subst (Determines old.sequences (take read src)) (append_assoc before inner_call.done (s ∷ [])) d)
+
+            hidden_below : read < below → (s : Sequence)
+                → Determines old.sequences (take read src) ((before ++ inner_call.done) ++ s ∷ []) → ⊥
+            hidden_below h s =
+                hides s (unshown carries (inner_call.done ++ s ∷ []) (first_of inner_call.done s) read h)
 
             none_after : (read ≡ 0) ⊎ ((s : Sequence) → Determines old.sequences (take read src)
                 ((before ++ inner_call.done) ++ s ∷ []) → ⊥)
             none_after = elim reads.exact [
               | inl e ↦ inl e
               | inr e ↦ elim e [
-                | inl i ↦ inr (λ s. hides s (unshown carries (inner_call.done ++ s ∷ []) (first_of inner_call.done s) read i))
+                | inl i ↦ inr (hidden_below i)
                 | inr past_prefix ↦ elim inner_call.stops.none_after [
-                  | inl j ↦ elim (reads.none j) [
-                    | inl k ↦ inl k
-                    | inr k ↦ inr (λ s. hides s (unshown carries (inner_call.done ++ s ∷ []) (first_of inner_call.done s) read k))
-                  ]
-                  | inr j ↦ inr (λ s. hides s (λ d. j s
-                      (hidden carries n read (inner_call.done ++ s ∷ []) past_prefix.0 reads.within past_prefix.1 d)))
+                  | inl j ↦ elim (reads.none j) [ inl k ↦ inl k | inr k ↦ inr (hidden_below k) ]
+                  | inr j ↦ inr (λ s. hides s (λ d. j s (hidden carries n read (inner_call.done ++ s ∷ [])
+                      past_prefix.0 reads.within past_prefix.1 d)))
                 ]
               ]
             ]

@@ -40,9 +40,9 @@ nothing_determined : (last : Bool) (remaining : List ℕ → List Sequence) (x :
 nothing_determined true remaining x = (remaining x, refl)
 nothing_determined false remaining x = λ z _. (remaining (x ++ z), refl)
 
-pub start : (units_of : ℕ → List ℕ) (old : Remainder) (src : List ℕ) (last : Bool) (room : ℕ)
+pub start : {units_of : ℕ → List ℕ} {old : Remainder} {src : List ℕ} {last : Bool} {room : ℕ}
     → Turned units_of old src last room 0 old [] false
-start units_of old src last room = record {
+start {old} {src} {last} = record {
   done = [];
   within = omega arith;
   residual = λ z n. refl;
@@ -88,8 +88,8 @@ any_malformed-last : (ss : List Sequence) (s : Sequence) → is_malformed s.kind
 any_malformed-last ss s e =
     any_malformed-append ss (s ∷ []) ∙ ap (λ b. any_malformed ss || (b || false)) e ∙ or_true (any_malformed ss)
 
-module _ (units_of : ℕ → List ℕ) (old : Remainder) (src : List ℕ) (bytes : AreBytes src) (last : Bool)
-    (room read : ℕ) (now : Remainder) (wrote : List ℕ) (replaced : Bool)
+module _ {units_of : ℕ → List ℕ} {old : Remainder} {src : List ℕ} (bytes : AreBytes src) {last : Bool}
+    {room read : ℕ} {now : Remainder} {wrote : List ℕ} {replaced : Bool}
     (turned : Turned units_of old src last room read now wrote replaced) where
   abbrev rest : List ℕ
   rest = drop read src
@@ -246,10 +246,10 @@ module _ (units_of : ℕ → List ℕ) (old : Remainder) (src : List ℕ) (bytes
   within_on n h = let e = length-drop read src in omega (arith, turned.within)
 
   -- the last call comes to the end of the offer
-  pub empties : (new : Remainder) (n : ℕ) (more : List ℕ)
+  pub empties : {new : Remainder} {n : ℕ} {more : List ℕ}
       → RawDecoderCall units_of now new rest last (Fatal true) (room - length wrote) InputEmpty n more false
       → RawDecoderCall units_of old new src last Replacement room InputEmpty (read + n) (wrote ++ more) replaced
-  empties new n more next_call =
+  empties {new} {n} {more} next_call =
       let same : next_call.call.done ≡ next_call.call.put = next_call.call.stops.only_put in
       record {
         call = record {
@@ -283,10 +283,10 @@ module _ (units_of : ℕ → List ℕ) (old : Remainder) (src : List ℕ) (bytes
       }
 
   -- the last call stops for want of room
-  pub fills : (new : Remainder) (n : ℕ) (more : List ℕ)
+  pub fills : {new : Remainder} {n : ℕ} {more : List ℕ}
       → RawDecoderCall units_of now new rest last (Fatal true) (room - length wrote) OutputFull n more false
       → RawDecoderCall units_of old new src last Replacement room OutputFull (read + n) (wrote ++ more) replaced
-  fills new n more next_call =
+  fills {new} {n} {more} next_call =
       let same : next_call.call.done ≡ next_call.call.put = next_call.call.stops.only_put in
       let next = next_call.call.stops.next in
       let same_list : turned.done ++ (next_call.call.done ++ next ∷ [])
@@ -331,10 +331,10 @@ module _ (units_of : ℕ → List ℕ) (old : Remainder) (src : List ℕ) (bytes
       }
 
   -- the last call reports a malformed sequence, and U+FFFD is put out for it
-  pub replaces : (new : Remainder) (n l a : ℕ) (more : List ℕ)
+  pub replaces : {new : Remainder} {n l a : ℕ} {more : List ℕ}
       → RawDecoderCall units_of now new rest last (Fatal true) (room - length wrote) (Malformed l a) n more false
       → Turned units_of old src last room (read + n) new ((wrote ++ more) ++ units_of 0xFFFD) true
-  replaces new n l a more next_call =
+  replaces {new} {n} {more = more} next_call =
       let stopped = next_call.call.stops in
       record {
         done = turned.done ++ next_call.call.done;

@@ -29,9 +29,9 @@ pub record Ahead {C : Type 0} (units_of : ℕ → List ℕ) (state : C → Codec
   pub pending : length (state n).pending ≡ length (state c).pending
   pub within : read ≤ length src
 
-module _ {C : Type 0} (units_of : ℕ → List ℕ) (state : C → CodecState) (v : CodecState) (c n : C) (src : List ℕ)
-    (last : Bool) (before at then : Output) (read took : ℕ)
-    (writing : Writing units_of (remainder_of v) src last before at read (remainder_of (state c))) (rest : List ℕ)
+module _ {C : Type 0} {units_of : ℕ → List ℕ} {state : C → CodecState} (v : CodecState) {c n : C} {src : List ℕ}
+    {last : Bool} {before at then : Output} {read took : ℕ}
+    (writing : Writing units_of (remainder_of v) src last before at read (remainder_of (state c))) {rest : List ℕ}
     (e : rest ≡ drop read src) (given : TakesRun units_of state c n rest took at then) where
   t : TakesRun units_of state c n (drop read src) took at then
   t = subst (λ z. TakesRun units_of state c n z took at then) e given
@@ -128,31 +128,23 @@ module _ {C : Type 0} (units_of : ℕ → List ℕ) (state : C → CodecState) (
 
 -- what comes next reads a byte or leaves fewer pending
 
-lengths : {C : Type 0} (state : C → CodecState) (c : C) (may_follow : List ℕ → Type 0) (took : List ℕ) (s : Emission C)
+lengths : {C : Type 0} {state : C → CodecState} {c : C} {may_follow : List ℕ → Type 0} {took : List ℕ} {s : Emission C}
     (next : IsNextSequence state c may_follow took s)
     → length (state c).pending + length took ≡ length next.bytes + length (state s.next).pending
-lengths state c may_follow took s next =
+lengths {state = state} {c} {took = took} {s} next =
     sym (length-append (state c).pending took) ∙ ap length next.parts ∙ length-append next.bytes (state s.next).pending
 
-pub fewer_with : {C : Type 0} (state : C → CodecState) (c : C) (may_follow : List ℕ → Type 0) (b : ℕ) (s : Emission C)
+pub fewer_with : {C : Type 0} {state : C → CodecState} {c : C} {may_follow : List ℕ → Type 0} (b : ℕ) {s : Emission C}
     → IsNextSequence state c may_follow (taken_bytes s.takes_byte b) s → s.takes_byte ≡ true
     → length (state s.next).pending ≤ length (state c).pending
-fewer_with state c may_follow b s next t =
-    let f = next.some in omega (
-      arith,
-      lengths state c may_follow (taken_bytes s.takes_byte b) s next,
-      ap (λ x. length (taken_bytes x b)) t,
-    )
+fewer_with b next t =
+    omega (arith, next.some, lengths next, ap (λ x. length (taken_bytes x b)) t)
 
-pub fewer_before : {C : Type 0} (state : C → CodecState) (c : C) (may_follow : List ℕ → Type 0) (b : ℕ)
-    (s : Emission C) → IsNextSequence state c may_follow (taken_bytes s.takes_byte b) s → s.takes_byte ≡ false
+pub fewer_before : {C : Type 0} {state : C → CodecState} {c : C} {may_follow : List ℕ → Type 0} (b : ℕ)
+    {s : Emission C} → IsNextSequence state c may_follow (taken_bytes s.takes_byte b) s → s.takes_byte ≡ false
     → length (state s.next).pending < length (state c).pending
-fewer_before state c may_follow b s next t =
-    let f = next.some in omega (
-      arith,
-      lengths state c may_follow (taken_bytes s.takes_byte b) s next,
-      ap (λ x. length (taken_bytes x b)) t,
-    )
+fewer_before b next t =
+    omega (arith, next.some, lengths next, ap (λ x. length (taken_bytes x b)) t)
 
 -- Nothing is taken.
 pub takes_none : {C : Type 0} (units_of : ℕ → List ℕ) (state : C → CodecState) (c : C) (src : List ℕ) (o : Output)
