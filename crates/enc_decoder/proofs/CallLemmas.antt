@@ -25,9 +25,9 @@ one_past : (src : List ℕ) (n : ℕ) (z : List ℕ) → n < length src → take
 one_past src n z h = sym (append_assoc (take n src) (get_or src n 0 ∷ []) z) ∙ ap (λ x. x ++ z) (sym (take_more src n 0 h))
 
 module _ {units_of : ℕ → List ℕ} {old : Remainder} {src : List ℕ} {last : Bool} {room read : ℕ} {now : Remainder}
-    {wrote : List ℕ} (keeps : Bool) (progress : Progress units_of old src last room read now wrote) where
+    {wrote : List ℕ} (progress : Progress units_of old src last room read now wrote) where
   -- everything is read, and nothing is determined
-  pub empty : ((y : List ℕ) → AreFirstSequences progress.done (old.sequences (take read src ++ y))
+  pub empty : {keeps : Bool} → ((y : List ℕ) → AreFirstSequences progress.done (old.sequences (take read src ++ y))
       → old.sequences (take read src ++ y) ≡ progress.done ++ now.sequences y)
       → length src ≤ read → (last ≡ true → now.pending ≡ []) → (last ≡ true → now.sequences [] ≡ []) → IsUndetermined now.sequences
       → RawDecoderCall units_of old now src last (Fatal keeps) room InputEmpty read wrote false
@@ -59,7 +59,7 @@ module _ {units_of : ℕ → List ℕ} {old : Remainder} {src : List ℕ} {last 
   }
 
   -- a sequence comes that doesn't fit
-  pub full : ((y : List ℕ) → AreFirstSequences progress.done (old.sequences (take read src ++ y))
+  pub full : {keeps : Bool} → ((y : List ℕ) → AreFirstSequences progress.done (old.sequences (take read src ++ y))
       → old.sequences (take read src ++ y) ≡ progress.done ++ now.sequences y)
       → (q : Sequence) → ((y : List ℕ) → MayFollowRead src read last y → AreFirstSequences (q ∷ []) (now.sequences y)) → (keeps ≡ false → is_malformed q.kind ≡ false)
       → room < length wrote + length (units_of_text units_of q.text)
@@ -98,7 +98,7 @@ module _ {units_of : ℕ → List ℕ} {old : Remainder} {src : List ℕ} {last 
   room_for_replacement w e h = subst (λ (x : List ℕ). length x + length (units_of 0xFFFD) ≤ room) e h
 
   -- a malformed sequence comes, and is reported; the byte that shows it is not its own
-  pub report_before : (q : Sequence) (next : Remainder) (l a : ℕ)
+  pub report_before : {keeps : Bool} (q : Sequence) (next : Remainder) (l a : ℕ)
       → ((y : List ℕ) → AreFirstSequences (progress.done ++ q ∷ []) (old.sequences (take read src ++ y))
       → old.sequences (take read src ++ y) ≡ (progress.done ++ q ∷ []) ++ next.sequences y)
       → is_malformed q.kind ≡ true → is_repeated_escape q.kind ≡ false → q.text ≡ 0xFFFD ∷ []
@@ -157,7 +157,7 @@ module _ {units_of : ℕ → List ℕ} {old : Remainder} {src : List ℕ} {last 
   }
 
   -- the byte that shows it is read with it
-  pub report_with : (q : Sequence) (next : Remainder) (l a : ℕ)
+  pub report_with : {keeps : Bool} (q : Sequence) (next : Remainder) (l a : ℕ)
       → ((y : List ℕ) → AreFirstSequences (progress.done ++ q ∷ []) (old.sequences (take (read + 1) src ++ y))
       → old.sequences (take (read + 1) src ++ y) ≡ (progress.done ++ q ∷ []) ++ next.sequences y)
       → IsUndetermined next.sequences → is_malformed q.kind ≡ true → q.text ≡ 0xFFFD ∷ []

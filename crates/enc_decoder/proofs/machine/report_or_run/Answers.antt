@@ -5,7 +5,7 @@ use Rattle.enc_decoder.proofs.machine.report_or_run.Goals as goal
 
 pub returns-then-is_reported-clause-call : goal.returns-then-is_reported-clause-call
 returns-then-is_reported-clause-call g c =
-    reports_with g.C.ByteCodec.state c.args.codec.now c.args.fault_room (begin _) refl _ _
+    reports_with g.C.ByteCodec.state c.args.codec.now (begin _) refl
     (c.is_at_lone_fault.ensures c.if-is_at_lone_fault.true c.args.last) refl refl c.held.ensures
     (c.is_reported.ensures.room c.if-is_reported.true)
 
