@@ -60,14 +60,15 @@ module _ {C : Type 0} {units_of : ℕ → List ℕ} (state : C → CodecState) {
   pub holds : (n : C) → IsNextEvent state c src read last (HoldsByte n)
       → Writing units_of (remainder_of v) src last before after (read + 1) (remainder_of (state n))
   holds n event =
-      let b = get_or src read 0 in
+      let byte = get_or src read 0 in
       record {
         wrote = writing.wrote;
         onto = writing.onto;
         progress =
             hold writing.progress (remainder_of (state n)) event.0
-            (coming.holds_pending (state c) (state n) b event.1.0) (coming.holds_set (state c) (state n) b event.1.0)
-            (coming.holds_sequences (state c) (state n) b event.1.0) event.1.1;
+            (coming.holds_pending (state c) (state n) byte event.1.0)
+            (coming.holds_set (state c) (state n) byte event.1.0)
+            (coming.holds_sequences (state c) (state n) byte event.1.0) event.1.1;
       }
 
   -- a sequence whose text has more units than the room that is left
@@ -189,16 +190,17 @@ module _ {C : Type 0} {units_of : ℕ → List ℕ} (state : C → CodecState) {
       → DecoderCallInto units_of (remainder_of v) (remainder_of (state s.next)) src last (Fatal keeps) before after
       (Malformed s.len a) read false
   reports_before {s = s} {a} event malformed leaves is_pending r =
-      let q = coming.sequence event.0 in record {
+      let reported = coming.sequence event.0 in
+      record {
         wrote = writing.wrote;
         onto = writing.onto;
         call =
             report_before writing.progress
-            (coming.sequence event.0) (remainder_of (state s.next)) s.len a
-            (λ y g. goes_on v (state s.next) (take read src) y (writing.progress.done ++ q ∷ [])
+            reported (remainder_of (state s.next)) s.len a
+            (λ y g. goes_on v (state s.next) (take read src) y (writing.progress.done ++ reported ∷ [])
             (event.0.same_rule ∙ same)
-            (set_then writing.progress q (remainder_of (state s.next)) refl)
-            (accounted_after writing.progress q (v.pending ++ take read src) (state s.next).pending
+            (set_then writing.progress reported (remainder_of (state s.next)) refl)
+            (accounted_after writing.progress reported (v.pending ++ take read src) (state s.next).pending
             (writing.progress.accounted ∙ ap (λ x. sequence_bytes writing.progress.done ++ x)
             (coming.parts_before event.0 leaves))) g)
             malformed (coming.not_late event.0 leaves) (event.0.replacement malformed)
@@ -214,17 +216,18 @@ module _ {C : Type 0} {units_of : ℕ → List ℕ} (state : C → CodecState) {
       → DecoderCallInto units_of (remainder_of v) (remainder_of (state s.next)) src last (Fatal keeps) before after
       (Malformed s.len a) (read + 1) false
   reports_with {s = s} {a} event malformed takes is_pending r =
-      let shown = event.1 takes in let q = coming.sequence event.0 in
+      let shown = event.1 takes in
+      let reported = coming.sequence event.0 in
       record {
         wrote = writing.wrote;
         onto = writing.onto;
         call =
             report_with writing.progress
-            (coming.sequence event.0) (remainder_of (state s.next)) s.len a
-            (λ y g. goes_on v (state s.next) (take (read + 1) src) y (writing.progress.done ++ q ∷ [])
+            reported (remainder_of (state s.next)) s.len a
+            (λ y g. goes_on v (state s.next) (take (read + 1) src) y (writing.progress.done ++ reported ∷ [])
             (event.0.same_rule ∙ same)
-            (set_then writing.progress q (remainder_of (state s.next)) refl)
-            (accounted_after writing.progress q (v.pending ++ take (read + 1) src) (state s.next).pending
+            (set_then writing.progress reported (remainder_of (state s.next)) refl)
+            (accounted_after writing.progress reported (v.pending ++ take (read + 1) src) (state s.next).pending
             (accounted_further writing.progress shown.0
             ∙ ap (λ x. sequence_bytes writing.progress.done ++ x)
             (coming.parts_with event.0 takes))) g)
@@ -233,6 +236,5 @@ module _ {C : Type 0} {units_of : ℕ → List ℕ} (state : C → CodecState) {
             (subst (AreReportedLens s.kind s.len) (sym is_pending) (event.0.bounds malformed)) is_pending
             (room_kept r) shown.0 (coming.parts_with event.0 takes) refl
             (coming.first_with event.0 takes)
-            (λ _ d. coming.not_shown_yet v (state c) writing.progress
-            same shown.1 (coming.sequence event.0) d);
+            (λ _ d. coming.not_shown_yet v (state c) writing.progress same shown.1 reported d);
       }

@@ -80,7 +80,7 @@ pub not_shown_yet : {units_of : ℕ → List ℕ} (v now : CodecState) {src : Li
     → IsUndetermined (remainder_of now).sequences
     → (q : Sequence) → Determines (remainder_of v).sequences (take read src) (progress.done ++ q ∷ []) → ⊥
 not_shown_yet v now {src} {read = read} progress r u q determines = u q (λ z are_bytes.
-    let f = determines_fewer (remainder_of v).sequences (take read src) progress.done (q ∷ []) determines z are_bytes in
+    let done_first = determines_fewer (remainder_of v).sequences (take read src) progress.done (q ∷ []) determines z are_bytes in
     begins_after progress.done (q ∷ []) ((remainder_of now).sequences z)
     ((remainder_of v).sequences (take read src ++ z))
-    (goes_on v now (take read src) z progress.done r progress.set progress.accounted f) (determines z are_bytes))
+    (goes_on v now (take read src) z progress.done r progress.set progress.accounted done_first) (determines z are_bytes))

@@ -38,9 +38,14 @@ at_hand : (old new : List ℕ) (src bytes next : List ℕ) (n : ℕ) → old ++ 
     → n ≤ length src → 0 < length next
     → length new + (length src - n) < length old + length src
 at_hand old new src bytes next n e h s =
-    let f = ap length e in let g = length-append old (take n src) in let i = length-append
-    (bytes ++ next) new in let j = length-append bytes next in let k = length-take n src in
-    omega arith
+    omega (
+      arith,
+      ap length e,
+      length-append old (take n src),
+      length-append (bytes ++ next) new,
+      length-append bytes next,
+      length-take n src,
+    )
 
 module _ {units_of : ℕ → List ℕ} {old : Remainder} {src : List ℕ} (bytes : AreBytes src) {last : Bool}
     {before after : Output} {read : ℕ} {now : Remainder} {replaced : Bool}
@@ -84,10 +89,12 @@ module _ {units_of : ℕ → List ℕ} {old : Remainder} {src : List ℕ} (bytes
       -- there is room for U+FFFD
       pub fits : nat_le (length (units_of 0xFFFD)) then.room ≡ true
       fits =
-          let e = room_left after then next_call.wrote next_call.onto in let f = ap length next_call.call.call.text in
-          let g =
-          next_call.call.call.stops.room_kept refl in
-          fits_then (length (units_of 0xFFFD)) then.room (omega arith)
+          fits_then (length (units_of 0xFFFD)) then.room (omega (
+            arith,
+            room_left after then next_call.wrote next_call.onto,
+            ap length next_call.call.call.text,
+            next_call.call.call.stops.room_kept refl,
+          ))
 
       pub replaces : {end : Output} → end ≡ with_appended then (units_of 0xFFFD)
           → Turning units_of old src last before end (read + n) new true
@@ -102,10 +109,9 @@ module _ {units_of : ℕ → List ℕ} {old : Remainder} {src : List ℕ} (bytes
       pub falls : length new.pending + (length src - (read + n)) < length now.pending + (length src - read)
       falls =
           let stopped = next_call.call.call.stops in
-          let e = ap (λ x. x ++ new.pending) (ap sequence_bytes stopped.then_next
+          let bytes_parted = ap (λ x. x ++ new.pending) (ap sequence_bytes stopped.then_next
           ∙ sequence_bytes-one next_call.call.call.put stopped.next) in
-          let h = at_hand now.pending new.pending (drop read src) (sequence_bytes next_call.call.call.put)
-          stopped.next.bytes n (next_call.call.accounted ∙ e) next_call.call.call.within
-          (let f = stopped.not_empty in let g = stopped.len in omega arith) in
-          let i = length-drop read src in
-          omega (arith, turning.turned.within)
+          let fewer_left = at_hand now.pending new.pending (drop read src) (sequence_bytes next_call.call.call.put)
+          stopped.next.bytes n (next_call.call.accounted ∙ bytes_parted) next_call.call.call.within
+          (omega (arith, stopped.not_empty, stopped.len)) in
+          omega (arith, turning.turned.within, fewer_left, length-drop read src)

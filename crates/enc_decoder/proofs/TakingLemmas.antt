@@ -171,8 +171,8 @@ pub takes_both : {C : Type 0} (units_of : ℕ → List ℕ) (state : C → Codec
 takes_both units_of state c m n src read more before mid after rest e takes_run given =
     let takes_more = subst (λ z. TakesRun units_of state m n z more mid after) e given in
     let bytes = take more (drop read src) in
-    let x = units_of_text units_of (sequence_text takes_run.taken) in
-    let y = units_of_text units_of (sequence_text takes_more.taken) in
+    let first_units = units_of_text units_of (sequence_text takes_run.taken) in
+    let more_units = units_of_text units_of (sequence_text takes_more.taken) in
     let both = units-append units_of takes_run.taken takes_more.taken in
     record {
       taken = takes_run.taken ++ takes_more.taken;
@@ -196,13 +196,13 @@ takes_both units_of state c m n src read more before mid after rest e takes_run 
       fits = omega (
         arith,
         ap length both,
-        length-append x y,
+        length-append first_units more_units,
         takes_run.fits,
         takes_more.fits,
-        room_left before mid x takes_run.written,
+        room_left before mid first_units takes_run.written,
       );
       written =
-          takes_more.written ∙ ap (λ o. with_appended o y) takes_run.written ∙ with_appended-with_appended before x y
+          takes_more.written ∙ ap (λ o. with_appended o more_units) takes_run.written ∙ with_appended-with_appended before first_units more_units
           ∙ ap (with_appended before) (sym both);
       none_pending = λ h. elim (cases_lt 0 read) [
         | inl r ↦ takes_run.none_pending r

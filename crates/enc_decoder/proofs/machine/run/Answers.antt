@@ -14,8 +14,7 @@ pub returns-in-NeedsInput-clause-call : goal.returns-in-NeedsInput-clause-call
 returns-in-NeedsInput-clause-call g c =
     let run_taken = ahead _ c.loop-state.invariant.writing c.split_at.ensures.back c.take_run-taken.ensures
     c.loop-state.invariant.rule in
-    stays g.C.ByteCodec.state c.take_run-taken.result.0 run_taken.writing run_taken.rule
-    c.in-NeedsInput.ensures
+    stays g.C.ByteCodec.state c.take_run-taken.result.0 run_taken.writing run_taken.rule c.in-NeedsInput.ensures
 
 pub loop-state-preserved-in-HoldsByte : goal.loop-state-preserved-in-HoldsByte
 loop-state-preserved-in-HoldsByte g c =
@@ -78,11 +77,12 @@ loop-state-smaller g c =
     c.loop-state.invariant.rule in
     elim c.if-shown.branch [
       | then-shown shown ↦
-          let f = fewer_with _ c.in-Emits.ensures.0 shown.if-shown.true in
-          let h = (c.in-Emits.ensures.1 shown.if-shown.true).0 in
-          omega (arith, f, h, run_taken.pending, run_taken.within, shown.end-is)
-      | else-shown shown ↦ let f = fewer_before _ c.in-Emits.ensures.0
-          shown.if-shown.false in omega (arith, f, run_taken.pending, run_taken.within, shown.end-is)
+          let no_more_pending = fewer_with _ c.in-Emits.ensures.0 shown.if-shown.true in
+          let byte_follows = (c.in-Emits.ensures.1 shown.if-shown.true).0 in
+          omega (arith, no_more_pending, byte_follows, run_taken.pending, run_taken.within, shown.end-is)
+      | else-shown shown ↦
+          let fewer_pending = fewer_before _ c.in-Emits.ensures.0 shown.if-shown.false in
+          omega (arith, fewer_pending, run_taken.pending, run_taken.within, shown.end-is)
     ]
 
 -- what a call needs, by what it does
