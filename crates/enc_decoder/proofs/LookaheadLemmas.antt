@@ -52,7 +52,8 @@ module _ (rule : Rule) (law : HasLookahead rule) where
     still_determined n j t l y =
         let enough_len = more + n in
         ap (rule set b) (ap (λ x. x ++ y) (sym (take-append-drop enough_len (take j z))
-        ∙ ap (λ x. x ++ drop enough_len (take j z)) (take-take enough_len j z l)) ∙ append_assoc (take enough_len z) (drop enough_len (take j z)) y)
+        ∙ ap (λ x. x ++ drop enough_len (take j z)) (take-take enough_len j z l))
+        ∙ append_assoc (take enough_len z) (drop enough_len (take j z)) y)
         ∙ t.same (drop enough_len (take j z) ++ y)
 
     -- then this sequence comes first, and the others are those of the rest
@@ -63,7 +64,8 @@ module _ (rule : Rule) (law : HasLookahead rule) where
         let as_long : length (take j z) ≡ j = length-take-le j z w in
         let same_front = still_determined n j t contains y in
         sequences_of-cons rule set b (take j z ++ y)
-        ∙ ap (λ (h : Head). head_sequence h b (take j z ++ y) ∷ sequences_of rule h.set (drop h.more (take j z ++ y))) same_front
+        ∙ ap (λ (h : Head). head_sequence h b (take j z ++ y)
+        ∷ sequences_of rule h.set (drop h.more (take j z ++ y))) same_front
         ∙ ap (λ x. record {
           bytes = b ∷ x;
           text = (rule set b z).text;

@@ -102,8 +102,8 @@ module _ {C : Type 0} {units_of : ℕ → List ℕ} (state : C → CodecState) {
       (overflows e (λ _. k) f)
 
   -- a malformed one, where the room for U+FFFD is kept
-  pub overflows_malformed : {keeps : Bool} {s : Emission C} → IsNextEvent state c src read last (Emits s) → is_malformed s.kind ≡ true
-      → keeps ≡ true
+  pub overflows_malformed : {keeps : Bool} {s : Emission C} → IsNextEvent state c src read last (Emits s)
+      → is_malformed s.kind ≡ true → keeps ≡ true
       → after.room < length (units_of 0xFFFD)
       → DecoderCallInto units_of (remainder_of v) (remainder_of (state c)) src last
       (Fatal keeps) before after OutputFull read false
@@ -113,7 +113,8 @@ module _ {C : Type 0} {units_of : ℕ → List ℕ} (state : C → CodecState) {
       ∙ not_le (length (units_of 0xFFFD)) after.room f)
 
   -- one that is neither reported nor put out
-  pub stops_full : {keeps : Bool} {s : Emission C} {then : Output} → IsNextEvent state c src read last (Emits s) → then ≡ after
+  pub stops_full : {keeps : Bool} {s : Emission C} {then : Output}
+      → IsNextEvent state c src read last (Emits s) → then ≡ after
       → (is_malformed s.kind ≡ true → keeps ≡ true) → (is_malformed s.kind ≡ true
       → after.room < length (units_of 0xFFFD))
       → (is_malformed s.kind ≡ false → nat_le (length (units_of_text units_of (text_chars s.text))) after.room ≡ false)

@@ -355,8 +355,8 @@ meets_need units_of old new src last mode room result read wrote replaced this_c
     let as_put : length wrote ≡ units units_of this_call.put = ap length this_call.text in
     subst (λ n. MeetsDecodeNeed units_of mode old new src last room result read n) (sym as_put)
     (meets_by units_of mode old new src last room read this_call.put this_call.done
-    (λ r. sym this_call.flag ∙ this_call.none_replaced r) this_call.residual (omega (arith, this_call.fits, as_put)) result
-    this_call.stops)
+    (λ r. sym this_call.flag ∙ this_call.none_replaced r) this_call.residual
+    (omega (arith, this_call.fits, as_put)) result this_call.stops)
 
 -- the same by the rooms of an output before and after
 pub meets_into : {units_of : ℕ → List ℕ} {old new : Remainder} {src : List ℕ} {last : Bool} {mode : DecodeErrorMode}

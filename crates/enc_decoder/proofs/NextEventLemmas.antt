@@ -76,11 +76,14 @@ module _ {C : Type 0} {state : C → CodecState} {c : C} {src : List ℕ} {read 
 
 -- Where the pending bytes determine nothing, the bytes read so far determine no sequence more than those done.
 pub not_shown_yet : {units_of : ℕ → List ℕ} (v now : CodecState) {src : List ℕ} {last : Bool} {room read : ℕ}
-    {wrote : List ℕ} (progress : Progress units_of (remainder_of v) src last room read (remainder_of now) wrote) → now.rule ≡ v.rule
+    {wrote : List ℕ} (progress : Progress units_of (remainder_of v) src last room read (remainder_of now) wrote)
+    → now.rule ≡ v.rule
     → IsUndetermined (remainder_of now).sequences
     → (q : Sequence) → Determines (remainder_of v).sequences (take read src) (progress.done ++ q ∷ []) → ⊥
 not_shown_yet v now {src} {read = read} progress r u q determines = u q (λ z are_bytes.
-    let done_first = determines_fewer (remainder_of v).sequences (take read src) progress.done (q ∷ []) determines z are_bytes in
+    let done_first = determines_fewer (remainder_of v).sequences (take read src) progress.done (q ∷ []) determines z
+    are_bytes in
     begins_after progress.done (q ∷ []) ((remainder_of now).sequences z)
     ((remainder_of v).sequences (take read src ++ z))
-    (goes_on v now (take read src) z progress.done r progress.set progress.accounted done_first) (determines z are_bytes))
+    (goes_on v now (take read src) z progress.done r progress.set progress.accounted done_first)
+    (determines z are_bytes))

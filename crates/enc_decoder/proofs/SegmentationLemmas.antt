@@ -55,14 +55,15 @@ sequences_after-first rule set (b ∷ z) w (s ∷ ss) rest whole bytes_are =
     let same : head_sequence head b z ≡ s =
     first_of (head_sequence head b z) s (sequences_of rule head.set (drop head.more z)) (ss ++ rest) sequences in
     let bytes_joined : b ∷ (take head.more z ++ drop head.more z) ≡ b ∷ (take head.more z ++ (sequence_bytes ss ++ w)) =
-    ap (λ x. b ∷ x) (take-append-drop head.more z) ∙ bytes_are ∙ ap (λ (t : Sequence). (t.bytes ++ sequence_bytes ss) ++ w)
-    (sym same)
+    ap (λ x. b ∷ x) (take-append-drop head.more z) ∙ bytes_are
+    ∙ ap (λ (t : Sequence). (t.bytes ++ sequence_bytes ss) ++ w) (sym same)
     ∙ append_assoc (b ∷ take head.more z) (sequence_bytes ss) w in
     let following_bytes : drop head.more z ≡ sequence_bytes ss ++ w =
     append_cancel_left (take head.more z) (drop head.more z) (sequence_bytes ss ++ w)
     (tail_of b b (take head.more z ++ drop head.more z) (take head.more z ++ (sequence_bytes ss ++ w)) bytes_joined) in
     sequences_after-first rule head.set (drop head.more z) w ss rest
-    (rest_of (head_sequence head b z) s (sequences_of rule head.set (drop head.more z)) (ss ++ rest) sequences) following_bytes
+    (rest_of (head_sequence head b z) s (sequences_of rule head.set (drop head.more z)) (ss ++ rest) sequences)
+    following_bytes
     ∙ ap (λ (t : Sequence). sequences_of rule (set_after t.set ss) w) same
 
 -- once the sequences done are known to come first, the state after them determines those still to come

@@ -310,175 +310,174 @@ module _ (units_of : ℕ → List ℕ) (old inner : Remainder) (src bytes : List
               → P ((before ++ inner_call.done) ++ inner_call.stops.next ∷ [])
           regrouped P = subst P (sym (append_assoc before inner_call.done (inner_call.stops.next ∷ [])))
 
-      module _ (l a : ℕ)
-          (inner_call : DecoderCall units_of inner then bytes last mode room_left (Malformed l a) n written replaced)
-        where
-          abbrev Accounted : Type 0
-          Accounted = (inner.pending ≡ [])
-              × (inner.pending ++ take n bytes ≡ sequence_bytes inner_call.done ++ then.pending)
+      module _ (l a : ℕ) (inner_call : DecoderCall units_of inner then bytes last mode room_left (Malformed l a) n
+          written replaced) where
+        abbrev Accounted : Type 0
+        Accounted = (inner.pending ≡ [])
+            × (inner.pending ++ take n bytes ≡ sequence_bytes inner_call.done ++ then.pending)
 
-          -- Where the inner one reports a malformed sequence: whether all bytes that it has read are read, or else fewer
-          -- than a repeated escape and the byte that shows it have; and whether held bytes are left.
-          abbrev Placed : Type 0
-          Placed = ((from ≤ read) ⊎ ((n ≤ 5) × Accounted)) × ((left ≡ 0) ⊎ ((left ≡ 1) × (n ≡ 1) × Accounted))
+        -- Where the inner one reports a malformed sequence: whether all bytes that it has read are read, or else fewer
+        -- than a repeated escape and the byte that shows it have; and whether held bytes are left.
+        abbrev Placed : Type 0
+        Placed = ((from ≤ read) ⊎ ((n ≤ 5) × Accounted)) × ((left ≡ 0) ⊎ ((left ≡ 1) × (n ≡ 1) × Accounted))
 
-          done_is : inner_call.done ≡ inner_call.put ++ inner_call.stops.next ∷ []
-          done_is = inner_call.stops.then_next
+        done_is : inner_call.done ≡ inner_call.put ++ inner_call.stops.next ∷ []
+        done_is = inner_call.stops.then_next
 
-          some : (x : Sequence) × (rest : List Sequence) × (inner_call.done ≡ x ∷ rest)
-          some = let begins = first_of inner_call.put inner_call.stops.next in (begins.0, begins.1, done_is ∙ begins.2)
+        some : (x : Sequence) × (rest : List Sequence) × (inner_call.done ≡ x ∷ rest)
+        some = let begins = first_of inner_call.put inner_call.stops.next in (begins.0, begins.1, done_is ∙ begins.2)
 
-          few : Accounted → l + a ≤ n
-          few accounted =
-              omega (
+        few : Accounted → l + a ≤ n
+        few accounted =
+            omega (
+              arith,
+              inner_reads carries reads,
+              ap length accounted.1,
+              ap length (ap (λ x. x ++ take n bytes) accounted.0),
+              length-take n bytes,
+              length-append (sequence_bytes inner_call.done) then.pending,
+              ap length (ap sequence_bytes done_is ∙ sequence_bytes-one inner_call.put inner_call.stops.next),
+              length-append (sequence_bytes inner_call.put) inner_call.stops.next.bytes,
+              inner_call.stops.len,
+              inner_call.stops.pending,
+            )
+
+        bounds : Placed → AreReportedLens inner_call.stops.next.kind l (a + left)
+        bounds p = elim p.1 [
+          | inl none_left ↦
+              let same_pending : a ≡ a + left = omega arith in
+              subst (AreReportedLens inner_call.stops.next.kind l) same_pending inner_call.stops.bounds
+          | inr one_left ↦
+              let few_read = few one_left.2 in
+              let some_read = inner_call.stops.not_empty in
+              one_and_one inner_call.stops.next.kind l a left (omega (arith, few_read, some_read))
+              (omega (arith, few_read, some_read)) one_left.0 inner_call.stops.bounds
+        ]
+
+        at_hand : Placed → is_repeated_escape inner_call.stops.next.kind ≡ true → from ≤ read
+        at_hand placed is_repeated = elim placed.0 [
+          | inl all_there ↦ all_there
+          | inr few_there ↦
+              let six_long = is_six inner_call.stops.next.kind l a is_repeated inner_call.stops.bounds in
+              absurd (omega (arith, few few_there.1, six_long))
+        ]
+
+        -- how many bytes are read for it
+        reads_on : (late : Bool) → (late ≡ true → from ≤ read) → (new.pending ≡ then.pending)
+            ⊎ ((read ≡ 0) ⊎ (read < below))
+            → ReadsToReported late inner.sequences bytes inner_call.done n then.pending
+            → ReadsToReported late old.sequences src (before ++ inner_call.done) read new.pending
+        reads_on true h p reported = record {
+          not_shown = elim reads.exact [
+            | inl e ↦ inl e
+            | inr e ↦ elim e [
+              | inl i ↦ inr (unshown carries inner_call.done some (read - 1) (omega arith))
+              | inr i ↦ elim reported.not_shown [
+                | inl j ↦ elim (reads.none j) [
+                  | inl k ↦ inl k
+                  | inr k ↦ inr (unshown carries inner_call.done some (read - 1) (omega arith))
+                ]
+                | inr j ↦ elim (most_or_more read from) [
+                  | inl k ↦ at_once k
+                  | inr k ↦ one_less i j k
+                ]
+              ]
+            ]
+          ];
+          shown = shown carries are n read inner_call.done (h refl) reads.within reads.there reported.shown;
+        }
+          where
+            at_once : read ≤ from
+                → (read ≡ 0) ⊎ (Determines old.sequences (take (read - 1) src) (before ++ inner_call.done) → ⊥)
+            at_once k =
+                elim (most_or_more read 0) [
+                  | inl e ↦ inl (omega arith)
+                  | inr e ↦ inr (unshown carries inner_call.done some (read - 1) (omega (arith, carries.near)))
+                ]
+
+            one_less : (from ≤ read) × (read + more - less ≡ n)
+                → (Determines inner.sequences (take (n - 1) bytes) inner_call.done → ⊥) → from < read
+                → (read ≡ 0) ⊎ (Determines old.sequences (take (read - 1) src) (before ++ inner_call.done) → ⊥)
+            one_less i j k =
+                inr (λ d. j (hidden carries (n - 1) (read - 1) inner_call.done (omega arith)
+                (omega (arith, reads.within)) (omega (arith, carries.shift, i.1)) d))
+        reads_on false h p reported = record {
+          not_shown = elim p [
+            | inl e ↦ elim reported.not_shown [
+              | inl i ↦ inl (e ∙ i)
+              | inr i ↦ inr (not_shown carries reads inner_call.done some i)
+            ]
+            | inr e ↦ inr (elim e [ inl i ↦ inl i | inr i ↦ inr (unshown carries inner_call.done some read i) ])
+          ];
+          shown_next = shown_next carries reads are inner_call.done reported.shown_next;
+        }
+
+        -- it is reported
+        pub carries_malformed :
+            Follows old then new src bytes last (Malformed l a) before inner_call.done left below n read → Placed
+            → (e : DecoderCall units_of old new src last mode room (Malformed l (a + left)) read (wrote ++ written)
+            (had || replaced)) × (e.done ≡ before ++ inner_call.done)
+        carries_malformed follows placed = (
+          record {
+            put = before ++ inner_call.put;
+            done = before ++ inner_call.done;
+            within = reads.within;
+            residual = residual_on inner_call follows;
+            set = follows.set;
+            text = text_on before_call inner_call.put inner_call.text;
+            scalars = scalars_of-append before inner_call.put before_call.scalars inner_call.scalars;
+            fits = fits_on before_call written inner_call.fits;
+            flag = flag_on before_call inner_call.put inner_call.flag;
+            none_replaced = λ is_fatal. none_of_both had replaced (before_call.none is_fatal)
+                (inner_call.none_replaced is_fatal);
+            stops = record {
+              next = inner_call.stops.next;
+              then_next = ap (λ x. before ++ x) done_is
+                  ∙ sym (append_assoc before inner_call.put (inner_call.stops.next ∷ []));
+              malformed = inner_call.stops.malformed;
+              replacement = inner_call.stops.replacement;
+              not_replaced = inner_call.stops.not_replaced;
+              len = inner_call.stops.len;
+              not_empty = inner_call.stops.not_empty;
+              pending = omega (arith, follows.pending, inner_call.stops.pending);
+              bounds = bounds placed;
+              room_kept = λ keeps. omega (
                 arith,
-                inner_reads carries reads,
-                ap length accounted.1,
-                ap length (ap (λ x. x ++ take n bytes) accounted.0),
-                length-take n bytes,
-                length-append (sequence_bytes inner_call.done) then.pending,
-                ap length (ap sequence_bytes done_is ∙ sequence_bytes-one inner_call.put inner_call.stops.next),
-                length-append (sequence_bytes inner_call.put) inner_call.stops.next.bytes,
-                inner_call.stops.len,
-                inner_call.stops.pending,
-              )
+                length_on before_call inner_call.put,
+                inner_call.stops.room_kept keeps,
+                before_call.fits,
+                before_call.at,
+              );
+              determined = determined_on carries inner_call.done inner_call.stops.determined;
+              none_after = none_after;
+              reads = reads_on (is_repeated_escape inner_call.stops.next.kind) (at_hand placed) follows.same
+                  inner_call.stops.reads;
+            };
+          },
+          refl,
+        )
+          where
+            hides : (s : Sequence)
+                → (Determines old.sequences (take read src) (before ++ (inner_call.done ++ s ∷ [])) → ⊥)
+                → Determines old.sequences (take read src) ((before ++ inner_call.done) ++ s ∷ []) → ⊥
+            hides s h d =
+                h (subst (Determines old.sequences (take read src)) (append_assoc before inner_call.done (s ∷ [])) d)
 
-          bounds : Placed → AreReportedLens inner_call.stops.next.kind l (a + left)
-          bounds p = elim p.1 [
-            | inl none_left ↦
-                let same_pending : a ≡ a + left = omega arith in
-                subst (AreReportedLens inner_call.stops.next.kind l) same_pending inner_call.stops.bounds
-            | inr one_left ↦
-                let few_read = few one_left.2 in
-                let some_read = inner_call.stops.not_empty in
-                one_and_one inner_call.stops.next.kind l a left (omega (arith, few_read, some_read))
-                (omega (arith, few_read, some_read)) one_left.0 inner_call.stops.bounds
-          ]
+            hidden_below : read < below → (s : Sequence)
+                → Determines old.sequences (take read src) ((before ++ inner_call.done) ++ s ∷ []) → ⊥
+            hidden_below h s =
+                hides s (unshown carries (inner_call.done ++ s ∷ []) (first_of inner_call.done s) read h)
 
-          at_hand : Placed → is_repeated_escape inner_call.stops.next.kind ≡ true → from ≤ read
-          at_hand placed is_repeated = elim placed.0 [
-            | inl all_there ↦ all_there
-            | inr few_there ↦
-                let six_long = is_six inner_call.stops.next.kind l a is_repeated inner_call.stops.bounds in
-                absurd (omega (arith, few few_there.1, six_long))
-          ]
-
-          -- how many bytes are read for it
-          reads_on : (late : Bool) → (late ≡ true → from ≤ read) → (new.pending ≡ then.pending)
-              ⊎ ((read ≡ 0) ⊎ (read < below))
-              → ReadsToReported late inner.sequences bytes inner_call.done n then.pending
-              → ReadsToReported late old.sequences src (before ++ inner_call.done) read new.pending
-          reads_on true h p reported = record {
-            not_shown = elim reads.exact [
+            none_after : (read ≡ 0) ⊎ ((s : Sequence) → Determines old.sequences (take read src)
+                ((before ++ inner_call.done) ++ s ∷ []) → ⊥)
+            none_after = elim reads.exact [
               | inl e ↦ inl e
               | inr e ↦ elim e [
-                | inl i ↦ inr (unshown carries inner_call.done some (read - 1) (omega arith))
-                | inr i ↦ elim reported.not_shown [
-                  | inl j ↦ elim (reads.none j) [
-                    | inl k ↦ inl k
-                    | inr k ↦ inr (unshown carries inner_call.done some (read - 1) (omega arith))
-                  ]
-                  | inr j ↦ elim (most_or_more read from) [
-                    | inl k ↦ at_once k
-                    | inr k ↦ one_less i j k
-                  ]
+                | inl i ↦ inr (hidden_below i)
+                | inr past_prefix ↦ elim inner_call.stops.none_after [
+                  | inl j ↦ elim (reads.none j) [ inl k ↦ inl k | inr k ↦ inr (hidden_below k) ]
+                  | inr j ↦ inr (λ s. hides s (λ d. j s (hidden carries n read (inner_call.done ++ s ∷ [])
+                      past_prefix.0 reads.within past_prefix.1 d)))
                 ]
               ]
-            ];
-            shown = shown carries are n read inner_call.done (h refl) reads.within reads.there reported.shown;
-          }
-            where
-              at_once : read ≤ from
-                  → (read ≡ 0) ⊎ (Determines old.sequences (take (read - 1) src) (before ++ inner_call.done) → ⊥)
-              at_once k =
-                  elim (most_or_more read 0) [
-                    | inl e ↦ inl (omega arith)
-                    | inr e ↦ inr (unshown carries inner_call.done some (read - 1) (omega (arith, carries.near)))
-                  ]
-
-              one_less : (from ≤ read) × (read + more - less ≡ n)
-                  → (Determines inner.sequences (take (n - 1) bytes) inner_call.done → ⊥) → from < read
-                  → (read ≡ 0) ⊎ (Determines old.sequences (take (read - 1) src) (before ++ inner_call.done) → ⊥)
-              one_less i j k =
-                  inr (λ d. j (hidden carries (n - 1) (read - 1) inner_call.done (omega arith)
-                  (omega (arith, reads.within)) (omega (arith, carries.shift, i.1)) d))
-          reads_on false h p reported = record {
-            not_shown = elim p [
-              | inl e ↦ elim reported.not_shown [
-                | inl i ↦ inl (e ∙ i)
-                | inr i ↦ inr (not_shown carries reads inner_call.done some i)
-              ]
-              | inr e ↦ inr (elim e [ inl i ↦ inl i | inr i ↦ inr (unshown carries inner_call.done some read i) ])
-            ];
-            shown_next = shown_next carries reads are inner_call.done reported.shown_next;
-          }
-
-          -- it is reported
-          pub carries_malformed :
-              Follows old then new src bytes last (Malformed l a) before inner_call.done left below n read → Placed
-              → (e : DecoderCall units_of old new src last mode room (Malformed l (a + left)) read (wrote ++ written)
-              (had || replaced)) × (e.done ≡ before ++ inner_call.done)
-          carries_malformed follows placed = (
-            record {
-              put = before ++ inner_call.put;
-              done = before ++ inner_call.done;
-              within = reads.within;
-              residual = residual_on inner_call follows;
-              set = follows.set;
-              text = text_on before_call inner_call.put inner_call.text;
-              scalars = scalars_of-append before inner_call.put before_call.scalars inner_call.scalars;
-              fits = fits_on before_call written inner_call.fits;
-              flag = flag_on before_call inner_call.put inner_call.flag;
-              none_replaced = λ is_fatal. none_of_both had replaced (before_call.none is_fatal)
-                  (inner_call.none_replaced is_fatal);
-              stops = record {
-                next = inner_call.stops.next;
-                then_next = ap (λ x. before ++ x) done_is
-                    ∙ sym (append_assoc before inner_call.put (inner_call.stops.next ∷ []));
-                malformed = inner_call.stops.malformed;
-                replacement = inner_call.stops.replacement;
-                not_replaced = inner_call.stops.not_replaced;
-                len = inner_call.stops.len;
-                not_empty = inner_call.stops.not_empty;
-                pending = omega (arith, follows.pending, inner_call.stops.pending);
-                bounds = bounds placed;
-                room_kept = λ keeps. omega (
-                  arith,
-                  length_on before_call inner_call.put,
-                  inner_call.stops.room_kept keeps,
-                  before_call.fits,
-                  before_call.at,
-                );
-                determined = determined_on carries inner_call.done inner_call.stops.determined;
-                none_after = none_after;
-                reads = reads_on (is_repeated_escape inner_call.stops.next.kind) (at_hand placed) follows.same
-                    inner_call.stops.reads;
-              };
-            },
-            refl,
-          )
-            where
-              hides : (s : Sequence)
-                  → (Determines old.sequences (take read src) (before ++ (inner_call.done ++ s ∷ [])) → ⊥)
-                  → Determines old.sequences (take read src) ((before ++ inner_call.done) ++ s ∷ []) → ⊥
-              hides s h d =
-                  h (subst (Determines old.sequences (take read src)) (append_assoc before inner_call.done (s ∷ [])) d)
-
-              hidden_below : read < below → (s : Sequence)
-                  → Determines old.sequences (take read src) ((before ++ inner_call.done) ++ s ∷ []) → ⊥
-              hidden_below h s =
-                  hides s (unshown carries (inner_call.done ++ s ∷ []) (first_of inner_call.done s) read h)
-
-              none_after : (read ≡ 0) ⊎ ((s : Sequence) → Determines old.sequences (take read src)
-                  ((before ++ inner_call.done) ++ s ∷ []) → ⊥)
-              none_after = elim reads.exact [
-                | inl e ↦ inl e
-                | inr e ↦ elim e [
-                  | inl i ↦ inr (hidden_below i)
-                  | inr past_prefix ↦ elim inner_call.stops.none_after [
-                    | inl j ↦ elim (reads.none j) [ inl k ↦ inl k | inr k ↦ inr (hidden_below k) ]
-                    | inr j ↦ inr (λ s. hides s (λ d. j s (hidden carries n read (inner_call.done ++ s ∷ [])
-                        past_prefix.0 reads.within past_prefix.1 d)))
-                  ]
-                ]
-              ]
+            ]

@@ -202,7 +202,8 @@ takes_both units_of state c m n src read more before mid after rest e takes_run 
         room_left before mid first_units takes_run.written,
       );
       written =
-          takes_more.written ∙ ap (λ o. with_appended o more_units) takes_run.written ∙ with_appended-with_appended before first_units more_units
+          takes_more.written ∙ ap (λ o. with_appended o more_units) takes_run.written
+          ∙ with_appended-with_appended before first_units more_units
           ∙ ap (with_appended before) (sym both);
       none_pending = λ h. elim (cases_lt 0 read) [
         | inl r ↦ takes_run.none_pending r

@@ -21,8 +21,8 @@ loop-state-preserved-in-HoldsByte g c =
     let run_taken = ahead _ c.loop-state.invariant.writing c.split_at.ensures.back c.take_run-taken.ensures
     c.loop-state.invariant.rule in
     record {
-      writing = holds g.C.ByteCodec.state c.take_run-taken.result.0 run_taken.writing
-          run_taken.rule _ c.in-HoldsByte.ensures;
+      writing = holds g.C.ByteCodec.state c.take_run-taken.result.0 run_taken.writing run_taken.rule _
+          c.in-HoldsByte.ensures;
       rule = holds_rule _ _ _ c.in-HoldsByte.ensures.1.0 ∙ run_taken.rule;
     }
 
@@ -34,20 +34,20 @@ returns-then-is_reported-clause-call g c =
     let room = c.is_reported.ensures.room c.if-is_reported.true in
     elim c.if-shown.branch [
       | then-shown shown ↦ rw shown.end-is
-          (reports_with g.C.ByteCodec.state c.take_run-taken.result.0 run_taken.writing
-          run_taken.rule c.in-Emits.ensures malformed shown.if-shown.true c.held.ensures room)
+          (reports_with g.C.ByteCodec.state c.take_run-taken.result.0 run_taken.writing run_taken.rule
+          c.in-Emits.ensures malformed shown.if-shown.true c.held.ensures room)
       | else-shown shown ↦ rw shown.end-is
-          (reports_before g.C.ByteCodec.state c.take_run-taken.result.0 run_taken.writing
-          run_taken.rule c.in-Emits.ensures malformed shown.if-shown.false c.held.ensures room)
+          (reports_before g.C.ByteCodec.state c.take_run-taken.result.0 run_taken.writing run_taken.rule
+          c.in-Emits.ensures malformed shown.if-shown.false c.held.ensures room)
     ]
 
 pub returns-then-not-put_out-clause-call : goal.returns-then-not-put_out-clause-call
 returns-then-not-put_out-clause-call g c =
     let run_taken = ahead _ c.loop-state.invariant.writing c.split_at.ensures.back c.take_run-taken.ensures
     c.loop-state.invariant.rule in
-    stops_full g.C.ByteCodec.state c.take_run-taken.result.0 run_taken.writing
-    run_taken.rule c.in-Emits.ensures
-    (c.put_out.ensures.unchanged c.if-not-put_out.true) (c.is_reported.ensures.asked c.if-is_reported.false)
+    stops_full g.C.ByteCodec.state c.take_run-taken.result.0 run_taken.writing run_taken.rule
+    c.in-Emits.ensures (c.put_out.ensures.unchanged c.if-not-put_out.true)
+    (c.is_reported.ensures.asked c.if-is_reported.false)
     (c.is_reported.ensures.full c.if-is_reported.false)
     (c.put_out.ensures.full c.if-not-put_out.true)
 
@@ -62,11 +62,11 @@ loop-state-preserved g c =
     record {
       writing = elim c.if-shown.branch [
         | then-shown shown ↦ rw shown.end-is
-            (puts_with g.C.ByteCodec.state c.take_run-taken.result.0 run_taken.writing
-            run_taken.rule c.in-Emits.ensures valid shown.if-shown.true scalars fits written)
+            (puts_with g.C.ByteCodec.state c.take_run-taken.result.0 run_taken.writing run_taken.rule
+            c.in-Emits.ensures valid shown.if-shown.true scalars fits written)
         | else-shown shown ↦ rw shown.end-is
-            (puts_before g.C.ByteCodec.state c.take_run-taken.result.0 run_taken.writing
-            run_taken.rule c.in-Emits.ensures valid shown.if-shown.false scalars fits written)
+            (puts_before g.C.ByteCodec.state c.take_run-taken.result.0 run_taken.writing run_taken.rule
+            c.in-Emits.ensures valid shown.if-shown.false scalars fits written)
       ];
       rule = c.in-Emits.ensures.0.same_rule ∙ run_taken.rule;
     }
