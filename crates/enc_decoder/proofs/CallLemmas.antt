@@ -24,10 +24,10 @@ past src n z = sym (append_assoc (take n src) (drop n src) z) ∙ ap (λ x. x ++
 one_past : (src : List ℕ) (n : ℕ) (z : List ℕ) → n < length src → take n src ++ (get_or src n 0 ∷ z) ≡ take (n + 1) src ++ z
 one_past src n z h = sym (append_assoc (take n src) (get_or src n 0 ∷ []) z) ∙ ap (λ x. x ++ z) (sym (take_more src n 0 h))
 
-module _ (units_of : ℕ → List ℕ) (old : Remainder) (src : List ℕ) (last : Bool) (room read : ℕ) (now : Remainder) (wrote : List ℕ) (keeps : Bool)
-    (progress : Progress units_of old src last room read now wrote) where
+module _ {units_of : ℕ → List ℕ} {old : Remainder} {src : List ℕ} {last : Bool} {room read : ℕ} {now : Remainder}
+    {wrote : List ℕ} (progress : Progress units_of old src last room read now wrote) where
   -- everything is read, and nothing is determined
-  pub empty : ((y : List ℕ) → AreFirstSequences progress.done (old.sequences (take read src ++ y))
+  pub empty : {keeps : Bool} → ((y : List ℕ) → AreFirstSequences progress.done (old.sequences (take read src ++ y))
       → old.sequences (take read src ++ y) ≡ progress.done ++ now.sequences y)
       → length src ≤ read → (last ≡ true → now.pending ≡ []) → (last ≡ true → now.sequences [] ≡ []) → IsUndetermined now.sequences
       → RawDecoderCall units_of old now src last (Fatal keeps) room InputEmpty read wrote false
@@ -36,7 +36,7 @@ module _ (units_of : ℕ → List ℕ) (old : Remainder) (src : List ℕ) (last 
       put = progress.done;
       done = progress.done;
       within = progress.within;
-      residual = residual_all units_of old src last room read now wrote progress;
+      residual = residual_all progress;
       set = progress.set;
       text = progress.text;
       scalars = progress.scalars;
@@ -47,7 +47,7 @@ module _ (units_of : ℕ → List ℕ) (old : Remainder) (src : List ℕ) (last 
         only_put = refl;
         all_read = omega (arith, progress.within);
         none_determined = λ n s d. none_determined old.sequences now.sequences src progress.done
-            (λ y. residual_all units_of old src last room read now wrote progress y
+            (λ y. residual_all progress y
             (λ m. absurd (false≢true (sym n ∙ m)))
             ∙ ap (λ x. progress.done ++ now.sequences (x ++ y)) (drop_of_length-le src h)) u s d;
         none_left = l;
@@ -59,7 +59,7 @@ module _ (units_of : ℕ → List ℕ) (old : Remainder) (src : List ℕ) (last 
   }
 
   -- a sequence comes that doesn't fit
-  pub full : ((y : List ℕ) → AreFirstSequences progress.done (old.sequences (take read src ++ y))
+  pub full : {keeps : Bool} → ((y : List ℕ) → AreFirstSequences progress.done (old.sequences (take read src ++ y))
       → old.sequences (take read src ++ y) ≡ progress.done ++ now.sequences y)
       → (q : Sequence) → ((y : List ℕ) → MayFollowRead src read last y → AreFirstSequences (q ∷ []) (now.sequences y)) → (keeps ≡ false → is_malformed q.kind ≡ false)
       → room < length wrote + length (units_of_text units_of q.text)
@@ -69,7 +69,7 @@ module _ (units_of : ℕ → List ℕ) (old : Remainder) (src : List ℕ) (last 
       put = progress.done;
       done = progress.done;
       within = progress.within;
-      residual = residual_all units_of old src last room read now wrote progress;
+      residual = residual_all progress;
       set = progress.set;
       text = progress.text;
       scalars = progress.scalars;
@@ -79,12 +79,12 @@ module _ (units_of : ℕ → List ℕ) (old : Remainder) (src : List ℕ) (last 
       stops = record {
         only_put = refl;
         next = q;
-        determined = determined units_of old src last room read now wrote progress q comes;
+        determined = determined progress q comes;
         not_reported = g;
         full = subst (λ (w : List ℕ). room < length w + length (units_of_text units_of q.text)) progress.text f;
         reads = record {
           not_shown = elim progress.undetermined [ inl z ↦ inl z | inr n ↦ inr (n q) ];
-          shown_next = shown units_of old src last room read now wrote progress q comes;
+          shown_next = shown progress q comes;
         };
       };
     };
@@ -98,7 +98,7 @@ module _ (units_of : ℕ → List ℕ) (old : Remainder) (src : List ℕ) (last 
   room_for_replacement w e h = subst (λ (x : List ℕ). length x + length (units_of 0xFFFD) ≤ room) e h
 
   -- a malformed sequence comes, and is reported; the byte that shows it is not its own
-  pub report_before : (q : Sequence) (next : Remainder) (l a : ℕ)
+  pub report_before : {keeps : Bool} (q : Sequence) (next : Remainder) (l a : ℕ)
       → ((y : List ℕ) → AreFirstSequences (progress.done ++ q ∷ []) (old.sequences (take read src ++ y))
       → old.sequences (take read src ++ y) ≡ (progress.done ++ q ∷ []) ++ next.sequences y)
       → is_malformed q.kind ≡ true → is_repeated_escape q.kind ≡ false → q.text ≡ 0xFFFD ∷ []
@@ -111,10 +111,10 @@ module _ (units_of : ℕ → List ℕ) (old : Remainder) (src : List ℕ) (last 
       put = progress.done;
       done = progress.done ++ q ∷ [];
       within = progress.within;
-      residual = λ z ends. residual_all units_of old src last room read now wrote progress z ends
+      residual = λ z ends. residual_all progress z ends
           ∙ ap (λ ss. progress.done ++ ss) (comes (drop read src ++ z) (rest_follows src read last z ends))
-          ∙ done_then units_of old src last room read now wrote progress q (next.sequences (drop read src ++ z));
-      set = set_then units_of old src last room read now wrote progress q next s;
+          ∙ done_then progress q (next.sequences (drop read src ++ z));
+      set = set_then progress q next s;
       text = progress.text;
       scalars = progress.scalars;
       fits = progress.fits;
@@ -131,15 +131,15 @@ module _ (units_of : ℕ → List ℕ) (old : Remainder) (src : List ℕ) (last 
         pending = k;
         bounds = bs;
         room_kept = λ m. room_for_replacement wrote progress.text (f m);
-        determined = determined units_of old src last room read now wrote progress q (λ y m. (_, comes y m));
-        none_after = fewer_undetermined units_of old src last room read now wrote progress q progress.undetermined;
+        determined = determined progress q (λ y m. (_, comes y m));
+        none_after = fewer_undetermined progress q progress.undetermined;
         reads = rw i (record {
           not_shown = elim progress.undetermined [ inl z ↦ inr (inl z) | inr u ↦ inr (inr (u q)) ];
-          shown_next = shown units_of old src last room read now wrote progress q (λ y m. (_, comes y m));
+          shown_next = shown progress q (λ y m. (_, comes y m));
         });
       };
     };
-    accounted = accounted_after units_of old src last room read now wrote progress q (old.pending ++ take read src)
+    accounted = accounted_after progress q (old.pending ++ take read src)
         next.pending (progress.accounted ∙ ap (λ x. sequence_bytes progress.done ++ x) e);
     goes_on = λ y _. g y;
   }
@@ -157,7 +157,7 @@ module _ (units_of : ℕ → List ℕ) (old : Remainder) (src : List ℕ) (last 
   }
 
   -- the byte that shows it is read with it
-  pub report_with : (q : Sequence) (next : Remainder) (l a : ℕ)
+  pub report_with : {keeps : Bool} (q : Sequence) (next : Remainder) (l a : ℕ)
       → ((y : List ℕ) → AreFirstSequences (progress.done ++ q ∷ []) (old.sequences (take (read + 1) src ++ y))
       → old.sequences (take (read + 1) src ++ y) ≡ (progress.done ++ q ∷ []) ++ next.sequences y)
       → IsUndetermined next.sequences → is_malformed q.kind ≡ true → q.text ≡ 0xFFFD ∷ []
@@ -169,7 +169,7 @@ module _ (units_of : ℕ → List ℕ) (old : Remainder) (src : List ℕ) (last 
       → RawDecoderCall units_of old next src last (Fatal keeps) room (Malformed l a) (read + 1) wrote false
   report_with q next l a g d b t i n ne bs k f has_next e s c u =
       let all : (z : List ℕ) → old.sequences (take (read + 1) src ++ z) ≡ (progress.done ++ q ∷ []) ++ next.sequences
-      z = with_all units_of old src last room read now wrote progress q next has_next c in
+      z = with_all progress q next has_next c in
       let through : (z : List ℕ) → AreFirstSequences (progress.done ++ q ∷ [])
       (old.sequences (take (read + 1) src ++ z)) = λ z. (next.sequences z, all z) in
       record {
@@ -178,7 +178,7 @@ module _ (units_of : ℕ → List ℕ) (old : Remainder) (src : List ℕ) (last 
           done = progress.done ++ q ∷ [];
           within = omega arith;
           residual = λ z _. sym (ap old.sequences (past src (read + 1) z)) ∙ all (drop (read + 1) src ++ z);
-          set = set_then units_of old src last room read now wrote progress q next s;
+          set = set_then progress q next s;
           text = progress.text;
           scalars = progress.scalars;
           fits = progress.fits;
@@ -206,9 +206,9 @@ module _ (units_of : ℕ → List ℕ) (old : Remainder) (src : List ℕ) (last 
           };
         };
         accounted =
-            accounted_after units_of old src last room read now wrote progress q (old.pending ++ take (read + 1) src)
+            accounted_after progress q (old.pending ++ take (read + 1) src)
             next.pending
-            (accounted_further units_of old src last room read now wrote progress has_next
+            (accounted_further progress has_next
             ∙ ap (λ x. sequence_bytes progress.done ++ x) e);
         goes_on = λ y _. g y;
       }

@@ -24,8 +24,9 @@ pub record Progress (units_of : ℕ → List ℕ) (old : Remainder) (src : List 
   pub scalars : AreScalars (sequence_text done)
   pub undetermined : (read ≡ 0) ⊎ ((s : Sequence) → Determines old.sequences (take read src) (done ++ s ∷ []) → ⊥)
 
-pub start : (units_of : ℕ → List ℕ) (old : Remainder) (src : List ℕ) (last : Bool) (room : ℕ) → Progress units_of old src last room 0 old []
-start units_of old src last room = record {
+pub start : {units_of : ℕ → List ℕ} {old : Remainder} {src : List ℕ} {last : Bool} {room : ℕ}
+    → Progress units_of old src last room 0 old []
+start {old} = record {
   done = [];
   within = omega arith;
   residual = λ y g. refl;
@@ -55,8 +56,8 @@ rest_follows src read last z n = record {
   ended = λ h l. ap (λ x. x ++ z) (drop_of_length-le src h) ∙ n l;
 }
 
-module _ (units_of : ℕ → List ℕ) (old : Remainder) (src : List ℕ) (last : Bool) (room read : ℕ) (now : Remainder) (wrote : List ℕ)
-    (progress : Progress units_of old src last room read now wrote) where
+module _ {units_of : ℕ → List ℕ} {old : Remainder} {src : List ℕ} {last : Bool} {room read : ℕ} {now : Remainder}
+    {wrote : List ℕ} (progress : Progress units_of old src last room read now wrote) where
   -- one byte further
   pub forward : read < length src → (y : List ℕ)
       → old.sequences (take (read + 1) src ++ y) ≡ progress.done ++ now.sequences (get_or src read 0 ∷ y)

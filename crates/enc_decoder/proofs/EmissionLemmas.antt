@@ -26,10 +26,10 @@ are_bounded RepeatedEscape l a e lens = absurd (false≢true (sym e))
 -- pending bytes that determine nothing
 
 first_is : (s t : Sequence) (ss all : List Sequence) → all ≡ t ∷ ss → AreFirstSequences (s ∷ []) all → s ≡ t
-first_is s t ss all e g = let h = g.1 in cc
+first_is s t ss all e g = let begins_with_s = g.1 in cc
 
 none_is_first : (s : Sequence) (all : List Sequence) → all ≡ [] → AreFirstSequences (s ∷ []) all → ⊥
-none_is_first s all e g = let h = g.1 in cc
+none_is_first s all e g = let begins_with_s = g.1 in cc
 
 -- two ways to go on that begin with two sequences
 pub undetermined_by : (remaining : List ℕ → List Sequence) (y z : List ℕ) (s t : Sequence) (ss ts : List Sequence) → AreBytes y → AreBytes z
@@ -52,7 +52,7 @@ module _ {C : Type 0} (state : C → CodecState) (c next : C) (text : Text) (kin
   shows_with b r none_pending n not_repeated malformed_text f =
       let one_longer : length ((state c).pending ++ b ∷ []) ≡ length (state c).pending + 1 =
       length-append (state c).pending (b ∷ []) in
-      let q : length (state next).pending ≡ 0 = ap length none_pending in (
+      let none_after : length (state next).pending ≡ 0 = ap length none_pending in (
         record {
           bytes = (state c).pending ++ b ∷ [];
           some = omega (arith, one_longer);
@@ -62,8 +62,10 @@ module _ {C : Type 0} (state : C → CodecState) (c next : C) (text : Text) (kin
           first = λ y _. f y;
           same_rule = r;
           replacement = λ w. (malformed_text w).0;
-          bounds = λ w. let k = (malformed_text w).1 in
-              are_bounded kind len (length (state next).pending) not_repeated (k, omega arith, omega arith);
+          bounds = λ w.
+              let at_most_four = (malformed_text w).1 in
+              are_bounded kind len (length (state next).pending) not_repeated
+              (at_most_four, omega (arith, none_after), omega (arith, none_after, at_most_four));
           late = λ w. absurd (false≢true (sym not_repeated ∙ w));
           clean = λ _ _. none_pending;
         },

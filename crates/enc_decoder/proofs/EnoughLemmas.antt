@@ -55,13 +55,13 @@ module _ (units_of : ℕ → List ℕ) (rule : Rule) (most : ℕ → ℕ → ℕ
   bounded_after set zero [] = omega arith
   bounded_after set (suc k) [] = omega arith
   bounded_after set zero (b ∷ z) =
-      let h = rule set b z in
+      let head = rule set b z in
       omega (
         arith,
         step set b z,
-        bounded_after h.set h.more z,
-        units-both units_of (head_sequence h b z ∷ []) (sequences_after rule h.set h.more z),
-        units-one units_of (head_sequence h b z) h.text refl,
+        bounded_after head.set head.more z,
+        units-both units_of (head_sequence head b z ∷ []) (sequences_after rule head.set head.more z),
+        units-one units_of (head_sequence head b z) head.text refl,
       )
   bounded_after set (suc k) (b ∷ z) = bounded_after set k z
 
@@ -89,10 +89,9 @@ pub needs_all : (units_of : ℕ → List ℕ) (mode : DecodeErrorMode) (v : Code
     → NeedExceeds units_of mode (remainder_of v) src last n → n < needed_units units_of mode (sequences_of v.rule v.set (v.pending ++ src))
 needs_all units_of mode v src last n exceeds =
     let within_all = at_end last (remainder_of v).sequences src exceeds.sequences exceeds.determined in
-    let m = exceeds.more in
     omega (
       arith,
-      m,
+      exceeds.more,
       needed_more units_of mode exceeds.sequences within_all.0,
       ap (needed_units units_of mode) within_all.1,
     )

@@ -32,20 +32,23 @@ pub looks_at_none : (rule : Rule) (set b : ℕ) (z : List ℕ) → IsDeterminedW
 looks_at_none rule set b z t = record { determined = t; least = λ a m l f. omega (arith, l) }
 
 -- n bytes after it determine it, and after one less only the end would
-pub looks_by : (rule : Rule) (set b : ℕ) (z : List ℕ) (n k : ℕ) → IsDeterminedWithin rule set b z (suc n) → k ≡ (rule set b z).more + n
+pub looks_by : (rule : Rule) (set b : ℕ) (z : List ℕ) (n k : ℕ) → IsDeterminedWithin rule set b z (suc n)
+    → k ≡ (rule set b z).more + n
     → IsDeterminedByEnd rule set b (take k z) → IsLookahead rule set b z (suc n)
 looks_by rule set b z n k t e by_end = record {
   determined = t;
   least = λ a m l same.
-      let x = take k z in
-      let i = (rule set b z).more + m in
-      let few : i ≤ k = omega (arith, e, l) in
-      let front : take i z ++ drop i x ≡ x = ap (λ w. w ++ drop i x) (sym (take-take i k z few)) ∙ take-append-drop i x in
-      let rest = bytes-drop i x (bytes-take k z a) in
-      let first = ap (rule set b) (sym front) ∙ same (drop i x) rest in
+      let short_input = take k z in
+      let fewer = (rule set b z).more + m in
+      let few : fewer ≤ k = omega (arith, e, l) in
+      let front : take fewer z ++ drop fewer short_input ≡ short_input =
+      ap (λ w. w ++ drop fewer short_input) (sym (take-take fewer k z few)) ∙ take-append-drop fewer short_input in
+      let rest = bytes-drop fewer short_input (bytes-take k z a) in
+      let first = ap (rule set b) (sym front) ∙ same (drop fewer short_input) rest in
       let then = ap (rule set b) (ap (λ w. w ++ by_end.more) (sym front)
-      ∙ append_assoc (take i z) (drop i x) by_end.more)
-      ∙ same (drop i x ++ by_end.more) (bytes-append (drop i x) by_end.more rest by_end.bytes) in
+      ∙ append_assoc (take fewer z) (drop fewer short_input) by_end.more)
+      ∙ same (drop fewer short_input ++ by_end.more)
+      (bytes-append (drop fewer short_input) by_end.more rest by_end.bytes) in
       by_end.other (then ∙ sym first);
 }
 
@@ -65,7 +68,10 @@ lookahead_by rule determined = record {
 
 -- no sequence is longer than the bytes that are there
 pub within_by : (rule : Rule) → HasLookahead rule → (set b : ℕ) (z : List ℕ) → (rule set b z).more ≤ length z
-within_by rule h set b z = elim (h.others set b z) [ inl t ↦ (let w = t.2.determined.there in omega arith) | inr e ↦ e.within ]
+within_by rule h set b z = elim (h.others set b z) [
+  | inl t ↦ omega (arith, t.2.determined.there)
+  | inr e ↦ e.within
+]
 
 same_head : (h k : Head) → h.more ≡ k.more → h.text ≡ k.text → h.kind ≡ k.kind → h.set ≡ k.set → h ≡ k
 same_head h k m t n s =
@@ -79,8 +85,8 @@ tails a b y z e = cc
 pub same_by_sequence : (h k : Head) (b : ℕ) (y z : List ℕ) → h.more ≤ length y → k.more ≤ length z
     → head_sequence h b y ≡ head_sequence k b z → h ≡ k
 same_by_sequence h k b y z m n same =
-    let t : take h.more y ≡ take k.more z = tails b b _ _ (ap (λ (s : Sequence). s.bytes) same) in
-    same_head h k (sym (length-take-le h.more y m) ∙ ap length t ∙ length-take-le k.more z n)
+    let same_following : take h.more y ≡ take k.more z = tails b b _ _ (ap (λ (s : Sequence). s.bytes) same) in
+    same_head h k (sym (length-take-le h.more y m) ∙ ap length same_following ∙ length-take-le k.more z n)
     (ap (λ (s : Sequence). s.text) same) (ap (λ (s : Sequence). s.kind) same) (ap (λ (s : Sequence). s.set) same)
 
 -- Bytes that only the end of the input makes a sequence determine nothing.

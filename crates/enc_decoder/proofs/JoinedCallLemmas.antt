@@ -20,11 +20,11 @@ use Rattle.enc_decoder.proofs.ShiftedInputLemmas.{most_or_more, Carries, Reads, 
 use Rattle.enc_decoder.proofs.ShiftedInputLemmas.{carries_full, carries_malformed}
 
 -- no byte is left
-pub all_given : (units_of : ℕ → List ℕ) (old new : Remainder) (src : List ℕ) (last : Bool) (mode : DecodeErrorMode)
-    (before after : Output) (result : DecoderResult) (read : ℕ) (replaced : Bool)
+pub all_given : {units_of : ℕ → List ℕ} {old new : Remainder} {src : List ℕ} {last : Bool} {mode : DecodeErrorMode}
+    {before after : Output} {result : DecoderResult} {read : ℕ} {replaced : Bool}
     → DecoderCallInto units_of old new src last mode before after result read replaced
     → PrefixedCallInto units_of old new src last mode before after result read replaced
-all_given units_of old new src last mode before after result read replaced held_call =
+all_given held_call =
     record {
       wrote = held_call.wrote;
       onto = held_call.onto;
@@ -37,26 +37,26 @@ pub no_bytes : (x : List ℕ) → length x ≡ 0 → x ≡ []
 no_bytes [] e = refl
 no_bytes (b ∷ x) e = absurd (omega arith)
 
-module _ (units_of : ℕ → List ℕ) (old new : Remainder) (held src : List ℕ) (last : Bool) (mode : DecodeErrorMode)
-    (before after : Output) (result : DecoderResult) (read : ℕ) (replaced : Bool) where
-  abbrev Of : List ℕ → ℕ → Type 0
-  Of x n = PrefixedCallInto units_of old new x last mode before after result n replaced
-
+module _ {units_of : ℕ → List ℕ} {old new : Remainder} {held src : List ℕ} {last : Bool} {mode : DecodeErrorMode}
+    {before after : Output} {result : DecoderResult} {read : ℕ} {replaced : Bool} where
   -- none are held
   pub none_held : held ≡ [] → DecoderCallInto units_of old new src last mode before after result read replaced
-      → Of (held ++ src) (length held - 0 + read)
-  none_held is_empty c =
-      subst (Of (held ++ src)) (let k = ap length is_empty in omega arith)
-      (subst (λ x. Of (x ++ src) read) (sym is_empty)
-      (all_given units_of old new src last mode before after result read replaced c))
+      → PrefixedCallInto units_of old new (held ++ src) last mode before after result (length held - 0 + read) replaced
+  none_held is_empty src_call =
+      let none_before : read ≡ length held - 0 + read = omega (arith, ap length is_empty) in
+      subst (λ k. PrefixedCallInto units_of old new (held ++ src) last mode before after result k replaced) none_before
+      (subst (λ x. PrefixedCallInto units_of old new (x ++ src) last mode before after result read replaced)
+      (sym is_empty) (all_given src_call))
 
   -- none follow them
   pub none_follow : src ≡ [] → DecoderCallInto units_of old new held last mode before after result read replaced
-      → Of (held ++ src) (length held - (length held - read) + 0)
-  none_follow e held_call =
-      subst (Of (held ++ src)) (let k = held_call.call.call.within in omega arith)
-      (subst (λ x. Of x read) (sym (append-nil held) ∙ ap (λ x. held ++ x) (sym e))
-      (all_given units_of old new held last mode before after result read replaced held_call))
+      → PrefixedCallInto units_of old new (held ++ src) last mode before after result
+      (length held - (length held - read) + 0) replaced
+  none_follow is_empty held_call =
+      let all_read : read ≡ length held - (length held - read) + 0 = omega (arith, held_call.call.call.within) in
+      subst (λ k. PrefixedCallInto units_of old new (held ++ src) last mode before after result k replaced) all_read
+      (subst (λ x. PrefixedCallInto units_of old new x last mode before after result read replaced)
+      (sym (append-nil held) ∙ ap (λ x. held ++ x) (sym is_empty)) (all_given held_call))
 
 -- a call that stops within the bytes held
 
@@ -109,7 +109,7 @@ module _ (units_of : ℕ → List ℕ) (old new : Remainder) (held src : List �
     record {
       put = held_call.put;
       done = held_call.done;
-      within = let e = length-append held src in omega (arith, held_call.within);
+      within = omega (arith, held_call.within, length-append held src);
       residual = longer_residual held_call.done held_call.within held_call.residual;
       set = held_call.set;
       text = held_call.text;
@@ -156,7 +156,7 @@ module _ (units_of : ℕ → List ℕ) (old new : Remainder) (held src : List �
     record {
       put = held_call.put;
       done = held_call.done;
-      within = let e = length-append held src in omega (arith, held_call.within);
+      within = omega (arith, held_call.within, length-append held src);
       residual = longer_residual held_call.done held_call.within held_call.residual;
       set = held_call.set;
       text = held_call.text;
@@ -193,17 +193,19 @@ module _ (units_of : ℕ → List ℕ) (old new : Remainder) (held src : List �
   stops_within OutputFull n held_call = stops_full held_call
   stops_within (Malformed l a) n held_call = stops_malformed l a held_call
 
-pub stops_in_held : (units_of : ℕ → List ℕ) (old new : Remainder) (held src : List ℕ) (last : Bool)
-    (mode : DecodeErrorMode) (before after : Output) (result : DecoderResult) (read : ℕ) (replaced : Bool)
-    → AreBytes held → AreBytes src → (result ≡ InputEmpty → ⊥) → DecoderCallInto units_of old new held false mode
-    before after result read replaced
+pub stops_in_held : {units_of : ℕ → List ℕ} {old new : Remainder} {held : List ℕ} (src : List ℕ) {last : Bool}
+    {mode : DecodeErrorMode} {before after : Output} {result : DecoderResult} {read : ℕ} {replaced : Bool}
+    → AreBytes held → AreBytes src → (result ≡ InputEmpty → ⊥)
+    → DecoderCallInto units_of old new held false mode before after result read replaced
     → PrefixedCallInto units_of old new (held ++ src) last mode before after result
     (length held - (length held - read) + 0) replaced
-stops_in_held units_of old new held src last mode before after result read replaced are also n held_call =
+stops_in_held {units_of} {old} {new} {held} src {last} {mode} {before} {after} {result} {read} {replaced} are also
+    not_empty held_call =
     let stopped = stops_within units_of old new held src are also last mode before.room read held_call.wrote replaced
-    result n held_call.call.call in
-    subst (λ k. PrefixedCallInto units_of old new (held ++ src) last mode before after result k replaced)
-    (let k = held_call.call.call.within in omega arith) (record {
+    result not_empty held_call.call.call in
+    let all_read : read ≡ length held - (length held - read) + 0 = omega (arith, held_call.call.call.within) in
+    subst (λ k. PrefixedCallInto units_of old new (held ++ src) last mode before after result k replaced) all_read
+    (record {
       wrote = held_call.wrote;
       onto = held_call.onto;
       call = stopped.0;
@@ -213,30 +215,30 @@ stops_in_held units_of old new held src last mode before after result read repla
 
 -- a call that reads them all, and the next one
 
-module _ (units_of : ℕ → List ℕ) (old mid new : Remainder) (held src : List ℕ) (are : AreBytes held)
-    (also : AreBytes src) (last : Bool) (mode : DecodeErrorMode) (room room_left given n : ℕ) (wrote written : List ℕ)
-    (had replaced : Bool)
+module _ {units_of : ℕ → List ℕ} {old mid : Remainder} {held : List ℕ} {mode : DecodeErrorMode} {room given : ℕ}
+    {wrote : List ℕ} {had : Bool}
     (first_call : DecoderCall units_of old mid held false mode room InputEmpty given wrote had) where
   none_left : drop given held ≡ []
-  none_left = drop_of_length-le held (let e = first_call.stops.all_read in omega arith)
+  none_left = drop_of_length-le held (omega (arith, first_call.stops.all_read))
 
   all : (y : List ℕ) → old.sequences (held ++ y) ≡ first_call.done ++ mid.sequences y
   all y =
       first_call.residual y (λ e. absurd (false≢true e)) ∙ ap (λ x. first_call.done ++ mid.sequences (x ++ y)) none_left
 
-  carries : Carries old mid (held ++ src) src last first_call.done 0 (length held) (length held) (length held + 1)
-  carries = record {
-    len = let e = length-append held src in omega arith;
+  carries : {src : List ℕ} {last : Bool} → AreBytes held → AreBytes src
+      → Carries old mid (held ++ src) src last first_call.done 0 (length held) (length held) (length held + 1)
+  carries {src} are also = record {
+    len = omega (arith, length-append held src);
     near = omega arith;
     shift = omega arith;
     plain = λ z l. ap old.sequences (append_assoc held src z) ∙ all (src ++ z);
     by_prefix = λ k h i y.
-        let m : k ≡ length held + (k - length held) = omega arith in
-        let j : k - length held ≡ k + 0 - length held = omega arith in
-        ap (λ x. old.sequences (take x (held ++ src) ++ y)) m ∙ ap (λ x. old.sequences (x ++ y))
+        let held_first : k ≡ length held + (k - length held) = omega arith in
+        let read_after : k - length held ≡ k + 0 - length held = omega arith in
+        ap (λ x. old.sequences (take x (held ++ src) ++ y)) held_first ∙ ap (λ x. old.sequences (x ++ y))
         (take-append-add held src (k - length held))
         ∙ ap old.sequences (append_assoc held (take (k - length held) src) y) ∙ all (take (k - length held) src ++ y)
-        ∙ ap (λ x. first_call.done ++ mid.sequences (take x src ++ y)) j;
+        ∙ ap (λ x. first_call.done ++ mid.sequences (take x src ++ y)) read_after;
     none_below = λ k h s ss d.
         first_call.stops.none_determined refl s (determines_fewer old.sequences held (first_call.done ++ s ∷ []) ss
         (subst (Determines old.sequences held) (sym (append_assoc first_call.done (s ∷ []) ss))
@@ -245,9 +247,10 @@ module _ (units_of : ℕ → List ℕ) (old mid new : Remainder) (held src : Lis
         (bytes-append held src are also) (omega arith) d))));
   }
 
-  reads : n ≤ length src → Reads (held ++ src) 0 (length held) (length held) (length held + 1) n (length held + n)
-  reads h = record {
-    within = let e = length-append held src in omega arith;
+  reads : (src : List ℕ) (n : ℕ) → n ≤ length src
+      → Reads (held ++ src) 0 (length held) (length held) (length held + 1) n (length held + n)
+  reads src n h = record {
+    within = omega (arith, length-append held src);
     there = omega arith;
     back = omega arith;
     soon = omega arith;
@@ -255,10 +258,10 @@ module _ (units_of : ℕ → List ℕ) (old mid new : Remainder) (held src : Lis
     none = λ e. inr (omega arith);
   }
 
-  follows : (result : DecoderResult) (done : List Sequence) → new.set ≡ set_after mid.set done
-      → (last ≡ true → result ≡ InputEmpty → new.pending ≡ [])
+  follows : {new : Remainder} {src : List ℕ} {last : Bool} {n : ℕ} (result : DecoderResult) (done : List Sequence)
+      → new.set ≡ set_after mid.set done → (last ≡ true → result ≡ InputEmpty → new.pending ≡ [])
       → Follows old new new (held ++ src) src last result first_call.done done 0 (length held + 1) n (length held + n)
-  follows result done s p = record {
+  follows {new} {src} {last} {n} result done s p = record {
     after = λ z l. ap (λ x. new.sequences (x ++ z)) (sym (drop-append-add held src n));
     set = s ∙ ap (λ x. set_after x done) first_call.set ∙ sym (set_after-append old.set first_call.done done);
     pending = omega arith;
@@ -266,44 +269,46 @@ module _ (units_of : ℕ → List ℕ) (old mid new : Remainder) (held src : Lis
     same = inl refl;
   }
 
-  joined : (result : DecoderResult) → Wrote units_of mode room room_left first_call.done wrote had
-      → (second_call : RawDecoderCall units_of mid new src last mode room_left result n written replaced)
-      → (e : DecoderCall units_of old new (held ++ src) last mode room result (length held + n) (wrote ++ written)
-      (had || replaced)) × (e.done ≡ first_call.done ++ second_call.call.done)
-  joined InputEmpty before_call second_call =
-      carries_empty units_of old mid (held ++ src) src also last mode room room_left first_call.done wrote had 0
-      (length held) (length held) (length held + 1) n (length held + n) 0 new new written replaced
-      carries (reads second_call.call.within) before_call second_call.call
-      (follows InputEmpty second_call.call.done second_call.call.set (λ l _. second_call.call.stops.none_pending l))
-  joined OutputFull before_call second_call =
-      carries_full units_of old mid (held ++ src) src also last mode room room_left first_call.done wrote had 0
-      (length held) (length held) (length held + 1) n (length held + n) 0 new new written replaced
-      carries (reads second_call.call.within) before_call second_call.call
-      (follows OutputFull second_call.call.done second_call.call.set (λ _ e. cc))
-  joined (Malformed l a) before_call second_call =
-      subst (λ x. (e : DecoderCall units_of old new (held ++ src) last mode room (Malformed l x) (length held + n)
-      (wrote ++ written) (had || replaced)) × (e.done ≡ first_call.done ++ second_call.call.done))
-      (let e : a + 0 ≡ a = omega arith in e)
-      (carries_malformed units_of old mid (held ++ src) src also last mode room room_left first_call.done wrote had 0
-      (length held) (length held) (length held + 1) n (length held + n) 0 new new written replaced
-      carries (reads second_call.call.within) before_call l a second_call.call
-      (follows (Malformed l a) second_call.call.done second_call.call.set (λ _ e. cc)) (
-        inl (omega arith),
-        inl (omega arith),
-      ))
+  module _ {new : Remainder} {src : List ℕ} {last : Bool} {room_left n : ℕ} {written : List ℕ} {replaced : Bool}
+      (are : AreBytes held) (also : AreBytes src) where
+    joined : (result : DecoderResult) → Wrote units_of mode room room_left first_call.done wrote had
+        → (second_call : RawDecoderCall units_of mid new src last mode room_left result n written replaced)
+        → (e : DecoderCall units_of old new (held ++ src) last mode room result (length held + n) (wrote ++ written)
+        (had || replaced)) × (e.done ≡ first_call.done ++ second_call.call.done)
+    joined InputEmpty before_call second_call =
+        carries_empty units_of old mid (held ++ src) src also last mode room room_left first_call.done wrote had 0
+        (length held) (length held) (length held + 1) n (length held + n) 0 new new written replaced
+        (carries are also) (reads src n second_call.call.within) before_call second_call.call
+        (follows InputEmpty second_call.call.done second_call.call.set (λ l _. second_call.call.stops.none_pending l))
+    joined OutputFull before_call second_call =
+        carries_full units_of old mid (held ++ src) src also last mode room room_left first_call.done wrote had 0
+        (length held) (length held) (length held + 1) n (length held + n) 0 new new written replaced
+        (carries are also) (reads src n second_call.call.within) before_call second_call.call
+        (follows OutputFull second_call.call.done second_call.call.set (λ _ e. cc))
+    joined (Malformed l a) before_call second_call =
+        let none_held_left : a + 0 ≡ a = omega arith in
+        subst (λ x. (e : DecoderCall units_of old new (held ++ src) last mode room (Malformed l x) (length held + n)
+        (wrote ++ written) (had || replaced)) × (e.done ≡ first_call.done ++ second_call.call.done)) none_held_left
+        (carries_malformed units_of old mid (held ++ src) src also last mode room room_left first_call.done wrote had 0
+        (length held) (length held) (length held + 1) n (length held + n) 0 new new written replaced
+        (carries are also) (reads src n second_call.call.within) before_call l a second_call.call
+        (follows (Malformed l a) second_call.call.done second_call.call.set (λ _ e. cc)) (
+          inl (omega arith),
+          inl (omega arith),
+        ))
 
-pub joins : (units_of : ℕ → List ℕ) (old mid new : Remainder) (held src : List ℕ) (last : Bool)
-    (mode : DecodeErrorMode) (before between after : Output) (result : DecoderResult) (given n : ℕ)
-    (had replaced : Bool)
-    → AreBytes held → AreBytes src → DecoderCallInto units_of old mid held false mode before between InputEmpty given
-    had → DecoderCallInto units_of mid new src last mode between after result n replaced
+pub joins : {units_of : ℕ → List ℕ} {old mid new : Remainder} {held src : List ℕ} {last : Bool}
+    {mode : DecodeErrorMode} {before between after : Output} {result : DecoderResult} {given n : ℕ}
+    {had replaced : Bool}
+    → AreBytes held → AreBytes src
+    → DecoderCallInto units_of old mid held false mode before between InputEmpty given had
+    → DecoderCallInto units_of mid new src last mode between after result n replaced
     → PrefixedCallInto units_of old new (held ++ src) last mode before after result (length held - 0 + n)
     (had || replaced)
-joins units_of old mid new held src last mode before between after result given n had replaced are also first_call
-    second_call =
+joins {units_of} {old} {mid} {new} {held} {src} {last} {mode} {before} {between} {after} {result} {given} {n} {had}
+    {replaced} are also first_call second_call =
     let all_put : first_call.call.call.put ≡ first_call.call.call.done = sym first_call.call.call.stops.only_put in
-    let both = joined units_of old mid new held src are also last mode before.room between.room given n
-    first_call.wrote second_call.wrote had replaced first_call.call.call result
+    let both = joined first_call.call.call are also result
     (record {
       text = rw all_put at first_call.call.call.text;
       scalars = rw all_put at first_call.call.call.scalars;
@@ -313,8 +318,9 @@ joins units_of old mid new held src last mode before between after result given 
       none = first_call.call.call.none_replaced;
     })
     second_call.call in
+    let held_and_read : length held + n ≡ length held - 0 + n = omega arith in
     subst (λ k. PrefixedCallInto units_of old new (held ++ src) last mode before after result k (had || replaced))
-    (let k : length held + n ≡ length held - 0 + n = omega arith in k) (record {
+    held_and_read (record {
       wrote = first_call.wrote ++ second_call.wrote;
       onto = second_call.onto ∙ ap (λ o. with_appended o second_call.wrote) first_call.onto
           ∙ with_appended-with_appended before first_call.wrote second_call.wrote;

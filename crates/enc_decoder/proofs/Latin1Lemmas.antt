@@ -18,7 +18,7 @@ use Rattle.enc_decoder.proofs.NextEventLemmas.{takes_or, holds_sequences}
 -- a byte that is a valid sequence by itself
 pub has_bytes_by : (rule : Rule) (b : ℕ) (z : List ℕ) → (rule 0 b z).kind ≡ Valid → (rule 0 b z).more ≡ 0
     → ¬ (HasNoByteSequences rule)
-has_bytes_by rule b z v m n = let l = n b z v in omega arith
+has_bytes_by rule b z v m n = omega (arith, m, n b z v)
 
 -- where there is none, no byte is found to be one
 pub no_latin1_without_bytes : (v : CodecState) → HasNoByteSequences v.rule → ¬ (CodecMayBeLatin1 v)
@@ -53,9 +53,9 @@ pub record Latin1Front {C : Type 0} (state : C → CodecState) (v : CodecState) 
       ++ (remainder_of (state now)).sequences y
   pub none_pending : (state now).pending ≡ []
 
-pub latin1_begins : {C : Type 0} (state : C → CodecState) (c : C) (bytes : List ℕ) → (state c).pending ≡ []
+pub latin1_begins : {C : Type 0} {state : C → CodecState} {c : C} {bytes : List ℕ} → (state c).pending ≡ []
     → Latin1Front state (state c) bytes 0 c
-latin1_begins state c bytes n = record {
+latin1_begins n = record {
   within = omega arith;
   front = [];
   themselves = tt;
@@ -63,7 +63,7 @@ latin1_begins state c bytes n = record {
   none_pending = n;
 }
 
-module _ {C : Type 0} (state : C → CodecState) (v : CodecState) (bytes : List ℕ) (k : ℕ) (now : C)
+module _ {C : Type 0} {state : C → CodecState} {v : CodecState} {bytes : List ℕ} {k : ℕ} {now : C}
     (latin1_front : Latin1Front state v bytes k now) where
   -- k bytes are so, if a byte more is not
   prefix_if : (k < length bytes → (s : Sequence) → IsLatin1Sequence s (get_or bytes k 0)
@@ -133,9 +133,9 @@ module _ {C : Type 0} (state : C → CodecState) (v : CodecState) (bytes : List 
 
     not_before : (took : List ℕ) → took ≡ [] → IsNextSequence state now (BeginsWithByte byte) took s → ⊥
     not_before took e next =
-        let p : [] ≡ next.bytes ++ (state s.next).pending = ap (λ x. x ++ []) (sym latin1_front.none_pending)
+        let no_parts : [] ≡ next.bytes ++ (state s.next).pending = ap (λ x. x ++ []) (sym latin1_front.none_pending)
         ∙ ap (λ x. (state now).pending ++ x) (sym e) ∙ next.parts in
-        none_in next.bytes p next.some
+        none_in next.bytes no_parts next.some
       where
         none_in : (x : List ℕ) → [] ≡ x ++ (state s.next).pending → 0 < length x → ⊥
         none_in [] e l = omega arith

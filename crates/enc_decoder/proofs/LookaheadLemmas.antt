@@ -20,11 +20,13 @@ rest_is : (s t : Sequence) (ss ts : List Sequence) → s ∷ ss ≡ t ∷ ts →
 rest_is s t ss ts e = cc
 
 none_begin : (s : Sequence) (ss : List Sequence) → AreFirstSequences (s ∷ ss) [] → ⊥
-none_begin s ss first = let f : [] ≡ s ∷ (ss ++ first.0) = first.1 in cc
+none_begin s ss first = let none_is_one : [] ≡ s ∷ (ss ++ first.0) = first.1 in cc
 
 -- the first k bytes without the first n
 pub left_of : (n k : ℕ) (z : List ℕ) → n ≤ k → drop n (take k z) ≡ take (k - n) (drop n z)
-left_of n k z h = ap (λ i. drop n (take i z)) (let e : k ≡ n + (k - n) = omega (arith, h) in e) ∙ drop-take n (k - n) z
+left_of n k z h =
+    let parted : k ≡ n + (k - n) = omega (arith, h) in
+    ap (λ i. drop n (take i z)) parted ∙ drop-take n (k - n) z
 
 module _ (rule : Rule) (law : HasLookahead rule) where
   module _ (set b : ℕ) (z : List ℕ) (s : Sequence) (ss rest : List Sequence)
@@ -48,10 +50,11 @@ module _ (rule : Rule) (law : HasLookahead rule) where
     still_determined : (n j : ℕ) → IsDeterminedWithin rule set b z n → more + n ≤ j → (y : List ℕ)
         → rule set b (take j z ++ y) ≡ rule set b z
     still_determined n j t l y =
-        let i = more + n in
-        ap (rule set b) (ap (λ x. x ++ y) (sym (take-append-drop i (take j z))
-        ∙ ap (λ x. x ++ drop i (take j z)) (take-take i j z l)) ∙ append_assoc (take i z) (drop i (take j z)) y)
-        ∙ t.same (drop i (take j z) ++ y)
+        let enough_len = more + n in
+        ap (rule set b) (ap (λ x. x ++ y) (sym (take-append-drop enough_len (take j z))
+        ∙ ap (λ x. x ++ drop enough_len (take j z)) (take-take enough_len j z l))
+        ∙ append_assoc (take enough_len z) (drop enough_len (take j z)) y)
+        ∙ t.same (drop enough_len (take j z) ++ y)
 
     -- then this sequence comes first, and the others are those of the rest
     shown : (n j : ℕ) → IsDeterminedWithin rule set b z n → more + n ≤ j → j ≤ length z → (y : List ℕ)
@@ -59,9 +62,10 @@ module _ (rule : Rule) (law : HasLookahead rule) where
         (take (j - more) (drop more z) ++ y)
     shown n j t contains w y =
         let as_long : length (take j z) ≡ j = length-take-le j z w in
-        let e = still_determined n j t contains y in
+        let same_front = still_determined n j t contains y in
         sequences_of-cons rule set b (take j z ++ y)
-        ∙ ap (λ (h : Head). head_sequence h b (take j z ++ y) ∷ sequences_of rule h.set (drop h.more (take j z ++ y))) e
+        ∙ ap (λ (h : Head). head_sequence h b (take j z ++ y)
+        ∷ sequences_of rule h.set (drop h.more (take j z ++ y))) same_front
         ∙ ap (λ x. record {
           bytes = b ∷ x;
           text = (rule set b z).text;
@@ -80,21 +84,22 @@ module _ (rule : Rule) (law : HasLookahead rule) where
         (determines : Determines (sequences_of rule set) (b ∷ take j z) (s ∷ ss)) where
       not_by_end : IsDeterminedByEnd rule set b z → ⊥
       not_by_end by_end =
-          let g = determines (drop j z ++ by_end.more)
+          let s_first = determines (drop j z ++ by_end.more)
           (bytes-append (drop j z) by_end.more (bytes-drop j z are_bytes) by_end.bytes) in
-          let x : take j z ++ (drop j z ++ by_end.more) ≡ z ++ by_end.more =
+          let rejoined : take j z ++ (drop j z ++ by_end.more) ≡ z ++ by_end.more =
           sym (append_assoc (take j z) (drop j z) by_end.more)
           ∙ ap (λ y. y ++ by_end.more) (take-append-drop j z) in
-          by_end.other (sym (ap (rule set b) x) ∙ same_head (take j z ++ (drop j z ++ by_end.more)) g)
+          by_end.other (sym (ap (rule set b) rejoined) ∙ same_head (take j z ++ (drop j z ++ by_end.more)) s_first)
 
       -- they contain the sequence
       own_bytes : more ≤ j
       own_bytes =
-          let h = same_head (take j z ++ []) (determines [] tt) in
-          let k = within_by rule law set b (take j z ++ []) in
-          let m : (rule set b (take j z ++ [])).more ≡ more = ap (λ (t : Head). t.more) h in
-          let l : length (take j z ++ []) ≡ j = ap length (nil_after (take j z)) ∙ length-take-le j z enough_bytes in
-          omega (arith, k, m, l)
+          let same_front = same_head (take j z ++ []) (determines [] tt) in
+          let fits_in = within_by rule law set b (take j z ++ []) in
+          let same_more : (rule set b (take j z ++ [])).more ≡ more = ap (λ (t : Head). t.more) same_front in
+          let as_long : length (take j z ++ []) ≡ j =
+          ap length (nil_after (take j z)) ∙ length-take-le j z enough_bytes in
+          omega (arith, fits_in, same_more, as_long)
         where
           nil_after : (x : List ℕ) → x ++ [] ≡ x
           nil_after [] = refl
@@ -104,15 +109,15 @@ module _ (rule : Rule) (law : HasLookahead rule) where
       enough n t = elim (leb_tells (more + n) j) [
         | inl l ↦ l.1
         | inr f ↦ absurd (
-            let contains = own_bytes in let g = f.1 in
-            let i : more + (j - more) ≡ j = omega (arith, contains) in
-            t.least are_bytes (j - more) (omega (arith, contains, g))
-            (λ y e. ap (λ k. rule set b (take k z ++ y)) i ∙ same_head (take j z ++ y) (determines y e)))
+            let contains = own_bytes in
+            let parted : more + (j - more) ≡ j = omega (arith, contains) in
+            t.least are_bytes (j - more) (omega (arith, contains, f.1))
+            (λ y e. ap (λ k. rule set b (take k z ++ y)) parted ∙ same_head (take j z ++ y) (determines y e)))
       ]
 
       looked : (n : ℕ) × IsLookahead rule set b z n × (1 + more + n ≤ suc j)
       looked = elim (law.others set b z) [
-        | inl found ↦ (found.0, found.2, (let l = enough found.0 found.2 in omega (arith, l)))
+        | inl found ↦ (found.0, found.2, omega (arith, enough found.0 found.2))
         | inr e ↦ absurd (not_by_end e)
       ]
 
@@ -121,7 +126,7 @@ module _ (rule : Rule) (law : HasLookahead rule) where
           let first = determines y e in let lookahead = looked in (
             first.0,
             rest_is _ _ _ _ (sym (shown lookahead.0 j lookahead.1.determined
-                (let l = lookahead.2 in omega (arith, l)) enough_bytes y) ∙ first.1),
+                (omega (arith, lookahead.2)) enough_bytes y) ∙ first.1),
           )
 
   pub reach_after : (ss rest : List Sequence) (set k : ℕ) (z : List ℕ) → AreBytes z
@@ -134,14 +139,14 @@ module _ (rule : Rule) (law : HasLookahead rule) where
       absurd (none_begin s ss (subst (AreFirstSequences (s ∷ ss)) (sequences_of-nil rule set) (determines [] tt)))
   reach_after (s ∷ ss) rest set (suc j) (b ∷ z) are_bytes whole l determines =
       let enough_bytes : j ≤ length z = omega (arith, l) in
-      let m = (rule set b z).more in
-      let contains = own_bytes set b z s ss rest whole are_bytes.1 j enough_bytes determines in (
+      let own_len = (rule set b z).more in
+      let contains = own_bytes set b z s ss rest whole are_bytes.1 j enough_bytes determines in
+      let same_len : j - own_len ≡ suc j - (1 + own_len) = omega (arith, contains) in (
         looked set b z s ss rest whole are_bytes.1 j enough_bytes determines,
-        subst (CoverLookahead rule (rule set b z).set (drop m z) ss)
-            (let x : j - m ≡ suc j - (1 + m) = omega (arith, contains) in x)
-            (reach_after ss rest (rule set b z).set (j - m) (drop m z) (bytes-drop m z are_bytes.1)
+        subst (CoverLookahead rule (rule set b z).set (drop own_len z) ss) same_len
+            (reach_after ss rest (rule set b z).set (j - own_len) (drop own_len z) (bytes-drop own_len z are_bytes.1)
             (following set b z s ss rest whole)
-            (let n = length-drop m z in omega (arith, n, enough_bytes, contains))
+            (omega (arith, length-drop own_len z, enough_bytes, contains))
             (rest_determined set b z s ss rest whole are_bytes.1 j enough_bytes determines)),
       )
 
@@ -150,19 +155,18 @@ module _ (rule : Rule) (law : HasLookahead rule) where
       → CoverLookahead rule set z ss k → Determines (sequences_of rule set) (take k z) ss
   determine_if_after [] rest set k z whole l covers = λ y a. (sequences_of rule set (take k z ++ y), refl)
   determine_if_after (s ∷ ss) rest set k [] whole l covers = absurd covers
-  determine_if_after (s ∷ ss) rest set zero (b ∷ z) whole l covers = absurd (let f = covers.0.2 in omega (arith, f))
+  determine_if_after (s ∷ ss) rest set zero (b ∷ z) whole l covers = absurd (omega (arith, covers.0.2))
   determine_if_after (s ∷ ss) rest set (suc j) (b ∷ z) whole l covers =
       let enough_bytes : j ≤ length z = omega (arith, l) in
-      let m = (rule set b z).more in
-      let t = covers.0.1.determined in let contains = covers.0.2 in
-      let n = length-drop m z in
-      let x : suc j - (1 + m) ≡ j - m = omega (arith, contains) in
-      let d = determine_if_after ss rest (rule set b z).set (j - m) (drop m z) (following set b z s ss rest whole)
-      (omega (arith, n, enough_bytes, contains))
-      (subst (CoverLookahead rule (rule set b z).set (drop m z) ss) x covers.1) in
-      λ y a. let first = d y a in (
+      let own_len = (rule set b z).more in
+      let contains = covers.0.2 in
+      let same_len : suc j - (1 + own_len) ≡ j - own_len = omega (arith, contains) in
+      let rest_known = determine_if_after ss rest (rule set b z).set (j - own_len) (drop own_len z)
+      (following set b z s ss rest whole) (omega (arith, length-drop own_len z, enough_bytes, contains))
+      (subst (CoverLookahead rule (rule set b z).set (drop own_len z) ss) same_len covers.1) in
+      λ y a. let first = rest_known y a in (
         first.0,
-        shown set b z s ss rest whole covers.0.0 j t (omega (arith, contains)) enough_bytes y
+        shown set b z s ss rest whole covers.0.0 j covers.0.1.determined (omega (arith, contains)) enough_bytes y
             ∙ ap (λ ts. s ∷ ts) first.1,
       )
 
@@ -177,10 +181,10 @@ module _ (rule : Rule) (law : HasLookahead rule) where
 pub determined_not_by_end : (rule : Rule) (set b : ℕ) (z : List ℕ) (n : ℕ) → IsDeterminedWithin rule set b z n
     → IsDeterminedByEnd rule set b z → ⊥
 determined_not_by_end rule set b z n t by_end =
-    let i = (rule set b z).more + n in
+    let enough_len = (rule set b z).more + n in
     by_end.other (
-    ap (rule set b) (ap (λ x. x ++ by_end.more) (sym (take-append-drop i z))
-    ∙ append_assoc (take i z) (drop i z) by_end.more) ∙ t.same (drop i z ++ by_end.more)
+    ap (rule set b) (ap (λ x. x ++ by_end.more) (sym (take-append-drop enough_len z))
+    ∙ append_assoc (take enough_len z) (drop enough_len z) by_end.more) ∙ t.same (drop enough_len z ++ by_end.more)
     )
 
 -- the lookahead is the least
@@ -195,7 +199,7 @@ no_more_than rule set b z n m a l t = elim (leb_tells n m) [
 pub at_most_three : (rule : Rule) → HasLookahead rule → (set b : ℕ) (z : List ℕ) (n : ℕ) → AreBytes z
     → IsLookahead rule set b z n → n ≤ 3
 at_most_three rule law set b z n a lookahead = elim (law.others set b z) [
-  | inl found ↦ (let k = found.1 in let m = no_more_than rule set b z n found.0 a lookahead found.2.determined in
-      omega (arith, k, m))
+  | inl found ↦
+      omega (arith, found.1, no_more_than rule set b z n found.0 a lookahead found.2.determined)
   | inr e ↦ absurd (determined_not_by_end rule set b z n lookahead.determined e)
 ]

@@ -23,11 +23,11 @@ use Rattle.enc_decoder.proofs.DeterminedLemmas.{determines_fewer, begins_after}
 pub begin_alike : (a b all : List Sequence) → AreFirstSequences a all → AreFirstSequences b all → AreFirstSequences a b ⊎ ((s : Sequence) × (rest : List Sequence) × (a ≡ b ++ s ∷ rest))
 begin_alike [] b all first also_first = inl (b, refl)
 begin_alike (s ∷ a) [] all first also_first = inr (s, a, refl)
-begin_alike (s ∷ a) (t ∷ b) [] first also_first = absurd (let e = first.1 in cc)
+begin_alike (s ∷ a) (t ∷ b) [] first also_first = absurd (let begins_with_s = first.1 in cc)
 begin_alike (s ∷ a) (t ∷ b) (u ∷ all) first also_first =
-    let e : u ≡ s = let g = first.1 in cc in
-    let f : u ≡ t = let g = also_first.1 in cc in
-    let same : s ≡ t = sym e ∙ f in
+    let begins_with_s : u ≡ s = let all_from_s = first.1 in cc in
+    let begins_with_t : u ≡ t = let all_from_t = also_first.1 in cc in
+    let same : s ≡ t = sym begins_with_s ∙ begins_with_t in
     elim (begin_alike a b all (first.0, tail first.1) (also_first.0, tail also_first.1)) [
       | inl begins ↦ inl (begins.0, ap (λ q. q ∷ b) (sym same) ∙ ap (λ ss. s ∷ ss) begins.1)
       | inr remain ↦ inr (
@@ -169,14 +169,13 @@ module _ (units_of : ℕ → List ℕ) (mode : DecodeErrorMode) (old new : Remai
       goes_on n exceeds =
           elim (compare old.sequences new.sequences src (drop read src) done last leaves_off exceeds.sequences
           exceeds.determined) [
-            | inl b ↦ absurd (let l = within exceeds.sequences done b in let m = exceeds.more in
-                omega (arith, l, m, all_done))
+            | inl b ↦ absurd (omega (arith, within exceeds.sequences done b, exceeds.more, all_done))
             | inr more ↦ record {
               sequences = more.0 ∷ more.1;
               determined =
                   past_done old.sequences new.sequences src (drop read src) done last leaves_off (more.0 ∷ more.1)
                   (subst (AreDetermined last old.sequences src) more.2 exceeds.determined);
-              more = let m = exceeds.more in omega (arith, m, ap of_sequences more.2, needed_done (more.0 ∷ more.1));
+              more = omega (arith, exceeds.more, ap of_sequences more.2, needed_done (more.0 ∷ more.1));
             }
           ]
 
@@ -185,7 +184,7 @@ module _ (units_of : ℕ → List ℕ) (mode : DecodeErrorMode) (old new : Remai
         sequences = done ++ exceeds.sequences;
         determined = after_done old.sequences new.sequences src (drop read src) done last leaves_off exceeds.sequences
             exceeds.determined;
-        more = let m = exceeds.more in omega (arith, m, needed_done exceeds.sequences);
+        more = omega (arith, exceeds.more, needed_done exceeds.sequences);
       }
 
       reaches : (n : ℕ) → n < units units_of put → Passes n
@@ -201,7 +200,7 @@ nothing_more : (last : Bool) (old new : List ℕ → List Sequence) (src rest : 
     → (s : Sequence) (ts : List Sequence) → AreDetermined last old src (done ++ s ∷ ts) → ⊥
 nothing_more true old new src rest done h e n l s ts are_determined =
     let first = past_done old new src rest done true h (s ∷ ts) are_determined in
-    let f : [] ≡ s ∷ (ts ++ first.0) = sym (l refl) ∙ ap new (sym e) ∙ first.1 in
+    let none_is_one : [] ≡ s ∷ (ts ++ first.0) = sym (l refl) ∙ ap new (sym e) ∙ first.1 in
     cc
 nothing_more false old new src rest done h e n l s ts are_determined =
     n refl s (determines_fewer old src (done ++ s ∷ []) ts
@@ -261,15 +260,14 @@ module _ (units_of : ℕ → List ℕ) (mode : DecodeErrorMode) (old new : Remai
     full = (
       λ e. absurd (cc),
       λ exceeds. absurd (elim (compared exceeds.sequences exceeds.determined) [
-        | inl b ↦ (let m = exceeds.more in
-            omega (
-              arith,
-              m,
-              shorter exceeds.sequences b,
-              all_done units_of mode old new src last room read put done clean leaves_off stops.only_put,
-            ))
+        | inl b ↦ omega (
+          arith,
+          exceeds.more,
+          shorter exceeds.sequences b,
+          all_done units_of mode old new src last room read put done clean leaves_off stops.only_put,
+        )
         | inr more ↦ nothing_more last old.sequences new.sequences src (drop read src) done leaves_off
-            (drop_of_length-le src (let r = stops.all_read in omega arith))
+            (drop_of_length-le src (omega (arith, stops.all_read)))
             stops.none_determined stops.none_left more.0 more.1
             (subst (AreDetermined last old.sequences src) more.2 exceeds.determined)
       ]),
@@ -288,9 +286,9 @@ module _ (units_of : ℕ → List ℕ) (mode : DecodeErrorMode) (old new : Remai
       λ _. record {
         sequences = done ++ stops.next ∷ [];
         determined = stops.determined;
-        more = let f = stops.full in omega (
+        more = omega (
           arith,
-          f,
+          stops.full,
           needed_done units_of mode old new src last room read put done clean leaves_off stops.only_put
               (stops.next ∷ []),
           ap (units units_of) (one_needed mode stops.next stops.not_reported),
@@ -355,18 +353,17 @@ pub meets_need : (units_of : ℕ → List ℕ) (old new : Remainder) (src : List
     → DecoderCall units_of old new src last mode room result read wrote replaced → MeetsDecodeNeed units_of mode old new src last room result read (length wrote)
 meets_need units_of old new src last mode room result read wrote replaced this_call =
     let as_put : length wrote ≡ units units_of this_call.put = ap length this_call.text in
-    let f = this_call.fits in
     subst (λ n. MeetsDecodeNeed units_of mode old new src last room result read n) (sym as_put)
     (meets_by units_of mode old new src last room read this_call.put this_call.done
-    (λ r. sym this_call.flag ∙ this_call.none_replaced r) this_call.residual (omega (arith, f, as_put)) result
-    this_call.stops)
+    (λ r. sym this_call.flag ∙ this_call.none_replaced r) this_call.residual
+    (omega (arith, this_call.fits, as_put)) result this_call.stops)
 
 -- the same by the rooms of an output before and after
-pub meets_into : (units_of : ℕ → List ℕ) (old new : Remainder) (src : List ℕ) (last : Bool) (mode : DecodeErrorMode) (before after : Output) (result : DecoderResult) (read : ℕ) (replaced : Bool)
+pub meets_into : {units_of : ℕ → List ℕ} {old new : Remainder} {src : List ℕ} {last : Bool} {mode : DecodeErrorMode}
+    {before after : Output} {result : DecoderResult} {read : ℕ} {replaced : Bool}
     → DecoderCallInto units_of old new src last mode before after result read replaced
     → MeetsDecodeNeed units_of mode old new src last before.room result read (before.room - after.room)
-meets_into units_of old new src last mode before after result read replaced this_call =
-    let f = this_call.call.call.fits in
+meets_into {units_of} {old} {new} {src} {last} {mode} {before} {after} {result} {read} {replaced} this_call =
     subst (λ n. MeetsDecodeNeed units_of mode old new src last before.room result read n)
-    (omega (arith, f, ap (λ (o : Output). o.room) this_call.onto))
+    (omega (arith, this_call.call.call.fits, ap (λ (o : Output). o.room) this_call.onto))
     (meets_need units_of old new src last mode before.room result read this_call.wrote replaced this_call.call.call)

@@ -31,7 +31,7 @@ pub holds_sequences : (v n : CodecState) (b : ℕ) → n ≡ record v { pending 
 holds_sequences v n b e y =
     ap (sequences_of v.rule v.set) (sym (append_assoc v.pending (b ∷ []) y)) ∙ ap (λ (s : CodecState). (remainder_of s).sequences y) (sym e)
 
-module _ {C : Type 0} (state : C → CodecState) (c : C) (src : List ℕ) (read : ℕ) (last : Bool) (s : Emission C)
+module _ {C : Type 0} {state : C → CodecState} {c : C} {src : List ℕ} {read : ℕ} {last : Bool} {s : Emission C}
     (next : IsNextSequence state c (MayFollowRead src read last) (taken_bytes s.takes_byte (get_or src read 0)) s) where
   abbrev pub sequence : Sequence
   sequence = record { bytes = next.bytes; text = text_chars s.text; kind = s.kind; set = (state s.next).set }
@@ -75,12 +75,15 @@ module _ {C : Type 0} (state : C → CodecState) (c : C) (src : List ℕ) (read 
   ]
 
 -- Where the pending bytes determine nothing, the bytes read so far determine no sequence more than those done.
-pub not_shown_yet : (units_of : ℕ → List ℕ) (v now : CodecState) (src : List ℕ) (last : Bool) (room read : ℕ) (wrote : List ℕ)
-    (progress : Progress units_of (remainder_of v) src last room read (remainder_of now) wrote) → now.rule ≡ v.rule
+pub not_shown_yet : {units_of : ℕ → List ℕ} (v now : CodecState) {src : List ℕ} {last : Bool} {room read : ℕ}
+    {wrote : List ℕ} (progress : Progress units_of (remainder_of v) src last room read (remainder_of now) wrote)
+    → now.rule ≡ v.rule
     → IsUndetermined (remainder_of now).sequences
     → (q : Sequence) → Determines (remainder_of v).sequences (take read src) (progress.done ++ q ∷ []) → ⊥
-not_shown_yet units_of v now src last room read wrote progress r u q determines = u q (λ z are_bytes.
-    let f = determines_fewer (remainder_of v).sequences (take read src) progress.done (q ∷ []) determines z are_bytes in
+not_shown_yet v now {src} {read = read} progress r u q determines = u q (λ z are_bytes.
+    let done_first = determines_fewer (remainder_of v).sequences (take read src) progress.done (q ∷ []) determines z
+    are_bytes in
     begins_after progress.done (q ∷ []) ((remainder_of now).sequences z)
     ((remainder_of v).sequences (take read src ++ z))
-    (goes_on v now (take read src) z progress.done r progress.set progress.accounted f) (determines z are_bytes))
+    (goes_on v now (take read src) z progress.done r progress.set progress.accounted done_first)
+    (determines z are_bytes))

@@ -41,27 +41,27 @@ whole_first rule set (p ∷ ps) y mean =
 pub takes_pieces : {C : Type 0} (units_of : ℕ → List ℕ) (state : C → CodecState) (c : C) (src : List ℕ) (n : ℕ) (before after : Output)
     → (state c).pending ≡ [] → PutsPieces units_of (IsWholeChar (state c).rule (state c).set) before after src n → TakesRun units_of state c c src n before after
 takes_pieces units_of state c src n before after none_pending puts =
-    let v = state c in
+    let codec_state = state c in
     let reads = puts.reads in
-    let ss = whole v.set reads.pieces in
+    let ss = whole codec_state.set reads.pieces in
     let units : units_of_text units_of (sequence_text ss) ≡ units_of_text units_of puts.text =
-    ap (units_of_text units_of) (whole_text v.set reads.pieces ∙ reads.chars) in
+    ap (units_of_text units_of) (whole_text codec_state.set reads.pieces ∙ reads.chars) in
     record {
       taken = ss;
       within = reads.within;
-      bytes = whole_bytes v.set reads.pieces ∙ reads.bytes;
+      bytes = whole_bytes codec_state.set reads.pieces ∙ reads.bytes;
       first =
-          λ y. ap (λ q. sequences_of v.rule v.set (q ++ (take n src ++ y))) none_pending
-          ∙ ap (λ x. sequences_of v.rule v.set (x ++ y)) (sym reads.bytes)
-          ∙ whole_first v.rule v.set reads.pieces y reads.mean
-          ∙ ap (λ q. ss ++ sequences_of v.rule v.set (q ++ y)) (sym none_pending);
-      next_state = ap (λ s. record v { set = s }) (sym (whole_set v.set reads.pieces));
-      none_malformed = whole_valid v.set reads.pieces;
-      scalars = subst AreScalars (sym (whole_text v.set reads.pieces ∙ reads.chars)) puts.scalars;
+          λ y. ap (λ q. sequences_of codec_state.rule codec_state.set (q ++ (take n src ++ y))) none_pending
+          ∙ ap (λ x. sequences_of codec_state.rule codec_state.set (x ++ y)) (sym reads.bytes)
+          ∙ whole_first codec_state.rule codec_state.set reads.pieces y reads.mean
+          ∙ ap (λ q. ss ++ sequences_of codec_state.rule codec_state.set (q ++ y)) (sym none_pending);
+      next_state = ap (λ s. record codec_state { set = s }) (sym (whole_set codec_state.set reads.pieces));
+      none_malformed = whole_valid codec_state.set reads.pieces;
+      scalars = subst AreScalars (sym (whole_text codec_state.set reads.pieces ∙ reads.chars)) puts.scalars;
       fits = omega (arith, puts.fits, ap length units);
       written = puts.written ∙ ap (with_appended before) (sym units);
       none_pending = λ _. none_pending;
-      none_taken = λ z. ap (whole v.set) (reads.none z);
+      none_taken = λ z. ap (whole codec_state.set) (reads.none z);
     }
 
 -- the bytes that a piece of one byte has, or of two

@@ -21,13 +21,13 @@ pub record Turning (units_of : ℕ → List ℕ) (old : Remainder) (src : List �
   pub onto : after ≡ with_appended before wrote
   pub turned : Turned units_of old src last before.room read now wrote replaced
 
-pub begin : (units_of : ℕ → List ℕ) (old : Remainder) (src : List ℕ) (last : Bool) (before : Output)
+pub begin : {units_of : ℕ → List ℕ} {old : Remainder} {src : List ℕ} {last : Bool} {before : Output}
     → Turning units_of old src last before before 0 old false
-begin units_of old src last before =
+begin {before = before} =
     record {
       wrote = [];
       onto = sym (with_appended-nil before);
-      turned = successive.start units_of old src last before.room;
+      turned = successive.start;
     }
 
 fits_then : (n room : ℕ) → n ≤ room → nat_le n room ≡ true
@@ -38,19 +38,23 @@ at_hand : (old new : List ℕ) (src bytes next : List ℕ) (n : ℕ) → old ++ 
     → n ≤ length src → 0 < length next
     → length new + (length src - n) < length old + length src
 at_hand old new src bytes next n e h s =
-    let f = ap length e in let g = length-append old (take n src) in let i = length-append
-    (bytes ++ next) new in let j = length-append bytes next in let k = length-take n src in
-    omega arith
+    omega (
+      arith,
+      ap length e,
+      length-append old (take n src),
+      length-append (bytes ++ next) new,
+      length-append bytes next,
+      length-take n src,
+    )
 
-module _ (units_of : ℕ → List ℕ) (old : Remainder) (src : List ℕ) (bytes : AreBytes src) (last : Bool)
-    (before after : Output) (read : ℕ) (now : Remainder) (replaced : Bool)
+module _ {units_of : ℕ → List ℕ} {old : Remainder} {src : List ℕ} (bytes : AreBytes src) {last : Bool}
+    {before after : Output} {read : ℕ} {now : Remainder} {replaced : Bool}
     (turning : Turning units_of old src last before after read now replaced) where
-  room_at : {result : DecoderResult} (new : Remainder) (n : ℕ) (more : List ℕ)
+  room_at : {result : DecoderResult} {new : Remainder} {n : ℕ} {more : List ℕ}
       → RawDecoderCall units_of now new (drop read src) last (Fatal true) after.room result n more false
       → RawDecoderCall units_of now new (drop read src) last (Fatal true) (before.room - length turning.wrote) result n
-      more
-      false
-  room_at {result} new n more c =
+      more false
+  room_at {result} {new} {n} {more} c =
       subst (λ r. RawDecoderCall units_of now new (drop read src) last (Fatal true) r result n more false)
       (room_left before after turning.wrote turning.onto) c
 
@@ -59,58 +63,55 @@ module _ (units_of : ℕ → List ℕ) (old : Remainder) (src : List ℕ) (bytes
   onto_on then more e =
       e ∙ ap (λ o. with_appended o more) turning.onto ∙ with_appended-with_appended before turning.wrote more
 
-  pub empties : (new : Remainder) (n : ℕ) (then : Output) → DecoderCallInto units_of now new (drop read src) last
+  pub empties : {new : Remainder} {n : ℕ} {then : Output} → DecoderCallInto units_of now new (drop read src) last
       (Fatal true) after then InputEmpty n false
       → DecoderCallInto units_of old new src last Replacement before then InputEmpty (read + n) replaced
-  empties new n then next_call = record {
+  empties {then = then} next_call = record {
     wrote = turning.wrote ++ next_call.wrote;
     onto = onto_on then next_call.wrote next_call.onto;
     call =
-        successive.empties units_of old src bytes last before.room read now turning.wrote replaced turning.turned new
-        n
-        next_call.wrote (room_at new n next_call.wrote next_call.call);
+        successive.empties bytes turning.turned (room_at next_call.call);
   }
 
-  pub fills : (new : Remainder) (n : ℕ) (then : Output) → DecoderCallInto units_of now new (drop read src) last
+  pub fills : {new : Remainder} {n : ℕ} {then : Output} → DecoderCallInto units_of now new (drop read src) last
       (Fatal true) after then OutputFull n false
       → DecoderCallInto units_of old new src last Replacement before then OutputFull (read + n) replaced
-  fills new n then next_call = record {
+  fills {then = then} next_call = record {
     wrote = turning.wrote ++ next_call.wrote;
     onto = onto_on then next_call.wrote next_call.onto;
-    call = successive.fills units_of old src bytes last before.room read now turning.wrote replaced turning.turned new n
-        next_call.wrote (room_at new n next_call.wrote next_call.call);
+    call = successive.fills bytes turning.turned (room_at next_call.call);
   }
 
-  module _ (new : Remainder) (n l a : ℕ) (then : Output)
+  module _ {new : Remainder} {n l a : ℕ} {then : Output}
       (next_call : DecoderCallInto units_of now new (drop read src) last (Fatal true) after then (Malformed l a) n
       false)
     where
       -- there is room for U+FFFD
       pub fits : nat_le (length (units_of 0xFFFD)) then.room ≡ true
       fits =
-          let e = room_left after then next_call.wrote next_call.onto in let f = ap length next_call.call.call.text in
-          let g =
-          next_call.call.call.stops.room_kept refl in
-          fits_then (length (units_of 0xFFFD)) then.room (omega arith)
+          fits_then (length (units_of 0xFFFD)) then.room (omega (
+            arith,
+            room_left after then next_call.wrote next_call.onto,
+            ap length next_call.call.call.text,
+            next_call.call.call.stops.room_kept refl,
+          ))
 
-      pub replaces : (end : Output) → end ≡ with_appended then (units_of 0xFFFD)
+      pub replaces : {end : Output} → end ≡ with_appended then (units_of 0xFFFD)
           → Turning units_of old src last before end (read + n) new true
-      replaces end e = record {
+      replaces e = record {
         wrote = (turning.wrote ++ next_call.wrote) ++ units_of 0xFFFD;
         onto = e ∙ ap (λ o. with_appended o (units_of 0xFFFD)) (onto_on then next_call.wrote next_call.onto)
             ∙ with_appended-with_appended before (turning.wrote ++ next_call.wrote) (units_of 0xFFFD);
         turned =
-            successive.replaces units_of old src bytes last before.room read now turning.wrote replaced turning.turned
-            new n l a next_call.wrote (room_at new n next_call.wrote next_call.call);
+            successive.replaces bytes turning.turned (room_at next_call.call);
       }
 
       pub falls : length new.pending + (length src - (read + n)) < length now.pending + (length src - read)
       falls =
           let stopped = next_call.call.call.stops in
-          let e = ap (λ x. x ++ new.pending) (ap sequence_bytes stopped.then_next
+          let bytes_parted = ap (λ x. x ++ new.pending) (ap sequence_bytes stopped.then_next
           ∙ sequence_bytes-one next_call.call.call.put stopped.next) in
-          let h = at_hand now.pending new.pending (drop read src) (sequence_bytes next_call.call.call.put)
-          stopped.next.bytes n (next_call.call.accounted ∙ e) next_call.call.call.within
-          (let f = stopped.not_empty in let g = stopped.len in omega arith) in
-          let i = length-drop read src in
-          omega (arith, turning.turned.within)
+          let fewer_left = at_hand now.pending new.pending (drop read src) (sequence_bytes next_call.call.call.put)
+          stopped.next.bytes n (next_call.call.accounted ∙ bytes_parted) next_call.call.call.within
+          (omega (arith, stopped.not_empty, stopped.len)) in
+          omega (arith, turning.turned.within, fewer_left, length-drop read src)

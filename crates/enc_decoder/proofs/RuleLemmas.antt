@@ -39,7 +39,7 @@ is_of_rule : (rule : Rule) (set : ℕ) (z : List ℕ) (done : List Sequence) (s 
 is_of_rule rule set z done s rest e = one_of rule done s rest (subst (AreOfRule rule) e (rest_of_rule rule set 0 z))
 
 some_bytes : (rule : Rule) (s : Sequence) → IsOfRule rule s → 0 < length s.bytes
-some_bytes rule s h = let e = ap (λ (t : Sequence). length t.bytes) h.is in omega arith
+some_bytes rule s h = omega (arith, ap (λ (t : Sequence). length t.bytes) h.is)
 
 no_text : (rule : Rule) → HasTexts rule → (s : Sequence) (ss : List Sequence) → IsOfRule rule s
     → sequence_text (s ∷ ss) ≡ [] → ⊥
@@ -81,9 +81,10 @@ utf_16_bounds c = by_plane _ _ _ (nat_lt c 0x1_0000)
 
 -- one character is a small text, and so is none
 pub one_small : (c : ℕ) → IsSmallText (c ∷ [])
-one_small c =
-    let b = units_bounds c in let d = utf_16_bounds c in
-    record { utf_8 = omega (arith, length-append (encode_utf8 c) []); utf_16 = omega (arith, d.1, length-append (encode_utf16 c) []) }
+one_small c = record {
+  utf_8 = omega (arith, (units_bounds c).0, (units_bounds c).1, length-append (encode_utf8 c) []);
+  utf_16 = omega (arith, (utf_16_bounds c).1, length-append (encode_utf16 c) []);
+}
 
 pub none_small : IsSmallText []
 none_small = record { utf_8 = omega arith; utf_16 = omega arith }
@@ -91,6 +92,9 @@ none_small = record { utf_8 = omega arith; utf_16 = omega arith }
 -- a text without units is empty
 pub no_units : (text : List ℕ) → units_of_text encode_utf8 text ≡ [] → text ≡ []
 no_units [] e = refl
-no_units (c ∷ text) e =
-    let b = units_bounds c in
-    absurd (omega (arith, length-append (encode_utf8 c) (units_of_text encode_utf8 text), ap length e))
+no_units (c ∷ text) e = absurd (omega (
+  arith,
+  (units_bounds c).0,
+  length-append (encode_utf8 c) (units_of_text encode_utf8 text),
+  ap length e,
+))

@@ -49,20 +49,21 @@ sequences_after-first rule set z w [] rest whole bytes_are = sym whole ∙ ap (s
 sequences_after-first rule set [] w (s ∷ ss) rest whole bytes_are =
     absurd (none_first s (ss ++ rest) (sym (sequences_of-nil rule set) ∙ whole))
 sequences_after-first rule set (b ∷ z) w (s ∷ ss) rest whole bytes_are =
-    let h : Head = rule set b z in
-    let sequences : head_sequence h b z ∷ sequences_of rule h.set (drop h.more z) ≡ s ∷ (ss ++ rest) =
+    let head : Head = rule set b z in
+    let sequences : head_sequence head b z ∷ sequences_of rule head.set (drop head.more z) ≡ s ∷ (ss ++ rest) =
     sym (sequences_of-cons rule set b z) ∙ whole in
-    let same : head_sequence h b z ≡ s =
-    first_of (head_sequence h b z) s (sequences_of rule h.set (drop h.more z)) (ss ++ rest) sequences in
-    let j : b ∷ (take h.more z ++ drop h.more z) ≡ b ∷ (take h.more z ++ (sequence_bytes ss ++ w)) =
-    ap (λ x. b ∷ x) (take-append-drop h.more z) ∙ bytes_are ∙ ap (λ (t : Sequence). (t.bytes ++ sequence_bytes ss) ++ w)
-    (sym same)
-    ∙ append_assoc (b ∷ take h.more z) (sequence_bytes ss) w in
-    let k : drop h.more z ≡ sequence_bytes ss ++ w =
-    append_cancel_left (take h.more z) (drop h.more z) (sequence_bytes ss ++ w)
-    (tail_of b b (take h.more z ++ drop h.more z) (take h.more z ++ (sequence_bytes ss ++ w)) j) in
-    sequences_after-first rule h.set (drop h.more z) w ss rest
-    (rest_of (head_sequence h b z) s (sequences_of rule h.set (drop h.more z)) (ss ++ rest) sequences) k
+    let same : head_sequence head b z ≡ s =
+    first_of (head_sequence head b z) s (sequences_of rule head.set (drop head.more z)) (ss ++ rest) sequences in
+    let bytes_joined : b ∷ (take head.more z ++ drop head.more z) ≡ b ∷ (take head.more z ++ (sequence_bytes ss ++ w)) =
+    ap (λ x. b ∷ x) (take-append-drop head.more z) ∙ bytes_are
+    ∙ ap (λ (t : Sequence). (t.bytes ++ sequence_bytes ss) ++ w) (sym same)
+    ∙ append_assoc (b ∷ take head.more z) (sequence_bytes ss) w in
+    let following_bytes : drop head.more z ≡ sequence_bytes ss ++ w =
+    append_cancel_left (take head.more z) (drop head.more z) (sequence_bytes ss ++ w)
+    (tail_of b b (take head.more z ++ drop head.more z) (take head.more z ++ (sequence_bytes ss ++ w)) bytes_joined) in
+    sequences_after-first rule head.set (drop head.more z) w ss rest
+    (rest_of (head_sequence head b z) s (sequences_of rule head.set (drop head.more z)) (ss ++ rest) sequences)
+    following_bytes
     ∙ ap (λ (t : Sequence). sequences_of rule (set_after t.set ss) w) same
 
 -- once the sequences done are known to come first, the state after them determines those still to come

@@ -84,29 +84,26 @@ one_and_one : (k : Kind) (l a left : ℕ) → l ≡ 1 → a ≡ 0 → left ≡ 1
 one_and_one kind.Valid l a left e f g h = (omega arith, omega arith, omega arith)
 one_and_one kind.Skipped l a left e f g h = (omega arith, omega arith, omega arith)
 one_and_one kind.Malformed l a left e f g h = (omega arith, omega arith, omega arith)
-one_and_one kind.RepeatedEscape l a left e f g h = let i = h.0 in absurd (omega arith)
+one_and_one kind.RepeatedEscape l a left e f g h = absurd (omega (arith, h.0))
 
 is_six : (k : Kind) (l a : ℕ) → is_repeated_escape k ≡ true → AreReportedLens k l a → l + a ≡ 6
 is_six kind.Valid l a is_repeated lens = absurd (false≢true is_repeated)
 is_six kind.Skipped l a is_repeated lens = absurd (false≢true is_repeated)
 is_six kind.Malformed l a is_repeated lens = absurd (false≢true is_repeated)
-is_six kind.RepeatedEscape l a is_repeated lens = let f = lens.0 in let g = lens.1 in omega arith
+is_six kind.RepeatedEscape l a is_repeated lens = omega (arith, lens.0, lens.1)
 
 -- one number is at most another, or more
 pub most_or_more : (m n : ℕ) → (m ≤ n) ⊎ (n < m)
 most_or_more m n = grind (arith, nat_tests, leb_tells m n)
 
-module _ (units_of : ℕ → List ℕ) (old inner : Remainder) (src bytes : List ℕ) (are : AreBytes bytes) (last : Bool)
-    (mode : DecodeErrorMode) (room room_left : ℕ)
-    (before : List Sequence) (wrote : List ℕ) (had : Bool) (more less from below n read left : ℕ)
-    (then new : Remainder) (written : List ℕ) (replaced : Bool)
-    (carries : Carries old inner src bytes last before more less from below)
-    (reads : Reads src more less from below n read)
-    (before_call : Wrote units_of mode room room_left before wrote had) where
+-- what bytes determine
+
+module _ {old inner : Remainder} {src bytes : List ℕ} {last : Bool} {before : List Sequence}
+    {more less from below : ℕ} (carries : Carries old inner src bytes last before more less from below) where
   -- what the inner one determines, the outer one determines after the sequences done before
-  shown : (m k : ℕ) (ss : List Sequence) → from ≤ k → k ≤ length src → m ≤ k + more - less
+  shown : AreBytes bytes → (m k : ℕ) (ss : List Sequence) → from ≤ k → k ≤ length src → m ≤ k + more - less
       → Determines inner.sequences (take m bytes) ss → Determines old.sequences (take k src) (before ++ ss)
-  shown m k ss h i j d z b =
+  shown are m k ss h i j d z b =
       let first = determines_by_more inner.sequences bytes m (k + more - less) ss are j d z b in
       (first.0, carries.by_prefix k h i z ∙ ap (λ x. before ++ x) first.1 ∙ sym (append_assoc before ss first.0))
 
@@ -123,64 +120,74 @@ module _ (units_of : ℕ → List ℕ) (old inner : Remainder) (src bytes : List
   unshown ts some k h d =
       carries.none_below k h some.0 some.1 (subst (λ x. Determines old.sequences (take k src) (before ++ x)) some.2 d)
 
-  not_shown : (ts : List Sequence) → (x : Sequence) × (rest : List Sequence) × (ts ≡ x ∷ rest)
-      → (n ≡ 0) ⊎ (Determines inner.sequences (take n bytes) ts → ⊥) → (read ≡ 0)
-      ⊎ (Determines old.sequences (take read src) (before ++ ts) → ⊥)
-  not_shown ts some h = elim reads.exact [
-    | inl e ↦ inl e
-    | inr e ↦ elim e [
-      | inl i ↦ inr (unshown ts some read i)
-      | inr past_prefix ↦ elim h [
-        | inl j ↦ elim (reads.none j) [ inl k ↦ inl k | inr k ↦ inr (unshown ts some read k) ]
-        | inr j ↦ inr (λ d. j (hidden n read ts past_prefix.0 reads.within past_prefix.1 d))
+  determined_on : (ts : List Sequence) → AreDetermined last inner.sequences bytes ts
+      → AreDetermined last old.sequences src (before ++ ts)
+  determined_on ts determined_inside = by_last last carries.plain determined_inside
+    where
+      by_last : (l : Bool) → ((z : List ℕ) → (l ≡ true → z ≡ [])
+          → old.sequences (src ++ z) ≡ before ++ inner.sequences (bytes ++ z))
+          → AreDetermined l inner.sequences bytes ts → AreDetermined l old.sequences src (before ++ ts)
+      by_last true whole are_determined = (
+        are_determined.0,
+        ap old.sequences (sym (append-nil src)) ∙ whole [] (λ _. refl)
+            ∙ ap (λ x. before ++ inner.sequences x) (append-nil bytes) ∙ ap (λ x. before ++ x) are_determined.1
+            ∙ sym (append_assoc before ts are_determined.0),
+      )
+      by_last false whole are_determined =
+          λ z b. let first = are_determined z b in (
+            first.0,
+            whole z (λ h. absurd (false≢true h)) ∙ ap (λ x. before ++ x) first.1
+                ∙ sym (append_assoc before ts first.0),
+          )
+
+  -- the same for the bytes that a call has read
+  module _ {n read : ℕ} (reads : Reads src more less from below n read) where
+    not_shown : (ts : List Sequence) → (x : Sequence) × (rest : List Sequence) × (ts ≡ x ∷ rest)
+        → (n ≡ 0) ⊎ (Determines inner.sequences (take n bytes) ts → ⊥) → (read ≡ 0)
+        ⊎ (Determines old.sequences (take read src) (before ++ ts) → ⊥)
+    not_shown ts some h = elim reads.exact [
+      | inl e ↦ inl e
+      | inr e ↦ elim e [
+        | inl i ↦ inr (unshown ts some read i)
+        | inr past_prefix ↦ elim h [
+          | inl j ↦ elim (reads.none j) [ inl k ↦ inl k | inr k ↦ inr (unshown ts some read k) ]
+          | inr j ↦ inr (λ d. j (hidden n read ts past_prefix.0 reads.within past_prefix.1 d))
+        ]
       ]
     ]
-  ]
 
-  inner_reads : n ≤ length bytes
-  inner_reads = omega (arith, reads.there, reads.within, carries.len, reads.back)
+    inner_reads : n ≤ length bytes
+    inner_reads = omega (arith, reads.there, reads.within, carries.len, reads.back)
 
-  more_to_read : read < length src → n < length bytes
-  more_to_read h = omega (arith, reads.there, carries.len, reads.back)
+    more_to_read : read < length src → n < length bytes
+    more_to_read h = omega (arith, reads.there, carries.len, reads.back)
 
-  shown_next : (ts : List Sequence) → (n < length bytes → Determines inner.sequences (take (n + 1) bytes) ts)
-      → read < length src → Determines old.sequences (take (read + 1) src) (before ++ ts)
-  shown_next ts h i =
-      shown (n + 1) (read + 1) ts reads.soon (omega arith) (omega (arith, reads.there, reads.back)) (h (more_to_read i))
+    shown_next : AreBytes bytes → (ts : List Sequence)
+        → (n < length bytes → Determines inner.sequences (take (n + 1) bytes) ts)
+        → read < length src → Determines old.sequences (take (read + 1) src) (before ++ ts)
+    shown_next are ts h i =
+        shown are (n + 1) (read + 1) ts reads.soon (omega arith) (omega (arith, reads.there, reads.back))
+        (h (more_to_read i))
 
-  determined_on : (l : Bool) → ((z : List ℕ) → (l ≡ true → z ≡ []) → old.sequences (src ++ z) ≡ before
-      ++ inner.sequences (bytes ++ z))
-      → (ts : List Sequence) → AreDetermined l inner.sequences bytes ts → AreDetermined l old.sequences src
-      (before ++ ts)
-  determined_on true whole ts are_determined = (
-    are_determined.0,
-    ap old.sequences (sym (append-nil src)) ∙ whole [] (λ _. refl)
-        ∙ ap (λ x. before ++ inner.sequences x) (append-nil bytes) ∙ ap (λ x. before ++ x) are_determined.1
-        ∙ sym (append_assoc before ts are_determined.0),
-  )
-  determined_on false whole ts are_determined =
-      λ z b. let first = are_determined z b in (
-        first.0,
-        whole z (λ h. absurd (false≢true h)) ∙ ap (λ x. before ++ x) first.1
-            ∙ sym (append_assoc before ts first.0),
-      )
+    all_read : n ≡ length bytes → read ≡ length src
+    all_read e = omega (arith, reads.there, reads.within, carries.len, reads.back)
 
-  all_read : n ≡ length bytes → read ≡ length src
-  all_read e = omega (arith, reads.there, reads.within, carries.len, reads.back)
+-- the text, the room and the flag
 
-  -- the text, the room and the flag
-
-  text_on : (ts : List Sequence) → written ≡ units_of_text units_of (sequence_text ts)
+module _ {units_of : ℕ → List ℕ} {mode : DecodeErrorMode} {room room_left : ℕ} {before : List Sequence}
+    {wrote : List ℕ} {had : Bool} (before_call : Wrote units_of mode room room_left before wrote had) where
+  text_on : {written : List ℕ} (ts : List Sequence) → written ≡ units_of_text units_of (sequence_text ts)
       → wrote ++ written ≡ units_of_text units_of (sequence_text (before ++ ts))
-  text_on ts e =
+  text_on {written} ts e =
       ap (λ x. x ++ written) before_call.text ∙ ap (λ x. units_of_text units_of (sequence_text before) ++ x) e
       ∙ sym (units-append units_of before ts)
 
-  fits_on : length written ≤ room_left → length (wrote ++ written) ≤ room
-  fits_on h = omega (arith, before_call.fits, before_call.at, length-append wrote written)
+  fits_on : (written : List ℕ) → length written ≤ room_left → length (wrote ++ written) ≤ room
+  fits_on written h = omega (arith, before_call.fits, before_call.at, length-append wrote written)
 
-  flag_on : (ts : List Sequence) → replaced ≡ any_malformed ts → (had || replaced) ≡ any_malformed (before ++ ts)
-  flag_on ts e =
+  flag_on : {replaced : Bool} (ts : List Sequence) → replaced ≡ any_malformed ts
+      → (had || replaced) ≡ any_malformed (before ++ ts)
+  flag_on {replaced} ts e =
       ap (λ b. b || replaced) before_call.flag ∙ ap (λ b. any_malformed before || b) e
       ∙ sym (any_malformed-append before ts)
 
@@ -191,247 +198,289 @@ module _ (units_of : ℕ → List ℕ) (old inner : Remainder) (src bytes : List
       (units_of_text units_of (sequence_text ts))
       ∙ ap (λ x. length x + length (units_of_text units_of (sequence_text ts))) (sym before_call.text)
 
-  residual_on : {result : DecoderResult}
-      → (inner_call : DecoderCall units_of inner then bytes last mode room_left result n written replaced)
-      → Follows old then new src bytes last result before inner_call.done left below n read
-      → (z : List ℕ) → (last ≡ true → z ≡ []) → old.sequences (src ++ z) ≡ (before ++ inner_call.done) ++ new.sequences
-      (drop read src ++ z)
-  residual_on inner_call h z ends =
-      carries.plain z ends ∙ ap (λ x. before ++ x) (inner_call.residual z ends)
-      ∙ sym (append_assoc before inner_call.done (then.sequences (drop n bytes ++ z)))
-      ∙ ap (λ x. (before ++ inner_call.done) ++ x) (h.after z ends)
+-- The call of the inner one is one of the outer one.
 
-  -- the inner one comes to the end of its input
-  pub carries_empty : (inner_call : DecoderCall units_of inner then bytes last mode room_left InputEmpty n written
-      replaced)
-      → Follows old then new src bytes last InputEmpty before inner_call.done left below n read
-      → (e : DecoderCall units_of old new src last mode room InputEmpty read (wrote ++ written) (had || replaced))
-      × (e.done ≡ before ++ inner_call.done)
-  carries_empty inner_call follows = (
-    record {
-      put = before ++ inner_call.put;
-      done = before ++ inner_call.done;
-      within = reads.within;
-      residual = residual_on inner_call follows;
-      set = follows.set;
-      text = text_on inner_call.put inner_call.text;
-      scalars = scalars_of-append before inner_call.put before_call.scalars inner_call.scalars;
-      fits = fits_on inner_call.fits;
-      flag = flag_on inner_call.put inner_call.flag;
-      none_replaced = λ is_fatal. none_of_both had replaced (before_call.none is_fatal)
-          (inner_call.none_replaced is_fatal);
-      stops = record {
-        only_put = ap (λ x. before ++ x) inner_call.stops.only_put;
-        all_read = all_read inner_call.stops.all_read;
-        none_determined = λ not_last s d. inner_call.stops.none_determined not_last s (λ z b.
-            begins_after before (inner_call.done ++ s ∷ []) (inner.sequences (bytes ++ z)) (old.sequences (src ++ z))
-            (carries.plain z (λ t. absurd (false≢true (sym not_last ∙ t))))
-            (subst (λ x. AreFirstSequences x (old.sequences (src ++ z))) (append_assoc before inner_call.done (s ∷ []))
-            (d z b)));
-        none_left = λ l.
-            ap (λ x. new.sequences (x ++ []))
-            (sym (drop_of_length-le src (let e = all_read inner_call.stops.all_read in omega arith)))
-            ∙ sym (follows.after [] (λ _. refl))
-            ∙ ap (λ x. then.sequences (x ++ []))
-            (drop_of_length-le bytes (let e = inner_call.stops.all_read in omega arith)) ∙ inner_call.stops.none_left l;
-        none_pending = λ l. follows.none_pending l refl;
-      };
-    },
-    refl,
-  )
+module _ (units_of : ℕ → List ℕ) (old inner : Remainder) (src bytes : List ℕ) (are : AreBytes bytes) (last : Bool)
+    (mode : DecodeErrorMode) (room room_left : ℕ) (before : List Sequence) (wrote : List ℕ) (had : Bool) where
+  -- a call of the inner one, into the room that is left
+  abbrev InnerCall : Remainder → DecoderResult → ℕ → List ℕ → Bool → Type 0
+  InnerCall then result n written replaced =
+      DecoderCall units_of inner then bytes last mode room_left result n written replaced
 
-  -- the inner one stops for want of room
-  pub carries_full : (inner_call : DecoderCall units_of inner then bytes last mode room_left OutputFull n written
-      replaced)
-      → Follows old then new src bytes last OutputFull before inner_call.done left below n read
-      → (e : DecoderCall units_of old new src last mode room OutputFull read (wrote ++ written) (had || replaced))
-      × (e.done ≡ before ++ inner_call.done)
-  carries_full inner_call follows = (
-    record {
-      put = before ++ inner_call.put;
-      done = before ++ inner_call.done;
-      within = reads.within;
-      residual = residual_on inner_call follows;
-      set = follows.set;
-      text = text_on inner_call.put inner_call.text;
-      scalars = scalars_of-append before inner_call.put before_call.scalars inner_call.scalars;
-      fits = fits_on inner_call.fits;
-      flag = flag_on inner_call.put inner_call.flag;
-      none_replaced = λ is_fatal. none_of_both had replaced (before_call.none is_fatal)
-          (inner_call.none_replaced is_fatal);
-      stops = record {
-        only_put = ap (λ x. before ++ x) inner_call.stops.only_put;
-        next = inner_call.stops.next;
-        determined = regrouped (AreDetermined last old.sequences src)
-            (determined_on last carries.plain (inner_call.done ++ inner_call.stops.next ∷ [])
-            inner_call.stops.determined);
-        not_reported = inner_call.stops.not_reported;
-        full = let e = length_on inner_call.done in let i = inner_call.stops.full in let j = before_call.fits in
-            let k = before_call.at in omega arith;
-        reads = record {
-          not_shown = regrouped (λ x. (read ≡ 0) ⊎ (Determines old.sequences (take read src) x → ⊥))
-              (not_shown (inner_call.done ++ inner_call.stops.next ∷ [])
-              (first_of inner_call.done inner_call.stops.next)
-              inner_call.stops.reads.not_shown);
-          shown_next = λ i. regrouped (Determines old.sequences (take (read + 1) src))
-              (shown_next (inner_call.done ++ inner_call.stops.next ∷ []) inner_call.stops.reads.shown_next i);
-        };
-      };
-    },
-    refl,
-  )
-    where
-      regrouped : (P : List Sequence → Type 0) → P (before ++ (inner_call.done ++ inner_call.stops.next ∷ []))
-          → P ((before ++ inner_call.done) ++ inner_call.stops.next ∷ [])
-      regrouped P = subst P (sym (append_assoc before inner_call.done (inner_call.stops.next ∷ [])))
+  -- a call of the outer one that does what was done before, and then what the inner one does
+  abbrev OuterCall : Remainder → DecoderResult → ℕ → List ℕ → Bool → List Sequence → Type 0
+  OuterCall new result read written replaced done =
+      (e : DecoderCall units_of old new src last mode room result read (wrote ++ written) (had || replaced))
+      × (e.done ≡ before ++ done)
 
-  module _ (l a : ℕ) (inner_call : DecoderCall units_of inner then bytes last mode room_left (Malformed l a) n written
-      replaced) where
-    abbrev Accounted : Type 0
-    Accounted = (inner.pending ≡ []) × (inner.pending ++ take n bytes ≡ sequence_bytes inner_call.done ++ then.pending)
+  module _ (more less from below n read left : ℕ) (then new : Remainder) (written : List ℕ) (replaced : Bool)
+      (carries : Carries old inner src bytes last before more less from below)
+      (reads : Reads src more less from below n read)
+      (before_call : Wrote units_of mode room room_left before wrote had) where
+    residual_on : {result : DecoderResult}
+        → (inner_call : InnerCall then result n written replaced)
+        → Follows old then new src bytes last result before inner_call.done left below n read
+        → (z : List ℕ) → (last ≡ true → z ≡ [])
+        → old.sequences (src ++ z) ≡ (before ++ inner_call.done) ++ new.sequences (drop read src ++ z)
+    residual_on inner_call h z ends =
+        carries.plain z ends ∙ ap (λ x. before ++ x) (inner_call.residual z ends)
+        ∙ sym (append_assoc before inner_call.done (then.sequences (drop n bytes ++ z)))
+        ∙ ap (λ x. (before ++ inner_call.done) ++ x) (h.after z ends)
 
-    -- Where the inner one reports a malformed sequence: whether all bytes that it has read are read, or else fewer than
-    -- a repeated escape and the byte that shows it have; and whether held bytes are left.
-    abbrev Placed : Type 0
-    Placed = ((from ≤ read) ⊎ ((n ≤ 5) × Accounted)) × ((left ≡ 0) ⊎ ((left ≡ 1) × (n ≡ 1) × Accounted))
-
-    done_is : inner_call.done ≡ inner_call.put ++ inner_call.stops.next ∷ []
-    done_is = inner_call.stops.then_next
-
-    some : (x : Sequence) × (rest : List Sequence) × (inner_call.done ≡ x ∷ rest)
-    some = let begins = first_of inner_call.put inner_call.stops.next in (begins.0, begins.1, done_is ∙ begins.2)
-
-    few : Accounted → l + a ≤ n
-    few accounted =
-        let i = ap length accounted.1 in let j = ap length (ap (λ x. x ++ take n bytes) accounted.0) in let k =
-        length-take n bytes in
-        let m = length-append (sequence_bytes inner_call.done) then.pending in let o =
-        ap length (ap sequence_bytes done_is ∙ sequence_bytes-one inner_call.put inner_call.stops.next) in
-        let q = length-append (sequence_bytes inner_call.put) inner_call.stops.next.bytes in let r =
-        inner_call.stops.len in let t =
-        inner_call.stops.pending in
-        omega (arith, inner_reads)
-
-    bounds : Placed → AreReportedLens inner_call.stops.next.kind l (a + left)
-    bounds p = elim p.1 [
-      | inl e ↦ subst (AreReportedLens inner_call.stops.next.kind l) (let i : a ≡ a + left = omega arith in i)
-          inner_call.stops.bounds
-      | inr one_left ↦ let i = few one_left.2 in let j = inner_call.stops.not_empty in
-          one_and_one inner_call.stops.next.kind l a left (omega arith) (omega arith) one_left.0 inner_call.stops.bounds
-    ]
-
-    at_hand : Placed → is_repeated_escape inner_call.stops.next.kind ≡ true → from ≤ read
-    at_hand p r = elim p.0 [
-      | inl e ↦ e
-      | inr e ↦ let i = few e.1 in let j = is_six inner_call.stops.next.kind l a r inner_call.stops.bounds in
-          absurd (omega arith)
-    ]
-
-    -- how many bytes are read for it
-    reads_on : (late : Bool) → (late ≡ true → from ≤ read) → (new.pending ≡ then.pending)
-        ⊎ ((read ≡ 0) ⊎ (read < below))
-        → ReadsToReported late inner.sequences bytes inner_call.done n then.pending
-        → ReadsToReported late old.sequences src (before ++ inner_call.done) read new.pending
-    reads_on true h p reported = record {
-      not_shown = elim reads.exact [
-        | inl e ↦ inl e
-        | inr e ↦ elim e [
-          | inl i ↦ inr (unshown inner_call.done some (read - 1) (omega arith))
-          | inr i ↦ elim reported.not_shown [
-            | inl j ↦ elim (reads.none j) [
-              | inl k ↦ inl k
-              | inr k ↦ inr (unshown inner_call.done some (read - 1) (omega arith))
-            ]
-            | inr j ↦ elim (most_or_more read from) [
-              | inl k ↦ at_once k
-              | inr k ↦ one_less i j k
-            ]
-          ]
-        ]
-      ];
-      shown = shown n read inner_call.done (h refl) reads.within reads.there reported.shown;
-    }
-      where
-        at_once : read ≤ from → (read ≡ 0) ⊎ (Determines old.sequences (take (read - 1) src) (before ++ inner_call.done)
-            → ⊥)
-        at_once k =
-            elim (most_or_more read 0) [
-              | inl e ↦ inl (omega arith)
-              | inr e ↦ inr (unshown inner_call.done some (read - 1) (omega (arith, carries.near)))
-            ]
-
-        one_less : (from ≤ read) × (read + more - less ≡ n)
-            → (Determines inner.sequences (take (n - 1) bytes) inner_call.done → ⊥) → from < read
-            → (read ≡ 0) ⊎ (Determines old.sequences (take (read - 1) src) (before ++ inner_call.done) → ⊥)
-        one_less i j k =
-            inr (λ d. j (hidden (n - 1) (read - 1) inner_call.done (omega arith) (omega (arith, reads.within))
-            (let e = i.1 in omega (arith, carries.shift)) d))
-    reads_on false h p reported = record {
-      not_shown = elim p [
-        | inl e ↦ elim reported.not_shown [ inl i ↦ inl (e ∙ i) | inr i ↦ inr (not_shown inner_call.done some i) ]
-        | inr e ↦ inr (elim e [ inl i ↦ inl i | inr i ↦ inr (unshown inner_call.done some read i) ])
-      ];
-      shown_next = shown_next inner_call.done reported.shown_next;
-    }
-
-    -- it is reported
-    pub carries_malformed : Follows old then new src bytes last (Malformed l a) before inner_call.done left below n read
-        → Placed
-        → (e : DecoderCall units_of old new src last mode room (Malformed l (a + left)) read (wrote ++ written)
-        (had || replaced)) × (e.done ≡ before ++ inner_call.done)
-    carries_malformed follows placed = (
+    -- the inner one comes to the end of its input
+    pub carries_empty : (inner_call : InnerCall then InputEmpty n written replaced)
+        → Follows old then new src bytes last InputEmpty before inner_call.done left below n read
+        → OuterCall new InputEmpty read written replaced inner_call.done
+    carries_empty inner_call follows = (
       record {
         put = before ++ inner_call.put;
         done = before ++ inner_call.done;
         within = reads.within;
         residual = residual_on inner_call follows;
         set = follows.set;
-        text = text_on inner_call.put inner_call.text;
+        text = text_on before_call inner_call.put inner_call.text;
         scalars = scalars_of-append before inner_call.put before_call.scalars inner_call.scalars;
-        fits = fits_on inner_call.fits;
-        flag = flag_on inner_call.put inner_call.flag;
+        fits = fits_on before_call written inner_call.fits;
+        flag = flag_on before_call inner_call.put inner_call.flag;
         none_replaced = λ is_fatal. none_of_both had replaced (before_call.none is_fatal)
             (inner_call.none_replaced is_fatal);
         stops = record {
+          only_put = ap (λ x. before ++ x) inner_call.stops.only_put;
+          all_read = all_read carries reads inner_call.stops.all_read;
+          none_determined = λ not_last s d. inner_call.stops.none_determined not_last s (λ z b.
+              begins_after before (inner_call.done ++ s ∷ []) (inner.sequences (bytes ++ z))
+              (old.sequences (src ++ z))
+              (carries.plain z (λ t. absurd (false≢true (sym not_last ∙ t))))
+              (subst (λ x. AreFirstSequences x (old.sequences (src ++ z)))
+              (append_assoc before inner_call.done (s ∷ [])) (d z b)));
+          none_left = λ l.
+              ap (λ x. new.sequences (x ++ []))
+              (sym (drop_of_length-le src (omega (arith, all_read carries reads inner_call.stops.all_read))))
+              ∙ sym (follows.after [] (λ _. refl))
+              ∙ ap (λ x. then.sequences (x ++ []))
+              (drop_of_length-le bytes (omega (arith, inner_call.stops.all_read)))
+              ∙ inner_call.stops.none_left l;
+          none_pending = λ l. follows.none_pending l refl;
+        };
+      },
+      refl,
+    )
+
+    -- the inner one stops for want of room
+    pub carries_full : (inner_call : InnerCall then OutputFull n written replaced)
+        → Follows old then new src bytes last OutputFull before inner_call.done left below n read
+        → OuterCall new OutputFull read written replaced inner_call.done
+    carries_full inner_call follows = (
+      record {
+        put = before ++ inner_call.put;
+        done = before ++ inner_call.done;
+        within = reads.within;
+        residual = residual_on inner_call follows;
+        set = follows.set;
+        text = text_on before_call inner_call.put inner_call.text;
+        scalars = scalars_of-append before inner_call.put before_call.scalars inner_call.scalars;
+        fits = fits_on before_call written inner_call.fits;
+        flag = flag_on before_call inner_call.put inner_call.flag;
+        none_replaced = λ is_fatal. none_of_both had replaced (before_call.none is_fatal)
+            (inner_call.none_replaced is_fatal);
+        stops = record {
+          only_put = ap (λ x. before ++ x) inner_call.stops.only_put;
           next = inner_call.stops.next;
-          then_next = ap (λ x. before ++ x) done_is
-              ∙ sym (append_assoc before inner_call.put (inner_call.stops.next ∷ []));
-          malformed = inner_call.stops.malformed;
-          replacement = inner_call.stops.replacement;
-          not_replaced = inner_call.stops.not_replaced;
-          len = inner_call.stops.len;
-          not_empty = inner_call.stops.not_empty;
-          pending = let e = follows.pending in let i = inner_call.stops.pending in omega arith;
-          bounds = bounds placed;
-          room_kept = λ k. let e = length_on inner_call.put in let i = inner_call.stops.room_kept k in
-              let j = before_call.fits in let m = before_call.at in omega arith;
-          determined = determined_on last carries.plain inner_call.done inner_call.stops.determined;
-          none_after = none_after;
-          reads = reads_on (is_repeated_escape inner_call.stops.next.kind) (at_hand placed) follows.same
-              inner_call.stops.reads;
+          determined = regrouped (AreDetermined last old.sequences src)
+              (determined_on carries (inner_call.done ++ inner_call.stops.next ∷ [])
+              inner_call.stops.determined);
+          not_reported = inner_call.stops.not_reported;
+          full = omega (
+            arith,
+            length_on before_call inner_call.done,
+            inner_call.stops.full,
+            before_call.fits,
+            before_call.at,
+          );
+          reads = record {
+            not_shown = regrouped (λ x. (read ≡ 0) ⊎ (Determines old.sequences (take read src) x → ⊥))
+                (not_shown carries reads (inner_call.done ++ inner_call.stops.next ∷ [])
+                (first_of inner_call.done inner_call.stops.next)
+                inner_call.stops.reads.not_shown);
+            shown_next = λ i. regrouped (Determines old.sequences (take (read + 1) src))
+                (shown_next carries reads are (inner_call.done ++ inner_call.stops.next ∷ [])
+                inner_call.stops.reads.shown_next i);
+          };
         };
       },
       refl,
     )
       where
-        hides : (s : Sequence) → (Determines old.sequences (take read src) (before ++ (inner_call.done ++ s ∷ [])) → ⊥)
-            → Determines old.sequences (take read src) ((before ++ inner_call.done) ++ s ∷ []) → ⊥
-        hides s h d =
-            h (subst (Determines old.sequences (take read src)) (append_assoc before inner_call.done (s ∷ [])) d)
+        regrouped : (P : List Sequence → Type 0) → P (before ++ (inner_call.done ++ inner_call.stops.next ∷ []))
+            → P ((before ++ inner_call.done) ++ inner_call.stops.next ∷ [])
+        regrouped P = subst P (sym (append_assoc before inner_call.done (inner_call.stops.next ∷ [])))
 
-        none_after : (read ≡ 0) ⊎ ((s : Sequence) → Determines old.sequences (take read src)
-            ((before ++ inner_call.done) ++ s ∷ []) → ⊥)
-        none_after = elim reads.exact [
+    module _ (l a : ℕ) (inner_call : InnerCall then (Malformed l a) n written replaced) where
+      abbrev Accounted : Type 0
+      Accounted = (inner.pending ≡ [])
+          × (inner.pending ++ take n bytes ≡ sequence_bytes inner_call.done ++ then.pending)
+
+      -- Where the inner one reports a malformed sequence: whether all bytes that it has read are read, or else fewer
+      -- than a repeated escape and the byte that shows it have; and whether held bytes are left.
+      abbrev Placed : Type 0
+      Placed = ((from ≤ read) ⊎ ((n ≤ 5) × Accounted)) × ((left ≡ 0) ⊎ ((left ≡ 1) × (n ≡ 1) × Accounted))
+
+      done_is : inner_call.done ≡ inner_call.put ++ inner_call.stops.next ∷ []
+      done_is = inner_call.stops.then_next
+
+      some : (x : Sequence) × (rest : List Sequence) × (inner_call.done ≡ x ∷ rest)
+      some = let begins = first_of inner_call.put inner_call.stops.next in (begins.0, begins.1, done_is ∙ begins.2)
+
+      few : Accounted → l + a ≤ n
+      few accounted =
+          omega (
+            arith,
+            inner_reads carries reads,
+            ap length accounted.1,
+            ap length (ap (λ x. x ++ take n bytes) accounted.0),
+            length-take n bytes,
+            length-append (sequence_bytes inner_call.done) then.pending,
+            ap length (ap sequence_bytes done_is ∙ sequence_bytes-one inner_call.put inner_call.stops.next),
+            length-append (sequence_bytes inner_call.put) inner_call.stops.next.bytes,
+            inner_call.stops.len,
+            inner_call.stops.pending,
+          )
+
+      bounds : Placed → AreReportedLens inner_call.stops.next.kind l (a + left)
+      bounds p = elim p.1 [
+        | inl none_left ↦
+            let same_pending : a ≡ a + left = omega arith in
+            subst (AreReportedLens inner_call.stops.next.kind l) same_pending inner_call.stops.bounds
+        | inr one_left ↦
+            let few_read = few one_left.2 in
+            let some_read = inner_call.stops.not_empty in
+            one_and_one inner_call.stops.next.kind l a left (omega (arith, few_read, some_read))
+            (omega (arith, few_read, some_read)) one_left.0 inner_call.stops.bounds
+      ]
+
+      at_hand : Placed → is_repeated_escape inner_call.stops.next.kind ≡ true → from ≤ read
+      at_hand placed is_repeated = elim placed.0 [
+        | inl all_there ↦ all_there
+        | inr few_there ↦
+            let six_long = is_six inner_call.stops.next.kind l a is_repeated inner_call.stops.bounds in
+            absurd (omega (arith, few few_there.1, six_long))
+      ]
+
+      -- how many bytes are read for it
+      reads_on : (late : Bool) → (late ≡ true → from ≤ read) → (new.pending ≡ then.pending)
+          ⊎ ((read ≡ 0) ⊎ (read < below))
+          → ReadsToReported late inner.sequences bytes inner_call.done n then.pending
+          → ReadsToReported late old.sequences src (before ++ inner_call.done) read new.pending
+      reads_on true h p reported = record {
+        not_shown = elim reads.exact [
           | inl e ↦ inl e
           | inr e ↦ elim e [
-            | inl i ↦ inr (λ s. hides s (unshown (inner_call.done ++ s ∷ []) (first_of inner_call.done s) read i))
-            | inr past_prefix ↦ elim inner_call.stops.none_after [
+            | inl i ↦ inr (unshown carries inner_call.done some (read - 1) (omega arith))
+            | inr i ↦ elim reported.not_shown [
               | inl j ↦ elim (reads.none j) [
                 | inl k ↦ inl k
-                | inr k ↦ inr (λ s. hides s (unshown (inner_call.done ++ s ∷ []) (first_of inner_call.done s) read k))
+                | inr k ↦ inr (unshown carries inner_call.done some (read - 1) (omega arith))
               ]
-              | inr j ↦ inr (λ s. hides s (λ d. j s
-                  (hidden n read (inner_call.done ++ s ∷ []) past_prefix.0 reads.within past_prefix.1 d)))
+              | inr j ↦ elim (most_or_more read from) [
+                | inl k ↦ at_once k
+                | inr k ↦ one_less i j k
+              ]
             ]
           ]
-        ]
+        ];
+        shown = shown carries are n read inner_call.done (h refl) reads.within reads.there reported.shown;
+      }
+        where
+          at_once : read ≤ from
+              → (read ≡ 0) ⊎ (Determines old.sequences (take (read - 1) src) (before ++ inner_call.done) → ⊥)
+          at_once k =
+              elim (most_or_more read 0) [
+                | inl e ↦ inl (omega arith)
+                | inr e ↦ inr (unshown carries inner_call.done some (read - 1) (omega (arith, carries.near)))
+              ]
+
+          one_less : (from ≤ read) × (read + more - less ≡ n)
+              → (Determines inner.sequences (take (n - 1) bytes) inner_call.done → ⊥) → from < read
+              → (read ≡ 0) ⊎ (Determines old.sequences (take (read - 1) src) (before ++ inner_call.done) → ⊥)
+          one_less i j k =
+              inr (λ d. j (hidden carries (n - 1) (read - 1) inner_call.done (omega arith)
+              (omega (arith, reads.within)) (omega (arith, carries.shift, i.1)) d))
+      reads_on false h p reported = record {
+        not_shown = elim p [
+          | inl e ↦ elim reported.not_shown [
+            | inl i ↦ inl (e ∙ i)
+            | inr i ↦ inr (not_shown carries reads inner_call.done some i)
+          ]
+          | inr e ↦ inr (elim e [ inl i ↦ inl i | inr i ↦ inr (unshown carries inner_call.done some read i) ])
+        ];
+        shown_next = shown_next carries reads are inner_call.done reported.shown_next;
+      }
+
+      -- it is reported
+      pub carries_malformed :
+          Follows old then new src bytes last (Malformed l a) before inner_call.done left below n read → Placed
+          → OuterCall new (Malformed l (a + left)) read written replaced inner_call.done
+      carries_malformed follows placed = (
+        record {
+          put = before ++ inner_call.put;
+          done = before ++ inner_call.done;
+          within = reads.within;
+          residual = residual_on inner_call follows;
+          set = follows.set;
+          text = text_on before_call inner_call.put inner_call.text;
+          scalars = scalars_of-append before inner_call.put before_call.scalars inner_call.scalars;
+          fits = fits_on before_call written inner_call.fits;
+          flag = flag_on before_call inner_call.put inner_call.flag;
+          none_replaced = λ is_fatal. none_of_both had replaced (before_call.none is_fatal)
+              (inner_call.none_replaced is_fatal);
+          stops = record {
+            next = inner_call.stops.next;
+            then_next = ap (λ x. before ++ x) done_is
+                ∙ sym (append_assoc before inner_call.put (inner_call.stops.next ∷ []));
+            malformed = inner_call.stops.malformed;
+            replacement = inner_call.stops.replacement;
+            not_replaced = inner_call.stops.not_replaced;
+            len = inner_call.stops.len;
+            not_empty = inner_call.stops.not_empty;
+            pending = omega (arith, follows.pending, inner_call.stops.pending);
+            bounds = bounds placed;
+            room_kept = λ keeps. omega (
+              arith,
+              length_on before_call inner_call.put,
+              inner_call.stops.room_kept keeps,
+              before_call.fits,
+              before_call.at,
+            );
+            determined = determined_on carries inner_call.done inner_call.stops.determined;
+            none_after = none_after;
+            reads = reads_on (is_repeated_escape inner_call.stops.next.kind) (at_hand placed) follows.same
+                inner_call.stops.reads;
+          };
+        },
+        refl,
+      )
+        where
+          hides : (s : Sequence)
+              → (Determines old.sequences (take read src) (before ++ (inner_call.done ++ s ∷ [])) → ⊥)
+              → Determines old.sequences (take read src) ((before ++ inner_call.done) ++ s ∷ []) → ⊥
+          hides s h d =
+              h (subst (Determines old.sequences (take read src)) (append_assoc before inner_call.done (s ∷ [])) d)
+
+          hidden_below : read < below → (s : Sequence)
+              → Determines old.sequences (take read src) ((before ++ inner_call.done) ++ s ∷ []) → ⊥
+          hidden_below h s =
+              hides s (unshown carries (inner_call.done ++ s ∷ []) (first_of inner_call.done s) read h)
+
+          none_after : (read ≡ 0) ⊎ ((s : Sequence) → Determines old.sequences (take read src)
+              ((before ++ inner_call.done) ++ s ∷ []) → ⊥)
+          none_after = elim reads.exact [
+            | inl e ↦ inl e
+            | inr e ↦ elim e [
+              | inl i ↦ inr (hidden_below i)
+              | inr past_prefix ↦ elim inner_call.stops.none_after [
+                | inl j ↦ elim (reads.none j) [ inl k ↦ inl k | inr k ↦ inr (hidden_below k) ]
+                | inr j ↦ inr (λ s. hides s (λ d. j s (hidden carries n read (inner_call.done ++ s ∷ [])
+                    past_prefix.0 reads.within past_prefix.1 d)))
+              ]
+            ]
+          ]

@@ -40,9 +40,9 @@ nothing_determined : (last : Bool) (remaining : List ℕ → List Sequence) (x :
 nothing_determined true remaining x = (remaining x, refl)
 nothing_determined false remaining x = λ z _. (remaining (x ++ z), refl)
 
-pub start : (units_of : ℕ → List ℕ) (old : Remainder) (src : List ℕ) (last : Bool) (room : ℕ)
+pub start : {units_of : ℕ → List ℕ} {old : Remainder} {src : List ℕ} {last : Bool} {room : ℕ}
     → Turned units_of old src last room 0 old [] false
-start units_of old src last room = record {
+start {old} {src} {last} = record {
   done = [];
   within = omega arith;
   residual = λ z n. refl;
@@ -88,8 +88,8 @@ any_malformed-last : (ss : List Sequence) (s : Sequence) → is_malformed s.kind
 any_malformed-last ss s e =
     any_malformed-append ss (s ∷ []) ∙ ap (λ b. any_malformed ss || (b || false)) e ∙ or_true (any_malformed ss)
 
-module _ (units_of : ℕ → List ℕ) (old : Remainder) (src : List ℕ) (bytes : AreBytes src) (last : Bool)
-    (room read : ℕ) (now : Remainder) (wrote : List ℕ) (replaced : Bool)
+module _ {units_of : ℕ → List ℕ} {old : Remainder} {src : List ℕ} (bytes : AreBytes src) {last : Bool}
+    {room read : ℕ} {now : Remainder} {wrote : List ℕ} {replaced : Bool}
     (turned : Turned units_of old src last room read now wrote replaced) where
   abbrev rest : List ℕ
   rest = drop read src
@@ -139,13 +139,13 @@ module _ (units_of : ℕ → List ℕ) (old : Remainder) (src : List ℕ) (bytes
       let split : take read src ++ (take (m + 1) rest ++ z) ≡ take (read + 1) src ++ tail =
       ap (λ x. take read src ++ (x ++ z)) next
       ∙ ap (λ x. take read src ++ x) (append_assoc (take 1 rest) (take m (drop 1 rest)) z) ∙ sym (into 1 tail) in
-      let g : AreFirstSequences turned.done (old.sequences (take read src ++ (take (m + 1) rest ++ z))) =
+      let done_first : AreFirstSequences turned.done (old.sequences (take read src ++ (take (m + 1) rest ++ z))) =
       subst (λ x. AreFirstSequences turned.done (old.sequences x)) (sym split)
       (turned.shown_next h tail (bytes-append (take m (drop 1 rest)) z
       (bytes-take m (drop 1 rest) (bytes-drop 1 rest (bytes-drop read src bytes))) are_bytes)) in
       subst (λ x. AreFirstSequences (turned.done ++ ss) (old.sequences x))
       (sym (ap (λ k. take k src ++ z) (and_one read m) ∙ into (m + 1) z))
-      (join (take (m + 1) rest ++ z) ss g (d z are_bytes))
+      (join (take (m + 1) rest ++ z) ss done_first (d z are_bytes))
 
   shown_off : (m : ℕ) (ss : List Sequence) → Determines old.sequences (take (read + m) src) (turned.done ++ ss)
       → Determines now.sequences (take m rest) ss
@@ -240,16 +240,16 @@ module _ (units_of : ℕ → List ℕ) (old : Remainder) (src : List ℕ) (bytes
       ∙ sym (any_malformed-append turned.done ss)
 
   fits_on : (more : List ℕ) → length more ≤ room - length wrote → length (wrote ++ more) ≤ room
-  fits_on more h = let f = turned.fits in rw (length-append wrote more) (omega arith)
+  fits_on more h = rw (length-append wrote more) (omega (arith, turned.fits))
 
   within_on : (n : ℕ) → n ≤ length rest → read + n ≤ length src
-  within_on n h = let e = length-drop read src in omega (arith, turned.within)
+  within_on n h = omega (arith, turned.within, length-drop read src)
 
   -- the last call comes to the end of the offer
-  pub empties : (new : Remainder) (n : ℕ) (more : List ℕ)
+  pub empties : {new : Remainder} {n : ℕ} {more : List ℕ}
       → RawDecoderCall units_of now new rest last (Fatal true) (room - length wrote) InputEmpty n more false
       → RawDecoderCall units_of old new src last Replacement room InputEmpty (read + n) (wrote ++ more) replaced
-  empties new n more next_call =
+  empties {new} {n} {more} next_call =
       let same : next_call.call.done ≡ next_call.call.put = next_call.call.stops.only_put in
       record {
         call = record {
@@ -265,8 +265,7 @@ module _ (units_of : ℕ → List ℕ) (old : Remainder) (src : List ℕ) (bytes
           none_replaced = λ e. cc;
           stops = record {
             only_put = ap (λ x. turned.done ++ x) same;
-            all_read = let e = length-drop read src in let f = next_call.call.stops.all_read in
-                omega (arith, turned.within);
+            all_read = omega (arith, turned.within, length-drop read src, next_call.call.stops.all_read);
             none_determined = λ l s d. next_call.call.stops.none_determined l s (λ z b.
                 off (rest ++ z) (next_call.call.done ++ s ∷ [])
                 (subst (λ x. AreFirstSequences (turned.done ++ (next_call.call.done ++ s ∷ [])) (old.sequences x))
@@ -283,10 +282,10 @@ module _ (units_of : ℕ → List ℕ) (old : Remainder) (src : List ℕ) (bytes
       }
 
   -- the last call stops for want of room
-  pub fills : (new : Remainder) (n : ℕ) (more : List ℕ)
+  pub fills : {new : Remainder} {n : ℕ} {more : List ℕ}
       → RawDecoderCall units_of now new rest last (Fatal true) (room - length wrote) OutputFull n more false
       → RawDecoderCall units_of old new src last Replacement room OutputFull (read + n) (wrote ++ more) replaced
-  fills new n more next_call =
+  fills {new} {n} {more} next_call =
       let same : next_call.call.done ≡ next_call.call.put = next_call.call.stops.only_put in
       let next = next_call.call.stops.next in
       let same_list : turned.done ++ (next_call.call.done ++ next ∷ [])
@@ -322,7 +321,7 @@ module _ (units_of : ℕ → List ℕ) (old : Remainder) (src : List ℕ) (bytes
               not_shown = not_shown_on n next_call.call.done next next_call.call.stops.reads.not_shown;
               shown_next = λ h. subst (λ x. Determines old.sequences (take (read + n + 1) src) x) same_list
                   (shown_on n (next_call.call.done ++ next ∷ []) (omega arith)
-                  (next_call.call.stops.reads.shown_next (let e = length-drop read src in omega arith)));
+                  (next_call.call.stops.reads.shown_next (omega (arith, length-drop read src))));
             };
           };
         };
@@ -331,10 +330,10 @@ module _ (units_of : ℕ → List ℕ) (old : Remainder) (src : List ℕ) (bytes
       }
 
   -- the last call reports a malformed sequence, and U+FFFD is put out for it
-  pub replaces : (new : Remainder) (n l a : ℕ) (more : List ℕ)
+  pub replaces : {new : Remainder} {n l a : ℕ} {more : List ℕ}
       → RawDecoderCall units_of now new rest last (Fatal true) (room - length wrote) (Malformed l a) n more false
       → Turned units_of old src last room (read + n) new ((wrote ++ more) ++ units_of 0xFFFD) true
-  replaces new n l a more next_call =
+  replaces {new} {n} {more = more} next_call =
       let stopped = next_call.call.stops in
       record {
         done = turned.done ++ next_call.call.done;
@@ -354,8 +353,8 @@ module _ (units_of : ℕ → List ℕ) (old : Remainder) (src : List ℕ) (bytes
             (subst (λ x. AreScalars (sequence_text x)) (sym stopped.then_next)
             (scalars_of-one next_call.call.put stopped.next next_call.call.scalars
             (subst AreScalars (sym stopped.replacement) refl)));
-        fits = let e = ap length next_call.call.text in let k = stopped.room_kept refl in let f = turned.fits in
-            rw (length-append (wrote ++ more) (units_of 0xFFFD), length-append wrote more) (omega arith);
+        fits = rw (length-append (wrote ++ more) (units_of 0xFFFD), length-append wrote more)
+            (omega (arith, ap length next_call.call.text, stopped.room_kept refl, turned.fits));
         flag =
             sym (any_malformed-append turned.done next_call.call.done
             ∙ ap (λ b. any_malformed turned.done || b)
@@ -364,6 +363,6 @@ module _ (units_of : ℕ → List ℕ) (old : Remainder) (src : List ℕ) (bytes
         determined = determined_on last next_call.call.done turned.determined stopped.determined;
         shown_next = λ h. shown_on n next_call.call.done (omega arith)
             (reads_next (is_repeated_escape stopped.next.kind) now.sequences rest next_call.call.done n new.pending
-            (bytes-drop read src bytes) stopped.reads (let e = length-drop read src in omega arith));
+            (bytes-drop read src bytes) stopped.reads (omega (arith, length-drop read src)));
         none_after = none_after_on n next_call.call.done stopped.none_after;
       }

@@ -29,9 +29,9 @@ pub record Ahead {C : Type 0} (units_of : ℕ → List ℕ) (state : C → Codec
   pub pending : length (state n).pending ≡ length (state c).pending
   pub within : read ≤ length src
 
-module _ {C : Type 0} (units_of : ℕ → List ℕ) (state : C → CodecState) (v : CodecState) (c n : C) (src : List ℕ)
-    (last : Bool) (before at then : Output) (read took : ℕ)
-    (writing : Writing units_of (remainder_of v) src last before at read (remainder_of (state c))) (rest : List ℕ)
+module _ {C : Type 0} {units_of : ℕ → List ℕ} {state : C → CodecState} (v : CodecState) {c n : C} {src : List ℕ}
+    {last : Bool} {before at then : Output} {read took : ℕ}
+    (writing : Writing units_of (remainder_of v) src last before at read (remainder_of (state c))) {rest : List ℕ}
     (e : rest ≡ drop read src) (given : TakesRun units_of state c n rest took at then) where
   t : TakesRun units_of state c n (drop read src) took at then
   t = subst (λ z. TakesRun units_of state c n z took at then) e given
@@ -128,31 +128,23 @@ module _ {C : Type 0} (units_of : ℕ → List ℕ) (state : C → CodecState) (
 
 -- what comes next reads a byte or leaves fewer pending
 
-lengths : {C : Type 0} (state : C → CodecState) (c : C) (may_follow : List ℕ → Type 0) (took : List ℕ) (s : Emission C)
+lengths : {C : Type 0} {state : C → CodecState} {c : C} {may_follow : List ℕ → Type 0} {took : List ℕ} {s : Emission C}
     (next : IsNextSequence state c may_follow took s)
     → length (state c).pending + length took ≡ length next.bytes + length (state s.next).pending
-lengths state c may_follow took s next =
+lengths {state = state} {c} {took = took} {s} next =
     sym (length-append (state c).pending took) ∙ ap length next.parts ∙ length-append next.bytes (state s.next).pending
 
-pub fewer_with : {C : Type 0} (state : C → CodecState) (c : C) (may_follow : List ℕ → Type 0) (b : ℕ) (s : Emission C)
+pub fewer_with : {C : Type 0} {state : C → CodecState} {c : C} {may_follow : List ℕ → Type 0} (b : ℕ) {s : Emission C}
     → IsNextSequence state c may_follow (taken_bytes s.takes_byte b) s → s.takes_byte ≡ true
     → length (state s.next).pending ≤ length (state c).pending
-fewer_with state c may_follow b s next t =
-    let f = next.some in omega (
-      arith,
-      lengths state c may_follow (taken_bytes s.takes_byte b) s next,
-      ap (λ x. length (taken_bytes x b)) t,
-    )
+fewer_with b next t =
+    omega (arith, next.some, lengths next, ap (λ x. length (taken_bytes x b)) t)
 
-pub fewer_before : {C : Type 0} (state : C → CodecState) (c : C) (may_follow : List ℕ → Type 0) (b : ℕ)
-    (s : Emission C) → IsNextSequence state c may_follow (taken_bytes s.takes_byte b) s → s.takes_byte ≡ false
+pub fewer_before : {C : Type 0} {state : C → CodecState} {c : C} {may_follow : List ℕ → Type 0} (b : ℕ)
+    {s : Emission C} → IsNextSequence state c may_follow (taken_bytes s.takes_byte b) s → s.takes_byte ≡ false
     → length (state s.next).pending < length (state c).pending
-fewer_before state c may_follow b s next t =
-    let f = next.some in omega (
-      arith,
-      lengths state c may_follow (taken_bytes s.takes_byte b) s next,
-      ap (λ x. length (taken_bytes x b)) t,
-    )
+fewer_before b next t =
+    omega (arith, next.some, lengths next, ap (λ x. length (taken_bytes x b)) t)
 
 -- Nothing is taken.
 pub takes_none : {C : Type 0} (units_of : ℕ → List ℕ) (state : C → CodecState) (c : C) (src : List ℕ) (o : Output)
@@ -179,8 +171,8 @@ pub takes_both : {C : Type 0} (units_of : ℕ → List ℕ) (state : C → Codec
 takes_both units_of state c m n src read more before mid after rest e takes_run given =
     let takes_more = subst (λ z. TakesRun units_of state m n z more mid after) e given in
     let bytes = take more (drop read src) in
-    let x = units_of_text units_of (sequence_text takes_run.taken) in
-    let y = units_of_text units_of (sequence_text takes_more.taken) in
+    let first_units = units_of_text units_of (sequence_text takes_run.taken) in
+    let more_units = units_of_text units_of (sequence_text takes_more.taken) in
     let both = units-append units_of takes_run.taken takes_more.taken in
     record {
       taken = takes_run.taken ++ takes_more.taken;
@@ -204,13 +196,14 @@ takes_both units_of state c m n src read more before mid after rest e takes_run 
       fits = omega (
         arith,
         ap length both,
-        length-append x y,
+        length-append first_units more_units,
         takes_run.fits,
         takes_more.fits,
-        room_left before mid x takes_run.written,
+        room_left before mid first_units takes_run.written,
       );
       written =
-          takes_more.written ∙ ap (λ o. with_appended o y) takes_run.written ∙ with_appended-with_appended before x y
+          takes_more.written ∙ ap (λ o. with_appended o more_units) takes_run.written
+          ∙ with_appended-with_appended before first_units more_units
           ∙ ap (with_appended before) (sym both);
       none_pending = λ h. elim (cases_lt 0 read) [
         | inl r ↦ takes_run.none_pending r

@@ -1,13 +1,14 @@
 -- The room that a call needs, and which lengths are enough (Encoding Standard 4.1, "process a queue", with a bounded
 -- output).
-use Rattle.std.specs.Prelude.{◌≡◌, ◌↔◌, ℕ, ◌+◌, ◌<◌, ◌≤◌, Bool, true, false, Option, Some, List, [], ◌∷◌, length, drop, if◌then◌else◌}
+use Rattle.std.specs.Prelude.{◌≡◌, ◌↔◌, ℕ, ◌+◌, ◌-◌, ◌<◌, ◌≤◌, Bool, true, false, Option, Some, List, [], ◌∷◌, length}
+use Rattle.std.specs.Prelude.{drop, if◌then◌else◌}
 use Rattle.enc_units.specs.declared.decoder_result.DecoderResult.{DecoderResult}
 use Rattle.enc_units.specs.declared.decoder_result.DecoderResult.TheVariants.{InputEmpty, OutputFull}
 use Rattle.enc_units.specs.declared.decoder_result.DecoderResult.TheVariants as stop
 use Rattle.enc_decoder.specs.declared.text_lengths.TextLengths.{TextLengths}
 use Rattle.std.specs.Char.{encode_utf8}
 use Rattle.std.specs.Char.Escape.{encode_utf16}
-use Rattle.enc_units.specs.Output.{units_of_text}
+use Rattle.enc_units.specs.Output.{Output, units_of_text}
 use Rattle.enc_decoder.specs.Sequence.{Sequence, is_malformed, sequence_text}
 use Rattle.enc_decoder.specs.Remainder.{Remainder, AreBytes, AreDetermined}
 use Rattle.enc_decoder.specs.CodecState.{CodecState, remainder_of}
@@ -55,6 +56,12 @@ pub record MeetsDecodeNeed (units_of : ℕ → List ℕ) (mode : DecodeErrorMode
   pub full : (result ≡ OutputFull) ↔ NeedExceeds units_of mode old src last room
   pub reaches : (n : ℕ) → n < written → NeedExceeds units_of mode old src last n
   pub left : (n : ℕ) → NeedExceeds units_of mode old src last (written + n) ↔ RemainingNeedExceeds units_of mode new src last read result n
+
+-- the same, by the rooms of an output before and after
+abbrev pub MeetsDecodeNeedInto : (ℕ → List ℕ) → DecodeErrorMode → Remainder → Remainder → List ℕ → Bool → Output
+    → Output → DecoderResult → ℕ → Type 0
+MeetsDecodeNeedInto units_of mode old new src last before after result read =
+    MeetsDecodeNeed units_of mode old new src last before.room result read (before.room - after.room)
 
 -- A length, by the number of bytes given and of bytes pending, is enough for calls of this kind: no need exceeds it.
 abbrev pub IsEnoughForCodec : (ℕ → List ℕ) → DecodeErrorMode → (ℕ → ℕ → Option ℕ) → CodecState → Type 0

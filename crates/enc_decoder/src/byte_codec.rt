@@ -83,7 +83,8 @@ pub trait ByteCodec: Copy {
     /// Puts out their text, and returns the state after them and their length in bytes. It may take
     /// any number of them, and none. Takes no memory.
     fn take_run<U: Units>(self, src: &[u8], out: &mut U) -> (Self, usize)
-        ensures { TakesRun U.units_of state self result.0 src.now result.1 (U.output out.old) (U.output out.new) }
+        ensures { TakesRun U.units_of state self result.0 src.now result.1 (U.output out.old)
+            (U.output out.new) }
     {
         let _bytes = src;
         let _output = out;

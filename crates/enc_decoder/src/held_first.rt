@@ -31,9 +31,9 @@ fn decode_any<D: RawDecoder, U: Units>(
     last: bool,
     replace: bool,
 ) -> (DecoderResult, usize, bool)
-    ensures call { DecoderCallInto U.units_of (remainder_of (D.state codec.old)) (remainder_of (D.state codec.new)) src.now last
-        (decode_error_mode replace) (U.output out.old) (U.output out.new) result.0 result.1
-        result.2 }
+    ensures call { DecoderCallInto U.units_of (remainder_of (D.state codec.old))
+        (remainder_of (D.state codec.new)) src.now last (decode_error_mode replace)
+        (U.output out.old) (U.output out.new) result.0 result.1 result.2 }
     ensures rule { (D.state codec.new).rule ≡ (D.state codec.old).rule }
     ensures formulas { D.formulas codec.new ≡ D.formulas codec.old }
 {
@@ -53,8 +53,10 @@ pub fn convert<D: RawDecoder, U: Units>(
     last: bool,
     replace: bool,
 ) -> Converted
-    ensures call { PrefixedCallInto U.units_of (remainder_of (D.state codec.old)) (remainder_of (D.state codec.new)) (held.now ++ src.now) last
-        (decode_error_mode replace) (U.output out.old) (U.output out.new) result.result (length held.now - result.left + result.read) result.replaced }
+    ensures call { PrefixedCallInto U.units_of (remainder_of (D.state codec.old))
+        (remainder_of (D.state codec.new)) (held.now ++ src.now) last (decode_error_mode replace)
+        (U.output out.old) (U.output out.new) result.result
+        (length held.now - result.left + result.read) result.replaced }
     ensures reads { ReadsHeldFirst held.now src.now result.left result.read }
     ensures rule { (D.state codec.new).rule ≡ (D.state codec.old).rule }
     ensures formulas { D.formulas codec.new ≡ D.formulas codec.old }

@@ -12,7 +12,8 @@ fn shows_itself<C: Copy>(shown: Emission<C>, byte: u8) -> bool
     ensures takes { IsTrue result → shown.takes_byte ≡ true }
     ensures kind { IsTrue result → shown.kind ≡ Kind.Valid }
     ensures text { IsTrue result → text_chars shown.text ≡ byte ∷ [] }
-    ensures no { IsFalse result → shown.takes_byte ≡ true → shown.kind ≡ Kind.Valid → ¬ (text_chars shown.text ≡ byte ∷ []) }
+    ensures no { IsFalse result → shown.takes_byte ≡ true → shown.kind ≡ Kind.Valid →
+        ¬ (text_chars shown.text ≡ byte ∷ []) }
 {
     match shown.text {
         Text::One(character) => {

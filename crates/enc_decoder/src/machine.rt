@@ -1,12 +1,13 @@
 //! The loop over the bytes of a call, for every codec and every output.
 
-ghost use Rattle.std.specs.Prelude.{◌≡◌, ◌-◌, ◌<◌, ◌≤◌, Bool, true, false, length, nat_le, IsTrue, IsFalse};
+ghost use Rattle.std.specs.Prelude.{◌≡◌, ◌<◌, ◌≤◌, Bool, true, false, length, nat_le, IsTrue};
+ghost use Rattle.std.specs.Prelude.{IsFalse};
 ghost use Rattle.enc_units.specs.Output.{AreScalars, with_appended, units_of_text};
 ghost use Rattle.enc_decoder.specs.CodecState.{remainder_of};
 ghost use Rattle.enc_decoder.specs.CodecLaw.{IsNextEvent, text_chars, lone_fault};
 ghost use Rattle.enc_decoder.specs.declared.machine.NextEvent.TheVariants as comings;
 ghost use Rattle.enc_decoder.specs.Call.{DecoderCallInto, Fatal};
-ghost use Rattle.enc_decoder.specs.Need.{MeetsDecodeNeed};
+ghost use Rattle.enc_decoder.specs.Need.{MeetsDecodeNeedInto};
 ghost use Rattle.enc_decoder.specs.Sequence.{is_malformed as malformed_kind};
 
 use crate::byte_codec::{ByteCodec, Emission, HandlerResult, Kind, Text};
@@ -26,7 +27,8 @@ enum NextEvent<C> {
 /// Returns whether the next byte is malformed by itself.
 #[inline(always)]
 fn is_at_lone_fault<C: ByteCodec>(codec: C, src: &[u8], read: usize) -> bool
-    ensures { IsTrue result → (last : Bool) → IsNextEvent C.state codec src.now read last (comings.Emits (lone_fault codec)) }
+    ensures { IsTrue result → (last : Bool) →
+        IsNextEvent C.state codec src.now read last (comings.Emits (lone_fault codec)) }
 {
     read < src.len() && codec.is_lone_fault(src[read])
 }
@@ -80,9 +82,11 @@ fn width<U: Units>(text: Text) -> usize
 /// Writes a text and returns true, or writes nothing and returns false if it does not fit.
 #[inline(always)]
 fn put_text<U: Units>(out: &mut U, text: Text) -> bool
-    ensures fits { result ≡ nat_le (length (units_of_text U.units_of (text_chars text))) (U.output out.old).room }
+    ensures fits { result ≡
+        nat_le (length (units_of_text U.units_of (text_chars text))) (U.output out.old).room }
     ensures scalars { IsTrue result → AreScalars (text_chars text) }
-    ensures written { IsTrue result → U.output out.new ≡ with_appended (U.output out.old) (units_of_text U.units_of (text_chars text)) }
+    ensures written { IsTrue result → U.output out.new ≡
+        with_appended (U.output out.old) (units_of_text U.units_of (text_chars text)) }
     ensures unchanged { IsFalse result → U.output out.new ≡ U.output out.old }
 {
     if width::<U>(text) > out.room() {
@@ -101,8 +105,11 @@ fn put_text<U: Units>(out: &mut U, text: Text) -> bool
 fn put_out<U: Units>(out: &mut U, kind: Kind, text: Text) -> bool
     ensures valid { IsTrue result → malformed_kind kind ≡ false }
     ensures scalars { IsTrue result → AreScalars (text_chars text) }
-    ensures fits { IsTrue result → nat_le (length (units_of_text U.units_of (text_chars text))) (U.output out.old).room ≡ true }
-    ensures written { IsTrue result → U.output out.new ≡ with_appended (U.output out.old) (units_of_text U.units_of (text_chars text)) }
+    ensures fits { IsTrue result →
+        nat_le (length (units_of_text U.units_of (text_chars text))) (U.output out.old).room
+        ≡ true }
+    ensures written { IsTrue result → U.output out.new ≡
+        with_appended (U.output out.old) (units_of_text U.units_of (text_chars text)) }
     ensures full { IsFalse result → malformed_kind kind ≡ false →
         nat_le (length (units_of_text U.units_of (text_chars text))) (U.output out.old).room
         ≡ false }
@@ -118,9 +125,11 @@ fn put_out<U: Units>(out: &mut U, kind: Kind, text: Text) -> bool
 /// is false.
 fn is_reported<U: Units>(out: &U, kind: Kind, fault_room: bool) -> bool
     ensures malformed { IsTrue result → malformed_kind kind ≡ true }
-    ensures room { IsTrue result → fault_room ≡ true → length (U.units_of 0xFFFD) ≤ (U.output out.now).room }
+    ensures room { IsTrue result → fault_room ≡ true →
+        length (U.units_of 0xFFFD) ≤ (U.output out.now).room }
     ensures asked { IsFalse result → malformed_kind kind ≡ true → fault_room ≡ true }
-    ensures full { IsFalse result → malformed_kind kind ≡ true → (U.output out.now).room < length (U.units_of 0xFFFD) }
+    ensures full { IsFalse result → malformed_kind kind ≡ true →
+        (U.output out.now).room < length (U.units_of 0xFFFD) }
 {
     if !kind.is_malformed() {
         return false;
@@ -143,11 +152,13 @@ pub fn run<C: ByteCodec, U: Units>(
     last: bool,
     fault_room: bool,
 ) -> (DecoderResult, usize)
-    ensures call { DecoderCallInto U.units_of (remainder_of (C.state codec.old)) (remainder_of (C.state codec.new)) src.now last
-        (Fatal fault_room) (U.output out.old) (U.output out.new) result.0 result.1 false }
+    ensures call { DecoderCallInto U.units_of (remainder_of (C.state codec.old))
+        (remainder_of (C.state codec.new)) src.now last (Fatal fault_room) (U.output out.old)
+        (U.output out.new) result.0 result.1 false }
     ensures rule { (C.state codec.new).rule ≡ (C.state codec.old).rule }
-    ensures need { MeetsDecodeNeed U.units_of (Fatal fault_room) (remainder_of (C.state codec.old)) (remainder_of (C.state codec.new)) src.now last
-        (U.output out.old).room result.0 result.1 ((U.output out.old).room - (U.output out.new).room) }
+    ensures need { MeetsDecodeNeedInto U.units_of (Fatal fault_room)
+        (remainder_of (C.state codec.old)) (remainder_of (C.state codec.new)) src.now last
+        (U.output out.old) (U.output out.new) result.0 result.1 }
 {
     let mut state = *codec;
     let mut read = 0;
@@ -191,11 +202,13 @@ fn run_apart<C: ByteCodec, U: Units>(
     last: bool,
     fault_room: bool,
 ) -> (DecoderResult, usize)
-    ensures call { DecoderCallInto U.units_of (remainder_of (C.state codec.old)) (remainder_of (C.state codec.new)) src.now last
-        (Fatal fault_room) (U.output out.old) (U.output out.new) result.0 result.1 false }
+    ensures call { DecoderCallInto U.units_of (remainder_of (C.state codec.old))
+        (remainder_of (C.state codec.new)) src.now last (Fatal fault_room) (U.output out.old)
+        (U.output out.new) result.0 result.1 false }
     ensures rule { (C.state codec.new).rule ≡ (C.state codec.old).rule }
-    ensures need { MeetsDecodeNeed U.units_of (Fatal fault_room) (remainder_of (C.state codec.old)) (remainder_of (C.state codec.new)) src.now last
-        (U.output out.old).room result.0 result.1 ((U.output out.old).room - (U.output out.new).room) }
+    ensures need { MeetsDecodeNeedInto U.units_of (Fatal fault_room)
+        (remainder_of (C.state codec.old)) (remainder_of (C.state codec.new)) src.now last
+        (U.output out.old) (U.output out.new) result.0 result.1 }
 {
     run(codec, src, out, last, fault_room)
 }
@@ -212,11 +225,13 @@ pub fn report_or_run<C: ByteCodec, U: Units>(
     last: bool,
     fault_room: bool,
 ) -> (DecoderResult, usize)
-    ensures call { DecoderCallInto U.units_of (remainder_of (C.state codec.old)) (remainder_of (C.state codec.new)) src.now last
-        (Fatal fault_room) (U.output out.old) (U.output out.new) result.0 result.1 false }
+    ensures call { DecoderCallInto U.units_of (remainder_of (C.state codec.old))
+        (remainder_of (C.state codec.new)) src.now last (Fatal fault_room) (U.output out.old)
+        (U.output out.new) result.0 result.1 false }
     ensures rule { (C.state codec.new).rule ≡ (C.state codec.old).rule }
-    ensures need { MeetsDecodeNeed U.units_of (Fatal fault_room) (remainder_of (C.state codec.old)) (remainder_of (C.state codec.new)) src.now last
-        (U.output out.old).room result.0 result.1 ((U.output out.old).room - (U.output out.new).room) }
+    ensures need { MeetsDecodeNeedInto U.units_of (Fatal fault_room)
+        (remainder_of (C.state codec.old)) (remainder_of (C.state codec.new)) src.now last
+        (U.output out.old) (U.output out.new) result.0 result.1 }
 {
     let state = *codec;
     if is_at_lone_fault(state, src, 0) && is_reported(out, Kind::Malformed, fault_room) {

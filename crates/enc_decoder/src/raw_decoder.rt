@@ -1,11 +1,11 @@
 //! The contract of every decoder.
 
-ghost use Rattle.std.specs.Prelude.{◌≡◌, ◌-◌, ◌≤◌, true, false, length};
+ghost use Rattle.std.specs.Prelude.{◌≡◌, ◌≤◌, true, false, length};
 ghost use Rattle.enc_decoder.specs.CodecState.{CodecState, remainder_of};
 ghost use Rattle.enc_decoder.specs.Call.{DecoderCallInto, Replacement, Fatal};
 ghost use Rattle.enc_decoder.specs.Latin1.{AnswersCodecLatin1};
 ghost use Rattle.enc_decoder.specs.RuleLaws.{IsLawfulRule};
-ghost use Rattle.enc_decoder.specs.Need.{MeetsDecodeNeed, AreEnoughForCodec};
+ghost use Rattle.enc_decoder.specs.Need.{MeetsDecodeNeedInto, AreEnoughForCodec};
 ghost use Rattle.enc_decoder.specs.Lengths.{utf_8_length, reporting_length, utf_16_length};
 ghost use Rattle.enc_decoder.specs.declared.text_lengths.TextLengths.{TextLengths};
 
@@ -36,14 +36,16 @@ pub trait RawDecoder: Copy {
         last: bool,
         fault_room: bool,
     ) -> (DecoderResult, usize)
-        ensures call { DecoderCallInto U.units_of (remainder_of (state self.old)) (remainder_of (state self.new)) src.now last
-            (Fatal fault_room) (U.output out.old) (U.output out.new) result.0 result.1 false }
+        ensures call { DecoderCallInto U.units_of (remainder_of (state self.old))
+            (remainder_of (state self.new)) src.now last (Fatal fault_room) (U.output out.old)
+            (U.output out.new) result.0 result.1 false }
         ensures rule { (state self.new).rule ≡ (state self.old).rule }
 
         // The output is full exactly if the call needs more room than there is. With `fault_room`
         // it needs that of U+FFFD too.
-        ensures need { MeetsDecodeNeed U.units_of (Fatal fault_room) (remainder_of (state self.old)) (remainder_of (state self.new)) src.now last
-            (U.output out.old).room result.0 result.1 ((U.output out.old).room - (U.output out.new).room) }
+        ensures need { MeetsDecodeNeedInto U.units_of (Fatal fault_room)
+            (remainder_of (state self.old)) (remainder_of (state self.new)) src.now last
+            (U.output out.old) (U.output out.new) result.0 result.1 }
         ensures formulas { formulas self.new ≡ formulas self.old }
 
         // A valid sequence is determined by its own bytes, and any other by three more at most, or
@@ -63,8 +65,9 @@ pub trait RawDecoder: Copy {
         out: &mut U,
         last: bool,
     ) -> (DecoderResult, usize, bool)
-        ensures call { DecoderCallInto U.units_of (remainder_of (state self.old)) (remainder_of (state self.new)) src.now last
-            Replacement (U.output out.old) (U.output out.new) result.0 result.1 result.2 }
+        ensures call { DecoderCallInto U.units_of (remainder_of (state self.old))
+            (remainder_of (state self.new)) src.now last Replacement (U.output out.old)
+            (U.output out.new) result.0 result.1 result.2 }
         ensures rule { (state self.new).rule ≡ (state self.old).rule }
         ensures formulas { formulas self.new ≡ formulas self.old }
         ensures lawful { IsLawfulRule (state self.old).rule }
@@ -110,14 +113,16 @@ pub trait RawDecoder: Copy {
     ///
     /// It is enough with replacement. `None` if it overflows `usize`. Takes no memory.
     fn max_utf8_buffer_length(&self, byte_length: usize) -> Option<usize>
-        ensures { result ≡ utf_8_length (formulas self.now) byte_length (length (state self.now).pending) }
+        ensures { result ≡
+            utf_8_length (formulas self.now) byte_length (length (state self.now).pending) }
     {
         self.text_lengths().utf8(byte_length, self.held())
     }
 
     /// Returns the same without replacement. Takes no memory.
     fn max_utf8_buffer_length_without_replacement(&self, byte_length: usize) -> Option<usize>
-        ensures { result ≡ reporting_length (formulas self.now) byte_length (length (state self.now).pending) }
+        ensures { result ≡
+            reporting_length (formulas self.now) byte_length (length (state self.now).pending) }
     {
         self.text_lengths()
             .utf8_without_replacement(byte_length, self.held())
@@ -127,7 +132,8 @@ pub trait RawDecoder: Copy {
     ///
     /// Takes no memory.
     fn max_utf16_buffer_length(&self, byte_length: usize) -> Option<usize>
-        ensures { result ≡ utf_16_length (formulas self.now) byte_length (length (state self.now).pending) }
+        ensures { result ≡
+            utf_16_length (formulas self.now) byte_length (length (state self.now).pending) }
     {
         self.text_lengths().utf16(byte_length, self.held())
     }

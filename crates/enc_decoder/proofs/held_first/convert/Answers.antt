@@ -5,17 +5,20 @@ use Rattle.enc_decoder.proofs.JoinedCallLemmas.{no_bytes, none_held, none_follow
 use Rattle.enc_decoder.proofs.held_first.convert.Goals as goal
 
 pub returns-then-is_empty-clause-call : goal.returns-then-is_empty-clause-call
-returns-then-is_empty-clause-call g c = none_held _ _ _ _ _ _ _ _ _ _ _ _ (no_bytes _ (search rules)) c.decode_any-result.ensures.call
+returns-then-is_empty-clause-call g c = none_held (no_bytes _ (search rules)) c.decode_any-result.ensures.call
 
 pub returns-then-is_empty-2-clause-call : goal.returns-then-is_empty-2-clause-call
-returns-then-is_empty-2-clause-call g c = none_follow _ _ _ _ _ _ _ _ _ _ _ _ (no_bytes _ (search rules)) c.decode_any-result-then-is_empty-2.ensures.call
+returns-then-is_empty-2-clause-call g c =
+    none_follow (no_bytes _ (search rules)) c.decode_any-result-then-is_empty-2.ensures.call
 
 pub returns-then-ne-clause-call : goal.returns-then-ne-clause-call
 returns-then-ne-clause-call g c =
     let stopped : c.decode_any-result-2.result.0 ≡ InputEmpty → ⊥ = search rules in
-    stops_in_held _ _ _ _ _ _ _ _ _ _ _ _ (bytes_of_slice _ c.type_inv.held) (bytes_of_slice _ c.type_inv.src) stopped c.decode_any-result-2.ensures.call
+    stops_in_held _ (bytes_of_slice _ c.type_inv.held) (bytes_of_slice _ c.type_inv.src) stopped
+    c.decode_any-result-2.ensures.call
 
 pub returns-clause-call : goal.returns-clause-call
 returns-clause-call g c =
-    let all : c.decode_any-result-2.result.0 ≡ InputEmpty = search rules in
-    joins _ _ _ _ _ _ _ _ _ _ _ _ _ _ _ _ (bytes_of_slice _ c.type_inv.held) (bytes_of_slice _ c.type_inv.src) (rw all at c.decode_any-result-2.ensures.call) c.decode_any-result-3.ensures.call
+    let held_all_read : c.decode_any-result-2.result.0 ≡ InputEmpty = search rules in
+    joins (bytes_of_slice _ c.type_inv.held) (bytes_of_slice _ c.type_inv.src)
+    (rw held_all_read at c.decode_any-result-2.ensures.call) c.decode_any-result-3.ensures.call

@@ -5,9 +5,9 @@ use Rattle.enc_decoder.proofs.machine.report_or_run.Goals as goal
 
 pub returns-then-is_reported-clause-call : goal.returns-then-is_reported-clause-call
 returns-then-is_reported-clause-call g c =
-    reports_with _ g.C.ByteCodec.state _ c.args.codec.now _ _ c.args.fault_room _ _ _ (begin _ _ _ _ _) refl _ _
+    reports_with g.C.ByteCodec.state c.args.codec.now (begin _) refl
     (c.is_at_lone_fault.ensures c.if-is_at_lone_fault.true c.args.last) refl refl c.held.ensures
     (c.is_reported.ensures.room c.if-is_reported.true)
 
 pub returns-then-is_reported-clause-need : goal.returns-then-is_reported-clause-need
-returns-then-is_reported-clause-need g c = meets_into _ _ _ _ _ _ _ _ _ _ _ (returns-then-is_reported-clause-call g c)
+returns-then-is_reported-clause-need g c = meets_into (returns-then-is_reported-clause-call g c)

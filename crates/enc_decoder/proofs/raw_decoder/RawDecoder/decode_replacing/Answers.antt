@@ -4,27 +4,27 @@ use Rattle.enc_decoder.proofs.ReplacingLemmas.{begin, empties, fills, fits, repl
 use Rattle.enc_decoder.proofs.raw_decoder.RawDecoder.decode_replacing.Goals as goal
 
 pub loop-out-init : goal.loop-out-init
-loop-out-init g c = record { turning = begin _ _ _ _ _; rule = refl; formulas = refl }
+loop-out-init g c = record { turning = begin; rule = refl; formulas = refl }
 
 pub returns-in-InputEmpty-clause-call : goal.returns-in-InputEmpty-clause-call
-returns-in-InputEmpty-clause-call g c = empties _ _ _ (bytes_of_slice _ c.type_inv.src) _ _ _ _ _ _ c.loop-out.invariant.turning _ _ _
+returns-in-InputEmpty-clause-call g c = empties (bytes_of_slice _ c.type_inv.src) c.loop-out.invariant.turning
     (rw (c.split_at.ensures.back, c.in-InputEmpty.is) at c.decode-result.ensures.call)
 
 pub returns-in-OutputFull-clause-call : goal.returns-in-OutputFull-clause-call
-returns-in-OutputFull-clause-call g c = fills _ _ _ (bytes_of_slice _ c.type_inv.src) _ _ _ _ _ _ c.loop-out.invariant.turning _ _ _
+returns-in-OutputFull-clause-call g c = fills (bytes_of_slice _ c.type_inv.src) c.loop-out.invariant.turning
     (rw (c.split_at.ensures.back, c.in-OutputFull.is) at c.decode-result.ensures.call)
 
 pub loop-out-smaller : goal.loop-out-smaller
 loop-out-smaller g c =
     let call = rw (c.split_at.ensures.back, c.in-Malformed.is) at c.decode-result.ensures.call in
-    falls _ _ _ (bytes_of_slice _ c.type_inv.src) _ _ _ _ _ _ c.loop-out.invariant.turning _ _ _ _ _ call
+    falls (bytes_of_slice _ c.type_inv.src) c.loop-out.invariant.turning call
 
 pub loop-out-preserved : goal.loop-out-preserved
 loop-out-preserved g c =
     let call = rw (c.split_at.ensures.back, c.in-Malformed.is) at c.decode-result.ensures.call in
-    let room = fits _ _ _ (bytes_of_slice _ c.type_inv.src) _ _ _ _ _ _ c.loop-out.invariant.turning _ _ _ _ _ call in
+    let room = fits (bytes_of_slice _ c.type_inv.src) c.loop-out.invariant.turning call in
     record {
-      turning = replaces _ _ _ (bytes_of_slice _ c.type_inv.src) _ _ _ _ _ _ c.loop-out.invariant.turning _ _ _ _ _ call _
+      turning = replaces (bytes_of_slice _ c.type_inv.src) c.loop-out.invariant.turning call
           (c.put.ensures.written (c.put.ensures.fits ∙ room));
       rule = c.decode-result.ensures.rule ∙ c.loop-out.invariant.rule;
       formulas = c.decode-result.ensures.formulas ∙ c.loop-out.invariant.formulas;
