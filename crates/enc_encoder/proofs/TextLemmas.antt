@@ -29,7 +29,9 @@ AreOfReferences [] = Unit {0}
 AreOfReferences (c ∷ t) = IsReferenceCharacter c × AreOfReferences t
 
 glyph : (n : ℕ) → IsReferenceCharacter (digit_glyph false (n % 10))
-glyph n = let e : nat_lt (n % 10) 10 ≡ true = grind (arith, nat_tests) in rw e (inr (inr (inr (omega arith, omega arith))))
+glyph n =
+    let is_digit : nat_lt (n % 10) 10 ≡ true = grind (arith, nat_tests) in
+    rw is_digit (inr (inr (inr (omega arith, omega arith))))
 
 digits_are : (k n : ℕ) (acc : List ℕ) → AreOfReferences acc → AreOfReferences (digits_onto k 10 false n acc)
 digits_are zero n acc of_references = of_references
@@ -94,7 +96,10 @@ module _ (e : EncoderRule) (lawful : IsLawfulEncoderRule e) where
 
   step_is : (s : CharacterSet) (c : ℕ) (t : List ℕ) (b : Option (List ℕ)) → e.bytes c ≡ b
       → ((s : CharacterSet) → bytes_with_references (steps_of e true s t) ≡ forward e s (with_references e t))
-      → (let d = first_written_char c b in bytes_with_references (escape_steps_before e s d ++ (char_step e (set_for e s d) c b ∷ steps_of e true (set_for e s d) t)) ≡ forward e s (with_reference e c b ++ with_references e t))
+      → (let first = first_written_char c b in
+      bytes_with_references (escape_steps_before e s first
+      ++ (char_step e (set_for e s first) c b ∷ steps_of e true (set_for e s first) t))
+      ≡ forward e s (with_reference e c b ++ with_references e t))
   unfolding forward
   step_is s c t (Some b) q h =
       escaped (e.has s c) (e.designated c) (char_step e (set_for e s c) c (Some b) ∷ steps_of e true (set_for e s c) t)
@@ -139,35 +144,48 @@ unreferred (p ∷ ps) h =
     ∙ ap (λ t. t ++ bytes_with_references ps) (append-nil p.bytes)
     ∙ ap (λ t. p.bytes ++ t) (unreferred ps both.1)
 
-module _ (old new : RawEncoderState) (src rest : List ℕ) (last : Bool) (room : ℕ) (result : EncoderResult) (wrote : List ℕ) where
-  -- the bytes of the steps that a call took
-  pub done_is : (done : List Step) (result : EncoderResult) → wrote ≡ step_bytes done → EncoderStops new rest last room done result → bytes_with_references done ≡ wrote ++ reference_after result
-  done_is done InputEmpty b stops = unreferred done stops.none_reported ∙ sym b ∙ sym (append-nil wrote)
-  done_is done OutputFull b stops = unreferred done stops.none_reported ∙ sym b ∙ sym (append-nil wrote)
-  done_is done (Unmappable c) b stops =
-      let q = stops.report in
-      ap bytes_with_references stops.then_report ∙ bytes_with_references-append stops.before (q ∷ [])
-      ∙ ap (λ t. t ++ ((q.bytes ++ reference_for_report q.report) ++ [])) (unreferred stops.before stops.none_reported)
-      ∙ ap (λ t. step_bytes stops.before ++ t) (append-nil (q.bytes ++ reference_for_report q.report))
-      ∙ ap (λ r. step_bytes stops.before ++ (q.bytes ++ reference_for_report r)) stops.reported
-      ∙ sym (append_assoc (step_bytes stops.before) q.bytes (reference c))
-      ∙ ap (λ t. t ++ reference c) (sym (step_bytes-one stops.before q) ∙ ap step_bytes (sym stops.then_report) ∙ sym b)
+-- the bytes of the steps that a call took, with the reference that its caller writes
+bytes_by_result : (new : RawEncoderState) (rest : List ℕ) (last : Bool) (room : ℕ) (result : EncoderResult)
+    (done : List Step) (wrote : List ℕ) → wrote ≡ step_bytes done → EncoderStops new rest last room done result
+    → bytes_with_references done ≡ wrote ++ reference_after result
+bytes_by_result new rest last room InputEmpty done wrote b stops =
+    unreferred done stops.none_reported ∙ sym b ∙ sym (append-nil wrote)
+bytes_by_result new rest last room OutputFull done wrote b stops =
+    unreferred done stops.none_reported ∙ sym b ∙ sym (append-nil wrote)
+bytes_by_result new rest last room (Unmappable c) done wrote b stops =
+    let report = stops.report in
+    ap bytes_with_references stops.then_report ∙ bytes_with_references-append stops.before (report ∷ [])
+    ∙ ap (λ t. t ++ ((report.bytes ++ reference_for_report report.report) ++ []))
+    (unreferred stops.before stops.none_reported)
+    ∙ ap (λ t. step_bytes stops.before ++ t) (append-nil (report.bytes ++ reference_for_report report.report))
+    ∙ ap (λ r. step_bytes stops.before ++ (report.bytes ++ reference_for_report r)) stops.reported
+    ∙ sym (append_assoc (step_bytes stops.before) report.bytes (reference c))
+    ∙ ap (λ t. t ++ reference c) (sym (step_bytes-one stops.before report) ∙ ap step_bytes (sym stops.then_report)
+    ∙ sym b)
 
-  pub call_keeps_text : IsLawfulEncoderRule old.rule → EncoderCall old new src rest last room result wrote → KeepsText old new src rest last result wrote
-  call_keeps_text lawful call z m =
-      let n : IsLawfulEncoderRule new.rule = subst IsLawfulEncoderRule (sym call.rule) lawful in
+module _ {old new : RawEncoderState} {src rest : List ℕ} {last : Bool} {room : ℕ} {result : EncoderResult}
+    {wrote : List ℕ} (call : EncoderCall old new src rest last room result wrote) where
+  pub done_is : bytes_with_references call.done ≡ wrote ++ reference_after result
+  done_is = bytes_by_result new rest last room result call.done wrote call.bytes call.stops
+
+  pub call_keeps_text : IsLawfulEncoderRule old.rule → KeepsText old new src rest last result wrote
+  call_keeps_text lawful z m =
+      let lawful_after : IsLawfulEncoderRule new.rule = subst IsLawfulEncoderRule (sym call.rule) lawful in
       sym (steps_are_text old.rule lawful old.set (src ++ z))
       ∙ ap bytes_with_references (whatever_follows old new src rest last room result wrote call z m)
       ∙ bytes_with_references-append call.done (steps_from_state new true (rest ++ z))
       ∙ ap (λ t. t ++ bytes_with_references (steps_from_state new true (rest ++ z)))
-      (done_is call.done result call.bytes call.stops)
-      ∙ ap (λ t. (wrote ++ reference_after result) ++ t) (steps_are_text new.rule n new.set (rest ++ z))
-      ∙ append_assoc wrote (reference_after result) (bytes_of_text new.rule new.set (with_references new.rule (rest ++ z)))
+      done_is
+      ∙ ap (λ t. (wrote ++ reference_after result) ++ t) (steps_are_text new.rule lawful_after new.set (rest ++ z))
+      ∙ append_assoc wrote (reference_after result)
+      (bytes_of_text new.rule new.set (with_references new.rule (rest ++ z)))
 
-pub into_keeps_text : (units_of : ℕ → List ℕ) (old new : RawEncoderState) (src rest : List ℕ) (last : Bool) (before after : List ℕ) (result : EncoderResult) (read written : ℕ)
-    → IsLawfulEncoderRule old.rule → EncoderCallInto units_of old new src rest last before after result read written → KeepsText old new src rest last result (take written after)
-into_keeps_text units_of old new src rest last before after result read written l call =
-    let e : take written after ≡ call.wrote =
+pub into_keeps_text : {units_of : ℕ → List ℕ} {old new : RawEncoderState} {src rest : List ℕ} {last : Bool}
+    {before after : List ℕ} {result : EncoderResult} {read written : ℕ} → IsLawfulEncoderRule old.rule
+    → EncoderCallInto units_of old new src rest last before after result read written
+    → KeepsText old new src rest last result (take written after)
+into_keeps_text {old} {new} {src} {rest} {last} {before} {after} {result} {written} lawful call =
+    let written_bytes : take written after ≡ call.wrote =
     rw (call.onto, call.count) (take-append_seam call.wrote (drop (length call.wrote) before)) in
-    subst (λ (x : List ℕ). KeepsText old new src rest last result x) (sym e)
-    (call_keeps_text old new src rest last (length before) result call.wrote l call.call)
+    subst (λ (x : List ℕ). KeepsText old new src rest last result x) (sym written_bytes)
+    (call_keeps_text call.call lawful)
