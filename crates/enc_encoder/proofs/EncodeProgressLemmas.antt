@@ -27,7 +27,8 @@ pub record Progress (old now : RawEncoderState) (src rest : List ℕ) (last : Bo
   pub none_reported : any_reported done ≡ false
 
 -- how far a call has come over a slice
-pub record Writing (old now : RawEncoderState) (src rest : List ℕ) (last : Bool) (before after : List ℕ) (written : ℕ) : Type 0 where
+pub record Writing (old now : RawEncoderState) (src rest : List ℕ) (last : Bool)
+    (before after : List ℕ) (written : ℕ) : Type 0 where
   pub wrote : List ℕ
   pub count : written ≡ length wrote
   pub onto : after ≡ wrote ++ drop written before

@@ -46,7 +46,9 @@ module _ (old new : RawEncoderState) (src rest : List ℕ) (last : Bool) where
       → steps_from_state old last src ≡ done ++ steps_from_state new last rest
       → encode_need old last src ≡ length (step_bytes done) + encode_need new last rest
   left done n r =
-      ap (λ x. length (step_bytes (steps_before_report x))) r ∙ ap (λ x. length (step_bytes x)) (steps_before_report-append done (steps_from_state new last rest) n)
+      ap (λ x. length (step_bytes (steps_before_report x))) r
+      ∙ ap (λ x. length (step_bytes x))
+      (steps_before_report-append done (steps_from_state new last rest) n)
       ∙ ap length (step_bytes-append done (steps_before_report (steps_from_state new last rest)))
       ∙ length-append (step_bytes done) (step_bytes (steps_before_report (steps_from_state new last rest)))
 
@@ -58,7 +60,9 @@ module _ (old new : RawEncoderState) (src rest : List ℕ) (last : Bool) where
       ap (λ x. length (step_bytes (steps_before_report x)))
       (r ∙ append_assoc before (q ∷ []) (steps_from_state new last rest))
       ∙ ap (λ x. length (step_bytes x))
-      (steps_before_report-append before (q ∷ steps_from_state new last rest) n ∙ ap (λ x. before ++ x) (at_report q c (steps_from_state new last rest) e) ∙ append-nil before)
+      (steps_before_report-append before (q ∷ steps_from_state new last rest) n
+      ∙ ap (λ x. before ++ x) (at_report q c (steps_from_state new last rest) e)
+      ∙ append-nil before)
 
 module _ (old new : RawEncoderState) (src rest : List ℕ) (last : Bool) (room : ℕ) where
   pub meets_need : (result : EncoderResult) (wrote : List ℕ) → EncoderCall old new src rest last room result wrote

@@ -60,7 +60,8 @@ forward e s [] = escape_at_end s
 forward e s (c ∷ t) = escape_before e s c ++ (list_or_empty (e.bytes c) ++ forward e (set_for e s c) t)
 
 escaped : (h : Bool) (x : CharacterSet) (ps : List Step)
-    → bytes_with_references ((if h then [] else escape_step x ∷ []) ++ ps) ≡ (if h then [] else escape_sequence x) ++ bytes_with_references ps
+    → bytes_with_references ((if h then [] else escape_step x ∷ []) ++ ps)
+    ≡ (if h then [] else escape_sequence x) ++ bytes_with_references ps
 escaped true x ps = refl
 escaped false x ps = ap (λ t. t ++ bytes_with_references ps) (append-nil (escape_sequence x))
 
@@ -76,7 +77,8 @@ module _ (e : EncoderRule) (lawful : IsLawfulEncoderRule e) where
   text_is_carried s t = carried s [] t ∙ ap (λ x. forward e x t) (lawful.set_after_none s)
 
   -- characters of references are written as they are, in a set that has them
-  plain : (s : CharacterSet) → e.has s 0x26 ≡ true → (x : List ℕ) → AreOfReferences x → (t : List ℕ) → forward e s (x ++ t) ≡ x ++ forward e s t
+  plain : (s : CharacterSet) → e.has s 0x26 ≡ true → (x : List ℕ) → AreOfReferences x → (t : List ℕ)
+      → forward e s (x ++ t) ≡ x ++ forward e s t
   unfolding forward
   plain s has_ampersand [] of_references t = refl
   plain s has_ampersand (c ∷ x) of_references t =
@@ -88,17 +90,20 @@ module _ (e : EncoderRule) (lawful : IsLawfulEncoderRule e) where
   has_then c s false has_is = rw has_is (lawful.designates c)
 
   -- the reference to a character, before any text
-  refers : (s : CharacterSet) (c : ℕ) (t : List ℕ) → forward e s (reference c ++ t) ≡ escape_before e s 0x26 ++ (reference c ++ forward e (set_for e s 0x26) t)
+  refers : (s : CharacterSet) (c : ℕ) (t : List ℕ)
+      → forward e s (reference c ++ t) ≡ escape_before e s 0x26 ++ (reference c ++ forward e (set_for e s 0x26) t)
   unfolding forward
   refers s c t =
       rw (lawful.references 0x26 (inl refl))
-      (ap (λ x. escape_before e s 0x26 ++ (0x26 ∷ x)) (plain (set_for e s 0x26) (has_then 0x26 s (e.has s 0x26) refl) (0x23 ∷ (decimal c ++ 0x3B ∷ [])) (reference_is c) t))
+      (ap (λ x. escape_before e s 0x26 ++ (0x26 ∷ x))
+      (plain (set_for e s 0x26) (has_then 0x26 s (e.has s 0x26) refl)
+      (0x23 ∷ (decimal c ++ 0x3B ∷ [])) (reference_is c) t))
 
   step_is : (s : CharacterSet) (c : ℕ) (t : List ℕ) (b : Option (List ℕ)) → e.bytes c ≡ b
       → ((s : CharacterSet) → bytes_with_references (steps_of e true s t) ≡ forward e s (with_references e t))
-      → (let first = first_written_char c b in
-      bytes_with_references (escape_steps_before e s first
-      ++ (char_step e (set_for e s first) c b ∷ steps_of e true (set_for e s first) t))
+      → (let first_char = first_written_char c b in
+      bytes_with_references (escape_steps_before e s first_char
+      ++ (char_step e (set_for e s first_char) c b ∷ steps_of e true (set_for e s first_char) t))
       ≡ forward e s (with_reference e c b ++ with_references e t))
   unfolding forward
   step_is s c t (Some b) q h =
@@ -107,7 +112,8 @@ module _ (e : EncoderRule) (lawful : IsLawfulEncoderRule e) where
       ∙ ap (λ x. escape_before e s c ++ (b ++ x)) (h (set_for e s c))
       ∙ ap (λ x. escape_before e s c ++ (list_or_empty x ++ forward e (set_for e s c) (with_references e t))) (sym q)
   step_is s c t None q h =
-      escaped (e.has s 0x26) (e.designated 0x26) (char_step e (set_for e s 0x26) c None ∷ steps_of e true (set_for e s 0x26) t)
+      escaped (e.has s 0x26) (e.designated 0x26)
+      (char_step e (set_for e s 0x26) c None ∷ steps_of e true (set_for e s 0x26) t)
       ∙ ap (λ x. escape_before e s 0x26 ++ (reference (e.reported c) ++ x)) (h (set_for e s 0x26))
       ∙ sym (refers s (e.reported c) (with_references e t))
 
@@ -116,16 +122,19 @@ module _ (e : EncoderRule) (lawful : IsLawfulEncoderRule e) where
   last_is Roman = refl
   last_is Jis0208 = refl
 
-  steps_are_carried : (s : CharacterSet) (t : List ℕ) → bytes_with_references (steps_of e true s t) ≡ forward e s (with_references e t)
+  steps_are_carried : (s : CharacterSet) (t : List ℕ)
+      → bytes_with_references (steps_of e true s t) ≡ forward e s (with_references e t)
   unfolding steps_of forward
   steps_are_carried s [] = last_is s
   steps_are_carried s (c ∷ t) = step_is s c t (e.bytes c) refl (λ x. steps_are_carried x t)
 
   -- the bytes of a text with references in the place of unmappable characters
-  pub steps_are_text : (s : CharacterSet) (t : List ℕ) → bytes_with_references (steps_of e true s t) ≡ bytes_of_text e s (with_references e t)
+  pub steps_are_text : (s : CharacterSet) (t : List ℕ)
+      → bytes_with_references (steps_of e true s t) ≡ bytes_of_text e s (with_references e t)
   steps_are_text s t = steps_are_carried s t ∙ sym (text_is_carried s (with_references e t))
 
-pub bytes_with_references-append : (ps qs : List Step) → bytes_with_references (ps ++ qs) ≡ bytes_with_references ps ++ bytes_with_references qs
+pub bytes_with_references-append : (ps qs : List Step)
+    → bytes_with_references (ps ++ qs) ≡ bytes_with_references ps ++ bytes_with_references qs
 bytes_with_references-append [] qs = refl
 bytes_with_references-append (p ∷ ps) qs =
     ap (λ t. (p.bytes ++ reference_for_report p.report) ++ t) (bytes_with_references-append ps qs)

@@ -26,7 +26,8 @@ escaping_reports_none : (h : Bool) (s : CharacterSet) → any_reported (if h the
 escaping_reports_none true s = refl
 escaping_reports_none false s = refl
 
-char_reports_none : (e : EncoderRule) (s : CharacterSet) (c : ℕ) (b : Option (List ℕ)) → is_some b ≡ true → is_some (char_step e s c b).report ≡ false
+char_reports_none : (e : EncoderRule) (s : CharacterSet) (c : ℕ) (b : Option (List ℕ))
+    → is_some b ≡ true → is_some (char_step e s c b).report ≡ false
 char_reports_none e s c None h = absurd (false≢true h)
 char_reports_none e s c (Some b) h = refl
 
@@ -37,16 +38,17 @@ end_reports_none Jis0208 true = refl
 end_reports_none s false = refl
 
 -- the steps of a text, where no character is unmappable
-none_reported : (e : EncoderRule) → MapsEveryCharacter e → (last : Bool) (s : CharacterSet) (t : List ℕ) → any_reported (steps_of e last s t) ≡ false
+none_reported : (e : EncoderRule) → MapsEveryCharacter e
+    → (last : Bool) (s : CharacterSet) (t : List ℕ) → any_reported (steps_of e last s t) ≡ false
 unfolding steps_of
 none_reported e maps_all last s [] = end_reports_none s last
 none_reported e maps_all last s (c ∷ t) =
-    let first = first_written_char c (e.bytes c) in
-    let set_now = set_for e s first in
-    any_reported-append (escape_steps_before e s first)
+    let first_char = first_written_char c (e.bytes c) in
+    let set_now = set_for e s first_char in
+    any_reported-append (escape_steps_before e s first_char)
     (char_step e set_now c (e.bytes c) ∷ steps_of e last set_now t)
     ∙ ap (λ b. b || (is_some (char_step e set_now c (e.bytes c)).report || any_reported (steps_of e last set_now t)))
-    (escaping_reports_none (e.has s first) (e.designated first))
+    (escaping_reports_none (e.has s first_char) (e.designated first_char))
     ∙ ap (λ b. b || any_reported (steps_of e last set_now t)) (char_reports_none e set_now c (e.bytes c) (maps_all c))
     ∙ none_reported e maps_all last set_now t
 
