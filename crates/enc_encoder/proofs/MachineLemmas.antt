@@ -56,7 +56,7 @@ module _ {E : Type 0} (state : E → RawEncoderState) {v : RawEncoderState} (e :
         ap length next.first ∙ ap (λ z. length (q ∷ steps_from_state (state t.next) last z)) (sym left) in
         omega (arith, one_more)
 
-  -- where a call stops, by the number of code units before it and that of those left
+  -- Where a call stops. Its characters have `a` code units, and those left `b`.
   module _ (units_of : ℕ → List ℕ) {a : ℕ} (counted : a ≡ length (units_of_text units_of src)) where
     pub stays : {b : ℕ} → b ≡ length (units_of_text units_of rest) → IsNextStepOfCall state e rest last None
         → EncoderCallInto units_of v (state e) src rest last before after InputEmpty (a - b) written

@@ -207,7 +207,7 @@ stop_small units_of offer small r result_is =
     finish units_of offer (first_place offer) [] (no_steps offer) (λ h. refl) refl refl (omega arith) r
     (small_stops offer small (is_nothing_left offer.state offer.src offer.last) refl r result_is) 0 refl
 
--- one turn: a call of the raw encoder after those before it
+-- one turn: a call of the raw encoder, after those of the turns before it
 module _ {offer : Offer} {now : Place} (writing : Writing offer now) {next : RawEncoderState} {rest slice : List ℕ}
     {result : EncoderResult} {n : ℕ} (encodes : EncodesFrom offer now next rest slice result n) where
   -- the steps of both
@@ -276,7 +276,7 @@ module _ {offer : Offer} {now : Place} (writing : Writing offer now) {next : Raw
       (all_fit (limit_of offer) now.written encodes.call.done (fits_unreported none_reported))
       (flag_stays none_reported)
 
--- a turn that ends in a report, and the reference of m bytes after it
+-- a turn that ends in a report, and then a reference of m bytes
 module _ {offer : Offer} {now : Place} (writing : Writing offer now) {next : RawEncoderState} {rest slice : List ℕ}
     {k n : ℕ} (encodes : EncodesFrom offer now next rest slice (Unmappable k) n) {m : ℕ} {final : List ℕ}
     (length_is : m ≡ length (reference k))
@@ -394,7 +394,7 @@ module _ {offer : Offer} {now : Place} (writing : Writing offer now) {next : Raw
       join_report.done (encoder_result_of x)) (sym result_is)
       (inr (inl (record { reference = ends_here; full = omega (arith, reached, total_is); left = left })))
 
--- where a call stops, by the number of code units before it
+-- Where a call stops. Its characters have `a` code units, and those left `b`.
 module _ (units_of : ℕ → List ℕ) {offer : Offer} {now : Place} (writing : Writing offer now)
     (enough : offer.kept ≤ length offer.slice) {a : ℕ} (counted : a ≡ length (units_of_text units_of offer.src)) where
   -- the code units read
