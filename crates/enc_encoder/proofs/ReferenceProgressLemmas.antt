@@ -53,6 +53,7 @@ pub record Place : Type 0 where
   pub written : ℕ
   pub replaced : Bool
 
+-- before the first step
 abbrev pub first_place : Offer → Place
 first_place offer =
     record { state = offer.state; rest = offer.src; slice = offer.slice; written = 0; replaced = false }
@@ -116,7 +117,7 @@ ends_in_report-one [] q = refl
 ends_in_report-one (p ∷ []) q = refl
 ends_in_report-one (p ∷ p' ∷ ps) q = ends_in_report-one (p' ∷ ps) q
 
--- before the first step
+-- the progress there
 no_steps : (offer : Offer) → Progress offer offer.state offer.src [] false
 no_steps offer =
     record {

@@ -27,7 +27,8 @@ pub fn written_text_is_read_back(codec: Codec)
     ensures characters { (barred : List ℕ) (e : EncoderRule) (text : List ℕ)
         → encoder_rule codec ≡ Some e → AreScalars text
         → any_unmappable (barring_rule barred e) text ≡ false
-        → sequence_text (sequences_read_back codec barred e text) ≡ map (char_read_back codec) text }
+        → sequence_text (sequences_read_back codec barred e text)
+        ≡ map (char_read_back codec) text }
 
     // That is the same text, except in Shift_JIS, EUC-JP and ISO-2022-JP.
     ensures same_text { (barred : List ℕ) (e : EncoderRule) (text : List ℕ)
