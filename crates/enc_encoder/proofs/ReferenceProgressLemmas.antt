@@ -189,8 +189,9 @@ finish units_of offer end wrote call enough count onto within r stops read units
 }
 
 -- with less than the part that is kept free
-small_stops : (offer : Offer) → length offer.slice < offer.kept → (none_left : Bool)
-    → is_nothing_left offer.state offer.src offer.last ≡ none_left → (r : CoderResult) → r ≡ result_when_full none_left
+small_stops : (offer : Offer) → length offer.slice < offer.kept → (nothing_left : Bool)
+    → is_nothing_left offer.state offer.src offer.last ≡ nothing_left → (r : CoderResult)
+    → r ≡ result_when_full nothing_left
     → StopsInHtmlMode offer.kept offer.state offer.src offer.last (length offer.slice) [] (encoder_result_of r)
 small_stops offer small true left r result_is =
     subst (λ (x : CoderResult). StopsInHtmlMode offer.kept offer.state offer.src offer.last (length offer.slice) []
@@ -382,8 +383,8 @@ module _ {offer : Offer} {now : Place} (writing : Writing offer now) {next : Raw
   }
 
   -- why it stops after a reference
-  stops_by : (none_left : Bool) → is_nothing_left next rest offer.last ≡ none_left → limit ≤ now.written + n + m
-      → (r : CoderResult) → r ≡ result_when_full none_left
+  stops_by : (nothing_left : Bool) → is_nothing_left next rest offer.last ≡ nothing_left
+      → limit ≤ now.written + n + m → (r : CoderResult) → r ≡ result_when_full nothing_left
       → StopsInHtmlMode offer.kept next rest offer.last (length offer.slice) join_report.done (encoder_result_of r)
   stops_by true left reached r result_is =
       subst (λ (x : CoderResult). StopsInHtmlMode offer.kept next rest offer.last (length offer.slice)
