@@ -30,11 +30,14 @@ use Rattle.enc_encode.specs.declared.variant.VariantEncoder.TheVariants.{Gb18030
 use Rattle.enc_encode.specs.Encoders.{encoder_rule, encoder_lengths}
 use Rattle.enc_encode.specs.Variant.{variant_encoder_state}
 
-in_ascii : (rule : EncoderRule) (bytes : ℕ → Option (List ℕ)) → rule ≡ stateless_rule bytes → record { rule = rule; set = Ascii } ≡ stateless_state bytes
+in_ascii : (rule : EncoderRule) (bytes : ℕ → Option (List ℕ)) → rule ≡ stateless_rule bytes
+    → record { rule = rule; set = Ascii } ≡ stateless_state bytes
 in_ascii rule bytes r = let made : EncoderRule → RawEncoderState = λ e. record { rule = e; set = Ascii } in ap made r
 
 -- by a rule without escape sequences ASCII is designated
-stateless_of : (v : VariantEncoder) (bytes : ℕ → Option (List ℕ)) → (variant_encoder_state v).rule ≡ stateless_rule bytes → variant_encoder_state v ≡ stateless_state bytes
+stateless_of : (v : VariantEncoder) (bytes : ℕ → Option (List ℕ))
+    → (variant_encoder_state v).rule ≡ stateless_rule bytes
+    → variant_encoder_state v ≡ stateless_state bytes
 stateless_of (Utf8 e) bytes r = in_ascii _ bytes r
 stateless_of (SingleByte e) bytes r = in_ascii _ bytes r
 stateless_of (Big5 e) bytes r = in_ascii _ bytes r
@@ -51,19 +54,30 @@ iso_2022_jp_of b v r = let made : EncoderRule → RawEncoderState = λ e. record
 
 -- so the lengths of the rule are enough
 
-pub enough_of_stateless : (lengths : ByteLengths) (bytes : ℕ → Option (List ℕ)) (v : VariantEncoder) → KeepsLengths lengths bytes → (variant_encoder_state v).rule ≡ stateless_rule bytes → AreEnoughForEncoder lengths (variant_encoder_state v)
-enough_of_stateless lengths bytes v h r = subst (AreEnoughForEncoder lengths) (sym (stateless_of v bytes r)) (stateless_enough lengths bytes h)
+pub enough_of_stateless : (lengths : ByteLengths) (bytes : ℕ → Option (List ℕ)) (v : VariantEncoder)
+    → KeepsLengths lengths bytes → (variant_encoder_state v).rule ≡ stateless_rule bytes
+    → AreEnoughForEncoder lengths (variant_encoder_state v)
+enough_of_stateless lengths bytes v h r =
+    subst (AreEnoughForEncoder lengths) (sym (stateless_of v bytes r)) (stateless_enough lengths bytes h)
 
-enough_of_iso_2022_jp : (b : List ℕ) (v : VariantEncoder) → (variant_encoder_state v).rule ≡ barring_rule b iso_2022_jp_encoder_rule → AreEnoughForEncoder lengths.Iso2022Jp (variant_encoder_state v)
-enough_of_iso_2022_jp b v r = subst (AreEnoughForEncoder lengths.Iso2022Jp) (sym (iso_2022_jp_of b (variant_encoder_state v) r)) (iso_2022_jp_enough b (variant_encoder_state v).set)
+enough_of_iso_2022_jp : (b : List ℕ) (v : VariantEncoder)
+    → (variant_encoder_state v).rule ≡ barring_rule b iso_2022_jp_encoder_rule
+    → AreEnoughForEncoder lengths.Iso2022Jp (variant_encoder_state v)
+enough_of_iso_2022_jp b v r =
+    subst (AreEnoughForEncoder lengths.Iso2022Jp)
+    (sym (iso_2022_jp_of b (variant_encoder_state v) r))
+    (iso_2022_jp_enough b (variant_encoder_state v).set)
 
 -- of each codec, for an encoder of its rule in any state, whatever is barred
 
 abbrev pub IsEnoughIfAny : ByteLengths → Option EncoderRule → Type 0
 IsEnoughIfAny l None = l ≡ lengths.Utf8
-IsEnoughIfAny l (Some e) = (b : List ℕ) (v : VariantEncoder) → (variant_encoder_state v).rule ≡ barring_rule b e → AreEnoughForEncoder l (variant_encoder_state v)
+IsEnoughIfAny l (Some e) =
+    (b : List ℕ) (v : VariantEncoder) → (variant_encoder_state v).rule ≡ barring_rule b e
+    → AreEnoughForEncoder l (variant_encoder_state v)
 
-pub by_lengths : (l : ByteLengths) (bytes : ℕ → Option (List ℕ)) → KeepsLengths l bytes → IsEnoughIfAny l (Some (stateless_rule bytes))
+pub by_lengths : (l : ByteLengths) (bytes : ℕ → Option (List ℕ)) → KeepsLengths l bytes
+    → IsEnoughIfAny l (Some (stateless_rule bytes))
 by_lengths l bytes h b v r = enough_of_stateless l (bytes_unless_barred b bytes) v (except_keeps b l bytes h) r
 
 pub enough_if_any : (c : Codec) → IsEnoughIfAny (encoder_lengths c) (encoder_rule c)

@@ -28,7 +28,9 @@ most_single_byte index c =
 
 pub most_x_user_defined : (c : ℕ) → size (x_user_defined_bytes c) ≤ 1
 most_x_user_defined c =
-    up_to_ascii 1 x_user_defined_other c (omega arith) (up_to_if 1 (nat_le 0xF780 c && nat_le c 0xF7FF) (Some ((c - 0xF780 + 0x80) ∷ [])) None (omega arith) (omega arith))
+    up_to_ascii 1 x_user_defined_other c (omega arith)
+    (up_to_if 1 (nat_le 0xF780 c && nat_le c 0xF7FF) (Some ((c - 0xF780 + 0x80) ∷ [])) None
+    (omega arith) (omega arith))
 
 pub most_big5 : (c : ℕ) → size (big5_bytes c) ≤ 2
 most_big5 c = up_to_by_pointer 2 big5_pair_bytes big5_pointer c (omega arith) (λ n. omega arith)
@@ -92,7 +94,7 @@ most_ascii_iso_2022_jp c l =
 -- no character has more than four bytes
 
 pub few_utf_8 : WritesAtMostFour utf_8_bytes
-few_utf_8 = record { few = λ c. let b = len_utf8_bounds c in omega (arith, length-encode c, b.1) }
+few_utf_8 = record { few = λ c. let bounds = len_utf8_bounds c in omega (arith, length-encode c, bounds.1) }
 
 pub few_single_byte : (index : SingleByteIndex) → WritesAtMostFour (single_byte_bytes index)
 few_single_byte index = are_few 1 (single_byte_bytes index) (omega arith) (most_single_byte index)

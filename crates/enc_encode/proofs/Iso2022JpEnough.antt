@@ -14,8 +14,8 @@ use Rattle.enc_encoder.proofs.SizeLemmas.{size}
 use Rattle.enc_encode.proofs.FourByteLemmas.{most_iso_2022_jp, most_ascii_iso_2022_jp}
 use Rattle.enc_encoder.specs.Barring.{barring_rule}
 use Rattle.enc_encoder.proofs.BarringLemmas.{fewer}
-use Rattle.enc_encoder.proofs.EnoughLemmas.{within_utf_8, within_utf_16, bounded, utf_8_length_is, utf_16_length_is, three_before}
-use Rattle.enc_encoder.proofs.EnoughLemmas.{three_at_end}
+use Rattle.enc_encoder.proofs.EnoughLemmas.{within_utf_8, within_utf_16, bounded, three_before}
+use Rattle.enc_encoder.proofs.EnoughLemmas.{utf_8_length_is, utf_16_length_is, three_at_end}
 
 -- of a character, where these are barred
 module _ (b : List ℕ) where

@@ -31,12 +31,20 @@ none_is Ascii = refl
 none_is Roman = refl
 none_is Jis0208 = refl
 
-set_by_is : (s : CharacterSet) (k : CharClass) (o : Option CharClass) → is_roman (set_after_class k (stays_in_roman s (last_class_after k o))) ≡ stays_in_roman s (last_class_after k o)
+set_by_is : (s : CharacterSet) (k : CharClass) (o : Option CharClass)
+    → is_roman (set_after_class k (stays_in_roman s (last_class_after k o))) ≡ stays_in_roman s (last_class_after k o)
 unfolding is_roman
-set_by_is s class.Neutral o = elim (stays_in_roman s o) as (λ b. is_roman (if b then Roman else Ascii) ≡ b) [ true ↦ refl | false ↦ refl ]
-set_by_is s class.Latin o = elim s as (λ s. is_roman (if stays_in_roman s (Some class.Latin) then Roman else Ascii) ≡ stays_in_roman s (Some class.Latin)) [ Ascii ↦ refl | Roman ↦ refl | Jis0208 ↦ refl ]
-set_by_is s class.Roman o = elim s as (λ s. is_roman (if stays_in_roman s (Some class.Roman) then Roman else Ascii) ≡ stays_in_roman s (Some class.Roman)) [ Ascii ↦ refl | Roman ↦ refl | Jis0208 ↦ refl ]
-set_by_is s class.Kanji o = elim s as (λ s. is_roman Jis0208 ≡ stays_in_roman s (Some class.Kanji)) [ Ascii ↦ refl | Roman ↦ refl | Jis0208 ↦ refl ]
+set_by_is s class.Neutral o =
+    elim (stays_in_roman s o) as (λ b. is_roman (if b then Roman else Ascii) ≡ b) [ true ↦ refl | false ↦ refl ]
+set_by_is s class.Latin o =
+    elim s as (λ s. is_roman (if stays_in_roman s (Some class.Latin) then Roman else Ascii)
+    ≡ stays_in_roman s (Some class.Latin)) [ Ascii ↦ refl | Roman ↦ refl | Jis0208 ↦ refl ]
+set_by_is s class.Roman o =
+    elim s as (λ s. is_roman (if stays_in_roman s (Some class.Roman) then Roman else Ascii)
+    ≡ stays_in_roman s (Some class.Roman)) [ Ascii ↦ refl | Roman ↦ refl | Jis0208 ↦ refl ]
+set_by_is s class.Kanji o =
+    elim s as (λ s. is_roman Jis0208 ≡ stays_in_roman s (Some class.Kanji))
+    [ Ascii ↦ refl | Roman ↦ refl | Jis0208 ↦ refl ]
 
 -- Roman is in force where it was left on
 roman_is : (s : CharacterSet) (u : List ℕ)
@@ -45,7 +53,9 @@ roman_is s [] = none_is s
 roman_is s (c ∷ u) =
     set_by_is s (class_of c) (last_non_neutral_class u)
 
-carried : (s t : CharacterSet) (k : CharClass) (o : Option CharClass) → is_roman t ≡ stays_in_roman s o → set_after_class k (stays_in_roman s (last_class_after k o)) ≡ for_class t k
+carried : (s t : CharacterSet) (k : CharClass) (o : Option CharClass)
+    → is_roman t ≡ stays_in_roman s o
+    → set_after_class k (stays_in_roman s (last_class_after k o)) ≡ for_class t k
 unfolding is_roman for_class
 carried s Ascii class.Neutral o e = rw (sym e) refl
 carried s Roman class.Neutral o e = rw (sym e) refl
@@ -73,12 +83,15 @@ carried s Roman class.Kanji o e = refl
 carried s Jis0208 class.Kanji o e = refl
 
 -- one character more
-read_back-cons : (s : CharacterSet) (c : ℕ) (u : List ℕ) → set_after_reversed s (c ∷ u) ≡ set_for iso_2022_jp_encoder_rule (set_after_reversed s u) c
+read_back-cons : (s : CharacterSet) (c : ℕ) (u : List ℕ)
+    → set_after_reversed s (c ∷ u) ≡ set_for iso_2022_jp_encoder_rule (set_after_reversed s u) c
 unfolding for_class
 read_back-cons s c u =
     carried s (set_after_reversed s u) (class_of c) (last_non_neutral_class u) (roman_is s u)
 
-set_after_more : (s : CharacterSet) (t : List ℕ) (c : ℕ) → set_after_reversed s (reverse (t ++ c ∷ [])) ≡ set_for iso_2022_jp_encoder_rule (set_after_reversed s (reverse t)) c
+set_after_more : (s : CharacterSet) (t : List ℕ) (c : ℕ)
+    → set_after_reversed s (reverse (t ++ c ∷ []))
+    ≡ set_for iso_2022_jp_encoder_rule (set_after_reversed s (reverse t)) c
 set_after_more s t c = ap (set_after_reversed s) (reverse-append t (c ∷ [])) ∙ read_back-cons s c (reverse t)
 
 own : (k : CharClass) → has_class (set_of_class k) k ≡ true
@@ -89,15 +102,15 @@ own class.Kanji = refl
 
 neutral : (c : ℕ) → IsReferenceCharacter c → class_of c ≡ class.Neutral
 neutral c r =
-    let a : (c == 0x5C || c == 0x7E) ≡ false = grind (arith, nat_tests) in
-    let b : nat_lt c 0x80 ≡ true = grind (arith, nat_tests) in
-    rw (a, b) refl
+    let not_twin : (c == 0x5C || c == 0x7E) ≡ false = grind (arith, nat_tests) in
+    let is_low : nat_lt c 0x80 ≡ true = grind (arith, nat_tests) in
+    rw (not_twin, is_low) refl
 
 itself : (c : ℕ) → IsReferenceCharacter c → iso_2022_jp_bytes c ≡ Some (c ∷ [])
 itself c r =
-    let a : is_shift c ≡ false = grind (arith, nat_tests) in
-    let b : nat_lt c 0x80 ≡ true = grind (arith, nat_tests) in
-    rw (b, a) refl
+    let not_shift : is_shift c ≡ false = grind (arith, nat_tests) in
+    let is_low : nat_lt c 0x80 ≡ true = grind (arith, nat_tests) in
+    rw (is_low, not_shift) refl
 
 pub iso_2022_jp_is_lawful : IsLawfulEncoderRule iso_2022_jp_encoder_rule
 iso_2022_jp_is_lawful = record {

@@ -28,7 +28,8 @@ lawful_if_any Utf8 = stateless_is_lawful utf_8_bytes utf_8_writes_ascii few_utf_
 lawful_if_any Utf16Be = tt
 lawful_if_any Utf16Le = tt
 lawful_if_any Replacement = tt
-lawful_if_any (SingleByte index) = stateless_is_lawful (single_byte_bytes index) (with_ascii_writes_ascii _) (few_single_byte index)
+lawful_if_any (SingleByte index) =
+    stateless_is_lawful (single_byte_bytes index) (with_ascii_writes_ascii _) (few_single_byte index)
 lawful_if_any Big5 = stateless_is_lawful big5_bytes (with_ascii_writes_ascii _) few_big5
 lawful_if_any EucKr = stateless_is_lawful euc_kr_bytes (with_ascii_writes_ascii _) few_euc_kr
 lawful_if_any ShiftJis = stateless_is_lawful shift_jis_bytes (with_ascii_writes_ascii _) few_shift_jis

@@ -49,7 +49,8 @@ fn new_gb18030(is_gbk: bool, barred: &'static [char]) -> Gb18030Encoder
 pub fn new_encoder(codec: Codec, barred: &'static [char]) -> VariantEncoder
     requires encoder { is_some (encoder_rule codec) ≡ true }
     requires barred { are_beyond_ascii barred.now ≡ true }
-    ensures rule { option_map (barring_rule barred.now) (encoder_rule codec) ≡ Some (variant_encoder_state result).rule }
+    ensures rule { option_map (barring_rule barred.now) (encoder_rule codec)
+        ≡ Some (variant_encoder_state result).rule }
     ensures set { (variant_encoder_state result).set ≡ Ascii }
     ensures lengths { variant_encoder_lengths result ≡ encoder_lengths codec }
 {

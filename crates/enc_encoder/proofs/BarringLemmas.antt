@@ -40,7 +40,8 @@ pub except_writes_few : (b : List ℕ) (bytes : ℕ → Option (List ℕ)) → W
     → WritesAtMostFour (bytes_unless_barred b bytes)
 except_writes_few b bytes w = record { few = λ c. few_if (is_barred b c) (bytes c) (w.few c) }
 
-pub except_keeps : (b : List ℕ) (lengths : ByteLengths) (bytes : ℕ → Option (List ℕ)) → KeepsLengths lengths bytes → KeepsLengths lengths (bytes_unless_barred b bytes)
+pub except_keeps : (b : List ℕ) (lengths : ByteLengths) (bytes : ℕ → Option (List ℕ))
+    → KeepsLengths lengths bytes → KeepsLengths lengths (bytes_unless_barred b bytes)
 except_keeps b lengths bytes keeps_lengths = record {
   by_utf_8 = λ c. omega (arith, fewer b bytes c, keeps_lengths.by_utf_8 c);
   by_utf_16 = λ c. omega (arith, fewer b bytes c, keeps_lengths.by_utf_16 c);
@@ -68,9 +69,12 @@ and_second : (a b : Bool) → (a && b) ≡ true → b ≡ true
 and_second true b h = h
 and_second false b h = cc
 
-by_first : (x c : ℕ) (first later all : Bool) → (x == c) ≡ first → (nat_le 0x80 x && all) ≡ true → (first || later) ≡ true → (all ≡ true → later ≡ true → nat_le 0x80 c ≡ true)
+by_first : (x c : ℕ) (first later all : Bool) → (x == c) ≡ first → (nat_le 0x80 x && all) ≡ true
+    → (first || later) ≡ true → (all ≡ true → later ≡ true → nat_le 0x80 c ≡ true)
     → nat_le 0x80 c ≡ true
-by_first x c true later all e h s by_later = let f = and_first (nat_le 0x80 x) all h in grind (arith, nat_tests, e, f)
+by_first x c true later all e h s by_later =
+    let beyond_ascii = and_first (nat_le 0x80 x) all h in
+    grind (arith, nat_tests, e, beyond_ascii)
 by_first x c false later all e h s by_later = by_later (and_second (nat_le 0x80 x) all h) s
 
 -- a character of a list that has no ASCII is beyond ASCII

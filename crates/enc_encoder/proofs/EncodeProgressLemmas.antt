@@ -27,7 +27,8 @@ pub record Progress (old now : RawEncoderState) (src rest : List ℕ) (last : Bo
   pub none_reported : any_reported done ≡ false
 
 -- how far a call has come over a slice
-pub record Writing (old now : RawEncoderState) (src rest : List ℕ) (last : Bool) (before after : List ℕ) (written : ℕ) : Type 0 where
+pub record Writing (old now : RawEncoderState) (src rest : List ℕ) (last : Bool)
+    (before after : List ℕ) (written : ℕ) : Type 0 where
   pub wrote : List ℕ
   pub count : written ≡ length wrote
   pub onto : after ≡ wrote ++ drop written before
@@ -51,7 +52,7 @@ begin v src last before = record {
   };
 }
 
-module _ (old now : RawEncoderState) (src rest : List ℕ) (last : Bool) (room : ℕ) (wrote : List ℕ)
+module _ {old now : RawEncoderState} {src rest : List ℕ} {last : Bool} {room : ℕ} {wrote : List ℕ}
     (progress : Progress old now src rest last room wrote) where
   stop : (result : EncoderResult) → EncoderStops now rest last room progress.done result
       → EncoderCall old now src rest last room result wrote
@@ -66,7 +67,8 @@ module _ (old now : RawEncoderState) (src rest : List ℕ) (last : Bool) (room :
     stops = s;
   }
 
-  pub stop_empty : rest ≡ [] → (last ≡ true → now.set ≡ Ascii) → EncoderCall old now src rest last room InputEmpty wrote
+  pub stop_empty : rest ≡ [] → (last ≡ true → now.set ≡ Ascii)
+      → EncoderCall old now src rest last room InputEmpty wrote
   stop_empty e f = stop InputEmpty (record { none_reported = progress.none_reported; all_read = e; ended = f })
 
   module _ (next : RawEncoderState) (rest' : List ℕ) (q : Step) (r : rest ≡ q.reads ++ rest')
@@ -86,7 +88,8 @@ module _ (old now : RawEncoderState) (src rest : List ℕ) (last : Bool) (room :
     bytes_further : wrote ++ q.bytes ≡ step_bytes (progress.done ++ q ∷ [])
     bytes_further = ap (λ t. t ++ q.bytes) progress.bytes ∙ sym (step_bytes-one progress.done q)
 
-    pub taken : q.report ≡ None → length wrote + length q.bytes ≤ room → Progress old next src rest' last room (wrote ++ q.bytes)
+    pub taken : q.report ≡ None → length wrote + length q.bytes ≤ room
+        → Progress old next src rest' last room (wrote ++ q.bytes)
     taken n f = record {
       done = progress.done ++ q ∷ [];
       reads = reads_further;
@@ -98,8 +101,9 @@ module _ (old now : RawEncoderState) (src rest : List ℕ) (last : Bool) (room :
       none_reported = none_reported-one progress.done q progress.none_reported n;
     }
 
-    pub stop_report : (k x : ℕ) → q.report ≡ Some k → q.bytes ≡ [] → q.reads ≡ x ∷ [] → EncoderCall old next src rest' last room (Unmappable k) wrote
-    stop_report k x n no_bytes h = record {
+    pub stop_report : {k x : ℕ} → q.report ≡ Some k → q.bytes ≡ [] → q.reads ≡ x ∷ []
+        → EncoderCall old next src rest' last room (Unmappable k) wrote
+    stop_report {k} {x} reported no_bytes one_read = record {
       done = progress.done ++ q ∷ [];
       reads = reads_further;
       remaining = remaining_further;
@@ -112,14 +116,15 @@ module _ (old now : RawEncoderState) (src rest : List ℕ) (last : Bool) (room :
         none_reported = progress.none_reported;
         report = q;
         then_report = refl;
-        reported = n;
+        reported = reported;
         none_written = no_bytes;
         char = x;
-        char_read = h;
+        char_read = one_read;
       };
     }
 
-    pub stop_full : q.report ≡ None → room < length wrote + length q.bytes → EncoderCall old now src rest last room OutputFull wrote
+    pub stop_full : q.report ≡ None → room < length wrote + length q.bytes
+        → EncoderCall old now src rest last room OutputFull wrote
     stop_full n f = stop OutputFull (record {
       none_reported = progress.none_reported;
       next = q;
@@ -140,37 +145,43 @@ parts true rest = sym (take-append-drop 1 rest)
 parts false rest = refl
 
 -- a call's units are those of the characters that it read
+units_of_parts : (units_of : ℕ → List ℕ) (src read rest : List ℕ) → src ≡ read ++ rest
+    → length (units_of_text units_of src) ≡ length (units_of_text units_of read) + length (units_of_text units_of rest)
+units_of_parts units_of src read rest e =
+    ap (λ t. length (units_of_text units_of t)) e ∙ ap length (units_of_text-append units_of read rest)
+    ∙ length-append (units_of_text units_of read) (units_of_text units_of rest)
+
 pub units_read : (units_of : ℕ → List ℕ) (src read rest : List ℕ) (a b : ℕ) → src ≡ read ++ rest
-    → a ≡ length (units_of_text units_of src) → b ≡ length (units_of_text units_of rest) → a - b ≡ length (units_of_text units_of read)
-units_read units_of src read rest a b e f g =
-    let h = ap (λ t. length (units_of_text units_of t)) e ∙ ap length (units_of_text-append units_of read rest) ∙ length-append (units_of_text units_of read) (units_of_text units_of rest) in
-    omega arith
+    → a ≡ length (units_of_text units_of src) → b ≡ length (units_of_text units_of rest)
+    → a - b ≡ length (units_of_text units_of read)
+units_read units_of src read rest a b e f g = omega (arith, units_of_parts units_of src read rest e)
 
 pub fewer_units : (units_of : ℕ → List ℕ) (src read rest : List ℕ) (a b : ℕ) → src ≡ read ++ rest
     → a ≡ length (units_of_text units_of src) → b ≡ length (units_of_text units_of rest) → b ≤ a
-fewer_units units_of src read rest a b e f g =
-    let h = ap (λ t. length (units_of_text units_of t)) e ∙ ap length (units_of_text-append units_of read rest) ∙ length-append (units_of_text units_of read) (units_of_text units_of rest) in
-    omega arith
+fewer_units units_of src read rest a b e f g = omega (arith, units_of_parts units_of src read rest e)
 
-module _ (units_of : ℕ → List ℕ) (old now : RawEncoderState) (src rest : List ℕ) (last : Bool) (before after : List ℕ) (written a b : ℕ)
+module _ {old now : RawEncoderState} {src rest : List ℕ} {last : Bool} {before after : List ℕ} {written : ℕ}
     (writing : Writing old now src rest last before after written) where
-  pub fewer : a ≡ length (units_of_text units_of src) → b ≡ length (units_of_text units_of rest) → b ≤ a
-  fewer f g = fewer_units units_of src (step_chars writing.progress.done) rest a b writing.progress.reads f g
-
-  -- with one character less
-  pub fewer_after : (rest' : List ℕ) → rest' ≡ drop 1 rest → a ≡ length (units_of_text units_of src)
-      → b ≡ length (units_of_text units_of rest') → b ≤ a
-  fewer_after rest' r f g =
-      fewer_units units_of src (step_chars writing.progress.done ++ take 1 rest) rest' a b
-      (writing.progress.reads ∙ ap (λ t. step_chars writing.progress.done ++ t) (sym (take-append-drop 1 rest))
-      ∙ sym (append_assoc (step_chars writing.progress.done) (take 1 rest) (drop 1 rest))
-      ∙ ap (λ t. (step_chars writing.progress.done ++ take 1 rest) ++ t) (sym r)) f g
-
   pub within : written ≤ length after
   within = rw (writing.onto, length-append) (omega (arith, writing.count))
 
   -- the length of the slice stays
   pub same_length : length after ≡ length before
   same_length =
-      let f = writing.progress.fits in
-      rw (writing.onto, length-append, length-drop) (omega (arith, writing.count, f))
+      let fits = writing.progress.fits in
+      rw (writing.onto, length-append, length-drop) (omega (arith, writing.count, fits))
+
+  -- fewer code units are left
+  pub fewer : (units_of : ℕ → List ℕ) {a b : ℕ} → a ≡ length (units_of_text units_of src)
+      → b ≡ length (units_of_text units_of rest) → b ≤ a
+  fewer units_of {a} {b} f g =
+      fewer_units units_of src (step_chars writing.progress.done) rest a b writing.progress.reads f g
+
+  -- with one character less
+  pub fewer_after : (units_of : ℕ → List ℕ) {a b : ℕ} {rest' : List ℕ} → rest' ≡ drop 1 rest
+      → a ≡ length (units_of_text units_of src) → b ≡ length (units_of_text units_of rest') → b ≤ a
+  fewer_after units_of {a} {b} {rest'} r f g =
+      fewer_units units_of src (step_chars writing.progress.done ++ take 1 rest) rest' a b
+      (writing.progress.reads ∙ ap (λ t. step_chars writing.progress.done ++ t) (sym (take-append-drop 1 rest))
+      ∙ sym (append_assoc (step_chars writing.progress.done) (take 1 rest) (drop 1 rest))
+      ∙ ap (λ t. (step_chars writing.progress.done ++ take 1 rest) ++ t) (sym r)) f g

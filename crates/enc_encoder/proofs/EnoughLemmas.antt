@@ -44,7 +44,8 @@ beyond_ascii c l =
 pub some_of_utf_8 : (c : ℕ) → 1 ≤ length (encode_utf8 c)
 some_of_utf_8 c = omega (arith, length-encode c, len_utf8_bounds c)
 
-units_by : (c : ℕ) (b : Bool) → nat_lt c 0x1_0000 ≡ b → (1 ≤ length (encode_utf16 c)) × (length (encode_utf8 c) ≤ 3 * length (encode_utf16 c))
+units_by : (c : ℕ) (b : Bool) → nat_lt c 0x1_0000 ≡ b
+    → (1 ≤ length (encode_utf16 c)) × (length (encode_utf8 c) ≤ 3 * length (encode_utf16 c))
 units_by c true e = rw (length-encode c, e) (omega arith, up_to_three (nat_lt c 0x80) (nat_lt c 0x800))
 units_by c false e =
     let few = len_utf8_bounds c in
@@ -76,9 +77,12 @@ one_in_ascii bytes h c l = ap size (h c l)
 
 pub keeps : (n : ℕ) (lengths : ByteLengths) (bytes : ℕ → Option (List ℕ)) → WritesAscii bytes
     → ((c : ℕ) → size (bytes c) ≤ n)
-    → 1 ≤ max_bytes_per_utf_8_unit lengths → n ≤ 2 * max_bytes_per_utf_8_unit lengths → n ≤ max_bytes_per_utf_16_unit lengths → KeepsLengths lengths bytes
+    → 1 ≤ max_bytes_per_utf_8_unit lengths → n ≤ 2 * max_bytes_per_utf_8_unit lengths
+    → n ≤ max_bytes_per_utf_16_unit lengths → KeepsLengths lengths bytes
 keeps n lengths bytes ascii most one two all = record {
-  by_utf_8 = λ c. within_utf_8 (size (bytes c)) (max_bytes_per_utf_8_unit lengths) c (λ l. omega (arith, one, one_in_ascii bytes ascii c l)) (omega (arith, most c, two));
+  by_utf_8 =
+      λ c. within_utf_8 (size (bytes c)) (max_bytes_per_utf_8_unit lengths) c
+      (λ l. omega (arith, one, one_in_ascii bytes ascii c l)) (omega (arith, most c, two));
   by_utf_16 = λ c. within_utf_16 (size (bytes c)) (max_bytes_per_utf_16_unit lengths) c (omega (arith, most c, all));
 }
 
@@ -87,30 +91,37 @@ keeps n lengths bytes ascii most one two all = record {
 abbrev pub count : List Step → ℕ
 count ps = length (step_bytes (steps_before_report ps))
 
-count_escaping : (has : Bool) (x : CharacterSet) (ps : List Step) → count ((if has then [] else escape_step x ∷ []) ++ ps) ≡ length (if has then [] else escape_sequence x) + count ps
+count_escaping : (has : Bool) (x : CharacterSet) (ps : List Step)
+    → count ((if has then [] else escape_step x ∷ []) ++ ps) ≡ length (if has then [] else escape_sequence x) + count ps
 count_escaping true x ps = omega arith
 count_escaping false x ps = length-append (escape_sequence x) (step_bytes (steps_before_report ps))
 
-count_char : (e : EncoderRule) (s : CharacterSet) (c : ℕ) (b : Option (List ℕ)) (ps : List Step) → count (char_step e s c b ∷ ps) ≤ size b + count ps
+count_char : (e : EncoderRule) (s : CharacterSet) (c : ℕ) (b : Option (List ℕ)) (ps : List Step)
+    → count (char_step e s c b ∷ ps) ≤ size b + count ps
 count_char e s c None ps = omega arith
 count_char e s c (Some b) ps = omega (arith, length-append b (step_bytes (steps_before_report ps)))
 
--- Where the bytes of each character, with the escape sequence before it, are at most k for each code unit, and the escape sequence
--- at the end has at most m bytes, so it is of the whole: in sets that are designated one after another.
+-- Where the bytes of each character, with the escape sequence before it, are at most k for each code unit, and the
+-- escape sequence at the end has at most m bytes, so it is of the whole: in sets that are designated one after another.
 module _ (e : EncoderRule) (units_of : ℕ → List ℕ) (k m : ℕ) (Comes : CharacterSet → Type 0)
     (comes : (s : CharacterSet) (c : ℕ) → Comes s → Comes (set_for e s c))
     (ends : (s : CharacterSet) → Comes s → count (steps_at_end s) ≤ m)
-    (each : (s : CharacterSet) (c : ℕ) → Comes s → length (escape_before e s (first_written_char c (e.bytes c))) + size (e.bytes c) ≤ k * length (units_of c)) where
-  pub bounded : (last : Bool) (t : List ℕ) (s : CharacterSet) → Comes s → count (steps_of e last s t) ≤ k * length (units_of_text units_of t) + m
+    (each : (s : CharacterSet) (c : ℕ) → Comes s
+    → length (escape_before e s (first_written_char c (e.bytes c))) + size (e.bytes c)
+    ≤ k * length (units_of c)) where
+  pub bounded : (last : Bool) (t : List ℕ) (s : CharacterSet) → Comes s
+      → count (steps_of e last s t) ≤ k * length (units_of_text units_of t) + m
   unfolding steps_of
   bounded true [] s it_comes = omega (arith, ends s it_comes)
   bounded false [] s it_comes = omega arith
   bounded last (c ∷ t) s it_comes =
-      let d = first_written_char c (e.bytes c) in
-      let rest = steps_of e last (set_for e s d) t in
-      let front = count_escaping (e.has s d) (e.designated d) (char_step e (set_for e s d) c (e.bytes c) ∷ rest) in
-      let char = count_char e (set_for e s d) c (e.bytes c) rest in
-      let others = bounded last t (set_for e s d) (comes s d it_comes) in
+      let first_char = first_written_char c (e.bytes c) in
+      let rest = steps_of e last (set_for e s first_char) t in
+      let front =
+      count_escaping (e.has s first_char) (e.designated first_char)
+      (char_step e (set_for e s first_char) c (e.bytes c) ∷ rest) in
+      let char = count_char e (set_for e s first_char) c (e.bytes c) rest in
+      let others = bounded last t (set_for e s first_char) (comes s first_char it_comes) in
       let one = each s c it_comes in
       let units = length-append (units_of c) (units_of_text units_of t) in
       let parts = mul-add k (length (units_of c)) (length (units_of_text units_of t)) in
@@ -161,7 +172,8 @@ utf_16_length_is Iso2022Jp n q e =
 
 -- without escape sequences
 
-stays_ascii : (bytes : ℕ → Option (List ℕ)) (s : CharacterSet) (c : ℕ) → s ≡ Ascii → set_for (stateless_rule bytes) s c ≡ Ascii
+stays_ascii : (bytes : ℕ → Option (List ℕ)) (s : CharacterSet) (c : ℕ) → s ≡ Ascii
+    → set_for (stateless_rule bytes) s c ≡ Ascii
 stays_ascii bytes s c e = e
 
 none_at_end : (s : CharacterSet) → s ≡ Ascii → count (steps_at_end s) ≤ 0
@@ -169,7 +181,8 @@ none_at_end Ascii e = omega arith
 none_at_end Roman e = cc
 none_at_end Jis0208 e = cc
 
-pub stateless_enough : (lengths : ByteLengths) (bytes : ℕ → Option (List ℕ)) → KeepsLengths lengths bytes → AreEnoughForEncoder lengths (stateless_state bytes)
+pub stateless_enough : (lengths : ByteLengths) (bytes : ℕ → Option (List ℕ))
+    → KeepsLengths lengths bytes → AreEnoughForEncoder lengths (stateless_state bytes)
 stateless_enough lengths bytes keeps_lengths = record {
   from_utf_8 = λ src last q e. omega (
     arith,

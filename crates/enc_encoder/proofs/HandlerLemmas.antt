@@ -12,34 +12,49 @@ use Rattle.enc_encoder.specs.CharLaw.{char_transition, escape_transition}
 use Rattle.enc_encoder.specs.CharLaw.{IsEscapeAtEnd}
 
 -- the bytes found for a character make its step
-pub step_found : (e : EncoderRule) (set : CharacterSet) (c reported : ℕ) (wanted : Option (List ℕ)) (found : Option Bytes) (b : Bytes) → AreBytesOf wanted found → byte_list b ≡ bytes_or_empty found
+pub step_found : (e : EncoderRule) (set : CharacterSet) (c reported : ℕ) (wanted : Option (List ℕ))
+    (found : Option Bytes) (b : Bytes) → AreBytesOf wanted found → byte_list b ≡ bytes_or_empty found
     → reported ≡ e.reported c
-    → char_step e set c wanted ≡ record { bytes = byte_list b; reads = c ∷ []; report = report_unless_mapped reported found; set = set }
+    → char_step e set c wanted
+    ≡ record {
+      bytes = byte_list b;
+      reads = c ∷ [];
+      report = report_unless_mapped reported found;
+      set = set;
+    }
 step_found e set c reported wanted None b w f r = rw (w, f, r) refl
 step_found e set c reported wanted (Some x) b w f r = rw (w, f) refl
 
-pub none_written : (reported : ℕ) (found : Option Bytes) (b : Bytes) → byte_list b ≡ bytes_or_empty found → (k : ℕ) → report_unless_mapped reported found ≡ Some k → byte_list b ≡ []
+pub none_written : (reported : ℕ) (found : Option Bytes) (b : Bytes)
+    → byte_list b ≡ bytes_or_empty found → (k : ℕ) → report_unless_mapped reported found ≡ Some k
+    → byte_list b ≡ []
 none_written reported None b f k e = f
 none_written reported (Some x) b f k e = cc
 
 module _ (e : EncoderRule) (s : CharacterSet) (c d : ℕ) (is_first : d ≡ first_written_char c (e.bytes c)) where
   -- the set in force has the character
-  written : e.has s d ≡ true → (last : Bool) (z : List ℕ) → steps_of e last s (c ∷ z) ≡ char_step e s c (e.bytes c) ∷ steps_of e last s z
+  written : e.has s d ≡ true → (last : Bool) (z : List ℕ)
+      → steps_of e last s (c ∷ z) ≡ char_step e s c (e.bytes c) ∷ steps_of e last s z
   unfolding steps_of
-  written h last z = let g : e.has s (first_written_char c (e.bytes c)) ≡ true = ap (e.has s) (sym is_first) ∙ h in
-      rw g refl
+  written h last z =
+      let has_first : e.has s (first_written_char c (e.bytes c)) ≡ true = ap (e.has s) (sym is_first) ∙ h in
+      rw has_first refl
 
   -- it lacks it, and then an escape comes first
-  escaped : e.has (e.designated d) d ≡ true → e.has s d ≡ false → (last : Bool) (z : List ℕ) → steps_of e last s (c ∷ z) ≡ escape_step (e.designated d) ∷ steps_of e last (e.designated d) (c ∷ z)
+  escaped : e.has (e.designated d) d ≡ true → e.has s d ≡ false → (last : Bool) (z : List ℕ)
+      → steps_of e last s (c ∷ z) ≡ escape_step (e.designated d) ∷ steps_of e last (e.designated d) (c ∷ z)
   unfolding steps_of
   escaped j h last z =
-      let g : e.has s (first_written_char c (e.bytes c)) ≡ false = ap (e.has s) (sym is_first) ∙ h in
-      let k : e.has (e.designated (first_written_char c (e.bytes c))) (first_written_char c (e.bytes c)) ≡ true =
+      let lacks_first : e.has s (first_written_char c (e.bytes c)) ≡ false = ap (e.has s) (sym is_first) ∙ h in
+      let designated_has : e.has (e.designated (first_written_char c (e.bytes c)))
+      (first_written_char c (e.bytes c)) ≡ true =
       ap (λ x. e.has (e.designated x) x) (sym is_first) ∙ j in
-      rw (is_first, g, k) refl
+      rw (is_first, lacks_first, designated_has) refl
 
   module _ {E : Type 0} (state : E → RawEncoderState) (x : E) (state_is : state x ≡ record { rule = e; set = s }) where
-    pub acts_written : e.has s d ≡ true → (reported : ℕ) → reported ≡ e.reported c → (found : Option Bytes) (b : Bytes) → AreBytesOf (e.bytes c) found → byte_list b ≡ bytes_or_empty found
+    pub acts_written : e.has s d ≡ true → (reported : ℕ) → reported ≡ e.reported c
+        → (found : Option Bytes) (b : Bytes) → AreBytesOf (e.bytes c) found
+        → byte_list b ≡ bytes_or_empty found
         → HandlesCharacter state x c (char_transition b x reported found)
     acts_written h reported r found b w byte_list_is last z = record {
       first =
@@ -50,7 +65,9 @@ module _ (e : EncoderRule) (s : CharacterSet) (c d : ℕ) (is_first : d ≡ firs
       reports = λ k m. (refl, none_written reported found b byte_list_is k m);
     }
 
-    pub acts_escaped : e.has (e.designated d) d ≡ true → e.has s d ≡ false → (y : E) → state y ≡ record { rule = e; set = e.designated d } → (b : Bytes) → byte_list b ≡ escape_sequence (e.designated d)
+    pub acts_escaped : e.has (e.designated d) d ≡ true → e.has s d ≡ false → (y : E)
+        → state y ≡ record { rule = e; set = e.designated d } → (b : Bytes)
+        → byte_list b ≡ escape_sequence (e.designated d)
         → HandlesCharacter state x c (escape_transition b y)
     acts_escaped j h y next_is b g last z = record {
       first = rw (state_is, next_is, g) (escaped j h last z);
@@ -60,7 +77,9 @@ module _ (e : EncoderRule) (s : CharacterSet) (c d : ℕ) (is_first : d ≡ firs
     }
 
 -- the end of the text, where a set other than ASCII is in force
-pub ends : (e : EncoderRule) {E : Type 0} (state : E → RawEncoderState) (x y : E) (s : CharacterSet) → steps_at_end s ≡ escape_step Ascii ∷ [] → state x ≡ record { rule = e; set = s } → state y ≡ record { rule = e; set = Ascii }
+pub ends : (e : EncoderRule) {E : Type 0} (state : E → RawEncoderState) (x y : E) (s : CharacterSet)
+    → steps_at_end s ≡ escape_step Ascii ∷ [] → state x ≡ record { rule = e; set = s }
+    → state y ≡ record { rule = e; set = Ascii }
     → (b : Bytes) → byte_list b ≡ escape_sequence Ascii → IsNextStep state x true [] (escape_transition b y)
 unfolding steps_of
 ends e state x y s l state_is next_is b g = record {
@@ -75,6 +94,8 @@ last_is Ascii h = cc
 last_is Roman h = refl
 last_is Jis0208 h = refl
 
-pub ends_pending : {E : Type 0} (state : E → RawEncoderState) (x n : E) → IsEscapeAtEnd state x (Some n) → (b : Bytes) → byte_list b ≡ escape_sequence Ascii → IsNextStep state x true [] (escape_transition b n)
+pub ends_pending : {E : Type 0} (state : E → RawEncoderState) (x n : E)
+    → IsEscapeAtEnd state x (Some n) → (b : Bytes) → byte_list b ≡ escape_sequence Ascii
+    → IsNextStep state x true [] (escape_transition b n)
 ends_pending state x n escape b g =
     ends (state x).rule state x n (state x).set (last_is (state x).set escape.0) refl escape.1 b g

@@ -25,11 +25,14 @@ at_report : (q : Step) (c : ℕ) (qs : List Step) → q.report ≡ Some c → st
 at_report q c qs e = ap (λ r. steps_unless_report r q (steps_before_report qs)) e
 
 -- the bytes of a first step that is no report
-pub at_next : (q : Step) (qs all : List Step) → all ≡ q ∷ qs → q.report ≡ None → length q.bytes ≤ length (step_bytes (steps_before_report all))
+pub at_next : (q : Step) (qs all : List Step) → all ≡ q ∷ qs → q.report ≡ None
+    → length q.bytes ≤ length (step_bytes (steps_before_report all))
 at_next q qs all e f =
-    let x : length (step_bytes (steps_before_report all)) ≡ length (q.bytes ++ step_bytes (steps_before_report qs)) =
-    ap (λ x. length (step_bytes (steps_before_report x))) e ∙ ap (λ r. length (step_bytes (steps_unless_report r q (steps_before_report qs)))) f in
-    omega (arith, x, length-append q.bytes (step_bytes (steps_before_report qs)))
+    let first_counts : length (step_bytes (steps_before_report all))
+    ≡ length (q.bytes ++ step_bytes (steps_before_report qs)) =
+    ap (λ x. length (step_bytes (steps_before_report x))) e
+    ∙ ap (λ r. length (step_bytes (steps_unless_report r q (steps_before_report qs)))) f in
+    omega (arith, first_counts, length-append q.bytes (step_bytes (steps_before_report qs)))
 
 -- nothing is to come at the end
 at_end : (v : RawEncoderState) (last : Bool) → (last ≡ true → v.set ≡ Ascii) → encode_need v last [] ≡ 0
@@ -43,7 +46,9 @@ module _ (old new : RawEncoderState) (src rest : List ℕ) (last : Bool) where
       → steps_from_state old last src ≡ done ++ steps_from_state new last rest
       → encode_need old last src ≡ length (step_bytes done) + encode_need new last rest
   left done n r =
-      ap (λ x. length (step_bytes (steps_before_report x))) r ∙ ap (λ x. length (step_bytes x)) (steps_before_report-append done (steps_from_state new last rest) n)
+      ap (λ x. length (step_bytes (steps_before_report x))) r
+      ∙ ap (λ x. length (step_bytes x))
+      (steps_before_report-append done (steps_from_state new last rest) n)
       ∙ ap length (step_bytes-append done (steps_before_report (steps_from_state new last rest)))
       ∙ length-append (step_bytes done) (step_bytes (steps_before_report (steps_from_state new last rest)))
 
@@ -55,10 +60,13 @@ module _ (old new : RawEncoderState) (src rest : List ℕ) (last : Bool) where
       ap (λ x. length (step_bytes (steps_before_report x)))
       (r ∙ append_assoc before (q ∷ []) (steps_from_state new last rest))
       ∙ ap (λ x. length (step_bytes x))
-      (steps_before_report-append before (q ∷ steps_from_state new last rest) n ∙ ap (λ x. before ++ x) (at_report q c (steps_from_state new last rest) e) ∙ append-nil before)
+      (steps_before_report-append before (q ∷ steps_from_state new last rest) n
+      ∙ ap (λ x. before ++ x) (at_report q c (steps_from_state new last rest) e)
+      ∙ append-nil before)
 
 module _ (old new : RawEncoderState) (src rest : List ℕ) (last : Bool) (room : ℕ) where
-  pub meets_need : (result : EncoderResult) (wrote : List ℕ) → EncoderCall old new src rest last room result wrote → MeetsEncodeNeed old new src rest last room result (length wrote)
+  pub meets_need : (result : EncoderResult) (wrote : List ℕ) → EncoderCall old new src rest last room result wrote
+      → MeetsEncodeNeed old new src rest last room result (length wrote)
   meets_need InputEmpty wrote call =
       let falls : encode_need old last src ≡ length wrote + encode_need new last rest =
       left old new src rest last call.done call.stops.none_reported call.remaining
@@ -78,17 +86,19 @@ module _ (old new : RawEncoderState) (src rest : List ℕ) (last : Bool) (room :
       }
   meets_need (Unmappable k) wrote call =
       let stops = call.stops in
-      let q = stops.report in
+      let report = stops.report in
       let before =
-      before_report old new src rest last stops.before q k stops.none_reported stops.reported (call.remaining
+      before_report old new src rest last stops.before report k stops.none_reported stops.reported (call.remaining
       ∙ ap (λ x. x ++ steps_from_state new last rest) stops.then_report) in
       let wrote_is : wrote ≡ step_bytes stops.before =
-      call.bytes ∙ ap step_bytes stops.then_report ∙ step_bytes-one stops.before q
+      call.bytes ∙ ap step_bytes stops.then_report ∙ step_bytes-one stops.before report
       ∙ ap (λ x. step_bytes stops.before ++ x) stops.none_written ∙ append-nil (step_bytes stops.before) in
       let falls : encode_need old last src ≡ length wrote + 0 = omega (arith, before, ap length wrote_is) in
       record { full = (λ e. cc, λ l. absurd (omega (arith, falls, call.fits, l))); falls = falls }
 
-pub into_meets_need : (units_of : ℕ → List ℕ) (old new : RawEncoderState) (src rest : List ℕ) (last : Bool) (before after : List ℕ) (result : EncoderResult) (read written : ℕ)
-    → EncoderCallInto units_of old new src rest last before after result read written → MeetsEncodeNeed old new src rest last (length before) result written
-into_meets_need units_of old new src rest last before after result read written call =
+pub into_meets_need : {units_of : ℕ → List ℕ} {old new : RawEncoderState} {src rest : List ℕ} {last : Bool}
+    {before after : List ℕ} {result : EncoderResult} {read written : ℕ}
+    → EncoderCallInto units_of old new src rest last before after result read written
+    → MeetsEncodeNeed old new src rest last (length before) result written
+into_meets_need {old} {new} {src} {rest} {last} {before} {result} call =
     rw call.count (meets_need old new src rest last (length before) result call.wrote call.call)

@@ -5,7 +5,8 @@ use Rattle.std.proofs.lemmas.List.{drop-set}
 use Rattle.std.proofs.lemmas.Fmt.{decimal_step, decimal_digit}
 
 -- a byte that is put before those from a place on
-pub put_before : (bytes : List ℕ) (i at x : ℕ) → i + 1 ≡ at → at ≤ length bytes → drop i (set bytes i x) ≡ x ∷ drop at bytes
+pub put_before : (bytes : List ℕ) (i at x : ℕ) → i + 1 ≡ at → at ≤ length bytes
+    → drop i (set bytes i x) ≡ x ∷ drop at bytes
 put_before bytes i at x e h = drop-set bytes i x (omega arith) ∙ ap (λ n. x ∷ drop n bytes) e
 
 -- a place less is taken by a number without its last digit
@@ -22,13 +23,14 @@ last_digit n t h small =
     sym (append_assoc (decimal (n / 10)) ((48 + n % 10) ∷ []) t) ∙ ap (λ x. x ++ t) (sym (decimal_step n h small))
 
 -- the first digit, and the bytes before it
-pub front : (bytes digits : List ℕ) (at n : ℕ) → 3 ≤ at → at ≤ length bytes → n < 10 → decimal n ++ drop at bytes ≡ digits
+pub front : (bytes digits : List ℕ) (at n : ℕ) → 3 ≤ at → at ≤ length bytes → n < 10
+    → decimal n ++ drop at bytes ≡ digits
     → drop (at - 3) (set (set (set bytes (at - 1) (48 + n)) (at - 2) 35) (at - 3) 38) ≡ 38 ∷ 35 ∷ digits
 front bytes digits at n h k small e =
     let one = set bytes (at - 1) (48 + n) in
     let two = set one (at - 2) 35 in
-    let l = length-set bytes (at - 1) (48 + n) in
-    let m = length-set one (at - 2) 35 in
+    let length_of_one = length-set bytes (at - 1) (48 + n) in
+    let length_of_two = length-set one (at - 2) 35 in
     put_before two (at - 3) (at - 2) 38 (omega arith) (omega arith)
     ∙ ap (λ t. 38 ∷ t) (put_before one (at - 2) (at - 1) 35 (omega arith) (omega arith))
     ∙ ap (λ t. 38 ∷ 35 ∷ t) (put_before bytes (at - 1) at (48 + n) (omega arith) k)

@@ -26,14 +26,16 @@ weaker limit n len (Some c) (p ∷ ps) h = h
 
 -- where the steps after a step begin
 after_step : (n : ℕ) (p : Step) (ps : List Step)
-    → n + length (bytes_with_references (p ∷ ps)) ≡ n + length p.bytes + length (reference_for_report p.report) + length (bytes_with_references ps)
+    → n + length (bytes_with_references (p ∷ ps))
+    ≡ n + length p.bytes + length (reference_for_report p.report) + length (bytes_with_references ps)
 after_step n p ps =
-    let l = length-append (p.bytes ++ reference_for_report p.report) (bytes_with_references ps) in
-    let m = length-append p.bytes (reference_for_report p.report) in
+    let length_of_all = length-append (p.bytes ++ reference_for_report p.report) (bytes_with_references ps) in
+    let length_of_first = length-append p.bytes (reference_for_report p.report) in
     omega arith
 
 -- steps that fit, after others whose references end before the limit
-pub fits-append : (limit n : ℕ) (ps qs : List Step) → AllBefore limit n ps → StepsFit limit (n + length (bytes_with_references ps)) qs
+pub fits-append : (limit n : ℕ) (ps qs : List Step) → AllBefore limit n ps
+    → StepsFit limit (n + length (bytes_with_references ps)) qs
     → StepsFit limit n (ps ++ qs)
 fits-append limit n [] qs all_before k = subst (λ (x : ℕ). StepsFit limit x qs) (omega arith) k
 fits-append limit n (p ∷ ps) qs all_before k = (
@@ -42,7 +44,8 @@ fits-append limit n (p ∷ ps) qs all_before k = (
       (subst (λ (x : ℕ). StepsFit limit x qs) (after_step n p ps) k),
 )
 
-pub before-append : (limit n : ℕ) (ps qs : List Step) → AllBefore limit n ps → AllBefore limit (n + length (bytes_with_references ps)) qs
+pub before-append : (limit n : ℕ) (ps qs : List Step) → AllBefore limit n ps
+    → AllBefore limit (n + length (bytes_with_references ps)) qs
     → AllBefore limit n (ps ++ qs)
 before-append limit n [] qs all_before k = subst (λ (x : ℕ). AllBefore limit x qs) (omega arith) k
 before-append limit n (p ∷ ps) qs all_before k = (
@@ -59,17 +62,19 @@ all_fit limit n (p ∷ ps) all_before = (
 )
 
 -- steps without a report
-pub unreported_before : (limit n : ℕ) (ps : List Step) → any_reported ps ≡ false → n + length (step_bytes ps) ≤ limit → AllBefore limit n ps
+pub unreported_before : (limit n : ℕ) (ps : List Step) → any_reported ps ≡ false
+    → n + length (step_bytes ps) ≤ limit → AllBefore limit n ps
 unreported_before limit n [] h k = tt
 unreported_before limit n (p ∷ ps) h k =
     let both = parted p.report (any_reported ps) h in
-    let l = length-append p.bytes (step_bytes ps) in (
+    let length_of_all = length-append p.bytes (step_bytes ps) in (
       subst (λ (r : Option ℕ). FitsBefore limit n r (length p.bytes)) (sym both.0) (omega arith),
       subst (λ (r : Option ℕ). AllBefore limit (n + length p.bytes + length (reference_for_report r)) ps) (sym both.0)
           (unreported_before limit (n + length p.bytes + 0) ps both.1 (omega arith)),
     )
 
 -- all characters are read, and the text is ended where it is to end
-pub none_left : (v : RawEncoderState) (rest : List ℕ) (last : Bool) → rest ≡ [] → (last ≡ true → v.set ≡ Ascii) → is_nothing_left v rest last ≡ true
+pub none_left : (v : RawEncoderState) (rest : List ℕ) (last : Bool) → rest ≡ []
+    → (last ≡ true → v.set ≡ Ascii) → is_nothing_left v rest last ≡ true
 none_left v rest true e h = ap (λ r. is_nothing_left v r true) e ∙ ap (λ s. not (true && is_escape_due s)) (h refl)
 none_left v rest false e h = ap (λ r. is_nothing_left v r false) e

@@ -15,7 +15,7 @@ use Rattle.enc_encoder.proofs.StepLemmas.{step_chars-append, step_bytes-append, 
 use Rattle.enc_encoder.proofs.StepLemmas.{set_after_steps-append}
 use Rattle.enc_encoder.proofs.EncodeProgressLemmas.{Writing, same_length}
 
-module _ (v w : RawEncoderState) (src rest rest' : List ℕ) (last : Bool) (before mid after : List ℕ) (written wrote : ℕ)
+module _ {v w : RawEncoderState} {src rest rest' : List ℕ} {last : Bool} {before mid after : List ℕ} {written wrote : ℕ}
     (writing : Writing v w src rest last before mid written)
     (writes : WritesRun w rest rest' mid after written wrote) where
   abbrev bytes : List ℕ
@@ -52,7 +52,7 @@ module _ (v w : RawEncoderState) (src rest rest' : List ℕ) (last : Bool) (befo
             writes.fits,
             writing.count,
             writes.count,
-            same_length (λ _. []) v w src rest last before mid written 0 0 writing,
+            same_length writing,
           ));
       none_reported = any_reported-append writing.progress.done writes.taken
           ∙ rw (writing.progress.none_reported, writes.none_reported) refl;
@@ -60,15 +60,11 @@ module _ (v w : RawEncoderState) (src rest rest' : List ℕ) (last : Bool) (befo
   }
 
 -- no steps are added
-pub no_more_steps : (w : RawEncoderState) (rest rest' : List ℕ) (last : Bool) (mid after : List ℕ) (at wrote : ℕ)
+pub no_more_steps : {w : RawEncoderState} {rest rest' : List ℕ} (last : Bool) {mid after : List ℕ} {at wrote : ℕ}
     → WritesRun w rest rest' mid after at wrote
     → length (steps_from_state w last rest') ≤ length (steps_from_state w last rest)
-no_more_steps w rest rest' last mid after at wrote run = omega (
-  arith,
-  ap length
-      (run.remaining last),
-  length-append run.taken (steps_from_state w last rest'),
-)
+no_more_steps {w} {rest'} last run =
+    omega (arith, ap length (run.remaining last), length-append run.taken (steps_from_state w last rest'))
 
 -- an empty run
 pub writes_none : (v : RawEncoderState) (src before : List ℕ) (at : ℕ) → at ≤ length before
@@ -116,10 +112,10 @@ module _ (e : EncoderRule) (s : CharacterSet) where
       (ap (λ x. record { bytes = p.bytes; reads = p.char ∷ []; report = None; set = s } ∷ x)
       (their_steps last rest ps each_means.1))
 
-  pub writes_in_set : (src rest before after : List ℕ) (at n : ℕ)
+  pub writes_in_set : {src rest before after : List ℕ} {at n : ℕ}
       → WritesMapped (IsWrittenIn e s) src rest before after at n
       → WritesRun (record { rule = e; set = s }) src rest before after at n
-  writes_in_set src rest before after at n mapped =
+  writes_in_set {rest} {before} {at} {n} mapped =
       let same = their_bytes mapped.pieces in
       record {
         taken = steps_in mapped.pieces;

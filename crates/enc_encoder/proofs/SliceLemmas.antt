@@ -14,14 +14,17 @@ after_part a e n xs h k l =
     ∙ ap (drop n) (take-append-drop (e - a) (drop a xs)) ∙ drop-drop n a xs
 
 -- a slice, where the start of a part of it was written anew
-pub onto_part : (a e n : ℕ) (xs w ys z : List ℕ) → n ≡ length w → a ≤ e → e ≤ length xs → n ≤ e - a → ys ≡ w ++ drop n (take (e - a) (drop a xs))
-    → take (a + length ys) z ≡ take a xs ++ ys → drop (a + length ys) z ≡ drop (a + length ys) xs → z ≡ take a xs ++ (w ++ drop (a + n) xs)
+pub onto_part : (a e n : ℕ) (xs w ys z : List ℕ) → n ≡ length w → a ≤ e → e ≤ length xs → n ≤ e - a
+    → ys ≡ w ++ drop n (take (e - a) (drop a xs))
+    → take (a + length ys) z ≡ take a xs ++ ys → drop (a + length ys) z ≡ drop (a + length ys) xs
+    → z ≡ take a xs ++ (w ++ drop (a + n) xs)
 onto_part a e n xs w ys z c h k l ys_is t d =
     let part = take (e - a) (drop a xs) in
     let others = drop (e - a) (drop a xs) in
     let len : length ys ≡ e - a = rw (ys_is, length-append, length-drop, length-take, length-drop) (omega (arith, c)) in
     let rest : drop (a + length ys) xs ≡ others = sym (drop-drop (length ys) a xs) ∙ ap (λ m. drop m (drop a xs)) len in
-    sym (take-append-drop (a + length ys) z) ∙ ap (λ x. x ++ drop (a + length ys) z) t ∙ ap (λ x. (take a xs ++ ys) ++ x) (d ∙ rest)
+    sym (take-append-drop (a + length ys) z) ∙ ap (λ x. x ++ drop (a + length ys) z) t
+    ∙ ap (λ x. (take a xs ++ ys) ++ x) (d ∙ rest)
     ∙ append_assoc (take a xs) ys others ∙ ap (λ x. take a xs ++ (x ++ others)) ys_is
     ∙ ap (λ x. take a xs ++ x) (append_assoc w (drop n part) others ∙ ap (λ x. w ++ x) (after_part a e n xs h k l))
 
@@ -37,7 +40,8 @@ onto_after before after then wrote w written n counted d onto t =
     ∙ sym (append_assoc wrote w (drop (written + n) before))
 
 -- the bytes written, and the rest of the slice
-pub wrote_is : (before after wrote : List ℕ) (written : ℕ) → written ≡ length wrote → after ≡ wrote ++ drop written before → take written after ≡ wrote
+pub wrote_is : (before after wrote : List ℕ) (written : ℕ) → written ≡ length wrote
+    → after ≡ wrote ++ drop written before → take written after ≡ wrote
 wrote_is before after wrote written c o = rw (o, c) (take-append_seam wrote (drop (length wrote) before))
 
 pub rest_stays : (before after wrote : List ℕ) (written : ℕ) → written ≡ length wrote

@@ -13,7 +13,8 @@ with_ascii_writes_ascii others c l = rw (lt-ltb c 0x80 l) refl
 pub of_references_is_ascii : (c : ℕ) → IsReferenceCharacter c → c < 0x80
 of_references_is_ascii c r = omega arith
 
-pub stateless_is_lawful : (bytes : ℕ → Option (List ℕ)) → WritesAscii bytes → WritesAtMostFour bytes → IsLawfulEncoderRule (stateless_rule bytes)
+pub stateless_is_lawful : (bytes : ℕ → Option (List ℕ)) → WritesAscii bytes → WritesAtMostFour bytes
+    → IsLawfulEncoderRule (stateless_rule bytes)
 stateless_is_lawful bytes h few = record {
   designates = λ c. refl;
   set_after_none = λ s. refl;
@@ -23,5 +24,6 @@ stateless_is_lawful bytes h few = record {
   few = few.few;
 }
 
-pub writes_one : (bytes : ℕ → Option (List ℕ)) (c : ℕ) (b : Bytes) → WritesAscii bytes → c < 0x80 → byte_list b ≡ c ∷ [] → bytes c ≡ Some (byte_list b)
+pub writes_one : (bytes : ℕ → Option (List ℕ)) (c : ℕ) (b : Bytes) → WritesAscii bytes → c < 0x80
+    → byte_list b ≡ c ∷ [] → bytes c ≡ Some (byte_list b)
 writes_one bytes c b h l e = h c l ∙ ap Some (sym e)

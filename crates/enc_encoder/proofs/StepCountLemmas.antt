@@ -17,14 +17,20 @@ one_before true x = omega arith
 one_before false x = omega arith
 
 -- two for each character at most, an escape sequence and the character, and one at the end
-pub few_steps : (e : EncoderRule) (last : Bool) (t : List ℕ) (s : CharacterSet) → length (steps_of e last s t) ≤ 2 * length t + 1
+pub few_steps : (e : EncoderRule) (last : Bool) (t : List ℕ) (s : CharacterSet)
+    → length (steps_of e last s t) ≤ 2 * length t + 1
 unfolding steps_of
 few_steps e true [] s = omega (arith, one_at_end s)
 few_steps e false [] s = omega arith
 few_steps e last (c ∷ t) s =
-    let d = first_written_char c (e.bytes c) in
-    let others = char_step e (set_for e s d) c (e.bytes c) ∷ steps_of e last (set_for e s d) t in
-    omega (arith, one_before (e.has s d) (e.designated d), length-append (escape_steps_before e s d) others, few_steps e last t (set_for e s d))
+    let first_char = first_written_char c (e.bytes c) in
+    let others = char_step e (set_for e s first_char) c (e.bytes c) ∷ steps_of e last (set_for e s first_char) t in
+    omega (
+      arith,
+      one_before (e.has s first_char) (e.designated first_char),
+      length-append (escape_steps_before e s first_char) others,
+      few_steps e last t (set_for e s first_char),
+    )
 
 -- the bytes of the first step
 abbrev pub first_bytes : List Step → ℕ
@@ -41,17 +47,20 @@ few_in_escape Ascii = omega arith
 few_in_escape Roman = omega arith
 few_in_escape Jis0208 = omega arith
 
-few_in_first : (e : EncoderRule) (s x : CharacterSet) (c : ℕ) (has : Bool) (b : Option (List ℕ)) (ps : List Step) → AreAtMostFour b
+few_in_first : (e : EncoderRule) (s x : CharacterSet) (c : ℕ) (has : Bool) (b : Option (List ℕ)) (ps : List Step)
+    → AreAtMostFour b
     → first_bytes ((if has then [] else escape_step x ∷ []) ++ (char_step e s c b ∷ ps)) ≤ 4
 few_in_first e s x c true None ps h = omega arith
 few_in_first e s x c true (Some b) ps h = h
 few_in_first e s x c false b ps h = few_in_escape x
 
 -- it has four at most
-pub first_few : (e : EncoderRule) → IsLawfulEncoderRule e → (last : Bool) (s : CharacterSet) (t : List ℕ) → first_bytes (steps_of e last s t) ≤ 4
+pub first_few : (e : EncoderRule) → IsLawfulEncoderRule e
+    → (last : Bool) (s : CharacterSet) (t : List ℕ) → first_bytes (steps_of e last s t) ≤ 4
 unfolding steps_of
 first_few e l true s [] = few_at_end s
 first_few e l false s [] = omega arith
 first_few e l last s (c ∷ t) =
-    let d = first_written_char c (e.bytes c) in
-    few_in_first e (set_for e s d) (e.designated d) c (e.has s d) (e.bytes c) (steps_of e last (set_for e s d) t) (l.few c)
+    let first_char = first_written_char c (e.bytes c) in
+    few_in_first e (set_for e s first_char) (e.designated first_char) c (e.has s first_char)
+    (e.bytes c) (steps_of e last (set_for e s first_char) t) (l.few c)

@@ -29,7 +29,9 @@ AreOfReferences [] = Unit {0}
 AreOfReferences (c ∷ t) = IsReferenceCharacter c × AreOfReferences t
 
 glyph : (n : ℕ) → IsReferenceCharacter (digit_glyph false (n % 10))
-glyph n = let e : nat_lt (n % 10) 10 ≡ true = grind (arith, nat_tests) in rw e (inr (inr (inr (omega arith, omega arith))))
+glyph n =
+    let is_digit : nat_lt (n % 10) 10 ≡ true = grind (arith, nat_tests) in
+    rw is_digit (inr (inr (inr (omega arith, omega arith))))
 
 digits_are : (k n : ℕ) (acc : List ℕ) → AreOfReferences acc → AreOfReferences (digits_onto k 10 false n acc)
 digits_are zero n acc of_references = of_references
@@ -58,7 +60,8 @@ forward e s [] = escape_at_end s
 forward e s (c ∷ t) = escape_before e s c ++ (list_or_empty (e.bytes c) ++ forward e (set_for e s c) t)
 
 escaped : (h : Bool) (x : CharacterSet) (ps : List Step)
-    → bytes_with_references ((if h then [] else escape_step x ∷ []) ++ ps) ≡ (if h then [] else escape_sequence x) ++ bytes_with_references ps
+    → bytes_with_references ((if h then [] else escape_step x ∷ []) ++ ps)
+    ≡ (if h then [] else escape_sequence x) ++ bytes_with_references ps
 escaped true x ps = refl
 escaped false x ps = ap (λ t. t ++ bytes_with_references ps) (append-nil (escape_sequence x))
 
@@ -74,7 +77,8 @@ module _ (e : EncoderRule) (lawful : IsLawfulEncoderRule e) where
   text_is_carried s t = carried s [] t ∙ ap (λ x. forward e x t) (lawful.set_after_none s)
 
   -- characters of references are written as they are, in a set that has them
-  plain : (s : CharacterSet) → e.has s 0x26 ≡ true → (x : List ℕ) → AreOfReferences x → (t : List ℕ) → forward e s (x ++ t) ≡ x ++ forward e s t
+  plain : (s : CharacterSet) → e.has s 0x26 ≡ true → (x : List ℕ) → AreOfReferences x → (t : List ℕ)
+      → forward e s (x ++ t) ≡ x ++ forward e s t
   unfolding forward
   plain s has_ampersand [] of_references t = refl
   plain s has_ampersand (c ∷ x) of_references t =
@@ -86,15 +90,21 @@ module _ (e : EncoderRule) (lawful : IsLawfulEncoderRule e) where
   has_then c s false has_is = rw has_is (lawful.designates c)
 
   -- the reference to a character, before any text
-  refers : (s : CharacterSet) (c : ℕ) (t : List ℕ) → forward e s (reference c ++ t) ≡ escape_before e s 0x26 ++ (reference c ++ forward e (set_for e s 0x26) t)
+  refers : (s : CharacterSet) (c : ℕ) (t : List ℕ)
+      → forward e s (reference c ++ t) ≡ escape_before e s 0x26 ++ (reference c ++ forward e (set_for e s 0x26) t)
   unfolding forward
   refers s c t =
       rw (lawful.references 0x26 (inl refl))
-      (ap (λ x. escape_before e s 0x26 ++ (0x26 ∷ x)) (plain (set_for e s 0x26) (has_then 0x26 s (e.has s 0x26) refl) (0x23 ∷ (decimal c ++ 0x3B ∷ [])) (reference_is c) t))
+      (ap (λ x. escape_before e s 0x26 ++ (0x26 ∷ x))
+      (plain (set_for e s 0x26) (has_then 0x26 s (e.has s 0x26) refl)
+      (0x23 ∷ (decimal c ++ 0x3B ∷ [])) (reference_is c) t))
 
   step_is : (s : CharacterSet) (c : ℕ) (t : List ℕ) (b : Option (List ℕ)) → e.bytes c ≡ b
       → ((s : CharacterSet) → bytes_with_references (steps_of e true s t) ≡ forward e s (with_references e t))
-      → (let d = first_written_char c b in bytes_with_references (escape_steps_before e s d ++ (char_step e (set_for e s d) c b ∷ steps_of e true (set_for e s d) t)) ≡ forward e s (with_reference e c b ++ with_references e t))
+      → (let first_char = first_written_char c b in
+      bytes_with_references (escape_steps_before e s first_char
+      ++ (char_step e (set_for e s first_char) c b ∷ steps_of e true (set_for e s first_char) t))
+      ≡ forward e s (with_reference e c b ++ with_references e t))
   unfolding forward
   step_is s c t (Some b) q h =
       escaped (e.has s c) (e.designated c) (char_step e (set_for e s c) c (Some b) ∷ steps_of e true (set_for e s c) t)
@@ -102,7 +112,8 @@ module _ (e : EncoderRule) (lawful : IsLawfulEncoderRule e) where
       ∙ ap (λ x. escape_before e s c ++ (b ++ x)) (h (set_for e s c))
       ∙ ap (λ x. escape_before e s c ++ (list_or_empty x ++ forward e (set_for e s c) (with_references e t))) (sym q)
   step_is s c t None q h =
-      escaped (e.has s 0x26) (e.designated 0x26) (char_step e (set_for e s 0x26) c None ∷ steps_of e true (set_for e s 0x26) t)
+      escaped (e.has s 0x26) (e.designated 0x26)
+      (char_step e (set_for e s 0x26) c None ∷ steps_of e true (set_for e s 0x26) t)
       ∙ ap (λ x. escape_before e s 0x26 ++ (reference (e.reported c) ++ x)) (h (set_for e s 0x26))
       ∙ sym (refers s (e.reported c) (with_references e t))
 
@@ -111,16 +122,19 @@ module _ (e : EncoderRule) (lawful : IsLawfulEncoderRule e) where
   last_is Roman = refl
   last_is Jis0208 = refl
 
-  steps_are_carried : (s : CharacterSet) (t : List ℕ) → bytes_with_references (steps_of e true s t) ≡ forward e s (with_references e t)
+  steps_are_carried : (s : CharacterSet) (t : List ℕ)
+      → bytes_with_references (steps_of e true s t) ≡ forward e s (with_references e t)
   unfolding steps_of forward
   steps_are_carried s [] = last_is s
   steps_are_carried s (c ∷ t) = step_is s c t (e.bytes c) refl (λ x. steps_are_carried x t)
 
   -- the bytes of a text with references in the place of unmappable characters
-  pub steps_are_text : (s : CharacterSet) (t : List ℕ) → bytes_with_references (steps_of e true s t) ≡ bytes_of_text e s (with_references e t)
+  pub steps_are_text : (s : CharacterSet) (t : List ℕ)
+      → bytes_with_references (steps_of e true s t) ≡ bytes_of_text e s (with_references e t)
   steps_are_text s t = steps_are_carried s t ∙ sym (text_is_carried s (with_references e t))
 
-pub bytes_with_references-append : (ps qs : List Step) → bytes_with_references (ps ++ qs) ≡ bytes_with_references ps ++ bytes_with_references qs
+pub bytes_with_references-append : (ps qs : List Step)
+    → bytes_with_references (ps ++ qs) ≡ bytes_with_references ps ++ bytes_with_references qs
 bytes_with_references-append [] qs = refl
 bytes_with_references-append (p ∷ ps) qs =
     ap (λ t. (p.bytes ++ reference_for_report p.report) ++ t) (bytes_with_references-append ps qs)
@@ -139,35 +153,48 @@ unreferred (p ∷ ps) h =
     ∙ ap (λ t. t ++ bytes_with_references ps) (append-nil p.bytes)
     ∙ ap (λ t. p.bytes ++ t) (unreferred ps both.1)
 
-module _ (old new : RawEncoderState) (src rest : List ℕ) (last : Bool) (room : ℕ) (result : EncoderResult) (wrote : List ℕ) where
-  -- the bytes of the steps that a call took
-  pub done_is : (done : List Step) (result : EncoderResult) → wrote ≡ step_bytes done → EncoderStops new rest last room done result → bytes_with_references done ≡ wrote ++ reference_after result
-  done_is done InputEmpty b stops = unreferred done stops.none_reported ∙ sym b ∙ sym (append-nil wrote)
-  done_is done OutputFull b stops = unreferred done stops.none_reported ∙ sym b ∙ sym (append-nil wrote)
-  done_is done (Unmappable c) b stops =
-      let q = stops.report in
-      ap bytes_with_references stops.then_report ∙ bytes_with_references-append stops.before (q ∷ [])
-      ∙ ap (λ t. t ++ ((q.bytes ++ reference_for_report q.report) ++ [])) (unreferred stops.before stops.none_reported)
-      ∙ ap (λ t. step_bytes stops.before ++ t) (append-nil (q.bytes ++ reference_for_report q.report))
-      ∙ ap (λ r. step_bytes stops.before ++ (q.bytes ++ reference_for_report r)) stops.reported
-      ∙ sym (append_assoc (step_bytes stops.before) q.bytes (reference c))
-      ∙ ap (λ t. t ++ reference c) (sym (step_bytes-one stops.before q) ∙ ap step_bytes (sym stops.then_report) ∙ sym b)
+-- the bytes of the steps that a call took, with the reference that its caller writes
+bytes_by_result : (new : RawEncoderState) (rest : List ℕ) (last : Bool) (room : ℕ) (result : EncoderResult)
+    (done : List Step) (wrote : List ℕ) → wrote ≡ step_bytes done → EncoderStops new rest last room done result
+    → bytes_with_references done ≡ wrote ++ reference_after result
+bytes_by_result new rest last room InputEmpty done wrote b stops =
+    unreferred done stops.none_reported ∙ sym b ∙ sym (append-nil wrote)
+bytes_by_result new rest last room OutputFull done wrote b stops =
+    unreferred done stops.none_reported ∙ sym b ∙ sym (append-nil wrote)
+bytes_by_result new rest last room (Unmappable c) done wrote b stops =
+    let report = stops.report in
+    ap bytes_with_references stops.then_report ∙ bytes_with_references-append stops.before (report ∷ [])
+    ∙ ap (λ t. t ++ ((report.bytes ++ reference_for_report report.report) ++ []))
+    (unreferred stops.before stops.none_reported)
+    ∙ ap (λ t. step_bytes stops.before ++ t) (append-nil (report.bytes ++ reference_for_report report.report))
+    ∙ ap (λ r. step_bytes stops.before ++ (report.bytes ++ reference_for_report r)) stops.reported
+    ∙ sym (append_assoc (step_bytes stops.before) report.bytes (reference c))
+    ∙ ap (λ t. t ++ reference c) (sym (step_bytes-one stops.before report) ∙ ap step_bytes (sym stops.then_report)
+    ∙ sym b)
 
-  pub call_keeps_text : IsLawfulEncoderRule old.rule → EncoderCall old new src rest last room result wrote → KeepsText old new src rest last result wrote
-  call_keeps_text lawful call z m =
-      let n : IsLawfulEncoderRule new.rule = subst IsLawfulEncoderRule (sym call.rule) lawful in
+module _ {old new : RawEncoderState} {src rest : List ℕ} {last : Bool} {room : ℕ} {result : EncoderResult}
+    {wrote : List ℕ} (call : EncoderCall old new src rest last room result wrote) where
+  pub done_is : bytes_with_references call.done ≡ wrote ++ reference_after result
+  done_is = bytes_by_result new rest last room result call.done wrote call.bytes call.stops
+
+  pub call_keeps_text : IsLawfulEncoderRule old.rule → KeepsText old new src rest last result wrote
+  call_keeps_text lawful z m =
+      let lawful_after : IsLawfulEncoderRule new.rule = subst IsLawfulEncoderRule (sym call.rule) lawful in
       sym (steps_are_text old.rule lawful old.set (src ++ z))
       ∙ ap bytes_with_references (whatever_follows old new src rest last room result wrote call z m)
       ∙ bytes_with_references-append call.done (steps_from_state new true (rest ++ z))
       ∙ ap (λ t. t ++ bytes_with_references (steps_from_state new true (rest ++ z)))
-      (done_is call.done result call.bytes call.stops)
-      ∙ ap (λ t. (wrote ++ reference_after result) ++ t) (steps_are_text new.rule n new.set (rest ++ z))
-      ∙ append_assoc wrote (reference_after result) (bytes_of_text new.rule new.set (with_references new.rule (rest ++ z)))
+      done_is
+      ∙ ap (λ t. (wrote ++ reference_after result) ++ t) (steps_are_text new.rule lawful_after new.set (rest ++ z))
+      ∙ append_assoc wrote (reference_after result)
+      (bytes_of_text new.rule new.set (with_references new.rule (rest ++ z)))
 
-pub into_keeps_text : (units_of : ℕ → List ℕ) (old new : RawEncoderState) (src rest : List ℕ) (last : Bool) (before after : List ℕ) (result : EncoderResult) (read written : ℕ)
-    → IsLawfulEncoderRule old.rule → EncoderCallInto units_of old new src rest last before after result read written → KeepsText old new src rest last result (take written after)
-into_keeps_text units_of old new src rest last before after result read written l call =
-    let e : take written after ≡ call.wrote =
+pub into_keeps_text : {units_of : ℕ → List ℕ} {old new : RawEncoderState} {src rest : List ℕ} {last : Bool}
+    {before after : List ℕ} {result : EncoderResult} {read written : ℕ} → IsLawfulEncoderRule old.rule
+    → EncoderCallInto units_of old new src rest last before after result read written
+    → KeepsText old new src rest last result (take written after)
+into_keeps_text {old} {new} {src} {rest} {last} {before} {after} {result} {written} lawful call =
+    let written_bytes : take written after ≡ call.wrote =
     rw (call.onto, call.count) (take-append_seam call.wrote (drop (length call.wrote) before)) in
-    subst (λ (x : List ℕ). KeepsText old new src rest last result x) (sym e)
-    (call_keeps_text old new src rest last (length before) result call.wrote l call.call)
+    subst (λ (x : List ℕ). KeepsText old new src rest last result x) (sym written_bytes)
+    (call_keeps_text call.call lawful)

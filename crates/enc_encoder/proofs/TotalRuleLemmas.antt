@@ -26,7 +26,8 @@ escaping_reports_none : (h : Bool) (s : CharacterSet) → any_reported (if h the
 escaping_reports_none true s = refl
 escaping_reports_none false s = refl
 
-char_reports_none : (e : EncoderRule) (s : CharacterSet) (c : ℕ) (b : Option (List ℕ)) → is_some b ≡ true → is_some (char_step e s c b).report ≡ false
+char_reports_none : (e : EncoderRule) (s : CharacterSet) (c : ℕ) (b : Option (List ℕ))
+    → is_some b ≡ true → is_some (char_step e s c b).report ≡ false
 char_reports_none e s c None h = absurd (false≢true h)
 char_reports_none e s c (Some b) h = refl
 
@@ -37,26 +38,29 @@ end_reports_none Jis0208 true = refl
 end_reports_none s false = refl
 
 -- the steps of a text, where no character is unmappable
-none_reported : (e : EncoderRule) → MapsEveryCharacter e → (last : Bool) (s : CharacterSet) (t : List ℕ) → any_reported (steps_of e last s t) ≡ false
+none_reported : (e : EncoderRule) → MapsEveryCharacter e
+    → (last : Bool) (s : CharacterSet) (t : List ℕ) → any_reported (steps_of e last s t) ≡ false
 unfolding steps_of
 none_reported e maps_all last s [] = end_reports_none s last
 none_reported e maps_all last s (c ∷ t) =
-    let d = first_written_char c (e.bytes c) in
-    let s' = set_for e s d in
-    any_reported-append (escape_steps_before e s d) (char_step e s' c (e.bytes c) ∷ steps_of e last s' t)
-    ∙ ap (λ b. b || (is_some (char_step e s' c (e.bytes c)).report || any_reported (steps_of e last s' t))) (escaping_reports_none (e.has s d) (e.designated d))
-    ∙ ap (λ b. b || any_reported (steps_of e last s' t)) (char_reports_none e s' c (e.bytes c) (maps_all c))
-    ∙ none_reported e maps_all last s' t
+    let first_char = first_written_char c (e.bytes c) in
+    let set_now = set_for e s first_char in
+    any_reported-append (escape_steps_before e s first_char)
+    (char_step e set_now c (e.bytes c) ∷ steps_of e last set_now t)
+    ∙ ap (λ b. b || (is_some (char_step e set_now c (e.bytes c)).report || any_reported (steps_of e last set_now t)))
+    (escaping_reports_none (e.has s first_char) (e.designated first_char))
+    ∙ ap (λ b. b || any_reported (steps_of e last set_now t)) (char_reports_none e set_now c (e.bytes c) (maps_all c))
+    ∙ none_reported e maps_all last set_now t
 
-module _ (units_of : ℕ → List ℕ) (old new : RawEncoderState) (src rest : List ℕ) (last : Bool) (before after : List ℕ) (result : EncoderResult) (read written : ℕ)
-    (m : MapsEveryCharacter old.rule)
+module _ {units_of : ℕ → List ℕ} {old new : RawEncoderState} {src rest : List ℕ} {last : Bool}
+    {before after : List ℕ} {result : EncoderResult} {read written : ℕ} (maps_all : MapsEveryCharacter old.rule)
     (call : EncoderCallInto units_of old new src rest last before after result read written) where
   -- nor is a step that a call took
   done_reports_none : any_reported call.call.done ≡ false
   done_reports_none =
       (or_parts (any_reported call.call.done) (any_reported (steps_from_state new last rest))
       (sym (any_reported-append call.call.done (steps_from_state new last rest))
-      ∙ ap any_reported (sym call.call.remaining) ∙ none_reported old.rule m last old.set src)).0
+      ∙ ap any_reported (sym call.call.remaining) ∙ none_reported old.rule maps_all last old.set src)).0
 
   -- the bytes that it wrote
   pub wrote_is : take written after ≡ call.wrote
@@ -66,9 +70,12 @@ module _ (units_of : ℕ → List ℕ) (old new : RawEncoderState) (src rest : L
   pub call_by : (stop : EncoderResult) → StopsInHtmlMode 0 new rest last (length before) call.call.done stop
       → KeepsText old new src rest last stop (take written after)
       → EncoderCallInMode units_of (Html 0) old new src rest last (length before) stop read (take written after) false
-  call_by stop s t =
+  call_by stop stops text =
       let no_report = done_reports_none in
-      let f = call.call.fits in
+      let within = call.call.fits in
+      let steps_fit = all_fit (length before - 0) 0 call.call.done
+      (unreported_before (length before - 0) 0 call.call.done no_report
+      (omega (arith, within, ap length call.call.bytes))) in
       record {
         done = call.call.done;
         reads = call.call.reads;
@@ -76,53 +83,48 @@ module _ (units_of : ℕ → List ℕ) (old new : RawEncoderState) (src rest : L
         rule = call.call.rule;
         set = call.call.set;
         bytes = wrote_is ∙ call.call.bytes ∙ sym (unreferred call.call.done no_report);
-        fits = (
-          all_fit (length before - 0) 0 call.call.done
-              (unreported_before (length before - 0) 0 call.call.done no_report (let b = ap length call.call.bytes in
-              omega (arith, f))),
-          λ h. absurd (omega arith),
-        );
+        fits = (steps_fit, λ h. absurd (omega arith));
         flag = sym no_report;
-        stops = s;
+        stops = stops;
         units = call.units;
-        text = t;
+        text = text;
       }
 
--- no call reports a character
-pub reports_none : (units_of : ℕ → List ℕ) (old new : RawEncoderState) (src rest : List ℕ) (last : Bool) (before after : List ℕ) (c : ℕ) (read written : ℕ)
-    → MapsEveryCharacter old.rule
-    → EncoderCallInto units_of old new src rest last before after (Unmappable c) read written → ⊥
-reports_none units_of old new src rest last before after c read written m call =
-    let stops = call.call.stops in
-    let n = done_reports_none units_of old new src rest last before after (Unmappable c) read written m call in
-    let e : any_reported call.call.done ≡ (any_reported stops.before || true) =
-    ap any_reported stops.then_report ∙ any_reported-append stops.before (stops.report ∷ [])
-    ∙ ap (λ r. any_reported stops.before || (is_some r || false)) stops.reported in
-    false≢true (sym n ∙ e ∙ ap (λ b. b || true) stops.none_reported)
+module _ {units_of : ℕ → List ℕ} {old new : RawEncoderState} {src rest : List ℕ} {last : Bool}
+    {before after : List ℕ} {read written : ℕ} (maps_all : MapsEveryCharacter old.rule) where
+  -- no call reports a character
+  pub reports_none : {c : ℕ}
+      → EncoderCallInto units_of old new src rest last before after (Unmappable c) read written → ⊥
+  reports_none call =
+      let stops = call.call.stops in
+      let no_report = done_reports_none maps_all call in
+      let one_report : any_reported call.call.done ≡ (any_reported stops.before || true) =
+      ap any_reported stops.then_report ∙ any_reported-append stops.before (stops.report ∷ [])
+      ∙ ap (λ r. any_reported stops.before || (is_some r || false)) stops.reported in
+      false≢true (sym no_report ∙ one_report ∙ ap (λ b. b || true) stops.none_reported)
 
--- all is read
-pub all_read : (units_of : ℕ → List ℕ) (old new : RawEncoderState) (src rest : List ℕ) (last : Bool) (before after : List ℕ) (read written : ℕ)
-    → MapsEveryCharacter old.rule → EncoderCallInto units_of old new src rest last before after InputEmpty read written → KeepsText old new src rest last InputEmpty (take written after)
-    → EncoderCallInMode units_of (Html 0) old new src rest last (length before) InputEmpty read (take written after)
-    false
-all_read units_of old new src rest last before after read written m call t =
-    let stops = call.call.stops in
-    call_by units_of old new src rest last before after InputEmpty read written m call InputEmpty
-    (none_left new rest last stops.all_read stops.ended) t
+  -- all is read
+  pub all_read : EncoderCallInto units_of old new src rest last before after InputEmpty read written
+      → KeepsText old new src rest last InputEmpty (take written after)
+      → EncoderCallInMode units_of (Html 0) old new src rest last (length before) InputEmpty read (take written after)
+      false
+  all_read call text =
+      let stops = call.call.stops in
+      call_by maps_all call InputEmpty (none_left new rest last stops.all_read stops.ended) text
 
--- the bytes of the next step don't fit
-pub full : (units_of : ℕ → List ℕ) (old new : RawEncoderState) (src rest : List ℕ) (last : Bool) (before after : List ℕ) (read written : ℕ)
-    → MapsEveryCharacter old.rule → EncoderCallInto units_of old new src rest last before after OutputFull read written → KeepsText old new src rest last OutputFull (take written after)
-    → EncoderCallInMode units_of (Html 0) old new src rest last (length before) OutputFull read (take written after)
-    false
-full units_of old new src rest last before after read written m call t =
-    let stops = call.call.stops in
-    let e = ap length (unreferred call.call.done stops.none_reported) in
-    call_by units_of old new src rest last before after OutputFull read written m call OutputFull
-    (inl (record {
-      next = stops.next;
-      others = stops.others;
-      comes = stops.comes;
-      not_report = stops.not_report;
-      full = (let f = stops.full in omega (arith, f, e));
-    })) t
+  -- the bytes of the next step don't fit
+  pub full : EncoderCallInto units_of old new src rest last before after OutputFull read written
+      → KeepsText old new src rest last OutputFull (take written after)
+      → EncoderCallInMode units_of (Html 0) old new src rest last (length before) OutputFull read (take written after)
+      false
+  full call text =
+      let stops = call.call.stops in
+      let same_bytes = ap length (unreferred call.call.done stops.none_reported) in
+      call_by maps_all call OutputFull
+      (inl (record {
+        next = stops.next;
+        others = stops.others;
+        comes = stops.comes;
+        not_report = stops.not_report;
+        full = omega (arith, stops.full, same_bytes);
+      })) text

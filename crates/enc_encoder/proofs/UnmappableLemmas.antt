@@ -21,12 +21,14 @@ reports_in (p ∷ ps) = reports_by p.report ++ reports_in ps
 pub reports_in-append : (ps qs : List Step) → reports_in (ps ++ qs) ≡ reports_in ps ++ reports_in qs
 reports_in-append [] qs = refl
 reports_in-append (p ∷ ps) qs =
-    ap (λ t. reports_by p.report ++ t) (reports_in-append ps qs) ∙ sym (append_assoc (reports_by p.report) (reports_in ps) (reports_in qs))
+    ap (λ t. reports_by p.report ++ t) (reports_in-append ps qs)
+    ∙ sym (append_assoc (reports_by p.report) (reports_in ps) (reports_in qs))
 
 pub reports_of-append : (e : EncoderRule) (a b : List ℕ) → reports_of e (a ++ b) ≡ reports_of e a ++ reports_of e b
 reports_of-append e [] b = refl
 reports_of-append e (c ∷ a) b =
-    ap (λ t. report_for e c (e.bytes c) ++ t) (reports_of-append e a b) ∙ sym (append_assoc (report_for e c (e.bytes c)) (reports_of e a) (reports_of e b))
+    ap (λ t. report_for e c (e.bytes c) ++ t) (reports_of-append e a b)
+    ∙ sym (append_assoc (report_for e c (e.bytes c)) (reports_of e a) (reports_of e b))
 
 none_escaping : (b : Bool) (s : CharacterSet) → reports_in (if b then [] else escape_step s ∷ []) ≡ []
 none_escaping true s = refl
@@ -38,28 +40,36 @@ none_at_end true Ascii = refl
 none_at_end true Roman = refl
 none_at_end true Jis0208 = refl
 
-one_reported : (e : EncoderRule) (s : CharacterSet) (c : ℕ) (b : Option (List ℕ)) → reports_by (char_step e s c b).report ≡ report_for e c b
+one_reported : (e : EncoderRule) (s : CharacterSet) (c : ℕ) (b : Option (List ℕ))
+    → reports_by (char_step e s c b).report ≡ report_for e c b
 one_reported e s c None = refl
 one_reported e s c (Some b) = refl
 
-steps_report : (e : EncoderRule) (last : Bool) (s : CharacterSet) (t : List ℕ) → reports_in (steps_of e last s t) ≡ reports_of e t
+steps_report : (e : EncoderRule) (last : Bool) (s : CharacterSet) (t : List ℕ)
+    → reports_in (steps_of e last s t) ≡ reports_of e t
 unfolding steps_of
 steps_report e last s [] = none_at_end last s
 steps_report e last s (c ∷ t) =
-    let d = first_written_char c (e.bytes c) in
-    let others = char_step e (set_for e s d) c (e.bytes c) ∷ steps_of e last (set_for e s d) t in
-    reports_in-append (escape_steps_before e s d) others ∙ ap (λ x. x ++ reports_in others) (none_escaping (e.has s d) (e.designated d))
-    ∙ ap (λ x. x ++ reports_in (steps_of e last (set_for e s d) t)) (one_reported e (set_for e s d) c (e.bytes c))
-    ∙ ap (λ x. report_for e c (e.bytes c) ++ x) (steps_report e last (set_for e s d) t)
+    let first_char = first_written_char c (e.bytes c) in
+    let others = char_step e (set_for e s first_char) c (e.bytes c) ∷ steps_of e last (set_for e s first_char) t in
+    reports_in-append (escape_steps_before e s first_char) others
+    ∙ ap (λ x. x ++ reports_in others)
+    (none_escaping (e.has s first_char) (e.designated first_char))
+    ∙ ap (λ x. x ++ reports_in (steps_of e last (set_for e s first_char) t))
+    (one_reported e (set_for e s first_char) c (e.bytes c))
+    ∙ ap (λ x. report_for e c (e.bytes c) ++ x) (steps_report e last (set_for e s first_char) t)
 
-module _ (old new : RawEncoderState) (src rest : List ℕ) (last : Bool) (done : List Step) (reads : src ≡ step_chars done ++ rest) (rule : new.rule ≡ old.rule)
+module _ (old new : RawEncoderState) (src rest : List ℕ) (last : Bool) (done : List Step)
+    (reads : src ≡ step_chars done ++ rest) (rule : new.rule ≡ old.rule)
     (remaining : steps_from_state old last src ≡ done ++ steps_from_state new last rest) where
   -- of steps that a call took
   pub reports_are : reports_in done ≡ reports_of old.rule (step_chars done)
   reports_are =
       append_cancel_right (reports_in done) (reports_of old.rule (step_chars done)) (reports_of old.rule rest)
-      (ap (λ t. reports_in done ++ t) (ap (λ e. reports_of e rest) (sym rule) ∙ sym (steps_report new.rule last new.set rest))
-      ∙ sym (reports_in-append done (steps_from_state new last rest)) ∙ ap reports_in (sym remaining) ∙ steps_report old.rule last old.set src
+      (ap (λ t. reports_in done ++ t)
+      (ap (λ e. reports_of e rest) (sym rule) ∙ sym (steps_report new.rule last new.set rest))
+      ∙ sym (reports_in-append done (steps_from_state new last rest))
+      ∙ ap reports_in (sym remaining) ∙ steps_report old.rule last old.set src
       ∙ ap (reports_of old.rule) reads ∙ reports_of-append old.rule (step_chars done) rest)
 
 -- whether there is one
@@ -76,7 +86,8 @@ any_in : (ps : List Step) → any_reported ps ≡ some_in (reports_in ps)
 any_in [] = refl
 any_in (p ∷ ps) = any_by p.report (reports_in ps) (any_reported ps) (any_in ps)
 
-any_of_one : (e : EncoderRule) (c : ℕ) (b : Option (List ℕ)) (t : List ℕ) (x : Bool) → x ≡ some_in t → (not (is_some b) || x) ≡ some_in (report_for e c b ++ t)
+any_of_one : (e : EncoderRule) (c : ℕ) (b : Option (List ℕ)) (t : List ℕ) (x : Bool) → x ≡ some_in t
+    → (not (is_some b) || x) ≡ some_in (report_for e c b ++ t)
 any_of_one e c None t x h = refl
 any_of_one e c (Some b) t x h = h
 
@@ -84,16 +95,20 @@ any_of : (e : EncoderRule) (t : List ℕ) → any_unmappable e t ≡ some_in (re
 any_of e [] = refl
 any_of e (c ∷ t) = any_of_one e c (e.bytes c) (reports_of e t) (any_unmappable e t) (any_of e t)
 
-module _ (old new : RawEncoderState) (src rest : List ℕ) (last : Bool) (done : List Step) (reads : src ≡ step_chars done ++ rest) (rule : new.rule ≡ old.rule)
+module _ (old new : RawEncoderState) (src rest : List ℕ) (last : Bool) (done : List Step)
+    (reads : src ≡ step_chars done ++ rest) (rule : new.rule ≡ old.rule)
     (remaining : steps_from_state old last src ≡ done ++ steps_from_state new last rest) where
   pub any_reported_is : any_reported done ≡ any_unmappable old.rule (step_chars done)
   any_reported_is =
-      any_in done ∙ ap some_in (reports_are old new src rest last done reads rule remaining) ∙ sym (any_of old.rule (step_chars done))
+      any_in done ∙ ap some_in (reports_are old new src rest last done reads rule remaining)
+      ∙ sym (any_of old.rule (step_chars done))
 
 or_assoc : (a b c : Bool) → ((a || b) || c) ≡ (a || (b || c))
 or_assoc a b c = elim a as (λ a. ((a || b) || c) ≡ (a || (b || c))) [ true ↦ refl | false ↦ refl ]
 
-pub any_unmappable-append : (e : EncoderRule) (a b : List ℕ) → any_unmappable e (a ++ b) ≡ (any_unmappable e a || any_unmappable e b)
+pub any_unmappable-append : (e : EncoderRule) (a b : List ℕ)
+    → any_unmappable e (a ++ b) ≡ (any_unmappable e a || any_unmappable e b)
 any_unmappable-append e [] b = refl
 any_unmappable-append e (c ∷ a) b =
-    ap (λ x. not (is_some (e.bytes c)) || x) (any_unmappable-append e a b) ∙ sym (or_assoc (not (is_some (e.bytes c))) (any_unmappable e a) (any_unmappable e b))
+    ap (λ x. not (is_some (e.bytes c)) || x) (any_unmappable-append e a b)
+    ∙ sym (or_assoc (not (is_some (e.bytes c))) (any_unmappable e a) (any_unmappable e b))

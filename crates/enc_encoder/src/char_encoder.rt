@@ -20,7 +20,8 @@ pub trait CharEncoder: Copy {
     #[inline(always)]
     fn write_run<C: Chars>(self, src: &mut C, dst: &mut [u8], from: usize) -> usize
         requires { from ≤ length dst.old }
-        ensures { WritesRun (state self) (C.rest src.old) (C.rest src.new) dst.old dst.new from result }
+        ensures { WritesRun (state self) (C.rest src.old) (C.rest src.new) dst.old dst.new from
+            result }
     {
         let _encoder = self;
         let _source = src;

@@ -19,7 +19,8 @@ pub fn encode_reporting<E: RawEncoder, C: Chars>(
 ) -> (EncoderResult, usize, usize)
     ensures within { result.2 ≤ length dst.old }
     ensures rest { drop result.2 dst.new ≡ drop result.2 dst.old }
-    ensures call { EncoderCallInMode C.units_of Fatal (E.state encoder.old) (E.state encoder.new) (C.rest src.old) (C.rest src.new) last
+    ensures call { EncoderCallInMode C.units_of Fatal
+        (E.state encoder.old) (E.state encoder.new) (C.rest src.old) (C.rest src.new) last
         (length dst.old) result.0 result.1 (take result.2 dst.new) false }
 {
     encoder.encode(src, dst, last)
@@ -40,7 +41,8 @@ pub fn encode_mappable<E: RawEncoder, C: Chars>(
     requires { MapsEveryCharacter (E.state encoder.old).rule }
     ensures within { result.2 ≤ length dst.old }
     ensures rest { drop result.2 dst.new ≡ drop result.2 dst.old }
-    ensures call { EncoderCallInMode C.units_of (Html 0) (E.state encoder.old) (E.state encoder.new) (C.rest src.old) (C.rest src.new) last
+    ensures call { EncoderCallInMode C.units_of (Html 0)
+        (E.state encoder.old) (E.state encoder.new) (C.rest src.old) (C.rest src.new) last
         (length dst.old) (encoder_result_of result.0) result.1 (take result.2 dst.new) false }
 {
     let (result, read, written) = encoder.encode(src, dst, last);

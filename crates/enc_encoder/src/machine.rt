@@ -1,6 +1,7 @@
 //! The loop over the characters of a call, for every encoder and every input.
 
-ghost use Rattle.std.specs.Prelude.{◌≡◌, ℕ, ◌+◌, ◌-◌, ◌<◌, ◌≤◌, ◌++◌, length, take, drop, IsTrue, IsFalse};
+ghost use Rattle.std.specs.Prelude.{◌≡◌, ℕ, ◌+◌, ◌-◌, ◌<◌, ◌≤◌, ◌++◌, length, take, drop};
+ghost use Rattle.std.specs.Prelude.{IsTrue, IsFalse};
 ghost use Rattle.enc_units.specs.Bytes.{byte_list};
 ghost use Rattle.enc_encoder.specs.CharLaw.{HandlesCharacter, IsStepAtEnd, IsNextStepOfCall};
 ghost use Rattle.enc_encoder.specs.Call.{EncoderCallInto};
@@ -55,7 +56,8 @@ fn put(dst: &mut [u8], written: usize, bytes: Bytes) -> bool
     ensures count { bytes.len ≡ length (byte_list bytes) }
     ensures fits { IsTrue result → written + length (byte_list bytes) ≤ length dst.old }
     ensures full { IsFalse result → length dst.old < written + length (byte_list bytes) }
-    ensures put { IsTrue result → dst.new ≡ take written dst.old ++ (byte_list bytes ++ drop (written + length (byte_list bytes)) dst.old) }
+    ensures put { IsTrue result → dst.new ≡ take written dst.old
+        ++ (byte_list bytes ++ drop (written + length (byte_list bytes)) dst.old) }
     ensures unchanged { IsFalse result → dst.new ≡ dst.old }
 {
     if bytes.len > dst.len() - written {
@@ -76,12 +78,15 @@ pub fn run<E: CharEncoder, C: Chars>(
     last: bool,
 ) -> (EncoderResult, usize, usize)
     requires lawful { IsLawfulEncoderRule (E.state encoder.old).rule }
-    ensures call { EncoderCallInto C.units_of (E.state encoder.old) (E.state encoder.new) (C.rest src.old) (C.rest src.new) last
+    ensures call { EncoderCallInto C.units_of
+        (E.state encoder.old) (E.state encoder.new) (C.rest src.old) (C.rest src.new) last
         dst.old dst.new result.0 result.1 result.2 }
-    ensures text { KeepsText (E.state encoder.old) (E.state encoder.new) (C.rest src.old) (C.rest src.new) last result.0
-        (take result.2 dst.new) }
-    ensures need { MeetsEncodeNeed (E.state encoder.old) (E.state encoder.new) (C.rest src.old) (C.rest src.new) last (length dst.old)
-        result.0 result.2 }
+    ensures text { KeepsText
+        (E.state encoder.old) (E.state encoder.new) (C.rest src.old) (C.rest src.new) last
+        result.0 (take result.2 dst.new) }
+    ensures need { MeetsEncodeNeed
+        (E.state encoder.old) (E.state encoder.new) (C.rest src.old) (C.rest src.new) last
+        (length dst.old) result.0 result.2 }
 {
     let unread = src.unread();
     let mut state = *encoder;

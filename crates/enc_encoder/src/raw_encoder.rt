@@ -1,7 +1,8 @@
 //! The contract of every encoder.
 
 ghost use Rattle.std.specs.Prelude.{◌≡◌, length, take};
-ghost use Rattle.enc_encoder.specs.EncoderRule.{RawEncoderState, IsLawfulEncoderRule, is_escape_due};
+ghost use Rattle.enc_encoder.specs.EncoderRule.{RawEncoderState, IsLawfulEncoderRule};
+ghost use Rattle.enc_encoder.specs.EncoderRule.{is_escape_due};
 ghost use Rattle.enc_encoder.specs.Call.{EncoderCallInto};
 ghost use Rattle.enc_encoder.specs.Text.{KeepsText};
 ghost use Rattle.enc_encoder.specs.Need.{MeetsEncodeNeed, AreEnoughForEncoder};
@@ -37,12 +38,15 @@ pub trait RawEncoder {
         dst: &mut [u8],
         last: bool,
     ) -> (EncoderResult, usize, usize)
-        ensures call { EncoderCallInto C.units_of (state self.old) (state self.new) (C.rest src.old) (C.rest src.new) last
+        ensures call { EncoderCallInto C.units_of
+            (state self.old) (state self.new) (C.rest src.old) (C.rest src.new) last
             dst.old dst.new result.0 result.1 result.2 }
-        ensures text { KeepsText (state self.old) (state self.new) (C.rest src.old) (C.rest src.new) last result.0
-            (take result.2 dst.new) }
-        ensures need { MeetsEncodeNeed (state self.old) (state self.new) (C.rest src.old) (C.rest src.new) last (length dst.old)
-            result.0 result.2 }
+        ensures text { KeepsText
+            (state self.old) (state self.new) (C.rest src.old) (C.rest src.new) last
+            result.0 (take result.2 dst.new) }
+        ensures need { MeetsEncodeNeed
+            (state self.old) (state self.new) (C.rest src.old) (C.rest src.new) last
+            (length dst.old) result.0 result.2 }
         ensures lawful { IsLawfulEncoderRule (state self.old).rule }
         ensures formulas { formulas self.new ≡ formulas self.old };
 

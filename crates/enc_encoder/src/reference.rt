@@ -32,7 +32,8 @@ pub fn put_reference(c: char, dst: &mut [u8], written: usize) -> usize
     requires { written + 10 ≤ length dst.old }
     ensures len { result ≡ length (reference_to c) }
     ensures bound { result ≤ 10 }
-    ensures onto { dst.new ≡ take written dst.old ++ (reference_to c ++ drop (written + result) dst.old) }
+    ensures onto { dst.new ≡ take written dst.old
+        ++ (reference_to c ++ drop (written + result) dst.old) }
 {
     let mut bytes = [0u8; LONGEST_REFERENCE];
     let from = write_at_end(c, &mut bytes);

@@ -38,7 +38,8 @@ fn encode_after<E: RawEncoder, C: Chars>(
 ) -> (EncoderResult, usize)
     requires below { written ≤ limit }
     requires within { limit ≤ length dst.old }
-    ensures { EncodesAfter (E.state encoder.old) (E.state encoder.new) (C.rest src.old) (C.rest src.new) last
+    ensures { EncodesAfter
+        (E.state encoder.old) (E.state encoder.new) (C.rest src.old) (C.rest src.new) last
         (limit - written) written dst.old dst.new result.0 result.1 }
 {
     let (result, _, wrote) = encoder.encode(src, &mut dst[written..limit], last);
@@ -61,7 +62,8 @@ pub fn encode_replacing<E: RawEncoder, C: Chars>(
 ) -> (CoderResult, usize, usize, bool)
     ensures within { result.2 ≤ length dst.old }
     ensures rest { drop result.2 dst.new ≡ drop result.2 dst.old }
-    ensures call { EncoderCallInMode C.units_of (Html 10) (E.state encoder.old) (E.state encoder.new) (C.rest src.old) (C.rest src.new) last
+    ensures call { EncoderCallInMode C.units_of (Html 10)
+        (E.state encoder.old) (E.state encoder.new) (C.rest src.old) (C.rest src.new) last
         (length dst.old) (encoder_result_of result.0) result.1 (take result.2 dst.new) result.3 }
 {
     if dst.len() < LONGEST_REFERENCE {

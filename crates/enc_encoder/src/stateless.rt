@@ -116,7 +116,8 @@ impl<R: Repertoire> RawEncoder for StatelessEncoder<Barring<R>> {
     ghost use Rattle.enc_encoder.specs.Stateless.{stateless_state};
     ghost use Rattle.enc_encoder.specs.Barring.{bytes_unless_barred};
 
-    ghost state = { λ e. stateless_state (bytes_unless_barred e.repertoire.barred.now (R.bytes_for e.repertoire.repertoire)) };
+    ghost state = { λ e. stateless_state
+        (bytes_unless_barred e.repertoire.barred.now (R.bytes_for e.repertoire.repertoire)) };
 
     ghost formulas = { λ e. R.lengths e.repertoire.repertoire };
 

@@ -2,7 +2,8 @@
 
 ghost use Rattle.std.specs.Prelude.{◌≡◌, ℕ, List, Option};
 ghost use Rattle.enc_units.specs.Bytes.{byte_list as bytes_in};
-ghost use Rattle.enc_encoder.specs.CharLaw.{bytes_or_empty, AreBytesOf, char_transition, escape_transition};
+ghost use Rattle.enc_encoder.specs.CharLaw.{bytes_or_empty, AreBytesOf};
+ghost use Rattle.enc_encoder.specs.CharLaw.{char_transition, escape_transition};
 ghost use Rattle.enc_encoder.specs.Text.{escape_sequence as escape_bytes};
 ghost use Rattle.enc_encoder.specs.Steps.{first_written_char as wanted_first};
 
@@ -50,7 +51,8 @@ pub fn take_escape<E>(next: E, set: CharacterSet) -> Transition<E>
 /// Returns the first character that is written for a character: itself, or that of its reference.
 #[inline(always)]
 pub fn first_written_char(c: char, found: Option<Bytes>) -> char
-    ensures { (wanted : Option (List ℕ)) → AreBytesOf wanted found → result ≡ wanted_first c wanted }
+    ensures { (wanted : Option (List ℕ)) → AreBytesOf wanted found
+        → result ≡ wanted_first c wanted }
 {
     match found {
         Some(_) => c,

@@ -15,14 +15,16 @@ not_barred : (t : Bool) (x : Option (List ℕ)) → is_some (if t then None else
 not_barred true x h = cc
 not_barred false x h = refl
 
-same_bytes : (b : List ℕ) (bytes : ℕ → Option (List ℕ)) (c : ℕ) → is_some (bytes_unless_barred b bytes c) ≡ true → bytes_unless_barred b bytes c ≡ bytes c
+same_bytes : (b : List ℕ) (bytes : ℕ → Option (List ℕ)) (c : ℕ)
+    → is_some (bytes_unless_barred b bytes c) ≡ true → bytes_unless_barred b bytes c ≡ bytes c
 same_bytes b bytes c h = not_barred (is_barred b c) (bytes c) h
 
 found : (t : Bool) (x : Option (List ℕ)) (b : List ℕ) → (if t then None else x) ≡ Some b → x ≡ Some b
 found true x b e = cc
 found false x b e = e
 
-pub except_is_read : (b : List ℕ) (rule : Rule) (bytes : ℕ → Option (List ℕ)) (back : ℕ → ℕ) → IsReadBack rule bytes back → IsReadBack rule (bytes_unless_barred b bytes) back
+pub except_is_read : (b : List ℕ) (rule : Rule) (bytes : ℕ → Option (List ℕ)) (back : ℕ → ℕ)
+    → IsReadBack rule bytes back → IsReadBack rule (bytes_unless_barred b bytes) back
 except_is_read b rule bytes back h = record { each = λ c s x e. h.each c s x (found (is_barred b c) (bytes c) x e) }
 
 -- and so has a text

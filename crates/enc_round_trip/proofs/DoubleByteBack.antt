@@ -26,10 +26,12 @@ pub within : (low high b : ℕ) → low ≤ b → b ≤ high → (nat_le low b &
 within low high b l h = and_from _ _ (le-leb low b l) (le-leb b high h)
 
 module _ (is_lead : ℕ → Bool) (single : ℕ → Option ℕ) (pair : ℕ → ℕ → Option Text) where
-  pub single_piece : (b c : ℕ) → is_lead b ≡ false → single b ≡ Some c → IsWholeChar (multi_byte_rule (double_byte_prefix is_lead single pair)) 0 (b ∷ []) c
+  pub single_piece : (b c : ℕ) → is_lead b ≡ false → single b ≡ Some c
+      → IsWholeChar (multi_byte_rule (double_byte_prefix is_lead single pair)) 0 (b ∷ []) c
   single_piece b c l e = complete_one _ b c (ap (λ t. first_prefix t (single b)) l ∙ ap single_prefix e)
 
-  pub pair_piece : (a b c : ℕ) → is_lead a ≡ true → pair a b ≡ Some (One c) → IsWholeChar (multi_byte_rule (double_byte_prefix is_lead single pair)) 0 (a ∷ b ∷ []) c
+  pub pair_piece : (a b c : ℕ) → is_lead a ≡ true → pair a b ≡ Some (One c)
+      → IsWholeChar (multi_byte_rule (double_byte_prefix is_lead single pair)) 0 (a ∷ b ∷ []) c
   pair_piece a b c l e = complete_two _ a b c (ap (λ t. first_prefix t (single a)) l) (ap (trail_prefix 1 b) e)
 
 -- the lead and the trail that a pointer has make the pair of its character
@@ -38,9 +40,12 @@ pub record IsPair (is_lead : ℕ → Bool) (pair : ℕ → ℕ → Option Text) 
   pub has : pair lead trail ≡ Some (One c)
 
 -- if no ASCII byte leads, and all other characters have pointers
-pub by_pairs : (is_lead : ℕ → Bool) (pair : ℕ → ℕ → Option Text) (lead trail : ℕ → ℕ) (pointer : ℕ → Option ℕ) → ((b : ℕ) → b < 0x80 → is_lead b ≡ false)
+pub by_pairs : (is_lead : ℕ → Bool) (pair : ℕ → ℕ → Option Text) (lead trail : ℕ → ℕ) (pointer : ℕ → Option ℕ)
+    → ((b : ℕ) → b < 0x80 → is_lead b ≡ false)
     → ((c p : ℕ) → pointer c ≡ Some p → IsPair is_lead pair (lead p) (trail p) c)
-    → IsReadBack (multi_byte_rule (double_byte_prefix is_lead (λ b. if nat_lt b 0x80 then Some b else None) pair)) (with_ascii (λ c. bytes_of_pointer (λ p. lead p ∷ trail p ∷ []) (pointer c))) (λ c. c)
+    → IsReadBack
+    (multi_byte_rule (double_byte_prefix is_lead (λ b. if nat_lt b 0x80 then Some b else None) pair))
+    (with_ascii (λ c. bytes_of_pointer (λ p. lead p ∷ trail p ∷ []) (pointer c))) (λ c. c)
 by_pairs is_lead pair lead trail pointer alone pairs =
     let single : ℕ → Option ℕ = λ b. if nat_lt b 0x80 then Some b else None in
     let rule = multi_byte_rule (double_byte_prefix is_lead single pair) in
@@ -55,16 +60,18 @@ by_pairs is_lead pair lead trail pointer alone pairs =
 euc_kr_pointer_is : (p : ℕ) → euc_kr.euc_kr_pair_pointer (p / 190 + 0x81) (p % 190 + 0x41) ≡ p
 euc_kr_pointer_is p = omega arith
 
-euc_kr_pair : (c p : ℕ) → IsPointer euc_kr_at any_pointer 23940 c p → IsPair euc_kr.is_euc_kr_lead euc_kr.euc_kr_pair_text (p / 190 + 0x81) (p % 190 + 0x41) c
+euc_kr_pair : (c p : ℕ) → IsPointer euc_kr_at any_pointer 23940 c p
+    → IsPair euc_kr.is_euc_kr_lead euc_kr.euc_kr_pair_text (p / 190 + 0x81) (p % 190 + 0x41) c
 euc_kr_pair c p has_pointer =
-    let l = has_pointer.below in record {
+    let below = has_pointer.below in record {
       leads = within 0x81 0xFE (p / 190 + 0x81) (omega arith) (omega arith);
       has =
           ap text_of_char (cond-true _ _ _ (within 0x41 0xFE (p % 190 + 0x41) (omega arith) (omega arith))
           ∙ ap euc_kr_at (euc_kr_pointer_is p) ∙ has_pointer.has);
     }
 
-by_euc_kr_pointer : (c p : ℕ) → euc_kr_pointer c ≡ Some p → IsPair euc_kr.is_euc_kr_lead euc_kr.euc_kr_pair_text (p / 190 + 0x81) (p % 190 + 0x41) c
+by_euc_kr_pointer : (c p : ℕ) → euc_kr_pointer c ≡ Some p
+    → IsPair euc_kr.is_euc_kr_lead euc_kr.euc_kr_pair_text (p / 190 + 0x81) (p % 190 + 0x41) c
 unfolding euc_kr_pointer
 by_euc_kr_pointer c p e = euc_kr_pair c p (is_pointer euc_kr_at any_pointer no_character 23940 c p e)
 
@@ -90,21 +97,24 @@ big5_pointer_is p = omega (arith, cell_of (p % 157) (omega arith))
 -- no pointer that counts is one of the four that have two characters
 text_at : (p : ℕ) (o : Option ℕ) → is_big5_pointer p ≡ true → big5_at p ≡ o → big5.big5_pointer_text p ≡ text_of_char o
 text_at p o h e =
-    let a : (p == 1133) ≡ false = grind (arith, nat_tests) in
-    let b : (p == 1135) ≡ false = grind (arith, nat_tests) in
-    let c : (p == 1164) ≡ false = grind (arith, nat_tests) in
-    let d : (p == 1166) ≡ false = grind (arith, nat_tests) in
-    cond-false _ _ _ a ∙ cond-false _ _ _ b ∙ cond-false _ _ _ c ∙ cond-false _ _ _ d ∙ ap text_of_char e
+    let not_1133 : (p == 1133) ≡ false = grind (arith, nat_tests) in
+    let not_1135 : (p == 1135) ≡ false = grind (arith, nat_tests) in
+    let not_1164 : (p == 1164) ≡ false = grind (arith, nat_tests) in
+    let not_1166 : (p == 1166) ≡ false = grind (arith, nat_tests) in
+    cond-false _ _ _ not_1133 ∙ cond-false _ _ _ not_1135 ∙ cond-false _ _ _ not_1164
+    ∙ cond-false _ _ _ not_1166 ∙ ap text_of_char e
 
-big5_pair : (c p : ℕ) → IsPointer big5_at is_big5_pointer 19782 c p → IsPair big5.is_big5_lead big5.big5_pair_text (p / 157 + 0x81) (big5_trail_byte (p % 157)) c
+big5_pair : (c p : ℕ) → IsPointer big5_at is_big5_pointer 19782 c p
+    → IsPair big5.is_big5_lead big5.big5_pair_text (p / 157 + 0x81) (big5_trail_byte (p % 157)) c
 big5_pair c p has_pointer =
-    let l = has_pointer.below in record {
+    let below = has_pointer.below in record {
       leads = within 0x81 0xFE (p / 157 + 0x81) (omega arith) (omega arith);
       has = cond-true _ _ _ (is_trail (p % 157) (omega arith)) ∙ ap big5.big5_pointer_text (big5_pointer_is p)
           ∙ text_at p (Some c) has_pointer.counted has_pointer.has;
     }
 
-by_big5_pointer : (c p : ℕ) → big5_pointer c ≡ Some p → IsPair big5.is_big5_lead big5.big5_pair_text (p / 157 + 0x81) (big5_trail_byte (p % 157)) c
+by_big5_pointer : (c p : ℕ) → big5_pointer c ≡ Some p
+    → IsPair big5.is_big5_lead big5.big5_pair_text (p / 157 + 0x81) (big5_trail_byte (p % 157)) c
 unfolding big5_pointer
 by_big5_pointer c p e = big5_pair c p (is_pointer big5_at is_big5_pointer is_last_in_big5 19782 c p e)
 

@@ -29,9 +29,10 @@ Piece b c = IsWholeChar (multi_byte_rule decoder.gb18030_prefix) 0 b c
 
 low_piece : (b : ℕ) → b < 0x80 → Piece (b ∷ []) b
 low_piece b l =
-    let n : decoder.is_gb18030_lead b ≡ false = grind (arith, nat_tests) in
+    let no_lead : decoder.is_gb18030_lead b ≡ false = grind (arith, nat_tests) in
     complete_one decoder.gb18030_prefix b b
-    (ap (λ t. first_prefix t (decoder.gb18030_single_char b)) n ∙ ap single_prefix (cond-true _ _ _ (lt-ltb b 0x80 l)))
+    (ap (λ t. first_prefix t (decoder.gb18030_single_char b)) no_lead
+    ∙ ap single_prefix (cond-true _ _ _ (lt-ltb b 0x80 l)))
 
 euro_piece : Piece (0x80 ∷ []) 0x20AC
 euro_piece = complete_one decoder.gb18030_prefix 0x80 0x20AC refl
@@ -47,13 +48,15 @@ is_trail cell l = grind (arith, nat_tests)
 no_digit : (cell : ℕ) → cell < 190 → decoder.is_digit (gb18030_trail_byte cell) ≡ false
 no_digit cell l = grind (arith, nat_tests)
 
-cell_of : (cell : ℕ) → cell < 190 → gb18030_trail_byte cell - (if nat_lt (gb18030_trail_byte cell) 0x7F then 0x40 else 0x41) ≡ cell
+cell_of : (cell : ℕ) → cell < 190
+    → gb18030_trail_byte cell - (if nat_lt (gb18030_trail_byte cell) 0x7F then 0x40 else 0x41) ≡ cell
 cell_of cell l = grind (arith, nat_tests)
 
 two_pointer : (p : ℕ) → decoder.gb18030_pair_pointer (p / 190 + 0x81) (gb18030_trail_byte (p % 190)) ≡ p
 two_pointer p = omega (arith, cell_of (p % 190) (omega arith))
 
-two_read : (c p : ℕ) → IsPointer gb18030_at any_pointer 23940 c p → decoder.gb18030_prefix (gb18030_pair_bytes p) ≡ Complete (One c)
+two_read : (c p : ℕ) → IsPointer gb18030_at any_pointer 23940 c p
+    → decoder.gb18030_prefix (gb18030_pair_bytes p) ≡ Complete (One c)
 two_read c p h =
     let cell : p % 190 < 190 = omega arith in
     cond-false _ _ _ (no_digit (p % 190) cell)
@@ -62,7 +65,7 @@ two_read c p h =
 
 two_piece : (c p : ℕ) → IsPointer gb18030_at any_pointer 23940 c p → Piece (gb18030_pair_bytes p) c
 two_piece c p has_pointer =
-    let l = has_pointer.below in
+    let below = has_pointer.below in
     complete_two decoder.gb18030_prefix (p / 190 + 0x81) (gb18030_trail_byte (p % 190)) c
     (leads (p / 190 + 0x81) (omega arith) (omega arith)) (two_read c p has_pointer)
 
@@ -80,7 +83,8 @@ four_complete a b c d ch al ah bl bh cl ch' dl dh e y =
     (settles_complete decoder.gb18030_prefix (a ∷ b ∷ c ∷ d ∷ []) (One ch) (omega arith)
     (cond-true _ _ _ (within 0x30 0x39 d dl dh) ∙ ap decoder.four_byte_prefix e))
 
-four_pointer : (p : ℕ) → decoder.four_byte_pointer (p / 12600 + 0x81) (p % 12600 / 1260 + 0x30) (p % 1260 / 10 + 0x81) (p % 10 + 0x30) ≡ p
+four_pointer : (p : ℕ)
+    → decoder.four_byte_pointer (p / 12600 + 0x81) (p % 12600 / 1260 + 0x30) (p % 1260 / 10 + 0x81) (p % 10 + 0x30) ≡ p
 four_pointer p = omega arith
 
 four_piece : (c p : ℕ) → p < 1237576 → decoder.ranges_code_point p ≡ Some c → Piece (gb18030_four_bytes p) c
@@ -91,9 +95,9 @@ four_piece c p l e =
 
 in_ranges : (c p : ℕ) → IsPointer gb18030_ranges_at is_ranges_pointer 1237576 c p → decoder.ranges_code_point p ≡ Some c
 in_ranges c p has_pointer =
-    let l = has_pointer.below in
+    let below = has_pointer.below in
     let counted = has_pointer.counted in
-    cond-false _ _ _ (not_beyond p l counted) ∙ cond-false _ _ _ (not_alone p counted) ∙ has_pointer.has
+    cond-false _ _ _ (not_beyond p below counted) ∙ cond-false _ _ _ (not_alone p counted) ∙ has_pointer.has
   where
     not_beyond : (p : ℕ) → p < 1237576 → is_ranges_pointer p ≡ true → decoder.is_beyond_ranges p ≡ false
     not_beyond p l n = grind (arith, nat_tests)
@@ -102,7 +106,9 @@ in_ranges c p has_pointer =
     not_alone p n = grind (arith, nat_tests)
 
 -- the pointer 7457 has U+E7C7
-four_at : (c p : ℕ) (t : Bool) → (c == 0xE7C7) ≡ t → cond t (Some 7457) (pointer_of gb18030_ranges_at is_ranges_pointer no_character 1237576 c) ≡ Some p → Piece (gb18030_four_bytes p) c
+four_at : (c p : ℕ) (t : Bool) → (c == 0xE7C7) ≡ t
+    → cond t (Some 7457) (pointer_of gb18030_ranges_at is_ranges_pointer no_character 1237576 c) ≡ Some p
+    → Piece (gb18030_four_bytes p) c
 four_at c p true t e =
     let same : 7457 ≡ p = cc in
     let char : 0xE7C7 ≡ c = grind (arith, nat_tests) in
@@ -117,8 +123,10 @@ four c p e = four_at c p (c == 0xE7C7) refl e
 
 -- all characters
 
-two_or_four_read : (is_gbk : Bool) (c : ℕ) (o : Option ℕ) (b : List ℕ) → gb18030_pointer c ≡ o → two_or_four_bytes is_gbk c o ≡ Some b → Piece b c
-two_or_four_read is_gbk c (Some p) b q e = same_bytes (λ x. Piece x c) (gb18030_pair_bytes p) b (two_piece c p (two_at c p q)) e
+two_or_four_read : (is_gbk : Bool) (c : ℕ) (o : Option ℕ) (b : List ℕ) → gb18030_pointer c ≡ o
+    → two_or_four_bytes is_gbk c o ≡ Some b → Piece b c
+two_or_four_read is_gbk c (Some p) b q e =
+    same_bytes (λ x. Piece x c) (gb18030_pair_bytes p) b (two_piece c p (two_at c p q)) e
 two_or_four_read is_gbk c None b q e =
     by_test is_gbk None (bytes_of_pointer gb18030_four_bytes (gb18030_ranges_pointer c)) b (λ t f. no_bytes b f)
     (λ t f. by_pointer (λ x. Piece x c) gb18030_four_bytes (gb18030_ranges_pointer c) b (four c) f) e
@@ -127,12 +135,13 @@ beyond : (is_gbk : Bool) (c : ℕ) (b : List ℕ) → gb18030_other is_gbk c ≡
 beyond is_gbk c b e =
     by_test (c == 0xE5E5) None _ b (λ t f. no_bytes b f)
     (λ n g. by_test (is_gbk && c == 0x20AC) _ _ b
-    (λ t f. (let u = second_so is_gbk (c == 0x20AC) t in
-    let s : 0x20AC ≡ c = grind (arith, nat_tests) in
-    same_bytes (λ x. Piece x c) (0x80 ∷ []) b (same_char _ 0 (0x80 ∷ []) 0x20AC c s euro_piece) f))
+    (λ t f. (let is_euro = second_so is_gbk (c == 0x20AC) t in
+    let euro_is : 0x20AC ≡ c = grind (arith, nat_tests) in
+    same_bytes (λ x. Piece x c) (0x80 ∷ []) b (same_char _ 0 (0x80 ∷ []) 0x20AC c euro_is euro_piece) f))
     (λ m f. two_or_four_read is_gbk c (gb18030_pointer c) b refl f) g) e
 
-pub gb18030_is_read : (is_gbk : Bool) → IsReadBack (multi_byte_rule decoder.gb18030_prefix) (gb18030_bytes is_gbk) (λ c. c)
+pub gb18030_is_read : (is_gbk : Bool)
+    → IsReadBack (multi_byte_rule decoder.gb18030_prefix) (gb18030_bytes is_gbk) (λ c. c)
 gb18030_is_read is_gbk =
     with_ascii_is_read (multi_byte_rule decoder.gb18030_prefix) (gb18030_other is_gbk) (λ c. c)
     (λ c l. low_piece c l) (λ c b l e. beyond is_gbk c b e)

@@ -45,7 +45,9 @@ number s = set_number (as_read s)
 
 -- an escape sequence has no text where none follows it directly
 
-skipped_is_read : (set : ℕ) (e : Escape) (z t : List ℕ) → designated_set z ≡ None → IsReadAs jp_rule (set_number (escape_set e)) z t → IsReadAs jp_rule set (escape_bytes e ++ z) t
+skipped_is_read : (set : ℕ) (e : Escape) (z t : List ℕ) → designated_set z ≡ None
+    → IsReadAs jp_rule (set_number (escape_set e)) z t
+    → IsReadAs jp_rule set (escape_bytes e ++ z) t
 skipped_is_read set e z t n rest_is_read =
     let first = skipped_escape set e z n in
     record {
@@ -65,7 +67,8 @@ record IsReadIn (s : CharacterSet) (b : List ℕ) (c : ℕ) : Type 0 where
   piece : IsWholeChar jp_rule (number s) b c
   plain : (y : List ℕ) → designated_set (b ++ y) ≡ None
 
-one_read : (s : CharacterSet) (b c : ℕ) → one_byte_char (as_read s) b ≡ Some c → is_lead_byte (as_read s) b ≡ false → eqb b 0x1B ≡ false → IsReadIn s (b ∷ []) c
+one_read : (s : CharacterSet) (b c : ℕ) → one_byte_char (as_read s) b ≡ Some c
+    → is_lead_byte (as_read s) b ≡ false → eqb b 0x1B ≡ false → IsReadIn s (b ∷ []) c
 one_read s b c e l n = record { piece = alone_piece (as_read s) b c e l; plain = λ y. other_front b y n }
 
 -- The set in which a character is written has it: which sets these are, by the character.
@@ -76,30 +79,34 @@ has s c = has_class s (class_of c)
 latin_set : (s : CharacterSet) (c : ℕ) → (c == 0x5C || c == 0x7E) ≡ true → has s c ≡ true → s ≡ Ascii
 unfolding has
 latin_set Ascii c k h = refl
-latin_set Roman c k h = let f = rw k at h in cc
-latin_set Jis0208 c k h = let f = rw k at h in cc
+latin_set Roman c k h = let impossible = rw k at h in cc
+latin_set Jis0208 c k h = let impossible = rw k at h in cc
 
-neutral_set : (s : CharacterSet) (c : ℕ) → (c == 0x5C || c == 0x7E) ≡ false → nat_lt c 0x80 ≡ true → has s c ≡ true → (s ≡ Ascii) ⊎ (s ≡ Roman)
+neutral_set : (s : CharacterSet) (c : ℕ) → (c == 0x5C || c == 0x7E) ≡ false → nat_lt c 0x80 ≡ true
+    → has s c ≡ true → (s ≡ Ascii) ⊎ (s ≡ Roman)
 unfolding has
 neutral_set Ascii c k l h = inl refl
 neutral_set Roman c k l h = inr refl
-neutral_set Jis0208 c k l h = let f = rw (k, l) at h in cc
+neutral_set Jis0208 c k l h = let impossible = rw (k, l) at h in cc
 
-roman_set : (s : CharacterSet) (c : ℕ) → (c == 0x5C || c == 0x7E) ≡ false → nat_lt c 0x80 ≡ false → (c == 0xA5 || c == 0x203E) ≡ true → has s c ≡ true → s ≡ Roman
+roman_set : (s : CharacterSet) (c : ℕ) → (c == 0x5C || c == 0x7E) ≡ false → nat_lt c 0x80 ≡ false
+    → (c == 0xA5 || c == 0x203E) ≡ true → has s c ≡ true → s ≡ Roman
 unfolding has
-roman_set Ascii c k l r h = let f = rw (k, l, r) at h in cc
+roman_set Ascii c k l r h = let impossible = rw (k, l, r) at h in cc
 roman_set Roman c k l r h = refl
-roman_set Jis0208 c k l r h = let f = rw (k, l, r) at h in cc
+roman_set Jis0208 c k l r h = let impossible = rw (k, l, r) at h in cc
 
-kanji_set : (s : CharacterSet) (c : ℕ) → (c == 0x5C || c == 0x7E) ≡ false → nat_lt c 0x80 ≡ false → (c == 0xA5 || c == 0x203E) ≡ false → has s c ≡ true → s ≡ Jis0208
+kanji_set : (s : CharacterSet) (c : ℕ) → (c == 0x5C || c == 0x7E) ≡ false → nat_lt c 0x80 ≡ false
+    → (c == 0xA5 || c == 0x203E) ≡ false → has s c ≡ true → s ≡ Jis0208
 unfolding has
-kanji_set Ascii c k l r h = let f = rw (k, l, r) at h in cc
-kanji_set Roman c k l r h = let f = rw (k, l, r) at h in cc
+kanji_set Ascii c k l r h = let impossible = rw (k, l, r) at h in cc
+kanji_set Roman c k l r h = let impossible = rw (k, l, r) at h in cc
 kanji_set Jis0208 c k l r h = refl
 
 -- single bytes
 
-is_ascii : (c : ℕ) → nat_lt c 0x80 ≡ true → is_shift c ≡ false → (nat_lt c 0x80 && not (c == 0x0E || c == 0x0F || c == 0x1B)) ≡ true
+is_ascii : (c : ℕ) → nat_lt c 0x80 ≡ true → is_shift c ≡ false
+    → (nat_lt c 0x80 && not (c == 0x0E || c == 0x0F || c == 0x1B)) ≡ true
 is_ascii c l n = rw (l, n) refl
 
 no_escape : (c : ℕ) → is_shift c ≡ false → eqb c 0x1B ≡ false
@@ -107,16 +114,19 @@ no_escape c n = grind (arith, nat_tests)
 
 in_ascii : (c : ℕ) → nat_lt c 0x80 ≡ true → is_shift c ≡ false → IsReadIn Ascii (c ∷ []) c
 unfolding one_byte_char is_lead_byte
-in_ascii c l not_shift = (let t = is_ascii c l not_shift in one_read Ascii c c (rw t refl) refl (no_escape c not_shift))
+in_ascii c l not_shift =
+    let reads_ascii = is_ascii c l not_shift in
+    one_read Ascii c c (rw reads_ascii refl) refl (no_escape c not_shift)
 
-in_roman : (c : ℕ) → nat_lt c 0x80 ≡ true → is_shift c ≡ false → (c == 0x5C || c == 0x7E) ≡ false → IsReadIn Roman (c ∷ []) c
+in_roman : (c : ℕ) → nat_lt c 0x80 ≡ true → is_shift c ≡ false → (c == 0x5C || c == 0x7E) ≡ false
+    → IsReadIn Roman (c ∷ []) c
 unfolding one_byte_char is_lead_byte
 in_roman c l not_shift k =
     let either = or_parts (c == 0x5C) (c == 0x7E) k in
-    let t = is_ascii c l not_shift in
-    let b = either.0 in
-    let d = either.1 in
-    one_read Roman c c (rw (b, d, t) refl) refl (no_escape c not_shift)
+    let reads_ascii = is_ascii c l not_shift in
+    let not_backslash = either.0 in
+    let not_tilde = either.1 in
+    one_read Roman c c (rw (not_backslash, not_tilde, reads_ascii) refl) refl (no_escape c not_shift)
 
 yen_read : IsReadIn Roman (0x5C ∷ []) 0xA5
 unfolding one_byte_char is_lead_byte
@@ -128,7 +138,8 @@ line_read = one_read Roman 0x7E 0x203E refl refl refl
 
 -- pairs of jis0208
 
-two_read : (a b c : ℕ) → 0x21 ≤ a → a ≤ 0x7E → 0x21 ≤ b → b ≤ 0x7E → jis0208_at ((a - 0x21) * 94 + (b - 0x21)) ≡ Some c → IsReadIn Jis0208 (a ∷ b ∷ []) c
+two_read : (a b c : ℕ) → 0x21 ≤ a → a ≤ 0x7E → 0x21 ≤ b → b ≤ 0x7E
+    → jis0208_at ((a - 0x21) * 94 + (b - 0x21)) ≡ Some c → IsReadIn Jis0208 (a ∷ b ∷ []) c
 unfolding two_byte_char is_lead_byte
 two_read a b c k l m n e =
     let other : eqb a 0x1B ≡ false = grind (arith, nat_tests) in
@@ -139,7 +150,7 @@ two_read a b c k l m n e =
 
 kanji_read : (c p : ℕ) → IsPointer jis0208_at any_pointer 8836 c p → IsReadIn Jis0208 (jis0208_pair_bytes p) c
 kanji_read c p has_pointer =
-    let l = has_pointer.below in
+    let below = has_pointer.below in
     let same : (p / 94 + 0x21 - 0x21) * 94 + (p % 94 + 0x21 - 0x21) ≡ p = omega arith in
     two_read (p / 94 + 0x21) (p % 94 + 0x21) c (omega arith) (omega arith) (omega arith) (omega arith)
     (ap jis0208_at same ∙ has_pointer.has)
@@ -158,7 +169,8 @@ valued s b c d e h = subst (IsReadIn s b) e h
 there : (s d : CharacterSet) (b : List ℕ) (c : ℕ) → s ≡ d → IsReadIn d b c → IsReadIn s b c
 there s d b c e h = subst (λ x. IsReadIn x b c) (sym e) h
 
-low_read : (s : CharacterSet) (c : ℕ) → has s c ≡ true → nat_lt c 0x80 ≡ true → is_shift c ≡ false → IsReadIn s (c ∷ []) (lookup_char c)
+low_read : (s : CharacterSet) (c : ℕ) → has s c ≡ true → nat_lt c 0x80 ≡ true → is_shift c ≡ false
+    → IsReadIn s (c ∷ []) (lookup_char c)
 low_read s c has_char is_low not_shift =
     valued s (c ∷ []) c (lookup_char c) (low_itself c (grind (arith, nat_tests)))
     (elim (true_or_false (c == 0x5C || c == 0x7E)) [
@@ -172,21 +184,22 @@ low_read s c has_char is_low not_shift =
 no_latin : (c : ℕ) → nat_lt c 0x80 ≡ false → (c == 0x5C || c == 0x7E) ≡ false
 no_latin c l = grind (arith, nat_tests)
 
-char_read : (s : CharacterSet) (c : ℕ) (b : List ℕ) → has s c ≡ true → iso_2022_jp_bytes c ≡ Some b → IsReadIn s b (lookup_char c)
+char_read : (s : CharacterSet) (c : ℕ) (b : List ℕ) → has s c ≡ true → iso_2022_jp_bytes c ≡ Some b
+    → IsReadIn s b (lookup_char c)
 char_read s c b has_char e =
     by_test (nat_lt c 0x80) _ _ b
     (λ t. by_test (is_shift c) None (Some (c ∷ [])) b (λ n f. no_bytes b f)
     (λ n f. same_bytes (λ x. IsReadIn s x (lookup_char c)) (c ∷ []) b (low_read s c has_char t n) f))
     (λ l. by_test (c == 0xA5) _ _ b
-    (λ t f. (let r : 0xA5 ≡ c = grind (arith, nat_tests) in
+    (λ t f. (let is_yen : 0xA5 ≡ c = grind (arith, nat_tests) in
     same_bytes (λ x. IsReadIn s x (lookup_char c)) (0x5C ∷ []) b
     (there s Roman (0x5C ∷ []) (lookup_char c) (roman_set s c (no_latin c l) l (or_left _ _ t) has_char)
-    (valued Roman (0x5C ∷ []) 0xA5 (lookup_char c) (ap lookup_char r) yen_read)) f))
+    (valued Roman (0x5C ∷ []) 0xA5 (lookup_char c) (ap lookup_char is_yen) yen_read)) f))
     (λ yen. by_test (c == 0x203E) _ _ b
-    (λ t f. (let r : 0x203E ≡ c = grind (arith, nat_tests) in
+    (λ t f. (let is_line : 0x203E ≡ c = grind (arith, nat_tests) in
     same_bytes (λ x. IsReadIn s x (lookup_char c)) (0x7E ∷ []) b
     (there s Roman (0x7E ∷ []) (lookup_char c) (roman_set s c (no_latin c l) l (or_right _ _ t) has_char)
-    (valued Roman (0x7E ∷ []) 0x203E (lookup_char c) (ap lookup_char r) line_read)) f))
+    (valued Roman (0x7E ∷ []) 0x203E (lookup_char c) (ap lookup_char is_line) line_read)) f))
     (λ line f. by_pointer (λ x. IsReadIn s x (lookup_char c)) jis0208_pair_bytes (jis0208_pointer (lookup_char c)) b
     (λ p g. there s Jis0208 (jis0208_pair_bytes p) (lookup_char c)
     (kanji_set s c (no_latin c l) l (or_from _ _ yen line) has_char)
@@ -194,24 +207,29 @@ char_read s c b has_char e =
 
 -- texts
 
-one : (s : CharacterSet) (c : ℕ) (b : Option (List ℕ)) → has s c ≡ true → iso_2022_jp_bytes c ≡ b → is_some b ≡ true → IsReadIn s (list_or_empty b) (lookup_char c)
+one : (s : CharacterSet) (c : ℕ) (b : Option (List ℕ)) → has s c ≡ true → iso_2022_jp_bytes c ≡ b
+    → is_some b ≡ true → IsReadIn s (list_or_empty b) (lookup_char c)
 one s c None h e m = cc
 one s c (Some b) h e m = char_read s c b h e
 
-char_then : (s : CharacterSet) (b y t : List ℕ) (c : ℕ) → IsReadIn s b c → IsReadAs jp_rule (number s) y t → IsReadAs jp_rule (number s) (b ++ y) (c ∷ t)
+char_then : (s : CharacterSet) (b y t : List ℕ) (c : ℕ) → IsReadIn s b c
+    → IsReadAs jp_rule (number s) y t → IsReadAs jp_rule (number s) (b ++ y) (c ∷ t)
 char_then s b y t c p h = read_more jp_rule (number s) b c y t p.piece h
 
 -- the bytes of a character with the escape sequence before it, by whether the set in force has it
-step : (s : CharacterSet) (c : ℕ) (y t : List ℕ) (is_there : Bool) → has s c ≡ is_there → is_some (iso_2022_jp_bytes c) ≡ true
+step : (s : CharacterSet) (c : ℕ) (y t : List ℕ) (is_there : Bool) → has s c ≡ is_there
+    → is_some (iso_2022_jp_bytes c) ≡ true
     → IsReadAs jp_rule (number (cond is_there s (set_of_class (class_of c)))) y t
-    → IsReadAs jp_rule (number s) (cond is_there [] (escape_sequence (set_of_class (class_of c))) ++ (list_or_empty (iso_2022_jp_bytes c) ++ y)) (lookup_char c ∷ t)
+    → IsReadAs jp_rule (number s)
+    (cond is_there [] (escape_sequence (set_of_class (class_of c)))
+    ++ (list_or_empty (iso_2022_jp_bytes c) ++ y)) (lookup_char c ∷ t)
 unfolding has
 step s c y t true e m h = char_then s _ y t (lookup_char c) (one s c (iso_2022_jp_bytes c) e refl m) h
 step s c y t false e m h =
-    let d = set_of_class (class_of c) in
-    let one_step = one d c (iso_2022_jp_bytes c) (iso_2022_jp_is_lawful.designates c) refl m in
-    after_escape (number s) d (list_or_empty (iso_2022_jp_bytes c) ++ y) (lookup_char c ∷ t) (one_step.plain y)
-    (char_then d _ y t (lookup_char c) one_step h)
+    let designated = set_of_class (class_of c) in
+    let one_step = one designated c (iso_2022_jp_bytes c) (iso_2022_jp_is_lawful.designates c) refl m in
+    after_escape (number s) designated (list_or_empty (iso_2022_jp_bytes c) ++ y) (lookup_char c ∷ t) (one_step.plain y)
+    (char_then designated _ y t (lookup_char c) one_step h)
 
 ends : (s : CharacterSet) → IsReadAs jp_rule (number s) (escape_at_end s) []
 ends Ascii = read_nothing jp_rule 0
@@ -224,12 +242,13 @@ suffix_is_read : (u t : List ℕ) → any_unmappable iso_2022_jp_encoder_rule t 
 unfolding has
 suffix_is_read u [] m = ends (iso_2022_jp_encoder_rule.set_after Ascii u)
 suffix_is_read u (c ∷ t) m =
-    let s = iso_2022_jp_encoder_rule.set_after Ascii u in
+    let set_now = iso_2022_jp_encoder_rule.set_after Ascii u in
     let rest = bytes_after_text iso_2022_jp_encoder_rule Ascii (u ++ c ∷ []) t in
     let both = first_mapped iso_2022_jp_encoder_rule c t m in
-    step s c rest (map lookup_char t) (has s c) refl both.0
+    step set_now c rest (map lookup_char t) (has set_now c) refl both.0
     (subst (λ x. IsReadAs jp_rule (number x) rest (map lookup_char t)) (iso_2022_jp_is_lawful.set_after_more Ascii u c)
     (suffix_is_read (u ++ c ∷ []) t both.1))
 
-pub iso_2022_jp_is_read : (t : List ℕ) → any_unmappable iso_2022_jp_encoder_rule t ≡ false → IsReadAs jp_rule 0 (bytes_of_text iso_2022_jp_encoder_rule Ascii t) (map lookup_char t)
+pub iso_2022_jp_is_read : (t : List ℕ) → any_unmappable iso_2022_jp_encoder_rule t ≡ false
+    → IsReadAs jp_rule 0 (bytes_of_text iso_2022_jp_encoder_rule Ascii t) (map lookup_char t)
 iso_2022_jp_is_read t m = suffix_is_read [] t m

@@ -10,9 +10,10 @@ module _ (test : ℕ → Bool) where
   abbrev Passes : ℕ → ℕ → Type 0
   Passes n p = (p < n) × (test p ≡ true)
 
-  first_or_here : (o : Option ℕ) (b : Bool) (n p : ℕ) → (o ≡ Some p → Passes n p) → test n ≡ b → pointer_or o (cond b (Some n) None) ≡ Some p → Passes (suc n) p
+  first_or_here : (o : Option ℕ) (b : Bool) (n p : ℕ) → (o ≡ Some p → Passes n p) → test n ≡ b
+      → pointer_or o (cond b (Some n) None) ≡ Some p → Passes (suc n) p
   first_or_here (Some q) b n p h t e = let found = h e in (omega (arith, found.0), found.1)
-  first_or_here None true n p h t e = let f : n ≡ p = cc in (omega arith, subst (λ k. test k ≡ true) f t)
+  first_or_here None true n p h t e = let same : n ≡ p = cc in (omega arith, subst (λ k. test k ≡ true) same t)
   first_or_here None false n p h t e = cc
 
   first_passes : (n p : ℕ) → first_below test n ≡ Some p → Passes n p
@@ -20,8 +21,9 @@ module _ (test : ℕ → Bool) where
   first_passes zero p e = cc
   first_passes (suc n) p e = first_or_here (first_below test n) (test n) n p (first_passes n p) refl e
 
-  here_or_last : (o : Option ℕ) (b : Bool) (n p : ℕ) → (o ≡ Some p → Passes n p) → test n ≡ b → cond b (Some n) o ≡ Some p → Passes (suc n) p
-  here_or_last o true n p h t e = let f : n ≡ p = cc in (omega arith, subst (λ k. test k ≡ true) f t)
+  here_or_last : (o : Option ℕ) (b : Bool) (n p : ℕ) → (o ≡ Some p → Passes n p) → test n ≡ b
+      → cond b (Some n) o ≡ Some p → Passes (suc n) p
+  here_or_last o true n p h t e = let same : n ≡ p = cc in (omega arith, subst (λ k. test k ≡ true) same t)
   here_or_last o false n p h t e = let found = h e in (omega (arith, found.0), found.1)
 
   last_passes : (n p : ℕ) → last_below test n ≡ Some p → Passes n p
@@ -29,13 +31,14 @@ module _ (test : ℕ → Bool) where
   last_passes zero p e = cc
   last_passes (suc n) p e = here_or_last (last_below test n) (test n) n p (last_passes n p) refl e
 
-  by_last_passes : (is_by_last : Bool) (n p : ℕ) → cond is_by_last (last_below test n) (first_below test n) ≡ Some p → Passes n p
+  by_last_passes : (is_by_last : Bool) (n p : ℕ)
+      → cond is_by_last (last_below test n) (first_below test n) ≡ Some p → Passes n p
   by_last_passes true n p e = last_passes n p e
   by_last_passes false n p e = first_passes n p e
 
 has_character : (c : ℕ) (o : Option ℕ) → is_character c o ≡ true → o ≡ Some c
 has_character c None e = cc
-has_character c (Some d) e = ap Some (let f : d ≡ c = grind (arith, nat_tests) in f)
+has_character c (Some d) e = ap Some (let same : d ≡ c = grind (arith, nat_tests) in same)
 
 -- a pointer that counts, at which the index has the character
 pub record IsPointer (at : ℕ → Option ℕ) (counts : ℕ → Bool) (bound c p : ℕ) : Type 0 where
@@ -43,7 +46,8 @@ pub record IsPointer (at : ℕ → Option ℕ) (counts : ℕ → Bool) (bound c 
   pub counted : counts p ≡ true
   pub has : at p ≡ Some c
 
-pub is_pointer : (at : ℕ → Option ℕ) (counts is_by_last : ℕ → Bool) (bound c p : ℕ) → pointer_of at counts is_by_last bound c ≡ Some p → IsPointer at counts bound c p
+pub is_pointer : (at : ℕ → Option ℕ) (counts is_by_last : ℕ → Bool) (bound c p : ℕ)
+    → pointer_of at counts is_by_last bound c ≡ Some p → IsPointer at counts bound c p
 is_pointer at counts is_by_last bound c p e =
     let is_last = by_last_passes (λ q. counts q && is_character c (at q)) (is_by_last c) bound p e in
     record {
@@ -53,6 +57,7 @@ is_pointer at counts is_by_last bound c p e =
     }
 
 -- the bytes of a pointer
-pub by_pointer : (P : List ℕ → Type 0) (bytes : ℕ → List ℕ) (o : Option ℕ) (b : List ℕ) → ((p : ℕ) → o ≡ Some p → P (bytes p)) → bytes_of_pointer bytes o ≡ Some b → P b
+pub by_pointer : (P : List ℕ → Type 0) (bytes : ℕ → List ℕ) (o : Option ℕ) (b : List ℕ)
+    → ((p : ℕ) → o ≡ Some p → P (bytes p)) → bytes_of_pointer bytes o ≡ Some b → P b
 by_pointer P bytes None b h e = cc
-by_pointer P bytes (Some p) b h e = let f : bytes p ≡ b = cc in subst P f (h p refl)
+by_pointer P bytes (Some p) b h e = let same : bytes p ≡ b = cc in subst P same (h p refl)

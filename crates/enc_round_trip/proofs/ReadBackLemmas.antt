@@ -22,10 +22,15 @@ pub record IsReadAs (rule : Rule) (set : ℕ) (bytes chars : List ℕ) : Type 0 
   pub text : sequence_text (sequences_of rule set bytes) ≡ chars
 
 pub read_nothing : (rule : Rule) (set : ℕ) → IsReadAs rule set [] []
-read_nothing rule set = record { none_malformed = ap any_malformed (sequences_of-nil rule set); text = ap sequence_text (sequences_of-nil rule set) }
+read_nothing rule set =
+    record {
+      none_malformed = ap any_malformed (sequences_of-nil rule set);
+      text = ap sequence_text (sequences_of-nil rule set);
+    }
 
 -- a character, and the text after it
-pub read_more : (rule : Rule) (set : ℕ) (b : List ℕ) (c : ℕ) (y t : List ℕ) → IsWholeChar rule set b c → IsReadAs rule set y t → IsReadAs rule set (b ++ y) (c ∷ t)
+pub read_more : (rule : Rule) (set : ℕ) (b : List ℕ) (c : ℕ) (y t : List ℕ)
+    → IsWholeChar rule set b c → IsReadAs rule set y t → IsReadAs rule set (b ++ y) (c ∷ t)
 read_more rule set b c y t is_whole_char rest_is_read = record {
   none_malformed = ap any_malformed (is_whole_char y) ∙ rest_is_read.none_malformed;
   text = ap sequence_text (is_whole_char y) ∙ ap (λ x. c ∷ x) rest_is_read.text;
@@ -37,7 +42,8 @@ is_mapped : (b : Bool) → not b ≡ false → b ≡ true
 is_mapped true h = refl
 is_mapped false h = cc
 
-pub first_mapped : (e : EncoderRule) (c : ℕ) (t : List ℕ) → any_unmappable e (c ∷ t) ≡ false → (is_some (e.bytes c) ≡ true) × (any_unmappable e t ≡ false)
+pub first_mapped : (e : EncoderRule) (c : ℕ) (t : List ℕ) → any_unmappable e (c ∷ t) ≡ false
+    → (is_some (e.bytes c) ≡ true) × (any_unmappable e t ≡ false)
 first_mapped e c t h =
     let both = or_parts (not (is_some (e.bytes c))) (any_unmappable e t) h in
     (is_mapped (is_some (e.bytes c)) both.0, both.1)
@@ -47,7 +53,8 @@ pub record IsReadBack (rule : Rule) (bytes : ℕ → Option (List ℕ)) (back : 
   pub each : (c : ℕ) → IsScalar c → (b : List ℕ) → bytes c ≡ Some b → IsWholeChar rule 0 b (back c)
 
 module _ (rule : Rule) (bytes : ℕ → Option (List ℕ)) (back : ℕ → ℕ) (h : IsReadBack rule bytes back) where
-  one : (c : ℕ) (b : Option (List ℕ)) → bytes c ≡ b → is_some b ≡ true → IsScalar c → IsWholeChar rule 0 (list_or_empty b) (back c)
+  one : (c : ℕ) (b : Option (List ℕ)) → bytes c ≡ b → is_some b ≡ true → IsScalar c
+      → IsWholeChar rule 0 (list_or_empty b) (back c)
   one c None e m s = cc
   one c (Some b) e m s = h.each c s b e
 
@@ -56,29 +63,34 @@ module _ (rule : Rule) (bytes : ℕ → Option (List ℕ)) (back : ℕ → ℕ) 
   suffix_is_read u [] scalars m = read_nothing rule 0
   suffix_is_read u (c ∷ t) scalars m =
       let both = first_mapped (stateless_rule bytes) c t m in
-      read_more rule 0 (list_or_empty (bytes c)) (back c) (bytes_after_text (stateless_rule bytes) Ascii (u ++ c ∷ []) t) (map back t)
+      read_more rule 0 (list_or_empty (bytes c)) (back c)
+      (bytes_after_text (stateless_rule bytes) Ascii (u ++ c ∷ []) t) (map back t)
       (one c (bytes c) refl both.0 (first_so _ _ scalars))
       (suffix_is_read (u ++ c ∷ []) t (second_so _ _ scalars) both.1)
 
   -- and so is a text
-  pub text_is_read : (t : List ℕ) → AreScalars t → any_unmappable (stateless_rule bytes) t ≡ false → IsReadAs rule 0 (bytes_of_text (stateless_rule bytes) Ascii t) (map back t)
+  pub text_is_read : (t : List ℕ) → AreScalars t → any_unmappable (stateless_rule bytes) t ≡ false
+      → IsReadAs rule 0 (bytes_of_text (stateless_rule bytes) Ascii t) (map back t)
   text_is_read t s m = suffix_is_read [] t s m
 
 -- by cases
 
-pub by_test : {P : Type 0} (t : Bool) (x y : Option (List ℕ)) (b : List ℕ) → (t ≡ true → x ≡ Some b → P) → (t ≡ false → y ≡ Some b → P) → cond t x y ≡ Some b → P
+pub by_test : {P : Type 0} (t : Bool) (x y : Option (List ℕ)) (b : List ℕ)
+    → (t ≡ true → x ≡ Some b → P) → (t ≡ false → y ≡ Some b → P) → cond t x y ≡ Some b → P
 by_test true x y b f g e = f refl e
 by_test false x y b f g e = g refl e
 
 pub same_bytes : (P : List ℕ → Type 0) (a b : List ℕ) → P a → Some a ≡ Some b → P b
-same_bytes P a b p e = let f : a ≡ b = cc in subst P f p
+same_bytes P a b p e = let same : a ≡ b = cc in subst P same p
 
 pub no_bytes : {P : Type 0} (b : List ℕ) → None ≡ Some b → P
 no_bytes b e = cc
 
 -- ASCII, and the characters beyond it
-pub with_ascii_is_read : (rule : Rule) (others : ℕ → Option (List ℕ)) (back : ℕ → ℕ) → ((c : ℕ) → c < 0x80 → IsWholeChar rule 0 (c ∷ []) (back c))
-    → ((c : ℕ) (b : List ℕ) → 0x80 ≤ c → others c ≡ Some b → IsWholeChar rule 0 b (back c)) → IsReadBack rule (with_ascii others) back
+pub with_ascii_is_read : (rule : Rule) (others : ℕ → Option (List ℕ)) (back : ℕ → ℕ)
+    → ((c : ℕ) → c < 0x80 → IsWholeChar rule 0 (c ∷ []) (back c))
+    → ((c : ℕ) (b : List ℕ) → 0x80 ≤ c → others c ≡ Some b → IsWholeChar rule 0 b (back c))
+    → IsReadBack rule (with_ascii others) back
 with_ascii_is_read rule others back ascii beyond = record {
   each = λ c s b e. by_test (nat_lt c 0x80) (Some (c ∷ [])) (others c) b
       (λ t f. same_bytes (λ x. IsWholeChar rule 0 x (back c)) (c ∷ []) b (ascii c (grind (arith, nat_tests))) f)

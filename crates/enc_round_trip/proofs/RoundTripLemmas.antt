@@ -26,7 +26,9 @@ use Rattle.enc_round_trip.proofs.Iso2022JpBack.{iso_2022_jp_is_read}
 
 abbrev pub IsReadIfAny : Codec → Option EncoderRule → Type 0
 IsReadIfAny codec None = Unit {0}
-IsReadIfAny codec (Some e) = (t : List ℕ) → AreScalars t → any_unmappable e t ≡ false → IsReadAs (codec_rule codec) 0 (bytes_of_text e Ascii t) (map (char_read_back codec) t)
+IsReadIfAny codec (Some e) =
+    (t : List ℕ) → AreScalars t → any_unmappable e t ≡ false
+    → IsReadAs (codec_rule codec) 0 (bytes_of_text e Ascii t) (map (char_read_back codec) t)
 
 pub read_if_any : (c : Codec) → IsReadIfAny c (encoder_rule c)
 read_if_any Utf8 = text_is_read _ _ _ utf_8_is_read
@@ -44,7 +46,8 @@ read_if_any XUserDefined = text_is_read _ _ _ x_user_defined_is_read
 read_if_any Iso2022Jp = λ t s m. iso_2022_jp_is_read t m
 
 -- by the rule that the codec has, whatever is barred
-pub is_read : (c : Codec) (b : List ℕ) (e : EncoderRule) (t : List ℕ) → encoder_rule c ≡ Some e → AreScalars t → any_unmappable (barring_rule b e) t ≡ false
+pub is_read : (c : Codec) (b : List ℕ) (e : EncoderRule) (t : List ℕ) → encoder_rule c ≡ Some e
+    → AreScalars t → any_unmappable (barring_rule b e) t ≡ false
     → IsReadAs (codec_rule c) 0 (bytes_of_text (barring_rule b e) Ascii t) (map (char_read_back c) t)
 is_read c b e t q s all_mapped =
     subst (λ y. IsReadAs (codec_rule c) 0 y (map (char_read_back c) t))
@@ -63,6 +66,7 @@ keeps EucJp h n = cc
 keeps Iso2022Jp h n = cc
 keeps _ h n = refl
 
-pub same_text : (c : Codec) (b : List ℕ) (e : EncoderRule) (t : List ℕ) → encoder_rule c ≡ Some e → AreScalars t → any_unmappable (barring_rule b e) t ≡ false → keeps_characters c ≡ true
+pub same_text : (c : Codec) (b : List ℕ) (e : EncoderRule) (t : List ℕ) → encoder_rule c ≡ Some e
+    → AreScalars t → any_unmappable (barring_rule b e) t ≡ false → keeps_characters c ≡ true
     → sequence_text (sequences_of (codec_rule c) 0 (bytes_of_text (barring_rule b e) Ascii t)) ≡ t
 same_text c b e t q s m k = (is_read c b e t q s m).text ∙ map_of (char_read_back c) (keeps c k) t

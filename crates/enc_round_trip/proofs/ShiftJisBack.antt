@@ -31,23 +31,28 @@ row_of row l = grind (arith, nat_tests)
 is_trail : (cell : ℕ) → cell < 188 → decoder.is_shift_jis_trail (shift_jis_trail_byte cell) ≡ true
 is_trail cell l = grind (arith, nat_tests)
 
-cell_of : (cell : ℕ) → cell < 188 → shift_jis_trail_byte cell - (if nat_lt (shift_jis_trail_byte cell) 0x7F then 0x40 else 0x41) ≡ cell
+cell_of : (cell : ℕ) → cell < 188
+    → shift_jis_trail_byte cell - (if nat_lt (shift_jis_trail_byte cell) 0x7F then 0x40 else 0x41) ≡ cell
 cell_of cell l = grind (arith, nat_tests)
 
-pointer_of_pair : (p : ℕ) → p < 11280 → decoder.shift_jis_pair_pointer (shift_jis_lead_byte (p / 188)) (shift_jis_trail_byte (p % 188)) ≡ p
+pointer_of_pair : (p : ℕ) → p < 11280
+    → decoder.shift_jis_pair_pointer (shift_jis_lead_byte (p / 188)) (shift_jis_trail_byte (p % 188)) ≡ p
 pointer_of_pair p l =
     let row = row_of (p / 188) (omega arith) in
     let cell = cell_of (p % 188) (omega arith) in
-    ap (λ r. r * 188 + (shift_jis_trail_byte (p % 188) - (if nat_lt (shift_jis_trail_byte (p % 188)) 0x7F then 0x40 else 0x41))) row
+    ap (λ r. r * 188 + (shift_jis_trail_byte (p % 188)
+    - (if nat_lt (shift_jis_trail_byte (p % 188)) 0x7F then 0x40 else 0x41))) row
     ∙ ap (λ x. p / 188 * 188 + x) cell ∙ omega arith
 
 -- the character at a pointer
-char_at : (t : Bool) (p c : ℕ) → (nat_le 8836 p && nat_le p 10715) ≡ t → jis0208_at p ≡ Some c → decoder.shift_jis_pointer_char p ≡ Some (private_use_or c (Some p))
+char_at : (t : Bool) (p c : ℕ) → (nat_le 8836 p && nat_le p 10715) ≡ t → jis0208_at p ≡ Some c
+    → decoder.shift_jis_pointer_char p ≡ Some (private_use_or c (Some p))
 char_at true p c in_gap e = cond-true _ _ _ in_gap ∙ ap Some (sym (cond-true _ _ _ in_gap))
 char_at false p c in_gap e = cond-false _ _ _ in_gap ∙ e ∙ ap Some (sym (cond-false _ _ _ in_gap))
 
 is_pair : (c p : ℕ) → IsPointer jis0208_at is_shift_jis_pointer 11280 c p
-    → decoder.shift_jis_pair_text (shift_jis_lead_byte (p / 188)) (shift_jis_trail_byte (p % 188)) ≡ Some (One (private_use_or c (Some p)))
+    → decoder.shift_jis_pair_text (shift_jis_lead_byte (p / 188)) (shift_jis_trail_byte (p % 188))
+    ≡ Some (One (private_use_or c (Some p)))
 is_pair c p has_pointer =
     ap text_of_char (cond-true _ _ _ (is_trail (p % 188) (omega arith))
     ∙ ap decoder.shift_jis_pointer_char (pointer_of_pair p has_pointer.below) ∙ char_at _ p c refl has_pointer.has)
@@ -63,14 +68,16 @@ Piece b c = IsWholeChar (multi_byte_rule decoder.shift_jis_prefix) 0 b c
 
 low_piece : (b : ℕ) → b ≤ 0x80 → Piece (b ∷ []) b
 low_piece b l =
-    let t : nat_le b 0x80 ≡ true = grind (arith, nat_tests) in
-    single_piece decoder.is_shift_jis_lead decoder.shift_jis_single_char decoder.shift_jis_pair_text b b (grind (arith, nat_tests)) (cond-true _ _ _ t)
+    let is_low : nat_le b 0x80 ≡ true = grind (arith, nat_tests) in
+    single_piece decoder.is_shift_jis_lead decoder.shift_jis_single_char decoder.shift_jis_pair_text
+    b b (grind (arith, nat_tests)) (cond-true _ _ _ is_low)
 
 katakana_piece : (c : ℕ) → is_halfwidth_katakana c ≡ true → Piece (katakana_byte c ∷ []) c
 katakana_piece c k =
     let low : 0xFF61 ≤ c = grind (arith, nat_tests) in
     let high : c ≤ 0xFF9F = grind (arith, nat_tests) in
-    single_piece decoder.is_shift_jis_lead decoder.shift_jis_single_char decoder.shift_jis_pair_text (katakana_byte c) c (not_lead c low high)
+    single_piece decoder.is_shift_jis_lead decoder.shift_jis_single_char decoder.shift_jis_pair_text
+    (katakana_byte c) c (not_lead c low high)
     (cond-false _ _ _ (not_low c low) ∙ katakana_byte_is_read c k)
   where
     not_lead : (c : ℕ) → 0xFF61 ≤ c → c ≤ 0xFF9F → decoder.is_shift_jis_lead (katakana_byte c) ≡ false
@@ -88,22 +95,27 @@ low_itself : (c : ℕ) → c ≤ 0x80 → c ≡ ascii_twin_or char_read_in_shift
 low_itself c is_ascii =
     itself c (or_left _ _ (le-leb c 0x80 is_ascii)) ∙ low_not_latin char_read_in_shift_jis c is_ascii
 
-by_index : (c p : ℕ) → nat_le c 0x80 ≡ false → is_halfwidth_katakana c ≡ false → shift_jis_pointer (with_fullwidth_minus c) ≡ Some p → Piece (shift_jis_pair_bytes p) (char_read_in_shift_jis c)
+by_index : (c p : ℕ) → nat_le c 0x80 ≡ false → is_halfwidth_katakana c ≡ false
+    → shift_jis_pointer (with_fullwidth_minus c) ≡ Some p
+    → Piece (shift_jis_pair_bytes p) (char_read_in_shift_jis c)
 by_index c p l k is_some_pointer =
     let has_pointer = at_pointer (with_fullwidth_minus c) p is_some_pointer in
-    let e : private_use_or (with_fullwidth_minus c) (Some p) ≡ char_read_in_shift_jis c =
+    let char_is : private_use_or (with_fullwidth_minus c) (Some p) ≡ char_read_in_shift_jis c =
     ap (private_use_or (with_fullwidth_minus c)) (sym is_some_pointer) ∙ sym (cond-false _ _ _ (or_from _ _ l k)) in
-    same_char _ 0 (shift_jis_pair_bytes p) _ (char_read_in_shift_jis c) e
-    (pair_piece decoder.is_shift_jis_lead decoder.shift_jis_single_char decoder.shift_jis_pair_text (shift_jis_lead_byte (p / 188)) (shift_jis_trail_byte (p % 188)) _
-    (is_lead (p / 188) (let l = has_pointer.below in omega arith)) (is_pair (with_fullwidth_minus c) p has_pointer))
+    same_char _ 0 (shift_jis_pair_bytes p) _ (char_read_in_shift_jis c) char_is
+    (pair_piece decoder.is_shift_jis_lead decoder.shift_jis_single_char decoder.shift_jis_pair_text
+    (shift_jis_lead_byte (p / 188)) (shift_jis_trail_byte (p % 188)) _
+    (is_lead (p / 188) (let below = has_pointer.below in omega arith)) (is_pair (with_fullwidth_minus c) p has_pointer))
 
 beyond : (c : ℕ) (b : List ℕ) → 0x80 ≤ c → shift_jis_other c ≡ Some b → Piece b (ascii_twin_or char_read_in_shift_jis c)
 beyond c b l =
     by_test (c == 0x80) _ _ b
-    (λ t. (let s : 0x80 ≡ c = grind (arith, nat_tests) in
+    (λ t. (let same : 0x80 ≡ c = grind (arith, nat_tests) in
     same_bytes (λ x. Piece x (ascii_twin_or char_read_in_shift_jis c)) (0x80 ∷ []) b
-    (same_char _ 0 (0x80 ∷ []) 0x80 (ascii_twin_or char_read_in_shift_jis c) (s ∙ low_itself c (omega arith)) (low_piece 0x80 (omega arith)))))
-    (λ n. latin_is_read (multi_byte_rule decoder.shift_jis_prefix) _ char_read_in_shift_jis c b (λ a m. low_piece a (omega arith))
+    (same_char _ 0 (0x80 ∷ []) 0x80 (ascii_twin_or char_read_in_shift_jis c)
+    (same ∙ low_itself c (omega arith)) (low_piece 0x80 (omega arith)))))
+    (λ n. latin_is_read (multi_byte_rule decoder.shift_jis_prefix) _ char_read_in_shift_jis c b
+    (λ a m. low_piece a (omega arith))
     (λ yen line. by_test (is_halfwidth_katakana c) _ _ b
     (λ is_katakana. same_bytes (λ x. Piece x (char_read_in_shift_jis c)) (katakana_byte c ∷ []) b
     (same_char _ 0 (katakana_byte c ∷ []) c (char_read_in_shift_jis c) (itself c (or_right _ _ is_katakana))
@@ -112,7 +124,9 @@ beyond c b l =
     (shift_jis_pointer (with_fullwidth_minus c)) b
     (λ p. by_index c p (grind (arith, nat_tests)) k))))
 
-pub shift_jis_is_read : IsReadBack (multi_byte_rule decoder.shift_jis_prefix) shift_jis_bytes (ascii_twin_or char_read_in_shift_jis)
+pub shift_jis_is_read : IsReadBack (multi_byte_rule decoder.shift_jis_prefix) shift_jis_bytes
+    (ascii_twin_or char_read_in_shift_jis)
 shift_jis_is_read =
     with_ascii_is_read (multi_byte_rule decoder.shift_jis_prefix) shift_jis_other (ascii_twin_or char_read_in_shift_jis)
-    (λ c l. same_char _ 0 (c ∷ []) c (ascii_twin_or char_read_in_shift_jis c) (low_itself c (omega arith)) (low_piece c (omega arith))) beyond
+    (λ c l. same_char _ 0 (c ∷ []) c (ascii_twin_or char_read_in_shift_jis c)
+    (low_itself c (omega arith)) (low_piece c (omega arith))) beyond

@@ -1,6 +1,14 @@
 -- Texts that are encoded and decoded again (Encoding Standard 4.1, "process a queue", with an encoder and then with a
 -- decoder).
-use Rattle.std.specs.Prelude.{ℕ, ◌+◌, ◌-◌, Bool, true, false, ◌==◌, ◌&&◌, ◌||◌, nat_le, Option, Some, None, if◌then◌else◌}
+use Rattle.std.specs.Prelude.{ℕ, ◌+◌, ◌-◌, Bool, true, false, ◌==◌, ◌&&◌, ◌||◌, nat_le, Option, Some, None, List}
+use Rattle.std.specs.Prelude.{if◌then◌else◌}
+use Rattle.enc_codec.specs.Codecs.{codec_rule}
+use Rattle.enc_decoder.specs.Segmentation.{sequences_of}
+use Rattle.enc_decoder.specs.Sequence.{Sequence}
+use Rattle.enc_encoder.specs.Barring.{barring_rule}
+use Rattle.enc_encoder.specs.EncoderRule.{EncoderRule}
+use Rattle.enc_encoder.specs.Text.{bytes_of_text}
+use Rattle.enc_encoder.specs.declared.character_set.CharacterSet.TheVariants.{Ascii}
 use Rattle.enc_index.specs.declared.codec.Codec.{Codec}
 use Rattle.enc_index.specs.declared.codec.Codec.TheVariants.{ShiftJis, EucJp, Iso2022Jp}
 use Rattle.enc_index_pointers.specs.Pointers.{shift_jis_pointer}
@@ -30,6 +38,11 @@ char_read_back ShiftJis c = ascii_twin_or char_read_in_shift_jis c
 char_read_back EucJp c = ascii_twin_or with_fullwidth_minus c
 char_read_back Iso2022Jp c = lookup_char c
 char_read_back _ c = c
+
+-- the sequences of a text's bytes: those of the encoder without the barred characters, decoded by the same codec
+abbrev pub sequences_read_back : Codec → List ℕ → EncoderRule → List ℕ → List Sequence
+sequences_read_back codec barred e text =
+    sequences_of (codec_rule codec) 0 (bytes_of_text (barring_rule barred e) Ascii text)
 
 -- whether each character decodes to itself
 abbrev pub keeps_characters : Codec → Bool

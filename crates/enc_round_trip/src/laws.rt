@@ -1,16 +1,13 @@
 //! Laws over the definitions: contracts of functions that do nothing.
 
 ghost use Rattle.std.specs.Prelude.{◌≡◌, ℕ, true, false, Some, List, map};
-ghost use Rattle.enc_codec.specs.Codecs.{codec_rule};
 ghost use Rattle.enc_encode.specs.Encoders.{encoder_rule};
 ghost use Rattle.enc_encoder.specs.EncoderRule.{EncoderRule};
 ghost use Rattle.enc_encoder.specs.Barring.{barring_rule};
-ghost use Rattle.enc_encoder.specs.Text.{bytes_of_text};
-ghost use Rattle.enc_encoder.specs.declared.character_set.CharacterSet.TheVariants.{Ascii};
-ghost use Rattle.enc_decoder.specs.Segmentation.{sequences_of};
 ghost use Rattle.enc_decoder.specs.Sequence.{any_malformed, sequence_text};
 ghost use Rattle.enc_encoder.specs.Unmappable.{any_unmappable};
-ghost use Rattle.enc_round_trip.specs.RoundTrip.{keeps_characters, char_read_back};
+ghost use Rattle.enc_round_trip.specs.RoundTrip.{sequences_read_back, char_read_back};
+ghost use Rattle.enc_round_trip.specs.RoundTrip.{keeps_characters};
 ghost use Rattle.enc_units.specs.Output.{AreScalars};
 
 use enc_index::Codec;
@@ -21,19 +18,23 @@ use enc_index::Codec;
 /// and whatever characters are barred. No byte order mark is looked for.
 pub fn written_text_is_read_back(codec: Codec)
     // No sequence of the bytes is malformed.
-    ensures well_formed { (barred : List ℕ) (e : EncoderRule) (text : List ℕ) → encoder_rule codec ≡ Some e → AreScalars text
+    ensures well_formed { (barred : List ℕ) (e : EncoderRule) (text : List ℕ)
+        → encoder_rule codec ≡ Some e → AreScalars text
         → any_unmappable (barring_rule barred e) text ≡ false
-        → any_malformed (sequences_of (codec_rule codec) 0 (bytes_of_text (barring_rule barred e) Ascii text)) ≡ false }
+        → any_malformed (sequences_read_back codec barred e text) ≡ false }
 
     // Their text has for each character the one that its bytes decode to.
-    ensures characters { (barred : List ℕ) (e : EncoderRule) (text : List ℕ) → encoder_rule codec ≡ Some e → AreScalars text
+    ensures characters { (barred : List ℕ) (e : EncoderRule) (text : List ℕ)
+        → encoder_rule codec ≡ Some e → AreScalars text
         → any_unmappable (barring_rule barred e) text ≡ false
-        → sequence_text (sequences_of (codec_rule codec) 0 (bytes_of_text (barring_rule barred e) Ascii text)) ≡ map (char_read_back codec) text }
+        → sequence_text (sequences_read_back codec barred e text)
+        ≡ map (char_read_back codec) text }
 
     // That is the same text, except in Shift_JIS, EUC-JP and ISO-2022-JP.
-    ensures same_text { (barred : List ℕ) (e : EncoderRule) (text : List ℕ) → encoder_rule codec ≡ Some e → AreScalars text
+    ensures same_text { (barred : List ℕ) (e : EncoderRule) (text : List ℕ)
+        → encoder_rule codec ≡ Some e → AreScalars text
         → any_unmappable (barring_rule barred e) text ≡ false → keeps_characters codec ≡ true
-        → sequence_text (sequences_of (codec_rule codec) 0 (bytes_of_text (barring_rule barred e) Ascii text)) ≡ text }
+        → sequence_text (sequences_read_back codec barred e text) ≡ text }
 {
     let _ = codec;
 }

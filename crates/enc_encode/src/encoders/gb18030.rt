@@ -3,7 +3,8 @@
 ghost use Rattle.std.specs.Prelude.{◌≡◌, ◌<◌};
 ghost use Rattle.enc_units.specs.Bytes.{byte_list};
 ghost use Rattle.enc_encoder.specs.CharLaw.{AreBytesOf};
-ghost use Rattle.enc_encode.specs.Gb18030.{gb18030_pair_bytes, gb18030_trail_byte, gb18030_four_bytes};
+ghost use Rattle.enc_encode.specs.Gb18030.{gb18030_pair_bytes, gb18030_trail_byte};
+ghost use Rattle.enc_encode.specs.Gb18030.{gb18030_four_bytes};
 ghost use Rattle.enc_encode.specs.Gb18030.{two_or_four_bytes as wanted_bytes};
 ghost use Rattle.enc_index_pointers.specs.Pointers.{gb18030_pointer, gb18030_ranges_pointer};
 ghost use Rattle.enc_encoder.specs.Stateless.{bytes_of_pointer};

@@ -4,8 +4,9 @@ ghost use Rattle.std.specs.Prelude.{◌≡◌, ◌<◌, ◌≤◌, take};
 ghost use Rattle.enc_units.specs.Validity.{AreIso2022JpAscii};
 ghost use Rattle.enc_encoder.specs.declared.character_set.CharacterSet.TheVariants.{Ascii};
 ghost use Rattle.enc_encode.specs.Iso2022Jp.{class_of as wanted_class, has_class as wanted_has};
-ghost use Rattle.enc_encode.specs.Iso2022Jp.{set_of_class as wanted_set, lookup_char as wanted_looked_up};
-ghost use Rattle.enc_encode.specs.Iso2022Jp.{is_shift as wanted_shift, iso_2022_jp_bytes as wanted_bytes};
+ghost use Rattle.enc_encode.specs.Iso2022Jp.{set_of_class as wanted_set, is_shift as wanted_shift};
+ghost use Rattle.enc_encode.specs.Iso2022Jp.{lookup_char as wanted_looked_up};
+ghost use Rattle.enc_encode.specs.Iso2022Jp.{iso_2022_jp_bytes as wanted_bytes};
 ghost use Rattle.enc_encode.specs.Iso2022Jp.{jis0208_pair_bytes as wanted_pair};
 ghost use Rattle.enc_units.specs.Bytes.{byte_list};
 ghost use Rattle.enc_encoder.specs.CharLaw.{AreBytesOf};
@@ -176,7 +177,8 @@ impl<B: BarredChars> Mapping for ShiftingEncoder<B> {
     ghost use Rattle.enc_encoder.specs.Runs.{IsWrittenIn};
     ghost use Rattle.enc_encode.specs.Iso2022Jp.{iso_2022_jp_encoder_rule};
 
-    ghost means = { λ e. IsWrittenIn (barring_rule (B.chars e.barred) iso_2022_jp_encoder_rule) e.set };
+    ghost means = { λ e. IsWrittenIn (barring_rule (B.chars e.barred) iso_2022_jp_encoder_rule)
+        e.set };
 
     #[inline(always)]
     fn bytes_in_run(self, c: char) -> Option<Bytes> {

@@ -1,7 +1,8 @@
 //! Characters that the three Japanese encodings treat alike.
 
 ghost use Rattle.std.specs.Prelude.{◌≡◌, true};
-ghost use Rattle.enc_encode.specs.Japanese.{is_halfwidth_katakana as wanted_katakana, katakana_byte as wanted_byte};
+ghost use Rattle.enc_encode.specs.Japanese.{is_halfwidth_katakana as wanted_katakana};
+ghost use Rattle.enc_encode.specs.Japanese.{katakana_byte as wanted_byte};
 ghost use Rattle.enc_encode.specs.Japanese.{with_fullwidth_minus as wanted_minus};
 
 /// Returns whether a character is half-width katakana.

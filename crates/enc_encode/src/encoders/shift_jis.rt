@@ -2,7 +2,8 @@
 
 ghost use Rattle.std.specs.Prelude.{◌≡◌, ◌<◌};
 ghost use Rattle.enc_units.specs.Bytes.{byte_list};
-ghost use Rattle.enc_encode.specs.ShiftJis.{shift_jis_pair_bytes, shift_jis_lead_byte, shift_jis_trail_byte};
+ghost use Rattle.enc_encode.specs.ShiftJis.{shift_jis_pair_bytes};
+ghost use Rattle.enc_encode.specs.ShiftJis.{shift_jis_lead_byte, shift_jis_trail_byte};
 
 use super::japanese::{is_halfwidth_katakana, katakana_byte, with_fullwidth_minus};
 use enc_encoder::{Barring, ByteLengths, Repertoire, StatelessEncoder, one, two};

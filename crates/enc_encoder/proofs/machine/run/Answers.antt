@@ -10,27 +10,33 @@ use Rattle.enc_encoder.proofs.machine.run.Goals.{then-taken, else-taken}
 
 pub returns-in_default : goal.returns-in_default
 returns-in_default g c =
-    let call = stays _ g.E.CharEncoder.state _ c.loop-taken.state _ _ _ _ _ _ _ c.loop-taken.invariant c.unread-unread.ensures _ c.unread.ensures c.in_default.ensures in
-    record { call = call; text = into_keeps_text _ _ _ _ _ _ _ _ _ _ _ c.requires.lawful call; need = into_meets_need _ _ _ _ _ _ _ _ _ _ _ call }
+    let call = stays g.E.CharEncoder.state c.loop-taken.state c.loop-taken.invariant g.C.Chars.units_of
+    c.unread-unread.ensures c.unread.ensures c.in_default.ensures in
+    record { call = call; text = into_keeps_text c.requires.lawful call; need = into_meets_need call }
 
 pub overflow_sub-result-in-Some-report : goal.overflow_sub-result-in-Some-report
 overflow_sub-result-in-Some-report g c =
-    fewer_after _ _ _ _ _ _ _ _ _ _ _ c.loop-taken.invariant _ c.advance.ensures c.unread-unread.ensures
+    fewer_after c.loop-taken.invariant g.C.Chars.units_of c.advance.ensures c.unread-unread.ensures
     c.unread-in-Some-report.ensures
 
 pub returns-in-Some-report : goal.returns-in-Some-report
 returns-in-Some-report g c =
-    let call = reports _ g.E.CharEncoder.state _ c.loop-taken.state _ _ _ _ _ _ _ c.loop-taken.invariant c.unread-unread.ensures _ c.in-Some.ensures _ _ _ c.in-Some-report.is c.advance.ensures c.unread-in-Some-report.ensures in
-    record { call = call; text = into_keeps_text _ _ _ _ _ _ _ _ _ _ _ c.requires.lawful call; need = into_meets_need _ _ _ _ _ _ _ _ _ _ _ call }
+    let call = reports g.E.CharEncoder.state c.loop-taken.state c.loop-taken.invariant g.C.Chars.units_of
+    c.unread-unread.ensures c.in-Some.ensures c.in-Some-report.is c.advance.ensures
+    c.unread-in-Some-report.ensures in
+    record { call = call; text = into_keeps_text c.requires.lawful call; need = into_meets_need call }
 
 pub overflow_sub-result-then-not-put : goal.overflow_sub-result-then-not-put
-overflow_sub-result-then-not-put g c = fewer _ _ _ _ _ _ _ _ _ _ _ c.loop-taken.invariant c.unread-unread.ensures c.unread-then-not-put.ensures
+overflow_sub-result-then-not-put g c =
+    fewer c.loop-taken.invariant g.C.Chars.units_of c.unread-unread.ensures c.unread-then-not-put.ensures
 
 pub returns-then-not-put : goal.returns-then-not-put
 returns-then-not-put g c =
-    let call = overflows _ g.E.CharEncoder.state _ c.loop-taken.state _ _ _ _ _ _ _ c.loop-taken.invariant c.unread-unread.ensures _ c.in-Some.ensures _ _ c.unread-then-not-put.ensures
-    (c.put.ensures.unchanged c.if-not-put.true) (no_report _ c.in_default-report.not-Some) (c.put.ensures.full c.if-not-put.true) in
-    record { call = call; text = into_keeps_text _ _ _ _ _ _ _ _ _ _ _ c.requires.lawful call; need = into_meets_need _ _ _ _ _ _ _ _ _ _ _ call }
+    let call = overflows g.E.CharEncoder.state c.loop-taken.state c.loop-taken.invariant g.C.Chars.units_of
+    c.unread-unread.ensures c.in-Some.ensures c.unread-then-not-put.ensures
+    (c.put.ensures.unchanged c.if-not-put.true) (no_report _ c.in_default-report.not-Some)
+    (c.put.ensures.full c.if-not-put.true) in
+    record { call = call; text = into_keeps_text c.requires.lawful call; need = into_meets_need call }
 
 lt_le : (a b k : ℕ) → a ≤ b → b < k → a < k
 lt_le a b k l h = omega arith
@@ -42,9 +48,8 @@ loop-taken-smaller g c =
       | then-taken w ↦ rw (w.src-is, w.if-taken.true) w.advance-then-taken.ensures
       | else-taken w ↦ rw (w.src-is, w.if-taken.false) refl
     ] in
-    lt_le _ _ _ (no_more_steps _ _ _ _ _ _ _ _ c.write_run-written.ensures)
-    (fewer_steps _ g.E.CharEncoder.state _ c.loop-taken.state _ _ _ _ _ _ _ c.loop-taken.invariant
-    c.unread-unread.ensures _ c.in-Some.ensures _ left)
+    lt_le _ _ _ (no_more_steps _ c.write_run-written.ensures)
+    (fewer_steps g.E.CharEncoder.state c.loop-taken.state c.loop-taken.invariant c.in-Some.ensures left)
 
 pub loop-taken-preserved : goal.loop-taken-preserved
 loop-taken-preserved g c =
@@ -53,9 +58,8 @@ loop-taken-preserved g c =
       | then-taken w ↦ rw (w.src-is, w.if-taken.true) w.advance-then-taken.ensures
       | else-taken w ↦ rw (w.src-is, w.if-taken.false) refl
     ] in
-    run_further _ _ _ _ _ _ _ _ _ _ _
-    (takes _ g.E.CharEncoder.state _ c.loop-taken.state _ _ _ _ _ _ _ c.loop-taken.invariant c.unread-unread.ensures
-    _ c.in-Some.ensures _ _ left
+    run_further
+    (takes g.E.CharEncoder.state c.loop-taken.state c.loop-taken.invariant c.in-Some.ensures left
     (no_report _ c.in_default-report.not-Some) c.put.ensures.count (c.put.ensures.fits c.if-not-put.false)
     (c.put.ensures.put c.if-not-put.false))
     c.write_run-written.ensures

@@ -4,51 +4,55 @@ use Rattle.enc_encoder.proofs.replacing.encode_replacing.Goals as goal
 
 pub returns-then-dst-lt-LONGEST_REFERENCE-clause-call : goal.returns-then-dst-lt-LONGEST_REFERENCE-clause-call
 returns-then-dst-lt-LONGEST_REFERENCE-clause-call g c =
-    let d = stop_small _ _ _ _ _ _ c.if-dst-lt-LONGEST_REFERENCE.true _ c.full_result.ensures in d.call
+    let stopped = stop_small g.C.Chars.units_of
+    (record {
+      state = g.E.RawEncoder.state c.args.encoder.now;
+      src = g.C.Chars.rest c.args.src.now;
+      last = c.args.last;
+      slice = c.args.dst.now;
+      kept = 10;
+    })
+    c.if-dst-lt-LONGEST_REFERENCE.true _ c.full_result.ensures in
+    stopped.call
 
 pub loop-src-init : goal.loop-src-init
-loop-src-init g c = begin _ _ _ _ _
+loop-src-init g c = begin _
 
 pub returns-in-InputEmpty : goal.returns-in-InputEmpty
 returns-in-InputEmpty g c =
-    let b = rw c.in-InputEmpty.is at c.encode_after-result.ensures in
-    let stopped =
-    stop_empty _ _ _ _ _ _ _ _ _ _ _ _ _ _ _ _ c.if-dst-lt-LONGEST_REFERENCE.false c.loop-src.invariant
-    c.unread-unread.ensures b _ c.unread.ensures in
+    let encoded = rw c.in-InputEmpty.is at c.encode_after-result.ensures in
+    let stopped = stop_empty g.C.Chars.units_of c.loop-src.invariant c.if-dst-lt-LONGEST_REFERENCE.false
+    c.unread-unread.ensures encoded c.unread.ensures in
     record { within = stopped.within; rest = stopped.slice_stays; call = stopped.call }
 
 pub overflow_sub-result-in-OutputFull : goal.overflow_sub-result-in-OutputFull
 overflow_sub-result-in-OutputFull g c =
-    fewer _ _ _ _ _ _ _ _ _ _ _ _ _ _ _ _ c.if-dst-lt-LONGEST_REFERENCE.false c.loop-src.invariant c.unread-unread.ensures
-    _ c.encode_after-result.ensures _ c.unread-in-OutputFull.ensures
+    fewer g.C.Chars.units_of c.loop-src.invariant c.if-dst-lt-LONGEST_REFERENCE.false c.unread-unread.ensures
+    c.encode_after-result.ensures c.unread-in-OutputFull.ensures
 
 pub returns-in-OutputFull : goal.returns-in-OutputFull
 returns-in-OutputFull g c =
-    let b = rw c.in-OutputFull.is at c.encode_after-result.ensures in
-    let stopped =
-    stop_full _ _ _ _ _ _ _ _ _ _ _ _ _ _ _ _ c.if-dst-lt-LONGEST_REFERENCE.false c.loop-src.invariant
-    c.unread-unread.ensures b _ c.unread-in-OutputFull.ensures in
+    let encoded = rw c.in-OutputFull.is at c.encode_after-result.ensures in
+    let stopped = stop_full g.C.Chars.units_of c.loop-src.invariant c.if-dst-lt-LONGEST_REFERENCE.false
+    c.unread-unread.ensures encoded c.unread-in-OutputFull.ensures in
     record { within = stopped.within; rest = stopped.slice_stays; call = stopped.call }
 
 pub overflow_sub-result-then-written-limit : goal.overflow_sub-result-then-written-limit
 overflow_sub-result-then-written-limit g c =
-    fewer _ _ _ _ _ _ _ _ _ _ _ _ _ _ _ _ c.if-dst-lt-LONGEST_REFERENCE.false c.loop-src.invariant c.unread-unread.ensures
-    _ c.encode_after-result.ensures _ c.unread-then-written-limit.ensures
+    fewer g.C.Chars.units_of c.loop-src.invariant c.if-dst-lt-LONGEST_REFERENCE.false c.unread-unread.ensures
+    c.encode_after-result.ensures c.unread-then-written-limit.ensures
 
 pub returns-then-written-limit : goal.returns-then-written-limit
 returns-then-written-limit g c =
-    let b = rw c.in-Unmappable.is at c.encode_after-result.ensures in
+    let encoded = rw c.in-Unmappable.is at c.encode_after-result.ensures in
     let put = c.put_reference-written.ensures in
-    let stopped =
-    stop_after _ _ _ _ _ _ _ _ _ _ _ _ _ _ _ _ c.if-dst-lt-LONGEST_REFERENCE.false c.loop-src.invariant
-    c.unread-unread.ensures _ _ _ b put.len put.onto
-    c.if-written-limit.true put.bound _ c.full_result-stop.ensures _ c.unread-then-written-limit.ensures in
+    let stopped = stop_after g.C.Chars.units_of c.loop-src.invariant c.if-dst-lt-LONGEST_REFERENCE.false
+    c.unread-unread.ensures encoded put.len put.onto c.if-written-limit.true put.bound c.full_result-stop.ensures
+    c.unread-then-written-limit.ensures in
     record { within = stopped.within; rest = stopped.slice_stays; call = stopped.call }
 
 pub loop-src-preserved : goal.loop-src-preserved
 loop-src-preserved g c =
-    let b = rw c.in-Unmappable.is at c.encode_after-result.ensures in
+    let encoded = rw c.in-Unmappable.is at c.encode_after-result.ensures in
     let put = c.put_reference-written.ensures in
-    goes_on _ _ _ _ _ _ _ _ _ _ _ _ _ _ _ _ c.if-dst-lt-LONGEST_REFERENCE.false c.loop-src.invariant
-    c.unread-unread.ensures _ _ _ b put.len put.onto
-    c.if-written-limit.false
+    goes_on c.loop-src.invariant encoded put.len put.onto c.if-written-limit.false

@@ -5,8 +5,21 @@ use Rattle.enc_encoder.proofs.replacing.encode_replacing.Given as goal
 
 abbrev pub invariant-loop-src : goal.invariant-loop-src
 invariant-loop-src g l =
-    Writing (g.E.RawEncoder.state l.initial.encoder) (g.E.RawEncoder.state l.encoder) (g.C.Chars.rest l.initial.src) (g.C.Chars.rest l.src) l.last l.limit
-    l.initial.dst l.dst l.written l.replaced
+    Writing
+    (record {
+      state = g.E.RawEncoder.state l.initial.encoder;
+      src = g.C.Chars.rest l.initial.src;
+      last = l.last;
+      slice = l.initial.dst;
+      kept = 10;
+    })
+    (record {
+      state = g.E.RawEncoder.state l.encoder;
+      rest = g.C.Chars.rest l.src;
+      slice = l.dst;
+      written = l.written;
+      replaced = l.replaced;
+    })
 
 -- each turn takes the step of a report off
 abbrev pub decreases-loop-src : goal.decreases-loop-src

@@ -4,5 +4,5 @@ use Rattle.enc_encoder.proofs.RunLemmas.{writes_in_set}
 use Rattle.enc_encoder.proofs.stateless.StatelessEncoderCharEncoder.write_run.Goals as goal
 
 pub returns : goal.returns
-returns g c = writes_in_set (stateless_rule (g.R.Repertoire.bytes_for c.args.self.repertoire)) Ascii _ _ _ _ _ _
+returns g c = writes_in_set (stateless_rule (g.R.Repertoire.bytes_for c.args.self.repertoire)) Ascii
     c.write_mapped.ensures

@@ -5,5 +5,4 @@ use Rattle.enc_encode.proofs.encoders.iso_2022_jp.ShiftingEncoderCharEncoder.wri
 
 pub returns : goal.returns
 returns g c = writes_in_set (barring_rule (g.B.BarredChars.chars c.args.self.barred) iso_2022_jp_encoder_rule)
-    c.args.self.set
-    _ _ _ _ _ _ c.write_mapped.ensures
+    c.args.self.set c.write_mapped.ensures
