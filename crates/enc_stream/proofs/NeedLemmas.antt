@@ -28,9 +28,11 @@ use Rattle.enc_stream.specs.Need.{EncodesByNeed, IsEnoughForEncoding, IsEnoughIf
 
 -- a call that reports unmappable characters meets its need
 
-pub by_need : (units_of : ℕ → List ℕ) (old new : EncoderState) (src : List ℕ) (last : Bool) (room : ℕ) (result : EncoderResult) (read : ℕ) (wrote : List ℕ) (replaced : Bool)
-    → EncodesChunk units_of Fatal old new src last room result read wrote replaced → EncodesByNeed units_of old new src last room result read (length wrote)
-by_need units_of old new src last room result read wrote replaced encodes = record {
+pub by_need : {units_of : ℕ → List ℕ} {old new : EncoderState} {src : List ℕ} {last : Bool} {room : ℕ}
+    {result : EncoderResult} {read : ℕ} {wrote : List ℕ} {replaced : Bool}
+    → EncodesChunk units_of Fatal old new src last room result read wrote replaced
+    → EncodesByNeed units_of old new src last room result read (length wrote)
+by_need {units_of} {old} {new} {src} {last} {room} {result} {read} {wrote} {replaced} encodes = record {
   front = step_chars encodes.call.done;
   rest = encodes.rest;
   parts = encodes.call.reads;
@@ -40,13 +42,14 @@ by_need units_of old new src last room result read wrote replaced encodes = reco
       replaced encodes.call;
 }
 
-pub into_by_need : (units_of : ℕ → List ℕ) (old new : EncoderState) (src : List ℕ) (last : Bool) (before after : List ℕ) (result : EncoderResult) (read written : ℕ) (replaced : Bool)
+pub into_by_need : {units_of : ℕ → List ℕ} {old new : EncoderState} {src : List ℕ} {last : Bool}
+    {before after : List ℕ} {result : EncoderResult} {read written : ℕ} {replaced : Bool}
     → written ≤ length after → EncodesInto units_of Fatal old new src last before after result read written replaced
     → EncodesByNeed units_of old new src last (length before) result read written
-into_by_need units_of old new src last before after result read written replaced l e =
-    let count : length (take written after) ≡ written = omega (arith, l, length-take written after) in
+into_by_need {units_of} {old} {new} {src} {last} {before} {after} {result} {read} {written} fits made =
+    let count : length (take written after) ≡ written = omega (arith, fits, length-take written after) in
     subst (λ (n : ℕ). EncodesByNeed units_of old new src last (length before) result read n) count
-    (by_need units_of old new src last (length before) result read (take written after) replaced e.encodes)
+    (by_need made.encodes)
 
 -- the lengths of the encoding that is written, which is UTF-8 where it has no encoder, are enough
 or_enough : (b : List ℕ) (l : ByteLengths) (found : Option EncoderRule) → IsEnoughIfAny l found → (v : VariantEncoder) → (variant_encoder_state v).rule ≡ barring_rule b (rule_or_utf_8 found) → AreEnoughForEncoder l (variant_encoder_state v)
