@@ -191,21 +191,21 @@ pub too_long_after : {handling : BomHandling} {e : Encoding} {bytes : List ℕ} 
 too_long_after is_fresh length_is has_room coder.InputEmpty goes_on call passes = absurd (goes_on refl)
 too_long_after {bytes} {new} is_fresh length_is {room} has_room coder.OutputFull goes_on {read} {wrote} {replaced} call
     passes = record {
-  room = room;
-  enough =
-      subst (λ (n : Option ℕ). HasRoomFor n room)
-      (length_is ∙ ap (λ d. max_length Utf8Reporting d (length bytes)) is_fresh)
-      has_room;
-  state = new;
-  read = read;
-  wrote = wrote;
-  replaced = replaced;
-  call =
-      subst (λ d. AnswersDecodeReplacing encode_utf8 4 d new bytes true room coder.OutputFull read wrote replaced)
-      is_fresh
-      call;
-  passes = passes;
-}
+      room = room;
+      enough =
+          subst (λ (n : Option ℕ). HasRoomFor n room)
+          (length_is ∙ ap (λ d. max_length Utf8Reporting d (length bytes)) is_fresh)
+          has_room;
+      state = new;
+      read = read;
+      wrote = wrote;
+      replaced = replaced;
+      call =
+          subst (λ d. AnswersDecodeReplacing encode_utf8 4 d new bytes true room coder.OutputFull read wrote replaced)
+          is_fresh
+          call;
+      passes = passes;
+    }
 
 -- the encoding of a mark, with its length
 
