@@ -39,12 +39,12 @@ module _ (units_of : ℕ → List ℕ) (determine : DetermineTexts units_of) (le
   counted : (result : DecoderResult) (d : Made result) → length (sequence_bytes d.call.done) + length new.pending
       ≤ length old.pending + read
   counted result made =
-      let x : List ℕ = mark_bytes (mark_in (phase_of old.life) (old.pending ++ take read src)) in
+      let of_mark : List ℕ = mark_bytes (mark_in (phase_of old.life) (old.pending ++ take read src)) in
       omega (
         arith,
         ap length made.accounted,
         length-append old.pending (take read src),
-        length-append x (sequence_bytes made.call.done ++ new.pending),
+        length-append of_mark (sequence_bytes made.call.done ++ new.pending),
         length-append (sequence_bytes made.call.done) new.pending,
         length-take read src,
       )

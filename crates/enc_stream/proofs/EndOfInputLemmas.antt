@@ -51,16 +51,19 @@ open_left : (life : LifeCycle) (bytes : List ℕ) → has_ended (life_after_byte
 open_left SeenUtf8Second bytes = open_bb (bytes_eq (0xEF ∷ []) bytes)
 open_left _ bytes = refl
 
-open_some : (life : LifeCycle) (done : List Sequence) → has_ended life ≡ false → has_ended (life_after_sequences (Some life) done) ≡ false
+open_some : (life : LifeCycle) (done : List Sequence) → has_ended life ≡ false
+    → has_ended (life_after_sequences (Some life) done) ≡ false
 open_some life [] h = h
 open_some life (s ∷ ss) h = open_left life (sequence_bytes (s ∷ ss))
 
-open_if : (b : Bool) (life : LifeCycle) (other : Option LifeCycle) (done : List Sequence) → has_ended life ≡ false → has_ended (life_after_sequences other done) ≡ false
+open_if : (b : Bool) (life : LifeCycle) (other : Option LifeCycle) (done : List Sequence) → has_ended life ≡ false
+    → has_ended (life_after_sequences other done) ≡ false
     → has_ended (life_after_sequences (if b then Some life else other) done) ≡ false
 open_if true life other done h k = open_some life done h
 open_if false life other done h k = k
 
-open_at : (states : List (List ℕ × LifeCycle)) (bytes : List ℕ) (done : List Sequence) → any_ended states ≡ false → has_ended (life_after_sequences (life_at_prefix states bytes) done) ≡ false
+open_at : (states : List (List ℕ × LifeCycle)) (bytes : List ℕ) (done : List Sequence) → any_ended states ≡ false
+    → has_ended (life_after_sequences (life_at_prefix states bytes) done) ≡ false
 unfolding any_ended
 open_at [] bytes done none_has_ended = refl
 open_at (front ∷ others) bytes done none_has_ended =
@@ -69,7 +72,8 @@ open_at (front ∷ others) bytes done none_has_ended =
     (open_at others bytes done (others_open (has_ended front.1) (any_ended others) none_has_ended))
 
 -- only the end leads to the end
-pub ends_at_end : (life : LifeCycle) (end : Bool) (bytes : List ℕ) (done : List Sequence) → has_ended (life_after life end bytes done) ≡ end
+pub ends_at_end : (life : LifeCycle) (end : Bool) (bytes : List ℕ) (done : List Sequence)
+    → has_ended (life_after life end bytes done) ≡ end
 ends_at_end life true bytes done = refl
 ends_at_end life false bytes done = open_at (mark_prefixes life) bytes done (none_ended life)
 
@@ -128,13 +132,15 @@ fresh_open Sniff e = refl
 fresh_open Remove e = removal_open e.id
 
 -- and all is still to come
-pub fresh_sequences : (handling : BomHandling) (e : Encoding) (bytes : List ℕ) → whole_sequences handling e bytes ≡ remaining_sequences (fresh_decoder handling e) bytes
+pub fresh_sequences : (handling : BomHandling) (e : Encoding) (bytes : List ℕ)
+    → whole_sequences handling e bytes ≡ remaining_sequences (fresh_decoder handling e) bytes
 fresh_sequences Off e bytes = refl
 fresh_sequences Sniff e bytes = refl
 fresh_sequences Remove e bytes = removal_sequences e.id e bytes
 
 -- at the end nothing is still to come
-pub none_left : (life : LifeCycle) (e : Encoding) (set : ℕ) (bytes : List ℕ) → has_ended life ≡ true → sequences_in (phase_of life) e set bytes ≡ []
+pub none_left : (life : LifeCycle) (e : Encoding) (set : ℕ) (bytes : List ℕ) → has_ended life ≡ true
+    → sequences_in (phase_of life) e set bytes ≡ []
 none_left Finished e set bytes h = refl
 none_left _ e set bytes h = absurd (true≢false (sym h))
 

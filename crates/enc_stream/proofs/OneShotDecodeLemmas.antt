@@ -37,7 +37,8 @@ use Rattle.enc_stream.proofs.EndOfInputLemmas.{fresh_sequences, has_finished_by,
 
 pub nothing : (bytes : List ℕ) → true ≡ (length bytes == 0) → bytes ≡ []
 nothing [] h = refl
-nothing (b ∷ bytes) h = let f : length (b ∷ bytes) ≡ 0 = grind (arith, nat_tests) in absurd (omega (arith, f))
+nothing (b ∷ bytes) h =
+    let has_no_length : length (b ∷ bytes) ≡ 0 = grind (arith, nat_tests) in absurd (omega (arith, has_no_length))
 
 -- an empty input has no sequence
 
@@ -118,7 +119,8 @@ pub first_call : {handling : BomHandling} {e : Encoding} {bytes : List ℕ} {old
     → take (length before) after ≡ before → decodes.call.put ≡ decodes.call.done
     → HasDecoded handling e bytes (drop read bytes) true new after replaced
 first_call {handling} {e} {bytes} {old} is_fresh is_empty decodes keeps all_put =
-    let none_so_far : HasDecoded handling e bytes bytes true old [] false = rw is_fresh (none_decoded handling e bytes) in
+    let none_so_far : HasDecoded handling e bytes bytes true old [] false =
+    rw is_fresh (none_decoded handling e bytes) in
     next_call none_so_far refl is_empty decodes keeps all_put
 
 or_true : (b : Bool) → (b || true) ≡ true
@@ -215,8 +217,8 @@ encoding_and_length m = (m.encoding, length m.bytes)
 pub encoding_by_mark : (found : Option Mark) (e other : Encoding) (n : ℕ)
     → option_map encoding_and_length found ≡ Some (other, n) → other ≡ encoding_of_mark_or found e
 encoding_by_mark None e other n h = cc
-encoding_by_mark (Some m) e other n h = let f : encoding_and_length m ≡ (other, n) = cc in
-    sym (ap (λ (p : Encoding × ℕ). p.0) f)
+encoding_by_mark (Some m) e other n h =
+    let pair_is : encoding_and_length m ≡ (other, n) = cc in sym (ap (λ (p : Encoding × ℕ). p.0) pair_is)
 
 pub encoding_without_mark : (found : Option Mark) (e : Encoding) → option_map encoding_and_length found ≡ None
     → e ≡ encoding_of_mark_or found e
