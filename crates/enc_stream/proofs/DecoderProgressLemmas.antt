@@ -10,7 +10,7 @@ use Rattle.enc_decoder.specs.Call.{DecodeErrorMode}
 use Rattle.enc_decoder.proofs.SequenceLemmas.{sequence_bytes-one}
 use Rattle.enc_stream.specs.LifeCycle.{phase_of, mark_in, mark_bytes}
 use Rattle.enc_stream.specs.Decoding.{DecoderState, has_finished, DecodesChunk, TakesSmallTexts}
-use Rattle.enc_stream.proofs.EndOfInputLemmas.{finishes_by}
+use Rattle.enc_stream.proofs.EndOfInputLemmas.{has_finished_by}
 use Rattle.enc_stream.proofs.OutputFullLemmas.{less_at_hand}
 
 -- a call that came to the end has read everything
@@ -19,15 +19,13 @@ pub ends_read : (units_of : ℕ → List ℕ) (mode : DecodeErrorMode) (old new 
     → DecodesChunk units_of mode old new src last room result read wrote replaced → has_finished new ≡ true
     → (last ≡ true) × (read ≡ length src)
 ends_read units_of mode old new src last room InputEmpty read wrote replaced decodes e = (
-  sym (finishes_by units_of mode old new src last room InputEmpty read wrote replaced decodes)
-      ∙ e,
+  sym (has_finished_by decodes) ∙ e,
   decodes.call.stops.all_read,
 )
 ends_read units_of mode old new src last room OutputFull read wrote replaced decodes e =
-    absurd (true≢false (sym e ∙ finishes_by units_of mode old new src last room OutputFull read wrote replaced decodes))
+    absurd (true≢false (sym e ∙ has_finished_by decodes))
 ends_read units_of mode old new src last room (Malformed l a) read wrote replaced decodes e =
-    absurd (true≢false (sym e ∙ finishes_by units_of mode old new src last room (Malformed l a) read wrote replaced
-    decodes))
+    absurd (true≢false (sym e ∙ has_finished_by decodes))
 
 -- Bytes unread count twice, and those pending once: where a call doesn't end the input, fewer are left.
 module _ (units_of : ℕ → List ℕ) (determine : DetermineTexts units_of) (least : ℕ)
@@ -41,12 +39,12 @@ module _ (units_of : ℕ → List ℕ) (determine : DetermineTexts units_of) (le
   counted : (result : DecoderResult) (d : Made result) → length (sequence_bytes d.call.done) + length new.pending
       ≤ length old.pending + read
   counted result made =
-      let x : List ℕ = mark_bytes (mark_in (phase_of old.life) (old.pending ++ take read src)) in
+      let of_mark : List ℕ = mark_bytes (mark_in (phase_of old.life) (old.pending ++ take read src)) in
       omega (
         arith,
         ap length made.accounted,
         length-append old.pending (take read src),
-        length-append x (sequence_bytes made.call.done ++ new.pending),
+        length-append of_mark (sequence_bytes made.call.done ++ new.pending),
         length-append (sequence_bytes made.call.done) new.pending,
         length-take read src,
       )
@@ -57,7 +55,7 @@ module _ (units_of : ℕ → List ℕ) (determine : DetermineTexts units_of) (le
     where
       by_last : (l : Bool) → last ≡ l → (has_finished new ≡ true) ⊎ (2 * (length src - read) + length new.pending
           < 2 * length src + length old.pending)
-      by_last true e = inl (finishes_by units_of mode old new src last room InputEmpty read wrote replaced made ∙ e)
+      by_last true e = inl (has_finished_by made ∙ e)
       by_last false e = inr (omega (arith, some e, made.call.stops.all_read, counted InputEmpty made))
   nearer OutputFull made some =
       inr (omega (

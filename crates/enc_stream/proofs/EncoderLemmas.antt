@@ -31,12 +31,14 @@ pub has_encoder : (e : Encoding) → is_some (encoder_rule (codec_by_id (output_
 has_encoder e = has_encoder_by_id e.id
 
 -- an encoder of the codec's rule, without the characters that are barred, writes by the encoding's
-pub is_output_rule : (b : List ℕ) (o : Option EncoderRule) (rule : EncoderRule) → option_map (barring_rule b) o ≡ Some rule → rule ≡ barring_rule b (rule_or_utf_8 o)
+pub is_output_rule : (b : List ℕ) (o : Option EncoderRule) (rule : EncoderRule)
+    → option_map (barring_rule b) o ≡ Some rule → rule ≡ barring_rule b (rule_or_utf_8 o)
 is_output_rule b None rule e = cc
 is_output_rule b (Some x) rule e = cc
 
 -- how many bytes are kept back, where every character is mappable and elsewhere
-pub kept_by : (b : List ℕ) (e : Encoding) (every : Bool) → maps_every_character b e ≡ every → Html (if every then 0 else 10) ≡ html_mode_in b e
+pub kept_by : (b : List ℕ) (e : Encoding) (every : Bool) → maps_every_character b e ≡ every
+    → Html (if every then 0 else 10) ≡ html_mode_in b e
 kept_by b e every h = ap (λ t. Html (if t then 0 else 10)) (sym h)
 
 rule_by_id : EncodingId → EncoderRule
@@ -47,7 +49,8 @@ utf_8_has Utf8 h = refl
 utf_8_has _ h = cc
 
 -- UTF-8 has every character, where none is barred
-pub maps_all : (b : List ℕ) (e : Encoding) (rule : EncoderRule) → rule ≡ output_rule b e → maps_every_character b e ≡ true → MapsEveryCharacter rule
+pub maps_all : (b : List ℕ) (e : Encoding) (rule : EncoderRule) → rule ≡ output_rule b e
+    → maps_every_character b e ≡ true → MapsEveryCharacter rule
 unfolding rule_by_id
 maps_all [] e rule r h = subst MapsEveryCharacter (sym (r ∙ ap rule_by_id (utf_8_has e.id h))) (λ c. refl)
 maps_all (x ∷ b) e rule r h = cc
@@ -59,12 +62,14 @@ ascii_left Ascii h = refl
 ascii_left Roman h = cc
 ascii_left Jis0208 h = cc
 
-nothing_pending : (v : RawEncoderState) (rest : List ℕ) (last : Bool) → is_nothing_left v rest last ≡ true → last ≡ true → v.set ≡ Ascii
+nothing_pending : (v : RawEncoderState) (rest : List ℕ) (last : Bool) → is_nothing_left v rest last ≡ true
+    → last ≡ true → v.set ≡ Ascii
 nothing_pending v [] true h l = ascii_left v.set h
 nothing_pending v [] false h l = cc
 nothing_pending v (c ∷ t) last h l = cc
 
-ends_in_ascii : (mode : EncodeErrorMode) (new : RawEncoderState) (rest : List ℕ) (last : Bool) (room : ℕ) (done : List Step) (result : EncoderResult) → StopsInMode mode new rest last room done result
+ends_in_ascii : (mode : EncodeErrorMode) (new : RawEncoderState) (rest : List ℕ) (last : Bool) (room : ℕ)
+    (done : List Step) (result : EncoderResult) → StopsInMode mode new rest last room done result
     → result ≡ InputEmpty → last ≡ true → new.set ≡ Ascii
 ends_in_ascii Fatal new rest last room done InputEmpty s q l = s.ended l
 ends_in_ascii (Html kept) new rest last room done InputEmpty s q l = nothing_pending new rest last s l
@@ -72,51 +77,71 @@ ends_in_ascii mode new rest last room done OutputFull s q l = cc
 ends_in_ascii mode new rest last room done (Unmappable k) s q l = cc
 
 -- A call of the raw encoder is one of the encoder.
-module _ (units_of : ℕ → List ℕ) (b : List ℕ) (e : Encoding) (old new : RawEncoderState) (keeps : old.rule ≡ output_rule b e) (mode : EncodeErrorMode)
-    (src rest : List ℕ) (last : Bool) (room : ℕ) (result : EncoderResult) (read : ℕ) (wrote : List ℕ) (replaced : Bool)
+module _ {units_of : ℕ → List ℕ} (barred : List ℕ) (encoding : Encoding) {old new : RawEncoderState}
+    (keeps : old.rule ≡ output_rule barred encoding) {mode : EncodeErrorMode} {src rest : List ℕ} {last : Bool}
+    {room : ℕ} {result : EncoderResult} {read : ℕ} {wrote : List ℕ} {replaced : Bool}
     (call : EncoderCallInMode units_of mode old new src rest last room result read wrote replaced) where
-  pub rule_stays : new.rule ≡ output_rule b e
+  abbrev with_set : CharacterSet → EncoderState
+  with_set set = record { encoding = encoding; barred = barred; set = set }
+
+  rule_stays : new.rule ≡ output_rule barred encoding
   rule_stays = call.rule ∙ keeps
 
-  same : (v : RawEncoderState) → v.rule ≡ output_rule b e → v ≡ record { rule = output_rule b e; set = v.set }
-  same v q = let made : EncoderRule → RawEncoderState = λ r. record { rule = r; set = v.set } in ap made q
+  same : (state : RawEncoderState) → state.rule ≡ output_rule barred encoding
+      → state ≡ record { rule = output_rule barred encoding; set = state.set }
+  same state rule_is =
+      let with_rule : EncoderRule → RawEncoderState = λ r. record { rule = r; set = state.set } in ap with_rule rule_is
 
-  encodes : EncodesChunk units_of mode (record { encoding = e; barred = b; set = old.set }) (record { encoding = e; barred = b; set = new.set }) src last room result read wrote replaced
+  encodes : EncodesChunk units_of mode (with_set old.set) (with_set new.set) src last room result read wrote replaced
   encodes = record {
     encoding = refl;
     barred = refl;
     rest = rest;
-    call = subst (λ (v : RawEncoderState). EncoderCallInMode units_of mode v (record { rule = output_rule b e; set = new.set }) src rest last room result read wrote replaced) (same old keeps)
-        (subst (λ (v : RawEncoderState). EncoderCallInMode units_of mode old v src rest last room result read wrote replaced) (same new rule_stays) call);
-    ended = λ q l. let made : CharacterSet → EncoderState = λ s. record { encoding = e; barred = b; set = s } in ap made (ends_in_ascii mode new rest last room call.done result call.stops q l);
+    call =
+        subst (λ (state : RawEncoderState). EncoderCallInMode units_of mode state
+        (record { rule = output_rule barred encoding; set = new.set }) src rest last room result read wrote replaced)
+        (same old keeps)
+        (subst (λ (state : RawEncoderState). EncoderCallInMode units_of mode old state src rest last room result read
+        wrote replaced) (same new rule_stays) call);
+    ended =
+        λ at_end is_last. ap with_set (ends_in_ascii mode new rest last room call.done result call.stops at_end
+        is_last);
   }
 
-  pub encodes_by : (t : EncodeErrorMode) → mode ≡ t → EncodesChunk units_of t (record { encoding = e; barred = b; set = old.set }) (record { encoding = e; barred = b; set = new.set }) src last room result read wrote replaced
-  encodes_by t h = subst (λ (x : EncodeErrorMode). EncodesChunk units_of x (record { encoding = e; barred = b; set = old.set }) (record { encoding = e; barred = b; set = new.set }) src last room result read wrote replaced) h encodes
+  pub encodes_by : {other : EncodeErrorMode} → mode ≡ other
+      → EncodesChunk units_of other (with_set old.set) (with_set new.set) src last room result read wrote replaced
+  encodes_by is_mode =
+      subst (λ (m : EncodeErrorMode). EncodesChunk units_of m (with_set old.set) (with_set new.set) src last room
+      result read wrote replaced) is_mode encodes
 
 -- A call whose bytes are at the end of another list than the one that it wrote into.
-pub in_tail : (units_of : ℕ → List ℕ) (mode : EncodeErrorMode) (old new : EncoderState) (src : List ℕ) (last : Bool) (room size : ℕ) (result : EncoderResult) (read : ℕ) (wrote tail : List ℕ) (replaced : Bool)
-    → room ≡ size → wrote ≡ tail → EncodesChunk units_of mode old new src last room result read wrote replaced → EncodesChunk units_of mode old new src last size result read tail replaced
-in_tail units_of mode old new src last room size result read wrote tail replaced r w e =
-    subst (λ (n : ℕ). EncodesChunk units_of mode old new src last n result read tail replaced) r
-    (subst (λ (x : List ℕ). EncodesChunk units_of mode old new src last room result read x replaced) w e)
+pub in_tail : {units_of : ℕ → List ℕ} {mode : EncodeErrorMode} {old new : EncoderState} {src : List ℕ} {last : Bool}
+    {room size : ℕ} {result : EncoderResult} {read : ℕ} {wrote tail : List ℕ} {replaced : Bool}
+    → room ≡ size → wrote ≡ tail → EncodesChunk units_of mode old new src last room result read wrote replaced
+    → EncodesChunk units_of mode old new src last size result read tail replaced
+in_tail {units_of} {mode} {old} {new} {src} {last} {room} {result} {read} {tail} {replaced} room_is wrote_is encodes =
+    subst (λ (n : ℕ). EncodesChunk units_of mode old new src last n result read tail replaced) room_is
+    (subst (λ (bytes : List ℕ). EncodesChunk units_of mode old new src last room result read bytes replaced) wrote_is
+    encodes)
 
 -- The rest of a list after its front, if it was cut after the bytes written there.
-pub tail_of : (front slice post junk final : List ℕ) (len written n : ℕ) → length front ≡ len → written ≤ length slice → len + written ≤ n
+pub tail_of : (front slice post junk : List ℕ) {final : List ℕ} {len : ℕ} (written n : ℕ) → length front ≡ len
+    → written ≤ length slice → len + written ≤ n
     → final ≡ take (len + written) (take n ((front ++ (slice ++ post)) ++ junk)) → take written slice ≡ drop len final
-tail_of front slice post junk final len written n f written_fits room_fits e =
+tail_of front slice post junk {final} {len} written n front_is written_fits room_fits final_is =
     let following = slice ++ (post ++ junk) in
     let all = (front ++ (slice ++ post)) ++ junk in
     let split : all ≡ front ++ following =
     append_assoc front (slice ++ post) junk ∙ ap (λ x. front ++ x) (append_assoc slice post junk) in
-    let m = n - len in
-    let dropped : drop len (take n all) ≡ take m following =
-    ap (λ k. drop len (take k all)) (let k : n ≡ len + m = omega (arith, room_fits) in k) ∙ drop-take len m all
-    ∙ ap (take m) (ap (drop len) split
-    ∙ ap (λ k. drop k (front ++ following)) (sym f) ∙ drop-append_seam front following) in
-    let reach : written ≤ length (take m following) =
-    omega (arith, room_fits, written_fits, length-take m following, length-append slice (post ++ junk)) in
-    sym (ap (drop len) e ∙ drop-take len written (take n all) ∙ ap (take written) dropped
-    ∙ sym (take-append-le written (take m following) (drop m following) reach)
-    ∙ ap (take written) (take-append-drop m following)
+    let room = n - len in
+    let dropped : drop len (take n all) ≡ take room following =
+    ap (λ k. drop len (take k all)) (let parts : n ≡ len + room = omega (arith, room_fits) in parts)
+    ∙ drop-take len room all
+    ∙ ap (take room) (ap (drop len) split
+    ∙ ap (λ k. drop k (front ++ following)) (sym front_is) ∙ drop-append_seam front following) in
+    let reach : written ≤ length (take room following) =
+    omega (arith, room_fits, written_fits, length-take room following, length-append slice (post ++ junk)) in
+    sym (ap (drop len) final_is ∙ drop-take len written (take n all) ∙ ap (take written) dropped
+    ∙ sym (take-append-le written (take room following) (drop room following) reach)
+    ∙ ap (take written) (take-append-drop room following)
     ∙ take-append-le written slice (post ++ junk) written_fits)

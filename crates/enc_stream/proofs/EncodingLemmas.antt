@@ -36,23 +36,29 @@ abbrev pub DecidesBytes : Bool → Rule → Type 0
 DecidesBytes true rule = ¬ (HasNoByteSequences rule)
 DecidesBytes false rule = HasNoByteSequences rule
 
--- Its texts are small, its lookahead is short, each of its sequences has a text, but in two encodings, and some byte is one
--- by itself, but in three.
+-- Its texts are small, its lookahead is short, each of its sequences has a text, but in two encodings, and some byte
+-- is one by itself, but in three.
 pub record KeepsLaws (may_lack : Type 0) (has_bytes : Bool) (rule : Rule) : Type 0 where
   pub lawful : IsLawfulRule rule
   pub texts : (may_lack → ⊥) → HasTexts rule
   pub bytes : DecidesBytes has_bytes rule
 
-one_byte_laws : (may_lack : Type 0) (character : ℕ → Option ℕ) → character 0x61 ≡ Some 0x61 → KeepsLaws may_lack true (one_byte_rule character)
-one_byte_laws may_lack character e =
-    record { lawful = one_byte_is_lawful character; texts = λ _. one_byte_has_texts character; bytes = one_byte_has_bytes character 0x61 0x61 e }
+one_byte_laws : (may_lack : Type 0) (character : ℕ → Option ℕ) → character 0x61 ≡ Some 0x61
+    → KeepsLaws may_lack true (one_byte_rule character)
+one_byte_laws may_lack character has_a =
+    record {
+      lawful = one_byte_is_lawful character;
+      texts = λ _. one_byte_has_texts character;
+      bytes = one_byte_has_bytes character 0x61 0x61 has_a;
+    }
 
-multi_byte_laws : (may_lack : Type 0) (prefix : List ℕ → Prefix) → ArePrefixes prefix → prefix (0x61 ∷ []) ≡ Complete (One 0x61) → KeepsLaws may_lack true (multi_byte_rule prefix)
-multi_byte_laws may_lack prefix are_prefixes e =
+multi_byte_laws : (may_lack : Type 0) (prefix : List ℕ → Prefix) → ArePrefixes prefix
+    → prefix (0x61 ∷ []) ≡ Complete (One 0x61) → KeepsLaws may_lack true (multi_byte_rule prefix)
+multi_byte_laws may_lack prefix are_prefixes has_a =
     record {
       lawful = multi_byte_is_lawful prefix are_prefixes;
       texts = λ _. multi_byte_has_texts prefix are_prefixes;
-      bytes = multi_byte_has_bytes prefix 0x61 (One 0x61) e;
+      bytes = multi_byte_has_bytes prefix 0x61 (One 0x61) has_a;
     }
 
 -- by codec; of one-byte encodings for any index

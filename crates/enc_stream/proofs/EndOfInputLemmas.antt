@@ -16,7 +16,7 @@ use Rattle.enc_units.specs.declared.coder_result.CoderResult.{CoderResult}
 use Rattle.enc_units.specs.declared.coder_result.CoderResult.TheVariants.{InputEmpty, OutputFull}
 use Rattle.enc_units.specs.Output.{units_of_text}
 use Rattle.enc_decoder.specs.Sequence.{Sequence, sequence_bytes, sequence_text, any_malformed}
-use Rattle.enc_decoder.specs.Call.{DecodeErrorMode, Replacement, reaches_end}
+use Rattle.enc_decoder.specs.Call.{DecodeErrorMode, reaches_end}
 use Rattle.enc_stream.specs.Bom.{marks_of_encoding, find_mark, sequences_by_mark}
 use Rattle.enc_stream.specs.LifeCycle.{phase_of, sequences_in, mark_prefixes, life_at_prefix, life_after_bytes}
 use Rattle.enc_stream.specs.LifeCycle.{life_after_sequences, life_after}
@@ -51,16 +51,19 @@ open_left : (life : LifeCycle) (bytes : List ℕ) → has_ended (life_after_byte
 open_left SeenUtf8Second bytes = open_bb (bytes_eq (0xEF ∷ []) bytes)
 open_left _ bytes = refl
 
-open_some : (life : LifeCycle) (done : List Sequence) → has_ended life ≡ false → has_ended (life_after_sequences (Some life) done) ≡ false
+open_some : (life : LifeCycle) (done : List Sequence) → has_ended life ≡ false
+    → has_ended (life_after_sequences (Some life) done) ≡ false
 open_some life [] h = h
 open_some life (s ∷ ss) h = open_left life (sequence_bytes (s ∷ ss))
 
-open_if : (b : Bool) (life : LifeCycle) (other : Option LifeCycle) (done : List Sequence) → has_ended life ≡ false → has_ended (life_after_sequences other done) ≡ false
+open_if : (b : Bool) (life : LifeCycle) (other : Option LifeCycle) (done : List Sequence) → has_ended life ≡ false
+    → has_ended (life_after_sequences other done) ≡ false
     → has_ended (life_after_sequences (if b then Some life else other) done) ≡ false
 open_if true life other done h k = open_some life done h
 open_if false life other done h k = k
 
-open_at : (states : List (List ℕ × LifeCycle)) (bytes : List ℕ) (done : List Sequence) → any_ended states ≡ false → has_ended (life_after_sequences (life_at_prefix states bytes) done) ≡ false
+open_at : (states : List (List ℕ × LifeCycle)) (bytes : List ℕ) (done : List Sequence) → any_ended states ≡ false
+    → has_ended (life_after_sequences (life_at_prefix states bytes) done) ≡ false
 unfolding any_ended
 open_at [] bytes done none_has_ended = refl
 open_at (front ∷ others) bytes done none_has_ended =
@@ -69,28 +72,47 @@ open_at (front ∷ others) bytes done none_has_ended =
     (open_at others bytes done (others_open (has_ended front.1) (any_ended others) none_has_ended))
 
 -- only the end leads to the end
-pub ends_at_end : (life : LifeCycle) (end : Bool) (bytes : List ℕ) (done : List Sequence) → has_ended (life_after life end bytes done) ≡ end
+pub ends_at_end : (life : LifeCycle) (end : Bool) (bytes : List ℕ) (done : List Sequence)
+    → has_ended (life_after life end bytes done) ≡ end
 ends_at_end life true bytes done = refl
 ends_at_end life false bytes done = open_at (mark_prefixes life) bytes done (none_ended life)
 
 -- so a call has finished exactly if it came to the end
-pub finishes_by : (units_of : ℕ → List ℕ) (mode : DecodeErrorMode) (old new : DecoderState) (src : List ℕ) (last : Bool) (room : ℕ) (result : DecoderResult) (read : ℕ) (wrote : List ℕ) (replaced : Bool)
+pub has_finished_by : {units_of : ℕ → List ℕ} {mode : DecodeErrorMode} {old new : DecoderState} {src : List ℕ}
+    {last : Bool} {room : ℕ} {result : DecoderResult} {read : ℕ} {wrote : List ℕ} {replaced : Bool}
     → DecodesChunk units_of mode old new src last room result read wrote replaced
     → has_finished new ≡ reaches_end last result
-finishes_by units_of mode old new src last room result read wrote replaced decodes =
+has_finished_by {old} {src} {last} {result} {read} decodes =
     ap has_ended decodes.life ∙ ends_at_end old.life (reaches_end last result) (old.pending ++ take read src)
     decodes.call.done
 
-pub finishes : (old new : DecoderState) (src : List ℕ) (last : Bool) (room : ℕ) (result : CoderResult) (read : ℕ) (wrote : List ℕ) (replaced : Bool)
-    → DecodesReplacing encode_utf8 old new src last room result read wrote replaced → has_finished new ≡ reaches_end last (decoder_result_of result)
-finishes old new src last room result read wrote replaced h = finishes_by encode_utf8 Replacement old new src last room (decoder_result_of result) read wrote replaced h
+-- the same for a call whose arguments are given, of any kind and with replacement
+
+pub finishes_by : (units_of : ℕ → List ℕ) (mode : DecodeErrorMode) (old new : DecoderState) (src : List ℕ)
+    (last : Bool) (room : ℕ) (result : DecoderResult) (read : ℕ) (wrote : List ℕ) (replaced : Bool)
+    → DecodesChunk units_of mode old new src last room result read wrote replaced
+    → has_finished new ≡ reaches_end last result
+finishes_by units_of mode old new src last room result read wrote replaced decodes = has_finished_by decodes
+
+pub finishes : (old new : DecoderState) (src : List ℕ) (last : Bool) (room : ℕ) (result : CoderResult) (read : ℕ)
+    (wrote : List ℕ) (replaced : Bool)
+    → DecodesReplacing encode_utf8 old new src last room result read wrote replaced
+    → has_finished new ≡ reaches_end last (decoder_result_of result)
+finishes old new src last room result read wrote replaced decodes = has_finished_by decodes
 
 -- a call that replaces has put out all that it has done
-pub only_put : (old new : DecoderState) (src : List ℕ) (last : Bool) (room : ℕ) (result : CoderResult) (read : ℕ) (wrote : List ℕ) (replaced : Bool)
+pub puts_all : {old new : DecoderState} {src : List ℕ} {last : Bool} {room : ℕ} (result : CoderResult) {read : ℕ}
+    {wrote : List ℕ} {replaced : Bool}
     (decodes : DecodesReplacing encode_utf8 old new src last room result read wrote replaced)
     → decodes.call.put ≡ decodes.call.done
-only_put old new src last room InputEmpty read wrote replaced h = sym h.call.stops.only_put
-only_put old new src last room OutputFull read wrote replaced h = sym h.call.stops.only_put
+puts_all InputEmpty decodes = sym decodes.call.stops.only_put
+puts_all OutputFull decodes = sym decodes.call.stops.only_put
+
+pub only_put : (old new : DecoderState) (src : List ℕ) (last : Bool) (room : ℕ) (result : CoderResult) (read : ℕ)
+    (wrote : List ℕ) (replaced : Bool)
+    (decodes : DecodesReplacing encode_utf8 old new src last room result read wrote replaced)
+    → decodes.call.put ≡ decodes.call.done
+only_put old new src last room result read wrote replaced decodes = puts_all result decodes
 
 removal_sequences : (id : EncodingId) (e : Encoding) (bytes : List ℕ) → sequences_by_mark
     (find_mark (marks_of_encoding id) bytes) e bytes ≡ sequences_in (phase_of (removal_start id)) e 0 bytes
@@ -110,31 +132,31 @@ fresh_open Sniff e = refl
 fresh_open Remove e = removal_open e.id
 
 -- and all is still to come
-pub fresh_sequences : (handling : BomHandling) (e : Encoding) (bytes : List ℕ) → whole_sequences handling e bytes ≡ remaining_sequences (fresh_decoder handling e) bytes
+pub fresh_sequences : (handling : BomHandling) (e : Encoding) (bytes : List ℕ)
+    → whole_sequences handling e bytes ≡ remaining_sequences (fresh_decoder handling e) bytes
 fresh_sequences Off e bytes = refl
 fresh_sequences Sniff e bytes = refl
 fresh_sequences Remove e bytes = removal_sequences e.id e bytes
 
 -- at the end nothing is still to come
-pub none_left : (life : LifeCycle) (e : Encoding) (set : ℕ) (bytes : List ℕ) → has_ended life ≡ true → sequences_in (phase_of life) e set bytes ≡ []
+pub none_left : (life : LifeCycle) (e : Encoding) (set : ℕ) (bytes : List ℕ) → has_ended life ≡ true
+    → sequences_in (phase_of life) e set bytes ≡ []
 none_left Finished e set bytes h = refl
 none_left _ e set bytes h = absurd (true≢false (sym h))
 
 -- so the text is that of the whole input
-finished_sequences : (handling : BomHandling) (e : Encoding) (bytes unread : List ℕ) (state : DecoderState) (text : List ℕ) (had : Bool) (h : HasDecoded handling e bytes unread true state text had)
-    → has_finished state ≡ true → whole_sequences handling e bytes ≡ h.done
-finished_sequences handling e bytes unread state text had decoded f =
-    ap (whole_sequences handling e) (sym (append-nil bytes)) ∙ decoded.whole [] (λ _. refl)
-    ∙ ap (λ ss. decoded.done ++ ss) (none_left state.life state.encoding state.set (state.pending ++ (unread ++ [])) f)
-    ∙ append-nil decoded.done
+module _ {handling : BomHandling} {e : Encoding} {bytes unread : List ℕ} {state : DecoderState} {text : List ℕ}
+    {had : Bool} (decoded : HasDecoded handling e bytes unread true state text had)
+    (finished : has_finished state ≡ true) where
+  finished_sequences : whole_sequences handling e bytes ≡ decoded.done
+  finished_sequences =
+      ap (whole_sequences handling e) (sym (append-nil bytes)) ∙ decoded.whole [] (λ _. refl)
+      ∙ ap (λ ss. decoded.done ++ ss)
+      (none_left state.life state.encoding state.set (state.pending ++ (unread ++ [])) finished)
+      ∙ append-nil decoded.done
 
-pub whole_text : (handling : BomHandling) (e : Encoding) (bytes unread : List ℕ) (state : DecoderState) (text : List ℕ) (had : Bool) → HasDecoded handling e bytes unread true state text had
-    → has_finished state ≡ true → text ≡ whole_utf_8 handling e bytes
-whole_text handling e bytes unread state text had decoded f =
-    decoded.text ∙ ap (λ x. units_of_text encode_utf8 (sequence_text x))
-    (sym (finished_sequences handling e bytes unread state text had decoded f))
+  pub whole_text : text ≡ whole_utf_8 handling e bytes
+  whole_text = decoded.text ∙ ap (λ ss. units_of_text encode_utf8 (sequence_text ss)) (sym finished_sequences)
 
-pub whole_flag : (handling : BomHandling) (e : Encoding) (bytes unread : List ℕ) (state : DecoderState) (text : List ℕ) (had : Bool) → HasDecoded handling e bytes unread true state text had
-    → has_finished state ≡ true → had ≡ whole_malformed handling e bytes
-whole_flag handling e bytes unread state text had decoded f =
-    decoded.flag ∙ ap any_malformed (sym (finished_sequences handling e bytes unread state text had decoded f))
+  pub whole_flag : had ≡ whole_malformed handling e bytes
+  whole_flag = decoded.flag ∙ ap any_malformed (sym finished_sequences)

@@ -154,7 +154,7 @@ are_bytes_drop (suc n) (b ∷ z) a = are_bytes_drop n z a.1
 
 none_begins : (front : List Sequence) → AreFirstSequences front [] → front ≡ []
 none_begins [] b = refl
-none_begins (s ∷ ss) b = absurd (let e = b.1 in cc)
+none_begins (s ∷ ss) b = absurd (let same = b.1 in cc)
 
 none_needs : (units_of : ℕ → List ℕ) (mode : DecodeErrorMode) → needed_units units_of mode [] ≡ 0
 none_needs units_of Replacement = refl
@@ -277,7 +277,7 @@ module _ (q : Query) (mode : DecodeErrorMode) (asks : IsForMode q mode) (e : Enc
         (subst (λ (r : Rule). AreFirstSequences front (sequences_of r v.set (0xBB ∷ src))) rule b)) passes
 
 none_unread : (n : ℕ) → 0 < n → unread_bytes ConvertingWithPendingBb n ≡ []
-none_unread n l = let e : (n == 0) ≡ false = grind (arith, nat_tests) in cond-false _ _ _ e
+none_unread n l = let is_not_zero : (n == 0) ≡ false = grind (arith, nat_tests) in cond-false _ _ _ is_not_zero
 
 bb_pending : (pending : List ℕ) → held_or_pending_bytes (0xBB ∷ []) pending ≡ pending
     ++ unread_bytes ConvertingWithPendingBb (length pending) → (pending ≡ []) ⊎ (pending ≡ 0xBB ∷ [])
@@ -337,8 +337,8 @@ length_is_enough q mode asks e life v rule holds own_mark enough src last answer
     by_life Converting none_pending h o f b =
         converting q mode asks e exceeds.sequences answer exceeds.more v rule enough src are_bytes f b
     by_life Finished none_pending h o f b =
-        let n = none_begins exceeds.sequences b in let m = exceeds.more in
-        omega (arith, m, ap (needed_units (query_units q) mode) n, none_needs (query_units q) mode)
+        let are_none = none_begins exceeds.sequences b in let more = exceeds.more in
+        omega (arith, more, ap (needed_units (query_units q) mode) are_none, none_needs (query_units q) mode)
 
 -- so each query answers a room that is enough for its calls
 pub room_is_enough : (q : Query) (e : Encoding) (life : LifeCycle) (v : CodecState) → rule_of e ≡ v.rule

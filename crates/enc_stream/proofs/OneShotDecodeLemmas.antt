@@ -33,11 +33,12 @@ use Rattle.enc_stream.specs.declared.lengths.Query.TheVariants as query
 use Rattle.enc_stream.specs.declared.lengths.Query.TheVariants.{Utf8Reporting}
 use Rattle.enc_stream.specs.Lengths.{max_length, IsEnoughRoom}
 use Rattle.enc_stream.specs.OneShot.{utf_8_without_replacement, HasRoomFor, IsTooLongAfterFull}
-use Rattle.enc_stream.proofs.EndOfInputLemmas.{fresh_sequences, finishes_by, finishes, whole_text, whole_flag}
+use Rattle.enc_stream.proofs.EndOfInputLemmas.{fresh_sequences, has_finished_by, whole_text, whole_flag}
 
 pub nothing : (bytes : List ℕ) → true ≡ (length bytes == 0) → bytes ≡ []
 nothing [] h = refl
-nothing (b ∷ bytes) h = let f : length (b ∷ bytes) ≡ 0 = grind (arith, nat_tests) in absurd (omega (arith, f))
+nothing (b ∷ bytes) h =
+    let has_no_length : length (b ∷ bytes) ≡ 0 = grind (arith, nat_tests) in absurd (omega (arith, has_no_length))
 
 -- an empty input has no sequence
 
@@ -67,11 +68,10 @@ none_decoded handling e bytes = record {
 }
 
 -- One more call, whose text follows the text already written.
-module _ (handling : BomHandling) (e : Encoding) (bytes src : List ℕ) (old new : DecoderState) (before after : List ℕ)
-    (had : Bool) (decoded : HasDecoded handling e bytes src true old before had)
-    (mode : DecodeErrorMode) (room : ℕ) (result : DecoderResult) (read : ℕ) (replaced : Bool)
-    (decodes : DecodesChunk encode_utf8 mode old new src true room result read (drop (length before) after)
-    replaced) where
+module _ {handling : BomHandling} {e : Encoding} {bytes src : List ℕ} {old new : DecoderState} {before : List ℕ}
+    {had : Bool} (decoded : HasDecoded handling e bytes src true old before had)
+    {mode : DecodeErrorMode} {room : ℕ} {result : DecoderResult} {read : ℕ} {wrote : List ℕ} {replaced : Bool}
+    (decodes : DecodesChunk encode_utf8 mode old new src true room result read wrote replaced) where
   all_done : whole_sequences handling e bytes ≡ (decoded.done ++ decodes.call.done) ++ remaining_sequences new
       (drop read src ++ [])
   all_done =
@@ -80,15 +80,18 @@ module _ (handling : BomHandling) (e : Encoding) (bytes src : List ℕ) (old new
       ∙ sym (append_assoc decoded.done decodes.call.done (remaining_sequences new (drop read src ++ [])))
 
   -- if the call puts out all sequences that it does, their text is appended
-  pub goes_on : take (length before) after ≡ before → decodes.call.put ≡ decodes.call.done
+  pub goes_on : {after : List ℕ} → wrote ≡ drop (length before) after → take (length before) after ≡ before
+      → decodes.call.put ≡ decodes.call.done
       → HasDecoded handling e bytes (drop read src) true new after (had || replaced)
-  goes_on t all_put = record {
+  goes_on {after} follows keeps all_put = record {
     done = decoded.done ++ decodes.call.done;
     whole = λ z at_end. decoded.whole z at_end ∙ ap (λ ss. decoded.done ++ ss) (decodes.call.residual z at_end)
         ∙ sym (append_assoc decoded.done decodes.call.done (remaining_sequences new (drop read src ++ z)));
-    text = sym (take-append-drop (length before) after) ∙ ap (λ x. x ++ drop (length before) after) (t ∙ decoded.text)
-        ∙ ap (λ x. units_of_text encode_utf8 (sequence_text decoded.done) ++ x) (decodes.call.text
-        ∙ ap (λ ss. units_of_text encode_utf8 (sequence_text ss)) all_put)
+    text =
+        sym (take-append-drop (length before) after)
+        ∙ ap (λ x. x ++ drop (length before) after) (keeps ∙ decoded.text)
+        ∙ ap (λ x. units_of_text encode_utf8 (sequence_text decoded.done) ++ x)
+        (sym follows ∙ decodes.call.text ∙ ap (λ ss. units_of_text encode_utf8 (sequence_text ss)) all_put)
         ∙ sym (units-append encode_utf8 decoded.done decodes.call.done);
     flag =
         ap (λ x. x || replaced) decoded.flag
@@ -97,28 +100,28 @@ module _ (handling : BomHandling) (e : Encoding) (bytes src : List ℕ) (old new
   }
 
 -- The same if the call is offered the unread bytes, and writes after the text already written.
-pub next_call : (handling : BomHandling) (e : Encoding) (bytes unread : List ℕ) (old new : DecoderState)
-    (wrote : List ℕ) (had : Bool) → HasDecoded handling e bytes unread true old wrote had
-    → (src before after : List ℕ) → src ≡ unread → before ≡ wrote → (mode : DecodeErrorMode) (room : ℕ)
-    (result : DecoderResult) (read : ℕ) (replaced : Bool)
-    → (decodes : DecodesChunk encode_utf8 mode old new src true room result read (drop (length before) after) replaced)
+pub next_call : {handling : BomHandling} {e : Encoding} {bytes unread : List ℕ} {old new : DecoderState}
+    {wrote : List ℕ} {had : Bool} → HasDecoded handling e bytes unread true old wrote had
+    → {src before after : List ℕ} → src ≡ unread → before ≡ wrote
+    → {mode : DecodeErrorMode} {room : ℕ} {result : DecoderResult} {read : ℕ} {replaced : Bool}
+    (decodes : DecodesChunk encode_utf8 mode old new src true room result read (drop (length before) after) replaced)
     → take (length before) after ≡ before → decodes.call.put ≡ decodes.call.done
     → HasDecoded handling e bytes (drop read src) true new after (had || replaced)
-next_call handling e bytes unread old new wrote had h src before after s b mode room result read replaced d t p =
-    let g : HasDecoded handling e bytes src true old before had = rw (s, b) h in
-    goes_on handling e bytes src old new before after had g mode room result read replaced d t p
+next_call {handling} {e} {bytes} {old} {had} decoded {src} {before} src_is before_is decodes keeps all_put =
+    let decoded_before : HasDecoded handling e bytes src true old before had = rw (src_is, before_is) decoded in
+    goes_on decoded_before decodes refl keeps all_put
 
 -- and of the first call
-pub first_call : (handling : BomHandling) (e : Encoding) (bytes : List ℕ) (old new : DecoderState)
-    → old ≡ fresh_decoder handling e
-    → (before after : List ℕ) → before ≡ [] → (mode : DecodeErrorMode) (room : ℕ) (result : DecoderResult) (read : ℕ)
-    (replaced : Bool)
-    → (decodes : DecodesChunk encode_utf8 mode old new bytes true room result read (drop (length before) after)
-    replaced) → take (length before) after ≡ before → decodes.call.put ≡ decodes.call.done
+pub first_call : {handling : BomHandling} {e : Encoding} {bytes : List ℕ} {old new : DecoderState}
+    → old ≡ fresh_decoder handling e → {before after : List ℕ} → before ≡ []
+    → {mode : DecodeErrorMode} {room : ℕ} {result : DecoderResult} {read : ℕ} {replaced : Bool}
+    (decodes : DecodesChunk encode_utf8 mode old new bytes true room result read (drop (length before) after) replaced)
+    → take (length before) after ≡ before → decodes.call.put ≡ decodes.call.done
     → HasDecoded handling e bytes (drop read bytes) true new after replaced
-first_call handling e bytes old new o before after b mode room result read replaced d t p =
-    let g : HasDecoded handling e bytes bytes true old [] false = rw o (none_decoded handling e bytes) in
-    next_call handling e bytes bytes old new [] false g bytes before after refl b mode room result read replaced d t p
+first_call {handling} {e} {bytes} {old} is_fresh is_empty decodes keeps all_put =
+    let none_so_far : HasDecoded handling e bytes bytes true old [] false =
+    rw is_fresh (none_decoded handling e bytes) in
+    next_call none_so_far refl is_empty decodes keeps all_put
 
 or_true : (b : Bool) → (b || true) ≡ true
 or_true true = refl
@@ -130,79 +133,81 @@ any_of_last [] ts s h = ap (λ b. b || any_malformed ts) h
 any_of_last (t ∷ ss) ts s h = ap (λ b. is_malformed t.kind || b) (any_of_last ss ts s h) ∙ or_true (is_malformed t.kind)
 
 -- a malformed sequence that is reported is one of the whole input
-pub is_malformed_input : (handling : BomHandling) (e : Encoding) (bytes src : List ℕ) (old new : DecoderState)
-    (before after : List ℕ) (had : Bool) (h : HasDecoded handling e bytes src true old before had)
-    (mode : DecodeErrorMode) (room l a read : ℕ) (replaced : Bool)
-    → DecodesChunk encode_utf8 mode old new src true room (Malformed l a) read (drop (length before) after) replaced
+pub is_malformed_input : {handling : BomHandling} {e : Encoding} {bytes src : List ℕ} {old new : DecoderState}
+    {before : List ℕ} {had : Bool} → HasDecoded handling e bytes src true old before had
+    → {mode : DecodeErrorMode} {room l a read : ℕ} {wrote : List ℕ} {replaced : Bool}
+    → DecodesChunk encode_utf8 mode old new src true room (Malformed l a) read wrote replaced
     → whole_malformed handling e bytes ≡ true
-is_malformed_input handling e bytes src old new before after had decoded mode room l a read replaced decodes =
-    let at = decodes.call.stops in
+is_malformed_input {src} {new} decoded {read} decodes =
+    let stops = decodes.call.stops in
     let rest = remaining_sequences new (drop read src ++ []) in
-    ap any_malformed (all_done handling e bytes src old new before after had decoded mode room (Malformed l a) read
-    replaced decodes
-    ∙ ap (λ ss. (decoded.done ++ ss) ++ rest) at.then_next
-    ∙ ap (λ ss. ss ++ rest) (sym (append_assoc decoded.done decodes.call.put (at.next ∷ []))))
-    ∙ any_of_last (decoded.done ++ decodes.call.put) rest at.next at.malformed
+    ap any_malformed (all_done decoded decodes
+    ∙ ap (λ ss. (decoded.done ++ ss) ++ rest) stops.then_next
+    ∙ ap (λ ss. ss ++ rest) (sym (append_assoc decoded.done decodes.call.put (stops.next ∷ []))))
+    ∙ any_of_last (decoded.done ++ decodes.call.put) rest stops.next stops.malformed
+
+not_at_end : (result : CoderResult) → ¬ (result ≡ coder.InputEmpty)
+    → reaches_end true (decoder_result_of result) ≡ false
+not_at_end coder.InputEmpty goes_on = absurd (goes_on refl)
+not_at_end coder.OutputFull goes_on = refl
 
 -- a call that is not at the end leaves a decoder open
-pub still_open : (old new : DecoderState) (src : List ℕ) (room : ℕ) (result : CoderResult) (read : ℕ) (wrote : List ℕ)
-    (replaced : Bool)
+pub still_open : {old new : DecoderState} {src : List ℕ} {room : ℕ} {result : CoderResult} {read : ℕ} {wrote : List ℕ}
+    {replaced : Bool}
     → DecodesReplacing encode_utf8 old new src true room result read wrote replaced → ¬ (result ≡ coder.InputEmpty)
     → has_finished new ≡ false
-still_open old new src room coder.InputEmpty read wrote replaced d n = absurd (n refl)
-still_open old new src room coder.OutputFull read wrote replaced d n = finishes old new src true room coder.OutputFull
-    read wrote replaced d
+still_open {result} decodes goes_on = has_finished_by decodes ∙ not_at_end result goes_on
 
 -- and one that is leaves it finished
-pub now_finished : (old new : DecoderState) (src : List ℕ) (room : ℕ) (result : CoderResult) (read : ℕ)
-    (wrote : List ℕ) (replaced : Bool)
+pub now_finished : {old new : DecoderState} {src : List ℕ} {room : ℕ} {result : CoderResult} {read : ℕ}
+    {wrote : List ℕ} {replaced : Bool}
     → DecodesReplacing encode_utf8 old new src true room result read wrote replaced → result ≡ coder.InputEmpty
     → has_finished new ≡ true
-now_finished old new src room result read wrote replaced d f = finishes old new src true room result read wrote
-    replaced d ∙ ap (λ r. reaches_end true (decoder_result_of r)) f
+now_finished decodes at_end = has_finished_by decodes ∙ ap (λ r. reaches_end true (decoder_result_of r)) at_end
 
 -- with enough room a call is never full
-pub never_full : (units_of : ℕ → List ℕ) (mode : DecodeErrorMode) (length_answered : Option ℕ) (old new : DecoderState)
-    (src : List ℕ) (n room : ℕ)
-    (result : DecoderResult) (read written : ℕ)
+pub never_full : {units_of : ℕ → List ℕ} {mode : DecodeErrorMode} (length_answered : Option ℕ) (old new : DecoderState)
+    {src : List ℕ} {n room : ℕ} {result : DecoderResult} {read written : ℕ}
     → IfSome length_answered (IsEnoughRoom units_of mode old n) → HasRoomFor length_answered room → AreBytes src
     → length src ≡ n
     → MeetsDecodeNeed units_of mode (decoder_remainder old) (decoder_remainder new) src true room result read written
     → result ≡ OutputFull → ⊥
-never_full units_of mode None old new src n room result read written enough has are l m f = has
-never_full units_of mode (Some answer) old new src n room result read written enough has are l m f =
-    let exceeds = m.full.0 f in let more = exceeds.more in
-    enough src true are l (record {
+never_full None old new enough has_room are_bytes count meets is_full = has_room
+never_full (Some answer) old new {src} enough has_room are_bytes count meets is_full =
+    let exceeds = meets.full.0 is_full in let more = exceeds.more in
+    enough src true are_bytes count (record {
       sequences = exceeds.sequences;
       determined = exceeds.determined;
-      more = omega (arith, has, more);
+      more = omega (arith, has_room, more);
     })
 
 -- The first call answers `OutputFull`, and the length query after it overflows usize.
-pub too_long_after : (handling : BomHandling) (e : Encoding) (bytes : List ℕ) (old new : DecoderState)
+pub too_long_after : {handling : BomHandling} {e : Encoding} {bytes : List ℕ} {old new : DecoderState}
     → old ≡ fresh_decoder handling e
-    → (length_answered : Option ℕ) → length_answered ≡ max_length Utf8Reporting old (length bytes) → (room : ℕ)
+    → {length_answered : Option ℕ} → length_answered ≡ max_length Utf8Reporting old (length bytes) → {room : ℕ}
     → HasRoomFor length_answered room
-    → (result : CoderResult) → ¬ (result ≡ coder.InputEmpty) → (read : ℕ) (wrote : List ℕ) (replaced : Bool)
+    → (result : CoderResult) → ¬ (result ≡ coder.InputEmpty) → {read : ℕ} {wrote : List ℕ} {replaced : Bool}
     → AnswersDecodeReplacing encode_utf8 4 old new bytes true room result read wrote replaced
     → checked_add (max_length query.Utf8 new (length (drop read bytes))) (length wrote) ≡ None
     → IsTooLongAfterFull handling e bytes
-too_long_after handling e bytes old new is_fresh answer t room h coder.InputEmpty n read wrote replaced call p =
-    absurd (n refl)
-too_long_after handling e bytes old new is_fresh answer t room h coder.OutputFull n read wrote replaced call p = record {
-  room = room;
-  enough =
-      subst (λ (n : Option ℕ). HasRoomFor n room) (t ∙ ap (λ d. max_length Utf8Reporting d (length bytes)) is_fresh) h;
-  state = new;
-  read = read;
-  wrote = wrote;
-  replaced = replaced;
-  call =
-      subst (λ d. AnswersDecodeReplacing encode_utf8 4 d new bytes true room coder.OutputFull read wrote replaced)
-      is_fresh
-      call;
-  passes = p;
-}
+too_long_after is_fresh length_is has_room coder.InputEmpty goes_on call passes = absurd (goes_on refl)
+too_long_after {bytes} {new} is_fresh length_is {room} has_room coder.OutputFull goes_on {read} {wrote} {replaced} call
+    passes = record {
+      room = room;
+      enough =
+          subst (λ (n : Option ℕ). HasRoomFor n room)
+          (length_is ∙ ap (λ d. max_length Utf8Reporting d (length bytes)) is_fresh)
+          has_room;
+      state = new;
+      read = read;
+      wrote = wrote;
+      replaced = replaced;
+      call =
+          subst (λ d. AnswersDecodeReplacing encode_utf8 4 d new bytes true room coder.OutputFull read wrote replaced)
+          is_fresh
+          call;
+      passes = passes;
+    }
 
 -- the encoding of a mark, with its length
 
@@ -212,8 +217,8 @@ encoding_and_length m = (m.encoding, length m.bytes)
 pub encoding_by_mark : (found : Option Mark) (e other : Encoding) (n : ℕ)
     → option_map encoding_and_length found ≡ Some (other, n) → other ≡ encoding_of_mark_or found e
 encoding_by_mark None e other n h = cc
-encoding_by_mark (Some m) e other n h = let f : encoding_and_length m ≡ (other, n) = cc in
-    sym (ap (λ (p : Encoding × ℕ). p.0) f)
+encoding_by_mark (Some m) e other n h =
+    let pair_is : encoding_and_length m ≡ (other, n) = cc in sym (ap (λ (p : Encoding × ℕ). p.0) pair_is)
 
 pub encoding_without_mark : (found : Option Mark) (e : Encoding) → option_map encoding_and_length found ≡ None
     → e ≡ encoding_of_mark_or found e
@@ -238,35 +243,27 @@ pub strict_none : (e : Encoding) (bytes : List ℕ) → whole_malformed Off e by
     → None ≡ utf_8_without_replacement e bytes
 strict_none e bytes h = none_if (whole_malformed Off e bytes) (whole_utf_8 Off e bytes) h
 
-pub strict_text : (e : Encoding) (bytes unread : List ℕ) (state : DecoderState) (text : List ℕ)
+pub strict_text : {e : Encoding} {bytes unread : List ℕ} {state : DecoderState} {text : List ℕ}
     → HasDecoded Off e bytes unread true state text false → has_finished state ≡ true
     → Some text ≡ utf_8_without_replacement e bytes
-strict_text e bytes unread state text decoded finished =
-    strict_if (whole_malformed Off e bytes) text (sym (whole_flag Off e bytes unread state text false decoded finished))
-    ∙ ap (λ t. if whole_malformed Off e bytes then None else Some t)
-    (whole_text Off e bytes unread state text false decoded finished)
+strict_text {e} {bytes} {text} decoded finished =
+    strict_if (whole_malformed Off e bytes) text (sym (whole_flag decoded finished))
+    ∙ ap (λ t. if whole_malformed Off e bytes then None else Some t) (whole_text decoded finished)
 
 -- one more call
-module _ (e : Encoding) (bytes src : List ℕ) (old new : DecoderState) (before after : List ℕ)
-    (decoded : HasDecoded Off e bytes src true old before false) (room read : ℕ) where
-  pub strict_end : (result : DecoderResult) → DecodesChunk encode_utf8 (Fatal false) old new src true room result read
-      (drop (length before) after) false
+module _ {e : Encoding} {bytes src : List ℕ} {old new : DecoderState} {before : List ℕ}
+    (decoded : HasDecoded Off e bytes src true old before false) {room read : ℕ} where
+  pub strict_end : (result : DecoderResult) {after : List ℕ}
+      → DecodesChunk encode_utf8 (Fatal false) old new src true room result read (drop (length before) after) false
       → take (length before) after ≡ before → result ≡ InputEmpty → Some after ≡ utf_8_without_replacement e bytes
-  strict_end InputEmpty decodes t f =
-      strict_text e bytes (drop read src) new after
-      (goes_on Off e bytes src old new before after false decoded (Fatal false) room InputEmpty read false decodes t
-      (sym decodes.call.stops.only_put))
-      (finishes_by encode_utf8 (Fatal false) old new src true room InputEmpty read (drop (length before) after) false
-      decodes)
-  strict_end OutputFull decodes t f = cc
-  strict_end (Malformed l a) decodes t f = cc
+  strict_end InputEmpty decodes keeps at_end =
+      strict_text (goes_on decoded decodes refl keeps (sym decodes.call.stops.only_put)) (has_finished_by decodes)
+  strict_end OutputFull decodes keeps at_end = cc
+  strict_end (Malformed l a) decodes keeps at_end = cc
 
-  pub strict_report : (result : DecoderResult) (l a : ℕ) → DecodesChunk encode_utf8
-      (Fatal false) old new src true room result read (drop (length before) after) false
+  pub strict_report : (result : DecoderResult) {l a : ℕ} {wrote : List ℕ}
+      → DecodesChunk encode_utf8 (Fatal false) old new src true room result read wrote false
       → result ≡ Malformed l a → None ≡ utf_8_without_replacement e bytes
-  strict_report InputEmpty l a d f = cc
-  strict_report OutputFull l a d f = cc
-  strict_report (Malformed k b) l a d f =
-      strict_none e bytes (is_malformed_input Off e bytes src old new before after false decoded (Fatal false) room k b
-      read
-      false d)
+  strict_report InputEmpty decodes is_malformed_now = cc
+  strict_report OutputFull decodes is_malformed_now = cc
+  strict_report (Malformed l a) decodes is_malformed_now = strict_none e bytes (is_malformed_input decoded decodes)

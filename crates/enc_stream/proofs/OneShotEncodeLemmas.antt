@@ -46,99 +46,115 @@ pub nothing_written : (e : Encoding) (text : List ℕ) → text ≡ [] → [] �
 nothing_written e text h = sym (none_due [] e) ∙ ap (whole_bytes [] e) (sym h)
 
 -- at the end of the text all its bytes are written
-pub all_written : (e : Encoding) (text : List ℕ) (state : EncoderState) (wrote : List ℕ)
+pub all_written : {e : Encoding} {text : List ℕ} {state : EncoderState} {wrote : List ℕ}
     → HasWritten e text [] state wrote → state.set ≡ Ascii → wrote ≡ whole_bytes [] e text
-all_written e text state wrote w h =
+all_written {state} {wrote} all_so_far is_ascii =
     sym (append-nil wrote) ∙ ap (λ x. wrote ++ x) (sym (none_due state.barred state.encoding))
-    ∙ ap (λ (s : CharacterSet). wrote ++ bytes_by (raw_state state).rule s []) (sym h)
-    ∙ sym w.whole
+    ∙ ap (λ (s : CharacterSet). wrote ++ bytes_by (raw_state state).rule s []) (sym is_ascii)
+    ∙ sym all_so_far.whole
 
 -- While the whole text is unread, the length query is that of the whole text, and overflows where that does.
-pub none_asked : (e : Encoding) (text rest unread : List ℕ) (state : EncoderState) (wrote : List ℕ)
+pub none_asked : {e : Encoding} {text rest : List ℕ} {state : EncoderState} {wrote : List ℕ}
     → HasWritten e text rest state wrote
-    → (all : List ℕ) → unread ≡ all → length_to_encode (output_encoding_of e) (length all) ≡ None → (answer : Option ℕ)
+    → {unread all : List ℕ} → unread ≡ all → length_to_encode (output_encoding_of e) (length all) ≡ None
+    → {answer : Option ℕ}
     → answer ≡ checked_add (from_utf_8_length (output_lengths state.encoding) (length unread))
     (room_kept_for_references state.barred state.encoding) → (n : ℕ) → checked_add answer n ≡ None
-none_asked e text rest unread state wrote written_so_far all u none answer t n =
+none_asked {state} written_so_far {all} all_unread none length_is n =
     ap (λ m. checked_add m n) (
-    t ∙ ap (λ x. checked_add (from_utf_8_length (output_lengths state.encoding) (length x))
-    (room_kept_for_references state.barred state.encoding)) u
+    length_is ∙ ap (λ x. checked_add (from_utf_8_length (output_lengths state.encoding) (length x))
+    (room_kept_for_references state.barred state.encoding)) all_unread
     ∙ ap (λ b. checked_add (from_utf_8_length (output_lengths state.encoding) (length all))
     (room_kept_for_references b state.encoding)) written_so_far.barred
     ∙ ap (λ o. length_to_encode o (length all)) written_so_far.encoding ∙ none
     )
 
 -- One more call, whose bytes follow those already written.
-module _ (e : Encoding) (text rest : List ℕ) (old new : EncoderState) (before after : List ℕ) (had : Bool)
-    (u : IsUtf8 rest) (written_so_far : HasWritten e text (chars rest) old before)
-    (f : any_unmappable (output_rule [] e) text ≡ (had || any_unmappable (output_rule [] e) (chars rest))) (room : ℕ)
-    (result : CoderResult) (read : ℕ) (replaced : Bool)
+module _ {e : Encoding} {text rest : List ℕ} {old new : EncoderState} {before : List ℕ} (is_utf_8 : IsUtf8 rest)
+    (written_so_far : HasWritten e text (chars rest) old before) {room : ℕ} (result : CoderResult) {read : ℕ}
+    {wrote : List ℕ} {replaced : Bool}
     (encodes : EncodesChunk encode_utf8 (html_mode old) old new (chars rest) true room (encoder_result_of result) read
-    (drop (length before) after) replaced) (t : take (length before) after ≡ before) where
+    wrote replaced) where
   abbrev front : List ℕ
   front = step_chars encodes.call.done
 
   unread_is : chars (drop read rest) ≡ encodes.rest
-  unread_is = chars_after rest front encodes.rest read u encodes.call.reads encodes.call.units
+  unread_is = chars_after rest front encodes.rest read is_utf_8 encodes.call.reads encodes.call.units
 
   rule_is : (raw_state old).rule ≡ output_rule [] e
-  rule_is = ap (λ b. output_rule b old.encoding) written_so_far.barred ∙ ap (output_rule []) written_so_far.encoding
+  rule_is =
+      ap (λ b. output_rule b old.encoding) written_so_far.barred ∙ ap (output_rule []) written_so_far.encoding
       ∙ output_rule_is [] e
 
-  written : (unread : List ℕ) → unread ≡ encodes.rest → HasWritten e text unread new after
-  written unread h = record {
+  text_kept : bytes_by (raw_state old).rule old.set (chars rest ++ [])
+      ≡ wrote ++ bytes_by (raw_state new).rule new.set encodes.rest
+  text_kept = by_result result encodes
+    where
+      by_result : (other : CoderResult)
+          (made : EncodesChunk encode_utf8 (html_mode old) old new (chars rest) true room (encoder_result_of other) read
+          wrote replaced)
+          → bytes_by (raw_state old).rule old.set (chars rest ++ [])
+          ≡ wrote ++ bytes_by (raw_state new).rule new.set made.rest
+      by_result InputEmpty made =
+          made.call.text [] (λ _. refl)
+          ∙ ap (λ x. wrote ++ bytes_by (raw_state new).rule new.set x) (append-nil made.rest)
+      by_result OutputFull made =
+          made.call.text [] (λ _. refl)
+          ∙ ap (λ x. wrote ++ bytes_by (raw_state new).rule new.set x) (append-nil made.rest)
+
+  written : {after : List ℕ} → wrote ≡ drop (length before) after → take (length before) after ≡ before
+      → {unread : List ℕ} → unread ≡ encodes.rest → HasWritten e text unread new after
+  written {after} follows keeps is_rest = record {
     encoding = encodes.encoding ∙ written_so_far.encoding;
     barred = encodes.barred ∙ written_so_far.barred;
     whole =
-        written_so_far.whole ∙ ap (λ x. before ++ bytes_by (raw_state old).rule old.set x)
-        (sym (append-nil (chars rest)))
-        ∙ ap (λ x. before ++ x) (kept_text result encodes)
-        ∙ sym (append_assoc before (drop (length before) after) _)
+        written_so_far.whole
+        ∙ ap (λ x. before ++ bytes_by (raw_state old).rule old.set x) (sym (append-nil (chars rest)))
+        ∙ ap (λ x. before ++ x) text_kept
+        ∙ sym (append_assoc before wrote _)
         ∙ ap (λ x. x ++ bytes_by (raw_state new).rule new.set encodes.rest)
-        (ap (λ x. x ++ drop (length before) after) (sym t) ∙ take-append-drop (length before) after)
-        ∙ ap (λ x. after ++ bytes_by (raw_state new).rule new.set x) (sym h);
+        (ap (λ x. before ++ x) follows ∙ ap (λ x. x ++ drop (length before) after) (sym keeps)
+        ∙ take-append-drop (length before) after)
+        ∙ ap (λ x. after ++ bytes_by (raw_state new).rule new.set x) (sym is_rest);
   }
-    where
-      kept_text : (r : CoderResult) (k : EncodesChunk encode_utf8 (html_mode old) old new (chars rest) true room
-          (encoder_result_of r) read (drop (length before) after) replaced)
-          → bytes_by (raw_state old).rule old.set (chars rest ++ []) ≡ drop (length before) after
-          ++ bytes_by (raw_state new).rule new.set k.rest
-      kept_text InputEmpty encodes_chunk =
-          encodes_chunk.call.text [] (λ _. refl)
-          ∙ ap (λ x. drop (length before) after ++ bytes_by (raw_state new).rule new.set x)
-          (append-nil encodes_chunk.rest)
-      kept_text OutputFull encodes_chunk =
-          encodes_chunk.call.text [] (λ _. refl)
-          ∙ ap (λ x. drop (length before) after ++ bytes_by (raw_state new).rule new.set x)
-          (append-nil encodes_chunk.rest)
 
-  flagged : (unread : List ℕ) → unread ≡ encodes.rest
+  flagged : (had : Bool) → any_unmappable (output_rule [] e) text
+      ≡ (had || any_unmappable (output_rule [] e) (chars rest))
+      → {unread : List ℕ} → unread ≡ encodes.rest
       → any_unmappable (output_rule [] e) text ≡ ((had || replaced) || any_unmappable (output_rule [] e) unread)
-  flagged unread h =
-      f ∙ ap (λ x. had || any_unmappable (output_rule [] e) x) encodes.call.reads
+  flagged had flag_so_far is_rest =
+      flag_so_far ∙ ap (λ x. had || any_unmappable (output_rule [] e) x) encodes.call.reads
       ∙ ap (λ b. had || b) (any_unmappable-append (output_rule [] e) front encodes.rest)
       ∙ ap (λ b. had || (b || any_unmappable (output_rule [] e) encodes.rest))
       (ap (λ rule. any_unmappable rule front) (sym rule_is)
       ∙ sym (encodes.call.flag ∙ any_reported_is (raw_state old) (raw_state new) (chars rest) encodes.rest true
       encodes.call.done encodes.call.reads encodes.call.rule encodes.call.remaining))
       ∙ sym (or_assoc had replaced (any_unmappable (output_rule [] e) encodes.rest))
-      ∙ ap (λ x. (had || replaced) || any_unmappable (output_rule [] e) x) (sym h)
+      ∙ ap (λ x. (had || replaced) || any_unmappable (output_rule [] e) x) (sym is_rest)
 
   -- that is not the last
-  pub written_on : (unread : List ℕ) → unread ≡ drop read rest → HasWritten e text (chars unread) new after
-  written_on unread h = written (chars unread) (ap chars h ∙ unread_is)
+  pub written_on : {after : List ℕ} → wrote ≡ drop (length before) after → take (length before) after ≡ before
+      → {unread : List ℕ} → unread ≡ drop read rest → HasWritten e text (chars unread) new after
+  written_on follows keeps is_unread = written follows keeps (ap chars is_unread ∙ unread_is)
 
-  pub flagged_on : (unread : List ℕ) → unread ≡ drop read rest → any_unmappable (output_rule [] e) text
-      ≡ ((had || replaced) || any_unmappable (output_rule [] e) (chars unread))
-  flagged_on unread h = flagged (chars unread) (ap chars h ∙ unread_is)
+  pub flagged_on : (had : Bool) → any_unmappable (output_rule [] e) text
+      ≡ (had || any_unmappable (output_rule [] e) (chars rest))
+      → {unread : List ℕ} → unread ≡ drop read rest
+      → any_unmappable (output_rule [] e) text ≡ ((had || replaced) || any_unmappable (output_rule [] e) (chars unread))
+  flagged_on had flag_so_far is_unread = flagged had flag_so_far (ap chars is_unread ∙ unread_is)
 
   -- and that is
-  pub written_all : result ≡ InputEmpty → after ≡ whole_bytes [] e text
-  written_all is_empty = all_written e text new after
-      (written [] (all_read old new (chars rest) true room result read (drop (length before) after) replaced encodes
-      is_empty)) (ap (λ (v : EncoderState). v.set) (encodes.ended (ap encoder_result_of is_empty) refl))
+  none_unread : result ≡ InputEmpty → [] ≡ encodes.rest
+  none_unread = all_read old new (chars rest) true room result read wrote replaced encodes
 
-  pub flagged_all : result ≡ InputEmpty → (had || replaced) ≡ any_unmappable (output_rule [] e) text
-  flagged_all h =
-      sym (flagged [] (all_read old new (chars rest) true room result read (drop (length before) after) replaced encodes
-      h) ∙ or_false (had || replaced))
+  pub written_all : {after : List ℕ} → wrote ≡ drop (length before) after → take (length before) after ≡ before
+      → result ≡ InputEmpty → after ≡ whole_bytes [] e text
+  written_all follows keeps at_end =
+      all_written (written follows keeps (none_unread at_end))
+      (ap (λ (state : EncoderState). state.set) (encodes.ended (ap encoder_result_of at_end) refl))
+
+  pub flagged_all : (had : Bool) → any_unmappable (output_rule [] e) text
+      ≡ (had || any_unmappable (output_rule [] e) (chars rest))
+      → result ≡ InputEmpty → (had || replaced) ≡ any_unmappable (output_rule [] e) text
+  flagged_all had flag_so_far at_end =
+      sym (flagged had flag_so_far (none_unread at_end) ∙ or_false (had || replaced))

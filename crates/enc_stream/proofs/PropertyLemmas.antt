@@ -37,8 +37,13 @@ record HasProperties (compatible single_byte : Bool) (rule : Rule) : Type 0 wher
   single : Decides single_byte (IsSingleByte rule)
   bb : DeterminesBbByItself rule
 
-one_byte : (character : ℕ → Option ℕ) → ((b : ℕ) → b < 0x80 → character b ≡ Some b) → HasProperties true true (one_byte_rule character)
-one_byte character a = record { ascii = one_byte_is_ascii_compatible character a; single = one_byte_is_single_byte character; bb = one_byte_shows_bb character }
+one_byte : (character : ℕ → Option ℕ) → ((b : ℕ) → b < 0x80 → character b ≡ Some b)
+    → HasProperties true true (one_byte_rule character)
+one_byte character has_ascii = record {
+  ascii = one_byte_is_ascii_compatible character has_ascii;
+  single = one_byte_is_single_byte character;
+  bb = one_byte_shows_bb character;
+}
 
 by_codec : (c : Codec) → HasProperties (ascii_compatible_by_codec c) (single_byte_by_codec c) (codec_rule c)
 by_codec codec.Utf8 = record {

@@ -23,17 +23,22 @@ or_lawful (Some e) h = h
 
 -- what holds of the rule of every encoder, whatever is barred
 pub lawful_of : (b : List ℕ) (e : Encoding) → IsLawfulEncoderRule (output_rule b e)
-lawful_of b e = barring_is_lawful b (rule_or_utf_8 (encoder_rule (codec_by_id e.id))) (or_lawful (encoder_rule (codec_by_id e.id)) (lawful_if_any (codec_by_id e.id)))
+lawful_of b e =
+    barring_is_lawful b (rule_or_utf_8 (encoder_rule (codec_by_id e.id)))
+    (or_lawful (encoder_rule (codec_by_id e.id)) (lawful_if_any (codec_by_id e.id)))
 
-with_references-append : (e : EncoderRule) (a b : List ℕ) → with_references e (a ++ b) ≡ with_references e a ++ with_references e b
+with_references-append : (e : EncoderRule) (a b : List ℕ)
+    → with_references e (a ++ b) ≡ with_references e a ++ with_references e b
 with_references-append e [] b = refl
 with_references-append e (c ∷ a) b =
-    ap (λ t. with_reference e c (e.bytes c) ++ t) (with_references-append e a b) ∙ sym (append_assoc (with_reference e c (e.bytes c)) (with_references e a) (with_references e b))
+    ap (λ t. with_reference e c (e.bytes c) ++ t) (with_references-append e a b)
+    ∙ sym (append_assoc (with_reference e c (e.bytes c)) (with_references e a) (with_references e b))
 
 module _ (e : EncoderRule) (lawful : IsLawfulEncoderRule e) where
   -- a mappable character stays, and so does a reference
 
-  mapped_stays : (c : ℕ) (b : List ℕ) (t : List ℕ) → e.bytes c ≡ Some b → with_references e (c ∷ t) ≡ c ∷ with_references e t
+  mapped_stays : (c : ℕ) (b : List ℕ) (t : List ℕ) → e.bytes c ≡ Some b
+      → with_references e (c ∷ t) ≡ c ∷ with_references e t
   mapped_stays c b t h = ap (λ x. with_reference e c x ++ with_references e t) h
 
   mapped_is : (c : ℕ) (b : List ℕ) (t : List ℕ) → e.bytes c ≡ Some b → any_unmappable e (c ∷ t) ≡ any_unmappable e t
@@ -54,7 +59,8 @@ module _ (e : EncoderRule) (lawful : IsLawfulEncoderRule e) where
 
   -- what stands for a character stays, and is mappable
 
-  one_stays : (c : ℕ) (b : Option (List ℕ)) → e.bytes c ≡ b → with_references e (with_reference e c b) ≡ with_reference e c b
+  one_stays : (c : ℕ) (b : Option (List ℕ)) → e.bytes c ≡ b
+      → with_references e (with_reference e c b) ≡ with_reference e c b
   one_stays c None h = stays (reference (e.reported c)) (of_reference (e.reported c))
   one_stays c (Some b) h = mapped_stays c b [] h
 
@@ -65,11 +71,13 @@ module _ (e : EncoderRule) (lawful : IsLawfulEncoderRule e) where
   pub once : (t : List ℕ) → with_references e (with_references e t) ≡ with_references e t
   once [] = refl
   once (c ∷ t) =
-      with_references-append e (with_reference e c (e.bytes c)) (with_references e t) ∙ ap (λ x. x ++ with_references e (with_references e t)) (one_stays c (e.bytes c) refl)
+      with_references-append e (with_reference e c (e.bytes c)) (with_references e t)
+      ∙ ap (λ x. x ++ with_references e (with_references e t)) (one_stays c (e.bytes c) refl)
       ∙ ap (λ x. with_reference e c (e.bytes c) ++ x) (once t)
 
   pub all_mapped : (t : List ℕ) → any_unmappable e (with_references e t) ≡ false
   all_mapped [] = refl
   all_mapped (c ∷ t) =
-      any_unmappable-append e (with_reference e c (e.bytes c)) (with_references e t) ∙ ap (λ b. b || any_unmappable e (with_references e t)) (one_is_mapped c (e.bytes c) refl)
+      any_unmappable-append e (with_reference e c (e.bytes c)) (with_references e t)
+      ∙ ap (λ b. b || any_unmappable e (with_references e t)) (one_is_mapped c (e.bytes c) refl)
       ∙ all_mapped t

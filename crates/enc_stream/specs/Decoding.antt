@@ -173,6 +173,10 @@ pub record IsUnchangedButSkips (src : List ℕ) (last : Bool) (old new : Decoder
 abbrev pub TakesSmallTexts : (ℕ → List ℕ) → ℕ → Type 0
 TakesSmallTexts units_of least = (text : List ℕ) → IsSmallText text → length (units_of_text units_of text) ≤ least
 
+-- Fewer bytes are pending or unread after a call than were pending or given before it.
+abbrev pub LeavesFewerBytes : DecoderState → DecoderState → List ℕ → ℕ → Type 0
+LeavesFewerBytes old new src read = length new.pending + (length src - read) < length old.pending + length src
+
 -- A call of a decoder, for any output. `least` code units hold the text of any sequence.
 pub record AnswersDecode (units_of : ℕ → List ℕ) (least : ℕ) (mode : DecodeErrorMode) (old new : DecoderState) (src : List ℕ) (last : Bool) (room : ℕ) (result : DecoderResult) (read : ℕ) (wrote : List ℕ) (replaced : Bool) : Type 0 where
   pub decodes : DecodesChunk units_of mode old new src last room result read wrote replaced

@@ -1,5 +1,5 @@
 -- Encoders: single calls (Encoding Standard 4.1, "process a queue" with an encoder; 6, "encode" and "encode or fail").
-use Rattle.std.specs.Prelude.{◌≡◌, ℕ, ◌≤◌, Bool, true, false, List, [], ◌∷◌, take, drop, length, if◌then◌else◌}
+use Rattle.std.specs.Prelude.{◌≡◌, ℕ, ◌<◌, ◌≤◌, Bool, true, false, List, [], ◌∷◌, take, drop, length, if◌then◌else◌}
 use Rattle.enc_encoder.specs.declared.character_set.CharacterSet.{CharacterSet}
 use Rattle.enc_encoder.specs.declared.character_set.CharacterSet.TheVariants.{Ascii}
 use Rattle.enc_units.specs.declared.encoder_result.EncoderResult.{EncoderResult}
@@ -58,6 +58,10 @@ html_mode v = html_mode_in v.barred v.encoding
 -- unmappable character are one step each.
 abbrev pub steps_left : EncoderState → Bool → List ℕ → ℕ
 steps_left v last text = length (steps_from_state (raw_state v) last text)
+
+-- Fewer steps are left for the unread characters after a call than were left for those given before it.
+abbrev pub LeavesFewerSteps : EncoderState → EncoderState → Bool → List ℕ → List ℕ → Type 0
+LeavesFewerSteps old new last text unread = steps_left new last unread < steps_left old last text
 
 -- A call of an encoder with the characters `src`, which nothing follows if `last`. It does the steps that come first,
 -- as many as fit, and writes a reference to an unmappable character, or stops there and reports it. Whatever follows,

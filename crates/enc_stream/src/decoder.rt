@@ -1,6 +1,6 @@
 //! Decoders.
 
-ghost use Rattle.std.specs.Prelude.{◌≡◌, ◌+◌, ◌-◌, ◌<◌, ◌≤◌, true, false, length, take, drop, IfSome};
+ghost use Rattle.std.specs.Prelude.{◌≡◌, ◌-◌, ◌≤◌, true, false, length, take, drop, IfSome};
 ghost use Rattle.std.specs.Char.{encode_utf8};
 ghost use Rattle.std.specs.Char.Escape.{encode_utf16};
 ghost use Rattle.std.specs.String.{string_bytes, string_len, string_capacity};
@@ -15,8 +15,10 @@ ghost use Rattle.enc_stream.specs.declared.lengths.Query.TheVariants as query;
 ghost use Rattle.enc_stream.specs.Sniffing.{HasNoMark};
 ghost use Rattle.enc_units.specs.Results.{decoder_result_of};
 ghost use Rattle.enc_decoder.specs.Replacing.{decode_error_mode};
-ghost use Rattle.enc_stream.specs.Decoding.{fresh_decoder, has_finished, start_life, PendingAreHeldBytes, DecodesInto};
-ghost use Rattle.enc_stream.specs.Decoding.{AnswersDecodeInto, AnswersDecodeReplacing, AnswersDecodeReporting};
+ghost use Rattle.enc_stream.specs.Decoding.{fresh_decoder, has_finished, start_life};
+ghost use Rattle.enc_stream.specs.Decoding.{PendingAreHeldBytes, DecodesInto, AnswersDecodeInto};
+ghost use Rattle.enc_stream.specs.Decoding.{AnswersDecodeReplacing, AnswersDecodeReporting};
+ghost use Rattle.enc_stream.specs.Decoding.{LeavesFewerBytes};
 
 use crate::bom::BomHandling;
 use crate::encoding::{Encoding, codec_of};
@@ -47,14 +49,16 @@ pub struct Decoder {
 }
 
 impl Model for Decoder {
-    ghost use Rattle.enc_stream.specs.Decoding.{DecoderState, decoder_state_of, HasCodecOf, HasFormulasOf};
+    ghost use Rattle.enc_stream.specs.Decoding.{DecoderState, decoder_state_of};
+    ghost use Rattle.enc_stream.specs.Decoding.{HasCodecOf, HasFormulasOf};
     ghost use Rattle.enc_codec.specs.Variant.{variant_decoder_state, variant_decoder_lengths};
 
     ghost Value = { DecoderState };
 
     ghost view = { λ d. decoder_state_of d.encoding d.life (variant_decoder_state d.codec) };
 
-    ghost invariant = { λ d. HasCodecOf d.encoding d.life (variant_decoder_state d.codec) × HasFormulasOf d.encoding d.life (variant_decoder_lengths d.codec) };
+    ghost invariant = { λ d. HasCodecOf d.encoding d.life (variant_decoder_state d.codec)
+        × HasFormulasOf d.encoding d.life (variant_decoder_lengths d.codec) };
 }
 
 impl fmt::Debug for Decoder {
@@ -177,7 +181,8 @@ impl Decoder {
     pub fn max_utf8_buffer_length_without_replacement(&self, byte_length: usize) -> Option<usize>
         requires { has_finished self.now ≡ false }
         ensures length { result ≡ max_length query.Utf8Reporting self.now byte_length }
-        ensures enough { IfSome result (IsEnoughRoom encode_utf8 (Fatal false) self.now byte_length) }
+        ensures enough { IfSome result
+            (IsEnoughRoom encode_utf8 (Fatal false) self.now byte_length) }
     {
         self.max_length(Query::Utf8Reporting, byte_length)
     }
@@ -189,7 +194,8 @@ impl Decoder {
     pub fn max_utf16_buffer_length(&self, byte_length: usize) -> Option<usize>
         requires { has_finished self.now ≡ false }
         ensures length { result ≡ max_length query.Utf16 self.now byte_length }
-        ensures enough { IfSome result (λ room. (mode : DecodeErrorMode) → IsEnoughRoom encode_utf16 mode self.now byte_length room) }
+        ensures enough { IfSome result (λ room. (mode : DecodeErrorMode) →
+            IsEnoughRoom encode_utf16 mode self.now byte_length room) }
     {
         self.max_length(Query::Utf16, byte_length)
     }
@@ -224,8 +230,8 @@ impl Decoder {
     ) -> (DecoderResult, usize, bool)
         requires open { has_finished self.old ≡ false }
         requires text { HasNoMark self.old.life src.now last }
-        ensures call { DecodesInto U.units_of (decode_error_mode replace) self.old self.new src.now last (U.output out.old) (U.output out.new)
-            result.0 result.1 result.2 }
+        ensures call { DecodesInto U.units_of (decode_error_mode replace) self.old self.new src.now
+            last (U.output out.old) (U.output out.new) result.0 result.1 result.2 }
     {
         convert_text(&mut self.life, &mut self.codec, src, out, last, replace)
     }
@@ -240,8 +246,8 @@ impl Decoder {
         replace: bool,
     ) -> (DecoderResult, usize, bool)
         requires { has_finished self.old ≡ false }
-        ensures call { DecodesInto U.units_of (decode_error_mode replace) self.old self.new src.now last (U.output out.old) (U.output out.new)
-            result.0 result.1 result.2 }
+        ensures call { DecodesInto U.units_of (decode_error_mode replace) self.old self.new src.now
+            last (U.output out.old) (U.output out.new) result.0 result.1 result.2 }
         ensures held { PendingAreHeldBytes self.old }
     {
         let (sniffed, len) = sniff(self.life, src, last);
@@ -273,8 +279,8 @@ impl Decoder {
         last: bool,
     ) -> (CoderResult, usize, bool)
         requires { has_finished self.old ≡ false }
-        ensures { AnswersDecodeInto U.units_of Replacement self.old self.new src.now last (U.output out.old) (U.output out.new)
-            (decoder_result_of result.0) result.1 result.2 }
+        ensures { AnswersDecodeInto U.units_of Replacement self.old self.new src.now last
+            (U.output out.old) (U.output out.new) (decoder_result_of result.0) result.1 result.2 }
     {
         U::laws();
         let (result, read, replaced) = self.convert(src, out, last, true);
@@ -293,8 +299,8 @@ impl Decoder {
         last: bool,
     ) -> (DecoderResult, usize)
         requires { has_finished self.old ≡ false }
-        ensures { AnswersDecodeInto U.units_of (Fatal false) self.old self.new src.now last (U.output out.old) (U.output out.new)
-            result.0 result.1 false }
+        ensures { AnswersDecodeInto U.units_of (Fatal false) self.old self.new src.now last
+            (U.output out.old) (U.output out.new) result.0 result.1 false }
     {
         U::laws();
         let (result, read, _) = self.convert(src, out, last, false);
@@ -323,15 +329,15 @@ impl Decoder {
         last: bool,
     ) -> (CoderResult, usize, usize, bool)
         requires { has_finished self.old ≡ false }
-        ensures call { AnswersDecodeReplacing encode_utf8 4 self.old self.new src.now last (length dst.old)
-            result.0 result.1 (take result.2 dst.new) result.3 }
+        ensures call { AnswersDecodeReplacing encode_utf8 4 self.old self.new src.now last
+            (length dst.old) result.0 result.1 (take result.2 dst.new) result.3 }
         ensures read { result.1 ≤ length src.now }
         ensures written { result.2 ≤ length dst.old }
         ensures text { IsUtf8 (take result.2 dst.new) }
         ensures rest { drop result.2 dst.new ≡ drop result.2 dst.old }
         ensures ended { has_finished self.new ≡ reaches_end last (decoder_result_of result.0) }
         ensures progress { (result.0 ≡ CoderResult.InputEmpty → ⊥) → 4 ≤ length dst.old →
-            length self.new.pending + (length src.now - result.1) < length self.old.pending + length src.now }
+            LeavesFewerBytes self.old self.new src.now result.1 }
     {
         let mut out = Utf8Slice::new(dst);
         let (result, read, replaced) = self.convert_replacing(src, &mut out, last);
@@ -359,15 +365,15 @@ impl Decoder {
         last: bool,
     ) -> (DecoderResult, usize, usize)
         requires { has_finished self.old ≡ false }
-        ensures call { AnswersDecodeReporting encode_utf8 4 self.old self.new src.now last (length dst.old)
-            result.0 result.1 (take result.2 dst.new) }
+        ensures call { AnswersDecodeReporting encode_utf8 4 self.old self.new src.now last
+            (length dst.old) result.0 result.1 (take result.2 dst.new) }
         ensures read { result.1 ≤ length src.now }
         ensures written { result.2 ≤ length dst.old }
         ensures text { IsUtf8 (take result.2 dst.new) }
         ensures rest { drop result.2 dst.new ≡ drop result.2 dst.old }
         ensures ended { has_finished self.new ≡ reaches_end last result.0 }
         ensures progress { (result.0 ≡ DecoderResult.InputEmpty → ⊥) → 4 ≤ length dst.old →
-            length self.new.pending + (length src.now - result.1) < length self.old.pending + length src.now }
+            LeavesFewerBytes self.old self.new src.now result.1 }
     {
         let mut out = Utf8Slice::new(dst);
         let (result, read) = self.convert_reporting(src, &mut out, last);
@@ -389,14 +395,14 @@ impl Decoder {
         last: bool,
     ) -> (CoderResult, usize, usize, bool)
         requires { has_finished self.old ≡ false }
-        ensures call { AnswersDecodeReplacing encode_utf16 2 self.old self.new src.now last (length dst.old)
-            result.0 result.1 (take result.2 dst.new) result.3 }
+        ensures call { AnswersDecodeReplacing encode_utf16 2 self.old self.new src.now last
+            (length dst.old) result.0 result.1 (take result.2 dst.new) result.3 }
         ensures read { result.1 ≤ length src.now }
         ensures written { result.2 ≤ length dst.old }
         ensures rest { drop result.2 dst.new ≡ drop result.2 dst.old }
         ensures ended { has_finished self.new ≡ reaches_end last (decoder_result_of result.0) }
         ensures progress { (result.0 ≡ CoderResult.InputEmpty → ⊥) → 2 ≤ length dst.old →
-            length self.new.pending + (length src.now - result.1) < length self.old.pending + length src.now }
+            LeavesFewerBytes self.old self.new src.now result.1 }
     {
         let mut units = Utf16Slice::new(dst);
         let (result, read, replaced) = self.convert_replacing(src, &mut units, last);
@@ -418,14 +424,14 @@ impl Decoder {
         last: bool,
     ) -> (DecoderResult, usize, usize)
         requires { has_finished self.old ≡ false }
-        ensures call { AnswersDecodeReporting encode_utf16 2 self.old self.new src.now last (length dst.old)
-            result.0 result.1 (take result.2 dst.new) }
+        ensures call { AnswersDecodeReporting encode_utf16 2 self.old self.new src.now last
+            (length dst.old) result.0 result.1 (take result.2 dst.new) }
         ensures read { result.1 ≤ length src.now }
         ensures written { result.2 ≤ length dst.old }
         ensures rest { drop result.2 dst.new ≡ drop result.2 dst.old }
         ensures ended { has_finished self.new ≡ reaches_end last result.0 }
         ensures progress { (result.0 ≡ DecoderResult.InputEmpty → ⊥) → 2 ≤ length dst.old →
-            length self.new.pending + (length src.now - result.1) < length self.old.pending + length src.now }
+            LeavesFewerBytes self.old self.new src.now result.1 }
     {
         let mut units = Utf16Slice::new(dst);
         let (result, read) = self.convert_reporting(src, &mut units, last);
@@ -447,8 +453,8 @@ impl Decoder {
     ) -> (CoderResult, usize, usize, bool)
         requires open { has_finished self.old ≡ false }
         requires utf8 { IsWellFormedUtf8 dst.old }
-        ensures call { AnswersDecodeReplacing encode_utf8 4 self.old self.new src.now last (length dst.old)
-            result.0 result.1 (take result.2 dst.new) result.3 }
+        ensures call { AnswersDecodeReplacing encode_utf8 4 self.old self.new src.now last
+            (length dst.old) result.0 result.1 (take result.2 dst.new) result.3 }
         ensures read { result.1 ≤ length src.now }
         ensures written { result.2 ≤ length dst.old }
         ensures text { IsUtf8 (take result.2 dst.new) }
@@ -456,7 +462,7 @@ impl Decoder {
         ensures utf8 { IsWellFormedUtf8 dst.new }
         ensures ended { has_finished self.new ≡ reaches_end last (decoder_result_of result.0) }
         ensures progress { (result.0 ≡ CoderResult.InputEmpty → ⊥) → 4 ≤ length dst.old →
-            length self.new.pending + (length src.now - result.1) < length self.old.pending + length src.now }
+            LeavesFewerBytes self.old self.new src.now result.1 }
     {
         let (result, read, written, replaced) = self.decode_to_utf8(src, dst, last);
         clear_rest(dst, written);
@@ -477,8 +483,8 @@ impl Decoder {
     ) -> (DecoderResult, usize, usize)
         requires open { has_finished self.old ≡ false }
         requires utf8 { IsWellFormedUtf8 dst.old }
-        ensures call { AnswersDecodeReporting encode_utf8 4 self.old self.new src.now last (length dst.old)
-            result.0 result.1 (take result.2 dst.new) }
+        ensures call { AnswersDecodeReporting encode_utf8 4 self.old self.new src.now last
+            (length dst.old) result.0 result.1 (take result.2 dst.new) }
         ensures read { result.1 ≤ length src.now }
         ensures written { result.2 ≤ length dst.old }
         ensures text { IsUtf8 (take result.2 dst.new) }
@@ -486,7 +492,7 @@ impl Decoder {
         ensures utf8 { IsWellFormedUtf8 dst.new }
         ensures ended { has_finished self.new ≡ reaches_end last result.0 }
         ensures progress { (result.0 ≡ DecoderResult.InputEmpty → ⊥) → 4 ≤ length dst.old →
-            length self.new.pending + (length src.now - result.1) < length self.old.pending + length src.now }
+            LeavesFewerBytes self.old self.new src.now result.1 }
     {
         let (result, read, len) = self.decode_to_utf8_without_replacement(src, dst, last);
         clear_rest(dst, len);
@@ -507,13 +513,16 @@ impl Decoder {
         last: bool,
     ) -> (CoderResult, usize, bool)
         requires { has_finished self.old ≡ false }
-        ensures call { AnswersDecodeReplacing encode_utf8 4 self.old self.new src.now last (string_capacity dst.old - string_len dst.old)
-            result.0 result.1 (drop (length (string_bytes dst.old)) (string_bytes dst.new)) result.2 }
+        ensures call { AnswersDecodeReplacing encode_utf8 4 self.old self.new src.now last
+            (string_capacity dst.old - string_len dst.old) result.0 result.1
+            (drop (length (string_bytes dst.old)) (string_bytes dst.new)) result.2 }
         ensures read { result.1 ≤ length src.now }
-        ensures appended { take (length (string_bytes dst.old)) (string_bytes dst.new) ≡ string_bytes dst.old }
+        ensures appended { take (length (string_bytes dst.old)) (string_bytes dst.new)
+            ≡ string_bytes dst.old }
         ensures ended { has_finished self.new ≡ reaches_end last (decoder_result_of result.0) }
-        ensures progress { (result.0 ≡ CoderResult.InputEmpty → ⊥) → 4 ≤ string_capacity dst.old - string_len dst.old →
-            length self.new.pending + (length src.now - result.1) < length self.old.pending + length src.now }
+        ensures progress { (result.0 ≡ CoderResult.InputEmpty → ⊥) →
+            4 ≤ string_capacity dst.old - string_len dst.old →
+            LeavesFewerBytes self.old self.new src.now result.1 }
     {
         let mut tail = StringTail::new(dst);
         self.convert_replacing(src, &mut tail, last)
@@ -533,14 +542,16 @@ impl Decoder {
         last: bool,
     ) -> (DecoderResult, usize)
         requires { has_finished self.old ≡ false }
-        ensures call { AnswersDecodeReporting encode_utf8 4 self.old self.new src.now last (string_capacity dst.old - string_len dst.old)
-            result.0 result.1 (drop (length (string_bytes dst.old)) (string_bytes dst.new)) }
+        ensures call { AnswersDecodeReporting encode_utf8 4 self.old self.new src.now last
+            (string_capacity dst.old - string_len dst.old) result.0 result.1
+            (drop (length (string_bytes dst.old)) (string_bytes dst.new)) }
         ensures read { result.1 ≤ length src.now }
-        ensures appended { take (length (string_bytes dst.old)) (string_bytes dst.new) ≡ string_bytes dst.old }
+        ensures appended { take (length (string_bytes dst.old)) (string_bytes dst.new)
+            ≡ string_bytes dst.old }
         ensures ended { has_finished self.new ≡ reaches_end last result.0 }
         ensures progress { (result.0 ≡ DecoderResult.InputEmpty → ⊥) →
             4 ≤ string_capacity dst.old - string_len dst.old →
-            length self.new.pending + (length src.now - result.1) < length self.old.pending + length src.now }
+            LeavesFewerBytes self.old self.new src.now result.1 }
     {
         let mut tail = StringTail::new(dst);
         self.convert_reporting(src, &mut tail, last)

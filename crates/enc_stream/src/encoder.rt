@@ -1,6 +1,7 @@
 //! Encoders.
 
-ghost use Rattle.std.specs.Prelude.{◌≡◌, ◌-◌, ◌<◌, ◌≤◌, chars, true, false, [], length, take, drop, IfSome};
+ghost use Rattle.std.specs.Prelude.{◌≡◌, ◌-◌, ◌≤◌, true, false, [], length, take, drop};
+ghost use Rattle.std.specs.Prelude.{chars, IfSome};
 ghost use Rattle.std.specs.Str.{IsCharBoundary};
 ghost use Rattle.std.specs.Vec.{vec_len, vec_capacity};
 ghost use Rattle.std.specs.Char.{encode_utf8};
@@ -14,8 +15,8 @@ ghost use Rattle.enc_units.specs.Checked.{checked_add};
 ghost use Rattle.enc_encoder.specs.Lengths.{from_utf_8_length, from_utf_16_length};
 ghost use Rattle.enc_encoder.specs.Need.{AreEnoughForEncoder};
 ghost use Rattle.enc_stream.specs.Encoder.{EncodesChunk, EncodesInto, fresh_encoder};
-ghost use Rattle.enc_stream.specs.Encoder.{maps_every_character as wanted_every, room_kept_for_references, raw_state};
-ghost use Rattle.enc_stream.specs.Encoder.{html_mode, steps_left};
+ghost use Rattle.enc_stream.specs.Encoder.{maps_every_character as wanted_every, raw_state};
+ghost use Rattle.enc_stream.specs.Encoder.{room_kept_for_references, html_mode, LeavesFewerSteps};
 ghost use Rattle.enc_stream.specs.Lengths.{output_lengths};
 ghost use Rattle.enc_stream.specs.Need.{EncodesByNeed, IsEnoughForEncoding, IsEnoughIfMappable};
 
@@ -50,7 +51,11 @@ impl Model for Encoder {
 
     ghost Value = { EncoderState };
 
-    ghost view = { λ e. record { encoding = e.encoding; barred = e.barred.now; set = (variant_encoder_state e.raw).set } };
+    ghost view = { λ e. record {
+      encoding = e.encoding;
+      barred = e.barred.now;
+      set = (variant_encoder_state e.raw).set;
+    } };
 
     ghost invariant = { λ e. (variant_encoder_state e.raw).rule
         ≡ output_rule e.barred.now e.encoding };
@@ -153,7 +158,8 @@ impl Encoder {
         &self,
         byte_length: usize,
     ) -> Option<usize>
-        ensures formula { result ≡ from_utf_8_length (output_lengths self.now.encoding) byte_length }
+        ensures formula { result
+            ≡ from_utf_8_length (output_lengths self.now.encoding) byte_length }
         ensures enough { IfSome result (IsEnoughForEncoding encode_utf8 self.now byte_length) }
     {
         self.byte_lengths().from_utf8(byte_length)
@@ -168,7 +174,8 @@ impl Encoder {
         &self,
         u16_length: usize,
     ) -> Option<usize>
-        ensures formula { result ≡ from_utf_16_length (output_lengths self.now.encoding) u16_length }
+        ensures formula { result
+            ≡ from_utf_16_length (output_lengths self.now.encoding) u16_length }
         ensures enough { IfSome result (IsEnoughForEncoding encode_utf16 self.now u16_length) }
     {
         self.byte_lengths().from_utf16(u16_length)
@@ -181,7 +188,9 @@ impl Encoder {
     /// free for references, unless the encoding is UTF-8 and no character is barred. `None` if a
     /// step of the formula overflows `usize`. Takes no memory.
     pub fn max_buffer_length_from_utf8_if_no_unmappables(&self, byte_length: usize) -> Option<usize>
-        ensures formula { result ≡ checked_add (from_utf_8_length (output_lengths self.now.encoding) byte_length) (room_kept_for_references self.now.barred self.now.encoding) }
+        ensures formula { result ≡ checked_add
+            (from_utf_8_length (output_lengths self.now.encoding) byte_length)
+            (room_kept_for_references self.now.barred self.now.encoding) }
         ensures enough { IfSome result (IsEnoughIfMappable encode_utf8 self.now byte_length) }
     {
         self.max_buffer_length_from_utf8_without_replacement(byte_length)?
@@ -194,7 +203,9 @@ impl Encoder {
     /// [`Encoder::encode_from_utf16`] reads all then. The same as
     /// [`Encoder::max_buffer_length_from_utf8_if_no_unmappables`] otherwise.
     pub fn max_buffer_length_from_utf16_if_no_unmappables(&self, u16_length: usize) -> Option<usize>
-        ensures formula { result ≡ checked_add (from_utf_16_length (output_lengths self.now.encoding) u16_length) (room_kept_for_references self.now.barred self.now.encoding) }
+        ensures formula { result ≡ checked_add
+            (from_utf_16_length (output_lengths self.now.encoding) u16_length)
+            (room_kept_for_references self.now.barred self.now.encoding) }
         ensures enough { IfSome result (IsEnoughIfMappable encode_utf16 self.now u16_length) }
     {
         self.max_buffer_length_from_utf16_without_replacement(u16_length)?
@@ -208,7 +219,8 @@ impl Encoder {
         dst: &mut [u8],
         last: bool,
     ) -> (EncoderResult, usize, usize)
-        ensures { EncodesInto C.units_of Fatal self.old self.new (C.rest src.old) last dst.old dst.new result.0 result.1 result.2 false }
+        ensures { EncodesInto C.units_of Fatal self.old self.new (C.rest src.old) last
+            dst.old dst.new result.0 result.1 result.2 false }
     {
         encode_reporting(&mut self.raw, src, dst, last)
     }
@@ -220,8 +232,8 @@ impl Encoder {
         dst: &mut [u8],
         last: bool,
     ) -> (CoderResult, usize, usize, bool)
-        ensures { EncodesInto C.units_of (html_mode self.old) self.old self.new (C.rest src.old) last dst.old dst.new
-            (encoder_result_of result.0) result.1 result.2 result.3 }
+        ensures { EncodesInto C.units_of (html_mode self.old) self.old self.new (C.rest src.old)
+            last dst.old dst.new (encoder_result_of result.0) result.1 result.2 result.3 }
     {
         if self.maps_every_character() {
             let (stop, read, written) = encode_mappable(&mut self.raw, src, dst, last);
@@ -255,14 +267,16 @@ impl Encoder {
         dst: &mut [u8],
         last: bool,
     ) -> (CoderResult, usize, usize, bool)
-        ensures call { EncodesInto encode_utf8 (html_mode self.old) self.old self.new (chars src.now) last dst.old dst.new
+        ensures call { EncodesInto encode_utf8 (html_mode self.old) self.old self.new
+            (chars src.now) last dst.old dst.new
             (encoder_result_of result.0) result.1 result.2 result.3 }
         ensures read { result.1 ≤ length src.now }
         ensures boundary { IsCharBoundary src.now result.1 }
         ensures written { result.2 ≤ length dst.old }
         ensures rest { drop result.2 dst.new ≡ drop result.2 dst.old }
         ensures progress { (result.0 ≡ CoderResult.InputEmpty → ⊥) → 14 ≤ length dst.old →
-            steps_left self.new last (chars (drop result.1 src.now)) < steps_left self.old last (chars src.now) }
+            LeavesFewerSteps self.old self.new last
+            (chars src.now) (chars (drop result.1 src.now)) }
     {
         let mut chars = Utf8Chars::new(src);
         self.encode_replacing(&mut chars, dst, last)
@@ -279,13 +293,15 @@ impl Encoder {
         dst: &mut [u8],
         last: bool,
     ) -> (CoderResult, usize, usize, bool)
-        ensures call { EncodesInto encode_utf16 (html_mode self.old) self.old self.new (utf16_lossy_chars src.now) last dst.old dst.new
+        ensures call { EncodesInto encode_utf16 (html_mode self.old) self.old self.new
+            (utf16_lossy_chars src.now) last dst.old dst.new
             (encoder_result_of result.0) result.1 result.2 result.3 }
         ensures read { result.1 ≤ length src.now }
         ensures written { result.2 ≤ length dst.old }
         ensures rest { drop result.2 dst.new ≡ drop result.2 dst.old }
         ensures progress { (result.0 ≡ CoderResult.InputEmpty → ⊥) → 14 ≤ length dst.old →
-            steps_left self.new last (utf16_lossy_chars (drop result.1 src.now)) < steps_left self.old last (utf16_lossy_chars src.now) }
+            LeavesFewerSteps self.old self.new last
+            (utf16_lossy_chars src.now) (utf16_lossy_chars (drop result.1 src.now)) }
     {
         let mut units = Utf16Chars::new(src);
         self.encode_replacing(&mut units, dst, last)
@@ -302,14 +318,17 @@ impl Encoder {
         dst: &mut Vec<u8>,
         last: bool,
     ) -> (CoderResult, usize, bool)
-        ensures call { EncodesChunk encode_utf8 (html_mode self.old) self.old self.new (chars src.now) last (vec_capacity dst.old - vec_len dst.old)
+        ensures call { EncodesChunk encode_utf8 (html_mode self.old) self.old self.new
+            (chars src.now) last (vec_capacity dst.old - vec_len dst.old)
             (encoder_result_of result.0) result.1 (drop (length dst.old.items) dst.new.items)
             result.2 }
         ensures read { result.1 ≤ length src.now }
         ensures boundary { IsCharBoundary src.now result.1 }
         ensures appended { take (length dst.old.items) dst.new.items ≡ dst.old.items }
-        ensures progress { (result.0 ≡ CoderResult.InputEmpty → ⊥) → 14 ≤ vec_capacity dst.old - vec_len dst.old →
-            steps_left self.new last (chars (drop result.1 src.now)) < steps_left self.old last (chars src.now) }
+        ensures progress { (result.0 ≡ CoderResult.InputEmpty → ⊥) →
+            14 ≤ vec_capacity dst.old - vec_len dst.old →
+            LeavesFewerSteps self.old self.new last
+            (chars src.now) (chars (drop result.1 src.now)) }
     {
         let len = dst.len();
         let _ = dst.resize(dst.capacity(), 0);
@@ -329,15 +348,19 @@ impl Encoder {
         dst: &mut Vec<u8>,
         last: bool,
     ) -> (EncoderResult, usize)
-        ensures call { EncodesChunk encode_utf8 Fatal self.old self.new (chars src.now) last (vec_capacity dst.old - vec_len dst.old)
+        ensures call { EncodesChunk encode_utf8 Fatal self.old self.new
+            (chars src.now) last (vec_capacity dst.old - vec_len dst.old)
             result.0 result.1 (drop (length dst.old.items) dst.new.items) false }
-        ensures need { EncodesByNeed encode_utf8 self.old self.new (chars src.now) last (vec_capacity dst.old - vec_len dst.old)
+        ensures need { EncodesByNeed encode_utf8 self.old self.new
+            (chars src.now) last (vec_capacity dst.old - vec_len dst.old)
             result.0 result.1 (length (drop (length dst.old.items) dst.new.items)) }
         ensures read { result.1 ≤ length src.now }
         ensures boundary { IsCharBoundary src.now result.1 }
         ensures appended { take (length dst.old.items) dst.new.items ≡ dst.old.items }
-        ensures progress { (result.0 ≡ EncoderResult.InputEmpty → ⊥) → 4 ≤ vec_capacity dst.old - vec_len dst.old →
-            steps_left self.new last (chars (drop result.1 src.now)) < steps_left self.old last (chars src.now) }
+        ensures progress { (result.0 ≡ EncoderResult.InputEmpty → ⊥) →
+            4 ≤ vec_capacity dst.old - vec_len dst.old →
+            LeavesFewerSteps self.old self.new last
+            (chars src.now) (chars (drop result.1 src.now)) }
     {
         let len = dst.len();
         let _ = dst.resize(dst.capacity(), 0);
@@ -374,14 +397,17 @@ impl Encoder {
         dst: &mut [u8],
         last: bool,
     ) -> (EncoderResult, usize, usize)
-        ensures call { EncodesInto encode_utf8 Fatal self.old self.new (chars src.now) last dst.old dst.new result.0 result.1 result.2 false }
-        ensures need { EncodesByNeed encode_utf8 self.old self.new (chars src.now) last (length dst.old) result.0 result.1 result.2 }
+        ensures call { EncodesInto encode_utf8 Fatal self.old self.new (chars src.now) last
+            dst.old dst.new result.0 result.1 result.2 false }
+        ensures need { EncodesByNeed encode_utf8 self.old self.new (chars src.now) last
+            (length dst.old) result.0 result.1 result.2 }
         ensures read { result.1 ≤ length src.now }
         ensures boundary { IsCharBoundary src.now result.1 }
         ensures written { result.2 ≤ length dst.old }
         ensures rest { drop result.2 dst.new ≡ drop result.2 dst.old }
         ensures progress { (result.0 ≡ EncoderResult.InputEmpty → ⊥) → 4 ≤ length dst.old →
-            steps_left self.new last (chars (drop result.1 src.now)) < steps_left self.old last (chars src.now) }
+            LeavesFewerSteps self.old self.new last
+            (chars src.now) (chars (drop result.1 src.now)) }
     {
         let mut chars = Utf8Chars::new(src);
         self.encode_reporting(&mut chars, dst, last)
@@ -398,13 +424,16 @@ impl Encoder {
         dst: &mut [u8],
         last: bool,
     ) -> (EncoderResult, usize, usize)
-        ensures call { EncodesInto encode_utf16 Fatal self.old self.new (utf16_lossy_chars src.now) last dst.old dst.new result.0 result.1 result.2 false }
-        ensures need { EncodesByNeed encode_utf16 self.old self.new (utf16_lossy_chars src.now) last (length dst.old) result.0 result.1 result.2 }
+        ensures call { EncodesInto encode_utf16 Fatal self.old self.new
+            (utf16_lossy_chars src.now) last dst.old dst.new result.0 result.1 result.2 false }
+        ensures need { EncodesByNeed encode_utf16 self.old self.new
+            (utf16_lossy_chars src.now) last (length dst.old) result.0 result.1 result.2 }
         ensures read { result.1 ≤ length src.now }
         ensures written { result.2 ≤ length dst.old }
         ensures rest { drop result.2 dst.new ≡ drop result.2 dst.old }
         ensures progress { (result.0 ≡ EncoderResult.InputEmpty → ⊥) → 4 ≤ length dst.old →
-            steps_left self.new last (utf16_lossy_chars (drop result.1 src.now)) < steps_left self.old last (utf16_lossy_chars src.now) }
+            LeavesFewerSteps self.old self.new last
+            (utf16_lossy_chars src.now) (utf16_lossy_chars (drop result.1 src.now)) }
     {
         let mut units = Utf16Chars::new(src);
         self.encode_reporting(&mut units, dst, last)

@@ -1,7 +1,7 @@
 //! One-shot calls, for whole inputs.
 
-ghost use Rattle.std.specs.Prelude.{◌≡◌, ◌≢◌, ◌-◌, ◌≤◌, [], true, false, chars, length, IfOk, IsOk, IfErr, IsErrOf};
-ghost use Rattle.std.specs.Prelude.{OnOk, OnErr, option_map, Some, None};
+ghost use Rattle.std.specs.Prelude.{◌≡◌, ◌≢◌, ◌-◌, ◌≤◌, [], true, false, chars, length, option_map};
+ghost use Rattle.std.specs.Prelude.{IfOk, IsOk, IfErr, IsErrOf, OnOk, OnErr, Some, None};
 ghost use Rattle.std.specs.Vec.{vec_len, vec_capacity};
 ghost use Rattle.std.specs.String.{string_bytes, string_len, string_capacity};
 ghost use Rattle.enc_units.specs.Checked.{checked_add};
@@ -11,8 +11,8 @@ ghost use Rattle.enc_stream.specs.Encodings.{output_rule};
 ghost use Rattle.enc_stream.specs.Properties.{output_encoding_of};
 ghost use Rattle.enc_stream.specs.Decoding.{whole_encoding, whole_utf_8, whole_malformed};
 ghost use Rattle.enc_stream.specs.Encoder.{whole_bytes};
-ghost use Rattle.enc_stream.specs.OneShot.{utf_8_without_replacement, HasRoomFor, first_length, length_to_encode};
-ghost use Rattle.enc_stream.specs.OneShot.{IsTooLong, IsTooLongToEncode};
+ghost use Rattle.enc_stream.specs.OneShot.{utf_8_without_replacement, HasRoomFor, first_length};
+ghost use Rattle.enc_stream.specs.OneShot.{length_to_encode, IsTooLong, IsTooLongToEncode};
 
 use crate::bom::BomHandling;
 use crate::decoder::Decoder;
@@ -50,11 +50,14 @@ fn length_after(length: Option<usize>, written: usize) -> Result<usize, OneShotE
 fn make_room(text: &mut String, length: Option<usize>) -> Result<(), OneShotError>
     ensures bytes { string_bytes text.new ≡ string_bytes text.old }
     ensures room { OnOk result (4 ≤ string_capacity text.new - string_len text.new) }
-    ensures enough { OnOk result (HasRoomFor length (string_capacity text.new - string_len text.new)) }
-    ensures too_long { IsErrOf result OneShotError.TooLong → checked_add length (string_len text.old) ≡ None }
+    ensures enough { OnOk result
+        (HasRoomFor length (string_capacity text.new - string_len text.new)) }
+    ensures too_long { IsErrOf result OneShotError.TooLong
+        → checked_add length (string_len text.old) ≡ None }
     ensures none { checked_add length (string_len text.old) ≡ None
         → IsErrOf result OneShotError.TooLong }
-    ensures alone { IsErrOf result OneShotError.TooLong → string_bytes text.old ≡ [] → length ≡ None }
+    ensures alone { IsErrOf result OneShotError.TooLong
+        → string_bytes text.old ≡ [] → length ≡ None }
 {
     let more = length_after(length, text.len())?;
     match text.reserve(more.max(4)) {
@@ -67,7 +70,8 @@ fn make_room(text: &mut String, length: Option<usize>) -> Result<(), OneShotErro
 fn make_byte_room(bytes: &mut Vec<u8>, length: Option<usize>) -> Result<(), OneShotError>
     ensures bytes { bytes.new.items ≡ bytes.old.items }
     ensures room { OnOk result (14 ≤ vec_capacity bytes.new - vec_len bytes.new) }
-    ensures too_long { IsErrOf result OneShotError.TooLong → checked_add length (vec_len bytes.old) ≡ None }
+    ensures too_long { IsErrOf result OneShotError.TooLong
+        → checked_add length (vec_len bytes.old) ≡ None }
     ensures none { checked_add length (vec_len bytes.old) ≡ None
         → IsErrOf result OneShotError.TooLong }
 {
@@ -88,10 +92,12 @@ fn decode_whole(
     handling: BomHandling,
     bytes: &[u8],
 ) -> Result<(String, bool), OneShotError>
-    ensures text { IfOk result (λ answer. string_bytes answer.0 ≡ whole_utf_8 handling encoding bytes.now) }
+    ensures text { IfOk result (λ answer.
+        string_bytes answer.0 ≡ whole_utf_8 handling encoding bytes.now) }
     ensures flag { IfOk result (λ answer. answer.1 ≡ whole_malformed handling encoding bytes.now) }
     ensures too_long { IsErrOf result OneShotError.TooLong → IsTooLong handling encoding bytes.now }
-    ensures first { bytes.now ≢ [] → first_length handling encoding bytes.now ≡ None → IsErrOf result OneShotError.TooLong }
+    ensures first { bytes.now ≢ [] → first_length handling encoding bytes.now ≡ None
+        → IsErrOf result OneShotError.TooLong }
     ensures empty { bytes.now ≡ [] → IsOk result }
 {
     let mut text = String::new(alloc);
@@ -130,11 +136,16 @@ impl Encoding {
         alloc: Global,
         bytes: &[u8],
     ) -> Result<(String, Encoding, bool), OneShotError>
-        ensures text { IfOk result (λ answer. string_bytes answer.0 ≡ whole_utf_8 handling.Sniff self bytes.now) }
-        ensures encoding { IfOk result (λ answer. answer.1 ≡ whole_encoding handling.Sniff self bytes.now) }
-        ensures flag { IfOk result (λ answer. answer.2 ≡ whole_malformed handling.Sniff self bytes.now) }
-        ensures too_long { IsErrOf result OneShotError.TooLong → IsTooLong handling.Sniff self bytes.now }
-        ensures first { bytes.now ≢ [] → first_length handling.Sniff self bytes.now ≡ None → IsErrOf result OneShotError.TooLong }
+        ensures text { IfOk result (λ answer.
+            string_bytes answer.0 ≡ whole_utf_8 handling.Sniff self bytes.now) }
+        ensures encoding { IfOk result (λ answer.
+            answer.1 ≡ whole_encoding handling.Sniff self bytes.now) }
+        ensures flag { IfOk result (λ answer.
+            answer.2 ≡ whole_malformed handling.Sniff self bytes.now) }
+        ensures too_long { IsErrOf result OneShotError.TooLong
+            → IsTooLong handling.Sniff self bytes.now }
+        ensures first { bytes.now ≢ [] → first_length handling.Sniff self bytes.now ≡ None
+            → IsErrOf result OneShotError.TooLong }
         ensures empty { bytes.now ≡ [] → IsOk result }
     {
         let (text, had_errors) = decode_whole(alloc, self, BomHandling::Sniff, bytes)?;
@@ -154,10 +165,14 @@ impl Encoding {
         alloc: Global,
         bytes: &[u8],
     ) -> Result<(String, bool), OneShotError>
-        ensures text { IfOk result (λ answer. string_bytes answer.0 ≡ whole_utf_8 handling.Remove self bytes.now) }
-        ensures flag { IfOk result (λ answer. answer.1 ≡ whole_malformed handling.Remove self bytes.now) }
-        ensures too_long { IsErrOf result OneShotError.TooLong → IsTooLong handling.Remove self bytes.now }
-        ensures first { bytes.now ≢ [] → first_length handling.Remove self bytes.now ≡ None → IsErrOf result OneShotError.TooLong }
+        ensures text { IfOk result (λ answer.
+            string_bytes answer.0 ≡ whole_utf_8 handling.Remove self bytes.now) }
+        ensures flag { IfOk result (λ answer.
+            answer.1 ≡ whole_malformed handling.Remove self bytes.now) }
+        ensures too_long { IsErrOf result OneShotError.TooLong
+            → IsTooLong handling.Remove self bytes.now }
+        ensures first { bytes.now ≢ [] → first_length handling.Remove self bytes.now ≡ None
+            → IsErrOf result OneShotError.TooLong }
         ensures empty { bytes.now ≡ [] → IsOk result }
     {
         decode_whole(alloc, self, BomHandling::Remove, bytes)
@@ -173,10 +188,14 @@ impl Encoding {
         alloc: Global,
         bytes: &[u8],
     ) -> Result<(String, bool), OneShotError>
-        ensures text { IfOk result (λ answer. string_bytes answer.0 ≡ whole_utf_8 handling.Off self bytes.now) }
-        ensures flag { IfOk result (λ answer. answer.1 ≡ whole_malformed handling.Off self bytes.now) }
-        ensures too_long { IsErrOf result OneShotError.TooLong → IsTooLong handling.Off self bytes.now }
-        ensures first { bytes.now ≢ [] → first_length handling.Off self bytes.now ≡ None → IsErrOf result OneShotError.TooLong }
+        ensures text { IfOk result (λ answer.
+            string_bytes answer.0 ≡ whole_utf_8 handling.Off self bytes.now) }
+        ensures flag { IfOk result (λ answer.
+            answer.1 ≡ whole_malformed handling.Off self bytes.now) }
+        ensures too_long { IsErrOf result OneShotError.TooLong
+            → IsTooLong handling.Off self bytes.now }
+        ensures first { bytes.now ≢ [] → first_length handling.Off self bytes.now ≡ None
+            → IsErrOf result OneShotError.TooLong }
         ensures empty { bytes.now ≡ [] → IsOk result }
     {
         decode_whole(alloc, self, BomHandling::Off, bytes)
@@ -192,9 +211,12 @@ impl Encoding {
         alloc: Global,
         bytes: &[u8],
     ) -> Result<Option<String>, OneShotError>
-        ensures text { IfOk result (λ answer. option_map string_bytes answer ≡ utf_8_without_replacement self bytes.now) }
-        ensures too_long { IsErrOf result OneShotError.TooLong → first_length handling.Off self bytes.now ≡ None }
-        ensures first { bytes.now ≢ [] → first_length handling.Off self bytes.now ≡ None → IsErrOf result OneShotError.TooLong }
+        ensures text { IfOk result (λ answer.
+            option_map string_bytes answer ≡ utf_8_without_replacement self bytes.now) }
+        ensures too_long { IsErrOf result OneShotError.TooLong
+            → first_length handling.Off self bytes.now ≡ None }
+        ensures first { bytes.now ≢ [] → first_length handling.Off self bytes.now ≡ None
+            → IsErrOf result OneShotError.TooLong }
         ensures empty { bytes.now ≡ [] → IsOk result }
     {
         let mut text = String::new(alloc);
@@ -224,11 +246,15 @@ impl Encoding {
         alloc: Global,
         text: &str,
     ) -> Result<(Vec<u8>, Encoding, bool), OneShotError>
-        ensures bytes { IfOk result (λ answer. answer.0.items ≡ whole_bytes [] self (chars text.now)) }
+        ensures bytes { IfOk result (λ answer.
+            answer.0.items ≡ whole_bytes [] self (chars text.now)) }
         ensures encoding { IfOk result (λ answer. answer.1 ≡ output_encoding_of self) }
-        ensures flag { IfOk result (λ answer. answer.2 ≡ any_unmappable (output_rule [] self) (chars text.now)) }
+        ensures flag { IfOk result (λ answer.
+            answer.2 ≡ any_unmappable (output_rule [] self) (chars text.now)) }
         ensures too_long { IsErrOf result OneShotError.TooLong → IsTooLongToEncode self text.now }
-        ensures first { text.now ≢ [] → length_to_encode (output_encoding_of self) (length text.now) ≡ None → IsErrOf result OneShotError.TooLong }
+        ensures first { text.now ≢ []
+            → length_to_encode (output_encoding_of self) (length text.now) ≡ None
+            → IsErrOf result OneShotError.TooLong }
         ensures empty { text.now ≡ [] → IsOk result }
     {
         let mut bytes = Vec::new(alloc);

@@ -3,7 +3,8 @@
 ghost use Rattle.std.specs.Prelude.{◌≡◌, ◌↔◌, IsTrue};
 ghost use Rattle.enc_encoder.specs.Barring.{are_beyond_ascii};
 ghost use Rattle.enc_stream.specs.Names.{name_of};
-ghost use Rattle.enc_stream.specs.Properties.{output_encoding_of, is_ascii_compatible, is_single_byte};
+ghost use Rattle.enc_stream.specs.Properties.{output_encoding_of};
+ghost use Rattle.enc_stream.specs.Properties.{is_ascii_compatible, is_single_byte};
 
 use crate::encoding::{Encoding, UTF_8};
 

@@ -5,8 +5,8 @@ ghost use Rattle.enc_stream.specs.declared.encoding.Encoding.{Encoding};
 ghost use Rattle.enc_names.specs.declared.encoding_id.EncodingId.{EncodingId};
 ghost use Rattle.enc_stream.specs.Encodings.{rule_of};
 ghost use Rattle.enc_decoder.specs.Replacing.{decode_error_mode};
-ghost use Rattle.enc_stream.specs.Decoding.{has_ended, unread_bytes, decoder_state_of, HeldBytesMatchCodec};
-ghost use Rattle.enc_stream.specs.Decoding.{LooksForOwnMark, DecodesInto};
+ghost use Rattle.enc_stream.specs.Decoding.{has_ended, unread_bytes, decoder_state_of};
+ghost use Rattle.enc_stream.specs.Decoding.{HeldBytesMatchCodec, LooksForOwnMark, DecodesInto};
 ghost use Rattle.enc_stream.specs.Sniffing.{HasNoMark};
 
 use crate::life_cycle::LifeCycle;
@@ -37,7 +37,9 @@ pub(crate) fn convert_text<D: RawDecoder, U: Units>(
     requires text { HasNoMark life.old src.now last }
     requires holds { HeldBytesMatchCodec life.old (D.state codec.old) }
     ensures call { (e : Encoding) → rule_of e ≡ (D.state codec.old).rule →
-        DecodesInto U.units_of (decode_error_mode replace) (decoder_state_of e life.old (D.state codec.old)) (decoder_state_of e life.new (D.state codec.new))
+        DecodesInto U.units_of (decode_error_mode replace)
+        (decoder_state_of e life.old (D.state codec.old))
+        (decoder_state_of e life.new (D.state codec.new))
         src.now last (U.output out.old) (U.output out.new) result.0 result.1 result.2 }
     ensures rule { (D.state codec.new).rule ≡ (D.state codec.old).rule }
     ensures formulas { D.formulas codec.new ≡ D.formulas codec.old }

@@ -1,6 +1,7 @@
 //! Validity of bytes, as functions of [`Encoding`].
 
-ghost use Rattle.enc_units.specs.Validity.{IsLongestPrefix, IsWellFormedUtf8, AreAscii, AreIso2022JpAscii};
+ghost use Rattle.enc_units.specs.Validity.{IsLongestPrefix, IsWellFormedUtf8};
+ghost use Rattle.enc_units.specs.Validity.{AreAscii, AreIso2022JpAscii};
 
 use crate::encoding::Encoding;
 

@@ -10,7 +10,7 @@ use Rattle.enc_decoder.specs.Remainder.{AreBytes}
 use Rattle.enc_decoder.proofs.ByteLemmas.{bytes_of_slice}
 use Rattle.enc_stream.specs.declared.lengths.Query.TheVariants.{Utf8Reporting}
 use Rattle.enc_stream.specs.Lengths.{max_length}
-use Rattle.enc_stream.proofs.EndOfInputLemmas.{only_put, whole_text, whole_flag}
+use Rattle.enc_stream.proofs.EndOfInputLemmas.{puts_all, whole_text, whole_flag}
 use Rattle.enc_stream.proofs.EnoughLemmas.{are_bytes_drop}
 use Rattle.enc_stream.proofs.OneShotDecodeLemmas.{nothing, none_whole, first_call, next_call, still_open, now_finished}
 use Rattle.enc_stream.proofs.OneShotDecodeLemmas.{never_full, too_long_after}
@@ -19,7 +19,8 @@ use Rattle.enc_stream.proofs.one_shot.decode_whole.Goals as goal
 pub returns-then-is_empty-clause-text : goal.returns-then-is_empty-clause-text
 returns-then-is_empty-clause-text c =
     let none = nothing c.args.bytes.now (c.if-is_empty.ensures) in
-    c.new-text.ensures.bytes ∙ ap (λ ss. units_of_text encode_utf8 (sequence_text ss)) (sym (none_whole c.args.handling c.args.encoding c.args.bytes.now none))
+    c.new-text.ensures.bytes ∙ ap (λ ss. units_of_text encode_utf8 (sequence_text ss))
+    (sym (none_whole c.args.handling c.args.encoding c.args.bytes.now none))
 
 pub returns-then-is_empty-clause-flag : goal.returns-then-is_empty-clause-flag
 returns-then-is_empty-clause-flag c =
@@ -37,69 +38,67 @@ pub returns-then-eq-clause-text : goal.returns-then-eq-clause-text
 returns-then-eq-clause-text c =
     let decodes = c.decode_to_string-stop.ensures.call.decodes in
     let at_end : c.decode_to_string-stop.result.0 ≡ InputEmpty = search rules in
-    whole_text _ _ _ _ _ _ _ (first_call _ _ _ _ _ c.start-decoder.ensures _ _ (c.in_ok-make_room.ensures.bytes
-    ∙ c.new-text.ensures.bytes) _ _ _ _ _ decodes c.decode_to_string-stop.ensures.appended
-    (only_put _ _ _ _ _ _ _ _ _ decodes))
-    (now_finished _ _ _ _ _ _ _ _ decodes at_end)
+    let decoded =
+    first_call c.start-decoder.ensures (c.in_ok-make_room.ensures.bytes ∙ c.new-text.ensures.bytes) decodes
+    c.decode_to_string-stop.ensures.appended (puts_all _ decodes) in
+    whole_text decoded (now_finished decodes at_end)
 
 pub returns-then-eq-clause-flag : goal.returns-then-eq-clause-flag
 returns-then-eq-clause-flag c =
     let decodes = c.decode_to_string-stop.ensures.call.decodes in
     let at_end : c.decode_to_string-stop.result.0 ≡ InputEmpty = search rules in
-    whole_flag _ _ _ _ _ _ _ (first_call _ _ _ _ _ c.start-decoder.ensures _ _ (c.in_ok-make_room.ensures.bytes
-    ∙ c.new-text.ensures.bytes) _ _ _ _ _ decodes c.decode_to_string-stop.ensures.appended
-    (only_put _ _ _ _ _ _ _ _ _ decodes))
-    (now_finished _ _ _ _ _ _ _ _ decodes at_end)
+    let decoded =
+    first_call c.start-decoder.ensures (c.in_ok-make_room.ensures.bytes ∙ c.new-text.ensures.bytes) decodes
+    c.decode_to_string-stop.ensures.appended (puts_all _ decodes) in
+    whole_flag decoded (now_finished decodes at_end)
 
 pub max_utf8_buffer_length-length-requires : goal.max_utf8_buffer_length-length-requires
 max_utf8_buffer_length-length-requires c =
-    let on : ¬ (c.decode_to_string-stop.result.0 ≡ InputEmpty) = search rules in
-    still_open _ _ _ _ _ _ _ _ c.decode_to_string-stop.ensures.call.decodes on
+    let goes_on : ¬ (c.decode_to_string-stop.result.0 ≡ InputEmpty) = search rules in
+    still_open c.decode_to_string-stop.ensures.call.decodes goes_on
 
 pub returns-in_err-make_room-2-clause-too_long : goal.returns-in_err-make_room-2-clause-too_long
 returns-in_err-make_room-2-clause-too_long c =
-    let on : ¬ (c.decode_to_string-stop.result.0 ≡ InputEmpty) = search rules in
+    let goes_on : ¬ (c.decode_to_string-stop.result.0 ≡ InputEmpty) = search rules in
     let none : string_bytes c.make_room.new.text ≡ [] = c.in_ok-make_room.ensures.bytes ∙ c.new-text.ensures.bytes in
     λ too_long. inr (
-    too_long_after _ _ _ _ _ c.start-decoder.ensures _
-    c.max_utf8_buffer_length_without_replacement-length.ensures.length _
-    c.in_ok-make_room.ensures.enough _ on _ _ _ c.decode_to_string-stop.ensures.call
+    too_long_after c.start-decoder.ensures c.max_utf8_buffer_length_without_replacement-length.ensures.length
+    c.in_ok-make_room.ensures.enough _ goes_on c.decode_to_string-stop.ensures.call
     (rw (none, ← c.split_at.ensures.back) (search rules))
     )
 
 pub decode_to_string-requires : goal.decode_to_string-requires
 decode_to_string-requires c =
-    let on : ¬ (c.decode_to_string-stop.result.0 ≡ InputEmpty) = search rules in
-    still_open _ _ _ _ _ _ _ _ c.decode_to_string-stop.ensures.call.decodes on
+    let goes_on : ¬ (c.decode_to_string-stop.result.0 ≡ InputEmpty) = search rules in
+    still_open c.decode_to_string-stop.ensures.call.decodes goes_on
 
 pub unreachable-requires : goal.unreachable-requires
 unreachable-requires c =
-    let are : AreBytes c.split_at.result.1.now = rw c.split_at.ensures.back (are_bytes_drop _ _ (bytes_of_slice _ c.type_inv.bytes)) in
-    never_full _ _ _ _ _ _ _ _ _ _ _ c.max_utf8_buffer_length-length.ensures.enough c.in_ok-make_room-2.ensures.enough are refl
+    let are_bytes : AreBytes c.split_at.result.1.now =
+    rw c.split_at.ensures.back (are_bytes_drop _ _ (bytes_of_slice _ c.type_inv.bytes)) in
+    never_full _ _ _ c.max_utf8_buffer_length-length.ensures.enough c.in_ok-make_room-2.ensures.enough are_bytes refl
     c.decode_to_string.ensures.call.need (ap decoder_result_of c.in-OutputFull-default-default.is-0)
 
 pub returns-clause-text : goal.returns-clause-text
 returns-clause-text c =
     let decodes = c.decode_to_string-stop.ensures.call.decodes in
     let first =
-    first_call _ _ _ _ _ c.start-decoder.ensures _ _ (c.in_ok-make_room.ensures.bytes
-    ∙ c.new-text.ensures.bytes) _ _ _ _ _ decodes c.decode_to_string-stop.ensures.appended
-    (only_put _ _ _ _ _ _ _ _ _ decodes) in
+    first_call c.start-decoder.ensures (c.in_ok-make_room.ensures.bytes ∙ c.new-text.ensures.bytes) decodes
+    c.decode_to_string-stop.ensures.appended (puts_all _ decodes) in
     let decodes_rest = c.decode_to_string.ensures.call.decodes in
-    whole_text _ _ _ _ _ _ _ (next_call _ _ _ _ _ _ _ _ first _ _ _ c.split_at.ensures.back
-    c.in_ok-make_room-2.ensures.bytes _ _ _ _ _ decodes_rest c.decode_to_string.ensures.appended
-    (only_put _ _ _ _ _ _ _ _ _ decodes_rest))
-    (now_finished _ _ _ _ _ _ _ _ decodes_rest c.in-InputEmpty-default-default.is-0)
+    let both =
+    next_call first c.split_at.ensures.back c.in_ok-make_room-2.ensures.bytes decodes_rest
+    c.decode_to_string.ensures.appended (puts_all _ decodes_rest) in
+    whole_text both (now_finished decodes_rest c.in-InputEmpty-default-default.is-0)
 
 pub returns-clause-flag : goal.returns-clause-flag
 returns-clause-flag c =
     let decodes = c.decode_to_string-stop.ensures.call.decodes in
     let first =
-    first_call _ _ _ _ _ c.start-decoder.ensures _ _ (c.in_ok-make_room.ensures.bytes
-    ∙ c.new-text.ensures.bytes) _ _ _ _ _ decodes c.decode_to_string-stop.ensures.appended
-    (only_put _ _ _ _ _ _ _ _ _ decodes) in
+    first_call c.start-decoder.ensures (c.in_ok-make_room.ensures.bytes ∙ c.new-text.ensures.bytes) decodes
+    c.decode_to_string-stop.ensures.appended (puts_all _ decodes) in
     let decodes_rest = c.decode_to_string.ensures.call.decodes in
-    whole_flag _ _ _ _ _ _ _ (next_call _ _ _ _ _ _ _ _ first _ _ _ c.split_at.ensures.back
-    c.in_ok-make_room-2.ensures.bytes _ _ _ _ _ decodes_rest c.decode_to_string.ensures.appended
-    (only_put _ _ _ _ _ _ _ _ _ decodes_rest))
-    (now_finished _ _ _ _ _ _ _ _ decodes_rest c.in-InputEmpty-default-default.is-0)
+    let both =
+    next_call first c.split_at.ensures.back c.in_ok-make_room-2.ensures.bytes decodes_rest
+    c.decode_to_string.ensures.appended (puts_all _ decodes_rest) in
+    whole_flag both (now_finished decodes_rest c.in-InputEmpty-default-default.is-0)

@@ -15,7 +15,8 @@ loop-len-preserved c = record {
 }
 
 pub returns-in-Ends-clause-sniffed : goal.returns-in-Ends-clause-sniffed
-returns-in-Ends-clause-sniffed c = ends_next _ _ _ _ _ c.loop-len-test.true c.loop-len.invariant.reaches c.in-Ends.ensures
+returns-in-Ends-clause-sniffed c =
+    ends_next _ _ _ _ _ c.loop-len-test.true c.loop-len.invariant.reaches c.in-Ends.ensures
 
 pub returns-in-RulesOut-clause-sniffed : goal.returns-in-RulesOut-clause-sniffed
 returns-in-RulesOut-clause-sniffed c =

@@ -1,5 +1,5 @@
 use Rattle.std.proofs.Common.{length, refl, arith, rules}
-use Rattle.enc_stream.proofs.EndOfInputLemmas.{finishes_by}
+use Rattle.enc_stream.proofs.EndOfInputLemmas.{has_finished_by}
 use Rattle.enc_stream.proofs.OutputFullLemmas.{over_slice, two_units, still_goes_on}
 use Rattle.enc_stream.proofs.decoder.Decoder.decode_to_utf16.Goals as goal
 
@@ -12,7 +12,7 @@ pub returns-clause-read : goal.returns-clause-read
 returns-clause-read c = (returns-clause-call c).decodes.call.within
 
 pub returns-clause-ended : goal.returns-clause-ended
-returns-clause-ended c = finishes_by _ _ _ _ _ _ _ _ _ _ _ (returns-clause-call c).decodes
+returns-clause-ended c = has_finished_by (returns-clause-call c).decodes
 
 pub returns-clause-progress : goal.returns-clause-progress
 returns-clause-progress c = λ on. (returns-clause-call c).progress (still_goes_on _ on)

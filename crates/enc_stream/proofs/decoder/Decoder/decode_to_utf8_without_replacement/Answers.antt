@@ -1,6 +1,6 @@
 use Rattle.std.proofs.Common.{length, refl, arith, rules}
 use Rattle.enc_units.proofs.AsciiPrefixLemmas.{text_utf8}
-use Rattle.enc_stream.proofs.EndOfInputLemmas.{finishes_by}
+use Rattle.enc_stream.proofs.EndOfInputLemmas.{has_finished_by}
 use Rattle.enc_stream.proofs.OutputFullLemmas.{over_slice, four_bytes}
 use Rattle.enc_stream.proofs.decoder.Decoder.decode_to_utf8_without_replacement.Goals as goal
 
@@ -16,7 +16,7 @@ pub returns-clause-text : goal.returns-clause-text
 returns-clause-text c = let call = (returns-clause-call c).decodes.call in text_utf8 _ _ call.scalars call.text
 
 pub returns-clause-ended : goal.returns-clause-ended
-returns-clause-ended c = finishes_by _ _ _ _ _ _ _ _ _ _ _ (returns-clause-call c).decodes
+returns-clause-ended c = has_finished_by (returns-clause-call c).decodes
 
 pub returns-clause-progress : goal.returns-clause-progress
 returns-clause-progress c = (returns-clause-call c).progress

@@ -7,8 +7,11 @@ use Rattle.enc_stream.proofs.EnoughLemmas.{room_is_enough}
 
 pub returns-clause-enough : goal.returns-clause-enough
 returns-clause-enough c =
-    let d = c.self.inside in
+    let decoder = c.self.inside in
     let kept = c.self.invariant in
+    let are_enough =
+    subst (λ (f : TextLengths). AreEnoughForCodec f (variant_decoder_state decoder.codec)) (sym kept.1.0)
+    c.text_lengths-formulas.ensures.enough in
     rw (← c.self.view_is)
-    (room_is_enough c.args.query d.encoding d.life (variant_decoder_state d.codec) kept.0.0 kept.0.1 kept.1.1
-    (subst (λ (f : TextLengths). AreEnoughForCodec f (variant_decoder_state d.codec)) (sym kept.1.0) c.text_lengths-formulas.ensures.enough) c.args.byte_length _ (search rules))
+    (room_is_enough c.args.query decoder.encoding decoder.life (variant_decoder_state decoder.codec) kept.0.0 kept.0.1
+    kept.1.1 are_enough c.args.byte_length _ (search rules))

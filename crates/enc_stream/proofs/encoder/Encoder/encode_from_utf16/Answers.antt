@@ -3,10 +3,11 @@ use Rattle.enc_stream.proofs.EncoderProgressLemmas.{goes_on}
 use Rattle.enc_stream.proofs.encoder.Encoder.encode_from_utf16.Goals as goal
 
 pub returns-clause-read : goal.returns-clause-read
-returns-clause-read c = ends_within _ (λ i. (c.type_inv.src i).fits) _ _ _ _ _ _ _ _ _ (rw c.new-units.ensures at c.encode_replacing.ensures.encodes)
+returns-clause-read c =
+    ends_within _ (λ i. (c.type_inv.src i).fits) (rw c.new-units.ensures at c.encode_replacing.ensures.encodes)
 
 pub returns-clause-progress : goal.returns-clause-progress
 returns-clause-progress c = λ on room.
     let encodes = rw c.new-units.ensures at c.encode_replacing.ensures.encodes in
-    rw (lossy_unread _ (λ i. (c.type_inv.src i).fits) _ _ _ _ _ _ _ _ _ encodes)
+    rw (lossy_unread _ (λ i. (c.type_inv.src i).fits) encodes)
     (goes_on _ _ _ _ _ _ _ _ _ _ encodes on room)

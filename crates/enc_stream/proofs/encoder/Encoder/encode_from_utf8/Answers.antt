@@ -3,7 +3,7 @@ use Rattle.enc_stream.proofs.EncoderProgressLemmas.{goes_on}
 use Rattle.enc_stream.proofs.encoder.Encoder.encode_from_utf8.Goals as goal
 
 pub returns-clause-boundary : goal.returns-clause-boundary
-returns-clause-boundary c = ends_between _ c.utf8.src _ _ _ _ _ _ _ _ _ (rw c.new-chars.ensures at c.encode_replacing.ensures.encodes)
+returns-clause-boundary c = ends_between c.utf8.src (rw c.new-chars.ensures at c.encode_replacing.ensures.encodes)
 
 pub returns-clause-read : goal.returns-clause-read
 returns-clause-read c = (returns-clause-boundary c).0
@@ -11,4 +11,4 @@ returns-clause-read c = (returns-clause-boundary c).0
 pub returns-clause-progress : goal.returns-clause-progress
 returns-clause-progress c = λ on room.
     let encodes = rw c.new-chars.ensures at c.encode_replacing.ensures.encodes in
-    rw (chars_unread _ c.utf8.src _ _ _ _ _ _ _ _ _ encodes) (goes_on _ _ _ _ _ _ _ _ _ _ encodes on room)
+    rw (chars_unread c.utf8.src encodes) (goes_on _ _ _ _ _ _ _ _ _ _ encodes on room)

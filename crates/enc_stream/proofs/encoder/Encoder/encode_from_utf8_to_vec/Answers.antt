@@ -9,5 +9,5 @@ returns-clause-call c =
     let front : length (take c.len-len.result c.deref_mut.result.now) ≡ c.len-len.result = search rules in
     let written : made.result.2 ≤ length made.new.dst = search rules in
     let within : c.len-len.result + made.result.2 ≤ c.resize.new.self.len = search rules in
-    let tail = tail_of _ _ _ _ _ _ _ _ front written within c.truncate.ensures.items in
-    in_tail _ _ _ _ _ _ _ _ _ _ _ _ _ (search rules) (tail ∙ ap (λ n. drop n c.truncate.new.self.items) len) made.ensures.call.encodes
+    let tail = tail_of _ made.new.dst _ _ _ _ front written within c.truncate.ensures.items in
+    in_tail (search rules) (tail ∙ ap (λ n. drop n c.truncate.new.self.items) len) made.ensures.call.encodes

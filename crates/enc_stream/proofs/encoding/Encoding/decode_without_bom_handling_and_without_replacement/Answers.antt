@@ -9,22 +9,28 @@ use Rattle.enc_stream.proofs.encoding.Encoding.decode_without_bom_handling_and_w
 
 pub returns-then-is_empty-clause-text : goal.returns-then-is_empty-clause-text
 returns-then-is_empty-clause-text c =
-    rw c.new-text.ensures.bytes (none_strict c.args.self c.args.bytes.now (nothing c.args.bytes.now (c.if-is_empty.ensures)))
+    rw c.new-text.ensures.bytes
+    (none_strict c.args.self c.args.bytes.now (nothing c.args.bytes.now (c.if-is_empty.ensures)))
 
 pub unreachable-requires : goal.unreachable-requires
 unreachable-requires c =
-    never_full _ _ _ _ _ _ _ _ _ _ _ c.max_utf8_buffer_length_without_replacement-length.ensures.enough c.in_ok-make_room.ensures.enough (bytes_of_slice _ c.type_inv.bytes) refl
+    never_full _ _ _ c.max_utf8_buffer_length_without_replacement-length.ensures.enough
+    c.in_ok-make_room.ensures.enough (bytes_of_slice _ c.type_inv.bytes) refl
     c.decode_to_string_without_replacement-stop.ensures.call.need c.in-OutputFull.is
 
 pub returns-in-InputEmpty-clause-text : goal.returns-in-InputEmpty-clause-text
 returns-in-InputEmpty-clause-text c =
-    let h : HasDecoded Off c.args.self c.args.bytes.now c.args.bytes.now true c.start-decoder.result (string_bytes c.make_room.new.text) false =
-    rw (c.in_ok-make_room.ensures.bytes ∙ c.new-text.ensures.bytes, c.start-decoder.ensures) (none_decoded Off c.args.self c.args.bytes.now) in
+    let none_so_far : HasDecoded Off c.args.self c.args.bytes.now c.args.bytes.now true c.start-decoder.result
+    (string_bytes c.make_room.new.text) false =
+    rw (c.in_ok-make_room.ensures.bytes ∙ c.new-text.ensures.bytes, c.start-decoder.ensures)
+    (none_decoded Off c.args.self c.args.bytes.now) in
     let decoded = c.decode_to_string_without_replacement-stop.ensures in
-    strict_end _ _ _ _ _ _ _ h _ _ _ decoded.call.decodes decoded.appended c.in-InputEmpty.is
+    strict_end none_so_far _ decoded.call.decodes decoded.appended c.in-InputEmpty.is
 
 pub returns-in-Malformed-clause-text : goal.returns-in-Malformed-clause-text
 returns-in-Malformed-clause-text c =
-    let h : HasDecoded Off c.args.self c.args.bytes.now c.args.bytes.now true c.start-decoder.result (string_bytes c.make_room.new.text) false =
-    rw (c.in_ok-make_room.ensures.bytes ∙ c.new-text.ensures.bytes, c.start-decoder.ensures) (none_decoded Off c.args.self c.args.bytes.now) in
-    strict_report _ _ _ _ _ _ _ h _ _ _ _ _ c.decode_to_string_without_replacement-stop.ensures.call.decodes c.in-Malformed.is
+    let none_so_far : HasDecoded Off c.args.self c.args.bytes.now c.args.bytes.now true c.start-decoder.result
+    (string_bytes c.make_room.new.text) false =
+    rw (c.in_ok-make_room.ensures.bytes ∙ c.new-text.ensures.bytes, c.start-decoder.ensures)
+    (none_decoded Off c.args.self c.args.bytes.now) in
+    strict_report none_so_far _ c.decode_to_string_without_replacement-stop.ensures.call.decodes c.in-Malformed.is

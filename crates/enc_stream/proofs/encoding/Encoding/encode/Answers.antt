@@ -43,18 +43,18 @@ returns-in_err-make_byte_room-clause-too_long c = λ too_long. record {
 pub returns-then-eq-clause-bytes : goal.returns-then-eq-clause-bytes
 returns-then-eq-clause-bytes c =
     let invariant = c.calls.invariant in
-    let w = rw (← c.in_ok-make_byte_room.ensures.bytes) at invariant.1.written in
+    let written_so_far = rw (← c.in_ok-make_byte_room.ensures.bytes) at invariant.1.written in
     let encoded = c.encode_from_utf8_to_vec-stop.ensures in
     let at_end : c.encode_from_utf8_to_vec-stop.result.0 ≡ InputEmpty = search rules in
-    written_all _ _ _ _ _ _ _ _ invariant.0 w invariant.1.flag _ _ _ _ encoded.call encoded.appended at_end
+    written_all invariant.0 written_so_far _ encoded.call refl encoded.appended at_end
 
 pub returns-then-eq-clause-flag : goal.returns-then-eq-clause-flag
 returns-then-eq-clause-flag c =
     let invariant = c.calls.invariant in
-    let w = rw (← c.in_ok-make_byte_room.ensures.bytes) at invariant.1.written in
+    let written_so_far = rw (← c.in_ok-make_byte_room.ensures.bytes) at invariant.1.written in
     let encoded = c.encode_from_utf8_to_vec-stop.ensures in
     let at_end : c.encode_from_utf8_to_vec-stop.result.0 ≡ InputEmpty = search rules in
-    flagged_all _ _ _ _ _ _ _ _ invariant.0 w invariant.1.flag _ _ _ _ encoded.call encoded.appended at_end
+    flagged_all invariant.0 written_so_far _ encoded.call _ invariant.1.flag at_end
 
 pub calls-preserved : goal.calls-preserved
 calls-preserved c =
@@ -64,11 +64,9 @@ calls-preserved c =
       search rules,
       record {
         written =
-            written_on _ _ _ _ _ _ _ _ invariant.0 written_so_far invariant.1.flag _ _ _ _ encoded.call encoded.appended
-            _ c.split_at.ensures.back;
+            written_on invariant.0 written_so_far _ encoded.call refl encoded.appended c.split_at.ensures.back;
         flag =
-            flagged_on _ _ _ _ _ _ _ _ invariant.0 written_so_far invariant.1.flag _ _ _ _ encoded.call encoded.appended
-            _ c.split_at.ensures.back;
+            flagged_on invariant.0 written_so_far _ encoded.call _ invariant.1.flag c.split_at.ensures.back;
         front = invariant.1.front ++ take c.encode_from_utf8_to_vec-stop.result.1 c.calls.unread.now;
         rest =
             invariant.1.rest ∙ ap (λ x. invariant.1.front ++ x)
@@ -77,10 +75,10 @@ calls-preserved c =
             ∙ ap (λ x. (invariant.1.front ++ take c.encode_from_utf8_to_vec-stop.result.1 c.calls.unread.now) ++ x)
             (sym c.split_at.ensures.back);
         start = λ none. absurd (
-            let n =
-            none_asked _ _ _ _ _ _ invariant.1.written _ (invariant.1.start none) none _
+            let overflows =
+            none_asked invariant.1.written (invariant.1.start none) none
             c.max_buffer_length_from_utf8_if_no_unmappables-length.ensures.formula _ in
-            let e = c.in_ok-make_byte_room.ensures.none n in cc
+            let is_too_long = c.in_ok-make_byte_room.ensures.none overflows in cc
             );
       },
     )

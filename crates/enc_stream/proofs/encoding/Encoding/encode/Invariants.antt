@@ -11,7 +11,8 @@ use Rattle.enc_stream.proofs.encoding.Encoding.encode.Given as goal
 abbrev pub invariant-calls : goal.invariant-calls
 invariant-calls l = shadow (Utf8 l.unread) × record {
   written : HasWritten l.fn.self (chars l.fn.text) (chars l.unread) l.encoder l.bytes.items;
-  flag : any_unmappable (output_rule [] l.fn.self) (chars l.fn.text) ≡ (l.had_unmappables || any_unmappable (output_rule [] l.fn.self) (chars l.unread));
+  flag : any_unmappable (output_rule [] l.fn.self) (chars l.fn.text)
+      ≡ (l.had_unmappables || any_unmappable (output_rule [] l.fn.self) (chars l.unread));
   front : List ℕ;
   rest : l.fn.text ≡ front ++ l.unread;
   -- only the first call asks for a length that is not there
