@@ -127,7 +127,7 @@ converting_after : (life : LifeCycle) (b : Bool) (x y : List ℕ) (done : List S
 converting_after life true x y done h = refl
 converting_after life false x y done h = sym (ap (λ o. life_after_sequences o done) h)
 
-module _ (e to : Encoding) (life : LifeCycle) (v : CodecState) (src : List ℕ) (len : ℕ)
+module _ (e : Encoding) {to : Encoding} {life : LifeCycle} {v : CodecState} (src : List ℕ) (len : ℕ)
     (holds : HeldBytesMatchCodec life v) (in_src : len ≤ length src)
     (completes : CompletesMark life (take len src) to) where
   abbrev old : DecoderState
@@ -155,12 +155,12 @@ module _ (e to : Encoding) (life : LifeCycle) (v : CodecState) (src : List ℕ) 
     nothing = λ s ss d. none_begins s ss _ (after_mark [] ∙ sequences_of-nil (rule_of to) 0) (d [] tt);
   }
 
-  pub after_a_mark : (units_of : ℕ → List ℕ) (mode : DecodeErrorMode) (are : AreBytes src) (last : Bool)
-      (before after : Output) (new : DecoderState)
-      (result : DecoderResult) (n : ℕ) (replaced : Bool)
+  pub after_a_mark : AreBytes src
+      → {units_of : ℕ → List ℕ} {mode : DecodeErrorMode} {last : Bool} {before after : Output} {new : DecoderState}
+      {result : DecoderResult} {n : ℕ} {replaced : Bool}
       → DecodesInto units_of mode mid new (drop len src) last before after result n replaced
       → DecodesInto units_of mode old new src last before after result (len + n) replaced
-  after_a_mark units_of mode are last before after new result n replaced decodes_rest =
+  after_a_mark are {units_of} {mode} {last} {before} {new} {result} {n} {replaced} decodes_rest =
       let call_of_all =
       called_after units_of mode old mid src are last before.room len leads_to_text n decodes_rest.wrote replaced
       new result decodes_rest.decodes.call in
@@ -203,7 +203,7 @@ state_alike : (life now : LifeCycle) (b : Bool) (x : List ℕ) (done : List Sequ
 state_alike life now true x done h = refl
 state_alike life now false x done h = sym (ap (λ o. life_after_sequences o done) h)
 
-module _ (e : Encoding) (life now : LifeCycle) (v : CodecState) (src : List ℕ) (len : ℕ)
+module _ (e : Encoding) {life now : LifeCycle} {v : CodecState} (src : List ℕ) (len : ℕ)
     (holds : HeldBytesMatchCodec life v) (in_src : len ≤ length src) (extends : ExtendsHeldMark life now (take len src))
     (awaits : awaits_mark (phase_of life) ≡ true) where
   abbrev from : DecoderState
@@ -238,12 +238,12 @@ module _ (e : Encoding) (life now : LifeCycle) (v : CodecState) (src : List ℕ)
         (subst (AreFirstSequences (s ∷ ss)) (after_held y) (d y b)));
   }
 
-  pub after_held_bytes : (units_of : ℕ → List ℕ) (mode : DecodeErrorMode) (are : AreBytes src) (last : Bool)
-      (before after : Output) (new : DecoderState)
-      (result : DecoderResult) (n : ℕ) (replaced : Bool)
+  pub after_held_bytes : AreBytes src
+      → {units_of : ℕ → List ℕ} {mode : DecodeErrorMode} {last : Bool} {before after : Output} {new : DecoderState}
+      {result : DecoderResult} {n : ℕ} {replaced : Bool}
       → DecodesInto units_of mode held new (drop len src) last before after result n replaced
       → DecodesInto units_of mode from new src last before after result (len + n) replaced
-  after_held_bytes units_of mode are last before after new result n replaced decodes_rest =
+  after_held_bytes are {units_of} {mode} {last} {before} {new} {result} {n} {replaced} decodes_rest =
       let call_of_all =
       called_after units_of mode from held src are last before.room len leads_to_held n decodes_rest.wrote replaced
       new result decodes_rest.decodes.call in
@@ -279,9 +279,9 @@ module _ (e : Encoding) (life now : LifeCycle) (v : CodecState) (src : List ℕ)
       }
 
   -- All of the offer might begin one.
-  pub all_held : (units_of : ℕ → List ℕ) (mode : DecodeErrorMode) (out : Output) → has_ended now ≡ false
+  pub all_held : {units_of : ℕ → List ℕ} {mode : DecodeErrorMode} {out : Output} → has_ended now ≡ false
       → len ≡ length src → DecodesInto units_of mode from held src false out out InputEmpty len false
-  all_held units_of mode out going reads_all =
+  all_held {out} going reads_all =
       let all_taken : take len src ≡ src = ap (λ n. take n src) reads_all ∙ take-length src in
       let all : from.pending ++ take len src ≡ held_mark_bytes now =
       ap (λ x. from.pending ++ x) (sym (append-nil (take len src))) ∙ at_held [] ∙ append-nil (held_mark_bytes now) in
@@ -333,19 +333,17 @@ none_more : (x y : List ℕ) → x ++ y ≡ x → length y ≡ 0
 none_more x y e = let same_length = ap length e in let joined_length = length-append x y in omega arith
 
 -- After the bytes before text.
-pub after_text : (e : Encoding) (life now : LifeCycle) (v : CodecState) (src : List ℕ) (len : ℕ) (awaits : Bool)
+pub after_text : (e : Encoding) {life now : LifeCycle} {v : CodecState} (src : List ℕ) (len : ℕ) (awaits : Bool)
     → HeldBytesMatchCodec life v → len ≤ length src → ExtendsHeldMark life now (take len src)
-    → awaits_mark (phase_of life) ≡ awaits
-    → (units_of : ℕ → List ℕ) (mode : DecodeErrorMode) (are : AreBytes src) (last : Bool) (before after : Output)
-    (new : DecoderState) (result : DecoderResult) (n : ℕ) (replaced : Bool)
+    → awaits_mark (phase_of life) ≡ awaits → AreBytes src
+    → {units_of : ℕ → List ℕ} {mode : DecodeErrorMode} {last : Bool} {before after : Output} {new : DecoderState}
+    {result : DecoderResult} {n : ℕ} {replaced : Bool}
     → DecodesInto units_of mode (decoder_state_of e now v) new (drop len src) last before after result n replaced
     → DecodesInto units_of mode (decoder_state_of e life v) new src last before after result (len + n) replaced
-after_text e life now v src len true holds in_src extends awaits units_of mode are last before after new result n
-    replaced d =
-    after_held_bytes e life now v src len holds in_src extends awaits units_of mode are last before after new result
-    n replaced d
-after_text e life now v src len false holds in_src extends awaits units_of mode are last before after new result n
-    replaced d =
+after_text e src len true holds in_src extends awaits are decodes_rest =
+    after_held_bytes e src len holds in_src extends awaits are decodes_rest
+after_text e {life} {now} {v} src len false holds in_src extends awaits are {units_of} {mode} {last} {before} {after}
+    {new} {result} {n} {replaced} decodes_rest =
     let same : now ≡ life = extends.stays awaits in
     let none : len ≡ 0 =
     (let none_taken = none_more (held_mark_bytes life) (take len src) (extends.held ∙ ap held_mark_bytes same) in
@@ -356,4 +354,4 @@ after_text e life now v src len false holds in_src extends awaits units_of mode 
     (subst (λ k. DecodesInto units_of mode (decoder_state_of e life v) new (drop k src) last before after result n
     replaced) none
     (subst (λ l. DecodesInto units_of mode (decoder_state_of e l v) new (drop len src) last before after result n
-    replaced) same d))
+    replaced) same decodes_rest))

@@ -87,12 +87,13 @@ fewer_left kept old new src rest last room (p ∷ done) k r h full e =
     omega (arith, ap length e, length-append (p ∷ done) (steps_from_state new last rest))
 
 -- A call that is not at the end has done a step.
-pub goes_on : (units_of : ℕ → List ℕ) (old new : EncoderState) (text : List ℕ) (last : Bool) (room : ℕ)
-    (result : CoderResult) (read : ℕ) (wrote : List ℕ) (replaced : Bool)
-    (c : EncodesChunk units_of (html_mode old) old new text last room (encoder_result_of result) read wrote replaced)
-    → ¬ (result ≡ InputEmpty) → 14 ≤ room → steps_left new last c.rest < steps_left old last text
-goes_on units_of old new text last room InputEmpty read wrote replaced encodes n r = absurd (n refl)
-goes_on units_of old new text last room OutputFull read wrote replaced encodes n r =
+pub goes_on : {units_of : ℕ → List ℕ} {old new : EncoderState} {text : List ℕ} {last : Bool} {room : ℕ}
+    (result : CoderResult) {read : ℕ} {wrote : List ℕ} {replaced : Bool}
+    (encodes : EncodesChunk units_of (html_mode old) old new text last room (encoder_result_of result) read wrote
+    replaced)
+    → ¬ (result ≡ InputEmpty) → 14 ≤ room → steps_left new last encodes.rest < steps_left old last text
+goes_on InputEmpty encodes n r = absurd (n refl)
+goes_on {old} {new} {text} {last} {room} OutputFull encodes n r =
     fewer_left (room_kept_for_references old.barred old.encoding) (raw_state old) (raw_state new) text encodes.rest last
     room
     encodes.call.done
@@ -140,11 +141,11 @@ fewer_reported old new src rest last room [] r h result n at e =
 fewer_reported old new src rest last room (p ∷ done) r h result n at e =
     omega (arith, ap length e, length-append (p ∷ done) (steps_from_state new last rest))
 
-pub reports_on : (units_of : ℕ → List ℕ) (old new : EncoderState) (text : List ℕ) (last : Bool) (room : ℕ)
-    (result : EncoderResult) (read : ℕ) (wrote : List ℕ) (replaced : Bool)
-    (c : EncodesChunk units_of Fatal old new text last room result read wrote replaced)
-    → ¬ (result ≡ raw.InputEmpty) → 4 ≤ room → steps_left new last c.rest < steps_left old last text
-reports_on units_of old new text last room result read wrote replaced encodes n r =
+pub reports_on : {units_of : ℕ → List ℕ} {old new : EncoderState} {text : List ℕ} {last : Bool} {room : ℕ}
+    {result : EncoderResult} {read : ℕ} {wrote : List ℕ} {replaced : Bool}
+    (encodes : EncodesChunk units_of Fatal old new text last room result read wrote replaced)
+    → ¬ (result ≡ raw.InputEmpty) → 4 ≤ room → steps_left new last encodes.rest < steps_left old last text
+reports_on {old} {new} {text} {last} {room} {result} encodes n r =
     fewer_reported (raw_state old) (raw_state new) text encodes.rest last room encodes.call.done r
     (few_step (raw_state new).rule last new.set encodes.rest (lawful_of new.barred new.encoding).few) result n
     encodes.call.stops encodes.call.remaining

@@ -86,14 +86,6 @@ has_finished_by {old} {src} {last} {result} {read} decodes =
     ap has_ended decodes.life ∙ ends_at_end old.life (reaches_end last result) (old.pending ++ take read src)
     decodes.call.done
 
--- the same for a call whose arguments are given, of any kind and with replacement
-
-pub finishes_by : (units_of : ℕ → List ℕ) (mode : DecodeErrorMode) (old new : DecoderState) (src : List ℕ)
-    (last : Bool) (room : ℕ) (result : DecoderResult) (read : ℕ) (wrote : List ℕ) (replaced : Bool)
-    → DecodesChunk units_of mode old new src last room result read wrote replaced
-    → has_finished new ≡ reaches_end last result
-finishes_by units_of mode old new src last room result read wrote replaced decodes = has_finished_by decodes
-
 pub finishes : (old new : DecoderState) (src : List ℕ) (last : Bool) (room : ℕ) (result : CoderResult) (read : ℕ)
     (wrote : List ℕ) (replaced : Bool)
     → DecodesReplacing encode_utf8 old new src last room result read wrote replaced

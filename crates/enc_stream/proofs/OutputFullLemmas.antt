@@ -323,13 +323,13 @@ pub still_goes_on : (r : CoderResult) → (r ≡ coder.InputEmpty → ⊥) → d
 still_goes_on coder.InputEmpty on e = on refl
 still_goes_on coder.OutputFull on e = cc
 
-pub converts_into : (units_of : ℕ → List ℕ) (mode : DecodeErrorMode) (old new : DecoderState) (src : List ℕ)
-    (last : Bool) (before after : Output) (result : DecoderResult) (read : ℕ) (replaced : Bool)
+pub converts_into : {units_of : ℕ → List ℕ} {mode : DecodeErrorMode} {old new : DecoderState} {src : List ℕ}
+    {last : Bool} {before after : Output} {result : DecoderResult} {read : ℕ} {replaced : Bool}
     → DetermineTexts units_of → PendingAreHeldBytes old → has_finished old ≡ false
     → DecodesInto units_of mode old new src last before after result read replaced
     → AnswersDecodeInto units_of mode old new src last before after result read replaced
-converts_into units_of mode old new src last before after result read replaced determine pending_are_held going
-    decodes = record {
+converts_into {units_of} {mode} {old} {new} {src} {last} {before} {result} {read} {replaced} determine pending_are_held
+    going decodes = record {
       wrote = decodes.wrote;
       onto = decodes.onto;
       converts =
@@ -338,27 +338,27 @@ converts_into units_of mode old new src last before after result read replaced d
     }
 
 -- a call that reports replaces nothing
-pub reports_into : (units_of : ℕ → List ℕ) (old new : DecoderState) (src : List ℕ) (last : Bool)
-    (before after : Output) (result : DecoderResult) (read : ℕ) (replaced : Bool)
+pub reports_into : {units_of : ℕ → List ℕ} {old new : DecoderState} {src : List ℕ} {last : Bool}
+    {before after : Output} {result : DecoderResult} {read : ℕ} {replaced : Bool}
     → DetermineTexts units_of → PendingAreHeldBytes old → has_finished old ≡ false
     → DecodesInto units_of (Fatal false) old new src last before after result read replaced
     → AnswersDecodeInto units_of (Fatal false) old new src last before after result read false
-reports_into units_of old new src last before after result read replaced determine pending_are_held going decodes =
+reports_into {units_of} {old} {new} {src} {last} {before} {after} {result} {read} determine pending_are_held going
+    decodes =
     subst (AnswersDecodeInto units_of (Fatal false) old new src last before after result read)
     (decodes.decodes.call.none_replaced refl)
-    (converts_into units_of (Fatal false) old new src last before after result read replaced determine pending_are_held
-    going
-    decodes)
+    (converts_into determine pending_are_held going decodes)
 
 -- A call over an output that is empty as yet.
-pub over_slice : (units_of : ℕ → List ℕ) (least : ℕ) (mode : DecodeErrorMode) (old new : DecoderState) (src : List ℕ)
-    (last : Bool) (before after : Output) (result : DecoderResult) (read : ℕ) (replaced : Bool)
-    (text : List ℕ) (room : ℕ)
+pub over_slice : {units_of : ℕ → List ℕ} {least : ℕ} {mode : DecodeErrorMode} {old new : DecoderState} {src : List ℕ}
+    {last : Bool} {before after : Output} {result : DecoderResult} {read : ℕ} {replaced : Bool}
+    {text : List ℕ} {room : ℕ}
     → TakesSmallTexts units_of least
     → AnswersDecodeInto units_of mode old new src last before after result read replaced
     → before.written ≡ [] → before.room ≡ room → after.written ≡ text
     → AnswersDecode units_of least mode old new src last room result read text replaced
-over_slice units_of least mode old new src last before after result read replaced text room takes answers w r a =
+over_slice {units_of} {least} {mode} {old} {new} {src} {last} {result} {read} {replaced} {text} {room} takes answers w r
+    a =
     let wrote_text : answers.wrote ≡ text =
     sym (ap (λ x. x ++ answers.wrote) w) ∙ sym (ap (λ (o : Output). o.written) answers.onto) ∙ a in
     subst (λ x. AnswersDecode units_of least mode old new src last room result read x replaced) wrote_text
@@ -366,15 +366,15 @@ over_slice units_of least mode old new src last before after result read replace
     (answers.converts least takes))
 
 -- A call over an output that has a text already.
-pub over_text : (units_of : ℕ → List ℕ) (least : ℕ) (mode : DecodeErrorMode) (old new : DecoderState) (src : List ℕ)
-    (last : Bool) (before after : Output) (result : DecoderResult) (read : ℕ) (replaced : Bool)
-    (text now : List ℕ) (len room : ℕ)
+pub over_text : {units_of : ℕ → List ℕ} {least : ℕ} {mode : DecodeErrorMode} {old new : DecoderState} {src : List ℕ}
+    {last : Bool} {before after : Output} {result : DecoderResult} {read : ℕ} {replaced : Bool}
+    {text now : List ℕ} {len room : ℕ}
     → TakesSmallTexts units_of least
     → AnswersDecodeInto units_of mode old new src last before after result read replaced
     → before.written ≡ text → length text ≡ len → before.room ≡ room → after.written ≡ now
     → AnswersDecode units_of least mode old new src last room result read (drop len now) replaced
-over_text units_of least mode old new src last before after result read replaced text now len room takes answers w l r
-    a =
+over_text {units_of} {least} {mode} {old} {new} {src} {last} {result} {read} {replaced} {text} {now} {len} {room} takes
+    answers w l r a =
     let all : now ≡ text ++ answers.wrote = sym a ∙ ap (λ (o : Output). o.written) answers.onto
     ∙ ap (λ x. x ++ answers.wrote) w in
     let wrote_rest : answers.wrote ≡ drop len now =
@@ -385,12 +385,12 @@ over_text units_of least mode old new src last before after result read replaced
     (answers.converts least takes))
 
 -- what was there stays in front
-pub in_front : (units_of : ℕ → List ℕ) (mode : DecodeErrorMode) (old new : DecoderState) (src : List ℕ)
-    (last : Bool) (before after : Output) (result : DecoderResult) (read : ℕ) (replaced : Bool)
-    (text now : List ℕ) (len : ℕ)
+pub in_front : {units_of : ℕ → List ℕ} {mode : DecodeErrorMode} {old new : DecoderState} {src : List ℕ}
+    {last : Bool} {before after : Output} {result : DecoderResult} {read : ℕ} {replaced : Bool}
+    {text now : List ℕ} {len : ℕ}
     → AnswersDecodeInto units_of mode old new src last before after result read replaced
     → before.written ≡ text → length text ≡ len → after.written ≡ now → take len now ≡ text
-in_front units_of mode old new src last before after result read replaced text now len answers w l a =
+in_front {text} {len} answers w l a =
     ap (take len) (sym a ∙ ap (λ (o : Output). o.written) answers.onto ∙ ap (λ x. x ++ answers.wrote) w)
     ∙ ap (λ n. take n (text ++ answers.wrote)) (sym l) ∙ take-append_seam text answers.wrote
 

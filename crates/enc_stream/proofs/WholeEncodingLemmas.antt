@@ -32,7 +32,7 @@ use Rattle.enc_stream.specs.Decoding.{DecoderState, has_finished, has_ended, rem
 use Rattle.enc_stream.specs.Decoding.{remaining_sequences, whole_encoding, DecodesChunk}
 use Rattle.enc_stream.proofs.MarkFirstLemmas.{start_fits}
 use Rattle.enc_stream.proofs.WholeInputLemmas.{joined_by, found_is}
-use Rattle.enc_stream.proofs.EndOfInputLemmas.{finishes_by}
+use Rattle.enc_stream.proofs.EndOfInputLemmas.{has_finished_by}
 use Rattle.enc_stream.proofs.DecoderProgressLemmas.{ends_read}
 
 -- where a sequence is done, no mark may come any more
@@ -242,7 +242,7 @@ module _ (units_of : ℕ → List ℕ) (mode : DecodeErrorMode) (old new : Decod
 
   goes_to_end : reaches_end last result ≡ true → encoding_ahead new rest ≡ encoding_ahead old (src ++ y)
   goes_to_end h =
-      let finished = finishes_by units_of mode old new src last room result read wrote replaced decodes ∙ h in
+      let finished = has_finished_by decodes ∙ h in
       let ends = ends_read units_of mode old new src last room result read wrote replaced decodes finished in
       let none_unread : rest ≡ [] = ap (λ z. drop read src ++ z) (none ends.0) ∙ append-nil (drop read src)
       ∙ drop_of_length-le src (let all_read = ends.1 in omega arith) in

@@ -14,18 +14,18 @@ returns-in-Open g c =
     ∙ take-length c.args.src.now)) sniffed.3 in
     record {
       call = rw (← c.self.view_is, sniffed.1)
-          (all_held _ _ _ _ _ _ c.self.invariant.0.1 c.sniff-sniffed.ensures.within extends (sym extends.awaits
-          ∙ sniffed.2) _ _ _ (awaiting_goes_on _ sniffed.2) sniffed.0);
+          (all_held _ _ _ c.self.invariant.0.1 c.sniff-sniffed.ensures.within extends (sym extends.awaits ∙ sniffed.2)
+          (awaiting_goes_on _ sniffed.2) sniffed.0);
       held = rw (← c.self.view_is) (shows_held _ _ _ c.self.invariant.0.1);
     }
 
 pub returns-in-Mark : goal.returns-in-Mark
 returns-in-Mark g c =
-    let f = rw c.in-Mark.is at c.sniff-sniffed.ensures.sniffed in
+    let completes = rw c.in-Mark.is at c.sniff-sniffed.ensures.sniffed in
     record {
       call =
-          rw (← c.self.view_is) (after_a_mark _ _ _ _ _ _ c.self.invariant.0.1 c.sniff-sniffed.ensures.within f _ _
-          (bytes_of_slice _ c.type_inv.src) _ _ _ _ _ _ _
+          rw (← c.self.view_is) (after_a_mark _ _ _ c.self.invariant.0.1 c.sniff-sniffed.ensures.within completes
+          (bytes_of_slice _ c.type_inv.src)
           (rw (c.split_at.ensures.back, c.self-in-Mark.view_is, c.start.ensures) at
           c.convert_text-result.ensures.call));
       held = rw (← c.self.view_is) (shows_held _ _ _ c.self.invariant.0.1);
@@ -33,11 +33,11 @@ returns-in-Mark g c =
 
 pub returns-in-Text : goal.returns-in-Text
 returns-in-Text g c =
-    let f = rw c.in-Text.is at c.sniff-sniffed.ensures.sniffed in
+    let sniffed = rw c.in-Text.is at c.sniff-sniffed.ensures.sniffed in
     record {
       call =
-          rw (← c.self.view_is) (after_text _ _ _ _ _ _ _ c.self.invariant.0.1 c.sniff-sniffed.ensures.within f.0 refl _
-          _ (bytes_of_slice _ c.type_inv.src) _ _ _ _ _ _ _
+          rw (← c.self.view_is) (after_text _ _ _ _ c.self.invariant.0.1 c.sniff-sniffed.ensures.within sniffed.0 refl
+          (bytes_of_slice _ c.type_inv.src)
           (rw c.split_at.ensures.back at c.convert_text-result-in-Text.ensures.call));
       held = rw (← c.self.view_is) (shows_held _ _ _ c.self.invariant.0.1);
     }

@@ -1,4 +1,4 @@
-use Rattle.std.proofs.Common.{length, refl, rules}
+use Rattle.std.proofs.Common.{refl, rules}
 use Rattle.std.specs.String.{string_bytes}
 use Rattle.enc_stream.proofs.EndOfInputLemmas.{has_finished_by}
 use Rattle.enc_stream.proofs.OutputFullLemmas.{over_text, in_front, four_bytes, still_goes_on}
@@ -6,14 +6,12 @@ use Rattle.enc_stream.proofs.decoder.Decoder.decode_to_string.Goals as goal
 
 pub returns-clause-call : goal.returns-clause-call
 returns-clause-call c =
-    let old = c.args.dst.now in
-    over_text _ 4 _ _ _ _ _ _ _ _ _ _ (string_bytes old) _ (length (string_bytes old)) _ four_bytes c.convert_replacing.ensures
+    over_text {text = string_bytes c.args.dst.now} four_bytes c.convert_replacing.ensures
     (rw c.new-tail.ensures.now refl) refl (rw c.new-tail.ensures.room refl) (search rules)
 
 pub returns-clause-appended : goal.returns-clause-appended
 returns-clause-appended c =
-    let old = c.args.dst.now in
-    in_front _ _ _ _ _ _ _ _ _ _ _ (string_bytes old) _ (length (string_bytes old)) c.convert_replacing.ensures (rw c.new-tail.ensures.now refl) refl (search rules)
+    in_front c.convert_replacing.ensures (rw c.new-tail.ensures.now refl) refl (search rules)
 
 pub returns-clause-read : goal.returns-clause-read
 returns-clause-read c = (returns-clause-call c).decodes.call.within

@@ -10,4 +10,4 @@ pub returns-clause-progress : goal.returns-clause-progress
 returns-clause-progress c = λ on room.
     let encodes = rw c.new-units.ensures at c.encode_replacing.ensures.encodes in
     rw (lossy_unread _ (λ i. (c.type_inv.src i).fits) encodes)
-    (goes_on _ _ _ _ _ _ _ _ _ _ encodes on room)
+    (goes_on _ encodes on room)

@@ -18,4 +18,4 @@ pub returns-clause-progress : goal.returns-clause-progress
 returns-clause-progress c = λ on room.
     let encodes = rw c.new-units.ensures at c.encode_reporting.ensures.encodes in
     rw (lossy_unread _ (λ i. (c.type_inv.src i).fits) encodes)
-    (reports_on _ _ _ _ _ _ _ _ _ _ encodes on room)
+    (reports_on encodes on room)

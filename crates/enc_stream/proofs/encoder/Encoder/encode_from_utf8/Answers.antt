@@ -11,4 +11,4 @@ returns-clause-read c = (returns-clause-boundary c).0
 pub returns-clause-progress : goal.returns-clause-progress
 returns-clause-progress c = λ on room.
     let encodes = rw c.new-chars.ensures at c.encode_replacing.ensures.encodes in
-    rw (chars_unread c.utf8.src encodes) (goes_on _ _ _ _ _ _ _ _ _ _ encodes on room)
+    rw (chars_unread c.utf8.src encodes) (goes_on _ encodes on room)

@@ -19,4 +19,4 @@ returns-clause-read c = (returns-clause-boundary c).0
 pub returns-clause-progress : goal.returns-clause-progress
 returns-clause-progress c = λ on room.
     let encodes = rw c.new-chars.ensures at c.encode_reporting.ensures.encodes in
-    rw (chars_unread c.utf8.src encodes) (reports_on _ _ _ _ _ _ _ _ _ _ encodes on room)
+    rw (chars_unread c.utf8.src encodes) (reports_on encodes on room)
