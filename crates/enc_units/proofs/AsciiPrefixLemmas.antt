@@ -63,13 +63,16 @@ front_utf8 src front n most is_front l a =
 pub written_is : (before after : Output) (units text : List ℕ) → after ≡ with_appended before units → before.written ≡ [] → after.written ≡ text → text ≡ units
 written_is before after units text e w a = sym a ∙ ap (λ (o : Output). o.written) e ∙ ap (λ x. x ++ units) w
 
-pub gathered_utf8 : (Means : List ℕ → ℕ → Type 0) (before after : Output) (src : List ℕ) (n : ℕ) (units : List ℕ) → PutsPieces encode_utf8 Means before after src n → before.written ≡ [] → after.written ≡ units → IsUtf8 units
-gathered_utf8 Means before after src n units puts w a =
+pub gathered_utf8 : {Means : List ℕ → ℕ → Type 0} {before after : Output} {src : List ℕ} {n : ℕ} {units : List ℕ}
+    → PutsPieces encode_utf8 Means before after src n → before.written ≡ [] → after.written ≡ units → IsUtf8 units
+gathered_utf8 {before = before} {after = after} {units = units} puts w a =
     text_utf8 units puts.text puts.scalars (written_is before after _ units puts.written w a)
 
-pub appends_gathered : (Means : List ℕ → ℕ → Type 0) (before after o then : Output) (src : List ℕ) (n : ℕ) (units : List ℕ) → PutsPieces encode_utf8 Means before after src n → before.written ≡ [] → after.written ≡ units
+pub appends_gathered : {Means : List ℕ → ℕ → Type 0} {before after o then : Output} {src : List ℕ} {n : ℕ}
+    {units : List ℕ}
+    → PutsPieces encode_utf8 Means before after src n → before.written ≡ [] → after.written ≡ units
     → before.room ≤ o.room → then ≡ with_appended o units → PutsPieces encode_utf8 Means o then src n
-appends_gathered Means before after o then src n units puts w a r e = record {
+appends_gathered {before = before} {after = after} {o = o} {units = units} puts w a r e = record {
   text = puts.text;
   scalars = puts.scalars;
   reads = puts.reads;

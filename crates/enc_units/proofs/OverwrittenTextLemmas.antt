@@ -35,10 +35,15 @@ between b h k = grind (arith, nat_tests)
 nul_first : (z : List ℕ) → IsUtf8 z → IsUtf8 (0 ∷ z)
 nul_first z u = subst (λ x. IsUtf8 (x ++ z)) (encode_ascii 0 (omega arith)) (IsUtf8-append (encode_utf8 0) z (IsUtf8-encode 0 refl) u)
 
--- a byte that follows another becomes 00
-cleared : (b : ℕ) (z : List ℕ) → 0x80 ≤ b → b < 0xC0 → IsUtf8 (without_continuations z)
+-- a byte that follows another in a character
+abbrev IsContinuation : ℕ → Type 0
+IsContinuation b = (0x80 ≤ b) × (b < 0xC0)
+
+-- such a byte becomes 00
+cleared : (b : ℕ) (z : List ℕ) → IsContinuation b → IsUtf8 (without_continuations z)
     → IsUtf8 (without_continuations (b ∷ z))
-cleared b z h k u = subst IsUtf8 (sym (cond_yes _ _ _ (between b h k))) (nul_first (without_continuations z) u)
+cleared b z continues utf8 =
+    subst IsUtf8 (sym (cond_yes _ _ _ (between b continues.0 continues.1))) (nul_first (without_continuations z) utf8)
 
 range_of : (c : ℕ) → IsScalar c → InScalarRange c
 range_of c h = grind (arith, nat_tests)
@@ -50,19 +55,23 @@ bound_of c (inr h) = omega (arith, h.1)
 -- How a character is written: one byte, or a first one and one to three that follow it.
 data Form (c : ℕ) : Type 0 where
   One : c < 0x80 → encode_utf8 c ≡ c ∷ [] → Form c
-  Two : (a b : ℕ) → 0xC0 ≤ a → 0x80 ≤ b → b < 0xC0 → encode_utf8 c ≡ a ∷ b ∷ [] → Form c
-  Three : (a b d : ℕ) → 0xC0 ≤ a → 0x80 ≤ b → b < 0xC0 → 0x80 ≤ d → d < 0xC0 → encode_utf8 c ≡ a ∷ b ∷ d ∷ [] → Form c
-  Four : (a b d e : ℕ) → 0xC0 ≤ a → 0x80 ≤ b → b < 0xC0 → 0x80 ≤ d → d < 0xC0 → 0x80 ≤ e → e < 0xC0 → encode_utf8 c ≡ a ∷ b ∷ d ∷ e ∷ [] → Form c
+  Two : (a b : ℕ) → 0xC0 ≤ a → IsContinuation b → encode_utf8 c ≡ a ∷ b ∷ [] → Form c
+  Three : (a b d : ℕ) → 0xC0 ≤ a → IsContinuation b → IsContinuation d → encode_utf8 c ≡ a ∷ b ∷ d ∷ [] → Form c
+  Four : (a b d e : ℕ) → 0xC0 ≤ a → IsContinuation b → IsContinuation d → IsContinuation e
+      → encode_utf8 c ≡ a ∷ b ∷ d ∷ e ∷ [] → Form c
 
 form_of : (c : ℕ) → IsScalar c → Form c
 form_of c s = elim (cases_lt c 0x80) [
   | inl is_ascii ↦ One is_ascii (encode_ascii c is_ascii)
   | inr h ↦ elim (cases_lt c 0x800) [
-    | inl k ↦ Two (192 + c / 64) (128 + c % 64) (omega arith) (omega arith) (omega arith) (utf8_two c h k)
+    | inl k ↦ Two (192 + c / 64) (128 + c % 64) (omega arith) (omega arith, omega arith) (utf8_two c h k)
     | inr k ↦ elim (cases_lt c 0x10000) [
-      | inl l ↦ Three (224 + c / 4096) (128 + c / 64 % 64) (128 + c % 64) (omega arith) (omega arith) (omega arith) (omega arith) (omega arith) (utf8_three c k l)
-      | inr l ↦ Four (240 + c / 262144) (128 + c / 4096 % 64) (128 + c / 64 % 64) (128 + c % 64) (omega arith) (omega arith) (omega arith) (omega arith) (omega arith) (omega arith)
-          (omega arith) (utf8_four c l)
+      | inl l ↦
+          Three (224 + c / 4096) (128 + c / 64 % 64) (128 + c % 64) (omega arith) (omega arith, omega arith)
+          (omega arith, omega arith) (utf8_three c k l)
+      | inr l ↦
+          Four (240 + c / 262144) (128 + c / 4096 % 64) (128 + c / 64 % 64) (128 + c % 64) (omega arith)
+          (omega arith, omega arith) (omega arith, omega arith) (omega arith, omega arith) (utf8_four c l)
     ]
   ]
 ]
@@ -70,37 +79,39 @@ form_of c s = elim (cases_lt c 0x80) [
 -- what begins with a character stays
 stays_by : (c : ℕ) (z : List ℕ) → Form c → without_continuations (encode_utf8 c ++ z) ≡ encode_utf8 c ++ z
 stays_by c z (One h e) = subst (λ x. without_continuations (x ++ z) ≡ x ++ z) (sym e) (cond_no _ _ _ (low c h))
-stays_by c z (Two a b h _ _ e) = subst (λ x. without_continuations (x ++ z) ≡ x ++ z) (sym e) (cond_no _ _ _ (high a h))
-stays_by c z (Three a b d h _ _ _ _ e) =
+stays_by c z (Two a b h _ e) = subst (λ x. without_continuations (x ++ z) ≡ x ++ z) (sym e) (cond_no _ _ _ (high a h))
+stays_by c z (Three a b d h _ _ e) =
     subst (λ x. without_continuations (x ++ z) ≡ x ++ z) (sym e) (cond_no _ _ _ (high a h))
-stays_by c z (Four a b d f h _ _ _ _ _ _ e) = subst (λ x. without_continuations (x ++ z) ≡ x ++ z) (sym e) (cond_no _ _ _ (high a h))
+stays_by c z (Four a b d f h _ _ _ e) =
+    subst (λ x. without_continuations (x ++ z) ≡ x ++ z) (sym e) (cond_no _ _ _ (high a h))
 
 stays : (cs : List ℕ) → all_scalars cs ≡ true → without_continuations (encode_utf8_all cs) ≡ encode_utf8_all cs
 stays [] s = refl
 stays (c ∷ cs) s = let p = and_parts _ _ s in stays_by c (encode_utf8_all cs) (form_of c p.0)
 
 -- the rest of a character after its first bytes, and other text
-rest_by : (c n : ℕ) (z : List ℕ) → Form c → n < length (encode_utf8 c) → IsUtf8 (encode_utf8 c ++ z) → IsUtf8 (without_continuations z) → IsUtf8 (without_continuations (drop n (encode_utf8 c) ++ z))
+rest_by : (c n : ℕ) (z : List ℕ) → Form c → n < length (encode_utf8 c) → IsUtf8 (encode_utf8 c ++ z)
+    → IsUtf8 (without_continuations z) → IsUtf8 (without_continuations (drop n (encode_utf8 c) ++ z))
 rest_by c zero z f h u rest_is_utf8 = subst IsUtf8 (sym (stays_by c z f)) u
 rest_by c (suc n) z (One k e) h u rest_is_utf8 = absurd (omega (arith, ap length e))
-rest_by c (suc zero) z (Two a b _ k l e) h u rest_is_utf8 =
-    subst (λ x. IsUtf8 (without_continuations (drop 1 x ++ z))) (sym e) (cleared b z k l rest_is_utf8)
-rest_by c (suc (suc n)) z (Two a b _ k l e) h u rest_is_utf8 = absurd (omega (arith, ap length e))
-rest_by c (suc zero) z (Three a b d _ k l m o e) h u rest_is_utf8 =
+rest_by c (suc zero) z (Two a b _ second e) h u rest_is_utf8 =
+    subst (λ x. IsUtf8 (without_continuations (drop 1 x ++ z))) (sym e) (cleared b z second rest_is_utf8)
+rest_by c (suc (suc n)) z (Two a b _ second e) h u rest_is_utf8 = absurd (omega (arith, ap length e))
+rest_by c (suc zero) z (Three a b d _ second third e) h u rest_is_utf8 =
     subst (λ x. IsUtf8 (without_continuations (drop 1 x ++ z))) (sym e)
-    (cleared b (d ∷ z) k l (cleared d z m o rest_is_utf8))
-rest_by c (suc (suc zero)) z (Three a b d _ k l m o e) h u rest_is_utf8 =
-    subst (λ x. IsUtf8 (without_continuations (drop 2 x ++ z))) (sym e) (cleared d z m o rest_is_utf8)
-rest_by c (suc (suc (suc n))) z (Three a b d _ k l m o e) h u rest_is_utf8 = absurd (omega (arith, ap length e))
-rest_by c (suc zero) z (Four a b d f _ k l m o p q e) h u rest_is_utf8 =
+    (cleared b (d ∷ z) second (cleared d z third rest_is_utf8))
+rest_by c (suc (suc zero)) z (Three a b d _ second third e) h u rest_is_utf8 =
+    subst (λ x. IsUtf8 (without_continuations (drop 2 x ++ z))) (sym e) (cleared d z third rest_is_utf8)
+rest_by c (suc (suc (suc n))) z (Three a b d _ second third e) h u rest_is_utf8 = absurd (omega (arith, ap length e))
+rest_by c (suc zero) z (Four a b d f _ second third fourth e) h u rest_is_utf8 =
     subst (λ x. IsUtf8 (without_continuations (drop 1 x ++ z))) (sym e)
-    (cleared b (d ∷ f ∷ z) k l (cleared d (f ∷ z) m o (cleared f z p q rest_is_utf8)))
-rest_by c (suc (suc zero)) z (Four a b d f _ k l m o p q e) h u rest_is_utf8 =
+    (cleared b (d ∷ f ∷ z) second (cleared d (f ∷ z) third (cleared f z fourth rest_is_utf8)))
+rest_by c (suc (suc zero)) z (Four a b d f _ second third fourth e) h u rest_is_utf8 =
     subst (λ x. IsUtf8 (without_continuations (drop 2 x ++ z))) (sym e)
-    (cleared d (f ∷ z) m o (cleared f z p q rest_is_utf8))
-rest_by c (suc (suc (suc zero))) z (Four a b d f _ k l m o p q e) h u rest_is_utf8 =
-    subst (λ x. IsUtf8 (without_continuations (drop 3 x ++ z))) (sym e) (cleared f z p q rest_is_utf8)
-rest_by c (suc (suc (suc (suc n)))) z (Four a b d f _ k l m o p q e) h u rest_is_utf8 =
+    (cleared d (f ∷ z) third (cleared f z fourth rest_is_utf8))
+rest_by c (suc (suc (suc zero))) z (Four a b d f _ second third fourth e) h u rest_is_utf8 =
+    subst (λ x. IsUtf8 (without_continuations (drop 3 x ++ z))) (sym e) (cleared f z fourth rest_is_utf8)
+rest_by c (suc (suc (suc (suc n)))) z (Four a b d f _ second third fourth e) h u rest_is_utf8 =
     absurd (omega (arith, ap length e))
 
 drop_nil : (n : ℕ) → ◌≡◌ {A = List ℕ} (drop n []) []

@@ -131,25 +131,25 @@ module _ (Means : List ℕ → ℕ → Type 0) (src : List ℕ) (from read next 
       let whole : read + (next - read) ≡ next = omega (arith, up.0) in
       subst (λ n. GathersChars units_of Means (drop from src) n before after) whole
       (gathers_then p
-      (gathers_one units_of Means (drop read (drop from src)) (next - read) c mid after some
+      (gathers_one c some
       (omega (arith, up.1, rest_long, length-drop read (drop from src))) s
       (subst (λ z. Means z c) (sym (front_is t e)) m) w))
 
   -- one more character, as a word
-  pub gathers_word : (word : ℕ) (before mid after : List ℕ)
+  pub gathers_word : {word : ℕ} {before mid after : List ℕ}
       → MeansWord Means (byte_or_pair (eqb (next - read) 2) first second) word
       → GathersChars encode_utf8 Means (drop from src) read before mid
       → after ≡ mid ++ take (word / 0x100_0000) (to_le_bytes w32 word)
       → GathersChars encode_utf8 Means (drop from src) next before after
-  gathers_word word before mid after means p w =
+  gathers_word {before = before} {mid = mid} {after = after} means p w =
       gathers_front encode_utf8 (eqb (next - read) 2) means.char before mid after refl means.scalar means.means p
       (w ∙ ap (λ z. mid ++ z) means.utf8)
 
   -- one more character, as a code unit
-  pub gathers_unit : (unit : ℕ) (before mid after : List ℕ) → unit < 0x1_0000
+  pub gathers_unit : {unit : ℕ} {before mid after : List ℕ} → unit < 0x1_0000
       → MeansUnit Means (byte_or_pair (eqb (next - read) 2) first second) unit
       → GathersChars encode_utf16 Means (drop from src) read before mid → after ≡ mid ++ unit ∷ []
       → GathersChars encode_utf16 Means (drop from src) next before after
-  gathers_unit unit before mid after l means p w =
+  gathers_unit {unit} {before} {mid} {after} l means p w =
       gathers_front encode_utf16 (eqb (next - read) 2) unit before mid after refl means.scalar means.means p
       (w ∙ ap (λ z. mid ++ z) (sym (one_unit unit l)))

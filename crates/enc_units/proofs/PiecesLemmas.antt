@@ -183,9 +183,11 @@ reads_wider Means src m n text reads = record {
 }
 
 -- pieces of the first m bytes are pieces of all
-pub puts_wider : (units_of : ℕ → List ℕ) (Means : List ℕ → ℕ → Type 0) (before after : Output) (src : List ℕ) (m n : ℕ) (front : List ℕ) → front ≡ take m src
+pub puts_wider : {units_of : ℕ → List ℕ} {Means : List ℕ → ℕ → Type 0} {before after : Output} {src : List ℕ} (m : ℕ)
+    {n : ℕ} {front : List ℕ}
+    → front ≡ take m src
     → PutsPieces units_of Means before after front n → PutsPieces units_of Means before after src n
-puts_wider units_of Means before after src m n front e puts = record {
+puts_wider {Means = Means} {src = src} m {n} e puts = record {
   text = puts.text;
   scalars = puts.scalars;
   reads = reads_wider Means src m n puts.text (subst (λ z. ReadsPieces Means z n puts.text) e puts.reads);
@@ -194,9 +196,12 @@ puts_wider units_of Means before after src m n front e puts = record {
 }
 
 -- the same by an equal meaning
-pub puts_same : (units_of : ℕ → List ℕ) {T : Type 0} (means : T → List ℕ → ℕ → Type 0) (a b : T) (before after : Output) (src : List ℕ) (n : ℕ) → a ≡ b
+pub puts_same : {units_of : ℕ → List ℕ} {T : Type 0} (means : T → List ℕ → ℕ → Type 0) {a b : T} {before after : Output}
+    {src : List ℕ} {n : ℕ}
+    → a ≡ b
     → PutsPieces units_of (means a) before after src n → PutsPieces units_of (means b) before after src n
-puts_same units_of means a b before after src n e p = subst (λ t. PutsPieces units_of (means t) before after src n) e p
+puts_same {units_of} means {before = before} {after = after} {src = src} {n = n} e p =
+    subst (λ t. PutsPieces units_of (means t) before after src n) e p
 
 -- what the bytes mean by one reading, they mean by another
 

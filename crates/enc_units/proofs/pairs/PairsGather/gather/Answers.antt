@@ -42,5 +42,5 @@ loop-written-preserved g c =
       omega (arith, stored_text.end, stored_pairs.bound, c.utf8_of.ensures.bound),
       stored_text.len ∙ stored_pairs.len ∙ invariant.2,
       gathers_then (gathers_then invariant.3 stored_pairs.gathers)
-          (gathers_one _ _ _ _ _ _ _ found.some found.within c.utf8_of.ensures.scalar found.means text),
+          (gathers_one _ found.some found.within c.utf8_of.ensures.scalar found.means text),
     )

@@ -45,5 +45,5 @@ loop-written-preserved g c =
       omega (arith, stored.bound, stored_pairs.bound),
       stored.len ∙ stored_pairs.len ∙ invariant.2,
       gathers_then (gathers_then invariant.3 stored_pairs.gathers)
-          (gathers_one _ _ _ _ _ _ _ found.some found.within stored.scalar found.means stored.stored),
+          (gathers_one _ found.some found.within stored.scalar found.means stored.stored),
     )

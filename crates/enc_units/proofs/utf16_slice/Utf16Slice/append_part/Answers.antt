@@ -52,5 +52,5 @@ returns c =
     let read : n ≤ length new = omega (arith, written.bound, written.len) in
     let copied : new ≡ take n new ++ drop n part = sym (take-append-drop n new)
     ∙ ap (λ z. take n new ++ z) written.rest in
-    puts_gathered _ _ _ _ _ _ (take n new) written.gathers (omega (arith, length-take n new))
+    puts_gathered {units = take n new} written.gathers (omega (arith, length-take n new))
     (grown slice.len n slice.dst.now new new slice.dst.ghost_name (omega arith) read within copied)
