@@ -63,11 +63,12 @@ copied_more i n src dst old h k e =
 pub copied_one : (i : ℕ) (src dst old : List ℕ) → i < length src → i < length old → dst ≡ take i src ++ drop i old
     → set dst i (get_or src i 0) ≡ take (i + 1) src ++ drop (i + 1) old
 copied_one i src dst old h k e =
-    let b = get_or src i 0 in
-    ap (λ x. set x i b) (e ∙ ap (λ x. take i src ++ x) (drop-cons old i 0 k))
-    ∙ ap (λ m. set (take i src ++ get_or old i 0 ∷ drop (suc i) old) m b) (sym (length-take-le i src (omega arith)))
-    ∙ set-append_seam (take i src) (get_or old i 0) (drop (suc i) old) b
-    ∙ sym (append_assoc (take i src) (b ∷ []) (drop (suc i) old))
+    let byte = get_or src i 0 in
+    ap (λ x. set x i byte) (e ∙ ap (λ x. take i src ++ x) (drop-cons old i 0 k))
+    ∙ ap (λ m. set (take i src ++ get_or old i 0 ∷ drop (suc i) old) m byte)
+    (sym (length-take-le i src (omega arith)))
+    ∙ set-append_seam (take i src) (get_or old i 0) (drop (suc i) old) byte
+    ∙ sym (append_assoc (take i src) (byte ∷ []) (drop (suc i) old))
     ∙ ap (λ x. x ++ drop (suc i) old) (sym (take_more src i 0 h))
     ∙ ap (λ m. take (i + 1) src ++ drop m old) next
   where

@@ -20,8 +20,8 @@ use Rattle.enc_units.proofs.Utf8SliceLemmas.{ascii_units}
 pub ascii_units_16 : (bs : List ℕ) → AreAscii bs → units_of_text encode_utf16 bs ≡ bs
 ascii_units_16 [] are_ascii = refl
 ascii_units_16 (b ∷ bs) are_ascii =
-    let h : b < 0x1_0000 = (let k = are_ascii 0 0 (omega arith) in omega arith) in
-    ap (λ x. x ++ units_of_text encode_utf16 bs) (one_unit b h)
+    let is_basic : b < 0x1_0000 = (let is_ascii = are_ascii 0 0 (omega arith) in omega arith) in
+    ap (λ x. x ++ units_of_text encode_utf16 bs) (one_unit b is_basic)
     ∙ ap (λ x. b ∷ x) (ascii_units_16 bs (λ k d l. are_ascii (suc k) d (omega arith)))
   where
     one_unit : (c : ℕ) → c < 0x1_0000 → encode_utf16 c ≡ c ∷ []

@@ -104,15 +104,18 @@ tails a b y z e = cc
 pub lossy_after : (us : List ℕ) → AreUnits us → (cs rest : List ℕ) → utf16_lossy_chars us ≡ cs ++ rest
     → utf16_lossy_chars (drop (length (units_of_text encode_utf16 cs)) us) ≡ rest
 lossy_after us are_units [] rest whole = whole
-lossy_after [] are_units (c ∷ cs) rest whole = absurd (let f : [] ≡ c ∷ (cs ++ rest) = sym lossy_nil ∙ whole in cc)
+lossy_after [] are_units (c ∷ cs) rest whole =
+    absurd (let nil_is_cons : [] ≡ c ∷ (cs ++ rest) = sym lossy_nil ∙ whole in cc)
 lossy_after (u ∷ us) are_units (c ∷ cs) rest whole =
     let begins = first_of u us are_units in
     let same = sym begins.first.chars ∙ whole in
-    let n = length (units_of_text encode_utf16 cs) in
-    let w : length (units_of_text encode_utf16 (c ∷ cs)) ≡ begins.units + n =
+    let rest_length = length (units_of_text encode_utf16 cs) in
+    let whole_length : length (units_of_text encode_utf16 (c ∷ cs)) ≡ begins.units + rest_length =
     length-append (encode_utf16 c) (units_of_text encode_utf16 cs)
-    ∙ ap (λ d. length (encode_utf16 d) + n) (sym (heads _ _ _ _ same)) ∙ ap (λ k. k + n) (sym begins.first.width) in
-    ap (λ k. utf16_lossy_chars (drop k (u ∷ us))) w ∙ ap utf16_lossy_chars (sym (drop-drop n begins.units (u ∷ us)))
+    ∙ ap (λ d. length (encode_utf16 d) + rest_length) (sym (heads _ _ _ _ same))
+    ∙ ap (λ k. k + rest_length) (sym begins.first.width) in
+    ap (λ k. utf16_lossy_chars (drop k (u ∷ us))) whole_length
+    ∙ ap utf16_lossy_chars (sym (drop-drop rest_length begins.units (u ∷ us)))
     ∙ lossy_after (drop begins.units (u ∷ us)) (units-drop begins.units (u ∷ us) are_units) cs rest
     (tails _ _ _ _ same)
 

@@ -153,12 +153,13 @@ module _ {Means : List ℕ → ℕ → Type 0} (big : Bool) (mean : AreCodeUnits
   reads_units (suc n) [] h are_scalars = absurd (omega arith)
   reads_units (suc n) (a ∷ []) h are_scalars = absurd (omega arith)
   reads_units (suc n) (a ∷ b ∷ bs) h are_scalars =
-      let u = unit_of big a b in
+      let unit = unit_of big a b in
       let more = take n (units_of_bytes big bs) in
       let long : 2 + (n + n) ≡ suc n + suc n = omega arith in
-      subst (λ k. ReadsPieces Means (a ∷ b ∷ bs) k (u ∷ more)) long
-      (reads_then Means (a ∷ b ∷ bs) 2 (n + n) (u ∷ []) more
-      (reads_one Means (a ∷ b ∷ bs) 2 u (omega arith) (omega arith) (mean a b (and_parts _ _ are_scalars).0))
+      subst (λ k. ReadsPieces Means (a ∷ b ∷ bs) k (unit ∷ more)) long
+      (reads_then Means (a ∷ b ∷ bs) 2 (n + n) (unit ∷ []) more
+      (reads_one Means (a ∷ b ∷ bs) 2 unit (omega arith) (omega arith)
+      (mean a b (and_parts _ _ are_scalars).0))
       (reads_units n bs (omega arith) (and_parts _ _ are_scalars).1))
 
   pub gathers_units : {units_of : ℕ → List ℕ} (n : ℕ) {src units before after : List ℕ} → n ≤ 8 → 16 ≤ length src

@@ -87,7 +87,8 @@ stays_by c z (Four a b d f h _ _ _ e) =
 
 stays : (cs : List ℕ) → all_scalars cs ≡ true → without_continuations (encode_utf8_all cs) ≡ encode_utf8_all cs
 stays [] s = refl
-stays (c ∷ cs) s = let p = and_parts _ _ s in stays_by c (encode_utf8_all cs) (form_of c p.0)
+stays (c ∷ cs) s =
+    let scalar_parts = and_parts _ _ s in stays_by c (encode_utf8_all cs) (form_of c scalar_parts.0)
 
 -- the rest of a character after its first bytes, and other text
 rest_by : (c n : ℕ) (z : List ℕ) → Form c → n < length (encode_utf8 c) → IsUtf8 (encode_utf8 c ++ z)
@@ -122,17 +123,20 @@ rest_of : (cs : List ℕ) (n : ℕ) → all_scalars cs ≡ true → IsUtf8 (with
 rest_of [] n are_scalars = subst (λ x. IsUtf8 (without_continuations x)) (sym (drop_nil n)) ([], (refl, refl))
 rest_of (c ∷ cs) n are_scalars =
     let scalar_parts = and_parts _ _ are_scalars in
-    let z = encode_utf8_all cs in
+    let rest_bytes = encode_utf8_all cs in
     elim (cases_lt n (length (encode_utf8 c))) [
-      | inl h ↦ subst (λ x. IsUtf8 (without_continuations x)) (sym (drop-append-le n (encode_utf8 c) z (omega arith)))
-          (rest_by c n z (form_of c scalar_parts.0) h (c ∷ cs, (are_scalars, refl))
+      | inl h ↦
+          subst (λ x. IsUtf8 (without_continuations x))
+          (sym (drop-append-le n (encode_utf8 c) rest_bytes (omega arith)))
+          (rest_by c n rest_bytes (form_of c scalar_parts.0) h (c ∷ cs, (are_scalars, refl))
           (subst IsUtf8 (sym (stays cs scalar_parts.1)) (cs, (scalar_parts.1, refl))))
       | inr h ↦
-          let m = n - length (encode_utf8 c) in
-          let e : n ≡ length (encode_utf8 c) + m = omega arith in
+          let further = n - length (encode_utf8 c) in
+          let count : n ≡ length (encode_utf8 c) + further = omega arith in
           subst (λ x. IsUtf8 (without_continuations x))
-          (sym (ap (λ k. drop k (encode_utf8 c ++ z)) e ∙ drop-append-add (encode_utf8 c) z m))
-          (rest_of cs m scalar_parts.1)
+          (sym (ap (λ k. drop k (encode_utf8 c ++ rest_bytes)) count
+          ∙ drop-append-add (encode_utf8 c) rest_bytes further))
+          (rest_of cs further scalar_parts.1)
     ]
 
 -- the text that is written is well-formed with the bytes after it, once the rest of a character is made 00
@@ -159,7 +163,8 @@ begin at old h = record {
   within = h;
   len = refl;
   front = refl;
-  done = ap (λ n. take n (drop at old) ++ without_continuations (drop at old)) (let e : at - at ≡ 0 = omega arith in e);
+  done = ap (λ n. take n (drop at old) ++ without_continuations (drop at old))
+      (let none_done : at - at ≡ 0 = omega arith in none_done);
   rest = refl;
 }
 
@@ -228,15 +233,17 @@ one_more at end old new is_cleared has_next k l =
 
 pub goes_on : (at end : ℕ) (old new : List ℕ) → Cleared at end old new → end < length new → 0x80 ≤ get_or new end 0 → get_or new end 0 < 0xC0 → Cleared at (end + 1) old (set new end 0)
 goes_on at end old new c h k l =
-    subst (λ n. Cleared at n old (set new end 0)) (let e : suc end ≡ end + 1 = omega arith in e) (one_more at end old new c h k l)
+    subst (λ n. Cleared at n old (set new end 0))
+    (let next_end : suc end ≡ end + 1 = omega arith in next_end) (one_more at end old new c h k l)
 
 -- where no byte of a rest is next, it is done
 pub ends : (at end : ℕ) (old new : List ℕ) → Cleared at end old new → without_continuations (drop end old) ≡ drop end old → drop at new ≡ without_continuations (drop at old)
 ends at end old new is_cleared e =
-    let n = end - at in
-    let g : end ≡ at + n = omega (arith, is_cleared.from) in
-    sym (take-append-drop n (drop at new))
-    ∙ ap (λ x. take n (drop at new) ++ x) (drop-drop n at new ∙ ap (λ k. drop k new) (sym g) ∙ is_cleared.rest
+    let done_count = end - at in
+    let end_is : end ≡ at + done_count = omega (arith, is_cleared.from) in
+    sym (take-append-drop done_count (drop at new))
+    ∙ ap (λ x. take done_count (drop at new) ++ x)
+    (drop-drop done_count at new ∙ ap (λ k. drop k new) (sym end_is) ∙ is_cleared.rest
     ∙ sym e) ∙ is_cleared.done
 
 pub none_left : (end : ℕ) (old : List ℕ) → length old ≤ end → without_continuations (drop end old) ≡ drop end old

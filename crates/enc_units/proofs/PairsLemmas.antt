@@ -67,7 +67,7 @@ row_goes (a ∷ b ∷ c ∷ d ∷ es) ok (suc (suc (suc zero))) l = (from_third 
 row_goes (a ∷ b ∷ c ∷ d ∷ es) ok (suc (suc (suc (suc k)))) l = absurd (omega arith)
 
 pub end_next : (ends : List ℕ) (k : ℕ) → get_or ends k 0 ≡ end_after ends (k + 1)
-end_next ends k = ap (end_after ends) (let n : suc k ≡ k + 1 = omega arith in n)
+end_next ends k = ap (end_after ends) (let next_place : suc k ≡ k + 1 = omega arith in next_place)
 
 -- where a character ends, by where the one before it does
 pub end_goes : (leads k read : ℕ) (ends : List ℕ) → ends ≡ four_ends leads → k < 4 → read ≡ end_after ends k
@@ -115,10 +115,12 @@ module _ (Means : List ℕ → ℕ → Type 0) (src : List ℕ) (from read next 
       → take (next - read) (drop read (drop from src)) ≡ byte_or_pair t first second
   front_is true is_two =
       ap (λ k. take k (drop read (drop from src)))
-      (let m : next - read ≡ 2 = omega (arith, goes_two read next goes_on is_two) in m) ∙ two_front
+      (let two_read : next - read ≡ 2 = omega (arith, goes_two read next goes_on is_two) in two_read)
+      ∙ two_front
   front_is false is_two =
       ap (λ k. take k (drop read (drop from src)))
-      (let m : next - read ≡ 1 = omega (arith, goes_one read next goes_on is_two) in m) ∙ one_front
+      (let one_read : next - read ≡ 1 = omega (arith, goes_one read next goes_on is_two) in one_read)
+      ∙ one_front
 
   gathers_front : (units_of : ℕ → List ℕ) (t : Bool) (c : ℕ) (before mid after : List ℕ) → eqb (next - read) 2 ≡ t
       → IsScalar c

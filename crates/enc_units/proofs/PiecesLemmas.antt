@@ -112,8 +112,8 @@ module _ {units_of : ℕ → List ℕ} {Means : List ℕ → ℕ → Type 0} {be
     n) where
   pub then : PutsPieces units_of Means before after src (a + n)
   then =
-      let x = units_of_text units_of first.text in
-      let y = units_of_text units_of then_more.text in
+      let first_units = units_of_text units_of first.text in
+      let more_units = units_of_text units_of then_more.text in
       let both = units-append units_of first.text then_more.text in
       record {
         text = first.text ++ then_more.text;
@@ -122,12 +122,13 @@ module _ {units_of : ℕ → List ℕ} {Means : List ℕ → ℕ → Type 0} {be
         fits = omega (
           arith,
           ap length both,
-          length-append x y,
+          length-append first_units more_units,
           first.fits,
           then_more.fits,
-          room_left before mid x first.written,
+          room_left before mid first_units first.written,
         );
-        written = then_more.written ∙ ap (λ o. with_appended o y) first.written ∙ with_appended-with_appended before x y
+        written = then_more.written ∙ ap (λ o. with_appended o more_units) first.written
+            ∙ with_appended-with_appended before first_units more_units
             ∙ ap (with_appended before) (sym both);
       }
 
@@ -153,7 +154,9 @@ one_piece {units_of = units_of} {Means = Means} {before = before} {src = src} {n
       text = c ∷ [];
       scalars = one_scalar c i;
       reads = reads_one Means src n c h w m;
-      fits = let l : length (units_of c) ≤ before.room = grind (arith, nat_tests) in omega (arith, l, ap length units);
+      fits =
+          let fits_room : length (units_of c) ≤ before.room = grind (arith, nat_tests) in
+          omega (arith, fits_room, ap length units);
       written = e ∙ ap (with_appended before) (sym units);
     }
 

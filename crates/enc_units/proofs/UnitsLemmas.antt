@@ -52,15 +52,15 @@ one_same c d x y scalar also_scalar same_units = elim (cases_lt c 0x1_0000) [
         let same = sym (ap (λ z. z ++ x) (one_unit c one_unit_c)) ∙ same_units ∙ ap (λ z. z ++ y) (one_unit d m) in
         (first_same c d x y same, rest_same c d x y same)
     | inr two_units_d ↦
-        let f = sym (ap (λ z. z ++ x) (one_unit c one_unit_c)) ∙ same_units
+        let same = sym (ap (λ z. z ++ x) (one_unit c one_unit_c)) ∙ same_units
         ∙ ap (λ z. z ++ y) (two_units d two_units_d) in
-        absurd (not_both c d one_unit_c two_units_d scalar also_scalar (first_same _ _ _ _ f))
+        absurd (not_both c d one_unit_c two_units_d scalar also_scalar (first_same _ _ _ _ same))
   ]
   | inr two_units_c ↦ elim (cases_lt d 0x1_0000) [
     | inl one_unit_d ↦
-        let f = sym (ap (λ z. z ++ y) (one_unit d one_unit_d)) ∙ sym same_units
+        let same = sym (ap (λ z. z ++ y) (one_unit d one_unit_d)) ∙ sym same_units
         ∙ ap (λ z. z ++ x) (two_units c two_units_c) in
-        absurd (not_both d c one_unit_d two_units_c also_scalar scalar (first_same _ _ _ _ f))
+        absurd (not_both d c one_unit_d two_units_c also_scalar scalar (first_same _ _ _ _ same))
     | inr two_units_d ↦
         let same = sym (ap (λ z. z ++ x) (two_units c two_units_c)) ∙ same_units
         ∙ ap (λ z. z ++ y) (two_units d two_units_d) in
@@ -110,11 +110,13 @@ one_back c us scalar = elim (cases_lt c 0x1_0000) [
       ]))
       ∙ ap (λ (o : Option ℕ). unwrap_or o 0xFFFD ∷ utf16_lossy_chars us) (alone c one_unit_c scalar)
   | inr two_units_c ↦
-      let m : c < 0x11_0000 = elim (scalar_range c scalar) [ inl h ↦ omega arith | inr h ↦ omega (arith, h.1) ] in
-      let u = 0xD800 + (c - 0x1_0000) / 0x400 in
-      let v = 0xDC00 + (c - 0x1_0000) % 0x400 in
+      let in_range : c < 0x11_0000 =
+      elim (scalar_range c scalar) [ inl h ↦ omega arith | inr h ↦ omega (arith, h.1) ] in
+      let lead = 0xD800 + (c - 0x1_0000) / 0x400 in
+      let trail = 0xDC00 + (c - 0x1_0000) % 0x400 in
       ap (λ z. utf16_lossy_chars (z ++ us)) (two_units c two_units_c)
-      ∙ ap (map (λ o. unwrap_or o 0xFFFD)) (utf16_chars_pair u v us (omega arith, omega arith, omega arith, omega arith))
+      ∙ ap (map (λ o. unwrap_or o 0xFFFD))
+      (utf16_chars_pair lead trail us (omega arith, omega arith, omega arith, omega arith))
       ∙ ap (λ x. x ∷ utf16_lossy_chars us) (back c two_units_c)
 ]
   where

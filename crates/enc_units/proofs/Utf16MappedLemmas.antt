@@ -30,7 +30,7 @@ lossy_ascii (u ∷ us) rest are_ascii =
 low_bytes : (us : List ℕ) → AreAscii us → map (λ u. u % 0x80) us ≡ us
 low_bytes [] are_ascii = refl
 low_bytes (u ∷ us) are_ascii =
-    let h = are_ascii 0 0 (omega arith) in
+    let is_ascii = are_ascii 0 0 (omega arith) in
     let low : u % 0x80 ≡ u = omega arith in
     ap (λ x. x ∷ map (λ u. u % 0x80) us) low
     ∙ ap (λ x. u ∷ x) (low_bytes us (λ k d l. are_ascii (suc k) d (omega arith)))

@@ -146,11 +146,11 @@ module _ (z y x b : ℕ) (e : wrong z y x b ≡ false) where
     after_first = λ h. continues (sym parts.0 ∙ rw (le-leb 0xC0 x h) refl);
     after_second = λ h. continues (sym parts.0 ∙ ap (λ t. t || leb 0xF0 z) (or_true (leb 0xC0 x) (leb 0xE0 y) (le-leb 0xE0 y h)));
     after_third = λ h. continues (sym parts.0 ∙ or_true (leb 0xC0 x || leb 0xE0 y) (leb 0xF0 z) (le-leb 0xF0 z h));
-    begins = λ f g h. let p = parts in grind (arith, nat_tests);
-    after_0xe0 = λ h. let p = parts.3 in grind (arith, nat_tests);
-    after_0xed = λ h. let p = parts.3 in grind (arith, nat_tests);
-    after_0xf0 = λ h. let p = parts.4 in grind (arith, nat_tests);
-    after_0xf4 = λ h. let p = parts.4 in grind (arith, nat_tests);
+    begins = λ f g h. let all_parts = parts in grind (arith, nat_tests);
+    after_0xe0 = λ h. let fits_0xe0_and_0xed = parts.3 in grind (arith, nat_tests);
+    after_0xed = λ h. let fits_0xe0_and_0xed = parts.3 in grind (arith, nat_tests);
+    after_0xf0 = λ h. let fits_0xf0_and_0xf4 = parts.4 in grind (arith, nat_tests);
+    after_0xf4 = λ h. let fits_0xf0_and_0xf4 = parts.4 in grind (arith, nat_tests);
   }
 
 module _ (zs ys xs bs : List ℕ) (lz : length zs ≡ 16) (ly : length ys ≡ 16) (lx : length xs ≡ 16) (lb : length bs ≡ 16) where
@@ -175,7 +175,9 @@ pub block_follows : (src : List ℕ) (at : ℕ)
     → ((j : ℕ) → j < 16 → CanFollowBytes (get_or (chunk at 16 src) j 0) (get_or (chunk (at + 1) 16 src) j 0) (get_or (chunk (at + 2) 16 src) j 0) (get_or (chunk (at + 3) 16 src) j 0))
     → (k : ℕ) → at ≤ k → k < at + 16 → CanFollowBytesAt src k
 block_follows src at h k from to =
-    let j = k - at in
-    let few : j < 16 = omega arith in
-    let lane : (i m : ℕ) → i + j ≡ m → get_or (chunk i 16 src) j 0 ≡ get_or src m 0 = λ i m e. get_or-chunk i 16 src j 0 few ∙ ap (λ n. get_or src n 0) e in
-    along (lane at k (omega arith)) (lane (at + 1) (suc k) (omega arith)) (lane (at + 2) (suc (suc k)) (omega arith)) (lane (at + 3) (suc (suc (suc k))) (omega arith)) (h j few)
+    let lane_number = k - at in
+    let few : lane_number < 16 = omega arith in
+    let lane : (i m : ℕ) → i + lane_number ≡ m → get_or (chunk i 16 src) lane_number 0 ≡ get_or src m 0 =
+    λ i m e. get_or-chunk i 16 src lane_number 0 few ∙ ap (λ n. get_or src n 0) e in
+    along (lane at k (omega arith)) (lane (at + 1) (suc k) (omega arith))
+    (lane (at + 2) (suc (suc k)) (omega arith)) (lane (at + 3) (suc (suc (suc k))) (omega arith)) (h lane_number few)

@@ -166,23 +166,25 @@ module _ (src : List ℕ) (at n : ℕ) (l : at + 3 + n ≤ length src) (b : IsCh
       (a (m - (at + 3)) 0 (omega (arith, length-take n (drop (at + 3) src), length-drop (at + 3) src)))
 
   between : (d : ℕ) → d < n → IsCharBoundaryAfter src (at + d)
-  between zero h = let e : at ≡ at + 0 = omega arith in subst (IsCharBoundaryAfter src) e b
+  between zero h =
+      let same_place : at ≡ at + 0 = omega arith in subst (IsCharBoundaryAfter src) same_place b
   between (suc d) h =
-      let e : suc (at + d) ≡ at + suc d = omega arith in
-      let p = between d (omega arith) in
-      let q = low (suc (suc (suc (at + d)))) (omega arith) (omega arith) in
-      subst (IsCharBoundaryAfter src) e (omega arith, omega arith, omega arith)
+      let next_place : suc (at + d) ≡ at + suc d = omega arith in
+      let boundary = between d (omega arith) in
+      let next_is_ascii = low (suc (suc (suc (at + d)))) (omega arith) (omega arith) in
+      subst (IsCharBoundaryAfter src) next_place (omega arith, omega arith, omega arith)
 
   pub ascii_follows : (k : ℕ) → at ≤ k → k < at + n → CanFollowBytesAt src k
   ascii_follows k from to =
-      let e : at + (k - at) ≡ k = omega arith in
-      let p : IsCharBoundaryAfter src k = subst (IsCharBoundaryAfter src) e (between (k - at) (omega arith)) in
-      let q = low (suc (suc (suc k))) (omega arith) (omega arith) in
+      let same_place : at + (k - at) ≡ k = omega arith in
+      let boundary : IsCharBoundaryAfter src k =
+      subst (IsCharBoundaryAfter src) same_place (between (k - at) (omega arith)) in
+      let next_is_ascii = low (suc (suc (suc k))) (omega arith) (omega arith) in
       record {
         after_first = λ w. absurd (omega arith);
         after_second = λ w. absurd (omega arith);
         after_third = λ w. absurd (omega arith);
-        begins = λ _ _ _. inl q;
+        begins = λ _ _ _. inl next_is_ascii;
         after_0xe0 = λ w. absurd (omega arith);
         after_0xed = λ w. absurd (omega arith);
         after_0xf0 = λ w. absurd (omega arith);

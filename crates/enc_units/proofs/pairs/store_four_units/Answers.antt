@@ -17,13 +17,13 @@ loop-count-preserved g c =
     let goes_on : goes c.loop-count.read next ≡ true =
     end_goes c.args.leads c.loop-count.count _ _ c.ends_of-ends.ensures c.loop-count-test.true invariant.1 in
     let up = goes_up c.loop-count.read next goes_on in
-    let u = c.unit-unit.ensures (omega arith) in (
+    let is_unit = c.unit-unit.ensures (omega arith) in (
       omega arith,
       end_next c.ends_of-ends.result c.loop-count.count,
       omega (arith, invariant.2, up.1),
       omega (arith, invariant.3),
       length-set c.loop-count.buffer c.loop-count.end c.unit-unit.result ∙ invariant.4,
-      gathers_unit _ c.args.src.now c.args.from c.loop-count.read next goes_on (omega arith) (omega arith) u
-          invariant.5
+      gathers_unit _ c.args.src.now c.args.from c.loop-count.read next goes_on (omega arith)
+          (omega arith) is_unit invariant.5
           (take_more_set c.loop-count.buffer c.loop-count.end c.unit-unit.result (omega arith)),
     )

@@ -1,6 +1,5 @@
 use Rattle.std.proofs.Common.{◌≡◌, ◌≤◌, ◌∙◌, ◌++◌, ap, sym, subst, arith, length, take, drop, length-drop, length-take}
 use Rattle.std.proofs.lemmas.Simd.{length-put_chunk}
-use Rattle.std.specs.Char.{encode_utf8}
 use Rattle.enc_units.specs.Output.{AreScalars}
 use Rattle.enc_units.proofs.GatherLemmas.{gathers_then, gathers_one}
 use Rattle.enc_units.proofs.CodeUnitsLemmas.{units_long, stored_ascii, front_ascii, gathers_units, gathers_words}
@@ -29,8 +28,9 @@ loop-written-preserved-then-count-eq8 g c =
     let stored = c.store_words-written.ensures in
     let rest = drop c.loop-written.read c.args.src.now in
     let long : 16 ≤ length rest = omega (arith, length-drop c.loop-written.read c.args.src.now) in
-    let n = c.units_before_surrogate-count.ensures in
-    let scalars = subst (λ k. AreScalars (take k c.units_in-units.result)) c.if-count-eq8.true n.scalars in (
+    let before_surrogate = c.units_before_surrogate-count.ensures in
+    let scalars =
+    subst (λ k. AreScalars (take k c.units_in-units.result)) c.if-count-eq8.true before_surrogate.scalars in (
       omega (arith, stored.len, invariant.0),
       omega (arith, stored.bound),
       stored.len ∙ invariant.2,
@@ -43,14 +43,14 @@ pub loop-written-preserved : goal.loop-written-preserved
 loop-written-preserved g c =
     let invariant = c.loop-written.invariant in
     let before_surrogate = c.units_before_surrogate-count.ensures in
-    let w = c.store_words-written-in-loop-written in
-    let stored = w.ensures in
+    let stored_words = c.store_words-written-in-loop-written in
+    let stored = stored_words.ensures in
     let stored_text = c.store_text-written.ensures in
     let found = c.in-Some.ensures in
     let rest = drop c.loop-written.read c.args.src.now in
     let long : 16 ≤ length rest = omega (arith, length-drop c.loop-written.read c.args.src.now) in
     let text = ap (λ k. take k c.store_text-written.new.buffer) stored_text.end ∙ stored_text.stored
-    ∙ ap (λ z. take w.result w.new.buffer ++ z) c.utf8_of.ensures.bytes in (
+    ∙ ap (λ z. take stored_words.result stored_words.new.buffer ++ z) c.utf8_of.ensures.bytes in (
       omega (arith, stored_text.len, stored.len, invariant.0),
       omega (arith, stored_text.end, stored.bound, before_surrogate.bound, c.utf8_of.ensures.bound),
       stored_text.len ∙ stored.len ∙ invariant.2,
