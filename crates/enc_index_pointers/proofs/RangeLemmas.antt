@@ -159,8 +159,11 @@ module _ (low : ℕ) (run : Run) (rest : List Run) (c q : ℕ)
       let begins : run.2 ≤ c = omega arith in
       let ends : c ≤ run.2 + (run.1 - run.0) = omega arith in
       let same : run.0 + (c - run.2) ≡ q = omega arith in
-      let t = ascending_parts low (turned run) rest up in
-      (ap (pointer_in_run c) (run_with_pointer-here (turned run) rest c begins ends) ∙ ap Some same, omega (arith, t.0))
+      let parts = ascending_parts low (turned run) rest up in
+      (
+        ap (pointer_in_run c) (run_with_pointer-here (turned run) rest c begins ends) ∙ ap Some same,
+        omega (arith, parts.0),
+      )
 
   later_is_found : IsFound rest c q (run.2 + (run.1 - run.0) + 1) → IsFound (turned run ∷ rest) c q low
   later_is_found is_later =

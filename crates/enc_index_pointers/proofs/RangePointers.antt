@@ -57,17 +57,18 @@ module _ (c : ℕ) where
       → first_below (is_pointer_of c) 1237576 ≡ pointer_in_run c o
   first_pointer None is_found =
       first_below-None (is_pointer_of c) 1237576
-      (λ q l. false_from_ne_true _ (λ t. let e = sym (ap (pointer_in_run c) is_found) ∙ pointer_is_found q t in cc))
+      (λ q l. false_from_ne_true _
+      (λ t. let none_is_some = sym (ap (pointer_in_run c) is_found) ∙ pointer_is_found q t in cc))
   first_pointer (Some run) is_found =
       let found = found_is_pointer run is_found in
       first_below-Some (is_pointer_of c) 1237576 (run.2 + (c - run.0)) found.below
       (and_from _ _ found.is_counted (Some-is_character c _ found.has))
       (λ q l. false_from_ne_true _
       (λ t.
-      let e = sym (ap (pointer_in_run c) is_found) ∙ pointer_is_found q t in
+      let both_found = sym (ap (pointer_in_run c) is_found) ∙ pointer_is_found q t in
       let same : run.2 + (c - run.0) ≡ q = cc in
-      let e : ⊥ = omega (arith, same, l) in
-      e))
+      let contradiction : ⊥ = omega (arith, same, l) in
+      contradiction))
 
   pub ranges_pointer : (c ≡ 0xE7C7 → ⊥) → pointer_in_run c (run_with_pointer GB18030_RANGES_BY_CODE_POINT.now c) ≡ gb18030_ranges_pointer c
   unfolding gb18030_ranges_pointer

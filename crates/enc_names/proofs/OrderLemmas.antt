@@ -12,8 +12,8 @@ pub shorter_before : (a b : List ℕ) → ((i : ℕ) → Fits w8 (get_or a i 0))
 shorter_before a [] are_bytes h = absurd (let no : ⊥ = omega arith in no)
 shorter_before [] (y ∷ b) are_bytes h = omega arith
 shorter_before (x ∷ a) (y ∷ b) are_bytes h =
-    let l = shorter_before a b (λ i. are_bytes (suc i)) (omega arith) in
-    let m = (are_bytes 0).fits in
+    let rest_before = shorter_before a b (λ i. are_bytes (suc i)) (omega arith) in
+    let first_is_byte = (are_bytes 0).fits in
     omega arith
 
 -- and of two that have one length, and are the same after a place, that with the lesser byte there
@@ -22,10 +22,11 @@ pub lesser_before : (i : ℕ) (a b : List ℕ) → ((j : ℕ) → Fits w8 (get_o
 lesser_before i [] b are_bytes e l same_after g = absurd (let no : ⊥ = omega arith in no)
 lesser_before i (x ∷ a) [] are_bytes e l same_after g = absurd (let no : ⊥ = omega arith in no)
 lesser_before zero (x ∷ a) (y ∷ b) are_bytes e l same_after g =
-    let n : word_number a ≡ word_number b = ap word_number same_after in omega arith
+    let same_number : word_number a ≡ word_number b = ap word_number same_after in omega arith
 lesser_before (suc i) (x ∷ a) (y ∷ b) are_bytes e l same_after g =
-    let n = lesser_before i a b (λ j. are_bytes (suc j)) (omega arith) (omega arith) same_after g in
-    let m = (are_bytes 0).fits in
+    let rest_before =
+    lesser_before i a b (λ j. are_bytes (suc j)) (omega arith) (omega arith) same_after g in
+    let first_is_byte = (are_bytes 0).fits in
     omega arith
 
 -- words are ordered as their lengths, or as their bytes at that place
@@ -52,7 +53,8 @@ pub by_byte_before : (r : Ordering) (at : ℕ) (a b : List ℕ) → IsBytes a �
     → get_or a (at - 1) 0 ≢ get_or b (at - 1) 0 → MatchOrdering r (get_or a (at - 1) 0 < get_or b (at - 1) 0) (get_or a (at - 1) 0 ≡ get_or b (at - 1) 0) (get_or b (at - 1) 0 < get_or a (at - 1) 0)
     → MatchOrdering r (word_number a < word_number b) (a ≡ b) (word_number b < word_number a)
 by_byte_before r at a b f g e p l d n m =
-    let s : at ≡ suc (at - 1) = omega arith in by_byte r (at - 1) a b f g e (omega arith) (subst (λ k. drop k a ≡ drop k b) s d) n m
+    let next_place : at ≡ suc (at - 1) = omega arith in
+    by_byte r (at - 1) a b f g e (omega arith) (subst (λ k. drop k a ≡ drop k b) next_place d) n m
 
 -- in an ascending table
 
@@ -69,8 +71,8 @@ later_after_first one [] words_ascend j l = absurd (let no : ⊥ = omega arith i
 later_after_first one (two ∷ words) words_ascend zero l = (first_before one two words words_ascend).0
 later_after_first one (two ∷ words) words_ascend (suc j) l =
     let parts = first_before one two words words_ascend in
-    let n = later_after_first two words parts.1 j (omega arith) in
-    let m = parts.0 in
+    let later_after_second = later_after_first two words parts.1 j (omega arith) in
+    let second_after_first = parts.0 in
     omega arith
 
 others_ascend : (one : List ℕ) (words : List (List ℕ)) → are_ascending_words (one ∷ words) ≡ true

@@ -43,20 +43,22 @@ missing (one ∷ words) word differ =
 module _ (words : List (List ℕ)) (words_ascend : are_ascending_words words ≡ true) (word : List ℕ) (low high middle : ℕ)
     (halving : Halving words word low high) (l : low ≤ middle) (u : middle < high) where
   here : middle < length words
-  here = let r = halving.range in omega arith
+  here = let range = halving.range in omega arith
 
   two : (i : ℕ) → (i < middle) ⊎ ((i ≡ middle) ⊎ (middle < i))
   two i = grind arith
 
   up_to : word_number (get_or words middle []) < word_number word → (i : ℕ) → i < middle + 1 → (i < middle) ⊎ ((i ≡ middle) ⊎ (middle < i)) → word_number (get_or words i []) < word_number word
-  up_to e i k (inl m) = let t = earlier_before words words_ascend i middle m here in omega arith
+  up_to e i k (inl m) =
+      let before_middle = earlier_before words words_ascend i middle m here in omega arith
   up_to e i k (inr (inl m)) = rw m e
   up_to e i k (inr (inr m)) = absurd (let no : ⊥ = omega arith in no)
 
   from : word_number word < word_number (get_or words middle []) → (i : ℕ) → middle ≤ i → i < length words → (i < middle) ⊎ ((i ≡ middle) ⊎ (middle < i)) → word_number word < word_number (get_or words i [])
   from e i k m (inl o) = absurd (let no : ⊥ = omega arith in no)
   from e i k m (inr (inl o)) = rw o e
-  from e i k m (inr (inr o)) = let t = earlier_before words words_ascend middle i o m in omega arith
+  from e i k m (inr (inr o)) =
+      let after_middle = earlier_before words words_ascend middle i o m in omega arith
 
   pub right : word_number (get_or words middle []) < word_number word → Halving words word (middle + 1) high
   right e =
@@ -71,22 +73,23 @@ module _ (words : List (List ℕ)) (words_ascend : are_ascending_words words ≡
   left e =
       record {
         order = l;
-        range = (let r = halving.range in omega arith);
+        range = (let range = halving.range in omega arith);
         before = halving.before;
         after = λ i k m. from e i k m (two i);
       }
 
   pub hit : get_or words middle [] ≡ word → word_place words word ≡ Some middle
   hit is_word =
-      let n : word_number (get_or words middle []) ≡ word_number word = ap word_number is_word in
-      found words word middle here (λ j k same. let t = earlier_before words words_ascend j middle k here in
+      let same_number : word_number (get_or words middle []) ≡ word_number word = ap word_number is_word in
+      found words word middle here
+      (λ j k same. let before_middle = earlier_before words words_ascend j middle k here in
       (let no : ⊥ = omega arith in no)) is_word
 
 pub nothing : (words : List (List ℕ)) (word : List ℕ) (low high : ℕ) → high ≤ low → Halving words word low high → word_place words word ≡ None
 nothing words word low high g halving =
     missing words word (λ j k same. elim (split j) [
-      | inl m ↦ (let t = halving.before j m in let no : ⊥ = omega arith in no)
-      | inr m ↦ (let t = halving.after j (omega arith) k in let no : ⊥ = omega arith in no)
+      | inl m ↦ (let is_before = halving.before j m in let no : ⊥ = omega arith in no)
+      | inr m ↦ (let is_after = halving.after j (omega arith) k in let no : ⊥ = omega arith in no)
     ])
   where
     split : (j : ℕ) → (j < low) ⊎ (low ≤ j)
@@ -105,7 +108,7 @@ text_at (text ∷ texts) (suc i) d l = text_at texts i d (omega arith)
 pub start : (texts : List (Bor (List ℕ))) (word : List ℕ) → Halving (texts_of texts) word 0 (length texts)
 start texts word = record {
   order = omega arith;
-  range = (let e = texts_len texts in omega arith);
+  range = (let as_many_texts = texts_len texts in omega arith);
   before = λ i k. absurd (let no : ⊥ = omega arith in no);
-  after = λ i k l. absurd (let e = texts_len texts in let no : ⊥ = omega arith in no);
+  after = λ i k l. absurd (let as_many_texts = texts_len texts in let no : ⊥ = omega arith in no);
 }
