@@ -83,7 +83,7 @@ two : (i n : ℕ) → (i < n) ⊎ (n ≤ i)
 two i n = grind arith
 
 -- the halves, at a run in the middle
-module _ (runs : List Run) (runs_ascend : are_ascending_runs 0 runs ≡ true) (n low high middle : ℕ)
+module _ {runs : List Run} (runs_ascend : are_ascending_runs 0 runs ≡ true) {n low high : ℕ} (middle : ℕ)
     (halving : Halving runs n low high)
     (l : low ≤ middle) (u : middle < high) where
   here : middle < length runs
@@ -127,7 +127,8 @@ module _ (runs : List Run) (runs_ascend : are_ascending_runs 0 runs ≡ true) (n
       (λ j k. let before_middle = later 0 runs runs_ascend j middle k here in omega (arith, before_middle, begins))
       begins f
 
-pub nothing : (runs : List Run) (n low high : ℕ) → high ≤ low → Halving runs n low high → run_with_pointer runs n ≡ None
-nothing runs n low high g halving =
+pub nothing : {runs : List Run} {n low high : ℕ} → high ≤ low → Halving runs n low high
+    → run_with_pointer runs n ≡ None
+nothing {runs} {n} {low} g halving =
     missing runs n (λ j k. ⊎_elim (λ m. inl (halving.before j m)) (λ m. inr (halving.after j (omega arith) k))
     (two j low))

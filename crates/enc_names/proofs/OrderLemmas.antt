@@ -49,7 +49,8 @@ by_byte Greater i a b f g same_length within same_after n their_order =
     lesser_before i b a g (sym same_length) (rw (← same_length) within) (sym same_after) their_order
 
 -- the same at the byte before a place
-pub by_byte_before : (r : Ordering) (at : ℕ) (a b : List ℕ) → IsBytes a → IsBytes b → length a ≡ length b → 0 < at → at ≤ length a → drop at a ≡ drop at b
+pub by_byte_before : (r : Ordering) (at : ℕ) (a b : List ℕ) → IsBytes a → IsBytes b → length a ≡ length b → 0 < at
+    → at ≤ length a → drop at a ≡ drop at b
     → get_or a (at - 1) 0 ≢ get_or b (at - 1) 0 → MatchOrdering r (get_or a (at - 1) 0 < get_or b (at - 1) 0) (get_or a (at - 1) 0 ≡ get_or b (at - 1) 0) (get_or b (at - 1) 0 < get_or a (at - 1) 0)
     → MatchOrdering r (word_number a < word_number b) (a ≡ b) (word_number b < word_number a)
 by_byte_before r at a b f g e p l d n m =

@@ -40,8 +40,8 @@ missing (one ∷ words) word differ =
     rw (differs one word (differ 0 (omega arith)), missing words word (λ j m. differ (suc j) (omega arith))) refl
 
 -- the halves, at a word in the middle
-module _ (words : List (List ℕ)) (words_ascend : are_ascending_words words ≡ true) (word : List ℕ) (low high middle : ℕ)
-    (halving : Halving words word low high) (l : low ≤ middle) (u : middle < high) where
+module _ {words : List (List ℕ)} (words_ascend : are_ascending_words words ≡ true) {word : List ℕ} {low high : ℕ}
+    (middle : ℕ) (halving : Halving words word low high) (l : low ≤ middle) (u : middle < high) where
   here : middle < length words
   here = let range = halving.range in omega arith
 
@@ -85,8 +85,9 @@ module _ (words : List (List ℕ)) (words_ascend : are_ascending_words words ≡
       (λ j k same. let before_middle = earlier_before words words_ascend j middle k here in
       (let no : ⊥ = omega arith in no)) is_word
 
-pub nothing : (words : List (List ℕ)) (word : List ℕ) (low high : ℕ) → high ≤ low → Halving words word low high → word_place words word ≡ None
-nothing words word low high g halving =
+pub nothing : {words : List (List ℕ)} {word : List ℕ} {low high : ℕ} → high ≤ low → Halving words word low high
+    → word_place words word ≡ None
+nothing {words} {word} {low} g halving =
     missing words word (λ j k same. elim (split j) [
       | inl m ↦ (let is_before = halving.before j m in let no : ⊥ = omega arith in no)
       | inr m ↦ (let is_after = halving.after j (omega arith) k in let no : ⊥ = omega arith in no)

@@ -28,10 +28,12 @@ ascii_units_16 (b ∷ bs) are_ascii =
     one_unit c h = rw (lt-ltb c 0x1_0000 h) refl
 
 -- the ASCII in front of as many bytes as there are, or fit
-pub puts_front : (units_of : ℕ → List ℕ) → ((bs : List ℕ) → AreAscii bs → units_of_text units_of bs ≡ bs) → (before after : Output) (src front : List ℕ) (n most : ℕ) → front ≡ take most src
-    → most ≡ min (length src) before.room → n ≤ length front → AreAscii (take n front) → (n < length front → 0x80 ≤ get_or front n 0) → after ≡ with_appended before (take n src)
+pub puts_front : {units_of : ℕ → List ℕ} → ((bs : List ℕ) → AreAscii bs → units_of_text units_of bs ≡ bs)
+    → {before after : Output} {src front : List ℕ} {n : ℕ} (most : ℕ) → front ≡ take most src
+    → most ≡ min (length src) before.room → n ≤ length front → AreAscii (take n front)
+    → (n < length front → 0x80 ≤ get_or front n 0) → after ≡ with_appended before (take n src)
     → PutsAscii units_of before after src n
-puts_front units_of own before after src front n most is_front m l a ends e =
+puts_front own {before} {src = src} {front = front} {n = n} most is_front m l a ends e =
     let few : n ≤ most = omega (arith, ap length is_front, length-take most src) in
     let ascii : AreAscii (take n src) = subst AreAscii (ap (take n) is_front ∙ take-take n most src few) a in
     let units = own (take n src) ascii in

@@ -95,11 +95,11 @@ units-drop zero us are_units = are_units
 units-drop (suc n) [] are_units = are_units
 units-drop (suc n) (u ∷ us) are_units = units-drop n us (λ i. are_units (suc i))
 
-heads : (a b : ℕ) (y z : List ℕ) → a ∷ y ≡ b ∷ z → a ≡ b
-heads a b y z e = cc
+heads : {a b : ℕ} {y z : List ℕ} → a ∷ y ≡ b ∷ z → a ≡ b
+heads e = cc
 
-tails : (a b : ℕ) (y z : List ℕ) → a ∷ y ≡ b ∷ z → y ≡ z
-tails a b y z e = cc
+tails : {a b : ℕ} {y z : List ℕ} → a ∷ y ≡ b ∷ z → y ≡ z
+tails e = cc
 
 pub lossy_after : (us : List ℕ) → AreUnits us → (cs rest : List ℕ) → utf16_lossy_chars us ≡ cs ++ rest
     → utf16_lossy_chars (drop (length (units_of_text encode_utf16 cs)) us) ≡ rest
@@ -112,12 +112,12 @@ lossy_after (u ∷ us) are_units (c ∷ cs) rest whole =
     let rest_length = length (units_of_text encode_utf16 cs) in
     let whole_length : length (units_of_text encode_utf16 (c ∷ cs)) ≡ begins.units + rest_length =
     length-append (encode_utf16 c) (units_of_text encode_utf16 cs)
-    ∙ ap (λ d. length (encode_utf16 d) + rest_length) (sym (heads _ _ _ _ same))
+    ∙ ap (λ d. length (encode_utf16 d) + rest_length) (sym (heads same))
     ∙ ap (λ k. k + rest_length) (sym begins.first.width) in
     ap (λ k. utf16_lossy_chars (drop k (u ∷ us))) whole_length
     ∙ ap utf16_lossy_chars (sym (drop-drop rest_length begins.units (u ∷ us)))
     ∙ lossy_after (drop begins.units (u ∷ us)) (units-drop begins.units (u ∷ us) are_units) cs rest
-    (tails _ _ _ _ same)
+    (tails same)
 
 pub peeks : (us : List ℕ) (r : Option (ℕ × ℕ)) → MatchOption r (us ≡ []) (λ p. IsFirstUtf16Char us p.0 p.1)
     → MatchOption r (utf16_lossy_chars us ≡ []) (λ p. utf16_lossy_chars us ≡ p.0 ∷ drop 1 (utf16_lossy_chars us))
@@ -143,12 +143,12 @@ high_pair u v p = omega arith
 pub beyond_ascii : (us : List ℕ) (c n : ℕ) → IsFirstUtf16Char us c n → 0x80 ≤ get_or us 0 0 → 0x80 ≤ c
 beyond_ascii [] c n begins is_beyond_ascii = absurd (omega (arith, is_beyond_ascii))
 beyond_ascii (u ∷ []) c n begins is_beyond_ascii =
-    let same = heads _ _ _ _ (sym (lossy_lone u [] (λ p. omega (arith, p.2))) ∙ begins.chars) in
+    let same = heads (sym (lossy_lone u [] (λ p. omega (arith, p.2))) ∙ begins.chars) in
     omega (arith, same, high_lone u is_beyond_ascii)
 beyond_ascii (u ∷ v ∷ us) c n begins is_beyond_ascii = elim (decide_pair u v) [
-  | inl is_pair ↦ let same = heads _ _ _ _ (sym (lossy_pair u v us is_pair) ∙ begins.chars) in
+  | inl is_pair ↦ let same = heads (sym (lossy_pair u v us is_pair) ∙ begins.chars) in
       omega (arith, same, high_pair u v is_pair)
-  | inr p ↦ let same = heads _ _ _ _ (sym (lossy_lone u (v ∷ us) p) ∙ begins.chars) in
+  | inr p ↦ let same = heads (sym (lossy_lone u (v ∷ us) p) ∙ begins.chars) in
       omega (arith, same, high_lone u is_beyond_ascii)
 ]
 

@@ -97,11 +97,11 @@ bytes-append (v ∷ vs) ws =
     let front = take (v / 0x100_0000) (to_le_bytes w32 v) in
     ap (λ z. front ++ z) (bytes-append vs ws) ∙ sym (append_assoc front (bytes_of_words vs) (bytes_of_words ws))
 
-pub stored_word : (words : List ℕ) (count : ℕ) → count < length words → (front mid after bytes : List ℕ)
+pub stored_word : (words : List ℕ) (count : ℕ) → count < length words → (front : List ℕ) {mid after bytes : List ℕ}
     → bytes ≡ to_le_bytes w32 (get_or words count 0)
     → mid ≡ front ++ bytes_of_words (take count words) → after ≡ mid ++ take (get_or words count 0 / 0x100_0000) bytes
     → after ≡ front ++ bytes_of_words (take (count + 1) words)
-stored_word words count inside front mid after bytes b m a =
+stored_word words count inside front {mid} b m a =
     let word = get_or words count 0 in
     let old = bytes_of_words (take count words) in
     let new = take (word / 0x100_0000) (to_le_bytes w32 word) in

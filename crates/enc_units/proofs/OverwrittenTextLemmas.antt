@@ -201,16 +201,18 @@ next_done (suc at) (suc end) (b ∷ new) x h k =
     ap (λ m. take m (drop at (set new end x))) (less_both (suc end) at) ∙ next_done at end new x (omega arith) (omega arith) ∙ ap (λ m. take m (drop at new) ++ x ∷ []) (sym (less_both end at))
 
 same_byte : (end : ℕ) (old new : List ℕ) → length new ≡ length old → end < length old → drop end new ≡ drop end old → get_or new end 0 ≡ get_or old end 0
-same_byte end old new l h e = first_same _ _ _ _ (sym (drop-cons new end 0 (omega arith)) ∙ e ∙ drop-cons old end 0 h)
+same_byte end old new l h e =
+    first_same (sym (drop-cons new end 0 (omega arith)) ∙ e ∙ drop-cons old end 0 h)
   where
-    first_same : (a b : ℕ) (x y : List ℕ) → a ∷ x ≡ b ∷ y → a ≡ b
-    first_same a b x y f = cc
+    first_same : {a b : ℕ} {x y : List ℕ} → a ∷ x ≡ b ∷ y → a ≡ b
+    first_same f = cc
 
 same_rest : (end : ℕ) (old new : List ℕ) → length new ≡ length old → end < length old → drop end new ≡ drop end old → drop (suc end) new ≡ drop (suc end) old
-same_rest end old new l h e = rest_same _ _ _ _ (sym (drop-cons new end 0 (omega arith)) ∙ e ∙ drop-cons old end 0 h)
+same_rest end old new l h e =
+    rest_same (sym (drop-cons new end 0 (omega arith)) ∙ e ∙ drop-cons old end 0 h)
   where
-    rest_same : (a b : ℕ) (x y : List ℕ) → a ∷ x ≡ b ∷ y → x ≡ y
-    rest_same a b x y f = cc
+    rest_same : {a b : ℕ} {x y : List ℕ} → a ∷ x ≡ b ∷ y → x ≡ y
+    rest_same f = cc
 
 one_more : (at end : ℕ) (old new : List ℕ) → Cleared at end old new → end < length new → 0x80 ≤ get_or new end 0 → get_or new end 0 < 0xC0 → Cleared at (suc end) old (set new end 0)
 one_more at end old new is_cleared has_next k l =
@@ -231,14 +233,16 @@ one_more at end old new is_cleared has_next k l =
           is_cleared.rest;
     }
 
-pub goes_on : (at end : ℕ) (old new : List ℕ) → Cleared at end old new → end < length new → 0x80 ≤ get_or new end 0 → get_or new end 0 < 0xC0 → Cleared at (end + 1) old (set new end 0)
-goes_on at end old new c h k l =
+pub goes_on : {at end : ℕ} {old new : List ℕ} → Cleared at end old new → end < length new → 0x80 ≤ get_or new end 0
+    → get_or new end 0 < 0xC0 → Cleared at (end + 1) old (set new end 0)
+goes_on {at} {end} {old} {new} c h k l =
     subst (λ n. Cleared at n old (set new end 0))
     (let next_end : suc end ≡ end + 1 = omega arith in next_end) (one_more at end old new c h k l)
 
 -- where no byte of a rest is next, it is done
-pub ends : (at end : ℕ) (old new : List ℕ) → Cleared at end old new → without_continuations (drop end old) ≡ drop end old → drop at new ≡ without_continuations (drop at old)
-ends at end old new is_cleared e =
+pub ends : {at end : ℕ} {old new : List ℕ} → Cleared at end old new
+    → without_continuations (drop end old) ≡ drop end old → drop at new ≡ without_continuations (drop at old)
+ends {at} {end} {old} {new} is_cleared e =
     let done_count = end - at in
     let end_is : end ≡ at + done_count = omega (arith, is_cleared.from) in
     sym (take-append-drop done_count (drop at new))
@@ -249,8 +253,9 @@ ends at end old new is_cleared e =
 pub none_left : (end : ℕ) (old : List ℕ) → length old ≤ end → without_continuations (drop end old) ≡ drop end old
 none_left end old at_end = ap without_continuations (drop_of_length-le old at_end) ∙ sym (drop_of_length-le old at_end)
 
-pub none_next : (at end : ℕ) (old new : List ℕ) → Cleared at end old new → end < length new → (get_or new end 0 < 0x80) ⊎ (0xC0 ≤ get_or new end 0) → without_continuations (drop end old) ≡ drop end old
-none_next at end old new is_cleared h n =
+pub none_next : {at end : ℕ} {old new : List ℕ} → Cleared at end old new → end < length new
+    → (get_or new end 0 < 0x80) ⊎ (0xC0 ≤ get_or new end 0) → without_continuations (drop end old) ≡ drop end old
+none_next {end = end} {old = old} {new = new} is_cleared h n =
     let same = same_byte end old new is_cleared.len (omega (arith, is_cleared.len)) is_cleared.rest in
     ap without_continuations (drop-cons old end 0 (omega (arith, is_cleared.len))) ∙ cond_no _ _ _ (no_rest n)
     ∙ sym (drop-cons old end 0 (omega (arith, is_cleared.len)))

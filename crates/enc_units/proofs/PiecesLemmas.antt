@@ -97,8 +97,9 @@ reads_ascii Means src n h w a = record {
 }
 
 -- nothing is put out
-pub start : (units_of : ℕ → List ℕ) (Means : List ℕ → ℕ → Type 0) (o : Output) (src : List ℕ) → PutsPieces units_of Means o o src 0
-start units_of Means o src = record {
+pub start : {units_of : ℕ → List ℕ} {Means : List ℕ → ℕ → Type 0} {o : Output} {src : List ℕ}
+    → PutsPieces units_of Means o o src 0
+start {Means = Means} {o = o} {src = src} = record {
   text = [];
   scalars = refl;
   reads = reads_none Means src;

@@ -25,11 +25,11 @@ one_unit c h = rw (lt-ltb c 0x1_0000 h) refl
 pub two_units : (c : ℕ) → 0x1_0000 ≤ c → encode_utf16 c ≡ (0xD800 + (c - 0x1_0000) / 0x400) ∷ (0xDC00 + (c - 0x1_0000) % 0x400) ∷ []
 two_units c h = rw (le-ltb c 0x1_0000 h) refl
 
-first_same : (a b : ℕ) (x y : List ℕ) → a ∷ x ≡ b ∷ y → a ≡ b
-first_same a b x y e = cc
+first_same : {a b : ℕ} {x y : List ℕ} → a ∷ x ≡ b ∷ y → a ≡ b
+first_same e = cc
 
-rest_same : (a b : ℕ) (x y : List ℕ) → a ∷ x ≡ b ∷ y → x ≡ y
-rest_same a b x y e = cc
+rest_same : {a b : ℕ} {x y : List ℕ} → a ∷ x ≡ b ∷ y → x ≡ y
+rest_same e = cc
 
 no_first : (a : ℕ) (x : List ℕ) → a ∷ x ≡ [] → ⊥
 no_first a x e = cc
@@ -50,23 +50,23 @@ one_same c d x y scalar also_scalar same_units = elim (cases_lt c 0x1_0000) [
   | inl one_unit_c ↦ elim (cases_lt d 0x1_0000) [
     | inl m ↦
         let same = sym (ap (λ z. z ++ x) (one_unit c one_unit_c)) ∙ same_units ∙ ap (λ z. z ++ y) (one_unit d m) in
-        (first_same c d x y same, rest_same c d x y same)
+        (first_same same, rest_same same)
     | inr two_units_d ↦
         let same = sym (ap (λ z. z ++ x) (one_unit c one_unit_c)) ∙ same_units
         ∙ ap (λ z. z ++ y) (two_units d two_units_d) in
-        absurd (not_both c d one_unit_c two_units_d scalar also_scalar (first_same _ _ _ _ same))
+        absurd (not_both c d one_unit_c two_units_d scalar also_scalar (first_same same))
   ]
   | inr two_units_c ↦ elim (cases_lt d 0x1_0000) [
     | inl one_unit_d ↦
         let same = sym (ap (λ z. z ++ y) (one_unit d one_unit_d)) ∙ sym same_units
         ∙ ap (λ z. z ++ x) (two_units c two_units_c) in
-        absurd (not_both d c one_unit_d two_units_c also_scalar scalar (first_same _ _ _ _ same))
+        absurd (not_both d c one_unit_d two_units_c also_scalar scalar (first_same same))
     | inr two_units_d ↦
         let same = sym (ap (λ z. z ++ x) (two_units c two_units_c)) ∙ same_units
         ∙ ap (λ z. z ++ y) (two_units d two_units_d) in
-        let same_trail = rest_same _ _ _ _ same in (
-          same_pair c d two_units_c two_units_d (first_same _ _ _ _ same) (first_same _ _ _ _ same_trail),
-          rest_same _ _ _ _ same_trail,
+        let same_trail = rest_same same in (
+          same_pair c d two_units_c two_units_d (first_same same) (first_same same_trail),
+          rest_same same_trail,
         )
   ]
 ]
