@@ -130,8 +130,7 @@ module _ (kind : ℕ → ℕ → Bool) (grid : Grid) (ts gs : List ℕ)
             rows_ok-at (entry_ok kind planes) width r (drop 256 gs) ts c cell pointer rows low refl refl there in
             let entry = entry_ok-found kind planes code_point (get_or (drop 256 gs) cell 0) fits there in
             let column = grid_char-of_column grid r c low in
-            let char = subst (λ k. grid_char grid k ≡ pointer_char grid pointer) (sym e) column in
-            (
+            let char = subst (λ k. grid_char grid k ≡ pointer_char grid pointer) (sym e) column in (
               code_point,
               char ∙ sym (table pointer) ∙ entry.0,
               subst (λ g. kind code_point g ≡ true) here entry.1,

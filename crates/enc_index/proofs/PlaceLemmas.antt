@@ -88,7 +88,8 @@ module _ (grid : Grid) (is_lead is_trail : ℕ → Bool) (row extra column : ℕ
     pub trail : is_trail b ≡ true
     pub is : pointer_char grid ((row a + extra b) * grid_width grid + column b) ≡ Some c
 
-  pub found : (a b c place : ℕ) → place ≡ row_place a + column_place b → (is_trail b ≡ true → column b < grid_width grid)
+  pub found : (a b c place : ℕ) → place ≡ row_place a + column_place b
+      → (is_trail b ≡ true → column b < grid_width grid)
       → grid_char grid place ≡ Some c → Found a b c
   found a b c place e small g =
       let chosen_row = cond (is_lead a) (row a) (grid_rows grid) in

@@ -68,7 +68,8 @@ found (run ∷ runs) n (suc i) k all_before begins ends =
     (found runs n i (omega arith) (λ j m. all_before (suc j) (omega arith)) begins ends)
 
 missing : (runs : List Run) (n : ℕ)
-    → ((j : ℕ) → j < length runs → ((get_or runs j no_run).1 < n) ⊎ (n < (get_or runs j no_run).0)) → run_with_pointer runs n ≡ None
+    → ((j : ℕ) → j < length runs → ((get_or runs j no_run).1 < n) ⊎ (n < (get_or runs j no_run).0))
+    → run_with_pointer runs n ≡ None
 missing [] n each_outside = refl
 missing (run ∷ runs) n each_outside =
     rw (outside run n (each_outside 0 (omega arith))) (missing runs n (λ j m. each_outside (suc j) (omega arith)))
@@ -89,14 +90,16 @@ module _ {runs : List Run} (runs_ascend : are_ascending_runs 0 runs ≡ true) {n
   here : middle < length runs
   here = omega (arith, halving.range)
 
-  up_to : (get_or runs middle no_run).1 < n → (i : ℕ) → i < middle + 1 → (i < middle) ⊎ (i ≡ middle) → (get_or runs i no_run).1 < n
+  up_to : (get_or runs middle no_run).1 < n → (i : ℕ) → i < middle + 1 → (i < middle) ⊎ (i ≡ middle)
+      → (get_or runs i no_run).1 < n
   up_to ends_before i k (inl m) =
       let before_middle = later 0 runs runs_ascend i middle m here in
       let middle_in_order = (above 0 runs runs_ascend middle here).1 in
       omega (arith, before_middle, middle_in_order, ends_before)
   up_to ends_before i k (inr m) = rw m ends_before
 
-  from : n < (get_or runs middle no_run).0 → (i : ℕ) → middle ≤ i → i < length runs → (middle < i) ⊎ (middle ≡ i) → n < (get_or runs i no_run).0
+  from : n < (get_or runs middle no_run).0 → (i : ℕ) → middle ≤ i → i < length runs
+      → (middle < i) ⊎ (middle ≡ i) → n < (get_or runs i no_run).0
   from begins_after i k m (inl o) =
       let after_middle = later 0 runs runs_ascend middle i o m in
       let middle_in_order = (above 0 runs runs_ascend middle here).1 in
@@ -121,7 +124,8 @@ module _ {runs : List Run} (runs_ascend : are_ascending_runs 0 runs ≡ true) {n
         after = λ i is_outside m. from e i is_outside m (over middle i is_outside);
       }
 
-  pub hit : (get_or runs middle no_run).0 ≤ n → n ≤ (get_or runs middle no_run).1 → run_with_pointer runs n ≡ Some (get_or runs middle no_run)
+  pub hit : (get_or runs middle no_run).0 ≤ n → n ≤ (get_or runs middle no_run).1
+      → run_with_pointer runs n ≡ Some (get_or runs middle no_run)
   hit begins f =
       found runs n middle here
       (λ j k. let before_middle = later 0 runs runs_ascend j middle k here in omega (arith, before_middle, begins))

@@ -58,7 +58,8 @@ module _ (planes : Planes) (counts is_by_last : ℕ → Bool) (bound : ℕ) wher
   -- whether a page has only pointers of its characters, and page 0 none
   unfoldable pub page_ok : ℕ → Tree → ℕ → Tree → ℕ → ℕ → Bool
   page_ok n table m pointers k page =
-      let each = all_below (λ j. place_ok n table m pointers (page * 64 + j) (k * 64 + j)) 64 in cond (nat_lt 0 page) each true
+      let each = all_below (λ j. place_ok n table m pointers (page * 64 + j) (k * 64 + j)) 64 in
+      cond (nat_lt 0 page) each true
 
   unfoldable pub blank_ok : ℕ → Tree → Bool
   blank_ok m pointers = all_below (λ j. nat_le bound (look 0xFFFF m pointers j)) 64
@@ -139,11 +140,13 @@ module _ (planes : Planes) (counts is_by_last : ℕ → Bool) (bound : ℕ) wher
     unfolding number_in_tree
     in_tree-in_pages c =
         look-plant 0xFFFF m pointers _ parts.few_pointers
-        ∙ ap (λ x. get_or pointers (x * 64 + c % 64) 0xFFFF) (look-plant (length pointers) k page_of (c / 64) parts.few_pages)
+        ∙ ap (λ x. get_or pointers (x * 64 + c % 64) 0xFFFF)
+        (look-plant (length pointers) k page_of (c / 64) parts.few_pages)
 
     -- a pointer that the pages give is one of the character
     sound_page : (c page : ℕ) → page_ok n table_tree m pointer_tree (c / 64) page ≡ true
-        → get_or pointers (page * 64 + c % 64) 0xFFFF < bound → test c (get_or pointers (page * 64 + c % 64) 0xFFFF) ≡ true
+        → get_or pointers (page * 64 + c % 64) 0xFFFF < bound
+        → test c (get_or pointers (page * 64 + c % 64) 0xFFFF) ≡ true
     unfolding page_ok place_ok blank_ok
     sound_page c page h below_bound =
         let pointer = get_or pointers (page * 64 + c % 64) 0xFFFF in
@@ -180,7 +183,8 @@ module _ (planes : Planes) (counts is_by_last : ℕ → Bool) (bound : ℕ) wher
           | inl within ↦
               let first : 0 + c / 64 ≡ c / 64 = omega arith in
               sound_page c _
-              (subst (λ x. page_ok n table_tree m pointer_tree x (get_or page_of (c / 64) (length pointers)) ≡ true) first
+              (subst (λ x. page_ok n table_tree m pointer_tree x
+              (get_or page_of (c / 64) (length pointers)) ≡ true) first
               (all_at-at _ (length pointers) 0 page_of (c / 64) parts.pages within)) l
           | inr beyond ↦
               let page = get_or-past page_of (c / 64) (length pointers) beyond in
@@ -202,7 +206,8 @@ module _ (planes : Planes) (counts is_by_last : ℕ → Bool) (bound : ℕ) wher
           | inl within ↦ within
           | inr beyond ↦
               let has = (and_parts _ _ h).1 in
-              let none = subst (λ x. is_character c (entry_character planes x) ≡ true) (get_or-past table p 0 beyond) has in
+              let none =
+              subst (λ x. is_character c (entry_character planes x) ≡ true) (get_or-past table p 0 beyond) has in
               absurd (true≢false (sym none))
         ]
 
@@ -217,11 +222,13 @@ module _ (planes : Planes) (counts is_by_last : ℕ → Bool) (bound : ℕ) wher
         let entry_passes =
         subst (λ x. entry_ok k page_tree m pointer_tree (length pointers) x code_point ≡ true) first
         (all_at-at _ 0 0 table p parts.entries (listed c p passes)) in
-        let each = sym (cond-true _ _ _ (and_from _ _ (lt-ltb p bound l) (and_from _ _ hit.0 entry.0))) ∙ entry_passes in
+        let each =
+        sym (cond-true _ _ _ (and_from _ _ (lt-ltb p bound l) (and_from _ _ hit.0 entry.0))) ∙ entry_passes in
         let paged_each =
         subst (λ q. cond (is_by_last code_point) (nat_le p q && nat_lt q bound) (nat_le q p) ≡ true)
         (in_tree-in_pages code_point) each in
-        subst (λ u. cond (is_by_last u) (nat_le p (in_pages u) && nat_lt (in_pages u) bound) (nat_le (in_pages u) p) ≡ true)
+        subst (λ u. cond (is_by_last u) (nat_le p (in_pages u) && nat_lt (in_pages u) bound)
+        (nat_le (in_pages u) p) ≡ true)
         entry.1 paged_each
 
     not_first : (c p : ℕ) → is_by_last c ≡ false → p < bound → test c p ≡ true → in_pages c ≤ p
@@ -229,7 +236,8 @@ module _ (planes : Planes) (counts is_by_last : ℕ → Bool) (bound : ℕ) wher
 
     not_last : (c p : ℕ) → is_by_last c ≡ true → p < bound → test c p ≡ true → (p ≤ in_pages c) × (in_pages c < bound)
     not_last c p b l h =
-        let both = and_parts _ _ (sym (cond-true _ _ _ b) ∙ complete c p l h) in (leb-true _ _ both.0, ltb-true _ _ both.1)
+        let both = and_parts _ _ (sym (cond-true _ _ _ b) ∙ complete c p l h) in
+        (leb-true _ _ both.0, ltb-true _ _ both.1)
 
     by_first : (c : ℕ) → is_by_last c ≡ false → pointer_in_pages page_of pointers bound c ≡ first_below (test c) bound
     by_first c not_by_last =

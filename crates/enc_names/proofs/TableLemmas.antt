@@ -31,7 +31,8 @@ map_len : (f : ℕ → ℕ) (word : List ℕ) → length (map f word) ≡ length
 map_len f [] = refl
 map_len f (b ∷ word) = ap suc (map_len f word)
 
-none_longer : (words : List (List ℕ)) (word : List ℕ) → are_short words ≡ true → LONGEST < length word → word_place words word ≡ None
+none_longer : (words : List (List ℕ)) (word : List ℕ) → are_short words ≡ true
+    → LONGEST < length word → word_place words word ≡ None
 unfolding are_short
 none_longer [] word all_short l = refl
 none_longer (one ∷ words) word all_short l =
@@ -54,7 +55,8 @@ longer_is_none word l =
     (let same_length = map_len to_ascii_lowercase word in omega arith)
 
 -- a place among the texts of the table is one in the table
-pub within_table : (texts : List (Bor (List ℕ))) (place : Option ℕ) → texts_of texts ≡ table → IfSome place (λ i. i < length texts) → IfSome place (λ i. i < length table)
+pub within_table : (texts : List (Bor (List ℕ))) (place : Option ℕ) → texts_of texts ≡ table
+    → IfSome place (λ i. i < length texts) → IfSome place (λ i. i < length table)
 within_table texts None e h = h
 within_table texts (Some i) e h =
     let as_many_texts = texts_len texts in let table_length = ap length e in omega arith

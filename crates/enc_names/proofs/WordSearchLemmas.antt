@@ -24,7 +24,8 @@ differs label word n = by_test (bytes_eq label word) refl
     by_test true h = absurd (n (ap word_number ((bytes_eq-Decides label word).0 h)))
     by_test false h = refl
 
-found : (words : List (List ℕ)) (word : List ℕ) (i : ℕ) → i < length words → ((j : ℕ) → j < i → word_number (get_or words j []) ≢ word_number word)
+found : (words : List (List ℕ)) (word : List ℕ) (i : ℕ) → i < length words
+    → ((j : ℕ) → j < i → word_number (get_or words j []) ≢ word_number word)
     → get_or words i [] ≡ word → word_place words word ≡ Some i
 found [] word i l differ is_word = absurd (let no : ⊥ = omega arith in no)
 found (one ∷ words) word zero l differ is_word = rw ((bytes_eq-Decides one word).1 is_word) refl
@@ -34,7 +35,9 @@ found (one ∷ words) word (suc i) l differ is_word =
       found words word i (omega arith) (λ j m. differ (suc j) (omega arith)) is_word,
     ) refl
 
-missing : (words : List (List ℕ)) (word : List ℕ) → ((j : ℕ) → j < length words → word_number (get_or words j []) ≢ word_number word) → word_place words word ≡ None
+missing : (words : List (List ℕ)) (word : List ℕ)
+    → ((j : ℕ) → j < length words → word_number (get_or words j []) ≢ word_number word)
+    → word_place words word ≡ None
 missing [] word differ = refl
 missing (one ∷ words) word differ =
     rw (differs one word (differ 0 (omega arith)), missing words word (λ j m. differ (suc j) (omega arith))) refl
@@ -48,13 +51,17 @@ module _ {words : List (List ℕ)} (words_ascend : are_ascending_words words ≡
   two : (i : ℕ) → (i < middle) ⊎ ((i ≡ middle) ⊎ (middle < i))
   two i = grind arith
 
-  up_to : word_number (get_or words middle []) < word_number word → (i : ℕ) → i < middle + 1 → (i < middle) ⊎ ((i ≡ middle) ⊎ (middle < i)) → word_number (get_or words i []) < word_number word
+  up_to : word_number (get_or words middle []) < word_number word → (i : ℕ) → i < middle + 1
+      → (i < middle) ⊎ ((i ≡ middle) ⊎ (middle < i))
+      → word_number (get_or words i []) < word_number word
   up_to e i k (inl m) =
       let before_middle = earlier_before words words_ascend i middle m here in omega arith
   up_to e i k (inr (inl m)) = rw m e
   up_to e i k (inr (inr m)) = absurd (let no : ⊥ = omega arith in no)
 
-  from : word_number word < word_number (get_or words middle []) → (i : ℕ) → middle ≤ i → i < length words → (i < middle) ⊎ ((i ≡ middle) ⊎ (middle < i)) → word_number word < word_number (get_or words i [])
+  from : word_number word < word_number (get_or words middle []) → (i : ℕ) → middle ≤ i
+      → i < length words → (i < middle) ⊎ ((i ≡ middle) ⊎ (middle < i))
+      → word_number word < word_number (get_or words i [])
   from e i k m (inl o) = absurd (let no : ⊥ = omega arith in no)
   from e i k m (inr (inl o)) = rw o e
   from e i k m (inr (inr o)) =
@@ -101,7 +108,8 @@ pub texts_len : (texts : List (Bor (List ℕ))) → length (texts_of texts) ≡ 
 texts_len [] = refl
 texts_len (text ∷ texts) = ap suc (texts_len texts)
 
-pub text_at : (texts : List (Bor (List ℕ))) (i : ℕ) (d : Bor (List ℕ)) → i < length texts → get_or (texts_of texts) i [] ≡ (get_or texts i d).now
+pub text_at : (texts : List (Bor (List ℕ))) (i : ℕ) (d : Bor (List ℕ)) → i < length texts
+    → get_or (texts_of texts) i [] ≡ (get_or texts i d).now
 text_at [] i d l = absurd (let no : ⊥ = omega arith in no)
 text_at (text ∷ texts) zero d l = refl
 text_at (text ∷ texts) (suc i) d l = text_at texts i d (omega arith)

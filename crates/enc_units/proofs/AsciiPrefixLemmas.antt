@@ -47,7 +47,12 @@ puts_front own {before} {src = src} {front = front} {n = n} most is_front m l a 
             let here : get_or front n 0 ≡ get_or src n 0 = ap (λ z. get_or z n 0) is_front
             ∙ get_or-take most src n 0 h in
             absurd (omega (arith, ends (omega (arith, ap length is_front, length-take most src)), here))
-        | inr h ↦ omega (arith, ap length (own (take (n + 1) src) (ascii_one n src ascii more low)), length-take (n + 1) src)
+        | inr h ↦
+            omega (
+              arith,
+              ap length (own (take (n + 1) src) (ascii_one n src ascii more low)),
+              length-take (n + 1) src,
+            )
       ];
     }
 
@@ -55,14 +60,16 @@ puts_front own {before} {src = src} {front = front} {n = n} most is_front m l a 
 pub text_utf8 : (units text : List ℕ) → AreScalars text → units ≡ units_of_text encode_utf8 text → IsUtf8 units
 text_utf8 units text s e = (text, (s, sym (their_units text) ∙ sym e))
 
-pub front_utf8 : (src front : List ℕ) (n most : ℕ) → front ≡ take most src → n ≤ length front → AreAscii (take n front) → IsUtf8 (take n src)
+pub front_utf8 : (src front : List ℕ) (n most : ℕ) → front ≡ take most src → n ≤ length front
+    → AreAscii (take n front) → IsUtf8 (take n src)
 front_utf8 src front n most is_front l a =
     let few : n ≤ most = omega (arith, ap length is_front, length-take most src) in
     let ascii : AreAscii (take n src) = subst AreAscii (ap (take n) is_front ∙ take-take n most src few) a in
     text_utf8 (take n src) (take n src) (ascii_scalars (take n src) ascii) (sym (ascii_units (take n src) ascii))
 
 -- what was put out to an output that was empty
-pub written_is : (before after : Output) (units text : List ℕ) → after ≡ with_appended before units → before.written ≡ [] → after.written ≡ text → text ≡ units
+pub written_is : (before after : Output) (units text : List ℕ) → after ≡ with_appended before units
+    → before.written ≡ [] → after.written ≡ text → text ≡ units
 written_is before after units text e w a = sym a ∙ ap (λ (o : Output). o.written) e ∙ ap (λ x. x ++ units) w
 
 pub gathered_utf8 : {Means : List ℕ → ℕ → Type 0} {before after : Output} {src : List ℕ} {n : ℕ} {units : List ℕ}

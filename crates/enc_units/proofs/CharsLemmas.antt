@@ -20,10 +20,12 @@ utf8_length bs u = sym (ap length (their_units (chars bs) ∙ encodes-chars bs u
 pub lossy_nil : utf16_lossy_chars [] ≡ []
 lossy_nil = ap (map (λ o. unwrap_or o 0xFFFD)) utf16_chars-nil
 
-pub lossy_lone : (u : ℕ) (us : List ℕ) → ¬ (IsSurrogatePair u (get_or us 0 0)) → utf16_lossy_chars (u ∷ us) ≡ lossy_unit_char u ∷ utf16_lossy_chars us
+pub lossy_lone : (u : ℕ) (us : List ℕ) → ¬ (IsSurrogatePair u (get_or us 0 0))
+    → utf16_lossy_chars (u ∷ us) ≡ lossy_unit_char u ∷ utf16_lossy_chars us
 lossy_lone u us n = ap (map (λ o. unwrap_or o 0xFFFD)) (utf16_chars_lone u us n)
 
-pub lossy_pair : (u v : ℕ) (us : List ℕ) → IsSurrogatePair u v → utf16_lossy_chars (u ∷ v ∷ us) ≡ surrogate_pair_char u v ∷ utf16_lossy_chars us
+pub lossy_pair : (u v : ℕ) (us : List ℕ) → IsSurrogatePair u v
+    → utf16_lossy_chars (u ∷ v ∷ us) ≡ surrogate_pair_char u v ∷ utf16_lossy_chars us
 lossy_pair u v us p = ap (map (λ o. unwrap_or o 0xFFFD)) (utf16_chars_pair u v us p)
 
 true_or_false : (t : Bool) → (t ≡ true) ⊎ (t ≡ false)
@@ -31,9 +33,13 @@ true_or_false true = inl refl
 true_or_false false = inr refl
 
 lone_narrow : (u : ℕ) → u < 0x1_0000 → lossy_unit_char u < 0x1_0000
-lone_narrow u h = elim (true_or_false (nat_le 0xD800 u && nat_lt u 0xE000)) [ inl e ↦ rw e (omega arith) | inr e ↦ rw e h ]
+lone_narrow u h =
+    elim (true_or_false (nat_le 0xD800 u && nat_lt u 0xE000))
+    [ inl e ↦ rw e (omega arith) | inr e ↦ rw e h ]
 
-pub first_lone : (us : List ℕ) → 1 ≤ length us → get_or us 0 0 < 0x1_0000 → (IsSurrogatePair (get_or us 0 0) (get_or us 1 0) → ⊥) → IsFirstUtf16Char us (lossy_unit_char (get_or us 0 0)) 1
+pub first_lone : (us : List ℕ) → 1 ≤ length us → get_or us 0 0 < 0x1_0000
+    → (IsSurrogatePair (get_or us 0 0) (get_or us 1 0) → ⊥)
+    → IsFirstUtf16Char us (lossy_unit_char (get_or us 0 0)) 1
 first_lone [] h f n = absurd (omega arith)
 first_lone (u ∷ us) h f n = record {
   within = h;
@@ -41,7 +47,8 @@ first_lone (u ∷ us) h f n = record {
   width = sym (ap length (one_unit (lossy_unit_char u) (lone_narrow u f)));
 }
 
-pub first_pair : (us : List ℕ) → 2 ≤ length us → IsSurrogatePair (get_or us 0 0) (get_or us 1 0) → IsFirstUtf16Char us (surrogate_pair_char (get_or us 0 0) (get_or us 1 0)) 2
+pub first_pair : (us : List ℕ) → 2 ≤ length us → IsSurrogatePair (get_or us 0 0) (get_or us 1 0)
+    → IsFirstUtf16Char us (surrogate_pair_char (get_or us 0 0) (get_or us 1 0)) 2
 first_pair [] h p = absurd (omega arith)
 first_pair (u ∷ []) h p = absurd (omega arith)
 first_pair (u ∷ v ∷ us) h p = record {
@@ -59,7 +66,8 @@ decide_pair u v = elim (true_or_false (is_high_surrogate u && is_low_surrogate v
 abbrev pub AreUnits : List ℕ → Type 0
 AreUnits us = (i : ℕ) → get_or us i 0 < 0x1_0000
 
-step : (us : List ℕ) (c n : ℕ) → IsFirstUtf16Char us c n → length (drop n us) ≡ length (units_of_text encode_utf16 (utf16_lossy_chars (drop n us)))
+step : (us : List ℕ) (c n : ℕ) → IsFirstUtf16Char us c n
+    → length (drop n us) ≡ length (units_of_text encode_utf16 (utf16_lossy_chars (drop n us)))
     → length us ≡ length (units_of_text encode_utf16 (utf16_lossy_chars us))
 step us c n begins e =
     rw (begins.chars, length-append) (omega (arith, begins.within, begins.width, e, length-drop n us))

@@ -27,7 +27,8 @@ take_front (suc n) [] zs h = absurd (omega arith)
 take_front (suc n) (y ∷ ys) zs h = ap (λ t. y ∷ t) (take_front n ys zs (omega arith))
 
 -- the first units that are stored
-pub stored_front : (at n : ℕ) (old ys zs : List ℕ) → at ≤ length old → n ≤ length ys → take (at + n) (take at old ++ (ys ++ zs)) ≡ take at old ++ take n ys
+pub stored_front : (at n : ℕ) (old ys zs : List ℕ) → at ≤ length old → n ≤ length ys
+    → take (at + n) (take at old ++ (ys ++ zs)) ≡ take at old ++ take n ys
 stored_front at n old ys zs h k =
     let xs = take at old ++ (ys ++ zs) in
     let long = length-take-le at old h in
@@ -36,8 +37,10 @@ stored_front at n old ys zs h k =
     ∙ ap (λ z. take at old ++ take n z) (ap (λ m. drop m xs) (sym long) ∙ drop-append_seam (take at old) (ys ++ zs))
     ∙ ap (λ z. take at old ++ z) (take_front n ys zs k)
 
-pub stored_lanes : (at n : ℕ) (old ys : List ℕ) → at + length ys ≤ length old → n ≤ length ys → take (at + n) (put_chunk at old ys) ≡ take at old ++ take n ys
-stored_lanes at n old ys h k = ap (take (at + n)) (put_chunk_is at old ys h) ∙ stored_front at n old ys _ (omega arith) k
+pub stored_lanes : (at n : ℕ) (old ys : List ℕ) → at + length ys ≤ length old → n ≤ length ys
+    → take (at + n) (put_chunk at old ys) ≡ take at old ++ take n ys
+stored_lanes at n old ys h k =
+    ap (take (at + n)) (put_chunk_is at old ys h) ∙ stored_front at n old ys _ (omega arith) k
 
 -- the UTF-8 of a character (Unicode Standard 3.9, table 3-6)
 
@@ -45,11 +48,13 @@ pub utf8_two : (c : ℕ) → 128 ≤ c → c < 2048 → encode_utf8 c ≡ (192 +
 unfolding encode_utf8
 utf8_two c l h = rw (le-ltb c 128 l, lt-ltb c 2048 h) refl
 
-pub utf8_three : (c : ℕ) → 2048 ≤ c → c < 65536 → encode_utf8 c ≡ (224 + c / 4096) ∷ (128 + c / 64 % 64) ∷ (128 + c % 64) ∷ []
+pub utf8_three : (c : ℕ) → 2048 ≤ c → c < 65536
+    → encode_utf8 c ≡ (224 + c / 4096) ∷ (128 + c / 64 % 64) ∷ (128 + c % 64) ∷ []
 unfolding encode_utf8
 utf8_three c l h = rw (le-ltb c 128 (omega arith), le-ltb c 2048 l, lt-ltb c 65536 h) refl
 
-pub utf8_four : (c : ℕ) → 65536 ≤ c → encode_utf8 c ≡ (240 + c / 262144) ∷ (128 + c / 4096 % 64) ∷ (128 + c / 64 % 64) ∷ (128 + c % 64) ∷ []
+pub utf8_four : (c : ℕ) → 65536 ≤ c
+    → encode_utf8 c ≡ (240 + c / 262144) ∷ (128 + c / 4096 % 64) ∷ (128 + c / 64 % 64) ∷ (128 + c % 64) ∷ []
 unfolding encode_utf8
 utf8_four c l = rw (le-ltb c 128 (omega arith), le-ltb c 2048 (omega arith), le-ltb c 65536 l) refl
 
@@ -138,7 +143,8 @@ pub gathers_byte_unit : {Means : List ℕ → ℕ → Type 0} (src : List ℕ) (
     → IsByteUnit Means (get_or src (from + read) 0) unit → 0 < unit → unit < 0x1_0000 → from + read < length src
     → at + read < length buffer
     → GathersChars encode_utf16 Means (drop from src) read before (take (at + read) buffer)
-    → GathersChars encode_utf16 Means (drop from src) (read + 1) before (take (at + (read + 1)) (set buffer (at + read) unit))
+    → GathersChars encode_utf16 Means (drop from src) (read + 1) before
+    (take (at + (read + 1)) (set buffer (at + read) unit))
 gathers_byte_unit {Means} src from {read} at buffer {unit} u some basic inside room p =
     let rest = drop from src in
     let long : read < length rest = omega (arith, length-drop from src) in
@@ -155,14 +161,16 @@ gathers_byte_unit {Means} src from {read} at buffer {unit} u some basic inside r
 pub no_units : (Means : List ℕ → ℕ → Type 0) → AreByteUnits Means (replicate 256 0)
 no_units Means = (
   length-replicate {A = ℕ} 256 0,
-  λ byte none h. subst (IsByteUnit Means byte) (sym (get_or-replicate 256 byte 0 none h)) (record { bound = omega arith; char = λ l. absurd (omega arith) }),
+  λ byte none h. subst (IsByteUnit Means byte) (sym (get_or-replicate 256 byte 0 none h))
+      (record { bound = omega arith; char = λ l. absurd (omega arith) }),
 )
 
 -- no byte has a text
 pub no_texts : (Means : List ℕ → ℕ → Type 0) (text : Encoded) → text.len ≡ 0 → AreByteTexts Means (replicate 256 text)
 no_texts Means text e = (
   length-replicate 256 text,
-  λ byte none h. subst (IsByteText Means byte) (sym (get_or-replicate 256 byte text none h)) (record { bound = omega arith; char = λ l. absurd (omega arith) }),
+  λ byte none h. subst (IsByteText Means byte) (sym (get_or-replicate 256 byte text none h))
+      (record { bound = omega arith; char = λ l. absurd (omega arith) }),
 )
 
 -- gathered characters are put out

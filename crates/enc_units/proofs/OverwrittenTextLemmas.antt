@@ -33,7 +33,9 @@ between : (b : ℕ) → 0x80 ≤ b → b < 0xC0 → (nat_le 0x80 b && nat_lt b 0
 between b h k = grind (arith, nat_tests)
 
 nul_first : (z : List ℕ) → IsUtf8 z → IsUtf8 (0 ∷ z)
-nul_first z u = subst (λ x. IsUtf8 (x ++ z)) (encode_ascii 0 (omega arith)) (IsUtf8-append (encode_utf8 0) z (IsUtf8-encode 0 refl) u)
+nul_first z u =
+    subst (λ x. IsUtf8 (x ++ z)) (encode_ascii 0 (omega arith))
+    (IsUtf8-append (encode_utf8 0) z (IsUtf8-encode 0 refl) u)
 
 -- a byte that follows another in a character
 abbrev IsContinuation : ℕ → Type 0
@@ -140,7 +142,9 @@ rest_of (c ∷ cs) n are_scalars =
     ]
 
 -- the text that is written is well-formed with the bytes after it, once the rest of a character is made 00
-pub is_text : (bytes old : List ℕ) (n : ℕ) (text : List ℕ) → IsUtf8 old → AreScalars text → take n bytes ≡ units_of_text encode_utf8 text → drop n bytes ≡ without_continuations (drop n old) → IsUtf8 bytes
+pub is_text : (bytes old : List ℕ) (n : ℕ) (text : List ℕ) → IsUtf8 old → AreScalars text
+    → take n bytes ≡ units_of_text encode_utf8 text
+    → drop n bytes ≡ without_continuations (drop n old) → IsUtf8 bytes
 is_text bytes old n text utf8 s e f =
     subst IsUtf8 (take-append-drop n bytes)
     (IsUtf8-append (take n bytes) (drop n bytes) (text, (s, sym (their_units text) ∙ sym e))
@@ -180,7 +184,8 @@ next_rest zero (b ∷ new) x k = refl
 next_rest (suc end) [] x k = absurd (omega arith)
 next_rest (suc end) (b ∷ new) x k = next_rest end new x (omega arith)
 
-next_zero : (end : ℕ) (new : List ℕ) (x : ℕ) → end < length new → take (suc end) (set new end x) ≡ take end new ++ x ∷ []
+next_zero : (end : ℕ) (new : List ℕ) (x : ℕ) → end < length new
+    → take (suc end) (set new end x) ≡ take end new ++ x ∷ []
 next_zero zero [] x k = absurd (omega arith)
 next_zero zero (b ∷ new) x k = refl
 next_zero (suc end) [] x k = absurd (omega arith)
@@ -192,29 +197,36 @@ less_none n = omega arith
 less_both : (m n : ℕ) → suc m - suc n ≡ m - n
 less_both m n = omega arith
 
-next_done : (at end : ℕ) (new : List ℕ) (x : ℕ) → at ≤ end → end < length new → take (suc end - at) (drop at (set new end x)) ≡ take (end - at) (drop at new) ++ x ∷ []
+next_done : (at end : ℕ) (new : List ℕ) (x : ℕ) → at ≤ end → end < length new
+    → take (suc end - at) (drop at (set new end x)) ≡ take (end - at) (drop at new) ++ x ∷ []
 next_done zero end new x h k =
-    ap (λ m. take m (set new end x)) (less_none (suc end)) ∙ next_zero end new x k ∙ ap (λ m. take m new ++ x ∷ []) (sym (less_none end))
+    ap (λ m. take m (set new end x)) (less_none (suc end)) ∙ next_zero end new x k
+    ∙ ap (λ m. take m new ++ x ∷ []) (sym (less_none end))
 next_done (suc at) zero new x h k = absurd (omega arith)
 next_done (suc at) (suc end) [] x h k = absurd (omega arith)
 next_done (suc at) (suc end) (b ∷ new) x h k =
-    ap (λ m. take m (drop at (set new end x))) (less_both (suc end) at) ∙ next_done at end new x (omega arith) (omega arith) ∙ ap (λ m. take m (drop at new) ++ x ∷ []) (sym (less_both end at))
+    ap (λ m. take m (drop at (set new end x))) (less_both (suc end) at)
+    ∙ next_done at end new x (omega arith) (omega arith)
+    ∙ ap (λ m. take m (drop at new) ++ x ∷ []) (sym (less_both end at))
 
-same_byte : (end : ℕ) (old new : List ℕ) → length new ≡ length old → end < length old → drop end new ≡ drop end old → get_or new end 0 ≡ get_or old end 0
+same_byte : (end : ℕ) (old new : List ℕ) → length new ≡ length old → end < length old
+    → drop end new ≡ drop end old → get_or new end 0 ≡ get_or old end 0
 same_byte end old new l h e =
     first_same (sym (drop-cons new end 0 (omega arith)) ∙ e ∙ drop-cons old end 0 h)
   where
     first_same : {a b : ℕ} {x y : List ℕ} → a ∷ x ≡ b ∷ y → a ≡ b
     first_same f = cc
 
-same_rest : (end : ℕ) (old new : List ℕ) → length new ≡ length old → end < length old → drop end new ≡ drop end old → drop (suc end) new ≡ drop (suc end) old
+same_rest : (end : ℕ) (old new : List ℕ) → length new ≡ length old → end < length old
+    → drop end new ≡ drop end old → drop (suc end) new ≡ drop (suc end) old
 same_rest end old new l h e =
     rest_same (sym (drop-cons new end 0 (omega arith)) ∙ e ∙ drop-cons old end 0 h)
   where
     rest_same : {a b : ℕ} {x y : List ℕ} → a ∷ x ≡ b ∷ y → x ≡ y
     rest_same f = cc
 
-one_more : (at end : ℕ) (old new : List ℕ) → Cleared at end old new → end < length new → 0x80 ≤ get_or new end 0 → get_or new end 0 < 0xC0 → Cleared at (suc end) old (set new end 0)
+one_more : (at end : ℕ) (old new : List ℕ) → Cleared at end old new → end < length new
+    → 0x80 ≤ get_or new end 0 → get_or new end 0 < 0xC0 → Cleared at (suc end) old (set new end 0)
 one_more at end old new is_cleared has_next k l =
     let same = same_byte end old new is_cleared.len (omega (arith, is_cleared.len)) is_cleared.rest in
     let test = between (get_or old end 0) (omega arith) (omega arith) in
@@ -260,7 +272,8 @@ none_next {end = end} {old = old} {new = new} is_cleared h n =
     ap without_continuations (drop-cons old end 0 (omega (arith, is_cleared.len))) ∙ cond_no _ _ _ (no_rest n)
     ∙ sym (drop-cons old end 0 (omega (arith, is_cleared.len)))
   where
-    no_rest : (get_or new end 0 < 0x80) ⊎ (0xC0 ≤ get_or new end 0) → (nat_le 0x80 (get_or old end 0) && nat_lt (get_or old end 0) 0xC0) ≡ false
+    no_rest : (get_or new end 0 < 0x80) ⊎ (0xC0 ≤ get_or new end 0)
+        → (nat_le 0x80 (get_or old end 0) && nat_lt (get_or old end 0) 0xC0) ≡ false
     no_rest (inl l) =
         low (get_or old end 0) (omega (
           arith,

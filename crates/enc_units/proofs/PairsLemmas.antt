@@ -98,7 +98,9 @@ module _ (Means : List ℕ → ℕ → Type 0) (src : List ℕ) (from read next 
   rest_long = length-drop from src
 
   one_front : take 1 (drop read (drop from src)) ≡ first ∷ []
-  one_front = ap (take 1) (drop-cons (drop from src) read 0 (omega (arith, rest_long))) ∙ ap (λ b. b ∷ []) (get_or_drop from read src)
+  one_front =
+      ap (take 1) (drop-cons (drop from src) read 0 (omega (arith, rest_long)))
+      ∙ ap (λ b. b ∷ []) (get_or_drop from read src)
 
   two_front : take 2 (drop read (drop from src)) ≡ first ∷ second ∷ []
   two_front =

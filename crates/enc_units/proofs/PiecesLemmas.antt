@@ -14,18 +14,23 @@ use Rattle.enc_units.proofs.ScalarLemmas.{one_scalar, scalars-append, ascii_scal
 
 piece_bytes-append : (ps qs : List Piece) → piece_bytes (ps ++ qs) ≡ piece_bytes ps ++ piece_bytes qs
 piece_bytes-append [] qs = refl
-piece_bytes-append (p ∷ ps) qs = ap (λ z. p.bytes ++ z) (piece_bytes-append ps qs) ∙ sym (append_assoc p.bytes (piece_bytes ps) (piece_bytes qs))
+piece_bytes-append (p ∷ ps) qs =
+    ap (λ z. p.bytes ++ z) (piece_bytes-append ps qs)
+    ∙ sym (append_assoc p.bytes (piece_bytes ps) (piece_bytes qs))
 
 piece_chars-append : (ps qs : List Piece) → piece_chars (ps ++ qs) ≡ piece_chars ps ++ piece_chars qs
 piece_chars-append [] qs = refl
 piece_chars-append (p ∷ ps) qs = ap (λ z. p.char ∷ z) (piece_chars-append ps qs)
 
-pub units-append : (units_of : ℕ → List ℕ) (cs ds : List ℕ) → units_of_text units_of (cs ++ ds) ≡ units_of_text units_of cs ++ units_of_text units_of ds
+pub units-append : (units_of : ℕ → List ℕ) (cs ds : List ℕ)
+    → units_of_text units_of (cs ++ ds) ≡ units_of_text units_of cs ++ units_of_text units_of ds
 units-append units_of [] ds = refl
 units-append units_of (c ∷ cs) ds =
-    ap (λ t. units_of c ++ t) (units-append units_of cs ds) ∙ sym (append_assoc (units_of c) (units_of_text units_of cs) (units_of_text units_of ds))
+    ap (λ t. units_of c ++ t) (units-append units_of cs ds)
+    ∙ sym (append_assoc (units_of c) (units_of_text units_of cs) (units_of_text units_of ds))
 
-EachMeansChar-append : (Means : List ℕ → ℕ → Type 0) (ps qs : List Piece) → EachMeansChar Means ps → EachMeansChar Means qs → EachMeansChar Means (ps ++ qs)
+EachMeansChar-append : (Means : List ℕ → ℕ → Type 0) (ps qs : List Piece) → EachMeansChar Means ps
+    → EachMeansChar Means qs → EachMeansChar Means (ps ++ qs)
 EachMeansChar-append Means [] qs first_mean others_mean = others_mean
 EachMeansChar-append Means (p ∷ ps) qs first_mean others_mean =
     (first_mean.0, EachMeansChar-append Means ps qs first_mean.1 others_mean)
@@ -42,7 +47,9 @@ reads_none Means src = record {
 }
 
 -- more pieces are read after them
-pub reads_then : (Means : List ℕ → ℕ → Type 0) (src : List ℕ) (a n : ℕ) (s t : List ℕ) → ReadsPieces Means src a s → ReadsPieces Means (drop a src) n t → ReadsPieces Means src (a + n) (s ++ t)
+pub reads_then : (Means : List ℕ → ℕ → Type 0) (src : List ℕ) (a n : ℕ) (s t : List ℕ)
+    → ReadsPieces Means src a s → ReadsPieces Means (drop a src) n t
+    → ReadsPieces Means src (a + n) (s ++ t)
 reads_then Means src a n s t first then_more = record {
   pieces = first.pieces ++ then_more.pieces;
   within = omega (arith, first.within, then_more.within, length-drop a src);
@@ -55,7 +62,8 @@ reads_then Means src a n s t first then_more = record {
 }
 
 -- one piece is read
-pub reads_one : (Means : List ℕ → ℕ → Type 0) (src : List ℕ) (n c : ℕ) → 0 < n → n ≤ length src → Means (take n src) c → ReadsPieces Means src n (c ∷ [])
+pub reads_one : (Means : List ℕ → ℕ → Type 0) (src : List ℕ) (n c : ℕ) → 0 < n → n ≤ length src
+    → Means (take n src) c → ReadsPieces Means src n (c ∷ [])
 reads_one Means src n c h w m = record {
   pieces = record { bytes = take n src; char = c } ∷ [];
   within = w;
@@ -77,7 +85,8 @@ alone_chars : (bs : List ℕ) → piece_chars (alone bs) ≡ bs
 alone_chars [] = refl
 alone_chars (b ∷ bs) = ap (λ x. b ∷ x) (alone_chars bs)
 
-alone_mean : (Means : List ℕ → ℕ → Type 0) → ((b : ℕ) → b < 0x80 → Means (b ∷ []) b) → (bs : List ℕ) → AreAscii bs → EachMeansChar Means (alone bs)
+alone_mean : (Means : List ℕ → ℕ → Type 0) → ((b : ℕ) → b < 0x80 → Means (b ∷ []) b) → (bs : List ℕ)
+    → AreAscii bs → EachMeansChar Means (alone bs)
 alone_mean Means each_means [] are_ascii = tt
 alone_mean Means each_means (b ∷ bs) are_ascii = (
   each_means b (are_ascii 0 0 (omega arith)),
@@ -85,7 +94,8 @@ alone_mean Means each_means (b ∷ bs) are_ascii = (
 )
 
 -- ASCII bytes
-pub reads_ascii : (Means : List ℕ → ℕ → Type 0) (src : List ℕ) (n : ℕ) → ((b : ℕ) → b < 0x80 → Means (b ∷ []) b) → n ≤ length src → AreAscii (take n src)
+pub reads_ascii : (Means : List ℕ → ℕ → Type 0) (src : List ℕ) (n : ℕ)
+    → ((b : ℕ) → b < 0x80 → Means (b ∷ []) b) → n ≤ length src → AreAscii (take n src)
     → ReadsPieces Means src n (take n src)
 reads_ascii Means src n h w a = record {
   pieces = alone (take n src);
@@ -135,7 +145,8 @@ module _ {units_of : ℕ → List ℕ} {Means : List ℕ → ℕ → Type 0} {be
 
 -- ASCII bytes
 pub ascii_pieces : {units_of : ℕ → List ℕ} {Means : List ℕ → ℕ → Type 0} {before after : Output} {src : List ℕ} {n : ℕ}
-    → ((b : ℕ) → b < 0x80 → Means (b ∷ []) b) → PutsAscii units_of before after src n → PutsPieces units_of Means before after src n
+    → ((b : ℕ) → b < 0x80 → Means (b ∷ []) b) → PutsAscii units_of before after src n
+    → PutsPieces units_of Means before after src n
 ascii_pieces {Means = Means} {src = src} {n = n} h puts = record {
   text = take n src;
   scalars = ascii_scalars (take n src) puts.ascii;
@@ -147,7 +158,8 @@ ascii_pieces {Means = Means} {src = src} {n = n} h puts = record {
 -- one piece
 pub one_piece : {units_of : ℕ → List ℕ} {Means : List ℕ → ℕ → Type 0} {before after : Output} {src : List ℕ} {n : ℕ}
     (c : ℕ)
-    → 0 < n → n ≤ length src → IsScalar c → Means (take n src) c → nat_le (length (units_of c)) before.room ≡ true → after ≡ with_appended before (units_of c)
+    → 0 < n → n ≤ length src → IsScalar c → Means (take n src) c
+    → nat_le (length (units_of c)) before.room ≡ true → after ≡ with_appended before (units_of c)
     → PutsPieces units_of Means before after src n
 one_piece {units_of = units_of} {Means = Means} {before = before} {src = src} {n = n} c h w i m f e =
     let units = append-nil (units_of c) in
@@ -209,14 +221,17 @@ puts_same {units_of} means {before = before} {after = after} {src = src} {n = n}
 
 -- what the bytes mean by one reading, they mean by another
 
-EachMeansChar-weaker : (Means Other : List ℕ → ℕ → Type 0) → ((bytes : List ℕ) (c : ℕ) → Means bytes c → Other bytes c) → (ps : List Piece) → EachMeansChar Means ps
+EachMeansChar-weaker : (Means Other : List ℕ → ℕ → Type 0)
+    → ((bytes : List ℕ) (c : ℕ) → Means bytes c → Other bytes c) → (ps : List Piece)
+    → EachMeansChar Means ps
     → EachMeansChar Other ps
 EachMeansChar-weaker Means Other weaker [] mean = tt
 EachMeansChar-weaker Means Other weaker (p ∷ ps) mean =
     (weaker p.bytes p.char mean.0, EachMeansChar-weaker Means Other weaker ps mean.1)
 
 pub puts_as : (units_of : ℕ → List ℕ) (Means Other : List ℕ → ℕ → Type 0) (before after : Output) (src : List ℕ) (n : ℕ)
-    → ((bytes : List ℕ) (c : ℕ) → Means bytes c → Other bytes c) → PutsPieces units_of Means before after src n → PutsPieces units_of Other before after src n
+    → ((bytes : List ℕ) (c : ℕ) → Means bytes c → Other bytes c)
+    → PutsPieces units_of Means before after src n → PutsPieces units_of Other before after src n
 puts_as units_of Means Other before after src n h puts =
     let reads = puts.reads in
     record {

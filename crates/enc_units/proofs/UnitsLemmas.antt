@@ -22,7 +22,8 @@ scalar_range c h = grind (arith, nat_tests)
 pub one_unit : (c : ℕ) → c < 0x1_0000 → encode_utf16 c ≡ c ∷ []
 one_unit c h = rw (lt-ltb c 0x1_0000 h) refl
 
-pub two_units : (c : ℕ) → 0x1_0000 ≤ c → encode_utf16 c ≡ (0xD800 + (c - 0x1_0000) / 0x400) ∷ (0xDC00 + (c - 0x1_0000) % 0x400) ∷ []
+pub two_units : (c : ℕ) → 0x1_0000 ≤ c
+    → encode_utf16 c ≡ (0xD800 + (c - 0x1_0000) / 0x400) ∷ (0xDC00 + (c - 0x1_0000) % 0x400) ∷ []
 two_units c h = rw (le-ltb c 0x1_0000 h) refl
 
 first_same : {a b : ℕ} {x y : List ℕ} → a ∷ x ≡ b ∷ y → a ≡ b
@@ -45,7 +46,8 @@ same_pair : (c d : ℕ) → 0x1_0000 ≤ c → 0x1_0000 ≤ d → 0xD800 + (c - 
     → 0xDC00 + (c - 0x1_0000) % 0x400 ≡ 0xDC00 + (d - 0x1_0000) % 0x400 → c ≡ d
 same_pair c d l m e f = omega arith
 
-one_same : (c d : ℕ) (x y : List ℕ) → IsScalar c → IsScalar d → encode_utf16 c ++ x ≡ encode_utf16 d ++ y → (c ≡ d) × (x ≡ y)
+one_same : (c d : ℕ) (x y : List ℕ) → IsScalar c → IsScalar d
+    → encode_utf16 c ++ x ≡ encode_utf16 d ++ y → (c ≡ d) × (x ≡ y)
 one_same c d x y scalar also_scalar same_units = elim (cases_lt c 0x1_0000) [
   | inl one_unit_c ↦ elim (cases_lt d 0x1_0000) [
     | inl m ↦
@@ -96,7 +98,8 @@ alone c l s = elim (scalar_range c s) [
   | inr is_above ↦ rw (le-leb 0xD800 c (omega (arith, is_above.0)), le-ltb c 0xE000 is_above.0) refl
 ]
 
-lossy-cons : (o : Option ℕ) (os : List (Option ℕ)) → map (λ p. unwrap_or p 0xFFFD) (o ∷ os) ≡ unwrap_or o 0xFFFD ∷ map (λ p. unwrap_or p 0xFFFD) os
+lossy-cons : (o : Option ℕ) (os : List (Option ℕ))
+    → map (λ p. unwrap_or p 0xFFFD) (o ∷ os) ≡ unwrap_or o 0xFFFD ∷ map (λ p. unwrap_or p 0xFFFD) os
 lossy-cons o os = refl
 
 one_back : (c : ℕ) (us : List ℕ) → IsScalar c → utf16_lossy_chars (encode_utf16 c ++ us) ≡ c ∷ utf16_lossy_chars us
@@ -120,7 +123,8 @@ one_back c us scalar = elim (cases_lt c 0x1_0000) [
       ∙ ap (λ x. x ∷ utf16_lossy_chars us) (back c two_units_c)
 ]
   where
-    back : (c : ℕ) → 0x1_0000 ≤ c → surrogate_pair_char (0xD800 + (c - 0x1_0000) / 0x400) (0xDC00 + (c - 0x1_0000) % 0x400) ≡ c
+    back : (c : ℕ) → 0x1_0000 ≤ c
+        → surrogate_pair_char (0xD800 + (c - 0x1_0000) / 0x400) (0xDC00 + (c - 0x1_0000) % 0x400) ≡ c
     back c l = omega arith
 
 pub utf_16_read_back : (t : List ℕ) → AreScalars t → utf16_lossy_chars (units_of_text encode_utf16 t) ≡ t

@@ -3,7 +3,9 @@ use Rattle.enc_names.proofs.OrderLemmas.{by_length, by_byte_before}
 use Rattle.enc_names.proofs.search.compare.Goals as goal
 
 pub returns-then-label-word : goal.returns-then-label-word
-returns-then-label-word c = by_length _ _ _ c.type_inv.label c.type_inv.word c.if-label-word.true (ranked _ _ _ c.cmp.ensures)
+returns-then-label-word c =
+    by_length _ _ _ c.type_inv.label c.type_inv.word c.if-label-word.true
+    (ranked _ _ _ c.cmp.ensures)
 
 pub returns-then-label-at : goal.returns-then-label-at
 returns-then-label-at c =

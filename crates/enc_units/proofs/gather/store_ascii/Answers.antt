@@ -11,7 +11,8 @@ pub returns-clause-stored : goal.returns-clause-stored
 returns-clause-stored c =
     let ascii_count = c.ascii_in.result in
     let rest = drop c.args.from c.args.src.now in
-    let long : length (take 16 rest) ≡ 16 = omega (arith, length-take 16 rest, length-drop c.args.from c.args.src.now) in
+    let long : length (take 16 rest) ≡ 16 =
+    omega (arith, length-take 16 rest, length-drop c.args.from c.args.src.now) in
     stored_lanes c.args.at ascii_count c.args.buffer.now (take 16 rest) (omega arith)
     (omega (arith, c.ascii_in.ensures.bound))
     ∙ ap (λ z. take c.args.at c.args.buffer.now ++ z)

@@ -7,7 +7,9 @@ pub loop-count-init : goal.loop-count-init
 loop-count-init g c = (omega arith, refl, omega arith, omega arith, refl, gathers_nothing refl)
 
 pub overflow_sub-next : goal.overflow_sub-next
-overflow_sub-next g c = (goes_up _ _ (end_goes c.args.leads c.loop-count.count _ _ c.ends_of-ends.ensures c.loop-count-test.true c.loop-count.invariant.1)).0
+overflow_sub-next g c =
+    (goes_up _ _ (end_goes c.args.leads c.loop-count.count _ _ c.ends_of-ends.ensures c.loop-count-test.true
+    c.loop-count.invariant.1)).0
 
 pub loop-count-preserved : goal.loop-count-preserved
 loop-count-preserved g c =

@@ -30,12 +30,12 @@ loop-read-preserved c =
       gathered.within,
       omega (arith, invariant.1, gathered.few, gathered.some),
       gathered.len ∙ invariant.2,
-      writes_long src state.read next state.written end state.dst c.args.dst.now ys room many on invariant.4 invariant.5
-          invariant.6 more ∙ invariant.3,
-      writes_count src state.read next state.written end state.dst c.args.dst.now ys room many on invariant.4 invariant.5
-          invariant.6 more,
-      writes_more src state.read next state.written end state.dst c.args.dst.now ys room many on invariant.4 invariant.5
-          invariant.6 more,
-      writes_rest src state.read next state.written end state.dst c.args.dst.now ys room many on invariant.4 invariant.5
-          invariant.6 more,
+      writes_long src state.read next state.written end state.dst c.args.dst.now ys room many on
+          invariant.4 invariant.5 invariant.6 more ∙ invariant.3,
+      writes_count src state.read next state.written end state.dst c.args.dst.now ys room many on
+          invariant.4 invariant.5 invariant.6 more,
+      writes_more src state.read next state.written end state.dst c.args.dst.now ys room many on
+          invariant.4 invariant.5 invariant.6 more,
+      writes_rest src state.read next state.written end state.dst c.args.dst.now ys room many on
+          invariant.4 invariant.5 invariant.6 more,
     )

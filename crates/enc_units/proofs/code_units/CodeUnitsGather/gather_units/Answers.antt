@@ -12,7 +12,8 @@ loop-written-preserved-then-are_scalars g c =
     let both_scalars = and_parts _ _ c.if-are_scalars.true in
     let first_scalars = c.are_scalars.ensures in
     let more_scalars = c.are_scalars-in-loop-written.ensures in
-    let long = length-put_chunk (c.loop-written.written + 8) (put_chunk c.loop-written.written c.loop-written.buffer c.units_in-units.result) c.units_in-more.result
+    let long = length-put_chunk (c.loop-written.written + 8)
+    (put_chunk c.loop-written.written c.loop-written.buffer c.units_in-units.result) c.units_in-more.result
     ∙ length-put_chunk c.loop-written.written c.loop-written.buffer c.units_in-units.result in (
       omega (arith, long, invariant.0),
       omega arith,
