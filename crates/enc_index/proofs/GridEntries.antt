@@ -21,8 +21,8 @@ same_bytes-true [] (b ∷ bs) h = cc
 same_bytes-true (a ∷ rest) [] h = cc
 same_bytes-true (a ∷ rest) (b ∷ bs) h =
     let parts = and_parts (a == b) (same_bytes rest bs) h in
-    let e : a ≡ b = eqb-true a b parts.0 in
-    let f : rest ≡ bs = same_bytes-true rest bs parts.1 in
+    let same_first : a ≡ b = eqb-true a b parts.0 in
+    let same_rest : rest ≡ bs = same_bytes-true rest bs parts.1 in
     cc
 
 unfoldable pub is_word : ℕ → ℕ → Bool
@@ -52,10 +52,10 @@ pub unit_found : (character : Option ℕ) (unit : ℕ) → Found is_unit charact
 unfolding is_unit
 unit_found character unit found =
     let parts = and_parts (scalar found.0) (unit == found.0) found.2 in
-    let e : unit ≡ found.0 = eqb-true unit found.0 parts.1 in
+    let same_unit : unit ≡ found.0 = eqb-true unit found.0 parts.1 in
     let is : character ≡ Some found.0 = found.1 in
-    let scalar : IsScalar found.0 = parts.0 in
-    (cc, subst IsScalar (sym e) scalar)
+    let is_scalar : IsScalar found.0 = parts.0 in
+    (cc, subst IsScalar (sym same_unit) is_scalar)
 
 -- `unfolding grid_tests` opens the tests of grids
 unfoldable pub grid_tests : Unit {0}

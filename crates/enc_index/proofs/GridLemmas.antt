@@ -87,8 +87,9 @@ grid_char-of_empty grid r c l m =
           let is_past : grid_rows grid * grid_width grid ≤ r * grid_width grid = mul-le-mul_right (grid_width grid) l in
           grid_char-of_column grid r c low ∙ pointer_char-past grid (r * grid_width grid + c) (omega arith)
       | inr last ↦
-          let e : grid_width grid ≡ c = omega arith in
-          subst (λ k. grid_char grid (256 + r * (grid_width grid + 1) + k) ≡ None) e (grid_char-of_last grid r)
+          let is_last_column : grid_width grid ≡ c = omega arith in
+          subst (λ k. grid_char grid (256 + r * (grid_width grid + 1) + k) ≡ None) is_last_column
+          (grid_char-of_last grid r)
     ]
 
 -- the test of a grid, by the table of its index
@@ -107,9 +108,9 @@ module _ (kind : ℕ → ℕ → Bool) (grid : Grid) (ts gs : List ℕ)
 
   byte_found : (place : ℕ) → place < 256 → 0 < get_or gs place 0 → Found kind (grid_char grid place) (get_or gs place 0)
   byte_found place l some =
-      let e : 0 + place ≡ place = omega arith in
+      let same_place : 0 + place ≡ place = omega arith in
       let byte = places_ok-byte kind planes width ts gs 256 0 ok place l some in
-      let fits = subst (λ k. byte_ok kind k (get_or gs place 0) ≡ true) e byte in
+      let fits = subst (λ k. byte_ok kind k (get_or gs place 0) ≡ true) same_place byte in
       let found = byte_ok-found kind place (get_or gs place 0) fits some in
       (place, grid_char-of_ascii grid place found.0, found.1)
 
@@ -123,15 +124,20 @@ module _ (kind : ℕ → ℕ → Bool) (grid : Grid) (ts gs : List ℕ)
       let there : 0 < get_or (drop 256 gs) cell 0 = omega arith in
       elim (cases_lt c width) [
         | inl low ↦
-            let p : ℕ = r * width + c in
-            let t : ℕ = get_or ts p 0 in
-            let fits = rows_ok-at (entry_ok kind planes) width r (drop 256 gs) ts c cell p rows low refl refl there in
-            let entry = entry_ok-found kind planes t (get_or (drop 256 gs) cell 0) fits there in
+            let pointer : ℕ = r * width + c in
+            let code_point : ℕ = get_or ts pointer 0 in
+            let fits =
+            rows_ok-at (entry_ok kind planes) width r (drop 256 gs) ts c cell pointer rows low refl refl there in
+            let entry = entry_ok-found kind planes code_point (get_or (drop 256 gs) cell 0) fits there in
             let column = grid_char-of_column grid r c low in
-            let char = subst (λ k. grid_char grid k ≡ pointer_char grid p) (sym e) column in
-            (t, char ∙ sym (table p) ∙ entry.0, subst (λ g. kind t g ≡ true) here entry.1)
+            let char = subst (λ k. grid_char grid k ≡ pointer_char grid pointer) (sym e) column in (
+              code_point,
+              char ∙ sym (table pointer) ∙ entry.0,
+              subst (λ g. kind code_point g ≡ true) here entry.1,
+            )
         | inr high ↦
-            let z = rows_ok-last_of (entry_ok kind planes) width r (drop 256 gs) ts cell rows (omega arith) in
+            let unmapped =
+            rows_ok-last_of (entry_ok kind planes) width r (drop 256 gs) ts cell rows (omega arith) in
             absurd (omega arith)
       ]
 

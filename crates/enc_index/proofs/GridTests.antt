@@ -42,7 +42,8 @@ module _ (fits : ℕ → ℕ → Bool) (width : ℕ) where
   rows_ok-column [] left ts ok c l mapped = absurd (omega arith)
   rows_ok-column (g ∷ gs) zero ts ok c l mapped = absurd (omega arith)
   rows_ok-column (g ∷ gs) (suc left) [] ok zero l mapped =
-      let z : g ≡ 0 = eqb-true g 0 (and_parts (g == 0) (rows_ok gs left []) ok).0 in absurd (omega arith)
+      let unmapped : g ≡ 0 = eqb-true g 0 (and_parts (g == 0) (rows_ok gs left []) ok).0 in
+      absurd (omega arith)
   rows_ok-column (g ∷ gs) (suc left) [] ok (suc c) l mapped =
       rows_ok-column gs left [] (and_parts (g == 0) (rows_ok gs left []) ok).1 c (omega arith) mapped
   rows_ok-column (g ∷ gs) (suc left) (t ∷ ts) ok zero l mapped = (and_parts (fits t g) (rows_ok gs left ts) ok).0
@@ -66,7 +67,7 @@ module _ (fits : ℕ → ℕ → Bool) (width : ℕ) where
   rows_ok-last_of zero gs ts i ok e =
       ap (λ k. get_or gs k 0) (omega arith) ∙ rows_ok-last gs width ts ok
   rows_ok-last_of (suc r) gs ts i ok e =
-      let s = suc-mul r (suc width) in
+      let next_row = suc-mul r (suc width) in
       sym (after_drop (suc width) (r * suc width + width) i gs (omega arith))
       ∙ rows_ok-last_of r (drop (suc width) gs) (drop width ts) (r * suc width + width)
       (rows_ok-next gs width ts ok) refl
@@ -75,16 +76,16 @@ module _ (fits : ℕ → ℕ → Bool) (width : ℕ) where
       → i ≡ r * suc width + c → p ≡ r * width + c → 0 < get_or gs i 0 → fits (get_or ts p 0) (get_or gs i 0) ≡ true
   rows_ok-at zero gs ts c i p ok within e f some =
       let same_place : c ≡ i = omega arith in
-      let b : c ≡ p = omega arith in
-      subst (λ k. fits (get_or ts k 0) (get_or gs i 0) ≡ true) b
+      let same_pointer : c ≡ p = omega arith in
+      subst (λ k. fits (get_or ts k 0) (get_or gs i 0) ≡ true) same_pointer
       (subst (λ k. fits (get_or ts c 0) (get_or gs k 0) ≡ true) same_place
       (rows_ok-column gs width ts ok c within (subst (λ k. 0 < get_or gs k 0) (sym same_place) some)))
   rows_ok-at (suc r) gs ts c i p ok within e f some =
-      let s = suc-mul r (suc width) in
-      let t = suc-mul r width in
+      let next_row = suc-mul r (suc width) in
+      let next_table_row = suc-mul r width in
       let at_row = after_drop (suc width) (r * suc width + c) i gs (omega arith) in
-      let b = after_drop width (r * width + c) p ts (omega arith) in
-      subst (λ k. fits k (get_or gs i 0) ≡ true) b
+      let table_at_row = after_drop width (r * width + c) p ts (omega arith) in
+      subst (λ k. fits k (get_or gs i 0) ≡ true) table_at_row
       (subst (λ k. fits (get_or (drop width ts) (r * width + c) 0) k ≡ true) at_row
       (rows_ok-at r (drop (suc width) gs) (drop width ts) c (r * suc width + c) (r * width + c)
       (rows_ok-next gs width ts ok) within refl refl (subst (λ k. 0 < k) (sym at_row) some)))
@@ -110,12 +111,14 @@ module _ (kind : ℕ → ℕ → Bool) where
     places_ok-byte [] left b ok i l some = absurd (omega arith)
     places_ok-byte (g ∷ gs) zero b ok i l some = absurd (omega arith)
     places_ok-byte (g ∷ gs) (suc left) b ok zero l some =
-        let e : b ≡ b + 0 = omega arith in
-        subst (λ k. byte_ok k g ≡ true) e (and_parts (byte_ok b g) (places_ok planes width ts gs left (b + 1)) ok).0
+        let same_place : b ≡ b + 0 = omega arith in
+        subst (λ k. byte_ok k g ≡ true) same_place
+        (and_parts (byte_ok b g) (places_ok planes width ts gs left (b + 1)) ok).0
     places_ok-byte (g ∷ gs) (suc left) b ok (suc i) l some =
-        let e : b + 1 + i ≡ b + suc i = omega arith in
+        let same_place : b + 1 + i ≡ b + suc i = omega arith in
         let rest = (and_parts (byte_ok b g) (places_ok planes width ts gs left (b + 1)) ok).1 in
-        subst (λ k. byte_ok k (get_or gs i 0) ≡ true) e (places_ok-byte gs left (b + 1) rest i (omega arith) some)
+        subst (λ k. byte_ok k (get_or gs i 0) ≡ true) same_place
+        (places_ok-byte gs left (b + 1) rest i (omega arith) some)
 
     pub places_ok-rows : (gs : List ℕ) (left b : ℕ) → places_ok planes width ts gs left b ≡ true
         → rows_ok (entry_ok planes) width (drop left gs) width ts ≡ true

@@ -88,21 +88,26 @@ module _ (grid : Grid) (is_lead is_trail : ℕ → Bool) (row extra column : ℕ
     pub trail : is_trail b ≡ true
     pub is : pointer_char grid ((row a + extra b) * grid_width grid + column b) ≡ Some c
 
-  pub found : (a b c place : ℕ) → place ≡ row_place a + column_place b → (is_trail b ≡ true → column b < grid_width grid)
+  pub found : (a b c place : ℕ) → place ≡ row_place a + column_place b
+      → (is_trail b ≡ true → column b < grid_width grid)
       → grid_char grid place ≡ Some c → Found a b c
   found a b c place e small g =
-      let r = cond (is_lead a) (row a) (grid_rows grid) in
-      let k = cond (is_trail b) (column b) (grid_width grid) in
-      let at : place ≡ 256 + (r + extra b) * (grid_width grid + 1) + k = omega arith in
-      let row_and_column = stands grid (r + extra b) k c (bounded (is_trail b) small)
+      let chosen_row = cond (is_lead a) (row a) (grid_rows grid) in
+      let chosen_column = cond (is_trail b) (column b) (grid_width grid) in
+      let at : place ≡ 256 + (chosen_row + extra b) * (grid_width grid + 1) + chosen_column =
+      omega arith in
+      let row_and_column = stands grid (chosen_row + extra b) chosen_column c (bounded (is_trail b) small)
       (ap (grid_char grid) (sym at) ∙ g) in
       let lead = below (is_lead a) (row a) (grid_rows grid) (omega (arith, row_and_column.in_rows)) in
       let trail = below (is_trail b) (column b) (grid_width grid) row_and_column.in_columns in
       record {
         lead = lead;
         trail = trail;
-        is = sym (ap (λ p. pointer_char grid p) (ap (λ x. (x + extra b) * grid_width grid + k) (cond-true _ _ _ lead)
-            ∙ ap (λ x. (row a + extra b) * grid_width grid + x) (cond-true _ _ _ trail))) ∙ row_and_column.is;
+        is =
+            sym (ap (λ p. pointer_char grid p)
+            (ap (λ x. (x + extra b) * grid_width grid + chosen_column) (cond-true _ _ _ lead)
+            ∙ ap (λ x. (row a + extra b) * grid_width grid + x) (cond-true _ _ _ trail)))
+            ∙ row_and_column.is;
       }
     where
       bounded : (t : Bool) → (t ≡ true → column b < grid_width grid)

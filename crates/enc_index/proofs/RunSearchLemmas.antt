@@ -29,7 +29,7 @@ ascending_parts bound run runs h =
 -- each run of an ascending list begins at the bound or after it, and ends where it begins or after that
 above : (bound : ℕ) (runs : List Run) → are_ascending_runs bound runs ≡ true → (i : ℕ) → i < length runs
     → (bound ≤ (get_or runs i no_run).0) × ((get_or runs i no_run).0 ≤ (get_or runs i no_run).1)
-above bound [] runs_ascend i k = absurd (let e : ⊥ = omega arith in e)
+above bound [] runs_ascend i k = absurd (let contradiction : ⊥ = omega arith in contradiction)
 above bound (run ∷ runs) runs_ascend zero k =
     let parts = ascending_parts bound run runs runs_ascend in (parts.0, parts.1)
 above bound (run ∷ runs) runs_ascend (suc i) k =
@@ -40,10 +40,12 @@ above bound (run ∷ runs) runs_ascend (suc i) k =
 -- a run ends before any later one begins
 later : (bound : ℕ) (runs : List Run) → are_ascending_runs bound runs ≡ true → (i j : ℕ) → i < j → j < length runs
     → (get_or runs i no_run).1 < (get_or runs j no_run).0
-later bound [] runs_ascend i j k m = absurd (let e : ⊥ = omega arith in e)
-later bound (run ∷ runs) runs_ascend i zero k m = absurd (let e : ⊥ = omega arith in e)
+later bound [] runs_ascend i j k m = absurd (let contradiction : ⊥ = omega arith in contradiction)
+later bound (run ∷ runs) runs_ascend i zero k m =
+    absurd (let contradiction : ⊥ = omega arith in contradiction)
 later bound (run ∷ runs) runs_ascend zero (suc j) k m =
-    let t = above (run.1 + 1) runs (ascending_parts bound run runs runs_ascend).2 j (omega arith) in omega (arith, t.0)
+    let bounds = above (run.1 + 1) runs (ascending_parts bound run runs runs_ascend).2 j (omega arith) in
+    omega (arith, bounds.0)
 later bound (run ∷ runs) runs_ascend (suc i) (suc j) k m =
     later (run.1 + 1) runs (ascending_parts bound run runs runs_ascend).2 i j (omega arith) (omega arith)
 
@@ -58,14 +60,16 @@ outside run n (inr h) = and_left _ _ (lt-leb run.0 n h)
 found : (runs : List Run) (n i : ℕ) → i < length runs → ((j : ℕ) → j < i → (get_or runs j no_run).1 < n)
     → (get_or runs i no_run).0 ≤ n → n ≤ (get_or runs i no_run).1
     → run_with_pointer runs n ≡ Some (get_or runs i no_run)
-found [] n i k all_before begins ends = absurd (let e : ⊥ = omega arith in e)
+found [] n i k all_before begins ends =
+    absurd (let contradiction : ⊥ = omega arith in contradiction)
 found (run ∷ runs) n zero k all_before begins ends = rw (le-leb run.0 n begins, le-leb n run.1 ends) refl
 found (run ∷ runs) n (suc i) k all_before begins ends =
     rw (past run n (all_before 0 (omega arith)))
     (found runs n i (omega arith) (λ j m. all_before (suc j) (omega arith)) begins ends)
 
 missing : (runs : List Run) (n : ℕ)
-    → ((j : ℕ) → j < length runs → ((get_or runs j no_run).1 < n) ⊎ (n < (get_or runs j no_run).0)) → run_with_pointer runs n ≡ None
+    → ((j : ℕ) → j < length runs → ((get_or runs j no_run).1 < n) ⊎ (n < (get_or runs j no_run).0))
+    → run_with_pointer runs n ≡ None
 missing [] n each_outside = refl
 missing (run ∷ runs) n each_outside =
     rw (outside run n (each_outside 0 (omega arith))) (missing runs n (λ j m. each_outside (suc j) (omega arith)))
@@ -80,24 +84,26 @@ two : (i n : ℕ) → (i < n) ⊎ (n ≤ i)
 two i n = grind arith
 
 -- the halves, at a run in the middle
-module _ (runs : List Run) (runs_ascend : are_ascending_runs 0 runs ≡ true) (n low high middle : ℕ)
+module _ {runs : List Run} (runs_ascend : are_ascending_runs 0 runs ≡ true) {n low high : ℕ} (middle : ℕ)
     (halving : Halving runs n low high)
     (l : low ≤ middle) (u : middle < high) where
   here : middle < length runs
   here = omega (arith, halving.range)
 
-  up_to : (get_or runs middle no_run).1 < n → (i : ℕ) → i < middle + 1 → (i < middle) ⊎ (i ≡ middle) → (get_or runs i no_run).1 < n
+  up_to : (get_or runs middle no_run).1 < n → (i : ℕ) → i < middle + 1 → (i < middle) ⊎ (i ≡ middle)
+      → (get_or runs i no_run).1 < n
   up_to ends_before i k (inl m) =
-      let t = later 0 runs runs_ascend i middle m here in
-      let v = (above 0 runs runs_ascend middle here).1 in
-      omega (arith, t, v, ends_before)
+      let before_middle = later 0 runs runs_ascend i middle m here in
+      let middle_in_order = (above 0 runs runs_ascend middle here).1 in
+      omega (arith, before_middle, middle_in_order, ends_before)
   up_to ends_before i k (inr m) = rw m ends_before
 
-  from : n < (get_or runs middle no_run).0 → (i : ℕ) → middle ≤ i → i < length runs → (middle < i) ⊎ (middle ≡ i) → n < (get_or runs i no_run).0
+  from : n < (get_or runs middle no_run).0 → (i : ℕ) → middle ≤ i → i < length runs
+      → (middle < i) ⊎ (middle ≡ i) → n < (get_or runs i no_run).0
   from begins_after i k m (inl o) =
-      let t = later 0 runs runs_ascend middle i o m in
-      let v = (above 0 runs runs_ascend middle here).1 in
-      omega (arith, t, v, begins_after)
+      let after_middle = later 0 runs runs_ascend middle i o m in
+      let middle_in_order = (above 0 runs runs_ascend middle here).1 in
+      omega (arith, after_middle, middle_in_order, begins_after)
   from begins_after i k m (inr o) = rw (← o) begins_after
 
   pub right : (get_or runs middle no_run).1 < n → Halving runs n (middle + 1) high
@@ -118,12 +124,15 @@ module _ (runs : List Run) (runs_ascend : are_ascending_runs 0 runs ≡ true) (n
         after = λ i is_outside m. from e i is_outside m (over middle i is_outside);
       }
 
-  pub hit : (get_or runs middle no_run).0 ≤ n → n ≤ (get_or runs middle no_run).1 → run_with_pointer runs n ≡ Some (get_or runs middle no_run)
+  pub hit : (get_or runs middle no_run).0 ≤ n → n ≤ (get_or runs middle no_run).1
+      → run_with_pointer runs n ≡ Some (get_or runs middle no_run)
   hit begins f =
-      found runs n middle here (λ j k. let t = later 0 runs runs_ascend j middle k here in omega (arith, t, begins))
+      found runs n middle here
+      (λ j k. let before_middle = later 0 runs runs_ascend j middle k here in omega (arith, before_middle, begins))
       begins f
 
-pub nothing : (runs : List Run) (n low high : ℕ) → high ≤ low → Halving runs n low high → run_with_pointer runs n ≡ None
-nothing runs n low high g halving =
+pub nothing : {runs : List Run} {n low high : ℕ} → high ≤ low → Halving runs n low high
+    → run_with_pointer runs n ≡ None
+nothing {runs} {n} {low} g halving =
     missing runs n (λ j k. ⊎_elim (λ m. inl (halving.before j m)) (λ m. inr (halving.after j (omega arith) k))
     (two j low))

@@ -58,7 +58,8 @@ module _ (planes : Planes) where
   index_at-within r rs q low high = cond-true _ _ _ (and_from _ _ (le-leb r.0 q low) (le-leb q r.1 high))
 
   -- no run of an ascending list has a pointer below its first
-  pub index_at-below : (low : ℕ) (rs : List Run) (q : ℕ) → are_ascending_runs low rs ≡ true → q < low → index_at planes rs q ≡ None
+  pub index_at-below : (low : ℕ) (rs : List Run) (q : ℕ) → are_ascending_runs low rs ≡ true
+      → q < low → index_at planes rs q ≡ None
   index_at-below low [] q h lt = refl
   index_at-below low (r ∷ rs) q h lt =
       let parts = ascending_parts low r rs h in
@@ -77,7 +78,8 @@ module _ (planes : Planes) where
   at_suc : (runs : List Run) (p i : ℕ) → index_at planes runs (p + 1 + i) ≡ index_at planes runs (p + suc i)
   at_suc runs p i = ap (index_at planes runs) (omega arith)
 
-  entry_character-head : (t : ℕ) (ts : List ℕ) (p : ℕ) (r : Run) (rs : List Run) → Going p (r ∷ rs) → table_ok p (r ∷ rs) (t ∷ ts) ≡ true
+  entry_character-head : (t : ℕ) (ts : List ℕ) (p : ℕ) (r : Run) (rs : List Run) → Going p (r ∷ rs)
+      → table_ok p (r ∷ rs) (t ∷ ts) ≡ true
       → entry_character planes t ≡ index_at planes (r ∷ rs) p
   entry_character-head t ts p r rs going ok =
       elim (cases_lt p r.0) [
@@ -128,4 +130,6 @@ module _ (planes : Planes) where
   pub table_ok-true : (runs : List Run) (table : List ℕ) → are_ascending_runs 0 runs ≡ true
       → table_ok 0 runs table ≡ true
       → (p : ℕ) → entry_character planes (get_or table p 0) ≡ index_at planes runs p
-  table_ok-true runs table up ok p = entry_character-index_at table 0 runs (ascending-going 0 runs up) ok p ∙ ap (index_at planes runs) (omega arith)
+  table_ok-true runs table up ok p =
+      entry_character-index_at table 0 runs (ascending-going 0 runs up) ok p
+      ∙ ap (index_at planes runs) (omega arith)

@@ -12,7 +12,8 @@ module _ (test : ℕ → Bool) where
       ap (λ o. pointer_or o (cond (test n) (Some n) None)) (first_below-None n (λ q l. none_below q (omega arith)))
       ∙ cond-false _ _ _ (none_below n (omega arith))
 
-  pub first_below-Some : (n p : ℕ) → p < n → test p ≡ true → ((q : ℕ) → q < p → test q ≡ false) → first_below test n ≡ Some p
+  pub first_below-Some : (n p : ℕ) → p < n → test p ≡ true → ((q : ℕ) → q < p → test q ≡ false)
+      → first_below test n ≡ Some p
   unfolding first_below
   first_below-Some zero p l passes none_below = absurd (omega arith)
   first_below-Some (suc n) p l passes none_below =
@@ -32,7 +33,8 @@ module _ (test : ℕ → Bool) where
   last_below-None (suc n) none_below =
       cond-false _ _ _ (none_below n (omega arith)) ∙ last_below-None n (λ q l. none_below q (omega arith))
 
-  pub last_below-Some : (n p : ℕ) → p < n → test p ≡ true → ((q : ℕ) → p < q → q < n → test q ≡ false) → last_below test n ≡ Some p
+  pub last_below-Some : (n p : ℕ) → p < n → test p ≡ true
+      → ((q : ℕ) → p < q → q < n → test q ≡ false) → last_below test n ≡ Some p
   unfolding last_below
   last_below-Some zero p l passes none_above = absurd (omega arith)
   last_below-Some (suc n) p l passes none_above =

@@ -51,14 +51,15 @@ module _ (planes : Planes) (counts is_by_last : ℕ → Bool) (bound : ℕ) wher
   -- whether the pointer in a place of the pages is one of the character, if there is a pointer
   unfoldable pub place_ok : ℕ → Tree → ℕ → Tree → ℕ → ℕ → Bool
   place_ok n table m pointers place c =
-      let q = look 0xFFFF m pointers place in
-      let right = counts q && is_character c (entry_character planes (look 0 n table q)) in
-      cond (nat_lt q bound) right true
+      let pointer = look 0xFFFF m pointers place in
+      let right = counts pointer && is_character c (entry_character planes (look 0 n table pointer)) in
+      cond (nat_lt pointer bound) right true
 
   -- whether a page has only pointers of its characters, and page 0 none
   unfoldable pub page_ok : ℕ → Tree → ℕ → Tree → ℕ → ℕ → Bool
   page_ok n table m pointers k page =
-      let each = all_below (λ j. place_ok n table m pointers (page * 64 + j) (k * 64 + j)) 64 in cond (nat_lt 0 page) each true
+      let each = all_below (λ j. place_ok n table m pointers (page * 64 + j) (k * 64 + j)) 64 in
+      cond (nat_lt 0 page) each true
 
   unfoldable pub blank_ok : ℕ → Tree → Bool
   blank_ok m pointers = all_below (λ j. nat_le bound (look 0xFFFF m pointers j)) 64
@@ -69,9 +70,9 @@ module _ (planes : Planes) (counts is_by_last : ℕ → Bool) (bound : ℕ) wher
   -- whether the pages have no later pointer than p for its code point, or none before where the last counts
   unfoldable pub entry_ok : ℕ → Tree → ℕ → Tree → ℕ → ℕ → ℕ → Bool
   entry_ok k page_of m pointers length p t =
-      let q = number_in_tree k page_of m pointers length t in
-      let last = nat_le p q && nat_lt q bound in
-      let each = cond (is_by_last t) last (nat_le q p) in
+      let pointer = number_in_tree k page_of m pointers length t in
+      let last = nat_le p pointer && nat_lt pointer bound in
+      let each = cond (is_by_last t) last (nat_le pointer p) in
       cond (nat_lt p bound && (counts p && is_entry_code_point planes t)) each true
 
   -- the sizes, and that each pointer that the pages have is one of the character's
@@ -139,18 +140,20 @@ module _ (planes : Planes) (counts is_by_last : ℕ → Bool) (bound : ℕ) wher
     unfolding number_in_tree
     in_tree-in_pages c =
         look-plant 0xFFFF m pointers _ parts.few_pointers
-        ∙ ap (λ x. get_or pointers (x * 64 + c % 64) 0xFFFF) (look-plant (length pointers) k page_of (c / 64) parts.few_pages)
+        ∙ ap (λ x. get_or pointers (x * 64 + c % 64) 0xFFFF)
+        (look-plant (length pointers) k page_of (c / 64) parts.few_pages)
 
     -- a pointer that the pages give is one of the character
     sound_page : (c page : ℕ) → page_ok n table_tree m pointer_tree (c / 64) page ≡ true
-        → get_or pointers (page * 64 + c % 64) 0xFFFF < bound → test c (get_or pointers (page * 64 + c % 64) 0xFFFF) ≡ true
+        → get_or pointers (page * 64 + c % 64) 0xFFFF < bound
+        → test c (get_or pointers (page * 64 + c % 64) 0xFFFF) ≡ true
     unfolding page_ok place_ok blank_ok
     sound_page c page h below_bound =
-        let q = get_or pointers (page * 64 + c % 64) 0xFFFF in
+        let pointer = get_or pointers (page * 64 + c % 64) 0xFFFF in
         elim (cases_lt 0 page) [
           | inl some ↦
               let looked = look-plant 0xFFFF m pointers (page * 64 + c % 64) parts.few_pointers in
-              let d = c / 64 * 64 + c % 64 in
+              let rebuilt = c / 64 * 64 + c % 64 in
               let back : c / 64 * 64 + c % 64 ≡ c = omega arith in
               let within : look 0xFFFF m pointer_tree (page * 64 + c % 64) < bound =
               omega (arith, looked, below_bound) in
@@ -159,11 +162,12 @@ module _ (planes : Planes) (counts is_by_last : ℕ → Bool) (bound : ℕ) wher
               (sym (cond-true _ _ _ (lt-ltb 0 page some)) ∙ h) (omega arith) in
               let right = sym (cond-true _ _ _ (lt-ltb _ _ within)) ∙ place in
               let at_pointer = subst
-              (λ x. (counts x && is_character d (entry_character planes (look 0 n table_tree x))) ≡ true) looked right in
+              (λ x. (counts x && is_character rebuilt (entry_character planes (look 0 n table_tree x))) ≡ true)
+              looked right in
               let at_table = subst
-              (λ y. (counts q && is_character d (entry_character planes y)) ≡ true)
-              (look-plant 0 n table q parts.few_entries) at_pointer in
-              subst (λ e. test e q ≡ true) back at_table
+              (λ y. (counts pointer && is_character rebuilt (entry_character planes y)) ≡ true)
+              (look-plant 0 n table pointer parts.few_entries) at_pointer in
+              subst (λ e. test e pointer ≡ true) back at_table
           | inr blank ↦
               let place : page * 64 + c % 64 ≡ c % 64 = omega arith in
               let same = ap (λ x. get_or pointers x 0xFFFF) place in
@@ -179,7 +183,8 @@ module _ (planes : Planes) (counts is_by_last : ℕ → Bool) (bound : ℕ) wher
           | inl within ↦
               let first : 0 + c / 64 ≡ c / 64 = omega arith in
               sound_page c _
-              (subst (λ x. page_ok n table_tree m pointer_tree x (get_or page_of (c / 64) (length pointers)) ≡ true) first
+              (subst (λ x. page_ok n table_tree m pointer_tree x
+              (get_or page_of (c / 64) (length pointers)) ≡ true) first
               (all_at-at _ (length pointers) 0 page_of (c / 64) parts.pages within)) l
           | inr beyond ↦
               let page = get_or-past page_of (c / 64) (length pointers) beyond in
@@ -201,7 +206,8 @@ module _ (planes : Planes) (counts is_by_last : ℕ → Bool) (bound : ℕ) wher
           | inl within ↦ within
           | inr beyond ↦
               let has = (and_parts _ _ h).1 in
-              let none = subst (λ x. is_character c (entry_character planes x) ≡ true) (get_or-past table p 0 beyond) has in
+              let none =
+              subst (λ x. is_character c (entry_character planes x) ≡ true) (get_or-past table p 0 beyond) has in
               absurd (true≢false (sym none))
         ]
 
@@ -209,15 +215,20 @@ module _ (planes : Planes) (counts is_by_last : ℕ → Bool) (bound : ℕ) wher
         → cond (is_by_last c) (nat_le p (in_pages c) && nat_lt (in_pages c) bound) (nat_le (in_pages c) p) ≡ true
     unfolding entry_ok
     complete c p l passes =
-        let t = get_or table p 0 in
+        let code_point = get_or table p 0 in
         let hit = and_parts (counts p) (is_character c (at p)) passes in
-        let entry = is_character-entry c t hit.1 in
+        let entry = is_character-entry c code_point hit.1 in
         let first : 0 + p ≡ p = omega arith in
-        let passes = subst (λ x. entry_ok k page_tree m pointer_tree (length pointers) x t ≡ true) first
+        let entry_passes =
+        subst (λ x. entry_ok k page_tree m pointer_tree (length pointers) x code_point ≡ true) first
         (all_at-at _ 0 0 table p parts.entries (listed c p passes)) in
-        let each = sym (cond-true _ _ _ (and_from _ _ (lt-ltb p bound l) (and_from _ _ hit.0 entry.0))) ∙ passes in
-        let paged_each = subst (λ q. cond (is_by_last t) (nat_le p q && nat_lt q bound) (nat_le q p) ≡ true) (in_tree-in_pages t) each in
-        subst (λ u. cond (is_by_last u) (nat_le p (in_pages u) && nat_lt (in_pages u) bound) (nat_le (in_pages u) p) ≡ true)
+        let each =
+        sym (cond-true _ _ _ (and_from _ _ (lt-ltb p bound l) (and_from _ _ hit.0 entry.0))) ∙ entry_passes in
+        let paged_each =
+        subst (λ q. cond (is_by_last code_point) (nat_le p q && nat_lt q bound) (nat_le q p) ≡ true)
+        (in_tree-in_pages code_point) each in
+        subst (λ u. cond (is_by_last u) (nat_le p (in_pages u) && nat_lt (in_pages u) bound)
+        (nat_le (in_pages u) p) ≡ true)
         entry.1 paged_each
 
     not_first : (c p : ℕ) → is_by_last c ≡ false → p < bound → test c p ≡ true → in_pages c ≤ p
@@ -225,7 +236,8 @@ module _ (planes : Planes) (counts is_by_last : ℕ → Bool) (bound : ℕ) wher
 
     not_last : (c p : ℕ) → is_by_last c ≡ true → p < bound → test c p ≡ true → (p ≤ in_pages c) × (in_pages c < bound)
     not_last c p b l h =
-        let both = and_parts _ _ (sym (cond-true _ _ _ b) ∙ complete c p l h) in (leb-true _ _ both.0, ltb-true _ _ both.1)
+        let both = and_parts _ _ (sym (cond-true _ _ _ b) ∙ complete c p l h) in
+        (leb-true _ _ both.0, ltb-true _ _ both.1)
 
     by_first : (c : ℕ) → is_by_last c ≡ false → pointer_in_pages page_of pointers bound c ≡ first_below (test c) bound
     by_first c not_by_last =
@@ -234,12 +246,13 @@ module _ (planes : Planes) (counts is_by_last : ℕ → Bool) (bound : ℕ) wher
               cond-true _ _ _ (lt-ltb _ _ within)
               ∙ sym (first_below-Some (test c) bound (in_pages c) within (sound c within)
               (λ p l. false_from_ne_true (test c p)
-              (λ h. let t = not_first c p not_by_last (omega arith) h in let e : ⊥ = omega (arith, t) in e)))
+              (λ h. let no_earlier = not_first c p not_by_last (omega arith) h in
+              let contradiction : ⊥ = omega (arith, no_earlier) in contradiction)))
           | inr beyond ↦
               cond-false _ _ _ (le-ltb _ _ beyond)
               ∙ sym (first_below-None (test c) bound
-              (λ p l. false_from_ne_true (test c p) (λ h. let t = not_first c p not_by_last l h in
-              let e : ⊥ = omega (arith, t) in e)))
+              (λ p l. false_from_ne_true (test c p) (λ h. let no_earlier = not_first c p not_by_last l h in
+              let contradiction : ⊥ = omega (arith, no_earlier) in contradiction)))
         ]
 
     by_latest : (c : ℕ) → is_by_last c ≡ true → pointer_in_pages page_of pointers bound c ≡ last_below (test c) bound
@@ -249,12 +262,14 @@ module _ (planes : Planes) (counts is_by_last : ℕ → Bool) (bound : ℕ) wher
               cond-true _ _ _ (lt-ltb _ _ within)
               ∙ sym (last_below-Some (test c) bound (in_pages c) within (sound c within)
               (λ p l m. false_from_ne_true (test c p)
-              (λ h. let t = not_last c p by_last m h in let u = t.0 in let e : ⊥ = omega (arith, u) in e)))
+              (λ h. let bounds = not_last c p by_last m h in let not_later = bounds.0 in
+              let contradiction : ⊥ = omega (arith, not_later) in contradiction)))
           | inr beyond ↦
               cond-false _ _ _ (le-ltb _ _ beyond)
               ∙ sym (last_below-None (test c) bound
               (λ p l. false_from_ne_true (test c p)
-              (λ h. let t = not_last c p by_last l h in let u = t.1 in let e : ⊥ = omega (arith, u) in e)))
+              (λ h. let bounds = not_last c p by_last l h in let below_bound = bounds.1 in
+              let contradiction : ⊥ = omega (arith, below_bound) in contradiction)))
         ]
 
     of_table : (c : ℕ) → pointer_in_pages page_of pointers bound c ≡ pointer_of at counts is_by_last bound c

@@ -25,9 +25,12 @@ by_code_point (run ∷ runs) =
 -- whether a run has code points that an entry can have, and pointers that count, or just 7457
 unfoldable pub is_range : Run → Bool
 is_range run =
-    (nat_lt 0 run.2 && (nat_lt (run.2 + (run.1 - run.0)) 0xD800 || (nat_le 0xE000 run.2 && nat_le (run.2 + (run.1 - run.0)) 0x10FFFF)))
+    (nat_lt 0 run.2 &&
+    (nat_lt (run.2 + (run.1 - run.0)) 0xD800 ||
+    (nat_le 0xE000 run.2 && nat_le (run.2 + (run.1 - run.0)) 0x10FFFF)))
     && ((run.0 == 7457 && run.1 == 7457)
-    || ((nat_lt run.1 7457 || nat_lt 7457 run.0) && ((nat_le run.1 39419 || nat_le 189000 run.0) && nat_lt run.1 1237576)))
+    || ((nat_lt run.1 7457 || nat_lt 7457 run.0) &&
+    ((nat_le run.1 39419 || nat_le 189000 run.0) && nat_lt run.1 1237576)))
 
 unfoldable pub are_ranges : List Run → Bool
 are_ranges [] = true
@@ -55,11 +58,13 @@ by_test : (b : Bool) → (b ≡ true) ⊎ (b ≡ false)
 by_test true = inl refl
 by_test false = inr refl
 
-by_code_point-alone : (run : Run) (runs : List Run) → (run.0 == 7457) ≡ true → by_code_point (run ∷ runs) ≡ by_code_point runs
+by_code_point-alone : (run : Run) (runs : List Run) → (run.0 == 7457) ≡ true
+    → by_code_point (run ∷ runs) ≡ by_code_point runs
 unfolding by_code_point
 by_code_point-alone run runs h = cond-true _ _ _ h
 
-by_code_point-more : (run : Run) (runs : List Run) → (run.0 == 7457) ≡ false → by_code_point (run ∷ runs) ≡ turned run ∷ by_code_point runs
+by_code_point-more : (run : Run) (runs : List Run) → (run.0 == 7457) ≡ false
+    → by_code_point (run ∷ runs) ≡ turned run ∷ by_code_point runs
 unfolding by_code_point
 by_code_point-more run runs h = cond-false _ _ _ h
 
@@ -78,7 +83,8 @@ pub record IsPointerOf (runs : List Run) (c q low : ℕ) : Type 0 where
   pub below : q < 1237576
   pub from : low ≤ q
 
-module _ (low : ℕ) (run : Run) (runs : List Run) (c : ℕ) (up : are_ascending_runs low (run ∷ runs) ≡ true) (ok : is_range run ≡ true) where
+module _ (low : ℕ) (run : Run) (runs : List Run) (c : ℕ) (up : are_ascending_runs low (run ∷ runs) ≡ true)
+    (ok : is_range run ≡ true) where
   first_is_pointer : (run.0 == 7457) ≡ false → run.2 ≤ c → c ≤ run.2 + (run.1 - run.0)
       → IsPointerOf (run ∷ runs) c (run.0 + (c - run.2)) low
   first_is_pointer other begins ends =
@@ -159,8 +165,10 @@ module _ (low : ℕ) (run : Run) (rest : List Run) (c q : ℕ)
       let begins : run.2 ≤ c = omega arith in
       let ends : c ≤ run.2 + (run.1 - run.0) = omega arith in
       let same : run.0 + (c - run.2) ≡ q = omega arith in
-      let t = ascending_parts low (turned run) rest up in
-      (ap (pointer_in_run c) (run_with_pointer-here (turned run) rest c begins ends) ∙ ap Some same, omega (arith, t.0))
+      let parts = ascending_parts low (turned run) rest up in (
+        ap (pointer_in_run c) (run_with_pointer-here (turned run) rest c begins ends) ∙ ap Some same,
+        omega (arith, parts.0),
+      )
 
   later_is_found : IsFound rest c q (run.2 + (run.1 - run.0) + 1) → IsFound (turned run ∷ rest) c q low
   later_is_found is_later =
@@ -172,7 +180,8 @@ module _ (low : ℕ) (run : Run) (rest : List Run) (c q : ℕ)
       )
 
 -- a pointer that counts is found by the code point of its character
-pub complete : (low : ℕ) (runs : List Run) (c q : ℕ) → are_ascending_runs low (by_code_point runs) ≡ true → are_ranges runs ≡ true
+pub complete : (low : ℕ) (runs : List Run) (c q : ℕ)
+    → are_ascending_runs low (by_code_point runs) ≡ true → are_ranges runs ≡ true
     → is_ranges_pointer q ≡ true → index_at All runs q ≡ Some c → IsFound (by_code_point runs) c q low
 unfolding are_ranges
 complete low [] c q up ok counted has_char = cc
@@ -206,7 +215,8 @@ complete low (run ∷ runs) c q up ok counted has_char =
                       let more : are_ascending_runs low (turned run ∷ by_code_point runs) ≡ true =
                       subst (λ l. are_ascending_runs low l ≡ true) same up in
                       let is = entry_is _ _ _ (sym (index_at-within All run runs q from to) ∙ has_char) in
-                      subst (λ l. IsFound l c q low) (sym same) (first_is_found low run (by_code_point runs) c q more from to is)
+                      subst (λ l. IsFound l c q low) (sym same)
+                      (first_is_found low run (by_code_point runs) c q more from to is)
                 ]
           ]
     ]

@@ -41,12 +41,15 @@ module _ (c : ℕ) where
   found_is_pointer : (run : Run) → run_with_pointer GB18030_RANGES_BY_CODE_POINT.now c ≡ Some run
       → IsPointerOf (runs_of Gb18030Ranges) c (run.2 + (c - run.0)) 0
   found_is_pointer run h =
-      sound 0 (runs_of Gb18030Ranges) c run gb18030_ranges_ascends are_all_ranges (ap (λ l. run_with_pointer l c) all_by_code_point ∙ h)
+      sound 0 (runs_of Gb18030Ranges) c run gb18030_ranges_ascends are_all_ranges
+      (ap (λ l. run_with_pointer l c) all_by_code_point ∙ h)
 
-  pub found_is_below : (run : Run) → run_with_pointer GB18030_RANGES_BY_CODE_POINT.now c ≡ Some run → run.2 + (c - run.0) < 1237576
+  pub found_is_below : (run : Run) → run_with_pointer GB18030_RANGES_BY_CODE_POINT.now c ≡ Some run
+      → run.2 + (c - run.0) < 1237576
   found_is_below run h = (found_is_pointer run h).below
 
-  pointer_is_found : (q : ℕ) → is_pointer_of c q ≡ true → pointer_in_run c (run_with_pointer GB18030_RANGES_BY_CODE_POINT.now c) ≡ Some q
+  pointer_is_found : (q : ℕ) → is_pointer_of c q ≡ true
+      → pointer_in_run c (run_with_pointer GB18030_RANGES_BY_CODE_POINT.now c) ≡ Some q
   pointer_is_found q h =
       let parts = and_parts _ _ h in
       let up = subst (λ l. are_ascending_runs 0 l ≡ true) (sym all_by_code_point) by_code_point_ascends in
@@ -57,21 +60,25 @@ module _ (c : ℕ) where
       → first_below (is_pointer_of c) 1237576 ≡ pointer_in_run c o
   first_pointer None is_found =
       first_below-None (is_pointer_of c) 1237576
-      (λ q l. false_from_ne_true _ (λ t. let e = sym (ap (pointer_in_run c) is_found) ∙ pointer_is_found q t in cc))
+      (λ q l. false_from_ne_true _
+      (λ t. let none_is_some = sym (ap (pointer_in_run c) is_found) ∙ pointer_is_found q t in cc))
   first_pointer (Some run) is_found =
       let found = found_is_pointer run is_found in
       first_below-Some (is_pointer_of c) 1237576 (run.2 + (c - run.0)) found.below
       (and_from _ _ found.is_counted (Some-is_character c _ found.has))
       (λ q l. false_from_ne_true _
       (λ t.
-      let e = sym (ap (pointer_in_run c) is_found) ∙ pointer_is_found q t in
+      let both_found = sym (ap (pointer_in_run c) is_found) ∙ pointer_is_found q t in
       let same : run.2 + (c - run.0) ≡ q = cc in
-      let e : ⊥ = omega (arith, same, l) in
-      e))
+      let contradiction : ⊥ = omega (arith, same, l) in
+      contradiction))
 
-  pub ranges_pointer : (c ≡ 0xE7C7 → ⊥) → pointer_in_run c (run_with_pointer GB18030_RANGES_BY_CODE_POINT.now c) ≡ gb18030_ranges_pointer c
+  pub ranges_pointer : (c ≡ 0xE7C7 → ⊥)
+      → pointer_in_run c (run_with_pointer GB18030_RANGES_BY_CODE_POINT.now c) ≡ gb18030_ranges_pointer c
   unfolding gb18030_ranges_pointer
-  ranges_pointer other = sym (first_pointer _ refl) ∙ sym (cond-false _ _ _ (false_from_ne_true _ (λ t. other (eqb-true c 0xE7C7 t))))
+  ranges_pointer other =
+      sym (first_pointer _ refl)
+      ∙ sym (cond-false _ _ _ (false_from_ne_true _ (λ t. other (eqb-true c 0xE7C7 t))))
 
   pub private_use_pointer : c ≡ 0xE7C7 → Some 7457 ≡ gb18030_ranges_pointer c
   unfolding gb18030_ranges_pointer

@@ -66,8 +66,10 @@ pub single_byte_pages : (index : SingleByteIndex) (c : ℕ)
     → pointer_in_pages (page_of index) SINGLE_BYTE_POINTERS 128 c ≡ single_byte_pointer index c
 unfolding pointers_ok single_byte_pointer
 single_byte_pages index c =
-    let parts = and_parts (pages_ok Basic any_pointer no_character 128 7 14 10 (table_of index) (page_of index) SINGLE_BYTE_POINTERS)
+    let parts = and_parts
+    (pages_ok Basic any_pointer no_character 128 7 14 10 (table_of index) (page_of index) SINGLE_BYTE_POINTERS)
     (entries_ok Basic any_pointer no_character 128 14 10 (table_of index) (page_of index) SINGLE_BYTE_POINTERS)
     (all_pages index) in
-    pointer_in_pages-pointer_of Basic any_pointer no_character 128 7 14 10 (table_of index) (page_of index) SINGLE_BYTE_POINTERS parts.0 parts.1
+    pointer_in_pages-pointer_of Basic any_pointer no_character 128 7 14 10 (table_of index)
+    (page_of index) SINGLE_BYTE_POINTERS parts.0 parts.1
     (λ p. index_at Basic (single_byte_runs index) p) (single_byte_table index) c

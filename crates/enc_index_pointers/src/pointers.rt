@@ -8,8 +8,8 @@
 
 ghost use Rattle.std.specs.Prelude.{◌≡◌, ◌<◌, IfSome};
 ghost use Rattle.enc_index_pointers.specs.Pointers.{big5_pointer, euc_kr_pointer, gb18030_pointer};
-ghost use Rattle.enc_index_pointers.specs.Pointers.{gb18030_ranges_pointer, jis0208_pointer, shift_jis_pointer};
-ghost use Rattle.enc_index_pointers.specs.Pointers.{single_byte_pointer};
+ghost use Rattle.enc_index_pointers.specs.Pointers.{gb18030_ranges_pointer, jis0208_pointer};
+ghost use Rattle.enc_index_pointers.specs.Pointers.{shift_jis_pointer, single_byte_pointer};
 
 use crate::look_up::{pointer_in, pointer_in_bytes};
 use crate::pages::big5::{BIG5_PAGE_OF, BIG5_POINTERS};

@@ -22,16 +22,18 @@ placed (label ∷ labels) word i found_at = by_test (bytes_eq label word) refl (
     later : (o : Option ℕ) → ((j : ℕ) → o ≡ Some j → get_or labels j [] ≡ word) → option_map suc o ≡ Some i
         → get_or (label ∷ labels) i [] ≡ word
     later None f g = absurd (let no : ⊥ = cc in no)
-    later (Some j) f g = let k : suc j ≡ i = cc in ap (λ n. get_or (label ∷ labels) n []) (sym k) ∙ f j refl
+    later (Some j) f g =
+        let same_place : suc j ≡ i = cc in
+        ap (λ n. get_or (label ∷ labels) n []) (sym same_place) ∙ f j refl
 
     by_test : (b : Bool) → bytes_eq label word ≡ b → ((j : ℕ) → word_place labels word ≡ Some j
         → get_or labels j [] ≡ word) → get_or (label ∷ labels) i [] ≡ word
     by_test true equal_is f =
-        let g : Some 0 ≡ Some i =
+        let found_first : Some 0 ≡ Some i =
         sym (ap (λ (b : Bool). if b then Some 0 else option_map suc (word_place labels word)) equal_is)
         ∙ found_at in
-        let k : 0 ≡ i = cc in
-        ap (λ n. get_or (label ∷ labels) n []) (sym k) ∙ (bytes_eq-Decides label word).0 equal_is
+        let same_place : 0 ≡ i = cc in
+        ap (λ n. get_or (label ∷ labels) n []) (sym same_place) ∙ (bytes_eq-Decides label word).0 equal_is
     by_test false equal_is f =
         later (word_place labels word) f
         (sym (ap (λ (b : Bool). if b then Some 0 else option_map suc (word_place labels word)) equal_is) ∙ found_at)
@@ -45,7 +47,7 @@ at_place labels [] f i d h l = absurd (let no : ⊥ = omega arith in no)
 at_place [] (e ∷ encodings) f i d h l = absurd (let no : ⊥ = cc in no)
 at_place (label ∷ labels) (e ∷ encodings) f zero d h l = cc
 at_place (label ∷ labels) (e ∷ encodings) f (suc i) d h l = at_place labels encodings f i d
-    (let t : map Some encodings ≡ map f labels = cc in t) (omega arith)
+    (let same_rest : map Some encodings ≡ map f labels = cc in same_rest) (omega arith)
 
 -- a word that is no label of the table is no label
 
@@ -63,10 +65,10 @@ unplaced [] word places_hold not_found = refl
 unplaced (pair ∷ pairs) word places_hold not_found =
     let first : is_some (word_place table pair.0) ≡ true =
     first_so (is_some (word_place table pair.0)) (have_places pairs) places_hold in
-    let o : bytes_eq pair.0 word ≡ false = other (bytes_eq pair.0 word) refl first in
+    let differs : bytes_eq pair.0 word ≡ false = other (bytes_eq pair.0 word) refl first in
     let rest : id_paired_with pairs word ≡ None =
     unplaced pairs word (second_so (is_some (word_place table pair.0)) (have_places pairs) places_hold) not_found in
-    rw (o, rest) refl
+    rw (differs, rest) refl
   where
     other : (b : Bool) → bytes_eq pair.0 word ≡ b → is_some (word_place table pair.0) ≡ true
         → bytes_eq pair.0 word ≡ false

@@ -31,26 +31,32 @@ map_len : (f : ℕ → ℕ) (word : List ℕ) → length (map f word) ≡ length
 map_len f [] = refl
 map_len f (b ∷ word) = ap suc (map_len f word)
 
-none_longer : (words : List (List ℕ)) (word : List ℕ) → are_short words ≡ true → LONGEST < length word → word_place words word ≡ None
+none_longer : (words : List (List ℕ)) (word : List ℕ) → are_short words ≡ true
+    → LONGEST < length word → word_place words word ≡ None
 unfolding are_short
 none_longer [] word all_short l = refl
 none_longer (one ∷ words) word all_short l =
-    let m : length one ≤ LONGEST =
+    let is_short : length one ≤ LONGEST =
     leb-true (length one) LONGEST (first_so (nat_le (length one) LONGEST) (are_short words) all_short) in
-    let o : bytes_eq one word ≡ false = other (bytes_eq one word) refl m in
-    let n : word_place words word ≡ None =
+    let differs : bytes_eq one word ≡ false = other (bytes_eq one word) refl is_short in
+    let not_in_rest : word_place words word ≡ None =
     none_longer words word (second_so (nat_le (length one) LONGEST) (are_short words) all_short) l in
-    rw (o, n) refl
+    rw (differs, not_in_rest) refl
   where
     other : (b : Bool) → bytes_eq one word ≡ b → length one ≤ LONGEST → bytes_eq one word ≡ false
     other true compared m =
-        absurd (let f = ap length ((bytes_eq-Decides one word).0 compared) in let no : ⊥ = omega arith in no)
+        absurd (let same_length = ap length ((bytes_eq-Decides one word).0 compared) in
+        let no : ⊥ = omega arith in no)
     other false compared m = compared
 
 pub longer_is_none : (word : List ℕ) → LONGEST < length word → word_place table (map to_ascii_lowercase word) ≡ None
-longer_is_none word l = none_longer table (map to_ascii_lowercase word) table_is_short (let e = map_len to_ascii_lowercase word in omega arith)
+longer_is_none word l =
+    none_longer table (map to_ascii_lowercase word) table_is_short
+    (let same_length = map_len to_ascii_lowercase word in omega arith)
 
 -- a place among the texts of the table is one in the table
-pub within_table : (texts : List (Bor (List ℕ))) (place : Option ℕ) → texts_of texts ≡ table → IfSome place (λ i. i < length texts) → IfSome place (λ i. i < length table)
+pub within_table : (texts : List (Bor (List ℕ))) (place : Option ℕ) → texts_of texts ≡ table
+    → IfSome place (λ i. i < length texts) → IfSome place (λ i. i < length table)
 within_table texts None e h = h
-within_table texts (Some i) e h = let n = texts_len texts in let m = ap length e in omega arith
+within_table texts (Some i) e h =
+    let as_many_texts = texts_len texts in let table_length = ap length e in omega arith

@@ -13,7 +13,8 @@ use std::cmp::Ordering;
 
 /// Returns how a label compares to a word in the order of the table.
 fn compare(label: &[u8], word: &[u8]) -> Ordering
-    ensures { MatchOrdering result (word_number label.now < word_number word.now) (label.now ≡ word.now) (word_number word.now < word_number label.now) }
+    ensures { MatchOrdering result (word_number label.now < word_number word.now)
+        (label.now ≡ word.now) (word_number word.now < word_number label.now) }
 {
     if label.len() != word.len() {
         return label.len().cmp(&word.len());

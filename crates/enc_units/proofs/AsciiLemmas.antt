@@ -25,22 +25,35 @@ none_high (x ∷ xs) e zero d h = go (leb 128 x) refl (omega arith)
 none_high (x ∷ xs) e (suc k) d h = none_high xs (omega arith) k d (omega arith)
 
 -- the mask of a comparison of n lanes
-pub ascii_of_mask : (n : ℕ) (xs : List ℕ) → n ≤ 64 → length xs ≡ n → eqb (mask_l (map (top 7) (zip2 at_least (replicate n 128) xs)) % 2 ^ 64) 0 ≡ true → AreAscii xs
+pub ascii_of_mask : (n : ℕ) (xs : List ℕ) → n ≤ 64 → length xs ≡ n
+    → eqb (mask_l (map (top 7) (zip2 at_least (replicate n 128) xs)) % 2 ^ 64) 0 ≡ true
+    → AreAscii xs
 ascii_of_mask n xs few long e =
     none_high xs (ap (λ n. mask_l (map (top 7) (zip2 at_least (replicate n 128) xs))) long
-    ∙ sym (mask_l-mod _ 64 (omega (arith, length-map (zip2 at_least (replicate n 128) xs) (top 7), length-zip2 at_least (replicate n 128) xs (length-replicate {A = ℕ} n 128 ∙ sym long), length-replicate {A = ℕ} n 128))) ∙ eqb-true _ _ e)
+    ∙ sym (mask_l-mod _ 64
+    (omega (
+      arith,
+      length-map (zip2 at_least (replicate n 128) xs) (top 7),
+      length-zip2 at_least (replicate n 128) xs (length-replicate {A = ℕ} n 128 ∙ sym long),
+      length-replicate {A = ℕ} n 128,
+    ))) ∙ eqb-true _ _ e)
 
 -- n bytes more are ASCII
-pub ascii_more : (i n : ℕ) (xs : List ℕ) → AreAscii (take i xs) → AreAscii (take n (drop i xs)) → AreAscii (take (i + n) xs)
-ascii_more i n xs a b = subst AreAscii (sym (take-add i n xs)) (All-append (λ b. b < 0x80) (take i xs) (take n (drop i xs)) a b)
+pub ascii_more : (i n : ℕ) (xs : List ℕ) → AreAscii (take i xs) → AreAscii (take n (drop i xs))
+    → AreAscii (take (i + n) xs)
+ascii_more i n xs a b =
+    subst AreAscii (sym (take-add i n xs))
+    (All-append (λ b. b < 0x80) (take i xs) (take n (drop i xs)) a b)
 
 one_ascii : (x : ℕ) → x < 128 → AreAscii (x ∷ [])
 one_ascii x h zero d l = h
 one_ascii x h (suc k) d l = absurd (omega arith)
 
-pub ascii_one : (i : ℕ) (xs : List ℕ) → AreAscii (take i xs) → i < length xs → get_or xs i 0 < 128 → AreAscii (take (i + 1) xs)
+pub ascii_one : (i : ℕ) (xs : List ℕ) → AreAscii (take i xs) → i < length xs → get_or xs i 0 < 128
+    → AreAscii (take (i + 1) xs)
 ascii_one i xs a h b =
-    subst AreAscii (sym (take_more xs i 0 h)) (All-append (λ b. b < 0x80) (take i xs) (get_or xs i 0 ∷ []) a (one_ascii (get_or xs i 0) b))
+    subst AreAscii (sym (take_more xs i 0 h))
+    (All-append (λ b. b < 0x80) (take i xs) (get_or xs i 0 ∷ []) a (one_ascii (get_or xs i 0) b))
 
 at_seam : (a b ys : List ℕ) → length ys ≤ length b → put_chunk (length a) (a ++ b) ys ≡ a ++ (ys ++ drop (length ys) b)
 at_seam a b ys h =
@@ -49,12 +62,14 @@ at_seam a b ys h =
     ∙ ap (λ x. a ++ (ys ++ drop (length ys) x)) (drop-append_seam a b)
 
 -- the bytes that are copied, and those after them
-pub copied_more : (i n : ℕ) (src dst old : List ℕ) → i + n ≤ length src → i + n ≤ length old → dst ≡ take i src ++ drop i old
+pub copied_more : (i n : ℕ) (src dst old : List ℕ) → i + n ≤ length src → i + n ≤ length old
+    → dst ≡ take i src ++ drop i old
     → put_chunk i dst (take n (drop i src)) ≡ take (i + n) src ++ drop (i + n) old
 copied_more i n src dst old h k e =
     let ys = take n (drop i src) in
     let long : length ys ≡ n = omega (arith, length-take n (drop i src), length-drop i src) in
-    ap (λ x. put_chunk i x ys) e ∙ ap (λ m. put_chunk m (take i src ++ drop i old) ys) (sym (length-take-le i src (omega arith)))
+    ap (λ x. put_chunk i x ys) e
+    ∙ ap (λ m. put_chunk m (take i src ++ drop i old) ys) (sym (length-take-le i src (omega arith)))
     ∙ at_seam (take i src) (drop i old) ys (omega (arith, long, length-drop i old))
     ∙ sym (append_assoc (take i src) ys (drop (length ys) (drop i old)))
     ∙ ap (λ x. x ++ drop (length ys) (drop i old)) (sym (take-add i n src))
@@ -63,11 +78,12 @@ copied_more i n src dst old h k e =
 pub copied_one : (i : ℕ) (src dst old : List ℕ) → i < length src → i < length old → dst ≡ take i src ++ drop i old
     → set dst i (get_or src i 0) ≡ take (i + 1) src ++ drop (i + 1) old
 copied_one i src dst old h k e =
-    let b = get_or src i 0 in
-    ap (λ x. set x i b) (e ∙ ap (λ x. take i src ++ x) (drop-cons old i 0 k))
-    ∙ ap (λ m. set (take i src ++ get_or old i 0 ∷ drop (suc i) old) m b) (sym (length-take-le i src (omega arith)))
-    ∙ set-append_seam (take i src) (get_or old i 0) (drop (suc i) old) b
-    ∙ sym (append_assoc (take i src) (b ∷ []) (drop (suc i) old))
+    let byte = get_or src i 0 in
+    ap (λ x. set x i byte) (e ∙ ap (λ x. take i src ++ x) (drop-cons old i 0 k))
+    ∙ ap (λ m. set (take i src ++ get_or old i 0 ∷ drop (suc i) old) m byte)
+    (sym (length-take-le i src (omega arith)))
+    ∙ set-append_seam (take i src) (get_or old i 0) (drop (suc i) old) byte
+    ∙ sym (append_assoc (take i src) (byte ∷ []) (drop (suc i) old))
     ∙ ap (λ x. x ++ drop (suc i) old) (sym (take_more src i 0 h))
     ∙ ap (λ m. take (i + 1) src ++ drop m old) next
   where

@@ -20,10 +20,12 @@ utf8_length bs u = sym (ap length (their_units (chars bs) ∙ encodes-chars bs u
 pub lossy_nil : utf16_lossy_chars [] ≡ []
 lossy_nil = ap (map (λ o. unwrap_or o 0xFFFD)) utf16_chars-nil
 
-pub lossy_lone : (u : ℕ) (us : List ℕ) → ¬ (IsSurrogatePair u (get_or us 0 0)) → utf16_lossy_chars (u ∷ us) ≡ lossy_unit_char u ∷ utf16_lossy_chars us
+pub lossy_lone : (u : ℕ) (us : List ℕ) → ¬ (IsSurrogatePair u (get_or us 0 0))
+    → utf16_lossy_chars (u ∷ us) ≡ lossy_unit_char u ∷ utf16_lossy_chars us
 lossy_lone u us n = ap (map (λ o. unwrap_or o 0xFFFD)) (utf16_chars_lone u us n)
 
-pub lossy_pair : (u v : ℕ) (us : List ℕ) → IsSurrogatePair u v → utf16_lossy_chars (u ∷ v ∷ us) ≡ surrogate_pair_char u v ∷ utf16_lossy_chars us
+pub lossy_pair : (u v : ℕ) (us : List ℕ) → IsSurrogatePair u v
+    → utf16_lossy_chars (u ∷ v ∷ us) ≡ surrogate_pair_char u v ∷ utf16_lossy_chars us
 lossy_pair u v us p = ap (map (λ o. unwrap_or o 0xFFFD)) (utf16_chars_pair u v us p)
 
 true_or_false : (t : Bool) → (t ≡ true) ⊎ (t ≡ false)
@@ -31,9 +33,13 @@ true_or_false true = inl refl
 true_or_false false = inr refl
 
 lone_narrow : (u : ℕ) → u < 0x1_0000 → lossy_unit_char u < 0x1_0000
-lone_narrow u h = elim (true_or_false (nat_le 0xD800 u && nat_lt u 0xE000)) [ inl e ↦ rw e (omega arith) | inr e ↦ rw e h ]
+lone_narrow u h =
+    elim (true_or_false (nat_le 0xD800 u && nat_lt u 0xE000))
+    [ inl e ↦ rw e (omega arith) | inr e ↦ rw e h ]
 
-pub first_lone : (us : List ℕ) → 1 ≤ length us → get_or us 0 0 < 0x1_0000 → (IsSurrogatePair (get_or us 0 0) (get_or us 1 0) → ⊥) → IsFirstUtf16Char us (lossy_unit_char (get_or us 0 0)) 1
+pub first_lone : (us : List ℕ) → 1 ≤ length us → get_or us 0 0 < 0x1_0000
+    → (IsSurrogatePair (get_or us 0 0) (get_or us 1 0) → ⊥)
+    → IsFirstUtf16Char us (lossy_unit_char (get_or us 0 0)) 1
 first_lone [] h f n = absurd (omega arith)
 first_lone (u ∷ us) h f n = record {
   within = h;
@@ -41,7 +47,8 @@ first_lone (u ∷ us) h f n = record {
   width = sym (ap length (one_unit (lossy_unit_char u) (lone_narrow u f)));
 }
 
-pub first_pair : (us : List ℕ) → 2 ≤ length us → IsSurrogatePair (get_or us 0 0) (get_or us 1 0) → IsFirstUtf16Char us (surrogate_pair_char (get_or us 0 0) (get_or us 1 0)) 2
+pub first_pair : (us : List ℕ) → 2 ≤ length us → IsSurrogatePair (get_or us 0 0) (get_or us 1 0)
+    → IsFirstUtf16Char us (surrogate_pair_char (get_or us 0 0) (get_or us 1 0)) 2
 first_pair [] h p = absurd (omega arith)
 first_pair (u ∷ []) h p = absurd (omega arith)
 first_pair (u ∷ v ∷ us) h p = record {
@@ -59,7 +66,8 @@ decide_pair u v = elim (true_or_false (is_high_surrogate u && is_low_surrogate v
 abbrev pub AreUnits : List ℕ → Type 0
 AreUnits us = (i : ℕ) → get_or us i 0 < 0x1_0000
 
-step : (us : List ℕ) (c n : ℕ) → IsFirstUtf16Char us c n → length (drop n us) ≡ length (units_of_text encode_utf16 (utf16_lossy_chars (drop n us)))
+step : (us : List ℕ) (c n : ℕ) → IsFirstUtf16Char us c n
+    → length (drop n us) ≡ length (units_of_text encode_utf16 (utf16_lossy_chars (drop n us)))
     → length us ≡ length (units_of_text encode_utf16 (utf16_lossy_chars us))
 step us c n begins e =
     rw (begins.chars, length-append) (omega (arith, begins.within, begins.width, e, length-drop n us))
@@ -95,26 +103,29 @@ units-drop zero us are_units = are_units
 units-drop (suc n) [] are_units = are_units
 units-drop (suc n) (u ∷ us) are_units = units-drop n us (λ i. are_units (suc i))
 
-heads : (a b : ℕ) (y z : List ℕ) → a ∷ y ≡ b ∷ z → a ≡ b
-heads a b y z e = cc
+heads : {a b : ℕ} {y z : List ℕ} → a ∷ y ≡ b ∷ z → a ≡ b
+heads e = cc
 
-tails : (a b : ℕ) (y z : List ℕ) → a ∷ y ≡ b ∷ z → y ≡ z
-tails a b y z e = cc
+tails : {a b : ℕ} {y z : List ℕ} → a ∷ y ≡ b ∷ z → y ≡ z
+tails e = cc
 
 pub lossy_after : (us : List ℕ) → AreUnits us → (cs rest : List ℕ) → utf16_lossy_chars us ≡ cs ++ rest
     → utf16_lossy_chars (drop (length (units_of_text encode_utf16 cs)) us) ≡ rest
 lossy_after us are_units [] rest whole = whole
-lossy_after [] are_units (c ∷ cs) rest whole = absurd (let f : [] ≡ c ∷ (cs ++ rest) = sym lossy_nil ∙ whole in cc)
+lossy_after [] are_units (c ∷ cs) rest whole =
+    absurd (let nil_is_cons : [] ≡ c ∷ (cs ++ rest) = sym lossy_nil ∙ whole in cc)
 lossy_after (u ∷ us) are_units (c ∷ cs) rest whole =
     let begins = first_of u us are_units in
     let same = sym begins.first.chars ∙ whole in
-    let n = length (units_of_text encode_utf16 cs) in
-    let w : length (units_of_text encode_utf16 (c ∷ cs)) ≡ begins.units + n =
+    let rest_length = length (units_of_text encode_utf16 cs) in
+    let whole_length : length (units_of_text encode_utf16 (c ∷ cs)) ≡ begins.units + rest_length =
     length-append (encode_utf16 c) (units_of_text encode_utf16 cs)
-    ∙ ap (λ d. length (encode_utf16 d) + n) (sym (heads _ _ _ _ same)) ∙ ap (λ k. k + n) (sym begins.first.width) in
-    ap (λ k. utf16_lossy_chars (drop k (u ∷ us))) w ∙ ap utf16_lossy_chars (sym (drop-drop n begins.units (u ∷ us)))
+    ∙ ap (λ d. length (encode_utf16 d) + rest_length) (sym (heads same))
+    ∙ ap (λ k. k + rest_length) (sym begins.first.width) in
+    ap (λ k. utf16_lossy_chars (drop k (u ∷ us))) whole_length
+    ∙ ap utf16_lossy_chars (sym (drop-drop rest_length begins.units (u ∷ us)))
     ∙ lossy_after (drop begins.units (u ∷ us)) (units-drop begins.units (u ∷ us) are_units) cs rest
-    (tails _ _ _ _ same)
+    (tails same)
 
 pub peeks : (us : List ℕ) (r : Option (ℕ × ℕ)) → MatchOption r (us ≡ []) (λ p. IsFirstUtf16Char us p.0 p.1)
     → MatchOption r (utf16_lossy_chars us ≡ []) (λ p. utf16_lossy_chars us ≡ p.0 ∷ drop 1 (utf16_lossy_chars us))
@@ -140,12 +151,12 @@ high_pair u v p = omega arith
 pub beyond_ascii : (us : List ℕ) (c n : ℕ) → IsFirstUtf16Char us c n → 0x80 ≤ get_or us 0 0 → 0x80 ≤ c
 beyond_ascii [] c n begins is_beyond_ascii = absurd (omega (arith, is_beyond_ascii))
 beyond_ascii (u ∷ []) c n begins is_beyond_ascii =
-    let same = heads _ _ _ _ (sym (lossy_lone u [] (λ p. omega (arith, p.2))) ∙ begins.chars) in
+    let same = heads (sym (lossy_lone u [] (λ p. omega (arith, p.2))) ∙ begins.chars) in
     omega (arith, same, high_lone u is_beyond_ascii)
 beyond_ascii (u ∷ v ∷ us) c n begins is_beyond_ascii = elim (decide_pair u v) [
-  | inl is_pair ↦ let same = heads _ _ _ _ (sym (lossy_pair u v us is_pair) ∙ begins.chars) in
+  | inl is_pair ↦ let same = heads (sym (lossy_pair u v us is_pair) ∙ begins.chars) in
       omega (arith, same, high_pair u v is_pair)
-  | inr p ↦ let same = heads _ _ _ _ (sym (lossy_lone u (v ∷ us) p) ∙ begins.chars) in
+  | inr p ↦ let same = heads (sym (lossy_lone u (v ∷ us) p) ∙ begins.chars) in
       omega (arith, same, high_lone u is_beyond_ascii)
 ]
 

@@ -35,11 +35,11 @@ spelt : (word n : ℕ) (text : List ℕ) → word / 0x100_0000 ≡ n → n ≤ 4
     → Spells word text
 spelt word n text e h t = (omega arith, ap (λ k. take k (to_le_bytes w32 word)) e ∙ t)
 
-two_same : (a b x y : ℕ) → a ≡ x → b ≡ y → a ∷ b ∷ [] ≡ x ∷ y ∷ []
-two_same a b x y e f = ap (λ z. z ∷ b ∷ []) e ∙ ap (λ z. x ∷ z ∷ []) f
+two_same : {a b x y : ℕ} → a ≡ x → b ≡ y → a ∷ b ∷ [] ≡ x ∷ y ∷ []
+two_same {b = b} {x = x} e f = ap (λ z. z ∷ b ∷ []) e ∙ ap (λ z. x ∷ z ∷ []) f
 
-three_same : (a b c x y z : ℕ) → a ≡ x → b ≡ y → c ≡ z → a ∷ b ∷ c ∷ [] ≡ x ∷ y ∷ z ∷ []
-three_same a b c x y z e f g = ap (λ t. t ∷ b ∷ c ∷ []) e ∙ ap (λ t. x ∷ t) (two_same b c y z f g)
+three_same : {a b c x y z : ℕ} → a ≡ x → b ≡ y → c ≡ z → a ∷ b ∷ c ∷ [] ≡ x ∷ y ∷ z ∷ []
+three_same {b = b} {c = c} {x = x} e f g = ap (λ t. t ∷ b ∷ c ∷ []) e ∙ ap (λ t. x ∷ t) (two_same f g)
 
 word_of_one : (u : ℕ) → u < 128 → unit_word u ≡ 16777216 + u
 word_of_one u h = rw (lt-ltb u 128 h) (omega arith)
@@ -59,13 +59,13 @@ one_spelt w u h e = spelt w 1 (encode_utf8 u) (omega arith) (omega arith)
 
 two_spelt : (w u : ℕ) → 128 ≤ u → u < 2048 → w ≡ 33554432 + 32960 + u / 64 + u % 64 * 256 → Spells w (encode_utf8 u)
 two_spelt w u l h e = spelt w 2 (encode_utf8 u) (omega arith) (omega arith)
-    (two_same _ _ _ _ (omega arith) (omega arith) ∙ sym (utf8_two u l h))
+    (two_same (omega arith) (omega arith) ∙ sym (utf8_two u l h))
 
 three_spelt : (w u : ℕ) → 2048 ≤ u → u < 65536 → w ≡ 58720256 + 32992 + u / 4096 + u / 64 % 64 * 256 + u % 64 * 65536
     → Spells w (encode_utf8 u)
 three_spelt w u l h e =
     spelt w 3 (encode_utf8 u) (omega arith) (omega arith)
-    (three_same _ _ _ _ _ _ (omega arith) (omega arith) (omega arith) ∙ sym (utf8_three u l h))
+    (three_same (omega arith) (omega arith) (omega arith) ∙ sym (utf8_three u l h))
 
 word_spelt : (u : ℕ) → u < 65536 → Spells (unit_word u) (encode_utf8 u)
 word_spelt u h = elim (cases_lt u 128) [
@@ -97,11 +97,11 @@ bytes-append (v ∷ vs) ws =
     let front = take (v / 0x100_0000) (to_le_bytes w32 v) in
     ap (λ z. front ++ z) (bytes-append vs ws) ∙ sym (append_assoc front (bytes_of_words vs) (bytes_of_words ws))
 
-pub stored_word : (words : List ℕ) (count : ℕ) → count < length words → (front mid after bytes : List ℕ)
+pub stored_word : (words : List ℕ) (count : ℕ) → count < length words → (front : List ℕ) {mid after bytes : List ℕ}
     → bytes ≡ to_le_bytes w32 (get_or words count 0)
     → mid ≡ front ++ bytes_of_words (take count words) → after ≡ mid ++ take (get_or words count 0 / 0x100_0000) bytes
     → after ≡ front ++ bytes_of_words (take (count + 1) words)
-stored_word words count inside front mid after bytes b m a =
+stored_word words count inside front {mid} b m a =
     let word = get_or words count 0 in
     let old = bytes_of_words (take count words) in
     let new = take (word / 0x100_0000) (to_le_bytes w32 word) in
@@ -146,25 +146,26 @@ units_long big (suc n) [] e = absurd (omega arith)
 units_long big (suc n) (a ∷ []) e = absurd (omega arith)
 units_long big (suc n) (a ∷ b ∷ bs) e = ap suc (units_long big n bs (omega arith))
 
-module _ (Means : List ℕ → ℕ → Type 0) (big : Bool) (mean : AreCodeUnits Means big) where
+module _ {Means : List ℕ → ℕ → Type 0} (big : Bool) (mean : AreCodeUnits Means big) where
   reads_units : (n : ℕ) (bytes : List ℕ) → n + n ≤ length bytes → AreScalars (take n (units_of_bytes big bytes))
       → ReadsPieces Means bytes (n + n) (take n (units_of_bytes big bytes))
   reads_units zero bytes h are_scalars = reads_none Means bytes
   reads_units (suc n) [] h are_scalars = absurd (omega arith)
   reads_units (suc n) (a ∷ []) h are_scalars = absurd (omega arith)
   reads_units (suc n) (a ∷ b ∷ bs) h are_scalars =
-      let u = unit_of big a b in
+      let unit = unit_of big a b in
       let more = take n (units_of_bytes big bs) in
       let long : 2 + (n + n) ≡ suc n + suc n = omega arith in
-      subst (λ k. ReadsPieces Means (a ∷ b ∷ bs) k (u ∷ more)) long
-      (reads_then Means (a ∷ b ∷ bs) 2 (n + n) (u ∷ []) more
-      (reads_one Means (a ∷ b ∷ bs) 2 u (omega arith) (omega arith) (mean a b (and_parts _ _ are_scalars).0))
+      subst (λ k. ReadsPieces Means (a ∷ b ∷ bs) k (unit ∷ more)) long
+      (reads_then Means (a ∷ b ∷ bs) 2 (n + n) (unit ∷ []) more
+      (reads_one Means (a ∷ b ∷ bs) 2 unit (omega arith) (omega arith)
+      (mean a b (and_parts _ _ are_scalars).0))
       (reads_units n bs (omega arith) (and_parts _ _ are_scalars).1))
 
-  pub gathers_units : (units_of : ℕ → List ℕ) (n : ℕ) (src units before after : List ℕ) → n ≤ 8 → 16 ≤ length src
+  pub gathers_units : {units_of : ℕ → List ℕ} (n : ℕ) {src units before after : List ℕ} → n ≤ 8 → 16 ≤ length src
       → units ≡ units_of_bytes big (take 16 src) → AreScalars (take n units)
       → after ≡ before ++ units_of_text units_of (take n units) → GathersChars units_of Means src (2 * n) before after
-  gathers_units units_of n src units before after h l are_units are_scalars w =
+  gathers_units {units_of} n {src} {units} {before} {after} h l are_units are_scalars w =
       let twice : n + n ≡ 2 * n = omega arith in
       subst (λ k. GathersChars units_of Means src k before after) twice (record {
         text = take n units;
@@ -177,47 +178,49 @@ module _ (Means : List ℕ → ℕ → Type 0) (big : Bool) (mean : AreCodeUnits
       })
 
   -- the same, where they are stored as words
-  pub gathers_words : (n : ℕ) (src units words before after : List ℕ) → n ≤ 8 → 16 ≤ length src
+  pub gathers_words : (n : ℕ) {src units : List ℕ} (words : List ℕ) {before after : List ℕ} → n ≤ 8 → 16 ≤ length src
       → units ≡ units_of_bytes big (take 16 src) → AreScalars (take n units)
       → ((k : ℕ) → bytes_of_words (take k words) ≡ units_of_text encode_utf8 (take k units))
       → after ≡ before ++ bytes_of_words (take n words)
       → GathersChars encode_utf8 Means src (2 * n) before after
-  gathers_words n src units words before after h l are_units are_scalars t w =
-      gathers_units encode_utf8 n src units before after h l are_units are_scalars (w ∙ ap (λ z. before ++ z) (t n))
+  gathers_words n words {before} h l are_units are_scalars t w =
+      gathers_units n h l are_units are_scalars (w ∙ ap (λ z. before ++ z) (t n))
 
   -- the same in UTF-16, where all eight are stored as they are
-  pub gathers_lanes : (n at read : ℕ) (src units buffer : List ℕ) → n ≤ 8 → 16 ≤ length src - read
+  pub gathers_lanes : (n at : ℕ) {read : ℕ} {src units : List ℕ} (buffer : List ℕ) → n ≤ 8 → 16 ≤ length src - read
       → at + 8 ≤ length buffer
       → units ≡ units_of_bytes big (take 16 (drop read src)) → AreScalars (take n units)
       → units_of_text encode_utf16 (take n units) ≡ take n units
       → GathersChars encode_utf16 Means src read [] (take at buffer)
       → GathersChars encode_utf16 Means src (read + 2 * n) [] (take (at + n) (put_chunk at buffer units))
-  gathers_lanes n at read src units buffer few inside room are_units are_scalars alone gathers =
+  gathers_lanes n at {read} {src} {units} buffer few inside room are_units are_scalars alone gathers =
       let rest = drop read src in
       let long : 16 ≤ length rest = omega (arith, length-drop read src) in
       let bytes : length (take 16 rest) ≡ 16 = omega (arith, length-take 16 rest) in
       let eight = ap length are_units ∙ units_long big 8 (take 16 rest) bytes in
       gathers_then gathers
-      (gathers_units encode_utf16 n rest units (take at buffer) _ few long are_units are_scalars
-      (stored_lanes at n buffer units (omega (arith, eight)) (omega (arith, eight)) ∙ ap (λ z. take at buffer ++ z) (sym alone)))
+      (gathers_units n few long are_units are_scalars
+      (stored_lanes at n buffer units (omega (arith, eight)) (omega (arith, eight))
+      ∙ ap (λ z. take at buffer ++ z) (sym alone)))
 
   -- sixteen of them
-  pub gathers_both : (at read : ℕ) (src units more buffer : List ℕ) → 32 ≤ length src - read → at + 16 ≤ length buffer
+  pub gathers_both : (at : ℕ) {read : ℕ} {src units more : List ℕ} (buffer : List ℕ)
+      → 32 ≤ length src - read → at + 16 ≤ length buffer
       → units ≡ units_of_bytes big (take 16 (drop read src)) → AreScalars (take 8 units)
       → units_of_text encode_utf16 (take 8 units) ≡ take 8 units
       → more ≡ units_of_bytes big (take 16 (drop (read + 16) src)) → AreScalars (take 8 more)
       → units_of_text encode_utf16 (take 8 more) ≡ take 8 more
       → GathersChars encode_utf16 Means src read [] (take at buffer)
-      → GathersChars encode_utf16 Means src (read + 32) [] (take (at + 16) (put_chunk (at + 8) (put_chunk at buffer units) more))
-  gathers_both at read src units more buffer inside room are_units are_scalars alone more_are_units more_are_scalars
-      alone_too gathers =
+      → GathersChars encode_utf16 Means src (read + 32) []
+      (take (at + 16) (put_chunk (at + 8) (put_chunk at buffer units) more))
+  gathers_both at {read} {src} {units} {more} buffer inside room are_units are_scalars alone more_are_units
+      more_are_scalars alone_too gathers =
       let first = put_chunk at buffer units in
       let both = put_chunk (at + 8) first more in
       let read_all : read + 16 + 2 * 8 ≡ read + 32 = omega arith in
       let put_all : at + 8 + 8 ≡ at + 16 = omega arith in
       subst (λ k. GathersChars encode_utf16 Means src k [] (take (at + 16) both)) read_all
       (subst (λ k. GathersChars encode_utf16 Means src (read + 16 + 2 * 8) [] (take k both)) put_all
-      (gathers_lanes 8 (at + 8) (read + 16) src more first (omega arith) (omega arith)
+      (gathers_lanes 8 (at + 8) first (omega arith) (omega arith)
       (omega (arith, length-put_chunk at buffer units)) more_are_units more_are_scalars alone_too
-      (gathers_lanes 8 at read src units buffer (omega arith) (omega arith) (omega arith) are_units are_scalars alone
-      gathers)))
+      (gathers_lanes 8 at buffer (omega arith) (omega arith) (omega arith) are_units are_scalars alone gathers)))

@@ -27,7 +27,8 @@ take_front (suc n) [] zs h = absurd (omega arith)
 take_front (suc n) (y ∷ ys) zs h = ap (λ t. y ∷ t) (take_front n ys zs (omega arith))
 
 -- the first units that are stored
-pub stored_front : (at n : ℕ) (old ys zs : List ℕ) → at ≤ length old → n ≤ length ys → take (at + n) (take at old ++ (ys ++ zs)) ≡ take at old ++ take n ys
+pub stored_front : (at n : ℕ) (old ys zs : List ℕ) → at ≤ length old → n ≤ length ys
+    → take (at + n) (take at old ++ (ys ++ zs)) ≡ take at old ++ take n ys
 stored_front at n old ys zs h k =
     let xs = take at old ++ (ys ++ zs) in
     let long = length-take-le at old h in
@@ -36,8 +37,10 @@ stored_front at n old ys zs h k =
     ∙ ap (λ z. take at old ++ take n z) (ap (λ m. drop m xs) (sym long) ∙ drop-append_seam (take at old) (ys ++ zs))
     ∙ ap (λ z. take at old ++ z) (take_front n ys zs k)
 
-pub stored_lanes : (at n : ℕ) (old ys : List ℕ) → at + length ys ≤ length old → n ≤ length ys → take (at + n) (put_chunk at old ys) ≡ take at old ++ take n ys
-stored_lanes at n old ys h k = ap (take (at + n)) (put_chunk_is at old ys h) ∙ stored_front at n old ys _ (omega arith) k
+pub stored_lanes : (at n : ℕ) (old ys : List ℕ) → at + length ys ≤ length old → n ≤ length ys
+    → take (at + n) (put_chunk at old ys) ≡ take at old ++ take n ys
+stored_lanes at n old ys h k =
+    ap (take (at + n)) (put_chunk_is at old ys h) ∙ stored_front at n old ys _ (omega arith) k
 
 -- the UTF-8 of a character (Unicode Standard 3.9, table 3-6)
 
@@ -45,19 +48,27 @@ pub utf8_two : (c : ℕ) → 128 ≤ c → c < 2048 → encode_utf8 c ≡ (192 +
 unfolding encode_utf8
 utf8_two c l h = rw (le-ltb c 128 l, lt-ltb c 2048 h) refl
 
-pub utf8_three : (c : ℕ) → 2048 ≤ c → c < 65536 → encode_utf8 c ≡ (224 + c / 4096) ∷ (128 + c / 64 % 64) ∷ (128 + c % 64) ∷ []
+pub utf8_three : (c : ℕ) → 2048 ≤ c → c < 65536
+    → encode_utf8 c ≡ (224 + c / 4096) ∷ (128 + c / 64 % 64) ∷ (128 + c % 64) ∷ []
 unfolding encode_utf8
 utf8_three c l h = rw (le-ltb c 128 (omega arith), le-ltb c 2048 l, lt-ltb c 65536 h) refl
 
-pub utf8_four : (c : ℕ) → 65536 ≤ c → encode_utf8 c ≡ (240 + c / 262144) ∷ (128 + c / 4096 % 64) ∷ (128 + c / 64 % 64) ∷ (128 + c % 64) ∷ []
+pub utf8_four : (c : ℕ) → 65536 ≤ c
+    → encode_utf8 c ≡ (240 + c / 262144) ∷ (128 + c / 4096 % 64) ∷ (128 + c / 64 % 64) ∷ (128 + c % 64) ∷ []
 unfolding encode_utf8
 utf8_four c l = rw (le-ltb c 128 (omega arith), le-ltb c 2048 (omega arith), le-ltb c 65536 l) refl
 
 -- gathered characters
 
-pub gathers_nothing : (units_of : ℕ → List ℕ) (Means : List ℕ → ℕ → Type 0) (src before after : List ℕ) → after ≡ before
+pub gathers_nothing : {units_of : ℕ → List ℕ} {Means : List ℕ → ℕ → Type 0} {src before after : List ℕ}
+    → after ≡ before
     → GathersChars units_of Means src 0 before after
-gathers_nothing units_of Means src before after e = record { text = []; scalars = refl; reads = reads_none Means src; written = e ∙ sym (append-nil before) }
+gathers_nothing {Means} {src} {before} e = record {
+  text = [];
+  scalars = refl;
+  reads = reads_none Means src;
+  written = e ∙ sym (append-nil before);
+}
 
 module _ {units_of : ℕ → List ℕ} {Means : List ℕ → ℕ → Type 0} {src : List ℕ} {a n : ℕ} {before mid after : List ℕ}
     (first : GathersChars units_of Means src a before mid)
@@ -91,10 +102,11 @@ gathers_ascii {Means = Means} {src = src} {n = n} {before = before} h alone w ar
   written = e ∙ ap (λ z. before ++ z) (sym (alone (take n src) are_ascii));
 }
 
-pub gathers_one : (units_of : ℕ → List ℕ) (Means : List ℕ → ℕ → Type 0) (src : List ℕ) (n c : ℕ) (before after : List ℕ)
+pub gathers_one : {units_of : ℕ → List ℕ} {Means : List ℕ → ℕ → Type 0} {src : List ℕ} {n : ℕ} (c : ℕ)
+    {before after : List ℕ}
     → 0 < n → n ≤ length src → IsScalar c
     → Means (take n src) c → after ≡ before ++ units_of c → GathersChars units_of Means src n before after
-gathers_one units_of Means src n c before after h w i m e = record {
+gathers_one {units_of} {Means} {src} {n} c {before} h w i m e = record {
   text = c ∷ [];
   scalars = one_scalar c i;
   reads = reads_one Means src n c h w m;
@@ -110,55 +122,63 @@ get_or_drop (suc n) i (x ∷ xs) = get_or_drop n i xs ∙ ap (λ k. get_or (x �
     next = omega arith
 
 -- a byte that has a text
-pub gathers_byte : (Means : List ℕ → ℕ → Type 0) (src : List ℕ) (from read : ℕ) (before mid after : List ℕ) (text : Encoded)
+pub gathers_byte : {Means : List ℕ → ℕ → Type 0} (src : List ℕ) (from : ℕ) {read : ℕ} {before mid after : List ℕ}
+    {text : Encoded}
     → IsByteText Means (get_or src (from + read) 0) text → 0 < text.len → from + read < length src
     → GathersChars encode_utf8 Means (drop from src) read before mid
     → after ≡ mid ++ take text.len text.bytes → GathersChars encode_utf8 Means (drop from src) (read + 1) before after
-gathers_byte Means src from read before mid after text t some inside p e =
+gathers_byte {Means} src from {read} {mid = mid} t some inside p e =
     let rest = drop from src in
     let long : read < length rest = omega (arith, length-drop from src) in
     let byte = ap (take 1) (drop-cons rest read 0 long) ∙ ap (λ b. b ∷ []) (get_or_drop from read src) in
     let found = t.char some in
     gathers_then p
-    (gathers_one encode_utf8 Means (drop read rest) 1 found.0 mid after (omega arith) (omega (arith, length-drop read rest)) found.1 (subst (λ z. Means z found.0) (sym byte) found.2)
+    (gathers_one found.0 (omega arith) (omega (arith, length-drop read rest)) found.1
+    (subst (λ z. Means z found.0) (sym byte) found.2)
     (e ∙ ap (λ z. mid ++ z) found.3))
 
 -- a byte that has a code unit
-pub gathers_byte_unit : (Means : List ℕ → ℕ → Type 0) (src : List ℕ) (from read at : ℕ) (before buffer : List ℕ) (unit : ℕ)
+pub gathers_byte_unit : {Means : List ℕ → ℕ → Type 0} (src : List ℕ) (from : ℕ) {read : ℕ} (at : ℕ) {before : List ℕ}
+    (buffer : List ℕ) {unit : ℕ}
     → IsByteUnit Means (get_or src (from + read) 0) unit → 0 < unit → unit < 0x1_0000 → from + read < length src
     → at + read < length buffer
     → GathersChars encode_utf16 Means (drop from src) read before (take (at + read) buffer)
-    → GathersChars encode_utf16 Means (drop from src) (read + 1) before (take (at + (read + 1)) (set buffer (at + read) unit))
-gathers_byte_unit Means src from read at before buffer unit u some basic inside room p =
+    → GathersChars encode_utf16 Means (drop from src) (read + 1) before
+    (take (at + (read + 1)) (set buffer (at + read) unit))
+gathers_byte_unit {Means} src from {read} at buffer {unit} u some basic inside room p =
     let rest = drop from src in
     let long : read < length rest = omega (arith, length-drop from src) in
     let byte = ap (take 1) (drop-cons rest read 0 long) ∙ ap (λ b. b ∷ []) (get_or_drop from read src) in
     let found = u.char some in
     let next : at + (read + 1) ≡ at + read + 1 = omega arith in
     gathers_then p
-    (gathers_one encode_utf16 Means (drop read rest) 1 unit (take (at + read) buffer) _ (omega arith) (omega (arith, length-drop read rest)) found.scalar
+    (gathers_one unit (omega arith) (omega (arith, length-drop read rest)) found.scalar
     (subst (λ z. Means z unit) (sym byte) found.means)
-    (ap (λ k. take k (set buffer (at + read) unit)) next ∙ take_more_set buffer (at + read) unit room ∙ ap (λ z. take (at + read) buffer ++ z) (sym (one_unit unit basic))))
+    (ap (λ k. take k (set buffer (at + read) unit)) next ∙ take_more_set buffer (at + read) unit room
+    ∙ ap (λ z. take (at + read) buffer ++ z) (sym (one_unit unit basic))))
 
 -- no byte has a code unit
 pub no_units : (Means : List ℕ → ℕ → Type 0) → AreByteUnits Means (replicate 256 0)
 no_units Means = (
   length-replicate {A = ℕ} 256 0,
-  λ byte none h. subst (IsByteUnit Means byte) (sym (get_or-replicate 256 byte 0 none h)) (record { bound = omega arith; char = λ l. absurd (omega arith) }),
+  λ byte none h. subst (IsByteUnit Means byte) (sym (get_or-replicate 256 byte 0 none h))
+      (record { bound = omega arith; char = λ l. absurd (omega arith) }),
 )
 
 -- no byte has a text
 pub no_texts : (Means : List ℕ → ℕ → Type 0) (text : Encoded) → text.len ≡ 0 → AreByteTexts Means (replicate 256 text)
 no_texts Means text e = (
   length-replicate 256 text,
-  λ byte none h. subst (IsByteText Means byte) (sym (get_or-replicate 256 byte text none h)) (record { bound = omega arith; char = λ l. absurd (omega arith) }),
+  λ byte none h. subst (IsByteText Means byte) (sym (get_or-replicate 256 byte text none h))
+      (record { bound = omega arith; char = λ l. absurd (omega arith) }),
 )
 
 -- gathered characters are put out
-pub puts_gathered : (units_of : ℕ → List ℕ) (Means : List ℕ → ℕ → Type 0) (before after : Output) (src : List ℕ) (n : ℕ) (units : List ℕ)
+pub puts_gathered : {units_of : ℕ → List ℕ} {Means : List ℕ → ℕ → Type 0} {before after : Output} {src : List ℕ} {n : ℕ}
+    {units : List ℕ}
     → GathersChars units_of Means src n [] units
     → length units ≤ before.room → after ≡ with_appended before units → PutsPieces units_of Means before after src n
-puts_gathered units_of Means before after src n units gathers f e = record {
+puts_gathered {before = before} gathers f e = record {
   text = gathers.text;
   scalars = gathers.scalars;
   reads = gathers.reads;

@@ -34,9 +34,9 @@ module _ (p : ℕ → Bool) (xs : List ℕ) (long : length xs ≡ 16) (mask : �
 
     pub front_fails : All (λ x. p x ≡ false) (take n xs)
     front_fails k d h =
-        let l : k < n = omega (arith, length-take n xs) in
-        subst (λ x. p x ≡ false) (sym (get_or-take n xs k d l)) (not-true _ (prefix_len_passes (λ x. not
-        (p x)) xs k d (omega arith)))
+        let in_front : k < n = omega (arith, length-take n xs) in
+        subst (λ x. p x ≡ false) (sym (get_or-take n xs k d in_front))
+        (not-true _ (prefix_len_passes (λ x. not (p x)) xs k d (omega arith)))
 
     pub front_is_some : p (get_or xs 0 0) ≡ false → 0 < n
     front_is_some h = elim (cases_lt 0 n) [

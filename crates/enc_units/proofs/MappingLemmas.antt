@@ -44,36 +44,38 @@ module _ (Means : List ℕ → ℕ → Type 0) where
       → WritesMapped Means src between before mid at n → WritesMapped Means between rest mid after (at + n) k
       → WritesMapped Means src rest before after at (n + k)
   maps_both src between rest before mid after at n k first then_more =
-      let x = piece_bytes first.pieces in
-      let y = piece_bytes then_more.pieces in
+      let first_bytes = piece_bytes first.pieces in
+      let more_bytes = piece_bytes then_more.pieces in
       let both = piece_bytes-append first.pieces then_more.pieces in
       let first_long : length (take at before) ≡ at = length-take-le at before (omega (arith, first.fits)) in
       let long : length mid ≡ length before = omega (
         arith,
         ap length first.onto,
         length-append (take at before)
-            (x ++ drop (at + n) before),
-        length-append x (drop (at + n) before),
+            (first_bytes ++ drop (at + n) before),
+        length-append first_bytes (drop (at + n) before),
         length-drop
             (at + n) before,
         first.count,
         first.fits,
         first_long,
       ) in
-      let mid_is : mid ≡ (take at before ++ x) ++ drop (at + n) before = first.onto
-      ∙ sym (append_assoc (take at before) x (drop (at + n) before)) in
-      let count : length (take at before ++ x) ≡ at + n = omega (
+      let mid_is : mid ≡ (take at before ++ first_bytes) ++ drop (at + n) before = first.onto
+      ∙ sym (append_assoc (take at before) first_bytes (drop (at + n) before)) in
+      let count : length (take at before ++ first_bytes) ≡ at + n = omega (
         arith,
         length-append
-            (take at before) x,
+            (take at before) first_bytes,
         first_long,
         first.count,
       ) in
-      let front : take (at + n) mid ≡ take at before ++ x =
-      ap (λ z. take (at + n) z) mid_is ∙ ap (λ m. take m ((take at before ++ x) ++ drop (at + n) before))
-      (sym count) ∙ take-append_seam (take at before ++ x) (drop (at + n) before) in
+      let front : take (at + n) mid ≡ take at before ++ first_bytes =
+      ap (λ z. take (at + n) z) mid_is
+      ∙ ap (λ m. take m ((take at before ++ first_bytes) ++ drop (at + n) before))
+      (sym count) ∙ take-append_seam (take at before ++ first_bytes) (drop (at + n) before) in
       let back : drop ((at + n) + k) mid ≡ drop ((at + n) + k) before =
-      ap (drop ((at + n) + k)) mid_is ∙ drop-append-drop (at + n) before (take at before ++ x) ((at + n) + k)
+      ap (drop ((at + n) + k)) mid_is
+      ∙ drop-append-drop (at + n) before (take at before ++ first_bytes) ((at + n) + k)
       (omega arith) count in
       record {
         pieces = first.pieces ++ then_more.pieces;
@@ -81,12 +83,19 @@ module _ (Means : List ℕ → ℕ → Type 0) where
             ∙ sym (append_assoc (piece_chars first.pieces) (piece_chars then_more.pieces) rest)
             ∙ ap (λ z. z ++ rest) (sym (piece_chars-append first.pieces then_more.pieces));
         mean = mean-append Means first.pieces then_more.pieces first.mean then_more.mean;
-        count = omega (arith, ap length both, length-append x y, first.count, then_more.count);
+        count = omega (
+          arith,
+          ap length both,
+          length-append first_bytes more_bytes,
+          first.count,
+          then_more.count,
+        );
         fits = omega (arith, then_more.fits, long);
-        onto = then_more.onto ∙ ap (λ z. z ++ (y ++ drop ((at + n) + k) mid)) front
-            ∙ ap (λ z. (take at before ++ x) ++ (y ++ z)) back
-            ∙ append_assoc (take at before) x (y ++ drop ((at + n) + k) before)
-            ∙ ap (λ z. take at before ++ z) (sym (append_assoc x y (drop ((at + n) + k) before)))
+        onto = then_more.onto ∙ ap (λ z. z ++ (more_bytes ++ drop ((at + n) + k) mid)) front
+            ∙ ap (λ z. (take at before ++ first_bytes) ++ (more_bytes ++ z)) back
+            ∙ append_assoc (take at before) first_bytes (more_bytes ++ drop ((at + n) + k) before)
+            ∙ ap (λ z. take at before ++ z)
+            (sym (append_assoc first_bytes more_bytes (drop ((at + n) + k) before)))
             ∙ ap (λ z. take at before ++ (z ++ drop ((at + n) + k) before)) (sym both)
             ∙ ap (λ m. take at before ++ (piece_bytes (first.pieces ++ then_more.pieces) ++ drop m before))
             (omega arith);
@@ -191,26 +200,28 @@ blended n a b is_sixteen m =
 pub stored_blend : (at n : ℕ) (old a : List ℕ) → at + 16 ≤ length old → n ≤ 16 → length a ≡ 16
     → put_chunk at old (sel_l (chosen n) a (take 16 (drop at old))) ≡ take at old ++ (take n a ++ drop (at + n) old)
 stored_blend at n old a h k is_sixteen =
-    let d = drop at old in
-    let b = take 16 d in
-    let long : length b ≡ 16 = omega (arith, length-take 16 d, length-drop at old) in
-    let ys = take n a ++ drop n b in
+    let old_rest = drop at old in
+    let old_lanes = take 16 old_rest in
+    let long : length old_lanes ≡ 16 = omega (arith, length-take 16 old_rest, length-drop at old) in
+    let ys = take n a ++ drop n old_lanes in
     let ys_long : length ys ≡ 16 = omega (
       arith,
       length-append (take n a)
-          (drop n b),
+          (drop n old_lanes),
       length-take n a,
-      length-drop n b,
+      length-drop n old_lanes,
       is_sixteen,
       long,
     ) in
-    let whole : drop n b ++ drop 16 d ≡ drop n d =
-    sym (drop-append-le n b (drop 16 d) (omega arith)) ∙ ap (drop n) (take-append-drop 16 d) in
-    ap (put_chunk at old) (blended n a b is_sixteen long)
+    let whole : drop n old_lanes ++ drop 16 old_rest ≡ drop n old_rest =
+    sym (drop-append-le n old_lanes (drop 16 old_rest) (omega arith))
+    ∙ ap (drop n) (take-append-drop 16 old_rest) in
+    ap (put_chunk at old) (blended n a old_lanes is_sixteen long)
     ∙ put_chunk_is at old ys (omega arith)
-    ∙ ap (λ m. take at old ++ (ys ++ drop m d)) ys_long
-    ∙ ap (λ z. take at old ++ z) (append_assoc (take n a) (drop n b) (drop 16 d) ∙ ap (λ z. take n a ++ z) (whole
-    ∙ drop-drop n at old))
+    ∙ ap (λ m. take at old ++ (ys ++ drop m old_rest)) ys_long
+    ∙ ap (λ z. take at old ++ z)
+    (append_assoc (take n a) (drop n old_lanes) (drop 16 old_rest)
+    ∙ ap (λ z. take n a ++ z) (whole ∙ drop-drop n at old))
 
 -- all sixteen lanes are stored
 pub stored_whole : (at : ℕ) (old a : List ℕ) → at + 16 ≤ length old → length a ≡ 16

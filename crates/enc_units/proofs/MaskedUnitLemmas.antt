@@ -122,8 +122,8 @@ begin_both (p ∷ ps) (a ∷ b ∷ row) begin (suc j) l =
     let even : suc (suc (2 * j)) ≡ 2 * suc j = omega arith in
     let odd : suc (suc (2 * j + 1)) ≡ 2 * suc j + 1 = omega arith in
     let few : j < length ps = omega arith in
-    let f = and_parts _ _ begin in
-    let rest = begin_both ps row (and_parts _ _ f.1).1 j few in
+    let tests = and_parts _ _ begin in
+    let rest = begin_both ps row (and_parts _ _ tests.1).1 j few in
     (ap (λ i. get_or (a ∷ b ∷ row) i 0) (sym even) ∙ rest.0, ap (λ i. get_or (a ∷ b ∷ row) i 0) (sym odd) ∙ rest.1)
 
 -- a row of the table
@@ -227,15 +227,15 @@ module _ (units row : List ℕ) (mask : ℕ) (long : length units ≡ 8) (fit : 
   unit_at : (j : ℕ) → j < ones mask → mask < 0x100
       → get_or stored j 0 ≡ get_or units (get_or (marked_places mask 0 8) j 0) 0
   unit_at j below_count m =
-      let p = get_or (marked_places mask 0 8) j 0 in
+      let place = get_or (marked_places mask 0 8) j 0 in
       let few : j < 8 = omega (arith, ones-le 8 mask m) in
-      let low : get_or chosen (2 * j) 0 ≡ get_or units p 0 % 0x100 =
+      let low : get_or chosen (2 * j) 0 ≡ get_or units place 0 % 0x100 =
       chosen_at (2 * j) (omega arith) ∙ ap (λ i. get_or bytes i 0) (is_row.evens j below_count)
-      ∙ low_byte p (is_row.units j below_count) in
-      let high : get_or chosen (2 * j + 1) 0 ≡ get_or units p 0 / 0x100 % 0x100 =
+      ∙ low_byte place (is_row.units j below_count) in
+      let high : get_or chosen (2 * j + 1) 0 ≡ get_or units place 0 / 0x100 % 0x100 =
       chosen_at (2 * j + 1) (omega arith) ∙ ap (λ i. get_or bytes i 0) (is_row.odds j below_count)
-      ∙ high_byte p (is_row.units j below_count) in
-      stored_at j few ∙ omega (arith, low, high, unit_below p (is_row.units j below_count))
+      ∙ high_byte place (is_row.units j below_count) in
+      stored_at j few ∙ omega (arith, low, high, unit_below place (is_row.units j below_count))
 
   pub marked_units : mask < 0x100 → take (ones mask) stored ≡ map (λ k. get_or units k 0) (marked_places mask 0 8)
   marked_units is_byte =

@@ -67,7 +67,7 @@ row_goes (a ∷ b ∷ c ∷ d ∷ es) ok (suc (suc (suc zero))) l = (from_third 
 row_goes (a ∷ b ∷ c ∷ d ∷ es) ok (suc (suc (suc (suc k)))) l = absurd (omega arith)
 
 pub end_next : (ends : List ℕ) (k : ℕ) → get_or ends k 0 ≡ end_after ends (k + 1)
-end_next ends k = ap (end_after ends) (let n : suc k ≡ k + 1 = omega arith in n)
+end_next ends k = ap (end_after ends) (let next_place : suc k ≡ k + 1 = omega arith in next_place)
 
 -- where a character ends, by where the one before it does
 pub end_goes : (leads k read : ℕ) (ends : List ℕ) → ends ≡ four_ends leads → k < 4 → read ≡ end_after ends k
@@ -98,7 +98,9 @@ module _ (Means : List ℕ → ℕ → Type 0) (src : List ℕ) (from read next 
   rest_long = length-drop from src
 
   one_front : take 1 (drop read (drop from src)) ≡ first ∷ []
-  one_front = ap (take 1) (drop-cons (drop from src) read 0 (omega (arith, rest_long))) ∙ ap (λ b. b ∷ []) (get_or_drop from read src)
+  one_front =
+      ap (take 1) (drop-cons (drop from src) read 0 (omega (arith, rest_long)))
+      ∙ ap (λ b. b ∷ []) (get_or_drop from read src)
 
   two_front : take 2 (drop read (drop from src)) ≡ first ∷ second ∷ []
   two_front =
@@ -115,10 +117,12 @@ module _ (Means : List ℕ → ℕ → Type 0) (src : List ℕ) (from read next 
       → take (next - read) (drop read (drop from src)) ≡ byte_or_pair t first second
   front_is true is_two =
       ap (λ k. take k (drop read (drop from src)))
-      (let m : next - read ≡ 2 = omega (arith, goes_two read next goes_on is_two) in m) ∙ two_front
+      (let two_read : next - read ≡ 2 = omega (arith, goes_two read next goes_on is_two) in two_read)
+      ∙ two_front
   front_is false is_two =
       ap (λ k. take k (drop read (drop from src)))
-      (let m : next - read ≡ 1 = omega (arith, goes_one read next goes_on is_two) in m) ∙ one_front
+      (let one_read : next - read ≡ 1 = omega (arith, goes_one read next goes_on is_two) in one_read)
+      ∙ one_front
 
   gathers_front : (units_of : ℕ → List ℕ) (t : Bool) (c : ℕ) (before mid after : List ℕ) → eqb (next - read) 2 ≡ t
       → IsScalar c
@@ -131,25 +135,25 @@ module _ (Means : List ℕ → ℕ → Type 0) (src : List ℕ) (from read next 
       let whole : read + (next - read) ≡ next = omega (arith, up.0) in
       subst (λ n. GathersChars units_of Means (drop from src) n before after) whole
       (gathers_then p
-      (gathers_one units_of Means (drop read (drop from src)) (next - read) c mid after some
+      (gathers_one c some
       (omega (arith, up.1, rest_long, length-drop read (drop from src))) s
       (subst (λ z. Means z c) (sym (front_is t e)) m) w))
 
   -- one more character, as a word
-  pub gathers_word : (word : ℕ) (before mid after : List ℕ)
+  pub gathers_word : {word : ℕ} {before mid after : List ℕ}
       → MeansWord Means (byte_or_pair (eqb (next - read) 2) first second) word
       → GathersChars encode_utf8 Means (drop from src) read before mid
       → after ≡ mid ++ take (word / 0x100_0000) (to_le_bytes w32 word)
       → GathersChars encode_utf8 Means (drop from src) next before after
-  gathers_word word before mid after means p w =
+  gathers_word {before = before} {mid = mid} {after = after} means p w =
       gathers_front encode_utf8 (eqb (next - read) 2) means.char before mid after refl means.scalar means.means p
       (w ∙ ap (λ z. mid ++ z) means.utf8)
 
   -- one more character, as a code unit
-  pub gathers_unit : (unit : ℕ) (before mid after : List ℕ) → unit < 0x1_0000
+  pub gathers_unit : {unit : ℕ} {before mid after : List ℕ} → unit < 0x1_0000
       → MeansUnit Means (byte_or_pair (eqb (next - read) 2) first second) unit
       → GathersChars encode_utf16 Means (drop from src) read before mid → after ≡ mid ++ unit ∷ []
       → GathersChars encode_utf16 Means (drop from src) next before after
-  gathers_unit unit before mid after l means p w =
+  gathers_unit {unit} {before} {mid} {after} l means p w =
       gathers_front encode_utf16 (eqb (next - read) 2) unit before mid after refl means.scalar means.means p
       (w ∙ ap (λ z. mid ++ z) (sym (one_unit unit l)))

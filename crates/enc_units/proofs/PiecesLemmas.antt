@@ -14,18 +14,23 @@ use Rattle.enc_units.proofs.ScalarLemmas.{one_scalar, scalars-append, ascii_scal
 
 piece_bytes-append : (ps qs : List Piece) → piece_bytes (ps ++ qs) ≡ piece_bytes ps ++ piece_bytes qs
 piece_bytes-append [] qs = refl
-piece_bytes-append (p ∷ ps) qs = ap (λ z. p.bytes ++ z) (piece_bytes-append ps qs) ∙ sym (append_assoc p.bytes (piece_bytes ps) (piece_bytes qs))
+piece_bytes-append (p ∷ ps) qs =
+    ap (λ z. p.bytes ++ z) (piece_bytes-append ps qs)
+    ∙ sym (append_assoc p.bytes (piece_bytes ps) (piece_bytes qs))
 
 piece_chars-append : (ps qs : List Piece) → piece_chars (ps ++ qs) ≡ piece_chars ps ++ piece_chars qs
 piece_chars-append [] qs = refl
 piece_chars-append (p ∷ ps) qs = ap (λ z. p.char ∷ z) (piece_chars-append ps qs)
 
-pub units-append : (units_of : ℕ → List ℕ) (cs ds : List ℕ) → units_of_text units_of (cs ++ ds) ≡ units_of_text units_of cs ++ units_of_text units_of ds
+pub units-append : (units_of : ℕ → List ℕ) (cs ds : List ℕ)
+    → units_of_text units_of (cs ++ ds) ≡ units_of_text units_of cs ++ units_of_text units_of ds
 units-append units_of [] ds = refl
 units-append units_of (c ∷ cs) ds =
-    ap (λ t. units_of c ++ t) (units-append units_of cs ds) ∙ sym (append_assoc (units_of c) (units_of_text units_of cs) (units_of_text units_of ds))
+    ap (λ t. units_of c ++ t) (units-append units_of cs ds)
+    ∙ sym (append_assoc (units_of c) (units_of_text units_of cs) (units_of_text units_of ds))
 
-EachMeansChar-append : (Means : List ℕ → ℕ → Type 0) (ps qs : List Piece) → EachMeansChar Means ps → EachMeansChar Means qs → EachMeansChar Means (ps ++ qs)
+EachMeansChar-append : (Means : List ℕ → ℕ → Type 0) (ps qs : List Piece) → EachMeansChar Means ps
+    → EachMeansChar Means qs → EachMeansChar Means (ps ++ qs)
 EachMeansChar-append Means [] qs first_mean others_mean = others_mean
 EachMeansChar-append Means (p ∷ ps) qs first_mean others_mean =
     (first_mean.0, EachMeansChar-append Means ps qs first_mean.1 others_mean)
@@ -42,7 +47,9 @@ reads_none Means src = record {
 }
 
 -- more pieces are read after them
-pub reads_then : (Means : List ℕ → ℕ → Type 0) (src : List ℕ) (a n : ℕ) (s t : List ℕ) → ReadsPieces Means src a s → ReadsPieces Means (drop a src) n t → ReadsPieces Means src (a + n) (s ++ t)
+pub reads_then : (Means : List ℕ → ℕ → Type 0) (src : List ℕ) (a n : ℕ) (s t : List ℕ)
+    → ReadsPieces Means src a s → ReadsPieces Means (drop a src) n t
+    → ReadsPieces Means src (a + n) (s ++ t)
 reads_then Means src a n s t first then_more = record {
   pieces = first.pieces ++ then_more.pieces;
   within = omega (arith, first.within, then_more.within, length-drop a src);
@@ -55,7 +62,8 @@ reads_then Means src a n s t first then_more = record {
 }
 
 -- one piece is read
-pub reads_one : (Means : List ℕ → ℕ → Type 0) (src : List ℕ) (n c : ℕ) → 0 < n → n ≤ length src → Means (take n src) c → ReadsPieces Means src n (c ∷ [])
+pub reads_one : (Means : List ℕ → ℕ → Type 0) (src : List ℕ) (n c : ℕ) → 0 < n → n ≤ length src
+    → Means (take n src) c → ReadsPieces Means src n (c ∷ [])
 reads_one Means src n c h w m = record {
   pieces = record { bytes = take n src; char = c } ∷ [];
   within = w;
@@ -77,7 +85,8 @@ alone_chars : (bs : List ℕ) → piece_chars (alone bs) ≡ bs
 alone_chars [] = refl
 alone_chars (b ∷ bs) = ap (λ x. b ∷ x) (alone_chars bs)
 
-alone_mean : (Means : List ℕ → ℕ → Type 0) → ((b : ℕ) → b < 0x80 → Means (b ∷ []) b) → (bs : List ℕ) → AreAscii bs → EachMeansChar Means (alone bs)
+alone_mean : (Means : List ℕ → ℕ → Type 0) → ((b : ℕ) → b < 0x80 → Means (b ∷ []) b) → (bs : List ℕ)
+    → AreAscii bs → EachMeansChar Means (alone bs)
 alone_mean Means each_means [] are_ascii = tt
 alone_mean Means each_means (b ∷ bs) are_ascii = (
   each_means b (are_ascii 0 0 (omega arith)),
@@ -85,7 +94,8 @@ alone_mean Means each_means (b ∷ bs) are_ascii = (
 )
 
 -- ASCII bytes
-pub reads_ascii : (Means : List ℕ → ℕ → Type 0) (src : List ℕ) (n : ℕ) → ((b : ℕ) → b < 0x80 → Means (b ∷ []) b) → n ≤ length src → AreAscii (take n src)
+pub reads_ascii : (Means : List ℕ → ℕ → Type 0) (src : List ℕ) (n : ℕ)
+    → ((b : ℕ) → b < 0x80 → Means (b ∷ []) b) → n ≤ length src → AreAscii (take n src)
     → ReadsPieces Means src n (take n src)
 reads_ascii Means src n h w a = record {
   pieces = alone (take n src);
@@ -97,8 +107,9 @@ reads_ascii Means src n h w a = record {
 }
 
 -- nothing is put out
-pub start : (units_of : ℕ → List ℕ) (Means : List ℕ → ℕ → Type 0) (o : Output) (src : List ℕ) → PutsPieces units_of Means o o src 0
-start units_of Means o src = record {
+pub start : {units_of : ℕ → List ℕ} {Means : List ℕ → ℕ → Type 0} {o : Output} {src : List ℕ}
+    → PutsPieces units_of Means o o src 0
+start {Means = Means} {o = o} {src = src} = record {
   text = [];
   scalars = refl;
   reads = reads_none Means src;
@@ -112,8 +123,8 @@ module _ {units_of : ℕ → List ℕ} {Means : List ℕ → ℕ → Type 0} {be
     n) where
   pub then : PutsPieces units_of Means before after src (a + n)
   then =
-      let x = units_of_text units_of first.text in
-      let y = units_of_text units_of then_more.text in
+      let first_units = units_of_text units_of first.text in
+      let more_units = units_of_text units_of then_more.text in
       let both = units-append units_of first.text then_more.text in
       record {
         text = first.text ++ then_more.text;
@@ -122,18 +133,20 @@ module _ {units_of : ℕ → List ℕ} {Means : List ℕ → ℕ → Type 0} {be
         fits = omega (
           arith,
           ap length both,
-          length-append x y,
+          length-append first_units more_units,
           first.fits,
           then_more.fits,
-          room_left before mid x first.written,
+          room_left before mid first_units first.written,
         );
-        written = then_more.written ∙ ap (λ o. with_appended o y) first.written ∙ with_appended-with_appended before x y
+        written = then_more.written ∙ ap (λ o. with_appended o more_units) first.written
+            ∙ with_appended-with_appended before first_units more_units
             ∙ ap (with_appended before) (sym both);
       }
 
 -- ASCII bytes
 pub ascii_pieces : {units_of : ℕ → List ℕ} {Means : List ℕ → ℕ → Type 0} {before after : Output} {src : List ℕ} {n : ℕ}
-    → ((b : ℕ) → b < 0x80 → Means (b ∷ []) b) → PutsAscii units_of before after src n → PutsPieces units_of Means before after src n
+    → ((b : ℕ) → b < 0x80 → Means (b ∷ []) b) → PutsAscii units_of before after src n
+    → PutsPieces units_of Means before after src n
 ascii_pieces {Means = Means} {src = src} {n = n} h puts = record {
   text = take n src;
   scalars = ascii_scalars (take n src) puts.ascii;
@@ -145,7 +158,8 @@ ascii_pieces {Means = Means} {src = src} {n = n} h puts = record {
 -- one piece
 pub one_piece : {units_of : ℕ → List ℕ} {Means : List ℕ → ℕ → Type 0} {before after : Output} {src : List ℕ} {n : ℕ}
     (c : ℕ)
-    → 0 < n → n ≤ length src → IsScalar c → Means (take n src) c → nat_le (length (units_of c)) before.room ≡ true → after ≡ with_appended before (units_of c)
+    → 0 < n → n ≤ length src → IsScalar c → Means (take n src) c
+    → nat_le (length (units_of c)) before.room ≡ true → after ≡ with_appended before (units_of c)
     → PutsPieces units_of Means before after src n
 one_piece {units_of = units_of} {Means = Means} {before = before} {src = src} {n = n} c h w i m f e =
     let units = append-nil (units_of c) in
@@ -153,7 +167,9 @@ one_piece {units_of = units_of} {Means = Means} {before = before} {src = src} {n
       text = c ∷ [];
       scalars = one_scalar c i;
       reads = reads_one Means src n c h w m;
-      fits = let l : length (units_of c) ≤ before.room = grind (arith, nat_tests) in omega (arith, l, ap length units);
+      fits =
+          let fits_room : length (units_of c) ≤ before.room = grind (arith, nat_tests) in
+          omega (arith, fits_room, ap length units);
       written = e ∙ ap (with_appended before) (sym units);
     }
 
@@ -183,9 +199,11 @@ reads_wider Means src m n text reads = record {
 }
 
 -- pieces of the first m bytes are pieces of all
-pub puts_wider : (units_of : ℕ → List ℕ) (Means : List ℕ → ℕ → Type 0) (before after : Output) (src : List ℕ) (m n : ℕ) (front : List ℕ) → front ≡ take m src
+pub puts_wider : {units_of : ℕ → List ℕ} {Means : List ℕ → ℕ → Type 0} {before after : Output} {src : List ℕ} (m : ℕ)
+    {n : ℕ} {front : List ℕ}
+    → front ≡ take m src
     → PutsPieces units_of Means before after front n → PutsPieces units_of Means before after src n
-puts_wider units_of Means before after src m n front e puts = record {
+puts_wider {Means = Means} {src = src} m {n} e puts = record {
   text = puts.text;
   scalars = puts.scalars;
   reads = reads_wider Means src m n puts.text (subst (λ z. ReadsPieces Means z n puts.text) e puts.reads);
@@ -194,20 +212,26 @@ puts_wider units_of Means before after src m n front e puts = record {
 }
 
 -- the same by an equal meaning
-pub puts_same : (units_of : ℕ → List ℕ) {T : Type 0} (means : T → List ℕ → ℕ → Type 0) (a b : T) (before after : Output) (src : List ℕ) (n : ℕ) → a ≡ b
+pub puts_same : {units_of : ℕ → List ℕ} {T : Type 0} (means : T → List ℕ → ℕ → Type 0) {a b : T} {before after : Output}
+    {src : List ℕ} {n : ℕ}
+    → a ≡ b
     → PutsPieces units_of (means a) before after src n → PutsPieces units_of (means b) before after src n
-puts_same units_of means a b before after src n e p = subst (λ t. PutsPieces units_of (means t) before after src n) e p
+puts_same {units_of} means {before = before} {after = after} {src = src} {n = n} e p =
+    subst (λ t. PutsPieces units_of (means t) before after src n) e p
 
 -- what the bytes mean by one reading, they mean by another
 
-EachMeansChar-weaker : (Means Other : List ℕ → ℕ → Type 0) → ((bytes : List ℕ) (c : ℕ) → Means bytes c → Other bytes c) → (ps : List Piece) → EachMeansChar Means ps
+EachMeansChar-weaker : (Means Other : List ℕ → ℕ → Type 0)
+    → ((bytes : List ℕ) (c : ℕ) → Means bytes c → Other bytes c) → (ps : List Piece)
+    → EachMeansChar Means ps
     → EachMeansChar Other ps
 EachMeansChar-weaker Means Other weaker [] mean = tt
 EachMeansChar-weaker Means Other weaker (p ∷ ps) mean =
     (weaker p.bytes p.char mean.0, EachMeansChar-weaker Means Other weaker ps mean.1)
 
 pub puts_as : (units_of : ℕ → List ℕ) (Means Other : List ℕ → ℕ → Type 0) (before after : Output) (src : List ℕ) (n : ℕ)
-    → ((bytes : List ℕ) (c : ℕ) → Means bytes c → Other bytes c) → PutsPieces units_of Means before after src n → PutsPieces units_of Other before after src n
+    → ((bytes : List ℕ) (c : ℕ) → Means bytes c → Other bytes c)
+    → PutsPieces units_of Means before after src n → PutsPieces units_of Other before after src n
 puts_as units_of Means Other before after src n h puts =
     let reads = puts.reads in
     record {

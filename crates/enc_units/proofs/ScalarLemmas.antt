@@ -23,5 +23,5 @@ scalars-append (c ∷ cs) ds h others_are =
 pub ascii_scalars : (bs : List ℕ) → AreAscii bs → AreScalars bs
 ascii_scalars [] are_ascii = refl
 ascii_scalars (b ∷ bs) are_ascii =
-    scalars-cons b bs (low_scalar b (let h = are_ascii 0 0 (omega arith) in omega arith))
+    scalars-cons b bs (low_scalar b (let is_ascii = are_ascii 0 0 (omega arith) in omega arith))
     (ascii_scalars bs (λ k d h. are_ascii (suc k) d (omega arith)))

@@ -22,14 +22,15 @@ scalar_range c h = grind (arith, nat_tests)
 pub one_unit : (c : ℕ) → c < 0x1_0000 → encode_utf16 c ≡ c ∷ []
 one_unit c h = rw (lt-ltb c 0x1_0000 h) refl
 
-pub two_units : (c : ℕ) → 0x1_0000 ≤ c → encode_utf16 c ≡ (0xD800 + (c - 0x1_0000) / 0x400) ∷ (0xDC00 + (c - 0x1_0000) % 0x400) ∷ []
+pub two_units : (c : ℕ) → 0x1_0000 ≤ c
+    → encode_utf16 c ≡ (0xD800 + (c - 0x1_0000) / 0x400) ∷ (0xDC00 + (c - 0x1_0000) % 0x400) ∷ []
 two_units c h = rw (le-ltb c 0x1_0000 h) refl
 
-first_same : (a b : ℕ) (x y : List ℕ) → a ∷ x ≡ b ∷ y → a ≡ b
-first_same a b x y e = cc
+first_same : {a b : ℕ} {x y : List ℕ} → a ∷ x ≡ b ∷ y → a ≡ b
+first_same e = cc
 
-rest_same : (a b : ℕ) (x y : List ℕ) → a ∷ x ≡ b ∷ y → x ≡ y
-rest_same a b x y e = cc
+rest_same : {a b : ℕ} {x y : List ℕ} → a ∷ x ≡ b ∷ y → x ≡ y
+rest_same e = cc
 
 no_first : (a : ℕ) (x : List ℕ) → a ∷ x ≡ [] → ⊥
 no_first a x e = cc
@@ -45,28 +46,29 @@ same_pair : (c d : ℕ) → 0x1_0000 ≤ c → 0x1_0000 ≤ d → 0xD800 + (c - 
     → 0xDC00 + (c - 0x1_0000) % 0x400 ≡ 0xDC00 + (d - 0x1_0000) % 0x400 → c ≡ d
 same_pair c d l m e f = omega arith
 
-one_same : (c d : ℕ) (x y : List ℕ) → IsScalar c → IsScalar d → encode_utf16 c ++ x ≡ encode_utf16 d ++ y → (c ≡ d) × (x ≡ y)
+one_same : (c d : ℕ) (x y : List ℕ) → IsScalar c → IsScalar d
+    → encode_utf16 c ++ x ≡ encode_utf16 d ++ y → (c ≡ d) × (x ≡ y)
 one_same c d x y scalar also_scalar same_units = elim (cases_lt c 0x1_0000) [
   | inl one_unit_c ↦ elim (cases_lt d 0x1_0000) [
     | inl m ↦
         let same = sym (ap (λ z. z ++ x) (one_unit c one_unit_c)) ∙ same_units ∙ ap (λ z. z ++ y) (one_unit d m) in
-        (first_same c d x y same, rest_same c d x y same)
+        (first_same same, rest_same same)
     | inr two_units_d ↦
-        let f = sym (ap (λ z. z ++ x) (one_unit c one_unit_c)) ∙ same_units
+        let same = sym (ap (λ z. z ++ x) (one_unit c one_unit_c)) ∙ same_units
         ∙ ap (λ z. z ++ y) (two_units d two_units_d) in
-        absurd (not_both c d one_unit_c two_units_d scalar also_scalar (first_same _ _ _ _ f))
+        absurd (not_both c d one_unit_c two_units_d scalar also_scalar (first_same same))
   ]
   | inr two_units_c ↦ elim (cases_lt d 0x1_0000) [
     | inl one_unit_d ↦
-        let f = sym (ap (λ z. z ++ y) (one_unit d one_unit_d)) ∙ sym same_units
+        let same = sym (ap (λ z. z ++ y) (one_unit d one_unit_d)) ∙ sym same_units
         ∙ ap (λ z. z ++ x) (two_units c two_units_c) in
-        absurd (not_both d c one_unit_d two_units_c also_scalar scalar (first_same _ _ _ _ f))
+        absurd (not_both d c one_unit_d two_units_c also_scalar scalar (first_same same))
     | inr two_units_d ↦
         let same = sym (ap (λ z. z ++ x) (two_units c two_units_c)) ∙ same_units
         ∙ ap (λ z. z ++ y) (two_units d two_units_d) in
-        let same_trail = rest_same _ _ _ _ same in (
-          same_pair c d two_units_c two_units_d (first_same _ _ _ _ same) (first_same _ _ _ _ same_trail),
-          rest_same _ _ _ _ same_trail,
+        let same_trail = rest_same same in (
+          same_pair c d two_units_c two_units_d (first_same same) (first_same same_trail),
+          rest_same same_trail,
         )
   ]
 ]
@@ -96,7 +98,8 @@ alone c l s = elim (scalar_range c s) [
   | inr is_above ↦ rw (le-leb 0xD800 c (omega (arith, is_above.0)), le-ltb c 0xE000 is_above.0) refl
 ]
 
-lossy-cons : (o : Option ℕ) (os : List (Option ℕ)) → map (λ p. unwrap_or p 0xFFFD) (o ∷ os) ≡ unwrap_or o 0xFFFD ∷ map (λ p. unwrap_or p 0xFFFD) os
+lossy-cons : (o : Option ℕ) (os : List (Option ℕ))
+    → map (λ p. unwrap_or p 0xFFFD) (o ∷ os) ≡ unwrap_or o 0xFFFD ∷ map (λ p. unwrap_or p 0xFFFD) os
 lossy-cons o os = refl
 
 one_back : (c : ℕ) (us : List ℕ) → IsScalar c → utf16_lossy_chars (encode_utf16 c ++ us) ≡ c ∷ utf16_lossy_chars us
@@ -110,15 +113,18 @@ one_back c us scalar = elim (cases_lt c 0x1_0000) [
       ]))
       ∙ ap (λ (o : Option ℕ). unwrap_or o 0xFFFD ∷ utf16_lossy_chars us) (alone c one_unit_c scalar)
   | inr two_units_c ↦
-      let m : c < 0x11_0000 = elim (scalar_range c scalar) [ inl h ↦ omega arith | inr h ↦ omega (arith, h.1) ] in
-      let u = 0xD800 + (c - 0x1_0000) / 0x400 in
-      let v = 0xDC00 + (c - 0x1_0000) % 0x400 in
+      let in_range : c < 0x11_0000 =
+      elim (scalar_range c scalar) [ inl h ↦ omega arith | inr h ↦ omega (arith, h.1) ] in
+      let lead = 0xD800 + (c - 0x1_0000) / 0x400 in
+      let trail = 0xDC00 + (c - 0x1_0000) % 0x400 in
       ap (λ z. utf16_lossy_chars (z ++ us)) (two_units c two_units_c)
-      ∙ ap (map (λ o. unwrap_or o 0xFFFD)) (utf16_chars_pair u v us (omega arith, omega arith, omega arith, omega arith))
+      ∙ ap (map (λ o. unwrap_or o 0xFFFD))
+      (utf16_chars_pair lead trail us (omega arith, omega arith, omega arith, omega arith))
       ∙ ap (λ x. x ∷ utf16_lossy_chars us) (back c two_units_c)
 ]
   where
-    back : (c : ℕ) → 0x1_0000 ≤ c → surrogate_pair_char (0xD800 + (c - 0x1_0000) / 0x400) (0xDC00 + (c - 0x1_0000) % 0x400) ≡ c
+    back : (c : ℕ) → 0x1_0000 ≤ c
+        → surrogate_pair_char (0xD800 + (c - 0x1_0000) / 0x400) (0xDC00 + (c - 0x1_0000) % 0x400) ≡ c
     back c l = omega arith
 
 pub utf_16_read_back : (t : List ℕ) → AreScalars t → utf16_lossy_chars (units_of_text encode_utf16 t) ≡ t

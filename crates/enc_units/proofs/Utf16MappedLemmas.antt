@@ -30,7 +30,7 @@ lossy_ascii (u ∷ us) rest are_ascii =
 low_bytes : (us : List ℕ) → AreAscii us → map (λ u. u % 0x80) us ≡ us
 low_bytes [] are_ascii = refl
 low_bytes (u ∷ us) are_ascii =
-    let h = are_ascii 0 0 (omega arith) in
+    let is_ascii = are_ascii 0 0 (omega arith) in
     let low : u % 0x80 ≡ u = omega arith in
     ap (λ x. x ∷ map (λ u. u % 0x80) us) low
     ∙ ap (λ x. u ∷ x) (low_bytes us (λ k d l. are_ascii (suc k) d (omega arith)))
@@ -41,10 +41,10 @@ take_map (suc n) [] = refl
 take_map (suc n) (u ∷ us) = ap (λ x. (u % 0x80) ∷ x) (take_map n us)
 
 -- the ASCII in front of sixteen code units, as their lower bytes
-pub unit_lanes : (n m : ℕ) (us lanes : List ℕ) → 16 ≤ length us → n ≤ m → m ≤ 16
+pub unit_lanes : (n m : ℕ) {us : List ℕ} (lanes : List ℕ) → 16 ≤ length us → n ≤ m → m ≤ 16
     → lanes ≡ map (λ u. u % 0x80) (take 16 us) → AreAscii (take m (take 16 us))
     → HasFront utf16_lossy_chars Any us (take n lanes)
-unit_lanes n m us lanes h few most e a =
+unit_lanes n m {us} lanes h few most e a =
     let ascii : AreAscii (take n us) = subst AreAscii (take-take n 16 us (omega arith)) (all_fewer
     (λ u. u < 0x80) n m (take 16 us) few a) in
     let same : take n lanes ≡ take n us =

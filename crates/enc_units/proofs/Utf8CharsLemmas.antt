@@ -32,7 +32,9 @@ they_mean (c ∷ cs) e = let scalar_parts = and_parts _ _ e in ((scalar_parts.0,
 
 none_of : (cs : List ℕ) → length (encode_utf8_all cs) ≡ 0 → pieces_of cs ≡ []
 none_of [] e = refl
-none_of (c ∷ cs) e = absurd (omega (arith, length-append (encode_utf8 c) (encode_utf8_all cs), length-encode c, len_utf8_bounds c))
+none_of (c ∷ cs) e =
+    absurd (omega
+    (arith, length-append (encode_utf8 c) (encode_utf8_all cs), length-encode c, len_utf8_bounds c))
 
 -- an ASCII byte is its own character
 pub ascii_char : (b : ℕ) → b < 0x80 → IsUtf8Char (b ∷ []) b
@@ -51,7 +53,8 @@ reads_utf8 src n l utf8 = record {
 }
 
 -- and well-formed bytes are put out as they are
-pub puts_utf8 : (before after : Output) (src : List ℕ) (n : ℕ) → n ≤ length src → n ≤ before.room → IsWellFormedUtf8 (take n src) → after ≡ with_appended before (take n src)
+pub puts_utf8 : (before after : Output) (src : List ℕ) (n : ℕ) → n ≤ length src → n ≤ before.room
+    → IsWellFormedUtf8 (take n src) → after ≡ with_appended before (take n src)
     → PutsPieces encode_utf8 IsUtf8Char before after src n
 puts_utf8 before after src n l f utf8 e =
     let units = their_units utf8.0 ∙ utf8.1.1 in

@@ -51,7 +51,8 @@ top_flag false = refl
 module _ (f : ℕ → ℕ → ℕ) (g : Bool → Bool → Bool) (e : (t u : Bool) → f (flag t) (flag u) ≡ flag (g t u)) where
   joined : {t u : ℕ → Bool} {a b : List ℕ} → IsFlags a t → IsFlags b u → IsFlags (zip2 f a b) (λ k. g (t k) (u k))
   joined {t} {u} p q = record {
-    is = zip2_of_maps f (λ k. flag (t k)) (λ k. flag (u k)) places p.is q.is ∙ ap (λ h. map h places) (λ i k. e (t k) (u k) i);
+    is = zip2_of_maps f (λ k. flag (t k)) (λ k. flag (u k)) places p.is q.is
+        ∙ ap (λ h. map h places) (λ i k. e (t k) (u k) i);
   }
 
 lanes : (vs : List ℕ) → length vs ≡ 16 → vs ≡ map (λ k. get_or vs k 0) places
@@ -63,35 +64,58 @@ either = joined bit_or (λ t u. t || u) or_flag
 pub both : {t u : ℕ → Bool} {a b : List ℕ} → IsFlags a t → IsFlags b u → IsFlags (zip2 bit_and a b) (λ k. t k && u k)
 both = joined bit_and (λ t u. t && u) and_flag
 
-pub unequal : {t u : ℕ → Bool} {a b : List ℕ} → IsFlags a t → IsFlags b u → IsFlags (zip2 bit_xor a b) (λ k. differ (t k) (u k))
+pub unequal : {t u : ℕ → Bool} {a b : List ℕ} → IsFlags a t → IsFlags b u
+    → IsFlags (zip2 bit_xor a b) (λ k. differ (t k) (u k))
 unequal = joined bit_xor differ xor_flag
 
 -- comparisons with one number
 
-pub at_least : (n : ℕ) (vs : List ℕ) → length vs ≡ 16 → IsFlags (zip2 (λ a b. flag (leb a b)) (replicate 16 n) vs) (λ k. leb n (get_or vs k 0))
-at_least n vs long = record { is = zip2_of_maps (λ a b. flag (leb a b)) (λ _. n) (λ k. get_or vs k 0) places (splat_is_map places 16 n refl) (lanes vs long) }
+pub at_least : (n : ℕ) (vs : List ℕ) → length vs ≡ 16
+    → IsFlags (zip2 (λ a b. flag (leb a b)) (replicate 16 n) vs) (λ k. leb n (get_or vs k 0))
+at_least n vs long =
+    record {
+      is = zip2_of_maps (λ a b. flag (leb a b)) (λ _. n) (λ k. get_or vs k 0) places
+          (splat_is_map places 16 n refl) (lanes vs long);
+    }
 
-pub below : (n : ℕ) (vs : List ℕ) → length vs ≡ 16 → IsFlags (zip2 (λ a b. flag (ltb a b)) vs (replicate 16 n)) (λ k. ltb (get_or vs k 0) n)
-below n vs long = record { is = zip2_of_maps (λ a b. flag (ltb a b)) (λ k. get_or vs k 0) (λ _. n) places (lanes vs long) (splat_is_map places 16 n refl) }
+pub below : (n : ℕ) (vs : List ℕ) → length vs ≡ 16
+    → IsFlags (zip2 (λ a b. flag (ltb a b)) vs (replicate 16 n)) (λ k. ltb (get_or vs k 0) n)
+below n vs long =
+    record {
+      is = zip2_of_maps (λ a b. flag (ltb a b)) (λ k. get_or vs k 0) (λ _. n) places
+          (lanes vs long) (splat_is_map places 16 n refl);
+    }
 
 -- and with one of two numbers, chosen in each lane
 
-chosen : {t : ℕ → Bool} {m : List ℕ} (a b : ℕ) → IsFlags m t → sel_l (map (top 7) m) (replicate 16 a) (replicate 16 b) ≡ map (λ k. cond (t k) a b) places
+chosen : {t : ℕ → Bool} {m : List ℕ} (a b : ℕ) → IsFlags m t
+    → sel_l (map (top 7) m) (replicate 16 a) (replicate 16 b) ≡ map (λ k. cond (t k) a b) places
 chosen {t} {m} a b p =
-    ap (λ l. sel_l (map (top 7) l) (replicate 16 a) (replicate 16 b)) p.is ∙ ap (λ (g : ℕ → ℕ). map g places) (λ i k. cond (top_flag (t k) i) a b)
+    ap (λ l. sel_l (map (top 7) l) (replicate 16 a) (replicate 16 b)) p.is
+    ∙ ap (λ (g : ℕ → ℕ). map g places) (λ i k. cond (top_flag (t k) i) a b)
 
 pub same_as : {t : ℕ → Bool} {m : List ℕ} (a b : ℕ) (vs : List ℕ) → length vs ≡ 16 → IsFlags m t
-    → IsFlags (zip2 (λ a b. flag (eqb a b)) vs (sel_l (map (top 7) m) (replicate 16 a) (replicate 16 b))) (λ k. eqb (get_or vs k 0) (cond (t k) a b))
-same_as {t} {m} a b vs long p = record { is = zip2_of_maps (λ a b. flag (eqb a b)) (λ k. get_or vs k 0) (λ k. cond (t k) a b) places (lanes vs long) (chosen a b p) }
+    → IsFlags (zip2 (λ a b. flag (eqb a b)) vs (sel_l (map (top 7) m) (replicate 16 a) (replicate 16 b)))
+    (λ k. eqb (get_or vs k 0) (cond (t k) a b))
+same_as {t} {m} a b vs long p =
+    record {
+      is = zip2_of_maps (λ a b. flag (eqb a b)) (λ k. get_or vs k 0)
+          (λ k. cond (t k) a b) places (lanes vs long) (chosen a b p);
+    }
 
 -- where no lane is set
 pub none_set : (m : List ℕ) (t : ℕ → Bool) → IsFlags m t → eqb (mask_l (map (top 7) m) % 2 ^ 64) 0 ≡ true → (k : ℕ)
     → k < 16 → t k ≡ false
 none_set m t p e k h =
-    let tops : map (top 7) m ≡ map t places = ap (map (top 7)) p.is ∙ map-map (top 7) (λ j. flag (t j)) places ∙ ap (λ g. map g places) (λ i j. top_flag (t j) i) in
-    let empty : mask_l (map t places) ≡ 0 = sym (mask_l-mod (map t places) 64 (omega arith)) ∙ ap (λ l. mask_l l % 2 ^ 64) (sym tops) ∙ eqb-true _ _ e in
+    let tops : map (top 7) m ≡ map t places =
+    ap (map (top 7)) p.is ∙ map-map (top 7) (λ j. flag (t j)) places
+    ∙ ap (λ g. map g places) (λ i j. top_flag (t j) i) in
+    let empty : mask_l (map t places) ≡ 0 =
+    sym (mask_l-mod (map t places) 64 (omega arith)) ∙ ap (λ l. mask_l l % 2 ^ 64) (sym tops)
+    ∙ eqb-true _ _ e in
     let place : k ≡ 0 + k = omega arith in
-    ap t (place ∙ sym (get_or-range_with_len 0 16 k 0 h)) ∙ none_from_empty_mask t places 0 16 0 (omega arith) empty k (omega arith) (omega arith)
+    ap t (place ∙ sym (get_or-range_with_len 0 16 k 0 h))
+    ∙ none_from_empty_mask t places 0 16 0 (omega arith) empty k (omega arith) (omega arith)
 
 -- a bit of the mask
 pub flag_bit : (m : List ℕ) (t : ℕ → Bool) → IsFlags m t → (k : ℕ) → k < 16
@@ -112,7 +136,8 @@ flag_bit m t p k h =
 
 abbrev wrong : ℕ → ℕ → ℕ → ℕ → Bool
 wrong z y x b =
-    (differ ((leb 0xC0 x || leb 0xE0 y) || leb 0xF0 z) (leb 0x80 b && ltb b 0xC0) || ((leb 0xC0 b && ltb b 0xC2) || leb 0xF5 b))
+    (differ ((leb 0xC0 x || leb 0xE0 y) || leb 0xF0 z) (leb 0x80 b && ltb b 0xC0) ||
+    ((leb 0xC0 b && ltb b 0xC2) || leb 0xF5 b))
     || (eqb x (cond (leb 0xA0 b) 0xED 0xE0) || eqb x (cond (leb 0x90 b) 0xF4 0xF0))
 
 neither : (t u : Bool) → (t || u) ≡ false → (t ≡ false) × (u ≡ false)
@@ -129,7 +154,8 @@ or_true true u e = refl
 or_true false u e = e
 
 module _ (z y x b : ℕ) (e : wrong z y x b ≡ false) where
-  parts : (((leb 0xC0 x || leb 0xE0 y) || leb 0xF0 z) ≡ (leb 0x80 b && ltb b 0xC0)) × ((leb 0xC0 b && ltb b 0xC2) ≡ false) × (leb 0xF5 b ≡ false)
+  parts : (((leb 0xC0 x || leb 0xE0 y) || leb 0xF0 z) ≡ (leb 0x80 b && ltb b 0xC0))
+      × ((leb 0xC0 b && ltb b 0xC2) ≡ false) × (leb 0xF5 b ≡ false)
       × (eqb x (cond (leb 0xA0 b) 0xED 0xE0) ≡ false) × (eqb x (cond (leb 0x90 b) 0xF4 0xF0) ≡ false)
   parts =
       let not_fourth = neither _ _ e in
@@ -144,38 +170,51 @@ module _ (z y x b : ℕ) (e : wrong z y x b ≡ false) where
   follows : CanFollowBytes z y x b
   follows = record {
     after_first = λ h. continues (sym parts.0 ∙ rw (le-leb 0xC0 x h) refl);
-    after_second = λ h. continues (sym parts.0 ∙ ap (λ t. t || leb 0xF0 z) (or_true (leb 0xC0 x) (leb 0xE0 y) (le-leb 0xE0 y h)));
+    after_second = λ h. continues
+        (sym parts.0
+        ∙ ap (λ t. t || leb 0xF0 z) (or_true (leb 0xC0 x) (leb 0xE0 y) (le-leb 0xE0 y h)));
     after_third = λ h. continues (sym parts.0 ∙ or_true (leb 0xC0 x || leb 0xE0 y) (leb 0xF0 z) (le-leb 0xF0 z h));
-    begins = λ f g h. let p = parts in grind (arith, nat_tests);
-    after_0xe0 = λ h. let p = parts.3 in grind (arith, nat_tests);
-    after_0xed = λ h. let p = parts.3 in grind (arith, nat_tests);
-    after_0xf0 = λ h. let p = parts.4 in grind (arith, nat_tests);
-    after_0xf4 = λ h. let p = parts.4 in grind (arith, nat_tests);
+    begins = λ f g h. let all_parts = parts in grind (arith, nat_tests);
+    after_0xe0 = λ h. let fits_0xe0_and_0xed = parts.3 in grind (arith, nat_tests);
+    after_0xed = λ h. let fits_0xe0_and_0xed = parts.3 in grind (arith, nat_tests);
+    after_0xf0 = λ h. let fits_0xf0_and_0xf4 = parts.4 in grind (arith, nat_tests);
+    after_0xf4 = λ h. let fits_0xf0_and_0xf4 = parts.4 in grind (arith, nat_tests);
   }
 
-module _ (zs ys xs bs : List ℕ) (lz : length zs ≡ 16) (ly : length ys ≡ 16) (lx : length xs ≡ 16) (lb : length bs ≡ 16) where
+module _ (zs ys xs bs : List ℕ) (lz : length zs ≡ 16) (ly : length ys ≡ 16) (lx : length xs ≡ 16)
+    (lb : length bs ≡ 16) where
   abbrev flags : (m : List ℕ) × IsFlags m (λ k. wrong (get_or zs k 0) (get_or ys k 0) (get_or xs k 0) (get_or bs k 0))
   flags = (
     _,
     either
-        (either (unequal (either (either (at_least 0xC0 xs lx) (at_least 0xE0 ys ly)) (at_least 0xF0 zs lz)) (both (at_least 0x80 bs lb) (below 0xC0 bs lb)))
+        (either (unequal
+        (either (either (at_least 0xC0 xs lx) (at_least 0xE0 ys ly)) (at_least 0xF0 zs lz))
+        (both (at_least 0x80 bs lb) (below 0xC0 bs lb)))
         (either (both (at_least 0xC0 bs lb) (below 0xC2 bs lb)) (at_least 0xF5 bs lb)))
         (either (same_as 0xED 0xE0 xs lx (at_least 0xA0 bs lb)) (same_as 0xF4 0xF0 xs lx (at_least 0x90 bs lb))),
   )
 
-  pub lanes_follow : eqb (mask_l (map (top 7) flags.0) % 2 ^ 64) 0 ≡ true → (k : ℕ) → k < 16 → CanFollowBytes (get_or zs k 0) (get_or ys k 0) (get_or xs k 0) (get_or bs k 0)
-  lanes_follow e k h = follows (get_or zs k 0) (get_or ys k 0) (get_or xs k 0) (get_or bs k 0) (none_set flags.0 _ flags.1 e k h)
+  pub lanes_follow : eqb (mask_l (map (top 7) flags.0) % 2 ^ 64) 0 ≡ true → (k : ℕ) → k < 16
+      → CanFollowBytes (get_or zs k 0) (get_or ys k 0) (get_or xs k 0) (get_or bs k 0)
+  lanes_follow e k h =
+      follows (get_or zs k 0) (get_or ys k 0) (get_or xs k 0) (get_or bs k 0)
+      (none_set flags.0 _ flags.1 e k h)
 
 along : {z y x b z' y' x' b' : ℕ} → z ≡ z' → y ≡ y' → x ≡ x' → b ≡ b' → CanFollowBytes z y x b
     → CanFollowBytes z' y' x' b'
 along {z} {y} {x} {b} {z'} {y'} {x'} {b'} p q r s f =
-    subst (λ v. CanFollowBytes z' y' x' v) s (subst (λ v. CanFollowBytes z' y' v b) r (subst (λ v. CanFollowBytes z' v x b) q (subst (λ v. CanFollowBytes v y x b) p f)))
+    subst (λ v. CanFollowBytes z' y' x' v) s
+    (subst (λ v. CanFollowBytes z' y' v b) r
+    (subst (λ v. CanFollowBytes z' v x b) q (subst (λ v. CanFollowBytes v y x b) p f)))
 
 pub block_follows : (src : List ℕ) (at : ℕ)
-    → ((j : ℕ) → j < 16 → CanFollowBytes (get_or (chunk at 16 src) j 0) (get_or (chunk (at + 1) 16 src) j 0) (get_or (chunk (at + 2) 16 src) j 0) (get_or (chunk (at + 3) 16 src) j 0))
+    → ((j : ℕ) → j < 16 → CanFollowBytes (get_or (chunk at 16 src) j 0) (get_or (chunk (at + 1) 16 src) j 0)
+    (get_or (chunk (at + 2) 16 src) j 0) (get_or (chunk (at + 3) 16 src) j 0))
     → (k : ℕ) → at ≤ k → k < at + 16 → CanFollowBytesAt src k
 block_follows src at h k from to =
-    let j = k - at in
-    let few : j < 16 = omega arith in
-    let lane : (i m : ℕ) → i + j ≡ m → get_or (chunk i 16 src) j 0 ≡ get_or src m 0 = λ i m e. get_or-chunk i 16 src j 0 few ∙ ap (λ n. get_or src n 0) e in
-    along (lane at k (omega arith)) (lane (at + 1) (suc k) (omega arith)) (lane (at + 2) (suc (suc k)) (omega arith)) (lane (at + 3) (suc (suc (suc k))) (omega arith)) (h j few)
+    let lane_number = k - at in
+    let few : lane_number < 16 = omega arith in
+    let lane : (i m : ℕ) → i + lane_number ≡ m → get_or (chunk i 16 src) lane_number 0 ≡ get_or src m 0 =
+    λ i m e. get_or-chunk i 16 src lane_number 0 few ∙ ap (λ n. get_or src n 0) e in
+    along (lane at k (omega arith)) (lane (at + 1) (suc k) (omega arith))
+    (lane (at + 2) (suc (suc k)) (omega arith)) (lane (at + 3) (suc (suc (suc k))) (omega arith)) (h lane_number few)

@@ -69,17 +69,19 @@ module _ (bs : List ℕ) (utf8 : IsUtf8 bs) where
   split h low =
       let begins = front bs utf8 h in
       elim (cases_lt begins.c 0x80) [
-        | inl one ↦ let e = at_front bs begins.c begins.rest (begins.c ∷ []) begins.is (encode_ascii begins.c one) 0
-            0 in absurd (omega
-            (arith, e))
+        | inl one ↦
+            let first = at_front bs begins.c begins.rest (begins.c ∷ []) begins.is
+            (encode_ascii begins.c one) 0 0 in
+            absurd (omega (arith, first))
         | inr more ↦ elim (cases_lt begins.c 0x800) [
           | inl below ↦
               let code = utf8_two begins.c more below in
               let first = at_front bs begins.c begins.rest _ begins.is code 0 0 in
-              let g = at_front bs begins.c begins.rest _ begins.is code 1 0 in
+              let second = at_front bs begins.c begins.rest _ begins.is code 1 0 in
               record {
                 two = λ x. equal begins.c _ 2 begins.scalar more
-                    (first_is bs begins.c begins.rest _ utf8 begins.is code) (omega (arith, first, g));
+                    (first_is bs begins.c begins.rest _ utf8 begins.is code)
+                    (omega (arith, first, second));
                 three = λ x y. absurd (omega (arith, first));
                 four = λ x. absurd (omega (arith, first));
               }
@@ -87,22 +89,22 @@ module _ (bs : List ℕ) (utf8 : IsUtf8 bs) where
             | inl below ↦
                 let code = utf8_three begins.c above below in
                 let first = at_front bs begins.c begins.rest _ begins.is code 0 0 in
-                let g = at_front bs begins.c begins.rest _ begins.is code 1 0 in
-                let k = at_front bs begins.c begins.rest _ begins.is code 2 0 in
+                let second = at_front bs begins.c begins.rest _ begins.is code 1 0 in
+                let third = at_front bs begins.c begins.rest _ begins.is code 2 0 in
                 record {
                   two = λ x. absurd (omega (arith, first));
                   three =
                       λ x y. equal begins.c _ 3 begins.scalar more
                       (first_is bs begins.c begins.rest _ utf8 begins.is code) (omega
-                      (arith, first, g, k));
+                      (arith, first, second, third));
                   four = λ x. absurd (omega (arith, first));
                 }
             | inr far ↦
                 let code = utf8_four begins.c far in
                 let first = at_front bs begins.c begins.rest _ begins.is code 0 0 in
-                let g = at_front bs begins.c begins.rest _ begins.is code 1 0 in
-                let k = at_front bs begins.c begins.rest _ begins.is code 2 0 in
-                let m = at_front bs begins.c begins.rest _ begins.is code 3 0 in
+                let second = at_front bs begins.c begins.rest _ begins.is code 1 0 in
+                let third = at_front bs begins.c begins.rest _ begins.is code 2 0 in
+                let fourth = at_front bs begins.c begins.rest _ begins.is code 3 0 in
                 let most = below_most begins.c begins.scalar in
                 record {
                   two = λ x. absurd (omega (arith, first));
@@ -110,7 +112,7 @@ module _ (bs : List ℕ) (utf8 : IsUtf8 bs) where
                   four =
                       λ x. equal begins.c _ 4 begins.scalar more
                       (first_is bs begins.c begins.rest _ utf8 begins.is code) (omega
-                      (arith, first, g, k, m));
+                      (arith, first, second, third, fourth));
                 }
           ]
         ]

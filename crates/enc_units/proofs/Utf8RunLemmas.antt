@@ -28,7 +28,8 @@ one a h = of_one (a ∷ []) 0 (omega arith) h
 pub two : (a b : ℕ) → (0xC2 ≤ a) × (a < 0xE0) → (0x80 ≤ b) × (b < 0xC0) → IsWellFormedUtf8 (a ∷ b ∷ [])
 two a b h f = of_two (a ∷ b ∷ []) 0 (omega arith) h f
 
-pub three : (a b c : ℕ) → (0xE0 ≤ a) × (a < 0xF0) → (0x80 ≤ b) × (b < 0xC0) → (a ≡ 0xE0 → 0xA0 ≤ b) → (a ≡ 0xED → b < 0xA0) → (0x80 ≤ c) × (c < 0xC0)
+pub three : (a b c : ℕ) → (0xE0 ≤ a) × (a < 0xF0) → (0x80 ≤ b) × (b < 0xC0) → (a ≡ 0xE0 → 0xA0 ≤ b)
+    → (a ≡ 0xED → b < 0xA0) → (0x80 ≤ c) × (c < 0xC0)
     → IsWellFormedUtf8 (a ∷ b ∷ c ∷ [])
 three a b c h f e below_surrogates g =
     let least = unless a 0xE0 e in
@@ -41,7 +42,8 @@ three a b c h f e below_surrogates g =
       ]
     ])
 
-pub four : (a b c d : ℕ) → (0xF0 ≤ a) × (a ≤ 0xF4) → (0x80 ≤ b) × (b < 0xC0) → (a ≡ 0xF0 → 0x90 ≤ b) → (a ≡ 0xF4 → b < 0x90) → (0x80 ≤ c) × (c < 0xC0)
+pub four : (a b c d : ℕ) → (0xF0 ≤ a) × (a ≤ 0xF4) → (0x80 ≤ b) × (b < 0xC0) → (a ≡ 0xF0 → 0x90 ≤ b)
+    → (a ≡ 0xF4 → b < 0x90) → (0x80 ≤ c) × (c < 0xC0)
     → (0x80 ≤ d) × (d < 0xC0) → IsWellFormedUtf8 (a ∷ b ∷ c ∷ d ∷ [])
 four a b c d h f e g j k =
     let least = unless a 0xF0 e in
@@ -50,8 +52,10 @@ four a b c d h f e g j k =
 
 -- the bytes of several characters
 
-module _ (n : ℕ) (rest : (z y x : ℕ) (bs : List ℕ) → length bs ≤ n → AreBetween z y x → AllFollow z y x bs → IsWellFormedUtf8 bs) where
-  fourth : (y z a b c : ℕ) (bs : List ℕ) → length bs ≤ n → (0xF0 ≤ a) × (a ≤ 0xF4) → (0x80 ≤ b) × (b < 0xC0) → CanFollowBytes y z a b → (0x80 ≤ c) × (c < 0xC0)
+module _ (n : ℕ) (rest : (z y x : ℕ) (bs : List ℕ) → length bs ≤ n → AreBetween z y x → AllFollow z y x bs
+    → IsWellFormedUtf8 bs) where
+  fourth : (y z a b c : ℕ) (bs : List ℕ) → length bs ≤ n → (0xF0 ≤ a) × (a ≤ 0xF4)
+      → (0x80 ≤ b) × (b < 0xC0) → CanFollowBytes y z a b → (0x80 ≤ c) × (c < 0xC0)
       → AllFollow a b c bs → IsWellFormedUtf8 (a ∷ b ∷ c ∷ bs)
   fourth y z a b c [] l leads_four f second_follows e rest_follow = absurd (omega arith)
   fourth y z a b c (d ∷ bs) l leads_four f second_follows e rest_follow =
@@ -60,7 +64,8 @@ module _ (n : ℕ) (rest : (z y x : ℕ) (bs : List ℕ) → length bs ≤ n →
       (rest_follow.0.after_third leads_four.0))
       (rest b c d bs (omega arith) (omega (arith, rest_follow.0.after_third leads_four.0)) rest_follow.1)
 
-  third : (y z a b : ℕ) (bs : List ℕ) → length bs ≤ n → (0xE0 ≤ a) × (a ≤ 0xF4) → (0x80 ≤ b) × (b < 0xC0) → CanFollowBytes y z a b → AllFollow z a b bs
+  third : (y z a b : ℕ) (bs : List ℕ) → length bs ≤ n → (0xE0 ≤ a) × (a ≤ 0xF4)
+      → (0x80 ≤ b) × (b < 0xC0) → CanFollowBytes y z a b → AllFollow z a b bs
       → IsWellFormedUtf8 (a ∷ b ∷ bs)
   third y z a b [] l leads_three continues second_follows rest_follow = absurd (omega arith)
   third y z a b (c ∷ bs) l leads_three continues second_follows rest_follow =
@@ -73,7 +78,8 @@ module _ (n : ℕ) (rest : (z y x : ℕ) (bs : List ℕ) → length bs ≤ n →
             rest_follow.1
       ]
 
-  second : (y z a : ℕ) (bs : List ℕ) → length bs ≤ n → z < 0xC0 → (0xC2 ≤ a) × (a ≤ 0xF4) → AllFollow y z a bs → IsWellFormedUtf8 (a ∷ bs)
+  second : (y z a : ℕ) (bs : List ℕ) → length bs ≤ n → z < 0xC0 → (0xC2 ≤ a) × (a ≤ 0xF4)
+      → AllFollow y z a bs → IsWellFormedUtf8 (a ∷ bs)
   second y z a [] l k leads rest_follow = absurd (omega arith)
   second y z a (b ∷ bs) l k leads rest_follow =
       let continues = rest_follow.0.after_first (omega arith) in
@@ -97,14 +103,17 @@ all_utf8 zero z y x (b ∷ bs) l h v = absurd (omega arith)
 all_utf8 (suc n) z y x bs l h v = first n (all_utf8 n) z y x bs l h v
 
 -- the same by places
-all_follow : (n z y x : ℕ) (bs : List ℕ) → n ≤ length bs → ((k : ℕ) → k < n → CanFollowBytesAt (z ∷ y ∷ x ∷ bs) k) → IsCharBoundaryAfter (z ∷ y ∷ x ∷ bs) n
+all_follow : (n z y x : ℕ) (bs : List ℕ) → n ≤ length bs
+    → ((k : ℕ) → k < n → CanFollowBytesAt (z ∷ y ∷ x ∷ bs) k)
+    → IsCharBoundaryAfter (z ∷ y ∷ x ∷ bs) n
     → AllFollow z y x (take n bs)
 all_follow zero z y x bs l follow ends_char = ends_char
 all_follow (suc n) z y x [] l follow ends_char = absurd (omega arith)
 all_follow (suc n) z y x (b ∷ bs) l follow ends_char =
     (follow 0 (omega arith), all_follow n y x b bs (omega arith) (λ k u. follow (suc k) (omega arith)) ends_char)
 
-pub blocks_utf8 : (n : ℕ) (src : List ℕ) → n + 3 ≤ length src → IsCharBoundaryAfter src 0 → ((k : ℕ) → k < n → CanFollowBytesAt src k) → IsCharBoundaryAfter src n
+pub blocks_utf8 : (n : ℕ) (src : List ℕ) → n + 3 ≤ length src → IsCharBoundaryAfter src 0
+    → ((k : ℕ) → k < n → CanFollowBytesAt src k) → IsCharBoundaryAfter src n
     → IsWellFormedUtf8 (take n (drop 3 src))
 blocks_utf8 n [] l b h e = absurd (omega arith)
 blocks_utf8 n (z ∷ []) l b h e = absurd (omega arith)
@@ -118,21 +127,29 @@ pub one_front : (src : List ℕ) → 0 < length src → get_or src 0 0 < 0x80 �
 one_front [] l h = absurd (omega arith)
 one_front (a ∷ bs) l h = one a h
 
-pub two_front : (src : List ℕ) → 1 < length src → (0xC2 ≤ get_or src 0 0) × (get_or src 0 0 < 0xE0) → (0x80 ≤ get_or src 1 0) × (get_or src 1 0 < 0xC0) → IsWellFormedUtf8 (take 2 src)
+pub two_front : (src : List ℕ) → 1 < length src → (0xC2 ≤ get_or src 0 0) × (get_or src 0 0 < 0xE0)
+    → (0x80 ≤ get_or src 1 0) × (get_or src 1 0 < 0xC0) → IsWellFormedUtf8 (take 2 src)
 two_front [] l h f = absurd (omega arith)
 two_front (a ∷ []) l h f = absurd (omega arith)
 two_front (a ∷ b ∷ bs) l h f = two a b h f
 
-pub three_front : (src : List ℕ) → 2 < length src → (0xE0 ≤ get_or src 0 0) × (get_or src 0 0 < 0xF0) → (0x80 ≤ get_or src 1 0) × (get_or src 1 0 < 0xC0)
-    → (get_or src 0 0 ≡ 0xE0 → 0xA0 ≤ get_or src 1 0) → (get_or src 0 0 ≡ 0xED → get_or src 1 0 < 0xA0) → (0x80 ≤ get_or src 2 0) × (get_or src 2 0 < 0xC0)
+pub three_front : (src : List ℕ) → 2 < length src
+    → (0xE0 ≤ get_or src 0 0) × (get_or src 0 0 < 0xF0)
+    → (0x80 ≤ get_or src 1 0) × (get_or src 1 0 < 0xC0)
+    → (get_or src 0 0 ≡ 0xE0 → 0xA0 ≤ get_or src 1 0)
+    → (get_or src 0 0 ≡ 0xED → get_or src 1 0 < 0xA0)
+    → (0x80 ≤ get_or src 2 0) × (get_or src 2 0 < 0xC0)
     → IsWellFormedUtf8 (take 3 src)
 three_front [] l h f e d g = absurd (omega arith)
 three_front (a ∷ []) l h f e d g = absurd (omega arith)
 three_front (a ∷ b ∷ []) l h f e d g = absurd (omega arith)
 three_front (a ∷ b ∷ c ∷ bs) l h f e d g = three a b c h f e d g
 
-pub four_front : (src : List ℕ) → 3 < length src → (0xF0 ≤ get_or src 0 0) × (get_or src 0 0 ≤ 0xF4) → (0x80 ≤ get_or src 1 0) × (get_or src 1 0 < 0xC0)
-    → (get_or src 0 0 ≡ 0xF0 → 0x90 ≤ get_or src 1 0) → (get_or src 0 0 ≡ 0xF4 → get_or src 1 0 < 0x90) → (0x80 ≤ get_or src 2 0) × (get_or src 2 0 < 0xC0)
+pub four_front : (src : List ℕ) → 3 < length src → (0xF0 ≤ get_or src 0 0) × (get_or src 0 0 ≤ 0xF4)
+    → (0x80 ≤ get_or src 1 0) × (get_or src 1 0 < 0xC0)
+    → (get_or src 0 0 ≡ 0xF0 → 0x90 ≤ get_or src 1 0)
+    → (get_or src 0 0 ≡ 0xF4 → get_or src 1 0 < 0x90)
+    → (0x80 ≤ get_or src 2 0) × (get_or src 2 0 < 0xC0)
     → (0x80 ≤ get_or src 3 0) × (get_or src 3 0 < 0xC0) → IsWellFormedUtf8 (take 4 src)
 four_front [] l h f e d g j = absurd (omega arith)
 four_front (a ∷ []) l h f e d g j = absurd (omega arith)
@@ -145,44 +162,54 @@ four_front (a ∷ b ∷ c ∷ d' ∷ bs) l h f e d g j = four a b c d' h f e d g
 rest_is : (src : List ℕ) (at : ℕ) → take (length src - at) (drop at src) ≡ drop at src
 rest_is src at = take_all (length src - at) (drop at src) (omega (arith, length-drop at src))
 
-pub longer : (src : List ℕ) (at n : ℕ) → IsWellFormedUtf8 (take at src) → IsWellFormedUtf8 (take n (take (length src - at) (drop at src))) → IsWellFormedUtf8 (take (at + n) src)
+pub longer : (src : List ℕ) (at n : ℕ) → IsWellFormedUtf8 (take at src)
+    → IsWellFormedUtf8 (take n (take (length src - at) (drop at src)))
+    → IsWellFormedUtf8 (take (at + n) src)
 longer src at n a b =
-    subst IsWellFormedUtf8 (sym (take-add at n src)) (IsUtf8-append (take at src) (take n (drop at src)) a (subst (λ r. IsWellFormedUtf8 (take n r)) (rest_is src at) b))
+    subst IsWellFormedUtf8 (sym (take-add at n src))
+    (IsUtf8-append (take at src) (take n (drop at src)) a
+    (subst (λ r. IsWellFormedUtf8 (take n r)) (rest_is src at) b))
 
 -- the same, where three bytes before them are looked at as well
-pub longer_from : (src : List ℕ) (at n : ℕ) → 3 ≤ at → IsWellFormedUtf8 (take at src) → IsWellFormedUtf8 (take n (drop 3 (take (length src - (at - 3)) (drop (at - 3) src))))
+pub longer_from : (src : List ℕ) (at n : ℕ) → 3 ≤ at → IsWellFormedUtf8 (take at src)
+    → IsWellFormedUtf8 (take n (drop 3 (take (length src - (at - 3)) (drop (at - 3) src))))
     → IsWellFormedUtf8 (take (at + n) src)
 longer_from src at n h a b =
     let place : at - 3 + 3 ≡ at = omega arith in
-    let rest = ap (drop 3) (rest_is src (at - 3)) ∙ drop-drop 3 (at - 3) src ∙ ap (λ m. drop m src) place ∙ sym (rest_is src at) in
+    let rest = ap (drop 3) (rest_is src (at - 3)) ∙ drop-drop 3 (at - 3) src
+    ∙ ap (λ m. drop m src) place ∙ sym (rest_is src at) in
     longer src at n a (subst (λ r. IsWellFormedUtf8 (take n r)) rest b)
 
 -- after a complete character, ASCII can follow
-module _ (src : List ℕ) (at n : ℕ) (l : at + 3 + n ≤ length src) (b : IsCharBoundaryAfter src at) (a : AreAscii (take n (drop (at + 3) src))) where
+module _ (src : List ℕ) (at n : ℕ) (l : at + 3 + n ≤ length src) (b : IsCharBoundaryAfter src at)
+    (a : AreAscii (take n (drop (at + 3) src))) where
   low : (m : ℕ) → at + 3 ≤ m → m < at + 3 + n → get_or src m 0 < 0x80
   low m from to =
       let place : at + 3 + (m - (at + 3)) ≡ m = omega arith in
-      subst (λ v. v < 0x80) (get_or-chunk (at + 3) n src (m - (at + 3)) 0 (omega arith) ∙ ap (λ k. get_or src k 0) place)
+      subst (λ v. v < 0x80)
+      (get_or-chunk (at + 3) n src (m - (at + 3)) 0 (omega arith) ∙ ap (λ k. get_or src k 0) place)
       (a (m - (at + 3)) 0 (omega (arith, length-take n (drop (at + 3) src), length-drop (at + 3) src)))
 
   between : (d : ℕ) → d < n → IsCharBoundaryAfter src (at + d)
-  between zero h = let e : at ≡ at + 0 = omega arith in subst (IsCharBoundaryAfter src) e b
+  between zero h =
+      let same_place : at ≡ at + 0 = omega arith in subst (IsCharBoundaryAfter src) same_place b
   between (suc d) h =
-      let e : suc (at + d) ≡ at + suc d = omega arith in
-      let p = between d (omega arith) in
-      let q = low (suc (suc (suc (at + d)))) (omega arith) (omega arith) in
-      subst (IsCharBoundaryAfter src) e (omega arith, omega arith, omega arith)
+      let next_place : suc (at + d) ≡ at + suc d = omega arith in
+      let boundary = between d (omega arith) in
+      let next_is_ascii = low (suc (suc (suc (at + d)))) (omega arith) (omega arith) in
+      subst (IsCharBoundaryAfter src) next_place (omega arith, omega arith, omega arith)
 
   pub ascii_follows : (k : ℕ) → at ≤ k → k < at + n → CanFollowBytesAt src k
   ascii_follows k from to =
-      let e : at + (k - at) ≡ k = omega arith in
-      let p : IsCharBoundaryAfter src k = subst (IsCharBoundaryAfter src) e (between (k - at) (omega arith)) in
-      let q = low (suc (suc (suc k))) (omega arith) (omega arith) in
+      let same_place : at + (k - at) ≡ k = omega arith in
+      let boundary : IsCharBoundaryAfter src k =
+      subst (IsCharBoundaryAfter src) same_place (between (k - at) (omega arith)) in
+      let next_is_ascii = low (suc (suc (suc k))) (omega arith) (omega arith) in
       record {
         after_first = λ w. absurd (omega arith);
         after_second = λ w. absurd (omega arith);
         after_third = λ w. absurd (omega arith);
-        begins = λ _ _ _. inl q;
+        begins = λ _ _ _. inl next_is_ascii;
         after_0xe0 = λ w. absurd (omega arith);
         after_0xed = λ w. absurd (omega arith);
         after_0xf0 = λ w. absurd (omega arith);

@@ -181,7 +181,7 @@ pub all_units_are : (a b c : ℕ) → a < 0x100 → b < 0x100 → c < 0x100 → 
 all_units_are a b c la lb lc = elim (cases_lt a 0x80) [
   | inl h ↦ grind (arith, nat_tests)
   | inr h ↦ elim (cases_lt a 0xC0) [
-    | inl g ↦ let e = low_is a b h g lb in grind (arith, nat_tests, e)
+    | inl g ↦ let second_is_low = low_is a b h g lb in grind (arith, nat_tests, second_is_low)
     | inr g ↦ grind (arith, nat_tests)
   ]
 ]

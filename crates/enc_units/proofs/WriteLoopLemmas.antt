@@ -67,12 +67,13 @@ module _ {chars_in : List ℕ → List ℕ} {Ok : List ℕ → Type 0} {Means : 
       → AreWrittenAsThemselves Means bs → dst' ≡ take at dst ++ (bs ++ drop (at + n) dst)
       → IsWritten dst' (read + n) (at + n)
   ascii_further {dst' = dst'} {bs = bs} {n = n} as_long l begins a o =
-      let d = drop read src in
-      let after : drop (length bs) d ≡ drop (read + n) src = ap (λ k. drop k d) as_long ∙ drop-drop n read src in
+      let rest = drop read src in
+      let after : drop (length bs) rest ≡ drop (read + n) src =
+      ap (λ k. drop k rest) as_long ∙ drop-drop n read src in
       further dst' n n
       (omega (arith, written.within, begins.within, length-drop read src, as_long)) (subst Ok after begins.ok)
-      (maps_ascii Means (chars_in d) (chars_in (drop (read + n) src)) dst dst' at n bs a (begins.chars
-      ∙ ap (λ x. bs ++ chars_in x) after) (sym as_long) l o)
+      (maps_ascii Means (chars_in rest) (chars_in (drop (read + n) src)) dst dst' at n bs a
+      (begins.chars ∙ ap (λ x. bs ++ chars_in x) after) (sym as_long) l o)
 
   -- with sixteen lanes of ASCII
   pub whole_further : (lanes : List ℕ) {n : ℕ} → length lanes ≡ 16 → n ≡ 16

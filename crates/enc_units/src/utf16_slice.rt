@@ -4,7 +4,7 @@ ghost use Rattle.std.specs.Prelude.{◌≡◌, ◌-◌, ◌≤◌, ◌++◌, len
 ghost use Rattle.std.specs.Char.{IsScalar};
 ghost use Rattle.std.specs.Char.Escape.{encode_utf16};
 ghost use Rattle.enc_units.specs.AsciiRun.{PutsAscii};
-ghost use Rattle.enc_units.specs.Output.{DetermineTexts, with_appended, slice_output};
+ghost use Rattle.enc_units.specs.Output.{DetermineTexts, with_appended, borrowed_output};
 ghost use Rattle.enc_units.specs.Pieces.{PutsPieces, IsUtf8Char};
 
 use crate::byte_units::ByteUnits;
@@ -58,11 +58,11 @@ impl<'a> Utf16Slice<'a> {
             (length self.old.dst.now - self.old.len) }
         ensures scalar { IsScalar c }
         ensures written { IsTrue result
-            → slice_output self.new.len self.new.dst.now self.new.dst.ghost_name ≡ with_appended
-            (slice_output self.old.len self.old.dst.now self.old.dst.ghost_name) (encode_utf16 c) }
+            → borrowed_output self.new.len self.new.dst ≡ with_appended
+            (borrowed_output self.old.len self.old.dst) (encode_utf16 c) }
         ensures unchanged { IsFalse result
-            → slice_output self.new.len self.new.dst.now self.new.dst.ghost_name
-            ≡ slice_output self.old.len self.old.dst.now self.old.dst.ghost_name }
+            → borrowed_output self.new.len self.new.dst
+            ≡ borrowed_output self.old.len self.old.dst }
     {
         let width = c.len_utf16();
         if width > self.dst.len() - self.len {
@@ -78,9 +78,8 @@ impl<'a> Utf16Slice<'a> {
     /// Writes the ASCII at the front, as much as fits, and returns its length.
     #[inline(always)]
     fn append_ascii(&mut self, src: &[u8]) -> usize
-        ensures { PutsAscii encode_utf16
-            (slice_output self.old.len self.old.dst.now self.old.dst.ghost_name)
-            (slice_output self.new.len self.new.dst.now self.new.dst.ghost_name) src.now result }
+        ensures { PutsAscii encode_utf16 (borrowed_output self.old.len self.old.dst)
+            (borrowed_output self.new.len self.new.dst) src.now result }
     {
         let len = widen_ascii(src, &mut self.dst[self.len..]);
         self.len += len;
@@ -92,11 +91,11 @@ impl<'a> Utf16Slice<'a> {
     fn append_units(&mut self, units: &[u16]) -> bool
         ensures fits { IsTrue result → length units.now ≤ length self.old.dst.now - self.old.len }
         ensures written { IsTrue result
-            → slice_output self.new.len self.new.dst.now self.new.dst.ghost_name ≡ with_appended
-            (slice_output self.old.len self.old.dst.now self.old.dst.ghost_name) units.now }
+            → borrowed_output self.new.len self.new.dst ≡ with_appended
+            (borrowed_output self.old.len self.old.dst) units.now }
         ensures unchanged { IsFalse result
-            → slice_output self.new.len self.new.dst.now self.new.dst.ghost_name
-            ≡ slice_output self.old.len self.old.dst.now self.old.dst.ghost_name }
+            → borrowed_output self.new.len self.new.dst
+            ≡ borrowed_output self.old.len self.old.dst }
     {
         if units.len() > self.dst.len() - self.len {
             return false;
@@ -111,8 +110,8 @@ impl<'a> Utf16Slice<'a> {
     #[inline(always)]
     fn append_ascii_of<G: Gather>(&mut self, by: &G, src: &[u8]) -> usize
         ensures { PutsPieces encode_utf16 (G.means by.now)
-            (slice_output self.old.len self.old.dst.now self.old.dst.ghost_name)
-            (slice_output self.new.len self.new.dst.now self.new.dst.ghost_name) src.now result }
+            (borrowed_output self.old.len self.old.dst)
+            (borrowed_output self.new.len self.new.dst) src.now result }
     {
         if !by.has_ascii() {
             return 0;
@@ -126,8 +125,8 @@ impl<'a> Utf16Slice<'a> {
     fn append_gathered<G: Gather>(&mut self, by: &G, buffer: &mut [u16], src: &[u8]) -> usize
         requires { G.ready by.now }
         ensures { PutsPieces encode_utf16 (G.means by.now)
-            (slice_output self.old.len self.old.dst.now self.old.dst.ghost_name)
-            (slice_output self.new.len self.new.dst.now self.new.dst.ghost_name) src.now result }
+            (borrowed_output self.old.len self.old.dst)
+            (borrowed_output self.new.len self.new.dst) src.now result }
     {
         let mut at = 0;
         loop {
@@ -151,8 +150,8 @@ impl<'a> Utf16Slice<'a> {
     #[inline(never)]
     fn append_by_table<P: Pieces>(&mut self, pieces: P, src: &[u8]) -> usize
         ensures { PutsPieces encode_utf16 (P.means pieces)
-            (slice_output self.old.len self.old.dst.now self.old.dst.ghost_name)
-            (slice_output self.new.len self.new.dst.now self.new.dst.ghost_name) src.now result }
+            (borrowed_output self.old.len self.old.dst)
+            (borrowed_output self.new.len self.new.dst) src.now result }
     {
         self.append_gathered(&ByteUnits::of(pieces), &mut [0; UNITS_BUFFER], src)
     }
@@ -162,8 +161,8 @@ impl<'a> Utf16Slice<'a> {
     #[inline(always)]
     fn append_run<P: Pieces>(&mut self, pieces: P, src: &[u8]) -> usize
         ensures { PutsPieces encode_utf16 (P.means pieces)
-            (slice_output self.old.len self.old.dst.now self.old.dst.ghost_name)
-            (slice_output self.new.len self.new.dst.now self.new.dst.ghost_name) src.now result }
+            (borrowed_output self.old.len self.old.dst)
+            (borrowed_output self.new.len self.new.dst) src.now result }
     {
         if src.len() < SHORT || self.dst.len() - self.len < SHORT {
             return 0;
@@ -185,9 +184,8 @@ impl<'a> Utf16Slice<'a> {
     /// that is short. Returns its length.
     #[inline(always)]
     fn append_part(&mut self, src: &[u8]) -> usize
-        ensures { PutsPieces encode_utf16 IsUtf8Char
-            (slice_output self.old.len self.old.dst.now self.old.dst.ghost_name)
-            (slice_output self.new.len self.new.dst.now self.new.dst.ghost_name) src.now result }
+        ensures { PutsPieces encode_utf16 IsUtf8Char (borrowed_output self.old.len self.old.dst)
+            (borrowed_output self.new.len self.new.dst) src.now result }
     {
         if src.len() < SHORT {
             return 0;
@@ -206,9 +204,8 @@ impl<'a> Utf16Slice<'a> {
     /// in bytes.
     #[inline(always)]
     fn append_char(&mut self, src: &[u8]) -> usize
-        ensures { PutsPieces encode_utf16 IsUtf8Char
-            (slice_output self.old.len self.old.dst.now self.old.dst.ghost_name)
-            (slice_output self.new.len self.new.dst.now self.new.dst.ghost_name) src.now result }
+        ensures { PutsPieces encode_utf16 IsUtf8Char (borrowed_output self.old.len self.old.dst)
+            (borrowed_output self.new.len self.new.dst) src.now result }
     {
         if src.len() == 0 {
             return 0;
@@ -226,9 +223,8 @@ impl<'a> Utf16Slice<'a> {
     /// text. Returns its length.
     #[inline(always)]
     fn append_some(&mut self, src: &[u8]) -> usize
-        ensures { PutsPieces encode_utf16 IsUtf8Char
-            (slice_output self.old.len self.old.dst.now self.old.dst.ghost_name)
-            (slice_output self.new.len self.new.dst.now self.new.dst.ghost_name) src.now result }
+        ensures { PutsPieces encode_utf16 IsUtf8Char (borrowed_output self.old.len self.old.dst)
+            (borrowed_output self.new.len self.new.dst) src.now result }
     {
         if is_nearly_ascii(src) {
             return self.append_char(src);
@@ -240,9 +236,8 @@ impl<'a> Utf16Slice<'a> {
     /// one. Returns its length.
     #[inline(never)]
     fn append_utf8(&mut self, src: &[u8]) -> usize
-        ensures { PutsPieces encode_utf16 IsUtf8Char
-            (slice_output self.old.len self.old.dst.now self.old.dst.ghost_name)
-            (slice_output self.new.len self.new.dst.now self.new.dst.ghost_name) src.now result }
+        ensures { PutsPieces encode_utf16 IsUtf8Char (borrowed_output self.old.len self.old.dst)
+            (borrowed_output self.new.len self.new.dst) src.now result }
     {
         let mut at = 0;
         loop {
@@ -264,8 +259,8 @@ impl<'a> Utf16Slice<'a> {
     #[inline(always)]
     fn append_each<P: Pieces>(&mut self, pieces: P, src: &[u8]) -> usize
         ensures { PutsPieces encode_utf16 (P.means pieces)
-            (slice_output self.old.len self.old.dst.now self.old.dst.ghost_name)
-            (slice_output self.new.len self.new.dst.now self.new.dst.ghost_name) src.now result }
+            (borrowed_output self.old.len self.old.dst)
+            (borrowed_output self.new.len self.new.dst) src.now result }
     {
         let mut at = 0;
         while at < src.len() {
@@ -295,7 +290,7 @@ impl<'a> Units for Utf16Slice<'a> {
 
     ghost units_of = { encode_utf16 };
 
-    ghost output = { λ s. slice_output s.len s.dst.now s.dst.ghost_name };
+    ghost output = { λ s. borrowed_output s.len s.dst };
 
     fn width(c: char) -> usize
         ensures value { result ≡ length (encode_utf16 c) }

@@ -6,8 +6,8 @@ ghost use Rattle.std.specs.Prelude.{map, length, take, drop, slice_index, IsTrue
 ghost use Rattle.std.specs.Char.Escape.{encode_utf16};
 ghost use Rattle.enc_units.specs.Gathering.{GathersChars};
 ghost use Rattle.enc_units.specs.Pieces.{IsUtf8Char};
-ghost use Rattle.enc_units.specs.Utf8Units.{gives_unit, code_unit_of_byte, byte_two_before, unit_at};
-ghost use Rattle.enc_units.specs.Utf8Units.{units_from, marked_code_units};
+ghost use Rattle.enc_units.specs.Utf8Units.{gives_unit, code_unit_of_byte, byte_two_before};
+ghost use Rattle.enc_units.specs.Utf8Units.{unit_at, units_from, marked_code_units};
 ghost use Rattle.enc_units.specs.Validity.{IsWellFormedUtf8};
 
 use crate::marked::MARKED;

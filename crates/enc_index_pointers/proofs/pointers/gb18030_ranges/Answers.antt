@@ -14,10 +14,14 @@ pub overflow_add-result : goal.overflow_add-result
 overflow_add-result c = let low = found_is_below c.args.c _ (sym c.in-Some.ensures.first) in omega (arith, low)
 
 pub returns-in-Some-clause-value : goal.returns-in-Some-clause-value
-returns-in-Some-clause-value c = ap (pointer_in_run c.args.c) c.in-Some.ensures.first ∙ ranges_pointer c.args.c c.if-c-eq59335.false
+returns-in-Some-clause-value c =
+    ap (pointer_in_run c.args.c) c.in-Some.ensures.first
+    ∙ ranges_pointer c.args.c c.if-c-eq59335.false
 
 pub returns-in-None-clause-value : goal.returns-in-None-clause-value
-returns-in-None-clause-value c = ap (pointer_in_run c.args.c) c.in-None.ensures.first ∙ ranges_pointer c.args.c c.if-c-eq59335.false
+returns-in-None-clause-value c =
+    ap (pointer_in_run c.args.c) c.in-None.ensures.first
+    ∙ ranges_pointer c.args.c c.if-c-eq59335.false
 
 pub returns-in-Some-clause-bound : goal.returns-in-Some-clause-bound
 returns-in-Some-clause-bound c = found_is_below c.args.c _ (sym c.in-Some.ensures.first)

@@ -8,24 +8,30 @@ loop-low-init c = record { halves = start _ _; within = omega arith }
 
 pub loop-low-preserved-in-Less : goal.loop-low-preserved-in-Less
 loop-low-preserved-in-Less c =
-    let t = text_at c.args.table.now _ _ (let w = c.loop-low.invariant.within in omega arith) ∙ sym c.as_bytes.ensures.value in
+    let same_word = text_at c.args.table.now _ _ (let within = c.loop-low.invariant.within in omega arith)
+    ∙ sym c.as_bytes.ensures.value in
     record {
-      halves = right _ c.requires _ _ _ _ c.loop-low.invariant.halves (omega arith) (omega arith) (subst (λ x. word_number x < word_number c.args.word.now) (sym t) c.in-Less.ensures);
+      halves = right c.requires _ c.loop-low.invariant.halves (omega arith) (omega arith)
+          (subst (λ x. word_number x < word_number c.args.word.now) (sym same_word) c.in-Less.ensures);
       within = c.loop-low.invariant.within;
     }
 
 pub returns-in-Equal-clause-place : goal.returns-in-Equal-clause-place
 returns-in-Equal-clause-place c =
-    let t = text_at c.args.table.now _ _ (let w = c.loop-low.invariant.within in omega arith) ∙ sym c.as_bytes.ensures.value in
-    sym (hit _ c.requires _ _ _ _ c.loop-low.invariant.halves (omega arith) (omega arith) (t ∙ c.in-Equal.ensures))
+    let same_word = text_at c.args.table.now _ _ (let within = c.loop-low.invariant.within in omega arith)
+    ∙ sym c.as_bytes.ensures.value in
+    sym (hit c.requires _ c.loop-low.invariant.halves (omega arith) (omega arith)
+    (same_word ∙ c.in-Equal.ensures))
 
 pub loop-low-preserved : goal.loop-low-preserved
 loop-low-preserved c =
-    let t = text_at c.args.table.now _ _ (let w = c.loop-low.invariant.within in omega arith) ∙ sym c.as_bytes.ensures.value in
+    let same_word = text_at c.args.table.now _ _ (let within = c.loop-low.invariant.within in omega arith)
+    ∙ sym c.as_bytes.ensures.value in
     record {
-      halves = left _ c.requires _ _ _ _ c.loop-low.invariant.halves (omega arith) (omega arith) (subst (λ x. word_number c.args.word.now < word_number x) (sym t) c.in-Greater.ensures);
-      within = (let w = c.loop-low.invariant.within in omega arith);
+      halves = left c.requires _ c.loop-low.invariant.halves (omega arith) (omega arith)
+          (subst (λ x. word_number c.args.word.now < word_number x) (sym same_word) c.in-Greater.ensures);
+      within = (let within = c.loop-low.invariant.within in omega arith);
     }
 
 pub returns-clause-place : goal.returns-clause-place
-returns-clause-place c = sym (nothing _ _ _ _ c.loop-low-test.false c.loop-low.invariant.halves)
+returns-clause-place c = sym (nothing c.loop-low-test.false c.loop-low.invariant.halves)

@@ -3,7 +3,11 @@ use Rattle.enc_units.proofs.AsciiLemmas.{ascii_more}
 use Rattle.enc_units.proofs.ascii.ascii_steps.Goals as goal
 
 pub strides-preserved : goal.strides-preserved
-strides-preserved c = (omega arith, ascii_more _ _ _ c.strides.invariant.1 (c.are_all_ascii.ensures c.if-not-are_all_ascii.false))
+strides-preserved c = (
+  omega arith,
+  ascii_more _ _ _ c.strides.invariant.1
+      (c.are_all_ascii.ensures c.if-not-are_all_ascii.false),
+)
 
 pub steps-preserved : goal.steps-preserved
 steps-preserved c = (omega arith, ascii_more _ _ _ c.steps.invariant.1 (c.are_ascii.ensures c.if-not-are_ascii.false))

@@ -10,6 +10,6 @@ loop-read-preserved g c =
       omega arith,
       omega (arith, stored.end, invariant.1, is_text.bound),
       stored.len ∙ invariant.2,
-      gathers_byte _ _ _ _ _ _ _ _ is_text (omega arith) (omega arith) invariant.3
+      gathers_byte c.args.src.now c.args.from is_text (omega arith) (omega arith) invariant.3
           (ap (λ n. take n c.store_text-end.new.buffer) stored.end ∙ stored.stored),
     )

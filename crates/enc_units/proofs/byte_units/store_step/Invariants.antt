@@ -6,7 +6,8 @@ use Rattle.enc_units.proofs.byte_units.store_step.Given as goal
 abbrev pub invariant-loop-read : goal.invariant-loop-read
 invariant-loop-read g l =
     (l.read ≤ 16) × (length l.buffer ≡ length l.initial.buffer)
-    × GathersChars encode_utf16 (g.P.Pieces.means l.table.pieces) (drop l.from l.src) l.read (take l.at l.initial.buffer) (take (l.at + l.read) l.buffer)
+    × GathersChars encode_utf16 (g.P.Pieces.means l.table.pieces) (drop l.from l.src) l.read
+    (take l.at l.initial.buffer) (take (l.at + l.read) l.buffer)
 
 abbrev pub decreases-loop-read : goal.decreases-loop-read
 decreases-loop-read g l = 16 - l.read

@@ -12,5 +12,5 @@ loop-count-preserved c =
       omega arith,
       omega (arith, invariant.1, stored.end, few),
       stored.len ∙ invariant.2,
-      stored_word c.args.words c.loop-count.count inside _ _ _ _ refl invariant.3 stored.stored,
+      stored_word c.args.words c.loop-count.count inside _ refl invariant.3 stored.stored,
     )

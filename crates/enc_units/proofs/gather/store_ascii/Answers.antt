@@ -9,8 +9,11 @@ returns-clause-ascii c = subst AreAscii (take-take _ 16 _ c.ascii_in.ensures.bou
 
 pub returns-clause-stored : goal.returns-clause-stored
 returns-clause-stored c =
-    let n = c.ascii_in.result in
+    let ascii_count = c.ascii_in.result in
     let rest = drop c.args.from c.args.src.now in
-    let long : length (take 16 rest) ≡ 16 = omega (arith, length-take 16 rest, length-drop c.args.from c.args.src.now) in
-    stored_lanes c.args.at n c.args.buffer.now (take 16 rest) (omega arith) (omega (arith, c.ascii_in.ensures.bound))
-    ∙ ap (λ z. take c.args.at c.args.buffer.now ++ z) (take-take n 16 rest c.ascii_in.ensures.bound)
+    let long : length (take 16 rest) ≡ 16 =
+    omega (arith, length-take 16 rest, length-drop c.args.from c.args.src.now) in
+    stored_lanes c.args.at ascii_count c.args.buffer.now (take 16 rest) (omega arith)
+    (omega (arith, c.ascii_in.ensures.bound))
+    ∙ ap (λ z. take c.args.at c.args.buffer.now ++ z)
+    (take-take ascii_count 16 rest c.ascii_in.ensures.bound)

@@ -5,6 +5,8 @@ use Rattle.enc_units.proofs.gather.store_word.Goals as goal
 pub returns-clause-stored : goal.returns-clause-stored
 returns-clause-stored c =
     let copied = c.copy_from_slice.ensures in
-    let n = c.args.word / 0x100_0000 in
-    stored_front c.args.at n c.args.buffer.now c.copy_from_slice.new.self _ (omega arith) (omega (arith, copied.len))
-    ∙ ap (λ z. take c.args.at c.args.buffer.now ++ take n z) (copied.after ∙ c.to_le_bytes.ensures)
+    let byte_count = c.args.word / 0x100_0000 in
+    stored_front c.args.at byte_count c.args.buffer.now c.copy_from_slice.new.self _ (omega arith)
+    (omega (arith, copied.len))
+    ∙ ap (λ z. take c.args.at c.args.buffer.now ++ take byte_count z)
+    (copied.after ∙ c.to_le_bytes.ensures)

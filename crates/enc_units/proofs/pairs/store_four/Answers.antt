@@ -4,10 +4,12 @@ use Rattle.enc_units.proofs.PairsLemmas.{goes, goes_up, end_goes, end_next, gath
 use Rattle.enc_units.proofs.pairs.store_four.Goals as goal
 
 pub loop-count-init : goal.loop-count-init
-loop-count-init g c = (omega arith, refl, omega arith, omega arith, refl, gathers_nothing _ _ _ _ _ refl)
+loop-count-init g c = (omega arith, refl, omega arith, omega arith, refl, gathers_nothing refl)
 
 pub overflow_sub-next : goal.overflow_sub-next
-overflow_sub-next g c = (goes_up _ _ (end_goes c.args.leads c.loop-count.count _ _ c.ends_of-ends.ensures c.loop-count-test.true c.loop-count.invariant.1)).0
+overflow_sub-next g c =
+    (goes_up _ _ (end_goes c.args.leads c.loop-count.count _ _ c.ends_of-ends.ensures c.loop-count-test.true
+    c.loop-count.invariant.1)).0
 
 pub loop-count-preserved : goal.loop-count-preserved
 loop-count-preserved g c =
@@ -23,6 +25,6 @@ loop-count-preserved g c =
       omega (arith, invariant.2, up.1),
       omega (arith, invariant.3, stored.end, is_word.bound),
       stored.len ∙ invariant.4,
-      gathers_word _ c.args.src.now c.args.from c.loop-count.read next goes_on (omega arith) _ _ _ _ is_word invariant.5
+      gathers_word _ c.args.src.now c.args.from c.loop-count.read next goes_on (omega arith) is_word invariant.5
           stored.stored,
     )

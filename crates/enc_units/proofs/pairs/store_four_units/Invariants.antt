@@ -6,8 +6,10 @@ use Rattle.enc_units.proofs.pairs.store_four_units.Given as goal
 
 abbrev pub invariant-loop-count : goal.invariant-loop-count
 invariant-loop-count g l =
-    (l.count ≤ 4) × (l.read ≡ end_after l.ends l.count) × (l.read ≤ 2 * l.count) × (l.end ≡ l.at + l.count) × (length l.buffer ≡ length l.initial.buffer)
-    × GathersChars encode_utf16 (g.P.Pieces.means l.pieces) (drop l.from l.src) l.read (take l.at l.initial.buffer) (take l.end l.buffer)
+    (l.count ≤ 4) × (l.read ≡ end_after l.ends l.count) × (l.read ≤ 2 * l.count) ×
+    (l.end ≡ l.at + l.count) × (length l.buffer ≡ length l.initial.buffer)
+    × GathersChars encode_utf16 (g.P.Pieces.means l.pieces) (drop l.from l.src) l.read
+    (take l.at l.initial.buffer) (take l.end l.buffer)
 
 abbrev pub decreases-loop-count : goal.decreases-loop-count
 decreases-loop-count g l = 4 - l.count

@@ -3,12 +3,12 @@ use Rattle.enc_units.proofs.OverwrittenTextLemmas.{goes_on, ends, none_next}
 use Rattle.enc_units.proofs.rest.clear_rest.Goals as goal
 
 pub loop-end-preserved : goal.loop-end-preserved
-loop-end-preserved c = goes_on _ _ _ _ c.loop-end.invariant (omega arith) (omega arith) (omega arith)
+loop-end-preserved c = goes_on c.loop-end.invariant (omega arith) (omega arith) (omega arith)
 
 pub returns-else-dst-end-lt192-clause-rest : goal.returns-else-dst-end-lt192-clause-rest
 returns-else-dst-end-lt192-clause-rest c =
-    ends _ _ _ _ c.loop-end.invariant (none_next _ _ _ _ c.loop-end.invariant (omega arith) (inr (omega arith)))
+    ends c.loop-end.invariant (none_next c.loop-end.invariant (omega arith) (inr (omega arith)))
 
 pub returns-else-dst-end-ge128-clause-rest : goal.returns-else-dst-end-ge128-clause-rest
 returns-else-dst-end-ge128-clause-rest c =
-    ends _ _ _ _ c.loop-end.invariant (none_next _ _ _ _ c.loop-end.invariant (omega arith) (inl (omega arith)))
+    ends c.loop-end.invariant (none_next c.loop-end.invariant (omega arith) (inl (omega arith)))

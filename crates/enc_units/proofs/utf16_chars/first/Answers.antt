@@ -11,6 +11,7 @@ returns-then-begins_with_pair c =
 
 pub returns : goal.returns
 returns c =
-    let n = c.begins_with_pair.ensures.lone c.if-begins_with_pair.false in
+    let is_lone = c.begins_with_pair.ensures.lone c.if-begins_with_pair.false in
     subst (λ (x : ℕ). IsFirstUtf16Char c.args.units.now x 1) (sym c.lone.ensures)
-    (first_lone c.args.units.now (some_units c.args.units.now (c.if-is_empty.ensures)) ((c.type_inv.units 0).fits) n)
+    (first_lone c.args.units.now (some_units c.args.units.now (c.if-is_empty.ensures))
+    ((c.type_inv.units 0).fits) is_lone)

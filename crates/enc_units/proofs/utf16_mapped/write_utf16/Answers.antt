@@ -11,7 +11,7 @@ loop-read-preserved-then-len-eq16 g c =
     whole_further c.loop-read.invariant _
     (low_lanes_long c.loop-read.read c.args.src.now _ c.low_bytes-lanes.ensures
     (omega arith)) c.if-len-eq16.true (omega arith)
-    (unit_lanes _ _ _ _ (rest_long c.loop-read.read c.args.src.now (omega arith)) (omega
+    (unit_lanes _ _ _ (rest_long c.loop-read.read c.args.src.now (omega arith)) (omega
     (arith, c.min-len.ensures)) c.ascii_units.ensures.bound c.low_bytes-lanes.ensures c.ascii_units.ensures.ascii)
     (all_fewer (IsWrittenAsItself (g.M.Mapping.means c.args.mapping)) _ _ _ (omega
     (arith, c.min-len.ensures)) c.ascii_len.ensures.ascii)
@@ -22,7 +22,7 @@ loop-read-preserved-then-unit-lt128 g c =
     (front_long c.min-len.result c.low_bytes-lanes.result (low_lanes_long c.loop-read.read c.args.src.now _
     c.low_bytes-lanes.ensures (omega arith)) (omega (arith, c.min-len.ensures, c.ascii_units.ensures.bound)))
     (omega (arith, c.min-len.ensures, c.ascii_units.ensures.bound))
-    (unit_lanes _ _ _ _ (rest_long c.loop-read.read c.args.src.now (omega arith)) (omega
+    (unit_lanes _ _ _ (rest_long c.loop-read.read c.args.src.now (omega arith)) (omega
     (arith, c.min-len.ensures)) c.ascii_units.ensures.bound c.low_bytes-lanes.ensures c.ascii_units.ensures.ascii)
     (all_fewer (IsWrittenAsItself (g.M.Mapping.means c.args.mapping)) _ _ _ (omega
     (arith, c.min-len.ensures)) c.ascii_len.ensures.ascii) c.put_lanes.ensures

@@ -10,9 +10,13 @@ returns-then-first-lt224-clause-utf8 c = two_front c.args.src.now (omega arith) 
 
 pub returns-then-first-lt240-clause-utf8 : goal.returns-then-first-lt240-clause-utf8
 returns-then-first-lt240-clause-utf8 c =
-    three_front c.args.src.now (omega arith) (omega arith) (omega arith) (λ e. omega (arith, c.if-second-lt160.either)) (λ e. omega (arith, c.if-second-ge160.either)) (omega arith)
+    three_front c.args.src.now (omega arith) (omega arith) (omega arith)
+    (λ e. omega (arith, c.if-second-lt160.either)) (λ e. omega (arith, c.if-second-ge160.either))
+    (omega arith)
 
 pub returns-clause-utf8 : goal.returns-clause-utf8
 returns-clause-utf8 c =
-    four_front c.args.src.now (omega arith) (omega arith) (omega arith) (λ e. omega (arith, c.if-second-lt144.either)) (λ e. omega (arith, c.if-second-ge144.either)) (omega arith)
+    four_front c.args.src.now (omega arith) (omega arith) (omega arith)
+    (λ e. omega (arith, c.if-second-lt144.either)) (λ e. omega (arith, c.if-second-ge144.either))
+    (omega arith)
     (omega arith)

@@ -7,8 +7,8 @@ pick-requires c = (row_is (c.args.marks % 0x100) (omega arith)).within
 
 pub returns-clause-stored : goal.returns-clause-stored
 returns-clause-stored c =
-    let a = c.args in
-    let mask = a.marks % 0x100 in
-    stores_marked a.at a.marks a.units _ _ a.buffer.now c.requires c.fits-units.0 c.fits-units.1
+    let args = c.args in
+    let mask = args.marks % 0x100 in
+    stores_marked args.at args.marks args.units _ _ args.buffer.now c.requires c.fits-units.0 c.fits-units.1
     (row_long mask (omega arith)) (row_is mask (omega arith))
     c.pick.ensures

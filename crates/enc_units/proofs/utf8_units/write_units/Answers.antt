@@ -14,7 +14,7 @@ returns-clause-gathers c =
 pub loop-read-preserved : goal.loop-read-preserved
 loop-read-preserved c =
     let invariant = c.loop-read.invariant in
-    let r = c.loop-read in
+    let state = c.loop-read in
     let src = c.args.src.now in
     let gathered = c.gather_units-next.ensures in
     let next = c.gather_units-next.result.0 in
@@ -23,19 +23,19 @@ loop-read-preserved c =
     let copied : ys ≡ take end c.gather_units-next.new.buffer = c.copy_from_slice.ensures.after in
     let many : length ys ≡ end = omega
     (arith, ap length copied, length-take end c.gather_units-next.new.buffer, gathered.bound) in
-    let on : r.read ≤ next = omega (arith, gathered.some) in
-    let room : r.written + end ≤ length r.dst =
+    let on : state.read ≤ next = omega (arith, gathered.some) in
+    let room : state.written + end ≤ length state.dst =
     omega (arith, gathered.few, gathered.within, invariant.1, invariant.3) in
     let more = copied ∙ gathered.gathered in (
       gathered.within,
       omega (arith, invariant.1, gathered.few, gathered.some),
       gathered.len ∙ invariant.2,
-      writes_long src r.read next r.written end r.dst c.args.dst.now ys room many on invariant.4 invariant.5
-          invariant.6 more ∙ invariant.3,
-      writes_count src r.read next r.written end r.dst c.args.dst.now ys room many on invariant.4 invariant.5
-          invariant.6 more,
-      writes_more src r.read next r.written end r.dst c.args.dst.now ys room many on invariant.4 invariant.5
-          invariant.6 more,
-      writes_rest src r.read next r.written end r.dst c.args.dst.now ys room many on invariant.4 invariant.5
-          invariant.6 more,
+      writes_long src state.read next state.written end state.dst c.args.dst.now ys room many on
+          invariant.4 invariant.5 invariant.6 more ∙ invariant.3,
+      writes_count src state.read next state.written end state.dst c.args.dst.now ys room many on
+          invariant.4 invariant.5 invariant.6 more,
+      writes_more src state.read next state.written end state.dst c.args.dst.now ys room many on
+          invariant.4 invariant.5 invariant.6 more,
+      writes_rest src state.read next state.written end state.dst c.args.dst.now ys room many on
+          invariant.4 invariant.5 invariant.6 more,
     )

@@ -27,13 +27,19 @@ pub returns-in-EucKr : goal.returns-in-EucKr
 returns-in-EucKr c = c.character_in.ensures ∙ euc_kr_table c.args.pointer ∙ of_index _ _ c.args.pointer c.in-EucKr.is
 
 pub returns-in-Gb18030 : goal.returns-in-Gb18030
-returns-in-Gb18030 c = c.character_in-in-Gb18030.ensures ∙ gb18030_table c.args.pointer ∙ of_index _ _ c.args.pointer c.in-Gb18030.is
+returns-in-Gb18030 c =
+    c.character_in-in-Gb18030.ensures ∙ gb18030_table c.args.pointer
+    ∙ of_index _ _ c.args.pointer c.in-Gb18030.is
 
 pub returns-in-Jis0208 : goal.returns-in-Jis0208
-returns-in-Jis0208 c = c.character_in-in-Jis0208.ensures ∙ jis0208_table c.args.pointer ∙ of_index _ _ c.args.pointer c.in-Jis0208.is
+returns-in-Jis0208 c =
+    c.character_in-in-Jis0208.ensures ∙ jis0208_table c.args.pointer
+    ∙ of_index _ _ c.args.pointer c.in-Jis0208.is
 
 pub returns-in-Jis0212 : goal.returns-in-Jis0212
-returns-in-Jis0212 c = c.character_in-in-Jis0212.ensures ∙ jis0212_table c.args.pointer ∙ of_index _ _ c.args.pointer c.in-Jis0212.is
+returns-in-Jis0212 c =
+    c.character_in-in-Jis0212.ensures ∙ jis0212_table c.args.pointer
+    ∙ of_index _ _ c.args.pointer c.in-Jis0212.is
 
 pub returns-in-Gb18030Ranges : goal.returns-in-Gb18030Ranges
 unfolding runs_of

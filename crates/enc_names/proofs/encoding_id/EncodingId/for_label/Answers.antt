@@ -7,5 +7,6 @@ returns-in_err-place c = c.from_residual.ensures ∙ gets_none _ _ c.trim_ascii.
 
 pub returns : goal.returns
 returns c =
-    let n = c.encodings.ensures.count in let l = c.in_ok-place.ensures.within in
+    let count = c.encodings.ensures.count in
+    let within = c.in_ok-place.ensures.within in
     gets _ _ c.trim_ascii.ensures.value _ _ _ c.encodings.ensures.each (omega arith) c.in_ok-place.ensures.place

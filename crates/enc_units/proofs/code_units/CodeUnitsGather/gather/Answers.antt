@@ -1,6 +1,5 @@
 use Rattle.std.proofs.Common.{◌≡◌, ◌≤◌, ◌∙◌, ◌++◌, ap, sym, subst, arith, length, take, drop, length-drop, length-take}
 use Rattle.std.proofs.lemmas.Simd.{length-put_chunk}
-use Rattle.std.specs.Char.{encode_utf8}
 use Rattle.enc_units.specs.Output.{AreScalars}
 use Rattle.enc_units.proofs.GatherLemmas.{gathers_then, gathers_one}
 use Rattle.enc_units.proofs.CodeUnitsLemmas.{units_long, stored_ascii, front_ascii, gathers_units, gathers_words}
@@ -18,7 +17,7 @@ loop-written-preserved-then-are_ascii_units g c =
           invariant.0,
       omega arith,
       length-put_chunk c.loop-written.written c.loop-written.buffer _ ∙ invariant.2,
-      gathers_then {n = 16} invariant.3 (gathers_units _ _ c.requires.ready encode_utf8 8 rest _ _ _
+      gathers_then {n = 16} invariant.3 (gathers_units c.args.self.now.big_endian c.requires.ready 8
           (omega arith) long c.units_in-units.ensures (front_ascii _ eight ascii)
           (stored_ascii c.loop-written.written c.loop-written.buffer _ eight (omega arith) ascii)),
     )
@@ -29,35 +28,37 @@ loop-written-preserved-then-count-eq8 g c =
     let stored = c.store_words-written.ensures in
     let rest = drop c.loop-written.read c.args.src.now in
     let long : 16 ≤ length rest = omega (arith, length-drop c.loop-written.read c.args.src.now) in
-    let n = c.units_before_surrogate-count.ensures in
-    let scalars = subst (λ k. AreScalars (take k c.units_in-units.result)) c.if-count-eq8.true n.scalars in (
+    let before_surrogate = c.units_before_surrogate-count.ensures in
+    let scalars =
+    subst (λ k. AreScalars (take k c.units_in-units.result)) c.if-count-eq8.true before_surrogate.scalars in (
       omega (arith, stored.len, invariant.0),
       omega (arith, stored.bound),
       stored.len ∙ invariant.2,
-      gathers_then {n = 16} invariant.3 (gathers_words _ _ c.requires.ready 8 rest _ _ _ _
-          (omega arith) long c.units_in-units.ensures scalars c.words_of-words.ensures.utf8 stored.stored),
+      gathers_then {n = 16} invariant.3 (gathers_words c.args.self.now.big_endian c.requires.ready 8
+          c.words_of-words.result (omega arith) long c.units_in-units.ensures scalars
+          c.words_of-words.ensures.utf8 stored.stored),
     )
 
 pub loop-written-preserved : goal.loop-written-preserved
 loop-written-preserved g c =
     let invariant = c.loop-written.invariant in
     let before_surrogate = c.units_before_surrogate-count.ensures in
-    let w = c.store_words-written-in-loop-written in
-    let stored = w.ensures in
+    let stored_words = c.store_words-written-in-loop-written in
+    let stored = stored_words.ensures in
     let stored_text = c.store_text-written.ensures in
     let found = c.in-Some.ensures in
     let rest = drop c.loop-written.read c.args.src.now in
     let long : 16 ≤ length rest = omega (arith, length-drop c.loop-written.read c.args.src.now) in
     let text = ap (λ k. take k c.store_text-written.new.buffer) stored_text.end ∙ stored_text.stored
-    ∙ ap (λ z. take w.result w.new.buffer ++ z) c.utf8_of.ensures.bytes in (
+    ∙ ap (λ z. take stored_words.result stored_words.new.buffer ++ z) c.utf8_of.ensures.bytes in (
       omega (arith, stored_text.len, stored.len, invariant.0),
       omega (arith, stored_text.end, stored.bound, before_surrogate.bound, c.utf8_of.ensures.bound),
       stored_text.len ∙ stored.len ∙ invariant.2,
       gathers_then (gathers_then invariant.3
-          (gathers_words _ _ c.requires.ready _ rest _ _ _ _ before_surrogate.bound long c.units_in-units.ensures
-          before_surrogate.scalars
+          (gathers_words c.args.self.now.big_endian c.requires.ready c.units_before_surrogate-count.result
+          c.words_of-words.result before_surrogate.bound long c.units_in-units.ensures before_surrogate.scalars
           c.words_of-words.ensures.utf8 stored.stored))
-          (gathers_one _ _ _ _ _ _ _ found.some found.within c.utf8_of.ensures.scalar found.means text),
+          (gathers_one _ found.some found.within c.utf8_of.ensures.scalar found.means text),
     )
 
 pub returns-in_default-clause-gathers : goal.returns-in_default-clause-gathers
@@ -68,6 +69,6 @@ returns-in_default-clause-gathers g c =
     let rest = drop c.loop-written.read c.args.src.now in
     let long : 16 ≤ length rest = omega (arith, length-drop c.loop-written.read c.args.src.now) in
     gathers_then invariant.3
-    (gathers_words _ _ c.requires.ready _ rest _ _ _ _ before_surrogate.bound long c.units_in-units.ensures
-    before_surrogate.scalars
+    (gathers_words c.args.self.now.big_endian c.requires.ready c.units_before_surrogate-count.result
+    c.words_of-words.result before_surrogate.bound long c.units_in-units.ensures before_surrogate.scalars
     c.words_of-words.ensures.utf8 stored.stored)

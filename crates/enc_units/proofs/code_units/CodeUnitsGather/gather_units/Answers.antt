@@ -12,12 +12,14 @@ loop-written-preserved-then-are_scalars g c =
     let both_scalars = and_parts _ _ c.if-are_scalars.true in
     let first_scalars = c.are_scalars.ensures in
     let more_scalars = c.are_scalars-in-loop-written.ensures in
-    let long = length-put_chunk (c.loop-written.written + 8) (put_chunk c.loop-written.written c.loop-written.buffer c.units_in-units.result) c.units_in-more.result
+    let long = length-put_chunk (c.loop-written.written + 8)
+    (put_chunk c.loop-written.written c.loop-written.buffer c.units_in-units.result) c.units_in-more.result
     ∙ length-put_chunk c.loop-written.written c.loop-written.buffer c.units_in-units.result in (
       omega (arith, long, invariant.0),
       omega arith,
       long ∙ invariant.2,
-      gathers_both _ _ c.requires.ready _ _ _ _ _ _ c.if-src-read-ge32.true (omega arith) c.units_in-units.ensures
+      gathers_both c.args.self.now.big_endian c.requires.ready c.loop-written.written c.loop-written.buffer
+          c.if-src-read-ge32.true (omega arith) c.units_in-units.ensures
           (first_scalars.scalars both_scalars.0) (first_scalars.alone 8)
           c.units_in-more.ensures (more_scalars.scalars both_scalars.1) (more_scalars.alone 8) invariant.3,
     )
@@ -30,7 +32,8 @@ loop-written-preserved-then-count-eq8 g c =
           invariant.0,
       omega (arith, before_surrogate.bound),
       length-put_chunk c.loop-written.written c.loop-written.buffer _ ∙ invariant.2,
-      gathers_lanes _ _ c.requires.ready _ _ _ _ _ _ before_surrogate.bound (omega arith) (omega arith)
+      gathers_lanes c.args.self.now.big_endian c.requires.ready c.units_before_surrogate-count.result
+          c.loop-written.written c.loop-written.buffer before_surrogate.bound (omega arith) (omega arith)
           c.units_in-units.ensures before_surrogate.scalars
           (before_surrogate.alone _) invariant.3,
     )
@@ -46,15 +49,17 @@ loop-written-preserved g c =
       omega (arith, stored.bound, before_surrogate.bound),
       stored.len ∙ long ∙ invariant.2,
       gathers_then
-          (gathers_lanes _ _ c.requires.ready _ _ _ _ _ _ before_surrogate.bound (omega arith) (omega arith)
+          (gathers_lanes c.args.self.now.big_endian c.requires.ready c.units_before_surrogate-count.result
+          c.loop-written.written c.loop-written.buffer before_surrogate.bound (omega arith) (omega arith)
           c.units_in-units.ensures before_surrogate.scalars
           (before_surrogate.alone _) invariant.3)
-          (gathers_one _ _ _ _ _ _ _ found.some found.within stored.scalar found.means stored.stored),
+          (gathers_one _ found.some found.within stored.scalar found.means stored.stored),
     )
 
 pub returns-in_default-clause-gathers : goal.returns-in_default-clause-gathers
 returns-in_default-clause-gathers g c =
     let before_surrogate = c.units_before_surrogate-count.ensures in
-    gathers_lanes _ _ c.requires.ready _ _ _ _ _ _ before_surrogate.bound (omega arith) (omega arith)
+    gathers_lanes c.args.self.now.big_endian c.requires.ready c.units_before_surrogate-count.result
+    c.loop-written.written c.loop-written.buffer before_surrogate.bound (omega arith) (omega arith)
     c.units_in-units.ensures before_surrogate.scalars
     (before_surrogate.alone _) c.loop-written.invariant.3

@@ -27,5 +27,5 @@ loop-written-preserved g c =
       omega (arith, stored.end, c.utf8_of.ensures.bound),
       stored.len ∙ invariant.2,
       gathers_then invariant.3
-          (gathers_one _ _ _ _ _ _ _ found.some found.within c.utf8_of.ensures.scalar found.means text),
+          (gathers_one _ found.some found.within c.utf8_of.ensures.scalar found.means text),
     )

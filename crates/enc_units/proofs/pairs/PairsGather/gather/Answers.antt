@@ -9,7 +9,8 @@ pub loop-written-preserved-then-are_ascii : goal.loop-written-preserved-then-are
 loop-written-preserved-then-are_ascii g c =
     let invariant = c.loop-written.invariant in
     let rest = drop c.loop-written.read c.args.src.now in
-    let long : length (take 16 rest) ≡ 16 = omega (arith, length-take 16 rest, length-drop c.loop-written.read c.args.src.now) in (
+    let long : length (take 16 rest) ≡ 16 =
+    omega (arith, length-take 16 rest, length-drop c.loop-written.read c.args.src.now) in (
       omega (arith, length-put_chunk c.loop-written.written c.loop-written.buffer (take 16 rest), invariant.0),
       omega arith,
       length-put_chunk c.loop-written.written c.loop-written.buffer _ ∙ invariant.2,
@@ -17,7 +18,10 @@ loop-written-preserved-then-are_ascii g c =
           (gathers_ascii (c.has_ascii-has_ascii.ensures c.if-has_ascii.true) ascii_units
           (omega (arith, length-drop c.loop-written.read c.args.src.now))
           (c.are_ascii.ensures c.if-are_ascii.true)
-          (stored_lanes c.loop-written.written 16 c.loop-written.buffer (take 16 rest) (omega arith) (omega arith) ∙ ap (λ z. take c.loop-written.written c.loop-written.buffer ++ z) (take-take 16 16 rest (omega arith)))),
+          (stored_lanes c.loop-written.written 16 c.loop-written.buffer (take 16 rest)
+          (omega arith) (omega arith)
+          ∙ ap (λ z. take c.loop-written.written c.loop-written.buffer ++ z)
+          (take-take 16 16 rest (omega arith)))),
     )
 
 pub loop-written-preserved-then-more-gt0 : goal.loop-written-preserved-then-more-gt0
@@ -42,5 +46,5 @@ loop-written-preserved g c =
       omega (arith, stored_text.end, stored_pairs.bound, c.utf8_of.ensures.bound),
       stored_text.len ∙ stored_pairs.len ∙ invariant.2,
       gathers_then (gathers_then invariant.3 stored_pairs.gathers)
-          (gathers_one _ _ _ _ _ _ _ found.some found.within c.utf8_of.ensures.scalar found.means text),
+          (gathers_one _ found.some found.within c.utf8_of.ensures.scalar found.means text),
     )

@@ -1,6 +1,5 @@
 use Rattle.enc_units.proofs.AsciiPrefixLemmas.{front_utf8, puts_front}
 use Rattle.enc_units.proofs.Utf8SliceLemmas.{ascii_units}
-use Rattle.std.specs.Char.{encode_utf8}
 use Rattle.enc_units.proofs.string_tail.StringTailUnits.put_ascii.Goals as goal
 
 pub append-requires-clause-utf8 : goal.append-requires-clause-utf8
@@ -11,5 +10,5 @@ append-requires-clause-utf8 c =
 pub returns : goal.returns
 returns c =
     let are_ascii = c.ascii_len-len.ensures in
-    puts_front encode_utf8 ascii_units _ _ _ _ _ c.min.result c.split_at.ensures.front c.min.ensures are_ascii.within
+    puts_front ascii_units c.min.result c.split_at.ensures.front c.min.ensures are_ascii.within
     are_ascii.ascii are_ascii.ends c.append.ensures

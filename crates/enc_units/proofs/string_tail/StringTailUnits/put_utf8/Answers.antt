@@ -6,15 +6,16 @@ use Rattle.enc_units.proofs.string_tail.StringTailUnits.put_utf8.Goals as goal
 
 pub returns : goal.returns
 returns c =
-    let n = c.utf8_front-len.result in
+    let taken = c.utf8_front-len.result in
     let valid = c.utf8_front-len.ensures in
     let front = c.split_at.ensures.front in
-    let few : n ≤ c.min.result = omega (
+    let few : taken ≤ c.min.result = omega (
       arith,
       valid.within,
       ap length front,
       length-take c.min.result c.args.src.now,
     ) in
-    puts_utf8 _ _ c.args.src.now n (omega arith) (omega arith)
-    (subst IsWellFormedUtf8 (ap (take n) front ∙ take-take n c.min.result c.args.src.now few) valid.utf8)
+    puts_utf8 _ _ c.args.src.now taken (omega arith) (omega arith)
+    (subst IsWellFormedUtf8
+    (ap (take taken) front ∙ take-take taken c.min.result c.args.src.now few) valid.utf8)
     c.append.ensures

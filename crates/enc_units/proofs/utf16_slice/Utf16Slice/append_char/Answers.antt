@@ -3,7 +3,7 @@ use Rattle.enc_units.proofs.PiecesLemmas.{start, one_piece}
 use Rattle.enc_units.proofs.utf16_slice.Utf16Slice.append_char.Goals as goal
 
 pub returns-then-src-eq0 : goal.returns-then-src-eq0
-returns-then-src-eq0 c = start _ _ _ _
+returns-then-src-eq0 c = start
 
 pub returns : goal.returns
 returns c =

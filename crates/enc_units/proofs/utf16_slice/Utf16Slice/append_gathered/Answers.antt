@@ -13,7 +13,9 @@ returns-then-not-append_units g c =
 
 pub loop-at-preserved : goal.loop-at-preserved
 loop-at-preserved g c =
-    let e = c.gather_units-read.ensures in
+    let gathered = c.gather_units-read.ensures in
     then_rest c.split_at-in-loop-at.ensures.back
     (then_rest c.split_at.ensures.back c.loop-at.invariant c.append_ascii_of-at.ensures)
-    (puts_gathered _ _ _ _ _ _ _ e.gathers (omega (arith, c.append_units.ensures.fits c.if-not-append_units.false)) (c.append_units.ensures.written c.if-not-append_units.false))
+    (puts_gathered gathered.gathers
+    (omega (arith, c.append_units.ensures.fits c.if-not-append_units.false))
+    (c.append_units.ensures.written c.if-not-append_units.false))

@@ -1,13 +1,13 @@
 use Rattle.std.proofs.Common.{◌-◌, length}
 use Rattle.std.specs.Char.Escape.{encode_utf16}
-use Rattle.enc_units.specs.Output.{slice_output}
+use Rattle.enc_units.specs.Output.{borrowed_output}
 use Rattle.enc_units.specs.Pieces.{PutsPieces}
 use Rattle.enc_units.proofs.utf16_slice.Utf16Slice.append_gathered.Given as goal
 
 abbrev pub invariant-loop-at : goal.invariant-loop-at
 invariant-loop-at g l =
-    PutsPieces encode_utf16 (g.G.Gather.means l.by) (slice_output l.initial.self.len l.initial.self.dst.now l.initial.self.dst.ghost_name)
-    (slice_output l.self.len l.self.dst.now l.self.dst.ghost_name) l.src l.at
+    PutsPieces encode_utf16 (g.G.Gather.means l.by) (borrowed_output l.initial.self.len l.initial.self.dst)
+    (borrowed_output l.self.len l.self.dst) l.src l.at
 
 abbrev pub decreases-loop-at : goal.decreases-loop-at
 decreases-loop-at g l = length l.src - l.at

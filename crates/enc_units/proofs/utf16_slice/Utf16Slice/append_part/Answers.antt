@@ -8,21 +8,21 @@ use Rattle.enc_units.proofs.Utf8SliceLemmas.{grown}
 use Rattle.enc_units.proofs.utf16_slice.Utf16Slice.append_part.Goals as goal
 
 pub returns-then-src-lt-SHORT : goal.returns-then-src-lt-SHORT
-returns-then-src-lt-SHORT c = start _ _ _ _
+returns-then-src-lt-SHORT c = start
 
 pub returns-then-taken-lt-SHORT : goal.returns-then-taken-lt-SHORT
-returns-then-taken-lt-SHORT c = start _ _ _ _
+returns-then-taken-lt-SHORT c = start
 
 pub write_units-written-requires : goal.write_units-written-requires
 write_units-written-requires c =
     let slice = c.args.self.now in
     let src = c.args.src.now in
-    let n = c.utf8_front-taken.result in
+    let taken = c.utf8_front-taken.result in
     let seen = c.utf8_front-taken.ensures in
     let most = c.min-most.result in
-    let few : n ≤ most = omega (arith, seen.within, length-take most src) in
+    let few : taken ≤ most = omega (arith, seen.within, length-take most src) in
     record {
-      utf8 = subst IsWellFormedUtf8 (take-take n most src few) seen.utf8;
+      utf8 = subst IsWellFormedUtf8 (take-take taken most src few) seen.utf8;
       after = omega (arith, c.min-most.ensures, c.min.ensures);
       room = omega (
         arith,
@@ -37,7 +37,7 @@ write_units-written-requires c =
 pub returns : goal.returns
 returns c =
     let slice = c.args.self.now in
-    let n = c.write_units-written.result in
+    let count = c.write_units-written.result in
     let new = c.write_units-written.new.dst in
     let written = c.write_units-written.ensures in
     let part = take (length slice.dst.now - slice.len) (drop slice.len slice.dst.now) in
@@ -48,9 +48,10 @@ returns c =
           (drop slice.len slice.dst.now),
       length-drop slice.len slice.dst.now,
     ) in
-    let within : n ≤ length slice.dst.now - slice.len = omega (arith, written.bound) in
-    let read : n ≤ length new = omega (arith, written.bound, written.len) in
-    let copied : new ≡ take n new ++ drop n part = sym (take-append-drop n new)
-    ∙ ap (λ z. take n new ++ z) written.rest in
-    puts_gathered _ _ _ _ _ _ (take n new) written.gathers (omega (arith, length-take n new))
-    (grown slice.len n slice.dst.now new new slice.dst.ghost_name (omega arith) read within copied)
+    let within : count ≤ length slice.dst.now - slice.len = omega (arith, written.bound) in
+    let read : count ≤ length new = omega (arith, written.bound, written.len) in
+    let copied : new ≡ take count new ++ drop count part = sym (take-append-drop count new)
+    ∙ ap (λ z. take count new ++ z) written.rest in
+    puts_gathered {units = take count new} written.gathers (omega (arith, length-take count new))
+    (grown slice.len count slice.dst.now new new slice.dst.ghost_name (omega arith)
+    read within copied)

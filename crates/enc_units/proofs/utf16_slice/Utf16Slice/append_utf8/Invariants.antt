@@ -1,14 +1,14 @@
 use Rattle.std.proofs.Common.{◌-◌, length}
 use Rattle.std.specs.Char.Escape.{encode_utf16}
-use Rattle.enc_units.specs.Output.{slice_output}
+use Rattle.enc_units.specs.Output.{borrowed_output}
 use Rattle.enc_units.specs.Pieces.{PutsPieces, IsUtf8Char}
 use Rattle.enc_units.proofs.utf16_slice.Utf16Slice.append_utf8.Given as goal
 
 abbrev pub invariant-loop-self : goal.invariant-loop-self
 invariant-loop-self l =
     PutsPieces encode_utf16 IsUtf8Char
-    (slice_output l.initial.self.len l.initial.self.dst.now l.initial.self.dst.ghost_name)
-    (slice_output l.self.len l.self.dst.now l.self.dst.ghost_name) l.src l.at
+    (borrowed_output l.initial.self.len l.initial.self.dst)
+    (borrowed_output l.self.len l.self.dst) l.src l.at
 
 abbrev pub decreases-loop-self : goal.decreases-loop-self
 decreases-loop-self l = length l.src - l.at

@@ -3,7 +3,7 @@ use Rattle.enc_units.proofs.PiecesLemmas.{start, then, one_piece}
 use Rattle.enc_units.proofs.utf8_slice.Utf8Slice.append_few.Goals as goal
 
 pub loop-count-init : goal.loop-count-init
-loop-count-init g c = start _ _ _ _
+loop-count-init g c = start
 
 pub loop-count-preserved : goal.loop-count-preserved
 loop-count-preserved g c =

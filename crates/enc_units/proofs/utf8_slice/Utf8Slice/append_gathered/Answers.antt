@@ -10,7 +10,7 @@ pub loop-at-preserved : goal.loop-at-preserved
 loop-at-preserved g c =
     let appended = c.append.ensures in
     then_rest c.split_at.ensures.back c.loop-at.invariant
-    (puts_gathered _ _ _ _ _ _ _ c.gather-read.ensures.gathers (omega (arith, appended.fits c.if-not-append.false))
+    (puts_gathered c.gather-read.ensures.gathers (omega (arith, appended.fits c.if-not-append.false))
     (appended.written c.if-not-append.false))
 
 pub loop-at-preserved-then-begins_as_ascii : goal.loop-at-preserved-then-begins_as_ascii
@@ -18,6 +18,6 @@ loop-at-preserved-then-begins_as_ascii g c =
     let appended = c.append.ensures in
     then_rest c.split_at-in-loop-at.ensures.back
     (then_rest c.split_at.ensures.back c.loop-at.invariant
-    (puts_gathered _ _ _ _ _ _ _ c.gather-read.ensures.gathers (omega (arith, appended.fits c.if-not-append.false))
+    (puts_gathered c.gather-read.ensures.gathers (omega (arith, appended.fits c.if-not-append.false))
     (appended.written c.if-not-append.false)))
     c.append_ascii_of-at-then-begins_as_ascii.ensures

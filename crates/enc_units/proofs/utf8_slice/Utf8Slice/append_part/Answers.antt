@@ -10,11 +10,14 @@ pub returns : goal.returns
 returns c =
     let slice = c.args.self.now in
     let src = c.args.src.now in
-    let n = c.utf8_front-taken.result in
+    let taken = c.utf8_front-taken.result in
     let valid = c.utf8_front-taken.ensures in
     let most = c.min-most.result in
     let least = c.min-most.ensures in
-    let few : n ≤ most = omega (arith, valid.within, length-take most src) in
-    let copied : c.copy_from_slice.new.self ≡ take n src = c.copy_from_slice.ensures.after in
-    puts_utf8 _ _ src n (omega arith) (omega arith) (subst IsWellFormedUtf8 (take-take n most src few) valid.utf8)
-    (grown_by slice.len n slice.dst.now c.copy_from_slice.new.self slice.dst.ghost_name (omega arith) (omega (arith, ap length copied, length-take n src)) ∙ ap (with_appended _) copied)
+    let few : taken ≤ most = omega (arith, valid.within, length-take most src) in
+    let copied : c.copy_from_slice.new.self ≡ take taken src = c.copy_from_slice.ensures.after in
+    puts_utf8 _ _ src taken (omega arith) (omega arith)
+    (subst IsWellFormedUtf8 (take-take taken most src few) valid.utf8)
+    (grown_by slice.len taken slice.dst.now c.copy_from_slice.new.self slice.dst.ghost_name
+    (omega arith) (omega (arith, ap length copied, length-take taken src))
+    ∙ ap (with_appended _) copied)
