@@ -41,7 +41,8 @@ unfolding one_byte_rule
 one_byte_shows_bb character z e y = (
   alone _ (character 0xBB),
   record {
-    there = (let none_more = alone (one_byte_head 0 (character 0xEF)).set (character 0xBB) in omega arith);
+    there = (let none_more = alone (one_byte_head 0 (character 0xEF)).set (character 0xBB) in
+        omega arith);
     same = λ x. refl;
   },
 )
@@ -51,16 +52,20 @@ one_byte_shows_bb character z e y = (
     alone set (Some c) = refl
 
 -- where EF leads, BB is its trail, or is malformed with it
-multi_byte_shows_bb : (prefix : List ℕ → Prefix) (text : Option Text) → prefix (0xEF ∷ []) ≡ Incomplete → prefix (0xEF ∷ 0xBB ∷ []) ≡ trail_prefix 1 0xBB text
+multi_byte_shows_bb : (prefix : List ℕ → Prefix) (text : Option Text)
+    → prefix (0xEF ∷ []) ≡ Incomplete → prefix (0xEF ∷ 0xBB ∷ []) ≡ trail_prefix 1 0xBB text
     → DeterminesBbByItself (multi_byte_rule prefix)
 unfolding multi_byte_rule
 multi_byte_shows_bb prefix text f g z e y = absurd (two text (sym first ∙ e))
   where
-    first : (prefix_head prefix 0 (0xEF ∷ []) (prefix (0xEF ∷ [])) (0xBB ∷ z)).more ≡ (prefix_head prefix 0 (0xEF ∷ 0xBB ∷ []) (trail_prefix 1 0xBB text) z).more
+    first : (prefix_head prefix 0 (0xEF ∷ []) (prefix (0xEF ∷ [])) (0xBB ∷ z)).more
+        ≡ (prefix_head prefix 0 (0xEF ∷ 0xBB ∷ []) (trail_prefix 1 0xBB text) z).more
     first =
-        ap (λ r. (prefix_head prefix 0 (0xEF ∷ []) r (0xBB ∷ z)).more) f ∙ ap (λ r. (prefix_head prefix 0 (0xEF ∷ 0xBB ∷ []) r z).more) g
+        ap (λ r. (prefix_head prefix 0 (0xEF ∷ []) r (0xBB ∷ z)).more) f
+        ∙ ap (λ r. (prefix_head prefix 0 (0xEF ∷ 0xBB ∷ []) r z).more) g
 
-    two : (t : Option Text) → (prefix_head prefix 0 (0xEF ∷ 0xBB ∷ []) (trail_prefix 1 0xBB t) z).more ≡ 0 → ⊥
+    two : (t : Option Text)
+        → (prefix_head prefix 0 (0xEF ∷ 0xBB ∷ []) (trail_prefix 1 0xBB t) z).more ≡ 0 → ⊥
     two None h = cc
     two (Some t) h = cc
 

@@ -34,15 +34,18 @@ first_text e = cc
 
 -- a byte below 0x80 that is U+FFFD, and a sequence of more than one byte
 
-replaced : (rule : Rule) (b : ℕ) → b < 0x80 → (rule 0 b []).text ≡ 0xFFFD ∷ [] → ¬ (IsAsciiCompatible rule)
+replaced : (rule : Rule) (b : ℕ) → b < 0x80 → (rule 0 b []).text ≡ 0xFFFD ∷ []
+    → ¬ (IsAsciiCompatible rule)
 replaced rule b is_ascii e h =
     differs b is_ascii (sym e ∙ first_text (sym (sequences_of-cons rule 0 b []) ∙ h b is_ascii []))
   where
     differs : (b : ℕ) → b < 0x80 → 0xFFFD ∷ [] ≡ b ∷ [] → ⊥
     differs b l e = let byte_is_fffd : 0xFFFD ≡ b = cc in omega arith
 
-more_bytes : (rule : Rule) (b : ℕ) (z : List ℕ) → AreBytes (b ∷ z) → (length (head_sequence (rule 0 b z) b z).bytes ≡ 1 → ⊥) → ¬ (IsSingleByte rule)
-more_bytes rule b z a n h = n (subst (AllByRecursion IsByteWithText) (sequences_of-cons rule 0 b z) (h (b ∷ z) a)).0.one
+more_bytes : (rule : Rule) (b : ℕ) (z : List ℕ) → AreBytes (b ∷ z)
+    → (length (head_sequence (rule 0 b z) b z).bytes ≡ 1 → ⊥) → ¬ (IsSingleByte rule)
+more_bytes rule b z a n h =
+    n (subst (AllByRecursion IsByteWithText) (sequences_of-cons rule 0 b z) (h (b ∷ z) a)).0.one
 
 -- UTF-8
 
@@ -52,7 +55,8 @@ utf_8_is_ascii_compatible b l y = one_valid b y (grind arith)
 
 pub utf_8_is_not_single_byte : ¬ (IsSingleByte utf_8_rule)
 unfolding utf_8_rule sequence_len is_second_byte is_continuation
-utf_8_is_not_single_byte = more_bytes utf_8_rule 0xC2 (0x80 ∷ []) (omega arith, (omega arith, tt)) (λ e. cc)
+utf_8_is_not_single_byte =
+    more_bytes utf_8_rule 0xC2 (0x80 ∷ []) (omega arith, (omega arith, tt)) (λ e. cc)
 
 -- UTF-16
 
@@ -62,15 +66,19 @@ utf_16_is_not_ascii_compatible big = replaced (utf_16_rule big) 0x61 (omega arit
 
 pub utf_16_is_not_single_byte : (big : Bool) → ¬ (IsSingleByte (utf_16_rule big))
 unfolding utf_16_rule code_unit is_lead_surrogate is_trail_surrogate
-utf_16_is_not_single_byte true = more_bytes (utf_16_rule true) 0 (0x61 ∷ []) (omega arith, (omega arith, tt)) (λ e. cc)
-utf_16_is_not_single_byte false = more_bytes (utf_16_rule false) 0 (0x61 ∷ []) (omega arith, (omega arith, tt)) (λ e. cc)
+utf_16_is_not_single_byte true =
+    more_bytes (utf_16_rule true) 0 (0x61 ∷ []) (omega arith, (omega arith, tt)) (λ e. cc)
+utf_16_is_not_single_byte false =
+    more_bytes (utf_16_rule false) 0 (0x61 ∷ []) (omega arith, (omega arith, tt)) (λ e. cc)
 
 -- encodings of one byte
 
-pub one_byte_is_ascii_compatible : (character : ℕ → Option ℕ) → ((b : ℕ) → b < 0x80 → character b ≡ Some b) → IsAsciiCompatible (one_byte_rule character)
+pub one_byte_is_ascii_compatible : (character : ℕ → Option ℕ)
+    → ((b : ℕ) → b < 0x80 → character b ≡ Some b) → IsAsciiCompatible (one_byte_rule character)
 one_byte_is_ascii_compatible character h b l = one_byte_piece character b b (h b l)
 
-pub single_byte_ascii : (runs : List (ℕ × ℕ × ℕ)) (b : ℕ) → b < 0x80 → single_byte_char runs b ≡ Some b
+pub single_byte_ascii : (runs : List (ℕ × ℕ × ℕ)) (b : ℕ) → b < 0x80
+    → single_byte_char runs b ≡ Some b
 single_byte_ascii runs b l = cond-true _ _ _ (lt-ltb b 0x80 l)
 
 pub x_user_defined_ascii : (b : ℕ) → b < 0x80 → x_user_defined_char b ≡ Some b
@@ -80,22 +88,29 @@ pub one_byte_is_single_byte : (character : ℕ → Option ℕ) → IsSingleByte 
 unfolding one_byte_rule sequences_after
 one_byte_is_single_byte character bytes a = each 0 bytes
   where
-    first : (set b : ℕ) (z : List ℕ) (c : Option ℕ) → ((set : ℕ) → AllByRecursion IsByteWithText (sequences_of (one_byte_rule character) set z))
-        → AllByRecursion IsByteWithText (head_sequence (one_byte_head set c) b z ∷ sequences_after (one_byte_rule character) (one_byte_head set c).set (one_byte_head set c).more z)
+    first : (set b : ℕ) (z : List ℕ) (c : Option ℕ)
+        → ((set : ℕ) → AllByRecursion IsByteWithText (sequences_of (one_byte_rule character) set z))
+        → AllByRecursion IsByteWithText
+        (head_sequence (one_byte_head set c) b z
+        ∷ sequences_after (one_byte_rule character) (one_byte_head set c).set
+        (one_byte_head set c).more z)
     first set b z None rest_holds = (record { one = refl; text = λ e. cc }, rest_holds set)
     first set b z (Some c) rest_holds = (record { one = refl; text = λ e. cc }, rest_holds set)
 
-    each : (set : ℕ) (bytes : List ℕ) → AllByRecursion IsByteWithText (sequences_of (one_byte_rule character) set bytes)
+    each : (set : ℕ) (bytes : List ℕ)
+        → AllByRecursion IsByteWithText (sequences_of (one_byte_rule character) set bytes)
     each set [] = tt
     each set (b ∷ z) = first set b z (character b) (λ s. each s z)
 
 -- legacy multi-byte encodings
 
-pub multi_byte_is_ascii_compatible : (prefix : List ℕ → Prefix) → HasAscii prefix → IsAsciiCompatible (multi_byte_rule prefix)
+pub multi_byte_is_ascii_compatible : (prefix : List ℕ → Prefix) → HasAscii prefix
+    → IsAsciiCompatible (multi_byte_rule prefix)
 multi_byte_is_ascii_compatible prefix h b l = complete_one prefix b b (h b l)
 
 -- (a lead, and a byte that is malformed with it)
-multi_byte_is_not_single_byte : (prefix : List ℕ → Prefix) (lead : ℕ) → lead < 256 → prefix (lead ∷ []) ≡ Incomplete
+multi_byte_is_not_single_byte : (prefix : List ℕ → Prefix) (lead : ℕ) → lead < 256
+    → prefix (lead ∷ []) ≡ Incomplete
     → prefix (lead ∷ 0xFF ∷ []) ≡ Malformed 2 → ¬ (IsSingleByte (multi_byte_rule prefix))
 unfolding multi_byte_rule
 multi_byte_is_not_single_byte prefix lead l e f =
@@ -104,41 +119,58 @@ multi_byte_is_not_single_byte prefix lead l e f =
     ap (λ r. prefix_head prefix 0 (lead ∷ []) r (0xFF ∷ [])) e
     ∙ ap (λ r. prefix_head prefix 0 (lead ∷ 0xFF ∷ []) r []) f in
     more_bytes (multi_byte_rule prefix) lead (0xFF ∷ []) (l, (omega arith, tt))
-    (λ o. let one_byte = subst (λ (t : Head). length (head_sequence t lead (0xFF ∷ [])).bytes ≡ 1) head_is o in
+    (λ o. let one_byte = subst (λ (t : Head). length (head_sequence t lead (0xFF ∷ [])).bytes ≡ 1)
+    head_is o in
     cc)
 
-first_alone : (leads : Bool) (single : Option ℕ) (b : ℕ) → leads ≡ false → single ≡ Some b → first_prefix leads single ≡ Complete (One b)
+first_alone : (leads : Bool) (single : Option ℕ) (b : ℕ) → leads ≡ false → single ≡ Some b
+    → first_prefix leads single ≡ Complete (One b)
 first_alone leads single b n e = ap (λ t. first_prefix t single) n ∙ ap single_prefix e
 
 pub big5_has_ascii : HasAscii big5_prefix
-big5_has_ascii b l = first_alone (is_big5_lead b) _ b (grind (arith, nat_tests)) (cond-true _ _ _ (lt-ltb b 0x80 l))
+big5_has_ascii b l =
+    first_alone (is_big5_lead b) _ b (grind (arith, nat_tests))
+    (cond-true _ _ _ (lt-ltb b 0x80 l))
 
 pub euc_kr_has_ascii : HasAscii euc_kr_prefix
-euc_kr_has_ascii b l = first_alone (is_euc_kr_lead b) _ b (grind (arith, nat_tests)) (cond-true _ _ _ (lt-ltb b 0x80 l))
+euc_kr_has_ascii b l =
+    first_alone (is_euc_kr_lead b) _ b (grind (arith, nat_tests))
+    (cond-true _ _ _ (lt-ltb b 0x80 l))
 
 pub shift_jis_has_ascii : HasAscii shift_jis_prefix
-shift_jis_has_ascii b l = first_alone (is_shift_jis_lead b) (shift_jis_single_char b) b (grind (arith, nat_tests)) (grind (arith, nat_tests))
+shift_jis_has_ascii b l =
+    first_alone (is_shift_jis_lead b) (shift_jis_single_char b) b (grind (arith, nat_tests))
+    (grind (arith, nat_tests))
 
 pub euc_jp_has_ascii : HasAscii euc_jp_prefix
-euc_jp_has_ascii b l = first_alone (is_euc_jp_lead b) _ b (grind (arith, nat_tests)) (cond-true _ _ _ (lt-ltb b 0x80 l))
+euc_jp_has_ascii b l =
+    first_alone (is_euc_jp_lead b) _ b (grind (arith, nat_tests))
+    (cond-true _ _ _ (lt-ltb b 0x80 l))
 
 pub gb18030_has_ascii : HasAscii gb18030_prefix
-gb18030_has_ascii b l = first_alone (is_gb18030_lead b) (gb18030_single_char b) b (grind (arith, nat_tests)) (cond-true _ _ _ (lt-ltb b 0x80 l))
+gb18030_has_ascii b l =
+    first_alone (is_gb18030_lead b) (gb18030_single_char b) b (grind (arith, nat_tests))
+    (cond-true _ _ _ (lt-ltb b 0x80 l))
 
 pub big5_is_not_single_byte : ¬ (IsSingleByte (multi_byte_rule big5_prefix))
-big5_is_not_single_byte = multi_byte_is_not_single_byte big5_prefix 0x81 (omega arith) refl refl
+big5_is_not_single_byte =
+    multi_byte_is_not_single_byte big5_prefix 0x81 (omega arith) refl refl
 
 pub euc_kr_is_not_single_byte : ¬ (IsSingleByte (multi_byte_rule euc_kr_prefix))
-euc_kr_is_not_single_byte = multi_byte_is_not_single_byte euc_kr_prefix 0x81 (omega arith) refl refl
+euc_kr_is_not_single_byte =
+    multi_byte_is_not_single_byte euc_kr_prefix 0x81 (omega arith) refl refl
 
 pub shift_jis_is_not_single_byte : ¬ (IsSingleByte (multi_byte_rule shift_jis_prefix))
-shift_jis_is_not_single_byte = multi_byte_is_not_single_byte shift_jis_prefix 0x81 (omega arith) refl refl
+shift_jis_is_not_single_byte =
+    multi_byte_is_not_single_byte shift_jis_prefix 0x81 (omega arith) refl refl
 
 pub euc_jp_is_not_single_byte : ¬ (IsSingleByte (multi_byte_rule euc_jp_prefix))
-euc_jp_is_not_single_byte = multi_byte_is_not_single_byte euc_jp_prefix 0xA1 (omega arith) refl refl
+euc_jp_is_not_single_byte =
+    multi_byte_is_not_single_byte euc_jp_prefix 0xA1 (omega arith) refl refl
 
 pub gb18030_is_not_single_byte : ¬ (IsSingleByte (multi_byte_rule gb18030_prefix))
-gb18030_is_not_single_byte = multi_byte_is_not_single_byte gb18030_prefix 0x81 (omega arith) refl refl
+gb18030_is_not_single_byte =
+    multi_byte_is_not_single_byte gb18030_prefix 0x81 (omega arith) refl refl
 
 -- ISO-2022-JP, in which an escape sequence is skipped, and 1B by itself is malformed
 
@@ -148,7 +180,9 @@ iso_2022_jp_is_not_ascii_compatible = replaced iso_2022_jp_rule 0x1B (omega arit
 
 pub iso_2022_jp_is_not_single_byte : ¬ (IsSingleByte iso_2022_jp_rule)
 unfolding iso_2022_jp_rule
-iso_2022_jp_is_not_single_byte = more_bytes iso_2022_jp_rule 0x1B (0x28 ∷ 0x42 ∷ []) (omega arith, (omega arith, (omega arith, tt))) (λ e. cc)
+iso_2022_jp_is_not_single_byte =
+    more_bytes iso_2022_jp_rule 0x1B (0x28 ∷ 0x42 ∷ [])
+    (omega arith, (omega arith, (omega arith, tt))) (λ e. cc)
 
 -- replacement, whose second byte has no text
 
@@ -158,4 +192,5 @@ replacement_is_not_ascii_compatible = replaced replacement_rule 0x61 (omega arit
 
 pub replacement_is_not_single_byte : ¬ (IsSingleByte replacement_rule)
 unfolding replacement_rule sequences_after
-replacement_is_not_single_byte h = (h (0x61 ∷ 0x61 ∷ []) (omega arith, (omega arith, tt))).1.0.text refl
+replacement_is_not_single_byte h =
+    (h (0x61 ∷ 0x61 ∷ []) (omega arith, (omega arith, tt))).1.0.text refl

@@ -7,8 +7,8 @@ use Rattle.enc_decoder.specs.Remainder.{AreBytes}
 use Rattle.enc_decoder.specs.RuleLaws.{IsDeterminedWithin}
 use Rattle.enc_decoder.specs.Taking.{IsWholeChar}
 
--- To a decoder that has read nothing, each byte below 0x80 is a sequence by itself, of the character with its number,
--- whatever follows it.
+-- To a decoder that has read nothing, each byte below 0x80 is a sequence by itself, of the
+-- character with its number, whatever follows it.
 abbrev pub IsAsciiCompatible : Rule → Type 0
 IsAsciiCompatible rule = (b : ℕ) → b < 0x80 → IsWholeChar rule 0 (b ∷ []) b
 
@@ -19,7 +19,8 @@ pub record IsByteWithText (s : Sequence) : Type 0 where
 
 -- Each sequence of each input has one byte, and a text.
 abbrev pub IsSingleByte : Rule → Type 0
-IsSingleByte rule = (bytes : List ℕ) → AreBytes bytes → AllByRecursion IsByteWithText (sequences_of rule 0 bytes)
+IsSingleByte rule = (bytes : List ℕ) → AreBytes bytes
+    → AllByRecursion IsByteWithText (sequences_of rule 0 bytes)
 
 -- If EF before BB is a sequence of one byte, so is BB, with lookahead 0.
 abbrev pub DeterminesBbByItself : Rule → Type 0

@@ -25,7 +25,8 @@ bytes_of_slice [] fit = tt
 bytes_of_slice (c ∷ x) fit = ((fit 0).fits, bytes_of_slice x (λ i. fit (suc i)))
 
 -- what fewer bytes determine, more bytes determine
-pub determines_by_more : (remaining : List ℕ → List Sequence) (src : List ℕ) (m n : ℕ) (ss : List Sequence)
+pub determines_by_more : (remaining : List ℕ → List Sequence) (src : List ℕ) (m n : ℕ)
+    (ss : List Sequence)
     → AreBytes src → m ≤ n
     → Determines remaining (take m src) ss → Determines remaining (take n src) ss
 determines_by_more remaining src m n ss b h d z c =
@@ -35,6 +36,7 @@ determines_by_more remaining src m n ss b h d z c =
     let first = d (drop m (take n src) ++ z)
     (bytes-append (drop m (take n src)) z (bytes-drop m (take n src) (bytes-take n src b)) c) in (
       first.0,
-      ap (λ x. remaining (x ++ z)) parted ∙ ap remaining (append_assoc (take m src) (drop m (take n src)) z)
+      ap (λ x. remaining (x ++ z)) parted
+          ∙ ap remaining (append_assoc (take m src) (drop m (take n src)) z)
           ∙ first.1,
     )

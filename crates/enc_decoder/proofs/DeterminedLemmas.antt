@@ -6,7 +6,8 @@ use Rattle.enc_decoder.specs.Sequence.{Sequence}
 use Rattle.enc_decoder.specs.Remainder.{AreFirstSequences, Determines, AreDetermined, IsUndetermined}
 
 -- with everything that may follow
-pub determined_at : (last : Bool) (remaining : List ℕ → List Sequence) (x : List ℕ) (ss : List Sequence)
+pub determined_at : (last : Bool) (remaining : List ℕ → List Sequence) (x : List ℕ)
+    (ss : List Sequence)
     → ((z : List ℕ) → (last ≡ true → z ≡ []) → AreFirstSequences ss (remaining (x ++ z)))
     → AreDetermined last remaining x ss
 determined_at true remaining x ss begins =
@@ -14,16 +15,23 @@ determined_at true remaining x ss begins =
 determined_at false remaining x ss begins = λ z _. begins z (λ n. absurd (false≢true n))
 
 -- what determines more sequences determines fewer
-pub determines_fewer : (remaining : List ℕ → List Sequence) (x : List ℕ) (ss ts : List Sequence) → Determines remaining x (ss ++ ts) → Determines remaining x ss
-determines_fewer remaining x ss ts d z b = let first = d z b in (ts ++ first.0, first.1 ∙ append_assoc ss ts first.0)
+pub determines_fewer : (remaining : List ℕ → List Sequence) (x : List ℕ) (ss ts : List Sequence)
+    → Determines remaining x (ss ++ ts) → Determines remaining x ss
+determines_fewer remaining x ss ts d z b = let first = d z b in
+    (ts ++ first.0, first.1 ∙ append_assoc ss ts first.0)
 
 -- the sequences after those that are done
-pub begins_after : (done ss ts all : List Sequence) → all ≡ done ++ ts → AreFirstSequences (done ++ ss) all
+pub begins_after : (done ss ts all : List Sequence) → all ≡ done ++ ts
+    → AreFirstSequences (done ++ ss) all
     → AreFirstSequences ss ts
-begins_after done ss ts all e first =
-    (first.0, append_cancel_left done ts (ss ++ first.0) (sym e ∙ first.1 ∙ append_assoc done ss first.0))
+begins_after done ss ts all e first = (
+  first.0,
+  append_cancel_left done ts (ss ++ first.0)
+      (sym e ∙ first.1 ∙ append_assoc done ss first.0),
+)
 
--- If the remaining sequences are undetermined, the bytes before determine no more than those that are done.
+-- If the remaining sequences are undetermined, the bytes before determine no more than those that
+-- are done.
 pub none_determined : (remaining rest : List ℕ → List Sequence) (x : List ℕ) (done : List Sequence)
     → ((y : List ℕ) → remaining (x ++ y) ≡ done ++ rest y) → IsUndetermined rest
     → (s : Sequence) → Determines remaining x (done ++ s ∷ []) → ⊥

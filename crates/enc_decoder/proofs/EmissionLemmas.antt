@@ -15,7 +15,8 @@ use Rattle.enc_decoder.specs.Call.{AreMalformedLens, AreReportedLens}
 use Rattle.enc_decoder.specs.CodecLaw.{text_chars, IsNextSequence, HandlesByte, BeginsWithByte}
 use Rattle.enc_decoder.proofs.SegmentationLemmas.{sequences_of-nil}
 
--- how long a sequence that is no repeated escape is at most, and how many bytes are pending after it
+-- how long a sequence that is no repeated escape is at most, and how many bytes are pending after
+-- it
 are_bounded : (kind : Kind) (l a : ℕ) → is_repeated_escape kind ≡ false → AreMalformedLens l a
     → AreReportedLens kind l a
 are_bounded Valid l a e lens = lens
@@ -25,86 +26,113 @@ are_bounded RepeatedEscape l a e lens = absurd (false≢true (sym e))
 
 -- pending bytes that determine nothing
 
-first_is : (s t : Sequence) (ss all : List Sequence) → all ≡ t ∷ ss → AreFirstSequences (s ∷ []) all → s ≡ t
+first_is : (s t : Sequence) (ss all : List Sequence) → all ≡ t ∷ ss → AreFirstSequences (s ∷ []) all
+    → s ≡ t
 first_is s t ss all e g = let begins_with_s = g.1 in cc
 
 none_is_first : (s : Sequence) (all : List Sequence) → all ≡ [] → AreFirstSequences (s ∷ []) all → ⊥
 none_is_first s all e g = let begins_with_s = g.1 in cc
 
 -- two ways to go on that begin with two sequences
-pub undetermined_by : (remaining : List ℕ → List Sequence) (y z : List ℕ) (s t : Sequence) (ss ts : List Sequence) → AreBytes y → AreBytes z
+pub undetermined_by : (remaining : List ℕ → List Sequence) (y z : List ℕ) (s t : Sequence)
+    (ss ts : List Sequence) → AreBytes y → AreBytes z
     → remaining y ≡ s ∷ ss → remaining z ≡ t ∷ ts → (s ≡ t → ⊥) → IsUndetermined remaining
 undetermined_by remaining y z s t ss ts a b e f n q determines =
-    n (sym (first_is q s ss (remaining y) e (determines y a)) ∙ first_is q t ts (remaining z) f (determines z b))
+    n (sym (first_is q s ss (remaining y) e (determines y a))
+    ∙ first_is q t ts (remaining z) f (determines z b))
 
 -- no pending bytes
 pub nothing_pending : (v : CodecState) → v.pending ≡ [] → IsUndetermined (remainder_of v).sequences
 nothing_pending v e q d =
-    none_is_first q ((remainder_of v).sequences []) (ap (λ x. sequences_of v.rule v.set (x ++ [])) e ∙ sequences_of-nil v.rule v.set) (d [] tt)
+    none_is_first q ((remainder_of v).sequences [])
+    (ap (λ x. sequences_of v.rule v.set (x ++ [])) e ∙ sequences_of-nil v.rule v.set) (d [] tt)
 
-module _ {C : Type 0} (state : C → CodecState) (c next : C) (text : Text) (kind : Kind) (len : ℕ) where
-  -- a byte is the last of a sequence, after which nothing is pending
-  pub shows_with : (b : ℕ) → (state next).rule ≡ (state c).rule → (state next).pending ≡ [] → len ≡ length (state c).pending + 1
-      → is_repeated_escape kind ≡ false → (is_malformed kind ≡ true → (text_chars text ≡ 0xFFFD ∷ []) × (len ≤ 4))
-      → ((z : List ℕ) → (remainder_of (state c)).sequences (b ∷ z)
-      ≡ record { bytes = (state c).pending ++ b ∷ []; text = text_chars text; kind = kind; set = (state next).set } ∷ (remainder_of (state next)).sequences z)
-      → HandlesByte state c b (Emit (record { text = text; kind = kind; len = len; takes_byte = true; next = next }))
-  shows_with b r none_pending n not_repeated malformed_text f =
-      let one_longer : length ((state c).pending ++ b ∷ []) ≡ length (state c).pending + 1 =
-      length-append (state c).pending (b ∷ []) in
-      let none_after : length (state next).pending ≡ 0 = ap length none_pending in (
-        record {
+module _ {C : Type 0} (state : C → CodecState) (c next : C) (text : Text) (kind : Kind) (len : ℕ)
+  where
+    -- a byte is the last of a sequence, after which nothing is pending
+    pub shows_with : (b : ℕ) → (state next).rule ≡ (state c).rule → (state next).pending ≡ []
+        → len ≡ length (state c).pending + 1
+        → is_repeated_escape kind ≡ false
+        → (is_malformed kind ≡ true → (text_chars text ≡ 0xFFFD ∷ []) × (len ≤ 4))
+        → ((z : List ℕ) → (remainder_of (state c)).sequences (b ∷ z)
+        ≡ record {
           bytes = (state c).pending ++ b ∷ [];
-          some = omega (arith, one_longer);
-          len = n ∙ sym one_longer;
-          parts = sym (append-nil ((state c).pending ++ b ∷ []))
-              ∙ ap (λ x. ((state c).pending ++ b ∷ []) ++ x) (sym none_pending);
-          first = λ y _. f y;
-          same_rule = r;
-          replacement = λ w. (malformed_text w).0;
-          bounds = λ w.
-              let at_most_four = (malformed_text w).1 in
-              are_bounded kind len (length (state next).pending) not_repeated
-              (at_most_four, omega (arith, none_after), omega (arith, none_after, at_most_four));
-          late = λ w. absurd (false≢true (sym not_repeated ∙ w));
-          clean = λ _ _. none_pending;
-        },
-        λ _. nothing_pending (state next) none_pending,
-      )
+          text = text_chars text;
+          kind = kind;
+          set =
+              (state next).set;
+        } ∷ (remainder_of (state next)).sequences z)
+        → HandlesByte state c b
+        (Emit (record { text = text; kind = kind; len = len; takes_byte = true; next = next }))
+    shows_with b r none_pending n not_repeated malformed_text f =
+        let one_longer : length ((state c).pending ++ b ∷ []) ≡ length (state c).pending + 1 =
+        length-append (state c).pending (b ∷ []) in
+        let none_after : length (state next).pending ≡ 0 = ap length none_pending in (
+          record {
+            bytes = (state c).pending ++ b ∷ [];
+            some = omega (arith, one_longer);
+            len = n ∙ sym one_longer;
+            parts = sym (append-nil ((state c).pending ++ b ∷ []))
+                ∙ ap (λ x. ((state c).pending ++ b ∷ []) ++ x) (sym none_pending);
+            first = λ y _. f y;
+            same_rule = r;
+            replacement = λ w. (malformed_text w).0;
+            bounds = λ w.
+                let at_most_four = (malformed_text w).1 in
+                are_bounded kind len (length (state next).pending) not_repeated
+                (at_most_four, omega (arith, none_after), omega (arith, none_after, at_most_four));
+            late = λ w. absurd (false≢true (sym not_repeated ∙ w));
+            clean = λ _ _. none_pending;
+          },
+          λ _. nothing_pending (state next) none_pending,
+        )
 
-  -- pending bytes are a sequence, and what shows it isn't read; others may stay pending after them
-  pub shows_before : (may_follow : List ℕ → Type 0) (bytes : List ℕ) → (state next).rule ≡ (state c).rule → (state c).pending ≡ bytes ++ (state next).pending
-      → len ≡ length bytes → 0 < len → is_repeated_escape kind ≡ false
-      → (is_malformed kind ≡ true
-      → (text_chars text ≡ 0xFFFD ∷ []) × (AreMalformedLens len (length (state next).pending)))
-      → ((y : List ℕ) → may_follow y → (remainder_of (state c)).sequences y
-      ≡ record { bytes = bytes; text = text_chars text; kind = kind; set = (state next).set } ∷ (remainder_of (state next)).sequences y)
-      → IsNextSequence state c may_follow []
-      (record { text = text; kind = kind; len = len; takes_byte = false; next = next })
-  shows_before may_follow bytes r p n s not_repeated malformed_text f = record {
-    bytes = bytes;
-    some = omega arith;
-    len = n;
-    parts = append-nil (state c).pending ∙ p;
-    first = f;
-    same_rule = r;
-    replacement = λ w. (malformed_text w).0;
-    bounds = λ w. are_bounded kind len (length (state next).pending) not_repeated (malformed_text w).1;
-    late = λ w. absurd (false≢true (sym not_repeated ∙ w));
-    clean = λ t. absurd (false≢true t);
-  }
+    -- pending bytes are a sequence, and what shows it isn't read; others may stay pending after
+    -- them
+    pub shows_before : (may_follow : List ℕ → Type 0) (bytes : List ℕ)
+        → (state next).rule ≡ (state c).rule → (state c).pending ≡ bytes ++ (state next).pending
+        → len ≡ length bytes → 0 < len → is_repeated_escape kind ≡ false
+        → (is_malformed kind ≡ true
+        → (text_chars text ≡ 0xFFFD ∷ []) × (AreMalformedLens len (length (state next).pending)))
+        → ((y : List ℕ) → may_follow y → (remainder_of (state c)).sequences y
+        ≡ record { bytes = bytes; text = text_chars text; kind = kind; set = (state next).set }
+        ∷ (remainder_of (state next)).sequences y)
+        → IsNextSequence state c may_follow []
+        (record { text = text; kind = kind; len = len; takes_byte = false; next = next })
+    shows_before may_follow bytes r p n s not_repeated malformed_text f = record {
+      bytes = bytes;
+      some = omega arith;
+      len = n;
+      parts = append-nil (state c).pending ∙ p;
+      first = f;
+      same_rule = r;
+      replacement = λ w. (malformed_text w).0;
+      bounds = λ w. are_bounded kind len (length (state next).pending) not_repeated
+          (malformed_text w).1;
+      late = λ w. absurd (false≢true (sym not_repeated ∙ w));
+      clean = λ t. absurd (false≢true t);
+    }
 
-  -- the next byte shows it
-  pub shows_at : (b : ℕ) (bytes : List ℕ) → (state next).rule ≡ (state c).rule → (state c).pending ≡ bytes ++ (state next).pending
-      → len ≡ length bytes → 0 < len → is_repeated_escape kind ≡ false
-      → (is_malformed kind ≡ true
-      → (text_chars text ≡ 0xFFFD ∷ []) × (AreMalformedLens len (length (state next).pending)))
-      → ((z : List ℕ) → (remainder_of (state c)).sequences (b ∷ z)
-      ≡ record { bytes = bytes; text = text_chars text; kind = kind; set = (state next).set } ∷ (remainder_of (state next)).sequences (b ∷ z))
-      → HandlesByte state c b (Emit (record { text = text; kind = kind; len = len; takes_byte = false; next = next }))
-  shows_at b bytes r p n s l m f = (
-    shows_before (BeginsWithByte b) bytes r p n s l m
-        (λ y w. ap (remainder_of (state c)).sequences w.1 ∙ f w.0
-        ∙ ap (λ x. record { bytes = bytes; text = text_chars text; kind = kind; set = (state next).set } ∷ (remainder_of (state next)).sequences x) (sym w.1)),
-    λ t. absurd (false≢true t),
-  )
+    -- the next byte shows it
+    pub shows_at : (b : ℕ) (bytes : List ℕ) → (state next).rule ≡ (state c).rule
+        → (state c).pending ≡ bytes ++ (state next).pending
+        → len ≡ length bytes → 0 < len → is_repeated_escape kind ≡ false
+        → (is_malformed kind ≡ true
+        → (text_chars text ≡ 0xFFFD ∷ []) × (AreMalformedLens len (length (state next).pending)))
+        → ((z : List ℕ) → (remainder_of (state c)).sequences (b ∷ z)
+        ≡ record { bytes = bytes; text = text_chars text; kind = kind; set = (state next).set }
+        ∷ (remainder_of (state next)).sequences (b ∷ z))
+        → HandlesByte state c b
+        (Emit (record { text = text; kind = kind; len = len; takes_byte = false; next = next }))
+    shows_at b bytes r p n s l m f = (
+      shows_before (BeginsWithByte b) bytes r p n s l m
+          (λ y w. ap (remainder_of (state c)).sequences w.1 ∙ f w.0
+          ∙ ap (λ x. record {
+            bytes = bytes;
+            text = text_chars text;
+            kind = kind;
+            set =
+                (state next).set;
+          } ∷ (remainder_of (state next)).sequences x) (sym w.1)),
+      λ t. absurd (false≢true t),
+    )

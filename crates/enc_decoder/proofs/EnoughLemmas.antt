@@ -23,15 +23,18 @@ fitting_is : (n q : ℕ) (t : Bool) → cond t (Some n) None ≡ Some q → q �
 fitting_is n q true e = cc
 fitting_is n q false e = cc
 
-pub plus_is : (o : Option ℕ) (b q : ℕ) → checked_add o b ≡ Some q → (a : ℕ) × (o ≡ Some a) × (q ≡ a + b)
+pub plus_is : (o : Option ℕ) (b q : ℕ) → checked_add o b ≡ Some q → (a : ℕ) × (o ≡ Some a)
+    × (q ≡ a + b)
 plus_is None b q e = absurd (cc)
 plus_is (Some a) b q e = (a, refl, fitting_is (a + b) q (nat_lt (a + b) (2 ^ 64)) e)
 
-pub times_is : (o : Option ℕ) (b q : ℕ) → checked_mul o b ≡ Some q → (a : ℕ) × (o ≡ Some a) × (q ≡ a * b)
+pub times_is : (o : Option ℕ) (b q : ℕ) → checked_mul o b ≡ Some q → (a : ℕ) × (o ≡ Some a)
+    × (q ≡ a * b)
 times_is None b q e = absurd (cc)
 times_is (Some a) b q e = (a, refl, fitting_is (a * b) q (nat_lt (a * b) (2 ^ 64)) e)
 
-pub half_is : (o : Option ℕ) (q : ℕ) → checked_half o ≡ Some q → (a : ℕ) × (o ≡ Some a) × (q ≡ a / 2)
+pub half_is : (o : Option ℕ) (q : ℕ) → checked_half o ≡ Some q → (a : ℕ) × (o ≡ Some a)
+    × (q ≡ a / 2)
 half_is None q e = absurd (cc)
 half_is (Some a) q e = (a, refl, cc)
 
@@ -40,55 +43,77 @@ pub same_some : (a b : ℕ) → Some a ≡ Some b → a ≡ b
 same_some a b e = cc
 
 pub sum_is : (n h q : ℕ) → checked_add (Some n) h ≡ Some q → q ≡ n + h
-sum_is n h q e = let sum = plus_is (Some n) h q e in sum.2 ∙ ap (λ a. a + h) (sym (same_some n sum.0 sum.1))
+sum_is n h q e = let sum = plus_is (Some n) h q e in sum.2
+    ∙ ap (λ a. a + h) (sym (same_some n sum.0 sum.1))
 
-pub thrice_is : (o : Option ℕ) (m q : ℕ) → ((a : ℕ) → o ≡ Some a → a ≡ m) → checked_mul o 3 ≡ Some q → q ≡ 3 * m
-thrice_is o m q h e = let product = times_is o 3 q e in omega (arith, product.2, h product.0 product.1)
+pub thrice_is : (o : Option ℕ) (m q : ℕ) → ((a : ℕ) → o ≡ Some a → a ≡ m) → checked_mul o 3 ≡ Some q
+    → q ≡ 3 * m
+thrice_is o m q h e = let product = times_is o 3 q e in
+    omega (arith, product.2, h product.0 product.1)
 
--- Sequences have at most `most` code units, by the designated set and the number of bytes, if the first one and those
--- that may follow it have.
+-- Sequences have at most `most` code units, by the designated set and the number of bytes, if the
+-- first one and those that may follow it have.
 module _ (units_of : ℕ → List ℕ) (rule : Rule) (most : ℕ → ℕ → ℕ)
-    (step : (set b : ℕ) (z : List ℕ) → length (units_of_text units_of (rule set b z).text) + most (rule set b z).set (length (drop (rule set b z).more z)) ≤ most set (suc (length z))) where
-  bounded_after : (set k : ℕ) (z : List ℕ) → units units_of (sequences_after rule set k z) ≤ most set
-      (length (drop k z))
-  unfolding sequences_after
-  bounded_after set zero [] = omega arith
-  bounded_after set (suc k) [] = omega arith
-  bounded_after set zero (b ∷ z) =
-      let head = rule set b z in
-      omega (
-        arith,
-        step set b z,
-        bounded_after head.set head.more z,
-        units-both units_of (head_sequence head b z ∷ []) (sequences_after rule head.set head.more z),
-        units-one units_of (head_sequence head b z) head.text refl,
-      )
-  bounded_after set (suc k) (b ∷ z) = bounded_after set k z
+    (step : (set b : ℕ) (z : List ℕ)
+    → length (units_of_text units_of (rule set b z).text)
+    + most (rule set b z).set (length (drop (rule set b z).more z)) ≤ most set (suc (length z)))
+  where
+    bounded_after : (set k : ℕ) (z : List ℕ)
+        → units units_of (sequences_after rule set k z) ≤ most set
+        (length (drop k z))
+    unfolding sequences_after
+    bounded_after set zero [] = omega arith
+    bounded_after set (suc k) [] = omega arith
+    bounded_after set zero (b ∷ z) =
+        let head = rule set b z in
+        omega (
+          arith,
+          step set b z,
+          bounded_after head.set head.more z,
+          units-both units_of (head_sequence head b z ∷ [])
+              (sequences_after rule head.set head.more z),
+          units-one units_of (head_sequence head b z) head.text refl,
+        )
+    bounded_after set (suc k) (b ∷ z) = bounded_after set k z
 
-  pub bounded : (set : ℕ) (z : List ℕ) → units units_of (sequences_of rule set z) ≤ most set (length z)
-  bounded set z = bounded_after set 0 z
+    pub bounded : (set : ℕ) (z : List ℕ)
+        → units units_of (sequences_of rule set z) ≤ most set (length z)
+    bounded set z = bounded_after set 0 z
 
 -- what a call reports is no more than all
-before_less : (units_of : ℕ → List ℕ) (keeps : Bool) (ss : List Sequence) → units units_of (sequences_before_malformed keeps ss) ≤ units units_of ss
+before_less : (units_of : ℕ → List ℕ) (keeps : Bool) (ss : List Sequence)
+    → units units_of (sequences_before_malformed keeps ss) ≤ units units_of ss
 before_less units_of keeps [] = omega arith
-before_less units_of keeps (s ∷ ss) = by_test (is_malformed s.kind) keeps (before_less units_of keeps ss)
+before_less units_of keeps (s ∷ ss) =
+    by_test (is_malformed s.kind) keeps (before_less units_of keeps ss)
   where
-    by_test : (t k : Bool) → units units_of (sequences_before_malformed keeps ss) ≤ units units_of ss
+    by_test : (t k : Bool)
+        → units units_of (sequences_before_malformed keeps ss) ≤ units units_of ss
         → units units_of (cond t (cond k (s ∷ []) []) (s ∷ sequences_before_malformed keeps ss))
         ≤ units units_of (s ∷ ss)
     by_test true true h = omega (arith, units-both units_of (s ∷ []) ss)
     by_test true false h = omega arith
-    by_test false k h = omega (arith, h, units-both units_of (s ∷ []) ss, units-both units_of (s ∷ []) (sequences_before_malformed keeps ss))
+    by_test false k h = omega (
+      arith,
+      h,
+      units-both units_of (s ∷ []) ss,
+      units-both units_of (s ∷ [])
+          (sequences_before_malformed keeps ss),
+    )
 
-pub needed_less : (units_of : ℕ → List ℕ) (mode : DecodeErrorMode) (ss : List Sequence) → needed_units units_of mode ss ≤ units units_of ss
+pub needed_less : (units_of : ℕ → List ℕ) (mode : DecodeErrorMode) (ss : List Sequence)
+    → needed_units units_of mode ss ≤ units units_of ss
 needed_less units_of Replacement ss = omega arith
 needed_less units_of (Fatal keeps) ss = before_less units_of keeps ss
 
 -- what is needed is a part of what all bytes need
-pub needs_all : (units_of : ℕ → List ℕ) (mode : DecodeErrorMode) (v : CodecState) (src : List ℕ) (last : Bool) (n : ℕ)
-    → NeedExceeds units_of mode (remainder_of v) src last n → n < needed_units units_of mode (sequences_of v.rule v.set (v.pending ++ src))
+pub needs_all : (units_of : ℕ → List ℕ) (mode : DecodeErrorMode) (v : CodecState) (src : List ℕ)
+    (last : Bool) (n : ℕ)
+    → NeedExceeds units_of mode (remainder_of v) src last n
+    → n < needed_units units_of mode (sequences_of v.rule v.set (v.pending ++ src))
 needs_all units_of mode v src last n exceeds =
-    let within_all = at_end last (remainder_of v).sequences src exceeds.sequences exceeds.determined in
+    let within_all = at_end last (remainder_of v).sequences src exceeds.sequences
+    exceeds.determined in
     omega (
       arith,
       exceeds.more,
@@ -99,15 +124,25 @@ needs_all units_of mode v src last n exceeds =
 -- a need that is bounded by the number of all bytes
 pub never_passes : (units_of : ℕ → List ℕ) (mode : DecodeErrorMode) (most : ℕ → ℕ) (v : CodecState)
     → ((z : List ℕ) → needed_units units_of mode (sequences_of v.rule v.set z) ≤ most (length z))
-    → (src : List ℕ) (last : Bool) (n : ℕ) → most (length v.pending + length src) ≤ n → NeedExceeds units_of mode (remainder_of v) src last n → ⊥
+    → (src : List ℕ) (last : Bool) (n : ℕ) → most (length v.pending + length src) ≤ n
+    → NeedExceeds units_of mode (remainder_of v) src last n → ⊥
 never_passes units_of mode most v h src last n l p =
-    omega (arith, l, h (v.pending ++ src), needs_all units_of mode v src last n p, ap most (length-append v.pending src))
+    omega (
+      arith,
+      l,
+      h (v.pending ++ src),
+      needs_all units_of mode v src last n p,
+      ap most
+          (length-append v.pending src),
+    )
 
 -- At most three code units of UTF-8 and one of UTF-16 for each byte.
 abbrev pub HasFewUnits : Rule → Type 0
 HasFewUnits rule = (set b : ℕ) (z : List ℕ)
-    → (length (units_of_text encode_utf8 (rule set b z).text) ≤ 3 * suc (length (take (rule set b z).more z)))
-    × (length (units_of_text encode_utf16 (rule set b z).text) ≤ suc (length (take (rule set b z).more z)))
+    → (length (units_of_text encode_utf8 (rule set b z).text)
+    ≤ 3 * suc (length (take (rule set b z).more z)))
+    × (length (units_of_text encode_utf16 (rule set b z).text)
+    ≤ suc (length (take (rule set b z).more z)))
 
 pub basic_by : (c : ℕ) → c < 0x1_0000 → IsBmpText (c ∷ [])
 basic_by c l = record {
@@ -126,15 +161,20 @@ pub none_basic : IsBmpText []
 none_basic = record { utf_8 = omega arith; utf_16 = omega arith }
 
 -- Small texts are few for two bytes and more.
-pub few_by_single_bytes : (rule : Rule) → HasSmallTexts rule → ((set b : ℕ) (z : List ℕ) → length (take (rule set b z).more z) ≡ 0 → IsBmpText (rule set b z).text)
+pub few_by_single_bytes : (rule : Rule) → HasSmallTexts rule
+    → ((set b : ℕ) (z : List ℕ) → length (take (rule set b z).more z) ≡ 0
+    → IsBmpText (rule set b z).text)
     → HasFewUnits rule
 few_by_single_bytes rule small basic set b z = by_length (length (take (rule set b z).more z)) refl
   where
     by_length : (n : ℕ) → length (take (rule set b z).more z) ≡ n
-        → (length (units_of_text encode_utf8 (rule set b z).text) ≤ 3 * suc (length (take (rule set b z).more z)))
-        × (length (units_of_text encode_utf16 (rule set b z).text) ≤ suc (length (take (rule set b z).more z)))
+        → (length (units_of_text encode_utf8 (rule set b z).text)
+        ≤ 3 * suc (length (take (rule set b z).more z)))
+        × (length (units_of_text encode_utf16 (rule set b z).text)
+        ≤ suc (length (take (rule set b z).more z)))
     by_length zero is_length =
-        let small_text = basic set b z is_length in (omega (arith, small_text.utf_8), omega (arith, small_text.utf_16))
+        let small_text = basic set b z is_length in
+        (omega (arith, small_text.utf_8), omega (arith, small_text.utf_16))
     by_length (suc n) is_length =
         let small_text = small set b z in
         (omega (arith, small_text.utf_8, is_length), omega (arith, small_text.utf_16, is_length))
@@ -143,37 +183,69 @@ module _ (v : CodecState) (few : HasFewUnits v.rule) where
   parted : (n : ℕ) (z : List ℕ) → length (take n z) + length (drop n z) ≡ length z
   parted n z = sym (length-append (take n z) (drop n z)) ∙ ap length (take-append-drop n z)
 
-  pub utf_8_bounded : (z : List ℕ) → needed_units encode_utf8 Replacement (sequences_of v.rule v.set z) ≤ 3 * length z
-  utf_8_bounded z = bounded encode_utf8 v.rule (λ _ n. 3 * n) (λ set b y. omega (arith, (few set b y).0, parted (v.rule set b y).more y)) v.set z
+  pub utf_8_bounded : (z : List ℕ)
+      → needed_units encode_utf8 Replacement (sequences_of v.rule v.set z) ≤ 3 * length z
+  utf_8_bounded z = bounded encode_utf8 v.rule (λ _ n. 3 * n)
+      (λ set b y. omega (arith, (few set b y).0, parted (v.rule set b y).more y)) v.set z
 
-  pub utf_16_bounded : (mode : DecodeErrorMode) (z : List ℕ) → needed_units encode_utf16 mode (sequences_of v.rule v.set z) ≤ length z
+  pub utf_16_bounded : (mode : DecodeErrorMode) (z : List ℕ)
+      → needed_units encode_utf16 mode (sequences_of v.rule v.set z) ≤ length z
   utf_16_bounded mode z =
       let within = bounded encode_utf16 v.rule (λ _ n. n)
-      (λ set within y. omega (arith, (few set within y).1, parted (v.rule set within y).more y)) v.set z in
+      (λ set within y. omega (arith, (few set within y).1, parted (v.rule set within y).more y))
+      v.set z in
       omega (arith, within, needed_less encode_utf16 mode (sequences_of v.rule v.set z))
 
-  reporting_bounded : (keeps : Bool) (z : List ℕ) → needed_units encode_utf8 (Fatal keeps) (sequences_of v.rule v.set z) ≤ 3 * length z
-  reporting_bounded keeps z = omega (arith, utf_8_bounded z, needed_less encode_utf8 (Fatal keeps) (sequences_of v.rule v.set z))
+  reporting_bounded : (keeps : Bool) (z : List ℕ)
+      → needed_units encode_utf8 (Fatal keeps) (sequences_of v.rule v.set z) ≤ 3 * length z
+  reporting_bounded keeps z =
+      omega (
+        arith,
+        utf_8_bounded z,
+        needed_less encode_utf8 (Fatal keeps)
+            (sequences_of v.rule v.set z),
+      )
 
   pub multi_byte_enough : AreEnoughForCodec lengths.MultiByte v
   multi_byte_enough = record {
-    utf_8 = λ src last n _ e. never_passes encode_utf8 Replacement (λ k. 3 * k) v utf_8_bounded src last n (thrice src n e);
-    reporting = λ keeps src last n _ e. never_passes encode_utf8 (Fatal keeps) (λ k. 3 * k) v (reporting_bounded keeps) src last n (thrice src n e);
-    utf_16 = λ mode src last n _ e. never_passes encode_utf16 mode (λ k. k) v (utf_16_bounded mode) src last n
+    utf_8 = λ src last n _ e.
+        never_passes encode_utf8 Replacement (λ k. 3 * k) v utf_8_bounded src last n
+        (thrice src n e);
+    reporting = λ keeps src last n _ e.
+        never_passes encode_utf8 (Fatal keeps) (λ k. 3 * k) v (reporting_bounded keeps) src last n
+        (thrice src n e);
+    utf_16 = λ mode src last n _ e.
+        never_passes encode_utf16 mode (λ k. k) v (utf_16_bounded mode) src last n
         (omega (arith, sum_is (length src) (length v.pending) n e));
   }
     where
-      thrice : (src : List ℕ) (n : ℕ) → checked_mul (checked_add (Some (length src)) (length v.pending)) 3 ≡ Some n → 3 * (length v.pending + length src) ≤ n
-      thrice src n e = omega (arith, thrice_is (checked_add (Some (length src)) (length v.pending)) (length src + length v.pending) n (λ a f. sum_is (length src) (length v.pending) a f) e)
+      thrice : (src : List ℕ) (n : ℕ)
+          → checked_mul (checked_add (Some (length src)) (length v.pending)) 3 ≡ Some n
+          → 3 * (length v.pending + length src) ≤ n
+      thrice src n e = omega (
+        arith,
+        thrice_is (checked_add (Some (length src)) (length v.pending))
+            (length src + length v.pending) n (λ a f. sum_is (length src) (length v.pending) a f) e,
+      )
 
   pub one_byte_enough : v.pending ≡ [] → AreEnoughForCodec lengths.OneByte v
   one_byte_enough none = record {
-    utf_8 = λ src last n _ e. never_passes encode_utf8 Replacement (λ k. 3 * k) v utf_8_bounded src last n (thrice src n e);
-    reporting = λ keeps src last n _ e. never_passes encode_utf8 (Fatal keeps) (λ k. 3 * k) v (reporting_bounded keeps) src last n (thrice src n e);
-    utf_16 = λ mode src last n _ e. never_passes encode_utf16 mode (λ k. k) v (utf_16_bounded mode) src last n
+    utf_8 = λ src last n _ e.
+        never_passes encode_utf8 Replacement (λ k. 3 * k) v utf_8_bounded src last n
+        (thrice src n e);
+    reporting = λ keeps src last n _ e.
+        never_passes encode_utf8 (Fatal keeps) (λ k. 3 * k) v (reporting_bounded keeps) src last n
+        (thrice src n e);
+    utf_16 = λ mode src last n _ e.
+        never_passes encode_utf16 mode (λ k. k) v (utf_16_bounded mode) src last n
         (omega (arith, same_some (length src) n e, ap length none));
   }
     where
       thrice : (src : List ℕ) (n : ℕ) → checked_mul (Some (length src)) 3 ≡ Some n
           → 3 * (length v.pending + length src) ≤ n
-      thrice src n e = omega (arith, thrice_is (Some (length src)) (length src) n (λ a f. sym (same_some (length src) a f)) e, ap length none)
+      thrice src n e = omega (
+        arith,
+        thrice_is (Some (length src)) (length src) n
+            (λ a f. sym (same_some (length src) a f)) e,
+        ap length none,
+      )

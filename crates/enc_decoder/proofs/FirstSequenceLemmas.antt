@@ -18,7 +18,8 @@ true_or_false true = inl refl
 true_or_false false = inr refl
 
 -- the same head with whatever follows
-pub determined_by_head : (rule : Rule) (set b : ℕ) (z : List ℕ) (n : ℕ) (h : Head) → rule set b z ≡ h
+pub determined_by_head : (rule : Rule) (set b : ℕ) (z : List ℕ) (n : ℕ) (h : Head)
+    → rule set b z ≡ h
     → h.more + n ≤ length z
     → ((y : List ℕ) → rule set b (take (h.more + n) z ++ y) ≡ h) → IsDeterminedWithin rule set b z n
 determined_by_head rule set b z n h is_head l f = record {
@@ -32,7 +33,8 @@ pub looks_at_none : (rule : Rule) (set b : ℕ) (z : List ℕ) → IsDeterminedW
 looks_at_none rule set b z t = record { determined = t; least = λ a m l f. omega (arith, l) }
 
 -- n bytes after it determine it, and after one less only the end would
-pub looks_by : (rule : Rule) (set b : ℕ) (z : List ℕ) (n k : ℕ) → IsDeterminedWithin rule set b z (suc n)
+pub looks_by : (rule : Rule) (set b : ℕ) (z : List ℕ) (n k : ℕ)
+    → IsDeterminedWithin rule set b z (suc n)
     → k ≡ (rule set b z).more + n
     → IsDeterminedByEnd rule set b (take k z) → IsLookahead rule set b z (suc n)
 looks_by rule set b z n k t e by_end = record {
@@ -42,7 +44,8 @@ looks_by rule set b z n k t e by_end = record {
       let fewer = (rule set b z).more + m in
       let few : fewer ≤ k = omega (arith, e, l) in
       let front : take fewer z ++ drop fewer short_input ≡ short_input =
-      ap (λ w. w ++ drop fewer short_input) (sym (take-take fewer k z few)) ∙ take-append-drop fewer short_input in
+      ap (λ w. w ++ drop fewer short_input) (sym (take-take fewer k z few))
+      ∙ take-append-drop fewer short_input in
       let rest = bytes-drop fewer short_input (bytes-take k z a) in
       let first = ap (rule set b) (sym front) ∙ same (drop fewer short_input) rest in
       let then = ap (rule set b) (ap (λ w. w ++ by_end.more) (sym front)
@@ -52,12 +55,14 @@ looks_by rule set b z n k t e by_end = record {
       by_end.other (then ∙ sym first);
 }
 
--- What the law asks of one sequence: its own bytes determine it, or it is not valid and a few more bytes do.
+-- What the law asks of one sequence: its own bytes determine it, or it is not valid and a few more
+-- bytes do.
 abbrev pub IsDeterminedSoon : Rule → ℕ → ℕ → List ℕ → Type 0
 IsDeterminedSoon rule set b z = IsDeterminedWithin rule set b z 0
     ⊎ (((rule set b z).kind ≡ Valid → ⊥) × HasBoundedLookahead rule set b z)
 
-pub lookahead_by : (rule : Rule) → ((set b : ℕ) (z : List ℕ) → IsDeterminedSoon rule set b z) → HasLookahead rule
+pub lookahead_by : (rule : Rule) → ((set b : ℕ) (z : List ℕ) → IsDeterminedSoon rule set b z)
+    → HasLookahead rule
 lookahead_by rule determined = record {
   valid = λ set b z v. elim (determined set b z) [ inl t ↦ t | inr u ↦ absurd (u.0 v) ];
   others = λ set b z. elim (determined set b z) [
@@ -67,15 +72,18 @@ lookahead_by rule determined = record {
 }
 
 -- no sequence is longer than the bytes that are there
-pub within_by : (rule : Rule) → HasLookahead rule → (set b : ℕ) (z : List ℕ) → (rule set b z).more ≤ length z
+pub within_by : (rule : Rule) → HasLookahead rule → (set b : ℕ) (z : List ℕ)
+    → (rule set b z).more ≤ length z
 within_by rule h set b z = elim (h.others set b z) [
   | inl t ↦ omega (arith, t.2.determined.there)
   | inr e ↦ e.within
 ]
 
-same_head : (h k : Head) → h.more ≡ k.more → h.text ≡ k.text → h.kind ≡ k.kind → h.set ≡ k.set → h ≡ k
+same_head : (h k : Head) → h.more ≡ k.more → h.text ≡ k.text → h.kind ≡ k.kind → h.set ≡ k.set
+    → h ≡ k
 same_head h k m t n s =
-    let made : ℕ → List ℕ → Kind → ℕ → Head = λ a b c d. record { more = a; text = b; kind = c; set = d } in
+    let made : ℕ → List ℕ → Kind → ℕ
+    → Head = λ a b c d. record { more = a; text = b; kind = c; set = d } in
     ap (λ a. made a h.text h.kind h.set) m ∙ ap (λ b. made k.more b h.kind h.set) t
     ∙ ap (λ c. made k.more k.text c h.set) n ∙ ap (made k.more k.text k.kind) s
 
@@ -85,15 +93,21 @@ tails a b y z e = cc
 pub same_by_sequence : (h k : Head) (b : ℕ) (y z : List ℕ) → h.more ≤ length y → k.more ≤ length z
     → head_sequence h b y ≡ head_sequence k b z → h ≡ k
 same_by_sequence h k b y z m n same =
-    let same_following : take h.more y ≡ take k.more z = tails b b _ _ (ap (λ (s : Sequence). s.bytes) same) in
-    same_head h k (sym (length-take-le h.more y m) ∙ ap length same_following ∙ length-take-le k.more z n)
-    (ap (λ (s : Sequence). s.text) same) (ap (λ (s : Sequence). s.kind) same) (ap (λ (s : Sequence). s.set) same)
+    let same_following : take h.more y ≡ take k.more z =
+    tails b b _ _ (ap (λ (s : Sequence). s.bytes) same) in
+    same_head h k (sym (length-take-le h.more y m) ∙ ap length same_following
+    ∙ length-take-le k.more z n)
+    (ap (λ (s : Sequence). s.text) same) (ap (λ (s : Sequence). s.kind) same)
+    (ap (λ (s : Sequence). s.set) same)
 
 -- Bytes that only the end of the input makes a sequence determine nothing.
-pub undetermined_by_end : (rule : Rule) (set b : ℕ) (z : List ℕ) → ((y : List ℕ) → (rule set b y).more ≤ length y)
+pub undetermined_by_end : (rule : Rule) (set b : ℕ) (z : List ℕ)
+    → ((y : List ℕ) → (rule set b y).more ≤ length y)
     → IsDeterminedByEnd rule set b z → IsUndetermined (λ y. sequences_of rule set (b ∷ (z ++ y)))
 undetermined_by_end rule set b z within by_end =
-    undetermined_by (λ y. sequences_of rule set (b ∷ (z ++ y))) [] by_end.more _ _ _ _ tt by_end.bytes
+    undetermined_by (λ y. sequences_of rule set (b ∷ (z ++ y))) [] by_end.more _ _ _ _ tt
+    by_end.bytes
     (ap (λ y. sequences_of rule set (b ∷ y)) (append-nil z) ∙ sequences_of-cons rule set b z)
     (sequences_of-cons rule set b (z ++ by_end.more))
-    (λ e. by_end.other (same_by_sequence _ _ b (z ++ by_end.more) z (within (z ++ by_end.more)) (within z) (sym e)))
+    (λ e. by_end.other (same_by_sequence _ _ b (z ++ by_end.more) z (within (z ++ by_end.more))
+    (within z) (sym e)))

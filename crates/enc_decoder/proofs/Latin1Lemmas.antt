@@ -16,7 +16,8 @@ use Rattle.enc_decoder.proofs.DeterminedLemmas.{begins_after, none_determined}
 use Rattle.enc_decoder.proofs.NextEventLemmas.{takes_or, holds_sequences}
 
 -- a byte that is a valid sequence by itself
-pub has_bytes_by : (rule : Rule) (b : ℕ) (z : List ℕ) → (rule 0 b z).kind ≡ Valid → (rule 0 b z).more ≡ 0
+pub has_bytes_by : (rule : Rule) (b : ℕ) (z : List ℕ) → (rule 0 b z).kind ≡ Valid
+    → (rule 0 b z).more ≡ 0
     → ¬ (HasNoByteSequences rule)
 has_bytes_by rule b z v m n = omega (arith, m, n b z v)
 
@@ -44,7 +45,8 @@ one_byte b (c ∷ []) y e h = (cc, cc)
 one_byte b (c ∷ d ∷ x) y e h = absurd (cc)
 
 -- The first k bytes are so, and after them a state goes on that has nothing pending.
-pub record Latin1Front {C : Type 0} (state : C → CodecState) (v : CodecState) (bytes : List ℕ) (k : ℕ)
+pub record Latin1Front {C : Type 0} (state : C → CodecState) (v : CodecState) (bytes : List ℕ)
+    (k : ℕ)
     (now : C) : Type 0 where
   pub within : k ≤ length bytes
   pub front : List Sequence
@@ -53,7 +55,8 @@ pub record Latin1Front {C : Type 0} (state : C → CodecState) (v : CodecState) 
       ++ (remainder_of (state now)).sequences y
   pub none_pending : (state now).pending ≡ []
 
-pub latin1_begins : {C : Type 0} {state : C → CodecState} {c : C} {bytes : List ℕ} → (state c).pending ≡ []
+pub latin1_begins : {C : Type 0} {state : C → CodecState} {c : C} {bytes : List ℕ}
+    → (state c).pending ≡ []
     → Latin1Front state (state c) bytes 0 c
 latin1_begins n = record {
   within = omega arith;
@@ -67,7 +70,8 @@ module _ {C : Type 0} {state : C → CodecState} {v : CodecState} {bytes : List 
     (latin1_front : Latin1Front state v bytes k now) where
   -- k bytes are so, if a byte more is not
   prefix_if : (k < length bytes → (s : Sequence) → IsLatin1Sequence s (get_or bytes k 0)
-      → Determines (remainder_of v).sequences (take (k + 1) bytes) (latin1_front.front ++ s ∷ []) → ⊥)
+      → Determines (remainder_of v).sequences (take (k + 1) bytes) (latin1_front.front ++ s ∷ [])
+      → ⊥)
       → IsLatin1Prefix (remainder_of v).sequences bytes k
   prefix_if n = record {
     within = latin1_front.within;
@@ -92,20 +96,24 @@ module _ {C : Type 0} {state : C → CodecState} {v : CodecState} {bytes : List 
       ∙ latin1_front.rest (get_or bytes k 0 ∷ y)
 
   -- the next byte is held, and nothing is determined
-  pub latin1_ends_waiting : k < length bytes → (n : C) → HandlesByte state now (get_or bytes k 0) (Continue n)
+  pub latin1_ends_waiting : k < length bytes → (n : C)
+      → HandlesByte state now (get_or bytes k 0) (Continue n)
       → IsLatin1Prefix (remainder_of v).sequences bytes k
   latin1_ends_waiting h n continues = prefix_if (λ l s i.
-      none_determined (remainder_of v).sequences (remainder_of (state n)).sequences (take (k + 1) bytes)
+      none_determined (remainder_of v).sequences (remainder_of (state n)).sequences
+      (take (k + 1) bytes)
       latin1_front.front
       (λ y. further h y ∙ ap (λ ss. latin1_front.front ++ ss)
       (holds_sequences (state now) (state n) (get_or bytes k 0) continues.0 y)) continues.1 s)
 
   -- what a byte more determines comes first
-  comes_first : k < length bytes → (s : Sequence) → Determines (remainder_of v).sequences (take (k + 1) bytes)
+  comes_first : k < length bytes → (s : Sequence)
+      → Determines (remainder_of v).sequences (take (k + 1) bytes)
       (latin1_front.front ++ s ∷ [])
       → AreFirstSequences (s ∷ []) ((remainder_of (state now)).sequences (get_or bytes k 0 ∷ []))
   comes_first h s d =
-      begins_after latin1_front.front (s ∷ []) ((remainder_of (state now)).sequences (get_or bytes k 0 ∷ []))
+      begins_after latin1_front.front (s ∷ [])
+      ((remainder_of (state now)).sequences (get_or bytes k 0 ∷ []))
       ((remainder_of v).sequences (take (k + 1) bytes ++ []))
       (further h []) (d [] tt)
 
@@ -114,26 +122,37 @@ module _ {C : Type 0} {state : C → CodecState} {v : CodecState} {bytes : List 
     byte = get_or bytes k 0
 
     abbrev sequence : List ℕ → Sequence
-    sequence x = record { bytes = x; text = text_chars s.text; kind = s.kind; set = (state s.next).set }
+    sequence x = record {
+      bytes = x;
+      text = text_chars s.text;
+      kind = s.kind;
+      set =
+          (state s.next).set;
+    }
 
     -- the parts of a sequence that is shown with the byte, and before it
-    with_byte : (took : List ℕ) → took ≡ byte ∷ [] → (next : IsNextSequence state now (BeginsWithByte byte) took s)
+    with_byte : (took : List ℕ) → took ≡ byte ∷ []
+        → (next : IsNextSequence state now (BeginsWithByte byte) took s)
         → (next.bytes ≡ byte ∷ []) × ((state s.next).pending ≡ [])
     with_byte took e next =
         one_byte byte next.bytes (state s.next).pending
         (sym e ∙ ap (λ x. x ++ took) (sym latin1_front.none_pending) ∙ next.parts) next.some
 
-    first_with : (took : List ℕ) → took ≡ byte ∷ [] → IsNextSequence state now (BeginsWithByte byte) took s
+    first_with : (took : List ℕ) → took ≡ byte ∷ []
+        → IsNextSequence state now (BeginsWithByte byte) took s
         → (y : List ℕ) → (remainder_of (state now)).sequences (byte ∷ y) ≡ sequence (byte ∷ []) ∷
         (remainder_of (state s.next)).sequences y
     first_with took took_byte next y =
         ap (λ x. (remainder_of (state now)).sequences (x ++ y)) (sym took_byte)
         ∙ next.first y (y, ap (λ x. x ++ y) took_byte)
-        ∙ ap (λ x. sequence x ∷ (remainder_of (state s.next)).sequences y) (with_byte took took_byte next).0
+        ∙ ap (λ x. sequence x ∷ (remainder_of (state s.next)).sequences y)
+        (with_byte took took_byte next).0
 
-    not_before : (took : List ℕ) → took ≡ [] → IsNextSequence state now (BeginsWithByte byte) took s → ⊥
+    not_before : (took : List ℕ) → took ≡ [] → IsNextSequence state now (BeginsWithByte byte) took s
+        → ⊥
     not_before took e next =
-        let no_parts : [] ≡ next.bytes ++ (state s.next).pending = ap (λ x. x ++ []) (sym latin1_front.none_pending)
+        let no_parts : [] ≡ next.bytes ++ (state s.next).pending =
+        ap (λ x. x ++ []) (sym latin1_front.none_pending)
         ∙ ap (λ x. (state now).pending ++ x) (sym e) ∙ next.parts in
         none_in next.bytes no_parts next.some
       where
@@ -146,23 +165,27 @@ module _ {C : Type 0} {state : C → CodecState} {v : CodecState} {bytes : List 
         → text_chars s.text ≡ byte ∷ []
         → Latin1Front state v bytes (k + 1) s.next
     latin1_goes_on shows t valid i =
-        let took_byte : taken_bytes s.takes_byte byte ≡ byte ∷ [] = ap (λ b. taken_bytes b byte) t in
+        let took_byte : taken_bytes s.takes_byte byte ≡ byte ∷ [] =
+        ap (λ b. taken_bytes b byte) t in
         record {
           within = omega arith;
           front = latin1_front.front ++ sequence (byte ∷ []) ∷ [];
           themselves =
               subst (AreLatin1Sequences (latin1_front.front ++ sequence (byte ∷ []) ∷ []))
               (sym (take_more bytes k 0 has_next))
-              (themselves_then latin1_front.front (take k bytes) (sequence (byte ∷ [])) byte latin1_front.themselves
+              (themselves_then latin1_front.front (take k bytes) (sequence (byte ∷ [])) byte
+              latin1_front.themselves
               (record { bytes = refl; text = i; kind = valid }));
-          rest = λ y. further has_next y ∙ ap (λ ss. latin1_front.front ++ ss) (first_with _ took_byte shows.0 y)
+          rest = λ y. further has_next y
+              ∙ ap (λ ss. latin1_front.front ++ ss) (first_with _ took_byte shows.0 y)
               ∙ sym (append_assoc latin1_front.front (sequence (byte ∷ []) ∷ [])
               ((remainder_of (state s.next)).sequences y));
           none_pending = (with_byte _ took_byte shows.0).1;
         }
 
     -- the byte is none
-    pub latin1_ends_showing : HandlesByte state now byte (Emit s) → (s.takes_byte ≡ true → s.kind ≡ Valid
+    pub latin1_ends_showing : HandlesByte state now byte (Emit s)
+        → (s.takes_byte ≡ true → s.kind ≡ Valid
         → text_chars s.text ≡ byte ∷ [] → ⊥)
         → IsLatin1Prefix (remainder_of v).sequences bytes k
     latin1_ends_showing shows n = prefix_if (λ l q is_latin1 d.

@@ -41,9 +41,11 @@ module _ (rule : Rule) (law : HasLookahead rule) where
     following = rest_is _ _ _ _ (sym (sequences_of-cons rule set b z) ∙ whole)
 
     -- other bytes with the same first sequence have the same head
-    same_head : (y : List ℕ) → AreFirstSequences (s ∷ ss) (sequences_of rule set (b ∷ y)) → rule set b y ≡ rule set b z
+    same_head : (y : List ℕ) → AreFirstSequences (s ∷ ss) (sequences_of rule set (b ∷ y))
+        → rule set b y ≡ rule set b z
     same_head y g =
-        same_by_sequence (rule set b y) (rule set b z) b y z (within_by rule law set b y) (within_by rule law set b z)
+        same_by_sequence (rule set b y) (rule set b z) b y z (within_by rule law set b y)
+        (within_by rule law set b z)
         (first_is _ _ _ _ (sym (sequences_of-cons rule set b y) ∙ g.1) ∙ s_is)
 
     -- any bytes may follow the lookahead
@@ -57,7 +59,8 @@ module _ (rule : Rule) (law : HasLookahead rule) where
         ∙ t.same (drop enough_len (take j z) ++ y)
 
     -- then this sequence comes first, and the others are those of the rest
-    shown : (n j : ℕ) → IsDeterminedWithin rule set b z n → more + n ≤ j → j ≤ length z → (y : List ℕ)
+    shown : (n j : ℕ) → IsDeterminedWithin rule set b z n → more + n ≤ j → j ≤ length z
+        → (y : List ℕ)
         → sequences_of rule set (b ∷ (take j z ++ y)) ≡ s ∷ sequences_of rule (rule set b z).set
         (take (j - more) (drop more z) ++ y)
     shown n j t contains w y =
@@ -75,7 +78,8 @@ module _ (rule : Rule) (law : HasLookahead rule) where
         } ∷ sequences_of rule (rule set b z).set (drop more (take j z ++ y)))
         (take-append-le more (take j z) y (omega (arith, as_long, contains))
         ∙ take-take more j z (omega (arith, contains)))
-        ∙ ap (λ (x : Sequence). x ∷ sequences_of rule (rule set b z).set (drop more (take j z ++ y))) (sym s_is)
+        ∙ ap (λ (x : Sequence). x
+        ∷ sequences_of rule (rule set b z).set (drop more (take j z ++ y))) (sym s_is)
         ∙ ap (λ x. s ∷ sequences_of rule (rule set b z).set x)
         (drop-append-le more (take j z) y (omega (arith, as_long, contains))
         ∙ ap (λ x. x ++ y) (left_of more j z (omega (arith, contains))))
@@ -89,14 +93,16 @@ module _ (rule : Rule) (law : HasLookahead rule) where
           let rejoined : take j z ++ (drop j z ++ by_end.more) ≡ z ++ by_end.more =
           sym (append_assoc (take j z) (drop j z) by_end.more)
           ∙ ap (λ y. y ++ by_end.more) (take-append-drop j z) in
-          by_end.other (sym (ap (rule set b) rejoined) ∙ same_head (take j z ++ (drop j z ++ by_end.more)) s_first)
+          by_end.other (sym (ap (rule set b) rejoined)
+          ∙ same_head (take j z ++ (drop j z ++ by_end.more)) s_first)
 
       -- they contain the sequence
       own_bytes : more ≤ j
       own_bytes =
           let same_front = same_head (take j z ++ []) (determines [] tt) in
           let fits_in = within_by rule law set b (take j z ++ []) in
-          let same_more : (rule set b (take j z ++ [])).more ≡ more = ap (λ (t : Head). t.more) same_front in
+          let same_more : (rule set b (take j z ++ [])).more ≡ more =
+          ap (λ (t : Head). t.more) same_front in
           let as_long : length (take j z ++ []) ≡ j =
           ap length (nil_after (take j z)) ∙ length-take-le j z enough_bytes in
           omega (arith, fits_in, same_more, as_long)
@@ -112,7 +118,8 @@ module _ (rule : Rule) (law : HasLookahead rule) where
             let contains = own_bytes in
             let parted : more + (j - more) ≡ j = omega (arith, contains) in
             t.least are_bytes (j - more) (omega (arith, contains, f.1))
-            (λ y e. ap (λ k. rule set b (take k z ++ y)) parted ∙ same_head (take j z ++ y) (determines y e)))
+            (λ y e. ap (λ k. rule set b (take k z ++ y)) parted
+            ∙ same_head (take j z ++ y) (determines y e)))
       ]
 
       looked : (n : ℕ) × IsLookahead rule set b z n × (1 + more + n ≤ suc j)
@@ -121,7 +128,8 @@ module _ (rule : Rule) (law : HasLookahead rule) where
         | inr e ↦ absurd (not_by_end e)
       ]
 
-      rest_determined : Determines (sequences_of rule (rule set b z).set) (take (j - more) (drop more z)) ss
+      rest_determined : Determines (sequences_of rule (rule set b z).set)
+          (take (j - more) (drop more z)) ss
       rest_determined = λ y e.
           let first = determines y e in let lookahead = looked in (
             first.0,
@@ -136,7 +144,8 @@ module _ (rule : Rule) (law : HasLookahead rule) where
   reach_after (s ∷ ss) rest set k [] are_bytes whole l determines =
       none_begin s ss (subst (AreFirstSequences (s ∷ ss)) (sequences_of-nil rule set) (rest, whole))
   reach_after (s ∷ ss) rest set zero (b ∷ z) are_bytes whole l determines =
-      absurd (none_begin s ss (subst (AreFirstSequences (s ∷ ss)) (sequences_of-nil rule set) (determines [] tt)))
+      absurd (none_begin s ss
+      (subst (AreFirstSequences (s ∷ ss)) (sequences_of-nil rule set) (determines [] tt)))
   reach_after (s ∷ ss) rest set (suc j) (b ∷ z) are_bytes whole l determines =
       let enough_bytes : j ≤ length z = omega (arith, l) in
       let own_len = (rule set b z).more in
@@ -144,51 +153,64 @@ module _ (rule : Rule) (law : HasLookahead rule) where
       let same_len : j - own_len ≡ suc j - (1 + own_len) = omega (arith, contains) in (
         looked set b z s ss rest whole are_bytes.1 j enough_bytes determines,
         subst (CoverLookahead rule (rule set b z).set (drop own_len z) ss) same_len
-            (reach_after ss rest (rule set b z).set (j - own_len) (drop own_len z) (bytes-drop own_len z are_bytes.1)
+            (reach_after ss rest (rule set b z).set (j - own_len) (drop own_len z)
+            (bytes-drop own_len z are_bytes.1)
             (following set b z s ss rest whole)
             (omega (arith, length-drop own_len z, enough_bytes, contains))
             (rest_determined set b z s ss rest whole are_bytes.1 j enough_bytes determines)),
       )
 
-  pub determine_if_after : (ss rest : List Sequence) (set k : ℕ) (z : List ℕ) → sequences_of rule set z ≡ ss ++ rest
+  pub determine_if_after : (ss rest : List Sequence) (set k : ℕ) (z : List ℕ)
+      → sequences_of rule set z ≡ ss ++ rest
       → k ≤ length z
       → CoverLookahead rule set z ss k → Determines (sequences_of rule set) (take k z) ss
-  determine_if_after [] rest set k z whole l covers = λ y a. (sequences_of rule set (take k z ++ y), refl)
+  determine_if_after [] rest set k z whole l covers = λ y a.
+      (sequences_of rule set (take k z ++ y), refl)
   determine_if_after (s ∷ ss) rest set k [] whole l covers = absurd covers
-  determine_if_after (s ∷ ss) rest set zero (b ∷ z) whole l covers = absurd (omega (arith, covers.0.2))
+  determine_if_after (s ∷ ss) rest set zero (b ∷ z) whole l covers =
+      absurd (omega (arith, covers.0.2))
   determine_if_after (s ∷ ss) rest set (suc j) (b ∷ z) whole l covers =
       let enough_bytes : j ≤ length z = omega (arith, l) in
       let own_len = (rule set b z).more in
       let contains = covers.0.2 in
       let same_len : suc j - (1 + own_len) ≡ j - own_len = omega (arith, contains) in
       let rest_known = determine_if_after ss rest (rule set b z).set (j - own_len) (drop own_len z)
-      (following set b z s ss rest whole) (omega (arith, length-drop own_len z, enough_bytes, contains))
+      (following set b z s ss rest whole)
+      (omega (arith, length-drop own_len z, enough_bytes, contains))
       (subst (CoverLookahead rule (rule set b z).set (drop own_len z) ss) same_len covers.1) in
       λ y a. let first = rest_known y a in (
         first.0,
-        shown set b z s ss rest whole covers.0.0 j covers.0.1.determined (omega (arith, contains)) enough_bytes y
+        shown set b z s ss rest whole covers.0.0 j covers.0.1.determined (omega (arith, contains))
+            enough_bytes y
             ∙ ap (λ ts. s ∷ ts) first.1,
       )
 
-  -- The first k bytes of an input determine its first sequences exactly if they contain them and their lookahead.
+  -- The first k bytes of an input determine its first sequences exactly if they contain them and
+  -- their lookahead.
   pub determined_by : (ss rest : List Sequence) (set k : ℕ) (z : List ℕ) → AreBytes z
       → sequences_of rule set z ≡ ss ++ rest → k ≤ length z
       → Determines (sequences_of rule set) (take k z) ss ↔ CoverLookahead rule set z ss k
-  determined_by ss rest set k z a whole enough_bytes =
-      (reach_after ss rest set k z a whole enough_bytes, determine_if_after ss rest set k z whole enough_bytes)
+  determined_by ss rest set k z a whole enough_bytes = (
+    reach_after ss rest set k z a whole enough_bytes,
+    determine_if_after ss rest set k z whole
+        enough_bytes,
+  )
 
 -- bytes determine it or only the end does, not both
-pub determined_not_by_end : (rule : Rule) (set b : ℕ) (z : List ℕ) (n : ℕ) → IsDeterminedWithin rule set b z n
+pub determined_not_by_end : (rule : Rule) (set b : ℕ) (z : List ℕ) (n : ℕ)
+    → IsDeterminedWithin rule set b z n
     → IsDeterminedByEnd rule set b z → ⊥
 determined_not_by_end rule set b z n t by_end =
     let enough_len = (rule set b z).more + n in
     by_end.other (
     ap (rule set b) (ap (λ x. x ++ by_end.more) (sym (take-append-drop enough_len z))
-    ∙ append_assoc (take enough_len z) (drop enough_len z) by_end.more) ∙ t.same (drop enough_len z ++ by_end.more)
+    ∙ append_assoc (take enough_len z) (drop enough_len z) by_end.more)
+    ∙ t.same (drop enough_len z ++ by_end.more)
     )
 
 -- the lookahead is the least
-pub no_more_than : (rule : Rule) (set b : ℕ) (z : List ℕ) (n m : ℕ) → AreBytes z → IsLookahead rule set b z n
+pub no_more_than : (rule : Rule) (set b : ℕ) (z : List ℕ) (n m : ℕ) → AreBytes z
+    → IsLookahead rule set b z n
     → IsDeterminedWithin rule set b z m → n ≤ m
 no_more_than rule set b z n m a l t = elim (leb_tells n m) [
   | inl h ↦ h.1
@@ -196,7 +218,8 @@ no_more_than rule set b z n m a l t = elim (leb_tells n m) [
 ]
 
 -- it is at most three
-pub at_most_three : (rule : Rule) → HasLookahead rule → (set b : ℕ) (z : List ℕ) (n : ℕ) → AreBytes z
+pub at_most_three : (rule : Rule) → HasLookahead rule → (set b : ℕ) (z : List ℕ) (n : ℕ)
+    → AreBytes z
     → IsLookahead rule set b z n → n ≤ 3
 at_most_three rule law set b z n a lookahead = elim (law.others set b z) [
   | inl found ↦

@@ -39,14 +39,19 @@ one_unit units_of c = append-nil (units_of c)
 not_le : (m n : ℕ) → n < m → nat_le m n ≡ false
 not_le m n h = grind (arith, nat_tests)
 
-module _ {C : Type 0} {units_of : ℕ → List ℕ} (state : C → CodecState) {v : CodecState} (c : C) {src : List ℕ}
+module _ {C : Type 0} {units_of : ℕ → List ℕ} (state : C → CodecState) {v : CodecState} (c : C)
+    {src : List ℕ}
     {last : Bool} {before after : Output} {read : ℕ}
-    (writing : Writing units_of (remainder_of v) src last before after read (remainder_of (state c)))
+    (writing : Writing units_of (remainder_of v) src last before after read
+    (remainder_of (state c)))
     (same : (state c).rule ≡ v.rule) where
-  goes : (y : List ℕ) → AreFirstSequences writing.progress.done ((remainder_of v).sequences (take read src ++ y))
-      → (remainder_of v).sequences (take read src ++ y) ≡ writing.progress.done ++ (remainder_of (state c)).sequences y
+  goes : (y : List ℕ) → AreFirstSequences writing.progress.done
+      ((remainder_of v).sequences (take read src ++ y))
+      → (remainder_of v).sequences (take read src ++ y) ≡ writing.progress.done
+      ++ (remainder_of (state c)).sequences y
   goes y b =
-      goes_on v (state c) (take read src) y writing.progress.done same writing.progress.set writing.progress.accounted b
+      goes_on v (state c) (take read src) y writing.progress.done same writing.progress.set
+      writing.progress.accounted b
 
   pub stays : {keeps : Bool} → IsNextEvent state c src read last NeedsInput
       → DecoderCallInto units_of (remainder_of v) (remainder_of (state c)) src last
@@ -54,7 +59,8 @@ module _ {C : Type 0} {units_of : ℕ → List ℕ} (state : C → CodecState) {
   stays event = record {
     wrote = writing.wrote;
     onto = writing.onto;
-    call = empty writing.progress goes event.0 event.1 (λ l. none_left (state c) (event.1 l)) event.2;
+    call = empty writing.progress goes event.0 event.1 (λ l. none_left (state c) (event.1 l))
+        event.2;
   }
 
   pub holds : (n : C) → IsNextEvent state c src read last (HoldsByte n)
@@ -84,25 +90,30 @@ module _ {C : Type 0} {units_of : ℕ → List ℕ} (state : C → CodecState) {
         full writing.progress goes
         (coming.sequence event.0)
         (coming.comes_first event.0 (λ t. (event.1 t).0)) k
-        (overflows_after before.room (length writing.wrote) (length (units_of_text units_of (text_chars s.text)))
+        (overflows_after before.room (length writing.wrote)
+        (length (units_of_text units_of (text_chars s.text)))
         writing.progress.fits
         (subst (λ r. nat_le (length (units_of_text units_of (text_chars s.text))) r ≡ false)
         (room_left before after writing.wrote writing.onto) f));
   }
 
   -- the same, where the output is known to be as it was
-  pub overflows_at : {keeps : Bool} {s : Emission C} {then : Output} → IsNextEvent state c src read last (Emits s)
+  pub overflows_at : {keeps : Bool} {s : Emission C} {then : Output}
+      → IsNextEvent state c src read last (Emits s)
       → is_malformed s.kind ≡ false
-      → nat_le (length (units_of_text units_of (text_chars s.text))) after.room ≡ false → then ≡ after
+      → nat_le (length (units_of_text units_of (text_chars s.text))) after.room ≡ false
+      → then ≡ after
       → DecoderCallInto units_of (remainder_of v) (remainder_of (state c)) src last
       (Fatal keeps) before then OutputFull read false
   overflows_at {keeps} e k f o =
-      subst (λ (x : Output). DecoderCallInto units_of (remainder_of v) (remainder_of (state c)) src last (Fatal keeps)
+      subst (λ (x : Output). DecoderCallInto units_of (remainder_of v) (remainder_of (state c)) src
+      last (Fatal keeps)
       before x OutputFull read false) (sym o)
       (overflows e (λ _. k) f)
 
   -- a malformed one, where the room for U+FFFD is kept
-  pub overflows_malformed : {keeps : Bool} {s : Emission C} → IsNextEvent state c src read last (Emits s)
+  pub overflows_malformed : {keeps : Bool} {s : Emission C}
+      → IsNextEvent state c src read last (Emits s)
       → is_malformed s.kind ≡ true → keeps ≡ true
       → after.room < length (units_of 0xFFFD)
       → DecoderCallInto units_of (remainder_of v) (remainder_of (state c)) src last
@@ -117,11 +128,13 @@ module _ {C : Type 0} {units_of : ℕ → List ℕ} (state : C → CodecState) {
       → IsNextEvent state c src read last (Emits s) → then ≡ after
       → (is_malformed s.kind ≡ true → keeps ≡ true) → (is_malformed s.kind ≡ true
       → after.room < length (units_of 0xFFFD))
-      → (is_malformed s.kind ≡ false → nat_le (length (units_of_text units_of (text_chars s.text))) after.room ≡ false)
+      → (is_malformed s.kind ≡ false
+      → nat_le (length (units_of_text units_of (text_chars s.text))) after.room ≡ false)
       → DecoderCallInto units_of (remainder_of v) (remainder_of (state c)) src last
       (Fatal keeps) before then OutputFull read false
   stops_full {keeps} {s} event unchanged k r f = elim (coming.takes_or (is_malformed s.kind)) [
-    | inl malformed ↦ subst (λ (x : Output). DecoderCallInto units_of (remainder_of v) (remainder_of (state c)) src
+    | inl malformed ↦ subst
+        (λ (x : Output). DecoderCallInto units_of (remainder_of v) (remainder_of (state c)) src
         last (Fatal keeps) before x OutputFull read false) (sym unchanged)
         (overflows_malformed event malformed (k malformed) (r malformed))
     | inr valid ↦ overflows_at event valid (f valid) unchanged
@@ -132,11 +145,13 @@ module _ {C : Type 0} {units_of : ℕ → List ℕ} (state : C → CodecState) {
   fits : (text : List ℕ) → nat_le (length (units_of_text units_of text)) after.room ≡ true
       → length writing.wrote + length (units_of_text units_of text) ≤ before.room
   fits text f =
-      fits_after before.room (length writing.wrote) (length (units_of_text units_of text)) writing.progress.fits
+      fits_after before.room (length writing.wrote) (length (units_of_text units_of text))
+      writing.progress.fits
       (subst (λ r. nat_le (length (units_of_text units_of text)) r ≡ true)
       (room_left before after writing.wrote writing.onto) f)
 
-  onto_after : (text : List ℕ) {then : Output} → then ≡ with_appended after (units_of_text units_of text)
+  onto_after : (text : List ℕ) {then : Output}
+      → then ≡ with_appended after (units_of_text units_of text)
       → then ≡ with_appended before (writing.wrote ++ units_of_text units_of text)
   onto_after text e =
       e ∙ ap (λ o. with_appended o (units_of_text units_of text)) writing.onto
@@ -146,7 +161,8 @@ module _ {C : Type 0} {units_of : ℕ → List ℕ} (state : C → CodecState) {
       → is_malformed s.kind ≡ false → s.takes_byte ≡ true → AreScalars (text_chars s.text)
       → nat_le (length (units_of_text units_of (text_chars s.text))) after.room ≡ true
       → then ≡ with_appended after (units_of_text units_of (text_chars s.text))
-      → Writing units_of (remainder_of v) src last before then (read + 1) (remainder_of (state s.next))
+      → Writing units_of (remainder_of v) src last before then (read + 1)
+      (remainder_of (state s.next))
   puts_with {s} event g takes i f o =
       let shown = event.1 takes in
       record {
@@ -183,12 +199,20 @@ module _ {C : Type 0} {units_of : ℕ → List ℕ} (state : C → CodecState) {
   room_kept : {keeps : Bool} → (keeps ≡ true → length (units_of 0xFFFD) ≤ after.room) → keeps ≡ true
       → length writing.wrote + length (units_of 0xFFFD) ≤ before.room
   room_kept kept keeps_room =
-      omega (arith, writing.progress.fits, kept keeps_room, room_left before after writing.wrote writing.onto)
+      omega (
+        arith,
+        writing.progress.fits,
+        kept keeps_room,
+        room_left before after writing.wrote
+            writing.onto,
+      )
 
-  pub reports_before : {keeps : Bool} {s : Emission C} {a : ℕ} → IsNextEvent state c src read last (Emits s)
+  pub reports_before : {keeps : Bool} {s : Emission C} {a : ℕ}
+      → IsNextEvent state c src read last (Emits s)
       → is_malformed s.kind ≡ true → s.takes_byte ≡ false
       → a ≡ length (state s.next).pending → (keeps ≡ true → length (units_of 0xFFFD) ≤ after.room)
-      → DecoderCallInto units_of (remainder_of v) (remainder_of (state s.next)) src last (Fatal keeps) before after
+      → DecoderCallInto units_of (remainder_of v) (remainder_of (state s.next)) src last
+      (Fatal keeps) before after
       (Malformed s.len a) read false
   reports_before {s = s} {a} event malformed leaves is_pending r =
       let reported = coming.sequence event.0 in
@@ -198,23 +222,28 @@ module _ {C : Type 0} {units_of : ℕ → List ℕ} (state : C → CodecState) {
         call =
             report_before writing.progress
             reported (remainder_of (state s.next)) s.len a
-            (λ y g. goes_on v (state s.next) (take read src) y (writing.progress.done ++ reported ∷ [])
+            (λ y g. goes_on v (state s.next) (take read src) y
+            (writing.progress.done ++ reported ∷ [])
             (event.0.same_rule ∙ same)
             (set_then writing.progress reported (remainder_of (state s.next)) refl)
-            (accounted_after writing.progress reported (v.pending ++ take read src) (state s.next).pending
+            (accounted_after writing.progress reported (v.pending ++ take read src)
+            (state s.next).pending
             (writing.progress.accounted ∙ ap (λ x. sequence_bytes writing.progress.done ++ x)
             (coming.parts_before event.0 leaves))) g)
             malformed (coming.not_late event.0 leaves) (event.0.replacement malformed)
             event.0.len (some_len event)
-            (subst (AreReportedLens s.kind s.len) (sym is_pending) (event.0.bounds malformed)) is_pending (room_kept r)
+            (subst (AreReportedLens s.kind s.len) (sym is_pending) (event.0.bounds malformed))
+            is_pending (room_kept r)
             (coming.parts_before event.0 leaves) refl
             (coming.first_before event.0 leaves);
       }
 
-  pub reports_with : {keeps : Bool} {s : Emission C} {a : ℕ} → IsNextEvent state c src read last (Emits s)
+  pub reports_with : {keeps : Bool} {s : Emission C} {a : ℕ}
+      → IsNextEvent state c src read last (Emits s)
       → is_malformed s.kind ≡ true → s.takes_byte ≡ true
       → a ≡ length (state s.next).pending → (keeps ≡ true → length (units_of 0xFFFD) ≤ after.room)
-      → DecoderCallInto units_of (remainder_of v) (remainder_of (state s.next)) src last (Fatal keeps) before after
+      → DecoderCallInto units_of (remainder_of v) (remainder_of (state s.next)) src last
+      (Fatal keeps) before after
       (Malformed s.len a) (read + 1) false
   reports_with {s = s} {a} event malformed takes is_pending r =
       let shown = event.1 takes in
@@ -225,16 +254,19 @@ module _ {C : Type 0} {units_of : ℕ → List ℕ} (state : C → CodecState) {
         call =
             report_with writing.progress
             reported (remainder_of (state s.next)) s.len a
-            (λ y g. goes_on v (state s.next) (take (read + 1) src) y (writing.progress.done ++ reported ∷ [])
+            (λ y g. goes_on v (state s.next) (take (read + 1) src) y
+            (writing.progress.done ++ reported ∷ [])
             (event.0.same_rule ∙ same)
             (set_then writing.progress reported (remainder_of (state s.next)) refl)
-            (accounted_after writing.progress reported (v.pending ++ take (read + 1) src) (state s.next).pending
+            (accounted_after writing.progress reported (v.pending ++ take (read + 1) src)
+            (state s.next).pending
             (accounted_further writing.progress shown.0
             ∙ ap (λ x. sequence_bytes writing.progress.done ++ x)
             (coming.parts_with event.0 takes))) g)
             shown.2 malformed (event.0.replacement malformed) (event.0.clean takes)
             event.0.len (some_len event)
-            (subst (AreReportedLens s.kind s.len) (sym is_pending) (event.0.bounds malformed)) is_pending
+            (subst (AreReportedLens s.kind s.len) (sym is_pending) (event.0.bounds malformed))
+            is_pending
             (room_kept r) shown.0 (coming.parts_with event.0 takes) refl
             (coming.first_with event.0 takes)
             (λ _ d. coming.not_shown_yet v (state c) writing.progress same shown.1 reported d);

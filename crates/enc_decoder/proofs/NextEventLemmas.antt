@@ -17,53 +17,78 @@ pub takes_or : (b : Bool) → (b ≡ true) ⊎ (b ≡ false)
 takes_or b = elim b as (λ b. (b ≡ true) ⊎ (b ≡ false)) [ true ↦ inl refl | false ↦ inr refl ]
 
 -- a held byte is pending, and the state goes on with it
-pub holds_pending : (v n : CodecState) (b : ℕ) → n ≡ record v { pending = v.pending ++ b ∷ [] } → n.pending ≡ v.pending ++ b ∷ []
+pub holds_pending : (v n : CodecState) (b : ℕ) → n ≡ record v { pending = v.pending ++ b ∷ [] }
+    → n.pending ≡ v.pending ++ b ∷ []
 holds_pending v n b e = ap (λ (s : CodecState). s.pending) e
 
-pub holds_set : (v n : CodecState) (b : ℕ) → n ≡ record v { pending = v.pending ++ b ∷ [] } → n.set ≡ v.set
+pub holds_set : (v n : CodecState) (b : ℕ) → n ≡ record v { pending = v.pending ++ b ∷ [] }
+    → n.set ≡ v.set
 holds_set v n b e = ap (λ (s : CodecState). s.set) e
 
-pub holds_rule : (v n : CodecState) (b : ℕ) → n ≡ record v { pending = v.pending ++ b ∷ [] } → n.rule ≡ v.rule
+pub holds_rule : (v n : CodecState) (b : ℕ) → n ≡ record v { pending = v.pending ++ b ∷ [] }
+    → n.rule ≡ v.rule
 holds_rule v n b e = ap (λ (s : CodecState). s.rule) e
 
 pub holds_sequences : (v n : CodecState) (b : ℕ) → n ≡ record v { pending = v.pending ++ b ∷ [] }
     → (y : List ℕ) → (remainder_of v).sequences (b ∷ y) ≡ (remainder_of n).sequences y
 holds_sequences v n b e y =
-    ap (sequences_of v.rule v.set) (sym (append_assoc v.pending (b ∷ []) y)) ∙ ap (λ (s : CodecState). (remainder_of s).sequences y) (sym e)
+    ap (sequences_of v.rule v.set) (sym (append_assoc v.pending (b ∷ []) y))
+    ∙ ap (λ (s : CodecState). (remainder_of s).sequences y) (sym e)
 
-module _ {C : Type 0} {state : C → CodecState} {c : C} {src : List ℕ} {read : ℕ} {last : Bool} {s : Emission C}
-    (next : IsNextSequence state c (MayFollowRead src read last) (taken_bytes s.takes_byte (get_or src read 0)) s) where
+module _ {C : Type 0} {state : C → CodecState} {c : C} {src : List ℕ} {read : ℕ} {last : Bool}
+    {s : Emission C}
+    (next : IsNextSequence state c (MayFollowRead src read last)
+    (taken_bytes s.takes_byte (get_or src read 0)) s) where
   abbrev pub sequence : Sequence
-  sequence = record { bytes = next.bytes; text = text_chars s.text; kind = s.kind; set = (state s.next).set }
+  sequence = record {
+    bytes = next.bytes;
+    text = text_chars s.text;
+    kind = s.kind;
+    set =
+        (state s.next).set;
+  }
 
   pub parts_before : s.takes_byte ≡ false → (state c).pending ≡ next.bytes ++ (state s.next).pending
   parts_before t =
-      sym (append-nil (state c).pending) ∙ ap (λ b. (state c).pending ++ taken_bytes b (get_or src read 0)) (sym t)
+      sym (append-nil (state c).pending)
+      ∙ ap (λ b. (state c).pending ++ taken_bytes b (get_or src read 0)) (sym t)
       ∙ next.parts
 
   pub first_before : s.takes_byte ≡ false → (y : List ℕ) → MayFollowRead src read last y
       → (remainder_of (state c)).sequences y ≡ sequence ∷ (remainder_of (state s.next)).sequences y
   first_before leaves y m =
-      ap (λ b. (remainder_of (state c)).sequences (taken_bytes b (get_or src read 0) ++ y)) (sym leaves)
-      ∙ next.first y (subst (λ b. MayFollowRead src read last (taken_bytes b (get_or src read 0) ++ y)) (sym leaves) m)
+      ap (λ b. (remainder_of (state c)).sequences (taken_bytes b (get_or src read 0) ++ y))
+      (sym leaves)
+      ∙ next.first y (subst (λ b.
+      MayFollowRead src read last (taken_bytes b (get_or src read 0) ++ y)) (sym leaves) m)
 
   pub parts_with : s.takes_byte ≡ true
       → (state c).pending ++ get_or src read 0 ∷ [] ≡ next.bytes ++ (state s.next).pending
-  parts_with t = ap (λ b. (state c).pending ++ taken_bytes b (get_or src read 0)) (sym t) ∙ next.parts
+  parts_with t = ap (λ b. (state c).pending ++ taken_bytes b (get_or src read 0)) (sym t)
+      ∙ next.parts
 
-  pub first_with : s.takes_byte ≡ true → (y : List ℕ) → MayFollowRead src read last (get_or src read 0 ∷ y)
-      → (remainder_of (state c)).sequences (get_or src read 0 ∷ y) ≡ sequence ∷ (remainder_of (state s.next)).sequences y
+  pub first_with : s.takes_byte ≡ true → (y : List ℕ)
+      → MayFollowRead src read last (get_or src read 0 ∷ y)
+      → (remainder_of (state c)).sequences (get_or src read 0 ∷ y) ≡ sequence
+      ∷ (remainder_of (state s.next)).sequences y
   first_with takes y m =
-      ap (λ b. (remainder_of (state c)).sequences (taken_bytes b (get_or src read 0) ++ y)) (sym takes)
-      ∙ next.first y (subst (λ b. MayFollowRead src read last (taken_bytes b (get_or src read 0) ++ y)) (sym takes) m)
+      ap (λ b. (remainder_of (state c)).sequences (taken_bytes b (get_or src read 0) ++ y))
+      (sym takes)
+      ∙ next.first y (subst (λ b.
+      MayFollowRead src read last (taken_bytes b (get_or src read 0) ++ y)) (sym takes) m)
 
   -- only a repeated escape is late, and it takes the byte that shows it
   pub not_late : s.takes_byte ≡ false → is_repeated_escape s.kind ≡ false
   not_late t =
-      elim (takes_or (is_repeated_escape s.kind)) [ inl l ↦ absurd (false≢true (sym t ∙ next.late l)) | inr f ↦ f ]
+      elim (takes_or (is_repeated_escape s.kind)) [
+        | inl l ↦
+            absurd (false≢true (sym t ∙ next.late l))
+        | inr f ↦ f
+      ]
 
   -- it comes first
-  pub comes_first : (s.takes_byte ≡ true → read < length src) → (y : List ℕ) → MayFollowRead src read last y
+  pub comes_first : (s.takes_byte ≡ true → read < length src) → (y : List ℕ)
+      → MayFollowRead src read last y
       → AreFirstSequences (sequence ∷ []) ((remainder_of (state c)).sequences y)
   comes_first h y follows = elim (takes_or s.takes_byte) [
     | inl takes ↦ (let followed = follows.more (h takes) in (
@@ -74,14 +99,19 @@ module _ {C : Type 0} {state : C → CodecState} {c : C} {src : List ℕ} {read 
     | inr t ↦ (_, first_before t y follows)
   ]
 
--- Where the pending bytes determine nothing, the bytes read so far determine no sequence more than those done.
-pub not_shown_yet : {units_of : ℕ → List ℕ} (v now : CodecState) {src : List ℕ} {last : Bool} {room read : ℕ}
-    {wrote : List ℕ} (progress : Progress units_of (remainder_of v) src last room read (remainder_of now) wrote)
+-- Where the pending bytes determine nothing, the bytes read so far determine no sequence more than
+-- those done.
+pub not_shown_yet : {units_of : ℕ → List ℕ} (v now : CodecState) {src : List ℕ} {last : Bool}
+    {room read : ℕ}
+    {wrote : List ℕ} (progress : Progress units_of (remainder_of v) src last room read
+    (remainder_of now) wrote)
     → now.rule ≡ v.rule
     → IsUndetermined (remainder_of now).sequences
-    → (q : Sequence) → Determines (remainder_of v).sequences (take read src) (progress.done ++ q ∷ []) → ⊥
+    → (q : Sequence) → Determines (remainder_of v).sequences (take read src)
+    (progress.done ++ q ∷ []) → ⊥
 not_shown_yet v now {src} {read = read} progress r u q determines = u q (λ z are_bytes.
-    let done_first = determines_fewer (remainder_of v).sequences (take read src) progress.done (q ∷ []) determines z
+    let done_first = determines_fewer (remainder_of v).sequences (take read src) progress.done
+    (q ∷ []) determines z
     are_bytes in
     begins_after progress.done (q ∷ []) ((remainder_of now).sequences z)
     ((remainder_of v).sequences (take read src ++ z))

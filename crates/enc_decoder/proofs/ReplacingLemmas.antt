@@ -15,7 +15,8 @@ use Rattle.enc_decoder.proofs.SuccessiveCallLemmas as successive
 use Rattle.enc_decoder.proofs.SuccessiveCallLemmas.{Turned}
 
 -- how far the loop has come over an output
-pub record Turning (units_of : ℕ → List ℕ) (old : Remainder) (src : List ℕ) (last : Bool) (before after : Output)
+pub record Turning (units_of : ℕ → List ℕ) (old : Remainder) (src : List ℕ) (last : Bool)
+    (before after : Output)
     (read : ℕ) (now : Remainder) (replaced : Bool) : Type 0 where
   pub wrote : List ℕ
   pub onto : after ≡ with_appended before wrote
@@ -34,7 +35,8 @@ fits_then : (n room : ℕ) → n ≤ room → nat_le n room ≡ true
 fits_then n room h = grind (arith, nat_tests)
 
 -- the bytes that are pending or unread
-at_hand : (old new : List ℕ) (src bytes next : List ℕ) (n : ℕ) → old ++ take n src ≡ (bytes ++ next) ++ new
+at_hand : (old new : List ℕ) (src bytes next : List ℕ) (n : ℕ)
+    → old ++ take n src ≡ (bytes ++ next) ++ new
     → n ≤ length src → 0 < length next
     → length new + (length src - n) < length old + length src
 at_hand old new src bytes next n e h s =
@@ -47,25 +49,32 @@ at_hand old new src bytes next n e h s =
       length-take n src,
     )
 
-module _ {units_of : ℕ → List ℕ} {old : Remainder} {src : List ℕ} (bytes : AreBytes src) {last : Bool}
+module _ {units_of : ℕ → List ℕ} {old : Remainder} {src : List ℕ} (bytes : AreBytes src)
+    {last : Bool}
     {before after : Output} {read : ℕ} {now : Remainder} {replaced : Bool}
     (turning : Turning units_of old src last before after read now replaced) where
   room_at : {result : DecoderResult} {new : Remainder} {n : ℕ} {more : List ℕ}
-      → RawDecoderCall units_of now new (drop read src) last (Fatal true) after.room result n more false
-      → RawDecoderCall units_of now new (drop read src) last (Fatal true) (before.room - length turning.wrote) result n
+      → RawDecoderCall units_of now new (drop read src) last (Fatal true) after.room result n more
+      false
+      → RawDecoderCall units_of now new (drop read src) last (Fatal true)
+      (before.room - length turning.wrote) result n
       more false
   room_at {result} {new} {n} {more} c =
-      subst (λ r. RawDecoderCall units_of now new (drop read src) last (Fatal true) r result n more false)
+      subst (λ r. RawDecoderCall units_of now new (drop read src) last (Fatal true) r result n more
+      false)
       (room_left before after turning.wrote turning.onto) c
 
   onto_on : (then : Output) (more : List ℕ) → then ≡ with_appended after more
       → then ≡ with_appended before (turning.wrote ++ more)
   onto_on then more e =
-      e ∙ ap (λ o. with_appended o more) turning.onto ∙ with_appended-with_appended before turning.wrote more
+      e ∙ ap (λ o. with_appended o more) turning.onto
+      ∙ with_appended-with_appended before turning.wrote more
 
-  pub empties : {new : Remainder} {n : ℕ} {then : Output} → DecoderCallInto units_of now new (drop read src) last
+  pub empties : {new : Remainder} {n : ℕ} {then : Output}
+      → DecoderCallInto units_of now new (drop read src) last
       (Fatal true) after then InputEmpty n false
-      → DecoderCallInto units_of old new src last Replacement before then InputEmpty (read + n) replaced
+      → DecoderCallInto units_of old new src last Replacement before then InputEmpty (read + n)
+      replaced
   empties {then = then} next_call = record {
     wrote = turning.wrote ++ next_call.wrote;
     onto = onto_on then next_call.wrote next_call.onto;
@@ -73,9 +82,11 @@ module _ {units_of : ℕ → List ℕ} {old : Remainder} {src : List ℕ} (bytes
         successive.empties bytes turning.turned (room_at next_call.call);
   }
 
-  pub fills : {new : Remainder} {n : ℕ} {then : Output} → DecoderCallInto units_of now new (drop read src) last
+  pub fills : {new : Remainder} {n : ℕ} {then : Output}
+      → DecoderCallInto units_of now new (drop read src) last
       (Fatal true) after then OutputFull n false
-      → DecoderCallInto units_of old new src last Replacement before then OutputFull (read + n) replaced
+      → DecoderCallInto units_of old new src last Replacement before then OutputFull (read + n)
+      replaced
   fills {then = then} next_call = record {
     wrote = turning.wrote ++ next_call.wrote;
     onto = onto_on then next_call.wrote next_call.onto;
@@ -83,7 +94,8 @@ module _ {units_of : ℕ → List ℕ} {old : Remainder} {src : List ℕ} (bytes
   }
 
   module _ {new : Remainder} {n l a : ℕ} {then : Output}
-      (next_call : DecoderCallInto units_of now new (drop read src) last (Fatal true) after then (Malformed l a) n
+      (next_call : DecoderCallInto units_of now new (drop read src) last (Fatal true) after then
+      (Malformed l a) n
       false)
     where
       -- there is room for U+FFFD
@@ -100,18 +112,22 @@ module _ {units_of : ℕ → List ℕ} {old : Remainder} {src : List ℕ} (bytes
           → Turning units_of old src last before end (read + n) new true
       replaces e = record {
         wrote = (turning.wrote ++ next_call.wrote) ++ units_of 0xFFFD;
-        onto = e ∙ ap (λ o. with_appended o (units_of 0xFFFD)) (onto_on then next_call.wrote next_call.onto)
-            ∙ with_appended-with_appended before (turning.wrote ++ next_call.wrote) (units_of 0xFFFD);
+        onto = e ∙ ap (λ o. with_appended o (units_of 0xFFFD))
+            (onto_on then next_call.wrote next_call.onto)
+            ∙ with_appended-with_appended before (turning.wrote ++ next_call.wrote)
+            (units_of 0xFFFD);
         turned =
             successive.replaces bytes turning.turned (room_at next_call.call);
       }
 
-      pub falls : length new.pending + (length src - (read + n)) < length now.pending + (length src - read)
+      pub falls : length new.pending + (length src - (read + n)) < length now.pending
+          + (length src - read)
       falls =
           let stopped = next_call.call.call.stops in
           let bytes_parted = ap (λ x. x ++ new.pending) (ap sequence_bytes stopped.then_next
           ∙ sequence_bytes-one next_call.call.call.put stopped.next) in
-          let fewer_left = at_hand now.pending new.pending (drop read src) (sequence_bytes next_call.call.call.put)
+          let fewer_left = at_hand now.pending new.pending (drop read src)
+          (sequence_bytes next_call.call.call.put)
           stopped.next.bytes n (next_call.call.accounted ∙ bytes_parted) next_call.call.call.within
           (omega (arith, stopped.not_empty, stopped.len)) in
           omega (arith, turning.turned.within, fewer_left, length-drop read src)

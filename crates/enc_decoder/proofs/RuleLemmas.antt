@@ -20,7 +20,8 @@ abbrev AreOfRule : Rule → List Sequence → Type 0
 AreOfRule rule [] = Unit {0}
 AreOfRule rule (s ∷ ss) = IsOfRule rule s × AreOfRule rule ss
 
-rest_of_rule : (rule : Rule) (set k : ℕ) (z : List ℕ) → AreOfRule rule (sequences_after rule set k z)
+rest_of_rule : (rule : Rule) (set k : ℕ) (z : List ℕ)
+    → AreOfRule rule (sequences_after rule set k z)
 unfolding sequences_after
 rest_of_rule rule set k [] = tt
 rest_of_rule rule set zero (b ∷ z) = (
@@ -34,9 +35,11 @@ one_of : (rule : Rule) (done : List Sequence) (s : Sequence) (rest : List Sequen
 one_of rule [] s rest all = all.0
 one_of rule (t ∷ done) s rest all = one_of rule done s rest all.1
 
-is_of_rule : (rule : Rule) (set : ℕ) (z : List ℕ) (done : List Sequence) (s : Sequence) (rest : List Sequence)
+is_of_rule : (rule : Rule) (set : ℕ) (z : List ℕ) (done : List Sequence) (s : Sequence)
+    (rest : List Sequence)
     → sequences_of rule set z ≡ done ++ s ∷ rest → IsOfRule rule s
-is_of_rule rule set z done s rest e = one_of rule done s rest (subst (AreOfRule rule) e (rest_of_rule rule set 0 z))
+is_of_rule rule set z done s rest e =
+    one_of rule done s rest (subst (AreOfRule rule) e (rest_of_rule rule set 0 z))
 
 some_bytes : (rule : Rule) (s : Sequence) → IsOfRule rule s → 0 < length s.bytes
 some_bytes rule s h = omega (arith, ap (λ (t : Sequence). length t.bytes) h.is)
@@ -53,21 +56,27 @@ no_text rule has s ss of_rule e =
     front_nil (x ∷ a) b e = cc
 
 -- a sequence has a byte
-pub has_bytes : (rule : Rule) (set : ℕ) (z : List ℕ) (done : List Sequence) (s : Sequence) (rest : List Sequence) → sequences_of rule set z ≡ done ++ s ∷ rest → 0 < length s.bytes
+pub has_bytes : (rule : Rule) (set : ℕ) (z : List ℕ) (done : List Sequence) (s : Sequence)
+    (rest : List Sequence) → sequences_of rule set z ≡ done ++ s ∷ rest → 0 < length s.bytes
 has_bytes rule set z done s rest e = some_bytes rule s (is_of_rule rule set z done s rest e)
 
 -- where each has a text, none is done without one
-pub none_without_text : (rule : Rule) → HasTexts rule → (set : ℕ) (z : List ℕ) (done rest : List Sequence) → sequences_of rule set z ≡ done ++ rest → sequence_text done ≡ [] → done ≡ []
+pub none_without_text : (rule : Rule) → HasTexts rule
+    → (set : ℕ) (z : List ℕ) (done rest : List Sequence) → sequences_of rule set z ≡ done ++ rest
+    → sequence_text done ≡ [] → done ≡ []
 none_without_text rule has set z [] rest e t = refl
 none_without_text rule has set z (s ∷ done) rest e t =
     absurd (no_text rule has s done (is_of_rule rule set z [] s (done ++ rest) e) t)
 
 -- where each has a small text, so has this one
-pub small_text : (rule : Rule) → HasSmallTexts rule → (set : ℕ) (z : List ℕ) (done : List Sequence) (s : Sequence) (rest : List Sequence) → sequences_of rule set z ≡ done ++ s ∷ rest
+pub small_text : (rule : Rule) → HasSmallTexts rule
+    → (set : ℕ) (z : List ℕ) (done : List Sequence) (s : Sequence) (rest : List Sequence)
+    → sequences_of rule set z ≡ done ++ s ∷ rest
     → IsSmallText s.text
 small_text rule small set z done s rest e =
     let of_rule = is_of_rule rule set z done s rest e in
-    subst (λ (t : Sequence). IsSmallText t.text) (sym of_rule.is) (small of_rule.set of_rule.first of_rule.following)
+    subst (λ (t : Sequence). IsSmallText t.text) (sym of_rule.is)
+    (small of_rule.set of_rule.first of_rule.following)
 
 units_bounds : (c : ℕ) → (1 ≤ length (encode_utf8 c)) × (length (encode_utf8 c) ≤ 4)
 units_bounds c = rw length-encode (len_utf8_bounds c)
@@ -75,7 +84,8 @@ units_bounds c = rw length-encode (len_utf8_bounds c)
 pub utf_16_bounds : (c : ℕ) → (1 ≤ length (encode_utf16 c)) × (length (encode_utf16 c) ≤ 2)
 utf_16_bounds c = by_plane _ _ _ (nat_lt c 0x1_0000)
   where
-    by_plane : (a b d : ℕ) (t : Bool) → (1 ≤ length (cond t (a ∷ []) (b ∷ d ∷ []))) × (length (cond t (a ∷ []) (b ∷ d ∷ [])) ≤ 2)
+    by_plane : (a b d : ℕ) (t : Bool) → (1 ≤ length (cond t (a ∷ []) (b ∷ d ∷ [])))
+        × (length (cond t (a ∷ []) (b ∷ d ∷ [])) ≤ 2)
     by_plane a b d true = (omega arith, omega arith)
     by_plane a b d false = (omega arith, omega arith)
 

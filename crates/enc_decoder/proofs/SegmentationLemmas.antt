@@ -7,7 +7,8 @@ use Rattle.enc_decoder.specs.Remainder.{AreFirstSequences}
 use Rattle.enc_decoder.specs.CodecState.{CodecState, remainder_of}
 
 -- the sequences after k bytes are those of the rest
-pub sequences_after-drop : (rule : Rule) (set k : ℕ) (z : List ℕ) → sequences_after rule set k z ≡ sequences_of rule set (drop k z)
+pub sequences_after-drop : (rule : Rule) (set k : ℕ) (z : List ℕ)
+    → sequences_after rule set k z ≡ sequences_of rule set (drop k z)
 unfolding sequences_after
 sequences_after-drop rule set zero z = refl
 sequences_after-drop rule set (suc k) [] = refl
@@ -15,16 +16,19 @@ sequences_after-drop rule set (suc k) (b ∷ z) = sequences_after-drop rule set 
 
 -- the sequence at the front, and those of the rest
 pub sequences_of-cons : (rule : Rule) (set b : ℕ) (z : List ℕ)
-    → sequences_of rule set (b ∷ z) ≡ head_sequence (rule set b z) b z ∷ sequences_of rule (rule set b z).set (drop (rule set b z).more z)
+    → sequences_of rule set (b ∷ z) ≡ head_sequence (rule set b z) b z
+    ∷ sequences_of rule (rule set b z).set (drop (rule set b z).more z)
 unfolding sequences_after
 sequences_of-cons rule set b z =
-    ap (λ ss. head_sequence (rule set b z) b z ∷ ss) (sequences_after-drop rule (rule set b z).set (rule set b z).more z)
+    ap (λ ss. head_sequence (rule set b z) b z ∷ ss)
+    (sequences_after-drop rule (rule set b z).set (rule set b z).more z)
 
 -- the same by what stands first
 pub sequences_of-head : (rule : Rule) (set b : ℕ) (z : List ℕ) (h : Head) → rule set b z ≡ h
     → sequences_of rule set (b ∷ z) ≡ head_sequence h b z ∷ sequences_of rule h.set (drop h.more z)
 sequences_of-head rule set b z h e =
-    sequences_of-cons rule set b z ∙ ap (λ (f : Head). head_sequence f b z ∷ sequences_of rule f.set (drop f.more z)) e
+    sequences_of-cons rule set b z
+    ∙ ap (λ (f : Head). head_sequence f b z ∷ sequences_of rule f.set (drop f.more z)) e
 
 pub sequences_of-nil : (rule : Rule) (set : ℕ) → sequences_of rule set [] ≡ []
 unfolding sequences_after
@@ -44,45 +48,60 @@ tail_of a b y z e = cc
 
 -- the sequences after the first ones are the segmentation of the bytes after them
 pub sequences_after-first : (rule : Rule) (set : ℕ) (z w : List ℕ) (ss rest : List Sequence)
-    → sequences_of rule set z ≡ ss ++ rest → z ≡ sequence_bytes ss ++ w → rest ≡ sequences_of rule (set_after set ss) w
-sequences_after-first rule set z w [] rest whole bytes_are = sym whole ∙ ap (sequences_of rule set) bytes_are
+    → sequences_of rule set z ≡ ss ++ rest → z ≡ sequence_bytes ss ++ w
+    → rest ≡ sequences_of rule (set_after set ss) w
+sequences_after-first rule set z w [] rest whole bytes_are = sym whole
+    ∙ ap (sequences_of rule set) bytes_are
 sequences_after-first rule set [] w (s ∷ ss) rest whole bytes_are =
     absurd (none_first s (ss ++ rest) (sym (sequences_of-nil rule set) ∙ whole))
 sequences_after-first rule set (b ∷ z) w (s ∷ ss) rest whole bytes_are =
     let head : Head = rule set b z in
-    let sequences : head_sequence head b z ∷ sequences_of rule head.set (drop head.more z) ≡ s ∷ (ss ++ rest) =
+    let sequences : head_sequence head b z ∷ sequences_of rule head.set (drop head.more z) ≡ s
+    ∷ (ss ++ rest) =
     sym (sequences_of-cons rule set b z) ∙ whole in
     let same : head_sequence head b z ≡ s =
-    first_of (head_sequence head b z) s (sequences_of rule head.set (drop head.more z)) (ss ++ rest) sequences in
-    let bytes_joined : b ∷ (take head.more z ++ drop head.more z) ≡ b ∷ (take head.more z ++ (sequence_bytes ss ++ w)) =
+    first_of (head_sequence head b z) s (sequences_of rule head.set (drop head.more z)) (ss ++ rest)
+    sequences in
+    let bytes_joined : b ∷ (take head.more z ++ drop head.more z) ≡ b
+    ∷ (take head.more z ++ (sequence_bytes ss ++ w)) =
     ap (λ x. b ∷ x) (take-append-drop head.more z) ∙ bytes_are
     ∙ ap (λ (t : Sequence). (t.bytes ++ sequence_bytes ss) ++ w) (sym same)
     ∙ append_assoc (b ∷ take head.more z) (sequence_bytes ss) w in
     let following_bytes : drop head.more z ≡ sequence_bytes ss ++ w =
     append_cancel_left (take head.more z) (drop head.more z) (sequence_bytes ss ++ w)
-    (tail_of b b (take head.more z ++ drop head.more z) (take head.more z ++ (sequence_bytes ss ++ w)) bytes_joined) in
+    (tail_of b b (take head.more z ++ drop head.more z)
+    (take head.more z ++ (sequence_bytes ss ++ w)) bytes_joined) in
     sequences_after-first rule head.set (drop head.more z) w ss rest
-    (rest_of (head_sequence head b z) s (sequences_of rule head.set (drop head.more z)) (ss ++ rest) sequences)
+    (rest_of (head_sequence head b z) s (sequences_of rule head.set (drop head.more z)) (ss ++ rest)
+    sequences)
     following_bytes
     ∙ ap (λ (t : Sequence). sequences_of rule (set_after t.set ss) w) same
 
--- once the sequences done are known to come first, the state after them determines those still to come
-pub goes_on : (v w : CodecState) (x y : List ℕ) (done : List Sequence) → w.rule ≡ v.rule → w.set ≡ set_after v.set done → v.pending ++ x ≡ sequence_bytes done ++ w.pending
-    → AreFirstSequences done ((remainder_of v).sequences (x ++ y)) → (remainder_of v).sequences (x ++ y) ≡ done ++ (remainder_of w).sequences y
+-- once the sequences done are known to come first, the state after them determines those still to
+-- come
+pub goes_on : (v w : CodecState) (x y : List ℕ) (done : List Sequence) → w.rule ≡ v.rule
+    → w.set ≡ set_after v.set done → v.pending ++ x ≡ sequence_bytes done ++ w.pending
+    → AreFirstSequences done ((remainder_of v).sequences (x ++ y))
+    → (remainder_of v).sequences (x ++ y) ≡ done ++ (remainder_of w).sequences y
 goes_on v w x y done r s p first =
     first.1 ∙ ap (λ t. done ++ t)
-    (sequences_after-first v.rule v.set (v.pending ++ (x ++ y)) (w.pending ++ y) done first.0 first.1
-    (sym (append_assoc v.pending x y) ∙ ap (λ t. t ++ y) p ∙ append_assoc (sequence_bytes done) w.pending y)
-    ∙ ap (λ n. sequences_of v.rule n (w.pending ++ y)) (sym s) ∙ ap (λ (t : Rule). sequences_of t w.set (w.pending ++ y)) (sym r))
+    (sequences_after-first v.rule v.set (v.pending ++ (x ++ y)) (w.pending ++ y) done first.0
+    first.1
+    (sym (append_assoc v.pending x y) ∙ ap (λ t. t ++ y) p
+    ∙ append_assoc (sequence_bytes done) w.pending y)
+    ∙ ap (λ n. sequences_of v.rule n (w.pending ++ y)) (sym s)
+    ∙ ap (λ (t : Rule). sequences_of t w.set (w.pending ++ y)) (sym r))
 
 -- the sequences, joined, are the bytes
 
-joined_after : (rule : Rule) (set k : ℕ) (z : List ℕ) → sequence_bytes (sequences_after rule set k z) ≡ drop k z
+joined_after : (rule : Rule) (set k : ℕ) (z : List ℕ)
+    → sequence_bytes (sequences_after rule set k z) ≡ drop k z
 unfolding sequences_after
 joined_after rule set zero [] = refl
 joined_after rule set (suc k) [] = refl
 joined_after rule set zero (b ∷ z) =
-    ap (λ x. b ∷ (take (rule set b z).more z ++ x)) (joined_after rule (rule set b z).set (rule set b z).more z)
+    ap (λ x. b ∷ (take (rule set b z).more z ++ x))
+    (joined_after rule (rule set b z).set (rule set b z).more z)
     ∙ ap (λ x. b ∷ x) (take-append-drop (rule set b z).more z)
 joined_after rule set (suc k) (b ∷ z) = joined_after rule set k z
 
@@ -91,8 +110,10 @@ all_bytes rule set z = joined_after rule set 0 z
 
 -- and they are the one segmentation of them
 
-pub is_one : (rule : Rule) (set : ℕ) (z : List ℕ) (ss : List Sequence) → IsSegmentation rule set z ss → ss ≡ sequences_of rule set z
-is_one rule set z [] segmented = sym (ap (sequences_of rule set) segmented ∙ sequences_of-nil rule set)
+pub is_one : (rule : Rule) (set : ℕ) (z : List ℕ) (ss : List Sequence)
+    → IsSegmentation rule set z ss → ss ≡ sequences_of rule set z
+is_one rule set z [] segmented =
+    sym (ap (sequences_of rule set) segmented ∙ sequences_of-nil rule set)
 is_one rule set [] (s ∷ ss) segmented = absurd segmented
 is_one rule set (b ∷ z) (s ∷ ss) segmented =
     ap (λ t. t ∷ ss) segmented.0 ∙ ap (λ ts. head_sequence (rule set b z) b z ∷ ts)
@@ -104,8 +125,10 @@ rest_is_segmentation : (rule : Rule) (set k : ℕ) (z : List ℕ)
 unfolding sequences_after
 rest_is_segmentation rule set zero [] = refl
 rest_is_segmentation rule set (suc k) [] = refl
-rest_is_segmentation rule set zero (b ∷ z) = (refl, rest_is_segmentation rule (rule set b z).set (rule set b z).more z)
+rest_is_segmentation rule set zero (b ∷ z) =
+    (refl, rest_is_segmentation rule (rule set b z).set (rule set b z).more z)
 rest_is_segmentation rule set (suc k) (b ∷ z) = rest_is_segmentation rule set k z
 
-pub sequences_are_segmentation : (rule : Rule) (set : ℕ) (z : List ℕ) → IsSegmentation rule set z (sequences_of rule set z)
+pub sequences_are_segmentation : (rule : Rule) (set : ℕ) (z : List ℕ)
+    → IsSegmentation rule set z (sequences_of rule set z)
 sequences_are_segmentation rule set z = rest_is_segmentation rule set 0 z

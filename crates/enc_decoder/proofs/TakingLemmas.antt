@@ -16,39 +16,49 @@ use Rattle.enc_decoder.proofs.DeterminedLemmas.{none_determined}
 use Rattle.enc_decoder.proofs.EmissionLemmas.{nothing_pending}
 use Rattle.enc_decoder.proofs.DecodeProgressLemmas.{Writing}
 
-pub front : (k : ℕ) (xs : List ℕ) (b : ℕ) (zs : List ℕ) → 0 < k → xs ≡ b ∷ zs → (z : List ℕ) × (take k xs ≡ b ∷ z)
+pub front : (k : ℕ) (xs : List ℕ) (b : ℕ) (zs : List ℕ) → 0 < k → xs ≡ b ∷ zs → (z : List ℕ)
+    × (take k xs ≡ b ∷ z)
 front zero xs b zs h e = absurd (omega arith)
 front (suc k) xs b zs h e = (take k zs, ap (take (suc k)) e)
 
 -- Where a call is once a run is taken: no more is pending than before.
-pub record Ahead {C : Type 0} (units_of : ℕ → List ℕ) (state : C → CodecState) (v : CodecState) (c n : C)
+pub record Ahead {C : Type 0} (units_of : ℕ → List ℕ) (state : C → CodecState) (v : CodecState)
+    (c n : C)
     (src : List ℕ) (last : Bool) (before after : Output)
     (read : ℕ) : Type 0 where
-  pub writing : Writing units_of (remainder_of v) src last before after read (remainder_of (state n))
+  pub writing : Writing units_of (remainder_of v) src last before after read
+      (remainder_of (state n))
   pub rule : (state n).rule ≡ v.rule
   pub pending : length (state n).pending ≡ length (state c).pending
   pub within : read ≤ length src
 
-module _ {C : Type 0} {units_of : ℕ → List ℕ} {state : C → CodecState} (v : CodecState) {c n : C} {src : List ℕ}
+module _ {C : Type 0} {units_of : ℕ → List ℕ} {state : C → CodecState} (v : CodecState) {c n : C}
+    {src : List ℕ}
     {last : Bool} {before at then : Output} {read took : ℕ}
-    (writing : Writing units_of (remainder_of v) src last before at read (remainder_of (state c))) {rest : List ℕ}
+    (writing : Writing units_of (remainder_of v) src last before at read (remainder_of (state c)))
+    {rest : List ℕ}
     (e : rest ≡ drop read src) (given : TakesRun units_of state c n rest took at then) where
   t : TakesRun units_of state c n (drop read src) took at then
   t = subst (λ z. TakesRun units_of state c n z took at then) e given
 
   -- nothing is taken
-  stays : took ≡ 0 → Writing units_of (remainder_of v) src last before then (read + took) (remainder_of (state n))
+  stays : took ≡ 0 → Writing units_of (remainder_of v) src last before then (read + took)
+      (remainder_of (state n))
   stays z =
       let none = t.none_taken z in
-      let state_is : state n ≡ state c = t.next_state ∙ ap (λ ss. record (state c) { set = set_after (state c).set ss })
+      let state_is : state n ≡ state c = t.next_state
+      ∙ ap (λ ss. record (state c) { set = set_after (state c).set ss })
       none in
-      let then_is : then ≡ at = t.written ∙ ap (λ ss. with_appended at (units_of_text units_of (sequence_text ss)))
+      let then_is : then ≡ at = t.written
+      ∙ ap (λ ss. with_appended at (units_of_text units_of (sequence_text ss)))
       none ∙ with_appended-nil at in
       let read_is : read + took ≡ read = omega arith in
       subst (λ (o : Output). Writing units_of (remainder_of v) src last before o (read + took)
       (remainder_of (state n))) (sym then_is)
-      (subst (λ r. Writing units_of (remainder_of v) src last before at r (remainder_of (state n))) (sym read_is)
-      (subst (λ (s : CodecState). Writing units_of (remainder_of v) src last before at read (remainder_of s))
+      (subst (λ r. Writing units_of (remainder_of v) src last before at r (remainder_of (state n)))
+      (sym read_is)
+      (subst (λ (s : CodecState). Writing units_of (remainder_of v) src last before at read
+      (remainder_of s))
       (sym state_is) writing))
 
   abbrev bytes : List ℕ
@@ -70,24 +80,31 @@ module _ {C : Type 0} {units_of : ℕ → List ℕ} {state : C → CodecState} (
   pending_after : 0 < took → (state n).pending ≡ []
   pending_after h = ap (λ (s : CodecState). s.pending) t.next_state ∙ t.none_pending h
 
-  residual : 0 < took → (y : List ℕ) → (remainder_of v).sequences (take (read + took) src ++ y) ≡ done
+  residual : 0 < took → (y : List ℕ)
+      → (remainder_of v).sequences (take (read + took) src ++ y) ≡ done
       ++ (remainder_of (state n)).sequences y
   residual h y =
-      ap (remainder_of v).sequences (ap (λ x. x ++ y) (take-add read took src) ∙ append_assoc (take read src) bytes y)
-      ∙ writing.progress.residual (bytes ++ y) (follows h y) ∙ ap (λ ss. writing.progress.done ++ ss) (t.first y)
+      ap (remainder_of v).sequences
+      (ap (λ x. x ++ y) (take-add read took src) ∙ append_assoc (take read src) bytes y)
+      ∙ writing.progress.residual (bytes ++ y) (follows h y)
+      ∙ ap (λ ss. writing.progress.done ++ ss) (t.first y)
       ∙ sym (append_assoc writing.progress.done t.taken ((remainder_of (state n)).sequences y))
 
-  accounted : 0 < took → v.pending ++ take (read + took) src ≡ sequence_bytes done ++ (state n).pending
+  accounted : 0 < took →
+      v.pending ++ take (read + took) src ≡ sequence_bytes done ++ (state n).pending
   accounted some =
-      ap (λ x. v.pending ++ x) (take-add read took src) ∙ sym (append_assoc v.pending (take read src) bytes)
+      ap (λ x. v.pending ++ x) (take-add read took src)
+      ∙ sym (append_assoc v.pending (take read src) bytes)
       ∙ ap (λ x. x ++ bytes) writing.progress.accounted
       ∙ ap (λ q. (sequence_bytes writing.progress.done ++ q) ++ bytes) (t.none_pending some)
       ∙ ap (λ x. x ++ bytes) (append-nil (sequence_bytes writing.progress.done))
       ∙ ap (λ x. sequence_bytes writing.progress.done ++ x) (sym t.bytes)
       ∙ sym (sequence_bytes-append writing.progress.done t.taken)
-      ∙ sym (append-nil (sequence_bytes done)) ∙ ap (λ q. sequence_bytes done ++ q) (sym (pending_after some))
+      ∙ sym (append-nil (sequence_bytes done))
+      ∙ ap (λ q. sequence_bytes done ++ q) (sym (pending_after some))
 
-  goes : 0 < took → Writing units_of (remainder_of v) src last before then (read + took) (remainder_of (state n))
+  goes : 0 < took → Writing units_of (remainder_of v) src last before then (read + took)
+      (remainder_of (state n))
   goes some = record {
     wrote = writing.wrote ++ units;
     onto = t.written ∙ ap (λ o. with_appended o units) writing.onto
@@ -97,9 +114,11 @@ module _ {C : Type 0} {units_of : ℕ → List ℕ} {state : C → CodecState} (
       within = omega (arith, t.within, length-drop read src, writing.progress.within);
       residual = λ y _. residual some y;
       accounted = accounted some;
-      set = ap (λ (s : CodecState). s.set) t.next_state ∙ ap (λ x. set_after x t.taken) writing.progress.set
+      set = ap (λ (s : CodecState). s.set) t.next_state
+          ∙ ap (λ x. set_after x t.taken) writing.progress.set
           ∙ sym (set_after-append v.set writing.progress.done t.taken);
-      text = ap (λ x. x ++ units) writing.progress.text ∙ sym (units-append units_of writing.progress.done t.taken);
+      text = ap (λ x. x ++ units) writing.progress.text
+          ∙ sym (units-append units_of writing.progress.done t.taken);
       fits = omega (
         arith,
         length-append writing.wrote units,
@@ -110,15 +129,19 @@ module _ {C : Type 0} {units_of : ℕ → List ℕ} {state : C → CodecState} (
       none_malformed = any_malformed-append writing.progress.done t.taken
           ∙ rw (writing.progress.none_malformed, t.none_malformed) refl;
       scalars = scalars_of-append writing.progress.done t.taken writing.progress.scalars t.scalars;
-      undetermined = inr (none_determined (remainder_of v).sequences (remainder_of (state n)).sequences
-          (take (read + took) src) done (residual some) (nothing_pending (state n) (pending_after some)));
+      undetermined = inr (none_determined (remainder_of v).sequences
+          (remainder_of (state n)).sequences
+          (take (read + took) src) done (residual some)
+          (nothing_pending (state n) (pending_after some)));
     };
   }
 
-  takes : Writing units_of (remainder_of v) src last before then (read + took) (remainder_of (state n))
+  takes : Writing units_of (remainder_of v) src last before then (read + took)
+      (remainder_of (state n))
   takes = elim (cases_lt 0 took) [ inl h ↦ goes h | inr h ↦ stays (omega arith) ]
 
-  pub ahead : (state c).rule ≡ v.rule → Ahead units_of state v c n src last before then (read + took)
+  pub ahead : (state c).rule ≡ v.rule
+      → Ahead units_of state v c n src last before then (read + took)
   ahead same = record {
     writing = takes;
     rule = ap (λ (s : CodecState). s.rule) t.next_state ∙ same;
@@ -128,26 +151,32 @@ module _ {C : Type 0} {units_of : ℕ → List ℕ} {state : C → CodecState} (
 
 -- what comes next reads a byte or leaves fewer pending
 
-lengths : {C : Type 0} {state : C → CodecState} {c : C} {may_follow : List ℕ → Type 0} {took : List ℕ} {s : Emission C}
+lengths : {C : Type 0} {state : C → CodecState} {c : C} {may_follow : List ℕ → Type 0}
+    {took : List ℕ} {s : Emission C}
     (next : IsNextSequence state c may_follow took s)
     → length (state c).pending + length took ≡ length next.bytes + length (state s.next).pending
 lengths {state = state} {c} {took = took} {s} next =
-    sym (length-append (state c).pending took) ∙ ap length next.parts ∙ length-append next.bytes (state s.next).pending
+    sym (length-append (state c).pending took) ∙ ap length next.parts
+    ∙ length-append next.bytes (state s.next).pending
 
-pub fewer_with : {C : Type 0} {state : C → CodecState} {c : C} {may_follow : List ℕ → Type 0} (b : ℕ) {s : Emission C}
+pub fewer_with : {C : Type 0} {state : C → CodecState} {c : C} {may_follow : List ℕ → Type 0}
+    (b : ℕ) {s : Emission C}
     → IsNextSequence state c may_follow (taken_bytes s.takes_byte b) s → s.takes_byte ≡ true
     → length (state s.next).pending ≤ length (state c).pending
 fewer_with b next t =
     omega (arith, next.some, lengths next, ap (λ x. length (taken_bytes x b)) t)
 
-pub fewer_before : {C : Type 0} {state : C → CodecState} {c : C} {may_follow : List ℕ → Type 0} (b : ℕ)
-    {s : Emission C} → IsNextSequence state c may_follow (taken_bytes s.takes_byte b) s → s.takes_byte ≡ false
+pub fewer_before : {C : Type 0} {state : C → CodecState} {c : C} {may_follow : List ℕ → Type 0}
+    (b : ℕ)
+    {s : Emission C} → IsNextSequence state c may_follow (taken_bytes s.takes_byte b) s
+    → s.takes_byte ≡ false
     → length (state s.next).pending < length (state c).pending
 fewer_before b next t =
     omega (arith, next.some, lengths next, ap (λ x. length (taken_bytes x b)) t)
 
 -- Nothing is taken.
-pub takes_none : {C : Type 0} (units_of : ℕ → List ℕ) (state : C → CodecState) (c : C) (src : List ℕ) (o : Output)
+pub takes_none : {C : Type 0} (units_of : ℕ → List ℕ) (state : C → CodecState) (c : C)
+    (src : List ℕ) (o : Output)
     → TakesRun units_of state c c src 0 o o
 takes_none units_of state c src o = record {
   taken = [];
@@ -164,9 +193,11 @@ takes_none units_of state c src o = record {
 }
 
 -- A run is taken after another.
-pub takes_both : {C : Type 0} (units_of : ℕ → List ℕ) (state : C → CodecState) (c m n : C) (src : List ℕ)
+pub takes_both : {C : Type 0} (units_of : ℕ → List ℕ) (state : C → CodecState) (c m n : C)
+    (src : List ℕ)
     (read more : ℕ) (before mid after : Output) (rest : List ℕ) → rest ≡ drop read src
-    → TakesRun units_of state c m src read before mid → TakesRun units_of state m n rest more mid after
+    → TakesRun units_of state c m src read before mid
+    → TakesRun units_of state m n rest more mid after
     → TakesRun units_of state c n src (read + more) before after
 takes_both units_of state c m n src read more before mid after rest e takes_run given =
     let takes_more = subst (λ z. TakesRun units_of state m n z more mid after) e given in
@@ -184,15 +215,18 @@ takes_both units_of state c m n src read more before mid after rest e takes_run 
       first = λ w. ap (remainder_of (state c)).sequences (ap (λ z. z ++ w) (take-add read more src)
           ∙ append_assoc (take read src) bytes w)
           ∙ takes_run.first (bytes ++ w) ∙ ap (λ ss. takes_run.taken ++ ss) (takes_more.first w)
-          ∙ sym (append_assoc takes_run.taken takes_more.taken ((remainder_of (state n)).sequences w));
+          ∙ sym (append_assoc takes_run.taken takes_more.taken
+          ((remainder_of (state n)).sequences w));
       next_state =
-          takes_more.next_state ∙ ap (λ (s : CodecState). record s { set = set_after s.set takes_more.taken })
+          takes_more.next_state ∙ ap
+          (λ (s : CodecState). record s { set = set_after s.set takes_more.taken })
           takes_run.next_state
           ∙ ap (λ k. record (state c) { set = k })
           (sym (set_after-append (state c).set takes_run.taken takes_more.taken));
       none_malformed = any_malformed-append takes_run.taken takes_more.taken
           ∙ rw (takes_run.none_malformed, takes_more.none_malformed) refl;
-      scalars = scalars_of-append takes_run.taken takes_more.taken takes_run.scalars takes_more.scalars;
+      scalars = scalars_of-append takes_run.taken takes_more.taken takes_run.scalars
+          takes_more.scalars;
       fits = omega (
         arith,
         ap length both,
@@ -207,7 +241,8 @@ takes_both units_of state c m n src read more before mid after rest e takes_run 
           ∙ ap (with_appended before) (sym both);
       none_pending = λ h. elim (cases_lt 0 read) [
         | inl r ↦ takes_run.none_pending r
-        | inr r ↦ sym (ap (λ (s : CodecState). s.pending) takes_run.next_state) ∙ takes_more.none_pending (omega arith)
+        | inr r ↦ sym (ap (λ (s : CodecState). s.pending) takes_run.next_state)
+            ∙ takes_more.none_pending (omega arith)
       ];
       none_taken = λ z. ap (λ ss. ss ++ takes_more.taken) (takes_run.none_taken (omega arith))
           ∙ takes_more.none_taken (omega arith);

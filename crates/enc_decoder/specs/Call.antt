@@ -1,14 +1,15 @@
--- A call of a decoder: its text, and where reading stops (Encoding Standard 4.1, "process a queue", with a bounded
--- output).
+-- A call of a decoder: its text, and where reading stops (Encoding Standard 4.1, "process a queue",
+-- with a bounded output).
 --
 -- Two calls in Shift_JIS into UTF-8, with 4 bytes of room, without replacement, and `last` false:
 --
 --     src       41 | 93 FA | 81 42 | 61      "A", U+65E5, U+3002, "a"
---     done      ==========                   "A" and U+65E5 are put out: their 1 + 3 bytes fill the room
+--     done      ==========                   "A" and U+65E5, whose 1 + 3 bytes fill the room
 --     pending                ==              read; 81 alone determines no sequence
---     unread                    ==   ==      42 would determine U+3002, which is the next sequence and does not fit
+--     unread                    ==   ==      42 would determine U+3002, which does not fit
 --
--- OutputFull, read = 4: reading stops one byte short of the shortest prefix that determines the next sequence.
+-- OutputFull, read = 4: reading stops one byte short of the shortest prefix that determines the
+-- next sequence.
 --
 --     src       41 | 81 | 20                 "A", a malformed sequence, a space
 --     put       ==                           "A"
@@ -16,7 +17,8 @@
 --     unread              ==                 20 is a sequence by itself
 --
 -- Malformed(1, 0), read = 2: a malformed sequence of 1 byte, and 0 bytes read after it.
-use Rattle.std.specs.Prelude.{◌≡◌, ℕ, ◌+◌, ◌-◌, ◌<◌, ◌≤◌, ◌⊎◌, Bool, true, false, List, [], ◌∷◌, ◌++◌, length, take, drop}
+use Rattle.std.specs.Prelude.{◌≡◌, ℕ, ◌+◌, ◌-◌, ◌<◌, ◌≤◌, ◌⊎◌, Bool, true, false, List, [], ◌∷◌, ◌++◌, length, take}
+use Rattle.std.specs.Prelude.{drop}
 use Rattle.enc_units.specs.declared.decoder_result.DecoderResult.{DecoderResult}
 use Rattle.enc_units.specs.declared.decoder_result.DecoderResult.TheVariants.{InputEmpty, OutputFull}
 use Rattle.enc_units.specs.declared.decoder_result.DecoderResult.TheVariants as stop
@@ -27,8 +29,8 @@ use Rattle.enc_decoder.specs.Sequence.{Sequence, is_malformed, is_repeated_escap
 use Rattle.enc_decoder.specs.Sequence.{any_malformed, set_after}
 use Rattle.enc_decoder.specs.Remainder.{Remainder, AreFirstSequences, Determines, AreDetermined}
 
--- The error mode of a call: write U+FFFD for a malformed sequence, or stop and report it. If room is kept, it is
--- reported only if U+FFFD fits, and otherwise the output is full.
+-- The error mode of a call: write U+FFFD for a malformed sequence, or stop and report it. If room
+-- is kept, it is reported only if U+FFFD fits, and otherwise the output is full.
 pub data DecodeErrorMode : Type 0 where
   Replacement : DecodeErrorMode
   Fatal : Bool → DecodeErrorMode
@@ -43,27 +45,35 @@ abbrev pub keeps_room : DecodeErrorMode → Bool
 keeps_room Replacement = true
 keeps_room (Fatal keeps) = keeps
 
--- The bytes read before a sequence that is not put out: one byte less than the shortest prefix that determines it and
--- all before it, but at least 0. If only the end of the input determines it, all bytes.
-pub record ReadsBeforeSequence (remaining : List ℕ → List Sequence) (src : List ℕ) (sequences : List Sequence) (read : ℕ) : Type 0 where
+-- The bytes read before a sequence that is not put out: one byte less than the shortest prefix that
+-- determines it and all before it, but at least 0. If only the end of the input determines it, all
+-- bytes.
+pub record ReadsBeforeSequence (remaining : List ℕ → List Sequence) (src : List ℕ)
+    (sequences : List Sequence) (read : ℕ) : Type 0 where
   pub not_shown : (read ≡ 0) ⊎ (Determines remaining (take read src) sequences → ⊥)
   pub shown_next : read < length src → Determines remaining (take (read + 1) src) sequences
 
--- The bytes read if a malformed sequence is reported: the same, or to its end if that is further. Then no byte is
--- pending after it.
-pub record ReadsToMalformed (remaining : List ℕ → List Sequence) (src : List ℕ) (sequences : List Sequence) (read : ℕ) (pending : List ℕ) : Type 0 where
-  pub not_shown : (pending ≡ []) ⊎ ((read ≡ 0) ⊎ (Determines remaining (take read src) sequences → ⊥))
+-- The bytes read if a malformed sequence is reported: the same, or to its end if that is further.
+-- Then no byte is pending after it.
+pub record ReadsToMalformed (remaining : List ℕ → List Sequence) (src : List ℕ)
+    (sequences : List Sequence) (read : ℕ) (pending : List ℕ) : Type 0 where
+  pub not_shown : (pending ≡ [])
+      ⊎ ((read ≡ 0) ⊎ (Determines remaining (take read src) sequences → ⊥))
   pub shown_next : read < length src → Determines remaining (take (read + 1) src) sequences
 
 -- The bytes read if a repeated escape is reported: exactly those that determine it.
-pub record ReadsThroughEscape (remaining : List ℕ → List Sequence) (src : List ℕ) (sequences : List Sequence) (read : ℕ) : Type 0 where
+pub record ReadsThroughEscape (remaining : List ℕ → List Sequence) (src : List ℕ)
+    (sequences : List Sequence) (read : ℕ) : Type 0 where
   pub not_shown : (read ≡ 0) ⊎ (Determines remaining (take (read - 1) src) sequences → ⊥)
   pub shown : Determines remaining (take read src) sequences
 
 -- the bytes read if a sequence is reported, by whether it is a repeated escape
-abbrev pub ReadsToReported : Bool → (List ℕ → List Sequence) → List ℕ → List Sequence → ℕ → List ℕ → Type 0
-ReadsToReported true remaining src sequences read pending = ReadsThroughEscape remaining src sequences read
-ReadsToReported false remaining src sequences read pending = ReadsToMalformed remaining src sequences read pending
+abbrev pub ReadsToReported : Bool → (List ℕ → List Sequence) → List ℕ → List Sequence → ℕ → List ℕ
+    → Type 0
+ReadsToReported true remaining src sequences read pending =
+    ReadsThroughEscape remaining src sequences read
+ReadsToReported false remaining src sequences read pending =
+    ReadsToMalformed remaining src sequences read pending
 
 -- bounds of the length of a malformed sequence, and of the number of bytes read after it
 abbrev pub AreMalformedLens : ℕ → ℕ → Type 0
@@ -77,25 +87,31 @@ AreReportedLens Malformed l a = AreMalformedLens l a
 AreReportedLens RepeatedEscape l a = (l ≡ 3) × (a ≡ 3)
 
 -- All input is read, and no determined sequence is left.
-pub record DecoderAtInputEmpty (old new : Remainder) (src : List ℕ) (last : Bool) (put done : List Sequence) (read : ℕ) : Type 0 where
+pub record DecoderAtInputEmpty (old new : Remainder) (src : List ℕ) (last : Bool)
+    (put done : List Sequence) (read : ℕ) : Type 0 where
   pub only_put : done ≡ put
   pub all_read : read ≡ length src
-  pub none_determined : last ≡ false → (s : Sequence) → Determines old.sequences src (done ++ s ∷ []) → ⊥
+  pub none_determined : last ≡ false → (s : Sequence)
+      → Determines old.sequences src (done ++ s ∷ []) → ⊥
   pub none_left : last ≡ true → new.sequences [] ≡ []
   pub none_pending : last ≡ true → new.pending ≡ []
 
 -- The next sequence is determined, and its text does not fit.
-pub record DecoderAtOutputFull (units_of : ℕ → List ℕ) (old : Remainder) (src : List ℕ) (last : Bool) (mode : DecodeErrorMode) (room : ℕ) (put done : List Sequence) (read : ℕ) : Type 0 where
-  pub only_put : done ≡ put
-  pub next : Sequence
-  pub determined : AreDetermined last old.sequences src (done ++ next ∷ [])
-  pub not_reported : keeps_room mode ≡ false → is_malformed next.kind ≡ false
-  pub full : room < length (units_of_text units_of (sequence_text done)) + length (units_of_text units_of next.text)
-  pub reads : ReadsBeforeSequence old.sequences src (done ++ next ∷ []) read
+pub record DecoderAtOutputFull (units_of : ℕ → List ℕ) (old : Remainder) (src : List ℕ)
+    (last : Bool) (mode : DecodeErrorMode) (room : ℕ) (put done : List Sequence) (read : ℕ) : Type 0
+  where
+    pub only_put : done ≡ put
+    pub next : Sequence
+    pub determined : AreDetermined last old.sequences src (done ++ next ∷ [])
+    pub not_reported : keeps_room mode ≡ false → is_malformed next.kind ≡ false
+    pub full : room < length (units_of_text units_of (sequence_text done))
+        + length (units_of_text units_of next.text)
+    pub reads : ReadsBeforeSequence old.sequences src (done ++ next ∷ []) read
 
--- The next sequence is determined and malformed, has l bytes, and a bytes are pending after it. So it is the l bytes
--- before the last a of all bytes read so far.
-pub record AtMalformed (units_of : ℕ → List ℕ) (old new : Remainder) (src : List ℕ) (last : Bool) (mode : DecodeErrorMode) (room : ℕ) (put done : List Sequence) (read l a : ℕ) : Type 0 where
+-- The next sequence is determined and malformed, has l bytes, and a bytes are pending after it. So
+-- it is the l bytes before the last a of all bytes read so far.
+pub record AtMalformed (units_of : ℕ → List ℕ) (old new : Remainder) (src : List ℕ) (last : Bool)
+    (mode : DecodeErrorMode) (room : ℕ) (put done : List Sequence) (read l a : ℕ) : Type 0 where
   pub next : Sequence
   pub then_next : done ≡ put ++ next ∷ []
   pub malformed : is_malformed next.kind ≡ true
@@ -105,18 +121,23 @@ pub record AtMalformed (units_of : ℕ → List ℕ) (old new : Remainder) (src 
   pub not_empty : 0 < l
   pub pending : a ≡ length new.pending
   pub bounds : AreReportedLens next.kind l a
-  pub room_kept : keeps_room mode ≡ true → length (units_of_text units_of (sequence_text put)) + length (units_of 0xFFFD) ≤ room
+  pub room_kept : keeps_room mode ≡ true
+      → length (units_of_text units_of (sequence_text put)) + length (units_of 0xFFFD) ≤ room
   pub determined : AreDetermined last old.sequences src done
   -- the bytes read determine no sequence after it
-  pub none_after : (read ≡ 0) ⊎ ((s : Sequence) → Determines old.sequences (take read src) (done ++ s ∷ []) → ⊥)
+  pub none_after : (read ≡ 0)
+      ⊎ ((s : Sequence) → Determines old.sequences (take read src) (done ++ s ∷ []) → ⊥)
   pub reads : ReadsToReported (is_repeated_escape next.kind) old.sequences src done read new.pending
 
 -- why a call stopped
-abbrev pub DecoderStops : (ℕ → List ℕ) → Remainder → Remainder → List ℕ → Bool → DecodeErrorMode → ℕ → List Sequence → List Sequence → ℕ → DecoderResult → Type 0
+abbrev pub DecoderStops : (ℕ → List ℕ) → Remainder → Remainder → List ℕ → Bool → DecodeErrorMode → ℕ
+    → List Sequence → List Sequence → ℕ → DecoderResult → Type 0
 DecoderStops units_of old new src last mode room put done read InputEmpty =
     DecoderAtInputEmpty old new src last put done read
-DecoderStops units_of old new src last mode room put done read OutputFull = DecoderAtOutputFull units_of old src last mode room put done read
-DecoderStops units_of old new src last mode room put done read (stop.Malformed l a) = AtMalformed units_of old new src last mode room put done read l a
+DecoderStops units_of old new src last mode room put done read OutputFull =
+    DecoderAtOutputFull units_of old src last mode room put done read
+DecoderStops units_of old new src last mode room put done read (stop.Malformed l a) =
+    AtMalformed units_of old new src last mode room put done read l a
 
 -- whether a call has reached the end of the input
 abbrev pub reaches_end : Bool → DecoderResult → Bool
@@ -124,14 +145,18 @@ reaches_end last InputEmpty = last
 reaches_end last OutputFull = false
 reaches_end last (stop.Malformed l a) = false
 
--- A call of a decoder with the bytes src, which nothing follows if `last`, over an output with `room`. It takes the
--- sequences that it puts out, and the one that it reports, from those remaining, and nothing else.
-pub record DecoderCall (units_of : ℕ → List ℕ) (old new : Remainder) (src : List ℕ) (last : Bool) (mode : DecodeErrorMode) (room : ℕ) (result : DecoderResult) (read : ℕ) (wrote : List ℕ) (replaced : Bool) : Type 0 where
+-- A call of a decoder with the bytes src, which nothing follows if `last`, over an output with
+-- `room`. It takes the sequences that it puts out, and the one that it reports, from those
+-- remaining, and nothing else.
+pub record DecoderCall (units_of : ℕ → List ℕ) (old new : Remainder) (src : List ℕ) (last : Bool)
+    (mode : DecodeErrorMode) (room : ℕ) (result : DecoderResult) (read : ℕ) (wrote : List ℕ)
+    (replaced : Bool) : Type 0 where
   pub put : List Sequence
   pub done : List Sequence
   pub within : read ≤ length src
   -- whatever follows src
-  pub residual : (z : List ℕ) → (last ≡ true → z ≡ []) → old.sequences (src ++ z) ≡ done ++ new.sequences (drop read src ++ z)
+  pub residual : (z : List ℕ) → (last ≡ true → z ≡ [])
+      → old.sequences (src ++ z) ≡ done ++ new.sequences (drop read src ++ z)
   pub set : new.set ≡ set_after old.set done
   pub text : wrote ≡ units_of_text units_of (sequence_text put)
   pub scalars : AreScalars (sequence_text put)
@@ -141,15 +166,21 @@ pub record DecoderCall (units_of : ℕ → List ℕ) (old new : Remainder) (src 
   pub stops : DecoderStops units_of old new src last mode room put done read result
 
 -- A call of a decoder that looks for no byte order mark: all bytes are in sequences.
-pub record RawDecoderCall (units_of : ℕ → List ℕ) (old new : Remainder) (src : List ℕ) (last : Bool) (mode : DecodeErrorMode) (room : ℕ) (result : DecoderResult) (read : ℕ) (wrote : List ℕ) (replaced : Bool) : Type 0 where
+pub record RawDecoderCall (units_of : ℕ → List ℕ) (old new : Remainder) (src : List ℕ) (last : Bool)
+    (mode : DecodeErrorMode) (room : ℕ) (result : DecoderResult) (read : ℕ) (wrote : List ℕ)
+    (replaced : Bool) : Type 0 where
   pub call : DecoderCall units_of old new src last mode room result read wrote replaced
   -- The bytes read are those of the sequences done and those pending.
   pub accounted : old.pending ++ take read src ≡ sequence_bytes call.done ++ new.pending
   -- Wherever the sequences done come first after the bytes read, those of the new state follow.
-  pub goes_on : (y : List ℕ) → (reaches_end last result ≡ true → y ≡ []) → AreFirstSequences call.done (old.sequences (take read src ++ y)) → old.sequences (take read src ++ y) ≡ call.done ++ new.sequences y
+  pub goes_on : (y : List ℕ) → (reaches_end last result ≡ true → y ≡ [])
+      → AreFirstSequences call.done (old.sequences (take read src ++ y))
+      → old.sequences (take read src ++ y) ≡ call.done ++ new.sequences y
 
 -- the same, for a call that appends what it writes to an output
-pub record DecoderCallInto (units_of : ℕ → List ℕ) (old new : Remainder) (src : List ℕ) (last : Bool) (mode : DecodeErrorMode) (before after : Output) (result : DecoderResult) (read : ℕ) (replaced : Bool) : Type 0 where
+pub record DecoderCallInto (units_of : ℕ → List ℕ) (old new : Remainder) (src : List ℕ)
+    (last : Bool) (mode : DecodeErrorMode) (before after : Output) (result : DecoderResult)
+    (read : ℕ) (replaced : Bool) : Type 0 where
   pub wrote : List ℕ
   pub onto : after ≡ with_appended before wrote
   pub call : RawDecoderCall units_of old new src last mode before.room result read wrote replaced

@@ -1,9 +1,11 @@
--- The state of a codec between two bytes: its rule, the designated character set and the pending bytes.
+-- The state of a codec between two bytes: its rule, the designated character set and the pending
+-- bytes.
 use Rattle.std.specs.Prelude.{ℕ, List, ◌++◌}
 use Rattle.enc_decoder.specs.Segmentation.{Rule, sequences_of}
 use Rattle.enc_decoder.specs.Remainder.{Remainder}
 
--- its rule, the designated character set, and the pending bytes (read, and their sequence not yet put out)
+-- its rule, the designated character set, and the pending bytes (read, and their sequence not yet
+-- put out)
 pub record CodecState : Type 0 where
   pub rule : Rule
   pub set : ℕ

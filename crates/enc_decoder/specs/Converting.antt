@@ -8,13 +8,16 @@ use Rattle.enc_decoder.specs.Remainder.{Remainder}
 use Rattle.enc_decoder.specs.Call.{DecoderCall, DecodeErrorMode}
 
 -- A call over all of them, which appends what it writes to an output.
-pub record PrefixedCallInto (units_of : ℕ → List ℕ) (old new : Remainder) (src : List ℕ) (last : Bool) (mode : DecodeErrorMode) (before after : Output) (result : DecoderResult) (read : ℕ) (replaced : Bool) : Type 0 where
+pub record PrefixedCallInto (units_of : ℕ → List ℕ) (old new : Remainder) (src : List ℕ)
+    (last : Bool) (mode : DecodeErrorMode) (before after : Output) (result : DecoderResult)
+    (read : ℕ) (replaced : Bool) : Type 0 where
   pub wrote : List ℕ
   pub onto : after ≡ with_appended before wrote
   pub call : DecoderCall units_of old new src last mode before.room result read wrote replaced
   pub accounted : old.pending ++ take read src ≡ sequence_bytes call.done ++ new.pending
 
--- `left` held bytes are unread, and `read` of the others are read: none of them while a held one is unread.
+-- `left` held bytes are unread, and `read` of the others are read: none of them while a held one is
+-- unread.
 pub record ReadsHeldFirst (held src : List ℕ) (left read : ℕ) : Type 0 where
   pub within : read ≤ length src
   pub most : left ≤ length held

@@ -1,5 +1,5 @@
--- The Latin-1 prefix of a decoder's next input: bytes that are the characters with their numbers (the Unicode
--- Standard's block of Latin-1 has the code points 00 to FF).
+-- The Latin-1 prefix of a decoder's next input: bytes that are the characters with their numbers
+-- (the Unicode Standard's block of Latin-1 has the code points 00 to FF).
 use Rattle.std.specs.Prelude.{◌≡◌, ℕ, ◌+◌, ◌<◌, ◌≤◌, Option, Some, None, List, [], ◌∷◌, ◌++◌, length, take, slice_index}
 use Rattle.enc_decoder.specs.declared.byte_codec.Kind.TheVariants.{Valid}
 use Rattle.enc_decoder.specs.Sequence.{Sequence}
@@ -20,25 +20,31 @@ AreLatin1Sequences [] (b ∷ z) = ⊥
 AreLatin1Sequences (s ∷ ss) [] = ⊥
 AreLatin1Sequences (s ∷ ss) (b ∷ z) = IsLatin1Sequence s b × AreLatin1Sequences ss z
 
--- The first k bytes are so, each a sequence by itself, whatever follows. The byte after them is not.
-pub record IsLatin1Prefix (remaining : List ℕ → List Sequence) (bytes : List ℕ) (k : ℕ) : Type 0 where
-  pub within : k ≤ length bytes
-  pub front : List Sequence
-  pub themselves : AreLatin1Sequences front (take k bytes)
-  pub first : Determines remaining (take k bytes) front
-  pub longest : k < length bytes → (s : Sequence) → IsLatin1Sequence s (slice_index bytes k) → Determines remaining (take (k + 1) bytes) (front ++ s ∷ []) → ⊥
+-- The first k bytes are so, each a sequence by itself, whatever follows. The byte after them is
+-- not.
+pub record IsLatin1Prefix (remaining : List ℕ → List Sequence) (bytes : List ℕ) (k : ℕ) : Type 0
+  where
+    pub within : k ≤ length bytes
+    pub front : List Sequence
+    pub themselves : AreLatin1Sequences front (take k bytes)
+    pub first : Determines remaining (take k bytes) front
+    pub longest : k < length bytes → (s : Sequence) → IsLatin1Sequence s (slice_index bytes k)
+        → Determines remaining (take (k + 1) bytes) (front ++ s ∷ []) → ⊥
 
 -- At the start no byte is a valid sequence by itself.
 abbrev pub HasNoByteSequences : Rule → Type 0
 HasNoByteSequences rule = (b : ℕ) (z : List ℕ) → (rule 0 b z).kind ≡ Valid → 0 < (rule 0 b z).more
 
--- A byte may be so: nothing is pending, the designated character set is that of the start, and there are such bytes.
+-- A byte may be so: nothing is pending, the designated character set is that of the start, and
+-- there are such bytes.
 pub record CodecMayBeLatin1 (s : CodecState) : Type 0 where
   pub none_pending : s.pending ≡ []
   pub at_start : s.set ≡ 0
   pub has_bytes : ¬ (HasNoByteSequences s.rule)
 
--- the answer for these bytes: `None` if no byte may be so, and otherwise the length of a prefix that is
+-- the answer for these bytes: `None` if no byte may be so, and otherwise the length of a prefix
+-- that is
 abbrev pub AnswersCodecLatin1 : CodecState → List ℕ → Option ℕ → Type 0
 AnswersCodecLatin1 s bytes None = ¬ (CodecMayBeLatin1 s)
-AnswersCodecLatin1 s bytes (Some k) = CodecMayBeLatin1 s × IsLatin1Prefix (remainder_of s).sequences bytes k
+AnswersCodecLatin1 s bytes (Some k) = CodecMayBeLatin1 s
+    × IsLatin1Prefix (remainder_of s).sequences bytes k

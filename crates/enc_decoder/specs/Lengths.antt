@@ -8,7 +8,8 @@ use Rattle.enc_decoder.specs.declared.text_lengths.TextLengths.TheVariants.{Mult
 -- For n more bytes, if h are pending: into UTF-8 with replacement,
 abbrev pub utf_8_length : TextLengths → ℕ → ℕ → Option ℕ
 utf_8_length Utf8 n h = checked_add (checked_mul (checked_add (Some n) h) 3) 3
-utf_8_length Utf16 n h = checked_add (checked_mul (checked_half (checked_add (checked_add (Some n) h) 1)) 3) 1
+utf_8_length Utf16 n h =
+    checked_add (checked_mul (checked_half (checked_add (checked_add (Some n) h) 1)) 3) 1
 utf_8_length OneByte n h = checked_mul (Some n) 3
 utf_8_length Replacement n h = Some 3
 utf_8_length MultiByte n h = checked_mul (checked_add (Some n) h) 3
@@ -16,7 +17,8 @@ utf_8_length MultiByte n h = checked_mul (checked_add (Some n) h) 3
 -- into UTF-8 without replacement,
 abbrev pub reporting_length : TextLengths → ℕ → ℕ → Option ℕ
 reporting_length Utf8 n h = checked_add (checked_add (Some n) h) 3
-reporting_length Utf16 n h = checked_add (checked_mul (checked_half (checked_add (checked_add (Some n) h) 1)) 3) 1
+reporting_length Utf16 n h =
+    checked_add (checked_mul (checked_half (checked_add (checked_add (Some n) h) 1)) 3) 1
 reporting_length OneByte n h = checked_mul (Some n) 3
 reporting_length Replacement n h = Some 3
 reporting_length MultiByte n h = checked_mul (checked_add (Some n) h) 3

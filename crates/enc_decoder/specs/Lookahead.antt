@@ -10,4 +10,5 @@ CoverLookahead rule set z [] k = Unit {0}
 CoverLookahead rule set [] (s ∷ ss) k = ⊥
 CoverLookahead rule set (b ∷ z) (s ∷ ss) k =
     ((n : ℕ) × IsLookahead rule set b z n × (1 + (rule set b z).more + n ≤ k))
-    × CoverLookahead rule (rule set b z).set (drop (rule set b z).more z) ss (k - (1 + (rule set b z).more))
+    × CoverLookahead rule (rule set b z).set (drop (rule set b z).more z) ss
+    (k - (1 + (rule set b z).more))

@@ -2,8 +2,8 @@
 use Rattle.std.specs.Prelude.{◌≡◌, ℕ, ◌<◌, Bool, true, false, List, [], ◌∷◌, ◌++◌}
 use Rattle.enc_decoder.specs.Sequence.{Sequence}
 
--- A decoder between two calls: the pending bytes (read, and their sequence not yet put out), the designated character
--- set, and the sequences still to come if exactly these bytes follow.
+-- A decoder between two calls: the pending bytes (read, and their sequence not yet put out), the
+-- designated character set, and the sequences still to come if exactly these bytes follow.
 pub record Remainder : Type 0 where
   pub pending : List ℕ
   pub set : ℕ

@@ -20,7 +20,8 @@ pub record IsSmallText (text : List ℕ) : Type 0 where
 abbrev pub HasSmallTexts : Rule → Type 0
 HasSmallTexts rule = (set b : ℕ) (z : List ℕ) → IsSmallText (rule set b z).text
 
--- The first sequence is determined by its own bytes and the next n: it is the same whatever follows those.
+-- The first sequence is determined by its own bytes and the next n: it is the same whatever follows
+-- those.
 pub record IsDeterminedWithin (rule : Rule) (set b : ℕ) (z : List ℕ) (n : ℕ) : Type 0 where
   pub there : (rule set b z).more + n ≤ length z
   pub same : (y : List ℕ) → rule set b (take ((rule set b z).more + n) z ++ y) ≡ rule set b z
@@ -29,9 +30,11 @@ pub record IsDeterminedWithin (rule : Rule) (set b : ℕ) (z : List ℕ) (n : �
 pub record IsLookahead (rule : Rule) (set b : ℕ) (z : List ℕ) (n : ℕ) : Type 0 where
   pub determined : IsDeterminedWithin rule set b z n
   pub least : AreBytes z → (m : ℕ) → m < n
-      → ((y : List ℕ) → AreBytes y → rule set b (take ((rule set b z).more + m) z ++ y) ≡ rule set b z) → ⊥
+      → ((y : List ℕ) → AreBytes y
+      → rule set b (take ((rule set b z).more + m) z ++ y) ≡ rule set b z) → ⊥
 
--- Only the end of the input determines it, at most three bytes after it: it is another if the bytes `more` follow.
+-- Only the end of the input determines it, at most three bytes after it: it is another if the bytes
+-- `more` follow.
 pub record IsDeterminedByEnd (rule : Rule) (set b : ℕ) (z : List ℕ) : Type 0 where
   pub within : (rule set b z).more ≤ length z
   pub more : List ℕ
@@ -41,11 +44,14 @@ pub record IsDeterminedByEnd (rule : Rule) (set b : ℕ) (z : List ℕ) : Type 0
 
 -- at most three bytes after it, or only the end, determine it
 abbrev pub HasBoundedLookahead : Rule → ℕ → ℕ → List ℕ → Type 0
-HasBoundedLookahead rule set b z = ((n : ℕ) × (n ≤ 3) × IsLookahead rule set b z n) ⊎ IsDeterminedByEnd rule set b z
+HasBoundedLookahead rule set b z = ((n : ℕ) × (n ≤ 3) × IsLookahead rule set b z n)
+    ⊎ IsDeterminedByEnd rule set b z
 
--- The lookahead of a decoder: 0 for a valid sequence, and at most three bytes for a malformed or skipped one.
+-- The lookahead of a decoder: 0 for a valid sequence, and at most three bytes for a malformed or
+-- skipped one.
 pub record HasLookahead (rule : Rule) : Type 0 where
-  pub valid : (set b : ℕ) (z : List ℕ) → (rule set b z).kind ≡ Valid → IsDeterminedWithin rule set b z 0
+  pub valid : (set b : ℕ) (z : List ℕ) → (rule set b z).kind ≡ Valid
+      → IsDeterminedWithin rule set b z 0
   pub others : (set b : ℕ) (z : List ℕ) → HasBoundedLookahead rule set b z
 
 -- the laws of every encoding's rule

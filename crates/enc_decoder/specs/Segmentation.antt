@@ -5,8 +5,8 @@ use Rattle.enc_decoder.specs.declared.byte_codec.Kind.{Kind}
 use Rattle.enc_decoder.specs.declared.byte_codec.Kind.TheVariants.{Valid, Malformed}
 use Rattle.enc_decoder.specs.Sequence.{Sequence}
 
--- The first sequence: the number of its bytes after the first, its text and kind, and the character set designated
--- after it.
+-- The first sequence: the number of its bytes after the first, its text and kind, and the character
+-- set designated after it.
 pub record Head : Type 0 where
   pub more : ℕ
   pub text : List ℕ
@@ -25,14 +25,20 @@ abbrev pub one_byte_head : ℕ → Option ℕ → Head
 one_byte_head set (Some c) = character_head set 0 c
 one_byte_head set None = malformed_head set 0
 
--- An encoding's rule gives the first sequence, by the designated character set, the first byte and all bytes after it,
--- to the end of the input.
+-- An encoding's rule gives the first sequence, by the designated character set, the first byte and
+-- all bytes after it, to the end of the input.
 abbrev pub Rule : Type 0
 Rule = ℕ → ℕ → List ℕ → Head
 
 -- the first sequence, with its bytes
 abbrev pub head_sequence : Head → ℕ → List ℕ → Sequence
-head_sequence h b z = record { bytes = b ∷ take h.more z; text = h.text; kind = h.kind; set = h.set }
+head_sequence h b z = record {
+  bytes = b ∷ take h.more z;
+  text = h.text;
+  kind = h.kind;
+  set =
+      h.set;
+}
 
 -- the sequences after the first k bytes
 unfoldable pub sequences_after : Rule → ℕ → ℕ → List ℕ → List Sequence
@@ -49,4 +55,5 @@ sequences_of rule set z = sequences_after rule set 0 z
 abbrev pub IsSegmentation : Rule → ℕ → List ℕ → List Sequence → Type 0
 IsSegmentation rule set z [] = z ≡ []
 IsSegmentation rule set [] (s ∷ ss) = ⊥
-IsSegmentation rule set (b ∷ z) (s ∷ ss) = (s ≡ head_sequence (rule set b z) b z) × IsSegmentation rule (rule set b z).set (drop (rule set b z).more z) ss
+IsSegmentation rule set (b ∷ z) (s ∷ ss) = (s ≡ head_sequence (rule set b z) b z)
+    × IsSegmentation rule (rule set b z).set (drop (rule set b z).more z) ss

@@ -1,10 +1,11 @@
--- Sequences of bytes: valid, malformed or skipped, with their texts (Encoding Standard 4.1, "handler").
+-- Sequences of bytes: valid, malformed or skipped, with their texts (Encoding Standard 4.1,
+-- "handler").
 use Rattle.std.specs.Prelude.{ℕ, Bool, true, false, ◌||◌, List, [], ◌∷◌, ◌++◌}
 use Rattle.enc_decoder.specs.declared.byte_codec.Kind.{Kind}
 use Rattle.enc_decoder.specs.declared.byte_codec.Kind.TheVariants.{Valid, Skipped, Malformed, RepeatedEscape}
 
--- A sequence: its bytes, its text (the characters of a valid one, nothing for a skipped one, U+FFFD for a malformed
--- one), its kind, and the character set designated after it.
+-- A sequence: its bytes, its text (the characters of a valid one, nothing for a skipped one, U+FFFD
+-- for a malformed one), its kind, and the character set designated after it.
 pub record Sequence : Type 0 where
   pub bytes : List ℕ
   pub text : List ℕ
@@ -18,8 +19,9 @@ is_malformed Skipped = false
 is_malformed Malformed = true
 is_malformed RepeatedEscape = true
 
--- An escape sequence that another one directly follows is malformed. The last byte of the other determines it, and is
--- read when it is reported. The byte that determines any other malformed sequence stays unread, unless it is its own.
+-- An escape sequence that another one directly follows is malformed. The last byte of the other
+-- determines it, and is read when it is reported. The byte that determines any other malformed
+-- sequence stays unread, unless it is its own.
 abbrev pub is_repeated_escape : Kind → Bool
 is_repeated_escape Valid = false
 is_repeated_escape Skipped = false

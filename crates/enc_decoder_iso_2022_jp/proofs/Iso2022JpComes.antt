@@ -51,25 +51,37 @@ pub shows_malformed : (s : CharacterSet) (held : Held) (b : ℕ) (next : Option 
     → IsNextSequence jp_state (state_with_held s (Some held)) (CutsOffHeld held) []
     (char_or_malformed None 1 false (state_with_held s next))
 shows_malformed s held b next parts l f =
-    shows_before jp_state (state_with_held s (Some held)) (state_with_held s next) (One 0xFFFD) Malformed 1
+    shows_before jp_state (state_with_held s (Some held)) (state_with_held s next) (One 0xFFFD)
+    Malformed 1
     (CutsOffHeld held) (b ∷ []) refl
     parts refl (omega arith) refl (λ _. (refl, (omega arith, l, omega arith)))
-    (λ y m. rw parts (sequences_of-head jp_rule (set_number s) b (bytes_of_held next ++ y) _ (f y m)))
+    (λ y m. rw parts (sequences_of-head jp_rule (set_number s) b (bytes_of_held next ++ y) _
+    (f y m)))
 
 -- an escape sequence
 pub shows_skipped : (s : CharacterSet) (held : Held) (e : Escape) (next : Option Held)
     → bytes_of_held (Some held) ≡ escape_bytes e ++ bytes_of_held next
     → ((y : List ℕ) → CutsOffHeld held y → designated_set (bytes_of_held next ++ y) ≡ None)
     → IsNextSequence jp_state (state_with_held s (Some held)) (CutsOffHeld held) []
-    (record { text = Nothing; kind = Skipped; len = 3; takes_byte = false; next = state_with_held (escape_set e) next })
+    (record {
+      text = Nothing;
+      kind = Skipped;
+      len = 3;
+      takes_byte = false;
+      next =
+          state_with_held (escape_set e) next;
+    })
 shows_skipped s held e next parts f =
-    shows_before jp_state (state_with_held s (Some held)) (state_with_held (escape_set e) next) Nothing Skipped 3
+    shows_before jp_state (state_with_held s (Some held)) (state_with_held (escape_set e) next)
+    Nothing Skipped 3
     (CutsOffHeld held)
     (escape_bytes e) refl parts (three e) (omega arith) refl (λ m. cc)
-    (λ y m. rw parts (rw append_assoc (skipped_escape (set_number s) e (bytes_of_held next ++ y) (f y m))))
+    (λ y m. rw parts (rw append_assoc
+    (skipped_escape (set_number s) e (bytes_of_held next ++ y) (f y m))))
 
 -- a byte that stands alone
-pub alone : (s : CharacterSet) (b : ℕ) (found : Option ℕ) → found ≡ one_byte_char s b → is_lead_byte s b ≡ false
+pub alone : (s : CharacterSet) (b : ℕ) (found : Option ℕ) → found ≡ one_byte_char s b
+    → is_lead_byte s b ≡ false
     → eqb b 0x1B ≡ false
     → (y : List ℕ) → jp_rule (set_number s) b y ≡ one_byte_head (set_number s) found
 alone s b found e l n y =
@@ -78,36 +90,49 @@ alone s b found e l n y =
 
 pub shows_given_back : (s : CharacterSet) (b : ℕ) (found : Option ℕ) → found ≡ one_byte_char s b
     → CanHold s (Some (GivenBack b))
-    → IsNextSequence jp_state (state_with_held s (Some (GivenBack b))) (CutsOffHeld (GivenBack b)) [] (char_or_malformed found 1 false (state_with_held s None))
+    → IsNextSequence jp_state (state_with_held s (Some (GivenBack b))) (CutsOffHeld (GivenBack b))
+    [] (char_or_malformed found 1 false (state_with_held s None))
 shows_given_back s b None is_char can_hold =
-    shows_malformed s (GivenBack b) b None refl (omega arith) (λ y _. alone s b None is_char can_hold.0 can_hold.1 y)
+    shows_malformed s (GivenBack b) b None refl (omega arith)
+    (λ y _. alone s b None is_char can_hold.0 can_hold.1 y)
 shows_given_back s b (Some d) is_char can_hold =
-    shows_before jp_state (state_with_held s (Some (GivenBack b))) (state_with_held s None) (One d) Valid 1
+    shows_before jp_state (state_with_held s (Some (GivenBack b))) (state_with_held s None) (One d)
+    Valid 1
     (CutsOffHeld (GivenBack b)) (b ∷ []) refl refl refl (omega arith) refl (λ m. cc)
-    (λ y _. sequences_of-head jp_rule (set_number s) b y _ (alone s b (Some d) is_char can_hold.0 can_hold.1 y))
+    (λ y _. sequences_of-head jp_rule (set_number s) b y _
+    (alone s b (Some d) is_char can_hold.0 can_hold.1 y))
 
 pub shows_alone : (s : CharacterSet) (b : ℕ) (found : Option ℕ) → found ≡ one_byte_char s b
     → is_lead_byte s b ≡ false → eqb b 0x1B ≡ false
-    → HandlesByte jp_state (state_with_held s None) b (Emit (char_or_malformed found 1 true (state_with_held s None)))
+    → HandlesByte jp_state (state_with_held s None) b
+    (Emit (char_or_malformed found 1 true (state_with_held s None)))
 shows_alone s b None is_char no_lead no_escape =
-    shows_with jp_state (state_with_held s None) (state_with_held s None) (One 0xFFFD) Malformed 1 b refl refl refl refl
+    shows_with jp_state (state_with_held s None) (state_with_held s None) (One 0xFFFD) Malformed 1 b
+    refl refl refl refl
     (λ _. (refl, omega arith)) (λ y. sequences_of-head jp_rule (set_number s) b y _
     (alone s b None is_char no_lead no_escape y))
 shows_alone s b (Some d) is_char no_lead no_escape =
-    shows_with jp_state (state_with_held s None) (state_with_held s None) (One d) Valid 1 b refl refl refl refl
+    shows_with jp_state (state_with_held s None) (state_with_held s None) (One d) Valid 1 b refl
+    refl refl refl
     (λ m. cc)
-    (λ y. sequences_of-head jp_rule (set_number s) b y _ (alone s b (Some d) is_char no_lead no_escape y))
+    (λ y. sequences_of-head jp_rule (set_number s) b y _
+    (alone s b (Some d) is_char no_lead no_escape y))
 
 -- a byte with the high bit set is malformed by itself
-pub shows_high : (s : CharacterSet) (b : ℕ) → 0x80 ≤ b → HandlesByte jp_state (state_with_held s None) b (Emit (lone_fault (state_with_held s None)))
+pub shows_high : (s : CharacterSet) (b : ℕ) → 0x80 ≤ b
+    → HandlesByte jp_state (state_with_held s None) b (Emit (lone_fault (state_with_held s None)))
 shows_high s b is_high =
-    shows_alone s b None (sym (high_is_none s b is_high)) (high_leads_none s b is_high) (high_is_no_escape b is_high)
+    shows_alone s b None (sym (high_is_none s b is_high)) (high_leads_none s b is_high)
+    (high_is_no_escape b is_high)
 
 -- a lead byte, and the byte after it
 
-lead_cut_off : (s : CharacterSet) (b : ℕ) → is_lead_byte s b ≡ true → (y : List ℕ) → cuts_off_lead y ≡ true
-    → jp_rule (set_number s) b y ≡ record { more = 0; text = 0xFFFD ∷ []; kind = Malformed; set = set_number s }
-lead_cut_off s b l y m = lead_first (set_number s) b y (rw set_of_number l) ∙ lead_alone (set_number s) b y m
+lead_cut_off : (s : CharacterSet) (b : ℕ) → is_lead_byte s b ≡ true → (y : List ℕ)
+    → cuts_off_lead y ≡ true
+    → jp_rule (set_number s) b y
+    ≡ record { more = 0; text = 0xFFFD ∷ []; kind = Malformed; set = set_number s }
+lead_cut_off s b l y m = lead_first (set_number s) b y (rw set_of_number l)
+    ∙ lead_alone (set_number s) b y m
 
 pub shows_lead : (s : CharacterSet) (b : ℕ) → is_lead_byte s b ≡ true
     → IsNextSequence jp_state (state_with_held s (Some (Lead b))) (CutsOffHeld (Lead b)) []
@@ -118,7 +143,8 @@ pub pair : (s : CharacterSet) (lead b : ℕ) (found : Option ℕ) → found ≡ 
     → is_lead_byte s lead ≡ true → eqb b 0x1B ≡ false
     → (y : List ℕ) → jp_rule (set_number s) lead (b ∷ y) ≡ two_byte_head (set_number s) found
 pair s lead b found e l n y =
-    lead_first (set_number s) lead (b ∷ y) (rw set_of_number l) ∙ lead_and_trail (set_number s) lead b y n
+    lead_first (set_number s) lead (b ∷ y) (rw set_of_number l)
+    ∙ lead_and_trail (set_number s) lead b y n
     ∙ ap (two_byte_head (set_number s)) (sym e)
 
 pub shows_pair : (s : CharacterSet) (lead b : ℕ) (found : Option ℕ) → found ≡ two_byte_char lead b
@@ -126,18 +152,23 @@ pub shows_pair : (s : CharacterSet) (lead b : ℕ) (found : Option ℕ) → foun
     → HandlesByte jp_state (state_with_held s (Some (Lead lead))) b
     (Emit (char_or_malformed found 2 true (state_with_held s None)))
 shows_pair s lead b None is_char leads no_escape =
-    shows_with jp_state (state_with_held s (Some (Lead lead))) (state_with_held s None) (One 0xFFFD) Malformed 2 b refl
+    shows_with jp_state (state_with_held s (Some (Lead lead))) (state_with_held s None) (One 0xFFFD)
+    Malformed 2 b refl
     refl refl refl
     (λ _. (refl, omega arith))
-    (λ y. sequences_of-head jp_rule (set_number s) lead (b ∷ y) _ (pair s lead b None is_char leads no_escape y))
+    (λ y. sequences_of-head jp_rule (set_number s) lead (b ∷ y) _
+    (pair s lead b None is_char leads no_escape y))
 shows_pair s lead b (Some d) is_char leads no_escape =
-    shows_with jp_state (state_with_held s (Some (Lead lead))) (state_with_held s None) (One d) Valid 2 b refl refl refl
+    shows_with jp_state (state_with_held s (Some (Lead lead))) (state_with_held s None) (One d)
+    Valid 2 b refl refl refl
     refl (λ m. cc)
-    (λ y. sequences_of-head jp_rule (set_number s) lead (b ∷ y) _ (pair s lead b (Some d) is_char leads no_escape y))
+    (λ y. sequences_of-head jp_rule (set_number s) lead (b ∷ y) _
+    (pair s lead b (Some d) is_char leads no_escape y))
 
 -- an escape sequence that another follows directly
 
-another_designates : (f : Escape) (i : Intermediate) (b : ℕ) → escape_bytes f ≡ 0x1B ∷ intermediate_byte i ∷ b ∷ []
+another_designates : (f : Escape) (i : Intermediate) (b : ℕ)
+    → escape_bytes f ≡ 0x1B ∷ intermediate_byte i ∷ b ∷ []
     → (y : List ℕ) → designated_set (0x1B ∷ intermediate_byte i ∷ b ∷ y) ≡ Some (escape_set f)
 another_designates f i b h y = ap (λ x. designated_set (x ++ y)) (sym h) ∙ designated_by f y
 
@@ -158,10 +189,17 @@ shows_repeated s e f i b is_escape = (
     len = three e;
     parts = append_assoc (escape_bytes e) (0x1B ∷ intermediate_byte i ∷ []) (b ∷ [])
         ∙ ap (λ x. escape_bytes e ++ x) (sym is_escape);
-    first = λ y _. ap (sequences_of jp_rule (set_number s)) (append_assoc (escape_bytes e) (0x1B ∷ intermediate_byte i ∷ []) (b ∷ y))
+    first = λ y _. ap (sequences_of jp_rule (set_number s))
+        (append_assoc (escape_bytes e) (0x1B ∷ intermediate_byte i ∷ []) (b ∷ y))
         ∙ repeated_escape (set_number s) e (0x1B ∷ intermediate_byte i ∷ b ∷ y) (escape_set f)
         (another_designates f i b is_escape y)
-        ∙ ap (λ x. record { bytes = escape_bytes e; text = 0xFFFD ∷ []; kind = RepeatedEscape; set = set_number (escape_set e) }
+        ∙ ap (λ x. record {
+          bytes = escape_bytes e;
+          text = 0xFFFD ∷ [];
+          kind = RepeatedEscape;
+          set =
+              set_number (escape_set e);
+        }
         ∷ sequences_of jp_rule (set_number (escape_set e)) (x ++ y)) (sym is_escape);
     same_rule = refl;
     replacement = λ _. refl;

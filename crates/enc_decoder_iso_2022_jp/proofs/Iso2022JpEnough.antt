@@ -24,7 +24,8 @@ either : (z : List ℕ) (t : Bool) (x y : Head) → IsFew z x → IsFew z y → 
 either z true x y f g = f
 either z false x y f g = g
 
-escape_few : (z : List ℕ) (set : ℕ) (s : Option CharacterSet) (another : Bool) → IsFew z (escape_head set s another)
+escape_few : (z : List ℕ) (set : ℕ) (s : Option CharacterSet) (another : Bool)
+    → IsFew z (escape_head set s another)
 escape_few z set None another n = replaced
 escape_few z set (Some s) true n = replaced
 escape_few z set (Some s) false n = none_basic
@@ -35,7 +36,8 @@ pair_few set c z (Some a) n = absurd (omega arith)
 
 lead_few : (set b : ℕ) (z : List ℕ) → IsFew z (lead_byte_head set b z)
 lead_few set b [] = λ n. replaced
-lead_few set b (c ∷ z) = either (c ∷ z) (eqb c 0x1B) _ _ (λ n. replaced) (pair_few set c z (two_byte_char b c))
+lead_few set b (c ∷ z) =
+    either (c ∷ z) (eqb c 0x1B) _ _ (λ n. replaced) (pair_few set c z (two_byte_char b c))
 
 alone_is_basic : (s : CharacterSet) (b c : ℕ) → one_byte_char s b ≡ Some c → c < 0x1_0000
 unfolding one_byte_char
@@ -44,7 +46,8 @@ alone_is_basic Roman b c e = grind (arith, nat_tests)
 alone_is_basic Katakana b c e = grind (arith, nat_tests)
 alone_is_basic Jis0208 b c e = absurd (cc)
 
-alone_few : (set b : ℕ) (z : List ℕ) (s : CharacterSet) (found : Option ℕ) → one_byte_char s b ≡ found → IsFew z (one_byte_head set found)
+alone_few : (set b : ℕ) (z : List ℕ) (s : CharacterSet) (found : Option ℕ)
+    → one_byte_char s b ≡ found → IsFew z (one_byte_head set found)
 alone_few set b z s None e n = replaced
 alone_few set b z s (Some c) e n = basic_by c (alone_is_basic s b c e)
 
@@ -52,7 +55,8 @@ each_few : (set b : ℕ) (z : List ℕ) → IsFew z (jp_rule set b z)
 unfolding jp_rule
 each_few set b z =
     either z (eqb b 0x1B) _ _ (escape_few z set _ _)
-    (either z (is_lead_byte (set_of set) b) _ _ (lead_few set b z) (alone_few set b z (set_of set) _ refl))
+    (either z (is_lead_byte (set_of set) b) _ _ (lead_few set b z)
+    (alone_few set b z (set_of set) _ refl))
 
 few : HasFewUnits jp_rule
 few = few_by_single_bytes jp_rule iso_2022_jp_is_lawful.small_texts each_few

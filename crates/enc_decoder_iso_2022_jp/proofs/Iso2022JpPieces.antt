@@ -47,24 +47,29 @@ none_some c e = cc
 
 other_alone : (s : CharacterSet) (b c : ℕ) → one_byte_char s b ≡ Some c → eqb b 0x1B ≡ false
 other_alone s b c e = elim (true_or_false (eqb b 0x1B)) [
-  | inl t ↦ absurd (none_some c (sym (none_alone s) ∙ ap (one_byte_char s) (sym (is_escape_byte b t)) ∙ e))
+  | inl t ↦ absurd (none_some c
+      (sym (none_alone s) ∙ ap (one_byte_char s) (sym (is_escape_byte b t)) ∙ e))
   | inr n ↦ n
 ]
 
 other_after : (lead b c : ℕ) → two_byte_char lead b ≡ Some c → eqb b 0x1B ≡ false
 other_after lead b c e = elim (true_or_false (eqb b 0x1B)) [
-  | inl t ↦ absurd (none_some c (sym (none_after lead) ∙ ap (two_byte_char lead) (sym (is_escape_byte b t)) ∙ e))
+  | inl t ↦ absurd (none_some c
+      (sym (none_after lead) ∙ ap (two_byte_char lead) (sym (is_escape_byte b t)) ∙ e))
   | inr n ↦ n
 ]
 
 -- a byte that is a character, and two
 
-pub alone_piece : (s : CharacterSet) (b c : ℕ) → one_byte_char s b ≡ Some c → is_lead_byte s b ≡ false
+pub alone_piece : (s : CharacterSet) (b c : ℕ) → one_byte_char s b ≡ Some c
+    → is_lead_byte s b ≡ false
     → IsWholeChar jp_rule (set_number s) (b ∷ []) c
 alone_piece s b c is_char l y =
-    sequences_of-head jp_rule (set_number s) b y _ (alone s b (Some c) (sym is_char) l (other_alone s b c is_char) y)
+    sequences_of-head jp_rule (set_number s) b y _
+    (alone s b (Some c) (sym is_char) l (other_alone s b c is_char) y)
 
-pub pair_piece : (s : CharacterSet) (lead b c : ℕ) → two_byte_char lead b ≡ Some c → is_lead_byte s lead ≡ true
+pub pair_piece : (s : CharacterSet) (lead b c : ℕ) → two_byte_char lead b ≡ Some c
+    → is_lead_byte s lead ≡ true
     → IsWholeChar jp_rule (set_number s) (lead ∷ b ∷ []) c
 pair_piece s lead b c is_char l y =
     sequences_of-head jp_rule (set_number s) lead (b ∷ y) _
@@ -73,7 +78,13 @@ pair_piece s lead b c is_char l y =
 -- an escape sequence, and the bytes after it
 
 abbrev skipped : Escape → Sequence
-skipped e = record { bytes = escape_bytes e; text = []; kind = Skipped; set = set_number (escape_set e) }
+skipped e = record {
+  bytes = escape_bytes e;
+  text = [];
+  kind = Skipped;
+  set =
+      set_number (escape_set e);
+}
 
 three_first : (e : Escape) (z : List ℕ) → (take 3 (escape_bytes e ++ z) ≡ escape_bytes e)
     × (drop 3 (escape_bytes e ++ z) ≡ z)
@@ -84,9 +95,11 @@ three_first ToJis0208Of1978 z = (refl, refl)
 three_first ToJis0208Of1983 z = (refl, refl)
 
 -- the escape sequence of three bytes in front, if they are one
-pub stands_alone : (src : List ℕ) (i : Intermediate) (found : Option Escape) → 3 < length src → get_or src 0 0 ≡ 0x1B
+pub stands_alone : (src : List ℕ) (i : Intermediate) (found : Option Escape) → 3 < length src
+    → get_or src 0 0 ≡ 0x1B
     → get_or src 1 0 ≡ intermediate_byte i
-    → eqb (get_or src 3 0) 0x1B ≡ false → IfSome found (λ e. escape_bytes e ≡ 0x1B ∷ intermediate_byte i ∷ get_or src 2
+    → eqb (get_or src 3 0) 0x1B ≡ false
+    → IfSome found (λ e. escape_bytes e ≡ 0x1B ∷ intermediate_byte i ∷ get_or src 2
     0 ∷ [])
     → IfSome found (λ e. StandsAlone src e)
 stands_alone src i None l first second other s = tt
@@ -96,14 +109,17 @@ stands_alone src i (Some e) l first second other s =
     record {
       byte = get_or src 3 0;
       rest = drop 4 src;
-      bytes = sym (take-append-drop 3 src) ∙ ap (λ x. x ++ drop 3 src) (three_of src 0 (omega arith) ∙ names_set)
+      bytes = sym (take-append-drop 3 src)
+          ∙ ap (λ x. x ++ drop 3 src) (three_of src 0 (omega arith) ∙ names_set)
           ∙ ap (λ x. escape_bytes e ++ x) (drop-cons src 3 0 l);
       other = other;
     }
 
-after_escape : (units_of : ℕ → List ℕ) (s : CharacterSet) (e : Escape) (n : Iso2022JpState) (src : List ℕ) (more : ℕ)
+after_escape : (units_of : ℕ → List ℕ) (s : CharacterSet) (e : Escape) (n : Iso2022JpState)
+    (src : List ℕ) (more : ℕ)
     (before after : Output)
-    → StandsAlone src e → 0 < more → TakesRun units_of jp_state (state_with_held (escape_set e) None) n
+    → StandsAlone src e → 0 < more
+    → TakesRun units_of jp_state (state_with_held (escape_set e) None) n
     (drop 3 src) more before after
     → TakesRun units_of jp_state (state_with_held s None) n src (3 + more) before after
 after_escape units_of s e n src more before after is_alone some taken =
@@ -114,12 +130,14 @@ after_escape units_of s e n src more before after is_alone some taken =
     record {
       taken = skipped e ∷ taken.taken;
       within = omega (arith, some, taken.within, length-drop 3 src);
-      bytes = ap (λ z. escape_bytes e ++ z) taken.bytes ∙ ap (λ x. x ++ bytes) (sym three) ∙ sym (take-add 3 more src);
+      bytes = ap (λ z. escape_bytes e ++ z) taken.bytes ∙ ap (λ x. x ++ bytes) (sym three)
+          ∙ sym (take-add 3 more src);
       first = λ y. ap (sequences_of jp_rule (set_number s)) (ap (λ x. x ++ y) (take-add 3 more src)
           ∙ append_assoc (take 3 src) bytes y
           ∙ ap (λ x. x ++ (bytes ++ y)) three)
           ∙ skipped_escape (set_number s) e (bytes ++ y)
-          (ap (λ x. designated_set (x ++ y)) begins.1 ∙ other_front is_alone.byte (begins.0 ++ y) is_alone.other)
+          (ap (λ x. designated_set (x ++ y)) begins.1
+          ∙ other_front is_alone.byte (begins.0 ++ y) is_alone.other)
           ∙ ap (λ ss. skipped e ∷ ss) (taken.first y);
       next_state = taken.next_state;
       none_malformed = taken.none_malformed;
@@ -131,25 +149,34 @@ after_escape units_of s e n src more before after is_alone some taken =
     }
 
 -- An escape sequence is taken with the pieces after it.
-pub takes_escape : (units_of : ℕ → List ℕ) (c n : Iso2022JpState) (e : Escape) {src rest : List ℕ} {more : ℕ}
+pub takes_escape : (units_of : ℕ → List ℕ) (c n : Iso2022JpState) (e : Escape) {src rest : List ℕ}
+    {more : ℕ}
     {before after : Output}
-    → c.held ≡ None → n ≡ state_with_held (escape_set e) None → rest ≡ drop 3 src → StandsAlone src e → 0 < more
+    → c.held ≡ None → n ≡ state_with_held (escape_set e) None → rest ≡ drop 3 src
+    → StandsAlone src e → 0 < more
     → PutsPieces units_of (IsWholeChar jp_rule (set_number n.set)) before after rest more
     → TakesRun units_of jp_state c n src (3 + more) before after
 takes_escape units_of c n e {src} {rest} {more} {before} {after} held next back a h p =
     let pieces_taken = takes_pieces units_of jp_state n rest more before after
     (ap (λ (s : Iso2022JpState). bytes_of_held s.held) next) p in
-    let run_taken = subst (λ (m : Iso2022JpState). TakesRun units_of jp_state m n rest more before after) next
+    let run_taken = subst (λ (m : Iso2022JpState). TakesRun units_of jp_state m n rest more before
+    after) next
     pieces_taken in
-    subst (λ o. TakesRun units_of jp_state (state_with_held c.set o) n src (3 + more) before after) (sym held)
+    subst (λ o. TakesRun units_of jp_state (state_with_held c.set o) n src (3 + more) before after)
+    (sym held)
     (after_escape units_of c.set e n src more before after a h
-    (subst (λ z. TakesRun units_of jp_state (state_with_held (escape_set e) None) n z more before after) back
+    (subst (λ z. TakesRun units_of jp_state (state_with_held (escape_set e) None) n z more before
+    after) back
     run_taken))
 
 -- A run is taken, and another after it.
-pub takes_run_after : {units_of : ℕ → List ℕ} {c m n : Iso2022JpState} {src rest : List ℕ} {read more : ℕ}
+pub takes_run_after : {units_of : ℕ → List ℕ} {c m n : Iso2022JpState} {src rest : List ℕ}
+    {read more : ℕ}
     {before mid after : Output} → rest ≡ drop read src
-    → TakesRun units_of jp_state c m src read before mid → TakesRun units_of jp_state m n rest more mid after
+    → TakesRun units_of jp_state c m src read before mid
+    → TakesRun units_of jp_state m n rest more mid after
     → TakesRun units_of jp_state c n src (read + more) before after
-takes_run_after {units_of} {c} {m} {n} {src} {rest} {read} {more} {before} {mid} {after} rest_is first_run next_run =
-    takes_both units_of jp_state c m n src read more before mid after rest rest_is first_run next_run
+takes_run_after {units_of} {c} {m} {n} {src} {rest} {read} {more} {before} {mid} {after} rest_is
+    first_run next_run =
+    takes_both units_of jp_state c m n src read more before mid after rest rest_is first_run
+    next_run

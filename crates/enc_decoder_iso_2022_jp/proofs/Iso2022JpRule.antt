@@ -1,5 +1,6 @@
--- The laws of ISO-2022-JP's rule. Its own bytes determine a character. A sequence that is cut off, and an escape
--- sequence, are determined by the next bytes, which show whether an escape sequence follows, or by the end.
+-- The laws of ISO-2022-JP's rule. Its own bytes determine a character. A sequence that is cut off,
+-- and an escape sequence, are determined by the next bytes, which show whether an escape sequence
+-- follows, or by the end.
 use Rattle.std.proofs.Common.{◌≡◌, ℕ, ◌+◌, ◌≤◌, zero, suc, Bool, true, false, eqb, Option, Some, None, List, [], ◌∷◌}
 use Rattle.std.proofs.Common.{◌++◌, length, take, drop, refl, ap, ◌∙◌, sym, arith, subst, ◌⊎◌, inl, inr}
 use Rattle.std.proofs.lemmas.Bool.Decides.{nat_tests}
@@ -46,9 +47,11 @@ other_front a [] e = refl
 other_front a (b ∷ []) e = refl
 other_front a (b ∷ c ∷ z) e = rw e refl
 
-other_second : (a b : ℕ) (z : List ℕ) → eqb b 0x28 ≡ false → eqb b 0x24 ≡ false → designated_set (a ∷ b ∷ z) ≡ None
+other_second : (a b : ℕ) (z : List ℕ) → eqb b 0x28 ≡ false → eqb b 0x24 ≡ false
+    → designated_set (a ∷ b ∷ z) ≡ None
 other_second a b [] e f = refl
-other_second a b (c ∷ z) e f = elim (true_or_false (eqb a 0x1B)) [ inl t ↦ rw (t, e, f) refl | inr t ↦ rw t refl ]
+other_second a b (c ∷ z) e f =
+    elim (true_or_false (eqb a 0x1B)) [ inl t ↦ rw (t, e, f) refl | inr t ↦ rw t refl ]
 
 pub nothing_begins : MayBegin []
 nothing_begins = record {
@@ -70,7 +73,8 @@ one_begins = record {
   becomes = refl;
 }
 
-pub two_begin : (b : ℕ) (s : CharacterSet) → set_of_escape_bytes b 0x42 ≡ Some s → MayBegin (0x1B ∷ b ∷ [])
+pub two_begin : (b : ℕ) (s : CharacterSet) → set_of_escape_bytes b 0x42 ≡ Some s
+    → MayBegin (0x1B ∷ b ∷ [])
 two_begin b s e = record {
   short = omega arith;
   none_yet = refl;
@@ -81,7 +85,8 @@ two_begin b s e = record {
 }
 
 -- (28 and 24 are the second bytes)
-shown_by_second : (b : ℕ) (z : List ℕ) → eqb b 0x28 ≡ false → eqb b 0x24 ≡ false → IsShownBy (0x1B ∷ b ∷ z) 1
+shown_by_second : (b : ℕ) (z : List ℕ) → eqb b 0x28 ≡ false → eqb b 0x24 ≡ false
+    → IsShownBy (0x1B ∷ b ∷ z) 1
 shown_by_second b z not_28 not_24 = record {
   few = omega arith;
   there = omega arith;
@@ -90,9 +95,11 @@ shown_by_second b z not_28 not_24 = record {
 }
 
 shown_by_third : (b c : ℕ) (z : List ℕ) → MayBegin (0x1B ∷ b ∷ []) → IsShownBy (0x1B ∷ b ∷ c ∷ z) 2
-shown_by_third b c z m = record { few = omega arith; there = omega arith; same = λ y. refl; before = m }
+shown_by_third b c z m =
+    record { few = omega arith; there = omega arith; same = λ y. refl; before = m }
 
-shown_from_second : (b : ℕ) (z : List ℕ) → MayBegin (0x1B ∷ b ∷ []) → ((n : ℕ) × IsShownBy (0x1B ∷ b ∷ z) n)
+shown_from_second : (b : ℕ) (z : List ℕ) → MayBegin (0x1B ∷ b ∷ [])
+    → ((n : ℕ) × IsShownBy (0x1B ∷ b ∷ z) n)
     ⊎ MayBegin (0x1B ∷ b ∷ z)
 shown_from_second b [] may_begin = inr may_begin
 shown_from_second b (c ∷ z) may_begin = inl (2, shown_by_third b c z may_begin)
@@ -113,7 +120,8 @@ is_escape_byte a e = grind (arith, nat_tests)
 shown_or_begun : (w : List ℕ) → ((n : ℕ) × IsShownBy w n) ⊎ MayBegin w
 shown_or_begun [] = inr nothing_begins
 shown_or_begun (a ∷ z) = elim (true_or_false (eqb a 0x1B)) [
-  | inl t ↦ subst (λ (e : ℕ). ((n : ℕ) × IsShownBy (e ∷ z) n) ⊎ MayBegin (e ∷ z)) (sym (is_escape_byte a t))
+  | inl t ↦ subst (λ (e : ℕ). ((n : ℕ) × IsShownBy (e ∷ z) n) ⊎ MayBegin (e ∷ z))
+      (sym (is_escape_byte a t))
       (shown_after z)
   | inr no_escape ↦ inl (
     0,
@@ -138,7 +146,8 @@ not_valid : {h x : Head} → x ≡ h → (h.kind ≡ Valid → ⊥) → x.kind �
 not_valid e n v = n (ap (λ (t : Head). t.kind) (sym e) ∙ v)
 
 -- the same head with whatever follows k bytes
-determined_at : (set b : ℕ) (z : List ℕ) (n k : ℕ) (h : Head) → k ≡ h.more + n → jp_rule set b z ≡ h → k ≤ length z
+determined_at : (set b : ℕ) (z : List ℕ) (n k : ℕ) (h : Head) → k ≡ h.more + n → jp_rule set b z ≡ h
+    → k ≤ length z
     → ((y : List ℕ) → jp_rule set b (take k z ++ y) ≡ h) → IsDeterminedWithin jp_rule set b z n
 determined_at set b z n k h is_place r l f =
     determined_by_head jp_rule set b z n h r (omega (arith, is_place, l))
@@ -149,24 +158,29 @@ determined_at set b z n k h is_place r l f =
 abbrev escape_of : ℕ → CharacterSet → Bool → Head
 escape_of set s another = escape_head set (Some s) another
 
-named_first : (set : ℕ) (s : CharacterSet) (b c : ℕ) (z : List ℕ) (another : Bool) → set_of_escape_bytes b c ≡ Some s
+named_first : (set : ℕ) (s : CharacterSet) (b c : ℕ) (z : List ℕ) (another : Bool)
+    → set_of_escape_bytes b c ≡ Some s
     → is_some (designated_set z) ≡ another → jp_rule set 0x1B (b ∷ c ∷ z) ≡ escape_of set s another
 named_first set s b c z another e f = escape_first set (b ∷ c ∷ z) (Some s) another e f
 
-escape_is_two_more : (set : ℕ) (s : CharacterSet) (another : Bool) → (escape_of set s another).more ≡ 2
+escape_is_two_more : (set : ℕ) (s : CharacterSet) (another : Bool)
+    → (escape_of set s another).more ≡ 2
 escape_is_two_more set s true = refl
 escape_is_two_more set s false = refl
 
-escape_not_valid : (set : ℕ) (s : CharacterSet) (another : Bool) → (escape_of set s another).kind ≡ Valid → ⊥
+escape_not_valid : (set : ℕ) (s : CharacterSet) (another : Bool)
+    → (escape_of set s another).kind ≡ Valid → ⊥
 escape_not_valid set s true v = cc
 escape_not_valid set s false v = cc
 
 -- what begins with 1B and is whole: what it becomes has three bytes
 becomes_escape : (set : ℕ) (z : List ℕ) (s : CharacterSet) → designated_set (0x1B ∷ z) ≡ Some s
     → (another : Bool) × (jp_rule set 0x1B z ≡ escape_of set s another)
-becomes_escape set z s e = (is_some (designated_set (drop 2 z)), escape_first set z (Some s) _ e refl)
+becomes_escape set z s e =
+    (is_some (designated_set (drop 2 z)), escape_first set z (Some s) _ e refl)
 
-pub begun_by_end : (set : ℕ) (z : List ℕ) → MayBegin (0x1B ∷ z) → IsDeterminedByEnd jp_rule set 0x1B z
+pub begun_by_end : (set : ℕ) (z : List ℕ) → MayBegin (0x1B ∷ z)
+    → IsDeterminedByEnd jp_rule set 0x1B z
 begun_by_end set z may_begin =
     let becomes = becomes_escape set (z ++ may_begin.more) may_begin.set may_begin.becomes in
     let malformed_first = no_escape_first set z may_begin.none_yet in record {
@@ -174,16 +188,19 @@ begun_by_end set z may_begin =
       more = may_begin.more;
       bytes = may_begin.bytes;
       other = more_differs becomes.1 malformed_first
-          (λ q. let two_more = escape_is_two_more set may_begin.set becomes.0 in omega (arith, two_more, q));
+          (λ q. let two_more = escape_is_two_more set may_begin.set becomes.0 in
+          omega (arith, two_more, q));
       near = let is_short = may_begin.short in omega arith;
     }
 
-none_looks : (set : ℕ) (z : List ℕ) (n : ℕ) → IsShownBy (0x1B ∷ z) n → designated_set (0x1B ∷ z) ≡ None
+none_looks : (set : ℕ) (z : List ℕ) (n : ℕ) → IsShownBy (0x1B ∷ z) n
+    → designated_set (0x1B ∷ z) ≡ None
     → IsLookahead jp_rule set 0x1B z n
 none_looks set z n is_shown none_begins =
     let malformed_first = no_escape_first set z none_begins in
     let bytes_are_there = is_shown.there in
-    least n is_shown.before (determined_at set 0x1B z n n _ (omega arith) malformed_first (omega arith)
+    least n is_shown.before
+    (determined_at set 0x1B z n n _ (omega arith) malformed_first (omega arith)
     (λ y. no_escape_first set (take n z ++ y) (is_shown.same y ∙ none_begins)))
   where
     least : (n : ℕ) → MayBegin (take n (0x1B ∷ z)) → IsDeterminedWithin jp_rule set 0x1B z n
@@ -194,7 +211,8 @@ none_looks set z n is_shown none_begins =
         (let more_is = ap (λ (h : Head). h.more) (no_escape_first set z none_begins) in
         omega (arith, more_is)) (begun_by_end set (take i z) m)
 
-none_begins_determined : (set : ℕ) (z : List ℕ) (n : ℕ) → IsShownBy (0x1B ∷ z) n → designated_set (0x1B ∷ z) ≡ None
+none_begins_determined : (set : ℕ) (z : List ℕ) (n : ℕ) → IsShownBy (0x1B ∷ z) n
+    → designated_set (0x1B ∷ z) ≡ None
     → IsDeterminedSoon jp_rule set 0x1B z
 none_begins_determined set z n is_shown none_begins =
     let at_most_two = is_shown.few in inr (
@@ -204,11 +222,13 @@ none_begins_determined set z n is_shown none_begins =
 
 -- an escape sequence, by the bytes after it
 
-pub escape_by_end : (set b c : ℕ) (s : CharacterSet) (z : List ℕ) → set_of_escape_bytes b c ≡ Some s → MayBegin z
+pub escape_by_end : (set b c : ℕ) (s : CharacterSet) (z : List ℕ) → set_of_escape_bytes b c ≡ Some s
+    → MayBegin z
     → IsDeterminedByEnd jp_rule set 0x1B (b ∷ c ∷ z)
 escape_by_end set b c s z names_set may_begin =
     let first = named_first set s b c z false names_set (ap is_some may_begin.none_yet) in
-    let followed_first = named_first set s b c (z ++ may_begin.more) true names_set (ap is_some may_begin.becomes) in
+    let followed_first = named_first set s b c (z ++ may_begin.more) true names_set
+    (ap is_some may_begin.becomes) in
     let two_more : (jp_rule set 0x1B (b ∷ c ∷ z)).more ≡ 2 = ap (λ (h : Head). h.more) first in
     let is_short = may_begin.short in record {
       within = omega (arith, two_more);
@@ -218,7 +238,8 @@ escape_by_end set b c s z names_set may_begin =
       near = omega arith;
     }
 
-shown_determined : (set b c : ℕ) (s : CharacterSet) (z : List ℕ) (n : ℕ) → set_of_escape_bytes b c ≡ Some s
+shown_determined : (set b c : ℕ) (s : CharacterSet) (z : List ℕ) (n : ℕ)
+    → set_of_escape_bytes b c ≡ Some s
     → IsShownBy z n
     → IsDeterminedWithin jp_rule set 0x1B (b ∷ c ∷ z) (suc n)
 shown_determined set b c s z n names_set is_shown =
@@ -227,7 +248,8 @@ shown_determined set b c s z n names_set is_shown =
     determined_at set 0x1B (b ∷ c ∷ z) (suc n) (suc (suc (suc n))) (escape_of set s another)
     (let two_more = escape_is_two_more set s another in omega (arith, two_more))
     (named_first set s b c z another names_set refl) (omega arith)
-    (λ y. named_first set s b c (take (suc n) z ++ y) another names_set (ap is_some (is_shown.same y)))
+    (λ y. named_first set s b c (take (suc n) z ++ y) another names_set
+    (ap is_some (is_shown.same y)))
 
 named_determined : (set b c : ℕ) (s : CharacterSet) (z : List ℕ) → set_of_escape_bytes b c ≡ Some s
     → IsDeterminedSoon jp_rule set 0x1B (b ∷ c ∷ z)
@@ -243,7 +265,8 @@ named_determined set b c s z names_set =
           looks_by jp_rule set 0x1B (b ∷ c ∷ z) is_shown.0 (suc (suc is_shown.0))
               (shown_determined set b c s z is_shown.0 names_set is_shown.1)
               (let more_is = ap (λ (h : Head). h.more) (named_first set s b c z _ names_set refl) in
-              let two_more = escape_is_two_more set s (is_some (designated_set z)) in omega (arith, more_is, two_more))
+              let two_more = escape_is_two_more set s (is_some (designated_set z)) in
+              omega (arith, more_is, two_more))
               (escape_by_end set b c s (take is_shown.0 z) names_set is_shown.1.before),
         ),
       )
@@ -254,7 +277,8 @@ pub found_or_not : (o : Option CharacterSet) → (o ≡ None) ⊎ ((s : Characte
 found_or_not None = inl refl
 found_or_not (Some s) = inr (s, refl)
 
-whole_determined : (set : ℕ) (z : List ℕ) (n : ℕ) → IsShownBy (0x1B ∷ z) n → IsDeterminedSoon jp_rule set 0x1B z
+whole_determined : (set : ℕ) (z : List ℕ) (n : ℕ) → IsShownBy (0x1B ∷ z) n
+    → IsDeterminedSoon jp_rule set 0x1B z
 whole_determined set [] n is_shown = none_begins_determined set [] n is_shown refl
 whole_determined set (b ∷ []) n is_shown = none_begins_determined set (b ∷ []) n is_shown refl
 whole_determined set (b ∷ c ∷ z) n is_shown = elim (found_or_not (set_of_escape_bytes b c)) [
@@ -278,7 +302,8 @@ not_a_trail : (b : ℕ) → two_byte_char b 0x20 ≡ None
 unfolding two_byte_char
 not_a_trail b = refl
 
-pub lead_by_end : (set b : ℕ) → is_lead_byte (set_of set) b ≡ true → IsDeterminedByEnd jp_rule set b []
+pub lead_by_end : (set b : ℕ) → is_lead_byte (set_of set) b ≡ true
+    → IsDeterminedByEnd jp_rule set b []
 lead_by_end set b leads =
     let first = lead_first set b [] leads in
     let followed_first = lead_first set b (0x20 ∷ []) leads ∙ lead_and_trail set b 0x20 [] refl
@@ -302,11 +327,13 @@ pair_determined set b c z (Some d) is_char leads no_escape =
     ∙ ap (two_byte_head set) is_char in
     determined_at set b (c ∷ z) 0 1 _ (omega arith) (comes z) (omega arith) comes
 
-lead_determined : (set b : ℕ) (z : List ℕ) → is_lead_byte (set_of set) b ≡ true → IsDeterminedSoon jp_rule set b z
+lead_determined : (set b : ℕ) (z : List ℕ) → is_lead_byte (set_of set) b ≡ true
+    → IsDeterminedSoon jp_rule set b z
 lead_determined set b [] leads =
     inr (not_valid (lead_first set b [] leads) (λ v. cc), inr (lead_by_end set b leads))
 lead_determined set b (c ∷ z) leads = elim (true_or_false (eqb c 0x1B)) [
-  | inl t ↦ (let comes = λ (y : List ℕ). lead_first set b (c ∷ y) leads ∙ lead_alone set b (c ∷ y) t in
+  | inl t ↦ (let comes = λ (y : List ℕ). lead_first set b (c ∷ y) leads
+      ∙ lead_alone set b (c ∷ y) t in
       inr (
         not_valid (comes z) (λ v. cc),
         inl (
@@ -314,27 +341,32 @@ lead_determined set b (c ∷ z) leads = elim (true_or_false (eqb c 0x1B)) [
           omega arith,
           looks_by jp_rule set b (c ∷ z) 0 0
               (determined_at set b (c ∷ z) 1 1 _ (omega arith) (comes z) (omega arith) comes)
-              (let more_is = ap (λ (h : Head). h.more) (comes z) in omega (arith, more_is)) (lead_by_end set b leads),
+              (let more_is = ap (λ (h : Head). h.more) (comes z) in omega (arith, more_is))
+              (lead_by_end set b leads),
         ),
       ))
   | inr n ↦ inl (pair_determined set b c z (two_byte_char b c) refl leads n)
 ]
 
-alone_determined : (set b : ℕ) (z : List ℕ) (found : Option ℕ) → one_byte_char (set_of set) b ≡ found
+alone_determined : (set b : ℕ) (z : List ℕ) (found : Option ℕ)
+    → one_byte_char (set_of set) b ≡ found
     → is_lead_byte (set_of set) b ≡ false
     → eqb b 0x1B ≡ false → IsDeterminedWithin jp_rule set b z 0
 alone_determined set b z None is_char no_lead no_escape =
-    let comes = λ (y : List ℕ). alone_first set b y no_lead no_escape ∙ ap (one_byte_head set) is_char in
+    let comes = λ (y : List ℕ). alone_first set b y no_lead no_escape
+    ∙ ap (one_byte_head set) is_char in
     determined_at set b z 0 0 _ (omega arith) (comes z) (omega arith) comes
 alone_determined set b z (Some d) is_char no_lead no_escape =
-    let comes = λ (y : List ℕ). alone_first set b y no_lead no_escape ∙ ap (one_byte_head set) is_char in
+    let comes = λ (y : List ℕ). alone_first set b y no_lead no_escape
+    ∙ ap (one_byte_head set) is_char in
     determined_at set b z 0 0 _ (omega arith) (comes z) (omega arith) comes
 
 -- every sequence
 
 determined : (set b : ℕ) (z : List ℕ) → IsDeterminedSoon jp_rule set b z
 determined set b z = elim (true_or_false (eqb b 0x1B)) [
-  | inl t ↦ subst (λ (e : ℕ). IsDeterminedSoon jp_rule set e z) (sym (is_escape_byte b t)) (escape_determined set z)
+  | inl t ↦ subst (λ (e : ℕ). IsDeterminedSoon jp_rule set e z) (sym (is_escape_byte b t))
+      (escape_determined set z)
   | inr n ↦ elim (true_or_false (is_lead_byte (set_of set) b)) [
     | inl t ↦ lead_determined set b z t
     | inr l ↦ inl (alone_determined set b z (one_byte_char (set_of set) b) refl l n)
@@ -349,9 +381,11 @@ has_small_texts : HasSmallTexts jp_rule
 has_small_texts set b z = small (jp_rule set b z).text (has_form set b z).1
 
 pub iso_2022_jp_is_lawful : IsLawfulRule jp_rule
-iso_2022_jp_is_lawful = record { lookahead = lookahead_by jp_rule determined; small_texts = has_small_texts }
+iso_2022_jp_is_lawful =
+    record { lookahead = lookahead_by jp_rule determined; small_texts = has_small_texts }
 
--- Its own bytes do not determine an escape sequence that is skipped: it is another if an escape sequence follows.
+-- Its own bytes do not determine an escape sequence that is skipped: it is another if an escape
+-- sequence follows.
 
 skipped_differs : {h k : Head} → h.kind ≡ Skipped → (k.kind ≡ Skipped → ⊥) → h ≡ k → ⊥
 skipped_differs s n e = n (ap (λ (t : Head). t.kind) (sym e) ∙ s)
@@ -364,7 +398,8 @@ two_bytes_not_skipped : (set : ℕ) (found : Option ℕ) → (two_byte_head set 
 two_bytes_not_skipped set None e = cc
 two_bytes_not_skipped set (Some c) e = cc
 
-named_not_alone : (set b c : ℕ) (s : CharacterSet) (z : List ℕ) (another : Bool) → set_of_escape_bytes b c ≡ Some s
+named_not_alone : (set b c : ℕ) (s : CharacterSet) (z : List ℕ) (another : Bool)
+    → set_of_escape_bytes b c ≡ Some s
     → is_some (designated_set z) ≡ another → (jp_rule set 0x1B (b ∷ c ∷ z)).kind ≡ Skipped
     → IsDeterminedWithin jp_rule set 0x1B (b ∷ c ∷ z) 0 → ⊥
 named_not_alone set b c s z true names_set followed k t =
@@ -374,32 +409,40 @@ named_not_alone set b c s z false names_set followed k t =
     let two_more : (jp_rule set 0x1B (b ∷ c ∷ z)).more ≡ 2 = ap (λ (x : Head). x.more) first in
     let next_escape : List ℕ = 0x1B ∷ 0x28 ∷ 0x42 ∷ [] in
     let heads_agree =
-    subst (λ m. jp_rule set 0x1B (take (m + 0) (b ∷ c ∷ z) ++ next_escape) ≡ jp_rule set 0x1B (b ∷ c ∷ z))
+    subst (λ m. jp_rule set 0x1B (take (m + 0) (b ∷ c ∷ z) ++ next_escape)
+    ≡ jp_rule set 0x1B (b ∷ c ∷ z))
     two_more (t.same next_escape) in
     kind_differs (named_first set s b c next_escape true names_set refl) first (λ q. cc) heads_agree
 
 escape_not_alone : (set : ℕ) (z : List ℕ) → (jp_rule set 0x1B z).kind ≡ Skipped
     → IsDeterminedWithin jp_rule set 0x1B z 0 → ⊥
-escape_not_alone set [] is_skipped t = skipped_differs is_skipped (λ q. cc) (no_escape_first set [] refl)
+escape_not_alone set [] is_skipped t =
+    skipped_differs is_skipped (λ q. cc) (no_escape_first set [] refl)
 escape_not_alone set (b ∷ []) is_skipped t =
     skipped_differs is_skipped (λ q. cc) (no_escape_first set (b ∷ []) refl)
 escape_not_alone set (b ∷ c ∷ z) is_skipped t = elim (found_or_not (set_of_escape_bytes b c)) [
   | inl n ↦ skipped_differs is_skipped (λ q. cc) (no_escape_first set (b ∷ c ∷ z) n)
-  | inr found ↦ named_not_alone set b c found.0 z (is_some (designated_set z)) found.1 refl is_skipped t
+  | inr found ↦ named_not_alone set b c found.0 z (is_some (designated_set z)) found.1 refl
+      is_skipped t
 ]
 
-lead_not_skipped : (set b : ℕ) (z : List ℕ) → is_lead_byte (set_of set) b ≡ true → (jp_rule set b z).kind ≡ Skipped → ⊥
-lead_not_skipped set b [] leads is_skipped = skipped_differs is_skipped (λ q. cc) (lead_first set b [] leads)
+lead_not_skipped : (set b : ℕ) (z : List ℕ) → is_lead_byte (set_of set) b ≡ true
+    → (jp_rule set b z).kind ≡ Skipped → ⊥
+lead_not_skipped set b [] leads is_skipped =
+    skipped_differs is_skipped (λ q. cc) (lead_first set b [] leads)
 lead_not_skipped set b (c ∷ z) leads is_skipped = elim (true_or_false (eqb c 0x1B)) [
-  | inl t ↦ skipped_differs is_skipped (λ q. cc) (lead_first set b (c ∷ z) leads ∙ lead_alone set b (c ∷ z) t)
+  | inl t ↦ skipped_differs is_skipped (λ q. cc)
+      (lead_first set b (c ∷ z) leads ∙ lead_alone set b (c ∷ z) t)
   | inr n ↦ skipped_differs is_skipped (two_bytes_not_skipped set (two_byte_char b c))
       (lead_first set b (c ∷ z) leads ∙ lead_and_trail set b c z n)
 ]
 
-not_alone : (set b : ℕ) (z : List ℕ) → (jp_rule set b z).kind ≡ Skipped → IsDeterminedWithin jp_rule set b z 0 → ⊥
+not_alone : (set b : ℕ) (z : List ℕ) → (jp_rule set b z).kind ≡ Skipped
+    → IsDeterminedWithin jp_rule set b z 0 → ⊥
 not_alone set b z is_skipped t = elim (true_or_false (eqb b 0x1B)) [
   | inl e ↦ (let is_escape = is_escape_byte b e in
-      escape_not_alone set z (subst (λ (x : ℕ). (jp_rule set x z).kind ≡ Skipped) is_escape is_skipped)
+      escape_not_alone set z
+      (subst (λ (x : ℕ). (jp_rule set x z).kind ≡ Skipped) is_escape is_skipped)
       (subst (λ (x : ℕ). IsDeterminedWithin jp_rule set x z 0) is_escape t))
   | inr n ↦ elim (true_or_false (is_lead_byte (set_of set) b)) [
     | inl l ↦ lead_not_skipped set b z l is_skipped

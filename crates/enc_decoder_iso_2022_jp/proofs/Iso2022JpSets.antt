@@ -24,11 +24,14 @@ later_set_or-none None = refl
 later_set_or-none (Some s) = refl
 
 -- a byte where none begins
-no_escape : (b : ℕ) (w : List ℕ) → designated_set (b ∷ w) ≡ None → last_designated_set (b ∷ w) ≡ last_designated_set w
+no_escape : (b : ℕ) (w : List ℕ) → designated_set (b ∷ w) ≡ None
+    → last_designated_set (b ∷ w) ≡ last_designated_set w
 unfolding last_designated_set
-no_escape b w e = ap (later_set_or (last_designated_set w)) e ∙ later_set_or-none (last_designated_set w)
+no_escape b w e = ap (later_set_or (last_designated_set w)) e
+    ∙ later_set_or-none (last_designated_set w)
 
-other_byte : (b : ℕ) (w : List ℕ) → eqb b 0x1B ≡ false → last_designated_set (b ∷ w) ≡ last_designated_set w
+other_byte : (b : ℕ) (w : List ℕ) → eqb b 0x1B ≡ false
+    → last_designated_set (b ∷ w) ≡ last_designated_set w
 other_byte b w n = no_escape b w (other_front b w n)
 
 -- 1B is neither the second byte of an escape sequence nor the third
@@ -36,7 +39,11 @@ other_byte b w n = no_escape b w (other_front b w n)
 no_third : (a : ℕ) → set_of_escape_bytes a 0x1B ≡ None
 no_third a = elim (true_or_false (eqb a 0x28)) [
   | inl t ↦ rw t refl
-  | inr not_28 ↦ elim (true_or_false (eqb a 0x24)) [ inl d ↦ rw (not_28, d) refl | inr d ↦ rw (not_28, d) refl ]
+  | inr not_28 ↦ elim (true_or_false (eqb a 0x24)) [
+    | inl d ↦ rw (not_28, d) refl
+    | inr d ↦
+        rw (not_28, d) refl
+  ]
 ]
 
 none_named : (s : CharacterSet) → None ≡ Some s → ⊥
@@ -50,7 +57,8 @@ named_second a c s e = elim (true_or_false (eqb a 0x1B)) [
 
 named_third : (a c : ℕ) (s : CharacterSet) → set_of_escape_bytes a c ≡ Some s → eqb c 0x1B ≡ false
 named_third a c s e = elim (true_or_false (eqb c 0x1B)) [
-  | inl t ↦ absurd (none_named s (sym (no_third a) ∙ ap (set_of_escape_bytes a) (sym (is_escape_byte c t)) ∙ e))
+  | inl t ↦ absurd (none_named s
+      (sym (no_third a) ∙ ap (set_of_escape_bytes a) (sym (is_escape_byte c t)) ∙ e))
   | inr n ↦ n
 ]
 
@@ -59,7 +67,8 @@ whole_escape : (a c : ℕ) (s : CharacterSet) (w : List ℕ) → set_of_escape_b
 unfolding last_designated_set
 whole_escape a c s w names_set =
     ap (λ o. later_set_or o (set_of_escape_bytes a c))
-    (other_byte a (c ∷ w) (named_second a c s names_set) ∙ other_byte c w (named_third a c s names_set))
+    (other_byte a (c ∷ w) (named_second a c s names_set)
+    ∙ other_byte c w (named_third a c s names_set))
     ∙ ap (later_set_or (last_designated_set w)) names_set
 
 number_after : (set : ℕ) (o : Option CharacterSet) (s : CharacterSet)
@@ -74,25 +83,31 @@ fewer (a ∷ []) y e = refl
 fewer (a ∷ b ∷ []) y e = refl
 fewer (a ∷ b ∷ c ∷ x) y e = e
 
--- After the first sequence, the set is that of the last escape sequence, of those of its bytes and of
--- the bytes w after it.
+-- After the first sequence, the set is that of the last escape sequence, of those of its bytes and
+-- of the bytes w after it.
 abbrev HasSetAfter : ℕ → ℕ → List ℕ → Head → Type 0
 HasSetAfter set b z h = (w v : List ℕ) → drop h.more z ≡ w ++ v
-    → set_number_or h.set (last_designated_set w) ≡ set_number_or set (last_designated_set (b ∷ (take h.more z ++ w)))
+    → set_number_or h.set (last_designated_set w)
+    ≡ set_number_or set (last_designated_set (b ∷ (take h.more z ++ w)))
 
 one_byte : (set b : ℕ) (z : List ℕ) (found : Option ℕ) → eqb b 0x1B ≡ false
     → HasSetAfter set b z (one_byte_head set found)
-one_byte set b z None no_escape_byte w v e = ap (set_number_or set) (sym (other_byte b w no_escape_byte))
-one_byte set b z (Some c) no_escape_byte w v e = ap (set_number_or set) (sym (other_byte b w no_escape_byte))
+one_byte set b z None no_escape_byte w v e =
+    ap (set_number_or set) (sym (other_byte b w no_escape_byte))
+one_byte set b z (Some c) no_escape_byte w v e =
+    ap (set_number_or set) (sym (other_byte b w no_escape_byte))
 
 two_bytes : (set b c : ℕ) (z : List ℕ) (found : Option ℕ) → eqb b 0x1B ≡ false → eqb c 0x1B ≡ false
     → HasSetAfter set b (c ∷ z) (two_byte_head set found)
 two_bytes set b c z None first_is_none second_is_none w v e =
-    ap (set_number_or set) (sym (other_byte b (c ∷ w) first_is_none ∙ other_byte c w second_is_none))
+    ap (set_number_or set)
+    (sym (other_byte b (c ∷ w) first_is_none ∙ other_byte c w second_is_none))
 two_bytes set b c z (Some d) first_is_none second_is_none w v e =
-    ap (set_number_or set) (sym (other_byte b (c ∷ w) first_is_none ∙ other_byte c w second_is_none))
+    ap (set_number_or set)
+    (sym (other_byte b (c ∷ w) first_is_none ∙ other_byte c w second_is_none))
 
-alone_malformed : (set b : ℕ) (z : List ℕ) → eqb b 0x1B ≡ false → HasSetAfter set b z (malformed_head set 0)
+alone_malformed : (set b : ℕ) (z : List ℕ) → eqb b 0x1B ≡ false
+    → HasSetAfter set b z (malformed_head set 0)
 alone_malformed set b z n w v e = ap (set_number_or set) (sym (other_byte b w n))
 
 escape_malformed : (set : ℕ) (z : List ℕ) → designated_set (0x1B ∷ z) ≡ None
@@ -101,12 +116,15 @@ escape_malformed set z n w v e =
     ap (set_number_or set)
     (sym (no_escape 0x1B w (fewer (0x1B ∷ w) v (ap (λ x. designated_set (0x1B ∷ x)) (sym e) ∙ n))))
 
-escape : (set a c : ℕ) (z : List ℕ) (s : CharacterSet) (another : Bool) → set_of_escape_bytes a c ≡ Some s
+escape : (set a c : ℕ) (z : List ℕ) (s : CharacterSet) (another : Bool)
+    → set_of_escape_bytes a c ≡ Some s
     → HasSetAfter set 0x1B (a ∷ c ∷ z) (escape_head set (Some s) another)
 escape set a c z s true names_set w v e =
-    sym (ap (set_number_or set) (whole_escape a c s w names_set) ∙ number_after set (last_designated_set w) s)
+    sym (ap (set_number_or set) (whole_escape a c s w names_set)
+    ∙ number_after set (last_designated_set w) s)
 escape set a c z s false names_set w v e =
-    sym (ap (set_number_or set) (whole_escape a c s w names_set) ∙ number_after set (last_designated_set w) s)
+    sym (ap (set_number_or set) (whole_escape a c s w names_set)
+    ∙ number_after set (last_designated_set w) s)
 
 -- every sequence
 
@@ -114,7 +132,8 @@ has_set_by : (set b : ℕ) (z : List ℕ) (h : Head) → jp_rule set b z ≡ h �
     → HasSetAfter set b z (jp_rule set b z)
 has_set_by set b z h e t = subst (HasSetAfter set b z) (sym e) t
 
-not_begun : (set : ℕ) (z : List ℕ) → designated_set (0x1B ∷ z) ≡ None → HasSetAfter set 0x1B z (jp_rule set 0x1B z)
+not_begun : (set : ℕ) (z : List ℕ) → designated_set (0x1B ∷ z) ≡ None
+    → HasSetAfter set 0x1B z (jp_rule set 0x1B z)
 not_begun set z none_begins =
     has_set_by set 0x1B z _ (no_escape_first set z none_begins) (escape_malformed set z none_begins)
 
@@ -124,25 +143,31 @@ escape_has_set set (a ∷ []) = not_begun set (a ∷ []) refl
 escape_has_set set (a ∷ c ∷ z) = elim (found_or_not (set_of_escape_bytes a c)) [
   | inl n ↦ not_begun set (a ∷ c ∷ z) n
   | inr found ↦ (let another = is_some (designated_set z) in
-      has_set_by set 0x1B (a ∷ c ∷ z) _ (escape_first set (a ∷ c ∷ z) (Some found.0) another found.1 refl)
+      has_set_by set 0x1B (a ∷ c ∷ z) _
+      (escape_first set (a ∷ c ∷ z) (Some found.0) another found.1 refl)
       (escape set a c z found.0 another found.1))
 ]
 
-lead_has_set : (set b : ℕ) (z : List ℕ) → is_lead_byte (set_of set) b ≡ true → HasSetAfter set b z (jp_rule set b z)
+lead_has_set : (set b : ℕ) (z : List ℕ) → is_lead_byte (set_of set) b ≡ true
+    → HasSetAfter set b z (jp_rule set b z)
 lead_has_set set b [] leads =
     has_set_by set b [] _ (lead_first set b [] leads)
     (alone_malformed set b [] (lead_is_no_escape (set_of set) b leads))
 lead_has_set set b (c ∷ z) leads =
-    let no_escape_byte = lead_is_no_escape (set_of set) b leads in elim (true_or_false (eqb c 0x1B)) [
-      | inl t ↦ has_set_by set b (c ∷ z) _ (lead_first set b (c ∷ z) leads ∙ lead_alone set b (c ∷ z) t)
+    let no_escape_byte = lead_is_no_escape (set_of set) b leads in
+    elim (true_or_false (eqb c 0x1B)) [
+      | inl t ↦ has_set_by set b (c ∷ z) _
+          (lead_first set b (c ∷ z) leads ∙ lead_alone set b (c ∷ z) t)
           (alone_malformed set b (c ∷ z) no_escape_byte)
-      | inr trails ↦ has_set_by set b (c ∷ z) _ (lead_first set b (c ∷ z) leads ∙ lead_and_trail set b c z trails)
+      | inr trails ↦ has_set_by set b (c ∷ z) _
+          (lead_first set b (c ∷ z) leads ∙ lead_and_trail set b c z trails)
           (two_bytes set b c z (two_byte_char b c) no_escape_byte trails)
     ]
 
 has_set_after : (set b : ℕ) (z : List ℕ) → HasSetAfter set b z (jp_rule set b z)
 has_set_after set b z = elim (true_or_false (eqb b 0x1B)) [
-  | inl t ↦ subst (λ (e : ℕ). HasSetAfter set e z (jp_rule set e z)) (sym (is_escape_byte b t)) (escape_has_set set z)
+  | inl t ↦ subst (λ (e : ℕ). HasSetAfter set e z (jp_rule set e z)) (sym (is_escape_byte b t))
+      (escape_has_set set z)
   | inr no_escape_byte ↦ elim (true_or_false (is_lead_byte (set_of set) b)) [
     | inl l ↦ lead_has_set set b z l
     | inr l ↦ has_set_by set b z _ (alone_first set b z l no_escape_byte)
@@ -150,7 +175,8 @@ has_set_after set b z = elim (true_or_false (eqb b 0x1B)) [
   ]
 ]
 
--- Sequences that come first: their bytes are in front, and the set after them is that of their last escape sequence.
+-- Sequences that come first: their bytes are in front, and the set after them is that of their last
+-- escape sequence.
 abbrev HasSet : ℕ → List ℕ → List Sequence → Type 0
 HasSet set z before =
     ((v : List ℕ) × (z ≡ sequence_bytes before ++ v)) × (set_after set before
@@ -165,7 +191,8 @@ rest_of s t ss ts e = cc
 none_first : (s : Sequence) (ss : List Sequence) → [] ≡ s ∷ ss → ⊥
 none_first s ss e = cc
 
-sets : (set : ℕ) (z : List ℕ) (before rest : List Sequence) → sequences_of jp_rule set z ≡ before ++ rest
+sets : (set : ℕ) (z : List ℕ) (before rest : List Sequence)
+    → sequences_of jp_rule set z ≡ before ++ rest
     → HasSet set z before
 unfolding last_designated_set
 sets set z [] rest whole = ((z, refl), refl)
@@ -181,7 +208,8 @@ sets set (b ∷ z) (s ∷ before) rest whole =
     (first_of (head_sequence head b z) s _ (before ++ rest) sequences) (
       (
         of_rest.0.0,
-        ap (λ x. b ∷ x) (sym (take-append-drop head.more z) ∙ ap (λ x. take head.more z ++ x) of_rest.0.1
+        ap (λ x. b ∷ x) (sym (take-append-drop head.more z)
+            ∙ ap (λ x. take head.more z ++ x) of_rest.0.1
             ∙ sym (append_assoc (take head.more z) bytes_before of_rest.0.0)),
       ),
       of_rest.1 ∙ has_set_after set b z bytes_before of_rest.0.0 of_rest.0.1,

@@ -1,4 +1,5 @@
--- What the ISO-2022-JP decoder's held bytes determine by themselves: nothing, but for a byte that was given back.
+-- What the ISO-2022-JP decoder's held bytes determine by themselves: nothing, but for a byte that
+-- was given back.
 use Rattle.std.proofs.Common.{◌≡◌, ℕ, Some, None, List, [], ◌∷◌, ◌++◌, refl}
 use Rattle.enc_decoder_iso_2022_jp.specs.declared.iso_2022_jp.CharacterSet.{CharacterSet}
 use Rattle.enc_decoder_iso_2022_jp.specs.declared.iso_2022_jp.CharacterSet.TheVariants.{Ascii, Roman, Katakana, Jis0208}
@@ -40,7 +41,8 @@ after_escape set ToJis0208Of1978 z may_begin =
 after_escape set ToJis0208Of1983 z may_begin =
     by_end set 0x1B (0x24 ∷ 0x42 ∷ z) (escape_by_end set 0x24 0x42 Jis0208 z refl may_begin)
 
-whole : (set : ℕ) (e : Escape) → IsUndetermined (λ y. sequences_of jp_rule set (escape_bytes e ++ y))
+whole : (set : ℕ) (e : Escape)
+    → IsUndetermined (λ y. sequences_of jp_rule set (escape_bytes e ++ y))
 whole set ToAscii = after_escape set ToAscii [] nothing_begins
 whole set ToRoman = after_escape set ToRoman [] nothing_begins
 whole set ToKatakana = after_escape set ToKatakana [] nothing_begins
@@ -51,16 +53,19 @@ started : (i : Intermediate) → MayBegin (0x1B ∷ intermediate_byte i ∷ [])
 started Parenthesis = two_begin 0x28 Ascii refl
 started Dollar = two_begin 0x24 Jis0208 refl
 
-pub undetermined : (set : CharacterSet) (held : Held) → CanHold set (Some held) → ((b : ℕ) → held ≡ GivenBack b → ⊥)
+pub undetermined : (set : CharacterSet) (held : Held) → CanHold set (Some held)
+    → ((b : ℕ) → held ≡ GivenBack b → ⊥)
     → IsUndetermined (remainder_of (jp_state (state_with_held set (Some held)))).sequences
 undetermined set (GivenBack b) c n = absurd (n b refl)
 undetermined set (Lead b) c n =
     by_end (set_number set) b [] (lead_by_end (set_number set) b (rw set_of_number c))
 undetermined set (Whole e) c n = whole (set_number set) e
-undetermined set (Start None) c n = by_end (set_number set) 0x1B [] (begun_by_end (set_number set) [] one_begins)
+undetermined set (Start None) c n =
+    by_end (set_number set) 0x1B [] (begun_by_end (set_number set) [] one_begins)
 undetermined set (Start (Some e)) c n = after_escape (set_number set) e (0x1B ∷ []) one_begins
 undetermined set (Started None i) c n =
-    by_end (set_number set) 0x1B (intermediate_byte i ∷ []) (begun_by_end (set_number set) (intermediate_byte i ∷ [])
+    by_end (set_number set) 0x1B (intermediate_byte i ∷ [])
+    (begun_by_end (set_number set) (intermediate_byte i ∷ [])
     (started i))
 undetermined set (Started (Some e) i) c n =
     after_escape (set_number set) e (0x1B ∷ intermediate_byte i ∷ []) (started i)

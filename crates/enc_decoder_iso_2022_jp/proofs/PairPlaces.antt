@@ -25,14 +25,21 @@ abbrev none_further : ℕ → ℕ
 none_further b = 0
 
 rows : (a : ℕ) → a < 256
-    → get_or JIS0208_PLACES a 0 ≡ row_place Jis0208 is_jis0208_byte is_jis0208_byte number none_further number a
+    → get_or JIS0208_PLACES a 0
+    ≡ row_place Jis0208 is_jis0208_byte is_jis0208_byte number none_further number a
 unfolding tabulates
-rows a l = row_in (row_place Jis0208 is_jis0208_byte is_jis0208_byte number none_further number) (column_place Jis0208 is_jis0208_byte is_jis0208_byte number none_further number) JIS0208_PLACES refl refl a l
+rows a l = row_in (row_place Jis0208 is_jis0208_byte is_jis0208_byte number none_further number)
+    (column_place Jis0208 is_jis0208_byte is_jis0208_byte number none_further number) JIS0208_PLACES
+    refl refl a l
 
 columns : (b : ℕ) → b < 256
-    → get_or JIS0208_PLACES (256 + b) 0 ≡ column_place Jis0208 is_jis0208_byte is_jis0208_byte number none_further number b
+    → get_or JIS0208_PLACES (256 + b) 0
+    ≡ column_place Jis0208 is_jis0208_byte is_jis0208_byte number none_further number b
 unfolding tabulates
-columns b l = column_in (row_place Jis0208 is_jis0208_byte is_jis0208_byte number none_further number) (column_place Jis0208 is_jis0208_byte is_jis0208_byte number none_further number) JIS0208_PLACES refl refl b l
+columns b l = column_in
+    (row_place Jis0208 is_jis0208_byte is_jis0208_byte number none_further number)
+    (column_place Jis0208 is_jis0208_byte is_jis0208_byte number none_further number) JIS0208_PLACES
+    refl refl b l
 
 small : (b : ℕ) → is_jis0208_byte b ≡ true → number b < 94
 small b t = grind (arith, nat_tests)
@@ -54,15 +61,19 @@ pair_found a b c l m e =
           ∙ ap jis0208_at same ∙ place.is,
     )
 
-leads : (set : CharacterSet) (a : ℕ) → set ≡ InPairs → is_jis0208_byte a ≡ true → is_lead_byte set a ≡ true
+leads : (set : CharacterSet) (a : ℕ) → set ≡ InPairs → is_jis0208_byte a ≡ true
+    → is_lead_byte set a ≡ true
 unfolding is_lead_byte
 leads set a e h = subst (λ s. is_lead_byte s a ≡ true) (sym e) h
 
 -- the bytes of a place, where the set has pairs
-pub place_means : (set : CharacterSet) (t u : Bool) (a b c : ℕ) → (u ≡ true → set ≡ InPairs) → t && u ≡ true
+pub place_means : (set : CharacterSet) (t u : Bool) (a b c : ℕ) → (u ≡ true → set ≡ InPairs)
+    → t && u ≡ true
     → is_jis0208_byte a ≡ true
-    → two_byte_char a b ≡ Some c → IsWholeChar iso_2022_jp_rule (set_number set) (byte_or_pair t a b) c
+    → two_byte_char a b ≡ Some c
+    → IsWholeChar iso_2022_jp_rule (set_number set) (byte_or_pair t a b) c
 place_means set t u a b c h both lead e =
     let both_bytes = and_parts t u both in
-    subst (λ x. IsWholeChar iso_2022_jp_rule (set_number set) (byte_or_pair x a b) c) (sym both_bytes.0)
+    subst (λ x. IsWholeChar iso_2022_jp_rule (set_number set) (byte_or_pair x a b) c)
+    (sym both_bytes.0)
     (pair_piece set a b c e (leads set a (h both_bytes.1) lead))

@@ -1,5 +1,7 @@
--- The rule of ISO-2022-JP, by character set and escape sequence (Encoding Standard 12.2.1, "ISO-2022-JP decoder").
-use Rattle.std.specs.Prelude.{ℕ, ◌+◌, ◌-◌, ◌*◌, Bool, true, false, ◌==◌, ◌&&◌, ◌||◌, not, nat_lt, nat_le, Option, Some, None, is_some, List, [], ◌∷◌, drop, if◌then◌else◌}
+-- The rule of ISO-2022-JP, by character set and escape sequence (Encoding Standard 12.2.1,
+-- "ISO-2022-JP decoder").
+use Rattle.std.specs.Prelude.{ℕ, ◌+◌, ◌-◌, ◌*◌, Bool, true, false, ◌==◌, ◌&&◌, ◌||◌, not, nat_lt, nat_le, Option, Some}
+use Rattle.std.specs.Prelude.{None, is_some, List, [], ◌∷◌, drop, if◌then◌else◌}
 use Rattle.enc_decoder.specs.declared.byte_codec.Kind.TheVariants.{Skipped, RepeatedEscape}
 use Rattle.enc_decoder_iso_2022_jp.specs.declared.iso_2022_jp.CharacterSet.{CharacterSet}
 use Rattle.enc_decoder_iso_2022_jp.specs.declared.iso_2022_jp.CharacterSet.TheVariants.{Ascii, Roman, Katakana, Jis0208}
@@ -15,13 +17,15 @@ set_number Jis0208 = 3
 
 -- the character set of a number
 abbrev pub set_of : ℕ → CharacterSet
-set_of set = if set == 1 then Roman else if set == 2 then Katakana else if set == 3 then Jis0208 else Ascii
+set_of set = if set == 1 then Roman else if set == 2 then Katakana else if set == 3 then Jis0208
+    else Ascii
 
 -- the character set that an escape sequence designates, by its second and third byte
 abbrev pub set_of_escape_bytes : ℕ → ℕ → Option CharacterSet
 set_of_escape_bytes b c =
     if b == 0x28 then
-    if c == 0x42 then Some Ascii else if c == 0x4A then Some Roman else if c == 0x49 then Some Katakana else None
+    if c == 0x42 then Some Ascii else if c == 0x4A then Some Roman else if c == 0x49 then Some
+    Katakana else None
     else if b == 0x24 && (c == 0x40 || c == 0x42) then Some Jis0208
     else None
 
@@ -32,11 +36,13 @@ designated_set (a ∷ []) = None
 designated_set (a ∷ b ∷ []) = None
 designated_set (a ∷ b ∷ c ∷ z) = if a == 0x1B then set_of_escape_bytes b c else None
 
--- An escape sequence is skipped, or malformed if another one directly follows. A byte 1B that begins none is malformed
--- by itself, and the bytes after it are read in the designated character set.
+-- An escape sequence is skipped, or malformed if another one directly follows. A byte 1B that
+-- begins none is malformed by itself, and the bytes after it are read in the designated character
+-- set.
 abbrev pub escape_head : ℕ → Option CharacterSet → Bool → Head
 escape_head set None another = malformed_head set 0
-escape_head set (Some s) true = record { more = 2; text = 0xFFFD ∷ []; kind = RepeatedEscape; set = set_number s }
+escape_head set (Some s) true =
+    record { more = 2; text = 0xFFFD ∷ []; kind = RepeatedEscape; set = set_number s }
 escape_head set (Some s) false = record { more = 2; text = []; kind = Skipped; set = set_number s }
 
 -- the characters of the character sets of one byte
@@ -78,11 +84,12 @@ abbrev pub two_byte_head : ℕ → Option ℕ → Head
 two_byte_head set (Some c) = character_head set 1 c
 two_byte_head set None = malformed_head set 1
 
--- A lead byte is malformed by itself at the end and before 1B. Otherwise it is a character with the byte after it, or
--- is malformed with it.
+-- A lead byte is malformed by itself at the end and before 1B. Otherwise it is a character with the
+-- byte after it, or is malformed with it.
 abbrev pub lead_byte_head : ℕ → ℕ → List ℕ → Head
 lead_byte_head set lead [] = malformed_head set 0
-lead_byte_head set lead (b ∷ z) = if b == 0x1B then malformed_head set 0 else two_byte_head set (two_byte_char lead b)
+lead_byte_head set lead (b ∷ z) =
+    if b == 0x1B then malformed_head set 0 else two_byte_head set (two_byte_char lead b)
 
 -- the first sequence, in the character set of this number
 unfoldable pub iso_2022_jp_rule : Rule

@@ -22,16 +22,18 @@ abbrev pub set_number_or : ℕ → Option CharacterSet → ℕ
 set_number_or set None = set
 set_number_or set (Some s) = set_number s
 
--- Between two sequences, the designated character set is that of the last escape sequence before, or the initial one if
--- there is none.
+-- Between two sequences, the designated character set is that of the last escape sequence before,
+-- or the initial one if there is none.
 abbrev pub SetsAreOfLastEscapes : Rule → Type 0
 SetsAreOfLastEscapes rule =
-    (set : ℕ) (z : List ℕ) (before others : List Sequence) → sequences_of rule set z ≡ before ++ others
+    (set : ℕ) (z : List ℕ) (before others : List Sequence)
+    → sequences_of rule set z ≡ before ++ others
     → set_after set before ≡ set_number_or set (last_designated_set (sequence_bytes before))
 
--- A skipped escape sequence is never determined by its own bytes. One to three bytes after it determine it, or the end
--- of the input.
+-- A skipped escape sequence is never determined by its own bytes. One to three bytes after it
+-- determine it, or the end of the input.
 pub record HasSkippedLookahead (rule : Rule) : Type 0 where
-  pub not_alone : (set b : ℕ) (z : List ℕ) → (rule set b z).kind ≡ Skipped → IsDeterminedWithin rule set b z 0 → ⊥
+  pub not_alone : (set b : ℕ) (z : List ℕ) → (rule set b z).kind ≡ Skipped
+      → IsDeterminedWithin rule set b z 0 → ⊥
   pub soon : (set b : ℕ) (z : List ℕ) → (rule set b z).kind ≡ Skipped
       → ((n : ℕ) × (1 ≤ n) × (n ≤ 3) × IsLookahead rule set b z n) ⊎ IsDeterminedByEnd rule set b z

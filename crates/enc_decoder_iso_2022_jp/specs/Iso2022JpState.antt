@@ -58,7 +58,8 @@ bytes_of_held (Some (Whole e)) = escape_bytes e
 bytes_of_held (Some (Start before)) = escape_and_bytes before (0x1B ∷ [])
 bytes_of_held (Some (Started before i)) = escape_and_bytes before (0x1B ∷ intermediate_byte i ∷ [])
 
--- A restored byte begins no escape sequence and no character of two bytes. A held lead byte begins such a character.
+-- A restored byte begins no escape sequence and no character of two bytes. A held lead byte begins
+-- such a character.
 abbrev pub CanHold : CharacterSet → Option Held → Type 0
 CanHold set None = Unit {0}
 CanHold set (Some (GivenBack b)) = (is_lead_byte set b ≡ false) × ((b == 0x1B) ≡ false)
@@ -69,15 +70,21 @@ CanHold set (Some (Started before i)) = Unit {0}
 
 -- the state as that of a codec
 abbrev pub iso_2022_jp_state : Iso2022JpState → CodecState
-iso_2022_jp_state s = record { rule = iso_2022_jp_rule; set = set_number s.set; pending = bytes_of_held s.held }
+iso_2022_jp_state s = record {
+  rule = iso_2022_jp_rule;
+  set = set_number s.set;
+  pending =
+      bytes_of_held s.held;
+}
 
 -- a lead byte whose character has no second byte
 abbrev pub cuts_off_lead : List ℕ → Bool
 cuts_off_lead [] = true
 cuts_off_lead (b ∷ z) = b == 0x1B
 
--- The following bytes cut off the sequence that the held bytes begin. They do not complete a lead byte's character or
--- an escape sequence. They do not begin an escape sequence that directly follows a whole one.
+-- The following bytes cut off the sequence that the held bytes begin. They do not complete a lead
+-- byte's character or an escape sequence. They do not begin an escape sequence that directly
+-- follows a whole one.
 abbrev pub CutsOffHeld : Held → List ℕ → Type 0
 CutsOffHeld (GivenBack b) z = Unit {0}
 CutsOffHeld (Lead b) z = cuts_off_lead z ≡ true

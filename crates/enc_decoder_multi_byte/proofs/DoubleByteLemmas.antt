@@ -19,45 +19,53 @@ one_is_text c = record { some = λ e. cc; small = one_small c }
 
 pub char_is_text : (c : Option ℕ) (text : Text) → text_of_char c ≡ Some text → IsPairText text
 char_is_text None text e = cc
-char_is_text (Some c) text e = subst IsPairText (let text_is : One c ≡ text = cc in text_is) (one_is_text c)
+char_is_text (Some c) text e =
+    subst IsPairText (let text_is : One c ≡ text = cc in text_is) (one_is_text c)
 
 -- the first byte
 
 single_is_text : (c : Option ℕ) (text : Text) → single_prefix c ≡ Complete text → IsPairText text
 single_is_text None text e = cc
-single_is_text (Some c) text e = subst IsPairText (let text_is : One c ≡ text = cc in text_is) (one_is_text c)
+single_is_text (Some c) text e =
+    subst IsPairText (let text_is : One c ≡ text = cc in text_is) (one_is_text c)
 
 single_malformed : (c : Option ℕ) (n : ℕ) → single_prefix c ≡ Malformed n → n ≡ 1
 single_malformed None n e = cc
 single_malformed (Some c) n e = cc
 
-pub first_is_text : (leads : Bool) (c : Option ℕ) (text : Text) → first_prefix leads c ≡ Complete text → IsPairText text
+pub first_is_text : (leads : Bool) (c : Option ℕ) (text : Text)
+    → first_prefix leads c ≡ Complete text → IsPairText text
 first_is_text true c text e = cc
 first_is_text false c text e = single_is_text c text e
 
-pub first_malformed : (leads : Bool) (c : Option ℕ) (n : ℕ) → first_prefix leads c ≡ Malformed n → n ≡ 1
+pub first_malformed : (leads : Bool) (c : Option ℕ) (n : ℕ) → first_prefix leads c ≡ Malformed n
+    → n ≡ 1
 first_malformed true c n e = cc
 first_malformed false c n e = single_malformed c n e
 
 -- a character of a single byte is of the Basic Multilingual Plane
 
-pub first_is_basic : (leads : Bool) (single : Option ℕ) (text : Text) → ((c : ℕ) → single ≡ Some c → c < 0x1_0000) → first_prefix leads single ≡ Complete text
+pub first_is_basic : (leads : Bool) (single : Option ℕ) (text : Text)
+    → ((c : ℕ) → single ≡ Some c → c < 0x1_0000) → first_prefix leads single ≡ Complete text
     → IsBmpText (text_chars text)
 first_is_basic true single text b e = absurd (cc)
 first_is_basic false None text b e = absurd (cc)
 first_is_basic false (Some c) text b e =
-    subst (λ t. IsBmpText (text_chars t)) (let text_is : One c ≡ text = cc in text_is) (basic_by c (b c refl))
+    subst (λ t. IsBmpText (text_chars t)) (let text_is : One c ≡ text = cc in text_is)
+    (basic_by c (b c refl))
 
 pub ascii_is_basic : (b c : ℕ) → cond (nat_lt b 0x80) (Some b) None ≡ Some c → c < 0x1_0000
 ascii_is_basic b c e = grind (arith, nat_tests)
 
 -- a byte after n others
 
-pub trail_text : (n b : ℕ) (t : Option Text) (text : Text) → trail_prefix n b t ≡ Complete text → t ≡ Some text
+pub trail_text : (n b : ℕ) (t : Option Text) (text : Text) → trail_prefix n b t ≡ Complete text
+    → t ≡ Some text
 trail_text n b None text e = cc
 trail_text n b (Some t) text e = cc
 
-pub trail_malformed : (n b : ℕ) (t : Option Text) (m : ℕ) → trail_prefix n b t ≡ Malformed m → (n ≤ m) × (m ≤ n + 1)
+pub trail_malformed : (n b : ℕ) (t : Option Text) (m : ℕ) → trail_prefix n b t ≡ Malformed m
+    → (n ≤ m) × (m ≤ n + 1)
 trail_malformed n b None m e =
     either (nat_lt b 0x80) (let len_is : cond (nat_lt b 0x80) n (n + 1) ≡ m = cc in len_is)
   where
@@ -71,44 +79,63 @@ trail_finished n b None e = cc
 trail_finished n b (Some t) e = cc
 
 -- FF is no trail, and is malformed with the n bytes before it
-pub trail_can_be_malformed : (n : ℕ) (t : Option Text) → t ≡ None → trail_prefix n 0xFF t ≡ Malformed (n + 1)
+pub trail_can_be_malformed : (n : ℕ) (t : Option Text) → t ≡ None
+    → trail_prefix n 0xFF t ≡ Malformed (n + 1)
 trail_can_be_malformed n t e = ap (trail_prefix n 0xFF) e
 
 -- a prefix that a test shows not to be incomplete
 
-pub unless_complete : (t : Bool) (r : Prefix) (text : Text) → cond t Incomplete r ≡ Complete text → r ≡ Complete text
+pub unless_complete : (t : Bool) (r : Prefix) (text : Text) → cond t Incomplete r ≡ Complete text
+    → r ≡ Complete text
 unless_complete true r text e = cc
 unless_complete false r text e = e
 
-pub unless_malformed : (t : Bool) (r : Prefix) (n : ℕ) → cond t Incomplete r ≡ Malformed n → r ≡ Malformed n
+pub unless_malformed : (t : Bool) (r : Prefix) (n : ℕ) → cond t Incomplete r ≡ Malformed n
+    → r ≡ Malformed n
 unless_malformed true r n e = cc
 unless_malformed false r n e = e
 
 -- encodings of one byte and two
-pub double_byte_laws : (is_lead : ℕ → Bool) (single : ℕ → Option ℕ) (pair : ℕ → ℕ → Option Text) → ArePairs single pair
+pub double_byte_laws : (is_lead : ℕ → Bool) (single : ℕ → Option ℕ) (pair : ℕ → ℕ → Option Text)
+    → ArePairs single pair
     → ArePrefixes (double_byte_prefix is_lead single pair)
 double_byte_laws is_lead single pair laws =
-    record { nothing = refl; texts = texts; alone = λ b text e. first_is_basic (is_lead b) (single b) text (laws.basic b) e; malformed = malformed; short = short; can_be_malformed = can_be_malformed }
+    record {
+      nothing = refl;
+      texts = texts;
+      alone = λ b text e.
+          first_is_basic (is_lead b) (single b) text (laws.basic b) e;
+      malformed = malformed;
+      short =
+          short;
+      can_be_malformed = can_be_malformed;
+    }
   where
-    texts : (front : List ℕ) (text : Text) → double_byte_prefix is_lead single pair front ≡ Complete text
+    texts : (front : List ℕ) (text : Text)
+        → double_byte_prefix is_lead single pair front ≡ Complete text
         → IsPairText text
     texts [] text complete = cc
     texts (a ∷ []) text complete = first_is_text (is_lead a) (single a) text complete
     texts (a ∷ b ∷ z) text complete = laws.texts a b text (trail_text 1 b (pair a b) text complete)
 
-    malformed : (front : List ℕ) (n : ℕ) → double_byte_prefix is_lead single pair front ≡ Malformed n → (0 < n) × (n ≤ length front)
+    malformed : (front : List ℕ) (n : ℕ)
+        → double_byte_prefix is_lead single pair front ≡ Malformed n → (0 < n) × (n ≤ length front)
     malformed [] n is_malformed = cc
     malformed (a ∷ []) n is_malformed =
-        let len_is_one = first_malformed (is_lead a) (single a) n is_malformed in (omega arith, omega arith)
+        let len_is_one = first_malformed (is_lead a) (single a) n is_malformed in
+        (omega arith, omega arith)
     malformed (a ∷ b ∷ z) n is_malformed =
-        let form = trail_malformed 1 b (pair a b) n is_malformed in (omega (arith, form.0), omega (arith, form.1))
+        let form = trail_malformed 1 b (pair a b) n is_malformed in
+        (omega (arith, form.0), omega (arith, form.1))
 
-    short : (front : List ℕ) → double_byte_prefix is_lead single pair front ≡ Incomplete → length front ≤ 3
+    short : (front : List ℕ) → double_byte_prefix is_lead single pair front ≡ Incomplete
+        → length front ≤ 3
     short [] e = omega arith
     short (a ∷ []) e = omega arith
     short (a ∷ b ∷ z) e = absurd (trail_finished 1 b (pair a b) e)
 
-    can_be_malformed : (front : List ℕ) → 0 < length front → double_byte_prefix is_lead single pair front ≡ Incomplete
+    can_be_malformed : (front : List ℕ) → 0 < length front
+        → double_byte_prefix is_lead single pair front ≡ Incomplete
         → CanBeMalformed (double_byte_prefix is_lead single pair) front
     can_be_malformed [] s e = absurd (omega arith)
     can_be_malformed (a ∷ []) s e = record {

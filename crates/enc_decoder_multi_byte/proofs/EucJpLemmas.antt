@@ -18,9 +18,11 @@ texts (a ∷ []) text complete = first_is_text (is_euc_jp_lead a) (euc_jp_single
 texts (a ∷ b ∷ []) text complete =
     char_is_text (euc_jp_pair_char a b) text
     (trail_text 1 b _ text (unless_complete (a == 0x8F && is_euc_byte b) _ text complete))
-texts (a ∷ b ∷ c ∷ z) text complete = char_is_text (euc_jp_triple_char b c) text (trail_text 2 c _ text complete)
+texts (a ∷ b ∷ c ∷ z) text complete =
+    char_is_text (euc_jp_triple_char b c) text (trail_text 2 c _ text complete)
 
-malformed : (front : List ℕ) (n : ℕ) → euc_jp_prefix front ≡ Malformed n → (0 < n) × (n ≤ length front)
+malformed : (front : List ℕ) (n : ℕ) → euc_jp_prefix front ≡ Malformed n → (0 < n)
+    × (n ≤ length front)
 malformed [] n is_malformed = cc
 malformed (a ∷ []) n is_malformed =
     let len_is_one = first_malformed (is_euc_jp_lead a) (euc_jp_single_char a) n is_malformed in
@@ -51,9 +53,11 @@ no_more true r = refl
 no_more false r = refl
 
 pair_can_be_malformed : (a : ℕ) → euc_jp_prefix (a ∷ 0xFF ∷ []) ≡ Malformed 2
-pair_can_be_malformed a = no_more (a == 0x8F) _ ∙ trail_can_be_malformed 1 _ (no_char (a == 0x8E) (is_euc_byte a) _)
+pair_can_be_malformed a = no_more (a == 0x8F) _
+    ∙ trail_can_be_malformed 1 _ (no_char (a == 0x8E) (is_euc_byte a) _)
 
-can_be_malformed : (front : List ℕ) → 0 < length front → euc_jp_prefix front ≡ Incomplete → CanBeMalformed euc_jp_prefix front
+can_be_malformed : (front : List ℕ) → 0 < length front → euc_jp_prefix front ≡ Incomplete
+    → CanBeMalformed euc_jp_prefix front
 can_be_malformed [] s e = absurd (omega arith)
 can_be_malformed (a ∷ []) s e = record {
   byte = 0xFF;
@@ -69,7 +73,17 @@ can_be_malformed (a ∷ b ∷ []) s e = record {
   malformed = refl;
   other = λ f. omega arith;
 }
-can_be_malformed (a ∷ b ∷ c ∷ z) s e = absurd (trail_finished 2 c (text_of_char (euc_jp_triple_char b c)) e)
+can_be_malformed (a ∷ b ∷ c ∷ z) s e =
+    absurd (trail_finished 2 c (text_of_char (euc_jp_triple_char b c)) e)
 
 pub euc_jp_laws : ArePrefixes euc_jp_prefix
-euc_jp_laws = record { nothing = refl; texts = texts; alone = λ b text e. first_is_basic (is_euc_jp_lead b) (euc_jp_single_char b) text (ascii_is_basic b) e; malformed = malformed; short = short; can_be_malformed = can_be_malformed }
+euc_jp_laws = record {
+  nothing = refl;
+  texts = texts;
+  alone = λ b text e.
+      first_is_basic (is_euc_jp_lead b) (euc_jp_single_char b) text (ascii_is_basic b) e;
+  malformed =
+      malformed;
+  short = short;
+  can_be_malformed = can_be_malformed;
+}

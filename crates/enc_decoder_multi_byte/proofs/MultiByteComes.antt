@@ -46,20 +46,26 @@ pub first_and_rest : (z : List ℕ) (a : ℕ) → first_byte z ≡ Some a → z 
 first_and_rest [] a e = cc
 first_and_rest (b ∷ z) a e = cc
 
-module _ (prefix : List ℕ → Prefix) (laws : ArePrefixes prefix) {C : Type 0} (state : C → CodecState) (c next : C)
+module _ (prefix : List ℕ → Prefix) (laws : ArePrefixes prefix) {C : Type 0}
+    (state : C → CodecState) (c next : C)
     (p : List ℕ) (now : state c ≡ multi_byte_state prefix p) where
   -- a sequence of these bytes, and those of the bytes that are left
   abbrev sequence_then : List ℕ → List ℕ → Kind → List ℕ → List Sequence
   sequence_then bytes text kind left =
-      record { bytes = bytes; text = text; kind = kind; set = 0 } ∷ sequences_of (multi_byte_rule prefix) 0 left
+      record { bytes = bytes; text = text; kind = kind; set = 0 }
+      ∷ sequences_of (multi_byte_rule prefix) 0 left
 
-  rule_stays : (q : List ℕ) → state next ≡ multi_byte_state prefix q → (state next).rule ≡ (state c).rule
-  rule_stays q then = ap (λ (s : CodecState). s.rule) then ∙ sym (ap (λ (s : CodecState). s.rule) now)
+  rule_stays : (q : List ℕ) → state next ≡ multi_byte_state prefix q
+      → (state next).rule ≡ (state c).rule
+  rule_stays q then = ap (λ (s : CodecState). s.rule) then
+      ∙ sym (ap (λ (s : CodecState). s.rule) now)
 
   -- the pending bytes show what the first of them are
-  pub shows_pending : {may_follow : List ℕ → Type 0} (w : List ℕ) (x : ℕ) (rest : List ℕ) {n len : ℕ} {text : Text}
+  pub shows_pending : {may_follow : List ℕ → Type 0} (w : List ℕ) (x : ℕ) (rest : List ℕ)
+      {n len : ℕ} {text : Text}
       {kind : Kind}
-      → p ≡ w ++ x ∷ rest → AreIncomplete prefix [] w → Settles prefix (w ++ x ∷ []) n text kind → length p ≤ 3
+      → p ≡ w ++ x ∷ rest → AreIncomplete prefix [] w → Settles prefix (w ++ x ∷ []) n text kind
+      → length p ≤ 3
       → len ≡ n
       → state next ≡ multi_byte_state prefix (drop n p)
       → IsNextSequence state c may_follow []
@@ -72,7 +78,8 @@ module _ (prefix : List ℕ → Prefix) (laws : ArePrefixes prefix) {C : Type 0}
       ∙ take-append-le n (w ++ x ∷ []) rest settles.own in
       let left_is : drop n p ≡ drop n (w ++ x ∷ []) ++ rest = ap (drop n) front_and_rest
       ∙ drop-append-le n (w ++ x ∷ []) rest settles.own in
-      let taken_length : length (take n p) ≡ n = length-take-le n p (omega (arith, lengths, settles.own)) in
+      let taken_length : length (take n p) ≡ n =
+      length-take-le n p (omega (arith, lengths, settles.own)) in
       let few_left : length (drop n p) ≤ 3 = omega (arith, length-drop n p) in
       shows_before state c next text kind len may_follow (take n p) (rule_stays _ then)
       (ap (λ (s : CodecState). s.pending) now ∙ sym (take-append-drop n p)
@@ -80,14 +87,19 @@ module _ (prefix : List ℕ → Prefix) (laws : ArePrefixes prefix) {C : Type 0}
       (m ∙ sym taken_length) (omega (arith, settles.some)) settles.no_escape
       (λ b. (
         settles.replaced b,
-        (let pending_length = ap (λ (s : CodecState). length s.pending) then in
-            (omega (arith, lengths, settles.own), omega arith, omega (arith, lengths, settles.own))),
+        (let pending_length = ap (λ (s : CodecState). length s.pending) then in (
+          omega (arith, lengths, settles.own),
+          omega arith,
+          omega
+              (arith, lengths, settles.own),
+        )),
       ))
       (λ y _. rw (now, then)
       (ap (λ z. sequences_of (multi_byte_rule prefix) 0 (z ++ y)) parts
       ∙ ap (sequences_of (multi_byte_rule prefix) 0) (append_assoc w (x ∷ rest) y)
       ∙ settled_first prefix 0 w x (rest ++ y) n text kind u settles
-      ∙ ap (λ b. sequence_then b (text_chars text) kind (drop n (w ++ x ∷ []) ++ (rest ++ y))) (sym taken_is)
+      ∙ ap (λ b. sequence_then b (text_chars text) kind (drop n (w ++ x ∷ []) ++ (rest ++ y)))
+      (sym taken_is)
       ∙ ap (λ z. sequence_then (take n p) (text_chars text) kind z)
       (sym (append_assoc (drop n (w ++ x ∷ [])) rest y) ∙ ap (λ z. z ++ y) (sym left_is))))
 
@@ -95,15 +107,18 @@ module _ (prefix : List ℕ → Prefix) (laws : ArePrefixes prefix) {C : Type 0}
   pub shows_byte_with : (b : ℕ) {n len : ℕ} {text : Text} {kind : Kind} → AreIncomplete prefix [] p
       → Settles prefix (p ++ b ∷ []) n text kind → length p ≤ 3 → length p < n → len ≡ n
       → state next ≡ multi_byte_state prefix []
-      → HandlesByte state c b (Emit (record { text = text; kind = kind; len = len; takes_byte = true; next = next }))
+      → HandlesByte state c b
+      (Emit (record { text = text; kind = kind; len = len; takes_byte = true; next = next }))
   shows_byte_with b {n} {len} {text} {kind} u settles l k m then =
       let one_longer : length (p ++ b ∷ []) ≡ length p + 1 = length-append p (b ∷ []) in
       let is_all : n ≡ length (p ++ b ∷ []) = omega (arith, settles.own, one_longer) in
       let taken_is : take n (p ++ b ∷ []) ≡ p ++ b ∷ [] =
       ap (λ i. take i (p ++ b ∷ [])) is_all ∙ take-length (p ++ b ∷ []) in
       let none_left : drop n (p ++ b ∷ []) ≡ [] = drop_of_length-le (p ++ b ∷ []) (omega arith) in
-      shows_with state c next text kind len b (rule_stays _ then) (ap (λ (s : CodecState). s.pending) then)
-      (m ∙ is_all ∙ one_longer ∙ ap (λ (s : CodecState). length s.pending + 1) (sym now)) settles.no_escape
+      shows_with state c next text kind len b (rule_stays _ then)
+      (ap (λ (s : CodecState). s.pending) then)
+      (m ∙ is_all ∙ one_longer ∙ ap (λ (s : CodecState). length s.pending + 1) (sym now))
+      settles.no_escape
       (λ i. (settles.replaced i, omega (arith, one_longer)))
       (λ z. rw (now, then)
       (settled_first prefix 0 p b z n text kind u settles
@@ -111,13 +126,16 @@ module _ (prefix : List ℕ → Prefix) (laws : ArePrefixes prefix) {C : Type 0}
       ∙ ap (λ y. sequence_then (p ++ b ∷ []) (text_chars text) kind (y ++ z)) none_left))
 
   -- the byte after them shows that the first of them are malformed, and is not one of those
-  pub shows_byte_before : (b : ℕ) {n len : ℕ} {text : Text} {kind : Kind} → AreIncomplete prefix [] p
+  pub shows_byte_before : (b : ℕ) {n len : ℕ} {text : Text} {kind : Kind}
+      → AreIncomplete prefix [] p
       → Settles prefix (p ++ b ∷ []) n text kind → length p ≤ 3 → n ≤ length p → len ≡ n
       → state next ≡ multi_byte_state prefix (drop n p)
-      → HandlesByte state c b (Emit (record { text = text; kind = kind; len = len; takes_byte = false; next = next }))
+      → HandlesByte state c b
+      (Emit (record { text = text; kind = kind; len = len; takes_byte = false; next = next }))
   shows_byte_before b {n} {len} {text} {kind} u settles l is_pending m then =
       let taken_is : take n (p ++ b ∷ []) ≡ take n p = take-append-le n p (b ∷ []) is_pending in
-      let left_is : drop n (p ++ b ∷ []) ≡ drop n p ++ b ∷ [] = drop-append-le n p (b ∷ []) is_pending in
+      let left_is : drop n (p ++ b ∷ []) ≡ drop n p ++ b ∷ [] =
+      drop-append-le n p (b ∷ []) is_pending in
       let taken_length : length (take n p) ≡ n = length-take-le n p is_pending in
       let few_left : length (drop n p) ≤ 3 = omega (arith, length-drop n p) in
       shows_at state c next text kind len b (take n p) (rule_stays _ then)
@@ -136,10 +154,13 @@ module _ (prefix : List ℕ → Prefix) (laws : ArePrefixes prefix) {C : Type 0}
       (ap (λ y. y ++ z) left_is ∙ append_assoc (drop n p) (b ∷ []) z)))
 
   -- it shows one or the other
-  pub shows_byte : (b : ℕ) {n len : ℕ} {text : Text} {kind : Kind} (takes : Bool) → takes ≡ nat_lt (length p) n
-      → AreIncomplete prefix [] p → Settles prefix (p ++ b ∷ []) n text kind → length p ≤ 3 → len ≡ n
+  pub shows_byte : (b : ℕ) {n len : ℕ} {text : Text} {kind : Kind} (takes : Bool)
+      → takes ≡ nat_lt (length p) n
+      → AreIncomplete prefix [] p → Settles prefix (p ++ b ∷ []) n text kind → length p ≤ 3
+      → len ≡ n
       → state next ≡ multi_byte_state prefix (drop n p)
-      → HandlesByte state c b (Emit (record { text = text; kind = kind; len = len; takes_byte = takes; next = next }))
+      → HandlesByte state c b
+      (Emit (record { text = text; kind = kind; len = len; takes_byte = takes; next = next }))
   shows_byte b {n} true e are_incomplete settles few is_length then =
       let is_longer : length p < n = grind (arith, nat_tests) in
       shows_byte_with b are_incomplete settles few is_longer is_length
@@ -148,7 +169,8 @@ module _ (prefix : List ℕ → Prefix) (laws : ArePrefixes prefix) {C : Type 0}
       shows_byte_before b are_incomplete settles few (grind (arith, nat_tests)) is_length then
 
   -- it is held
-  pub waits : (b : ℕ) → AreIncomplete prefix [] p → prefix (p ++ b ∷ []) ≡ Incomplete → state next ≡ multi_byte_state prefix (p ++ b ∷ [])
+  pub waits : (b : ℕ) → AreIncomplete prefix [] p → prefix (p ++ b ∷ []) ≡ Incomplete
+      → state next ≡ multi_byte_state prefix (p ++ b ∷ [])
       → HandlesByte state c b (Continue next)
   waits b u e then = (
     then ∙ ap (λ (s : CodecState). record s { pending = s.pending ++ b ∷ [] }) (sym now),
@@ -156,14 +178,25 @@ module _ (prefix : List ℕ → Prefix) (laws : ArePrefixes prefix) {C : Type 0}
   )
 
   -- what they show by themselves, unless all of them are incomplete
-  pub ready_by : (r : Option (Emission C)) → IfSome r (λ shown. IsNextOfPending state c (Some shown)) → (IsNone r → AreIncomplete prefix [] p)
+  pub ready_by : (r : Option (Emission C))
+      → IfSome r (λ shown. IsNextOfPending state c (Some shown))
+      → (IsNone r → AreIncomplete prefix [] p)
       → IsNextOfPending state c r
   ready_by None h u = undetermined prefix laws (state c) p now (u refl)
   ready_by (Some shown) h u = h
 
   -- the end of the input leaves all of them malformed
-  pub left_over : (len : ℕ) → AreIncomplete prefix [] p → 0 < length p → length p ≤ 3 → len ≡ length p → state next ≡ multi_byte_state prefix []
-      → IsNextAtEnd state c (Some (record { text = Character 0xFFFD; kind = Malformed; len = len; takes_byte = false; next = next }))
+  pub left_over : (len : ℕ) → AreIncomplete prefix [] p → 0 < length p → length p ≤ 3
+      → len ≡ length p → state next ≡ multi_byte_state prefix []
+      → IsNextAtEnd state c (Some
+      (record {
+        text = Character 0xFFFD;
+        kind = Malformed;
+        len = len;
+        takes_byte = false;
+        next =
+            next;
+      }))
   left_over len u s l m then = (
     shows_before state c next (Character 0xFFFD) Malformed len _ p (rule_stays _ then)
         (ap (λ (s : CodecState). s.pending) now ∙ sym (append-nil p)
@@ -188,5 +221,6 @@ module _ (prefix : List ℕ → Prefix) (laws : ArePrefixes prefix) {C : Type 0}
           let rest_length : length (a ∷ w) - 1 ≡ length w = omega arith in
           sequences_of-head (multi_byte_rule prefix) 0 a w _ (all_malformed prefix 0 a w u)
           ∙ ap (λ i. sequence_then (a ∷ take i w) (0xFFFD ∷ []) Malformed (drop i w)) rest_length
-          ∙ ap (λ y. sequence_then (a ∷ y) (0xFFFD ∷ []) Malformed (drop (length w) w)) (take-length w)
+          ∙ ap (λ y. sequence_then (a ∷ y) (0xFFFD ∷ []) Malformed (drop (length w) w))
+          (take-length w)
           ∙ ap (λ y. sequence_then (a ∷ w) (0xFFFD ∷ []) Malformed y) (drop-length w)

@@ -27,7 +27,8 @@ module _ (prefix : List ℕ → Prefix) (laws : ArePrefixes prefix) where
       few_after set (front ++ c ∷ []) (prefix (front ++ c ∷ [])) z
       (omega (arith, two_or_more, length-append front (c ∷ [])))
 
-  first_is_basic : (set b : ℕ) (z : List ℕ) (r : Prefix) → prefix (b ∷ []) ≡ r → length (take (prefix_head prefix set (b ∷ []) r z).more z) ≡ 0
+  first_is_basic : (set b : ℕ) (z : List ℕ) (r : Prefix) → prefix (b ∷ []) ≡ r
+      → length (take (prefix_head prefix set (b ∷ []) r z).more z) ≡ 0
       → IsBmpText (prefix_head prefix set (b ∷ []) r z).text
   first_is_basic set b z (Complete text) e n = laws.alone b text e
   first_is_basic set b z (Malformed m) e n = replaced
@@ -35,7 +36,8 @@ module _ (prefix : List ℕ → Prefix) (laws : ArePrefixes prefix) where
   first_is_basic set b (c ∷ z) Incomplete e n =
       elim (few_after set (b ∷ c ∷ []) (prefix (b ∷ c ∷ [])) z (omega arith)) [
         | inl t ↦ t
-        | inr m ↦ absurd (none_taken (prefix_head prefix set (b ∷ c ∷ []) (prefix (b ∷ c ∷ [])) z).more m n)
+        | inr m ↦ absurd (none_taken
+            (prefix_head prefix set (b ∷ c ∷ []) (prefix (b ∷ c ∷ [])) z).more m n)
       ]
     where
       none_taken : (k : ℕ) → 1 ≤ k → length (take k (c ∷ z)) ≡ 0 → ⊥
@@ -44,7 +46,9 @@ module _ (prefix : List ℕ → Prefix) (laws : ArePrefixes prefix) where
 
   few : HasFewUnits (multi_byte_rule prefix)
   unfolding multi_byte_rule
-  few = few_by_single_bytes (multi_byte_rule prefix) (multi_byte_is_lawful prefix laws).small_texts (λ set b z. first_is_basic set b z (prefix (b ∷ [])) refl)
+  few = few_by_single_bytes (multi_byte_rule prefix) (multi_byte_is_lawful prefix laws).small_texts
+      (λ set b z. first_is_basic set b z (prefix (b ∷ [])) refl)
 
-  pub multi_bytes_enough : (pending : List ℕ) → AreEnoughForCodec lengths.MultiByte (multi_byte_state prefix pending)
+  pub multi_bytes_enough : (pending : List ℕ)
+      → AreEnoughForCodec lengths.MultiByte (multi_byte_state prefix pending)
   multi_bytes_enough pending = multi_byte_enough (multi_byte_state prefix pending) few

@@ -20,20 +20,24 @@ module _ (prefix : List ℕ → Prefix) where
   -- past incomplete bytes
 
   passes : (set : ℕ) (front w z : List ℕ) → AreIncomplete prefix front w
-      → prefix_head prefix set front Incomplete (w ++ z) ≡ prefix_head prefix set (front ++ w) Incomplete z
-  passes set front [] z are_incomplete = ap (λ x. prefix_head prefix set x Incomplete z) (sym (append-nil front))
+      → prefix_head prefix set front Incomplete (w ++ z)
+      ≡ prefix_head prefix set (front ++ w) Incomplete z
+  passes set front [] z are_incomplete =
+      ap (λ x. prefix_head prefix set x Incomplete z) (sym (append-nil front))
   passes set front (c ∷ w) z are_incomplete =
       ap (λ r. prefix_head prefix set (front ++ c ∷ []) r (w ++ z)) are_incomplete.0
       ∙ passes set (front ++ c ∷ []) w z are_incomplete.1
       ∙ ap (λ x. prefix_head prefix set x Incomplete z) (append_assoc front (c ∷ []) w)
 
-  pub still_incomplete : (front w : List ℕ) → prefix front ≡ Incomplete → AreIncomplete prefix front w → prefix (front ++ w) ≡ Incomplete
+  pub still_incomplete : (front w : List ℕ) → prefix front ≡ Incomplete
+      → AreIncomplete prefix front w → prefix (front ++ w) ≡ Incomplete
   still_incomplete front [] e are_incomplete = ap prefix (append-nil front) ∙ e
   still_incomplete front (c ∷ w) e are_incomplete =
       ap prefix (sym (append_assoc front (c ∷ []) w))
       ∙ still_incomplete (front ++ c ∷ []) w are_incomplete.0 are_incomplete.1
 
-  pub one_more : (front w : List ℕ) (c : ℕ) → AreIncomplete prefix front w → prefix ((front ++ w) ++ c ∷ []) ≡ Incomplete
+  pub one_more : (front w : List ℕ) (c : ℕ) → AreIncomplete prefix front w
+      → prefix ((front ++ w) ++ c ∷ []) ≡ Incomplete
       → AreIncomplete prefix front (w ++ c ∷ [])
   one_more front [] c are_incomplete is_incomplete =
       (ap (λ x. prefix (x ++ c ∷ [])) (sym (append-nil front)) ∙ is_incomplete, tt)
@@ -44,8 +48,10 @@ module _ (prefix : List ℕ → Prefix) where
   )
 
   -- what stands first is what the bytes are behind the last of which they aren't incomplete
-  pub rule_at : (set : ℕ) (w : List ℕ) (c : ℕ) (z : List ℕ) (b : ℕ) (x : List ℕ) → AreIncomplete prefix [] w → b ∷ x ≡ w ++ c ∷ z
-      → multi_byte_rule prefix set b x ≡ prefix_head prefix set (w ++ c ∷ []) (prefix (w ++ c ∷ [])) z
+  pub rule_at : (set : ℕ) (w : List ℕ) (c : ℕ) (z : List ℕ) (b : ℕ) (x : List ℕ)
+      → AreIncomplete prefix [] w → b ∷ x ≡ w ++ c ∷ z
+      → multi_byte_rule prefix set b x
+      ≡ prefix_head prefix set (w ++ c ∷ []) (prefix (w ++ c ∷ [])) z
   unfolding multi_byte_rule
   rule_at set [] c z b x are_incomplete e = cc
   rule_at set (a ∷ w) c z b x are_incomplete e =
@@ -58,13 +64,16 @@ module _ (prefix : List ℕ → Prefix) where
 
   -- The first n of these bytes are known to be a sequence.
   pub record Settles (front : List ℕ) (n : ℕ) (text : Text) (kind : Kind) : Type 0 where
-    pub head : (set : ℕ) (z : List ℕ) → prefix_head prefix set front (prefix front) z ≡ record { more = n - 1; text = text_chars text; kind = kind; set = set }
+    pub head : (set : ℕ) (z : List ℕ)
+        → prefix_head prefix set front (prefix front) z
+        ≡ record { more = n - 1; text = text_chars text; kind = kind; set = set }
     pub some : 0 < n
     pub own : n ≤ length front
     pub no_escape : is_repeated_escape kind ≡ false
     pub replaced : is_malformed kind ≡ true → text_chars text ≡ 0xFFFD ∷ []
 
-  pub settles_complete : (front : List ℕ) (text : Text) → 0 < length front → prefix front ≡ Complete text → Settles front (length front) text Valid
+  pub settles_complete : (front : List ℕ) (text : Text) → 0 < length front
+      → prefix front ≡ Complete text → Settles front (length front) text Valid
   settles_complete front text s e = record {
     head = λ set z. ap (λ r. prefix_head prefix set front r z) e;
     some = s;
@@ -73,7 +82,8 @@ module _ (prefix : List ℕ → Prefix) where
     replaced = λ m. cc;
   }
 
-  pub settles_malformed : ArePrefixes prefix → (front : List ℕ) (n : ℕ) → prefix front ≡ Malformed n → Settles front n (One 0xFFFD) kinds.Malformed
+  pub settles_malformed : ArePrefixes prefix → (front : List ℕ) (n : ℕ) → prefix front ≡ Malformed n
+      → Settles front n (One 0xFFFD) kinds.Malformed
   settles_malformed laws front n malformed_front = record {
     head = λ set z. ap (λ r. prefix_head prefix set front r z) malformed_front;
     some = (laws.malformed front n malformed_front).0;
@@ -83,34 +93,46 @@ module _ (prefix : List ℕ → Prefix) where
   }
 
   -- and so they come first
-  settled_sequences : (set : ℕ) (w : List ℕ) (c : ℕ) (z : List ℕ) (n : ℕ) (text : Text) (kind : Kind) (b : ℕ) (x : List ℕ)
+  settled_sequences : (set : ℕ) (w : List ℕ) (c : ℕ) (z : List ℕ) (n : ℕ) (text : Text)
+      (kind : Kind) (b : ℕ) (x : List ℕ)
       → AreIncomplete prefix [] w → Settles (w ++ c ∷ []) n text kind → b ∷ x ≡ w ++ c ∷ z
       → sequences_of (multi_byte_rule prefix) set (b ∷ x)
-      ≡ record { bytes = take n (b ∷ x); text = text_chars text; kind = kind; set = set } ∷ sequences_of (multi_byte_rule prefix) set (drop n (b ∷ x))
-  settled_sequences set w c z zero text kind b x u settles e = let some_bytes = settles.some in absurd (omega arith)
+      ≡ record { bytes = take n (b ∷ x); text = text_chars text; kind = kind; set = set }
+      ∷ sequences_of (multi_byte_rule prefix) set (drop n (b ∷ x))
+  settled_sequences set w c z zero text kind b x u settles e = let some_bytes = settles.some in
+      absurd (omega arith)
   settled_sequences set w c z (suc n) text kind b x u settles e =
       let one_less : suc n - 1 ≡ n = omega arith in
       sequences_of-head (multi_byte_rule prefix) set b x _
       (rule_at set w c z b x u e ∙ settles.head set z
       ∙ ap (λ k. record { more = k; text = text_chars text; kind = kind; set = set }) one_less)
 
-  pub settled_first : (set : ℕ) (w : List ℕ) (c : ℕ) (z : List ℕ) (n : ℕ) (text : Text) (kind : Kind)
+  pub settled_first : (set : ℕ) (w : List ℕ) (c : ℕ) (z : List ℕ) (n : ℕ) (text : Text)
+      (kind : Kind)
       → AreIncomplete prefix [] w → Settles (w ++ c ∷ []) n text kind
       → sequences_of (multi_byte_rule prefix) set (w ++ c ∷ z)
       ≡ record { bytes = take n (w ++ c ∷ []); text = text_chars text; kind = kind; set = set }
       ∷ sequences_of (multi_byte_rule prefix) set (drop n (w ++ c ∷ []) ++ z)
   settled_first set w c z n text kind u settles =
       first_case w u settles
-      ∙ ap (λ x. record { bytes = x; text = text_chars text; kind = kind; set = set } ∷ sequences_of (multi_byte_rule prefix) set (drop n (w ++ c ∷ z)))
+      ∙ ap (λ x. record { bytes = x; text = text_chars text; kind = kind; set = set }
+      ∷ sequences_of (multi_byte_rule prefix) set (drop n (w ++ c ∷ z)))
       (ap (take n) (sym (append_assoc w (c ∷ []) z)) ∙ take-append-le n (w ++ c ∷ []) z settles.own)
-      ∙ ap (λ x. record { bytes = take n (w ++ c ∷ []); text = text_chars text; kind = kind; set = set } ∷ sequences_of (multi_byte_rule prefix) set x)
+      ∙ ap (λ x. record {
+        bytes = take n (w ++ c ∷ []);
+        text = text_chars text;
+        kind = kind;
+        set =
+            set;
+      } ∷ sequences_of (multi_byte_rule prefix) set x)
       (ap (drop n) (sym (append_assoc w (c ∷ []) z)) ∙ drop-append-le n (w ++ c ∷ []) z settles.own)
     where
       first_case : (w : List ℕ) → AreIncomplete prefix [] w → Settles (w ++ c ∷ []) n text kind
           → sequences_of (multi_byte_rule prefix) set (w ++ c ∷ z)
           ≡ record { bytes = take n (w ++ c ∷ z); text = text_chars text; kind = kind; set = set }
           ∷ sequences_of (multi_byte_rule prefix) set (drop n (w ++ c ∷ z))
-      first_case [] are_incomplete settles = settled_sequences set [] c z n text kind c z are_incomplete settles refl
+      first_case [] are_incomplete settles =
+          settled_sequences set [] c z n text kind c z are_incomplete settles refl
       first_case (a ∷ w) are_incomplete settles =
           settled_sequences set (a ∷ w) c z n text kind a (w ++ c ∷ z) are_incomplete settles refl
 

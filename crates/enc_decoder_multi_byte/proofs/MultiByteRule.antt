@@ -1,4 +1,5 @@
--- Legacy multi-byte encodings: the laws of their rules, and that incomplete bytes determine nothing.
+-- Legacy multi-byte encodings: the laws of their rules, and that incomplete bytes determine
+-- nothing.
 use Rattle.std.proofs.Common.{◌≡◌, ◌≢◌, ℕ, ◌+◌, ◌-◌, ◌≤◌, zero, suc, List, [], ◌∷◌, ◌++◌, length, take, refl, ap, ◌∙◌}
 use Rattle.std.proofs.Common.{sym, arith, subst, append-nil, append_assoc, inl, inr}
 use Rattle.std.proofs.lemmas.List.{length-append}
@@ -44,7 +45,8 @@ module _ (prefix : List ℕ → Prefix) (laws : ArePrefixes prefix) where
     small = (laws.texts front text front_is).small;
   }
   has_form set front (Malformed n) z front_is =
-      let within_front = (laws.malformed front n front_is).1 in malformed_has_form _ set n (omega arith)
+      let within_front = (laws.malformed front n front_is).1 in
+      malformed_has_form _ set n (omega arith)
   has_form set front Incomplete [] front_is = malformed_has_form _ set (length front) (omega arith)
   has_form set front Incomplete (c ∷ z) front_is =
       let form = has_form set (front ++ c ∷ []) (prefix (front ++ c ∷ [])) z refl in
@@ -54,14 +56,16 @@ module _ (prefix : List ℕ → Prefix) (laws : ArePrefixes prefix) where
         small = form.small;
       }
     where
-      longer : (front : List ℕ) (c : ℕ) (z : List ℕ) (n : ℕ) → n ≤ (length (front ++ c ∷ []) - 1) + length z
+      longer : (front : List ℕ) (c : ℕ) (z : List ℕ) (n : ℕ)
+          → n ≤ (length (front ++ c ∷ []) - 1) + length z
           → n ≤ (length front - 1) + length (c ∷ z)
       longer [] c z n w = omega arith
       longer (a ∷ front) c z n w = omega (arith, w, length-append front (c ∷ []))
 
   within : (set b : ℕ) (z : List ℕ) → (multi_byte_rule prefix set b z).more ≤ length z
   unfolding multi_byte_rule
-  within set b z = let head_within = (has_form set (b ∷ []) (prefix (b ∷ [])) z refl).within in omega arith
+  within set b z = let head_within = (has_form set (b ∷ []) (prefix (b ∷ [])) z refl).within in
+      omega arith
 
   pub multi_byte_has_texts : HasTexts (multi_byte_rule prefix)
   unfolding multi_byte_rule
@@ -76,14 +80,17 @@ module _ (prefix : List ℕ → Prefix) (laws : ArePrefixes prefix) where
   more_differs : {h k x y : Head} → x ≡ h → y ≡ k → (h.more ≡ k.more → ⊥) → x ≡ y → ⊥
   more_differs e f n q = n (ap (λ (t : Head). t.more) (sym e ∙ q ∙ f))
 
-  all_incomplete : (a : ℕ) (w : List ℕ) → AreIncomplete prefix [] (a ∷ w) → prefix (a ∷ w) ≡ Incomplete
+  all_incomplete : (a : ℕ) (w : List ℕ) → AreIncomplete prefix [] (a ∷ w)
+      → prefix (a ∷ w) ≡ Incomplete
   all_incomplete a w u = still_incomplete prefix [] (a ∷ w) laws.nothing u
 
   by_end : (set a : ℕ) (w : List ℕ) → AreIncomplete prefix [] (a ∷ w)
       → IsDeterminedByEnd (multi_byte_rule prefix) set a w
   by_end set a w are_incomplete =
-      let malformed = laws.can_be_malformed (a ∷ w) (omega arith) (all_incomplete a w are_incomplete) in
-      let settles = settles_malformed prefix laws ((a ∷ w) ++ malformed.byte ∷ []) malformed.len malformed.malformed in
+      let malformed = laws.can_be_malformed (a ∷ w) (omega arith)
+      (all_incomplete a w are_incomplete) in
+      let settles = settles_malformed prefix laws ((a ∷ w) ++ malformed.byte ∷ []) malformed.len
+      malformed.malformed in
       let len_differs = malformed.other in
       let some_bytes = settles.some in
       record {
@@ -91,14 +98,17 @@ module _ (prefix : List ℕ → Prefix) (laws : ArePrefixes prefix) where
         more = malformed.byte ∷ [];
         bytes = (malformed.is_byte, tt);
         other = more_differs
-            (rule_at prefix set (a ∷ w) malformed.byte [] a (w ++ malformed.byte ∷ []) are_incomplete refl
+            (rule_at prefix set (a ∷ w) malformed.byte [] a (w ++ malformed.byte ∷ [])
+            are_incomplete refl
             ∙ settles.head set [])
             (all_malformed prefix set a w are_incomplete)
             (λ e. len_differs (omega arith));
-        near = let more_is = ap (λ (h : Head). h.more) (all_malformed prefix set a w are_incomplete) in omega arith;
+        near = let more_is = ap (λ (h : Head). h.more)
+            (all_malformed prefix set a w are_incomplete) in omega arith;
       }
 
-  pub undetermined : (v : CodecState) (w : List ℕ) → v ≡ multi_byte_state prefix w → AreIncomplete prefix [] w
+  pub undetermined : (v : CodecState) (w : List ℕ) → v ≡ multi_byte_state prefix w
+      → AreIncomplete prefix [] w
       → IsUndetermined (remainder_of v).sequences
   undetermined v [] state_is u = nothing_pending v (ap (λ (s : CodecState). s.pending) state_is)
   undetermined v (a ∷ w) state_is u =
@@ -117,7 +127,8 @@ module _ (prefix : List ℕ → Prefix) (laws : ArePrefixes prefix) where
   front_of [] c z = refl
   front_of (a ∷ w) c z = ap (λ x. a ∷ x) (front_of w c z)
 
-  settled_determined : (set : ℕ) (w : List ℕ) (c : ℕ) (z : List ℕ) (b : ℕ) (x : List ℕ) (n : ℕ) (text : Text)
+  settled_determined : (set : ℕ) (w : List ℕ) (c : ℕ) (z : List ℕ) (b : ℕ) (x : List ℕ) (n : ℕ)
+      (text : Text)
       (kind : Kind)
       → AreIncomplete prefix [] w → b ∷ x ≡ w ++ c ∷ z → Settles prefix (w ++ c ∷ []) n text kind
       → IsDeterminedWithin (multi_byte_rule prefix) set b x (length (w ++ c ∷ []) - n)
@@ -133,7 +144,8 @@ module _ (prefix : List ℕ → Prefix) (laws : ArePrefixes prefix) where
       (rule_at prefix set w c z b x are_incomplete parts ∙ settles.head set z)
       (omega (arith, own_and_rest, length_is))
       (λ y. rule_at prefix set w c y b _ are_incomplete
-      (ap (λ i. b ∷ (take i x ++ y)) own_and_rest ∙ ap (λ t. t ++ y) front_is ∙ append_assoc w (c ∷ []) y)
+      (ap (λ i. b ∷ (take i x ++ y)) own_and_rest ∙ ap (λ t. t ++ y) front_is
+      ∙ append_assoc w (c ∷ []) y)
       ∙ settles.head set y)
 
   in_front : (w : List ℕ) (c : ℕ) (z : List ℕ) → take (length w) (w ++ c ∷ z) ≡ w
@@ -143,20 +155,26 @@ module _ (prefix : List ℕ → Prefix) (laws : ArePrefixes prefix) where
   -- without the byte that breaks the sequence, only the end of the input would determine it
   malformed_looks : (set : ℕ) (w : List ℕ) (c : ℕ) (z : List ℕ) (b : ℕ) (x : List ℕ) (n d : ℕ)
       → d ≡ length (w ++ c ∷ []) - n
-      → AreIncomplete prefix [] w → b ∷ x ≡ w ++ c ∷ z → Settles prefix (w ++ c ∷ []) n (One 0xFFFD) kinds.Malformed
+      → AreIncomplete prefix [] w → b ∷ x ≡ w ++ c ∷ z
+      → Settles prefix (w ++ c ∷ []) n (One 0xFFFD) kinds.Malformed
       → IsLookahead (multi_byte_rule prefix) set b x d
   malformed_looks set w c z b x n zero is_rest are_incomplete parts settles =
       looks_at_none (multi_byte_rule prefix) set b x
       (subst (IsDeterminedWithin (multi_byte_rule prefix) set b x) (sym is_rest)
-      (settled_determined set w c z b x n (One 0xFFFD) kinds.Malformed are_incomplete parts settles))
+      (settled_determined set w c z b x n (One 0xFFFD) kinds.Malformed are_incomplete parts
+      settles))
   malformed_looks set [] c z b x n (suc i) is_rest are_incomplete parts settles =
       absurd (omega (arith, is_rest, settles.some))
   malformed_looks set (a ∷ w) c z b x n (suc i) is_rest are_incomplete parts settles =
-      let determined_by_front = subst (IsDeterminedWithin (multi_byte_rule prefix) set b x) (sym is_rest)
-      (settled_determined set (a ∷ w) c z b x n (One 0xFFFD) kinds.Malformed are_incomplete parts settles) in
+      let determined_by_front =
+      subst (IsDeterminedWithin (multi_byte_rule prefix) set b x) (sym is_rest)
+      (settled_determined set (a ∷ w) c z b x n (One 0xFFFD) kinds.Malformed are_incomplete parts
+      settles) in
       let more_is : (multi_byte_rule prefix set b x).more ≡ n - 1 =
-      ap (λ (r : Head). r.more) (rule_at prefix set (a ∷ w) c z b x are_incomplete parts ∙ settles.head set z) in
-      let one_longer : length ((a ∷ w) ++ c ∷ []) ≡ length (a ∷ w) + 1 = length-append (a ∷ w) (c ∷ []) in
+      ap (λ (r : Head). r.more)
+      (rule_at prefix set (a ∷ w) c z b x are_incomplete parts ∙ settles.head set z) in
+      let one_longer : length ((a ∷ w) ++ c ∷ []) ≡ length (a ∷ w) + 1 =
+      length-append (a ∷ w) (c ∷ []) in
       let same_first : b ≡ a = cc in
       let same_rest : x ≡ w ++ c ∷ z = rest_of b a x (w ++ c ∷ z) parts in
       looks_by (multi_byte_rule prefix) set b x i (length w) determined_by_front
@@ -191,16 +209,19 @@ module _ (prefix : List ℕ → Prefix) (laws : ArePrefixes prefix) where
       )
   determined_with set w c z b x Incomplete are_incomplete parts is_prefix further = further refl
 
-  determined_from : (set : ℕ) (w z : List ℕ) (b : ℕ) (x : List ℕ) → AreIncomplete prefix [] w → b ∷ x ≡ w ++ z
+  determined_from : (set : ℕ) (w z : List ℕ) (b : ℕ) (x : List ℕ) → AreIncomplete prefix [] w
+      → b ∷ x ≡ w ++ z
       → IsDeterminedSoon (multi_byte_rule prefix) set b x
-  determined_from set [] [] b x are_incomplete parts = absurd (let lengths_agree = ap length parts in omega arith)
+  determined_from set [] [] b x are_incomplete parts =
+      absurd (let lengths_agree = ap length parts in omega arith)
   determined_from set (a ∷ w) [] b x are_incomplete parts =
       let same_first : a ≡ b = cc in
       let same_rest : w ≡ x = sym (rest_of b a x (w ++ []) parts ∙ append-nil w) in
       subst (IsDeterminedSoon (multi_byte_rule prefix) set b) same_rest
       (subst (λ n. IsDeterminedSoon (multi_byte_rule prefix) set n w) same_first
       (inr (
-        (λ v. let kind_is = ap (λ (h : Head). h.kind) (all_malformed prefix set a w are_incomplete) in cc),
+        (λ v. let kind_is = ap (λ (h : Head). h.kind)
+            (all_malformed prefix set a w are_incomplete) in cc),
         inr (by_end set a w are_incomplete),
       )))
   determined_from set w (c ∷ z) b x are_incomplete parts =
@@ -210,13 +231,17 @@ module _ (prefix : List ℕ → Prefix) (laws : ArePrefixes prefix) where
 
   pub multi_byte_is_lawful : IsLawfulRule (multi_byte_rule prefix)
   multi_byte_is_lawful = record {
-    lookahead = lookahead_by (multi_byte_rule prefix) (λ set b z. determined_from set [] (b ∷ z) b z tt refl);
+    lookahead = lookahead_by (multi_byte_rule prefix)
+        (λ set b z. determined_from set [] (b ∷ z) b z tt refl);
     small_texts = multi_byte_has_small_texts;
   }
 
 -- a byte that is complete is valid by itself
-pub multi_byte_has_bytes : (prefix : List ℕ → Prefix) (b : ℕ) (text : Text) → prefix (b ∷ []) ≡ Complete text
+pub multi_byte_has_bytes : (prefix : List ℕ → Prefix) (b : ℕ) (text : Text)
+    → prefix (b ∷ []) ≡ Complete text
     → ¬ (HasNoByteSequences (multi_byte_rule prefix))
 multi_byte_has_bytes prefix b text e =
-    let is_head = rule_at prefix 0 [] b [] b [] tt refl ∙ ap (λ r. prefix_head prefix 0 (b ∷ []) r []) e in
-    has_bytes_by (multi_byte_rule prefix) b [] (ap (λ (t : Head). t.kind) is_head) (ap (λ (t : Head). t.more) is_head)
+    let is_head = rule_at prefix 0 [] b [] b [] tt refl
+    ∙ ap (λ r. prefix_head prefix 0 (b ∷ []) r []) e in
+    has_bytes_by (multi_byte_rule prefix) b [] (ap (λ (t : Head). t.kind) is_head)
+    (ap (λ (t : Head). t.more) is_head)

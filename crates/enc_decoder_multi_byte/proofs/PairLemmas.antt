@@ -23,12 +23,26 @@ either true x y p q = p
 either false x y p q = q
 
 -- two characters of two code units each in UTF-8, and one in UTF-16
-two_are_text : (a b : ℕ) → length (encode_utf8 a) ≡ 2 → length (encode_utf8 b) ≡ 2 → length (encode_utf16 a) ≡ 1 → length (encode_utf16 b) ≡ 1 → IsPairText (Two a b)
+two_are_text : (a b : ℕ) → length (encode_utf8 a) ≡ 2 → length (encode_utf8 b) ≡ 2
+    → length (encode_utf16 a) ≡ 1 → length (encode_utf16 b) ≡ 1 → IsPairText (Two a b)
 two_are_text a b e f g h = record {
   some = λ x. cc;
   small = record {
-    utf_8 = omega (arith, e, f, length-append (encode_utf8 a) (encode_utf8 b ++ []), length-append (encode_utf8 b) []);
-    utf_16 = omega (arith, g, h, length-append (encode_utf16 a) (encode_utf16 b ++ []), length-append (encode_utf16 b) []);
+    utf_8 = omega (
+      arith,
+      e,
+      f,
+      length-append (encode_utf8 a) (encode_utf8 b ++ []),
+      length-append
+          (encode_utf8 b) [],
+    );
+    utf_16 = omega (
+      arith,
+      g,
+      h,
+      length-append (encode_utf16 a) (encode_utf16 b ++ []),
+      length-append (encode_utf16 b) [],
+    );
   };
 }
 
@@ -51,10 +65,20 @@ pub big5_pairs : ArePairs big5_single_char big5_pair_text
 big5_pairs = record { basic = ascii_is_basic; texts = pair_is_text; no_trail = λ a. refl }
 
 pub euc_kr_pairs : ArePairs euc_kr_single_char euc_kr_pair_text
-euc_kr_pairs = record { basic = ascii_is_basic; texts = λ a b. char_is_text _; no_trail = λ a. refl }
+euc_kr_pairs = record {
+  basic = ascii_is_basic;
+  texts = λ a b. char_is_text _;
+  no_trail = λ a.
+      refl;
+}
 
 single_is_basic : (b c : ℕ) → shift_jis_single_char b ≡ Some c → c < 0x1_0000
 single_is_basic b c e = grind (arith, nat_tests)
 
 pub shift_jis_pairs : ArePairs shift_jis_single_char shift_jis_pair_text
-shift_jis_pairs = record { basic = single_is_basic; texts = λ a b. char_is_text _; no_trail = λ a. refl }
+shift_jis_pairs = record {
+  basic = single_is_basic;
+  texts = λ a b. char_is_text _;
+  no_trail = λ a.
+      refl;
+}

@@ -39,14 +39,22 @@ abbrev euc_kr_column : ℕ → ℕ
 euc_kr_column b = b - 0x41
 
 euc_kr_rows : (a : ℕ) → a < 256
-    → get_or EUC_KR_PLACES a 0 ≡ row_place EucKr is_euc_kr_lead is_euc_kr_trail euc_kr_row none_further euc_kr_column a
+    → get_or EUC_KR_PLACES a 0
+    ≡ row_place EucKr is_euc_kr_lead is_euc_kr_trail euc_kr_row none_further euc_kr_column a
 unfolding tabulates
-euc_kr_rows a l = row_in (row_place EucKr is_euc_kr_lead is_euc_kr_trail euc_kr_row none_further euc_kr_column) (column_place EucKr is_euc_kr_lead is_euc_kr_trail euc_kr_row none_further euc_kr_column) EUC_KR_PLACES refl refl a l
+euc_kr_rows a l = row_in
+    (row_place EucKr is_euc_kr_lead is_euc_kr_trail euc_kr_row none_further euc_kr_column)
+    (column_place EucKr is_euc_kr_lead is_euc_kr_trail euc_kr_row none_further euc_kr_column)
+    EUC_KR_PLACES refl refl a l
 
 euc_kr_columns : (b : ℕ) → b < 256
-    → get_or EUC_KR_PLACES (256 + b) 0 ≡ column_place EucKr is_euc_kr_lead is_euc_kr_trail euc_kr_row none_further euc_kr_column b
+    → get_or EUC_KR_PLACES (256 + b) 0
+    ≡ column_place EucKr is_euc_kr_lead is_euc_kr_trail euc_kr_row none_further euc_kr_column b
 unfolding tabulates
-euc_kr_columns b l = column_in (row_place EucKr is_euc_kr_lead is_euc_kr_trail euc_kr_row none_further euc_kr_column) (column_place EucKr is_euc_kr_lead is_euc_kr_trail euc_kr_row none_further euc_kr_column) EUC_KR_PLACES refl refl b l
+euc_kr_columns b l = column_in
+    (row_place EucKr is_euc_kr_lead is_euc_kr_trail euc_kr_row none_further euc_kr_column)
+    (column_place EucKr is_euc_kr_lead is_euc_kr_trail euc_kr_row none_further euc_kr_column)
+    EUC_KR_PLACES refl refl b l
 
 euc_kr_small : (b : ℕ) → is_euc_kr_trail b ≡ true → euc_kr_column b < 190
 euc_kr_small b t = grind (arith, nat_tests)
@@ -59,11 +67,13 @@ pub euc_kr_found : (a b c : ℕ) → a < 256 → b < 256
     → grid_char EucKr (get_or EUC_KR_PLACES a 0 + get_or EUC_KR_PLACES (256 + b) 0) ≡ Some c
     → (is_euc_kr_lead a ≡ true) × (euc_kr_pair_text a b ≡ Some (One c))
 euc_kr_found a b c l m e =
-    let place = found EucKr is_euc_kr_lead is_euc_kr_trail euc_kr_row none_further euc_kr_column a b c _
+    let place = found EucKr is_euc_kr_lead is_euc_kr_trail euc_kr_row none_further euc_kr_column a b
+    c _
     (omega (arith, euc_kr_rows a l, euc_kr_columns b m)) (euc_kr_small b) e in
     let same : euc_kr_pair_pointer a b ≡ (euc_kr_row a + 0) * 190 + euc_kr_column b = omega arith in (
       place.lead,
-      ap text_of_char (cond-true (is_euc_kr_trail b) (euc_kr_at (euc_kr_pair_pointer a b)) None place.trail
+      ap text_of_char (cond-true (is_euc_kr_trail b) (euc_kr_at (euc_kr_pair_pointer a b)) None
+          place.trail
           ∙ ap euc_kr_at same ∙ place.is),
     )
 
@@ -76,15 +86,24 @@ abbrev gb18030_column : ℕ → ℕ
 gb18030_column b = b - cond (nat_lt b 0x7F) 0x40 0x41
 
 gb18030_rows : (a : ℕ) → a < 256
-    → get_or GB18030_PLACES a 0 ≡ row_place Gb18030 is_gb18030_lead is_gb18030_trail gb18030_row none_further
+    → get_or GB18030_PLACES a 0
+    ≡ row_place Gb18030 is_gb18030_lead is_gb18030_trail gb18030_row none_further
     gb18030_column a
 unfolding tabulates
-gb18030_rows a l = row_in (row_place Gb18030 is_gb18030_lead is_gb18030_trail gb18030_row none_further gb18030_column) (column_place Gb18030 is_gb18030_lead is_gb18030_trail gb18030_row none_further gb18030_column) GB18030_PLACES refl refl a l
+gb18030_rows a l = row_in
+    (row_place Gb18030 is_gb18030_lead is_gb18030_trail gb18030_row none_further gb18030_column)
+    (column_place Gb18030 is_gb18030_lead is_gb18030_trail gb18030_row none_further gb18030_column)
+    GB18030_PLACES refl refl a l
 
 gb18030_columns : (b : ℕ) → b < 256
-    → get_or GB18030_PLACES (256 + b) 0 ≡ column_place Gb18030 is_gb18030_lead is_gb18030_trail gb18030_row none_further gb18030_column b
+    → get_or GB18030_PLACES (256 + b) 0
+    ≡ column_place Gb18030 is_gb18030_lead is_gb18030_trail gb18030_row none_further
+    gb18030_column b
 unfolding tabulates
-gb18030_columns b l = column_in (row_place Gb18030 is_gb18030_lead is_gb18030_trail gb18030_row none_further gb18030_column) (column_place Gb18030 is_gb18030_lead is_gb18030_trail gb18030_row none_further gb18030_column) GB18030_PLACES refl refl b l
+gb18030_columns b l = column_in
+    (row_place Gb18030 is_gb18030_lead is_gb18030_trail gb18030_row none_further gb18030_column)
+    (column_place Gb18030 is_gb18030_lead is_gb18030_trail gb18030_row none_further gb18030_column)
+    GB18030_PLACES refl refl b l
 
 gb18030_small : (b : ℕ) → is_gb18030_trail b ≡ true → gb18030_column b < 190
 gb18030_small b t = grind (arith, nat_tests)
@@ -100,15 +119,19 @@ pub gb18030_found : (a b c : ℕ) → a < 256 → b < 256
     → grid_char Gb18030 (get_or GB18030_PLACES a 0 + get_or GB18030_PLACES (256 + b) 0) ≡ Some c
     → IsCharPair gb18030_prefix a b c
 gb18030_found a b c l m e =
-    let place = found Gb18030 is_gb18030_lead is_gb18030_trail gb18030_row none_further gb18030_column a b c _
+    let place = found Gb18030 is_gb18030_lead is_gb18030_trail gb18030_row none_further
+    gb18030_column a b c _
     (omega (arith, gb18030_rows a l, gb18030_columns b m))
     (gb18030_small b) e in
-    let same : gb18030_pair_pointer a b ≡ (gb18030_row a + 0) * 190 + gb18030_column b = omega arith in
-    let char : gb18030_pair_char a b ≡ Some c = cond-true (is_gb18030_trail b) (gb18030_at (gb18030_pair_pointer a b))
+    let same : gb18030_pair_pointer a b ≡ (gb18030_row a + 0) * 190 + gb18030_column b =
+    omega arith in
+    let char : gb18030_pair_char a b ≡ Some c =
+    cond-true (is_gb18030_trail b) (gb18030_at (gb18030_pair_pointer a b))
     None place.trail ∙ ap gb18030_at same ∙ place.is in
     record {
       first = ap (λ t. first_prefix t (gb18030_single_char a)) place.lead;
-      both = cond-false _ _ _ (no_digit b place.trail) ∙ ap (λ x. trail_prefix 1 b (text_of_char x)) char;
+      both = cond-false _ _ _ (no_digit b place.trail)
+          ∙ ap (λ x. trail_prefix 1 b (text_of_char x)) char;
     }
 
 -- Big5
@@ -120,14 +143,21 @@ abbrev big5_column : ℕ → ℕ
 big5_column b = b - cond (nat_lt b 0x7F) 0x40 0x62
 
 big5_rows : (a : ℕ) → a < 256
-    → get_or BIG5_PLACES a 0 ≡ row_place Big5 is_big5_lead is_big5_trail big5_row none_further big5_column a
+    → get_or BIG5_PLACES a 0
+    ≡ row_place Big5 is_big5_lead is_big5_trail big5_row none_further big5_column a
 unfolding tabulates
-big5_rows a l = row_in (row_place Big5 is_big5_lead is_big5_trail big5_row none_further big5_column) (column_place Big5 is_big5_lead is_big5_trail big5_row none_further big5_column) BIG5_PLACES refl refl a l
+big5_rows a l = row_in (row_place Big5 is_big5_lead is_big5_trail big5_row none_further big5_column)
+    (column_place Big5 is_big5_lead is_big5_trail big5_row none_further big5_column) BIG5_PLACES
+    refl refl a l
 
 big5_columns : (b : ℕ) → b < 256
-    → get_or BIG5_PLACES (256 + b) 0 ≡ column_place Big5 is_big5_lead is_big5_trail big5_row none_further big5_column b
+    → get_or BIG5_PLACES (256 + b) 0
+    ≡ column_place Big5 is_big5_lead is_big5_trail big5_row none_further big5_column b
 unfolding tabulates
-big5_columns b l = column_in (row_place Big5 is_big5_lead is_big5_trail big5_row none_further big5_column) (column_place Big5 is_big5_lead is_big5_trail big5_row none_further big5_column) BIG5_PLACES refl refl b l
+big5_columns b l = column_in
+    (row_place Big5 is_big5_lead is_big5_trail big5_row none_further big5_column)
+    (column_place Big5 is_big5_lead is_big5_trail big5_row none_further big5_column) BIG5_PLACES
+    refl refl b l
 
 big5_small : (b : ℕ) → is_big5_trail b ≡ true → big5_column b < 157
 big5_small b t = grind (arith, nat_tests)
@@ -143,7 +173,8 @@ apart n p c e f = ne_eqb p n (λ same. some_none _ c (ap big5_at same ∙ e) f)
 big5_one : (p c : ℕ) → big5_at p ≡ Some c → big5_pointer_text p ≡ Some (One c)
 unfolding runs_of
 big5_one p c has_char =
-    cond-false _ _ _ (apart 1133 p c refl has_char) ∙ cond-false _ _ _ (apart 1135 p c refl has_char)
+    cond-false _ _ _ (apart 1133 p c refl has_char)
+    ∙ cond-false _ _ _ (apart 1135 p c refl has_char)
     ∙ cond-false _ _ _ (apart 1164 p c refl has_char)
     ∙ cond-false _ _ _ (apart 1166 p c refl has_char) ∙ ap text_of_char has_char
 
@@ -168,15 +199,23 @@ abbrev euc_jp_column : ℕ → ℕ
 euc_jp_column b = b - 0xA1
 
 euc_jp_rows : (a : ℕ) → a < 256
-    → get_or EUC_JP_PLACES a 0 ≡ row_place Jis0208 is_euc_byte is_euc_byte euc_jp_row none_further euc_jp_column a
+    → get_or EUC_JP_PLACES a 0
+    ≡ row_place Jis0208 is_euc_byte is_euc_byte euc_jp_row none_further euc_jp_column a
 unfolding tabulates
-euc_jp_rows a l = row_in (row_place Jis0208 is_euc_byte is_euc_byte euc_jp_row none_further euc_jp_column) (column_place Jis0208 is_euc_byte is_euc_byte euc_jp_row none_further euc_jp_column) EUC_JP_PLACES refl refl a l
+euc_jp_rows a l = row_in
+    (row_place Jis0208 is_euc_byte is_euc_byte euc_jp_row none_further euc_jp_column)
+    (column_place Jis0208 is_euc_byte is_euc_byte euc_jp_row none_further euc_jp_column)
+    EUC_JP_PLACES refl refl a l
 
 euc_jp_columns : (b : ℕ) → b < 256
-    → get_or EUC_JP_PLACES (256 + b) 0 ≡ column_place Jis0208 is_euc_byte is_euc_byte euc_jp_row none_further
+    → get_or EUC_JP_PLACES (256 + b) 0
+    ≡ column_place Jis0208 is_euc_byte is_euc_byte euc_jp_row none_further
     euc_jp_column b
 unfolding tabulates
-euc_jp_columns b l = column_in (row_place Jis0208 is_euc_byte is_euc_byte euc_jp_row none_further euc_jp_column) (column_place Jis0208 is_euc_byte is_euc_byte euc_jp_row none_further euc_jp_column) EUC_JP_PLACES refl refl b l
+euc_jp_columns b l = column_in
+    (row_place Jis0208 is_euc_byte is_euc_byte euc_jp_row none_further euc_jp_column)
+    (column_place Jis0208 is_euc_byte is_euc_byte euc_jp_row none_further euc_jp_column)
+    EUC_JP_PLACES refl refl b l
 
 euc_jp_small : (b : ℕ) → is_euc_byte b ≡ true → euc_jp_column b < 94
 euc_jp_small b t = grind (arith, nat_tests)
@@ -206,13 +245,15 @@ euc_jp_found a b c l m e =
     (ap (λ t. t && is_euc_byte b) place.lead ∙ place.trail) ∙ ap jis0208_at same ∙ place.is in
     record {
       first = ap (λ t. first_prefix t (euc_jp_single_char a)) (leads a place.lead);
-      both = cond-false _ _ _ (no_third a b place.lead) ∙ ap (λ x. trail_prefix 1 b (text_of_char x)) char;
+      both = cond-false _ _ _ (no_third a b place.lead)
+          ∙ ap (λ x. trail_prefix 1 b (text_of_char x)) char;
     }
 
 -- Shift_JIS: two rows of the index to a lead, and none of the private use area
 
 abbrev has_rows : ℕ → Bool
-has_rows a = (nat_le 0x81 a && nat_le a 0x9F) || ((nat_le 0xE0 a && nat_le a 0xEF) || (nat_le 0xFA a && nat_le a 0xFC))
+has_rows a = (nat_le 0x81 a && nat_le a 0x9F)
+    || ((nat_le 0xE0 a && nat_le a 0xEF) || (nat_le 0xFA a && nat_le a 0xFC))
 
 -- the number of a trail
 abbrev trail_number : ℕ → ℕ
@@ -228,14 +269,23 @@ abbrev shift_jis_column : ℕ → ℕ
 shift_jis_column b = trail_number b % 94
 
 shift_jis_rows : (a : ℕ) → a < 256
-    → get_or SHIFT_JIS_PLACES a 0 ≡ row_place Jis0208 has_rows is_shift_jis_trail shift_jis_row second_row shift_jis_column a
+    → get_or SHIFT_JIS_PLACES a 0
+    ≡ row_place Jis0208 has_rows is_shift_jis_trail shift_jis_row second_row shift_jis_column a
 unfolding tabulates
-shift_jis_rows a l = row_in (row_place Jis0208 has_rows is_shift_jis_trail shift_jis_row second_row shift_jis_column) (column_place Jis0208 has_rows is_shift_jis_trail shift_jis_row second_row shift_jis_column) SHIFT_JIS_PLACES refl refl a l
+shift_jis_rows a l = row_in
+    (row_place Jis0208 has_rows is_shift_jis_trail shift_jis_row second_row shift_jis_column)
+    (column_place Jis0208 has_rows is_shift_jis_trail shift_jis_row second_row shift_jis_column)
+    SHIFT_JIS_PLACES refl refl a l
 
 shift_jis_columns : (b : ℕ) → b < 256
-    → get_or SHIFT_JIS_PLACES (256 + b) 0 ≡ column_place Jis0208 has_rows is_shift_jis_trail shift_jis_row second_row shift_jis_column b
+    → get_or SHIFT_JIS_PLACES (256 + b) 0
+    ≡ column_place Jis0208 has_rows is_shift_jis_trail shift_jis_row second_row shift_jis_column
+    b
 unfolding tabulates
-shift_jis_columns b l = column_in (row_place Jis0208 has_rows is_shift_jis_trail shift_jis_row second_row shift_jis_column) (column_place Jis0208 has_rows is_shift_jis_trail shift_jis_row second_row shift_jis_column) SHIFT_JIS_PLACES refl refl b l
+shift_jis_columns b l =
+    column_in (row_place Jis0208 has_rows is_shift_jis_trail shift_jis_row second_row
+    shift_jis_column) (column_place Jis0208 has_rows is_shift_jis_trail shift_jis_row second_row
+    shift_jis_column) SHIFT_JIS_PLACES refl refl b l
 
 shift_jis_small : (b : ℕ) → is_shift_jis_trail b ≡ true → shift_jis_column b < 94
 shift_jis_small b t = grind (arith, nat_tests)
@@ -249,20 +299,25 @@ leads_too a t = grind (arith, nat_tests)
 
 -- the pointers of these leads are not of the private use area
 not_private : (a b : ℕ) → has_rows a ≡ true → is_shift_jis_trail b ≡ true
-    → (nat_le 8836 (shift_jis_pair_pointer a b) && nat_le (shift_jis_pair_pointer a b) 10715) ≡ false
+    → (nat_le 8836 (shift_jis_pair_pointer a b) && nat_le (shift_jis_pair_pointer a b) 10715)
+    ≡ false
 not_private a b t u = grind (arith, nat_tests)
 
 pub shift_jis_found : (a b c : ℕ) → a < 256 → b < 256
     → grid_char Jis0208 (get_or SHIFT_JIS_PLACES a 0 + get_or SHIFT_JIS_PLACES (256 + b) 0) ≡ Some c
     → (is_shift_jis_lead a ≡ true) × (shift_jis_pair_text a b ≡ Some (One c))
 shift_jis_found a b c l m e =
-    let place = found Jis0208 has_rows is_shift_jis_trail shift_jis_row second_row shift_jis_column a b c _
+    let place = found Jis0208 has_rows is_shift_jis_trail shift_jis_row second_row shift_jis_column
+    a b c _
     (omega (arith, shift_jis_rows a l, shift_jis_columns b m))
     (shift_jis_small b) e in
     let row : second_row b ≡ trail_number b / 94 = cond-true _ _ _ place.trail in
-    let same : shift_jis_pair_pointer a b ≡ (shift_jis_row a + second_row b) * 94 + shift_jis_column b = omega (arith, row) in (
+    let same : shift_jis_pair_pointer a b ≡ (shift_jis_row a + second_row b) * 94
+    + shift_jis_column b = omega (arith, row) in (
       leads_too a place.lead,
       ap text_of_char
-          (cond-true (is_shift_jis_trail b) (shift_jis_pointer_char (shift_jis_pair_pointer a b)) None place.trail
-          ∙ cond-false _ _ _ (not_private a b place.lead place.trail) ∙ ap jis0208_at same ∙ place.is),
+          (cond-true (is_shift_jis_trail b) (shift_jis_pointer_char (shift_jis_pair_pointer a b))
+          None place.trail
+          ∙ cond-false _ _ _ (not_private a b place.lead place.trail) ∙ ap jis0208_at same
+          ∙ place.is),
     )

@@ -1,5 +1,7 @@
--- The rule of Big5, by lead byte, trail byte and pointer (Encoding Standard 11.1.1, "Big5 decoder").
-use Rattle.std.specs.Prelude.{ℕ, ◌+◌, ◌-◌, ◌*◌, Bool, ◌&&◌, ◌||◌, ◌==◌, nat_le, nat_lt, Option, Some, None, List, if◌then◌else◌}
+-- The rule of Big5, by lead byte, trail byte and pointer (Encoding Standard 11.1.1, "Big5
+-- decoder").
+use Rattle.std.specs.Prelude.{ℕ, ◌+◌, ◌-◌, ◌*◌, Bool, ◌&&◌, ◌||◌, ◌==◌, nat_le, nat_lt, Option, Some, None, List}
+use Rattle.std.specs.Prelude.{if◌then◌else◌}
 use Rattle.enc_decoder.specs.declared.byte_codec.Text.{Text}
 use Rattle.enc_decoder.specs.declared.byte_codec.Text.TheVariants.{Two}
 use Rattle.enc_decoder_multi_byte.specs.declared.multi_byte.Prefix.{Prefix}
@@ -16,7 +18,8 @@ is_big5_trail b = (nat_le 0x40 b && nat_le b 0x7E) || (nat_le 0xA1 b && nat_le b
 
 -- the pointer of a lead byte and a trail byte
 abbrev pub big5_pair_pointer : ℕ → ℕ → ℕ
-big5_pair_pointer lead trail = (lead - 0x81) * 157 + (trail - (if nat_lt trail 0x7F then 0x40 else 0x62))
+big5_pair_pointer lead trail =
+    (lead - 0x81) * 157 + (trail - (if nat_lt trail 0x7F then 0x40 else 0x62))
 
 -- the character of a byte that stands alone
 abbrev pub big5_single_char : ℕ → Option ℕ
@@ -33,7 +36,8 @@ big5_pointer_text pointer =
 
 -- the text of a lead byte and the byte after it
 abbrev pub big5_pair_text : ℕ → ℕ → Option Text
-big5_pair_text lead b = if is_big5_trail b then big5_pointer_text (big5_pair_pointer lead b) else None
+big5_pair_text lead b =
+    if is_big5_trail b then big5_pointer_text (big5_pair_pointer lead b) else None
 
 -- the kind of a prefix
 abbrev pub big5_prefix : List ℕ → Prefix

@@ -1,5 +1,5 @@
--- Encodings with characters of one byte and two (Encoding Standard 10 to 13): bytes that stand alone, and a lead byte
--- with a trail byte.
+-- Encodings with characters of one byte and two (Encoding Standard 10 to 13): bytes that stand
+-- alone, and a lead byte with a trail byte.
 use Rattle.std.specs.Prelude.{◌≡◌, ◌≢◌, ℕ, ◌+◌, ◌<◌, Bool, nat_lt, Option, Some, None, List, [], ◌∷◌, if◌then◌else◌}
 use Rattle.enc_decoder.specs.declared.byte_codec.Text.{Text}
 use Rattle.enc_decoder.specs.declared.byte_codec.Text.TheVariants.{One}
@@ -22,14 +22,16 @@ single_prefix None = Malformed 1
 abbrev pub first_prefix : Bool → Option ℕ → Prefix
 first_prefix leads single = if leads then Incomplete else single_prefix single
 
--- A byte after n others: their text, or malformed, with that byte unless it is ASCII. An ASCII byte is restored.
+-- A byte after n others: their text, or malformed, with that byte unless it is ASCII. An ASCII byte
+-- is restored.
 abbrev pub trail_prefix : ℕ → ℕ → Option Text → Prefix
 trail_prefix n b (Some text) = Complete text
 trail_prefix n b None = Malformed (if nat_lt b 0x80 then n else n + 1)
 
--- the kind of a prefix, by the lead bytes, the characters of other bytes, and the texts of a lead byte with the byte
--- after it
-abbrev pub double_byte_prefix : (ℕ → Bool) → (ℕ → Option ℕ) → (ℕ → ℕ → Option Text) → List ℕ → Prefix
+-- the kind of a prefix, by the lead bytes, the characters of other bytes, and the texts of a lead
+-- byte with the byte after it
+abbrev pub double_byte_prefix : (ℕ → Bool) → (ℕ → Option ℕ) → (ℕ → ℕ → Option Text) → List ℕ
+    → Prefix
 double_byte_prefix is_lead single pair [] = Incomplete
 double_byte_prefix is_lead single pair (a ∷ []) = first_prefix (is_lead a) (single a)
 double_byte_prefix is_lead single pair (a ∷ b ∷ z) = trail_prefix 1 b (pair a b)
@@ -39,8 +41,8 @@ pub record IsPairText (text : Text) : Type 0 where
   pub some : text_chars text ≢ []
   pub small : IsSmallText (text_chars text)
 
--- The laws of single bytes and pairs: single bytes are characters of the Basic Multilingual Plane, pairs have small
--- texts, and FF is no trail byte.
+-- The laws of single bytes and pairs: single bytes are characters of the Basic Multilingual Plane,
+-- pairs have small texts, and FF is no trail byte.
 pub record ArePairs (single : ℕ → Option ℕ) (pair : ℕ → ℕ → Option Text) : Type 0 where
   pub basic : (b c : ℕ) → single b ≡ Some c → c < 0x1_0000
   pub texts : (a b : ℕ) (text : Text) → pair a b ≡ Some text → IsPairText text

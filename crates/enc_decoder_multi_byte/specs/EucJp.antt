@@ -1,5 +1,6 @@
 -- The rule of EUC-JP, by bytes and pointers (Encoding Standard 12.1.1, "EUC-JP decoder").
-use Rattle.std.specs.Prelude.{ℕ, ◌+◌, ◌-◌, ◌*◌, Bool, ◌&&◌, ◌||◌, ◌==◌, nat_le, nat_lt, Option, Some, None, List, [], ◌∷◌, if◌then◌else◌}
+use Rattle.std.specs.Prelude.{ℕ, ◌+◌, ◌-◌, ◌*◌, Bool, ◌&&◌, ◌||◌, ◌==◌, nat_le, nat_lt, Option, Some, None, List, []}
+use Rattle.std.specs.Prelude.{◌∷◌, if◌then◌else◌}
 use Rattle.enc_decoder_multi_byte.specs.declared.multi_byte.Prefix.{Prefix}
 use Rattle.enc_decoder_multi_byte.specs.declared.multi_byte.Prefix.TheVariants.{Incomplete}
 use Rattle.enc_index.specs.Runs.{jis0208_at, jis0212_at}
@@ -38,5 +39,6 @@ abbrev pub euc_jp_prefix : List ℕ → Prefix
 euc_jp_prefix [] = Incomplete
 euc_jp_prefix (a ∷ []) = first_prefix (is_euc_jp_lead a) (euc_jp_single_char a)
 euc_jp_prefix (a ∷ b ∷ []) =
-    if a == 0x8F && is_euc_byte b then Incomplete else trail_prefix 1 b (text_of_char (euc_jp_pair_char a b))
+    if a == 0x8F && is_euc_byte b then Incomplete else trail_prefix 1 b
+    (text_of_char (euc_jp_pair_char a b))
 euc_jp_prefix (a ∷ b ∷ c ∷ z) = trail_prefix 2 c (text_of_char (euc_jp_triple_char b c))

@@ -1,4 +1,5 @@
--- The rule of EUC-KR, by lead byte, trail byte and pointer (Encoding Standard 13.1.1, "EUC-KR decoder").
+-- The rule of EUC-KR, by lead byte, trail byte and pointer (Encoding Standard 13.1.1, "EUC-KR
+-- decoder").
 use Rattle.std.specs.Prelude.{ℕ, ◌+◌, ◌-◌, ◌*◌, Bool, ◌&&◌, nat_le, nat_lt, Option, Some, None, List, if◌then◌else◌}
 use Rattle.enc_decoder.specs.declared.byte_codec.Text.{Text}
 use Rattle.enc_decoder_multi_byte.specs.declared.multi_byte.Prefix.{Prefix}

@@ -1,5 +1,7 @@
--- The rule of gb18030 and GBK, which have the same decoder (Encoding Standard 10.2.1, "gb18030 decoder"; 10.1.1).
-use Rattle.std.specs.Prelude.{ℕ, ◌+◌, ◌-◌, ◌*◌, Bool, ◌&&◌, ◌||◌, ◌==◌, nat_le, nat_lt, Option, Some, None, List, [], ◌∷◌, if◌then◌else◌}
+-- The rule of gb18030 and GBK, which have the same decoder (Encoding Standard 10.2.1, "gb18030
+-- decoder"; 10.1.1).
+use Rattle.std.specs.Prelude.{ℕ, ◌+◌, ◌-◌, ◌*◌, Bool, ◌&&◌, ◌||◌, ◌==◌, nat_le, nat_lt, Option, Some, None, List, []}
+use Rattle.std.specs.Prelude.{◌∷◌, if◌then◌else◌}
 use Rattle.enc_decoder.specs.declared.byte_codec.Text.TheVariants.{One}
 use Rattle.enc_decoder_multi_byte.specs.declared.multi_byte.Prefix.{Prefix}
 use Rattle.enc_decoder_multi_byte.specs.declared.multi_byte.Prefix.TheVariants.{Complete, Malformed, Incomplete}
@@ -24,13 +26,15 @@ gb18030_single_char b = if nat_lt b 0x80 then Some b else if b == 0x80 then Some
 
 -- the pointer and the character of two bytes
 abbrev pub gb18030_pair_pointer : ℕ → ℕ → ℕ
-gb18030_pair_pointer lead trail = (lead - 0x81) * 190 + (trail - (if nat_lt trail 0x7F then 0x40 else 0x41))
+gb18030_pair_pointer lead trail =
+    (lead - 0x81) * 190 + (trail - (if nat_lt trail 0x7F then 0x40 else 0x41))
 
 abbrev pub gb18030_pair_char : ℕ → ℕ → Option ℕ
-gb18030_pair_char lead b = if is_gb18030_trail b then gb18030_at (gb18030_pair_pointer lead b) else None
+gb18030_pair_char lead b =
+    if is_gb18030_trail b then gb18030_at (gb18030_pair_pointer lead b) else None
 
--- four bytes (Encoding Standard 5, "index gb18030 ranges code point"): some pointers have no character, and one is in
--- no range
+-- four bytes (Encoding Standard 5, "index gb18030 ranges code point"): some pointers have no
+-- character, and one is in no range
 abbrev pub four_byte_pointer : ℕ → ℕ → ℕ → ℕ → ℕ
 four_byte_pointer a b c d = ((a - 0x81) * 10 + (b - 0x30)) * 1260 + ((c - 0x81) * 10 + (d - 0x30))
 
@@ -54,6 +58,9 @@ four_byte_prefix None = Malformed 4
 abbrev pub gb18030_prefix : List ℕ → Prefix
 gb18030_prefix [] = Incomplete
 gb18030_prefix (a ∷ []) = first_prefix (is_gb18030_lead a) (gb18030_single_char a)
-gb18030_prefix (a ∷ b ∷ []) = if is_digit b then Incomplete else trail_prefix 1 b (text_of_char (gb18030_pair_char a b))
+gb18030_prefix (a ∷ b ∷ []) =
+    if is_digit b then Incomplete else trail_prefix 1 b (text_of_char (gb18030_pair_char a b))
 gb18030_prefix (a ∷ b ∷ c ∷ []) = if is_gb18030_lead c then Incomplete else Malformed 1
-gb18030_prefix (a ∷ b ∷ c ∷ d ∷ z) = if is_digit d then four_byte_prefix (ranges_code_point (four_byte_pointer a b c d)) else Malformed 1
+gb18030_prefix (a ∷ b ∷ c ∷ d ∷ z) =
+    if is_digit d then four_byte_prefix (ranges_code_point (four_byte_pointer a b c d)) else
+    Malformed 1

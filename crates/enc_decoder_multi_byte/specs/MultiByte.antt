@@ -1,4 +1,5 @@
--- Legacy multi-byte encodings without escape sequences (Encoding Standard 10 to 13), by the kinds of prefixes.
+-- Legacy multi-byte encodings without escape sequences (Encoding Standard 10 to 13), by the kinds
+-- of prefixes.
 use Rattle.std.specs.Prelude.{◌≡◌, ◌≢◌, ℕ, ◌-◌, ◌<◌, ◌≤◌, List, [], ◌∷◌, ◌++◌, length}
 use Rattle.enc_decoder.specs.declared.byte_codec.Text.{Text}
 use Rattle.enc_decoder.specs.declared.byte_codec.Text.TheVariants.{One}
@@ -15,13 +16,15 @@ use Rattle.enc_decoder.specs.Need.{IsBmpText}
 abbrev pub malformed_prefix_head : ℕ → ℕ → Head
 malformed_prefix_head set n = malformed_head set (n - 1)
 
--- The first sequence, by the kind of the prefix `front` and all bytes after it. An incomplete prefix needs one byte
--- more. At the end of the input it is malformed as a whole.
+-- The first sequence, by the kind of the prefix `front` and all bytes after it. An incomplete
+-- prefix needs one byte more. At the end of the input it is malformed as a whole.
 abbrev pub prefix_head : (List ℕ → Prefix) → ℕ → List ℕ → Prefix → List ℕ → Head
-prefix_head prefix set front (Complete text) z = record { more = length front - 1; text = text_chars text; kind = Valid; set = set }
+prefix_head prefix set front (Complete text) z =
+    record { more = length front - 1; text = text_chars text; kind = Valid; set = set }
 prefix_head prefix set front (Malformed n) z = malformed_prefix_head set n
 prefix_head prefix set front Incomplete [] = malformed_prefix_head set (length front)
-prefix_head prefix set front Incomplete (c ∷ z) = prefix_head prefix set (front ++ c ∷ []) (prefix (front ++ c ∷ [])) z
+prefix_head prefix set front Incomplete (c ∷ z) =
+    prefix_head prefix set (front ++ c ∷ []) (prefix (front ++ c ∷ [])) z
 
 -- the rule, by the kinds of prefixes
 unfoldable pub multi_byte_rule : (List ℕ → Prefix) → Rule
@@ -29,12 +32,14 @@ multi_byte_rule prefix set b z = prefix_head prefix set (b ∷ []) (prefix (b �
 
 -- with these pending bytes
 abbrev pub multi_byte_state : (List ℕ → Prefix) → List ℕ → CodecState
-multi_byte_state prefix pending = record { rule = multi_byte_rule prefix; set = 0; pending = pending }
+multi_byte_state prefix pending =
+    record { rule = multi_byte_rule prefix; set = 0; pending = pending }
 
 -- each prefix of these bytes, after `front`, is incomplete
 abbrev pub AreIncomplete : (List ℕ → Prefix) → List ℕ → List ℕ → Type 0
 AreIncomplete prefix front [] = Unit {0}
-AreIncomplete prefix front (c ∷ z) = (prefix (front ++ c ∷ []) ≡ Incomplete) × AreIncomplete prefix (front ++ c ∷ []) z
+AreIncomplete prefix front (c ∷ z) = (prefix (front ++ c ∷ []) ≡ Incomplete)
+    × AreIncomplete prefix (front ++ c ∷ []) z
 
 -- Some byte after them makes them malformed with another length than the end of the input does.
 pub record CanBeMalformed (prefix : List ℕ → Prefix) (front : List ℕ) : Type 0 where
@@ -49,9 +54,11 @@ pub record ArePrefixes (prefix : List ℕ → Prefix) : Type 0 where
   pub nothing : prefix [] ≡ Incomplete
   pub texts : (front : List ℕ) (text : Text) → prefix front ≡ Complete text → IsPairText text
   pub alone : (b : ℕ) (text : Text) → prefix (b ∷ []) ≡ Complete text → IsBmpText (text_chars text)
-  pub malformed : (front : List ℕ) (n : ℕ) → prefix front ≡ Malformed n → (0 < n) × (n ≤ length front)
+  pub malformed : (front : List ℕ) (n : ℕ) → prefix front ≡ Malformed n → (0 < n)
+      × (n ≤ length front)
   pub short : (front : List ℕ) → prefix front ≡ Incomplete → length front ≤ 3
-  pub can_be_malformed : (front : List ℕ) → 0 < length front → prefix front ≡ Incomplete → CanBeMalformed prefix front
+  pub can_be_malformed : (front : List ℕ) → 0 < length front → prefix front ≡ Incomplete
+      → CanBeMalformed prefix front
 
 -- an ASCII byte is the character with its number
 abbrev pub HasAscii : (List ℕ → Prefix) → Type 0

@@ -1,5 +1,7 @@
--- The rule of Shift_JIS, by lead byte, trail byte and pointer (Encoding Standard 12.3.1, "Shift_JIS decoder").
-use Rattle.std.specs.Prelude.{ℕ, ◌+◌, ◌-◌, ◌*◌, Bool, ◌&&◌, ◌||◌, nat_le, nat_lt, Option, Some, None, List, if◌then◌else◌}
+-- The rule of Shift_JIS, by lead byte, trail byte and pointer (Encoding Standard 12.3.1, "Shift_JIS
+-- decoder").
+use Rattle.std.specs.Prelude.{ℕ, ◌+◌, ◌-◌, ◌*◌, Bool, ◌&&◌, ◌||◌, nat_le, nat_lt, Option, Some, None, List}
+use Rattle.std.specs.Prelude.{if◌then◌else◌}
 use Rattle.enc_decoder.specs.declared.byte_codec.Text.{Text}
 use Rattle.enc_decoder_multi_byte.specs.declared.multi_byte.Prefix.{Prefix}
 use Rattle.enc_index.specs.Runs.{jis0208_at}
@@ -17,11 +19,13 @@ is_shift_jis_trail b = (nat_le 0x40 b && nat_le b 0x7E) || (nat_le 0x80 b && nat
 -- the pointer of a lead byte and a trail byte
 abbrev pub shift_jis_pair_pointer : ℕ → ℕ → ℕ
 shift_jis_pair_pointer lead trail =
-    (lead - (if nat_lt lead 0xA0 then 0x81 else 0xC1)) * 188 + (trail - (if nat_lt trail 0x7F then 0x40 else 0x41))
+    (lead - (if nat_lt lead 0xA0 then 0x81 else 0xC1)) * 188
+    + (trail - (if nat_lt trail 0x7F then 0x40 else 0x41))
 
 -- the character of a byte that stands alone
 abbrev pub shift_jis_single_char : ℕ → Option ℕ
-shift_jis_single_char b = if nat_le b 0x80 then Some b else if is_katakana_byte b then Some (katakana_of_byte b)
+shift_jis_single_char b =
+    if nat_le b 0x80 then Some b else if is_katakana_byte b then Some (katakana_of_byte b)
     else None
 
 -- the character of a pointer; those for private use are in no index
@@ -33,7 +37,8 @@ shift_jis_pointer_char pointer =
 -- the text of a lead byte and the byte after it
 abbrev pub shift_jis_pair_text : ℕ → ℕ → Option Text
 shift_jis_pair_text lead b =
-    text_of_char (if is_shift_jis_trail b then shift_jis_pointer_char (shift_jis_pair_pointer lead b) else None)
+    text_of_char (if is_shift_jis_trail b then shift_jis_pointer_char
+    (shift_jis_pair_pointer lead b) else None)
 
 -- the kind of a prefix
 abbrev pub shift_jis_prefix : List ℕ → Prefix

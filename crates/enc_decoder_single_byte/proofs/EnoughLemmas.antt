@@ -28,7 +28,8 @@ AreBasic character = (b c : ℕ) → b < 256 → character b ≡ Some c → c < 
 entry_is_basic : (n c : ℕ) → entry_character Basic n ≡ Some c → c < 0x1_0000
 entry_is_basic n c e = by_test (is_entry_code_point Basic n) refl e
   where
-    by_test : (t : Bool) → is_entry_code_point Basic n ≡ t → cond t (Some n) None ≡ Some c → c < 0x1_0000
+    by_test : (t : Bool) → is_entry_code_point Basic n ≡ t → cond t (Some n) None ≡ Some c
+        → c < 0x1_0000
     by_test true f is_char =
         let in_basic_plane : n < 0x1_0000 = grind (arith, nat_tests) in
         omega (arith, in_basic_plane, same_some n c is_char)
@@ -36,9 +37,12 @@ entry_is_basic n c e = by_test (is_entry_code_point Basic n) refl e
 
 index_is_basic : (runs : List Run) (p c : ℕ) → index_at Basic runs p ≡ Some c → c < 0x1_0000
 index_is_basic [] p c e = absurd (cc)
-index_is_basic (run ∷ runs) p c e = by_test (nat_le run.0 p && nat_le p run.1) (index_is_basic runs p c) e
+index_is_basic (run ∷ runs) p c e =
+    by_test (nat_le run.0 p && nat_le p run.1) (index_is_basic runs p c) e
   where
-    by_test : (t : Bool) → (index_at Basic runs p ≡ Some c → c < 0x1_0000) → cond t (entry_character Basic (run.2 + (p - run.0))) (index_at Basic runs p) ≡ Some c → c < 0x1_0000
+    by_test : (t : Bool) → (index_at Basic runs p ≡ Some c → c < 0x1_0000)
+        → cond t (entry_character Basic (run.2 + (p - run.0))) (index_at Basic runs p) ≡ Some c
+        → c < 0x1_0000
     by_test true h is_char = entry_is_basic (run.2 + (p - run.0)) c is_char
     by_test false h is_char = h is_char
 
@@ -60,27 +64,34 @@ module _ (character : ℕ → Option ℕ) (is_basic : AreBasic character) where
   abbrev rule : Rule
   rule = one_byte_rule character
 
-  head_is_basic : (set b : ℕ) (c : Option ℕ) → b < 256 → character b ≡ c → IsBmpText (one_byte_head set c).text
+  head_is_basic : (set b : ℕ) (c : Option ℕ) → b < 256 → character b ≡ c
+      → IsBmpText (one_byte_head set c).text
   head_is_basic set b None l e = basic_by 0xFFFD (omega arith)
   head_is_basic set b (Some c) l e = basic_by c (is_basic b c l e)
 
   -- at most n code units for each byte
-  module _ (units_of : ℕ → List ℕ) (each : ℕ) (most : (text : List ℕ) → IsBmpText text → length (units_of_text units_of text) ≤ each) where
-    bounded_bytes : (set : ℕ) (z : List ℕ) → AreBytes z → units units_of (sequences_of rule set z) ≤ each * length z
+  module _ (units_of : ℕ → List ℕ) (each : ℕ)
+      (most : (text : List ℕ) → IsBmpText text → length (units_of_text units_of text) ≤ each) where
+    bounded_bytes : (set : ℕ) (z : List ℕ) → AreBytes z
+        → units units_of (sequences_of rule set z) ≤ each * length z
     unfolding one_byte_rule sequences_after
     bounded_bytes set [] are_bytes = omega arith
     bounded_bytes set (b ∷ z) are_bytes =
         first set b z (character b) (head_is_basic set b (character b) are_bytes.0 refl)
         (λ s. bounded_bytes s z are_bytes.1)
       where
-        first : (set b : ℕ) (z : List ℕ) (c : Option ℕ) → IsBmpText (one_byte_head set c).text → ((s : ℕ) → units units_of (sequences_of rule s z) ≤ each * length z)
-            → units units_of (head_sequence (one_byte_head set c) b z ∷ sequences_after rule (one_byte_head set c).set (one_byte_head set c).more z) ≤ each * suc (length z)
+        first : (set b : ℕ) (z : List ℕ) (c : Option ℕ) → IsBmpText (one_byte_head set c).text
+            → ((s : ℕ) → units units_of (sequences_of rule s z) ≤ each * length z)
+            → units units_of (head_sequence (one_byte_head set c) b z
+            ∷ sequences_after rule (one_byte_head set c).set (one_byte_head set c).more z)
+            ≤ each * suc (length z)
         first set b z None is_basic rest_bounded =
             grind (
               arith,
               most _ is_basic,
               rest_bounded set,
-              units-both units_of (head_sequence (one_byte_head set None) b z ∷ []) (sequences_of rule set z),
+              units-both units_of (head_sequence (one_byte_head set None) b z ∷ [])
+                  (sequences_of rule set z),
               units-one
                   units_of (head_sequence (one_byte_head set None) b z) _ refl,
             )
@@ -89,29 +100,49 @@ module _ (character : ℕ → Option ℕ) (is_basic : AreBasic character) where
               arith,
               most _ is_basic,
               rest_bounded set,
-              units-both units_of (head_sequence (one_byte_head set (Some c)) b z ∷ []) (sequences_of rule set z),
+              units-both units_of (head_sequence (one_byte_head set (Some c)) b z ∷ [])
+                  (sequences_of rule set z),
               units-one units_of (head_sequence (one_byte_head set (Some c)) b z) _ refl,
             )
 
   abbrev state : CodecState
   state = record { rule = rule; set = 0; pending = [] }
 
-  never : (units_of : ℕ → List ℕ) (each : ℕ) → ((text : List ℕ) → IsBmpText text → length (units_of_text units_of text) ≤ each)
-      → (mode : DecodeErrorMode) (src : List ℕ) (last : Bool) (n : ℕ) → AreBytes src → each * length src ≤ n → NeedExceeds units_of mode (remainder_of state) src last n → ⊥
+  never : (units_of : ℕ → List ℕ) (each : ℕ)
+      → ((text : List ℕ) → IsBmpText text → length (units_of_text units_of text) ≤ each)
+      → (mode : DecodeErrorMode) (src : List ℕ) (last : Bool) (n : ℕ) → AreBytes src
+      → each * length src ≤ n → NeedExceeds units_of mode (remainder_of state) src last n → ⊥
   never units_of each most mode src last n a l p =
-      omega (arith, l, bounded_bytes units_of each most 0 src a, needed_less units_of mode (sequences_of rule 0 src), needs_all units_of mode state src last n p)
+      omega (
+        arith,
+        l,
+        bounded_bytes units_of each most 0 src a,
+        needed_less units_of mode
+            (sequences_of rule 0 src),
+        needs_all units_of mode state src last n p,
+      )
 
   one_byte_enough : AreEnoughForCodec lengths.OneByte state
   one_byte_enough = record {
-    utf_8 = λ src last n a e. never encode_utf8 3 (λ t b. b.utf_8) Replacement src last n a (thrice src n e);
-    reporting = λ keeps src last n a e. never encode_utf8 3 (λ t b. b.utf_8) (Fatal keeps) src last n a (thrice src n e);
-    utf_16 = λ mode src last n a e. never encode_utf16 1 (λ t b. b.utf_16) mode src last n a (omega (arith, same_some (length src) n e));
+    utf_8 = λ src last n a e.
+        never encode_utf8 3 (λ t b. b.utf_8) Replacement src last n a (thrice src n e);
+    reporting = λ keeps src last n a e.
+        never encode_utf8 3 (λ t b. b.utf_8) (Fatal keeps) src last n a (thrice src n e);
+    utf_16 = λ mode src last n a e.
+        never encode_utf16 1 (λ t b. b.utf_16) mode src last n a
+        (omega (arith, same_some (length src) n e));
   }
     where
-      thrice : (src : List ℕ) (n : ℕ) → checked_mul (Some (length src)) 3 ≡ Some n → 3 * length src ≤ n
-      thrice src n e = omega (arith, thrice_is (Some (length src)) (length src) n (λ k f. sym (same_some (length src) k f)) e)
+      thrice : (src : List ℕ) (n : ℕ) → checked_mul (Some (length src)) 3 ≡ Some n
+          → 3 * length src ≤ n
+      thrice src n e = omega (
+        arith,
+        thrice_is (Some (length src)) (length src) n
+            (λ k f. sym (same_some (length src) k f)) e,
+      )
 
-pub single_byte_enough : (runs : List Run) → AreEnoughForCodec lengths.OneByte (single_byte_state runs)
+pub single_byte_enough : (runs : List Run)
+    → AreEnoughForCodec lengths.OneByte (single_byte_state runs)
 single_byte_enough runs = one_byte_enough (single_byte_char runs) (single_byte_is_basic runs)
 
 pub x_user_defined_enough : AreEnoughForCodec lengths.OneByte x_user_defined_state
@@ -124,32 +155,42 @@ module _ (units_of : ℕ → List ℕ) where
   most_of zero n = length (units_of_text units_of (0xFFFD ∷ []))
   most_of (suc set) n = 0
 
-  step : (set b : ℕ) (z : List ℕ) → length (units_of_text units_of (replacement_rule set b z).text) + most_of (replacement_rule set b z).set (length (drop (replacement_rule set b z).more z)) ≤ most_of set (suc (length z))
+  step : (set b : ℕ) (z : List ℕ)
+      → length (units_of_text units_of (replacement_rule set b z).text)
+      + most_of (replacement_rule set b z).set (length (drop (replacement_rule set b z).more z))
+      ≤ most_of set (suc (length z))
   unfolding replacement_rule
   step zero b z = omega arith
   step (suc set) b z = omega arith
 
-  replacement_never : (reported : Bool) (mode : DecodeErrorMode) (src : List ℕ) (last : Bool) (n : ℕ) → length (units_of_text units_of (0xFFFD ∷ [])) ≤ n
+  replacement_never : (reported : Bool) (mode : DecodeErrorMode) (src : List ℕ) (last : Bool)
+      (n : ℕ) → length (units_of_text units_of (0xFFFD ∷ [])) ≤ n
       → NeedExceeds units_of mode (remainder_of (replacement_state reported)) src last n → ⊥
   replacement_never reported mode src last n l p =
       omega (
         arith,
         l,
         by_state reported,
-        needed_less units_of mode (sequences_of replacement_rule (replacement_state reported).set src),
+        needed_less units_of mode
+            (sequences_of replacement_rule (replacement_state reported).set src),
         needs_all units_of mode (replacement_state reported) src last n p,
       )
     where
-      by_state : (r : Bool) → units units_of (sequences_of replacement_rule (replacement_state r).set src) ≤ length (units_of_text units_of (0xFFFD ∷ []))
+      by_state : (r : Bool) →
+          units units_of (sequences_of replacement_rule (replacement_state r).set src)
+          ≤ length (units_of_text units_of (0xFFFD ∷ []))
       by_state false = bounded units_of replacement_rule most_of step 0 src
       by_state true =
-          let units_bounded = bounded units_of replacement_rule most_of step 1 src in omega (arith, units_bounded)
+          let units_bounded = bounded units_of replacement_rule most_of step 1 src in
+          omega (arith, units_bounded)
 
-pub replacement_enough : (reported : Bool) → AreEnoughForCodec lengths.Replacement (replacement_state reported)
+pub replacement_enough : (reported : Bool)
+    → AreEnoughForCodec lengths.Replacement (replacement_state reported)
 replacement_enough reported = let is_basic = basic_by 0xFFFD (omega arith) in record {
   utf_8 = λ src last n _ e. replacement_never encode_utf8 reported Replacement src last n
       (omega (arith, is_basic.utf_8, same_some 3 n e));
-  reporting = λ keeps src last n _ e. replacement_never encode_utf8 reported (Fatal keeps) src last n
+  reporting = λ keeps src last n _ e.
+      replacement_never encode_utf8 reported (Fatal keeps) src last n
       (omega (arith, is_basic.utf_8, same_some 3 n e));
   utf_16 = λ mode src last n _ e. replacement_never encode_utf16 reported mode src last n
       (omega (arith, is_basic.utf_16, same_some 1 n e));

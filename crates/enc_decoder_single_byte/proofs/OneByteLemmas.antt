@@ -23,31 +23,39 @@ module _ (character : ℕ → Option ℕ) where
   unfolding one_byte_rule
   head_is set b z found e = ap (one_byte_head set) e
 
-  first : (b : ℕ) (found : Option ℕ) (h : Head) → character b ≡ found → one_byte_head 0 found ≡ h → (z : List ℕ)
+  first : (b : ℕ) (found : Option ℕ) (h : Head) → character b ≡ found → one_byte_head 0 found ≡ h
+      → (z : List ℕ)
       → sequences_of (one_byte_rule character) 0 (b ∷ z)
       ≡ head_sequence h b z ∷ sequences_of (one_byte_rule character) h.set (drop h.more z)
   first b found h e f z =
       sequences_of-cons (one_byte_rule character) 0 b z
-      ∙ ap (λ (t : Head). head_sequence t b z ∷ sequences_of (one_byte_rule character) t.set (drop t.more z))
+      ∙ ap (λ (t : Head). head_sequence t b z
+      ∷ sequences_of (one_byte_rule character) t.set (drop t.more z))
       (head_is 0 b z found e ∙ f)
 
   -- a byte shows its character, or that it is malformed
-  pub one_byte_acts : {C : Type 0} (state : C → CodecState) (c : C) → state c ≡ one_byte_state character
-      → (b : ℕ) (found : Option ℕ) → found ≡ character b → HandlesByte state c b (one_byte_step c found)
+  pub one_byte_acts : {C : Type 0} (state : C → CodecState) (c : C)
+      → state c ≡ one_byte_state character
+      → (b : ℕ) (found : Option ℕ) → found ≡ character b
+      → HandlesByte state c b (one_byte_step c found)
   one_byte_acts state c is_state b (Some a) is_char =
-      shows_with state c c (One a) Valid 1 b refl (rw is_state refl) (rw is_state refl) refl (λ m. cc)
+      shows_with state c c (One a) Valid 1 b refl (rw is_state refl) (rw is_state refl) refl
+      (λ m. cc)
       (λ z. rw is_state (first b (Some a) _ (sym is_char) refl z))
   one_byte_acts state c is_state b None is_char =
-      shows_with state c c (One 0xFFFD) Malformed 1 b refl (rw is_state refl) (rw is_state refl) refl
+      shows_with state c c (One 0xFFFD) Malformed 1 b refl (rw is_state refl) (rw is_state refl)
+      refl
       (λ _. (refl, omega arith))
       (λ z. rw is_state (first b None _ (sym is_char) refl z))
 
   -- a byte that has a character
-  pub one_byte_piece : (b c : ℕ) → character b ≡ Some c → IsWholeChar (one_byte_rule character) 0 (b ∷ []) c
+  pub one_byte_piece : (b c : ℕ) → character b ≡ Some c
+      → IsWholeChar (one_byte_rule character) 0 (b ∷ []) c
   one_byte_piece b c e y = first b (Some c) _ e refl y
 
   -- such a byte is a character by itself
-  pub one_byte_has_bytes : (b c : ℕ) → character b ≡ Some c → ¬ (HasNoByteSequences (one_byte_rule character))
+  pub one_byte_has_bytes : (b c : ℕ) → character b ≡ Some c
+      → ¬ (HasNoByteSequences (one_byte_rule character))
   one_byte_has_bytes b c e =
       let is_head = head_is 0 b [] (Some c) e in
       has_bytes_by (one_byte_rule character) b [] (ap (λ (t : Head). t.kind) is_head)
@@ -62,10 +70,15 @@ module _ (character : ℕ → Option ℕ) where
   small set None = one_small 0xFFFD
 
   -- a byte determines its sequence by itself
-  determined_by_itself : (set b : ℕ) (z : List ℕ) → IsDeterminedWithin (one_byte_rule character) set b z 0
+  determined_by_itself : (set b : ℕ) (z : List ℕ)
+      → IsDeterminedWithin (one_byte_rule character) set b z 0
   unfolding one_byte_rule
   determined_by_itself set b z =
-      record { there = (let none_more = no_more set (character b) in omega arith); same = λ y. refl }
+      record {
+        there = (let none_more = no_more set (character b) in omega arith);
+        same = λ y.
+            refl;
+      }
 
   has_lookahead : HasLookahead (one_byte_rule character)
   has_lookahead = record {
@@ -95,7 +108,8 @@ one_byte_has_texts character set b z e = has_text set (character b) e
 
 -- an ASCII byte is a character by itself
 
-pub single_byte_has_bytes : (runs : List (ℕ × ℕ × ℕ)) → ¬ (HasNoByteSequences (one_byte_rule (single_byte_char runs)))
+pub single_byte_has_bytes : (runs : List (ℕ × ℕ × ℕ))
+    → ¬ (HasNoByteSequences (one_byte_rule (single_byte_char runs)))
 single_byte_has_bytes runs = one_byte_has_bytes (single_byte_char runs) 0x61 0x61 refl
 
 pub x_user_defined_has_bytes : ¬ (HasNoByteSequences (one_byte_rule x_user_defined_char))

@@ -14,15 +14,25 @@ use Rattle.enc_decoder.proofs.RuleLemmas.{one_small, none_small}
 
 -- the first byte
 pub first_acts : (b : ℕ)
-    → HandlesByte replacement_state false b (Emit (record { text = One 0xFFFD; kind = Malformed; len = 1; takes_byte = true; next = true }))
+    → HandlesByte replacement_state false b
+    (Emit (record {
+      text = One 0xFFFD;
+      kind = Malformed;
+      len = 1;
+      takes_byte = true;
+      next =
+          true;
+    }))
 unfolding replacement_rule
 first_acts b =
-    shows_with replacement_state false true (One 0xFFFD) Malformed 1 b refl refl refl refl (λ _. (refl, omega arith))
+    shows_with replacement_state false true (One 0xFFFD) Malformed 1 b refl refl refl refl
+    (λ _. (refl, omega arith))
     (λ z. sequences_of-cons replacement_rule 0 b z)
 
 -- another byte
 pub later_acts : (b : ℕ)
-    → HandlesByte replacement_state true b (Emit (record { text = Nothing; kind = Skipped; len = 1; takes_byte = true; next = true }))
+    → HandlesByte replacement_state true b
+    (Emit (record { text = Nothing; kind = Skipped; len = 1; takes_byte = true; next = true }))
 unfolding replacement_rule
 later_acts b =
     shows_with replacement_state true true Nothing Skipped 1 b refl refl refl refl (λ m. cc)
@@ -37,7 +47,8 @@ determined_alone (suc set) b z = record { there = omega arith; same = λ y. refl
 has_lookahead : HasLookahead replacement_rule
 has_lookahead = record {
   valid = λ set b z _. determined_alone set b z;
-  others = λ set b z. inl (0, omega arith, looks_at_none replacement_rule set b z (determined_alone set b z));
+  others = λ set b z. inl
+      (0, omega arith, looks_at_none replacement_rule set b z (determined_alone set b z));
 }
 
 has_small_texts : HasSmallTexts replacement_rule

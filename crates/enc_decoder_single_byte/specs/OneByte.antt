@@ -1,5 +1,5 @@
--- The rules of encodings in which each byte stands alone: the legacy single-byte encodings (Encoding Standard 9.1,
--- "single-byte decoder") and x-user-defined (14.5.1).
+-- The rules of encodings in which each byte stands alone: the legacy single-byte encodings
+-- (Encoding Standard 9.1, "single-byte decoder") and x-user-defined (14.5.1).
 use Rattle.std.specs.Prelude.{ℕ, ◌+◌, ◌-◌, true, nat_lt, Option, Some, None, List, if◌then◌else◌}
 use Rattle.enc_decoder.specs.declared.byte_codec.Kind.TheVariants.{Valid, Malformed}
 use Rattle.enc_decoder.specs.declared.byte_codec.Text.TheVariants.{One}
@@ -23,5 +23,7 @@ one_byte_rule character set b z = one_byte_head set (character b)
 
 -- the effect of such a byte
 abbrev pub one_byte_step : {C : Type 0} → C → Option ℕ → HandlerResult C
-one_byte_step c (Some a) = Emit (record { text = One a; kind = Valid; len = 1; takes_byte = true; next = c })
-one_byte_step c None = Emit (record { text = One 0xFFFD; kind = Malformed; len = 1; takes_byte = true; next = c })
+one_byte_step c (Some a) =
+    Emit (record { text = One a; kind = Valid; len = 1; takes_byte = true; next = c })
+one_byte_step c None =
+    Emit (record { text = One 0xFFFD; kind = Malformed; len = 1; takes_byte = true; next = c })

@@ -44,7 +44,8 @@ well_formed_tail_len-within b z = continuing_len-within b (sequence_len b - 1) z
 
 abbrev pub Continue : ℕ → List ℕ → Type 0
 Continue zero z = Unit {0}
-Continue (suc n) z = (1 ≤ length z) × (is_continuation (get_or z 0 0) ≡ true) × (z ≡ get_or z 0 0 ∷ drop 1 z) × Continue n (drop 1 z)
+Continue (suc n) z = (1 ≤ length z) × (is_continuation (get_or z 0 0) ≡ true)
+    × (z ≡ get_or z 0 0 ∷ drop 1 z) × Continue n (drop 1 z)
 
 all_continue : (n : ℕ) (z : List ℕ) → continuations n z ≡ n → Continue n z
 all_continue zero z all = tt
@@ -57,7 +58,8 @@ all_continue (suc n) (c ∷ z) all =
     ] refl
 
 abbrev pub GoOn : ℕ → ℕ → List ℕ → Type 0
-GoOn a n z = (1 ≤ length z) × (is_second_byte a (get_or z 0 0) ≡ true) × (z ≡ get_or z 0 0 ∷ drop 1 z) × Continue n (drop 1 z)
+GoOn a n z = (1 ≤ length z) × (is_second_byte a (get_or z 0 0) ≡ true)
+    × (z ≡ get_or z 0 0 ∷ drop 1 z) × Continue n (drop 1 z)
 
 all_go_on : (a n : ℕ) (z : List ℕ) → continuing_len a (suc n) z ≡ suc n → GoOn a n z
 all_go_on a n [] all = absurd (omega arith)
@@ -82,23 +84,44 @@ whole4 a [] goes_on r = absurd (omega arith)
 whole4 a (b ∷ []) goes_on r = absurd (omega arith)
 whole4 a (b ∷ c ∷ []) goes_on r = absurd (omega arith)
 whole4 a (b ∷ c ∷ d ∷ z) goes_on r =
-    record { some = omega arith; second = goes_on.1; third = goes_on.3.1; fourth = goes_on.3.3.1; bytes = rw r refl }
+    record {
+      some = omega arith;
+      second = goes_on.1;
+      third = goes_on.3.1;
+      fourth = goes_on.3.3.1;
+      bytes = rw r refl;
+    }
 
-pub whole_four : (a : ℕ) (z : List ℕ) → sequence_len a ≡ 4 → well_formed_tail_len a z + 1 ≡ sequence_len a → Whole4 a z
+pub whole_four : (a : ℕ) (z : List ℕ) → sequence_len a ≡ 4
+    → well_formed_tail_len a z + 1 ≡ sequence_len a → Whole4 a z
 whole_four a z s e =
     let reaches_all : well_formed_tail_len a z ≡ 3 = omega arith in
     let three_more : sequence_len a - 1 ≡ 3 = omega arith in
-    whole4 a z (all_go_on a 2 z (ap (λ n. continuing_len a n z) (sym three_more) ∙ reaches_all)) reaches_all
+    whole4 a z (all_go_on a 2 z (ap (λ n. continuing_len a n z) (sym three_more) ∙ reaches_all))
+    reaches_all
 
 -- the head of the rule, by whether the sequence is whole
 
 pub whole_head : (b : ℕ) (z : List ℕ) → well_formed_tail_len b z + 1 ≡ sequence_len b
-    → utf_8_rule 0 b z ≡ record { more = well_formed_tail_len b z; text = scalar_of (b ∷ take (well_formed_tail_len b z) z) ∷ []; kind = Valid; set = 0 }
+    → utf_8_rule 0 b z ≡ record {
+      more = well_formed_tail_len b z;
+      text =
+          scalar_of (b ∷ take (well_formed_tail_len b z) z) ∷ [];
+      kind = Valid;
+      set = 0;
+    }
 whole_head b z e = valid_head b z (well_formed_tail_len b z) refl (grind (arith, nat_tests))
 
 pub malformed_first : (b : ℕ) (z : List ℕ) → (well_formed_tail_len b z + 1 ≡ sequence_len b → ⊥)
-    → utf_8_rule 0 b z ≡ record { more = well_formed_tail_len b z; text = 0xFFFD ∷ []; kind = Malformed; set = 0 }
-malformed_first b z e = malformed_head b z (well_formed_tail_len b z) refl (grind (arith, nat_tests))
+    → utf_8_rule 0 b z ≡ record {
+      more = well_formed_tail_len b z;
+      text = 0xFFFD ∷ [];
+      kind =
+          Malformed;
+      set = 0;
+    }
+malformed_first b z e =
+    malformed_head b z (well_formed_tail_len b z) refl (grind (arith, nat_tests))
 
 -- no sequence changes the designated character set
 
@@ -122,33 +145,40 @@ abbrev pub malformed_bytes : List ℕ → Bool
 malformed_bytes z = any_malformed (sequences_of utf_8_rule 0 z)
 
 text_of_front : (h : Head) (b : ℕ) (z : List ℕ) (ss : List Sequence) (c : ℕ) → h.text ≡ c ∷ []
-    → units_of_text encode_utf8 (sequence_text (head_sequence h b z ∷ ss)) ≡ encode_utf8 c ++ units_of_text encode_utf8 (sequence_text ss)
+    → units_of_text encode_utf8 (sequence_text (head_sequence h b z ∷ ss)) ≡ encode_utf8 c
+    ++ units_of_text encode_utf8 (sequence_text ss)
 text_of_front h b z ss c e = rw e refl
 
 rest_after : (b : ℕ) (z : List ℕ) (n : ℕ) → n ≡ (utf_8_rule 0 b z).more + 1
-    → sequences_of utf_8_rule (utf_8_rule 0 b z).set (drop (utf_8_rule 0 b z).more z) ≡ sequences_of utf_8_rule 0 (drop n (b ∷ z))
+    → sequences_of utf_8_rule (utf_8_rule 0 b z).set (drop (utf_8_rule 0 b z).more z)
+    ≡ sequences_of utf_8_rule 0 (drop n (b ∷ z))
 rest_after b z n e =
     ap (λ set. sequences_of utf_8_rule set (drop (utf_8_rule 0 b z).more z)) (rule_set b z)
     ∙ ap (λ k. sequences_of utf_8_rule 0 (drop k (b ∷ z)))
     (let length_is_n : suc (utf_8_rule 0 b z).more ≡ n = omega arith in length_is_n)
 
 first_then_rest : (b : ℕ) (z : List ℕ) (n : ℕ) → n ≡ (utf_8_rule 0 b z).more + 1
-    → sequences_of utf_8_rule 0 (b ∷ z) ≡ head_sequence (utf_8_rule 0 b z) b z ∷ sequences_of utf_8_rule 0 (drop n (b ∷ z))
+    → sequences_of utf_8_rule 0 (b ∷ z) ≡ head_sequence (utf_8_rule 0 b z) b z
+    ∷ sequences_of utf_8_rule 0 (drop n (b ∷ z))
 first_then_rest b z n e =
-    sequences_of-cons utf_8_rule 0 b z ∙ ap (λ ss. head_sequence (utf_8_rule 0 b z) b z ∷ ss) (rest_after b z n e)
+    sequences_of-cons utf_8_rule 0 b z
+    ∙ ap (λ ss. head_sequence (utf_8_rule 0 b z) b z ∷ ss) (rest_after b z n e)
 
-pub front_text : (rest : List ℕ) (n c : ℕ) → 0 < length rest → n ≡ (head_of rest).more + 1 → (head_of rest).text ≡ c ∷ []
+pub front_text : (rest : List ℕ) (n c : ℕ) → 0 < length rest → n ≡ (head_of rest).more + 1
+    → (head_of rest).text ≡ c ∷ []
     → text_of_bytes rest ≡ encode_utf8 c ++ text_of_bytes (drop n rest)
 front_text [] n c h e t = absurd (omega arith)
 front_text (b ∷ z) n c h e t =
     ap (λ ss. units_of_text encode_utf8 (sequence_text ss)) (first_then_rest b z n e)
     ∙ text_of_front (utf_8_rule 0 b z) b z (sequences_of utf_8_rule 0 (drop n (b ∷ z))) c t
 
-pub front_malformed : (rest : List ℕ) (n : ℕ) (m : Bool) → 0 < length rest → n ≡ (head_of rest).more + 1 → m ≡ is_malformed (head_of rest).kind
+pub front_malformed : (rest : List ℕ) (n : ℕ) (m : Bool) → 0 < length rest
+    → n ≡ (head_of rest).more + 1 → m ≡ is_malformed (head_of rest).kind
     → malformed_bytes rest ≡ (m || malformed_bytes (drop n rest))
 front_malformed [] n m h e k = absurd (omega arith)
 front_malformed (b ∷ z) n m h e k =
-    ap any_malformed (first_then_rest b z n e) ∙ ap (λ t. t || malformed_bytes (drop n (b ∷ z))) (sym k)
+    ap any_malformed (first_then_rest b z n e)
+    ∙ ap (λ t. t || malformed_bytes (drop n (b ∷ z))) (sym k)
 
 -- how far a whole input is decoded: the text written and that of the remaining bytes are its text
 
@@ -157,9 +187,11 @@ pub record Decoded (bytes : List ℕ) (read : ℕ) (wrote : List ℕ) (had_error
   pub text : wrote ++ text_of_bytes (drop read bytes) ≡ text_of_bytes bytes
   pub malformed : (had_errors || malformed_bytes (drop read bytes)) ≡ malformed_bytes bytes
 
-pub goes_past : (bytes : List ℕ) (read : ℕ) (wrote : List ℕ) (had_errors : Bool) → Decoded bytes read wrote had_errors
+pub goes_past : (bytes : List ℕ) (read : ℕ) (wrote : List ℕ) (had_errors : Bool)
+    → Decoded bytes read wrote had_errors
     → (n c : ℕ) (m : Bool) → 0 < length (drop read bytes) → n ≡ (head_of (drop read bytes)).more + 1
-    → (head_of (drop read bytes)).text ≡ c ∷ [] → m ≡ is_malformed (head_of (drop read bytes)).kind → read + n ≤ length bytes
+    → (head_of (drop read bytes)).text ≡ c ∷ [] → m ≡ is_malformed (head_of (drop read bytes)).kind
+    → read + n ≤ length bytes
     → Decoded bytes (read + n) (wrote ++ encode_utf8 c) (had_errors || m)
 goes_past bytes read wrote had_errors so_far n c m some_left is_length t k w =
     let rest = drop read bytes in
@@ -168,22 +200,29 @@ goes_past bytes read wrote had_errors so_far n c m some_left is_length t k w =
       within = w;
       text = append_assoc wrote (encode_utf8 c) (text_of_bytes (drop (read + n) bytes))
           ∙ ap (λ z. wrote ++ (encode_utf8 c ++ text_of_bytes z)) (sym rest_is)
-          ∙ ap (λ z. wrote ++ z) (sym (front_text (drop read bytes) n c some_left is_length t)) ∙ so_far.text;
+          ∙ ap (λ z. wrote ++ z) (sym (front_text (drop read bytes) n c some_left is_length t))
+          ∙ so_far.text;
       malformed = or_assoc had_errors m (malformed_bytes (drop (read + n) bytes))
           ∙ ap (λ z. had_errors || (m || malformed_bytes z)) (sym rest_is)
-          ∙ ap (λ z. had_errors || z) (sym (front_malformed (drop read bytes) n m some_left is_length k))
+          ∙ ap (λ z. had_errors || z)
+          (sym (front_malformed (drop read bytes) n m some_left is_length k))
           ∙ so_far.malformed;
     }
 
-nothing_after : (bytes : List ℕ) (read : ℕ) → length bytes ≤ read → sequences_of utf_8_rule 0 (drop read bytes) ≡ []
-nothing_after bytes read h = ap (sequences_of utf_8_rule 0) (drop_of_length-le bytes h) ∙ sequences_of-nil utf_8_rule 0
+nothing_after : (bytes : List ℕ) (read : ℕ) → length bytes ≤ read
+    → sequences_of utf_8_rule 0 (drop read bytes) ≡ []
+nothing_after bytes read h = ap (sequences_of utf_8_rule 0) (drop_of_length-le bytes h)
+    ∙ sequences_of-nil utf_8_rule 0
 
 pub all_decoded : {bytes : List ℕ} {read : ℕ} {wrote : List ℕ} {had_errors : Bool}
     → Decoded bytes read wrote had_errors → length bytes ≤ read
-    → (wrote ≡ units_of_text encode_utf8 (sequence_text (sequences_of utf_8_rule 0 bytes))) × (had_errors ≡ any_malformed (sequences_of utf_8_rule 0 bytes))
+    → (wrote ≡ units_of_text encode_utf8 (sequence_text (sequences_of utf_8_rule 0 bytes)))
+    × (had_errors ≡ any_malformed (sequences_of utf_8_rule 0 bytes))
 all_decoded {bytes} {read} {wrote} {had_errors} so_far h =
     let none_left = nothing_after bytes read h in (
-      sym (append-nil wrote) ∙ ap (λ ss. wrote ++ units_of_text encode_utf8 (sequence_text ss)) (sym none_left)
+      sym (append-nil wrote)
+          ∙ ap (λ ss. wrote ++ units_of_text encode_utf8 (sequence_text ss)) (sym none_left)
           ∙ so_far.text,
-      sym (or_false had_errors) ∙ ap (λ ss. had_errors || any_malformed ss) (sym none_left) ∙ so_far.malformed,
+      sym (or_false had_errors) ∙ ap (λ ss. had_errors || any_malformed ss) (sym none_left)
+          ∙ so_far.malformed,
     )

@@ -23,7 +23,8 @@ module _ (big : Bool) where
   at = with_pending big
 
   first : (b : ℕ) (z : List ℕ) (h : Head) → utf_16_rule big 0 b z ≡ h
-      → sequences_of (utf_16_rule big) 0 (b ∷ z) ≡ head_sequence h b z ∷ sequences_of (utf_16_rule big) h.set (drop h.more z)
+      → sequences_of (utf_16_rule big) 0 (b ∷ z) ≡ head_sequence h b z
+      ∷ sequences_of (utf_16_rule big) h.set (drop h.more z)
   first = sequences_of-head (utf_16_rule big) 0
 
   -- a character, and a malformed sequence
@@ -49,33 +50,41 @@ module _ (big : Bool) where
   -- the second byte of a code unit
 
   pub shows_character : (a b character : ℕ) → character ≡ code_unit big a b
-      → is_lead_surrogate (code_unit big a b) ≡ false → is_trail_surrogate (code_unit big a b) ≡ false
+      → is_lead_surrogate (code_unit big a b) ≡ false
+      → is_trail_surrogate (code_unit big a b) ≡ false
       → HandlesByte utf_16_state (with_pending big (One a)) b (Emit (valid_shown 2 character))
   shows_character a b character s l t =
-      shows_with utf_16_state (at (One a)) (at Nothing) (Character character) Valid 2 b refl refl refl refl (λ m. cc)
+      shows_with utf_16_state (at (One a)) (at Nothing) (Character character) Valid 2 b refl refl
+      refl refl (λ m. cc)
       (λ z. rw s (first a (b ∷ z) _ (character_first big 0 a b z l t)))
 
   pub shows_trail : (a b : ℕ) → is_lead_surrogate (code_unit big a b) ≡ false
       → is_trail_surrogate (code_unit big a b) ≡ true
-      → HandlesByte utf_16_state (with_pending big (One a)) b (Emit (malformed_shown 2 true Nothing))
+      → HandlesByte utf_16_state (with_pending big (One a)) b
+      (Emit (malformed_shown 2 true Nothing))
   shows_trail a b l t =
-      shows_with utf_16_state (at (One a)) (at Nothing) (Character 0xFFFD) Malformed 2 b refl refl refl refl (λ _. (refl, omega arith))
+      shows_with utf_16_state (at (One a)) (at Nothing) (Character 0xFFFD) Malformed 2 b refl refl
+      refl refl (λ _. (refl, omega arith))
       (λ z. first a (b ∷ z) _ (trail_first big 0 a b z l t))
 
   -- the second byte of the code unit after a lead surrogate, which is read anew if it is no trail
 
-  pub shows_pair : (a b c d character : ℕ) → character ≡ pair_scalar (code_unit big a b) (code_unit big c d)
+  pub shows_pair : (a b c d character : ℕ)
+      → character ≡ pair_scalar (code_unit big a b) (code_unit big c d)
       → is_lead_surrogate (code_unit big a b) ≡ true → is_trail_surrogate (code_unit big c d) ≡ true
       → HandlesByte utf_16_state (with_pending big (Three a b c)) d (Emit (valid_shown 4 character))
   shows_pair a b c d character s l t =
-      shows_with utf_16_state (at (Three a b c)) (at Nothing) (Character character) Valid 4 d refl refl refl refl (λ m. cc)
+      shows_with utf_16_state (at (Three a b c)) (at Nothing) (Character character) Valid 4 d refl
+      refl refl refl (λ m. cc)
       (λ z. rw s (first a (b ∷ c ∷ d ∷ z) _ (pair_first big 0 a b c d z l t)))
 
   pub shows_lead : (a b c d : ℕ) → is_lead_surrogate (code_unit big a b) ≡ true
       → is_trail_surrogate (code_unit big c d) ≡ false
-      → HandlesByte utf_16_state (with_pending big (Three a b c)) d (Emit (malformed_shown 2 false (One c)))
+      → HandlesByte utf_16_state (with_pending big (Three a b c)) d
+      (Emit (malformed_shown 2 false (One c)))
   shows_lead a b c d l t =
-      shows_at utf_16_state (at (Three a b c)) (at (One c)) (Character 0xFFFD) Malformed 2 d (a ∷ b ∷ []) refl refl refl
+      shows_at utf_16_state (at (Three a b c)) (at (One c)) (Character 0xFFFD) Malformed 2 d
+      (a ∷ b ∷ []) refl refl refl
       (omega arith) refl (λ _. (refl, (omega arith, omega arith, omega arith)))
       (λ z. first a (b ∷ c ∷ d ∷ z) _ (lead_alone big 0 a b c d z l t))
 
@@ -83,11 +92,14 @@ module _ (big : Bool) where
 
   left_over_comes : (p : Pending) (len : ℕ) → len ≡ length (bytes_of_pending p) → 0 < len → len ≤ 3
       → sequences_of (utf_16_rule big) 0 (bytes_of_pending p)
-      ≡ record { bytes = bytes_of_pending p; text = 0xFFFD ∷ []; kind = Malformed; set = 0 } ∷ sequences_of (utf_16_rule big) 0 []
+      ≡ record { bytes = bytes_of_pending p; text = 0xFFFD ∷ []; kind = Malformed; set = 0 }
+      ∷ sequences_of (utf_16_rule big) 0 []
       → IsNextAtEnd utf_16_state (at p) (Some (malformed_shown len false Nothing))
   left_over_comes p len n s k e = (
-    shows_before utf_16_state (at p) (at Nothing) (Character 0xFFFD) Malformed len _ (bytes_of_pending p) refl
-        (sym (append-nil (bytes_of_pending p))) n s refl (λ _. (refl, (omega arith, omega arith, omega arith)))
+    shows_before utf_16_state (at p) (at Nothing) (Character 0xFFFD) Malformed len _
+        (bytes_of_pending p) refl
+        (sym (append-nil (bytes_of_pending p))) n s refl
+        (λ _. (refl, (omega arith, omega arith, omega arith)))
         (λ y m. rw m (rw append-nil e)),
     refl,
   )
@@ -97,7 +109,8 @@ module _ (big : Bool) where
       → IsNextAtEnd utf_16_state (with_pending big p) (Some (malformed_shown len false Nothing))
   shows_left_over Nothing len is_length lead_first h = absurd (h refl)
   shows_left_over (One a) len is_length lead_first h =
-      left_over_comes (One a) len is_length (omega arith) (omega arith) (first a [] _ (one_head big 0 a))
+      left_over_comes (One a) len is_length (omega arith) (omega arith)
+      (first a [] _ (one_head big 0 a))
   shows_left_over (Two a b) len is_length lead_first h =
       left_over_comes (Two a b) len is_length (omega arith) (omega arith)
       (first a (b ∷ []) _ (lead_at_end big 0 a b lead_first))

@@ -18,11 +18,13 @@ trail_range u h = (grind (arith, nat_tests), grind (arith, nat_tests))
 
 -- the scalar values
 
-pub unit_scalar : (u : ℕ) → u < 0x10000 → is_lead_surrogate u ≡ false → is_trail_surrogate u ≡ false → InScalarRange u
+pub unit_scalar : (u : ℕ) → u < 0x10000 → is_lead_surrogate u ≡ false → is_trail_surrogate u ≡ false
+    → InScalarRange u
 unfolding is_lead_surrogate is_trail_surrogate
 unit_scalar u l e f = grind (arith, nat_tests)
 
-pub pair_in_range : (lead trail : ℕ) → is_lead_surrogate lead ≡ true → is_trail_surrogate trail ≡ true → InScalarRange (pair_scalar lead trail)
+pub pair_in_range : (lead trail : ℕ) → is_lead_surrogate lead ≡ true
+    → is_trail_surrogate trail ≡ true → InScalarRange (pair_scalar lead trail)
 unfolding pair_scalar
 pair_in_range lead trail e f =
     let lead_in_range = lead_range lead e in
@@ -35,12 +37,14 @@ module _ (big : Bool) where
   unfolding utf_16_rule
   one_head set b = refl
 
-  pub character_first : (set b c : ℕ) (z : List ℕ) → is_lead_surrogate (code_unit big b c) ≡ false → is_trail_surrogate (code_unit big b c) ≡ false
+  pub character_first : (set b c : ℕ) (z : List ℕ) → is_lead_surrogate (code_unit big b c) ≡ false
+      → is_trail_surrogate (code_unit big b c) ≡ false
       → utf_16_rule big set b (c ∷ z) ≡ character_head set 1 (code_unit big b c)
   unfolding utf_16_rule
   character_first set b c z e f = rw (e, f) refl
 
-  pub trail_first : (set b c : ℕ) (z : List ℕ) → is_lead_surrogate (code_unit big b c) ≡ false → is_trail_surrogate (code_unit big b c) ≡ true
+  pub trail_first : (set b c : ℕ) (z : List ℕ) → is_lead_surrogate (code_unit big b c) ≡ false
+      → is_trail_surrogate (code_unit big b c) ≡ true
       → utf_16_rule big set b (c ∷ z) ≡ malformed_head set 1
   unfolding utf_16_rule
   trail_first set b c z e f = rw (e, f) refl
@@ -58,11 +62,14 @@ module _ (big : Bool) where
       → utf_16_rule big set b (c ∷ d ∷ []) ≡ malformed_head set 2
   lead_and_byte set b c d e = lead_first set b c (d ∷ []) e
 
-  pub pair_first : (set b c d e : ℕ) (z : List ℕ) → is_lead_surrogate (code_unit big b c) ≡ true → is_trail_surrogate (code_unit big d e) ≡ true
-      → utf_16_rule big set b (c ∷ d ∷ e ∷ z) ≡ character_head set 3 (pair_scalar (code_unit big b c) (code_unit big d e))
+  pub pair_first : (set b c d e : ℕ) (z : List ℕ) → is_lead_surrogate (code_unit big b c) ≡ true
+      → is_trail_surrogate (code_unit big d e) ≡ true
+      → utf_16_rule big set b (c ∷ d ∷ e ∷ z)
+      ≡ character_head set 3 (pair_scalar (code_unit big b c) (code_unit big d e))
   pair_first set b c d e z l t = lead_first set b c (d ∷ e ∷ z) l ∙ rw t refl
 
-  pub lead_alone : (set b c d e : ℕ) (z : List ℕ) → is_lead_surrogate (code_unit big b c) ≡ true → is_trail_surrogate (code_unit big d e) ≡ false
+  pub lead_alone : (set b c d e : ℕ) (z : List ℕ) → is_lead_surrogate (code_unit big b c) ≡ true
+      → is_trail_surrogate (code_unit big d e) ≡ false
       → utf_16_rule big set b (c ∷ d ∷ e ∷ z) ≡ malformed_head set 1
   lead_alone set b c d e z l t = lead_first set b c (d ∷ e ∷ z) l ∙ rw t refl
 
@@ -75,7 +82,8 @@ pub either_head : (P : Head → Type 0) (t : Bool) (x y : Head) → P x → P y 
 either_head P true x y p q = p
 either_head P false x y p q = q
 
-lead_has_form : (big : Bool) (set lead c : ℕ) (z : List ℕ) → HasForm (c ∷ z) (lead_surrogate_head big set lead z)
+lead_has_form : (big : Bool) (set lead c : ℕ) (z : List ℕ)
+    → HasForm (c ∷ z) (lead_surrogate_head big set lead z)
 lead_has_form big set lead c [] = (omega arith, (0xFFFD, refl))
 lead_has_form big set lead c (d ∷ []) = (omega arith, (0xFFFD, refl))
 lead_has_form big set lead c (d ∷ e ∷ z) =
@@ -88,6 +96,7 @@ unfolding utf_16_rule
 has_form big set b [] = (omega arith, (0xFFFD, refl))
 has_form big set b (c ∷ z) =
     let first_unit = code_unit big b c in
-    either_head (HasForm (c ∷ z)) (is_lead_surrogate first_unit) _ _ (lead_has_form big set first_unit c z)
+    either_head (HasForm (c ∷ z)) (is_lead_surrogate first_unit) _ _
+    (lead_has_form big set first_unit c z)
     (either_head (HasForm (c ∷ z)) (is_trail_surrogate first_unit) _ _
     (omega arith, (0xFFFD, refl)) (omega arith, (first_unit, refl)))

@@ -9,7 +9,8 @@ use Rattle.enc_decoder.proofs.SegmentationLemmas.{sequences_of-head}
 use Rattle.enc_decoder_utf.proofs.Utf16Lemmas.{character_first, pair_first}
 
 module _ (big : Bool) where
-  pub unit_piece : {a b c : ℕ} → c ≡ code_unit big a b → is_lead_surrogate (code_unit big a b) ≡ false
+  pub unit_piece : {a b c : ℕ} → c ≡ code_unit big a b
+      → is_lead_surrogate (code_unit big a b) ≡ false
       → is_trail_surrogate (code_unit big a b) ≡ false
       → IsWholeChar (utf_16_rule big) 0 (a ∷ b ∷ []) c
   unit_piece {a} {b} s l t y =
@@ -19,7 +20,8 @@ module _ (big : Bool) where
       → is_lead_surrogate (code_unit big a b) ≡ true → is_trail_surrogate (code_unit big d e) ≡ true
       → IsWholeChar (utf_16_rule big) 0 (a ∷ b ∷ d ∷ e ∷ []) c
   pair_piece {a} {b} {d} {e} s l t y =
-      rw s (sequences_of-head (utf_16_rule big) 0 a (b ∷ d ∷ e ∷ y) _ (pair_first big 0 a b d e y l t))
+      rw s (sequences_of-head (utf_16_rule big) 0 a (b ∷ d ∷ e ∷ y) _
+      (pair_first big 0 a b d e y l t))
 
 -- by the code unit's number alone
 

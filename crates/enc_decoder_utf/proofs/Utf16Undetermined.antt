@@ -17,7 +17,8 @@ undetermined big Nothing lead_first = nothing_pending (utf_16_state (with_pendin
 undetermined big (One a) lead_first =
     undetermined_by_end (utf_16_rule big) 0 a [] (λ y. (has_form big 0 a y).0) (one_by_end big 0 a)
 undetermined big (Two a b) lead_first =
-    undetermined_by_end (utf_16_rule big) 0 a (b ∷ []) (λ y. (has_form big 0 a y).0) (lead_by_end big 0 a b lead_first)
+    undetermined_by_end (utf_16_rule big) 0 a (b ∷ []) (λ y. (has_form big 0 a y).0)
+    (lead_by_end big 0 a b lead_first)
 undetermined big (Three a b c) lead_first =
     undetermined_by_end (utf_16_rule big) 0 a (b ∷ c ∷ []) (λ y. (has_form big 0 a y).0)
     (three_by_end big 0 a b c lead_first)

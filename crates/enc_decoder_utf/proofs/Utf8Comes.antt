@@ -19,20 +19,48 @@ use Rattle.enc_decoder_utf.proofs.Utf8Lemmas.{valid_sequence, malformed_sequence
 use Rattle.enc_decoder_utf.proofs.Utf8Undetermined.{one_wants, two_want, three_want}
 
 -- a byte completes a character
-pub completes : (p : Pending) (b character len : ℕ) → len ≡ length (bytes_of_pending p) + 1 → character ≡ scalar_of (bytes_of_pending p ++ b ∷ [])
+pub completes : (p : Pending) (b character len : ℕ) → len ≡ length (bytes_of_pending p) + 1
+    → character ≡ scalar_of (bytes_of_pending p ++ b ∷ [])
     → ((z : List ℕ) → sequences_of utf_8_rule 0 (bytes_of_pending p ++ b ∷ z)
     ≡ valid_sequence (bytes_of_pending p ++ b ∷ []) ∷ sequences_of utf_8_rule 0 z)
-    → HandlesByte utf_8_state p b (Emit (record { text = Character character; kind = Valid; len = len; takes_byte = true; next = Nothing }))
-completes p b character len n s h = shows_with utf_8_state p Nothing (Character character) Valid len b refl refl n refl (λ m. cc) (λ z. rw s (h z))
+    → HandlesByte utf_8_state p b
+    (Emit (record {
+      text = Character character;
+      kind = Valid;
+      len = len;
+      takes_byte = true;
+      next = Nothing;
+    }))
+completes p b character len n s h =
+    shows_with utf_8_state p Nothing (Character character) Valid len b refl refl n refl (λ m. cc)
+    (λ z. rw s (h z))
 
 -- a byte that begins no sequence
-pub malformed_with : (b : ℕ) → ((z : List ℕ) → sequences_of utf_8_rule 0 (b ∷ z) ≡ malformed_sequence (b ∷ []) ∷ sequences_of utf_8_rule 0 z)
-    → HandlesByte utf_8_state Nothing b (Emit (record { text = Character 0xFFFD; kind = Malformed; len = 1; takes_byte = true; next = Nothing }))
-malformed_with b h = shows_with utf_8_state Nothing Nothing (Character 0xFFFD) Malformed 1 b refl refl refl refl (λ _. (refl, omega arith)) h
+pub malformed_with : (b : ℕ)
+    → ((z : List ℕ) → sequences_of utf_8_rule 0 (b ∷ z) ≡ malformed_sequence (b ∷ [])
+    ∷ sequences_of utf_8_rule 0 z)
+    → HandlesByte utf_8_state Nothing b
+    (Emit (record {
+      text = Character 0xFFFD;
+      kind = Malformed;
+      len = 1;
+      takes_byte = true;
+      next = Nothing;
+    }))
+malformed_with b h = shows_with utf_8_state Nothing Nothing (Character 0xFFFD) Malformed 1 b refl
+    refl refl refl (λ _. (refl, omega arith)) h
 
 -- the pending bytes are malformed, and what shows it isn't read
 abbrev pub pending_malformed : ℕ → Emission Pending
-pending_malformed len = record { text = Character 0xFFFD; kind = Malformed; len = len; takes_byte = false; next = Nothing }
+pending_malformed len =
+    record {
+      text = Character 0xFFFD;
+      kind = Malformed;
+      len = len;
+      takes_byte = false;
+      next =
+          Nothing;
+    }
 
 few : (p : Pending) (len : ℕ) → len ≡ length (bytes_of_pending p) → len ≤ 4
 few Nothing len e = omega arith
@@ -40,20 +68,34 @@ few (One a) len e = omega arith
 few (Two a b) len e = omega arith
 few (Three a b c) len e = omega arith
 
-comes_malformed : (p : Pending) (may_follow : List ℕ → Type 0) (len : ℕ) → len ≡ length (bytes_of_pending p) → 0 < len
-    → ((y : List ℕ) → may_follow y → sequences_of utf_8_rule 0 (bytes_of_pending p ++ y) ≡ malformed_sequence (bytes_of_pending p) ∷ sequences_of utf_8_rule 0 y)
+comes_malformed : (p : Pending) (may_follow : List ℕ → Type 0) (len : ℕ)
+    → len ≡ length (bytes_of_pending p) → 0 < len
+    → ((y : List ℕ) → may_follow y
+    → sequences_of utf_8_rule 0 (bytes_of_pending p ++ y)
+    ≡ malformed_sequence (bytes_of_pending p) ∷ sequences_of utf_8_rule 0 y)
     → IsNextSequence utf_8_state p may_follow [] (pending_malformed len)
 comes_malformed p may_follow len is_length s h =
-    shows_before utf_8_state p Nothing (Character 0xFFFD) Malformed len may_follow (bytes_of_pending p) refl
+    shows_before utf_8_state p Nothing (Character 0xFFFD) Malformed len may_follow
+    (bytes_of_pending p) refl
     (sym (append-nil (bytes_of_pending p))) is_length s refl
-    (λ _. (refl, (few p len is_length, omega arith, let len_is_small = few p len is_length in omega arith)))
+    (λ _. (
+      refl,
+      (
+        few p len is_length,
+        omega arith,
+        let len_is_small = few p len is_length in
+            omega arith,
+      ),
+    ))
     h
 
 -- a byte shows it
 pub malformed_before : (p : Pending) (b len : ℕ) → len ≡ length (bytes_of_pending p) → 0 < len
-    → ((z : List ℕ) → sequences_of utf_8_rule 0 (bytes_of_pending p ++ b ∷ z) ≡ malformed_sequence (bytes_of_pending p) ∷ sequences_of utf_8_rule 0 (b ∷ z))
+    → ((z : List ℕ) → sequences_of utf_8_rule 0 (bytes_of_pending p ++ b ∷ z)
+    ≡ malformed_sequence (bytes_of_pending p) ∷ sequences_of utf_8_rule 0 (b ∷ z))
     → HandlesByte utf_8_state p b (Emit (pending_malformed len))
-malformed_before p b len n s h = (comes_malformed p _ len n s (λ y cut_off. rw cut_off.1 (h cut_off.0)), λ t. cc)
+malformed_before p b len n s h =
+    (comes_malformed p _ len n s (λ y cut_off. rw cut_off.1 (h cut_off.0)), λ t. cc)
 
 -- the end of the input shows it
 malformed_at_end : (p : Pending) (len : ℕ) → len ≡ length (bytes_of_pending p) → 0 < len
@@ -61,10 +103,12 @@ malformed_at_end : (p : Pending) (len : ℕ) → len ≡ length (bytes_of_pendin
     → IsNextAtEnd utf_8_state p (Some (pending_malformed len))
 malformed_at_end p len n s h =
     let malformed_then_none =
-    h ∙ ap (λ ss. malformed_sequence (bytes_of_pending p) ∷ ss) (sym (sequences_of-nil utf_8_rule 0)) in
+    h ∙ ap (λ ss. malformed_sequence (bytes_of_pending p) ∷ ss)
+    (sym (sequences_of-nil utf_8_rule 0)) in
     (comes_malformed p _ len n s (λ y m. rw m (rw append-nil malformed_then_none)), refl)
 
-pub comes_at_end : (p : Pending) (len : ℕ) → len ≡ length (bytes_of_pending p) → IsTrue (is_incomplete p)
+pub comes_at_end : (p : Pending) (len : ℕ) → len ≡ length (bytes_of_pending p)
+    → IsTrue (is_incomplete p)
     → (p ≡ Nothing → ⊥)
     → IsNextAtEnd utf_8_state p (Some (pending_malformed len))
 comes_at_end Nothing len is_length incomplete h = absurd (h refl)
@@ -75,4 +119,5 @@ comes_at_end (Two a b) len is_length incomplete h =
     malformed_at_end (Two a b) len is_length (omega arith) (two_end a b wants.0 wants.1)
 comes_at_end (Three a b c) len is_length incomplete h =
     let wants = three_want a b c incomplete in
-    malformed_at_end (Three a b c) len is_length (omega arith) (three_end a b c wants.0 wants.1 wants.2)
+    malformed_at_end (Three a b c) len is_length (omega arith)
+    (three_end a b c wants.0 wants.1 wants.2)

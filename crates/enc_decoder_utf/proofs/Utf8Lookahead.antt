@@ -1,5 +1,5 @@
--- How far UTF-8 looks ahead: its own bytes determine a whole sequence, and the next byte or the end of the input
--- determines one that stops short.
+-- How far UTF-8 looks ahead: its own bytes determine a whole sequence, and the next byte or the end
+-- of the input determines one that stops short.
 use Rattle.std.proofs.Common.{◌≡◌, ℕ, ◌+◌, ◌-◌, ◌<◌, ◌≤◌, zero, suc, true, false, List, [], ◌∷◌, ◌++◌, length, take}
 use Rattle.std.proofs.Common.{eqb, cond, refl, ap, ◌∙◌, sym, arith, inl, inr}
 use Rattle.std.proofs.lemmas.Bool.Decides.{nat_tests, leb_tells}
@@ -20,29 +20,33 @@ continuations-determined zero k z y l enough = refl
 continuations-determined (suc n) zero z y l enough =
     absurd (let no_more_wanted = enough (omega arith) in omega arith)
 continuations-determined (suc n) (suc k) [] y l enough = absurd (omega arith)
-continuations-determined (suc n) (suc k) (c ∷ z) y l enough = elim (true_or_false (is_continuation c)) [
-  | inl goes_on ↦ rw goes_on (ap suc
-      (continuations-determined n k z y (omega arith)
-      (λ q. let no_more_wanted = (rw goes_on at enough) (omega arith) in omega arith)))
-  | inr f ↦ rw f refl
-]
+continuations-determined (suc n) (suc k) (c ∷ z) y l enough =
+    elim (true_or_false (is_continuation c)) [
+      | inl goes_on ↦ rw goes_on (ap suc
+          (continuations-determined n k z y (omega arith)
+          (λ q. let no_more_wanted = (rw goes_on at enough) (omega arith) in omega arith)))
+      | inr f ↦ rw f refl
+    ]
 
-continuing_len-determined : (b n k : ℕ) (z y : List ℕ) → k ≤ length z → (k ≤ continuing_len b n z → n ≤ k)
+continuing_len-determined : (b n k : ℕ) (z y : List ℕ) → k ≤ length z
+    → (k ≤ continuing_len b n z → n ≤ k)
     → continuing_len b n (take k z ++ y) ≡ continuing_len b n z
 continuing_len-determined b zero k z y l enough = refl
 continuing_len-determined b (suc n) zero z y l enough =
     absurd (let no_more_wanted = enough (omega arith) in omega arith)
 continuing_len-determined b (suc n) (suc k) [] y l enough = absurd (omega arith)
-continuing_len-determined b (suc n) (suc k) (c ∷ z) y l enough = elim (true_or_false (is_second_byte b c)) [
-  | inl goes_on ↦ rw goes_on (ap suc
-      (continuations-determined n k z y (omega arith)
-      (λ q. let no_more_wanted = (rw goes_on at enough) (omega arith) in omega arith)))
-  | inr f ↦ rw f refl
-]
+continuing_len-determined b (suc n) (suc k) (c ∷ z) y l enough =
+    elim (true_or_false (is_second_byte b c)) [
+      | inl goes_on ↦ rw goes_on (ap suc
+          (continuations-determined n k z y (omega arith)
+          (λ q. let no_more_wanted = (rw goes_on at enough) (omega arith) in omega arith)))
+      | inr f ↦ rw f refl
+    ]
 
 -- They reach no further than they are there and wanted.
 
-continuations-within : (n : ℕ) (z : List ℕ) → (continuations n z ≤ n) × (continuations n z ≤ length z)
+continuations-within : (n : ℕ) (z : List ℕ) → (continuations n z ≤ n)
+    × (continuations n z ≤ length z)
 continuations-within zero z = (omega arith, omega arith)
 continuations-within (suc n) [] = (omega arith, omega arith)
 continuations-within (suc n) (c ∷ z) = elim (true_or_false (is_continuation c)) [
@@ -50,7 +54,8 @@ continuations-within (suc n) (c ∷ z) = elim (true_or_false (is_continuation c)
   | inr f ↦ rw f (omega arith, omega arith)
 ]
 
-continuing_len-within : (b n : ℕ) (z : List ℕ) → (continuing_len b n z ≤ n) × (continuing_len b n z ≤ length z)
+continuing_len-within : (b n : ℕ) (z : List ℕ) → (continuing_len b n z ≤ n)
+    × (continuing_len b n z ≤ length z)
 continuing_len-within b zero z = (omega arith, omega arith)
 continuing_len-within b (suc n) [] = (omega arith, omega arith)
 continuing_len-within b (suc n) (c ∷ z) = elim (true_or_false (is_second_byte b c)) [
@@ -107,16 +112,22 @@ continuing_len-more b (suc n) (c ∷ z) all_go_on l = elim (true_or_false (is_se
 
 abbrev head_of : ℕ → ℕ → ℕ → List ℕ → Head
 head_of set b m x =
-    cond (eqb (m + 1) (sequence_len b)) (record { more = m; text = scalar_of (b ∷ x) ∷ []; kind = Valid; set = set })
+    cond (eqb (m + 1) (sequence_len b))
+    (record { more = m; text = scalar_of (b ∷ x) ∷ []; kind = Valid; set = set })
     (record { more = m; text = 0xFFFD ∷ []; kind = Malformed; set = set })
 
 by_reach : (set b : ℕ) (z : List ℕ)
-    → utf_8_rule set b z ≡ head_of set b (well_formed_tail_len b z) (take (well_formed_tail_len b z) z)
+    → utf_8_rule set b z ≡ head_of set b (well_formed_tail_len b z)
+    (take (well_formed_tail_len b z) z)
 unfolding utf_8_rule
 by_reach set b z = refl
 
 more_of : (set b m : ℕ) (x : List ℕ) → (head_of set b m x).more ≡ m
-more_of set b m x = elim (true_or_false (eqb (m + 1) (sequence_len b))) [ inl t ↦ rw t refl | inr f ↦ rw f refl ]
+more_of set b m x = elim (true_or_false (eqb (m + 1) (sequence_len b))) [
+  | inl t ↦
+      rw t refl
+  | inr f ↦ rw f refl
+]
 
 more_is_reach : (set b : ℕ) (z : List ℕ) → (utf_8_rule set b z).more ≡ well_formed_tail_len b z
 more_is_reach set b z = ap (λ (h : Head). h.more) (by_reach set b z)
@@ -131,7 +142,8 @@ same_rule : (set b : ℕ) (y z : List ℕ) → well_formed_tail_len b y ≡ well
     → take (well_formed_tail_len b z) y ≡ take (well_formed_tail_len b z) z
     → utf_8_rule set b y ≡ utf_8_rule set b z
 same_rule set b y z e t =
-    by_reach set b y ∙ ap (λ m. head_of set b m (take m y)) e ∙ ap (head_of set b (well_formed_tail_len b z)) t ∙ sym (by_reach set b z)
+    by_reach set b y ∙ ap (λ m. head_of set b m (take m y)) e
+    ∙ ap (head_of set b (well_formed_tail_len b z)) t ∙ sym (by_reach set b z)
 
 -- every sequence
 
@@ -139,13 +151,16 @@ determined_at : (set b k n : ℕ) (z : List ℕ) → k ≡ well_formed_tail_len 
     → (k ≤ well_formed_tail_len b z → sequence_len b - 1 ≤ k)
     → IsDeterminedWithin utf_8_rule set b z n
 determined_at set b k n z is_place there h =
-    let length_is : (utf_8_rule set b z).more + n ≡ k = ap (λ j. j + n) (more_is_reach set b z) ∙ sym is_place in
+    let length_is : (utf_8_rule set b z).more + n ≡ k = ap (λ j. j + n) (more_is_reach set b z)
+    ∙ sym is_place in
     let contains : well_formed_tail_len b z ≤ k = omega (arith, is_place) in
     let front_length : length (take k z) ≡ k = length-take-le k z there in record {
       there = omega (arith, length_is);
       same = λ y. ap (λ j. utf_8_rule set b (take j z ++ y)) length_is
-          ∙ same_rule set b (take k z ++ y) z (continuing_len-determined b (sequence_len b - 1) k z y there h)
-          (take-append-le (well_formed_tail_len b z) (take k z) y (omega (arith, front_length, contains))
+          ∙ same_rule set b (take k z ++ y) z
+          (continuing_len-determined b (sequence_len b - 1) k z y there h)
+          (take-append-le (well_formed_tail_len b z) (take k z) y
+          (omega (arith, front_length, contains))
           ∙ take-take (well_formed_tail_len b z) k z contains);
     }
 
@@ -160,7 +175,8 @@ stops_short set b z l v =
     not_equal : (m n : ℕ) → m < n - 1 → eqb (m + 1) n ≡ false
     not_equal m n l = grind (arith, nat_tests)
 
-pub by_end : (set b : ℕ) (z : List ℕ) → well_formed_tail_len b z ≡ length z → length z < sequence_len b - 1
+pub by_end : (set b : ℕ) (z : List ℕ) → well_formed_tail_len b z ≡ length z
+    → length z < sequence_len b - 1
     → IsDeterminedByEnd utf_8_rule set b z
 by_end set b z all_go_on l = record {
   within = within set b z;
@@ -170,15 +186,18 @@ by_end set b z all_go_on l = record {
   other = λ q.
       let reaches_next : well_formed_tail_len b (z ++ next_byte b z ∷ []) ≡ suc (length z) =
       continuing_len-more b (sequence_len b - 1) z all_go_on l in
-      let reach_unchanged : well_formed_tail_len b (z ++ next_byte b z ∷ []) ≡ well_formed_tail_len b z =
-      sym (more_is_reach set b (z ++ next_byte b z ∷ [])) ∙ ap (λ (h : Head). h.more) q ∙ more_is_reach set b z in
+      let reach_unchanged : well_formed_tail_len b (z ++ next_byte b z ∷ [])
+      ≡ well_formed_tail_len b z =
+      sym (more_is_reach set b (z ++ next_byte b z ∷ [])) ∙ ap (λ (h : Head). h.more) q
+      ∙ more_is_reach set b z in
       let impossible : suc (length z) ≡ length z = sym reaches_next ∙ reach_unchanged ∙ all_go_on in
       omega (arith, impossible);
 }
 
 -- the bytes that are reached reach as far by themselves
 
-continuations-alone : (n : ℕ) (z : List ℕ) → continuations n (take (continuations n z) z) ≡ continuations n z
+continuations-alone : (n : ℕ) (z : List ℕ)
+    → continuations n (take (continuations n z) z) ≡ continuations n z
 continuations-alone zero z = refl
 continuations-alone (suc n) [] = refl
 continuations-alone (suc n) (c ∷ z) = elim (true_or_false (is_continuation c)) [
@@ -203,7 +222,8 @@ determined : (set b : ℕ) (z : List ℕ) → IsDeterminedSoon utf_8_rule set b 
 determined set b z =
     let bounds = continuing_len-within b (sequence_len b - 1) z in
     elim (leb_tells (sequence_len b - 1) (well_formed_tail_len b z)) [
-      | inl t ↦ inl (determined_at set b (well_formed_tail_len b z) 0 z (omega arith) bounds.1 (λ _. t.1))
+      | inl t ↦ inl (determined_at set b (well_formed_tail_len b z) 0 z (omega arith) bounds.1
+          (λ _. t.1))
       | inr short ↦ inr (
         stops_short set b z short.1,
         elim (leb_tells (suc (well_formed_tail_len b z)) (length z)) [

@@ -8,13 +8,15 @@ use Rattle.enc_decoder.proofs.RuleLemmas.{one_small}
 use Rattle.enc_decoder.proofs.Latin1Lemmas.{has_bytes_by}
 use Rattle.enc_decoder_utf.proofs.Utf8Lookahead.{utf_8_has_lookahead}
 
-either_text : (t : Bool) (x y : Head) (c d : ℕ) → x.text ≡ c ∷ [] → y.text ≡ d ∷ [] → (e : ℕ) × ((cond t x y).text ≡ e ∷ [])
+either_text : (t : Bool) (x y : Head) (c d : ℕ) → x.text ≡ c ∷ [] → y.text ≡ d ∷ [] → (e : ℕ)
+    × ((cond t x y).text ≡ e ∷ [])
 either_text true x y c d e f = (c, e)
 either_text false x y c d e f = (d, f)
 
 one_character : (set b : ℕ) (z : List ℕ) → (c : ℕ) × ((utf_8_rule set b z).text ≡ c ∷ [])
 unfolding utf_8_rule
-one_character set b z = either_text (eqb (well_formed_tail_len b z + 1) (sequence_len b)) _ _ _ _ refl refl
+one_character set b z =
+    either_text (eqb (well_formed_tail_len b z + 1) (sequence_len b)) _ _ _ _ refl refl
 
 pub utf_8_has_texts : HasTexts utf_8_rule
 utf_8_has_texts set b z e = let text_is = (one_character set b z).1 in cc

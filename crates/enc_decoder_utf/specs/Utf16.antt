@@ -1,4 +1,5 @@
--- The rule of UTF-16, big-endian or little-endian (Encoding Standard 14.2, "shared UTF-16 decoder").
+-- The rule of UTF-16, big-endian or little-endian (Encoding Standard 14.2, "shared UTF-16
+-- decoder").
 use Rattle.std.specs.Prelude.{ℕ, ◌+◌, ◌-◌, ◌*◌, Bool, true, false, ◌&&◌, nat_le, List, [], ◌∷◌, if◌then◌else◌}
 use Rattle.enc_decoder.specs.Segmentation.{Head, Rule, character_head, malformed_head}
 
@@ -22,16 +23,19 @@ pair_scalar lead trail = 0x10000 + (lead - 0xD800) * 0x400 + (trail - 0xDC00)
 abbrev pub unit_head : ℕ → ℕ → Head
 unit_head set u = if is_trail_surrogate u then malformed_head set 1 else character_head set 1 u
 
--- A lead surrogate, by the bytes after it: it begins a pair, or is malformed. A following code unit that is no trail
--- surrogate is restored. A single byte at the end of the input is malformed with it.
+-- A lead surrogate, by the bytes after it: it begins a pair, or is malformed. A following code unit
+-- that is no trail surrogate is restored. A single byte at the end of the input is malformed with
+-- it.
 abbrev pub lead_surrogate_head : Bool → ℕ → ℕ → List ℕ → Head
 lead_surrogate_head big set lead [] = malformed_head set 1
 lead_surrogate_head big set lead (d ∷ []) = malformed_head set 2
 lead_surrogate_head big set lead (d ∷ e ∷ z) =
-    if is_trail_surrogate (code_unit big d e) then character_head set 3 (pair_scalar lead (code_unit big d e))
+    if is_trail_surrogate (code_unit big d e) then character_head set 3
+    (pair_scalar lead (code_unit big d e))
     else malformed_head set 1
 
--- The first sequence, big-endian or little-endian. A single byte at the end of the input is malformed.
+-- The first sequence, big-endian or little-endian. A single byte at the end of the input is
+-- malformed.
 unfoldable pub utf_16_rule : Bool → Rule
 utf_16_rule big set b [] = malformed_head set 0
 utf_16_rule big set b (c ∷ z) =

@@ -23,4 +23,9 @@ begins_with_lead big (Three a b c) = is_lead_surrogate (code_unit big a b)
 
 -- the state as that of a codec
 abbrev pub utf_16_state : Utf16State → CodecState
-utf_16_state s = record { rule = utf_16_rule s.big_endian; set = 0; pending = bytes_of_pending s.pending }
+utf_16_state s = record {
+  rule = utf_16_rule s.big_endian;
+  set = 0;
+  pending =
+      bytes_of_pending s.pending;
+}

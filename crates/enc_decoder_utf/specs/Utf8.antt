@@ -1,5 +1,6 @@
--- The rule of UTF-8: well-formed sequences (Unicode Standard 3.9, table 3-7), and malformed ones, each the maximal
--- subpart of an ill-formed subsequence (D93b; Encoding Standard 8.1.1, "UTF-8 decoder").
+-- The rule of UTF-8: well-formed sequences (Unicode Standard 3.9, table 3-7), and malformed ones,
+-- each the maximal subpart of an ill-formed subsequence (D93b; Encoding Standard 8.1.1, "UTF-8
+-- decoder").
 use Rattle.std.specs.Prelude.{ℕ, ◌+◌, ◌-◌, ◌*◌, Bool, ◌&&◌, ◌==◌, nat_lt, nat_le, List, [], ◌∷◌, take, if◌then◌else◌}
 use Rattle.std.proofs.Common.{zero, suc}
 use Rattle.enc_decoder.specs.declared.byte_codec.Kind.TheVariants.{Valid, Malformed}
@@ -43,14 +44,15 @@ scalar_of [] = 0
 scalar_of (a ∷ []) = a
 scalar_of (a ∷ b ∷ []) = (a - 0xC0) * 64 + (b - 0x80)
 scalar_of (a ∷ b ∷ c ∷ []) = (a - 0xE0) * 4096 + (b - 0x80) * 64 + (c - 0x80)
-scalar_of (a ∷ b ∷ c ∷ d ∷ z) = (a - 0xF0) * 262144 + (b - 0x80) * 4096 + (c - 0x80) * 64 + (d - 0x80)
+scalar_of (a ∷ b ∷ c ∷ d ∷ z) =
+    (a - 0xF0) * 262144 + (b - 0x80) * 4096 + (c - 0x80) * 64 + (d - 0x80)
 
 -- the number of bytes after the first that begin a well-formed sequence with it
 abbrev pub well_formed_tail_len : ℕ → List ℕ → ℕ
 well_formed_tail_len b z = continuing_len b (sequence_len b - 1) z
 
--- A whole well-formed sequence is valid. Otherwise the longest prefix that begins one is malformed, and at least one
--- byte.
+-- A whole well-formed sequence is valid. Otherwise the longest prefix that begins one is malformed,
+-- and at least one byte.
 unfoldable pub utf_8_rule : Rule
 utf_8_rule set b z =
     if well_formed_tail_len b z + 1 == sequence_len b

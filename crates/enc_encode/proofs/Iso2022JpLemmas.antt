@@ -32,10 +32,12 @@ none_is Roman = refl
 none_is Jis0208 = refl
 
 set_by_is : (s : CharacterSet) (k : CharClass) (o : Option CharClass)
-    → is_roman (set_after_class k (stays_in_roman s (last_class_after k o))) ≡ stays_in_roman s (last_class_after k o)
+    → is_roman (set_after_class k (stays_in_roman s (last_class_after k o)))
+    ≡ stays_in_roman s (last_class_after k o)
 unfolding is_roman
 set_by_is s class.Neutral o =
-    elim (stays_in_roman s o) as (λ b. is_roman (if b then Roman else Ascii) ≡ b) [ true ↦ refl | false ↦ refl ]
+    elim (stays_in_roman s o) as
+    (λ b. is_roman (if b then Roman else Ascii) ≡ b) [ true ↦ refl | false ↦ refl ]
 set_by_is s class.Latin o =
     elim s as (λ s. is_roman (if stays_in_roman s (Some class.Latin) then Roman else Ascii)
     ≡ stays_in_roman s (Some class.Latin)) [ Ascii ↦ refl | Roman ↦ refl | Jis0208 ↦ refl ]
@@ -92,7 +94,8 @@ read_back-cons s c u =
 set_after_more : (s : CharacterSet) (t : List ℕ) (c : ℕ)
     → set_after_reversed s (reverse (t ++ c ∷ []))
     ≡ set_for iso_2022_jp_encoder_rule (set_after_reversed s (reverse t)) c
-set_after_more s t c = ap (set_after_reversed s) (reverse-append t (c ∷ [])) ∙ read_back-cons s c (reverse t)
+set_after_more s t c = ap (set_after_reversed s) (reverse-append t (c ∷ []))
+    ∙ read_back-cons s c (reverse t)
 
 own : (k : CharClass) → has_class (set_of_class k) k ≡ true
 own class.Neutral = refl
@@ -123,9 +126,11 @@ iso_2022_jp_is_lawful = record {
 }
 
 -- the first n of sixteen bytes, before one that isn't ASCII, a shift or an escape
-pub unshifted : (xs : List ℕ) (n a b c d : ℕ) → n ≤ a → n ≤ b → n ≤ c → n ≤ d → All (λ x. x < 0x80) (take a xs)
+pub unshifted : (xs : List ℕ) (n a b c d : ℕ) → n ≤ a → n ≤ b → n ≤ c → n ≤ d
+    → All (λ x. x < 0x80) (take a xs)
     → All (λ x. x ≢ 0x0E) (take b xs)
-    → All (λ x. x ≢ 0x0F) (take c xs) → All (λ x. x ≢ 0x1B) (take d xs) → AreIso2022JpAscii (take n xs)
+    → All (λ x. x ≢ 0x0F) (take c xs) → All (λ x. x ≢ 0x1B) (take d xs)
+    → AreIso2022JpAscii (take n xs)
 unshifted xs n a b c d la lb lc ld ascii out in_ escape k e h = (
   all_fewer (λ x. x < 0x80) n a xs la ascii k e h,
   all_fewer (λ x. x ≢ 0x0E) n b xs lb out k e h,

@@ -30,11 +30,18 @@ lawful_if_any Utf16Le = tt
 lawful_if_any Replacement = tt
 lawful_if_any (SingleByte index) =
     stateless_is_lawful (single_byte_bytes index) (with_ascii_writes_ascii _) (few_single_byte index)
-lawful_if_any Big5 = stateless_is_lawful big5_bytes (with_ascii_writes_ascii _) few_big5
-lawful_if_any EucKr = stateless_is_lawful euc_kr_bytes (with_ascii_writes_ascii _) few_euc_kr
-lawful_if_any ShiftJis = stateless_is_lawful shift_jis_bytes (with_ascii_writes_ascii _) few_shift_jis
-lawful_if_any EucJp = stateless_is_lawful euc_jp_bytes (with_ascii_writes_ascii _) few_euc_jp
-lawful_if_any Gbk = stateless_is_lawful (gb18030_bytes true) (with_ascii_writes_ascii _) (few_gb18030 true)
-lawful_if_any Gb18030 = stateless_is_lawful (gb18030_bytes false) (with_ascii_writes_ascii _) (few_gb18030 false)
-lawful_if_any XUserDefined = stateless_is_lawful x_user_defined_bytes (with_ascii_writes_ascii _) few_x_user_defined
+lawful_if_any Big5 =
+    stateless_is_lawful big5_bytes (with_ascii_writes_ascii _) few_big5
+lawful_if_any EucKr =
+    stateless_is_lawful euc_kr_bytes (with_ascii_writes_ascii _) few_euc_kr
+lawful_if_any ShiftJis =
+    stateless_is_lawful shift_jis_bytes (with_ascii_writes_ascii _) few_shift_jis
+lawful_if_any EucJp =
+    stateless_is_lawful euc_jp_bytes (with_ascii_writes_ascii _) few_euc_jp
+lawful_if_any Gbk =
+    stateless_is_lawful (gb18030_bytes true) (with_ascii_writes_ascii _) (few_gb18030 true)
+lawful_if_any Gb18030 =
+    stateless_is_lawful (gb18030_bytes false) (with_ascii_writes_ascii _) (few_gb18030 false)
+lawful_if_any XUserDefined =
+    stateless_is_lawful x_user_defined_bytes (with_ascii_writes_ascii _) few_x_user_defined
 lawful_if_any Iso2022Jp = iso_2022_jp_is_lawful

@@ -1,6 +1,7 @@
--- The bytes of characters in gb18030 (Encoding Standard 10.2.2, "gb18030 encoder") and in GBK, which has no four bytes
--- (10.1.2).
-use Rattle.std.specs.Prelude.{ℕ, ◌+◌, ◌/◌, ◌%◌, Bool, ◌==◌, ◌&&◌, nat_lt, Option, Some, None, List, [], ◌∷◌, if◌then◌else◌}
+-- The bytes of characters in gb18030 (Encoding Standard 10.2.2, "gb18030 encoder") and in GBK,
+-- which has no four bytes (10.1.2).
+use Rattle.std.specs.Prelude.{ℕ, ◌+◌, ◌/◌, ◌%◌, Bool, ◌==◌, ◌&&◌, nat_lt, Option, Some, None, List, [], ◌∷◌}
+use Rattle.std.specs.Prelude.{if◌then◌else◌}
 use Rattle.enc_encoder.specs.declared.byte_lengths.ByteLengths.{ByteLengths}
 use Rattle.enc_encoder.specs.declared.byte_lengths.ByteLengths.TheVariants as lengths
 use Rattle.enc_index_pointers.specs.Pointers.{gb18030_pointer, gb18030_ranges_pointer}
@@ -16,7 +17,8 @@ gb18030_pair_bytes p = (p / 190 + 0x81) ∷ gb18030_trail_byte (p % 190) ∷ []
 
 -- the four bytes of a pointer of the ranges
 abbrev pub gb18030_four_bytes : ℕ → List ℕ
-gb18030_four_bytes p = (p / 12600 + 0x81) ∷ (p % 12600 / 1260 + 0x30) ∷ (p % 1260 / 10 + 0x81) ∷ (p % 10 + 0x30) ∷ []
+gb18030_four_bytes p =
+    (p / 12600 + 0x81) ∷ (p % 12600 / 1260 + 0x30) ∷ (p % 1260 / 10 + 0x81) ∷ (p % 10 + 0x30) ∷ []
 
 -- the two bytes of a character, or in gb18030 four
 abbrev pub two_or_four_bytes : Bool → ℕ → Option ℕ → Option (List ℕ)

@@ -1,6 +1,7 @@
--- The rule of the ISO-2022-JP encoder: bytes of characters, and character sets (Encoding Standard 12.2.2, "ISO-2022-JP
--- encoder").
-use Rattle.std.specs.Prelude.{ℕ, ◌+◌, ◌-◌, ◌/◌, ◌%◌, Bool, true, false, ◌==◌, ◌||◌, nat_lt, Option, Some, None, List, [], ◌∷◌, reverse, slice_index, if◌then◌else◌}
+-- The rule of the ISO-2022-JP encoder: bytes of characters, and character sets (Encoding Standard
+-- 12.2.2, "ISO-2022-JP encoder").
+use Rattle.std.specs.Prelude.{ℕ, ◌+◌, ◌-◌, ◌/◌, ◌%◌, Bool, true, false, ◌==◌, ◌||◌, nat_lt, Option, Some, None, List}
+use Rattle.std.specs.Prelude.{[], ◌∷◌, reverse, slice_index, if◌then◌else◌}
 use Rattle.enc_encoder.specs.declared.character_set.CharacterSet.{CharacterSet}
 use Rattle.enc_encoder.specs.declared.character_set.CharacterSet.TheVariants.{Ascii, Roman, Jis0208}
 use Rattle.enc_encode.specs.declared.encoders.iso_2022_jp.CharClass.{CharClass}
@@ -12,7 +13,8 @@ use Rattle.enc_encoder.specs.Stateless.{bytes_of_pointer}
 use Rattle.enc_encode.specs.Japanese.{is_halfwidth_katakana, with_fullwidth_minus}
 use Rattle.enc_encode.specs.Katakana.{fullwidth_katakana}
 
--- the class of a mappable character: in both ASCII and Roman, in ASCII alone, in Roman alone, or in jis0208
+-- the class of a mappable character: in both ASCII and Roman, in ASCII alone, in Roman alone, or in
+-- jis0208
 abbrev pub class_of : ℕ → CharClass
 class_of c =
     if c == 0x5C || c == 0x7E then class.Latin
@@ -71,11 +73,13 @@ set_after_class class.Latin in_roman = if in_roman then Roman else Ascii
 set_after_class class.Roman in_roman = if in_roman then Roman else Ascii
 set_after_class class.Kanji in_roman = Jis0208
 
--- The character set after a text, which is read backward: jis0208 if the last character is in it; Roman if the last
--- character that is not neutral is in it, or if all are neutral and Roman was designated before; otherwise ASCII.
+-- The character set after a text, which is read backward: jis0208 if the last character is in it;
+-- Roman if the last character that is not neutral is in it, or if all are neutral and Roman was
+-- designated before; otherwise ASCII.
 abbrev pub set_after_reversed : CharacterSet → List ℕ → CharacterSet
 set_after_reversed s [] = s
-set_after_reversed s (c ∷ u) = set_after_class (class_of c) (stays_in_roman s (last_non_neutral_class (c ∷ u)))
+set_after_reversed s (c ∷ u) =
+    set_after_class (class_of c) (stays_in_roman s (last_non_neutral_class (c ∷ u)))
 
 -- shift out, shift in and escape
 abbrev pub is_shift : ℕ → Bool
@@ -83,7 +87,8 @@ is_shift c = c == 0x0E || c == 0x0F || c == 0x1B
 
 -- the character that is looked up; for half-width katakana a full-width one
 abbrev pub lookup_char : ℕ → ℕ
-lookup_char c = if is_halfwidth_katakana c then slice_index fullwidth_katakana (c - 0xFF61) else with_fullwidth_minus c
+lookup_char c = if is_halfwidth_katakana c then slice_index fullwidth_katakana (c - 0xFF61) else
+    with_fullwidth_minus c
 
 -- the two bytes of a pointer
 abbrev pub jis0208_pair_bytes : ℕ → List ℕ

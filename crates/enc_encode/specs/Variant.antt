@@ -19,12 +19,19 @@ use Rattle.enc_encode.specs.Iso2022Jp.{iso_2022_jp_encoder_state}
 
 -- its rule, with the characters barred that its caller bars
 abbrev pub variant_encoder_state : VariantEncoder → RawEncoderState
-variant_encoder_state (Utf8 e) = stateless_state (bytes_unless_barred e.repertoire.barred.now utf_8_bytes)
-variant_encoder_state (SingleByte e) = stateless_state (bytes_unless_barred e.repertoire.barred.now (single_byte_bytes e.repertoire.repertoire.index))
-variant_encoder_state (Big5 e) = stateless_state (bytes_unless_barred e.repertoire.barred.now big5_bytes)
-variant_encoder_state (EucKr e) = stateless_state (bytes_unless_barred e.repertoire.barred.now euc_kr_bytes)
-variant_encoder_state (ShiftJis e) = stateless_state (bytes_unless_barred e.repertoire.barred.now shift_jis_bytes)
-variant_encoder_state (EucJp e) = stateless_state (bytes_unless_barred e.repertoire.barred.now euc_jp_bytes)
+variant_encoder_state (Utf8 e) =
+    stateless_state (bytes_unless_barred e.repertoire.barred.now utf_8_bytes)
+variant_encoder_state (SingleByte e) =
+    stateless_state (bytes_unless_barred e.repertoire.barred.now
+    (single_byte_bytes e.repertoire.repertoire.index))
+variant_encoder_state (Big5 e) =
+    stateless_state (bytes_unless_barred e.repertoire.barred.now big5_bytes)
+variant_encoder_state (EucKr e) =
+    stateless_state (bytes_unless_barred e.repertoire.barred.now euc_kr_bytes)
+variant_encoder_state (ShiftJis e) =
+    stateless_state (bytes_unless_barred e.repertoire.barred.now shift_jis_bytes)
+variant_encoder_state (EucJp e) =
+    stateless_state (bytes_unless_barred e.repertoire.barred.now euc_jp_bytes)
 variant_encoder_state (Gb18030 e) = stateless_state (bytes_unless_barred e.repertoire.barred.now
     (gb18030_bytes e.repertoire.repertoire.is_gbk))
 variant_encoder_state (XUserDefined e) =

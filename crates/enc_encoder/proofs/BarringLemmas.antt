@@ -29,7 +29,8 @@ fewer_if : (t : Bool) (x : Option (List ℕ)) → size (if t then None else x) �
 fewer_if true x = omega arith
 fewer_if false x = omega arith
 
-pub fewer : (b : List ℕ) (bytes : ℕ → Option (List ℕ)) (c : ℕ) → size (bytes_unless_barred b bytes c) ≤ size (bytes c)
+pub fewer : (b : List ℕ) (bytes : ℕ → Option (List ℕ)) (c : ℕ)
+    → size (bytes_unless_barred b bytes c) ≤ size (bytes c)
 fewer b bytes c = fewer_if (is_barred b c) (bytes c)
 
 pub except_writes_ascii : (b : List ℕ) (bytes : ℕ → Option (List ℕ)) → WritesAscii bytes
@@ -48,13 +49,15 @@ except_keeps b lengths bytes keeps_lengths = record {
 }
 
 -- of the rule of any encoding
-pub barring_is_lawful : (b : List ℕ) (e : EncoderRule) → IsLawfulEncoderRule e → IsLawfulEncoderRule (barring_rule b e)
+pub barring_is_lawful : (b : List ℕ) (e : EncoderRule) → IsLawfulEncoderRule e
+    → IsLawfulEncoderRule (barring_rule b e)
 barring_is_lawful b e lawful = record {
   designates = lawful.designates;
   set_after_none = lawful.set_after_none;
   set_after_more = lawful.set_after_more;
   references =
-      λ c is_reference. rw (not_barred b c (of_references_is_ascii c is_reference)) (lawful.references c is_reference);
+      λ c is_reference. rw (not_barred b c (of_references_is_ascii c is_reference))
+      (lawful.references c is_reference);
   one_set = lawful.one_set;
   few = λ c. few_if (is_barred b c) (e.bytes c) (lawful.few c);
 }
@@ -78,9 +81,11 @@ by_first x c true later all e h s by_later =
 by_first x c false later all e h s by_later = by_later (and_second (nat_le 0x80 x) all h) s
 
 -- a character of a list that has no ASCII is beyond ASCII
-beyond : (b : List ℕ) (c : ℕ) → are_beyond_ascii b ≡ true → contains_char b c ≡ true → nat_le 0x80 c ≡ true
+beyond : (b : List ℕ) (c : ℕ) → are_beyond_ascii b ≡ true → contains_char b c ≡ true
+    → nat_le 0x80 c ≡ true
 beyond [] c h s = cc
-beyond (x ∷ b) c h s = by_first x c (x == c) (contains_char b c) (are_beyond_ascii b) refl h s (beyond b c)
+beyond (x ∷ b) c h s =
+    by_first x c (x == c) (contains_char b c) (are_beyond_ascii b) refl h s (beyond b c)
 
 and_if : (s t : Bool) → (s ≡ true → t ≡ true) → (s && t) ≡ s
 and_if true t h = h refl
@@ -96,12 +101,14 @@ pub none_barred : (b : List ℕ) → true ≡ (length b == 0) → b ≡ []
 none_barred [] h = refl
 none_barred (x ∷ b) h = absurd (omega (arith, eqb-true (length (x ∷ b)) 0 (sym h)))
 
-pub unlisted : (P : RawEncoderState → RawEncoderState → Type 0) (f f' h : ℕ → Option (List ℕ)) (b : List ℕ) → b ≡ []
+pub unlisted : (P : RawEncoderState → RawEncoderState → Type 0) (f f' h : ℕ → Option (List ℕ))
+    (b : List ℕ) → b ≡ []
     → f ≡ f'
     → stateless_rule h ≡ stateless_rule f
     → P (stateless_state f) (stateless_state h)
     → P (stateless_state (bytes_unless_barred b f')) (stateless_state (bytes_unless_barred b f'))
 unlisted P f f' h b e q r c =
-    subst (λ b. P (stateless_state (bytes_unless_barred b f')) (stateless_state (bytes_unless_barred b f'))) (sym e)
+    subst (λ b. P (stateless_state (bytes_unless_barred b f'))
+    (stateless_state (bytes_unless_barred b f'))) (sym e)
     (subst (λ f. P (stateless_state f) (stateless_state f)) q (subst (λ r. P (stateless_state f)
     (record { rule = r; set = Ascii })) r c))

@@ -69,7 +69,8 @@ module _ {old now : RawEncoderState} {src rest : List ℕ} {last : Bool} {room :
 
   pub stop_empty : rest ≡ [] → (last ≡ true → now.set ≡ Ascii)
       → EncoderCall old now src rest last room InputEmpty wrote
-  stop_empty e f = stop InputEmpty (record { none_reported = progress.none_reported; all_read = e; ended = f })
+  stop_empty e f = stop InputEmpty
+      (record { none_reported = progress.none_reported; all_read = e; ended = f })
 
   module _ (next : RawEncoderState) (rest' : List ℕ) (q : Step) (r : rest ≡ q.reads ++ rest')
       (comes_next : steps_from_state now last rest ≡ q ∷ steps_from_state next last rest')
@@ -80,7 +81,8 @@ module _ {old now : RawEncoderState} {src rest : List ℕ} {last : Bool} {room :
         ∙ sym (append_assoc (step_chars progress.done) q.reads rest')
         ∙ ap (λ t. t ++ rest') (sym (step_chars-one progress.done q))
 
-    remaining_further : steps_from_state old last src ≡ (progress.done ++ q ∷ []) ++ steps_from_state next last rest'
+    remaining_further : steps_from_state old last src ≡ (progress.done ++ q ∷ [])
+        ++ steps_from_state next last rest'
     remaining_further =
         progress.remaining ∙ ap (λ t. progress.done ++ t) comes_next
         ∙ sym (append_assoc progress.done (q ∷ []) (steps_from_state next last rest'))
@@ -135,7 +137,8 @@ module _ {old now : RawEncoderState} {src rest : List ℕ} {last : Bool} {room :
     })
 
 -- the character that is read
-pub read_one : (b : Bool) (rest : List ℕ) → b ≡ true → (rest ≡ [] → ⊥) → (x : ℕ) × (read_chars b rest ≡ x ∷ [])
+pub read_one : (b : Bool) (rest : List ℕ) → b ≡ true → (rest ≡ [] → ⊥) → (x : ℕ)
+    × (read_chars b rest ≡ x ∷ [])
 read_one true [] e n = absurd (n refl)
 read_one true (x ∷ rest) e n = (x, refl)
 read_one false rest e n = absurd (false≢true e)
@@ -146,9 +149,11 @@ parts false rest = refl
 
 -- a call's units are those of the characters that it read
 units_of_parts : (units_of : ℕ → List ℕ) (src read rest : List ℕ) → src ≡ read ++ rest
-    → length (units_of_text units_of src) ≡ length (units_of_text units_of read) + length (units_of_text units_of rest)
+    → length (units_of_text units_of src) ≡ length (units_of_text units_of read)
+    + length (units_of_text units_of rest)
 units_of_parts units_of src read rest e =
-    ap (λ t. length (units_of_text units_of t)) e ∙ ap length (units_of_text-append units_of read rest)
+    ap (λ t. length (units_of_text units_of t)) e
+    ∙ ap length (units_of_text-append units_of read rest)
     ∙ length-append (units_of_text units_of read) (units_of_text units_of rest)
 
 pub units_read : (units_of : ℕ → List ℕ) (src read rest : List ℕ) (a b : ℕ) → src ≡ read ++ rest
@@ -158,9 +163,11 @@ units_read units_of src read rest a b e f g = omega (arith, units_of_parts units
 
 pub fewer_units : (units_of : ℕ → List ℕ) (src read rest : List ℕ) (a b : ℕ) → src ≡ read ++ rest
     → a ≡ length (units_of_text units_of src) → b ≡ length (units_of_text units_of rest) → b ≤ a
-fewer_units units_of src read rest a b e f g = omega (arith, units_of_parts units_of src read rest e)
+fewer_units units_of src read rest a b e f g =
+    omega (arith, units_of_parts units_of src read rest e)
 
-module _ {old now : RawEncoderState} {src rest : List ℕ} {last : Bool} {before after : List ℕ} {written : ℕ}
+module _ {old now : RawEncoderState} {src rest : List ℕ} {last : Bool} {before after : List ℕ}
+    {written : ℕ}
     (writing : Writing old now src rest last before after written) where
   pub within : written ≤ length after
   within = rw (writing.onto, length-append) (omega (arith, writing.count))
@@ -175,13 +182,15 @@ module _ {old now : RawEncoderState} {src rest : List ℕ} {last : Bool} {before
   pub fewer : (units_of : ℕ → List ℕ) {a b : ℕ} → a ≡ length (units_of_text units_of src)
       → b ≡ length (units_of_text units_of rest) → b ≤ a
   fewer units_of {a} {b} f g =
-      fewer_units units_of src (step_chars writing.progress.done) rest a b writing.progress.reads f g
+      fewer_units units_of src (step_chars writing.progress.done) rest a b writing.progress.reads f
+      g
 
   -- with one character less
   pub fewer_after : (units_of : ℕ → List ℕ) {a b : ℕ} {rest' : List ℕ} → rest' ≡ drop 1 rest
       → a ≡ length (units_of_text units_of src) → b ≡ length (units_of_text units_of rest') → b ≤ a
   fewer_after units_of {a} {b} {rest'} r f g =
       fewer_units units_of src (step_chars writing.progress.done ++ take 1 rest) rest' a b
-      (writing.progress.reads ∙ ap (λ t. step_chars writing.progress.done ++ t) (sym (take-append-drop 1 rest))
+      (writing.progress.reads
+      ∙ ap (λ t. step_chars writing.progress.done ++ t) (sym (take-append-drop 1 rest))
       ∙ sym (append_assoc (step_chars writing.progress.done) (take 1 rest) (drop 1 rest))
       ∙ ap (λ t. (step_chars writing.progress.done ++ take 1 rest) ++ t) (sym r)) f g

@@ -46,7 +46,8 @@ some_of_utf_8 c = omega (arith, length-encode c, len_utf8_bounds c)
 
 units_by : (c : ℕ) (b : Bool) → nat_lt c 0x1_0000 ≡ b
     → (1 ≤ length (encode_utf16 c)) × (length (encode_utf8 c) ≤ 3 * length (encode_utf16 c))
-units_by c true e = rw (length-encode c, e) (omega arith, up_to_three (nat_lt c 0x80) (nat_lt c 0x800))
+units_by c true e = rw (length-encode c, e)
+    (omega arith, up_to_three (nat_lt c 0x80) (nat_lt c 0x800))
 units_by c false e =
     let few = len_utf8_bounds c in
     let len = length-encode c in
@@ -59,20 +60,33 @@ some_of_utf_16 c = (units_by c (nat_lt c 0x1_0000) refl).0
 pub from_utf_16_to_8 : (c : ℕ) → length (encode_utf8 c) ≤ 3 * length (encode_utf16 c)
 from_utf_16_to_8 c = (units_by c (nat_lt c 0x1_0000) refl).1
 
--- a character has a bytes, with an escape sequence before it; the formula gives k for each code unit
+-- a character has a bytes, with an escape sequence before it; the formula gives k for each code
+-- unit
 
 pub within_utf_8 : (a k c : ℕ) → (c < 0x80 → a ≤ k) → a ≤ 2 * k → a ≤ k * length (encode_utf8 c)
 within_utf_8 a k c low all = elim (cases_lt c 0x80) [
-  | inl l ↦ omega (arith, low l, mul-le k 1 k (length (encode_utf8 c)) (omega arith) (some_of_utf_8 c))
-  | inr h ↦ omega (arith, all, mul-le k 2 k (length (encode_utf8 c)) (omega arith) (beyond_ascii c h))
+  | inl l ↦ omega (
+    arith,
+    low l,
+    mul-le k 1 k (length (encode_utf8 c)) (omega arith)
+        (some_of_utf_8 c),
+  )
+  | inr h ↦ omega (
+    arith,
+    all,
+    mul-le k 2 k (length (encode_utf8 c)) (omega arith)
+        (beyond_ascii c h),
+  )
 ]
 
 pub within_utf_16 : (a k c : ℕ) → a ≤ k → a ≤ k * length (encode_utf16 c)
-within_utf_16 a k c all = omega (arith, all, mul-le k 1 k (length (encode_utf16 c)) (omega arith) (some_of_utf_16 c))
+within_utf_16 a k c all =
+    omega (arith, all, mul-le k 1 k (length (encode_utf16 c)) (omega arith) (some_of_utf_16 c))
 
 -- an encoding without escape sequences keeps its lengths
 
-one_in_ascii : (bytes : ℕ → Option (List ℕ)) → WritesAscii bytes → (c : ℕ) → c < 0x80 → size (bytes c) ≡ 1
+one_in_ascii : (bytes : ℕ → Option (List ℕ)) → WritesAscii bytes → (c : ℕ) → c < 0x80
+    → size (bytes c) ≡ 1
 one_in_ascii bytes h c l = ap size (h c l)
 
 pub keeps : (n : ℕ) (lengths : ByteLengths) (bytes : ℕ → Option (List ℕ)) → WritesAscii bytes
@@ -83,7 +97,8 @@ keeps n lengths bytes ascii most one two all = record {
   by_utf_8 =
       λ c. within_utf_8 (size (bytes c)) (max_bytes_per_utf_8_unit lengths) c
       (λ l. omega (arith, one, one_in_ascii bytes ascii c l)) (omega (arith, most c, two));
-  by_utf_16 = λ c. within_utf_16 (size (bytes c)) (max_bytes_per_utf_16_unit lengths) c (omega (arith, most c, all));
+  by_utf_16 = λ c. within_utf_16 (size (bytes c)) (max_bytes_per_utf_16_unit lengths) c
+      (omega (arith, most c, all));
 }
 
 -- the bytes before the first report
@@ -92,7 +107,8 @@ abbrev pub count : List Step → ℕ
 count ps = length (step_bytes (steps_before_report ps))
 
 count_escaping : (has : Bool) (x : CharacterSet) (ps : List Step)
-    → count ((if has then [] else escape_step x ∷ []) ++ ps) ≡ length (if has then [] else escape_sequence x) + count ps
+    → count ((if has then [] else escape_step x ∷ []) ++ ps)
+    ≡ length (if has then [] else escape_sequence x) + count ps
 count_escaping true x ps = omega arith
 count_escaping false x ps = length-append (escape_sequence x) (step_bytes (steps_before_report ps))
 
@@ -101,8 +117,9 @@ count_char : (e : EncoderRule) (s : CharacterSet) (c : ℕ) (b : Option (List �
 count_char e s c None ps = omega arith
 count_char e s c (Some b) ps = omega (arith, length-append b (step_bytes (steps_before_report ps)))
 
--- Where the bytes of each character, with the escape sequence before it, are at most k for each code unit, and the
--- escape sequence at the end has at most m bytes, so it is of the whole: in sets that are designated one after another.
+-- Where the bytes of each character, with the escape sequence before it, are at most k for each
+-- code unit, and the escape sequence at the end has at most m bytes, so it is of the whole: in sets
+-- that are designated one after another.
 module _ (e : EncoderRule) (units_of : ℕ → List ℕ) (k m : ℕ) (Comes : CharacterSet → Type 0)
     (comes : (s : CharacterSet) (c : ℕ) → Comes s → Comes (set_for e s c))
     (ends : (s : CharacterSet) → Comes s → count (steps_at_end s) ≤ m)
@@ -136,7 +153,8 @@ fits_is n q false e = cc
 fitting_is : (n q : ℕ) → checked_usize n ≡ Some q → n ≡ q
 fitting_is n q e = fits_is n q (nat_lt n (2 ^ 64)) e
 
-pub plus_is : (o : Option ℕ) (b q : ℕ) → checked_add o b ≡ Some q → (a : ℕ) × ((o ≡ Some a) × (a + b ≡ q))
+pub plus_is : (o : Option ℕ) (b q : ℕ) → checked_add o b ≡ Some q → (a : ℕ)
+    × ((o ≡ Some a) × (a + b ≡ q))
 plus_is None b q e = cc
 plus_is (Some a) b q e = (a, (refl, fitting_is (a + b) q e))
 
@@ -187,14 +205,17 @@ stateless_enough lengths bytes keeps_lengths = record {
   from_utf_8 = λ src last q e. omega (
     arith,
     utf_8_length_is lengths (length (units_of_text encode_utf8 src)) q e,
-    bounded (stateless_rule bytes) encode_utf8 (max_bytes_per_utf_8_unit lengths) 0 (λ s. s ≡ Ascii) (stays_ascii bytes)
+    bounded (stateless_rule bytes) encode_utf8 (max_bytes_per_utf_8_unit lengths) 0 (λ s. s ≡ Ascii)
+        (stays_ascii bytes)
         none_at_end (λ s c _. omega (arith, keeps_lengths.by_utf_8 c)) last src Ascii refl,
   );
   from_utf_16 = λ src last q e. omega (
     arith,
     utf_16_length_is lengths (length (units_of_text encode_utf16 src)) q e,
-    bounded (stateless_rule bytes) encode_utf16 (max_bytes_per_utf_16_unit lengths) 0 (λ s. s ≡ Ascii)
-        (stays_ascii bytes) none_at_end (λ s c _. omega (arith, keeps_lengths.by_utf_16 c)) last src Ascii refl,
+    bounded (stateless_rule bytes) encode_utf16 (max_bytes_per_utf_16_unit lengths) 0
+        (λ s. s ≡ Ascii)
+        (stays_ascii bytes) none_at_end (λ s c _. omega (arith, keeps_lengths.by_utf_16 c)) last src
+        Ascii refl,
   );
 }
 
@@ -205,7 +226,8 @@ three_in Ascii = refl
 three_in Roman = refl
 three_in Jis0208 = refl
 
-pub three_before : (has : Bool) (x : CharacterSet) → length (if has then [] else escape_sequence x) ≤ 3
+pub three_before : (has : Bool) (x : CharacterSet)
+    → length (if has then [] else escape_sequence x) ≤ 3
 three_before true x = omega arith
 three_before false x = omega (arith, three_in x)
 

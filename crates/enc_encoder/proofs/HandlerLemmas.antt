@@ -13,7 +13,8 @@ use Rattle.enc_encoder.specs.CharLaw.{IsEscapeAtEnd}
 
 -- the bytes found for a character make its step
 pub step_found : (e : EncoderRule) (set : CharacterSet) (c reported : ℕ) (wanted : Option (List ℕ))
-    (found : Option Bytes) (b : Bytes) → AreBytesOf wanted found → byte_list b ≡ bytes_or_empty found
+    (found : Option Bytes) (b : Bytes) → AreBytesOf wanted found
+    → byte_list b ≡ bytes_or_empty found
     → reported ≡ e.reported c
     → char_step e set c wanted
     ≡ record {
@@ -31,27 +32,32 @@ pub none_written : (reported : ℕ) (found : Option Bytes) (b : Bytes)
 none_written reported None b f k e = f
 none_written reported (Some x) b f k e = cc
 
-module _ (e : EncoderRule) (s : CharacterSet) (c d : ℕ) (is_first : d ≡ first_written_char c (e.bytes c)) where
+module _ (e : EncoderRule) (s : CharacterSet) (c d : ℕ)
+    (is_first : d ≡ first_written_char c (e.bytes c)) where
   -- the set in force has the character
   written : e.has s d ≡ true → (last : Bool) (z : List ℕ)
       → steps_of e last s (c ∷ z) ≡ char_step e s c (e.bytes c) ∷ steps_of e last s z
   unfolding steps_of
   written h last z =
-      let has_first : e.has s (first_written_char c (e.bytes c)) ≡ true = ap (e.has s) (sym is_first) ∙ h in
+      let has_first : e.has s (first_written_char c (e.bytes c)) ≡ true =
+      ap (e.has s) (sym is_first) ∙ h in
       rw has_first refl
 
   -- it lacks it, and then an escape comes first
   escaped : e.has (e.designated d) d ≡ true → e.has s d ≡ false → (last : Bool) (z : List ℕ)
-      → steps_of e last s (c ∷ z) ≡ escape_step (e.designated d) ∷ steps_of e last (e.designated d) (c ∷ z)
+      → steps_of e last s (c ∷ z) ≡ escape_step (e.designated d)
+      ∷ steps_of e last (e.designated d) (c ∷ z)
   unfolding steps_of
   escaped j h last z =
-      let lacks_first : e.has s (first_written_char c (e.bytes c)) ≡ false = ap (e.has s) (sym is_first) ∙ h in
+      let lacks_first : e.has s (first_written_char c (e.bytes c)) ≡ false =
+      ap (e.has s) (sym is_first) ∙ h in
       let designated_has : e.has (e.designated (first_written_char c (e.bytes c)))
       (first_written_char c (e.bytes c)) ≡ true =
       ap (λ x. e.has (e.designated x) x) (sym is_first) ∙ j in
       rw (is_first, lacks_first, designated_has) refl
 
-  module _ {E : Type 0} (state : E → RawEncoderState) (x : E) (state_is : state x ≡ record { rule = e; set = s }) where
+  module _ {E : Type 0} (state : E → RawEncoderState) (x : E)
+      (state_is : state x ≡ record { rule = e; set = s }) where
     pub acts_written : e.has s d ≡ true → (reported : ℕ) → reported ≡ e.reported c
         → (found : Option Bytes) (b : Bytes) → AreBytesOf (e.bytes c) found
         → byte_list b ≡ bytes_or_empty found
@@ -80,7 +86,8 @@ module _ (e : EncoderRule) (s : CharacterSet) (c d : ℕ) (is_first : d ≡ firs
 pub ends : (e : EncoderRule) {E : Type 0} (state : E → RawEncoderState) (x y : E) (s : CharacterSet)
     → steps_at_end s ≡ escape_step Ascii ∷ [] → state x ≡ record { rule = e; set = s }
     → state y ≡ record { rule = e; set = Ascii }
-    → (b : Bytes) → byte_list b ≡ escape_sequence Ascii → IsNextStep state x true [] (escape_transition b y)
+    → (b : Bytes) → byte_list b ≡ escape_sequence Ascii
+    → IsNextStep state x true [] (escape_transition b y)
 unfolding steps_of
 ends e state x y s l state_is next_is b g = record {
   first = rw (state_is, next_is, g) l;

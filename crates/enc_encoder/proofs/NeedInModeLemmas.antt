@@ -19,7 +19,8 @@ use Rattle.enc_encoder.proofs.UnmappableLemmas.{any_reported_is, any_unmappable-
 module _ (units_of : ℕ → List ℕ) (old new : RawEncoderState) (src rest : List ℕ) (last : Bool)
     (room : ℕ) (result : EncoderResult) (read : ℕ) (wrote : List ℕ) (replaced : Bool) where
   -- a call that reports unmappable characters meets its need
-  pub reporting_meets_need : EncoderCallInMode units_of Fatal old new src rest last room result read wrote replaced
+  pub reporting_meets_need : EncoderCallInMode units_of Fatal old new src rest last room result read
+      wrote replaced
       → MeetsEncodeNeed old new src rest last room result (length wrote)
   reporting_meets_need call = meets_need old new src rest last room result wrote (record {
     done = call.done;
@@ -39,18 +40,21 @@ neither false b e = refl
 one_reported : (ps : List Step) → ends_in_report ps ≡ true → any_reported ps ≡ true
 one_reported [] e = absurd (false≢true e)
 one_reported (p ∷ []) e = rw e refl
-one_reported (p ∷ q ∷ ps) e = ap (λ b. is_some p.report || b) (one_reported (q ∷ ps) e) ∙ or_true (is_some p.report)
+one_reported (p ∷ q ∷ ps) e = ap (λ b. is_some p.report || b) (one_reported (q ∷ ps) e)
+    ∙ or_true (is_some p.report)
   where
     or_true : (a : Bool) → (a || true) ≡ true
     or_true true = refl
     or_true false = refl
 
--- A call that puts references: where no character is unmappable, and the room has the need and the bytes that are kept
--- back, it reads all.
+-- A call that puts references: where no character is unmappable, and the room has the need and the
+-- bytes that are kept back, it reads all.
 module _ (old new : RawEncoderState) (src rest : List ℕ) (last : Bool) (room kept : ℕ)
     (done : List Step) (reads : src ≡ step_chars done ++ rest)
-    (remaining : steps_from_state old last src ≡ done ++ steps_from_state new last rest) (rule : new.rule ≡ old.rule)
-    (mappable : any_unmappable old.rule src ≡ false) (room_is : encode_need old last src + kept ≤ room) where
+    (remaining : steps_from_state old last src ≡ done ++ steps_from_state new last rest)
+    (rule : new.rule ≡ old.rule)
+    (mappable : any_unmappable old.rule src ≡ false)
+    (room_is : encode_need old last src + kept ≤ room) where
   none_reported : any_reported done ≡ false
   none_reported =
       any_reported_is old new src rest last done reads rule remaining
@@ -82,7 +86,8 @@ module _ (units_of : ℕ → List ℕ) (kept : ℕ) (old new : RawEncoderState) 
       → encode_need old last src + kept ≤ room → result ≡ InputEmpty
   reads_all InputEmpty call m l = refl
   reads_all OutputFull call m l =
-      absurd (not_full old new src rest last room kept call.done call.reads call.remaining call.rule m l call.stops)
+      absurd (not_full old new src rest last room kept call.done call.reads call.remaining call.rule
+      m l call.stops)
   reads_all (Unmappable k) call m l = absurd call.stops
 
 -- how many bytes a call keeps back
@@ -101,7 +106,8 @@ some_ending : (ps : List Step) → ends_in_report ps ≡ true → 1 ≤ length p
 some_ending [] e = absurd (false≢true e)
 some_ending (p ∷ ps) e = omega arith
 
-module _ (new : RawEncoderState) (lawful : IsLawfulEncoderRule new.rule) (rest : List ℕ) (last : Bool) (room : ℕ) where
+module _ (new : RawEncoderState) (lawful : IsLawfulEncoderRule new.rule) (rest : List ℕ)
+    (last : Bool) (room : ℕ) where
   takes_when_full : (kept : ℕ) → 4 + kept ≤ room → (done : List Step)
       → IsFull kept new rest last room done → 1 ≤ length done
   takes_when_full kept l (p ∷ done) f = omega arith
@@ -120,7 +126,13 @@ module _ (new : RawEncoderState) (lawful : IsLawfulEncoderRule new.rule) (rest :
   takes_reporting l done InputEmpty n stops = absurd (n refl)
   takes_reporting l (p ∷ done) OutputFull n stops = omega arith
   takes_reporting l [] OutputFull n stops =
-      absurd (omega (arith, l, stops.full, too_long new lawful last rest stops.next stops.others stops.comes))
+      absurd (omega (
+        arith,
+        l,
+        stops.full,
+        too_long new lawful last rest stops.next stops.others
+            stops.comes,
+      ))
   takes_reporting l done (Unmappable c) n stops =
       omega (arith, ap length stops.then_report, length-append stops.before (stops.report ∷ []))
 

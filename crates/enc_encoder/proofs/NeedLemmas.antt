@@ -21,7 +21,8 @@ steps_before_report-append (p ∷ ps) qs h =
     ∙ ap (λ x. p ∷ x) (steps_before_report-append ps qs both.1)
 
 -- nothing comes before a report that is the first step
-at_report : (q : Step) (c : ℕ) (qs : List Step) → q.report ≡ Some c → steps_before_report (q ∷ qs) ≡ []
+at_report : (q : Step) (c : ℕ) (qs : List Step) → q.report ≡ Some c
+    → steps_before_report (q ∷ qs) ≡ []
 at_report q c qs e = ap (λ r. steps_unless_report r q (steps_before_report qs)) e
 
 -- the bytes of a first step that is no report
@@ -35,7 +36,8 @@ at_next q qs all e f =
     omega (arith, first_counts, length-append q.bytes (step_bytes (steps_before_report qs)))
 
 -- nothing is to come at the end
-at_end : (v : RawEncoderState) (last : Bool) → (last ≡ true → v.set ≡ Ascii) → encode_need v last [] ≡ 0
+at_end : (v : RawEncoderState) (last : Bool) → (last ≡ true → v.set ≡ Ascii)
+    → encode_need v last [] ≡ 0
 unfolding steps_of
 at_end v true h = ap (λ s. length (step_bytes (steps_before_report (steps_at_end s)))) (h refl)
 at_end v false h = refl
@@ -50,10 +52,12 @@ module _ (old new : RawEncoderState) (src rest : List ℕ) (last : Bool) where
       ∙ ap (λ x. length (step_bytes x))
       (steps_before_report-append done (steps_from_state new last rest) n)
       ∙ ap length (step_bytes-append done (steps_before_report (steps_from_state new last rest)))
-      ∙ length-append (step_bytes done) (step_bytes (steps_before_report (steps_from_state new last rest)))
+      ∙ length-append (step_bytes done)
+      (step_bytes (steps_before_report (steps_from_state new last rest)))
 
   -- up to a report
-  before_report : (before : List Step) (q : Step) (c : ℕ) → any_reported before ≡ false → q.report ≡ Some c
+  before_report : (before : List Step) (q : Step) (c : ℕ) → any_reported before ≡ false
+      → q.report ≡ Some c
       → steps_from_state old last src ≡ (before ++ q ∷ []) ++ steps_from_state new last rest
       → encode_need old last src ≡ length (step_bytes before)
   before_report before q c n e r =
@@ -65,20 +69,27 @@ module _ (old new : RawEncoderState) (src rest : List ℕ) (last : Bool) where
       ∙ append-nil before)
 
 module _ (old new : RawEncoderState) (src rest : List ℕ) (last : Bool) (room : ℕ) where
-  pub meets_need : (result : EncoderResult) (wrote : List ℕ) → EncoderCall old new src rest last room result wrote
+  pub meets_need : (result : EncoderResult) (wrote : List ℕ)
+      → EncoderCall old new src rest last room result wrote
       → MeetsEncodeNeed old new src rest last room result (length wrote)
   meets_need InputEmpty wrote call =
       let falls : encode_need old last src ≡ length wrote + encode_need new last rest =
       left old new src rest last call.done call.stops.none_reported call.remaining
       ∙ ap (λ x. length x + encode_need new last rest) (sym call.bytes) in
-      let none : encode_need new last rest ≡ 0 = ap (λ t. encode_need new last t) call.stops.all_read
+      let none : encode_need new last rest ≡ 0 =
+      ap (λ t. encode_need new last t) call.stops.all_read
       ∙ at_end new last call.stops.ended in
-      record { full = (λ e. cc, λ l. absurd (omega (arith, falls, none, call.fits, l))); falls = falls }
+      record {
+        full = (λ e. cc, λ l. absurd (omega (arith, falls, none, call.fits, l)));
+        falls =
+            falls;
+      }
   meets_need OutputFull wrote call =
       let falls : encode_need old last src ≡ length wrote + encode_need new last rest =
       left old new src rest last call.done call.stops.none_reported call.remaining
       ∙ ap (λ x. length x + encode_need new last rest) (sym call.bytes) in
-      let next = at_next call.stops.next call.stops.others (steps_from_state new last rest) call.stops.comes
+      let next = at_next call.stops.next call.stops.others (steps_from_state new last rest)
+      call.stops.comes
       call.stops.not_report in
       record {
         full = (λ e. omega (arith, falls, next, call.stops.full, ap length call.bytes), λ l. refl);
@@ -88,15 +99,19 @@ module _ (old new : RawEncoderState) (src rest : List ℕ) (last : Bool) (room :
       let stops = call.stops in
       let report = stops.report in
       let before =
-      before_report old new src rest last stops.before report k stops.none_reported stops.reported (call.remaining
+      before_report old new src rest last stops.before report k stops.none_reported stops.reported
+      (call.remaining
       ∙ ap (λ x. x ++ steps_from_state new last rest) stops.then_report) in
       let wrote_is : wrote ≡ step_bytes stops.before =
       call.bytes ∙ ap step_bytes stops.then_report ∙ step_bytes-one stops.before report
-      ∙ ap (λ x. step_bytes stops.before ++ x) stops.none_written ∙ append-nil (step_bytes stops.before) in
-      let falls : encode_need old last src ≡ length wrote + 0 = omega (arith, before, ap length wrote_is) in
+      ∙ ap (λ x. step_bytes stops.before ++ x) stops.none_written
+      ∙ append-nil (step_bytes stops.before) in
+      let falls : encode_need old last src ≡ length wrote + 0 =
+      omega (arith, before, ap length wrote_is) in
       record { full = (λ e. cc, λ l. absurd (omega (arith, falls, call.fits, l))); falls = falls }
 
-pub into_meets_need : {units_of : ℕ → List ℕ} {old new : RawEncoderState} {src rest : List ℕ} {last : Bool}
+pub into_meets_need : {units_of : ℕ → List ℕ} {old new : RawEncoderState} {src rest : List ℕ}
+    {last : Bool}
     {before after : List ℕ} {result : EncoderResult} {read written : ℕ}
     → EncoderCallInto units_of old new src rest last before after result read written
     → MeetsEncodeNeed old new src rest last (length before) result written

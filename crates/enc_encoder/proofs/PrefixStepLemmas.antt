@@ -16,7 +16,8 @@ after_char e s s' c None ps = refl
 after_char e s s' c (Some b) ps = refl
 
 pub steps_of-append : (e : EncoderRule) (last : Bool) (s : CharacterSet) (t z : List ℕ)
-    → steps_of e last s (t ++ z) ≡ steps_of e false s t ++ steps_of e last (set_after_steps s (steps_of e false s t)) z
+    → steps_of e last s (t ++ z) ≡ steps_of e false s t
+    ++ steps_of e last (set_after_steps s (steps_of e false s t)) z
 unfolding steps_of
 steps_of-append e last s [] z = refl
 steps_of-append e last s (c ∷ t) z =
@@ -24,13 +25,16 @@ steps_of-append e last s (c ∷ t) z =
     let set_now = set_for e s first_char in
     let step = char_step e set_now c (e.bytes c) in
     let front = steps_of e false set_now t in
-    let set : set_after_steps s (escape_steps_before e s first_char ++ (step ∷ front)) ≡ set_after_steps set_now front =
+    let set : set_after_steps s (escape_steps_before e s first_char ++ (step ∷ front))
+    ≡ set_after_steps set_now front =
     set_after_steps-append s (escape_steps_before e s first_char) (step ∷ front)
-    ∙ after_char e (set_after_steps s (escape_steps_before e s first_char)) set_now c (e.bytes c) front in
+    ∙ after_char e (set_after_steps s (escape_steps_before e s first_char)) set_now c (e.bytes c)
+    front in
     ap (λ x. escape_steps_before e s first_char ++ (step ∷ x)) (steps_of-append e last set_now t z)
     ∙ sym (append_assoc (escape_steps_before e s first_char) (step ∷ front)
     (steps_of e last (set_after_steps set_now front) z))
-    ∙ ap (λ x. (escape_steps_before e s first_char ++ (step ∷ front)) ++ steps_of e last x z) (sym set)
+    ∙ ap (λ x. (escape_steps_before e s first_char ++ (step ∷ front)) ++ steps_of e last x z)
+    (sym set)
 
 -- steps that were taken off come first whatever follows the offer
 pub follows : (old new : RawEncoderState) (src rest : List ℕ) (last : Bool) (done : List Step)
@@ -40,7 +44,8 @@ pub follows : (old new : RawEncoderState) (src rest : List ℕ) (last : Bool) (d
 follows old new src rest true done remaining rule set z m =
     rw (m refl, append-nil src, append-nil rest) remaining
 follows old new src rest false done remaining rule set z m =
-    let set_after : set_after_steps old.set (done ++ steps_from_state new false rest) ≡ set_after_steps new.set
+    let set_after : set_after_steps old.set (done ++ steps_from_state new false rest)
+    ≡ set_after_steps new.set
     (steps_from_state new false rest) =
     set_after_steps-append old.set done (steps_from_state new false rest)
     ∙ ap (λ s. set_after_steps s (steps_from_state new false rest)) (sym set) in
@@ -55,7 +60,8 @@ follows old new src rest false done remaining rule set z m =
 
 -- so it is of what a call took off
 pub whatever_follows : (old new : RawEncoderState) (src rest : List ℕ) (last : Bool) (room : ℕ)
-    (result : EncoderResult) (wrote : List ℕ) (c : EncoderCall old new src rest last room result wrote)
+    (result : EncoderResult) (wrote : List ℕ)
+    (c : EncoderCall old new src rest last room result wrote)
     → (z : List ℕ) → (last ≡ true → z ≡ [])
     → steps_from_state old true (src ++ z) ≡ c.done ++ steps_from_state new true (rest ++ z)
 whatever_follows old new src rest last room result wrote call z m =

@@ -18,14 +18,17 @@ places_fewer (suc (suc j)) n h small =
     (omega arith, rw left (omega arith))
 
 -- the last digit after the others
-pub last_digit : (n : ℕ) (t : List ℕ) → 10 ≤ n → n < 2 ^ 64 → decimal (n / 10) ++ ((48 + n % 10) ∷ t) ≡ decimal n ++ t
+pub last_digit : (n : ℕ) (t : List ℕ) → 10 ≤ n → n < 2 ^ 64
+    → decimal (n / 10) ++ ((48 + n % 10) ∷ t) ≡ decimal n ++ t
 last_digit n t h small =
-    sym (append_assoc (decimal (n / 10)) ((48 + n % 10) ∷ []) t) ∙ ap (λ x. x ++ t) (sym (decimal_step n h small))
+    sym (append_assoc (decimal (n / 10)) ((48 + n % 10) ∷ []) t)
+    ∙ ap (λ x. x ++ t) (sym (decimal_step n h small))
 
 -- the first digit, and the bytes before it
 pub front : (bytes digits : List ℕ) (at n : ℕ) → 3 ≤ at → at ≤ length bytes → n < 10
     → decimal n ++ drop at bytes ≡ digits
-    → drop (at - 3) (set (set (set bytes (at - 1) (48 + n)) (at - 2) 35) (at - 3) 38) ≡ 38 ∷ 35 ∷ digits
+    → drop (at - 3) (set (set (set bytes (at - 1) (48 + n)) (at - 2) 35) (at - 3) 38) ≡ 38 ∷ 35
+    ∷ digits
 front bytes digits at n h k small e =
     let one = set bytes (at - 1) (48 + n) in
     let two = set one (at - 2) 35 in

@@ -25,14 +25,15 @@ use Rattle.enc_encoder.proofs.ReferenceStopLemmas.{unreported_before, none_left}
 use Rattle.enc_encoder.proofs.SliceLemmas.{wrote_is, onto_after, rest_stays}
 
 -- the same call with its room counted otherwise
-pub with_room : {old new : RawEncoderState} {src rest : List ℕ} {last : Bool} {room room' : ℕ} {result : EncoderResult}
+pub with_room : {old new : RawEncoderState} {src rest : List ℕ} {last : Bool} {room room' : ℕ}
+    {result : EncoderResult}
     {wrote : List ℕ} → room ≡ room' → EncoderCall old new src rest last room result wrote
     → EncoderCall old new src rest last room' result wrote
 with_room {old} {new} {src} {rest} {last} {result} {wrote} same_room call =
     subst (λ (x : ℕ). EncoderCall old new src rest last x result wrote) same_room call
 
--- What a call that puts references begins with: the encoder's state, the characters, which nothing follows if `last`,
--- the slice, and how many of its bytes are kept free.
+-- What a call that puts references begins with: the encoder's state, the characters, which nothing
+-- follows if `last`, the slice, and how many of its bytes are kept free.
 pub record Offer : Type 0 where
   pub state : RawEncoderState
   pub src : List ℕ
@@ -44,8 +45,8 @@ pub record Offer : Type 0 where
 abbrev pub limit_of : Offer → ℕ
 limit_of offer = length offer.slice - offer.kept
 
--- Where such a call is: the encoder's state, the characters left, the slice, how many bytes are written to it, and
--- whether a reference is among them.
+-- Where such a call is: the encoder's state, the characters left, the slice, how many bytes are
+-- written to it, and whether a reference is among them.
 pub record Place : Type 0 where
   pub state : RawEncoderState
   pub rest : List ℕ
@@ -56,12 +57,26 @@ pub record Place : Type 0 where
 -- before the first step
 abbrev pub first_place : Offer → Place
 first_place offer =
-    record { state = offer.state; rest = offer.src; slice = offer.slice; written = 0; replaced = false }
+    record {
+      state = offer.state;
+      rest = offer.src;
+      slice = offer.slice;
+      written = 0;
+      replaced =
+          false;
+    }
 
 -- the place after a call of the raw encoder that reports none and writes n bytes
 abbrev pub next_place : Place → RawEncoderState → List ℕ → List ℕ → ℕ → Place
 next_place now next rest slice n =
-    record { state = next; rest = rest; slice = slice; written = now.written + n; replaced = now.replaced }
+    record {
+      state = next;
+      rest = rest;
+      slice = slice;
+      written = now.written + n;
+      replaced =
+          now.replaced;
+    }
 
 -- and the place after a reference, where that many bytes are written
 abbrev pub place_after_reference : RawEncoderState → List ℕ → List ℕ → ℕ → Place
@@ -69,10 +84,12 @@ place_after_reference next rest slice written =
     record { state = next; rest = rest; slice = slice; written = written; replaced = true }
 
 -- the steps done so far
-pub record Progress (offer : Offer) (now : RawEncoderState) (rest wrote : List ℕ) (replaced : Bool) : Type 0 where
+pub record Progress (offer : Offer) (now : RawEncoderState) (rest wrote : List ℕ)
+    (replaced : Bool) : Type 0 where
   pub done : List Step
   pub reads : offer.src ≡ step_chars done ++ rest
-  pub remaining : steps_from_state offer.state offer.last offer.src ≡ done ++ steps_from_state now offer.last rest
+  pub remaining : steps_from_state offer.state offer.last offer.src ≡ done
+      ++ steps_from_state now offer.last rest
   pub rule : now.rule ≡ offer.state.rule
   pub set : now.set ≡ set_after_steps offer.state.set done
   pub bytes : wrote ≡ bytes_with_references done
@@ -94,13 +111,16 @@ pub record CallOnto (units_of : ℕ → List ℕ) (offer : Offer) (end : Place) 
     (read : ℕ) : Type 0 where
   pub within : end.written ≤ length offer.slice
   pub slice_stays : drop end.written end.slice ≡ drop end.written offer.slice
-  pub call : EncoderCallInMode units_of (Html offer.kept) offer.state end.state offer.src end.rest offer.last
+  pub call : EncoderCallInMode units_of (Html offer.kept) offer.state end.state offer.src end.rest
+      offer.last
       (length offer.slice) result read (take end.written end.slice) end.replaced
 
 -- a call of the raw encoder from a place on, which writes n bytes
-abbrev pub EncodesFrom : Offer → Place → RawEncoderState → List ℕ → List ℕ → EncoderResult → ℕ → Type 0
+abbrev pub EncodesFrom : Offer → Place → RawEncoderState → List ℕ → List ℕ → EncoderResult → ℕ
+    → Type 0
 EncodesFrom offer now next rest slice result n =
-    EncodesAfter now.state next now.rest rest offer.last (limit_of offer - now.written) now.written now.slice slice
+    EncodesAfter now.state next now.rest rest offer.last (limit_of offer - now.written) now.written
+    now.slice slice
     result n
 
 or_true : (a : Bool) → (a || true) ≡ true
@@ -144,18 +164,22 @@ begin offer = record {
 }
 
 -- the text of a call, and of the next one
-text_after : (old now next : RawEncoderState) (src rest rest' : List ℕ) (last : Bool) (result : EncoderResult)
+text_after : (old now next : RawEncoderState) (src rest rest' : List ℕ) (last : Bool)
+    (result : EncoderResult)
     (w w' : List ℕ)
     → KeepsText old now src rest last InputEmpty w → KeepsText now next rest rest' last result w'
     → KeepsText old next src rest' last InputEmpty (w ++ (w' ++ reference_after result))
 text_after old now next src rest rest' last result w w' f g z mappable =
     let others = bytes_of_text next.rule next.set (with_references next.rule (rest' ++ z)) in
-    f z mappable ∙ ap (λ t. w ++ t) (g z mappable ∙ sym (append_assoc w' (reference_after result) others))
+    f z mappable ∙ ap (λ t. w ++ t)
+    (g z mappable ∙ sym (append_assoc w' (reference_after result) others))
     ∙ sym (append_assoc w (w' ++ reference_after result) others)
 
 -- a call that doesn't report leaves no reference to its caller
-text_by : (old new : RawEncoderState) (src rest : List ℕ) (last : Bool) (w : List ℕ) (r : CoderResult)
-    → KeepsText old new src rest last InputEmpty w → KeepsText old new src rest last (encoder_result_of r) w
+text_by : (old new : RawEncoderState) (src rest : List ℕ) (last : Bool) (w : List ℕ)
+    (r : CoderResult)
+    → KeepsText old new src rest last InputEmpty w
+    → KeepsText old new src rest last (encoder_result_of r) w
 text_by old new src rest last w stop.InputEmpty h = h
 text_by old new src rest last w stop.OutputFull h = h
 
@@ -163,14 +187,17 @@ text_by old new src rest last w stop.OutputFull h = h
 finish : (units_of : ℕ → List ℕ) (offer : Offer) (end : Place) (wrote : List ℕ)
     (call : Progress offer end.state end.rest wrote end.replaced)
     → (length offer.slice < offer.kept → call.done ≡ []) → end.written ≡ length wrote
-    → end.slice ≡ wrote ++ drop end.written offer.slice → end.written ≤ length offer.slice → (r : CoderResult)
-    → StopsInHtmlMode offer.kept end.state end.rest offer.last (length offer.slice) call.done (encoder_result_of r)
+    → end.slice ≡ wrote ++ drop end.written offer.slice → end.written ≤ length offer.slice
+    → (r : CoderResult)
+    → StopsInHtmlMode offer.kept end.state end.rest offer.last (length offer.slice) call.done
+    (encoder_result_of r)
     → (read : ℕ) → read ≡ length (units_of_text units_of (step_chars call.done))
     → CallOnto units_of offer end (encoder_result_of r) read
 finish units_of offer end wrote call enough count onto within r stops read units = record {
   within = within;
   slice_stays = rest_stays offer.slice end.slice wrote end.written count onto;
-  call = subst (λ (w : List ℕ). EncoderCallInMode units_of (Html offer.kept) offer.state end.state offer.src end.rest
+  call = subst (λ (w : List ℕ). EncoderCallInMode units_of (Html offer.kept) offer.state end.state
+      offer.src end.rest
       offer.last (length offer.slice) (encoder_result_of r) read w end.replaced)
       (sym (wrote_is offer.slice end.slice wrote end.written count onto))
       (record {
@@ -192,97 +219,116 @@ finish units_of offer end wrote call enough count onto within r stops read units
 small_stops : (offer : Offer) → length offer.slice < offer.kept → (nothing_left : Bool)
     → is_nothing_left offer.state offer.src offer.last ≡ nothing_left → (r : CoderResult)
     → r ≡ result_when_full nothing_left
-    → StopsInHtmlMode offer.kept offer.state offer.src offer.last (length offer.slice) [] (encoder_result_of r)
+    → StopsInHtmlMode offer.kept offer.state offer.src offer.last (length offer.slice) []
+    (encoder_result_of r)
 small_stops offer small true left r result_is =
-    subst (λ (x : CoderResult). StopsInHtmlMode offer.kept offer.state offer.src offer.last (length offer.slice) []
+    subst (λ (x : CoderResult). StopsInHtmlMode offer.kept offer.state offer.src offer.last
+    (length offer.slice) []
     (encoder_result_of x)) (sym result_is) left
 small_stops offer small false left r result_is =
-    subst (λ (x : CoderResult). StopsInHtmlMode offer.kept offer.state offer.src offer.last (length offer.slice) []
+    subst (λ (x : CoderResult). StopsInHtmlMode offer.kept offer.state offer.src offer.last
+    (length offer.slice) []
     (encoder_result_of x)) (sym result_is)
     (inr (inr (record { small = small; left = left })))
 
-pub stop_small : (units_of : ℕ → List ℕ) (offer : Offer) → length offer.slice < offer.kept → (r : CoderResult)
+pub stop_small : (units_of : ℕ → List ℕ) (offer : Offer) → length offer.slice < offer.kept
+    → (r : CoderResult)
     → r ≡ result_when_full (is_nothing_left offer.state offer.src offer.last)
     → CallOnto units_of offer (first_place offer) (encoder_result_of r) 0
 unfolding no_steps
 stop_small units_of offer small r result_is =
-    finish units_of offer (first_place offer) [] (no_steps offer) (λ h. refl) refl refl (omega arith) r
-    (small_stops offer small (is_nothing_left offer.state offer.src offer.last) refl r result_is) 0 refl
+    finish units_of offer (first_place offer) [] (no_steps offer) (λ h. refl) refl refl
+    (omega arith) r
+    (small_stops offer small (is_nothing_left offer.state offer.src offer.last) refl r result_is) 0
+    refl
 
 -- one turn: a call of the raw encoder, after those of the turns before it
-module _ {offer : Offer} {now : Place} (writing : Writing offer now) {next : RawEncoderState} {rest slice : List ℕ}
-    {result : EncoderResult} {n : ℕ} (encodes : EncodesFrom offer now next rest slice result n) where
-  -- the steps of both
-  join : (more : List ℕ) (flag : Bool) → more ≡ encodes.wrote ++ reference_after result
-      → StepsFit (limit_of offer) now.written encodes.call.done
-      → flag ≡ (now.replaced || any_reported encodes.call.done)
-      → Progress offer next rest (writing.wrote ++ more) flag
-  join more flag more_is fit flag_is =
-      let before = writing.call in
-      let call = encodes.call in
-      record {
-        done = before.done ++ call.done;
-        reads =
-            before.reads ∙ ap (λ t. step_chars before.done ++ t) call.reads
-            ∙ sym (append_assoc (step_chars before.done) (step_chars call.done) rest)
-            ∙ ap (λ t. t ++ rest) (sym (step_chars-append before.done call.done));
-        remaining = before.remaining ∙ ap (λ t. before.done ++ t) call.remaining
-            ∙ sym (append_assoc before.done call.done (steps_from_state next offer.last rest));
-        rule = call.rule ∙ before.rule;
-        set = call.set ∙ ap (λ s. set_after_steps s call.done) before.set
-            ∙ sym (set_after_steps-append offer.state.set before.done call.done);
-        bytes =
-            ap (λ t. writing.wrote ++ t) (more_is ∙ sym (done_is call))
-            ∙ ap (λ t. t ++ bytes_with_references call.done) before.bytes
-            ∙ sym (bytes_with_references-append before.done call.done);
-        fits =
-            fits-append (limit_of offer) 0 before.done call.done writing.fits_before
-            (subst (λ (x : ℕ). StepsFit (limit_of offer) x call.done)
-            (writing.count ∙ ap length before.bytes ∙ omega arith) fit);
-        flag = flag_is ∙ ap (λ b. b || any_reported call.done) before.flag
-            ∙ sym (any_reported-append before.done call.done);
-        text =
-            subst (λ (x : List ℕ). KeepsText offer.state next offer.src rest offer.last InputEmpty (writing.wrote ++ x))
-            (sym more_is)
-            (text_after offer.state now.state next offer.src now.rest rest offer.last result writing.wrote encodes.wrote
-            before.text encodes.text);
-      }
+module _ {offer : Offer} {now : Place} (writing : Writing offer now) {next : RawEncoderState}
+    {rest slice : List ℕ}
+    {result : EncoderResult} {n : ℕ} (encodes : EncodesFrom offer now next rest slice result n)
+  where
+    -- the steps of both
+    join : (more : List ℕ) (flag : Bool) → more ≡ encodes.wrote ++ reference_after result
+        → StepsFit (limit_of offer) now.written encodes.call.done
+        → flag ≡ (now.replaced || any_reported encodes.call.done)
+        → Progress offer next rest (writing.wrote ++ more) flag
+    join more flag more_is fit flag_is =
+        let before = writing.call in
+        let call = encodes.call in
+        record {
+          done = before.done ++ call.done;
+          reads =
+              before.reads ∙ ap (λ t. step_chars before.done ++ t) call.reads
+              ∙ sym (append_assoc (step_chars before.done) (step_chars call.done) rest)
+              ∙ ap (λ t. t ++ rest) (sym (step_chars-append before.done call.done));
+          remaining = before.remaining ∙ ap (λ t. before.done ++ t) call.remaining
+              ∙ sym (append_assoc before.done call.done (steps_from_state next offer.last rest));
+          rule = call.rule ∙ before.rule;
+          set = call.set ∙ ap (λ s. set_after_steps s call.done) before.set
+              ∙ sym (set_after_steps-append offer.state.set before.done call.done);
+          bytes =
+              ap (λ t. writing.wrote ++ t) (more_is ∙ sym (done_is call))
+              ∙ ap (λ t. t ++ bytes_with_references call.done) before.bytes
+              ∙ sym (bytes_with_references-append before.done call.done);
+          fits =
+              fits-append (limit_of offer) 0 before.done call.done writing.fits_before
+              (subst (λ (x : ℕ). StepsFit (limit_of offer) x call.done)
+              (writing.count ∙ ap length before.bytes ∙ omega arith) fit);
+          flag = flag_is ∙ ap (λ b. b || any_reported call.done) before.flag
+              ∙ sym (any_reported-append before.done call.done);
+          text =
+              subst (λ (x : List ℕ). KeepsText offer.state next offer.src rest offer.last InputEmpty
+              (writing.wrote ++ x))
+              (sym more_is)
+              (text_after offer.state now.state next offer.src now.rest rest offer.last result
+              writing.wrote encodes.wrote
+              before.text encodes.text);
+        }
 
-  -- the slice after both
-  onto : slice ≡ (writing.wrote ++ encodes.wrote) ++ drop (now.written + n) offer.slice
-  onto =
-      onto_after offer.slice now.slice slice writing.wrote encodes.wrote now.written n writing.count encodes.count
-      writing.onto encodes.onto
+    -- the slice after both
+    onto : slice ≡ (writing.wrote ++ encodes.wrote) ++ drop (now.written + n) offer.slice
+    onto =
+        onto_after offer.slice now.slice slice writing.wrote encodes.wrote now.written n
+        writing.count
+        encodes.count
+        writing.onto encodes.onto
 
-  total : now.written + n ≡ length (writing.wrote ++ encodes.wrote)
-  total = rw (length-append writing.wrote encodes.wrote) (omega (arith, writing.count, encodes.count))
+    total : now.written + n ≡ length (writing.wrote ++ encodes.wrote)
+    total = rw (length-append writing.wrote encodes.wrote)
+        (omega (arith, writing.count, encodes.count))
 
-  -- the raw call's bytes end before the part that is kept free
-  in_limit : now.written + n ≤ limit_of offer
-  in_limit = omega (arith, encodes.call.fits, encodes.count, writing.below)
+    -- the raw call's bytes end before the part that is kept free
+    in_limit : now.written + n ≤ limit_of offer
+    in_limit = omega (arith, encodes.call.fits, encodes.count, writing.below)
 
-  -- its steps fit, and the flag stays, where it reported none
-  fits_unreported : any_reported encodes.call.done ≡ false → AllBefore (limit_of offer) now.written encodes.call.done
-  fits_unreported none_reported =
-      unreported_before (limit_of offer) now.written encodes.call.done none_reported
-      (omega (arith, encodes.call.fits, ap length encodes.call.bytes, writing.below))
+    -- its steps fit, and the flag stays, where it reported none
+    fits_unreported : any_reported encodes.call.done ≡ false
+        → AllBefore (limit_of offer) now.written encodes.call.done
+    fits_unreported none_reported =
+        unreported_before (limit_of offer) now.written encodes.call.done none_reported
+        (omega (arith, encodes.call.fits, ap length encodes.call.bytes, writing.below))
 
-  flag_stays : any_reported encodes.call.done ≡ false
-      → now.replaced ≡ (now.replaced || any_reported encodes.call.done)
-  flag_stays none_reported = sym (ap (λ x. now.replaced || x) none_reported ∙ or_false now.replaced)
+    flag_stays : any_reported encodes.call.done ≡ false
+        → now.replaced ≡ (now.replaced || any_reported encodes.call.done)
+    flag_stays none_reported =
+        sym (ap (λ x. now.replaced || x) none_reported ∙ or_false now.replaced)
 
-  join_unreported : any_reported encodes.call.done ≡ false → encodes.wrote ≡ encodes.wrote ++ reference_after result
-      → Progress offer next rest (writing.wrote ++ encodes.wrote) now.replaced
-  join_unreported none_reported no_reference =
-      join encodes.wrote now.replaced no_reference
-      (all_fit (limit_of offer) now.written encodes.call.done (fits_unreported none_reported))
-      (flag_stays none_reported)
+    join_unreported : any_reported encodes.call.done ≡ false
+        → encodes.wrote ≡ encodes.wrote ++ reference_after result
+        → Progress offer next rest (writing.wrote ++ encodes.wrote) now.replaced
+    join_unreported none_reported no_reference =
+        join encodes.wrote now.replaced no_reference
+        (all_fit (limit_of offer) now.written encodes.call.done (fits_unreported none_reported))
+        (flag_stays none_reported)
 
 -- a turn that ends in a report, and then a reference of m bytes
-module _ {offer : Offer} {now : Place} (writing : Writing offer now) {next : RawEncoderState} {rest slice : List ℕ}
-    {k n : ℕ} (encodes : EncodesFrom offer now next rest slice (Unmappable k) n) {m : ℕ} {final : List ℕ}
+module _ {offer : Offer} {now : Place} (writing : Writing offer now) {next : RawEncoderState}
+    {rest slice : List ℕ}
+    {k n : ℕ} (encodes : EncodesFrom offer now next rest slice (Unmappable k) n) {m : ℕ}
+    {final : List ℕ}
     (length_is : m ≡ length (reference k))
-    (put : final ≡ take (now.written + n) slice ++ (reference k ++ drop (now.written + n + m) slice)) where
+    (put : final ≡ take (now.written + n) slice
+    ++ (reference k ++ drop (now.written + n + m) slice)) where
   abbrev limit : ℕ
   limit = limit_of offer
 
@@ -306,7 +352,8 @@ module _ {offer : Offer} {now : Place} (writing : Writing offer now) {next : Raw
 
   -- the raw call's bytes end where the reference begins
   reference_begins : length (bytes_with_references encodes.call.stops.before) ≡ n
-  reference_begins = ap length (unreferred encodes.call.stops.before encodes.call.stops.none_reported) ∙ size
+  reference_begins = ap length
+      (unreferred encodes.call.stops.before encodes.call.stops.none_reported) ∙ size
 
   writes_none : length report.bytes ≡ 0
   writes_none = ap length encodes.call.stops.none_written
@@ -320,7 +367,8 @@ module _ {offer : Offer} {now : Place} (writing : Writing offer now) {next : Raw
       subst (λ (r : Option ℕ). StepFits limit at r (length report.bytes) []) (sym stops.reported)
       (omega (arith, in_limit writing encodes, reference_begins, writes_none)) in
       subst (λ (x : List Step). StepsFit limit now.written x) (sym stops.then_report)
-      (fits-append limit now.written stops.before (report ∷ []) fits_before_report (report_fits, tt))
+      (fits-append limit now.written stops.before (report ∷ []) fits_before_report
+      (report_fits, tt))
 
   -- or more steps follow, if the reference ends before the part that is kept free
   all_before : now.written + n + m < limit → AllBefore limit now.written encodes.call.done
@@ -331,7 +379,8 @@ module _ {offer : Offer} {now : Place} (writing : Writing offer now) {next : Raw
       subst (λ (r : Option ℕ). FitsBefore limit at r (length report.bytes)) (sym stops.reported)
       (omega (arith, reference_begins, writes_none, length_is)) in
       subst (λ (x : List Step). AllBefore limit now.written x) (sym stops.then_report)
-      (before-append limit now.written stops.before (report ∷ []) fits_before_report (report_fits, tt))
+      (before-append limit now.written stops.before (report ∷ []) fits_before_report
+      (report_fits, tt))
 
   flag_is : true ≡ (now.replaced || any_reported encodes.call.done)
   flag_is =
@@ -356,15 +405,18 @@ module _ {offer : Offer} {now : Place} (writing : Writing offer now) {next : Raw
       ∙ ends_in_report-one (writing.call.done ++ stops.before) report ∙ ap is_some stops.reported
 
   -- the slice after the reference
-  final_onto : final ≡ (writing.wrote ++ (encodes.wrote ++ reference k)) ++ drop (now.written + n + m) offer.slice
+  final_onto : final ≡ (writing.wrote ++ (encodes.wrote ++ reference k))
+      ++ drop (now.written + n + m) offer.slice
   final_onto =
-      onto_after offer.slice slice final (writing.wrote ++ encodes.wrote) (reference k) (now.written + n) m
+      onto_after offer.slice slice final (writing.wrote ++ encodes.wrote) (reference k)
+      (now.written + n) m
       (total writing encodes) length_is (onto writing encodes) put
       ∙ ap (λ x. x ++ drop (now.written + n + m) offer.slice)
       (append_assoc writing.wrote encodes.wrote (reference k))
 
   final_count : now.written + n + m ≡ length (writing.wrote ++ (encodes.wrote ++ reference k))
-  final_count = rw (length-append, length-append) (omega (arith, writing.count, encodes.count, length_is))
+  final_count = rw (length-append, length-append)
+      (omega (arith, writing.count, encodes.count, length_is))
 
   -- the call goes on after a reference
   pub goes_on : now.written + n + m < limit
@@ -377,7 +429,8 @@ module _ {offer : Offer} {now : Place} (writing : Writing offer now) {next : Raw
     call = join_report;
     fits_before =
         before-append limit 0 writing.call.done encodes.call.done writing.fits_before
-        (subst (λ (x : ℕ). AllBefore limit x encodes.call.done) (writing.count ∙ ap length writing.call.bytes
+        (subst (λ (x : ℕ). AllBefore limit x encodes.call.done)
+        (writing.count ∙ ap length writing.call.bytes
         ∙ omega arith) (all_before below));
     below = omega arith;
   }
@@ -385,23 +438,34 @@ module _ {offer : Offer} {now : Place} (writing : Writing offer now) {next : Raw
   -- why it stops after a reference
   stops_by : (nothing_left : Bool) → is_nothing_left next rest offer.last ≡ nothing_left
       → limit ≤ now.written + n + m → (r : CoderResult) → r ≡ result_when_full nothing_left
-      → StopsInHtmlMode offer.kept next rest offer.last (length offer.slice) join_report.done (encoder_result_of r)
+      → StopsInHtmlMode offer.kept next rest offer.last (length offer.slice) join_report.done
+      (encoder_result_of r)
   stops_by true left reached r result_is =
-      subst (λ (x : CoderResult). StopsInHtmlMode offer.kept next rest offer.last (length offer.slice)
+      subst (λ (x : CoderResult). StopsInHtmlMode offer.kept next rest offer.last
+      (length offer.slice)
       join_report.done (encoder_result_of x)) (sym result_is) left
   stops_by false left reached r result_is =
       let total_is : now.written + n + m ≡ length (bytes_with_references join_report.done) =
       final_count ∙ ap length join_report.bytes in
-      subst (λ (x : CoderResult). StopsInHtmlMode offer.kept next rest offer.last (length offer.slice)
+      subst (λ (x : CoderResult). StopsInHtmlMode offer.kept next rest offer.last
+      (length offer.slice)
       join_report.done (encoder_result_of x)) (sym result_is)
-      (inr (inl (record { reference = ends_here; full = omega (arith, reached, total_is); left = left })))
+      (inr (inl (record {
+        reference = ends_here;
+        full = omega (arith, reached, total_is);
+        left =
+            left;
+      })))
 
 -- Where a call stops. Its characters have `a` code units, and those left `b`.
 module _ (units_of : ℕ → List ℕ) {offer : Offer} {now : Place} (writing : Writing offer now)
-    (enough : offer.kept ≤ length offer.slice) {a : ℕ} (counted : a ≡ length (units_of_text units_of offer.src)) where
+    (enough : offer.kept ≤ length offer.slice) {a : ℕ}
+    (counted : a ≡ length (units_of_text units_of offer.src)) where
   -- the code units read
-  unit_count : (rest : List ℕ) (b : ℕ) → b ≡ length (units_of_text units_of rest) → (done : List Step)
-      → offer.src ≡ step_chars done ++ rest → a - b ≡ length (units_of_text units_of (step_chars done))
+  unit_count : (rest : List ℕ) (b : ℕ) → b ≡ length (units_of_text units_of rest)
+      → (done : List Step)
+      → offer.src ≡ step_chars done ++ rest
+      → a - b ≡ length (units_of_text units_of (step_chars done))
   unit_count rest b left_count done reads =
       units_read units_of offer.src (step_chars done) rest a b reads counted left_count
 
@@ -411,8 +475,10 @@ module _ (units_of : ℕ → List ℕ) {offer : Offer} {now : Place} (writing : 
         → CallOnto units_of offer (next_place now next rest slice n) InputEmpty (a - b)
     stop_empty encodes {b} left_count =
         let stops = encodes.call.stops in
-        let call = join_unreported writing encodes stops.none_reported (sym (append-nil encodes.wrote)) in
-        finish units_of offer (next_place now next rest slice n) (writing.wrote ++ encodes.wrote) call
+        let call = join_unreported writing encodes stops.none_reported
+        (sym (append-nil encodes.wrote)) in
+        finish units_of offer (next_place now next rest slice n) (writing.wrote ++ encodes.wrote)
+        call
         (λ x. absurd (omega (arith, enough))) (total writing encodes) (onto writing encodes)
         (omega (arith, in_limit writing encodes)) stop.InputEmpty
         (none_left next rest offer.last stops.all_read stops.ended) (a - b)
@@ -423,11 +489,13 @@ module _ (units_of : ℕ → List ℕ) {offer : Offer} {now : Place} (writing : 
         → CallOnto units_of offer (next_place now next rest slice n) OutputFull (a - b)
     stop_full encodes {b} left_count =
         let stops = encodes.call.stops in
-        let call = join_unreported writing encodes stops.none_reported (sym (append-nil encodes.wrote)) in
+        let call = join_unreported writing encodes stops.none_reported
+        (sym (append-nil encodes.wrote)) in
         let length_is = ap length encodes.call.bytes in
         let total_is : now.written + n ≡ length (bytes_with_references call.done) =
         total writing encodes ∙ ap length call.bytes in
-        finish units_of offer (next_place now next rest slice n) (writing.wrote ++ encodes.wrote) call
+        finish units_of offer (next_place now next rest slice n) (writing.wrote ++ encodes.wrote)
+        call
         (λ x. absurd (omega (arith, enough))) (total writing encodes) (onto writing encodes)
         (omega (arith, in_limit writing encodes)) stop.OutputFull
         (inl (record {
@@ -440,13 +508,16 @@ module _ (units_of : ℕ → List ℕ) {offer : Offer} {now : Place} (writing : 
         (a - b) (unit_count rest b left_count call.done call.reads)
 
     -- or after a reference
-    pub stop_after : {k : ℕ} (encodes : EncodesFrom offer now next rest slice (Unmappable k) n) {m : ℕ}
+    pub stop_after : {k : ℕ} (encodes : EncodesFrom offer now next rest slice (Unmappable k) n)
+        {m : ℕ}
         {final : List ℕ} (length_is : m ≡ length (reference k))
-        (put : final ≡ take (now.written + n) slice ++ (reference k ++ drop (now.written + n + m) slice))
+        (put : final ≡ take (now.written + n) slice
+        ++ (reference k ++ drop (now.written + n + m) slice))
         → limit_of offer ≤ now.written + n + m → m ≤ offer.kept → {r : CoderResult}
         → r ≡ result_when_full (is_nothing_left next rest offer.last) → {b : ℕ}
         → b ≡ length (units_of_text units_of rest)
-        → CallOnto units_of offer (place_after_reference next rest final (now.written + n + m)) (encoder_result_of r)
+        → CallOnto units_of offer (place_after_reference next rest final (now.written + n + m))
+        (encoder_result_of r)
         (a - b)
     stop_after {k} encodes {m} {final} length_is put reached few {r} result_is {b} left_count =
         let call = join_report writing encodes length_is put in
@@ -454,13 +525,16 @@ module _ (units_of : ℕ → List ℕ) {offer : Offer} {now : Place} (writing : 
         (writing.wrote ++ (encodes.wrote ++ reference k)) call (λ x. absurd (omega (arith, enough)))
         (final_count writing encodes length_is put) (final_onto writing encodes length_is put)
         (omega (arith, in_limit writing encodes, few, enough)) r
-        (stops_by writing encodes length_is put (is_nothing_left next rest offer.last) refl reached r result_is)
+        (stops_by writing encodes length_is put (is_nothing_left next rest offer.last) refl reached
+        r result_is)
         (a - b) (unit_count rest b left_count call.done call.reads)
 
     -- a turn doesn't make the unread text longer
     pub fewer : {result : EncoderResult} → EncodesFrom offer now next rest slice result n → {b : ℕ}
         → b ≡ length (units_of_text units_of rest) → b ≤ a
     fewer encodes {b} left_count =
-        fewer_units units_of offer.src (step_chars writing.call.done ++ step_chars encodes.call.done) rest a b
+        fewer_units units_of offer.src
+        (step_chars writing.call.done ++ step_chars encodes.call.done) rest a b
         (writing.call.reads ∙ ap (λ t. step_chars writing.call.done ++ t) encodes.call.reads
-        ∙ sym (append_assoc (step_chars writing.call.done) (step_chars encodes.call.done) rest)) counted left_count
+        ∙ sym (append_assoc (step_chars writing.call.done) (step_chars encodes.call.done) rest))
+        counted left_count

@@ -19,7 +19,8 @@ AllBefore limit n (p ∷ ps) =
     × AllBefore limit (n + length p.bytes + length (reference_for_report p.report)) ps
 
 -- so it fits, whatever follows
-weaker : (limit n len : ℕ) (r : Option ℕ) (ps : List Step) → FitsBefore limit n r len → StepFits limit n r len ps
+weaker : (limit n len : ℕ) (r : Option ℕ) (ps : List Step) → FitsBefore limit n r len
+    → StepFits limit n r len ps
 weaker limit n len None ps h = h
 weaker limit n len (Some c) [] h = omega arith
 weaker limit n len (Some c) (p ∷ ps) h = h
@@ -27,9 +28,11 @@ weaker limit n len (Some c) (p ∷ ps) h = h
 -- where the steps after a step begin
 after_step : (n : ℕ) (p : Step) (ps : List Step)
     → n + length (bytes_with_references (p ∷ ps))
-    ≡ n + length p.bytes + length (reference_for_report p.report) + length (bytes_with_references ps)
+    ≡ n + length p.bytes + length (reference_for_report p.report)
+    + length (bytes_with_references ps)
 after_step n p ps =
-    let length_of_all = length-append (p.bytes ++ reference_for_report p.report) (bytes_with_references ps) in
+    let length_of_all = length-append (p.bytes ++ reference_for_report p.report)
+    (bytes_with_references ps) in
     let length_of_first = length-append p.bytes (reference_for_report p.report) in
     omega arith
 
@@ -50,7 +53,8 @@ pub before-append : (limit n : ℕ) (ps qs : List Step) → AllBefore limit n ps
 before-append limit n [] qs all_before k = subst (λ (x : ℕ). AllBefore limit x qs) (omega arith) k
 before-append limit n (p ∷ ps) qs all_before k = (
   all_before.0,
-  before-append limit (n + length p.bytes + length (reference_for_report p.report)) ps qs all_before.1
+  before-append limit (n + length p.bytes + length (reference_for_report p.report)) ps qs
+      all_before.1
       (subst (λ (x : ℕ). AllBefore limit x qs) (after_step n p ps) k),
 )
 
@@ -69,12 +73,14 @@ unreported_before limit n (p ∷ ps) h k =
     let both = parted p.report (any_reported ps) h in
     let length_of_all = length-append p.bytes (step_bytes ps) in (
       subst (λ (r : Option ℕ). FitsBefore limit n r (length p.bytes)) (sym both.0) (omega arith),
-      subst (λ (r : Option ℕ). AllBefore limit (n + length p.bytes + length (reference_for_report r)) ps) (sym both.0)
+      subst (λ (r : Option ℕ). AllBefore limit
+          (n + length p.bytes + length (reference_for_report r)) ps) (sym both.0)
           (unreported_before limit (n + length p.bytes + 0) ps both.1 (omega arith)),
     )
 
 -- all characters are read, and the text is ended where it is to end
 pub none_left : (v : RawEncoderState) (rest : List ℕ) (last : Bool) → rest ≡ []
     → (last ≡ true → v.set ≡ Ascii) → is_nothing_left v rest last ≡ true
-none_left v rest true e h = ap (λ r. is_nothing_left v r true) e ∙ ap (λ s. not (true && is_escape_due s)) (h refl)
+none_left v rest true e h = ap (λ r. is_nothing_left v r true) e
+    ∙ ap (λ s. not (true && is_escape_due s)) (h refl)
 none_left v rest false e h = ap (λ r. is_nothing_left v r false) e

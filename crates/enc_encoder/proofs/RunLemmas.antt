@@ -15,17 +15,20 @@ use Rattle.enc_encoder.proofs.StepLemmas.{step_chars-append, step_bytes-append, 
 use Rattle.enc_encoder.proofs.StepLemmas.{set_after_steps-append}
 use Rattle.enc_encoder.proofs.EncodeProgressLemmas.{Writing, same_length}
 
-module _ {v w : RawEncoderState} {src rest rest' : List ℕ} {last : Bool} {before mid after : List ℕ} {written wrote : ℕ}
+module _ {v w : RawEncoderState} {src rest rest' : List ℕ} {last : Bool} {before mid after : List ℕ}
+    {written wrote : ℕ}
     (writing : Writing v w src rest last before mid written)
     (writes : WritesRun w rest rest' mid after written wrote) where
   abbrev bytes : List ℕ
   bytes = step_bytes writes.taken
 
   front : take written mid ≡ writing.wrote
-  front = rw (writing.onto, writing.count) (take-append_seam writing.wrote (drop (length writing.wrote) before))
+  front = rw (writing.onto, writing.count)
+      (take-append_seam writing.wrote (drop (length writing.wrote) before))
 
   back : drop (written + wrote) mid ≡ drop (written + wrote) before
-  back = ap (drop (written + wrote)) writing.onto ∙ drop-append-drop written before writing.wrote (written + wrote)
+  back = ap (drop (written + wrote)) writing.onto
+      ∙ drop-append-drop written before writing.wrote (written + wrote)
       (omega arith) (sym writing.count)
 
   pub run_further : Writing v w src rest' last before after (written + wrote)
@@ -40,12 +43,14 @@ module _ {v w : RawEncoderState} {src rest rest' : List ℕ} {last : Bool} {befo
       reads = writing.progress.reads ∙ ap (λ x. step_chars writing.progress.done ++ x) writes.reads
           ∙ sym (append_assoc (step_chars writing.progress.done) (step_chars writes.taken) rest')
           ∙ ap (λ x. x ++ rest') (sym (step_chars-append writing.progress.done writes.taken));
-      remaining = writing.progress.remaining ∙ ap (λ x. writing.progress.done ++ x) (writes.remaining last)
+      remaining = writing.progress.remaining
+          ∙ ap (λ x. writing.progress.done ++ x) (writes.remaining last)
           ∙ sym (append_assoc writing.progress.done writes.taken (steps_from_state w last rest'));
       rule = writing.progress.rule;
       set = writes.set ∙ ap (λ s. set_after_steps s writes.taken) writing.progress.set
           ∙ sym (set_after_steps-append v.set writing.progress.done writes.taken);
-      bytes = ap (λ x. x ++ bytes) writing.progress.bytes ∙ sym (step_bytes-append writing.progress.done writes.taken);
+      bytes = ap (λ x. x ++ bytes) writing.progress.bytes
+          ∙ sym (step_bytes-append writing.progress.done writes.taken);
       fits = rw (length-append writing.wrote bytes)
           (omega (
             arith,
@@ -60,11 +65,17 @@ module _ {v w : RawEncoderState} {src rest rest' : List ℕ} {last : Bool} {befo
   }
 
 -- no steps are added
-pub no_more_steps : {w : RawEncoderState} {rest rest' : List ℕ} (last : Bool) {mid after : List ℕ} {at wrote : ℕ}
+pub no_more_steps : {w : RawEncoderState} {rest rest' : List ℕ} (last : Bool) {mid after : List ℕ}
+    {at wrote : ℕ}
     → WritesRun w rest rest' mid after at wrote
     → length (steps_from_state w last rest') ≤ length (steps_from_state w last rest)
 no_more_steps {w} {rest'} last run =
-    omega (arith, ap length (run.remaining last), length-append run.taken (steps_from_state w last rest'))
+    omega (
+      arith,
+      ap length (run.remaining last),
+      length-append run.taken
+          (steps_from_state w last rest'),
+    )
 
 -- an empty run
 pub writes_none : (v : RawEncoderState) (src before : List ℕ) (at : ℕ) → at ≤ length before
@@ -85,7 +96,8 @@ writes_none v src before at h = record {
 module _ (e : EncoderRule) (s : CharacterSet) where
   abbrev steps_in : List Piece → List Step
   steps_in [] = []
-  steps_in (p ∷ ps) = record { bytes = p.bytes; reads = p.char ∷ []; report = None; set = s } ∷ steps_in ps
+  steps_in (p ∷ ps) = record { bytes = p.bytes; reads = p.char ∷ []; report = None; set = s }
+      ∷ steps_in ps
 
   their_chars : (ps : List Piece) → step_chars (steps_in ps) ≡ pieces.piece_chars ps
   their_chars [] = refl
@@ -120,7 +132,8 @@ module _ (e : EncoderRule) (s : CharacterSet) where
       record {
         taken = steps_in mapped.pieces;
         reads = mapped.reads ∙ ap (λ x. x ++ rest) (sym (their_chars mapped.pieces));
-        remaining = λ last. ap (steps_of e last s) mapped.reads ∙ their_steps last rest mapped.pieces mapped.mean;
+        remaining = λ last. ap (steps_of e last s) mapped.reads
+            ∙ their_steps last rest mapped.pieces mapped.mean;
         set = same_set mapped.pieces;
         none_reported = no_reports mapped.pieces;
         count = mapped.count ∙ ap length (sym same);

@@ -11,7 +11,8 @@ size b = length (list_or_empty b)
 
 -- by how the bytes are made
 
-pub up_to_if : (n : ℕ) (b : Bool) (x y : Option (List ℕ)) → size x ≤ n → size y ≤ n → size (if b then x else y) ≤ n
+pub up_to_if : (n : ℕ) (b : Bool) (x y : Option (List ℕ)) → size x ≤ n → size y ≤ n
+    → size (if b then x else y) ≤ n
 up_to_if n true x y h k = h
 up_to_if n false x y h k = k
 
@@ -22,11 +23,13 @@ up_to_by n pair (Some i) h = h i
 
 pub up_to_ascii : (n : ℕ) (others : ℕ → Option (List ℕ)) (c : ℕ) → 1 ≤ n → size (others c) ≤ n
     → size (with_ascii others c) ≤ n
-up_to_ascii n others c l h = up_to_if n (nat_lt c 0x80) (Some (c ∷ [])) (others c) (omega (arith, l)) h
+up_to_ascii n others c l h =
+    up_to_if n (nat_lt c 0x80) (Some (c ∷ [])) (others c) (omega (arith, l)) h
 
 -- ASCII, and all others by a pointer
 pub up_to_by_pointer : (n : ℕ) (pair : ℕ → List ℕ) (pointer : ℕ → Option ℕ) (c : ℕ) → 1 ≤ n
-    → ((i : ℕ) → length (pair i) ≤ n) → size (with_ascii (λ c. bytes_of_pointer pair (pointer c)) c) ≤ n
+    → ((i : ℕ) → length (pair i) ≤ n)
+    → size (with_ascii (λ c. bytes_of_pointer pair (pointer c)) c) ≤ n
 up_to_by_pointer n pair pointer c l h = up_to_ascii n (λ c. bytes_of_pointer pair (pointer c)) c l
     (up_to_by n pair (pointer c) h)
 
@@ -36,5 +39,6 @@ pub few_if_up_to : (n : ℕ) (b : Option (List ℕ)) → n ≤ 4 → size b ≤ 
 few_if_up_to n None l h = tt
 few_if_up_to n (Some b) l h = omega (arith, l, h)
 
-pub are_few : (n : ℕ) (bytes : ℕ → Option (List ℕ)) → n ≤ 4 → ((c : ℕ) → size (bytes c) ≤ n) → WritesAtMostFour bytes
+pub are_few : (n : ℕ) (bytes : ℕ → Option (List ℕ)) → n ≤ 4 → ((c : ℕ) → size (bytes c) ≤ n)
+    → WritesAtMostFour bytes
 are_few n bytes l h = record { few = λ c. few_if_up_to n (bytes c) l (h c) }

@@ -24,7 +24,8 @@ few_steps e true [] s = omega (arith, one_at_end s)
 few_steps e false [] s = omega arith
 few_steps e last (c ∷ t) s =
     let first_char = first_written_char c (e.bytes c) in
-    let others = char_step e (set_for e s first_char) c (e.bytes c) ∷ steps_of e last (set_for e s first_char) t in
+    let others = char_step e (set_for e s first_char) c (e.bytes c)
+    ∷ steps_of e last (set_for e s first_char) t in
     omega (
       arith,
       one_before (e.has s first_char) (e.designated first_char),
@@ -47,7 +48,8 @@ few_in_escape Ascii = omega arith
 few_in_escape Roman = omega arith
 few_in_escape Jis0208 = omega arith
 
-few_in_first : (e : EncoderRule) (s x : CharacterSet) (c : ℕ) (has : Bool) (b : Option (List ℕ)) (ps : List Step)
+few_in_first : (e : EncoderRule) (s x : CharacterSet) (c : ℕ) (has : Bool) (b : Option (List ℕ))
+    (ps : List Step)
     → AreAtMostFour b
     → first_bytes ((if has then [] else escape_step x ∷ []) ++ (char_step e s c b ∷ ps)) ≤ 4
 few_in_first e s x c true None ps h = omega arith

@@ -8,12 +8,14 @@ use Rattle.enc_encoder.specs.Steps.{Step, step_chars, step_bytes, any_reported, 
 pub step_chars-append : (ps qs : List Step) → step_chars (ps ++ qs) ≡ step_chars ps ++ step_chars qs
 step_chars-append [] qs = refl
 step_chars-append (p ∷ ps) qs =
-    ap (λ t. p.reads ++ t) (step_chars-append ps qs) ∙ sym (append_assoc p.reads (step_chars ps) (step_chars qs))
+    ap (λ t. p.reads ++ t) (step_chars-append ps qs)
+    ∙ sym (append_assoc p.reads (step_chars ps) (step_chars qs))
 
 pub step_bytes-append : (ps qs : List Step) → step_bytes (ps ++ qs) ≡ step_bytes ps ++ step_bytes qs
 step_bytes-append [] qs = refl
 step_bytes-append (p ∷ ps) qs =
-    ap (λ t. p.bytes ++ t) (step_bytes-append ps qs) ∙ sym (append_assoc p.bytes (step_bytes ps) (step_bytes qs))
+    ap (λ t. p.bytes ++ t) (step_bytes-append ps qs)
+    ∙ sym (append_assoc p.bytes (step_bytes ps) (step_bytes qs))
 
 or_assoc : (a b c : Bool) → ((a || b) || c) ≡ (a || (b || c))
 or_assoc a b c = elim a as (λ a. ((a || b) || c) ≡ (a || (b || c))) [ true ↦ refl | false ↦ refl ]
@@ -21,7 +23,8 @@ or_assoc a b c = elim a as (λ a. ((a || b) || c) ≡ (a || (b || c))) [ true �
 or_false : (a : Bool) → (a || false) ≡ a
 or_false a = elim a as (λ a. (a || false) ≡ a) [ true ↦ refl | false ↦ refl ]
 
-pub any_reported-append : (ps qs : List Step) → any_reported (ps ++ qs) ≡ (any_reported ps || any_reported qs)
+pub any_reported-append : (ps qs : List Step)
+    → any_reported (ps ++ qs) ≡ (any_reported ps || any_reported qs)
 any_reported-append [] qs = refl
 any_reported-append (p ∷ ps) qs =
     ap (λ b. is_some p.report || b) (any_reported-append ps qs)
@@ -34,11 +37,15 @@ set_after_steps-append s (p ∷ ps) qs = set_after_steps-append p.set ps qs
 
 -- one step more
 
-pub step_chars-one : (ps : List Step) (q : Step) → step_chars (ps ++ q ∷ []) ≡ step_chars ps ++ q.reads
-step_chars-one ps q = step_chars-append ps (q ∷ []) ∙ ap (λ t. step_chars ps ++ t) (append-nil q.reads)
+pub step_chars-one : (ps : List Step) (q : Step)
+    → step_chars (ps ++ q ∷ []) ≡ step_chars ps ++ q.reads
+step_chars-one ps q = step_chars-append ps (q ∷ [])
+    ∙ ap (λ t. step_chars ps ++ t) (append-nil q.reads)
 
-pub step_bytes-one : (ps : List Step) (q : Step) → step_bytes (ps ++ q ∷ []) ≡ step_bytes ps ++ q.bytes
-step_bytes-one ps q = step_bytes-append ps (q ∷ []) ∙ ap (λ t. step_bytes ps ++ t) (append-nil q.bytes)
+pub step_bytes-one : (ps : List Step) (q : Step)
+    → step_bytes (ps ++ q ∷ []) ≡ step_bytes ps ++ q.bytes
+step_bytes-one ps q = step_bytes-append ps (q ∷ [])
+    ∙ ap (λ t. step_bytes ps ++ t) (append-nil q.bytes)
 
 pub none_reported-one : (ps : List Step) (q : Step) → any_reported ps ≡ false → q.report ≡ None
     → any_reported (ps ++ q ∷ []) ≡ false
@@ -46,7 +53,8 @@ none_reported-one ps q n e =
     any_reported-append ps (q ∷ []) ∙ ap (λ b. b || (is_some q.report || false)) n
     ∙ or_false (is_some q.report) ∙ ap is_some e
 
-pub set_after_steps-one : (s : CharacterSet) (ps : List Step) (q : Step) → set_after_steps s (ps ++ q ∷ []) ≡ q.set
+pub set_after_steps-one : (s : CharacterSet) (ps : List Step) (q : Step)
+    → set_after_steps s (ps ++ q ∷ []) ≡ q.set
 set_after_steps-one s ps q = set_after_steps-append s ps (q ∷ [])
 
 pub units_of_text-append : (units_of : ℕ → List ℕ) (a b : List ℕ)

@@ -33,10 +33,12 @@ glyph n =
     let is_digit : nat_lt (n % 10) 10 ≡ true = grind (arith, nat_tests) in
     rw is_digit (inr (inr (inr (omega arith, omega arith))))
 
-digits_are : (k n : ℕ) (acc : List ℕ) → AreOfReferences acc → AreOfReferences (digits_onto k 10 false n acc)
+digits_are : (k n : ℕ) (acc : List ℕ) → AreOfReferences acc
+    → AreOfReferences (digits_onto k 10 false n acc)
 digits_are zero n acc of_references = of_references
 digits_are (suc k) n acc of_references = elim (n / 10 == 0) as
-    (λ b. AreOfReferences (if b then digit_glyph false (n % 10) ∷ acc else digits_onto k 10 false (n / 10)
+    (λ b. AreOfReferences (if b then digit_glyph false (n % 10)
+    ∷ acc else digits_onto k 10 false (n / 10)
     (digit_glyph false (n % 10) ∷ acc))) [
       | true ↦ (glyph n, of_references)
       | false ↦ digits_are k (n / 10) (digit_glyph false (n % 10) ∷ acc) (glyph n, of_references)
@@ -57,7 +59,8 @@ reference_is c = (inr (inl refl), with_end (decimal c) (decimal_is c))
 -- the bytes of a text, with the set carried forward
 pub forward : EncoderRule → CharacterSet → List ℕ → List ℕ
 forward e s [] = escape_at_end s
-forward e s (c ∷ t) = escape_before e s c ++ (list_or_empty (e.bytes c) ++ forward e (set_for e s c) t)
+forward e s (c ∷ t) = escape_before e s c
+    ++ (list_or_empty (e.bytes c) ++ forward e (set_for e s c) t)
 
 escaped : (h : Bool) (x : CharacterSet) (ps : List Step)
     → bytes_with_references ((if h then [] else escape_step x ∷ []) ++ ps)
@@ -66,7 +69,8 @@ escaped true x ps = refl
 escaped false x ps = ap (λ t. t ++ bytes_with_references ps) (append-nil (escape_sequence x))
 
 module _ (e : EncoderRule) (lawful : IsLawfulEncoderRule e) where
-  carried : (s : CharacterSet) (u t : List ℕ) → bytes_after_text e s u t ≡ forward e (e.set_after s u) t
+  carried : (s : CharacterSet) (u t : List ℕ)
+      → bytes_after_text e s u t ≡ forward e (e.set_after s u) t
   unfolding forward
   carried s u [] = refl
   carried s u (c ∷ t) =
@@ -83,7 +87,8 @@ module _ (e : EncoderRule) (lawful : IsLawfulEncoderRule e) where
   plain s has_ampersand [] of_references t = refl
   plain s has_ampersand (c ∷ x) of_references t =
       let has : e.has s c ≡ true = lawful.one_set s c of_references.0 ∙ has_ampersand in
-      rw (has, lawful.references c of_references.0) (ap (λ y. c ∷ y) (plain s has_ampersand x of_references.1 t))
+      rw (has, lawful.references c of_references.0)
+      (ap (λ y. c ∷ y) (plain s has_ampersand x of_references.1 t))
 
   has_then : (c : ℕ) (s : CharacterSet) (h : Bool) → e.has s c ≡ h → e.has (set_for e s c) c ≡ true
   has_then c s true has_is = rw has_is has_is
@@ -91,7 +96,8 @@ module _ (e : EncoderRule) (lawful : IsLawfulEncoderRule e) where
 
   -- the reference to a character, before any text
   refers : (s : CharacterSet) (c : ℕ) (t : List ℕ)
-      → forward e s (reference c ++ t) ≡ escape_before e s 0x26 ++ (reference c ++ forward e (set_for e s 0x26) t)
+      → forward e s (reference c ++ t) ≡ escape_before e s 0x26
+      ++ (reference c ++ forward e (set_for e s 0x26) t)
   unfolding forward
   refers s c t =
       rw (lawful.references 0x26 (inl refl))
@@ -100,17 +106,21 @@ module _ (e : EncoderRule) (lawful : IsLawfulEncoderRule e) where
       (0x23 ∷ (decimal c ++ 0x3B ∷ [])) (reference_is c) t))
 
   step_is : (s : CharacterSet) (c : ℕ) (t : List ℕ) (b : Option (List ℕ)) → e.bytes c ≡ b
-      → ((s : CharacterSet) → bytes_with_references (steps_of e true s t) ≡ forward e s (with_references e t))
+      → ((s : CharacterSet) →
+      bytes_with_references (steps_of e true s t) ≡ forward e s (with_references e t))
       → (let first_char = first_written_char c b in
       bytes_with_references (escape_steps_before e s first_char
       ++ (char_step e (set_for e s first_char) c b ∷ steps_of e true (set_for e s first_char) t))
       ≡ forward e s (with_reference e c b ++ with_references e t))
   unfolding forward
   step_is s c t (Some b) q h =
-      escaped (e.has s c) (e.designated c) (char_step e (set_for e s c) c (Some b) ∷ steps_of e true (set_for e s c) t)
-      ∙ ap (λ x. escape_before e s c ++ (x ++ bytes_with_references (steps_of e true (set_for e s c) t))) (append-nil b)
+      escaped (e.has s c) (e.designated c)
+      (char_step e (set_for e s c) c (Some b) ∷ steps_of e true (set_for e s c) t)
+      ∙ ap (λ x. escape_before e s c
+      ++ (x ++ bytes_with_references (steps_of e true (set_for e s c) t))) (append-nil b)
       ∙ ap (λ x. escape_before e s c ++ (b ++ x)) (h (set_for e s c))
-      ∙ ap (λ x. escape_before e s c ++ (list_or_empty x ++ forward e (set_for e s c) (with_references e t))) (sym q)
+      ∙ ap (λ x. escape_before e s c
+      ++ (list_or_empty x ++ forward e (set_for e s c) (with_references e t))) (sym q)
   step_is s c t None q h =
       escaped (e.has s 0x26) (e.designated 0x26)
       (char_step e (set_for e s 0x26) c None ∷ steps_of e true (set_for e s 0x26) t)
@@ -145,7 +155,8 @@ pub parted : (r : Option ℕ) (x : Bool) → (is_some r || x) ≡ false → (r �
 parted None x h = (refl, h)
 parted (Some c) x h = absurd (false≢true (sym h))
 
-pub unreferred : (ps : List Step) → any_reported ps ≡ false → bytes_with_references ps ≡ step_bytes ps
+pub unreferred : (ps : List Step) → any_reported ps ≡ false
+    → bytes_with_references ps ≡ step_bytes ps
 unreferred [] h = refl
 unreferred (p ∷ ps) h =
     let both = parted p.report (any_reported ps) h in
@@ -154,8 +165,10 @@ unreferred (p ∷ ps) h =
     ∙ ap (λ t. p.bytes ++ t) (unreferred ps both.1)
 
 -- the bytes of the steps that a call took, with the reference that its caller writes
-bytes_by_result : (new : RawEncoderState) (rest : List ℕ) (last : Bool) (room : ℕ) (result : EncoderResult)
-    (done : List Step) (wrote : List ℕ) → wrote ≡ step_bytes done → EncoderStops new rest last room done result
+bytes_by_result : (new : RawEncoderState) (rest : List ℕ) (last : Bool) (room : ℕ)
+    (result : EncoderResult)
+    (done : List Step) (wrote : List ℕ) → wrote ≡ step_bytes done
+    → EncoderStops new rest last room done result
     → bytes_with_references done ≡ wrote ++ reference_after result
 bytes_by_result new rest last room InputEmpty done wrote b stops =
     unreferred done stops.none_reported ∙ sym b ∙ sym (append-nil wrote)
@@ -163,34 +176,42 @@ bytes_by_result new rest last room OutputFull done wrote b stops =
     unreferred done stops.none_reported ∙ sym b ∙ sym (append-nil wrote)
 bytes_by_result new rest last room (Unmappable c) done wrote b stops =
     let report = stops.report in
-    ap bytes_with_references stops.then_report ∙ bytes_with_references-append stops.before (report ∷ [])
+    ap bytes_with_references stops.then_report
+    ∙ bytes_with_references-append stops.before (report ∷ [])
     ∙ ap (λ t. t ++ ((report.bytes ++ reference_for_report report.report) ++ []))
     (unreferred stops.before stops.none_reported)
-    ∙ ap (λ t. step_bytes stops.before ++ t) (append-nil (report.bytes ++ reference_for_report report.report))
+    ∙ ap (λ t. step_bytes stops.before ++ t)
+    (append-nil (report.bytes ++ reference_for_report report.report))
     ∙ ap (λ r. step_bytes stops.before ++ (report.bytes ++ reference_for_report r)) stops.reported
     ∙ sym (append_assoc (step_bytes stops.before) report.bytes (reference c))
-    ∙ ap (λ t. t ++ reference c) (sym (step_bytes-one stops.before report) ∙ ap step_bytes (sym stops.then_report)
+    ∙ ap (λ t. t ++ reference c)
+    (sym (step_bytes-one stops.before report) ∙ ap step_bytes (sym stops.then_report)
     ∙ sym b)
 
-module _ {old new : RawEncoderState} {src rest : List ℕ} {last : Bool} {room : ℕ} {result : EncoderResult}
+module _ {old new : RawEncoderState} {src rest : List ℕ} {last : Bool} {room : ℕ}
+    {result : EncoderResult}
     {wrote : List ℕ} (call : EncoderCall old new src rest last room result wrote) where
   pub done_is : bytes_with_references call.done ≡ wrote ++ reference_after result
   done_is = bytes_by_result new rest last room result call.done wrote call.bytes call.stops
 
   pub call_keeps_text : IsLawfulEncoderRule old.rule → KeepsText old new src rest last result wrote
   call_keeps_text lawful z m =
-      let lawful_after : IsLawfulEncoderRule new.rule = subst IsLawfulEncoderRule (sym call.rule) lawful in
+      let lawful_after : IsLawfulEncoderRule new.rule =
+      subst IsLawfulEncoderRule (sym call.rule) lawful in
       sym (steps_are_text old.rule lawful old.set (src ++ z))
       ∙ ap bytes_with_references (whatever_follows old new src rest last room result wrote call z m)
       ∙ bytes_with_references-append call.done (steps_from_state new true (rest ++ z))
       ∙ ap (λ t. t ++ bytes_with_references (steps_from_state new true (rest ++ z)))
       done_is
-      ∙ ap (λ t. (wrote ++ reference_after result) ++ t) (steps_are_text new.rule lawful_after new.set (rest ++ z))
+      ∙ ap (λ t. (wrote ++ reference_after result) ++ t)
+      (steps_are_text new.rule lawful_after new.set (rest ++ z))
       ∙ append_assoc wrote (reference_after result)
       (bytes_of_text new.rule new.set (with_references new.rule (rest ++ z)))
 
-pub into_keeps_text : {units_of : ℕ → List ℕ} {old new : RawEncoderState} {src rest : List ℕ} {last : Bool}
-    {before after : List ℕ} {result : EncoderResult} {read written : ℕ} → IsLawfulEncoderRule old.rule
+pub into_keeps_text : {units_of : ℕ → List ℕ} {old new : RawEncoderState} {src rest : List ℕ}
+    {last : Bool}
+    {before after : List ℕ} {result : EncoderResult} {read written : ℕ}
+    → IsLawfulEncoderRule old.rule
     → EncoderCallInto units_of old new src rest last before after result read written
     → KeepsText old new src rest last result (take written after)
 into_keeps_text {old} {new} {src} {rest} {last} {before} {after} {result} {written} lawful call =

@@ -22,7 +22,8 @@ or_parts true b h = absurd (false≢true (sym h))
 or_parts false b h = (refl, h)
 
 -- neither escape sequences nor mappable characters are reports
-escaping_reports_none : (h : Bool) (s : CharacterSet) → any_reported (if h then [] else escape_step s ∷ []) ≡ false
+escaping_reports_none : (h : Bool) (s : CharacterSet)
+    → any_reported (if h then [] else escape_step s ∷ []) ≡ false
 escaping_reports_none true s = refl
 escaping_reports_none false s = refl
 
@@ -31,7 +32,8 @@ char_reports_none : (e : EncoderRule) (s : CharacterSet) (c : ℕ) (b : Option (
 char_reports_none e s c None h = absurd (false≢true h)
 char_reports_none e s c (Some b) h = refl
 
-end_reports_none : (s : CharacterSet) (last : Bool) → any_reported (if last then steps_at_end s else []) ≡ false
+end_reports_none : (s : CharacterSet) (last : Bool)
+    → any_reported (if last then steps_at_end s else []) ≡ false
 end_reports_none Ascii true = refl
 end_reports_none Roman true = refl
 end_reports_none Jis0208 true = refl
@@ -47,29 +49,36 @@ none_reported e maps_all last s (c ∷ t) =
     let set_now = set_for e s first_char in
     any_reported-append (escape_steps_before e s first_char)
     (char_step e set_now c (e.bytes c) ∷ steps_of e last set_now t)
-    ∙ ap (λ b. b || (is_some (char_step e set_now c (e.bytes c)).report || any_reported (steps_of e last set_now t)))
+    ∙ ap (λ b. b || (is_some (char_step e set_now c (e.bytes c)).report
+    || any_reported (steps_of e last set_now t)))
     (escaping_reports_none (e.has s first_char) (e.designated first_char))
-    ∙ ap (λ b. b || any_reported (steps_of e last set_now t)) (char_reports_none e set_now c (e.bytes c) (maps_all c))
+    ∙ ap (λ b. b || any_reported (steps_of e last set_now t))
+    (char_reports_none e set_now c (e.bytes c) (maps_all c))
     ∙ none_reported e maps_all last set_now t
 
 module _ {units_of : ℕ → List ℕ} {old new : RawEncoderState} {src rest : List ℕ} {last : Bool}
-    {before after : List ℕ} {result : EncoderResult} {read written : ℕ} (maps_all : MapsEveryCharacter old.rule)
+    {before after : List ℕ} {result : EncoderResult} {read written : ℕ}
+    (maps_all : MapsEveryCharacter old.rule)
     (call : EncoderCallInto units_of old new src rest last before after result read written) where
   -- nor is a step that a call took
   done_reports_none : any_reported call.call.done ≡ false
   done_reports_none =
       (or_parts (any_reported call.call.done) (any_reported (steps_from_state new last rest))
       (sym (any_reported-append call.call.done (steps_from_state new last rest))
-      ∙ ap any_reported (sym call.call.remaining) ∙ none_reported old.rule maps_all last old.set src)).0
+      ∙ ap any_reported (sym call.call.remaining)
+      ∙ none_reported old.rule maps_all last old.set src)).0
 
   -- the bytes that it wrote
   pub wrote_is : take written after ≡ call.wrote
-  wrote_is = rw (call.onto, call.count) (take-append_seam call.wrote (drop (length call.wrote) before))
+  wrote_is = rw (call.onto, call.count)
+      (take-append_seam call.wrote (drop (length call.wrote) before))
 
   -- a call that stopped for this reason, and keeps nothing back
-  pub call_by : (stop : EncoderResult) → StopsInHtmlMode 0 new rest last (length before) call.call.done stop
+  pub call_by : (stop : EncoderResult)
+      → StopsInHtmlMode 0 new rest last (length before) call.call.done stop
       → KeepsText old new src rest last stop (take written after)
-      → EncoderCallInMode units_of (Html 0) old new src rest last (length before) stop read (take written after) false
+      → EncoderCallInMode units_of (Html 0) old new src rest last (length before) stop read
+      (take written after) false
   call_by stop stops text =
       let no_report = done_reports_none in
       let within = call.call.fits in
@@ -106,7 +115,8 @@ module _ {units_of : ℕ → List ℕ} {old new : RawEncoderState} {src rest : L
   -- all is read
   pub all_read : EncoderCallInto units_of old new src rest last before after InputEmpty read written
       → KeepsText old new src rest last InputEmpty (take written after)
-      → EncoderCallInMode units_of (Html 0) old new src rest last (length before) InputEmpty read (take written after)
+      → EncoderCallInMode units_of (Html 0) old new src rest last (length before) InputEmpty read
+      (take written after)
       false
   all_read call text =
       let stops = call.call.stops in
@@ -115,7 +125,8 @@ module _ {units_of : ℕ → List ℕ} {old new : RawEncoderState} {src rest : L
   -- the bytes of the next step don't fit
   pub full : EncoderCallInto units_of old new src rest last before after OutputFull read written
       → KeepsText old new src rest last OutputFull (take written after)
-      → EncoderCallInMode units_of (Html 0) old new src rest last (length before) OutputFull read (take written after)
+      → EncoderCallInMode units_of (Html 0) old new src rest last (length before) OutputFull read
+      (take written after)
       false
   full call text =
       let stops = call.call.stops in

@@ -1,4 +1,5 @@
--- Steps report the unmappable characters among those that they read, each as its reported character.
+-- Steps report the unmappable characters among those that they read, each as its reported
+-- character.
 use Rattle.std.proofs.Common.{◌≡◌, ℕ, Bool, true, false, not, ◌||◌, Option, Some, None, is_some, List, [], ◌∷◌, ◌++◌}
 use Rattle.std.proofs.Common.{refl, ap, ◌∙◌, sym, append_assoc, if◌then◌else◌}
 use Rattle.std.proofs.lemmas.List.{append_cancel_right}
@@ -24,17 +25,20 @@ reports_in-append (p ∷ ps) qs =
     ap (λ t. reports_by p.report ++ t) (reports_in-append ps qs)
     ∙ sym (append_assoc (reports_by p.report) (reports_in ps) (reports_in qs))
 
-pub reports_of-append : (e : EncoderRule) (a b : List ℕ) → reports_of e (a ++ b) ≡ reports_of e a ++ reports_of e b
+pub reports_of-append : (e : EncoderRule) (a b : List ℕ)
+    → reports_of e (a ++ b) ≡ reports_of e a ++ reports_of e b
 reports_of-append e [] b = refl
 reports_of-append e (c ∷ a) b =
     ap (λ t. report_for e c (e.bytes c) ++ t) (reports_of-append e a b)
     ∙ sym (append_assoc (report_for e c (e.bytes c)) (reports_of e a) (reports_of e b))
 
-none_escaping : (b : Bool) (s : CharacterSet) → reports_in (if b then [] else escape_step s ∷ []) ≡ []
+none_escaping : (b : Bool) (s : CharacterSet)
+    → reports_in (if b then [] else escape_step s ∷ []) ≡ []
 none_escaping true s = refl
 none_escaping false s = refl
 
-none_at_end : (last : Bool) (s : CharacterSet) → reports_in (if last then steps_at_end s else []) ≡ []
+none_at_end : (last : Bool) (s : CharacterSet)
+    → reports_in (if last then steps_at_end s else []) ≡ []
 none_at_end false s = refl
 none_at_end true Ascii = refl
 none_at_end true Roman = refl
@@ -51,7 +55,8 @@ unfolding steps_of
 steps_report e last s [] = none_at_end last s
 steps_report e last s (c ∷ t) =
     let first_char = first_written_char c (e.bytes c) in
-    let others = char_step e (set_for e s first_char) c (e.bytes c) ∷ steps_of e last (set_for e s first_char) t in
+    let others = char_step e (set_for e s first_char) c (e.bytes c)
+    ∷ steps_of e last (set_for e s first_char) t in
     reports_in-append (escape_steps_before e s first_char) others
     ∙ ap (λ x. x ++ reports_in others)
     (none_escaping (e.has s first_char) (e.designated first_char))
@@ -65,7 +70,8 @@ module _ (old new : RawEncoderState) (src rest : List ℕ) (last : Bool) (done :
   -- of steps that a call took
   pub reports_are : reports_in done ≡ reports_of old.rule (step_chars done)
   reports_are =
-      append_cancel_right (reports_in done) (reports_of old.rule (step_chars done)) (reports_of old.rule rest)
+      append_cancel_right (reports_in done) (reports_of old.rule (step_chars done))
+      (reports_of old.rule rest)
       (ap (λ t. reports_in done ++ t)
       (ap (λ e. reports_of e rest) (sym rule) ∙ sym (steps_report new.rule last new.set rest))
       ∙ sym (reports_in-append done (steps_from_state new last rest))
@@ -78,7 +84,8 @@ abbrev some_in : List ℕ → Bool
 some_in [] = false
 some_in (c ∷ t) = true
 
-any_by : (r : Option ℕ) (t : List ℕ) (b : Bool) → b ≡ some_in t → (is_some r || b) ≡ some_in (reports_by r ++ t)
+any_by : (r : Option ℕ) (t : List ℕ) (b : Bool) → b ≡ some_in t
+    → (is_some r || b) ≡ some_in (reports_by r ++ t)
 any_by None t b h = h
 any_by (Some c) t b h = refl
 

@@ -1,4 +1,5 @@
--- A call of an encoder without replacement (Encoding Standard 4.1, error mode "fatal", with a bounded output).
+-- A call of an encoder without replacement (Encoding Standard 4.1, error mode "fatal", with a
+-- bounded output).
 use Rattle.std.specs.Prelude.{◌≡◌, ℕ, ◌+◌, ◌<◌, ◌≤◌, Bool, true, false, Some, None, List, [], ◌∷◌, ◌++◌, length, drop}
 use Rattle.enc_units.specs.Output.{units_of_text}
 use Rattle.enc_units.specs.declared.encoder_result.EncoderResult.{EncoderResult}
@@ -8,7 +9,8 @@ use Rattle.enc_encoder.specs.EncoderRule.{RawEncoderState}
 use Rattle.enc_encoder.specs.Steps.{Step, steps_from_state, step_chars, step_bytes, any_reported, set_after_steps}
 
 -- all characters are read, and with `last` no escape sequence is due
-pub record EncoderAtInputEmpty (new : RawEncoderState) (rest : List ℕ) (last : Bool) (done : List Step) : Type 0 where
+pub record EncoderAtInputEmpty (new : RawEncoderState) (rest : List ℕ) (last : Bool)
+    (done : List Step) : Type 0 where
   pub none_reported : any_reported done ≡ false
   pub all_read : rest ≡ []
   pub ended : last ≡ true → new.set ≡ Ascii
@@ -40,9 +42,11 @@ EncoderStops new rest last room done InputEmpty = EncoderAtInputEmpty new rest l
 EncoderStops new rest last room done OutputFull = EncoderAtOutputFull new rest last room done
 EncoderStops new rest last room done (Unmappable c) = AtUnmappable done c
 
--- A call of an encoder with the characters `src`, which nothing follows if `last`, over an output of `room` bytes. It
--- does the steps that come first, in order, and leaves the characters `rest` unread.
-pub record EncoderCall (old new : RawEncoderState) (src rest : List ℕ) (last : Bool) (room : ℕ) (result : EncoderResult) (wrote : List ℕ) : Type 0 where
+-- A call of an encoder with the characters `src`, which nothing follows if `last`, over an output
+-- of `room` bytes. It does the steps that come first, in order, and leaves the characters `rest`
+-- unread.
+pub record EncoderCall (old new : RawEncoderState) (src rest : List ℕ) (last : Bool) (room : ℕ)
+    (result : EncoderResult) (wrote : List ℕ) : Type 0 where
   pub done : List Step
   pub reads : src ≡ step_chars done ++ rest
   pub remaining : steps_from_state old last src ≡ done ++ steps_from_state new last rest
@@ -52,9 +56,10 @@ pub record EncoderCall (old new : RawEncoderState) (src rest : List ℕ) (last :
   pub fits : length wrote ≤ room
   pub stops : EncoderStops new rest last room done result
 
--- the same, for a call that writes to the start of a slice, leaves its other bytes unchanged, and has read this number
--- of code units
-pub record EncoderCallInto (units_of : ℕ → List ℕ) (old new : RawEncoderState) (src rest : List ℕ) (last : Bool) (before after : List ℕ) (result : EncoderResult) (read written : ℕ) : Type 0 where
+-- the same, for a call that writes to the start of a slice, leaves its other bytes unchanged, and
+-- has read this number of code units
+pub record EncoderCallInto (units_of : ℕ → List ℕ) (old new : RawEncoderState) (src rest : List ℕ)
+    (last : Bool) (before after : List ℕ) (result : EncoderResult) (read written : ℕ) : Type 0 where
   pub wrote : List ℕ
   pub count : written ≡ length wrote
   pub onto : after ≡ wrote ++ drop written before

@@ -18,12 +18,22 @@ unread_chars false rest = rest
 
 -- a step, if these characters are to come
 abbrev pub step_of : {E : Type 0} → (E → RawEncoderState) → Transition E → List ℕ → Step
-step_of state t rest = record { bytes = byte_list t.bytes; reads = read_chars t.reads rest; report = t.report; set = (state t.next).set }
+step_of state t rest =
+    record {
+      bytes = byte_list t.bytes;
+      reads = read_chars t.reads rest;
+      report = t.report;
+      set =
+          (state t.next).set;
+    }
 
--- the step comes first, if these characters are to come, and the others come from the state after it
-pub record IsNextStep {E : Type 0} (state : E → RawEncoderState) (e : E) (last : Bool) (rest : List ℕ)
+-- the step comes first, if these characters are to come, and the others come from the state after
+-- it
+pub record IsNextStep {E : Type 0} (state : E → RawEncoderState) (e : E) (last : Bool)
+    (rest : List ℕ)
     (t : Transition E) : Type 0 where
-  pub first : steps_from_state (state e) last rest ≡ step_of state t rest ∷ steps_from_state (state t.next) last (unread_chars t.reads rest)
+  pub first : steps_from_state (state e) last rest ≡ step_of state t rest
+      ∷ steps_from_state (state t.next) last (unread_chars t.reads rest)
   pub same : (state t.next).rule ≡ (state e).rule
   pub some : t.reads ≡ true → rest ≢ []
   pub reports : (c : ℕ) → t.report ≡ Some c → (t.reads ≡ true) × (byte_list t.bytes ≡ [])
@@ -60,13 +70,15 @@ escape_transition b next = record { bytes = b; reads = false; report = None; nex
 abbrev pub IsEscapeBefore : {E : Type 0} → (E → RawEncoderState) → E → ℕ → Option E → Type 0
 IsEscapeBefore state e c None = (state e).rule.has (state e).set c ≡ true
 IsEscapeBefore state e c (Some n) =
-    ((state e).rule.has (state e).set c ≡ false) × ((state e).rule.has ((state e).rule.designated c) c ≡ true)
+    ((state e).rule.has (state e).set c ≡ false)
+    × ((state e).rule.has ((state e).rule.designated c) c ≡ true)
     × (state n ≡ record (state e) { set = (state e).rule.designated c })
 
 -- ASCII is designated, or else is designated next
 abbrev pub IsEscapeAtEnd : {E : Type 0} → (E → RawEncoderState) → E → Option E → Type 0
 IsEscapeAtEnd state e None = (state e).set ≡ Ascii
-IsEscapeAtEnd state e (Some n) = (is_escape_due (state e).set ≡ true) × (state n ≡ record (state e) { set = Ascii })
+IsEscapeAtEnd state e (Some n) = (is_escape_due (state e).set ≡ true)
+    × (state n ≡ record (state e) { set = Ascii })
 
 -- the step at the end of the text
 abbrev pub IsStepAtEnd : {E : Type 0} → (E → RawEncoderState) → E → Option (Transition E) → Type 0
@@ -74,6 +86,7 @@ IsStepAtEnd state e None = (state e).set ≡ Ascii
 IsStepAtEnd state e (Some t) = IsNextStep state e true [] t
 
 -- the next step of a call
-abbrev pub IsNextStepOfCall : {E : Type 0} → (E → RawEncoderState) → E → List ℕ → Bool → Option (Transition E) → Type 0
+abbrev pub IsNextStepOfCall : {E : Type 0} → (E → RawEncoderState) → E → List ℕ → Bool
+    → Option (Transition E) → Type 0
 IsNextStepOfCall state e rest last None = (rest ≡ []) × (last ≡ true → (state e).set ≡ Ascii)
 IsNextStepOfCall state e rest last (Some t) = IsNextStep state e last rest t

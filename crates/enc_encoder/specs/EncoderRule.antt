@@ -1,13 +1,14 @@
--- The rule of an encoder: the bytes of characters, and the character sets that it designates (Encoding Standard 4.1,
--- "encoder").
-use Rattle.std.specs.Prelude.{◌≡◌, ℕ, ◌≤◌, ◌⊎◌, Bool, true, false, Option, Some, None, List, [], ◌∷◌, ◌++◌, length, if◌then◌else◌}
+-- The rule of an encoder: the bytes of characters, and the character sets that it designates
+-- (Encoding Standard 4.1, "encoder").
+use Rattle.std.specs.Prelude.{◌≡◌, ℕ, ◌≤◌, ◌⊎◌, Bool, true, false, Option, Some, None, List, [], ◌∷◌, ◌++◌, length}
+use Rattle.std.specs.Prelude.{if◌then◌else◌}
 use Rattle.enc_encoder.specs.declared.character_set.CharacterSet.{CharacterSet}
 use Rattle.enc_encoder.specs.declared.character_set.CharacterSet.TheVariants.{Ascii, Roman, Jis0208}
 
 -- the rule of an encoding's encoder
 pub record EncoderRule : Type 0 where
-  -- The bytes of a character, in a character set that has it; none if it is unmappable. Nothing else decides whether a
-  -- character is mappable.
+  -- The bytes of a character, in a character set that has it; none if it is unmappable. Nothing
+  -- else decides whether a character is mappable.
   pub bytes : ℕ → Option (List ℕ)
   -- the character that an unmappable one is reported as
   pub reported : ℕ → ℕ
@@ -42,13 +43,14 @@ abbrev pub AreAtMostFour : Option (List ℕ) → Type 0
 AreAtMostFour None = Unit {0}
 AreAtMostFour (Some b) = length b ≤ 4
 
--- The laws of every encoder's rule: a character is written in a character set that has it. The set after a text is that
--- of its last character. The characters of references are written as themselves, all in the same sets. A character has
--- at most four bytes.
+-- The laws of every encoder's rule: a character is written in a character set that has it. The set
+-- after a text is that of its last character. The characters of references are written as
+-- themselves, all in the same sets. A character has at most four bytes.
 pub record IsLawfulEncoderRule (e : EncoderRule) : Type 0 where
   pub designates : (c : ℕ) → e.has (e.designated c) c ≡ true
   pub set_after_none : (s : CharacterSet) → e.set_after s [] ≡ s
-  pub set_after_more : (s : CharacterSet) (t : List ℕ) (c : ℕ) → e.set_after s (t ++ c ∷ []) ≡ set_for e (e.set_after s t) c
+  pub set_after_more : (s : CharacterSet) (t : List ℕ) (c : ℕ)
+      → e.set_after s (t ++ c ∷ []) ≡ set_for e (e.set_after s t) c
   pub references : (c : ℕ) → IsReferenceCharacter c → e.bytes c ≡ Some (c ∷ [])
   pub one_set : (s : CharacterSet) (c : ℕ) → IsReferenceCharacter c → e.has s c ≡ e.has s 0x26
   pub few : (c : ℕ) → AreAtMostFour (e.bytes c)

@@ -1,6 +1,7 @@
--- Calls of an encoder, by error mode, and their treatment of unmappable characters (Encoding Standard 4.1, "process an
--- item", error modes "fatal" and "html").
-use Rattle.std.specs.Prelude.{◌≡◌, ℕ, ◌+◌, ◌-◌, ◌<◌, ◌≤◌, ◌⊎◌, Bool, true, false, not, ◌&&◌, Option, Some, None, is_some, List, [], ◌∷◌, ◌++◌, length}
+-- Calls of an encoder, by error mode, and their treatment of unmappable characters (Encoding
+-- Standard 4.1, "process an item", error modes "fatal" and "html").
+use Rattle.std.specs.Prelude.{◌≡◌, ℕ, ◌+◌, ◌-◌, ◌<◌, ◌≤◌, ◌⊎◌, Bool, true, false, not, ◌&&◌, Option, Some, None}
+use Rattle.std.specs.Prelude.{is_some, List, [], ◌∷◌, ◌++◌, length}
 use Rattle.enc_units.specs.Output.{units_of_text}
 use Rattle.enc_units.specs.declared.encoder_result.EncoderResult.{EncoderResult}
 use Rattle.enc_units.specs.declared.encoder_result.EncoderResult.TheVariants.{InputEmpty, OutputFull, Unmappable}
@@ -10,8 +11,8 @@ use Rattle.enc_encoder.specs.Steps.{Step, steps_from_state, step_chars, step_byt
 use Rattle.enc_encoder.specs.Steps.{set_after_steps, reference_for_report}
 use Rattle.enc_encoder.specs.Call.{EncoderStops}
 
--- The error mode of a call: stop at an unmappable character and report it, or write a reference. For references a
--- number of bytes at the end of the output is kept free.
+-- The error mode of a call: stop at an unmappable character and report it, or write a reference.
+-- For references a number of bytes at the end of the output is kept free.
 pub data EncodeErrorMode : Type 0 where
   Fatal : EncodeErrorMode
   Html : ℕ → EncodeErrorMode
@@ -35,20 +36,23 @@ abbrev pub is_nothing_left : RawEncoderState → List ℕ → Bool → Bool
 is_nothing_left v [] last = not (last && is_escape_due v.set)
 is_nothing_left v (c ∷ t) last = false
 
--- After n bytes, the bytes of a step end at the limit or before it. A reference ends before it, unless it is the last
--- step.
+-- After n bytes, the bytes of a step end at the limit or before it. A reference ends before it,
+-- unless it is the last step.
 abbrev pub StepFits : ℕ → ℕ → Option ℕ → ℕ → List Step → Type 0
 StepFits limit n None len others = n + len ≤ limit
 StepFits limit n (Some c) len [] = n + len ≤ limit
-StepFits limit n (Some c) len (p ∷ others) = n + len + length (reference_for_report (Some c)) < limit
+StepFits limit n (Some c) len (p ∷ others) =
+    n + len + length (reference_for_report (Some c)) < limit
 
 -- each of these steps fits, after n bytes
 abbrev pub StepsFit : ℕ → ℕ → List Step → Type 0
 StepsFit limit n [] = Unit {0}
 StepsFit limit n (p ∷ others) =
-    StepFits limit n p.report (length p.bytes) others × StepsFit limit (n + length p.bytes + length (reference_for_report p.report)) others
+    StepFits limit n p.report (length p.bytes) others
+    × StepsFit limit (n + length p.bytes + length (reference_for_report p.report)) others
 
--- the steps of a call fit into its room; with references, all except a last reference end before the part kept free
+-- the steps of a call fit into its room; with references, all except a last reference end before
+-- the part kept free
 abbrev pub StepsFitInMode : EncodeErrorMode → ℕ → List Step → Type 0
 StepsFitInMode Fatal room done = length (step_bytes done) ≤ room
 StepsFitInMode (Html kept) room done = StepsFit (room - kept) 0 done × (room < kept → done ≡ [])
@@ -60,7 +64,8 @@ ends_in_report (p ∷ []) = is_some p.report
 ends_in_report (p ∷ q ∷ others) = ends_in_report (q ∷ others)
 
 -- the bytes of the next step do not fit before the part kept free
-pub record AtNextStep (kept : ℕ) (new : RawEncoderState) (rest : List ℕ) (last : Bool) (room : ℕ) (done : List Step) : Type 0 where
+pub record AtNextStep (kept : ℕ) (new : RawEncoderState) (rest : List ℕ) (last : Bool) (room : ℕ)
+    (done : List Step) : Type 0 where
   pub next : Step
   pub others : List Step
   pub comes : steps_from_state new last rest ≡ next ∷ others
@@ -68,36 +73,45 @@ pub record AtNextStep (kept : ℕ) (new : RawEncoderState) (rest : List ℕ) (la
   pub full : room - kept < length (bytes_with_references done) + length next.bytes
 
 -- a reference has reached the part kept free
-pub record AtReference (kept : ℕ) (new : RawEncoderState) (rest : List ℕ) (last : Bool) (room : ℕ) (done : List Step) : Type 0 where
+pub record AtReference (kept : ℕ) (new : RawEncoderState) (rest : List ℕ) (last : Bool) (room : ℕ)
+    (done : List Step) : Type 0 where
   pub reference : ends_in_report done ≡ true
   pub full : room - kept ≤ length (bytes_with_references done)
   pub left : is_nothing_left new rest last ≡ false
 
 -- the output is shorter than the part kept free
-pub record AtRoomBelowKept (kept : ℕ) (new : RawEncoderState) (rest : List ℕ) (last : Bool) (room : ℕ) : Type 0 where
+pub record AtRoomBelowKept (kept : ℕ) (new : RawEncoderState) (rest : List ℕ) (last : Bool)
+    (room : ℕ) : Type 0 where
   pub small : room < kept
   pub left : is_nothing_left new rest last ≡ false
 
 -- why the output of a call with references is full
 abbrev pub IsFull : ℕ → RawEncoderState → List ℕ → Bool → ℕ → List Step → Type 0
 IsFull kept new rest last room done =
-    AtNextStep kept new rest last room done ⊎ (AtReference kept new rest last room done ⊎ AtRoomBelowKept kept new rest last room)
+    AtNextStep kept new rest last room done
+    ⊎ (AtReference kept new rest last room done ⊎ AtRoomBelowKept kept new rest last room)
 
 -- why a call with references stopped: nothing is left, or the output is full
-abbrev pub StopsInHtmlMode : ℕ → RawEncoderState → List ℕ → Bool → ℕ → List Step → EncoderResult → Type 0
+abbrev pub StopsInHtmlMode : ℕ → RawEncoderState → List ℕ → Bool → ℕ → List Step → EncoderResult
+    → Type 0
 StopsInHtmlMode kept new rest last room done InputEmpty = is_nothing_left new rest last ≡ true
 StopsInHtmlMode kept new rest last room done OutputFull = IsFull kept new rest last room done
 StopsInHtmlMode kept new rest last room done (Unmappable c) = ⊥
 
 -- why a call stopped
-abbrev pub StopsInMode : EncodeErrorMode → RawEncoderState → List ℕ → Bool → ℕ → List Step → EncoderResult → Type 0
+abbrev pub StopsInMode : EncodeErrorMode → RawEncoderState → List ℕ → Bool → ℕ → List Step
+    → EncoderResult → Type 0
 StopsInMode Fatal new rest last room done result = EncoderStops new rest last room done result
-StopsInMode (Html kept) new rest last room done result = StopsInHtmlMode kept new rest last room done result
+StopsInMode (Html kept) new rest last room done result =
+    StopsInHtmlMode kept new rest last room done result
 
--- A call of an encoder with the characters `src`, which nothing follows if `last`, over an output of `room` bytes. It
--- does the steps that come first, in order, and leaves the characters `rest` unread. Whatever follows, the bytes of the
--- whole text are those that it wrote, a reference to the character reported, and the bytes of the text left.
-pub record EncoderCallInMode (units_of : ℕ → List ℕ) (mode : EncodeErrorMode) (old new : RawEncoderState) (src rest : List ℕ) (last : Bool) (room : ℕ) (result : EncoderResult) (read : ℕ) (wrote : List ℕ) (replaced : Bool) : Type 0 where
+-- A call of an encoder with the characters `src`, which nothing follows if `last`, over an output
+-- of `room` bytes. It does the steps that come first, in order, and leaves the characters `rest`
+-- unread. Whatever follows, the bytes of the whole text are those that it wrote, a reference to the
+-- character reported, and the bytes of the text left.
+pub record EncoderCallInMode (units_of : ℕ → List ℕ) (mode : EncodeErrorMode)
+    (old new : RawEncoderState) (src rest : List ℕ) (last : Bool) (room : ℕ)
+    (result : EncoderResult) (read : ℕ) (wrote : List ℕ) (replaced : Bool) : Type 0 where
   pub done : List Step
   pub reads : src ≡ step_chars done ++ rest
   pub remaining : steps_from_state old last src ≡ done ++ steps_from_state new last rest

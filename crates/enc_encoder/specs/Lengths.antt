@@ -20,7 +20,8 @@ from_utf_16_length TwoBytes n = checked_mul (Some n) 2
 from_utf_16_length Gb18030 n = checked_mul (Some n) 4
 from_utf_16_length Iso2022Jp n = checked_add (checked_mul (Some n) 5) 3
 
--- the greatest number of bytes of a character, with the escape sequence before it, for each of its code units of UTF-8,
+-- the greatest number of bytes of a character, with the escape sequence before it, for each of its
+-- code units of UTF-8,
 abbrev pub max_bytes_per_utf_8_unit : ByteLengths → ℕ
 max_bytes_per_utf_8_unit Utf8 = 1
 max_bytes_per_utf_8_unit OneByte = 1

@@ -20,8 +20,8 @@ abbrev pub steps_before_report : List Step → List Step
 steps_before_report [] = []
 steps_before_report (p ∷ ps) = steps_unless_report p.report p (steps_before_report ps)
 
--- The need of a call: the number of bytes of its steps before the first report, with the escape sequence before that,
--- if any.
+-- The need of a call: the number of bytes of its steps before the first report, with the escape
+-- sequence before that, if any.
 abbrev pub encode_need : RawEncoderState → Bool → List ℕ → ℕ
 encode_need v last src = length (step_bytes (steps_before_report (steps_from_state v last src)))
 
@@ -31,13 +31,19 @@ encode_need_left new last rest InputEmpty = encode_need new last rest
 encode_need_left new last rest OutputFull = encode_need new last rest
 encode_need_left new last rest (Unmappable c) = 0
 
--- The output is full exactly if the need exceeds the room. The need before a call is what it wrote and the need left.
-pub record MeetsEncodeNeed (old new : RawEncoderState) (src rest : List ℕ) (last : Bool) (room : ℕ) (result : EncoderResult) (written : ℕ) : Type 0 where
+-- The output is full exactly if the need exceeds the room. The need before a call is what it wrote
+-- and the need left.
+pub record MeetsEncodeNeed (old new : RawEncoderState) (src rest : List ℕ) (last : Bool) (room : ℕ)
+    (result : EncoderResult) (written : ℕ) : Type 0 where
   pub full : (result ≡ OutputFull) ↔ (room < encode_need old last src)
   pub falls : encode_need old last src ≡ written + encode_need_left new last rest result
 
--- The lengths of these formulas are enough: the need of a text with that number of code units, in UTF-8 or UTF-16, does
--- not exceed them.
+-- The lengths of these formulas are enough: the need of a text with that number of code units, in
+-- UTF-8 or UTF-16, does not exceed them.
 pub record AreEnoughForEncoder (lengths : ByteLengths) (v : RawEncoderState) : Type 0 where
-  pub from_utf_8 : (src : List ℕ) (last : Bool) (q : ℕ) → from_utf_8_length lengths (length (units_of_text encode_utf8 src)) ≡ Some q → encode_need v last src ≤ q
-  pub from_utf_16 : (src : List ℕ) (last : Bool) (q : ℕ) → from_utf_16_length lengths (length (units_of_text encode_utf16 src)) ≡ Some q → encode_need v last src ≤ q
+  pub from_utf_8 : (src : List ℕ) (last : Bool) (q : ℕ)
+      → from_utf_8_length lengths (length (units_of_text encode_utf8 src)) ≡ Some q
+      → encode_need v last src ≤ q
+  pub from_utf_16 : (src : List ℕ) (last : Bool) (q : ℕ)
+      → from_utf_16_length lengths (length (units_of_text encode_utf16 src)) ≡ Some q
+      → encode_need v last src ≤ q

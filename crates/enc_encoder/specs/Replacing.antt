@@ -13,7 +13,8 @@ result_when_full true = InputEmpty
 result_when_full false = OutputFull
 
 -- a call of the raw encoder, after n bytes of a slice
-pub record EncodesAfter (old new : RawEncoderState) (src rest : List ℕ) (last : Bool) (room n : ℕ) (before after : List ℕ) (result : EncoderResult) (written : ℕ) : Type 0 where
+pub record EncodesAfter (old new : RawEncoderState) (src rest : List ℕ) (last : Bool) (room n : ℕ)
+    (before after : List ℕ) (result : EncoderResult) (written : ℕ) : Type 0 where
   pub wrote : List ℕ
   pub count : written ≡ length wrote
   pub onto : after ≡ take n before ++ (wrote ++ drop (n + written) before)

@@ -1,5 +1,6 @@
 -- Encodings without escape sequences, in which each character is written by itself.
-use Rattle.std.specs.Prelude.{◌≡◌, ℕ, ◌*◌, ◌<◌, ◌≤◌, true, nat_lt, Option, Some, None, List, [], ◌∷◌, length, if◌then◌else◌}
+use Rattle.std.specs.Prelude.{◌≡◌, ℕ, ◌*◌, ◌<◌, ◌≤◌, true, nat_lt, Option, Some, None, List, [], ◌∷◌, length}
+use Rattle.std.specs.Prelude.{if◌then◌else◌}
 use Rattle.std.specs.Char.{encode_utf8}
 use Rattle.std.specs.Char.Escape.{encode_utf16}
 use Rattle.enc_encoder.specs.declared.byte_lengths.ByteLengths.{ByteLengths}
@@ -10,7 +11,14 @@ use Rattle.enc_encoder.specs.Lengths.{max_bytes_per_utf_8_unit, max_bytes_per_ut
 
 -- the rule with these bytes for each character
 abbrev pub stateless_rule : (ℕ → Option (List ℕ)) → EncoderRule
-stateless_rule bytes = record { bytes = bytes; reported = λ c. c; has = λ s c. true; designated = λ c. Ascii; set_after = λ s t. s }
+stateless_rule bytes =
+    record {
+      bytes = bytes;
+      reported = λ c. c;
+      has = λ s c. true;
+      designated = λ c. Ascii;
+      set_after = λ s t. s;
+    }
 
 -- the state of such an encoder, which never changes
 abbrev pub stateless_state : (ℕ → Option (List ℕ)) → RawEncoderState
@@ -26,9 +34,11 @@ pub record WritesAtMostFour (bytes : ℕ → Option (List ℕ)) : Type 0 where
 
 -- no character has more bytes than the formulas have for its code units
 pub record KeepsLengths (lengths : ByteLengths) (bytes : ℕ → Option (List ℕ)) : Type 0 where
-  pub by_utf_8 : (c : ℕ) → length (list_or_empty (bytes c)) ≤ max_bytes_per_utf_8_unit lengths * length (encode_utf8 c)
+  pub by_utf_8 : (c : ℕ)
+      → length (list_or_empty (bytes c)) ≤ max_bytes_per_utf_8_unit lengths * length (encode_utf8 c)
   pub by_utf_16 : (c : ℕ)
-      → length (list_or_empty (bytes c)) ≤ max_bytes_per_utf_16_unit lengths * length (encode_utf16 c)
+      → length (list_or_empty (bytes c))
+      ≤ max_bytes_per_utf_16_unit lengths * length (encode_utf16 c)
 
 -- ASCII as itself, and all other characters by `others`
 abbrev pub with_ascii : (ℕ → Option (List ℕ)) → ℕ → Option (List ℕ)

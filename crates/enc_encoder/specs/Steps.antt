@@ -1,12 +1,13 @@
--- The steps of encoding a text: escape sequences, the bytes of characters, and reports of unmappable characters.
+-- The steps of encoding a text: escape sequences, the bytes of characters, and reports of
+-- unmappable characters.
 use Rattle.std.specs.Prelude.{ℕ, Bool, false, ◌||◌, Option, Some, None, is_some, List, [], ◌∷◌, ◌++◌, if◌then◌else◌}
 use Rattle.enc_encoder.specs.declared.character_set.CharacterSet.{CharacterSet}
 use Rattle.enc_encoder.specs.declared.character_set.CharacterSet.TheVariants.{Ascii, Roman, Jis0208}
 use Rattle.enc_encoder.specs.EncoderRule.{EncoderRule, RawEncoderState, set_for}
 use Rattle.enc_encoder.specs.Text.{escape_sequence, reference}
 
--- a step: the bytes that it writes, the character that it reads (none for an escape sequence), the character that it
--- reports if that is unmappable, and the character set after it
+-- a step: the bytes that it writes, the character that it reads (none for an escape sequence), the
+-- character that it reports if that is unmappable, and the character set after it
 pub record Step : Type 0 where
   pub bytes : List ℕ
   pub reads : List ℕ
@@ -42,7 +43,8 @@ unfoldable pub steps_of : EncoderRule → Bool → CharacterSet → List ℕ →
 steps_of e last s [] = if last then steps_at_end s else []
 steps_of e last s (c ∷ t) =
     let d = first_written_char c (e.bytes c) in
-    escape_steps_before e s d ++ (char_step e (set_for e s d) c (e.bytes c) ∷ steps_of e last (set_for e s d) t)
+    escape_steps_before e s d
+    ++ (char_step e (set_for e s d) c (e.bytes c) ∷ steps_of e last (set_for e s d) t)
 
 -- the same from an encoder's state on
 abbrev pub steps_from_state : RawEncoderState → Bool → List ℕ → List Step
@@ -76,4 +78,5 @@ reference_for_report (Some c) = reference c
 -- the bytes that steps write, with a reference for each report
 abbrev pub bytes_with_references : List Step → List ℕ
 bytes_with_references [] = []
-bytes_with_references (p ∷ ps) = (p.bytes ++ reference_for_report p.report) ++ bytes_with_references ps
+bytes_with_references (p ∷ ps) =
+    (p.bytes ++ reference_for_report p.report) ++ bytes_with_references ps

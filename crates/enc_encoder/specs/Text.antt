@@ -1,4 +1,5 @@
--- The bytes of a whole text, and decimal character references (Encoding Standard 4.1, error mode "html").
+-- The bytes of a whole text, and decimal character references (Encoding Standard 4.1, error mode
+-- "html").
 use Rattle.std.specs.Prelude.{◌≡◌, ℕ, Bool, true, Option, Some, None, List, [], ◌∷◌, ◌++◌, if◌then◌else◌, decimal}
 use Rattle.enc_encoder.specs.declared.character_set.CharacterSet.{CharacterSet}
 use Rattle.enc_encoder.specs.declared.character_set.CharacterSet.TheVariants.{Ascii, Roman, Jis0208}
@@ -30,10 +31,13 @@ list_or_empty (Some b) = b
 -- the bytes of a text of mappable characters, after another one that begins in this character set
 abbrev pub bytes_after_text : EncoderRule → CharacterSet → List ℕ → List ℕ → List ℕ
 bytes_after_text e s u [] = escape_at_end (e.set_after s u)
-bytes_after_text e s u (c ∷ t) = escape_before e (e.set_after s u) c ++ (list_or_empty (e.bytes c) ++ bytes_after_text e s (u ++ c ∷ []) t)
+bytes_after_text e s u (c ∷ t) =
+    escape_before e (e.set_after s u) c
+    ++ (list_or_empty (e.bytes c) ++ bytes_after_text e s (u ++ c ∷ []) t)
 
--- The bytes of a text of mappable characters. Before a character stands an escape sequence, if the character set after
--- the text before it lacks it. At the end stands the escape sequence to ASCII, if another set is designated.
+-- The bytes of a text of mappable characters. Before a character stands an escape sequence, if the
+-- character set after the text before it lacks it. At the end stands the escape sequence to ASCII,
+-- if another set is designated.
 abbrev pub bytes_of_text : EncoderRule → CharacterSet → List ℕ → List ℕ
 bytes_of_text e s t = bytes_after_text e s [] t
 
@@ -57,9 +61,11 @@ reference_after InputEmpty = []
 reference_after OutputFull = []
 reference_after (Unmappable c) = reference c
 
--- Whatever follows the characters of a call, the bytes of the whole text are what the call wrote, the reference to the
--- character that it reported, and the bytes of the text left.
-abbrev pub KeepsText : RawEncoderState → RawEncoderState → List ℕ → List ℕ → Bool → EncoderResult → List ℕ → Type 0
+-- Whatever follows the characters of a call, the bytes of the whole text are what the call wrote,
+-- the reference to the character that it reported, and the bytes of the text left.
+abbrev pub KeepsText : RawEncoderState → RawEncoderState → List ℕ → List ℕ → Bool → EncoderResult
+    → List ℕ → Type 0
 KeepsText old new src rest last result wrote = (z : List ℕ) → (last ≡ true → z ≡ [])
     → bytes_of_text old.rule old.set (with_references old.rule (src ++ z))
-    ≡ wrote ++ (reference_after result ++ bytes_of_text new.rule new.set (with_references new.rule (rest ++ z)))
+    ≡ wrote ++ (reference_after result
+    ++ bytes_of_text new.rule new.set (with_references new.rule (rest ++ z)))

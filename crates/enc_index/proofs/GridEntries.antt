@@ -44,8 +44,10 @@ is_word-true c word h =
       bytes = same_bytes-true _ _ more.1;
     }
 
-pub word_found : (character : Option ℕ) (word : ℕ) → Found is_word character word → HasWord character word
-word_found character word found = record { c = found.0; is = found.1; utf8 = is_word-true found.0 word found.2 }
+pub word_found : (character : Option ℕ) (word : ℕ) → Found is_word character word
+    → HasWord character word
+word_found character word found =
+    record { c = found.0; is = found.1; utf8 = is_word-true found.0 word found.2 }
 
 pub unit_found : (character : Option ℕ) (unit : ℕ) → Found is_unit character unit
     → (character ≡ Some unit) × IsScalar unit

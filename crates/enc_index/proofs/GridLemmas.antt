@@ -1,5 +1,5 @@
--- Where the characters of a grid stand, and that a grid that fits the table of its index has them there.
--- Rows by index are written by scripts/make-codecs from data/codecs.txt.
+-- Where the characters of a grid stand, and that a grid that fits the table of its index has them
+-- there. Rows by index are written by scripts/make-codecs from data/codecs.txt.
 use Rattle.std.proofs.Common.{◌≡◌, ℕ, suc, ◌+◌, ◌-◌, ◌*◌, ◌/◌, ◌%◌, ◌<◌, ◌≤◌, Bool, true, refl, sym, ap, ◌∙◌, subst}
 use Rattle.std.proofs.Common.{cond, nat_lt, List, get_or, drop, length, Option, None, Some, arith, inl, inr, lt-ltb}
 use Rattle.std.proofs.Common.{le-ltb}
@@ -37,10 +37,12 @@ module _ (grid : Grid) where
   unfolding grid_char
   grid_char-of_byte b l h = cond-false _ _ _ (le-ltb b 128 l) ∙ cond-true _ _ _ (lt-ltb b 256 h)
 
-  grid_char-of_cell : (cell place : ℕ) → place ≡ 256 + cell → grid_char grid place ≡ cell_char grid cell
+  grid_char-of_cell : (cell place : ℕ) → place ≡ 256 + cell
+      → grid_char grid place ≡ cell_char grid cell
   unfolding grid_char
   grid_char-of_cell cell place e =
-      cond-false _ _ _ (le-ltb place 128 (omega arith)) ∙ cond-false _ _ _ (le-ltb place 256 (omega arith))
+      cond-false _ _ _ (le-ltb place 128 (omega arith))
+      ∙ cond-false _ _ _ (le-ltb place 256 (omega arith))
       ∙ ap (cell_char grid) (omega arith)
 
   -- the character at a row and a column, the last one too
@@ -53,16 +55,20 @@ module _ (grid : Grid) where
       let cell : ℕ = r * (grid_width grid + 1) + c in
       let row = div-mul-add r (grid_width grid + 1) c (omega arith) in
       let column = mod-mul-add r (grid_width grid + 1) c (omega arith) in
-      grid_char-of_cell cell _ (omega arith) ∙ ap (λ k. column_char (cell / (grid_width grid + 1)) k) column
+      grid_char-of_cell cell _ (omega arith)
+      ∙ ap (λ k. column_char (cell / (grid_width grid + 1)) k) column
       ∙ ap (λ k. column_char k c) row
 
   -- at a row and a column of pointers, the pointer's character
   pub grid_char-of_column : (r c : ℕ) → c < grid_width grid
-      → grid_char grid (256 + r * (grid_width grid + 1) + c) ≡ pointer_char (r * grid_width grid + c)
-  grid_char-of_column r c l = grid_char-of_place r c (omega arith) ∙ cond-true _ _ _ (lt-ltb c (grid_width grid) l)
+      → grid_char grid (256 + r * (grid_width grid + 1) + c)
+      ≡ pointer_char (r * grid_width grid + c)
+  grid_char-of_column r c l = grid_char-of_place r c (omega arith)
+      ∙ cond-true _ _ _ (lt-ltb c (grid_width grid) l)
 
   -- none in the last column
-  pub grid_char-of_last : (r : ℕ) → grid_char grid (256 + r * (grid_width grid + 1) + grid_width grid) ≡ None
+  pub grid_char-of_last : (r : ℕ)
+      → grid_char grid (256 + r * (grid_width grid + 1) + grid_width grid) ≡ None
   grid_char-of_last r =
       grid_char-of_place r (grid_width grid) (omega arith)
       ∙ cond-false _ _ _ (le-ltb (grid_width grid) (grid_width grid) (omega arith))
@@ -72,7 +78,8 @@ past_table : (planes : Planes) (ts : List ℕ) (character : Option ℕ) (p : ℕ
 past_table planes ts character p e l = sym e ∙ ap (entry_character planes) (get_or_past ts p 0 l)
 
 -- no pointer has a character that is past the rows
-pointer_char-past : (grid : Grid) (p : ℕ) → grid_rows grid * grid_width grid ≤ p → pointer_char grid p ≡ None
+pointer_char-past : (grid : Grid) (p : ℕ) → grid_rows grid * grid_width grid ≤ p
+    → pointer_char grid p ≡ None
 pointer_char-past Big5 p is_past = past_table All BIG5_TABLE _ p (big5_table p) is_past
 pointer_char-past EucKr p is_past = past_table Basic EUC_KR_TABLE _ p (euc_kr_table p) is_past
 pointer_char-past Gb18030 p is_past = past_table Basic GB18030_TABLE _ p (gb18030_table p) is_past
@@ -84,8 +91,10 @@ pub grid_char-of_empty : (grid : Grid) (r c : ℕ) → grid_rows grid ≤ r → 
 grid_char-of_empty grid r c l m =
     elim (cases_lt c (grid_width grid)) [
       | inl low ↦
-          let is_past : grid_rows grid * grid_width grid ≤ r * grid_width grid = mul-le-mul_right (grid_width grid) l in
-          grid_char-of_column grid r c low ∙ pointer_char-past grid (r * grid_width grid + c) (omega arith)
+          let is_past : grid_rows grid * grid_width grid ≤ r * grid_width grid =
+          mul-le-mul_right (grid_width grid) l in
+          grid_char-of_column grid r c low
+          ∙ pointer_char-past grid (r * grid_width grid + c) (omega arith)
       | inr last ↦
           let is_last_column : grid_width grid ≡ c = omega arith in
           subst (λ k. grid_char grid (256 + r * (grid_width grid + 1) + k) ≡ None) is_last_column
@@ -98,7 +107,8 @@ grid_ok kind grid ts gs = places_ok kind (planes_of (grid_index grid)) (grid_wid
 
 -- a grid that passes has the characters of the index
 module _ (kind : ℕ → ℕ → Bool) (grid : Grid) (ts gs : List ℕ)
-    (table : (p : ℕ) → entry_character (planes_of (grid_index grid)) (get_or ts p 0) ≡ pointer_char grid p)
+    (table : (p : ℕ) → entry_character (planes_of (grid_index grid)) (get_or ts p 0)
+    ≡ pointer_char grid p)
     (ok : grid_ok kind grid ts gs ≡ true) where
   abbrev width : ℕ
   width = grid_width grid
@@ -106,7 +116,8 @@ module _ (kind : ℕ → ℕ → Bool) (grid : Grid) (ts gs : List ℕ)
   abbrev planes : Planes
   planes = planes_of (grid_index grid)
 
-  byte_found : (place : ℕ) → place < 256 → 0 < get_or gs place 0 → Found kind (grid_char grid place) (get_or gs place 0)
+  byte_found : (place : ℕ) → place < 256 → 0 < get_or gs place 0
+      → Found kind (grid_char grid place) (get_or gs place 0)
   byte_found place l some =
       let same_place : 0 + place ≡ place = omega arith in
       let byte = places_ok-byte kind planes width ts gs 256 0 ok place l some in
@@ -114,21 +125,25 @@ module _ (kind : ℕ → ℕ → Bool) (grid : Grid) (ts gs : List ℕ)
       let found = byte_ok-found kind place (get_or gs place 0) fits some in
       (place, grid_char-of_ascii grid place found.0, found.1)
 
-  place_found : (r c place : ℕ) → c ≤ width → place ≡ 256 + r * (width + 1) + c → 0 < get_or gs place 0
+  place_found : (r c place : ℕ) → c ≤ width → place ≡ 256 + r * (width + 1) + c
+      → 0 < get_or gs place 0
       → Found kind (grid_char grid place) (get_or gs place 0)
   place_found r c place l e some =
       let rows = places_ok-rows kind planes width ts gs 256 0 ok in
       let cell : ℕ = r * suc width + c in
       let by_suc : r * (width + 1) ≡ r * suc width = ap (λ w. r * w) (omega arith) in
-      let here : get_or (drop 256 gs) cell 0 ≡ get_or gs place 0 = after_drop 256 cell place gs (omega arith) in
+      let here : get_or (drop 256 gs) cell 0 ≡ get_or gs place 0 =
+      after_drop 256 cell place gs (omega arith) in
       let there : 0 < get_or (drop 256 gs) cell 0 = omega arith in
       elim (cases_lt c width) [
         | inl low ↦
             let pointer : ℕ = r * width + c in
             let code_point : ℕ = get_or ts pointer 0 in
             let fits =
-            rows_ok-at (entry_ok kind planes) width r (drop 256 gs) ts c cell pointer rows low refl refl there in
-            let entry = entry_ok-found kind planes code_point (get_or (drop 256 gs) cell 0) fits there in
+            rows_ok-at (entry_ok kind planes) width r (drop 256 gs) ts c cell pointer rows low refl
+            refl there in
+            let entry = entry_ok-found kind planes code_point (get_or (drop 256 gs) cell 0) fits
+            there in
             let column = grid_char-of_column grid r c low in
             let char = subst (λ k. grid_char grid k ≡ pointer_char grid pointer) (sym e) column in (
               code_point,
@@ -137,11 +152,13 @@ module _ (kind : ℕ → ℕ → Bool) (grid : Grid) (ts gs : List ℕ)
             )
         | inr high ↦
             let unmapped =
-            rows_ok-last_of (entry_ok kind planes) width r (drop 256 gs) ts cell rows (omega arith) in
+            rows_ok-last_of (entry_ok kind planes) width r (drop 256 gs) ts cell rows
+            (omega arith) in
             absurd (omega arith)
       ]
 
-  pub found : (place : ℕ) → 0 < get_or gs place 0 → Found kind (grid_char grid place) (get_or gs place 0)
+  pub found : (place : ℕ) → 0 < get_or gs place 0
+      → Found kind (grid_char grid place) (get_or gs place 0)
   found place some =
       elim (cases_lt place 256) [
         | inl l ↦ byte_found place l some
@@ -149,5 +166,6 @@ module _ (kind : ℕ → ℕ → Bool) (grid : Grid) (ts gs : List ℕ)
             let cell : ℕ = place - 256 in
             let split = div-add-mod' cell (width + 1) in
             let low : cell % (width + 1) < width + 1 = mod-lt cell {m = width + 1} (omega arith) in
-            place_found (cell / (width + 1)) (cell % (width + 1)) place (omega arith) (omega arith) some
+            place_found (cell / (width + 1)) (cell % (width + 1)) place (omega arith) (omega arith)
+            some
       ]

@@ -20,19 +20,21 @@ after_drop n i j xs e = get_or-drop n xs i 0 ∙ ap (λ k. get_or xs k 0) (sym e
 
 -- `fits t g`: the entry g fits a place whose pointer has the code point t
 module _ (fits : ℕ → ℕ → Bool) (width : ℕ) where
-  -- the entries of rows fit the table, and those in the last column and past the table are 0; `left` counts the columns
-  -- that are left in the row
+  -- the entries of rows fit the table, and those in the last column and past the table are 0;
+  -- `left` counts the columns that are left in the row
   unfoldable pub rows_ok : List ℕ → ℕ → List ℕ → Bool
   rows_ok [] left ts = true
   rows_ok (g ∷ gs) zero ts = g == 0 && rows_ok gs width ts
   rows_ok (g ∷ gs) (suc left) [] = g == 0 && rows_ok gs left []
   rows_ok (g ∷ gs) (suc left) (t ∷ ts) = fits t g && rows_ok gs left ts
 
-  rows_ok-last : (gs : List ℕ) (left : ℕ) (ts : List ℕ) → rows_ok gs left ts ≡ true → get_or gs left 0 ≡ 0
+  rows_ok-last : (gs : List ℕ) (left : ℕ) (ts : List ℕ) → rows_ok gs left ts ≡ true
+      → get_or gs left 0 ≡ 0
   unfolding rows_ok
   rows_ok-last [] left ts ok = refl
   rows_ok-last (g ∷ gs) zero ts ok = eqb-true g 0 (and_parts (g == 0) (rows_ok gs width ts) ok).0
-  rows_ok-last (g ∷ gs) (suc left) [] ok = rows_ok-last gs left [] (and_parts (g == 0) (rows_ok gs left []) ok).1
+  rows_ok-last (g ∷ gs) (suc left) [] ok =
+      rows_ok-last gs left [] (and_parts (g == 0) (rows_ok gs left []) ok).1
   rows_ok-last (g ∷ gs) (suc left) (t ∷ ts) ok =
       rows_ok-last gs left ts (and_parts (fits t g) (rows_ok gs left ts) ok).1
 
@@ -45,10 +47,13 @@ module _ (fits : ℕ → ℕ → Bool) (width : ℕ) where
       let unmapped : g ≡ 0 = eqb-true g 0 (and_parts (g == 0) (rows_ok gs left []) ok).0 in
       absurd (omega arith)
   rows_ok-column (g ∷ gs) (suc left) [] ok (suc c) l mapped =
-      rows_ok-column gs left [] (and_parts (g == 0) (rows_ok gs left []) ok).1 c (omega arith) mapped
-  rows_ok-column (g ∷ gs) (suc left) (t ∷ ts) ok zero l mapped = (and_parts (fits t g) (rows_ok gs left ts) ok).0
+      rows_ok-column gs left [] (and_parts (g == 0) (rows_ok gs left []) ok).1 c (omega arith)
+      mapped
+  rows_ok-column (g ∷ gs) (suc left) (t ∷ ts) ok zero l mapped =
+      (and_parts (fits t g) (rows_ok gs left ts) ok).0
   rows_ok-column (g ∷ gs) (suc left) (t ∷ ts) ok (suc c) l mapped =
-      rows_ok-column gs left ts (and_parts (fits t g) (rows_ok gs left ts) ok).1 c (omega arith) mapped
+      rows_ok-column gs left ts (and_parts (fits t g) (rows_ok gs left ts) ok).1 c (omega arith)
+      mapped
 
   rows_ok-next : (gs : List ℕ) (left : ℕ) (ts : List ℕ) → rows_ok gs left ts ≡ true
       → rows_ok (drop (suc left) gs) width (drop left ts) ≡ true
@@ -62,7 +67,8 @@ module _ (fits : ℕ → ℕ → Bool) (width : ℕ) where
       rows_ok-next gs left ts (and_parts (fits t g) (rows_ok gs left ts) ok).1
 
   -- i is a place in row r, at column c
-  pub rows_ok-last_of : (r : ℕ) (gs ts : List ℕ) (i : ℕ) → rows_ok gs width ts ≡ true → i ≡ r * suc width + width
+  pub rows_ok-last_of : (r : ℕ) (gs ts : List ℕ) (i : ℕ) → rows_ok gs width ts ≡ true
+      → i ≡ r * suc width + width
       → get_or gs i 0 ≡ 0
   rows_ok-last_of zero gs ts i ok e =
       ap (λ k. get_or gs k 0) (omega arith) ∙ rows_ok-last gs width ts ok
@@ -73,13 +79,15 @@ module _ (fits : ℕ → ℕ → Bool) (width : ℕ) where
       (rows_ok-next gs width ts ok) refl
 
   pub rows_ok-at : (r : ℕ) (gs ts : List ℕ) (c i p : ℕ) → rows_ok gs width ts ≡ true → c < width
-      → i ≡ r * suc width + c → p ≡ r * width + c → 0 < get_or gs i 0 → fits (get_or ts p 0) (get_or gs i 0) ≡ true
+      → i ≡ r * suc width + c → p ≡ r * width + c → 0 < get_or gs i 0
+      → fits (get_or ts p 0) (get_or gs i 0) ≡ true
   rows_ok-at zero gs ts c i p ok within e f some =
       let same_place : c ≡ i = omega arith in
       let same_pointer : c ≡ p = omega arith in
       subst (λ k. fits (get_or ts k 0) (get_or gs i 0) ≡ true) same_pointer
       (subst (λ k. fits (get_or ts c 0) (get_or gs k 0) ≡ true) same_place
-      (rows_ok-column gs width ts ok c within (subst (λ k. 0 < get_or gs k 0) (sym same_place) some)))
+      (rows_ok-column gs width ts ok c within
+      (subst (λ k. 0 < get_or gs k 0) (sym same_place) some)))
   rows_ok-at (suc r) gs ts c i p ok within e f some =
       let next_row = suc-mul r (suc width) in
       let next_table_row = suc-mul r width in
@@ -98,11 +106,13 @@ module _ (kind : ℕ → ℕ → Bool) where
   unfoldable pub byte_ok : ℕ → ℕ → Bool
   byte_ok b g = g == 0 || (nat_lt b 128 && kind b g)
 
-  -- from the place b on, `left` entries fit their bytes, and the entries after them fit the rows of the table
+  -- from the place b on, `left` entries fit their bytes, and the entries after them fit the rows of
+  -- the table
   unfoldable pub places_ok : Planes → ℕ → List ℕ → List ℕ → ℕ → ℕ → Bool
   places_ok planes width ts [] left b = true
   places_ok planes width ts (g ∷ gs) zero b = rows_ok (entry_ok planes) width (g ∷ gs) width ts
-  places_ok planes width ts (g ∷ gs) (suc left) b = byte_ok b g && places_ok planes width ts gs left (b + 1)
+  places_ok planes width ts (g ∷ gs) (suc left) b =
+      byte_ok b g && places_ok planes width ts gs left (b + 1)
 
   module _ (planes : Planes) (width : ℕ) (ts : List ℕ) where
     pub places_ok-byte : (gs : List ℕ) (left b : ℕ) → places_ok planes width ts gs left b ≡ true
@@ -127,7 +137,8 @@ module _ (kind : ℕ → ℕ → Bool) where
         subst (λ gs. rows_ok (entry_ok planes) width gs width ts ≡ true) (sym (drop_none left)) refl
     places_ok-rows (g ∷ gs) zero b ok = ok
     places_ok-rows (g ∷ gs) (suc left) b ok =
-        places_ok-rows gs left (b + 1) (and_parts (byte_ok b g) (places_ok planes width ts gs left (b + 1)) ok).1
+        places_ok-rows gs left (b + 1)
+        (and_parts (byte_ok b g) (places_ok planes width ts gs left (b + 1)) ok).1
 
   -- there is a character, and the entry is right for it
   abbrev pub Found : Option ℕ → ℕ → Type 0

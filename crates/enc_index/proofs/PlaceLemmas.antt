@@ -12,27 +12,33 @@ unfoldable pub tabulates : (ℕ → ℕ) → ℕ → List ℕ → Bool
 tabulates f k [] = true
 tabulates f k (x ∷ xs) = x == f k && tabulates f (k + 1) xs
 
-tabulated_from : (f : ℕ → ℕ) (k : ℕ) (xs : List ℕ) → tabulates f k xs ≡ true → (i : ℕ) → i < length xs
+tabulated_from : (f : ℕ → ℕ) (k : ℕ) (xs : List ℕ) → tabulates f k xs ≡ true → (i : ℕ)
+    → i < length xs
     → get_or xs i 0 ≡ f (k + i)
 unfolding tabulates
 tabulated_from f k [] is_tabulated i l = absurd (omega arith)
 tabulated_from f k (x ∷ xs) is_tabulated zero l =
-    eqb-true x (f k) (and_parts (x == f k) (tabulates f (k + 1) xs) is_tabulated).0 ∙ ap f (omega arith)
+    eqb-true x (f k) (and_parts (x == f k) (tabulates f (k + 1) xs) is_tabulated).0
+    ∙ ap f (omega arith)
 tabulated_from f k (x ∷ xs) is_tabulated (suc i) l =
-    tabulated_from f (k + 1) xs (and_parts (x == f k) (tabulates f (k + 1) xs) is_tabulated).1 i (omega arith)
+    tabulated_from f (k + 1) xs (and_parts (x == f k) (tabulates f (k + 1) xs) is_tabulated).1 i
+    (omega arith)
     ∙ ap f (omega arith)
 
-pub tabulated : (f : ℕ → ℕ) (xs : List ℕ) → tabulates f 0 xs ≡ true → (i : ℕ) → i < length xs → get_or xs i 0 ≡ f i
+pub tabulated : (f : ℕ → ℕ) (xs : List ℕ) → tabulates f 0 xs ≡ true → (i : ℕ) → i < length xs
+    → get_or xs i 0 ≡ f i
 tabulated f xs h i l = tabulated_from f 0 xs h i l ∙ ap f (omega arith)
 
 -- a table of rows, and of columns from 256 on
 abbrev pub both : (ℕ → ℕ) → (ℕ → ℕ) → ℕ → ℕ
 both rows columns i = cond (nat_lt i 256) (rows i) (columns (i - 256))
 
-module _ (rows columns : ℕ → ℕ) (xs : List ℕ) (is_tabulated : tabulates (both rows columns) 0 xs ≡ true)
+module _ (rows columns : ℕ → ℕ) (xs : List ℕ)
+    (is_tabulated : tabulates (both rows columns) 0 xs ≡ true)
     (long : length xs ≡ 512) where
   pub row_in : (a : ℕ) → a < 256 → get_or xs a 0 ≡ rows a
-  row_in a l = tabulated (both rows columns) xs is_tabulated a (omega arith) ∙ cond-true _ _ _ (lt-ltb a 256 l)
+  row_in a l = tabulated (both rows columns) xs is_tabulated a (omega arith)
+      ∙ cond-true _ _ _ (lt-ltb a 256 l)
 
   pub column_in : (b : ℕ) → b < 256 → get_or xs (256 + b) 0 ≡ columns b
   column_in b l =
@@ -57,7 +63,8 @@ record Stands (grid : Grid) (row column c : ℕ) : Type 0 where
 
 -- a character at a row and a column is that of their pointer
 stands : (grid : Grid) (row column c : ℕ) → column ≤ grid_width grid
-    → grid_char grid (256 + row * (grid_width grid + 1) + column) ≡ Some c → Stands grid row column c
+    → grid_char grid (256 + row * (grid_width grid + 1) + column) ≡ Some c
+    → Stands grid row column c
 stands grid row column c l has_char =
     let place = 256 + row * (grid_width grid + 1) + column in
     elim (cases_lt row (grid_rows grid)) [
@@ -70,7 +77,8 @@ stands grid row column c l has_char =
         }
         | inr past ↦
             let last : column ≡ grid_width grid = omega arith in
-            absurd (some_none _ c (ap (λ k. grid_char grid (256 + row * (grid_width grid + 1) + k)) last
+            absurd (some_none _ c (ap (λ k. grid_char grid (256 + row * (grid_width grid + 1) + k))
+            last
             ∙ grid_char-of_last grid row) has_char)
       ]
     ]
@@ -96,9 +104,11 @@ module _ (grid : Grid) (is_lead is_trail : ℕ → Bool) (row extra column : ℕ
       let chosen_column = cond (is_trail b) (column b) (grid_width grid) in
       let at : place ≡ 256 + (chosen_row + extra b) * (grid_width grid + 1) + chosen_column =
       omega arith in
-      let row_and_column = stands grid (chosen_row + extra b) chosen_column c (bounded (is_trail b) small)
+      let row_and_column = stands grid (chosen_row + extra b) chosen_column c
+      (bounded (is_trail b) small)
       (ap (grid_char grid) (sym at) ∙ g) in
-      let lead = below (is_lead a) (row a) (grid_rows grid) (omega (arith, row_and_column.in_rows)) in
+      let lead = below (is_lead a) (row a) (grid_rows grid)
+      (omega (arith, row_and_column.in_rows)) in
       let trail = below (is_trail b) (column b) (grid_width grid) row_and_column.in_columns in
       record {
         lead = lead;

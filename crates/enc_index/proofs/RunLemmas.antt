@@ -9,7 +9,8 @@ abbrev pub character_of_run : Planes → ℕ → Option Run → Option ℕ
 character_of_run planes pointer None = None
 character_of_run planes pointer (Some run) = entry_character planes (run.2 + (pointer - run.0))
 
-by_run : (planes : Planes) (pointer : ℕ) (run : Run) (other : Option ℕ) (rest : Option Run) (b : Bool)
+by_run : (planes : Planes) (pointer : ℕ) (run : Run) (other : Option ℕ) (rest : Option Run)
+    (b : Bool)
     → other ≡ character_of_run planes pointer rest
     → cond b (entry_character planes (run.2 + (pointer - run.0))) other
     ≡ character_of_run planes pointer (cond b (Some run) rest)

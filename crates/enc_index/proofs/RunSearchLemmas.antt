@@ -18,16 +18,20 @@ pub record Halving (runs : List Run) (n low high : ℕ) : Type 0 where
   pub after : (i : ℕ) → high ≤ i → i < length runs → n < (get_or runs i no_run).0
 
 -- what the test says of the first run and of the others
-pub ascending_parts : (bound : ℕ) (run : Run) (runs : List Run) → are_ascending_runs bound (run ∷ runs) ≡ true
+pub ascending_parts : (bound : ℕ) (run : Run) (runs : List Run)
+    → are_ascending_runs bound (run ∷ runs) ≡ true
     → (bound ≤ run.0) × (run.0 ≤ run.1) × (are_ascending_runs (run.1 + 1) runs ≡ true)
 unfolding are_ascending_runs
 ascending_parts bound run runs h =
-    let parts = and_parts (nat_le bound run.0 && nat_le run.0 run.1) (are_ascending_runs (run.1 + 1) runs) h in
+    let parts = and_parts (nat_le bound run.0 && nat_le run.0 run.1)
+    (are_ascending_runs (run.1 + 1) runs) h in
     let head = and_parts (nat_le bound run.0) (nat_le run.0 run.1) parts.0 in
     (leb-true bound run.0 head.0, leb-true run.0 run.1 head.1, parts.1)
 
--- each run of an ascending list begins at the bound or after it, and ends where it begins or after that
-above : (bound : ℕ) (runs : List Run) → are_ascending_runs bound runs ≡ true → (i : ℕ) → i < length runs
+-- each run of an ascending list begins at the bound or after it, and ends where it begins or after
+-- that
+above : (bound : ℕ) (runs : List Run) → are_ascending_runs bound runs ≡ true → (i : ℕ)
+    → i < length runs
     → (bound ≤ (get_or runs i no_run).0) × ((get_or runs i no_run).0 ≤ (get_or runs i no_run).1)
 above bound [] runs_ascend i k = absurd (let contradiction : ⊥ = omega arith in contradiction)
 above bound (run ∷ runs) runs_ascend zero k =
@@ -38,31 +42,37 @@ above bound (run ∷ runs) runs_ascend (suc i) k =
     (omega (arith, later.0, parts.0, parts.1), later.1)
 
 -- a run ends before any later one begins
-later : (bound : ℕ) (runs : List Run) → are_ascending_runs bound runs ≡ true → (i j : ℕ) → i < j → j < length runs
+later : (bound : ℕ) (runs : List Run) → are_ascending_runs bound runs ≡ true → (i j : ℕ) → i < j
+    → j < length runs
     → (get_or runs i no_run).1 < (get_or runs j no_run).0
 later bound [] runs_ascend i j k m = absurd (let contradiction : ⊥ = omega arith in contradiction)
 later bound (run ∷ runs) runs_ascend i zero k m =
     absurd (let contradiction : ⊥ = omega arith in contradiction)
 later bound (run ∷ runs) runs_ascend zero (suc j) k m =
-    let bounds = above (run.1 + 1) runs (ascending_parts bound run runs runs_ascend).2 j (omega arith) in
+    let bounds = above (run.1 + 1) runs (ascending_parts bound run runs runs_ascend).2 j
+    (omega arith) in
     omega (arith, bounds.0)
 later bound (run ∷ runs) runs_ascend (suc i) (suc j) k m =
-    later (run.1 + 1) runs (ascending_parts bound run runs runs_ascend).2 i j (omega arith) (omega arith)
+    later (run.1 + 1) runs (ascending_parts bound run runs runs_ascend).2 i j (omega arith)
+    (omega arith)
 
 past : (run : Run) (n : ℕ) → run.1 < n → nat_le run.0 n && nat_le n run.1 ≡ false
 past run n h = and_right _ _ (lt-leb n run.1 h)
 
-pub outside : (run : Run) (n : ℕ) → (run.1 < n) ⊎ (n < run.0) → nat_le run.0 n && nat_le n run.1 ≡ false
+pub outside : (run : Run) (n : ℕ) → (run.1 < n) ⊎ (n < run.0)
+    → nat_le run.0 n && nat_le n run.1 ≡ false
 outside run n (inl h) = past run n h
 outside run n (inr h) = and_left _ _ (lt-leb run.0 n h)
 
 -- a run that has the number is found, where all before it end before the number
-found : (runs : List Run) (n i : ℕ) → i < length runs → ((j : ℕ) → j < i → (get_or runs j no_run).1 < n)
+found : (runs : List Run) (n i : ℕ) → i < length runs
+    → ((j : ℕ) → j < i → (get_or runs j no_run).1 < n)
     → (get_or runs i no_run).0 ≤ n → n ≤ (get_or runs i no_run).1
     → run_with_pointer runs n ≡ Some (get_or runs i no_run)
 found [] n i k all_before begins ends =
     absurd (let contradiction : ⊥ = omega arith in contradiction)
-found (run ∷ runs) n zero k all_before begins ends = rw (le-leb run.0 n begins, le-leb n run.1 ends) refl
+found (run ∷ runs) n zero k all_before begins ends =
+    rw (le-leb run.0 n begins, le-leb n run.1 ends) refl
 found (run ∷ runs) n (suc i) k all_before begins ends =
     rw (past run n (all_before 0 (omega arith)))
     (found runs n i (omega arith) (λ j m. all_before (suc j) (omega arith)) begins ends)
@@ -72,7 +82,8 @@ missing : (runs : List Run) (n : ℕ)
     → run_with_pointer runs n ≡ None
 missing [] n each_outside = refl
 missing (run ∷ runs) n each_outside =
-    rw (outside run n (each_outside 0 (omega arith))) (missing runs n (λ j m. each_outside (suc j) (omega arith)))
+    rw (outside run n (each_outside 0 (omega arith)))
+    (missing runs n (λ j m. each_outside (suc j) (omega arith)))
 
 below : (i n : ℕ) → i < n + 1 → (i < n) ⊎ (i ≡ n)
 below i n h = grind arith
@@ -84,7 +95,8 @@ two : (i n : ℕ) → (i < n) ⊎ (n ≤ i)
 two i n = grind arith
 
 -- the halves, at a run in the middle
-module _ {runs : List Run} (runs_ascend : are_ascending_runs 0 runs ≡ true) {n low high : ℕ} (middle : ℕ)
+module _ {runs : List Run} (runs_ascend : are_ascending_runs 0 runs ≡ true) {n low high : ℕ}
+    (middle : ℕ)
     (halving : Halving runs n low high)
     (l : low ≤ middle) (u : middle < high) where
   here : middle < length runs
@@ -128,11 +140,13 @@ module _ {runs : List Run} (runs_ascend : are_ascending_runs 0 runs ≡ true) {n
       → run_with_pointer runs n ≡ Some (get_or runs middle no_run)
   hit begins f =
       found runs n middle here
-      (λ j k. let before_middle = later 0 runs runs_ascend j middle k here in omega (arith, before_middle, begins))
+      (λ j k. let before_middle = later 0 runs runs_ascend j middle k here in
+      omega (arith, before_middle, begins))
       begins f
 
 pub nothing : {runs : List Run} {n low high : ℕ} → high ≤ low → Halving runs n low high
     → run_with_pointer runs n ≡ None
 nothing {runs} {n} {low} g halving =
-    missing runs n (λ j k. ⊎_elim (λ m. inl (halving.before j m)) (λ m. inr (halving.after j (omega arith) k))
+    missing runs n (λ j k.
+    ⊎_elim (λ m. inl (halving.before j m)) (λ m. inr (halving.after j (omega arith) k))
     (two j low))

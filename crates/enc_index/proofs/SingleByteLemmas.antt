@@ -23,10 +23,12 @@ use Rattle.enc_index.proofs.TableLemmas.{table_ok, table_ok-true}
 use Rattle.enc_index.proofs.Computing.{tests}
 
 abbrev pub table_of : SingleByteIndex → List ℕ
-table_of index = slice_range SINGLE_BYTE_TABLE (table_number index * 128) (table_number index * 128 + 128)
+table_of index = slice_range SINGLE_BYTE_TABLE (table_number index * 128)
+    (table_number index * 128 + 128)
 
 runs_ok : SingleByteIndex → Bool
-runs_ok index = are_ascending_runs 0 (single_byte_runs index) && table_ok 0 (single_byte_runs index) (table_of index)
+runs_ok index = are_ascending_runs 0 (single_byte_runs index)
+    && table_ok 0 (single_byte_runs index) (table_of index)
 
 all_tables : (index : SingleByteIndex) → runs_ok index ≡ true
 unfolding tests runs_ok
@@ -59,7 +61,8 @@ all_tables Windows1258 = refl
 all_tables XMacCyrillic = refl
 
 pub single_byte_table : (index : SingleByteIndex) (p : ℕ)
-    → entry_character Basic (get_or (table_of index) p 0) ≡ index_at Basic (single_byte_runs index) p
+    → entry_character Basic (get_or (table_of index) p 0)
+    ≡ index_at Basic (single_byte_runs index) p
 unfolding runs_ok
 single_byte_table index p =
     let parts = and_parts (are_ascending_runs 0 (single_byte_runs index))

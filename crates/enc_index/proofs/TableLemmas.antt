@@ -31,31 +31,39 @@ ascending-going p (r ∷ rs) h =
     let parts = ascending_parts p r rs h in (omega (arith, parts.0, parts.1), parts.1, parts.2)
 
 -- the three cases of the test
-module _ (p : ℕ) (r : Run) (rs : List Run) (t : ℕ) (ts : List ℕ) (ok : table_ok p (r ∷ rs) (t ∷ ts) ≡ true) where
+module _ (p : ℕ) (r : Run) (rs : List Run) (t : ℕ) (ts : List ℕ)
+    (ok : table_ok p (r ∷ rs) (t ∷ ts) ≡ true) where
   table_ok-before : p < r.0 → (t == 0 ≡ true) × (table_ok (p + 1) (r ∷ rs) ts ≡ true)
   unfolding table_ok
   table_ok-before l = and_parts _ _ (sym (cond-true _ _ _ (lt-ltb p r.0 l)) ∙ ok)
 
-  table_ok-within : r.0 ≤ p → p < r.1 → (t == r.2 + (p - r.0) ≡ true) × (table_ok (p + 1) (r ∷ rs) ts ≡ true)
+  table_ok-within : r.0 ≤ p → p < r.1 → (t == r.2 + (p - r.0) ≡ true)
+      × (table_ok (p + 1) (r ∷ rs) ts ≡ true)
   unfolding table_ok
   table_ok-within l m =
-      and_parts _ _ (sym (cond-true _ _ _ (lt-ltb p r.1 m)) ∙ sym (cond-false _ _ _ (le-ltb p r.0 l)) ∙ ok)
+      and_parts _ _ (sym (cond-true _ _ _ (lt-ltb p r.1 m))
+      ∙ sym (cond-false _ _ _ (le-ltb p r.0 l)) ∙ ok)
 
-  table_ok-ends : r.0 ≤ p → r.1 ≤ p → (t == r.2 + (p - r.0) ≡ true) × (table_ok (p + 1) rs ts ≡ true)
+  table_ok-ends : r.0 ≤ p → r.1 ≤ p → (t == r.2 + (p - r.0) ≡ true)
+      × (table_ok (p + 1) rs ts ≡ true)
   unfolding table_ok
   table_ok-ends l m =
-      and_parts _ _ (sym (cond-false _ _ _ (le-ltb p r.1 m)) ∙ sym (cond-false _ _ _ (le-ltb p r.0 l)) ∙ ok)
+      and_parts _ _ (sym (cond-false _ _ _ (le-ltb p r.1 m))
+      ∙ sym (cond-false _ _ _ (le-ltb p r.0 l)) ∙ ok)
 
 module _ (planes : Planes) where
-  pub index_at-before : (r : Run) (rs : List Run) (q : ℕ) → q < r.0 → index_at planes (r ∷ rs) q ≡ index_at planes rs q
+  pub index_at-before : (r : Run) (rs : List Run) (q : ℕ) → q < r.0
+      → index_at planes (r ∷ rs) q ≡ index_at planes rs q
   index_at-before r rs q h = cond-false _ _ _ (and_left _ _ (lt-leb r.0 q h))
 
-  pub index_at-after : (r : Run) (rs : List Run) (q : ℕ) → r.1 < q → index_at planes (r ∷ rs) q ≡ index_at planes rs q
+  pub index_at-after : (r : Run) (rs : List Run) (q : ℕ) → r.1 < q
+      → index_at planes (r ∷ rs) q ≡ index_at planes rs q
   index_at-after r rs q h = cond-false _ _ _ (and_right _ _ (lt-leb q r.1 h))
 
   pub index_at-within : (r : Run) (rs : List Run) (q : ℕ) → r.0 ≤ q → q ≤ r.1
       → index_at planes (r ∷ rs) q ≡ entry_character planes (r.2 + (q - r.0))
-  index_at-within r rs q low high = cond-true _ _ _ (and_from _ _ (le-leb r.0 q low) (le-leb q r.1 high))
+  index_at-within r rs q low high =
+      cond-true _ _ _ (and_from _ _ (le-leb r.0 q low) (le-leb q r.1 high))
 
   -- no run of an ascending list has a pointer below its first
   pub index_at-below : (low : ℕ) (rs : List Run) (q : ℕ) → are_ascending_runs low rs ≡ true
@@ -75,7 +83,8 @@ module _ (planes : Planes) where
   at_zero : (runs : List Run) (p : ℕ) → index_at planes runs p ≡ index_at planes runs (p + 0)
   at_zero runs p = ap (index_at planes runs) (omega arith)
 
-  at_suc : (runs : List Run) (p i : ℕ) → index_at planes runs (p + 1 + i) ≡ index_at planes runs (p + suc i)
+  at_suc : (runs : List Run) (p i : ℕ)
+      → index_at planes runs (p + 1 + i) ≡ index_at planes runs (p + suc i)
   at_suc runs p i = ap (index_at planes runs) (omega arith)
 
   entry_character-head : (t : ℕ) (ts : List ℕ) (p : ℕ) (r : Run) (rs : List Run) → Going p (r ∷ rs)
@@ -85,22 +94,27 @@ module _ (planes : Planes) where
       elim (cases_lt p r.0) [
         | inl before ↦
             none t (table_ok-before p r rs t ts ok before).0
-            ∙ sym (index_at-before r rs p before ∙ index_at-below (r.1 + 1) rs p going.2 (omega (arith, going.1)))
+            ∙ sym (index_at-before r rs p before
+            ∙ index_at-below (r.1 + 1) rs p going.2 (omega (arith, going.1)))
         | inr from ↦
             elim (cases_lt p r.1) [
               | inl within ↦
-                  some t _ (table_ok-within p r rs t ts ok from within).0 ∙ sym (index_at-within r rs p from going.0)
+                  some t _ (table_ok-within p r rs t ts ok from within).0
+                  ∙ sym (index_at-within r rs p from going.0)
               | inr ends ↦
-                  some t _ (table_ok-ends p r rs t ts ok from ends).0 ∙ sym (index_at-within r rs p from going.0)
+                  some t _ (table_ok-ends p r rs t ts ok from ends).0
+                  ∙ sym (index_at-within r rs p from going.0)
             ]
       ]
 
-  pub entry_character-index_at : (ts : List ℕ) (p : ℕ) (runs : List Run) → Going p runs → table_ok p runs ts ≡ true
+  pub entry_character-index_at : (ts : List ℕ) (p : ℕ) (runs : List Run) → Going p runs
+      → table_ok p runs ts ≡ true
       → (i : ℕ) → entry_character planes (get_or ts i 0) ≡ index_at planes runs (p + i)
   unfolding table_ok
   entry_character-index_at [] p [] going ok i = refl
   entry_character-index_at [] p (r ∷ rs) going ok i = cc
-  entry_character-index_at (t ∷ ts) p [] going ok zero = none t (and_parts (t == 0) (table_ok (p + 1) [] ts) ok).0
+  entry_character-index_at (t ∷ ts) p [] going ok zero =
+      none t (and_parts (t == 0) (table_ok (p + 1) [] ts) ok).0
   entry_character-index_at (t ∷ ts) p [] going ok (suc i) =
       entry_character-index_at ts (p + 1) [] tt (and_parts (t == 0) (table_ok (p + 1) [] ts) ok).1 i
   entry_character-index_at (t ∷ ts) p (r ∷ rs) going ok zero =
@@ -120,7 +134,8 @@ module _ (planes : Planes) where
               | inr ends ↦
                   let here : r.1 ≡ p = omega (arith, going.0) in
                   entry_character-index_at ts (p + 1) rs
-                  (ascending-going (p + 1) rs (subst (λ k. are_ascending_runs (k + 1) rs ≡ true) here going.2))
+                  (ascending-going (p + 1) rs
+                  (subst (λ k. are_ascending_runs (k + 1) rs ≡ true) here going.2))
                   (table_ok-ends p r rs t ts ok from ends).1 i
                   ∙ at_suc rs p i ∙ sym (index_at-after r rs (p + suc i) (omega arith))
             ]

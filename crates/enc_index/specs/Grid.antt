@@ -32,26 +32,30 @@ grid_rows EucKr = 126
 grid_rows Gb18030 = 126
 grid_rows Jis0208 = 120
 
--- 256 places for single bytes, and the rows, each with an empty place after it; the last two rows are empty
+-- 256 places for single bytes, and the rows, each with an empty place after it; the last two rows
+-- are empty
 abbrev pub grid_len : Grid → ℕ
 grid_len grid = 256 + (grid_rows grid + 2) * (grid_width grid + 1)
 
--- the character of a place after those of single bytes: that of the pointer at its row and column, and none in the last
--- column
+-- the character of a place after those of single bytes: that of the pointer at its row and column,
+-- and none in the last column
 abbrev pub cell_char : Grid → ℕ → Option ℕ
 cell_char grid cell =
     let width = grid_width grid in
     let row = cell / (width + 1) in
     let column = cell % (width + 1) in
     let index = grid_index grid in
-    if nat_lt column width then index_at (planes_of index) (runs_of index) (row * width + column) else None
+    if nat_lt column width then index_at (planes_of index) (runs_of index) (row * width + column)
+    else None
 
 -- the character of a place: ASCII, none for other single bytes, and then those of the index
 unfoldable pub grid_char : Grid → ℕ → Option ℕ
 grid_char grid place =
-    if nat_lt place 128 then Some place else (if nat_lt place 256 then None else cell_char grid (place - 256))
+    if nat_lt place 128 then Some place else
+    (if nat_lt place 256 then None else cell_char grid (place - 256))
 
--- the word has the UTF-8 of a character: its bytes, the first lowest, and their number in the highest byte, at most 3
+-- the word has the UTF-8 of a character: its bytes, the first lowest, and their number in the
+-- highest byte, at most 3
 pub record IsUtf8Word (c word : ℕ) : Type 0 where
   pub scalar : IsScalar c
   pub bound : word / 0x100_0000 ≤ 3

@@ -1,5 +1,5 @@
--- The tables of code points of the multi-byte indexes, by pointer, with which the look-ups by character are compared.
--- Rows by index are written by scripts/make-codecs from data/codecs.txt.
+-- The tables of code points of the multi-byte indexes, by pointer, with which the look-ups by
+-- character are compared. Rows by index are written by scripts/make-codecs from data/codecs.txt.
 use Rattle.std.specs.Prelude.{ℕ, List}
 use Rattle.enc_index.specs.declared.data.big5.TheConstants.{BIG5_TABLE}
 use Rattle.enc_index.specs.declared.data.euc_kr.TheConstants.{EUC_KR_TABLE}

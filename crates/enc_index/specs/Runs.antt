@@ -1,5 +1,6 @@
--- The indexes by name (Encoding Standard 5). Their runs don't unfold: no proof of an encoding reads an entry.
--- Rows by index are written by scripts/make-codecs from data/codecs.txt and data/encodings.txt.
+-- The indexes by name (Encoding Standard 5). Their runs don't unfold: no proof of an encoding reads
+-- an entry. Rows by index are written by scripts/make-codecs from data/codecs.txt and
+-- data/encodings.txt.
 use Rattle.std.specs.Prelude.{ℕ, Option, List}
 use Rattle.enc_index.specs.declared.table.Planes.{Planes}
 use Rattle.enc_index.specs.declared.table.Planes.TheVariants.{Basic, All}

@@ -11,4 +11,5 @@ are_ascending_runs bound (run ∷ runs) =
 -- the first run that has a number from its first to its last
 abbrev pub run_with_pointer : List Run → ℕ → Option Run
 run_with_pointer [] n = None
-run_with_pointer (run ∷ runs) n = if nat_le run.0 n && nat_le n run.1 then Some run else run_with_pointer runs n
+run_with_pointer (run ∷ runs) n =
+    if nat_le run.0 n && nat_le n run.1 then Some run else run_with_pointer runs n

@@ -9,7 +9,8 @@ module _ (test : ℕ → Bool) where
   unfolding first_below
   first_below-None zero none_below = refl
   first_below-None (suc n) none_below =
-      ap (λ o. pointer_or o (cond (test n) (Some n) None)) (first_below-None n (λ q l. none_below q (omega arith)))
+      ap (λ o. pointer_or o (cond (test n) (Some n) None))
+      (first_below-None n (λ q l. none_below q (omega arith)))
       ∙ cond-false _ _ _ (none_below n (omega arith))
 
   pub first_below-Some : (n p : ℕ) → p < n → test p ≡ true → ((q : ℕ) → q < p → test q ≡ false)
@@ -31,7 +32,8 @@ module _ (test : ℕ → Bool) where
   unfolding last_below
   last_below-None zero none_below = refl
   last_below-None (suc n) none_below =
-      cond-false _ _ _ (none_below n (omega arith)) ∙ last_below-None n (λ q l. none_below q (omega arith))
+      cond-false _ _ _ (none_below n (omega arith))
+      ∙ last_below-None n (λ q l. none_below q (omega arith))
 
   pub last_below-Some : (n p : ℕ) → p < n → test p ≡ true
       → ((q : ℕ) → p < q → q < n → test q ≡ false) → last_below test n ≡ Some p
@@ -41,6 +43,7 @@ module _ (test : ℕ → Bool) where
       elim (cases_lt p n) [
         | inl before ↦ cond-false _ _ _ (none_above n before (omega arith))
             ∙ last_below-Some n p before passes (λ q m k. none_above q m (omega arith))
-        | inr here ↦ let same : p ≡ n = omega arith in cond-true _ _ _ (subst (λ k. test k ≡ true) same passes)
+        | inr here ↦ let same : p ≡ n = omega arith in
+            cond-true _ _ _ (subst (λ k. test k ≡ true) same passes)
             ∙ ap Some (sym same)
       ]

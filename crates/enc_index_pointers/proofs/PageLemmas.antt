@@ -1,4 +1,5 @@
--- Pages of pointers give each character's pointer, by a test that goes through the pages and the table once.
+-- Pages of pointers give each character's pointer, by a test that goes through the pages and the
+-- table once.
 use Rattle.std.proofs.Common.{◌≡◌, ℕ, zero, suc, ◌+◌, ◌*◌, ◌/◌, ◌%◌, ◌^◌, ◌<◌, ◌≤◌, Bool, true, false, refl, sym, ap}
 use Rattle.std.proofs.Common.{◌∙◌, subst, cond, ◌&&◌, nat_lt, nat_le, List, [], ◌∷◌, get_or, length, Option, None, Some}
 use Rattle.std.proofs.Common.{arith, inl, inr, eqb-true, lt-ltb, le-ltb, leb-true, ltb-true}
@@ -31,7 +32,8 @@ unfoldable pub all_at : (ℕ → ℕ → Bool) → ℕ → List ℕ → Bool
 all_at test p [] = true
 all_at test p (t ∷ ts) = test p t && all_at test (p + 1) ts
 
-all_at-at : (test : ℕ → ℕ → Bool) (d p : ℕ) (ts : List ℕ) (i : ℕ) → all_at test p ts ≡ true → i < length ts
+all_at-at : (test : ℕ → ℕ → Bool) (d p : ℕ) (ts : List ℕ) (i : ℕ) → all_at test p ts ≡ true
+    → i < length ts
     → test (p + i) (get_or ts i d) ≡ true
 unfolding all_at
 all_at-at test d p [] i all_pass l = absurd (omega arith)
@@ -41,9 +43,11 @@ all_at-at test d p (t ∷ ts) zero all_pass l =
 all_at-at test d p (t ∷ ts) (suc i) all_pass l =
     let there : p + 1 + i ≡ p + suc i = omega arith in
     let rest = (and_parts (test p t) (all_at test (p + 1) ts) all_pass).1 in
-    subst (λ k. test k (get_or ts i d) ≡ true) there (all_at-at test d (p + 1) ts i rest (omega arith))
+    subst (λ k. test k (get_or ts i d) ≡ true) there
+    (all_at-at test d (p + 1) ts i rest (omega arith))
 
-is_character-cond : (b : Bool) (c t : ℕ) → is_character c (cond b (Some t) None) ≡ true → (b ≡ true) × (t ≡ c)
+is_character-cond : (b : Bool) (c t : ℕ) → is_character c (cond b (Some t) None) ≡ true → (b ≡ true)
+    × (t ≡ c)
 is_character-cond true c t h = (refl, eqb-true t c h)
 is_character-cond false c t h = cc
 
@@ -52,7 +56,8 @@ module _ (planes : Planes) (counts is_by_last : ℕ → Bool) (bound : ℕ) wher
   unfoldable pub place_ok : ℕ → Tree → ℕ → Tree → ℕ → ℕ → Bool
   place_ok n table m pointers place c =
       let pointer = look 0xFFFF m pointers place in
-      let right = counts pointer && is_character c (entry_character planes (look 0 n table pointer)) in
+      let right = counts pointer
+      && is_character c (entry_character planes (look 0 n table pointer)) in
       cond (nat_lt pointer bound) right true
 
   -- whether a page has only pointers of its characters, and page 0 none
@@ -65,9 +70,11 @@ module _ (planes : Planes) (counts is_by_last : ℕ → Bool) (bound : ℕ) wher
   blank_ok m pointers = all_below (λ j. nat_le bound (look 0xFFFF m pointers j)) 64
 
   unfoldable pub number_in_tree : ℕ → Tree → ℕ → Tree → ℕ → ℕ → ℕ
-  number_in_tree k page_of m pointers length c = look 0xFFFF m pointers (look length k page_of (c / 64) * 64 + c % 64)
+  number_in_tree k page_of m pointers length c =
+      look 0xFFFF m pointers (look length k page_of (c / 64) * 64 + c % 64)
 
-  -- whether the pages have no later pointer than p for its code point, or none before where the last counts
+  -- whether the pages have no later pointer than p for its code point, or none before where the
+  -- last counts
   unfoldable pub entry_ok : ℕ → Tree → ℕ → Tree → ℕ → ℕ → ℕ → Bool
   entry_ok k page_of m pointers length p t =
       let pointer = number_in_tree k page_of m pointers length t in
@@ -78,16 +85,19 @@ module _ (planes : Planes) (counts is_by_last : ℕ → Bool) (bound : ℕ) wher
   -- the sizes, and that each pointer that the pages have is one of the character's
   unfoldable pub pages_ok : ℕ → ℕ → ℕ → List ℕ → List ℕ → List ℕ → Bool
   pages_ok n m k table page_of pointers =
-      (nat_le (length table) (2 ^ n) && nat_le (length pointers) (2 ^ m)) && (nat_le (length page_of) (2 ^ k)
+      (nat_le (length table) (2 ^ n) && nat_le (length pointers) (2 ^ m))
+      && (nat_le (length page_of) (2 ^ k)
       && (nat_le bound 0xFFFF && (blank_ok m (plant 0xFFFF m pointers)
       && all_at (page_ok n (plant 0 n table) m (plant 0xFFFF m pointers)) 0 page_of)))
 
   -- that the pages have the pointer of each entry that is counts
   unfoldable pub entries_ok : ℕ → ℕ → List ℕ → List ℕ → List ℕ → Bool
   entries_ok m k table page_of pointers =
-      all_at (entry_ok k (plant (length pointers) k page_of) m (plant 0xFFFF m pointers) (length pointers)) 0 table
+      all_at (entry_ok k (plant (length pointers) k page_of) m (plant 0xFFFF m pointers)
+      (length pointers)) 0 table
 
-  module _ (n m k : ℕ) (table page_of pointers : List ℕ) (ok : pages_ok n m k table page_of pointers ≡ true)
+  module _ (n m k : ℕ) (table page_of pointers : List ℕ)
+      (ok : pages_ok n m k table page_of pointers ≡ true)
       (all : entries_ok m k table page_of pointers ≡ true) where
     abbrev table_tree : Tree
     table_tree = plant 0 n table
@@ -136,7 +146,8 @@ module _ (planes : Planes) (counts is_by_last : ℕ → Bool) (bound : ℕ) wher
           entries = all;
         }
 
-    in_tree-in_pages : (c : ℕ) → number_in_tree k page_tree m pointer_tree (length pointers) c ≡ in_pages c
+    in_tree-in_pages : (c : ℕ)
+        → number_in_tree k page_tree m pointer_tree (length pointers) c ≡ in_pages c
     unfolding number_in_tree
     in_tree-in_pages c =
         look-plant 0xFFFF m pointers _ parts.few_pointers
@@ -158,11 +169,13 @@ module _ (planes : Planes) (counts is_by_last : ℕ → Bool) (bound : ℕ) wher
               let within : look 0xFFFF m pointer_tree (page * 64 + c % 64) < bound =
               omega (arith, looked, below_bound) in
               let place = all_below-at
-              (λ j. place_ok n table_tree m pointer_tree (page * 64 + j) (c / 64 * 64 + j)) 64 (c % 64)
+              (λ j. place_ok n table_tree m pointer_tree (page * 64 + j) (c / 64 * 64 + j)) 64
+              (c % 64)
               (sym (cond-true _ _ _ (lt-ltb 0 page some)) ∙ h) (omega arith) in
               let right = sym (cond-true _ _ _ (lt-ltb _ _ within)) ∙ place in
               let at_pointer = subst
-              (λ x. (counts x && is_character rebuilt (entry_character planes (look 0 n table_tree x))) ≡ true)
+              (λ x. (counts x && is_character rebuilt
+              (entry_character planes (look 0 n table_tree x))) ≡ true)
               looked right in
               let at_table = subst
               (λ y. (counts pointer && is_character rebuilt (entry_character planes y)) ≡ true)
@@ -173,7 +186,8 @@ module _ (planes : Planes) (counts is_by_last : ℕ → Bool) (bound : ℕ) wher
               let same = ap (λ x. get_or pointers x 0xFFFF) place in
               let looked = look-plant 0xFFFF m pointers (c % 64) parts.few_pointers in
               let none = leb-true _ _
-              (all_below-at (λ j. nat_le bound (look 0xFFFF m pointer_tree j)) 64 (c % 64) parts.blank (omega arith)) in
+              (all_below-at (λ j. nat_le bound (look 0xFFFF m pointer_tree j)) 64 (c % 64)
+              parts.blank (omega arith)) in
               absurd (omega (arith, same, looked, none, below_bound))
         ]
 
@@ -207,12 +221,14 @@ module _ (planes : Planes) (counts is_by_last : ℕ → Bool) (bound : ℕ) wher
           | inr beyond ↦
               let has = (and_parts _ _ h).1 in
               let none =
-              subst (λ x. is_character c (entry_character planes x) ≡ true) (get_or-past table p 0 beyond) has in
+              subst (λ x. is_character c (entry_character planes x) ≡ true)
+              (get_or-past table p 0 beyond) has in
               absurd (true≢false (sym none))
         ]
 
     complete : (c p : ℕ) → p < bound → test c p ≡ true
-        → cond (is_by_last c) (nat_le p (in_pages c) && nat_lt (in_pages c) bound) (nat_le (in_pages c) p) ≡ true
+        → cond (is_by_last c) (nat_le p (in_pages c) && nat_lt (in_pages c) bound)
+        (nat_le (in_pages c) p) ≡ true
     unfolding entry_ok
     complete c p l passes =
         let code_point = get_or table p 0 in
@@ -223,7 +239,8 @@ module _ (planes : Planes) (counts is_by_last : ℕ → Bool) (bound : ℕ) wher
         subst (λ x. entry_ok k page_tree m pointer_tree (length pointers) x code_point ≡ true) first
         (all_at-at _ 0 0 table p parts.entries (listed c p passes)) in
         let each =
-        sym (cond-true _ _ _ (and_from _ _ (lt-ltb p bound l) (and_from _ _ hit.0 entry.0))) ∙ entry_passes in
+        sym (cond-true _ _ _ (and_from _ _ (lt-ltb p bound l) (and_from _ _ hit.0 entry.0)))
+        ∙ entry_passes in
         let paged_each =
         subst (λ q. cond (is_by_last code_point) (nat_le p q && nat_lt q bound) (nat_le q p) ≡ true)
         (in_tree-in_pages code_point) each in
@@ -234,12 +251,14 @@ module _ (planes : Planes) (counts is_by_last : ℕ → Bool) (bound : ℕ) wher
     not_first : (c p : ℕ) → is_by_last c ≡ false → p < bound → test c p ≡ true → in_pages c ≤ p
     not_first c p b l h = leb-true _ _ (sym (cond-false _ _ _ b) ∙ complete c p l h)
 
-    not_last : (c p : ℕ) → is_by_last c ≡ true → p < bound → test c p ≡ true → (p ≤ in_pages c) × (in_pages c < bound)
+    not_last : (c p : ℕ) → is_by_last c ≡ true → p < bound → test c p ≡ true → (p ≤ in_pages c)
+        × (in_pages c < bound)
     not_last c p b l h =
         let both = and_parts _ _ (sym (cond-true _ _ _ b) ∙ complete c p l h) in
         (leb-true _ _ both.0, ltb-true _ _ both.1)
 
-    by_first : (c : ℕ) → is_by_last c ≡ false → pointer_in_pages page_of pointers bound c ≡ first_below (test c) bound
+    by_first : (c : ℕ) → is_by_last c ≡ false
+        → pointer_in_pages page_of pointers bound c ≡ first_below (test c) bound
     by_first c not_by_last =
         elim (cases_lt (in_pages c) bound) [
           | inl within ↦
@@ -251,11 +270,13 @@ module _ (planes : Planes) (counts is_by_last : ℕ → Bool) (bound : ℕ) wher
           | inr beyond ↦
               cond-false _ _ _ (le-ltb _ _ beyond)
               ∙ sym (first_below-None (test c) bound
-              (λ p l. false_from_ne_true (test c p) (λ h. let no_earlier = not_first c p not_by_last l h in
+              (λ p l. false_from_ne_true (test c p)
+              (λ h. let no_earlier = not_first c p not_by_last l h in
               let contradiction : ⊥ = omega (arith, no_earlier) in contradiction)))
         ]
 
-    by_latest : (c : ℕ) → is_by_last c ≡ true → pointer_in_pages page_of pointers bound c ≡ last_below (test c) bound
+    by_latest : (c : ℕ) → is_by_last c ≡ true
+        → pointer_in_pages page_of pointers bound c ≡ last_below (test c) bound
     by_latest c by_last =
         elim (cases_lt (in_pages c) bound) [
           | inl within ↦
@@ -272,14 +293,16 @@ module _ (planes : Planes) (counts is_by_last : ℕ → Bool) (bound : ℕ) wher
               let contradiction : ⊥ = omega (arith, below_bound) in contradiction)))
         ]
 
-    of_table : (c : ℕ) → pointer_in_pages page_of pointers bound c ≡ pointer_of at counts is_by_last bound c
+    of_table : (c : ℕ) → pointer_in_pages page_of pointers bound c
+        ≡ pointer_of at counts is_by_last bound c
     of_table c =
         cond_both (is_by_last c) (last_below (test c) bound) (first_below (test c) bound)
         (λ o. pointer_in_pages page_of pointers bound c ≡ o) (by_latest c) (by_first c)
 
     -- pages that pass give each character's pointer in the index that the table has
     pub pointer_in_pages-pointer_of : (index : ℕ → Option ℕ) → ((p : ℕ) → at p ≡ index p)
-        → (c : ℕ) → pointer_in_pages page_of pointers bound c ≡ pointer_of index counts is_by_last bound c
+        → (c : ℕ) → pointer_in_pages page_of pointers bound c
+        ≡ pointer_of index counts is_by_last bound c
     pointer_in_pages-pointer_of index same c =
         let alike : (λ p. at p) ≡ index = λ i p. same p i in
         of_table c ∙ ap (λ f. pointer_of f counts is_by_last bound c) alike

@@ -70,7 +70,8 @@ by_code_point-more run runs h = cond-false _ _ _ h
 
 run_with_pointer-here : (run : Run) (runs : List Run) (n : ℕ) → run.0 ≤ n → n ≤ run.1
     → run_with_pointer (run ∷ runs) n ≡ Some run
-run_with_pointer-here run runs n low high = cond-true _ _ _ (and_from _ _ (le-leb run.0 n low) (le-leb n run.1 high))
+run_with_pointer-here run runs n low high =
+    cond-true _ _ _ (and_from _ _ (le-leb run.0 n low) (le-leb n run.1 high))
 
 run_with_pointer-past : (run : Run) (runs : List Run) (n : ℕ) → (run.1 < n) ⊎ (n < run.0)
     → run_with_pointer (run ∷ runs) n ≡ run_with_pointer runs n
@@ -83,7 +84,8 @@ pub record IsPointerOf (runs : List Run) (c q low : ℕ) : Type 0 where
   pub below : q < 1237576
   pub from : low ≤ q
 
-module _ (low : ℕ) (run : Run) (runs : List Run) (c : ℕ) (up : are_ascending_runs low (run ∷ runs) ≡ true)
+module _ (low : ℕ) (run : Run) (runs : List Run) (c : ℕ)
+    (up : are_ascending_runs low (run ∷ runs) ≡ true)
     (ok : is_range run ≡ true) where
   first_is_pointer : (run.0 == 7457) ≡ false → run.2 ≤ c → c ≤ run.2 + (run.1 - run.0)
       → IsPointerOf (run ∷ runs) c (run.0 + (c - run.2)) low
@@ -116,7 +118,8 @@ module _ (low : ℕ) (run : Run) (runs : List Run) (c : ℕ) (up : are_ascending
 -- the pointer in a run that is found by code point is one of the character
 pub sound : (low : ℕ) (runs : List Run) (c : ℕ) (found : Run) → are_ascending_runs low runs ≡ true
     → are_ranges runs ≡ true
-    → run_with_pointer (by_code_point runs) c ≡ Some found → IsPointerOf runs c (found.2 + (c - found.0)) low
+    → run_with_pointer (by_code_point runs) c ≡ Some found
+    → IsPointerOf runs c (found.2 + (c - found.0)) low
 unfolding by_code_point are_ranges
 sound low [] c found up ok is_found = cc
 sound low (run ∷ runs) c found up ok is_found =
@@ -124,21 +127,26 @@ sound low (run ∷ runs) c found up ok is_found =
     let rest = (ascending_parts low run runs up).2 in
     let later : run_with_pointer (by_code_point runs) c ≡ Some found
     → IsPointerOf (run ∷ runs) c (found.2 + (c - found.0)) low =
-    λ e. later_is_pointer low run runs c up parts.0 _ (sound (run.1 + 1) runs c found rest parts.1 e) in
+    λ e. later_is_pointer low run runs c up parts.0 _
+    (sound (run.1 + 1) runs c found rest parts.1 e) in
     elim (by_test (run.0 == 7457)) [
-      | inl alone ↦ later (sym (ap (λ l. run_with_pointer l c) (by_code_point-alone run runs alone)) ∙ is_found)
+      | inl alone ↦ later (sym (ap (λ l. run_with_pointer l c) (by_code_point-alone run runs alone))
+          ∙ is_found)
       | inr other ↦
           let more : run_with_pointer (turned run ∷ by_code_point runs) c ≡ Some found =
           sym (ap (λ l. run_with_pointer l c) (by_code_point-more run runs other)) ∙ is_found in
           elim (cases_lt c run.2) [
-            | inl before ↦ later (sym (run_with_pointer-past (turned run) (by_code_point runs) c (inr before)) ∙ more)
+            | inl before ↦ later (sym
+                (run_with_pointer-past (turned run) (by_code_point runs) c (inr before)) ∙ more)
             | inr begins ↦
                 elim (cases_lt (run.2 + (run.1 - run.0)) c) [
                   | inl after ↦
-                      later (sym (run_with_pointer-past (turned run) (by_code_point runs) c (inl after)) ∙ more)
+                      later (sym (run_with_pointer-past (turned run) (by_code_point runs) c
+                      (inl after)) ∙ more)
                   | inr ends ↦
                       let here : Some (turned run) ≡ Some found =
-                      sym (run_with_pointer-here (turned run) (by_code_point runs) c begins ends) ∙ more in
+                      sym (run_with_pointer-here (turned run) (by_code_point runs) c begins ends)
+                      ∙ more in
                       let same : turned run ≡ found = cc in
                       subst (λ r. IsPointerOf (run ∷ runs) c (r.2 + (c - r.0)) low) same
                       (first_is_pointer low run runs c up parts.0 other begins ends)
@@ -160,17 +168,20 @@ IsFound runs c q low = (pointer_in_run c (run_with_pointer runs c) ≡ Some q) �
 
 module _ (low : ℕ) (run : Run) (rest : List Run) (c q : ℕ)
     (up : are_ascending_runs low (turned run ∷ rest) ≡ true) where
-  first_is_found : run.0 ≤ q → q ≤ run.1 → run.2 + (q - run.0) ≡ c → IsFound (turned run ∷ rest) c q low
+  first_is_found : run.0 ≤ q → q ≤ run.1 → run.2 + (q - run.0) ≡ c
+      → IsFound (turned run ∷ rest) c q low
   first_is_found from to is =
       let begins : run.2 ≤ c = omega arith in
       let ends : c ≤ run.2 + (run.1 - run.0) = omega arith in
       let same : run.0 + (c - run.2) ≡ q = omega arith in
       let parts = ascending_parts low (turned run) rest up in (
-        ap (pointer_in_run c) (run_with_pointer-here (turned run) rest c begins ends) ∙ ap Some same,
+        ap (pointer_in_run c) (run_with_pointer-here (turned run) rest c begins ends)
+            ∙ ap Some same,
         omega (arith, parts.0),
       )
 
-  later_is_found : IsFound rest c q (run.2 + (run.1 - run.0) + 1) → IsFound (turned run ∷ rest) c q low
+  later_is_found : IsFound rest c q (run.2 + (run.1 - run.0) + 1)
+      → IsFound (turned run ∷ rest) c q low
   later_is_found is_later =
       let parts = ascending_parts low (turned run) rest up in
       let past : run.2 + (run.1 - run.0) < c = omega (arith, is_later.1) in (
@@ -182,7 +193,8 @@ module _ (low : ℕ) (run : Run) (rest : List Run) (c q : ℕ)
 -- a pointer that counts is found by the code point of its character
 pub complete : (low : ℕ) (runs : List Run) (c q : ℕ)
     → are_ascending_runs low (by_code_point runs) ≡ true → are_ranges runs ≡ true
-    → is_ranges_pointer q ≡ true → index_at All runs q ≡ Some c → IsFound (by_code_point runs) c q low
+    → is_ranges_pointer q ≡ true → index_at All runs q ≡ Some c
+    → IsFound (by_code_point runs) c q low
 unfolding are_ranges
 complete low [] c q up ok counted has_char = cc
 complete low (run ∷ runs) c q up ok counted has_char =
@@ -192,7 +204,8 @@ complete low (run ∷ runs) c q up ok counted has_char =
       | inl alone ↦
           let same = by_code_point-alone run runs alone in
           subst (λ l. IsFound l c q low) (sym same)
-          (complete low runs c q (subst (λ l. are_ascending_runs low l ≡ true) same up) parts.1 counted has_it)
+          (complete low runs c q (subst (λ l. are_ascending_runs low l ≡ true) same up) parts.1
+          counted has_it)
       | inr other ↦
           let same = by_code_point-more run runs other in
           let more : are_ascending_runs low (turned run ∷ by_code_point runs) ≡ true =
@@ -209,12 +222,14 @@ complete low (run ∷ runs) c q up ok counted has_char =
             | inl after ↦ later (sym (index_at-after All run runs q after) ∙ has_char)
             | inr to ↦
                 elim (by_test (run.0 == 7457)) [
-                  | inl alone ↦ absurd (true≢false (sym counted ∙ is_alone run.0 run.1 run.2 parts.0 alone q from to))
+                  | inl alone ↦ absurd (true≢false
+                      (sym counted ∙ is_alone run.0 run.1 run.2 parts.0 alone q from to))
                   | inr other ↦
                       let same = by_code_point-more run runs other in
                       let more : are_ascending_runs low (turned run ∷ by_code_point runs) ≡ true =
                       subst (λ l. are_ascending_runs low l ≡ true) same up in
-                      let is = entry_is _ _ _ (sym (index_at-within All run runs q from to) ∙ has_char) in
+                      let is = entry_is _ _ _
+                      (sym (index_at-within All run runs q from to) ∙ has_char) in
                       subst (λ l. IsFound l c q low) (sym same)
                       (first_is_found low run (by_code_point runs) c q more from to is)
                 ]

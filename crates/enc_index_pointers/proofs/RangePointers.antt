@@ -52,8 +52,10 @@ module _ (c : ℕ) where
       → pointer_in_run c (run_with_pointer GB18030_RANGES_BY_CODE_POINT.now c) ≡ Some q
   pointer_is_found q h =
       let parts = and_parts _ _ h in
-      let up = subst (λ l. are_ascending_runs 0 l ≡ true) (sym all_by_code_point) by_code_point_ascends in
-      let found = complete 0 (runs_of Gb18030Ranges) c q up are_all_ranges parts.0 (is_character-Some c _ parts.1) in
+      let up = subst (λ l. are_ascending_runs 0 l ≡ true) (sym all_by_code_point)
+      by_code_point_ascends in
+      let found = complete 0 (runs_of Gb18030Ranges) c q up are_all_ranges parts.0
+      (is_character-Some c _ parts.1) in
       sym (ap (λ l. pointer_in_run c (run_with_pointer l c)) all_by_code_point) ∙ found.0
 
   first_pointer : (o : Option Run) → run_with_pointer GB18030_RANGES_BY_CODE_POINT.now c ≡ o
@@ -74,7 +76,8 @@ module _ (c : ℕ) where
       contradiction))
 
   pub ranges_pointer : (c ≡ 0xE7C7 → ⊥)
-      → pointer_in_run c (run_with_pointer GB18030_RANGES_BY_CODE_POINT.now c) ≡ gb18030_ranges_pointer c
+      → pointer_in_run c (run_with_pointer GB18030_RANGES_BY_CODE_POINT.now c)
+      ≡ gb18030_ranges_pointer c
   unfolding gb18030_ranges_pointer
   ranges_pointer other =
       sym (first_pointer _ refl)

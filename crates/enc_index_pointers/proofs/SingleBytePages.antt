@@ -25,12 +25,15 @@ use Rattle.enc_index_pointers.proofs.PageLemmas.{pages_ok, entries_ok, pointer_i
 use Rattle.enc_index_pointers.proofs.Computing.{tests}
 
 abbrev pub page_of : SingleByteIndex → List ℕ
-page_of index = slice_range SINGLE_BYTE_PAGE_OF (table_number index * 1024) (table_number index * 1024 + 1024)
+page_of index = slice_range SINGLE_BYTE_PAGE_OF (table_number index * 1024)
+    (table_number index * 1024 + 1024)
 
 pointers_ok : SingleByteIndex → Bool
 pointers_ok index =
-    pages_ok Basic any_pointer no_character 128 7 14 10 (table_of index) (page_of index) SINGLE_BYTE_POINTERS
-    && entries_ok Basic any_pointer no_character 128 14 10 (table_of index) (page_of index) SINGLE_BYTE_POINTERS
+    pages_ok Basic any_pointer no_character 128 7 14 10 (table_of index) (page_of index)
+    SINGLE_BYTE_POINTERS
+    && entries_ok Basic any_pointer no_character 128 14 10 (table_of index) (page_of index)
+    SINGLE_BYTE_POINTERS
 
 all_pages : (index : SingleByteIndex) → pointers_ok index ≡ true
 unfolding tests pointers_ok
@@ -67,8 +70,10 @@ pub single_byte_pages : (index : SingleByteIndex) (c : ℕ)
 unfolding pointers_ok single_byte_pointer
 single_byte_pages index c =
     let parts = and_parts
-    (pages_ok Basic any_pointer no_character 128 7 14 10 (table_of index) (page_of index) SINGLE_BYTE_POINTERS)
-    (entries_ok Basic any_pointer no_character 128 14 10 (table_of index) (page_of index) SINGLE_BYTE_POINTERS)
+    (pages_ok Basic any_pointer no_character 128 7 14 10 (table_of index) (page_of index)
+    SINGLE_BYTE_POINTERS)
+    (entries_ok Basic any_pointer no_character 128 14 10 (table_of index) (page_of index)
+    SINGLE_BYTE_POINTERS)
     (all_pages index) in
     pointer_in_pages-pointer_of Basic any_pointer no_character 128 7 14 10 (table_of index)
     (page_of index) SINGLE_BYTE_POINTERS parts.0 parts.1

@@ -38,7 +38,8 @@ get_or-past [] i d h = refl
 get_or-past (x ∷ xs) zero d h = absurd (omega arith)
 get_or-past (x ∷ xs) (suc i) d h = get_or-past xs i d (omega arith)
 
-pub look-plant : (d n : ℕ) (xs : List ℕ) (i : ℕ) → length xs ≤ 2 ^ n → look d n (plant d n xs) i ≡ get_or xs i d
+pub look-plant : (d n : ℕ) (xs : List ℕ) (i : ℕ) → length xs ≤ 2 ^ n
+    → look d n (plant d n xs) i ≡ get_or xs i d
 unfolding look
 look-plant d n xs i h =
     elim (cases_lt i (2 ^ n)) [

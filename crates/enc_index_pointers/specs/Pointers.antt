@@ -1,6 +1,7 @@
 -- The pointers of characters (Encoding Standard 5, "index pointer", and those of single encodings).
 -- Rows by index are written by scripts/make-codecs from data/codecs.txt.
-use Rattle.std.specs.Prelude.{ℕ, zero, suc, Bool, true, false, ◌&&◌, ◌||◌, ◌==◌, not, nat_le, Option, Some, None, if◌then◌else◌}
+use Rattle.std.specs.Prelude.{ℕ, zero, suc, Bool, true, false, ◌&&◌, ◌||◌, ◌==◌, not, nat_le, Option, Some, None}
+use Rattle.std.specs.Prelude.{if◌then◌else◌}
 use Rattle.enc_index.specs.declared.table.Planes.TheVariants.{Basic}
 use Rattle.enc_index.specs.declared.single_byte_index.SingleByteIndex.{SingleByteIndex}
 use Rattle.enc_index.specs.Index.{index_at}
@@ -26,8 +27,8 @@ abbrev pub is_character : ℕ → Option ℕ → Bool
 is_character c None = false
 is_character c (Some d) = d == c
 
--- The pointer of a character in an index: the first of those below the bound that count and have the character, or for
--- some characters the last.
+-- The pointer of a character in an index: the first of those below the bound that count and have
+-- the character, or for some characters the last.
 abbrev pub pointer_of : (ℕ → Option ℕ) → (ℕ → Bool) → (ℕ → Bool) → ℕ → ℕ → Option ℕ
 pointer_of at counts is_by_last bound c =
     if is_by_last c then last_below (λ p. counts p && is_character c (at p)) bound
@@ -43,7 +44,8 @@ any_pointer n = true
 
 -- the index pointer in a single-byte index
 unfoldable pub single_byte_pointer : SingleByteIndex → ℕ → Option ℕ
-single_byte_pointer index c = pointer_of (λ p. index_at Basic (single_byte_runs index) p) any_pointer no_character 128 c
+single_byte_pointer index c =
+    pointer_of (λ p. index_at Basic (single_byte_runs index) p) any_pointer no_character 128 c
 
 -- the index pointer in index EUC-KR
 unfoldable pub euc_kr_pointer : ℕ → Option ℕ
@@ -70,7 +72,8 @@ is_big5_pointer p = nat_le 5024 p
 
 -- the six characters for which the last pointer is taken
 abbrev pub is_last_in_big5 : ℕ → Bool
-is_last_in_big5 c = c == 0x2550 || (c == 0x255E || (c == 0x2561 || (c == 0x256A || (c == 0x5341 || c == 0x5345))))
+is_last_in_big5 c = c == 0x2550
+    || (c == 0x255E || (c == 0x2561 || (c == 0x256A || (c == 0x5341 || c == 0x5345))))
 
 unfoldable pub big5_pointer : ℕ → Option ℕ
 big5_pointer c = pointer_of big5_at is_big5_pointer is_last_in_big5 19782 c
@@ -81,4 +84,5 @@ is_ranges_pointer p = not (p == 7457) && (nat_le p 39419 || nat_le 189000 p)
 
 unfoldable pub gb18030_ranges_pointer : ℕ → Option ℕ
 gb18030_ranges_pointer c =
-    if c == 0xE7C7 then Some 7457 else pointer_of gb18030_ranges_at is_ranges_pointer no_character 1237576 c
+    if c == 0xE7C7 then Some 7457 else pointer_of gb18030_ranges_at is_ranges_pointer no_character
+    1237576 c

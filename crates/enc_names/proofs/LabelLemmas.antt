@@ -15,11 +15,14 @@ use Rattle.enc_names.specs.declared.encoding_id.EncodingId.{EncodingId}
 use Rattle.enc_names.specs.LabelIds.{id_pairs, id_paired_with, trim_start, trim_end, id_of_label}
 
 -- at the place of a word stands that word
-placed : (labels : List (List ℕ)) (word : List ℕ) (i : ℕ) → word_place labels word ≡ Some i → get_or labels i [] ≡ word
+placed : (labels : List (List ℕ)) (word : List ℕ) (i : ℕ) → word_place labels word ≡ Some i
+    → get_or labels i [] ≡ word
 placed [] word i found_at = absurd (let no : ⊥ = cc in no)
-placed (label ∷ labels) word i found_at = by_test (bytes_eq label word) refl (λ j e. placed labels word j e)
+placed (label ∷ labels) word i found_at =
+    by_test (bytes_eq label word) refl (λ j e. placed labels word j e)
   where
-    later : (o : Option ℕ) → ((j : ℕ) → o ≡ Some j → get_or labels j [] ≡ word) → option_map suc o ≡ Some i
+    later : (o : Option ℕ) → ((j : ℕ) → o ≡ Some j → get_or labels j [] ≡ word)
+        → option_map suc o ≡ Some i
         → get_or (label ∷ labels) i [] ≡ word
     later None f g = absurd (let no : ⊥ = cc in no)
     later (Some j) f g =
@@ -30,17 +33,21 @@ placed (label ∷ labels) word i found_at = by_test (bytes_eq label word) refl (
         → get_or labels j [] ≡ word) → get_or (label ∷ labels) i [] ≡ word
     by_test true equal_is f =
         let found_first : Some 0 ≡ Some i =
-        sym (ap (λ (b : Bool). if b then Some 0 else option_map suc (word_place labels word)) equal_is)
+        sym (ap (λ (b : Bool). if b then Some 0 else option_map suc (word_place labels word))
+        equal_is)
         ∙ found_at in
         let same_place : 0 ≡ i = cc in
-        ap (λ n. get_or (label ∷ labels) n []) (sym same_place) ∙ (bytes_eq-Decides label word).0 equal_is
+        ap (λ n. get_or (label ∷ labels) n []) (sym same_place)
+        ∙ (bytes_eq-Decides label word).0 equal_is
     by_test false equal_is f =
         later (word_place labels word) f
-        (sym (ap (λ (b : Bool). if b then Some 0 else option_map suc (word_place labels word)) equal_is) ∙ found_at)
+        (sym (ap (λ (b : Bool). if b then Some 0 else option_map suc (word_place labels word))
+        equal_is) ∙ found_at)
 
 -- the encodings in the order of the labels
 
-at_place : (labels : List (List ℕ)) (encodings : List EncodingId) (f : List ℕ → Option EncodingId) (i : ℕ)
+at_place : (labels : List (List ℕ)) (encodings : List EncodingId) (f : List ℕ → Option EncodingId)
+    (i : ℕ)
     (d : EncodingId) → map Some encodings ≡ map f labels → i < length encodings
     → Some (get_or encodings i d) ≡ f (get_or labels i [])
 at_place labels [] f i d h l = absurd (let no : ⊥ = omega arith in no)
@@ -67,13 +74,15 @@ unplaced (pair ∷ pairs) word places_hold not_found =
     first_so (is_some (word_place table pair.0)) (have_places pairs) places_hold in
     let differs : bytes_eq pair.0 word ≡ false = other (bytes_eq pair.0 word) refl first in
     let rest : id_paired_with pairs word ≡ None =
-    unplaced pairs word (second_so (is_some (word_place table pair.0)) (have_places pairs) places_hold) not_found in
+    unplaced pairs word (second_so (is_some (word_place table pair.0)) (have_places pairs)
+    places_hold) not_found in
     rw (differs, rest) refl
   where
     other : (b : Bool) → bytes_eq pair.0 word ≡ b → is_some (word_place table pair.0) ≡ true
         → bytes_eq pair.0 word ≡ false
     other true e s =
-        absurd (false≢true (sym (ap is_some (ap (word_place table) ((bytes_eq-Decides pair.0 word).0 e) ∙ not_found))
+        absurd (false≢true (sym
+        (ap is_some (ap (word_place table) ((bytes_eq-Decides pair.0 word).0 e) ∙ not_found))
         ∙ s))
     other false e s = e
 
@@ -90,6 +99,7 @@ module _ (label trimmed : List ℕ) (trim : IsTrimAscii label trimmed) where
       at_place table encodings (id_paired_with id_pairs) i d h l ∙ ap (id_paired_with id_pairs)
       (placed table (map to_ascii_lowercase trimmed) i (sym p) ∙ word_is)
 
-  pub gets_none : None ≡ word_place table (map to_ascii_lowercase trimmed) → None ≡ id_of_label label
+  pub gets_none : None ≡ word_place table (map to_ascii_lowercase trimmed)
+      → None ≡ id_of_label label
   gets_none p = sym (unplaced id_pairs (map to_ascii_lowercase trimmed) all_have_places (sym p))
       ∙ ap (id_paired_with id_pairs) word_is

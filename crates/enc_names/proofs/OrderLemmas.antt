@@ -45,7 +45,8 @@ by_length Greater a b f g n their_order = shorter_before b a g their_order
 
 pub by_byte : (r : Ordering) (i : ℕ) (a b : List ℕ) → IsBytes a → IsBytes b → length a ≡ length b
     → i < length a → drop (suc i) a ≡ drop (suc i) b → get_or a i 0 ≢ get_or b i 0
-    → MatchOrdering r (get_or a i 0 < get_or b i 0) (get_or a i 0 ≡ get_or b i 0) (get_or b i 0 < get_or a i 0)
+    → MatchOrdering r (get_or a i 0 < get_or b i 0) (get_or a i 0 ≡ get_or b i 0)
+    (get_or b i 0 < get_or a i 0)
     → MatchOrdering r (word_number a < word_number b) (a ≡ b) (word_number b < word_number a)
 by_byte Less i a b f g same_length within same_after n their_order =
     lesser_before i a b f same_length within same_after their_order
@@ -54,10 +55,12 @@ by_byte Greater i a b f g same_length within same_after n their_order =
     lesser_before i b a g (sym same_length) (rw (← same_length) within) (sym same_after) their_order
 
 -- the same at the byte before a place
-pub by_byte_before : (r : Ordering) (at : ℕ) (a b : List ℕ) → IsBytes a → IsBytes b → length a ≡ length b → 0 < at
+pub by_byte_before : (r : Ordering) (at : ℕ) (a b : List ℕ) → IsBytes a → IsBytes b
+    → length a ≡ length b → 0 < at
     → at ≤ length a → drop at a ≡ drop at b
     → get_or a (at - 1) 0 ≢ get_or b (at - 1) 0
-    → MatchOrdering r (get_or a (at - 1) 0 < get_or b (at - 1) 0) (get_or a (at - 1) 0 ≡ get_or b (at - 1) 0)
+    → MatchOrdering r (get_or a (at - 1) 0 < get_or b (at - 1) 0)
+    (get_or a (at - 1) 0 ≡ get_or b (at - 1) 0)
     (get_or b (at - 1) 0 < get_or a (at - 1) 0)
     → MatchOrdering r (word_number a < word_number b) (a ≡ b) (word_number b < word_number a)
 by_byte_before r at a b f g e p l d n m =
@@ -66,17 +69,21 @@ by_byte_before r at a b f g e p l d n m =
 
 -- in an ascending table
 
-pub first_before : (one two : List ℕ) (words : List (List ℕ)) → are_ascending_words (one ∷ two ∷ words) ≡ true
+pub first_before : (one two : List ℕ) (words : List (List ℕ))
+    → are_ascending_words (one ∷ two ∷ words) ≡ true
     → (word_number one < word_number two) × (are_ascending_words (two ∷ words) ≡ true)
 unfolding are_ascending_words
 first_before one two words h =
-    let parts = and_parts (nat_lt (word_number one) (word_number two)) (are_ascending_words (two ∷ words)) h in
+    let parts = and_parts (nat_lt (word_number one) (word_number two))
+    (are_ascending_words (two ∷ words)) h in
     (ltb-true (word_number one) (word_number two) parts.0, parts.1)
 
-later_after_first : (one : List ℕ) (words : List (List ℕ)) → are_ascending_words (one ∷ words) ≡ true → (j : ℕ)
+later_after_first : (one : List ℕ) (words : List (List ℕ))
+    → are_ascending_words (one ∷ words) ≡ true → (j : ℕ)
     → j < length words → word_number one < word_number (get_or words j [])
 later_after_first one [] words_ascend j l = absurd (let no : ⊥ = omega arith in no)
-later_after_first one (two ∷ words) words_ascend zero l = (first_before one two words words_ascend).0
+later_after_first one (two ∷ words) words_ascend zero l =
+    (first_before one two words words_ascend).0
 later_after_first one (two ∷ words) words_ascend (suc j) l =
     let parts = first_before one two words words_ascend in
     let later_after_second = later_after_first two words parts.1 j (omega arith) in
@@ -94,6 +101,7 @@ pub earlier_before : (words : List (List ℕ)) → are_ascending_words words ≡
     → j < length words → word_number (get_or words i []) < word_number (get_or words j [])
 earlier_before [] words_ascend i j l m = absurd (let no : ⊥ = omega arith in no)
 earlier_before (one ∷ words) words_ascend i zero l m = absurd (let no : ⊥ = omega arith in no)
-earlier_before (one ∷ words) words_ascend zero (suc j) l m = later_after_first one words words_ascend j (omega arith)
+earlier_before (one ∷ words) words_ascend zero (suc j) l m =
+    later_after_first one words words_ascend j (omega arith)
 earlier_before (one ∷ words) words_ascend (suc i) (suc j) l m =
     earlier_before words (others_ascend one words words_ascend) i j (omega arith) (omega arith)

@@ -37,10 +37,12 @@ unfolding are_short
 none_longer [] word all_short l = refl
 none_longer (one ∷ words) word all_short l =
     let is_short : length one ≤ LONGEST =
-    leb-true (length one) LONGEST (first_so (nat_le (length one) LONGEST) (are_short words) all_short) in
+    leb-true (length one) LONGEST
+    (first_so (nat_le (length one) LONGEST) (are_short words) all_short) in
     let differs : bytes_eq one word ≡ false = other (bytes_eq one word) refl is_short in
     let not_in_rest : word_place words word ≡ None =
-    none_longer words word (second_so (nat_le (length one) LONGEST) (are_short words) all_short) l in
+    none_longer words word (second_so (nat_le (length one) LONGEST) (are_short words) all_short)
+    l in
     rw (differs, not_in_rest) refl
   where
     other : (b : Bool) → bytes_eq one word ≡ b → length one ≤ LONGEST → bytes_eq one word ≡ false
@@ -49,7 +51,8 @@ none_longer (one ∷ words) word all_short l =
         let no : ⊥ = omega arith in no)
     other false compared m = compared
 
-pub longer_is_none : (word : List ℕ) → LONGEST < length word → word_place table (map to_ascii_lowercase word) ≡ None
+pub longer_is_none : (word : List ℕ) → LONGEST < length word
+    → word_place table (map to_ascii_lowercase word) ≡ None
 longer_is_none word l =
     none_longer table (map to_ascii_lowercase word) table_is_short
     (let same_length = map_len to_ascii_lowercase word in omega arith)

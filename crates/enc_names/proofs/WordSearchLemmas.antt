@@ -13,7 +13,8 @@ pub record Halving (words : List (List ℕ)) (word : List ℕ) (low high : ℕ) 
   pub order : low ≤ high
   pub range : high ≤ length words
   pub before : (i : ℕ) → i < low → word_number (get_or words i []) < word_number word
-  pub after : (i : ℕ) → high ≤ i → i < length words → word_number word < word_number (get_or words i [])
+  pub after : (i : ℕ) → high ≤ i → i < length words
+      → word_number word < word_number (get_or words i [])
 
 -- words with other numbers are others
 
@@ -40,59 +41,69 @@ missing : (words : List (List ℕ)) (word : List ℕ)
     → word_place words word ≡ None
 missing [] word differ = refl
 missing (one ∷ words) word differ =
-    rw (differs one word (differ 0 (omega arith)), missing words word (λ j m. differ (suc j) (omega arith))) refl
+    rw (
+      differs one word (differ 0 (omega arith)),
+      missing words word
+          (λ j m. differ (suc j) (omega arith)),
+    ) refl
 
 -- the halves, at a word in the middle
-module _ {words : List (List ℕ)} (words_ascend : are_ascending_words words ≡ true) {word : List ℕ} {low high : ℕ}
-    (middle : ℕ) (halving : Halving words word low high) (l : low ≤ middle) (u : middle < high) where
-  here : middle < length words
-  here = let range = halving.range in omega arith
+module _ {words : List (List ℕ)} (words_ascend : are_ascending_words words ≡ true) {word : List ℕ}
+    {low high : ℕ}
+    (middle : ℕ) (halving : Halving words word low high) (l : low ≤ middle) (u : middle < high)
+  where
+    here : middle < length words
+    here = let range = halving.range in omega arith
 
-  two : (i : ℕ) → (i < middle) ⊎ ((i ≡ middle) ⊎ (middle < i))
-  two i = grind arith
+    two : (i : ℕ) → (i < middle) ⊎ ((i ≡ middle) ⊎ (middle < i))
+    two i = grind arith
 
-  up_to : word_number (get_or words middle []) < word_number word → (i : ℕ) → i < middle + 1
-      → (i < middle) ⊎ ((i ≡ middle) ⊎ (middle < i))
-      → word_number (get_or words i []) < word_number word
-  up_to e i k (inl m) =
-      let before_middle = earlier_before words words_ascend i middle m here in omega arith
-  up_to e i k (inr (inl m)) = rw m e
-  up_to e i k (inr (inr m)) = absurd (let no : ⊥ = omega arith in no)
+    up_to : word_number (get_or words middle []) < word_number word → (i : ℕ) → i < middle + 1
+        → (i < middle) ⊎ ((i ≡ middle) ⊎ (middle < i))
+        → word_number (get_or words i []) < word_number word
+    up_to e i k (inl m) =
+        let before_middle = earlier_before words words_ascend i middle m here in omega arith
+    up_to e i k (inr (inl m)) = rw m e
+    up_to e i k (inr (inr m)) = absurd (let no : ⊥ = omega arith in no)
 
-  from : word_number word < word_number (get_or words middle []) → (i : ℕ) → middle ≤ i
-      → i < length words → (i < middle) ⊎ ((i ≡ middle) ⊎ (middle < i))
-      → word_number word < word_number (get_or words i [])
-  from e i k m (inl o) = absurd (let no : ⊥ = omega arith in no)
-  from e i k m (inr (inl o)) = rw o e
-  from e i k m (inr (inr o)) =
-      let after_middle = earlier_before words words_ascend middle i o m in omega arith
+    from : word_number word < word_number (get_or words middle []) → (i : ℕ) → middle ≤ i
+        → i < length words → (i < middle) ⊎ ((i ≡ middle) ⊎ (middle < i))
+        → word_number word < word_number (get_or words i [])
+    from e i k m (inl o) = absurd (let no : ⊥ = omega arith in no)
+    from e i k m (inr (inl o)) = rw o e
+    from e i k m (inr (inr o)) =
+        let after_middle = earlier_before words words_ascend middle i o m in omega arith
 
-  pub right : word_number (get_or words middle []) < word_number word → Halving words word (middle + 1) high
-  right e =
-      record {
-        order = omega arith;
-        range = halving.range;
-        before = λ i k. up_to e i k (two i);
-        after = halving.after;
-      }
+    pub right : word_number (get_or words middle []) < word_number word
+        → Halving words word (middle + 1) high
+    right e =
+        record {
+          order = omega arith;
+          range = halving.range;
+          before = λ i k. up_to e i k (two i);
+          after = halving.after;
+        }
 
-  pub left : word_number word < word_number (get_or words middle []) → Halving words word low middle
-  left e =
-      record {
-        order = l;
-        range = (let range = halving.range in omega arith);
-        before = halving.before;
-        after = λ i k m. from e i k m (two i);
-      }
+    pub left : word_number word < word_number (get_or words middle [])
+        → Halving words word low middle
+    left e =
+        record {
+          order = l;
+          range = (let range = halving.range in omega arith);
+          before = halving.before;
+          after = λ i k m. from e i k m (two i);
+        }
 
-  pub hit : get_or words middle [] ≡ word → word_place words word ≡ Some middle
-  hit is_word =
-      let same_number : word_number (get_or words middle []) ≡ word_number word = ap word_number is_word in
-      found words word middle here
-      (λ j k same. let before_middle = earlier_before words words_ascend j middle k here in
-      (let no : ⊥ = omega arith in no)) is_word
+    pub hit : get_or words middle [] ≡ word → word_place words word ≡ Some middle
+    hit is_word =
+        let same_number : word_number (get_or words middle []) ≡ word_number word =
+        ap word_number is_word in
+        found words word middle here
+        (λ j k same. let before_middle = earlier_before words words_ascend j middle k here in
+        (let no : ⊥ = omega arith in no)) is_word
 
-pub nothing : {words : List (List ℕ)} {word : List ℕ} {low high : ℕ} → high ≤ low → Halving words word low high
+pub nothing : {words : List (List ℕ)} {word : List ℕ} {low high : ℕ} → high ≤ low
+    → Halving words word low high
     → word_place words word ≡ None
 nothing {words} {word} {low} g halving =
     missing words word (λ j k same. elim (split j) [
@@ -114,7 +125,8 @@ text_at [] i d l = absurd (let no : ⊥ = omega arith in no)
 text_at (text ∷ texts) zero d l = refl
 text_at (text ∷ texts) (suc i) d l = text_at texts i d (omega arith)
 
-pub start : (texts : List (Bor (List ℕ))) (word : List ℕ) → Halving (texts_of texts) word 0 (length texts)
+pub start : (texts : List (Bor (List ℕ))) (word : List ℕ)
+    → Halving (texts_of texts) word 0 (length texts)
 start texts word = record {
   order = omega arith;
   range = (let as_many_texts = texts_len texts in omega arith);

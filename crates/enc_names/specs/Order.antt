@@ -1,7 +1,9 @@
--- The order of the table of labels: by length, and words of one length by their bytes from the last to the first.
+-- The order of the table of labels: by length, and words of one length by their bytes from the last
+-- to the first.
 use Rattle.std.specs.Prelude.{ℕ, ◌+◌, ◌*◌, Bool, true, ◌&&◌, nat_lt, List, [], ◌∷◌}
 
--- The order is that of numbers: the digits of a word's number are its bytes plus one, the first the least.
+-- The order is that of numbers: the digits of a word's number are its bytes plus one, the first the
+-- least.
 abbrev pub word_number : List ℕ → ℕ
 word_number [] = 0
 word_number (b ∷ word) = (b + 1) + 257 * word_number word

@@ -11,4 +11,5 @@ texts_of (text ∷ texts) = text.now ∷ texts_of texts
 -- the first place of a word in a list, if it is there
 abbrev pub word_place : List (List ℕ) → List ℕ → Option ℕ
 word_place [] word = None
-word_place (label ∷ labels) word = if bytes_eq label word then Some 0 else option_map suc (word_place labels word)
+word_place (label ∷ labels) word =
+    if bytes_eq label word then Some 0 else option_map suc (word_place labels word)

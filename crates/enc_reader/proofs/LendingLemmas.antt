@@ -52,7 +52,8 @@ module _ (d : DecoderState) (may_be_latin1 : DecoderMayBeLatin1 d) where
       ∙ ap (λ s. sequences_of (rule_of d.encoding) s y) may_be_latin1.at_start
 
   no_mark : (y : List ℕ) → encoding_of_mark_or (mark_in (phase_of d.life) y) d.encoding ≡ d.encoding
-  no_mark y = ap (λ l. encoding_of_mark_or (mark_in (phase_of l) y) d.encoding) may_be_latin1.converting
+  no_mark y = ap (λ l. encoding_of_mark_or (mark_in (phase_of l) y) d.encoding)
+      may_be_latin1.converting
 
   unfinished : has_finished d ≡ false
   unfinished = ap has_ended may_be_latin1.converting
@@ -72,9 +73,11 @@ module _ (d : DecoderState) (src : List ℕ) (ended : Bool) (n : ℕ) (within : 
       ∙ ap (λ x. sequences_of (rule_of d.encoding) 0 (x ++ z)) (sym (take-append-drop n src))
       ∙ ap (sequences_of (rule_of d.encoding) 0) (append_assoc (take n src) (drop n src) z)
       ∙ own_first (rule_of d.encoding) is_own.compatible (take n src) (drop n src ++ z) is_own.ascii
-      ∙ ap (λ ss. own (take n src) ++ ss) (sym (between_sequences d is_own.between (drop n src ++ z)))
+      ∙ ap (λ ss. own (take n src) ++ ss)
+      (sym (between_sequences d is_own.between (drop n src ++ z)))
 
-  pub ReadsOwed-lent : (source : Option (List ℕ)) → ReadsOwed source source before after [] (take n src) false
+  pub ReadsOwed-lent : (source : Option (List ℕ))
+      → ReadsOwed source source before after [] (take n src) false
   ReadsOwed-lent source = record {
     given = ConsumesRemaining-none source;
     none_after = λ e. (refl, e);
@@ -82,12 +85,20 @@ module _ (d : DecoderState) (src : List ℕ) (ended : Bool) (n : ℕ) (within : 
     residual = λ z h. comes_first z;
     encoding = λ z h. no_mark d is_own.between (d.pending ++ (drop n src ++ z))
         ∙ sym (no_mark d is_own.between (d.pending ++ (src ++ z)));
-    scalars = subst AreScalars (sym (own_text (take n src))) (ascii_scalars (take n src) is_own.ascii);
-    text = sym (ascii_units (take n src) is_own.ascii) ∙ ap (units_of_text encode_utf8) (sym (own_text (take n src)));
+    scalars = subst AreScalars (sym (own_text (take n src)))
+        (ascii_scalars (take n src) is_own.ascii);
+    text = sym (ascii_units (take n src) is_own.ascii)
+        ∙ ap (units_of_text encode_utf8) (sym (own_text (take n src)));
     flag = sym (own_valid (take n src));
     nearer =
         let going = unfinished d is_own.between in
-        omega (arith, before_end before going, before_end after going, length-drop n src, length-take n src);
+        omega (
+          arith,
+          before_end before going,
+          before_end after going,
+          length-drop n src,
+          length-take n src,
+        );
   }
 
 or_false : (b : Bool) → b ≡ (b || false)
@@ -98,10 +109,12 @@ or_false false = refl
 abbrev reader_with : DecoderState → Bool → List ℕ → ReaderState
 reader_with d ended unread = record { decoder = d; unread = unread; ended = ended }
 
-pub HandsOut-lent : (source : Option (List ℕ)) (d : DecoderState) (src : List ℕ) (ended : Bool) (n : ℕ) (had : Bool)
+pub HandsOut-lent : (source : Option (List ℕ)) (d : DecoderState) (src : List ℕ) (ended : Bool)
+    (n : ℕ) (had : Bool)
     → n ≤ length src
     → IsOwnText d (take n src) → (ended ≡ true → IsExhausted source)
-    → HandsOut source source (reader_with d ended src) (reader_with d ended (drop n src)) (take n src) had had
+    → HandsOut source source (reader_with d ended src) (reader_with d ended (drop n src))
+    (take n src) had had
 HandsOut-lent source d src ended n had within o none = record {
   bytes = [];
   malformed = false;
@@ -111,11 +124,14 @@ HandsOut-lent source d src ended n had within o none = record {
 }
 
 -- the same, by places in the buffer
-pub HandsOut-chunk : (source : Option (List ℕ)) (d : DecoderState) (filled at n : ℕ) (xs : List ℕ) (ended had : Bool)
+pub HandsOut-chunk : (source : Option (List ℕ)) (d : DecoderState) (filled at n : ℕ) (xs : List ℕ)
+    (ended had : Bool)
     → at ≤ filled → filled ≤ length xs
-    → n ≤ filled - at → IsOwnText d (take n (take (filled - at) (drop at xs))) → (ended ≡ true → IsExhausted source)
+    → n ≤ filled - at → IsOwnText d (take n (take (filled - at) (drop at xs)))
+    → (ended ≡ true → IsExhausted source)
     → HandsOut source source (reader_with d ended (take (filled - at) (drop at xs)))
-    (reader_with d ended (take (filled - (at + n)) (drop (at + n) xs))) (take n (drop (at + n - n) xs)) had had
+    (reader_with d ended (take (filled - (at + n)) (drop (at + n) xs)))
+    (take n (drop (at + n - n) xs)) had had
 HandsOut-chunk source d filled at n xs ended had within_filled w within o none =
     let src : List ℕ = take (filled - at) (drop at xs) in
     let few : n ≤ length src = omega (
@@ -129,18 +145,22 @@ HandsOut-chunk source d filled at n xs ended had within_filled w within o none =
     let place : at ≡ at + n - n = omega arith in
     let text : take n src ≡ take n (drop (at + n - n) xs) =
     take-take n (filled - at) (drop at xs) within ∙ ap (λ k. take n (drop k xs)) place in
-    subst (λ u. HandsOut source source (reader_with d ended src) (reader_with d ended u) (take n (drop (at + n - n) xs)) had had)
+    subst (λ u. HandsOut source source (reader_with d ended src) (reader_with d ended u)
+    (take n (drop (at + n - n) xs)) had had)
     (left_of filled at n xs within_filled few)
-    (subst (λ t. HandsOut source source (reader_with d ended src) (reader_with d ended (drop n src)) t had had)
+    (subst (λ t. HandsOut source source (reader_with d ended src) (reader_with d ended (drop n src))
+    t had had)
     text (HandsOut-lent source d src ended n had few o none))
 
-pub handed_is_utf_8 : {t₀ t : Option (List ℕ)} {a b : ReaderState} {wrote : List ℕ} {had_before had_after : Bool}
+pub handed_is_utf_8 : {t₀ t : Option (List ℕ)} {a b : ReaderState} {wrote : List ℕ}
+    {had_before had_after : Bool}
     → HandsOut t₀ t a b wrote had_before had_after → IsUtf8 wrote
 handed_is_utf_8 {t₀ = t₀} {t = t} {a = a} {b = b} {wrote = wrote} hands_out =
     handed_utf_8 t₀ t a b hands_out.bytes wrote hands_out.malformed hands_out.reads
 
 -- a chunk that can't be pulled
-pub FailsToRead-pull : {t₀ t₁ : Option (List ℕ)} {failed_before failed_after : Bool} {a b : ReaderState}
+pub FailsToRead-pull : {t₀ t₁ : Option (List ℕ)} {failed_before failed_after : Bool}
+    {a b : ReaderState}
     → t₁ ≡ t₀ → failed_after ≡ true → b ≡ a
     → a.ended ≡ false → failed_before ≡ false → FailsToRead t₀ t₁ failed_before failed_after a b
 FailsToRead-pull {t₀ = t₀} {a = a} same failed stays unended going =
@@ -155,31 +175,38 @@ FailsToRead-pull {t₀ = t₀} {a = a} same failed stays unended going =
     })
 
 -- a read after a chunk was pulled
-module _ {t₀ t₁ t₂ : Option (List ℕ)} {a b c : ReaderState} (fills_buffer : FillsBuffer t₀ t₁ a b) where
-  pub HandsOut-filled : {wrote : List ℕ} {had_before had_after : Bool}
-      → HandsOut t₁ t₂ b c wrote had_before had_after → HandsOut t₀ t₂ a c wrote had_before had_after
-  HandsOut-filled {wrote = wrote} hands_out = record {
-    bytes = fills_buffer.bytes ++ hands_out.bytes;
-    malformed = hands_out.malformed;
-    reads =
-        ReadsOwed-then t₀ t₁ t₂ a b c fills_buffer.bytes hands_out.bytes [] wrote false hands_out.malformed
-        fills_buffer.reads
-        hands_out.reads;
-    flag = hands_out.flag;
-    exhausted = hands_out.exhausted;
-  }
+module _ {t₀ t₁ t₂ : Option (List ℕ)} {a b c : ReaderState} (fills_buffer : FillsBuffer t₀ t₁ a b)
+  where
+    pub HandsOut-filled : {wrote : List ℕ} {had_before had_after : Bool}
+        → HandsOut t₁ t₂ b c wrote had_before had_after
+        → HandsOut t₀ t₂ a c wrote had_before had_after
+    HandsOut-filled {wrote = wrote} hands_out = record {
+      bytes = fills_buffer.bytes ++ hands_out.bytes;
+      malformed = hands_out.malformed;
+      reads =
+          ReadsOwed-then t₀ t₁ t₂ a b c fills_buffer.bytes hands_out.bytes [] wrote false
+          hands_out.malformed
+          fills_buffer.reads
+          hands_out.reads;
+      flag = hands_out.flag;
+      exhausted = hands_out.exhausted;
+    }
 
-  pub FailsToRead-filled : {failed_before failed_between failed_after : Bool} → failed_between ≡ failed_before
-      → FailsToRead t₁ t₂ failed_between failed_after b c → FailsToRead t₀ t₂ failed_before failed_after a c
-  FailsToRead-filled e fails = record {
-    bytes = fills_buffer.bytes ++ fails.bytes;
-    malformed = fails.malformed;
-    reads = ReadsOwed-then t₀ t₁ t₂ a b c fills_buffer.bytes fails.bytes [] [] false fails.malformed fills_buffer.reads
-        fails.reads;
-    not_ended = fails.not_ended;
-    not_before = sym e ∙ fails.not_before;
-    why = elim fails.why [
-      | inl t ↦ inl t
-      | inr l ↦ inr (omega (arith, l, length-append fills_buffer.bytes fails.bytes))
-    ];
-  }
+    pub FailsToRead-filled : {failed_before failed_between failed_after : Bool}
+        → failed_between ≡ failed_before
+        → FailsToRead t₁ t₂ failed_between failed_after b c
+        → FailsToRead t₀ t₂ failed_before failed_after a c
+    FailsToRead-filled e fails = record {
+      bytes = fills_buffer.bytes ++ fails.bytes;
+      malformed = fails.malformed;
+      reads = ReadsOwed-then t₀ t₁ t₂ a b c fills_buffer.bytes fails.bytes [] [] false
+          fails.malformed
+          fills_buffer.reads
+          fails.reads;
+      not_ended = fails.not_ended;
+      not_before = sym e ∙ fails.not_before;
+      why = elim fails.why [
+        | inl t ↦ inl t
+        | inr l ↦ inr (omega (arith, l, length-append fills_buffer.bytes fails.bytes))
+      ];
+    }

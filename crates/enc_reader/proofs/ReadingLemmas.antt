@@ -31,7 +31,8 @@ use Rattle.enc_reader.specs.Turn.{IsWaiting, PullsChunk, IsTurn}
 use Rattle.enc_reader.proofs.SourceLemmas.{ConsumesRemaining-none, ConsumesRemaining-then}
 
 -- nothing yet
-pub ReadsOwed-none : (known : Option (List ℕ)) (s : ReaderState) → ReadsOwed known known s s [] [] false
+pub ReadsOwed-none : (known : Option (List ℕ)) (s : ReaderState)
+    → ReadsOwed known known s s [] [] false
 ReadsOwed-none known s = record {
   given = ConsumesRemaining-none known;
   none_after = λ e. (refl, e);
@@ -45,8 +46,10 @@ ReadsOwed-none known s = record {
 }
 
 -- some reads, and some more
-pub ReadsOwed-then : (t₀ t₁ t₂ : Option (List ℕ)) (a b c : ReaderState) (x y w₁ w₂ : List ℕ) (m₁ m₂ : Bool)
-    → ReadsOwed t₀ t₁ a b x w₁ m₁ → ReadsOwed t₁ t₂ b c y w₂ m₂ → ReadsOwed t₀ t₂ a c (x ++ y) (w₁ ++ w₂) (m₁ || m₂)
+pub ReadsOwed-then : (t₀ t₁ t₂ : Option (List ℕ)) (a b c : ReaderState) (x y w₁ w₂ : List ℕ)
+    (m₁ m₂ : Bool)
+    → ReadsOwed t₀ t₁ a b x w₁ m₁ → ReadsOwed t₁ t₂ b c y w₂ m₂
+    → ReadsOwed t₀ t₂ a c (x ++ y) (w₁ ++ w₂) (m₁ || m₂)
 ReadsOwed-then t₀ t₁ t₂ a b c x y w₁ w₂ m₁ m₂ first then_more =
     let rest_is_empty : (z : List ℕ) → (c.ended ≡ true → z ≡ []) → b.ended ≡ true → y ++ z ≡ [] =
     λ z h e. let ended = then_more.none_after e in ap (λ u. u ++ z) ended.0 ∙ h ended.1 in
@@ -56,17 +59,27 @@ ReadsOwed-then t₀ t₁ t₂ a b c x y w₁ w₂ m₁ m₂ first then_more =
           let then_ended = then_more.none_after first_ended.1 in
           (ap (λ u. u ++ y) first_ended.0 ∙ then_ended.0, then_ended.1);
       done = first.done ++ then_more.done;
-      residual = λ z ends. ap (owed_sequences a) (append_assoc x y z) ∙ first.residual (y ++ z) (rest_is_empty z ends)
+      residual = λ z ends. ap (owed_sequences a) (append_assoc x y z)
+          ∙ first.residual (y ++ z) (rest_is_empty z ends)
           ∙ ap (λ ss. first.done ++ ss) (then_more.residual z ends)
           ∙ sym (append_assoc first.done then_more.done (owed_sequences c z));
-      encoding = λ z ends. then_more.encoding z ends ∙ first.encoding (y ++ z) (rest_is_empty z ends)
+      encoding = λ z ends. then_more.encoding z ends
+          ∙ first.encoding (y ++ z) (rest_is_empty z ends)
           ∙ ap (owed_encoding a) (sym (append_assoc x y z));
       scalars = scalars_of-append first.done then_more.done first.scalars then_more.scalars;
-      text = ap (λ u. u ++ w₂) first.text ∙ ap (λ u. units_of_text encode_utf8 (sequence_text first.done) ++ u)
+      text = ap (λ u. u ++ w₂) first.text
+          ∙ ap (λ u. units_of_text encode_utf8 (sequence_text first.done) ++ u)
           then_more.text ∙ sym (units-append encode_utf8 first.done then_more.done);
       flag = ap (λ m. m || m₂) first.flag ∙ ap (λ m. any_malformed first.done || m) then_more.flag
           ∙ sym (any_malformed-append first.done then_more.done);
-      nearer = omega (arith, first.nearer, then_more.nearer, length-append x y, length-append w₁ w₂);
+      nearer = omega (
+        arith,
+        first.nearer,
+        then_more.nearer,
+        length-append x y,
+        length-append w₁
+            w₂,
+      );
     }
 
 -- how far one is that has come to the end, and one that hasn't
@@ -74,11 +87,13 @@ ReadsOwed-then t₀ t₁ t₂ a b c x y w₁ w₂ m₁ m₂ first then_more =
 ended_at : (s : ReaderState) → has_finished s.decoder ≡ true → distance_to_end s ≡ 0
 ended_at s f = ap (λ b. if b then 0 else 1 + (2 * length s.unread + length s.decoder.pending)) f
 
-pub before_end : (s : ReaderState) → has_finished s.decoder ≡ false → distance_to_end s ≡ 1 + (2 * length s.unread + length s.decoder.pending)
+pub before_end : (s : ReaderState) → has_finished s.decoder ≡ false
+    → distance_to_end s ≡ 1 + (2 * length s.unread + length s.decoder.pending)
 before_end s f = ap (λ b. if b then 0 else 1 + (2 * length s.unread + length s.decoder.pending)) f
 
 -- A chunk that is pulled into a reader which has nothing to decode: all is owed that was owed.
-pub ReadsOwed-pull : (t₀ t₁ : Option (List ℕ)) (s : ReaderState) (x : List ℕ) (ended : Bool) → IsWaiting s → ConsumesRemaining t₀ t₁ x
+pub ReadsOwed-pull : (t₀ t₁ : Option (List ℕ)) (s : ReaderState) (x : List ℕ) (ended : Bool)
+    → IsWaiting s → ConsumesRemaining t₀ t₁ x
     → ReadsOwed t₀ t₁ s (record { decoder = s.decoder; unread = x; ended = ended }) x [] false
 ReadsOwed-pull t₀ t₁ s x ended waits t =
     let now : ReaderState = record { decoder = s.decoder; unread = x; ended = ended } in
@@ -86,77 +101,109 @@ ReadsOwed-pull t₀ t₁ s x ended waits t =
       given = t;
       none_after = λ e. absurd (false≢true (sym waits.not_ended ∙ e));
       done = [];
-      residual = λ z h. ap (λ u. owed_sequences (record { decoder = s.decoder; unread = u; ended = false }) (x ++ z))
+      residual = λ z h. ap (λ u.
+          owed_sequences (record { decoder = s.decoder; unread = u; ended = false }) (x ++ z))
           waits.unread;
-      encoding = λ z h. ap (λ u. owed_encoding (record { decoder = s.decoder; unread = u; ended = false }) (x ++ z))
+      encoding = λ z h. ap (λ u.
+          owed_encoding (record { decoder = s.decoder; unread = u; ended = false }) (x ++ z))
           (sym waits.unread);
       scalars = refl;
       text = refl;
       flag = refl;
-      nearer = omega (arith, before_end s waits.going, before_end now waits.going, ap length waits.unread);
+      nearer = omega (
+        arith,
+        before_end s waits.going,
+        before_end now waits.going,
+        ap length
+            waits.unread,
+      );
     }
 
 -- a call of the decoder, which is offered what is unread, with room for any character
-module _ (old new : DecoderState) (src : List ℕ) (last : Bool) (room : ℕ) (result : CoderResult) (read : ℕ) (wrote : List ℕ) (replaced : Bool)
+module _ (old new : DecoderState) (src : List ℕ) (last : Bool) (room : ℕ) (result : CoderResult)
+    (read : ℕ) (wrote : List ℕ) (replaced : Bool)
     (decodes : DecodesReplacing encode_utf8 old new src last room result read wrote replaced)
-    (going : has_finished old ≡ false) (some : last ≡ false → 1 ≤ length src) (roomy : 4 ≤ room) where
-  abbrev before : ReaderState
-  before = record { decoder = old; unread = src; ended = last }
+    (going : has_finished old ≡ false) (some : last ≡ false → 1 ≤ length src) (roomy : 4 ≤ room)
+  where
+    abbrev before : ReaderState
+    before = record { decoder = old; unread = src; ended = last }
 
-  abbrev after : ReaderState
-  after = record { decoder = new; unread = drop read src; ended = last }
+    abbrev after : ReaderState
+    after = record { decoder = new; unread = drop read src; ended = last }
 
-  comes_nearer : distance_to_end after + min 1 (length wrote) ≤ distance_to_end before + 2 * 0
-  comes_nearer = elim (true_or_false (has_finished new)) [
-    | inl f ↦ omega (arith, ended_at after f, before_end before going)
-    | inr unfinished ↦ elim (nearer encode_utf8 utf_8_determines 4 four_bytes Replacement old new src last room
-        roomy read wrote replaced (decoder_result_of result) decodes some) [
-          | inl g ↦ absurd (false≢true (sym unfinished ∙ g))
-          | inr l ↦ omega (arith, l, before_end after unfinished, before_end before going, length-drop read src)
-        ]
-  ]
+    comes_nearer : distance_to_end after + min 1 (length wrote) ≤ distance_to_end before + 2 * 0
+    comes_nearer = elim (true_or_false (has_finished new)) [
+      | inl f ↦ omega (arith, ended_at after f, before_end before going)
+      | inr unfinished ↦ elim (nearer encode_utf8 utf_8_determines 4 four_bytes Replacement old new
+          src last room
+          roomy read wrote replaced (decoder_result_of result) decodes some) [
+            | inl g ↦ absurd (false≢true (sym unfinished ∙ g))
+            | inr l ↦ omega (
+              arith,
+              l,
+              before_end after unfinished,
+              before_end before going,
+              length-drop read src,
+            )
+          ]
+    ]
 
-  pub ReadsOwed-call : (known : Option (List ℕ)) → ReadsOwed known known before after [] wrote replaced
-  ReadsOwed-call known =
-      let all_put = only_put old new src last room result read wrote replaced decodes in
-      record {
-        given = ConsumesRemaining-none known;
-        none_after = λ f. (refl, f);
-        done = decodes.call.done;
-        residual = decodes.call.residual;
-        encoding = λ z none. still_ahead encode_utf8 Replacement old new src last room (decoder_result_of result) read
-            wrote replaced decodes z none;
-        scalars = subst (λ ss. AreScalars (sequence_text ss)) all_put decodes.call.scalars;
-        text = decodes.call.text ∙ ap (λ ss. units_of_text encode_utf8 (sequence_text ss)) all_put;
-        flag = decodes.call.flag ∙ ap any_malformed all_put;
-        nearer = comes_nearer;
-      }
+    pub ReadsOwed-call : (known : Option (List ℕ))
+        → ReadsOwed known known before after [] wrote replaced
+    ReadsOwed-call known =
+        let all_put = only_put old new src last room result read wrote replaced decodes in
+        record {
+          given = ConsumesRemaining-none known;
+          none_after = λ f. (refl, f);
+          done = decodes.call.done;
+          residual = decodes.call.residual;
+          encoding = λ z none. still_ahead encode_utf8 Replacement old new src last room
+              (decoder_result_of result) read
+              wrote replaced decodes z none;
+          scalars = subst (λ ss. AreScalars (sequence_text ss)) all_put decodes.call.scalars;
+          text = decodes.call.text
+              ∙ ap (λ ss. units_of_text encode_utf8 (sequence_text ss)) all_put;
+          flag = decodes.call.flag ∙ ap any_malformed all_put;
+          nearer = comes_nearer;
+        }
 
--- A turn without text and without the end has read all unread bytes, and waits for more. Others don't wait.
-module _ (old new : DecoderState) (src : List ℕ) (last : Bool) (room : ℕ) (result : CoderResult) (read : ℕ) (wrote : List ℕ) (replaced : Bool) where
-  waits_for_more : DecodesReplacing encode_utf8 old new src last room (result) read wrote replaced → 4 ≤ room → wrote ≡ [] → has_finished new ≡ false
+-- A turn without text and without the end has read all unread bytes, and waits for more. Others
+-- don't wait.
+module _ (old new : DecoderState) (src : List ℕ) (last : Bool) (room : ℕ) (result : CoderResult)
+    (read : ℕ) (wrote : List ℕ) (replaced : Bool) where
+  waits_for_more : DecodesReplacing encode_utf8 old new src last room (result) read wrote replaced
+      → 4 ≤ room → wrote ≡ [] → has_finished new ≡ false
       → IsWaiting (record { decoder = new; unread = drop read src; ended = last })
   waits_for_more h roomy none going = by_result result h
     where
-      by_result : (r : CoderResult) → DecodesReplacing encode_utf8 old new src last room r read wrote replaced → IsWaiting (record { decoder = new; unread = drop read src; ended = last })
+      by_result : (r : CoderResult)
+          → DecodesReplacing encode_utf8 old new src last room r read wrote replaced
+          → IsWaiting (record { decoder = new; unread = drop read src; ended = last })
       by_result InputEmpty decodes = record {
         unread = ap (λ n. drop n src) decodes.call.stops.all_read ∙ drop-length src;
-        not_ended = sym (finishes old new src last room InputEmpty read wrote replaced decodes) ∙ going;
+        not_ended = sym (finishes old new src last room InputEmpty read wrote replaced decodes)
+            ∙ going;
         going = going;
       }
       by_result OutputFull decodes =
-          let some = some_written encode_utf8 utf_8_determines Replacement old new src last room read wrote
+          let some = some_written encode_utf8 utf_8_determines Replacement old new src last room
+          read wrote
           replaced decodes 4 four_bytes roomy in
           absurd (omega (arith, some, ap length none))
 
   -- a turn that decodes
-  pub IsTurn-call : (waits : Bool) → DecodesReplacing encode_utf8 old new src last room result read wrote replaced → has_finished old ≡ false → (last ≡ false → 1 ≤ length src) → 4 ≤ room
+  pub IsTurn-call : (waits : Bool)
+      → DecodesReplacing encode_utf8 old new src last room result read wrote replaced
+      → has_finished old ≡ false → (last ≡ false → 1 ≤ length src) → 4 ≤ room
       → (waits ≡ true → (wrote ≡ []) × (has_finished new ≡ false))
       → (waits ≡ false → wrote ≡ [] → has_finished new ≡ true)
-      → IsTurn (record { decoder = old; unread = src; ended = last }) (record { decoder = new; unread = drop read src; ended = last }) wrote replaced waits
+      → IsTurn (record { decoder = old; unread = src; ended = last })
+      (record { decoder = new; unread = drop read src; ended = last }) wrote replaced waits
   IsTurn-call waits decodes going some roomy w e = record {
-    reads = ReadsOwed-call old new src last room result read wrote replaced decodes going some roomy;
-    waiting = λ t. let none_and_going = w t in waits_for_more decodes roomy none_and_going.0 none_and_going.1;
+    reads = ReadsOwed-call old new src last room result read wrote replaced decodes going some
+        roomy;
+    waiting = λ t. let none_and_going = w t in
+        waits_for_more decodes roomy none_and_going.0 none_and_going.1;
     text_or_end = e;
   }
 
@@ -171,17 +218,23 @@ IsTurn-waits s w =
 
 pub IsTurn-ended : (s : ReaderState) → has_finished s.decoder ≡ true → IsTurn s s [] false false
 IsTurn-ended s f =
-    record { reads = λ known. ReadsOwed-none known s; waiting = λ t. absurd (false≢true t); text_or_end = λ _ _. f }
+    record {
+      reads = λ known. ReadsOwed-none known s;
+      waiting = λ t. absurd (false≢true t);
+      text_or_end = λ _ _. f;
+    }
 
 -- A read up to now: the text handed out, and whether it waits, after `pulls` pulls.
-pub record HasRead (t₀ t : Option (List ℕ)) (s₀ s : ReaderState) (wrote : List ℕ) (replaced waits : Bool) (pulls : ℕ) : Type 0 where
+pub record HasRead (t₀ t : Option (List ℕ)) (s₀ s : ReaderState) (wrote : List ℕ)
+    (replaced waits : Bool) (pulls : ℕ) : Type 0 where
   pub bytes : List ℕ
   pub reads : ReadsOwed t₀ t s₀ s bytes wrote replaced
   pub enough : waits ≡ true → pulls ≤ length bytes
   pub waiting : waits ≡ true → IsWaiting s
   pub text_or_end : waits ≡ false → wrote ≡ [] → has_finished s.decoder ≡ true
 
-pub HasRead-turn : {known : Option (List ℕ)} {s₀ s : ReaderState} {wrote : List ℕ} {replaced waits : Bool}
+pub HasRead-turn : {known : Option (List ℕ)} {s₀ s : ReaderState} {wrote : List ℕ}
+    {replaced waits : Bool}
     → IsTurn s₀ s wrote replaced waits → HasRead known known s₀ s wrote replaced waits 0
 HasRead-turn {known = known} turn =
     record {
@@ -195,15 +248,19 @@ HasRead-turn {known = known} turn =
 -- a chunk more, and a turn
 module _ {t₀ t₁ t₂ : Option (List ℕ)} {s₀ s₁ s₂ s₃ : ReaderState} {r₀ r₁ waits : Bool} {pulls : ℕ}
     (has_read : HasRead t₀ t₁ s₀ s₁ [] r₀ true pulls) (pulls_chunk : PullsChunk t₁ t₂ s₁ s₂) where
-  pub HasRead-more : {w₁ : List ℕ} → IsTurn s₂ s₃ w₁ r₁ waits → HasRead t₀ t₂ s₀ s₃ w₁ (r₀ || r₁) waits (pulls + 1)
+  pub HasRead-more : {w₁ : List ℕ} → IsTurn s₂ s₃ w₁ r₁ waits
+      → HasRead t₀ t₂ s₀ s₃ w₁ (r₀ || r₁) waits (pulls + 1)
   HasRead-more {w₁ = w₁} turn = record {
     bytes = has_read.bytes ++ pulls_chunk.bytes;
     reads =
         rw (← append-nil pulls_chunk.bytes)
-        (ReadsOwed-then t₀ t₁ t₂ s₀ s₁ s₃ has_read.bytes (pulls_chunk.bytes ++ []) [] w₁ r₀ r₁ has_read.reads
-        (ReadsOwed-then t₁ t₂ t₂ s₁ s₂ s₃ pulls_chunk.bytes [] [] w₁ false r₁ pulls_chunk.reads (turn.reads t₂)));
+        (ReadsOwed-then t₀ t₁ t₂ s₀ s₁ s₃ has_read.bytes (pulls_chunk.bytes ++ []) [] w₁ r₀ r₁
+        has_read.reads
+        (ReadsOwed-then t₁ t₂ t₂ s₁ s₂ s₃ pulls_chunk.bytes [] [] w₁ false r₁ pulls_chunk.reads
+        (turn.reads t₂)));
     enough = λ w. elim (true_or_false s₂.ended) [
-      | inl e ↦ absurd (false≢true (sym (turn.waiting w).not_ended ∙ ((turn.reads t₂).none_after e).1))
+      | inl e ↦ absurd (false≢true
+          (sym (turn.waiting w).not_ended ∙ ((turn.reads t₂).none_after e).1))
       | inr e ↦ (let some : 0 < length pulls_chunk.bytes = pulls_chunk.some e in
           omega (arith, some, has_read.enough refl, length-append has_read.bytes pulls_chunk.bytes))
     ];
@@ -214,59 +271,77 @@ module _ {t₀ t₁ t₂ : Option (List ℕ)} {s₀ s₁ s₂ s₃ : ReaderState
 -- what has come of it
 
 -- the end
-pub IsReaderAtEnd-is : (known : Option (List ℕ)) (s : ReaderState) → has_finished s.decoder ≡ true → s.ended ≡ true
+pub IsReaderAtEnd-is : (known : Option (List ℕ)) (s : ReaderState) → has_finished s.decoder ≡ true
+    → s.ended ≡ true
     → IsAtEnd known → IsReaderAtEnd known s
 IsReaderAtEnd-is known s is_finished e t = record {
   seen = e;
   exhausted = t;
   finished = is_finished;
-  none_owed = none_left s.decoder.life s.decoder.encoding s.decoder.set (s.decoder.pending ++ (s.unread ++ []))
+  none_owed = none_left s.decoder.life s.decoder.encoding s.decoder.set
+      (s.decoder.pending ++ (s.unread ++ []))
       is_finished;
 }
 
 -- the text handed out is UTF-8
-pub handed_utf_8 : (t₀ t : Option (List ℕ)) (s₀ s : ReaderState) (bytes wrote : List ℕ) (malformed : Bool) → ReadsOwed t₀ t s₀ s bytes wrote malformed → IsUtf8 wrote
+pub handed_utf_8 : (t₀ t : Option (List ℕ)) (s₀ s : ReaderState) (bytes wrote : List ℕ)
+    (malformed : Bool) → ReadsOwed t₀ t s₀ s bytes wrote malformed → IsUtf8 wrote
 handed_utf_8 t₀ t s₀ s bytes wrote malformed reads_owed =
     text_utf8 wrote (sequence_text reads_owed.done) reads_owed.scalars reads_owed.text
 
--- The chunk in the buffer: how much of it is left after a call, and that some is left where it is not all decoded.
+-- The chunk in the buffer: how much of it is left after a call, and that some is left where it is
+-- not all decoded.
 
-pub left_of : (filled at read : ℕ) (xs : List ℕ) → at ≤ filled → read ≤ length (take (filled - at) (drop at xs))
-    → drop read (take (filled - at) (drop at xs)) ≡ take (filled - (at + read)) (drop (at + read) xs)
+pub left_of : (filled at read : ℕ) (xs : List ℕ) → at ≤ filled
+    → read ≤ length (take (filled - at) (drop at xs))
+    → drop read (take (filled - at) (drop at xs))
+    ≡ take (filled - (at + read)) (drop (at + read) xs)
 left_of filled at read xs h r =
     let read_and_left : filled - at ≡ read + (filled - (at + read)) =
     omega (arith, h, r, length-take (filled - at) (drop at xs)) in
-    ap (λ n. drop read (take n (drop at xs))) read_and_left ∙ drop-take read (filled - (at + read)) (drop at xs)
+    ap (λ n. drop read (take n (drop at xs))) read_and_left
+    ∙ drop-take read (filled - (at + read)) (drop at xs)
     ∙ ap (take (filled - (at + read))) (drop-drop read at xs)
 
 not_all : (at filled : ℕ) → nat_eq at filled ≡ false → ¬ (at ≡ filled)
 not_all at filled h = grind (arith, nat_tests)
 
-some_left : (filled at : ℕ) (xs : List ℕ) (ended : Bool) → at ≤ filled → filled ≤ length xs → (nat_eq at filled && not ended) ≡ false → ended ≡ false
+some_left : (filled at : ℕ) (xs : List ℕ) (ended : Bool) → at ≤ filled → filled ≤ length xs
+    → (nat_eq at filled && not ended) ≡ false → ended ≡ false
     → 1 ≤ length (take (filled - at) (drop at xs))
 some_left filled at xs true h w e f = absurd (false≢true (sym f))
 some_left filled at xs false h w e f = elim (true_or_false (nat_eq at filled)) [
   | inl t ↦ (let no : true ≡ false = rw t at e in absurd (false≢true (sym no)))
-  | inr n ↦ (let other = not_all at filled n in omega (arith, other, h, w, length-take (filled - at) (drop at xs), length-drop at xs))
+  | inr n ↦ (let other = not_all at filled n in
+      omega (arith, other, h, w, length-take (filled - at) (drop at xs), length-drop at xs))
 ]
 
 pub some_text : (n : ℕ) (xs : List ℕ) → 0 < n → n ≤ length xs → take n xs ≡ [] → ⊥
 some_text n xs h w e = omega (arith, h, w, ap length e, length-take n xs)
 
 -- a turn that decodes it
-module _ {old new : DecoderState} (filled at : ℕ) {xs ys : List ℕ} {ended : Bool} {room : ℕ} (result : CoderResult)
+module _ {old new : DecoderState} (filled at : ℕ) {xs ys : List ℕ} {ended : Bool} {room : ℕ}
+    (result : CoderResult)
     {read : ℕ} {wrote : List ℕ} {replaced waits : Bool} where
-  pub IsTurn-chunk : DecodesReplacing encode_utf8 old new (take (filled - at) (drop at xs)) ended room result read wrote replaced → has_finished old ≡ false
-      → at ≤ filled → filled ≤ length xs → (nat_eq at filled && not ended) ≡ false → 4 ≤ room → ys ≡ xs
+  pub IsTurn-chunk : DecodesReplacing encode_utf8 old new (take (filled - at) (drop at xs)) ended
+      room result read wrote replaced → has_finished old ≡ false
+      → at ≤ filled → filled ≤ length xs → (nat_eq at filled && not ended) ≡ false → 4 ≤ room
+      → ys ≡ xs
       → (waits ≡ true → (wrote ≡ []) × (has_finished new ≡ false))
       → (waits ≡ false → wrote ≡ [] → has_finished new ≡ true)
       → IsTurn (record { decoder = old; unread = take (filled - at) (drop at xs); ended = ended })
-      (record { decoder = new; unread = take (filled - (at + read)) (drop (at + read) ys); ended = ended }) wrote replaced waits
+      (record {
+        decoder = new;
+        unread = take (filled - (at + read)) (drop (at + read) ys);
+        ended =
+            ended;
+      }) wrote replaced waits
   IsTurn-chunk decodes going within_filled w tested roomy same waiting text_or_end =
       let src : List ℕ = take (filled - at) (drop at xs) in
       let left = left_of filled at read xs within_filled decodes.call.within
       ∙ ap (λ zs. take (filled - (at + read)) (drop (at + read) zs)) (sym same) in
-      subst (λ u. IsTurn (record { decoder = old; unread = src; ended = ended }) (record { decoder = new; unread = u; ended = ended }) wrote replaced waits) left
+      subst (λ u. IsTurn (record { decoder = old; unread = src; ended = ended })
+      (record { decoder = new; unread = u; ended = ended }) wrote replaced waits) left
       (IsTurn-call old new src ended room result read wrote replaced waits decodes going
       (some_left filled at xs ended within_filled w tested) roomy waiting text_or_end)
 
@@ -276,14 +351,18 @@ opposite false b negated = ap not negated
 
 -- a call reads no more than the chunk has, and only the end of the source ends its decoder
 
-pub all_read : (filled at read : ℕ) (xs : List ℕ) → at ≤ filled → read ≤ length (take (filled - at) (drop at xs)) → at + read ≤ filled
+pub all_read : (filled at read : ℕ) (xs : List ℕ) → at ≤ filled
+    → read ≤ length (take (filled - at) (drop at xs)) → at + read ≤ filled
 all_read filled at read xs h r = omega (arith, h, r, length-take (filled - at) (drop at xs))
 
-module _ {old new : DecoderState} {src : List ℕ} {last : Bool} {room read : ℕ} {wrote : List ℕ} {replaced : Bool} where
+module _ {old new : DecoderState} {src : List ℕ} {last : Bool} {room read : ℕ} {wrote : List ℕ}
+    {replaced : Bool} where
   pub only_at_end : (result : CoderResult)
-      → DecodesReplacing encode_utf8 old new src last room result read wrote replaced → has_finished new ≡ true
+      → DecodesReplacing encode_utf8 old new src last room result read wrote replaced
+      → has_finished new ≡ true
       → last ≡ true
   only_at_end InputEmpty decodes is_finished =
       sym (finishes old new src last room InputEmpty read wrote replaced decodes) ∙ is_finished
   only_at_end OutputFull decodes is_finished =
-      absurd (false≢true (sym (finishes old new src last room OutputFull read wrote replaced decodes) ∙ is_finished))
+      absurd (false≢true (sym
+      (finishes old new src last room OutputFull read wrote replaced decodes) ∙ is_finished))

@@ -6,12 +6,18 @@ use Rattle.enc_reader.specs.Reading.{ReaderState}
 
 -- its decoder, the undecoded bytes in its buffer, and whether its source is at its end
 abbrev pub state_of : {T : Type 0} {S : _} → DecodeReader T S → ReaderState
-state_of r = record { decoder = r.decoder; unread = take (r.filled - r.at) (drop r.at r.input.now); ended = r.ended }
+state_of r = record {
+  decoder = r.decoder;
+  unread = take (r.filled - r.at) (drop r.at r.input.now);
+  ended = r.ended;
+}
 
--- The text that a read has handed out: the bytes before the undecoded ones in the reader's own buffer, or else the
--- first bytes of the buffer given.
+-- The text that a read has handed out: the bytes before the undecoded ones in the reader's own
+-- buffer, or else the first bytes of the buffer given.
 abbrev pub handed_text : {T : Type 0} {S : _} → DecodeReader T S → List ℕ → HandedText → List ℕ
-handed_text r dst handed = if handed.lent then take handed.len (drop (r.at - handed.len) r.input.now) else take handed.len dst
+handed_text r dst handed =
+    if handed.lent then take handed.len (drop (r.at - handed.len) r.input.now) else take handed.len
+    dst
 
 -- the number of bytes written to the buffer given
 abbrev pub written_len : HandedText → ℕ

@@ -1,5 +1,6 @@
 -- Reading text from a source through a buffer (Encoding Standard 6, "decode", a chunk at a time).
-use Rattle.std.specs.Prelude.{◌≡◌, ℕ, ◌+◌, ◌*◌, ◌-◌, ◌^◌, ◌≤◌, ◌⊎◌, min, Bool, true, false, ◌||◌, List, [], ◌++◌, length, Option, if◌then◌else◌}
+use Rattle.std.specs.Prelude.{◌≡◌, ℕ, ◌+◌, ◌*◌, ◌-◌, ◌^◌, ◌≤◌, ◌⊎◌, min, Bool, true, false, ◌||◌, List, [], ◌++◌}
+use Rattle.std.specs.Prelude.{length, Option, if◌then◌else◌}
 use Rattle.std.specs.Char.{encode_utf8}
 use Rattle.std.specs.Io.KnownBytes.{IsAtEnd}
 use Rattle.enc_units.specs.Output.{AreScalars, units_of_text}
@@ -10,8 +11,8 @@ use Rattle.enc_stream.specs.LifeCycle.{phase_of, mark_in, encoding_of_mark_or}
 use Rattle.enc_stream.specs.Decoding.{DecoderState, has_finished, fresh_decoder, remaining_sequences}
 use Rattle.enc_reader.specs.Source.{ConsumesRemaining, IsExhausted}
 
--- The state of a reader between two reads: its decoder, the bytes given by the source and not decoded yet, and whether
--- the source is at its end.
+-- The state of a reader between two reads: its decoder, the bytes given by the source and not
+-- decoded yet, and whether the source is at its end.
 pub record ReaderState : Type 0 where
   pub decoder : DecoderState
   pub unread : List ℕ
@@ -21,22 +22,26 @@ pub record ReaderState : Type 0 where
 abbrev pub fresh_reader : Encoding → ReaderState
 fresh_reader e = record { decoder = fresh_decoder Sniff e; unread = []; ended = false }
 
--- The sequences that a reader owes: those still to come if the source still gives exactly the bytes z. Their text is
--- still to be handed out.
+-- The sequences that a reader owes: those still to come if the source still gives exactly the bytes
+-- z. Their text is still to be handed out.
 abbrev pub owed_sequences : ReaderState → List ℕ → List Sequence
 owed_sequences s z = remaining_sequences s.decoder (s.unread ++ z)
 
--- The encoding of these sequences: that of the byte order mark that they begin with, if one may come, or else the
--- decoder's.
+-- The encoding of these sequences: that of the byte order mark that they begin with, if one may
+-- come, or else the decoder's.
 abbrev pub owed_encoding : ReaderState → List ℕ → Encoding
-owed_encoding s z = encoding_of_mark_or (mark_in (phase_of s.decoder.life) (s.decoder.pending ++ (s.unread ++ z))) s.decoder.encoding
+owed_encoding s z = encoding_of_mark_or
+    (mark_in (phase_of s.decoder.life) (s.decoder.pending ++ (s.unread ++ z))) s.decoder.encoding
 
--- The distance of a reader from the end: two for each undecoded byte, one for each pending byte, and one for the end.
+-- The distance of a reader from the end: two for each undecoded byte, one for each pending byte,
+-- and one for the end.
 abbrev pub distance_to_end : ReaderState → ℕ
-distance_to_end s = if has_finished s.decoder then 0 else 1 + (2 * length s.unread + length s.decoder.pending)
+distance_to_end s = if has_finished s.decoder then 0 else 1
+    + (2 * length s.unread + length s.decoder.pending)
 
 -- A part of a read, in which the source gives `bytes`, and the text `wrote` is handed out.
-pub record ReadsOwed (remaining_before remaining_after : Option (List ℕ)) (old new : ReaderState) (bytes wrote : List ℕ) (malformed : Bool) : Type 0 where
+pub record ReadsOwed (remaining_before remaining_after : Option (List ℕ)) (old new : ReaderState)
+    (bytes wrote : List ℕ) (malformed : Bool) : Type 0 where
   pub given : ConsumesRemaining remaining_before remaining_after bytes
   -- After its end the source gives nothing.
   pub none_after : old.ended ≡ true → (bytes ≡ []) × (new.ended ≡ true)
@@ -44,7 +49,8 @@ pub record ReadsOwed (remaining_before remaining_after : Option (List ℕ)) (old
   pub done : List Sequence
   pub residual : (z : List ℕ) → (new.ended ≡ true → z ≡ [])
       → owed_sequences old (bytes ++ z) ≡ done ++ owed_sequences new z
-  pub encoding : (z : List ℕ) → (new.ended ≡ true → z ≡ []) → owed_encoding new z ≡ owed_encoding old (bytes ++ z)
+  pub encoding : (z : List ℕ) → (new.ended ≡ true → z ≡ [])
+      → owed_encoding new z ≡ owed_encoding old (bytes ++ z)
   -- The text handed out is that of the sequences done, in whole characters.
   pub scalars : AreScalars (sequence_text done)
   pub text : wrote ≡ units_of_text encode_utf8 (sequence_text done)
@@ -52,9 +58,10 @@ pub record ReadsOwed (remaining_before remaining_after : Option (List ℕ)) (old
   -- If it is not empty, the reader comes nearer to the end.
   pub nearer : distance_to_end new + min 1 (length wrote) ≤ distance_to_end old + 2 * length bytes
 
--- A read that returns `Ok`. The reader remembers whether U+FFFD was handed out for a malformed sequence. After its end
--- the source has no more bytes.
-pub record HandsOut (remaining_before remaining_after : Option (List ℕ)) (old new : ReaderState) (wrote : List ℕ) (had_before had_after : Bool) : Type 0 where
+-- A read that returns `Ok`. The reader remembers whether U+FFFD was handed out for a malformed
+-- sequence. After its end the source has no more bytes.
+pub record HandsOut (remaining_before remaining_after : Option (List ℕ)) (old new : ReaderState)
+    (wrote : List ℕ) (had_before had_after : Bool) : Type 0 where
   pub bytes : List ℕ
   pub malformed : Bool
   pub reads : ReadsOwed remaining_before remaining_after old new bytes wrote malformed
@@ -68,9 +75,10 @@ pub record IsReaderAtEnd (remaining : Option (List ℕ)) (s : ReaderState) : Typ
   pub finished : has_finished s.decoder ≡ true
   pub none_owed : owed_sequences s [] ≡ []
 
--- A read that fails: it hands out nothing and has seen no end. The source, which had not failed before, failed in this
--- read, or gave at least 2^64 - 1 bytes.
-pub record FailsToRead (remaining_before remaining_after : Option (List ℕ)) (failed_before failed_after : Bool) (old new : ReaderState) : Type 0 where
+-- A read that fails: it hands out nothing and has seen no end. The source, which had not failed
+-- before, failed in this read, or gave at least 2^64 - 1 bytes.
+pub record FailsToRead (remaining_before remaining_after : Option (List ℕ))
+    (failed_before failed_after : Bool) (old new : ReaderState) : Type 0 where
   pub bytes : List ℕ
   pub malformed : Bool
   pub reads : ReadsOwed remaining_before remaining_after old new bytes [] malformed

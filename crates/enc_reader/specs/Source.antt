@@ -1,4 +1,5 @@
--- Sources of bytes, by the bytes still to come. A source that models none still models none after a read.
+-- Sources of bytes, by the bytes still to come. A source that models none still models none after a
+-- read.
 use Rattle.std.specs.Prelude.{◌≡◌, ℕ, List, [], Option, option_map}
 use Rattle.std.specs.Io.KnownBytes.{prepend_known}
 

@@ -14,24 +14,27 @@ pub record IsWaiting (s : ReaderState) : Type 0 where
   pub going : has_finished s.decoder ≡ false
 
 -- A chunk is pulled: some bytes, or the end of the source.
-pub record PullsChunk (remaining_before remaining_after : Option (List ℕ)) (old new : ReaderState) : Type 0 where
+pub record PullsChunk (remaining_before remaining_after : Option (List ℕ)) (old new : ReaderState) :
+    Type 0 where
   pub bytes : List ℕ
   pub reads : ReadsOwed remaining_before remaining_after old new bytes [] false
   pub some : new.ended ≡ false → 0 < length bytes
 
 -- A turn hands out text, is at the end, or waits for more bytes. The source gives none in it.
 pub record IsTurn (old new : ReaderState) (wrote : List ℕ) (replaced waits : Bool) : Type 0 where
-  pub reads : (remaining : Option (List ℕ)) → ReadsOwed remaining remaining old new [] wrote replaced
+  pub reads : (remaining : Option (List ℕ))
+      → ReadsOwed remaining remaining old new [] wrote replaced
   pub waiting : waits ≡ true → IsWaiting new
   pub text_or_end : waits ≡ false → wrote ≡ [] → has_finished new.decoder ≡ true
 
 -- A chunk is pulled if every byte is decoded. Nothing is handed out.
-pub record FillsBuffer (remaining_before remaining_after : Option (List ℕ)) (old new : ReaderState) : Type 0 where
+pub record FillsBuffer (remaining_before remaining_after : Option (List ℕ))
+    (old new : ReaderState) : Type 0 where
   pub bytes : List ℕ
   pub reads : ReadsOwed remaining_before remaining_after old new bytes [] false
 
--- ASCII bytes that come next, to a decoder between two sequences of an ASCII-compatible encoding. They are their own
--- text.
+-- ASCII bytes that come next, to a decoder between two sequences of an ASCII-compatible encoding.
+-- They are their own text.
 pub record IsOwnText (d : DecoderState) (bytes : List ℕ) : Type 0 where
   pub between : DecoderMayBeLatin1 d
   pub compatible : IsAsciiCompatible (rule_of d.encoding)

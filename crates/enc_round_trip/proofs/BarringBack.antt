@@ -1,4 +1,5 @@
--- Text is read back whatever is barred: a text without an unmappable character has none that is barred.
+-- Text is read back whatever is barred: a text without an unmappable character has none that is
+-- barred.
 use Rattle.std.proofs.Common.{◌≡◌, ℕ, Bool, true, false, is_some, not, ◌||◌, Option, Some, None, List, [], ◌∷◌, ◌++◌}
 use Rattle.std.proofs.Common.{refl, ap, sym, ◌∙◌, if◌then◌else◌}
 use Rattle.enc_decoder.specs.Segmentation.{Rule}
@@ -11,7 +12,8 @@ use Rattle.enc_round_trip.proofs.ReadBackLemmas.{IsReadBack, first_mapped}
 
 -- a character that has bytes has those of the encoding without the list
 
-not_barred : (t : Bool) (x : Option (List ℕ)) → is_some (if t then None else x) ≡ true → (if t then None else x) ≡ x
+not_barred : (t : Bool) (x : Option (List ℕ)) → is_some (if t then None else x) ≡ true
+    → (if t then None else x) ≡ x
 not_barred true x h = cc
 not_barred false x h = refl
 
@@ -19,18 +21,21 @@ same_bytes : (b : List ℕ) (bytes : ℕ → Option (List ℕ)) (c : ℕ)
     → is_some (bytes_unless_barred b bytes c) ≡ true → bytes_unless_barred b bytes c ≡ bytes c
 same_bytes b bytes c h = not_barred (is_barred b c) (bytes c) h
 
-found : (t : Bool) (x : Option (List ℕ)) (b : List ℕ) → (if t then None else x) ≡ Some b → x ≡ Some b
+found : (t : Bool) (x : Option (List ℕ)) (b : List ℕ) → (if t then None else x) ≡ Some b
+    → x ≡ Some b
 found true x b e = cc
 found false x b e = e
 
 pub except_is_read : (b : List ℕ) (rule : Rule) (bytes : ℕ → Option (List ℕ)) (back : ℕ → ℕ)
     → IsReadBack rule bytes back → IsReadBack rule (bytes_unless_barred b bytes) back
-except_is_read b rule bytes back h = record { each = λ c s x e. h.each c s x (found (is_barred b c) (bytes c) x e) }
+except_is_read b rule bytes back h =
+    record { each = λ c s x e. h.each c s x (found (is_barred b c) (bytes c) x e) }
 
 -- and so has a text
 
 module _ (b : List ℕ) (e : EncoderRule) where
-  pub still_mapped : (t : List ℕ) → any_unmappable (barring_rule b e) t ≡ false → any_unmappable e t ≡ false
+  pub still_mapped : (t : List ℕ) → any_unmappable (barring_rule b e) t ≡ false
+      → any_unmappable e t ≡ false
   still_mapped [] m = refl
   still_mapped (c ∷ t) m =
       let both = first_mapped (barring_rule b e) c t m in
@@ -38,12 +43,15 @@ module _ (b : List ℕ) (e : EncoderRule) where
       ap (λ (x : Option (List ℕ)). not (is_some x) || any_unmappable e t) (sym same)
       ∙ ap (λ x. not x || any_unmappable e t) both.0 ∙ still_mapped t both.1
 
-  pub same_bytes_after : (s : CharacterSet) (u t : List ℕ) → any_unmappable (barring_rule b e) t ≡ false
+  pub same_bytes_after : (s : CharacterSet) (u t : List ℕ)
+      → any_unmappable (barring_rule b e) t ≡ false
       → bytes_after_text (barring_rule b e) s u t ≡ bytes_after_text e s u t
   same_bytes_after s u [] m = refl
   same_bytes_after s u (c ∷ t) m =
       let both = first_mapped (barring_rule b e) c t m in
       let front = escape_before e (e.set_after s u) c in
-      ap (λ (x : Option (List ℕ)). front ++ (list_or_empty x ++ bytes_after_text (barring_rule b e) s (u ++ c ∷ []) t))
+      ap (λ (x : Option (List ℕ)). front
+      ++ (list_or_empty x ++ bytes_after_text (barring_rule b e) s (u ++ c ∷ []) t))
       (same_bytes b e.bytes c both.0)
-      ∙ ap (λ x. front ++ (list_or_empty (e.bytes c) ++ x)) (same_bytes_after s (u ++ c ∷ []) t both.1)
+      ∙ ap (λ x. front ++ (list_or_empty (e.bytes c) ++ x))
+      (same_bytes_after s (u ++ c ∷ []) t both.1)

@@ -29,7 +29,8 @@ low_piece b l =
     (ap (λ t. first_prefix t (euc_jp_single_char b)) no_lead
     ∙ ap single_prefix (cond-true _ _ _ (lt-ltb b 0x80 l)))
 
-pair_piece : (a b c : ℕ) → is_euc_jp_lead a ≡ true → (a == 0x8F) ≡ false → read_pair a b ≡ Some c → Piece (a ∷ b ∷ []) c
+pair_piece : (a b c : ℕ) → is_euc_jp_lead a ≡ true → (a == 0x8F) ≡ false → read_pair a b ≡ Some c
+    → Piece (a ∷ b ∷ []) c
 pair_piece a b c l n e =
     complete_two euc_jp_prefix a b c (ap (λ t. first_prefix t (euc_jp_single_char a)) l)
     (cond-false _ _ _ (and_left _ _ n) ∙ ap (λ o. trail_prefix 1 b (text_of_char o)) e)
@@ -47,15 +48,18 @@ two_read : (a b c : ℕ) → 0xA1 ≤ a → a ≤ 0xFE → 0xA1 ≤ b → b ≤ 
     → jis0208_at (euc_pair_pointer a b) ≡ Some c → read_pair a b ≡ Some c
 two_read a b c k l m n e =
     let other : (a == 0x8E) ≡ false = grind (arith, nat_tests) in
-    cond-false _ _ _ other ∙ cond-true _ _ _ (and_from _ _ (within 0xA1 0xFE a k l) (within 0xA1 0xFE b m n)) ∙ e
+    cond-false _ _ _ other
+    ∙ cond-true _ _ _ (and_from _ _ (within 0xA1 0xFE a k l) (within 0xA1 0xFE b m n)) ∙ e
 
 two_piece : (c p : ℕ) → IsPointer jis0208_at any_pointer 8836 c p → Piece (euc_jp_pair_bytes p) c
 two_piece c p has_pointer =
     let below = has_pointer.below in
     let same : (p / 94 + 0xA1 - 0xA1) * 94 + (p % 94 + 0xA1 - 0xA1) ≡ p = omega arith in
     let other : (p / 94 + 0xA1 == 0x8F) ≡ false = differs (p / 94) in
-    pair_piece (p / 94 + 0xA1) (p % 94 + 0xA1) c (is_lead (p / 94 + 0xA1) (omega arith) (omega arith)) other
-    (two_read (p / 94 + 0xA1) (p % 94 + 0xA1) c (omega arith) (omega arith) (omega arith) (omega arith)
+    pair_piece (p / 94 + 0xA1) (p % 94 + 0xA1) c
+    (is_lead (p / 94 + 0xA1) (omega arith) (omega arith)) other
+    (two_read (p / 94 + 0xA1) (p % 94 + 0xA1) c (omega arith) (omega arith) (omega arith)
+    (omega arith)
     (ap jis0208_at same ∙ has_pointer.has))
   where
     differs : (n : ℕ) → (n + 0xA1 == 0x8F) ≡ false
@@ -66,7 +70,8 @@ two_piece c p has_pointer =
 itself : (c : ℕ) → (c == 0x2212) ≡ false → c ≡ with_fullwidth_minus c
 itself c n = sym (cond-false _ _ _ n)
 
-beyond : (c : ℕ) (b : List ℕ) → euc_jp_other c ≡ Some b → Piece b (ascii_twin_or with_fullwidth_minus c)
+beyond : (c : ℕ) (b : List ℕ) → euc_jp_other c ≡ Some b
+    → Piece b (ascii_twin_or with_fullwidth_minus c)
 beyond c b =
     latin_is_read (multi_byte_rule euc_jp_prefix) _ with_fullwidth_minus c b low_piece
     (λ yen line. by_test (is_halfwidth_katakana c) _ _ b
@@ -75,11 +80,14 @@ beyond c b =
     (katakana_piece c k)))
     (λ k. by_pointer (λ x. Piece x (with_fullwidth_minus c)) euc_jp_pair_bytes
     (jis0208_pointer (with_fullwidth_minus c)) b
-    (λ p f. two_piece (with_fullwidth_minus c) p (at_jis0208_pointer (with_fullwidth_minus c) p f))))
+    (λ p f. two_piece (with_fullwidth_minus c) p
+    (at_jis0208_pointer (with_fullwidth_minus c) p f))))
 
-pub euc_jp_is_read : IsReadBack (multi_byte_rule euc_jp_prefix) euc_jp_bytes (ascii_twin_or with_fullwidth_minus)
+pub euc_jp_is_read : IsReadBack (multi_byte_rule euc_jp_prefix) euc_jp_bytes
+    (ascii_twin_or with_fullwidth_minus)
 euc_jp_is_read =
-    with_ascii_is_read (multi_byte_rule euc_jp_prefix) euc_jp_other (ascii_twin_or with_fullwidth_minus)
+    with_ascii_is_read (multi_byte_rule euc_jp_prefix) euc_jp_other
+    (ascii_twin_or with_fullwidth_minus)
     (λ c l. same_char _ 0 (c ∷ []) c (ascii_twin_or with_fullwidth_minus c)
     (itself c (grind (arith, nat_tests)) ∙ low_not_latin with_fullwidth_minus c (omega arith))
     (low_piece c l))

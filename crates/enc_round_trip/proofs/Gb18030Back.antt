@@ -49,10 +49,12 @@ no_digit : (cell : ℕ) → cell < 190 → decoder.is_digit (gb18030_trail_byte 
 no_digit cell l = grind (arith, nat_tests)
 
 cell_of : (cell : ℕ) → cell < 190
-    → gb18030_trail_byte cell - (if nat_lt (gb18030_trail_byte cell) 0x7F then 0x40 else 0x41) ≡ cell
+    → gb18030_trail_byte cell - (if nat_lt (gb18030_trail_byte cell) 0x7F then 0x40 else 0x41)
+    ≡ cell
 cell_of cell l = grind (arith, nat_tests)
 
-two_pointer : (p : ℕ) → decoder.gb18030_pair_pointer (p / 190 + 0x81) (gb18030_trail_byte (p % 190)) ≡ p
+two_pointer : (p : ℕ) →
+    decoder.gb18030_pair_pointer (p / 190 + 0x81) (gb18030_trail_byte (p % 190)) ≡ p
 two_pointer p = omega (arith, cell_of (p % 190) (omega arith))
 
 two_read : (c p : ℕ) → IsPointer gb18030_at any_pointer 23940 c p
@@ -75,31 +77,45 @@ two_at c p f = is_pointer gb18030_at any_pointer no_character 23940 c p f
 
 -- four bytes
 
-four_complete : (a b c d ch : ℕ) → 0x81 ≤ a → a ≤ 0xFE → 0x30 ≤ b → b ≤ 0x39 → 0x81 ≤ c → c ≤ 0xFE → 0x30 ≤ d → d ≤ 0x39
-    → decoder.ranges_code_point (decoder.four_byte_pointer a b c d) ≡ Some ch → Piece (a ∷ b ∷ c ∷ d ∷ []) ch
+four_complete : (a b c d ch : ℕ) → 0x81 ≤ a → a ≤ 0xFE → 0x30 ≤ b → b ≤ 0x39 → 0x81 ≤ c → c ≤ 0xFE
+    → 0x30 ≤ d → d ≤ 0x39
+    → decoder.ranges_code_point (decoder.four_byte_pointer a b c d) ≡ Some ch
+    → Piece (a ∷ b ∷ c ∷ d ∷ []) ch
 four_complete a b c d ch al ah bl bh cl ch' dl dh e y =
-    settled_first decoder.gb18030_prefix 0 (a ∷ b ∷ c ∷ []) d y 4 (One ch) Valid
-    (leads a al ah, (cond-true _ _ _ (within 0x30 0x39 b bl bh), (cond-true _ _ _ (within 0x81 0xFE c cl ch'), tt)))
+    settled_first decoder.gb18030_prefix 0 (a ∷ b ∷ c ∷ []) d y 4 (One ch) Valid (
+      leads a al ah,
+      (
+        cond-true _ _ _ (within 0x30 0x39 b bl bh),
+        (cond-true _ _ _ (within 0x81 0xFE c cl ch'), tt),
+      ),
+    )
     (settles_complete decoder.gb18030_prefix (a ∷ b ∷ c ∷ d ∷ []) (One ch) (omega arith)
     (cond-true _ _ _ (within 0x30 0x39 d dl dh) ∙ ap decoder.four_byte_prefix e))
 
 four_pointer : (p : ℕ)
-    → decoder.four_byte_pointer (p / 12600 + 0x81) (p % 12600 / 1260 + 0x30) (p % 1260 / 10 + 0x81) (p % 10 + 0x30) ≡ p
+    → decoder.four_byte_pointer (p / 12600 + 0x81) (p % 12600 / 1260 + 0x30) (p % 1260 / 10 + 0x81)
+    (p % 10 + 0x30) ≡ p
 four_pointer p = omega arith
 
-four_piece : (c p : ℕ) → p < 1237576 → decoder.ranges_code_point p ≡ Some c → Piece (gb18030_four_bytes p) c
+four_piece : (c p : ℕ) → p < 1237576 → decoder.ranges_code_point p ≡ Some c
+    → Piece (gb18030_four_bytes p) c
 four_piece c p l e =
-    four_complete (p / 12600 + 0x81) (p % 12600 / 1260 + 0x30) (p % 1260 / 10 + 0x81) (p % 10 + 0x30) c
-    (omega arith) (omega arith) (omega arith) (omega arith) (omega arith) (omega arith) (omega arith) (omega arith)
+    four_complete (p / 12600 + 0x81) (p % 12600 / 1260 + 0x30) (p % 1260 / 10 + 0x81)
+    (p % 10 + 0x30) c
+    (omega arith) (omega arith) (omega arith) (omega arith) (omega arith) (omega arith)
+    (omega arith) (omega arith)
     (ap decoder.ranges_code_point (four_pointer p) ∙ e)
 
-in_ranges : (c p : ℕ) → IsPointer gb18030_ranges_at is_ranges_pointer 1237576 c p → decoder.ranges_code_point p ≡ Some c
+in_ranges : (c p : ℕ) → IsPointer gb18030_ranges_at is_ranges_pointer 1237576 c p
+    → decoder.ranges_code_point p ≡ Some c
 in_ranges c p has_pointer =
     let below = has_pointer.below in
     let counted = has_pointer.counted in
-    cond-false _ _ _ (not_beyond p below counted) ∙ cond-false _ _ _ (not_alone p counted) ∙ has_pointer.has
+    cond-false _ _ _ (not_beyond p below counted) ∙ cond-false _ _ _ (not_alone p counted)
+    ∙ has_pointer.has
   where
-    not_beyond : (p : ℕ) → p < 1237576 → is_ranges_pointer p ≡ true → decoder.is_beyond_ranges p ≡ false
+    not_beyond : (p : ℕ) → p < 1237576 → is_ranges_pointer p ≡ true
+        → decoder.is_beyond_ranges p ≡ false
     not_beyond p l n = grind (arith, nat_tests)
 
     not_alone : (p : ℕ) → is_ranges_pointer p ≡ true → (p == 7457) ≡ false
@@ -107,12 +123,14 @@ in_ranges c p has_pointer =
 
 -- the pointer 7457 has U+E7C7
 four_at : (c p : ℕ) (t : Bool) → (c == 0xE7C7) ≡ t
-    → cond t (Some 7457) (pointer_of gb18030_ranges_at is_ranges_pointer no_character 1237576 c) ≡ Some p
+    → cond t (Some 7457) (pointer_of gb18030_ranges_at is_ranges_pointer no_character 1237576 c)
+    ≡ Some p
     → Piece (gb18030_four_bytes p) c
 four_at c p true t e =
     let same : 7457 ≡ p = cc in
     let char : 0xE7C7 ≡ c = grind (arith, nat_tests) in
-    subst (λ q. Piece (gb18030_four_bytes q) c) same (four_piece c 7457 (omega arith) (ap Some char))
+    subst (λ q. Piece (gb18030_four_bytes q) c) same
+    (four_piece c 7457 (omega arith) (ap Some char))
 four_at c p false t e =
     let has_pointer = is_pointer gb18030_ranges_at is_ranges_pointer no_character 1237576 c p e in
     four_piece c p has_pointer.below (in_ranges c p has_pointer)
@@ -128,8 +146,10 @@ two_or_four_read : (is_gbk : Bool) (c : ℕ) (o : Option ℕ) (b : List ℕ) →
 two_or_four_read is_gbk c (Some p) b q e =
     same_bytes (λ x. Piece x c) (gb18030_pair_bytes p) b (two_piece c p (two_at c p q)) e
 two_or_four_read is_gbk c None b q e =
-    by_test is_gbk None (bytes_of_pointer gb18030_four_bytes (gb18030_ranges_pointer c)) b (λ t f. no_bytes b f)
-    (λ t f. by_pointer (λ x. Piece x c) gb18030_four_bytes (gb18030_ranges_pointer c) b (four c) f) e
+    by_test is_gbk None (bytes_of_pointer gb18030_four_bytes (gb18030_ranges_pointer c)) b
+    (λ t f. no_bytes b f)
+    (λ t f. by_pointer (λ x. Piece x c) gb18030_four_bytes (gb18030_ranges_pointer c) b (four c) f)
+    e
 
 beyond : (is_gbk : Bool) (c : ℕ) (b : List ℕ) → gb18030_other is_gbk c ≡ Some b → Piece b c
 beyond is_gbk c b e =
@@ -137,7 +157,8 @@ beyond is_gbk c b e =
     (λ n g. by_test (is_gbk && c == 0x20AC) _ _ b
     (λ t f. (let is_euro = second_so is_gbk (c == 0x20AC) t in
     let euro_is : 0x20AC ≡ c = grind (arith, nat_tests) in
-    same_bytes (λ x. Piece x c) (0x80 ∷ []) b (same_char _ 0 (0x80 ∷ []) 0x20AC c euro_is euro_piece) f))
+    same_bytes (λ x. Piece x c) (0x80 ∷ []) b
+    (same_char _ 0 (0x80 ∷ []) 0x20AC c euro_is euro_piece) f))
     (λ m f. two_or_four_read is_gbk c (gb18030_pointer c) b refl f) g) e
 
 pub gb18030_is_read : (is_gbk : Bool)

@@ -1,4 +1,5 @@
--- The characters that ISO-2022-JP gives back: escape sequences have no text, and none follows another directly.
+-- The characters that ISO-2022-JP gives back: escape sequences have no text, and none follows
+-- another directly.
 use Rattle.std.proofs.Common.{◌≡◌, ℕ, ◌+◌, ◌-◌, ◌*◌, ◌/◌, ◌%◌, ◌<◌, ◌≤◌, Bool, true, false, cond, eqb, nat_lt, ◌&&◌}
 use Rattle.std.proofs.Common.{◌||◌, ◌==◌, not, is_some, Option, Some, None, List, [], ◌∷◌, ◌++◌, map, refl, ap, sym}
 use Rattle.std.proofs.Common.{subst, ◌∙◌, ◌⊎◌, arith, inl, inr}
@@ -56,27 +57,31 @@ skipped_is_read set e z t n rest_is_read =
           ∙ rest_is_read.text;
     }
 
-after_escape : (set : ℕ) (s : CharacterSet) (z t : List ℕ) → designated_set z ≡ None → IsReadAs jp_rule (number s) z t
+after_escape : (set : ℕ) (s : CharacterSet) (z t : List ℕ) → designated_set z ≡ None
+    → IsReadAs jp_rule (number s) z t
     → IsReadAs jp_rule set (escape_sequence s ++ z) t
 after_escape set Ascii = skipped_is_read set ToAscii
 after_escape set Roman = skipped_is_read set ToRoman
 after_escape set Jis0208 = skipped_is_read set ToJis0208Of1983
 
--- A character's bytes are read in the set in which it is written, and begin with no escape sequence.
+-- A character's bytes are read in the set in which it is written, and begin with no escape
+-- sequence.
 record IsReadIn (s : CharacterSet) (b : List ℕ) (c : ℕ) : Type 0 where
   piece : IsWholeChar jp_rule (number s) b c
   plain : (y : List ℕ) → designated_set (b ++ y) ≡ None
 
 one_read : (s : CharacterSet) (b c : ℕ) → one_byte_char (as_read s) b ≡ Some c
     → is_lead_byte (as_read s) b ≡ false → eqb b 0x1B ≡ false → IsReadIn s (b ∷ []) c
-one_read s b c e l n = record { piece = alone_piece (as_read s) b c e l; plain = λ y. other_front b y n }
+one_read s b c e l n =
+    record { piece = alone_piece (as_read s) b c e l; plain = λ y. other_front b y n }
 
 -- The set in which a character is written has it: which sets these are, by the character.
 
 has : CharacterSet → ℕ → Bool
 has s c = has_class s (class_of c)
 
-latin_set : (s : CharacterSet) (c : ℕ) → (c == 0x5C || c == 0x7E) ≡ true → has s c ≡ true → s ≡ Ascii
+latin_set : (s : CharacterSet) (c : ℕ) → (c == 0x5C || c == 0x7E) ≡ true → has s c ≡ true
+    → s ≡ Ascii
 unfolding has
 latin_set Ascii c k h = refl
 latin_set Roman c k h = let impossible = rw k at h in cc
@@ -126,7 +131,8 @@ in_roman c l not_shift k =
     let reads_ascii = is_ascii c l not_shift in
     let not_backslash = either.0 in
     let not_tilde = either.1 in
-    one_read Roman c c (rw (not_backslash, not_tilde, reads_ascii) refl) refl (no_escape c not_shift)
+    one_read Roman c c (rw (not_backslash, not_tilde, reads_ascii) refl) refl
+    (no_escape c not_shift)
 
 yen_read : IsReadIn Roman (0x5C ∷ []) 0xA5
 unfolding one_byte_char is_lead_byte
@@ -144,15 +150,18 @@ unfolding two_byte_char is_lead_byte
 two_read a b c k l m n e =
     let other : eqb a 0x1B ≡ false = grind (arith, nat_tests) in
     record {
-      piece = pair_piece read.Jis0208 a b c (cond-true _ _ _ (within 0x21 0x7E b m n) ∙ e) (within 0x21 0x7E a k l);
+      piece = pair_piece read.Jis0208 a b c (cond-true _ _ _ (within 0x21 0x7E b m n) ∙ e)
+          (within 0x21 0x7E a k l);
       plain = λ y. other_front a (b ∷ y) other;
     }
 
-kanji_read : (c p : ℕ) → IsPointer jis0208_at any_pointer 8836 c p → IsReadIn Jis0208 (jis0208_pair_bytes p) c
+kanji_read : (c p : ℕ) → IsPointer jis0208_at any_pointer 8836 c p
+    → IsReadIn Jis0208 (jis0208_pair_bytes p) c
 kanji_read c p has_pointer =
     let below = has_pointer.below in
     let same : (p / 94 + 0x21 - 0x21) * 94 + (p % 94 + 0x21 - 0x21) ≡ p = omega arith in
-    two_read (p / 94 + 0x21) (p % 94 + 0x21) c (omega arith) (omega arith) (omega arith) (omega arith)
+    two_read (p / 94 + 0x21) (p % 94 + 0x21) c (omega arith) (omega arith) (omega arith)
+    (omega arith)
     (ap jis0208_at same ∙ has_pointer.has)
 
 -- all characters
@@ -189,18 +198,22 @@ char_read : (s : CharacterSet) (c : ℕ) (b : List ℕ) → has s c ≡ true →
 char_read s c b has_char e =
     by_test (nat_lt c 0x80) _ _ b
     (λ t. by_test (is_shift c) None (Some (c ∷ [])) b (λ n f. no_bytes b f)
-    (λ n f. same_bytes (λ x. IsReadIn s x (lookup_char c)) (c ∷ []) b (low_read s c has_char t n) f))
+    (λ n f. same_bytes (λ x. IsReadIn s x (lookup_char c)) (c ∷ []) b (low_read s c has_char t n)
+    f))
     (λ l. by_test (c == 0xA5) _ _ b
     (λ t f. (let is_yen : 0xA5 ≡ c = grind (arith, nat_tests) in
     same_bytes (λ x. IsReadIn s x (lookup_char c)) (0x5C ∷ []) b
-    (there s Roman (0x5C ∷ []) (lookup_char c) (roman_set s c (no_latin c l) l (or_left _ _ t) has_char)
+    (there s Roman (0x5C ∷ []) (lookup_char c)
+    (roman_set s c (no_latin c l) l (or_left _ _ t) has_char)
     (valued Roman (0x5C ∷ []) 0xA5 (lookup_char c) (ap lookup_char is_yen) yen_read)) f))
     (λ yen. by_test (c == 0x203E) _ _ b
     (λ t f. (let is_line : 0x203E ≡ c = grind (arith, nat_tests) in
     same_bytes (λ x. IsReadIn s x (lookup_char c)) (0x7E ∷ []) b
-    (there s Roman (0x7E ∷ []) (lookup_char c) (roman_set s c (no_latin c l) l (or_right _ _ t) has_char)
+    (there s Roman (0x7E ∷ []) (lookup_char c)
+    (roman_set s c (no_latin c l) l (or_right _ _ t) has_char)
     (valued Roman (0x7E ∷ []) 0x203E (lookup_char c) (ap lookup_char is_line) line_read)) f))
-    (λ line f. by_pointer (λ x. IsReadIn s x (lookup_char c)) jis0208_pair_bytes (jis0208_pointer (lookup_char c)) b
+    (λ line f. by_pointer (λ x. IsReadIn s x (lookup_char c)) jis0208_pair_bytes
+    (jis0208_pointer (lookup_char c)) b
     (λ p g. there s Jis0208 (jis0208_pair_bytes p) (lookup_char c)
     (kanji_set s c (no_latin c l) l (or_from _ _ yen line) has_char)
     (kanji_read (lookup_char c) p (at_jis0208_pointer (lookup_char c) p g))) f))) e
@@ -224,11 +237,14 @@ step : (s : CharacterSet) (c : ℕ) (y t : List ℕ) (is_there : Bool) → has s
     (cond is_there [] (escape_sequence (set_of_class (class_of c)))
     ++ (list_or_empty (iso_2022_jp_bytes c) ++ y)) (lookup_char c ∷ t)
 unfolding has
-step s c y t true e m h = char_then s _ y t (lookup_char c) (one s c (iso_2022_jp_bytes c) e refl m) h
+step s c y t true e m h =
+    char_then s _ y t (lookup_char c) (one s c (iso_2022_jp_bytes c) e refl m) h
 step s c y t false e m h =
     let designated = set_of_class (class_of c) in
-    let one_step = one designated c (iso_2022_jp_bytes c) (iso_2022_jp_is_lawful.designates c) refl m in
-    after_escape (number s) designated (list_or_empty (iso_2022_jp_bytes c) ++ y) (lookup_char c ∷ t) (one_step.plain y)
+    let one_step = one designated c (iso_2022_jp_bytes c) (iso_2022_jp_is_lawful.designates c) refl
+    m in
+    after_escape (number s) designated (list_or_empty (iso_2022_jp_bytes c) ++ y)
+    (lookup_char c ∷ t) (one_step.plain y)
     (char_then designated _ y t (lookup_char c) one_step h)
 
 ends : (s : CharacterSet) → IsReadAs jp_rule (number s) (escape_at_end s) []
@@ -246,7 +262,8 @@ suffix_is_read u (c ∷ t) m =
     let rest = bytes_after_text iso_2022_jp_encoder_rule Ascii (u ++ c ∷ []) t in
     let both = first_mapped iso_2022_jp_encoder_rule c t m in
     step set_now c rest (map lookup_char t) (has set_now c) refl both.0
-    (subst (λ x. IsReadAs jp_rule (number x) rest (map lookup_char t)) (iso_2022_jp_is_lawful.set_after_more Ascii u c)
+    (subst (λ x. IsReadAs jp_rule (number x) rest (map lookup_char t))
+    (iso_2022_jp_is_lawful.set_after_more Ascii u c)
     (suffix_is_read (u ++ c ∷ []) t both.1))
 
 pub iso_2022_jp_is_read : (t : List ℕ) → any_unmappable iso_2022_jp_encoder_rule t ≡ false

@@ -13,7 +13,8 @@ use Rattle.enc_round_trip.specs.RoundTrip.{ascii_twin_or}
 use Rattle.enc_round_trip.proofs.ReadBackLemmas.{by_test, same_bytes, same_char}
 use Rattle.enc_round_trip.proofs.PointerLemmas.{IsPointer, is_pointer}
 
-pub at_jis0208_pointer : (c p : ℕ) → jis0208_pointer c ≡ Some p → IsPointer jis0208_at any_pointer 8836 c p
+pub at_jis0208_pointer : (c p : ℕ) → jis0208_pointer c ≡ Some p
+    → IsPointer jis0208_at any_pointer 8836 c p
 unfolding jis0208_pointer
 at_jis0208_pointer c p f = is_pointer jis0208_at any_pointer no_character 8836 c p f
 
@@ -33,7 +34,8 @@ pub katakana_byte_is_read : (c : ℕ) → is_halfwidth_katakana c ≡ true
 katakana_byte_is_read c k = katakana_is_read c (grind (arith, nat_tests)) (grind (arith, nat_tests))
 
 -- a character other than U+00A5 and U+203E
-pub not_latin : (f : ℕ → ℕ) (c : ℕ) → (c == 0xA5) ≡ false → (c == 0x203E) ≡ false → f c ≡ ascii_twin_or f c
+pub not_latin : (f : ℕ → ℕ) (c : ℕ) → (c == 0xA5) ≡ false → (c == 0x203E) ≡ false
+    → f c ≡ ascii_twin_or f c
 not_latin f c yen line = sym (cond-false _ _ _ yen ∙ cond-false _ _ _ line)
 
 -- ASCII is no such character
@@ -44,7 +46,8 @@ low_not_latin f c l = not_latin f c (grind (arith, nat_tests)) (grind (arith, na
 pub latin_is_read : (rule : Rule) (other : Option (List ℕ)) (f : ℕ → ℕ) (c : ℕ) (b : List ℕ)
     → ((a : ℕ) → a < 0x80 → IsWholeChar rule 0 (a ∷ []) a)
     → ((c == 0xA5) ≡ false → (c == 0x203E) ≡ false → other ≡ Some b → IsWholeChar rule 0 b (f c))
-    → (if c == 0xA5 then Some (0x5C ∷ []) else if c == 0x203E then Some (0x7E ∷ []) else other) ≡ Some b
+    → (if c == 0xA5 then Some (0x5C ∷ []) else if c == 0x203E then Some (0x7E ∷ []) else other)
+    ≡ Some b
     → IsWholeChar rule 0 b (ascii_twin_or f c)
 latin_is_read rule other f c b ascii beyond =
     let IsRead : List ℕ → Type 0 = λ x. IsWholeChar rule 0 x (ascii_twin_or f c) in
@@ -56,4 +59,5 @@ latin_is_read rule other f c b ascii beyond =
     (λ t. same_bytes IsRead (0x7E ∷ []) b
     (same_char rule 0 (0x7E ∷ []) 0x7E (ascii_twin_or f c)
     (sym (cond-false _ _ _ yen ∙ cond-true _ _ _ t)) (ascii 0x7E (omega arith))))
-    (λ line e. same_char rule 0 b (f c) (ascii_twin_or f c) (not_latin f c yen line) (beyond yen line e)))
+    (λ line e. same_char rule 0 b (f c) (ascii_twin_or f c) (not_latin f c yen line)
+    (beyond yen line e)))

@@ -21,26 +21,34 @@ use Rattle.enc_round_trip.proofs.ReadBackLemmas.{IsReadBack, with_ascii_is_read,
 use Rattle.enc_round_trip.proofs.PointerLemmas.{is_pointer, by_pointer}
 
 pub utf_8_is_read : IsReadBack utf_8_rule utf_8_bytes (λ c. c)
-utf_8_is_read = record { each = λ c s b e. utf8_piece b c (s, let same : encode_utf8 c ≡ b = cc in sym same) }
+utf_8_is_read = record {
+  each = λ c s b e.
+      utf8_piece b c (s, let same : encode_utf8 c ≡ b = cc in sym same);
+}
 
 -- a byte of ASCII, and one beyond it
 
-ascii_char : (b : ℕ) (other : Option ℕ) → b < 0x80 → (if nat_lt b 0x80 then Some b else other) ≡ Some b
+ascii_char : (b : ℕ) (other : Option ℕ) → b < 0x80
+    → (if nat_lt b 0x80 then Some b else other) ≡ Some b
 ascii_char b other l = cond-true _ _ _ (lt-ltb b 0x80 l)
 
-other_char : (p : ℕ) (other : Option ℕ) → (if nat_lt (p + 0x80) 0x80 then Some (p + 0x80) else other) ≡ other
-other_char p other = let not_low : nat_lt (p + 0x80) 0x80 ≡ false = grind (arith, nat_tests) in cond-false _ _ _ not_low
+other_char : (p : ℕ) (other : Option ℕ)
+    → (if nat_lt (p + 0x80) 0x80 then Some (p + 0x80) else other) ≡ other
+other_char p other = let not_low : nat_lt (p + 0x80) 0x80 ≡ false = grind (arith, nat_tests) in
+    cond-false _ _ _ not_low
 
 single_byte_at : (index : SingleByteIndex) (c p : ℕ) → single_byte_pointer index c ≡ Some p
     → single_byte_char (single_byte_runs index) (p + 0x80) ≡ Some c
 unfolding single_byte_pointer
 single_byte_at index c p f =
-    let has_pointer = is_pointer (λ q. index_at Basic (single_byte_runs index) q) any_pointer no_character 128 c p f in
+    let has_pointer = is_pointer (λ q. index_at Basic (single_byte_runs index) q) any_pointer
+    no_character 128 c p f in
     let same : p + 0x80 - 0x80 ≡ p = omega arith in
     other_char p _ ∙ ap (index_at Basic (single_byte_runs index)) same ∙ has_pointer.has
 
 pub single_byte_is_read : (index : SingleByteIndex)
-    → IsReadBack (one_byte_rule (single_byte_char (single_byte_runs index))) (single_byte_bytes index) (λ c. c)
+    → IsReadBack (one_byte_rule (single_byte_char (single_byte_runs index)))
+    (single_byte_bytes index) (λ c. c)
 single_byte_is_read index =
     let char = single_byte_char (single_byte_runs index) in
     with_ascii_is_read (one_byte_rule char) _ (λ c. c)
@@ -56,11 +64,13 @@ user_defined_at c t =
     let same : 0xF780 + (c - 0xF780 + 0x80 - 0x80) ≡ c = omega arith in
     other_char (c - 0xF780) _ ∙ ap Some same
 
-pub x_user_defined_is_read : IsReadBack (one_byte_rule x_user_defined_char) x_user_defined_bytes (λ c. c)
+pub x_user_defined_is_read : IsReadBack (one_byte_rule x_user_defined_char) x_user_defined_bytes
+    (λ c. c)
 x_user_defined_is_read =
     with_ascii_is_read (one_byte_rule x_user_defined_char) x_user_defined_other (λ c. c)
     (λ c l. one_byte_piece x_user_defined_char c c (ascii_char c _ l))
-    (λ c b l e. by_test (nat_le 0xF780 c && nat_le c 0xF7FF) (Some ((c - 0xF780 + 0x80) ∷ [])) None b
+    (λ c b l e. by_test (nat_le 0xF780 c && nat_le c 0xF7FF) (Some ((c - 0xF780 + 0x80) ∷ [])) None
+    b
     (λ t f. same_bytes (λ x. IsWholeChar (one_byte_rule x_user_defined_char) 0 x c) _ b
     (one_byte_piece x_user_defined_char (c - 0xF780 + 0x80) c (user_defined_at c t)) f)
     (λ t f. no_bytes b f) e)

@@ -13,17 +13,20 @@ module _ (test : ℕ → Bool) where
   first_or_here : (o : Option ℕ) (b : Bool) (n p : ℕ) → (o ≡ Some p → Passes n p) → test n ≡ b
       → pointer_or o (cond b (Some n) None) ≡ Some p → Passes (suc n) p
   first_or_here (Some q) b n p h t e = let found = h e in (omega (arith, found.0), found.1)
-  first_or_here None true n p h t e = let same : n ≡ p = cc in (omega arith, subst (λ k. test k ≡ true) same t)
+  first_or_here None true n p h t e = let same : n ≡ p = cc in
+      (omega arith, subst (λ k. test k ≡ true) same t)
   first_or_here None false n p h t e = cc
 
   first_passes : (n p : ℕ) → first_below test n ≡ Some p → Passes n p
   unfolding first_below
   first_passes zero p e = cc
-  first_passes (suc n) p e = first_or_here (first_below test n) (test n) n p (first_passes n p) refl e
+  first_passes (suc n) p e =
+      first_or_here (first_below test n) (test n) n p (first_passes n p) refl e
 
   here_or_last : (o : Option ℕ) (b : Bool) (n p : ℕ) → (o ≡ Some p → Passes n p) → test n ≡ b
       → cond b (Some n) o ≡ Some p → Passes (suc n) p
-  here_or_last o true n p h t e = let same : n ≡ p = cc in (omega arith, subst (λ k. test k ≡ true) same t)
+  here_or_last o true n p h t e = let same : n ≡ p = cc in
+      (omega arith, subst (λ k. test k ≡ true) same t)
   here_or_last o false n p h t e = let found = h e in (omega (arith, found.0), found.1)
 
   last_passes : (n p : ℕ) → last_below test n ≡ Some p → Passes n p
@@ -49,7 +52,8 @@ pub record IsPointer (at : ℕ → Option ℕ) (counts : ℕ → Bool) (bound c 
 pub is_pointer : (at : ℕ → Option ℕ) (counts is_by_last : ℕ → Bool) (bound c p : ℕ)
     → pointer_of at counts is_by_last bound c ≡ Some p → IsPointer at counts bound c p
 is_pointer at counts is_by_last bound c p e =
-    let is_last = by_last_passes (λ q. counts q && is_character c (at q)) (is_by_last c) bound p e in
+    let is_last = by_last_passes (λ q. counts q && is_character c (at q)) (is_by_last c) bound p
+    e in
     record {
       below = is_last.0;
       counted = first_so _ _ is_last.1;

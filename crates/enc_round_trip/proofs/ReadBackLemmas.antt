@@ -52,26 +52,27 @@ first_mapped e c t h =
 pub record IsReadBack (rule : Rule) (bytes : ℕ → Option (List ℕ)) (back : ℕ → ℕ) : Type 0 where
   pub each : (c : ℕ) → IsScalar c → (b : List ℕ) → bytes c ≡ Some b → IsWholeChar rule 0 b (back c)
 
-module _ (rule : Rule) (bytes : ℕ → Option (List ℕ)) (back : ℕ → ℕ) (h : IsReadBack rule bytes back) where
-  one : (c : ℕ) (b : Option (List ℕ)) → bytes c ≡ b → is_some b ≡ true → IsScalar c
-      → IsWholeChar rule 0 (list_or_empty b) (back c)
-  one c None e m s = cc
-  one c (Some b) e m s = h.each c s b e
+module _ (rule : Rule) (bytes : ℕ → Option (List ℕ)) (back : ℕ → ℕ) (h : IsReadBack rule bytes back)
+  where
+    one : (c : ℕ) (b : Option (List ℕ)) → bytes c ≡ b → is_some b ≡ true → IsScalar c
+        → IsWholeChar rule 0 (list_or_empty b) (back c)
+    one c None e m s = cc
+    one c (Some b) e m s = h.each c s b e
 
-  suffix_is_read : (u t : List ℕ) → AreScalars t → any_unmappable (stateless_rule bytes) t ≡ false
-      → IsReadAs rule 0 (bytes_after_text (stateless_rule bytes) Ascii u t) (map back t)
-  suffix_is_read u [] scalars m = read_nothing rule 0
-  suffix_is_read u (c ∷ t) scalars m =
-      let both = first_mapped (stateless_rule bytes) c t m in
-      read_more rule 0 (list_or_empty (bytes c)) (back c)
-      (bytes_after_text (stateless_rule bytes) Ascii (u ++ c ∷ []) t) (map back t)
-      (one c (bytes c) refl both.0 (first_so _ _ scalars))
-      (suffix_is_read (u ++ c ∷ []) t (second_so _ _ scalars) both.1)
+    suffix_is_read : (u t : List ℕ) → AreScalars t → any_unmappable (stateless_rule bytes) t ≡ false
+        → IsReadAs rule 0 (bytes_after_text (stateless_rule bytes) Ascii u t) (map back t)
+    suffix_is_read u [] scalars m = read_nothing rule 0
+    suffix_is_read u (c ∷ t) scalars m =
+        let both = first_mapped (stateless_rule bytes) c t m in
+        read_more rule 0 (list_or_empty (bytes c)) (back c)
+        (bytes_after_text (stateless_rule bytes) Ascii (u ++ c ∷ []) t) (map back t)
+        (one c (bytes c) refl both.0 (first_so _ _ scalars))
+        (suffix_is_read (u ++ c ∷ []) t (second_so _ _ scalars) both.1)
 
-  -- and so is a text
-  pub text_is_read : (t : List ℕ) → AreScalars t → any_unmappable (stateless_rule bytes) t ≡ false
-      → IsReadAs rule 0 (bytes_of_text (stateless_rule bytes) Ascii t) (map back t)
-  text_is_read t s m = suffix_is_read [] t s m
+    -- and so is a text
+    pub text_is_read : (t : List ℕ) → AreScalars t → any_unmappable (stateless_rule bytes) t ≡ false
+        → IsReadAs rule 0 (bytes_of_text (stateless_rule bytes) Ascii t) (map back t)
+    text_is_read t s m = suffix_is_read [] t s m
 
 -- by cases
 
@@ -93,7 +94,8 @@ pub with_ascii_is_read : (rule : Rule) (others : ℕ → Option (List ℕ)) (bac
     → IsReadBack rule (with_ascii others) back
 with_ascii_is_read rule others back ascii beyond = record {
   each = λ c s b e. by_test (nat_lt c 0x80) (Some (c ∷ [])) (others c) b
-      (λ t f. same_bytes (λ x. IsWholeChar rule 0 x (back c)) (c ∷ []) b (ascii c (grind (arith, nat_tests))) f)
+      (λ t f. same_bytes (λ x. IsWholeChar rule 0 x (back c)) (c ∷ []) b
+      (ascii c (grind (arith, nat_tests))) f)
       (λ t f. beyond c b (grind (arith, nat_tests)) f)
       e;
 }

@@ -48,7 +48,8 @@ read_if_any Iso2022Jp = λ t s m. iso_2022_jp_is_read t m
 -- by the rule that the codec has, whatever is barred
 pub is_read : (c : Codec) (b : List ℕ) (e : EncoderRule) (t : List ℕ) → encoder_rule c ≡ Some e
     → AreScalars t → any_unmappable (barring_rule b e) t ≡ false
-    → IsReadAs (codec_rule c) 0 (bytes_of_text (barring_rule b e) Ascii t) (map (char_read_back c) t)
+    → IsReadAs (codec_rule c) 0 (bytes_of_text (barring_rule b e) Ascii t)
+    (map (char_read_back c) t)
 is_read c b e t q s all_mapped =
     subst (λ y. IsReadAs (codec_rule c) 0 y (map (char_read_back c) t))
     (sym (same_bytes_after b e Ascii [] t all_mapped))
@@ -58,7 +59,8 @@ is_read c b e t q s all_mapped =
 
 map_of : (f : ℕ → ℕ) → ((c : ℕ) → f c ≡ c) → (t : List ℕ) → map f t ≡ t
 map_of f same_char [] = refl
-map_of f same_char (c ∷ t) = ap (λ x. x ∷ map f t) (same_char c) ∙ ap (λ x. c ∷ x) (map_of f same_char t)
+map_of f same_char (c ∷ t) = ap (λ x. x ∷ map f t) (same_char c)
+    ∙ ap (λ x. c ∷ x) (map_of f same_char t)
 
 keeps : (c : Codec) → keeps_characters c ≡ true → (n : ℕ) → char_read_back c n ≡ n
 keeps ShiftJis h n = cc

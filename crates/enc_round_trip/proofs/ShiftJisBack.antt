@@ -32,11 +32,13 @@ is_trail : (cell : ℕ) → cell < 188 → decoder.is_shift_jis_trail (shift_jis
 is_trail cell l = grind (arith, nat_tests)
 
 cell_of : (cell : ℕ) → cell < 188
-    → shift_jis_trail_byte cell - (if nat_lt (shift_jis_trail_byte cell) 0x7F then 0x40 else 0x41) ≡ cell
+    → shift_jis_trail_byte cell - (if nat_lt (shift_jis_trail_byte cell) 0x7F then 0x40 else 0x41)
+    ≡ cell
 cell_of cell l = grind (arith, nat_tests)
 
 pointer_of_pair : (p : ℕ) → p < 11280
-    → decoder.shift_jis_pair_pointer (shift_jis_lead_byte (p / 188)) (shift_jis_trail_byte (p % 188)) ≡ p
+    → decoder.shift_jis_pair_pointer (shift_jis_lead_byte (p / 188))
+    (shift_jis_trail_byte (p % 188)) ≡ p
 pointer_of_pair p l =
     let row = row_of (p / 188) (omega arith) in
     let cell = cell_of (p % 188) (omega arith) in
@@ -55,9 +57,11 @@ is_pair : (c p : ℕ) → IsPointer jis0208_at is_shift_jis_pointer 11280 c p
     ≡ Some (One (private_use_or c (Some p)))
 is_pair c p has_pointer =
     ap text_of_char (cond-true _ _ _ (is_trail (p % 188) (omega arith))
-    ∙ ap decoder.shift_jis_pointer_char (pointer_of_pair p has_pointer.below) ∙ char_at _ p c refl has_pointer.has)
+    ∙ ap decoder.shift_jis_pointer_char (pointer_of_pair p has_pointer.below)
+    ∙ char_at _ p c refl has_pointer.has)
 
-at_pointer : (c p : ℕ) → shift_jis_pointer c ≡ Some p → IsPointer jis0208_at is_shift_jis_pointer 11280 c p
+at_pointer : (c p : ℕ) → shift_jis_pointer c ≡ Some p
+    → IsPointer jis0208_at is_shift_jis_pointer 11280 c p
 unfolding shift_jis_pointer
 at_pointer c p f = is_pointer jis0208_at is_shift_jis_pointer no_character 11280 c p f
 
@@ -80,7 +84,8 @@ katakana_piece c k =
     (katakana_byte c) c (not_lead c low high)
     (cond-false _ _ _ (not_low c low) ∙ katakana_byte_is_read c k)
   where
-    not_lead : (c : ℕ) → 0xFF61 ≤ c → c ≤ 0xFF9F → decoder.is_shift_jis_lead (katakana_byte c) ≡ false
+    not_lead : (c : ℕ) → 0xFF61 ≤ c → c ≤ 0xFF9F
+        → decoder.is_shift_jis_lead (katakana_byte c) ≡ false
     not_lead c l h = grind (arith, nat_tests)
 
     not_low : (c : ℕ) → 0xFF61 ≤ c → nat_le (katakana_byte c) 0x80 ≡ false
@@ -93,7 +98,8 @@ itself c t = sym (cond-true _ _ _ t)
 
 low_itself : (c : ℕ) → c ≤ 0x80 → c ≡ ascii_twin_or char_read_in_shift_jis c
 low_itself c is_ascii =
-    itself c (or_left _ _ (le-leb c 0x80 is_ascii)) ∙ low_not_latin char_read_in_shift_jis c is_ascii
+    itself c (or_left _ _ (le-leb c 0x80 is_ascii))
+    ∙ low_not_latin char_read_in_shift_jis c is_ascii
 
 by_index : (c p : ℕ) → nat_le c 0x80 ≡ false → is_halfwidth_katakana c ≡ false
     → shift_jis_pointer (with_fullwidth_minus c) ≡ Some p
@@ -101,13 +107,16 @@ by_index : (c p : ℕ) → nat_le c 0x80 ≡ false → is_halfwidth_katakana c �
 by_index c p l k is_some_pointer =
     let has_pointer = at_pointer (with_fullwidth_minus c) p is_some_pointer in
     let char_is : private_use_or (with_fullwidth_minus c) (Some p) ≡ char_read_in_shift_jis c =
-    ap (private_use_or (with_fullwidth_minus c)) (sym is_some_pointer) ∙ sym (cond-false _ _ _ (or_from _ _ l k)) in
+    ap (private_use_or (with_fullwidth_minus c)) (sym is_some_pointer)
+    ∙ sym (cond-false _ _ _ (or_from _ _ l k)) in
     same_char _ 0 (shift_jis_pair_bytes p) _ (char_read_in_shift_jis c) char_is
     (pair_piece decoder.is_shift_jis_lead decoder.shift_jis_single_char decoder.shift_jis_pair_text
     (shift_jis_lead_byte (p / 188)) (shift_jis_trail_byte (p % 188)) _
-    (is_lead (p / 188) (let below = has_pointer.below in omega arith)) (is_pair (with_fullwidth_minus c) p has_pointer))
+    (is_lead (p / 188) (let below = has_pointer.below in omega arith))
+    (is_pair (with_fullwidth_minus c) p has_pointer))
 
-beyond : (c : ℕ) (b : List ℕ) → 0x80 ≤ c → shift_jis_other c ≡ Some b → Piece b (ascii_twin_or char_read_in_shift_jis c)
+beyond : (c : ℕ) (b : List ℕ) → 0x80 ≤ c → shift_jis_other c ≡ Some b
+    → Piece b (ascii_twin_or char_read_in_shift_jis c)
 beyond c b l =
     by_test (c == 0x80) _ _ b
     (λ t. (let same : 0x80 ≡ c = grind (arith, nat_tests) in
@@ -118,7 +127,8 @@ beyond c b l =
     (λ a m. low_piece a (omega arith))
     (λ yen line. by_test (is_halfwidth_katakana c) _ _ b
     (λ is_katakana. same_bytes (λ x. Piece x (char_read_in_shift_jis c)) (katakana_byte c ∷ []) b
-    (same_char _ 0 (katakana_byte c ∷ []) c (char_read_in_shift_jis c) (itself c (or_right _ _ is_katakana))
+    (same_char _ 0 (katakana_byte c ∷ []) c (char_read_in_shift_jis c)
+    (itself c (or_right _ _ is_katakana))
     (katakana_piece c is_katakana)))
     (λ k. by_pointer (λ x. Piece x (char_read_in_shift_jis c)) shift_jis_pair_bytes
     (shift_jis_pointer (with_fullwidth_minus c)) b
@@ -127,6 +137,7 @@ beyond c b l =
 pub shift_jis_is_read : IsReadBack (multi_byte_rule decoder.shift_jis_prefix) shift_jis_bytes
     (ascii_twin_or char_read_in_shift_jis)
 shift_jis_is_read =
-    with_ascii_is_read (multi_byte_rule decoder.shift_jis_prefix) shift_jis_other (ascii_twin_or char_read_in_shift_jis)
+    with_ascii_is_read (multi_byte_rule decoder.shift_jis_prefix) shift_jis_other
+    (ascii_twin_or char_read_in_shift_jis)
     (λ c l. same_char _ 0 (c ∷ []) c (ascii_twin_or char_read_in_shift_jis c)
     (low_itself c (omega arith)) (low_piece c (omega arith))) beyond

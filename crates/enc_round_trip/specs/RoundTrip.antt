@@ -1,5 +1,5 @@
--- Texts that are encoded and decoded again (Encoding Standard 4.1, "process a queue", with an encoder and then with a
--- decoder).
+-- Texts that are encoded and decoded again (Encoding Standard 4.1, "process a queue", with an
+-- encoder and then with a decoder).
 use Rattle.std.specs.Prelude.{ℕ, ◌+◌, ◌-◌, Bool, true, false, ◌==◌, ◌&&◌, ◌||◌, nat_le, Option, Some, None, List}
 use Rattle.std.specs.Prelude.{if◌then◌else◌}
 use Rattle.enc_codec.specs.Codecs.{codec_rule}
@@ -19,8 +19,8 @@ use Rattle.enc_encode.specs.Iso2022Jp.{lookup_char}
 abbrev pub ascii_twin_or : (ℕ → ℕ) → ℕ → ℕ
 ascii_twin_or others c = if c == 0xA5 then 0x5C else if c == 0x203E then 0x7E else others c
 
--- The character of a pointer in Shift_JIS: one of private use, by the pointer alone, or that of the index. (The
--- standard's index has no entry at a pointer for private use.)
+-- The character of a pointer in Shift_JIS: one of private use, by the pointer alone, or that of the
+-- index. (The standard's index has no entry at a pointer for private use.)
 abbrev pub private_use_or : ℕ → Option ℕ → ℕ
 private_use_or c None = c
 private_use_or c (Some p) = if nat_le 8836 p && nat_le p 10715 then 0xE000 + (p - 8836) else c
@@ -31,15 +31,17 @@ char_read_in_shift_jis c =
     if nat_le c 0x80 || is_halfwidth_katakana c then c
     else private_use_or (with_fullwidth_minus c) (shift_jis_pointer (with_fullwidth_minus c))
 
--- The character that the bytes of a character decode to. It is the same one, except in some cases in the three Japanese
--- encodings, in which another has its bytes (Encoding Standard 12.1.2, 12.2.2 and 12.3.2).
+-- The character that the bytes of a character decode to. It is the same one, except in some cases
+-- in the three Japanese encodings, in which another has its bytes (Encoding Standard 12.1.2, 12.2.2
+-- and 12.3.2).
 abbrev pub char_read_back : Codec → ℕ → ℕ
 char_read_back ShiftJis c = ascii_twin_or char_read_in_shift_jis c
 char_read_back EucJp c = ascii_twin_or with_fullwidth_minus c
 char_read_back Iso2022Jp c = lookup_char c
 char_read_back _ c = c
 
--- the sequences of a text's bytes: those of the encoder without the barred characters, decoded by the same codec
+-- the sequences of a text's bytes: those of the encoder without the barred characters, decoded by
+-- the same codec
 abbrev pub sequences_read_back : Codec → List ℕ → EncoderRule → List ℕ → List Sequence
 sequences_read_back codec barred e text =
     sequences_of (codec_rule codec) 0 (bytes_of_text (barring_rule barred e) Ascii text)

@@ -14,9 +14,11 @@ use Rattle.enc_stream.proofs.EndOfInputLemmas.{has_finished_by}
 use Rattle.enc_stream.proofs.OutputFullLemmas.{less_at_hand}
 
 -- a call that came to the end has read everything
-pub ends_read : (units_of : ℕ → List ℕ) (mode : DecodeErrorMode) (old new : DecoderState) (src : List ℕ) (last : Bool)
+pub ends_read : (units_of : ℕ → List ℕ) (mode : DecodeErrorMode) (old new : DecoderState)
+    (src : List ℕ) (last : Bool)
     (room : ℕ) (result : DecoderResult) (read : ℕ) (wrote : List ℕ) (replaced : Bool)
-    → DecodesChunk units_of mode old new src last room result read wrote replaced → has_finished new ≡ true
+    → DecodesChunk units_of mode old new src last room result read wrote replaced
+    → has_finished new ≡ true
     → (last ≡ true) × (read ≡ length src)
 ends_read units_of mode old new src last room InputEmpty read wrote replaced decodes e = (
   sym (has_finished_by decodes) ∙ e,
@@ -27,19 +29,23 @@ ends_read units_of mode old new src last room OutputFull read wrote replaced dec
 ends_read units_of mode old new src last room (Malformed l a) read wrote replaced decodes e =
     absurd (true≢false (sym e ∙ has_finished_by decodes))
 
--- Bytes unread count twice, and those pending once: where a call doesn't end the input, fewer are left.
+-- Bytes unread count twice, and those pending once: where a call doesn't end the input, fewer are
+-- left.
 module _ (units_of : ℕ → List ℕ) (determine : DetermineTexts units_of) (least : ℕ)
-    (takes : TakesSmallTexts units_of least) (mode : DecodeErrorMode) (old new : DecoderState) (src : List ℕ)
+    (takes : TakesSmallTexts units_of least) (mode : DecodeErrorMode) (old new : DecoderState)
+    (src : List ℕ)
     (last : Bool)
     (room : ℕ) (roomy : least ≤ room) (read : ℕ) (wrote : List ℕ) (replaced : Bool) where
   abbrev Made : DecoderResult → Type 0
   Made result = DecodesChunk units_of mode old new src last room result read wrote replaced
 
   -- the bytes pending and read are a mark's, those done, and those pending then
-  counted : (result : DecoderResult) (d : Made result) → length (sequence_bytes d.call.done) + length new.pending
+  counted : (result : DecoderResult) (d : Made result)
+      → length (sequence_bytes d.call.done) + length new.pending
       ≤ length old.pending + read
   counted result made =
-      let of_mark : List ℕ = mark_bytes (mark_in (phase_of old.life) (old.pending ++ take read src)) in
+      let of_mark : List ℕ =
+      mark_bytes (mark_in (phase_of old.life) (old.pending ++ take read src)) in
       omega (
         arith,
         ap length made.accounted,
@@ -50,13 +56,16 @@ module _ (units_of : ℕ → List ℕ) (determine : DetermineTexts units_of) (le
       )
 
   pub nearer : (result : DecoderResult) → Made result → (last ≡ false → 1 ≤ length src)
-      → (has_finished new ≡ true) ⊎ (2 * (length src - read) + length new.pending < 2 * length src + length old.pending)
+      → (has_finished new ≡ true)
+      ⊎ (2 * (length src - read) + length new.pending < 2 * length src + length old.pending)
   nearer InputEmpty made some = by_last last refl
     where
-      by_last : (l : Bool) → last ≡ l → (has_finished new ≡ true) ⊎ (2 * (length src - read) + length new.pending
+      by_last : (l : Bool) → last ≡ l → (has_finished new ≡ true)
+          ⊎ (2 * (length src - read) + length new.pending
           < 2 * length src + length old.pending)
       by_last true e = inl (has_finished_by made ∙ e)
-      by_last false e = inr (omega (arith, some e, made.call.stops.all_read, counted InputEmpty made))
+      by_last false e = inr (omega
+          (arith, some e, made.call.stops.all_read, counted InputEmpty made))
   nearer OutputFull made some =
       inr (omega (
         arith,

@@ -22,12 +22,14 @@ use Rattle.enc_stream.specs.Encodings.{rule_or_utf_8, output_rule}
 use Rattle.enc_stream.specs.Properties.{output_encoding_of}
 use Rattle.enc_stream.specs.Encoder.{EncoderState, EncodesChunk, is_utf_8, maps_every_character, html_mode_in}
 
-has_encoder_by_id : (id : EncodingId) → is_some (encoder_rule (codec_by_id (output_by_id id))) ≡ true
+has_encoder_by_id : (id : EncodingId)
+    → is_some (encoder_rule (codec_by_id (output_by_id id))) ≡ true
 has_encoder_by_id Utf8 = refl
 has_encoder_by_id _ = refl
 
 -- the output encoding has an encoder
-pub has_encoder : (e : Encoding) → is_some (encoder_rule (codec_by_id (output_encoding_of e).id)) ≡ true
+pub has_encoder : (e : Encoding)
+    → is_some (encoder_rule (codec_by_id (output_encoding_of e).id)) ≡ true
 has_encoder e = has_encoder_by_id e.id
 
 -- an encoder of the codec's rule, without the characters that are barred, writes by the encoding's
@@ -52,7 +54,8 @@ utf_8_has _ h = cc
 pub maps_all : (b : List ℕ) (e : Encoding) (rule : EncoderRule) → rule ≡ output_rule b e
     → maps_every_character b e ≡ true → MapsEveryCharacter rule
 unfolding rule_by_id
-maps_all [] e rule r h = subst MapsEveryCharacter (sym (r ∙ ap rule_by_id (utf_8_has e.id h))) (λ c. refl)
+maps_all [] e rule r h =
+    subst MapsEveryCharacter (sym (r ∙ ap rule_by_id (utf_8_has e.id h))) (λ c. refl)
 maps_all (x ∷ b) e rule r h = cc
 
 -- a call that has ended the text leaves ASCII designated
@@ -62,72 +65,94 @@ ascii_left Ascii h = refl
 ascii_left Roman h = cc
 ascii_left Jis0208 h = cc
 
-nothing_pending : (v : RawEncoderState) (rest : List ℕ) (last : Bool) → is_nothing_left v rest last ≡ true
+nothing_pending : (v : RawEncoderState) (rest : List ℕ) (last : Bool)
+    → is_nothing_left v rest last ≡ true
     → last ≡ true → v.set ≡ Ascii
 nothing_pending v [] true h l = ascii_left v.set h
 nothing_pending v [] false h l = cc
 nothing_pending v (c ∷ t) last h l = cc
 
-ends_in_ascii : (mode : EncodeErrorMode) (new : RawEncoderState) (rest : List ℕ) (last : Bool) (room : ℕ)
+ends_in_ascii : (mode : EncodeErrorMode) (new : RawEncoderState) (rest : List ℕ) (last : Bool)
+    (room : ℕ)
     (done : List Step) (result : EncoderResult) → StopsInMode mode new rest last room done result
     → result ≡ InputEmpty → last ≡ true → new.set ≡ Ascii
 ends_in_ascii Fatal new rest last room done InputEmpty s q l = s.ended l
-ends_in_ascii (Html kept) new rest last room done InputEmpty s q l = nothing_pending new rest last s l
+ends_in_ascii (Html kept) new rest last room done InputEmpty s q l =
+    nothing_pending new rest last s l
 ends_in_ascii mode new rest last room done OutputFull s q l = cc
 ends_in_ascii mode new rest last room done (Unmappable k) s q l = cc
 
 -- A call of the raw encoder is one of the encoder.
 module _ {units_of : ℕ → List ℕ} (barred : List ℕ) (encoding : Encoding) {old new : RawEncoderState}
-    (keeps : old.rule ≡ output_rule barred encoding) {mode : EncodeErrorMode} {src rest : List ℕ} {last : Bool}
+    (keeps : old.rule ≡ output_rule barred encoding) {mode : EncodeErrorMode} {src rest : List ℕ}
+    {last : Bool}
     {room : ℕ} {result : EncoderResult} {read : ℕ} {wrote : List ℕ} {replaced : Bool}
-    (call : EncoderCallInMode units_of mode old new src rest last room result read wrote replaced) where
-  abbrev with_set : CharacterSet → EncoderState
-  with_set set = record { encoding = encoding; barred = barred; set = set }
+    (call : EncoderCallInMode units_of mode old new src rest last room result read wrote replaced)
+  where
+    abbrev with_set : CharacterSet → EncoderState
+    with_set set = record { encoding = encoding; barred = barred; set = set }
 
-  rule_stays : new.rule ≡ output_rule barred encoding
-  rule_stays = call.rule ∙ keeps
+    rule_stays : new.rule ≡ output_rule barred encoding
+    rule_stays = call.rule ∙ keeps
 
-  same : (state : RawEncoderState) → state.rule ≡ output_rule barred encoding
-      → state ≡ record { rule = output_rule barred encoding; set = state.set }
-  same state rule_is =
-      let with_rule : EncoderRule → RawEncoderState = λ r. record { rule = r; set = state.set } in ap with_rule rule_is
+    same : (state : RawEncoderState) → state.rule ≡ output_rule barred encoding
+        → state ≡ record { rule = output_rule barred encoding; set = state.set }
+    same state rule_is =
+        let with_rule : EncoderRule → RawEncoderState = λ r. record { rule = r; set = state.set } in
+        ap with_rule rule_is
 
-  encodes : EncodesChunk units_of mode (with_set old.set) (with_set new.set) src last room result read wrote replaced
-  encodes = record {
-    encoding = refl;
-    barred = refl;
-    rest = rest;
-    call =
-        subst (λ (state : RawEncoderState). EncoderCallInMode units_of mode state
-        (record { rule = output_rule barred encoding; set = new.set }) src rest last room result read wrote replaced)
-        (same old keeps)
-        (subst (λ (state : RawEncoderState). EncoderCallInMode units_of mode old state src rest last room result read
-        wrote replaced) (same new rule_stays) call);
-    ended =
-        λ at_end is_last. ap with_set (ends_in_ascii mode new rest last room call.done result call.stops at_end
-        is_last);
-  }
+    encodes : EncodesChunk units_of mode (with_set old.set) (with_set new.set) src last room result
+        read wrote replaced
+    encodes = record {
+      encoding = refl;
+      barred = refl;
+      rest = rest;
+      call =
+          subst (λ (state : RawEncoderState). EncoderCallInMode units_of mode state
+          (record { rule = output_rule barred encoding; set = new.set }) src rest last room result
+          read wrote replaced)
+          (same old keeps)
+          (subst (λ (state : RawEncoderState). EncoderCallInMode units_of mode old state src rest
+          last
+          room result read
+          wrote replaced) (same new rule_stays) call);
+      ended =
+          λ at_end is_last. ap with_set
+          (ends_in_ascii mode new rest last room call.done result call.stops at_end
+          is_last);
+    }
 
-  pub encodes_by : {other : EncodeErrorMode} → mode ≡ other
-      → EncodesChunk units_of other (with_set old.set) (with_set new.set) src last room result read wrote replaced
-  encodes_by is_mode =
-      subst (λ (m : EncodeErrorMode). EncodesChunk units_of m (with_set old.set) (with_set new.set) src last room
-      result read wrote replaced) is_mode encodes
+    pub encodes_by : {other : EncodeErrorMode} → mode ≡ other
+        → EncodesChunk units_of other (with_set old.set) (with_set new.set) src last room result
+        read
+        wrote replaced
+    encodes_by is_mode =
+        subst (λ (m : EncodeErrorMode). EncodesChunk units_of m (with_set old.set)
+        (with_set new.set)
+        src last room
+        result read wrote replaced) is_mode encodes
 
 -- A call whose bytes are at the end of another list than the one that it wrote into.
-pub in_tail : {units_of : ℕ → List ℕ} {mode : EncodeErrorMode} {old new : EncoderState} {src : List ℕ} {last : Bool}
+pub in_tail : {units_of : ℕ → List ℕ} {mode : EncodeErrorMode} {old new : EncoderState}
+    {src : List ℕ} {last : Bool}
     {room size : ℕ} {result : EncoderResult} {read : ℕ} {wrote tail : List ℕ} {replaced : Bool}
-    → room ≡ size → wrote ≡ tail → EncodesChunk units_of mode old new src last room result read wrote replaced
+    → room ≡ size → wrote ≡ tail
+    → EncodesChunk units_of mode old new src last room result read wrote replaced
     → EncodesChunk units_of mode old new src last size result read tail replaced
-in_tail {units_of} {mode} {old} {new} {src} {last} {room} {result} {read} {tail} {replaced} room_is wrote_is encodes =
-    subst (λ (n : ℕ). EncodesChunk units_of mode old new src last n result read tail replaced) room_is
-    (subst (λ (bytes : List ℕ). EncodesChunk units_of mode old new src last room result read bytes replaced) wrote_is
+in_tail {units_of} {mode} {old} {new} {src} {last} {room} {result} {read} {tail} {replaced} room_is
+    wrote_is encodes =
+    subst (λ (n : ℕ). EncodesChunk units_of mode old new src last n result read tail replaced)
+    room_is
+    (subst (λ (bytes : List ℕ). EncodesChunk units_of mode old new src last room result read bytes
+    replaced) wrote_is
     encodes)
 
 -- The rest of a list after its front, if it was cut after the bytes written there.
-pub tail_of : (front slice post junk : List ℕ) {final : List ℕ} {len : ℕ} (written n : ℕ) → length front ≡ len
+pub tail_of : (front slice post junk : List ℕ) {final : List ℕ} {len : ℕ} (written n : ℕ)
+    → length front ≡ len
     → written ≤ length slice → len + written ≤ n
-    → final ≡ take (len + written) (take n ((front ++ (slice ++ post)) ++ junk)) → take written slice ≡ drop len final
+    → final ≡ take (len + written) (take n ((front ++ (slice ++ post)) ++ junk))
+    → take written slice ≡ drop len final
 tail_of front slice post junk {final} {len} written n front_is written_fits room_fits final_is =
     let following = slice ++ (post ++ junk) in
     let all = (front ++ (slice ++ post)) ++ junk in
@@ -140,7 +165,14 @@ tail_of front slice post junk {final} {len} written n front_is written_fits room
     ∙ ap (take room) (ap (drop len) split
     ∙ ap (λ k. drop k (front ++ following)) (sym front_is) ∙ drop-append_seam front following) in
     let reach : written ≤ length (take room following) =
-    omega (arith, room_fits, written_fits, length-take room following, length-append slice (post ++ junk)) in
+    omega (
+      arith,
+      room_fits,
+      written_fits,
+      length-take room following,
+      length-append slice
+          (post ++ junk),
+    ) in
     sym (ap (drop len) final_is ∙ drop-take len written (take n all) ∙ ap (take written) dropped
     ∙ sym (take-append-le written (take room following) (drop room following) reach)
     ∙ ap (take written) (take-append-drop room following)

@@ -1,4 +1,5 @@
--- No step of an encoder has more than four bytes, so that a call with room enough does one; and where a text may end.
+-- No step of an encoder has more than four bytes, so that a call with room enough does one; and
+-- where a text may end.
 use Rattle.std.proofs.Common.{◌≡◌, ℕ, ◌<◌, ◌≤◌, Bool, true, false, Option, Some, None, List, [], ◌∷◌, ◌++◌, length}
 use Rattle.std.proofs.Common.{refl, ap, subst, inl, inr, arith, length-append, if◌then◌else◌}
 use Rattle.enc_units.specs.declared.coder_result.CoderResult.{CoderResult}
@@ -77,32 +78,40 @@ some_done kept new rest last room k r h (inl at) =
 some_done kept new rest last room k r h (inr (inl at)) = let no_reference = at.reference in cc
 some_done kept new rest last room k r h (inr (inr at)) = omega (arith, at.small)
 
-fewer_left : (kept : ℕ) (old new : RawEncoderState) (src rest : List ℕ) (last : Bool) (room : ℕ) (done : List Step)
+fewer_left : (kept : ℕ) (old new : RawEncoderState) (src rest : List ℕ) (last : Bool) (room : ℕ)
+    (done : List Step)
     → kept ≤ 10 → 14 ≤ room
     → first_len (steps_from_state new last rest) ≤ 4 → IsFull kept new rest last room done
     → steps_from_state old last src ≡ done ++ steps_from_state new last rest
     → length (steps_from_state new last rest) < length (steps_from_state old last src)
-fewer_left kept old new src rest last room [] k r h full e = absurd (some_done kept new rest last room k r h full)
+fewer_left kept old new src rest last room [] k r h full e =
+    absurd (some_done kept new rest last room k r h full)
 fewer_left kept old new src rest last room (p ∷ done) k r h full e =
     omega (arith, ap length e, length-append (p ∷ done) (steps_from_state new last rest))
 
 -- A call that is not at the end has done a step.
-pub goes_on : {units_of : ℕ → List ℕ} {old new : EncoderState} {text : List ℕ} {last : Bool} {room : ℕ}
+pub goes_on : {units_of : ℕ → List ℕ} {old new : EncoderState} {text : List ℕ} {last : Bool}
+    {room : ℕ}
     (result : CoderResult) {read : ℕ} {wrote : List ℕ} {replaced : Bool}
-    (encodes : EncodesChunk units_of (html_mode old) old new text last room (encoder_result_of result) read wrote
+    (encodes : EncodesChunk units_of (html_mode old) old new text last room
+    (encoder_result_of result) read wrote
     replaced)
-    → ¬ (result ≡ InputEmpty) → 14 ≤ room → steps_left new last encodes.rest < steps_left old last text
+    → ¬ (result ≡ InputEmpty) → 14 ≤ room
+    → steps_left new last encodes.rest < steps_left old last text
 goes_on InputEmpty encodes n r = absurd (n refl)
 goes_on {old} {new} {text} {last} {room} OutputFull encodes n r =
-    fewer_left (room_kept_for_references old.barred old.encoding) (raw_state old) (raw_state new) text encodes.rest last
+    fewer_left (room_kept_for_references old.barred old.encoding) (raw_state old) (raw_state new)
+    text encodes.rest last
     room
     encodes.call.done
     (few_kept (maps_every_character old.barred old.encoding)) r
-    (few_step (raw_state new).rule last new.set encodes.rest (lawful_of new.barred new.encoding).few)
+    (few_step (raw_state new).rule last new.set encodes.rest
+    (lawful_of new.barred new.encoding).few)
     encodes.call.stops encodes.call.remaining
 
 -- Where ASCII is designated no escape sequence is due.
-pub none_due : (b : List ℕ) (e : Encoding) → escape_at_end ((output_rule b e).set_after Ascii []) ≡ []
+pub none_due : (b : List ℕ) (e : Encoding)
+    → escape_at_end ((output_rule b e).set_after Ascii []) ≡ []
 none_due b e = ap escape_at_end ((lawful_of b e).set_after_none Ascii)
 
 -- The output encoding has the rule by which a text is written.
@@ -113,7 +122,8 @@ same_rule Utf16be = refl
 same_rule Utf16le = refl
 same_rule _ = refl
 
-pub output_rule_is : (b : List ℕ) (e : Encoding) → output_rule b (output_encoding_of e) ≡ output_rule b e
+pub output_rule_is : (b : List ℕ) (e : Encoding)
+    → output_rule b (output_encoding_of e) ≡ output_rule b e
 output_rule_is b e = ap (barring_rule b) (same_rule e.id)
 
 -- The same of a call that reports unmappable characters.
@@ -123,15 +133,18 @@ not_one_more [] p e = cc
 not_one_more (q ∷ x) p e = cc
 
 some_reported : (new : RawEncoderState) (rest : List ℕ) (last : Bool) (room : ℕ) → 4 ≤ room
-    → first_len (steps_from_state new last rest) ≤ 4 → (result : EncoderResult) → ¬ (result ≡ raw.InputEmpty)
+    → first_len (steps_from_state new last rest) ≤ 4 → (result : EncoderResult)
+    → ¬ (result ≡ raw.InputEmpty)
     → EncoderStops new rest last room [] result → ⊥
 some_reported new rest last room r h raw.InputEmpty n at = n refl
 some_reported new rest last room r h raw.OutputFull n at =
     let few : length at.next.bytes ≤ 4 = subst (λ x. first_len x ≤ 4) at.comes h in
     omega (arith, at.full, few)
-some_reported new rest last room r h (raw.Unmappable c) n at = not_one_more at.before at.report at.then_report
+some_reported new rest last room r h (raw.Unmappable c) n at =
+    not_one_more at.before at.report at.then_report
 
-fewer_reported : (old new : RawEncoderState) (src rest : List ℕ) (last : Bool) (room : ℕ) (done : List Step)
+fewer_reported : (old new : RawEncoderState) (src rest : List ℕ) (last : Bool) (room : ℕ)
+    (done : List Step)
     → 4 ≤ room → first_len (steps_from_state new last rest) ≤ 4 → (result : EncoderResult)
     → ¬ (result ≡ raw.InputEmpty) → EncoderStops new rest last room done result
     → steps_from_state old last src ≡ done ++ steps_from_state new last rest
@@ -141,11 +154,14 @@ fewer_reported old new src rest last room [] r h result n at e =
 fewer_reported old new src rest last room (p ∷ done) r h result n at e =
     omega (arith, ap length e, length-append (p ∷ done) (steps_from_state new last rest))
 
-pub reports_on : {units_of : ℕ → List ℕ} {old new : EncoderState} {text : List ℕ} {last : Bool} {room : ℕ}
+pub reports_on : {units_of : ℕ → List ℕ} {old new : EncoderState} {text : List ℕ} {last : Bool}
+    {room : ℕ}
     {result : EncoderResult} {read : ℕ} {wrote : List ℕ} {replaced : Bool}
     (encodes : EncodesChunk units_of Fatal old new text last room result read wrote replaced)
-    → ¬ (result ≡ raw.InputEmpty) → 4 ≤ room → steps_left new last encodes.rest < steps_left old last text
+    → ¬ (result ≡ raw.InputEmpty) → 4 ≤ room
+    → steps_left new last encodes.rest < steps_left old last text
 reports_on {old} {new} {text} {last} {room} {result} encodes n r =
     fewer_reported (raw_state old) (raw_state new) text encodes.rest last room encodes.call.done r
-    (few_step (raw_state new).rule last new.set encodes.rest (lawful_of new.barred new.encoding).few) result n
+    (few_step (raw_state new).rule last new.set encodes.rest
+    (lawful_of new.barred new.encoding).few) result n
     encodes.call.stops encodes.call.remaining

@@ -36,8 +36,8 @@ abbrev pub DecidesBytes : Bool → Rule → Type 0
 DecidesBytes true rule = ¬ (HasNoByteSequences rule)
 DecidesBytes false rule = HasNoByteSequences rule
 
--- Its texts are small, its lookahead is short, each of its sequences has a text, but in two encodings, and some byte
--- is one by itself, but in three.
+-- Its texts are small, its lookahead is short, each of its sequences has a text, but in two
+-- encodings, and some byte is one by itself, but in three.
 pub record KeepsLaws (may_lack : Type 0) (has_bytes : Bool) (rule : Rule) : Type 0 where
   pub lawful : IsLawfulRule rule
   pub texts : (may_lack → ⊥) → HasTexts rule
@@ -107,7 +107,8 @@ laws_by_codec codec.Iso2022Jp = record {
   bytes = iso_2022_jp_has_bytes;
 }
 
-laws_of : (e : Encoding) → KeepsLaws (MayLackTexts (codec_by_id e.id)) (has_bytes (codec_by_id e.id)) (rule_of e)
+laws_of : (e : Encoding)
+    → KeepsLaws (MayLackTexts (codec_by_id e.id)) (has_bytes (codec_by_id e.id)) (rule_of e)
 laws_of e = laws_by_codec (codec_by_id e.id)
 
 -- the encodings of the table, by their codecs
@@ -132,12 +133,14 @@ small_texts e = (laws_of e).lawful.small_texts
 
 -- whether some byte is a sequence by itself
 pub decides_bytes : (e : Encoding) → DecidesBytes (has_byte_characters e.id) (rule_of e)
-decides_bytes e = subst (λ (b : Bool). DecidesBytes b (rule_of e)) (has_byte_codec e.id) (laws_of e).bytes
+decides_bytes e = subst (λ (b : Bool). DecidesBytes b (rule_of e)) (has_byte_codec e.id)
+    (laws_of e).bytes
 
 abbrev encoding_at : EncodingId → Encoding
 encoding_at id = record { id = id }
 
-pub has_texts : (e replacement iso_2022_jp : Encoding) → replacement.id ≡ Replacement → iso_2022_jp.id ≡ Iso2022Jp
+pub has_texts : (e replacement iso_2022_jp : Encoding) → replacement.id ≡ Replacement
+    → iso_2022_jp.id ≡ Iso2022Jp
     → (e ≡ replacement → ⊥) → (e ≡ iso_2022_jp → ⊥) → HasTexts (rule_of e)
 has_texts e replacement iso_2022_jp r j n m = (laws_of e).texts (λ h. elim h [
   | inl i ↦ n (ap encoding_at (is_replacement e.id i ∙ sym r))

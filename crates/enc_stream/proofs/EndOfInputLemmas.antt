@@ -56,13 +56,15 @@ open_some : (life : LifeCycle) (done : List Sequence) → has_ended life ≡ fal
 open_some life [] h = h
 open_some life (s ∷ ss) h = open_left life (sequence_bytes (s ∷ ss))
 
-open_if : (b : Bool) (life : LifeCycle) (other : Option LifeCycle) (done : List Sequence) → has_ended life ≡ false
+open_if : (b : Bool) (life : LifeCycle) (other : Option LifeCycle) (done : List Sequence)
+    → has_ended life ≡ false
     → has_ended (life_after_sequences other done) ≡ false
     → has_ended (life_after_sequences (if b then Some life else other) done) ≡ false
 open_if true life other done h k = open_some life done h
 open_if false life other done h k = k
 
-open_at : (states : List (List ℕ × LifeCycle)) (bytes : List ℕ) (done : List Sequence) → any_ended states ≡ false
+open_at : (states : List (List ℕ × LifeCycle)) (bytes : List ℕ) (done : List Sequence)
+    → any_ended states ≡ false
     → has_ended (life_after_sequences (life_at_prefix states bytes) done) ≡ false
 unfolding any_ended
 open_at [] bytes done none_has_ended = refl
@@ -78,36 +80,42 @@ ends_at_end life true bytes done = refl
 ends_at_end life false bytes done = open_at (mark_prefixes life) bytes done (none_ended life)
 
 -- so a call has finished exactly if it came to the end
-pub has_finished_by : {units_of : ℕ → List ℕ} {mode : DecodeErrorMode} {old new : DecoderState} {src : List ℕ}
+pub has_finished_by : {units_of : ℕ → List ℕ} {mode : DecodeErrorMode} {old new : DecoderState}
+    {src : List ℕ}
     {last : Bool} {room : ℕ} {result : DecoderResult} {read : ℕ} {wrote : List ℕ} {replaced : Bool}
     → DecodesChunk units_of mode old new src last room result read wrote replaced
     → has_finished new ≡ reaches_end last result
 has_finished_by {old} {src} {last} {result} {read} decodes =
-    ap has_ended decodes.life ∙ ends_at_end old.life (reaches_end last result) (old.pending ++ take read src)
+    ap has_ended decodes.life
+    ∙ ends_at_end old.life (reaches_end last result) (old.pending ++ take read src)
     decodes.call.done
 
-pub finishes : (old new : DecoderState) (src : List ℕ) (last : Bool) (room : ℕ) (result : CoderResult) (read : ℕ)
+pub finishes : (old new : DecoderState) (src : List ℕ) (last : Bool) (room : ℕ)
+    (result : CoderResult) (read : ℕ)
     (wrote : List ℕ) (replaced : Bool)
     → DecodesReplacing encode_utf8 old new src last room result read wrote replaced
     → has_finished new ≡ reaches_end last (decoder_result_of result)
 finishes old new src last room result read wrote replaced decodes = has_finished_by decodes
 
 -- a call that replaces has put out all that it has done
-pub puts_all : {old new : DecoderState} {src : List ℕ} {last : Bool} {room : ℕ} (result : CoderResult) {read : ℕ}
+pub puts_all : {old new : DecoderState} {src : List ℕ} {last : Bool} {room : ℕ}
+    (result : CoderResult) {read : ℕ}
     {wrote : List ℕ} {replaced : Bool}
     (decodes : DecodesReplacing encode_utf8 old new src last room result read wrote replaced)
     → decodes.call.put ≡ decodes.call.done
 puts_all InputEmpty decodes = sym decodes.call.stops.only_put
 puts_all OutputFull decodes = sym decodes.call.stops.only_put
 
-pub only_put : (old new : DecoderState) (src : List ℕ) (last : Bool) (room : ℕ) (result : CoderResult) (read : ℕ)
+pub only_put : (old new : DecoderState) (src : List ℕ) (last : Bool) (room : ℕ)
+    (result : CoderResult) (read : ℕ)
     (wrote : List ℕ) (replaced : Bool)
     (decodes : DecodesReplacing encode_utf8 old new src last room result read wrote replaced)
     → decodes.call.put ≡ decodes.call.done
 only_put old new src last room result read wrote replaced decodes = puts_all result decodes
 
 removal_sequences : (id : EncodingId) (e : Encoding) (bytes : List ℕ) → sequences_by_mark
-    (find_mark (marks_of_encoding id) bytes) e bytes ≡ sequences_in (phase_of (removal_start id)) e 0 bytes
+    (find_mark (marks_of_encoding id) bytes) e bytes
+    ≡ sequences_in (phase_of (removal_start id)) e 0 bytes
 removal_sequences Utf8 e bytes = refl
 removal_sequences Utf16be e bytes = refl
 removal_sequences Utf16le e bytes = refl
@@ -118,7 +126,8 @@ removal_open Utf8 = refl
 removal_open _ = refl
 
 -- before the first call the end isn't reached
-pub fresh_open : (handling : BomHandling) (e : Encoding) → has_finished (fresh_decoder handling e) ≡ false
+pub fresh_open : (handling : BomHandling) (e : Encoding)
+    → has_finished (fresh_decoder handling e) ≡ false
 fresh_open Off e = refl
 fresh_open Sniff e = refl
 fresh_open Remove e = removal_open e.id
@@ -137,7 +146,8 @@ none_left Finished e set bytes h = refl
 none_left _ e set bytes h = absurd (true≢false (sym h))
 
 -- so the text is that of the whole input
-module _ {handling : BomHandling} {e : Encoding} {bytes unread : List ℕ} {state : DecoderState} {text : List ℕ}
+module _ {handling : BomHandling} {e : Encoding} {bytes unread : List ℕ} {state : DecoderState}
+    {text : List ℕ}
     {had : Bool} (decoded : HasDecoded handling e bytes unread true state text had)
     (finished : has_finished state ≡ true) where
   finished_sequences : whole_sequences handling e bytes ≡ decoded.done
@@ -148,7 +158,8 @@ module _ {handling : BomHandling} {e : Encoding} {bytes unread : List ℕ} {stat
       ∙ append-nil decoded.done
 
   pub whole_text : text ≡ whole_utf_8 handling e bytes
-  whole_text = decoded.text ∙ ap (λ ss. units_of_text encode_utf8 (sequence_text ss)) (sym finished_sequences)
+  whole_text = decoded.text
+      ∙ ap (λ ss. units_of_text encode_utf8 (sequence_text ss)) (sym finished_sequences)
 
   pub whole_flag : had ≡ whole_malformed handling e bytes
   whole_flag = decoded.flag ∙ ap any_malformed (sym finished_sequences)

@@ -46,12 +46,14 @@ end_placed last InputEmpty n = refl
 end_placed last OutputFull n = refl
 end_placed last (Malformed l a) n = refl
 
-at_end : (last : Bool) (stop : DecoderResult) → reaches_end last stop ≡ true → (last ≡ true) × (stop ≡ InputEmpty)
+at_end : (last : Bool) (stop : DecoderResult) → reaches_end last stop ≡ true → (last ≡ true)
+    × (stop ≡ InputEmpty)
 at_end last InputEmpty h = (h, refl)
 at_end last OutputFull h = absurd (false≢true h)
 at_end last (Malformed l a) h = absurd (false≢true h)
 
-not_at_end : (last : Bool) (stop : DecoderResult) → reaches_end last stop ≡ false → last ≡ true → stop ≡ InputEmpty → ⊥
+not_at_end : (last : Bool) (stop : DecoderResult) → reaches_end last stop ≡ false → last ≡ true
+    → stop ≡ InputEmpty → ⊥
 not_at_end last stop h l s = false≢true (sym h ∙ ap (reaches_end last) s ∙ l)
 
 empty_not_malformed : (l a : ℕ) → InputEmpty ≡ Malformed l a → ⊥
@@ -68,7 +70,8 @@ pub own_state : (life : LifeCycle) (p : List ℕ) → has_ended life ≡ false
     → (awaits_mark (phase_of life) ≡ true → p ≡ held_mark_bytes life)
     → ((b : ℕ) (held : List ℕ) → held_mark_bytes life ≡ b ∷ held → p ≡ held_mark_bytes life)
     → life_after_sequences (life_at_prefix (mark_prefixes life) p) [] ≡ life
-own_state AtStart p h f g = ap (λ x. life_after_sequences (life_at_prefix (mark_prefixes AtStart) x) []) (f refl)
+own_state AtStart p h f g =
+    ap (λ x. life_after_sequences (life_at_prefix (mark_prefixes AtStart) x) []) (f refl)
 own_state AtUtf8Start p h f g =
     ap (λ x. life_after_sequences (life_at_prefix (mark_prefixes AtUtf8Start) x) []) (f refl)
 own_state AtUtf16BeStart p h f g =
@@ -84,11 +87,13 @@ own_state SeenUtf16BeFirst p h f g =
 own_state SeenUtf16LeFirst p h f g =
     ap (λ x. life_after_sequences (life_at_prefix (mark_prefixes SeenUtf16LeFirst) x) []) (f refl)
 own_state ConvertingWithPendingBb p h f g =
-    ap (λ x. life_after_sequences (life_at_prefix (mark_prefixes ConvertingWithPendingBb) x) []) (g _ _ refl)
+    ap (λ x. life_after_sequences (life_at_prefix (mark_prefixes ConvertingWithPendingBb) x) [])
+    (g _ _ refl)
 own_state Converting p h f g = refl
 own_state Finished p h f g = absurd (false≢true (sym h))
 
-held_first : (held p : List ℕ) (b : ℕ) (rest : List ℕ) → held ≡ b ∷ rest → held_or_pending_bytes held p ≡ held
+held_first : (held p : List ℕ) (b : ℕ) (rest : List ℕ) → held ≡ b ∷ rest
+    → held_or_pending_bytes held p ≡ held
 held_first [] p b rest e = cc
 held_first (x ∷ held) p b rest e = refl
 
@@ -107,7 +112,8 @@ left_if false h = refl
 -- once a sequence is done, the state is Converting, unless it is EF of a held EF BB
 none_left : (life : LifeCycle) (bytes : List ℕ) → (life ≡ SeenUtf8Second → length bytes ≡ 1 → ⊥)
     → life_after_bytes life bytes ≡ Converting
-none_left SeenUtf8Second bytes h = left_if (bytes_eq (0xEF ∷ []) bytes) (by_test (bytes_eq (0xEF ∷ []) bytes) refl)
+none_left SeenUtf8Second bytes h =
+    left_if (bytes_eq (0xEF ∷ []) bytes) (by_test (bytes_eq (0xEF ∷ []) bytes) refl)
   where
     by_test : (b : Bool) → bytes_eq (0xEF ∷ []) bytes ≡ b → b ≡ false
     by_test true f = absurd (h refl (sym (ap length ((bytes_eq-Decides (0xEF ∷ []) bytes).0 f))))
@@ -119,22 +125,29 @@ none_left _ bytes h = refl
 converts : (life : LifeCycle) (p : List ℕ) (done : List Sequence) → has_ended life ≡ false
     → (awaits_mark (phase_of life) ≡ true → p ≡ [])
     → (done ≡ [] → ⊥) → (life ≡ SeenUtf8Second → length (sequence_bytes done) ≡ 1 → ⊥)
-    → life_after_sequences (life_at_prefix (mark_prefixes life) (held_or_pending_bytes (held_mark_bytes life) p)) done
+    → life_after_sequences
+    (life_at_prefix (mark_prefixes life) (held_or_pending_bytes (held_mark_bytes life) p)) done
     ≡ Converting
 converts life p [] h f g i = absurd (g refl)
 converts life p (s ∷ ss) h f g i = by_state life h f i
   where
     by_state : (l : LifeCycle) → has_ended l ≡ false → (awaits_mark (phase_of l) ≡ true → p ≡ [])
         → (l ≡ SeenUtf8Second → length (sequence_bytes (s ∷ ss)) ≡ 1 → ⊥)
-        → life_after_sequences (life_at_prefix (mark_prefixes l) (held_or_pending_bytes (held_mark_bytes l) p)) (s ∷ ss)
+        → life_after_sequences
+        (life_at_prefix (mark_prefixes l) (held_or_pending_bytes (held_mark_bytes l) p))
+        (s ∷ ss)
         ≡ Converting
-    by_state AtStart a b c = ap (λ x. life_after_sequences (life_at_prefix (mark_prefixes AtStart) x) (s ∷ ss)) (b refl)
+    by_state AtStart a b c =
+        ap (λ x. life_after_sequences (life_at_prefix (mark_prefixes AtStart) x) (s ∷ ss)) (b refl)
     by_state AtUtf8Start a b c =
-        ap (λ x. life_after_sequences (life_at_prefix (mark_prefixes AtUtf8Start) x) (s ∷ ss)) (b refl)
+        ap (λ x. life_after_sequences (life_at_prefix (mark_prefixes AtUtf8Start) x) (s ∷ ss))
+        (b refl)
     by_state AtUtf16BeStart a b c =
-        ap (λ x. life_after_sequences (life_at_prefix (mark_prefixes AtUtf16BeStart) x) (s ∷ ss)) (b refl)
+        ap (λ x. life_after_sequences (life_at_prefix (mark_prefixes AtUtf16BeStart) x) (s ∷ ss))
+        (b refl)
     by_state AtUtf16LeStart a b c =
-        ap (λ x. life_after_sequences (life_at_prefix (mark_prefixes AtUtf16LeStart) x) (s ∷ ss)) (b refl)
+        ap (λ x. life_after_sequences (life_at_prefix (mark_prefixes AtUtf16LeStart) x) (s ∷ ss))
+        (b refl)
     by_state SeenUtf8First a b c = refl
     by_state SeenUtf8Second a b c = none_left SeenUtf8Second (sequence_bytes (s ∷ ss)) c
     by_state SeenUtf16BeFirst a b c = refl
@@ -147,11 +160,16 @@ converts life p (s ∷ ss) h f g i = by_state life h f i
 no_front_at : (life : LifeCycle) (p x : List ℕ) → has_ended life ≡ false
     → (awaits_mark (phase_of life) ≡ true → p ≡ [])
     → life_at_prefix (mark_prefixes life) (held_mark_bytes life ++ x) ≡ None
-    → life_at_prefix (mark_prefixes life) (held_or_pending_bytes (held_mark_bytes life) p ++ x) ≡ None
-no_front_at AtStart p x h f g = ap (λ y. life_at_prefix (mark_prefixes AtStart) (y ++ x)) (f refl) ∙ g
-no_front_at AtUtf8Start p x h f g = ap (λ y. life_at_prefix (mark_prefixes AtUtf8Start) (y ++ x)) (f refl) ∙ g
-no_front_at AtUtf16BeStart p x h f g = ap (λ y. life_at_prefix (mark_prefixes AtUtf16BeStart) (y ++ x)) (f refl) ∙ g
-no_front_at AtUtf16LeStart p x h f g = ap (λ y. life_at_prefix (mark_prefixes AtUtf16LeStart) (y ++ x)) (f refl) ∙ g
+    → life_at_prefix (mark_prefixes life) (held_or_pending_bytes (held_mark_bytes life) p ++ x)
+    ≡ None
+no_front_at AtStart p x h f g = ap (λ y. life_at_prefix (mark_prefixes AtStart) (y ++ x)) (f refl)
+    ∙ g
+no_front_at AtUtf8Start p x h f g =
+    ap (λ y. life_at_prefix (mark_prefixes AtUtf8Start) (y ++ x)) (f refl) ∙ g
+no_front_at AtUtf16BeStart p x h f g =
+    ap (λ y. life_at_prefix (mark_prefixes AtUtf16BeStart) (y ++ x)) (f refl) ∙ g
+no_front_at AtUtf16LeStart p x h f g =
+    ap (λ y. life_at_prefix (mark_prefixes AtUtf16LeStart) (y ++ x)) (f refl) ∙ g
 no_front_at SeenUtf8First p x h f g = g
 no_front_at SeenUtf8Second p x h f g = g
 no_front_at SeenUtf16BeFirst p x h f g = g
@@ -160,13 +178,15 @@ no_front_at ConvertingWithPendingBb p x h f g = g
 no_front_at Converting p x h f g = refl
 no_front_at Finished p x h f g = absurd (false≢true (sym h))
 
-held_or_pending : (none : Bool) (h : List ℕ) (n : ℕ) → eqb n 0 ≡ none → (length (if none then h else []) ≡ 0) ⊎ (n ≡ 0)
+held_or_pending : (none : Bool) (h : List ℕ) (n : ℕ) → eqb n 0 ≡ none
+    → (length (if none then h else []) ≡ 0) ⊎ (n ≡ 0)
 held_or_pending true h n e = inr (grind (arith, nat_tests))
 held_or_pending false h n e = inl refl
 
 -- Of EF BB, EF is done.
 
-two_bytes : (life : LifeCycle) (none : Bool) → length (if none then held_mark_bytes life else []) ≡ 2
+two_bytes : (life : LifeCycle) (none : Bool)
+    → length (if none then held_mark_bytes life else []) ≡ 2
     → (life ≡ SeenUtf8Second) × (none ≡ true)
 two_bytes life false h = absurd (omega arith)
 two_bytes life true h = (by_state life h, refl)
@@ -198,7 +218,8 @@ one_and_rest (x ∷ []) rest bytes b same_bytes h =
 one_and_rest (x ∷ y ∷ front) rest bytes b same_bytes h = absurd (omega arith)
 
 -- the codec does EF of EF BB and leaves BB
-pub record LeavesBb (v w : CodecState) (src : List ℕ) (done : List Sequence) (left read : ℕ) (life : LifeCycle)
+pub record LeavesBb (v w : CodecState) (src : List ℕ) (done : List Sequence) (left read : ℕ)
+    (life : LifeCycle)
     : Type 0 where
   pub state : life ≡ SeenUtf8Second
   pub unread : unread_bytes life (length v.pending) ≡ 0xEF ∷ 0xBB ∷ []
@@ -207,7 +228,8 @@ pub record LeavesBb (v w : CodecState) (src : List ℕ) (done : List Sequence) (
   pub bb_left : w.pending ++ drop (length (unread_bytes life (length v.pending)) - left + read)
       (unread_bytes life (length v.pending) ++ src) ≡ 0xBB ∷ src
 
-pub leaves_bb : {v w : CodecState} {src : List ℕ} {done : List Sequence} {left read : ℕ} {life : LifeCycle}
+pub leaves_bb : {v w : CodecState} {src : List ℕ} {done : List Sequence} {left read : ℕ}
+    {life : LifeCycle}
     → ReadsHeldFirst (unread_bytes life (length v.pending)) src left read
     → v.pending ++ take (length (unread_bytes life (length v.pending)) - left + read)
     (unread_bytes life (length v.pending) ++ src) ≡ sequence_bytes done ++ w.pending
@@ -215,7 +237,8 @@ pub leaves_bb : {v w : CodecState} {src : List ℕ} {done : List Sequence} {left
     → LeavesBb v w src done left read life
 leaves_bb {v} {w} {src} {done} {left} {read} {life} reads_held accounted nothing_read two one =
     let two_held_bytes = two_bytes life (eqb (length v.pending) 0) two in
-    let none : v.pending ≡ [] = no_bytes v.pending (let is_zero = two_held_bytes.1 in grind (arith, nat_tests)) in
+    let none : v.pending ≡ [] =
+    no_bytes v.pending (let is_zero = two_held_bytes.1 in grind (arith, nat_tests)) in
     let held : List ℕ = unread_bytes life (length v.pending) in
     let unread : held ≡ 0xEF ∷ 0xBB ∷ [] =
     ap (λ n. unread_bytes life n) (ap length none) ∙ ap (λ l. unread_bytes l 0) two_held_bytes.0 in
@@ -228,17 +251,28 @@ leaves_bb {v} {w} {src} {done} {left} {read} {life} reads_held accounted nothing
     let joined_length = length-append held src in
     let none_pending = ap length none in
     omega (arith, reads_held.most)) in
-    let whole : sequence_bytes done ++ (w.pending ++ drop total (held ++ src)) ≡ 0xEF ∷ (0xBB ∷ src) =
+    let whole : sequence_bytes done ++ (w.pending ++ drop total (held ++ src)) ≡ 0xEF
+    ∷ (0xBB ∷ src) =
     sym (append_assoc (sequence_bytes done) w.pending (drop total (held ++ src)))
-    ∙ ap (λ x. x ++ drop total (held ++ src)) (sym accounted ∙ ap (λ x. x ++ take total (held ++ src)) none)
+    ∙ ap (λ x. x ++ drop total (held ++ src))
+    (sym accounted ∙ ap (λ x. x ++ take total (held ++ src)) none)
     ∙ take-append-drop total (held ++ src) ∙ ap (λ x. x ++ src) unread in
     let parts =
-    one_and_rest (sequence_bytes done) (w.pending ++ drop total (held ++ src)) (0xBB ∷ src) 0xEF whole
+    one_and_rest (sequence_bytes done) (w.pending ++ drop total (held ++ src)) (0xBB ∷ src) 0xEF
+    whole
     done_length in
-    record { state = two_held_bytes.0; unread = unread; none = none; done_bytes = parts.0; bb_left = parts.1 }
+    record {
+      state = two_held_bytes.0;
+      unread = unread;
+      none = none;
+      done_bytes = parts.0;
+      bb_left =
+          parts.1;
+    }
 
 -- the codec then has BB, or hasn't read it
-pub holds_bb : {v w : CodecState} {src : List ℕ} {done : List Sequence} {left read : ℕ} {life : LifeCycle}
+pub holds_bb : {v w : CodecState} {src : List ℕ} {done : List Sequence} {left read : ℕ}
+    {life : LifeCycle}
     → LeavesBb v w src done left read life → length w.pending + left ≡ 1
     → HeldBytesMatchCodec ConvertingWithPendingBb w
 holds_bb {v} {w} {src} {left = left} {read} {life} b one = record {
@@ -254,8 +288,10 @@ holds_bb {v} {w} {src} {left = left} {read} {life} b one = record {
     by_pending (x ∷ []) rest e h = sym (one_and_rest (x ∷ []) rest src 0xBB e refl).0
     by_pending (x ∷ y ∷ p) rest e h = absurd (omega arith)
 
-bb_state : (done : List Sequence) (x : List ℕ) → x ≡ 0xEF ∷ 0xBB ∷ [] → sequence_bytes done ≡ 0xEF ∷ []
-    → life_after_sequences (life_at_prefix (mark_prefixes SeenUtf8Second) x) done ≡ ConvertingWithPendingBb
+bb_state : (done : List Sequence) (x : List ℕ) → x ≡ 0xEF ∷ 0xBB ∷ []
+    → sequence_bytes done ≡ 0xEF ∷ []
+    → life_after_sequences (life_at_prefix (mark_prefixes SeenUtf8Second) x) done
+    ≡ ConvertingWithPendingBb
 bb_state [] x e f = absurd (let same_length = ap length f in omega arith)
 bb_state (s ∷ ss) x e f =
     ap (λ y. life_after_sequences (life_at_prefix (mark_prefixes SeenUtf8Second) y) (s ∷ ss)) e
@@ -280,7 +316,8 @@ module _ {e : Encoding} {life : LifeCycle} {v : CodecState} {src : List ℕ} {la
 
   -- the held bytes that are left at a malformed sequence
   abbrev IsPlaced : DecoderResult → Type 0
-  IsPlaced stop = (l a : ℕ) → stop ≡ Malformed l a → (left ≡ 0) ⊎ ((left ≡ 1) × (total ≡ 1) × (v.pending ≡ []))
+  IsPlaced stop = (l a : ℕ) → stop ≡ Malformed l a → (left ≡ 0)
+      ⊎ ((left ≡ 1) × (total ≡ 1) × (v.pending ≡ []))
 
   -- all of the bytes held that the codec hasn't read are few
   near : (settled ≤ read) ⊎ ((total ≤ 5) × (v.pending ≡ []))
@@ -308,33 +345,44 @@ module _ {e : Encoding} {life : LifeCycle} {v : CodecState} {src : List ℕ} {la
       let all_and_read : total ≡ length held + read = omega arith in
       ap (λ n. drop n (held ++ src)) all_and_read ∙ drop-append-add held src read
 
-  module _ (units_of : ℕ → List ℕ) (w : CodecState) (mode : DecodeErrorMode) (room : ℕ) (written : List ℕ)
+  module _ (units_of : ℕ → List ℕ) (w : CodecState) (mode : DecodeErrorMode) (room : ℕ)
+      (written : List ℕ)
       (replaced : Bool) where
     abbrev CodecCall : DecoderResult → Type 0
-    CodecCall stop = DecoderCall units_of (remainder_of v) (remainder_of w) (held ++ src) last mode room stop total
+    CodecCall stop = DecoderCall units_of (remainder_of v) (remainder_of w) (held ++ src) last mode
+        room stop total
         written replaced
 
     call_by : (stop : DecoderResult) (codec_call : CodecCall stop)
-        → v.pending ++ take total (held ++ src) ≡ sequence_bytes codec_call.done ++ w.pending → IsPlaced stop
-        → (new : Remainder) → Follows (decoder_remainder (decoder_state_of e life v)) (remainder_of w) new src
+        → v.pending ++ take total (held ++ src) ≡ sequence_bytes codec_call.done ++ w.pending
+        → IsPlaced stop
+        → (new : Remainder) → Follows (decoder_remainder (decoder_state_of e life v))
+        (remainder_of w) new src
         (held ++ src) last stop [] codec_call.done left settled total read
-        → (d : DecoderCall units_of (decoder_remainder (decoder_state_of e life v)) new src last mode room
+        → (d : DecoderCall units_of (decoder_remainder (decoder_state_of e life v)) new src last
+        mode room
         (shifted_result stop left) read written replaced) × (d.done ≡ codec_call.done)
     call_by InputEmpty c all_accounted p new f =
-        carries_empty units_of (decoder_remainder (decoder_state_of e life v)) (remainder_of v) src (held ++ src)
-        (bytes-append held src (bytes_unread life (length v.pending)) text.bytes) last mode room room [] [] false
+        carries_empty units_of (decoder_remainder (decoder_state_of e life v)) (remainder_of v) src
+        (held ++ src)
+        (bytes-append held src (bytes_unread life (length v.pending)) text.bytes) last mode room
+        room [] [] false
         (length held) 0 settled settled total read left (remainder_of w) new written replaced
         (carries text) (reads_on text reads_held) (nothing_wrote units_of mode room)
         c f
     call_by OutputFull c all_accounted p new f =
-        carries_full units_of (decoder_remainder (decoder_state_of e life v)) (remainder_of v) src (held ++ src)
-        (bytes-append held src (bytes_unread life (length v.pending)) text.bytes) last mode room room [] [] false
+        carries_full units_of (decoder_remainder (decoder_state_of e life v)) (remainder_of v) src
+        (held ++ src)
+        (bytes-append held src (bytes_unread life (length v.pending)) text.bytes) last mode room
+        room [] [] false
         (length held) 0 settled settled total read left (remainder_of w) new written replaced
         (carries text) (reads_on text reads_held) (nothing_wrote units_of mode room)
         c f
     call_by (Malformed l m) c all_accounted p new f =
-        carries_malformed units_of (decoder_remainder (decoder_state_of e life v)) (remainder_of v) src (held ++ src)
-        (bytes-append held src (bytes_unread life (length v.pending)) text.bytes) last mode room room [] [] false
+        carries_malformed units_of (decoder_remainder (decoder_state_of e life v)) (remainder_of v)
+        src (held ++ src)
+        (bytes-append held src (bytes_unread life (length v.pending)) text.bytes) last mode room
+        room [] [] false
         (length held) 0 settled settled total read left (remainder_of w) new written replaced
         (carries text) (reads_on text reads_held) (nothing_wrote units_of mode room)
         l m c f (
@@ -342,16 +390,19 @@ module _ {e : Encoding} {life : LifeCycle} {v : CodecState} {src : List ℕ} {la
           elim (p l m refl) [ inl h ↦ inl h | inr h ↦ inr (h.0, h.1, (h.2, all_accounted)) ],
         )
 
-    malformed_is_done : (stop : DecoderResult) (c : CodecCall stop) → c.done ≡ [] → (l a : ℕ) → stop ≡ Malformed l a
+    malformed_is_done : (stop : DecoderResult) (c : CodecCall stop) → c.done ≡ [] → (l a : ℕ)
+        → stop ≡ Malformed l a
         → ⊥
     malformed_is_done InputEmpty codec_call e l a f = cc
     malformed_is_done OutputFull codec_call e l a f = cc
     malformed_is_done (Malformed m n) codec_call e l a f =
-        none_malformed codec_call.done codec_call.put codec_call.stops.next e codec_call.stops.then_next
+        none_malformed codec_call.done codec_call.put codec_call.stops.next e
+        codec_call.stops.then_next
 
   module _ {units_of : ℕ → List ℕ} {w : CodecState} {mode : DecodeErrorMode} {before after : Output}
       {stop : DecoderResult} {replaced : Bool} (kept : w.rule ≡ v.rule)
-      (made : PrefixedCallInto units_of (remainder_of v) (remainder_of w) (held ++ src) last mode before after stop
+      (made : PrefixedCallInto units_of (remainder_of v) (remainder_of w) (held ++ src) last mode
+      before after stop
       total replaced) where
     -- how many bytes are done
     done_len : length v.pending + total ≡ length (sequence_bytes made.call.done) + length w.pending
@@ -383,15 +434,20 @@ module _ {e : Encoding} {life : LifeCycle} {v : CodecState} {src : List ℕ} {la
 
     accounted_all : left ≡ 0 → pending ++ take read src ≡ sequence_bytes made.call.done ++ w.pending
     accounted_all all_held_read =
-        at_hand text (take read src) ∙ ap (λ x. v.pending ++ x) (sym (taken_all all_held_read)) ∙ made.accounted
+        at_hand text (take read src) ∙ ap (λ x. v.pending ++ x) (sym (taken_all all_held_read))
+        ∙ made.accounted
 
     -- the decoder's call, by its state after it
     into : (new : DecoderState)
-        → (d : DecoderCall units_of (decoder_remainder (decoder_state_of e life v)) (decoder_remainder new) src last
-        mode before.room (shifted_result stop left) read made.wrote replaced) × (d.done ≡ made.call.done)
+        → (d : DecoderCall units_of (decoder_remainder (decoder_state_of e life v))
+        (decoder_remainder new) src last
+        mode before.room (shifted_result stop left) read made.wrote replaced)
+        × (d.done ≡ made.call.done)
         → new.encoding ≡ e → pending ++ take read src ≡ sequence_bytes made.call.done ++ new.pending
-        → new.life ≡ life_after life (reaches_end last stop) (pending ++ take read src) made.call.done
-        → DecodesInto units_of mode (decoder_state_of e life v) new src last before after (shifted_result stop left)
+        → new.life ≡ life_after life (reaches_end last stop) (pending ++ take read src)
+        made.call.done
+        → DecodesInto units_of mode (decoder_state_of e life v) new src last before after
+        (shifted_result stop left)
         read replaced
     into new called same_encoding all_accounted next_life =
         let none = unmarked_read text read reads_held.within in
@@ -401,33 +457,41 @@ module _ {e : Encoding} {life : LifeCycle} {v : CodecState} {src : List ℕ} {la
           decodes = record {
             call = called.0;
             accounted = all_accounted ∙ ap (λ x. sequence_bytes x ++ new.pending) (sym called.1)
-                ∙ ap (λ m. mark_bytes m ++ (sequence_bytes called.0.done ++ new.pending)) (sym none);
+                ∙ ap (λ m. mark_bytes m ++ (sequence_bytes called.0.done ++ new.pending))
+                (sym none);
             encoding = same_encoding ∙ ap (λ m. encoding_of_mark_or m e) (sym none);
             life = next_life
-                ∙ ap (λ x. life_after life (reaches_end last stop) (pending ++ take read src) x) (sym called.1)
+                ∙ ap (λ x. life_after life (reaches_end last stop) (pending ++ take read src) x)
+                (sym called.1)
                 ∙ ap (λ b. life_after life b (pending ++ take read src) called.0.done)
                 (sym (end_placed last stop left));
           };
         }
 
     call_over_src : IsPlaced stop → (new : Remainder)
-        → Follows (decoder_remainder (decoder_state_of e life v)) (remainder_of w) new src (held ++ src) last stop []
+        → Follows (decoder_remainder (decoder_state_of e life v)) (remainder_of w) new src
+        (held ++ src) last stop []
         made.call.done left settled total read
-        → (d : DecoderCall units_of (decoder_remainder (decoder_state_of e life v)) new src last mode before.room
+        → (d : DecoderCall units_of (decoder_remainder (decoder_state_of e life v)) new src last
+        mode before.room
         (shifted_result stop left) read made.wrote replaced) × (d.done ≡ made.call.done)
     call_over_src placed new follows =
-        call_by units_of w mode before.room made.wrote replaced stop made.call made.accounted placed new follows
+        call_by units_of w mode before.room made.wrote replaced stop made.call made.accounted placed
+        new follows
 
     -- At the end of the input.
     pub ends : reaches_end last stop ≡ true
-        → DecodesInto units_of mode (decoder_state_of e life v) (decoder_state_of e Finished w) src last before after
+        → DecodesInto units_of mode (decoder_state_of e life v) (decoder_state_of e Finished w) src
+        last before after
         (shifted_result stop left) read replaced
     ends at_end_now =
         let is_last : last ≡ true = (at_end last stop at_end_now).0 in
         let at_empty : stop ≡ InputEmpty = (at_end last stop at_end_now).1 in
-        let stops : DecoderAtInputEmpty (remainder_of v) (remainder_of w) (held ++ src) last made.call.put
+        let stops : DecoderAtInputEmpty (remainder_of v) (remainder_of w) (held ++ src) last
+        made.call.put
         made.call.done total =
-        subst (λ x. DecoderStops units_of (remainder_of v) (remainder_of w) (held ++ src) last mode before.room
+        subst (λ x. DecoderStops units_of (remainder_of v) (remainder_of w) (held ++ src) last mode
+        before.room
         made.call.put made.call.done total x) at_empty made.call.stops in
         let nothing_left : left ≡ 0 =
         (let read_all = stops.all_read in
@@ -441,7 +505,8 @@ module _ {e : Encoding} {life : LifeCycle} {v : CodecState} {src : List ℕ} {la
         (record {
           after =
               λ z l. ap (remainder_of w).sequences
-              (ap (λ x. x ++ z) (drop_of_length-le (held ++ src) (let read_all = stops.all_read in omega arith))
+              (ap (λ x. x ++ z) (drop_of_length-le (held ++ src)
+              (let read_all = stops.all_read in omega arith))
               ∙ l is_last) ∙ stops.none_left is_last;
           set = made.call.set;
           pending = omega arith;
@@ -454,7 +519,8 @@ module _ {e : Encoding} {life : LifeCycle} {v : CodecState} {src : List ℕ} {la
     -- Nothing is done, and none of the offer is read: all is as it was.
     pub stays : reaches_end last stop ≡ false → read ≡ 0
         → length w.pending + left ≡ length v.pending + length held
-        → DecodesInto units_of mode (decoder_state_of e life v) (decoder_state_of e life v) src last before after
+        → DecodesInto units_of mode (decoder_state_of e life v) (decoder_state_of e life v) src last
+        before after
         (shifted_result stop left) read replaced
     stays not_ended nothing_read untouched =
         let nothing : made.call.done ≡ [] =
@@ -463,15 +529,19 @@ module _ {e : Encoding} {life : LifeCycle} {v : CodecState} {src : List ℕ} {la
         ap (λ k. pending ++ take k src) nothing_read ∙ append-nil pending in
         into (decoder_state_of e life v)
         (call_over_src
-        (λ l m x. absurd (malformed_is_done units_of w mode before.room made.wrote replaced stop made.call nothing l m
+        (λ l m x. absurd (malformed_is_done units_of w mode before.room made.wrote replaced stop
+        made.call nothing l m
         x))
         (decoder_remainder (decoder_state_of e life v))
         (record {
           after = λ y l.
-              sym (ap (λ d. d ++ (remainder_of w).sequences (drop total (held ++ src) ++ y)) nothing)
-              ∙ sym (made.call.residual y l) ∙ ap (remainder_of v).sequences (append_assoc held src y)
+              sym (ap (λ d. d ++ (remainder_of w).sequences (drop total (held ++ src) ++ y))
+              nothing)
+              ∙ sym (made.call.residual y l)
+              ∙ ap (remainder_of v).sequences (append_assoc held src y)
               ∙ sym (by_codec text (src ++ y) (unmarked_all text y l))
-              ∙ ap (λ k. remaining_sequences (decoder_state_of e life v) (drop k src ++ y)) (sym nothing_read);
+              ∙ ap (λ k. remaining_sequences (decoder_state_of e life v) (drop k src ++ y))
+              (sym nothing_read);
           set = sym (ap (set_after v.set) nothing);
           pending = length_pending ∙ sym untouched;
           none_pending = λ l x. absurd (not_at_end last stop not_ended l x);
@@ -481,7 +551,8 @@ module _ {e : Encoding} {life : LifeCycle} {v : CodecState} {src : List ℕ} {la
         (sym (let are_held = shows_held e life v text.holds in
         own_state life pending text.going are_held.in_front are_held.held)
         ∙ ap (λ x. life_after_sequences (life_at_prefix (mark_prefixes life) x) []) (sym none_read)
-        ∙ ap (life_after_sequences (life_at_prefix (mark_prefixes life) (pending ++ take read src))) (sym nothing)
+        ∙ ap (life_after_sequences (life_at_prefix (mark_prefixes life) (pending ++ take read src)))
+        (sym nothing)
         ∙ ap (λ b. life_after life b (pending ++ take read src) made.call.done) (sym not_ended))
 
     -- Text goes on.
@@ -502,23 +573,28 @@ module _ {e : Encoding} {life : LifeCycle} {v : CodecState} {src : List ℕ} {la
               let all_done = done_len in
               let within_held = reads_held.most in
               let at_most_two = few_unread life (length v.pending) in
-              elim (held_or_pending (eqb (length v.pending) 0) (held_mark_bytes life) (length v.pending) refl) [
+              elim (held_or_pending (eqb (length v.pending) 0) (held_mark_bytes life)
+              (length v.pending) refl) [
                 | inl none_held ↦ omega arith
-                | inr none_pending ↦ elim (most_or_more (length (sequence_bytes made.call.done)) 0) [
-                  | inl o ↦ touched none_read (omega arith)
-                  | inr o ↦ no_bb none_read (omega arith) (omega arith)
-                ]
+                | inr none_pending ↦ elim (most_or_more (length (sequence_bytes made.call.done))
+                    0) [
+                      | inl o ↦ touched none_read (omega arith)
+                      | inr o ↦ no_bb none_read (omega arith) (omega arith)
+                    ]
               ]
 
       state_on : (n : ℕ) → n ≡ read
-          → life_after_sequences (life_at_prefix (mark_prefixes life) (pending ++ take n src)) made.call.done
+          → life_after_sequences (life_at_prefix (mark_prefixes life) (pending ++ take n src))
+          made.call.done
           ≡ Converting
       state_on zero n_is_read =
-          ap (λ x. life_after_sequences (life_at_prefix (mark_prefixes life) x) made.call.done) (append-nil pending)
+          ap (λ x. life_after_sequences (life_at_prefix (mark_prefixes life) x) made.call.done)
+          (append-nil pending)
           ∙ converts life v.pending made.call.done text.going (λ x. (text.holds.unread x).1)
           (λ d. touched (sym n_is_read) (let none_long = ap (λ x. length (sequence_bytes x)) d in
           let all_done = done_len in let all_held_read = nothing_left in omega arith))
-          (λ s l. no_bb (sym n_is_read) (two_held s) (let all_done = done_len in let all_held_read = nothing_left in
+          (λ s l. no_bb (sym n_is_read) (two_held s)
+          (let all_done = done_len in let all_held_read = nothing_left in
           let two = two_held s in let none_pending = none_pending_at s in omega arith))
         where
           none_pending_at : life ≡ SeenUtf8Second → length v.pending ≡ 0
@@ -528,13 +604,16 @@ module _ {e : Encoding} {life : LifeCycle} {v : CodecState} {src : List ℕ} {la
           two_held is_second = ap (λ n. length (unread_bytes life n)) (none_pending_at is_second)
               ∙ ap (λ l. length (unread_bytes l 0)) is_second
       state_on (suc n) n_is_read =
-          let first = first_byte (suc n) src [] (omega arith) (let within_src = reads_held.within in omega arith) in
+          let first = first_byte (suc n) src [] (omega arith)
+          (let within_src = reads_held.within in omega arith) in
           ap (λ o. life_after_sequences o made.call.done)
-          (ap (λ x. life_at_prefix (mark_prefixes life) (pending ++ x)) (sym (append-nil (take (suc n) src)) ∙ first.4)
+          (ap (λ x. life_at_prefix (mark_prefixes life) (pending ++ x))
+          (sym (append-nil (take (suc n) src)) ∙ first.4)
           ∙ no_front_at life v.pending (first.0 ∷ first.2) text.going (λ x. (text.holds.unread x).1)
           ((text.no_mark.rules_out first.0 first.1 first.3).no_front first.2))
 
-      pub goes_on : DecodesInto units_of mode (decoder_state_of e life v) (decoder_state_of e Converting w) src last
+      pub goes_on : DecodesInto units_of mode (decoder_state_of e life v)
+          (decoder_state_of e Converting w) src last
           before after (shifted_result stop left) read replaced
       goes_on =
           into (decoder_state_of e Converting w)
@@ -551,12 +630,15 @@ module _ {e : Encoding} {life : LifeCycle} {v : CodecState} {src : List ℕ} {la
             same = inl refl;
           }))
           refl (accounted_all nothing_left)
-          (sym (state_on read refl) ∙ ap (λ b. life_after life b (pending ++ take read src) made.call.done)
+          (sym (state_on read refl)
+          ∙ ap (λ b. life_after life b (pending ++ take read src) made.call.done)
           (sym not_ended))
 
     -- BB stays after EF.
-    pub stays_bb : reaches_end last stop ≡ false → read ≡ 0 → length held ≡ 2 → length w.pending + left ≡ 1
-        → DecodesInto units_of mode (decoder_state_of e life v) (decoder_state_of e ConvertingWithPendingBb w) src last
+    pub stays_bb : reaches_end last stop ≡ false → read ≡ 0 → length held ≡ 2
+        → length w.pending + left ≡ 1
+        → DecodesInto units_of mode (decoder_state_of e life v)
+        (decoder_state_of e ConvertingWithPendingBb w) src last
         before after (shifted_result stop left) read replaced
     stays_bb not_ended nothing_read two one =
         let leaves : LeavesBb v w src made.call.done left read life =
@@ -571,9 +653,12 @@ module _ {e : Encoding} {life : LifeCycle} {v : CodecState} {src : List ℕ} {la
         (record {
           after = λ y l.
               ap (λ x. sequences_of w.rule w.set x)
-              (sym (append_assoc w.pending (drop total (held ++ src)) y) ∙ ap (λ x. x ++ y) leaves.bb_left)
-              ∙ ap (λ (q : Rule). sequences_of q w.set (0xBB ∷ (src ++ y))) (kept ∙ sym text.same_rule)
-              ∙ ap (λ k. sequences_of (rule_of e) w.set (0xBB ∷ (drop k src ++ y))) (sym nothing_read);
+              (sym (append_assoc w.pending (drop total (held ++ src)) y)
+              ∙ ap (λ x. x ++ y) leaves.bb_left)
+              ∙ ap (λ (q : Rule). sequences_of q w.set (0xBB ∷ (src ++ y)))
+              (kept ∙ sym text.same_rule)
+              ∙ ap (λ k. sequences_of (rule_of e) w.set (0xBB ∷ (drop k src ++ y)))
+              (sym nothing_read);
           set = made.call.set;
           pending = sym one;
           none_pending = λ l x. absurd (not_at_end last stop not_ended l x);
@@ -581,7 +666,8 @@ module _ {e : Encoding} {life : LifeCycle} {v : CodecState} {src : List ℕ} {la
         }))
         refl (none_read ∙ ap (λ x. x ++ 0xBB ∷ []) (sym leaves.done_bytes))
         (sym (bb_state made.call.done (pending ++ take read src) none_read leaves.done_bytes)
-        ∙ ap (λ l. life_after_sequences (life_at_prefix (mark_prefixes l) (pending ++ take read src)) made.call.done)
+        ∙ ap (λ l. life_after_sequences
+        (life_at_prefix (mark_prefixes l) (pending ++ take read src)) made.call.done)
         (sym leaves.state)
         ∙ ap (λ x. life_after life x (pending ++ take read src) made.call.done) (sym not_ended))
       where
@@ -600,7 +686,8 @@ not_both_equal read x y h e f = grind (arith, nat_tests)
 
 pub all_equal : (read x y m n : ℕ) → (eqb read 0 && (eqb x m && eqb y n)) ≡ true
     → (read ≡ 0) × (x ≡ m) × (y ≡ n)
-all_equal read x y m n h = (grind (arith, nat_tests), grind (arith, nat_tests), grind (arith, nat_tests))
+all_equal read x y m n h =
+    (grind (arith, nat_tests), grind (arith, nat_tests), grind (arith, nat_tests))
 
 pub not_all_equal : (read x y m n : ℕ) → (eqb read 0 && (eqb x m && eqb y n)) ≡ false
     → read ≡ 0 → x ≡ m → y ≡ n → ⊥

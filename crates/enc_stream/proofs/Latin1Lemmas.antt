@@ -13,11 +13,13 @@ use Rattle.enc_stream.specs.Decoding.{decoder_state_of}
 use Rattle.enc_stream.specs.Latin1.{has_byte_characters, DecoderMayBeLatin1, AnswersDecoderLatin1}
 use Rattle.enc_stream.proofs.EncodingLemmas.{DecidesBytes, decides_bytes}
 
-has_some : (has : Bool) (rule : Rule) → DecidesBytes has rule → has ≡ true → ¬ (HasNoByteSequences rule)
+has_some : (has : Bool) (rule : Rule) → DecidesBytes has rule → has ≡ true
+    → ¬ (HasNoByteSequences rule)
 has_some true rule t e = t
 has_some false rule t e = absurd (false≢true e)
 
-some_has : (has : Bool) (rule : Rule) → DecidesBytes has rule → ¬ (HasNoByteSequences rule) → has ≡ true
+some_has : (has : Bool) (rule : Rule) → DecidesBytes has rule → ¬ (HasNoByteSequences rule)
+    → has ≡ true
 some_has true rule t n = refl
 some_has false rule t n = absurd (n t)
 
@@ -52,6 +54,8 @@ module _ (e : Encoding) (codec : CodecState) (same_rule : rule_of e ≡ codec.ru
 
   -- after the place of a mark
   pub shows_latin1 : (life : LifeCycle) → life ≡ Converting → (bytes : List ℕ) (answer : Option ℕ)
-      → CodecAnswers codec bytes answer → AnswersDecoderLatin1 (decoder_state_of e life codec) bytes answer
-  shows_latin1 life i bytes answer t = subst (λ (l : LifeCycle). AnswersDecoderLatin1 (decoder_state_of e l codec)
+      → CodecAnswers codec bytes answer
+      → AnswersDecoderLatin1 (decoder_state_of e life codec) bytes answer
+  shows_latin1 life i bytes answer t =
+      subst (λ (l : LifeCycle). AnswersDecoderLatin1 (decoder_state_of e l codec)
       bytes answer) (sym i) (converting_shows bytes answer t)

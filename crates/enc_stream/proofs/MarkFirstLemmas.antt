@@ -23,7 +23,8 @@ use Rattle.enc_stream.specs.Decoding.{whole_sequences}
 use Rattle.enc_stream.specs.MarkLaws.{IsProperPrefix, MayBeginMark, bytes_after_mark}
 
 -- bytes that are no proper prefix of p decide whether p is in front
-pub same_start : (p x y : List ℕ) → (IsProperPrefix x p → ⊥) → starts_with nat_eq (x ++ y) p ≡ starts_with nat_eq x p
+pub same_start : (p x y : List ℕ) → (IsProperPrefix x p → ⊥)
+    → starts_with nat_eq (x ++ y) p ≡ starts_with nat_eq x p
 same_start [] x y n = refl
 same_start (a ∷ p) [] y n = absurd (n (a, p, refl))
 same_start (a ∷ p) (b ∷ x) y n = elim (true_or_false (eqb a b)) [
@@ -42,7 +43,8 @@ pub mark_is_decided : (looked_for : List Mark) (x y : List ℕ) → (MayBeginMar
     → find_mark looked_for (x ++ y) ≡ find_mark looked_for x
 mark_is_decided [] x y mark_decided = refl
 mark_is_decided (m ∷ others) x y mark_decided =
-    ap (λ t. if t then Some m else find_mark others (x ++ y)) (same_start m.bytes x y (λ i. mark_decided (inl i)))
+    ap (λ t. if t then Some m else find_mark others (x ++ y))
+    (same_start m.bytes x y (λ i. mark_decided (inl i)))
     ∙ ap (λ t. if starts_with nat_eq x m.bytes then Some m else t)
     (mark_is_decided others x y (λ i. mark_decided (inr i)))
 
@@ -61,7 +63,8 @@ pub found_fits : (looked_for : List Mark) (x : List ℕ) (m : Mark) → find_mar
 found_fits [] x m e = absurd (let none : ⊥ = cc in none)
 found_fits (k ∷ others) x m e = elim (true_or_false (starts_with nat_eq x k.bytes)) [
   | inl starts ↦ (let mark_fits : length k.bytes ≤ length x = start_fits k.bytes x starts in
-      let found_first : (if starts_with nat_eq x k.bytes then Some k else find_mark others x) ≡ Some k =
+      let found_first : (if starts_with nat_eq x k.bytes then Some k else find_mark others x)
+      ≡ Some k =
       ap (λ t. if t then Some k else find_mark others x) starts in
       let same : k ≡ m = cc in subst (λ (l : Mark). length l.bytes ≤ length x) same mark_fits)
   | inr f ↦ found_fits others x m (sym (ap (λ t. if t then Some k else find_mark others x) f) ∙ e)
@@ -76,7 +79,8 @@ sequences_after_mark None e x z fits = refl
 sequences_after_mark (Some m) e x z fits =
     ap (sequences_of (rule_of m.encoding) 0) (drop-append-le (length m.bytes) x z (fits m refl))
 
-pub same_sequences : (looked_for : List Mark) (e : Encoding) (x z : List ℕ) → (MayBeginMark looked_for x → ⊥)
+pub same_sequences : (looked_for : List Mark) (e : Encoding) (x z : List ℕ)
+    → (MayBeginMark looked_for x → ⊥)
     → sequences_by_mark (find_mark looked_for (x ++ z)) e (x ++ z)
     ≡ sequences_of (rule_of (encoding_of_mark_or (find_mark looked_for x) e)) 0
     (bytes_after_mark (find_mark looked_for x) x ++ z)
@@ -87,7 +91,8 @@ same_sequences looked_for e x z n =
 -- Each of these marks is made of bytes, and is found where it stands alone.
 AreFound : List Mark → List Mark → Type 0
 AreFound all [] = Unit {0}
-AreFound all (m ∷ others) = AreBytes m.bytes × (find_mark all m.bytes ≡ Some m) × AreFound all others
+AreFound all (m ∷ others) = AreBytes m.bytes × (find_mark all m.bytes ≡ Some m)
+    × AreFound all others
 
 found_own : (id : EncodingId) → AreFound (marks_of_encoding id) (marks_of_encoding id)
 unfolding AreFound
@@ -111,7 +116,8 @@ bytes_after : (x y : List ℕ) → AreBytes (x ++ y) → AreBytes y
 bytes_after [] y b = b
 bytes_after (a ∷ x) y b = bytes_after x y b.1
 
-none_begun : (all : List Sequence) (s : Sequence) (ss : List Sequence) → all ≡ [] → AreFirstSequences (s ∷ ss) all → ⊥
+none_begun : (all : List Sequence) (s : Sequence) (ss : List Sequence) → all ≡ []
+    → AreFirstSequences (s ∷ ss) all → ⊥
 none_begun all s ss e come_first = let begins : all ≡ s ∷ (ss ++ come_first.0) = come_first.1 in cc
 
 -- a mark alone has no sequences
@@ -123,21 +129,27 @@ no_sequences all m e found =
     ∙ sequences_of-nil (rule_of m.encoding) 0
 
 -- so what may begin one determines nothing
-undetermined_in : (all looked_for : List Mark) (e : Encoding) (x : List ℕ) (s : Sequence) (ss : List Sequence)
+undetermined_in : (all looked_for : List Mark) (e : Encoding) (x : List ℕ) (s : Sequence)
+    (ss : List Sequence)
     → AreFound all looked_for
-    → MayBeginMark looked_for x → Determines (λ bytes. sequences_by_mark (find_mark all bytes) e bytes) x (s ∷ ss) → ⊥
+    → MayBeginMark looked_for x
+    → Determines (λ bytes. sequences_by_mark (find_mark all bytes) e bytes) x (s ∷ ss) → ⊥
 unfolding AreFound
 undetermined_in all [] e x s ss are_found i d = i
 undetermined_in all (m ∷ others) e x s ss are_found (inl is_prefix) d =
     let more : List ℕ = is_prefix.0 ∷ is_prefix.1 in
     let whole : m.bytes ≡ x ++ more = is_prefix.2 in
     none_begun _ s ss
-    (ap (λ t. sequences_by_mark (find_mark all t) e t) (sym whole) ∙ no_sequences all m e are_found.1)
+    (ap (λ t. sequences_by_mark (find_mark all t) e t) (sym whole)
+    ∙ no_sequences all m e are_found.1)
     (d more (bytes_after x more (subst AreBytes whole are_found.0)))
-undetermined_in all (m ∷ others) e x s ss are_found (inr i) d = undetermined_in all others e x s ss are_found.2 i d
+undetermined_in all (m ∷ others) e x s ss are_found (inr i) d =
+    undetermined_in all others e x s ss are_found.2 i d
 
-pub undetermined : (handling : BomHandling) (e : Encoding) (x : List ℕ) (s : Sequence) (ss : List Sequence)
-    → MayBeginMark (marks_looked_for handling e) x → Determines (whole_sequences handling e) x (s ∷ ss) → ⊥
+pub undetermined : (handling : BomHandling) (e : Encoding) (x : List ℕ) (s : Sequence)
+    (ss : List Sequence)
+    → MayBeginMark (marks_looked_for handling e) x
+    → Determines (whole_sequences handling e) x (s ∷ ss) → ⊥
 undetermined handling e x s ss i d =
     undetermined_in (marks_looked_for handling e) (marks_looked_for handling e) e x s ss
     (found_looked_for handling e) i d
@@ -145,20 +157,25 @@ undetermined handling e x s ss i d =
 -- what some sequences determine others do, where they are the same whatever follows
 determines_as : (left right : List ℕ → List Sequence) (x y : List ℕ) (ss : List Sequence)
     → ((z : List ℕ) → left (x ++ z) ≡ right (y ++ z)) → Determines left x ss → Determines right y ss
-determines_as left right x y ss same d = λ z b. let determined = d z b in (determined.0, sym (same z) ∙ determined.1)
+determines_as left right x y ss same d = λ z b. let determined = d z b in
+    (determined.0, sym (same z) ∙ determined.1)
 
 -- Once the mark in front is decided, the bytes after it determine the same, both ways.
-pub by_rule : (handling : BomHandling) (e : Encoding) (x : List ℕ) (ss : List Sequence) (found : Option Mark)
+pub by_rule : (handling : BomHandling) (e : Encoding) (x : List ℕ) (ss : List Sequence)
+    (found : Option Mark)
     → found ≡ find_mark (marks_looked_for handling e) x
     → (MayBeginMark (marks_looked_for handling e) x → ⊥)
     → Determines (whole_sequences handling e) x ss
-    ↔ Determines (sequences_of (rule_of (encoding_of_mark_or found e)) 0) (bytes_after_mark found x) ss
+    ↔ Determines (sequences_of (rule_of (encoding_of_mark_or found e)) 0) (bytes_after_mark found x)
+    ss
 by_rule handling e x ss found is n =
     let same : (z : List ℕ) → whole_sequences handling e (x ++ z)
     ≡ sequences_of (rule_of (encoding_of_mark_or found e)) 0 (bytes_after_mark found x ++ z) =
     rw is (λ z. same_sequences (marks_looked_for handling e) e x z n) in (
-      determines_as (whole_sequences handling e) (sequences_of (rule_of (encoding_of_mark_or found e)) 0) x
+      determines_as (whole_sequences handling e)
+          (sequences_of (rule_of (encoding_of_mark_or found e)) 0) x
           (bytes_after_mark found x) ss same,
-      determines_as (sequences_of (rule_of (encoding_of_mark_or found e)) 0) (whole_sequences handling e)
+      determines_as (sequences_of (rule_of (encoding_of_mark_or found e)) 0)
+          (whole_sequences handling e)
           (bytes_after_mark found x) x ss (λ z. sym (same z)),
     )

@@ -28,31 +28,38 @@ use Rattle.enc_stream.specs.Need.{EncodesByNeed, IsEnoughForEncoding, IsEnoughIf
 
 -- a call that reports unmappable characters meets its need
 
-pub by_need : {units_of : ℕ → List ℕ} {old new : EncoderState} {src : List ℕ} {last : Bool} {room : ℕ}
+pub by_need : {units_of : ℕ → List ℕ} {old new : EncoderState} {src : List ℕ} {last : Bool}
+    {room : ℕ}
     {result : EncoderResult} {read : ℕ} {wrote : List ℕ} {replaced : Bool}
     → EncodesChunk units_of Fatal old new src last room result read wrote replaced
     → EncodesByNeed units_of old new src last room result read (length wrote)
-by_need {units_of} {old} {new} {src} {last} {room} {result} {read} {wrote} {replaced} encodes = record {
-  front = step_chars encodes.call.done;
-  rest = encodes.rest;
-  parts = encodes.call.reads;
-  units = encodes.call.units;
-  meets =
-      reporting_meets_need units_of (raw_state old) (raw_state new) src encodes.rest last room result read wrote
-      replaced encodes.call;
-}
+by_need {units_of} {old} {new} {src} {last} {room} {result} {read} {wrote} {replaced} encodes =
+    record {
+      front = step_chars encodes.call.done;
+      rest = encodes.rest;
+      parts = encodes.call.reads;
+      units = encodes.call.units;
+      meets =
+          reporting_meets_need units_of (raw_state old) (raw_state new) src encodes.rest last room
+          result read wrote
+          replaced encodes.call;
+    }
 
 pub into_by_need : {units_of : ℕ → List ℕ} {old new : EncoderState} {src : List ℕ} {last : Bool}
     {before after : List ℕ} {result : EncoderResult} {read written : ℕ} {replaced : Bool}
-    → written ≤ length after → EncodesInto units_of Fatal old new src last before after result read written replaced
+    → written ≤ length after
+    → EncodesInto units_of Fatal old new src last before after result read written replaced
     → EncodesByNeed units_of old new src last (length before) result read written
-into_by_need {units_of} {old} {new} {src} {last} {before} {after} {result} {read} {written} fits made =
-    let count : length (take written after) ≡ written = omega (arith, fits, length-take written after) in
+into_by_need {units_of} {old} {new} {src} {last} {before} {after} {result} {read} {written} fits
+    made =
+    let count : length (take written after) ≡ written =
+    omega (arith, fits, length-take written after) in
     subst (λ (n : ℕ). EncodesByNeed units_of old new src last (length before) result read n) count
     (by_need made.encodes)
 
 -- the lengths of the encoding that is written, which is UTF-8 where it has no encoder, are enough
-or_enough : (b : List ℕ) (lengths : ByteLengths) (found : Option EncoderRule) → IsEnoughIfAny lengths found
+or_enough : (b : List ℕ) (lengths : ByteLengths) (found : Option EncoderRule)
+    → IsEnoughIfAny lengths found
     → (v : VariantEncoder) → (variant_encoder_state v).rule ≡ barring_rule b (rule_or_utf_8 found)
     → AreEnoughForEncoder lengths (variant_encoder_state v)
 or_enough b lengths None of_utf_8 v rule_is =
@@ -62,8 +69,10 @@ or_enough b lengths (Some rule) enough v rule_is = enough b v rule_is
 
 -- the length that a query answers is enough for its calls
 
-with_rule : (v : RawEncoderState) (rule : EncoderRule) → v.rule ≡ rule → v ≡ record { rule = rule; set = v.set }
-with_rule v rule r = let made : EncoderRule → RawEncoderState = λ e. record { rule = e; set = v.set } in ap made r
+with_rule : (v : RawEncoderState) (rule : EncoderRule) → v.rule ≡ rule
+    → v ≡ record { rule = rule; set = v.set }
+with_rule v rule r = let made : EncoderRule
+    → RawEncoderState = λ e. record { rule = e; set = v.set } in ap made r
 
 pub enough_in : (b : List ℕ) (c : Codec) (v : VariantEncoder)
     → (variant_encoder_state v).rule ≡ barring_rule b (rule_or_utf_8 (encoder_rule c))
@@ -76,29 +85,35 @@ enough_in b c v rule_is =
     (with_rule (variant_encoder_state v) (barring_rule b (rule_or_utf_8 (encoder_rule c))) rule_is)
     (or_enough b (encoder_lengths c) (encoder_rule c) (enough_if_any c) v rule_is)
 
-module _ (lengths : ByteLengths) (v : EncoderState) (enough : AreEnoughForEncoder lengths (raw_state v)) (n : ℕ) where
+module _ (lengths : ByteLengths) (v : EncoderState)
+    (enough : AreEnoughForEncoder lengths (raw_state v)) (n : ℕ) where
   pub enough_from_utf_8 : (result : Option ℕ) → result ≡ from_utf_8_length lengths n
       → IfSome result (IsEnoughForEncoding encode_utf8 v n)
   enough_from_utf_8 None e = tt
   enough_from_utf_8 (Some answer) e =
-      λ src last units. enough.from_utf_8 src last answer (ap (from_utf_8_length lengths) units ∙ sym e)
+      λ src last units. enough.from_utf_8 src last answer
+      (ap (from_utf_8_length lengths) units ∙ sym e)
 
   pub enough_from_utf_16 : (result : Option ℕ) → result ≡ from_utf_16_length lengths n
       → IfSome result (IsEnoughForEncoding encode_utf16 v n)
   enough_from_utf_16 None e = tt
   enough_from_utf_16 (Some answer) e =
-      λ src last units. enough.from_utf_16 src last answer (ap (from_utf_16_length lengths) units ∙ sym e)
+      λ src last units. enough.from_utf_16 src last answer
+      (ap (from_utf_16_length lengths) units ∙ sym e)
 
 module _ (units_of : ℕ → List ℕ) (v : EncoderState) (n : ℕ) where
   -- with the bytes that are kept back
   pub enough_if_mappable : (length : Option ℕ) → IfSome length (IsEnoughForEncoding units_of v n)
-      → (result : Option ℕ) → result ≡ checked_add length (room_kept_for_references v.barred v.encoding)
+      → (result : Option ℕ) →
+      result ≡ checked_add length (room_kept_for_references v.barred v.encoding)
       → IfSome result (IsEnoughIfMappable units_of v n)
   enough_if_mappable length h None e = tt
   enough_if_mappable None h (Some q) e = cc
-  enough_if_mappable (Some a) h (Some q) e = λ src wrote last new room read result replaced units mappable l made.
+  enough_if_mappable (Some a) h (Some q) e =
+      λ src wrote last new room read result replaced units mappable l made.
       let sum = plus_is (Some a) (room_kept_for_references v.barred v.encoding) q (sym e) in
       let same : sum.0 ≡ a = cc in
-      reads_all units_of (room_kept_for_references v.barred v.encoding) (raw_state v) (raw_state new) src made.rest last
+      reads_all units_of (room_kept_for_references v.barred v.encoding) (raw_state v)
+      (raw_state new) src made.rest last
       room read wrote replaced result made.call mappable
       (omega (arith, h src last units, sum.1.1, same, l))

@@ -38,7 +38,8 @@ use Rattle.enc_stream.proofs.EndOfInputLemmas.{fresh_sequences, has_finished_by,
 pub nothing : (bytes : List ℕ) → true ≡ (length bytes == 0) → bytes ≡ []
 nothing [] h = refl
 nothing (b ∷ bytes) h =
-    let has_no_length : length (b ∷ bytes) ≡ 0 = grind (arith, nat_tests) in absurd (omega (arith, has_no_length))
+    let has_no_length : length (b ∷ bytes) ≡ 0 = grind (arith, nat_tests) in
+    absurd (omega (arith, has_no_length))
 
 -- an empty input has no sequence
 
@@ -53,11 +54,13 @@ pub none_whole : (handling : BomHandling) (e : Encoding) (bytes : List ℕ) → 
 none_whole Off e bytes h = ap (whole_sequences Off e) h ∙ sequences_of-nil (rule_of e) 0
 none_whole Sniff e bytes h = ap (whole_sequences Sniff e) h ∙ sequences_of-nil (rule_of e) 0
 none_whole Remove e bytes h =
-    ap (whole_sequences Remove e) h ∙ ap (λ (m : Option Mark). sequences_by_mark m e []) (removal_none e.id)
+    ap (whole_sequences Remove e) h
+    ∙ ap (λ (m : Option Mark). sequences_by_mark m e []) (removal_none e.id)
     ∙ sequences_of-nil (rule_of e) 0
 
 -- no call
-pub none_decoded : (handling : BomHandling) (e : Encoding) (bytes : List ℕ) → HasDecoded handling e bytes bytes true
+pub none_decoded : (handling : BomHandling) (e : Encoding) (bytes : List ℕ)
+    → HasDecoded handling e bytes bytes true
     (fresh_decoder handling e) [] false
 none_decoded handling e bytes = record {
   done = [];
@@ -68,30 +71,38 @@ none_decoded handling e bytes = record {
 }
 
 -- One more call, whose text follows the text already written.
-module _ {handling : BomHandling} {e : Encoding} {bytes src : List ℕ} {old new : DecoderState} {before : List ℕ}
+module _ {handling : BomHandling} {e : Encoding} {bytes src : List ℕ} {old new : DecoderState}
+    {before : List ℕ}
     {had : Bool} (decoded : HasDecoded handling e bytes src true old before had)
-    {mode : DecodeErrorMode} {room : ℕ} {result : DecoderResult} {read : ℕ} {wrote : List ℕ} {replaced : Bool}
+    {mode : DecodeErrorMode} {room : ℕ} {result : DecoderResult} {read : ℕ} {wrote : List ℕ}
+    {replaced : Bool}
     (decodes : DecodesChunk encode_utf8 mode old new src true room result read wrote replaced) where
-  all_done : whole_sequences handling e bytes ≡ (decoded.done ++ decodes.call.done) ++ remaining_sequences new
+  all_done : whole_sequences handling e bytes ≡ (decoded.done ++ decodes.call.done)
+      ++ remaining_sequences new
       (drop read src ++ [])
   all_done =
       ap (whole_sequences handling e) (sym (append-nil bytes)) ∙ decoded.whole [] (λ _. refl)
       ∙ ap (λ ss. decoded.done ++ ss) (decodes.call.residual [] (λ _. refl))
-      ∙ sym (append_assoc decoded.done decodes.call.done (remaining_sequences new (drop read src ++ [])))
+      ∙ sym (append_assoc decoded.done decodes.call.done
+      (remaining_sequences new (drop read src ++ [])))
 
   -- if the call puts out all sequences that it does, their text is appended
-  pub goes_on : {after : List ℕ} → wrote ≡ drop (length before) after → take (length before) after ≡ before
+  pub goes_on : {after : List ℕ} → wrote ≡ drop (length before) after
+      → take (length before) after ≡ before
       → decodes.call.put ≡ decodes.call.done
       → HasDecoded handling e bytes (drop read src) true new after (had || replaced)
   goes_on {after} follows keeps all_put = record {
     done = decoded.done ++ decodes.call.done;
-    whole = λ z at_end. decoded.whole z at_end ∙ ap (λ ss. decoded.done ++ ss) (decodes.call.residual z at_end)
-        ∙ sym (append_assoc decoded.done decodes.call.done (remaining_sequences new (drop read src ++ z)));
+    whole = λ z at_end. decoded.whole z at_end
+        ∙ ap (λ ss. decoded.done ++ ss) (decodes.call.residual z at_end)
+        ∙ sym (append_assoc decoded.done decodes.call.done
+        (remaining_sequences new (drop read src ++ z)));
     text =
         sym (take-append-drop (length before) after)
         ∙ ap (λ x. x ++ drop (length before) after) (keeps ∙ decoded.text)
         ∙ ap (λ x. units_of_text encode_utf8 (sequence_text decoded.done) ++ x)
-        (sym follows ∙ decodes.call.text ∙ ap (λ ss. units_of_text encode_utf8 (sequence_text ss)) all_put)
+        (sym follows ∙ decodes.call.text
+        ∙ ap (λ ss. units_of_text encode_utf8 (sequence_text ss)) all_put)
         ∙ sym (units-append encode_utf8 decoded.done decodes.call.done);
     flag =
         ap (λ x. x || replaced) decoded.flag
@@ -100,22 +111,27 @@ module _ {handling : BomHandling} {e : Encoding} {bytes src : List ℕ} {old new
   }
 
 -- The same if the call is offered the unread bytes, and writes after the text already written.
-pub next_call : {handling : BomHandling} {e : Encoding} {bytes unread : List ℕ} {old new : DecoderState}
+pub next_call : {handling : BomHandling} {e : Encoding} {bytes unread : List ℕ}
+    {old new : DecoderState}
     {wrote : List ℕ} {had : Bool} → HasDecoded handling e bytes unread true old wrote had
     → {src before after : List ℕ} → src ≡ unread → before ≡ wrote
     → {mode : DecodeErrorMode} {room : ℕ} {result : DecoderResult} {read : ℕ} {replaced : Bool}
-    (decodes : DecodesChunk encode_utf8 mode old new src true room result read (drop (length before) after) replaced)
+    (decodes : DecodesChunk encode_utf8 mode old new src true room result read
+    (drop (length before) after) replaced)
     → take (length before) after ≡ before → decodes.call.put ≡ decodes.call.done
     → HasDecoded handling e bytes (drop read src) true new after (had || replaced)
-next_call {handling} {e} {bytes} {old} {had} decoded {src} {before} src_is before_is decodes keeps all_put =
-    let decoded_before : HasDecoded handling e bytes src true old before had = rw (src_is, before_is) decoded in
+next_call {handling} {e} {bytes} {old} {had} decoded {src} {before} src_is before_is decodes keeps
+    all_put =
+    let decoded_before : HasDecoded handling e bytes src true old before had =
+    rw (src_is, before_is) decoded in
     goes_on decoded_before decodes refl keeps all_put
 
 -- and of the first call
 pub first_call : {handling : BomHandling} {e : Encoding} {bytes : List ℕ} {old new : DecoderState}
     → old ≡ fresh_decoder handling e → {before after : List ℕ} → before ≡ []
     → {mode : DecodeErrorMode} {room : ℕ} {result : DecoderResult} {read : ℕ} {replaced : Bool}
-    (decodes : DecodesChunk encode_utf8 mode old new bytes true room result read (drop (length before) after) replaced)
+    (decodes : DecodesChunk encode_utf8 mode old new bytes true room result read
+    (drop (length before) after) replaced)
     → take (length before) after ≡ before → decodes.call.put ≡ decodes.call.done
     → HasDecoded handling e bytes (drop read bytes) true new after replaced
 first_call {handling} {e} {bytes} {old} is_fresh is_empty decodes keeps all_put =
@@ -130,10 +146,12 @@ or_true false = refl
 any_of_last : (ss ts : List Sequence) (s : Sequence) → is_malformed s.kind ≡ true
     → any_malformed ((ss ++ s ∷ []) ++ ts) ≡ true
 any_of_last [] ts s h = ap (λ b. b || any_malformed ts) h
-any_of_last (t ∷ ss) ts s h = ap (λ b. is_malformed t.kind || b) (any_of_last ss ts s h) ∙ or_true (is_malformed t.kind)
+any_of_last (t ∷ ss) ts s h = ap (λ b. is_malformed t.kind || b) (any_of_last ss ts s h)
+    ∙ or_true (is_malformed t.kind)
 
 -- a malformed sequence that is reported is one of the whole input
-pub is_malformed_input : {handling : BomHandling} {e : Encoding} {bytes src : List ℕ} {old new : DecoderState}
+pub is_malformed_input : {handling : BomHandling} {e : Encoding} {bytes src : List ℕ}
+    {old new : DecoderState}
     {before : List ℕ} {had : Bool} → HasDecoded handling e bytes src true old before had
     → {mode : DecodeErrorMode} {room l a read : ℕ} {wrote : List ℕ} {replaced : Bool}
     → DecodesChunk encode_utf8 mode old new src true room (Malformed l a) read wrote replaced
@@ -152,25 +170,33 @@ not_at_end coder.InputEmpty goes_on = absurd (goes_on refl)
 not_at_end coder.OutputFull goes_on = refl
 
 -- a call that is not at the end leaves a decoder open
-pub still_open : {old new : DecoderState} {src : List ℕ} {room : ℕ} {result : CoderResult} {read : ℕ} {wrote : List ℕ}
+pub still_open : {old new : DecoderState} {src : List ℕ} {room : ℕ} {result : CoderResult}
+    {read : ℕ} {wrote : List ℕ}
     {replaced : Bool}
-    → DecodesReplacing encode_utf8 old new src true room result read wrote replaced → ¬ (result ≡ coder.InputEmpty)
+    → DecodesReplacing encode_utf8 old new src true room result read wrote replaced
+    → ¬ (result ≡ coder.InputEmpty)
     → has_finished new ≡ false
 still_open {result} decodes goes_on = has_finished_by decodes ∙ not_at_end result goes_on
 
 -- and one that is leaves it finished
-pub now_finished : {old new : DecoderState} {src : List ℕ} {room : ℕ} {result : CoderResult} {read : ℕ}
+pub now_finished : {old new : DecoderState} {src : List ℕ} {room : ℕ} {result : CoderResult}
+    {read : ℕ}
     {wrote : List ℕ} {replaced : Bool}
-    → DecodesReplacing encode_utf8 old new src true room result read wrote replaced → result ≡ coder.InputEmpty
+    → DecodesReplacing encode_utf8 old new src true room result read wrote replaced
+    → result ≡ coder.InputEmpty
     → has_finished new ≡ true
-now_finished decodes at_end = has_finished_by decodes ∙ ap (λ r. reaches_end true (decoder_result_of r)) at_end
+now_finished decodes at_end = has_finished_by decodes
+    ∙ ap (λ r. reaches_end true (decoder_result_of r)) at_end
 
 -- with enough room a call is never full
-pub never_full : {units_of : ℕ → List ℕ} {mode : DecodeErrorMode} (length_answered : Option ℕ) (old new : DecoderState)
+pub never_full : {units_of : ℕ → List ℕ} {mode : DecodeErrorMode} (length_answered : Option ℕ)
+    (old new : DecoderState)
     {src : List ℕ} {n room : ℕ} {result : DecoderResult} {read written : ℕ}
-    → IfSome length_answered (IsEnoughRoom units_of mode old n) → HasRoomFor length_answered room → AreBytes src
+    → IfSome length_answered (IsEnoughRoom units_of mode old n) → HasRoomFor length_answered room
+    → AreBytes src
     → length src ≡ n
-    → MeetsDecodeNeed units_of mode (decoder_remainder old) (decoder_remainder new) src true room result read written
+    → MeetsDecodeNeed units_of mode (decoder_remainder old) (decoder_remainder new) src true room
+    result read written
     → result ≡ OutputFull → ⊥
 never_full None old new enough has_room are_bytes count meets is_full = has_room
 never_full (Some answer) old new {src} enough has_room are_bytes count meets is_full =
@@ -182,16 +208,21 @@ never_full (Some answer) old new {src} enough has_room are_bytes count meets is_
     })
 
 -- The first call answers `OutputFull`, and the length query after it overflows usize.
-pub too_long_after : {handling : BomHandling} {e : Encoding} {bytes : List ℕ} {old new : DecoderState}
+pub too_long_after : {handling : BomHandling} {e : Encoding} {bytes : List ℕ}
+    {old new : DecoderState}
     → old ≡ fresh_decoder handling e
-    → {length_answered : Option ℕ} → length_answered ≡ max_length Utf8Reporting old (length bytes) → {room : ℕ}
+    → {length_answered : Option ℕ} → length_answered ≡ max_length Utf8Reporting old (length bytes)
+    → {room : ℕ}
     → HasRoomFor length_answered room
-    → (result : CoderResult) → ¬ (result ≡ coder.InputEmpty) → {read : ℕ} {wrote : List ℕ} {replaced : Bool}
+    → (result : CoderResult) → ¬ (result ≡ coder.InputEmpty)
+    → {read : ℕ} {wrote : List ℕ} {replaced : Bool}
     → AnswersDecodeReplacing encode_utf8 4 old new bytes true room result read wrote replaced
     → checked_add (max_length query.Utf8 new (length (drop read bytes))) (length wrote) ≡ None
     → IsTooLongAfterFull handling e bytes
-too_long_after is_fresh length_is has_room coder.InputEmpty goes_on call passes = absurd (goes_on refl)
-too_long_after {bytes} {new} is_fresh length_is {room} has_room coder.OutputFull goes_on {read} {wrote} {replaced} call
+too_long_after is_fresh length_is has_room coder.InputEmpty goes_on call passes =
+    absurd (goes_on refl)
+too_long_after {bytes} {new} is_fresh length_is {room} has_room coder.OutputFull goes_on {read}
+    {wrote} {replaced} call
     passes = record {
       room = room;
       enough =
@@ -203,7 +234,8 @@ too_long_after {bytes} {new} is_fresh length_is {room} has_room coder.OutputFull
       wrote = wrote;
       replaced = replaced;
       call =
-          subst (λ d. AnswersDecodeReplacing encode_utf8 4 d new bytes true room coder.OutputFull read wrote replaced)
+          subst (λ d. AnswersDecodeReplacing encode_utf8 4 d new bytes true room coder.OutputFull
+          read wrote replaced)
           is_fresh
           call;
       passes = passes;
@@ -218,24 +250,29 @@ pub encoding_by_mark : (found : Option Mark) (e other : Encoding) (n : ℕ)
     → option_map encoding_and_length found ≡ Some (other, n) → other ≡ encoding_of_mark_or found e
 encoding_by_mark None e other n h = cc
 encoding_by_mark (Some m) e other n h =
-    let pair_is : encoding_and_length m ≡ (other, n) = cc in sym (ap (λ (p : Encoding × ℕ). p.0) pair_is)
+    let pair_is : encoding_and_length m ≡ (other, n) = cc in
+    sym (ap (λ (p : Encoding × ℕ). p.0) pair_is)
 
-pub encoding_without_mark : (found : Option Mark) (e : Encoding) → option_map encoding_and_length found ≡ None
+pub encoding_without_mark : (found : Option Mark) (e : Encoding)
+    → option_map encoding_and_length found ≡ None
     → e ≡ encoding_of_mark_or found e
 encoding_without_mark None e h = refl
 encoding_without_mark (Some m) e h = cc
 
 -- calls that report malformed sequences
 
-strict_if : (malformed : Bool) (text : List ℕ) → malformed ≡ false → Some text ≡ (if malformed then None else Some text)
+strict_if : (malformed : Bool) (text : List ℕ) → malformed ≡ false
+    → Some text ≡ (if malformed then None else Some text)
 strict_if true text h = absurd (true≢false h)
 strict_if false text h = refl
 
-none_if : (malformed : Bool) (text : List ℕ) → malformed ≡ true → None ≡ (if malformed then None else Some text)
+none_if : (malformed : Bool) (text : List ℕ) → malformed ≡ true
+    → None ≡ (if malformed then None else Some text)
 none_if true text h = refl
 none_if false text h = absurd (true≢false (sym h))
 
-pub none_strict : (e : Encoding) (bytes : List ℕ) → bytes ≡ [] → Some [] ≡ utf_8_without_replacement e bytes
+pub none_strict : (e : Encoding) (bytes : List ℕ) → bytes ≡ []
+    → Some [] ≡ utf_8_without_replacement e bytes
 none_strict e bytes h = ap (λ ss. if any_malformed ss then None else Some (units_of_text encode_utf8
     (sequence_text ss))) (sym (none_whole Off e bytes h))
 
@@ -254,10 +291,13 @@ strict_text {e} {bytes} {text} decoded finished =
 module _ {e : Encoding} {bytes src : List ℕ} {old new : DecoderState} {before : List ℕ}
     (decoded : HasDecoded Off e bytes src true old before false) {room read : ℕ} where
   pub strict_end : (result : DecoderResult) {after : List ℕ}
-      → DecodesChunk encode_utf8 (Fatal false) old new src true room result read (drop (length before) after) false
-      → take (length before) after ≡ before → result ≡ InputEmpty → Some after ≡ utf_8_without_replacement e bytes
+      → DecodesChunk encode_utf8 (Fatal false) old new src true room result read
+      (drop (length before) after) false
+      → take (length before) after ≡ before → result ≡ InputEmpty
+      → Some after ≡ utf_8_without_replacement e bytes
   strict_end InputEmpty decodes keeps at_end =
-      strict_text (goes_on decoded decodes refl keeps (sym decodes.call.stops.only_put)) (has_finished_by decodes)
+      strict_text (goes_on decoded decodes refl keeps (sym decodes.call.stops.only_put))
+      (has_finished_by decodes)
   strict_end OutputFull decodes keeps at_end = cc
   strict_end (Malformed l a) decodes keeps at_end = cc
 
@@ -266,4 +306,5 @@ module _ {e : Encoding} {bytes src : List ℕ} {old new : DecoderState} {before 
       → result ≡ Malformed l a → None ≡ utf_8_without_replacement e bytes
   strict_report InputEmpty decodes is_malformed_now = cc
   strict_report OutputFull decodes is_malformed_now = cc
-  strict_report (Malformed l a) decodes is_malformed_now = strict_none e bytes (is_malformed_input decoded decodes)
+  strict_report (Malformed l a) decodes is_malformed_now =
+      strict_none e bytes (is_malformed_input decoded decodes)

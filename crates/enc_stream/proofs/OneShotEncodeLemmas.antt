@@ -1,4 +1,5 @@
--- One-shot calls: the bytes and the state after calls of an encoder that are offered the whole text.
+-- One-shot calls: the bytes and the state after calls of an encoder that are offered the whole
+-- text.
 use Rattle.std.proofs.Common.{◌≡◌, ℕ, Bool, true, ◌||◌, List, [], ◌++◌, length, take, drop, refl, ap, ◌∙◌, sym}
 use Rattle.std.proofs.Common.{append_assoc, append-nil, chars, IsUtf8}
 use Rattle.std.specs.Prelude.{Option, None}
@@ -53,10 +54,12 @@ all_written {state} {wrote} all_so_far is_ascii =
     ∙ ap (λ (s : CharacterSet). wrote ++ bytes_by (raw_state state).rule s []) (sym is_ascii)
     ∙ sym all_so_far.whole
 
--- While the whole text is unread, the length query is that of the whole text, and overflows where that does.
+-- While the whole text is unread, the length query is that of the whole text, and overflows where
+-- that does.
 pub none_asked : {e : Encoding} {text rest : List ℕ} {state : EncoderState} {wrote : List ℕ}
     → HasWritten e text rest state wrote
-    → {unread all : List ℕ} → unread ≡ all → length_to_encode (output_encoding_of e) (length all) ≡ None
+    → {unread all : List ℕ} → unread ≡ all
+    → length_to_encode (output_encoding_of e) (length all) ≡ None
     → {answer : Option ℕ}
     → answer ≡ checked_add (from_utf_8_length (output_lengths state.encoding) (length unread))
     (room_kept_for_references state.barred state.encoding) → (n : ℕ) → checked_add answer n ≡ None
@@ -70,20 +73,25 @@ none_asked {state} written_so_far {all} all_unread none length_is n =
     )
 
 -- One more call, whose bytes follow those already written.
-module _ {e : Encoding} {text rest : List ℕ} {old new : EncoderState} {before : List ℕ} (is_utf_8 : IsUtf8 rest)
-    (written_so_far : HasWritten e text (chars rest) old before) {room : ℕ} (result : CoderResult) {read : ℕ}
+module _ {e : Encoding} {text rest : List ℕ} {old new : EncoderState} {before : List ℕ}
+    (is_utf_8 : IsUtf8 rest)
+    (written_so_far : HasWritten e text (chars rest) old before) {room : ℕ} (result : CoderResult)
+    {read : ℕ}
     {wrote : List ℕ} {replaced : Bool}
-    (encodes : EncodesChunk encode_utf8 (html_mode old) old new (chars rest) true room (encoder_result_of result) read
+    (encodes : EncodesChunk encode_utf8 (html_mode old) old new (chars rest) true room
+    (encoder_result_of result) read
     wrote replaced) where
   abbrev front : List ℕ
   front = step_chars encodes.call.done
 
   unread_is : chars (drop read rest) ≡ encodes.rest
-  unread_is = chars_after rest front encodes.rest read is_utf_8 encodes.call.reads encodes.call.units
+  unread_is = chars_after rest front encodes.rest read is_utf_8 encodes.call.reads
+      encodes.call.units
 
   rule_is : (raw_state old).rule ≡ output_rule [] e
   rule_is =
-      ap (λ b. output_rule b old.encoding) written_so_far.barred ∙ ap (output_rule []) written_so_far.encoding
+      ap (λ b. output_rule b old.encoding) written_so_far.barred
+      ∙ ap (output_rule []) written_so_far.encoding
       ∙ output_rule_is [] e
 
   text_kept : bytes_by (raw_state old).rule old.set (chars rest ++ [])
@@ -91,7 +99,8 @@ module _ {e : Encoding} {text rest : List ℕ} {old new : EncoderState} {before 
   text_kept = by_result result encodes
     where
       by_result : (other : CoderResult)
-          (made : EncodesChunk encode_utf8 (html_mode old) old new (chars rest) true room (encoder_result_of other) read
+          (made : EncodesChunk encode_utf8 (html_mode old) old new (chars rest) true room
+          (encoder_result_of other) read
           wrote replaced)
           → bytes_by (raw_state old).rule old.set (chars rest ++ [])
           ≡ wrote ++ bytes_by (raw_state new).rule new.set made.rest
@@ -102,14 +111,16 @@ module _ {e : Encoding} {text rest : List ℕ} {old new : EncoderState} {before 
           made.call.text [] (λ _. refl)
           ∙ ap (λ x. wrote ++ bytes_by (raw_state new).rule new.set x) (append-nil made.rest)
 
-  written : {after : List ℕ} → wrote ≡ drop (length before) after → take (length before) after ≡ before
+  written : {after : List ℕ} → wrote ≡ drop (length before) after
+      → take (length before) after ≡ before
       → {unread : List ℕ} → unread ≡ encodes.rest → HasWritten e text unread new after
   written {after} follows keeps is_rest = record {
     encoding = encodes.encoding ∙ written_so_far.encoding;
     barred = encodes.barred ∙ written_so_far.barred;
     whole =
         written_so_far.whole
-        ∙ ap (λ x. before ++ bytes_by (raw_state old).rule old.set x) (sym (append-nil (chars rest)))
+        ∙ ap (λ x. before ++ bytes_by (raw_state old).rule old.set x)
+        (sym (append-nil (chars rest)))
         ∙ ap (λ x. before ++ x) text_kept
         ∙ sym (append_assoc before wrote _)
         ∙ ap (λ x. x ++ bytes_by (raw_state new).rule new.set encodes.rest)
@@ -121,33 +132,38 @@ module _ {e : Encoding} {text rest : List ℕ} {old new : EncoderState} {before 
   flagged : (had : Bool) → any_unmappable (output_rule [] e) text
       ≡ (had || any_unmappable (output_rule [] e) (chars rest))
       → {unread : List ℕ} → unread ≡ encodes.rest
-      → any_unmappable (output_rule [] e) text ≡ ((had || replaced) || any_unmappable (output_rule [] e) unread)
+      → any_unmappable (output_rule [] e) text
+      ≡ ((had || replaced) || any_unmappable (output_rule [] e) unread)
   flagged had flag_so_far is_rest =
       flag_so_far ∙ ap (λ x. had || any_unmappable (output_rule [] e) x) encodes.call.reads
       ∙ ap (λ b. had || b) (any_unmappable-append (output_rule [] e) front encodes.rest)
       ∙ ap (λ b. had || (b || any_unmappable (output_rule [] e) encodes.rest))
       (ap (λ rule. any_unmappable rule front) (sym rule_is)
-      ∙ sym (encodes.call.flag ∙ any_reported_is (raw_state old) (raw_state new) (chars rest) encodes.rest true
+      ∙ sym (encodes.call.flag
+      ∙ any_reported_is (raw_state old) (raw_state new) (chars rest) encodes.rest true
       encodes.call.done encodes.call.reads encodes.call.rule encodes.call.remaining))
       ∙ sym (or_assoc had replaced (any_unmappable (output_rule [] e) encodes.rest))
       ∙ ap (λ x. (had || replaced) || any_unmappable (output_rule [] e) x) (sym is_rest)
 
   -- that is not the last
-  pub written_on : {after : List ℕ} → wrote ≡ drop (length before) after → take (length before) after ≡ before
+  pub written_on : {after : List ℕ} → wrote ≡ drop (length before) after
+      → take (length before) after ≡ before
       → {unread : List ℕ} → unread ≡ drop read rest → HasWritten e text (chars unread) new after
   written_on follows keeps is_unread = written follows keeps (ap chars is_unread ∙ unread_is)
 
   pub flagged_on : (had : Bool) → any_unmappable (output_rule [] e) text
       ≡ (had || any_unmappable (output_rule [] e) (chars rest))
       → {unread : List ℕ} → unread ≡ drop read rest
-      → any_unmappable (output_rule [] e) text ≡ ((had || replaced) || any_unmappable (output_rule [] e) (chars unread))
+      → any_unmappable (output_rule [] e) text
+      ≡ ((had || replaced) || any_unmappable (output_rule [] e) (chars unread))
   flagged_on had flag_so_far is_unread = flagged had flag_so_far (ap chars is_unread ∙ unread_is)
 
   -- and that is
   none_unread : result ≡ InputEmpty → [] ≡ encodes.rest
   none_unread = all_read old new (chars rest) true room result read wrote replaced encodes
 
-  pub written_all : {after : List ℕ} → wrote ≡ drop (length before) after → take (length before) after ≡ before
+  pub written_all : {after : List ℕ} → wrote ≡ drop (length before) after
+      → take (length before) after ≡ before
       → result ≡ InputEmpty → after ≡ whole_bytes [] e text
   written_all follows keeps at_end =
       all_written (written follows keeps (none_unread at_end))

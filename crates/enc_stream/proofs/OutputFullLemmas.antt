@@ -61,14 +61,16 @@ module _ (P : Rule → Type 0) (utf_8 : P utf_8_rule) (utf_16be : P (utf_16_rule
   AllHave (m ∷ others) = P (rule_of m.encoding) × AllHave others
 
   if_found : (b : Bool) (m n : Mark) (other : Option Mark) → P (rule_of m.encoding)
-      → (other ≡ Some n → P (rule_of n.encoding)) → (if b then Some m else other) ≡ Some n → P (rule_of n.encoding)
+      → (other ≡ Some n → P (rule_of n.encoding)) → (if b then Some m else other) ≡ Some n
+      → P (rule_of n.encoding)
   if_found true m n other h k e = subst (λ (x : Mark). P (rule_of x.encoding)) (same m n e) h
     where
       same : (x y : Mark) → Some x ≡ Some y → x ≡ y
       same x y f = cc
   if_found false m n other h k e = k e
 
-  found : (looked_for : List Mark) (x : List ℕ) (m : Mark) → AllHave looked_for → find_mark looked_for x ≡ Some m
+  found : (looked_for : List Mark) (x : List ℕ) (m : Mark) → AllHave looked_for
+      → find_mark looked_for x ≡ Some m
       → P (rule_of m.encoding)
   found [] x m all_have e = cc
   found (n ∷ others) x m all_have e =
@@ -96,9 +98,17 @@ module _ (P : Rule → Type 0) (utf_8 : P utf_8_rule) (utf_16be : P (utf_16_rule
       → ByRule P (sequences_in p e set x)
   by_phase (InFront looked_for) e set x h k = by_mark (find_mark looked_for x) refl
     where
-      by_mark : (o : Option Mark) → find_mark looked_for x ≡ o → ByRule P (sequences_in (InFront looked_for) e set x)
+      by_mark : (o : Option Mark) → find_mark looked_for x ≡ o
+          → ByRule P (sequences_in (InFront looked_for) e set x)
       by_mark None mark_is =
-          record { rule = rule_of e; set = 0; bytes = x; is = ap (λ o. sequences_by_mark o e x) mark_is; holds = k }
+          record {
+            rule = rule_of e;
+            set = 0;
+            bytes = x;
+            is =
+                ap (λ o. sequences_by_mark o e x) mark_is;
+            holds = k;
+          }
       by_mark (Some m) mark_is = record {
         rule = rule_of m.encoding;
         set = 0;
@@ -106,7 +116,8 @@ module _ (P : Rule → Type 0) (utf_8 : P utf_8_rule) (utf_16be : P (utf_16_rule
         is = marked_sequences (InFront looked_for) e set m x mark_is;
         holds = found looked_for x m h mark_is;
       }
-  by_phase Within e set x h k = record { rule = rule_of e; set = set; bytes = x; is = refl; holds = k }
+  by_phase Within e set x h k =
+      record { rule = rule_of e; set = set; bytes = x; is = refl; holds = k }
   by_phase Ended e set x h k = record {
     rule = rule_of e;
     set = set;
@@ -115,7 +126,8 @@ module _ (P : Rule → Type 0) (utf_8 : P utf_8_rule) (utf_16be : P (utf_16_rule
     holds = k;
   }
 
-  by_rule : (d : DecoderState) (y : List ℕ) → P (rule_of d.encoding) → ByRule P (remaining_sequences d y)
+  by_rule : (d : DecoderState) (y : List ℕ) → P (rule_of d.encoding)
+      → ByRule P (remaining_sequences d y)
   by_rule d y h = by_phase (phase_of d.life) d.encoding d.set (d.pending ++ y) (phase_has d.life) h
 
 begins_at : (last : Bool) (remaining : List ℕ → List Sequence) (x : List ℕ) (ss : List Sequence)
@@ -126,7 +138,8 @@ begins_at false remaining x ss d = (x ++ [], d [] tt)
 -- the bytes pending are no mark
 own_unmarked : (p : Phase) (pending held : List ℕ) → mark_in p (held ++ []) ≡ None
     → (awaits_mark p ≡ true → pending ≡ held) → mark_in p pending ≡ None
-own_unmarked (InFront looked_for) pending held h f = ap (find_mark looked_for) (f refl ∙ sym (append-nil held)) ∙ h
+own_unmarked (InFront looked_for) pending held h f =
+    ap (find_mark looked_for) (f refl ∙ sym (append-nil held)) ∙ h
 own_unmarked Within pending held h f = refl
 own_unmarked Ended pending held h f = refl
 
@@ -139,87 +152,105 @@ same_state a b e l s p =
     ∙ ap (λ y. made b.encoding b.life y a.pending) s ∙ ap (made b.encoding b.life b.set) p
 
 module _ (units_of : ℕ → List ℕ) (determine : DetermineTexts units_of) (mode : DecodeErrorMode)
-    (old new : DecoderState) (src : List ℕ) (last : Bool) (room read : ℕ) (wrote : List ℕ) (replaced : Bool)
-    (decodes : DecodesChunk units_of mode old new src last room OutputFull read wrote replaced) where
-  -- where nothing is written, nothing that has a text is done
-  no_text : length wrote ≡ 0 → sequence_text decodes.call.done ≡ []
-  no_text w =
-      ap sequence_text decodes.call.stops.only_put
-      ∙ determine (sequence_text decodes.call.put) [] decodes.call.scalars refl (sym decodes.call.text
-      ∙ no_bytes wrote w)
+    (old new : DecoderState) (src : List ℕ) (last : Bool) (room read : ℕ) (wrote : List ℕ)
+    (replaced : Bool)
+    (decodes : DecodesChunk units_of mode old new src last room OutputFull read wrote replaced)
+  where
+    -- where nothing is written, nothing that has a text is done
+    no_text : length wrote ≡ 0 → sequence_text decodes.call.done ≡ []
+    no_text w =
+        ap sequence_text decodes.call.stops.only_put
+        ∙ determine (sequence_text decodes.call.put) [] decodes.call.scalars refl
+        (sym decodes.call.text
+        ∙ no_bytes wrote w)
 
-  -- With room for a small text something is done: fewer bytes are pending or unread.
-  pub less_at_hand : (least : ℕ) → TakesSmallTexts units_of least → least ≤ room
-      → length new.pending + (length src - read) < length old.pending + length src
-  less_at_hand least takes h =
-      let begins =
-      begins_at last (remaining_sequences old) src (decodes.call.done ++ decodes.call.stops.next ∷ [])
-      decodes.call.stops.determined in
-      let few_units =
-      by_rule HasSmallTexts (small_texts utf_8_mark.encoding) (small_texts utf_16be_mark.encoding)
-      (small_texts utf_16le_mark.encoding) old begins.0 (small_texts old.encoding) in
-      let cut : sequences_of few_units.rule few_units.set few_units.bytes ≡ decodes.call.done ++ decodes.call.stops.next
-      ∷ begins.1.0 =
-      sym few_units.is ∙ begins.1.1 ∙ append_assoc decodes.call.done (decodes.call.stops.next ∷ []) begins.1.0 in
-      let some = some_done few_units.rule few_units.holds few_units.set few_units.bytes decodes.call.done begins.1.0 cut
-      decodes.call.stops.full in
-      let mark : List ℕ = mark_bytes (mark_in (phase_of old.life) (old.pending ++ take read src)) in
-      let all = ap length decodes.accounted in
-      let bytes_read = length-append old.pending (take read src) in
-      let after_mark = length-append mark (sequence_bytes decodes.call.done ++ new.pending) in
-      let then_pending = length-append (sequence_bytes decodes.call.done) new.pending in
-      let taken = length-take read src in
-      let within = decodes.call.within in
-      omega arith
-    where
-      some_done : (rule : Rule) → HasSmallTexts rule → (set : ℕ) (z : List ℕ) (done rest : List Sequence)
-          → sequences_of rule set z ≡ done ++ decodes.call.stops.next ∷ rest
-          → room < length (units_of_text units_of (sequence_text done)) + length
-          (units_of_text units_of decodes.call.stops.next.text) → 0 < length (sequence_bytes done)
-      some_done rule small set z [] rest e f =
-          let fits =
-          takes decodes.call.stops.next.text (small_text rule small set z [] decodes.call.stops.next rest e) in
-          absurd (omega arith)
-      some_done rule small set z (x ∷ done) rest e f =
-          let some_bytes = has_bytes rule set z [] x (done ++ decodes.call.stops.next ∷ rest) e in
-          let joined_length = length-append x.bytes (sequence_bytes done) in omega arith
+    -- With room for a small text something is done: fewer bytes are pending or unread.
+    pub less_at_hand : (least : ℕ) → TakesSmallTexts units_of least → least ≤ room
+        → length new.pending + (length src - read) < length old.pending + length src
+    less_at_hand least takes h =
+        let begins =
+        begins_at last (remaining_sequences old) src
+        (decodes.call.done ++ decodes.call.stops.next ∷ [])
+        decodes.call.stops.determined in
+        let few_units =
+        by_rule HasSmallTexts (small_texts utf_8_mark.encoding) (small_texts utf_16be_mark.encoding)
+        (small_texts utf_16le_mark.encoding) old begins.0 (small_texts old.encoding) in
+        let cut : sequences_of few_units.rule few_units.set few_units.bytes ≡ decodes.call.done
+        ++ decodes.call.stops.next
+        ∷ begins.1.0 =
+        sym few_units.is ∙ begins.1.1
+        ∙ append_assoc decodes.call.done (decodes.call.stops.next ∷ []) begins.1.0 in
+        let some = some_done few_units.rule few_units.holds few_units.set few_units.bytes
+        decodes.call.done begins.1.0 cut
+        decodes.call.stops.full in
+        let mark : List ℕ = mark_bytes
+        (mark_in (phase_of old.life) (old.pending ++ take read src)) in
+        let all = ap length decodes.accounted in
+        let bytes_read = length-append old.pending (take read src) in
+        let after_mark = length-append mark (sequence_bytes decodes.call.done ++ new.pending) in
+        let then_pending = length-append (sequence_bytes decodes.call.done) new.pending in
+        let taken = length-take read src in
+        let within = decodes.call.within in
+        omega arith
+      where
+        some_done : (rule : Rule) → HasSmallTexts rule
+            → (set : ℕ) (z : List ℕ) (done rest : List Sequence)
+            → sequences_of rule set z ≡ done ++ decodes.call.stops.next ∷ rest
+            → room < length (units_of_text units_of (sequence_text done)) + length
+            (units_of_text units_of decodes.call.stops.next.text) → 0 < length (sequence_bytes done)
+        some_done rule small set z [] rest e f =
+            let fits =
+            takes decodes.call.stops.next.text
+            (small_text rule small set z [] decodes.call.stops.next rest e) in
+            absurd (omega arith)
+        some_done rule small set z (x ∷ done) rest e f =
+            let some_bytes = has_bytes rule set z [] x (done ++ decodes.call.stops.next ∷ rest) e in
+            let joined_length = length-append x.bytes (sequence_bytes done) in omega arith
 
-  -- and a sequence that is done has a text: something is written.
-  pub some_written : (least : ℕ) → TakesSmallTexts units_of least → least ≤ room → 0 < length wrote
-  some_written least takes h =
-      let begins =
-      begins_at last (remaining_sequences old) src (decodes.call.done ++ decodes.call.stops.next ∷ [])
-      decodes.call.stops.determined in
-      let few_units =
-      by_rule HasSmallTexts (small_texts utf_8_mark.encoding) (small_texts utf_16be_mark.encoding)
-      (small_texts utf_16le_mark.encoding) old begins.0 (small_texts old.encoding) in
-      let cut : sequences_of few_units.rule few_units.set few_units.bytes ≡ decodes.call.done ++ decodes.call.stops.next
-      ∷ begins.1.0 =
-      sym few_units.is ∙ begins.1.1 ∙ append_assoc decodes.call.done (decodes.call.stops.next ∷ []) begins.1.0 in
-      let small =
-      takes decodes.call.stops.next.text
-      (small_text few_units.rule few_units.holds few_units.set few_units.bytes decodes.call.done
-      decodes.call.stops.next begins.1.0 cut) in
-      omega (
-        arith,
-        decodes.call.stops.full,
-        small,
-        h,
-        ap length decodes.call.text,
-        ap (λ ss. length (units_of_text units_of (sequence_text ss))) decodes.call.stops.only_put,
-      )
+    -- and a sequence that is done has a text: something is written.
+    pub some_written : (least : ℕ) → TakesSmallTexts units_of least → least ≤ room
+        → 0 < length wrote
+    some_written least takes h =
+        let begins =
+        begins_at last (remaining_sequences old) src
+        (decodes.call.done ++ decodes.call.stops.next ∷ [])
+        decodes.call.stops.determined in
+        let few_units =
+        by_rule HasSmallTexts (small_texts utf_8_mark.encoding) (small_texts utf_16be_mark.encoding)
+        (small_texts utf_16le_mark.encoding) old begins.0 (small_texts old.encoding) in
+        let cut : sequences_of few_units.rule few_units.set few_units.bytes ≡ decodes.call.done
+        ++ decodes.call.stops.next
+        ∷ begins.1.0 =
+        sym few_units.is ∙ begins.1.1
+        ∙ append_assoc decodes.call.done (decodes.call.stops.next ∷ []) begins.1.0 in
+        let small =
+        takes decodes.call.stops.next.text
+        (small_text few_units.rule few_units.holds few_units.set few_units.bytes decodes.call.done
+        decodes.call.stops.next begins.1.0 cut) in
+        omega (
+          arith,
+          decodes.call.stops.full,
+          small,
+          h,
+          ap length decodes.call.text,
+          ap (λ ss. length (units_of_text units_of (sequence_text ss))) decodes.call.stops.only_put,
+        )
 
-  -- where each sequence has a text, nothing is done where nothing is written
-  none_done : HasTexts (rule_of old.encoding) → length wrote ≡ 0 → decodes.call.done ≡ []
-  none_done has w =
-      let with_text =
-      by_rule HasTexts utf_8_has_texts (utf_16_has_texts true) (utf_16_has_texts false) old (src ++ []) has in
-      none_without_text with_text.rule with_text.holds with_text.set with_text.bytes decodes.call.done
-      (remaining_sequences new (drop read src ++ [])) (sym with_text.is ∙ decodes.call.residual [] (λ _. refl))
-      (no_text w)
+    -- where each sequence has a text, nothing is done where nothing is written
+    none_done : HasTexts (rule_of old.encoding) → length wrote ≡ 0 → decodes.call.done ≡ []
+    none_done has w =
+        let with_text =
+        by_rule HasTexts utf_8_has_texts (utf_16_has_texts true) (utf_16_has_texts false) old
+        (src ++ []) has in
+        none_without_text with_text.rule with_text.holds with_text.set with_text.bytes
+        decodes.call.done
+        (remaining_sequences new (drop read src ++ []))
+        (sym with_text.is ∙ decodes.call.residual [] (λ _. refl))
+        (no_text w)
 
 -- A malformed sequence that is reported has bytes: fewer bytes are pending or unread.
-less_at_malformed : (units_of : ℕ → List ℕ) (mode : DecodeErrorMode) (old new : DecoderState) (src : List ℕ)
+less_at_malformed : (units_of : ℕ → List ℕ) (mode : DecodeErrorMode) (old new : DecoderState)
+    (src : List ℕ)
     (last : Bool) (room read l a : ℕ) (wrote : List ℕ) (replaced : Bool)
     → DecodesChunk units_of mode old new src last room (Malformed l a) read wrote replaced
     → length new.pending + (length src - read) < length old.pending + length src
@@ -240,15 +271,18 @@ less_at_malformed units_of mode old new src last room read l a wrote replaced de
 
 -- A call that stops for want of room, and has read nothing and written nothing.
 module _ (units_of : ℕ → List ℕ) (determine : DetermineTexts units_of) (mode : DecodeErrorMode)
-    (old new : DecoderState) (pending_are_held : PendingAreHeldBytes old) (going : has_finished old ≡ false)
+    (old new : DecoderState) (pending_are_held : PendingAreHeldBytes old)
+    (going : has_finished old ≡ false)
     (src : List ℕ) (last : Bool) (room read : ℕ)
-    (wrote : List ℕ) (replaced : Bool) (decodes : DecodesChunk units_of mode old new src last room OutputFull read wrote
+    (wrote : List ℕ) (replaced : Bool)
+    (decodes : DecodesChunk units_of mode old new src last room OutputFull read wrote
     replaced) (nothing_read : read ≡ 0) (none_written : length wrote ≡ 0) where
   none_read : old.pending ++ take read src ≡ old.pending
   none_read = ap (λ n. old.pending ++ take n src) nothing_read ∙ append-nil old.pending
 
   unmarked : mark_in (phase_of old.life) (old.pending ++ take read src) ≡ None
-  unmarked = ap (mark_in (phase_of old.life)) none_read ∙ own_unmarked (phase_of old.life) old.pending
+  unmarked = ap (mark_in (phase_of old.life)) none_read
+      ∙ own_unmarked (phase_of old.life) old.pending
       (held_mark_bytes old.life) (held_unmarked old.life) pending_are_held.in_front
 
   was_pending : old.pending ≡ sequence_bytes decodes.call.done ++ new.pending
@@ -269,7 +303,8 @@ module _ (units_of : ℕ → List ℕ) (determine : DetermineTexts units_of) (mo
   as_before : IsUnchangedButSkips src last old new
   as_before = record {
     skipped = decodes.call.done;
-    no_text = no_text units_of determine mode old new src last room read wrote replaced decodes none_written;
+    no_text = no_text units_of determine mode old new src last room read wrote replaced decodes
+        none_written;
     come_first =
         λ z l. decodes.call.residual z l
         ∙ ap (λ n. decodes.call.done ++ remaining_sequences new (drop n src ++ z)) nothing_read;
@@ -277,63 +312,80 @@ module _ (units_of : ℕ → List ℕ) (determine : DetermineTexts units_of) (mo
     set = decodes.call.set;
     encoding = same_encoding;
     unfinished =
-        ap has_ended decodes.life ∙ ends_at_end old.life false (old.pending ++ take read src) decodes.call.done;
+        ap has_ended decodes.life
+        ∙ ends_at_end old.life false (old.pending ++ take read src) decodes.call.done;
     same = same_by_done;
   }
 
   just_the_same : HasTexts (rule_of old.encoding) → new ≡ old
   just_the_same has =
-      same_by_done (none_done units_of determine mode old new src last room read wrote replaced decodes has
+      same_by_done (none_done units_of determine mode old new src last room read wrote replaced
+      decodes has
       none_written)
 
 -- what a call does, and what that says where it stops for want of room
-pub converts : (units_of : ℕ → List ℕ) (least : ℕ) (mode : DecodeErrorMode) (old new : DecoderState) (src : List ℕ)
+pub converts : (units_of : ℕ → List ℕ) (least : ℕ) (mode : DecodeErrorMode) (old new : DecoderState)
+    (src : List ℕ)
     (last : Bool) (room : ℕ) (result : DecoderResult) (read : ℕ) (wrote : List ℕ) (replaced : Bool)
-    → DetermineTexts units_of → TakesSmallTexts units_of least → PendingAreHeldBytes old → has_finished old ≡ false
+    → DetermineTexts units_of → TakesSmallTexts units_of least → PendingAreHeldBytes old
+    → has_finished old ≡ false
     → DecodesChunk units_of mode old new src last room result read wrote replaced
     → AnswersDecode units_of least mode old new src last room result read wrote replaced
-converts units_of least mode old new src last room result read wrote replaced determine takes pending_are_held going
+converts units_of least mode old new src last room result read wrote replaced determine takes
+    pending_are_held going
     decodes_chunk = record {
       decodes = decodes_chunk;
-      need = meets_need units_of _ _ src last mode room result read wrote replaced decodes_chunk.call;
+      need = meets_need units_of _ _ src last mode room result read wrote replaced
+          decodes_chunk.call;
       unchanged =
-          λ f r w. as_before units_of determine mode old new pending_are_held going src last room read wrote replaced
+          λ f r w. as_before units_of determine mode old new pending_are_held going src last room
+          read wrote replaced
           (full f) r
           (ap length w);
       same =
-          λ f r w has. just_the_same units_of determine mode old new pending_are_held going src last room read wrote
+          λ f r w has. just_the_same units_of determine mode old new pending_are_held going src last
+          room read wrote
           replaced
           (full f) r (ap length w) has;
       progress = less result decodes_chunk;
     }
   where
-    full : result ≡ OutputFull → DecodesChunk units_of mode old new src last room OutputFull read wrote replaced
-    full f = subst (λ x. DecodesChunk units_of mode old new src last room x read wrote replaced) f decodes_chunk
+    full : result ≡ OutputFull
+        → DecodesChunk units_of mode old new src last room OutputFull read wrote replaced
+    full f = subst (λ x. DecodesChunk units_of mode old new src last room x read wrote replaced) f
+        decodes_chunk
 
-    less : (x : DecoderResult) → DecodesChunk units_of mode old new src last room x read wrote replaced
+    less : (x : DecoderResult)
+        → DecodesChunk units_of mode old new src last room x read wrote replaced
         → (x ≡ InputEmpty → ⊥) → least ≤ room
         → length new.pending + (length src - read) < length old.pending + length src
     less InputEmpty d on h = absurd (on refl)
     less OutputFull d on h =
-        less_at_hand units_of determine mode old new src last room read wrote replaced d least takes h
-    less (Malformed l a) d on h = less_at_malformed units_of mode old new src last room read l a wrote replaced d
+        less_at_hand units_of determine mode old new src last room read wrote replaced d least takes
+        h
+    less (Malformed l a) d on h =
+        less_at_malformed units_of mode old new src last room read l a wrote replaced d
 
 -- a call with replacement that goes on does so without replacement
-pub still_goes_on : (r : CoderResult) → (r ≡ coder.InputEmpty → ⊥) → decoder_result_of r ≡ InputEmpty → ⊥
+pub still_goes_on : (r : CoderResult) → (r ≡ coder.InputEmpty → ⊥)
+    → decoder_result_of r ≡ InputEmpty → ⊥
 still_goes_on coder.InputEmpty on e = on refl
 still_goes_on coder.OutputFull on e = cc
 
-pub converts_into : {units_of : ℕ → List ℕ} {mode : DecodeErrorMode} {old new : DecoderState} {src : List ℕ}
+pub converts_into : {units_of : ℕ → List ℕ} {mode : DecodeErrorMode} {old new : DecoderState}
+    {src : List ℕ}
     {last : Bool} {before after : Output} {result : DecoderResult} {read : ℕ} {replaced : Bool}
     → DetermineTexts units_of → PendingAreHeldBytes old → has_finished old ≡ false
     → DecodesInto units_of mode old new src last before after result read replaced
     → AnswersDecodeInto units_of mode old new src last before after result read replaced
-converts_into {units_of} {mode} {old} {new} {src} {last} {before} {result} {read} {replaced} determine pending_are_held
+converts_into {units_of} {mode} {old} {new} {src} {last} {before} {result} {read} {replaced}
+    determine pending_are_held
     going decodes = record {
       wrote = decodes.wrote;
       onto = decodes.onto;
       converts =
-          λ least takes. converts units_of least mode old new src last before.room result read decodes.wrote replaced
+          λ least takes. converts units_of least mode old new src last before.room result read
+          decodes.wrote replaced
           determine takes pending_are_held going decodes.decodes;
     }
 
@@ -343,55 +395,66 @@ pub reports_into : {units_of : ℕ → List ℕ} {old new : DecoderState} {src :
     → DetermineTexts units_of → PendingAreHeldBytes old → has_finished old ≡ false
     → DecodesInto units_of (Fatal false) old new src last before after result read replaced
     → AnswersDecodeInto units_of (Fatal false) old new src last before after result read false
-reports_into {units_of} {old} {new} {src} {last} {before} {after} {result} {read} determine pending_are_held going
+reports_into {units_of} {old} {new} {src} {last} {before} {after} {result} {read} determine
+    pending_are_held going
     decodes =
     subst (AnswersDecodeInto units_of (Fatal false) old new src last before after result read)
     (decodes.decodes.call.none_replaced refl)
     (converts_into determine pending_are_held going decodes)
 
 -- A call over an output that is empty as yet.
-pub over_slice : {units_of : ℕ → List ℕ} {least : ℕ} {mode : DecodeErrorMode} {old new : DecoderState} {src : List ℕ}
+pub over_slice : {units_of : ℕ → List ℕ} {least : ℕ} {mode : DecodeErrorMode}
+    {old new : DecoderState} {src : List ℕ}
     {last : Bool} {before after : Output} {result : DecoderResult} {read : ℕ} {replaced : Bool}
     {text : List ℕ} {room : ℕ}
     → TakesSmallTexts units_of least
     → AnswersDecodeInto units_of mode old new src last before after result read replaced
     → before.written ≡ [] → before.room ≡ room → after.written ≡ text
     → AnswersDecode units_of least mode old new src last room result read text replaced
-over_slice {units_of} {least} {mode} {old} {new} {src} {last} {result} {read} {replaced} {text} {room} takes answers w r
+over_slice {units_of} {least} {mode} {old} {new} {src} {last} {result} {read} {replaced} {text}
+    {room} takes answers w r
     a =
     let wrote_text : answers.wrote ≡ text =
     sym (ap (λ x. x ++ answers.wrote) w) ∙ sym (ap (λ (o : Output). o.written) answers.onto) ∙ a in
-    subst (λ x. AnswersDecode units_of least mode old new src last room result read x replaced) wrote_text
-    (subst (λ n. AnswersDecode units_of least mode old new src last n result read answers.wrote replaced) r
+    subst (λ x. AnswersDecode units_of least mode old new src last room result read x replaced)
+    wrote_text
+    (subst (λ n. AnswersDecode units_of least mode old new src last n result read answers.wrote
+    replaced) r
     (answers.converts least takes))
 
 -- A call over an output that has a text already.
-pub over_text : {units_of : ℕ → List ℕ} {least : ℕ} {mode : DecodeErrorMode} {old new : DecoderState} {src : List ℕ}
+pub over_text : {units_of : ℕ → List ℕ} {least : ℕ} {mode : DecodeErrorMode}
+    {old new : DecoderState} {src : List ℕ}
     {last : Bool} {before after : Output} {result : DecoderResult} {read : ℕ} {replaced : Bool}
     {text now : List ℕ} {len room : ℕ}
     → TakesSmallTexts units_of least
     → AnswersDecodeInto units_of mode old new src last before after result read replaced
     → before.written ≡ text → length text ≡ len → before.room ≡ room → after.written ≡ now
     → AnswersDecode units_of least mode old new src last room result read (drop len now) replaced
-over_text {units_of} {least} {mode} {old} {new} {src} {last} {result} {read} {replaced} {text} {now} {len} {room} takes
+over_text {units_of} {least} {mode} {old} {new} {src} {last} {result} {read} {replaced} {text} {now}
+    {len} {room} takes
     answers w l r a =
     let all : now ≡ text ++ answers.wrote = sym a ∙ ap (λ (o : Output). o.written) answers.onto
     ∙ ap (λ x. x ++ answers.wrote) w in
     let wrote_rest : answers.wrote ≡ drop len now =
     sym (drop-append_seam text answers.wrote) ∙ ap (λ n. drop n (text ++ answers.wrote)) l
     ∙ ap (drop len) (sym all) in
-    subst (λ x. AnswersDecode units_of least mode old new src last room result read x replaced) wrote_rest
-    (subst (λ n. AnswersDecode units_of least mode old new src last n result read answers.wrote replaced) r
+    subst (λ x. AnswersDecode units_of least mode old new src last room result read x replaced)
+    wrote_rest
+    (subst (λ n. AnswersDecode units_of least mode old new src last n result read answers.wrote
+    replaced) r
     (answers.converts least takes))
 
 -- what was there stays in front
-pub in_front : {units_of : ℕ → List ℕ} {mode : DecodeErrorMode} {old new : DecoderState} {src : List ℕ}
+pub in_front : {units_of : ℕ → List ℕ} {mode : DecodeErrorMode} {old new : DecoderState}
+    {src : List ℕ}
     {last : Bool} {before after : Output} {result : DecoderResult} {read : ℕ} {replaced : Bool}
     {text now : List ℕ} {len : ℕ}
     → AnswersDecodeInto units_of mode old new src last before after result read replaced
     → before.written ≡ text → length text ≡ len → after.written ≡ now → take len now ≡ text
 in_front {text} {len} answers w l a =
-    ap (take len) (sym a ∙ ap (λ (o : Output). o.written) answers.onto ∙ ap (λ x. x ++ answers.wrote) w)
+    ap (take len) (sym a ∙ ap (λ (o : Output). o.written) answers.onto
+    ∙ ap (λ x. x ++ answers.wrote) w)
     ∙ ap (λ n. take n (text ++ answers.wrote)) (sym l) ∙ take-append_seam text answers.wrote
 
 -- small texts fit into four units of UTF-8, and two of UTF-16

@@ -1,5 +1,5 @@
--- Properties of each encoding's rule: ASCII-compatible, single-byte, and that a pending BB needs no lookahead.
--- Rows by codec are written by scripts/make-codecs from data/codecs.txt.
+-- Properties of each encoding's rule: ASCII-compatible, single-byte, and that a pending BB needs no
+-- lookahead. Rows by codec are written by scripts/make-codecs from data/codecs.txt.
 use Rattle.std.proofs.Common.{◌≡◌, ℕ, ◌<◌, ◌↔◌, Bool, true, false, Option, Some, refl, subst}
 use Rattle.enc_decoder.specs.Segmentation.{Rule}
 use Rattle.enc_decoder_single_byte.specs.OneByte.{one_byte_rule}
@@ -45,7 +45,8 @@ one_byte character has_ascii = record {
   bb = one_byte_shows_bb character;
 }
 
-by_codec : (c : Codec) → HasProperties (ascii_compatible_by_codec c) (single_byte_by_codec c) (codec_rule c)
+by_codec : (c : Codec)
+    → HasProperties (ascii_compatible_by_codec c) (single_byte_by_codec c) (codec_rule c)
 by_codec codec.Utf8 = record {
   ascii = utf_8_is_ascii_compatible;
   single = utf_8_is_not_single_byte;
@@ -115,7 +116,8 @@ list_shows : (t : Bool) (p : Type 0) → Decides t p → (t ≡ true) ↔ p
 list_shows true p h = (λ _. h, λ _. refl)
 list_shows false p h = (λ e. cc, λ x. absurd (h x))
 
-pub shows_ascii_compatible : (e : Encoding) → (is_ascii_compatible e ≡ true) ↔ IsAsciiCompatible (rule_of e)
+pub shows_ascii_compatible : (e : Encoding) → (is_ascii_compatible e ≡ true)
+    ↔ IsAsciiCompatible (rule_of e)
 shows_ascii_compatible e =
     let has : Bool → Type 0 = λ t. Decides t (IsAsciiCompatible (rule_of e)) in
     list_shows _ _ (subst has (listed_ascii e.id) (properties_of e).ascii)

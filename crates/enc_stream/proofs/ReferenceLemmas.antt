@@ -17,7 +17,8 @@ use Rattle.enc_stream.specs.declared.encoding.Encoding.{Encoding}
 use Rattle.enc_names.specs.EncodingTable.{codec_by_id}
 use Rattle.enc_stream.specs.Encodings.{rule_or_utf_8, output_rule}
 
-or_lawful : (found : Option EncoderRule) → IsLawfulIfAny found → IsLawfulEncoderRule (rule_or_utf_8 found)
+or_lawful : (found : Option EncoderRule) → IsLawfulIfAny found
+    → IsLawfulEncoderRule (rule_or_utf_8 found)
 or_lawful None h = stateless_is_lawful utf_8_bytes utf_8_writes_ascii few_utf_8
 or_lawful (Some e) h = h
 
@@ -32,7 +33,8 @@ with_references-append : (e : EncoderRule) (a b : List ℕ)
 with_references-append e [] b = refl
 with_references-append e (c ∷ a) b =
     ap (λ t. with_reference e c (e.bytes c) ++ t) (with_references-append e a b)
-    ∙ sym (append_assoc (with_reference e c (e.bytes c)) (with_references e a) (with_references e b))
+    ∙ sym (append_assoc (with_reference e c (e.bytes c)) (with_references e a)
+    (with_references e b))
 
 module _ (e : EncoderRule) (lawful : IsLawfulEncoderRule e) where
   -- a mappable character stays, and so does a reference
@@ -41,7 +43,8 @@ module _ (e : EncoderRule) (lawful : IsLawfulEncoderRule e) where
       → with_references e (c ∷ t) ≡ c ∷ with_references e t
   mapped_stays c b t h = ap (λ x. with_reference e c x ++ with_references e t) h
 
-  mapped_is : (c : ℕ) (b : List ℕ) (t : List ℕ) → e.bytes c ≡ Some b → any_unmappable e (c ∷ t) ≡ any_unmappable e t
+  mapped_is : (c : ℕ) (b : List ℕ) (t : List ℕ) → e.bytes c ≡ Some b
+      → any_unmappable e (c ∷ t) ≡ any_unmappable e t
   mapped_is c b t h = ap (λ x. not (is_some x) || any_unmappable e t) h
 
   stays : (t : List ℕ) → AreOfReferences t → with_references e t ≡ t
@@ -64,7 +67,8 @@ module _ (e : EncoderRule) (lawful : IsLawfulEncoderRule e) where
   one_stays c None h = stays (reference (e.reported c)) (of_reference (e.reported c))
   one_stays c (Some b) h = mapped_stays c b [] h
 
-  one_is_mapped : (c : ℕ) (b : Option (List ℕ)) → e.bytes c ≡ b → any_unmappable e (with_reference e c b) ≡ false
+  one_is_mapped : (c : ℕ) (b : Option (List ℕ)) → e.bytes c ≡ b
+      → any_unmappable e (with_reference e c b) ≡ false
   one_is_mapped c None h = are_mapped (reference (e.reported c)) (of_reference (e.reported c))
   one_is_mapped c (Some b) h = mapped_is c b [] h
 

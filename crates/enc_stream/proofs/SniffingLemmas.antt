@@ -16,18 +16,22 @@ use Rattle.enc_stream.specs.LifeCycle.{phase_of, awaits_mark, mark_in, held_mark
 use Rattle.enc_stream.specs.Sniffing.{ExtendsHeldMark, CompletesMark, ExcludesMarks, HasNoMark, IsMarkByte}
 
 -- a byte that ends a mark, or else rules marks out
-ends_or_rules_out : (life : LifeCycle) (byte last : ℕ) (e : Encoding) → CompletesMark life (last ∷ []) e
+ends_or_rules_out : (life : LifeCycle) (byte last : ℕ) (e : Encoding)
+    → CompletesMark life (last ∷ []) e
     → (eqb last byte ≡ false → ExcludesMarks life byte)
     → IsMarkByte life byte (if eqb byte last then Ends e else RulesOut)
 ends_or_rules_out life byte last e ends rules_out = elim (true_or_false (eqb byte last)) [
   | inl is_last ↦ rw is_last (rw (eqb-true byte last is_last) ends)
-  | inr is_other ↦ rw is_other (rules_out (ne_eqb last byte (λ same. eqb-false byte last is_other (sym same))))
+  | inr is_other ↦ rw is_other
+      (rules_out (ne_eqb last byte (λ same. eqb-false byte last is_other (sym same))))
 ]
 
 -- the last byte of each mark, for a state given by an equation
 pub mark_byte_after_ef_bb : (life : LifeCycle) (byte : ℕ) (what : MarkByte) → life ≡ SeenUtf8Second
-    → what ≡ (if eqb byte 0xBF then Ends utf_8_mark.encoding else RulesOut) → IsMarkByte life byte what
-mark_byte_after_ef_bb life byte what l s = rw (l, s) (ends_or_rules_out SeenUtf8Second byte 0xBF utf_8_mark.encoding
+    → what ≡ (if eqb byte 0xBF then Ends utf_8_mark.encoding else RulesOut)
+    → IsMarkByte life byte what
+mark_byte_after_ef_bb life byte what l s =
+    rw (l, s) (ends_or_rules_out SeenUtf8Second byte 0xBF utf_8_mark.encoding
     (record {
       mark = utf_8_mark;
       is_encoding = refl;
@@ -39,8 +43,10 @@ mark_byte_after_ef_bb life byte what l s = rw (l, s) (ends_or_rules_out SeenUtf8
     (λ f. record { no_mark = λ y. rw f refl; no_front = λ y. refl }))
 
 pub mark_byte_after_fe : (life : LifeCycle) (byte : ℕ) (what : MarkByte) → life ≡ SeenUtf16BeFirst
-    → what ≡ (if eqb byte 0xFF then Ends utf_16be_mark.encoding else RulesOut) → IsMarkByte life byte what
-mark_byte_after_fe life byte what l s = rw (l, s) (ends_or_rules_out SeenUtf16BeFirst byte 0xFF utf_16be_mark.encoding
+    → what ≡ (if eqb byte 0xFF then Ends utf_16be_mark.encoding else RulesOut)
+    → IsMarkByte life byte what
+mark_byte_after_fe life byte what l s =
+    rw (l, s) (ends_or_rules_out SeenUtf16BeFirst byte 0xFF utf_16be_mark.encoding
     (record {
       mark = utf_16be_mark;
       is_encoding = refl;
@@ -52,8 +58,10 @@ mark_byte_after_fe life byte what l s = rw (l, s) (ends_or_rules_out SeenUtf16Be
     (λ f. record { no_mark = λ y. rw f refl; no_front = λ y. refl }))
 
 pub mark_byte_after_ff : (life : LifeCycle) (byte : ℕ) (what : MarkByte) → life ≡ SeenUtf16LeFirst
-    → what ≡ (if eqb byte 0xFE then Ends utf_16le_mark.encoding else RulesOut) → IsMarkByte life byte what
-mark_byte_after_ff life byte what l s = rw (l, s) (ends_or_rules_out SeenUtf16LeFirst byte 0xFE utf_16le_mark.encoding
+    → what ≡ (if eqb byte 0xFE then Ends utf_16le_mark.encoding else RulesOut)
+    → IsMarkByte life byte what
+mark_byte_after_ff life byte what l s =
+    rw (l, s) (ends_or_rules_out SeenUtf16LeFirst byte 0xFE utf_16le_mark.encoding
     (record {
       mark = utf_16le_mark;
       is_encoding = refl;
@@ -75,15 +83,18 @@ reaches_itself life = record {
 }
 
 -- one extension of the held bytes after another is one of both
-pub reaches_then : (a b c : LifeCycle) (x y : List ℕ) → ExtendsHeldMark a b x → ExtendsHeldMark b c y
+pub reaches_then : (a b c : LifeCycle) (x y : List ℕ) → ExtendsHeldMark a b x
+    → ExtendsHeldMark b c y
     → ExtendsHeldMark a c (x ++ y)
 reaches_then a b c x y first_extends then_extends = record {
-  held = sym (append_assoc (held_mark_bytes a) x y) ∙ ap (λ t. t ++ y) first_extends.held ∙ then_extends.held;
+  held = sym (append_assoc (held_mark_bytes a) x y) ∙ ap (λ t. t ++ y) first_extends.held
+      ∙ then_extends.held;
   awaits = then_extends.awaits ∙ first_extends.awaits;
   marks =
       λ z. let joined : held_mark_bytes c ++ z ≡ held_mark_bytes b ++ (y ++ z) =
       ap (λ t. t ++ z) (sym then_extends.held) ∙ append_assoc (held_mark_bytes b) y z in
-      ap (mark_in (phase_of a)) joined ∙ first_extends.marks (y ++ z) ∙ ap (mark_in (phase_of b)) (sym joined)
+      ap (mark_in (phase_of a)) joined ∙ first_extends.marks (y ++ z)
+      ∙ ap (mark_in (phase_of b)) (sym joined)
       ∙ then_extends.marks z;
   states =
       λ z. let joined : held_mark_bytes c ++ z ≡ held_mark_bytes b ++ (y ++ z) =
@@ -91,20 +102,24 @@ reaches_then a b c x y first_extends then_extends = record {
       ap (life_at_prefix (mark_prefixes a)) joined ∙ first_extends.states (y ++ z)
       ∙ ap (life_at_prefix (mark_prefixes b)) (sym joined)
       ∙ then_extends.states z;
-  stays = λ awaited. then_extends.stays (first_extends.awaits ∙ awaited) ∙ first_extends.stays awaited;
+  stays = λ awaited. then_extends.stays (first_extends.awaits ∙ awaited)
+      ∙ first_extends.stays awaited;
 }
 
 -- and then a mark's end
-pub ends_after : (a b : LifeCycle) (x y : List ℕ) (e : Encoding) → ExtendsHeldMark a b x → CompletesMark b y e
+pub ends_after : (a b : LifeCycle) (x y : List ℕ) (e : Encoding) → ExtendsHeldMark a b x
+    → CompletesMark b y e
     → CompletesMark a (x ++ y) e
 ends_after a b x y e extends completes = record {
   mark = completes.mark;
   is_encoding = completes.is_encoding;
-  whole = sym (append_assoc (held_mark_bytes a) x y) ∙ ap (λ t. t ++ y) extends.held ∙ completes.whole;
+  whole = sym (append_assoc (held_mark_bytes a) x y) ∙ ap (λ t. t ++ y) extends.held
+      ∙ completes.whole;
   found =
       λ z. let joined : completes.mark.bytes ++ z ≡ held_mark_bytes b ++ (y ++ z) =
       ap (λ t. t ++ z) (sym completes.whole) ∙ append_assoc (held_mark_bytes b) y z in
-      ap (mark_in (phase_of a)) joined ∙ extends.marks (y ++ z) ∙ ap (mark_in (phase_of b)) (sym joined)
+      ap (mark_in (phase_of a)) joined ∙ extends.marks (y ++ z)
+      ∙ ap (mark_in (phase_of b)) (sym joined)
       ∙ completes.found z;
   no_front =
       λ z. let joined : completes.mark.bytes ++ z ≡ held_mark_bytes b ++ (y ++ z) =
@@ -116,14 +131,17 @@ ends_after a b x y e extends completes = record {
 }
 
 -- the same by the next byte of an offer, after those taken
-pub reaches_next : (a b c : LifeCycle) (src : List ℕ) (n : ℕ) → n < length src → ExtendsHeldMark a b (take n src)
+pub reaches_next : (a b c : LifeCycle) (src : List ℕ) (n : ℕ) → n < length src
+    → ExtendsHeldMark a b (take n src)
     → ExtendsHeldMark b c (get_or src n 0 ∷ []) → ExtendsHeldMark a c (take (n + 1) src)
-reaches_next a b c src n h r s = rw (take_more src n 0 h) (reaches_then a b c (take n src) (get_or src n 0 ∷ []) r s)
+reaches_next a b c src n h r s =
+    rw (take_more src n 0 h) (reaches_then a b c (take n src) (get_or src n 0 ∷ []) r s)
 
 pub ends_next : (a b : LifeCycle) (src : List ℕ) (n : ℕ) (e : Encoding) → n < length src
     → ExtendsHeldMark a b (take n src)
     → CompletesMark b (get_or src n 0 ∷ []) e → CompletesMark a (take (n + 1) src) e
-ends_next a b src n e h r m = rw (take_more src n 0 h) (ends_after a b (take n src) (get_or src n 0 ∷ []) e r m)
+ends_next a b src n e h r m =
+    rw (take_more src n 0 h) (ends_after a b (take n src) (get_or src n 0 ∷ []) e r m)
 
 -- a byte that rules marks out is in front of text
 pub text_at : (life : LifeCycle) (src : List ℕ) (n : ℕ) (last : Bool) → n < length src

@@ -1,4 +1,5 @@
--- Text after bytes that might have begun a mark: the decoder makes the same of them, and of later bytes, as its codec.
+-- Text after bytes that might have begun a mark: the decoder makes the same of them, and of later
+-- bytes, as its codec.
 use Rattle.std.specs.Prelude.{if◌then◌else◌}
 use Rattle.std.proofs.Common.{◌≡◌, ℕ, ◌+◌, ◌-◌, ◌<◌, ◌≤◌, zero, suc, Bool, true, false, eqb, List, [], ◌∷◌, ◌++◌}
 use Rattle.std.proofs.Common.{length, take, drop, refl, ap, ◌∙◌, sym, arith, append_assoc, inl, inr, subst, ◌⊎◌, Some}
@@ -130,12 +131,14 @@ can_end ConvertingWithPendingBb h = absurd (false≢true h)
 can_end Converting h = absurd (false≢true h)
 can_end Finished h = absurd (false≢true h)
 
-pub none_begins : (s : Sequence) (ss all : List Sequence) → all ≡ [] → AreFirstSequences (s ∷ ss) all → ⊥
+pub none_begins : (s : Sequence) (ss all : List Sequence) → all ≡ []
+    → AreFirstSequences (s ∷ ss) all → ⊥
 none_begins s ss all e b = let comes_first = b.1 in cc
 
 -- after a mark the sequences are those of its encoding
 pub marked_sequences : (p : Phase) (e : Encoding) (set : ℕ) (m : Mark) (x : List ℕ)
-    → mark_in p x ≡ Some m → sequences_in p e set x ≡ sequences_of (rule_of m.encoding) 0 (drop (length m.bytes) x)
+    → mark_in p x ≡ Some m
+    → sequences_in p e set x ≡ sequences_of (rule_of m.encoding) 0 (drop (length m.bytes) x)
 marked_sequences (InFront looked_for) e set m x f = ap (λ o. sequences_by_mark o e x) f
 marked_sequences Within e set m x f = cc
 marked_sequences Ended e set m x f = cc
@@ -143,7 +146,8 @@ marked_sequences Ended e set m x f = cc
 -- as long as a mark may come, the bytes held determine nothing
 pub undetermined_in_front : (e : Encoding) (set : ℕ) (life : LifeCycle)
     → awaits_mark (phase_of life) ≡ true → (s : Sequence) (ss : List Sequence)
-    → Determines (λ y. sequences_in (phase_of life) e set (held_mark_bytes life ++ y)) [] (s ∷ ss) → ⊥
+    → Determines (λ y. sequences_in (phase_of life) e set (held_mark_bytes life ++ y)) [] (s ∷ ss)
+    → ⊥
 undetermined_in_front e set life h s ss d =
     let end_allowed = can_end life h in
     none_begins s ss _ (marked_sequences (phase_of life) e set end_allowed.mark
@@ -160,7 +164,8 @@ unmarked_sequences (InFront looked_for) e set x o n z =
 unmarked_sequences Within e set x o n z = refl
 unmarked_sequences Ended e set x o n z = absurd o
 
-none_unless_awaited : (p : Phase) (x : List ℕ) → (awaits_mark p ≡ true → mark_in p x ≡ None) → mark_in p x ≡ None
+none_unless_awaited : (p : Phase) (x : List ℕ) → (awaits_mark p ≡ true → mark_in p x ≡ None)
+    → mark_in p x ≡ None
 none_unless_awaited (InFront looked_for) x h = h refl
 none_unless_awaited Within x h = refl
 none_unless_awaited Ended x h = refl
@@ -181,12 +186,14 @@ settled_if_awaited (InFront looked_for) n h a = h
 settled_if_awaited Within n h a = absurd (false≢true a)
 settled_if_awaited Ended n h a = absurd (false≢true a)
 
-pub awaited_unless_settled : (p : Phase) (n : ℕ) → n < settled_from p → (n ≡ 0) × (awaits_mark p ≡ true)
+pub awaited_unless_settled : (p : Phase) (n : ℕ) → n < settled_from p → (n ≡ 0)
+    × (awaits_mark p ≡ true)
 awaited_unless_settled (InFront looked_for) n h = (omega arith, refl)
 awaited_unless_settled Within n h = absurd (omega arith)
 awaited_unless_settled Ended n h = absurd (omega arith)
 
-pub pending_of_held : (held pending : List ℕ) → pending ≡ [] → held_or_pending_bytes held pending ≡ held
+pub pending_of_held : (held pending : List ℕ) → pending ≡ []
+    → held_or_pending_bytes held pending ≡ held
 pending_of_held [] pending e = e
 pending_of_held (b ∷ held) pending e = refl
 
@@ -196,9 +203,10 @@ first_byte n [] y h i = absurd (omega arith)
 first_byte zero (b ∷ z) y h i = absurd (omega arith)
 first_byte (suc n) (b ∷ z) y h i = (b, z, take n z ++ y, refl, refl)
 
--- A decoder of the encoding e, with the state v of its codec, reads src as text: it is not at its end, and no byte
--- order mark precedes src.
-pub record ReadsText (e : Encoding) (life : LifeCycle) (v : CodecState) (src : List ℕ) (last : Bool) : Type 0 where
+-- A decoder of the encoding e, with the state v of its codec, reads src as text: it is not at its
+-- end, and no byte order mark precedes src.
+pub record ReadsText (e : Encoding) (life : LifeCycle) (v : CodecState) (src : List ℕ)
+    (last : Bool) : Type 0 where
   pub bytes : AreBytes src
   pub same_rule : rule_of e ≡ v.rule
   pub going : has_ended life ≡ false
@@ -222,28 +230,34 @@ module _ {e : Encoding} {life : LifeCycle} {v : CodecState} {src : List ℕ} {la
   -- no mark comes
 
   unmarked_by : (y : List ℕ)
-      → (awaits_mark (phase_of life) ≡ true → mark_in (phase_of life) (held_mark_bytes life ++ y) ≡ None)
+      → (awaits_mark (phase_of life) ≡ true
+      → mark_in (phase_of life) (held_mark_bytes life ++ y) ≡ None)
       → mark_in (phase_of life) (pending ++ y) ≡ None
   unmarked_by y h =
       none_unless_awaited (phase_of life) (pending ++ y)
       (λ awaits. ap (λ x. mark_in (phase_of life) (x ++ y)) (pending_in_front awaits) ∙ h awaits)
 
-  unmarked_after : (n : ℕ) → (awaits_mark (phase_of life) ≡ true → 1 ≤ n) → n ≤ length src → (y : List ℕ)
+  unmarked_after : (n : ℕ) → (awaits_mark (phase_of life) ≡ true → 1 ≤ n) → n ≤ length src
+      → (y : List ℕ)
       → mark_in (phase_of life) (pending ++ (take n src ++ y)) ≡ None
   unmarked_after n h i y = unmarked_by (take n src ++ y) (λ a.
       let first = first_byte n src y (h a) i in
       ap (λ x. mark_in (phase_of life) (held_mark_bytes life ++ x)) first.4
       ∙ (text.no_mark.rules_out first.0 first.1 first.3).no_mark first.2)
 
-  pub unmarked_all : (z : List ℕ) → (last ≡ true → z ≡ []) → mark_in (phase_of life) (pending ++ (src ++ z)) ≡ None
+  pub unmarked_all : (z : List ℕ) → (last ≡ true → z ≡ [])
+      → mark_in (phase_of life) (pending ++ (src ++ z)) ≡ None
   unmarked_all z l = unmarked_by (src ++ z) (λ a. by_bytes src refl a)
     where
       by_bytes : (x : List ℕ) → src ≡ x → awaits_mark (phase_of life) ≡ true
           → mark_in (phase_of life) (held_mark_bytes life ++ (src ++ z)) ≡ None
-      by_bytes [] src_is a = ap (λ x. mark_in (phase_of life) (held_mark_bytes life ++ (x ++ z))) src_is
-          ∙ ap (λ x. mark_in (phase_of life) (held_mark_bytes life ++ x)) (l (text.no_mark.ends src_is a))
+      by_bytes [] src_is a =
+          ap (λ x. mark_in (phase_of life) (held_mark_bytes life ++ (x ++ z))) src_is
+          ∙ ap (λ x. mark_in (phase_of life) (held_mark_bytes life ++ x))
+          (l (text.no_mark.ends src_is a))
           ∙ held_unmarked life
-      by_bytes (b ∷ x) src_is a = ap (λ t. mark_in (phase_of life) (held_mark_bytes life ++ (t ++ z))) src_is
+      by_bytes (b ∷ x) src_is a =
+          ap (λ t. mark_in (phase_of life) (held_mark_bytes life ++ (t ++ z))) src_is
           ∙ (text.no_mark.rules_out b x src_is).no_mark (x ++ z)
 
   -- so the sequences are those of the codec
@@ -255,14 +269,16 @@ module _ {e : Encoding} {life : LifeCycle} {v : CodecState} {src : List ℕ} {la
       ∙ ap (λ (r : Rule). sequences_of r v.set (pending ++ y)) text.same_rule
       ∙ ap (sequences_of v.rule v.set) (at_hand y)
 
-  pub carries : Carries (decoder_remainder (decoder_state_of e life v)) (remainder_of v) src (held ++ src) last []
+  pub carries : Carries (decoder_remainder (decoder_state_of e life v)) (remainder_of v) src
+      (held ++ src) last []
       (length held) 0 (settled_from (phase_of life)) (settled_from (phase_of life))
   carries = record {
     len = let joined_length = length-append held src in omega arith;
     near = omega arith;
     shift = omega arith;
     plain = λ z l.
-        by_codec (src ++ z) (unmarked_all z l) ∙ ap (remainder_of v).sequences (sym (append_assoc held src z));
+        by_codec (src ++ z) (unmarked_all z l)
+        ∙ ap (remainder_of v).sequences (sym (append_assoc held src z));
     by_prefix = λ n h i y.
         let as_shifted : length held + n ≡ n + length held - 0 = omega arith in
         by_codec (take n src ++ y) (unmarked_after n (settled_if_awaited (phase_of life) n h) i y)
@@ -274,7 +290,8 @@ module _ {e : Encoding} {life : LifeCycle} {v : CodecState} {src : List ℕ} {la
         undetermined_in_front e v.set life awaited.1 s ss (λ y b.
         subst (λ x. AreFirstSequences (s ∷ ss) (sequences_in (phase_of life) e v.set (x ++ y)))
         (pending_in_front awaited.1)
-        (subst (λ k. AreFirstSequences (s ∷ ss) (remaining_sequences (decoder_state_of e life v) (take k src ++ y)))
+        (subst (λ k. AreFirstSequences (s ∷ ss)
+        (remaining_sequences (decoder_state_of e life v) (take k src ++ y)))
         awaited.0
         (d y b)));
   }
@@ -298,12 +315,15 @@ module _ {e : Encoding} {life : LifeCycle} {v : CodecState} {src : List ℕ} {la
           → (n ≡ 0) ⊎ ((n < settled_from (phase_of life))
           ⊎ ((settled_from (phase_of life) ≤ n) × (n + length held - 0 ≡ length held - left + n)))
       by_number zero h f = inl refl
-      by_number (suc n) h f = let by_one = settled_soon (phase_of life) in inr (inr (omega arith, omega arith))
+      by_number (suc n) h f = let by_one = settled_soon (phase_of life) in
+          inr (inr (omega arith, omega arith))
 
   -- the bytes at hand that are read begin with no mark
-  pub unmarked_read : (n : ℕ) → n ≤ length src → mark_in (phase_of life) (pending ++ take n src) ≡ None
+  pub unmarked_read : (n : ℕ) → n ≤ length src
+      → mark_in (phase_of life) (pending ++ take n src) ≡ None
   unmarked_read zero h = unmarked_by [] (λ a. held_unmarked life)
-  unmarked_read (suc n) h = ap (λ x. mark_in (phase_of life) (pending ++ x)) (sym (append-nil (take (suc n) src)))
+  unmarked_read (suc n) h =
+      ap (λ x. mark_in (phase_of life) (pending ++ x)) (sym (append-nil (take (suc n) src)))
       ∙ unmarked_after (suc n) (λ _. omega arith) h []
 
 -- the bytes held
@@ -324,11 +344,13 @@ held_are_few SeenUtf16LeFirst = omega arith
 held_are_few ConvertingWithPendingBb = omega arith
 held_are_few _ = omega arith
 
-unread_are_bytes : (life : LifeCycle) (none : Bool) → AreBytes (if none then held_mark_bytes life else [])
+unread_are_bytes : (life : LifeCycle) (none : Bool)
+    → AreBytes (if none then held_mark_bytes life else [])
 unread_are_bytes life true = held_are_bytes life
 unread_are_bytes life false = tt
 
-unread_are_few : (life : LifeCycle) (none : Bool) → length (if none then held_mark_bytes life else []) ≤ 2
+unread_are_few : (life : LifeCycle) (none : Bool)
+    → length (if none then held_mark_bytes life else []) ≤ 2
 unread_are_few life true = held_are_few life
 unread_are_few life false = omega arith
 

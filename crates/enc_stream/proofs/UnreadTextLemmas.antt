@@ -29,11 +29,13 @@ scalars_after : (xs ys : List ℕ) → all_scalars (xs ++ ys) ≡ true → all_s
 scalars_after [] ys h = h
 scalars_after (c ∷ xs) ys h = scalars_after xs ys (second_so _ _ h)
 
-module _ (text front rest : List ℕ) (n : ℕ) (is_utf_8 : IsUtf8 text) (parts : chars text ≡ front ++ rest)
+module _ (text front rest : List ℕ) (n : ℕ) (is_utf_8 : IsUtf8 text)
+    (parts : chars text ≡ front ++ rest)
     (size : n ≡ length (units_of_text encode_utf8 front)) where
   bytes_are : text ≡ units_of_text encode_utf8 front ++ units_of_text encode_utf8 rest
   bytes_are =
-      sym (encodes-chars text is_utf_8) ∙ sym (their_units (chars text)) ∙ ap (units_of_text encode_utf8) parts
+      sym (encodes-chars text is_utf_8) ∙ sym (their_units (chars text))
+      ∙ ap (units_of_text encode_utf8) parts
       ∙ units_of_text-append encode_utf8 front rest
 
   rest_scalars : all_scalars rest ≡ true
@@ -46,24 +48,29 @@ module _ (text front rest : List ℕ) (n : ℕ) (is_utf_8 : IsUtf8 text) (parts 
 
   pub boundary : IsCharBoundary text n
   boundary =
-      rw size (IsCharBoundary-at_seam text (units_of_text encode_utf8 front) (units_of_text encode_utf8 rest) bytes_are
+      rw size (IsCharBoundary-at_seam text (units_of_text encode_utf8 front)
+      (units_of_text encode_utf8 rest) bytes_are
       rest_utf_8)
 
   pub chars_after : chars (drop n text) ≡ rest
   chars_after =
       ap chars (ap (drop n) bytes_are
       ∙ ap (λ k. drop k (units_of_text encode_utf8 front ++ units_of_text encode_utf8 rest)) size
-      ∙ drop-append_seam (units_of_text encode_utf8 front) (units_of_text encode_utf8 rest) ∙ their_units rest)
+      ∙ drop-append_seam (units_of_text encode_utf8 front) (units_of_text encode_utf8 rest)
+      ∙ their_units rest)
       ∙ chars-encodes rest rest_scalars
 
 -- Where a call has come to the end of a text, no character is unread.
-none_left : (v : RawEncoderState) (rest : List ℕ) (last : Bool) → is_nothing_left v rest last ≡ true → [] ≡ rest
+none_left : (v : RawEncoderState) (rest : List ℕ) (last : Bool) → is_nothing_left v rest last ≡ true
+    → [] ≡ rest
 none_left v [] last h = refl
 none_left v (c ∷ rest) last h = cc
 
-pub all_read : (old new : EncoderState) (text : List ℕ) (last : Bool) (room : ℕ) (result : CoderResult) (read : ℕ)
+pub all_read : (old new : EncoderState) (text : List ℕ) (last : Bool) (room : ℕ)
+    (result : CoderResult) (read : ℕ)
     (wrote : List ℕ) (replaced : Bool)
-    (encodes : EncodesChunk encode_utf8 (html_mode old) old new text last room (encoder_result_of result) read wrote
+    (encodes : EncodesChunk encode_utf8 (html_mode old) old new text last room
+    (encoder_result_of result) read wrote
     replaced) → result ≡ InputEmpty → [] ≡ encodes.rest
 all_read old new text last room InputEmpty read wrote replaced encodes at_end =
     none_left (raw_state new) encodes.rest last encodes.call.stops
@@ -71,21 +78,26 @@ all_read old new text last room OutputFull read wrote replaced encodes at_end = 
 
 -- A call reads UTF-8 up to a boundary between two characters.
 pub ends_between : {text : List ℕ} → IsUtf8 text
-    → {mode : EncodeErrorMode} {old new : EncoderState} {last : Bool} {room : ℕ} {result : EncoderResult} {read : ℕ}
+    → {mode : EncodeErrorMode} {old new : EncoderState} {last : Bool} {room : ℕ}
+    {result : EncoderResult} {read : ℕ}
     {wrote : List ℕ} {replaced : Bool}
     → EncodesChunk encode_utf8 mode old new (chars text) last room result read wrote replaced
     → IsCharBoundary text read
 ends_between {text} is_utf_8 {read} encodes =
-    boundary text (step_chars encodes.call.done) encodes.rest read is_utf_8 encodes.call.reads encodes.call.units
+    boundary text (step_chars encodes.call.done) encodes.rest read is_utf_8 encodes.call.reads
+    encodes.call.units
 
 -- A call reads no more UTF-16 than there is.
 pub ends_within : (text : List ℕ) → AreUnits text
-    → {mode : EncodeErrorMode} {old new : EncoderState} {last : Bool} {room : ℕ} {result : EncoderResult} {read : ℕ}
+    → {mode : EncodeErrorMode} {old new : EncoderState} {last : Bool} {room : ℕ}
+    {result : EncoderResult} {read : ℕ}
     {wrote : List ℕ} {replaced : Bool}
-    → EncodesChunk encode_utf16 mode old new (utf16_lossy_chars text) last room result read wrote replaced
+    → EncodesChunk encode_utf16 mode old new (utf16_lossy_chars text) last room result read wrote
+    replaced
     → read ≤ length text
 ends_within text are_units encodes =
-    let all = utf16_length text are_units ∙ ap (λ t. length (units_of_text encode_utf16 t)) encodes.call.reads
+    let all = utf16_length text are_units
+    ∙ ap (λ t. length (units_of_text encode_utf16 t)) encodes.call.reads
     ∙ ap length (units_of_text-append encode_utf16 (step_chars encodes.call.done) encodes.rest) in
     let parts = length-append (units_of_text encode_utf16 (step_chars encodes.call.done))
     (units_of_text encode_utf16 encodes.rest) in
@@ -95,17 +107,22 @@ ends_within text are_units encodes =
 -- The characters of the unread rest.
 
 pub chars_unread : {text : List ℕ} → IsUtf8 text
-    → {mode : EncodeErrorMode} {old new : EncoderState} {last : Bool} {room : ℕ} {result : EncoderResult} {read : ℕ}
+    → {mode : EncodeErrorMode} {old new : EncoderState} {last : Bool} {room : ℕ}
+    {result : EncoderResult} {read : ℕ}
     {wrote : List ℕ} {replaced : Bool}
-    (encodes : EncodesChunk encode_utf8 mode old new (chars text) last room result read wrote replaced)
+    (encodes : EncodesChunk encode_utf8 mode old new (chars text) last room result read wrote
+    replaced)
     → chars (drop read text) ≡ encodes.rest
 chars_unread {text} is_utf_8 {read} encodes =
-    chars_after text (step_chars encodes.call.done) encodes.rest read is_utf_8 encodes.call.reads encodes.call.units
+    chars_after text (step_chars encodes.call.done) encodes.rest read is_utf_8 encodes.call.reads
+    encodes.call.units
 
 pub lossy_unread : (text : List ℕ) → AreUnits text
-    → {mode : EncodeErrorMode} {old new : EncoderState} {last : Bool} {room : ℕ} {result : EncoderResult} {read : ℕ}
+    → {mode : EncodeErrorMode} {old new : EncoderState} {last : Bool} {room : ℕ}
+    {result : EncoderResult} {read : ℕ}
     {wrote : List ℕ} {replaced : Bool}
-    (encodes : EncodesChunk encode_utf16 mode old new (utf16_lossy_chars text) last room result read wrote replaced)
+    (encodes : EncodesChunk encode_utf16 mode old new (utf16_lossy_chars text) last room result read
+    wrote replaced)
     → utf16_lossy_chars (drop read text) ≡ encodes.rest
 lossy_unread text are_units encodes =
     ap (λ n. utf16_lossy_chars (drop n text)) encodes.call.units

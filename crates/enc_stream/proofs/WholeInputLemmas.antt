@@ -21,7 +21,8 @@ start_is : (p x : List ℕ) → starts_with nat_eq x p ≡ true → p ++ drop (l
 start_is [] x starts = refl
 start_is (a ∷ p) [] starts = absurd (false≢true starts)
 start_is (a ∷ p) (b ∷ x) starts = elim (true_or_false (eqb a b)) [
-  | inl same_byte ↦ ap (λ z. a ∷ z) (start_is p x (rw same_byte at starts)) ∙ ap (λ c. c ∷ x) (eqb-true a b same_byte)
+  | inl same_byte ↦ ap (λ z. a ∷ z) (start_is p x (rw same_byte at starts))
+      ∙ ap (λ c. c ∷ x) (eqb-true a b same_byte)
   | inr f ↦ absurd (false≢true (rw f at starts))
 ]
 
@@ -30,7 +31,8 @@ pub found_is : (looked_for : List Mark) (x : List ℕ) (m : Mark) → find_mark 
 found_is [] x m e = absurd (let none : ⊥ = cc in none)
 found_is (k ∷ others) x m e = elim (true_or_false (starts_with nat_eq x k.bytes)) [
   | inl starts ↦
-      let found_first : (if starts_with nat_eq x k.bytes then Some k else find_mark others x) ≡ Some k =
+      let found_first : (if starts_with nat_eq x k.bytes then Some k else find_mark others x)
+      ≡ Some k =
       ap (λ t. if t then Some k else find_mark others x) starts in
       let same : k ≡ m = cc in
       ap (λ (l : Mark). l.bytes ++ drop (length l.bytes) x) (sym same) ∙ start_is k.bytes x starts
@@ -45,17 +47,21 @@ joined_by (Some m) e x h =
     ap (λ z. m.bytes ++ z) (all_bytes (rule_of m.encoding) 0 (drop (length m.bytes) x)) ∙ h m refl
 
 pub joined : (handling : BomHandling) (e : Encoding) (bytes : List ℕ)
-    → mark_bytes (find_mark (marks_looked_for handling e) bytes) ++ sequence_bytes (whole_sequences handling e bytes)
+    → mark_bytes (find_mark (marks_looked_for handling e) bytes)
+    ++ sequence_bytes (whole_sequences handling e bytes)
     ≡ bytes
 joined handling e bytes =
-    joined_by (find_mark (marks_looked_for handling e) bytes) e bytes (found_is (marks_looked_for handling e) bytes)
+    joined_by (find_mark (marks_looked_for handling e) bytes) e bytes
+    (found_is (marks_looked_for handling e) bytes)
 
 -- is_segmented by the rule, each at its place, and no others are
 
 is_segmented_by : (found : Option Mark) (e : Encoding) (x : List ℕ)
-    → IsSegmentation (rule_of (encoding_of_mark_or found e)) 0 (bytes_after_mark found x) (sequences_by_mark found e x)
+    → IsSegmentation (rule_of (encoding_of_mark_or found e)) 0 (bytes_after_mark found x)
+    (sequences_by_mark found e x)
 is_segmented_by None e x = sequences_are_segmentation (rule_of e) 0 x
-is_segmented_by (Some m) e x = sequences_are_segmentation (rule_of m.encoding) 0 (drop (length m.bytes) x)
+is_segmented_by (Some m) e x =
+    sequences_are_segmentation (rule_of m.encoding) 0 (drop (length m.bytes) x)
 
 one_by : (found : Option Mark) (e : Encoding) (x : List ℕ) (ss : List Sequence)
     → IsSegmentation (rule_of (encoding_of_mark_or found e)) 0 (bytes_after_mark found x) ss
@@ -64,11 +70,16 @@ one_by None e x ss h = is_one (rule_of e) 0 x ss h
 one_by (Some m) e x ss h = is_one (rule_of m.encoding) 0 (drop (length m.bytes) x) ss h
 
 pub is_segmented : (handling : BomHandling) (e : Encoding) (bytes : List ℕ)
-    → IsSegmentation (rule_of (encoding_of_mark_or (find_mark (marks_looked_for handling e) bytes) e)) 0
-    (bytes_after_mark (find_mark (marks_looked_for handling e) bytes) bytes) (whole_sequences handling e bytes)
-is_segmented handling e bytes = is_segmented_by (find_mark (marks_looked_for handling e) bytes) e bytes
+    → IsSegmentation (rule_of
+    (encoding_of_mark_or (find_mark (marks_looked_for handling e) bytes) e)) 0
+    (bytes_after_mark (find_mark (marks_looked_for handling e) bytes) bytes)
+    (whole_sequences handling e bytes)
+is_segmented handling e bytes =
+    is_segmented_by (find_mark (marks_looked_for handling e) bytes) e bytes
 
 pub one : (handling : BomHandling) (e : Encoding) (bytes : List ℕ) (ss : List Sequence)
-    → IsSegmentation (rule_of (encoding_of_mark_or (find_mark (marks_looked_for handling e) bytes) e)) 0
-    (bytes_after_mark (find_mark (marks_looked_for handling e) bytes) bytes) ss → ss ≡ whole_sequences handling e bytes
+    → IsSegmentation (rule_of
+    (encoding_of_mark_or (find_mark (marks_looked_for handling e) bytes) e)) 0
+    (bytes_after_mark (find_mark (marks_looked_for handling e) bytes) bytes) ss
+    → ss ≡ whole_sequences handling e bytes
 one handling e bytes ss h = one_by (find_mark (marks_looked_for handling e) bytes) e bytes ss h

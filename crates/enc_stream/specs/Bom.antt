@@ -31,7 +31,8 @@ marks = utf_8_mark ∷ utf_16be_mark ∷ utf_16le_mark ∷ []
 -- the first of these byte order marks that the bytes begin with
 abbrev pub find_mark : List Mark → List ℕ → Option Mark
 find_mark [] bytes = None
-find_mark (m ∷ others) bytes = if starts_with nat_eq bytes m.bytes then Some m else find_mark others bytes
+find_mark (m ∷ others) bytes =
+    if starts_with nat_eq bytes m.bytes then Some m else find_mark others bytes
 
 -- The encoding and the length of the byte order mark at the start, if there is one.
 abbrev pub bom_of : List ℕ → Option (Encoding × ℕ)
@@ -50,8 +51,9 @@ marks_looked_for Off e = []
 marks_looked_for Sniff e = marks
 marks_looked_for Remove e = marks_of_encoding e.id
 
--- The sequences of the bytes after the byte order mark, by its encoding; or of all bytes, by this one, if there is
--- none.
+-- The sequences of the bytes after the byte order mark, by its encoding; or of all bytes, by this
+-- one, if there is none.
 abbrev pub sequences_by_mark : Option Mark → Encoding → List ℕ → List Sequence
 sequences_by_mark None e bytes = sequences_of (rule_of e) 0 bytes
-sequences_by_mark (Some m) e bytes = sequences_of (rule_of m.encoding) 0 (drop (length m.bytes) bytes)
+sequences_by_mark (Some m) e bytes =
+    sequences_of (rule_of m.encoding) 0 (drop (length m.bytes) bytes)

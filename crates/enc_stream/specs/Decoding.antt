@@ -1,6 +1,7 @@
--- Decoders: texts of whole inputs, and single calls (Encoding Standard 4.1, "process a queue"; 6, "decode", "UTF-8
--- decode" and "UTF-8 decode without BOM", for any encoding).
-use Rattle.std.specs.Prelude.{◌≡◌, ℕ, ◌+◌, ◌-◌, ◌<◌, ◌≤◌, Bool, true, false, List, [], ◌∷◌, ◌++◌, length, take, ◌==◌, if◌then◌else◌}
+-- Decoders: texts of whole inputs, and single calls (Encoding Standard 4.1, "process a queue"; 6,
+-- "decode", "UTF-8 decode" and "UTF-8 decode without BOM", for any encoding).
+use Rattle.std.specs.Prelude.{◌≡◌, ℕ, ◌+◌, ◌-◌, ◌<◌, ◌≤◌, Bool, true, false, List, [], ◌∷◌, ◌++◌, length, take, ◌==◌}
+use Rattle.std.specs.Prelude.{if◌then◌else◌}
 use Rattle.std.specs.Char.{encode_utf8}
 use Rattle.enc_units.specs.Results.{decoder_result_of}
 use Rattle.enc_units.specs.declared.decoder_result.DecoderResult.{DecoderResult}
@@ -31,22 +32,25 @@ use Rattle.enc_stream.specs.LifeCycle.{held_mark_bytes, life_after}
 
 -- the sequences of a whole input, after a byte order mark that is looked for
 abbrev pub whole_sequences : BomHandling → Encoding → List ℕ → List Sequence
-whole_sequences handling e bytes = sequences_by_mark (find_mark (marks_looked_for handling e) bytes) e bytes
+whole_sequences handling e bytes =
+    sequences_by_mark (find_mark (marks_looked_for handling e) bytes) e bytes
 
 -- the encoding of a whole input: that of its byte order mark, or else this one
 abbrev pub whole_encoding : BomHandling → Encoding → List ℕ → Encoding
-whole_encoding handling e bytes = encoding_of_mark_or (find_mark (marks_looked_for handling e) bytes) e
+whole_encoding handling e bytes =
+    encoding_of_mark_or (find_mark (marks_looked_for handling e) bytes) e
 
 -- The text of a whole input, in UTF-8. Every way to decode the input gives this text.
 abbrev pub whole_utf_8 : BomHandling → Encoding → List ℕ → List ℕ
-whole_utf_8 handling e bytes = units_of_text encode_utf8 (sequence_text (whole_sequences handling e bytes))
+whole_utf_8 handling e bytes =
+    units_of_text encode_utf8 (sequence_text (whole_sequences handling e bytes))
 
 -- whether a sequence of a whole input is malformed
 abbrev pub whole_malformed : BomHandling → Encoding → List ℕ → Bool
 whole_malformed handling e bytes = any_malformed (whole_sequences handling e bytes)
 
--- A decoder as its caller knows it: its encoding, its life cycle, the designated character set, and the pending bytes
--- (read, and their sequence not yet put out).
+-- A decoder as its caller knows it: its encoding, its life cycle, the designated character set, and
+-- the pending bytes (read, and their sequence not yet put out).
 pub record DecoderState : Type 0 where
   pub encoding : Encoding
   pub life : LifeCycle
@@ -76,7 +80,8 @@ start_life Remove id = removal_start id
 
 -- a decoder that has read nothing
 abbrev pub fresh_decoder : BomHandling → Encoding → DecoderState
-fresh_decoder handling e = record { encoding = e; life = start_life handling e.id; set = 0; pending = [] }
+fresh_decoder handling e =
+    record { encoding = e; life = start_life handling e.id; set = 0; pending = [] }
 
 -- the sequences still to come out if exactly the bytes y follow
 abbrev pub remaining_sequences : DecoderState → List ℕ → List Sequence
@@ -101,11 +106,13 @@ decoder_state_of e life codec =
       pending = held_or_pending_bytes (held_mark_bytes life) codec.pending;
     }
 
--- the held bytes of a byte order mark that the codec has not read, by the number of bytes that it has pending
+-- the held bytes of a byte order mark that the codec has not read, by the number of bytes that it
+-- has pending
 abbrev pub unread_bytes : LifeCycle → ℕ → List ℕ
 unread_bytes life pending = if pending == 0 then held_mark_bytes life else []
 
--- While a byte order mark may come, the codec has read nothing. Of the held bytes it has none pending, or all.
+-- While a byte order mark may come, the codec has read nothing. Of the held bytes it has none
+-- pending, or all.
 pub record HeldBytesMatchCodec (life : LifeCycle) (codec : CodecState) : Type 0 where
   pub unread : awaits_mark (phase_of life) ≡ true → (codec.set ≡ 0) × (codec.pending ≡ [])
   pub held : held_or_pending_bytes (held_mark_bytes life) codec.pending ≡ codec.pending
@@ -124,45 +131,60 @@ HasCodecOf e life codec = (rule_of e ≡ codec.rule) × HeldBytesMatchCodec life
 
 -- its formulas too are those of its encoding
 abbrev pub HasFormulasOf : Encoding → LifeCycle → TextLengths → Type 0
-HasFormulasOf e life formulas = (codec_lengths (codec_by_id e.id) ≡ formulas) × LooksForOwnMark e.id life
+HasFormulasOf e life formulas = (codec_lengths (codec_by_id e.id) ≡ formulas)
+    × LooksForOwnMark e.id life
 
 -- Held bytes of a byte order mark are all that is pending.
 pub record PendingAreHeldBytes (d : DecoderState) : Type 0 where
   pub in_front : awaits_mark (phase_of d.life) ≡ true → d.pending ≡ held_mark_bytes d.life
-  pub held : (b : ℕ) (others : List ℕ) → held_mark_bytes d.life ≡ b ∷ others → d.pending ≡ held_mark_bytes d.life
+  pub held : (b : ℕ) (others : List ℕ) → held_mark_bytes d.life ≡ b ∷ others
+      → d.pending ≡ held_mark_bytes d.life
 
 -- A call of a decoder, into an output of `room` code units.
-pub record DecodesChunk (units_of : ℕ → List ℕ) (mode : DecodeErrorMode) (old new : DecoderState) (src : List ℕ) (last : Bool) (room : ℕ) (result : DecoderResult) (read : ℕ) (wrote : List ℕ) (replaced : Bool) : Type 0 where
-  pub call : DecoderCall units_of (decoder_remainder old) (decoder_remainder new) src last mode room result read wrote replaced
-  -- A byte order mark is dropped, and sets the encoding. All other bytes read belong to the sequences done or are
-  -- pending.
-  pub accounted : old.pending ++ take read src ≡ mark_bytes (mark_in (phase_of old.life) (old.pending ++ take read src)) ++ (sequence_bytes call.done ++ new.pending)
-  pub encoding : new.encoding ≡ encoding_of_mark_or (mark_in (phase_of old.life) (old.pending ++ take read src))
+pub record DecodesChunk (units_of : ℕ → List ℕ) (mode : DecodeErrorMode) (old new : DecoderState)
+    (src : List ℕ) (last : Bool) (room : ℕ) (result : DecoderResult) (read : ℕ) (wrote : List ℕ)
+    (replaced : Bool) : Type 0 where
+  pub call : DecoderCall units_of (decoder_remainder old) (decoder_remainder new) src last mode room
+      result read wrote replaced
+  -- A byte order mark is dropped, and sets the encoding. All other bytes read belong to the
+  -- sequences done or are pending.
+  pub accounted : old.pending ++ take read src
+      ≡ mark_bytes (mark_in (phase_of old.life) (old.pending ++ take read src))
+      ++ (sequence_bytes call.done ++ new.pending)
+  pub encoding : new.encoding
+      ≡ encoding_of_mark_or (mark_in (phase_of old.life) (old.pending ++ take read src))
       old.encoding
-  pub life : new.life ≡ life_after old.life (reaches_end last result) (old.pending ++ take read src) call.done
+  pub life : new.life ≡ life_after old.life (reaches_end last result) (old.pending ++ take read src)
+      call.done
 
 -- the same, for a call that appends what it writes to an output
-pub record DecodesInto (units_of : ℕ → List ℕ) (mode : DecodeErrorMode) (old new : DecoderState) (src : List ℕ) (last : Bool) (before after : Output) (result : DecoderResult) (read : ℕ) (replaced : Bool) : Type 0 where
+pub record DecodesInto (units_of : ℕ → List ℕ) (mode : DecodeErrorMode) (old new : DecoderState)
+    (src : List ℕ) (last : Bool) (before after : Output) (result : DecoderResult) (read : ℕ)
+    (replaced : Bool) : Type 0 where
   pub wrote : List ℕ
   pub onto : after ≡ with_appended before wrote
   pub decodes : DecodesChunk units_of mode old new src last before.room result read wrote replaced
 
 -- A call of a decoder with replacement.
-abbrev pub DecodesReplacing : (ℕ → List ℕ) → DecoderState → DecoderState → List ℕ → Bool → ℕ → CoderResult → ℕ → List ℕ → Bool → Type 0
+abbrev pub DecodesReplacing : (ℕ → List ℕ) → DecoderState → DecoderState → List ℕ → Bool → ℕ
+    → CoderResult → ℕ → List ℕ → Bool → Type 0
 DecodesReplacing units_of old new src last room result read wrote replaced =
-    DecodesChunk units_of Replacement old new src last room (decoder_result_of result) read wrote replaced
+    DecodesChunk units_of Replacement old new src last room (decoder_result_of result) read wrote
+    replaced
 
 -- A call of a decoder without replacement.
-abbrev pub DecodesReporting : (ℕ → List ℕ) → DecoderState → DecoderState → List ℕ → Bool → ℕ → DecoderResult → ℕ → List ℕ → Type 0
+abbrev pub DecodesReporting : (ℕ → List ℕ) → DecoderState → DecoderState → List ℕ → Bool → ℕ
+    → DecoderResult → ℕ → List ℕ → Type 0
 DecodesReporting units_of old new src last room result read wrote =
     DecodesChunk units_of (Fatal false) old new src last room result read wrote false
 
--- A decoder that has read nothing of src is unchanged, except that it may drop pending sequences without a text (escape
--- sequences): src shows that they are skipped.
+-- A decoder that has read nothing of src is unchanged, except that it may drop pending sequences
+-- without a text (escape sequences): src shows that they are skipped.
 pub record IsUnchangedButSkips (src : List ℕ) (last : Bool) (old new : DecoderState) : Type 0 where
   pub skipped : List Sequence
   pub no_text : sequence_text skipped ≡ []
-  pub come_first : (z : List ℕ) → (last ≡ true → z ≡ []) → remaining_sequences old (src ++ z) ≡ skipped ++ remaining_sequences new (src ++ z)
+  pub come_first : (z : List ℕ) → (last ≡ true → z ≡ [])
+      → remaining_sequences old (src ++ z) ≡ skipped ++ remaining_sequences new (src ++ z)
   pub pending : old.pending ≡ sequence_bytes skipped ++ new.pending
   pub set : new.set ≡ set_after old.set skipped
   pub encoding : new.encoding ≡ old.encoding
@@ -171,46 +193,61 @@ pub record IsUnchangedButSkips (src : List ℕ) (last : Bool) (old new : Decoder
 
 -- `least` code units hold any small text.
 abbrev pub TakesSmallTexts : (ℕ → List ℕ) → ℕ → Type 0
-TakesSmallTexts units_of least = (text : List ℕ) → IsSmallText text → length (units_of_text units_of text) ≤ least
+TakesSmallTexts units_of least = (text : List ℕ) → IsSmallText text
+    → length (units_of_text units_of text) ≤ least
 
 -- Fewer bytes are pending or unread after a call than were pending or given before it.
 abbrev pub LeavesFewerBytes : DecoderState → DecoderState → List ℕ → ℕ → Type 0
-LeavesFewerBytes old new src read = length new.pending + (length src - read) < length old.pending + length src
+LeavesFewerBytes old new src read =
+    length new.pending + (length src - read) < length old.pending + length src
 
 -- A call of a decoder, for any output. `least` code units hold the text of any sequence.
-pub record AnswersDecode (units_of : ℕ → List ℕ) (least : ℕ) (mode : DecodeErrorMode) (old new : DecoderState) (src : List ℕ) (last : Bool) (room : ℕ) (result : DecoderResult) (read : ℕ) (wrote : List ℕ) (replaced : Bool) : Type 0 where
+pub record AnswersDecode (units_of : ℕ → List ℕ) (least : ℕ) (mode : DecodeErrorMode)
+    (old new : DecoderState) (src : List ℕ) (last : Bool) (room : ℕ) (result : DecoderResult)
+    (read : ℕ) (wrote : List ℕ) (replaced : Bool) : Type 0 where
   pub decodes : DecodesChunk units_of mode old new src last room result read wrote replaced
   -- The output is full exactly if the call needs more than `room`.
-  pub need : MeetsDecodeNeed units_of mode (decoder_remainder old) (decoder_remainder new) src last room result read (length wrote)
-  -- If it is full, with nothing read and nothing written, the decoder is unchanged, except for pending escape sequences
-  -- that are now skipped. In an encoding without these it is unchanged.
-  pub unchanged : result ≡ raw.OutputFull → read ≡ 0 → wrote ≡ [] → IsUnchangedButSkips src last old new
-  pub same : result ≡ raw.OutputFull → read ≡ 0 → wrote ≡ [] → HasTexts (rule_of old.encoding) → new ≡ old
+  pub need : MeetsDecodeNeed units_of mode (decoder_remainder old) (decoder_remainder new) src last
+      room result read (length wrote)
+  -- If it is full, with nothing read and nothing written, the decoder is unchanged, except for
+  -- pending escape sequences that are now skipped. In an encoding without these it is unchanged.
+  pub unchanged : result ≡ raw.OutputFull → read ≡ 0 → wrote ≡ []
+      → IsUnchangedButSkips src last old new
+  pub same : result ≡ raw.OutputFull → read ≡ 0 → wrote ≡ [] → HasTexts (rule_of old.encoding)
+      → new ≡ old
   -- With `least` code units of room, a call makes progress.
   pub progress : (result ≡ raw.InputEmpty → ⊥) → least ≤ room
       → length new.pending + (length src - read) < length old.pending + length src
 
 -- the same with replacement
-abbrev pub AnswersDecodeReplacing : (ℕ → List ℕ) → ℕ → DecoderState → DecoderState → List ℕ → Bool → ℕ → CoderResult → ℕ → List ℕ → Bool → Type 0
+abbrev pub AnswersDecodeReplacing : (ℕ → List ℕ) → ℕ → DecoderState → DecoderState → List ℕ → Bool
+    → ℕ → CoderResult → ℕ → List ℕ → Bool → Type 0
 AnswersDecodeReplacing units_of least old new src last room result read wrote replaced =
-    AnswersDecode units_of least Replacement old new src last room (decoder_result_of result) read wrote replaced
+    AnswersDecode units_of least Replacement old new src last room (decoder_result_of result) read
+    wrote replaced
 
 -- the same without replacement
-abbrev pub AnswersDecodeReporting : (ℕ → List ℕ) → ℕ → DecoderState → DecoderState → List ℕ → Bool → ℕ → DecoderResult → ℕ → List ℕ → Type 0
+abbrev pub AnswersDecodeReporting : (ℕ → List ℕ) → ℕ → DecoderState → DecoderState → List ℕ → Bool
+    → ℕ → DecoderResult → ℕ → List ℕ → Type 0
 AnswersDecodeReporting units_of least old new src last room result read wrote =
     AnswersDecode units_of least (Fatal false) old new src last room result read wrote false
 
 -- the same, for a call that appends what it writes to an output
-pub record AnswersDecodeInto (units_of : ℕ → List ℕ) (mode : DecodeErrorMode) (old new : DecoderState) (src : List ℕ) (last : Bool) (before after : Output) (result : DecoderResult) (read : ℕ) (replaced : Bool) : Type 0 where
+pub record AnswersDecodeInto (units_of : ℕ → List ℕ) (mode : DecodeErrorMode)
+    (old new : DecoderState) (src : List ℕ) (last : Bool) (before after : Output)
+    (result : DecoderResult) (read : ℕ) (replaced : Bool) : Type 0 where
   pub wrote : List ℕ
   pub onto : after ≡ with_appended before wrote
-  pub converts : (least : ℕ) → TakesSmallTexts units_of least → AnswersDecode units_of least mode old new src last before.room result read wrote replaced
+  pub converts : (least : ℕ) → TakesSmallTexts units_of least
+      → AnswersDecode units_of least mode old new src last before.room result read wrote replaced
 
--- The result of some calls of an encoding's decoder: of the bytes given so far, `unread` remain. If `ended`, nothing
--- follows them.
-pub record HasDecoded (handling : BomHandling) (e : Encoding) (bytes unread : List ℕ) (ended : Bool) (state : DecoderState) (wrote : List ℕ) (replaced : Bool) : Type 0 where
+-- The result of some calls of an encoding's decoder: of the bytes given so far, `unread` remain. If
+-- `ended`, nothing follows them.
+pub record HasDecoded (handling : BomHandling) (e : Encoding) (bytes unread : List ℕ) (ended : Bool)
+    (state : DecoderState) (wrote : List ℕ) (replaced : Bool) : Type 0 where
   pub done : List Sequence
   -- The sequences of the whole input are those done and those remaining.
-  pub whole : (z : List ℕ) → (ended ≡ true → z ≡ []) → whole_sequences handling e (bytes ++ z) ≡ done ++ remaining_sequences state (unread ++ z)
+  pub whole : (z : List ℕ) → (ended ≡ true → z ≡ [])
+      → whole_sequences handling e (bytes ++ z) ≡ done ++ remaining_sequences state (unread ++ z)
   pub text : wrote ≡ units_of_text encode_utf8 (sequence_text done)
   pub flag : replaced ≡ any_malformed done

@@ -1,4 +1,5 @@
--- Encoders: single calls (Encoding Standard 4.1, "process a queue" with an encoder; 6, "encode" and "encode or fail").
+-- Encoders: single calls (Encoding Standard 4.1, "process a queue" with an encoder; 6, "encode" and
+-- "encode or fail").
 use Rattle.std.specs.Prelude.{◌≡◌, ℕ, ◌<◌, ◌≤◌, Bool, true, false, List, [], ◌∷◌, take, drop, length, if◌then◌else◌}
 use Rattle.enc_encoder.specs.declared.character_set.CharacterSet.{CharacterSet}
 use Rattle.enc_encoder.specs.declared.character_set.CharacterSet.TheVariants.{Ascii}
@@ -16,9 +17,11 @@ use Rattle.enc_stream.specs.Properties.{output_encoding_of}
 
 -- the bytes of a whole text with references
 abbrev pub whole_bytes : List ℕ → Encoding → List ℕ → List ℕ
-whole_bytes b e text = bytes_of_text (output_rule b e) Ascii (with_references (output_rule b e) text)
+whole_bytes b e text =
+    bytes_of_text (output_rule b e) Ascii (with_references (output_rule b e) text)
 
--- an encoder as its caller knows it: its encoding, the barred characters, and the designated character set
+-- an encoder as its caller knows it: its encoding, the barred characters, and the designated
+-- character set
 pub record EncoderState : Type 0 where
   pub encoding : Encoding
   pub barred : List ℕ
@@ -41,8 +44,8 @@ abbrev pub maps_every_character : List ℕ → Encoding → Bool
 maps_every_character [] e = is_utf_8 e.id
 maps_every_character (c ∷ b) e = false
 
--- the number of bytes at the end of an output that are kept free: the length of the longest reference, or none if every
--- character is mappable
+-- the number of bytes at the end of an output that are kept free: the length of the longest
+-- reference, or none if every character is mappable
 abbrev pub room_kept_for_references : List ℕ → Encoding → ℕ
 room_kept_for_references b e = if maps_every_character b e then 0 else 10
 
@@ -54,30 +57,38 @@ html_mode_in b e = Html (room_kept_for_references b e)
 abbrev pub html_mode : EncoderState → EncodeErrorMode
 html_mode v = html_mode_in v.barred v.encoding
 
--- The number of steps left to encode these characters. An escape sequence, a character's bytes, and the report of an
--- unmappable character are one step each.
+-- The number of steps left to encode these characters. An escape sequence, a character's bytes, and
+-- the report of an unmappable character are one step each.
 abbrev pub steps_left : EncoderState → Bool → List ℕ → ℕ
 steps_left v last text = length (steps_from_state (raw_state v) last text)
 
--- Fewer steps are left for the unread characters after a call than were left for those given before it.
+-- Fewer steps are left for the unread characters after a call than were left for those given before
+-- it.
 abbrev pub LeavesFewerSteps : EncoderState → EncoderState → Bool → List ℕ → List ℕ → Type 0
 LeavesFewerSteps old new last text unread = steps_left new last unread < steps_left old last text
 
--- A call of an encoder with the characters `src`, which nothing follows if `last`. It does the steps that come first,
--- as many as fit, and writes a reference to an unmappable character, or stops there and reports it. Whatever follows,
--- the bytes of the whole text are those that it wrote, a reference to the character reported, and the bytes of the text
--- left.
-pub record EncodesChunk (units_of : ℕ → List ℕ) (mode : EncodeErrorMode) (old new : EncoderState) (src : List ℕ) (last : Bool) (room : ℕ) (result : EncoderResult) (read : ℕ) (wrote : List ℕ) (replaced : Bool) : Type 0 where
+-- A call of an encoder with the characters `src`, which nothing follows if `last`. It does the
+-- steps that come first, as many as fit, and writes a reference to an unmappable character, or
+-- stops there and reports it. Whatever follows, the bytes of the whole text are those that it
+-- wrote, a reference to the character reported, and the bytes of the text left.
+pub record EncodesChunk (units_of : ℕ → List ℕ) (mode : EncodeErrorMode) (old new : EncoderState)
+    (src : List ℕ) (last : Bool) (room : ℕ) (result : EncoderResult) (read : ℕ) (wrote : List ℕ)
+    (replaced : Bool) : Type 0 where
   pub encoding : new.encoding ≡ old.encoding
   pub barred : new.barred ≡ old.barred
   pub rest : List ℕ
-  pub call : EncoderCallInMode units_of mode (raw_state old) (raw_state new) src rest last room result read wrote
+  pub call : EncoderCallInMode units_of mode (raw_state old) (raw_state new) src rest last room
+      result read wrote
       replaced
   -- After the end of a text an encoder is at the start of another.
-  pub ended : result ≡ InputEmpty → last ≡ true → new ≡ record { encoding = old.encoding; barred = old.barred; set = Ascii }
+  pub ended : result ≡ InputEmpty → last ≡ true
+      → new ≡ record { encoding = old.encoding; barred = old.barred; set = Ascii }
 
 -- the same, for a call that writes to the start of a slice and leaves its other bytes unchanged
-pub record EncodesInto (units_of : ℕ → List ℕ) (mode : EncodeErrorMode) (old new : EncoderState) (src : List ℕ) (last : Bool) (before after : List ℕ) (result : EncoderResult) (read written : ℕ) (replaced : Bool) : Type 0 where
+pub record EncodesInto (units_of : ℕ → List ℕ) (mode : EncodeErrorMode) (old new : EncoderState)
+    (src : List ℕ) (last : Bool) (before after : List ℕ) (result : EncoderResult) (read written : ℕ)
+    (replaced : Bool) : Type 0 where
   pub within : written ≤ length before
   pub rest : drop written after ≡ drop written before
-  pub encodes : EncodesChunk units_of mode old new src last (length before) result read (take written after) replaced
+  pub encodes : EncodesChunk units_of mode old new src last (length before) result read
+      (take written after) replaced

@@ -23,8 +23,8 @@ abbrev pub rule_or_utf_8 : Option EncoderRule → EncoderRule
 rule_or_utf_8 None = stateless_rule utf_8_bytes
 rule_or_utf_8 (Some rule) = rule
 
--- The rule of the encoder of e's output encoding, with the characters b barred: e's own rule, or UTF-8's if e has no
--- encoder (Encoding Standard 4.3, "get an output encoding"). Its `bytes` says which characters are mappable: those with
--- bytes in the encoding that are not in the list.
+-- The rule of the encoder of e's output encoding, with the characters b barred: e's own rule, or
+-- UTF-8's if e has no encoder (Encoding Standard 4.3, "get an output encoding"). Its `bytes` says
+-- which characters are mappable: those with bytes in the encoding that are not in the list.
 abbrev pub output_rule : List ℕ → Encoding → EncoderRule
 output_rule b e = barring_rule b (rule_or_utf_8 (encoder_rule (codec_by_id e.id)))

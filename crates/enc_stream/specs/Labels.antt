@@ -1,4 +1,5 @@
--- The labels of the encodings, and the encoding that a label names (Encoding Standard 4.2, "get an encoding").
+-- The labels of the encodings, and the encoding that a label names (Encoding Standard 4.2, "get an
+-- encoding").
 use Rattle.std.specs.Prelude.{ℕ, Bool, true, false, option_and_then, option_map, if◌then◌else◌, List, map, Option, Some}
 use Rattle.std.specs.Prelude.{None}
 use Rattle.enc_names.specs.declared.encoding_id.EncodingId.{EncodingId}
@@ -24,4 +25,5 @@ encoding_unless_replacement e = if is_replacement e.id then None else Some e
 
 -- The same, except that no label names replacement.
 abbrev pub encoding_of_label_no_replacement : List ℕ → Option Encoding
-encoding_of_label_no_replacement label = option_and_then encoding_unless_replacement (encoding_of_label label)
+encoding_of_label_no_replacement label =
+    option_and_then encoding_unless_replacement (encoding_of_label label)

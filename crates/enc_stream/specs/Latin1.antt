@@ -13,15 +13,17 @@ has_byte_characters Utf16be = false
 has_byte_characters Utf16le = false
 has_byte_characters _ = true
 
--- A byte may be the character with its number: no byte order mark may come, nothing is pending, the designated
--- character set is that of the start, and the encoding has such bytes.
+-- A byte may be the character with its number: no byte order mark may come, nothing is pending, the
+-- designated character set is that of the start, and the encoding has such bytes.
 pub record DecoderMayBeLatin1 (d : DecoderState) : Type 0 where
   pub converting : d.life ≡ Converting
   pub none_pending : d.pending ≡ []
   pub at_start : d.set ≡ 0
   pub encoding : has_byte_characters d.encoding.id ≡ true
 
--- the answer for these bytes: `None` if no byte may be so, and otherwise the length of a prefix that is
+-- the answer for these bytes: `None` if no byte may be so, and otherwise the length of a prefix
+-- that is
 abbrev pub AnswersDecoderLatin1 : DecoderState → List ℕ → Option ℕ → Type 0
 AnswersDecoderLatin1 d bytes None = ¬ (DecoderMayBeLatin1 d)
-AnswersDecoderLatin1 d bytes (Some k) = DecoderMayBeLatin1 d × IsLatin1Prefix (remaining_sequences d) bytes k
+AnswersDecoderLatin1 d bytes (Some k) = DecoderMayBeLatin1 d
+    × IsLatin1Prefix (remaining_sequences d) bytes k

@@ -35,33 +35,40 @@ idle_length q lengths n = formula_length q lengths n 0
 
 -- the greater of two lengths: for this encoding, and for that of a byte order mark that may come
 abbrev pub length_with_mark : Query → TextLengths → TextLengths → ℕ → Option ℕ
-length_with_mark q of_mark lengths n = checked_max (idle_length q of_mark n) (idle_length q lengths n)
+length_with_mark q of_mark lengths n =
+    checked_max (idle_length q of_mark n) (idle_length q lengths n)
 
 -- the length for a sum of bytes, if the sum is a usize
 abbrev pub length_at : (ℕ → Option ℕ) → Option ℕ → Option ℕ
 length_at f None = None
 length_at f (Some n) = f n
 
--- The length for n more bytes, by the life cycle. The codec holds h bytes. If bytes of a byte order mark are held, at
--- most two, the codec has yet to read them.
+-- The greater of two lengths where bytes of the byte order mark are held, which count as two.
+abbrev pub length_with_held : Query → TextLengths → TextLengths → ℕ → Option ℕ
+length_with_held q of_mark lengths n =
+    length_at (length_with_mark q of_mark lengths) (checked_add (Some n) 2)
+
+-- The length for n more bytes, by the life cycle. The codec holds h bytes. If bytes of a byte order
+-- mark are held, at most two, the codec has yet to read them.
 abbrev pub life_cycle_length : Query → LifeCycle → TextLengths → ℕ → ℕ → Option ℕ
 life_cycle_length q Converting lengths n h = formula_length q lengths n h
 life_cycle_length q AtUtf8Start lengths n h = idle_length q lengths n
 life_cycle_length q AtUtf16BeStart lengths n h = idle_length q lengths n
 life_cycle_length q AtUtf16LeStart lengths n h = idle_length q lengths n
-life_cycle_length q AtStart lengths n h = checked_max (idle_length q by.Utf8 n) (length_with_mark q by.Utf16 lengths n)
-life_cycle_length q SeenUtf8First lengths n h = length_at (length_with_mark q by.Utf8 lengths) (checked_add (Some n) 2)
-life_cycle_length q SeenUtf8Second lengths n h = length_at (length_with_mark q by.Utf8 lengths) (checked_add (Some n) 2)
-life_cycle_length q SeenUtf16BeFirst lengths n h =
-    length_at (length_with_mark q by.Utf16 lengths) (checked_add (Some n) 2)
-life_cycle_length q SeenUtf16LeFirst lengths n h =
-    length_at (length_with_mark q by.Utf16 lengths) (checked_add (Some n) 2)
-life_cycle_length q ConvertingWithPendingBb lengths n h = length_at (idle_length q lengths) (checked_add (Some n) 2)
+life_cycle_length q AtStart lengths n h =
+    checked_max (idle_length q by.Utf8 n) (length_with_mark q by.Utf16 lengths n)
+life_cycle_length q SeenUtf8First lengths n h = length_with_held q by.Utf8 lengths n
+life_cycle_length q SeenUtf8Second lengths n h = length_with_held q by.Utf8 lengths n
+life_cycle_length q SeenUtf16BeFirst lengths n h = length_with_held q by.Utf16 lengths n
+life_cycle_length q SeenUtf16LeFirst lengths n h = length_with_held q by.Utf16 lengths n
+life_cycle_length q ConvertingWithPendingBb lengths n h =
+    length_at (idle_length q lengths) (checked_add (Some n) 2)
 life_cycle_length q Finished lengths n h = formula_length q lengths n h
 
 -- The length to allocate for a decoder's output from n more bytes.
 abbrev pub max_length : Query → DecoderState → ℕ → Option ℕ
-max_length q d n = life_cycle_length q d.life (codec_lengths (codec_by_id d.encoding.id)) n (length d.pending)
+max_length q d n = life_cycle_length q d.life (codec_lengths (codec_by_id d.encoding.id)) n
+    (length d.pending)
 
 -- the code units of a query, and the error modes of its calls
 abbrev pub query_units : Query → ℕ → List ℕ
@@ -80,7 +87,8 @@ IsForMode Utf16 mode = Unit {0}
 -- The room is enough for any call with n bytes: its need does not exceed it.
 abbrev pub IsEnoughRoom : (ℕ → List ℕ) → DecodeErrorMode → DecoderState → ℕ → ℕ → Type 0
 IsEnoughRoom units_of mode d n room =
-    (src : List ℕ) (last : Bool) → AreBytes src → length src ≡ n → NeedExceeds units_of mode (decoder_remainder d) src last room → ⊥
+    (src : List ℕ) (last : Bool) → AreBytes src → length src ≡ n
+    → NeedExceeds units_of mode (decoder_remainder d) src last room → ⊥
 
 -- the formulas of an encoding's encoder
 abbrev pub output_lengths : Encoding → ByteLengths

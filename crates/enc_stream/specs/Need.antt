@@ -8,9 +8,11 @@ use Rattle.enc_encoder.specs.Unmappable.{any_unmappable}
 use Rattle.enc_stream.specs.Encodings.{output_rule}
 use Rattle.enc_stream.specs.Encoder.{EncoderState, raw_state, html_mode, EncodesChunk}
 
--- A call without replacement, by its need: the output is full exactly if the need of the text exceeds the room, and the
--- bytes written are subtracted. `read` is the number of code units of the text read. The rest is unread.
-pub record EncodesByNeed (units_of : ℕ → List ℕ) (old new : EncoderState) (src : List ℕ) (last : Bool) (room : ℕ) (result : EncoderResult) (read written : ℕ) : Type 0 where
+-- A call without replacement, by its need: the output is full exactly if the need of the text
+-- exceeds the room, and the bytes written are subtracted. `read` is the number of code units of the
+-- text read. The rest is unread.
+pub record EncodesByNeed (units_of : ℕ → List ℕ) (old new : EncoderState) (src : List ℕ)
+    (last : Bool) (room : ℕ) (result : EncoderResult) (read written : ℕ) : Type 0 where
   pub front : List ℕ
   pub rest : List ℕ
   pub parts : src ≡ front ++ rest
@@ -19,11 +21,16 @@ pub record EncodesByNeed (units_of : ℕ → List ℕ) (old new : EncoderState) 
 
 -- From this state the room is enough for any call with n code units, up to an unmappable character.
 abbrev pub IsEnoughForEncoding : (ℕ → List ℕ) → EncoderState → ℕ → ℕ → Type 0
-IsEnoughForEncoding units_of v n room = (src : List ℕ) (last : Bool) → length (units_of_text units_of src) ≡ n → encode_need (raw_state v) last src ≤ room
+IsEnoughForEncoding units_of v n room = (src : List ℕ) (last : Bool)
+    → length (units_of_text units_of src) ≡ n → encode_need (raw_state v) last src ≤ room
 
--- The room is enough for any call with references and n code units, if no character is unmappable: the call reads all.
+-- The room is enough for any call with references and n code units, if no character is unmappable:
+-- the call reads all.
 abbrev pub IsEnoughIfMappable : (ℕ → List ℕ) → EncoderState → ℕ → ℕ → Type 0
 IsEnoughIfMappable units_of v n enough =
-    (src wrote : List ℕ) (last : Bool) (new : EncoderState) (room read : ℕ) (result : EncoderResult) (replaced : Bool)
-    → length (units_of_text units_of src) ≡ n → any_unmappable (output_rule v.barred v.encoding) src ≡ false → enough ≤ room
-    → EncodesChunk units_of (html_mode v) v new src last room result read wrote replaced → result ≡ InputEmpty
+    (src wrote : List ℕ) (last : Bool) (new : EncoderState) (room read : ℕ) (result : EncoderResult)
+    (replaced : Bool)
+    → length (units_of_text units_of src) ≡ n
+    → any_unmappable (output_rule v.barred v.encoding) src ≡ false → enough ≤ room
+    → EncodesChunk units_of (html_mode v) v new src last room result read wrote replaced
+    → result ≡ InputEmpty

@@ -1,4 +1,5 @@
--- Properties of the encodings: the output encoding (Encoding Standard 4.3), ASCII-compatible, single-byte.
+-- Properties of the encodings: the output encoding (Encoding Standard 4.3), ASCII-compatible,
+-- single-byte.
 use Rattle.std.specs.Prelude.{Bool}
 use Rattle.enc_stream.specs.declared.encoding.Encoding.{Encoding}
 use Rattle.enc_names.specs.EncodingTable.{output_by_id, ascii_compatible_by_id, single_byte_by_id}

@@ -1,4 +1,5 @@
--- The search for a byte order mark at the start of the input, one byte at a time (Encoding Standard 6, "BOM sniff").
+-- The search for a byte order mark at the start of the input, one byte at a time (Encoding Standard
+-- 6, "BOM sniff").
 use Rattle.std.specs.Prelude.{◌≡◌, ℕ, Bool, true, false, List, [], ◌∷◌, ◌++◌, length, take, drop, Some, None}
 use Rattle.enc_stream.specs.declared.encoding.Encoding.{Encoding}
 use Rattle.enc_stream.specs.declared.life_cycle.LifeCycle.{LifeCycle}
@@ -10,12 +11,14 @@ use Rattle.enc_stream.specs.declared.sniffing.Sniffed.TheVariants as sniffed
 use Rattle.enc_stream.specs.Bom.{Mark}
 use Rattle.enc_stream.specs.LifeCycle.{phase_of, awaits_mark, mark_in, held_mark_bytes, mark_prefixes, life_at_prefix}
 
--- The bytes x lead from one state to another, which holds them too and agrees on every input that follows.
+-- The bytes x lead from one state to another, which holds them too and agrees on every input that
+-- follows.
 pub record ExtendsHeldMark (old new : LifeCycle) (x : List ℕ) : Type 0 where
   pub held : held_mark_bytes old ++ x ≡ held_mark_bytes new
   pub awaits : awaits_mark (phase_of new) ≡ awaits_mark (phase_of old)
   pub marks : (y : List ℕ)
-      → mark_in (phase_of old) (held_mark_bytes new ++ y) ≡ mark_in (phase_of new) (held_mark_bytes new ++ y)
+      → mark_in (phase_of old) (held_mark_bytes new ++ y)
+      ≡ mark_in (phase_of new) (held_mark_bytes new ++ y)
   pub states : (y : List ℕ) → life_at_prefix (mark_prefixes old) (held_mark_bytes new ++ y)
       ≡ life_at_prefix (mark_prefixes new) (held_mark_bytes new ++ y)
   pub stays : awaits_mark (phase_of old) ≡ false → new ≡ old
@@ -32,7 +35,8 @@ pub record CompletesMark (life : LifeCycle) (x : List ℕ) (e : Encoding) : Type
 -- After the bytes held, this byte belongs to no byte order mark, whatever follows it.
 pub record ExcludesMarks (life : LifeCycle) (b : ℕ) : Type 0 where
   pub no_mark : (y : List ℕ) → mark_in (phase_of life) (held_mark_bytes life ++ b ∷ y) ≡ None
-  pub no_front : (y : List ℕ) → life_at_prefix (mark_prefixes life) (held_mark_bytes life ++ b ∷ y) ≡ None
+  pub no_front : (y : List ℕ)
+      → life_at_prefix (mark_prefixes life) (held_mark_bytes life ++ b ∷ y) ≡ None
 
 -- No byte order mark precedes these bytes, which nothing follows if `last`.
 pub record HasNoMark (life : LifeCycle) (src : List ℕ) (last : Bool) : Type 0 where
@@ -48,6 +52,8 @@ IsMarkByte life b RulesOut = ExcludesMarks life b
 -- the result of the search, and how many bytes of the input it is about
 abbrev pub IsSniffed : LifeCycle → List ℕ → Bool → Sniffed → ℕ → Type 0
 IsSniffed life src last (Open new) n =
-    (n ≡ length src) × (last ≡ false) × (awaits_mark (phase_of new) ≡ true) × ExtendsHeldMark life new src
+    (n ≡ length src) × (last ≡ false) × (awaits_mark (phase_of new) ≡ true)
+    × ExtendsHeldMark life new src
 IsSniffed life src last (sniffed.Mark e) n = CompletesMark life (take n src) e
-IsSniffed life src last (Text new) n = ExtendsHeldMark life new (take n src) × HasNoMark new (drop n src) last
+IsSniffed life src last (Text new) n = ExtendsHeldMark life new (take n src)
+    × HasNoMark new (drop n src) last

@@ -19,7 +19,7 @@ pub fn codec_of(encoding: Encoding) -> Codec
     encoding.id.codec()
 }
 
-// scripts/make-encodings writes the rest of this file from data/encodings.txt: change that list, and not what follows.
+// scripts/make-encodings writes the rest of this file from data/encodings.txt.
 
 /// UTF-8 (Encoding Standard 8.1).
 pub const UTF_8: Encoding = Encoding {

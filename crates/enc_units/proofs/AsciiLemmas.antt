@@ -15,7 +15,8 @@ use Rattle.enc_units.specs.Validity.{AreAscii}
 abbrev at_least : ℕ → ℕ → ℕ
 at_least a b = cond (leb a b) 255 0
 
-none_high : (xs : List ℕ) → mask_l (map (top 7) (zip2 at_least (replicate (length xs) 128) xs)) ≡ 0 → AreAscii xs
+none_high : (xs : List ℕ) → mask_l (map (top 7) (zip2 at_least (replicate (length xs) 128) xs)) ≡ 0
+    → AreAscii xs
 none_high [] e k d h = absurd (omega arith)
 none_high (x ∷ xs) e zero d h = go (leb 128 x) refl (omega arith)
   where
@@ -55,7 +56,8 @@ ascii_one i xs a h b =
     subst AreAscii (sym (take_more xs i 0 h))
     (All-append (λ b. b < 0x80) (take i xs) (get_or xs i 0 ∷ []) a (one_ascii (get_or xs i 0) b))
 
-at_seam : (a b ys : List ℕ) → length ys ≤ length b → put_chunk (length a) (a ++ b) ys ≡ a ++ (ys ++ drop (length ys) b)
+at_seam : (a b ys : List ℕ) → length ys ≤ length b
+    → put_chunk (length a) (a ++ b) ys ≡ a ++ (ys ++ drop (length ys) b)
 at_seam a b ys h =
     put_chunk_is (length a) (a ++ b) ys (omega (arith, length-append a b))
     ∙ ap (λ x. x ++ (ys ++ drop (length ys) (drop (length a) (a ++ b)))) (take-append_seam a b)
@@ -75,7 +77,8 @@ copied_more i n src dst old h k e =
     ∙ ap (λ x. x ++ drop (length ys) (drop i old)) (sym (take-add i n src))
     ∙ ap (λ x. take (i + n) src ++ x) (ap (λ m. drop m (drop i old)) long ∙ drop-drop n i old)
 
-pub copied_one : (i : ℕ) (src dst old : List ℕ) → i < length src → i < length old → dst ≡ take i src ++ drop i old
+pub copied_one : (i : ℕ) (src dst old : List ℕ) → i < length src → i < length old
+    → dst ≡ take i src ++ drop i old
     → set dst i (get_or src i 0) ≡ take (i + 1) src ++ drop (i + 1) old
 copied_one i src dst old h k e =
     let byte = get_or src i 0 in

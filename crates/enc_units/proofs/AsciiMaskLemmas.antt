@@ -8,7 +8,8 @@ use Rattle.enc_units.specs.Validity.{AreAscii}
 use Rattle.enc_units.proofs.LaneLemmas.{splat_mask_of, mask_after, before_lowest}
 
 abbrev others_of : List ℕ → ℕ
-others_of xs = mask_l (map (top 7) (zip2 (λ a b. cond (leb a b) 255 0) (replicate 64 128) xs)) % 2 ^ 64
+others_of xs = mask_l (map (top 7) (zip2 (λ a b. cond (leb a b) 255 0) (replicate 64 128) xs)) % 2 ^
+    64
 
 pub ascii_after : (xs : List ℕ) (from n : ℕ) → length xs ≡ 64 → from + n ≤ 64
     → n ≤ count_trailing_zeros 64 (others_of xs / 2 ^ from) → AreAscii (take n (drop from xs))
@@ -20,12 +21,14 @@ ascii_after xs from n long within h k d l =
     (subst (λ m. n ≤ count_trailing_zeros 64 m) mask h) k d l)
 
 -- the same of the bytes that were loaded
-pub ascii_loaded : (src : List ℕ) (at from n : ℕ) (lanes : List ℕ) → lanes ≡ take 64 (drop at src) → from + n ≤ 64
+pub ascii_loaded : (src : List ℕ) (at from n : ℕ) (lanes : List ℕ) → lanes ≡ take 64 (drop at src)
+    → from + n ≤ 64
     → AreAscii (take n (drop from lanes)) → AreAscii (take n (drop (at + from) src))
 ascii_loaded src at from n lanes e within a =
     let rest = drop at src in
     let whole : 64 ≡ from + (64 - from) = omega arith in
     let same = ap (λ z. take n (drop from z)) (e ∙ ap (λ k. take k rest) whole)
     ∙ ap (take n) (drop-take from (64 - from) rest)
-    ∙ take-take n (64 - from) (drop from rest) (omega arith) ∙ ap (take n) (drop-drop from at src) in
+    ∙ take-take n (64 - from) (drop from rest) (omega arith)
+    ∙ ap (take n) (drop-drop from at src) in
     subst AreAscii same a

@@ -28,14 +28,16 @@ ascii_units_16 (b ∷ bs) are_ascii =
     one_unit c h = rw (lt-ltb c 0x1_0000 h) refl
 
 -- the ASCII in front of as many bytes as there are, or fit
-pub puts_front : {units_of : ℕ → List ℕ} → ((bs : List ℕ) → AreAscii bs → units_of_text units_of bs ≡ bs)
+pub puts_front : {units_of : ℕ → List ℕ}
+    → ((bs : List ℕ) → AreAscii bs → units_of_text units_of bs ≡ bs)
     → {before after : Output} {src front : List ℕ} {n : ℕ} (most : ℕ) → front ≡ take most src
     → most ≡ min (length src) before.room → n ≤ length front → AreAscii (take n front)
     → (n < length front → 0x80 ≤ get_or front n 0) → after ≡ with_appended before (take n src)
     → PutsAscii units_of before after src n
 puts_front own {before} {src = src} {front = front} {n = n} most is_front m l a ends e =
     let few : n ≤ most = omega (arith, ap length is_front, length-take most src) in
-    let ascii : AreAscii (take n src) = subst AreAscii (ap (take n) is_front ∙ take-take n most src few) a in
+    let ascii : AreAscii (take n src) =
+    subst AreAscii (ap (take n) is_front ∙ take-take n most src few) a in
     let units = own (take n src) ascii in
     record {
       within = omega arith;
@@ -46,7 +48,11 @@ puts_front own {before} {src = src} {front = front} {n = n} most is_front m l a 
         | inl h ↦
             let here : get_or front n 0 ≡ get_or src n 0 = ap (λ z. get_or z n 0) is_front
             ∙ get_or-take most src n 0 h in
-            absurd (omega (arith, ends (omega (arith, ap length is_front, length-take most src)), here))
+            absurd (omega (
+              arith,
+              ends (omega (arith, ap length is_front, length-take most src)),
+              here,
+            ))
         | inr h ↦
             omega (
               arith,
@@ -57,30 +63,38 @@ puts_front own {before} {src = src} {front = front} {n = n} most is_front m l a 
     }
 
 -- ASCII is well-formed UTF-8, and so is the UTF-8 of a text
-pub text_utf8 : (units text : List ℕ) → AreScalars text → units ≡ units_of_text encode_utf8 text → IsUtf8 units
+pub text_utf8 : (units text : List ℕ) → AreScalars text → units ≡ units_of_text encode_utf8 text
+    → IsUtf8 units
 text_utf8 units text s e = (text, (s, sym (their_units text) ∙ sym e))
 
 pub front_utf8 : (src front : List ℕ) (n most : ℕ) → front ≡ take most src → n ≤ length front
     → AreAscii (take n front) → IsUtf8 (take n src)
 front_utf8 src front n most is_front l a =
     let few : n ≤ most = omega (arith, ap length is_front, length-take most src) in
-    let ascii : AreAscii (take n src) = subst AreAscii (ap (take n) is_front ∙ take-take n most src few) a in
-    text_utf8 (take n src) (take n src) (ascii_scalars (take n src) ascii) (sym (ascii_units (take n src) ascii))
+    let ascii : AreAscii (take n src) =
+    subst AreAscii (ap (take n) is_front ∙ take-take n most src few) a in
+    text_utf8 (take n src) (take n src) (ascii_scalars (take n src) ascii)
+    (sym (ascii_units (take n src) ascii))
 
 -- what was put out to an output that was empty
 pub written_is : (before after : Output) (units text : List ℕ) → after ≡ with_appended before units
     → before.written ≡ [] → after.written ≡ text → text ≡ units
-written_is before after units text e w a = sym a ∙ ap (λ (o : Output). o.written) e ∙ ap (λ x. x ++ units) w
+written_is before after units text e w a = sym a ∙ ap (λ (o : Output). o.written) e
+    ∙ ap (λ x. x ++ units) w
 
-pub gathered_utf8 : {Means : List ℕ → ℕ → Type 0} {before after : Output} {src : List ℕ} {n : ℕ} {units : List ℕ}
-    → PutsPieces encode_utf8 Means before after src n → before.written ≡ [] → after.written ≡ units → IsUtf8 units
+pub gathered_utf8 : {Means : List ℕ → ℕ → Type 0} {before after : Output} {src : List ℕ} {n : ℕ}
+    {units : List ℕ}
+    → PutsPieces encode_utf8 Means before after src n → before.written ≡ [] → after.written ≡ units
+    → IsUtf8 units
 gathered_utf8 {before = before} {after = after} {units = units} puts w a =
     text_utf8 units puts.text puts.scalars (written_is before after _ units puts.written w a)
 
-pub appends_gathered : {Means : List ℕ → ℕ → Type 0} {before after o then : Output} {src : List ℕ} {n : ℕ}
+pub appends_gathered : {Means : List ℕ → ℕ → Type 0} {before after o then : Output} {src : List ℕ}
+    {n : ℕ}
     {units : List ℕ}
     → PutsPieces encode_utf8 Means before after src n → before.written ≡ [] → after.written ≡ units
-    → before.room ≤ o.room → then ≡ with_appended o units → PutsPieces encode_utf8 Means o then src n
+    → before.room ≤ o.room → then ≡ with_appended o units
+    → PutsPieces encode_utf8 Means o then src n
 appends_gathered {before = before} {after = after} {o = o} {units = units} puts w a r e = record {
   text = puts.text;
   scalars = puts.scalars;

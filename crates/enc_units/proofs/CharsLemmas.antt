@@ -14,7 +14,8 @@ use Rattle.std.proofs.lemmas.List.{drop-drop, get_or-drop}
 use Rattle.enc_units.proofs.UnitsLemmas.{one_unit, two_units}
 use Rattle.enc_units.proofs.Utf8CharsLemmas.{their_units}
 
-pub utf8_length : (bs : List ℕ) → IsUtf8 bs → length bs ≡ length (units_of_text encode_utf8 (chars bs))
+pub utf8_length : (bs : List ℕ) → IsUtf8 bs
+    → length bs ≡ length (units_of_text encode_utf8 (chars bs))
 utf8_length bs u = sym (ap length (their_units (chars bs) ∙ encodes-chars bs u))
 
 pub lossy_nil : utf16_lossy_chars [] ≡ []
@@ -70,12 +71,15 @@ step : (us : List ℕ) (c n : ℕ) → IsFirstUtf16Char us c n
     → length (drop n us) ≡ length (units_of_text encode_utf16 (utf16_lossy_chars (drop n us)))
     → length us ≡ length (units_of_text encode_utf16 (utf16_lossy_chars us))
 step us c n begins e =
-    rw (begins.chars, length-append) (omega (arith, begins.within, begins.width, e, length-drop n us))
+    rw (begins.chars, length-append)
+    (omega (arith, begins.within, begins.width, e, length-drop n us))
 
-pub utf16_length : (us : List ℕ) → AreUnits us → length us ≡ length (units_of_text encode_utf16 (utf16_lossy_chars us))
+pub utf16_length : (us : List ℕ) → AreUnits us
+    → length us ≡ length (units_of_text encode_utf16 (utf16_lossy_chars us))
 utf16_length [] are_units = rw lossy_nil refl
 utf16_length (u ∷ []) are_units =
-    step (u ∷ []) _ 1 (first_lone (u ∷ []) (omega arith) (are_units 0) (λ p. omega (arith, p.2))) (rw lossy_nil refl)
+    step (u ∷ []) _ 1 (first_lone (u ∷ []) (omega arith) (are_units 0) (λ p. omega (arith, p.2)))
+    (rw lossy_nil refl)
 utf16_length (u ∷ v ∷ us) are_units = elim (decide_pair u v) [
   | inl p ↦ step (u ∷ v ∷ us) _ 2 (first_pair (u ∷ v ∷ us) (omega arith) p)
       (utf16_length us (λ i. are_units (suc (suc i))))
@@ -92,10 +96,20 @@ record HasFirst (us : List ℕ) : Type 0 where
 
 first_of : (u : ℕ) (us : List ℕ) → AreUnits (u ∷ us) → HasFirst (u ∷ us)
 first_of u [] are_units =
-    record { char = _; units = 1; first = first_lone (u ∷ []) (omega arith) (are_units 0) (λ p. omega (arith, p.2)) }
+    record {
+      char = _;
+      units = 1;
+      first =
+          first_lone (u ∷ []) (omega arith) (are_units 0) (λ p. omega (arith, p.2));
+    }
 first_of u (v ∷ us) are_units = elim (decide_pair u v) [
   | inl p ↦ record { char = _; units = 2; first = first_pair (u ∷ v ∷ us) (omega arith) p }
-  | inr n ↦ record { char = _; units = 1; first = first_lone (u ∷ v ∷ us) (omega arith) (are_units 0) n }
+  | inr n ↦ record {
+    char = _;
+    units = 1;
+    first =
+        first_lone (u ∷ v ∷ us) (omega arith) (are_units 0) n;
+  }
 ]
 
 units-drop : (n : ℕ) (us : List ℕ) → AreUnits us → AreUnits (drop n us)
@@ -109,7 +123,8 @@ heads e = cc
 tails : {a b : ℕ} {y z : List ℕ} → a ∷ y ≡ b ∷ z → y ≡ z
 tails e = cc
 
-pub lossy_after : (us : List ℕ) → AreUnits us → (cs rest : List ℕ) → utf16_lossy_chars us ≡ cs ++ rest
+pub lossy_after : (us : List ℕ) → AreUnits us → (cs rest : List ℕ)
+    → utf16_lossy_chars us ≡ cs ++ rest
     → utf16_lossy_chars (drop (length (units_of_text encode_utf16 cs)) us) ≡ rest
 lossy_after us are_units [] rest whole = whole
 lossy_after [] are_units (c ∷ cs) rest whole =
@@ -127,8 +142,10 @@ lossy_after (u ∷ us) are_units (c ∷ cs) rest whole =
     ∙ lossy_after (drop begins.units (u ∷ us)) (units-drop begins.units (u ∷ us) are_units) cs rest
     (tails same)
 
-pub peeks : (us : List ℕ) (r : Option (ℕ × ℕ)) → MatchOption r (us ≡ []) (λ p. IsFirstUtf16Char us p.0 p.1)
-    → MatchOption r (utf16_lossy_chars us ≡ []) (λ p. utf16_lossy_chars us ≡ p.0 ∷ drop 1 (utf16_lossy_chars us))
+pub peeks : (us : List ℕ) (r : Option (ℕ × ℕ))
+    → MatchOption r (us ≡ []) (λ p. IsFirstUtf16Char us p.0 p.1)
+    → MatchOption r (utf16_lossy_chars us ≡ [])
+    (λ p. utf16_lossy_chars us ≡ p.0 ∷ drop 1 (utf16_lossy_chars us))
 peeks us None e = rw e lossy_nil
 peeks us (Some p) f = rw f.chars refl
 
@@ -148,7 +165,8 @@ high_lone u h = elim (true_or_false (nat_le 0xD800 u && nat_lt u 0xE000)) [
 high_pair : (u v : ℕ) → IsSurrogatePair u v → 0x80 ≤ surrogate_pair_char u v
 high_pair u v p = omega arith
 
-pub beyond_ascii : (us : List ℕ) (c n : ℕ) → IsFirstUtf16Char us c n → 0x80 ≤ get_or us 0 0 → 0x80 ≤ c
+pub beyond_ascii : (us : List ℕ) (c n : ℕ) → IsFirstUtf16Char us c n → 0x80 ≤ get_or us 0 0
+    → 0x80 ≤ c
 beyond_ascii [] c n begins is_beyond_ascii = absurd (omega (arith, is_beyond_ascii))
 beyond_ascii (u ∷ []) c n begins is_beyond_ascii =
     let same = heads (sym (lossy_lone u [] (λ p. omega (arith, p.2))) ∙ begins.chars) in
@@ -160,7 +178,8 @@ beyond_ascii (u ∷ v ∷ us) c n begins is_beyond_ascii = elim (decide_pair u v
       omega (arith, same, high_lone u is_beyond_ascii)
 ]
 
-pub first_unit : (at : ℕ) (us rest : List ℕ) → rest ≡ drop at us → 0x80 ≤ get_or us at 0 → 0x80 ≤ get_or rest 0 0
+pub first_unit : (at : ℕ) (us rest : List ℕ) → rest ≡ drop at us → 0x80 ≤ get_or us at 0
+    → 0x80 ≤ get_or rest 0 0
 first_unit at us rest e h =
     let place : at + 0 ≡ at = omega arith in
     omega (arith, ap (λ z. get_or z 0 0) e, get_or-drop at us 0 0, ap (λ k. get_or us k 0) place, h)

@@ -29,9 +29,11 @@ use Rattle.enc_units.proofs.Utf8SliceLemmas.{ascii_units}
 -- the word of a code unit
 
 abbrev Spells : ℕ → List ℕ → Type 0
-Spells word text = (word / 0x100_0000 ≤ 4) × (take (word / 0x100_0000) (to_le_bytes w32 word) ≡ text)
+Spells word text = (word / 0x100_0000 ≤ 4)
+    × (take (word / 0x100_0000) (to_le_bytes w32 word) ≡ text)
 
-spelt : (word n : ℕ) (text : List ℕ) → word / 0x100_0000 ≡ n → n ≤ 4 → take n (to_le_bytes w32 word) ≡ text
+spelt : (word n : ℕ) (text : List ℕ) → word / 0x100_0000 ≡ n → n ≤ 4
+    → take n (to_le_bytes w32 word) ≡ text
     → Spells word text
 spelt word n text e h t = (omega arith, ap (λ k. take k (to_le_bytes w32 word)) e ∙ t)
 
@@ -39,7 +41,8 @@ two_same : {a b x y : ℕ} → a ≡ x → b ≡ y → a ∷ b ∷ [] ≡ x ∷ 
 two_same {b = b} {x = x} e f = ap (λ z. z ∷ b ∷ []) e ∙ ap (λ z. x ∷ z ∷ []) f
 
 three_same : {a b c x y z : ℕ} → a ≡ x → b ≡ y → c ≡ z → a ∷ b ∷ c ∷ [] ≡ x ∷ y ∷ z ∷ []
-three_same {b = b} {c = c} {x = x} e f g = ap (λ t. t ∷ b ∷ c ∷ []) e ∙ ap (λ t. x ∷ t) (two_same f g)
+three_same {b = b} {c = c} {x = x} e f g = ap (λ t. t ∷ b ∷ c ∷ []) e
+    ∙ ap (λ t. x ∷ t) (two_same f g)
 
 word_of_one : (u : ℕ) → u < 128 → unit_word u ≡ 16777216 + u
 word_of_one u h = rw (lt-ltb u 128 h) (omega arith)
@@ -47,7 +50,8 @@ word_of_one u h = rw (lt-ltb u 128 h) (omega arith)
 word_of_two : (u : ℕ) → 128 ≤ u → u < 2048 → unit_word u ≡ 33554432 + 32960 + u / 64 + u % 64 * 256
 word_of_two u l h = rw (le-ltb u 128 l, lt-ltb u 2048 h) (omega arith)
 
-word_of_three : (u : ℕ) → 2048 ≤ u → unit_word u ≡ 58720256 + 32992 + u / 4096 + u / 64 % 64 * 256 + u % 64 * 65536
+word_of_three : (u : ℕ) → 2048 ≤ u
+    → unit_word u ≡ 58720256 + 32992 + u / 4096 + u / 64 % 64 * 256 + u % 64 * 65536
 word_of_three u l = rw (le-ltb u 128 (omega arith), le-ltb u 2048 l) (omega arith)
 
 one_spelt : (w u : ℕ) → u < 128 → w ≡ 16777216 + u → Spells w (encode_utf8 u)
@@ -57,11 +61,13 @@ one_spelt w u h e = spelt w 1 (encode_utf8 u) (omega arith) (omega arith)
     low : w % 256 ≡ u
     low = omega arith
 
-two_spelt : (w u : ℕ) → 128 ≤ u → u < 2048 → w ≡ 33554432 + 32960 + u / 64 + u % 64 * 256 → Spells w (encode_utf8 u)
+two_spelt : (w u : ℕ) → 128 ≤ u → u < 2048 → w ≡ 33554432 + 32960 + u / 64 + u % 64 * 256
+    → Spells w (encode_utf8 u)
 two_spelt w u l h e = spelt w 2 (encode_utf8 u) (omega arith) (omega arith)
     (two_same (omega arith) (omega arith) ∙ sym (utf8_two u l h))
 
-three_spelt : (w u : ℕ) → 2048 ≤ u → u < 65536 → w ≡ 58720256 + 32992 + u / 4096 + u / 64 % 64 * 256 + u % 64 * 65536
+three_spelt : (w u : ℕ) → 2048 ≤ u → u < 65536
+    → w ≡ 58720256 + 32992 + u / 4096 + u / 64 % 64 * 256 + u % 64 * 65536
     → Spells w (encode_utf8 u)
 three_spelt w u l h e =
     spelt w 3 (encode_utf8 u) (omega arith) (omega arith)
@@ -71,12 +77,14 @@ word_spelt : (u : ℕ) → u < 65536 → Spells (unit_word u) (encode_utf8 u)
 word_spelt u h = elim (cases_lt u 128) [
   | inl is_ascii ↦ one_spelt (unit_word u) u is_ascii (word_of_one u is_ascii)
   | inr beyond_ascii ↦ elim (cases_lt u 2048) [
-    | inl two_bytes ↦ two_spelt (unit_word u) u beyond_ascii two_bytes (word_of_two u beyond_ascii two_bytes)
+    | inl two_bytes ↦ two_spelt (unit_word u) u beyond_ascii two_bytes
+        (word_of_two u beyond_ascii two_bytes)
     | inr three_bytes ↦ three_spelt (unit_word u) u three_bytes h (word_of_three u three_bytes)
   ]
 ]
 
-pub few_bytes : (us : List ℕ) → Each1 (Fits w16) us → All (λ word. word / 0x100_0000 ≤ 4) (map unit_word us)
+pub few_bytes : (us : List ℕ) → Each1 (Fits w16) us
+    → All (λ word. word / 0x100_0000 ≤ 4) (map unit_word us)
 few_bytes [] fit k d h = absurd (omega arith)
 few_bytes (u ∷ us) fit zero d h = (word_spelt u fit.0.fits).0
 few_bytes (u ∷ us) fit (suc k) d h = few_bytes us fit.1 k d (omega arith)
@@ -95,21 +103,26 @@ bytes-append : (vs ws : List ℕ) → bytes_of_words (vs ++ ws) ≡ bytes_of_wor
 bytes-append [] ws = refl
 bytes-append (v ∷ vs) ws =
     let front = take (v / 0x100_0000) (to_le_bytes w32 v) in
-    ap (λ z. front ++ z) (bytes-append vs ws) ∙ sym (append_assoc front (bytes_of_words vs) (bytes_of_words ws))
+    ap (λ z. front ++ z) (bytes-append vs ws)
+    ∙ sym (append_assoc front (bytes_of_words vs) (bytes_of_words ws))
 
-pub stored_word : (words : List ℕ) (count : ℕ) → count < length words → (front : List ℕ) {mid after bytes : List ℕ}
+pub stored_word : (words : List ℕ) (count : ℕ) → count < length words
+    → (front : List ℕ) {mid after bytes : List ℕ}
     → bytes ≡ to_le_bytes w32 (get_or words count 0)
-    → mid ≡ front ++ bytes_of_words (take count words) → after ≡ mid ++ take (get_or words count 0 / 0x100_0000) bytes
+    → mid ≡ front ++ bytes_of_words (take count words)
+    → after ≡ mid ++ take (get_or words count 0 / 0x100_0000) bytes
     → after ≡ front ++ bytes_of_words (take (count + 1) words)
 stored_word words count inside front {mid} b m a =
     let word = get_or words count 0 in
     let old = bytes_of_words (take count words) in
     let new = take (word / 0x100_0000) (to_le_bytes w32 word) in
     let next : count + 1 ≡ suc count = omega arith in
-    let more = ap (λ k. bytes_of_words (take k words)) next ∙ ap bytes_of_words (take-suc words count 0 inside)
+    let more = ap (λ k. bytes_of_words (take k words)) next
+    ∙ ap bytes_of_words (take-suc words count 0 inside)
     ∙ bytes-append (take count words) (word ∷ [])
     ∙ ap (λ z. old ++ z) (append-nil new) in
-    a ∙ ap (λ z. mid ++ take (word / 0x100_0000) z) b ∙ ap (λ z. z ++ new) m ∙ append_assoc front old new
+    a ∙ ap (λ z. mid ++ take (word / 0x100_0000) z) b ∙ ap (λ z. z ++ new) m
+    ∙ append_assoc front old new
     ∙ ap (λ z. front ++ z) (sym more)
 
 -- code units that are ASCII, as bytes
@@ -119,7 +132,8 @@ same_lanes [] = refl
 same_lanes (u ∷ us) = ap (λ z. u ∷ z) (same_lanes us)
 
 pub stored_ascii : (at : ℕ) (old us : List ℕ) → length us ≡ 8 → at + 8 ≤ length old → AreAscii us
-    → take (at + 8) (put_chunk at old (map (λ u. u) us)) ≡ take at old ++ units_of_text encode_utf8 (take 8 us)
+    → take (at + 8) (put_chunk at old (map (λ u. u) us)) ≡ take at old
+    ++ units_of_text encode_utf8 (take 8 us)
 stored_ascii at old us long room a =
     ap (λ z. take (at + 8) (put_chunk at old z)) (same_lanes us)
     ∙ take_more_put_chunk at old us (at + 8) (omega arith) room
@@ -130,7 +144,8 @@ pub front_ascii : (us : List ℕ) → length us ≡ 8 → AreAscii us → AreSca
 front_ascii us long a = subst AreScalars (sym (take_all 8 us (omega arith))) (ascii_scalars us a)
 
 -- code units are their own UTF-16, if none is above U+FFFF
-pub units_alone : (us : List ℕ) → Each1 (Fits w16) us → (n : ℕ) → units_of_text encode_utf16 (take n us) ≡ take n us
+pub units_alone : (us : List ℕ) → Each1 (Fits w16) us → (n : ℕ)
+    → units_of_text encode_utf16 (take n us) ≡ take n us
 units_alone us fit zero = refl
 units_alone [] fit (suc n) = refl
 units_alone (u ∷ us) fit (suc n) =
@@ -139,7 +154,8 @@ units_alone (u ∷ us) fit (suc n) =
 
 -- characters of one code unit each
 
-pub units_long : (big : Bool) (n : ℕ) (bytes : List ℕ) → length bytes ≡ n + n → length (units_of_bytes big bytes) ≡ n
+pub units_long : (big : Bool) (n : ℕ) (bytes : List ℕ) → length bytes ≡ n + n
+    → length (units_of_bytes big bytes) ≡ n
 units_long big zero [] e = refl
 units_long big zero (a ∷ bs) e = absurd (omega arith)
 units_long big (suc n) [] e = absurd (omega arith)
@@ -147,7 +163,8 @@ units_long big (suc n) (a ∷ []) e = absurd (omega arith)
 units_long big (suc n) (a ∷ b ∷ bs) e = ap suc (units_long big n bs (omega arith))
 
 module _ {Means : List ℕ → ℕ → Type 0} (big : Bool) (mean : AreCodeUnits Means big) where
-  reads_units : (n : ℕ) (bytes : List ℕ) → n + n ≤ length bytes → AreScalars (take n (units_of_bytes big bytes))
+  reads_units : (n : ℕ) (bytes : List ℕ) → n + n ≤ length bytes
+      → AreScalars (take n (units_of_bytes big bytes))
       → ReadsPieces Means bytes (n + n) (take n (units_of_bytes big bytes))
   reads_units zero bytes h are_scalars = reads_none Means bytes
   reads_units (suc n) [] h are_scalars = absurd (omega arith)
@@ -162,9 +179,11 @@ module _ {Means : List ℕ → ℕ → Type 0} (big : Bool) (mean : AreCodeUnits
       (mean a b (and_parts _ _ are_scalars).0))
       (reads_units n bs (omega arith) (and_parts _ _ are_scalars).1))
 
-  pub gathers_units : {units_of : ℕ → List ℕ} (n : ℕ) {src units before after : List ℕ} → n ≤ 8 → 16 ≤ length src
+  pub gathers_units : {units_of : ℕ → List ℕ} (n : ℕ) {src units before after : List ℕ} → n ≤ 8
+      → 16 ≤ length src
       → units ≡ units_of_bytes big (take 16 src) → AreScalars (take n units)
-      → after ≡ before ++ units_of_text units_of (take n units) → GathersChars units_of Means src (2 * n) before after
+      → after ≡ before ++ units_of_text units_of (take n units)
+      → GathersChars units_of Means src (2 * n) before after
   gathers_units {units_of} n {src} {units} {before} {after} h l are_units are_scalars w =
       let twice : n + n ≡ 2 * n = omega arith in
       subst (λ k. GathersChars units_of Means src k before after) twice (record {
@@ -178,7 +197,8 @@ module _ {Means : List ℕ → ℕ → Type 0} (big : Bool) (mean : AreCodeUnits
       })
 
   -- the same, where they are stored as words
-  pub gathers_words : (n : ℕ) {src units : List ℕ} (words : List ℕ) {before after : List ℕ} → n ≤ 8 → 16 ≤ length src
+  pub gathers_words : (n : ℕ) {src units : List ℕ} (words : List ℕ) {before after : List ℕ} → n ≤ 8
+      → 16 ≤ length src
       → units ≡ units_of_bytes big (take 16 src) → AreScalars (take n units)
       → ((k : ℕ) → bytes_of_words (take k words) ≡ units_of_text encode_utf8 (take k units))
       → after ≡ before ++ bytes_of_words (take n words)
@@ -187,13 +207,16 @@ module _ {Means : List ℕ → ℕ → Type 0} (big : Bool) (mean : AreCodeUnits
       gathers_units n h l are_units are_scalars (w ∙ ap (λ z. before ++ z) (t n))
 
   -- the same in UTF-16, where all eight are stored as they are
-  pub gathers_lanes : (n at : ℕ) {read : ℕ} {src units : List ℕ} (buffer : List ℕ) → n ≤ 8 → 16 ≤ length src - read
+  pub gathers_lanes : (n at : ℕ) {read : ℕ} {src units : List ℕ} (buffer : List ℕ) → n ≤ 8
+      → 16 ≤ length src - read
       → at + 8 ≤ length buffer
       → units ≡ units_of_bytes big (take 16 (drop read src)) → AreScalars (take n units)
       → units_of_text encode_utf16 (take n units) ≡ take n units
       → GathersChars encode_utf16 Means src read [] (take at buffer)
-      → GathersChars encode_utf16 Means src (read + 2 * n) [] (take (at + n) (put_chunk at buffer units))
-  gathers_lanes n at {read} {src} {units} buffer few inside room are_units are_scalars alone gathers =
+      → GathersChars encode_utf16 Means src (read + 2 * n) []
+      (take (at + n) (put_chunk at buffer units))
+  gathers_lanes n at {read} {src} {units} buffer few inside room are_units are_scalars alone
+      gathers =
       let rest = drop read src in
       let long : 16 ≤ length rest = omega (arith, length-drop read src) in
       let bytes : length (take 16 rest) ≡ 16 = omega (arith, length-take 16 rest) in
@@ -213,7 +236,8 @@ module _ {Means : List ℕ → ℕ → Type 0} (big : Bool) (mean : AreCodeUnits
       → GathersChars encode_utf16 Means src read [] (take at buffer)
       → GathersChars encode_utf16 Means src (read + 32) []
       (take (at + 16) (put_chunk (at + 8) (put_chunk at buffer units) more))
-  gathers_both at {read} {src} {units} {more} buffer inside room are_units are_scalars alone more_are_units
+  gathers_both at {read} {src} {units} {more} buffer inside room are_units are_scalars alone
+      more_are_units
       more_are_scalars alone_too gathers =
       let first = put_chunk at buffer units in
       let both = put_chunk (at + 8) first more in
@@ -223,4 +247,5 @@ module _ {Means : List ℕ → ℕ → Type 0} (big : Bool) (mean : AreCodeUnits
       (subst (λ k. GathersChars encode_utf16 Means src (read + 16 + 2 * 8) [] (take k both)) put_all
       (gathers_lanes 8 (at + 8) first (omega arith) (omega arith)
       (omega (arith, length-put_chunk at buffer units)) more_are_units more_are_scalars alone_too
-      (gathers_lanes 8 at buffer (omega arith) (omega arith) (omega arith) are_units are_scalars alone gathers)))
+      (gathers_lanes 8 at buffer (omega arith) (omega arith) (omega arith) are_units are_scalars
+      alone gathers)))

@@ -33,8 +33,10 @@ stored_front at n old ys zs h k =
     let xs = take at old ++ (ys ++ zs) in
     let long = length-take-le at old h in
     take-add at n xs
-    ∙ ap (λ z. z ++ take n (drop at xs)) (ap (λ m. take m xs) (sym long) ∙ take-append_seam (take at old) (ys ++ zs))
-    ∙ ap (λ z. take at old ++ take n z) (ap (λ m. drop m xs) (sym long) ∙ drop-append_seam (take at old) (ys ++ zs))
+    ∙ ap (λ z. z ++ take n (drop at xs))
+    (ap (λ m. take m xs) (sym long) ∙ take-append_seam (take at old) (ys ++ zs))
+    ∙ ap (λ z. take at old ++ take n z)
+    (ap (λ m. drop m xs) (sym long) ∙ drop-append_seam (take at old) (ys ++ zs))
     ∙ ap (λ z. take at old ++ z) (take_front n ys zs k)
 
 pub stored_lanes : (at n : ℕ) (old ys : List ℕ) → at + length ys ≤ length old → n ≤ length ys
@@ -54,13 +56,15 @@ unfolding encode_utf8
 utf8_three c l h = rw (le-ltb c 128 (omega arith), le-ltb c 2048 l, lt-ltb c 65536 h) refl
 
 pub utf8_four : (c : ℕ) → 65536 ≤ c
-    → encode_utf8 c ≡ (240 + c / 262144) ∷ (128 + c / 4096 % 64) ∷ (128 + c / 64 % 64) ∷ (128 + c % 64) ∷ []
+    → encode_utf8 c ≡ (240 + c / 262144) ∷ (128 + c / 4096 % 64) ∷ (128 + c / 64 % 64)
+    ∷ (128 + c % 64) ∷ []
 unfolding encode_utf8
 utf8_four c l = rw (le-ltb c 128 (omega arith), le-ltb c 2048 (omega arith), le-ltb c 65536 l) refl
 
 -- gathered characters
 
-pub gathers_nothing : {units_of : ℕ → List ℕ} {Means : List ℕ → ℕ → Type 0} {src before after : List ℕ}
+pub gathers_nothing : {units_of : ℕ → List ℕ} {Means : List ℕ → ℕ → Type 0}
+    {src before after : List ℕ}
     → after ≡ before
     → GathersChars units_of Means src 0 before after
 gathers_nothing {Means} {src} {before} e = record {
@@ -70,7 +74,8 @@ gathers_nothing {Means} {src} {before} e = record {
   written = e ∙ sym (append-nil before);
 }
 
-module _ {units_of : ℕ → List ℕ} {Means : List ℕ → ℕ → Type 0} {src : List ℕ} {a n : ℕ} {before mid after : List ℕ}
+module _ {units_of : ℕ → List ℕ} {Means : List ℕ → ℕ → Type 0} {src : List ℕ} {a n : ℕ}
+    {before mid after : List ℕ}
     (first : GathersChars units_of Means src a before mid)
     (then_more : GathersChars units_of Means (drop a src) n mid after) where
   pub gathers_then : GathersChars units_of Means src (a + n) before after
@@ -79,7 +84,8 @@ module _ {units_of : ℕ → List ℕ} {Means : List ℕ → ℕ → Type 0} {sr
     scalars = scalars-append first.text then_more.text first.scalars then_more.scalars;
     reads = reads_then Means src a n first.text then_more.text first.reads then_more.reads;
     written = then_more.written ∙ ap (λ z. z ++ units_of_text units_of then_more.text) first.written
-        ∙ append_assoc before (units_of_text units_of first.text) (units_of_text units_of then_more.text)
+        ∙ append_assoc before (units_of_text units_of first.text)
+        (units_of_text units_of then_more.text)
         ∙ ap (λ z. before ++ z) (sym (units-append units_of first.text then_more.text));
   }
 
@@ -91,9 +97,11 @@ module _ {units_of : ℕ → List ℕ} {Means : List ℕ → ℕ → Type 0} {a 
   gathers_on = gathers_then p
       (subst (λ rest. GathersChars units_of Means rest n mid after) (sym (drop-drop a from src)) q)
 
-pub gathers_ascii : {units_of : ℕ → List ℕ} {Means : List ℕ → ℕ → Type 0} {src : List ℕ} {n : ℕ} {before after : List ℕ}
+pub gathers_ascii : {units_of : ℕ → List ℕ} {Means : List ℕ → ℕ → Type 0} {src : List ℕ} {n : ℕ}
+    {before after : List ℕ}
     → ((b : ℕ) → b < 0x80 → Means (b ∷ []) b)
-    → ((bs : List ℕ) → AreAscii bs → units_of_text units_of bs ≡ bs) → n ≤ length src → AreAscii (take n src)
+    → ((bs : List ℕ) → AreAscii bs → units_of_text units_of bs ≡ bs) → n ≤ length src
+    → AreAscii (take n src)
     → after ≡ before ++ take n src → GathersChars units_of Means src n before after
 gathers_ascii {Means = Means} {src = src} {n = n} {before = before} h alone w are_ascii e = record {
   text = take n src;
@@ -102,10 +110,12 @@ gathers_ascii {Means = Means} {src = src} {n = n} {before = before} h alone w ar
   written = e ∙ ap (λ z. before ++ z) (sym (alone (take n src) are_ascii));
 }
 
-pub gathers_one : {units_of : ℕ → List ℕ} {Means : List ℕ → ℕ → Type 0} {src : List ℕ} {n : ℕ} (c : ℕ)
+pub gathers_one : {units_of : ℕ → List ℕ} {Means : List ℕ → ℕ → Type 0} {src : List ℕ} {n : ℕ}
+    (c : ℕ)
     {before after : List ℕ}
     → 0 < n → n ≤ length src → IsScalar c
-    → Means (take n src) c → after ≡ before ++ units_of c → GathersChars units_of Means src n before after
+    → Means (take n src) c → after ≡ before ++ units_of c
+    → GathersChars units_of Means src n before after
 gathers_one {units_of} {Means} {src} {n} c {before} h w i m e = record {
   text = c ∷ [];
   scalars = one_scalar c i;
@@ -122,15 +132,18 @@ get_or_drop (suc n) i (x ∷ xs) = get_or_drop n i xs ∙ ap (λ k. get_or (x �
     next = omega arith
 
 -- a byte that has a text
-pub gathers_byte : {Means : List ℕ → ℕ → Type 0} (src : List ℕ) (from : ℕ) {read : ℕ} {before mid after : List ℕ}
+pub gathers_byte : {Means : List ℕ → ℕ → Type 0} (src : List ℕ) (from : ℕ) {read : ℕ}
+    {before mid after : List ℕ}
     {text : Encoded}
     → IsByteText Means (get_or src (from + read) 0) text → 0 < text.len → from + read < length src
     → GathersChars encode_utf8 Means (drop from src) read before mid
-    → after ≡ mid ++ take text.len text.bytes → GathersChars encode_utf8 Means (drop from src) (read + 1) before after
+    → after ≡ mid ++ take text.len text.bytes
+    → GathersChars encode_utf8 Means (drop from src) (read + 1) before after
 gathers_byte {Means} src from {read} {mid = mid} t some inside p e =
     let rest = drop from src in
     let long : read < length rest = omega (arith, length-drop from src) in
-    let byte = ap (take 1) (drop-cons rest read 0 long) ∙ ap (λ b. b ∷ []) (get_or_drop from read src) in
+    let byte = ap (take 1) (drop-cons rest read 0 long)
+    ∙ ap (λ b. b ∷ []) (get_or_drop from read src) in
     let found = t.char some in
     gathers_then p
     (gathers_one found.0 (omega arith) (omega (arith, length-drop read rest)) found.1
@@ -138,9 +151,11 @@ gathers_byte {Means} src from {read} {mid = mid} t some inside p e =
     (e ∙ ap (λ z. mid ++ z) found.3))
 
 -- a byte that has a code unit
-pub gathers_byte_unit : {Means : List ℕ → ℕ → Type 0} (src : List ℕ) (from : ℕ) {read : ℕ} (at : ℕ) {before : List ℕ}
+pub gathers_byte_unit : {Means : List ℕ → ℕ → Type 0} (src : List ℕ) (from : ℕ) {read : ℕ} (at : ℕ)
+    {before : List ℕ}
     (buffer : List ℕ) {unit : ℕ}
-    → IsByteUnit Means (get_or src (from + read) 0) unit → 0 < unit → unit < 0x1_0000 → from + read < length src
+    → IsByteUnit Means (get_or src (from + read) 0) unit → 0 < unit → unit < 0x1_0000
+    → from + read < length src
     → at + read < length buffer
     → GathersChars encode_utf16 Means (drop from src) read before (take (at + read) buffer)
     → GathersChars encode_utf16 Means (drop from src) (read + 1) before
@@ -148,13 +163,15 @@ pub gathers_byte_unit : {Means : List ℕ → ℕ → Type 0} (src : List ℕ) (
 gathers_byte_unit {Means} src from {read} at buffer {unit} u some basic inside room p =
     let rest = drop from src in
     let long : read < length rest = omega (arith, length-drop from src) in
-    let byte = ap (take 1) (drop-cons rest read 0 long) ∙ ap (λ b. b ∷ []) (get_or_drop from read src) in
+    let byte = ap (take 1) (drop-cons rest read 0 long)
+    ∙ ap (λ b. b ∷ []) (get_or_drop from read src) in
     let found = u.char some in
     let next : at + (read + 1) ≡ at + read + 1 = omega arith in
     gathers_then p
     (gathers_one unit (omega arith) (omega (arith, length-drop read rest)) found.scalar
     (subst (λ z. Means z unit) (sym byte) found.means)
-    (ap (λ k. take k (set buffer (at + read) unit)) next ∙ take_more_set buffer (at + read) unit room
+    (ap (λ k. take k (set buffer (at + read) unit)) next
+    ∙ take_more_set buffer (at + read) unit room
     ∙ ap (λ z. take (at + read) buffer ++ z) (sym (one_unit unit basic))))
 
 -- no byte has a code unit
@@ -166,7 +183,8 @@ no_units Means = (
 )
 
 -- no byte has a text
-pub no_texts : (Means : List ℕ → ℕ → Type 0) (text : Encoded) → text.len ≡ 0 → AreByteTexts Means (replicate 256 text)
+pub no_texts : (Means : List ℕ → ℕ → Type 0) (text : Encoded) → text.len ≡ 0
+    → AreByteTexts Means (replicate 256 text)
 no_texts Means text e = (
   length-replicate 256 text,
   λ byte none h. subst (IsByteText Means byte) (sym (get_or-replicate 256 byte text none h))
@@ -174,10 +192,12 @@ no_texts Means text e = (
 )
 
 -- gathered characters are put out
-pub puts_gathered : {units_of : ℕ → List ℕ} {Means : List ℕ → ℕ → Type 0} {before after : Output} {src : List ℕ} {n : ℕ}
+pub puts_gathered : {units_of : ℕ → List ℕ} {Means : List ℕ → ℕ → Type 0} {before after : Output}
+    {src : List ℕ} {n : ℕ}
     {units : List ℕ}
     → GathersChars units_of Means src n [] units
-    → length units ≤ before.room → after ≡ with_appended before units → PutsPieces units_of Means before after src n
+    → length units ≤ before.room → after ≡ with_appended before units
+    → PutsPieces units_of Means before after src n
 puts_gathered {before = before} gathers f e = record {
   text = gathers.text;
   scalars = gathers.scalars;

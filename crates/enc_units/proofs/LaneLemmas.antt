@@ -15,12 +15,14 @@ use lib.Lanes.{zip2, mask_l, top}
 use mir.Syntax.{Width}
 use mir.Val.{bits, hbits}
 
-module _ (p : ℕ → Bool) (xs : List ℕ) (long : length xs ≡ 16) (mask : ℕ) (is : mask ≡ mask_l (map p xs)) where
+module _ (p : ℕ → Bool) (xs : List ℕ) (long : length xs ≡ 16) (mask : ℕ)
+    (is : mask ≡ mask_l (map p xs)) where
   abbrev len : ℕ
   len = prefix_len (λ x. not (p x)) xs
 
   counted : cond (eqb mask 0) 16 (count_trailing_zeros 64 mask) ≡ len
-  counted = ap (λ m. cond (eqb m 0) 16 (count_trailing_zeros 64 m)) is ∙ first_set_mask_l p xs 16 long (omega arith)
+  counted = ap (λ m. cond (eqb m 0) 16 (count_trailing_zeros 64 m)) is
+      ∙ first_set_mask_l p xs 16 long (omega arith)
 
   pub all_fail : mask ≡ 0 → 16 ≡ len
   all_fail e = sym (ap (λ t. cond t 16 (count_trailing_zeros 64 mask)) (eq-eqb _ _ e)) ∙ counted
@@ -43,17 +45,20 @@ module _ (p : ℕ → Bool) (xs : List ℕ) (long : length xs ≡ 16) (mask : �
       | inl l ↦ l
       | inr l ↦
           let none : len ≡ 0 = omega arith in
-          let stops = subst (λ k. not (p (get_or xs k 0)) ≡ false) none (prefix_len_stops (λ x. not (p x)) xs 0
+          let stops = subst (λ k. not (p (get_or xs k 0)) ≡ false) none
+          (prefix_len_stops (λ x. not (p x)) xs 0
           (omega arith)) in
           absurd (true≢false (sym (not-false _ stops) ∙ h))
     ]
 
 -- the mask of a comparison whose first side is a splat
-pub splat_mask_of : (n : ℕ) → n ≤ 64 → (w : Width) (t : ℕ → ℕ → Bool) (y : ℕ) (xs : List ℕ) → length xs ≡ n
+pub splat_mask_of : (n : ℕ) → n ≤ 64 → (w : Width) (t : ℕ → ℕ → Bool) (y : ℕ) (xs : List ℕ)
+    → length xs ≡ n
     → mask_l (map (top (hbits w)) (zip2 (λ a b. cond (t a b) (2 ^ bits w - 1) 0)
     (replicate n y) xs)) % 2 ^ 64 ≡ mask_l (map (t y) xs)
 splat_mask_of n few w t y xs long =
-    ap (λ ms. mask_l ms % 2 ^ 64) (tops_compared w t (replicate n y) xs ∙ zip2_splat_left t y n xs long)
+    ap (λ ms. mask_l ms % 2 ^ 64)
+    (tops_compared w t (replicate n y) xs ∙ zip2_splat_left t y n xs long)
     ∙ mask_l-mod (map (t y) xs) 64 (omega (arith, length-map xs (t y)))
 
 pub splat_mask : (w : Width) (t : ℕ → ℕ → Bool) (y : ℕ) (xs : List ℕ) → length xs ≡ 16
@@ -87,7 +92,9 @@ before_lowest p xs n few within h k d l =
     (not-true _ (prefix_len_passes (λ x. not (p x)) xs k d (omega arith)))
 
 -- a property of the first m elements holds of fewer
-pub all_fewer : (P : ℕ → Type 0) (n m : ℕ) (xs : List ℕ) → n ≤ m → All P (take m xs) → All P (take n xs)
+pub all_fewer : (P : ℕ → Type 0) (n m : ℕ) (xs : List ℕ) → n ≤ m → All P (take m xs)
+    → All P (take n xs)
 all_fewer P n m xs h a = subst (All P) (take-take n m xs h) (λ k d l.
     let short : k < n = omega (arith, length-take n (take m xs)) in
-    subst P (sym (get_or-take n (take m xs) k d short)) (a k d (omega (arith, length-take n (take m xs)))))
+    subst P (sym (get_or-take n (take m xs) k d short))
+    (a k d (omega (arith, length-take n (take m xs)))))

@@ -14,40 +14,48 @@ use Rattle.enc_units.specs.Pieces.{Piece, piece_bytes, piece_chars, EachMeansCha
 use Rattle.enc_units.specs.Mappings.{WritesMapped, AreWrittenAsThemselves}
 use Rattle.enc_units.proofs.Utf8Lanes.{below, top_flag}
 
-piece_bytes-append : (ps qs : List Piece) → piece_bytes (ps ++ qs) ≡ piece_bytes ps ++ piece_bytes qs
+piece_bytes-append : (ps qs : List Piece)
+    → piece_bytes (ps ++ qs) ≡ piece_bytes ps ++ piece_bytes qs
 piece_bytes-append [] qs = refl
 piece_bytes-append (p ∷ ps) qs = ap (λ x. p.bytes ++ x) (piece_bytes-append ps qs)
     ∙ sym (append_assoc p.bytes (piece_bytes ps) (piece_bytes qs))
 
-piece_chars-append : (ps qs : List Piece) → piece_chars (ps ++ qs) ≡ piece_chars ps ++ piece_chars qs
+piece_chars-append : (ps qs : List Piece)
+    → piece_chars (ps ++ qs) ≡ piece_chars ps ++ piece_chars qs
 piece_chars-append [] qs = refl
 piece_chars-append (p ∷ ps) qs = ap (λ x. p.char ∷ x) (piece_chars-append ps qs)
 
-mean-append : (Means : List ℕ → ℕ → Type 0) (ps qs : List Piece) → EachMeansChar Means ps → EachMeansChar Means qs
+mean-append : (Means : List ℕ → ℕ → Type 0) (ps qs : List Piece) → EachMeansChar Means ps
+    → EachMeansChar Means qs
     → EachMeansChar Means (ps ++ qs)
 mean-append Means [] qs first_mean others_mean = others_mean
-mean-append Means (p ∷ ps) qs first_mean others_mean = (first_mean.0, mean-append Means ps qs first_mean.1 others_mean)
+mean-append Means (p ∷ ps) qs first_mean others_mean =
+    (first_mean.0, mean-append Means ps qs first_mean.1 others_mean)
 
 module _ (Means : List ℕ → ℕ → Type 0) where
-  pub maps_none : (src before : List ℕ) (at : ℕ) → at ≤ length before → WritesMapped Means src src before before at 0
+  pub maps_none : (src before : List ℕ) (at : ℕ) → at ≤ length before
+      → WritesMapped Means src src before before at 0
   maps_none src before at h = record {
     pieces = [];
     reads = refl;
     mean = tt;
     count = refl;
     fits = omega arith;
-    onto = sym (take-append-drop at before) ∙ ap (λ n. take at before ++ drop n before) (omega arith);
+    onto = sym (take-append-drop at before)
+        ∙ ap (λ n. take at before ++ drop n before) (omega arith);
   }
 
   -- a run after another
   pub maps_both : (src between rest before mid after : List ℕ) (at n k : ℕ)
-      → WritesMapped Means src between before mid at n → WritesMapped Means between rest mid after (at + n) k
+      → WritesMapped Means src between before mid at n
+      → WritesMapped Means between rest mid after (at + n) k
       → WritesMapped Means src rest before after at (n + k)
   maps_both src between rest before mid after at n k first then_more =
       let first_bytes = piece_bytes first.pieces in
       let more_bytes = piece_bytes then_more.pieces in
       let both = piece_bytes-append first.pieces then_more.pieces in
-      let first_long : length (take at before) ≡ at = length-take-le at before (omega (arith, first.fits)) in
+      let first_long : length (take at before) ≡ at =
+      length-take-le at before (omega (arith, first.fits)) in
       let long : length mid ≡ length before = omega (
         arith,
         ap length first.onto,
@@ -97,14 +105,17 @@ module _ (Means : List ℕ → ℕ → Type 0) where
             ∙ ap (λ z. take at before ++ z)
             (sym (append_assoc first_bytes more_bytes (drop ((at + n) + k) before)))
             ∙ ap (λ z. take at before ++ (z ++ drop ((at + n) + k) before)) (sym both)
-            ∙ ap (λ m. take at before ++ (piece_bytes (first.pieces ++ then_more.pieces) ++ drop m before))
+            ∙ ap (λ m. take at before
+            ++ (piece_bytes (first.pieces ++ then_more.pieces) ++ drop m before))
             (omega arith);
       }
 
   -- one character
-  pub maps_one : (src rest before after : List ℕ) (at n c : ℕ) (bytes : List ℕ) → src ≡ c ∷ rest → Means bytes c
+  pub maps_one : (src rest before after : List ℕ) (at n c : ℕ) (bytes : List ℕ) → src ≡ c ∷ rest
+      → Means bytes c
       → n ≡ length bytes → at + n ≤ length before
-      → after ≡ take at before ++ (bytes ++ drop (at + n) before) → WritesMapped Means src rest before after at n
+      → after ≡ take at before ++ (bytes ++ drop (at + n) before)
+      → WritesMapped Means src rest before after at n
   maps_one src rest before after at n c bytes r m k f o = record {
     pieces = record { bytes = bytes; char = c } ∷ [];
     reads = r;
@@ -129,10 +140,14 @@ module _ (Means : List ℕ → ℕ → Type 0) where
 
   they_mean : (bs : List ℕ) → AreWrittenAsThemselves Means bs → EachMeansChar Means (themselves bs)
   they_mean [] written_alike = tt
-  they_mean (b ∷ bs) written_alike =
-      ((written_alike 0 0 (omega arith)).1, they_mean bs (λ k d l. written_alike (suc k) d (omega arith)))
+  they_mean (b ∷ bs) written_alike = (
+    (written_alike 0 0 (omega arith)).1,
+    they_mean bs
+        (λ k d l. written_alike (suc k) d (omega arith)),
+  )
 
-  pub maps_ascii : (src rest before after : List ℕ) (at n : ℕ) (bs : List ℕ) → AreWrittenAsThemselves Means bs
+  pub maps_ascii : (src rest before after : List ℕ) (at n : ℕ) (bs : List ℕ)
+      → AreWrittenAsThemselves Means bs
       → src ≡ bs ++ rest → n ≡ length bs
       → at + n ≤ length before → after ≡ take at before ++ (bs ++ drop (at + n) before)
       → WritesMapped Means src rest before after at n
@@ -146,7 +161,8 @@ module _ (Means : List ℕ → ℕ → Type 0) where
   }
 
   -- the slice keeps its length
-  pub same_length : (src rest before after : List ℕ) (at n : ℕ) → WritesMapped Means src rest before after at n
+  pub same_length : (src rest before after : List ℕ) (at n : ℕ)
+      → WritesMapped Means src rest before after at n
       → length after ≡ length before
   same_length src rest before after at n writes =
       omega (
@@ -167,7 +183,8 @@ none_front : (i j : ℕ) (a b : List ℕ) → j ≤ i → length a ≡ length b
 none_front i j [] [] h e = refl
 none_front i j [] (y ∷ b) h e = absurd (omega arith)
 none_front i j (x ∷ a) [] h e = absurd (omega arith)
-none_front i j (x ∷ a) (y ∷ b) h e = rw (le-ltb i j h) (ap (λ z. y ∷ z) (none_front (i + 1) j a b (omega arith)
+none_front i j (x ∷ a) (y ∷ b) h e =
+    rw (le-ltb i j h) (ap (λ z. y ∷ z) (none_front (i + 1) j a b (omega arith)
     (omega arith)))
 
 some_front : (i n j : ℕ) (a b : List ℕ) → j ≡ i + n → length a ≡ length b
@@ -176,7 +193,8 @@ some_front i zero j a b q e = none_front i j a b (omega arith) e
 some_front i (suc n) j [] [] q e = refl
 some_front i (suc n) j [] (y ∷ b) q e = absurd (omega arith)
 some_front i (suc n) j (x ∷ a) [] q e = absurd (omega arith)
-some_front i (suc n) j (x ∷ a) (y ∷ b) q e = rw (lt-ltb i j (omega arith)) (ap (λ z. x ∷ z) (some_front
+some_front i (suc n) j (x ∷ a) (y ∷ b) q e =
+    rw (lt-ltb i j (omega arith)) (ap (λ z. x ∷ z) (some_front
     (i + 1) n j a b (omega arith) (omega arith)))
 
 abbrev lane_numbers : List ℕ
@@ -191,14 +209,17 @@ chosen_is n =
     (get_or lane_numbers k 0) n) 255 0) (range_with_len 0 16)
     ∙ ap (λ g. map g (range_with_len 0 16)) (λ i k. top_flag (ltb (get_or lane_numbers k 0) n) i)
 
-blended : (n : ℕ) (a b : List ℕ) → length a ≡ 16 → length b ≡ 16 → sel_l (chosen n) a b ≡ take n a ++ drop n b
+blended : (n : ℕ) (a b : List ℕ) → length a ≡ 16 → length b ≡ 16
+    → sel_l (chosen n) a b ≡ take n a ++ drop n b
 blended n a b is_sixteen m =
-    ap (λ z. sel_l z a b) (chosen_is n) ∙ ap (λ k. sel_l (map (λ k. ltb k n) (range_with_len 0 k)) a b) (sym is_sixteen)
+    ap (λ z. sel_l z a b) (chosen_is n)
+    ∙ ap (λ k. sel_l (map (λ k. ltb k n) (range_with_len 0 k)) a b) (sym is_sixteen)
     ∙ some_front 0 n n a b (omega arith) (is_sixteen ∙ sym m)
 
 -- the chosen lanes are stored where the others were
 pub stored_blend : (at n : ℕ) (old a : List ℕ) → at + 16 ≤ length old → n ≤ 16 → length a ≡ 16
-    → put_chunk at old (sel_l (chosen n) a (take 16 (drop at old))) ≡ take at old ++ (take n a ++ drop (at + n) old)
+    → put_chunk at old (sel_l (chosen n) a (take 16 (drop at old))) ≡ take at old
+    ++ (take n a ++ drop (at + n) old)
 stored_blend at n old a h k is_sixteen =
     let old_rest = drop at old in
     let old_lanes = take 16 old_rest in
@@ -243,7 +264,8 @@ put_one at dst (b ∷ bs) n e h l =
     ∙ ap (λ k. take at dst ++ (take k (b ∷ bs) ++ drop (at + 1) dst)) (sym e)
 
 pub put_two : (at : ℕ) (dst bs : List ℕ) (n : ℕ) → n ≡ 2 → 2 ≤ length bs → at + 1 < length dst
-    → set (set dst at (get_or bs 0 0)) (at + 1) (get_or bs 1 0) ≡ take at dst ++ (take n bs ++ drop (at + 2) dst)
+    → set (set dst at (get_or bs 0 0)) (at + 1) (get_or bs 1 0) ≡ take at dst
+    ++ (take n bs ++ drop (at + 2) dst)
 put_two at dst [] n e h l = absurd (omega arith)
 put_two at dst (b ∷ []) n e h l = absurd (omega arith)
 put_two at dst (b ∷ c ∷ bs) n e h l =
@@ -251,12 +273,14 @@ put_two at dst (b ∷ c ∷ bs) n e h l =
     let ys = drop (suc (at + 1)) dst in
     let next : suc at ≡ at + 1 = omega arith in
     let after : suc (at + 1) ≡ at + 2 = omega arith in
-    let long : length xs ≡ at + 1 = omega (arith, length-append (take at dst) (b ∷ []), length-take at dst) in
+    let long : length xs ≡ at + 1 =
+    omega (arith, length-append (take at dst) (b ∷ []), length-take at dst) in
     let first : set dst at b ≡ xs ++ (get_or dst (at + 1) 0 ∷ ys) =
     set_split dst at b (omega arith) ∙ ap (λ m. take at dst ++ (b ∷ drop m dst)) next
     ∙ ap (λ z. take at dst ++ (b ∷ z)) (drop-cons dst (at + 1) 0 l)
     ∙ sym (append_assoc (take at dst) (b ∷ []) (get_or dst (at + 1) 0 ∷ ys)) in
     ap (λ z. set z (at + 1) c) first ∙ set_at xs (get_or dst (at + 1) 0) ys c (at + 1) long
     ∙ append_assoc (take at dst) (b ∷ []) (c ∷ ys)
-    ∙ ap (λ m. take at dst ++ (b ∷ c ∷ drop m dst)) after ∙ ap (λ k. take at dst ++ (take k (b ∷ c ∷ bs) ++ drop
+    ∙ ap (λ m. take at dst ++ (b ∷ c ∷ drop m dst)) after
+    ∙ ap (λ k. take at dst ++ (take k (b ∷ c ∷ bs) ++ drop
     (at + 2) dst)) (sym e)

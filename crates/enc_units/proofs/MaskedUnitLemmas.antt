@@ -18,19 +18,23 @@ use Rattle.enc_units.proofs.GatherLemmas.{stored_lanes}
 
 -- bytes at places below sixteen
 
-pub places_fit : (places : List ℕ) → length places ≡ 16 → ((k : ℕ) → k < 16 → get_or places k 0 < 16)
+pub places_fit : (places : List ℕ) → length places ≡ 16
+    → ((k : ℕ) → k < 16 → get_or places k 0 < 16)
     → SwzOk w8 16 16 0 places
 places_fit places long h =
     SwzOk-from_below w8 16 1 16 0 places refl (omega arith)
     (Each1-from_get_or (λ j. j < 16) places 0 (λ i l. h i (omega arith)))
 
-pub picked : (bytes places : List ℕ) → length places ≡ 16 → ((k : ℕ) → k < 16 → get_or places k 0 < 16)
+pub picked : (bytes places : List ℕ) → length places ≡ 16
+    → ((k : ℕ) → k < 16 → get_or places k 0 < 16)
     → swz_l w8 16 bytes 0 places ≡ map (λ p. get_or bytes p 0) places
 picked bytes places long h =
-    same_number_lists _ _ (length-swz_l w8 16 bytes 0 places ∙ sym (length-map places (λ p. get_or bytes p 0))) (λ k l.
+    same_number_lists _ _ (length-swz_l w8 16 bytes 0 places
+    ∙ sym (length-map places (λ p. get_or bytes p 0))) (λ k l.
     let few : k < 16 = omega (arith, length-swz_l w8 16 bytes 0 places) in
     let place : 16 * ((0 + k) / 16) + get_or places k 0 ≡ get_or places k 0 = omega arith in
-    get_or-swz_l_below w8 16 bytes 0 places k (omega arith) (h k few) ∙ ap (λ i. get_or bytes i 0) place
+    get_or-swz_l_below w8 16 bytes 0 places k (omega arith) (h k few)
+    ∙ ap (λ i. get_or bytes i 0) place
     ∙ sym (get_or-map (λ p. get_or bytes p 0) places k 0 0 (omega arith)))
 
 -- the places are those of the lowest eight bits
@@ -71,7 +75,8 @@ all_under n (x ∷ xs) = ltb x n && all_under n xs
 abbrev row_ok : ℕ → List ℕ → Bool
 row_ok m row =
     begins (both_bytes (marked_places m 0 8)) row
-    && (all_under 16 row && (all_under 8 (marked_places m 0 8) && eqb (length (marked_places m 0 8)) (ones m)))
+    && (all_under 16 row && (all_under 8 (marked_places m 0 8)
+    && eqb (length (marked_places m 0 8)) (ones m)))
 
 unfoldable rows_ok : ℕ → ℕ → List ℕ → Bool
 rows_ok zero m rows = true
@@ -94,7 +99,8 @@ row_at (suc n) m zero rows ok l =
 row_at (suc n) m (suc k) rows ok l =
     let place : suc m + k ≡ m + suc k = omega arith in
     subst (λ i. row_ok i (take 16 (drop (suc k * 16) rows)) ≡ true) place
-    (subst (λ z. row_ok (suc m + k) (take 16 z) ≡ true) (drop-drop (k * 16) 16 rows ∙ ap (λ i. drop i rows) skip)
+    (subst (λ z. row_ok (suc m + k) (take 16 z) ≡ true)
+    (drop-drop (k * 16) 16 rows ∙ ap (λ i. drop i rows) skip)
     (row_at n (suc m) k (drop 16 rows) (and_parts _ _ ok).1 (omega arith)))
   where
     skip : 16 + k * 16 ≡ suc k * 16
@@ -107,7 +113,8 @@ under n (x ∷ xs) all_below zero l = ltb-true _ _ (and_parts _ _ all_below).0
 under n (x ∷ xs) all_below (suc k) l = under n xs (and_parts _ _ all_below).1 k (omega arith)
 
 begin_both : (ps row : List ℕ) → begins (both_bytes ps) row ≡ true → (j : ℕ) → j < length ps
-    → (get_or row (2 * j) 0 ≡ 2 * get_or ps j 0) × (get_or row (2 * j + 1) 0 ≡ 2 * get_or ps j 0 + 1)
+    → (get_or row (2 * j) 0 ≡ 2 * get_or ps j 0)
+    × (get_or row (2 * j + 1) 0 ≡ 2 * get_or ps j 0 + 1)
 unfolding begins
 begin_both [] row begin j l = absurd (omega arith)
 begin_both (p ∷ ps) [] begin j l = cc
@@ -123,16 +130,21 @@ begin_both (p ∷ ps) (a ∷ b ∷ row) begin (suc j) l =
     let odd : suc (suc (2 * j + 1)) ≡ 2 * suc j + 1 = omega arith in
     let few : j < length ps = omega arith in
     let tests = and_parts _ _ begin in
-    let rest = begin_both ps row (and_parts _ _ tests.1).1 j few in
-    (ap (λ i. get_or (a ∷ b ∷ row) i 0) (sym even) ∙ rest.0, ap (λ i. get_or (a ∷ b ∷ row) i 0) (sym odd) ∙ rest.1)
+    let rest = begin_both ps row (and_parts _ _ tests.1).1 j few in (
+      ap (λ i. get_or (a ∷ b ∷ row) i 0) (sym even)
+          ∙ rest.0,
+      ap (λ i. get_or (a ∷ b ∷ row) i 0) (sym odd) ∙ rest.1,
+    )
 
 -- a row of the table
 pub record IsRow (mask : ℕ) (row : List ℕ) : Type 0 where
   pub within : (k : ℕ) → k < 16 → get_or row k 0 < 16
   pub count : length (marked_places mask 0 8) ≡ ones mask
   pub units : (j : ℕ) → j < ones mask → get_or (marked_places mask 0 8) j 0 < 8
-  pub evens : (j : ℕ) → j < ones mask → get_or row (2 * j) 0 ≡ 2 * get_or (marked_places mask 0 8) j 0
-  pub odds : (j : ℕ) → j < ones mask → get_or row (2 * j + 1) 0 ≡ 2 * get_or (marked_places mask 0 8) j 0 + 1
+  pub evens : (j : ℕ) → j < ones mask
+      → get_or row (2 * j) 0 ≡ 2 * get_or (marked_places mask 0 8) j 0
+  pub odds : (j : ℕ) → j < ones mask
+      → get_or row (2 * j + 1) 0 ≡ 2 * get_or (marked_places mask 0 8) j 0 + 1
 
 -- the row of a mask, as it is read from a part of the table
 abbrev pub row_of : ℕ → List ℕ
@@ -143,7 +155,12 @@ row_of_table mask h = take-take 16 (4096 - mask * 16) (drop (mask * 16) MARKED) 
 
 pub row_long : (mask : ℕ) → mask < 256 → length (row_of mask) ≡ 16
 row_long mask h = ap length (row_of_table mask h)
-    ∙ omega (arith, length-take 16 (drop (mask * 16) MARKED), length-drop (mask * 16) MARKED, marked_count)
+    ∙ omega (
+      arith,
+      length-take 16 (drop (mask * 16) MARKED),
+      length-drop (mask * 16) MARKED,
+      marked_count,
+    )
 
 pub row_is : (mask : ℕ) → mask < 256 → IsRow mask (row_of mask)
 row_is mask is_byte =
@@ -170,7 +187,8 @@ digit_below zero x k = omega arith
 digit_below (suc n) x zero = omega arith
 digit_below (suc n) x (suc k) = digit_below n (x / 0x100) k
 
-two_of : (xs : List ℕ) (i : ℕ) → i + 1 < length xs → chunk i 2 xs ≡ get_or xs i 0 ∷ get_or xs (i + 1) 0 ∷ []
+two_of : (xs : List ℕ) (i : ℕ) → i + 1 < length xs
+    → chunk i 2 xs ≡ get_or xs i 0 ∷ get_or xs (i + 1) 0 ∷ []
 two_of xs i h =
     ap (take 2) (drop-cons xs i 0 (omega arith))
     ∙ ap (λ z. get_or xs i 0 ∷ take 1 z) (drop-cons xs (suc i) 0 (omega arith))
@@ -201,10 +219,12 @@ module _ (units row : List ℕ) (mask : ℕ) (long : length units ≡ 8) (fit : 
       let place : 2 * k ≡ 2 * k + 0 = omega arith in
       let value : get_or units k 0 / 1 % 0x100 ≡ get_or units k 0 % 0x100 = omega arith in
       ap (λ i. get_or bytes i 0) place
-      ∙ get_or_narrower 0x1_0000 2 0x100 16 units k 0 refl units_below (omega arith) (omega arith) ∙ value
+      ∙ get_or_narrower 0x1_0000 2 0x100 16 units k 0 refl units_below (omega arith) (omega arith)
+      ∙ value
 
   high_byte : (k : ℕ) → k < 8 → get_or bytes (2 * k + 1) 0 ≡ get_or units k 0 / 0x100 % 0x100
-  high_byte k h = get_or_narrower 0x1_0000 2 0x100 16 units k 1 refl units_below (omega arith) (omega arith)
+  high_byte k h = get_or_narrower 0x1_0000 2 0x100 16 units k 1 refl units_below (omega arith)
+      (omega arith)
 
   byte_below : (k : ℕ) → k < 16 → get_or chosen k 0 < 0x100
   byte_below k h =
@@ -218,10 +238,12 @@ module _ (units row : List ℕ) (mask : ℕ) (long : length units ≡ 8) (fit : 
   chosen_at : (k : ℕ) → k < 16 → get_or chosen k 0 ≡ get_or bytes (get_or row k 0) 0
   chosen_at k h = get_or-map (λ p. get_or bytes p 0) row k 0 0 (omega arith)
 
-  stored_at : (j : ℕ) → j < 8 → get_or stored j 0 ≡ get_or chosen (2 * j) 0 + 0x100 * get_or chosen (2 * j + 1) 0
+  stored_at : (j : ℕ) → j < 8
+      → get_or stored j 0 ≡ get_or chosen (2 * j) 0 + 0x100 * get_or chosen (2 * j + 1) 0
   stored_at j h =
       get_or_wider 0x100 2 0x1_0000 8 chosen j refl bytes_below h
-      ∙ ap (number_l 0x100) (two_of chosen (2 * j) (omega (arith, length-map row (λ p. get_or bytes p 0))))
+      ∙ ap (number_l 0x100) (two_of chosen (2 * j)
+      (omega (arith, length-map row (λ p. get_or bytes p 0))))
       ∙ omega arith
 
   unit_at : (j : ℕ) → j < ones mask → mask < 0x100
@@ -237,7 +259,8 @@ module _ (units row : List ℕ) (mask : ℕ) (long : length units ≡ 8) (fit : 
       ∙ high_byte place (is_row.units j below_count) in
       stored_at j few ∙ omega (arith, low, high, unit_below place (is_row.units j below_count))
 
-  pub marked_units : mask < 0x100 → take (ones mask) stored ≡ map (λ k. get_or units k 0) (marked_places mask 0 8)
+  pub marked_units : mask < 0x100
+      → take (ones mask) stored ≡ map (λ k. get_or units k 0) (marked_places mask 0 8)
   marked_units is_byte =
       let few = ones-le 8 mask is_byte in
       same_number_lists _ _
@@ -251,18 +274,24 @@ module _ (units row : List ℕ) (mask : ℕ) (long : length units ≡ 8) (fit : 
       (λ k h.
       let below_count : k < ones mask = omega (arith, length-take (ones mask) stored) in
       get_or-take (ones mask) stored k 0 below_count ∙ unit_at k below_count is_byte
-      ∙ sym (get_or-map (λ k. get_or units k 0) (marked_places mask 0 8) k 0 0 (omega (arith, is_row.count))))
+      ∙ sym (get_or-map (λ k. get_or units k 0) (marked_places mask 0 8) k 0 0
+      (omega (arith, is_row.count))))
 
 -- the marked units are stored
-pub stores_marked : (at marks : ℕ) (units row picked old : List ℕ) → at + 8 ≤ length old → length units ≡ 8
+pub stores_marked : (at marks : ℕ) (units row picked old : List ℕ) → at + 8 ≤ length old
+    → length units ≡ 8
     → Each1 (Fits w16) units → length row ≡ 16 → IsRow (marks % 0x100) row
     → picked ≡ map (λ p. get_or (digits_l 0x100 16 (number_l 0x1_0000 units)) p 0) row
-    → take (at + ones (marks % 0x100)) (put_chunk at old (digits_l 0x1_0000 8 (number_l 0x100 picked))) ≡ take at old
+    → take (at + ones (marks % 0x100))
+    (put_chunk at old (digits_l 0x1_0000 8 (number_l 0x100 picked))) ≡ take at old
     ++ marked_code_units marks units
 stores_marked at marks units row picked old room long fit row_long is_row e =
     let below : marks % 0x100 < 0x100 = omega arith in
-    ap (λ z. take (at + ones (marks % 0x100)) (put_chunk at old (digits_l 0x1_0000 8 (number_l 0x100 z)))) e
-    ∙ stored_lanes at (ones (marks % 0x100)) old (stored units row (marks % 0x100) long fit row_long is_row) room
+    ap (λ z. take (at + ones (marks % 0x100))
+    (put_chunk at old (digits_l 0x1_0000 8 (number_l 0x100 z)))) e
+    ∙ stored_lanes at (ones (marks % 0x100)) old
+    (stored units row (marks % 0x100) long fit row_long is_row) room
     (ones-le 8 (marks % 0x100) below)
-    ∙ ap (λ z. take at old ++ z) (marked_units units row (marks % 0x100) long fit row_long is_row below
+    ∙ ap (λ z. take at old ++ z)
+    (marked_units units row (marks % 0x100) long fit row_long is_row below
     ∙ ap (map (λ k. get_or units k 0)) (low_bits marks 0))

@@ -1,4 +1,5 @@
--- Where text is written over other text, all is well-formed once the rest of a character is made 00.
+-- Where text is written over other text, all is well-formed once the rest of a character is made
+-- 00.
 use Rattle.std.proofs.Common.{◌≡◌, ℕ, zero, suc, ◌+◌, ◌-◌, ◌/◌, ◌%◌, ◌<◌, ◌≤◌, ◌&&◌, Bool, true, false, nat_le, nat_lt}
 use Rattle.std.proofs.Common.{if◌then◌else◌, List, [], ◌∷◌, ◌++◌, length, take, drop, get_or, refl, ap, ◌∙◌, sym, subst}
 use Rattle.std.proofs.Common.{arith, append_assoc, drop-cons, drop-drop, ◌⊎◌, inl, inr}
@@ -45,7 +46,8 @@ IsContinuation b = (0x80 ≤ b) × (b < 0xC0)
 cleared : (b : ℕ) (z : List ℕ) → IsContinuation b → IsUtf8 (without_continuations z)
     → IsUtf8 (without_continuations (b ∷ z))
 cleared b z continues utf8 =
-    subst IsUtf8 (sym (cond_yes _ _ _ (between b continues.0 continues.1))) (nul_first (without_continuations z) utf8)
+    subst IsUtf8 (sym (cond_yes _ _ _ (between b continues.0 continues.1)))
+    (nul_first (without_continuations z) utf8)
 
 range_of : (c : ℕ) → IsScalar c → InScalarRange c
 range_of c h = grind (arith, nat_tests)
@@ -58,7 +60,8 @@ bound_of c (inr h) = omega (arith, h.1)
 data Form (c : ℕ) : Type 0 where
   One : c < 0x80 → encode_utf8 c ≡ c ∷ [] → Form c
   Two : (a b : ℕ) → 0xC0 ≤ a → IsContinuation b → encode_utf8 c ≡ a ∷ b ∷ [] → Form c
-  Three : (a b d : ℕ) → 0xC0 ≤ a → IsContinuation b → IsContinuation d → encode_utf8 c ≡ a ∷ b ∷ d ∷ [] → Form c
+  Three : (a b d : ℕ) → 0xC0 ≤ a → IsContinuation b → IsContinuation d
+      → encode_utf8 c ≡ a ∷ b ∷ d ∷ [] → Form c
   Four : (a b d e : ℕ) → 0xC0 ≤ a → IsContinuation b → IsContinuation d → IsContinuation e
       → encode_utf8 c ≡ a ∷ b ∷ d ∷ e ∷ [] → Form c
 
@@ -66,46 +69,59 @@ form_of : (c : ℕ) → IsScalar c → Form c
 form_of c s = elim (cases_lt c 0x80) [
   | inl is_ascii ↦ One is_ascii (encode_ascii c is_ascii)
   | inr h ↦ elim (cases_lt c 0x800) [
-    | inl k ↦ Two (192 + c / 64) (128 + c % 64) (omega arith) (omega arith, omega arith) (utf8_two c h k)
+    | inl k ↦ Two (192 + c / 64) (128 + c % 64) (omega arith) (omega arith, omega arith)
+        (utf8_two c h k)
     | inr k ↦ elim (cases_lt c 0x10000) [
       | inl l ↦
-          Three (224 + c / 4096) (128 + c / 64 % 64) (128 + c % 64) (omega arith) (omega arith, omega arith)
+          Three (224 + c / 4096) (128 + c / 64 % 64) (128 + c % 64) (omega arith)
+          (omega arith, omega arith)
           (omega arith, omega arith) (utf8_three c k l)
       | inr l ↦
-          Four (240 + c / 262144) (128 + c / 4096 % 64) (128 + c / 64 % 64) (128 + c % 64) (omega arith)
-          (omega arith, omega arith) (omega arith, omega arith) (omega arith, omega arith) (utf8_four c l)
+          Four (240 + c / 262144) (128 + c / 4096 % 64) (128 + c / 64 % 64) (128 + c % 64)
+          (omega arith)
+          (omega arith, omega arith) (omega arith, omega arith) (omega arith, omega arith)
+          (utf8_four c l)
     ]
   ]
 ]
 
 -- what begins with a character stays
-stays_by : (c : ℕ) (z : List ℕ) → Form c → without_continuations (encode_utf8 c ++ z) ≡ encode_utf8 c ++ z
-stays_by c z (One h e) = subst (λ x. without_continuations (x ++ z) ≡ x ++ z) (sym e) (cond_no _ _ _ (low c h))
-stays_by c z (Two a b h _ e) = subst (λ x. without_continuations (x ++ z) ≡ x ++ z) (sym e) (cond_no _ _ _ (high a h))
+stays_by : (c : ℕ) (z : List ℕ) → Form c
+    → without_continuations (encode_utf8 c ++ z) ≡ encode_utf8 c ++ z
+stays_by c z (One h e) =
+    subst (λ x. without_continuations (x ++ z) ≡ x ++ z) (sym e) (cond_no _ _ _ (low c h))
+stays_by c z (Two a b h _ e) =
+    subst (λ x. without_continuations (x ++ z) ≡ x ++ z) (sym e) (cond_no _ _ _ (high a h))
 stays_by c z (Three a b d h _ _ e) =
     subst (λ x. without_continuations (x ++ z) ≡ x ++ z) (sym e) (cond_no _ _ _ (high a h))
 stays_by c z (Four a b d f h _ _ _ e) =
     subst (λ x. without_continuations (x ++ z) ≡ x ++ z) (sym e) (cond_no _ _ _ (high a h))
 
-stays : (cs : List ℕ) → all_scalars cs ≡ true → without_continuations (encode_utf8_all cs) ≡ encode_utf8_all cs
+stays : (cs : List ℕ) → all_scalars cs ≡ true
+    → without_continuations (encode_utf8_all cs) ≡ encode_utf8_all cs
 stays [] s = refl
 stays (c ∷ cs) s =
     let scalar_parts = and_parts _ _ s in stays_by c (encode_utf8_all cs) (form_of c scalar_parts.0)
 
 -- the rest of a character after its first bytes, and other text
 rest_by : (c n : ℕ) (z : List ℕ) → Form c → n < length (encode_utf8 c) → IsUtf8 (encode_utf8 c ++ z)
-    → IsUtf8 (without_continuations z) → IsUtf8 (without_continuations (drop n (encode_utf8 c) ++ z))
+    → IsUtf8 (without_continuations z)
+    → IsUtf8 (without_continuations (drop n (encode_utf8 c) ++ z))
 rest_by c zero z f h u rest_is_utf8 = subst IsUtf8 (sym (stays_by c z f)) u
 rest_by c (suc n) z (One k e) h u rest_is_utf8 = absurd (omega (arith, ap length e))
 rest_by c (suc zero) z (Two a b _ second e) h u rest_is_utf8 =
-    subst (λ x. IsUtf8 (without_continuations (drop 1 x ++ z))) (sym e) (cleared b z second rest_is_utf8)
-rest_by c (suc (suc n)) z (Two a b _ second e) h u rest_is_utf8 = absurd (omega (arith, ap length e))
+    subst (λ x. IsUtf8 (without_continuations (drop 1 x ++ z))) (sym e)
+    (cleared b z second rest_is_utf8)
+rest_by c (suc (suc n)) z (Two a b _ second e) h u rest_is_utf8 =
+    absurd (omega (arith, ap length e))
 rest_by c (suc zero) z (Three a b d _ second third e) h u rest_is_utf8 =
     subst (λ x. IsUtf8 (without_continuations (drop 1 x ++ z))) (sym e)
     (cleared b (d ∷ z) second (cleared d z third rest_is_utf8))
 rest_by c (suc (suc zero)) z (Three a b d _ second third e) h u rest_is_utf8 =
-    subst (λ x. IsUtf8 (without_continuations (drop 2 x ++ z))) (sym e) (cleared d z third rest_is_utf8)
-rest_by c (suc (suc (suc n))) z (Three a b d _ second third e) h u rest_is_utf8 = absurd (omega (arith, ap length e))
+    subst (λ x. IsUtf8 (without_continuations (drop 2 x ++ z))) (sym e)
+    (cleared d z third rest_is_utf8)
+rest_by c (suc (suc (suc n))) z (Three a b d _ second third e) h u rest_is_utf8 =
+    absurd (omega (arith, ap length e))
 rest_by c (suc zero) z (Four a b d f _ second third fourth e) h u rest_is_utf8 =
     subst (λ x. IsUtf8 (without_continuations (drop 1 x ++ z))) (sym e)
     (cleared b (d ∷ f ∷ z) second (cleared d (f ∷ z) third (cleared f z fourth rest_is_utf8)))
@@ -113,7 +129,8 @@ rest_by c (suc (suc zero)) z (Four a b d f _ second third fourth e) h u rest_is_
     subst (λ x. IsUtf8 (without_continuations (drop 2 x ++ z))) (sym e)
     (cleared d (f ∷ z) third (cleared f z fourth rest_is_utf8))
 rest_by c (suc (suc (suc zero))) z (Four a b d f _ second third fourth e) h u rest_is_utf8 =
-    subst (λ x. IsUtf8 (without_continuations (drop 3 x ++ z))) (sym e) (cleared f z fourth rest_is_utf8)
+    subst (λ x. IsUtf8 (without_continuations (drop 3 x ++ z))) (sym e)
+    (cleared f z fourth rest_is_utf8)
 rest_by c (suc (suc (suc (suc n)))) z (Four a b d f _ second third fourth e) h u rest_is_utf8 =
     absurd (omega (arith, ap length e))
 
@@ -121,8 +138,10 @@ drop_nil : (n : ℕ) → ◌≡◌ {A = List ℕ} (drop n []) []
 drop_nil zero = refl
 drop_nil (suc n) = refl
 
-rest_of : (cs : List ℕ) (n : ℕ) → all_scalars cs ≡ true → IsUtf8 (without_continuations (drop n (encode_utf8_all cs)))
-rest_of [] n are_scalars = subst (λ x. IsUtf8 (without_continuations x)) (sym (drop_nil n)) ([], (refl, refl))
+rest_of : (cs : List ℕ) (n : ℕ) → all_scalars cs ≡ true
+    → IsUtf8 (without_continuations (drop n (encode_utf8_all cs)))
+rest_of [] n are_scalars =
+    subst (λ x. IsUtf8 (without_continuations x)) (sym (drop_nil n)) ([], (refl, refl))
 rest_of (c ∷ cs) n are_scalars =
     let scalar_parts = and_parts _ _ are_scalars in
     let rest_bytes = encode_utf8_all cs in
@@ -141,7 +160,8 @@ rest_of (c ∷ cs) n are_scalars =
           (rest_of cs further scalar_parts.1)
     ]
 
--- the text that is written is well-formed with the bytes after it, once the rest of a character is made 00
+-- the text that is written is well-formed with the bytes after it, once the rest of a character is
+-- made 00
 pub is_text : (bytes old : List ℕ) (n : ℕ) (text : List ℕ) → IsUtf8 old → AreScalars text
     → take n bytes ≡ units_of_text encode_utf8 text
     → drop n bytes ≡ without_continuations (drop n old) → IsUtf8 bytes
@@ -158,7 +178,8 @@ pub record Cleared (at end : ℕ) (old new : List ℕ) : Type 0 where
   pub within : end ≤ length old
   pub len : length new ≡ length old
   pub front : take at new ≡ take at old
-  pub done : take (end - at) (drop at new) ++ without_continuations (drop end old) ≡ without_continuations (drop at old)
+  pub done : take (end - at) (drop at new) ++ without_continuations (drop end old)
+      ≡ without_continuations (drop at old)
   pub rest : drop end new ≡ drop end old
 
 pub begin : (at : ℕ) (old : List ℕ) → at ≤ length old → Cleared at at old old
@@ -172,13 +193,16 @@ begin at old h = record {
   rest = refl;
 }
 
-next_front : (at end : ℕ) (new : List ℕ) (x : ℕ) → at ≤ end → end < length new → take at (set new end x) ≡ take at new
+next_front : (at end : ℕ) (new : List ℕ) (x : ℕ) → at ≤ end → end < length new
+    → take at (set new end x) ≡ take at new
 next_front zero end new x h k = refl
 next_front (suc at) zero new x h k = absurd (omega arith)
 next_front (suc at) (suc end) [] x h k = absurd (omega arith)
-next_front (suc at) (suc end) (b ∷ new) x h k = ap (λ z. b ∷ z) (next_front at end new x (omega arith) (omega arith))
+next_front (suc at) (suc end) (b ∷ new) x h k =
+    ap (λ z. b ∷ z) (next_front at end new x (omega arith) (omega arith))
 
-next_rest : (end : ℕ) (new : List ℕ) (x : ℕ) → end < length new → drop (suc end) (set new end x) ≡ drop (suc end) new
+next_rest : (end : ℕ) (new : List ℕ) (x : ℕ) → end < length new
+    → drop (suc end) (set new end x) ≡ drop (suc end) new
 next_rest zero [] x k = absurd (omega arith)
 next_rest zero (b ∷ new) x k = refl
 next_rest (suc end) [] x k = absurd (omega arith)
@@ -228,7 +252,8 @@ same_rest end old new l h e =
 one_more : (at end : ℕ) (old new : List ℕ) → Cleared at end old new → end < length new
     → 0x80 ≤ get_or new end 0 → get_or new end 0 < 0xC0 → Cleared at (suc end) old (set new end 0)
 one_more at end old new is_cleared has_next k l =
-    let same = same_byte end old new is_cleared.len (omega (arith, is_cleared.len)) is_cleared.rest in
+    let same = same_byte end old new is_cleared.len (omega (arith, is_cleared.len))
+    is_cleared.rest in
     let test = between (get_or old end 0) (omega arith) (omega arith) in
     record {
       from = omega (arith, is_cleared.from);
@@ -236,16 +261,20 @@ one_more at end old new is_cleared has_next k l =
       len = length-set new end 0 ∙ is_cleared.len;
       front = next_front at end new 0 is_cleared.from has_next ∙ is_cleared.front;
       done =
-          ap (λ x. x ++ without_continuations (drop (suc end) old)) (next_done at end new 0 is_cleared.from has_next)
-          ∙ append_assoc (take (end - at) (drop at new)) (0 ∷ []) (without_continuations (drop (suc end) old))
+          ap (λ x. x ++ without_continuations (drop (suc end) old))
+          (next_done at end new 0 is_cleared.from has_next)
+          ∙ append_assoc (take (end - at) (drop at new)) (0 ∷ [])
+          (without_continuations (drop (suc end) old))
           ∙ ap (λ x. take (end - at) (drop at new) ++ x)
           (sym (ap without_continuations (drop-cons old end 0 (omega (arith, is_cleared.len)))
           ∙ cond_yes _ _ _ test)) ∙ is_cleared.done;
-      rest = next_rest end new 0 has_next ∙ same_rest end old new is_cleared.len (omega (arith, is_cleared.len))
+      rest = next_rest end new 0 has_next
+          ∙ same_rest end old new is_cleared.len (omega (arith, is_cleared.len))
           is_cleared.rest;
     }
 
-pub goes_on : {at end : ℕ} {old new : List ℕ} → Cleared at end old new → end < length new → 0x80 ≤ get_or new end 0
+pub goes_on : {at end : ℕ} {old new : List ℕ} → Cleared at end old new → end < length new
+    → 0x80 ≤ get_or new end 0
     → get_or new end 0 < 0xC0 → Cleared at (end + 1) old (set new end 0)
 goes_on {at} {end} {old} {new} c h k l =
     subst (λ n. Cleared at n old (set new end 0))
@@ -253,7 +282,8 @@ goes_on {at} {end} {old} {new} c h k l =
 
 -- where no byte of a rest is next, it is done
 pub ends : {at end : ℕ} {old new : List ℕ} → Cleared at end old new
-    → without_continuations (drop end old) ≡ drop end old → drop at new ≡ without_continuations (drop at old)
+    → without_continuations (drop end old) ≡ drop end old
+    → drop at new ≡ without_continuations (drop at old)
 ends {at} {end} {old} {new} is_cleared e =
     let done_count = end - at in
     let end_is : end ≡ at + done_count = omega (arith, is_cleared.from) in
@@ -262,14 +292,19 @@ ends {at} {end} {old} {new} is_cleared e =
     (drop-drop done_count at new ∙ ap (λ k. drop k new) (sym end_is) ∙ is_cleared.rest
     ∙ sym e) ∙ is_cleared.done
 
-pub none_left : (end : ℕ) (old : List ℕ) → length old ≤ end → without_continuations (drop end old) ≡ drop end old
-none_left end old at_end = ap without_continuations (drop_of_length-le old at_end) ∙ sym (drop_of_length-le old at_end)
+pub none_left : (end : ℕ) (old : List ℕ) → length old ≤ end
+    → without_continuations (drop end old) ≡ drop end old
+none_left end old at_end = ap without_continuations (drop_of_length-le old at_end)
+    ∙ sym (drop_of_length-le old at_end)
 
 pub none_next : {at end : ℕ} {old new : List ℕ} → Cleared at end old new → end < length new
-    → (get_or new end 0 < 0x80) ⊎ (0xC0 ≤ get_or new end 0) → without_continuations (drop end old) ≡ drop end old
+    → (get_or new end 0 < 0x80) ⊎ (0xC0 ≤ get_or new end 0)
+    → without_continuations (drop end old) ≡ drop end old
 none_next {end = end} {old = old} {new = new} is_cleared h n =
-    let same = same_byte end old new is_cleared.len (omega (arith, is_cleared.len)) is_cleared.rest in
-    ap without_continuations (drop-cons old end 0 (omega (arith, is_cleared.len))) ∙ cond_no _ _ _ (no_rest n)
+    let same = same_byte end old new is_cleared.len (omega (arith, is_cleared.len))
+    is_cleared.rest in
+    ap without_continuations (drop-cons old end 0 (omega (arith, is_cleared.len)))
+    ∙ cond_no _ _ _ (no_rest n)
     ∙ sym (drop-cons old end 0 (omega (arith, is_cleared.len)))
   where
     no_rest : (get_or new end 0 < 0x80) ⊎ (0xC0 ≤ get_or new end 0)

@@ -36,11 +36,13 @@ ends_are_ok = refl
 ends_count : length ENDS ≡ 256
 ends_count = refl
 
-row_is_ok : (rows : List (List ℕ)) → rows_ok rows ≡ true → (i : ℕ) → i < length rows → row_ok (get_or rows i []) ≡ true
+row_is_ok : (rows : List (List ℕ)) → rows_ok rows ≡ true → (i : ℕ) → i < length rows
+    → row_ok (get_or rows i []) ≡ true
 unfolding rows_ok
 row_is_ok [] ok i l = absurd (omega arith)
 row_is_ok (row ∷ rows) ok zero l = (and_parts (row_ok row) (rows_ok rows) ok).0
-row_is_ok (row ∷ rows) ok (suc i) l = row_is_ok rows (and_parts (row_ok row) (rows_ok rows) ok).1 i (omega arith)
+row_is_ok (row ∷ rows) ok (suc i) l =
+    row_is_ok rows (and_parts (row_ok row) (rows_ok rows) ok).1 i (omega arith)
 
 -- the four tests of a row
 module _ (a b c d : ℕ) (es : List ℕ) (h : row_ok (a ∷ b ∷ c ∷ d ∷ es) ≡ true) where
@@ -54,7 +56,8 @@ module _ (a b c d : ℕ) (es : List ℕ) (h : row_ok (a ∷ b ∷ c ∷ d ∷ es
   from_third : (goes b c ≡ true) × (goes c d ≡ true)
   from_third = and_parts (goes b c) (goes c d) from_second.1
 
-row_goes : (row : List ℕ) → row_ok row ≡ true → (k : ℕ) → k < 4 → goes (end_after row k) (end_after row (suc k)) ≡ true
+row_goes : (row : List ℕ) → row_ok row ≡ true → (k : ℕ) → k < 4
+    → goes (end_after row k) (end_after row (suc k)) ≡ true
 unfolding row_ok
 row_goes [] ok k l = cc
 row_goes (a ∷ []) ok k l = cc
@@ -70,11 +73,13 @@ pub end_next : (ends : List ℕ) (k : ℕ) → get_or ends k 0 ≡ end_after end
 end_next ends k = ap (end_after ends) (let next_place : suc k ≡ k + 1 = omega arith in next_place)
 
 -- where a character ends, by where the one before it does
-pub end_goes : (leads k read : ℕ) (ends : List ℕ) → ends ≡ four_ends leads → k < 4 → read ≡ end_after ends k
+pub end_goes : (leads k read : ℕ) (ends : List ℕ) → ends ≡ four_ends leads → k < 4
+    → read ≡ end_after ends k
     → goes read (get_or ends k 0) ≡ true
 end_goes leads k read ends is l e =
     let row : row_ok ends ≡ true =
-    subst (λ r. row_ok r ≡ true) (sym is) (row_is_ok ENDS ends_are_ok (leads % 0x100) (omega (arith, ends_count))) in
+    subst (λ r. row_ok r ≡ true) (sym is)
+    (row_is_ok ENDS ends_are_ok (leads % 0x100) (omega (arith, ends_count))) in
     subst (λ x. goes x (get_or ends k 0) ≡ true) (sym e) (row_goes ends row k l)
 
 pub goes_up : (a b : ℕ) → goes a b ≡ true → (a ≤ b) × (b ≤ a + 2)
@@ -86,7 +91,8 @@ goes_one a b h e = grind (arith, nat_tests)
 goes_two : (a b : ℕ) → goes a b ≡ true → eqb (b - a) 2 ≡ true → b ≡ a + 2
 goes_two a b h e = grind (arith, nat_tests)
 
-module _ (Means : List ℕ → ℕ → Type 0) (src : List ℕ) (from read next : ℕ) (goes_on : goes read next ≡ true)
+module _ (Means : List ℕ → ℕ → Type 0) (src : List ℕ) (from read next : ℕ)
+    (goes_on : goes read next ≡ true)
     (inside : from + read + 2 ≤ length src) where
   abbrev first : ℕ
   first = get_or src (from + read) 0
@@ -105,9 +111,11 @@ module _ (Means : List ℕ → ℕ → Type 0) (src : List ℕ) (from read next 
   two_front : take 2 (drop read (drop from src)) ≡ first ∷ second ∷ []
   two_front =
       ap (take 2) (drop-cons (drop from src) read 0 (omega (arith, rest_long))
-      ∙ ap (λ z. get_or (drop from src) read 0 ∷ z) (drop-cons (drop from src) (suc read) 0 (omega (arith, rest_long))))
+      ∙ ap (λ z. get_or (drop from src) read 0 ∷ z)
+      (drop-cons (drop from src) (suc read) 0 (omega (arith, rest_long))))
       ∙ ap (λ b. b ∷ get_or (drop from src) (suc read) 0 ∷ []) (get_or_drop from read src)
-      ∙ ap (λ b. first ∷ b ∷ []) (get_or_drop from (suc read) src ∙ ap (λ k. get_or src k 0) next_place)
+      ∙ ap (λ b. first ∷ b ∷ [])
+      (get_or_drop from (suc read) src ∙ ap (λ k. get_or src k 0) next_place)
     where
       next_place : from + suc read ≡ from + read + 1
       next_place = omega arith
@@ -117,16 +125,20 @@ module _ (Means : List ℕ → ℕ → Type 0) (src : List ℕ) (from read next 
       → take (next - read) (drop read (drop from src)) ≡ byte_or_pair t first second
   front_is true is_two =
       ap (λ k. take k (drop read (drop from src)))
-      (let two_read : next - read ≡ 2 = omega (arith, goes_two read next goes_on is_two) in two_read)
+      (let two_read : next - read ≡ 2 = omega (arith, goes_two read next goes_on is_two) in
+      two_read)
       ∙ two_front
   front_is false is_two =
       ap (λ k. take k (drop read (drop from src)))
-      (let one_read : next - read ≡ 1 = omega (arith, goes_one read next goes_on is_two) in one_read)
+      (let one_read : next - read ≡ 1 = omega (arith, goes_one read next goes_on is_two) in
+      one_read)
       ∙ one_front
 
-  gathers_front : (units_of : ℕ → List ℕ) (t : Bool) (c : ℕ) (before mid after : List ℕ) → eqb (next - read) 2 ≡ t
+  gathers_front : (units_of : ℕ → List ℕ) (t : Bool) (c : ℕ) (before mid after : List ℕ)
+      → eqb (next - read) 2 ≡ t
       → IsScalar c
-      → Means (byte_or_pair t first second) c → GathersChars units_of Means (drop from src) read before mid
+      → Means (byte_or_pair t first second) c
+      → GathersChars units_of Means (drop from src) read before mid
       → after ≡ mid ++ units_of c
       → GathersChars units_of Means (drop from src) next before after
   gathers_front units_of t c before mid after e s m p w =
@@ -146,7 +158,8 @@ module _ (Means : List ℕ → ℕ → Type 0) (src : List ℕ) (from read next 
       → after ≡ mid ++ take (word / 0x100_0000) (to_le_bytes w32 word)
       → GathersChars encode_utf8 Means (drop from src) next before after
   gathers_word {before = before} {mid = mid} {after = after} means p w =
-      gathers_front encode_utf8 (eqb (next - read) 2) means.char before mid after refl means.scalar means.means p
+      gathers_front encode_utf8 (eqb (next - read) 2) means.char before mid after refl means.scalar
+      means.means p
       (w ∙ ap (λ z. mid ++ z) means.utf8)
 
   -- one more character, as a code unit
@@ -155,5 +168,6 @@ module _ (Means : List ℕ → ℕ → Type 0) (src : List ℕ) (from read next 
       → GathersChars encode_utf16 Means (drop from src) read before mid → after ≡ mid ++ unit ∷ []
       → GathersChars encode_utf16 Means (drop from src) next before after
   gathers_unit {unit} {before} {mid} {after} l means p w =
-      gathers_front encode_utf16 (eqb (next - read) 2) unit before mid after refl means.scalar means.means p
+      gathers_front encode_utf16 (eqb (next - read) 2) unit before mid after refl means.scalar
+      means.means p
       (w ∙ ap (λ z. mid ++ z) (sym (one_unit unit l)))

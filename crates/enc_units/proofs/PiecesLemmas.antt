@@ -12,13 +12,15 @@ use Rattle.enc_units.specs.Pieces.{Piece, piece_bytes, piece_chars, EachMeansCha
 use Rattle.enc_units.proofs.OutputLemmas.{with_appended-nil, with_appended-with_appended, room_left}
 use Rattle.enc_units.proofs.ScalarLemmas.{one_scalar, scalars-append, ascii_scalars}
 
-piece_bytes-append : (ps qs : List Piece) → piece_bytes (ps ++ qs) ≡ piece_bytes ps ++ piece_bytes qs
+piece_bytes-append : (ps qs : List Piece)
+    → piece_bytes (ps ++ qs) ≡ piece_bytes ps ++ piece_bytes qs
 piece_bytes-append [] qs = refl
 piece_bytes-append (p ∷ ps) qs =
     ap (λ z. p.bytes ++ z) (piece_bytes-append ps qs)
     ∙ sym (append_assoc p.bytes (piece_bytes ps) (piece_bytes qs))
 
-piece_chars-append : (ps qs : List Piece) → piece_chars (ps ++ qs) ≡ piece_chars ps ++ piece_chars qs
+piece_chars-append : (ps qs : List Piece)
+    → piece_chars (ps ++ qs) ≡ piece_chars ps ++ piece_chars qs
 piece_chars-append [] qs = refl
 piece_chars-append (p ∷ ps) qs = ap (λ z. p.char ∷ z) (piece_chars-append ps qs)
 
@@ -53,12 +55,15 @@ pub reads_then : (Means : List ℕ → ℕ → Type 0) (src : List ℕ) (a n : �
 reads_then Means src a n s t first then_more = record {
   pieces = first.pieces ++ then_more.pieces;
   within = omega (arith, first.within, then_more.within, length-drop a src);
-  bytes = piece_bytes-append first.pieces then_more.pieces ∙ ap (λ z. z ++ piece_bytes then_more.pieces) first.bytes
+  bytes = piece_bytes-append first.pieces then_more.pieces
+      ∙ ap (λ z. z ++ piece_bytes then_more.pieces) first.bytes
       ∙ ap (λ z. take a src ++ z) then_more.bytes ∙ sym (take-add a n src);
-  chars = piece_chars-append first.pieces then_more.pieces ∙ ap (λ z. z ++ piece_chars then_more.pieces) first.chars
+  chars = piece_chars-append first.pieces then_more.pieces
+      ∙ ap (λ z. z ++ piece_chars then_more.pieces) first.chars
       ∙ ap (λ z. s ++ z) then_more.chars;
   mean = EachMeansChar-append Means first.pieces then_more.pieces first.mean then_more.mean;
-  none = λ z. ap (λ ps. ps ++ then_more.pieces) (first.none (omega arith)) ∙ then_more.none (omega arith);
+  none = λ z. ap (λ ps. ps ++ then_more.pieces) (first.none (omega arith))
+      ∙ then_more.none (omega arith);
 }
 
 -- one piece is read
@@ -118,8 +123,10 @@ start {Means = Means} {o = o} {src = src} = record {
 }
 
 -- more pieces are put out after them
-module _ {units_of : ℕ → List ℕ} {Means : List ℕ → ℕ → Type 0} {before mid after : Output} {src : List ℕ} {a n : ℕ}
-    (first : PutsPieces units_of Means before mid src a) (then_more : PutsPieces units_of Means mid after (drop a src)
+module _ {units_of : ℕ → List ℕ} {Means : List ℕ → ℕ → Type 0} {before mid after : Output}
+    {src : List ℕ} {a n : ℕ}
+    (first : PutsPieces units_of Means before mid src a)
+    (then_more : PutsPieces units_of Means mid after (drop a src)
     n) where
   pub then : PutsPieces units_of Means before after src (a + n)
   then =
@@ -144,7 +151,8 @@ module _ {units_of : ℕ → List ℕ} {Means : List ℕ → ℕ → Type 0} {be
       }
 
 -- ASCII bytes
-pub ascii_pieces : {units_of : ℕ → List ℕ} {Means : List ℕ → ℕ → Type 0} {before after : Output} {src : List ℕ} {n : ℕ}
+pub ascii_pieces : {units_of : ℕ → List ℕ} {Means : List ℕ → ℕ → Type 0} {before after : Output}
+    {src : List ℕ} {n : ℕ}
     → ((b : ℕ) → b < 0x80 → Means (b ∷ []) b) → PutsAscii units_of before after src n
     → PutsPieces units_of Means before after src n
 ascii_pieces {Means = Means} {src = src} {n = n} h puts = record {
@@ -156,12 +164,14 @@ ascii_pieces {Means = Means} {src = src} {n = n} h puts = record {
 }
 
 -- one piece
-pub one_piece : {units_of : ℕ → List ℕ} {Means : List ℕ → ℕ → Type 0} {before after : Output} {src : List ℕ} {n : ℕ}
+pub one_piece : {units_of : ℕ → List ℕ} {Means : List ℕ → ℕ → Type 0} {before after : Output}
+    {src : List ℕ} {n : ℕ}
     (c : ℕ)
     → 0 < n → n ≤ length src → IsScalar c → Means (take n src) c
     → nat_le (length (units_of c)) before.room ≡ true → after ≡ with_appended before (units_of c)
     → PutsPieces units_of Means before after src n
-one_piece {units_of = units_of} {Means = Means} {before = before} {src = src} {n = n} c h w i m f e =
+one_piece {units_of = units_of} {Means = Means} {before = before} {src = src} {n = n} c h w i m f
+    e =
     let units = append-nil (units_of c) in
     record {
       text = c ∷ [];
@@ -174,7 +184,8 @@ one_piece {units_of = units_of} {Means = Means} {before = before} {src = src} {n
     }
 
 -- the same, where the rest is a list of its own
-module _ {units_of : ℕ → List ℕ} {Means : List ℕ → ℕ → Type 0} {before mid after : Output} {src rest : List ℕ}
+module _ {units_of : ℕ → List ℕ} {Means : List ℕ → ℕ → Type 0} {before mid after : Output}
+    {src rest : List ℕ}
     {a n : ℕ} where
   pub then_rest : rest ≡ drop a src → PutsPieces units_of Means before mid src a
       → PutsPieces units_of Means mid after rest n
@@ -182,8 +193,10 @@ module _ {units_of : ℕ → List ℕ} {Means : List ℕ → ℕ → Type 0} {be
   then_rest e p q = then p (subst (λ z. PutsPieces units_of Means mid after z n) e q)
 
 -- the same, where the output is known to be as it was
-pub same_then : {units_of : ℕ → List ℕ} {Means : List ℕ → ℕ → Type 0} {before mid after : Output} {src : List ℕ} {n : ℕ}
-    → after ≡ mid → PutsPieces units_of Means before mid src n → PutsPieces units_of Means before after src n
+pub same_then : {units_of : ℕ → List ℕ} {Means : List ℕ → ℕ → Type 0} {before mid after : Output}
+    {src : List ℕ} {n : ℕ}
+    → after ≡ mid → PutsPieces units_of Means before mid src n
+    → PutsPieces units_of Means before after src n
 same_then {units_of = units_of} {Means = Means} {before = before} {src = src} {n = n} e p = subst
     (λ (o : Output). PutsPieces units_of Means before o src n) (sym e) p
 
@@ -199,23 +212,27 @@ reads_wider Means src m n text reads = record {
 }
 
 -- pieces of the first m bytes are pieces of all
-pub puts_wider : {units_of : ℕ → List ℕ} {Means : List ℕ → ℕ → Type 0} {before after : Output} {src : List ℕ} (m : ℕ)
+pub puts_wider : {units_of : ℕ → List ℕ} {Means : List ℕ → ℕ → Type 0} {before after : Output}
+    {src : List ℕ} (m : ℕ)
     {n : ℕ} {front : List ℕ}
     → front ≡ take m src
     → PutsPieces units_of Means before after front n → PutsPieces units_of Means before after src n
 puts_wider {Means = Means} {src = src} m {n} e puts = record {
   text = puts.text;
   scalars = puts.scalars;
-  reads = reads_wider Means src m n puts.text (subst (λ z. ReadsPieces Means z n puts.text) e puts.reads);
+  reads = reads_wider Means src m n puts.text
+      (subst (λ z. ReadsPieces Means z n puts.text) e puts.reads);
   fits = puts.fits;
   written = puts.written;
 }
 
 -- the same by an equal meaning
-pub puts_same : {units_of : ℕ → List ℕ} {T : Type 0} (means : T → List ℕ → ℕ → Type 0) {a b : T} {before after : Output}
+pub puts_same : {units_of : ℕ → List ℕ} {T : Type 0} (means : T → List ℕ → ℕ → Type 0) {a b : T}
+    {before after : Output}
     {src : List ℕ} {n : ℕ}
     → a ≡ b
-    → PutsPieces units_of (means a) before after src n → PutsPieces units_of (means b) before after src n
+    → PutsPieces units_of (means a) before after src n
+    → PutsPieces units_of (means b) before after src n
 puts_same {units_of} means {before = before} {after = after} {src = src} {n = n} e p =
     subst (λ t. PutsPieces units_of (means t) before after src n) e p
 
@@ -229,7 +246,8 @@ EachMeansChar-weaker Means Other weaker [] mean = tt
 EachMeansChar-weaker Means Other weaker (p ∷ ps) mean =
     (weaker p.bytes p.char mean.0, EachMeansChar-weaker Means Other weaker ps mean.1)
 
-pub puts_as : (units_of : ℕ → List ℕ) (Means Other : List ℕ → ℕ → Type 0) (before after : Output) (src : List ℕ) (n : ℕ)
+pub puts_as : (units_of : ℕ → List ℕ) (Means Other : List ℕ → ℕ → Type 0) (before after : Output)
+    (src : List ℕ) (n : ℕ)
     → ((bytes : List ℕ) (c : ℕ) → Means bytes c → Other bytes c)
     → PutsPieces units_of Means before after src n → PutsPieces units_of Other before after src n
 puts_as units_of Means Other before after src n h puts =

@@ -51,13 +51,15 @@ little_units (suc n) (a ∷ b ∷ bs) e fit =
     let second_fits : b < 256 = fit.1.0.fits in
     ap (λ u. u ∷ digits_l 65536 n (number_l 256 (a ∷ b ∷ bs) / 65536))
     (low_two a b (number_l 256 bs) first_fits second_fits)
-    ∙ ap (λ z. (b * 256 + a) ∷ z) (ap (digits_l 65536 n) (after_two a b (number_l 256 bs) first_fits second_fits)
+    ∙ ap (λ z. (b * 256 + a) ∷ z)
+    (ap (digits_l 65536 n) (after_two a b (number_l 256 bs) first_fits second_fits)
     ∙ little_units n bs (omega arith) fit.1.1)
 
 abbrev swapped : ℕ → List ℕ → List ℕ
 swapped n us = zip2 add16 (zip2 shl16 us (replicate n 8)) (zip2 shr16 us (replicate n 8))
 
-swaps : (a b : ℕ) → a < 256 → b < 256 → add16 (shl16 (b * 256 + a) 8) (shr16 (b * 256 + a) 8) ≡ a * 256 + b
+swaps : (a b : ℕ) → a < 256 → b < 256
+    → add16 (shl16 (b * 256 + a) 8) (shr16 (b * 256 + a) 8) ≡ a * 256 + b
 swaps a b h k = omega arith
 
 swapped_units : (n : ℕ) (bytes : List ℕ) → length bytes ≡ n + n → Each1 (Fits w8) bytes
@@ -74,7 +76,8 @@ swapped_units (suc n) (a ∷ b ∷ bs) e fit =
 
 pub big_units : (n : ℕ) (bytes : List ℕ) → length bytes ≡ n + n → Each1 (Fits w8) bytes
     → swapped n (digits_l 65536 n (number_l 256 bytes)) ≡ units_of_bytes true bytes
-big_units n bytes two_each fit = ap (swapped n) (little_units n bytes two_each fit) ∙ swapped_units n bytes two_each fit
+big_units n bytes two_each fit = ap (swapped n) (little_units n bytes two_each fit)
+    ∙ swapped_units n bytes two_each fit
 
 -- the first surrogate
 
@@ -96,20 +99,24 @@ one_more u n us true h a =
 
 first_scalars : (us : List ℕ) → Each1 (Fits w16) us → AreScalars (take (before us) us)
 first_scalars [] fit = refl
-first_scalars (u ∷ us) fit = one_more u (before us) us (not (is_surrogate u)) (no_surrogate u fit.0.fits)
+first_scalars (u ∷ us) fit =
+    one_more u (before us) us (not (is_surrogate u)) (no_surrogate u fit.0.fits)
     (first_scalars us fit.1)
 
 module _ (us : List ℕ) (long : length us ≡ 8) (fits : Each1 (Fits w16) us) (mask : ℕ)
-    (is : mask ≡ mask_l (map (top 15) (zip2 (λ a b. cond (eqb a b) 65535 0) (zip2 shr16 us (replicate 8 11))
+    (is : mask ≡ mask_l (map (top 15)
+    (zip2 (λ a b. cond (eqb a b) 65535 0) (zip2 shr16 us (replicate 8 11))
     (replicate 8 27))) % 2 ^ 64) where
   shifted : zip2 shr16 us (replicate 8 11) ≡ map (λ u. shr16 u 11) us
   shifted = zip2_splat shr16 us 8 11 long
 
   marks : mask ≡ mask_l (map is_surrogate us)
   marks =
-      is ∙ bitmask_splat w16 eqb (zip2 shr16 us (replicate 8 11)) 8 27 (ap length shifted ∙ length-map us _ ∙ long)
+      is ∙ bitmask_splat w16 eqb (zip2 shr16 us (replicate 8 11)) 8 27
+      (ap length shifted ∙ length-map us _ ∙ long)
       (omega arith)
-      ∙ ap (λ z. mask_l (map (λ x. eqb x 27) z)) shifted ∙ ap mask_l (map-map (λ x. eqb x 27) (λ u. shr16 u 11) us)
+      ∙ ap (λ z. mask_l (map (λ x. eqb x 27) z)) shifted
+      ∙ ap mask_l (map-map (λ x. eqb x 27) (λ u. shr16 u 11) us)
 
   counted : cond (eqb mask 0) 8 (count_trailing_zeros 64 mask) ≡ before us
   counted = ap (λ m. cond (eqb m 0) 8 (count_trailing_zeros 64 m)) marks
@@ -117,7 +124,8 @@ module _ (us : List ℕ) (long : length us ≡ 8) (fits : Each1 (Fits w16) us) (
 
   pub all_before : mask ≡ 0 → AreScalars (take 8 us)
   all_before e =
-      let all : 8 ≡ before us = sym (ap (λ t. cond t 8 (count_trailing_zeros 64 mask)) (eq-eqb _ _ e)) ∙ counted in
+      let all : 8 ≡ before us =
+      sym (ap (λ t. cond t 8 (count_trailing_zeros 64 mask)) (eq-eqb _ _ e)) ∙ counted in
       subst (λ n. AreScalars (take n us)) (sym all) (first_scalars us fits)
 
   some_before : (mask ≡ 0 → ⊥) → count_trailing_zeros 64 mask ≡ before us
@@ -127,7 +135,8 @@ module _ (us : List ℕ) (long : length us ≡ 8) (fits : Each1 (Fits w16) us) (
   few_before e = omega (arith, some_before e, prefix_len-le-length (λ u. not (is_surrogate u)) us)
 
   pub scalars_before : (mask ≡ 0 → ⊥) → AreScalars (take (count_trailing_zeros 64 mask) us)
-  scalars_before e = subst (λ n. AreScalars (take n us)) (sym (some_before e)) (first_scalars us fits)
+  scalars_before e = subst (λ n. AreScalars (take n us)) (sym (some_before e))
+      (first_scalars us fits)
 
 -- two bytes of each, and the rest
 
@@ -170,12 +179,14 @@ three_is u middle h e = omega arith
 choice : (s t p q : Bool) (a b c x y : ℕ) → s ≡ p → t ≡ q → b ≡ x → c ≡ y
     → cond s a (cond t b c) ≡ cond p a (cond q x y)
 choice s t p q a b c x y e f g h =
-    ap (λ r. cond r a (cond t b c)) e ∙ ap (λ r. cond p a (cond r b c)) f ∙ ap (λ r. cond p a (cond q r c)) g
+    ap (λ r. cond r a (cond t b c)) e ∙ ap (λ r. cond p a (cond r b c)) f
+    ∙ ap (λ r. cond p a (cond q r c)) g
     ∙ ap (λ r. cond p a (cond q x r)) h
 
 front_is : (u : ℕ) → u < 65536 → front_lane u ≡ unit_word_low u
 front_is u fits_unit =
-    choice _ _ _ _ u _ _ _ _ (top_of (ltb u 128)) (top_of (ltb u 2048)) (two_is u (bit_and u 63) fits_unit (low_bits u))
+    choice _ _ _ _ u _ _ _ _ (top_of (ltb u 128)) (top_of (ltb u 2048))
+    (two_is u (bit_and u 63) fits_unit (low_bits u))
     (three_is u (bit_and (u / 64) 63) fits_unit (low_bits (u / 64)))
 
 each_front : (us : List ℕ) → Each1 (Fits w16) us → front_lanes (length us) us ≡ map unit_word_low us
@@ -183,15 +194,18 @@ each_front [] fit = refl
 each_front (u ∷ us) fit = ap (λ x. x ∷ front_lanes (length us) us) (front_is u fit.0.fits)
     ∙ ap (λ z. unit_word_low u ∷ z) (each_front us fit.1)
 
-pub fronts_are : (n : ℕ) (us : List ℕ) → length us ≡ n → Each1 (Fits w16) us → front_lanes n us ≡ map unit_word_low us
+pub fronts_are : (n : ℕ) (us : List ℕ) → length us ≡ n → Each1 (Fits w16) us
+    → front_lanes n us ≡ map unit_word_low us
 fronts_are n us e f = subst (λ k. front_lanes k us ≡ map unit_word_low us) e (each_front us f)
 
 abbrev rest_lanes : ℕ → List ℕ → List ℕ
 rest_lanes n us = picked n 128 us (replicate n 256)
-    (picked n 2048 us (replicate n 512) (zip2 add16 (zip2 bit_and us (replicate n 63)) (replicate n 896)))
+    (picked n 2048 us (replicate n 512)
+    (zip2 add16 (zip2 bit_and us (replicate n 63)) (replicate n 896)))
 
 abbrev rest_lane : ℕ → ℕ
-rest_lane u = cond (top 15 (lt16 u 128)) 256 (cond (top 15 (lt16 u 2048)) 512 (add16 (bit_and u 63) 896))
+rest_lane u = cond (top 15 (lt16 u 128)) 256
+    (cond (top 15 (lt16 u 2048)) 512 (add16 (bit_and u 63) 896))
 
 third_is : (u low : ℕ) → low ≡ u % 64 → add16 low 896 ≡ 896 + u % 64
 third_is u low e = omega arith
@@ -202,7 +216,8 @@ rest_is u = choice _ _ _ _ 256 512 _ 512 _ (top_of (ltb u 128)) (top_of (ltb u 2
 
 each_rest : (us : List ℕ) → rest_lanes (length us) us ≡ map unit_word_high us
 each_rest [] = refl
-each_rest (u ∷ us) = ap (λ x. x ∷ rest_lanes (length us) us) (rest_is u) ∙ ap (λ z. unit_word_high u ∷ z) (each_rest us)
+each_rest (u ∷ us) = ap (λ x. x ∷ rest_lanes (length us) us) (rest_is u)
+    ∙ ap (λ z. unit_word_high u ∷ z) (each_rest us)
 
 pub rests_are : (n : ℕ) (us : List ℕ) → length us ≡ n → rest_lanes n us ≡ map unit_word_high us
 rests_are n us e = subst (λ k. rest_lanes k us ≡ map unit_word_high us) e (each_rest us)
@@ -231,8 +246,10 @@ each_word (u ∷ us) fit =
     (joined (unit_word_low u) (unit_word_high u) (two_below u fit.0.fits) (rest_below u))
     ∙ ap (λ z. unit_word u ∷ z) (each_word us fit.1)
 
-pub words_are : (n : ℕ) (us fs rs : List ℕ) → length us ≡ n → Each1 (Fits w16) us → fs ≡ map unit_word_low us
+pub words_are : (n : ℕ) (us fs rs : List ℕ) → length us ≡ n → Each1 (Fits w16) us
+    → fs ≡ map unit_word_low us
     → rs ≡ map unit_word_high us → word_lanes n fs rs ≡ map unit_word us
 words_are n us fs rs e f p q =
     ap (λ z. word_lanes n z rs) p ∙ ap (word_lanes n (map unit_word_low us)) q
-    ∙ subst (λ k. word_lanes k (map unit_word_low us) (map unit_word_high us) ≡ map unit_word us) e (each_word us f)
+    ∙ subst (λ k. word_lanes k (map unit_word_low us) (map unit_word_high us) ≡ map unit_word us) e
+    (each_word us f)

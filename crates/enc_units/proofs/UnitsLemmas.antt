@@ -36,13 +36,15 @@ no_first : (a : ℕ) (x : List ℕ) → a ∷ x ≡ [] → ⊥
 no_first a x e = cc
 
 -- a character of one unit is none of the first units of a pair
-not_both : (c d : ℕ) → c < 0x1_0000 → 0x1_0000 ≤ d → IsScalar c → IsScalar d → c ≡ 0xD800 + (d - 0x1_0000) / 0x400 → ⊥
+not_both : (c d : ℕ) → c < 0x1_0000 → 0x1_0000 ≤ d → IsScalar c → IsScalar d
+    → c ≡ 0xD800 + (d - 0x1_0000) / 0x400 → ⊥
 not_both c d l m s r e = elim (scalar_range c s) [
   | inl h ↦ omega arith
   | inr h ↦ elim (scalar_range d r) [ inl k ↦ omega arith | inr k ↦ omega (arith, h.0, k.1) ]
 ]
 
-same_pair : (c d : ℕ) → 0x1_0000 ≤ c → 0x1_0000 ≤ d → 0xD800 + (c - 0x1_0000) / 0x400 ≡ 0xD800 + (d - 0x1_0000) / 0x400
+same_pair : (c d : ℕ) → 0x1_0000 ≤ c → 0x1_0000 ≤ d
+    → 0xD800 + (c - 0x1_0000) / 0x400 ≡ 0xD800 + (d - 0x1_0000) / 0x400
     → 0xDC00 + (c - 0x1_0000) % 0x400 ≡ 0xDC00 + (d - 0x1_0000) % 0x400 → c ≡ d
 same_pair c d l m e f = omega arith
 
@@ -51,7 +53,8 @@ one_same : (c d : ℕ) (x y : List ℕ) → IsScalar c → IsScalar d
 one_same c d x y scalar also_scalar same_units = elim (cases_lt c 0x1_0000) [
   | inl one_unit_c ↦ elim (cases_lt d 0x1_0000) [
     | inl m ↦
-        let same = sym (ap (λ z. z ++ x) (one_unit c one_unit_c)) ∙ same_units ∙ ap (λ z. z ++ y) (one_unit d m) in
+        let same = sym (ap (λ z. z ++ x) (one_unit c one_unit_c)) ∙ same_units
+        ∙ ap (λ z. z ++ y) (one_unit d m) in
         (first_same same, rest_same same)
     | inr two_units_d ↦
         let same = sym (ap (λ z. z ++ x) (one_unit c one_unit_c)) ∙ same_units
@@ -86,9 +89,11 @@ utf_16_determines (c ∷ t) [] s r e = absurd (no_units c _ e)
 utf_16_determines (c ∷ t) (d ∷ u) s r e =
     let scalar_parts = and_parts _ _ s in
     let other_parts = and_parts _ _ r in
-    let same_first = one_same c d (units_of_text encode_utf16 t) (units_of_text encode_utf16 u) scalar_parts.0
+    let same_first = one_same c d (units_of_text encode_utf16 t) (units_of_text encode_utf16 u)
+    scalar_parts.0
     other_parts.0 e in
-    ap (λ x. x ∷ t) same_first.0 ∙ ap (λ z. d ∷ z) (utf_16_determines t u scalar_parts.1 other_parts.1 same_first.1)
+    ap (λ x. x ∷ t) same_first.0
+    ∙ ap (λ z. d ∷ z) (utf_16_determines t u scalar_parts.1 other_parts.1 same_first.1)
 
 -- read back, they are the text
 
@@ -102,7 +107,8 @@ lossy-cons : (o : Option ℕ) (os : List (Option ℕ))
     → map (λ p. unwrap_or p 0xFFFD) (o ∷ os) ≡ unwrap_or o 0xFFFD ∷ map (λ p. unwrap_or p 0xFFFD) os
 lossy-cons o os = refl
 
-one_back : (c : ℕ) (us : List ℕ) → IsScalar c → utf16_lossy_chars (encode_utf16 c ++ us) ≡ c ∷ utf16_lossy_chars us
+one_back : (c : ℕ) (us : List ℕ) → IsScalar c
+    → utf16_lossy_chars (encode_utf16 c ++ us) ≡ c ∷ utf16_lossy_chars us
 one_back c us scalar = elim (cases_lt c 0x1_0000) [
   | inl one_unit_c ↦
       ap (λ z. utf16_lossy_chars (z ++ us)) (one_unit c one_unit_c)
@@ -124,11 +130,14 @@ one_back c us scalar = elim (cases_lt c 0x1_0000) [
 ]
   where
     back : (c : ℕ) → 0x1_0000 ≤ c
-        → surrogate_pair_char (0xD800 + (c - 0x1_0000) / 0x400) (0xDC00 + (c - 0x1_0000) % 0x400) ≡ c
+        → surrogate_pair_char (0xD800 + (c - 0x1_0000) / 0x400) (0xDC00 + (c - 0x1_0000) % 0x400)
+        ≡ c
     back c l = omega arith
 
-pub utf_16_read_back : (t : List ℕ) → AreScalars t → utf16_lossy_chars (units_of_text encode_utf16 t) ≡ t
+pub utf_16_read_back : (t : List ℕ) → AreScalars t
+    → utf16_lossy_chars (units_of_text encode_utf16 t) ≡ t
 utf_16_read_back [] s = ap (map (λ o. unwrap_or o 0xFFFD)) utf16_chars-nil
 utf_16_read_back (c ∷ t) s =
     let scalar_parts = and_parts _ _ s in
-    one_back c (units_of_text encode_utf16 t) scalar_parts.0 ∙ ap (λ z. c ∷ z) (utf_16_read_back t scalar_parts.1)
+    one_back c (units_of_text encode_utf16 t) scalar_parts.0
+    ∙ ap (λ z. c ∷ z) (utf_16_read_back t scalar_parts.1)

@@ -16,9 +16,11 @@ abbrev pub Any : List ℕ → Type 0
 Any us = Unit {0}
 
 low_unit : (u : ℕ) → u < 0x80 → lossy_unit_char u ≡ u
-low_unit u h = let low : (nat_le 0xD800 u && nat_lt u 0xE000) ≡ false = grind (arith, nat_tests) in rw low refl
+low_unit u h = let low : (nat_le 0xD800 u && nat_lt u 0xE000) ≡ false = grind (arith, nat_tests) in
+    rw low refl
 
-lossy_ascii : (us rest : List ℕ) → AreAscii us → utf16_lossy_chars (us ++ rest) ≡ us ++ utf16_lossy_chars rest
+lossy_ascii : (us rest : List ℕ) → AreAscii us
+    → utf16_lossy_chars (us ++ rest) ≡ us ++ utf16_lossy_chars rest
 lossy_ascii [] rest are_ascii = refl
 lossy_ascii (u ∷ us) rest are_ascii =
     let is_ascii = are_ascii 0 0 (omega arith) in
@@ -48,20 +50,24 @@ unit_lanes n m {us} lanes h few most e a =
     let ascii : AreAscii (take n us) = subst AreAscii (take-take n 16 us (omega arith)) (all_fewer
     (λ u. u < 0x80) n m (take 16 us) few a) in
     let same : take n lanes ≡ take n us =
-    ap (take n) e ∙ take_map n (take 16 us) ∙ ap (map (λ u. u % 0x80)) (take-take n 16 us (omega arith))
+    ap (take n) e ∙ take_map n (take 16 us)
+    ∙ ap (map (λ u. u % 0x80)) (take-take n 16 us (omega arith))
     ∙ low_bytes (take n us) ascii in
     let long : length (take n lanes) ≡ n = omega (arith, ap length same, length-take n us) in
     record {
       within = omega (arith, long);
       ok = tt;
-      chars = ap utf16_lossy_chars (sym (take-append-drop n us)) ∙ lossy_ascii (take n us) (drop n us) ascii
+      chars = ap utf16_lossy_chars (sym (take-append-drop n us))
+          ∙ lossy_ascii (take n us) (drop n us) ascii
           ∙ ap (λ z. z ++ utf16_lossy_chars (drop n us)) (sym same)
           ∙ ap (λ k. take n lanes ++ utf16_lossy_chars (drop k us)) (sym long);
     }
 
-pub low_lanes_long : (at : ℕ) (us lanes : List ℕ) → lanes ≡ map (λ u. u % 0x80) (take 16 (drop at us))
+pub low_lanes_long : (at : ℕ) (us lanes : List ℕ)
+    → lanes ≡ map (λ u. u % 0x80) (take 16 (drop at us))
     → at + 16 ≤ length us → length lanes ≡ 16
-low_lanes_long at us lanes e h = ap length e ∙ length-map (take 16 (drop at us)) (λ u. u % 0x80) ∙ sixteen at us h
+low_lanes_long at us lanes e h = ap length e ∙ length-map (take 16 (drop at us)) (λ u. u % 0x80)
+    ∙ sixteen at us h
 
 pub front_long : (n : ℕ) (lanes : List ℕ) → length lanes ≡ 16 → n ≤ 16 → length (take n lanes) ≡ n
 front_long n lanes e h = omega (arith, length-take n lanes)

@@ -28,7 +28,8 @@ their_units (c ∷ cs) = ap (λ x. encode_utf8 c ++ x) (their_units cs)
 
 they_mean : (cs : List ℕ) → all_scalars cs ≡ true → EachMeansChar IsUtf8Char (pieces_of cs)
 they_mean [] e = tt
-they_mean (c ∷ cs) e = let scalar_parts = and_parts _ _ e in ((scalar_parts.0, refl), they_mean cs scalar_parts.1)
+they_mean (c ∷ cs) e = let scalar_parts = and_parts _ _ e in
+    ((scalar_parts.0, refl), they_mean cs scalar_parts.1)
 
 none_of : (cs : List ℕ) → length (encode_utf8_all cs) ≡ 0 → pieces_of cs ≡ []
 none_of [] e = refl

@@ -48,8 +48,10 @@ pub top_flag : (t : Bool) → top 7 (flag t) ≡ t
 top_flag true = refl
 top_flag false = refl
 
-module _ (f : ℕ → ℕ → ℕ) (g : Bool → Bool → Bool) (e : (t u : Bool) → f (flag t) (flag u) ≡ flag (g t u)) where
-  joined : {t u : ℕ → Bool} {a b : List ℕ} → IsFlags a t → IsFlags b u → IsFlags (zip2 f a b) (λ k. g (t k) (u k))
+module _ (f : ℕ → ℕ → ℕ) (g : Bool → Bool → Bool)
+    (e : (t u : Bool) → f (flag t) (flag u) ≡ flag (g t u)) where
+  joined : {t u : ℕ → Bool} {a b : List ℕ} → IsFlags a t → IsFlags b u
+      → IsFlags (zip2 f a b) (λ k. g (t k) (u k))
   joined {t} {u} p q = record {
     is = zip2_of_maps f (λ k. flag (t k)) (λ k. flag (u k)) places p.is q.is
         ∙ ap (λ h. map h places) (λ i k. e (t k) (u k) i);
@@ -58,10 +60,12 @@ module _ (f : ℕ → ℕ → ℕ) (g : Bool → Bool → Bool) (e : (t u : Bool
 lanes : (vs : List ℕ) → length vs ≡ 16 → vs ≡ map (λ k. get_or vs k 0) places
 lanes vs long = sym (pick_l_whole 0 vs 16 long)
 
-pub either : {t u : ℕ → Bool} {a b : List ℕ} → IsFlags a t → IsFlags b u → IsFlags (zip2 bit_or a b) (λ k. t k || u k)
+pub either : {t u : ℕ → Bool} {a b : List ℕ} → IsFlags a t → IsFlags b u
+    → IsFlags (zip2 bit_or a b) (λ k. t k || u k)
 either = joined bit_or (λ t u. t || u) or_flag
 
-pub both : {t u : ℕ → Bool} {a b : List ℕ} → IsFlags a t → IsFlags b u → IsFlags (zip2 bit_and a b) (λ k. t k && u k)
+pub both : {t u : ℕ → Bool} {a b : List ℕ} → IsFlags a t → IsFlags b u
+    → IsFlags (zip2 bit_and a b) (λ k. t k && u k)
 both = joined bit_and (λ t u. t && u) and_flag
 
 pub unequal : {t u : ℕ → Bool} {a b : List ℕ} → IsFlags a t → IsFlags b u
@@ -95,7 +99,8 @@ chosen {t} {m} a b p =
     ∙ ap (λ (g : ℕ → ℕ). map g places) (λ i k. cond (top_flag (t k) i) a b)
 
 pub same_as : {t : ℕ → Bool} {m : List ℕ} (a b : ℕ) (vs : List ℕ) → length vs ≡ 16 → IsFlags m t
-    → IsFlags (zip2 (λ a b. flag (eqb a b)) vs (sel_l (map (top 7) m) (replicate 16 a) (replicate 16 b)))
+    → IsFlags (zip2 (λ a b. flag (eqb a b)) vs
+    (sel_l (map (top 7) m) (replicate 16 a) (replicate 16 b)))
     (λ k. eqb (get_or vs k 0) (cond (t k) a b))
 same_as {t} {m} a b vs long p =
     record {
@@ -104,7 +109,8 @@ same_as {t} {m} a b vs long p =
     }
 
 -- where no lane is set
-pub none_set : (m : List ℕ) (t : ℕ → Bool) → IsFlags m t → eqb (mask_l (map (top 7) m) % 2 ^ 64) 0 ≡ true → (k : ℕ)
+pub none_set : (m : List ℕ) (t : ℕ → Bool) → IsFlags m t
+    → eqb (mask_l (map (top 7) m) % 2 ^ 64) 0 ≡ true → (k : ℕ)
     → k < 16 → t k ≡ false
 none_set m t p e k h =
     let tops : map (top 7) m ≡ map t places =
@@ -126,7 +132,8 @@ flag_bit m t p k h =
     ∙ ap (λ (g : ℕ → Bool). map g places) (λ i j. top_flag (t j) i) in
     let lane : get_or (map t places) k false ≡ t k =
     get_or-map t places k 0 false (omega arith) ∙ ap t (get_or-range_with_len 0 16 k 0 h ∙ place) in
-    ap (λ l. mask_l l % 2 ^ 64 / 2 ^ k % 2) tops ∙ ap (λ x. x / 2 ^ k % 2) (mask_l-mod (map t places) 64 (omega arith))
+    ap (λ l. mask_l l % 2 ^ 64 / 2 ^ k % 2) tops
+    ∙ ap (λ x. x / 2 ^ k % 2) (mask_l-mod (map t places) 64 (omega arith))
     ∙ bit_mask_l (map t places) k ∙ ap (λ u. cond u 1 0) lane
   where
     place : 0 + k ≡ k
@@ -156,7 +163,8 @@ or_true false u e = e
 module _ (z y x b : ℕ) (e : wrong z y x b ≡ false) where
   parts : (((leb 0xC0 x || leb 0xE0 y) || leb 0xF0 z) ≡ (leb 0x80 b && ltb b 0xC0))
       × ((leb 0xC0 b && ltb b 0xC2) ≡ false) × (leb 0xF5 b ≡ false)
-      × (eqb x (cond (leb 0xA0 b) 0xED 0xE0) ≡ false) × (eqb x (cond (leb 0x90 b) 0xF4 0xF0) ≡ false)
+      × (eqb x (cond (leb 0xA0 b) 0xED 0xE0) ≡ false)
+      × (eqb x (cond (leb 0x90 b) 0xF4 0xF0) ≡ false)
   parts =
       let not_fourth = neither _ _ e in
       let not_third = neither _ _ not_fourth.0 in
@@ -173,7 +181,8 @@ module _ (z y x b : ℕ) (e : wrong z y x b ≡ false) where
     after_second = λ h. continues
         (sym parts.0
         ∙ ap (λ t. t || leb 0xF0 z) (or_true (leb 0xC0 x) (leb 0xE0 y) (le-leb 0xE0 y h)));
-    after_third = λ h. continues (sym parts.0 ∙ or_true (leb 0xC0 x || leb 0xE0 y) (leb 0xF0 z) (le-leb 0xF0 z h));
+    after_third = λ h. continues
+        (sym parts.0 ∙ or_true (leb 0xC0 x || leb 0xE0 y) (leb 0xF0 z) (le-leb 0xF0 z h));
     begins = λ f g h. let all_parts = parts in grind (arith, nat_tests);
     after_0xe0 = λ h. let fits_0xe0_and_0xed = parts.3 in grind (arith, nat_tests);
     after_0xed = λ h. let fits_0xe0_and_0xed = parts.3 in grind (arith, nat_tests);
@@ -183,7 +192,8 @@ module _ (z y x b : ℕ) (e : wrong z y x b ≡ false) where
 
 module _ (zs ys xs bs : List ℕ) (lz : length zs ≡ 16) (ly : length ys ≡ 16) (lx : length xs ≡ 16)
     (lb : length bs ≡ 16) where
-  abbrev flags : (m : List ℕ) × IsFlags m (λ k. wrong (get_or zs k 0) (get_or ys k 0) (get_or xs k 0) (get_or bs k 0))
+  abbrev flags : (m : List ℕ)
+      × IsFlags m (λ k. wrong (get_or zs k 0) (get_or ys k 0) (get_or xs k 0) (get_or bs k 0))
   flags = (
     _,
     either
@@ -191,7 +201,8 @@ module _ (zs ys xs bs : List ℕ) (lz : length zs ≡ 16) (ly : length ys ≡ 16
         (either (either (at_least 0xC0 xs lx) (at_least 0xE0 ys ly)) (at_least 0xF0 zs lz))
         (both (at_least 0x80 bs lb) (below 0xC0 bs lb)))
         (either (both (at_least 0xC0 bs lb) (below 0xC2 bs lb)) (at_least 0xF5 bs lb)))
-        (either (same_as 0xED 0xE0 xs lx (at_least 0xA0 bs lb)) (same_as 0xF4 0xF0 xs lx (at_least 0x90 bs lb))),
+        (either (same_as 0xED 0xE0 xs lx (at_least 0xA0 bs lb))
+        (same_as 0xF4 0xF0 xs lx (at_least 0x90 bs lb))),
   )
 
   pub lanes_follow : eqb (mask_l (map (top 7) flags.0) % 2 ^ 64) 0 ≡ true → (k : ℕ) → k < 16
@@ -208,13 +219,16 @@ along {z} {y} {x} {b} {z'} {y'} {x'} {b'} p q r s f =
     (subst (λ v. CanFollowBytes z' v x b) q (subst (λ v. CanFollowBytes v y x b) p f)))
 
 pub block_follows : (src : List ℕ) (at : ℕ)
-    → ((j : ℕ) → j < 16 → CanFollowBytes (get_or (chunk at 16 src) j 0) (get_or (chunk (at + 1) 16 src) j 0)
+    → ((j : ℕ) → j < 16 → CanFollowBytes (get_or (chunk at 16 src) j 0)
+    (get_or (chunk (at + 1) 16 src) j 0)
     (get_or (chunk (at + 2) 16 src) j 0) (get_or (chunk (at + 3) 16 src) j 0))
     → (k : ℕ) → at ≤ k → k < at + 16 → CanFollowBytesAt src k
 block_follows src at h k from to =
     let lane_number = k - at in
     let few : lane_number < 16 = omega arith in
-    let lane : (i m : ℕ) → i + lane_number ≡ m → get_or (chunk i 16 src) lane_number 0 ≡ get_or src m 0 =
+    let lane : (i m : ℕ) → i + lane_number ≡ m
+    → get_or (chunk i 16 src) lane_number 0 ≡ get_or src m 0 =
     λ i m e. get_or-chunk i 16 src lane_number 0 few ∙ ap (λ n. get_or src n 0) e in
     along (lane at k (omega arith)) (lane (at + 1) (suc k) (omega arith))
-    (lane (at + 2) (suc (suc k)) (omega arith)) (lane (at + 3) (suc (suc (suc k))) (omega arith)) (h lane_number few)
+    (lane (at + 2) (suc (suc k)) (omega arith)) (lane (at + 3) (suc (suc (suc k))) (omega arith))
+    (h lane_number few)

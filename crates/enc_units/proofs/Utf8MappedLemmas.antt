@@ -26,9 +26,16 @@ front bs utf8 h = by utf8.0 utf8.1.0 utf8.1.1
     by : (cs : List ℕ) → all_scalars cs ≡ true → encode_utf8_all cs ≡ bs → Front bs
     by [] s bytes_are = absurd (omega (arith, ap length bytes_are))
     by (c ∷ cs) s bytes_are =
-        record { c = c; rest = encode_utf8_all cs; is = sym bytes_are; scalar = (and_parts _ _ s).0 }
+        record {
+          c = c;
+          rest = encode_utf8_all cs;
+          is = sym bytes_are;
+          scalar =
+              (and_parts _ _ s).0;
+        }
 
-at_front : (bs : List ℕ) (c : ℕ) (rest code : List ℕ) → bs ≡ encode_utf8 c ++ rest → encode_utf8 c ≡ code
+at_front : (bs : List ℕ) (c : ℕ) (rest code : List ℕ) → bs ≡ encode_utf8 c ++ rest
+    → encode_utf8 c ≡ code
     → (i d : ℕ) → get_or bs i d ≡ get_or (code ++ rest) i d
 at_front bs c rest code e f i d = ap (λ x. get_or x i d) (e ∙ ap (λ x. x ++ rest) f)
 
@@ -42,7 +49,8 @@ first_is : (bs : List ℕ) (c : ℕ) (rest code : List ℕ) → IsUtf8 bs → bs
     → encode_utf8 c ≡ code → IsFirstUtf8Char bs c (length code)
 first_is bs c rest code utf8 is_front f =
     let is : bs ≡ code ++ rest = is_front ∙ ap (λ x. x ++ rest) f in
-    let after : drop (length code) bs ≡ rest = ap (drop (length code)) is ∙ drop-append_seam code rest in
+    let after : drop (length code) bs ≡ rest = ap (drop (length code)) is
+    ∙ drop-append_seam code rest in
     record {
       within = omega (arith, ap length is, length-append code rest);
       utf8 = subst IsUtf8 (sym after) (IsUtf8-past_char bs rest c utf8 is_front);
@@ -130,19 +138,25 @@ module _ (src : List ℕ) (at : ℕ) (utf8 : IsUtf8 (drop at src)) (h : at + 4 �
   all : Split d utf8
   all = split d utf8 (omega (arith, length-drop at src)) (omega (arith, at_first))
 
-  pub two_at : get_or src at 0 < 0xE0 → IsFirst d (get_or src at 0 % 32 * 64 + get_or src (at + 1) 0 % 64) 2
+  pub two_at : get_or src at 0 < 0xE0
+      → IsFirst d (get_or src at 0 % 32 * 64 + get_or src (at + 1) 0 % 64) 2
   two_at l =
       subst (λ x. IsFirst d (x % 32 * 64 + get_or src (at + 1) 0 % 64) 2) at_first
-      (subst (λ y. IsFirst d (get_or d 0 0 % 32 * 64 + y % 64) 2) (get_or-drop at src 1 0) (all.two (omega
+      (subst (λ y. IsFirst d (get_or d 0 0 % 32 * 64 + y % 64) 2) (get_or-drop at src 1 0)
+      (all.two (omega
       (arith, at_first))))
 
   pub three_at : 0xE0 ≤ get_or src at 0 → get_or src at 0 < 0xF0
-      → IsFirst d ((get_or src at 0 % 16 * 64 + get_or src (at + 1) 0 % 64) * 64 + get_or src (at + 2) 0 % 64) 3
+      → IsFirst d ((get_or src at 0 % 16 * 64 + get_or src (at + 1) 0 % 64) * 64
+      + get_or src (at + 2) 0 % 64) 3
   three_at l m =
-      subst (λ x. IsFirst d ((x % 16 * 64 + get_or src (at + 1) 0 % 64) * 64 + get_or src (at + 2) 0 % 64) 3) at_first
-      (subst (λ y. IsFirst d ((get_or d 0 0 % 16 * 64 + y % 64) * 64 + get_or src (at + 2) 0 % 64) 3)
+      subst (λ x. IsFirst d ((x % 16 * 64 + get_or src (at + 1) 0 % 64) * 64
+      + get_or src (at + 2) 0 % 64) 3) at_first
+      (subst (λ y. IsFirst d ((get_or d 0 0 % 16 * 64 + y % 64) * 64 + get_or src (at + 2) 0 % 64)
+      3)
       (get_or-drop at src 1 0)
-      (subst (λ z. IsFirst d ((get_or d 0 0 % 16 * 64 + get_or d 1 0 % 64) * 64 + z % 64) 3) (get_or-drop at src 2 0)
+      (subst (λ z. IsFirst d ((get_or d 0 0 % 16 * 64 + get_or d 1 0 % 64) * 64 + z % 64) 3)
+      (get_or-drop at src 2 0)
       (all.three (omega (arith, at_first)) (omega (arith, at_first)))))
 
   pub four_at : 0xF0 ≤ get_or src at 0
@@ -151,11 +165,14 @@ module _ (src : List ℕ) (at : ℕ) (utf8 : IsUtf8 (drop at src)) (h : at + 4 �
   four_at l =
       subst (λ x. IsFirst d (((x % 8 * 64 + get_or src (at + 1) 0 % 64) * 64 + get_or src
       (at + 2) 0 % 64) * 64 + get_or src (at + 3) 0 % 64) 4) at_first
-      (subst (λ y. IsFirst d (((get_or d 0 0 % 8 * 64 + y % 64) * 64 + get_or src (at + 2) 0 % 64) * 64 + get_or src
+      (subst (λ y. IsFirst d
+      (((get_or d 0 0 % 8 * 64 + y % 64) * 64 + get_or src (at + 2) 0 % 64) * 64 + get_or src
       (at + 3) 0 % 64) 4) (get_or-drop at src 1 0)
-      (subst (λ z. IsFirst d (((get_or d 0 0 % 8 * 64 + get_or d 1 0 % 64) * 64 + z % 64) * 64 + get_or src
+      (subst (λ z. IsFirst d
+      (((get_or d 0 0 % 8 * 64 + get_or d 1 0 % 64) * 64 + z % 64) * 64 + get_or src
       (at + 3) 0 % 64) 4) (get_or-drop at src 2 0)
-      (subst (λ w. IsFirst d (((get_or d 0 0 % 8 * 64 + get_or d 1 0 % 64) * 64 + get_or d 2 0 % 64) * 64 + w % 64)
+      (subst (λ w. IsFirst d
+      (((get_or d 0 0 % 8 * 64 + get_or d 1 0 % 64) * 64 + get_or d 2 0 % 64) * 64 + w % 64)
       4) (get_or-drop at src 3 0)
       (all.four (omega (arith, at_first))))))
 
@@ -165,21 +182,28 @@ ascii_first : (Means : List ℕ → ℕ → Type 0) (bs rest : List ℕ) → Are
     → IsUtf8 (bs ++ rest) → IsUtf8 rest × (chars (bs ++ rest) ≡ bs ++ chars rest)
 ascii_first Means [] rest written_alike utf8 = (utf8, refl)
 ascii_first Means (b ∷ bs) rest written_alike utf8 =
-    let is_front : b ∷ (bs ++ rest) ≡ encode_utf8 b ++ (bs ++ rest) = ap (λ x. x ++ (bs ++ rest)) (sym (encode_ascii b
+    let is_front : b ∷ (bs ++ rest) ≡ encode_utf8 b ++ (bs ++ rest) =
+    ap (λ x. x ++ (bs ++ rest)) (sym (encode_ascii b
     (written_alike 0 0 (omega arith)).0)) in
     let later = ascii_first Means bs rest (λ k d l. written_alike (suc k) d (omega arith))
     (IsUtf8-past_char (b ∷ (bs ++ rest))
-    (bs ++ rest) b utf8 is_front) in
-    (later.0, chars_past_char (b ∷ (bs ++ rest)) (bs ++ rest) b utf8 is_front ∙ ap (λ x. b ∷ x) later.1)
+    (bs ++ rest) b utf8 is_front) in (
+      later.0,
+      chars_past_char (b ∷ (bs ++ rest)) (bs ++ rest) b utf8 is_front
+          ∙ ap (λ x. b ∷ x) later.1,
+    )
 
 ascii_in_front : (Means : List ℕ → ℕ → Type 0) (n : ℕ) (bs : List ℕ) → IsUtf8 bs
-    → AreWrittenAsThemselves Means (take n bs) → IsUtf8 (drop n bs) × (chars bs ≡ take n bs ++ chars (drop n bs))
+    → AreWrittenAsThemselves Means (take n bs) → IsUtf8 (drop n bs)
+    × (chars bs ≡ take n bs ++ chars (drop n bs))
 ascii_in_front Means n bs u a =
-    let begins = ascii_first Means (take n bs) (drop n bs) a (subst IsUtf8 (sym (take-append-drop n bs)) u) in
+    let begins = ascii_first Means (take n bs) (drop n bs) a
+    (subst IsUtf8 (sym (take-append-drop n bs)) u) in
     (begins.0, ap chars (sym (take-append-drop n bs)) ∙ begins.1)
 
 -- the ASCII in front of sixteen lanes
-pub ascii_lanes : (Means : List ℕ → ℕ → Type 0) (n : ℕ) (bs lanes : List ℕ) → IsUtf8 bs → 16 ≤ length bs → n ≤ 16
+pub ascii_lanes : (Means : List ℕ → ℕ → Type 0) (n : ℕ) (bs lanes : List ℕ) → IsUtf8 bs
+    → 16 ≤ length bs → n ≤ 16
     → lanes ≡ take 16 bs → AreWrittenAsThemselves Means (take n lanes)
     → HasFront chars IsUtf8 bs (take n lanes)
 ascii_lanes Means n bs lanes u h few e a =

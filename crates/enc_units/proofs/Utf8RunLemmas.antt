@@ -25,7 +25,8 @@ unless a n f = elim (cases_eq a n) [ inl e ↦ inr (f e) | inr e ↦ inl e ]
 pub one : (a : ℕ) → a < 0x80 → IsWellFormedUtf8 (a ∷ [])
 one a h = of_one (a ∷ []) 0 (omega arith) h
 
-pub two : (a b : ℕ) → (0xC2 ≤ a) × (a < 0xE0) → (0x80 ≤ b) × (b < 0xC0) → IsWellFormedUtf8 (a ∷ b ∷ [])
+pub two : (a b : ℕ) → (0xC2 ≤ a) × (a < 0xE0) → (0x80 ≤ b) × (b < 0xC0)
+    → IsWellFormedUtf8 (a ∷ b ∷ [])
 two a b h f = of_two (a ∷ b ∷ []) 0 (omega arith) h f
 
 pub three : (a b c : ℕ) → (0xE0 ≤ a) × (a < 0xF0) → (0x80 ≤ b) × (b < 0xC0) → (a ≡ 0xE0 → 0xA0 ≤ b)
@@ -52,7 +53,8 @@ four a b c d h f e g j k =
 
 -- the bytes of several characters
 
-module _ (n : ℕ) (rest : (z y x : ℕ) (bs : List ℕ) → length bs ≤ n → AreBetween z y x → AllFollow z y x bs
+module _ (n : ℕ) (rest : (z y x : ℕ) (bs : List ℕ) → length bs ≤ n → AreBetween z y x
+    → AllFollow z y x bs
     → IsWellFormedUtf8 bs) where
   fourth : (y z a b c : ℕ) (bs : List ℕ) → length bs ≤ n → (0xF0 ≤ a) × (a ≤ 0xF4)
       → (0x80 ≤ b) × (b < 0xC0) → CanFollowBytes y z a b → (0x80 ≤ c) × (c < 0xC0)
@@ -62,7 +64,8 @@ module _ (n : ℕ) (rest : (z y x : ℕ) (bs : List ℕ) → length bs ≤ n →
       IsUtf8-append (a ∷ b ∷ c ∷ d ∷ []) bs
       (four a b c d leads_four f second_follows.after_0xf0 second_follows.after_0xf4 e
       (rest_follow.0.after_third leads_four.0))
-      (rest b c d bs (omega arith) (omega (arith, rest_follow.0.after_third leads_four.0)) rest_follow.1)
+      (rest b c d bs (omega arith) (omega (arith, rest_follow.0.after_third leads_four.0))
+      rest_follow.1)
 
   third : (y z a b : ℕ) (bs : List ℕ) → length bs ≤ n → (0xE0 ≤ a) × (a ≤ 0xF4)
       → (0x80 ≤ b) × (b < 0xC0) → CanFollowBytes y z a b → AllFollow z a b bs
@@ -72,9 +75,11 @@ module _ (n : ℕ) (rest : (z y x : ℕ) (bs : List ℕ) → length bs ≤ n →
       let continues_too = rest_follow.0.after_second leads_three.0 in
       elim (cases_lt a 0xF0) [
         | inl u ↦ IsUtf8-append (a ∷ b ∷ c ∷ []) bs
-            (three a b c (leads_three.0, u) continues second_follows.after_0xe0 second_follows.after_0xed
+            (three a b c (leads_three.0, u) continues second_follows.after_0xe0
+            second_follows.after_0xed
             continues_too) (rest a b c bs (omega arith) (omega arith) rest_follow.1)
-        | inr u ↦ fourth y z a b c bs (omega arith) (u, leads_three.1) continues second_follows continues_too
+        | inr u ↦ fourth y z a b c bs (omega arith) (u, leads_three.1) continues second_follows
+            continues_too
             rest_follow.1
       ]
 
@@ -89,15 +94,18 @@ module _ (n : ℕ) (rest : (z y x : ℕ) (bs : List ℕ) → length bs ≤ n →
         | inr u ↦ third y z a b bs (omega arith) (u, leads.1) continues rest_follow.0 rest_follow.1
       ]
 
-  first : (z y x : ℕ) (bs : List ℕ) → length bs ≤ suc n → AreBetween z y x → AllFollow z y x bs → IsWellFormedUtf8 bs
+  first : (z y x : ℕ) (bs : List ℕ) → length bs ≤ suc n → AreBetween z y x → AllFollow z y x bs
+      → IsWellFormedUtf8 bs
   first z y x [] l is_between rest_follow = IsUtf8-nil
   first z y x (a ∷ bs) l is_between rest_follow =
       elim (rest_follow.0.begins is_between.2 is_between.1 is_between.0) [
-        | inl u ↦ IsUtf8-append (a ∷ []) bs (one a u) (rest y x a bs (omega arith) (omega arith) rest_follow.1)
+        | inl u ↦ IsUtf8-append (a ∷ []) bs (one a u)
+            (rest y x a bs (omega arith) (omega arith) rest_follow.1)
         | inr u ↦ second y x a bs (omega arith) is_between.2 u rest_follow.1
       ]
 
-all_utf8 : (n z y x : ℕ) (bs : List ℕ) → length bs ≤ n → AreBetween z y x → AllFollow z y x bs → IsWellFormedUtf8 bs
+all_utf8 : (n z y x : ℕ) (bs : List ℕ) → length bs ≤ n → AreBetween z y x → AllFollow z y x bs
+    → IsWellFormedUtf8 bs
 all_utf8 zero z y x [] l h v = IsUtf8-nil
 all_utf8 zero z y x (b ∷ bs) l h v = absurd (omega arith)
 all_utf8 (suc n) z y x bs l h v = first n (all_utf8 n) z y x bs l h v
@@ -109,8 +117,11 @@ all_follow : (n z y x : ℕ) (bs : List ℕ) → n ≤ length bs
     → AllFollow z y x (take n bs)
 all_follow zero z y x bs l follow ends_char = ends_char
 all_follow (suc n) z y x [] l follow ends_char = absurd (omega arith)
-all_follow (suc n) z y x (b ∷ bs) l follow ends_char =
-    (follow 0 (omega arith), all_follow n y x b bs (omega arith) (λ k u. follow (suc k) (omega arith)) ends_char)
+all_follow (suc n) z y x (b ∷ bs) l follow ends_char = (
+  follow 0 (omega arith),
+  all_follow n y x b bs (omega arith)
+      (λ k u. follow (suc k) (omega arith)) ends_char,
+)
 
 pub blocks_utf8 : (n : ℕ) (src : List ℕ) → n + 3 ≤ length src → IsCharBoundaryAfter src 0
     → ((k : ℕ) → k < n → CanFollowBytesAt src k) → IsCharBoundaryAfter src n
@@ -119,11 +130,13 @@ blocks_utf8 n [] l b h e = absurd (omega arith)
 blocks_utf8 n (z ∷ []) l b h e = absurd (omega arith)
 blocks_utf8 n (z ∷ y ∷ []) l b h e = absurd (omega arith)
 blocks_utf8 n (z ∷ y ∷ x ∷ bs) l b h e =
-    all_utf8 (length (take n bs)) z y x (take n bs) (omega arith) b (all_follow n z y x bs (omega arith) h e)
+    all_utf8 (length (take n bs)) z y x (take n bs) (omega arith) b
+    (all_follow n z y x bs (omega arith) h e)
 
 -- the character in front
 
-pub one_front : (src : List ℕ) → 0 < length src → get_or src 0 0 < 0x80 → IsWellFormedUtf8 (take 1 src)
+pub one_front : (src : List ℕ) → 0 < length src → get_or src 0 0 < 0x80
+    → IsWellFormedUtf8 (take 1 src)
 one_front [] l h = absurd (omega arith)
 one_front (a ∷ bs) l h = one a h
 
@@ -188,7 +201,8 @@ module _ (src : List ℕ) (at n : ℕ) (l : at + 3 + n ≤ length src) (b : IsCh
       let place : at + 3 + (m - (at + 3)) ≡ m = omega arith in
       subst (λ v. v < 0x80)
       (get_or-chunk (at + 3) n src (m - (at + 3)) 0 (omega arith) ∙ ap (λ k. get_or src k 0) place)
-      (a (m - (at + 3)) 0 (omega (arith, length-take n (drop (at + 3) src), length-drop (at + 3) src)))
+      (a (m - (at + 3)) 0 (omega
+      (arith, length-take n (drop (at + 3) src), length-drop (at + 3) src)))
 
   between : (d : ℕ) → d < n → IsCharBoundaryAfter src (at + d)
   between zero h =

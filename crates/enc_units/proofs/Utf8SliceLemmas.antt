@@ -28,9 +28,11 @@ seam_drop m x y e = ap (λ k. drop k (x ++ y)) (sym e) ∙ drop-append_seam x y
 module _ (len n : ℕ) (dst src new : List ℕ) (borrow : GName) (within : len ≤ length dst)
     (read : n ≤ length src) (room : n ≤ length dst - len)
     (copied : new ≡ take n src ++ drop n (take (length dst - len) (drop len dst))) where
-  whole : put_mid len (length dst - len) dst new ≡ (take len dst ++ take n src) ++ drop n (drop len dst)
+  whole : put_mid len (length dst - len) dst new ≡ (take len dst ++ take n src)
+      ++ drop n (drop len dst)
   whole =
-      ap (λ x. take len dst ++ (new ++ x)) (drop_of_length-le (drop len dst) (omega (arith, length-drop len dst)))
+      ap (λ x. take len dst ++ (new ++ x))
+      (drop_of_length-le (drop len dst) (omega (arith, length-drop len dst)))
       ∙ ap (λ x. take len dst ++ x)
       (append-nil new ∙ copied
       ∙ ap (λ x. take n src ++ drop n x)
@@ -38,13 +40,20 @@ module _ (len n : ℕ) (dst src new : List ℕ) (borrow : GName) (within : len �
       ∙ sym (append_assoc (take len dst) (take n src) (drop n (drop len dst)))
 
   long : length (take len dst ++ take n src) ≡ len + n
-  long = omega (arith, length-append (take len dst) (take n src), length-take len dst, length-take n src)
+  long = omega (
+    arith,
+    length-append (take len dst) (take n src),
+    length-take len dst,
+    length-take n
+        src,
+  )
 
   -- the slice once bytes are copied after those written
   pub grown : slice_output (len + n) (put_mid len (length dst - len) dst new) borrow
       ≡ with_appended (slice_output len dst borrow) (take n src)
   grown = same_output borrow
-      (ap (take (len + n)) whole ∙ seam_take (len + n) (take len dst ++ take n src) (drop n (drop len dst)) long)
+      (ap (take (len + n)) whole
+      ∙ seam_take (len + n) (take len dst ++ take n src) (drop n (drop len dst)) long)
       (omega (
         arith,
         ap length whole,
@@ -59,11 +68,13 @@ module _ (len n : ℕ) (dst src new : List ℕ) (borrow : GName) (within : len �
       ∙ ap (λ m. drop m (drop len dst)) (omega (arith, length-take n src)))
 
 -- the same where as many bytes take the place of those there
-module _ (len n : ℕ) (dst ys : List ℕ) (borrow : GName) (within : len + n ≤ length dst) (as_many : length ys ≡ n) where
+module _ (len n : ℕ) (dst ys : List ℕ) (borrow : GName) (within : len + n ≤ length dst)
+    (as_many : length ys ≡ n) where
   put_whole : put_mid len (len + n - len) dst ys ≡ (take len dst ++ ys) ++ drop n (drop len dst)
   put_whole =
       let count : len + n - len ≡ n = omega arith in
-      ap (λ m. put_mid len m dst ys) count ∙ sym (append_assoc (take len dst) ys (drop n (drop len dst)))
+      ap (λ m. put_mid len m dst ys) count
+      ∙ sym (append_assoc (take len dst) ys (drop n (drop len dst)))
 
   put_long : length (take len dst ++ ys) ≡ len + n
   put_long = omega (arith, length-append (take len dst) ys, length-take len dst)
@@ -71,7 +82,8 @@ module _ (len n : ℕ) (dst ys : List ℕ) (borrow : GName) (within : len + n �
   pub grown_by : slice_output (len + n) (put_mid len (len + n - len) dst ys) borrow
       ≡ with_appended (slice_output len dst borrow) ys
   grown_by = same_output borrow
-      (ap (take (len + n)) put_whole ∙ seam_take (len + n) (take len dst ++ ys) (drop n (drop len dst)) put_long)
+      (ap (take (len + n)) put_whole
+      ∙ seam_take (len + n) (take len dst ++ ys) (drop n (drop len dst)) put_long)
       (omega (
         arith,
         ap length put_whole,

@@ -24,31 +24,40 @@ gives_one : (z a b w c : ℕ) → gives_unit z a ≡ true → code_unit_of_byte 
 gives_one z a b w c g e = ap (λ t. if_one t (code_unit_of_byte a b w)) g ∙ ap (λ x. x ∷ []) e
 
 gives_none : (z b u : ℕ) → z < 0xF0 → (0x80 ≤ b) × (b < 0xC0) → if_one (gives_unit z b) u ≡ []
-gives_none z b u h f = let none : gives_unit z b ≡ false = grind (arith, nat_tests) in ap (λ t. if_one t u) none
+gives_none z b u h f = let none : gives_unit z b ≡ false = grind (arith, nat_tests) in
+    ap (λ t. if_one t u) none
 
 of_two : (z w c : ℕ) → 0x80 ≤ c → c < 0x800
-    → if_one (gives_unit z (192 + c / 64)) (code_unit_of_byte (192 + c / 64) (128 + c % 64) w) ≡ c ∷ []
-of_two z w c l h = gives_one z (192 + c / 64) (128 + c % 64) w c (grind (arith, nat_tests)) (grind (arith, nat_tests))
+    → if_one (gives_unit z (192 + c / 64)) (code_unit_of_byte (192 + c / 64) (128 + c % 64) w) ≡ c
+    ∷ []
+of_two z w c l h = gives_one z (192 + c / 64) (128 + c % 64) w c (grind (arith, nat_tests))
+    (grind (arith, nat_tests))
 
 of_three : (z c : ℕ) → 0x800 ≤ c → c < 0x1_0000
-    → if_one (gives_unit z (224 + c / 4096)) (code_unit_of_byte (224 + c / 4096) (128 + c / 64 % 64) (128 + c % 64)) ≡ c
+    → if_one (gives_unit z (224 + c / 4096))
+    (code_unit_of_byte (224 + c / 4096) (128 + c / 64 % 64) (128 + c % 64)) ≡ c
     ∷ []
-of_three z c l h = gives_one z (224 + c / 4096) (128 + c / 64 % 64) (128 + c % 64) c (grind (arith, nat_tests))
+of_three z c l h = gives_one z (224 + c / 4096) (128 + c / 64 % 64) (128 + c % 64) c
+    (grind (arith, nat_tests))
     (grind (arith, nat_tests))
 
 of_four : (z c : ℕ) → 0x1_0000 ≤ c → c < 0x11_0000
     → if_one (gives_unit z (240 + c / 262144))
-    (code_unit_of_byte (240 + c / 262144) (128 + c / 4096 % 64) (128 + c / 64 % 64)) ≡ (0xD800 + (c - 0x1_0000) / 0x400)
+    (code_unit_of_byte (240 + c / 262144) (128 + c / 4096 % 64) (128 + c / 64 % 64))
+    ≡ (0xD800 + (c - 0x1_0000) / 0x400)
     ∷ []
 of_four z c l h =
-    gives_one z (240 + c / 262144) (128 + c / 4096 % 64) (128 + c / 64 % 64) (0xD800 + (c - 0x1_0000) / 0x400)
+    gives_one z (240 + c / 262144) (128 + c / 4096 % 64) (128 + c / 64 % 64)
+    (0xD800 + (c - 0x1_0000) / 0x400)
     (grind (arith, nat_tests)) (grind (arith, nat_tests))
 
 of_second : (z w c : ℕ) → 0xF0 ≤ z → 0x1_0000 ≤ c → c < 0x11_0000
-    → if_one (gives_unit z (128 + c / 64 % 64)) (code_unit_of_byte (128 + c / 64 % 64) (128 + c % 64) w)
+    → if_one (gives_unit z (128 + c / 64 % 64))
+    (code_unit_of_byte (128 + c / 64 % 64) (128 + c % 64) w)
     ≡ (0xDC00 + (c - 0x1_0000) % 0x400) ∷ []
 of_second z w c g l h =
-    gives_one z (128 + c / 64 % 64) (128 + c % 64) w (0xDC00 + (c - 0x1_0000) % 0x400) (grind (arith, nat_tests))
+    gives_one z (128 + c / 64 % 64) (128 + c % 64) w (0xDC00 + (c - 0x1_0000) % 0x400)
+    (grind (arith, nat_tests))
     (grind (arith, nat_tests))
 
 scalar_below : (c : ℕ) → IsScalar c → c < 0x11_0000
@@ -74,7 +83,8 @@ Gives src t =
     → Stand src at (units_of_text encode_utf8 t)
     → units_from src at (length (units_of_text encode_utf8 t)) ≡ units_of_text encode_utf16 t
 
-module _ (src : List ℕ) (c : ℕ) (t : List ℕ) (rest : Gives src t) (at : ℕ) (y : byte_two_before src at < 0xF0)
+module _ (src : List ℕ) (c : ℕ) (t : List ℕ) (rest : Gives src t) (at : ℕ)
+    (y : byte_two_before src at < 0xF0)
     (no_fourth : byte_two_before src (suc at) < 0xF0) where
   abbrev bytes : List ℕ
   bytes = units_of_text encode_utf8 t
@@ -91,29 +101,38 @@ module _ (src : List ℕ) (c : ℕ) (t : List ℕ) (rest : Gives src t) (at : �
 
   two_bytes : 0x80 ≤ c → c < 0x800 → Goal ((192 + c / 64) ∷ (128 + c % 64) ∷ []) (c ∷ [])
   two_bytes l h s =
-      let first : unit_at src at ≡ c ∷ [] = rw (s.0, s.1.0) (of_two (byte_two_before src at) _ c l h) in
+      let first : unit_at src at ≡ c ∷ [] =
+      rw (s.0, s.1.0) (of_two (byte_two_before src at) _ c l h) in
       let second : unit_at src (suc at) ≡ [] =
-      gives_none (byte_two_before src (suc at)) (get_or src (suc at) 0) _ no_fourth (omega (arith, s.1.0)) in
+      gives_none (byte_two_before src (suc at)) (get_or src (suc at) 0) _ no_fourth
+      (omega (arith, s.1.0)) in
       ap (λ z. z ++ (unit_at src (suc at) ++ units_from src (suc (suc at)) (length bytes))) first
       ∙ ap (λ z. c ∷ (z ++ units_from src (suc (suc at)) (length bytes))) second
       ∙ ap (λ z. c ∷ z) (rest (suc (suc at)) (omega (arith, s.0)) (omega (arith, s.1.0)) s.1.1)
 
-  three_bytes : 0x800 ≤ c → c < 0x1_0000 → Goal ((224 + c / 4096) ∷ (128 + c / 64 % 64) ∷ (128 + c % 64) ∷ []) (c ∷ [])
+  three_bytes : 0x800 ≤ c → c < 0x1_0000
+      → Goal ((224 + c / 4096) ∷ (128 + c / 64 % 64) ∷ (128 + c % 64) ∷ []) (c ∷ [])
   three_bytes l h s =
-      let first : unit_at src at ≡ c ∷ [] = rw (s.0, s.1.0, s.1.1.0) (of_three (byte_two_before src at) c l h) in
+      let first : unit_at src at ≡ c ∷ [] =
+      rw (s.0, s.1.0, s.1.1.0) (of_three (byte_two_before src at) c l h) in
       let second : unit_at src (suc at) ≡ [] =
-      gives_none (byte_two_before src (suc at)) (get_or src (suc at) 0) _ no_fourth (omega (arith, s.1.0)) in
+      gives_none (byte_two_before src (suc at)) (get_or src (suc at) 0) _ no_fourth
+      (omega (arith, s.1.0)) in
       let third : unit_at src (suc (suc at)) ≡ [] =
       gives_none (get_or src at 0) (get_or src (suc (suc at)) 0) _ (omega (arith, s.0))
       (omega (arith, s.1.1.0)) in
       ap (λ z. z ++ (unit_at src (suc at)
       ++ (unit_at src (suc (suc at)) ++ units_from src (suc (suc (suc at))) (length bytes)))) first
-      ∙ ap (λ z. c ∷ (z ++ (unit_at src (suc (suc at)) ++ units_from src (suc (suc (suc at))) (length bytes)))) second
+      ∙ ap
+      (λ z. c ∷ (z ++ (unit_at src (suc (suc at))
+      ++ units_from src (suc (suc (suc at))) (length bytes)))) second
       ∙ ap (λ z. c ∷ (z ++ units_from src (suc (suc (suc at))) (length bytes))) third
-      ∙ ap (λ z. c ∷ z) (rest (suc (suc (suc at))) (omega (arith, s.1.0)) (omega (arith, s.1.1.0)) s.1.1.1)
+      ∙ ap (λ z. c ∷ z) (rest (suc (suc (suc at))) (omega (arith, s.1.0)) (omega (arith, s.1.1.0))
+      s.1.1.1)
 
   four_bytes : 0x1_0000 ≤ c → c < 0x11_0000
-      → Goal ((240 + c / 262144) ∷ (128 + c / 4096 % 64) ∷ (128 + c / 64 % 64) ∷ (128 + c % 64) ∷ [])
+      → Goal ((240 + c / 262144) ∷ (128 + c / 4096 % 64) ∷ (128 + c / 64 % 64) ∷ (128 + c % 64)
+      ∷ [])
       ((0xD800 + (c - 0x1_0000) / 0x400) ∷ (0xDC00 + (c - 0x1_0000) % 0x400) ∷ [])
   four_bytes beyond_basic below_most s =
       let high = 0xD800 + (c - 0x1_0000) / 0x400 in
@@ -122,31 +141,37 @@ module _ (src : List ℕ) (c : ℕ) (t : List ℕ) (rest : Gives src t) (at : �
       let first : unit_at src at ≡ high ∷ [] =
       rw (s.0, s.1.0, s.1.1.0) (of_four (byte_two_before src at) c beyond_basic below_most) in
       let second : unit_at src (suc at) ≡ [] =
-      gives_none (byte_two_before src (suc at)) (get_or src (suc at) 0) _ no_fourth (omega (arith, s.1.0)) in
+      gives_none (byte_two_before src (suc at)) (get_or src (suc at) 0) _ no_fourth
+      (omega (arith, s.1.0)) in
       let third : unit_at src (suc (suc at)) ≡ low ∷ [] =
-      rw (s.1.1.0, s.1.1.1.0) (of_second (get_or src at 0) _ c (omega (arith, s.0)) beyond_basic below_most) in
+      rw (s.1.1.0, s.1.1.1.0)
+      (of_second (get_or src at 0) _ c (omega (arith, s.0)) beyond_basic below_most) in
       let fourth : unit_at src last ≡ [] =
       gives_none (get_or src (suc at) 0) (get_or src last 0) _ (omega (arith, s.1.0))
       (omega (arith, s.1.1.1.0)) in
       ap (λ z. z ++ (unit_at src (suc at)
-      ++ (unit_at src (suc (suc at)) ++ (unit_at src last ++ units_from src (suc last) (length bytes))))) first
+      ++ (unit_at src (suc (suc at))
+      ++ (unit_at src last ++ units_from src (suc last) (length bytes))))) first
       ∙ ap (λ z. high ∷ (z ++ (unit_at src (suc (suc at))
       ++ (unit_at src last ++ units_from src (suc last) (length bytes))))) second
       ∙ ap (λ z. high ∷ (z ++ (unit_at src last ++ units_from src (suc last) (length bytes)))) third
       ∙ ap (λ z. high ∷ low ∷ (z ++ units_from src (suc last) (length bytes))) fourth
-      ∙ ap (λ z. high ∷ low ∷ z) (rest (suc last) (omega (arith, s.1.1.0)) (omega (arith, s.1.1.1.0)) s.1.1.1.1)
+      ∙ ap (λ z. high ∷ low ∷ z)
+      (rest (suc last) (omega (arith, s.1.1.0)) (omega (arith, s.1.1.1.0)) s.1.1.1.1)
 
   along : {u v u' v' : List ℕ} → u ≡ u' → v ≡ v' → Goal u' v' → Goal u v
   along {u} {v} {u'} {v'} p q g = subst (λ z. Goal z v) (sym p) (subst (Goal u') (sym q) g)
 
   one_more : IsScalar c → Goal (encode_utf8 c) (encode_utf16 c)
   one_more i = elim (cases_lt c 0x80) [
-    | inl one_byte_char ↦ along (encode_ascii c one_byte_char) (one_unit c (omega arith)) (one_byte one_byte_char)
+    | inl one_byte_char ↦ along (encode_ascii c one_byte_char) (one_unit c (omega arith))
+        (one_byte one_byte_char)
     | inr two_or_more ↦ elim (cases_lt c 0x800) [
       | inl two_byte_char ↦ along (utf8_two c two_or_more two_byte_char) (one_unit c (omega arith))
           (two_bytes two_or_more two_byte_char)
       | inr three_or_more ↦ elim (cases_lt c 0x1_0000) [
-        | inl three_byte_char ↦ along (utf8_three c three_or_more three_byte_char) (one_unit c three_byte_char)
+        | inl three_byte_char ↦
+            along (utf8_three c three_or_more three_byte_char) (one_unit c three_byte_char)
             (three_bytes three_or_more three_byte_char)
         | inr four_byte_char ↦ along (utf8_four c four_byte_char) (two_units c four_byte_char)
             (four_bytes four_byte_char (scalar_below c i))
@@ -160,12 +185,14 @@ units_of_utf8 src (c ∷ t) a at y x s = let scalar_parts =
     and_parts _ _ a in one_more src c t (units_of_utf8 src t scalar_parts.1) at y x scalar_parts.0 s
 
 -- well-formed bytes in front are gathered as their code units
-pub gathers_units : (src : List ℕ) (n : ℕ) (after : List ℕ) → n ≤ length src → IsWellFormedUtf8 (take n src)
+pub gathers_units : (src : List ℕ) (n : ℕ) (after : List ℕ) → n ≤ length src
+    → IsWellFormedUtf8 (take n src)
     → after ≡ units_from src 0 n
     → GathersChars encode_utf16 IsUtf8Char src n [] after
 gathers_units src n after l utf8 e =
     let bytes : units_of_text encode_utf8 utf8.0 ≡ take n src = their_units utf8.0 ∙ utf8.1.1 in
-    let long : length (units_of_text encode_utf8 utf8.0) ≡ n = omega (arith, ap length bytes, length-take n src) in
+    let long : length (units_of_text encode_utf8 utf8.0) ≡ n =
+    omega (arith, ap length bytes, length-take n src) in
     record {
       text = utf8.0;
       scalars = utf8.1.0;

@@ -77,7 +77,8 @@ choices : (t : ℕ → Bool) (f g : ℕ → ℕ) (ks : List ℕ)
 choices t f g [] = refl
 choices t f g (k ∷ ks) = ap (λ z. cond (t k) (f k) (g k) ∷ z) (choices t f g ks)
 
-pub chosen_lanes : (t : ℕ → Bool) {f g : ℕ → ℕ} {m xs ys : List ℕ} → IsLanes m (λ k. wide_flag (t k)) → IsLanes xs f
+pub chosen_lanes : (t : ℕ → Bool) {f g : ℕ → ℕ} {m xs ys : List ℕ}
+    → IsLanes m (λ k. wide_flag (t k)) → IsLanes xs f
     → IsLanes ys g
     → IsLanes (sel_l (map (top 15) m) xs ys) (λ k. cond (t k) (f k) (g k))
 chosen_lanes t {f} {g} {m} {xs} {ys} p q r =
@@ -113,17 +114,24 @@ module _ (xs ys zs : List ℕ) (la : length xs ≡ 16) (lb : length ys ≡ 16) (
   abbrev twos : (m : List ℕ) × IsLanes m (λ k. two (get_or xs k 0) (get_or ys k 0))
   twos = (_, sum_lanes pairs.1 (splat_lanes 0xCF80))
 
-  abbrev threes : (m : List ℕ) × IsLanes m (λ k. three (get_or xs k 0) (get_or ys k 0) (get_or zs k 0))
-  threes = (_, sum_lanes (sum_lanes (product_lanes pairs.1 (splat_lanes 0x40)) (widened zs lc)) (splat_lanes 0xDF80))
+  abbrev threes : (m : List ℕ)
+      × IsLanes m (λ k. three (get_or xs k 0) (get_or ys k 0) (get_or zs k 0))
+  threes = (
+    _,
+    sum_lanes (sum_lanes (product_lanes pairs.1 (splat_lanes 0x40)) (widened zs lc))
+        (splat_lanes 0xDF80),
+  )
 
-  abbrev narrows : (m : List ℕ) × IsLanes m (λ k. narrow (get_or xs k 0) (get_or ys k 0) (get_or zs k 0))
+  abbrev narrows : (m : List ℕ)
+      × IsLanes m (λ k. narrow (get_or xs k 0) (get_or ys k 0) (get_or zs k 0))
   narrows = (
     _,
     chosen_lanes _ (below_lanes firsts (splat_lanes 0x80)) firsts
         (chosen_lanes _ (at_least_lanes (splat_lanes 0xE0) firsts) threes.1 twos.1),
   )
 
-  pub narrow_at : (k : ℕ) → k < 16 → get_or narrows.0 k 0 ≡ narrow (get_or xs k 0) (get_or ys k 0) (get_or zs k 0)
+  pub narrow_at : (k : ℕ) → k < 16
+      → get_or narrows.0 k 0 ≡ narrow (get_or xs k 0) (get_or ys k 0) (get_or zs k 0)
   narrow_at k h = lane_at narrows.1 k h
 
 pub narrow_unit : (a b c : ℕ) → a < 0xF0 → b < 0x100 → c < 0x100 → gives_unit 0 a ≡ true
@@ -147,11 +155,13 @@ module _ (xs ys zs : List ℕ) (la : length xs ≡ 16) (lb : length ys ≡ 16) (
   abbrev lows : (m : List ℕ) × IsLanes m (λ k. low (get_or xs k 0) (get_or ys k 0))
   lows = (
     _,
-    sum_lanes (and_lanes (sum_lanes (pairs xs ys zs la lb lc).1 (splat_lanes 0xFF80)) (splat_lanes 0x3FF))
+    sum_lanes (and_lanes (sum_lanes (pairs xs ys zs la lb lc).1 (splat_lanes 0xFF80))
+        (splat_lanes 0x3FF))
         (splat_lanes 0xDC00),
   )
 
-  abbrev fours : (m : List ℕ) × IsLanes m (λ k. four (get_or xs k 0) (get_or ys k 0) (get_or zs k 0))
+  abbrev fours : (m : List ℕ)
+      × IsLanes m (λ k. four (get_or xs k 0) (get_or ys k 0) (get_or zs k 0))
   fours = (
     _,
     sum_lanes
@@ -160,7 +170,8 @@ module _ (xs ys zs : List ℕ) (la : length xs ≡ 16) (lb : length ys ≡ 16) (
         (splat_lanes 0xE5B8),
   )
 
-  abbrev all : (m : List ℕ) × IsLanes m (λ k. any_unit (get_or xs k 0) (get_or ys k 0) (get_or zs k 0))
+  abbrev all : (m : List ℕ)
+      × IsLanes m (λ k. any_unit (get_or xs k 0) (get_or ys k 0) (get_or zs k 0))
   all =
       let first = firsts xs ys zs la lb lc in (
         _,
@@ -170,14 +181,17 @@ module _ (xs ys zs : List ℕ) (la : length xs ≡ 16) (lb : length ys ≡ 16) (
             (chosen_lanes _ (below_lanes first (splat_lanes 0x80)) first lows.1))),
       )
 
-  pub all_at : (k : ℕ) → k < 16 → get_or all.0 k 0 ≡ any_unit (get_or xs k 0) (get_or ys k 0) (get_or zs k 0)
+  pub all_at : (k : ℕ) → k < 16
+      → get_or all.0 k 0 ≡ any_unit (get_or xs k 0) (get_or ys k 0) (get_or zs k 0)
   all_at k h = lane_at all.1 k h
 
-low_is : (a b : ℕ) → 0x80 ≤ a → a < 0xC0 → b < 0x100 → low a b ≡ (a * 0x40 + b - 0x80) % 0x400 + 0xDC00
+low_is : (a b : ℕ) → 0x80 ≤ a → a < 0xC0 → b < 0x100
+    → low a b ≡ (a * 0x40 + b - 0x80) % 0x400 + 0xDC00
 low_is a b h l m =
     ap (λ x. (x + 0xDC00) % 0x1_0000) (and_mask ((pair a b + 0xFF80) % 0x1_0000) 10) ∙ omega arith
 
-pub all_units_are : (a b c : ℕ) → a < 0x100 → b < 0x100 → c < 0x100 → any_unit a b c ≡ code_unit_of_byte a b c
+pub all_units_are : (a b c : ℕ) → a < 0x100 → b < 0x100 → c < 0x100
+    → any_unit a b c ≡ code_unit_of_byte a b c
 all_units_are a b c la lb lc = elim (cases_lt a 0x80) [
   | inl h ↦ grind (arith, nat_tests)
   | inr h ↦ elim (cases_lt a 0xC0) [
@@ -186,13 +200,16 @@ all_units_are a b c la lb lc = elim (cases_lt a 0x80) [
   ]
 ]
 
-pub lane_bound : (xs : List ℕ) (k : ℕ) → (length xs ≡ 16) × Each1 (Fits w8) xs → k < 16 → get_or xs k 0 < 0x100
-lane_bound xs k sixteen_bytes h = (Each1-get_or (Fits w8) xs k 0 (omega (arith, sixteen_bytes.0)) sixteen_bytes.1).fits
+pub lane_bound : (xs : List ℕ) (k : ℕ) → (length xs ≡ 16) × Each1 (Fits w8) xs → k < 16
+    → get_or xs k 0 < 0x100
+lane_bound xs k sixteen_bytes h =
+    (Each1-get_or (Fits w8) xs k 0 (omega (arith, sixteen_bytes.0)) sixteen_bytes.1).fits
 
 -- tests of sixteen bytes
 
 pub narrow_lanes : (xs : List ℕ) → length xs ≡ 16
-    → eqb (mask_l (map (top 7) (zip2 (λ a b. cond (leb a b) 255 0) (replicate 16 0xF0) xs)) % 2 ^ 64) 0 ≡ true
+    → eqb (mask_l (map (top 7) (zip2 (λ a b. cond (leb a b) 255 0) (replicate 16 0xF0) xs)) % 2 ^
+    64) 0 ≡ true
     → (k : ℕ) → k < 16 → get_or xs k 0 < 0xF0
 narrow_lanes xs long e k h = leb-false _ _ (none_set _ _ (at_least 0xF0 xs long) e k h)
 
@@ -201,5 +218,6 @@ module _ (zs xs : List ℕ) (lz : length zs ≡ 16) (lx : length xs ≡ 16) wher
   giving = (_, either (either (below 0x80 xs lx) (at_least 0xC0 xs lx)) (at_least 0xF0 zs lz))
 
   pub mask_bit : (k : ℕ) → k < 16
-      → mask_l (map (top 7) giving.0) % 2 ^ 64 / 2 ^ k % 2 ≡ cond (gives_unit (get_or zs k 0) (get_or xs k 0)) 1 0
+      → mask_l (map (top 7) giving.0) % 2 ^ 64 / 2 ^ k % 2
+      ≡ cond (gives_unit (get_or zs k 0) (get_or xs k 0)) 1 0
   mask_bit k h = flag_bit giving.0 _ giving.1 k h

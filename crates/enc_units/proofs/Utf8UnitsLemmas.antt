@@ -21,7 +21,8 @@ use Rattle.enc_units.proofs.Utf8SliceLemmas.{seam_take, seam_drop}
 pub units_here : (src : List ℕ) (at k u : ℕ) → k < 16
     → u ≡ code_unit_of_byte (get_or (chunk at 16 src) k 0) (get_or (chunk (at + 1) 16 src) k 0)
     (get_or (chunk (at + 2) 16 src) k 0)
-    → u ≡ code_unit_of_byte (get_or src (at + k) 0) (get_or src (at + k + 1) 0) (get_or src (at + k + 2) 0)
+    → u ≡ code_unit_of_byte (get_or src (at + k) 0) (get_or src (at + k + 1) 0)
+    (get_or src (at + k + 2) 0)
 units_here src at k u h e =
     let lane : (i m : ℕ) → i + k ≡ m → get_or (chunk i 16 src) k 0 ≡ get_or src m 0 =
     λ i m p. get_or-chunk i 16 src k 0 h ∙ ap (λ n. get_or src n 0) p in
@@ -55,7 +56,8 @@ units_split src at zero b = rw (none, here) refl
 units_split src at (suc a) b =
     ap (units_from src at) more ∙ ap (λ z. unit_at src at ++ z)
     (units_split src (suc at) a b ∙ ap (λ i. units_from src (suc at) a ++ units_from src i b) place)
-    ∙ sym (append_assoc (unit_at src at) (units_from src (suc at) a) (units_from src (at + suc a) b))
+    ∙ sym (append_assoc (unit_at src at) (units_from src (suc at) a)
+    (units_from src (at + suc a) b))
   where
     more : suc a + b ≡ suc (a + b)
     more = omega arith
@@ -76,7 +78,12 @@ one_few src at = few_one (gives_unit (byte_two_before src at) (get_or src at 0))
 pub units_few : (src : List ℕ) (at n : ℕ) → length (units_from src at n) ≤ n
 units_few src at zero = omega arith
 units_few src at (suc n) =
-    omega (arith, length-append (unit_at src at) (units_from src (suc at) n), one_few src at, units_few src (suc at) n)
+    omega (
+      arith,
+      length-append (unit_at src at) (units_from src (suc at) n),
+      one_few src at,
+      units_few src (suc at) n,
+    )
 
 -- the code unit of an ASCII byte
 
@@ -85,7 +92,8 @@ low_unit z a b c h = rw (lt-ltb a 0x80 h) refl
 
 -- the units at the places that the bits of a mask mark
 
-one_marked : (t : Bool) (bit from u : ℕ) (units : List ℕ) → bit ≡ cond t 1 0 → (t ≡ true → get_or units from 0 ≡ u)
+one_marked : (t : Bool) (bit from u : ℕ) (units : List ℕ) → bit ≡ cond t 1 0
+    → (t ≡ true → get_or units from 0 ≡ u)
     → map (λ k. get_or units k 0) (if bit == 1 then from ∷ [] else []) ≡ if_one t u
 one_marked true bit from u units is_bit f =
     ap (λ b. map (λ k. get_or units k 0) (if b == 1 then from ∷ [] else [])) is_bit
@@ -95,9 +103,11 @@ one_marked false bit from u units is_bit f =
 
 pub marked_from : (src : List ℕ) (n at from marks : ℕ) (units : List ℕ)
     → ((k : ℕ) → k < n
-    → marks / 2 ^ k % 2 ≡ cond (gives_unit (byte_two_before src (at + k)) (get_or src (at + k) 0)) 1 0)
+    → marks / 2 ^ k % 2 ≡ cond (gives_unit (byte_two_before src (at + k)) (get_or src (at + k) 0)) 1
+    0)
     → ((k : ℕ) → k < n → gives_unit (byte_two_before src (at + k)) (get_or src (at + k) 0) ≡ true
-    → get_or units (from + k) 0 ≡ code_unit_of_byte (get_or src (at + k) 0) (get_or src (at + k + 1) 0)
+    → get_or units (from + k) 0
+    ≡ code_unit_of_byte (get_or src (at + k) 0) (get_or src (at + k + 1) 0)
     (get_or src (at + k + 2) 0))
     → map (λ k. get_or units k 0) (marked_places marks from n) ≡ units_from src at n
 marked_from src zero at from marks units mark_bits unit_values = refl
@@ -105,14 +115,17 @@ marked_from src (suc n) at from marks units mark_bits unit_values =
     map-append (λ k. get_or units k 0) (if marks % 2 == 1 then from ∷ [] else [])
     (marked_places (marks / 2) (suc from) n)
     ∙ ap (λ z. z ++ map (λ k. get_or units k 0) (marked_places (marks / 2) (suc from) n))
-    (one_marked (gives_unit (byte_two_before src at) (get_or src at 0)) (marks % 2) from _ units first_bit first_unit)
-    ∙ ap (λ z. unit_at src at ++ z) (marked_from src n (suc at) (suc from) (marks / 2) units rest_bits rest_units)
+    (one_marked (gives_unit (byte_two_before src at) (get_or src at 0)) (marks % 2) from _ units
+    first_bit first_unit)
+    ∙ ap (λ z. unit_at src at ++ z)
+    (marked_from src n (suc at) (suc from) (marks / 2) units rest_bits rest_units)
   where
     here : at + 0 ≡ at
     here = omega arith
 
     first_bit : marks % 2 ≡ cond (gives_unit (byte_two_before src at) (get_or src at 0)) 1 0
-    first_bit = whole ∙ subst (λ i. marks / 1 % 2 ≡ cond (gives_unit (byte_two_before src i) (get_or src i 0)) 1 0) here
+    first_bit = whole ∙ subst
+        (λ i. marks / 1 % 2 ≡ cond (gives_unit (byte_two_before src i) (get_or src i 0)) 1 0) here
         (mark_bits 0 (omega arith))
       where
         whole : marks % 2 ≡ marks / 1 % 2
@@ -126,7 +139,8 @@ marked_from src (suc n) at from marks units mark_bits unit_values =
         let second : at + 2 ≡ suc (suc at) = omega arith in
         let start : from ≡ from + 0 = omega arith in
         ap (λ i. get_or units i 0) start
-        ∙ unit_values 0 (omega arith) (ap (λ i. gives_unit (byte_two_before src i) (get_or src i 0)) here ∙ g)
+        ∙ unit_values 0 (omega arith)
+        (ap (λ i. gives_unit (byte_two_before src i) (get_or src i 0)) here ∙ g)
         ∙ rw (here, next, second) refl
 
     on : (k : ℕ) → at + suc k ≡ suc at + k
@@ -137,32 +151,40 @@ marked_from src (suc n) at from marks units mark_bits unit_values =
     rest_bits k h =
         let more : 1 + k ≡ suc k = omega arith in
         ap (λ x. x % 2) (shr-shr marks 1 k ∙ ap (λ i. marks / 2 ^ i) more)
-        ∙ subst (λ i. marks / 2 ^ suc k % 2 ≡ cond (gives_unit (byte_two_before src i) (get_or src i 0)) 1 0) (on k)
+        ∙ subst (λ i. marks / 2 ^ suc k % 2
+        ≡ cond (gives_unit (byte_two_before src i) (get_or src i 0)) 1 0) (on k)
         (mark_bits (suc k) (omega arith))
 
-    rest_units : (k : ℕ) → k < n → gives_unit (byte_two_before src (suc at + k)) (get_or src (suc at + k) 0) ≡ true
+    rest_units : (k : ℕ) → k < n
+        → gives_unit (byte_two_before src (suc at + k)) (get_or src (suc at + k) 0) ≡ true
         → get_or units (suc from + k) 0
-        ≡ code_unit_of_byte (get_or src (suc at + k) 0) (get_or src (suc at + k + 1) 0) (get_or src (suc at + k + 2) 0)
+        ≡ code_unit_of_byte (get_or src (suc at + k) 0) (get_or src (suc at + k + 1) 0)
+        (get_or src (suc at + k + 2) 0)
     rest_units k h g =
         let unit : suc from + k ≡ from + suc k = omega arith in
         ap (λ i. get_or units i 0) unit
-        ∙ unit_values (suc k) (omega arith) (ap (λ i. gives_unit (byte_two_before src i) (get_or src i 0)) (on k) ∙ g)
-        ∙ ap (λ i. code_unit_of_byte (get_or src i 0) (get_or src (i + 1) 0) (get_or src (i + 2) 0)) (on k)
+        ∙ unit_values (suc k) (omega arith)
+        (ap (λ i. gives_unit (byte_two_before src i) (get_or src i 0)) (on k) ∙ g)
+        ∙ ap (λ i. code_unit_of_byte (get_or src i 0) (get_or src (i + 1) 0) (get_or src (i + 2) 0))
+        (on k)
 
 -- sixteen lanes are eight and eight
 sixteen_from : (src : List ℕ) (at marks : ℕ) (units lower upper : List ℕ)
     → ((k : ℕ) → k < 16
-    → marks / 2 ^ k % 2 ≡ cond (gives_unit (byte_two_before src (at + k)) (get_or src (at + k) 0)) 1 0)
+    → marks / 2 ^ k % 2 ≡ cond (gives_unit (byte_two_before src (at + k)) (get_or src (at + k) 0)) 1
+    0)
     → ((k : ℕ) → k < 16 → gives_unit (byte_two_before src (at + k)) (get_or src (at + k) 0) ≡ true
     → get_or units k 0 ≡ code_unit_of_byte (get_or src (at + k) 0) (get_or src (at + k + 1) 0)
     (get_or src (at + k + 2) 0))
     → ((k : ℕ) → k < 8 → get_or lower k 0 ≡ get_or units k 0)
     → ((k : ℕ) → k < 8 → get_or upper k 0 ≡ get_or units (8 + k) 0)
-    → marked_code_units marks lower ++ marked_code_units (marks / 0x100) upper ≡ units_from src at 16
+    → marked_code_units marks lower ++ marked_code_units (marks / 0x100) upper
+    ≡ units_from src at 16
 sixteen_from src at marks units lower upper mark_bits unit_values l r =
     ap (λ z. z ++ marked_code_units (marks / 0x100) upper)
     (marked_from src 8 at 0 marks lower (λ k h. mark_bits k (omega arith)) first)
-    ∙ ap (λ z. units_from src at 8 ++ z) (marked_from src 8 (at + 8) 0 (marks / 0x100) upper bits second)
+    ∙ ap (λ z. units_from src at 8 ++ z)
+    (marked_from src 8 (at + 8) 0 (marks / 0x100) upper bits second)
     ∙ sym (units_split src at 8 8)
   where
     none : (k : ℕ) → 0 + k ≡ k
@@ -171,8 +193,10 @@ sixteen_from src at marks units lower upper mark_bits unit_values l r =
     on : (k : ℕ) → at + (8 + k) ≡ at + 8 + k
     on k = omega arith
 
-    first : (k : ℕ) → k < 8 → gives_unit (byte_two_before src (at + k)) (get_or src (at + k) 0) ≡ true
-        → get_or lower (0 + k) 0 ≡ code_unit_of_byte (get_or src (at + k) 0) (get_or src (at + k + 1) 0)
+    first : (k : ℕ) → k < 8
+        → gives_unit (byte_two_before src (at + k)) (get_or src (at + k) 0) ≡ true
+        → get_or lower (0 + k) 0
+        ≡ code_unit_of_byte (get_or src (at + k) 0) (get_or src (at + k + 1) 0)
         (get_or src (at + k + 2) 0)
     first k h g = ap (λ i. get_or lower i 0) (none k) ∙ l k h ∙ unit_values k (omega arith) g
 
@@ -180,16 +204,21 @@ sixteen_from src at marks units lower upper mark_bits unit_values l r =
         ≡ cond (gives_unit (byte_two_before src (at + 8 + k)) (get_or src (at + 8 + k) 0)) 1 0
     bits k h =
         ap (λ x. x % 2) (shr-shr marks 8 k)
-        ∙ subst (λ i. marks / 2 ^ (8 + k) % 2 ≡ cond (gives_unit (byte_two_before src i) (get_or src i 0)) 1 0) (on k)
+        ∙ subst (λ i. marks / 2 ^ (8 + k) % 2
+        ≡ cond (gives_unit (byte_two_before src i) (get_or src i 0)) 1 0) (on k)
         (mark_bits (8 + k) (omega arith))
 
-    second : (k : ℕ) → k < 8 → gives_unit (byte_two_before src (at + 8 + k)) (get_or src (at + 8 + k) 0) ≡ true
-        → get_or upper (0 + k) 0 ≡ code_unit_of_byte (get_or src (at + 8 + k) 0) (get_or src (at + 8 + k + 1) 0)
+    second : (k : ℕ) → k < 8
+        → gives_unit (byte_two_before src (at + 8 + k)) (get_or src (at + 8 + k) 0) ≡ true
+        → get_or upper (0 + k) 0
+        ≡ code_unit_of_byte (get_or src (at + 8 + k) 0) (get_or src (at + 8 + k + 1) 0)
         (get_or src (at + 8 + k + 2) 0)
     second k h g =
         ap (λ i. get_or upper i 0) (none k) ∙ r k h
-        ∙ unit_values (8 + k) (omega arith) (ap (λ i. gives_unit (byte_two_before src i) (get_or src i 0)) (on k) ∙ g)
-        ∙ ap (λ i. code_unit_of_byte (get_or src i 0) (get_or src (i + 1) 0) (get_or src (i + 2) 0)) (on k)
+        ∙ unit_values (8 + k) (omega arith)
+        (ap (λ i. gives_unit (byte_two_before src i) (get_or src i 0)) (on k) ∙ g)
+        ∙ ap (λ i. code_unit_of_byte (get_or src i 0) (get_or src (i + 1) 0) (get_or src (i + 2) 0))
+        (on k)
 
 -- lanes that are taken out
 
@@ -199,22 +228,26 @@ lower units = pick_l 0 (units ++ units) (range_with_len 0 8)
 abbrev upper : List ℕ → List ℕ
 upper units = pick_l 0 (units ++ units) (range_with_len 8 8)
 
-lower_at : (units : List ℕ) → length units ≡ 16 → (k : ℕ) → k < 8 → get_or (lower units) k 0 ≡ get_or units k 0
+lower_at : (units : List ℕ) → length units ≡ 16 → (k : ℕ) → k < 8
+    → get_or (lower units) k 0 ≡ get_or units k 0
 lower_at units long k h =
     let place : 0 + k ≡ k = omega arith in
     ap (λ z. get_or z k 0) (pick_l_left 0 units units 16 (range_with_len 0 8) long tt
     ∙ pick_l-range_with_len 0 units 0 8 (omega arith))
     ∙ get_or-chunk 0 8 units k 0 h ∙ ap (λ i. get_or units i 0) place
 
-upper_at : (units : List ℕ) → length units ≡ 16 → (k : ℕ) → k < 8 → get_or (upper units) k 0 ≡ get_or units (8 + k) 0
+upper_at : (units : List ℕ) → length units ≡ 16 → (k : ℕ) → k < 8
+    → get_or (upper units) k 0 ≡ get_or units (8 + k) 0
 upper_at units long k h =
     ap (λ z. get_or z k 0) (pick_l_left 0 units units 16 (range_with_len 8 8) long tt
     ∙ pick_l-range_with_len 0 units 8 8 (omega arith))
     ∙ get_or-chunk 8 8 units k 0 h
 
-pub stores_sixteen : (src : List ℕ) (at marks end middle after : ℕ) (units old one two : List ℕ) → length units ≡ 16
+pub stores_sixteen : (src : List ℕ) (at marks end middle after : ℕ) (units old one two : List ℕ)
+    → length units ≡ 16
     → ((k : ℕ) → k < 16
-    → marks / 2 ^ k % 2 ≡ cond (gives_unit (byte_two_before src (at + k)) (get_or src (at + k) 0)) 1 0)
+    → marks / 2 ^ k % 2 ≡ cond (gives_unit (byte_two_before src (at + k)) (get_or src (at + k) 0)) 1
+    0)
     → ((k : ℕ) → k < 16 → gives_unit (byte_two_before src (at + k)) (get_or src (at + k) 0) ≡ true
     → get_or units k 0 ≡ code_unit_of_byte (get_or src (at + k) 0) (get_or src (at + k + 1) 0)
     (get_or src (at + k + 2) 0))
@@ -226,7 +259,8 @@ stores_sixteen src at marks end middle after units old one two long b u e f =
     ∙ append_assoc (take end old) (marked_code_units marks (lower units))
     (marked_code_units (marks / 0x100) (upper units))
     ∙ ap (λ z. take end old ++ z)
-    (sixteen_from src at marks units (lower units) (upper units) b u (lower_at units long) (upper_at units long))
+    (sixteen_from src at marks units (lower units) (upper units) b u (lower_at units long)
+    (upper_at units long))
 
 -- where the lanes before are those of a load
 
@@ -235,15 +269,19 @@ module _ (src : List ℕ) (at : ℕ) (after : 2 ≤ at) where
       → ((k : ℕ) → k < 16 → marks / 2 ^ k % 2
       ≡ cond (gives_unit (get_or (chunk (at - 2) 16 src) k 0) (get_or (chunk at 16 src) k 0)) 1 0)
       → (k : ℕ) → k < 16
-      → marks / 2 ^ k % 2 ≡ cond (gives_unit (byte_two_before src (at + k)) (get_or src (at + k) 0)) 1 0
+      → marks / 2 ^ k % 2 ≡ cond (gives_unit (byte_two_before src (at + k)) (get_or src (at + k) 0))
+      1 0
   bits_here marks b k below_sixteen =
       b k below_sixteen ∙ ap (λ z. cond (gives_unit z (get_or (chunk at 16 src) k 0)) 1 0)
       (before_here src at k after below_sixteen)
-      ∙ ap (λ x. cond (gives_unit (byte_two_before src (at + k)) x) 1 0) (get_or-chunk at 16 src k 0 below_sixteen)
+      ∙ ap (λ x. cond (gives_unit (byte_two_before src (at + k)) x) 1 0)
+      (get_or-chunk at 16 src k 0 below_sixteen)
 
-  pub given_here : (k : ℕ) → k < 16 → gives_unit (byte_two_before src (at + k)) (get_or src (at + k) 0) ≡ true
+  pub given_here : (k : ℕ) → k < 16
+      → gives_unit (byte_two_before src (at + k)) (get_or src (at + k) 0) ≡ true
       → gives_unit (get_or (chunk (at - 2) 16 src) k 0) (get_or src (at + k) 0) ≡ true
-  given_here k h g = ap (λ z. gives_unit z (get_or src (at + k) 0)) (before_here src at k after h) ∙ g
+  given_here k h g = ap (λ z. gives_unit z (get_or src (at + k) 0)) (before_here src at k after h)
+      ∙ g
 
 pub same_bytes : (bs : List ℕ) → map (λ b. b) bs ≡ bs
 same_bytes [] = refl
@@ -262,14 +300,16 @@ stored_at (suc n) unit (x ∷ xs) h = ap (λ k. take k (x ∷ set xs n unit)) ne
     next : suc n + 1 ≡ suc (n + 1)
     next = omega arith
 
-pub stores_one : (end unit : ℕ) (old : List ℕ) (t : Bool) (u : ℕ) → end < length old → t ≡ true → unit ≡ u
+pub stores_one : (end unit : ℕ) (old : List ℕ) (t : Bool) (u : ℕ) → end < length old → t ≡ true
+    → unit ≡ u
     → take (end + 1) (set old end unit) ≡ take end old ++ if_one t u
 stores_one end unit old t u h e f = stored_at end unit old h ∙ ap (λ x. take end old ++ x ∷ []) f
     ∙ ap (λ b. take end old ++ if_one b u) (sym e)
 
 pub next_bytes : (src : List ℕ) (at unit : ℕ)
     → unit ≡ code_unit_of_byte (get_or src at 0) (get_or src (at + 1) 0) (get_or src (at + 2) 0)
-    → unit ≡ code_unit_of_byte (get_or src at 0) (get_or src (suc at) 0) (get_or src (suc (suc at)) 0)
+    → unit ≡ code_unit_of_byte (get_or src at 0) (get_or src (suc at) 0)
+    (get_or src (suc (suc at)) 0)
 next_bytes src at unit e =
     let next : at + 1 ≡ suc at = omega arith in
     let second : at + 2 ≡ suc (suc at) = omega arith in
@@ -281,7 +321,8 @@ stores_none old t u e = sym (ap (λ b. old ++ if_one b u) e ∙ append-nil old)
 -- more bytes, gathered after those from `from` on
 pub gathered_more : (src : List ℕ) (from at n end after : ℕ) (old new : List ℕ) → from ≤ at
     → take end old ≡ units_from src from (at - from)
-    → take after new ≡ take end old ++ units_from src at n → take after new ≡ units_from src from (at + n - from)
+    → take after new ≡ take end old ++ units_from src at n
+    → take after new ≡ units_from src from (at + n - from)
 gathered_more src from at n end after old new h e f =
     let place : from + (at - from) ≡ at = omega arith in
     let count : at - from + n ≡ at + n - from = omega arith in
@@ -291,9 +332,11 @@ gathered_more src from at n end after old new h e f =
 
 -- units are written after those before them
 
-module _ (src : List ℕ) (read next written n : ℕ) (dst first ys : List ℕ) (room : written + n ≤ length dst)
+module _ (src : List ℕ) (read next written n : ℕ) (dst first ys : List ℕ)
+    (room : written + n ≤ length dst)
     (as_many : length ys ≡ n) (on : read ≤ next)
-    (count : written ≡ length (units_from src 0 read)) (front : take written dst ≡ units_from src 0 read)
+    (count : written ≡ length (units_from src 0 read))
+    (front : take written dst ≡ units_from src 0 read)
     (rest : drop written dst ≡ drop written first)
     (more : ys ≡ units_from src read (next - read)) where
   abbrev put : List ℕ
@@ -302,7 +345,8 @@ module _ (src : List ℕ) (read next written n : ℕ) (dst first ys : List ℕ) 
   put_is : put ≡ (take written dst ++ ys) ++ drop n (drop written dst)
   put_is =
       let many : written + n - written ≡ n = omega arith in
-      ap (λ m. put_mid written m dst ys) many ∙ sym (append_assoc (take written dst) ys (drop n (drop written dst)))
+      ap (λ m. put_mid written m dst ys) many
+      ∙ sym (append_assoc (take written dst) ys (drop n (drop written dst)))
 
   front_long : length (take written dst ++ ys) ≡ written + n
   front_long = omega (arith, length-append (take written dst) ys, length-take written dst)
@@ -332,7 +376,8 @@ module _ (src : List ℕ) (read next written n : ℕ) (dst first ys : List ℕ) 
 
   pub writes_more : take (written + n) put ≡ units_from src 0 next
   writes_more = ap (take (written + n)) put_is
-      ∙ seam_take (written + n) (take written dst ++ ys) (drop n (drop written dst)) front_long ∙ units_are
+      ∙ seam_take (written + n) (take written dst ++ ys) (drop n (drop written dst)) front_long
+      ∙ units_are
 
   pub writes_rest : drop (written + n) put ≡ drop (written + n) first
   writes_rest =

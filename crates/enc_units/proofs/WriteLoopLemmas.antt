@@ -14,14 +14,17 @@ rest_long at src h = omega (arith, length-drop at src)
 pub sixteen : (at : ℕ) (src : List ℕ) → at + 16 ≤ length src → length (take 16 (drop at src)) ≡ 16
 sixteen at src h = omega (arith, length-take 16 (drop at src), length-drop at src)
 
-pub lanes_long : (n at : ℕ) (src : List ℕ) → at + 16 ≤ length src → n ≤ 16 → length (take n (take 16 (drop at src))) ≡ n
+pub lanes_long : (n at : ℕ) (src : List ℕ) → at + 16 ≤ length src → n ≤ 16
+    → length (take n (take 16 (drop at src))) ≡ n
 lanes_long n at src h l = omega (arith, length-take n (take 16 (drop at src)), sixteen at src h)
 
--- code units begin with units that are characters by themselves, and those after them are well-formed
-pub record HasFront (chars_in : List ℕ → List ℕ) (Ok : List ℕ → Type 0) (us bs : List ℕ) : Type 0 where
-  pub within : length bs ≤ length us
-  pub ok : Ok (drop (length bs) us)
-  pub chars : chars_in us ≡ bs ++ chars_in (drop (length bs) us)
+-- code units begin with units that are characters by themselves, and those after them are
+-- well-formed
+pub record HasFront (chars_in : List ℕ → List ℕ) (Ok : List ℕ → Type 0) (us bs : List ℕ) : Type 0
+  where
+    pub within : length bs ≤ length us
+    pub ok : Ok (drop (length bs) us)
+    pub chars : chars_in us ≡ bs ++ chars_in (drop (length bs) us)
 
 module _ (chars_in : List ℕ → List ℕ) (Ok : List ℕ → Type 0) (Means : List ℕ → ℕ
     → Type 0) (src first : List ℕ) (from : ℕ) where
@@ -32,10 +35,12 @@ module _ (chars_in : List ℕ → List ℕ) (Ok : List ℕ → Type 0) (Means : 
     pub long : length dst ≡ length first
     pub room : at ≤ length dst
     pub ok : Ok (drop read src)
-    pub writes : WritesMapped Means (chars_in src) (chars_in (drop read src)) first dst from (at - from)
+    pub writes : WritesMapped Means (chars_in src) (chars_in (drop read src)) first dst from
+        (at - from)
 
 -- what follows when that is so
-module _ {chars_in : List ℕ → List ℕ} {Ok : List ℕ → Type 0} {Means : List ℕ → ℕ → Type 0} {src first dst : List ℕ}
+module _ {chars_in : List ℕ → List ℕ} {Ok : List ℕ → Type 0} {Means : List ℕ → ℕ → Type 0}
+    {src first dst : List ℕ}
     {from read at : ℕ} (written : Written chars_in Ok Means src first from dst read at) where
   abbrev IsWritten : List ℕ → ℕ → ℕ → Type 0
   IsWritten = Written chars_in Ok Means src first from
@@ -71,30 +76,35 @@ module _ {chars_in : List ℕ → List ℕ} {Ok : List ℕ → Type 0} {Means : 
       let after : drop (length bs) rest ≡ drop (read + n) src =
       ap (λ k. drop k rest) as_long ∙ drop-drop n read src in
       further dst' n n
-      (omega (arith, written.within, begins.within, length-drop read src, as_long)) (subst Ok after begins.ok)
+      (omega (arith, written.within, begins.within, length-drop read src, as_long))
+      (subst Ok after begins.ok)
       (maps_ascii Means (chars_in rest) (chars_in (drop (read + n) src)) dst dst' at n bs a
       (begins.chars ∙ ap (λ x. bs ++ chars_in x) after) (sym as_long) l o)
 
   -- with sixteen lanes of ASCII
   pub whole_further : (lanes : List ℕ) {n : ℕ} → length lanes ≡ 16 → n ≡ 16
       → at + 16 ≤ length dst
-      → HasFront chars_in Ok (drop read src) (take n lanes) → AreWrittenAsThemselves Means (take n lanes)
+      → HasFront chars_in Ok (drop read src) (take n lanes)
+      → AreWrittenAsThemselves Means (take n lanes)
       → IsWritten (put_chunk at dst lanes) (read + 16) (at + 16)
   whole_further lanes {n = n} long e fits f a =
       let all : take n lanes ≡ lanes = take_all n lanes (omega arith) in
       ascii_further long fits (subst (HasFront chars_in Ok
       (drop read src)) all f) (subst (AreWrittenAsThemselves Means) all a)
-      (stored_whole at dst lanes fits long ∙ ap (λ z. take at dst ++ (z ++ drop (at + 16) dst)) (take_all 16 lanes
+      (stored_whole at dst lanes fits long
+      ∙ ap (λ z. take at dst ++ (z ++ drop (at + 16) dst)) (take_all 16 lanes
       (omega (arith, long))))
 
   -- with the bytes of one character
   pub one_further : (bytes : List ℕ) (n : ℕ) {dst' : List ℕ} {c k : ℕ} → n ≤ length (drop read src)
       → Ok (drop n (drop read src))
-      → chars_in (drop read src) ≡ c ∷ chars_in (drop n (drop read src)) → Means bytes c → k ≡ length bytes
+      → chars_in (drop read src) ≡ c ∷ chars_in (drop n (drop read src)) → Means bytes c
+      → k ≡ length bytes
       → at + k ≤ length dst
       → dst' ≡ take at dst ++ (bytes ++ drop (at + k) dst) → IsWritten dst' (read + n) (at + k)
   one_further bytes n {dst' = dst'} {c = c} {k = k} w u f m e l o =
       let after = drop-drop n read src in
       further dst' n k (omega (arith, written.within, w, length-drop read src)) (subst Ok after u)
-      (maps_one Means (chars_in (drop read src)) (chars_in (drop (read + n) src)) dst dst' at k c bytes (f
+      (maps_one Means (chars_in (drop read src)) (chars_in (drop (read + n) src)) dst dst' at k c
+      bytes (f
       ∙ ap (λ x. c ∷ chars_in x) after) m e l o)

@@ -8,8 +8,8 @@ use Rattle.enc_units.specs.declared.ends.TheConstants.{ENDS}
 abbrev pub byte_or_pair : Bool → ℕ → ℕ → List ℕ
 byte_or_pair is_pair first second = if is_pair then first ∷ second ∷ [] else first ∷ []
 
--- These bytes are a character. The word has its UTF-8: the bytes, the first lowest, and their number in the highest
--- byte.
+-- These bytes are a character. The word has its UTF-8: the bytes, the first lowest, and their
+-- number in the highest byte.
 pub record MeansWord (Means : List ℕ → ℕ → Type 0) (bytes : List ℕ) (word : ℕ) : Type 0 where
   pub char : ℕ
   pub scalar : IsScalar char

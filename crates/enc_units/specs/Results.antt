@@ -1,4 +1,5 @@
--- Which result of a call without replacement is the same stop as a result of a call with replacement.
+-- Which result of a call without replacement is the same stop as a result of a call with
+-- replacement.
 use Rattle.enc_units.specs.declared.coder_result.CoderResult.{CoderResult}
 use Rattle.enc_units.specs.declared.coder_result.CoderResult.TheVariants.{InputEmpty, OutputFull}
 use Rattle.enc_units.specs.declared.decoder_result.DecoderResult.{DecoderResult}

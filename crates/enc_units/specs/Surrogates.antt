@@ -1,4 +1,5 @@
--- Code units of UTF-16, in which a surrogate without its partner is U+FFFD (Unicode Standard 3.9, D91).
+-- Code units of UTF-16, in which a surrogate without its partner is U+FFFD (Unicode Standard 3.9,
+-- D91).
 use Rattle.std.specs.Prelude.{◌≡◌, ℕ, ◌≤◌, ◌<◌, List, ◌∷◌, length, drop}
 use Rattle.std.specs.Char.Escape.{encode_utf16}
 use Rattle.std.specs.Char.Utf16.{lone_unit_char, utf16_lossy_chars}

@@ -9,4 +9,6 @@ use Rattle.enc_stream.specs.Encodings.{rule_or_utf_8, output_rule}
 
 pub unmappable_if_in : (b : List ℕ) (e : Encoding) (c : ℕ) → are_beyond_ascii b ≡ true
     → (output_rule b e).bytes c ≡ (if contains_char b c then None else (output_rule [] e).bytes c)
-unmappable_if_in b e c h = ap (λ t. if t then None else (rule_or_utf_8 (encoder_rule (codec_by_id e.id))).bytes c) (barred_is b c h)
+unmappable_if_in b e c h =
+    ap (λ t. if t then None else (rule_or_utf_8 (encoder_rule (codec_by_id e.id))).bytes c)
+    (barred_is b c h)

@@ -26,29 +26,38 @@ use Rattle.enc_stream.proofs.MarkFirstLemmas.{found_fits, undetermined, by_rule,
 
 -- by the kind of the sequence
 
-looks_not : (rule : Rule) (set b : ℕ) (z : List ℕ) (n : ℕ) → AreBytes z → IsLookahead rule set b z n → IsDeterminedWithin rule set b z 0 → n ≡ 0
-looks_not rule set b z n a l t = let none_more = no_more_than rule set b z n 0 a l t in omega (arith, none_more)
+looks_not : (rule : Rule) (set b : ℕ) (z : List ℕ) (n : ℕ) → AreBytes z → IsLookahead rule set b z n
+    → IsDeterminedWithin rule set b z 0 → n ≡ 0
+looks_not rule set b z n a l t = let none_more = no_more_than rule set b z n 0 a l t in
+    omega (arith, none_more)
 
-some_more : (rule : Rule) (set b : ℕ) (z : List ℕ) (n : ℕ) → IsLookahead rule set b z n → (IsDeterminedWithin rule set b z 0 → ⊥) → 1 ≤ n
+some_more : (rule : Rule) (set b : ℕ) (z : List ℕ) (n : ℕ) → IsLookahead rule set b z n
+    → (IsDeterminedWithin rule set b z 0 → ⊥) → 1 ≤ n
 some_more rule set b z zero l f = absurd (f l.determined)
 some_more rule set b z (suc n) l f = omega arith
 
-pub may_look : (e : Encoding) (set b : ℕ) (z : List ℕ) (n : ℕ) → AreBytes z → IsLookahead (rule_of e) set b z n → (kind : Kind) → (rule_of e set b z).kind ≡ kind → MayLook e kind n
+pub may_look : (e : Encoding) (set b : ℕ) (z : List ℕ) (n : ℕ) → AreBytes z
+    → IsLookahead (rule_of e) set b z n → (kind : Kind) → (rule_of e set b z).kind ≡ kind
+    → MayLook e kind n
 may_look e set b z n are_bytes is_lookahead Valid k =
     looks_not (rule_of e) set b z n are_bytes is_lookahead ((lookahead_of e).valid set b z k)
 may_look e set b z n are_bytes is_lookahead Skipped k = (
   at_most_three (rule_of e) (lookahead_of e) set b z n are_bytes is_lookahead,
   (λ r. looks_not (rule_of e) set b z n are_bytes is_lookahead
-      (subst (λ (f : Encoding). IsDeterminedWithin (rule_of f) set b z 0) (sym r) (determined_alone set b z))),
+      (subst (λ (f : Encoding). IsDeterminedWithin (rule_of f) set b z 0) (sym r)
+      (determined_alone set b z))),
   (λ j. some_more (rule_of e) set b z n is_lookahead
-      (subst (λ (f : Encoding). (rule_of f set b z).kind ≡ Skipped → IsDeterminedWithin (rule_of f) set b z 0 → ⊥) (sym j) (looks_after_skipped.not_alone set b z) k)),
+      (subst (λ (f : Encoding). (rule_of f set b z).kind ≡ Skipped
+      → IsDeterminedWithin (rule_of f) set b z 0 → ⊥) (sym j)
+      (looks_after_skipped.not_alone set b z) k)),
 )
 may_look e set b z n are_bytes is_lookahead Malformed k =
     at_most_three (rule_of e) (lookahead_of e) set b z n are_bytes is_lookahead
 may_look e set b z n are_bytes is_lookahead RepeatedEscape k =
     at_most_three (rule_of e) (lookahead_of e) set b z n are_bytes is_lookahead
 
-pub looks_or_ends : (e : Encoding) (set b : ℕ) (z : List ℕ) → ((n : ℕ) × IsLookahead (rule_of e) set b z n) ⊎ IsDeterminedByEnd (rule_of e) set b z
+pub looks_or_ends : (e : Encoding) (set b : ℕ) (z : List ℕ)
+    → ((n : ℕ) × IsLookahead (rule_of e) set b z n) ⊎ IsDeterminedByEnd (rule_of e) set b z
 looks_or_ends e set b z = elim ((lookahead_of e).others set b z) [
   | inl has_lookahead ↦ inl (
     has_lookahead.0,
@@ -59,21 +68,27 @@ looks_or_ends e set b z = elim ((lookahead_of e).others set b z) [
 
 -- after the byte order mark
 
-sequences_are : (found : Option Mark) (e : Encoding) (bytes : List ℕ) → sequences_by_mark found e bytes ≡ sequences_of (rule_of (encoding_of_mark_or found e)) 0 (bytes_after_mark found bytes)
+sequences_are : (found : Option Mark) (e : Encoding) (bytes : List ℕ)
+    → sequences_by_mark found e bytes
+    ≡ sequences_of (rule_of (encoding_of_mark_or found e)) 0 (bytes_after_mark found bytes)
 sequences_are None e bytes = refl
 sequences_are (Some m) e bytes = refl
 
-bytes_after : (found : Option Mark) (bytes : List ℕ) → AreBytes bytes → AreBytes (bytes_after_mark found bytes)
+bytes_after : (found : Option Mark) (bytes : List ℕ) → AreBytes bytes
+    → AreBytes (bytes_after_mark found bytes)
 bytes_after None bytes a = a
 bytes_after (Some m) bytes a = bytes-drop (length m.bytes) bytes a
 
-mark_fits : (looked_for : List Mark) (x : List ℕ) (found : Option Mark) → find_mark looked_for x ≡ found → length (mark_bytes found) ≤ length x
+mark_fits : (looked_for : List Mark) (x : List ℕ) (found : Option Mark)
+    → find_mark looked_for x ≡ found → length (mark_bytes found) ≤ length x
 mark_fits looked_for x None e = omega arith
 mark_fits looked_for x (Some m) e = found_fits looked_for x m e
 
 front_after : (found : Option Mark) (bytes : List ℕ) (k : ℕ) → length (mark_bytes found) ≤ k
-    → bytes_after_mark found (take k bytes) ≡ take (k - length (mark_bytes found)) (bytes_after_mark found bytes)
-front_after None bytes k h = ap (λ i. take i bytes) (let no_mark : k ≡ k - 0 = omega arith in no_mark)
+    → bytes_after_mark found (take k bytes)
+    ≡ take (k - length (mark_bytes found)) (bytes_after_mark found bytes)
+front_after None bytes k h =
+    ap (λ i. take i bytes) (let no_mark : k ≡ k - 0 = omega arith in no_mark)
 front_after (Some m) bytes k h = left_of (length m.bytes) k bytes h
 
 length_after : (found : Option Mark) (bytes : List ℕ)
@@ -81,8 +96,10 @@ length_after : (found : Option Mark) (bytes : List ℕ)
 length_after None bytes = omega arith
 length_after (Some m) bytes = length-drop (length m.bytes) bytes
 
-module _ (handling : BomHandling) (e : Encoding) (bytes : List ℕ) (s : Sequence) (ss rest : List Sequence) (k : ℕ)
-    (a : AreBytes bytes) (whole : whole_sequences handling e bytes ≡ (s ∷ ss) ++ rest) (inside : k ≤ length bytes) where
+module _ (handling : BomHandling) (e : Encoding) (bytes : List ℕ) (s : Sequence)
+    (ss rest : List Sequence) (k : ℕ)
+    (a : AreBytes bytes) (whole : whole_sequences handling e bytes ≡ (s ∷ ss) ++ rest)
+    (inside : k ≤ length bytes) where
   abbrev looked_for : List Mark
   looked_for = marks_looked_for handling e
 
@@ -115,21 +132,27 @@ module _ (handling : BomHandling) (e : Encoding) (bytes : List ℕ) (s : Sequenc
     few : k - mark_len ≤ length left
     few = let left_len = length_after found bytes in omega (arith, left_len, inside)
 
-    by_front : Determines (whole_sequences handling e) (take k bytes) (s ∷ ss) ↔ Determines (sequences_of rule 0) (take (k - mark_len) left) (s ∷ ss)
+    by_front : Determines (whole_sequences handling e) (take k bytes) (s ∷ ss)
+        ↔ Determines (sequences_of rule 0) (take (k - mark_len) left) (s ∷ ss)
     by_front =
-        subst (λ x. Determines (whole_sequences handling e) (take k bytes) (s ∷ ss) ↔ Determines (sequences_of rule 0) x
+        subst (λ x. Determines (whole_sequences handling e) (take k bytes) (s ∷ ss)
+        ↔ Determines (sequences_of rule 0) x
         (s ∷ ss)) (front_after found bytes k fits)
         (by_rule handling e (take k bytes) (s ∷ ss) found same mark_decided)
 
   pub determined_whole : Determines (whole_sequences handling e) (take k bytes) (s ∷ ss)
-      ↔ ((MayBeginMark looked_for (take k bytes) → ⊥) × CoverLookahead rule 0 left (s ∷ ss) (k - mark_len))
+      ↔ ((MayBeginMark looked_for (take k bytes) → ⊥)
+      × CoverLookahead rule 0 left (s ∷ ss) (k - mark_len))
   determined_whole = (
     (λ determined. let mark_decided : MayBeginMark looked_for (take k bytes)
         → ⊥ = λ i. undetermined handling e (take k bytes) s ss i determined in (
           mark_decided,
-          reach_after rule (lookahead_of (encoding_of_mark_or found e)) (s ∷ ss) rest 0 (k - mark_len) left
-              (bytes_after found bytes a) all (few mark_decided) ((by_front mark_decided).0 determined),
+          reach_after rule (lookahead_of (encoding_of_mark_or found e)) (s ∷ ss) rest 0
+              (k - mark_len) left
+              (bytes_after found bytes a) all (few mark_decided)
+              ((by_front mark_decided).0 determined),
         )),
-    (λ both. (by_front both.0).1 (determine_if_after rule (lookahead_of (encoding_of_mark_or found e)) (s ∷ ss) rest 0
+    (λ both. (by_front both.0).1
+        (determine_if_after rule (lookahead_of (encoding_of_mark_or found e)) (s ∷ ss) rest 0
         (k - mark_len) left all (few both.0) both.1)),
   )

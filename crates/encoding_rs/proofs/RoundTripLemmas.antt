@@ -35,16 +35,23 @@ found : (o : Option EncoderRule) → is_some o ≡ true → o ≡ Some (rule_or_
 found None h = cc
 found (Some e) h = refl
 
-encoder_is : (e : Encoding) → encoder_rule (codec_by_id (output_encoding_of e).id) ≡ Some (rule_or_utf_8 (encoder_rule (codec_by_id e.id)))
-encoder_is e = found (encoder_rule (codec_by_id (output_encoding_of e).id)) (has_encoder e) ∙ ap Some (same_rule e.id)
+encoder_is : (e : Encoding)
+    → encoder_rule (codec_by_id (output_encoding_of e).id)
+    ≡ Some (rule_or_utf_8 (encoder_rule (codec_by_id e.id)))
+encoder_is e = found (encoder_rule (codec_by_id (output_encoding_of e).id)) (has_encoder e)
+    ∙ ap Some (same_rule e.id)
 
-pub decoded : (b : List ℕ) (e : Encoding) (t : List ℕ) → AreScalars t → any_unmappable (output_rule b e) t ≡ false
-    → IsReadAs (rule_of (output_encoding_of e)) 0 (bytes_of_text (output_rule b e) Ascii t) (map (char_read_back (codec_by_id (output_encoding_of e).id)) t)
-decoded b e t s m = is_read (codec_by_id (output_encoding_of e).id) b (rule_or_utf_8 (encoder_rule (codec_by_id e.id))) t (encoder_is e) s m
+pub decoded : (b : List ℕ) (e : Encoding) (t : List ℕ) → AreScalars t
+    → any_unmappable (output_rule b e) t ≡ false
+    → IsReadAs (rule_of (output_encoding_of e)) 0 (bytes_of_text (output_rule b e) Ascii t)
+    (map (char_read_back (codec_by_id (output_encoding_of e).id)) t)
+decoded b e t s m = is_read (codec_by_id (output_encoding_of e).id) b
+    (rule_or_utf_8 (encoder_rule (codec_by_id e.id))) t (encoder_is e) s m
 
 -- all but three give each character back
 
-keeps : (id : EncodingId) → (id ≡ EucJp → ⊥) → (id ≡ ShiftJis → ⊥) → (id ≡ Iso2022Jp → ⊥) → keeps_characters (codec_by_id id) ≡ true
+keeps : (id : EncodingId) → (id ≡ EucJp → ⊥) → (id ≡ ShiftJis → ⊥) → (id ≡ Iso2022Jp → ⊥)
+    → keeps_characters (codec_by_id id) ≡ true
 keeps EucJp euc shift iso = absurd (euc refl)
 keeps ShiftJis euc shift iso = absurd (shift refl)
 keeps Iso2022Jp euc shift iso = absurd (iso refl)
@@ -53,13 +60,18 @@ keeps _ euc shift iso = refl
 of_id : EncodingId → Encoding
 of_id id = record { id = id }
 
-pub decoded_text : (b : List ℕ) (e : Encoding) (t : List ℕ) → AreScalars t → any_unmappable (output_rule b e) t ≡ false
-    → output_encoding_of e ≢ record { id = EucJp } → output_encoding_of e ≢ record { id = ShiftJis } → output_encoding_of e ≢ record { id = Iso2022Jp }
-    → sequence_text (sequences_of (rule_of (output_encoding_of e)) 0 (bytes_of_text (output_rule b e) Ascii t)) ≡ t
+pub decoded_text : (b : List ℕ) (e : Encoding) (t : List ℕ) → AreScalars t
+    → any_unmappable (output_rule b e) t ≡ false
+    → output_encoding_of e ≢ record { id = EucJp } → output_encoding_of e ≢ record { id = ShiftJis }
+    → output_encoding_of e ≢ record { id = Iso2022Jp }
+    → sequence_text (sequences_of (rule_of (output_encoding_of e)) 0
+    (bytes_of_text (output_rule b e) Ascii t)) ≡ t
 unfolding of_id
 decoded_text b e t s m euc shift iso =
-    same_text (codec_by_id (output_encoding_of e).id) b (rule_or_utf_8 (encoder_rule (codec_by_id e.id))) t (encoder_is e) s m
-    (keeps (output_encoding_of e).id (λ q. euc (ap of_id q)) (λ q. shift (ap of_id q)) (λ q. iso (ap of_id q)))
+    same_text (codec_by_id (output_encoding_of e).id) b
+    (rule_or_utf_8 (encoder_rule (codec_by_id e.id))) t (encoder_is e) s m
+    (keeps (output_encoding_of e).id (λ q. euc (ap of_id q)) (λ q. shift (ap of_id q))
+    (λ q. iso (ap of_id q)))
 
 -- references are of scalar values
 
@@ -71,20 +83,24 @@ is_scalar c h = let below : c < 0x80 = omega arith in ascii_scalar c below
 
 are_scalars : (t : List ℕ) → AreOfReferences t → AreScalars t
 are_scalars [] of_references = refl
-are_scalars (c ∷ t) of_references = and_from _ _ (is_scalar c of_references.0) (are_scalars t of_references.1)
+are_scalars (c ∷ t) of_references =
+    and_from _ _ (is_scalar c of_references.0) (are_scalars t of_references.1)
 
 reference_scalars : (c : ℕ) → AreScalars (reference c)
 reference_scalars c = are_scalars (reference c) (inl refl, reference_is c)
 
-one_scalars : (e : EncoderRule) (c : ℕ) (b : Option (List ℕ)) → IsScalar c → AreScalars (with_reference e c b)
+one_scalars : (e : EncoderRule) (c : ℕ) (b : Option (List ℕ)) → IsScalar c
+    → AreScalars (with_reference e c b)
 one_scalars e c None s = reference_scalars (e.reported c)
 one_scalars e c (Some b) s = and_from _ _ s refl
 
-with_references_scalars : (e : EncoderRule) (t : List ℕ) → AreScalars t → AreScalars (with_references e t)
+with_references_scalars : (e : EncoderRule) (t : List ℕ) → AreScalars t
+    → AreScalars (with_references e t)
 with_references_scalars e [] scalars = refl
 with_references_scalars e (c ∷ t) scalars =
     scalars-append (with_reference e c (e.bytes c)) (with_references e t)
-    (one_scalars e c (e.bytes c) (first_so _ _ scalars)) (with_references_scalars e t (second_so _ _ scalars))
+    (one_scalars e c (e.bytes c) (first_so _ _ scalars))
+    (with_references_scalars e t (second_so _ _ scalars))
 
 pub decoded_references : (b : List ℕ) (e : Encoding) (t : List ℕ) → AreScalars t
     → any_malformed (sequences_of (rule_of (output_encoding_of e)) 0 (whole_bytes b e t)) ≡ false

@@ -33,7 +33,8 @@ unfolding encode_utf8
 encoded_three c h k = grind (arith, nat_tests)
 
 encoded_four : (c : ℕ) → 0x10000 ≤ c
-    → encode_utf8 c ≡ (240 + c / 262144) ∷ (128 + c / 4096 % 64) ∷ (128 + c / 64 % 64) ∷ (128 + c % 64) ∷ []
+    → encode_utf8 c ≡ (240 + c / 262144) ∷ (128 + c / 4096 % 64) ∷ (128 + c / 64 % 64)
+    ∷ (128 + c % 64) ∷ []
 unfolding encode_utf8
 encoded_four c h = grind (arith, nat_tests)
 
@@ -56,20 +57,24 @@ two_encoded a b s e =
 same_three : (a b c x y z : ℕ) → x ≡ a → y ≡ b → z ≡ c → x ∷ y ∷ z ∷ [] ≡ a ∷ b ∷ c ∷ []
 same_three a b c x y z e f g = cc
 
-three_encoded : (a b c : ℕ) → sequence_len a ≡ 3 → is_second_byte a b ≡ true → is_continuation c ≡ true
+three_encoded : (a b c : ℕ) → sequence_len a ≡ 3 → is_second_byte a b ≡ true
+    → is_continuation c ≡ true
     → encode_utf8 (scalar_of (a ∷ b ∷ c ∷ [])) ≡ a ∷ b ∷ c ∷ []
 three_encoded a b c s e t =
     let first_range = three_range a s in
     let then_range = second_range a b e in
     let third_range = continuation_range c t in
     let above : 0x800 ≤ scalar_of (a ∷ b ∷ c ∷ []) = grind arith in
-    encoded_three _ above (omega arith) ∙ same_three a b c _ _ _ (omega arith) (omega arith) (omega arith)
+    encoded_three _ above (omega arith)
+    ∙ same_three a b c _ _ _ (omega arith) (omega arith) (omega arith)
 
-same_four : (a b c d x y z w : ℕ) → x ≡ a → y ≡ b → z ≡ c → w ≡ d → x ∷ y ∷ z ∷ w ∷ [] ≡ a ∷ b ∷ c ∷ d ∷ []
+same_four : (a b c d x y z w : ℕ) → x ≡ a → y ≡ b → z ≡ c → w ≡ d
+    → x ∷ y ∷ z ∷ w ∷ [] ≡ a ∷ b ∷ c ∷ d ∷ []
 same_four a b c d x y z w e f g h = cc
 
 four_encoded : (a b c d : ℕ)
-    → sequence_len a ≡ 4 → is_second_byte a b ≡ true → is_continuation c ≡ true → is_continuation d ≡ true
+    → sequence_len a ≡ 4 → is_second_byte a b ≡ true → is_continuation c ≡ true
+    → is_continuation d ≡ true
     → encode_utf8 (scalar_of (a ∷ b ∷ c ∷ d ∷ [])) ≡ a ∷ b ∷ c ∷ d ∷ []
 four_encoded a b c d s e t x =
     let first_range = four_range a s in
@@ -77,7 +82,8 @@ four_encoded a b c d s e t x =
     let third_range = continuation_range c t in
     let fourth_range = continuation_range d x in
     let above : 0x10000 ≤ scalar_of (a ∷ b ∷ c ∷ d ∷ []) = grind arith in
-    encoded_four _ above ∙ same_four a b c d _ _ _ _ (omega arith) (omega arith) (omega arith) (omega arith)
+    encoded_four _ above ∙ same_four a b c d _ _ _ _ (omega arith) (omega arith) (omega arith)
+    (omega arith)
 
 -- the bytes begin with a character, or are malformed
 
@@ -87,11 +93,13 @@ scalar_in_range c (inr h) = grind (arith, nat_tests)
 
 abbrev Front : List ℕ → Type 0
 Front z =
-    ((c : ℕ) × (rest : List ℕ) × IsScalar c × (z ≡ encode_utf8 c ++ rest) × (malformed_bytes z ≡ malformed_bytes rest))
+    ((c : ℕ) × (rest : List ℕ) × IsScalar c × (z ≡ encode_utf8 c ++ rest)
+    × (malformed_bytes z ≡ malformed_bytes rest))
     ⊎ (malformed_bytes z ≡ true)
 
 valid_front : (c : ℕ) (bytes rest : List ℕ) → InScalarRange c → encode_utf8 c ≡ bytes
-    → sequences_of utf_8_rule 0 (bytes ++ rest) ≡ valid_sequence bytes ∷ sequences_of utf_8_rule 0 rest
+    → sequences_of utf_8_rule 0 (bytes ++ rest) ≡ valid_sequence bytes
+    ∷ sequences_of utf_8_rule 0 rest
     → Front (bytes ++ rest)
 valid_front c bytes rest r e s =
     inl (c, rest, scalar_in_range c r, ap (λ front. front ++ rest) (sym e), ap any_malformed s)
@@ -101,7 +109,8 @@ malformed_front : (z bytes : List ℕ) (ss : List Sequence)
 malformed_front z bytes ss s = inr (ap any_malformed s)
 
 front_four : (t : Bool) (a b c d : ℕ) (z : List ℕ)
-    → sequence_len a ≡ 4 → is_second_byte a b ≡ true → is_continuation c ≡ true → is_continuation d ≡ t → Front (a ∷ b ∷ c ∷ d ∷ z)
+    → sequence_len a ≡ 4 → is_second_byte a b ≡ true → is_continuation c ≡ true
+    → is_continuation d ≡ t → Front (a ∷ b ∷ c ∷ d ∷ z)
 front_four false a b c d z length_is second_is third_is fourth_is =
     malformed_front _ _ _ (three_malformed a b c d z length_is second_is third_is fourth_is)
 front_four true a b c d z length_is second_is third_is fourth_is =
@@ -110,25 +119,33 @@ front_four true a b c d z length_is second_is third_is fourth_is =
     (four_encoded a b c d length_is second_is third_is fourth_is)
     (four_valid a b c d z length_is second_is third_is fourth_is)
 
-front_three : (t : Bool) (n a b c : ℕ) (z : List ℕ) → sequence_len a ≡ n + 3 → is_second_byte a b ≡ true
+front_three : (t : Bool) (n a b c : ℕ) (z : List ℕ) → sequence_len a ≡ n + 3
+    → is_second_byte a b ≡ true
     → is_continuation c ≡ t → Front (a ∷ b ∷ c ∷ z)
 front_three false n a b c z length_is second_is third_is =
     malformed_front _ _ _ (two_malformed a b c z (omega arith) second_is third_is)
 front_three true zero a b c z length_is second_is third_is =
     valid_front _ (a ∷ b ∷ c ∷ []) z
-    (three_scalar a b c length_is second_is third_is) (three_encoded a b c length_is second_is third_is)
+    (three_scalar a b c length_is second_is third_is)
+    (three_encoded a b c length_is second_is third_is)
     (three_valid a b c z length_is second_is third_is)
 front_three true (suc n) a b c [] length_is second_is third_is =
-    let most = at_most_four a in malformed_front _ _ _ (three_end a b c (omega arith) second_is third_is)
+    let most = at_most_four a in
+    malformed_front _ _ _ (three_end a b c (omega arith) second_is third_is)
 front_three true (suc n) a b c (d ∷ z) length_is second_is third_is =
-    let most = at_most_four a in front_four (is_continuation d) a b c d z (omega arith) second_is third_is refl
+    let most = at_most_four a in
+    front_four (is_continuation d) a b c d z (omega arith) second_is third_is refl
 
-front_two : (t : Bool) (n a b : ℕ) (z : List ℕ) → sequence_len a ≡ n + 2 → is_second_byte a b ≡ t → Front (a ∷ b ∷ z)
-front_two false n a b z length_is second_is = malformed_front _ _ _ (one_malformed a b z (omega arith) second_is)
+front_two : (t : Bool) (n a b : ℕ) (z : List ℕ) → sequence_len a ≡ n + 2 → is_second_byte a b ≡ t
+    → Front (a ∷ b ∷ z)
+front_two false n a b z length_is second_is =
+    malformed_front _ _ _ (one_malformed a b z (omega arith) second_is)
 front_two true zero a b z length_is second_is =
-    valid_front _ (a ∷ b ∷ []) z (two_scalar a b length_is second_is) (two_encoded a b length_is second_is)
+    valid_front _ (a ∷ b ∷ []) z (two_scalar a b length_is second_is)
+    (two_encoded a b length_is second_is)
     (two_valid a b z length_is second_is)
-front_two true (suc n) a b [] length_is second_is = malformed_front _ _ _ (two_end a b (omega arith) second_is)
+front_two true (suc n) a b [] length_is second_is =
+    malformed_front _ _ _ (two_end a b (omega arith) second_is)
 front_two true (suc n) a b (c ∷ z) length_is second_is =
     front_three (is_continuation c) n a b c z (omega arith) second_is refl
 
@@ -136,9 +153,11 @@ front_one : (n a : ℕ) (z : List ℕ) → sequence_len a ≡ n → Front (a ∷
 front_one zero a z sequence_len_is = malformed_front _ _ _ (none_malformed a z sequence_len_is)
 front_one (suc zero) a z sequence_len_is =
     let is_ascii = ascii_range a sequence_len_is in
-    valid_front a (a ∷ []) z (inl (omega arith)) (encode_ascii a is_ascii) (one_valid a z sequence_len_is)
+    valid_front a (a ∷ []) z (inl (omega arith)) (encode_ascii a is_ascii)
+    (one_valid a z sequence_len_is)
 front_one (suc (suc n)) a [] sequence_len_is = malformed_front _ _ _ (one_end a (omega arith))
-front_one (suc (suc n)) a (b ∷ z) sequence_len_is = front_two (is_second_byte a b) n a b z (omega arith) refl
+front_one (suc (suc n)) a (b ∷ z) sequence_len_is =
+    front_two (is_second_byte a b) n a b z (omega arith) refl
 
 -- What has no malformed sequence is the encoded form of some characters.
 pub well_formed : (n : ℕ) (z : List ℕ) → length z ≤ n → malformed_bytes z ≡ false → IsUtf8 z
@@ -155,8 +174,10 @@ well_formed (suc n) (a ∷ z) h all_well =
             length-append (encode_utf8 first_char.0) first_char.1,
             length-encode first_char.0,
           ) in
-          let rest : IsUtf8 first_char.1 = well_formed n first_char.1 shorter (sym first_char.4 ∙ all_well) in
-          subst IsUtf8 (sym first_char.3) (IsUtf8-append _ _ (IsUtf8-encode first_char.0 first_char.2) rest)
+          let rest : IsUtf8 first_char.1 =
+          well_formed n first_char.1 shorter (sym first_char.4 ∙ all_well) in
+          subst IsUtf8 (sym first_char.3)
+          (IsUtf8-append _ _ (IsUtf8-encode first_char.0 first_char.2) rest)
       | inr m ↦ absurd (true≢false (sym m ∙ all_well))
     ]
 
@@ -245,7 +266,8 @@ encoded_front c rest in_range =
       ]
     ]
 
-pub none_malformed_in : (text : List ℕ) → all_scalars text ≡ true → malformed_bytes (encode_utf8_all text) ≡ false
+pub none_malformed_in : (text : List ℕ) → all_scalars text ≡ true
+    → malformed_bytes (encode_utf8_all text) ≡ false
 none_malformed_in [] are_scalars = ap any_malformed (sequences_of-nil utf_8_rule 0)
 none_malformed_in (c ∷ text) are_scalars =
     encoded_front c (encode_utf8_all text) (range_of_scalar c (first_so _ _ are_scalars))

@@ -7,7 +7,8 @@ use Rattle.enc_stream.specs.Encoder.{room_kept_for_references}
 
 -- the room with which a call makes progress: four bytes, and those kept free for references
 abbrev pub least_room : List ℕ → Encoding → Bool → ℕ
-least_room b e replace = if replace then 4 + room_kept_for_references b (output_encoding_of e) else 4
+least_room b e replace =
+    if replace then 4 + room_kept_for_references b (output_encoding_of e) else 4
 
 -- a call that gets a character and has that room
 pub record CanEncodeMore (b : List ℕ) (e : Encoding) (call : EncodeCall) : Type 0 where

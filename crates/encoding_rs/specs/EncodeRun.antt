@@ -1,6 +1,7 @@
--- Runs of an encoder: lists of calls with any error mode, chunk and room (Encoding Standard 4.1, "process a queue", in
--- parts).
-use Rattle.std.specs.Prelude.{◌≡◌, ℕ, ◌+◌, Bool, true, false, not, ◌&&◌, ◌||◌, nat_le, List, [], ◌∷◌, ◌++◌, map, length, take, drop, if◌then◌else◌}
+-- Runs of an encoder: lists of calls with any error mode, chunk and room (Encoding Standard 4.1,
+-- "process a queue", in parts).
+use Rattle.std.specs.Prelude.{◌≡◌, ℕ, ◌+◌, Bool, true, false, not, ◌&&◌, ◌||◌, nat_le, List, [], ◌∷◌, ◌++◌, map, length}
+use Rattle.std.specs.Prelude.{take, drop, if◌then◌else◌}
 use Rattle.enc_stream.specs.declared.encoding.Encoding.{Encoding}
 use Rattle.encoding_rs.specs.declared.encode_run.EncodeCall.{EncodeCall}
 use Rattle.enc_units.specs.declared.encoder_result.EncoderResult.{EncoderResult}
@@ -37,17 +38,23 @@ is_input_empty_result InputEmpty = true
 is_input_empty_result OutputFull = false
 is_input_empty_result (Unmappable c) = false
 
--- A call of a run: it gets the unread characters, at most `offer` of them, and `last` exactly if that is all of them.
--- Its bytes are appended, and the reference to a character that it has reported.
-pub record MakesEncodeCall (call : EncodeCall) (old new : EncoderState) (unread before after : List ℕ) (result : EncoderResult) (read : ℕ) (replaced : Bool) : Type 0 where
-  pub wrote : List ℕ
-  pub units : ℕ
-  pub encodes : EncodesChunk (units_of_call call.utf16) (encode_error_mode call.replace old) old new (take call.offer unread) (nat_le (length unread) call.offer) call.room result units wrote replaced
-  pub chars : read ≡ length (step_chars encodes.call.done)
-  pub bytes : after ≡ before ++ (wrote ++ reference_after result)
+-- A call of a run: it gets the unread characters, at most `offer` of them, and `last` exactly if
+-- that is all of them. Its bytes are appended, and the reference to a character that it has
+-- reported.
+pub record MakesEncodeCall (call : EncodeCall) (old new : EncoderState)
+    (unread before after : List ℕ) (result : EncoderResult) (read : ℕ) (replaced : Bool) : Type 0
+  where
+    pub wrote : List ℕ
+    pub units : ℕ
+    pub encodes : EncodesChunk (units_of_call call.utf16) (encode_error_mode call.replace old) old
+        new
+        (take call.offer unread) (nat_le (length unread) call.offer) call.room result units wrote
+        replaced
+    pub chars : read ≡ length (step_chars encodes.call.done)
+    pub bytes : after ≡ before ++ (wrote ++ reference_after result)
 
--- the state of a run: the encoder, the number of characters read, the bytes, the characters reported, whether a
--- character was unmappable, and whether the end is reached
+-- the state of a run: the encoder, the number of characters read, the bytes, the characters
+-- reported, whether a character was unmappable, and whether the end is reached
 pub record EncodeRunState : Type 0 where
   pub encoder : EncoderState
   pub read : ℕ
@@ -58,24 +65,38 @@ pub record EncodeRunState : Type 0 where
 
 -- a run that has made no call
 abbrev pub encode_run_start : List ℕ → Encoding → EncodeRunState
-encode_run_start b e = record { encoder = fresh_encoder b e; read = 0; bytes = []; unmappables = []; had_unmappables = false; finished = false }
+encode_run_start b e =
+    record {
+      encoder = fresh_encoder b e;
+      read = 0;
+      bytes = [];
+      unmappables = [];
+      had_unmappables =
+          false;
+      finished = false;
+    }
 
 -- a run advances by one call, unless it is at the end
-pub record EncodeRunAdvances (text : List ℕ) (made : EncodeCall) (old new : EncodeRunState) : Type 0 where
-  pub result : EncoderResult
-  pub more : ℕ
-  pub replaced : Bool
-  pub not_finished : old.finished ≡ false
-  pub call : MakesEncodeCall made old.encoder new.encoder (drop old.read text) old.bytes new.bytes result more replaced
-  pub read : new.read ≡ old.read + more
-  pub unmappables : new.unmappables ≡ old.unmappables ++ reported_character result
-  pub flag : new.had_unmappables ≡ (old.had_unmappables || (replaced || is_unmappable_result result))
-  pub finished : new.finished ≡ (nat_le (length (drop old.read text)) made.offer && is_input_empty_result result)
+pub record EncodeRunAdvances (text : List ℕ) (made : EncodeCall) (old new : EncodeRunState) : Type 0
+  where
+    pub result : EncoderResult
+    pub more : ℕ
+    pub replaced : Bool
+    pub not_finished : old.finished ≡ false
+    pub call : MakesEncodeCall made old.encoder new.encoder (drop old.read text) old.bytes new.bytes
+        result more replaced
+    pub read : new.read ≡ old.read + more
+    pub unmappables : new.unmappables ≡ old.unmappables ++ reported_character result
+    pub flag : new.had_unmappables
+        ≡ (old.had_unmappables || (replaced || is_unmappable_result result))
+    pub finished : new.finished
+        ≡ (nat_le (length (drop old.read text)) made.offer && is_input_empty_result result)
 
 -- these calls, in turn, lead from one state to the other
 abbrev pub IsEncodeRun : List ℕ → List EncodeCall → EncodeRunState → EncodeRunState → Type 0
 IsEncodeRun text [] old new = old ≡ new
-IsEncodeRun text (call ∷ calls) old new = (mid : EncodeRunState) × EncodeRunAdvances text call old mid × IsEncodeRun text calls mid new
+IsEncodeRun text (call ∷ calls) old new = (mid : EncodeRunState)
+    × EncodeRunAdvances text call old mid × IsEncodeRun text calls mid new
 
 -- the characters that one call has read, and whether its error mode is html
 pub record EncodeRunPart : Type 0 where
@@ -90,21 +111,25 @@ chars_of_parts (p ∷ ps) = p.chars ++ chars_of_parts ps
 -- the unmappable characters reported
 abbrev pub reports_of_parts : EncoderRule → List EncodeRunPart → List ℕ
 reports_of_parts rule [] = []
-reports_of_parts rule (p ∷ ps) = (if p.replaces then [] else reports_of rule p.chars) ++ reports_of_parts rule ps
+reports_of_parts rule (p ∷ ps) =
+    (if p.replaces then [] else reports_of rule p.chars) ++ reports_of_parts rule ps
 
 -- whether all calls report unmappable characters
 abbrev pub all_report_unmappable : List EncodeCall → Bool
 all_report_unmappable [] = true
 all_report_unmappable (call ∷ calls) = not call.replace && all_report_unmappable calls
 
--- The result of some calls: each has read a part of the text, and the bytes are a prefix of those of the whole text.
-pub record HasRunEncoding (b : List ℕ) (e : Encoding) (text : List ℕ) (calls : List EncodeCall) (bytes : List ℕ) (read : ℕ) (unmappables : List ℕ) (had_unmappables : Bool) : Type 0 where
+-- The result of some calls: each has read a part of the text, and the bytes are a prefix of those
+-- of the whole text.
+pub record HasRunEncoding (b : List ℕ) (e : Encoding) (text : List ℕ) (calls : List EncodeCall)
+    (bytes : List ℕ) (read : ℕ) (unmappables : List ℕ) (had_unmappables : Bool) : Type 0 where
   pub parts : List EncodeRunPart
   pub unread : List ℕ
   pub more : List ℕ
   pub chars : text ≡ chars_of_parts parts ++ unread
   pub count : read ≡ length (chars_of_parts parts)
-  pub calls_are : map (λ (p : EncodeRunPart). p.replaces) parts ≡ map (λ (c : EncodeCall). c.replace) calls
+  pub calls_are : map (λ (p : EncodeRunPart). p.replaces) parts
+      ≡ map (λ (c : EncodeCall). c.replace) calls
   pub beginning : whole_bytes b e text ≡ bytes ++ more
   -- the unmappable characters met by calls that report them, in order, as reported
   pub reported : unmappables ≡ reports_of_parts (output_rule b e) parts

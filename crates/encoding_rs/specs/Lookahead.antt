@@ -1,4 +1,5 @@
--- The lookahead of each kind of sequence, and the byte order mark that comes before the sequences of an input.
+-- The lookahead of each kind of sequence, and the byte order mark that comes before the sequences
+-- of an input.
 use Rattle.std.specs.Prelude.{◌≡◌, ℕ, ◌≤◌, List, Option}
 use Rattle.enc_decoder.specs.declared.byte_codec.Kind.{Kind}
 use Rattle.enc_decoder.specs.declared.byte_codec.Kind.TheVariants.{Valid, Skipped, Malformed, RepeatedEscape}
@@ -11,8 +12,8 @@ use Rattle.enc_stream.specs.Encodings.{rule_of}
 use Rattle.enc_stream.specs.LifeCycle.{encoding_of_mark_or}
 use Rattle.enc_stream.specs.MarkLaws.{bytes_after_mark}
 
--- 0 for a valid sequence and for a byte that replacement skips, 1 to 3 for a skipped escape sequence of ISO-2022-JP,
--- and 0 to 3 for a malformed sequence.
+-- 0 for a valid sequence and for a byte that replacement skips, 1 to 3 for a skipped escape
+-- sequence of ISO-2022-JP, and 0 to 3 for a malformed sequence.
 abbrev pub MayLook : Encoding → Kind → ℕ → Type 0
 MayLook e Valid n = n ≡ 0
 MayLook e Skipped n = (n ≤ 3) × (e ≡ REPLACEMENT → n ≡ 0) × (e ≡ ISO_2022_JP → 1 ≤ n)

@@ -1,5 +1,5 @@
--- Runs of a decoder: lists of calls with any error mode, chunk and room (Encoding Standard 4.1, "process a queue", in
--- parts).
+-- Runs of a decoder: lists of calls with any error mode, chunk and room (Encoding Standard 4.1,
+-- "process a queue", in parts).
 use Rattle.std.specs.Prelude.{◌≡◌, ℕ, ◌+◌, ◌-◌, Bool, true, false, not, ◌&&◌, ◌||◌, nat_le, List, [], ◌∷◌, ◌++◌, map}
 use Rattle.std.specs.Prelude.{length, take, drop, if◌then◌else◌}
 use Rattle.std.specs.Char.{encode_utf8}
@@ -33,29 +33,35 @@ replacement_text InputEmpty = []
 replacement_text OutputFull = []
 replacement_text (Malformed l a) = 0xFFFD ∷ []
 
--- The offset in the whole input, and the length, of a malformed sequence reported when `read` bytes are read: the l
--- bytes before the last a.
+-- The offset in the whole input, and the length, of a malformed sequence reported when `read` bytes
+-- are read: the l bytes before the last a.
 abbrev pub fault_of_result : DecoderResult → ℕ → List (ℕ × ℕ)
 fault_of_result InputEmpty read = []
 fault_of_result OutputFull read = []
 fault_of_result (Malformed l a) read = (read - a - l, l) ∷ []
 
 -- A call with these bytes, and the text that it has written, in UTF-8.
-pub record AnswersDecodeCall (units_of : ℕ → List ℕ) (call : DecodeCall) (old new : DecoderState) (chunk : List ℕ) (last : Bool) (result : DecoderResult) (read : ℕ) (replaced : Bool) (utf_8 : List ℕ) : Type 0 where
+pub record AnswersDecodeCall (units_of : ℕ → List ℕ) (call : DecodeCall) (old new : DecoderState)
+    (chunk : List ℕ) (last : Bool) (result : DecoderResult) (read : ℕ) (replaced : Bool)
+    (utf_8 : List ℕ) : Type 0 where
   pub text : List ℕ
   pub scalars : AreScalars text
   pub is : utf_8 ≡ units_of_text encode_utf8 text
-  pub decodes : DecodesChunk units_of (decode_error_mode call.replace) old new chunk last call.room result read (units_of_text units_of text) replaced
+  pub decodes : DecodesChunk units_of (decode_error_mode call.replace) old new chunk last call.room
+      result read (units_of_text units_of text) replaced
 
--- A call of a run: it gets the unread bytes, at most `offer` of them, and `last` exactly if that is all of them. Its
--- text is appended, and U+FFFD for a malformed sequence that it has reported.
-pub record MakesDecodeCall (call : DecodeCall) (old new : DecoderState) (unread before after : List ℕ) (result : DecoderResult) (read : ℕ) (replaced : Bool) : Type 0 where
-  pub wrote : List ℕ
-  pub answers : AnswersDecodeCall (units_of_call call.utf16) call old new (take call.offer unread) (nat_le (length unread) call.offer) result read replaced wrote
-  pub text : after ≡ (before ++ wrote) ++ units_of_text encode_utf8 (replacement_text result)
+-- A call of a run: it gets the unread bytes, at most `offer` of them, and `last` exactly if that is
+-- all of them. Its text is appended, and U+FFFD for a malformed sequence that it has reported.
+pub record MakesDecodeCall (call : DecodeCall) (old new : DecoderState)
+    (unread before after : List ℕ) (result : DecoderResult) (read : ℕ) (replaced : Bool) : Type 0
+  where
+    pub wrote : List ℕ
+    pub answers : AnswersDecodeCall (units_of_call call.utf16) call old new (take call.offer unread)
+        (nat_le (length unread) call.offer) result read replaced wrote
+    pub text : after ≡ (before ++ wrote) ++ units_of_text encode_utf8 (replacement_text result)
 
--- the state of a run: the decoder, the number of bytes read, the text in UTF-8, the offset and length of each malformed
--- sequence reported, and whether a sequence was malformed
+-- the state of a run: the decoder, the number of bytes read, the text in UTF-8, the offset and
+-- length of each malformed sequence reported, and whether a sequence was malformed
 pub record DecodeRunState : Type 0 where
   pub decoder : DecoderState
   pub read : ℕ
@@ -66,15 +72,24 @@ pub record DecodeRunState : Type 0 where
 -- a run that has made no call
 abbrev pub decode_run_start : BomHandling → Encoding → DecodeRunState
 decode_run_start handling e =
-    record { decoder = fresh_decoder handling e; read = 0; text = []; faults = []; had_errors = false }
+    record {
+      decoder = fresh_decoder handling e;
+      read = 0;
+      text = [];
+      faults = [];
+      had_errors =
+          false;
+    }
 
 -- a run advances by one call, unless its decoder is finished
-pub record DecodeRunAdvances (bytes : List ℕ) (made : DecodeCall) (old new : DecodeRunState) : Type 0 where
+pub record DecodeRunAdvances (bytes : List ℕ) (made : DecodeCall) (old new : DecodeRunState) : Type
+    0 where
   pub result : DecoderResult
   pub more : ℕ
   pub replaced : Bool
   pub not_finished : has_finished old.decoder ≡ false
-  pub call : MakesDecodeCall made old.decoder new.decoder (drop old.read bytes) old.text new.text result more replaced
+  pub call : MakesDecodeCall made old.decoder new.decoder (drop old.read bytes) old.text new.text
+      result more replaced
   pub read : new.read ≡ old.read + more
   pub faults : new.faults ≡ old.faults ++ fault_of_result result new.read
   pub flag : new.had_errors ≡ (old.had_errors || (replaced || is_malformed_result result))
@@ -82,22 +97,26 @@ pub record DecodeRunAdvances (bytes : List ℕ) (made : DecodeCall) (old new : D
 -- these calls, in turn, lead from one state to the other
 abbrev pub IsDecodeRun : List ℕ → List DecodeCall → DecodeRunState → DecodeRunState → Type 0
 IsDecodeRun bytes [] old new = old ≡ new
-IsDecodeRun bytes (call ∷ calls) old new = (mid : DecodeRunState) × DecodeRunAdvances bytes call old mid
+IsDecodeRun bytes (call ∷ calls) old new = (mid : DecodeRunState)
+    × DecodeRunAdvances bytes call old mid
     × IsDecodeRun bytes calls mid new
 
 -- the offset and length of each malformed sequence, if the first sequence has the offset `at`
 abbrev pub faults_from : ℕ → List Sequence → List (ℕ × ℕ)
 faults_from at [] = []
 faults_from at (s ∷ ss) =
-    if is_malformed s.kind then (at, length s.bytes) ∷ faults_from (at + length s.bytes) ss else faults_from (at + length s.bytes) ss
+    if is_malformed s.kind then (at, length s.bytes)
+    ∷ faults_from (at + length s.bytes) ss else faults_from (at + length s.bytes) ss
 
--- the offset of the first sequence of a whole input: the length of the byte order mark, if one is found
+-- the offset of the first sequence of a whole input: the length of the byte order mark, if one is
+-- found
 abbrev pub whole_start : BomHandling → Encoding → List ℕ → ℕ
 whole_start handling e bytes = length (mark_bytes (find_mark (marks_looked_for handling e) bytes))
 
 -- the offset and length of each malformed sequence of a whole input
 abbrev pub whole_faults : BomHandling → Encoding → List ℕ → List (ℕ × ℕ)
-whole_faults handling e bytes = faults_from (whole_start handling e bytes) (whole_sequences handling e bytes)
+whole_faults handling e bytes =
+    faults_from (whole_start handling e bytes) (whole_sequences handling e bytes)
 
 -- the sequences that one call has done, and whether it is with replacement
 pub record DecodeRunPart : Type 0 where
@@ -112,22 +131,28 @@ sequences_of_parts (p ∷ ps) = p.done ++ sequences_of_parts ps
 -- the offset and length of each malformed sequence reported
 abbrev pub reported_faults_from : ℕ → List DecodeRunPart → List (ℕ × ℕ)
 reported_faults_from at [] = []
-reported_faults_from at (p ∷ ps) = (if p.replaces then [] else faults_from at p.done) ++ reported_faults_from (at + length (sequence_bytes p.done)) ps
+reported_faults_from at (p ∷ ps) =
+    (if p.replaces then [] else faults_from at p.done)
+    ++ reported_faults_from (at + length (sequence_bytes p.done)) ps
 
 -- whether all calls report malformed sequences
 abbrev pub all_report_malformed : List DecodeCall → Bool
 all_report_malformed [] = true
 all_report_malformed (call ∷ calls) = not call.replace && all_report_malformed calls
 
--- The result of some calls: each has done a part of the sequences of the whole input, from the first on. A finished run
--- has done all of them, skipped ones included.
-pub record HasRunDecoding (handling : BomHandling) (e : Encoding) (bytes : List ℕ) (calls : List DecodeCall) (text : List ℕ) (faults : List (ℕ × ℕ)) (had_errors ended : Bool) : Type 0 where
+-- The result of some calls: each has done a part of the sequences of the whole input, from the
+-- first on. A finished run has done all of them, skipped ones included.
+pub record HasRunDecoding (handling : BomHandling) (e : Encoding) (bytes : List ℕ)
+    (calls : List DecodeCall) (text : List ℕ) (faults : List (ℕ × ℕ)) (had_errors ended : Bool) :
+    Type 0 where
   pub parts : List DecodeRunPart
   pub rest : List Sequence
   pub sequences : whole_sequences handling e bytes ≡ sequences_of_parts parts ++ rest
   pub all : ended ≡ true → rest ≡ []
-  pub calls_are : map (λ (p : DecodeRunPart). p.replaces) parts ≡ map (λ (c : DecodeCall). c.replace) calls
+  pub calls_are : map (λ (p : DecodeRunPart). p.replaces) parts
+      ≡ map (λ (c : DecodeCall). c.replace) calls
   pub text_of_done : text ≡ units_of_text encode_utf8 (sequence_text (sequences_of_parts parts))
-  -- the malformed sequences met by calls that report them, in order and at their offsets in the whole input
+  -- the malformed sequences met by calls that report them, in order and at their offsets in the
+  -- whole input
   pub reported : faults ≡ reported_faults_from (whole_start handling e bytes) parts
   pub flag : had_errors ≡ any_malformed (sequences_of_parts parts)

@@ -1,7 +1,8 @@
--- A run from a source to a sink: its text and its bytes, at the end and after a fault. The bytes are decoded by the
--- encoding of a byte order mark at the start, which is dropped, or else by `from`. The text is written in the output
--- encoding of `to`.
-use Rattle.std.specs.Prelude.{◌≡◌, ℕ, ◌^◌, ◌<◌, Bool, true, ◌||◌, List, [], ◌++◌, length, Option, IfSome, option_map, IfOk, OnOk, OnErr, IsErrOf}
+-- A run from a source to a sink: its text and its bytes, at the end and after a fault. The bytes
+-- are decoded by the encoding of a byte order mark at the start, which is dropped, or else by
+-- `from`. The text is written in the output encoding of `to`.
+use Rattle.std.specs.Prelude.{◌≡◌, ℕ, ◌^◌, ◌<◌, Bool, true, ◌||◌, List, [], ◌++◌, length, Option, IfSome, option_map}
+use Rattle.std.specs.Prelude.{IfOk, OnOk, OnErr, IsErrOf}
 use Rattle.std.specs.declared.result.Result.{Result}
 use Rattle.enc_decoder.specs.Sequence.{sequence_text}
 use Rattle.enc_encoder.specs.Unmappable.{any_unmappable}
@@ -27,11 +28,14 @@ whole_text from bytes = sequence_text (whole_sequences Sniff from bytes)
 abbrev pub recoded_bytes : Encoding → Encoding → List ℕ → List ℕ
 recoded_bytes from to bytes = whole_bytes [] to (whole_text from bytes)
 
--- whether a sequence of a whole input is malformed, or a character of its text is unmappable in the output encoding
+-- whether a sequence of a whole input is malformed, or a character of its text is unmappable in the
+-- output encoding
 abbrev pub any_replaced : Encoding → Encoding → List ℕ → Bool
-any_replaced from to bytes = whole_malformed Sniff from bytes || any_unmappable (output_rule [] to) (whole_text from bytes)
+any_replaced from to bytes =
+    whole_malformed Sniff from bytes || any_unmappable (output_rule [] to) (whole_text from bytes)
 
--- A run that has reached the end of its source, by the bytes that the two sides model before and after it.
+-- A run that has reached the end of its source, by the bytes that the two sides model before and
+-- after it.
 pub record RunsToEnd (from to : Encoding) (remaining_before remaining_after : Option (List ℕ))
     (taken_before taken_after : Option (List ℕ)) (replaced : Bool) : Type 0 where
   -- the bytes read: all those of the source, which has none left
@@ -52,13 +56,15 @@ pub record RunsToFault (from to : Encoding) (remaining_before remaining_after : 
   -- whether the run has seen the end of the source, which has no more bytes then
   pub ended : Bool
   pub none_left : ended ≡ true → IsExhausted remaining_after
-  -- The sink has taken a prefix of the bytes of their text, whatever bytes follow them. Nothing follows them if the
-  -- source was at its end.
+  -- The sink has taken a prefix of the bytes of their text, whatever bytes follow them. Nothing
+  -- follows them if the source was at its end.
   pub wrote : List ℕ
   pub written : AppendsContents taken_before taken_after wrote
-  pub prefix : (z : List ℕ) → (ended ≡ true → z ≡ []) → BeginsWithBytes (recoded_bytes from to (bytes ++ z)) wrote
+  pub prefix : (z : List ℕ) → (ended ≡ true → z ≡ [])
+      → BeginsWithBytes (recoded_bytes from to (bytes ++ z)) wrote
 
--- A source or a sink: the bytes still to come or already taken, if it models them, and whether it has failed.
+-- A source or a sink: the bytes still to come or already taken, if it models them, and whether it
+-- has failed.
 pub record Side : Type 0 where
   pub bytes : Option (List ℕ)
   pub has_failed : Bool
@@ -68,12 +74,18 @@ abbrev pub side : Option (List ℕ) → Bool → Side
 side bytes has_failed = record { bytes = bytes; has_failed = has_failed }
 
 -- A run from a source to a sink, by both sides before and after it.
-pub record IsRecodeRun (from to : Encoding) (source_before source_after sink_before sink_after : Side) (result : Result Bool RecodeFault) : Type 0 where
+pub record IsRecodeRun (from to : Encoding)
+    (source_before source_after sink_before sink_after : Side) (result : Result Bool RecodeFault) :
+    Type 0 where
   -- `Ok`: the run has reached the end of the source. No side has failed that had not failed before.
-  pub ok : IfOk result (RunsToEnd from to source_before.bytes source_after.bytes sink_before.bytes sink_after.bytes)
+  pub ok : IfOk result (RunsToEnd from to source_before.bytes source_after.bytes sink_before.bytes
+      sink_after.bytes)
   pub source_kept : OnOk result (source_after.has_failed ≡ source_before.has_failed)
   pub sink_kept : OnOk result (sink_after.has_failed ≡ sink_before.has_failed)
   -- `Err`: the side that it names has failed; the source, if it has fewer than 2^62 bytes.
-  pub err : OnErr result (RunsToFault from to source_before.bytes source_after.bytes sink_before.bytes sink_after.bytes)
-  pub read_fault : IsErrOf result fault.Read → IfSome source_before.bytes (λ all. length all < 2 ^ 62 → source_after.has_failed ≡ true)
+  pub err : OnErr result
+      (RunsToFault from to source_before.bytes source_after.bytes sink_before.bytes
+      sink_after.bytes)
+  pub read_fault : IsErrOf result fault.Read
+      → IfSome source_before.bytes (λ all. length all < 2 ^ 62 → source_after.has_failed ≡ true)
   pub write_fault : IsErrOf result fault.Write → sink_after.has_failed ≡ true

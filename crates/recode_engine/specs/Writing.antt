@@ -13,14 +13,16 @@ bytes_from_state state text =
     bytes_of_text (raw_state state).rule state.set (with_references (raw_state state).rule text)
 
 -- An encoder reads a text up to the characters `unread`. If `last`, nothing follows them.
-pub record EncodesText (old new : EncoderState) (text unread : List ℕ) (last : Bool) (wrote : List ℕ) (replaced : Bool) : Type 0 where
+pub record EncodesText (old new : EncoderState) (text unread : List ℕ) (last : Bool)
+    (wrote : List ℕ) (replaced : Bool) : Type 0 where
   pub encoding : new.encoding ≡ old.encoding
   pub barred : new.barred ≡ old.barred
   -- the characters read
   pub front : List ℕ
   pub reads : text ≡ front ++ unread
   -- The bytes to write before are those written and those still to write now.
-  pub residual : (z : List ℕ) → (last ≡ true → z ≡ []) → bytes_from_state old (text ++ z) ≡ wrote ++ bytes_from_state new (unread ++ z)
+  pub residual : (z : List ℕ) → (last ≡ true → z ≡ [])
+      → bytes_from_state old (text ++ z) ≡ wrote ++ bytes_from_state new (unread ++ z)
   pub flag : replaced ≡ any_unmappable (raw_state old).rule front
 
 -- A text is encoded up to the characters `unread`, and a sink has taken the bytes.
@@ -31,14 +33,15 @@ pub record HasEncoded (old new : EncoderState) (text unread : List ℕ) (last : 
   pub taken : AppendsContents taken_before taken_after wrote
 
 -- A sink has taken a prefix of the bytes for a text, whatever follows the text.
-pub record StopsWithin (owed : List ℕ → List ℕ) (text : List ℕ) (last : Bool) (taken_before taken_after : Option (List ℕ)) : Type 0 where
+pub record StopsWithin (owed : List ℕ → List ℕ) (text : List ℕ) (last : Bool)
+    (taken_before taken_after : Option (List ℕ)) : Type 0 where
   pub wrote : List ℕ
   pub unwritten : (z : List ℕ) → (last ≡ true → z ≡ []) → List ℕ
   pub prefix : (z : List ℕ) (h : last ≡ true → z ≡ []) → owed (text ++ z) ≡ wrote ++ unwritten z h
   pub taken : AppendsContents taken_before taken_after wrote
 
--- UTF-8 needs no room: its text is written as it is, with no character set but ASCII and no character barred. In other
--- encodings 14 bytes let each call make progress.
+-- UTF-8 needs no room: its text is written as it is, with no character set but ASCII and no
+-- character barred. In other encodings 14 bytes let each call make progress.
 pub record CanWrite (state : EncoderState) (room : ℕ) : Type 0 where
   pub utf_8 : state.encoding ≡ UTF_8 → (state.set ≡ Ascii) × (state.barred ≡ [])
   pub others : ¬ (state.encoding ≡ UTF_8) → 14 ≤ room

@@ -5,7 +5,8 @@ use Rattle.enc_decoder.proofs.JoinedCallLemmas.{no_bytes, none_held, none_follow
 use Rattle.enc_decoder.proofs.held_first.convert.Goals as goal
 
 pub returns-then-is_empty-clause-call : goal.returns-then-is_empty-clause-call
-returns-then-is_empty-clause-call g c = none_held (no_bytes _ (search rules)) c.decode_any-result.ensures.call
+returns-then-is_empty-clause-call g c =
+    none_held (no_bytes _ (search rules)) c.decode_any-result.ensures.call
 
 pub returns-then-is_empty-2-clause-call : goal.returns-then-is_empty-2-clause-call
 returns-then-is_empty-2-clause-call g c =

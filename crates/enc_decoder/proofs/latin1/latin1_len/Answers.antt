@@ -6,7 +6,8 @@ pub loop-at-init : goal.loop-at-init
 loop-at-init g c = latin1_begins c.requires
 
 pub returns-in_default : goal.returns-in_default
-returns-in_default g c = latin1_ends_waiting c.loop-at.invariant c.loop-at-test.true _ c.in_default.ensures
+returns-in_default g c =
+    latin1_ends_waiting c.loop-at.invariant c.loop-at-test.true _ c.in_default.ensures
 
 pub returns-then-not-shows_itself : goal.returns-then-not-shows_itself
 returns-then-not-shows_itself g c =

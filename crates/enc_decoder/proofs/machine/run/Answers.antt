@@ -12,38 +12,46 @@ loop-state-init g c = record { writing = begin _; rule = refl }
 
 pub returns-in-NeedsInput-clause-call : goal.returns-in-NeedsInput-clause-call
 returns-in-NeedsInput-clause-call g c =
-    let run_taken = ahead _ c.loop-state.invariant.writing c.split_at.ensures.back c.take_run-taken.ensures
+    let run_taken = ahead _ c.loop-state.invariant.writing c.split_at.ensures.back
+    c.take_run-taken.ensures
     c.loop-state.invariant.rule in
-    stays g.C.ByteCodec.state c.take_run-taken.result.0 run_taken.writing run_taken.rule c.in-NeedsInput.ensures
+    stays g.C.ByteCodec.state c.take_run-taken.result.0 run_taken.writing run_taken.rule
+    c.in-NeedsInput.ensures
 
 pub loop-state-preserved-in-HoldsByte : goal.loop-state-preserved-in-HoldsByte
 loop-state-preserved-in-HoldsByte g c =
-    let run_taken = ahead _ c.loop-state.invariant.writing c.split_at.ensures.back c.take_run-taken.ensures
+    let run_taken = ahead _ c.loop-state.invariant.writing c.split_at.ensures.back
+    c.take_run-taken.ensures
     c.loop-state.invariant.rule in
     record {
-      writing = holds g.C.ByteCodec.state c.take_run-taken.result.0 run_taken.writing run_taken.rule _
+      writing = holds g.C.ByteCodec.state c.take_run-taken.result.0 run_taken.writing run_taken.rule
+          _
           c.in-HoldsByte.ensures;
       rule = holds_rule _ _ _ c.in-HoldsByte.ensures.1.0 ∙ run_taken.rule;
     }
 
 pub returns-then-is_reported-clause-call : goal.returns-then-is_reported-clause-call
 returns-then-is_reported-clause-call g c =
-    let run_taken = ahead _ c.loop-state.invariant.writing c.split_at.ensures.back c.take_run-taken.ensures
+    let run_taken = ahead _ c.loop-state.invariant.writing c.split_at.ensures.back
+    c.take_run-taken.ensures
     c.loop-state.invariant.rule in
     let malformed = c.is_reported.ensures.malformed c.if-is_reported.true in
     let room = c.is_reported.ensures.room c.if-is_reported.true in
     elim c.if-shown.branch [
       | then-shown shown ↦ rw shown.end-is
-          (reports_with g.C.ByteCodec.state c.take_run-taken.result.0 run_taken.writing run_taken.rule
+          (reports_with g.C.ByteCodec.state c.take_run-taken.result.0 run_taken.writing
+          run_taken.rule
           c.in-Emits.ensures malformed shown.if-shown.true c.held.ensures room)
       | else-shown shown ↦ rw shown.end-is
-          (reports_before g.C.ByteCodec.state c.take_run-taken.result.0 run_taken.writing run_taken.rule
+          (reports_before g.C.ByteCodec.state c.take_run-taken.result.0 run_taken.writing
+          run_taken.rule
           c.in-Emits.ensures malformed shown.if-shown.false c.held.ensures room)
     ]
 
 pub returns-then-not-put_out-clause-call : goal.returns-then-not-put_out-clause-call
 returns-then-not-put_out-clause-call g c =
-    let run_taken = ahead _ c.loop-state.invariant.writing c.split_at.ensures.back c.take_run-taken.ensures
+    let run_taken = ahead _ c.loop-state.invariant.writing c.split_at.ensures.back
+    c.take_run-taken.ensures
     c.loop-state.invariant.rule in
     stops_full g.C.ByteCodec.state c.take_run-taken.result.0 run_taken.writing run_taken.rule
     c.in-Emits.ensures (c.put_out.ensures.unchanged c.if-not-put_out.true)
@@ -53,7 +61,8 @@ returns-then-not-put_out-clause-call g c =
 
 pub loop-state-preserved : goal.loop-state-preserved
 loop-state-preserved g c =
-    let run_taken = ahead _ c.loop-state.invariant.writing c.split_at.ensures.back c.take_run-taken.ensures
+    let run_taken = ahead _ c.loop-state.invariant.writing c.split_at.ensures.back
+    c.take_run-taken.ensures
     c.loop-state.invariant.rule in
     let valid = c.put_out.ensures.valid c.if-not-put_out.false in
     let fits = c.put_out.ensures.fits c.if-not-put_out.false in
@@ -62,10 +71,12 @@ loop-state-preserved g c =
     record {
       writing = elim c.if-shown.branch [
         | then-shown shown ↦ rw shown.end-is
-            (puts_with g.C.ByteCodec.state c.take_run-taken.result.0 run_taken.writing run_taken.rule
+            (puts_with g.C.ByteCodec.state c.take_run-taken.result.0 run_taken.writing
+            run_taken.rule
             c.in-Emits.ensures valid shown.if-shown.true scalars fits written)
         | else-shown shown ↦ rw shown.end-is
-            (puts_before g.C.ByteCodec.state c.take_run-taken.result.0 run_taken.writing run_taken.rule
+            (puts_before g.C.ByteCodec.state c.take_run-taken.result.0 run_taken.writing
+            run_taken.rule
             c.in-Emits.ensures valid shown.if-shown.false scalars fits written)
       ];
       rule = c.in-Emits.ensures.0.same_rule ∙ run_taken.rule;
@@ -73,13 +84,21 @@ loop-state-preserved g c =
 
 pub loop-state-smaller : goal.loop-state-smaller
 loop-state-smaller g c =
-    let run_taken = ahead _ c.loop-state.invariant.writing c.split_at.ensures.back c.take_run-taken.ensures
+    let run_taken = ahead _ c.loop-state.invariant.writing c.split_at.ensures.back
+    c.take_run-taken.ensures
     c.loop-state.invariant.rule in
     elim c.if-shown.branch [
       | then-shown shown ↦
           let no_more_pending = fewer_with _ c.in-Emits.ensures.0 shown.if-shown.true in
           let byte_follows = (c.in-Emits.ensures.1 shown.if-shown.true).0 in
-          omega (arith, no_more_pending, byte_follows, run_taken.pending, run_taken.within, shown.end-is)
+          omega (
+            arith,
+            no_more_pending,
+            byte_follows,
+            run_taken.pending,
+            run_taken.within,
+            shown.end-is,
+          )
       | else-shown shown ↦
           let fewer_pending = fewer_before _ c.in-Emits.ensures.0 shown.if-shown.false in
           omega (arith, fewer_pending, run_taken.pending, run_taken.within, shown.end-is)

@@ -5,10 +5,13 @@ use Rattle.enc_decoder.proofs.machine.run.Given as goal
 
 abbrev pub invariant-loop-state : goal.invariant-loop-state
 invariant-loop-state g l = record {
-  writing : Writing g.U.Units.units_of (remainder_of (g.C.ByteCodec.state l.initial.codec)) l.src l.last (g.U.Units.output l.initial.out) (g.U.Units.output l.out) l.read (remainder_of (g.C.ByteCodec.state l.state));
+  writing : Writing g.U.Units.units_of (remainder_of (g.C.ByteCodec.state l.initial.codec)) l.src
+      l.last (g.U.Units.output l.initial.out) (g.U.Units.output l.out) l.read
+      (remainder_of (g.C.ByteCodec.state l.state));
   rule : (g.C.ByteCodec.state l.state).rule ≡ (g.C.ByteCodec.state l.initial.codec).rule;
 }
 
 -- what is unread counts twice, so that it may be held
 abbrev pub decreases-loop-state : goal.decreases-loop-state
-decreases-loop-state g l = 2 * (length l.src - l.read) + length (g.C.ByteCodec.state l.state).pending
+decreases-loop-state g l =
+    2 * (length l.src - l.read) + length (g.C.ByteCodec.state l.state).pending

@@ -14,9 +14,11 @@ returns-in-GivenBack-clause-comes c =
 pub returns-in-Lead-clause-comes : goal.returns-in-Lead-clause-comes
 returns-in-Lead-clause-comes c =
     rw (c.in-Lead.is, c.show_char-in-Lead.ensures, c.with_held-in-Lead.ensures)
-    (shows_lead c.args.set c.in-Lead.field-0 (subst (λ h. CanHold c.args.set (Some h)) c.in-Lead.is c.requires))
+    (shows_lead c.args.set c.in-Lead.field-0
+    (subst (λ h. CanHold c.args.set (Some h)) c.in-Lead.is c.requires))
 
 pub returns-in-Whole-clause-comes : goal.returns-in-Whole-clause-comes
 returns-in-Whole-clause-comes c =
     rw (c.in-Whole.is, c.skip_escape.ensures)
-    (shows_skipped c.args.set (Whole c.in-Whole.escape) c.in-Whole.escape None (rw append-nil refl) (λ y m. m))
+    (shows_skipped c.args.set (Whole c.in-Whole.escape) c.in-Whole.escape None (rw append-nil refl)
+    (λ y m. m))

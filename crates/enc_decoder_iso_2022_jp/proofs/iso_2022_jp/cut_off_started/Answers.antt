@@ -15,6 +15,7 @@ pub returns-in-None-clause-comes : goal.returns-in-None-clause-comes
 returns-in-None-clause-comes c =
     let bytes = c.give_back.ensures.bytes in
     rw (c.in-None.is, c.show_char.ensures, c.with_held-next.ensures)
-    (shows_malformed c.args.set (Started None c.args.intermediate) 0x1B (Some c.give_back.result) (rw bytes refl)
+    (shows_malformed c.args.set (Started None c.args.intermediate) 0x1B (Some c.give_back.result)
+    (rw bytes refl)
     (rw bytes (omega arith))
     (λ y m. rw bytes (no_escape_first (set_number c.args.set) _ m)))

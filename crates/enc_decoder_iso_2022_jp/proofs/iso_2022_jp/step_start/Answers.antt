@@ -10,6 +10,7 @@ pub returns-in-Some : goal.returns-in-Some
 returns-in-Some c =
     rw (c.with_held.ensures, c.in-Some.ensures.some) (
       ap (λ p. record { rule = iso_2022_jp_rule; set = set_number c.args.set; pending = p })
-          (escape_and_bytes-append c.args.before (0x1B ∷ []) (intermediate_byte c.in-Some.intermediate ∷ [])),
+          (escape_and_bytes-append c.args.before (0x1B ∷ [])
+          (intermediate_byte c.in-Some.intermediate ∷ [])),
       undetermined c.args.set (Started c.args.before c.in-Some.intermediate) tt (λ b q. cc),
     )

@@ -6,10 +6,14 @@ use Rattle.enc_decoder_iso_2022_jp.proofs.iso_2022_jp.step_started.Goals as goal
 
 pub returns-in-None : goal.returns-in-None
 returns-in-None c =
-    rw (c.in-None.is, c.with_held.ensures)
-    (rw c.in-Some.ensures.some refl, undetermined c.args.set (Whole c.in-Some.escape) tt (λ b q. cc))
+    rw (c.in-None.is, c.with_held.ensures) (
+      rw c.in-Some.ensures.some refl,
+      undetermined c.args.set (Whole c.in-Some.escape) tt
+          (λ b q. cc),
+    )
 
 pub returns-in-Some-before : goal.returns-in-Some-before
 returns-in-Some-before c =
     rw (c.in-Some-before.is, c.report_escape.ensures)
-    (shows_repeated c.args.set c.in-Some-before.first c.in-Some.escape c.args.intermediate c.args.byte c.in-Some.ensures.some)
+    (shows_repeated c.args.set c.in-Some-before.first c.in-Some.escape c.args.intermediate
+    c.args.byte c.in-Some.ensures.some)

@@ -5,4 +5,5 @@ use Rattle.enc_decoder_iso_2022_jp.proofs.iso_2022_jp.step_whole.Goals as goal
 
 pub returns-then-byte-eq27 : goal.returns-then-byte-eq27
 returns-then-byte-eq27 c =
-    rw (c.with_held.ensures, c.if-byte-eq27.true) (refl, undetermined c.args.set (Start (Some c.args.escape)) tt (λ b q. cc))
+    rw (c.with_held.ensures, c.if-byte-eq27.true)
+    (refl, undetermined c.args.set (Start (Some c.args.escape)) tt (λ b q. cc))

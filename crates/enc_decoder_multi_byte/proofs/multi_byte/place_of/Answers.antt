@@ -11,7 +11,8 @@ use Rattle.enc_decoder_multi_byte.proofs.multi_byte.place_of.Goals as goal
 pub returns-then-is_pair-clause-means : goal.returns-then-is_pair-clause-means
 returns-then-is_pair-clause-means g c char e =
     let pair = c.pair_place-place.ensures.is_pair char e in
-    subst (λ t. IsWholeChar (multi_byte_rule g.E.MultiByte.prefix) 0 (byte_or_pair t c.args.first c.args.second) char) (sym c.if-is_pair.true)
+    subst (λ t. IsWholeChar (multi_byte_rule g.E.MultiByte.prefix) 0
+    (byte_or_pair t c.args.first c.args.second) char) (sym c.if-is_pair.true)
     (complete_two g.E.MultiByte.prefix _ _ _ pair.first pair.both)
 
 pub returns-else-is_pair-clause-means : goal.returns-else-is_pair-clause-means
@@ -25,7 +26,8 @@ returns-else-is_pair-clause-means g c char has_char =
           subst (λ t. IsWholeChar (multi_byte_rule g.E.MultiByte.prefix) 0
           (byte_or_pair t first_byte c.args.second) char) (sym c.if-is_pair.false)
           (subst (IsWholeChar (multi_byte_rule g.E.MultiByte.prefix) 0 (first_byte ∷ [])) same
-          (complete_one g.E.MultiByte.prefix first_byte first_byte (c.ascii.ensures first_byte low)))
+          (complete_one g.E.MultiByte.prefix first_byte first_byte
+          (c.ascii.ensures first_byte low)))
       | inr high ↦ absurd (some_none _ char
           (grid_char-of_byte grid first_byte high (omega (arith, c.ranges.first.fits))) has_char)
     ]

@@ -10,8 +10,14 @@ loop-read-preserved c =
     let some : 0 < length (drop read bytes) = omega (arith, length-drop read bytes) in
     let found = c.first_sequence-found.result in
     let reads_within : read + found.len ≤ length bytes =
-    omega (arith, length-drop read bytes, rw c.split_at.ensures.back at c.first_sequence-found.ensures.within) in
-    let decoded = goes_past bytes read c.loop-read.text.items c.loop-read.had_errors c.loop-read.invariant found.len
+    omega (
+      arith,
+      length-drop read bytes,
+      rw c.split_at.ensures.back
+          at c.first_sequence-found.ensures.within,
+    ) in
+    let decoded = goes_past bytes read c.loop-read.text.items c.loop-read.had_errors
+    c.loop-read.invariant found.len
     found.character found.malformed some
     (rw c.split_at.ensures.back at c.first_sequence-found.ensures.len)
     (rw c.split_at.ensures.back at c.first_sequence-found.ensures.character)

@@ -11,4 +11,5 @@ overflow_sub-scalar-2 c = (trail_range c.args.trail c.requires.trail).0
 pub unwrap-requires : goal.unwrap-requires
 unfolding pair_scalar
 unwrap-requires c =
-    c.from_u32.ensures.succeeds (pair_in_range c.args.lead c.args.trail c.requires.lead c.requires.trail)
+    c.from_u32.ensures.succeeds
+    (pair_in_range c.args.lead c.args.trail c.requires.lead c.requires.trail)

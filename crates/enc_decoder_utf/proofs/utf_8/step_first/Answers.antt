@@ -6,10 +6,14 @@ use Rattle.enc_decoder_utf.proofs.Utf8Comes.{completes, malformed_with}
 use Rattle.enc_decoder_utf.proofs.utf_8.step_first.Goals as goal
 
 pub returns-in-0 : goal.returns-in-0
-returns-in-0 c = rw c.malformed.ensures (malformed_with c.args.byte (λ z. none_malformed c.args.byte z (sym c.sequence_len.ensures ∙ c.in-0.is)))
+returns-in-0 c = rw c.malformed.ensures
+    (malformed_with c.args.byte
+    (λ z. none_malformed c.args.byte z (sym c.sequence_len.ensures ∙ c.in-0.is)))
 
 pub returns-in-1 : goal.returns-in-1
-returns-in-1 c = rw c.valid.ensures (completes Nothing c.args.byte _ _ refl refl (λ z. one_valid c.args.byte z (sym c.sequence_len.ensures ∙ c.in-1.is)))
+returns-in-1 c = rw c.valid.ensures
+    (completes Nothing c.args.byte _ _ refl refl
+    (λ z. one_valid c.args.byte z (sym c.sequence_len.ensures ∙ c.in-1.is)))
 
 pub returns-in_default : goal.returns-in_default
 returns-in_default c = (refl, undetermined (One c.args.byte) (wants_one c.args.byte (omega arith)))

@@ -8,16 +8,20 @@ use Rattle.enc_decoder_utf.proofs.utf_8.step_second.Goals as goal
 pub returns-then-not-is_second_byte : goal.returns-then-not-is_second_byte
 returns-then-not-is_second_byte c =
     rw c.malformed.ensures (malformed_before (One c.args.first) c.args.byte _ refl (omega arith)
-    (λ z. one_malformed c.args.first c.args.byte z (one_wants c.args.first c.requires) (sym c.is_second_byte.ensures ∙ c.if-not-is_second_byte.true)))
+    (λ z. one_malformed c.args.first c.args.byte z (one_wants c.args.first c.requires)
+    (sym c.is_second_byte.ensures ∙ c.if-not-is_second_byte.true)))
 
 pub returns-then-sequence_len-eq2 : goal.returns-then-sequence_len-eq2
 returns-then-sequence_len-eq2 c =
     rw c.valid.ensures (completes (One c.args.first) c.args.byte _ _ refl c.two_byte_char.ensures
-    (λ z. two_valid c.args.first c.args.byte z (sym c.sequence_len.ensures ∙ c.if-sequence_len-eq2.true) (sym c.is_second_byte.ensures ∙ c.if-not-is_second_byte.false)))
+    (λ z. two_valid c.args.first c.args.byte z
+    (sym c.sequence_len.ensures ∙ c.if-sequence_len-eq2.true)
+    (sym c.is_second_byte.ensures ∙ c.if-not-is_second_byte.false)))
 
 pub returns-else-sequence_len-eq2 : goal.returns-else-sequence_len-eq2
 returns-else-sequence_len-eq2 c = (
   refl,
   undetermined (Two c.args.first c.args.byte)
-      (second_wants c.args.first c.args.byte c.requires (omega (arith, c.if-sequence_len-eq2.false)) (sym c.is_second_byte.ensures ∙ c.if-not-is_second_byte.false)),
+      (second_wants c.args.first c.args.byte c.requires (omega (arith, c.if-sequence_len-eq2.false))
+      (sym c.is_second_byte.ensures ∙ c.if-not-is_second_byte.false)),
 )

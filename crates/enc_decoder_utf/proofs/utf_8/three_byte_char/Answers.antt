@@ -11,4 +11,6 @@ pub overflow_sub-scalar-3 : goal.overflow_sub-scalar-3
 overflow_sub-scalar-3 c = (continuation_range c.args.third c.requires.third).0
 
 pub unwrap-requires : goal.unwrap-requires
-unwrap-requires c = c.from_u32.ensures.succeeds (three_scalar c.args.first c.args.second c.args.third c.requires.len c.requires.second c.requires.third)
+unwrap-requires c = c.from_u32.ensures.succeeds
+    (three_scalar c.args.first c.args.second c.args.third c.requires.len c.requires.second
+    c.requires.third)

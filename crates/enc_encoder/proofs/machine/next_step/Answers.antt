@@ -11,7 +11,8 @@ returns-in-Some g c =
     let encoder_state = g.E.CharEncoder.state c.args.encoder in
     let due = c.in-Some.ensures in
     subst
-    (λ (t : Transition g.row.E.Denot). HandlesCharacter g.E.CharEncoder.state c.args.encoder c.args.c t)
+    (λ (t : Transition g.row.E.Denot). HandlesCharacter g.E.CharEncoder.state c.args.encoder
+    c.args.c t)
     (sym c.take_escape.ensures.value)
     (acts_escaped encoder_state.rule encoder_state.set c.args.c c.first_written_char.result
     (c.first_written_char.ensures _ c.bytes-found.ensures) g.E.CharEncoder.state c.args.encoder refl
@@ -23,7 +24,8 @@ pub returns-in-None : goal.returns-in-None
 returns-in-None g c =
     let encoder_state = g.E.CharEncoder.state c.args.encoder in
     subst
-    (λ (t : Transition g.row.E.Denot). HandlesCharacter g.E.CharEncoder.state c.args.encoder c.args.c t)
+    (λ (t : Transition g.row.E.Denot). HandlesCharacter g.E.CharEncoder.state c.args.encoder
+    c.args.c t)
     (sym c.take_char.ensures.value)
     (acts_written encoder_state.rule encoder_state.set c.args.c c.first_written_char.result
     (c.first_written_char.ensures _ c.bytes-found.ensures) g.E.CharEncoder.state c.args.encoder refl

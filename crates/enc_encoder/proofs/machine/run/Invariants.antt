@@ -10,4 +10,5 @@ invariant-loop-taken g l =
 
 -- each turn takes one step off
 abbrev pub decreases-loop-taken : goal.decreases-loop-taken
-decreases-loop-taken g l = length (steps_from_state (g.E.CharEncoder.state l.state) l.last (g.C.Chars.rest l.src))
+decreases-loop-taken g l =
+    length (steps_from_state (g.E.CharEncoder.state l.state) l.last (g.C.Chars.rest l.src))

@@ -7,7 +7,8 @@ pub loop-rest-init : goal.loop-rest-init
 loop-rest-init c =
     let char_range = c.ranges.c in
     let long = c.told-bytes in
-    let none_after : drop 10 c.args.bytes.now ≡ [] = drop_of_length-le c.args.bytes.now {i = 10} (omega arith) in
+    let none_after : drop 10 c.args.bytes.now ≡ [] =
+    drop_of_length-le c.args.bytes.now {i = 10} (omega arith) in
     record {
       low = omega arith;
       high = omega arith;
@@ -32,7 +33,8 @@ loop-rest-preserved c =
       long = length-set turn.bytes (turn.at - 1) (48 + turn.rest % 10) ∙ invariant.long;
       written =
           ap (λ t. decimal (turn.rest / 10) ++ t)
-          (put_before turn.bytes (turn.at - 1) turn.at (48 + turn.rest % 10) (omega (arith, invariant.low))
+          (put_before turn.bytes (turn.at - 1) turn.at (48 + turn.rest % 10)
+          (omega (arith, invariant.low))
           (omega (arith, invariant.high, invariant.long)))
           ∙ last_digit turn.rest (drop turn.at turn.bytes) c.loop-rest-test.true
           (omega (arith, turn.auto.rest-fits.fits))
@@ -43,5 +45,6 @@ pub returns-clause-reference : goal.returns-clause-reference
 returns-clause-reference c =
     let turn = c.loop-rest in
     let invariant = turn.invariant in
-    front turn.bytes _ turn.at turn.rest invariant.low (omega (arith, invariant.high, invariant.long))
+    front turn.bytes _ turn.at turn.rest invariant.low
+    (omega (arith, invariant.high, invariant.long))
     (omega (arith, c.loop-rest-test.false)) invariant.written

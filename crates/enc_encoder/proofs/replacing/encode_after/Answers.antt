@@ -19,20 +19,24 @@ returns g c =
     rw (length-take, length-drop) (omega (arith, c.requires.below, c.requires.within)) in
     let fits = encoded.call.fits in
     let size : length part ≡ limit - start =
-    ap length encoded.onto ∙ rw (length-append, length-drop, room) (omega (arith, encoded.count, fits, room)) in
+    ap length encoded.onto
+    ∙ rw (length-append, length-drop, room) (omega (arith, encoded.count, fits, room)) in
     record {
       wrote = encoded.wrote;
       count = encoded.count;
       onto =
-          onto_part start limit wrote slice encoded.wrote part _ encoded.count c.requires.below c.requires.within
+          onto_part start limit wrote slice encoded.wrote part _ encoded.count c.requires.below
+          c.requires.within
           (omega (arith, encoded.count, fits, room)) encoded.onto
-          (take-put_mid start (limit - start) slice part _ refl (omega (arith, c.requires.below, c.requires.within)))
+          (take-put_mid start (limit - start) slice part _ refl
+          (omega (arith, c.requires.below, c.requires.within)))
           (drop-put_mid start (limit - start) slice part _ (omega (arith, size))
           (omega (arith, c.requires.below, c.requires.within)) size);
       call = with_room room encoded.call;
       text = subst (λ (w : List ℕ). KeepsText (g.E.RawEncoder.state c.args.encoder.now)
           (g.E.RawEncoder.state c.encode-result.new.self) (g.C.Chars.rest c.args.src.now)
           (g.C.Chars.rest c.encode-result.new.src) c.args.last c.encode-result.result.0 w)
-          (wrote_is (take (limit - start) (drop start slice)) part encoded.wrote wrote encoded.count encoded.onto)
+          (wrote_is (take (limit - start) (drop start slice)) part encoded.wrote wrote encoded.count
+          encoded.onto)
           c.encode-result.ensures.text;
     }

@@ -23,4 +23,5 @@ invariant-loop-src g l =
 
 -- each turn takes the step of a report off
 abbrev pub decreases-loop-src : goal.decreases-loop-src
-decreases-loop-src g l = length (steps_from_state (g.E.RawEncoder.state l.encoder) l.last (g.C.Chars.rest l.src))
+decreases-loop-src g l =
+    length (steps_from_state (g.E.RawEncoder.state l.encoder) l.last (g.C.Chars.rest l.src))

@@ -7,7 +7,8 @@ loop-low-preserved-then-last-number c =
     right c.requires _ c.loop-low.invariant (omega arith) (omega arith) c.if-last-number.true
 
 pub loop-low-preserved : goal.loop-low-preserved
-loop-low-preserved c = left c.requires _ c.loop-low.invariant (omega arith) (omega arith) c.if-number-first.true
+loop-low-preserved c =
+    left c.requires _ c.loop-low.invariant (omega arith) (omega arith) c.if-number-first.true
 
 pub returns-else-number-first-clause-first : goal.returns-else-number-first-clause-first
 returns-else-number-first-clause-first c =

@@ -11,7 +11,8 @@ pub run_with-requires : goal.run_with-requires
 run_with-requires c = by_code_point_ascends
 
 pub overflow_add-result : goal.overflow_add-result
-overflow_add-result c = let low = found_is_below c.args.c _ (sym c.in-Some.ensures.first) in omega (arith, low)
+overflow_add-result c = let low = found_is_below c.args.c _ (sym c.in-Some.ensures.first) in
+    omega (arith, low)
 
 pub returns-in-Some-clause-value : goal.returns-in-Some-clause-value
 returns-in-Some-clause-value c =

@@ -9,6 +9,7 @@ returns-then-label-word c =
 
 pub returns-then-label-at : goal.returns-then-label-at
 returns-then-label-at c =
-    by_byte_before _ _ _ _ c.type_inv.label c.type_inv.word c.if-label-word.false c.loop-at-test.true
+    by_byte_before _ _ _ _ c.type_inv.label c.type_inv.word c.if-label-word.false
+    c.loop-at-test.true
     c.loop-at.invariant.within c.loop-at.invariant.same c.if-label-at.true
     (ranked _ _ _ c.cmp-then-label-at.ensures)

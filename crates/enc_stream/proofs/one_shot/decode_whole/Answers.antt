@@ -29,7 +29,8 @@ returns-then-is_empty-clause-flag c =
 
 pub returns-in_err-make_room-clause-too_long : goal.returns-in_err-make_room-clause-too_long
 returns-in_err-make_room-clause-too_long c = λ too_long.
-    let none : c.max_utf8_buffer_length_without_replacement-length.result ≡ None = search rules in inl (
+    let none : c.max_utf8_buffer_length_without_replacement-length.result ≡ None = search rules in
+    inl (
     ap (λ d. max_length Utf8Reporting d (length c.args.bytes.now)) (sym c.start-decoder.ensures)
     ∙ sym c.max_utf8_buffer_length_without_replacement-length.ensures.length ∙ none
     )
@@ -39,7 +40,8 @@ returns-then-eq-clause-text c =
     let decodes = c.decode_to_string-stop.ensures.call.decodes in
     let at_end : c.decode_to_string-stop.result.0 ≡ InputEmpty = search rules in
     let decoded =
-    first_call c.start-decoder.ensures (c.in_ok-make_room.ensures.bytes ∙ c.new-text.ensures.bytes) decodes
+    first_call c.start-decoder.ensures (c.in_ok-make_room.ensures.bytes ∙ c.new-text.ensures.bytes)
+    decodes
     c.decode_to_string-stop.ensures.appended (puts_all _ decodes) in
     whole_text decoded (now_finished decodes at_end)
 
@@ -48,7 +50,8 @@ returns-then-eq-clause-flag c =
     let decodes = c.decode_to_string-stop.ensures.call.decodes in
     let at_end : c.decode_to_string-stop.result.0 ≡ InputEmpty = search rules in
     let decoded =
-    first_call c.start-decoder.ensures (c.in_ok-make_room.ensures.bytes ∙ c.new-text.ensures.bytes) decodes
+    first_call c.start-decoder.ensures (c.in_ok-make_room.ensures.bytes ∙ c.new-text.ensures.bytes)
+    decodes
     c.decode_to_string-stop.ensures.appended (puts_all _ decodes) in
     whole_flag decoded (now_finished decodes at_end)
 
@@ -60,9 +63,11 @@ max_utf8_buffer_length-length-requires c =
 pub returns-in_err-make_room-2-clause-too_long : goal.returns-in_err-make_room-2-clause-too_long
 returns-in_err-make_room-2-clause-too_long c =
     let goes_on : ¬ (c.decode_to_string-stop.result.0 ≡ InputEmpty) = search rules in
-    let none : string_bytes c.make_room.new.text ≡ [] = c.in_ok-make_room.ensures.bytes ∙ c.new-text.ensures.bytes in
+    let none : string_bytes c.make_room.new.text ≡ [] = c.in_ok-make_room.ensures.bytes
+    ∙ c.new-text.ensures.bytes in
     λ too_long. inr (
-    too_long_after c.start-decoder.ensures c.max_utf8_buffer_length_without_replacement-length.ensures.length
+    too_long_after c.start-decoder.ensures
+    c.max_utf8_buffer_length_without_replacement-length.ensures.length
     c.in_ok-make_room.ensures.enough _ goes_on c.decode_to_string-stop.ensures.call
     (rw (none, ← c.split_at.ensures.back) (search rules))
     )
@@ -76,14 +81,16 @@ pub unreachable-requires : goal.unreachable-requires
 unreachable-requires c =
     let are_bytes : AreBytes c.split_at.result.1.now =
     rw c.split_at.ensures.back (are_bytes_drop _ _ (bytes_of_slice _ c.type_inv.bytes)) in
-    never_full _ _ _ c.max_utf8_buffer_length-length.ensures.enough c.in_ok-make_room-2.ensures.enough are_bytes refl
+    never_full _ _ _ c.max_utf8_buffer_length-length.ensures.enough
+    c.in_ok-make_room-2.ensures.enough are_bytes refl
     c.decode_to_string.ensures.call.need (ap decoder_result_of c.in-OutputFull-default-default.is-0)
 
 pub returns-clause-text : goal.returns-clause-text
 returns-clause-text c =
     let decodes = c.decode_to_string-stop.ensures.call.decodes in
     let first =
-    first_call c.start-decoder.ensures (c.in_ok-make_room.ensures.bytes ∙ c.new-text.ensures.bytes) decodes
+    first_call c.start-decoder.ensures (c.in_ok-make_room.ensures.bytes ∙ c.new-text.ensures.bytes)
+    decodes
     c.decode_to_string-stop.ensures.appended (puts_all _ decodes) in
     let decodes_rest = c.decode_to_string.ensures.call.decodes in
     let both =
@@ -95,7 +102,8 @@ pub returns-clause-flag : goal.returns-clause-flag
 returns-clause-flag c =
     let decodes = c.decode_to_string-stop.ensures.call.decodes in
     let first =
-    first_call c.start-decoder.ensures (c.in_ok-make_room.ensures.bytes ∙ c.new-text.ensures.bytes) decodes
+    first_call c.start-decoder.ensures (c.in_ok-make_room.ensures.bytes ∙ c.new-text.ensures.bytes)
+    decodes
     c.decode_to_string-stop.ensures.appended (puts_all _ decodes) in
     let decodes_rest = c.decode_to_string.ensures.call.decodes in
     let both =

@@ -11,7 +11,8 @@ loop-len-init c = record { within = omega arith; reaches = reaches_itself _ }
 pub loop-len-preserved : goal.loop-len-preserved
 loop-len-preserved c = record {
   within = omega arith;
-  reaches = reaches_next _ _ _ _ _ c.loop-len-test.true c.loop-len.invariant.reaches c.in-Holds.ensures;
+  reaches = reaches_next _ _ _ _ _ c.loop-len-test.true c.loop-len.invariant.reaches
+      c.in-Holds.ensures;
 }
 
 pub returns-in-Ends-clause-sniffed : goal.returns-in-Ends-clause-sniffed
@@ -28,7 +29,8 @@ returns-then-not-last-clause-sniffed c =
       all,
       c.if-not-last.true,
       sym c.awaits_mark.ensures ∙ c.if-awaits_mark.true,
-      rw (take_all c.loop-len.len c.args.src.now c.loop-len-test.false) at c.loop-len.invariant.reaches,
+      rw (take_all c.loop-len.len c.args.src.now c.loop-len-test.false)
+          at c.loop-len.invariant.reaches,
     )
 
 pub returns-clause-sniffed : goal.returns-clause-sniffed

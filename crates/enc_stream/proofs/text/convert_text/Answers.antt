@@ -46,7 +46,8 @@ returns-then-leaves_bb-clause-call g c = λ e same.
       no_mark = c.requires.text;
       holds = c.requires.holds;
     }) reads c.convert-done.ensures.rule made
-    (sym c.reaches_end.ensures ∙ c.if-reaches_end.false) equal.0 (sym held ∙ equal.1) (let u = equal.2 in
+    (sym c.reaches_end.ensures ∙ c.if-reaches_end.false) equal.0 (sym held ∙ equal.1)
+    (let u = equal.2 in
     omega (arith, c.held-2.ensures.count)))
 
 pub returns-then-leaves_bb-clause-holds : goal.returns-then-leaves_bb-clause-holds
@@ -55,9 +56,11 @@ returns-then-leaves_bb-clause-holds g c =
     let reads = rw (c.unread-held.ensures, c.held.ensures.count) at c.convert-done.ensures.reads in
     let equal = all_equal _ _ _ _ _ c.if-leaves_bb.true in
     let held = ap length (rw c.held.ensures.count at c.unread-held.ensures) in
-    let one : length (g.D.RawDecoder.state c.convert-done.new.codec).pending + c.convert-done.result.left ≡ 1 =
+    let one : length (g.D.RawDecoder.state c.convert-done.new.codec).pending
+    + c.convert-done.result.left ≡ 1 =
     ap (λ n. n + c.convert-done.result.left) (sym c.held-2.ensures.count) ∙ equal.2 in
-    holds_bb {v = g.D.RawDecoder.state c.args.codec.now} {done = made.call.done} {life = c.args.life.now}
+    holds_bb {v = g.D.RawDecoder.state c.args.codec.now} {done = made.call.done}
+    {life = c.args.life.now}
     (leaves_bb reads made.accounted equal.0 (sym held ∙ equal.1) one) one
 
 pub returns-clause-call : goal.returns-clause-call
@@ -73,5 +76,7 @@ returns-clause-call g c = λ e same.
       holds = c.requires.holds;
     }) reads c.convert-done.ensures.rule made
     (sym c.reaches_end.ensures ∙ c.if-reaches_end.false)
-    (λ z n. not_both_equal _ _ _ c.if-untouched.false z (omega (arith, c.held-2.ensures.count, c.held.ensures.count)))
-    (λ z two one. not_all_equal _ _ _ _ _ c.if-leaves_bb.false z (held ∙ two) (omega (arith, c.held-2.ensures.count))))
+    (λ z n. not_both_equal _ _ _ c.if-untouched.false z
+    (omega (arith, c.held-2.ensures.count, c.held.ensures.count)))
+    (λ z two one. not_all_equal _ _ _ _ _ c.if-leaves_bb.false z (held ∙ two)
+    (omega (arith, c.held-2.ensures.count))))

@@ -10,4 +10,8 @@ strides-preserved c = (
 )
 
 pub steps-preserved : goal.steps-preserved
-steps-preserved c = (omega arith, ascii_more _ _ _ c.steps.invariant.1 (c.are_ascii.ensures c.if-not-are_ascii.false))
+steps-preserved c = (
+  omega arith,
+  ascii_more _ _ _ c.steps.invariant.1
+      (c.are_ascii.ensures c.if-not-are_ascii.false),
+)

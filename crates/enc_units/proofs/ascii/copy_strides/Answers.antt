@@ -7,5 +7,6 @@ loop-at-preserved c =
     let invariant = c.loop-at.invariant in (
       omega arith,
       ascii_more _ _ _ invariant.1 (c.are_all_ascii.ensures c.if-not-are_all_ascii.false),
-      copied_more c.loop-at.at 64 c.args.src.now c.loop-at.dst c.args.dst.now (omega arith) (omega arith) invariant.2,
+      copied_more c.loop-at.at 64 c.args.src.now c.loop-at.dst c.args.dst.now (omega arith)
+          (omega arith) invariant.2,
     )

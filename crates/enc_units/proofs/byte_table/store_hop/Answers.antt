@@ -10,8 +10,10 @@ returns-then-text-eq0-clause-gathers g c =
     let left = length-drop c.args.from c.args.src.now in
     let long : length (take 64 rest) ≡ 64 = omega (arith, length-take 64 rest, left) in
     gathers_ascii c.requires.means ascii_units (omega (arith, left)) c.requires.are_ascii
-    (stored_lanes c.args.at c.args.ascii c.args.buffer.now (take 64 rest) (omega arith) (omega arith)
-    ∙ ap (λ z. take c.args.at c.args.buffer.now ++ z) (take-take c.args.ascii 64 rest (omega arith)))
+    (stored_lanes c.args.at c.args.ascii c.args.buffer.now (take 64 rest) (omega arith)
+    (omega arith)
+    ∙ ap (λ z. take c.args.at c.args.buffer.now ++ z)
+    (take-take c.args.ascii 64 rest (omega arith)))
 
 pub returns-clause-gathers : goal.returns-clause-gathers
 returns-clause-gathers g c =
@@ -19,8 +21,11 @@ returns-clause-gathers g c =
     let left = length-drop c.args.from c.args.src.now in
     let long : length (take 64 rest) ≡ 64 = omega (arith, length-take 64 rest, left) in
     let stored = c.store_text.ensures in
-    gathers_byte c.args.src.now c.args.from (c.requires.texts.1 _ _ (omega arith)) (omega arith) (omega arith)
+    gathers_byte c.args.src.now c.args.from (c.requires.texts.1 _ _ (omega arith)) (omega arith)
+    (omega arith)
     (gathers_ascii c.requires.means ascii_units (omega (arith, left)) c.requires.are_ascii
-    (stored_lanes c.args.at c.args.ascii c.args.buffer.now (take 64 rest) (omega arith) (omega arith)
-    ∙ ap (λ z. take c.args.at c.args.buffer.now ++ z) (take-take c.args.ascii 64 rest (omega arith))))
+    (stored_lanes c.args.at c.args.ascii c.args.buffer.now (take 64 rest) (omega arith)
+    (omega arith)
+    ∙ ap (λ z. take c.args.at c.args.buffer.now ++ z)
+    (take-take c.args.ascii 64 rest (omega arith))))
     (ap (λ n. take n c.store_text.new.buffer) stored.end ∙ stored.stored)

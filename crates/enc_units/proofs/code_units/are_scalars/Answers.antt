@@ -4,7 +4,8 @@ use Rattle.enc_units.proofs.UnitLanes.{all_before}
 use Rattle.enc_units.proofs.code_units.are_scalars.Goals as goal
 
 pub returns-clause-scalars : goal.returns-clause-scalars
-returns-clause-scalars c h = all_before c.args.units c.fits-units.0 c.fits-units.1 _ refl (eqb-true _ 0 h)
+returns-clause-scalars c h =
+    all_before c.args.units c.fits-units.0 c.fits-units.1 _ refl (eqb-true _ 0 h)
 
 pub returns-clause-alone : goal.returns-clause-alone
 returns-clause-alone c = units_alone c.args.units c.fits-units.1

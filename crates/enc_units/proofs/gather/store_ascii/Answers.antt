@@ -5,7 +5,8 @@ use Rattle.enc_units.proofs.GatherLemmas.{stored_lanes}
 use Rattle.enc_units.proofs.gather.store_ascii.Goals as goal
 
 pub returns-clause-ascii : goal.returns-clause-ascii
-returns-clause-ascii c = subst AreAscii (take-take _ 16 _ c.ascii_in.ensures.bound) c.ascii_in.ensures.ascii
+returns-clause-ascii c =
+    subst AreAscii (take-take _ 16 _ c.ascii_in.ensures.bound) c.ascii_in.ensures.ascii
 
 pub returns-clause-stored : goal.returns-clause-stored
 returns-clause-stored c =

@@ -5,6 +5,7 @@ use Rattle.enc_units.proofs.gather.store_text.Goals as goal
 pub returns-clause-stored : goal.returns-clause-stored
 returns-clause-stored c =
     let copied = c.copy_from_slice.ensures in
-    stored_front c.args.at c.args.text.len c.args.buffer.now c.copy_from_slice.new.self _ (omega arith)
+    stored_front c.args.at c.args.text.len c.args.buffer.now c.copy_from_slice.new.self _
+    (omega arith)
     (omega (arith, copied.len))
     ∙ ap (λ z. take c.args.at c.args.buffer.now ++ take c.args.text.len z) copied.after

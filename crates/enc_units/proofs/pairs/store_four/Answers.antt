@@ -8,7 +8,8 @@ loop-count-init g c = (omega arith, refl, omega arith, omega arith, refl, gather
 
 pub overflow_sub-next : goal.overflow_sub-next
 overflow_sub-next g c =
-    (goes_up _ _ (end_goes c.args.leads c.loop-count.count _ _ c.ends_of-ends.ensures c.loop-count-test.true
+    (goes_up _ _ (end_goes c.args.leads c.loop-count.count _ _ c.ends_of-ends.ensures
+    c.loop-count-test.true
     c.loop-count.invariant.1)).0
 
 pub loop-count-preserved : goal.loop-count-preserved
@@ -17,7 +18,8 @@ loop-count-preserved g c =
     let stored = c.store_word-end.ensures in
     let next = get_or c.ends_of-ends.result c.loop-count.count 0 in
     let goes_on : goes c.loop-count.read next ≡ true =
-    end_goes c.args.leads c.loop-count.count _ _ c.ends_of-ends.ensures c.loop-count-test.true invariant.1 in
+    end_goes c.args.leads c.loop-count.count _ _ c.ends_of-ends.ensures c.loop-count-test.true
+    invariant.1 in
     let up = goes_up c.loop-count.read next goes_on in
     let is_word = c.word-word.ensures (omega arith) in (
       omega arith,
@@ -25,6 +27,7 @@ loop-count-preserved g c =
       omega (arith, invariant.2, up.1),
       omega (arith, invariant.3, stored.end, is_word.bound),
       stored.len ∙ invariant.4,
-      gathers_word _ c.args.src.now c.args.from c.loop-count.read next goes_on (omega arith) is_word invariant.5
+      gathers_word _ c.args.src.now c.args.from c.loop-count.read next goes_on (omega arith) is_word
+          invariant.5
           stored.stored,
     )

@@ -11,7 +11,8 @@ returns-then-others-eq0-clause-ascii c k d h =
 pub returns-else-others-eq0-clause-bound : goal.returns-else-others-eq0-clause-bound
 returns-else-others-eq0-clause-bound c =
     let is = splat_mask w16 leb 128 _ c.fits-units.0 in
-    front_bound (leb 128) _ c.fits-units.0 _ is _ (some_fail (leb 128) _ c.fits-units.0 _ is c.if-others-eq0.false)
+    front_bound (leb 128) _ c.fits-units.0 _ is _
+    (some_fail (leb 128) _ c.fits-units.0 _ is c.if-others-eq0.false)
 
 pub returns-else-others-eq0-clause-ascii : goal.returns-else-others-eq0-clause-ascii
 returns-else-others-eq0-clause-ascii c k d h =

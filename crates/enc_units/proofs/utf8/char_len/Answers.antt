@@ -6,7 +6,8 @@ pub returns-then-first-lt128-clause-utf8 : goal.returns-then-first-lt128-clause-
 returns-then-first-lt128-clause-utf8 c = one_front c.args.src.now (omega arith) (omega arith)
 
 pub returns-then-first-lt224-clause-utf8 : goal.returns-then-first-lt224-clause-utf8
-returns-then-first-lt224-clause-utf8 c = two_front c.args.src.now (omega arith) (omega arith) (omega arith)
+returns-then-first-lt224-clause-utf8 c =
+    two_front c.args.src.now (omega arith) (omega arith) (omega arith)
 
 pub returns-then-first-lt240-clause-utf8 : goal.returns-then-first-lt240-clause-utf8
 returns-then-first-lt240-clause-utf8 c =

@@ -5,5 +5,6 @@ use Rattle.enc_units.proofs.utf8.chars_len.Goals as goal
 pub loop-at-preserved : goal.loop-at-preserved
 loop-at-preserved c = (
   omega arith,
-  longer c.args.src.now c.loop-at.at c.char_len-len.result c.loop-at.invariant.1 c.char_len-len.ensures.utf8,
+  longer c.args.src.now c.loop-at.at c.char_len-len.result c.loop-at.invariant.1
+      c.char_len-len.ensures.utf8,
 )

@@ -3,7 +3,8 @@ use Rattle.enc_units.proofs.Utf8MappedLemmas.{two_at, three_at, four_at}
 use Rattle.enc_units.proofs.utf8_mapped.found_at.Goals as goal
 
 pub from_u32_unchecked-requires : goal.from_u32_unchecked-requires
-from_u32_unchecked-requires c = (two_at _ _ c.requires.utf8 c.requires.within c.requires.beyond (omega arith)).scalar
+from_u32_unchecked-requires c =
+    (two_at _ _ c.requires.utf8 c.requires.within c.requires.beyond (omega arith)).scalar
 
 pub returns-then-first-lt224-clause-beyond : goal.returns-then-first-lt224-clause-beyond
 returns-then-first-lt224-clause-beyond c = rw c.from_u32_unchecked.ensures
@@ -14,24 +15,30 @@ returns-then-first-lt224-clause-first c = rw c.from_u32_unchecked.ensures
     (two_at _ _ c.requires.utf8 c.requires.within c.requires.beyond (omega arith)).first
 
 pub from_u32_unchecked-requires-then-first-lt240 : goal.from_u32_unchecked-requires-then-first-lt240
-from_u32_unchecked-requires-then-first-lt240 c = (three_at _ _ c.requires.utf8 c.requires.within c.requires.beyond
+from_u32_unchecked-requires-then-first-lt240 c =
+    (three_at _ _ c.requires.utf8 c.requires.within c.requires.beyond
     (omega arith) (omega arith)).scalar
 
 pub returns-then-first-lt240-clause-beyond : goal.returns-then-first-lt240-clause-beyond
 returns-then-first-lt240-clause-beyond c = rw c.from_u32_unchecked-then-first-lt240.ensures
-    (three_at _ _ c.requires.utf8 c.requires.within c.requires.beyond (omega arith) (omega arith)).beyond
+    (three_at _ _ c.requires.utf8 c.requires.within c.requires.beyond (omega arith)
+    (omega arith)).beyond
 
 pub returns-then-first-lt240-clause-first : goal.returns-then-first-lt240-clause-first
 returns-then-first-lt240-clause-first c = rw c.from_u32_unchecked-then-first-lt240.ensures
-    (three_at _ _ c.requires.utf8 c.requires.within c.requires.beyond (omega arith) (omega arith)).first
+    (three_at _ _ c.requires.utf8 c.requires.within c.requires.beyond (omega arith)
+    (omega arith)).first
 
 pub from_u32_unchecked-requires-2 : goal.from_u32_unchecked-requires-2
-from_u32_unchecked-requires-2 c = (four_at _ _ c.requires.utf8 c.requires.within c.requires.beyond (omega arith)).scalar
+from_u32_unchecked-requires-2 c =
+    (four_at _ _ c.requires.utf8 c.requires.within c.requires.beyond (omega arith)).scalar
 
 pub returns-clause-beyond : goal.returns-clause-beyond
-returns-clause-beyond c = rw c.from_u32_unchecked-2.ensures (four_at _ _ c.requires.utf8 c.requires.within
+returns-clause-beyond c =
+    rw c.from_u32_unchecked-2.ensures (four_at _ _ c.requires.utf8 c.requires.within
     c.requires.beyond (omega arith)).beyond
 
 pub returns-clause-first : goal.returns-clause-first
-returns-clause-first c = rw c.from_u32_unchecked-2.ensures (four_at _ _ c.requires.utf8 c.requires.within
+returns-clause-first c =
+    rw c.from_u32_unchecked-2.ensures (four_at _ _ c.requires.utf8 c.requires.within
     c.requires.beyond (omega arith)).first

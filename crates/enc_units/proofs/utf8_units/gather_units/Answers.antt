@@ -12,7 +12,8 @@ loop-at-preserved-then-to-at-ge16 c =
       omega (arith, stored.bound, invariant.2),
       omega (arith, stored.bound),
       stored.len ∙ invariant.4,
-      gathered_more c.args.src.now c.args.from c.loop-at.at 16 c.loop-at.end c.store_sixteen-end.result
+      gathered_more c.args.src.now c.args.from c.loop-at.at 16 c.loop-at.end
+          c.store_sixteen-end.result
           c.loop-at.buffer c.store_sixteen-end.new.buffer invariant.0 invariant.5 stored.stored,
     )
 
@@ -25,7 +26,8 @@ loop-at-preserved c =
       omega (arith, stored.bound, invariant.2),
       omega (arith, stored.bound),
       stored.len ∙ invariant.4,
-      gathered_more c.args.src.now c.args.from c.loop-at.at 1 c.loop-at.end c.store_one-end.result c.loop-at.buffer
+      gathered_more c.args.src.now c.args.from c.loop-at.at 1 c.loop-at.end c.store_one-end.result
+          c.loop-at.buffer
           c.store_one-end.new.buffer invariant.0 invariant.5
           (stored.stored ∙ ap (λ z. take c.loop-at.end c.loop-at.buffer ++ z)
           (sym (append-nil (unit_at c.args.src.now c.loop-at.at)))),

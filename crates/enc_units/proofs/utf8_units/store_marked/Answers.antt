@@ -9,6 +9,7 @@ pub returns-clause-stored : goal.returns-clause-stored
 returns-clause-stored c =
     let args = c.args in
     let mask = args.marks % 0x100 in
-    stores_marked args.at args.marks args.units _ _ args.buffer.now c.requires c.fits-units.0 c.fits-units.1
+    stores_marked args.at args.marks args.units _ _ args.buffer.now c.requires c.fits-units.0
+    c.fits-units.1
     (row_long mask (omega arith)) (row_is mask (omega arith))
     c.pick.ensures

@@ -8,7 +8,8 @@ returns-clause-stored c =
     let middle = c.store_marked-middle in
     let units = c.units_of-units.result in
     let long : length units ≡ 16 = omega arith in
-    stores_sixteen args.src.now args.at c.marks_of-marks.result args.end middle.result c.store_marked.result units
+    stores_sixteen args.src.now args.at c.marks_of-marks.result args.end middle.result
+    c.store_marked.result units
     args.buffer.now middle.new.buffer c.store_marked.new.buffer long
     (bits_here args.src.now args.at c.requires.after _ c.marks_of-marks.ensures)
     (λ k below g. c.units_of-units.ensures k below

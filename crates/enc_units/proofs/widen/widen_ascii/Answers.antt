@@ -10,7 +10,8 @@ loop-at-preserved c =
       omega arith,
       ascii_more _ _ _ invariant.1 (c.are_ascii.ensures c.if-not-are_ascii.false),
       ap (put_chunk c.loop-at.at c.loop-at.dst) (same_bytes _)
-          ∙ copied_more c.loop-at.at 16 c.args.src.now c.loop-at.dst c.args.dst.now (omega arith) (omega arith)
+          ∙ copied_more c.loop-at.at 16 c.args.src.now c.loop-at.dst c.args.dst.now (omega arith)
+          (omega arith)
           invariant.2,
     )
 
@@ -19,5 +20,6 @@ loop-at-2-preserved c =
     let invariant = c.loop-at-2.invariant in (
       omega arith,
       ascii_one _ _ invariant.1 (omega arith) (omega arith),
-      copied_one c.loop-at-2.at c.args.src.now c.loop-at-2.dst c.args.dst.now (omega arith) (omega arith) invariant.2,
+      copied_one c.loop-at-2.at c.args.src.now c.loop-at-2.dst c.args.dst.now (omega arith)
+          (omega arith) invariant.2,
     )

@@ -17,21 +17,25 @@ loop-left-preserved c =
     rw c.saturating_sub-left.ensures (record {
       follows = one_more _ _ _ _ c.in-Some.c invariant.follows c.in-Some.ensures.steps.0;
       leaves =
-          takes_one (units_of_call c.args.utf16) _ c.in-Some.c invariant.follows c.in-Some.ensures.steps.0
+          takes_one (units_of_call c.args.utf16) _ c.in-Some.c invariant.follows
+          c.in-Some.ensures.steps.0
           c.width.ensures.value c.loop-left-test.true invariant.leaves;
     })
 
 pub overflow_add-count : goal.overflow_add-count
 overflow_add-count c =
-    let few = (one_more _ _ _ _ c.in-Some.c c.loop-left.invariant.follows c.in-Some.ensures.steps.0).few in
+    let few = (one_more _ _ _ _ c.in-Some.c c.loop-left.invariant.follows
+    c.in-Some.ensures.steps.0).few in
     search (arith, few)
 
 pub returns-after-loop-left : goal.returns-after-loop-left
 returns-after-loop-left c =
     all_taken (units_of_call c.args.utf16) (some_units c.args.utf16) _ _ _
-    (none_now (units_of_call c.args.utf16) _ _ _ _ c.loop-left.invariant.leaves c.loop-left-test.false)
+    (none_now (units_of_call c.args.utf16) _ _ _ _ c.loop-left.invariant.leaves
+    c.loop-left-test.false)
 
 pub returns-in_default : goal.returns-in_default
 returns-in_default c =
-    at_end_taken (units_of_call c.args.utf16) _ _ _ _ _ c.loop-left.invariant.follows c.in_default.ensures.steps.0.0
+    at_end_taken (units_of_call c.args.utf16) _ _ _ _ _ c.loop-left.invariant.follows
+    c.in_default.ensures.steps.0.0
     c.loop-left.invariant.leaves

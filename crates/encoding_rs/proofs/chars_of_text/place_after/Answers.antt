@@ -11,9 +11,12 @@ loop-preserved c = one_more _ _ _ _ c.in-Some.field-0 c.loop.invariant c.in-Some
 
 cut : (c : goal.After-as_str) → IsCut c.args.text.now c.as_str.result.now c.args.count
 cut c = elim c.loop-test.branch [
-  | else-loop-test w ↦ cut_at _ _ _ _ _ c.loop.invariant (c.as_str.ensures ∙ ap (λ r. r.rest.now) w.rest-is) c.loop.auto.counter-end w.loop-test.false
+  | else-loop-test w ↦ cut_at _ _ _ _ _ c.loop.invariant
+      (c.as_str.ensures ∙ ap (λ r. r.rest.now) w.rest-is) c.loop.auto.counter-end w.loop-test.false
   | then-loop-test+in_default w ↦
-      cut_at_end _ _ _ _ _ c.loop.invariant (c.as_str.ensures ∙ ap (λ r. r.rest.now) (w.rest-is ∙ w.in_default.ensures.steps.0.1)) c.loop.auto.counter-end w.in_default.ensures.steps.0.0
+      cut_at_end _ _ _ _ _ c.loop.invariant
+      (c.as_str.ensures ∙ ap (λ r. r.rest.now) (w.rest-is ∙ w.in_default.ensures.steps.0.1))
+      c.loop.auto.counter-end w.in_default.ensures.steps.0.0
 ]
 
 pub overflow_sub-result : goal.overflow_sub-result

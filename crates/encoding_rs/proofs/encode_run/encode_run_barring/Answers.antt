@@ -34,17 +34,18 @@ loop-call-preserved c =
     let ended = rw invariant.unread at c.in-Ok.ensures.ended in
     let next = written_on invariant.written more in
     rw (c.in-Ok-note_report.ensures, c.reports.ensures, ended) (record {
-      run = runs_next c.args.calls.now _ _ invariant.made c.loop-call-test.true invariant.run (record {
-        result = c.in-Ok.done.result;
-        more = c.in-Ok.done.read;
-        replaced = c.in-Ok.done.replaced;
-        not_finished = c.if-finished.false;
-        call = more;
-        read = refl;
-        unmappables = refl;
-        flag = refl;
-        finished = refl;
-      });
+      run = runs_next c.args.calls.now _ _ invariant.made c.loop-call-test.true invariant.run
+          (record {
+            result = c.in-Ok.done.result;
+            more = c.in-Ok.done.read;
+            replaced = c.in-Ok.done.replaced;
+            not_finished = c.if-finished.false;
+            call = more;
+            read = refl;
+            unmappables = refl;
+            flag = refl;
+            finished = refl;
+          });
       written = takes_next c.args.calls.now _ invariant.made c.loop-call-test.true next;
       unread = c.split_at_char.ensures.back ∙ ap (drop c.in-Ok.done.read) invariant.unread
           ∙ drop-drop c.in-Ok.done.read c.loop-call.read (chars c.args.text.now);
@@ -59,7 +60,8 @@ returns c =
       run = (c.loop-call.encoder, invariant.run);
       made = search rules;
       calls = search rules;
-      end = λ further. ends _ _ _ _ c.loop-call.made _ (search rules) (search rules) invariant.run further;
+      end = λ further. ends _ _ _ _ c.loop-call.made _ (search rules) (search rules) invariant.run
+          further;
       beginning = has_encoded invariant.written;
       bytes = λ f. all_bytes invariant.written f;
       flag = λ f. any_char invariant.written f;

@@ -7,9 +7,19 @@ use Rattle.encoding_rs.proofs.encode_run.encode_run_barring.Given as goal
 
 abbrev pub invariant-loop-call : goal.invariant-loop-call
 invariant-loop-call l =
-    let state : EncodeRunState = record { encoder = l.encoder; read = l.read; bytes = l.bytes.items; unmappables = l.unmappables.items; had_unmappables = l.had_unmappables; finished = l.finished } in
+    let state : EncodeRunState =
     record {
-      run : IsEncodeRun (chars l.text) (take l.made l.calls) (encode_run_start l.fn.barred l.fn.encoding) state;
+      encoder = l.encoder;
+      read = l.read;
+      bytes = l.bytes.items;
+      unmappables =
+          l.unmappables.items;
+      had_unmappables = l.had_unmappables;
+      finished = l.finished;
+    } in
+    record {
+      run : IsEncodeRun (chars l.text) (take l.made l.calls)
+          (encode_run_start l.fn.barred l.fn.encoding) state;
       written : Written l.fn.barred l.fn.encoding (chars l.text) (take l.made l.calls) state;
       unread : chars l.unread ≡ drop l.read (chars l.text);
       made : l.made ≡ l.call-index;

@@ -3,7 +3,8 @@ use Rattle.encoding_rs.proofs.LookaheadLemmas.{determined_whole, looks_or_ends, 
 use Rattle.encoding_rs.proofs.laws.lookahead_is_exact.Goals as goal
 
 pub returns-clause-determined : goal.returns-clause-determined
-returns-clause-determined c = λ bytes s ss rest k a w l. determined_whole c.args.handling c.args.encoding bytes s ss rest k a w l
+returns-clause-determined c = λ bytes s ss rest k a w l.
+    determined_whole c.args.handling c.args.encoding bytes s ss rest k a w l
 
 pub returns-clause-some : goal.returns-clause-some
 returns-clause-some c = λ set b z. looks_or_ends c.args.encoding set b z

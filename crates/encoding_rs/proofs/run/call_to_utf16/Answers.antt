@@ -15,6 +15,7 @@ pub returns : goal.returns
 returns c =
     let room : length c.deref_mut-2.result.now ≡ c.args.call.room = search rules in
     let made = c.decode_to_utf16_without_replacement-result in
-    let units = refilled _ _ _ _ c.deref-2.ensures.value (made.auto.dst ∙ c.deref_mut-2.ensures.len) in
+    let units = refilled _ _ _ _ c.deref-2.ensures.value
+    (made.auto.dst ∙ c.deref_mut-2.ensures.len) in
     answers (reporting c.args.call c.if-call.false) room made.ensures.call.decodes
     (by_utf_16 _ _ _ (ap (take made.result.2) (sym units)) c.in_ok-text-2.ensures)

@@ -5,7 +5,8 @@ use Rattle.encoding_rs.proofs.run.call_to_utf8.Goals as goal
 pub returns-then-call : goal.returns-then-call
 returns-then-call c =
     rw c.made_replacing.ensures
-    (answers (replaces c.args.call c.if-call.true) (search rules) c.decode_to_string-stop.ensures.call.decodes
+    (answers (replaces c.args.call c.if-call.true) (search rules)
+    c.decode_to_string-stop.ensures.call.decodes
     (λ text s e. search rules))
 
 pub returns : goal.returns

@@ -5,7 +5,10 @@ use Rattle.recode_engine.proofs.EncodingLemmas.{HasEncoded-none, HasEncoded-call
 use Rattle.recode_engine.proofs.engine.push_encoded.Goals as goal
 
 pub calls-init : goal.calls-init
-calls-init g c = (search rules, record { encoded = HasEncoded-none _ _ _ _; kept = refl; room = refl })
+calls-init g c = (
+  search rules,
+  record { encoded = HasEncoded-none _ _ _ _; kept = refl; room = refl },
+)
 
 pub returns-in_err-push_all-clause-err : goal.returns-in_err-push_all-clause-err
 returns-in_err-push_all-clause-err g c =
@@ -27,7 +30,8 @@ calls-preserved g c =
       search rules,
       record {
         encoded = HasEncoded-call _ _ invariant.0 invariant.1.encoded
-            c.encode_from_utf8-outcome.ensures.call c.split_at.ensures.back c.in_ok-push_all.ensures.ok;
+            c.encode_from_utf8-outcome.ensures.call c.split_at.ensures.back
+            c.in_ok-push_all.ensures.ok;
         kept = search rules;
         room = search rules;
       },

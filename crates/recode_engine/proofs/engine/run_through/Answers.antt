@@ -37,7 +37,8 @@ returns-in_err-replaced g c =
     IsRecodeRun-write (search rules)
     (RunsToFault-by {t = g.R.Source.remaining c.read_or_lend.new.self.reader.now} (search rules)
     (RunsToFault-within c.reads.invariant.ran (HandsOut-by c.text-piece.ensures c.in-Ok.ensures.ok)
-    (λ (last : c.is_empty-last.result ≡ true). c.in-Ok.ensures.end (no_text _ (search rules))) c.in_err-replaced.ensures.err))
+    (λ (last : c.is_empty-last.result ≡ true). c.in-Ok.ensures.end (no_text _ (search rules)))
+    c.in_err-replaced.ensures.err))
     (search rules)
 
 pub returns-then-last : goal.returns-then-last
@@ -47,7 +48,8 @@ returns-then-last g c =
     (RunsToEnd-by {t = g.R.Source.remaining c.read_or_lend.new.self.reader.now} (search rules)
     (search rules)
     (RunsToEnd-last c.reads.invariant.ran (HandsOut-by c.text-piece.ensures c.in-Ok.ensures.ok)
-    c.in_ok-replaced.ensures.ok (c.in-Ok.ensures.end (no_text _ (search rules))) (c.in_ok-replaced.ensures.ended last) last))
+    c.in_ok-replaced.ensures.ok (c.in-Ok.ensures.end (no_text _ (search rules)))
+    (c.in_ok-replaced.ensures.ended last) last))
     (search rules) (search rules)
 
 pub reads-preserved : goal.reads-preserved
@@ -55,7 +57,8 @@ reads-preserved g c =
     let last : c.is_empty-last.result ≡ false = search rules in
     let some : 0 < length c.text-piece.result.now = some_text _ (search rules) in
     record {
-      ran = HasRun-more c.reads.invariant.ran (HandsOut-by c.text-piece.ensures c.in-Ok.ensures.ok) c.in_ok-replaced.ensures.ok last some;
+      ran = HasRun-more c.reads.invariant.ran (HandsOut-by c.text-piece.ensures c.in-Ok.ensures.ok)
+          c.in_ok-replaced.ensures.ok last some;
       text_room = search rules;
       room = c.in_ok-replaced.ensures.room_kept;
       going = search rules;

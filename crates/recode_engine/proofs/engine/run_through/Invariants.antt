@@ -6,7 +6,9 @@ use Rattle.recode_engine.proofs.engine.run_through.Given as goal
 
 abbrev pub invariant-reads : goal.invariant-reads
 invariant-reads g l = record {
-  ran : HasRun l.fn.from l.fn.to (g.R.Source.remaining l.fn.reader) (g.R.Source.remaining l.decoding.reader.now) (g.W.Sink.contents l.initial.writer) (g.W.Sink.contents l.writer)
+  ran : HasRun l.fn.from l.fn.to (g.R.Source.remaining l.fn.reader)
+      (g.R.Source.remaining l.decoding.reader.now) (g.W.Sink.contents l.initial.writer)
+      (g.W.Sink.contents l.writer)
       (state_of l.decoding) l.encoder l.decoding.had_errors l.replaced l.counter;
   text_room : 4 ≤ length l.text;
   room : CanWrite l.encoder (length l.output);

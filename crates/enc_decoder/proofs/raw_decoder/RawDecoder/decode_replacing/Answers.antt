@@ -7,11 +7,13 @@ pub loop-out-init : goal.loop-out-init
 loop-out-init g c = record { turning = begin; rule = refl; formulas = refl }
 
 pub returns-in-InputEmpty-clause-call : goal.returns-in-InputEmpty-clause-call
-returns-in-InputEmpty-clause-call g c = empties (bytes_of_slice _ c.type_inv.src) c.loop-out.invariant.turning
+returns-in-InputEmpty-clause-call g c =
+    empties (bytes_of_slice _ c.type_inv.src) c.loop-out.invariant.turning
     (rw (c.split_at.ensures.back, c.in-InputEmpty.is) at c.decode-result.ensures.call)
 
 pub returns-in-OutputFull-clause-call : goal.returns-in-OutputFull-clause-call
-returns-in-OutputFull-clause-call g c = fills (bytes_of_slice _ c.type_inv.src) c.loop-out.invariant.turning
+returns-in-OutputFull-clause-call g c =
+    fills (bytes_of_slice _ c.type_inv.src) c.loop-out.invariant.turning
     (rw (c.split_at.ensures.back, c.in-OutputFull.is) at c.decode-result.ensures.call)
 
 pub loop-out-smaller : goal.loop-out-smaller

@@ -6,6 +6,7 @@ use Rattle.enc_decoder_iso_2022_jp.proofs.iso_2022_jp.Iso2022JpDecoder.take_esca
 pub returns-clause-run : goal.returns-clause-run
 returns-clause-run g c =
     takes_escape g.U.Units.units_of c.args.self c.with_held-next.result c.in-Some.escape c.requires
-    (c.with_held-next.ensures ∙ ap (λ s. state_with_held s None) c.set.ensures) c.split_at.ensures.back
+    (c.with_held-next.ensures ∙ ap (λ s. state_with_held s None) c.set.ensures)
+    c.split_at.ensures.back
     c.in-Some.ensures
     (omega (arith, c.if-taken-eq0.false)) c.put_pieces-taken.ensures

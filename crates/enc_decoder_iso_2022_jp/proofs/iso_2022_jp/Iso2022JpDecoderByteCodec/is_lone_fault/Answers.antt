@@ -10,4 +10,5 @@ pub returns-in-None : goal.returns-in-None
 returns-in-None c high =
     let least : 0x80 ≤ c.args.byte = grind (arith, nat_tests) in
     subst (λ d. HandlesByte iso_2022_jp_state d c.args.byte (Emit (lone_fault d)))
-    (ap (λ h. state_with_held c.self.inside.set h) (sym c.in-None.is) ∙ c.self.view_is) (shows_high c.self.inside.set c.args.byte least)
+    (ap (λ h. state_with_held c.self.inside.set h) (sym c.in-None.is) ∙ c.self.view_is)
+    (shows_high c.self.inside.set c.args.byte least)

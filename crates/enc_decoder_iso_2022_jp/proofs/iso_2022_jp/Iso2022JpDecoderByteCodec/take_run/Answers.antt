@@ -8,7 +8,8 @@ pub loop-state-init : goal.loop-state-init
 loop-state-init g c =
     let none = ap (λ (s : Iso2022JpState). s.held) (sym c.self.view_is) ∙ c.in-None.is in
     record {
-      run = takes_pieces g.U.Units.units_of iso_2022_jp_state c.args.self _ _ _ _ (ap bytes_of_held none)
+      run = takes_pieces g.U.Units.units_of iso_2022_jp_state c.args.self _ _ _ _
+          (ap bytes_of_held none)
           c.put_pieces-read.ensures;
       none_held = none;
     }
@@ -21,15 +22,18 @@ take_escape-next-requires g c = c.loop-state.invariant.none_held
 
 pub returns-then-taken-eq0 : goal.returns-then-taken-eq0
 returns-then-taken-eq0 g c =
-    takes_run_after c.split_at.ensures.back c.loop-state.invariant.run c.take_escape-next.ensures.run
+    takes_run_after c.split_at.ensures.back c.loop-state.invariant.run
+    c.take_escape-next.ensures.run
 
 pub loop-state-smaller : goal.loop-state-smaller
 loop-state-smaller g c =
-    let run = takes_run_after c.split_at.ensures.back c.loop-state.invariant.run c.take_escape-next.ensures.run in
+    let run = takes_run_after c.split_at.ensures.back c.loop-state.invariant.run
+    c.take_escape-next.ensures.run in
     omega (arith, run.within, c.if-taken-eq0.false)
 
 pub loop-state-preserved : goal.loop-state-preserved
 loop-state-preserved g c = record {
-  run = takes_run_after c.split_at.ensures.back c.loop-state.invariant.run c.take_escape-next.ensures.run;
+  run = takes_run_after c.split_at.ensures.back c.loop-state.invariant.run
+      c.take_escape-next.ensures.run;
   none_held = c.take_escape-next.ensures.none_held;
 }

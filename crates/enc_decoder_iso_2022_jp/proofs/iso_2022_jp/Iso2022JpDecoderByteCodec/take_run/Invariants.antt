@@ -5,7 +5,8 @@ use Rattle.enc_decoder_iso_2022_jp.proofs.iso_2022_jp.Iso2022JpDecoderByteCodec.
 
 abbrev pub invariant-loop-state : goal.invariant-loop-state
 invariant-loop-state g l = record {
-  run : TakesRun g.U.Units.units_of iso_2022_jp_state l.fn.self l.state l.src l.read (g.U.Units.output l.fn.out) (g.U.Units.output l.out);
+  run : TakesRun g.U.Units.units_of iso_2022_jp_state l.fn.self l.state l.src l.read
+      (g.U.Units.output l.fn.out) (g.U.Units.output l.out);
   none_held : l.state.held ≡ None;
 }
 

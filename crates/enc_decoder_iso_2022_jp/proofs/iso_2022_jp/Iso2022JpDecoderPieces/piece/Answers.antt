@@ -12,10 +12,12 @@ returns-then-not-is_lead_byte-clause-means c =
     ∙ c.if-not-is_lead_byte.true)))
 
 pub char_of_pair-requires : goal.char_of_pair-requires
-char_of_pair-requires c = lead_in_jis0208 c.self.inside.set _ (sym c.is_lead_byte.ensures ∙ c.if-not-is_lead_byte.false)
+char_of_pair-requires c =
+    lead_in_jis0208 c.self.inside.set _ (sym c.is_lead_byte.ensures ∙ c.if-not-is_lead_byte.false)
 
 pub returns-clause-means : goal.returns-clause-means
 returns-clause-means c =
     rw (← c.self.view_is)
     (same_piece _ _ _ _ _ (two_of c.args.src.now c.args.at c.if-at-src.false)
-    (pair_piece c.self.inside.set _ _ _ (sym c.in_ok-character-2.ensures) (sym c.is_lead_byte.ensures ∙ c.if-not-is_lead_byte.false)))
+    (pair_piece c.self.inside.set _ _ _ (sym c.in_ok-character-2.ensures)
+    (sym c.is_lead_byte.ensures ∙ c.if-not-is_lead_byte.false)))

@@ -9,7 +9,8 @@ returns c some =
     rw (← c.self.view_is) record {
       char = is_word.c;
       scalar = is_word.utf8.scalar;
-      means = place_means c.self.inside.set c.args.is_pair c.has_pairs.result _ _ is_word.c c.has_pairs.ensures
+      means = place_means c.self.inside.set c.args.is_pair c.has_pairs.result _ _ is_word.c
+          c.has_pairs.ensures
           is_pair.0 is_pair.1 is_pair.2;
       bound = omega (arith, is_word.utf8.bound);
       utf8 = is_word.utf8.bytes;

@@ -6,7 +6,8 @@ use Rattle.enc_decoder_iso_2022_jp.proofs.Iso2022JpRule.{iso_2022_jp_has_bytes}
 use Rattle.enc_decoder_iso_2022_jp.proofs.iso_2022_jp.Iso2022JpDecoderRawDecoder.latin1_byte_compatible_up_to.Goals as goal
 
 pub latin1_up_to-requires : goal.latin1_up_to-requires
-latin1_up_to-requires c = record { at_start = ap set_number c.in-Ascii.is; has_bytes = iso_2022_jp_has_bytes }
+latin1_up_to-requires c =
+    record { at_start = ap set_number c.in-Ascii.is; has_bytes = iso_2022_jp_has_bytes }
 
 pub returns-in-Ascii : goal.returns-in-Ascii
 returns-in-Ascii c = rw (← c.self.view_is) c.latin1_up_to.ensures

@@ -6,6 +6,10 @@ use Rattle.enc_decoder_multi_byte.proofs.multi_byte.MultiByteDecoder.left_over.G
 
 pub returns-in_default : goal.returns-in_default
 returns-in_default g c =
-    rw c.malformed.ensures.is (left_over g.E.MultiByte.prefix c.laws.ensures (λ d. multi_byte_state g.E.MultiByte.prefix (bytes_of_pending d.pending))
-    c.args.self c.malformed.result.next _ refl _ c.requires (some_pending c.args.self.pending c.in_default.not-Nothing) (at_most_three c.args.self.pending) c.len.ensures
+    rw c.malformed.ensures.is
+    (left_over g.E.MultiByte.prefix c.laws.ensures
+    (λ d. multi_byte_state g.E.MultiByte.prefix (bytes_of_pending d.pending))
+    c.args.self c.malformed.result.next _ refl _ c.requires
+    (some_pending c.args.self.pending c.in_default.not-Nothing)
+    (at_most_three c.args.self.pending) c.len.ensures
     (ap (λ p. multi_byte_state g.E.MultiByte.prefix (bytes_of_pending p)) c.malformed.ensures.next))

@@ -16,12 +16,14 @@ returns-in-Complete-clause-shown g c =
           (λ d. multi_byte_state g.E.MultiByte.prefix (bytes_of_pending d.pending))
           c.args.self c.complete.result.next _ refl front c.in-Some.byte _
           (c.loop-byte.invariant.0 ∙ ap (λ z. front ++ z)
-          (first_and_rest (bytes_of_pending c.loop-byte.rest) c.in-Some.byte (sym c.first.ensures ∙ c.in-Some.is)))
+          (first_and_rest (bytes_of_pending c.loop-byte.rest) c.in-Some.byte
+          (sym c.first.ensures ∙ c.in-Some.is)))
           c.loop-byte.invariant.1
           (settles_complete g.E.MultiByte.prefix (front ++ c.in-Some.byte ∷ []) c.in-Complete.text
           (omega (arith, one_longer)) (sym c.classify.ensures ∙ c.in-Complete.is))
           (at_most_three c.args.self.pending) (omega (arith, one_longer, is_len))
-          (ap (λ p. multi_byte_state g.E.MultiByte.prefix (bytes_of_pending p)) c.complete.ensures.next
+          (ap (λ p. multi_byte_state g.E.MultiByte.prefix (bytes_of_pending p))
+          c.complete.ensures.next
           ∙ ap (multi_byte_state g.E.MultiByte.prefix)
           (c.skip.ensures ∙ ap (λ i. drop i (bytes_of_pending c.args.self.pending))
           (omega (arith, one_longer, is_len)))),
@@ -36,12 +38,15 @@ returns-in-Malformed-clause-shown g c =
           (λ d. multi_byte_state g.E.MultiByte.prefix (bytes_of_pending d.pending))
           c.args.self c.malformed.result.next _ refl front c.in-Some.byte _
           (c.loop-byte.invariant.0 ∙ ap (λ z. front ++ z)
-          (first_and_rest (bytes_of_pending c.loop-byte.rest) c.in-Some.byte (sym c.first.ensures ∙ c.in-Some.is)))
+          (first_and_rest (bytes_of_pending c.loop-byte.rest) c.in-Some.byte
+          (sym c.first.ensures ∙ c.in-Some.is)))
           c.loop-byte.invariant.1
-          (settles_malformed g.E.MultiByte.prefix c.laws.ensures (front ++ c.in-Some.byte ∷ []) c.in-Malformed.len
+          (settles_malformed g.E.MultiByte.prefix c.laws.ensures (front ++ c.in-Some.byte ∷ [])
+          c.in-Malformed.len
           (sym c.classify.ensures ∙ c.in-Malformed.is))
           (at_most_three c.args.self.pending) refl
-          (ap (λ p. multi_byte_state g.E.MultiByte.prefix (bytes_of_pending p)) c.malformed.ensures.next
+          (ap (λ p. multi_byte_state g.E.MultiByte.prefix (bytes_of_pending p))
+          c.malformed.ensures.next
           ∙ ap (multi_byte_state g.E.MultiByte.prefix) c.skip-in-Malformed.ensures),
       refl,
     )

@@ -13,10 +13,12 @@ returns-in-Complete g c =
     rw c.complete.ensures.is (shows_byte_with g.E.MultiByte.prefix c.laws.ensures
     (λ d. multi_byte_state g.E.MultiByte.prefix (bytes_of_pending d.pending))
     c.args.self c.complete.result.next _ refl c.args.byte c.requires
-    (settles_complete g.E.MultiByte.prefix (bytes_of_pending c.args.self.pending ++ c.args.byte ∷ [])
+    (settles_complete g.E.MultiByte.prefix
+    (bytes_of_pending c.args.self.pending ++ c.args.byte ∷ [])
     c.in-Complete.text (omega (arith, one_longer))
     (sym c.classify.ensures ∙ c.in-Complete.is))
-    (at_most_three c.args.self.pending) (omega (arith, one_longer)) (omega (arith, one_longer, len_is))
+    (at_most_three c.args.self.pending) (omega (arith, one_longer))
+    (omega (arith, one_longer, len_is))
     (ap (λ p. multi_byte_state g.E.MultiByte.prefix (bytes_of_pending p)) c.complete.ensures.next))
 
 pub returns-in-Malformed : goal.returns-in-Malformed
@@ -33,6 +35,8 @@ returns-in-Malformed g c =
 
 pub returns-in-Incomplete : goal.returns-in-Incomplete
 returns-in-Incomplete g c =
-    waits g.E.MultiByte.prefix c.laws.ensures (λ d. multi_byte_state g.E.MultiByte.prefix (bytes_of_pending d.pending))
+    waits g.E.MultiByte.prefix c.laws.ensures
+    (λ d. multi_byte_state g.E.MultiByte.prefix (bytes_of_pending d.pending))
     c.args.self _ _ refl c.args.byte c.requires (sym c.classify.ensures ∙ c.in-Incomplete.is)
-    (ap (multi_byte_state g.E.MultiByte.prefix) (ap bytes_of_pending c.holding.ensures ∙ c.with.ensures))
+    (ap (multi_byte_state g.E.MultiByte.prefix)
+    (ap bytes_of_pending c.holding.ensures ∙ c.with.ensures))

@@ -6,4 +6,6 @@ use Rattle.enc_decoder_multi_byte.proofs.multi_byte.MultiByteDecoderByteCodec.ta
 
 pub returns-in-Nothing : goal.returns-in-Nothing
 returns-in-Nothing g c =
-    takes_pieces g.U.Units.units_of (λ d. multi_byte_state g.E.MultiByte.prefix (bytes_of_pending d.pending)) c.args.self _ _ _ _ (ap bytes_of_pending c.in-Nothing.is) c.put_run.ensures
+    takes_pieces g.U.Units.units_of
+    (λ d. multi_byte_state g.E.MultiByte.prefix (bytes_of_pending d.pending)) c.args.self _ _ _
+    _ (ap bytes_of_pending c.in-Nothing.is) c.put_run.ensures

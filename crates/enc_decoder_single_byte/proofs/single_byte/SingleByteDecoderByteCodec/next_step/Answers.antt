@@ -7,5 +7,7 @@ use Rattle.enc_decoder_single_byte.proofs.single_byte.SingleByteDecoderByteCodec
 
 pub returns : goal.returns
 returns c =
-    rw c.show_byte.ensures (one_byte_acts (single_byte_char (single_byte_runs c.args.self.index)) (λ d. single_byte_state (single_byte_runs d.index))
+    rw c.show_byte.ensures
+    (one_byte_acts (single_byte_char (single_byte_runs c.args.self.index))
+    (λ d. single_byte_state (single_byte_runs d.index))
     c.args.self refl c.args.byte _ c.character_of.ensures)

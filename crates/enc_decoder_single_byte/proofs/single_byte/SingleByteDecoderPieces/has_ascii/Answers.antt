@@ -6,4 +6,5 @@ use Rattle.enc_decoder_single_byte.proofs.OneByteLemmas.{one_byte_piece}
 use Rattle.enc_decoder_single_byte.proofs.single_byte.SingleByteDecoderPieces.has_ascii.Goals as goal
 
 pub returns : goal.returns
-returns c _ b h = one_byte_piece (single_byte_char (single_byte_runs c.args.self.index)) b b (rw (lt-ltb b 0x80 h) refl)
+returns c _ b h = one_byte_piece (single_byte_char (single_byte_runs c.args.self.index)) b b
+    (rw (lt-ltb b 0x80 h) refl)

@@ -6,5 +6,7 @@ use Rattle.enc_decoder_single_byte.proofs.x_user_defined.XUserDefinedDecoderByte
 
 pub returns : goal.returns
 returns c =
-    rw c.show_byte.ensures (one_byte_acts x_user_defined_char (λ _. x_user_defined_state) c.args.self refl c.args.byte _
+    rw c.show_byte.ensures
+    (one_byte_acts x_user_defined_char (λ _. x_user_defined_state) c.args.self refl c.args.byte
+    _
     c.character_of.ensures)

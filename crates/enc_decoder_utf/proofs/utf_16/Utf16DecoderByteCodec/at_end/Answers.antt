@@ -10,5 +10,6 @@ returns-in_default c =
     ap (λ (s : Utf16State). s.big_endian) (c.self-in_default.view_is ∙ sym c.self.view_is) in
     rw (c.malformed.ensures, c.new.ensures, same_byte_order, ← c.self.view_is)
     (shows_left_over c.self.inside.big_endian c.self.inside.pending _
-    (c.held.ensures ∙ ap (λ (s : Utf16State). length (bytes_of_pending s.pending)) (sym c.self.view_is))
+    (c.held.ensures ∙ ap (λ (s : Utf16State). length (bytes_of_pending s.pending))
+    (sym c.self.view_is))
     c.self.invariant c.in_default.not-Nothing)

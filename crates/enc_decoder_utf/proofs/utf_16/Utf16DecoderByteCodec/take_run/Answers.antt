@@ -7,4 +7,5 @@ use Rattle.enc_decoder_utf.proofs.utf_16.Utf16DecoderByteCodec.take_run.Goals as
 pub returns-in-Nothing : goal.returns-in-Nothing
 returns-in-Nothing g c =
     takes_pieces g.U.Units.units_of utf_16_state c.args.self _ _ _ _
-    (ap (λ (s : Utf16State). bytes_of_pending s.pending) (sym c.self.view_is) ∙ ap bytes_of_pending c.in-Nothing.is) c.put_run.ensures
+    (ap (λ (s : Utf16State). bytes_of_pending s.pending) (sym c.self.view_is)
+    ∙ ap bytes_of_pending c.in-Nothing.is) c.put_run.ensures

@@ -3,4 +3,6 @@ use Rattle.enc_decoder_utf.proofs.utf_8.Utf8DecoderByteCodec.at_end.Goals as goa
 
 pub returns-in_default : goal.returns-in_default
 returns-in_default c =
-    rw (c.malformed.ensures, ← c.self.view_is) (comes_at_end _ _ (rw c.self.view_is c.held.ensures) c.self.invariant c.in_default.not-Nothing)
+    rw (c.malformed.ensures, ← c.self.view_is)
+    (comes_at_end _ _ (rw c.self.view_is c.held.ensures) c.self.invariant
+    c.in_default.not-Nothing)

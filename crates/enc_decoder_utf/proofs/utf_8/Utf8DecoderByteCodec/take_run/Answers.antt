@@ -12,5 +12,6 @@ use Rattle.enc_decoder_utf.proofs.utf_8.Utf8DecoderByteCodec.take_run.Goals as g
 pub returns-in-Nothing : goal.returns-in-Nothing
 returns-in-Nothing g c =
     let units_of = g.U.Units.units_of in
-    takes_pieces units_of utf_8_state c.args.self _ _ _ _ (ap bytes_of_pending (sym c.self.view_is ∙ c.in-Nothing.is))
+    takes_pieces units_of utf_8_state c.args.self _ _ _ _
+    (ap bytes_of_pending (sym c.self.view_is ∙ c.in-Nothing.is))
     (puts_as units_of IsUtf8Char (IsWholeChar utf_8_rule 0) _ _ _ _ utf8_piece c.put_utf8.ensures)

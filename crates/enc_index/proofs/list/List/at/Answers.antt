@@ -9,8 +9,10 @@ use Rattle.enc_index.proofs.list.List.at.Goals as goal
 
 -- an arm's index is the one that was asked
 of_index : (asked arm : Index) (pointer : ℕ) → asked ≡ arm
-    → index_at (planes_of arm) (runs_of arm) pointer ≡ index_at (planes_of asked) (runs_of asked) pointer
-of_index asked arm pointer h = sym (ap (λ index. index_at (planes_of index) (runs_of index) pointer) h)
+    → index_at (planes_of arm) (runs_of arm) pointer
+    ≡ index_at (planes_of asked) (runs_of asked) pointer
+of_index asked arm pointer h =
+    sym (ap (λ index. index_at (planes_of index) (runs_of index) pointer) h)
 
 pub character_among-requires : goal.character_among-requires
 unfolding runs_of
@@ -21,10 +23,12 @@ unfolding runs_of
 returns-in-SingleByte c = c.at.ensures ∙ of_index _ _ c.args.pointer c.in-SingleByte.is
 
 pub returns-in-Big5 : goal.returns-in-Big5
-returns-in-Big5 c = c.character_in_all.ensures ∙ big5_table c.args.pointer ∙ of_index _ _ c.args.pointer c.in-Big5.is
+returns-in-Big5 c = c.character_in_all.ensures ∙ big5_table c.args.pointer
+    ∙ of_index _ _ c.args.pointer c.in-Big5.is
 
 pub returns-in-EucKr : goal.returns-in-EucKr
-returns-in-EucKr c = c.character_in.ensures ∙ euc_kr_table c.args.pointer ∙ of_index _ _ c.args.pointer c.in-EucKr.is
+returns-in-EucKr c = c.character_in.ensures ∙ euc_kr_table c.args.pointer
+    ∙ of_index _ _ c.args.pointer c.in-EucKr.is
 
 pub returns-in-Gb18030 : goal.returns-in-Gb18030
 returns-in-Gb18030 c =
@@ -43,4 +47,5 @@ returns-in-Jis0212 c =
 
 pub returns-in-Gb18030Ranges : goal.returns-in-Gb18030Ranges
 unfolding runs_of
-returns-in-Gb18030Ranges c = c.character_among.ensures ∙ of_index _ _ c.args.pointer c.in-Gb18030Ranges.is
+returns-in-Gb18030Ranges c = c.character_among.ensures
+    ∙ of_index _ _ c.args.pointer c.in-Gb18030Ranges.is

@@ -10,7 +10,8 @@ returns-in_err-pull-clause-err g c =
     let unended : reader.ended ≡ false = search rules in
     let failed = c.in_err-pull.ensures in
     on_err c.from_residual.result _
-    (FailsToRead-pull failed.none_given failed.err failed.same unended (reader.going c.requires.going))
+    (FailsToRead-pull failed.none_given failed.err failed.same unended
+    (reader.going c.requires.going))
 
 pub returns-else-self-clause-ok : goal.returns-else-self-clause-ok
 returns-else-self-clause-ok g c = record { bytes = []; reads = ReadsOwed-none _ _ }

@@ -8,7 +8,8 @@ returns-then-len-ge-LEAST_LENT-clause-ok g c =
     let some : 0 < c.ascii_ahead-len.result = omega arith in
     rw c.fill.ensures.had_errors
     (HandsOut-filled c.in_ok-fill.ensures.ok
-    (HandsOut-chunk _ _ after_fill.filled after_fill.at c.ascii_ahead-len.result after_fill.input.now _ _
+    (HandsOut-chunk _ _ after_fill.filled after_fill.at c.ascii_ahead-len.result
+    after_fill.input.now _ _
     after_fill.decoded after_fill.within c.ascii_ahead-len.ensures.within
     (c.ascii_ahead-len.ensures.own some) after_fill.exhausted))
 
@@ -17,14 +18,17 @@ returns-then-len-ge-LEAST_LENT-clause-utf_8 g c =
     let after_fill = c.fill.new.self in
     let some : 0 < c.ascii_ahead-len.result = omega arith in
     handed_is_utf_8
-    (HandsOut-chunk _ _ after_fill.filled after_fill.at c.ascii_ahead-len.result after_fill.input.now _
+    (HandsOut-chunk _ _ after_fill.filled after_fill.at c.ascii_ahead-len.result
+    after_fill.input.now _
     after_fill.had_errors after_fill.decoded after_fill.within c.ascii_ahead-len.ensures.within
     (c.ascii_ahead-len.ensures.own some) after_fill.exhausted)
 
 pub returns-in_err-len-clause-reader_fault : goal.returns-in_err-len-clause-reader_fault
 returns-in_err-len-clause-reader_fault g c =
-    λ e. FailsToRead-filled c.in_ok-fill.ensures.ok c.in_ok-fill.ensures.kept (c.in_err-len.ensures.reader_fault (search rules))
+    λ e. FailsToRead-filled c.in_ok-fill.ensures.ok c.in_ok-fill.ensures.kept
+    (c.in_err-len.ensures.reader_fault (search rules))
 
 pub returns-clause-ok : goal.returns-clause-ok
 returns-clause-ok g c =
-    rw (← c.fill.ensures.had_errors) (HandsOut-filled c.in_ok-fill.ensures.ok c.in_ok-len.ensures.ok)
+    rw (← c.fill.ensures.had_errors)
+    (HandsOut-filled c.in_ok-fill.ensures.ok c.in_ok-len.ensures.ok)

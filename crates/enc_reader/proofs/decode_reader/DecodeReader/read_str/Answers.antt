@@ -30,7 +30,8 @@ pulls-preserved g c =
     (state_of c.args.self.now) (state_of c.pulls.self) w c.pulls.replaced true c.pulls.pulls) none
     (subst (λ b. HasRead (remaining c.args.self.now.reader.now) (remaining c.pulls.self.reader.now)
     (state_of c.args.self.now)
-    (state_of c.pulls.self) (take c.pulls.turn.written c.pulls.dst) c.pulls.replaced b c.pulls.pulls)
+    (state_of c.pulls.self) (take c.pulls.turn.written c.pulls.dst) c.pulls.replaced b
+    c.pulls.pulls)
     c.pulls-test.true invariant.read) in
     record {
       read = rw c.decode-turn-in-pulls.ensures.reader

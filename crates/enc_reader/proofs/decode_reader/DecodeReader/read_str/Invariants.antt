@@ -5,7 +5,9 @@ use Rattle.enc_reader.proofs.decode_reader.DecodeReader.read_str.Given as goal
 
 abbrev pub invariant-pulls : goal.invariant-pulls
 invariant-pulls g l = record {
-  read : HasRead (g.R.Source.remaining l.fn.self.reader.now) (g.R.Source.remaining l.self.reader.now) (state_of l.fn.self) (state_of l.self) (take l.turn.written l.dst)
+  read : HasRead (g.R.Source.remaining l.fn.self.reader.now)
+      (g.R.Source.remaining l.self.reader.now) (state_of l.fn.self) (state_of l.self)
+      (take l.turn.written l.dst)
       l.replaced l.turn.waits l.pulls;
   within : l.turn.written ≤ length l.dst;
   rest : drop l.turn.written l.dst ≡ drop l.turn.written l.fn.dst;

@@ -13,5 +13,6 @@ returns-clause-utf8 c =
     (cleared.rest ∙ ap without_continuations decoded.rest)
 
 pub returns-clause-text : goal.returns-clause-text
-returns-clause-text c = let call = c.decode_to_utf8_without_replacement-result.ensures.call.decodes.call in
+returns-clause-text c = let call =
+    c.decode_to_utf8_without_replacement-result.ensures.call.decodes.call in
     text_utf8 _ _ call.scalars (c.clear_rest.ensures.front ∙ call.text)

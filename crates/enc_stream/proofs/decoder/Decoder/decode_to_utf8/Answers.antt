@@ -13,7 +13,8 @@ pub returns-clause-read : goal.returns-clause-read
 returns-clause-read c = (returns-clause-call c).decodes.call.within
 
 pub returns-clause-text : goal.returns-clause-text
-returns-clause-text c = let call = (returns-clause-call c).decodes.call in text_utf8 _ _ call.scalars call.text
+returns-clause-text c = let call = (returns-clause-call c).decodes.call in
+    text_utf8 _ _ call.scalars call.text
 
 pub returns-clause-ended : goal.returns-clause-ended
 returns-clause-ended c = has_finished_by (returns-clause-call c).decodes

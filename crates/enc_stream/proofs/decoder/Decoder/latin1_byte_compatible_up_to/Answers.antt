@@ -4,7 +4,8 @@ use Rattle.enc_stream.proofs.decoder.Decoder.latin1_byte_compatible_up_to.Goals 
 pub returns-in-Converting : goal.returns-in-Converting
 returns-in-Converting c =
     rw (← c.self.view_is)
-    (shows_latin1 _ _ c.self.invariant.0.0 _ c.in-Converting.is _ _ c.latin1_byte_compatible_up_to.ensures)
+    (shows_latin1 _ _ c.self.invariant.0.0 _ c.in-Converting.is _ _
+    c.latin1_byte_compatible_up_to.ensures)
 
 pub returns-in_default : goal.returns-in_default
 returns-in_default c = rw (← c.self.view_is) (λ m. c.in_default.not-Converting m.converting)

@@ -20,13 +20,15 @@ none_on_removal Utf16be = refl
 none_on_removal Utf16le = refl
 none_on_removal _ = refl
 
-none_at_start : (handling : BomHandling) (id : EncodingId) → held_mark_bytes (start_life handling id) ≡ []
+none_at_start : (handling : BomHandling) (id : EncodingId)
+    → held_mark_bytes (start_life handling id) ≡ []
 none_at_start Off id = refl
 none_at_start Sniff id = refl
 none_at_start Remove id = none_on_removal id
 
 -- a decoder at the start, whose codec has read nothing
-is_fresh : (handling : BomHandling) (e : Encoding) (life : LifeCycle) (rule : Rule) → life ≡ start_life handling e.id
+is_fresh : (handling : BomHandling) (e : Encoding) (life : LifeCycle) (rule : Rule)
+    → life ≡ start_life handling e.id
     → decoder_state_of e life (initial_state rule) ≡ fresh_decoder handling e
 is_fresh handling e life rule at_start = rw at_start (rw (none_at_start handling e.id) refl)
 
@@ -39,9 +41,11 @@ returns c =
     let args = c.args in
     let life = c.match-handling.life in
     ap (λ codec. decoder_state_of args.encoding life codec) c.new_decoder.ensures.state
-    ∙ is_fresh args.handling args.encoding life (codec_rule c.codec_of.result) (elim c.match-handling.branch [
+    ∙ is_fresh args.handling args.encoding life (codec_rule c.codec_of.result)
+    (elim c.match-handling.branch [
       | in-Off w ↦ start_of args.handling Off args.encoding.id life w.in-Off.is w.life-is
       | in-Sniff w ↦ start_of args.handling Sniff args.encoding.id life w.in-Sniff.is w.life-is
       | in-Remove w ↦
-          start_of args.handling Remove args.encoding.id life w.in-Remove.is (w.life-is ∙ w.removal_start-life.ensures)
+          start_of args.handling Remove args.encoding.id life w.in-Remove.is
+          (w.life-is ∙ w.removal_start-life.ensures)
     ])

@@ -4,7 +4,8 @@ use Rattle.enc_stream.proofs.encoder.Encoder.encode_from_utf16.Goals as goal
 
 pub returns-clause-read : goal.returns-clause-read
 returns-clause-read c =
-    ends_within _ (λ i. (c.type_inv.src i).fits) (rw c.new-units.ensures at c.encode_replacing.ensures.encodes)
+    ends_within _ (λ i. (c.type_inv.src i).fits)
+    (rw c.new-units.ensures at c.encode_replacing.ensures.encodes)
 
 pub returns-clause-progress : goal.returns-clause-progress
 returns-clause-progress c = λ on room.

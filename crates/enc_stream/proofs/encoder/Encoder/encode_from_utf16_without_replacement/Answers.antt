@@ -12,7 +12,8 @@ returns-clause-need c =
 
 pub returns-clause-read : goal.returns-clause-read
 returns-clause-read c =
-    ends_within _ (λ i. (c.type_inv.src i).fits) (rw c.new-units.ensures at c.encode_reporting.ensures.encodes)
+    ends_within _ (λ i. (c.type_inv.src i).fits)
+    (rw c.new-units.ensures at c.encode_reporting.ensures.encodes)
 
 pub returns-clause-progress : goal.returns-clause-progress
 returns-clause-progress c = λ on room.

@@ -3,7 +3,8 @@ use Rattle.enc_stream.proofs.EncoderProgressLemmas.{goes_on}
 use Rattle.enc_stream.proofs.encoder.Encoder.encode_from_utf8.Goals as goal
 
 pub returns-clause-boundary : goal.returns-clause-boundary
-returns-clause-boundary c = ends_between c.utf8.src (rw c.new-chars.ensures at c.encode_replacing.ensures.encodes)
+returns-clause-boundary c =
+    ends_between c.utf8.src (rw c.new-chars.ensures at c.encode_replacing.ensures.encodes)
 
 pub returns-clause-read : goal.returns-clause-read
 returns-clause-read c = (returns-clause-boundary c).0

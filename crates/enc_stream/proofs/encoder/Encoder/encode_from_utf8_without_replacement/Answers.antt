@@ -11,7 +11,8 @@ returns-clause-need c =
     into_by_need fits (rw c.new-chars.ensures at made.ensures)
 
 pub returns-clause-boundary : goal.returns-clause-boundary
-returns-clause-boundary c = ends_between c.utf8.src (rw c.new-chars.ensures at c.encode_reporting.ensures.encodes)
+returns-clause-boundary c =
+    ends_between c.utf8.src (rw c.new-chars.ensures at c.encode_reporting.ensures.encodes)
 
 pub returns-clause-read : goal.returns-clause-read
 returns-clause-read c = (returns-clause-boundary c).0

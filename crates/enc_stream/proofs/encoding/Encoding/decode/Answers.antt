@@ -7,8 +7,10 @@ use Rattle.enc_stream.proofs.OneShotDecodeLemmas.{encoding_by_mark, encoding_wit
 pub returns-clause-encoding : goal.returns-clause-encoding
 returns-clause-encoding c =
     elim c.match-for_bom.branch [
-      | in-Some w ↦ w.encoding-is ∙ encoding_by_mark (find_mark marks c.args.bytes.now) c.args.self _ _
+      | in-Some w ↦ w.encoding-is
+          ∙ encoding_by_mark (find_mark marks c.args.bytes.now) c.args.self _ _
           (sym c.for_bom.ensures.mark ∙ w.in-Some.is)
-      | in-None w ↦ w.encoding-is ∙ encoding_without_mark (find_mark marks c.args.bytes.now) c.args.self
+      | in-None w ↦ w.encoding-is
+          ∙ encoding_without_mark (find_mark marks c.args.bytes.now) c.args.self
           (sym c.for_bom.ensures.mark ∙ w.in-None.is)
     ]

@@ -20,7 +20,8 @@ unreachable-requires c =
 
 pub returns-in-InputEmpty-clause-text : goal.returns-in-InputEmpty-clause-text
 returns-in-InputEmpty-clause-text c =
-    let none_so_far : HasDecoded Off c.args.self c.args.bytes.now c.args.bytes.now true c.start-decoder.result
+    let none_so_far : HasDecoded Off c.args.self c.args.bytes.now c.args.bytes.now true
+    c.start-decoder.result
     (string_bytes c.make_room.new.text) false =
     rw (c.in_ok-make_room.ensures.bytes ∙ c.new-text.ensures.bytes, c.start-decoder.ensures)
     (none_decoded Off c.args.self c.args.bytes.now) in
@@ -29,8 +30,10 @@ returns-in-InputEmpty-clause-text c =
 
 pub returns-in-Malformed-clause-text : goal.returns-in-Malformed-clause-text
 returns-in-Malformed-clause-text c =
-    let none_so_far : HasDecoded Off c.args.self c.args.bytes.now c.args.bytes.now true c.start-decoder.result
+    let none_so_far : HasDecoded Off c.args.self c.args.bytes.now c.args.bytes.now true
+    c.start-decoder.result
     (string_bytes c.make_room.new.text) false =
     rw (c.in_ok-make_room.ensures.bytes ∙ c.new-text.ensures.bytes, c.start-decoder.ensures)
     (none_decoded Off c.args.self c.args.bytes.now) in
-    strict_report none_so_far _ c.decode_to_string_without_replacement-stop.ensures.call.decodes c.in-Malformed.is
+    strict_report none_so_far _ c.decode_to_string_without_replacement-stop.ensures.call.decodes
+    c.in-Malformed.is

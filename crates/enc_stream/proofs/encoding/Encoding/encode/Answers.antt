@@ -25,7 +25,8 @@ returns-then-is_empty-clause-bytes c =
     (no_chars c.args.text.now (nothing c.args.text.now (c.if-is_empty.ensures)))
 
 pub returns-then-is_empty-clause-flag : goal.returns-then-is_empty-clause-flag
-returns-then-is_empty-clause-flag c = rw (no_chars c.args.text.now (nothing c.args.text.now (c.if-is_empty.ensures)))
+returns-then-is_empty-clause-flag c =
+    rw (no_chars c.args.text.now (nothing c.args.text.now (c.if-is_empty.ensures)))
     refl
 
 pub returns-in_err-make_byte_room-clause-too_long :
@@ -64,15 +65,20 @@ calls-preserved c =
       search rules,
       record {
         written =
-            written_on invariant.0 written_so_far _ encoded.call refl encoded.appended c.split_at.ensures.back;
+            written_on invariant.0 written_so_far _ encoded.call refl encoded.appended
+            c.split_at.ensures.back;
         flag =
-            flagged_on invariant.0 written_so_far _ encoded.call _ invariant.1.flag c.split_at.ensures.back;
-        front = invariant.1.front ++ take c.encode_from_utf8_to_vec-stop.result.1 c.calls.unread.now;
+            flagged_on invariant.0 written_so_far _ encoded.call _ invariant.1.flag
+            c.split_at.ensures.back;
+        front = invariant.1.front
+            ++ take c.encode_from_utf8_to_vec-stop.result.1 c.calls.unread.now;
         rest =
             invariant.1.rest ∙ ap (λ x. invariant.1.front ++ x)
             (sym (take-append-drop c.encode_from_utf8_to_vec-stop.result.1 c.calls.unread.now))
-            ∙ sym (append_assoc invariant.1.front (take c.encode_from_utf8_to_vec-stop.result.1 c.calls.unread.now) _)
-            ∙ ap (λ x. (invariant.1.front ++ take c.encode_from_utf8_to_vec-stop.result.1 c.calls.unread.now) ++ x)
+            ∙ sym (append_assoc invariant.1.front
+            (take c.encode_from_utf8_to_vec-stop.result.1 c.calls.unread.now) _)
+            ∙ ap (λ x. (invariant.1.front
+            ++ take c.encode_from_utf8_to_vec-stop.result.1 c.calls.unread.now) ++ x)
             (sym c.split_at.ensures.back);
         start = λ none. absurd (
             let overflows =

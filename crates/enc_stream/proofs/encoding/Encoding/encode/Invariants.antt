@@ -16,7 +16,8 @@ invariant-calls l = shadow (Utf8 l.unread) × record {
   front : List ℕ;
   rest : l.fn.text ≡ front ++ l.unread;
   -- only the first call asks for a length that is not there
-  start : length_to_encode (output_encoding_of l.fn.self) (length l.fn.text) ≡ None → l.unread ≡ l.fn.text;
+  start : length_to_encode (output_encoding_of l.fn.self) (length l.fn.text) ≡ None
+      → l.unread ≡ l.fn.text;
 }
 
 abbrev pub decreases-calls : goal.decreases-calls

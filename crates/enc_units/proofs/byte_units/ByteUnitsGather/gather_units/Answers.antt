@@ -13,4 +13,5 @@ loop-count-preserved g c =
     )
 
 pub returns-then-more-lt-STEP-clause-gathers : goal.returns-then-more-lt-STEP-clause-gathers
-returns-then-more-lt-STEP-clause-gathers g c = gathers_then c.loop-count.invariant.3 c.store_step-more.ensures.gathers
+returns-then-more-lt-STEP-clause-gathers g c =
+    gathers_then c.loop-count.invariant.3 c.store_step-more.ensures.gathers

@@ -6,7 +6,8 @@ use Rattle.enc_units.proofs.byte_units.ByteUnitsGather.gather_units.Given as goa
 abbrev pub invariant-loop-count : goal.invariant-loop-count
 invariant-loop-count g l =
     (l.limit ≤ length l.buffer) × (l.count ≤ l.limit) × (length l.buffer ≡ length l.initial.buffer)
-    × GathersChars encode_utf16 (g.P.Pieces.means l.self.pieces) l.src l.count [] (take l.count l.buffer)
+    × GathersChars encode_utf16 (g.P.Pieces.means l.self.pieces) l.src l.count []
+    (take l.count l.buffer)
 
 abbrev pub decreases-loop-count : goal.decreases-loop-count
 decreases-loop-count g l = length l.src - l.count

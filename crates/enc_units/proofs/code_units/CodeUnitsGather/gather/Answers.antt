@@ -11,9 +11,11 @@ loop-written-preserved-then-are_ascii_units g c =
     let rest = drop c.loop-written.read c.args.src.now in
     let long : 16 ≤ length rest = omega (arith, length-drop c.loop-written.read c.args.src.now) in
     let bytes : length (take 16 rest) ≡ 16 = omega (arith, length-take 16 rest) in
-    let eight = ap length c.units_in-units.ensures ∙ units_long c.args.self.now.big_endian 8 (take 16 rest) bytes in
+    let eight = ap length c.units_in-units.ensures
+    ∙ units_long c.args.self.now.big_endian 8 (take 16 rest) bytes in
     let ascii = c.are_ascii_units.ensures c.if-are_ascii_units.true in (
-      subst (λ n. c.min-limit.result ≤ n) (sym (length-put_chunk c.loop-written.written c.loop-written.buffer _))
+      subst (λ n. c.min-limit.result ≤ n)
+          (sym (length-put_chunk c.loop-written.written c.loop-written.buffer _))
           invariant.0,
       omega arith,
       length-put_chunk c.loop-written.written c.loop-written.buffer _ ∙ invariant.2,
@@ -30,7 +32,8 @@ loop-written-preserved-then-count-eq8 g c =
     let long : 16 ≤ length rest = omega (arith, length-drop c.loop-written.read c.args.src.now) in
     let before_surrogate = c.units_before_surrogate-count.ensures in
     let scalars =
-    subst (λ k. AreScalars (take k c.units_in-units.result)) c.if-count-eq8.true before_surrogate.scalars in (
+    subst (λ k. AreScalars (take k c.units_in-units.result)) c.if-count-eq8.true
+    before_surrogate.scalars in (
       omega (arith, stored.len, invariant.0),
       omega (arith, stored.bound),
       stored.len ∙ invariant.2,
@@ -55,8 +58,10 @@ loop-written-preserved g c =
       omega (arith, stored_text.end, stored.bound, before_surrogate.bound, c.utf8_of.ensures.bound),
       stored_text.len ∙ stored.len ∙ invariant.2,
       gathers_then (gathers_then invariant.3
-          (gathers_words c.args.self.now.big_endian c.requires.ready c.units_before_surrogate-count.result
-          c.words_of-words.result before_surrogate.bound long c.units_in-units.ensures before_surrogate.scalars
+          (gathers_words c.args.self.now.big_endian c.requires.ready
+          c.units_before_surrogate-count.result
+          c.words_of-words.result before_surrogate.bound long c.units_in-units.ensures
+          before_surrogate.scalars
           c.words_of-words.ensures.utf8 stored.stored))
           (gathers_one _ found.some found.within c.utf8_of.ensures.scalar found.means text),
     )
@@ -70,5 +75,6 @@ returns-in_default-clause-gathers g c =
     let long : 16 ≤ length rest = omega (arith, length-drop c.loop-written.read c.args.src.now) in
     gathers_then invariant.3
     (gathers_words c.args.self.now.big_endian c.requires.ready c.units_before_surrogate-count.result
-    c.words_of-words.result before_surrogate.bound long c.units_in-units.ensures before_surrogate.scalars
+    c.words_of-words.result before_surrogate.bound long c.units_in-units.ensures
+    before_surrogate.scalars
     c.words_of-words.ensures.utf8 stored.stored)

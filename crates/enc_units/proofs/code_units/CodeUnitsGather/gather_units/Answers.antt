@@ -13,27 +13,33 @@ loop-written-preserved-then-are_scalars g c =
     let first_scalars = c.are_scalars.ensures in
     let more_scalars = c.are_scalars-in-loop-written.ensures in
     let long = length-put_chunk (c.loop-written.written + 8)
-    (put_chunk c.loop-written.written c.loop-written.buffer c.units_in-units.result) c.units_in-more.result
+    (put_chunk c.loop-written.written c.loop-written.buffer c.units_in-units.result)
+    c.units_in-more.result
     ∙ length-put_chunk c.loop-written.written c.loop-written.buffer c.units_in-units.result in (
       omega (arith, long, invariant.0),
       omega arith,
       long ∙ invariant.2,
-      gathers_both c.args.self.now.big_endian c.requires.ready c.loop-written.written c.loop-written.buffer
+      gathers_both c.args.self.now.big_endian c.requires.ready c.loop-written.written
+          c.loop-written.buffer
           c.if-src-read-ge32.true (omega arith) c.units_in-units.ensures
           (first_scalars.scalars both_scalars.0) (first_scalars.alone 8)
-          c.units_in-more.ensures (more_scalars.scalars both_scalars.1) (more_scalars.alone 8) invariant.3,
+          c.units_in-more.ensures (more_scalars.scalars both_scalars.1) (more_scalars.alone 8)
+          invariant.3,
     )
 
 pub loop-written-preserved-then-count-eq8 : goal.loop-written-preserved-then-count-eq8
 loop-written-preserved-then-count-eq8 g c =
     let invariant = c.loop-written.invariant in
     let before_surrogate = c.units_before_surrogate-count.ensures in (
-      subst (λ k. c.min-limit.result ≤ k) (sym (length-put_chunk c.loop-written.written c.loop-written.buffer _))
+      subst (λ k. c.min-limit.result ≤ k)
+          (sym (length-put_chunk c.loop-written.written c.loop-written.buffer _))
           invariant.0,
       omega (arith, before_surrogate.bound),
       length-put_chunk c.loop-written.written c.loop-written.buffer _ ∙ invariant.2,
-      gathers_lanes c.args.self.now.big_endian c.requires.ready c.units_before_surrogate-count.result
-          c.loop-written.written c.loop-written.buffer before_surrogate.bound (omega arith) (omega arith)
+      gathers_lanes c.args.self.now.big_endian c.requires.ready
+          c.units_before_surrogate-count.result
+          c.loop-written.written c.loop-written.buffer before_surrogate.bound (omega arith)
+          (omega arith)
           c.units_in-units.ensures before_surrogate.scalars
           (before_surrogate.alone _) invariant.3,
     )
@@ -44,13 +50,16 @@ loop-written-preserved g c =
     let before_surrogate = c.units_before_surrogate-count.ensures in
     let stored = c.store_units-written.ensures in
     let found = c.in-Some.ensures in
-    let long = length-put_chunk c.loop-written.written c.loop-written.buffer c.units_in-units.result in (
+    let long = length-put_chunk c.loop-written.written c.loop-written.buffer
+    c.units_in-units.result in (
       omega (arith, stored.len, long, invariant.0),
       omega (arith, stored.bound, before_surrogate.bound),
       stored.len ∙ long ∙ invariant.2,
       gathers_then
-          (gathers_lanes c.args.self.now.big_endian c.requires.ready c.units_before_surrogate-count.result
-          c.loop-written.written c.loop-written.buffer before_surrogate.bound (omega arith) (omega arith)
+          (gathers_lanes c.args.self.now.big_endian c.requires.ready
+          c.units_before_surrogate-count.result
+          c.loop-written.written c.loop-written.buffer before_surrogate.bound (omega arith)
+          (omega arith)
           c.units_in-units.ensures before_surrogate.scalars
           (before_surrogate.alone _) invariant.3)
           (gathers_one _ found.some found.within stored.scalar found.means stored.stored),

@@ -5,8 +5,10 @@ use Rattle.enc_units.proofs.code_units.CodeUnitsGather.gather_units.Given as goa
 
 abbrev pub invariant-loop-written : goal.invariant-loop-written
 invariant-loop-written g l =
-    (l.limit ≤ length l.buffer) × (l.written ≤ l.limit) × (length l.buffer ≡ length l.initial.buffer)
-    × GathersChars encode_utf16 (g.P.Pieces.means l.self.pieces) l.src l.read [] (take l.written l.buffer)
+    (l.limit ≤ length l.buffer) × (l.written ≤ l.limit)
+    × (length l.buffer ≡ length l.initial.buffer)
+    × GathersChars encode_utf16 (g.P.Pieces.means l.self.pieces) l.src l.read []
+    (take l.written l.buffer)
 
 abbrev pub decreases-loop-written : goal.decreases-loop-written
 decreases-loop-written g l = length l.src - l.read

@@ -13,7 +13,8 @@ loop-written-preserved-then-src-read-lt128 g c =
       stored.len ∙ invariant.2,
       gathers_then invariant.3
           (gathers_ascii ascii ascii_units
-          (omega (arith, stored.bound, length-drop c.loop-written.read c.args.src.now)) stored.ascii stored.stored),
+          (omega (arith, stored.bound, length-drop c.loop-written.read c.args.src.now)) stored.ascii
+          stored.stored),
     )
 
 pub loop-written-preserved : goal.loop-written-preserved

@@ -11,7 +11,11 @@ loop-written-preserved-then-are_ascii g c =
     let rest = drop c.loop-written.read c.args.src.now in
     let long : length (take 16 rest) ≡ 16 =
     omega (arith, length-take 16 rest, length-drop c.loop-written.read c.args.src.now) in (
-      omega (arith, length-put_chunk c.loop-written.written c.loop-written.buffer (take 16 rest), invariant.0),
+      omega (
+        arith,
+        length-put_chunk c.loop-written.written c.loop-written.buffer (take 16 rest),
+        invariant.0,
+      ),
       omega arith,
       length-put_chunk c.loop-written.written c.loop-written.buffer _ ∙ invariant.2,
       gathers_then invariant.3
@@ -41,7 +45,8 @@ loop-written-preserved g c =
     let stored_text = c.store_text-written.ensures in
     let found = c.in-Some.ensures in
     let text = ap (λ n. take n c.store_text-written.new.buffer) stored_text.end ∙ stored_text.stored
-    ∙ ap (λ z. take c.store_eight-more.result.1 c.store_eight-more.new.buffer ++ z) c.utf8_of.ensures.bytes in (
+    ∙ ap (λ z. take c.store_eight-more.result.1 c.store_eight-more.new.buffer ++ z)
+    c.utf8_of.ensures.bytes in (
       omega (arith, stored_text.len, stored_pairs.len, invariant.0),
       omega (arith, stored_text.end, stored_pairs.bound, c.utf8_of.ensures.bound),
       stored_text.len ∙ stored_pairs.len ∙ invariant.2,

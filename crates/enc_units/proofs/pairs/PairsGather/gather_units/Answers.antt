@@ -14,7 +14,8 @@ loop-written-preserved-then-are_ascii g c =
     omega (arith, length-take 16 rest, length-drop c.loop-written.read c.args.src.now) in (
       omega (
         arith,
-        length-put_chunk c.loop-written.written c.loop-written.buffer (map (λ (x : ℕ). x) (take 16 rest)),
+        length-put_chunk c.loop-written.written c.loop-written.buffer
+            (map (λ (x : ℕ). x) (take 16 rest)),
         invariant.0,
       ),
       omega arith,

@@ -10,5 +10,6 @@ returns c =
     let peeked = c.in-Some.ensures in
     let appended = c.append.ensures in
     let was_appended = c.if-not-append.false in
-    one_piece _ peeked.some peeked.within appended.scalar peeked.means (sym appended.fits ∙ was_appended)
+    one_piece _ peeked.some peeked.within appended.scalar peeked.means
+    (sym appended.fits ∙ was_appended)
     (appended.written was_appended)

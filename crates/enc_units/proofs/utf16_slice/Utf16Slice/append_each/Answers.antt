@@ -4,7 +4,8 @@ use Rattle.enc_units.proofs.utf16_slice.Utf16Slice.append_each.Goals as goal
 
 pub loop-at-preserved-then-has_ascii : goal.loop-at-preserved-then-has_ascii
 loop-at-preserved-then-has_ascii g c =
-    then_rest c.split_at.ensures.back c.loop-at.invariant (ascii_pieces (c.has_ascii.ensures c.if-has_ascii.true)
+    then_rest c.split_at.ensures.back c.loop-at.invariant
+    (ascii_pieces (c.has_ascii.ensures c.if-has_ascii.true)
     c.append_ascii-len.ensures)
 
 pub loop-at-preserved : goal.loop-at-preserved

@@ -6,7 +6,8 @@ use Rattle.enc_units.proofs.utf16_slice.Utf16Slice.append_each.Given as goal
 
 abbrev pub invariant-loop-at : goal.invariant-loop-at
 invariant-loop-at g l =
-    PutsPieces encode_utf16 (g.P.Pieces.means l.pieces) (borrowed_output l.initial.self.len l.initial.self.dst)
+    PutsPieces encode_utf16 (g.P.Pieces.means l.pieces)
+    (borrowed_output l.initial.self.len l.initial.self.dst)
     (borrowed_output l.self.len l.self.dst) l.src l.at
 
 abbrev pub decreases-loop-at : goal.decreases-loop-at

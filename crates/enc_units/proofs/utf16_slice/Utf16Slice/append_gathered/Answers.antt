@@ -4,7 +4,8 @@ use Rattle.enc_units.proofs.GatherLemmas.{puts_gathered}
 use Rattle.enc_units.proofs.utf16_slice.Utf16Slice.append_gathered.Goals as goal
 
 pub returns-then-read-eq0 : goal.returns-then-read-eq0
-returns-then-read-eq0 g c = then_rest c.split_at.ensures.back c.loop-at.invariant c.append_ascii_of-at.ensures
+returns-then-read-eq0 g c =
+    then_rest c.split_at.ensures.back c.loop-at.invariant c.append_ascii_of-at.ensures
 
 pub returns-then-not-append_units : goal.returns-then-not-append_units
 returns-then-not-append_units g c =

@@ -6,7 +6,8 @@ use Rattle.enc_units.proofs.utf8_slice.Utf8Slice.append_few.Given as goal
 
 abbrev pub invariant-loop-count : goal.invariant-loop-count
 invariant-loop-count g l =
-    PutsPieces encode_utf8 (g.P.Pieces.means l.pieces) (borrowed_output l.initial.self.len l.initial.self.dst)
+    PutsPieces encode_utf8 (g.P.Pieces.means l.pieces)
+    (borrowed_output l.initial.self.len l.initial.self.dst)
     (borrowed_output l.self.len l.self.dst) l.src l.at
 
 abbrev pub decreases-loop-count : goal.decreases-loop-count

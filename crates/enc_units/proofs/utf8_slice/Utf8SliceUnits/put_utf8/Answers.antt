@@ -6,4 +6,5 @@ pub returns-then-char_len-eq0 : goal.returns-then-char_len-eq0
 returns-then-char_len-eq0 c = ascii_pieces ascii_char c.append_ascii-at.ensures
 
 pub returns : goal.returns
-returns c = then_rest c.split_at.ensures.back (ascii_pieces ascii_char c.append_ascii-at.ensures) c.append_utf8.ensures
+returns c = then_rest c.split_at.ensures.back (ascii_pieces ascii_char c.append_ascii-at.ensures)
+    c.append_utf8.ensures

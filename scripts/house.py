@@ -1,0 +1,67 @@
+"""The rules of CONTRIBUTING.md ("House rules", "Names") that can be counted. For scripts/documents."""
+
+import glob
+import os
+import re
+
+from closure import is_written
+from codec_rows import FILES
+from tree import TOP, read
+
+# The most lines of a file, and the most columns of a line; of an import, and in files with rows that a script writes.
+MOST_LINES, MOST_COLUMNS, MOST_OF_ROWS = 799, 100, 120
+# The most parameters of a lemma, or of all lemmas of a module, and the most `_` side by side.
+MOST_PARAMETERS, MOST_HOLES = 19, 5
+
+HOLES = re.compile(rf"(?<=\s)_(?:\s+_){{{MOST_HOLES},}}(?=[\s,)\]])")
+TELESCOPE = re.compile(r"^ *(?:module _|(?:pub )?[^\s:({]+ :)((?:\s+[({][^(){}]*?:(?:[^(){}]|\([^()]*\))*[)}])+)", re.M)
+BINDER = re.compile(r"[({]([^(){}:]+):")
+LOCAL = re.compile(r"\blet (\w)(?: :| =)")
+IMPORT = re.compile(r" *(?:pub |ghost |unfoldable )*use ")
+# `rt fmt` writes these in one line.
+WHOLE_LINE = re.compile(r" *#\[tactic\(|(?:pub )?use [^{]*$")
+
+
+def sources():
+    """The sources that are written by hand, or have rows that a script writes."""
+    paths = (it for kind in ("rt", "antt") for it in glob.glob(f"{TOP}/crates/*/*/**/*.{kind}", recursive=True))
+    found = (os.path.relpath(it, TOP) for it in paths)
+    return sorted(it for it in found if "/out/" not in it and not is_written(it))
+
+
+def is_wide(path, line):
+    """Whether a line has too many columns."""
+    most = MOST_OF_ROWS if path in FILES or IMPORT.match(line) else MOST_COLUMNS
+    return len(line) > most and not WHOLE_LINE.match(line)
+
+
+def wide_lines(path, text):
+    found = (at for at, line in enumerate(text.split("\n"), 1) if is_wide(path, line))
+    return [f"{path}:{at}: a line of too many columns" for at in found]
+
+
+def line_at(text, place):
+    return text.count("\n", 0, place) + 1
+
+
+def unnamed(path, text):
+    """Places of a proof where names are wanted: holes side by side, long telescopes, and facts of one letter that are cited twice."""
+    found = [(it.start(), "six `_` or more side by side") for it in HOLES.finditer(text)]
+    for it in TELESCOPE.finditer(text):
+        if sum(len(names.split()) for names in BINDER.findall(it[1])) > MOST_PARAMETERS:
+            found.append((it.start(1), f"more than {MOST_PARAMETERS} parameters"))
+    for block in re.finditer(r"^\S.*?(?=^\S|\Z)", text, re.M | re.S):
+        for it in LOCAL.finditer(block[0]):
+            if len(re.findall(rf"(?<![\w.]){it[1]}(?!\w)", block[0])) > 2:
+                found.append((block.start() + it.start(), f"`{it[1]}` is cited more than once, and has one letter"))
+    return [f"{path}:{line_at(text, place)}: {what}" for place, what in found]
+
+
+def broken_rules():
+    """What is against a rule, in the order of files."""
+    found = []
+    for path in sources():
+        text = read(path)
+        found += [f"{path}: more than {MOST_LINES} lines"] * (text.count("\n") > MOST_LINES)
+        found += wide_lines(path, text) + (unnamed(path, text) if "/proofs/" in path else [])
+    return found
