@@ -59,8 +59,7 @@ module _ {C : Type 0} (state : C → CodecState) (c next : C) (text : Text) (kin
           bytes = (state c).pending ++ b ∷ [];
           text = text_chars text;
           kind = kind;
-          set =
-              (state next).set;
+          set = (state next).set;
         } ∷ (remainder_of (state next)).sequences z)
         → HandlesByte state c b
         (Emit (record { text = text; kind = kind; len = len; takes_byte = true; next = next }))
@@ -131,8 +130,7 @@ module _ {C : Type 0} (state : C → CodecState) (c next : C) (text : Text) (kin
             bytes = bytes;
             text = text_chars text;
             kind = kind;
-            set =
-                (state next).set;
+            set = (state next).set;
           } ∷ (remainder_of (state next)).sequences x) (sym w.1)),
       λ t. absurd (false≢true t),
     )

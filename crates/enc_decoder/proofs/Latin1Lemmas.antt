@@ -126,8 +126,7 @@ module _ {C : Type 0} {state : C → CodecState} {v : CodecState} {bytes : List 
       bytes = x;
       text = text_chars s.text;
       kind = s.kind;
-      set =
-          (state s.next).set;
+      set = (state s.next).set;
     }
 
     -- the parts of a sequence that is shown with the byte, and before it

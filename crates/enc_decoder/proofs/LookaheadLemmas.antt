@@ -73,8 +73,7 @@ module _ (rule : Rule) (law : HasLookahead rule) where
           bytes = b ∷ x;
           text = (rule set b z).text;
           kind = (rule set b z).kind;
-          set =
-              (rule set b z).set;
+          set = (rule set b z).set;
         } ∷ sequences_of rule (rule set b z).set (drop more (take j z ++ y)))
         (take-append-le more (take j z) y (omega (arith, as_long, contains))
         ∙ take-take more j z (omega (arith, contains)))

@@ -44,8 +44,7 @@ module _ {C : Type 0} {state : C → CodecState} {c : C} {src : List ℕ} {read 
     bytes = next.bytes;
     text = text_chars s.text;
     kind = s.kind;
-    set =
-        (state s.next).set;
+    set = (state s.next).set;
   }
 
   pub parts_before : s.takes_byte ≡ false → (state c).pending ≡ next.bytes ++ (state s.next).pending

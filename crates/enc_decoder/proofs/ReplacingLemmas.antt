@@ -78,8 +78,7 @@ module _ {units_of : ℕ → List ℕ} {old : Remainder} {src : List ℕ} (bytes
   empties {then = then} next_call = record {
     wrote = turning.wrote ++ next_call.wrote;
     onto = onto_on then next_call.wrote next_call.onto;
-    call =
-        successive.empties bytes turning.turned (room_at next_call.call);
+    call = successive.empties bytes turning.turned (room_at next_call.call);
   }
 
   pub fills : {new : Remainder} {n : ℕ} {then : Output}
@@ -116,8 +115,7 @@ module _ {units_of : ℕ → List ℕ} {old : Remainder} {src : List ℕ} (bytes
             (onto_on then next_call.wrote next_call.onto)
             ∙ with_appended-with_appended before (turning.wrote ++ next_call.wrote)
             (units_of 0xFFFD);
-        turned =
-            successive.replaces bytes turning.turned (room_at next_call.call);
+        turned = successive.replaces bytes turning.turned (room_at next_call.call);
       }
 
       pub falls : length new.pending + (length src - (read + n)) < length now.pending

@@ -76,8 +76,7 @@ nothing_wrote units_of mode room = record {
   scalars = refl;
   fits = omega arith;
   at = omega arith;
-  flag =
-      refl;
+  flag = refl;
   none = λ _. refl;
 }
 

@@ -98,15 +98,15 @@ pub record DecoderAtInputEmpty (old new : Remainder) (src : List ℕ) (last : Bo
 
 -- The next sequence is determined, and its text does not fit.
 pub record DecoderAtOutputFull (units_of : ℕ → List ℕ) (old : Remainder) (src : List ℕ)
-    (last : Bool) (mode : DecodeErrorMode) (room : ℕ) (put done : List Sequence) (read : ℕ) : Type 0
-  where
-    pub only_put : done ≡ put
-    pub next : Sequence
-    pub determined : AreDetermined last old.sequences src (done ++ next ∷ [])
-    pub not_reported : keeps_room mode ≡ false → is_malformed next.kind ≡ false
-    pub full : room < length (units_of_text units_of (sequence_text done))
-        + length (units_of_text units_of next.text)
-    pub reads : ReadsBeforeSequence old.sequences src (done ++ next ∷ []) read
+    (last : Bool) (mode : DecodeErrorMode) (room : ℕ) (put done : List Sequence)
+    (read : ℕ) : Type 0 where
+  pub only_put : done ≡ put
+  pub next : Sequence
+  pub determined : AreDetermined last old.sequences src (done ++ next ∷ [])
+  pub not_reported : keeps_room mode ≡ false → is_malformed next.kind ≡ false
+  pub full : room < length (units_of_text units_of (sequence_text done))
+      + length (units_of_text units_of next.text)
+  pub reads : ReadsBeforeSequence old.sequences src (done ++ next ∷ []) read
 
 -- The next sequence is determined and malformed, has l bytes, and a bytes are pending after it. So
 -- it is the l bytes before the last a of all bytes read so far.

@@ -22,14 +22,14 @@ AreLatin1Sequences (s ∷ ss) (b ∷ z) = IsLatin1Sequence s b × AreLatin1Seque
 
 -- The first k bytes are so, each a sequence by itself, whatever follows. The byte after them is
 -- not.
-pub record IsLatin1Prefix (remaining : List ℕ → List Sequence) (bytes : List ℕ) (k : ℕ) : Type 0
-  where
-    pub within : k ≤ length bytes
-    pub front : List Sequence
-    pub themselves : AreLatin1Sequences front (take k bytes)
-    pub first : Determines remaining (take k bytes) front
-    pub longest : k < length bytes → (s : Sequence) → IsLatin1Sequence s (slice_index bytes k)
-        → Determines remaining (take (k + 1) bytes) (front ++ s ∷ []) → ⊥
+pub record IsLatin1Prefix (remaining : List ℕ → List Sequence) (bytes : List ℕ)
+    (k : ℕ) : Type 0 where
+  pub within : k ≤ length bytes
+  pub front : List Sequence
+  pub themselves : AreLatin1Sequences front (take k bytes)
+  pub first : Determines remaining (take k bytes) front
+  pub longest : k < length bytes → (s : Sequence) → IsLatin1Sequence s (slice_index bytes k)
+      → Determines remaining (take (k + 1) bytes) (front ++ s ∷ []) → ⊥
 
 -- At the start no byte is a valid sequence by itself.
 abbrev pub HasNoByteSequences : Rule → Type 0

@@ -61,12 +61,12 @@ RemainingNeedExceeds units_of mode new src last read (stop.Malformed l a) n =
 -- The output is full exactly if the need exceeds the room. The need before a call is what it wrote
 -- and the remaining need.
 pub record MeetsDecodeNeed (units_of : ℕ → List ℕ) (mode : DecodeErrorMode) (old new : Remainder)
-    (src : List ℕ) (last : Bool) (room : ℕ) (result : DecoderResult) (read written : ℕ) : Type 0
-  where
-    pub full : (result ≡ OutputFull) ↔ NeedExceeds units_of mode old src last room
-    pub reaches : (n : ℕ) → n < written → NeedExceeds units_of mode old src last n
-    pub left : (n : ℕ) → NeedExceeds units_of mode old src last (written + n)
-        ↔ RemainingNeedExceeds units_of mode new src last read result n
+    (src : List ℕ) (last : Bool) (room : ℕ) (result : DecoderResult)
+    (read written : ℕ) : Type 0 where
+  pub full : (result ≡ OutputFull) ↔ NeedExceeds units_of mode old src last room
+  pub reaches : (n : ℕ) → n < written → NeedExceeds units_of mode old src last n
+  pub left : (n : ℕ) → NeedExceeds units_of mode old src last (written + n)
+      ↔ RemainingNeedExceeds units_of mode new src last read result n
 
 -- the same, by the rooms of an output before and after
 abbrev pub MeetsDecodeNeedInto : (ℕ → List ℕ) → DecodeErrorMode → Remainder → Remainder → List ℕ

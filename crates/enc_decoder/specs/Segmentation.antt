@@ -36,8 +36,7 @@ head_sequence h b z = record {
   bytes = b ∷ take h.more z;
   text = h.text;
   kind = h.kind;
-  set =
-      h.set;
+  set = h.set;
 }
 
 -- the sequences after the first k bytes

@@ -68,8 +68,7 @@ pub shows_skipped : (s : CharacterSet) (held : Held) (e : Escape) (next : Option
       kind = Skipped;
       len = 3;
       takes_byte = false;
-      next =
-          state_with_held (escape_set e) next;
+      next = state_with_held (escape_set e) next;
     })
 shows_skipped s held e next parts f =
     shows_before jp_state (state_with_held s (Some held)) (state_with_held (escape_set e) next)
@@ -197,8 +196,7 @@ shows_repeated s e f i b is_escape = (
           bytes = escape_bytes e;
           text = 0xFFFD ∷ [];
           kind = RepeatedEscape;
-          set =
-              set_number (escape_set e);
+          set = set_number (escape_set e);
         }
         ∷ sequences_of jp_rule (set_number (escape_set e)) (x ++ y)) (sym is_escape);
     same_rule = refl;

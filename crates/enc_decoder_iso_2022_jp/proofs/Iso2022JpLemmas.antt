@@ -145,8 +145,7 @@ pub repeated_escape : (set : ℕ) (e : Escape) (z : List ℕ) (s : CharacterSet)
       bytes = escape_bytes e;
       text = 0xFFFD ∷ [];
       kind = RepeatedEscape;
-      set =
-          set_number (escape_set e);
+      set = set_number (escape_set e);
     }
     ∷ sequences_of jp_rule (set_number (escape_set e)) z
 repeated_escape set ToAscii z s another_follows =

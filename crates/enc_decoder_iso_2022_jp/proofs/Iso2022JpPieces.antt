@@ -82,8 +82,7 @@ skipped e = record {
   bytes = escape_bytes e;
   text = [];
   kind = Skipped;
-  set =
-      set_number (escape_set e);
+  set = set_number (escape_set e);
 }
 
 three_first : (e : Escape) (z : List ℕ) → (take 3 (escape_bytes e ++ z) ≡ escape_bytes e)

@@ -17,15 +17,15 @@ set_number Jis0208 = 3
 
 -- the character set of a number
 abbrev pub set_of : ℕ → CharacterSet
-set_of set = if set == 1 then Roman else if set == 2 then Katakana else if set == 3 then Jis0208
-    else Ascii
+set_of set =
+    if set == 1 then Roman else if set == 2 then Katakana else if set == 3 then Jis0208 else Ascii
 
 -- the character set that an escape sequence designates, by its second and third byte
 abbrev pub set_of_escape_bytes : ℕ → ℕ → Option CharacterSet
 set_of_escape_bytes b c =
     if b == 0x28 then
-    if c == 0x42 then Some Ascii else if c == 0x4A then Some Roman else if c == 0x49 then Some
-    Katakana else None
+    if c == 0x42 then Some Ascii else if c == 0x4A then Some Roman
+    else if c == 0x49 then Some Katakana else None
     else if b == 0x24 && (c == 0x40 || c == 0x42) then Some Jis0208
     else None
 

@@ -73,8 +73,7 @@ abbrev pub iso_2022_jp_state : Iso2022JpState → CodecState
 iso_2022_jp_state s = record {
   rule = iso_2022_jp_rule;
   set = set_number s.set;
-  pending =
-      bytes_of_held s.held;
+  pending = bytes_of_held s.held;
 }
 
 -- a lead byte whose character has no second byte

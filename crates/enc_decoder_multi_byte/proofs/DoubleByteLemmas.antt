@@ -106,8 +106,7 @@ double_byte_laws is_lead single pair laws =
       alone = λ b text e.
           first_is_basic (is_lead b) (single b) text (laws.basic b) e;
       malformed = malformed;
-      short =
-          short;
+      short = short;
       can_be_malformed = can_be_malformed;
     }
   where

@@ -82,8 +82,7 @@ euc_jp_laws = record {
   texts = texts;
   alone = λ b text e.
       first_is_basic (is_euc_jp_lead b) (euc_jp_single_char b) text (ascii_is_basic b) e;
-  malformed =
-      malformed;
+  malformed = malformed;
   short = short;
   can_be_malformed = can_be_malformed;
 }

@@ -194,8 +194,7 @@ module _ (prefix : List ℕ → Prefix) (laws : ArePrefixes prefix) {C : Type 0}
         kind = Malformed;
         len = len;
         takes_byte = false;
-        next =
-            next;
+        next = next;
       }))
   left_over len u s l m then = (
     shows_before state c next (Character 0xFFFD) Malformed len _ p (rule_stays _ then)

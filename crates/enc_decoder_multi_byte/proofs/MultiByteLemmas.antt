@@ -122,8 +122,7 @@ module _ (prefix : List ℕ → Prefix) where
         bytes = take n (w ++ c ∷ []);
         text = text_chars text;
         kind = kind;
-        set =
-            set;
+        set = set;
       } ∷ sequences_of (multi_byte_rule prefix) set x)
       (ap (drop n) (sym (append_assoc w (c ∷ []) z)) ∙ drop-append-le n (w ++ c ∷ []) z settles.own)
     where

@@ -62,5 +62,5 @@ gb18030_prefix (a ∷ b ∷ []) =
     if is_digit b then Incomplete else trail_prefix 1 b (text_of_char (gb18030_pair_char a b))
 gb18030_prefix (a ∷ b ∷ c ∷ []) = if is_gb18030_lead c then Incomplete else Malformed 1
 gb18030_prefix (a ∷ b ∷ c ∷ d ∷ z) =
-    if is_digit d then four_byte_prefix (ranges_code_point (four_byte_pointer a b c d)) else
-    Malformed 1
+    if is_digit d then four_byte_prefix (ranges_code_point (four_byte_pointer a b c d))
+    else Malformed 1

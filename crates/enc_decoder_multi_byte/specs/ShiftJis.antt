@@ -37,8 +37,8 @@ shift_jis_pointer_char pointer =
 -- the text of a lead byte and the byte after it
 abbrev pub shift_jis_pair_text : ℕ → ℕ → Option Text
 shift_jis_pair_text lead b =
-    text_of_char (if is_shift_jis_trail b then shift_jis_pointer_char
-    (shift_jis_pair_pointer lead b) else None)
+    text_of_char (if is_shift_jis_trail b
+    then shift_jis_pointer_char (shift_jis_pair_pointer lead b) else None)
 
 -- the kind of a prefix
 abbrev pub shift_jis_prefix : List ℕ → Prefix

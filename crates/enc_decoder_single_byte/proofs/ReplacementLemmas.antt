@@ -20,8 +20,7 @@ pub first_acts : (b : ℕ)
       kind = Malformed;
       len = 1;
       takes_byte = true;
-      next =
-          true;
+      next = true;
     }))
 unfolding replacement_rule
 first_acts b =

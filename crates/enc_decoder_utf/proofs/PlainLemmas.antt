@@ -105,8 +105,7 @@ whole_four a z s e =
 pub whole_head : (b : ℕ) (z : List ℕ) → well_formed_tail_len b z + 1 ≡ sequence_len b
     → utf_8_rule 0 b z ≡ record {
       more = well_formed_tail_len b z;
-      text =
-          scalar_of (b ∷ take (well_formed_tail_len b z) z) ∷ [];
+      text = scalar_of (b ∷ take (well_formed_tail_len b z) z) ∷ [];
       kind = Valid;
       set = 0;
     }
@@ -116,8 +115,7 @@ pub malformed_first : (b : ℕ) (z : List ℕ) → (well_formed_tail_len b z + 1
     → utf_8_rule 0 b z ≡ record {
       more = well_formed_tail_len b z;
       text = 0xFFFD ∷ [];
-      kind =
-          Malformed;
+      kind = Malformed;
       set = 0;
     }
 malformed_first b z e =

@@ -145,8 +145,7 @@ module _ (big : Bool) where
   utf_16_is_lawful =
       record {
         lookahead = lookahead_by (utf_16_rule big) determined;
-        small_texts =
-            utf_16_has_small_texts;
+        small_texts = utf_16_has_small_texts;
       }
 
 -- a character has two bytes or four

@@ -58,8 +58,7 @@ pending_malformed len =
       kind = Malformed;
       len = len;
       takes_byte = false;
-      next =
-          Nothing;
+      next = Nothing;
     }
 
 few : (p : Pending) (len : ℕ) → len ≡ length (bytes_of_pending p) → len ≤ 4

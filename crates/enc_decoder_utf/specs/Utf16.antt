@@ -30,8 +30,8 @@ abbrev pub lead_surrogate_head : Bool → ℕ → ℕ → List ℕ → Head
 lead_surrogate_head big set lead [] = malformed_head set 1
 lead_surrogate_head big set lead (d ∷ []) = malformed_head set 2
 lead_surrogate_head big set lead (d ∷ e ∷ z) =
-    if is_trail_surrogate (code_unit big d e) then character_head set 3
-    (pair_scalar lead (code_unit big d e))
+    if is_trail_surrogate (code_unit big d e)
+    then character_head set 3 (pair_scalar lead (code_unit big d e))
     else malformed_head set 1
 
 -- The first sequence, big-endian or little-endian. A single byte at the end of the input is

@@ -26,6 +26,5 @@ abbrev pub utf_16_state : Utf16State → CodecState
 utf_16_state s = record {
   rule = utf_16_rule s.big_endian;
   set = 0;
-  pending =
-      bytes_of_pending s.pending;
+  pending = bytes_of_pending s.pending;
 }

@@ -87,8 +87,9 @@ is_shift c = c == 0x0E || c == 0x0F || c == 0x1B
 
 -- the character that is looked up; for half-width katakana a full-width one
 abbrev pub lookup_char : ℕ → ℕ
-lookup_char c = if is_halfwidth_katakana c then slice_index fullwidth_katakana (c - 0xFF61) else
-    with_fullwidth_minus c
+lookup_char c =
+    if is_halfwidth_katakana c then slice_index fullwidth_katakana (c - 0xFF61)
+    else with_fullwidth_minus c
 
 -- the two bytes of a pointer
 abbrev pub jis0208_pair_bytes : ℕ → List ℕ

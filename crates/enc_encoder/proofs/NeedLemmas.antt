@@ -81,8 +81,7 @@ module _ (old new : RawEncoderState) (src rest : List ℕ) (last : Bool) (room :
       ∙ at_end new last call.stops.ended in
       record {
         full = (λ e. cc, λ l. absurd (omega (arith, falls, none, call.fits, l)));
-        falls =
-            falls;
+        falls = falls;
       }
   meets_need OutputFull wrote call =
       let falls : encode_need old last src ≡ length wrote + encode_need new last rest =

@@ -62,8 +62,7 @@ first_place offer =
       rest = offer.src;
       slice = offer.slice;
       written = 0;
-      replaced =
-          false;
+      replaced = false;
     }
 
 -- the place after a call of the raw encoder that reports none and writes n bytes
@@ -74,8 +73,7 @@ next_place now next rest slice n =
       rest = rest;
       slice = slice;
       written = now.written + n;
-      replaced =
-          now.replaced;
+      replaced = now.replaced;
     }
 
 -- and the place after a reference, where that many bytes are written
@@ -453,8 +451,7 @@ module _ {offer : Offer} {now : Place} (writing : Writing offer now) {next : Raw
       (inr (inl (record {
         reference = ends_here;
         full = omega (arith, reached, total_is);
-        left =
-            left;
+        left = left;
       })))
 
 -- Where a call stops. Its characters have `a` code units, and those left `b`.

@@ -23,8 +23,7 @@ step_of state t rest =
       bytes = byte_list t.bytes;
       reads = read_chars t.reads rest;
       report = t.report;
-      set =
-          (state t.next).set;
+      set = (state t.next).set;
     }
 
 -- the step comes first, if these characters are to come, and the others come from the state after

@@ -11,14 +11,14 @@ IsWrittenIn e s bytes c = (e.bytes c ≡ Some bytes) × (e.has s c ≡ true)
 -- The steps of the first characters are done. None is a report, and the designated character set
 -- stays the same. Their bytes are written one after another to a slice, from `at` on. All other
 -- bytes of the slice are unchanged.
-pub record WritesRun (v : RawEncoderState) (src rest before after : List ℕ) (at wrote : ℕ) : Type 0
-  where
-    pub taken : List Step
-    pub reads : src ≡ step_chars taken ++ rest
-    pub remaining : (last : Bool)
-        → steps_from_state v last src ≡ taken ++ steps_from_state v last rest
-    pub set : v.set ≡ set_after_steps v.set taken
-    pub none_reported : any_reported taken ≡ false
-    pub count : wrote ≡ length (step_bytes taken)
-    pub fits : at + wrote ≤ length before
-    pub onto : after ≡ take at before ++ (step_bytes taken ++ drop (at + wrote) before)
+pub record WritesRun (v : RawEncoderState) (src rest before after : List ℕ)
+    (at wrote : ℕ) : Type 0 where
+  pub taken : List Step
+  pub reads : src ≡ step_chars taken ++ rest
+  pub remaining : (last : Bool)
+      → steps_from_state v last src ≡ taken ++ steps_from_state v last rest
+  pub set : v.set ≡ set_after_steps v.set taken
+  pub none_reported : any_reported taken ≡ false
+  pub count : wrote ≡ length (step_bytes taken)
+  pub fits : at + wrote ≤ length before
+  pub onto : after ≡ take at before ++ (step_bytes taken ++ drop (at + wrote) before)

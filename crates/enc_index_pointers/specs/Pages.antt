@@ -9,5 +9,5 @@ number_in_pages page_of pointers c =
 -- the pointer there, if it is below the bound
 abbrev pub pointer_in_pages : List ℕ → List ℕ → ℕ → ℕ → Option ℕ
 pointer_in_pages page_of pointers bound c =
-    if nat_lt (number_in_pages page_of pointers c) bound then Some
-    (number_in_pages page_of pointers c) else None
+    if nat_lt (number_in_pages page_of pointers c) bound
+    then Some (number_in_pages page_of pointers c) else None

@@ -333,8 +333,7 @@ module _ {old new : DecoderState} (filled at : ℕ) {xs ys : List ℕ} {ended : 
       (record {
         decoder = new;
         unread = take (filled - (at + read)) (drop (at + read) ys);
-        ended =
-            ended;
+        ended = ended;
       }) wrote replaced waits
   IsTurn-chunk decodes going within_filled w tested roomy same waiting text_or_end =
       let src : List ℕ = take (filled - at) (drop at xs) in

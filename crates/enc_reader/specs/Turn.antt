@@ -14,8 +14,8 @@ pub record IsWaiting (s : ReaderState) : Type 0 where
   pub going : has_finished s.decoder ≡ false
 
 -- A chunk is pulled: some bytes, or the end of the source.
-pub record PullsChunk (remaining_before remaining_after : Option (List ℕ)) (old new : ReaderState) :
-    Type 0 where
+pub record PullsChunk (remaining_before remaining_after : Option (List ℕ))
+    (old new : ReaderState) : Type 0 where
   pub bytes : List ℕ
   pub reads : ReadsOwed remaining_before remaining_after old new bytes [] false
   pub some : new.ended ≡ false → 0 < length bytes

@@ -37,10 +37,10 @@ module _ (is_lead : ℕ → Bool) (single : ℕ → Option ℕ) (pair : ℕ → 
       complete_two _ a b c (ap (λ t. first_prefix t (single a)) l) (ap (trail_prefix 1 b) e)
 
 -- the lead and the trail that a pointer has make the pair of its character
-pub record IsPair (is_lead : ℕ → Bool) (pair : ℕ → ℕ → Option Text) (lead trail c : ℕ) : Type 0
-  where
-    pub leads : is_lead lead ≡ true
-    pub has : pair lead trail ≡ Some (One c)
+pub record IsPair (is_lead : ℕ → Bool) (pair : ℕ → ℕ → Option Text)
+    (lead trail c : ℕ) : Type 0 where
+  pub leads : is_lead lead ≡ true
+  pub has : pair lead trail ≡ Some (One c)
 
 -- if no ASCII byte leads, and all other characters have pointers
 pub by_pairs : (is_lead : ℕ → Bool) (pair : ℕ → ℕ → Option Text) (lead trail : ℕ → ℕ)

@@ -219,8 +219,7 @@ one_and_rest (x ∷ y ∷ front) rest bytes b same_bytes h = absurd (omega arith
 
 -- the codec does EF of EF BB and leaves BB
 pub record LeavesBb (v w : CodecState) (src : List ℕ) (done : List Sequence) (left read : ℕ)
-    (life : LifeCycle)
-    : Type 0 where
+    (life : LifeCycle) : Type 0 where
   pub state : life ≡ SeenUtf8Second
   pub unread : unread_bytes life (length v.pending) ≡ 0xEF ∷ 0xBB ∷ []
   pub none : v.pending ≡ []
@@ -266,8 +265,7 @@ leaves_bb {v} {w} {src} {done} {left} {read} {life} reads_held accounted nothing
       unread = unread;
       none = none;
       done_bytes = parts.0;
-      bb_left =
-          parts.1;
+      bb_left = parts.1;
     }
 
 -- the codec then has BB, or hasn't read it

@@ -65,8 +65,7 @@ pub none_decoded : (handling : BomHandling) (e : Encoding) (bytes : List ℕ)
 none_decoded handling e bytes = record {
   done = [];
   whole = λ z h. fresh_sequences handling e (bytes ++ z);
-  text =
-      refl;
+  text = refl;
   flag = refl;
 }
 

@@ -105,8 +105,7 @@ module _ (P : Rule → Type 0) (utf_8 : P utf_8_rule) (utf_16be : P (utf_16_rule
             rule = rule_of e;
             set = 0;
             bytes = x;
-            is =
-                ap (λ o. sequences_by_mark o e x) mark_is;
+            is = ap (λ o. sequences_by_mark o e x) mark_is;
             holds = k;
           }
       by_mark (Some m) mark_is = record {

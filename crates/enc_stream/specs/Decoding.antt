@@ -216,8 +216,7 @@ pub record AnswersDecode (units_of : ℕ → List ℕ) (least : ℕ) (mode : Dec
   pub same : result ≡ raw.OutputFull → read ≡ 0 → wrote ≡ [] → HasTexts (rule_of old.encoding)
       → new ≡ old
   -- With `least` code units of room, a call makes progress.
-  pub progress : (result ≡ raw.InputEmpty → ⊥) → least ≤ room
-      → length new.pending + (length src - read) < length old.pending + length src
+  pub progress : (result ≡ raw.InputEmpty → ⊥) → least ≤ room → LeavesFewerBytes old new src read
 
 -- the same with replacement
 abbrev pub AnswersDecodeReplacing : (ℕ → List ℕ) → ℕ → DecoderState → DecoderState → List ℕ → Bool

@@ -34,19 +34,19 @@ first_length handling e bytes = max_length Utf8Reporting (fresh_decoder handling
 -- A call with the whole input returns `OutputFull`, though its output has at least that length.
 -- Then the length query for the remaining bytes, or its sum with the bytes written, overflows
 -- usize.
-pub record IsTooLongAfterFull (handling : BomHandling) (e : Encoding) (bytes : List ℕ) : Type 0
-  where
-    pub room : ℕ
-    pub enough : HasRoomFor (first_length handling e bytes) room
-    pub state : DecoderState
-    pub read : ℕ
-    pub wrote : List ℕ
-    pub replaced : Bool
-    pub call : AnswersDecodeReplacing encode_utf8 4 (fresh_decoder handling e) state bytes true room
-        OutputFull read wrote
-        replaced
-    pub passes : checked_add (max_length Utf8 state (length (drop read bytes))) (length wrote)
-        ≡ None
+pub record IsTooLongAfterFull (handling : BomHandling) (e : Encoding)
+    (bytes : List ℕ) : Type 0 where
+  pub room : ℕ
+  pub enough : HasRoomFor (first_length handling e bytes) room
+  pub state : DecoderState
+  pub read : ℕ
+  pub wrote : List ℕ
+  pub replaced : Bool
+  pub call : AnswersDecodeReplacing encode_utf8 4 (fresh_decoder handling e) state bytes true room
+      OutputFull read wrote
+      replaced
+  pub passes : checked_add (max_length Utf8 state (length (drop read bytes))) (length wrote)
+      ≡ None
 
 -- The first length query overflows usize, or the one after the first call does.
 abbrev pub IsTooLong : BomHandling → Encoding → List ℕ → Type 0

@@ -99,16 +99,14 @@ first_of u [] are_units =
     record {
       char = _;
       units = 1;
-      first =
-          first_lone (u ∷ []) (omega arith) (are_units 0) (λ p. omega (arith, p.2));
+      first = first_lone (u ∷ []) (omega arith) (are_units 0) (λ p. omega (arith, p.2));
     }
 first_of u (v ∷ us) are_units = elim (decide_pair u v) [
   | inl p ↦ record { char = _; units = 2; first = first_pair (u ∷ v ∷ us) (omega arith) p }
   | inr n ↦ record {
     char = _;
     units = 1;
-    first =
-        first_lone (u ∷ v ∷ us) (omega arith) (are_units 0) n;
+    first = first_lone (u ∷ v ∷ us) (omega arith) (are_units 0) n;
   }
 ]
 

@@ -30,8 +30,7 @@ front bs utf8 h = by utf8.0 utf8.1.0 utf8.1.1
           c = c;
           rest = encode_utf8_all cs;
           is = sym bytes_are;
-          scalar =
-              (and_parts _ _ s).0;
+          scalar = (and_parts _ _ s).0;
         }
 
 at_front : (bs : List ℕ) (c : ℕ) (rest code : List ℕ) → bs ≡ encode_utf8 c ++ rest

@@ -20,11 +20,11 @@ lanes_long n at src h l = omega (arith, length-take n (take 16 (drop at src)), s
 
 -- code units begin with units that are characters by themselves, and those after them are
 -- well-formed
-pub record HasFront (chars_in : List ℕ → List ℕ) (Ok : List ℕ → Type 0) (us bs : List ℕ) : Type 0
-  where
-    pub within : length bs ≤ length us
-    pub ok : Ok (drop (length bs) us)
-    pub chars : chars_in us ≡ bs ++ chars_in (drop (length bs) us)
+pub record HasFront (chars_in : List ℕ → List ℕ) (Ok : List ℕ → Type 0)
+    (us bs : List ℕ) : Type 0 where
+  pub within : length bs ≤ length us
+  pub ok : Ok (drop (length bs) us)
+  pub chars : chars_in us ≡ bs ++ chars_in (drop (length bs) us)
 
 module _ (chars_in : List ℕ → List ℕ) (Ok : List ℕ → Type 0) (Means : List ℕ → ℕ
     → Type 0) (src first : List ℕ) (from : ℕ) where

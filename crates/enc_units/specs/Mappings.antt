@@ -12,8 +12,8 @@ AreWrittenAsThemselves Means = All (IsWrittenAsItself Means)
 
 -- The first characters of an input are read, and their bytes are written one after another to a
 -- slice, from `at` on. All other bytes of the slice are unchanged.
-pub record WritesMapped (Means : List ℕ → ℕ → Type 0) (src rest before after : List ℕ) (at n : ℕ) :
-    Type 0 where
+pub record WritesMapped (Means : List ℕ → ℕ → Type 0) (src rest before after : List ℕ)
+    (at n : ℕ) : Type 0 where
   pub pieces : List Piece
   pub reads : src ≡ piece_chars pieces ++ rest
   pub mean : EachMeansChar Means pieces

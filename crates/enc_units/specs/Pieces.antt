@@ -27,14 +27,14 @@ abbrev pub IsUtf8Char : List ℕ → ℕ → Type 0
 IsUtf8Char bytes c = IsScalar c × (bytes ≡ encode_utf8 c)
 
 -- The first n bytes are pieces, and their characters are this text.
-pub record ReadsPieces (Means : List ℕ → ℕ → Type 0) (src : List ℕ) (n : ℕ) (text : List ℕ) : Type 0
-  where
-    pub pieces : List Piece
-    pub within : n ≤ length src
-    pub bytes : piece_bytes pieces ≡ take n src
-    pub chars : piece_chars pieces ≡ text
-    pub mean : EachMeansChar Means pieces
-    pub none : n ≡ 0 → pieces ≡ []
+pub record ReadsPieces (Means : List ℕ → ℕ → Type 0) (src : List ℕ) (n : ℕ)
+    (text : List ℕ) : Type 0 where
+  pub pieces : List Piece
+  pub within : n ≤ length src
+  pub bytes : piece_bytes pieces ≡ take n src
+  pub chars : piece_chars pieces ≡ text
+  pub mean : EachMeansChar Means pieces
+  pub none : n ≡ 0 → pieces ≡ []
 
 -- The first n bytes are pieces. Their characters fit and are written.
 pub record PutsPieces (units_of : ℕ → List ℕ) (Means : List ℕ → ℕ → Type 0) (before after : Output)

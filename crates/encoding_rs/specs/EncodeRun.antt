@@ -42,16 +42,16 @@ is_input_empty_result (Unmappable c) = false
 -- that is all of them. Its bytes are appended, and the reference to a character that it has
 -- reported.
 pub record MakesEncodeCall (call : EncodeCall) (old new : EncoderState)
-    (unread before after : List ℕ) (result : EncoderResult) (read : ℕ) (replaced : Bool) : Type 0
-  where
-    pub wrote : List ℕ
-    pub units : ℕ
-    pub encodes : EncodesChunk (units_of_call call.utf16) (encode_error_mode call.replace old) old
-        new
-        (take call.offer unread) (nat_le (length unread) call.offer) call.room result units wrote
-        replaced
-    pub chars : read ≡ length (step_chars encodes.call.done)
-    pub bytes : after ≡ before ++ (wrote ++ reference_after result)
+    (unread before after : List ℕ) (result : EncoderResult) (read : ℕ)
+    (replaced : Bool) : Type 0 where
+  pub wrote : List ℕ
+  pub units : ℕ
+  pub encodes : EncodesChunk (units_of_call call.utf16) (encode_error_mode call.replace old) old
+      new
+      (take call.offer unread) (nat_le (length unread) call.offer) call.room result units wrote
+      replaced
+  pub chars : read ≡ length (step_chars encodes.call.done)
+  pub bytes : after ≡ before ++ (wrote ++ reference_after result)
 
 -- the state of a run: the encoder, the number of characters read, the bytes, the characters
 -- reported, whether a character was unmappable, and whether the end is reached
@@ -71,26 +71,25 @@ encode_run_start b e =
       read = 0;
       bytes = [];
       unmappables = [];
-      had_unmappables =
-          false;
+      had_unmappables = false;
       finished = false;
     }
 
 -- a run advances by one call, unless it is at the end
-pub record EncodeRunAdvances (text : List ℕ) (made : EncodeCall) (old new : EncodeRunState) : Type 0
-  where
-    pub result : EncoderResult
-    pub more : ℕ
-    pub replaced : Bool
-    pub not_finished : old.finished ≡ false
-    pub call : MakesEncodeCall made old.encoder new.encoder (drop old.read text) old.bytes new.bytes
-        result more replaced
-    pub read : new.read ≡ old.read + more
-    pub unmappables : new.unmappables ≡ old.unmappables ++ reported_character result
-    pub flag : new.had_unmappables
-        ≡ (old.had_unmappables || (replaced || is_unmappable_result result))
-    pub finished : new.finished
-        ≡ (nat_le (length (drop old.read text)) made.offer && is_input_empty_result result)
+pub record EncodeRunAdvances (text : List ℕ) (made : EncodeCall)
+    (old new : EncodeRunState) : Type 0 where
+  pub result : EncoderResult
+  pub more : ℕ
+  pub replaced : Bool
+  pub not_finished : old.finished ≡ false
+  pub call : MakesEncodeCall made old.encoder new.encoder (drop old.read text) old.bytes new.bytes
+      result more replaced
+  pub read : new.read ≡ old.read + more
+  pub unmappables : new.unmappables ≡ old.unmappables ++ reported_character result
+  pub flag : new.had_unmappables
+      ≡ (old.had_unmappables || (replaced || is_unmappable_result result))
+  pub finished : new.finished
+      ≡ (nat_le (length (drop old.read text)) made.offer && is_input_empty_result result)
 
 -- these calls, in turn, lead from one state to the other
 abbrev pub IsEncodeRun : List ℕ → List EncodeCall → EncodeRunState → EncodeRunState → Type 0

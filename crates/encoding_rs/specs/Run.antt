@@ -53,12 +53,12 @@ pub record AnswersDecodeCall (units_of : ℕ → List ℕ) (call : DecodeCall) (
 -- A call of a run: it gets the unread bytes, at most `offer` of them, and `last` exactly if that is
 -- all of them. Its text is appended, and U+FFFD for a malformed sequence that it has reported.
 pub record MakesDecodeCall (call : DecodeCall) (old new : DecoderState)
-    (unread before after : List ℕ) (result : DecoderResult) (read : ℕ) (replaced : Bool) : Type 0
-  where
-    pub wrote : List ℕ
-    pub answers : AnswersDecodeCall (units_of_call call.utf16) call old new (take call.offer unread)
-        (nat_le (length unread) call.offer) result read replaced wrote
-    pub text : after ≡ (before ++ wrote) ++ units_of_text encode_utf8 (replacement_text result)
+    (unread before after : List ℕ) (result : DecoderResult) (read : ℕ)
+    (replaced : Bool) : Type 0 where
+  pub wrote : List ℕ
+  pub answers : AnswersDecodeCall (units_of_call call.utf16) call old new (take call.offer unread)
+      (nat_le (length unread) call.offer) result read replaced wrote
+  pub text : after ≡ (before ++ wrote) ++ units_of_text encode_utf8 (replacement_text result)
 
 -- the state of a run: the decoder, the number of bytes read, the text in UTF-8, the offset and
 -- length of each malformed sequence reported, and whether a sequence was malformed
@@ -77,13 +77,12 @@ decode_run_start handling e =
       read = 0;
       text = [];
       faults = [];
-      had_errors =
-          false;
+      had_errors = false;
     }
 
 -- a run advances by one call, unless its decoder is finished
-pub record DecodeRunAdvances (bytes : List ℕ) (made : DecodeCall) (old new : DecodeRunState) : Type
-    0 where
+pub record DecodeRunAdvances (bytes : List ℕ) (made : DecodeCall)
+    (old new : DecodeRunState) : Type 0 where
   pub result : DecoderResult
   pub more : ℕ
   pub replaced : Bool
@@ -105,8 +104,8 @@ IsDecodeRun bytes (call ∷ calls) old new = (mid : DecodeRunState)
 abbrev pub faults_from : ℕ → List Sequence → List (ℕ × ℕ)
 faults_from at [] = []
 faults_from at (s ∷ ss) =
-    if is_malformed s.kind then (at, length s.bytes)
-    ∷ faults_from (at + length s.bytes) ss else faults_from (at + length s.bytes) ss
+    if is_malformed s.kind then (at, length s.bytes) ∷ faults_from (at + length s.bytes) ss
+    else faults_from (at + length s.bytes) ss
 
 -- the offset of the first sequence of a whole input: the length of the byte order mark, if one is
 -- found
@@ -143,8 +142,8 @@ all_report_malformed (call ∷ calls) = not call.replace && all_report_malformed
 -- The result of some calls: each has done a part of the sequences of the whole input, from the
 -- first on. A finished run has done all of them, skipped ones included.
 pub record HasRunDecoding (handling : BomHandling) (e : Encoding) (bytes : List ℕ)
-    (calls : List DecodeCall) (text : List ℕ) (faults : List (ℕ × ℕ)) (had_errors ended : Bool) :
-    Type 0 where
+    (calls : List DecodeCall) (text : List ℕ) (faults : List (ℕ × ℕ))
+    (had_errors ended : Bool) : Type 0 where
   pub parts : List DecodeRunPart
   pub rest : List Sequence
   pub sequences : whole_sequences handling e bytes ≡ sequences_of_parts parts ++ rest

@@ -75,8 +75,8 @@ side bytes has_failed = record { bytes = bytes; has_failed = has_failed }
 
 -- A run from a source to a sink, by both sides before and after it.
 pub record IsRecodeRun (from to : Encoding)
-    (source_before source_after sink_before sink_after : Side) (result : Result Bool RecodeFault) :
-    Type 0 where
+    (source_before source_after sink_before sink_after : Side)
+    (result : Result Bool RecodeFault) : Type 0 where
   -- `Ok`: the run has reached the end of the source. No side has failed that had not failed before.
   pub ok : IfOk result (RunsToEnd from to source_before.bytes source_after.bytes sink_before.bytes
       sink_after.bytes)

@@ -16,8 +16,7 @@ returns-in_default g c =
     record {
       call = call;
       text = into_keeps_text c.requires.lawful call;
-      need =
-          into_meets_need call;
+      need = into_meets_need call;
     }
 
 pub overflow_sub-result-in-Some-report : goal.overflow_sub-result-in-Some-report
@@ -34,8 +33,7 @@ returns-in-Some-report g c =
     record {
       call = call;
       text = into_keeps_text c.requires.lawful call;
-      need =
-          into_meets_need call;
+      need = into_meets_need call;
     }
 
 pub overflow_sub-result-then-not-put : goal.overflow_sub-result-then-not-put
@@ -53,8 +51,7 @@ returns-then-not-put g c =
     record {
       call = call;
       text = into_keeps_text c.requires.lawful call;
-      need =
-          into_meets_need call;
+      need = into_meets_need call;
     }
 
 lt_le : (a b k : ℕ) → a ≤ b → b < k → a < k

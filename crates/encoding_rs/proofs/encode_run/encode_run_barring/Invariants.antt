@@ -12,8 +12,7 @@ invariant-loop-call l =
       encoder = l.encoder;
       read = l.read;
       bytes = l.bytes.items;
-      unmappables =
-          l.unmappables.items;
+      unmappables = l.unmappables.items;
       had_unmappables = l.had_unmappables;
       finished = l.finished;
     } in

@@ -13,8 +13,7 @@ invariant-loop-call l = record {
         decoder = l.decoder;
         read = l.read;
         text = string_bytes l.text;
-        faults =
-            l.faults.items;
+        faults = l.faults.items;
         had_errors = l.had_errors;
       });
   done : HasDone l.fn.handling l.fn.encoding l.bytes (drop l.read l.bytes) (take l.made l.calls)
