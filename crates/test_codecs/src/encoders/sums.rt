@@ -1,7 +1,7 @@
 //! The bytes of single characters in every encoding, summed up and compared with the Rust crate
 //! encoding_rs.
 //!
-//! `scripts/encoder-sums` writes the sums: the crate encodes every character of the Basic
+//! `scripts/compare-crate --sums` compares the sums: the crate encodes every character of the Basic
 //! Multilingual Plane and each 97th of the others, and in Big5 every one of plane 2, by itself,
 //! without replacement and with it. A sum is FNV-1a with 64 bits, over numbers. A mappable
 //! character adds its bytes and 0x100. An unmappable one adds, without replacement, 0x200 and the

@@ -1,6 +1,6 @@
 //! Writes for each encoding two sums over what the Rust crate encodes single characters to, without replacement and with it:
 //! every character of the Basic Multilingual Plane and each 97th of the others, and in Big5 every one of plane 2.
-//! scripts/encoder-sums builds and runs it.
+//! scripts/compare-crate builds and runs it.
 //!
 //! A sum is FNV-1a with 64 bits, over numbers: of a character that is mappable its bytes and 0x100. Of any other one they
 //! are without replacement 0x200 and the character that is reported, and with it the bytes of its reference, with the
