@@ -10,12 +10,13 @@ from tree import TOP, read
 
 # The most lines of a file, and the most columns of a line; of an import, and in files with rows that a script writes.
 MOST_LINES, MOST_COLUMNS, MOST_OF_ROWS = 799, 100, 120
-# The most parameters of a lemma, or of all lemmas of a module, and the most `_` side by side.
+# The most parameters of a lemma, and of a module, each by itself, and the most `_` side by side.
 MOST_PARAMETERS, MOST_HOLES = 19, 5
 
 HOLES = re.compile(rf"(?<=\s)_(?:\s+_){{{MOST_HOLES},}}(?=[\s,)\]])")
-TELESCOPE = re.compile(r"^ *(?:module _|(?:pub )?[^\s:({]+ :)((?:\s+[({][^(){}]*?:(?:[^(){}]|\([^()]*\))*[)}])+)", re.M)
-BINDER = re.compile(r"[({]([^(){}:]+):")
+# The head of a lemma or a module, and a group of its parameters.
+HEAD = re.compile(r"^ *(?:module _|(?:pub )?[^\s:({]+ :)(?=\s+[({])", re.M)
+GROUP = re.compile(r"\s*(?:→\s*)?[({]([^(){}:]+):")
 LOCAL = re.compile(r"\blet (\w)(?: :| =)")
 IMPORT = re.compile(r" *(?:pub |ghost |unfoldable )*use ")
 # `rt fmt` writes these in one line.
@@ -44,12 +45,29 @@ def line_at(text, place):
     return text.count("\n", 0, place) + 1
 
 
+def end_of_group(text, at):
+    """The place after the bracket that closes a group, which is open at a place."""
+    depth = 1
+    while depth and at < len(text):
+        depth += (text[at] in "({") - (text[at] in ")}")
+        at += 1
+    return at
+
+
+def parameters(text, at):
+    """The number of parameters that follow a place, group by group."""
+    number = 0
+    while group := GROUP.match(text, at):
+        number += len(group[1].split())
+        at = end_of_group(text, group.end())
+    return number
+
+
 def unnamed(path, text):
-    """Places of a proof where names are wanted: holes side by side, long telescopes, and facts of one letter that are cited twice."""
+    """Places of a proof where names are wanted: `_` side by side, many parameters, facts of one letter cited twice."""
     found = [(it.start(), "six `_` or more side by side") for it in HOLES.finditer(text)]
-    for it in TELESCOPE.finditer(text):
-        if sum(len(names.split()) for names in BINDER.findall(it[1])) > MOST_PARAMETERS:
-            found.append((it.start(1), f"more than {MOST_PARAMETERS} parameters"))
+    heads = (it for it in HEAD.finditer(text) if parameters(text, it.end()) > MOST_PARAMETERS)
+    found += [(it.start(), f"more than {MOST_PARAMETERS} parameters") for it in heads]
     for block in re.finditer(r"^\S.*?(?=^\S|\Z)", text, re.M | re.S):
         for it in LOCAL.finditer(block[0]):
             if len(re.findall(rf"(?<![\w.]){it[1]}(?!\w)", block[0])) > 2:
