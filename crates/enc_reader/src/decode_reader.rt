@@ -28,6 +28,10 @@ pub enum ReadFault {
     Failed = 2,
 }
 
+const _: () = prove!(ReadFault::Reader as u8 == 1);
+
+const _: () = prove!(ReadFault::Failed as u8 == 2);
+
 /// The text of a read that may lend it. [`DecodeReader::text`] returns its bytes.
 #[derive(Clone, Copy, Debug)]
 pub struct HandedText {

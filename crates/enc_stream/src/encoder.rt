@@ -311,7 +311,8 @@ impl Encoder {
     ///
     /// The same as [`Encoder::encode_from_utf8`] into a slice as long as the Vec's spare capacity,
     /// which may be 0. Returns why the call stopped, the number of bytes read from `src`, and
-    /// whether a reference was written. Appends within the capacity: takes no memory.
+    /// whether a reference was written. Appends within the capacity, which does not shrink: takes
+    /// no memory.
     pub fn encode_from_utf8_to_vec(
         &mut self,
         src: &str,
@@ -325,6 +326,7 @@ impl Encoder {
         ensures read { result.1 ≤ length src.now }
         ensures boundary { IsCharBoundary src.now result.1 }
         ensures appended { take (length dst.old.items) dst.new.items ≡ dst.old.items }
+        ensures capacity { vec_capacity dst.old ≤ vec_capacity dst.new }
         ensures progress { (result.0 ≡ CoderResult.InputEmpty → ⊥) →
             14 ≤ vec_capacity dst.old - vec_len dst.old →
             LeavesFewerSteps self.old self.new last
@@ -341,7 +343,7 @@ impl Encoder {
     ///
     /// The same as [`Encoder::encode_from_utf8_without_replacement`] into a slice as long as the
     /// Vec's spare capacity, which may be 0. Returns why the call stopped, and the number of bytes
-    /// read from `src`. Appends within the capacity: takes no memory.
+    /// read from `src`. Appends within the capacity, which does not shrink: takes no memory.
     pub fn encode_from_utf8_to_vec_without_replacement(
         &mut self,
         src: &str,
@@ -357,6 +359,7 @@ impl Encoder {
         ensures read { result.1 ≤ length src.now }
         ensures boundary { IsCharBoundary src.now result.1 }
         ensures appended { take (length dst.old.items) dst.new.items ≡ dst.old.items }
+        ensures capacity { vec_capacity dst.old ≤ vec_capacity dst.new }
         ensures progress { (result.0 ≡ EncoderResult.InputEmpty → ⊥) →
             4 ≤ vec_capacity dst.old - vec_len dst.old →
             LeavesFewerSteps self.old self.new last
