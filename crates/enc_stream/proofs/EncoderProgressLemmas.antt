@@ -100,8 +100,8 @@ module _ {units_of : ℕ → List ℕ} {old new : EncoderState} {text : List ℕ
         → steps_left new last encodes.rest < steps_left old last text
     goes_on_beside InputEmpty encodes on r = absurd (on refl)
     goes_on_beside OutputFull encodes on r =
-        fewer_left (room_kept_for_references old.barred old.encoding) (raw_state old) (raw_state new)
-        text encodes.rest last room encodes.call.done r
+        fewer_left (room_kept_for_references old.barred old.encoding) (raw_state old)
+        (raw_state new) text encodes.rest last room encodes.call.done r
         (few_step (raw_state new).rule last new.set encodes.rest
         (lawful_of new.barred new.encoding).few)
         encodes.call.stops encodes.call.remaining
