@@ -277,6 +277,10 @@ impl Encoder {
         ensures progress { (result.0 ≡ CoderResult.InputEmpty → ⊥) → 14 ≤ length dst.old →
             LeavesFewerSteps self.old self.new last
             (chars src.now) (chars (drop result.1 src.now)) }
+        ensures progress_if_none_kept { (result.0 ≡ CoderResult.InputEmpty → ⊥) →
+            room_kept_for_references self.old.barred self.old.encoding ≡ 0 → 4 ≤ length dst.old →
+            LeavesFewerSteps self.old self.new last
+            (chars src.now) (chars (drop result.1 src.now)) }
     {
         let mut chars = Utf8Chars::new(src);
         self.encode_replacing(&mut chars, dst, last)
@@ -300,6 +304,10 @@ impl Encoder {
         ensures written { result.2 ≤ length dst.old }
         ensures rest { drop result.2 dst.new ≡ drop result.2 dst.old }
         ensures progress { (result.0 ≡ CoderResult.InputEmpty → ⊥) → 14 ≤ length dst.old →
+            LeavesFewerSteps self.old self.new last
+            (utf16_lossy_chars src.now) (utf16_lossy_chars (drop result.1 src.now)) }
+        ensures progress_if_none_kept { (result.0 ≡ CoderResult.InputEmpty → ⊥) →
+            room_kept_for_references self.old.barred self.old.encoding ≡ 0 → 4 ≤ length dst.old →
             LeavesFewerSteps self.old self.new last
             (utf16_lossy_chars src.now) (utf16_lossy_chars (drop result.1 src.now)) }
     {
@@ -329,6 +337,11 @@ impl Encoder {
         ensures capacity { vec_capacity dst.old ≤ vec_capacity dst.new }
         ensures progress { (result.0 ≡ CoderResult.InputEmpty → ⊥) →
             14 ≤ vec_capacity dst.old - vec_len dst.old →
+            LeavesFewerSteps self.old self.new last
+            (chars src.now) (chars (drop result.1 src.now)) }
+        ensures progress_if_none_kept { (result.0 ≡ CoderResult.InputEmpty → ⊥) →
+            room_kept_for_references self.old.barred self.old.encoding ≡ 0 →
+            4 ≤ vec_capacity dst.old - vec_len dst.old →
             LeavesFewerSteps self.old self.new last
             (chars src.now) (chars (drop result.1 src.now)) }
     {

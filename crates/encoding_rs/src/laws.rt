@@ -32,8 +32,9 @@ ghost use Rattle.enc_units.specs.Output.{AreScalars};
 ghost use Rattle.enc_units.specs.Validity.{IsWellFormedUtf8};
 
 pub use enc_stream::laws::{
-    ascii_compatible_decode_ascii, iso_8859_8_differs, labels_name_one_encoding,
-    second_constants_are_equal, single_byte_decode_bytes,
+    ascii_compatible_decode_ascii, ascii_compatible_encode_ascii, constants_have_their_names,
+    iso_8859_8_differs, labels_name_one_encoding, second_constants_are_equal,
+    single_byte_decode_bytes,
 };
 use enc_stream::{BomHandling, EUC_JP, Encoding, ISO_2022_JP, REPLACEMENT, SHIFT_JIS, UTF_8};
 use std::hash::{Hash, Hasher};
@@ -51,6 +52,16 @@ pub fn has_texts(encoding: Encoding)
         → HasTexts (rule_of encoding) }
 {
     let _ = (encoding, REPLACEMENT, ISO_2022_JP);
+}
+
+/// The elements of a slice of bytes are bytes: each is below 256.
+///
+/// Length queries of decoders ask for it in their clause `enough`, and
+/// [`lookahead_is_exact`] does.
+pub fn slices_are_bytes(bytes: &[u8])
+    ensures { AreBytes bytes.now }
+{
+    let _ = bytes;
 }
 
 /// Bytes are well-formed UTF-8 exactly if the UTF-8 decoder finds no malformed sequence in them.
