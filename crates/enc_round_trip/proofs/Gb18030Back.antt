@@ -22,7 +22,7 @@ use Rattle.enc_encode.specs.PrivateUse.{private_use_rows}
 use Rattle.enc_encode.specs.Gb18030.{row_bytes, row_or_index_bytes, gb18030_other, gb18030_bytes}
 use Rattle.enc_encode.proofs.PrivateUseLemmas.{no_private_use_row}
 use Rattle.enc_round_trip.specs.Replaced.{replaced_characters}
-use Rattle.enc_round_trip.specs.RoundTrip.{char_by_rows, has_row, any_replaced}
+use Rattle.enc_round_trip.specs.RoundTrip.{char_by_rows, has_row, any_read_as_other}
 use Rattle.enc_round_trip.proofs.ReadBackLemmas.{IsReadBack, with_ascii_is_read, by_test, same_bytes, no_bytes}
 use Rattle.enc_round_trip.proofs.ReadBackLemmas.{same_char}
 use Rattle.enc_round_trip.proofs.PointerLemmas.{IsPointer, is_pointer, by_pointer, has_character}
@@ -148,7 +148,8 @@ four c p e = four_at c p (c == 0xE7C7) refl e
 abbrev is_read_as : ℕ × ℕ × ℕ → ℕ × ℕ → Bool
 is_read_as row read =
     (row.0 == read.0 && not (decoder.is_digit row.2))
-    && (decoder.is_gb18030_lead row.1 && is_character read.1 (decoder.gb18030_pair_char row.1 row.2))
+    && (decoder.is_gb18030_lead row.1
+    && is_character read.1 (decoder.gb18030_pair_char row.1 row.2))
 
 abbrev are_read_as : List (ℕ × ℕ × ℕ) → List (ℕ × ℕ) → Bool
 are_read_as [] [] = true
@@ -171,7 +172,8 @@ is_false false h = refl
 row_piece : (row : ℕ × ℕ × ℕ) (read : ℕ × ℕ) → is_read_as row read ≡ true
     → Piece (row.1 ∷ row.2 ∷ []) read.1
 row_piece row read h =
-    let code_and_trail : (row.0 == read.0 && not (decoder.is_digit row.2)) ≡ true = first_so _ _ h in
+    let code_and_trail : (row.0 == read.0 && not (decoder.is_digit row.2)) ≡ true =
+    first_so _ _ h in
     let no_digit = is_false (decoder.is_digit row.2) (second_so _ _ code_and_trail) in
     let bytes_match : (decoder.is_gb18030_lead row.1
     && is_character read.1 (decoder.gb18030_pair_char row.1 row.2)) ≡ true = second_so _ _ h in
@@ -252,7 +254,8 @@ beyond is_gbk c b e =
 low_itself : (c : ℕ) → c < 0x80 → c ≡ char_by_rows replaced_characters c
 low_itself c l =
     let out : (nat_le 0xE5E5 c && nat_le c 0xE864) ≡ false = grind (arith, nat_tests) in
-    sym (itself_if_none private_use_rows replaced_characters c rows_are_read (no_private_use_row c out))
+    sym (itself_if_none private_use_rows replaced_characters c rows_are_read
+    (no_private_use_row c out))
 
 pub gb18030_is_read : (is_gbk : Bool)
     → IsReadBack (multi_byte_rule decoder.gb18030_prefix) (gb18030_bytes is_gbk)
@@ -271,14 +274,14 @@ itself (row ∷ rows) c none =
     let both = or_parts (row.0 == c) (has_row rows c) none in
     cond-false _ _ _ both.0 ∙ itself rows c both.1
 
-pub gb18030_keeps : (t : List ℕ) → not (any_replaced t) ≡ true
+pub gb18030_keeps : (t : List ℕ) → not (any_read_as_other t) ≡ true
     → map (char_by_rows replaced_characters) t ≡ t
 gb18030_keeps t h = all_itself t (is_false _ h)
   where
-    all_itself : (t : List ℕ) → any_replaced t ≡ false
+    all_itself : (t : List ℕ) → any_read_as_other t ≡ false
         → map (char_by_rows replaced_characters) t ≡ t
     all_itself [] none = refl
     all_itself (c ∷ t) none =
-        let both = or_parts (has_row replaced_characters c) (any_replaced t) none in
+        let both = or_parts (has_row replaced_characters c) (any_read_as_other t) none in
         ap (λ x. x ∷ map (char_by_rows replaced_characters) t) (itself replaced_characters c both.0)
         ∙ ap (λ x. c ∷ x) (all_itself t both.1)

@@ -60,15 +60,15 @@ has_row [] c = false
 has_row (row ∷ rows) c = row.0 == c || has_row rows c
 
 -- whether a text has a character that gb18030 and GBK read back as another
-abbrev pub any_replaced : List ℕ → Bool
-any_replaced [] = false
-any_replaced (c ∷ t) = has_row replaced_characters c || any_replaced t
+abbrev pub any_read_as_other : List ℕ → Bool
+any_read_as_other [] = false
+any_read_as_other (c ∷ t) = has_row replaced_characters c || any_read_as_other t
 
 -- whether each character of a text decodes to itself
 abbrev pub keeps_characters : Codec → List ℕ → Bool
 keeps_characters ShiftJis t = false
 keeps_characters EucJp t = false
 keeps_characters Iso2022Jp t = false
-keeps_characters Gbk t = not (any_replaced t)
-keeps_characters Gb18030 t = not (any_replaced t)
+keeps_characters Gbk t = not (any_read_as_other t)
+keeps_characters Gb18030 t = not (any_read_as_other t)
 keeps_characters _ t = true

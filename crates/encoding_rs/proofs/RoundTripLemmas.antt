@@ -15,7 +15,7 @@ use Rattle.enc_encoder.specs.Text.{reference, with_reference, with_references, b
 use Rattle.enc_encoder.proofs.TextLemmas.{AreOfReferences, reference_is}
 use Rattle.enc_encode.specs.Encoders.{encoder_rule}
 use Rattle.enc_encoder.specs.Unmappable.{any_unmappable}
-use Rattle.enc_round_trip.specs.RoundTrip.{char_read_back, any_replaced, keeps_characters}
+use Rattle.enc_round_trip.specs.RoundTrip.{char_read_back, any_read_as_other, keeps_characters}
 use Rattle.enc_round_trip.proofs.ReadBackLemmas.{IsReadAs}
 use Rattle.enc_round_trip.proofs.RoundTripLemmas.{is_read, same_text}
 use Rattle.enc_names.specs.declared.encoding_id.EncodingId.{EncodingId}
@@ -51,8 +51,8 @@ decoded b e t s m = is_read (codec_by_id (output_encoding_of e).id) b
 -- all but three give each character back, and two of them all but some
 
 keeps : (id : EncodingId) (t : List ℕ) → (id ≡ EucJp → ⊥) → (id ≡ ShiftJis → ⊥)
-    → (id ≡ Iso2022Jp → ⊥) → (id ≡ Gbk → any_replaced t ≡ false)
-    → (id ≡ Gb18030 → any_replaced t ≡ false) → keeps_characters (codec_by_id id) t ≡ true
+    → (id ≡ Iso2022Jp → ⊥) → (id ≡ Gbk → any_read_as_other t ≡ false)
+    → (id ≡ Gb18030 → any_read_as_other t ≡ false) → keeps_characters (codec_by_id id) t ≡ true
 keeps EucJp t euc shift iso gbk gb18030 = absurd (euc refl)
 keeps ShiftJis t euc shift iso gbk gb18030 = absurd (shift refl)
 keeps Iso2022Jp t euc shift iso gbk gb18030 = absurd (iso refl)
@@ -67,8 +67,8 @@ pub decoded_text : (b : List ℕ) (e : Encoding) (t : List ℕ) → AreScalars t
     → any_unmappable (output_rule b e) t ≡ false
     → output_encoding_of e ≢ record { id = EucJp } → output_encoding_of e ≢ record { id = ShiftJis }
     → output_encoding_of e ≢ record { id = Iso2022Jp }
-    → (output_encoding_of e ≡ record { id = Gbk } → any_replaced t ≡ false)
-    → (output_encoding_of e ≡ record { id = Gb18030 } → any_replaced t ≡ false)
+    → (output_encoding_of e ≡ record { id = Gbk } → any_read_as_other t ≡ false)
+    → (output_encoding_of e ≡ record { id = Gb18030 } → any_read_as_other t ≡ false)
     → sequence_text (sequences_of (rule_of (output_encoding_of e)) 0
     (bytes_of_text (output_rule b e) Ascii t)) ≡ t
 unfolding of_id

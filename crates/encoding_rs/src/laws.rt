@@ -27,7 +27,7 @@ ghost use Rattle.enc_decoder.specs.Remainder.{AreBytes, Determines};
 ghost use Rattle.enc_decoder.specs.RuleLaws.{HasTexts, IsLookahead, IsDeterminedByEnd};
 ghost use Rattle.enc_decoder.specs.Lookahead.{CoverLookahead};
 ghost use Rattle.encoding_rs.specs.Lookahead.{MayLook, mark_found, rule_found, after_mark_found};
-ghost use Rattle.enc_round_trip.specs.RoundTrip.{char_read_back, any_replaced};
+ghost use Rattle.enc_round_trip.specs.RoundTrip.{char_read_back, any_read_as_other};
 ghost use Rattle.enc_units.specs.Output.{AreScalars};
 ghost use Rattle.enc_units.specs.Validity.{IsWellFormedUtf8};
 
@@ -215,8 +215,8 @@ pub fn encoded_text_decodes_back(encoding: Encoding)
         → any_unmappable (output_rule barred encoding) text ≡ false
         → output_encoding_of encoding ≢ EUC_JP → output_encoding_of encoding ≢ SHIFT_JIS
         → output_encoding_of encoding ≢ ISO_2022_JP
-        → (output_encoding_of encoding ≡ GBK → any_replaced text ≡ false)
-        → (output_encoding_of encoding ≡ GB18030 → any_replaced text ≡ false)
+        → (output_encoding_of encoding ≡ GBK → any_read_as_other text ≡ false)
+        → (output_encoding_of encoding ≡ GB18030 → any_read_as_other text ≡ false)
         → sequence_text (whole_sequences handling.Off (output_encoding_of encoding)
         (bytes_of_text (output_rule barred encoding) Ascii text)) ≡ text }
 

@@ -15,8 +15,9 @@ use enc_encoder::{Barring, ByteLengths, Repertoire, StatelessEncoder, four, one,
 use enc_index_pointers::{gb18030, gb18030_ranges};
 use enc_units::Bytes;
 
-/// gb18030 (Encoding Standard 10.2): ASCII, two bytes by index gb18030, and four bytes by its
-/// ranges. GBK (10.1) has no four bytes, and one byte for U+20AC.
+/// gb18030 (Encoding Standard 10.2): ASCII, two bytes by index gb18030 or for 18 characters of
+/// private use beside it, and four bytes by its ranges. GBK (10.1) has no four bytes, and one byte
+/// for U+20AC.
 #[derive(Clone, Copy)]
 pub struct Gb18030 {
     /// Whether it is GBK.
@@ -82,7 +83,7 @@ fn two_or_four_bytes(is_gbk: bool, c: char) -> Option<Bytes>
     by_ranges(c)
 }
 
-/// Returns the two bytes of a character that has a row, each with a character and its bytes.
+/// Returns the two bytes of a character, if a row has it.
 fn row_bytes(rows: &[(char, u8, u8)], c: char) -> Option<Bytes>
     ensures { AreBytesOf (wanted_row_bytes rows.now c) result }
 {
