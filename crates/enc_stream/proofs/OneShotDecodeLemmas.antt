@@ -33,7 +33,7 @@ use Rattle.enc_stream.specs.declared.lengths.Query.TheVariants as query
 use Rattle.enc_stream.specs.declared.lengths.Query.TheVariants.{Utf8Reporting}
 use Rattle.enc_stream.specs.Lengths.{max_length, IsEnoughRoom}
 use Rattle.enc_stream.specs.OneShot.{utf_8_without_replacement, HasRoomFor, HasRoomExactlyFor}
-use Rattle.enc_stream.specs.OneShot.{IsTooLongAfterFull, MayLackMemory}
+use Rattle.enc_stream.specs.OneShot.{first_length, IsTooLongAfterFull, MayLackMemory}
 use Rattle.enc_stream.proofs.EndOfInputLemmas.{fresh_sequences, has_finished_by, whole_text, whole_flag}
 
 pub nothing : (bytes : List ℕ) → true ≡ (length bytes == 0) → bytes ≡ []
@@ -247,13 +247,16 @@ pub too_long_after : {handling : BomHandling} {e : Encoding} {bytes : List ℕ}
     → checked_add (max_length query.Utf8 new (length (drop read bytes))) (length wrote) ≡ None
     → IsTooLongAfterFull handling e bytes
 too_long_after is_fresh length_is exact coder.InputEmpty goes_on call passes = absurd (goes_on refl)
-too_long_after {bytes} {new} is_fresh length_is {room} exact coder.OutputFull goes_on {read} {wrote}
-    {replaced} call passes = record {
+too_long_after {handling} {e} {bytes} {new} is_fresh length_is {room} exact coder.OutputFull
+    goes_on {read} {wrote} {replaced} call passes =
+    let exactly_for_first : HasRoomExactlyFor (first_length handling e bytes) room =
+    subst (λ (n : Option ℕ). HasRoomExactlyFor n room)
+    (length_is ∙ ap (λ d. max_length Utf8Reporting d (length bytes)) is_fresh)
+    exact in
+    record {
       room = room;
-      exact =
-          subst (λ (n : Option ℕ). HasRoomExactlyFor n room)
-          (length_is ∙ ap (λ d. max_length Utf8Reporting d (length bytes)) is_fresh)
-          exact;
+      enough = has_room _ room exactly_for_first;
+      exact = exactly_for_first;
       state = new;
       read = read;
       wrote = wrote;

@@ -1,9 +1,10 @@
 -- One-shot calls, for whole inputs (Encoding Standard 6, "decode", "UTF-8 decode", "UTF-8 decode
 -- without BOM" and "UTF-8 decode without BOM or fail", for any encoding, and "encode").
-use Rattle.std.specs.Prelude.{◌≡◌, ◌≢◌, ℕ, ◌+◌, ◌≤◌, ◌⊎◌, Bool, true, Option, Some, None, List, [], ◌∷◌, max}
+use Rattle.std.specs.Prelude.{◌≡◌, ◌≢◌, ℕ, ◌≤◌, ◌⊎◌, Bool, true, Option, Some, None, List, [], ◌∷◌, ◌++◌, max}
 use Rattle.std.specs.Prelude.{chars, length, drop, if◌then◌else◌}
 use Rattle.std.specs.Char.{encode_utf8}
 use Rattle.enc_units.specs.Checked.{checked_add}
+use Rattle.enc_encoder.specs.Text.{bytes_of_text, with_references}
 use Rattle.enc_encoder.specs.Lengths.{from_utf_8_length}
 use Rattle.enc_units.specs.declared.coder_result.CoderResult.TheVariants.{OutputFull}
 use Rattle.enc_units.specs.declared.encoder_result.EncoderResult.TheVariants as encoder_result
@@ -12,7 +13,8 @@ use Rattle.enc_stream.specs.declared.bom.BomHandling.TheVariants.{Off}
 use Rattle.enc_stream.specs.declared.encoding.Encoding.{Encoding}
 use Rattle.enc_stream.specs.declared.lengths.Query.TheVariants.{Utf8, Utf8Reporting}
 use Rattle.enc_stream.specs.Decoding.{DecoderState, fresh_decoder, whole_utf_8, whole_malformed, AnswersDecodeReplacing}
-use Rattle.enc_stream.specs.Encoder.{EncoderState, EncodesChunk, fresh_encoder, html_mode, room_kept_for_references}
+use Rattle.enc_stream.specs.Encoder.{EncoderState, EncodesChunk, fresh_encoder, raw_state, html_mode, whole_bytes}
+use Rattle.enc_stream.specs.Encoder.{room_kept_for_references}
 use Rattle.enc_stream.specs.Properties.{output_encoding_of}
 use Rattle.enc_stream.specs.Lengths.{max_length, output_lengths}
 
@@ -41,6 +43,7 @@ first_length handling e bytes = max_length Utf8Reporting (fresh_decoder handling
 pub record IsTooLongAfterFull (handling : BomHandling) (e : Encoding)
     (bytes : List ℕ) : Type 0 where
   pub room : ℕ
+  pub enough : HasRoomFor (first_length handling e bytes) room
   pub exact : HasRoomExactlyFor (first_length handling e bytes) room
   pub state : DecoderState
   pub read : ℕ
@@ -62,15 +65,25 @@ pub record MayLackMemory (handling : BomHandling) (e : Encoding) (bytes : List �
   pub some : bytes ≢ []
   pub length_fits : first_length handling e bytes ≢ None
 
--- the length query of an encoder for n remaining bytes of UTF-8
-abbrev pub remaining_length : EncoderState → ℕ → Option ℕ
-remaining_length v n = checked_add (from_utf_8_length (output_lengths v.encoding) n)
-    (room_kept_for_references v.barred v.encoding)
+-- The result of some calls of an encoder without barred characters: the bytes of the whole text are
+-- those written and those of the unread text.
+pub record HasWritten (e : Encoding) (text unread : List ℕ) (state : EncoderState)
+    (wrote : List ℕ) : Type 0 where
+  pub encoding : state.encoding ≡ output_encoding_of e
+  pub barred : state.barred ≡ []
+  pub whole : whole_bytes [] e text ≡ wrote
+      ++ bytes_of_text (raw_state state).rule state.set
+      (with_references (raw_state state).rule unread)
 
--- the first length query, for an output encoding and the length of the whole text
+-- the length query of an encoder for n remaining bytes of UTF-8
 abbrev pub length_to_encode : Encoding → ℕ → Option ℕ
 length_to_encode e n =
     checked_add (from_utf_8_length (output_lengths e) n) (room_kept_for_references [] e)
+
+-- the same, by the encoder's state
+abbrev pub remaining_length : EncoderState → ℕ → Option ℕ
+remaining_length v n = checked_add (from_utf_8_length (output_lengths v.encoding) n)
+    (room_kept_for_references v.barred v.encoding)
 
 -- a call of an encoder: its room, the number of bytes read, the bytes written, whether a reference
 -- is among them, and the state after it
@@ -91,21 +104,29 @@ pub record IsFullRound (state : EncoderState) (unread : List ℕ) (written : ℕ
   pub call : EncodesChunk encode_utf8 (html_mode state) state round.after (chars unread) true
       round.room encoder_result.OutputFull round.read round.wrote round.replaced
 
--- These calls are made in turn, each full, the first in this state with this text. Then the length
--- query for the unread text, or its sum with the bytes written, overflows usize.
-abbrev pub IsTooLongAfterRounds : List EncoderRound → EncoderState → List ℕ → ℕ → Type 0
-IsTooLongAfterRounds [] state unread written =
-    checked_add (remaining_length state (length unread)) written ≡ None
-IsTooLongAfterRounds (round ∷ rounds) state unread written =
-    IsFullRound state unread written round
-    × IsTooLongAfterRounds rounds round.after (drop round.read unread)
-    (written + length round.wrote)
+-- These calls are made in turn, each full: the first in this state, with the unread text and after
+-- the bytes written that are named first. The last leaves those that are named last.
+abbrev pub AreFullRounds : List EncoderRound → EncoderState → List ℕ → List ℕ → EncoderState
+    → List ℕ → List ℕ → Type 0
+AreFullRounds [] state unread wrote last left all =
+    (last ≡ state) × (left ≡ unread) × (all ≡ wrote)
+AreFullRounds (round ∷ rounds) state unread wrote last left all =
+    IsFullRound state unread (length wrote) round
+    × AreFullRounds rounds round.after (drop round.read unread) (wrote ++ round.wrote) last left all
 
--- After full calls, or none, from the start of the text a length query, or its sum with the bytes
--- written, overflows usize.
+-- For a suffix of the text, in UTF-8, the length query, or its sum with the bytes written,
+-- overflows usize. The suffix is the text that full calls have left, from the start of the text on.
 pub record IsTooLongToEncode (e : Encoding) (text : List ℕ) : Type 0 where
+  pub front : List ℕ
+  pub unread : List ℕ
+  pub rest : text ≡ front ++ unread
+  pub state : EncoderState
+  pub wrote : List ℕ
+  pub written : HasWritten e (chars text) (chars unread) state wrote
   pub rounds : List EncoderRound
-  pub passes : IsTooLongAfterRounds rounds (fresh_encoder [] e) text 0
+  pub full : AreFullRounds rounds (fresh_encoder [] e) text [] state unread wrote
+  pub passes : checked_add (length_to_encode (output_encoding_of e) (length unread)) (length wrote)
+      ≡ None
 
 -- Memory is asked for: the text is not empty, and the first length query does not overflow usize.
 pub record MayLackMemoryToEncode (e : Encoding) (text : List ℕ) : Type 0 where

@@ -1,4 +1,5 @@
-use Rattle.std.proofs.Common.{rules, ◌≡◌, ◌∙◌, [], None, length, chars, refl}
+use Rattle.std.proofs.Common.{rules, ◌≡◌, ◌∙◌, [], ◌++◌, None, length, take, chars, refl, ap, sym, append_assoc}
+use Rattle.std.proofs.lemmas.List.{take-append-drop}
 use Rattle.std.specs.Prelude.{◌≢◌}
 use Rattle.std.specs.Vec.{vec_len}
 use Rattle.enc_units.specs.Checked.{checked_add}
@@ -15,7 +16,9 @@ calls-init c = rw (c.new_encoder-encoder.ensures, c.new-bytes.ensures.items) (
   record {
     written = none_written c.args.self (chars c.args.text.now);
     flag = refl;
-    passes = λ rounds later. record { rounds = rounds; passes = later };
+    front = [];
+    rest = refl;
+    full = λ rounds last left all full. record { rounds = rounds; full = full };
     start = λ none. refl;
   },
 )
@@ -33,7 +36,19 @@ returns-then-is_empty-clause-flag c =
 pub returns-in_err-make_byte_room-clause-too_long :
     goal.returns-in_err-make_byte_room-clause-too_long
 returns-in_err-make_byte_room-clause-too_long c = λ too_long.
-    c.calls.invariant.1.passes [] (search rules)
+    let invariant = c.calls.invariant.1 in
+    let follows = invariant.full [] _ _ _ (refl, refl, refl) in
+    record {
+      front = invariant.front;
+      unread = c.calls.unread.now;
+      rest = invariant.rest;
+      state = c.calls.encoder;
+      wrote = c.calls.bytes.items;
+      written = invariant.written;
+      rounds = follows.rounds;
+      full = follows.full;
+      passes = search rules;
+    }
 
 pub returns-in_err-make_byte_room-clause-memory : goal.returns-in_err-make_byte_room-clause-memory
 returns-in_err-make_byte_room-clause-memory c = λ memory. record {
@@ -68,7 +83,7 @@ calls-preserved c =
     let invariant = c.calls.invariant in
     let written_so_far = rw (← c.in_ok-make_byte_room.ensures.bytes) at invariant.1.written in
     let encoded = c.encode_from_utf8_to_vec-stop.ensures in
-    let passes_so_far = rw (← c.in_ok-make_byte_room.ensures.bytes) at invariant.1.passes in
+    let extends_so_far = rw (← c.in_ok-make_byte_room.ensures.bytes) at invariant.1.full in
     let goes_on : ¬ (c.encode_from_utf8_to_vec-stop.result.0 ≡ InputEmpty) = search rules in
     let length_fits : checked_add
     c.max_buffer_length_from_utf8_if_no_unmappables-length.result
@@ -82,8 +97,18 @@ calls-preserved c =
         flag =
             flagged_on invariant.0 written_so_far _ encoded.call _ invariant.1.flag
             c.split_at.ensures.back;
-        passes =
-            one_more_round c.calls.unread.now _ _ passes_so_far
+        front = invariant.1.front
+            ++ take c.encode_from_utf8_to_vec-stop.result.1 c.calls.unread.now;
+        rest =
+            invariant.1.rest ∙ ap (λ x. invariant.1.front ++ x)
+            (sym (take-append-drop c.encode_from_utf8_to_vec-stop.result.1 c.calls.unread.now))
+            ∙ sym (append_assoc invariant.1.front
+            (take c.encode_from_utf8_to_vec-stop.result.1 c.calls.unread.now) _)
+            ∙ ap (λ x. (invariant.1.front
+            ++ take c.encode_from_utf8_to_vec-stop.result.1 c.calls.unread.now) ++ x)
+            (sym c.split_at.ensures.back);
+        full =
+            one_more_round c.calls.unread.now _ _ extends_so_far
             c.max_buffer_length_from_utf8_if_no_unmappables-length.ensures.formula
             length_fits c.in_ok-make_byte_room.ensures.enough c.in_ok-make_byte_room.ensures.room
             _ goes_on encoded.call encoded.appended c.split_at.ensures.back;
