@@ -115,8 +115,8 @@ two_parts a b t {m} {n} within_a within_b =
     ∙ ap (λ x. take m a ++ x) (take-append-le n b t within_b)
 
 -- If a text begins with n bytes, these are its first n.
-pub first_of : {text : List ℕ} (dst more : List ℕ) {n : ℕ} → n ≤ length dst → text ≡ take n dst ++ more
-    → take n dst ≡ take n text
+pub first_of : {text : List ℕ} (dst more : List ℕ) {n : ℕ} → n ≤ length dst
+    → text ≡ take n dst ++ more → take n dst ≡ take n text
 first_of {text} dst more {n} within is =
     sym (ap (take n) is
     ∙ ap (λ k. take k (take n dst ++ more)) (sym (length-take-le n dst within))
