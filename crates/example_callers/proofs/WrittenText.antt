@@ -1,7 +1,7 @@
 -- What calls with replacement write, and the text of the whole input: by the fields of their clause
 -- `call`.
 use Rattle.std.proofs.Common.{◌≡◌, ℕ, ◌+◌, ◌≤◌, Bool, true, List, [], ◌∷◌, ◌++◌, length, take, drop, refl, ap, ◌∙◌, sym}
-use Rattle.std.proofs.Common.{append_assoc, append-nil, length-append, arith}
+use Rattle.std.proofs.Common.{append_assoc, append-nil, length-append, arith, false, true≢false}
 use Rattle.std.proofs.Math.Seq.{drop-length, take-append-add, take-append_seam}
 use Rattle.std.proofs.lemmas.List.{take-append-drop, take-append-le, length-take-le}
 use Rattle.std.specs.Char.{encode_utf8}
@@ -95,40 +95,38 @@ written_all {old} {src} result {wrote} decodes is =
     ∙ written_chunk result decodes is [] (λ _. refl)
     ∙ ap (λ ss. wrote ++ utf_8 ss) (none_left result decodes is) ∙ append-nil wrote
 
--- The text of a whole input is that to come of a new decoder.
-pub whole_is : (e : Encoding) (d : DecoderState) → d ≡ fresh_decoder Sniff e
-    → (bytes x : List ℕ) → bytes ≡ x → whole_utf_8 Sniff e bytes ≡ utf_8 (remaining_sequences d x)
-whole_is e d is bytes x same =
-    ap (λ z. whole_utf_8 Sniff e z) same ∙ ap (λ s. utf_8 (remaining_sequences s x)) (sym is)
+-- The text of a whole input split in two is that to come of a new decoder.
+pub whole_in_two : {e : Encoding} {d : DecoderState} (bytes : List ℕ) {front back : List ℕ} (n : ℕ)
+    → d ≡ fresh_decoder Sniff e → front ≡ take n bytes → back ≡ drop n bytes
+    → whole_utf_8 Sniff e bytes ≡ utf_8 (remaining_sequences d (front ++ back))
+whole_in_two {e} {d} bytes {front} {back} n is front_is back_is =
+    let joined : front ++ back ≡ bytes =
+    ap (λ x. x ++ back) front_is ∙ ap (λ x. take n bytes ++ x) back_is ∙ take-append-drop n bytes
+    in
+    ap (λ x. whole_utf_8 Sniff e x) (sym joined)
+    ∙ ap (λ s. utf_8 (remaining_sequences s (front ++ back))) (sym is)
 
--- a list split in two
-pub parts : (bytes front back : List ℕ) (n : ℕ) → front ≡ take n bytes → back ≡ drop n bytes
-    → bytes ≡ front ++ back
-parts bytes front back n front_is back_is =
-    sym (ap (λ x. x ++ back) front_is ∙ ap (λ x. take n bytes ++ x) back_is
-    ∙ take-append-drop n bytes)
-
--- bytes written after others
-pub two_parts : (a b t : List ℕ) (m n : ℕ) → m ≤ length a → n ≤ length b
+-- n bytes written to a slice after m others
+pub two_parts : (a b t : List ℕ) {m n : ℕ} → m ≤ length a → n ≤ length b
     → take (m + n) (take m a ++ (b ++ t)) ≡ take m a ++ take n b
-two_parts a b t m n within_a within_b =
+two_parts a b t {m} {n} within_a within_b =
     ap (λ k. take (k + n) (take m a ++ (b ++ t))) (sym (length-take-le m a within_a))
     ∙ take-append-add (take m a) (b ++ t) n
     ∙ ap (λ x. take m a ++ x) (take-append-le n b t within_b)
 
--- n bytes of which a text is made, with more, are its first n
-pub first_of : (text dst more : List ℕ) (n : ℕ) → n ≤ length dst → text ≡ take n dst ++ more
-    → take n dst ≡ take n text
-first_of text dst more n within is =
+-- If a text begins with n bytes, these are its first n.
+pub first_of : {text : List ℕ} (dst more : List ℕ) {n : ℕ} → n ≤ length dst
+    → text ≡ take n dst ++ more → take n dst ≡ take n text
+first_of {text} dst more {n} within is =
     sym (ap (take n) is
     ∙ ap (λ k. take k (take n dst ++ more)) (sym (length-take-le n dst within))
     ∙ take-append_seam (take n dst) more)
 
--- a text that begins with bytes written and then others begins with the first m + n bytes there
-pub first_of_two : (text a b t more : List ℕ) (m n : ℕ) → m ≤ length a → n ≤ length b
+-- The same for n bytes written after m others.
+pub first_of_two : {text : List ℕ} (a b t more : List ℕ) {m n : ℕ} → m ≤ length a → n ≤ length b
     → text ≡ take m a ++ (take n b ++ more)
     → take (m + n) (take m a ++ (b ++ t)) ≡ take (m + n) text
-first_of_two text a b t more m n within_a within_b is =
+first_of_two {text} a b t more {m} {n} within_a within_b is =
     let front = take m a ++ take n b in
     let front_length : m + n ≡ length front =
     omega (
@@ -137,6 +135,10 @@ first_of_two text a b t more m n within_a within_b is =
       length-take-le m a within_a,
       length-take-le n b within_b,
     ) in
-    two_parts a b t m n within_a within_b
+    two_parts a b t within_a within_b
     ∙ sym (ap (take (m + n)) (is ∙ sym (append_assoc (take m a) (take n b) more))
     ∙ ap (λ k. take k (front ++ more)) front_length ∙ take-append_seam front more)
+
+-- The first chunk is not the last.
+pub not_last : {z : List ℕ} → false ≡ true → z ≡ []
+not_last is = absurd (true≢false (sym is))

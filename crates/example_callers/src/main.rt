@@ -21,7 +21,8 @@ const BEGINNING: usize = 48;
 /// The length in bytes of the room for a piece of text, which is at least 4.
 const PIECE: usize = 64;
 
-/// Decodes a whole input in one call. `None` if the length to allocate overflows `usize`.
+/// Decodes a whole input in one call. `None` if the length to allocate overflows `usize`, and `Err`
+/// if memory is refused.
 ///
 /// The arm of `OutputFull` is proved to be unreachable, by the clause `enough` of the query.
 fn decode_sized(
