@@ -78,8 +78,7 @@ fn characters_beside_them_keep_theirs(rt: HostRuntime) -> Result<(), Fail> {
 }
 
 /// They stand among others, as one call writes many at once.
-const LONG: &str =
-    "人人生而自由，\u{E78D}在尊严\u{E78E}\u{E796} are equal in ASCII \u{E854}乂\u{E864}一律平等。\u{E5E5}";
+const LONG: &str = "人\u{E78D}在\u{E78E}\u{E796} in ASCII \u{E854}乂\u{E864}\u{E5E5}。";
 
 #[test]
 fn long_texts_with_them_are_written_as_their_characters(rt: HostRuntime) -> Result<(), Fail> {
