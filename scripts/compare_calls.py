@@ -7,8 +7,8 @@ after the call, the length that the call's query returned before, the length of 
 had a pending state, and the units that the rest of the input gives.
 
 Where the two differ by design, or where the crate has a fault, a rule says so. Each line comes under one of RULES or
-differs. Of the first lines that differ the smallest that was found is shown. FAULTS has the smallest line for each fault;
-where one no longer shows it the rule is to be dropped, and the line is one that differs. The status is 0 where none does.
+differs. Of the first lines that differ the smallest that was found is shown. FAULTS has a line for each fault; one that
+no longer shows it differs too, since its rule is to go. The status is 0 where none differs.
 """
 
 import collections
@@ -38,16 +38,17 @@ BYTE_80 = "a Latin-1 prefix that the crate ends at byte 80 of Shift_JIS"
 ASCII_END = "a Latin-1 prefix in whose length the crate leaves out the ASCII bytes at the end"
 NOTES = (OTHER_LENGTHS, BYTE_80, ASCII_END)
 
-# What the crate's documentation says otherwise: the smallest line for each, of all with up to three units of input and
-# more room than it asks for.
-FAULTS = {
-    HELD_MARK: "decode ISO-2022-JP sniff EFBB - 2 last utf16 report",
-    PANIC: "decode windows-1252 sniff EFBB - 4 last utf8 report",
-    LOST: "decode Big5 off 81 - 4 more utf8 replace",
-    SPLIT: "encode windows-1252 off - D83DDE00 1 last utf16 report",
-    BYTE_80: "decode Shift_JIS off - 80 4 last utf8 report",
-    ASCII_END: "decode windows-1252 off - 61 4 last utf8 report",
-}
+# What the crate does against its documentation, each by the call with the fewest bytes that a search has found, of those
+# with as much room as that asks for.
+FAULTS = (
+    (HELD_MARK, "decode ISO-2022-JP sniff EFBB - 2 last utf16 report"),
+    (PANIC, "decode ISO-2022-JP off - 1B2442611B 4 last utf8 replace"),
+    (PANIC, "decode windows-1252 sniff EFBB - 4 last utf8 replace"),
+    (LOST, "decode Big5 off 81 - 4 more utf8 replace"),
+    (SPLIT, "encode windows-1252 off - D83DDE00 1 last utf16 report"),
+    (BYTE_80, "decode Shift_JIS off - 80 4 last utf8 report"),
+    (ASCII_END, "decode windows-1252 off - 61 4 last utf8 report"),
+)
 
 TWO_BYTES = ("Big5", "EUC-KR", "Shift_JIS")
 UTF_16 = ("UTF-16BE", "UTF-16LE")
@@ -373,10 +374,11 @@ def show(programs, line):
 
 
 def mended(programs):
-    """The lines that no longer show the fault that they are named for."""
-    lines = [Line.of(it) for it in FAULTS.values()]
-    rules = zip(FAULTS, lines, judge(programs, lines)[0], programs.of_ours(lines), programs.of_crate(lines), strict=True)
-    return [line for fault, line, rule, ours, crate in rules if fault not in (rule, *notes_of(line, ours, crate))]
+    """The lines of FAULTS that no longer show their fault."""
+    lines = [Line.of(it) for _, it in FAULTS]
+    answers = zip(lines, programs.of_ours(lines), programs.of_crate(lines), strict=True)
+    shown = [(rule, *notes_of(*it)) for rule, it in zip(judge(programs, lines)[0], answers, strict=True)]
+    return [line for (fault, line), found in zip(FAULTS, shown, strict=True) if fault not in found]
 
 
 def in_room(programs, texts):
