@@ -1,7 +1,7 @@
 -- How many bytes a character has at most, by encoding.
 -- Rows by codec are written by scripts/make-codecs from data/codecs.txt.
 use Rattle.std.proofs.Common.{◌≡◌, ℕ, ◌-◌, ◌+◌, ◌<◌, ◌≤◌, Bool, true, false, ◌&&◌, ◌==◌, nat_lt, nat_le, Option, Some}
-use Rattle.std.proofs.Common.{None, [], ◌∷◌, arith, if◌then◌else◌}
+use Rattle.std.proofs.Common.{None, List, [], ◌∷◌, arith, if◌then◌else◌}
 use Rattle.std.proofs.lemmas.Bool.Decides.{nat_tests}
 use Rattle.std.proofs.lemmas.Str.{length-encode, len_utf8_bounds}
 use Rattle.enc_index.specs.declared.single_byte_index.SingleByteIndex.{SingleByteIndex}
@@ -19,7 +19,9 @@ use Rattle.enc_encode.specs.EucKr.{euc_kr_pair_bytes, euc_kr_bytes}
 use Rattle.enc_encode.specs.Japanese.{is_halfwidth_katakana, katakana_byte, with_fullwidth_minus}
 use Rattle.enc_encode.specs.ShiftJis.{shift_jis_pair_bytes, shift_jis_other, shift_jis_bytes}
 use Rattle.enc_encode.specs.EucJp.{euc_jp_pair_bytes, euc_jp_other, euc_jp_bytes}
-use Rattle.enc_encode.specs.Gb18030.{gb18030_four_bytes, two_or_four_bytes, gb18030_other, gb18030_bytes}
+use Rattle.enc_encode.specs.PrivateUse.{private_use_rows}
+use Rattle.enc_encode.specs.Gb18030.{gb18030_four_bytes, two_or_four_bytes, row_bytes, row_or_index_bytes}
+use Rattle.enc_encode.specs.Gb18030.{gb18030_other, gb18030_bytes}
 use Rattle.enc_encode.specs.Iso2022Jp.{is_shift, lookup_char, jis0208_pair_bytes, iso_2022_jp_bytes}
 
 pub most_single_byte : (index : SingleByteIndex) (c : ℕ) → size (single_byte_bytes index c) ≤ 1
@@ -70,14 +72,24 @@ at_least_two : (is_gbk : Bool) → 2 ≤ most_gb18030_by is_gbk
 at_least_two true = omega arith
 at_least_two false = omega arith
 
+most_of_row : (rows : List (ℕ × ℕ × ℕ)) (c : ℕ) → size (row_bytes rows c) ≤ 2
+most_of_row [] c = omega arith
+most_of_row (row ∷ rows) c =
+    up_to_if 2 (row.0 == c) (Some (row.1 ∷ row.2 ∷ [])) (row_bytes rows c) (omega arith) (most_of_row rows c)
+
+most_row_or_index : (is_gbk : Bool) (c : ℕ) (o : Option (List ℕ)) → size o ≤ 2
+    → size (row_or_index_bytes is_gbk c o) ≤ most_gb18030_by is_gbk
+most_row_or_index is_gbk c (Some b) h = let two = at_least_two is_gbk in omega (arith, h, two)
+most_row_or_index is_gbk c None h = most_two_or_four is_gbk c (gb18030_pointer c)
+
 pub most_gb18030 : (is_gbk : Bool) (c : ℕ) → size (gb18030_bytes is_gbk c) ≤ most_gb18030_by is_gbk
 most_gb18030 is_gbk c =
     let two = at_least_two is_gbk in
     let few = most_gb18030_by is_gbk in
     up_to_ascii few (gb18030_other is_gbk) c (omega (arith, two))
     (up_to_if few (c == 0xE5E5) None _ (omega arith)
-    (up_to_if few (is_gbk && c == 0x20AC) (Some (0x80 ∷ [])) _ (omega (arith, two)) (most_two_or_four is_gbk c
-    (gb18030_pointer c))))
+    (up_to_if few (is_gbk && c == 0x20AC) (Some (0x80 ∷ [])) _ (omega (arith, two))
+    (most_row_or_index is_gbk c (row_bytes private_use_rows c) (most_of_row private_use_rows c))))
 
 pub most_iso_2022_jp : (c : ℕ) → size (iso_2022_jp_bytes c) ≤ 2
 most_iso_2022_jp c =

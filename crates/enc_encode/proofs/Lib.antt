@@ -3,5 +3,6 @@ pub mod RepertoireLemmas
 pub mod Iso2022JpLemmas
 pub mod Iso2022JpEnough
 mod KatakanaLemmas
+pub mod PrivateUseLemmas
 pub mod LawfulLemmas
 pub mod EnoughLemmas

@@ -7,6 +7,7 @@ pub mod ShiftJis
 pub mod EucJp
 pub mod EucKr
 pub mod Big5
+pub mod PrivateUse
 pub mod Gb18030
 pub mod Iso2022Jp
 pub mod Encoders

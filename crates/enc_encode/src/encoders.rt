@@ -9,6 +9,7 @@ pub mod gb18030;
 pub mod iso_2022_jp;
 mod japanese;
 mod katakana;
+mod private_use;
 pub mod shift_jis;
 pub mod single_byte;
 pub mod utf_8;

@@ -28,6 +28,10 @@ pub enum ReadFault {
     Failed = 2,
 }
 
+const _: () = prove!(ReadFault::Reader as u8 == 1);
+
+const _: () = prove!(ReadFault::Failed as u8 == 2);
+
 /// The text of a read that may lend it. [`DecodeReader::text`] returns its bytes.
 #[derive(Clone, Copy, Debug)]
 pub struct HandedText {
@@ -337,6 +341,8 @@ impl<'a, R: Source> DecodeReader<'a, R> {
             → IsReaderAtEnd (R.remaining self.new.reader.now) (state_of self.new)) }
         ensures rest { IfOk result (λ handed. drop (written_len handed) dst.new
             ≡ drop (written_len handed) dst.old) }
+        ensures least { IfOk result (λ handed. handed.lent ≡ true
+            → 4096 ≤ length (handed_text self.new dst.new handed)) }
         ensures length { length dst.new ≡ length dst.old }
         ensures kept { OnOk result (R.has_failed self.new.reader.now
             ≡ R.has_failed self.old.reader.now) }

@@ -1,12 +1,13 @@
--- gb18030 and GBK give each character back.
+-- gb18030 and GBK give each character back, except those of private use whose bytes others have.
 use Rattle.std.proofs.Common.{◌≡◌, ℕ, ◌+◌, ◌-◌, ◌/◌, ◌%◌, ◌<◌, ◌≤◌, Bool, true, false, cond, nat_lt, ◌&&◌, ◌==◌, Option}
-use Rattle.std.proofs.Common.{Some, None, List, [], ◌∷◌, refl, ap, subst, ◌∙◌, arith, if◌then◌else◌}
-use Rattle.std.proofs.lemmas.Bool.{cond-true, cond-false, lt-ltb}
+use Rattle.std.proofs.Common.{Some, None, List, [], ◌∷◌, map, refl, ap, sym, subst, ◌∙◌, arith, if◌then◌else◌, not}
+use Rattle.std.proofs.Common.{nat_le}
+use Rattle.std.proofs.lemmas.Bool.{cond-true, cond-false, lt-ltb, or_parts}
 use Rattle.std.proofs.lemmas.Bool.Decides.{nat_tests}
-use Rattle.std.specs.Cmp.{second_so}
-use Rattle.enc_index.specs.Runs.{gb18030_at, gb18030_ranges_at}
+use Rattle.std.specs.Cmp.{first_so, second_so}
+use Rattle.enc_index.specs.Runs.{runs_of, gb18030_at, gb18030_ranges_at}
 use Rattle.enc_index_pointers.specs.Pointers.{gb18030_pointer, gb18030_ranges_pointer, is_ranges_pointer, pointer_of}
-use Rattle.enc_index_pointers.specs.Pointers.{any_pointer, no_character}
+use Rattle.enc_index_pointers.specs.Pointers.{any_pointer, no_character, is_character}
 use Rattle.enc_decoder.specs.declared.byte_codec.Kind.TheVariants.{Valid}
 use Rattle.enc_decoder.specs.declared.byte_codec.Text.TheVariants.{One}
 use Rattle.enc_decoder.specs.Taking.{IsWholeChar}
@@ -18,10 +19,14 @@ use Rattle.enc_decoder_multi_byte.proofs.MultiByteLemmas.{settled_first, settles
 use Rattle.enc_decoder_multi_byte.proofs.MultiBytePieces.{complete_one, complete_two}
 use Rattle.enc_encoder.specs.Stateless.{bytes_of_pointer}
 use Rattle.enc_encode.specs.Gb18030.{gb18030_trail_byte, gb18030_pair_bytes, gb18030_four_bytes, two_or_four_bytes}
-use Rattle.enc_encode.specs.Gb18030.{gb18030_other, gb18030_bytes}
+use Rattle.enc_encode.specs.PrivateUse.{private_use_rows}
+use Rattle.enc_encode.specs.Gb18030.{row_bytes, row_or_index_bytes, gb18030_other, gb18030_bytes}
+use Rattle.enc_encode.proofs.PrivateUseLemmas.{no_private_use_row}
+use Rattle.enc_round_trip.specs.Replaced.{replaced_characters}
+use Rattle.enc_round_trip.specs.RoundTrip.{char_by_rows, has_row, any_read_as_other}
 use Rattle.enc_round_trip.proofs.ReadBackLemmas.{IsReadBack, with_ascii_is_read, by_test, same_bytes, no_bytes}
 use Rattle.enc_round_trip.proofs.ReadBackLemmas.{same_char}
-use Rattle.enc_round_trip.proofs.PointerLemmas.{IsPointer, is_pointer, by_pointer}
+use Rattle.enc_round_trip.proofs.PointerLemmas.{IsPointer, is_pointer, by_pointer, has_character}
 use Rattle.enc_round_trip.proofs.DoubleByteBack.{within}
 
 abbrev Piece : List ℕ → ℕ → Type 0
@@ -139,6 +144,80 @@ four : (c p : ℕ) → gb18030_ranges_pointer c ≡ Some p → Piece (gb18030_fo
 unfolding gb18030_ranges_pointer
 four c p e = four_at c p (c == 0xE7C7) refl e
 
+-- rows of private use, whose bytes the index gives to other characters
+
+abbrev is_read_as : ℕ × ℕ × ℕ → ℕ × ℕ → Bool
+is_read_as row read =
+    (row.0 == read.0 && not (decoder.is_digit row.2))
+    && (decoder.is_gb18030_lead row.1
+    && is_character read.1 (decoder.gb18030_pair_char row.1 row.2))
+
+abbrev are_read_as : List (ℕ × ℕ × ℕ) → List (ℕ × ℕ) → Bool
+are_read_as [] [] = true
+are_read_as [] (read ∷ reads) = false
+are_read_as (row ∷ rows) [] = false
+are_read_as (row ∷ rows) (read ∷ reads) = is_read_as row read && are_read_as rows reads
+
+rows_are_read : are_read_as private_use_rows replaced_characters ≡ true
+unfolding runs_of
+rows_are_read = refl
+
+same_code : (row : ℕ × ℕ × ℕ) (read : ℕ × ℕ) → is_read_as row read ≡ true → row.0 ≡ read.0
+same_code row read h =
+    let same : (row.0 == read.0) ≡ true = first_so _ _ (first_so _ _ h) in grind (arith, nat_tests)
+
+is_false : (b : Bool) → not b ≡ true → b ≡ false
+is_false true h = cc
+is_false false h = refl
+
+row_piece : (row : ℕ × ℕ × ℕ) (read : ℕ × ℕ) → is_read_as row read ≡ true
+    → Piece (row.1 ∷ row.2 ∷ []) read.1
+row_piece row read h =
+    let code_and_trail : (row.0 == read.0 && not (decoder.is_digit row.2)) ≡ true =
+    first_so _ _ h in
+    let no_digit = is_false (decoder.is_digit row.2) (second_so _ _ code_and_trail) in
+    let bytes_match : (decoder.is_gb18030_lead row.1
+    && is_character read.1 (decoder.gb18030_pair_char row.1 row.2)) ≡ true = second_so _ _ h in
+    complete_two decoder.gb18030_prefix row.1 row.2 read.1
+    (ap (λ t. first_prefix t (decoder.gb18030_single_char row.1)) (first_so _ _ bytes_match))
+    (cond-false (decoder.is_digit row.2) Incomplete _ no_digit
+    ∙ ap (λ o. trail_prefix 1 row.2 (text_of_char o))
+    (has_character read.1 _ (second_so _ _ bytes_match)))
+
+row_or_later : (t : Bool) (a : List ℕ) (c d : ℕ) (x : Option (List ℕ)) (b : List ℕ) → Piece a c
+    → (x ≡ Some b → Piece b d) → (if t then Some a else x) ≡ Some b
+    → Piece b (if t then c else d)
+row_or_later true a c d x b first later e = same_bytes (λ y. Piece y c) a b first e
+row_or_later false a c d x b first later e = later e
+
+row_is_read : (rows : List (ℕ × ℕ × ℕ)) (reads : List (ℕ × ℕ)) (c : ℕ) (b : List ℕ)
+    → are_read_as rows reads ≡ true → row_bytes rows c ≡ Some b → Piece b (char_by_rows reads c)
+row_is_read [] reads c b h e = cc
+row_is_read (row ∷ rows) [] c b h e = cc
+row_is_read (row ∷ rows) (read ∷ reads) c b h e =
+    same_char _ 0 b _ (char_by_rows (read ∷ reads) c)
+    (ap (λ n. if n == c then read.1 else char_by_rows reads c)
+    (same_code row read (first_so _ _ h)))
+    (row_or_later (row.0 == c) (row.1 ∷ row.2 ∷ []) read.1 (char_by_rows reads c)
+    (row_bytes rows c) b (row_piece row read (first_so _ _ h))
+    (row_is_read rows reads c b (second_so _ _ h)) e)
+
+none_here : (t : Bool) (a : List ℕ) (x : Option (List ℕ)) (c d r : ℕ) → (x ≡ None → d ≡ c)
+    → (if t then Some a else x) ≡ None → (if t then r else d) ≡ c
+none_here true a x c d r later e = cc
+none_here false a x c d r later e = later e
+
+itself_if_none : (rows : List (ℕ × ℕ × ℕ)) (reads : List (ℕ × ℕ)) (c : ℕ)
+    → are_read_as rows reads ≡ true → row_bytes rows c ≡ None → char_by_rows reads c ≡ c
+itself_if_none [] [] c h e = refl
+itself_if_none [] (read ∷ reads) c h e = cc
+itself_if_none (row ∷ rows) [] c h e = cc
+itself_if_none (row ∷ rows) (read ∷ reads) c h e =
+    ap (λ n. if n == c then read.1 else char_by_rows reads c)
+    (sym (same_code row read (first_so _ _ h)))
+    ∙ none_here (row.0 == c) (row.1 ∷ row.2 ∷ []) (row_bytes rows c) c (char_by_rows reads c) read.1
+    (itself_if_none rows reads c (second_so _ _ h)) e
+
 -- all characters
 
 two_or_four_read : (is_gbk : Bool) (c : ℕ) (o : Option ℕ) (b : List ℕ) → gb18030_pointer c ≡ o
@@ -151,18 +230,59 @@ two_or_four_read is_gbk c None b q e =
     (λ t f. by_pointer (λ x. Piece x c) gb18030_four_bytes (gb18030_ranges_pointer c) b (four c) f)
     e
 
-beyond : (is_gbk : Bool) (c : ℕ) (b : List ℕ) → gb18030_other is_gbk c ≡ Some b → Piece b c
+row_or_index_read : (is_gbk : Bool) (c : ℕ) (o : Option (List ℕ)) (b : List ℕ)
+    → row_bytes private_use_rows c ≡ o → row_or_index_bytes is_gbk c o ≡ Some b
+    → Piece b (char_by_rows replaced_characters c)
+row_or_index_read is_gbk c (Some x) b q e =
+    row_is_read private_use_rows replaced_characters c b rows_are_read (q ∙ e)
+row_or_index_read is_gbk c None b q e =
+    same_char _ 0 b c (char_by_rows replaced_characters c)
+    (sym (itself_if_none private_use_rows replaced_characters c rows_are_read q))
+    (two_or_four_read is_gbk c (gb18030_pointer c) b refl e)
+
+beyond : (is_gbk : Bool) (c : ℕ) (b : List ℕ) → gb18030_other is_gbk c ≡ Some b
+    → Piece b (char_by_rows replaced_characters c)
 beyond is_gbk c b e =
     by_test (c == 0xE5E5) None _ b (λ t f. no_bytes b f)
     (λ n g. by_test (is_gbk && c == 0x20AC) _ _ b
     (λ t f. (let is_euro = second_so is_gbk (c == 0x20AC) t in
     let euro_is : 0x20AC ≡ c = grind (arith, nat_tests) in
-    same_bytes (λ x. Piece x c) (0x80 ∷ []) b
-    (same_char _ 0 (0x80 ∷ []) 0x20AC c euro_is euro_piece) f))
-    (λ m f. two_or_four_read is_gbk c (gb18030_pointer c) b refl f) g) e
+    same_bytes (λ x. Piece x (char_by_rows replaced_characters c)) (0x80 ∷ []) b
+    (same_char _ 0 (0x80 ∷ []) 0x20AC (char_by_rows replaced_characters c)
+    (ap (char_by_rows replaced_characters) euro_is) euro_piece) f))
+    (λ m f. row_or_index_read is_gbk c (row_bytes private_use_rows c) b refl f) g) e
+
+low_itself : (c : ℕ) → c < 0x80 → c ≡ char_by_rows replaced_characters c
+low_itself c l =
+    let out : (nat_le 0xE5E5 c && nat_le c 0xE864) ≡ false = grind (arith, nat_tests) in
+    sym (itself_if_none private_use_rows replaced_characters c rows_are_read
+    (no_private_use_row c out))
 
 pub gb18030_is_read : (is_gbk : Bool)
-    → IsReadBack (multi_byte_rule decoder.gb18030_prefix) (gb18030_bytes is_gbk) (λ c. c)
+    → IsReadBack (multi_byte_rule decoder.gb18030_prefix) (gb18030_bytes is_gbk)
+    (char_by_rows replaced_characters)
 gb18030_is_read is_gbk =
-    with_ascii_is_read (multi_byte_rule decoder.gb18030_prefix) (gb18030_other is_gbk) (λ c. c)
-    (λ c l. low_piece c l) (λ c b l e. beyond is_gbk c b e)
+    with_ascii_is_read (multi_byte_rule decoder.gb18030_prefix) (gb18030_other is_gbk)
+    (char_by_rows replaced_characters)
+    (λ c l. same_char _ 0 (c ∷ []) c (char_by_rows replaced_characters c) (low_itself c l)
+    (low_piece c l)) (λ c b l e. beyond is_gbk c b e)
+
+-- a text without the characters of rows
+
+itself : (rows : List (ℕ × ℕ)) (c : ℕ) → has_row rows c ≡ false → char_by_rows rows c ≡ c
+itself [] c none = refl
+itself (row ∷ rows) c none =
+    let both = or_parts (row.0 == c) (has_row rows c) none in
+    cond-false _ _ _ both.0 ∙ itself rows c both.1
+
+pub gb18030_keeps : (t : List ℕ) → not (any_read_as_other t) ≡ true
+    → map (char_by_rows replaced_characters) t ≡ t
+gb18030_keeps t h = all_itself t (is_false _ h)
+  where
+    all_itself : (t : List ℕ) → any_read_as_other t ≡ false
+        → map (char_by_rows replaced_characters) t ≡ t
+    all_itself [] none = refl
+    all_itself (c ∷ t) none =
+        let both = or_parts (has_row replaced_characters c) (any_read_as_other t) none in
+        ap (λ x. x ∷ map (char_by_rows replaced_characters) t) (itself replaced_characters c both.0)
+        ∙ ap (λ x. c ∷ x) (all_itself t both.1)

@@ -39,7 +39,7 @@ module _ (test : ℕ → Bool) where
   by_last_passes true n p e = last_passes n p e
   by_last_passes false n p e = first_passes n p e
 
-has_character : (c : ℕ) (o : Option ℕ) → is_character c o ≡ true → o ≡ Some c
+pub has_character : (c : ℕ) (o : Option ℕ) → is_character c o ≡ true → o ≡ Some c
 has_character c None e = cc
 has_character c (Some d) e = ap Some (let same : d ≡ c = grind (arith, nat_tests) in same)
 

@@ -21,7 +21,7 @@ use Rattle.enc_round_trip.proofs.OneByteBack.{utf_8_is_read, single_byte_is_read
 use Rattle.enc_round_trip.proofs.DoubleByteBack.{euc_kr_is_read, big5_is_read}
 use Rattle.enc_round_trip.proofs.ShiftJisBack.{shift_jis_is_read}
 use Rattle.enc_round_trip.proofs.EucJpBack.{euc_jp_is_read}
-use Rattle.enc_round_trip.proofs.Gb18030Back.{gb18030_is_read}
+use Rattle.enc_round_trip.proofs.Gb18030Back.{gb18030_is_read, gb18030_keeps}
 use Rattle.enc_round_trip.proofs.Iso2022JpBack.{iso_2022_jp_is_read}
 
 abbrev pub IsReadIfAny : Codec → Option EncoderRule → Type 0
@@ -62,13 +62,15 @@ map_of f same_char [] = refl
 map_of f same_char (c ∷ t) = ap (λ x. x ∷ map f t) (same_char c)
     ∙ ap (λ x. c ∷ x) (map_of f same_char t)
 
-keeps : (c : Codec) → keeps_characters c ≡ true → (n : ℕ) → char_read_back c n ≡ n
-keeps ShiftJis h n = cc
-keeps EucJp h n = cc
-keeps Iso2022Jp h n = cc
-keeps _ h n = refl
+keeps : (c : Codec) (t : List ℕ) → keeps_characters c t ≡ true → map (char_read_back c) t ≡ t
+keeps ShiftJis t h = cc
+keeps EucJp t h = cc
+keeps Iso2022Jp t h = cc
+keeps Gbk t h = gb18030_keeps t h
+keeps Gb18030 t h = gb18030_keeps t h
+keeps _ t h = map_of _ (λ n. refl) t
 
 pub same_text : (c : Codec) (b : List ℕ) (e : EncoderRule) (t : List ℕ) → encoder_rule c ≡ Some e
-    → AreScalars t → any_unmappable (barring_rule b e) t ≡ false → keeps_characters c ≡ true
+    → AreScalars t → any_unmappable (barring_rule b e) t ≡ false → keeps_characters c t ≡ true
     → sequence_text (sequences_of (codec_rule c) 0 (bytes_of_text (barring_rule b e) Ascii t)) ≡ t
-same_text c b e t q s m k = (is_read c b e t q s m).text ∙ map_of (char_read_back c) (keeps c k) t
+same_text c b e t q s m k = (is_read c b e t q s m).text ∙ keeps c t k

@@ -14,8 +14,9 @@ use enc_index::Codec;
 
 /// Encoded text decodes again, by the same codec (Encoding Standard 4.1).
 ///
-/// The characters of the text are all mappable. The law holds whatever entries the indexes have,
-/// and whatever characters are barred. No byte order mark is looked for.
+/// The characters of the text are all mappable. The law holds whatever entries the indexes have
+/// (but for those of the bytes of 18 characters of private use in gb18030), and whatever characters
+/// are barred. No byte order mark is looked for.
 pub fn written_text_is_read_back(codec: Codec)
     // No sequence of the bytes is malformed.
     ensures well_formed { (barred : List ℕ) (e : EncoderRule) (text : List ℕ)
@@ -30,10 +31,12 @@ pub fn written_text_is_read_back(codec: Codec)
         → sequence_text (sequences_read_back codec barred e text)
         ≡ map (char_read_back codec) text }
 
-    // That is the same text, except in Shift_JIS, EUC-JP and ISO-2022-JP.
+    // That is the same text, except in Shift_JIS, EUC-JP and ISO-2022-JP; in gb18030 and GBK if no
+    // character of the text is one that they read back as another.
     ensures same_text { (barred : List ℕ) (e : EncoderRule) (text : List ℕ)
         → encoder_rule codec ≡ Some e → AreScalars text
-        → any_unmappable (barring_rule barred e) text ≡ false → keeps_characters codec ≡ true
+        → any_unmappable (barring_rule barred e) text ≡ false
+        → keeps_characters codec text ≡ true
         → sequence_text (sequences_read_back codec barred e text) ≡ text }
 {
     let _ = codec;

@@ -6,6 +6,14 @@ use Rattle.std.proofs.lemmas.List.{drop-take, take-append-le, take-append-drop}
 use Rattle.std.proofs.Math.Seq.{drop-append_seam}
 use Rattle.enc_encoder.specs.EncoderRule.{EncoderRule, RawEncoderState, is_escape_due}
 use Rattle.enc_encoder.specs.Barring.{barring_rule}
+use Rattle.enc_encoder.specs.Stateless.{WritesAscii}
+use Rattle.enc_encoder.proofs.StatelessLemmas.{with_ascii_writes_ascii}
+use Rattle.enc_encoder.proofs.BarringLemmas.{except_writes_ascii}
+use Rattle.enc_encode.proofs.RepertoireLemmas.{utf_8_writes_ascii}
+use Rattle.enc_index.specs.declared.codec.Codec.{Codec}
+use Rattle.enc_index.specs.declared.codec.Codec.TheVariants as codec
+use Rattle.enc_names.specs.CodecProperties.{ascii_compatible_by_codec}
+use Rattle.enc_names.proofs.CodecPropertyLemmas.{listed_ascii}
 use Rattle.enc_encoder.specs.declared.character_set.CharacterSet.TheVariants.{Ascii, Roman, Jis0208}
 use Rattle.enc_encoder.specs.declared.character_set.CharacterSet.{CharacterSet}
 use Rattle.enc_units.specs.declared.encoder_result.EncoderResult.{EncoderResult}
@@ -19,7 +27,7 @@ use Rattle.enc_names.specs.declared.encoding_id.EncodingId.TheVariants.{Utf8}
 use Rattle.enc_stream.specs.declared.encoding.Encoding.{Encoding}
 use Rattle.enc_names.specs.EncodingTable.{codec_by_id, output_by_id}
 use Rattle.enc_stream.specs.Encodings.{rule_or_utf_8, output_rule}
-use Rattle.enc_stream.specs.Properties.{output_encoding_of}
+use Rattle.enc_stream.specs.Properties.{output_encoding_of, is_ascii_compatible}
 use Rattle.enc_stream.specs.Encoder.{EncoderState, EncodesChunk, is_utf_8, maps_every_character, html_mode_in}
 
 has_encoder_by_id : (id : EncodingId)
@@ -57,6 +65,36 @@ unfolding rule_by_id
 maps_all [] e rule r h =
     subst MapsEveryCharacter (sym (r ∙ ap rule_by_id (utf_8_has e.id h))) (λ c. refl)
 maps_all (x ∷ b) e rule r h = cc
+
+-- An ASCII-compatible encoding writes each ASCII character as itself, and has no escape sequence.
+
+record WritesAsciiPlainly (rule : EncoderRule) : Type 0 where
+  pub bytes : WritesAscii rule.bytes
+  pub set : (c : ℕ) → rule.has Ascii c ≡ true
+
+writes_ascii : (c : Codec) → ascii_compatible_by_codec c ≡ true
+    → WritesAsciiPlainly (rule_or_utf_8 (encoder_rule c))
+writes_ascii codec.Utf8 h = record { bytes = utf_8_writes_ascii; set = λ c. refl }
+writes_ascii codec.Utf16Be h = cc
+writes_ascii codec.Utf16Le h = cc
+writes_ascii codec.Replacement h = cc
+writes_ascii codec.Iso2022Jp h = cc
+writes_ascii _ h = record { bytes = with_ascii_writes_ascii _; set = λ c. refl }
+
+module _ (encoding : Encoding) (compatible : is_ascii_compatible encoding ≡ true) where
+  plainly : WritesAsciiPlainly (rule_by_id encoding.id)
+  unfolding rule_by_id
+  plainly = writes_ascii (codec_by_id encoding.id) (listed_ascii encoding.id ∙ compatible)
+
+  pub ascii_bytes : (b : List ℕ) → WritesAscii (output_rule b encoding).bytes
+  unfolding rule_by_id
+  ascii_bytes b =
+      except_writes_ascii b (rule_or_utf_8 (encoder_rule (codec_by_id encoding.id))).bytes
+      plainly.bytes
+
+  pub ascii_set : (b : List ℕ) (c : ℕ) → (output_rule b encoding).has Ascii c ≡ true
+  unfolding rule_by_id
+  ascii_set b c = plainly.set c
 
 -- a call that has ended the text leaves ASCII designated
 

@@ -1,6 +1,6 @@
 -- No step of an encoder has more than four bytes, so that a call with room enough does one; and
 -- where a text may end.
-use Rattle.std.proofs.Common.{◌≡◌, ℕ, ◌<◌, ◌≤◌, Bool, true, false, Option, Some, None, List, [], ◌∷◌, ◌++◌, length}
+use Rattle.std.proofs.Common.{◌≡◌, ℕ, ◌+◌, ◌<◌, ◌≤◌, Bool, true, false, Option, Some, None, List, [], ◌∷◌, ◌++◌, length}
 use Rattle.std.proofs.Common.{refl, ap, subst, inl, inr, arith, length-append, if◌then◌else◌}
 use Rattle.enc_units.specs.declared.coder_result.CoderResult.{CoderResult}
 use Rattle.enc_units.specs.declared.coder_result.CoderResult.TheVariants.{InputEmpty, OutputFull}
@@ -69,45 +69,59 @@ few_kept true = omega arith
 few_kept false = omega arith
 
 -- a step more was done
-some_done : (kept : ℕ) (new : RawEncoderState) (rest : List ℕ) (last : Bool) (room : ℕ) → kept ≤ 10
-    → 14 ≤ room → first_len (steps_from_state new last rest) ≤ 4
+some_done : (kept : ℕ) (new : RawEncoderState) (rest : List ℕ) (last : Bool) (room : ℕ)
+    → 4 + kept ≤ room → first_len (steps_from_state new last rest) ≤ 4
     → IsFull kept new rest last room [] → ⊥
-some_done kept new rest last room k r h (inl at) =
+some_done kept new rest last room r h (inl at) =
     let few : length at.next.bytes ≤ 4 = subst (λ x. first_len x ≤ 4) at.comes h in
     omega (arith, at.full, few)
-some_done kept new rest last room k r h (inr (inl at)) = let no_reference = at.reference in cc
-some_done kept new rest last room k r h (inr (inr at)) = omega (arith, at.small)
+some_done kept new rest last room r h (inr (inl at)) = let no_reference = at.reference in cc
+some_done kept new rest last room r h (inr (inr at)) = omega (arith, at.small)
 
 fewer_left : (kept : ℕ) (old new : RawEncoderState) (src rest : List ℕ) (last : Bool) (room : ℕ)
     (done : List Step)
-    → kept ≤ 10 → 14 ≤ room
+    → 4 + kept ≤ room
     → first_len (steps_from_state new last rest) ≤ 4 → IsFull kept new rest last room done
     → steps_from_state old last src ≡ done ++ steps_from_state new last rest
     → length (steps_from_state new last rest) < length (steps_from_state old last src)
-fewer_left kept old new src rest last room [] k r h full e =
-    absurd (some_done kept new rest last room k r h full)
-fewer_left kept old new src rest last room (p ∷ done) k r h full e =
+fewer_left kept old new src rest last room [] r h full e =
+    absurd (some_done kept new rest last room r h full)
+fewer_left kept old new src rest last room (p ∷ done) r h full e =
     omega (arith, ap length e, length-append (p ∷ done) (steps_from_state new last rest))
 
--- A call that is not at the end has done a step.
-pub goes_on : {units_of : ℕ → List ℕ} {old new : EncoderState} {text : List ℕ} {last : Bool}
-    {room : ℕ}
-    (result : CoderResult) {read : ℕ} {wrote : List ℕ} {replaced : Bool}
-    (encodes : EncodesChunk units_of (html_mode old) old new text last room
-    (encoder_result_of result) read wrote
-    replaced)
-    → ¬ (result ≡ InputEmpty) → 14 ≤ room
-    → steps_left new last encodes.rest < steps_left old last text
-goes_on InputEmpty encodes n r = absurd (n refl)
-goes_on {old} {new} {text} {last} {room} OutputFull encodes n r =
-    fewer_left (room_kept_for_references old.barred old.encoding) (raw_state old) (raw_state new)
-    text encodes.rest last
-    room
-    encodes.call.done
-    (few_kept (maps_every_character old.barred old.encoding)) r
-    (few_step (raw_state new).rule last new.set encodes.rest
-    (lawful_of new.barred new.encoding).few)
-    encodes.call.stops encodes.call.remaining
+-- A call that is not at the end has done a step, if a character fits beside the bytes kept.
+module _ {units_of : ℕ → List ℕ} {old new : EncoderState} {text : List ℕ} {last : Bool} {room : ℕ}
+    {read : ℕ} {wrote : List ℕ} {replaced : Bool}
+  where
+    goes_on_beside : (result : CoderResult)
+        (encodes : EncodesChunk units_of (html_mode old) old new text last room
+        (encoder_result_of result) read wrote replaced)
+        → ¬ (result ≡ InputEmpty) → 4 + room_kept_for_references old.barred old.encoding ≤ room
+        → steps_left new last encodes.rest < steps_left old last text
+    goes_on_beside InputEmpty encodes on r = absurd (on refl)
+    goes_on_beside OutputFull encodes on r =
+        fewer_left (room_kept_for_references old.barred old.encoding) (raw_state old)
+        (raw_state new) text encodes.rest last room encodes.call.done r
+        (few_step (raw_state new).rule last new.set encodes.rest
+        (lawful_of new.barred new.encoding).few)
+        encodes.call.stops encodes.call.remaining
+
+    pub goes_on : (result : CoderResult)
+        (encodes : EncodesChunk units_of (html_mode old) old new text last room
+        (encoder_result_of result) read wrote replaced)
+        → ¬ (result ≡ InputEmpty) → 14 ≤ room
+        → steps_left new last encodes.rest < steps_left old last text
+    goes_on result encodes on r =
+        let at_most_ten = few_kept (maps_every_character old.barred old.encoding) in
+        goes_on_beside result encodes on (omega (arith, r, at_most_ten))
+
+    pub goes_on_if_none_kept : (result : CoderResult)
+        (encodes : EncodesChunk units_of (html_mode old) old new text last room
+        (encoder_result_of result) read wrote replaced)
+        → ¬ (result ≡ InputEmpty) → room_kept_for_references old.barred old.encoding ≡ 0 → 4 ≤ room
+        → steps_left new last encodes.rest < steps_left old last text
+    goes_on_if_none_kept result encodes on none_kept r =
+        goes_on_beside result encodes on (omega (arith, r, none_kept))
 
 -- Where ASCII is designated no escape sequence is due.
 pub none_due : (b : List ℕ) (e : Encoding)

@@ -3,7 +3,7 @@ use Rattle.std.proofs.Common.{◌≡◌, ℕ, Bool, true, false, true≢false, L
 use Rattle.std.proofs.Common.{◌∙◌, sym, subst, arith, append_assoc, append-nil, ◌||◌, if◌then◌else◌}
 use Rattle.std.proofs.lemmas.Bool.Decides.{nat_tests}
 use Rattle.std.proofs.lemmas.List.{take-append-drop}
-use Rattle.std.specs.Prelude.{Option, Some, None, IfSome, option_map, ◌==◌}
+use Rattle.std.specs.Prelude.{Option, Some, None, IfSome, option_map, ◌==◌, ◌≢◌}
 use Rattle.std.specs.Char.{encode_utf8}
 use Rattle.enc_stream.specs.declared.bom.BomHandling.{BomHandling}
 use Rattle.enc_stream.specs.declared.bom.BomHandling.TheVariants.{Off, Sniff, Remove}
@@ -32,7 +32,8 @@ use Rattle.enc_units.specs.Checked.{checked_add}
 use Rattle.enc_stream.specs.declared.lengths.Query.TheVariants as query
 use Rattle.enc_stream.specs.declared.lengths.Query.TheVariants.{Utf8Reporting}
 use Rattle.enc_stream.specs.Lengths.{max_length, IsEnoughRoom}
-use Rattle.enc_stream.specs.OneShot.{utf_8_without_replacement, HasRoomFor, IsTooLongAfterFull}
+use Rattle.enc_stream.specs.OneShot.{utf_8_without_replacement, HasRoomFor, HasRoomExactlyFor}
+use Rattle.enc_stream.specs.OneShot.{IsTooLongAfterFull, MayLackMemory}
 use Rattle.enc_stream.proofs.EndOfInputLemmas.{fresh_sequences, has_finished_by, whole_text, whole_flag}
 
 pub nothing : (bytes : List ℕ) → true ≡ (length bytes == 0) → bytes ≡ []
@@ -40,6 +41,9 @@ nothing [] h = refl
 nothing (b ∷ bytes) h =
     let has_no_length : length (b ∷ bytes) ≡ 0 = grind (arith, nat_tests) in
     absurd (omega (arith, has_no_length))
+
+pub something : {bytes : List ℕ} → false ≡ (length bytes == 0) → bytes ≢ []
+something h none = true≢false (sym (h ∙ ap (λ (bytes : List ℕ). length bytes == 0) none))
 
 -- an empty input has no sequence
 
@@ -206,28 +210,50 @@ never_full (Some answer) old new {src} enough has_room are_bytes count meets is_
       more = omega (arith, has_room, more);
     })
 
+-- exactly the room for a length is room for it
+pub has_room : (length_answered : Option ℕ) (room : ℕ) → HasRoomExactlyFor length_answered room
+    → HasRoomFor length_answered room
+has_room None room exact = exact
+has_room (Some more) room exact = omega (arith, exact)
+
+-- a length for which there is room does not overflow
+pub there_is_a_length : (length_answered : Option ℕ) (room : ℕ)
+    → HasRoomExactlyFor length_answered room → length_answered ≢ None
+there_is_a_length None room exact none = exact
+there_is_a_length (Some more) room exact none = absurd (let none_is_some : ⊥ = cc in none_is_some)
+
+-- where memory is asked for, the first length query does not overflow
+pub asks_for_memory : {handling : BomHandling} {e : Encoding} {bytes : List ℕ}
+    {decoder : DecoderState} → decoder ≡ fresh_decoder handling e
+    → {length_answered : Option ℕ}
+    → length_answered ≡ max_length Utf8Reporting decoder (length bytes)
+    → false ≡ (length bytes == 0) → length_answered ≢ None → MayLackMemory handling e bytes
+asks_for_memory {bytes} is_fresh length_is not_empty fits = record {
+  some = something not_empty;
+  length_fits = λ none. fits (length_is
+      ∙ ap (λ d. max_length Utf8Reporting d (length bytes)) is_fresh ∙ none);
+}
+
 -- The first call answers `OutputFull`, and the length query after it overflows usize.
 pub too_long_after : {handling : BomHandling} {e : Encoding} {bytes : List ℕ}
     {old new : DecoderState}
     → old ≡ fresh_decoder handling e
     → {length_answered : Option ℕ} → length_answered ≡ max_length Utf8Reporting old (length bytes)
     → {room : ℕ}
-    → HasRoomFor length_answered room
+    → HasRoomExactlyFor length_answered room
     → (result : CoderResult) → ¬ (result ≡ coder.InputEmpty)
     → {read : ℕ} {wrote : List ℕ} {replaced : Bool}
     → AnswersDecodeReplacing encode_utf8 4 old new bytes true room result read wrote replaced
     → checked_add (max_length query.Utf8 new (length (drop read bytes))) (length wrote) ≡ None
     → IsTooLongAfterFull handling e bytes
-too_long_after is_fresh length_is has_room coder.InputEmpty goes_on call passes =
-    absurd (goes_on refl)
-too_long_after {bytes} {new} is_fresh length_is {room} has_room coder.OutputFull goes_on {read}
-    {wrote} {replaced} call
-    passes = record {
+too_long_after is_fresh length_is exact coder.InputEmpty goes_on call passes = absurd (goes_on refl)
+too_long_after {bytes} {new} is_fresh length_is {room} exact coder.OutputFull goes_on {read} {wrote}
+    {replaced} call passes = record {
       room = room;
-      enough =
-          subst (λ (n : Option ℕ). HasRoomFor n room)
+      exact =
+          subst (λ (n : Option ℕ). HasRoomExactlyFor n room)
           (length_is ∙ ap (λ d. max_length Utf8Reporting d (length bytes)) is_fresh)
-          has_room;
+          exact;
       state = new;
       read = read;
       wrote = wrote;

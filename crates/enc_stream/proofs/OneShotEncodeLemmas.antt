@@ -1,9 +1,9 @@
 -- One-shot calls: the bytes and the state after calls of an encoder that are offered the whole
 -- text.
-use Rattle.std.proofs.Common.{◌≡◌, ℕ, Bool, true, ◌||◌, List, [], ◌++◌, length, take, drop, refl, ap, ◌∙◌, sym}
-use Rattle.std.proofs.Common.{append_assoc, append-nil, chars, IsUtf8}
-use Rattle.std.specs.Prelude.{Option, None}
-use Rattle.std.proofs.lemmas.List.{take-append-drop}
+use Rattle.std.proofs.Common.{◌≡◌, ℕ, ◌+◌, ◌≤◌, Bool, true, ◌||◌, List, [], ◌∷◌, ◌++◌, length, take, drop, refl, ap}
+use Rattle.std.proofs.Common.{◌∙◌, sym, subst, append_assoc, append-nil, chars, IsUtf8}
+use Rattle.std.specs.Prelude.{Option, None, ◌≢◌}
+use Rattle.std.proofs.lemmas.List.{take-append-drop, length-append}
 use Rattle.std.specs.Char.{encode_utf8}
 use Rattle.enc_units.specs.declared.coder_result.CoderResult.{CoderResult}
 use Rattle.enc_units.specs.declared.coder_result.CoderResult.TheVariants.{InputEmpty, OutputFull}
@@ -24,7 +24,8 @@ use Rattle.enc_units.specs.Checked.{checked_add}
 use Rattle.enc_encoder.specs.Lengths.{from_utf_8_length}
 use Rattle.enc_stream.specs.Lengths.{output_lengths}
 use Rattle.enc_stream.specs.Properties.{output_encoding_of}
-use Rattle.enc_stream.specs.OneShot.{HasWritten, length_to_encode}
+use Rattle.enc_stream.specs.OneShot.{length_to_encode, remaining_length, EncoderRound, HasRoomFor}
+use Rattle.enc_stream.specs.OneShot.{IsTooLongAfterRounds, IsTooLongToEncode}
 use Rattle.enc_decoder.proofs.SequenceLemmas.{or_assoc, or_false}
 use Rattle.enc_stream.proofs.EncoderProgressLemmas.{none_due, output_rule_is}
 use Rattle.enc_stream.proofs.UnreadTextLemmas.{all_read, chars_after}
@@ -32,6 +33,15 @@ use Rattle.enc_stream.proofs.UnreadTextLemmas.{all_read, chars_after}
 -- the bytes of a text, by an encoder's rule and set
 abbrev bytes_by : EncoderRule → CharacterSet → List ℕ → List ℕ
 bytes_by rule set text = bytes_of_text rule set (with_references rule text)
+
+-- The result of some calls of an encoder without barred characters: the bytes of the whole text are
+-- those written and those of the unread text.
+pub record HasWritten (e : Encoding) (text unread : List ℕ) (state : EncoderState)
+    (wrote : List ℕ) : Type 0 where
+  pub encoding : state.encoding ≡ output_encoding_of e
+  pub barred : state.barred ≡ []
+  pub whole : whole_bytes [] e text ≡ wrote
+      ++ bytes_by (raw_state state).rule state.set unread
 
 -- no call
 pub none_written : (e : Encoding) (text : List ℕ) → HasWritten e text text (fresh_encoder [] e) []
@@ -70,6 +80,51 @@ none_asked {state} written_so_far {all} all_unread none length_is n =
     ∙ ap (λ b. checked_add (from_utf_8_length (output_lengths state.encoding) (length all))
     (room_kept_for_references b state.encoding)) written_so_far.barred
     ∙ ap (λ o. length_to_encode o (length all)) written_so_far.encoding ∙ none
+    )
+
+-- the number of bytes after a call that appends
+length_after_call : (before after : List ℕ) → take (length before) after ≡ before
+    → length after ≡ length before + length (drop (length before) after)
+length_after_call before after keeps =
+    ap length (sym (take-append-drop (length before) after))
+    ∙ length-append (take (length before) after) (drop (length before) after)
+    ∙ ap (λ x. length x + length (drop (length before) after)) keeps
+
+-- One more full call. A length that overflows after it and others does so after all of them.
+pub one_more_round : {e : Encoding} {text rest : List ℕ} (unread before after : List ℕ)
+    {old new : EncoderState}
+    → ((rounds : List EncoderRound) → IsTooLongAfterRounds rounds old unread (length before)
+    → IsTooLongToEncode e text)
+    → {answer : Option ℕ} → answer ≡ remaining_length old (length unread)
+    → checked_add answer (length before) ≢ None
+    → {room : ℕ} → HasRoomFor answer room → 14 ≤ room
+    → (result : CoderResult) → ¬ (result ≡ InputEmpty) → {read : ℕ} {replaced : Bool}
+    → EncodesChunk encode_utf8 (html_mode old) old new (chars unread) true room
+    (encoder_result_of result) read (drop (length before) after) replaced
+    → take (length before) after ≡ before → rest ≡ drop read unread
+    → (rounds : List EncoderRound) → IsTooLongAfterRounds rounds new rest (length after)
+    → IsTooLongToEncode e text
+one_more_round unread before after passes answer_is fits enough least InputEmpty goes_on encodes
+    keeps rest_is rounds later = absurd (goes_on refl)
+one_more_round unread before after {new} passes answer_is fits {room} enough least OutputFull
+    goes_on {read} {replaced} encodes keeps rest_is rounds later =
+    let round : EncoderRound = record {
+      room = room;
+      read = read;
+      wrote = drop (length before) after;
+      replaced = replaced;
+      after = new;
+    } in
+    passes (round ∷ rounds) (
+      record {
+        length_fits = subst (λ (n : Option ℕ). checked_add n (length before) ≢ None) answer_is fits;
+        enough = subst (λ (n : Option ℕ). HasRoomFor n room) answer_is enough;
+        least = least;
+        call = encodes;
+      },
+      subst (λ n. IsTooLongAfterRounds rounds new (drop read unread) n)
+          (length_after_call before after keeps)
+          (subst (λ x. IsTooLongAfterRounds rounds new x (length after)) rest_is later),
     )
 
 -- One more call, whose bytes follow those already written.

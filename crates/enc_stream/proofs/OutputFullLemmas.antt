@@ -456,6 +456,21 @@ in_front {text} {len} answers w l a =
     ∙ ap (λ x. x ++ answers.wrote) w)
     ∙ ap (λ n. take n (text ++ answers.wrote)) (sym l) ∙ take-append_seam text answers.wrote
 
+-- what is written comes out of the spare capacity, so the capacity does not shrink
+pub capacity_stays : {units_of : ℕ → List ℕ} {mode : DecodeErrorMode} {old new : DecoderState}
+    {src : List ℕ} {last : Bool} {before after : Output} {result : DecoderResult} {read : ℕ}
+    {replaced : Bool} {len capacity len_after capacity_after end : ℕ}
+    → AnswersDecodeInto units_of mode old new src last before after result read replaced
+    → length before.written ≡ len → before.room ≡ capacity - len
+    → length after.written ≡ len_after
+    → len_after + after.room ≤ capacity_after → capacity_after ≡ end
+    → capacity ≤ end
+capacity_stays {before} {after} answers len_is room_is len_after_is fits end_is =
+    let len_grows = ap (λ (o : Output). length o.written) answers.onto
+    ∙ length-append before.written answers.wrote in
+    let room_falls = ap (λ (o : Output). o.room) answers.onto in
+    omega (arith, len_is, room_is, len_after_is, fits, end_is, len_grows, room_falls)
+
 -- small texts fit into four units of UTF-8, and two of UTF-16
 pub four_bytes : TakesSmallTexts encode_utf8 4
 four_bytes text s = s.utf_8

@@ -1,19 +1,18 @@
 -- One-shot calls, for whole inputs (Encoding Standard 6, "decode", "UTF-8 decode", "UTF-8 decode
 -- without BOM" and "UTF-8 decode without BOM or fail", for any encoding, and "encode").
-use Rattle.std.specs.Prelude.{◌≡◌, ℕ, ◌≤◌, ◌⊎◌, Bool, true, Option, Some, None, List, [], ◌++◌, chars, length, drop}
-use Rattle.std.specs.Prelude.{if◌then◌else◌}
+use Rattle.std.specs.Prelude.{◌≡◌, ◌≢◌, ℕ, ◌+◌, ◌≤◌, ◌⊎◌, Bool, true, Option, Some, None, List, [], ◌∷◌, max}
+use Rattle.std.specs.Prelude.{chars, length, drop, if◌then◌else◌}
 use Rattle.std.specs.Char.{encode_utf8}
 use Rattle.enc_units.specs.Checked.{checked_add}
-use Rattle.enc_encoder.specs.Text.{bytes_of_text, with_references}
 use Rattle.enc_encoder.specs.Lengths.{from_utf_8_length}
 use Rattle.enc_units.specs.declared.coder_result.CoderResult.TheVariants.{OutputFull}
+use Rattle.enc_units.specs.declared.encoder_result.EncoderResult.TheVariants as encoder_result
 use Rattle.enc_stream.specs.declared.bom.BomHandling.{BomHandling}
 use Rattle.enc_stream.specs.declared.bom.BomHandling.TheVariants.{Off}
 use Rattle.enc_stream.specs.declared.encoding.Encoding.{Encoding}
 use Rattle.enc_stream.specs.declared.lengths.Query.TheVariants.{Utf8, Utf8Reporting}
 use Rattle.enc_stream.specs.Decoding.{DecoderState, fresh_decoder, whole_utf_8, whole_malformed, AnswersDecodeReplacing}
-use Rattle.enc_stream.specs.Encoder.{EncoderState, raw_state, room_kept_for_references}
-use Rattle.enc_stream.specs.Encoder.{whole_bytes}
+use Rattle.enc_stream.specs.Encoder.{EncoderState, EncodesChunk, fresh_encoder, html_mode, room_kept_for_references}
 use Rattle.enc_stream.specs.Properties.{output_encoding_of}
 use Rattle.enc_stream.specs.Lengths.{max_length, output_lengths}
 
@@ -27,17 +26,22 @@ abbrev pub HasRoomFor : Option ℕ → ℕ → Type 0
 HasRoomFor None room = ⊥
 HasRoomFor (Some more) room = more ≤ room
 
+-- there is a length, and the room is that, or four bytes if it is less
+abbrev pub HasRoomExactlyFor : Option ℕ → ℕ → Type 0
+HasRoomExactlyFor None room = ⊥
+HasRoomExactlyFor (Some more) room = room ≡ max more 4
+
 -- the first length query: for the whole input, without replacement
 abbrev pub first_length : BomHandling → Encoding → List ℕ → Option ℕ
 first_length handling e bytes = max_length Utf8Reporting (fresh_decoder handling e) (length bytes)
 
--- A call with the whole input returns `OutputFull`, though its output has at least that length.
+-- The first call, with the whole input and room for exactly the first length, returns `OutputFull`.
 -- Then the length query for the remaining bytes, or its sum with the bytes written, overflows
 -- usize.
 pub record IsTooLongAfterFull (handling : BomHandling) (e : Encoding)
     (bytes : List ℕ) : Type 0 where
   pub room : ℕ
-  pub enough : HasRoomFor (first_length handling e bytes) room
+  pub exact : HasRoomExactlyFor (first_length handling e bytes) room
   pub state : DecoderState
   pub read : ℕ
   pub wrote : List ℕ
@@ -53,29 +57,57 @@ abbrev pub IsTooLong : BomHandling → Encoding → List ℕ → Type 0
 IsTooLong handling e bytes = (first_length handling e bytes ≡ None)
     ⊎ IsTooLongAfterFull handling e bytes
 
--- The result of some calls of an encoder without barred characters: the bytes of the whole text are
--- those written and those of the unread text.
-pub record HasWritten (e : Encoding) (text unread : List ℕ) (state : EncoderState)
-    (wrote : List ℕ) : Type 0 where
-  pub encoding : state.encoding ≡ output_encoding_of e
-  pub barred : state.barred ≡ []
-  pub whole : whole_bytes [] e text ≡ wrote
-      ++ bytes_of_text (raw_state state).rule state.set
-      (with_references (raw_state state).rule unread)
+-- Memory is asked for: the input is not empty, and the first length query does not overflow usize.
+pub record MayLackMemory (handling : BomHandling) (e : Encoding) (bytes : List ℕ) : Type 0 where
+  pub some : bytes ≢ []
+  pub length_fits : first_length handling e bytes ≢ None
 
 -- the length query of an encoder for n remaining bytes of UTF-8
+abbrev pub remaining_length : EncoderState → ℕ → Option ℕ
+remaining_length v n = checked_add (from_utf_8_length (output_lengths v.encoding) n)
+    (room_kept_for_references v.barred v.encoding)
+
+-- the first length query, for an output encoding and the length of the whole text
 abbrev pub length_to_encode : Encoding → ℕ → Option ℕ
 length_to_encode e n =
     checked_add (from_utf_8_length (output_lengths e) n) (room_kept_for_references [] e)
 
--- For a suffix of the text, in UTF-8, the length query, or its sum with the bytes written,
--- overflows usize.
-pub record IsTooLongToEncode (e : Encoding) (text : List ℕ) : Type 0 where
-  pub front : List ℕ
-  pub unread : List ℕ
-  pub rest : text ≡ front ++ unread
-  pub state : EncoderState
+-- a call of an encoder: its room, the number of bytes read, the bytes written, whether a reference
+-- is among them, and the state after it
+pub record EncoderRound : Type 0 where
+  pub room : ℕ
+  pub read : ℕ
   pub wrote : List ℕ
-  pub written : HasWritten e (chars text) (chars unread) state wrote
-  pub passes : checked_add (length_to_encode (output_encoding_of e) (length unread)) (length wrote)
-      ≡ None
+  pub replaced : Bool
+  pub after : EncoderState
+
+-- A call with the unread text, after `written` bytes, returns `OutputFull`. The length query
+-- before it does not overflow usize, and its room is at least that length.
+pub record IsFullRound (state : EncoderState) (unread : List ℕ) (written : ℕ)
+    (round : EncoderRound) : Type 0 where
+  pub length_fits : checked_add (remaining_length state (length unread)) written ≢ None
+  pub enough : HasRoomFor (remaining_length state (length unread)) round.room
+  pub least : 14 ≤ round.room
+  pub call : EncodesChunk encode_utf8 (html_mode state) state round.after (chars unread) true
+      round.room encoder_result.OutputFull round.read round.wrote round.replaced
+
+-- These calls are made in turn, each full, the first in this state with this text. Then the length
+-- query for the unread text, or its sum with the bytes written, overflows usize.
+abbrev pub IsTooLongAfterRounds : List EncoderRound → EncoderState → List ℕ → ℕ → Type 0
+IsTooLongAfterRounds [] state unread written =
+    checked_add (remaining_length state (length unread)) written ≡ None
+IsTooLongAfterRounds (round ∷ rounds) state unread written =
+    IsFullRound state unread written round
+    × IsTooLongAfterRounds rounds round.after (drop round.read unread)
+    (written + length round.wrote)
+
+-- After full calls, or none, from the start of the text a length query, or its sum with the bytes
+-- written, overflows usize.
+pub record IsTooLongToEncode (e : Encoding) (text : List ℕ) : Type 0 where
+  pub rounds : List EncoderRound
+  pub passes : IsTooLongAfterRounds rounds (fresh_encoder [] e) text 0
+
+-- Memory is asked for: the text is not empty, and the first length query does not overflow usize.
+pub record MayLackMemoryToEncode (e : Encoding) (text : List ℕ) : Type 0 where
+  pub some : text ≢ []
+  pub length_fits : length_to_encode (output_encoding_of e) (length text) ≢ None

@@ -505,7 +505,8 @@ impl Decoder {
     /// which may be 0. Returns why the call stopped, the number of bytes read from `src`, and
     /// whether a malformed sequence was replaced.
     ///
-    /// Appends within the capacity: takes no memory. Condition: the decoder is not finished.
+    /// Appends within the capacity, which does not shrink: takes no memory. Condition: the decoder
+    /// is not finished.
     pub fn decode_to_string(
         &mut self,
         src: &[u8],
@@ -519,6 +520,7 @@ impl Decoder {
         ensures read { result.1 ≤ length src.now }
         ensures appended { take (length (string_bytes dst.old)) (string_bytes dst.new)
             ≡ string_bytes dst.old }
+        ensures capacity { string_capacity dst.old ≤ string_capacity dst.new }
         ensures ended { has_finished self.new ≡ reaches_end last (decoder_result_of result.0) }
         ensures progress { (result.0 ≡ CoderResult.InputEmpty → ⊥) →
             4 ≤ string_capacity dst.old - string_len dst.old →
@@ -534,7 +536,8 @@ impl Decoder {
     /// String's spare capacity, which may be 0. Returns why the call stopped, and the number of
     /// bytes read from `src`.
     ///
-    /// Appends within the capacity: takes no memory. Condition: the decoder is not finished.
+    /// Appends within the capacity, which does not shrink: takes no memory. Condition: the decoder
+    /// is not finished.
     pub fn decode_to_string_without_replacement(
         &mut self,
         src: &[u8],
@@ -548,6 +551,7 @@ impl Decoder {
         ensures read { result.1 ≤ length src.now }
         ensures appended { take (length (string_bytes dst.old)) (string_bytes dst.new)
             ≡ string_bytes dst.old }
+        ensures capacity { string_capacity dst.old ≤ string_capacity dst.new }
         ensures ended { has_finished self.new ≡ reaches_end last result.0 }
         ensures progress { (result.0 ≡ DecoderResult.InputEmpty → ⊥) →
             4 ≤ string_capacity dst.old - string_len dst.old →

@@ -277,6 +277,10 @@ impl Encoder {
         ensures progress { (result.0 ≡ CoderResult.InputEmpty → ⊥) → 14 ≤ length dst.old →
             LeavesFewerSteps self.old self.new last
             (chars src.now) (chars (drop result.1 src.now)) }
+        ensures progress_if_none_kept { (result.0 ≡ CoderResult.InputEmpty → ⊥) →
+            room_kept_for_references self.old.barred self.old.encoding ≡ 0 → 4 ≤ length dst.old →
+            LeavesFewerSteps self.old self.new last
+            (chars src.now) (chars (drop result.1 src.now)) }
     {
         let mut chars = Utf8Chars::new(src);
         self.encode_replacing(&mut chars, dst, last)
@@ -302,6 +306,10 @@ impl Encoder {
         ensures progress { (result.0 ≡ CoderResult.InputEmpty → ⊥) → 14 ≤ length dst.old →
             LeavesFewerSteps self.old self.new last
             (utf16_lossy_chars src.now) (utf16_lossy_chars (drop result.1 src.now)) }
+        ensures progress_if_none_kept { (result.0 ≡ CoderResult.InputEmpty → ⊥) →
+            room_kept_for_references self.old.barred self.old.encoding ≡ 0 → 4 ≤ length dst.old →
+            LeavesFewerSteps self.old self.new last
+            (utf16_lossy_chars src.now) (utf16_lossy_chars (drop result.1 src.now)) }
     {
         let mut units = Utf16Chars::new(src);
         self.encode_replacing(&mut units, dst, last)
@@ -311,7 +319,8 @@ impl Encoder {
     ///
     /// The same as [`Encoder::encode_from_utf8`] into a slice as long as the Vec's spare capacity,
     /// which may be 0. Returns why the call stopped, the number of bytes read from `src`, and
-    /// whether a reference was written. Appends within the capacity: takes no memory.
+    /// whether a reference was written. Appends within the capacity, which does not shrink: takes
+    /// no memory.
     pub fn encode_from_utf8_to_vec(
         &mut self,
         src: &str,
@@ -325,8 +334,14 @@ impl Encoder {
         ensures read { result.1 ≤ length src.now }
         ensures boundary { IsCharBoundary src.now result.1 }
         ensures appended { take (length dst.old.items) dst.new.items ≡ dst.old.items }
+        ensures capacity { vec_capacity dst.old ≤ vec_capacity dst.new }
         ensures progress { (result.0 ≡ CoderResult.InputEmpty → ⊥) →
             14 ≤ vec_capacity dst.old - vec_len dst.old →
+            LeavesFewerSteps self.old self.new last
+            (chars src.now) (chars (drop result.1 src.now)) }
+        ensures progress_if_none_kept { (result.0 ≡ CoderResult.InputEmpty → ⊥) →
+            room_kept_for_references self.old.barred self.old.encoding ≡ 0 →
+            4 ≤ vec_capacity dst.old - vec_len dst.old →
             LeavesFewerSteps self.old self.new last
             (chars src.now) (chars (drop result.1 src.now)) }
     {
@@ -341,7 +356,7 @@ impl Encoder {
     ///
     /// The same as [`Encoder::encode_from_utf8_without_replacement`] into a slice as long as the
     /// Vec's spare capacity, which may be 0. Returns why the call stopped, and the number of bytes
-    /// read from `src`. Appends within the capacity: takes no memory.
+    /// read from `src`. Appends within the capacity, which does not shrink: takes no memory.
     pub fn encode_from_utf8_to_vec_without_replacement(
         &mut self,
         src: &str,
@@ -357,6 +372,7 @@ impl Encoder {
         ensures read { result.1 ≤ length src.now }
         ensures boundary { IsCharBoundary src.now result.1 }
         ensures appended { take (length dst.old.items) dst.new.items ≡ dst.old.items }
+        ensures capacity { vec_capacity dst.old ≤ vec_capacity dst.new }
         ensures progress { (result.0 ≡ EncoderResult.InputEmpty → ⊥) →
             4 ≤ vec_capacity dst.old - vec_len dst.old →
             LeavesFewerSteps self.old self.new last

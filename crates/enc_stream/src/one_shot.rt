@@ -1,7 +1,7 @@
 //! One-shot calls, for whole inputs.
 
 ghost use Rattle.std.specs.Prelude.{◌≡◌, ◌≢◌, ◌-◌, ◌≤◌, [], true, false, chars, length, option_map};
-ghost use Rattle.std.specs.Prelude.{IfOk, IsOk, IfErr, IsErrOf, OnOk, OnErr, Some, None};
+ghost use Rattle.std.specs.Prelude.{IfOk, IsOk, IfErr, IsErrOf, IfSome, OnOk, OnErr, Some, None};
 ghost use Rattle.std.specs.Vec.{vec_len, vec_capacity};
 ghost use Rattle.std.specs.String.{string_bytes, string_len, string_capacity};
 ghost use Rattle.enc_units.specs.Checked.{checked_add};
@@ -11,8 +11,10 @@ ghost use Rattle.enc_stream.specs.Encodings.{output_rule};
 ghost use Rattle.enc_stream.specs.Properties.{output_encoding_of};
 ghost use Rattle.enc_stream.specs.Decoding.{whole_encoding, whole_utf_8, whole_malformed};
 ghost use Rattle.enc_stream.specs.Encoder.{whole_bytes};
-ghost use Rattle.enc_stream.specs.OneShot.{utf_8_without_replacement, HasRoomFor, first_length};
-ghost use Rattle.enc_stream.specs.OneShot.{length_to_encode, IsTooLong, IsTooLongToEncode};
+ghost use Rattle.enc_stream.specs.OneShot.{utf_8_without_replacement, HasRoomFor};
+ghost use Rattle.enc_stream.specs.OneShot.{HasRoomExactlyFor, first_length, length_to_encode};
+ghost use Rattle.enc_stream.specs.OneShot.{IsTooLong, IsTooLongToEncode};
+ghost use Rattle.enc_stream.specs.OneShot.{MayLackMemory, MayLackMemoryToEncode};
 
 use crate::bom::BomHandling;
 use crate::decoder::Decoder;
@@ -29,13 +31,16 @@ pub enum OneShotError {
     TooLong = 2,
 }
 
+const _: () = prove!(OneShotError::Memory as u8 == 1);
+
+const _: () = prove!(OneShotError::TooLong as u8 == 2);
+
 /// Returns a length to allocate, if it does not overflow after `written` bytes.
 fn length_after(length: Option<usize>, written: usize) -> Result<usize, OneShotError>
     ensures value { IfOk result (λ more. length ≡ Some more) }
     ensures fault { IfErr result (λ fault. fault ≡ OneShotError.TooLong) }
     ensures too_long { OnErr result (checked_add length written ≡ None) }
     ensures fits { OnOk result (checked_add length written ≢ None) }
-    ensures alone { OnErr result (written ≡ 0 → length ≡ None) }
 {
     let Some(length) = length else {
         return Err(OneShotError::TooLong);
@@ -43,6 +48,35 @@ fn length_after(length: Option<usize>, written: usize) -> Result<usize, OneShotE
     match length.checked_add(written) {
         Some(_) => Ok(length),
         None => Err(OneShotError::TooLong),
+    }
+}
+
+/// Returns an empty String. Takes no memory.
+fn empty_text(alloc: Global) -> String
+    ensures bytes { string_bytes result ≡ [] }
+    ensures capacity { string_capacity result ≡ 0 }
+{
+    match String::with_capacity(alloc, 0) {
+        Ok(text) => text,
+        Err(_) => unreachable!(),
+    }
+}
+
+/// Returns an empty String with room for `length` bytes, and for one character at least.
+fn text_with_room(alloc: Global, length: Option<usize>) -> Result<String, OneShotError>
+    ensures bytes { IfOk result (λ text. string_bytes text ≡ []) }
+    ensures room { IfOk result (λ text.
+        HasRoomExactlyFor length (string_capacity text - string_len text)) }
+    ensures too_long { IsErrOf result OneShotError.TooLong → length ≡ None }
+    ensures none { length ≡ None → IsErrOf result OneShotError.TooLong }
+    ensures memory { IsErrOf result OneShotError.Memory → length ≢ None }
+{
+    let Some(more) = length else {
+        return Err(OneShotError::TooLong);
+    };
+    match String::with_capacity(alloc, more.max(4)) {
+        Ok(text) => Ok(text),
+        Err(_) => Err(OneShotError::Memory),
     }
 }
 
@@ -56,8 +90,8 @@ fn make_room(text: &mut String, length: Option<usize>) -> Result<(), OneShotErro
         → checked_add length (string_len text.old) ≡ None }
     ensures none { checked_add length (string_len text.old) ≡ None
         → IsErrOf result OneShotError.TooLong }
-    ensures alone { IsErrOf result OneShotError.TooLong
-        → string_bytes text.old ≡ [] → length ≡ None }
+    ensures memory { IsErrOf result OneShotError.Memory
+        → checked_add length (string_len text.old) ≢ None }
 {
     let more = length_after(length, text.len())?;
     match text.reserve(more.max(4)) {
@@ -70,10 +104,13 @@ fn make_room(text: &mut String, length: Option<usize>) -> Result<(), OneShotErro
 fn make_byte_room(bytes: &mut Vec<u8>, length: Option<usize>) -> Result<(), OneShotError>
     ensures bytes { bytes.new.items ≡ bytes.old.items }
     ensures room { OnOk result (14 ≤ vec_capacity bytes.new - vec_len bytes.new) }
+    ensures enough { OnOk result (HasRoomFor length (vec_capacity bytes.new - vec_len bytes.new)) }
     ensures too_long { IsErrOf result OneShotError.TooLong
         → checked_add length (vec_len bytes.old) ≡ None }
     ensures none { checked_add length (vec_len bytes.old) ≡ None
         → IsErrOf result OneShotError.TooLong }
+    ensures memory { IsErrOf result OneShotError.Memory
+        → checked_add length (vec_len bytes.old) ≢ None }
 {
     let more = length_after(length, bytes.len())?;
     match bytes.reserve(more.max(14)) {
@@ -98,15 +135,17 @@ fn decode_whole(
     ensures too_long { IsErrOf result OneShotError.TooLong → IsTooLong handling encoding bytes.now }
     ensures first { bytes.now ≢ [] → first_length handling encoding bytes.now ≡ None
         → IsErrOf result OneShotError.TooLong }
+    ensures memory { IsErrOf result OneShotError.Memory
+        → MayLackMemory handling encoding bytes.now }
     ensures empty { bytes.now ≡ [] → IsOk result }
+    ensures capacity { bytes.now ≡ [] → IfOk result (λ answer. string_capacity answer.0 ≡ 0) }
 {
-    let mut text = String::new(alloc);
     if bytes.is_empty() {
-        return Ok((text, false));
+        return Ok((empty_text(alloc), false));
     }
     let mut decoder = Decoder::start(encoding, handling);
     let length = decoder.max_utf8_buffer_length_without_replacement(bytes.len());
-    make_room(&mut text, length)?;
+    let mut text = text_with_room(alloc, length)?;
     let (stop, read, had_errors) = decoder.decode_to_string(bytes, &mut text, true);
     if stop == CoderResult::InputEmpty {
         return Ok((text, had_errors));
@@ -146,7 +185,10 @@ impl Encoding {
             → IsTooLong handling.Sniff self bytes.now }
         ensures first { bytes.now ≢ [] → first_length handling.Sniff self bytes.now ≡ None
             → IsErrOf result OneShotError.TooLong }
+        ensures memory { IsErrOf result OneShotError.Memory
+            → MayLackMemory handling.Sniff self bytes.now }
         ensures empty { bytes.now ≡ [] → IsOk result }
+        ensures capacity { bytes.now ≡ [] → IfOk result (λ answer. string_capacity answer.0 ≡ 0) }
     {
         let (text, had_errors) = decode_whole(alloc, self, BomHandling::Sniff, bytes)?;
         let encoding = match Encoding::for_bom(bytes) {
@@ -173,7 +215,10 @@ impl Encoding {
             → IsTooLong handling.Remove self bytes.now }
         ensures first { bytes.now ≢ [] → first_length handling.Remove self bytes.now ≡ None
             → IsErrOf result OneShotError.TooLong }
+        ensures memory { IsErrOf result OneShotError.Memory
+            → MayLackMemory handling.Remove self bytes.now }
         ensures empty { bytes.now ≡ [] → IsOk result }
+        ensures capacity { bytes.now ≡ [] → IfOk result (λ answer. string_capacity answer.0 ≡ 0) }
     {
         decode_whole(alloc, self, BomHandling::Remove, bytes)
     }
@@ -196,7 +241,10 @@ impl Encoding {
             → IsTooLong handling.Off self bytes.now }
         ensures first { bytes.now ≢ [] → first_length handling.Off self bytes.now ≡ None
             → IsErrOf result OneShotError.TooLong }
+        ensures memory { IsErrOf result OneShotError.Memory
+            → MayLackMemory handling.Off self bytes.now }
         ensures empty { bytes.now ≡ [] → IsOk result }
+        ensures capacity { bytes.now ≡ [] → IfOk result (λ answer. string_capacity answer.0 ≡ 0) }
     {
         decode_whole(alloc, self, BomHandling::Off, bytes)
     }
@@ -217,15 +265,18 @@ impl Encoding {
             → first_length handling.Off self bytes.now ≡ None }
         ensures first { bytes.now ≢ [] → first_length handling.Off self bytes.now ≡ None
             → IsErrOf result OneShotError.TooLong }
+        ensures memory { IsErrOf result OneShotError.Memory
+            → MayLackMemory handling.Off self bytes.now }
         ensures empty { bytes.now ≡ [] → IsOk result }
+        ensures capacity { bytes.now ≡ [] → IfOk result (λ answer.
+            IfSome answer (λ text. string_capacity text ≡ 0)) }
     {
-        let mut text = String::new(alloc);
         if bytes.is_empty() {
-            return Ok(Some(text));
+            return Ok(Some(empty_text(alloc)));
         }
         let mut decoder = Decoder::start(self, BomHandling::Off);
         let length = decoder.max_utf8_buffer_length_without_replacement(bytes.len());
-        make_room(&mut text, length)?;
+        let mut text = text_with_room(alloc, length)?;
         let (stop, _) = decoder.decode_to_string_without_replacement(bytes, &mut text, true);
         match stop {
             DecoderResult::InputEmpty => Ok(Some(text)),
@@ -255,7 +306,10 @@ impl Encoding {
         ensures first { text.now ≢ []
             → length_to_encode (output_encoding_of self) (length text.now) ≡ None
             → IsErrOf result OneShotError.TooLong }
+        ensures memory { IsErrOf result OneShotError.Memory
+            → MayLackMemoryToEncode self text.now }
         ensures empty { text.now ≡ [] → IsOk result }
+        ensures capacity { text.now ≡ [] → IfOk result (λ answer. vec_capacity answer.0 ≡ 0) }
     {
         let mut bytes = Vec::new(alloc);
         let mut encoder = self.new_encoder();

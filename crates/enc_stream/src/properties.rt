@@ -52,8 +52,8 @@ impl Encoding {
 
     /// Returns whether bytes below 0x80 are the ASCII characters with their numbers.
     ///
-    /// Then these characters are also written so. False for replacement, UTF-16BE, UTF-16LE and
-    /// ISO-2022-JP, and true otherwise. Takes no memory.
+    /// Then these characters are also written so, by `laws::ascii_compatible_encode_ascii`. False
+    /// for replacement, UTF-16BE, UTF-16LE and ISO-2022-JP, and true otherwise. Takes no memory.
     pub fn is_ascii_compatible(self) -> bool
         ensures { result ≡ is_ascii_compatible self }
     {

@@ -1,6 +1,6 @@
 -- Text encoded in an output encoding is decoded back.
 use Rattle.std.proofs.Common.{◌≡◌, ◌≢◌, ℕ, ◌<◌, true, false, is_some, Option, Some, None, List, [], ◌∷◌, map, refl, ap}
-use Rattle.std.proofs.Common.{◌∙◌, arith, inl}
+use Rattle.std.proofs.Common.{◌∙◌, arith, inl, not}
 use Rattle.std.proofs.lemmas.Bool.{and_from}
 use Rattle.std.proofs.lemmas.Bool.Decides.{nat_tests}
 use Rattle.std.specs.Char.{IsScalar}
@@ -15,11 +15,11 @@ use Rattle.enc_encoder.specs.Text.{reference, with_reference, with_references, b
 use Rattle.enc_encoder.proofs.TextLemmas.{AreOfReferences, reference_is}
 use Rattle.enc_encode.specs.Encoders.{encoder_rule}
 use Rattle.enc_encoder.specs.Unmappable.{any_unmappable}
-use Rattle.enc_round_trip.specs.RoundTrip.{char_read_back, keeps_characters}
+use Rattle.enc_round_trip.specs.RoundTrip.{char_read_back, any_read_as_other, keeps_characters}
 use Rattle.enc_round_trip.proofs.ReadBackLemmas.{IsReadAs}
 use Rattle.enc_round_trip.proofs.RoundTripLemmas.{is_read, same_text}
 use Rattle.enc_names.specs.declared.encoding_id.EncodingId.{EncodingId}
-use Rattle.enc_names.specs.declared.encoding_id.EncodingId.TheVariants.{EucJp, ShiftJis, Iso2022Jp}
+use Rattle.enc_names.specs.declared.encoding_id.EncodingId.TheVariants.{Gbk, Gb18030, EucJp, ShiftJis, Iso2022Jp}
 use Rattle.enc_stream.specs.declared.encoding.Encoding.{Encoding}
 use Rattle.enc_names.specs.EncodingTable.{codec_by_id}
 use Rattle.enc_stream.specs.Encodings.{rule_or_utf_8, output_rule, rule_of}
@@ -48,14 +48,17 @@ pub decoded : (b : List ℕ) (e : Encoding) (t : List ℕ) → AreScalars t
 decoded b e t s m = is_read (codec_by_id (output_encoding_of e).id) b
     (rule_or_utf_8 (encoder_rule (codec_by_id e.id))) t (encoder_is e) s m
 
--- all but three give each character back
+-- all but three give each character back, and two of them all but some
 
-keeps : (id : EncodingId) → (id ≡ EucJp → ⊥) → (id ≡ ShiftJis → ⊥) → (id ≡ Iso2022Jp → ⊥)
-    → keeps_characters (codec_by_id id) ≡ true
-keeps EucJp euc shift iso = absurd (euc refl)
-keeps ShiftJis euc shift iso = absurd (shift refl)
-keeps Iso2022Jp euc shift iso = absurd (iso refl)
-keeps _ euc shift iso = refl
+keeps : (id : EncodingId) (t : List ℕ) → (id ≡ EucJp → ⊥) → (id ≡ ShiftJis → ⊥)
+    → (id ≡ Iso2022Jp → ⊥) → (id ≡ Gbk → any_read_as_other t ≡ false)
+    → (id ≡ Gb18030 → any_read_as_other t ≡ false) → keeps_characters (codec_by_id id) t ≡ true
+keeps EucJp t euc shift iso gbk gb18030 = absurd (euc refl)
+keeps ShiftJis t euc shift iso gbk gb18030 = absurd (shift refl)
+keeps Iso2022Jp t euc shift iso gbk gb18030 = absurd (iso refl)
+keeps Gbk t euc shift iso gbk gb18030 = ap not (gbk refl)
+keeps Gb18030 t euc shift iso gbk gb18030 = ap not (gb18030 refl)
+keeps _ t euc shift iso gbk gb18030 = refl
 
 of_id : EncodingId → Encoding
 of_id id = record { id = id }
@@ -64,14 +67,16 @@ pub decoded_text : (b : List ℕ) (e : Encoding) (t : List ℕ) → AreScalars t
     → any_unmappable (output_rule b e) t ≡ false
     → output_encoding_of e ≢ record { id = EucJp } → output_encoding_of e ≢ record { id = ShiftJis }
     → output_encoding_of e ≢ record { id = Iso2022Jp }
+    → (output_encoding_of e ≡ record { id = Gbk } → any_read_as_other t ≡ false)
+    → (output_encoding_of e ≡ record { id = Gb18030 } → any_read_as_other t ≡ false)
     → sequence_text (sequences_of (rule_of (output_encoding_of e)) 0
     (bytes_of_text (output_rule b e) Ascii t)) ≡ t
 unfolding of_id
-decoded_text b e t s m euc shift iso =
+decoded_text b e t s m euc shift iso gbk gb18030 =
     same_text (codec_by_id (output_encoding_of e).id) b
     (rule_or_utf_8 (encoder_rule (codec_by_id e.id))) t (encoder_is e) s m
-    (keeps (output_encoding_of e).id (λ q. euc (ap of_id q)) (λ q. shift (ap of_id q))
-    (λ q. iso (ap of_id q)))
+    (keeps (output_encoding_of e).id t (λ q. euc (ap of_id q)) (λ q. shift (ap of_id q))
+    (λ q. iso (ap of_id q)) (λ q. gbk (ap of_id q)) (λ q. gb18030 (ap of_id q)))
 
 -- references are of scalar values
 

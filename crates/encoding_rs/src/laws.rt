@@ -27,15 +27,18 @@ ghost use Rattle.enc_decoder.specs.Remainder.{AreBytes, Determines};
 ghost use Rattle.enc_decoder.specs.RuleLaws.{HasTexts, IsLookahead, IsDeterminedByEnd};
 ghost use Rattle.enc_decoder.specs.Lookahead.{CoverLookahead};
 ghost use Rattle.encoding_rs.specs.Lookahead.{MayLook, mark_found, rule_found, after_mark_found};
-ghost use Rattle.enc_round_trip.specs.RoundTrip.{char_read_back};
+ghost use Rattle.enc_round_trip.specs.RoundTrip.{char_read_back, any_read_as_other};
 ghost use Rattle.enc_units.specs.Output.{AreScalars};
 ghost use Rattle.enc_units.specs.Validity.{IsWellFormedUtf8};
 
 pub use enc_stream::laws::{
-    ascii_compatible_decode_ascii, iso_8859_8_differs, labels_name_one_encoding,
-    second_constants_are_equal, single_byte_decode_bytes,
+    ascii_compatible_decode_ascii, ascii_compatible_encode_ascii, constants_have_their_names,
+    iso_8859_8_differs, labels_name_one_encoding, second_constants_are_equal,
+    single_byte_decode_bytes,
 };
-use enc_stream::{BomHandling, EUC_JP, Encoding, ISO_2022_JP, REPLACEMENT, SHIFT_JIS, UTF_8};
+use enc_stream::{
+    BomHandling, EUC_JP, Encoding, GB18030, GBK, ISO_2022_JP, REPLACEMENT, SHIFT_JIS, UTF_8,
+};
 use std::hash::{Hash, Hasher};
 
 /// In UTF-8 every sequence has a text: a character, or U+FFFD for a malformed one.
@@ -51,6 +54,16 @@ pub fn has_texts(encoding: Encoding)
         → HasTexts (rule_of encoding) }
 {
     let _ = (encoding, REPLACEMENT, ISO_2022_JP);
+}
+
+/// The elements of a slice of bytes are bytes: each is below 256.
+///
+/// Length queries of decoders ask for it in their clause `enough`, and
+/// [`lookahead_is_exact`] does.
+pub fn slices_are_bytes(bytes: &[u8])
+    ensures { AreBytes bytes.now }
+{
+    let _ = bytes;
 }
 
 /// Bytes are well-formed UTF-8 exactly if the UTF-8 decoder finds no malformed sequence in them.
@@ -198,8 +211,8 @@ pub fn barred_characters_are_unmappable(encoding: Encoding)
 
 /// Encoded text decodes again, in the same encoding (Encoding Standard 4.1).
 ///
-/// The law holds whatever entries the indexes have and whatever characters are barred. No byte
-/// order mark is looked for.
+/// The law holds whatever characters are barred, and whatever entries the indexes have, but for
+/// those of the bytes of 18 characters of private use in gb18030. No byte order mark is looked for.
 pub fn encoded_text_decodes_back(encoding: Encoding)
     // The bytes of a text whose characters are all mappable have no malformed sequence.
     ensures well_formed { (barred text : List ℕ) → AreScalars text
@@ -207,15 +220,18 @@ pub fn encoded_text_decodes_back(encoding: Encoding)
         → whole_malformed handling.Off (output_encoding_of encoding)
         (bytes_of_text (output_rule barred encoding) Ascii text) ≡ false }
 
-    // They decode to the same text, except in EUC-JP, Shift_JIS and ISO-2022-JP.
+    // They decode to the same text, except in EUC-JP, Shift_JIS and ISO-2022-JP; in gb18030 and GBK
+    // if it has none of the 18 characters of private use that they read back as others.
     ensures same_text { (barred text : List ℕ) → AreScalars text
         → any_unmappable (output_rule barred encoding) text ≡ false
         → output_encoding_of encoding ≢ EUC_JP → output_encoding_of encoding ≢ SHIFT_JIS
         → output_encoding_of encoding ≢ ISO_2022_JP
+        → (output_encoding_of encoding ≡ GBK → any_read_as_other text ≡ false)
+        → (output_encoding_of encoding ≡ GB18030 → any_read_as_other text ≡ false)
         → sequence_text (whole_sequences handling.Off (output_encoding_of encoding)
         (bytes_of_text (output_rule barred encoding) Ascii text)) ≡ text }
 
-    // In those three too each character decodes to one character: itself, or another with its
+    // In those five too each character decodes to one character: itself, or another with its
     // bytes.
     ensures characters { (barred text : List ℕ) → AreScalars text
         → any_unmappable (output_rule barred encoding) text ≡ false
@@ -228,5 +244,5 @@ pub fn encoded_text_decodes_back(encoding: Encoding)
         → whole_malformed handling.Off (output_encoding_of encoding)
         (whole_bytes barred encoding text) ≡ false }
 {
-    let _ = (encoding, EUC_JP, SHIFT_JIS, ISO_2022_JP);
+    let _ = (encoding, EUC_JP, SHIFT_JIS, ISO_2022_JP, GBK, GB18030);
 }

@@ -60,6 +60,8 @@ pub enum RunError {
     Memory = 1,
 }
 
+const _: () = prove!(RunError::Memory as u8 == 1);
+
 /// The result of one call of a run.
 #[derive(Clone, Copy)]
 struct Made {

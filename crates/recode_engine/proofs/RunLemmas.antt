@@ -324,6 +324,11 @@ RunsToFault-none from to t k = record {
 
 -- a run as a whole, by how it has ended
 
+IfSome-always : (known : Option (List ℕ)) {P : List ℕ → Type 0} → ((all : List ℕ) → P all)
+    → IfSome known P
+IfSome-always None h = tt
+IfSome-always (Some all) h = h all
+
 no_fault : (replaced : Bool) (fault : RecodeFault) → IsErrOf (Ok replaced) fault → ⊥
 no_fault replaced fault e = cc
 
@@ -335,7 +340,13 @@ write_is_no_read : (r : Result Bool RecodeFault) → r ≡ Err side_fault.Write
     → IsErrOf r side_fault.Read → ⊥
 write_is_no_read r e f = cc
 
-module _ {from to : Encoding} {source_before source_after sink_before sink_after : Side} where
+neither_failed : {a b : Bool} → a ≡ false → b ≡ false → (a || b) ≡ false
+neither_failed {b = b} e f = ap (λ x. x || b) e ∙ f
+
+-- a run that is begun, since neither side has failed before
+module _ {from to : Encoding} {source_before source_after sink_before sink_after : Side}
+    (source_going : source_before.has_failed ≡ false)
+    (sink_going : sink_before.has_failed ≡ false) where
   pub IsRecodeRun-ok : {r : Result Bool RecodeFault} {replaced : Bool} → r ≡ Ok replaced
       → RunsToEnd from to source_before.bytes source_after.bytes sink_before.bytes sink_after.bytes
       replaced
@@ -350,27 +361,39 @@ module _ {from to : Encoding} {source_before source_after sink_before sink_after
         err = tt;
         read_fault = λ f. absurd (no_fault replaced side_fault.Read f);
         write_fault = λ f. absurd (no_fault replaced side_fault.Write f);
+        read_alone = λ f. absurd (no_fault replaced side_fault.Read f);
+        write_alone = λ f. absurd (no_fault replaced side_fault.Write f);
+        failed_source = λ f. absurd (false≢true (sym source_going ∙ f));
+        failed_sink = λ _ f. absurd (false≢true (sym sink_going ∙ f));
+        not_begun = λ f. absurd (false≢true (sym (neither_failed source_going sink_going) ∙ f));
       })
 
   pub IsRecodeRun-read : RunsToFault from to source_before.bytes source_after.bytes
       sink_before.bytes sink_after.bytes
       → IfSome source_before.bytes (λ all. length all < 2 ^ 62 → source_after.has_failed ≡ true)
+      → sink_after.has_failed ≡ sink_before.has_failed
       → IsRecodeRun from to source_before source_after sink_before sink_after (Err side_fault.Read)
-  IsRecodeRun-read stops failed = record {
+  IsRecodeRun-read stops failed sink = record {
     ok = tt;
     source_kept = tt;
     sink_kept = tt;
     err = stops;
     read_fault = λ _. failed;
     write_fault = λ f. absurd (reads_is_no_write (Err side_fault.Read) refl f);
+    read_alone = λ _. sink;
+    write_alone = λ f. absurd (reads_is_no_write (Err side_fault.Read) refl f);
+    failed_source = λ f. absurd (false≢true (sym source_going ∙ f));
+    failed_sink = λ _ f. absurd (false≢true (sym sink_going ∙ f));
+    not_begun = λ f. absurd (false≢true (sym (neither_failed source_going sink_going) ∙ f));
   }
 
   pub IsRecodeRun-write : {r : Result Bool RecodeFault} → r ≡ Err side_fault.Write
       → RunsToFault from to source_before.bytes source_after.bytes sink_before.bytes
       sink_after.bytes
       → sink_after.has_failed ≡ true
+      → source_after.has_failed ≡ source_before.has_failed
       → IsRecodeRun from to source_before source_after sink_before sink_after r
-  IsRecodeRun-write e stops failed =
+  IsRecodeRun-write e stops failed source =
       rw e (record {
         ok = tt;
         source_kept = tt;
@@ -378,7 +401,46 @@ module _ {from to : Encoding} {source_before source_after sink_before sink_after
         err = stops;
         read_fault = λ f. absurd (write_is_no_read (Err side_fault.Write) refl f);
         write_fault = λ _. failed;
+        read_alone = λ f. absurd (write_is_no_read (Err side_fault.Write) refl f);
+        write_alone = λ _. source;
+        failed_source = λ f. absurd (false≢true (sym source_going ∙ f));
+        failed_sink = λ _ f. absurd (false≢true (sym sink_going ∙ f));
+        not_begun = λ f. absurd (false≢true (sym (neither_failed source_going sink_going) ∙ f));
       })
+
+-- a run that is not begun, since a side has failed before
+module _ {from to : Encoding} {source sink : Side} where
+  pub IsRecodeRun-failed_source : source.has_failed ≡ true
+      → IsRecodeRun from to source source sink sink (Err side_fault.Read)
+  IsRecodeRun-failed_source failed = record {
+    ok = tt;
+    source_kept = tt;
+    sink_kept = tt;
+    err = RunsToFault-none from to source.bytes sink.bytes;
+    read_fault = λ _. IfSome-always source.bytes (λ all few. failed);
+    write_fault = λ f. absurd (reads_is_no_write (Err side_fault.Read) refl f);
+    read_alone = λ _. refl;
+    write_alone = λ _. refl;
+    failed_source = λ _. refl;
+    failed_sink = λ going. absurd (false≢true (sym going ∙ failed));
+    not_begun = λ _. (refl, refl);
+  }
+
+  pub IsRecodeRun-failed_sink : source.has_failed ≡ false → sink.has_failed ≡ true
+      → IsRecodeRun from to source source sink sink (Err side_fault.Write)
+  IsRecodeRun-failed_sink going failed = record {
+    ok = tt;
+    source_kept = tt;
+    sink_kept = tt;
+    err = RunsToFault-none from to source.bytes sink.bytes;
+    read_fault = λ f. absurd (write_is_no_read (Err side_fault.Write) refl f);
+    write_fault = λ _. failed;
+    read_alone = λ _. refl;
+    write_alone = λ _. refl;
+    failed_source = λ f. absurd (false≢true (sym going ∙ f));
+    failed_sink = λ _ _. refl;
+    not_begun = λ _. (refl, refl);
+  }
 
 -- A source that says all its bytes gives no more than they are.
 

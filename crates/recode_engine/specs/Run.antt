@@ -1,8 +1,8 @@
 -- A run from a source to a sink: its text and its bytes, at the end and after a fault. The bytes
 -- are decoded by the encoding of a byte order mark at the start, which is dropped, or else by
 -- `from`. The text is written in the output encoding of `to`.
-use Rattle.std.specs.Prelude.{◌≡◌, ℕ, ◌^◌, ◌<◌, Bool, true, ◌||◌, List, [], ◌++◌, length, Option, IfSome, option_map}
-use Rattle.std.specs.Prelude.{IfOk, OnOk, OnErr, IsErrOf}
+use Rattle.std.specs.Prelude.{◌≡◌, ℕ, ◌^◌, ◌<◌, Bool, true, false, ◌||◌, List, [], ◌++◌, length, Option, IfSome}
+use Rattle.std.specs.Prelude.{option_map, IfOk, OnOk, OnErr, IsErrOf}
 use Rattle.std.specs.declared.result.Result.{Result}
 use Rattle.enc_decoder.specs.Sequence.{sequence_text}
 use Rattle.enc_encoder.specs.Unmappable.{any_unmappable}
@@ -73,7 +73,8 @@ pub record Side : Type 0 where
 abbrev pub side : Option (List ℕ) → Bool → Side
 side bytes has_failed = record { bytes = bytes; has_failed = has_failed }
 
--- A run from a source to a sink, by both sides before and after it.
+-- A run from a source to a sink, by both sides before and after it. What it says of failures holds
+-- of sides that model no bytes too, except `read_fault`.
 pub record IsRecodeRun (from to : Encoding)
     (source_before source_after sink_before sink_after : Side)
     (result : Result Bool RecodeFault) : Type 0 where
@@ -82,10 +83,19 @@ pub record IsRecodeRun (from to : Encoding)
       sink_after.bytes)
   pub source_kept : OnOk result (source_after.has_failed ≡ source_before.has_failed)
   pub sink_kept : OnOk result (sink_after.has_failed ≡ sink_before.has_failed)
-  -- `Err`: the side that it names has failed; the source, if it has fewer than 2^62 bytes.
+  -- `Err`: the side that it names has failed; the source, if it models fewer than 2^62 bytes.
   pub err : OnErr result
       (RunsToFault from to source_before.bytes source_after.bytes sink_before.bytes
       sink_after.bytes)
   pub read_fault : IsErrOf result fault.Read
       → IfSome source_before.bytes (λ all. length all < 2 ^ 62 → source_after.has_failed ≡ true)
   pub write_fault : IsErrOf result fault.Write → sink_after.has_failed ≡ true
+  -- The side that it does not name has not failed in the run.
+  pub read_alone : IsErrOf result fault.Read → sink_after.has_failed ≡ sink_before.has_failed
+  pub write_alone : IsErrOf result fault.Write → source_after.has_failed ≡ source_before.has_failed
+  -- A side that has failed before is named, the source first, and neither side changes.
+  pub failed_source : source_before.has_failed ≡ true → IsErrOf result fault.Read
+  pub failed_sink : source_before.has_failed ≡ false → sink_before.has_failed ≡ true
+      → IsErrOf result fault.Write
+  pub not_begun : (source_before.has_failed || sink_before.has_failed) ≡ true
+      → (source_after ≡ source_before) × (sink_after ≡ sink_before)

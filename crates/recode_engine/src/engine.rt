@@ -22,6 +22,10 @@ pub enum RecodeFault {
     Write = 2,
 }
 
+const _: () = prove!(RecodeFault::Read as u8 == 1);
+
+const _: () = prove!(RecodeFault::Write as u8 == 2);
+
 /// Writes all the bytes, in as many pushes as it takes, none of them of an empty buffer.
 ///
 /// After an `Err`, which is `Write`, the sink has failed and has taken a prefix of the bytes.

@@ -138,6 +138,62 @@ fn without_a_mark_all_calls_are_alike(rt: HostRuntime) -> Result<(), Fail> {
 }
 
 #[test]
+fn empty_inputs_take_no_memory(rt: HostRuntime) -> Result<(), Fail> {
+    let alloc = rt.alloc();
+    for (encoding, _, _) in table() {
+        let (text, _, _) = encoding.decode(alloc, b"")?;
+        assert!(rt; text.capacity() == 0);
+        let (text, _) = encoding.decode_with_bom_removal(alloc, b"")?;
+        assert!(rt; text.capacity() == 0);
+        let (text, _) = encoding.decode_without_bom_handling(alloc, b"")?;
+        assert!(rt; text.capacity() == 0);
+        let Some(text) = encoding.decode_without_bom_handling_and_without_replacement(alloc, b"")?
+        else {
+            return Err(Fail::new("nothing is malformed"));
+        };
+        assert!(rt; text.capacity() == 0);
+        let (bytes, _, _) = encoding.encode(alloc, "")?;
+        assert!(rt; bytes.capacity() == 0);
+    }
+    Ok(())
+}
+
+/// Inputs of n bytes without a malformed sequence, and the length that is asked for, at least 4:
+/// n + 3 in UTF-8, (n + 1) / 2 times 3, and 1 more, in UTF-16, and 3 n in others.
+const FIRST_LENGTHS: &[(Encoding, &[u8], usize)] = &[
+    (UTF_8, b"a", 4),
+    (UTF_8, b"abc", 6),
+    (UTF_16LE, b"a\x00", 4),
+    (UTF_16LE, b"a\x00b\x00c\x00", 10),
+    (WINDOWS_1252, b"a", 4),
+    (WINDOWS_1252, b"abcdefghij", 30),
+    (SHIFT_JIS, b"abcd", 12),
+];
+
+#[test]
+fn a_text_has_the_capacity_of_the_first_length(rt: HostRuntime) -> Result<(), Fail> {
+    for (encoding, bytes, capacity) in FIRST_LENGTHS {
+        let (text, _) = encoding.decode_without_bom_handling(rt.alloc(), bytes)?;
+        assert!(rt; text.capacity() == *capacity, "{encoding:?} {bytes:?}");
+    }
+    Ok(())
+}
+
+#[test]
+fn a_string_with_room_for_two_chunks_is_not_full(rt: HostRuntime) -> Result<(), Fail> {
+    let mut decoder = WINDOWS_1252.new_decoder_without_bom_handling();
+    let mut text = String::with_capacity(rt.alloc(), 18)?;
+    for chunk in [b"\x80\x80\x80", b"\x80\x80\x80"] {
+        assert!(rt; !decoder.is_finished());
+        let outcome = decoder.decode_to_string(chunk, &mut text, false);
+        assert!(rt; outcome == (CoderResult::InputEmpty, 3, false));
+        assert!(rt; text.capacity() == 18);
+    }
+    assert!(rt; text.as_str() == "€€€€€€");
+    Ok(())
+}
+
+#[test]
 fn reasons_have_different_texts(rt: HostRuntime) -> Result<(), Fail> {
     let (memory, too_long) = (OneShotError::Memory, OneShotError::TooLong);
     assert!(rt; memory != too_long);

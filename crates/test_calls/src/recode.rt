@@ -1,5 +1,6 @@
 //! Worked examples of `recode_engine`: rows of bytes in one encoding and in another, devices that
-//! fail, labels and statuses.
+//! fail and the calls that they get, labels and statuses.
 
+mod devices;
 mod labels;
 mod runs;

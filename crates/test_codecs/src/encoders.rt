@@ -9,6 +9,7 @@
 mod barred;
 mod long_texts;
 mod one_shot;
+mod private_use;
 mod queries;
 mod references;
 mod runs;

@@ -2,8 +2,12 @@
 //! overwritten, and validity of bytes. Expected values are by hand: from the Unicode Standard (3.9,
 //! tables 3-5 to 3-7) and the Encoding Standard (12.2.1).
 
+ghost use Rattle.std.specs.Prelude.{[], ◌∷◌};
+
+use enc_encode::{RawEncoder, new_encoder};
+use enc_index::Codec;
 use enc_units::{
-    StringTail, Units, Utf8Slice, Utf16Slice, ascii_valid_up_to, clear_rest,
+    Chars, EncoderResult, StringTail, Units, Utf8Slice, Utf16Slice, ascii_valid_up_to, clear_rest,
     iso_2022_jp_ascii_valid_up_to, utf8_valid_up_to,
 };
 use std::process::Abort;
@@ -68,6 +72,43 @@ fn a_string_without_spare_capacity_takes_nothing(rt: HostRuntime) {
     let mut out = StringTail::new(&mut text);
     assert!(rt; (out.room(), out.put('a'), out.put_ascii(b"a")) == (0, false, 0));
     assert!(rt; text.as_str() == "");
+}
+
+/// An input of characters, with the default of `write_mapped`, which takes none.
+#[derive(Drop)]
+struct Letters<'a> {
+    rest: &'a [char],
+}
+
+impl<'a> Chars for Letters<'a> {
+    ghost units_of = { λ c. c ∷ [] };
+
+    ghost rest = { λ s. s.rest.now };
+
+    #[tactic(auto, using(crate::proofs::LetterLemmas::one_unit_each))]
+    fn unread(&self) -> usize {
+        self.rest.len()
+    }
+
+    fn peek(&self) -> Option<(char, usize)> {
+        Some((*self.rest.first()?, 1))
+    }
+
+    fn advance(&mut self) {
+        self.rest = &self.rest[1..];
+    }
+}
+
+#[test]
+fn an_input_of_ones_own_is_encoded_by_steps(rt: HostRuntime) {
+    let mut encoder = new_encoder(Codec::EucKr, &[]);
+    let mut text = Letters {
+        rest: &['a', '\u{AC00}', 'b'],
+    };
+    let mut dst = [0; 8];
+    let answer = encoder.encode(&mut text, &mut dst, true);
+    assert!(rt; answer == (EncoderResult::InputEmpty, 3, 4));
+    assert!(rt; dst == *b"a\xB0\xA1b\0\0\0\0");
 }
 
 /// Characters of one to four bytes, more than a block of 64 bytes.

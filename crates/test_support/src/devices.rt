@@ -91,6 +91,8 @@ pub struct StepWriter<'a> {
     pub calls: usize,
     /// The number of calls without a byte to write.
     pub empty_calls: usize,
+    /// The number of calls of `flush`, each of which fails.
+    pub flushes: usize,
 }
 
 impl<'a> StepWriter<'a> {
@@ -101,6 +103,7 @@ impl<'a> StepWriter<'a> {
             taken: Vec::new(alloc),
             calls: 0,
             empty_calls: 0,
+            flushes: 0,
         }
     }
 }
@@ -117,6 +120,7 @@ impl<'a> Write for StepWriter<'a> {
     }
 
     fn flush(&mut self) -> io::Result<()> {
+        self.flushes = self.flushes.saturating_add(1);
         Err(io::Error::from(ErrorKind::Unsupported))
     }
 }

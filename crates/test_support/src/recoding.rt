@@ -40,7 +40,7 @@ fn case_of(from: Encoding, input: &[u8]) -> Case<'_> {
 }
 
 /// Runs from a reader to a writer, each driven by its steps. Exactly the side that the outcome
-/// names has failed, and the writer is never asked to write nothing.
+/// names has failed, and the writer is neither flushed nor asked to write nothing.
 pub fn run_by(
     alloc: Global,
     (from, to): (Encoding, Encoding),
@@ -59,6 +59,7 @@ pub fn run_by(
     expect(has_read_failed == is_read, "reader's failure", &case)?;
     expect(has_write_failed == is_write, "writer's failure", &case)?;
     expect(writer.empty_calls == 0, "calls that write nothing", &case)?;
+    expect(writer.flushes == 0, "calls that flush", &case)?;
     Ok(Ran {
         outcome,
         written: writer.taken,

@@ -33,6 +33,8 @@ fn outputs_take_characters_and_ascii(rt: HostRuntime) -> Result<(), Fail> {
     let mut text = String::with_capacity(rt.alloc(), 8)?;
     write_two_texts(&rt, &mut StringTail::new(&mut text), (3, 2, 4, 4));
     assert!(rt; text.as_str() == "éab");
+    let faults: (usize, usize, usize) = enc_units::laws::faults_are_widths();
+    assert!(rt; faults == (3, 1, 3));
     Ok(())
 }
 

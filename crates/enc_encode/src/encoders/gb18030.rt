@@ -1,20 +1,23 @@
 //! The gb18030 encoder, which is also that of GBK (Encoding Standard 10.2.2).
 
-ghost use Rattle.std.specs.Prelude.{◌≡◌, ◌<◌};
+ghost use Rattle.std.specs.Prelude.{◌≡◌, ◌<◌, ◌≤◌, ◌&&◌, nat_le};
 ghost use Rattle.enc_units.specs.Bytes.{byte_list};
 ghost use Rattle.enc_encoder.specs.CharLaw.{AreBytesOf};
 ghost use Rattle.enc_encode.specs.Gb18030.{gb18030_pair_bytes, gb18030_trail_byte};
 ghost use Rattle.enc_encode.specs.Gb18030.{gb18030_four_bytes};
 ghost use Rattle.enc_encode.specs.Gb18030.{two_or_four_bytes as wanted_bytes};
+ghost use Rattle.enc_encode.specs.Gb18030.{row_bytes as wanted_row_bytes, gb18030_other};
 ghost use Rattle.enc_index_pointers.specs.Pointers.{gb18030_pointer, gb18030_ranges_pointer};
 ghost use Rattle.enc_encoder.specs.Stateless.{bytes_of_pointer};
 
+use super::private_use::PRIVATE_USE;
 use enc_encoder::{Barring, ByteLengths, Repertoire, StatelessEncoder, four, one, two};
 use enc_index_pointers::{gb18030, gb18030_ranges};
 use enc_units::Bytes;
 
-/// gb18030 (Encoding Standard 10.2): ASCII, two bytes by index gb18030, and four bytes by its
-/// ranges. GBK (10.1) has no four bytes, and one byte for U+20AC.
+/// gb18030 (Encoding Standard 10.2): ASCII, two bytes by index gb18030 or for 18 characters of
+/// private use beside it, and four bytes by its ranges. GBK (10.1) has no four bytes, and one byte
+/// for U+20AC.
 #[derive(Clone, Copy)]
 pub struct Gb18030 {
     /// Whether it is GBK.
@@ -80,6 +83,43 @@ fn two_or_four_bytes(is_gbk: bool, c: char) -> Option<Bytes>
     by_ranges(c)
 }
 
+/// Returns the two bytes of a character, if a row has it.
+fn row_bytes(rows: &[(char, u8, u8)], c: char) -> Option<Bytes>
+    ensures { AreBytesOf (wanted_row_bytes rows.now c) result }
+{
+    for i in 0..rows.len() {
+        let (character, lead, trail) = rows[i];
+        if character == c {
+            return Some(two(lead, trail));
+        }
+    }
+    None
+}
+
+/// Returns the bytes of a character from U+E5E5 on, where some have rows beside the index.
+#[inline(never)]
+#[tactic(auto, using(crate::proofs::PrivateUseLemmas::by_row))]
+fn private_use_bytes(is_gbk: bool, c: char) -> Option<Bytes>
+    requires { 0xE5E5 ≤ c }
+    ensures { AreBytesOf (gb18030_other is_gbk c) result }
+{
+    if c == '\u{E5E5}' {
+        return None;
+    }
+    match row_bytes(PRIVATE_USE, c) {
+        Some(bytes) => Some(bytes),
+        None => two_or_four_bytes(is_gbk, c),
+    }
+}
+
+/// Whether a character is one of U+E5E5 to U+E864, outside of which none has a row.
+#[inline(always)]
+fn is_among_rows(c: char) -> bool
+    ensures { result ≡ (nat_le 0xE5E5 c && nat_le c 0xE864) }
+{
+    c >= '\u{E5E5}' && c <= '\u{E864}'
+}
+
 impl Repertoire for Gb18030 {
     ghost use Rattle.enc_encode.specs.Gb18030.{gb18030_bytes, gb18030_lengths};
 
@@ -88,9 +128,10 @@ impl Repertoire for Gb18030 {
     ghost lengths = { λ r. gb18030_lengths r.is_gbk };
 
     #[inline(always)]
+    #[tactic(auto, using(crate::proofs::PrivateUseLemmas::by_index))]
     fn bytes_beyond_ascii(self, c: char) -> Option<Bytes> {
-        if c == '\u{E5E5}' {
-            return None;
+        if is_among_rows(c) {
+            return private_use_bytes(self.is_gbk, c);
         }
         if self.is_gbk && c == '\u{20AC}' {
             return Some(one(0x80));

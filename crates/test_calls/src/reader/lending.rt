@@ -5,6 +5,7 @@ use encoding_rs::{Encoding, WINDOWS_1252};
 use std::alloc::Global;
 use std::test::Fail;
 use test_support::encodings::table;
+use test_support::reading::compare_read;
 
 /// Appends `len` letters of the alphabet, one after another.
 fn push_letters(bytes: &mut Vec<u8>, len: usize) -> Result<(), Fail> {
@@ -36,6 +37,34 @@ fn lends_ascii_where_it_was_read(rt: HostRuntime) -> Result<(), Fail> {
         assert!(rt; want.len() <= 6 || part == before);
     }
     assert!(rt; !reader.had_errors());
+    Ok(())
+}
+
+#[test]
+fn lends_no_text_below_4096_bytes(rt: HostRuntime) -> Result<(), Fail> {
+    for (len, lends) in [(1, false), (4095, false), (4096, true), (8000, true)] {
+        let mut letters = Vec::new(rt.alloc());
+        push_letters(&mut letters, len)?;
+        let mut bytes = Vec::new(rt.alloc());
+        bytes.extend_from_slice(b"\xE9ab")?;
+        bytes.extend_from_slice(letters.as_slice())?;
+        let mut source = FromRead::new(bytes.as_slice());
+        let mut input = [0; 16384];
+        let mut reader = DecodeReader::new(&mut source, Some(WINDOWS_1252), &mut input);
+        // the four bytes after which no byte order mark can come
+        compare_read(&mut reader, Ok(4), "éab".as_bytes())?;
+        let mut part = [0; 8192];
+        let Ok(handed) = reader.read_or_lend(&mut part) else {
+            return Err("the source can't be read".into());
+        };
+        assert!(rt; reader.text(&part, handed) == letters.as_slice());
+        // a copy is in the buffer given, which lent text leaves as it is
+        assert!(rt;
+            part.as_slice().starts_with(letters.as_slice()) != lends,
+            "of {len} letters"
+        );
+        assert!(rt; !lends || part == [0; 8192]);
+    }
     Ok(())
 }
 

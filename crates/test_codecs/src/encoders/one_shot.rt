@@ -34,6 +34,14 @@ const WHOLE_ROWS: &[WholeRow] = &[
     (UTF_16BE, "\u{E4}", b"\xC3\xA4", UTF_8, false),
     (REPLACEMENT, "\u{20AC}", b"\xE2\x82\xAC", UTF_8, false),
     (GBK, "\u{1F4A9}", b"&#128169;", GBK, true),
+    // in two rounds
+    (
+        GBK,
+        "\u{1F4A9}\u{1F4A9}\u{1F4A9}",
+        b"&#128169;&#128169;&#128169;",
+        GBK,
+        true,
+    ),
 ];
 
 #[test]

@@ -6,9 +6,6 @@
 //! without replacement and with it. A sum is FNV-1a with 64 bits, over numbers. A mappable
 //! character adds its bytes and 0x100. An unmappable one adds, without replacement, 0x200 and the
 //! character that is reported; with replacement, the bytes of its reference and 0x200.
-//!
-//! The sums of GB18030 and GBK leave out the characters that GB18030-2022 changed, since the
-//! packaged crate is older: these have a test of their own.
 
 use encoding_rs::{
     BIG5, CoderResult, EUC_JP, EUC_KR, EncoderResult, Encoding, GB18030, GBK, IBM866, ISO_2022_JP,
@@ -18,10 +15,7 @@ use encoding_rs::{
     WINDOWS_1251, WINDOWS_1252, WINDOWS_1253, WINDOWS_1254, WINDOWS_1255, WINDOWS_1256,
     WINDOWS_1257, WINDOWS_1258, X_MAC_CYRILLIC, X_USER_DEFINED,
 };
-use std::alloc::Global;
 use std::process::Abort;
-use std::test::Fail;
-use test_support::encoding::call_rows::{EncoderCall, make_encoder_calls};
 
 const OFFSET_BASIS: u64 = 0xCBF2_9CE4_8422_2325;
 
@@ -81,8 +75,8 @@ const OTHER_SINGLE_BYTE_SUMS: &[Sums] = &[
 /// Of the multi-byte encodings.
 #[rattlefmt::skip]
 const MULTI_BYTE_SUMS: &[Sums] = &[
-    (GBK, 0x6095_4C0A_AB62_DC73, 0xFA74_5EB9_828A_A8C7),
-    (GB18030, 0x44DC_1B97_49CA_806A, 0x882C_7703_1E4E_A958),
+    (GBK, 0x8B16_1E43_BD09_1315, 0x6C7F_A62D_3602_4DB3),
+    (GB18030, 0xA8CC_0DBA_9872_DF20, 0xEDA3_B490_0131_0DD6),
     (BIG5, 0x697C_919A_CF18_D27E, 0x87D3_515D_04A2_7A85),
     (EUC_JP, 0x0545_9022_A5D0_85A6, 0xEFE6_0B8C_8052_141A),
     (ISO_2022_JP, 0x4C4F_0577_8D14_463C, 0xE336_724C_F4D5_BE9B),
@@ -90,43 +84,9 @@ const MULTI_BYTE_SUMS: &[Sums] = &[
     (EUC_KR, 0x8AC2_BD0C_882E_4906, 0x0E4A_1FE6_9634_8C10),
 ];
 
-/// The two bytes of gb18030 and GBK whose character GB18030-2022 changed, the character before, and
-/// the one since.
-const CHANGED: [(&[u8], char, char); 18] = [
-    (b"\xA6\xD9", '\u{E78D}', '\u{FE10}'),
-    (b"\xA6\xDA", '\u{E78E}', '\u{FE12}'),
-    (b"\xA6\xDB", '\u{E78F}', '\u{FE11}'),
-    (b"\xA6\xDC", '\u{E790}', '\u{FE13}'),
-    (b"\xA6\xDD", '\u{E791}', '\u{FE14}'),
-    (b"\xA6\xDE", '\u{E792}', '\u{FE15}'),
-    (b"\xA6\xDF", '\u{E793}', '\u{FE16}'),
-    (b"\xA6\xEC", '\u{E794}', '\u{FE17}'),
-    (b"\xA6\xED", '\u{E795}', '\u{FE18}'),
-    (b"\xA6\xF3", '\u{E796}', '\u{FE19}'),
-    (b"\xFE\x59", '\u{E81E}', '\u{9FB4}'),
-    (b"\xFE\x61", '\u{E826}', '\u{9FB5}'),
-    (b"\xFE\x66", '\u{E82B}', '\u{9FB6}'),
-    (b"\xFE\x67", '\u{E82C}', '\u{9FB7}'),
-    (b"\xFE\x6D", '\u{E832}', '\u{9FB8}'),
-    (b"\xFE\x7E", '\u{E843}', '\u{9FB9}'),
-    (b"\xFE\x90", '\u{E854}', '\u{9FBA}'),
-    (b"\xFE\xA0", '\u{E864}', '\u{9FBB}'),
-];
-
-/// Whether GB18030-2022 changed a character.
-fn is_changed(code: u32) -> bool {
-    for (_, before, since) in CHANGED {
-        if code == before as u32 || code == since as u32 {
-            return true;
-        }
-    }
-    false
-}
-
 /// Whether the sum of an encoding has a character.
 fn is_tried(encoding: Encoding, code: u32) -> bool {
-    let is_in_sample = code < 0x1_0000 || code % 97 == 0 || (code >> 16 == 2 && encoding == BIG5);
-    is_in_sample && !((encoding == GB18030 || encoding == GBK) && is_changed(code))
+    code < 0x1_0000 || code % 97 == 0 || (code >> 16 == 2 && encoding == BIG5)
 }
 
 fn add(sum: u64, number: u64) -> u64 {
@@ -210,32 +170,4 @@ fn encodes_each_character_of_other_single_bytes(rt: HostRuntime) {
 #[test]
 fn encodes_each_character_of_several_bytes(rt: HostRuntime) {
     compare(&rt, MULTI_BYTE_SUMS);
-}
-
-/// Encodes the character that the bytes have since, and then the one that they had before.
-fn compare_changed(
-    alloc: Global,
-    encoding: Encoding,
-    (bytes, before, since): (&[u8], char, char),
-) -> Result<(), Fail> {
-    let (mut encoder, mut local, mut other) = (encoding.new_encoder(), [0; 4], [0; 4]);
-    let (since, unmappable) = (
-        since.encode_utf8(&mut local),
-        before.encode_utf8(&mut other),
-    );
-    let reported = EncoderResult::Unmappable(before);
-    let calls: [EncoderCall<'_>; 2] = [
-        (since, true, 4, (EncoderResult::InputEmpty, 3, 2), bytes),
-        (unmappable, true, 4, (reported, 3, 0), b""),
-    ];
-    make_encoder_calls(alloc, &mut encoder, &calls)
-}
-
-#[test]
-fn encodes_what_gb18030_2022_changed(rt: HostRuntime) -> Result<(), Fail> {
-    for changed in CHANGED {
-        compare_changed(rt.alloc(), GB18030, changed)?;
-        compare_changed(rt.alloc(), GBK, changed)?;
-    }
-    Ok(())
 }

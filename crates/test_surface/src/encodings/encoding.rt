@@ -27,6 +27,14 @@ fn equal_encodings_are_the_same_and_hash_alike(rt: HostRuntime) {
     assert!(rt; first.finish() == second.finish());
 }
 
+/// The laws of constants, ASCII and slices, which are calls that do nothing.
+#[test]
+fn laws_are_called_for_what_they_state() {
+    laws::constants_have_their_names();
+    laws::ascii_compatible_encode_ascii(SHIFT_JIS);
+    laws::slices_are_bytes(b"a");
+}
+
 #[test]
 fn an_encoding_is_found_by_label_or_byte_order_mark(rt: HostRuntime) {
     let found: Option<Encoding> = Encoding::for_label(b" \tSJIS\r\n");

@@ -23,7 +23,7 @@ returns-in_default g c =
     let invariant = c.reads.invariant in
     let fault = is_readers c.read_or_lend.result (search rules)
     (λ f. false≢true (sym invariant.going ∙ c.read_or_lend.ensures.from_then_on.0 f)) in
-    IsRecodeRun-read
+    IsRecodeRun-read c.requires.reader c.requires.writer
     (RunsToFault-by (search rules)
     (RunsToFault-reading invariant.ran (c.read_or_lend.ensures.reader_fault fault)))
     (search (
@@ -31,20 +31,21 @@ returns-in_default g c =
       has_failed-reading invariant.ran
           (c.read_or_lend.ensures.reader_fault fault),
     ))
+    (search rules)
 
 pub returns-in_err-replaced : goal.returns-in_err-replaced
 returns-in_err-replaced g c =
-    IsRecodeRun-write (search rules)
+    IsRecodeRun-write c.requires.reader c.requires.writer (search rules)
     (RunsToFault-by {t = g.R.Source.remaining c.read_or_lend.new.self.reader.now} (search rules)
     (RunsToFault-within c.reads.invariant.ran (HandsOut-by c.text-piece.ensures c.in-Ok.ensures.ok)
     (λ (last : c.is_empty-last.result ≡ true). c.in-Ok.ensures.end (no_text _ (search rules)))
     c.in_err-replaced.ensures.err))
-    (search rules)
+    (search rules) (search rules)
 
 pub returns-then-last : goal.returns-then-last
 returns-then-last g c =
     let last : c.is_empty-last.result ≡ true = search rules in
-    IsRecodeRun-ok refl
+    IsRecodeRun-ok c.requires.reader c.requires.writer refl
     (RunsToEnd-by {t = g.R.Source.remaining c.read_or_lend.new.self.reader.now} (search rules)
     (search rules)
     (RunsToEnd-last c.reads.invariant.ran (HandsOut-by c.text-piece.ensures c.in-Ok.ensures.ok)
@@ -69,5 +70,6 @@ reads-preserved g c =
 
 pub returns : goal.returns
 returns g c =
-    IsRecodeRun-read (RunsToFault-by (search rules) (RunsToFault-between c.reads.invariant.ran))
-    (has_failed-between c.reads.invariant.ran _ (search rules))
+    IsRecodeRun-read c.requires.reader c.requires.writer
+    (RunsToFault-by (search rules) (RunsToFault-between c.reads.invariant.ran))
+    (has_failed-between c.reads.invariant.ran _ (search rules)) (search rules)

@@ -1,7 +1,7 @@
 use Rattle.std.proofs.Common.{refl, rules}
-use Rattle.std.specs.String.{string_bytes}
+use Rattle.std.specs.String.{string_bytes, string_len}
 use Rattle.enc_stream.proofs.EndOfInputLemmas.{has_finished_by}
-use Rattle.enc_stream.proofs.OutputFullLemmas.{over_text, in_front, four_bytes}
+use Rattle.enc_stream.proofs.OutputFullLemmas.{over_text, in_front, capacity_stays, four_bytes}
 use Rattle.enc_stream.proofs.decoder.Decoder.decode_to_string_without_replacement.Goals as goal
 
 pub returns-clause-call : goal.returns-clause-call
@@ -21,3 +21,10 @@ returns-clause-ended c = has_finished_by (returns-clause-call c).decodes
 
 pub returns-clause-progress : goal.returns-clause-progress
 returns-clause-progress c = (returns-clause-call c).progress
+
+pub returns-clause-capacity : goal.returns-clause-capacity
+returns-clause-capacity c =
+    let tail = c.convert_reporting.new.out in
+    capacity_stays {len = string_len c.args.dst.now} {len_after = string_len tail.text.now}
+    c.convert_reporting.ensures (rw c.new-tail.ensures.now (search rules))
+    (rw c.new-tail.ensures.room refl) (search rules) tail.fits (search rules)

@@ -1,0 +1,12 @@
+-- Characters that gb18030 reads back as others (Encoding Standard 10.2.2, step 5; 10.2.1).
+-- Written by scripts/make-indexes from data/gb18030-private-use.txt.
+use Rattle.std.specs.Prelude.{ℕ, List, [], ◌∷◌}
+
+-- code points, each with that of its bytes in index gb18030
+abbrev pub replaced_characters : List (ℕ × ℕ)
+replaced_characters =
+    (0xE78D, 0xFE10) ∷ (0xE78E, 0xFE12) ∷ (0xE78F, 0xFE11) ∷ (0xE790, 0xFE13)
+    ∷ (0xE791, 0xFE14) ∷ (0xE792, 0xFE15) ∷ (0xE793, 0xFE16) ∷ (0xE794, 0xFE17)
+    ∷ (0xE795, 0xFE18) ∷ (0xE796, 0xFE19) ∷ (0xE81E, 0x9FB4) ∷ (0xE826, 0x9FB5)
+    ∷ (0xE82B, 0x9FB6) ∷ (0xE82C, 0x9FB7) ∷ (0xE832, 0x9FB8) ∷ (0xE843, 0x9FB9)
+    ∷ (0xE854, 0x9FBA) ∷ (0xE864, 0x9FBB) ∷ []

@@ -1,0 +1,2 @@
+pub mod WrittenText
+pub mod MalformedCount

@@ -1,0 +1,97 @@
+-- The malformed sequences to come before a call without replacement, and after it: by the fields of
+-- its clause `call`.
+use Rattle.std.proofs.Common.{◌≡◌, ℕ, ◌+◌, Bool, true, false, true≢false, List, [], ◌∷◌, ◌++◌, drop, refl, ap, ◌∙◌, sym}
+use Rattle.std.proofs.Common.{append-nil, add_assoc, zero-add, ◌||◌, if◌then◌else◌}
+use Rattle.std.specs.Char.{encode_utf8}
+use Rattle.enc_units.specs.declared.decoder_result.DecoderResult.{DecoderResult}
+use Rattle.enc_units.specs.declared.decoder_result.DecoderResult.TheVariants as raw
+use Rattle.enc_decoder.specs.Sequence.{Sequence, is_malformed, any_malformed}
+use Rattle.encoding_rs.specs.Decoding.{DecoderState, remaining_sequences, DecodesReporting}
+use Rattle.example_callers.specs.Count.{malformed_count}
+use Rattle.example_callers.proofs.WrittenText.{drop_whole}
+
+malformed_count-append : (a b : List Sequence)
+    → malformed_count (a ++ b) ≡ malformed_count a + malformed_count b
+malformed_count-append [] b = sym (zero-add (malformed_count b))
+malformed_count-append (s ∷ a) b =
+    let first = if is_malformed s.kind then 1 else 0 in
+    ap (λ n. first + n) (malformed_count-append a b)
+    ∙ sym (add_assoc first (malformed_count a) (malformed_count b))
+
+none_by : (b any : Bool) (n : ℕ) → false ≡ (b || any) → (false ≡ any → n ≡ 0)
+    → (if b then 1 else 0) + n ≡ 0
+none_by true any n h k = absurd (true≢false (sym h))
+none_by false any n h k = zero-add n ∙ k h
+
+none_counted : (ss : List Sequence) → false ≡ any_malformed ss → malformed_count ss ≡ 0
+none_counted [] h = refl
+none_counted (s ∷ ss) h =
+    none_by (is_malformed s.kind) (any_malformed ss) (malformed_count ss) h (none_counted ss)
+
+-- the number of malformed sequences that a call reports
+abbrev pub reported : DecoderResult → ℕ
+reported raw.InputEmpty = 0
+reported raw.OutputFull = 0
+reported (raw.Malformed l a) = 1
+
+one_if : (b : Bool) → b ≡ true → (if b then 1 else 0) + 0 ≡ 1
+one_if true h = refl
+one_if false h = absurd (true≢false (sym h))
+
+counts : {old new : DecoderState} {src : List ℕ} {room : ℕ} (result : DecoderResult)
+    {read : ℕ} {wrote : List ℕ}
+    → DecodesReporting encode_utf8 old new src true room result read wrote
+    → malformed_count (remaining_sequences old (src ++ []))
+    ≡ reported result + malformed_count (remaining_sequences new (drop read src ++ []))
+counts {new} {src} raw.InputEmpty {read} decodes =
+    let call = decodes.call in
+    let after = remaining_sequences new (drop read src ++ []) in
+    ap malformed_count (call.residual [] (λ _. refl))
+    ∙ malformed_count-append call.done after
+    ∙ ap (λ n. n + malformed_count after)
+    (ap malformed_count call.stops.only_put ∙ none_counted call.put call.flag)
+counts {new} {src} raw.OutputFull {read} decodes =
+    let call = decodes.call in
+    let after = remaining_sequences new (drop read src ++ []) in
+    ap malformed_count (call.residual [] (λ _. refl))
+    ∙ malformed_count-append call.done after
+    ∙ ap (λ n. n + malformed_count after)
+    (ap malformed_count call.stops.only_put ∙ none_counted call.put call.flag)
+counts {new} {src} (raw.Malformed l a) {read} decodes =
+    let call = decodes.call in
+    let last_one = call.stops.next ∷ [] in
+    let after = remaining_sequences new (drop read src ++ []) in
+    ap malformed_count (call.residual [] (λ _. refl))
+    ∙ malformed_count-append call.done after
+    ∙ ap (λ n. n + malformed_count after)
+    (ap malformed_count call.stops.then_next ∙ malformed_count-append call.put last_one
+    ∙ ap (λ n. n + malformed_count last_one) (none_counted call.put call.flag)
+    ∙ zero-add (malformed_count last_one)
+    ∙ one_if (is_malformed call.stops.next.kind) call.stops.malformed)
+
+-- The malformed sequences to come before a call are the one that it reports and those to come after
+-- it.
+pub counts_now : {old new : DecoderState} {src : List ℕ} {room : ℕ} (result : DecoderResult)
+    {read : ℕ} {wrote : List ℕ}
+    → DecodesReporting encode_utf8 old new src true room result read wrote
+    → malformed_count (remaining_sequences old src)
+    ≡ reported result + malformed_count (remaining_sequences new (drop read src))
+counts_now {old} {new} {src} result {read} decodes =
+    ap (λ x. malformed_count (remaining_sequences old x)) (sym (append-nil src))
+    ∙ counts result decodes
+    ∙ ap (λ x. reported result + malformed_count (remaining_sequences new x))
+    (append-nil (drop read src))
+
+-- Before a call that returns `InputEmpty` none is to come.
+pub none_at_end : {old new : DecoderState} {src : List ℕ} {room : ℕ} (result : DecoderResult)
+    {read : ℕ} {wrote : List ℕ}
+    → DecodesReporting encode_utf8 old new src true room result read wrote
+    → result ≡ raw.InputEmpty → malformed_count (remaining_sequences old src) ≡ 0
+none_at_end {new} {src} raw.InputEmpty {read} decodes is =
+    counts_now raw.InputEmpty decodes
+    ∙ zero-add (malformed_count (remaining_sequences new (drop read src)))
+    ∙ ap (λ x. malformed_count (remaining_sequences new x))
+    (drop_whole src read decodes.call.stops.all_read)
+    ∙ ap malformed_count (decodes.call.stops.none_left refl)
+none_at_end raw.OutputFull decodes is = absurd (let none : ⊥ = cc in none)
+none_at_end (raw.Malformed l a) decodes is = absurd (let none : ⊥ = cc in none)

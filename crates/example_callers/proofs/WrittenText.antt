@@ -1,0 +1,142 @@
+-- What calls with replacement write, and the text of the whole input: by the fields of their clause
+-- `call`.
+use Rattle.std.proofs.Common.{◌≡◌, ℕ, ◌+◌, ◌≤◌, Bool, true, List, [], ◌∷◌, ◌++◌, length, take, drop, refl, ap, ◌∙◌, sym}
+use Rattle.std.proofs.Common.{append_assoc, append-nil, length-append, arith}
+use Rattle.std.proofs.Math.Seq.{drop-length, take-append-add, take-append_seam}
+use Rattle.std.proofs.lemmas.List.{take-append-drop, take-append-le, length-take-le}
+use Rattle.std.specs.Char.{encode_utf8}
+use Rattle.enc_units.specs.declared.coder_result.CoderResult.{CoderResult}
+use Rattle.enc_units.specs.declared.coder_result.CoderResult.TheVariants.{InputEmpty, OutputFull}
+use Rattle.enc_units.specs.Output.{units_of_text}
+use Rattle.enc_decoder.specs.Sequence.{Sequence, sequence_text}
+use Rattle.enc_stream.specs.declared.bom.BomHandling.TheVariants.{Sniff}
+use Rattle.enc_stream.specs.declared.encoding.Encoding.{Encoding}
+use Rattle.encoding_rs.specs.Decoding.{DecoderState, fresh_decoder, remaining_sequences, DecodesReplacing, whole_utf_8}
+
+-- the text of sequences, in UTF-8
+abbrev pub utf_8 : List Sequence → List ℕ
+utf_8 ss = units_of_text encode_utf8 (sequence_text ss)
+
+sequence_text-append : (a b : List Sequence)
+    → sequence_text (a ++ b) ≡ sequence_text a ++ sequence_text b
+sequence_text-append [] b = refl
+sequence_text-append (s ∷ a) b =
+    ap (λ t. s.text ++ t) (sequence_text-append a b)
+    ∙ sym (append_assoc s.text (sequence_text a) (sequence_text b))
+
+units_of_text-append : (t u : List ℕ)
+    → units_of_text encode_utf8 (t ++ u)
+    ≡ units_of_text encode_utf8 t ++ units_of_text encode_utf8 u
+units_of_text-append [] u = refl
+units_of_text-append (c ∷ t) u =
+    ap (λ x. encode_utf8 c ++ x) (units_of_text-append t u)
+    ∙ sym (append_assoc (encode_utf8 c) (units_of_text encode_utf8 t)
+    (units_of_text encode_utf8 u))
+
+utf_8-append : (a b : List Sequence) → utf_8 (a ++ b) ≡ utf_8 a ++ utf_8 b
+utf_8-append a b =
+    ap (units_of_text encode_utf8) (sequence_text-append a b)
+    ∙ units_of_text-append (sequence_text a) (sequence_text b)
+
+-- The text to come before a call is what the call writes and the text to come after it.
+pub written_then : {old new : DecoderState} {src : List ℕ} {last : Bool} {room : ℕ}
+    (result : CoderResult) {read : ℕ} {wrote : List ℕ} {replaced : Bool}
+    → DecodesReplacing encode_utf8 old new src last room result read wrote replaced
+    → (z : List ℕ) → (last ≡ true → z ≡ [])
+    → utf_8 (remaining_sequences old (src ++ z))
+    ≡ wrote ++ utf_8 (remaining_sequences new (drop read src ++ z))
+written_then {new} {src} InputEmpty {read} decodes z none_after =
+    let after = remaining_sequences new (drop read src ++ z) in
+    ap utf_8 (decodes.call.residual z none_after)
+    ∙ utf_8-append decodes.call.done after
+    ∙ ap (λ x. x ++ utf_8 after)
+    (ap utf_8 decodes.call.stops.only_put ∙ sym decodes.call.text)
+written_then {new} {src} OutputFull {read} decodes z none_after =
+    let after = remaining_sequences new (drop read src ++ z) in
+    ap utf_8 (decodes.call.residual z none_after)
+    ∙ utf_8-append decodes.call.done after
+    ∙ ap (λ x. x ++ utf_8 after)
+    (ap utf_8 decodes.call.stops.only_put ∙ sym decodes.call.text)
+
+pub drop_whole : (x : List ℕ) (n : ℕ) → n ≡ length x → drop n x ≡ []
+drop_whole x n e = ap (λ k. drop k x) e ∙ drop-length x
+
+all_read : {old new : DecoderState} {src : List ℕ} {last : Bool} {room : ℕ} (result : CoderResult)
+    {read : ℕ} {wrote : List ℕ} {replaced : Bool}
+    → DecodesReplacing encode_utf8 old new src last room result read wrote replaced
+    → result ≡ InputEmpty → drop read src ≡ []
+all_read {src} InputEmpty {read} decodes is = drop_whole src read decodes.call.stops.all_read
+all_read OutputFull decodes is = absurd (let none : ⊥ = cc in none)
+
+-- the same after `InputEmpty`, which leaves nothing unread
+pub written_chunk : {old new : DecoderState} {src : List ℕ} {last : Bool} {room : ℕ}
+    (result : CoderResult) {read : ℕ} {wrote : List ℕ} {replaced : Bool}
+    → DecodesReplacing encode_utf8 old new src last room result read wrote replaced
+    → result ≡ InputEmpty → (z : List ℕ) → (last ≡ true → z ≡ [])
+    → utf_8 (remaining_sequences old (src ++ z)) ≡ wrote ++ utf_8 (remaining_sequences new z)
+written_chunk {new} result {wrote} decodes is z none_after =
+    written_then result decodes z none_after
+    ∙ ap (λ x. wrote ++ utf_8 (remaining_sequences new (x ++ z))) (all_read result decodes is)
+
+none_left : {old new : DecoderState} {src : List ℕ} {room : ℕ} (result : CoderResult)
+    {read : ℕ} {wrote : List ℕ} {replaced : Bool}
+    → DecodesReplacing encode_utf8 old new src true room result read wrote replaced
+    → result ≡ InputEmpty → remaining_sequences new [] ≡ []
+none_left InputEmpty decodes is = decodes.call.stops.none_left refl
+none_left OutputFull decodes is = absurd (let none : ⊥ = cc in none)
+
+-- At the end of the input all text is written.
+pub written_all : {old new : DecoderState} {src : List ℕ} {room : ℕ} (result : CoderResult)
+    {read : ℕ} {wrote : List ℕ} {replaced : Bool}
+    → DecodesReplacing encode_utf8 old new src true room result read wrote replaced
+    → result ≡ InputEmpty → utf_8 (remaining_sequences old src) ≡ wrote
+written_all {old} {src} result {wrote} decodes is =
+    ap (λ x. utf_8 (remaining_sequences old x)) (sym (append-nil src))
+    ∙ written_chunk result decodes is [] (λ _. refl)
+    ∙ ap (λ ss. wrote ++ utf_8 ss) (none_left result decodes is) ∙ append-nil wrote
+
+-- The text of a whole input is that to come of a new decoder.
+pub whole_is : (e : Encoding) (d : DecoderState) → d ≡ fresh_decoder Sniff e
+    → (bytes x : List ℕ) → bytes ≡ x → whole_utf_8 Sniff e bytes ≡ utf_8 (remaining_sequences d x)
+whole_is e d is bytes x same =
+    ap (λ z. whole_utf_8 Sniff e z) same ∙ ap (λ s. utf_8 (remaining_sequences s x)) (sym is)
+
+-- a list split in two
+pub parts : (bytes front back : List ℕ) (n : ℕ) → front ≡ take n bytes → back ≡ drop n bytes
+    → bytes ≡ front ++ back
+parts bytes front back n front_is back_is =
+    sym (ap (λ x. x ++ back) front_is ∙ ap (λ x. take n bytes ++ x) back_is
+    ∙ take-append-drop n bytes)
+
+-- bytes written after others
+pub two_parts : (a b t : List ℕ) (m n : ℕ) → m ≤ length a → n ≤ length b
+    → take (m + n) (take m a ++ (b ++ t)) ≡ take m a ++ take n b
+two_parts a b t m n within_a within_b =
+    ap (λ k. take (k + n) (take m a ++ (b ++ t))) (sym (length-take-le m a within_a))
+    ∙ take-append-add (take m a) (b ++ t) n
+    ∙ ap (λ x. take m a ++ x) (take-append-le n b t within_b)
+
+-- n bytes of which a text is made, with more, are its first n
+pub first_of : (text dst more : List ℕ) (n : ℕ) → n ≤ length dst → text ≡ take n dst ++ more
+    → take n dst ≡ take n text
+first_of text dst more n within is =
+    sym (ap (take n) is
+    ∙ ap (λ k. take k (take n dst ++ more)) (sym (length-take-le n dst within))
+    ∙ take-append_seam (take n dst) more)
+
+-- a text that begins with bytes written and then others begins with the first m + n bytes there
+pub first_of_two : (text a b t more : List ℕ) (m n : ℕ) → m ≤ length a → n ≤ length b
+    → text ≡ take m a ++ (take n b ++ more)
+    → take (m + n) (take m a ++ (b ++ t)) ≡ take (m + n) text
+first_of_two text a b t more m n within_a within_b is =
+    let front = take m a ++ take n b in
+    let front_length : m + n ≡ length front =
+    omega (
+      arith,
+      length-append (take m a) (take n b),
+      length-take-le m a within_a,
+      length-take-le n b within_b,
+    ) in
+    two_parts a b t m n within_a within_b
+    ∙ sym (ap (take (m + n)) (is ∙ sym (append_assoc (take m a) (take n b) more))
+    ∙ ap (λ k. take k (front ++ more)) front_length ∙ take-append_seam front more)

@@ -1,0 +1,115 @@
+//! Proves what a caller relies on, by the public clauses of the library alone.
+//!
+//! `example_callers LABEL` writes the text of standard input, the beginning of it that fits in 48
+//! bytes, and the number of malformed sequences. The text is decoded into a buffer of the queried
+//! length, which is never full. The beginning is decoded in two chunks into one array.
+#![tactic(auto)]
+
+ghost use Rattle.std.specs.Prelude.{◌≡◌, ◌≤◌, length, take, IfOk, IfSome};
+ghost use Rattle.enc_stream.specs.declared.bom.BomHandling.TheVariants.{Sniff};
+ghost use Rattle.encoding_rs.specs.Decoding.{whole_utf_8, whole_sequences};
+ghost use Rattle.example_callers.specs.Count.{malformed_count};
+
+use encoding_rs::{CoderResult, DecoderResult, Encoding, laws};
+use std::alloc::{AllocError, Global};
+use std::io::{Error, Read, Write};
+use std::{env, io};
+
+/// The length in bytes of the array for the beginning of the text.
+const BEGINNING: usize = 48;
+
+/// The length in bytes of the room for a piece of text, which is at least 4.
+const PIECE: usize = 64;
+
+/// Decodes a whole input in one call. `None` if the length to allocate overflows `usize`.
+///
+/// The arm of `OutputFull` is proved to be unreachable, by the clause `enough` of the query.
+fn decode_sized(
+    alloc: Global,
+    encoding: Encoding,
+    bytes: &[u8],
+) -> Result<Option<Vec<u8>>, AllocError>
+    ensures { IfOk result (λ answer. IfSome answer (λ text.
+        text.items ≡ whole_utf_8 Sniff encoding bytes.now)) }
+{
+    laws::slices_are_bytes(bytes);
+    let mut decoder = encoding.new_decoder();
+    let Some(most) = decoder.max_utf8_buffer_length(bytes.len()) else {
+        return Ok(None);
+    };
+    let mut text = vec![in alloc; 0; most]?;
+    let (stop, _, written, _) = decoder.decode_to_utf8(bytes, &mut text, true);
+    match stop {
+        CoderResult::OutputFull => unreachable!(),
+        CoderResult::InputEmpty => {
+            text.truncate(written);
+            Ok(Some(text))
+        }
+    }
+}
+
+/// Decodes two chunks into one array, the second after the text of the first.
+///
+/// Returns why the last call stopped, and the number of bytes written. They are the beginning of
+/// the text of both chunks together, and all of it after `InputEmpty`.
+fn decode_in_two(
+    encoding: Encoding,
+    bytes: &[u8],
+    at: usize,
+    dst: &mut [u8],
+) -> (CoderResult, usize)
+    requires { at ≤ length bytes.now }
+    ensures within { result.1 ≤ length dst.new }
+    ensures beginning { take result.1 dst.new
+        ≡ take result.1 (whole_utf_8 Sniff encoding bytes.now) }
+    ensures all { result.0 ≡ CoderResult.InputEmpty
+        → take result.1 dst.new ≡ whole_utf_8 Sniff encoding bytes.now }
+{
+    let mut decoder = encoding.new_decoder();
+    let (first, second) = bytes.split_at(at);
+    let (stop, _, written, _) = decoder.decode_to_utf8(first, dst, false);
+    match stop {
+        CoderResult::OutputFull => (stop, written),
+        CoderResult::InputEmpty => {
+            let (end, _, more, _) = decoder.decode_to_utf8(second, &mut dst[written..], true);
+            (end, written + more)
+        }
+    }
+}
+
+/// Counts the malformed sequences of a whole input.
+fn count_malformed(encoding: Encoding, bytes: &[u8]) -> usize
+    ensures { result ≡ malformed_count (whole_sequences Sniff encoding bytes.now) }
+{
+    let mut decoder = encoding.new_decoder();
+    let mut piece = [0; PIECE];
+    let mut unread = bytes;
+    let mut count = 0;
+    'pieces: loop {
+        let (result, read, _) = decoder.decode_to_utf8_without_replacement(
+            unread, &mut piece, true,
+        );
+        let (_, rest) = unread.split_at(read);
+        unread = rest;
+        match result {
+            DecoderResult::InputEmpty => return count,
+            DecoderResult::OutputFull => {}
+            DecoderResult::Malformed(_, _) => count += 1,
+        }
+    }
+}
+
+fn main(rt: HostRuntime) -> io::Result<()> {
+    let label = env::args(&rt)?.nth(1).ok_or(Error::other("no label"))?;
+    let encoding = Encoding::for_label(label.as_bytes()).ok_or(Error::other("unknown label"))?;
+    let mut bytes = Vec::new(rt.alloc());
+    rt.stdin().read_to_end(&mut bytes)?;
+    let text = decode_sized(rt.alloc(), encoding, &bytes)?.ok_or(Error::other("too long"))?;
+    let mut beginning = [0; BEGINNING];
+    let (_, len) = decode_in_two(encoding, &bytes, bytes.len() / 2, &mut beginning);
+    let count = count_malformed(encoding, &bytes);
+    let mut out = rt.stdout();
+    out.write_all(&text)?;
+    out.write_all(&beginning[..len])?;
+    writeln!(out, "\nmalformed sequences: {count}")
+}

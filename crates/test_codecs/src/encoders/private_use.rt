@@ -1,0 +1,88 @@
+//! The characters of private use whose two bytes GB18030-2022 gave to others, in gb18030 and GBK:
+//! the table of the standard's encoder (10.2.2, step 5). Bytes of characters beside them are those
+//! of Python's codec, too.
+
+use encoding_rs::{GB18030, GBK};
+use std::test::Fail;
+use test_support::encoding::runs::{EncoderRow, compare_encoded, compare_long};
+
+/// The two bytes, the character before, and the one since.
+const CHANGED: [(&[u8], &str, &str); 18] = [
+    (b"\xA6\xD9", "\u{E78D}", "\u{FE10}"),
+    (b"\xA6\xDA", "\u{E78E}", "\u{FE12}"),
+    (b"\xA6\xDB", "\u{E78F}", "\u{FE11}"),
+    (b"\xA6\xDC", "\u{E790}", "\u{FE13}"),
+    (b"\xA6\xDD", "\u{E791}", "\u{FE14}"),
+    (b"\xA6\xDE", "\u{E792}", "\u{FE15}"),
+    (b"\xA6\xDF", "\u{E793}", "\u{FE16}"),
+    (b"\xA6\xEC", "\u{E794}", "\u{FE17}"),
+    (b"\xA6\xED", "\u{E795}", "\u{FE18}"),
+    (b"\xA6\xF3", "\u{E796}", "\u{FE19}"),
+    (b"\xFE\x59", "\u{E81E}", "\u{9FB4}"),
+    (b"\xFE\x61", "\u{E826}", "\u{9FB5}"),
+    (b"\xFE\x66", "\u{E82B}", "\u{9FB6}"),
+    (b"\xFE\x67", "\u{E82C}", "\u{9FB7}"),
+    (b"\xFE\x6D", "\u{E832}", "\u{9FB8}"),
+    (b"\xFE\x7E", "\u{E843}", "\u{9FB9}"),
+    (b"\xFE\x90", "\u{E854}", "\u{9FBA}"),
+    (b"\xFE\xA0", "\u{E864}", "\u{9FBB}"),
+];
+
+#[test]
+fn both_characters_have_the_bytes(rt: HostRuntime) -> Result<(), Fail> {
+    for encoding in [GB18030, GBK] {
+        for (bytes, before, since) in CHANGED {
+            compare_encoded(rt.alloc(), encoding, &[(before, bytes), (since, bytes)])?;
+        }
+    }
+    Ok(())
+}
+
+#[test]
+fn the_later_character_is_read_back(rt: HostRuntime) -> Result<(), Fail> {
+    for encoding in [GB18030, GBK] {
+        for (_, before, since) in CHANGED {
+            let (bytes, _, _) = encoding.encode(rt.alloc(), before)?;
+            let (got, had_errors) = encoding.decode_without_bom_handling(rt.alloc(), &bytes)?;
+            assert!(rt;
+                got.as_str() == since && !had_errors,
+                "{encoding:?} {since}"
+            );
+        }
+    }
+    Ok(())
+}
+
+/// Beside them the indexes count.
+const BESIDE: &[EncoderRow] = &[
+    ("\u{E78C}\u{E797}", b"\xA6\xC0\xA6\xF6"),
+    ("\u{E831}\u{E855}", b"\xFE\x6C\xFE\x91"),
+];
+
+const BESIDE_IN_GB18030: &[EncoderRow] = &[
+    ("\u{E81D}\u{E81F}", b"\x836\xC99\x836\xCA0"),
+    ("\u{E863}\u{E865}", b"\x836\xCF9\x836\xD00"),
+];
+
+const BESIDE_IN_GBK: &[EncoderRow] = &[
+    ("\u{E81D}\u{E81F}", b"&#59421;&#59423;"),
+    ("\u{E863}\u{E865}", b"&#59491;&#59493;"),
+];
+
+#[test]
+fn characters_beside_them_keep_theirs(rt: HostRuntime) -> Result<(), Fail> {
+    compare_encoded(rt.alloc(), GB18030, BESIDE)?;
+    compare_encoded(rt.alloc(), GBK, BESIDE)?;
+    compare_encoded(rt.alloc(), GB18030, BESIDE_IN_GB18030)?;
+    compare_encoded(rt.alloc(), GBK, BESIDE_IN_GBK)
+}
+
+/// They stand among others, as one call writes many at once.
+const LONG: &str =
+    "人人生而自由，\u{E78D}在尊严\u{E78E}\u{E796} are equal in ASCII \u{E854}乂\u{E864}一律平等。\u{E5E5}";
+
+#[test]
+fn long_texts_with_them_are_written_as_their_characters(rt: HostRuntime) -> Result<(), Fail> {
+    compare_long(rt.alloc(), GB18030, LONG)?;
+    compare_long(rt.alloc(), GBK, LONG)
+}
