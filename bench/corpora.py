@@ -3,7 +3,7 @@
 There are two kinds. Running text is Debian's installation guide in its languages, and the Debian Reference in
 traditional Chinese, line by line in order. Short strings are the translations of message catalogs and the lines of
 manual pages, shuffled. A corpus has the lines of the text that its encoding has, again and again up to its size. The
-packages are this release's; scripts/unpacked fetches them.
+packages are bookworm's; scripts/unpacked fetches them.
 """
 
 import gettext

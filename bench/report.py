@@ -9,9 +9,10 @@ ENCODING = "How many times as fast as the best of encoding_rs, iconv and uconv r
 PEERS = ("encoding_rs", "iconv", "uconv")
 SIMDUTF = ("simdutf SSE", "simdutf AVX2")
 
-BESIDE_SIMDUTF = """The C++ library simdutf, by its implementations for SSE (`westmere`) and for AVX2 (`haswell`), in a program with the
-same buffers (`bench/simdutf.cpp`). To UTF-8 from UTF-8 it validates, and writes what it read. It replaces nothing: where
-something is malformed it stops."""
+BESIDE_SIMDUTF = """\
+The C++ library simdutf, by its implementations for SSE (`westmere`) and for AVX2 (`haswell`), in a program with the
+same buffers (`bench/simdutf.cpp`). From UTF-8 to UTF-8 it validates, and writes what it has read. It replaces nothing:
+at something malformed it stops."""
 
 # What a text becomes, for the table beside simdutf.
 TARGETS = {"decode": "to UTF-8", "to-units": "to UTF-16", "from-units": "from UTF-16"}

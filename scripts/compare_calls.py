@@ -38,8 +38,8 @@ BYTE_80 = "a Latin-1 prefix that the crate ends at byte 80 of Shift_JIS"
 ASCII_END = "a Latin-1 prefix in whose length the crate leaves out the ASCII bytes at the end"
 NOTES = (OTHER_LENGTHS, BYTE_80, ASCII_END)
 
-# What the crate does against its documentation, each by the call with the fewest bytes that a search has found, of those
-# with as much room as that asks for.
+# What the crate does against its documentation, each by the call with the fewest bytes that a search has found, of
+# those with as much room as that asks for.
 FAULTS = (
     (HELD_MARK, "decode ISO-2022-JP sniff EFBB - 2 last utf16 report"),
     (PANIC, "decode ISO-2022-JP off - 1B2442611B 4 last utf8 replace"),

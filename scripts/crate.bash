@@ -1,5 +1,5 @@
-# What scripts share that build a peer over the Rust crate encoding_rs, as Debian's release trixie packages it. The crate's
-# one dependency is this release's. They set `folder`, a temporary one.
+# What scripts share that build a peer over the Rust crate encoding_rs, as Debian's release trixie packages it. The
+# crate's one dependency is bookworm's. They set `folder`, a temporary one.
 
 # fail LOG TEXT: the end of a log, and what failed
 fail() {

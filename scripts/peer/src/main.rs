@@ -1,7 +1,7 @@
 //! peer RECODE FOLDER SEED JOBS full|quick: compares `recode FROM TO` with the Rust crate encoding_rs, output and
-//! status: first from every encoding to UTF-8, and then from every one to every one. RECODE is the program, and FOLDER is
-//! for its inputs. The status is 0 where nothing differs, 1 where something does, and 2 or 3 where the arguments are wrong
-//! or a program could not be run.
+//! status: first from every encoding to UTF-8, and then from every one to every one. RECODE is the program, and FOLDER
+//! is for its inputs. The status is 0 where nothing differs, 1 where something does, and 2 or 3 where the arguments are
+//! wrong or a program could not be run.
 mod comparison;
 mod hostile;
 mod pairs;
