@@ -3,7 +3,7 @@
 There are two kinds. Running text is Debian's installation guide in its languages, and the Debian Reference in
 traditional Chinese, line by line in order. Short strings are the translations of message catalogs and the lines of
 manual pages, shuffled. A corpus has the lines of the text that its encoding has, again and again up to its size. The
-packages are downloaded and unpacked beside the corpora, and not installed.
+packages are bookworm's; scripts/unpacked fetches them.
 """
 
 import gettext
@@ -12,7 +12,10 @@ import gzip
 import os
 import random
 import re
-import subprocess
+
+import packages
+
+RELEASE = "bookworm"
 
 GUIDE = "installation-guide-amd64"
 REFERENCE = "debian-reference-zh-tw"
@@ -94,6 +97,8 @@ HOSTILE = ["UTF-8", "UTF-16LE", "windows-1252", "Shift_JIS", "EUC-JP", "ISO-2022
 CORPORA = [Corpus(*row, kind=kind) for kind in KINDS for row in UNICODE + LEGACY]
 CORPORA += [Corpus(f"random bytes as {label}", [], label, None) for label in HOSTILE]
 CORPORA += [Corpus(*row, kind=kind, way="to-units") for kind in KINDS for row in UNICODE + LEGACY]
+# Of one code unit a character, since the end of a read would split a pair of surrogates.
+CORPORA += [Corpus(*row, kind=kind, way="from-units") for kind in KINDS for row in (UNICODE[0], UNICODE[2])]
 for way in ("encode", "from-units"):
     CORPORA += [Corpus(*row, kind=kind, way=way) for kind in KINDS for row in WRITTEN]
     CORPORA += [
@@ -101,36 +106,24 @@ for way in ("encode", "from-units"):
     ]
 
 
-def unpacked(cache, package):
-    """The folder of a package that is unpacked in the cache, and its version."""
-    folder = f"{cache}/{package}"
-    if not os.path.exists(f"{folder}/version"):
-        os.makedirs(folder, exist_ok=True)
-        download = f"apt-get download {package}"
-        subprocess.run(["sh", "-c", f"{download} || {{ apt-get update && {download}; }}"], cwd=folder, check=True,
-                       stdout=subprocess.DEVNULL, stderr=subprocess.DEVNULL)
-        [archive] = glob.glob(f"{folder}/*.deb")
-        subprocess.run(["dpkg-deb", "-x", archive, folder], check=True)
-        version = subprocess.run(["dpkg-deb", "-f", archive, "Version"], check=True, capture_output=True).stdout
-        os.remove(archive)
-        with open(f"{folder}/version", "wb") as file:
-            file.write(version)
-    with open(f"{folder}/version", encoding="ascii") as file:
-        return folder, file.read().strip()
+def unpacked(package):
+    """The folder of a package of texts."""
+    [folder] = packages.unpacked(RELEASE, package)
+    return folder
 
 
-def sources(cache):
+def sources():
     """The packages that the texts come from, with their versions."""
-    packages = [GUIDE, REFERENCE, *CATALOGS, *sorted(set(MANUALS.values()))]
-    return ", ".join(f"{package} {unpacked(cache, package)[1]}" for package in packages)
+    names = [GUIDE, REFERENCE, *CATALOGS, *sorted(set(MANUALS.values()))]
+    return ", ".join(f"{name} {packages.field(unpacked(name), 'Version')}" for name in names)
 
 
-def running_lines(cache, language):
+def running_lines(language):
     """The lines of a language that are not empty. Of the Reference, which has much English, those in Chinese."""
     if language == "zh_TW":
-        path = f"{unpacked(cache, REFERENCE)[0]}/usr/share/debian-reference/debian-reference.zh-tw.txt.gz"
+        path = f"{unpacked(REFERENCE)}/usr/share/debian-reference/debian-reference.zh-tw.txt.gz"
     else:
-        path = f"{unpacked(cache, GUIDE)[0]}/usr/share/doc/{GUIDE}/{language}/install.{language}.txt.gz"
+        path = f"{unpacked(GUIDE)}/usr/share/doc/{GUIDE}/{language}/install.{language}.txt.gz"
     with gzip.open(path, "rt", encoding="koi8-r" if language == "ru" else "utf-8") as file:
         return [line for line in file if line.strip() and not (language == "zh_TW" and line.isascii())]
 
@@ -153,11 +146,11 @@ def manual_lines(folder, language):
                     yield re.sub(r"\\f.|\\\(..|\\[&|]", "", line).replace("\\-", "-")
 
 
-def short_lines(cache, language):
+def short_lines(language):
     """Messages and manual lines, each once, shuffled. But in English and French a quarter of a line is beyond ASCII."""
-    found = {line for package in CATALOGS for line in messages(unpacked(cache, package)[0], language)}
+    found = {line for package in CATALOGS for line in messages(unpacked(package), language)}
     if language in MANUALS:
-        found.update(manual_lines(unpacked(cache, MANUALS[language])[0], language))
+        found.update(manual_lines(unpacked(MANUALS[language]), language))
     kept = []
     for line in sorted(text.strip() for text in found):
         if len(line) >= 12 and (language in ("en", "fr") or 4 * sum(c > "\x7F" for c in line) >= len(line)):
@@ -166,8 +159,8 @@ def short_lines(cache, language):
     return kept
 
 
-def lines(cache, language, kind):
-    return running_lines(cache, language) if kind == RUNNING else short_lines(cache, language)
+def lines(language, kind):
+    return running_lines(language) if kind == RUNNING else short_lines(language)
 
 
 def mixed(texts):
@@ -191,10 +184,10 @@ def encoded(line, codec):
         return b""
 
 
-def block(cache, corpus):
+def block(corpus):
     """The text of a corpus, once."""
     languages = [language for language in corpus.languages if corpus.kind == RUNNING or language != "el"]
-    texts = [lines(cache, language, corpus.kind) for language in languages]
+    texts = [lines(language, corpus.kind) for language in languages]
     text = mixed(texts) if len(texts) > 1 else texts[0]
     parts = [encoded(line, corpus.codec) for line in text]
     if not corpus.is_decoded and corpus.codec == "euc_jp":
@@ -207,12 +200,6 @@ def block(cache, corpus):
     return made
 
 
-def random_bytes(label, size):
-    """Random bytes. For gb18030 they have no lead of what GB18030-2022 changed, for the crate may be older."""
-    data = random.Random(SEED).randbytes(size)
-    return data.replace(b"\xA6", b"\xA5").replace(b"\xFE", b"\xFD") if label == "gb18030" else data
-
-
 def path(cache, corpus, mib):
     """The file of a corpus's text, made where it isn't there: whole blocks, of that many MiB or more."""
     if not corpus.languages:
@@ -223,10 +210,10 @@ def path(cache, corpus, mib):
     if not os.path.exists(file_path):
         size = mib << 20
         if corpus.languages:
-            once = block(cache, corpus)
+            once = block(corpus)
             data = once * -(-size // len(once))
         else:
-            data = random_bytes(corpus.label, size)
+            data = random.Random(SEED).randbytes(size)
         with open(f"{file_path}.part", "wb") as file:
             file.write(data)
         os.rename(f"{file_path}.part", file_path)

@@ -7,6 +7,15 @@ DECODING = "How many times as fast as the crate encoding_rs recode decodes"
 DECODING_UNITS = "The rate of decoding to UTF-16 by that of the crate encoding_rs"
 ENCODING = "How many times as fast as the best of encoding_rs, iconv and uconv recode encodes"
 PEERS = ("encoding_rs", "iconv", "uconv")
+SIMDUTF = ("simdutf SSE", "simdutf AVX2")
+
+BESIDE_SIMDUTF = """\
+The C++ library simdutf, by its implementations for SSE (`westmere`) and for AVX2 (`haswell`), in a program with the
+same buffers (`bench/simdutf.cpp`). From UTF-8 to UTF-8 it validates, and writes what it has read. It replaces nothing:
+at something malformed it stops."""
+
+# What a text becomes, for the table beside simdutf.
+TARGETS = {"decode": "to UTF-8", "to-units": "to UTF-16", "from-units": "from UTF-16"}
 
 # The pictures: the name of each, its way, its title, and the programs that it compares with.
 PICTURES = (
@@ -73,6 +82,19 @@ def unit_cells(row, units):
     return [row.rate("recode"), row.rate("encoding_rs"), f"{row.ratio(('encoding_rs',)):.2f}"]
 
 
+def simdutf_table(rows):
+    """A table in Markdown: rates beside simdutf, and that of recode by each of its implementations."""
+    names = [name for name in SIMDUTF if any(name in row.times for row in rows)]
+    programs = ["recode", "encoding_rs", *names]
+    heads = ["Text", *programs] + [f"recode by {name}" for name in names]
+    made = ["| " + " | ".join(heads) + " |", "|---" * len(heads) + "|"]
+    for row in [row for row in rows if any(name in row.times for name in names)]:
+        cells = [f"{row.title}, {TARGETS[row.way]}"] + [row.rate(program) for program in programs]
+        cells += [f"{row.ratio([name]):.2f}" if name in row.times else "" for name in names]
+        made.append("| " + " | ".join(cells) + " |")
+    return "\n".join(made)
+
+
 def text(circumstances, rows):
     """The circumstances of the measurement, and a table for each way with its pictures."""
     parts = [circumstances]
@@ -92,6 +114,8 @@ def text(circumstances, rows):
         parts.append(table(ways["encode"], ["recode", "before", *PEERS], PEERS, ways["from-units"], "from UTF-16"))
     elif ways["from-units"]:
         parts += ["### From UTF-16 to each encoding", table(ways["from-units"], ["recode", "encoding_rs"], ("encoding_rs",))]
+    if any(name in row.times for row in rows for name in SIMDUTF):
+        parts += ["### UTF-8 and UTF-16 beside simdutf", BESIDE_SIMDUTF, simdutf_table(rows)]
     return "\n\n".join(parts)
 
 

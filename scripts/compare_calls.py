@@ -7,7 +7,8 @@ after the call, the length that the call's query returned before, the length of 
 had a pending state, and the units that the rest of the input gives.
 
 Where the two differ by design, or where the crate has a fault, a rule says so. Each line comes under one of RULES or
-differs. Of the first lines that differ the smallest that was found is shown. The status is 0 where none differs.
+differs. Of the first lines that differ the smallest that was found is shown. FAULTS has a line for each fault; one that
+no longer shows it differs too, since its rule is to go. The status is 0 where none differs.
 """
 
 import collections
@@ -32,11 +33,22 @@ LOST = "the crate loses the lead byte that it holds"
 SPLIT = "the crate takes a pair of surrogates at the end of the room for two without a partner"
 RULES = (ALIKE, EARLIER, PENDING, HELD_MARK, AHEAD, PANIC, LOST, SPLIT)
 
-RENEWED = "characters that GB18030-2022 changed"
 OTHER_LENGTHS = "other lengths, as the tables have them"
 BYTE_80 = "a Latin-1 prefix that the crate ends at byte 80 of Shift_JIS"
 ASCII_END = "a Latin-1 prefix in whose length the crate leaves out the ASCII bytes at the end"
-NOTES = (RENEWED, OTHER_LENGTHS, BYTE_80, ASCII_END)
+NOTES = (OTHER_LENGTHS, BYTE_80, ASCII_END)
+
+# What the crate does against its documentation, each by the call with the fewest bytes that a search has found, of
+# those with as much room as that asks for.
+FAULTS = (
+    (HELD_MARK, "decode ISO-2022-JP sniff EFBB - 2 last utf16 report"),
+    (PANIC, "decode ISO-2022-JP off - 1B2442611B 4 last utf8 replace"),
+    (PANIC, "decode windows-1252 sniff EFBB - 4 last utf8 replace"),
+    (LOST, "decode Big5 off 81 - 4 more utf8 replace"),
+    (SPLIT, "encode windows-1252 off - D83DDE00 1 last utf16 report"),
+    (BYTE_80, "decode Shift_JIS off - 80 4 last utf8 report"),
+    (ASCII_END, "decode windows-1252 off - 61 4 last utf8 report"),
+)
 
 TWO_BYTES = ("Big5", "EUC-KR", "Shift_JIS")
 UTF_16 = ("UTF-16BE", "UTF-16LE")
@@ -122,7 +134,6 @@ class Answer:
     query: int
     state: str
     rest: bytes
-    is_renewed: bool = False
 
     @classmethod
     def of(cls, text):
@@ -157,12 +168,10 @@ def hexed(data):
 
 
 class Programs:
-    """Both programs, and the characters that GB18030-2022 changed: code points before, and those since."""
+    """Both programs."""
 
     def __init__(self, ours, crate):
         self.ours, self.crate = [ours], [crate, "answers"]
-        changed = subprocess.run([crate, "changed"], stdout=subprocess.PIPE, check=True).stdout.decode()
-        self.since = {int(before, 16): int(since, 16) for before, since in map(str.split, changed.splitlines())}
 
     @staticmethod
     def answers(program, lines):
@@ -173,16 +182,8 @@ class Programs:
         return [Answer.of(it) for it in self.answers(self.ours, lines)]
 
     def of_crate(self, lines):
-        """The crate's answers, with the characters since GB18030-2022. None where it panics."""
-        found = zip(lines, self.answers(self.crate, lines), strict=True)
-        return [None if it == "panic" else self.renewed(line, Answer.of(it)) for line, it in found]
-
-    def renewed(self, line, answer):
-        if not line.decodes or answer.encoding not in ("gb18030", "GBK"):
-            return answer
-        parts = (answer.units, answer.rest)
-        units, rest = (it.decode(line.code).translate(self.since).encode(line.code) for it in parts)
-        return replace(answer, units=units, rest=rest, is_renewed=(units, rest) != (answer.units, answer.rest))
+        """The crate's answers. None where it panics."""
+        return [None if it == "panic" else Answer.of(it) for it in self.answers(self.crate, lines)]
 
 
 def length(line, lengths):
@@ -220,7 +221,7 @@ def notes_of(line, ours, crate):
     """The differences by design beside the rule of a line."""
     if crate is None:
         return []
-    notes = [RENEWED] * crate.is_renewed + [OTHER_LENGTHS] * (ours.query != crate.query)
+    notes = [OTHER_LENGTHS] * (ours.query != crate.query)
     return notes + ([note_of_state(line, ours, crate)] if ours.state != crate.state else [])
 
 
@@ -372,6 +373,14 @@ def show(programs, line):
         print(f"    {name}: {programs.answers(program, [line])[0]}")
 
 
+def mended(programs):
+    """The lines of FAULTS that no longer show their fault."""
+    lines = [Line.of(it) for _, it in FAULTS]
+    answers = zip(lines, programs.of_ours(lines), programs.of_crate(lines), strict=True)
+    shown = [(rule, *notes_of(*it)) for rule, it in zip(judge(programs, lines)[0], answers, strict=True)]
+    return [line for (fault, line), found in zip(FAULTS, shown, strict=True) if fault not in found]
+
+
 def in_room(programs, texts):
     """Lines. Where the room is `+N`, it is N more than the library's query returns."""
     lines = [Line.of(it) for it in texts]
@@ -410,6 +419,9 @@ def main(words):
         print(f"{counts[rule]:>9} calls: {rule}")
     for note in NOTES:
         print(f"{notes[note]:>9} of these with {note}")
+    for line in mended(programs):
+        print(f"  no fault of the crate any more: {line}")
+        counts[None] += 1
     total, differ = sum(counts.values()), counts[None]
     print(f"compare-crate: {total - differ} calls alike or apart by a rule, {differ} differ")
     return int(differ > 0 or total == 0 or (len(how) == 2 and total != int(how[1])))

@@ -1,7 +1,5 @@
-# What scripts share that build a peer over the Rust crate encoding_rs as it is packaged. They set `folder`, a temporary one.
-
-# where the package has the sources of crates
-registry=/usr/share/cargo/registry
+# What scripts share that build a peer over the Rust crate encoding_rs, as Debian's release trixie packages it. The
+# crate's one dependency is bookworm's. They set `folder`, a temporary one.
 
 # fail LOG TEXT: the end of a log, and what failed
 fail() {
@@ -10,29 +8,43 @@ fail() {
     exit 3
 }
 
-# Installs the crate and cargo, each where it is missing.
-install_missing() {
-    local packages=()
-    compgen -G "$registry/encoding_rs-*/Cargo.toml" >/dev/null || packages+=(librust-encoding-rs-dev)
-    command -v cargo >/dev/null || packages+=(cargo)
-    [[ ${#packages[@]} -ne 0 ]] || return 0
-    {
-        apt-get install -y "${packages[@]}" || { apt-get update && apt-get install -y "${packages[@]}"; }
-    } >"$folder/apt.log" 2>&1 || fail "$folder/apt.log" "could not install: ${packages[*]}"
+# lacking TEXT: what the script lacks, in a line
+lacking() {
+    echo "$(basename "$0"): lacks $1" >&2
+    exit 2
 }
 
-# Builds the peer over the packaged sources, with no network and outside the repository.
+# install_missing COMMAND PACKAGE: installs a package where the command is missing
+install_missing() {
+    ! command -v "$1" >/dev/null || return 0
+    {
+        apt-get install -y "$2" || { apt-get update && apt-get install -y "$2"; }
+    } >"$folder/apt.log" 2>&1 || lacking "$1, and apt-get could not install $2"
+}
+
+# The sources of the crate and of its dependency, as a folder of crates for cargo. They are unpacked and not installed.
+find_crates() {
+    local parts
+    parts=$({ scripts/unpacked trixie librust-encoding-rs-dev && scripts/unpacked bookworm librust-cfg-if-dev; } \
+        2>"$folder/unpacked.log") || lacking "$(sed -n '$ s/^lacks //p' "$folder/unpacked.log")"
+    mkdir "$folder/crates"
+    while read -r part; do
+        ln -s "$part"/usr/share/cargo/registry/* "$folder/crates/"
+    done <<<"$parts"
+}
+
+# Builds the peer over those sources, with no network and outside the repository.
 build_peer() {
+    install_missing cargo cargo
+    find_crates
     cp -r scripts/peer "$folder/peer"
     (cd "$folder/peer" && cargo build --release --offline --target-dir "$folder/target" \
         --config 'source.crates-io.replace-with="packaged"' \
-        --config "source.packaged.directory=\"$registry\"") >"$folder/peer.log" 2>&1 ||
+        --config "source.packaged.directory=\"$folder/crates\"") >"$folder/peer.log" 2>&1 ||
         fail "$folder/peer.log" "the peer was not built"
 }
 
-# The version that the peer was built over. Where the package has several, it is the one that cargo chose.
+# The version of the crate.
 crate_version() {
-    local version
-    version=$(sed -n '/^name = "encoding_rs"$/ { n; s/^version = "\(.*\)"$/\1/p }' "$folder/peer/Cargo.lock")
-    sed -n 's/^version = "\(.*\)"$/\1/p' "$registry/encoding_rs-$version/Cargo.toml" | head -n 1
+    sed -n '/^name = "encoding_rs"$/ { n; s/^version = "\(.*\)"$/\1/p }' "$folder/peer/Cargo.lock"
 }

@@ -1,8 +1,7 @@
 //! peer RECODE FOLDER SEED JOBS full|quick: compares `recode FROM TO` with the Rust crate encoding_rs, output and
-//! status: first from every encoding to UTF-8, and then from every one to every one. RECODE is the program, and FOLDER is
-//! for its inputs. The status is 0 where nothing differs but the characters that GB18030-2022 changed, and each of these
-//! does as it is named; 1 where something else does; and 2 or 3 where the arguments are wrong or a program could not be
-//! run.
+//! status: first from every encoding to UTF-8, and then from every one to every one. RECODE is the program, and FOLDER
+//! is for its inputs. The status is 0 where nothing differs, 1 where something does, and 2 or 3 where the arguments are
+//! wrong or a program could not be run.
 mod comparison;
 mod hostile;
 mod pairs;
@@ -10,8 +9,8 @@ mod recode;
 mod sequences;
 
 use comparison::{hex, Comparison};
-use encoding_rs::{Encoding, REPLACEMENT, UTF_16BE, UTF_16LE, UTF_8};
-use peer::{oracle, tokens};
+use encoding_rs::{Encoding, GB18030, GBK, REPLACEMENT, UTF_16BE, UTF_16LE, UTF_8};
+use peer::tokens;
 use recode::{Delivery, Recode};
 use std::io;
 use std::path::PathBuf;
@@ -122,7 +121,6 @@ fn settings() -> Option<Settings> {
 fn compare_all(settings: &Settings) -> io::Result<u64> {
     let mut totals = Totals::default();
     compare_replacement(settings, &mut totals)?;
-    compare_changed(settings, &mut totals)?;
     let next = AtomicUsize::new(0);
     let sum = Mutex::new(totals);
     thread::scope(|scope| {
@@ -194,7 +192,7 @@ fn compare_sequences(comparison: &mut Comparison, settings: &Settings) -> io::Re
     sequences::sample(comparison, 4, count, seed + 1)?;
     sequences::every_of_tokens(comparison, if settings.quick { 3 } else { 4 })?;
     sequences::sample_of_tokens(comparison, 12, count, seed + 2)?;
-    if oracle::has_changed(encoding) {
+    if encoding == GB18030 || encoding == GBK {
         sequences::every_four_of_gb18030(comparison)?;
     } else if encoding == UTF_8 {
         sequences::every_four_of_utf_8(comparison)?;
@@ -221,59 +219,4 @@ fn compare_replacement(settings: &Settings, totals: &mut Totals) -> io::Result<(
     }
     println!("replacement: {} labels, with status 2 each, to decode from and to write", REPLACEMENT_LABELS.len());
     Ok(())
-}
-
-/// Each sequence whose character GB18030-2022 changed, one by one, and that the characters before come from no other.
-fn compare_changed(settings: &Settings, totals: &mut Totals) -> io::Result<()> {
-    for name in ["gb18030", "GBK"] {
-        let encoding = encoding_of(name)?;
-        println!("{name}: characters that GB18030-2022 changed");
-        for changed in &oracle::CHANGED {
-            let got = settings.recode("changed").run([name, "utf-8"], &changed.bytes, Delivery::Pipe)?;
-            totals.count(is_as_named(encoding, changed, &got));
-            for before in [false, true] {
-                totals.count(is_encoded_as_named(settings, encoding, changed, before)?);
-            }
-        }
-        for stray in oracle::strays(encoding) {
-            totals.count(false);
-            println!("  {}: the crate decodes it to a character named above", hex(&stray));
-        }
-    }
-    Ok(())
-}
-
-/// Whether recode has the character since, and the crate the one before or, if it is late enough, that since.
-fn is_as_named(encoding: &'static Encoding, changed: &oracle::Changed, got: &oracle::Answer) -> bool {
-    let packaged = oracle::decode_alone(encoding, &changed.bytes).unwrap_or_default();
-    let named = packaged == changed.before.to_string() || packaged == changed.since.to_string();
-    let alike = got.status == 0 && got.text == changed.since.to_string().as_bytes();
-    let text = String::from_utf8_lossy(&got.text);
-    let verdict = if named && alike { "" } else { ", NOT as named" };
-    println!("  {}: the crate {}, recode {}{verdict}", hex(&changed.bytes), points(&packaged), points(&text));
-    named && alike
-}
-
-/// Whether recode has the two bytes for the character since and none for the one before. The crate has them for one of
-/// both.
-fn is_encoded_as_named(
-    settings: &Settings,
-    encoding: &'static Encoding,
-    changed: &oracle::Changed,
-    before: bool,
-) -> io::Result<bool> {
-    let text = String::from(if before { changed.before } else { changed.since });
-    let labels = ["utf-8", encoding.name()];
-    let got = settings.recode("changed").run(labels, text.as_bytes(), Delivery::Pipe)?;
-    let alike = got.status == i32::from(before) && got.text == changed.encoded(before);
-    let (packaged, _, _) = encoding.encode(&text);
-    let verdict = if alike { "" } else { ", NOT as named" };
-    println!("  {}: the crate {}, recode {}{verdict}", points(&text), hex(&packaged), hex(&got.text));
-    Ok(alike)
-}
-
-/// The characters of a text by their code points.
-fn points(text: &str) -> String {
-    let all: Vec<String> = text.chars().map(|character| format!("U+{:04X}", u32::from(character))).collect();
-    all.join(" ")
 }

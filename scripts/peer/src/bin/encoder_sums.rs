@@ -4,9 +4,8 @@
 //!
 //! A sum is FNV-1a with 64 bits, over numbers: of a character that is mappable its bytes and 0x100. Of any other one they
 //! are without replacement 0x200 and the character that is reported, and with it the bytes of its reference, with the
-//! escape sequence that may follow, and 0x200. The characters that GB18030-2022 changed are left out in GB18030 and GBK.
-use encoding_rs::{BIG5, EncoderResult, Encoding, GB18030, GBK};
-use peer::oracle;
+//! escape sequence that may follow, and 0x200.
+use encoding_rs::{BIG5, EncoderResult, Encoding};
 
 const OFFSET_BASIS: u64 = 0xCBF2_9CE4_8422_2325;
 const PRIME: u64 = 0x100_0000_01B3;
@@ -22,9 +21,7 @@ const NAMES: [&str; 40] = [
 
 fn is_tried(encoding: &'static Encoding, character: char) -> bool {
     let code = u32::from(character);
-    let is_in_sample = code < 0x1_0000 || code % 97 == 0 || (code >> 16 == 2 && encoding == BIG5);
-    let is_changed = oracle::CHANGED.iter().any(|changed| changed.before == character || changed.since == character);
-    is_in_sample && !(is_changed && (encoding == GB18030 || encoding == GBK))
+    code < 0x1_0000 || code % 97 == 0 || (code >> 16 == 2 && encoding == BIG5)
 }
 
 fn add(sum: u64, number: u64) -> u64 {

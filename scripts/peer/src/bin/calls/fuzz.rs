@@ -2,7 +2,6 @@
 use crate::answers::{answer, bytes_of, hex};
 use encoding_rs::Encoding;
 use peer::inputs::{in_encoding, TEXT};
-use peer::oracle::{has_changed, since, CHANGED};
 use std::fs;
 use std::io::{self, Read, Write};
 use std::process::{Command, Stdio};
@@ -63,7 +62,7 @@ fn line_of(input: &[u8]) -> Option<String> {
     let (before, chunk) = rest.split_at(rest.len().min(usize::from(before % 16)));
     let utf16 = how & UTF_16 != 0;
     let (direction, before, chunk) = if how & ENCODE != 0 {
-        ("encode", text(label, utf16, before), text(label, utf16, chunk))
+        ("encode", text(utf16, before), text(utf16, chunk))
     } else {
         ("decode", before.to_vec(), chunk.to_vec())
     };
@@ -82,16 +81,8 @@ fn line_of(input: &[u8]) -> Option<String> {
 }
 
 /// The input of an encoder: UTF-8, with U+FFFD for malformed parts, or code units.
-fn text(label: &str, utf16: bool, bytes: &[u8]) -> Vec<u8> {
-    let is_changed = |it: &char| CHANGED.iter().any(|changed| changed.before == *it || changed.since == *it);
-    let has_changed = Encoding::for_label(label.as_bytes()).is_some_and(has_changed);
-    if !utf16 {
-        let text = String::from_utf8_lossy(bytes);
-        return String::into_bytes(text.chars().filter(|it| !(has_changed && is_changed(it))).collect());
-    }
-    let units = bytes.chunks_exact(2).map(|pair| u16::from_be_bytes([pair[0], pair[1]]));
-    let kept = units.filter(|unit| !(has_changed && char::from_u32(u32::from(*unit)).is_some_and(|it| is_changed(&it))));
-    kept.flat_map(u16::to_be_bytes).collect()
+fn text(utf16: bool, bytes: &[u8]) -> Vec<u8> {
+    if utf16 { bytes[..bytes.len() & !1].to_vec() } else { String::from_utf8_lossy(bytes).into_owned().into_bytes() }
 }
 
 /// Runs both on the line of standard input.
@@ -118,7 +109,6 @@ fn outcome(line: &str, answer: &str) -> (String, Vec<u8>) {
     let words: Vec<&str> = answer.split(' ').collect();
     let [result, _, _, _, units, encoding, _, _, rest] = words[..] else { return (String::from(answer), Vec::new()) };
     let utf16 = line.contains(" utf16 ");
-    let decodes = line.starts_with("decode");
     let middle = match result.split_once('(') {
         Some(("Malformed", _)) => vec![if utf16 { vec![0xFF, 0xFD] } else { "\u{FFFD}".into() }].concat(),
         Some(("Unmappable", it)) => {
@@ -127,17 +117,5 @@ fn outcome(line: &str, answer: &str) -> (String, Vec<u8>) {
         }
         _ => Vec::new(),
     };
-    let bytes = [bytes_of(units), middle, bytes_of(rest)].concat();
-    let is_changed = decodes && matches!(encoding, "gb18030" | "GBK");
-    (String::from(encoding), if is_changed { renewed(&bytes, utf16) } else { bytes })
-}
-
-/// A text with the characters since GB18030-2022.
-fn renewed(bytes: &[u8], utf16: bool) -> Vec<u8> {
-    if !utf16 {
-        return String::from_utf8_lossy(bytes).chars().map(since).collect::<String>().into_bytes();
-    }
-    let units: Vec<u16> = bytes.chunks_exact(2).map(|pair| u16::from_be_bytes([pair[0], pair[1]])).collect();
-    let text: String = String::from_utf16_lossy(&units).chars().map(since).collect();
-    text.encode_utf16().flat_map(u16::to_be_bytes).collect()
+    (String::from(encoding), [bytes_of(units), middle, bytes_of(rest)].concat())
 }

@@ -2,7 +2,6 @@
 use crate::answers::hex;
 use encoding_rs::Encoding;
 use peer::inputs::{damaged, in_encoding, mixed, random_tokens, TEXT};
-use peer::oracle::{has_changed, CHANGED};
 use peer::random::Random;
 use peer::tokens::MARKS;
 
@@ -94,9 +93,9 @@ fn mixed_or_line(encoding: &'static Encoding, random: &mut Random, lines: &[&str
 fn text(encoding: &'static Encoding, utf16: bool, random: &mut Random, most: usize) -> Vec<u8> {
     let length = random.below(most);
     let count = random.below(most);
-    let characters = mixed(encoding, random, length).chars().filter(|it| !is_changed(encoding, *it)).take(count).collect();
+    let characters: String = mixed(encoding, random, length).chars().take(count).collect();
     if !utf16 {
-        return String::into_bytes(characters);
+        return characters.into_bytes();
     }
     let mut units: Vec<u16> = characters.encode_utf16().collect();
     if random.below(3) == 0 {
@@ -104,9 +103,4 @@ fn text(encoding: &'static Encoding, utf16: bool, random: &mut Random, most: usi
         units.truncate(count);
     }
     units.into_iter().flat_map(u16::to_be_bytes).collect()
-}
-
-/// Whether GB18030-2022 changed the character. The crate encodes it in another way, and `compare_changed` compares it.
-fn is_changed(encoding: &'static Encoding, character: char) -> bool {
-    has_changed(encoding) && CHANGED.iter().any(|it| it.before == character || it.since == character)
 }

@@ -2,12 +2,10 @@
 //! calls answers: writes the answers of the Rust crate encoding_rs to the lines of standard input.
 //! calls fuzz OURS: makes the call of standard input by the crate and by OURS, a build of crates/compare_calls.
 //! calls seeds FOLDER, calls kept PATH..: write inputs of a fuzzer to begin with, and lines of those that it has kept.
-//! calls changed: writes the characters that GB18030-2022 changed, before and since, as code points.
 mod answers;
 mod fuzz;
 mod lines;
 
-use peer::oracle::CHANGED;
 use peer::random::Random;
 use std::io::{self, BufRead, BufWriter, Write};
 use std::process::ExitCode;
@@ -33,11 +31,6 @@ fn main() -> io::Result<ExitCode> {
         ["fuzz", ours] => fuzz::compare(ours)?,
         ["seeds", folder] => fuzz::write_seeds(folder)?,
         ["kept", ref paths @ ..] => fuzz::write_kept(paths, &mut out)?,
-        ["changed"] => {
-            for changed in CHANGED {
-                writeln!(out, "{:04X} {:04X}", u32::from(changed.before), u32::from(changed.since))?;
-            }
-        }
         _ => return Ok(ExitCode::from(2)),
     }
     out.flush()?;
