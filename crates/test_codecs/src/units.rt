@@ -195,3 +195,14 @@ fn bytes_are_valid_up_to_what_is_not(rt: HostRuntime) {
         );
     }
 }
+
+#[test]
+fn ascii_is_taken_whole(rt: HostRuntime) {
+    let (mut bytes, mut units) = ([0; 40], [0; 40]);
+    for len in 0..40 {
+        assert!(rt; Utf8Slice::new(&mut bytes).put_ascii(&[0x61; 40][..len]) == len);
+        assert!(rt; Utf16Slice::new(&mut units).put_ascii(&[0x61; 40][..len]) == len);
+        assert!(rt; Utf8Slice::new(&mut bytes[..len]).put_ascii(&[0x61; 40]) == len);
+        assert!(rt; Utf16Slice::new(&mut units[..len]).put_ascii(&[0x61; 40]) == len);
+    }
+}
