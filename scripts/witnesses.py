@@ -12,6 +12,7 @@ of an edit that changes them too only the rest is made. An edit whose wrong body
 moved or lent in both, say) is tried by itself too.
 """
 
+import glob
 import os
 import re
 import shutil
@@ -19,7 +20,7 @@ import subprocess
 import tempfile
 from concurrent.futures import ThreadPoolExecutor
 
-from edit_list import FUNCTION, OWNER, TOP, apply, crates, edits_of, equal_of, fault_of_same, fault_of_witness, file_of_test, is_program, read
+from edit_list import FUNCTION, OWNER, TEST, TOP, apply, crates, edits_of, equal_of, fault_of_same, fault_of_witness, file_of_test, is_program, read
 
 # Runs side by side. One takes 2 GB.
 LANES = max(1, min(3, os.cpu_count() - 1))
@@ -140,6 +141,17 @@ class Copy:
         for file, text in apply(edit.crate, [it for it in edit.pairs if not is_ghost(it)]).items():
             self.write(f"crates/{edit.crate}/{file}", text)
 
+    def leave_out_tests(self, crate, but=""):
+        """Takes the tests out of a crate, but that of a name: a build of few is quick."""
+        for path in glob.glob(f"{self.room}/crates/{crate}/src/**/*.rt", recursive=True):
+            text = read(path)
+            modules = os.path.relpath(path, f"{self.room}/crates/{crate}/src")[: -len(".rt")].replace("/", "::")
+            for name in TEST.findall(text):
+                if but not in (f"{crate}::{modules}::{name}", f"{crate}::{name}"):
+                    begin = re.search(rf"^(?:(?:///|#\[).*\n)*fn {name}\(", text, re.M).start()
+                    text = text[:begin] + text[body_of(text, name, "", f"fn {name}(")[1] + 2 :]
+            self.write(os.path.relpath(path, self.room), text)
+
     def run(self, crate, *words):
         """What `rt try` says of a crate, what the program prints, and the status."""
         where = f"{self.room}/crates/{crate}"
@@ -163,7 +175,11 @@ class Switched(Copy):
         self.write("crates.txt", f"{SWITCH}:\n{lines}")
         for number, (edit, _) in self.numbered.items():
             self.switch(edit, number)
-        self.plant_tests()
+        wrappers = self.wrappers()
+        for crate in {crate_of(test) for test in self.tests()}:
+            self.leave_out_tests(crate)
+        for path, text in wrappers.items():
+            self.write(path, self.read(path) + text)
         return self
 
     def switch(self, edit, number):
@@ -182,16 +198,18 @@ class Switched(Copy):
             found.setdefault(test, []).append(number)
         return found
 
-    def plant_tests(self):
-        """Has a test for each number, and one for none, beside each that is named: no function may call a test, so each has its body."""
+    def wrappers(self):
+        """The tests that set a number, by file: one for each number, and one for none. No function may call a test, so each has its body."""
+        found = {}
         for at, (test, numbers) in enumerate(self.tests().items()):
             path, name = file_of_test(test), test.split("::")[-1]
             text = self.read(path)
             head = re.search(rf"^#\[test\]\nfn {name}(\(.*\{{)$", text, re.M)
             body = text[head.end() : body_of(text, name, "", f"fn {name}(")[1]]
             for number, of in [*((number, "") for number in numbers), (0, f"_{at}")]:
-                text += f"\n#[test]\nfn {PREFIX}{number}{of}{head[1]}\n{SWITCH}::set({number});{body}}}\n"
-            self.write(path, text)
+                wrapper = f"\n#[test]\nfn {PREFIX}{number}{of}{head[1]}\n{SWITCH}::set({number});{body}}}\n"
+                found[path] = found.get(path, "") + wrapper
+        return found
 
     def edits_at(self, crate, said):
         """The numbers of the edits at whose bodies a build had errors."""
@@ -254,6 +272,7 @@ def run_singly(edit, witness):
             with open(f"{TOP}/crates/{witness}/stdout", "rb") as it:
                 return printed == it.read() and "run=ended status=0 " in said, ""
         crate, name = witness.split("::", 1)
+        copy.leave_out_tests(crate, witness)
         said, _, _ = copy.run(crate, "--test", "--seconds", str(SECONDS), "--", name)
     how = re.search(rf"^test {name} \.\.\. (\w+)", said, re.M)
     return (how[1] == "ok", "") if how else (None, first_error(said))

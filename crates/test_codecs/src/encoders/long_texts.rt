@@ -4,10 +4,12 @@
 //!
 //! Rows by codec are written by scripts/make-codecs from data/codecs.txt.
 
+use encoding_rs::run::{EncodeCall, EncodeReport, RunError, encode_run};
 use encoding_rs::{
-    BIG5, CoderResult, EUC_JP, EUC_KR, EncoderResult, Encoding, GB18030, GBK, ISO_2022_JP,
-    SHIFT_JIS, UTF_8, WINDOWS_1251, WINDOWS_1252, X_USER_DEFINED,
+    BIG5, EUC_JP, EUC_KR, EncoderResult, Encoding, GB18030, GBK, ISO_2022_JP, SHIFT_JIS, UTF_8,
+    WINDOWS_1251, WINDOWS_1252, X_USER_DEFINED,
 };
+use std::alloc::Global;
 use std::test::Fail;
 use test_support::encoding::runs::compare_long;
 
@@ -61,6 +63,11 @@ const WRITTEN: &[(Encoding, &str, &[u8])] = &[
     ),
     (
         ISO_2022_JP,
+        "｡｢ and then forty and more ASCII characters in one call",
+        b"\x1B$B!#!V\x1B(B and then forty and more ASCII characters in one call",
+    ),
+    (
+        ISO_2022_JP,
         "at first some twenty and \u{1B} then forty and more ASCII characters",
         b"at first some twenty and &#65533; then forty and more ASCII characters",
     ),
@@ -82,39 +89,45 @@ const WRITTEN: &[(Encoding, &str, &[u8])] = &[
     ),
 ];
 
-#[test]
-fn one_call_writes_a_long_text(rt: HostRuntime) {
-    for (encoding, text, want) in WRITTEN {
-        let done = (CoderResult::InputEmpty, text.len(), want.len());
-        let mut bytes = [0; 128];
-        let (result, read, written, _) = encoding
-            .new_encoder()
-            .encode_from_utf8(text, &mut bytes, true);
-        assert!(rt; (result, read, written) == done && &bytes[..written] == *want);
-        let mut units = [0; 128];
-        let mut len = 0;
-        for c in text.chars() {
-            len += c.encode_utf16(&mut units[len..]).len();
-        }
-        let done = (CoderResult::InputEmpty, len, want.len());
-        let (result, read, written, _) = encoding
-            .new_encoder()
-            .encode_from_utf16(&units[..len], &mut bytes, true);
-        assert!(rt; (result, read, written) == done && &bytes[..written] == *want);
-    }
+/// Encodes a text by one call with this room, from UTF-8 or UTF-16.
+fn encode_at_once(
+    alloc: Global,
+    (encoding, text): (Encoding, &str),
+    utf16: bool,
+    room: usize,
+) -> Result<EncodeReport, RunError> {
+    let call = EncodeCall {
+        utf16,
+        replace: true,
+        offer: text.len(),
+        room,
+    };
+    encode_run(alloc, encoding, text, &[call])
 }
 
 #[test]
-fn one_call_writes_what_fits_of_a_long_text(rt: HostRuntime) {
+fn one_call_writes_a_long_text(rt: HostRuntime) -> Result<(), Fail> {
     for (encoding, text, want) in WRITTEN {
-        for room in 0..48 {
-            let mut bytes = [0xFF; 64];
-            let (_, read, written, _) = encoding
-                .new_encoder()
-                .encode_from_utf8(text, &mut bytes[..room], false);
-            assert!(rt; read < text.len() && &bytes[..written] == &want[..written]);
+        for utf16 in [false, true] {
+            let report = encode_at_once(rt.alloc(), (*encoding, *text), utf16, 128)?;
+            assert!(rt;
+                report.finished && report.bytes.as_slice() == *want,
+                "{text}"
+            );
         }
     }
+    Ok(())
+}
+
+#[test]
+fn one_call_writes_what_fits_of_a_long_text(rt: HostRuntime) -> Result<(), Fail> {
+    for (encoding, text, want) in WRITTEN {
+        for room in 0..48 {
+            let report = encode_at_once(rt.alloc(), (*encoding, *text), false, room)?;
+            assert!(rt; !report.finished && want.starts_with(report.bytes.as_slice()));
+        }
+    }
+    Ok(())
 }
 
 #[test]
@@ -125,6 +138,6 @@ fn bytes_after_those_written_stay(rt: HostRuntime) {
     let done = WINDOWS_1252
         .new_encoder()
         .encode_from_utf8_without_replacement(text, &mut bytes, true);
-    assert!(rt; done == (stop, 6, 3) && &bytes[..3] == b"abc");
+    assert!(rt; done == (stop, 6, 3) && &bytes[..3] == b"abc".as_slice());
     assert!(rt; bytes[3..].iter().all(|byte| *byte == 0xFF));
 }
