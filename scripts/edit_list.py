@@ -63,6 +63,11 @@ class Edit:
         return f"{self.crate}/{self.name}"
 
     @property
+    def text_to_refuse(self):
+        """Its text without the lines on its witness, of which a proof takes no notice."""
+        return re.sub(f"^(?:{LINES['shown']}|{LINES['reason']}).*\n", "", self.text, flags=re.M)
+
+    @property
     def is_of_functions(self):
         return bool(self.places) and all(it.name for it in self.places)
 
@@ -147,7 +152,8 @@ def equal_of(crate):
 
 def file_of_test(name):
     """The file that a test stands in, from the top, or nothing where there is no such test."""
-    crate, *modules, test = name.split("::")
+    crate, *modules = name.split("::")
+    test = modules.pop() if modules else ""
     path = f"crates/{crate}/src/{'/'.join(modules) or 'lib'}.rt"
     return path if os.path.isfile(f"{TOP}/{path}") and test in TEST.findall(read(f"{TOP}/{path}")) else ""
 

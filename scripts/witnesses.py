@@ -55,7 +55,9 @@ PREFIX = "counts_for_edit_"
 
 RAN = re.compile(rf"^test (?:\S+::)?{PREFIX}(\d+)(?:_(\d+))? \.\.\. (\w+)", re.M)
 ERROR = re.compile(r"^(\S+\.rt):(\d+):\d+: error", re.M)
-ENDED = re.compile(r"^run=ended status=\d+ ", re.M)
+# The last line of a build that made nothing, and of a program that ended as it should.
+NO_BUILD = re.compile(r"^run=none ", re.M)
+ENDED = re.compile(r"^run=ended status=0 ", re.M)
 BEGINS, ENDS = "// the body of edit", "// the end of edit"
 
 
@@ -217,9 +219,9 @@ class Switched(Copy):
         for path, line in ERROR.findall(said):
             file = path if os.path.isabs(path) else f"{self.room}/crates/{crate}/{path}"
             before = read(file).split("\n")[: int(line)] if os.path.isfile(file) else []
-            marks = [it.split() for it in before if BEGINS in it or ENDS in it]
-            if marks and " ".join(marks[-1]).find(BEGINS) >= 0:
-                found.add(int(marks[-1][-1]))
+            marks = [it for it in before if BEGINS in it or ENDS in it]
+            if marks and BEGINS in marks[-1]:
+                found.add(int(marks[-1].split()[-1]))
         return found
 
 
@@ -253,7 +255,7 @@ def run_together(numbered):
             ran = [it for text in said.values() for it in RAN.findall(text)]
             passed = {int(number): how == "ok" for number, of, how in ran if not of}
             controls = {tests[int(of)]: how == "ok" for _, of, how in ran if of}
-            lost = "; ".join(first_error(it) for it in said.values() if not ENDED.search(it))
+            lost = "; ".join(first_error(it) for it in said.values() if NO_BUILD.search(it))
             return passed, controls, apart, lost
         apart += [numbered[number] for number in bad]
         numbered = {number: it for number, it in numbered.items() if number not in bad}
@@ -267,10 +269,10 @@ def run_singly(edit, witness):
             copy.make(edit)
         if is_program(witness):
             said, printed, _ = copy.run(witness)
-            if not ENDED.search(said):
+            if NO_BUILD.search(said):
                 return None, first_error(said)
             with open(f"{TOP}/crates/{witness}/stdout", "rb") as it:
-                return printed == it.read() and "run=ended status=0 " in said, ""
+                return printed == it.read() and bool(ENDED.search(said)), ""
         crate, name = witness.split("::", 1)
         copy.leave_out_tests(crate, witness)
         said, _, _ = copy.run(crate, "--test", "--seconds", str(SECONDS), "--", name)

@@ -139,8 +139,8 @@ const AMONG: &[Among] = &[
     (
         WINDOWS_1252,
         (
-            b"the price of one is \x80 5, and those of all of the others are the same, \xE9 or so, ",
-            "the price of one is € 5, and those of all of the others are the same, é or so, ",
+            b"the price of one is \x80 5, and those of the others are the same as that, \xE9 too, ",
+            "the price of one is € 5, and those of the others are the same as that, é too, ",
         ),
         (b"", ""),
     ),
