@@ -5,7 +5,7 @@
 use encoding_rs::run::{BomHandling, DecodeCall, decode_run};
 use encoding_rs::{
     BIG5, EUC_JP, EUC_KR, Encoding, GB18030, GBK, ISO_2022_JP, SHIFT_JIS, UTF_8, UTF_16BE,
-    UTF_16LE, WINDOWS_1251, WINDOWS_1252,
+    UTF_16LE, WINDOWS_1251, WINDOWS_1252, WINDOWS_1253,
 };
 use std::alloc::Global;
 use std::process::Abort;
@@ -123,6 +123,85 @@ fn long_texts_are_read_as_their_characters(rt: HostRuntime) -> Result<(), Fail> 
             decode_row(&rt, rt.alloc(), row, false, *size)?;
             decode_row(&rt, rt.alloc(), row, true, *size)?;
         }
+    }
+    Ok(())
+}
+
+/// An encoding, bytes with their text, which are repeated, and malformed bytes among them with
+/// theirs.
+type Among = (
+    Encoding,
+    (&'static [u8], &'static str),
+    (&'static [u8], &'static str),
+);
+
+const AMONG: &[Among] = &[
+    (
+        WINDOWS_1252,
+        (
+            b"the price of one is \x80 5, and those of the others are the same as that, \xE9 too, ",
+            "the price of one is € 5, and those of the others are the same as that, é too, ",
+        ),
+        (b"", ""),
+    ),
+    (
+        WINDOWS_1253,
+        (
+            b"nearly all of this is ASCII, but there is one \xE1, and then ASCII goes on. ",
+            "nearly all of this is ASCII, but there is one α, and then ASCII goes on. ",
+        ),
+        (b"\xAA", "\u{FFFD}"),
+    ),
+    (
+        WINDOWS_1253,
+        (
+            b"\xE1\xE2\xE3\xE4\xE5\xE6\xE7\xE8\xE1\xE2\xE3\xE4\xE5\xE6\xE7\xE8\xE9",
+            "αβγδεζηθαβγδεζηθι",
+        ),
+        (b"\xAA", "\u{FFFD}"),
+    ),
+    (
+        UTF_16LE,
+        (b"a\0b\0c\0\x80\0d\0e\0f\0g\0h\0i\0j\0", "abc\u{80}defghij"),
+        (b"\0\xD8", "\u{FFFD}"),
+    ),
+    (
+        ISO_2022_JP,
+        (
+            b"\x1B(J\\~abcdefghijklmnopqrstuvwxyzabcdefghijklmnopqrstuvwxyzabcdefghijkl",
+            "¥‾abcdefghijklmnopqrstuvwxyzabcdefghijklmnopqrstuvwxyzabcdefghijkl",
+        ),
+        (b"", ""),
+    ),
+    (
+        ISO_2022_JP,
+        (
+            b"\x1B(I123123123123123123123123123123123123123123123123123123123123123123",
+            "ｱｲｳｱｲｳｱｲｳｱｲｳｱｲｳｱｲｳｱｲｳｱｲｳｱｲｳｱｲｳｱｲｳｱｲｳｱｲｳｱｲｳｱｲｳｱｲｳｱｲｳｱｲｳｱｲｳｱｲｳｱｲｳｱｲｳ",
+        ),
+        (b"", ""),
+    ),
+];
+
+/// How many times the bytes are repeated on each side of the malformed ones: 512 bytes and more.
+const SIDE: usize = 48;
+
+#[test]
+fn one_call_reads_a_long_text(rt: HostRuntime) -> Result<(), Fail> {
+    for (encoding, (bytes, text), (among, of_among)) in AMONG {
+        let mut src = Vec::new(rt.alloc());
+        let mut want = String::new(rt.alloc());
+        for at in 0..2 * SIDE {
+            if at == SIDE {
+                src.extend_from_slice(among)?;
+                want.push_str(of_among)?;
+            }
+            src.extend_from_slice(bytes)?;
+            want.push_str(text)?;
+        }
+        let answer = encoding.decode_without_bom_handling(rt.alloc(), src.as_slice())?;
+        assert!(rt; answer.0.as_str() == want.as_str(), "{encoding:?}");
+        assert!(rt; answer.1 == !among.is_empty());
     }
     Ok(())
 }

@@ -9,6 +9,7 @@ use enc_index_pointers as pointers;
 
 /// Pointers in an index, and their characters.
 const CHARACTERS: &[(List, u32, Option<char>)] = &[
+    (List::Jis0208, 2, Some('。')),
     (List::Jis0208, 1410, Some('亜')),
     (List::Jis0208, 11103, Some('\u{9ED1}')),
     (List::Jis0208, 11104, None),
@@ -16,9 +17,15 @@ const CHARACTERS: &[(List, u32, Option<char>)] = &[
     (List::EucKr, 9026, Some('가')),
     (List::Gb18030, 9026, Some('啊')),
     (List::Gb18030, 23940, None),
+    (List::Big5, 947, Some('\u{27267}')),
     (List::Big5, 5512, Some('十')),
     (List::Big5, 4540, Some('𨋢')),
     (List::SingleByte(SingleByteIndex::Windows1252), 0, Some('€')),
+    (
+        List::SingleByte(SingleByteIndex::Windows1257),
+        11,
+        Some('‹'),
+    ),
     (List::SingleByte(SingleByteIndex::Windows1257), 0x21, None),
     (List::SingleByte(SingleByteIndex::Koi8R), 128, None),
     (List::Gb18030Ranges, 0, Some('\u{80}')),
@@ -47,6 +54,7 @@ fn gives_words_at_places(rt: HostRuntime) {
     assert!(rt; Grid::EucKr.word(0x41) == 0x01000041);
     assert!(rt; Grid::Gb18030.word(0x80) == 0);
     assert!(rt; Grid::Gb18030.word(256 + 32 * 191 + 99) == 0x0200B7C2);
+    assert!(rt; Grid::Jis0208.word(256 + 2) == 0x038280E3);
     assert!(rt; Grid::Jis0208.word(256 + 15 * 95) == 0x039CBAE4);
     assert!(rt; Grid::Jis0208.word(256 + 118 * 95 + 11) == 0x0391BBE9);
     assert!(rt; Grid::Jis0208.word(256 + 121 * 95 + 94) == 0);
@@ -62,6 +70,7 @@ fn gives_units_at_places(rt: HostRuntime) {
     assert!(rt; Grid::EucKr.unit(0x41) == 0x41);
     assert!(rt; Grid::Gb18030.unit(0x80) == 0);
     assert!(rt; Grid::Gb18030.unit(256 + 32 * 191 + 99) == 0xB7);
+    assert!(rt; Grid::Jis0208.unit(256 + 2) == 0x3002);
     assert!(rt; Grid::Jis0208.unit(256 + 15 * 95) == 0x4E9C);
     assert!(rt; Grid::EucKr.unit(256 + 47 * 191 + 96) == 0xAC00);
     assert!(rt; Grid::EucKr.unit(256 + 47 * 191 + 190) == 0);
@@ -126,6 +135,8 @@ const IN_GB18030: Pointers = &[
     ('啊', Some(9026)),
     ('€', Some(6432)),
     ('齄', Some(22609)),
+    // the first of two
+    ('\u{3000}', Some(6176)),
     ('㐀', None),
 ];
 
@@ -135,6 +146,7 @@ const IN_GB18030_RANGES: Pointers = &[
     ('\u{E7C7}', Some(7457)),
     ('\u{FFFF}', Some(39419)),
     ('\u{10FFFF}', Some(1237575)),
+    ('§', None),
     ('啊', None),
 ];
 

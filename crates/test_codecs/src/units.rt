@@ -236,3 +236,36 @@ fn bytes_are_valid_up_to_what_is_not(rt: HostRuntime) {
         );
     }
 }
+
+#[test]
+fn ascii_is_taken_whole(rt: HostRuntime) {
+    let (mut bytes, mut units) = ([0; 40], [0; 40]);
+    for len in 0..40 {
+        assert!(rt; Utf8Slice::new(&mut bytes).put_ascii(&[0x61; 40][..len]) == len);
+        assert!(rt; Utf16Slice::new(&mut units).put_ascii(&[0x61; 40][..len]) == len);
+        assert!(rt; Utf8Slice::new(&mut bytes[..len]).put_ascii(&[0x61; 40]) == len);
+        assert!(rt; Utf16Slice::new(&mut units[..len]).put_ascii(&[0x61; 40]) == len);
+    }
+}
+
+/// Characters of two to four bytes, many of which end in 0xBF, and surrogates of high numbers.
+const SIGNS: &str =
+    "¿Qué?😀¿Größe𝄞 привет, 日本語のテキスト, ¿жжжж 한국어 ḁ😀 и ещё немного слов: ¿да? \u{10FFFF}";
+
+/// Their UTF-16, by Python's codec.
+const SIGN_UNITS: [u16; 75] = [
+    0xBF, 0x51, 0x75, 0xE9, 0x3F, 0xD83D, 0xDE00, 0xBF, 0x47, 0x72, 0xF6, 0xDF, 0x65, 0xD834,
+    0xDD1E, 0x20, 0x43F, 0x440, 0x438, 0x432, 0x435, 0x442, 0x2C, 0x20, 0x65E5, 0x672C, 0x8A9E,
+    0x306E, 0x30C6, 0x30AD, 0x30B9, 0x30C8, 0x2C, 0x20, 0xBF, 0x436, 0x436, 0x436, 0x436, 0x20,
+    0xD55C, 0xAD6D, 0xC5B4, 0x20, 0x1E01, 0xD83D, 0xDE00, 0x20, 0x438, 0x20, 0x435, 0x449, 0x451,
+    0x20, 0x43D, 0x435, 0x43C, 0x43D, 0x43E, 0x433, 0x43E, 0x20, 0x441, 0x43B, 0x43E, 0x432, 0x3A,
+    0x20, 0xBF, 0x434, 0x430, 0x3F, 0x20, 0xDBFF, 0xDFFF,
+];
+
+#[test]
+fn long_utf_8_becomes_utf_16(rt: HostRuntime) {
+    let mut dst = [7; 200];
+    let taken = Utf16Slice::new(&mut dst).put_utf8(SIGNS.as_bytes());
+    assert!(rt; taken == SIGNS.len() && &dst[..75] == SIGN_UNITS.as_slice());
+    assert!(rt; dst[75..].iter().all(|unit| *unit == 7));
+}

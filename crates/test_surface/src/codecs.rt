@@ -147,6 +147,7 @@ fn each_codec_has_a_decoder(rt: HostRuntime) -> Result<(), Fail> {
         let (codec, _) = copies(*codec)?;
         let decoder: VariantDecoder = codec.new_decoder();
         assert!(rt; variant_name(&decoder) == *name);
+        assert!(rt; codec.text_lengths().utf8(5, 0) == decoder.max_utf8_buffer_length(5));
         decode_all(&rt, decoder, *bytes, *text)?;
     }
     Ok(())

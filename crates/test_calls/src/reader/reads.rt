@@ -1,7 +1,7 @@
 //! Reads of a `DecodeReader`, one after another.
 
 use enc_reader::{DecodeReader, FromRead, ReadFault, Source};
-use encoding_rs::{Encoding, SHIFT_JIS, UTF_8, WINDOWS_1252};
+use encoding_rs::{Encoding, REPLACEMENT, SHIFT_JIS, UTF_8, WINDOWS_1252};
 use std::io::ErrorKind;
 use std::test::Fail;
 use test_support::devices::{BYTE, Step, StepReader};
@@ -169,5 +169,44 @@ fn reads_a_file_as_text(rt: HostRuntime) -> Result<(), Fail> {
     }
     assert!(rt; text.as_slice() == "日本語\n".as_bytes());
     assert!(rt; (reader.encoding(), reader.had_errors()) == (SHIFT_JIS, false));
+    Ok(())
+}
+
+#[test]
+fn reads_to_the_end_of_what_has_no_text(rt: HostRuntime) -> Result<(), Fail> {
+    let bytes = [0x61; 1200];
+    let mut device = StepReader::new(&bytes, &[BYTE]);
+    let mut source = FromRead::new(&mut device);
+    let mut input = [0; 8];
+    let mut reader = DecodeReader::new(&mut source, Some(REPLACEMENT), &mut input);
+    compare_read(&mut reader, Ok(3), b"\xEF\xBF\xBD")?;
+    compare_read(&mut reader, Ok(0), b"")?;
+    // once for each byte, and for the end
+    assert!(rt; device.calls == 1201);
+    Ok(())
+}
+
+#[test]
+fn has_failed_after_what_is_malformed_too(rt: HostRuntime) -> Result<(), Fail> {
+    let mut device = StepReader::new(b"\xFFab", &[BYTE, FAULT, BYTE]);
+    let mut source = FromRead::new(&mut device);
+    let mut input = [0; 8];
+    let mut reader = DecodeReader::new(&mut source, None, &mut input);
+    compare_read(&mut reader, Ok(3), b"\xEF\xBF\xBD")?;
+    compare_read(&mut reader, Err(ReadFault::Reader), b"\0\0\0\0")?;
+    compare_read(&mut reader, Err(ReadFault::Failed), b"\0\0\0\0")?;
+    assert!(rt; device.calls == 2);
+    Ok(())
+}
+
+#[test]
+fn has_failed_over_a_source_that_has(rt: HostRuntime) -> Result<(), Fail> {
+    let mut device = StepReader::new(b"ab", &[FAULT, BYTE]);
+    let mut source = FromRead::new(&mut device);
+    assert!(rt; source.pull(&mut [0; 4]) == Err(()));
+    let mut input = [0; 8];
+    let mut reader = DecodeReader::new(&mut source, None, &mut input);
+    compare_read(&mut reader, Err(ReadFault::Failed), b"\0\0\0\0")?;
+    assert!(rt; device.calls == 1);
     Ok(())
 }

@@ -3,10 +3,11 @@
 //! Rows by codec are written by scripts/make-codecs from data/codecs.txt.
 
 use encoding_rs::*;
-use recode_engine::{FromRead, FromWrite, RecodeFault, Sink, Source};
+use recode_engine::{FromRead, FromWrite, RecodeFault, Sink, Source, run};
 use std::alloc::Global;
+use std::io::ErrorKind;
 use std::test::Fail;
-use test_support::devices::{ALL_BYTES, BYTE, Step};
+use test_support::devices::{ALL_BYTES, BYTE, Step, StepReader, StepWriter};
 use test_support::encodings::table;
 use test_support::recoding::{
     CutRow, FAULT, INTERRUPTED, NOTHING, READS, Ran, compare_read_faults, compare_write_faults,
@@ -563,4 +564,23 @@ fn encodes_many_chunks(rt: HostRuntime) -> Result<(), Fail> {
     };
     assert!(rt; front == b"&#233;&#233;".as_slice());
     Ok(())
+}
+
+#[test]
+fn reads_as_often_as_there_are_bytes(rt: HostRuntime) -> Result<(), Fail> {
+    let bytes = [0x61; 1100];
+    let ran = run_by(rt.alloc(), (UTF_8, UTF_8), &bytes, (&[BYTE], &[ALL_BYTES]))?;
+    assert!(rt; ran.outcome == Ok(false) && ran.written.as_slice() == bytes.as_slice());
+    Ok(())
+}
+
+#[test]
+fn reads_nothing_from_a_source_that_has_failed(rt: HostRuntime) {
+    let mut reader = StepReader::new(b"ab", &[Step::Fail(ErrorKind::BrokenPipe), BYTE]);
+    let mut writer = StepWriter::new(rt.alloc(), &[]);
+    let mut source = FromRead::new(&mut reader);
+    assert!(rt; source.pull(&mut [0; 4]) == Err(()));
+    let outcome = run(&mut source, &mut FromWrite::new(&mut writer), UTF_8, UTF_8);
+    assert!(rt; outcome == Err(RecodeFault::Read));
+    assert!(rt; (reader.calls, writer.calls) == (1, 0));
 }

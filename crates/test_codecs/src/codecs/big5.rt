@@ -68,6 +68,8 @@ const WORDS: &[Row] = &[
     (b"\x9F\x4D\xAE\x61\x9E\x63\xA5\x4A\x9E\x40", "𠵱家𡃁仔𠺢", &[], 4),
     // the first and the last entry
     (b"\x87\x40\xFE\xFE", "\u{43F0}\u{79D4}", &[], 3),
+    // the first trail of the upper range
+    (b"\xA4\xA1", "丑", &[], 3),
 ];
 
 #[test]

@@ -242,3 +242,12 @@ fn the_decoder_gives_two_bytes_back(rt: HostRuntime) -> Result<(), Fail> {
     let mut decoder = Gb18030Decoder::new();
     stop(&mut decoder, b"\x81\x30\x81\xFF", (1, 2), 3, "")
 }
+
+#[test]
+fn the_decoder_decodes_the_pointer_of_private_use(rt: HostRuntime) -> Result<(), Fail> {
+    decode_one(
+        &mut Gb18030Decoder::new(),
+        (b"\x81\x35\xF4", 0x37),
+        "\u{E7C7}",
+    )
+}

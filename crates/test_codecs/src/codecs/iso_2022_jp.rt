@@ -293,3 +293,11 @@ fn the_decoder_reads_anew_in_the_set_in_force(rt: HostRuntime) -> Result<(), Fai
     stop(&mut decoder, b"\x22", (1, 1), 0, "")?;
     end(&mut decoder, b"\x22", "あ")
 }
+
+#[test]
+fn the_decoder_keeps_its_set_after_an_escape_that_is_none(rt: HostRuntime) -> Result<(), Fail> {
+    let mut decoder = Iso2022JpDecoder::new();
+    hold(&mut decoder, b"\x1B$B\x1B", 4)?;
+    stop(&mut decoder, b"0!", (1, 0), 0, "")?;
+    end(&mut decoder, b"0!", "亜")
+}

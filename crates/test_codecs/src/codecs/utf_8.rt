@@ -153,6 +153,7 @@ const INPUTS: &[Row] = &[
     ),
     (&[0xF0, 0x90, 0x41], "\u{FFFD}A", &[(0, 2)], 3),
     (&[0xF0, 0x9F, 0x92], "\u{FFFD}", &[(0, 3)], 3),
+    (&[0xF0, 0x9F, 0x92, 0x41], "\u{FFFD}A", &[(0, 3)], 3),
     (
         &[0xF4, 0x90, 0x80, 0x80],
         "\u{FFFD}\u{FFFD}\u{FFFD}\u{FFFD}",

@@ -4,10 +4,12 @@
 //!
 //! Rows by codec are written by scripts/make-codecs from data/codecs.txt.
 
+use encoding_rs::run::{EncodeCall, EncodeReport, RunError, encode_run};
 use encoding_rs::{
-    BIG5, EUC_JP, EUC_KR, Encoding, GB18030, GBK, ISO_2022_JP, SHIFT_JIS, UTF_8, WINDOWS_1251,
-    WINDOWS_1252, X_USER_DEFINED,
+    BIG5, EUC_JP, EUC_KR, EncoderResult, Encoding, GB18030, GBK, ISO_2022_JP, SHIFT_JIS, UTF_8,
+    WINDOWS_1251, WINDOWS_1252, X_USER_DEFINED,
 };
+use std::alloc::Global;
 use std::test::Fail;
 use test_support::encoding::runs::compare_long;
 
@@ -50,4 +52,92 @@ fn long_texts_are_written_as_their_characters(rt: HostRuntime) -> Result<(), Fai
         compare_long(rt.alloc(), *encoding, text)?;
     }
     Ok(())
+}
+
+/// A text, and its bytes by Python's codecs, with a reference to U+FFFD for an escape character.
+const WRITTEN: &[(Encoding, &str, &[u8])] = &[
+    (
+        ISO_2022_JP,
+        "日本語 and then forty and more ASCII characters in one call",
+        b"\x1B$BF|K\\8l\x1B(B and then forty and more ASCII characters in one call",
+    ),
+    (
+        ISO_2022_JP,
+        "｡｢ and then forty and more ASCII characters in one call",
+        b"\x1B$B!#!V\x1B(B and then forty and more ASCII characters in one call",
+    ),
+    (
+        ISO_2022_JP,
+        "at first some twenty and \u{1B} then forty and more ASCII characters",
+        b"at first some twenty and &#65533; then forty and more ASCII characters",
+    ),
+    (
+        GB18030,
+        "中😀 and then forty and more ASCII characters in one call",
+        b"\xD6\xD0\x949\xFC6 and then forty and more ASCII characters in one call",
+    ),
+    (
+        WINDOWS_1252,
+        "then é among ASCII, and then forty and more ASCII characters",
+        b"then \xE9 among ASCII, and then forty and more ASCII characters",
+    ),
+    // the one character that gb18030 does not have
+    (
+        GB18030,
+        "中\u{E5E5} and then forty and more ASCII characters in one call",
+        b"\xD6\xD0&#58853; and then forty and more ASCII characters in one call",
+    ),
+];
+
+/// Encodes a text by one call with this room, from UTF-8 or UTF-16.
+fn encode_at_once(
+    alloc: Global,
+    (encoding, text): (Encoding, &str),
+    utf16: bool,
+    room: usize,
+) -> Result<EncodeReport, RunError> {
+    let call = EncodeCall {
+        utf16,
+        replace: true,
+        offer: text.len(),
+        room,
+    };
+    encode_run(alloc, encoding, text, &[call])
+}
+
+#[test]
+fn one_call_writes_a_long_text(rt: HostRuntime) -> Result<(), Fail> {
+    for (encoding, text, want) in WRITTEN {
+        for utf16 in [false, true] {
+            let report = encode_at_once(rt.alloc(), (*encoding, *text), utf16, 128)?;
+            assert!(rt;
+                report.finished && report.bytes.as_slice() == *want,
+                "{text}"
+            );
+        }
+    }
+    Ok(())
+}
+
+#[test]
+fn one_call_writes_what_fits_of_a_long_text(rt: HostRuntime) -> Result<(), Fail> {
+    for (encoding, text, want) in WRITTEN {
+        for room in 0..48 {
+            let report = encode_at_once(rt.alloc(), (*encoding, *text), false, room)?;
+            assert!(rt; !report.finished && want.starts_with(report.bytes.as_slice()));
+        }
+    }
+    Ok(())
+}
+
+#[test]
+fn bytes_after_those_written_stay(rt: HostRuntime) {
+    let text = "abc日 and then forty and more ASCII characters in one call";
+    let stop = EncoderResult::Unmappable('日');
+    let mut bytes = [0xFF; 64];
+    let done = WINDOWS_1252
+        .new_encoder()
+        .encode_from_utf8_without_replacement(text, &mut bytes, true);
+    assert!(rt; done == (stop, 6, 3) && &bytes[..3] == b"abc".as_slice());
+    assert!(rt; bytes[3..].iter().all(|byte| *byte == 0xFF));
 }

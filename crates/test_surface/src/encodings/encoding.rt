@@ -25,6 +25,8 @@ fn equal_encodings_are_the_same_and_hash_alike(rt: HostRuntime) {
     let (mut first, mut second) = (DefaultHasher::new(), DefaultHasher::new());
     laws::equal_hash_alike(UTF_8, UTF_8, &mut first, &mut second);
     assert!(rt; first.finish() == second.finish());
+    laws::equal_hash_alike(SHIFT_JIS, SHIFT_JIS, &mut first, &mut second);
+    assert!(rt; first.finish() == second.finish());
 }
 
 /// The laws of constants, ASCII and slices, which are calls that do nothing.

@@ -1,0 +1,177 @@
+"""The edits of the crates: what their files say, and which functions they change. For scripts/edits, witnesses.py and scripts/documents."""
+
+import glob
+import os
+import re
+from typing import NamedTuple
+
+TOP = os.path.dirname(os.path.dirname(os.path.abspath(__file__)))
+
+FUNCTION = re.compile(r"^(\s*)(?:pub(?:\([a-z]+\))?\s+)?(?:const\s+)?fn\s+(\w+)")
+OWNER = re.compile(r"(?:unsafe )?impl\b|(?:pub )?trait\b")
+TEST = re.compile(r"^#\[test\]\nfn (\w+)\(", re.M)
+
+# The lines of an edit that say more than its pairs: what they are for, and how each begins.
+LINES = {"call": "# call: ", "shown": "# shown by: ", "reason": "# not shown: ", "same": "# same by: "}
+
+
+class Pair(NamedTuple):
+    """A text of a file, and the one that takes its place."""
+
+    file: str
+    old: str
+    new: str
+
+
+class Place(NamedTuple):
+    """What a pair changes: the file, and in it the function, by its name, its owner's head line and its own; or no function."""
+
+    file: str
+    name: str = ""
+    owner: str = ""
+    head: str = ""
+
+
+class Edit:
+    """A change of a crate: a wrong one or, in the folder equal, one that means the same.
+
+    `call` is the public call that it is for, `shown` the test or the program that shows it to be wrong, `reason` why none does, and `same`
+    the test that shows it to mean the same. Each is empty where the file has no such line.
+    """
+
+    def __init__(self, crate, path):
+        self.crate, self.path, self.name = crate, path, os.path.basename(path)[: -len(".edit")]
+        self.pairs, self.fault = [], ""
+        self.text = read(path)
+        said = {what: re.findall(f"^{begin}(.*)$", self.text, re.M) for what, begin in LINES.items()}
+        self.call, self.shown, self.reason, self.same = (" ".join(said[what]).strip() for what in LINES)
+        file = old = ""
+        for line in self.text.split("\n"):
+            if line.startswith("file: "):
+                file = line[len("file: ") :].strip()
+            elif line.startswith("old: "):
+                old = line[len("old: ") :]
+            elif line.startswith("new:"):
+                self.pairs.append(Pair(file, old, line[len("new:") :].removeprefix(" ")))
+        try:
+            self.places = places_of(self)
+        except (OSError, ValueError) as error:
+            self.places, self.fault = [], f"it can't be applied: {error}"
+
+    @property
+    def label(self):
+        return f"{self.crate}/{self.name}"
+
+    @property
+    def text_to_refuse(self):
+        """Its text without the lines on its witness, of which a proof takes no notice."""
+        return re.sub(f"^(?:{LINES['shown']}|{LINES['reason']}).*\n", "", self.text, flags=re.M)
+
+    @property
+    def is_of_functions(self):
+        return bool(self.places) and all(it.name for it in self.places)
+
+
+def read(path):
+    with open(path, encoding="utf-8") as it:
+        return it.read()
+
+
+def apply(crate, pairs):
+    """The texts of the files that these pairs change, by path. A ValueError where an old text does not stand there once."""
+    texts = {}
+    for file, old, new in pairs:
+        texts.setdefault(file, None)
+        text = read(f"{TOP}/crates/{crate}/{file}") if texts[file] is None else texts[file]
+        if not old or text.count(old) != 1:
+            raise ValueError(f"{old!r} stands {text.count(old) if old else 0} times in {file}")
+        texts[file] = text.replace(old, new)
+    return texts
+
+
+def places_of(edit):
+    """The places that an edit changes, each once."""
+    if not edit.pairs:
+        raise ValueError("it has no pair")
+    apply(edit.crate, edit.pairs)
+    found = []
+    for number, pair in enumerate(edit.pairs):
+        before = apply(edit.crate, edit.pairs[:number]).get(pair.file) or read(f"{TOP}/crates/{edit.crate}/{pair.file}")
+        # (an old text may begin with the blanks of its line)
+        start = before.index(pair.old) + len(pair.old) - len(pair.old.lstrip())
+        found.append(place_at(pair.file, before.split("\n"), before.count("\n", 0, start)))
+    return list(dict.fromkeys(found))
+
+
+def place_at(file, lines, at):
+    """The place of a line."""
+    for number in range(at, -1, -1):
+        head = FUNCTION.match(lines[number])
+        if head and f"{head[1]}}}" in lines[number + 1 : at]:
+            return Place(file)
+        if head:
+            # (two impls of a file may have a method of one name)
+            owner = next((it for it in lines[number::-1] if OWNER.match(it)), "") if head[1] else ""
+            return Place(file, head[2], owner.split("{")[0].strip(), lines[number].strip())
+    return Place(file)
+
+
+def lines_of(text, place):
+    """The first and the last line of the function of a place, from 1, with its attributes: a goal of all of it is reported there."""
+    lines = text.split("\n")
+    for at, line in enumerate(lines):
+        head = FUNCTION.match(line)
+        if not head or place_at(place.file, lines, at) != place:
+            continue
+        end = next((it for it in range(at + 1, len(lines)) if lines[it] == f"{head[1]}}}"), len(lines) - 1)
+        while at > 0 and lines[at - 1].lstrip().startswith("#["):
+            at -= 1
+        return at + 1, end + 1
+    return 0, 0
+
+
+def crates():
+    """The crates, each with the libraries that it names."""
+    return {name: words.split() for name, words in re.findall(r"^(\w+) *:(.*)$", read(f"{TOP}/crates.txt"), re.M)}
+
+
+def files_of_gate(crate):
+    return sorted(glob.glob(f"{TOP}/crates/{crate}/must-fail/calls_*.edit"))
+
+
+def edits_of(crate):
+    """The edits of a crate: those that stand singly in must-fail, and those of edits."""
+    paths = [it for part in ("must-fail", "edits") for it in sorted(glob.glob(f"{TOP}/crates/{crate}/{part}/*.edit"))]
+    return [Edit(crate, it) for it in paths if it not in files_of_gate(crate)]
+
+
+def equal_of(crate):
+    """The changes of a crate that mean the same."""
+    return [Edit(crate, it) for it in sorted(glob.glob(f"{TOP}/crates/{crate}/equal/*.edit"))]
+
+
+def file_of_test(name):
+    """The file that a test stands in, from the top, or nothing where there is no such test."""
+    crate, *modules = name.split("::")
+    test = modules.pop() if modules else ""
+    path = f"crates/{crate}/src/{'/'.join(modules) or 'lib'}.rt"
+    return path if os.path.isfile(f"{TOP}/{path}") and test in TEST.findall(read(f"{TOP}/{path}")) else ""
+
+
+def is_program(name):
+    """Whether a crate is a program that says by a file what it prints."""
+    return all(os.path.isfile(f"{TOP}/crates/{name}/{it}") for it in ("src/main.rt", "stdout"))
+
+
+def fault_of_witness(edit):
+    """What is wrong with the lines of a wrong change that name its witness, or nothing."""
+    if bool(edit.shown) == bool(edit.reason):
+        return f"it has {'both' if edit.shown else 'neither'} of '{LINES['shown'].strip()}' and '{LINES['reason'].strip()}'"
+    if edit.shown and not file_of_test(edit.shown) and not is_program(edit.shown):
+        return f"there is no test and no program {edit.shown}"
+    return ""
+
+
+def fault_of_same(edit):
+    """What is wrong with the line of a change that means the same, or nothing."""
+    return "" if edit.same and file_of_test(edit.same) else f"there is no test {edit.same or 'that it names'}"
