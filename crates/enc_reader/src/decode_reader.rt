@@ -28,9 +28,12 @@ pub enum ReadFault {
     Failed = 2,
 }
 
-const _: () = prove!(ReadFault::Reader as u8 == 1);
-
-const _: () = prove!(ReadFault::Failed as u8 == 2);
+/// Returns the numbers of the faults.
+fn numbers() -> (u8, u8)
+    ensures { result ≡ (1, 2) }
+{
+    (ReadFault::Reader as u8, ReadFault::Failed as u8)
+}
 
 /// The text of a read that may lend it. [`DecodeReader::text`] returns its bytes.
 #[derive(Clone, Copy, Debug)]

@@ -31,9 +31,12 @@ pub enum OneShotError {
     TooLong = 2,
 }
 
-const _: () = prove!(OneShotError::Memory as u8 == 1);
-
-const _: () = prove!(OneShotError::TooLong as u8 == 2);
+/// Returns the numbers of the errors.
+fn numbers() -> (u8, u8)
+    ensures { result ≡ (1, 2) }
+{
+    (OneShotError::Memory as u8, OneShotError::TooLong as u8)
+}
 
 /// Returns a length to allocate, if it does not overflow after `written` bytes.
 fn length_after(length: Option<usize>, written: usize) -> Result<usize, OneShotError>

@@ -60,7 +60,12 @@ pub enum RunError {
     Memory = 1,
 }
 
-const _: () = prove!(RunError::Memory as u8 == 1);
+/// Returns the number of the error.
+fn number() -> u8
+    ensures { result ≡ 1 }
+{
+    RunError::Memory as u8
+}
 
 /// The result of one call of a run.
 #[derive(Clone, Copy)]

@@ -22,9 +22,12 @@ pub enum RecodeFault {
     Write = 2,
 }
 
-const _: () = prove!(RecodeFault::Read as u8 == 1);
-
-const _: () = prove!(RecodeFault::Write as u8 == 2);
+/// Returns the numbers of the faults.
+fn numbers() -> (u8, u8)
+    ensures { result ≡ (1, 2) }
+{
+    (RecodeFault::Read as u8, RecodeFault::Write as u8)
+}
 
 /// Writes all the bytes, in as many pushes as it takes, none of them of an empty buffer.
 ///
