@@ -166,8 +166,8 @@ class Copy:
 class Switched(Copy):
     """A copy in which numbers say which bodies count, and tests that set them stand beside those that are named."""
 
-    def __init__(self, numbered):
-        self.numbered = numbered
+    def __init__(self, numbered, others):
+        self.numbered, self.others = numbered, others
 
     def __enter__(self):
         super().__enter__()
@@ -194,8 +194,8 @@ class Switched(Copy):
             self.write(path, text[:at] + wrong + text[at:])
 
     def tests(self):
-        """The tests that edits name, each with the numbers of these."""
-        found = {}
+        """The tests that edits name, each with the numbers of these, and other tests, which get a control alone."""
+        found = {it: [] for it in self.others}
         for number, (_, test) in self.numbered.items():
             found.setdefault(test, []).append(number)
         return found
@@ -240,12 +240,12 @@ def try_tests(copy, name):
     return copy.run(name, "--test", "--seconds", str(SECONDS), "--", PREFIX)[0]
 
 
-def run_together(numbered):
-    """How the tests of these edits ended, True where one passed, by number; those of the controls; and what else is to be done: which edits
-    can't stand beside others, and why none was run."""
+def run_together(numbered, others):
+    """How the tests of these edits ended, True where one passed, by number; those of the controls, of other tests too; the edits that can't
+    stand beside others; and why some tests did not run."""
     apart = []
     while numbered:
-        with Switched(numbered) as copy:
+        with Switched(numbered, others) as copy:
             names = sorted({crate_of(test) for test in copy.tests()})
             with ThreadPoolExecutor(LANES) as pool:
                 said = dict(zip(names, pool.map(lambda it: try_tests(copy, it), names)))
@@ -288,7 +288,8 @@ class Runs:
         of_tests = [(edit, it) for edit, it in edits if not is_program(it) and bodies_of(edit)]
         apart = [it for it in edits if it not in of_tests]
         numbered = dict(enumerate(of_tests, 1))
-        passed, self.controls, more, why = run_together(numbered)
+        others = dict.fromkeys(it for _, it in apart if not is_program(it)) if numbered else {}
+        passed, self.controls, more, why = run_together(numbered, list(others))
         for number, (edit, _) in numbered.items():
             if number in passed:
                 self.passed[edit.path] = passed[number]

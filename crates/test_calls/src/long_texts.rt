@@ -199,9 +199,26 @@ fn one_call_reads_a_long_text(rt: HostRuntime) -> Result<(), Fail> {
             src.extend_from_slice(bytes)?;
             want.push_str(text)?;
         }
-        let answer = encoding.decode_without_bom_handling(rt.alloc(), src.as_slice())?;
-        assert!(rt; answer.0.as_str() == want.as_str(), "{encoding:?}");
-        assert!(rt; answer.1 == !among.is_empty());
+        for utf16 in [false, true] {
+            let call = DecodeCall {
+                utf16,
+                replace: true,
+                offer: src.len(),
+                room: 32768,
+            };
+            let report = decode_run(
+                rt.alloc(),
+                *encoding,
+                BomHandling::Off,
+                src.as_slice(),
+                &[call],
+            )?;
+            assert!(rt;
+                report.finished && report.text.as_str() == want.as_str(),
+                "{encoding:?}"
+            );
+            assert!(rt; report.had_errors == !among.is_empty());
+        }
     }
     Ok(())
 }

@@ -188,14 +188,15 @@ fn reads_to_the_end_of_what_has_no_text(rt: HostRuntime) -> Result<(), Fail> {
 
 #[test]
 fn has_failed_after_what_is_malformed_too(rt: HostRuntime) -> Result<(), Fail> {
-    let mut device = StepReader::new(b"\xFFab", &[BYTE, FAULT, BYTE]);
+    let mut device = StepReader::new(b"a\xFFbc", &[BYTE, BYTE, FAULT, BYTE]);
     let mut source = FromRead::new(&mut device);
     let mut input = [0; 8];
     let mut reader = DecodeReader::new(&mut source, None, &mut input);
+    compare_read(&mut reader, Ok(1), b"a")?;
     compare_read(&mut reader, Ok(3), b"\xEF\xBF\xBD")?;
     compare_read(&mut reader, Err(ReadFault::Reader), b"\0\0\0\0")?;
     compare_read(&mut reader, Err(ReadFault::Failed), b"\0\0\0\0")?;
-    assert!(rt; device.calls == 2);
+    assert!(rt; device.calls == 3);
     Ok(())
 }
 

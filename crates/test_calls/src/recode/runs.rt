@@ -575,12 +575,14 @@ fn reads_as_often_as_there_are_bytes(rt: HostRuntime) -> Result<(), Fail> {
 }
 
 #[test]
-fn reads_nothing_from_a_source_that_has_failed(rt: HostRuntime) {
-    let mut reader = StepReader::new(b"ab", &[Step::Fail(ErrorKind::BrokenPipe), BYTE]);
-    let mut writer = StepWriter::new(rt.alloc(), &[]);
+fn a_source_that_has_failed_is_reported_first(rt: HostRuntime) {
+    let fault = Step::Fail(ErrorKind::BrokenPipe);
+    let mut reader = StepReader::new(b"ab", &[fault, BYTE]);
+    let mut writer = StepWriter::new(rt.alloc(), &[fault, BYTE]);
     let mut source = FromRead::new(&mut reader);
+    let mut sink = FromWrite::new(&mut writer);
     assert!(rt; source.pull(&mut [0; 4]) == Err(()));
-    let outcome = run(&mut source, &mut FromWrite::new(&mut writer), UTF_8, UTF_8);
-    assert!(rt; outcome == Err(RecodeFault::Read));
-    assert!(rt; (reader.calls, writer.calls) == (1, 0));
+    assert!(rt; sink.push(b"a") == Err(()));
+    assert!(rt; run(&mut source, &mut sink, UTF_8, UTF_8) == Err(RecodeFault::Read));
+    assert!(rt; (reader.calls, writer.calls) == (1, 1));
 }

@@ -245,9 +245,8 @@ fn the_decoder_gives_two_bytes_back(rt: HostRuntime) -> Result<(), Fail> {
 
 #[test]
 fn the_decoder_decodes_the_pointer_of_private_use(rt: HostRuntime) -> Result<(), Fail> {
-    decode_one(
-        &mut Gb18030Decoder::new(),
-        (b"\x81\x35\xF4", 0x37),
-        "\u{E7C7}",
-    )
+    for (last, text) in [(0x37, "\u{E7C7}"), (0x38, "\u{1E40}")] {
+        decode_one(&mut Gb18030Decoder::new(), (b"\x81\x35\xF4", last), text)?;
+    }
+    Ok(())
 }
