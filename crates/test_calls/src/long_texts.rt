@@ -4,8 +4,8 @@
 
 use encoding_rs::run::{BomHandling, DecodeCall, decode_run};
 use encoding_rs::{
-    BIG5, EUC_JP, EUC_KR, Encoding, GB18030, GBK, ISO_2022_JP, SHIFT_JIS, UTF_8, UTF_16BE,
-    UTF_16LE, WINDOWS_1251, WINDOWS_1252, WINDOWS_1253,
+    BIG5, CoderResult, EUC_JP, EUC_KR, Encoding, GB18030, GBK, ISO_2022_JP, SHIFT_JIS, UTF_8,
+    UTF_16BE, UTF_16LE, WINDOWS_1251, WINDOWS_1252, WINDOWS_1253,
 };
 use std::alloc::Global;
 use std::process::Abort;
@@ -139,8 +139,8 @@ const AMONG: &[Among] = &[
     (
         WINDOWS_1252,
         (
-            b"the price of one is \x80 5, and those of the others are the same as that, \xE9 too, ",
-            "the price of one is € 5, and those of the others are the same as that, é too, ",
+            b"of this one it is \x80 5 \xE9, and of that the same too, ",
+            "of this one it is € 5 é, and of that the same too, ",
         ),
         (b"", ""),
     ),
@@ -165,22 +165,6 @@ const AMONG: &[Among] = &[
         (b"a\0b\0c\0\x80\0d\0e\0f\0g\0h\0i\0j\0", "abc\u{80}defghij"),
         (b"\0\xD8", "\u{FFFD}"),
     ),
-    (
-        ISO_2022_JP,
-        (
-            b"\x1B(J\\~abcdefghijklmnopqrstuvwxyzabcdefghijklmnopqrstuvwxyzabcdefghijkl",
-            "¥‾abcdefghijklmnopqrstuvwxyzabcdefghijklmnopqrstuvwxyzabcdefghijkl",
-        ),
-        (b"", ""),
-    ),
-    (
-        ISO_2022_JP,
-        (
-            b"\x1B(I123123123123123123123123123123123123123123123123123123123123123123",
-            "ｱｲｳｱｲｳｱｲｳｱｲｳｱｲｳｱｲｳｱｲｳｱｲｳｱｲｳｱｲｳｱｲｳｱｲｳｱｲｳｱｲｳｱｲｳｱｲｳｱｲｳｱｲｳｱｲｳｱｲｳｱｲｳｱｲｳ",
-        ),
-        (b"", ""),
-    ),
 ];
 
 /// How many times the bytes are repeated on each side of the malformed ones: 512 bytes and more.
@@ -199,26 +183,19 @@ fn one_call_reads_a_long_text(rt: HostRuntime) -> Result<(), Fail> {
             src.extend_from_slice(bytes)?;
             want.push_str(text)?;
         }
-        for utf16 in [false, true] {
-            let call = DecodeCall {
-                utf16,
-                replace: true,
-                offer: src.len(),
-                room: 32768,
-            };
-            let report = decode_run(
-                rt.alloc(),
-                *encoding,
-                BomHandling::Off,
-                src.as_slice(),
-                &[call],
-            )?;
-            assert!(rt;
-                report.finished && report.text.as_str() == want.as_str(),
-                "{encoding:?}"
-            );
-            assert!(rt; report.had_errors == !among.is_empty());
-        }
+        let mut dst = [0; 16384];
+        let (result, read, written, had_errors) = encoding
+            .new_decoder_without_bom_handling()
+            .decode_to_utf8(src.as_slice(), &mut dst, true);
+        assert!(rt;
+            (result, read) == (CoderResult::InputEmpty, src.len()),
+            "{encoding:?}"
+        );
+        assert!(rt;
+            written == want.len() && dst.starts_with(want.as_bytes()),
+            "{encoding:?}"
+        );
+        assert!(rt; had_errors == !among.is_empty());
     }
     Ok(())
 }

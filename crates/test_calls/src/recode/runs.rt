@@ -5,7 +5,6 @@
 use encoding_rs::*;
 use recode_engine::{FromRead, FromWrite, RecodeFault, Sink, Source, run};
 use std::alloc::Global;
-use std::io::ErrorKind;
 use std::test::Fail;
 use test_support::devices::{ALL_BYTES, BYTE, Step, StepReader, StepWriter};
 use test_support::encodings::table;
@@ -576,9 +575,8 @@ fn reads_as_often_as_there_are_bytes(rt: HostRuntime) -> Result<(), Fail> {
 
 #[test]
 fn a_source_that_has_failed_is_reported_first(rt: HostRuntime) {
-    let fault = Step::Fail(ErrorKind::BrokenPipe);
-    let mut reader = StepReader::new(b"ab", &[fault, BYTE]);
-    let mut writer = StepWriter::new(rt.alloc(), &[fault, BYTE]);
+    let mut reader = StepReader::new(b"ab", &[FAULT, BYTE]);
+    let mut writer = StepWriter::new(rt.alloc(), &[FAULT, BYTE]);
     let mut source = FromRead::new(&mut reader);
     let mut sink = FromWrite::new(&mut writer);
     assert!(rt; source.pull(&mut [0; 4]) == Err(()));
