@@ -50,6 +50,15 @@ const WHOLE_ROWS: &[WholeRow] = &[
     (REPLACEMENT, SNIFF, b"", "", REPLACEMENT, false),
     (UTF_8, OFF, b"\xE2\x82\xAC", "\u{20AC}", UTF_8, false),
     (UTF_8, OFF, b"\xE2\x82", "\u{FFFD}", UTF_8, true),
+    // the first length has room for two of them
+    (
+        UTF_8,
+        OFF,
+        b"\xFF\xFF\xFF\xFF\xFF\xFF\xFF\xFF",
+        "\u{FFFD}\u{FFFD}\u{FFFD}\u{FFFD}\u{FFFD}\u{FFFD}\u{FFFD}\u{FFFD}",
+        UTF_8,
+        true,
+    ),
     // a byte order mark sets the encoding, or is dropped, or is text
     (WINDOWS_1257, SNIFF, MARKED, "\u{20AC}\u{E4}", UTF_8, false),
     (UTF_8, SNIFF, MARKED, "\u{20AC}\u{E4}", UTF_8, false),
