@@ -2,12 +2,13 @@
 //! the table of the standard's encoder (10.2.2, step 5). Bytes of characters beside them are those
 //! of Python's codec, too.
 
-use encoding_rs::{GB18030, GBK};
+use encoding_rs::{Encoding, GB18030, GBK};
+use std::alloc::Global;
 use std::test::Fail;
 use test_support::encoding::runs::{EncoderRow, compare_encoded, compare_long};
 
 /// The two bytes, the character before, and the one since.
-const CHANGED: [(&[u8], &str, &str); 18] = [
+const CHANGED: &[(&[u8], &str, &str)] = &[
     (b"\xA6\xD9", "\u{E78D}", "\u{FE10}"),
     (b"\xA6\xDA", "\u{E78E}", "\u{FE12}"),
     (b"\xA6\xDB", "\u{E78F}", "\u{FE11}"),
@@ -32,22 +33,25 @@ const CHANGED: [(&[u8], &str, &str); 18] = [
 fn both_characters_have_the_bytes(rt: HostRuntime) -> Result<(), Fail> {
     for encoding in [GB18030, GBK] {
         for (bytes, before, since) in CHANGED {
-            compare_encoded(rt.alloc(), encoding, &[(before, bytes), (since, bytes)])?;
+            compare_encoded(rt.alloc(), encoding, &[(*before, *bytes), (*since, *bytes)])?;
         }
     }
     Ok(())
 }
 
+/// Encodes a text, and decodes its bytes: the text that comes back, and whether a sequence is
+/// malformed.
+fn read_back(alloc: Global, encoding: Encoding, text: &str) -> Result<(String, bool), Fail> {
+    let (bytes, _, _) = encoding.encode(alloc, text)?;
+    Ok(encoding.decode_without_bom_handling(alloc, &bytes)?)
+}
+
 #[test]
 fn the_later_character_is_read_back(rt: HostRuntime) -> Result<(), Fail> {
-    for encoding in [GB18030, GBK] {
-        for (_, before, since) in CHANGED {
-            let (bytes, _, _) = encoding.encode(rt.alloc(), before)?;
-            let (got, had_errors) = encoding.decode_without_bom_handling(rt.alloc(), &bytes)?;
-            assert!(rt;
-                got.as_str() == since && !had_errors,
-                "{encoding:?} {since}"
-            );
+    for (_, before, since) in CHANGED {
+        for encoding in [GB18030, GBK] {
+            let (got, had_errors) = read_back(rt.alloc(), encoding, *before)?;
+            assert!(rt; got.as_bytes() == since.as_bytes() && !had_errors);
         }
     }
     Ok(())
