@@ -1,3 +1,4 @@
 pub mod OneByteLemmas
 pub mod ReplacementLemmas
 pub mod EnoughLemmas
+mod WordLemmas

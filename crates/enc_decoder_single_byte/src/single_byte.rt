@@ -1,7 +1,9 @@
 //! The legacy single-byte decoders (Encoding Standard 9.1).
 
-ghost use Rattle.std.specs.Prelude.{◌≡◌};
+ghost use Rattle.std.specs.Prelude.{◌≡◌, ◌<◌, Some};
+ghost use Rattle.std.specs.Char.{IsScalar};
 ghost use Rattle.enc_decoder_single_byte.specs.OneByte.{single_byte_char};
+ghost use Rattle.enc_index.specs.Grid.{HasWord};
 ghost use Rattle.enc_index.specs.Runs.{single_byte_runs};
 
 use crate::one_byte::show_byte;
@@ -38,6 +40,23 @@ fn character_of(index: SingleByteIndex, byte: u8) -> Option<char>
     index.at(byte as u32 - 0x80)
 }
 
+/// Returns the UTF-8 of a byte's character as a word, or 0 if it has none.
+#[inline(always)]
+fn word_of(index: SingleByteIndex, byte: u8) -> u32
+    ensures { 0 < result → HasWord (single_byte_char (single_byte_runs index) byte) result }
+{
+    index.word(byte)
+}
+
+/// Returns the UTF-16 code unit of a byte's character, or 0 if it has none.
+#[inline(always)]
+fn unit_of(index: SingleByteIndex, byte: u8) -> u16
+    ensures { 0 < result → (single_byte_char (single_byte_runs index) byte ≡ Some result)
+        × IsScalar result }
+{
+    index.unit(byte)
+}
+
 impl Pieces for SingleByteDecoder {
     ghost use Rattle.enc_decoder_single_byte.specs.OneByteState.{single_byte_state};
     ghost use Rattle.enc_decoder.specs.Taking.{IsWholeChar};
@@ -60,6 +79,18 @@ impl Pieces for SingleByteDecoder {
     fn are_bytes(self) -> bool {
         let _index = self.index;
         true
+    }
+
+    #[inline(always)]
+    fn word(self, is_pair: bool, first: u8, second: u8) -> u32 {
+        let _second = second;
+        if is_pair { 0 } else { word_of(self.index, first) }
+    }
+
+    #[inline(always)]
+    fn unit(self, is_pair: bool, first: u8, second: u8) -> u16 {
+        let _second = second;
+        if is_pair { 0 } else { unit_of(self.index, first) }
     }
 }
 

@@ -1,7 +1,9 @@
 //! The x-user-defined decoder (Encoding Standard 14.5).
 
 ghost use Rattle.std.specs.Prelude.{◌≡◌, Some};
+ghost use Rattle.std.specs.Char.{IsScalar};
 ghost use Rattle.enc_decoder_single_byte.specs.OneByte.{x_user_defined_char};
+ghost use Rattle.enc_index.specs.Grid.{HasWord};
 
 use crate::one_byte::show_byte;
 use enc_decoder::{ByteCodec, Emission, HandlerResult, RawDecoder, TextLengths, latin1_up_to, run};
@@ -30,6 +32,32 @@ fn character_of(byte: u8) -> char
     char::from_u32(0xF780 + (byte as u32 - 0x80)).unwrap()
 }
 
+/// Returns the UTF-8 of a byte's character as a word: the bytes, the first lowest, and their number
+/// in the highest byte.
+#[inline(always)]
+fn word_of(byte: u8) -> u32
+    ensures { HasWord (x_user_defined_char byte) result }
+{
+    if byte < 0x80 {
+        return 0x0100_0000 + byte as u32;
+    }
+    // U+F780 is EF 9E 80, and U+F7C0 is EF 9F 80
+    let offset = byte as u32 - 0x80;
+    0x0380_9EEF + offset / 64 * 0x100 + offset % 64 * 0x1_0000
+}
+
+/// Returns the UTF-16 code unit of a byte's character.
+#[inline(always)]
+fn unit_of(byte: u8) -> u16
+    ensures is { Some result ≡ x_user_defined_char byte }
+    ensures scalar { IsScalar result }
+{
+    if byte < 0x80 {
+        return byte as u16;
+    }
+    0xF780 + (byte as u16 - 0x80)
+}
+
 impl Pieces for XUserDefinedDecoder {
     ghost use Rattle.enc_decoder_single_byte.specs.OneByteState.{x_user_defined_state};
     ghost use Rattle.enc_decoder.specs.Taking.{IsWholeChar};
@@ -47,6 +75,18 @@ impl Pieces for XUserDefinedDecoder {
 
     fn are_bytes(self) -> bool {
         true
+    }
+
+    #[inline(always)]
+    fn word(self, is_pair: bool, first: u8, second: u8) -> u32 {
+        let _second = second;
+        if is_pair { 0 } else { word_of(first) }
+    }
+
+    #[inline(always)]
+    fn unit(self, is_pair: bool, first: u8, second: u8) -> u16 {
+        let _second = second;
+        if is_pair { 0 } else { unit_of(first) }
     }
 }
 

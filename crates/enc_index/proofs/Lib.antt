@@ -1,5 +1,5 @@
 mod Computing
-mod GridEntries
+pub mod GridEntries
 pub mod GridLemmas
 pub mod PlaceLemmas
 mod GridTables

@@ -13,3 +13,4 @@ pub mod jis0208;
 pub mod jis0208_grid;
 pub mod jis0212;
 pub mod single_byte;
+pub mod single_byte_words;

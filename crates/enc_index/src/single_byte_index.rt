@@ -3,7 +3,9 @@
 //!
 //! Rows by index are written by scripts/make-codecs from data/encodings.txt.
 
-ghost use Rattle.std.specs.Prelude.{◌≡◌, ◌<◌};
+ghost use Rattle.std.specs.Prelude.{◌≡◌, ◌-◌, ◌<◌, ◌≤◌, Some};
+ghost use Rattle.std.specs.Char.{IsScalar};
+ghost use Rattle.enc_index.specs.Grid.{HasWord};
 ghost use Rattle.enc_index.specs.Index.{index_at};
 ghost use Rattle.enc_index.specs.Runs.{single_byte_runs};
 ghost use Rattle.enc_index.specs.SingleByteTables.{table_number};
@@ -17,6 +19,7 @@ use crate::data::single_byte::{
     WINDOWS_1253_RUNS, WINDOWS_1254_RUNS, WINDOWS_1255_RUNS, WINDOWS_1256_RUNS, WINDOWS_1257_RUNS,
     WINDOWS_1258_RUNS, X_MAC_CYRILLIC_RUNS,
 };
+use crate::data::single_byte_words::{SINGLE_BYTE_UNITS, SINGLE_BYTE_WORDS};
 use crate::table::character_in;
 
 /// The index of a legacy single-byte encoding, by its name.
@@ -90,6 +93,33 @@ impl SingleByteIndex {
     {
         let from = self.number() * 128;
         character_in(&SINGLE_BYTE_TABLE[from..from + 128], pointer)
+    }
+
+    /// Returns the UTF-8 of a byte's character, as a word.
+    ///
+    /// A byte below 0x80 is ASCII. The word has the bytes, the first lowest, and their number in the
+    /// highest byte. 0 if the byte's pointer is unmapped. One load. Takes no memory.
+    #[inline(always)]
+    pub fn word(self, byte: u8) -> u32
+        ensures ascii { byte < 0x80 → 0 < result → HasWord (Some byte) result }
+        ensures others { 0x80 ≤ byte → 0 < result
+            → HasWord (index_at Basic (single_byte_runs self) (byte - 0x80)) result }
+    {
+        SINGLE_BYTE_WORDS[self.number() * 256 + byte as usize]
+    }
+
+    /// Returns the UTF-16 code unit of a byte's character.
+    ///
+    /// 0 if the byte's pointer is unmapped. For byte 0 it is the code unit of U+0000, which is 0
+    /// too. One load. Takes no memory.
+    #[inline(always)]
+    pub fn unit(self, byte: u8) -> u16
+        ensures ascii { byte < 0x80 → 0 < result → (Some byte ≡ Some result) × IsScalar result }
+        ensures others { 0x80 ≤ byte → 0 < result
+            → (index_at Basic (single_byte_runs self) (byte - 0x80) ≡ Some result)
+            × IsScalar result }
+    {
+        SINGLE_BYTE_UNITS[self.number() * 256 + byte as usize]
     }
 
     /// Returns its runs, in the order of their pointers. Takes no memory.

@@ -1,20 +1,20 @@
 -- Characters that are gathered one after another.
 use Rattle.std.proofs.Common.{◌≡◌, ℕ, zero, suc, ◌+◌, ◌/◌, ◌%◌, ◌<◌, ◌≤◌, List, [], ◌∷◌, ◌++◌, length, get_or}
-use Rattle.std.proofs.Common.{replicate, take, drop, refl, ap, ◌∙◌, sym, subst, arith, append_assoc, append-nil}
+use Rattle.std.proofs.Common.{take, drop, refl, ap, ◌∙◌, sym, subst, arith, append_assoc, append-nil}
 use Rattle.std.proofs.Common.{length-drop, take-add, drop-cons, drop-drop}
 use Rattle.std.proofs.lemmas.Bool.{lt-ltb, le-ltb}
-use Rattle.std.proofs.lemmas.List.{length-take-le, take_more_set}
-use Rattle.std.proofs.lemmas.Simd.{put_chunk_is, length-replicate, get_or-replicate}
+use Rattle.std.proofs.lemmas.List.{length-take-le}
+use Rattle.std.proofs.lemmas.Simd.{put_chunk_is}
 use Rattle.std.proofs.Math.Seq.{take-append_seam, drop-append_seam}
 use Rattle.std.specs.Char.{IsScalar, encode_utf8}
 use Rattle.std.specs.Char.Escape.{encode_utf16}
-use Rattle.std.proofs.Math.ListN.{set}
+use Rattle.std.specs.Int.{w32, to_le_bytes}
 use lib.Lanes.{put_chunk}
 use Rattle.enc_units.specs.Output.{Output, with_appended, units_of_text}
 use Rattle.enc_units.specs.Validity.{AreAscii}
 use Rattle.enc_units.specs.Pieces.{PutsPieces}
-use Rattle.enc_units.specs.Gathering.{GathersChars, IsByteText, AreByteTexts, IsByteUnit, AreByteUnits}
-use Rattle.enc_units.specs.declared.gather.Encoded.{Encoded}
+use Rattle.enc_units.specs.Gathering.{GathersChars}
+use Rattle.enc_units.specs.Pairs.{MeansWord, MeansUnit}
 use Rattle.enc_units.proofs.PiecesLemmas.{reads_none, reads_then, reads_one, reads_ascii, units-append}
 use Rattle.enc_units.proofs.UnitsLemmas.{one_unit}
 use Rattle.enc_units.proofs.ScalarLemmas.{one_scalar, scalars-append, ascii_scalars}
@@ -131,65 +131,41 @@ get_or_drop (suc n) i (x ∷ xs) = get_or_drop n i xs ∙ ap (λ k. get_or (x �
     next : suc (n + i) ≡ suc n + i
     next = omega arith
 
--- a byte that has a text
-pub gathers_byte : {Means : List ℕ → ℕ → Type 0} (src : List ℕ) (from : ℕ) {read : ℕ}
-    {before mid after : List ℕ}
-    {text : Encoded}
-    → IsByteText Means (get_or src (from + read) 0) text → 0 < text.len → from + read < length src
-    → GathersChars encode_utf8 Means (drop from src) read before mid
-    → after ≡ mid ++ take text.len text.bytes
-    → GathersChars encode_utf8 Means (drop from src) (read + 1) before after
-gathers_byte {Means} src from {read} {mid = mid} t some inside p e =
-    let rest = drop from src in
-    let long : read < length rest = omega (arith, length-drop from src) in
-    let byte = ap (take 1) (drop-cons rest read 0 long)
-    ∙ ap (λ b. b ∷ []) (get_or_drop from read src) in
-    let found = t.char some in
-    gathers_then p
-    (gathers_one found.0 (omega arith) (omega (arith, length-drop read rest)) found.1
-    (subst (λ z. Means z found.0) (sym byte) found.2)
-    (e ∙ ap (λ z. mid ++ z) found.3))
+-- a byte that is a character
+module _ {Means : List ℕ → ℕ → Type 0} (src : List ℕ) (from : ℕ) {read : ℕ} {before mid : List ℕ}
+    (inside : from + read < length src) where
+  gathers_single : {units_of : ℕ → List ℕ} {after : List ℕ} (c : ℕ) → IsScalar c
+      → Means (get_or src (from + read) 0 ∷ []) c
+      → GathersChars units_of Means (drop from src) read before mid
+      → after ≡ mid ++ units_of c
+      → GathersChars units_of Means (drop from src) (read + 1) before after
+  gathers_single c is_scalar means p e =
+      let rest = drop from src in
+      let long : read < length rest = omega (arith, length-drop from src) in
+      let is_byte = ap (take 1) (drop-cons rest read 0 long)
+      ∙ ap (λ b. b ∷ []) (get_or_drop from read src) in
+      gathers_then p
+      (gathers_one c (omega arith) (omega (arith, length-drop read rest)) is_scalar
+      (subst (λ z. Means z c) (sym is_byte) means) e)
 
--- a byte that has a code unit
-pub gathers_byte_unit : {Means : List ℕ → ℕ → Type 0} (src : List ℕ) (from : ℕ) {read : ℕ} (at : ℕ)
-    {before : List ℕ}
-    (buffer : List ℕ) {unit : ℕ}
-    → IsByteUnit Means (get_or src (from + read) 0) unit → 0 < unit → unit < 0x1_0000
-    → from + read < length src
-    → at + read < length buffer
-    → GathersChars encode_utf16 Means (drop from src) read before (take (at + read) buffer)
-    → GathersChars encode_utf16 Means (drop from src) (read + 1) before
-    (take (at + (read + 1)) (set buffer (at + read) unit))
-gathers_byte_unit {Means} src from {read} at buffer {unit} u some basic inside room p =
-    let rest = drop from src in
-    let long : read < length rest = omega (arith, length-drop from src) in
-    let byte = ap (take 1) (drop-cons rest read 0 long)
-    ∙ ap (λ b. b ∷ []) (get_or_drop from read src) in
-    let found = u.char some in
-    let next : at + (read + 1) ≡ at + read + 1 = omega arith in
-    gathers_then p
-    (gathers_one unit (omega arith) (omega (arith, length-drop read rest)) found.scalar
-    (subst (λ z. Means z unit) (sym byte) found.means)
-    (ap (λ k. take k (set buffer (at + read) unit)) next
-    ∙ take_more_set buffer (at + read) unit room
-    ∙ ap (λ z. take (at + read) buffer ++ z) (sym (one_unit unit basic))))
+  -- by a word
+  pub gathers_byte : {word : ℕ} {after : List ℕ}
+      → MeansWord Means (get_or src (from + read) 0 ∷ []) word
+      → GathersChars encode_utf8 Means (drop from src) read before mid
+      → after ≡ mid ++ take (word / 0x100_0000) (to_le_bytes w32 word)
+      → GathersChars encode_utf8 Means (drop from src) (read + 1) before after
+  gathers_byte is_word p e =
+      gathers_single is_word.char is_word.scalar is_word.means p
+      (e ∙ ap (λ z. mid ++ z) is_word.utf8)
 
--- no byte has a code unit
-pub no_units : (Means : List ℕ → ℕ → Type 0) → AreByteUnits Means (replicate 256 0)
-no_units Means = (
-  length-replicate {A = ℕ} 256 0,
-  λ byte none h. subst (IsByteUnit Means byte) (sym (get_or-replicate 256 byte 0 none h))
-      (record { bound = omega arith; char = λ l. absurd (omega arith) }),
-)
-
--- no byte has a text
-pub no_texts : (Means : List ℕ → ℕ → Type 0) (text : Encoded) → text.len ≡ 0
-    → AreByteTexts Means (replicate 256 text)
-no_texts Means text e = (
-  length-replicate 256 text,
-  λ byte none h. subst (IsByteText Means byte) (sym (get_or-replicate 256 byte text none h))
-      (record { bound = omega arith; char = λ l. absurd (omega arith) }),
-)
+  -- by a code unit
+  pub gathers_byte_unit : {unit : ℕ} {after : List ℕ} → unit < 0x1_0000
+      → MeansUnit Means (get_or src (from + read) 0 ∷ []) unit
+      → GathersChars encode_utf16 Means (drop from src) read before mid → after ≡ mid ++ unit ∷ []
+      → GathersChars encode_utf16 Means (drop from src) (read + 1) before after
+  gathers_byte_unit {unit} l is_unit p e =
+      gathers_single unit is_unit.scalar is_unit.means p
+      (e ∙ ap (λ z. mid ++ z) (sym (one_unit unit l)))
 
 -- gathered characters are put out
 pub puts_gathered : {units_of : ℕ → List ℕ} {Means : List ℕ → ℕ → Type 0} {before after : Output}

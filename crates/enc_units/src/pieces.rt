@@ -66,8 +66,8 @@ pub trait Pieces: Copy {
     /// Returns the UTF-8 of the character that the first byte is, or the pair, as a word.
     ///
     /// The word has the bytes, the first lowest, and their number in the highest byte. 0 if they
-    /// are no character, or none that is known. One load from a table and no branch. Takes no
-    /// memory.
+    /// are no character, or none that is known. No branch and at most one load from a table. Takes
+    /// no memory.
     #[inline(always)]
     fn word(self, is_pair: bool, first: u8, second: u8) -> u32
         ensures { 0 < result → MeansWord (means self) (byte_or_pair is_pair first second) result }
@@ -87,10 +87,10 @@ pub trait Pieces: Copy {
         0
     }
 
-    /// Returns whether looking each byte up in a table pays.
+    /// Returns whether looking each byte up by `word` and `unit` pays: most bytes are a character
+    /// by themselves.
     ///
-    /// It does if most bytes are a character by themselves. The output is the same either way.
-    /// Takes no memory.
+    /// The output is the same either way. Takes no memory.
     fn are_bytes(self) -> bool {
         let _pieces = self;
         false

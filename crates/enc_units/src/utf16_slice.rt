@@ -7,12 +7,12 @@ ghost use Rattle.enc_units.specs.AsciiRun.{PutsAscii};
 ghost use Rattle.enc_units.specs.Output.{DetermineTexts, with_appended, borrowed_output};
 ghost use Rattle.enc_units.specs.Pieces.{PutsPieces, IsUtf8Char};
 
-use crate::byte_units::ByteUnits;
 use crate::code_units::CodeUnits;
 use crate::gather::{Gather, SHORT, UNITS_BUFFER};
 use crate::laws::utf_16_units_determine_a_text;
 use crate::pairs::Pairs;
 use crate::pieces::Pieces;
+use crate::single_bytes::SingleBytes;
 use crate::units::Units;
 use crate::utf8::{char_len, utf8_front};
 use crate::utf8_pieces::Utf8Pieces;
@@ -22,9 +22,6 @@ use crate::widen::{is_nearly_ascii, widen_ascii};
 /// The number of bytes of UTF-8 that are checked before they are written: few enough to be in the
 /// nearest cache then.
 const PART: usize = 4096;
-
-/// The least number of bytes of a run for which a table is built.
-const LONG: usize = 1024;
 
 /// A slice that takes UTF-16 from its start on.
 #[derive(Drop)]
@@ -144,18 +141,6 @@ impl<'a> Utf16Slice<'a> {
         }
     }
 
-    /// Writes the characters at the front by a table of bytes. Returns their length in bytes.
-    ///
-    /// It is a function of its own, since the table is cleared at each call.
-    #[inline(never)]
-    fn append_by_table<P: Pieces>(&mut self, pieces: P, src: &[u8]) -> usize
-        ensures { PutsPieces encode_utf16 (P.means pieces)
-            (borrowed_output self.old.len self.old.dst)
-            (borrowed_output self.new.len self.new.dst) src.now result }
-    {
-        self.append_gathered(&ByteUnits::of(pieces), &mut [0; UNITS_BUFFER], src)
-    }
-
     /// Writes the characters at the front that can be collected in a buffer, if there are bytes
     /// enough. Returns their length in bytes.
     #[inline(always)]
@@ -174,8 +159,8 @@ impl<'a> Utf16Slice<'a> {
         if pieces.are_pairs() {
             return self.append_gathered(&Pairs { pieces }, &mut buffer, src);
         }
-        if pieces.are_bytes() && src.len() >= LONG {
-            return self.append_by_table(pieces, src);
+        if pieces.are_bytes() {
+            return self.append_gathered(&SingleBytes { pieces }, &mut buffer, src);
         }
         0
     }

@@ -78,6 +78,30 @@ fn gives_units_at_places(rt: HostRuntime) {
     assert!(rt; Grid::Big5.unit(256 + 28 * 158 + 144) == 0);
 }
 
+#[test]
+fn gives_words_of_single_bytes(rt: HostRuntime) {
+    assert!(rt; SingleByteIndex::Ibm866.word(0x00) == 0x01000000);
+    assert!(rt; SingleByteIndex::Ibm866.word(0x80) == 0x020090D0);
+    assert!(rt; SingleByteIndex::Koi8U.word(0x7F) == 0x0100007F);
+    assert!(rt; SingleByteIndex::Koi8U.word(0x80) == 0x038094E2);
+    assert!(rt; SingleByteIndex::Windows1252.word(0x80) == 0x03AC82E2);
+    assert!(rt; SingleByteIndex::Windows1252.word(0x8B) == 0x03B980E2);
+    assert!(rt; SingleByteIndex::Windows1252.word(0xFF) == 0x0200BFC3);
+    assert!(rt; SingleByteIndex::Windows1257.word(0xA1) == 0);
+    assert!(rt; SingleByteIndex::XMacCyrillic.word(0xFF) == 0x03AC82E2);
+}
+
+#[test]
+fn gives_units_of_single_bytes(rt: HostRuntime) {
+    assert!(rt; SingleByteIndex::Ibm866.unit(0x00) == 0);
+    assert!(rt; SingleByteIndex::Koi8U.unit(0x7F) == 0x7F);
+    assert!(rt; SingleByteIndex::Koi8U.unit(0x80) == 0x2500);
+    assert!(rt; SingleByteIndex::Windows1252.unit(0x80) == 0x20AC);
+    assert!(rt; SingleByteIndex::Windows1252.unit(0xFF) == 0xFF);
+    assert!(rt; SingleByteIndex::Windows1257.unit(0xA1) == 0);
+    assert!(rt; SingleByteIndex::XMacCyrillic.unit(0xFF) == 0x20AC);
+}
+
 /// The first run of some indexes.
 const FIRST_RUNS: &[(List, (u32, u32, u32))] = &[
     (List::Jis0208, (0, 2, 0x3000)),

@@ -1,0 +1,26 @@
+use Rattle.std.proofs.Common.{◌≡◌, ◌∙◌, ◌+◌, ap, arith, refl, take, set, length-set}
+use Rattle.std.proofs.lemmas.List.{take_more_set}
+use Rattle.enc_units.proofs.GatherLemmas.{gathers_nothing, gathers_byte_unit}
+use Rattle.enc_units.proofs.single_bytes.store_units_step.Goals as goal
+
+pub loop-read-init : goal.loop-read-init
+loop-read-init g c = (
+  omega arith,
+  refl,
+  gathers_nothing
+      (ap (λ k. take k c.args.buffer.now) (omega arith)),
+)
+
+pub loop-read-preserved : goal.loop-read-preserved
+loop-read-preserved g c =
+    let invariant = c.loop-read.invariant in
+    let buffer = c.loop-read.buffer in
+    let unit = c.unit-unit.result in
+    let at = c.args.at + c.loop-read.read in
+    let next : c.args.at + (c.loop-read.read + 1) ≡ at + 1 = omega arith in (
+      omega arith,
+      length-set buffer at _ ∙ invariant.1,
+      gathers_byte_unit c.args.src.now c.args.from (omega arith) (omega arith)
+          (c.unit-unit.ensures (omega arith)) invariant.2
+          (ap (λ k. take k (set buffer at unit)) next ∙ take_more_set buffer at unit (omega arith)),
+    )
