@@ -84,13 +84,21 @@ impl Pieces for SingleByteDecoder {
     #[inline(always)]
     fn word(self, is_pair: bool, first: u8, second: u8) -> u32 {
         let _second = second;
-        if is_pair { 0 } else { word_of(self.index, first) }
+        if is_pair {
+            0
+        } else {
+            word_of(self.index, first)
+        }
     }
 
     #[inline(always)]
     fn unit(self, is_pair: bool, first: u8, second: u8) -> u16 {
         let _second = second;
-        if is_pair { 0 } else { unit_of(self.index, first) }
+        if is_pair {
+            0
+        } else {
+            unit_of(self.index, first)
+        }
     }
 }
 

@@ -1,0 +1,10 @@
+use Rattle.enc_index.specs.Runs.{single_byte_runs}
+use Rattle.enc_decoder_single_byte.specs.OneByte.{single_byte_char}
+use Rattle.enc_decoder_single_byte.proofs.WordLemmas.{means_word}
+use Rattle.enc_decoder_single_byte.proofs.single_byte.SingleByteDecoderPieces.word.Goals as goal
+
+pub returns-else-is_pair : goal.returns-else-is_pair
+returns-else-is_pair c some =
+    rw c.if-is_pair.false
+    (means_word (single_byte_char (single_byte_runs c.args.self.index)) c.args.first _
+    (c.word_of.ensures some))
