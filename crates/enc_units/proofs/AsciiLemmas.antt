@@ -46,7 +46,7 @@ ascii_more i n xs a b =
     subst AreAscii (sym (take-add i n xs))
     (All-append (λ b. b < 0x80) (take i xs) (take n (drop i xs)) a b)
 
-one_ascii : (x : ℕ) → x < 128 → AreAscii (x ∷ [])
+pub one_ascii : (x : ℕ) → x < 128 → AreAscii (x ∷ [])
 one_ascii x h zero d l = h
 one_ascii x h (suc k) d l = absurd (omega arith)
 

@@ -244,14 +244,14 @@ stored_blend at n old a h k is_sixteen =
     (append_assoc (take n a) (drop n old_lanes) (drop 16 old_rest)
     ∙ ap (λ z. take n a ++ z) (whole ∙ drop-drop n at old))
 
--- all sixteen lanes are stored
-pub stored_whole : (at : ℕ) (old a : List ℕ) → at + 16 ≤ length old → length a ≡ 16
-    → put_chunk at old a ≡ take at old ++ (take 16 a ++ drop (at + 16) old)
-stored_whole at old a h l =
+-- all lanes are stored
+pub stored_whole : (m at : ℕ) (old a : List ℕ) → at + m ≤ length old → length a ≡ m
+    → put_chunk at old a ≡ take at old ++ (take m a ++ drop (at + m) old)
+stored_whole m at old a h l =
     put_chunk_is at old a (omega arith)
-    ∙ ap (λ m. take at old ++ (a ++ drop m (drop at old))) l
-    ∙ ap (λ z. take at old ++ (a ++ z)) (drop-drop 16 at old)
-    ∙ ap (λ z. take at old ++ (z ++ drop (at + 16) old)) (sym (take_all 16 a (omega arith)))
+    ∙ ap (λ k. take at old ++ (a ++ drop k (drop at old))) l
+    ∙ ap (λ z. take at old ++ (a ++ z)) (drop-drop m at old)
+    ∙ ap (λ z. take at old ++ (z ++ drop (at + m) old)) (sym (take_all m a (omega arith)))
 
 -- one byte, and two
 

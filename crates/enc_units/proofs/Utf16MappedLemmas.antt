@@ -1,15 +1,17 @@
 -- Runs of characters that are read from UTF-16.
-use Rattle.std.proofs.Common.{◌≡◌, ℕ, zero, suc, ◌+◌, ◌%◌, ◌<◌, ◌≤◌, false, List, [], ◌∷◌, ◌++◌, length, map, take}
-use Rattle.std.proofs.Common.{drop, refl, ap, ◌∙◌, sym, subst, arith, nat_le, nat_lt, ◌&&◌, length-take}
+use Rattle.std.proofs.Common.{◌≡◌, ℕ, zero, suc, ◌%◌, ◌<◌, ◌≤◌, false, List, [], ◌∷◌, ◌++◌, length, get_or, map, take}
+use Rattle.std.proofs.Common.{drop, refl, ap, ◌∙◌, sym, subst, arith, nat_le, nat_lt, ◌&&◌}
 use Rattle.std.proofs.Common.{take-append-drop}
 use Rattle.std.proofs.lemmas.Bool.Decides.{nat_tests}
-use Rattle.std.proofs.lemmas.List.{length-map, take-take}
+use Rattle.std.proofs.lemmas.List.{length-map, length-take-le, take-take}
 use Rattle.std.specs.Char.Utf16.{utf16_lossy_chars}
+use Rattle.enc_units.specs.Mappings.{AreWrittenAsThemselves}
 use Rattle.enc_units.specs.Surrogates.{lossy_unit_char}
 use Rattle.enc_units.specs.Validity.{AreAscii}
+use Rattle.enc_units.proofs.AsciiLemmas.{one_ascii}
 use Rattle.enc_units.proofs.CharsLemmas.{lossy_lone}
 use Rattle.enc_units.proofs.LaneLemmas.{all_fewer}
-use Rattle.enc_units.proofs.WriteLoopLemmas.{HasFront, sixteen}
+use Rattle.enc_units.proofs.WriteLoopLemmas.{HasFront}
 
 -- no condition: surrogates without their partners are read as U+FFFD
 abbrev pub Any : List ℕ → Type 0
@@ -42,32 +44,41 @@ take_map zero us = refl
 take_map (suc n) [] = refl
 take_map (suc n) (u ∷ us) = ap (λ x. (u % 0x80) ∷ x) (take_map n us)
 
--- the ASCII in front of sixteen code units, as their lower bytes
-pub unit_lanes : (n m : ℕ) {us : List ℕ} (lanes : List ℕ) → 16 ≤ length us → n ≤ m → m ≤ 16
+-- the first n lanes are the first n code units
+pub own_lanes : (n m : ℕ) (us lanes : List ℕ) → n ≤ m → m ≤ 16
     → lanes ≡ map (λ u. u % 0x80) (take 16 us) → AreAscii (take m (take 16 us))
-    → HasFront utf16_lossy_chars Any us (take n lanes)
-unit_lanes n m {us} lanes h few most e a =
-    let ascii : AreAscii (take n us) = subst AreAscii (take-take n 16 us (omega arith)) (all_fewer
-    (λ u. u < 0x80) n m (take 16 us) few a) in
-    let same : take n lanes ≡ take n us =
-    ap (take n) e ∙ take_map n (take 16 us)
-    ∙ ap (map (λ u. u % 0x80)) (take-take n 16 us (omega arith))
-    ∙ low_bytes (take n us) ascii in
-    let long : length (take n lanes) ≡ n = omega (arith, ap length same, length-take n us) in
+    → take n lanes ≡ take n us
+own_lanes n m us lanes few most e a =
+    let fewer : AreAscii (take n (take 16 us)) =
+    all_fewer (λ u. u < 0x80) n m (take 16 us) few a in
+    let same = take-take n 16 us (omega arith) in
+    ap (take n) e ∙ take_map n (take 16 us) ∙ ap (map (λ u. u % 0x80)) same
+    ∙ low_bytes (take n us) (subst AreAscii same fewer)
+
+pub low_lanes_long : (us lanes : List ℕ) → lanes ≡ map (λ u. u % 0x80) (take 16 us)
+    → 16 ≤ length us → length lanes ≡ 16
+low_lanes_long us lanes e h = ap length e ∙ length-map (take 16 us) (λ u. u % 0x80)
+    ∙ length-take-le 16 us h
+
+-- the first n code units are characters by themselves
+pub own_front : (Means : List ℕ → ℕ → Type 0) (n : ℕ) (us : List ℕ) → n ≤ length us
+    → AreWrittenAsThemselves Means (take n us)
+    → HasFront utf16_lossy_chars Any us (take n us)
+own_front Means n us h a =
+    let long : length (take n us) ≡ n = length-take-le n us h in
     record {
       within = omega (arith, long);
       ok = tt;
       chars = ap utf16_lossy_chars (sym (take-append-drop n us))
-          ∙ lossy_ascii (take n us) (drop n us) ascii
-          ∙ ap (λ z. z ++ utf16_lossy_chars (drop n us)) (sym same)
-          ∙ ap (λ k. take n lanes ++ utf16_lossy_chars (drop k us)) (sym long);
+          ∙ lossy_ascii (take n us) (drop n us) (λ k d l. (a k d l).0)
+          ∙ ap (λ k. take n us ++ utf16_lossy_chars (drop k us)) (sym long);
     }
 
-pub low_lanes_long : (at : ℕ) (us lanes : List ℕ)
-    → lanes ≡ map (λ u. u % 0x80) (take 16 (drop at us))
-    → at + 16 ≤ length us → length lanes ≡ 16
-low_lanes_long at us lanes e h = ap length e ∙ length-map (take 16 (drop at us)) (λ u. u % 0x80)
-    ∙ sixteen at us h
-
-pub front_long : (n : ℕ) (lanes : List ℕ) → length lanes ≡ 16 → n ≤ 16 → length (take n lanes) ≡ n
-front_long n lanes e h = omega (arith, length-take n lanes)
+-- a first code unit that is ASCII is the first character
+pub first_ascii : (us : List ℕ) → 1 ≤ length us → get_or us 0 0 < 0x80
+    → AreAscii (take 1 (utf16_lossy_chars us))
+first_ascii [] some low = absurd (omega (arith, some))
+first_ascii (u ∷ us) some low =
+    let chars_are = lossy_lone u us (λ p. omega (arith, p.0, low))
+    ∙ ap (λ x. x ∷ utf16_lossy_chars us) (low_unit u low) in
+    subst (λ cs. AreAscii (take 1 cs)) (sym chars_are) (one_ascii u low)

@@ -1,15 +1,17 @@
 -- Runs of characters that are read from UTF-8.
-use Rattle.std.proofs.Common.{◌≡◌, ℕ, suc, ◌+◌, ◌*◌, ◌%◌, ◌<◌, ◌≤◌, true, List, [], ◌∷◌, ◌++◌, length, get_or, take}
-use Rattle.std.proofs.Common.{drop, refl, ap, ◌∙◌, sym, subst, arith, length-append, length-take, length-drop}
+use Rattle.std.proofs.Common.{◌≡◌, ℕ, suc, ◌+◌, ◌-◌, ◌*◌, ◌%◌, ◌<◌, ◌≤◌, true, List, [], ◌∷◌, ◌++◌, length, get_or, take}
+use Rattle.std.proofs.Common.{drop, refl, ap, ◌∙◌, sym, subst, arith, length-append, length-drop}
 use Rattle.std.proofs.Common.{take-append-drop, chars, IsUtf8, inl, inr}
 use Rattle.std.proofs.lemmas.Bool.{and_parts, cases_lt}
 use Rattle.std.proofs.lemmas.Bool.Decides.{nat_tests}
-use Rattle.std.proofs.lemmas.List.{get_or-drop, take-take}
+use Rattle.std.proofs.lemmas.List.{get_or-drop, length-take-le}
 use Rattle.std.proofs.lemmas.Str.{chars_past_char, IsUtf8-past_char, encode_ascii}
 use Rattle.std.proofs.Math.Seq.{drop-append_seam}
 use Rattle.std.specs.Char.{IsScalar, encode_utf8}
 use Rattle.std.specs.Str.{all_scalars, encode_utf8_all}
 use Rattle.enc_units.specs.Mappings.{IsFirstUtf8Char, AreWrittenAsThemselves}
+use Rattle.enc_units.specs.Validity.{AreAscii}
+use Rattle.enc_units.proofs.AsciiLemmas.{one_ascii}
 use Rattle.enc_units.proofs.GatherLemmas.{utf8_two, utf8_three, utf8_four}
 use Rattle.enc_units.proofs.WriteLoopLemmas.{HasFront}
 
@@ -126,7 +128,7 @@ module _ (bs : List ℕ) (utf8 : IsUtf8 bs) where
       ]
 
 -- at a place of a slice
-module _ (src : List ℕ) (at : ℕ) (utf8 : IsUtf8 (drop at src)) (h : at + 4 ≤ length src)
+module _ (src : List ℕ) (at : ℕ) (utf8 : IsUtf8 (drop at src)) (h : at < length src)
     (low : 0x80 ≤ get_or src at 0) where
   abbrev d : List ℕ
   d = drop at src
@@ -175,6 +177,26 @@ module _ (src : List ℕ) (at : ℕ) (utf8 : IsUtf8 (drop at src)) (h : at + 4 �
       4) (get_or-drop at src 3 0)
       (all.four (omega (arith, at_first))))))
 
+  -- its bytes are within the slice
+
+  left : length d ≡ length src - at
+  left = length-drop at src
+
+  pub fourth_within : 0xF0 ≤ get_or src at 0 → at + 3 < length src
+  fourth_within l = omega (arith, left, (four_at l).first.within)
+
+  pub third_within : 0xE0 ≤ get_or src at 0 → at + 2 < length src
+  third_within l = elim (cases_lt (get_or src at 0) 0xF0) [
+    | inl below ↦ omega (arith, left, (three_at l below).first.within)
+    | inr above ↦ omega (arith, fourth_within above)
+  ]
+
+  pub second_within : at + 1 < length src
+  second_within = elim (cases_lt (get_or src at 0) 0xE0) [
+    | inl below ↦ omega (arith, left, (two_at below).first.within)
+    | inr above ↦ omega (arith, third_within above)
+  ]
+
 -- ASCII in front
 
 ascii_first : (Means : List ℕ → ℕ → Type 0) (bs rest : List ℕ) → AreWrittenAsThemselves Means bs
@@ -200,18 +222,24 @@ ascii_in_front Means n bs u a =
     (subst IsUtf8 (sym (take-append-drop n bs)) u) in
     (begins.0, ap chars (sym (take-append-drop n bs)) ∙ begins.1)
 
--- the ASCII in front of sixteen lanes
-pub ascii_lanes : (Means : List ℕ → ℕ → Type 0) (n : ℕ) (bs lanes : List ℕ) → IsUtf8 bs
-    → 16 ≤ length bs → n ≤ 16
-    → lanes ≡ take 16 bs → AreWrittenAsThemselves Means (take n lanes)
-    → HasFront chars IsUtf8 bs (take n lanes)
-ascii_lanes Means n bs lanes u h few e a =
-    let same : take n lanes ≡ take n bs = ap (take n) e ∙ take-take n 16 bs few in
-    let in_front = ascii_in_front Means n bs u (subst (AreWrittenAsThemselves Means) same a) in
-    let long : length (take n lanes) ≡ n = omega (arith, ap length same, length-take n bs) in
+-- the first n bytes are characters by themselves
+pub own_front : (Means : List ℕ → ℕ → Type 0) (n : ℕ) (bs : List ℕ) → IsUtf8 bs → n ≤ length bs
+    → AreWrittenAsThemselves Means (take n bs)
+    → HasFront chars IsUtf8 bs (take n bs)
+own_front Means n bs u h a =
+    let in_front = ascii_in_front Means n bs u a in
+    let long : length (take n bs) ≡ n = length-take-le n bs h in
     record {
       within = omega (arith, long);
       ok = subst (λ k. IsUtf8 (drop k bs)) (sym long) in_front.0;
-      chars = in_front.1 ∙ ap (λ z. z ++ chars (drop n bs)) (sym same)
-          ∙ ap (λ k. take n lanes ++ chars (drop k bs)) (sym long);
+      chars = in_front.1 ∙ ap (λ k. take n bs ++ chars (drop k bs)) (sym long);
     }
+
+-- a first byte that is ASCII is the first character
+pub first_ascii : (bs : List ℕ) → IsUtf8 bs → 1 ≤ length bs → get_or bs 0 0 < 0x80
+    → AreAscii (take 1 (chars bs))
+first_ascii [] utf8 some low = absurd (omega (arith, some))
+first_ascii (b ∷ bs) utf8 some low =
+    let is_front : b ∷ bs ≡ encode_utf8 b ++ bs = ap (λ x. x ++ bs) (sym (encode_ascii b low)) in
+    subst (λ cs. AreAscii (take 1 cs)) (sym (chars_past_char (b ∷ bs) bs b utf8 is_front))
+    (one_ascii b low)

@@ -1,22 +1,36 @@
 -- The invariant of a loop that writes the bytes of the characters of an input, UTF-8 or UTF-16.
 use Rattle.std.proofs.Common.{◌≡◌, ℕ, ◌+◌, ◌-◌, ◌≤◌, List, ◌∷◌, ◌++◌, length, take, drop, ap, ◌∙◌, sym, subst, arith}
-use Rattle.std.proofs.Common.{length-take, length-drop, drop-drop}
-use Rattle.std.proofs.lemmas.List.{take_all}
+use Rattle.std.proofs.Common.{length-drop, drop-drop}
+use Rattle.std.proofs.lemmas.List.{length-take-le, take_all}
 use lib.Lanes.{put_chunk}
-use Rattle.enc_units.specs.Mappings.{WritesMapped, AreWrittenAsThemselves}
+use Rattle.enc_units.specs.Mappings.{WritesMapped, WritesThemselves, AreWrittenAsThemselves}
 use Rattle.enc_units.proofs.MappingLemmas.{maps_ascii, maps_both, maps_one, same_length, stored_whole}
 
--- how long the rests are
+-- the rest of a slice
+pub rest_is : (read : ℕ) (src : List ℕ) → take (length src - read) (drop read src) ≡ drop read src
+rest_is read src = take_all (length src - read) (drop read src) (omega (arith, length-drop read src))
 
-pub rest_long : (at : ℕ) (src : List ℕ) → at + 16 ≤ length src → 16 ≤ length (drop at src)
-rest_long at src h = omega (arith, length-drop at src)
+-- the first lanes are stored
 
-pub sixteen : (at : ℕ) (src : List ℕ) → at + 16 ≤ length src → length (take 16 (drop at src)) ≡ 16
-sixteen at src h = omega (arith, length-take 16 (drop at src), length-drop at src)
+pub front_stored : (Means : List ℕ → ℕ → Type 0) {src before after : List ℕ} (at n : ℕ)
+    (lanes : List ℕ)
+    → take n lanes ≡ take n src → AreWrittenAsThemselves Means (take n lanes)
+    → n ≤ length src → at + n ≤ length before
+    → after ≡ take at before ++ (take n lanes ++ drop (at + n) before)
+    → WritesThemselves Means src before after at n
+front_stored Means {before = before} at n lanes own a h fits onto = record {
+  within = h;
+  ascii = subst (AreWrittenAsThemselves Means) own a;
+  fits = fits;
+  onto = onto ∙ ap (λ z. take at before ++ (z ++ drop (at + n) before)) own;
+}
 
-pub lanes_long : (n at : ℕ) (src : List ℕ) → at + 16 ≤ length src → n ≤ 16
-    → length (take n (take 16 (drop at src))) ≡ n
-lanes_long n at src h l = omega (arith, length-take n (take 16 (drop at src)), sixteen at src h)
+pub all_stored : (Means : List ℕ → ℕ → Type 0) (src before : List ℕ) (at m : ℕ) (lanes : List ℕ)
+    → length lanes ≡ m → m ≤ length src → at + m ≤ length before
+    → take m lanes ≡ take m src → AreWrittenAsThemselves Means (take m lanes)
+    → WritesThemselves Means src before (put_chunk at before lanes) at m
+all_stored Means src before at m lanes long h fits own a =
+    front_stored Means at m lanes own a h fits (stored_whole m at before lanes fits long)
 
 -- code units begin with units that are characters by themselves, and those after them are
 -- well-formed
@@ -67,7 +81,7 @@ module _ {chars_in : List ℕ → List ℕ} {Ok : List ℕ → Type 0} {Means : 
       }
 
   -- the loop goes on with ASCII
-  pub ascii_further : {dst' bs : List ℕ} {n : ℕ} → length bs ≡ n → at + n ≤ length dst
+  ascii_further : {dst' bs : List ℕ} {n : ℕ} → length bs ≡ n → at + n ≤ length dst
       → HasFront chars_in Ok (drop read src) bs
       → AreWrittenAsThemselves Means bs → dst' ≡ take at dst ++ (bs ++ drop (at + n) dst)
       → IsWritten dst' (read + n) (at + n)
@@ -81,19 +95,16 @@ module _ {chars_in : List ℕ → List ℕ} {Ok : List ℕ → Type 0} {Means : 
       (maps_ascii Means (chars_in rest) (chars_in (drop (read + n) src)) dst dst' at n bs a
       (begins.chars ∙ ap (λ x. bs ++ chars_in x) after) (sym as_long) l o)
 
-  -- with sixteen lanes of ASCII
-  pub whole_further : (lanes : List ℕ) {n : ℕ} → length lanes ≡ 16 → n ≡ 16
-      → at + 16 ≤ length dst
-      → HasFront chars_in Ok (drop read src) (take n lanes)
-      → AreWrittenAsThemselves Means (take n lanes)
-      → IsWritten (put_chunk at dst lanes) (read + 16) (at + 16)
-  whole_further lanes {n = n} long e fits f a =
-      let all : take n lanes ≡ lanes = take_all n lanes (omega arith) in
-      ascii_further long fits (subst (HasFront chars_in Ok
-      (drop read src)) all f) (subst (AreWrittenAsThemselves Means) all a)
-      (stored_whole at dst lanes fits long
-      ∙ ap (λ z. take at dst ++ (z ++ drop (at + 16) dst)) (take_all 16 lanes
-      (omega (arith, long))))
+  -- with the ASCII in front
+  pub own_further : {rest dst' : List ℕ} {n : ℕ} → rest ≡ drop read src
+      → WritesThemselves Means rest dst dst' at n
+      → (WritesThemselves Means (drop read src) dst dst' at n
+      → HasFront chars_in Ok (drop read src) (take n (drop read src)))
+      → IsWritten dst' (read + n) (at + n)
+  own_further {dst' = dst'} {n = n} e own begins =
+      let front = subst (λ z. WritesThemselves Means z dst dst' at n) e own in
+      ascii_further (length-take-le n (drop read src) front.within) front.fits (begins front)
+      front.ascii front.onto
 
   -- with the bytes of one character
   pub one_further : (bytes : List ℕ) (n : ℕ) {dst' : List ℕ} {c k : ℕ} → n ≤ length (drop read src)

@@ -10,6 +10,15 @@ IsWrittenAsItself Means b = (b < 0x80) × Means (b ∷ []) b
 abbrev pub AreWrittenAsThemselves : (List ℕ → ℕ → Type 0) → List ℕ → Type 0
 AreWrittenAsThemselves Means = All (IsWrittenAsItself Means)
 
+-- The first n code units are ASCII that is written as itself, and they are written to a slice, from
+-- `at` on. All other bytes of the slice are unchanged.
+pub record WritesThemselves (Means : List ℕ → ℕ → Type 0) (src before after : List ℕ)
+    (at n : ℕ) : Type 0 where
+  pub within : n ≤ length src
+  pub ascii : AreWrittenAsThemselves Means (take n src)
+  pub fits : at + n ≤ length before
+  pub onto : after ≡ take at before ++ (take n src ++ drop (at + n) before)
+
 -- The first characters of an input are read, and their bytes are written one after another to a
 -- slice, from `at` on. All other bytes of the slice are unchanged.
 pub record WritesMapped (Means : List ℕ → ℕ → Type 0) (src rest before after : List ℕ)

@@ -1,9 +1,10 @@
 //! Inputs of characters.
 
-ghost use Rattle.std.specs.Prelude.{◌≡◌, ◌≢◌, ◌≤◌, ℕ, List, [], ◌∷◌, length, drop, MatchOption};
-ghost use Rattle.std.specs.Prelude.{IfSome};
+ghost use Rattle.std.specs.Prelude.{◌≡◌, ◌≢◌, ◌≤◌, ℕ, List, [], ◌∷◌, length, take, drop, MatchOption};
+ghost use Rattle.std.specs.Prelude.{IfSome, IsTrue};
 ghost use Rattle.enc_units.specs.Output.{units_of_text};
 ghost use Rattle.enc_units.specs.Mappings.{WritesMapped};
+ghost use Rattle.enc_units.specs.Validity.{AreAscii};
 
 use crate::mapping::Mapping;
 
@@ -26,6 +27,16 @@ pub trait Chars {
         ensures first { MatchOption result (rest self.now ≡ [])
             (λ p. rest self.now ≡ p.0 ∷ drop 1 (rest self.now)) }
         ensures width { IfSome result (λ p. p.1 ≡ length (units_of p.0)) };
+
+    /// Returns whether the next character is ASCII, or false, as it does by default.
+    ///
+    /// Takes no memory.
+    fn begins_with_ascii(&self) -> bool
+        ensures { IsTrue result → AreAscii (take 1 (rest self.now)) }
+    {
+        let _input = self;
+        false
+    }
 
     /// Reads the next character. Takes no memory. Condition: the input is not at its end.
     fn advance(&mut self)

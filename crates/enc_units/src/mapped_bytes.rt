@@ -6,9 +6,8 @@ ghost use Rattle.enc_units.specs.Bytes.{byte_list};
 use crate::bytes::Bytes;
 use std::simd::prelude::*;
 
-/// A run ends this many code units before the end of its input, and this many bytes before the end
-/// of its slice.
-pub(crate) const MARGIN: usize = 32;
+/// A run ends where fewer bytes than a character may have are left of its slice.
+pub(crate) const MOST_BYTES: usize = 4;
 
 /// The numbers of sixteen lanes.
 const PLACES: [u8; 16] = [0, 1, 2, 3, 4, 5, 6, 7, 8, 9, 10, 11, 12, 13, 14, 15];

@@ -1,8 +1,8 @@
 //! The bytes of characters, as the loops over runs look them up.
 
-ghost use Rattle.std.specs.Prelude.{ℕ, ◌≤◌, List, IfSome, take};
+ghost use Rattle.std.specs.Prelude.{ℕ, ◌≤◌, List, IfSome, IsTrue, take};
 ghost use Rattle.enc_units.specs.Bytes.{byte_list};
-ghost use Rattle.enc_units.specs.Mappings.{AreWrittenAsThemselves};
+ghost use Rattle.enc_units.specs.Mappings.{AreWrittenAsThemselves, IsWrittenAsItself};
 
 use crate::bytes::Bytes;
 use std::simd::prelude::*;
@@ -19,10 +19,28 @@ pub trait Mapping: Copy {
         requires { 0x80 ≤ c }
         ensures { IfSome result (λ b. means self (byte_list b) c) };
 
+    /// Returns whether a byte is ASCII written as itself, or false.
+    ///
+    /// Takes no memory.
+    fn is_own(self, byte: u8) -> bool
+        ensures { IsTrue result → IsWrittenAsItself (means self) byte };
+
     /// Returns how many of sixteen bytes at the front are ASCII written as itself, or fewer.
     ///
     /// Takes no memory.
     fn ascii_len(self, lanes: u8x16) -> usize
         ensures bound { result ≤ 16 }
         ensures ascii { AreWrittenAsThemselves (means self) (take result lanes) };
+
+    /// Returns whether all of 64 bytes are ASCII written as itself, or false, as it does by default.
+    ///
+    /// Takes no memory.
+    #[inline(always)]
+    fn are_own(self, lanes: u8x64) -> bool
+        ensures { IsTrue result → AreWrittenAsThemselves (means self) lanes }
+    {
+        let _mapping = self;
+        let _lanes = lanes;
+        false
+    }
 }

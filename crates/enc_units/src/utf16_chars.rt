@@ -8,7 +8,6 @@ ghost use Rattle.enc_units.specs.Output.{units_of_text};
 ghost use Rattle.enc_units.specs.Surrogates.{lossy_unit_char, IsSurrogatePair, IsFirstUtf16Char};
 
 use crate::chars::Chars;
-use crate::mapped_bytes::MARGIN;
 use crate::mapping::Mapping;
 use crate::utf16_mapped::write_utf16;
 
@@ -102,6 +101,11 @@ impl<'a> Chars for Utf16Chars<'a> {
         first(self.units)
     }
 
+    #[inline(always)]
+    fn begins_with_ascii(&self) -> bool {
+        !self.units.is_empty() && self.units[0] < 0x80
+    }
+
     fn advance(&mut self) {
         if let Some((_, width)) = first(self.units) {
             self.units = &self.units[width..];
@@ -109,9 +113,6 @@ impl<'a> Chars for Utf16Chars<'a> {
     }
 
     fn write_mapped<M: Mapping>(&mut self, mapping: M, dst: &mut [u8], from: usize) -> usize {
-        if self.units.len() < MARGIN {
-            return 0;
-        }
         let (read, written) = write_utf16(mapping, self.units, dst, from);
         self.units = &self.units[read..];
         written

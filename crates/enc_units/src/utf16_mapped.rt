@@ -1,11 +1,11 @@
 //! Runs of mapped characters, read from UTF-16.
 
-ghost use Rattle.std.specs.Prelude.{◌≡◌, ◌%◌, ◌≤◌, map, length, take, drop};
+ghost use Rattle.std.specs.Prelude.{◌≡◌, ◌%◌, ◌<◌, ◌≤◌, map, length, take, drop, slice_index};
 ghost use Rattle.std.specs.Char.Utf16.{utf16_lossy_chars};
-ghost use Rattle.enc_units.specs.Mappings.{WritesMapped};
+ghost use Rattle.enc_units.specs.Mappings.{WritesMapped, WritesThemselves};
 ghost use Rattle.enc_units.specs.Validity.{AreAscii};
 
-use crate::mapped_bytes::{MARGIN, put_bytes, put_lanes};
+use crate::mapped_bytes::{MOST_BYTES, put_bytes, put_lanes};
 use crate::mapping::Mapping;
 use crate::utf16_chars::first;
 use std::simd::prelude::*;
@@ -32,6 +32,37 @@ fn low_bytes(units: Simd<u16, 16>) -> u8x16
     (units & Simd::<u16, 16>::splat(0x7F)).cast::<u8>()
 }
 
+/// Writes the ASCII in front that is written as itself: of sixteen code units, or of one where
+/// sixteen do not fit.
+///
+/// Returns the number of bytes. It is 0 if the first is written otherwise. Condition: the first is
+/// ASCII.
+#[inline(always)]
+fn put_ascii<M: Mapping>(mapping: M, src: &[u16], dst: &mut [u8], at: usize) -> usize
+    requires some { 1 ≤ length src.now }
+    requires ascii { slice_index src.now 0 < 0x80 }
+    requires room { at < length dst.old }
+    ensures { WritesThemselves (M.means mapping) src.now dst.old dst.new at result }
+{
+    if src.len() < 16 || dst.len() - at < 16 {
+        let byte = src[0] as u8;
+        if !mapping.is_own(byte) {
+            return 0;
+        }
+        dst[at] = byte;
+        return 1;
+    }
+    let units = Simd::<u16, 16>::from_slice(src);
+    let lanes = low_bytes(units);
+    let len = mapping.ascii_len(lanes).min(ascii_units(units));
+    if len < 16 {
+        put_lanes(dst, at, lanes, len);
+        return len;
+    }
+    lanes.copy_to_slice(&mut dst[at..]);
+    16
+}
+
 /// Writes the bytes of the first characters of UTF-16 to a slice, from `from` on.
 ///
 /// Returns the numbers of code units read and of bytes written. The run need not be maximal.
@@ -49,22 +80,12 @@ pub(crate) fn write_utf16<M: Mapping>(
 {
     let mut read = 0;
     let mut at = from;
-    while MARGIN <= src.len() - read && MARGIN <= dst.len() - at {
-        let unit = src[read];
-        if unit < 0x80 {
-            let units = Simd::<u16, 16>::from_slice(&src[read..]);
-            let lanes = low_bytes(units);
-            let len = mapping.ascii_len(lanes).min(ascii_units(units));
-            if len == 16 {
-                lanes.copy_to_slice(&mut dst[at..]);
-                read += 16;
-                at += 16;
-                continue;
-            }
+    while read < src.len() && MOST_BYTES <= dst.len() - at {
+        if src[read] < 0x80 {
+            let len = put_ascii(mapping, &src[read..], dst, at);
             if len == 0 {
                 break;
             }
-            put_lanes(dst, at, lanes, len);
             read += len;
             at += len;
             continue;

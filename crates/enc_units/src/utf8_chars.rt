@@ -4,7 +4,6 @@ ghost use Rattle.std.specs.Prelude.{◌≡◌, chars, encode_utf8, length};
 ghost use Rattle.enc_units.specs.Output.{units_of_text};
 
 use crate::chars::Chars;
-use crate::mapped_bytes::MARGIN;
 use crate::mapping::Mapping;
 use crate::utf8_mapped::write_utf8;
 
@@ -46,6 +45,12 @@ impl<'a> Chars for Utf8Chars<'a> {
     }
 
     #[inline(always)]
+    fn begins_with_ascii(&self) -> bool {
+        let bytes = self.text.as_bytes();
+        !bytes.is_empty() && bytes[0] < 0x80
+    }
+
+    #[inline(always)]
     #[tactic(auto, using(std::proofs::lemmas::Str::chars_past_char))]
     fn advance(&mut self) {
         let mut rest = self.text.chars();
@@ -56,9 +61,6 @@ impl<'a> Chars for Utf8Chars<'a> {
 
     fn write_mapped<M: Mapping>(&mut self, mapping: M, dst: &mut [u8], from: usize) -> usize {
         let bytes = self.text.as_bytes();
-        if bytes.len() < MARGIN {
-            return 0;
-        }
         let (read, written) = write_utf8(mapping, bytes, dst, from);
         self.text = unsafe { str::from_utf8_unchecked(&bytes[read..]) };
         written

@@ -1,9 +1,9 @@
 //! Runs of mapped characters, read from UTF-8.
 
-ghost use Rattle.std.specs.Prelude.{◌≡◌, ◌+◌, ◌≤◌, length, drop, chars, IsUtf8, slice_index};
-ghost use Rattle.enc_units.specs.Mappings.{IsFirstUtf8Char, WritesMapped};
+ghost use Rattle.std.specs.Prelude.{◌≡◌, ◌<◌, ◌≤◌, length, drop, chars, IsUtf8, slice_index};
+ghost use Rattle.enc_units.specs.Mappings.{IsFirstUtf8Char, WritesMapped, WritesThemselves};
 
-use crate::mapped_bytes::{MARGIN, put_bytes, put_lanes};
+use crate::mapped_bytes::{MOST_BYTES, put_bytes, put_lanes};
 use crate::mapping::Mapping;
 use std::simd::prelude::*;
 
@@ -17,7 +17,7 @@ struct Found {
 /// Returns the character beyond ASCII that begins at `at` (Unicode Standard 3.9, table 3-6).
 #[inline(always)]
 fn found_at(src: &[u8], at: usize) -> Found
-    requires within { at + 4 ≤ length src.now }
+    requires within { at < length src.now }
     requires utf8 { IsUtf8 (drop at src.now) }
     requires beyond { 0x80 ≤ slice_index src.now at }
     ensures beyond { 0x80 ≤ result.c }
@@ -48,6 +48,40 @@ fn found_at(src: &[u8], at: usize) -> Found
     }
 }
 
+/// Writes the ASCII in front that is written as itself: of sixteen bytes, of 64 if the sixteen are
+/// followed by more of it, or of one where sixteen do not fit.
+///
+/// Returns the number of bytes. It is 0 if the first is written otherwise.
+#[inline(always)]
+fn put_ascii<M: Mapping>(mapping: M, src: &[u8], dst: &mut [u8], at: usize) -> usize
+    requires some { 1 ≤ length src.now }
+    requires room { at < length dst.old }
+    ensures { WritesThemselves (M.means mapping) src.now dst.old dst.new at result }
+{
+    if src.len() < 16 || dst.len() - at < 16 {
+        if !mapping.is_own(src[0]) {
+            return 0;
+        }
+        dst[at] = src[0];
+        return 1;
+    }
+    let lanes = u8x16::from_slice(src);
+    let len = mapping.ascii_len(lanes);
+    if len < 16 {
+        put_lanes(dst, at, lanes, len);
+        return len;
+    }
+    if 64 <= src.len() && 64 <= dst.len() - at {
+        let stride = u8x64::from_slice(src);
+        if mapping.are_own(stride) {
+            stride.copy_to_slice(&mut dst[at..]);
+            return 64;
+        }
+    }
+    lanes.copy_to_slice(&mut dst[at..]);
+    16
+}
+
 /// Writes the bytes of the first characters of UTF-8 to a slice, from `from` on.
 ///
 /// Returns the numbers of bytes read and written. The run need not be maximal.
@@ -67,20 +101,12 @@ pub(crate) fn write_utf8<M: Mapping>(
 {
     let mut read = 0;
     let mut at = from;
-    while MARGIN <= src.len() - read && MARGIN <= dst.len() - at {
+    while read < src.len() && MOST_BYTES <= dst.len() - at {
         if src[read] < 0x80 {
-            let lanes = u8x16::from_slice(&src[read..]);
-            let len = mapping.ascii_len(lanes);
-            if len == 16 {
-                lanes.copy_to_slice(&mut dst[at..]);
-                read += 16;
-                at += 16;
-                continue;
-            }
+            let len = put_ascii(mapping, &src[read..], dst, at);
             if len == 0 {
                 break;
             }
-            put_lanes(dst, at, lanes, len);
             read += len;
             at += len;
             continue;

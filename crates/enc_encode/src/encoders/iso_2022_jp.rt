@@ -189,6 +189,14 @@ impl<B: BarredChars> Mapping for ShiftingEncoder<B> {
     }
 
     #[inline(always)]
+    fn is_own(self, byte: u8) -> bool {
+        match self.set {
+            CharacterSet::Ascii => byte < 0x80 && !is_shift(byte as u32),
+            _ => false,
+        }
+    }
+
+    #[inline(always)]
     fn ascii_len(self, lanes: u8x16) -> usize {
         match self.set {
             CharacterSet::Ascii => unshifted_len(lanes),

@@ -1,35 +1,15 @@
 use Rattle.std.proofs.Common.{arith, sym}
 use Rattle.enc_units.proofs.CharsLemmas.{beyond_ascii, first_unit}
-use Rattle.enc_units.specs.Mappings.{IsWrittenAsItself}
-use Rattle.enc_units.proofs.LaneLemmas.{all_fewer}
-use Rattle.enc_units.proofs.Utf16MappedLemmas.{unit_lanes, low_lanes_long, front_long}
-use Rattle.enc_units.proofs.WriteLoopLemmas.{rest_long, ascii_further, whole_further, one_further}
+use Rattle.enc_units.proofs.Utf16MappedLemmas.{own_front}
+use Rattle.enc_units.proofs.WriteLoopLemmas.{rest_is, own_further, one_further}
 use Rattle.enc_units.proofs.utf16_mapped.write_utf16.Goals as goal
 
-pub loop-read-preserved-then-len-eq16 : goal.loop-read-preserved-then-len-eq16
-loop-read-preserved-then-len-eq16 g c =
-    whole_further c.loop-read.invariant _
-    (low_lanes_long c.loop-read.read c.args.src.now _ c.low_bytes-lanes.ensures
-    (omega arith)) c.if-len-eq16.true (omega arith)
-    (unit_lanes _ _ _ (rest_long c.loop-read.read c.args.src.now (omega arith)) (omega
-    (arith, c.min-len.ensures)) c.ascii_units.ensures.bound c.low_bytes-lanes.ensures
-    c.ascii_units.ensures.ascii)
-    (all_fewer (IsWrittenAsItself (g.M.Mapping.means c.args.mapping)) _ _ _ (omega
-    (arith, c.min-len.ensures)) c.ascii_len.ensures.ascii)
-
-pub loop-read-preserved-then-unit-lt128 : goal.loop-read-preserved-then-unit-lt128
-loop-read-preserved-then-unit-lt128 g c =
-    ascii_further c.loop-read.invariant
-    (front_long c.min-len.result c.low_bytes-lanes.result
-    (low_lanes_long c.loop-read.read c.args.src.now _
-    c.low_bytes-lanes.ensures (omega arith))
-    (omega (arith, c.min-len.ensures, c.ascii_units.ensures.bound)))
-    (omega (arith, c.min-len.ensures, c.ascii_units.ensures.bound))
-    (unit_lanes _ _ _ (rest_long c.loop-read.read c.args.src.now (omega arith)) (omega
-    (arith, c.min-len.ensures)) c.ascii_units.ensures.bound c.low_bytes-lanes.ensures
-    c.ascii_units.ensures.ascii)
-    (all_fewer (IsWrittenAsItself (g.M.Mapping.means c.args.mapping)) _ _ _ (omega
-    (arith, c.min-len.ensures)) c.ascii_len.ensures.ascii) c.put_lanes.ensures
+pub loop-read-preserved-then-src-read-lt128 : goal.loop-read-preserved-then-src-read-lt128
+loop-read-preserved-then-src-read-lt128 g c =
+    own_further c.loop-read.invariant (rest_is c.loop-read.read c.args.src.now)
+    c.put_ascii-len.ensures
+    (λ own. own_front (g.M.Mapping.means c.args.mapping) _ _ own.within
+    own.ascii)
 
 pub bytes_in_run-requires : goal.bytes_in_run-requires
 bytes_in_run-requires g c =

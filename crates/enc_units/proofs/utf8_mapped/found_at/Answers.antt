@@ -1,5 +1,5 @@
 use Rattle.std.proofs.Common.{arith}
-use Rattle.enc_units.proofs.Utf8MappedLemmas.{two_at, three_at, four_at}
+use Rattle.enc_units.proofs.Utf8MappedLemmas.{two_at, three_at, four_at, second_within, third_within, fourth_within}
 use Rattle.enc_units.proofs.utf8_mapped.found_at.Goals as goal
 
 pub from_u32_unchecked-requires : goal.from_u32_unchecked-requires
@@ -42,3 +42,14 @@ pub returns-clause-first : goal.returns-clause-first
 returns-clause-first c =
     rw c.from_u32_unchecked-2.ensures (four_at _ _ c.requires.utf8 c.requires.within
     c.requires.beyond (omega arith)).first
+
+pub bounds-src-at-2 : goal.bounds-src-at-2
+bounds-src-at-2 c = second_within _ _ c.requires.utf8 c.requires.within c.requires.beyond
+
+pub bounds-src-at-3 : goal.bounds-src-at-3
+bounds-src-at-3 c =
+    third_within _ _ c.requires.utf8 c.requires.within c.requires.beyond (omega arith)
+
+pub bounds-src-at-4 : goal.bounds-src-at-4
+bounds-src-at-4 c =
+    fourth_within _ _ c.requires.utf8 c.requires.within c.requires.beyond (omega arith)
