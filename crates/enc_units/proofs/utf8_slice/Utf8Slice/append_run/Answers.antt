@@ -1,5 +1,9 @@
-use Rattle.enc_units.proofs.PiecesLemmas.{then_rest, puts_wider}
+use Rattle.enc_units.proofs.PiecesLemmas.{then_rest, puts_wider, ascii_pieces}
 use Rattle.enc_units.proofs.utf8_slice.Utf8Slice.append_run.Goals as goal
+
+pub returns-then-begins_as_ascii : goal.returns-then-begins_as_ascii
+returns-then-begins_as_ascii g c =
+    ascii_pieces (c.has_ascii.ensures c.if-has_ascii.true) c.append_ascii.ensures
 
 pub returns : goal.returns
 returns g c =
