@@ -216,6 +216,9 @@ fn store_own<P: Pieces>(
         ++ take result (drop from src.now) }
 {
     if pieces.has_ascii() {
+        if src[from] >= 0x80 {
+            return 0;
+        }
         return store_ascii(buffer, at, src, from);
     }
     let lanes = u8x16::from_slice(&src[from..]);
