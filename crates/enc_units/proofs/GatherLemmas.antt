@@ -13,9 +13,10 @@ use lib.Lanes.{put_chunk}
 use Rattle.enc_units.specs.Output.{Output, with_appended, units_of_text}
 use Rattle.enc_units.specs.Validity.{AreAscii}
 use Rattle.enc_units.specs.Pieces.{PutsPieces}
+use Rattle.enc_units.specs.Mappings.{AreWrittenAsThemselves}
 use Rattle.enc_units.specs.Gathering.{GathersChars}
 use Rattle.enc_units.specs.Pairs.{MeansWord, MeansUnit}
-use Rattle.enc_units.proofs.PiecesLemmas.{reads_none, reads_then, reads_one, reads_ascii, units-append}
+use Rattle.enc_units.proofs.PiecesLemmas.{reads_none, reads_then, reads_one, reads_own, own_ascii, units-append}
 use Rattle.enc_units.proofs.UnitsLemmas.{one_unit}
 use Rattle.enc_units.proofs.ScalarLemmas.{one_scalar, scalars-append, ascii_scalars}
 
@@ -97,18 +98,28 @@ module _ {units_of : ℕ → List ℕ} {Means : List ℕ → ℕ → Type 0} {a 
   gathers_on = gathers_then p
       (subst (λ rest. GathersChars units_of Means rest n mid after) (sym (drop-drop a from src)) q)
 
+pub gathers_own : {units_of : ℕ → List ℕ} {Means : List ℕ → ℕ → Type 0} {src : List ℕ} {n : ℕ}
+    {before after : List ℕ}
+    → ((bs : List ℕ) → AreAscii bs → units_of_text units_of bs ≡ bs) → n ≤ length src
+    → AreWrittenAsThemselves Means (take n src)
+    → after ≡ before ++ take n src → GathersChars units_of Means src n before after
+gathers_own {Means = Means} {src = src} {n = n} {before = before} alone w own e =
+    let are_ascii : AreAscii (take n src) = λ k d l. (own k d l).0 in
+    record {
+      text = take n src;
+      scalars = ascii_scalars (take n src) are_ascii;
+      reads = reads_own Means src n w own;
+      written = e ∙ ap (λ z. before ++ z) (sym (alone (take n src) are_ascii));
+    }
+
 pub gathers_ascii : {units_of : ℕ → List ℕ} {Means : List ℕ → ℕ → Type 0} {src : List ℕ} {n : ℕ}
     {before after : List ℕ}
     → ((b : ℕ) → b < 0x80 → Means (b ∷ []) b)
     → ((bs : List ℕ) → AreAscii bs → units_of_text units_of bs ≡ bs) → n ≤ length src
     → AreAscii (take n src)
     → after ≡ before ++ take n src → GathersChars units_of Means src n before after
-gathers_ascii {Means = Means} {src = src} {n = n} {before = before} h alone w are_ascii e = record {
-  text = take n src;
-  scalars = ascii_scalars (take n src) are_ascii;
-  reads = reads_ascii Means src n h w are_ascii;
-  written = e ∙ ap (λ z. before ++ z) (sym (alone (take n src) are_ascii));
-}
+gathers_ascii {Means = Means} {src = src} {n = n} h alone w are_ascii e =
+    gathers_own alone w (own_ascii Means (take n src) h are_ascii) e
 
 pub gathers_one : {units_of : ℕ → List ℕ} {Means : List ℕ → ℕ → Type 0} {src : List ℕ} {n : ℕ}
     (c : ℕ)

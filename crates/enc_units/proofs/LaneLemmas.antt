@@ -1,5 +1,5 @@
 -- How many of sixteen lanes come before the first that passes a test.
-use Rattle.std.proofs.Common.{◌≡◌, ℕ, zero, suc, ◌+◌, ◌-◌, ◌*◌, ◌/◌, ◌%◌, ◌^◌, ◌<◌, ◌≤◌, Bool, true, false, not}
+use Rattle.std.proofs.Common.{◌≡◌, ℕ, zero, suc, ◌+◌, ◌-◌, ◌*◌, ◌/◌, ◌%◌, ◌^◌, ◌<◌, ◌≤◌, ◌≢◌, Bool, true, false, not}
 use Rattle.std.proofs.Common.{cond, eqb, List, [], ◌∷◌, map, length, get_or}
 use Rattle.std.proofs.Common.{replicate, take, drop, ap, ◌∙◌, sym, subst, arith, length-take, inl, inr}
 use Rattle.std.specs.Prelude.{All}
@@ -14,6 +14,7 @@ use lib.Count.{count_trailing_zeros}
 use lib.Lanes.{zip2, mask_l, top}
 use mir.Syntax.{Width}
 use mir.Val.{bits, hbits}
+use Rattle.enc_units.specs.Validity.{AreIso2022JpAscii}
 
 module _ (p : ℕ → Bool) (xs : List ℕ) (long : length xs ≡ 16) (mask : ℕ)
     (is : mask ≡ mask_l (map p xs)) where
@@ -98,3 +99,17 @@ all_fewer P n m xs h a = subst (All P) (take-take n m xs h) (λ k d l.
     let short : k < n = omega (arith, length-take n (take m xs)) in
     subst P (sym (get_or-take n (take m xs) k d short))
     (a k d (omega (arith, length-take n (take m xs)))))
+
+-- the first n of sixteen bytes, before one that is not ASCII, a shift or an escape
+pub unshifted : (xs : List ℕ) (n a b c d : ℕ) → n ≤ a → n ≤ b → n ≤ c → n ≤ d
+    → All (λ x. x < 0x80) (take a xs)
+    → All (λ x. x ≢ 0x0E) (take b xs)
+    → All (λ x. x ≢ 0x0F) (take c xs) → All (λ x. x ≢ 0x1B) (take d xs)
+    → AreIso2022JpAscii (take n xs)
+unshifted xs n a b c d la lb lc ld ascii out in_ escape k e h = (
+  all_fewer (λ x. x < 0x80) n a xs la ascii k e h,
+  all_fewer (λ x. x ≢ 0x0E) n b xs lb out k e h,
+  all_fewer
+      (λ x. x ≢ 0x0F) n c xs lc in_ k e h,
+  all_fewer (λ x. x ≢ 0x1B) n d xs ld escape k e h,
+)

@@ -1,13 +1,14 @@
 -- Pieces that follow one another, read and put out.
 use Rattle.std.proofs.Common.{◌≡◌, ℕ, suc, ◌+◌, ◌<◌, ◌≤◌, true, List, [], ◌∷◌, ◌++◌, length, take, drop, refl, ap, ◌∙◌}
 use Rattle.std.proofs.Common.{sym, subst, arith, append_assoc, append-nil, length-append, length-drop, take-add, nat_le}
-use Rattle.std.proofs.Common.{length-take}
+use Rattle.std.proofs.Common.{length-take, Bool}
 use Rattle.std.proofs.lemmas.Bool.Decides.{nat_tests}
 use Rattle.std.proofs.lemmas.List.{take-take}
 use Rattle.std.specs.Char.{IsScalar}
 use Rattle.enc_units.specs.Output.{Output, with_appended, units_of_text}
 use Rattle.enc_units.specs.Validity.{AreAscii}
 use Rattle.enc_units.specs.AsciiRun.{PutsAscii}
+use Rattle.enc_units.specs.Mappings.{AreWrittenAsThemselves}
 use Rattle.enc_units.specs.Pieces.{Piece, piece_bytes, piece_chars, EachMeansChar, ReadsPieces, PutsPieces}
 use Rattle.enc_units.proofs.OutputLemmas.{with_appended-nil, with_appended-with_appended, room_left}
 use Rattle.enc_units.proofs.ScalarLemmas.{one_scalar, scalars-append, ascii_scalars}
@@ -90,26 +91,37 @@ alone_chars : (bs : List ℕ) → piece_chars (alone bs) ≡ bs
 alone_chars [] = refl
 alone_chars (b ∷ bs) = ap (λ x. b ∷ x) (alone_chars bs)
 
-alone_mean : (Means : List ℕ → ℕ → Type 0) → ((b : ℕ) → b < 0x80 → Means (b ∷ []) b) → (bs : List ℕ)
-    → AreAscii bs → EachMeansChar Means (alone bs)
-alone_mean Means each_means [] are_ascii = tt
-alone_mean Means each_means (b ∷ bs) are_ascii = (
-  each_means b (are_ascii 0 0 (omega arith)),
-  alone_mean Means each_means bs (λ k d l. are_ascii (suc k) d (omega arith)),
+alone_mean : (Means : List ℕ → ℕ → Type 0) (bs : List ℕ) → AreWrittenAsThemselves Means bs
+    → EachMeansChar Means (alone bs)
+alone_mean Means [] own = tt
+alone_mean Means (b ∷ bs) own = (
+  (own 0 0 (omega arith)).1,
+  alone_mean Means bs (λ k d l. own (suc k) d (omega arith)),
 )
+
+-- ASCII bytes, where each has that number as its character
+pub own_ascii : (Means : List ℕ → ℕ → Type 0) (bs : List ℕ)
+    → ((b : ℕ) → b < 0x80 → Means (b ∷ []) b) → AreAscii bs → AreWrittenAsThemselves Means bs
+own_ascii Means bs h are_ascii k d l =
+    let is_ascii = are_ascii k d l in
+    (is_ascii, h _ is_ascii)
+
+pub reads_own : (Means : List ℕ → ℕ → Type 0) (src : List ℕ) (n : ℕ) → n ≤ length src
+    → AreWrittenAsThemselves Means (take n src) → ReadsPieces Means src n (take n src)
+reads_own Means src n w own = record {
+  pieces = alone (take n src);
+  within = w;
+  bytes = alone_bytes (take n src);
+  chars = alone_chars (take n src);
+  mean = alone_mean Means (take n src) own;
+  none = λ z. ap (λ k. alone (take k src)) z;
+}
 
 -- ASCII bytes
 pub reads_ascii : (Means : List ℕ → ℕ → Type 0) (src : List ℕ) (n : ℕ)
     → ((b : ℕ) → b < 0x80 → Means (b ∷ []) b) → n ≤ length src → AreAscii (take n src)
     → ReadsPieces Means src n (take n src)
-reads_ascii Means src n h w a = record {
-  pieces = alone (take n src);
-  within = w;
-  bytes = alone_bytes (take n src);
-  chars = alone_chars (take n src);
-  mean = alone_mean Means h (take n src) a;
-  none = λ z. ap (λ k. alone (take k src)) z;
-}
+reads_ascii Means src n h w a = reads_own Means src n w (own_ascii Means (take n src) h a)
 
 -- nothing is put out
 pub start : {units_of : ℕ → List ℕ} {Means : List ℕ → ℕ → Type 0} {o : Output} {src : List ℕ}
@@ -162,6 +174,24 @@ ascii_pieces {Means = Means} {src = src} {n = n} h puts = record {
   fits = puts.fits;
   written = puts.written;
 }
+
+-- bytes that are the ASCII characters with their numbers
+pub own_pieces : {units_of : ℕ → List ℕ} {Means : List ℕ → ℕ → Type 0} {before after : Output}
+    {src : List ℕ} {n : ℕ}
+    → ((bs : List ℕ) → AreAscii bs → units_of_text units_of bs ≡ bs) → n ≤ length src
+    → AreWrittenAsThemselves Means (take n src) → n ≤ before.room
+    → after ≡ with_appended before (take n src)
+    → PutsPieces units_of Means before after src n
+own_pieces {Means = Means} {before = before} {src = src} {n = n} alone w own f e =
+    let are_ascii : AreAscii (take n src) = λ k d l. (own k d l).0 in
+    let units = alone (take n src) are_ascii in
+    record {
+      text = take n src;
+      scalars = ascii_scalars (take n src) are_ascii;
+      reads = reads_own Means src n w own;
+      fits = omega (arith, ap length units, length-take n src);
+      written = e ∙ ap (with_appended before) (sym units);
+    }
 
 -- one piece
 pub one_piece : {units_of : ℕ → List ℕ} {Means : List ℕ → ℕ → Type 0} {before after : Output}
@@ -225,6 +255,17 @@ puts_wider {Means = Means} {src = src} m {n} e puts = record {
   fits = puts.fits;
   written = puts.written;
 }
+
+-- a piece that was found is put out after them
+module _ {units_of : ℕ → List ℕ} {Means : List ℕ → ℕ → Type 0} {before mid after : Output}
+    {src : List ℕ} {a n : ℕ} where
+  pub then_one : {appended : Bool} (c : ℕ) → PutsPieces units_of Means before mid src a
+      → 0 < n → n ≤ length (drop a src) → Means (take n (drop a src)) c → IsScalar c
+      → appended ≡ nat_le (length (units_of c)) mid.room → appended ≡ true
+      → after ≡ with_appended mid (units_of c)
+      → PutsPieces units_of Means before after src (a + n)
+  then_one c p some within means scalar test was_appended e =
+      then p (one_piece c some within scalar means (sym test ∙ was_appended) e)
 
 -- the same by an equal meaning
 pub puts_same : {units_of : ℕ → List ℕ} {T : Type 0} (means : T → List ℕ → ℕ → Type 0) {a b : T}

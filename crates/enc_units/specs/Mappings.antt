@@ -2,7 +2,7 @@
 use Rattle.std.specs.Prelude.{◌≡◌, ℕ, ◌+◌, ◌<◌, ◌≤◌, All, List, [], ◌∷◌, ◌++◌, length, take, drop, chars, IsUtf8}
 use Rattle.enc_units.specs.Pieces.{Piece, piece_bytes, piece_chars, EachMeansChar}
 
--- an ASCII character that is written as itself
+-- an ASCII character whose byte is its number
 abbrev pub IsWrittenAsItself : (List ℕ → ℕ → Type 0) → ℕ → Type 0
 IsWrittenAsItself Means b = (b < 0x80) × Means (b ∷ []) b
 

@@ -8,6 +8,7 @@ ghost use Rattle.std.specs.Char.Escape.{encode_utf16};
 ghost use Rattle.std.specs.Int.{w32, to_le_bytes};
 ghost use Rattle.enc_units.specs.Validity.{AreAscii};
 ghost use Rattle.enc_units.specs.Gathering.{GathersChars};
+ghost use Rattle.enc_units.specs.Mappings.{AreWrittenAsThemselves};
 
 use crate::pieces::Pieces;
 use std::simd::prelude::*;
@@ -184,11 +185,45 @@ pub(crate) fn store_units(buffer: &mut [u16], at: usize, character: char) -> usi
     ensures len { length buffer.new ≡ length buffer.old }
     ensures stored { take result buffer.new ≡ take at buffer.old ++ encode_utf16 character }
 {
+    let scalar = character as u32;
+    if scalar < 0x10000 {
+        buffer[at..at + 1].copy_from_slice(&[scalar as u16]);
+        return at + 1;
+    }
     let width = character.len_utf16();
     let mut units = [0; 2];
     let text = character.encode_utf16(&mut units);
     buffer[at..at + width].copy_from_slice(text);
     at + width
+}
+
+/// Stores the sixteen bytes of `src` from `from` on after the first `at` bytes of a buffer. Returns
+/// the length of a prefix of them that are ASCII characters.
+#[inline(always)]
+fn store_own<P: Pieces>(
+    pieces: P,
+    buffer: &mut [u8],
+    at: usize,
+    src: &[u8],
+    from: usize,
+) -> usize
+    requires from { from + 16 ≤ length src.now }
+    requires room { at + 16 ≤ length buffer.old }
+    ensures bound { result ≤ 16 }
+    ensures own { AreWrittenAsThemselves (P.means pieces) (take result (drop from src.now)) }
+    ensures len { length buffer.new ≡ length buffer.old }
+    ensures stored { take (at + result) buffer.new ≡ take at buffer.old
+        ++ take result (drop from src.now) }
+{
+    if pieces.has_ascii() {
+        if src[from] >= 0x80 {
+            return 0;
+        }
+        return store_ascii(buffer, at, src, from);
+    }
+    let lanes = u8x16::from_slice(&src[from..]);
+    lanes.copy_to_slice(&mut buffer[at..]);
+    pieces.own_len(lanes)
 }
 
 /// A way to collect characters in a buffer.
@@ -248,7 +283,6 @@ impl<P: Pieces> Gather for OneByOne<P> {
     /// before that of `src`.
     #[inline(always)]
     fn gather(&self, buffer: &mut [u8], room: usize, src: &[u8]) -> (usize, usize) {
-        let has_ascii = self.pieces.has_ascii();
         let limit = buffer.len().min(room);
         if limit < STEP {
             return (0, 0);
@@ -257,10 +291,10 @@ impl<P: Pieces> Gather for OneByOne<P> {
         let mut read = 0;
         let mut written = 0;
         while written <= most && 32 <= src.len() - read {
-            if has_ascii && src[read] < 0x80 {
-                let len = store_ascii(buffer, written, src, read);
-                read += len;
-                written += len;
+            let own = store_own(self.pieces, buffer, written, src, read);
+            read += own;
+            written += own;
+            if own > 0 {
                 continue;
             }
             let Some((character, len)) = self.pieces.piece(src, read) else {

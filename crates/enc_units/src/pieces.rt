@@ -2,6 +2,7 @@
 
 ghost use Rattle.std.specs.Prelude.{ℕ, ◌<◌, ◌≤◌, List, [], ◌∷◌, length, take, drop, IfSome, IsTrue};
 ghost use Rattle.enc_units.specs.Pieces.{PutsPieces};
+ghost use Rattle.enc_units.specs.Mappings.{AreWrittenAsThemselves};
 ghost use Rattle.enc_units.specs.CodeUnits.{AreCodeUnits};
 ghost use Rattle.enc_units.specs.Pairs.{byte_or_pair, MeansWord, MeansUnit};
 
@@ -27,6 +28,19 @@ pub trait Pieces: Copy {
     /// Takes no memory.
     fn has_ascii(self) -> bool
         ensures { IsTrue result → (b : ℕ) → b < 0x80 → means self (b ∷ []) b };
+
+    /// Returns how many of sixteen bytes at the front are the ASCII characters with their numbers.
+    ///
+    /// They may be fewer. It is of use if `has_ascii` is false. Takes no memory.
+    #[inline(always)]
+    fn own_len(self, bytes: u8x16) -> usize
+        ensures bound { result ≤ 16 }
+        ensures own { AreWrittenAsThemselves (means self) (take result bytes) }
+    {
+        let _pieces = self;
+        let _bytes = bytes;
+        0
+    }
 
     /// Returns the byte order if the input is UTF-16: true for big-endian. Takes no memory.
     fn code_units(self) -> Option<bool>
@@ -95,6 +109,16 @@ pub trait Pieces: Copy {
         let _pieces = self;
         false
     }
+}
+
+/// Returns whether the first sixteen bytes are the ASCII characters with their numbers, as far as
+/// `own_len` finds.
+#[inline(always)]
+pub(crate) fn begins_with_own<P: Pieces>(pieces: P, src: &[u8]) -> bool
+    ensures within { IsTrue result → 16 ≤ length src.now }
+    ensures own { IsTrue result → AreWrittenAsThemselves (P.means pieces) (take 16 src.now) }
+{
+    src.len() >= 16 && pieces.own_len(u8x16::from_slice(src)) == 16
 }
 
 /// Writes characters from the front of `src`, as `put_pieces` of the output does.

@@ -5,6 +5,7 @@ ghost use Rattle.std.specs.Char.{encode_utf8};
 ghost use Rattle.std.specs.Str.{IsUtf8};
 ghost use Rattle.std.specs.String.{string_bytes, string_len, string_capacity};
 ghost use Rattle.enc_units.specs.Output.{DetermineTexts, with_appended, string_output};
+ghost use Rattle.enc_units.specs.Pieces.{PutsPieces};
 
 use crate::ascii::ascii_len;
 use crate::laws::utf_8_units_determine_a_text;
@@ -13,9 +14,11 @@ use crate::units::Units;
 use crate::utf8::utf8_front;
 use crate::utf8_slice::Utf8Slice;
 
-/// The length of the buffer in which characters are collected before they are appended. With less
-/// room, none are.
+/// The length of the buffer in which characters are collected before they are appended.
 const GATHERED: usize = 256;
+
+/// The length of the buffer for inputs that do not fit in a buffer of `GATHERED`.
+const LONG: usize = 4096;
 
 /// A String that takes UTF-8 within its capacity: its room is the spare capacity.
 ///
@@ -52,6 +55,45 @@ impl<'a> StringTail<'a> {
             .text
             .push_str(unsafe { str::from_utf8_unchecked(bytes) });
         self.room -= bytes.len();
+    }
+
+    /// Appends characters through a buffer, until none are found or the next does not fit. Returns
+    /// their length in bytes.
+    #[inline(always)]
+    fn put_through<P: Pieces>(&mut self, buffer: &mut [u8], pieces: P, src: &[u8]) -> usize
+        ensures { PutsPieces encode_utf8 (P.means pieces)
+            (string_output (string_bytes self.old.text.now) self.old.room self.old.text.ghost_name)
+            (string_output (string_bytes self.new.text.now) self.new.room self.new.text.ghost_name)
+            src.now result }
+    {
+        let mut at = 0;
+        loop {
+            let (_, rest) = src.split_at(at);
+            let most = buffer.len().min(self.room);
+            let front = &mut buffer[..most];
+            let mut out = Utf8Slice::new(front);
+            let read = out.put_pieces(pieces, rest);
+            let written = out.len();
+            if read == 0 {
+                return at;
+            }
+            self.append(&front[..written]);
+            at += read;
+        }
+    }
+
+    /// Does the same through a long buffer of its own.
+    ///
+    /// It is a function of its own, since a function clears its arrays at each call, even if it
+    /// does not use them.
+    #[inline(never)]
+    fn put_long<P: Pieces>(&mut self, pieces: P, src: &[u8]) -> usize
+        ensures { PutsPieces encode_utf8 (P.means pieces)
+            (string_output (string_bytes self.old.text.now) self.old.room self.old.text.ghost_name)
+            (string_output (string_bytes self.new.text.now) self.new.room self.new.text.ghost_name)
+            src.now result }
+    {
+        self.put_through(&mut [0; LONG], pieces, src)
     }
 }
 
@@ -105,14 +147,9 @@ impl<'a> Units for StringTail<'a> {
     }
 
     fn put_pieces<P: Pieces>(&mut self, pieces: P, src: &[u8]) -> usize {
-        if self.room < GATHERED {
-            return 0;
+        if src.len() < GATHERED {
+            return self.put_through(&mut [0; GATHERED], pieces, src);
         }
-        let mut buffer = [0; GATHERED];
-        let mut out = Utf8Slice::new(&mut buffer);
-        let read = out.put_pieces(pieces, src);
-        let written = out.len();
-        self.append(&buffer[..written]);
-        read
+        self.put_long(pieces, src)
     }
 }

@@ -11,17 +11,21 @@ use crate::code_units::CodeUnits;
 use crate::gather::{Gather, SHORT, UNITS_BUFFER};
 use crate::laws::utf_16_units_determine_a_text;
 use crate::pairs::Pairs;
-use crate::pieces::Pieces;
+use crate::pieces::{Pieces, begins_with_own};
 use crate::single_bytes::SingleBytes;
 use crate::units::Units;
 use crate::utf8::{char_len, utf8_front};
 use crate::utf8_pieces::Utf8Pieces;
 use crate::utf8_units::write_units;
 use crate::widen::{is_nearly_ascii, widen_ascii};
+use std::simd::prelude::*;
 
 /// The number of bytes of UTF-8 that are checked before they are written: few enough to be in the
 /// nearest cache then.
 const PART: usize = 4096;
+
+/// The least number of bytes of UTF-8 that are written as a part.
+const FEW: usize = 24;
 
 /// A slice that takes UTF-16 from its start on.
 #[derive(Drop)]
@@ -49,6 +53,8 @@ impl<'a> Utf16Slice<'a> {
     }
 
     /// Writes a character and returns true, or writes nothing and returns false if it does not fit.
+    ///
+    /// One code unit is a case by itself, so that the compiler knows how many it stores.
     #[inline(always)]
     fn append(&mut self, c: char) -> bool
         ensures fits { result ≡ nat_le (length (encode_utf16 c))
@@ -61,15 +67,13 @@ impl<'a> Utf16Slice<'a> {
             → borrowed_output self.new.len self.new.dst
             ≡ borrowed_output self.old.len self.old.dst }
     {
-        let width = c.len_utf16();
-        if width > self.dst.len() - self.len {
-            return false;
+        let scalar = c as u32;
+        if scalar < 0x10000 {
+            return self.append_units(&[scalar as u16]);
         }
         let mut units = [0; 2];
         let text = c.encode_utf16(&mut units);
-        self.dst[self.len..self.len + width].copy_from_slice(text);
-        self.len += width;
-        true
+        self.append_units(text)
     }
 
     /// Writes the ASCII at the front, as much as fits, and returns its length.
@@ -86,6 +90,7 @@ impl<'a> Utf16Slice<'a> {
     /// Writes code units and returns true, or writes nothing and returns false if they do not fit.
     #[inline(always)]
     fn append_units(&mut self, units: &[u16]) -> bool
+        ensures test { result ≡ nat_le (length units.now) (length self.old.dst.now - self.old.len) }
         ensures fits { IsTrue result → length units.now ≤ length self.old.dst.now - self.old.len }
         ensures written { IsTrue result
             → borrowed_output self.new.len self.new.dst ≡ with_appended
@@ -172,12 +177,12 @@ impl<'a> Utf16Slice<'a> {
         ensures { PutsPieces encode_utf16 IsUtf8Char (borrowed_output self.old.len self.old.dst)
             (borrowed_output self.new.len self.new.dst) src.now result }
     {
-        if src.len() < SHORT {
+        if src.len() < FEW {
             return 0;
         }
         let most = (src.len() - 2).min(self.dst.len() - self.len).min(PART);
         let taken = utf8_front(&src[..most]);
-        if taken < SHORT {
+        if taken < FEW {
             return 0;
         }
         let written = write_units(&mut self.dst[self.len..], src, taken);
@@ -237,6 +242,29 @@ impl<'a> Utf16Slice<'a> {
         }
     }
 
+    /// Writes ASCII characters from the front. Returns their length in bytes.
+    ///
+    /// They are as many as fit, or sixteen if not all ASCII bytes are characters.
+    #[inline(always)]
+    fn append_own<P: Pieces>(&mut self, pieces: P, src: &[u8]) -> usize
+        ensures { PutsPieces encode_utf16 (P.means pieces)
+            (borrowed_output self.old.len self.old.dst)
+            (borrowed_output self.new.len self.new.dst) src.now result }
+    {
+        if pieces.has_ascii() {
+            return self.append_ascii(src);
+        }
+        if !begins_with_own(pieces, src) {
+            return 0;
+        }
+        let mut units = [0; 16];
+        u8x16::from_slice(src).cast::<u16>().copy_to_slice(&mut units);
+        if !self.append_units(&units) {
+            return 0;
+        }
+        16
+    }
+
     /// Writes the characters at the front one by one, but ASCII in runs. Returns their length in
     /// bytes.
     ///
@@ -249,13 +277,10 @@ impl<'a> Utf16Slice<'a> {
     {
         let mut at = 0;
         while at < src.len() {
-            if src[at] < 0x80 && pieces.has_ascii() {
-                let (_, rest) = src.split_at(at);
-                let len = self.append_ascii(rest);
-                if len == 0 {
-                    return at;
-                }
-                at += len;
+            let (_, rest) = src.split_at(at);
+            let own = self.append_own(pieces, rest);
+            at += own;
+            if own > 0 {
                 continue;
             }
             let Some((character, len)) = pieces.piece(src, at) else {

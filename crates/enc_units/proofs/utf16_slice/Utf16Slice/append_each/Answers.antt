@@ -1,18 +1,25 @@
-use Rattle.std.proofs.Common.{◌∙◌, sym}
-use Rattle.enc_units.proofs.PiecesLemmas.{then_rest, then, ascii_pieces, one_piece}
+use Rattle.enc_units.proofs.PiecesLemmas.{then_rest, then_one, same_then}
 use Rattle.enc_units.proofs.utf16_slice.Utf16Slice.append_each.Goals as goal
 
-pub loop-at-preserved-then-has_ascii : goal.loop-at-preserved-then-has_ascii
-loop-at-preserved-then-has_ascii g c =
-    then_rest c.split_at.ensures.back c.loop-at.invariant
-    (ascii_pieces (c.has_ascii.ensures c.if-has_ascii.true)
-    c.append_ascii-len.ensures)
+pub loop-at-preserved-then-own-gt0 : goal.loop-at-preserved-then-own-gt0
+loop-at-preserved-then-own-gt0 g c =
+    then_rest c.split_at.ensures.back c.loop-at.invariant c.append_own-own.ensures
+
+pub returns-in_default : goal.returns-in_default
+returns-in_default g c =
+    then_rest c.split_at.ensures.back c.loop-at.invariant c.append_own-own.ensures
+
+pub returns-then-not-append : goal.returns-then-not-append
+returns-then-not-append g c =
+    same_then (c.append.ensures.unchanged c.if-not-append.true)
+    (then_rest c.split_at.ensures.back c.loop-at.invariant c.append_own-own.ensures)
 
 pub loop-at-preserved : goal.loop-at-preserved
 loop-at-preserved g c =
-    let peeked = c.in-Some.ensures in
+    let found = c.in-Some.ensures in
     let appended = c.append.ensures in
     let was_appended = c.if-not-append.false in
-    then c.loop-at.invariant
-    (one_piece _ peeked.some peeked.within appended.scalar peeked.means
-    (sym appended.fits ∙ was_appended) (appended.written was_appended))
+    then_one _
+    (then_rest c.split_at.ensures.back c.loop-at.invariant c.append_own-own.ensures)
+    found.some found.within found.means appended.scalar appended.fits was_appended
+    (appended.written was_appended)

@@ -7,11 +7,11 @@ use Rattle.enc_units.proofs.PiecesLemmas.{start}
 use Rattle.enc_units.proofs.Utf8SliceLemmas.{grown}
 use Rattle.enc_units.proofs.utf16_slice.Utf16Slice.append_part.Goals as goal
 
-pub returns-then-src-lt-SHORT : goal.returns-then-src-lt-SHORT
-returns-then-src-lt-SHORT c = start
+pub returns-then-src-lt-FEW : goal.returns-then-src-lt-FEW
+returns-then-src-lt-FEW c = start
 
-pub returns-then-taken-lt-SHORT : goal.returns-then-taken-lt-SHORT
-returns-then-taken-lt-SHORT c = start
+pub returns-then-taken-lt-FEW : goal.returns-then-taken-lt-FEW
+returns-then-taken-lt-FEW c = start
 
 pub write_units-written-requires : goal.write_units-written-requires
 write_units-written-requires c =

@@ -1,6 +1,6 @@
 use Rattle.std.proofs.Common.{arith}
-use Rattle.enc_encode.proofs.Iso2022JpLemmas.{unshifted}
-use Rattle.enc_encode.proofs.encoders.iso_2022_jp.unshifted_len.Goals as goal
+use Rattle.enc_units.proofs.LaneLemmas.{unshifted}
+use Rattle.enc_units.proofs.validity.unshifted_len.Goals as goal
 
 pub returns-clause-ascii : goal.returns-clause-ascii
 returns-clause-ascii c = unshifted c.args.lanes _ _ _ _ _ (omega
