@@ -167,16 +167,16 @@ fn empty_inputs_take_no_memory(rt: HostRuntime) -> Result<(), Fail> {
     Ok(())
 }
 
-/// Inputs of n bytes without a malformed sequence, and the length that is asked for, at least 4:
-/// n + 3 in UTF-8, (n + 1) / 2 times 3, and 1 more, in UTF-16, and 3 n in others.
+/// Inputs of n bytes that are not their own text, and the length that is asked for first, at least
+/// 4: n + 3 in UTF-8, (n + 1) / 2 times 3, and 1 more, in UTF-16, and 3 n in others.
 const FIRST_LENGTHS: &[(Encoding, &[u8], usize)] = &[
-    (UTF_8, b"a", 4),
-    (UTF_8, b"abc", 6),
+    (UTF_8, b"\xFF", 4),
+    (UTF_8, b"ab\xFF", 6),
     (UTF_16LE, b"a\x00", 4),
     (UTF_16LE, b"a\x00b\x00c\x00", 10),
-    (WINDOWS_1252, b"a", 4),
-    (WINDOWS_1252, b"abcdefghij", 30),
-    (SHIFT_JIS, b"abcd", 12),
+    (WINDOWS_1252, b"\xE4", 4),
+    (WINDOWS_1252, b"abcdefghi\xE4", 30),
+    (SHIFT_JIS, b"ab\x88\xEA", 12),
 ];
 
 #[test]
