@@ -1,6 +1,6 @@
 -- The byte order mark of one encoding, by the one of all three that is found.
-use Rattle.std.proofs.Common.{◌≡◌, ℕ, Bool, true, false, List, [], ◌∷◌, length, drop, refl, ap, ◌∙◌, sym, subst, inl, inr}
-use Rattle.std.proofs.Common.{eqb, eqb-true, get_or, arith, Option, Some, None, if◌then◌else◌}
+use Rattle.std.proofs.Common.{◌≡◌, ℕ, Bool, true, false, List, [], ◌∷◌, length, drop, refl, ap, ◌∙◌, sym, subst, inl}
+use Rattle.std.proofs.Common.{inr, eqb, eqb-true, get_or, arith, Option, Some, None, if◌then◌else◌}
 use Rattle.std.specs.Prelude.{nat_eq, option_map}
 use Rattle.std.specs.List.{starts_with}
 use Rattle.std.proofs.lemmas.Bool.{false≢true}
@@ -118,7 +118,8 @@ found_as : (found : Option Mark) (other : Encoding) (n : ℕ)
     → option_map encoding_and_length found ≡ Some (other, n)
     → (m : Mark) × (found ≡ Some m) × (encoding_and_length m ≡ (other, n))
 found_as None other n h = cc
-found_as (Some m) other n h = (m, refl, (let same : encoding_and_length m ≡ (other, n) = cc in same))
+found_as (Some m) other n h =
+    (m, refl, (let same : encoding_and_length m ≡ (other, n) = cc in same))
 
 found_none : (found : Option Mark) → option_map encoding_and_length found ≡ None → found ≡ None
 found_none None h = refl

@@ -1,6 +1,7 @@
 -- Input that is its own text: each of its characters is a sequence of the character's UTF-8.
-use Rattle.std.proofs.Common.{◌≡◌, ℕ, suc, ◌<◌, true, false, true≢false, List, [], ◌∷◌, ◌++◌, length, take, refl, ap, ◌∙◌, sym, subst}
-use Rattle.std.proofs.Common.{arith, append_assoc, append-nil, inl, inr, eqb, eqb-true, nat_lt, Option, Some, None, ◌==◌, ◌↔◌, if◌then◌else◌}
+use Rattle.std.proofs.Common.{◌≡◌, ℕ, suc, ◌<◌, true, false, true≢false, List, [], ◌∷◌, ◌++◌, length, take, refl, ap}
+use Rattle.std.proofs.Common.{◌∙◌, sym, subst, arith, append_assoc, append-nil, inl, inr, eqb-true, nat_lt, Option}
+use Rattle.std.proofs.Common.{Some, None, ◌==◌, ◌↔◌, if◌then◌else◌}
 use Rattle.std.specs.Prelude.{All, ◌≢◌}
 use Rattle.std.specs.Char.{encode_utf8}
 use Rattle.std.specs.Str.{IsUtf8, all_scalars, encode_utf8_all}
@@ -76,7 +77,8 @@ pub record HasOwnText (rule : Rule) (bytes : List ℕ) : Type 0 where
 module _ {rule : Rule} {bytes : List ℕ} (has_own : HasOwnText rule bytes) where
   all_own : sequences_of rule 0 bytes ≡ own has_own.text
   all_own =
-      ap (sequences_of rule 0) (sym has_own.encoded ∙ sym (append-nil (encode_utf8_all has_own.text)))
+      ap (sequences_of rule 0)
+      (sym has_own.encoded ∙ sym (append-nil (encode_utf8_all has_own.text)))
       ∙ own_first rule has_own.text [] has_own.each
       ∙ ap (λ ss. own has_own.text ++ ss) (sequences_of-nil rule 0)
       ∙ append-nil (own has_own.text)
@@ -204,7 +206,8 @@ module _ (handling : BomHandling) (e : Encoding) (bytes : List ℕ)
 pub prefix_is_whole : (Has : List ℕ → Type 0) (bytes : List ℕ) (k : ℕ)
     → IsLongestPrefix Has bytes k → k ≡ length bytes → Has bytes
 prefix_is_whole Has bytes k prefix is_all =
-    subst Has (ap (λ n. take n bytes) is_all ∙ take_all (length bytes) bytes (omega arith)) prefix.has
+    subst Has (ap (λ n. take n bytes) is_all ∙ take_all (length bytes) bytes (omega arith))
+    prefix.has
 
 pub whole_is_prefix : (Has : List ℕ → Type 0) (bytes : List ℕ) (k : ℕ)
     → IsLongestPrefix Has bytes k → Has bytes → k ≡ length bytes

@@ -31,7 +31,8 @@ mark_looked_for handling e bytes =
 
 -- the bytes of a whole input after the byte order mark, if one is looked for and found
 abbrev pub unmarked_bytes : BomHandling → Encoding → List ℕ → List ℕ
-unmarked_bytes handling e bytes = bytes_after_mark (find_mark (marks_looked_for handling e) bytes) bytes
+unmarked_bytes handling e bytes =
+    bytes_after_mark (find_mark (marks_looked_for handling e) bytes) bytes
 
 -- The bytes of a whole input after its byte order mark are their own text, in its encoding.
 abbrev pub IsItsOwnText : BomHandling → Encoding → List ℕ → Type 0

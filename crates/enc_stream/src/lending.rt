@@ -59,9 +59,9 @@ impl Encoding {
     /// Decodes a whole input, with replacement, or lends its text (Encoding Standard 6, "decode").
     ///
     /// The answer is that of [`Encoding::decode`]. The text is borrowed if and only if the bytes
-    /// after the byte order mark are the text themselves, in the encoding that was used: well-formed
-    /// UTF-8 in UTF-8, ASCII in an ASCII-compatible encoding, and ASCII without 0x0E, 0x0F and 0x1B
-    /// in ISO-2022-JP. In UTF-16BE, UTF-16LE and replacement it never is.
+    /// after the byte order mark are the text themselves, in the encoding that was used:
+    /// well-formed UTF-8 in UTF-8, ASCII in an ASCII-compatible encoding, and ASCII without 0x0E,
+    /// 0x0F and 0x1B in ISO-2022-JP. In UTF-16BE, UTF-16LE and replacement it never is.
     ///
     /// A borrowed text takes no memory, and is never refused. Otherwise memory and errors are those
     /// of [`Encoding::decode`].
@@ -74,14 +74,17 @@ impl Encoding {
             cow_str_bytes answer.0 ≡ whole_utf_8 handling.Sniff self bytes.now) }
         ensures encoding { IfOk result (λ answer.
             answer.1 ≡ whole_encoding handling.Sniff self bytes.now) }
-        ensures flag { IfOk result (λ answer. answer.2 ≡ whole_malformed handling.Sniff self bytes.now) }
+        ensures flag { IfOk result (λ answer.
+            answer.2 ≡ whole_malformed handling.Sniff self bytes.now) }
         ensures lends { IsOkAnd result (λ answer. IsBorrowedStr answer.0)
             ↔ IsItsOwnText handling.Sniff self bytes.now }
         ensures part { IfOk result (λ answer. IsBorrowedStr answer.0
             → cow_str_bytes answer.0 ≡ unmarked_bytes handling.Sniff self bytes.now) }
-        ensures too_long { IsErrOf result OneShotError.TooLong → IsTooLong handling.Sniff self bytes.now }
+        ensures too_long { IsErrOf result OneShotError.TooLong
+            → IsTooLong handling.Sniff self bytes.now }
         ensures first { ¬ (IsItsOwnText handling.Sniff self bytes.now) → bytes.now ≢ []
-            → first_length handling.Sniff self bytes.now ≡ None → IsErrOf result OneShotError.TooLong }
+            → first_length handling.Sniff self bytes.now ≡ None
+            → IsErrOf result OneShotError.TooLong }
         ensures memory { IsErrOf result OneShotError.Memory
             → MayLackMemory handling.Sniff self bytes.now }
         ensures empty { bytes.now ≡ [] → IsOk result }
@@ -111,14 +114,17 @@ impl Encoding {
     ) -> Result<(CowStr<'a>, bool), OneShotError>
         ensures text { IfOk result (λ answer.
             cow_str_bytes answer.0 ≡ whole_utf_8 handling.Remove self bytes.now) }
-        ensures flag { IfOk result (λ answer. answer.1 ≡ whole_malformed handling.Remove self bytes.now) }
+        ensures flag { IfOk result (λ answer.
+            answer.1 ≡ whole_malformed handling.Remove self bytes.now) }
         ensures lends { IsOkAnd result (λ answer. IsBorrowedStr answer.0)
             ↔ IsItsOwnText handling.Remove self bytes.now }
         ensures part { IfOk result (λ answer. IsBorrowedStr answer.0
             → cow_str_bytes answer.0 ≡ unmarked_bytes handling.Remove self bytes.now) }
-        ensures too_long { IsErrOf result OneShotError.TooLong → IsTooLong handling.Remove self bytes.now }
+        ensures too_long { IsErrOf result OneShotError.TooLong
+            → IsTooLong handling.Remove self bytes.now }
         ensures first { ¬ (IsItsOwnText handling.Remove self bytes.now) → bytes.now ≢ []
-            → first_length handling.Remove self bytes.now ≡ None → IsErrOf result OneShotError.TooLong }
+            → first_length handling.Remove self bytes.now ≡ None
+            → IsErrOf result OneShotError.TooLong }
         ensures memory { IsErrOf result OneShotError.Memory
             → MayLackMemory handling.Remove self bytes.now }
         ensures empty { bytes.now ≡ [] → IsOk result }
@@ -131,9 +137,9 @@ impl Encoding {
     /// Decodes a whole input, a byte order mark included, with replacement, or lends its text
     /// (Encoding Standard 6, "UTF-8 decode without BOM").
     ///
-    /// The answer is that of [`Encoding::decode_without_bom_handling`]. The text is borrowed, as all
-    /// of the input, under the condition of [`Encoding::decode_lending`], in this encoding. Memory
-    /// and errors are those of that call.
+    /// The answer is that of [`Encoding::decode_without_bom_handling`]. The text is borrowed, as
+    /// all of the input, under the condition of [`Encoding::decode_lending`], in this encoding.
+    /// Memory and errors are those of that call.
     pub fn decode_without_bom_handling_lending<'a>(
         self,
         alloc: Global,
@@ -141,14 +147,17 @@ impl Encoding {
     ) -> Result<(CowStr<'a>, bool), OneShotError>
         ensures text { IfOk result (λ answer.
             cow_str_bytes answer.0 ≡ whole_utf_8 handling.Off self bytes.now) }
-        ensures flag { IfOk result (λ answer. answer.1 ≡ whole_malformed handling.Off self bytes.now) }
+        ensures flag { IfOk result (λ answer.
+            answer.1 ≡ whole_malformed handling.Off self bytes.now) }
         ensures lends { IsOkAnd result (λ answer. IsBorrowedStr answer.0)
             ↔ IsItsOwnText handling.Off self bytes.now }
         ensures part { IfOk result (λ answer. IsBorrowedStr answer.0
             → cow_str_bytes answer.0 ≡ unmarked_bytes handling.Off self bytes.now) }
-        ensures too_long { IsErrOf result OneShotError.TooLong → IsTooLong handling.Off self bytes.now }
+        ensures too_long { IsErrOf result OneShotError.TooLong
+            → IsTooLong handling.Off self bytes.now }
         ensures first { ¬ (IsItsOwnText handling.Off self bytes.now) → bytes.now ≢ []
-            → first_length handling.Off self bytes.now ≡ None → IsErrOf result OneShotError.TooLong }
+            → first_length handling.Off self bytes.now ≡ None
+            → IsErrOf result OneShotError.TooLong }
         ensures memory { IsErrOf result OneShotError.Memory
             → MayLackMemory handling.Off self bytes.now }
         ensures empty { bytes.now ≡ [] → IsOk result }

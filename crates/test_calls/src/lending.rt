@@ -1,5 +1,5 @@
-//! One-shot calls that lend: rows by hand from the rule of the Rust crate's `Cow`, with the texts of
-//! the Encoding Standard's "decode" and "encode" (6).
+//! One-shot calls that lend: rows by hand from the rule of the Rust crate's `Cow`, with the texts
+//! of the Encoding Standard's "decode" and "encode" (6).
 
 use encoding_rs::run::BomHandling;
 use encoding_rs::*;

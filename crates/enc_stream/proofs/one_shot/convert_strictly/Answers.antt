@@ -10,7 +10,8 @@ use Rattle.enc_stream.proofs.one_shot.convert_strictly.Goals as goal
 pub returns-then-is_empty-clause-text : goal.returns-then-is_empty-clause-text
 returns-then-is_empty-clause-text c =
     rw c.empty_text.ensures.bytes
-    (none_strict c.args.encoding c.args.bytes.now (nothing c.args.bytes.now (c.if-is_empty.ensures)))
+    (none_strict c.args.encoding c.args.bytes.now
+    (nothing c.args.bytes.now (c.if-is_empty.ensures)))
 
 pub returns-in_err-text-clause-memory : goal.returns-in_err-text-clause-memory
 returns-in_err-text-clause-memory c = λ memory.
