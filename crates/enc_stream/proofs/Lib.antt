@@ -17,5 +17,8 @@ pub mod MarkFirstLemmas
 pub mod OneShotDecodeLemmas
 pub mod UnreadTextLemmas
 pub mod OneShotEncodeLemmas
+pub mod OwnTextLemmas
+pub mod OwnMarkLemmas
+pub mod OwnBytesLemmas
 pub mod NeedLemmas
 pub mod EnoughLemmas

@@ -25,7 +25,7 @@ use Rattle.enc_encoder.specs.Lengths.{from_utf_8_length}
 use Rattle.enc_stream.specs.Lengths.{output_lengths}
 use Rattle.enc_stream.specs.Properties.{output_encoding_of}
 use Rattle.enc_stream.specs.OneShot.{HasWritten, length_to_encode, remaining_length, HasRoomFor, EncoderRound}
-use Rattle.enc_stream.specs.OneShot.{AreFullRounds}
+use Rattle.enc_stream.specs.OneShot.{AreFullRounds, IsTooLongToEncode}
 use Rattle.enc_decoder.proofs.SequenceLemmas.{or_assoc, or_false}
 use Rattle.enc_stream.proofs.EncoderProgressLemmas.{none_due, output_rule_is}
 use Rattle.enc_stream.proofs.UnreadTextLemmas.{all_read, chars_after}
@@ -225,3 +225,18 @@ module _ {e : Encoding} {text rest : List ℕ} {old new : EncoderState} {before 
       → result ≡ InputEmpty → (had || replaced) ≡ any_unmappable (output_rule [] e) text
   flagged_all had flag_so_far at_end =
       sym (flagged had flag_so_far (none_unread at_end) ∙ or_false (had || replaced))
+
+-- the first length query overflows usize
+pub too_long_at_once : (e : Encoding) (text : List ℕ)
+    → length_to_encode (output_encoding_of e) (length text) ≡ None → IsTooLongToEncode e text
+too_long_at_once e text none = record {
+  front = [];
+  unread = text;
+  rest = refl;
+  state = fresh_encoder [] e;
+  wrote = [];
+  written = none_written e (chars text);
+  rounds = [];
+  full = (refl, refl, refl);
+  passes = ap (λ n. checked_add n 0) none;
+}

@@ -19,6 +19,7 @@ ghost use Rattle.enc_stream.specs.OneShot.{MayLackMemory, MayLackMemoryToEncode}
 use crate::bom::BomHandling;
 use crate::decoder::Decoder;
 use crate::encoding::Encoding;
+use crate::own_text::{encodes_as_itself, own_text};
 use enc_units::{CoderResult, DecoderResult};
 use std::alloc::Global;
 
@@ -122,11 +123,11 @@ fn make_byte_room(bytes: &mut Vec<u8>, length: Option<usize>) -> Result<(), OneS
     }
 }
 
-/// Decodes a whole input, with U+FFFD for each malformed sequence.
+/// Decodes a whole input by calls of a decoder, with U+FFFD for each malformed sequence.
 ///
 /// One call is enough if nothing is malformed. Otherwise a second call may follow, after a growth
 /// for the rest of the input.
-fn decode_whole(
+pub(crate) fn convert_whole(
     alloc: Global,
     encoding: Encoding,
     handling: BomHandling,
@@ -159,6 +160,173 @@ fn decode_whole(
     match decoder.decode_to_string(unread, &mut text, true) {
         (CoderResult::InputEmpty, _, replaced) => Ok((text, had_errors | replaced)),
         (CoderResult::OutputFull, _, _) => unreachable!(),
+    }
+}
+
+/// Copies a text into memory of its length.
+fn copy_text(alloc: Global, text: &str) -> Result<String, OneShotError>
+    ensures text { IfOk result (λ copy. string_bytes copy ≡ text.now) }
+    ensures memory { IfErr result (λ fault. fault ≡ OneShotError.Memory) }
+{
+    match String::from_str(alloc, text) {
+        Ok(copy) => Ok(copy),
+        Err(_) => Err(OneShotError::Memory),
+    }
+}
+
+/// Copies the text of a whole input that is its own text, without its byte order mark.
+fn copy_own_text(
+    alloc: Global,
+    encoding: Encoding,
+    handling: BomHandling,
+    bytes: &[u8],
+    text: &str,
+) -> Result<String, OneShotError>
+    ensures text { bytes.now ≢ [] → IfOk result (λ copy. string_bytes copy ≡ text.now) }
+    ensures nothing { bytes.now ≡ [] → IfOk result (λ copy. string_bytes copy ≡ []) }
+    ensures first { bytes.now ≢ [] → first_length handling encoding bytes.now ≡ None
+        → IsErrOf result OneShotError.TooLong }
+    ensures too_long { IsErrOf result OneShotError.TooLong
+        → first_length handling encoding bytes.now ≡ None }
+    ensures memory { IsErrOf result OneShotError.Memory
+        → MayLackMemory handling encoding bytes.now }
+    ensures empty { bytes.now ≡ [] → IsOk result }
+    ensures capacity { bytes.now ≡ [] → IfOk result (λ copy. string_capacity copy ≡ 0) }
+{
+    if bytes.is_empty() {
+        return Ok(empty_text(alloc));
+    }
+    let decoder = Decoder::start(encoding, handling);
+    match decoder.max_utf8_buffer_length_without_replacement(bytes.len()) {
+        Some(_) => copy_text(alloc, text),
+        None => Err(OneShotError::TooLong),
+    }
+}
+
+/// Decodes a whole input, with U+FFFD for each malformed sequence.
+///
+/// Input that is its own text is copied at once.
+fn decode_whole(
+    alloc: Global,
+    encoding: Encoding,
+    handling: BomHandling,
+    bytes: &[u8],
+) -> Result<(String, bool), OneShotError>
+    ensures text { IfOk result (λ answer.
+        string_bytes answer.0 ≡ whole_utf_8 handling encoding bytes.now) }
+    ensures flag { IfOk result (λ answer. answer.1 ≡ whole_malformed handling encoding bytes.now) }
+    ensures too_long { IsErrOf result OneShotError.TooLong → IsTooLong handling encoding bytes.now }
+    ensures first { bytes.now ≢ [] → first_length handling encoding bytes.now ≡ None
+        → IsErrOf result OneShotError.TooLong }
+    ensures memory { IsErrOf result OneShotError.Memory
+        → MayLackMemory handling encoding bytes.now }
+    ensures empty { bytes.now ≡ [] → IsOk result }
+    ensures capacity { bytes.now ≡ [] → IfOk result (λ answer. string_capacity answer.0 ≡ 0) }
+{
+    match own_text(encoding, handling, bytes) {
+        Some(text) => Ok((
+            copy_own_text(alloc, encoding, handling, bytes, text)?,
+            false,
+        )),
+        None => convert_whole(alloc, encoding, handling, bytes),
+    }
+}
+
+/// Decodes a whole input by a call of a decoder, if nothing in it is malformed.
+pub(crate) fn convert_strictly(
+    alloc: Global,
+    encoding: Encoding,
+    bytes: &[u8],
+) -> Result<Option<String>, OneShotError>
+    ensures text { IfOk result (λ answer.
+        option_map string_bytes answer ≡ utf_8_without_replacement encoding bytes.now) }
+    ensures too_long { IsErrOf result OneShotError.TooLong
+        → first_length handling.Off encoding bytes.now ≡ None }
+    ensures first { bytes.now ≢ [] → first_length handling.Off encoding bytes.now ≡ None
+        → IsErrOf result OneShotError.TooLong }
+    ensures memory { IsErrOf result OneShotError.Memory
+        → MayLackMemory handling.Off encoding bytes.now }
+    ensures empty { bytes.now ≡ [] → IsOk result }
+    ensures capacity { bytes.now ≡ [] → IfOk result (λ answer.
+        IfSome answer (λ text. string_capacity text ≡ 0)) }
+{
+    if bytes.is_empty() {
+        return Ok(Some(empty_text(alloc)));
+    }
+    let mut decoder = Decoder::start(encoding, BomHandling::Off);
+    let length = decoder.max_utf8_buffer_length_without_replacement(bytes.len());
+    let mut text = text_with_room(alloc, length)?;
+    let (stop, _) = decoder.decode_to_string_without_replacement(bytes, &mut text, true);
+    match stop {
+        DecoderResult::InputEmpty => Ok(Some(text)),
+        DecoderResult::Malformed(_, _) => Ok(None),
+        DecoderResult::OutputFull => unreachable!(),
+    }
+}
+
+/// Encodes a whole text by calls of an encoder, with a reference for each unmappable character.
+pub(crate) fn convert_text(
+    alloc: Global,
+    encoding: Encoding,
+    text: &str,
+) -> Result<(Vec<u8>, Encoding, bool), OneShotError>
+    ensures bytes { IfOk result (λ answer.
+        answer.0.items ≡ whole_bytes [] encoding (chars text.now)) }
+    ensures encoding { IfOk result (λ answer. answer.1 ≡ output_encoding_of encoding) }
+    ensures flag { IfOk result (λ answer.
+        answer.2 ≡ any_unmappable (output_rule [] encoding) (chars text.now)) }
+    ensures too_long { IsErrOf result OneShotError.TooLong → IsTooLongToEncode encoding text.now }
+    ensures first { text.now ≢ []
+        → length_to_encode (output_encoding_of encoding) (length text.now) ≡ None
+        → IsErrOf result OneShotError.TooLong }
+    ensures memory { IsErrOf result OneShotError.Memory
+        → MayLackMemoryToEncode encoding text.now }
+    ensures empty { text.now ≡ [] → IsOk result }
+    ensures capacity { text.now ≡ [] → IfOk result (λ answer. vec_capacity answer.0 ≡ 0) }
+{
+    let mut bytes = Vec::new(alloc);
+    let mut encoder = encoding.new_encoder();
+    let mut had_unmappables = false;
+    let mut unread = text;
+    if text.is_empty() {
+        return Ok((bytes, encoder.encoding(), false));
+    }
+    'calls: loop {
+        let length = encoder.max_buffer_length_from_utf8_if_no_unmappables(unread.len());
+        make_byte_room(&mut bytes, length)?;
+        let (stop, read, replaced) = encoder.encode_from_utf8_to_vec(unread, &mut bytes, true);
+        had_unmappables |= replaced;
+        if stop == CoderResult::InputEmpty {
+            return Ok((bytes, encoder.encoding(), had_unmappables));
+        }
+        let (_, rest) = unread.split_at(read);
+        unread = rest;
+    }
+}
+
+/// Copies a text into memory of its length, as the bytes that it is encoded as.
+fn copy_own_bytes(alloc: Global, encoding: Encoding, text: &str) -> Result<Vec<u8>, OneShotError>
+    ensures bytes { IfOk result (λ copy. copy.items ≡ text.now) }
+    ensures first { text.now ≢ []
+        → length_to_encode (output_encoding_of encoding) (length text.now) ≡ None
+        → IsErrOf result OneShotError.TooLong }
+    ensures too_long { IsErrOf result OneShotError.TooLong
+        → length_to_encode (output_encoding_of encoding) (length text.now) ≡ None }
+    ensures memory { IsErrOf result OneShotError.Memory
+        → MayLackMemoryToEncode encoding text.now }
+    ensures empty { text.now ≡ [] → IsOk result }
+    ensures capacity { text.now ≡ [] → IfOk result (λ copy. vec_capacity copy ≡ 0) }
+{
+    if text.is_empty() {
+        return Ok(Vec::new(alloc));
+    }
+    let encoder = encoding.new_encoder();
+    let Some(_) = encoder.max_buffer_length_from_utf8_if_no_unmappables(text.len()) else {
+        return Err(OneShotError::TooLong);
+    };
+    match Vec::from_slice(alloc, text.as_bytes()) {
+        Ok(copy) => Ok(copy),
+        Err(_) => Err(OneShotError::Memory),
     }
 }
 
@@ -274,17 +442,9 @@ impl Encoding {
         ensures capacity { bytes.now ≡ [] → IfOk result (λ answer.
             IfSome answer (λ text. string_capacity text ≡ 0)) }
     {
-        if bytes.is_empty() {
-            return Ok(Some(empty_text(alloc)));
-        }
-        let mut decoder = Decoder::start(self, BomHandling::Off);
-        let length = decoder.max_utf8_buffer_length_without_replacement(bytes.len());
-        let mut text = text_with_room(alloc, length)?;
-        let (stop, _) = decoder.decode_to_string_without_replacement(bytes, &mut text, true);
-        match stop {
-            DecoderResult::InputEmpty => Ok(Some(text)),
-            DecoderResult::Malformed(_, _) => Ok(None),
-            DecoderResult::OutputFull => unreachable!(),
+        match own_text(self, BomHandling::Off, bytes) {
+            Some(text) => Ok(Some(copy_own_text(alloc, self, BomHandling::Off, bytes, text)?)),
+            None => convert_strictly(alloc, self, bytes),
         }
     }
 
@@ -314,23 +474,10 @@ impl Encoding {
         ensures empty { text.now ≡ [] → IsOk result }
         ensures capacity { text.now ≡ [] → IfOk result (λ answer. vec_capacity answer.0 ≡ 0) }
     {
-        let mut bytes = Vec::new(alloc);
-        let mut encoder = self.new_encoder();
-        let mut had_unmappables = false;
-        let mut unread = text;
-        if text.is_empty() {
-            return Ok((bytes, encoder.encoding(), false));
+        if encodes_as_itself(self, text) {
+            let bytes = copy_own_bytes(alloc, self, text)?;
+            return Ok((bytes, self.output_encoding(), false));
         }
-        'calls: loop {
-            let length = encoder.max_buffer_length_from_utf8_if_no_unmappables(unread.len());
-            make_byte_room(&mut bytes, length)?;
-            let (stop, read, replaced) = encoder.encode_from_utf8_to_vec(unread, &mut bytes, true);
-            had_unmappables |= replaced;
-            if stop == CoderResult::InputEmpty {
-                return Ok((bytes, encoder.encoding(), had_unmappables));
-            }
-            let (_, rest) = unread.split_at(read);
-            unread = rest;
-        }
+        convert_text(alloc, self, text)
     }
 }

@@ -167,16 +167,16 @@ fn empty_inputs_take_no_memory(rt: HostRuntime) -> Result<(), Fail> {
     Ok(())
 }
 
-/// Inputs of n bytes without a malformed sequence, and the length that is asked for, at least 4:
-/// n + 3 in UTF-8, (n + 1) / 2 times 3, and 1 more, in UTF-16, and 3 n in others.
+/// Inputs of n bytes that are not their own text, and the length that is asked for first, at least
+/// 4: n + 3 in UTF-8, (n + 1) / 2 times 3, and 1 more, in UTF-16, and 3 n in others.
 const FIRST_LENGTHS: &[(Encoding, &[u8], usize)] = &[
-    (UTF_8, b"a", 4),
-    (UTF_8, b"abc", 6),
+    (UTF_8, b"\xFF", 4),
+    (UTF_8, b"ab\xFF", 6),
     (UTF_16LE, b"a\x00", 4),
     (UTF_16LE, b"a\x00b\x00c\x00", 10),
-    (WINDOWS_1252, b"a", 4),
-    (WINDOWS_1252, b"abcdefghij", 30),
-    (SHIFT_JIS, b"abcd", 12),
+    (WINDOWS_1252, b"\xE4", 4),
+    (WINDOWS_1252, b"abcdefghi\xE4", 30),
+    (SHIFT_JIS, b"ab\x88\xEA", 12),
 ];
 
 #[test]
@@ -317,19 +317,36 @@ fn long_inputs_of_every_encoding(rt: HostRuntime) -> Result<(), Fail> {
 /// One byte more than the greatest length that sixteen bits have.
 const SIXTEEN_BITS: usize = 65536;
 
-#[test]
-fn a_length_may_have_more_than_sixteen_bits(rt: HostRuntime) -> Result<(), Fail> {
-    let alloc = rt.alloc();
-    let bytes = vec![in alloc; b'a'; SIXTEEN_BITS]?;
+/// Makes the calls with that many bytes of windows-1257, which end in this one.
+fn compare_sixteen_bits(
+    rt: &impl Abort,
+    alloc: Global,
+    (last, character): (u8, char),
+) -> Result<(), Fail> {
+    let mut bytes = vec![in alloc; b'a'; SIXTEEN_BITS - 1]?;
+    let mut want = String::new(alloc);
+    for _ in 1..SIXTEEN_BITS {
+        want.push('a')?;
+    }
+    bytes.push(last)?;
+    want.push(character)?;
     for handling in [SNIFF, REMOVE, OFF] {
         let (text, _, had_errors) = decode_at_once(alloc, (WINDOWS_1257, handling), &bytes)?;
-        assert!(rt; text.as_bytes() == bytes.as_slice() && !had_errors);
+        assert!(rt; text.as_str() == want.as_str() && !had_errors);
     }
     let strict = WINDOWS_1257.decode_without_bom_handling_and_without_replacement(alloc, &bytes)?;
     let text = strict.unwrap_or(String::new(alloc));
-    assert!(rt; text.as_bytes() == bytes.as_slice());
+    assert!(rt; text.as_str() == want.as_str());
     let (back, used, had_unmappables) = WINDOWS_1257.encode(alloc, text.as_str())?;
     assert!(rt; back.as_slice() == bytes.as_slice());
     assert!(rt; (used, had_unmappables) == (WINDOWS_1257, false));
+    Ok(())
+}
+
+#[test]
+fn a_length_may_have_more_than_sixteen_bits(rt: HostRuntime) -> Result<(), Fail> {
+    for row in [(b'a', 'a'), (b'\xE4', '\u{E4}')] {
+        compare_sixteen_bits(&rt, rt.alloc(), row)?;
+    }
     Ok(())
 }

@@ -2,6 +2,7 @@
 
 use crate::derives::{are_equal, debug_text};
 use encoding_rs::{Encoding, OneShotError, SHIFT_JIS, UTF_8, WINDOWS_1257};
+use std::borrow::{CowSlice, CowStr};
 use std::test::Fail;
 
 #[test]
@@ -77,5 +78,59 @@ fn encode_writes_references(rt: HostRuntime) -> Result<(), Fail> {
     let (bytes, encoding, had_unmappables) = answer?;
     assert!(rt; bytes.as_slice() == b"\x88\xEA&#233;".as_slice());
     assert!(rt; (encoding, had_unmappables) == (SHIFT_JIS, true));
+    Ok(())
+}
+
+#[test]
+fn lending_calls_return_the_text(rt: HostRuntime) -> Result<(), Fail> {
+    let answer: Result<(CowStr<'_>, Encoding, bool), OneShotError> = WINDOWS_1257.decode_lending(
+        rt.alloc(),
+        MARKED,
+    );
+    match answer {
+        Ok((text, encoding, had_errors)) => {
+            assert!(rt; (text.as_str(), encoding, had_errors) == ("€ä", UTF_8, false));
+        }
+        Err(error) => return Err(error.into()),
+    }
+    let answer: Result<(CowStr<'_>, bool), OneShotError> = UTF_8.decode_with_bom_removal_lending(
+        rt.alloc(),
+        MARKED,
+    );
+    match answer {
+        Ok((text, had_errors)) => assert!(rt; (text.as_str(), had_errors) == ("€ä", false)),
+        Err(error) => return Err(error.into()),
+    }
+    let answer: Result<(CowStr<'_>, bool), OneShotError> =
+        UTF_8.decode_without_bom_handling_lending(rt.alloc(), MARKED);
+    match answer {
+        Ok((text, had_errors)) => {
+            assert!(rt; (text.as_str(), had_errors) == ("\u{FEFF}€ä", false));
+        }
+        Err(error) => return Err(error.into()),
+    }
+    let answer: Result<Option<CowStr<'_>>, OneShotError> =
+        UTF_8.decode_without_bom_handling_and_without_replacement_lending(rt.alloc(), MARKED);
+    match answer {
+        Ok(Some(text)) => assert!(rt; text.as_str() == "\u{FEFF}€ä"),
+        Ok(None) => return Err("nothing is malformed".into()),
+        Err(error) => return Err(error.into()),
+    }
+    Ok(())
+}
+
+#[test]
+fn encode_lending_returns_the_bytes(rt: HostRuntime) -> Result<(), Fail> {
+    let answer: Result<(CowSlice<'_, u8>, Encoding, bool), OneShotError> = SHIFT_JIS.encode_lending(
+        rt.alloc(),
+        "一é",
+    );
+    match answer {
+        Ok((bytes, encoding, had_unmappables)) => {
+            assert!(rt; bytes.as_slice() == b"\x88\xEA&#233;".as_slice());
+            assert!(rt; (encoding, had_unmappables) == (SHIFT_JIS, true));
+        }
+        Err(error) => return Err(error.into()),
+    }
     Ok(())
 }

@@ -1,45 +1,12 @@
-use Rattle.std.proofs.Common.{rules, true, false, refl}
-use Rattle.std.specs.String.{string_bytes}
-use Rattle.enc_decoder.proofs.ByteLemmas.{bytes_of_slice}
+use Rattle.std.proofs.Common.{refl}
 use Rattle.enc_stream.specs.declared.bom.BomHandling.TheVariants.{Off}
-use Rattle.enc_stream.specs.Decoding.{HasDecoded}
-use Rattle.enc_stream.proofs.OneShotDecodeLemmas.{nothing, none_decoded, none_strict, strict_end, strict_report}
-use Rattle.enc_stream.proofs.OneShotDecodeLemmas.{never_full, has_room, asks_for_memory}
+use Rattle.enc_stream.proofs.OwnTextLemmas.{copied_text, strict_own}
 use Rattle.enc_stream.proofs.encoding.Encoding.decode_without_bom_handling_and_without_replacement.Goals as goal
 
-pub returns-then-is_empty-clause-text : goal.returns-then-is_empty-clause-text
-returns-then-is_empty-clause-text c =
-    rw c.empty_text.ensures.bytes
-    (none_strict c.args.self c.args.bytes.now (nothing c.args.bytes.now (c.if-is_empty.ensures)))
-
-pub returns-in_err-text-clause-memory : goal.returns-in_err-text-clause-memory
-returns-in_err-text-clause-memory c = λ memory.
-    asks_for_memory c.start-decoder.ensures
-    c.max_utf8_buffer_length_without_replacement-length.ensures.length c.if-is_empty.ensures
-    (search rules)
-
-pub unreachable-requires : goal.unreachable-requires
-unreachable-requires c =
-    never_full _ _ _ c.max_utf8_buffer_length_without_replacement-length.ensures.enough
-    (has_room _ _ c.in_ok-text.ensures.room) (bytes_of_slice _ c.type_inv.bytes) refl
-    c.decode_to_string_without_replacement-stop.ensures.call.need c.in-OutputFull.is
-
-pub returns-in-InputEmpty-clause-text : goal.returns-in-InputEmpty-clause-text
-returns-in-InputEmpty-clause-text c =
-    let none_so_far : HasDecoded Off c.args.self c.args.bytes.now c.args.bytes.now true
-    c.start-decoder.result
-    (string_bytes c.in_ok-text.text) false =
-    rw (c.in_ok-text.ensures.bytes, c.start-decoder.ensures)
-    (none_decoded Off c.args.self c.args.bytes.now) in
-    let decoded = c.decode_to_string_without_replacement-stop.ensures in
-    strict_end none_so_far _ decoded.call.decodes decoded.appended c.in-InputEmpty.is
-
-pub returns-in-Malformed-clause-text : goal.returns-in-Malformed-clause-text
-returns-in-Malformed-clause-text c =
-    let none_so_far : HasDecoded Off c.args.self c.args.bytes.now c.args.bytes.now true
-    c.start-decoder.result
-    (string_bytes c.in_ok-text.text) false =
-    rw (c.in_ok-text.ensures.bytes, c.start-decoder.ensures)
-    (none_decoded Off c.args.self c.args.bytes.now) in
-    strict_report none_so_far _ c.decode_to_string_without_replacement-stop.ensures.call.decodes
-    c.in-Malformed.is
+pub returns-in_ok-copy_own_text-in-Some-clause-text :
+    goal.returns-in_ok-copy_own_text-in-Some-clause-text
+returns-in_ok-copy_own_text-in-Some-clause-text c =
+    strict_own c.args.self c.args.bytes.now (c.in-Some.ensures.own.0 refl)
+    (copied_text Off c.args.self c.args.bytes.now (c.in-Some.ensures.own.0 refl)
+    c.in-Some.ensures.bytes c.in_ok-copy_own_text-in-Some.ensures.text
+    c.in_ok-copy_own_text-in-Some.ensures.nothing)

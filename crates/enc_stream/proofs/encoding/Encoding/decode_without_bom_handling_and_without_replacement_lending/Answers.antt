@@ -1,0 +1,10 @@
+use Rattle.std.proofs.Common.{refl, ◌∙◌}
+use Rattle.enc_stream.specs.declared.bom.BomHandling.TheVariants.{Off}
+use Rattle.enc_stream.proofs.OwnTextLemmas.{whole_own_text, strict_own}
+use Rattle.enc_stream.proofs.encoding.Encoding.decode_without_bom_handling_and_without_replacement_lending.Goals as goal
+
+pub returns-in-Some-clause-text : goal.returns-in-Some-clause-text
+returns-in-Some-clause-text c =
+    strict_own c.args.self c.args.bytes.now (c.in-Some.ensures.own.0 refl)
+    (c.in-Some.ensures.bytes
+    ∙ whole_own_text Off c.args.self c.args.bytes.now (c.in-Some.ensures.own.0 refl))

@@ -1,0 +1,119 @@
+use Rattle.std.proofs.Common.{rules, ◌≡◌, [], None, length, refl, ap, ◌∙◌, sym, inl, inr}
+use Rattle.std.specs.String.{string_bytes}
+use Rattle.std.specs.Char.{encode_utf8}
+use Rattle.enc_units.specs.declared.coder_result.CoderResult.TheVariants.{InputEmpty}
+use Rattle.enc_units.specs.Results.{decoder_result_of}
+use Rattle.enc_units.specs.Output.{units_of_text}
+use Rattle.enc_decoder.specs.Sequence.{sequence_text, any_malformed}
+use Rattle.enc_decoder.specs.Remainder.{AreBytes}
+use Rattle.enc_decoder.proofs.ByteLemmas.{bytes_of_slice}
+use Rattle.enc_stream.specs.declared.lengths.Query.TheVariants.{Utf8Reporting}
+use Rattle.enc_stream.specs.Lengths.{max_length}
+use Rattle.enc_stream.proofs.EndOfInputLemmas.{puts_all, whole_text, whole_flag}
+use Rattle.enc_stream.proofs.EnoughLemmas.{are_bytes_drop}
+use Rattle.enc_stream.proofs.OneShotDecodeLemmas.{nothing, none_whole, first_call, next_call, still_open, now_finished}
+use Rattle.enc_stream.proofs.OneShotDecodeLemmas.{never_full, too_long_after, asks_for_memory, there_is_a_length}
+use Rattle.enc_stream.proofs.one_shot.convert_whole.Goals as goal
+
+pub returns-then-is_empty-clause-text : goal.returns-then-is_empty-clause-text
+returns-then-is_empty-clause-text c =
+    let none = nothing c.args.bytes.now (c.if-is_empty.ensures) in
+    c.empty_text.ensures.bytes ∙ ap (λ ss. units_of_text encode_utf8 (sequence_text ss))
+    (sym (none_whole c.args.handling c.args.encoding c.args.bytes.now none))
+
+pub returns-then-is_empty-clause-flag : goal.returns-then-is_empty-clause-flag
+returns-then-is_empty-clause-flag c =
+    let none = nothing c.args.bytes.now (c.if-is_empty.ensures) in
+    ap any_malformed (sym (none_whole c.args.handling c.args.encoding c.args.bytes.now none))
+
+pub returns-in_err-text-clause-too_long :
+    goal.returns-in_err-text-clause-too_long
+returns-in_err-text-clause-too_long c = λ too_long.
+    let none : c.max_utf8_buffer_length_without_replacement-length.result ≡ None = search rules in
+    inl (
+    ap (λ d. max_length Utf8Reporting d (length c.args.bytes.now)) (sym c.start-decoder.ensures)
+    ∙ sym c.max_utf8_buffer_length_without_replacement-length.ensures.length ∙ none
+    )
+
+pub returns-in_err-text-clause-memory : goal.returns-in_err-text-clause-memory
+returns-in_err-text-clause-memory c = λ memory.
+    asks_for_memory c.start-decoder.ensures
+    c.max_utf8_buffer_length_without_replacement-length.ensures.length c.if-is_empty.ensures
+    (search rules)
+
+pub returns-then-eq-clause-text : goal.returns-then-eq-clause-text
+returns-then-eq-clause-text c =
+    let decodes = c.decode_to_string-stop.ensures.call.decodes in
+    let at_end : c.decode_to_string-stop.result.0 ≡ InputEmpty = search rules in
+    let decoded =
+    first_call c.start-decoder.ensures c.in_ok-text.ensures.bytes decodes
+    c.decode_to_string-stop.ensures.appended (puts_all _ decodes) in
+    whole_text decoded (now_finished decodes at_end)
+
+pub returns-then-eq-clause-flag : goal.returns-then-eq-clause-flag
+returns-then-eq-clause-flag c =
+    let decodes = c.decode_to_string-stop.ensures.call.decodes in
+    let at_end : c.decode_to_string-stop.result.0 ≡ InputEmpty = search rules in
+    let decoded =
+    first_call c.start-decoder.ensures c.in_ok-text.ensures.bytes decodes
+    c.decode_to_string-stop.ensures.appended (puts_all _ decodes) in
+    whole_flag decoded (now_finished decodes at_end)
+
+pub max_utf8_buffer_length-length-requires : goal.max_utf8_buffer_length-length-requires
+max_utf8_buffer_length-length-requires c =
+    let goes_on : ¬ (c.decode_to_string-stop.result.0 ≡ InputEmpty) = search rules in
+    still_open c.decode_to_string-stop.ensures.call.decodes goes_on
+
+pub returns-in_err-make_room-clause-too_long : goal.returns-in_err-make_room-clause-too_long
+returns-in_err-make_room-clause-too_long c =
+    let goes_on : ¬ (c.decode_to_string-stop.result.0 ≡ InputEmpty) = search rules in
+    let none : string_bytes c.in_ok-text.text ≡ [] = c.in_ok-text.ensures.bytes in
+    λ too_long. inr (
+    too_long_after c.start-decoder.ensures
+    c.max_utf8_buffer_length_without_replacement-length.ensures.length
+    c.in_ok-text.ensures.room _ goes_on c.decode_to_string-stop.ensures.call
+    (rw (none, ← c.split_at.ensures.back) (search rules))
+    )
+
+pub returns-in_err-make_room-clause-memory : goal.returns-in_err-make_room-clause-memory
+returns-in_err-make_room-clause-memory c = λ memory.
+    asks_for_memory c.start-decoder.ensures
+    c.max_utf8_buffer_length_without_replacement-length.ensures.length c.if-is_empty.ensures
+    (there_is_a_length _ _ c.in_ok-text.ensures.room)
+
+pub decode_to_string-requires : goal.decode_to_string-requires
+decode_to_string-requires c =
+    let goes_on : ¬ (c.decode_to_string-stop.result.0 ≡ InputEmpty) = search rules in
+    still_open c.decode_to_string-stop.ensures.call.decodes goes_on
+
+pub unreachable-requires : goal.unreachable-requires
+unreachable-requires c =
+    let are_bytes : AreBytes c.split_at.result.1.now =
+    rw c.split_at.ensures.back (are_bytes_drop _ _ (bytes_of_slice _ c.type_inv.bytes)) in
+    never_full _ _ _ c.max_utf8_buffer_length-length.ensures.enough
+    c.in_ok-make_room.ensures.enough are_bytes refl
+    c.decode_to_string.ensures.call.need (ap decoder_result_of c.in-OutputFull-default-default.is-0)
+
+pub returns-clause-text : goal.returns-clause-text
+returns-clause-text c =
+    let decodes = c.decode_to_string-stop.ensures.call.decodes in
+    let first =
+    first_call c.start-decoder.ensures c.in_ok-text.ensures.bytes decodes
+    c.decode_to_string-stop.ensures.appended (puts_all _ decodes) in
+    let decodes_rest = c.decode_to_string.ensures.call.decodes in
+    let both =
+    next_call first c.split_at.ensures.back c.in_ok-make_room.ensures.bytes decodes_rest
+    c.decode_to_string.ensures.appended (puts_all _ decodes_rest) in
+    whole_text both (now_finished decodes_rest c.in-InputEmpty-default-default.is-0)
+
+pub returns-clause-flag : goal.returns-clause-flag
+returns-clause-flag c =
+    let decodes = c.decode_to_string-stop.ensures.call.decodes in
+    let first =
+    first_call c.start-decoder.ensures c.in_ok-text.ensures.bytes decodes
+    c.decode_to_string-stop.ensures.appended (puts_all _ decodes) in
+    let decodes_rest = c.decode_to_string.ensures.call.decodes in
+    let both =
+    next_call first c.split_at.ensures.back c.in_ok-make_room.ensures.bytes decodes_rest
+    c.decode_to_string.ensures.appended (puts_all _ decodes_rest) in
+    whole_flag both (now_finished decodes_rest c.in-InputEmpty-default-default.is-0)
