@@ -113,7 +113,10 @@ pub(crate) fn from_utf16(encoder: &mut Encoder, src: &[u16], dst: &mut [u8]) -> 
         given.add_bytes(&dst[..written]);
         match result {
             CoderResult::InputEmpty => return given.sum(),
-            CoderResult::OutputFull => unread = &unread[read..],
+            CoderResult::OutputFull => {
+                let (_, rest) = unread.split_at(read);
+                unread = rest;
+            }
         }
     }
 }

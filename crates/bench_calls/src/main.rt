@@ -1,8 +1,8 @@
 //! Makes short calls again and again, for scripts/bench: `bench_calls KIND LABEL LEN ROOM ROUNDS`.
 //!
-//! Standard input, of 64 KiB at most, is cut into pieces of LEN bytes. A shorter rest is left out,
-//! and so is all from the first piece on whose end is within a character of UTF-8, where a call
-//! takes text. Each round makes a call for each piece, as KIND says:
+//! Standard input, of 64 KiB at most, is cut into pieces of LEN bytes, at least 2. A shorter rest
+//! is left out, and so is all from the first piece on whose end is within a character of UTF-8,
+//! where a call takes text. Each round makes a call for each piece, as KIND says:
 //!
 //! - `to-utf8`, `to-utf16`: a new decoder, with room for ROOM bytes or code units;
 //! - `decode`: the one-shot call;
@@ -17,7 +17,7 @@
 //! status is 0, 2 for wrong arguments, and 3 after an I/O error.
 #![tactic(auto)]
 
-ghost use Rattle.std.specs.Prelude.{◌≡◌, ◌≤◌, ◌<◌, length, OnOk};
+ghost use Rattle.std.specs.Prelude.{◌≤◌, length, IfOk};
 
 mod calls;
 mod chunks;
@@ -55,12 +55,12 @@ struct Job {
 
 /// Reads up to the end of the input or of the chunk. Returns the number of bytes read.
 fn fill<R: Read>(input: &mut R, chunk: &mut [u8]) -> io::Result<usize>
-    ensures { OnOk result (λ len. len ≤ length chunk.new) }
+    ensures { IfOk result (λ len. len ≤ length chunk.new) }
 {
     let mut at = 0;
     'reads: while at < chunk.len() {
         let len = input.read(&mut chunk[at..])?;
-        if len < 2 {
+        if len == 0 {
             break 'reads;
         }
         at += len;
@@ -68,14 +68,17 @@ fn fill<R: Read>(input: &mut R, chunk: &mut [u8]) -> io::Result<usize>
     Ok(at)
 }
 
-/// Returns the job that the arguments describe. `None` if one is missing or unknown, or if LEN is
-/// less than 2.
+/// Returns the job that the arguments describe. `None` if one is missing or unknown.
 fn job_of(rt: &HostRuntime) -> io::Result<Option<Job>> {
     let mut args = env::args(rt)?;
     let _program = args.next();
-    let (Some(kind), Some(label), Some(len), Some(room), Some(rounds)) =
-        (args.next(), args.next(), args.next(), args.next(), args.next())
-    else {
+    let (Some(kind), Some(label), Some(len), Some(room), Some(rounds)) = (
+        args.next(),
+        args.next(),
+        args.next(),
+        args.next(),
+        args.next(),
+    ) else {
         return Ok(None);
     };
     let (Some(kind), Some(encoding)) = (
@@ -91,10 +94,13 @@ fn job_of(rt: &HostRuntime) -> io::Result<Option<Job>> {
     ) else {
         return Ok(None);
     };
-    if len < 2 {
-        return Ok(None);
-    }
-    Ok(Some(Job { kind, encoding, len, room, rounds }))
+    Ok(Some(Job {
+        kind,
+        encoding,
+        len,
+        room,
+        rounds,
+    }))
 }
 
 /// Puts the code units of UTF-16LE into a slice, and returns their number.
@@ -111,7 +117,7 @@ fn units_of(bytes: &[u8], units: &mut [u16]) -> usize
 /// Makes the calls of all rounds, and returns their sum.
 fn run(setting: Setting, job: Job, input: &[u8]) -> u64 {
     let (mut bytes, mut units) = ([0; LENGTH], [0; LENGTH]);
-    let room = job.room.clamp(LEAST_ROOM, LENGTH);
+    let (len, room) = (job.len.max(2), job.room.clamp(LEAST_ROOM, LENGTH));
     let (bytes, units) = (&mut bytes[..room], &mut units[..room]);
     let mut read = [0; UNITS];
     let count = units_of(input, &mut read);
@@ -119,10 +125,10 @@ fn run(setting: Setting, job: Job, input: &[u8]) -> u64 {
     let mut total = 0u64;
     for _ in 0..job.rounds {
         let sum = match job.kind {
-            Kind::Bytes(call) => call_for_bytes(setting, call, input, job.len, bytes, units),
-            Kind::Text(call) => call_for_text(setting, call, text, job.len, bytes),
+            Kind::Bytes(call) => call_for_bytes(setting, call, input, len, bytes, units),
+            Kind::Text(call) => call_for_text(setting, call, text, len, bytes),
             Kind::Units(call) => {
-                call_for_units(setting.encoding, call, &read[..count], job.len / 2, bytes)
+                call_for_units(setting.encoding, call, &read[..count], len / 2, bytes)
             }
         };
         total = total.wrapping_add(sum);
@@ -138,7 +144,10 @@ fn main(rt: HostRuntime) -> ExitCode {
     let Ok(len) = fill(&mut rt.stdin(), &mut input) else {
         return ExitCode::from(3);
     };
-    let setting = Setting { alloc: rt.alloc(), encoding: job.encoding };
+    let setting = Setting {
+        alloc: rt.alloc(),
+        encoding: job.encoding,
+    };
     let total = run(setting, job, &input[..len]);
     match println!(rt; "{total}") {
         Ok(()) => ExitCode::from(0),

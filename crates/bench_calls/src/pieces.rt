@@ -1,6 +1,6 @@
 //! A call for each piece of an input.
 
-ghost use Rattle.std.specs.Prelude.{◌≡◌, ◌≤◌, ◌<◌, length};
+ghost use Rattle.std.specs.Prelude.{◌≤◌, ◌<◌, length};
 
 use crate::kind::{ByteCall, TextCall, UnitCall};
 use crate::{calls, chunks};
@@ -26,8 +26,6 @@ pub(crate) fn call_for_bytes(
     requires len { 0 < len }
     requires bytes { 4 ≤ length bytes.old }
     requires units { 2 ≤ length units.old }
-    ensures bytes { length bytes.new ≡ length bytes.old }
-    ensures units { length units.new ≡ length units.old }
 {
     let Setting { alloc, encoding } = setting;
     let mut decoder = encoding.new_decoder();
@@ -58,7 +56,6 @@ pub(crate) fn call_for_text(
 ) -> u64
     requires len { 0 < len }
     requires bytes { 14 ≤ length bytes.old }
-    ensures { length bytes.new ≡ length bytes.old }
 {
     let Setting { alloc, encoding } = setting;
     let mut encoder = encoding.new_encoder();
@@ -86,7 +83,6 @@ pub(crate) fn call_for_units(
 ) -> u64
     requires len { 0 < len }
     requires bytes { 14 ≤ length bytes.old }
-    ensures { length bytes.new ≡ length bytes.old }
 {
     let mut encoder = encoding.new_encoder();
     let mut unread = units;

@@ -141,7 +141,7 @@ fn total(arguments: &[String], input: &[u8]) -> Option<u64> {
         return None;
     };
     let encoding = Encoding::for_label(label.as_bytes())?;
-    let len = len.parse().ok().filter(|&len| len >= 2)?;
+    let len = len.parse::<usize>().ok()?.max(2);
     let room = room.parse::<usize>().ok()?.clamp(LEAST_ROOM, LENGTH);
     let rounds: u64 = rounds.parse().ok()?;
     let units: Vec<u16> = input.chunks_exact(2).map(|pair| u16::from_le_bytes([pair[0], pair[1]])).collect();
