@@ -1,6 +1,7 @@
 """The tables and the pictures of the measurements of scripts/bench."""
 
 BEGIN = "<!-- scripts/bench writes from here -->"
+CALLS_BEGIN = "<!-- scripts/bench --only calls writes from here -->"
 END = "<!-- to here -->"
 
 DECODING = "How many times as fast as the crate encoding_rs recode decodes"
@@ -150,11 +151,11 @@ def draw(folder, rows):
             file.write(picture(title, [row for row in rows if row.way == way], peers))
 
 
-def put_between_marks(path, text):
+def put_between_marks(path, text, begin=BEGIN):
     """Puts the text between the two marks of a document, for what stood there."""
     with open(path, encoding="utf-8") as file:
         document = file.read()
-    front, rest = document.split(BEGIN)
-    _, back = rest.split(END)
+    front, rest = document.split(begin)
+    _, back = rest.split(END, 1)
     with open(path, "w", encoding="utf-8") as file:
-        file.write(f"{front}{BEGIN}\n{text}\n{END}{back}")
+        file.write(f"{front}{begin}\n{text}\n{END}{back}")

@@ -1,0 +1,227 @@
+"""Short calls, for scripts/bench: bench_calls beside its twin over the crate, bench/peer/src/bin/calls.rs.
+
+A text is cut into pieces of 16, 64 and 256 bytes, each for a new decoder or encoder or for a one-shot call, and into
+chunks of 1 and 4 KiB for one of the stream, with room for 1 or 4 Ki units in a call. A piece ends with a character,
+and spaces make up its length. A chunk to decode ends where it ends.
+"""
+
+import functools
+import resource
+import subprocess
+
+import corpora
+from report import STYLE
+
+# The lengths of pieces, and those of chunks with the room of a call.
+LENGTHS = (16, 64, 256)
+CHUNKS = ((1024, 1024), (1024, 4096), (4096, 1024), (4096, 4096))
+
+# The length of an input, and the processor time of a run in seconds.
+LENGTH = 61440
+TARGET = 0.04
+
+# Labels, in pieces of 16 bytes.
+LABELS = ("utf-8 windows-1252 UTF-8 iso-8859-1 shift_jis gb2312 euc-kr big5 windows-1251 ISO-8859-1 latin1 utf8 euc-jp "
+          "gbk koi8-r us-ascii").split()
+
+# The calls with pieces, the calls with chunks, and the title of both.
+DECODING = (("to-utf8", "chunks-to-utf8", "to UTF-8"), ("to-utf16", "chunks-to-utf16", "to UTF-16"),
+            ("decode", None, "one-shot"))
+ENCODING = (("from-utf8", "chunks-from-utf8", "from UTF-8"), ("from-utf16", "chunks-from-utf16", "from UTF-16"),
+            ("encode", None, "one-shot"))
+CODECS = {"from-utf8": "utf-8", "encode": "utf-8", "from-utf16": "utf-16-le"}
+
+ASCII_LABELS = ("windows-1252", "Shift_JIS", "ISO-2022-JP")
+PICTURE = "The rate of short calls by that of the crate encoding_rs, for each text and length"
+LEFT = 270
+CELL = 44
+HIGH = 20
+GAP = 14
+CELL_STYLE = """  .less { fill: #f2b8a0; }
+  .more { fill: #cfe3f7; }
+  .much { fill: #8fc1ef; }
+  @media (prefers-color-scheme: dark) {
+    .less { fill: #8a3a1d; }
+    .more { fill: #1f3f5f; }
+    .much { fill: #2f6fb3; }
+  }
+"""
+
+
+class Cell:
+    """Calls of a kind with a text: the input, its cuts, and the best times of ours and of the crate's."""
+
+    def __init__(self, kind, label, data, length, room):
+        self.arguments = [kind, label, str(length), str(room)]
+        self.data = data
+        self.rounds = 20
+        self.best = {}
+
+    def run(self, program, rounds):
+        """The processor time of a run and the sum that it prints."""
+        before = resource.getrusage(resource.RUSAGE_CHILDREN)
+        command = [program, *self.arguments, str(rounds)]
+        done = subprocess.run(command, input=self.data, stdout=subprocess.PIPE, check=True)
+        after = resource.getrusage(resource.RUSAGE_CHILDREN)
+        return after.ru_utime - before.ru_utime + after.ru_stime - before.ru_stime, done.stdout
+
+    def prepare(self, programs):
+        """Compares the sums, and finds out how many rounds take the time of a run."""
+        done = [self.run(program, self.rounds) for program in programs.values()]
+        if len({total for _, total in done}) != 1:
+            raise SystemExit(f"bench: sums differ: {' '.join(self.arguments)}: {[total for _, total in done]}")
+        self.rounds = max(1, int(self.rounds * TARGET / max(min(taken for taken, _ in done), 0.001)))
+
+    def measure(self, programs):
+        for name, program in programs.items():
+            taken, _ = self.run(program, self.rounds)
+            self.best[name] = min(taken, self.best.get(name, taken))
+
+    def ratio(self, name="bench_calls"):
+        """The rate by the crate's."""
+        return self.best["encoding_rs"] / self.best[name]
+
+    def nanoseconds(self, name="bench_calls"):
+        """The time of a call."""
+        return self.best[name] * 1e9 / (self.rounds * (len(self.data) // int(self.arguments[2])))
+
+
+class Row:
+    """A text in an encoding, with its cells: a list for each kind of calls."""
+
+    def __init__(self, title, groups):
+        self.title = title
+        self.groups = groups
+
+    def cells(self):
+        return [cell for group in self.groups for cell in group]
+
+
+@functools.cache
+def pieces(text, codec, length):
+    """Pieces of a text that are encoded by themselves, with spaces up to the length."""
+    made, at = b"", 0
+    space = " ".encode(codec)
+    while len(made) < LENGTH:
+        end = at + length
+        while len(text[at:end].encode(codec)) > length:
+            end -= 1
+        piece = text[at:end].encode(codec)
+        made += piece + space * ((length - len(piece)) // len(space))
+        at = end if end + length < len(text) else 0
+    return made[:LENGTH]
+
+
+def cells(kinds, text, codec, label):
+    """The cells of a row, with the text in a codec or, where a call encodes, in that of its input."""
+    groups = []
+    for single, chunks, _ in kinds:
+        source = CODECS.get(single, codec)
+        group = [Cell(single, label, pieces(text, source, length), length, 4 * length + 16) for length in LENGTHS]
+        for length, room in CHUNKS if chunks else ():
+            data = pieces(text, source, length) if single in CODECS else text.encode(source)[:LENGTH]
+            group.append(Cell(chunks, label, data, length, room))
+        groups.append(group)
+    return groups
+
+
+def row(corpus, kinds):
+    """The row of a corpus. Each run of white space in its text is a space."""
+    read = "utf-8" if corpus.way == "encode" else corpus.codec
+    text = " ".join(corpora.block(corpus)[:4 * LENGTH].decode(read, "ignore").split())
+    return Row(corpus.title, cells(kinds, text, corpus.codec, corpus.label))
+
+
+def tables():
+    """The rows of each direction, with its kinds of calls."""
+    running = [corpus for corpus in corpora.CORPORA if corpus.kind == corpora.RUNNING and corpus.languages]
+    decoded = [row(corpus, DECODING) for corpus in running if corpus.way == "decode"]
+    english = " ".join("".join(corpora.lines("en", corpora.RUNNING)).split())
+    text = english.encode("ascii", "ignore").decode()[:4 * LENGTH]
+    decoded += [Row(f"{label}, ASCII", cells(DECODING, text, "ascii", label)) for label in ASCII_LABELS]
+    shown = [corpus for corpus in running if corpus.way == "encode"]
+    encoded = [row(corpus, ENCODING) for corpus in shown
+               if corpus.languages != ["en"] or corpus.title.startswith(ASCII_LABELS)]
+    labels = "".join(label.ljust(16) for label in LABELS).encode() * (LENGTH // 16 // len(LABELS))
+    return (DECODING, decoded), (ENCODING, encoded), Row("labels", [[Cell("for-label", "utf-8", labels, 16, 16)]])
+
+
+def measured(programs, rounds):
+    """The rows of each direction with the best times of their cells, and the row of labels."""
+    decoded, encoded, labels = tables()
+    every = [cell for row in (*decoded[1], *encoded[1], labels) for cell in row.cells()]
+    for cell in every:
+        cell.prepare(programs)
+    print(f"sums of calls compared with the crate's: {len(every)}", flush=True)
+    for number in range(rounds):
+        for cell in every:
+            cell.measure(programs)
+        print(f"round {number + 1} of {rounds}", flush=True)
+    return (("Decoding", *decoded), ("Encoding", *encoded)), labels.groups[0][0]
+
+
+def names(chunks):
+    """The heads of the columns of a kind of calls."""
+    return [str(length) for length in LENGTHS] + (
+        [f"{length >> 10}K/{room >> 10}K" for length, room in CHUNKS] if chunks else [])
+
+
+def table(title, rows, number, chunks):
+    """A table in Markdown: the rates of one kind of calls by the crate's."""
+    heads = [title, *names(chunks)]
+    made = ["| " + " | ".join(heads) + " |", "|---" * len(heads) + "|"]
+    for row in rows:
+        made.append("| " + " | ".join([row.title] + [f"{cell.ratio():.2f}" for cell in row.groups[number]]) + " |")
+    return "\n".join(made)
+
+
+def text(circumstances, directions, label):
+    """The circumstances of the measurement, the picture, and a table for each kind of calls."""
+    ratios = [cell.ratio() for _, _, rows in directions for row in rows for cell in row.cells()]
+    parts = [circumstances, f"![{PICTURE}](speed-calls.svg)"]
+    for name, kinds, rows in directions:
+        parts += [table(f"{name}, {title}", rows, number, chunks) for number, (_, chunks, title) in enumerate(kinds)]
+    less = sum(ratio < 0.995 for ratio in ratios)
+    parts.append(f"{less} of {len(ratios)} cells are below 1.00. `Encoding::for_label` takes "
+                 f"{label.nanoseconds():.0f} ns a label, at {label.ratio():.2f} times the rate of the crate.")
+    return "\n\n".join(parts)
+
+
+def fill(ratio):
+    """The class of a cell: below the crate, above it, or half as fast again."""
+    return "less" if ratio < 0.995 else "more" if ratio < 1.495 else "much"
+
+
+def draw_rows(kinds, rows, top):
+    """The rows of a direction, from a height on, below the heads of its columns."""
+    made, left = [], LEFT
+    for _, chunks, title in kinds:
+        heads = names(chunks)
+        made.append(f'<text x="{left}" y="{top}">{title}</text>')
+        made += [f'<text x="{left + CELL * place + CELL / 2}" y="{top + 16}" text-anchor="middle">{head}</text>'
+                 for place, head in enumerate(heads)]
+        left += CELL * len(heads) + GAP
+    for number, row in enumerate(rows):
+        y, x = top + 24 + HIGH * number, LEFT
+        made.append(f'<text x="{LEFT - 8}" y="{y + 13}" text-anchor="end">{row.title}</text>')
+        for group in row.groups:
+            for cell in group:
+                ratio = cell.ratio()
+                made.append(f'<rect class="{fill(ratio)}" x="{x}" y="{y}" width="{CELL - 2}" height="{HIGH - 2}"/>')
+                made.append(f'<text x="{x + CELL / 2 - 1}" y="{y + 13}" text-anchor="middle">{ratio:.2f}</text>')
+                x += CELL
+            x += GAP
+    return made
+
+
+def draw(path, directions):
+    """Writes the picture: a cell for each text and length, by whether it is slower than the crate or faster."""
+    width = LEFT + CELL * sum(len(names(chunks)) for _, chunks, _ in DECODING) + GAP * len(DECODING)
+    made, top = [], 20
+    for _, kinds, rows in directions:
+        made += draw_rows(kinds, rows, top)
+        top += 24 + HIGH * len(rows) + 30
+    begin = [f'<svg xmlns="http://www.w3.org/2000/svg" viewBox="0 0 {width} {top - 20}" role="img">',
+             f"<title>{PICTURE}</title>", STYLE.replace("</style>", CELL_STYLE + "</style>")]
+    with open(path, "w", encoding="utf-8") as file:
+        file.write("\n".join([*begin, *made, "</svg>", ""]))

@@ -1,0 +1,66 @@
+//! The kinds of calls.
+
+/// Calls that take bytes.
+#[derive(Clone, Copy)]
+pub enum ByteCall {
+    /// A new decoder, to UTF-8.
+    ToUtf8,
+    /// A new decoder, to UTF-16.
+    ToUtf16,
+    /// The one-shot call that decodes.
+    Decode,
+    /// The look-up of a label.
+    ForLabel,
+    /// One decoder for all pieces, to UTF-8.
+    ChunksToUtf8,
+    /// One decoder for all pieces, to UTF-16.
+    ChunksToUtf16,
+}
+
+/// Calls that take text in UTF-8.
+#[derive(Clone, Copy)]
+pub enum TextCall {
+    /// A new encoder.
+    FromUtf8,
+    /// The one-shot call that encodes.
+    Encode,
+    /// One encoder for all pieces.
+    Chunks,
+}
+
+/// Calls that take code units of UTF-16.
+#[derive(Clone, Copy)]
+pub enum UnitCall {
+    /// A new encoder.
+    FromUtf16,
+    /// One encoder for all pieces.
+    Chunks,
+}
+
+/// A kind of calls, by what they take.
+#[derive(Clone, Copy)]
+pub enum Kind {
+    Bytes(ByteCall),
+    Text(TextCall),
+    Units(UnitCall),
+}
+
+impl Kind {
+    /// Returns the kind of this name.
+    pub(crate) fn named(name: &str) -> Option<Kind> {
+        Some(match name {
+            "to-utf8" => Kind::Bytes(ByteCall::ToUtf8),
+            "to-utf16" => Kind::Bytes(ByteCall::ToUtf16),
+            "decode" => Kind::Bytes(ByteCall::Decode),
+            "for-label" => Kind::Bytes(ByteCall::ForLabel),
+            "chunks-to-utf8" => Kind::Bytes(ByteCall::ChunksToUtf8),
+            "chunks-to-utf16" => Kind::Bytes(ByteCall::ChunksToUtf16),
+            "from-utf8" => Kind::Text(TextCall::FromUtf8),
+            "encode" => Kind::Text(TextCall::Encode),
+            "chunks-from-utf8" => Kind::Text(TextCall::Chunks),
+            "from-utf16" => Kind::Units(UnitCall::FromUtf16),
+            "chunks-from-utf16" => Kind::Units(UnitCall::Chunks),
+            _ => return None,
+        })
+    }
+}
