@@ -1,12 +1,14 @@
 -- The words and the code units of bytes that stand alone.
-use Rattle.std.proofs.Common.{◌≡◌, ◌∙◌, ℕ, zero, suc, ◌+◌, ◌-◌, ◌*◌, ◌/◌, ◌%◌, ◌<◌, ◌≤◌, Bool, true, ◌&&◌}
-use Rattle.std.proofs.Common.{Option, Some, List, [], ◌∷◌, refl, subst, arith, inl, inr, le-ltb}
-use Rattle.std.proofs.lemmas.Bool.{and_parts, cond-false, cases_lt}
+use Rattle.std.proofs.Common.{◌≡◌, ◌∙◌, ℕ, zero, suc, ◌+◌, ◌-◌, ◌<◌, ◌≤◌, Bool, true, ◌&&◌, cond, nat_lt}
+use Rattle.std.proofs.Common.{Option, Some, List, [], ◌∷◌, length, get_or, refl, ap, sym, subst, arith, inl, inr, lt-ltb}
+use Rattle.std.proofs.Common.{le-ltb}
+use Rattle.std.proofs.lemmas.Bool.{and_parts, cond-true, cond-false, cases_lt}
 use Rattle.std.specs.Char.{IsScalar}
 use Rattle.enc_index.specs.Grid.{HasWord}
-use Rattle.enc_index.proofs.GridEntries.{grid_tests, is_word, word_found}
+use Rattle.enc_index.proofs.GridEntries.{grid_tests, is_word, is_unit, word_found, unit_found}
 use Rattle.enc_units.specs.Pairs.{MeansWord, MeansUnit}
 use Rattle.enc_decoder.specs.Taking.{IsWholeChar}
+use Rattle.enc_decoder_single_byte.specs.declared.user_defined_words.TheConstants.{USER_DEFINED_WORDS, USER_DEFINED_UNITS}
 use Rattle.enc_decoder_single_byte.specs.OneByte.{one_byte_rule, x_user_defined_char}
 use Rattle.enc_decoder_single_byte.proofs.OneByteLemmas.{one_byte_piece}
 
@@ -26,37 +28,76 @@ module _ (character : ℕ → Option ℕ) (b : ℕ) where
   means_unit unit is_char is_scalar =
       record { scalar = is_scalar; means = one_byte_piece character b unit is_char }
 
--- the words of U+F780 and the characters after it, by a test
+-- x-user-defined: the entries of all bytes, by a test
 
-abbrev word_after : ℕ → ℕ
-word_after offset = 0x380_9EEF + offset / 64 * 256 + offset % 64 * 0x1_0000
+abbrev code_of : ℕ → ℕ
+code_of b = cond (nat_lt b 128) b (0xF780 + (b - 128))
 
-unfoldable words_ok : ℕ → Bool
-words_ok zero = true
-words_ok (suc n) = is_word (0xF780 + n) (word_after n) && words_ok n
-
-all_words : words_ok 128 ≡ true
-unfolding words_ok grid_tests
-all_words = refl
-
-words_ok-at : (n offset : ℕ) → words_ok n ≡ true → offset < n
-    → is_word (0xF780 + offset) (word_after offset) ≡ true
-unfolding words_ok
-words_ok-at zero offset ok l = absurd (omega arith)
-words_ok-at (suc n) offset ok l =
-    let parts = and_parts (is_word (0xF780 + n) (word_after n)) (words_ok n) ok in
-    elim (cases_lt offset n) [
-      | inl below ↦ words_ok-at n offset parts.1 below
-      | inr from ↦
-          let last : n ≡ offset = omega arith in
-          subst (λ k. is_word (0xF780 + k) (word_after k) ≡ true) last parts.0
+char_is : (b : ℕ) → x_user_defined_char b ≡ Some (code_of b)
+char_is b =
+    elim (cases_lt b 128) [
+      | inl l ↦
+          let is_ascii = lt-ltb b 128 l in
+          cond-true _ _ _ is_ascii ∙ sym (ap Some (cond-true _ _ _ is_ascii))
+      | inr h ↦
+          let is_other = le-ltb b 128 h in
+          cond-false _ _ _ is_other ∙ sym (ap Some (cond-false _ _ _ is_other))
     ]
 
-pub x_user_defined_word : (b : ℕ) → 128 ≤ b → b < 256
-    → HasWord (x_user_defined_char b) (word_after (b - 128))
-x_user_defined_word b h l =
-    word_found _ _ (
-      0xF780 + (b - 128),
-      cond-false _ _ _ (le-ltb b 128 h),
-      words_ok-at 128 (b - 128) all_words (omega arith),
-    )
+module _ (kind : ℕ → ℕ → Bool) where
+  unfoldable entries_ok : ℕ → List ℕ → Bool
+  entries_ok b [] = true
+  entries_ok b (g ∷ gs) = kind (code_of b) g && entries_ok (b + 1) gs
+
+  entries_ok-at : (gs : List ℕ) (b i : ℕ) → entries_ok b gs ≡ true → i < length gs
+      → kind (code_of (b + i)) (get_or gs i 0) ≡ true
+  unfolding entries_ok
+  entries_ok-at [] b i ok l = absurd (omega arith)
+  entries_ok-at (g ∷ gs) b zero ok l =
+      let same_byte : b ≡ b + 0 = omega arith in
+      subst (λ k. kind (code_of k) g ≡ true) same_byte
+      (and_parts (kind (code_of b) g) (entries_ok (b + 1) gs) ok).0
+  entries_ok-at (g ∷ gs) b (suc i) ok l =
+      let same_byte : b + 1 + i ≡ b + suc i = omega arith in
+      let rest = (and_parts (kind (code_of b) g) (entries_ok (b + 1) gs) ok).1 in
+      subst (λ k. kind (code_of k) (get_or gs i 0) ≡ true) same_byte
+      (entries_ok-at gs (b + 1) i rest (omega arith))
+
+words_fit : entries_ok is_word 0 USER_DEFINED_WORDS ≡ true
+unfolding entries_ok grid_tests
+words_fit = refl
+
+units_fit : entries_ok is_unit 0 USER_DEFINED_UNITS ≡ true
+unfolding entries_ok grid_tests
+units_fit = refl
+
+words_count : length USER_DEFINED_WORDS ≡ 256
+words_count = refl
+
+units_count : length USER_DEFINED_UNITS ≡ 256
+units_count = refl
+
+module _ (b : ℕ) (is_byte : b < 256) where
+  from_zero : 0 + b ≡ b
+  from_zero = omega arith
+
+  pub x_user_defined_word : HasWord (x_user_defined_char b) (get_or USER_DEFINED_WORDS b 0)
+  x_user_defined_word =
+      let fits = entries_ok-at is_word USER_DEFINED_WORDS 0 b words_fit
+      (omega (arith, words_count, is_byte)) in
+      word_found _ _ (
+        code_of b,
+        char_is b,
+        subst (λ k. is_word (code_of k) (get_or USER_DEFINED_WORDS b 0) ≡ true) from_zero fits,
+      )
+
+  pub x_user_defined_unit : (x_user_defined_char b ≡ Some (get_or USER_DEFINED_UNITS b 0))
+      × IsScalar (get_or USER_DEFINED_UNITS b 0)
+  x_user_defined_unit =
+      let fits = entries_ok-at is_unit USER_DEFINED_UNITS 0 b units_fit
+      (omega (arith, units_count, is_byte)) in
+      unit_found _ _ (
+        code_of b,
+        char_is b,
+        subst (λ k. is_unit (code_of k) (get_or USER_DEFINED_UNITS b 0) ≡ true) from_zero fits,
+      )

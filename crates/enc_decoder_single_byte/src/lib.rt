@@ -5,6 +5,7 @@
 mod one_byte;
 mod replacement;
 mod single_byte;
+mod user_defined_words;
 mod x_user_defined;
 
 pub use replacement::ReplacementDecoder;

@@ -6,6 +6,7 @@ ghost use Rattle.enc_decoder_single_byte.specs.OneByte.{x_user_defined_char};
 ghost use Rattle.enc_index.specs.Grid.{HasWord};
 
 use crate::one_byte::show_byte;
+use crate::user_defined_words::{USER_DEFINED_UNITS, USER_DEFINED_WORDS};
 use enc_decoder::{ByteCodec, Emission, HandlerResult, RawDecoder, TextLengths, latin1_up_to, run};
 use enc_units::{DecoderResult, Pieces, Units, put_run};
 
@@ -38,12 +39,7 @@ fn character_of(byte: u8) -> char
 fn word_of(byte: u8) -> u32
     ensures { HasWord (x_user_defined_char byte) result }
 {
-    if byte < 0x80 {
-        return 0x0100_0000 + byte as u32;
-    }
-    // U+F780 is EF 9E 80, and U+F7C0 is EF 9F 80
-    let offset = byte as u32 - 0x80;
-    0x0380_9EEF + offset / 64 * 0x100 + offset % 64 * 0x1_0000
+    USER_DEFINED_WORDS[byte as usize]
 }
 
 /// Returns the UTF-16 code unit of a byte's character.
@@ -52,10 +48,7 @@ fn unit_of(byte: u8) -> u16
     ensures is { Some result ≡ x_user_defined_char byte }
     ensures scalar { IsScalar result }
 {
-    if byte < 0x80 {
-        return byte as u16;
-    }
-    0xF780 + (byte as u16 - 0x80)
+    USER_DEFINED_UNITS[byte as usize]
 }
 
 impl Pieces for XUserDefinedDecoder {

@@ -1,7 +1,7 @@
 -- The tables of the single-byte indexes have what their runs say.
 -- Rows by index are written by scripts/make-codecs from data/encodings.txt.
-use Rattle.std.proofs.Common.{◌≡◌, ◌∙◌, ℕ, ◌+◌, ◌-◌, ◌*◌, ◌<◌, ◌≤◌, Bool, true, ◌&&◌, Option, Some, List, take, drop}
-use Rattle.std.proofs.Common.{get_or, slice_range, refl, sym, subst, arith, get_or-take, get_or-drop}
+use Rattle.std.proofs.Common.{◌≡◌, ◌∙◌, ℕ, ◌+◌, ◌-◌, ◌*◌, ◌<◌, ◌≤◌, Bool, true, ◌&&◌, Option, Some, List, drop}
+use Rattle.std.proofs.Common.{get_or, slice_range, refl, sym, subst, arith}
 use Rattle.std.proofs.lemmas.Bool.{and_parts}
 use Rattle.std.specs.Char.{IsScalar}
 use Rattle.enc_index.specs.declared.table.Planes.TheVariants.{Basic}
@@ -35,7 +35,7 @@ table_of index = slice_range SINGLE_BYTE_TABLE (table_number index * 128)
 
 -- the 256 entries of the bytes of the index with a number
 abbrev pub bytes_of : ℕ → List ℕ → List ℕ
-bytes_of n entries = take 256 (drop (n * 256) entries)
+bytes_of n entries = slice_range entries (n * 256) (n * 256 + 256)
 
 runs_ok : SingleByteIndex → Bool
 runs_ok index = are_ascending_runs 0 (single_byte_runs index)
@@ -89,38 +89,26 @@ single_byte_table index p =
     (table_ok 0 (single_byte_runs index) (table_of index)) (and_parts _ _ (all_tables index)).0 in
     table_ok-true Basic (single_byte_runs index) (table_of index) parts.0 parts.1 p
 
--- the entry of a byte, among those of all indexes, where the 256 of its index fit
-module _ (kind : ℕ → ℕ → Bool) (index : SingleByteIndex) (n : ℕ) (entries : List ℕ)
-    (ok : bytes_ok kind index (bytes_of n entries) ≡ true) where
-  abbrev gs : List ℕ
-  gs = bytes_of n entries
-
+-- the entry of a byte, where the 256 of its index fit
+module _ (kind : ℕ → ℕ → Bool) (index : SingleByteIndex) (gs : List ℕ)
+    (ok : bytes_ok kind index gs ≡ true) where
   abbrev ts : List ℕ
   ts = table_of index
 
-  abbrev entry_of : ℕ → ℕ
-  entry_of b = get_or entries (n * 256 + b) 0
-
-  among_all : (b : ℕ) → b < 256 → get_or gs b 0 ≡ entry_of b
-  among_all b l = get_or-take 256 (drop (n * 256) entries) b 0 l ∙ get_or-drop (n * 256) entries b 0
-
-  ascii_found : (b : ℕ) → b < 128 → 0 < entry_of b → Found kind (Some b) (entry_of b)
+  ascii_found : (b : ℕ) → b < 128 → 0 < get_or gs b 0 → Found kind (Some b) (get_or gs b 0)
   ascii_found b l some =
-      let here : get_or gs b 0 ≡ entry_of b = among_all b (omega arith) in
       let same_place : 0 + b ≡ b = omega arith in
-      let there : 0 < get_or gs b 0 = omega (arith, here) in
-      let byte = places_ok-byte kind Basic 128 ts gs 128 0 ok b l there in
+      let byte = places_ok-byte kind Basic 128 ts gs 128 0 ok b l some in
       let fits = subst (λ k. byte_ok kind k (get_or gs b 0) ≡ true) same_place byte in
-      let is_kind = (byte_ok-found kind b (get_or gs b 0) fits there).1 in
-      (b, refl, subst (λ g. kind b g ≡ true) here is_kind)
+      (b, refl, (byte_ok-found kind b (get_or gs b 0) fits some).1)
 
-  pointer_found : (b : ℕ) → 128 ≤ b → b < 256 → 0 < entry_of b
-      → Found kind (index_at Basic (single_byte_runs index) (b - 128)) (entry_of b)
-  pointer_found b l h some =
+  pointer_found : (b : ℕ) → 128 ≤ b → 0 < get_or gs b 0 → b < 256
+      → Found kind (index_at Basic (single_byte_runs index) (b - 128)) (get_or gs b 0)
+  pointer_found b l some h =
       let p : ℕ = b - 128 in
       let rows = places_ok-rows kind Basic 128 ts gs 128 0 ok in
-      let here : get_or (drop 128 gs) p 0 ≡ entry_of b =
-      after_drop 128 p b gs (omega arith) ∙ among_all b h in
+      let here : get_or (drop 128 gs) p 0 ≡ get_or gs b 0 =
+      after_drop 128 p b gs (omega arith) in
       let there : 0 < get_or (drop 128 gs) p 0 = omega (arith, here) in
       let fits = rows_ok-at (entry_ok kind Basic) 128 0 (drop 128 gs) ts p p p rows (omega arith)
       (omega arith) (omega arith) there in
@@ -128,7 +116,8 @@ module _ (kind : ℕ → ℕ → Bool) (index : SingleByteIndex) (n : ℕ) (entr
       let is_kind = subst (λ g. kind (get_or ts p 0) g ≡ true) here entry.1 in
       (get_or ts p 0, sym (single_byte_table index p) ∙ entry.0, is_kind)
 
-module _ (index : SingleByteIndex) (n : ℕ) (is_number : n ≡ table_number index) where
+-- the word or the unit of a byte, in the entries of the index with the number n
+module _ (index : SingleByteIndex) (n b : ℕ) (is_number : n ≡ table_number index) where
   words_fit : bytes_ok is_word index (bytes_of n SINGLE_BYTE_WORDS) ≡ true
   unfolding tables_ok
   words_fit = subst (λ k. bytes_ok is_word index (bytes_of k SINGLE_BYTE_WORDS) ≡ true)
@@ -139,30 +128,27 @@ module _ (index : SingleByteIndex) (n : ℕ) (is_number : n ≡ table_number ind
   units_fit = subst (λ k. bytes_ok is_unit index (bytes_of k SINGLE_BYTE_UNITS) ≡ true)
       (sym is_number) (and_parts _ _ (and_parts _ _ (all_tables index)).1).1
 
-  abbrev byte_word : ℕ → ℕ
-  byte_word b = get_or SINGLE_BYTE_WORDS (n * 256 + b) 0
+  abbrev pointer_char : Option ℕ
+  pointer_char = index_at Basic (single_byte_runs index) (b - 128)
 
-  abbrev byte_unit : ℕ → ℕ
-  byte_unit b = get_or SINGLE_BYTE_UNITS (n * 256 + b) 0
+  module _ (word : ℕ) (is_entry : word ≡ get_or (bytes_of n SINGLE_BYTE_WORDS) b 0) where
+    pub ascii_word : b < 128 → 0 < word → HasWord (Some b) word
+    ascii_word l some = subst (HasWord (Some b)) (sym is_entry)
+        (word_found _ _ (ascii_found is_word index (bytes_of n SINGLE_BYTE_WORDS) words_fit b l
+        (subst (λ w. 0 < w) is_entry some)))
 
-  abbrev pointer_char : ℕ → Option ℕ
-  pointer_char b = index_at Basic (single_byte_runs index) (b - 128)
+    pub pointer_word : 128 ≤ b → 0 < word → b < 256 → HasWord pointer_char word
+    pointer_word l some h = subst (HasWord pointer_char) (sym is_entry)
+        (word_found _ _ (pointer_found is_word index (bytes_of n SINGLE_BYTE_WORDS) words_fit b l
+        (subst (λ w. 0 < w) is_entry some) h))
 
-  pub ascii_word : (b : ℕ) → b < 128 → 0 < byte_word b → HasWord (Some b) (byte_word b)
-  ascii_word b l some =
-      word_found _ _ (ascii_found is_word index n SINGLE_BYTE_WORDS words_fit b l some)
+  module _ (unit : ℕ) (is_entry : unit ≡ get_or (bytes_of n SINGLE_BYTE_UNITS) b 0) where
+    pub ascii_unit : b < 128 → 0 < unit → (Some b ≡ Some unit) × IsScalar unit
+    ascii_unit l some = subst (λ u. (Some b ≡ Some u) × IsScalar u) (sym is_entry)
+        (unit_found _ _ (ascii_found is_unit index (bytes_of n SINGLE_BYTE_UNITS) units_fit b l
+        (subst (λ u. 0 < u) is_entry some)))
 
-  pub pointer_word : (b : ℕ) → 128 ≤ b → b < 256 → 0 < byte_word b
-      → HasWord (pointer_char b) (byte_word b)
-  pointer_word b l h some =
-      word_found _ _ (pointer_found is_word index n SINGLE_BYTE_WORDS words_fit b l h some)
-
-  pub ascii_unit : (b : ℕ) → b < 128 → 0 < byte_unit b
-      → (Some b ≡ Some (byte_unit b)) × IsScalar (byte_unit b)
-  ascii_unit b l some =
-      unit_found _ _ (ascii_found is_unit index n SINGLE_BYTE_UNITS units_fit b l some)
-
-  pub pointer_unit : (b : ℕ) → 128 ≤ b → b < 256 → 0 < byte_unit b
-      → (pointer_char b ≡ Some (byte_unit b)) × IsScalar (byte_unit b)
-  pointer_unit b l h some =
-      unit_found _ _ (pointer_found is_unit index n SINGLE_BYTE_UNITS units_fit b l h some)
+    pub pointer_unit : 128 ≤ b → 0 < unit → b < 256 → (pointer_char ≡ Some unit) × IsScalar unit
+    pointer_unit l some h = subst (λ u. (pointer_char ≡ Some u) × IsScalar u) (sym is_entry)
+        (unit_found _ _ (pointer_found is_unit index (bytes_of n SINGLE_BYTE_UNITS) units_fit b l
+        (subst (λ u. 0 < u) is_entry some) h))

@@ -20,7 +20,7 @@ use crate::data::single_byte::{
     WINDOWS_1258_RUNS, X_MAC_CYRILLIC_RUNS,
 };
 use crate::data::single_byte_words::{SINGLE_BYTE_UNITS, SINGLE_BYTE_WORDS};
-use crate::table::character_in;
+use crate::table::{character_in, unit_in, word_in};
 
 /// The index of a legacy single-byte encoding, by its name.
 ///
@@ -105,7 +105,8 @@ impl SingleByteIndex {
         ensures others { 0x80 ≤ byte → 0 < result
             → HasWord (index_at Basic (single_byte_runs self) (byte - 0x80)) result }
     {
-        SINGLE_BYTE_WORDS[self.number() * 256 + byte as usize]
+        let from = self.number() * 256;
+        word_in(&SINGLE_BYTE_WORDS[from..from + 256], byte)
     }
 
     /// Returns the UTF-16 code unit of a byte's character.
@@ -119,7 +120,8 @@ impl SingleByteIndex {
             → (index_at Basic (single_byte_runs self) (byte - 0x80) ≡ Some result)
             × IsScalar result }
     {
-        SINGLE_BYTE_UNITS[self.number() * 256 + byte as usize]
+        let from = self.number() * 256;
+        unit_in(&SINGLE_BYTE_UNITS[from..from + 256], byte)
     }
 
     /// Returns its runs, in the order of their pointers. Takes no memory.

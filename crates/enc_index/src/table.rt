@@ -69,3 +69,28 @@ pub(crate) fn character_in_all(table: &[u32], pointer: u32) -> Option<char>
     }
     None
 }
+
+/// Returns the word of a byte in a table, or 0 if it has none. The table is a slice, so that a loop
+/// keeps its address.
+#[inline(always)]
+pub(crate) fn word_in(words: &[u32], byte: u8) -> u32
+    ensures { result ≡ get_or words.now byte 0 }
+{
+    let place = byte as usize;
+    if place < words.len() {
+        return words[place];
+    }
+    0
+}
+
+/// Returns the code unit of a byte in a table, or 0 if it has none.
+#[inline(always)]
+pub(crate) fn unit_in(units: &[u16], byte: u8) -> u16
+    ensures { result ≡ get_or units.now byte 0 }
+{
+    let place = byte as usize;
+    if place < units.len() {
+        return units[place];
+    }
+    0
+}

@@ -3,8 +3,9 @@ use Rattle.enc_index.proofs.single_byte_index.SingleByteIndex.unit.Goals as goal
 
 pub returns-clause-ascii : goal.returns-clause-ascii
 returns-clause-ascii c l some =
-    ascii_unit c.args.self _ c.number.ensures.which c.args.byte l some
+    ascii_unit c.args.self _ c.args.byte c.number-from.ensures.which _ c.unit_in.ensures l some
 
 pub returns-clause-others : goal.returns-clause-others
 returns-clause-others c l some =
-    pointer_unit c.args.self _ c.number.ensures.which c.args.byte l c.ranges.byte.fits some
+    pointer_unit c.args.self _ c.args.byte c.number-from.ensures.which _ c.unit_in.ensures l some
+    c.ranges.byte.fits
