@@ -1,6 +1,6 @@
 -- A run of characters carries a call on.
 use Rattle.std.proofs.Common.{◌≡◌, ℕ, ◌+◌, ◌≤◌, Bool, false, None, List, [], ◌∷◌, ◌++◌, length, take, drop, refl, ap}
-use Rattle.std.proofs.Common.{◌∙◌, sym, arith, append_assoc, length-append, take-append-drop}
+use Rattle.std.proofs.Common.{◌∙◌, sym, subst, arith, append_assoc, length-append, take-append-drop}
 use Rattle.std.proofs.Math.Seq.{take-append_seam}
 use Rattle.std.proofs.lemmas.Slice.{drop-append-drop}
 use Rattle.enc_units.specs.Pieces.{Piece, EachMeansChar}
@@ -13,7 +13,7 @@ use Rattle.enc_encoder.specs.Steps.{set_after_steps}
 use Rattle.enc_encoder.specs.Runs.{IsWrittenIn, WritesRun}
 use Rattle.enc_encoder.proofs.StepLemmas.{step_chars-append, step_bytes-append, any_reported-append}
 use Rattle.enc_encoder.proofs.StepLemmas.{set_after_steps-append}
-use Rattle.enc_encoder.proofs.EncodeProgressLemmas.{Writing, same_length}
+use Rattle.enc_encoder.proofs.EncodeProgressLemmas.{Writing, begin, same_length}
 
 module _ {v w : RawEncoderState} {src rest rest' : List ℕ} {last : Bool} {before mid after : List ℕ}
     {written wrote : ℕ}
@@ -63,6 +63,14 @@ module _ {v w : RawEncoderState} {src rest rest' : List ℕ} {last : Bool} {befo
           ∙ rw (writing.progress.none_reported, writes.none_reported) refl;
     };
   }
+
+-- a call begins with a run
+pub begins_with_run : {v : RawEncoderState} {src rest : List ℕ} (last : Bool)
+    {before after : List ℕ} {wrote : ℕ} → WritesRun v src rest before after 0 wrote
+    → Writing v v src rest last before after wrote
+begins_with_run {v} {src} {rest} last {before} {after} writes =
+    subst (Writing v v src rest last before after) (omega arith)
+    (run_further (begin v src last before) writes)
 
 -- no steps are added
 pub no_more_steps : {w : RawEncoderState} {rest rest' : List ℕ} (last : Bool) {mid after : List ℕ}

@@ -6,6 +6,7 @@ ghost use Rattle.enc_units.specs.Bytes.{byte_list};
 ghost use Rattle.enc_encoder.specs.CharLaw.{HandlesCharacter, IsStepAtEnd, IsNextStepOfCall};
 ghost use Rattle.enc_encoder.specs.Call.{EncoderCallInto};
 ghost use Rattle.enc_encoder.specs.EncoderRule.{IsLawfulEncoderRule};
+ghost use Rattle.enc_encoder.specs.Runs.{WritesRun};
 ghost use Rattle.enc_encoder.specs.Text.{KeepsText};
 ghost use Rattle.enc_encoder.specs.Need.{MeetsEncodeNeed};
 
@@ -67,6 +68,22 @@ fn put(dst: &mut [u8], written: usize, bytes: Bytes) -> bool
     true
 }
 
+/// Writes the first characters as [`CharEncoder::write_run`] does, if the first is ASCII.
+///
+/// Returns the number of bytes written. A character beyond ASCII has a step of its own: it may be
+/// unmappable.
+#[inline(always)]
+fn first_run<E: CharEncoder, C: Chars>(encoder: E, src: &mut C, dst: &mut [u8]) -> usize
+    ensures { WritesRun (E.state encoder) (C.rest src.old) (C.rest src.new) dst.old dst.new 0
+        result }
+{
+    if src.begins_with_ascii() {
+        encoder.write_run(src, dst, 0)
+    } else {
+        0
+    }
+}
+
 /// Encodes by an encoder that takes one character at a time: the loop of every encoder's call.
 ///
 /// It stops when all characters are read, the bytes that come next do not fit, or a character is
@@ -90,7 +107,7 @@ pub fn run<E: CharEncoder, C: Chars>(
 {
     let unread = src.unread();
     let mut state = *encoder;
-    let mut written = 0;
+    let mut written = first_run(state, src, dst);
     loop {
         let Some(taken) = what_comes(state, src, last) else {
             *encoder = state;

@@ -12,7 +12,7 @@ use crate::character_set::CharacterSet;
 use crate::machine::run;
 use crate::made_bytes::one;
 use crate::raw_encoder::RawEncoder;
-use enc_units::{Bytes, Chars, EncoderResult, Mapping, are_all_ascii, ascii_in};
+use enc_units::{Bytes, Chars, EncoderResult, Mapping, ascii_in};
 use std::simd::prelude::*;
 
 /// An encoding without escape sequences, by the bytes of each character.
@@ -82,9 +82,9 @@ impl<R: Repertoire> Mapping for StatelessEncoder<R> {
     }
 
     #[inline(always)]
-    fn are_own(self, lanes: u8x64) -> bool {
+    fn keeps_ascii(self) -> bool {
         self.repertoire.laws();
-        are_all_ascii(lanes)
+        true
     }
 }
 

@@ -25,19 +25,26 @@ seam_take m x y e = ap (λ k. take k (x ++ y)) (sym e) ∙ take-append_seam x y
 pub seam_drop : (m : ℕ) (x y : List ℕ) → length x ≡ m → drop m (x ++ y) ≡ y
 seam_drop m x y e = ap (λ k. drop k (x ++ y)) (sym e) ∙ drop-append_seam x y
 
+-- a slice after bytes are copied into its rest
+pub copied_whole : (len n : ℕ) (dst src new : List ℕ) → len ≤ length dst
+    → new ≡ take n src ++ drop n (take (length dst - len) (drop len dst))
+    → put_mid len (length dst - len) dst new ≡ (take len dst ++ take n src)
+    ++ drop n (drop len dst)
+copied_whole len n dst src new within copied =
+    ap (λ x. take len dst ++ (new ++ x))
+    (drop_of_length-le (drop len dst) (omega (arith, length-drop len dst)))
+    ∙ ap (λ x. take len dst ++ x)
+    (append-nil new ∙ copied
+    ∙ ap (λ x. take n src ++ drop n x)
+    (take_all (length dst - len) (drop len dst) (omega (arith, length-drop len dst))))
+    ∙ sym (append_assoc (take len dst) (take n src) (drop n (drop len dst)))
+
 module _ (len n : ℕ) (dst src new : List ℕ) (borrow : GName) (within : len ≤ length dst)
     (read : n ≤ length src) (room : n ≤ length dst - len)
     (copied : new ≡ take n src ++ drop n (take (length dst - len) (drop len dst))) where
-  whole : put_mid len (length dst - len) dst new ≡ (take len dst ++ take n src)
+  abbrev whole : put_mid len (length dst - len) dst new ≡ (take len dst ++ take n src)
       ++ drop n (drop len dst)
-  whole =
-      ap (λ x. take len dst ++ (new ++ x))
-      (drop_of_length-le (drop len dst) (omega (arith, length-drop len dst)))
-      ∙ ap (λ x. take len dst ++ x)
-      (append-nil new ∙ copied
-      ∙ ap (λ x. take n src ++ drop n x)
-      (take_all (length dst - len) (drop len dst) (omega (arith, length-drop len dst))))
-      ∙ sym (append_assoc (take len dst) (take n src) (drop n (drop len dst)))
+  whole = copied_whole len n dst src new within copied
 
   long : length (take len dst ++ take n src) ≡ len + n
   long = omega (

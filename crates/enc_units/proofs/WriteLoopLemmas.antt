@@ -1,10 +1,13 @@
 -- The invariant of a loop that writes the bytes of the characters of an input, UTF-8 or UTF-16.
-use Rattle.std.proofs.Common.{◌≡◌, ℕ, ◌+◌, ◌-◌, ◌≤◌, List, ◌∷◌, ◌++◌, length, take, drop, ap, ◌∙◌, sym, subst, arith}
-use Rattle.std.proofs.Common.{length-drop, drop-drop}
+use Rattle.std.proofs.Common.{◌≡◌, ℕ, ◌+◌, ◌-◌, ◌<◌, ◌≤◌, List, ◌∷◌, ◌++◌, length, take, drop, ap, ◌∙◌, sym, subst, arith}
+use Rattle.std.proofs.Common.{length-drop, drop-drop, append_assoc, take-append-drop, refl}
 use Rattle.std.proofs.lemmas.List.{length-take-le, take_all}
 use lib.Lanes.{put_chunk}
-use Rattle.enc_units.specs.Mappings.{WritesMapped, WritesThemselves, AreWrittenAsThemselves}
-use Rattle.enc_units.proofs.MappingLemmas.{maps_ascii, maps_both, maps_one, same_length, stored_whole}
+use Rattle.enc_units.specs.Mappings.{WritesMapped, WritesThemselves, KeepsAscii, AreWrittenAsThemselves}
+use Rattle.enc_units.specs.Validity.{AreAscii}
+use borrow.Rule.Slice.PartMut.{put_mid}
+use Rattle.enc_units.proofs.Utf8SliceLemmas.{copied_whole}
+use Rattle.enc_units.proofs.MappingLemmas.{maps_none, maps_ascii, maps_both, maps_one, same_length, stored_whole}
 
 -- the rest of a slice
 pub rest_is : (read : ℕ) (src : List ℕ) → take (length src - read) (drop read src) ≡ drop read src
@@ -31,6 +34,21 @@ pub all_stored : (Means : List ℕ → ℕ → Type 0) (src before : List ℕ) (
     → WritesThemselves Means src before (put_chunk at before lanes) at m
 all_stored Means src before at m lanes long h fits own a =
     front_stored Means at m lanes own a h fits (stored_whole m at before lanes fits long)
+
+-- ASCII is copied
+pub ascii_copied : {Means : List ℕ → ℕ → Type 0} (at n : ℕ) (before src new : List ℕ)
+    → KeepsAscii Means → at ≤ length before → n ≤ length src → n ≤ length before - at
+    → AreAscii (take n src)
+    → new ≡ take n src ++ drop n (take (length before - at) (drop at before))
+    → WritesThemselves Means src before (put_mid at (length before - at) before new) at n
+ascii_copied at n before src new keeps within read room are_ascii copied = record {
+  within = read;
+  ascii = λ k d l. (are_ascii k d l, keeps _ (are_ascii k d l));
+  fits = omega (arith, within, room);
+  onto = copied_whole at n before src new within copied
+      ∙ append_assoc (take at before) (take n src) (drop n (drop at before))
+      ∙ ap (λ z. take at before ++ (take n src ++ z)) (drop-drop n at before);
+}
 
 -- code units begin with units that are characters by themselves, and those after them are
 -- well-formed
@@ -119,3 +137,36 @@ module _ {chars_in : List ℕ → List ℕ} {Ok : List ℕ → Type 0} {Means : 
       (maps_one Means (chars_in (drop read src)) (chars_in (drop (read + n) src)) dst dst' at k c
       bytes (f
       ∙ ap (λ x. c ∷ chars_in x) after) m e l o)
+
+-- the loop begins
+pub begins : {chars_in : List ℕ → List ℕ} {Ok : List ℕ → Type 0} {Means : List ℕ → ℕ → Type 0}
+    {src first : List ℕ} {from : ℕ} → from ≤ length first → Ok src
+    → Written chars_in Ok Means src first from first 0 from
+begins {chars_in} {Ok} {Means} {src} {first} {from} fits ok =
+    let none : 0 ≡ from - from = omega arith in
+    record {
+      within = omega arith;
+      ahead = omega arith;
+      long = refl;
+      room = fits;
+      ok = ok;
+      writes = subst (λ k. WritesMapped Means (chars_in src) (chars_in src) first first from k)
+          none (maps_none Means (chars_in src) first from fits);
+    }
+
+-- the loop begins after the ASCII in front
+pub begins_after : {chars_in : List ℕ → List ℕ} {Ok : List ℕ → Type 0} {Means : List ℕ → ℕ → Type 0}
+    {src first dst : List ℕ} {from n : ℕ} → from ≤ length first → Ok src
+    → WritesThemselves Means src first dst from n → HasFront chars_in Ok src (take n src)
+    → Written chars_in Ok Means src first from dst n (from + n)
+begins_after {chars_in} {Ok} {Means} {src} {first} {dst} {from} {n} fits ok own front =
+    let start : Written chars_in Ok Means src first from first 0 from = begins fits ok in
+    subst (λ k. Written chars_in Ok Means src first from dst k (from + n)) (omega arith)
+    (own_further start refl own (λ z. front))
+
+-- nothing is written
+pub nothing_written : {Means : List ℕ → ℕ → Type 0} {src before after : List ℕ} {at n : ℕ}
+    → WritesThemselves Means src before after at n → n ≡ 0 → after ≡ before
+nothing_written {src = src} {before = before} {at = at} own e =
+    own.onto ∙ ap (λ k. take at before ++ (take k src ++ drop (at + k) before)) e
+    ∙ ap (λ m. take at before ++ drop m before) (omega arith) ∙ take-append-drop at before

@@ -10,6 +10,10 @@ IsWrittenAsItself Means b = (b < 0x80) × Means (b ∷ []) b
 abbrev pub AreWrittenAsThemselves : (List ℕ → ℕ → Type 0) → List ℕ → Type 0
 AreWrittenAsThemselves Means = All (IsWrittenAsItself Means)
 
+-- all of ASCII is written as itself
+abbrev pub KeepsAscii : (List ℕ → ℕ → Type 0) → Type 0
+KeepsAscii Means = (b : ℕ) → b < 0x80 → Means (b ∷ []) b
+
 -- The first n code units are ASCII that is written as itself, and they are written to a slice, from
 -- `at` on. All other bytes of the slice are unchanged.
 pub record WritesThemselves (Means : List ℕ → ℕ → Type 0) (src before after : List ℕ)

@@ -75,7 +75,7 @@ pub fn ascii_len(bytes: &[u8]) -> usize
 /// Copies ASCII bytes from the front of `src`, at most `most`, in whole steps of 64. Returns their
 /// number.
 #[inline(always)]
-fn copy_strides(src: &[u8], dst: &mut [u8], most: usize) -> usize
+pub(crate) fn copy_strides(src: &[u8], dst: &mut [u8], most: usize) -> usize
     requires read { most ≤ length src.now }
     requires room { most ≤ length dst.old }
     ensures within { result ≤ most }

@@ -2,7 +2,7 @@
 
 ghost use Rattle.std.specs.Prelude.{ℕ, ◌≤◌, List, IfSome, IsTrue, take};
 ghost use Rattle.enc_units.specs.Bytes.{byte_list};
-ghost use Rattle.enc_units.specs.Mappings.{AreWrittenAsThemselves, IsWrittenAsItself};
+ghost use Rattle.enc_units.specs.Mappings.{AreWrittenAsThemselves, IsWrittenAsItself, KeepsAscii};
 
 use crate::bytes::Bytes;
 use std::simd::prelude::*;
@@ -32,15 +32,14 @@ pub trait Mapping: Copy {
         ensures bound { result ≤ 16 }
         ensures ascii { AreWrittenAsThemselves (means self) (take result lanes) };
 
-    /// Returns whether all of 64 bytes are ASCII written as itself, or false, as it does by default.
+    /// Returns whether all of ASCII is written as itself, or false, as it does by default.
     ///
     /// Takes no memory.
     #[inline(always)]
-    fn are_own(self, lanes: u8x64) -> bool
-        ensures { IsTrue result → AreWrittenAsThemselves (means self) lanes }
+    fn keeps_ascii(self) -> bool
+        ensures { IsTrue result → KeepsAscii (means self) }
     {
         let _mapping = self;
-        let _lanes = lanes;
         false
     }
 }

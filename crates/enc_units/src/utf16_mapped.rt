@@ -1,6 +1,7 @@
 //! Runs of mapped characters, read from UTF-16.
 
-ghost use Rattle.std.specs.Prelude.{◌≡◌, ◌%◌, ◌<◌, ◌≤◌, map, length, take, drop, slice_index};
+ghost use Rattle.std.specs.Prelude.{◌≡◌, ◌+◌, ◌%◌, ◌<◌, ◌≤◌, map, length, take, drop};
+ghost use Rattle.std.specs.Prelude.{slice_index, IsTrue};
 ghost use Rattle.std.specs.Char.Utf16.{utf16_lossy_chars};
 ghost use Rattle.enc_units.specs.Mappings.{WritesMapped, WritesThemselves};
 ghost use Rattle.enc_units.specs.Validity.{AreAscii};
@@ -32,19 +33,26 @@ fn low_bytes(units: Simd<u16, 16>) -> u8x16
     (units & Simd::<u16, 16>::splat(0x7F)).cast::<u8>()
 }
 
-/// Writes the ASCII in front that is written as itself: of sixteen code units, or of one where
-/// sixteen do not fit.
+/// Writes the ASCII in front that is written as itself: of sixteen code units if they fit, or of
+/// one.
 ///
 /// Returns the number of bytes. It is 0 if the first is written otherwise. Condition: the first is
 /// ASCII.
 #[inline(always)]
-fn put_ascii<M: Mapping>(mapping: M, src: &[u16], dst: &mut [u8], at: usize) -> usize
+fn put_ascii<M: Mapping>(
+    mapping: M,
+    src: &[u16],
+    dst: &mut [u8],
+    at: usize,
+    sixteen_fit: bool,
+) -> usize
     requires some { 1 ≤ length src.now }
     requires ascii { slice_index src.now 0 < 0x80 }
     requires room { at < length dst.old }
+    requires sixteen { IsTrue sixteen_fit → (16 ≤ length src.now) × (at + 16 ≤ length dst.old) }
     ensures { WritesThemselves (M.means mapping) src.now dst.old dst.new at result }
 {
-    if src.len() < 16 || dst.len() - at < 16 {
+    if !sixteen_fit {
         let byte = src[0] as u8;
         if !mapping.is_own(byte) {
             return 0;
@@ -80,9 +88,13 @@ pub(crate) fn write_utf16<M: Mapping>(
 {
     let mut read = 0;
     let mut at = from;
-    while read < src.len() && MOST_BYTES <= dst.len() - at {
+    let last_sixteen = src.len().saturating_sub(15);
+    let last_room = dst.len().saturating_sub(15);
+    let end = dst.len().saturating_sub(MOST_BYTES - 1);
+    while read < src.len() && at < end {
         if src[read] < 0x80 {
-            let len = put_ascii(mapping, &src[read..], dst, at);
+            let sixteen_fit = read < last_sixteen && at < last_room;
+            let len = put_ascii(mapping, &src[read..], dst, at, sixteen_fit);
             if len == 0 {
                 break;
             }

@@ -1,8 +1,10 @@
 //! Runs of mapped characters, read from UTF-8.
 
-ghost use Rattle.std.specs.Prelude.{◌≡◌, ◌<◌, ◌≤◌, length, drop, chars, IsUtf8, slice_index};
+ghost use Rattle.std.specs.Prelude.{◌≡◌, ◌+◌, ◌<◌, ◌≤◌, length, drop, chars, IsUtf8, slice_index};
+ghost use Rattle.std.specs.Prelude.{IsTrue};
 ghost use Rattle.enc_units.specs.Mappings.{IsFirstUtf8Char, WritesMapped, WritesThemselves};
 
+use crate::ascii::copy_strides;
 use crate::mapped_bytes::{MOST_BYTES, put_bytes, put_lanes};
 use crate::mapping::Mapping;
 use std::simd::prelude::*;
@@ -48,17 +50,23 @@ fn found_at(src: &[u8], at: usize) -> Found
     }
 }
 
-/// Writes the ASCII in front that is written as itself: of sixteen bytes, of 64 if the sixteen are
-/// followed by more of it, or of one where sixteen do not fit.
+/// Writes the ASCII in front that is written as itself: of sixteen bytes if they fit, or of one.
 ///
 /// Returns the number of bytes. It is 0 if the first is written otherwise.
 #[inline(always)]
-fn put_ascii<M: Mapping>(mapping: M, src: &[u8], dst: &mut [u8], at: usize) -> usize
+fn put_ascii<M: Mapping>(
+    mapping: M,
+    src: &[u8],
+    dst: &mut [u8],
+    at: usize,
+    sixteen_fit: bool,
+) -> usize
     requires some { 1 ≤ length src.now }
     requires room { at < length dst.old }
+    requires sixteen { IsTrue sixteen_fit → (16 ≤ length src.now) × (at + 16 ≤ length dst.old) }
     ensures { WritesThemselves (M.means mapping) src.now dst.old dst.new at result }
 {
-    if src.len() < 16 || dst.len() - at < 16 {
+    if !sixteen_fit {
         if !mapping.is_own(src[0]) {
             return 0;
         }
@@ -71,15 +79,23 @@ fn put_ascii<M: Mapping>(mapping: M, src: &[u8], dst: &mut [u8], at: usize) -> u
         put_lanes(dst, at, lanes, len);
         return len;
     }
-    if 64 <= src.len() && 64 <= dst.len() - at {
-        let stride = u8x64::from_slice(src);
-        if mapping.are_own(stride) {
-            stride.copy_to_slice(&mut dst[at..]);
-            return 64;
-        }
-    }
     lanes.copy_to_slice(&mut dst[at..]);
     16
+}
+
+/// Writes the ASCII in front in whole steps of 64, if all of ASCII is written as itself.
+///
+/// Returns the number of bytes.
+#[inline(always)]
+fn put_strides<M: Mapping>(mapping: M, src: &[u8], dst: &mut [u8], at: usize) -> usize
+    requires { at ≤ length dst.old }
+    ensures { WritesThemselves (M.means mapping) src.now dst.old dst.new at result }
+{
+    if !mapping.keeps_ascii() {
+        return 0;
+    }
+    let most = src.len().min(dst.len() - at);
+    copy_strides(src, &mut dst[at..], most)
 }
 
 /// Writes the bytes of the first characters of UTF-8 to a slice, from `from` on.
@@ -99,11 +115,15 @@ pub(crate) fn write_utf8<M: Mapping>(
     ensures writes { WritesMapped (M.means mapping) (chars src.now) (chars (drop result.0 src.now))
         dst.old dst.new from result.1 }
 {
-    let mut read = 0;
-    let mut at = from;
-    while read < src.len() && MOST_BYTES <= dst.len() - at {
+    let mut read = put_strides(mapping, src, dst, from);
+    let mut at = from + read;
+    let last_sixteen = src.len().saturating_sub(15);
+    let last_room = dst.len().saturating_sub(15);
+    let end = dst.len().saturating_sub(MOST_BYTES - 1);
+    while read < src.len() && at < end {
         if src[read] < 0x80 {
-            let len = put_ascii(mapping, &src[read..], dst, at);
+            let sixteen_fit = read < last_sixteen && at < last_room;
+            let len = put_ascii(mapping, &src[read..], dst, at, sixteen_fit);
             if len == 0 {
                 break;
             }

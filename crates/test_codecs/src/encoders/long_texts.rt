@@ -81,6 +81,16 @@ const WRITTEN: &[(Encoding, &str, &[u8])] = &[
         "then é among ASCII, and then forty and more ASCII characters",
         b"then \xE9 among ASCII, and then forty and more ASCII characters",
     ),
+    (
+        SHIFT_JIS,
+        "sixty-four and more ASCII characters stand in front of all the others: 日本",
+        b"sixty-four and more ASCII characters stand in front of all the others: \x93\xFA\x96{",
+    ),
+    (
+        ISO_2022_JP,
+        "sixty-four and more ASCII characters stand before and after\u{E}, a shift",
+        b"sixty-four and more ASCII characters stand before and after&#65533;, a shift",
+    ),
     // the one character that gb18030 does not have
     (
         GB18030,

@@ -1,12 +1,15 @@
 use Rattle.std.proofs.Common.{◌≡◌, ℕ, ◌<◌, ◌≤◌, refl, arith}
 use Rattle.enc_encoder.specs.CharLaw.{unread_chars}
-use Rattle.enc_encoder.proofs.RunLemmas.{run_further, no_more_steps}
+use Rattle.enc_encoder.proofs.RunLemmas.{begins_with_run, run_further, no_more_steps}
 use Rattle.enc_encoder.proofs.EncodeProgressLemmas.{fewer, fewer_after}
 use Rattle.enc_encoder.proofs.MachineLemmas.{stays, reports, overflows, takes, fewer_steps, no_report}
 use Rattle.enc_encoder.proofs.TextLemmas.{into_keeps_text}
 use Rattle.enc_encoder.proofs.NeedLemmas.{into_meets_need}
 use Rattle.enc_encoder.proofs.machine.run.Goals as goal
 use Rattle.enc_encoder.proofs.machine.run.Goals.{then-taken, else-taken}
+
+pub loop-taken-init : goal.loop-taken-init
+loop-taken-init g c = begins_with_run c.args.last c.first_run-written.ensures
 
 pub returns-in_default : goal.returns-in_default
 returns-in_default g c =

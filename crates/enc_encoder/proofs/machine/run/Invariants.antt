@@ -6,7 +6,7 @@ use Rattle.enc_encoder.proofs.machine.run.Given as goal
 abbrev pub invariant-loop-taken : goal.invariant-loop-taken
 invariant-loop-taken g l =
     Writing (g.E.CharEncoder.state l.initial.encoder) (g.E.CharEncoder.state l.state)
-    (g.C.Chars.rest l.initial.src) (g.C.Chars.rest l.src) l.last l.initial.dst l.dst l.written
+    (g.C.Chars.rest l.fn.src) (g.C.Chars.rest l.src) l.last l.fn.dst l.dst l.written
 
 -- each turn takes one step off
 abbrev pub decreases-loop-taken : goal.decreases-loop-taken

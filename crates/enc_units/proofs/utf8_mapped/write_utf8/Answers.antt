@@ -1,7 +1,13 @@
 use Rattle.std.proofs.Common.{arith}
 use Rattle.enc_units.proofs.Utf8MappedLemmas.{own_front}
-use Rattle.enc_units.proofs.WriteLoopLemmas.{rest_is, own_further, one_further}
+use Rattle.enc_units.proofs.WriteLoopLemmas.{begins_after, rest_is, own_further, one_further}
 use Rattle.enc_units.proofs.utf8_mapped.write_utf8.Goals as goal
+
+pub loop-read-init : goal.loop-read-init
+loop-read-init g c =
+    let own = c.put_strides-read.ensures in
+    begins_after c.requires.within c.requires.utf8 own
+    (own_front (g.M.Mapping.means c.args.mapping) _ _ c.requires.utf8 own.within own.ascii)
 
 pub loop-read-preserved-then-src-read-lt128 : goal.loop-read-preserved-then-src-read-lt128
 loop-read-preserved-then-src-read-lt128 g c =
