@@ -3,9 +3,13 @@ use Rattle.std.proofs.Common.{◌≡◌, ℕ, ◌+◌, ◌<◌, true, false, eqb
 use Rattle.std.proofs.Common.{drop, get_or, refl, ap, ◌∙◌, sym, subst, arith, append_assoc, length-drop, take-add}
 use Rattle.std.proofs.Common.{drop-cons, inl, inr}
 use Rattle.std.proofs.lemmas.List.{take-append-drop}
+use Rattle.std.proofs.lemmas.Bool.{lt-ltb, ne_eqb}
+use Rattle.std.specs.Prelude.{◌≢◌}
 use Rattle.std.specs.Option.{IfSome}
 use Rattle.enc_units.specs.Output.{Output}
 use Rattle.enc_units.specs.Pieces.{PutsPieces}
+use Rattle.enc_units.specs.Mappings.{AreWrittenAsThemselves}
+use Rattle.enc_units.specs.Validity.{AreIso2022JpAscii}
 use Rattle.enc_decoder.specs.declared.byte_codec.Kind.TheVariants.{Skipped}
 use Rattle.enc_decoder_iso_2022_jp.specs.declared.iso_2022_jp.CharacterSet.{CharacterSet}
 use Rattle.enc_decoder_iso_2022_jp.specs.declared.iso_2022_jp.CharacterSet.TheVariants.{Ascii, Roman, Katakana, Jis0208}
@@ -74,6 +78,23 @@ pub pair_piece : (s : CharacterSet) (lead b c : ℕ) → two_byte_char lead b �
 pair_piece s lead b c is_char l y =
     sequences_of-head jp_rule (set_number s) lead (b ∷ y) _
     (pair s lead b (Some c) (sym is_char) l (other_after lead b c is_char) y)
+
+-- bytes that stand for themselves in ASCII
+
+own_char : (b : ℕ) → b < 0x80 → b ≢ 0x0E → b ≢ 0x0F → b ≢ 0x1B → one_byte_char Ascii b ≡ Some b
+unfolding one_byte_char
+own_char b low out in_ escape =
+    rw (lt-ltb b 0x80 low, ne_eqb b 0x0E out, ne_eqb b 0x0F in_, ne_eqb b 0x1B escape) refl
+
+not_lead : (b : ℕ) → is_lead_byte Ascii b ≡ false
+unfolding is_lead_byte
+not_lead b = refl
+
+pub own_pieces : (bs : List ℕ) → AreIso2022JpAscii bs
+    → AreWrittenAsThemselves (IsWholeChar jp_rule (set_number Ascii)) bs
+own_pieces bs own k d l =
+    let byte = own k d l in
+    (byte.0, alone_piece Ascii _ _ (own_char _ byte.0 byte.1 byte.2 byte.3) (not_lead _))
 
 -- an escape sequence, and the bytes after it
 

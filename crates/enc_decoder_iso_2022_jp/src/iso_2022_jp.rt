@@ -26,7 +26,7 @@ use enc_decoder::{
     report_or_run,
 };
 use enc_index::{Grid, List};
-use enc_units::{DecoderResult, Pieces, Units};
+use enc_units::{DecoderResult, Pieces, Units, unshifted_len};
 use std::marker::Model;
 use std::simd::prelude::*;
 
@@ -574,6 +574,14 @@ impl Pieces for Iso2022JpDecoder {
     fn has_ascii(self) -> bool {
         let _set = self.set;
         false
+    }
+
+    #[inline(always)]
+    fn own_len(self, bytes: u8x16) -> usize {
+        match self.set {
+            CharacterSet::Ascii => unshifted_len(bytes),
+            _ => 0,
+        }
     }
 
     fn are_pairs(self) -> bool {
