@@ -1,14 +1,15 @@
 -- The words and the code units of bytes that stand alone.
 use Rattle.std.proofs.Common.{◌≡◌, ◌∙◌, ℕ, zero, suc, ◌+◌, ◌-◌, ◌<◌, ◌≤◌, Bool, true, ◌&&◌, cond, nat_lt}
-use Rattle.std.proofs.Common.{Option, Some, List, [], ◌∷◌, length, get_or, refl, ap, sym, subst, arith, inl, inr, lt-ltb}
-use Rattle.std.proofs.Common.{le-ltb}
+use Rattle.std.proofs.Common.{Option, Some, List, [], ◌∷◌, length, get_or, refl, ap, sym, subst, arith}
+use Rattle.std.proofs.Common.{inl, inr, lt-ltb, le-ltb}
 use Rattle.std.proofs.lemmas.Bool.{and_parts, cond-true, cond-false, cases_lt}
 use Rattle.std.specs.Char.{IsScalar}
 use Rattle.enc_index.specs.Grid.{HasWord}
 use Rattle.enc_index.proofs.GridEntries.{grid_tests, is_word, is_unit, word_found, unit_found}
 use Rattle.enc_units.specs.Pairs.{MeansWord, MeansUnit}
 use Rattle.enc_decoder.specs.Taking.{IsWholeChar}
-use Rattle.enc_decoder_single_byte.specs.declared.user_defined_words.TheConstants.{USER_DEFINED_WORDS, USER_DEFINED_UNITS}
+use Rattle.enc_decoder_single_byte.specs.declared.user_defined_words.TheConstants.{USER_DEFINED_WORDS}
+use Rattle.enc_decoder_single_byte.specs.declared.user_defined_words.TheConstants.{USER_DEFINED_UNITS}
 use Rattle.enc_decoder_single_byte.specs.OneByte.{one_byte_rule, x_user_defined_char}
 use Rattle.enc_decoder_single_byte.proofs.OneByteLemmas.{one_byte_piece}
 

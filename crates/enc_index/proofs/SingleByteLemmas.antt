@@ -105,16 +105,17 @@ module _ (kind : ℕ → ℕ → Bool) (index : SingleByteIndex) (gs : List ℕ)
   pointer_found : (b : ℕ) → 128 ≤ b → 0 < get_or gs b 0 → b < 256
       → Found kind (index_at Basic (single_byte_runs index) (b - 128)) (get_or gs b 0)
   pointer_found b l some h =
-      let p : ℕ = b - 128 in
+      let place : ℕ = b - 128 in
       let rows = places_ok-rows kind Basic 128 ts gs 128 0 ok in
-      let here : get_or (drop 128 gs) p 0 ≡ get_or gs b 0 =
-      after_drop 128 p b gs (omega arith) in
-      let there : 0 < get_or (drop 128 gs) p 0 = omega (arith, here) in
-      let fits = rows_ok-at (entry_ok kind Basic) 128 0 (drop 128 gs) ts p p p rows (omega arith)
-      (omega arith) (omega arith) there in
-      let entry = entry_ok-found kind Basic (get_or ts p 0) (get_or (drop 128 gs) p 0) fits there in
-      let is_kind = subst (λ g. kind (get_or ts p 0) g ≡ true) here entry.1 in
-      (get_or ts p 0, sym (single_byte_table index p) ∙ entry.0, is_kind)
+      let here : get_or (drop 128 gs) place 0 ≡ get_or gs b 0 =
+      after_drop 128 place b gs (omega arith) in
+      let there : 0 < get_or (drop 128 gs) place 0 = omega (arith, here) in
+      let fits = rows_ok-at (entry_ok kind Basic) 128 0 (drop 128 gs) ts place place place rows
+      (omega arith) (omega arith) (omega arith) there in
+      let entry = entry_ok-found kind Basic (get_or ts place 0) (get_or (drop 128 gs) place 0) fits
+      there in
+      let is_kind = subst (λ g. kind (get_or ts place 0) g ≡ true) here entry.1 in
+      (get_or ts place 0, sym (single_byte_table index place) ∙ entry.0, is_kind)
 
 -- the word or the unit of a byte, in the entries of the index with the number n
 module _ (index : SingleByteIndex) (n b : ℕ) (is_number : n ≡ table_number index) where
