@@ -221,6 +221,7 @@ impl Decoder {
     }
 
     /// Decodes text that no byte order mark precedes.
+    #[inline(always)]
     fn convert_text<U: Units>(
         &mut self,
         src: &[u8],

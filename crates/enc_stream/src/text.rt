@@ -25,6 +25,7 @@ fn unread(life: LifeCycle, pending: usize) -> &'static [u8]
 /// Decodes text: the held bytes of a byte order mark, and then `src`.
 ///
 /// The codec is unchanged if the call puts out and reports nothing, and reads nothing of `src`.
+#[inline(always)]
 pub(crate) fn convert_text<D: RawDecoder, U: Units>(
     life: &mut LifeCycle,
     codec: &mut D,
