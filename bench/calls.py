@@ -1,8 +1,8 @@
 """Short calls, for scripts/bench: bench_calls beside its twin over the crate, bench/peer/src/bin/calls.rs.
 
 A text is cut into pieces of 16, 64 and 256 bytes, each for a new decoder or encoder or for a one-shot call, and into
-chunks of 1 and 4 KiB for one of the stream, with room for 1 or 4 Ki units in a call. A piece ends with a character,
-and spaces make up its length. A chunk to decode ends where it ends.
+chunks of 1 and 4 KiB for one decoder or encoder, with room for 1 or 4 Ki units in a call. A piece ends with a
+character, and spaces make up its length. So does a chunk to encode; a chunk to decode may end within a character.
 """
 
 import functools
@@ -73,6 +73,7 @@ class Cell:
         self.rounds = max(1, int(self.rounds * TARGET / max(min(taken for taken, _ in done), 0.001)))
 
     def measure(self, programs):
+        """Runs each program once."""
         for name, program in programs.items():
             taken, _ = self.run(program, self.rounds)
             self.best[name] = min(taken, self.best.get(name, taken))
