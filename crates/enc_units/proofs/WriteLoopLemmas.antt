@@ -1,6 +1,6 @@
 -- The invariant of a loop that writes the bytes of the characters of an input, UTF-8 or UTF-16.
-use Rattle.std.proofs.Common.{◌≡◌, ℕ, ◌+◌, ◌-◌, ◌<◌, ◌≤◌, List, ◌∷◌, ◌++◌, length, take, drop, ap, ◌∙◌, sym, subst, arith}
-use Rattle.std.proofs.Common.{length-drop, drop-drop, append_assoc, take-append-drop, refl}
+use Rattle.std.proofs.Common.{◌≡◌, ℕ, ◌+◌, ◌-◌, ◌<◌, ◌≤◌, List, ◌∷◌, ◌++◌, length, take, drop, ap, ◌∙◌, sym, subst}
+use Rattle.std.proofs.Common.{arith, length-drop, drop-drop, append_assoc, take-append-drop, refl}
 use Rattle.std.proofs.lemmas.List.{length-take-le, take_all}
 use lib.Lanes.{put_chunk}
 use Rattle.enc_units.specs.Mappings.{WritesMapped, WritesThemselves, KeepsAscii, AreWrittenAsThemselves}
@@ -11,7 +11,8 @@ use Rattle.enc_units.proofs.MappingLemmas.{maps_none, maps_ascii, maps_both, map
 
 -- the rest of a slice
 pub rest_is : (read : ℕ) (src : List ℕ) → take (length src - read) (drop read src) ≡ drop read src
-rest_is read src = take_all (length src - read) (drop read src) (omega (arith, length-drop read src))
+rest_is read src =
+    take_all (length src - read) (drop read src) (omega (arith, length-drop read src))
 
 -- the first lanes are stored
 

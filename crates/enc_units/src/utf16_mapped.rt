@@ -96,7 +96,7 @@ pub(crate) fn write_utf16<M: Mapping>(
             let sixteen_fit = read < last_sixteen && at < last_room;
             let len = put_ascii(mapping, &src[read..], dst, at, sixteen_fit);
             if len == 0 {
-                break;
+                return (read, at - from);
             }
             read += len;
             at += len;

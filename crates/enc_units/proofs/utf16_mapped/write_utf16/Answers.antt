@@ -3,7 +3,6 @@ use Rattle.enc_units.proofs.CharsLemmas.{beyond_ascii, first_unit}
 use Rattle.enc_units.proofs.Utf16MappedLemmas.{own_front}
 use Rattle.enc_units.proofs.WriteLoopLemmas.{begins, nothing_written, rest_is, own_further, one_further}
 use Rattle.enc_units.proofs.utf16_mapped.write_utf16.Goals as goal
-use Rattle.enc_units.proofs.utf16_mapped.write_utf16.Goals.{then-loop-read-test+else-at-end, else-loop-read-test, then-loop-read-test+then-at-end+then-src-read-lt128+then-len-eq0, then-loop-read-test+then-at-end+else-src-read-lt128+in_default, then-loop-read-test+then-at-end+else-src-read-lt128+in-Some+in_default-bytes_in_run}
 
 pub loop-read-init : goal.loop-read-init
 loop-read-init g c = begins c.requires tt
@@ -30,15 +29,6 @@ loop-read-preserved g c =
     (omega (arith, c.put_bytes-at.ensures.few, c.put_bytes-at.ensures.count))
     c.put_bytes-at.ensures.put
 
-pub returns-clause-writes : goal.returns-clause-writes
-returns-clause-writes g c =
-    let writes = c.loop-read.invariant.writes in
-    elim c.loop-read-test.branch [
-      | then-loop-read-test+else-at-end w ↦ rw w.dst-is writes
-      | else-loop-read-test w ↦ rw w.dst-is writes
-      | then-loop-read-test+then-at-end+then-src-read-lt128+then-len-eq0 w ↦
-          rw (w.dst-is, nothing_written w.put_ascii-len.ensures w.if-len-eq0.true) writes
-      | then-loop-read-test+then-at-end+else-src-read-lt128+in_default w ↦ rw w.dst-is writes
-      | then-loop-read-test+then-at-end+else-src-read-lt128+in-Some+in_default-bytes_in_run w ↦
-          rw w.dst-is writes
-    ]
+pub returns-then-len-eq0-clause-writes : goal.returns-then-len-eq0-clause-writes
+returns-then-len-eq0-clause-writes g c =
+    rw (nothing_written c.put_ascii-len.ensures c.if-len-eq0.true) c.loop-read.invariant.writes

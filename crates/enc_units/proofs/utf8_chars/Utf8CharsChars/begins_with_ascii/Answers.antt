@@ -9,4 +9,5 @@ pub returns-then-not-is_empty : goal.returns-then-not-is_empty
 returns-then-not-is_empty c h =
     subst (λ text. AreAscii (take 1 (chars text))) c.as_bytes-bytes.ensures.value
     (first_ascii c.as_bytes-bytes.result.now c.as_bytes-bytes.ensures.utf8
-    (some_units c.as_bytes-bytes.result.now c.if-not-is_empty.ensures) (grind (arith, nat_tests, h)))
+    (some_units c.as_bytes-bytes.result.now c.if-not-is_empty.ensures)
+    (grind (arith, nat_tests, h)))
