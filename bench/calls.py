@@ -26,10 +26,10 @@ LABELS = ("utf-8 windows-1252 UTF-8 iso-8859-1 shift_jis gb2312 euc-kr big5 wind
 
 # The calls with pieces, the calls with chunks, and the title of both.
 DECODING = (("to-utf8", "chunks-to-utf8", "to UTF-8"), ("to-utf16", "chunks-to-utf16", "to UTF-16"),
-            ("decode", None, "one-shot"))
+            ("decode", None, "one-shot"), ("decode-lending", None, "lending"))
 ENCODING = (("from-utf8", "chunks-from-utf8", "from UTF-8"), ("from-utf16", "chunks-from-utf16", "from UTF-16"),
-            ("encode", None, "one-shot"))
-CODECS = {"from-utf8": "utf-8", "encode": "utf-8", "from-utf16": "utf-16-le"}
+            ("encode", None, "one-shot"), ("encode-lending", None, "lending"))
+CODECS = {"from-utf8": "utf-8", "encode": "utf-8", "encode-lending": "utf-8", "from-utf16": "utf-16-le"}
 
 ASCII_LABELS = ("windows-1252", "Shift_JIS", "ISO-2022-JP")
 PICTURE = "The rate of short calls by that of the crate encoding_rs, for each text and length"

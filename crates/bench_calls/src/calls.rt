@@ -37,10 +37,19 @@ pub(crate) fn to_utf16(encoding: Encoding, src: &[u8], dst: &mut [u16]) -> u64 {
     sum_of_units(&dst[..written])
 }
 
-/// Decodes a piece by the one-shot call.
+/// Decodes a piece by the one-shot call that returns a String.
 #[inline(never)]
 pub(crate) fn decode(alloc: Global, encoding: Encoding, src: &[u8]) -> u64 {
     match encoding.decode(alloc, src) {
+        Ok((text, _, _)) => sum_of_bytes(text.as_bytes()),
+        Err(_) => 0,
+    }
+}
+
+/// Decodes a piece by the one-shot call that lends.
+#[inline(never)]
+pub(crate) fn decode_lending(alloc: Global, encoding: Encoding, src: &[u8]) -> u64 {
+    match encoding.decode_lending(alloc, src) {
         Ok((text, _, _)) => sum_of_bytes(text.as_bytes()),
         Err(_) => 0,
     }
@@ -62,10 +71,19 @@ pub(crate) fn from_utf16(encoding: Encoding, src: &[u16], dst: &mut [u8]) -> u64
     sum_of_bytes(&dst[..written])
 }
 
-/// Encodes a piece by the one-shot call.
+/// Encodes a piece by the one-shot call that returns a Vec.
 #[inline(never)]
 pub(crate) fn encode(alloc: Global, encoding: Encoding, src: &str) -> u64 {
     match encoding.encode(alloc, src) {
+        Ok((bytes, _, _)) => sum_of_bytes(&bytes),
+        Err(_) => 0,
+    }
+}
+
+/// Encodes a piece by the one-shot call that lends.
+#[inline(never)]
+pub(crate) fn encode_lending(alloc: Global, encoding: Encoding, src: &str) -> u64 {
+    match encoding.encode_lending(alloc, src) {
         Ok((bytes, _, _)) => sum_of_bytes(&bytes),
         Err(_) => 0,
     }

@@ -7,8 +7,10 @@ pub enum ByteCall {
     ToUtf8,
     /// A new decoder, to UTF-16.
     ToUtf16,
-    /// The one-shot call that decodes.
+    /// The one-shot call that decodes into a String.
     Decode,
+    /// The one-shot call that lends text that needs no decoding.
+    DecodeLending,
     /// The look-up of a label.
     ForLabel,
     /// One decoder for all pieces, to UTF-8.
@@ -22,8 +24,10 @@ pub enum ByteCall {
 pub enum TextCall {
     /// A new encoder.
     FromUtf8,
-    /// The one-shot call that encodes.
+    /// The one-shot call that encodes into a Vec.
     Encode,
+    /// The one-shot call that lends text that needs no encoding.
+    EncodeLending,
     /// One encoder for all pieces.
     Chunks,
 }
@@ -52,11 +56,13 @@ impl Kind {
             "to-utf8" => Kind::Bytes(ByteCall::ToUtf8),
             "to-utf16" => Kind::Bytes(ByteCall::ToUtf16),
             "decode" => Kind::Bytes(ByteCall::Decode),
+            "decode-lending" => Kind::Bytes(ByteCall::DecodeLending),
             "for-label" => Kind::Bytes(ByteCall::ForLabel),
             "chunks-to-utf8" => Kind::Bytes(ByteCall::ChunksToUtf8),
             "chunks-to-utf16" => Kind::Bytes(ByteCall::ChunksToUtf16),
             "from-utf8" => Kind::Text(TextCall::FromUtf8),
             "encode" => Kind::Text(TextCall::Encode),
+            "encode-lending" => Kind::Text(TextCall::EncodeLending),
             "chunks-from-utf8" => Kind::Text(TextCall::Chunks),
             "from-utf16" => Kind::Units(UnitCall::FromUtf16),
             "chunks-from-utf16" => Kind::Units(UnitCall::Chunks),

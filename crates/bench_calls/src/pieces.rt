@@ -37,6 +37,7 @@ pub(crate) fn call_for_bytes(
             ByteCall::ToUtf8 => calls::to_utf8(encoding, src, bytes),
             ByteCall::ToUtf16 => calls::to_utf16(encoding, src, units),
             ByteCall::Decode => calls::decode(alloc, encoding, src),
+            ByteCall::DecodeLending => calls::decode_lending(alloc, encoding, src),
             ByteCall::ForLabel => calls::for_label(src),
             ByteCall::ChunksToUtf8 => chunks::to_utf8(&mut decoder, src, bytes),
             ByteCall::ChunksToUtf16 => chunks::to_utf16(&mut decoder, src, units),
@@ -66,6 +67,7 @@ pub(crate) fn call_for_text(
         let sum = match call {
             TextCall::FromUtf8 => calls::from_utf8(encoding, src, bytes),
             TextCall::Encode => calls::encode(alloc, encoding, src),
+            TextCall::EncodeLending => calls::encode_lending(alloc, encoding, src),
             TextCall::Chunks => chunks::from_utf8(&mut encoder, src, bytes),
         };
         total = total.wrapping_add(sum);

@@ -29,6 +29,11 @@ fn to_utf16(encoding: &'static Encoding, src: &[u8], dst: &mut [u16]) -> u64 {
 
 #[inline(never)]
 fn decode(encoding: &'static Encoding, src: &[u8]) -> u64 {
+    sum(encoding.decode(src).0.into_owned().as_bytes())
+}
+
+#[inline(never)]
+fn decode_lending(encoding: &'static Encoding, src: &[u8]) -> u64 {
     sum(encoding.decode(src).0.as_bytes())
 }
 
@@ -46,6 +51,11 @@ fn from_utf16(encoding: &'static Encoding, src: &[u16], dst: &mut [u8]) -> u64 {
 
 #[inline(never)]
 fn encode(encoding: &'static Encoding, src: &str) -> u64 {
+    sum(&encoding.encode(src).0.into_owned())
+}
+
+#[inline(never)]
+fn encode_lending(encoding: &'static Encoding, src: &str) -> u64 {
     sum(&encoding.encode(src).0)
 }
 
@@ -123,11 +133,13 @@ fn round(kind: &str, encoding: &'static Encoding, job: &Job, bytes: &mut [u8], u
         "to-utf8" => sources.map(|src| to_utf8(encoding, src, bytes)).sum(),
         "to-utf16" => sources.map(|src| to_utf16(encoding, src, units)).sum(),
         "decode" => sources.map(|src| decode(encoding, src)).sum(),
+        "decode-lending" => sources.map(|src| decode_lending(encoding, src)).sum(),
         "for-label" => sources.map(for_label).sum(),
         "chunks-to-utf8" => sources.map(|src| chunk_to_utf8(decoder, src, bytes)).sum(),
         "chunks-to-utf16" => sources.map(|src| chunk_to_utf16(decoder, src, units)).sum(),
         "from-utf8" => texts.map(|src| from_utf8(encoding, src, bytes)).sum(),
         "encode" => texts.map(|src| encode(encoding, src)).sum(),
+        "encode-lending" => texts.map(|src| encode_lending(encoding, src)).sum(),
         "chunks-from-utf8" => texts.map(|src| chunk_from_utf8(encoder, src, bytes)).sum(),
         "from-utf16" => unit_sources.map(|src| from_utf16(encoding, src, bytes)).sum(),
         "chunks-from-utf16" => unit_sources.map(|src| chunk_from_utf16(encoder, src, bytes)).sum(),
