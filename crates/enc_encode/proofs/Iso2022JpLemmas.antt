@@ -1,5 +1,5 @@
 -- The sets of ISO-2022-JP, read backward and carried forward.
-use Rattle.std.proofs.Common.{◌≡◌, ℕ, ◌<◌, ◌≤◌, take, Bool, true, false, ◌==◌, ◌||◌, nat_lt, Option, Some, None, List}
+use Rattle.std.proofs.Common.{◌≡◌, ℕ, ◌<◌, Bool, true, false, ◌==◌, ◌||◌, nat_lt, Option, Some, None, List}
 use Rattle.std.proofs.Common.{[], ◌∷◌, ◌++◌, reverse, refl, ap, ◌∙◌, sym, arith, if◌then◌else◌}
 use Rattle.std.proofs.lemmas.List.{reverse-append}
 use Rattle.std.proofs.lemmas.Bool.Decides.{nat_tests}
@@ -11,9 +11,6 @@ use Rattle.enc_encoder.specs.EncoderRule.{IsLawfulEncoderRule, IsReferenceCharac
 use Rattle.enc_encode.specs.Iso2022Jp.{class_of, has_class, set_of_class, last_class_after, last_non_neutral_class}
 use Rattle.enc_encode.specs.Iso2022Jp.{stays_in_roman, set_after_class, set_after_reversed, is_shift, iso_2022_jp_bytes}
 use Rattle.enc_encode.specs.Iso2022Jp.{iso_2022_jp_encoder_rule}
-use Rattle.std.specs.Prelude.{All, ◌≢◌}
-use Rattle.enc_units.specs.Validity.{AreIso2022JpAscii}
-use Rattle.enc_units.proofs.LaneLemmas.{all_fewer}
 use Rattle.enc_encode.proofs.FourByteLemmas.{few_iso_2022_jp}
 
 is_roman : CharacterSet → Bool
@@ -124,17 +121,3 @@ iso_2022_jp_is_lawful = record {
   one_set = λ s c r. ap (has_class s) (neutral c r);
   few = few_iso_2022_jp;
 }
-
--- the first n of sixteen bytes, before one that isn't ASCII, a shift or an escape
-pub unshifted : (xs : List ℕ) (n a b c d : ℕ) → n ≤ a → n ≤ b → n ≤ c → n ≤ d
-    → All (λ x. x < 0x80) (take a xs)
-    → All (λ x. x ≢ 0x0E) (take b xs)
-    → All (λ x. x ≢ 0x0F) (take c xs) → All (λ x. x ≢ 0x1B) (take d xs)
-    → AreIso2022JpAscii (take n xs)
-unshifted xs n a b c d la lb lc ld ascii out in_ escape k e h = (
-  all_fewer (λ x. x < 0x80) n a xs la ascii k e h,
-  all_fewer (λ x. x ≢ 0x0E) n b xs lb out k e h,
-  all_fewer
-      (λ x. x ≢ 0x0F) n c xs lc in_ k e h,
-  all_fewer (λ x. x ≢ 0x1B) n d xs ld escape k e h,
-)

@@ -1,7 +1,6 @@
 //! The ISO-2022-JP encoder (Encoding Standard 12.2.2).
 
-ghost use Rattle.std.specs.Prelude.{◌≡◌, ◌<◌, ◌≤◌, take};
-ghost use Rattle.enc_units.specs.Validity.{AreIso2022JpAscii};
+ghost use Rattle.std.specs.Prelude.{◌≡◌, ◌<◌};
 ghost use Rattle.enc_encoder.specs.declared.character_set.CharacterSet.TheVariants.{Ascii};
 ghost use Rattle.enc_encode.specs.Iso2022Jp.{class_of as wanted_class, has_class as wanted_has};
 ghost use Rattle.enc_encode.specs.Iso2022Jp.{set_of_class as wanted_set, is_shift as wanted_shift};
@@ -18,7 +17,7 @@ use enc_encoder::{
     two,
 };
 use enc_index_pointers::jis0208;
-use enc_units::{Bytes, Chars, EncoderResult, Mapping, ascii_in, len_before};
+use enc_units::{Bytes, Chars, EncoderResult, Mapping, unshifted_len};
 use std::simd::prelude::*;
 
 /// The class of a mappable character.
@@ -133,19 +132,6 @@ fn pair(pointer: u32) -> Bytes
     ensures { byte_list result ≡ wanted_pair pointer }
 {
     two((pointer / 94 + 0x21) as u8, (pointer % 94 + 0x21) as u8)
-}
-
-/// Returns how many of sixteen bytes come before the first that is not ASCII, or is a shift or an
-/// escape.
-#[inline(always)]
-fn unshifted_len(lanes: u8x16) -> usize
-    ensures bound { result ≤ 16 }
-    ensures ascii { AreIso2022JpAscii (take result lanes) }
-{
-    let shift_out = len_before(lanes, 0x0E);
-    let shift_in = len_before(lanes, 0x0F);
-    let escape = len_before(lanes, 0x1B);
-    ascii_in(lanes).min(shift_out).min(shift_in).min(escape)
 }
 
 /// Returns the bytes of a character, if it has some.
