@@ -91,6 +91,10 @@ fn put_strides<M: Mapping>(mapping: M, src: &[u8], dst: &mut [u8], at: usize) ->
     requires { at ≤ length dst.old }
     ensures { WritesThemselves (M.means mapping) src.now dst.old dst.new at result }
 {
+    // most texts that are not ASCII show it here
+    if src.len() < 64 || src[1] >= 0x80 || src[63] >= 0x80 {
+        return 0;
+    }
     if !mapping.keeps_ascii() {
         return 0;
     }
