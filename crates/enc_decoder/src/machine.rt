@@ -33,9 +33,10 @@ fn is_at_lone_fault<C: ByteCodec>(codec: C, src: &[u8], read: usize) -> bool
     read < src.len() && codec.is_lone_fault(src[read])
 }
 
-/// Returns the next event before a byte that is unread.
-fn comes_before_byte<C: ByteCodec>(codec: C, src: &[u8], read: usize, last: bool) -> NextEvent<C>
-    requires { read < length src.now }
+/// Returns the next event: a sequence that the pending bytes, the next byte or the end determines,
+/// a byte to hold, or nothing.
+fn what_comes<C: ByteCodec>(codec: C, src: &[u8], read: usize, last: bool) -> NextEvent<C>
+    requires { read ≤ length src.now }
     ensures { IsNextEvent C.state codec src.now read last result }
 {
     if is_at_lone_fault(codec, src, read) {
@@ -49,46 +50,21 @@ fn comes_before_byte<C: ByteCodec>(codec: C, src: &[u8], read: usize, last: bool
     }
     match codec.ready() {
         Some(shown) => NextEvent::Emits(shown),
-        None => match codec.next_step(src[read]) {
-            HandlerResult::Continue(next) => NextEvent::HoldsByte(next),
-            HandlerResult::Emit(shown) => NextEvent::Emits(shown),
-        },
-    }
-}
-
-/// Returns the next event where all bytes are read.
-#[inline(always)]
-fn comes_at_end<C: ByteCodec>(codec: C, src: &[u8], read: usize, last: bool) -> NextEvent<C>
-    requires { read ≡ length src.now }
-    ensures { IsNextEvent C.state codec src.now read last result }
-{
-    match codec.ready() {
-        Some(shown) => NextEvent::Emits(shown),
         None => {
-            if !last {
-                return NextEvent::NeedsInput;
-            }
-            match codec.at_end() {
-                Some(shown) => NextEvent::Emits(shown),
-                None => NextEvent::NeedsInput,
+            if read < src.len() {
+                match codec.next_step(src[read]) {
+                    HandlerResult::Continue(next) => NextEvent::HoldsByte(next),
+                    HandlerResult::Emit(shown) => NextEvent::Emits(shown),
+                }
+            } else if last {
+                match codec.at_end() {
+                    Some(shown) => NextEvent::Emits(shown),
+                    None => NextEvent::NeedsInput,
+                }
+            } else {
+                NextEvent::NeedsInput
             }
         }
-    }
-}
-
-/// Returns the next event: a sequence that the pending bytes, the next byte or the end determines,
-/// a byte to hold, or nothing.
-///
-/// The end of the input is a case by itself, since each call of a decoder comes there.
-#[inline(always)]
-fn what_comes<C: ByteCodec>(codec: C, src: &[u8], read: usize, last: bool) -> NextEvent<C>
-    requires { read ≤ length src.now }
-    ensures { IsNextEvent C.state codec src.now read last result }
-{
-    if read < src.len() {
-        comes_before_byte(codec, src, read, last)
-    } else {
-        comes_at_end(codec, src, read, last)
     }
 }
 
