@@ -200,13 +200,7 @@ pub(crate) fn store_units(buffer: &mut [u16], at: usize, character: char) -> usi
 /// Stores the sixteen bytes of `src` from `from` on after the first `at` bytes of a buffer. Returns
 /// the length of a prefix of them that are ASCII characters.
 #[inline(always)]
-fn store_own<P: Pieces>(
-    pieces: P,
-    buffer: &mut [u8],
-    at: usize,
-    src: &[u8],
-    from: usize,
-) -> usize
+fn store_own<P: Pieces>(pieces: P, buffer: &mut [u8], at: usize, src: &[u8], from: usize) -> usize
     requires from { from + 16 ≤ length src.now }
     requires room { at + 16 ≤ length buffer.old }
     ensures bound { result ≤ 16 }

@@ -258,7 +258,9 @@ impl<'a> Utf16Slice<'a> {
             return 0;
         }
         let mut units = [0; 16];
-        u8x16::from_slice(src).cast::<u16>().copy_to_slice(&mut units);
+        u8x16::from_slice(src)
+            .cast::<u16>()
+            .copy_to_slice(&mut units);
         if !self.append_units(&units) {
             return 0;
         }

@@ -263,6 +263,33 @@ fn cuts_and_rooms_change_no_set(rt: HostRuntime) -> Result<(), Fail> {
     compare(rt.alloc(), SETS)
 }
 
+// by TextDecoder: runs of sixteen bytes and more, in ASCII and in Roman
+const RUNS: &[Row] = &[
+    (
+        b"0123456789abcdef\x1B$B$\"\x1B(B0123456789ABCDEFG",
+        "0123456789abcdefあ0123456789ABCDEFG",
+        &[],
+        3,
+    ),
+    (
+        b"\x1B(J0123456789\\bcde~0123456789abcdef",
+        "0123456789¥bcde‾0123456789abcdef",
+        &[],
+        3,
+    ),
+    (
+        b"0123\x0E56789abcdefghi\x0F",
+        "0123\u{FFFD}56789abcdefghi\u{FFFD}",
+        &[(4, 1), (19, 1)],
+        3,
+    ),
+];
+
+#[test]
+fn cuts_and_rooms_change_no_run(rt: HostRuntime) -> Result<(), Fail> {
+    compare(rt.alloc(), RUNS)
+}
+
 #[test]
 fn the_decoder_decodes_each_set(rt: HostRuntime) -> Result<(), Fail> {
     end(&mut Iso2022JpDecoder::new(), b"\x5C\x7E", "\\~")?;
