@@ -97,8 +97,8 @@ impl SingleByteIndex {
 
     /// Returns the UTF-8 of a byte's character, as a word.
     ///
-    /// A byte below 0x80 is ASCII. The word has the bytes, the first lowest, and their number in the
-    /// highest byte. 0 if the byte's pointer is unmapped. One load. Takes no memory.
+    /// A byte below 0x80 is ASCII. The word has the bytes, the first lowest, and their number in
+    /// the highest byte. 0 if the byte's pointer is unmapped. One load. Takes no memory.
     #[inline(always)]
     pub fn word(self, byte: u8) -> u32
         ensures ascii { byte < 0x80 → 0 < result → HasWord (Some byte) result }
