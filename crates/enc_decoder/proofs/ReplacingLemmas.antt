@@ -70,7 +70,7 @@ module _ {units_of : ℕ → List ℕ} {old : Remainder} {src : List ℕ} (bytes
       e ∙ ap (λ o. with_appended o more) turning.onto
       ∙ with_appended-with_appended before turning.wrote more
 
-  pub empties : {new : Remainder} {n : ℕ} {then : Output}
+  empties : {new : Remainder} {n : ℕ} {then : Output}
       → DecoderCallInto units_of now new (drop read src) last
       (Fatal true) after then InputEmpty n false
       → DecoderCallInto units_of old new src last Replacement before then InputEmpty (read + n)
@@ -81,7 +81,7 @@ module _ {units_of : ℕ → List ℕ} {old : Remainder} {src : List ℕ} (bytes
     call = successive.empties bytes turning.turned (room_at next_call.call);
   }
 
-  pub fills : {new : Remainder} {n : ℕ} {then : Output}
+  fills : {new : Remainder} {n : ℕ} {then : Output}
       → DecoderCallInto units_of now new (drop read src) last
       (Fatal true) after then OutputFull n false
       → DecoderCallInto units_of old new src last Replacement before then OutputFull (read + n)
@@ -91,6 +91,15 @@ module _ {units_of : ℕ → List ℕ} {old : Remainder} {src : List ℕ} (bytes
     onto = onto_on then next_call.wrote next_call.onto;
     call = successive.fills bytes turning.turned (room_at next_call.call);
   }
+
+  -- a call that reports no malformed sequence is the last
+  pub ends : {result : DecoderResult} {new : Remainder} {n : ℕ} {then : Output}
+      → ((l a : ℕ) → result ≡ Malformed l a → ⊥)
+      → DecoderCallInto units_of now new (drop read src) last (Fatal true) after then result n false
+      → DecoderCallInto units_of old new src last Replacement before then result (read + n) replaced
+  ends {result = InputEmpty} none next_call = empties next_call
+  ends {result = OutputFull} none next_call = fills next_call
+  ends {result = Malformed l a} none next_call = absurd (none l a refl)
 
   module _ {new : Remainder} {n l a : ℕ} {then : Output}
       (next_call : DecoderCallInto units_of now new (drop read src) last (Fatal true) after then

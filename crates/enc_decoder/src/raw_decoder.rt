@@ -78,14 +78,12 @@ pub trait RawDecoder: Copy {
             let (_, rest) = src.split_at(read);
             let (result, more) = self.decode(rest, out, last, true);
             read += more;
-            match result {
-                DecoderResult::InputEmpty => return (DecoderResult::InputEmpty, read, replaced),
-                DecoderResult::OutputFull => return (DecoderResult::OutputFull, read, replaced),
-                DecoderResult::Malformed(_, _) => {
-                    let _ = out.put('\u{FFFD}');
-                    replaced = true;
-                }
-            }
+            // one place that makes the tuple: of two, each would copy its padding through memory
+            let DecoderResult::Malformed(_, _) = result else {
+                return (result, read, replaced);
+            };
+            let _ = out.put('\u{FFFD}');
+            replaced = true;
         }
     }
 

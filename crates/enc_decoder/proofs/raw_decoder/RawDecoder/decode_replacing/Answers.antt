@@ -1,20 +1,15 @@
 use Rattle.std.proofs.Common.{refl, ◌∙◌}
 use Rattle.enc_decoder.proofs.ByteLemmas.{bytes_of_slice}
-use Rattle.enc_decoder.proofs.ReplacingLemmas.{begin, empties, fills, fits, replaces, falls}
+use Rattle.enc_decoder.proofs.ReplacingLemmas.{begin, ends, fits, replaces, falls}
 use Rattle.enc_decoder.proofs.raw_decoder.RawDecoder.decode_replacing.Goals as goal
 
 pub loop-out-init : goal.loop-out-init
 loop-out-init g c = record { turning = begin; rule = refl; formulas = refl }
 
-pub returns-in-InputEmpty-clause-call : goal.returns-in-InputEmpty-clause-call
-returns-in-InputEmpty-clause-call g c =
-    empties (bytes_of_slice _ c.type_inv.src) c.loop-out.invariant.turning
-    (rw (c.split_at.ensures.back, c.in-InputEmpty.is) at c.decode-result.ensures.call)
-
-pub returns-in-OutputFull-clause-call : goal.returns-in-OutputFull-clause-call
-returns-in-OutputFull-clause-call g c =
-    fills (bytes_of_slice _ c.type_inv.src) c.loop-out.invariant.turning
-    (rw (c.split_at.ensures.back, c.in-OutputFull.is) at c.decode-result.ensures.call)
+pub returns-in_default-clause-call : goal.returns-in_default-clause-call
+returns-in_default-clause-call g c =
+    ends (bytes_of_slice _ c.type_inv.src) c.loop-out.invariant.turning c.in_default.not-Malformed
+    (rw c.split_at.ensures.back at c.decode-result.ensures.call)
 
 pub loop-out-smaller : goal.loop-out-smaller
 loop-out-smaller g c =
