@@ -53,6 +53,16 @@ fn is_borrowed(text: &CowStr<'_>) -> bool {
     }
 }
 
+/// Returns whether a text is the one that is wanted.
+fn is_text(text: &str, want: &str) -> bool {
+    text == want
+}
+
+/// Returns whether bytes are those that are wanted.
+fn are_bytes(bytes: &[u8], want: &[u8]) -> bool {
+    bytes == want
+}
+
 /// Makes the lending call that looks for these byte order marks.
 fn lend<'a>(
     alloc: Global,
@@ -88,10 +98,10 @@ fn decode(
 fn compare_lent(rt: &impl Abort, alloc: Global, row: &LentRow) -> Result<(), Fail> {
     let (encoding, handling, bytes, want, borrowed) = *row;
     let (owned, by, had_errors) = decode(alloc, (encoding, handling), bytes)?;
-    assert!(rt; owned.as_str() == want, "{encoding:?} {bytes:?}");
+    assert!(rt; is_text(&owned, want), "{encoding:?} {bytes:?}");
     match lend(alloc, (encoding, handling), bytes) {
         Ok((text, used, had)) => {
-            assert!(rt; text.as_str() == want, "{encoding:?} {bytes:?}");
+            assert!(rt; is_text(&text, want), "{encoding:?} {bytes:?}");
             assert!(rt; is_borrowed(&text) == borrowed, "{encoding:?} {bytes:?}");
             assert!(rt; used == by && had == had_errors, "{encoding:?} {bytes:?}");
             Ok(())
@@ -152,7 +162,7 @@ const LENT_BYTES_ROWS: &[LentBytesRow] = &[
 fn compare_lent_bytes(rt: &impl Abort, alloc: Global, row: &LentBytesRow) -> Result<(), Fail> {
     let (encoding, text, want, borrowed) = *row;
     let (owned, by, had_unmappables) = encoding.encode(alloc, text)?;
-    assert!(rt; owned.as_slice() == want, "{encoding:?} {text}");
+    assert!(rt; are_bytes(&owned, want), "{encoding:?} {text}");
     match encoding.encode_lending(alloc, text) {
         Ok((bytes, used, had)) => {
             let is_lent = match bytes {
@@ -160,7 +170,7 @@ fn compare_lent_bytes(rt: &impl Abort, alloc: Global, row: &LentBytesRow) -> Res
                 CowSlice::Owned(_) => false,
             };
             assert!(rt;
-                bytes.as_slice() == want && is_lent == borrowed,
+                are_bytes(&bytes, want) && is_lent == borrowed,
                 "{encoding:?} {text}"
             );
             assert!(rt; used == by && had == had_unmappables, "{encoding:?} {text}");
