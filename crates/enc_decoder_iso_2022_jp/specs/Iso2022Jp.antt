@@ -79,6 +79,10 @@ unfoldable pub two_byte_char : ℕ → ℕ → Option ℕ
 two_byte_char lead b =
     if is_jis0208_byte b then jis0208_at ((lead - 0x21) * 94 + (b - 0x21)) else None
 
+-- two bytes of jis0208 are a character
+abbrev pub IsJis0208Pair : ℕ → ℕ → ℕ → Type 0
+IsJis0208Pair a b c = (is_jis0208_byte a ≡ true) × (two_byte_char a b ≡ Some c)
+
 -- a character of two bytes, or two malformed bytes if there is none
 abbrev pub two_byte_head : ℕ → Option ℕ → Head
 two_byte_head set (Some c) = character_head set 1 c

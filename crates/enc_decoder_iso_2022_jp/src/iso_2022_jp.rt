@@ -2,7 +2,7 @@
 
 ghost use Rattle.std.specs.Prelude.{◌≡◌, ℕ, ◌+◌, ◌-◌, ◌<◌, ◌≤◌, true, false, Option, IfSome};
 ghost use Rattle.std.specs.Prelude.{IfNone, IsTrue, List, [], ◌∷◌};
-ghost use Rattle.enc_index.specs.Grid.{grid_len, grid_char};
+ghost use Rattle.enc_index.specs.Grid.{ArePairPlaces};
 ghost use Rattle.enc_index.specs.declared.grid.Grid.TheVariants as grids;
 ghost use Rattle.enc_decoder_iso_2022_jp.specs.Iso2022Jp.{set_of_escape_bytes};
 ghost use Rattle.enc_decoder_iso_2022_jp.specs.Iso2022Jp.{ascii_char as char_in_ascii};
@@ -11,7 +11,7 @@ ghost use Rattle.enc_decoder_iso_2022_jp.specs.Iso2022Jp.{katakana_char as char_
 ghost use Rattle.enc_decoder_iso_2022_jp.specs.Iso2022Jp.{one_byte_char as char_alone};
 ghost use Rattle.enc_decoder_iso_2022_jp.specs.Iso2022Jp.{is_jis0208_byte as in_jis0208};
 ghost use Rattle.enc_decoder_iso_2022_jp.specs.Iso2022Jp.{is_lead_byte as begins_pair};
-ghost use Rattle.enc_decoder_iso_2022_jp.specs.Iso2022Jp.{two_byte_char};
+ghost use Rattle.enc_decoder_iso_2022_jp.specs.Iso2022Jp.{two_byte_char, IsJis0208Pair};
 ghost use Rattle.enc_decoder_iso_2022_jp.specs.Iso2022JpState.{Iso2022JpState, state_with_held};
 ghost use Rattle.enc_decoder_iso_2022_jp.specs.Iso2022JpState.{intermediate_byte, escape_bytes};
 ghost use Rattle.enc_decoder_iso_2022_jp.specs.Iso2022JpState.{escape_set, bytes_of_held, CanHold};
@@ -20,18 +20,14 @@ ghost use Rattle.enc_decoder_iso_2022_jp.specs.Iso2022JpState.{StandsAlone, iso_
 ghost use Rattle.enc_decoder.specs.CodecLaw.{IsNextSequence, HandlesByte, IsNextOfPending};
 ghost use Rattle.enc_decoder.specs.Taking.{TakesRun};
 
-use crate::places::JIS0208_PLACES;
 use enc_decoder::{
     ByteCodec, Emission, HandlerResult, Kind, RawDecoder, Text, TextLengths, latin1_up_to,
     report_or_run,
 };
 use enc_index::{Grid, List};
-use enc_units::{DecoderResult, Pieces, Units, unshifted_len};
+use enc_units::{DecoderResult, Pieces, Places, Units, numbers_in, places_at, unshifted_len};
 use std::marker::Model;
 use std::simd::prelude::*;
-
-/// An empty place of the grid.
-const EMPTY: usize = 128;
 
 /// A character set that an escape sequence designates.
 #[derive(Clone, Copy)]
@@ -290,17 +286,14 @@ fn has_pairs(set: CharacterSet) -> bool
     }
 }
 
-/// Returns the place of two bytes in the grid of jis0208, with no branch: an empty one if they are
-/// no pair.
+/// Returns the place in the grid of jis0208 of each of sixteen bytes with the byte after it.
 #[inline(always)]
-fn pair_place(is_pair: bool, first: u8, second: u8) -> usize
-    ensures within { result < grid_len grids.Jis0208 }
-    ensures means { (c : ℕ) → grid_char grids.Jis0208 result ≡ Option.Some c → IsTrue is_pair
-        × (in_jis0208 first ≡ true) × (two_byte_char first second ≡ Option.Some c) }
+fn pair_places(first: u8x16, second: u8x16) -> u16x16
+    ensures { ArePairPlaces grids.Jis0208 IsJis0208Pair result first second }
 {
-    let place = JIS0208_PLACES[first as usize] as usize
-        + JIS0208_PLACES[0x100 + second as usize] as usize;
-    if is_pair { place } else { EMPTY }
+    let rows = numbers_in(first, 0x21, 0x7E, 0, u8x16::splat(120));
+    let columns = numbers_in(second, 0x21, 0x7E, 0, u8x16::splat(94));
+    places_at(rows, columns, 95)
 }
 
 /// Returns whether looking for a run pays: the first two bytes have no high bit set, as in all
@@ -552,10 +545,15 @@ fn step_started(
 }
 
 impl Pieces for Iso2022JpDecoder {
+    ghost use Rattle.enc_index.specs.declared.grid.Grid.TheVariants as grids;
+    ghost use Rattle.enc_index.specs.Grid.{IsPlaceOf};
     ghost use Rattle.enc_decoder_iso_2022_jp.specs.Iso2022Jp.{set_number, iso_2022_jp_rule};
     ghost use Rattle.enc_decoder.specs.Taking.{IsWholeChar};
 
     ghost means = { λ d. IsWholeChar iso_2022_jp_rule (set_number d.set) };
+
+    ghost stands_for = { λ d place bytes. IsPlaceOf grids.Jis0208
+        (IsWholeChar iso_2022_jp_rule (set_number d.set) bytes) place };
 
     #[inline(always)]
     fn piece(self, src: &[u8], at: usize) -> Option<(char, usize)> {
@@ -588,21 +586,28 @@ impl Pieces for Iso2022JpDecoder {
         has_pairs(self.set)
     }
 
-    /// All of them.
+    /// All bytes lead a pair.
     #[inline(always)]
-    fn leads(self, bytes: u8x16) -> u64 {
-        let _bytes = (self.set, bytes);
-        0xFFFF
+    fn places(self, first: u8x16, second: u8x16) -> Option<Places> {
+        if !has_pairs(self.set) {
+            return None;
+        }
+        Some(Places {
+            places: pair_places(first, second),
+            leads: 0xFFFF,
+        })
     }
 
     #[inline(always)]
-    fn word(self, is_pair: bool, first: u8, second: u8) -> u32 {
-        Grid::Jis0208.word(pair_place(is_pair & has_pairs(self.set), first, second))
+    fn word_at(self, place: u16) -> u32 {
+        let _set = self.set;
+        Grid::Jis0208.word(place as usize)
     }
 
     #[inline(always)]
-    fn unit(self, is_pair: bool, first: u8, second: u8) -> u16 {
-        Grid::Jis0208.unit(pair_place(is_pair & has_pairs(self.set), first, second))
+    fn unit_at(self, place: u16) -> u16 {
+        let _set = self.set;
+        Grid::Jis0208.unit(place as usize)
     }
 }
 

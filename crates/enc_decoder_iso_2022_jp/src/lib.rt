@@ -3,6 +3,5 @@
 
 mod iso_2022_jp;
 pub mod laws;
-mod places;
 
 pub use iso_2022_jp::Iso2022JpDecoder;

@@ -1,6 +1,6 @@
 -- Encodings with characters of one byte and two (Encoding Standard 10 to 13): bytes that stand
 -- alone, and a lead byte with a trail byte.
-use Rattle.std.specs.Prelude.{◌≡◌, ◌≢◌, ℕ, ◌+◌, ◌<◌, Bool, nat_lt, Option, Some, None, List, [], ◌∷◌, if◌then◌else◌}
+use Rattle.std.specs.Prelude.{◌≡◌, ◌≢◌, ℕ, ◌+◌, ◌<◌, Bool, true, nat_lt, Option, Some, None, List, [], ◌∷◌, if◌then◌else◌}
 use Rattle.enc_decoder.specs.declared.byte_codec.Text.{Text}
 use Rattle.enc_decoder.specs.declared.byte_codec.Text.TheVariants.{One}
 use Rattle.enc_decoder_multi_byte.specs.declared.multi_byte.Prefix.{Prefix}
@@ -47,3 +47,7 @@ pub record ArePairs (single : ℕ → Option ℕ) (pair : ℕ → ℕ → Option
   pub basic : (b c : ℕ) → single b ≡ Some c → c < 0x1_0000
   pub texts : (a b : ℕ) (text : Text) → pair a b ≡ Some text → IsPairText text
   pub no_trail : (a : ℕ) → pair a 0xFF ≡ None
+
+-- a lead byte and the byte after it are one character
+abbrev pub IsLeadPair : (ℕ → Bool) → (ℕ → ℕ → Option Text) → ℕ → ℕ → ℕ → Type 0
+IsLeadPair is_lead pair a b c = (is_lead a ≡ true) × (pair a b ≡ Some (One c))

@@ -5,9 +5,10 @@ ghost use Rattle.enc_decoder_multi_byte.specs.Big5.{is_big5_trail, big5_pointer_
 
 use crate::double_byte::{Double, DoubleByte, text_of};
 use crate::multi_byte::MultiByteDecoder;
-use crate::places::BIG5_PLACES;
 use enc_decoder::Text;
 use enc_index::{Grid, List};
+use enc_units::{numbers_in, places_at};
+use std::simd::prelude::*;
 
 /// Big5 (Encoding Standard 11.1): ASCII, and two bytes by index Big5.
 ///
@@ -80,8 +81,11 @@ impl DoubleByte for Big5 {
     }
 
     #[inline(always)]
-    fn pair_place(first: u8, second: u8) -> usize {
-        BIG5_PLACES[first as usize] as usize + BIG5_PLACES[0x100 + second as usize] as usize
+    fn pair_places(first: u8x16, second: u8x16) -> u16x16 {
+        let rows = numbers_in(first, 0x81, 0xFE, 0, u8x16::splat(126));
+        let upper = numbers_in(second, 0xA1, 0xFE, 63, u8x16::splat(157));
+        let columns = numbers_in(second, 0x40, 0x7E, 0, upper);
+        places_at(rows, columns, 158)
     }
 
     #[tactic(auto, using(crate::proofs::PairLemmas::big5_pairs))]

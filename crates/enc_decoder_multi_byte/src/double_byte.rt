@@ -2,15 +2,16 @@
 
 ghost use Rattle.std.specs.Prelude.{◌≡◌, ℕ, ◌+◌, ◌<◌, Bool, Option, Some, true, false};
 ghost use Rattle.enc_index.specs.declared.grid.Grid.{Grid};
-ghost use Rattle.enc_index.specs.Grid.{grid_len, grid_char};
+ghost use Rattle.enc_index.specs.Grid.{ArePairPlaces};
 ghost use Rattle.enc_decoder.specs.declared.byte_codec.Text.{Text};
 ghost use Rattle.enc_decoder_multi_byte.specs.DoubleByte.{text_of_char, first_prefix, trail_prefix};
-ghost use Rattle.enc_decoder_multi_byte.specs.DoubleByte.{ArePairs};
+ghost use Rattle.enc_decoder_multi_byte.specs.DoubleByte.{ArePairs, IsLeadPair};
 
 use crate::multi_byte::{MultiByte, Prefix};
 use enc_decoder::{Pending, Text};
 use enc_index::Grid;
 use std::marker::PhantomData;
+use std::simd::prelude::*;
 
 /// An encoding with characters of one byte and two.
 ///
@@ -45,13 +46,11 @@ pub trait DoubleByte: Copy {
     fn grid() -> Grid
         ensures { result ≡ pairs_in };
 
-    /// Returns the place of two bytes in the grid.
+    /// Returns the place in the grid of each of sixteen bytes with the byte after it.
     ///
     /// A character there is theirs, and the first byte is a lead byte.
-    fn pair_place(first: u8, second: u8) -> usize
-        ensures within { result < grid_len pairs_in }
-        ensures is_pair { (c : ℕ) → grid_char pairs_in result ≡ Some c
-            → (leads first ≡ true) × (pairs first second ≡ Some (Text.One c)) };
+    fn pair_places(first: u8x16, second: u8x16) -> u16x16
+        ensures { ArePairPlaces pairs_in (IsLeadPair leads pairs) result first second };
 
     /// The laws of all single bytes and all pairs. The call does nothing.
     fn laws()
@@ -137,8 +136,8 @@ impl<D: DoubleByte> MultiByte for Double<D> {
     }
 
     #[inline(always)]
-    fn pair_place(first: u8, second: u8) -> usize {
-        D::pair_place(first, second)
+    fn pair_places(first: u8x16, second: u8x16) -> u16x16 {
+        D::pair_places(first, second)
     }
 
     fn laws() {

@@ -9,9 +9,10 @@ ghost use Rattle.enc_decoder_multi_byte.specs.EucJp.{euc_jp_prefix};
 use crate::double_byte::{classify_first, classify_trail, text_of};
 use crate::katakana::katakana;
 use crate::multi_byte::{MultiByte, MultiByteDecoder, Prefix};
-use crate::places::EUC_JP_PLACES;
 use enc_decoder::Pending;
 use enc_index::{Grid, List};
+use enc_units::{numbers_in, places_at};
+use std::simd::prelude::*;
 
 /// EUC-JP (Encoding Standard 12.1): ASCII, half-width katakana after 8E, two bytes by index
 /// jis0208, and two bytes after 8F by index jis0212.
@@ -122,8 +123,10 @@ impl MultiByte for EucJp {
     }
 
     #[inline(always)]
-    fn pair_place(first: u8, second: u8) -> usize {
-        EUC_JP_PLACES[first as usize] as usize + EUC_JP_PLACES[0x100 + second as usize] as usize
+    fn pair_places(first: u8x16, second: u8x16) -> u16x16 {
+        let rows = numbers_in(first, 0xA1, 0xFE, 0, u8x16::splat(120));
+        let columns = numbers_in(second, 0xA1, 0xFE, 0, u8x16::splat(94));
+        places_at(rows, columns, 95)
     }
 
     #[tactic(auto, using(crate::proofs::EucJpLemmas::euc_jp_laws))]

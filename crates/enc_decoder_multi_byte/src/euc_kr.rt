@@ -4,9 +4,10 @@ ghost use Rattle.std.specs.Prelude.{Option};
 
 use crate::double_byte::{Double, DoubleByte, text_of};
 use crate::multi_byte::MultiByteDecoder;
-use crate::places::EUC_KR_PLACES;
 use enc_decoder::Text;
 use enc_index::{Grid, List};
+use enc_units::{numbers_in, places_at};
+use std::simd::prelude::*;
 
 /// EUC-KR (Encoding Standard 13.1): ASCII, and two bytes by index EUC-KR.
 #[derive(Clone, Copy)]
@@ -52,8 +53,10 @@ impl DoubleByte for EucKr {
     }
 
     #[inline(always)]
-    fn pair_place(first: u8, second: u8) -> usize {
-        EUC_KR_PLACES[first as usize] as usize + EUC_KR_PLACES[0x100 + second as usize] as usize
+    fn pair_places(first: u8x16, second: u8x16) -> u16x16 {
+        let rows = numbers_in(first, 0x81, 0xFE, 0, u8x16::splat(126));
+        let columns = numbers_in(second, 0x41, 0xFE, 0, u8x16::splat(190));
+        places_at(rows, columns, 191)
     }
 
     #[tactic(auto, using(crate::proofs::PairLemmas::euc_kr_pairs))]

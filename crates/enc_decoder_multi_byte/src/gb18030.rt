@@ -8,9 +8,10 @@ ghost use Rattle.enc_decoder_multi_byte.specs.Gb18030.{ranges_code_point, gb1803
 
 use crate::double_byte::{classify_first, classify_trail, text_of};
 use crate::multi_byte::{MultiByte, MultiByteDecoder, Prefix};
-use crate::places::GB18030_PLACES;
 use enc_decoder::{Pending, Text};
 use enc_index::{Grid, List};
+use enc_units::{numbers_in, places_at};
+use std::simd::prelude::*;
 
 /// gb18030 (Encoding Standard 10.2), and GBK (10.1): ASCII and 80, two bytes by index gb18030, and
 /// four bytes by its ranges.
@@ -166,8 +167,11 @@ impl MultiByte for Gb18030 {
     }
 
     #[inline(always)]
-    fn pair_place(first: u8, second: u8) -> usize {
-        GB18030_PLACES[first as usize] as usize + GB18030_PLACES[0x100 + second as usize] as usize
+    fn pair_places(first: u8x16, second: u8x16) -> u16x16 {
+        let rows = numbers_in(first, 0x81, 0xFE, 0, u8x16::splat(126));
+        let upper = numbers_in(second, 0x80, 0xFE, 63, u8x16::splat(190));
+        let columns = numbers_in(second, 0x40, 0x7E, 0, upper);
+        places_at(rows, columns, 191)
     }
 
     #[tactic(auto, using(crate::proofs::Gb18030Lemmas::gb18030_laws))]

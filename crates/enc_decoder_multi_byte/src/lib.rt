@@ -11,7 +11,6 @@ mod euc_kr;
 mod gb18030;
 mod katakana;
 mod multi_byte;
-mod places;
 mod shift_jis;
 
 pub use big5::Big5Decoder;

@@ -2,8 +2,7 @@
 
 ghost use Rattle.std.specs.Prelude.{◌≡◌, ℕ, ◌+◌, ◌<◌, List, [], ◌∷◌, ◌++◌, true, false, Some};
 ghost use Rattle.std.specs.Prelude.{IfSome, IsNone};
-ghost use Rattle.enc_index.specs.Grid.{grid_len, grid_char};
-ghost use Rattle.enc_units.specs.Pairs.{byte_or_pair};
+ghost use Rattle.enc_index.specs.Grid.{ArePairPlaces};
 ghost use Rattle.enc_decoder.specs.Pending.{bytes_of_pending};
 ghost use Rattle.enc_decoder.specs.Taking.{IsWholeChar};
 ghost use Rattle.enc_decoder.specs.CodecLaw.{HandlesByte, IsNextOfPending, IsNextAtEnd};
@@ -16,8 +15,9 @@ use enc_decoder::{
     run,
 };
 use enc_index::Grid;
-use enc_units::{DecoderResult, Pieces, Units, put_run};
+use enc_units::{DecoderResult, Pieces, Places, Units, put_run};
 use std::marker::PhantomData;
+use std::simd::prelude::*;
 
 /// The kind of the first bytes of an input.
 #[derive(Clone, Copy)]
@@ -63,13 +63,11 @@ pub trait MultiByte: Copy {
     fn grid() -> Grid
         ensures { result ≡ pairs_in };
 
-    /// Returns the place of two bytes in the grid.
+    /// Returns the place in the grid of each of sixteen bytes with the byte after it.
     ///
     /// A character there is theirs, and the first byte is none by itself.
-    fn pair_place(first: u8, second: u8) -> usize
-        ensures within { result < grid_len pairs_in }
-        ensures is_pair { (c : ℕ) → grid_char pairs_in result ≡ Some c
-            → IsCharPair prefix first second c };
+    fn pair_places(first: u8x16, second: u8x16) -> u16x16
+        ensures { ArePairPlaces pairs_in (IsCharPair prefix) result first second };
 
     /// The laws of all prefixes. The call does nothing.
     fn laws()
@@ -223,23 +221,15 @@ fn malformed<E: MultiByte>(
     }
 }
 
-/// Returns the place in the grid of a byte or of a pair, with no branch.
-#[inline(always)]
-fn place_of<E: MultiByte>(is_pair: bool, first: u8, second: u8) -> usize
-    ensures within { result < grid_len E.pairs_in }
-    ensures means { (c : ℕ) → grid_char E.pairs_in result ≡ Some c
-        → IsWholeChar (multi_byte_rule E.prefix) 0 (byte_or_pair is_pair first second) c }
-{
-    E::ascii();
-    let place = E::pair_place(first, second);
-    if is_pair { place } else { first as usize }
-}
-
 impl<E: MultiByte> Pieces for MultiByteDecoder<E> {
     ghost use Rattle.enc_decoder_multi_byte.specs.MultiByte.{multi_byte_rule};
     ghost use Rattle.enc_decoder.specs.Taking.{IsWholeChar};
+    ghost use Rattle.enc_index.specs.Grid.{IsPlaceOf};
 
     ghost means = { λ _. IsWholeChar (multi_byte_rule E.prefix) 0 };
+
+    ghost stands_for = { λ _ place bytes. IsPlaceOf E.pairs_in
+        (IsWholeChar (multi_byte_rule E.prefix) 0 bytes) place };
 
     #[inline(always)]
     fn piece(self, src: &[u8], at: usize) -> Option<(char, usize)> {
@@ -272,14 +262,21 @@ impl<E: MultiByte> Pieces for MultiByteDecoder<E> {
         E::few()
     }
 
+    /// Bytes from 0x80 on lead a pair, and those below are ASCII.
     #[inline(always)]
-    fn word(self, is_pair: bool, first: u8, second: u8) -> u32 {
-        E::grid().word(place_of::<E>(is_pair, first, second))
+    fn places(self, first: u8x16, second: u8x16) -> Option<Places> {
+        E::ascii();
+        Some(Places::with_ascii(E::pair_places(first, second), first))
     }
 
     #[inline(always)]
-    fn unit(self, is_pair: bool, first: u8, second: u8) -> u16 {
-        E::grid().unit(place_of::<E>(is_pair, first, second))
+    fn word_at(self, place: u16) -> u32 {
+        E::grid().word(place as usize)
+    }
+
+    #[inline(always)]
+    fn unit_at(self, place: u16) -> u16 {
+        E::grid().unit(place as usize)
     }
 }
 

@@ -6,9 +6,10 @@ ghost use Rattle.enc_decoder_multi_byte.specs.ShiftJis.{is_shift_jis_trail, shif
 use crate::double_byte::{Double, DoubleByte, text_of};
 use crate::katakana::katakana;
 use crate::multi_byte::MultiByteDecoder;
-use crate::places::SHIFT_JIS_PLACES;
 use enc_decoder::Text;
 use enc_index::{Grid, List};
+use enc_units::{numbers_in, places_at};
+use std::simd::prelude::*;
 
 /// Shift_JIS (Encoding Standard 12.3): ASCII and 80, half-width katakana, and two bytes by index
 /// jis0208 or in the private use area.
@@ -77,10 +78,16 @@ impl DoubleByte for ShiftJis {
         Grid::Jis0208
     }
 
+    /// A lead byte has two rows of the grid, and one of the private use area has none.
     #[inline(always)]
-    fn pair_place(first: u8, second: u8) -> usize {
-        SHIFT_JIS_PLACES[first as usize] as usize
-            + SHIFT_JIS_PLACES[0x100 + second as usize] as usize
+    fn pair_places(first: u8x16, second: u8x16) -> u16x16 {
+        let last = numbers_in(first, 0xFA, 0xFC, 57, u8x16::splat(60));
+        let upper = numbers_in(first, 0xE0, 0xEF, 31, last);
+        let rows = numbers_in(first, 0x81, 0x9F, 0, upper);
+        let second_row = numbers_in(second, 0x9F, 0xFC, 95, u8x16::splat(94));
+        let middle = numbers_in(second, 0x80, 0x9E, 63, second_row);
+        let columns = numbers_in(second, 0x40, 0x7E, 0, middle);
+        places_at(rows, columns, 190)
     }
 
     #[tactic(auto, using(crate::proofs::PairLemmas::shift_jis_pairs))]

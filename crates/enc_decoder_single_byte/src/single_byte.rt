@@ -63,6 +63,8 @@ impl Pieces for SingleByteDecoder {
 
     ghost means = { λ d. IsWholeChar (single_byte_state (single_byte_runs d.index)).rule 0 };
 
+    ghost stands_for = { λ _ _ _. Unit {0} };
+
     #[inline(always)]
     fn piece(self, src: &[u8], at: usize) -> Option<(char, usize)> {
         match character_of(self.index, src[at]) {

@@ -57,6 +57,8 @@ impl Pieces for XUserDefinedDecoder {
 
     ghost means = { λ _. IsWholeChar x_user_defined_state.rule 0 };
 
+    ghost stands_for = { λ _ _ _. Unit {0} };
+
     #[inline(always)]
     fn piece(self, src: &[u8], at: usize) -> Option<(char, usize)> {
         Some((character_of(src[at]), 1))

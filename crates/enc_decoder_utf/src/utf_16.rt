@@ -200,6 +200,8 @@ impl Pieces for Utf16Decoder {
 
     ghost means = { λ d. IsWholeChar (utf_16_rule d.big_endian) 0 };
 
+    ghost stands_for = { λ _ _ _. Unit {0} };
+
     #[inline(always)]
     fn piece(self, src: &[u8], at: usize) -> Option<(char, usize)> {
         let left = src.len() - at;

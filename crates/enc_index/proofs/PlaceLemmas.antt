@@ -4,46 +4,8 @@ use Rattle.std.proofs.Common.{nat_lt, lt-ltb, le-ltb, Option, Some, None}
 use Rattle.std.proofs.Common.{List, [], ◌∷◌, length, get_or, refl, ap, sym, arith, inl, inr, eqb-true}
 use Rattle.std.proofs.lemmas.Bool.{and_parts, cond-true, cond-false, cases_lt}
 use Rattle.enc_index.specs.declared.grid.Grid.{Grid}
-use Rattle.enc_index.specs.Grid.{grid_char, grid_rows, grid_width}
+use Rattle.enc_index.specs.Grid.{grid_char, grid_rows, grid_width, IsPlaceOf}
 use Rattle.enc_index.proofs.GridLemmas.{pointer_char, grid_char-of_column, grid_char-of_last, grid_char-of_empty}
-
--- a table has the values of a function, from k on
-unfoldable pub tabulates : (ℕ → ℕ) → ℕ → List ℕ → Bool
-tabulates f k [] = true
-tabulates f k (x ∷ xs) = x == f k && tabulates f (k + 1) xs
-
-tabulated_from : (f : ℕ → ℕ) (k : ℕ) (xs : List ℕ) → tabulates f k xs ≡ true → (i : ℕ)
-    → i < length xs
-    → get_or xs i 0 ≡ f (k + i)
-unfolding tabulates
-tabulated_from f k [] is_tabulated i l = absurd (omega arith)
-tabulated_from f k (x ∷ xs) is_tabulated zero l =
-    eqb-true x (f k) (and_parts (x == f k) (tabulates f (k + 1) xs) is_tabulated).0
-    ∙ ap f (omega arith)
-tabulated_from f k (x ∷ xs) is_tabulated (suc i) l =
-    tabulated_from f (k + 1) xs (and_parts (x == f k) (tabulates f (k + 1) xs) is_tabulated).1 i
-    (omega arith)
-    ∙ ap f (omega arith)
-
-pub tabulated : (f : ℕ → ℕ) (xs : List ℕ) → tabulates f 0 xs ≡ true → (i : ℕ) → i < length xs
-    → get_or xs i 0 ≡ f i
-tabulated f xs h i l = tabulated_from f 0 xs h i l ∙ ap f (omega arith)
-
--- a table of rows, and of columns from 256 on
-abbrev pub both : (ℕ → ℕ) → (ℕ → ℕ) → ℕ → ℕ
-both rows columns i = cond (nat_lt i 256) (rows i) (columns (i - 256))
-
-module _ (rows columns : ℕ → ℕ) (xs : List ℕ)
-    (is_tabulated : tabulates (both rows columns) 0 xs ≡ true)
-    (long : length xs ≡ 512) where
-  pub row_in : (a : ℕ) → a < 256 → get_or xs a 0 ≡ rows a
-  row_in a l = tabulated (both rows columns) xs is_tabulated a (omega arith)
-      ∙ cond-true _ _ _ (lt-ltb a 256 l)
-
-  pub column_in : (b : ℕ) → b < 256 → get_or xs (256 + b) 0 ≡ columns b
-  column_in b l =
-      tabulated (both rows columns) xs is_tabulated (256 + b) (omega arith)
-      ∙ cond-false _ _ _ (le-ltb (256 + b) 256 (omega arith)) ∙ ap columns (omega arith)
 
 pub same_some : (b c : ℕ) → Some b ≡ Some c → b ≡ c
 same_some b c e = cc
@@ -124,3 +86,9 @@ module _ (grid : Grid) (is_lead is_trail : ℕ → Bool) (row extra column : ℕ
           → cond t (column b) (grid_width grid) ≤ grid_width grid
       bounded true h = omega (arith, h refl)
       bounded false h = omega arith
+
+-- places of a property are places of one that follows from it
+pub places_of : {grid : Grid} {P Q : ℕ → Type 0} {place : ℕ} → IsPlaceOf grid P place
+    → ((c : ℕ) → P c → Q c)
+    → IsPlaceOf grid Q place
+places_of at h = record { within = at.within; char = λ c e. h c (at.char c e) }

@@ -1,6 +1,7 @@
 -- Grids: double-byte indexes laid out by rows, in which the place of two bytes is a sum.
 -- Rows by index are written by scripts/make-codecs from data/codecs.txt.
-use Rattle.std.specs.Prelude.{◌≡◌, ℕ, ◌+◌, ◌-◌, ◌*◌, ◌/◌, ◌%◌, ◌≤◌, nat_lt, Option, Some, None, take, if◌then◌else◌}
+use Rattle.std.specs.Prelude.{◌≡◌, ℕ, ◌+◌, ◌-◌, ◌*◌, ◌/◌, ◌%◌, ◌<◌, ◌≤◌, nat_lt, Option, Some, None, List, take}
+use Rattle.std.specs.Prelude.{slice_index, if◌then◌else◌}
 use Rattle.std.specs.Char.{IsScalar, encode_utf8}
 use Rattle.std.specs.Int.{to_le_bytes, w32}
 use Rattle.enc_index.specs.declared.grid.Grid.{Grid}
@@ -66,3 +67,14 @@ pub record HasWord (character : Option ℕ) (word : ℕ) : Type 0 where
   pub c : ℕ
   pub is : character ≡ Some c
   pub utf8 : IsUtf8Word c word
+
+-- A place of the grid. The character there, if there is one, has this property.
+pub record IsPlaceOf (grid : Grid) (P : ℕ → Type 0) (place : ℕ) : Type 0 where
+  pub within : place < grid_len grid
+  pub char : (c : ℕ) → grid_char grid place ≡ Some c → P c
+
+-- Sixteen places of the grid. The character at each is that of its two bytes.
+abbrev pub ArePairPlaces : Grid → (ℕ → ℕ → ℕ → Type 0) → List ℕ → List ℕ → List ℕ → Type 0
+ArePairPlaces grid IsPair places first second =
+    (i : ℕ) → i < 16
+    → IsPlaceOf grid (IsPair (slice_index first i) (slice_index second i)) (slice_index places i)

@@ -1,10 +1,11 @@
 //! Characters of one byte or two, eight at a time, with no branch on their lengths.
 
-ghost use Rattle.std.specs.Prelude.{◌≡◌, ◌+◌, ◌<◌, ◌≤◌, length, take, drop};
+ghost use Rattle.std.specs.Prelude.{◌≡◌, ℕ, ◌+◌, ◌<◌, ◌≤◌, List, length, take, drop};
 ghost use Rattle.std.specs.Char.{encode_utf8};
 ghost use Rattle.std.specs.Char.Escape.{encode_utf16};
 ghost use Rattle.enc_units.specs.Gathering.{GathersChars};
 ghost use Rattle.enc_units.specs.Pairs.{four_ends};
+ghost use Rattle.enc_units.specs.Places.{ArePlaces, EachIsPlace};
 
 use crate::ascii::are_ascii;
 use crate::ends::ENDS;
@@ -27,26 +28,28 @@ fn ends_of(leads: u64) -> [u8; 4]
 }
 
 /// Stores the UTF-8 of four characters, or of those before one that is not known, after the first
-/// `at` bytes of a buffer.
+/// `at` bytes of a buffer. The first has the place with the number `from`, and `leads` begins there.
 ///
-/// Returns how many bytes of `src` they have from `from` on, the end of their UTF-8, and whether
-/// they are four.
+/// Returns the number of bytes of the characters, the end of their UTF-8, and whether they are four.
 #[inline(always)]
 fn store_four<P: Pieces>(
     pieces: P,
     buffer: &mut [u8],
     at: usize,
-    src: &[u8],
+    places: &[u16; 16],
     from: usize,
     leads: u64,
 ) -> (usize, usize, bool)
-    requires from { from + 8 ≤ length src.now }
+    requires from { from ≤ 8 }
+    requires places { EachIsPlace (P.stands_for pieces) places.now }
     requires room { at + 16 ≤ length buffer.old }
     ensures read { result.0 ≤ 8 }
     ensures bound { result.1 ≤ at + 16 }
     ensures len { length buffer.new ≡ length buffer.old }
-    ensures gathers { GathersChars encode_utf8 (P.means pieces) (drop from src.now) result.0
-        (take at buffer.old) (take result.1 buffer.new) }
+    ensures gathers { (src : List ℕ) → 8 ≤ length src
+        → ArePlaces (P.stands_for pieces) 8 (drop from places.now) leads src (drop 1 src)
+        → GathersChars encode_utf8 (P.means pieces) src result.0
+            (take at buffer.old) (take result.1 buffer.new) }
 {
     let ends = ends_of(leads);
     let mut read = 0;
@@ -54,7 +57,7 @@ fn store_four<P: Pieces>(
     let mut count = 0;
     while count < 4 {
         let next = ends[count] as usize;
-        let word = pieces.word(next - read == 2, src[from + read], src[from + read + 1]);
+        let word = pieces.word_at(places[from + read]);
         if word == 0 {
             return (read, end, false);
         }
@@ -71,18 +74,19 @@ fn store_eight<P: Pieces>(
     pieces: P,
     buffer: &mut [u8],
     at: usize,
-    src: &[u8],
-    from: usize,
+    places: &[u16; 16],
     leads: u64,
 ) -> (usize, usize)
-    requires from { from + 16 ≤ length src.now }
+    requires places { EachIsPlace (P.stands_for pieces) places.now }
     requires room { at + 32 ≤ length buffer.old }
     ensures bound { result.1 ≤ at + 32 }
     ensures len { length buffer.new ≡ length buffer.old }
-    ensures gathers { GathersChars encode_utf8 (P.means pieces) (drop from src.now) result.0
-        (take at buffer.old) (take result.1 buffer.new) }
+    ensures gathers { (src : List ℕ) → 16 ≤ length src
+        → ArePlaces (P.stands_for pieces) 16 places.now leads src (drop 1 src)
+        → GathersChars encode_utf8 (P.means pieces) src result.0
+            (take at buffer.old) (take result.1 buffer.new) }
 {
-    let (first, end, is_whole) = store_four(pieces, buffer, at, src, from, leads);
+    let (first, end, is_whole) = store_four(pieces, buffer, at, places, 0, leads);
     if !is_whole {
         return (first, end);
     }
@@ -90,8 +94,8 @@ fn store_eight<P: Pieces>(
         pieces,
         buffer,
         end,
-        src,
-        from + first,
+        places,
+        first,
         leads >> first as u64,
     );
     (first + second, end)
@@ -103,17 +107,20 @@ fn store_four_units<P: Pieces>(
     pieces: P,
     buffer: &mut [u16],
     at: usize,
-    src: &[u8],
+    places: &[u16; 16],
     from: usize,
     leads: u64,
 ) -> (usize, usize, bool)
-    requires from { from + 8 ≤ length src.now }
+    requires from { from ≤ 8 }
+    requires places { EachIsPlace (P.stands_for pieces) places.now }
     requires room { at + 4 ≤ length buffer.old }
     ensures read { result.0 ≤ 8 }
     ensures bound { result.1 ≤ at + 4 }
     ensures len { length buffer.new ≡ length buffer.old }
-    ensures gathers { GathersChars encode_utf16 (P.means pieces) (drop from src.now) result.0
-        (take at buffer.old) (take result.1 buffer.new) }
+    ensures gathers { (src : List ℕ) → 8 ≤ length src
+        → ArePlaces (P.stands_for pieces) 8 (drop from places.now) leads src (drop 1 src)
+        → GathersChars encode_utf16 (P.means pieces) src result.0
+            (take at buffer.old) (take result.1 buffer.new) }
 {
     let ends = ends_of(leads);
     let mut read = 0;
@@ -121,7 +128,7 @@ fn store_four_units<P: Pieces>(
     let mut count = 0;
     while count < 4 {
         let next = ends[count] as usize;
-        let unit = pieces.unit(next - read == 2, src[from + read], src[from + read + 1]);
+        let unit = pieces.unit_at(places[from + read]);
         if unit == 0 {
             return (read, end, false);
         }
@@ -139,18 +146,19 @@ fn store_eight_units<P: Pieces>(
     pieces: P,
     buffer: &mut [u16],
     at: usize,
-    src: &[u8],
-    from: usize,
+    places: &[u16; 16],
     leads: u64,
 ) -> (usize, usize)
-    requires from { from + 16 ≤ length src.now }
+    requires places { EachIsPlace (P.stands_for pieces) places.now }
     requires room { at + 8 ≤ length buffer.old }
     ensures bound { result.1 ≤ at + 8 }
     ensures len { length buffer.new ≡ length buffer.old }
-    ensures gathers { GathersChars encode_utf16 (P.means pieces) (drop from src.now) result.0
-        (take at buffer.old) (take result.1 buffer.new) }
+    ensures gathers { (src : List ℕ) → 16 ≤ length src
+        → ArePlaces (P.stands_for pieces) 16 places.now leads src (drop 1 src)
+        → GathersChars encode_utf16 (P.means pieces) src result.0
+            (take at buffer.old) (take result.1 buffer.new) }
 {
-    let (first, end, is_whole) = store_four_units(pieces, buffer, at, src, from, leads);
+    let (first, end, is_whole) = store_four_units(pieces, buffer, at, places, 0, leads);
     if !is_whole {
         return (first, end);
     }
@@ -158,8 +166,8 @@ fn store_eight_units<P: Pieces>(
         pieces,
         buffer,
         end,
-        src,
-        from + first,
+        places,
+        first,
         leads >> first as u64,
     );
     (first + second, end)
@@ -200,8 +208,12 @@ impl<P: Pieces> Gather for Pairs<P> {
                 written += 16;
                 continue;
             }
-            let leads = self.pieces.leads(lanes);
-            let (more, end) = store_eight(self.pieces, buffer, written, src, read, leads);
+            let next = u8x16::from_slice(&src[read + 1..]);
+            let Some(found) = self.pieces.places(lanes, next) else {
+                break;
+            };
+            let places = found.places.to_array();
+            let (more, end) = store_eight(self.pieces, buffer, written, &places, found.leads);
             read += more;
             written = end;
             if more > 0 {
@@ -235,8 +247,12 @@ impl<P: Pieces> Gather for Pairs<P> {
                 written += 16;
                 continue;
             }
-            let leads = self.pieces.leads(lanes);
-            let (more, end) = store_eight_units(self.pieces, buffer, written, src, read, leads);
+            let next = u8x16::from_slice(&src[read + 1..]);
+            let Some(found) = self.pieces.places(lanes, next) else {
+                break;
+            };
+            let places = found.places.to_array();
+            let (more, end) = store_eight_units(self.pieces, buffer, written, &places, found.leads);
             read += more;
             written = end;
             if more > 0 {

@@ -5,7 +5,9 @@ ghost use Rattle.enc_units.specs.Pieces.{PutsPieces};
 ghost use Rattle.enc_units.specs.Mappings.{AreWrittenAsThemselves};
 ghost use Rattle.enc_units.specs.CodeUnits.{AreCodeUnits};
 ghost use Rattle.enc_units.specs.Pairs.{byte_or_pair, MeansWord, MeansUnit};
+ghost use Rattle.enc_units.specs.Places.{ArePlaces, IsPlace};
 
+use crate::places::Places;
 use crate::units::Units;
 use std::simd::prelude::*;
 
@@ -13,6 +15,9 @@ use std::simd::prelude::*;
 pub trait Pieces: Copy {
     // the bytes mean the character
     ghost means: { Self → List ℕ → ℕ → Type 0 };
+
+    // at the place these bytes are looked up
+    ghost stands_for: { Self → ℕ → List ℕ → Type 0 };
 
     /// Returns the character whose bytes begin at `at`, and their number, at least one.
     ///
@@ -50,7 +55,7 @@ pub trait Pieces: Copy {
         None
     }
 
-    /// Returns whether looking characters up by `word` and `unit` pays: most have one byte or two.
+    /// Returns whether looking characters up by their places pays: most have one byte or two.
     ///
     /// The output is the same either way. Takes no memory.
     fn are_pairs(self) -> bool {
@@ -58,7 +63,7 @@ pub trait Pieces: Copy {
         false
     }
 
-    /// Returns how many characters of a run are written one by one, before lookups by `word`.
+    /// Returns how many characters of a run are written one by one, before lookups by places.
     ///
     /// Some if runs of random bytes are short, and none if they are long or the runs of a text are
     /// short too. The output is the same for every number. Takes no memory.
@@ -67,14 +72,46 @@ pub trait Pieces: Copy {
         0
     }
 
-    /// Returns which of sixteen bytes are the lead of a pair, the first in the lowest bit.
+    /// Returns the places at which sixteen bytes are looked up, each with the byte after it if it
+    /// leads a pair.
     ///
-    /// It is a guess, for bytes at which a character begins: a wrong one costs time, and changes no
-    /// output. Takes no memory.
+    /// Which bytes lead a pair is a guess, for bytes at which a character begins: a wrong one costs
+    /// time, and changes no output. `None` if there are no pairs. No branch and no load. Takes no
+    /// memory.
     #[inline(always)]
-    fn leads(self, bytes: u8x16) -> u64 {
+    fn places(self, first: u8x16, second: u8x16) -> Option<Places>
+        ensures { IfSome result (λ p. ArePlaces (stands_for self) 16 p.places p.leads first second) }
+    {
         let _pieces = self;
-        bytes.simd_ge(u8x16::splat(0x80)).to_bitmask()
+        let _bytes = (first, second);
+        None
+    }
+
+    /// Returns the UTF-8 of the character at a place, as a word.
+    ///
+    /// The word is that of `word`. 0 if there is no character, or none that is known. One load.
+    /// Takes no memory.
+    #[inline(always)]
+    fn word_at(self, place: u16) -> u32
+        requires { IsPlace (stands_for self) place }
+        ensures { 0 < result → (bytes : List ℕ) → stands_for self place bytes
+            → MeansWord (means self) bytes result }
+    {
+        let _pieces = self;
+        let _place = place;
+        0
+    }
+
+    /// Returns the same character as a code unit of UTF-16, or 0. Takes no memory.
+    #[inline(always)]
+    fn unit_at(self, place: u16) -> u16
+        requires { IsPlace (stands_for self) place }
+        ensures { 0 < result → (bytes : List ℕ) → stands_for self place bytes
+            → MeansUnit (means self) bytes result }
+    {
+        let _pieces = self;
+        let _place = place;
+        0
     }
 
     /// Returns the UTF-8 of the character that the first byte is, or the pair, as a word.

@@ -1,6 +1,17 @@
-use Rattle.enc_units.proofs.GatherLemmas.{gathers_on}
+use Rattle.std.proofs.Common.{arith, drop, length-drop}
+use Rattle.enc_units.proofs.GatherLemmas.{gathers_then}
+use Rattle.enc_units.proofs.PairsLemmas.{places_after}
 use Rattle.enc_units.proofs.pairs.store_eight.Goals as goal
 
+pub returns-then-not-is_whole-clause-gathers : goal.returns-then-not-is_whole-clause-gathers
+returns-then-not-is_whole-clause-gathers g c src long are =
+    c.store_four-first.ensures.gathers src (omega (arith, long)) (λ i l. are i (omega arith))
+
 pub returns-clause-gathers : goal.returns-clause-gathers
-returns-clause-gathers g c =
-    gathers_on _ _ c.store_four-first.ensures.gathers c.store_four-second.ensures.gathers
+returns-clause-gathers g c src long are =
+    let first = c.store_four-first.result.0 in
+    let few = c.store_four-first.ensures.read in
+    gathers_then
+    (c.store_four-first.ensures.gathers src (omega (arith, long)) (λ i l. are i (omega arith)))
+    (c.store_four-second.ensures.gathers (drop first src)
+    (omega (arith, long, few, length-drop first src)) (places_after first few are))
