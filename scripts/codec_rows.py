@@ -211,7 +211,6 @@ ROWS = {
         "src/lib.rt": [Rows("codecs of bytes")],
         "specs/Lib.antt": [Rows("codecs of bytes")],
         "proofs/PairLemmas.antt": [Rows("codecs of pairs", own=("Big5", "ShiftJis"))],
-        "proofs/PairPlaces.antt": [Rows("pairs", "C", own=("Big5", "ShiftJis"), kinds=("numbers",))],
     },
     "enc_codec": {
         "src/choice.rt": [Rows("codecs", own=("Utf16Be", "Utf16Le", "SingleByte", "Gbk"))],
@@ -313,7 +312,6 @@ COUNTS = {
 # Files that are a row by themselves.
 WHOLE = {
     "crates/enc_index_pointers/proofs/pointers/euc_kr/Answers.antt": Rows("look-ups"),
-    "crates/enc_decoder_multi_byte/proofs/euc_kr/EucKrDoubleByte/pair_place/Answers.antt": Rows("codecs of pairs"),
 }
 
 # Documents that name each of some kind in a sentence, after the name of the one before.

@@ -1,6 +1,5 @@
 -- Two bytes have the place of their character in the grid of each encoding, by the numbers of lead
 -- bytes and of trail bytes.
--- Rows by codec are written by scripts/make-codecs from data/codecs.txt.
 use Rattle.std.proofs.Common.{◌≡◌, ◌∙◌, ℕ, ◌+◌, ◌-◌, ◌*◌, ◌/◌, ◌%◌, ◌<◌, Bool, true, false, cond, ◌&&◌, ◌||◌, ◌==◌}
 use Rattle.std.proofs.Common.{nat_le, nat_lt, Some, None}
 use Rattle.std.proofs.Common.{refl, ap, arith}

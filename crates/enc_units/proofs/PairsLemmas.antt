@@ -105,11 +105,15 @@ pub end_goes : (leads k read : ℕ) (ends : List ℕ) → ends ≡ four_ends lea
 end_goes leads k read ends is l e few =
     let row : row_ok (leads % 0x100) ends ≡ true =
     subst (λ r. row_ok (leads % 0x100) r ≡ true) (sym is)
-    (row_is_ok 0 ENDS ends_are_ok (leads % 0x100) (omega (arith, ends_count))) in
+    (subst (λ mask. row_ok mask (four_ends leads) ≡ true) from_zero
+    (row_is_ok 0 ENDS ends_are_ok (leads % 0x100) (omega (arith, ends_count)))) in
     let next : get_or ends k 0 ≡ read + 1 + leads % 0x100 / 2 ^ read % 2 =
     eqb-true _ _ (subst (λ x. goes (leads % 0x100) x (get_or ends k 0) ≡ true) (sym e)
     (row_goes (leads % 0x100) ends row k l)) in
     next ∙ ap (λ x. read + 1 + x) (low_bit leads read few)
+  where
+    from_zero : 0 + leads % 0x100 ≡ leads % 0x100
+    from_zero = omega arith
 
 one_or_two : (a b bit : ℕ) → b ≡ a + 1 + bit % 2 → (a < b) × (b ≤ a + 2)
 one_or_two a b bit e = (omega arith, omega arith)
@@ -198,60 +202,63 @@ module _ (Means : List ℕ → ℕ → Type 0) (src : List ℕ) (leads read next
 
 -- places
 
-module _ {StandsFor : ℕ → List ℕ → Type 0} {places : List ℕ} {leads : ℕ} {src : List ℕ} where
-  -- the place of the character that begins at `read`
-  pub place_of_next : {n : ℕ} (from read : ℕ) → read < n
-      → ArePlaces StandsFor n (drop from places) leads src (drop 1 src)
-      → StandsFor (get_or places (from + read) 0)
-      (byte_or_pair (has_bit leads read) (get_or src read 0) (get_or (drop 1 src) read 0))
-  place_of_next from read l are =
-      subst (λ p. StandsFor p (byte_or_pair (has_bit leads read) (get_or src read 0)
-      (get_or (drop 1 src) read 0)))
-      (get_or_drop from read places) (are read l)
+bit_after : (leads n i : ℕ) → leads / 2 ^ n / 2 ^ i ≡ leads / 2 ^ (n + i)
+bit_after leads n i =
+    div-div-eq-div-mul leads (2 ^ n) (2 ^ i) ∙ ap (λ m. leads / m) (sym (pow-add 2 n i))
 
-  bit_after : (n i : ℕ) → leads / 2 ^ n / 2 ^ i ≡ leads / 2 ^ (n + i)
-  bit_after n i = div-div-eq-div-mul leads (2 ^ n) (2 ^ i) ∙ ap (λ m. leads / m) (sym (pow-add 2 n i))
-
-  second_after : (n i : ℕ)
-      → get_or (drop 1 src) (n + i) 0 ≡ get_or (drop 1 (drop n src)) i 0
-  second_after n i =
-      get_or_drop 1 (n + i) src ∙ ap (λ k. get_or src k 0) same
-      ∙ sym (get_or_drop 1 i (drop n src) ∙ get_or_drop n (1 + i) src)
-    where
-      same : 1 + (n + i) ≡ n + (1 + i)
-      same = omega arith
-
-  -- the places of the bytes after the first n
-  pub places_after : (n : ℕ) → n ≤ 8
-      → ArePlaces StandsFor 16 places leads src (drop 1 src)
-      → ArePlaces StandsFor 8 (drop n places) (leads / 2 ^ n) (drop n src) (drop 1 (drop n src))
-  places_after n few are i l =
-      subst (λ p. StandsFor p (byte_or_pair (has_bit (leads / 2 ^ n) i) (get_or (drop n src) i 0)
-      (get_or (drop 1 (drop n src)) i 0))) (sym (get_or_drop n i places))
-      (subst (λ b. StandsFor (get_or places (n + i) 0)
-      (byte_or_pair (b % 2 == 1) (get_or (drop n src) i 0) (get_or (drop 1 (drop n src)) i 0)))
-      (sym (bit_after n i))
-      (subst (λ a. StandsFor (get_or places (n + i) 0) (byte_or_pair (has_bit leads (n + i)) a
-      (get_or (drop 1 (drop n src)) i 0))) (sym (get_or_drop n i src))
-      (subst (λ b. StandsFor (get_or places (n + i) 0) (byte_or_pair (has_bit leads (n + i))
-      (get_or src (n + i) 0) b)) (second_after n i) (are (n + i) (omega arith)))))
-
--- the places of sixteen bytes that were loaded, as those of the rest of the input
-pub places_of_rest : {StandsFor : ℕ → List ℕ → Type 0} {places : List ℕ} {leads : ℕ} (src : List ℕ)
-    (read : ℕ)
-    → ArePlaces StandsFor 16 places leads (take 16 (drop read src)) (take 16 (drop (read + 1) src))
-    → ArePlaces StandsFor 16 places leads (drop read src) (drop 1 (drop read src))
-places_of_rest {StandsFor} {places} {leads} src read are i l =
-    subst (λ b. StandsFor (get_or places i 0) (byte_or_pair (has_bit leads i)
-    (get_or (drop read src) i 0) b)) second_is
-    (subst (λ a. StandsFor (get_or places i 0) (byte_or_pair (has_bit leads i) a
-    (get_or (take 16 (drop (read + 1) src)) i 0))) (get_or-take 16 (drop read src) i 0 l) (are i l))
+second_after : (src : List ℕ) (n i : ℕ)
+    → get_or (drop 1 src) (n + i) 0 ≡ get_or (drop 1 (drop n src)) i 0
+second_after src n i =
+    get_or_drop 1 (n + i) src ∙ ap (λ k. get_or src k 0) same
+    ∙ sym (get_or_drop 1 i (drop n src) ∙ get_or_drop n (1 + i) src)
   where
-    same : read + 1 + i ≡ read + (1 + i)
+    same : 1 + (n + i) ≡ n + (1 + i)
     same = omega arith
 
-    second_is : get_or (take 16 (drop (read + 1) src)) i 0 ≡ get_or (drop 1 (drop read src)) i 0
-    second_is =
-        get_or-take 16 (drop (read + 1) src) i 0 l ∙ get_or_drop (read + 1) i src
-        ∙ ap (λ k. get_or src k 0) same
-        ∙ sym (get_or_drop 1 i (drop read src) ∙ get_or_drop read (1 + i) src)
+module _ (StandsFor : ℕ → List ℕ → Type 0) (places : List ℕ) (leads : ℕ) where
+  -- where a byte, or it and another, is looked up
+  abbrev Stands : ℕ → Bool → ℕ → ℕ → Type 0
+  Stands place is_pair a b = StandsFor place (byte_or_pair is_pair a b)
+
+  -- the place of the character that begins at `read`
+  pub place_of_next : (src : List ℕ) (from read : ℕ) → read < 8
+      → ArePlaces StandsFor 8 (drop from places) leads src (drop 1 src)
+      → Stands (get_or places (from + read) 0) (has_bit leads read) (get_or src read 0)
+      (get_or (drop 1 src) read 0)
+  place_of_next src from read l are =
+      subst (λ p. Stands p (has_bit leads read) (get_or src read 0) (get_or (drop 1 src) read 0))
+      (get_or_drop from read places) (are read l)
+
+  -- the places of the bytes after the first n
+  pub places_after : (src : List ℕ) (n : ℕ) → n ≤ 8
+      → ArePlaces StandsFor 16 places leads src (drop 1 src)
+      → ArePlaces StandsFor 8 (drop n places) (leads / 2 ^ n) (drop n src) (drop 1 (drop n src))
+  places_after src n few are i l =
+      subst (λ p. Stands p (has_bit (leads / 2 ^ n) i) (get_or (drop n src) i 0)
+      (get_or (drop 1 (drop n src)) i 0)) (sym (get_or_drop n i places))
+      (subst (λ b. Stands (get_or places (n + i) 0) (b % 2 == 1) (get_or (drop n src) i 0)
+      (get_or (drop 1 (drop n src)) i 0)) (sym (bit_after leads n i))
+      (subst (λ a. Stands (get_or places (n + i) 0) (has_bit leads (n + i)) a
+      (get_or (drop 1 (drop n src)) i 0)) (sym (get_or_drop n i src))
+      (subst (λ b. Stands (get_or places (n + i) 0) (has_bit leads (n + i))
+      (get_or src (n + i) 0) b) (second_after src n i) (are (n + i) (omega arith)))))
+
+  -- the places of sixteen bytes that were loaded, as those of the rest of the input
+  pub places_of_rest : (src : List ℕ) (read : ℕ)
+      → ArePlaces StandsFor 16 places leads (take 16 (drop read src))
+      (take 16 (drop (read + 1) src))
+      → ArePlaces StandsFor 16 places leads (drop read src) (drop 1 (drop read src))
+  places_of_rest src read are i l =
+      subst (λ b. Stands (get_or places i 0) (has_bit leads i) (get_or (drop read src) i 0) b)
+      second_is
+      (subst (λ a. Stands (get_or places i 0) (has_bit leads i) a
+      (get_or (take 16 (drop (read + 1) src)) i 0)) (get_or-take 16 (drop read src) i 0 l) (are i l))
+    where
+      same : read + 1 + i ≡ read + (1 + i)
+      same = omega arith
+
+      second_is : get_or (take 16 (drop (read + 1) src)) i 0 ≡ get_or (drop 1 (drop read src)) i 0
+      second_is =
+          get_or-take 16 (drop (read + 1) src) i 0 l ∙ get_or_drop (read + 1) i src
+          ∙ ap (λ k. get_or src k 0) same
+          ∙ sym (get_or_drop 1 i (drop read src) ∙ get_or_drop read (1 + i) src)

@@ -15,11 +15,11 @@ use Rattle.enc_units.proofs.Utf8UnitLanes.{product_lanes, at_least_lanes, chosen
 abbrev lane_numbers : List ℕ
 lane_numbers = range_with_len 0 16
 
-own_lanes : (xs : List ℕ) → length xs ≡ 16 → IsLanes xs (λ k. get_or xs k 0)
+pub own_lanes : (xs : List ℕ) → length xs ≡ 16 → IsLanes xs (λ k. get_or xs k 0)
 own_lanes xs long = record { is = sym (pick_l_whole 0 xs 16 long) }
 
 -- lanes of bytes that a comparison chooses
-chosen_bytes : (t : ℕ → Bool) {f g : ℕ → ℕ} {m xs ys : List ℕ}
+pub chosen_bytes : (t : ℕ → Bool) {f g : ℕ → ℕ} {m xs ys : List ℕ}
     → IsLanes m (λ k. cond (t k) 255 0) → IsLanes xs f
     → IsLanes ys g
     → IsLanes (sel_l (map (top 7) m) xs ys) (λ k. cond (t k) (f k) (g k))

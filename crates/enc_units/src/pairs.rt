@@ -28,9 +28,9 @@ fn ends_of(leads: u64) -> [u8; 4]
 }
 
 /// Stores the UTF-8 of four characters, or of those before one that is not known, after the first
-/// `at` bytes of a buffer. The first has the place with the number `from`, and `leads` begins there.
+/// `at` bytes of a buffer. The first has place number `from`, and its bit is the lowest of `leads`.
 ///
-/// Returns the number of bytes of the characters, the end of their UTF-8, and whether they are four.
+/// Returns how many bytes the characters have, the end of their UTF-8, and whether they are four.
 #[inline(always)]
 fn store_four<P: Pieces>(
     pieces: P,
@@ -49,7 +49,7 @@ fn store_four<P: Pieces>(
     ensures gathers { (src : List ℕ) → 8 ≤ length src
         → ArePlaces (P.stands_for pieces) 8 (drop from places.now) leads src (drop 1 src)
         → GathersChars encode_utf8 (P.means pieces) src result.0
-            (take at buffer.old) (take result.1 buffer.new) }
+        (take at buffer.old) (take result.1 buffer.new) }
 {
     let ends = ends_of(leads);
     let mut read = 0;
@@ -79,25 +79,19 @@ fn store_eight<P: Pieces>(
 ) -> (usize, usize)
     requires places { EachIsPlace (P.stands_for pieces) places.now }
     requires room { at + 32 ≤ length buffer.old }
+    ensures read { result.0 ≤ 16 }
     ensures bound { result.1 ≤ at + 32 }
     ensures len { length buffer.new ≡ length buffer.old }
     ensures gathers { (src : List ℕ) → 16 ≤ length src
         → ArePlaces (P.stands_for pieces) 16 places.now leads src (drop 1 src)
         → GathersChars encode_utf8 (P.means pieces) src result.0
-            (take at buffer.old) (take result.1 buffer.new) }
+        (take at buffer.old) (take result.1 buffer.new) }
 {
     let (first, end, is_whole) = store_four(pieces, buffer, at, places, 0, leads);
     if !is_whole {
         return (first, end);
     }
-    let (second, end, _) = store_four(
-        pieces,
-        buffer,
-        end,
-        places,
-        first,
-        leads >> first as u64,
-    );
+    let (second, end, _) = store_four(pieces, buffer, end, places, first, leads >> first as u64);
     (first + second, end)
 }
 
@@ -120,7 +114,7 @@ fn store_four_units<P: Pieces>(
     ensures gathers { (src : List ℕ) → 8 ≤ length src
         → ArePlaces (P.stands_for pieces) 8 (drop from places.now) leads src (drop 1 src)
         → GathersChars encode_utf16 (P.means pieces) src result.0
-            (take at buffer.old) (take result.1 buffer.new) }
+        (take at buffer.old) (take result.1 buffer.new) }
 {
     let ends = ends_of(leads);
     let mut read = 0;
@@ -151,12 +145,13 @@ fn store_eight_units<P: Pieces>(
 ) -> (usize, usize)
     requires places { EachIsPlace (P.stands_for pieces) places.now }
     requires room { at + 8 ≤ length buffer.old }
+    ensures read { result.0 ≤ 16 }
     ensures bound { result.1 ≤ at + 8 }
     ensures len { length buffer.new ≡ length buffer.old }
     ensures gathers { (src : List ℕ) → 16 ≤ length src
         → ArePlaces (P.stands_for pieces) 16 places.now leads src (drop 1 src)
         → GathersChars encode_utf16 (P.means pieces) src result.0
-            (take at buffer.old) (take result.1 buffer.new) }
+        (take at buffer.old) (take result.1 buffer.new) }
 {
     let (first, end, is_whole) = store_four_units(pieces, buffer, at, places, 0, leads);
     if !is_whole {

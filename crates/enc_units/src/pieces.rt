@@ -80,7 +80,8 @@ pub trait Pieces: Copy {
     /// memory.
     #[inline(always)]
     fn places(self, first: u8x16, second: u8x16) -> Option<Places>
-        ensures { IfSome result (λ p. ArePlaces (stands_for self) 16 p.places p.leads first second) }
+        ensures { IfSome result
+            (λ p. ArePlaces (stands_for self) 16 p.places p.leads first second) }
     {
         let _pieces = self;
         let _bytes = (first, second);

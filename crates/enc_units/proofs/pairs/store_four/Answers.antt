@@ -11,6 +11,12 @@ pub word_at-word-requires : goal.word_at-word-requires
 word_at-word-requires g c =
     c.requires.places (c.args.from + c.loop-count.read) (omega (arith, c.loop-count.invariant.2))
 
+pub store_word-end-requires-clause-bound : goal.store_word-end-requires-clause-bound
+store_word-end-requires-clause-bound g c =
+    let known = c.requires.places (c.args.from + c.loop-count.read)
+    (omega (arith, c.loop-count.invariant.2)) in
+    (c.word_at-word.ensures (omega arith) known.0 known.1).bound
+
 pub loop-count-preserved : goal.loop-count-preserved
 loop-count-preserved g c =
     let invariant = c.loop-count.invariant in
@@ -31,7 +37,8 @@ loop-count-preserved g c =
       λ src long are. gathers_word _ src c.args.leads read _ next
           (omega (arith, invariant.2, long))
           (c.word_at-word.ensures (omega arith) _
-          (place_of_next c.args.from read (omega (arith, invariant.2)) are))
+          (place_of_next (g.P.Pieces.stands_for c.args.pieces) c.args.places.now c.args.leads src
+          c.args.from read (omega (arith, invariant.2)) are))
           (invariant.5 src long are)
           stored.stored,
     )

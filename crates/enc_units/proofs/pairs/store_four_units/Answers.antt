@@ -30,7 +30,8 @@ loop-count-preserved g c =
           (omega (arith, invariant.2, long))
           (omega arith)
           (c.unit_at-unit.ensures (omega arith) _
-          (place_of_next c.args.from read (omega (arith, invariant.2)) are))
+          (place_of_next (g.P.Pieces.stands_for c.args.pieces) c.args.places.now c.args.leads src
+          c.args.from read (omega (arith, invariant.2)) are))
           (invariant.5 src long are)
           (take_more_set c.loop-count.buffer c.loop-count.end c.unit_at-unit.result (omega arith)),
     )

@@ -1,4 +1,3 @@
--- scripts/make-codecs writes one for each codec like this one, from data/codecs.txt.
 use Rattle.std.proofs.Common.{◌∙◌, ap}
 use Rattle.std.proofs.lemmas.Simd.{get_or-replicate}
 use Rattle.enc_units.specs.Places.{number_in}
