@@ -465,9 +465,9 @@ module _ {units_of : ℕ → List ℕ} {old : Remainder} {src : List ℕ} (bytes
         ∙ sym (append-nil (sequence_bytes run.taken))
         ∙ ap (λ q. sequence_bytes run.taken ++ q) (sym none_pending)
     | inr none ↦
-        let zero : n ≡ 0 = omega arith in
-        ap (λ k. v.pending ++ take k unread) zero ∙ append-nil v.pending
-        ∙ sym (ap (λ ss. sequence_bytes ss ++ v.pending) (run.none_taken zero))
+        let none_read : n ≡ 0 = omega arith in
+        ap (λ k. v.pending ++ take k unread) none_read ∙ append-nil v.pending
+        ∙ sym (ap (λ ss. sequence_bytes ss ++ v.pending) (run.none_taken none_read))
   ]
 
   none_after_in : (n ≡ 0)
