@@ -8,38 +8,93 @@ use Rattle.enc_decoder.specs.declared.byte_codec.Kind.TheVariants.{Valid}
 use Rattle.enc_decoder.specs.Sequence.{Sequence, sequence_bytes, sequence_text, any_malformed, set_after}
 use Rattle.enc_decoder.specs.Segmentation.{Rule, sequences_of}
 use Rattle.enc_decoder.specs.CodecState.{CodecState}
-use Rattle.enc_decoder.specs.Taking.{TakesRun, IsWholeChar}
+use Rattle.enc_decoder.specs.Taking.{TakesSequences, TakesRun, IsWholeChar, IsReplacedChar}
 
-abbrev whole : ℕ → List Piece → List Sequence
-whole set [] = []
-whole set (p ∷ ps) = record { bytes = p.bytes; text = p.char ∷ []; kind = Valid; set = set }
-    ∷ whole set ps
+-- the sequences of pieces, each of its kind
+abbrev whole : (rule : Rule) (set : ℕ) (ps : List Piece) → EachMeansChar (IsReplacedChar rule set) ps
+    → List Sequence
+whole rule set [] mean = []
+whole rule set (p ∷ ps) mean =
+    record { bytes = p.bytes; text = p.char ∷ []; kind = mean.0.0; set = set }
+    ∷ whole rule set ps mean.1
 
-whole_bytes : (set : ℕ) (ps : List Piece) → sequence_bytes (whole set ps) ≡ piece.piece_bytes ps
-whole_bytes set [] = refl
-whole_bytes set (p ∷ ps) = ap (λ x. p.bytes ++ x) (whole_bytes set ps)
+module _ (rule : Rule) (set : ℕ) where
+  whole_bytes : (ps : List Piece) (mean : EachMeansChar (IsReplacedChar rule set) ps)
+      → sequence_bytes (whole rule set ps mean) ≡ piece.piece_bytes ps
+  whole_bytes [] mean = refl
+  whole_bytes (p ∷ ps) mean = ap (λ x. p.bytes ++ x) (whole_bytes ps mean.1)
 
-whole_text : (set : ℕ) (ps : List Piece) → sequence_text (whole set ps) ≡ piece_chars ps
-whole_text set [] = refl
-whole_text set (p ∷ ps) = ap (λ x. p.char ∷ x) (whole_text set ps)
+  whole_text : (ps : List Piece) (mean : EachMeansChar (IsReplacedChar rule set) ps)
+      → sequence_text (whole rule set ps mean) ≡ piece_chars ps
+  whole_text [] mean = refl
+  whole_text (p ∷ ps) mean = ap (λ x. p.char ∷ x) (whole_text ps mean.1)
 
-whole_valid : (set : ℕ) (ps : List Piece) → any_malformed (whole set ps) ≡ false
-whole_valid set [] = refl
-whole_valid set (p ∷ ps) = whole_valid set ps
+  whole_set : (ps : List Piece) (mean : EachMeansChar (IsReplacedChar rule set) ps)
+      → set_after set (whole rule set ps mean) ≡ set
+  whole_set [] mean = refl
+  whole_set (p ∷ ps) mean = whole_set ps mean.1
 
-whole_set : (set : ℕ) (ps : List Piece) → set_after set (whole set ps) ≡ set
-whole_set set [] = refl
-whole_set set (p ∷ ps) = whole_set set ps
+  whole_first : (ps : List Piece) (mean : EachMeansChar (IsReplacedChar rule set) ps) (y : List ℕ)
+      → sequences_of rule set (piece.piece_bytes ps ++ y)
+      ≡ whole rule set ps mean ++ sequences_of rule set y
+  whole_first [] mean y = refl
+  whole_first (p ∷ ps) mean y =
+      ap (sequences_of rule set) (append_assoc p.bytes (piece.piece_bytes ps) y)
+      ∙ mean.0.1 (piece.piece_bytes ps ++ y)
+      ∙ ap (λ ss. record { bytes = p.bytes; text = p.char ∷ []; kind = mean.0.0; set = set } ∷ ss)
+      (whole_first ps mean.1 y)
 
-whole_first : (rule : Rule) (set : ℕ) (ps : List Piece) (y : List ℕ)
-    → EachMeansChar (IsWholeChar rule set) ps
-    → sequences_of rule set (piece.piece_bytes ps ++ y) ≡ whole set ps ++ sequences_of rule set y
-whole_first rule set [] y mean = refl
-whole_first rule set (p ∷ ps) y mean =
-    ap (sequences_of rule set) (append_assoc p.bytes (piece.piece_bytes ps) y)
-    ∙ mean.0 (piece.piece_bytes ps ++ y)
-    ∙ ap (λ ss. record { bytes = p.bytes; text = p.char ∷ []; kind = Valid; set = set } ∷ ss)
-    (whole_first rule set ps y mean.1)
+  whole_none : (ps : List Piece) (mean : EachMeansChar (IsReplacedChar rule set) ps) → ps ≡ []
+      → whole rule set ps mean ≡ []
+  whole_none [] mean e = refl
+  whole_none (p ∷ ps) mean e = cc
+
+  -- characters are none of them malformed
+  abbrev as_replaced : (ps : List Piece) → EachMeansChar (IsWholeChar rule set) ps
+      → EachMeansChar (IsReplacedChar rule set) ps
+  as_replaced [] mean = tt
+  as_replaced (p ∷ ps) mean = ((Valid, mean.0), as_replaced ps mean.1)
+
+  whole_valid : (ps : List Piece) (mean : EachMeansChar (IsWholeChar rule set) ps)
+      → any_malformed (whole rule set ps (as_replaced ps mean)) ≡ false
+  whole_valid [] mean = refl
+  whole_valid (p ∷ ps) mean = whole_valid ps mean.1
+
+abbrev takes_each : {units_of : ℕ → List ℕ} {Means : List ℕ → ℕ → Type 0} (v : CodecState)
+    {src : List ℕ} {n : ℕ} {before after : Output}
+    → v.pending ≡ [] → (puts : PutsPieces units_of Means before after src n)
+    → EachMeansChar (IsReplacedChar v.rule v.set) puts.reads.pieces
+    → TakesSequences units_of v v src n before after
+takes_each {units_of} v {src} {n} {before} {after} none_pending puts mean =
+    let reads = puts.reads in
+    let ss = whole v.rule v.set reads.pieces mean in
+    let units : units_of_text units_of (sequence_text ss) ≡ units_of_text units_of puts.text =
+    ap (units_of_text units_of) (whole_text v.rule v.set reads.pieces mean ∙ reads.chars) in
+    record {
+      taken = ss;
+      within = reads.within;
+      bytes = whole_bytes v.rule v.set reads.pieces mean ∙ reads.bytes;
+      first =
+          λ y. ap (λ q. sequences_of v.rule v.set (q ++ (take n src ++ y))) none_pending
+          ∙ ap (λ x. sequences_of v.rule v.set (x ++ y)) (sym reads.bytes)
+          ∙ whole_first v.rule v.set reads.pieces mean y
+          ∙ ap (λ q. ss ++ sequences_of v.rule v.set (q ++ y)) (sym none_pending);
+      next_state = ap (λ s. record v { set = s })
+          (sym (whole_set v.rule v.set reads.pieces mean));
+      scalars = subst AreScalars
+          (sym (whole_text v.rule v.set reads.pieces mean ∙ reads.chars)) puts.scalars;
+      fits = omega (arith, puts.fits, ap length units);
+      written = puts.written ∙ ap (with_appended before) (sym units);
+      none_pending = λ _. none_pending;
+      none_taken = λ z. whole_none v.rule v.set reads.pieces mean (reads.none z);
+    }
+
+-- Pieces that are characters or malformed are sequences.
+pub takes_replaced : {units_of : ℕ → List ℕ} (v : CodecState) {src : List ℕ} {n : ℕ}
+    {before after : Output}
+    → v.pending ≡ [] → PutsPieces units_of (IsReplacedChar v.rule v.set) before after src n
+    → TakesSequences units_of v v src n before after
+takes_replaced v none_pending puts = takes_each v none_pending puts puts.reads.mean
 
 pub takes_pieces : {C : Type 0} (units_of : ℕ → List ℕ) (state : C → CodecState) (c : C)
     (src : List ℕ) (n : ℕ) (before after : Output)
@@ -47,31 +102,11 @@ pub takes_pieces : {C : Type 0} (units_of : ℕ → List ℕ) (state : C → Cod
     → PutsPieces units_of (IsWholeChar (state c).rule (state c).set) before after src n
     → TakesRun units_of state c c src n before after
 takes_pieces units_of state c src n before after none_pending puts =
-    let codec_state = state c in
-    let reads = puts.reads in
-    let ss = whole codec_state.set reads.pieces in
-    let units : units_of_text units_of (sequence_text ss) ≡ units_of_text units_of puts.text =
-    ap (units_of_text units_of) (whole_text codec_state.set reads.pieces ∙ reads.chars) in
+    let v = state c in
+    let pieces = puts.reads.pieces in
     record {
-      taken = ss;
-      within = reads.within;
-      bytes = whole_bytes codec_state.set reads.pieces ∙ reads.bytes;
-      first =
-          λ y. ap (λ q. sequences_of codec_state.rule codec_state.set (q ++ (take n src ++ y)))
-          none_pending
-          ∙ ap (λ x. sequences_of codec_state.rule codec_state.set (x ++ y)) (sym reads.bytes)
-          ∙ whole_first codec_state.rule codec_state.set reads.pieces y reads.mean
-          ∙ ap (λ q. ss ++ sequences_of codec_state.rule codec_state.set (q ++ y))
-          (sym none_pending);
-      next_state = ap (λ s. record codec_state { set = s })
-          (sym (whole_set codec_state.set reads.pieces));
-      none_malformed = whole_valid codec_state.set reads.pieces;
-      scalars = subst AreScalars (sym (whole_text codec_state.set reads.pieces ∙ reads.chars))
-          puts.scalars;
-      fits = omega (arith, puts.fits, ap length units);
-      written = puts.written ∙ ap (with_appended before) (sym units);
-      none_pending = λ _. none_pending;
-      none_taken = λ z. ap (whole codec_state.set) (reads.none z);
+      run = takes_each v none_pending puts (as_replaced v.rule v.set pieces puts.reads.mean);
+      none_malformed = whole_valid v.rule v.set pieces puts.reads.mean;
     }
 
 -- the bytes that a piece of one byte has, or of two

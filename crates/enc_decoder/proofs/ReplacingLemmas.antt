@@ -5,10 +5,12 @@ use Rattle.std.proofs.Math.ListN.{length-take}
 use Rattle.std.proofs.lemmas.Bool.Decides.{nat_tests}
 use Rattle.enc_units.specs.declared.decoder_result.DecoderResult.{DecoderResult}
 use Rattle.enc_units.specs.declared.decoder_result.DecoderResult.TheVariants.{InputEmpty, OutputFull, Malformed}
-use Rattle.enc_units.specs.Output.{Output, with_appended}
-use Rattle.enc_decoder.specs.Sequence.{sequence_bytes}
+use Rattle.enc_units.specs.Output.{Output, with_appended, units_of_text}
+use Rattle.enc_decoder.specs.Sequence.{sequence_bytes, sequence_text}
 use Rattle.enc_decoder.specs.Remainder.{Remainder, AreBytes}
 use Rattle.enc_decoder.specs.Call.{RawDecoderCall, DecoderCallInto, Replacement, Fatal}
+use Rattle.enc_decoder.specs.CodecState.{CodecState, remainder_of}
+use Rattle.enc_decoder.specs.Taking.{TakesSequences}
 use Rattle.enc_decoder.proofs.SequenceLemmas.{sequence_bytes-one}
 use Rattle.enc_units.proofs.OutputLemmas.{with_appended-nil, with_appended-with_appended, room_left}
 use Rattle.enc_decoder.proofs.SuccessiveCallLemmas as successive
@@ -138,3 +140,22 @@ module _ {units_of : ℕ → List ℕ} {old : Remainder} {src : List ℕ} (bytes
           stopped.next.bytes n (next_call.call.accounted ∙ bytes_parted) next_call.call.call.within
           (omega (arith, stopped.not_empty, stopped.len)) in
           omega (arith, turning.turned.within, fewer_left, length-drop read src)
+
+-- Whole sequences are put out after a malformed one.
+module _ {units_of : ℕ → List ℕ} {old : Remainder} {src : List ℕ} (bytes : AreBytes src)
+    {last : Bool}
+    {before after then : Output} {read n : ℕ} (v : CodecState)
+    (turning : Turning units_of old src last before after read (remainder_of v) true)
+    {rest : List ℕ} (unread : rest ≡ drop read src)
+    (given : TakesSequences units_of v v rest n after then) where
+  pub takes : Turning units_of old src last before then (read + n) (remainder_of v) true
+  takes =
+      let run = subst (λ z. TakesSequences units_of v v z n after then) unread given in
+      let units = units_of_text units_of (sequence_text run.taken) in
+      record {
+        wrote = turning.wrote ++ units;
+        onto = run.written ∙ ap (λ o. with_appended o units) turning.onto
+            ∙ with_appended-with_appended before turning.wrote units;
+        turned = successive.takes bytes v turning.turned run
+            (room_left before after turning.wrote turning.onto);
+      }

@@ -2,18 +2,21 @@
 use Rattle.std.proofs.Common.{◌≡◌, ℕ, ◌+◌, ◌-◌, ◌<◌, ◌≤◌, Bool, true, false, List, [], ◌∷◌, ◌++◌, length, take, drop}
 use Rattle.std.proofs.Common.{refl, ap, ◌∙◌, sym, arith, append_assoc, ◌||◌, inl, inr, subst, ◌⊎◌, drop-drop}
 use Rattle.std.proofs.Common.{length-drop}
-use Rattle.std.proofs.lemmas.Bool.{false≢true}
+use Rattle.std.proofs.lemmas.Bool.{false≢true, cases_lt}
 use Rattle.std.proofs.lemmas.List.{append-nil, take-append-drop, length-append}
 use Rattle.enc_units.specs.declared.decoder_result.DecoderResult.TheVariants.{InputEmpty, OutputFull, Malformed}
-use Rattle.enc_units.specs.Output.{AreScalars, units_of_text}
+use Rattle.enc_units.specs.Output.{Output, AreScalars, units_of_text}
 use Rattle.enc_decoder.specs.Sequence.{Sequence, sequence_bytes, sequence_text, is_malformed, is_repeated_escape}
 use Rattle.enc_decoder.specs.Sequence.{any_malformed, set_after}
 use Rattle.enc_decoder.specs.Remainder.{Remainder, AreBytes, AreFirstSequences, Determines, AreDetermined}
 use Rattle.enc_decoder.specs.Call.{RawDecoderCall, Replacement, Fatal, ReadsToReported}
+use Rattle.enc_decoder.specs.CodecState.{CodecState, remainder_of}
+use Rattle.enc_decoder.specs.Taking.{TakesSequences}
 use Rattle.enc_decoder.proofs.SequenceLemmas.{sequence_bytes-append, units-append, any_malformed-append}
 use Rattle.enc_decoder.proofs.SequenceLemmas.{set_after-append, units-one, scalars_of-append, scalars_of-one, or_false}
 use Rattle.enc_decoder.proofs.SequenceLemmas.{or_true}
-use Rattle.enc_decoder.proofs.DeterminedLemmas.{begins_after, determines_fewer}
+use Rattle.enc_decoder.proofs.DeterminedLemmas.{begins_after, determines_fewer, determined_at, none_determined}
+use Rattle.enc_decoder.proofs.EmissionLemmas.{nothing_pending}
 use Rattle.enc_decoder.proofs.ByteLemmas.{bytes-append, bytes-take, bytes-drop, determines_by_more}
 use Rattle.std.proofs.Math.Seq.{take-add}
 
@@ -433,3 +436,71 @@ module _ {units_of : ℕ → List ℕ} {old : Remainder} {src : List ℕ} (bytes
             (bytes-drop read src bytes) stopped.reads (omega (arith, length-drop read src)));
         none_after = none_after_on n next_call.call.done stopped.none_after;
       }
+
+-- Whole sequences come next, after one that was replaced.
+module _ {units_of : ℕ → List ℕ} {old : Remainder} {src : List ℕ} (bytes : AreBytes src)
+    {last : Bool}
+    {room read : ℕ} (v : CodecState) {wrote : List ℕ}
+    (turned : Turned units_of old src last room read (remainder_of v) wrote true) {n : ℕ}
+    {before after : Output} (run : TakesSequences units_of v v (drop read src) n before after)
+    (same_room : before.room ≡ room - length wrote) where
+  abbrev now_at : Remainder
+  now_at = remainder_of v
+
+  abbrev unread : List ℕ
+  unread = drop read src
+
+  come_first : (z : List ℕ)
+      → now_at.sequences (unread ++ z) ≡ run.taken ++ now_at.sequences (drop n unread ++ z)
+  come_first z =
+      ap now_at.sequences (ap (λ x. x ++ z) (sym (take-append-drop n unread))
+      ∙ append_assoc (take n unread) (drop n unread) z)
+      ∙ run.first (drop n unread ++ z)
+
+  accounted_in : v.pending ++ take n unread ≡ sequence_bytes run.taken ++ v.pending
+  accounted_in = elim (cases_lt 0 n) [
+    | inl some ↦
+        let none_pending = run.none_pending some in
+        ap (λ q. q ++ take n unread) none_pending ∙ sym run.bytes
+        ∙ sym (append-nil (sequence_bytes run.taken))
+        ∙ ap (λ q. sequence_bytes run.taken ++ q) (sym none_pending)
+    | inr none ↦
+        let none_read : n ≡ 0 = omega arith in
+        ap (λ k. v.pending ++ take k unread) none_read ∙ append-nil v.pending
+        ∙ sym (ap (λ ss. sequence_bytes ss ++ v.pending) (run.none_taken none_read))
+  ]
+
+  none_after_in : (n ≡ 0)
+      ⊎ ((s : Sequence) → Determines now_at.sequences (take n unread) (run.taken ++ s ∷ []) → ⊥)
+  none_after_in = elim (cases_lt 0 n) [
+    | inl some ↦
+        inr (none_determined now_at.sequences now_at.sequences (take n unread) run.taken run.first
+        (nothing_pending v (run.none_pending some)))
+    | inr none ↦ inl (omega arith)
+  ]
+
+  pub takes : Turned units_of old src last room (read + n) (remainder_of v)
+      (wrote ++ units_of_text units_of (sequence_text run.taken)) true
+  takes = record {
+    done = turned.done ++ run.taken;
+    within = within_on bytes turned n run.within;
+    residual = residual_on bytes turned now_at n run.taken (λ z _. come_first z);
+    goes_on = λ y b. goes_on_after bytes turned now_at n run.taken false (λ y _ _. run.first y) y
+        (λ e. absurd (false≢true e)) b;
+    accounted = accounted_on bytes turned now_at n run.taken accounted_in;
+    set = set_on bytes turned now_at run.taken (ap (λ (s : CodecState). s.set) run.next_state);
+    text = text_on bytes turned (units_of_text units_of (sequence_text run.taken)) run.taken refl;
+    scalars = scalars_of-append turned.done run.taken turned.scalars run.scalars;
+    fits = fits_on bytes turned (units_of_text units_of (sequence_text run.taken))
+        (omega (arith, run.fits, same_room));
+    flag = ap (λ b. b || any_malformed run.taken) turned.flag
+        ∙ sym (any_malformed-append turned.done run.taken);
+    determined = determined_on bytes turned last run.taken turned.determined
+        (determined_at last now_at.sequences unread run.taken
+        (λ z _. (now_at.sequences (drop n unread ++ z), come_first z)));
+    shown_next = λ h. shown_on bytes turned n run.taken (omega arith)
+        (determines_by_more now_at.sequences unread n (n + 1) run.taken
+        (bytes-drop read src bytes) (omega arith)
+        (λ z _. (now_at.sequences z, run.first z)));
+    none_after = none_after_on bytes turned n run.taken none_after_in;
+  }

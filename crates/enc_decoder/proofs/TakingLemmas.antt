@@ -9,7 +9,7 @@ use Rattle.enc_decoder.specs.Sequence.{Sequence, sequence_bytes, sequence_text, 
 use Rattle.enc_decoder.specs.CodecState.{CodecState, remainder_of}
 use Rattle.enc_decoder.specs.CodecLaw.{MayFollowRead, IsNextSequence, taken_bytes}
 use Rattle.enc_decoder.specs.declared.byte_codec.Emission.{Emission}
-use Rattle.enc_decoder.specs.Taking.{TakesRun}
+use Rattle.enc_decoder.specs.Taking.{TakesSequences, TakesRun}
 use Rattle.enc_decoder.proofs.SequenceLemmas.{sequence_bytes-append, units-append, any_malformed-append}
 use Rattle.enc_decoder.proofs.SequenceLemmas.{set_after-append, scalars_of-append}
 use Rattle.enc_decoder.proofs.DeterminedLemmas.{none_determined}
@@ -45,11 +45,11 @@ module _ {C : Type 0} {units_of : ℕ → List ℕ} {state : C → CodecState} (
   stays : took ≡ 0 → Writing units_of (remainder_of v) src last before then (read + took)
       (remainder_of (state n))
   stays z =
-      let none = t.none_taken z in
-      let state_is : state n ≡ state c = t.next_state
+      let none = t.run.none_taken z in
+      let state_is : state n ≡ state c = t.run.next_state
       ∙ ap (λ ss. record (state c) { set = set_after (state c).set ss })
       none in
-      let then_is : then ≡ at = t.written
+      let then_is : then ≡ at = t.run.written
       ∙ ap (λ ss. with_appended at (units_of_text units_of (sequence_text ss)))
       none ∙ with_appended-nil at in
       let read_is : read + took ≡ read = omega arith in
@@ -65,20 +65,20 @@ module _ {C : Type 0} {units_of : ℕ → List ℕ} {state : C → CodecState} (
   bytes = take took (drop read src)
 
   abbrev units : List ℕ
-  units = units_of_text units_of (sequence_text t.taken)
+  units = units_of_text units_of (sequence_text t.run.taken)
 
   abbrev done : List Sequence
-  done = writing.progress.done ++ t.taken
+  done = writing.progress.done ++ t.run.taken
 
   follows : 0 < took → (y : List ℕ) → MayFollowRead src read last (bytes ++ y)
   follows h y = record {
     more = λ l. let begins = front took (drop read src) _ _ h (drop-cons src read 0 l) in
         (begins.0 ++ y, ap (λ x. x ++ y) begins.1);
-    ended = λ l _. absurd (omega (arith, t.within, length-drop read src));
+    ended = λ l _. absurd (omega (arith, t.run.within, length-drop read src));
   }
 
   pending_after : 0 < took → (state n).pending ≡ []
-  pending_after h = ap (λ (s : CodecState). s.pending) t.next_state ∙ t.none_pending h
+  pending_after h = ap (λ (s : CodecState). s.pending) t.run.next_state ∙ t.run.none_pending h
 
   residual : 0 < took → (y : List ℕ)
       → (remainder_of v).sequences (take (read + took) src ++ y) ≡ done
@@ -87,8 +87,8 @@ module _ {C : Type 0} {units_of : ℕ → List ℕ} {state : C → CodecState} (
       ap (remainder_of v).sequences
       (ap (λ x. x ++ y) (take-add read took src) ∙ append_assoc (take read src) bytes y)
       ∙ writing.progress.residual (bytes ++ y) (follows h y)
-      ∙ ap (λ ss. writing.progress.done ++ ss) (t.first y)
-      ∙ sym (append_assoc writing.progress.done t.taken ((remainder_of (state n)).sequences y))
+      ∙ ap (λ ss. writing.progress.done ++ ss) (t.run.first y)
+      ∙ sym (append_assoc writing.progress.done t.run.taken ((remainder_of (state n)).sequences y))
 
   accounted : 0 < took →
       v.pending ++ take (read + took) src ≡ sequence_bytes done ++ (state n).pending
@@ -96,10 +96,10 @@ module _ {C : Type 0} {units_of : ℕ → List ℕ} {state : C → CodecState} (
       ap (λ x. v.pending ++ x) (take-add read took src)
       ∙ sym (append_assoc v.pending (take read src) bytes)
       ∙ ap (λ x. x ++ bytes) writing.progress.accounted
-      ∙ ap (λ q. (sequence_bytes writing.progress.done ++ q) ++ bytes) (t.none_pending some)
+      ∙ ap (λ q. (sequence_bytes writing.progress.done ++ q) ++ bytes) (t.run.none_pending some)
       ∙ ap (λ x. x ++ bytes) (append-nil (sequence_bytes writing.progress.done))
-      ∙ ap (λ x. sequence_bytes writing.progress.done ++ x) (sym t.bytes)
-      ∙ sym (sequence_bytes-append writing.progress.done t.taken)
+      ∙ ap (λ x. sequence_bytes writing.progress.done ++ x) (sym t.run.bytes)
+      ∙ sym (sequence_bytes-append writing.progress.done t.run.taken)
       ∙ sym (append-nil (sequence_bytes done))
       ∙ ap (λ q. sequence_bytes done ++ q) (sym (pending_after some))
 
@@ -107,28 +107,28 @@ module _ {C : Type 0} {units_of : ℕ → List ℕ} {state : C → CodecState} (
       (remainder_of (state n))
   goes some = record {
     wrote = writing.wrote ++ units;
-    onto = t.written ∙ ap (λ o. with_appended o units) writing.onto
+    onto = t.run.written ∙ ap (λ o. with_appended o units) writing.onto
         ∙ with_appended-with_appended before writing.wrote units;
     progress = record {
       done = done;
-      within = omega (arith, t.within, length-drop read src, writing.progress.within);
+      within = omega (arith, t.run.within, length-drop read src, writing.progress.within);
       residual = λ y _. residual some y;
       accounted = accounted some;
-      set = ap (λ (s : CodecState). s.set) t.next_state
-          ∙ ap (λ x. set_after x t.taken) writing.progress.set
-          ∙ sym (set_after-append v.set writing.progress.done t.taken);
+      set = ap (λ (s : CodecState). s.set) t.run.next_state
+          ∙ ap (λ x. set_after x t.run.taken) writing.progress.set
+          ∙ sym (set_after-append v.set writing.progress.done t.run.taken);
       text = ap (λ x. x ++ units) writing.progress.text
-          ∙ sym (units-append units_of writing.progress.done t.taken);
+          ∙ sym (units-append units_of writing.progress.done t.run.taken);
       fits = omega (
         arith,
         length-append writing.wrote units,
         writing.progress.fits,
-        t.fits,
+        t.run.fits,
         room_left before at writing.wrote writing.onto,
       );
-      none_malformed = any_malformed-append writing.progress.done t.taken
+      none_malformed = any_malformed-append writing.progress.done t.run.taken
           ∙ rw (writing.progress.none_malformed, t.none_malformed) refl;
-      scalars = scalars_of-append writing.progress.done t.taken writing.progress.scalars t.scalars;
+      scalars = scalars_of-append writing.progress.done t.run.taken writing.progress.scalars t.run.scalars;
       undetermined = inr (none_determined (remainder_of v).sequences
           (remainder_of (state n)).sequences
           (take (read + took) src) done (residual some)
@@ -144,9 +144,9 @@ module _ {C : Type 0} {units_of : ℕ → List ℕ} {state : C → CodecState} (
       → Ahead units_of state v c n src last before then (read + took)
   ahead same = record {
     writing = takes;
-    rule = ap (λ (s : CodecState). s.rule) t.next_state ∙ same;
-    pending = ap (λ (s : CodecState). length s.pending) t.next_state;
-    within = omega (arith, t.within, length-drop read src, writing.progress.within);
+    rule = ap (λ (s : CodecState). s.rule) t.run.next_state ∙ same;
+    pending = ap (λ (s : CodecState). length s.pending) t.run.next_state;
+    within = omega (arith, t.run.within, length-drop read src, writing.progress.within);
   }
 
 -- what comes next reads a byte or leaves fewer pending
@@ -175,22 +175,26 @@ fewer_before b next t =
     omega (arith, next.some, lengths next, ap (λ x. length (taken_bytes x b)) t)
 
 -- Nothing is taken.
-pub takes_none : {C : Type 0} (units_of : ℕ → List ℕ) (state : C → CodecState) (c : C)
-    (src : List ℕ) (o : Output)
-    → TakesRun units_of state c c src 0 o o
-takes_none units_of state c src o = record {
+abbrev pub takes_nothing : (units_of : ℕ → List ℕ) (v : CodecState) (src : List ℕ) (o : Output)
+    → TakesSequences units_of v v src 0 o o
+takes_nothing units_of v src o = record {
   taken = [];
   within = omega arith;
   bytes = refl;
   first = λ y. refl;
   next_state = refl;
-  none_malformed = refl;
   scalars = refl;
   fits = omega arith;
   written = sym (with_appended-nil o);
   none_pending = λ h. absurd (omega arith);
   none_taken = λ _. refl;
 }
+
+pub takes_none : {C : Type 0} (units_of : ℕ → List ℕ) (state : C → CodecState) (c : C)
+    (src : List ℕ) (o : Output)
+    → TakesRun units_of state c c src 0 o o
+takes_none units_of state c src o =
+    record { run = takes_nothing units_of (state c) src o; none_malformed = refl }
 
 -- A run is taken after another.
 pub takes_both : {C : Type 0} (units_of : ℕ → List ℕ) (state : C → CodecState) (c m n : C)
@@ -202,48 +206,50 @@ pub takes_both : {C : Type 0} (units_of : ℕ → List ℕ) (state : C → Codec
 takes_both units_of state c m n src read more before mid after rest e takes_run given =
     let takes_more = subst (λ z. TakesRun units_of state m n z more mid after) e given in
     let bytes = take more (drop read src) in
-    let first_units = units_of_text units_of (sequence_text takes_run.taken) in
-    let more_units = units_of_text units_of (sequence_text takes_more.taken) in
-    let both = units-append units_of takes_run.taken takes_more.taken in
+    let first_units = units_of_text units_of (sequence_text takes_run.run.taken) in
+    let more_units = units_of_text units_of (sequence_text takes_more.run.taken) in
+    let both = units-append units_of takes_run.run.taken takes_more.run.taken in
     record {
-      taken = takes_run.taken ++ takes_more.taken;
-      within = omega (arith, takes_run.within, takes_more.within, length-drop read src);
-      bytes = sequence_bytes-append takes_run.taken takes_more.taken
-          ∙ ap (λ z. z ++ sequence_bytes takes_more.taken) takes_run.bytes
-          ∙ ap (λ z. take read src ++ z) takes_more.bytes
+      run = record {
+      taken = takes_run.run.taken ++ takes_more.run.taken;
+      within = omega (arith, takes_run.run.within, takes_more.run.within, length-drop read src);
+      bytes = sequence_bytes-append takes_run.run.taken takes_more.run.taken
+          ∙ ap (λ z. z ++ sequence_bytes takes_more.run.taken) takes_run.run.bytes
+          ∙ ap (λ z. take read src ++ z) takes_more.run.bytes
           ∙ sym (take-add read more src);
       first = λ w. ap (remainder_of (state c)).sequences (ap (λ z. z ++ w) (take-add read more src)
           ∙ append_assoc (take read src) bytes w)
-          ∙ takes_run.first (bytes ++ w) ∙ ap (λ ss. takes_run.taken ++ ss) (takes_more.first w)
-          ∙ sym (append_assoc takes_run.taken takes_more.taken
+          ∙ takes_run.run.first (bytes ++ w) ∙ ap (λ ss. takes_run.run.taken ++ ss) (takes_more.run.first w)
+          ∙ sym (append_assoc takes_run.run.taken takes_more.run.taken
           ((remainder_of (state n)).sequences w));
       next_state =
-          takes_more.next_state ∙ ap
-          (λ (s : CodecState). record s { set = set_after s.set takes_more.taken })
-          takes_run.next_state
+          takes_more.run.next_state ∙ ap
+          (λ (s : CodecState). record s { set = set_after s.set takes_more.run.taken })
+          takes_run.run.next_state
           ∙ ap (λ k. record (state c) { set = k })
-          (sym (set_after-append (state c).set takes_run.taken takes_more.taken));
-      none_malformed = any_malformed-append takes_run.taken takes_more.taken
-          ∙ rw (takes_run.none_malformed, takes_more.none_malformed) refl;
-      scalars = scalars_of-append takes_run.taken takes_more.taken takes_run.scalars
-          takes_more.scalars;
+          (sym (set_after-append (state c).set takes_run.run.taken takes_more.run.taken));
+      scalars = scalars_of-append takes_run.run.taken takes_more.run.taken takes_run.run.scalars
+          takes_more.run.scalars;
       fits = omega (
         arith,
         ap length both,
         length-append first_units more_units,
-        takes_run.fits,
-        takes_more.fits,
-        room_left before mid first_units takes_run.written,
+        takes_run.run.fits,
+        takes_more.run.fits,
+        room_left before mid first_units takes_run.run.written,
       );
       written =
-          takes_more.written ∙ ap (λ o. with_appended o more_units) takes_run.written
+          takes_more.run.written ∙ ap (λ o. with_appended o more_units) takes_run.run.written
           ∙ with_appended-with_appended before first_units more_units
           ∙ ap (with_appended before) (sym both);
       none_pending = λ h. elim (cases_lt 0 read) [
-        | inl r ↦ takes_run.none_pending r
-        | inr r ↦ sym (ap (λ (s : CodecState). s.pending) takes_run.next_state)
-            ∙ takes_more.none_pending (omega arith)
+        | inl r ↦ takes_run.run.none_pending r
+        | inr r ↦ sym (ap (λ (s : CodecState). s.pending) takes_run.run.next_state)
+            ∙ takes_more.run.none_pending (omega arith)
       ];
-      none_taken = λ z. ap (λ ss. ss ++ takes_more.taken) (takes_run.none_taken (omega arith))
-          ∙ takes_more.none_taken (omega arith);
+      none_taken = λ z. ap (λ ss. ss ++ takes_more.run.taken) (takes_run.run.none_taken (omega arith))
+          ∙ takes_more.run.none_taken (omega arith);
+      };
+      none_malformed = any_malformed-append takes_run.run.taken takes_more.run.taken
+          ∙ rw (takes_run.none_malformed, takes_more.none_malformed) refl;
     }

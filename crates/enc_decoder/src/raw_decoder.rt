@@ -5,6 +5,7 @@ ghost use Rattle.enc_decoder.specs.CodecState.{CodecState, remainder_of};
 ghost use Rattle.enc_decoder.specs.Call.{DecoderCallInto, Replacement, Fatal};
 ghost use Rattle.enc_decoder.specs.Latin1.{AnswersCodecLatin1};
 ghost use Rattle.enc_decoder.specs.RuleLaws.{IsLawfulRule};
+ghost use Rattle.enc_decoder.specs.Taking.{TakesSequences};
 ghost use Rattle.enc_decoder.specs.Need.{MeetsDecodeNeedInto, AreEnoughForCodec};
 ghost use Rattle.enc_decoder.specs.Lengths.{utf_8_length, reporting_length, utf_16_length};
 ghost use Rattle.enc_decoder.specs.declared.text_lengths.TextLengths.{TextLengths};
@@ -52,6 +53,22 @@ pub trait RawDecoder: Copy {
         // by the end. A text has at most four UTF-8 code units.
         ensures lawful { IsLawfulRule (state self.old).rule };
 
+    /// Takes whole sequences from the front of `src`, with U+FFFD for each malformed one.
+    ///
+    /// Puts out their text and returns their length in bytes. The state is the same after them. It
+    /// may take any number of them, and none: all while bytes are pending. It is called after a
+    /// malformed sequence, since more of them follow if the input is no text of the encoding. Takes
+    /// no memory.
+    #[inline(always)]
+    fn replace_run<U: Units>(&self, src: &[u8], out: &mut U) -> usize
+        ensures { TakesSequences U.units_of (state self.now) (state self.now) src.now result
+            (U.output out.old) (U.output out.new) }
+    {
+        let _bytes = src;
+        let _output = out;
+        0
+    }
+
     /// Decodes a chunk, with replacement (Encoding Standard 4.1, error mode "replacement").
     ///
     /// It stops when all of `src` is read or the next sequence does not fit into `out`. Returns why
@@ -84,6 +101,8 @@ pub trait RawDecoder: Copy {
             };
             let _ = out.put('\u{FFFD}');
             replaced = true;
+            let (_, rest) = src.split_at(read);
+            read += self.replace_run(rest, out);
         }
     }
 

@@ -148,9 +148,10 @@ after_escape units_of s e n src more before after is_alone some taken =
     (ap (drop 3) is_alone.bytes ∙ (three_first e (is_alone.byte ∷ is_alone.rest)).1) in
     let bytes = take more (drop 3 src) in
     record {
-      taken = skipped e ∷ taken.taken;
-      within = omega (arith, some, taken.within, length-drop 3 src);
-      bytes = ap (λ z. escape_bytes e ++ z) taken.bytes ∙ ap (λ x. x ++ bytes) (sym three)
+      run = record {
+      taken = skipped e ∷ taken.run.taken;
+      within = omega (arith, some, taken.run.within, length-drop 3 src);
+      bytes = ap (λ z. escape_bytes e ++ z) taken.run.bytes ∙ ap (λ x. x ++ bytes) (sym three)
           ∙ sym (take-add 3 more src);
       first = λ y. ap (sequences_of jp_rule (set_number s)) (ap (λ x. x ++ y) (take-add 3 more src)
           ∙ append_assoc (take 3 src) bytes y
@@ -158,14 +159,15 @@ after_escape units_of s e n src more before after is_alone some taken =
           ∙ skipped_escape (set_number s) e (bytes ++ y)
           (ap (λ x. designated_set (x ++ y)) begins.1
           ∙ other_front is_alone.byte (begins.0 ++ y) is_alone.other)
-          ∙ ap (λ ss. skipped e ∷ ss) (taken.first y);
-      next_state = taken.next_state;
-      none_malformed = taken.none_malformed;
-      scalars = taken.scalars;
-      fits = taken.fits;
-      written = taken.written;
+          ∙ ap (λ ss. skipped e ∷ ss) (taken.run.first y);
+      next_state = taken.run.next_state;
+      scalars = taken.run.scalars;
+      fits = taken.run.fits;
+      written = taken.run.written;
       none_pending = λ _. refl;
       none_taken = λ z. absurd (omega arith);
+      };
+      none_malformed = taken.none_malformed;
     }
 
 -- An escape sequence is taken with the pieces after it.

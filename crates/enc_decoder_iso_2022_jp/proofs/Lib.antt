@@ -6,3 +6,4 @@ pub mod Iso2022JpSets
 pub mod Iso2022JpPieces
 pub mod Iso2022JpEnough
 pub mod PairPlaces
+pub mod Iso2022JpReplaced

@@ -20,14 +20,21 @@ ghost use Rattle.enc_decoder_iso_2022_jp.specs.Iso2022JpState.{StandsAlone, iso_
 ghost use Rattle.enc_decoder.specs.CodecLaw.{IsNextSequence, HandlesByte, IsNextOfPending};
 ghost use Rattle.enc_decoder.specs.Taking.{TakesRun};
 
+use crate::replaced_ascii::{ReplacedAscii, has_many_malformed};
 use enc_decoder::{
     ByteCodec, Emission, HandlerResult, Kind, RawDecoder, Text, TextLengths, latin1_up_to,
     report_or_run,
 };
 use enc_index::{Grid, List};
-use enc_units::{DecoderResult, Pieces, Places, Units, numbers_in, places_at, unshifted_len};
+use enc_units::{
+    DecoderResult, Pieces, Places, Units, numbers_in, places_at, put_run, unshifted_len,
+};
 use std::marker::Model;
 use std::simd::prelude::*;
+
+/// The number of bytes that are read in a run with malformed ones, before the decoder looks again
+/// whether they are many.
+const REPLACED: usize = 511;
 
 /// A character set that an escape sequence designates.
 #[derive(Clone, Copy)]
@@ -612,6 +619,17 @@ impl Pieces for Iso2022JpDecoder {
 }
 
 impl Iso2022JpDecoder {
+    /// Returns whether ASCII is designated and no byte is held.
+    #[inline(always)]
+    fn is_in_ascii(self) -> bool
+        ensures { IsTrue result → self ≡ state_with_held CharacterSet.Ascii Option.None }
+    {
+        match (self.set, self.held) {
+            (CharacterSet::Ascii, None) => true,
+            _ => false,
+        }
+    }
+
     /// Takes an escape sequence that no other one directly follows, with the characters after it.
     /// Takes nothing if there are none.
     #[inline(always)]
@@ -732,6 +750,16 @@ impl RawDecoder for Iso2022JpDecoder {
         fault_room: bool,
     ) -> (DecoderResult, usize) {
         report_or_run(self, src, out, last, fault_room)
+    }
+
+    /// In ASCII each byte but 1B is a character or malformed by itself.
+    #[inline(always)]
+    fn replace_run<U: Units>(&self, src: &[u8], out: &mut U) -> usize {
+        if !self.is_in_ascii() || !has_many_malformed(src) {
+            return 0;
+        }
+        let (front, _) = src.split_at(src.len().min(REPLACED));
+        put_run(out, ReplacedAscii, front)
     }
 
     fn held(&self) -> usize {

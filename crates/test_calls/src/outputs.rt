@@ -441,7 +441,10 @@ fn long_input(alloc: Global) -> Result<Vec<u8>, Fail> {
     for byte in 0x21..0x60 {
         bytes.extend_from_slice(&[byte, byte, byte, byte, byte])?;
     }
-    bytes.extend_from_slice(b"\x1B(B")?;
+    bytes.extend_from_slice(b"\x1B(J\xFF\xFE\\~0123456789abcdef\x1B(B\x1B(")?;
+    for byte in 0..0x80u8 {
+        bytes.extend_from_slice(&[0xFF, byte, 0xFE, byte])?;
+    }
     for trail in 0x40..=0xFFu8 {
         bytes.extend_from_slice(&[0xB0, trail, 0x88, trail, b'a', trail])?;
     }

@@ -1,6 +1,6 @@
-use Rattle.std.proofs.Common.{refl, ◌∙◌}
+use Rattle.std.proofs.Common.{refl, ◌∙◌, arith}
 use Rattle.enc_decoder.proofs.ByteLemmas.{bytes_of_slice}
-use Rattle.enc_decoder.proofs.ReplacingLemmas.{begin, ends, fits, replaces, falls}
+use Rattle.enc_decoder.proofs.ReplacingLemmas.{begin, ends, fits, replaces, falls, takes}
 use Rattle.enc_decoder.proofs.raw_decoder.RawDecoder.decode_replacing.Goals as goal
 
 pub loop-out-init : goal.loop-out-init
@@ -14,15 +14,17 @@ returns-in_default-clause-call g c =
 pub loop-out-smaller : goal.loop-out-smaller
 loop-out-smaller g c =
     let call = rw (c.split_at.ensures.back, c.in-Malformed.is) at c.decode-result.ensures.call in
-    falls (bytes_of_slice _ c.type_inv.src) c.loop-out.invariant.turning call
+    omega (arith, falls (bytes_of_slice _ c.type_inv.src) c.loop-out.invariant.turning call)
 
 pub loop-out-preserved : goal.loop-out-preserved
 loop-out-preserved g c =
+    let bytes = bytes_of_slice _ c.type_inv.src in
     let call = rw (c.split_at.ensures.back, c.in-Malformed.is) at c.decode-result.ensures.call in
-    let room = fits (bytes_of_slice _ c.type_inv.src) c.loop-out.invariant.turning call in
+    let room = fits bytes c.loop-out.invariant.turning call in
+    let turning = replaces bytes c.loop-out.invariant.turning call
+    (c.put.ensures.written (c.put.ensures.fits ∙ room)) in
     record {
-      turning = replaces (bytes_of_slice _ c.type_inv.src) c.loop-out.invariant.turning call
-          (c.put.ensures.written (c.put.ensures.fits ∙ room));
+      turning = takes bytes _ turning c.split_at-in-loop-out.ensures.back c.replace_run-read.ensures;
       rule = c.decode-result.ensures.rule ∙ c.loop-out.invariant.rule;
       formulas = c.decode-result.ensures.formulas ∙ c.loop-out.invariant.formulas;
     }

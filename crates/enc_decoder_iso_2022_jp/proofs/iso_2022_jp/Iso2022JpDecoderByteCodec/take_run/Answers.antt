@@ -15,7 +15,7 @@ loop-state-init g c =
     }
 
 pub split_at-requires : goal.split_at-requires
-split_at-requires g c = c.loop-state.invariant.run.within
+split_at-requires g c = c.loop-state.invariant.run.run.within
 
 pub take_escape-next-requires : goal.take_escape-next-requires
 take_escape-next-requires g c = c.loop-state.invariant.none_held
@@ -29,7 +29,7 @@ pub loop-state-smaller : goal.loop-state-smaller
 loop-state-smaller g c =
     let run = takes_run_after c.split_at.ensures.back c.loop-state.invariant.run
     c.take_escape-next.ensures.run in
-    omega (arith, run.within, c.if-taken-eq0.false)
+    omega (arith, run.run.within, c.if-taken-eq0.false)
 
 pub loop-state-preserved : goal.loop-state-preserved
 loop-state-preserved g c = record {

@@ -1,0 +1,141 @@
+-- Bytes in ASCII in error mode "replacement", and the tables of their texts.
+use Rattle.std.proofs.Common.{◌≡◌, ◌∙◌, ℕ, zero, suc, ◌+◌, ◌<◌, Bool, true, ◌&&◌, ◌==◌, eqb, Option, Some, None, List, []}
+use Rattle.std.proofs.Common.{◌∷◌, length, take, drop, get_or, refl, sym, subst, arith, inl, inr, eqb-true, false}
+use Rattle.std.proofs.lemmas.Bool.{and_parts, cond-true, cond-false}
+use Rattle.std.specs.Char.{IsScalar}
+use Rattle.enc_index.specs.Grid.{HasWord}
+use Rattle.enc_index.proofs.GridEntries.{grid_tests, is_word, is_unit, word_found, unit_found}
+use Rattle.enc_index.proofs.GridTests.{Found}
+use Rattle.enc_units.specs.Pairs.{MeansWord, MeansUnit}
+use Rattle.enc_decoder.specs.declared.byte_codec.Kind.TheVariants.{Valid, Malformed}
+use Rattle.enc_decoder.specs.Taking.{IsReplacedChar}
+use Rattle.enc_decoder.proofs.FirstSequenceLemmas.{true_or_false}
+use Rattle.enc_decoder.proofs.PieceLemmas.{one_of}
+use Rattle.enc_decoder.proofs.SegmentationLemmas.{sequences_of-head}
+use Rattle.enc_decoder_iso_2022_jp.specs.declared.iso_2022_jp.CharacterSet.TheVariants.{Ascii}
+use Rattle.enc_decoder_iso_2022_jp.specs.declared.replaced_bytes.TheConstants.{REPLACED_WORDS, REPLACED_UNITS}
+use Rattle.enc_decoder_iso_2022_jp.specs.Iso2022Jp.{set_number, ascii_char, one_byte_char, is_lead_byte}
+use Rattle.enc_decoder_iso_2022_jp.specs.Iso2022Jp.{iso_2022_jp_rule as jp_rule}
+use Rattle.enc_decoder_iso_2022_jp.specs.Iso2022JpReplaced.{char_or_replacement, replaced_ascii_char}
+use Rattle.enc_decoder_iso_2022_jp.proofs.Iso2022JpComes.{alone}
+
+no_lead : (b : ℕ) → is_lead_byte Ascii b ≡ false
+unfolding is_lead_byte
+no_lead b = refl
+
+ascii_alone : (b : ℕ) → ascii_char b ≡ one_byte_char Ascii b
+unfolding one_byte_char
+ascii_alone b = refl
+
+-- a byte that begins no escape sequence is one sequence
+byte_alone : (b : ℕ) (found : Option ℕ) → found ≡ one_byte_char Ascii b → eqb b 0x1B ≡ false
+    → IsReplacedChar jp_rule (set_number Ascii) (b ∷ []) (char_or_replacement found)
+byte_alone b None is_char no_escape =
+    (Malformed, λ y. sequences_of-head jp_rule (set_number Ascii) b y _
+    (alone Ascii b None is_char (no_lead b) no_escape y))
+byte_alone b (Some c) is_char no_escape =
+    (Valid, λ y. sequences_of-head jp_rule (set_number Ascii) b y _
+    (alone Ascii b (Some c) is_char (no_lead b) no_escape y))
+
+none_is_some : (c : ℕ) → None ≡ Some c → ⊥
+none_is_some c e = cc
+
+some_is : (a c : ℕ) → Some a ≡ Some c → a ≡ c
+some_is a c e = cc
+
+replaced_piece : (b c : ℕ) → replaced_ascii_char b ≡ Some c → IsReplacedChar jp_rule 0 (b ∷ []) c
+replaced_piece b c is_char = elim (true_or_false (eqb b 0x1B)) [
+  | inl escape ↦ absurd (none_is_some c (sym (cond-true _ _ _ escape) ∙ is_char))
+  | inr other ↦ subst (λ k. IsReplacedChar jp_rule 0 (b ∷ []) k)
+      (some_is _ c (sym (cond-false _ _ _ other) ∙ is_char))
+      (byte_alone b (ascii_char b) (ascii_alone b) other)
+]
+
+pub replaced_at : (src : List ℕ) (at c : ℕ) → at < length src
+    → replaced_ascii_char (get_or src at 0) ≡ Some c
+    → IsReplacedChar jp_rule 0 (take 1 (drop at src)) c
+replaced_at src at c within is_char =
+    subst (λ z. IsReplacedChar jp_rule 0 z c) (sym (one_of src at within))
+    (replaced_piece (get_or src at 0) c is_char)
+
+pub means_word : (b word : ℕ) → HasWord (replaced_ascii_char b) word
+    → MeansWord (IsReplacedChar jp_rule 0) (b ∷ []) word
+means_word b word has_word = record {
+  char = has_word.c;
+  scalar = has_word.utf8.scalar;
+  means = replaced_piece b has_word.c has_word.is;
+  bound = omega (arith, has_word.utf8.bound);
+  utf8 = has_word.utf8.bytes;
+}
+
+pub means_unit : (b unit : ℕ) → replaced_ascii_char b ≡ Some unit → IsScalar unit
+    → MeansUnit (IsReplacedChar jp_rule 0) (b ∷ []) unit
+means_unit b unit is_char is_scalar =
+    record { scalar = is_scalar; means = replaced_piece b unit is_char }
+
+-- the entries of all bytes, by a test
+
+module _ (kind : ℕ → ℕ → Bool) where
+  unfoldable entry_ok : Option ℕ → ℕ → Bool
+  entry_ok None g = g == 0
+  entry_ok (Some c) g = kind c g
+
+  unfoldable entries_ok : ℕ → List ℕ → Bool
+  entries_ok b [] = true
+  entries_ok b (g ∷ gs) = entry_ok (replaced_ascii_char b) g && entries_ok (b + 1) gs
+
+  entries_ok-at : (gs : List ℕ) (b i : ℕ) → entries_ok b gs ≡ true → i < length gs
+      → entry_ok (replaced_ascii_char (b + i)) (get_or gs i 0) ≡ true
+  unfolding entries_ok
+  entries_ok-at [] b i ok l = absurd (omega arith)
+  entries_ok-at (g ∷ gs) b zero ok l =
+      let same_byte : b ≡ b + 0 = omega arith in
+      subst (λ k. entry_ok (replaced_ascii_char k) g ≡ true) same_byte
+      (and_parts (entry_ok (replaced_ascii_char b) g) (entries_ok (b + 1) gs) ok).0
+  entries_ok-at (g ∷ gs) b (suc i) ok l =
+      let same_byte : b + 1 + i ≡ b + suc i = omega arith in
+      let rest = (and_parts (entry_ok (replaced_ascii_char b) g) (entries_ok (b + 1) gs) ok).1 in
+      subst (λ k. entry_ok (replaced_ascii_char k) (get_or gs i 0) ≡ true) same_byte
+      (entries_ok-at gs (b + 1) i rest (omega arith))
+
+  entry_found : (found : Option ℕ) (g : ℕ) → entry_ok found g ≡ true → 0 < g → Found kind found g
+  unfolding entry_ok
+  entry_found None g ok some =
+      let none : g ≡ 0 = eqb-true g 0 ok in
+      absurd (omega arith)
+  entry_found (Some c) g ok some = (c, refl, ok)
+
+  found_at : (gs : List ℕ) (b : ℕ) → entries_ok 0 gs ≡ true → b < length gs → 0 < get_or gs b 0
+      → Found kind (replaced_ascii_char b) (get_or gs b 0)
+  found_at gs b ok within some =
+      let from_zero : 0 + b ≡ b = omega arith in
+      entry_found (replaced_ascii_char b) (get_or gs b 0)
+      (subst (λ k. entry_ok (replaced_ascii_char k) (get_or gs b 0) ≡ true) from_zero
+      (entries_ok-at gs 0 b ok within)) some
+
+words_fit : entries_ok is_word 0 REPLACED_WORDS ≡ true
+unfolding entries_ok entry_ok grid_tests
+words_fit = refl
+
+units_fit : entries_ok is_unit 0 REPLACED_UNITS ≡ true
+unfolding entries_ok entry_ok grid_tests
+units_fit = refl
+
+words_count : length REPLACED_WORDS ≡ 256
+words_count = refl
+
+units_count : length REPLACED_UNITS ≡ 256
+units_count = refl
+
+pub replaced_word : (b : ℕ) → b < 256 → 0 < get_or REPLACED_WORDS b 0
+    → HasWord (replaced_ascii_char b) (get_or REPLACED_WORDS b 0)
+replaced_word b is_byte some =
+    word_found _ _ (found_at is_word REPLACED_WORDS b words_fit
+    (omega (arith, words_count, is_byte)) some)
+
+pub replaced_unit : (b : ℕ) → b < 256 → 0 < get_or REPLACED_UNITS b 0
+    → (replaced_ascii_char b ≡ Some (get_or REPLACED_UNITS b 0))
+    × IsScalar (get_or REPLACED_UNITS b 0)
+replaced_unit b is_byte some =
+    unit_found _ _ (found_at is_unit REPLACED_UNITS b units_fit
+    (omega (arith, units_count, is_byte)) some)
