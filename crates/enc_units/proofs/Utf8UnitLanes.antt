@@ -51,7 +51,7 @@ module _ {f g : ℕ → ℕ} {xs ys : List ℕ} (p : IsLanes xs f) (q : IsLanes 
   abbrev by : (ℕ → ℕ → ℕ) → Type 0
   by op = IsLanes (zip2 op xs ys) (λ k. op (f k) (g k))
 
-  by_op : (op : ℕ → ℕ → ℕ) → by op
+  pub by_op : (op : ℕ → ℕ → ℕ) → by op
   by_op op = record { is = zip2_of_maps op f g places p.is q.is }
 
   pub sum_lanes : by (λ a b. (a + b) % 0x1_0000)
@@ -72,7 +72,7 @@ module _ {f g : ℕ → ℕ} {xs ys : List ℕ} (p : IsLanes xs f) (q : IsLanes 
   pub below_lanes : by (λ a b. wide_flag (ltb a b))
   below_lanes = by_op (λ a b. wide_flag (ltb a b))
 
-choices : (t : ℕ → Bool) (f g : ℕ → ℕ) (ks : List ℕ)
+pub choices : (t : ℕ → Bool) (f g : ℕ → ℕ) (ks : List ℕ)
     → sel_l (map t ks) (map f ks) (map g ks) ≡ map (λ k. cond (t k) (f k) (g k)) ks
 choices t f g [] = refl
 choices t f g (k ∷ ks) = ap (λ z. cond (t k) (f k) (g k) ∷ z) (choices t f g ks)

@@ -118,7 +118,7 @@ fn marks_of(before: u8x16, bytes: u8x16) -> u64
 
 /// Returns the bytes at these places.
 #[inline(always)]
-fn pick(bytes: u8x16, places: u8x16) -> u8x16
+pub(crate) fn pick(bytes: u8x16, places: u8x16) -> u8x16
     requires { (k : ℕ) → k < 16 → slice_index places k < 16 }
     ensures { result ≡ map (λ place. slice_index bytes place) places }
 {
