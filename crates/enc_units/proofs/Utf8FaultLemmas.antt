@@ -208,7 +208,7 @@ module _ (n : ℕ) (vs : List ℕ) (long : length vs ≡ 16) where
   abbrev excesses : (m : List ℕ) × IsLanes m (λ k. excess (get_or vs k 0) n)
   excesses = (
     _,
-    by_op (selected (below n vs long) (splat_lanes n) (record { is = lanes vs long; }))
+    by_op (selected (below n vs long) (splat_lanes n) (record { is = lanes vs long }))
         (splat_lanes n) less,
   )
 

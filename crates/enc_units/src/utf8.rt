@@ -1,10 +1,14 @@
 //! Runs of well-formed UTF-8, sixteen bytes at a time.
 
-ghost use Rattle.std.specs.Prelude.{ℕ, ◌+◌, ◌<◌, ◌≤◌, length, take, drop, slice_index, IsTrue};
-ghost use Rattle.enc_units.specs.Validity.{IsWellFormedUtf8};
+ghost use Rattle.std.specs.Prelude.{◌≡◌, ℕ, ◌+◌, ◌/◌, ◌%◌, ◌<◌, ◌≤◌, length, take, drop};
+ghost use Rattle.std.specs.Prelude.{slice_index, IsTrue};
 ghost use Rattle.enc_units.specs.Utf8Run.{CanFollowBytes, CanFollowBytesAt, IsCharBoundaryAfter};
+ghost use Rattle.enc_units.specs.Utf8Run.{ArePairFaults, required_faults};
+ghost use Rattle.enc_units.specs.Validity.{IsWellFormedUtf8};
 
 use crate::ascii::are_all_ascii;
+use crate::utf8_faults::{FIRST_LOWER, FIRST_UPPER, SECOND_UPPER};
+use crate::utf8_units::pick;
 use std::simd::prelude::*;
 
 /// Returns the length in bytes of the well-formed sequence at the front, or 0 if none is found.
