@@ -60,16 +60,16 @@ of_second z w c g l h =
     (grind (arith, nat_tests))
     (grind (arith, nat_tests))
 
-scalar_below : (c : ℕ) → IsScalar c → c < 0x11_0000
+pub scalar_below : (c : ℕ) → IsScalar c → c < 0x11_0000
 scalar_below c i = elim (scalar_range c i) [ inl h ↦ omega arith | inr h ↦ omega (arith, h.1) ]
 
 -- bytes that stand at a place
 
-abbrev Stand : List ℕ → ℕ → List ℕ → Type 0
+abbrev pub Stand : List ℕ → ℕ → List ℕ → Type 0
 Stand src at [] = Unit {0}
 Stand src at (x ∷ xs) = (get_or src at 0 ≡ x) × Stand src (suc at) xs
 
-stands : (src : List ℕ) (at n : ℕ) → at + n ≤ length src → Stand src at (take n (drop at src))
+pub stands : (src : List ℕ) (at n : ℕ) → at + n ≤ length src → Stand src at (take n (drop at src))
 stands src at zero h = tt
 stands src at (suc n) h =
     subst (λ z. Stand src at (take (suc n) z)) (sym (drop-cons src at 0 (omega arith)))
