@@ -2,18 +2,21 @@
 use Rattle.std.proofs.Common.{◌≡◌, ℕ, zero, suc, ◌+◌, ◌-◌, ◌*◌, ◌/◌, ◌%◌, ◌^◌, ◌<◌, ◌≤◌, ◌⊎◌, Bool, true, false, not}
 use Rattle.std.proofs.Common.{◌||◌, ◌&&◌, ◌==◌, if◌then◌else◌, cond, eqb, leb, ltb, le-leb, leb-true, ltb-true, eqb-true}
 use Rattle.std.proofs.Common.{eq-eqb, List, map, length, get_or, replicate, take, bit_and, bit_or, bit_xor, refl, ap}
-use Rattle.std.proofs.Common.{◌∙◌, sym, subst, arith, inl, inr, w8}
+use Rattle.std.proofs.Common.{◌∙◌, sym, subst, arith, inl, inr, w8, ◌∷◌, ◌++◌, drop, length-drop}
 use Rattle.std.proofs.lemmas.Bool.{and_parts, or_cases, cases_lt, not-false}
 use Rattle.std.proofs.lemmas.Bool.Decides.{nat_tests}
-use Rattle.std.proofs.lemmas.List.{get_or-map, get_or-replicate, length-map}
+use Rattle.std.proofs.lemmas.List.{get_or-map, get_or-replicate, length-map, get_or-drop, get_or-take, take_all}
 use Rattle.std.proofs.lemmas.Nat.{and_le_l, and_le_r}
 use Rattle.std.proofs.lemmas.Nat.Bits.{and_pow, bit_at_or}
-use Rattle.std.proofs.lemmas.Simd.{get_or-chunk, get_or-zip2, length-replicate, length-zip2, map-map}
+use Rattle.std.proofs.lemmas.Simd.{get_or-chunk, get_or-zip2, length-replicate, length-zip2, map-map, pick_l-range_with_len}
 use Rattle.std.specs.Int.Bits.{or_add_and, xor_assoc, xor_self, xor_zero_l, xor_zero_r}
-use lib.Lanes.{zip2, mask_l, top, chunk, sel_l, Each1}
+use Rattle.std.specs.List.{range_with_len}
+use lib.Lanes.{zip2, mask_l, top, chunk, sel_l, pick_l, Each1}
 use mir.Val.{Fits}
 use Rattle.enc_units.specs.declared.utf8_faults.TheConstants.{FIRST_UPPER, FIRST_LOWER, SECOND_UPPER}
-use Rattle.enc_units.specs.Utf8Run.{CanFollowBytes, CanFollowBytesAt, ArePairFaults}
+use Rattle.enc_units.specs.Utf8Run.{CanFollowBytes, CanFollowBytesAt, IsCharBoundaryAfter, ArePairFaults}
+use Rattle.enc_units.specs.Validity.{IsWellFormedUtf8}
+use Rattle.enc_units.proofs.Utf8RunLemmas.{blocks_utf8}
 use Rattle.enc_units.specs.Utf8Run.{allows_second, begins_or_is_second, is_continuation_byte, required_faults}
 use Rattle.enc_units.proofs.Utf8Lanes.{IsFlags, places, top_flag, lanes, below, unequal_to, none_set}
 use Rattle.enc_units.proofs.Utf8UnitLanes.{IsLanes, lane_at, splat_lanes, and_lanes, by_op, choices}
@@ -364,7 +367,7 @@ module _ (z y x b : ℕ) where
 
 -- the bytes of a load
 
-along : {z y x b z' y' x' b' : ℕ} → z ≡ z' → y ≡ y' → x ≡ x' → b ≡ b' → CanFollowBytes z y x b
+pub along : {z y x b z' y' x' b' : ℕ} → z ≡ z' → y ≡ y' → x ≡ x' → b ≡ b' → CanFollowBytes z y x b
     → CanFollowBytes z' y' x' b'
 along {z} {y} {x} {b} {z'} {y'} {x'} {b'} p q r s f =
     subst (λ v. CanFollowBytes z' y' x' v) s
@@ -415,3 +418,57 @@ pub all_zero : (vs : List ℕ) → length vs ≡ 16
     64) 0 ≡ true → (k : ℕ) → k < 16 → get_or vs k 0 ≡ 0
 all_zero vs long e k h =
     eqb-true (get_or vs k 0) 0 (not-false _ (none_set _ _ (unequal_to 0 vs long) e k h))
+
+-- the first block, as after zeros
+
+pub shifted : (n : ℕ) (bytes : List ℕ) → n ≤ 16 → length bytes ≡ 16 → (k : ℕ) → k < 16
+    → get_or (pick_l 0 (replicate 16 0 ++ bytes) (range_with_len n 16)) k 0
+    ≡ get_or (drop n (replicate 16 0 ++ bytes)) k 0
+shifted n bytes few long k h =
+    let both : List ℕ = replicate 16 0 ++ bytes in
+    let both_long : length both ≡ 32 = ap (λ n. 16 + n) long in
+    ap (λ l. get_or l k 0) (pick_l-range_with_len 0 both n 16 (omega arith))
+    ∙ get_or-chunk n 16 both k 0 h ∙ sym (get_or-drop n both k 0)
+
+pub start_here : (src : List ℕ) (k : ℕ) → k < 16
+    → CanFollowBytes (get_or (0 ∷ 0 ∷ 0 ∷ take 16 src) k 0) (get_or (0 ∷ 0 ∷ take 16 src) k 0)
+    (get_or (0 ∷ take 16 src) k 0) (get_or (take 16 src) k 0)
+    → CanFollowBytesAt (0 ∷ 0 ∷ 0 ∷ src) k
+start_here src k few f =
+    along (get_or-take 19 (0 ∷ 0 ∷ 0 ∷ src) k 0 (omega arith))
+    (get_or-take 18 (0 ∷ 0 ∷ src) k 0 (omega arith)) (get_or-take 17 (0 ∷ src) k 0 (omega arith))
+    (get_or-take 16 src k 0 few) f
+
+-- blocks of the rest
+pub follow_after : (src : List ℕ) (n m : ℕ)
+    → ((k : ℕ) → k < m → CanFollowBytesAt (take (length src - n) (drop n src)) k)
+    → (k : ℕ) → n ≤ k → k < n + m → CanFollowBytesAt src k
+follow_after src n m all k from to =
+    let rest_long : length (drop n src) ≤ length src - n = omega (arith, length-drop n src) in
+    let rest = take_all (length src - n) (drop n src) rest_long in
+    let here : (i j : ℕ) → n + i ≡ j → get_or (drop n src) i 0 ≡ get_or src j 0 =
+    λ i j e. get_or-drop n src i 0 ∙ ap (λ m. get_or src m 0) e in
+    along (here (k - n) k (omega arith)) (here (suc (k - n)) (suc k) (omega arith))
+    (here (suc (suc (k - n))) (suc (suc k)) (omega arith))
+    (here (suc (suc (suc (k - n)))) (suc (suc (suc k))) (omega arith))
+    (subst (λ xs. CanFollowBytesAt xs (k - n)) rest (all (k - n) (omega arith)))
+
+-- the first sixteen bytes and those after them
+pub follow_all : (src : List ℕ) (n : ℕ)
+    → ((k : ℕ) → k < 16 → CanFollowBytesAt (0 ∷ 0 ∷ 0 ∷ src) k)
+    → ((k : ℕ) → 13 ≤ k → k + 3 < n → CanFollowBytesAt src k)
+    → (k : ℕ) → k < n → CanFollowBytesAt (0 ∷ 0 ∷ 0 ∷ src) k
+follow_all src n start rest k few = elim (cases_lt k 16) [
+  | inl h ↦ start k h
+  | inr h ↦
+      let place : suc (suc (suc (k - 3))) ≡ k = omega arith in
+      subst (CanFollowBytesAt (0 ∷ 0 ∷ 0 ∷ src)) place (rest (k - 3) (omega arith) (omega arith))
+]
+
+pub start_utf8 : (src : List ℕ) (n : ℕ) → 3 ≤ n → n ≤ length src
+    → ((k : ℕ) → k < n → CanFollowBytesAt (0 ∷ 0 ∷ 0 ∷ src) k) → IsCharBoundaryAfter src (n - 3)
+    → IsWellFormedUtf8 (take n src)
+start_utf8 src n some within follow ends =
+    let place : suc (suc (suc (n - 3))) ≡ n = omega arith in
+    blocks_utf8 n (0 ∷ 0 ∷ 0 ∷ src) (omega arith) (omega arith, omega arith, omega arith) follow
+    (subst (IsCharBoundaryAfter (0 ∷ 0 ∷ 0 ∷ src)) place ends)

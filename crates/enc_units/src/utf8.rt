@@ -1,6 +1,6 @@
 //! Runs of well-formed UTF-8, sixteen bytes at a time.
 
-ghost use Rattle.std.specs.Prelude.{◌≡◌, ℕ, ◌+◌, ◌/◌, ◌%◌, ◌<◌, ◌≤◌, length, take, drop};
+ghost use Rattle.std.specs.Prelude.{◌≡◌, ◌∷◌, ℕ, ◌+◌, ◌/◌, ◌%◌, ◌<◌, ◌≤◌, length, take, drop};
 ghost use Rattle.std.specs.Prelude.{slice_index, IsTrue};
 ghost use Rattle.enc_units.specs.Utf8Run.{CanFollowBytes, CanFollowBytesAt, IsCharBoundaryAfter};
 ghost use Rattle.enc_units.specs.Utf8Run.{ArePairFaults, required_faults};
@@ -183,6 +183,62 @@ fn four_blocks_follow(src: &[u8], at: usize) -> bool
     are_none(both_faults(front, back))
 }
 
+/// Returns a zero and the bytes without the last.
+#[inline(always)]
+fn after_one_zero(bytes: u8x16) -> u8x16
+    ensures { (k : ℕ) → k < 16 → slice_index result k ≡ slice_index (0 ∷ bytes) k }
+{
+    u8x16::splat(0).shuffle(
+        bytes,
+        [
+            15, 16, 17, 18, 19, 20, 21, 22, 23, 24, 25, 26, 27, 28, 29, 30,
+        ],
+    )
+}
+
+/// Returns two zeros and the bytes without the last ones.
+#[inline(always)]
+fn after_two_zeros(bytes: u8x16) -> u8x16
+    ensures { (k : ℕ) → k < 16 → slice_index result k ≡ slice_index (0 ∷ 0 ∷ bytes) k }
+{
+    u8x16::splat(0).shuffle(
+        bytes,
+        [
+            14, 15, 16, 17, 18, 19, 20, 21, 22, 23, 24, 25, 26, 27, 28, 29,
+        ],
+    )
+}
+
+/// Returns three zeros and the bytes without the last ones.
+#[inline(always)]
+fn after_three_zeros(bytes: u8x16) -> u8x16
+    ensures { (k : ℕ) → k < 16 → slice_index result k ≡ slice_index (0 ∷ 0 ∷ 0 ∷ bytes) k }
+{
+    u8x16::splat(0).shuffle(
+        bytes,
+        [
+            13, 14, 15, 16, 17, 18, 19, 20, 21, 22, 23, 24, 25, 26, 27, 28,
+        ],
+    )
+}
+
+/// Returns whether each of the first sixteen bytes may follow those before it. The first byte begins
+/// a character, as after zeros.
+#[inline(always)]
+fn start_follows(src: &[u8]) -> bool
+    requires { 16 ≤ length src.now }
+    ensures { IsTrue result → (k : ℕ) → k < 16 → CanFollowBytesAt (0 ∷ 0 ∷ 0 ∷ src.now) k }
+{
+    let bytes = u8x16::from_slice(src);
+    let first = after_one_zero(bytes);
+    are_none(faults(
+        after_three_zeros(bytes),
+        after_two_zeros(bytes),
+        first,
+        bytes,
+    ))
+}
+
 /// Returns whether the 64 bytes after the three at `at` are ASCII, and these three require no other
 /// byte.
 #[inline(always)]
@@ -231,6 +287,44 @@ fn blocks_len(src: &[u8]) -> usize
     end
 }
 
+/// Returns a number of bytes from the start that may follow one another, found in blocks. If fewer
+/// than sixteen bytes follow the blocks, the last block is the last sixteen bytes.
+#[inline(always)]
+fn start_following(src: &[u8]) -> usize
+    requires { 16 ≤ length src.now }
+    ensures within { result ≤ length src.now }
+    ensures follow { (k : ℕ) → k < result → CanFollowBytesAt (0 ∷ 0 ∷ 0 ∷ src.now) k }
+{
+    if !start_follows(src) {
+        return 0;
+    }
+    let end = 16 + following(&src[13..]);
+    let len = src.len();
+    if 19 <= len && len - end < 16 && block_follows(src, len - 19) {
+        return len;
+    }
+    end
+}
+
+/// Returns the length of a prefix that is well-formed UTF-8, found in blocks from the start.
+#[inline(always)]
+fn start_len(src: &[u8]) -> usize
+    ensures within { result ≤ length src.now }
+    ensures utf8 { IsWellFormedUtf8 (take result src.now) }
+{
+    if src.len() < 16 {
+        return 0;
+    }
+    let mut end = start_following(src);
+    while 3 <= end && !is_between(src, end - 3) {
+        end -= 1;
+    }
+    if end < 3 {
+        return 0;
+    }
+    end
+}
+
 /// Returns the length of a prefix that is well-formed UTF-8.
 ///
 /// It need not be maximal, as near the end.
@@ -239,7 +333,7 @@ pub fn utf8_front(src: &[u8]) -> usize
     ensures within { result ≤ length src.now }
     ensures utf8 { IsWellFormedUtf8 (take result src.now) }
 {
-    let mut at = 0;
+    let mut at = start_len(src);
     loop {
         let len = chars_len(&src[at..]);
         at += len;
