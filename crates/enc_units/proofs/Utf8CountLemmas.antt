@@ -3,7 +3,7 @@ use Rattle.std.proofs.Common.{◌≡◌, ℕ, zero, suc, ◌+◌, ◌-◌, ◌*�
 use Rattle.std.proofs.Common.{length, get_or, take, drop, refl, ap, ◌∙◌, sym, subst, arith, length-append, length-take}
 use Rattle.std.proofs.lemmas.Bool.{and_parts, cases_lt}
 use Rattle.std.proofs.lemmas.Str.{encode_ascii}
-use Rattle.std.specs.Char.{IsScalar, encode_utf8}
+use Rattle.std.specs.Char.{encode_utf8}
 use Rattle.std.specs.Char.Escape.{encode_utf16}
 use Rattle.enc_units.specs.Output.{AreScalars, units_of_text}
 use Rattle.enc_units.specs.Validity.{IsWellFormedUtf8}
@@ -11,7 +11,7 @@ use Rattle.enc_units.specs.Utf8Units.{byte_two_before, units_from}
 use Rattle.enc_units.proofs.GatherLemmas.{utf8_two, utf8_three, utf8_four}
 use Rattle.enc_units.proofs.UnitsLemmas.{one_unit, two_units}
 use Rattle.enc_units.proofs.Utf8CharsLemmas.{their_units}
-use Rattle.enc_units.proofs.Utf8TextLemmas.{Stand, stands, units_of_utf8, scalar_below}
+use Rattle.enc_units.proofs.Utf8TextLemmas.{Stand, stands, units_of_utf8}
 use Rattle.enc_units.proofs.Utf8UnitsLemmas.{units_split}
 
 abbrev bytes_of : List ℕ → List ℕ
@@ -55,7 +55,8 @@ abbrev Counts : List ℕ → List ℕ → Type 0
 Counts src t = (at : ℕ) → byte_two_before src at < 0xF0 → byte_two_before src (suc at) < 0xF0
     → Stand src at (bytes_of t) → Enough src at (length (bytes_of t))
 
-module _ (src : List ℕ) (t : List ℕ) (scalars : AreScalars t) (rest : Counts src t) (at : ℕ) where
+module _ (src : List ℕ) (t : List ℕ) (scalars : AreScalars t) (rest : Counts src t) (at : ℕ)
+    (y : byte_two_before src at < 0xF0) (no_fourth : byte_two_before src (suc at) < 0xF0) where
   after_char : (m next : ℕ) → m ≤ 4 → next ≡ at + m → byte_two_before src next < 0xF0
       → byte_two_before src (suc next) < 0xF0 → Stand src next (bytes_of t)
       → Enough src at (m + length (bytes_of t))
@@ -85,49 +86,60 @@ module _ (src : List ℕ) (t : List ℕ) (scalars : AreScalars t) (rest : Counts
   abbrev Goal : List ℕ → Type 0
   Goal u = Stand src at (u ++ bytes_of t) → Enough src at (length (u ++ bytes_of t))
 
-  module _ (y : byte_two_before src at < 0xF0) (no_fourth : byte_two_before src (suc at) < 0xF0)
-    where
-      of_one : (c : ℕ) → c < 0x80 → Goal (c ∷ [])
-      of_one c h s = after_char 1 (suc at) (omega arith) (omega arith) no_fourth (omega (arith, s.0)) s.1
+  of_one : (c : ℕ) → c < 0x80 → Goal (c ∷ [])
+  of_one c h s =
+      let count : 1 + length (bytes_of t) ≡ length ((c ∷ []) ++ bytes_of t) = omega arith in
+      subst (Enough src at) count
+      (after_char 1 (suc at) (omega arith) (omega arith) no_fourth (omega (arith, s.0)) s.1)
 
-      of_two : (c : ℕ) → 0x80 ≤ c → c < 0x800 → Goal ((192 + c / 64) ∷ (128 + c % 64) ∷ [])
-      of_two c l h s =
-          after_char 2 (suc (suc at)) (omega arith) (omega arith) (omega (arith, s.0))
-          (omega (arith, s.1.0)) s.1.1
+  of_two : (a b : ℕ) → a < 0xF0 → b < 0xF0 → Goal (a ∷ b ∷ [])
+  of_two a b la lb s =
+      let count : 2 + length (bytes_of t) ≡ length ((a ∷ b ∷ []) ++ bytes_of t) = omega arith in
+      subst (Enough src at) count
+      (after_char 2 (suc (suc at)) (omega arith) (omega arith) (omega (arith, s.0))
+      (omega (arith, s.1.0)) s.1.1)
 
-      of_three : (c : ℕ) → 0x800 ≤ c → c < 0x1_0000
-          → Goal ((224 + c / 4096) ∷ (128 + c / 64 % 64) ∷ (128 + c % 64) ∷ [])
-      of_three c l h s =
-          after_char 3 (suc (suc (suc at))) (omega arith) (omega arith) (omega (arith, s.1.0))
-          (omega (arith, s.1.1.0)) s.1.1.1
+  of_three : (a b c : ℕ) → b < 0xF0 → c < 0xF0 → Goal (a ∷ b ∷ c ∷ [])
+  of_three a b c lb lc s =
+      let count : 3 + length (bytes_of t) ≡ length ((a ∷ b ∷ c ∷ []) ++ bytes_of t) =
+      omega arith in
+      subst (Enough src at) count
+      (after_char 3 (suc (suc (suc at))) (omega arith) (omega arith) (omega (arith, s.1.0))
+      (omega (arith, s.1.1.0)) s.1.1.1)
 
-      of_four : (c : ℕ) → 0x1_0000 ≤ c → c < 0x11_0000
-          → Goal ((240 + c / 262144) ∷ (128 + c / 4096 % 64) ∷ (128 + c / 64 % 64) ∷ (128 + c % 64)
-          ∷ [])
-      of_four c l h s =
-          after_char 4 (suc (suc (suc (suc at)))) (omega arith) (omega arith) (omega (arith, s.1.1.0))
-          (omega (arith, s.1.1.1.0)) s.1.1.1.1
+  of_four : (a b c d : ℕ) → c < 0xF0 → d < 0xF0 → Goal (a ∷ b ∷ c ∷ d ∷ [])
+  of_four a b c d lc ld s =
+      let count : 4 + length (bytes_of t) ≡ length ((a ∷ b ∷ c ∷ d ∷ []) ++ bytes_of t) =
+      omega arith in
+      subst (Enough src at) count
+      (after_char 4 (suc (suc (suc (suc at)))) (omega arith) (omega arith)
+      (omega (arith, s.1.1.0)) (omega (arith, s.1.1.1.0)) s.1.1.1.1)
 
-      along : {u v : List ℕ} → u ≡ v → Goal v → Goal u
-      along p g = subst Goal (sym p) g
+  along : {u v : List ℕ} → u ≡ v → Goal v → Goal u
+  along p g = subst Goal (sym p) g
 
-      one_more : (c : ℕ) → IsScalar c → Goal (encode_utf8 c)
-      one_more c i = elim (cases_lt c 0x80) [
-        | inl one ↦ along (encode_ascii c one) (of_one c one)
-        | inr more ↦ elim (cases_lt c 0x800) [
-          | inl two ↦ along (utf8_two c more two) (of_two c more two)
-          | inr most ↦ elim (cases_lt c 0x1_0000) [
-            | inl three ↦ along (utf8_three c most three) (of_three c most three)
-            | inr four ↦ along (utf8_four c four) (of_four c four (scalar_below c i))
-          ]
-        ]
+  one_more : (c : ℕ) → Goal (encode_utf8 c)
+  one_more c = elim (cases_lt c 0x80) [
+    | inl one ↦ along (encode_ascii c one) (of_one c one)
+    | inr more ↦ elim (cases_lt c 0x800) [
+      | inl two ↦ along (utf8_two c more two)
+          (of_two (192 + c / 64) (128 + c % 64) (omega arith) (omega arith))
+      | inr most ↦ elim (cases_lt c 0x1_0000) [
+        | inl three ↦ along (utf8_three c most three)
+            (of_three (224 + c / 4096) (128 + c / 64 % 64) (128 + c % 64) (omega arith)
+            (omega arith))
+        | inr four ↦ along (utf8_four c four)
+            (of_four (240 + c / 262144) (128 + c / 4096 % 64) (128 + c / 64 % 64) (128 + c % 64)
+            (omega arith) (omega arith))
       ]
+    ]
+  ]
 
 counts : (src t : List ℕ) → AreScalars t → Counts src t
-counts src [] a at y x s from low high = omega arith
+counts src [] a at y x s = λ from low high. omega arith
 counts src (c ∷ t) a at y x s =
     let scalar_parts = and_parts _ _ a in
-    one_more src t scalar_parts.1 (counts src t scalar_parts.1) at y x c scalar_parts.0 s
+    one_more src t scalar_parts.1 (counts src t scalar_parts.1) at y x c s
 
 -- 52 bytes at the end give sixteen code units at least
 pub enough_units : (src : List ℕ) (len from : ℕ) → len ≤ length src

@@ -2,7 +2,7 @@
 use Rattle.std.proofs.Common.{◌≡◌, ℕ, zero, suc, ◌+◌, ◌-◌, ◌*◌, ◌/◌, ◌%◌, ◌^◌, ◌<◌, ◌≤◌, ◌⊎◌, Bool, true, false, not}
 use Rattle.std.proofs.Common.{◌||◌, ◌&&◌, ◌==◌, if◌then◌else◌, cond, eqb, leb, ltb, le-leb, leb-true, ltb-true, eqb-true}
 use Rattle.std.proofs.Common.{eq-eqb, List, map, length, get_or, replicate, take, bit_and, bit_or, bit_xor, refl, ap}
-use Rattle.std.proofs.Common.{◌∙◌, sym, subst, arith, inl, inr, w8, ◌∷◌, ◌++◌, drop, length-drop}
+use Rattle.std.proofs.Common.{◌∙◌, sym, subst, arith, inl, inr, w8, ◌∷◌, ◌++◌, drop, length-drop, length-append}
 use Rattle.std.proofs.lemmas.Bool.{and_parts, or_cases, cases_lt, not-false}
 use Rattle.std.proofs.lemmas.Bool.Decides.{nat_tests}
 use Rattle.std.proofs.lemmas.List.{get_or-map, get_or-replicate, length-map, get_or-drop, get_or-take, take_all}
@@ -164,10 +164,10 @@ module _ (xs bs us ls vs : List ℕ) (lx : length us ≡ 16) (ll : length ls ≡
       let other = read_long FIRST_LOWER ls ll in
       length-zip2 bit_and (read FIRST_UPPER us) (read FIRST_LOWER ls) (one ∙ sym other) ∙ one
 
-  pub pair_lane : (k : ℕ) → k < 16
+  looked_up_lane : (k : ℕ) → k < 16
       → ArePairFaults (get_or xs k 0) (get_or bs k 0)
       (get_or (zip2 bit_and of_first (read SECOND_UPPER vs)) k 0)
-  pair_lane k h =
+  looked_up_lane k h =
       let one = read_at FIRST_UPPER us k lx h ∙ ap (λ p. get_or FIRST_UPPER p 0) (uppers k h) in
       let other = read_at FIRST_LOWER ls k ll h ∙ ap (λ p. get_or FIRST_LOWER p 0) (lowers k h) in
       let third = read_at SECOND_UPPER vs k lb h ∙ ap (λ p. get_or SECOND_UPPER p 0) (seconds k h) in
@@ -181,6 +181,16 @@ module _ (xs bs us ls vs : List ℕ) (lx : length us ≡ 16) (ll : length ls ≡
       ∙ rw (one, other, third) refl in
       subst (ArePairFaults (get_or xs k 0) (get_or bs k 0)) (sym lane)
       (pair_of (get_or xs k 0) (get_or bs k 0) (few_firsts k h) (few_seconds k h))
+
+  pub pair_lane : (a b c : List ℕ) → a ≡ read FIRST_UPPER us → b ≡ read FIRST_LOWER ls
+      → c ≡ read SECOND_UPPER vs → (k : ℕ) → k < 16
+      → ArePairFaults (get_or xs k 0) (get_or bs k 0)
+      (get_or (zip2 bit_and (zip2 bit_and a b) c) k 0)
+  pair_lane a b c is_a is_b is_c k h =
+      let same : zip2 bit_and (zip2 bit_and a b) c ≡ zip2 bit_and of_first (read SECOND_UPPER vs) =
+      rw (is_a, is_b, is_c) refl in
+      subst (λ zs. ArePairFaults (get_or xs k 0) (get_or bs k 0) (get_or zs k 0)) (sym same)
+      (looked_up_lane k h)
 
 -- the faults that a character of three or four bytes requires
 
@@ -271,7 +281,7 @@ module _ (z y x b : ℕ) where
       let first = and_parts (leb 0x80 x) (ltb x 0xC0) both.0 in
       let byte = and_parts (leb 0x80 b) (ltb b 0xC0) both.1 in
       let not_lead = ltb-true x 0xC0 first.1 in
-      let continues = (leb-true 0x80 b byte.0, ltb-true b 0xC0 byte.1) in
+      let continues : (0x80 ≤ b) × (b < 0xC0) = (leb-true 0x80 b byte.0, ltb-true b 0xC0 byte.1) in
       record {
         after_first = λ _. continues;
         after_second = λ _. continues;
@@ -302,7 +312,7 @@ module _ (z y x b : ℕ) where
   after_lead no_second no_third from to allowed =
       let parts = and_parts (leb (least (eqb x 0xE0) (eqb x 0xF0)) b)
       (ltb b (above (eqb x 0xED) (eqb x 0xF4))) allowed in
-      let continues = (
+      let continues : (0x80 ≤ b) × (b < 0xC0) = (
         least_continues (eqb x 0xE0) (eqb x 0xF0) b parts.0,
         above_continues (eqb x 0xED) (eqb x 0xF4) b parts.1,
       ) in
@@ -426,7 +436,8 @@ pub shifted : (n : ℕ) (bytes : List ℕ) → n ≤ 16 → length bytes ≡ 16 
     ≡ get_or (drop n (replicate 16 0 ++ bytes)) k 0
 shifted n bytes few long k h =
     let both : List ℕ = replicate 16 0 ++ bytes in
-    let both_long : length both ≡ 32 = ap (λ n. 16 + n) long in
+    let both_long : length both ≡ 32 =
+    omega (arith, long, length-append {A = ℕ} (replicate 16 0) bytes) in
     ap (λ l. get_or l k 0) (pick_l-range_with_len 0 both n 16 (omega arith))
     ∙ get_or-chunk n 16 both k 0 h ∙ sym (get_or-drop n both k 0)
 
@@ -472,3 +483,11 @@ start_utf8 src n some within follow ends =
     let place : suc (suc (suc (n - 3))) ≡ n = omega arith in
     blocks_utf8 n (0 ∷ 0 ∷ 0 ∷ src) (omega arith) (omega arith, omega arith, omega arith) follow
     (subst (IsCharBoundaryAfter (0 ∷ 0 ∷ 0 ∷ src)) place ends)
+
+pub follow_more : (src : List ℕ) (at n : ℕ) → ((k : ℕ) → k < at → CanFollowBytesAt src k)
+    → ((k : ℕ) → at ≤ k → k < at + n → CanFollowBytesAt src k)
+    → (k : ℕ) → k < at + n → CanFollowBytesAt src k
+follow_more src at n before more k few = elim (cases_lt k at) [
+  | inl h ↦ before k h
+  | inr h ↦ more k h few
+]

@@ -60,7 +60,7 @@ of_second z w c g l h =
     (grind (arith, nat_tests))
     (grind (arith, nat_tests))
 
-pub scalar_below : (c : ℕ) → IsScalar c → c < 0x11_0000
+scalar_below : (c : ℕ) → IsScalar c → c < 0x11_0000
 scalar_below c i = elim (scalar_range c i) [ inl h ↦ omega arith | inr h ↦ omega (arith, h.1) ]
 
 -- bytes that stand at a place

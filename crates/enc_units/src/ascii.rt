@@ -77,7 +77,7 @@ pub fn ascii_len(bytes: &[u8]) -> usize
     ensures ends { result < length bytes.now → 0x80 ≤ slice_index bytes.now result }
 {
     let mut at = ascii_steps(bytes);
-    if at == bytes.len() || bytes.len() - at < 16 && ends_as_ascii(bytes) {
+    if bytes.len() - at < 16 && ends_as_ascii(bytes) {
         return bytes.len();
     }
     while at < bytes.len() && bytes[at] < 0x80 {

@@ -249,6 +249,16 @@ fn ascii_follows(src: &[u8], at: usize) -> bool
     are_all_ascii(u8x64::from_slice(&src[at + 3..])) && is_between(src, at)
 }
 
+/// Returns whether each of the 64 bytes after the three at `at` may follow the three before it, as
+/// ASCII or not.
+#[inline(always)]
+fn stride_follows(src: &[u8], at: usize) -> bool
+    requires { at + 67 ≤ length src.now }
+    ensures { IsTrue result → (k : ℕ) → at ≤ k → k < at + 64 → CanFollowBytesAt src.now k }
+{
+    ascii_follows(src, at) || four_blocks_follow(src, at)
+}
+
 /// Returns a number of bytes after the first three that may follow one another, found in blocks.
 #[inline(always)]
 fn following(src: &[u8]) -> usize
@@ -258,7 +268,7 @@ fn following(src: &[u8]) -> usize
 {
     let mut at = 0;
     while 67 <= src.len() - at {
-        if !ascii_follows(src, at) && !four_blocks_follow(src, at) {
+        if !stride_follows(src, at) {
             break;
         }
         at += 64;
@@ -316,13 +326,13 @@ fn start_len(src: &[u8]) -> usize
         return 0;
     }
     let mut end = start_following(src);
-    while 3 <= end && !is_between(src, end - 3) {
+    while 3 <= end {
+        if is_between(src, end - 3) {
+            return end;
+        }
         end -= 1;
     }
-    if end < 3 {
-        return 0;
-    }
-    end
+    0
 }
 
 /// Returns the length of a prefix that is well-formed UTF-8.

@@ -15,4 +15,5 @@ returns c =
     pair_lane args.first args.second upper.result lower.result second.result upper_long lower_long
     second_long upper.ensures.value lower.ensures.value second.ensures.value
     (λ k few. lane_bound args.first k c.fits-first few)
-    (λ k few. lane_bound args.second k c.fits-second few)
+    (λ k few. lane_bound args.second k c.fits-second few) _ _ _ c.pick.ensures c.pick-2.ensures
+    c.pick-3.ensures

@@ -5,8 +5,8 @@ use Rattle.enc_units.proofs.Utf8UnitsLemmas.{dropped_beyond, stores_count, store
 use Rattle.enc_units.proofs.Utf8UnitsLemmas.{units_few}
 use Rattle.enc_units.proofs.utf8_units.write_front.Goals as goal
 
-pub store_one-requires-room : goal.store_one-requires-room
-store_one-requires-room c =
+pub store_one-written-requires-clause-room : goal.store_one-written-requires-clause-room
+store_one-written-requires-clause-room c =
     let invariant = c.loop-read.invariant in
     let src = c.args.src.now in
     omega (
@@ -18,8 +18,8 @@ store_one-requires-room c =
           (enough_units src c.args.len c.loop-read.read (omega arith) c.requires.utf8 (omega arith)),
     )
 
-pub store_sixteen-requires-room : goal.store_sixteen-requires-room
-store_sixteen-requires-room c =
+pub store_sixteen-written-requires-clause-room : goal.store_sixteen-written-requires-clause-room
+store_sixteen-written-requires-clause-room c =
     let invariant = c.loop-read.invariant in
     let src = c.args.src.now in
     omega (
