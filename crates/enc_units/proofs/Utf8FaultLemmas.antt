@@ -1,6 +1,6 @@
 -- The faults of sixteen bytes with those before them, lane by lane.
 use Rattle.std.proofs.Common.{◌≡◌, ℕ, zero, suc, ◌+◌, ◌-◌, ◌*◌, ◌/◌, ◌%◌, ◌^◌, ◌<◌, ◌≤◌, ◌⊎◌, Bool, true, false, not}
-use Rattle.std.proofs.Common.{◌||◌, ◌&&◌, ◌==◌, if◌then◌else◌, cond, eqb, leb, ltb, le-leb, leb-true, ltb-true, eqb-true}
+use Rattle.std.proofs.Common.{◌||◌, ◌&&◌, if◌then◌else◌, cond, eqb, leb, ltb, le-leb, leb-true, ltb-true, eqb-true}
 use Rattle.std.proofs.Common.{eq-eqb, List, map, length, get_or, replicate, take, bit_and, bit_or, bit_xor, refl, ap}
 use Rattle.std.proofs.Common.{◌∙◌, sym, subst, arith, inl, inr, w8, ◌∷◌, ◌++◌, drop, length-drop, length-append}
 use Rattle.std.proofs.lemmas.Bool.{and_parts, or_cases, cases_lt, not-false}
@@ -8,7 +8,8 @@ use Rattle.std.proofs.lemmas.Bool.Decides.{nat_tests}
 use Rattle.std.proofs.lemmas.List.{get_or-map, get_or-replicate, length-map, get_or-drop, get_or-take, take_all}
 use Rattle.std.proofs.lemmas.Nat.{and_le_l, and_le_r}
 use Rattle.std.proofs.lemmas.Nat.Bits.{and_pow, bit_at_or}
-use Rattle.std.proofs.lemmas.Simd.{get_or-chunk, get_or-zip2, length-replicate, length-zip2, map-map, pick_l-range_with_len}
+use Rattle.std.proofs.lemmas.Simd.{get_or-chunk, get_or-zip2, length-replicate, length-zip2, map-map}
+use Rattle.std.proofs.lemmas.Simd.{pick_l-range_with_len}
 use Rattle.std.specs.Int.Bits.{or_add_and, xor_assoc, xor_self, xor_zero_l, xor_zero_r}
 use Rattle.std.specs.List.{range_with_len}
 use lib.Lanes.{zip2, mask_l, top, chunk, sel_l, pick_l, Each1}
@@ -27,7 +28,8 @@ pub splat_lane : (f : ℕ → ℕ → ℕ) (vs : List ℕ) (n k : ℕ) → lengt
     → get_or (zip2 f vs (replicate 16 n)) k 0 ≡ f (get_or vs k 0) n
 splat_lane f vs n k long h =
     get_or-zip2 f vs (replicate 16 n) k 0 0 0 (omega arith)
-    (omega (arith, length-replicate {A = ℕ} 16 n)) ∙ ap (f (get_or vs k 0)) (get_or-replicate 16 k n 0 h)
+    (omega (arith, length-replicate {A = ℕ} 16 n))
+    ∙ ap (f (get_or vs k 0)) (get_or-replicate 16 k n 0 h)
 
 pub lane_of_two : (f : ℕ → ℕ → ℕ) (xs ys : List ℕ) (k : ℕ) → length xs ≡ 16 → length ys ≡ 16
     → k < 16 → get_or (zip2 f xs ys) k 0 ≡ f (get_or xs k 0) (get_or ys k 0)
@@ -72,8 +74,8 @@ halves_ok upper lower second =
     alike (eqb faults 0) (begins_or_is_second (upper * 16 + lower) (second * 16))
     && alike (eqb faults 0x80) (continue (upper * 16 + lower) (second * 16))
 
-tables_ok : every 16 (λ upper. every 16 (λ lower. every 16 (λ second. halves_ok upper lower second)))
-    ≡ true
+tables_ok : every 16
+    (λ upper. every 16 (λ lower. every 16 (λ second. halves_ok upper lower second))) ≡ true
 unfolding every
 tables_ok = refl
 
@@ -126,7 +128,8 @@ pair_of x b lx lb =
     (λ upper. every 16 (λ lower. every 16 (λ second. halves_ok upper lower second))) tables_ok
     (x / 16) (omega arith) in
     let by_second = every_passes 16
-    (λ lower. every 16 (λ second. halves_ok (x / 16) lower second)) by_lower (x % 16) (omega arith) in
+    (λ lower. every 16 (λ second. halves_ok (x / 16) lower second)) by_lower (x % 16)
+    (omega arith) in
     let ok = every_passes 16 (λ second. halves_ok (x / 16) (x % 16) second) by_second (b / 16)
     (omega arith) in
     let parts = and_parts _ _ ok in
@@ -170,7 +173,8 @@ module _ (xs bs us ls vs : List ℕ) (lx : length us ≡ 16) (ll : length ls ≡
   looked_up_lane k h =
       let one = read_at FIRST_UPPER us k lx h ∙ ap (λ p. get_or FIRST_UPPER p 0) (uppers k h) in
       let other = read_at FIRST_LOWER ls k ll h ∙ ap (λ p. get_or FIRST_LOWER p 0) (lowers k h) in
-      let third = read_at SECOND_UPPER vs k lb h ∙ ap (λ p. get_or SECOND_UPPER p 0) (seconds k h) in
+      let third = read_at SECOND_UPPER vs k lb h
+      ∙ ap (λ p. get_or SECOND_UPPER p 0) (seconds k h) in
       let lane : get_or (zip2 bit_and of_first (read SECOND_UPPER vs)) k 0
       ≡ looked_up (get_or xs k 0 / 16) (get_or xs k 0 % 16) (get_or bs k 0 / 16) =
       lane_of_two bit_and of_first (read SECOND_UPPER vs) k first_long
@@ -255,7 +259,8 @@ module _ (zs ys : List ℕ) (lz : length zs ≡ 16) (ly : length ys ≡ 16) wher
 
   pub required_lane : (k : ℕ) → k < 16 → get_or zs k 0 < 0x100 → get_or ys k 0 < 0x100
       → get_or required.0 k 0 ≡ required_faults (get_or zs k 0) (get_or ys k 0)
-  required_lane k h fz fy = lane_at required.1 k h ∙ required_is (get_or zs k 0) (get_or ys k 0) fz fy
+  required_lane k h fz fy =
+      lane_at required.1 k h ∙ required_is (get_or zs k 0) (get_or ys k 0) fz fy
 
 -- a byte without a fault
 
@@ -274,7 +279,7 @@ above_continues true t b e = omega (arith, ltb-true b 0xA0 e)
 above_continues false true b e = omega (arith, ltb-true b 0x90 e)
 above_continues false false b e = ltb-true b 0xC0 e
 
-module _ (z y x b : ℕ) where
+module _ {z y x b : ℕ} where
   within : (0xE0 ≤ y) ⊎ (0xF0 ≤ z) → continue x b ≡ true → CanFollowBytes z y x b
   within long e =
       let both = and_parts (is_continuation_byte x) (is_continuation_byte b) e in

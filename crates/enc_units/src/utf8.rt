@@ -222,8 +222,8 @@ fn after_three_zeros(bytes: u8x16) -> u8x16
     )
 }
 
-/// Returns whether each of the first sixteen bytes may follow those before it. The first byte begins
-/// a character, as after zeros.
+/// Returns whether each of the first sixteen bytes may follow those before it. The first byte
+/// begins a character, as after zeros.
 #[inline(always)]
 fn start_follows(src: &[u8]) -> bool
     requires { 16 ≤ length src.now }

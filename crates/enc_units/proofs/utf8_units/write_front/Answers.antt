@@ -15,7 +15,8 @@ store_one-written-requires-clause-room c =
       invariant.2,
       units_few src 0 c.args.len,
       units_cover src c.loop-read.read c.args.len 16 (omega arith)
-          (enough_units src c.args.len c.loop-read.read (omega arith) c.requires.utf8 (omega arith)),
+          (enough_units src c.args.len c.loop-read.read (omega arith) c.requires.utf8
+          (omega arith)),
     )
 
 pub store_sixteen-written-requires-clause-room : goal.store_sixteen-written-requires-clause-room
@@ -28,7 +29,8 @@ store_sixteen-written-requires-clause-room c =
       invariant.2,
       units_few src 0 c.args.len,
       units_cover src c.loop-read.read c.args.len 16 (omega arith)
-          (enough_units src c.args.len c.loop-read.read (omega arith) c.requires.utf8 (omega arith)),
+          (enough_units src c.args.len c.loop-read.read (omega arith) c.requires.utf8
+          (omega arith)),
     )
 
 pub loop-read-preserved-then-read-lt2 : goal.loop-read-preserved-then-read-lt2
