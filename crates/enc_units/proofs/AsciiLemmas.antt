@@ -2,9 +2,10 @@
 use Rattle.std.proofs.Common.{◌≡◌, ℕ, zero, suc, ◌+◌, ◌%◌, ◌^◌, ◌<◌, Bool, true, false, cond, eqb, leb, List, [], ◌∷◌}
 use Rattle.std.proofs.Common.{map, length, get_or, replicate, take, drop, refl, ap, ◌∙◌, sym, subst, arith, eqb-true}
 use Rattle.std.proofs.Common.{leb-false, take-add, drop-cons, append_assoc, drop-drop, length-append, length-take}
-use Rattle.std.proofs.Common.{length-drop, ◌++◌, ◌≤◌}
+use Rattle.std.proofs.Common.{length-drop, ◌++◌, ◌-◌, ◌≤◌, inl, inr}
+use Rattle.std.proofs.lemmas.Bool.{cases_lt}
 use Rattle.std.proofs.lemmas.Bool.Decides.{nat_tests}
-use Rattle.std.proofs.lemmas.List.{length-take-le, length-map, take_more}
+use Rattle.std.proofs.lemmas.List.{length-take-le, length-map, take_more, take_all, get_or-take, get_or-drop}
 use Rattle.std.proofs.lemmas.List.Elements.{All-append}
 use Rattle.std.proofs.Math.Seq.{take-append_seam, drop-append_seam, set-append_seam}
 use Rattle.std.proofs.Math.ListN.{set}
@@ -95,3 +96,20 @@ copied_one i src dst old h k e =
 
 pub low_fails : (x : ℕ) → x < 0x80 → leb 128 x ≡ false
 low_fails x h = grind (arith, nat_tests)
+
+-- all are ASCII if a prefix is, and so are the last n, which begin no later than its end
+pub ascii_ends : (i n : ℕ) (xs : List ℕ) → AreAscii (take i xs) → length xs - n ≤ i
+    → AreAscii (drop (length xs - n) xs) → AreAscii xs
+ascii_ends i n xs front overlaps back k d h = elim (cases_lt k i) [
+  | inl l ↦ subst (λ b. b < 0x80) (get_or-take i xs k d l)
+      (front k d (omega (arith, length-take i xs)))
+  | inr g ↦
+      let first = length xs - n in
+      let place : first + (k - first) ≡ k = omega arith in
+      subst (λ b. b < 0x80)
+      (get_or-drop first xs (k - first) d ∙ ap (λ j. get_or xs j d) place)
+      (back (k - first) d (omega (arith, length-drop first xs)))
+]
+
+pub ascii_all : (xs : List ℕ) → AreAscii xs → AreAscii (take (length xs) xs)
+ascii_all xs a = subst AreAscii (sym (take_all (length xs) xs (omega arith))) a

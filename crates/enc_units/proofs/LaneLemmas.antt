@@ -1,11 +1,13 @@
 -- How many of sixteen lanes come before the first that passes a test.
 use Rattle.std.proofs.Common.{◌≡◌, ℕ, zero, suc, ◌+◌, ◌-◌, ◌*◌, ◌/◌, ◌%◌, ◌^◌, ◌<◌, ◌≤◌, ◌≢◌, Bool, true, false, not}
-use Rattle.std.proofs.Common.{cond, eqb, List, [], ◌∷◌, map, length, get_or}
+use Rattle.std.proofs.Common.{◌||◌, take-add, ◌++◌, leb, cond, eqb, List, [], ◌∷◌, map, length, get_or}
 use Rattle.std.proofs.Common.{replicate, take, drop, ap, ◌∙◌, sym, subst, arith, length-take, inl, inr}
 use Rattle.std.specs.Prelude.{All}
 use Rattle.std.specs.List.{prefix_len}
+use Rattle.std.proofs.lemmas.Bool.Decides.{nat_tests}
 use Rattle.std.proofs.lemmas.Bool.{not-true, not-false, eq-eqb, ne_eqb, cases_eq, cases_lt, true≢false}
-use Rattle.std.proofs.lemmas.List.{length-map, get_or-take, take-take}
+use Rattle.std.proofs.lemmas.List.{length-map, get_or-take, take-take, get_or_default, take_more}
+use Rattle.std.proofs.lemmas.List.Elements.{All-append}
 use Rattle.std.proofs.lemmas.List.Sums.{prefix_len_passes, prefix_len_stops, prefix_len-le-length}
 use Rattle.std.proofs.lemmas.Simd.{mask_l-mod, tops_compared, zip2_splat_left, first_set_mask_l}
 use Rattle.std.proofs.lemmas.Simd.{leading_from_mask_l, trailing_mask_l}
@@ -14,7 +16,8 @@ use lib.Count.{count_trailing_zeros}
 use lib.Lanes.{zip2, mask_l, top}
 use mir.Syntax.{Width}
 use mir.Val.{bits, hbits}
-use Rattle.enc_units.specs.Validity.{AreIso2022JpAscii}
+use Rattle.enc_units.specs.Validity.{AreIso2022JpAscii, IsLongestPrefix}
+use Rattle.enc_units.proofs.Utf8Lanes.{IsFlags, at_least, equal_to, either, none_set}
 
 module _ (p : ℕ → Bool) (xs : List ℕ) (long : length xs ≡ 16) (mask : ℕ)
     (is : mask ≡ mask_l (map p xs)) where
@@ -113,3 +116,62 @@ unshifted xs n a b c d la lb lc ld ascii out in_ escape k e h = (
       (λ x. x ≢ 0x0F) n c xs lc in_ k e h,
   all_fewer (λ x. x ≢ 0x1B) n d xs ld escape k e h,
 )
+
+-- sixteen lanes without one of these
+
+abbrev is_special : ℕ → Bool
+is_special b = (eqb b 0x0E || eqb b 0x0F) || (leb 0x80 b || eqb b 0x1B)
+
+not_special : (b : ℕ) → is_special b ≡ false
+    → (b < 0x80) × (b ≢ 0x0E) × (b ≢ 0x0F) × (b ≢ 0x1B)
+not_special b e = grind (arith, nat_tests)
+
+module _ (xs : List ℕ) (long : length xs ≡ 16) where
+  abbrev special : (m : List ℕ) × IsFlags m (λ k. is_special (get_or xs k 0))
+  special = (
+    _,
+    either (either (equal_to 0x0E xs long) (equal_to 0x0F xs long))
+        (either (at_least 0x80 xs long) (equal_to 0x1B xs long)),
+  )
+
+  pub unshifted_lanes : eqb (mask_l (map (top 7) special.0) % 2 ^ 64) 0 ≡ true
+      → AreIso2022JpAscii xs
+  unshifted_lanes e k d h =
+      let few : k < 16 = omega arith in
+      subst (λ b. (b < 0x80) × (b ≢ 0x0E) × (b ≢ 0x0F) × (b ≢ 0x1B)) (get_or_default xs k 0 d h)
+      (not_special (get_or xs k 0) (none_set _ _ special.1 e k few))
+
+-- n bytes more
+pub unshifted_more : (i n : ℕ) (xs : List ℕ) → AreIso2022JpAscii (take i xs)
+    → AreIso2022JpAscii (take n (drop i xs)) → AreIso2022JpAscii (take (i + n) xs)
+unshifted_more i n xs a b =
+    subst AreIso2022JpAscii (sym (take-add i n xs))
+    (All-append (λ b. (b < 0x80) × (b ≢ 0x0E) × (b ≢ 0x0F) × (b ≢ 0x1B)) (take i xs)
+    (take n (drop i xs)) a b)
+
+pub unshifted_one : (i : ℕ) (xs : List ℕ) → AreIso2022JpAscii (take i xs) → i < length xs
+    → (get_or xs i 0 < 0x80) × (get_or xs i 0 ≢ 0x0E) × (get_or xs i 0 ≢ 0x0F)
+    × (get_or xs i 0 ≢ 0x1B)
+    → AreIso2022JpAscii (take (i + 1) xs)
+unshifted_one i xs a h b =
+    subst AreIso2022JpAscii (sym (take_more xs i 0 h))
+    (All-append (λ b. (b < 0x80) × (b ≢ 0x0E) × (b ≢ 0x0F) × (b ≢ 0x1B)) (take i xs)
+    (get_or xs i 0 ∷ []) a one)
+  where
+    one : AreIso2022JpAscii (get_or xs i 0 ∷ [])
+    one zero d l = b
+    one (suc k) d l = absurd (omega arith)
+
+-- the longest prefix ends before the first that is none of them
+pub unshifted_longest : (i : ℕ) (xs : List ℕ) → AreIso2022JpAscii (take i xs) → i ≤ length xs
+    → (i < length xs → (get_or xs i 0 < 0x80) × (get_or xs i 0 ≢ 0x0E) × (get_or xs i 0 ≢ 0x0F)
+    × (get_or xs i 0 ≢ 0x1B) → ⊥)
+    → IsLongestPrefix AreIso2022JpAscii xs i
+unshifted_longest i xs a within stops = record {
+  within = within;
+  has = a;
+  longest = λ m more fits has.
+      stops (omega arith)
+      (subst (λ b. (b < 0x80) × (b ≢ 0x0E) × (b ≢ 0x0F) × (b ≢ 0x1B)) (get_or-take m xs i 0 more)
+      (has i 0 (omega (arith, length-take m xs))));
+}

@@ -83,11 +83,12 @@ module _ (n : ℕ) (rest : (z y x : ℕ) (bs : List ℕ) → length bs ≤ n →
             rest_follow.1
       ]
 
-  second : (y z a : ℕ) (bs : List ℕ) → length bs ≤ n → z < 0xC0 → (0xC2 ≤ a) × (a ≤ 0xF4)
+  second : (y z a : ℕ) (bs : List ℕ) → length bs ≤ n → z < 0xC0 → 0xC0 ≤ a
       → AllFollow y z a bs → IsWellFormedUtf8 (a ∷ bs)
-  second y z a [] l k leads rest_follow = absurd (omega arith)
-  second y z a (b ∷ bs) l k leads rest_follow =
-      let continues = rest_follow.0.after_first (omega arith) in
+  second y z a [] l k is_lead rest_follow = absurd (omega arith)
+  second y z a (b ∷ bs) l k is_lead rest_follow =
+      let continues = rest_follow.0.after_first is_lead in
+      let leads = rest_follow.0.leads is_lead in
       elim (cases_lt a 0xE0) [
         | inl u ↦ IsUtf8-append (a ∷ b ∷ []) bs (two a b (leads.0, u) continues)
             (rest z a b bs (omega arith) (omega arith) rest_follow.1)
@@ -224,6 +225,7 @@ module _ (src : List ℕ) (at n : ℕ) (l : at + 3 + n ≤ length src) (b : IsCh
         after_second = λ w. absurd (omega arith);
         after_third = λ w. absurd (omega arith);
         begins = λ _ _ _. inl next_is_ascii;
+        leads = λ w. absurd (omega arith);
         after_0xe0 = λ w. absurd (omega arith);
         after_0xed = λ w. absurd (omega arith);
         after_0xf0 = λ w. absurd (omega arith);

@@ -65,11 +65,11 @@ scalar_below c i = elim (scalar_range c i) [ inl h ↦ omega arith | inr h ↦ o
 
 -- bytes that stand at a place
 
-abbrev Stand : List ℕ → ℕ → List ℕ → Type 0
+abbrev pub Stand : List ℕ → ℕ → List ℕ → Type 0
 Stand src at [] = Unit {0}
 Stand src at (x ∷ xs) = (get_or src at 0 ≡ x) × Stand src (suc at) xs
 
-stands : (src : List ℕ) (at n : ℕ) → at + n ≤ length src → Stand src at (take n (drop at src))
+pub stands : (src : List ℕ) (at n : ℕ) → at + n ≤ length src → Stand src at (take n (drop at src))
 stands src at zero h = tt
 stands src at (suc n) h =
     subst (λ z. Stand src at (take (suc n) z)) (sym (drop-cons src at 0 (omega arith)))

@@ -8,9 +8,9 @@ use Rattle.std.proofs.lemmas.Bool.Decides.{nat_tests}
 use Rattle.std.proofs.lemmas.List.{map-append}
 use Rattle.std.proofs.lemmas.Nat.{shr-shr}
 use Rattle.std.proofs.Math.ListN.{set}
-use Rattle.std.proofs.lemmas.Simd.{get_or-chunk, pick_l_left, pick_l-range_with_len}
+use Rattle.std.proofs.lemmas.Simd.{get_or-chunk, pick_l_left, pick_l-range_with_len, put_chunk_is}
 use Rattle.std.specs.List.{range_with_len}
-use lib.Lanes.{chunk, pick_l}
+use lib.Lanes.{chunk, pick_l, put_chunk}
 use Rattle.enc_units.specs.Utf8Units.{gives_unit, code_unit_of_byte, byte_two_before, unit_at, units_from}
 use Rattle.enc_units.specs.Utf8Units.{marked_places, marked_code_units}
 use borrow.Rule.Slice.PartMut.{put_mid}
@@ -330,14 +330,78 @@ gathered_more src from at n end after old new h e f =
     ∙ ap (λ i. units_from src from (at - from) ++ units_from src i n) (sym place)
     ∙ sym (units_split src from (at - from) n) ∙ ap (units_from src from) count
 
+-- what stays after stores
+
+pub dropped_beyond : (n m : ℕ) (xs ys : List ℕ) → n ≤ m → drop n xs ≡ drop n ys
+    → drop m xs ≡ drop m ys
+dropped_beyond n m xs ys h e =
+    let place : n + (m - n) ≡ m = omega arith in
+    sym (drop-drop (m - n) n xs ∙ ap (λ i. drop i xs) place) ∙ ap (drop (m - n)) e
+    ∙ drop-drop (m - n) n ys ∙ ap (λ i. drop i ys) place
+
+pub chunk_rest : (at : ℕ) (old ys : List ℕ) → at + length ys ≤ length old
+    → drop (at + length ys) (put_chunk at old ys) ≡ drop (at + length ys) old
+chunk_rest at old ys h =
+    let front_long : length (take at old ++ ys) ≡ at + length ys =
+    omega (arith, length-append (take at old) ys, length-take at old) in
+    ap (drop (at + length ys))
+    (put_chunk_is at old ys h
+    ∙ sym (append_assoc (take at old) ys (drop (length ys) (drop at old))))
+    ∙ seam_drop (at + length ys) (take at old ++ ys) (drop (length ys) (drop at old)) front_long
+    ∙ drop-drop (length ys) at old
+
+pub sixteen_rest : (end middle : ℕ) (old one two : List ℕ) → middle ≤ end + 8
+    → drop (end + 8) one ≡ drop (end + 8) old → drop (middle + 8) two ≡ drop (middle + 8) one
+    → drop (end + 16) two ≡ drop (end + 16) old
+sixteen_rest end middle old one two h e f =
+    dropped_beyond (middle + 8) (end + 16) two one (omega arith) f
+    ∙ dropped_beyond (end + 8) (end + 16) one old (omega arith) e
+
+-- the units of fewer bytes, and of the rest of them
+
+units_parts : (src : List ℕ) (a b : ℕ) → a ≤ b
+    → length (units_from src 0 b) ≡ length (units_from src 0 a) + length (units_from src a (b - a))
+units_parts src a b h =
+    let whole : a + (b - a) ≡ b = omega arith in
+    let place : 0 + a ≡ a = omega arith in
+    omega (
+      arith,
+      ap (λ i. length (units_from src 0 i)) whole,
+      ap (λ i. length (units_from src i (b - a))) place,
+      ap length (units_split src 0 a (b - a)),
+      length-append (units_from src 0 a) (units_from src (0 + a) (b - a)),
+    )
+
+pub units_grow : (src : List ℕ) (a b : ℕ) → a ≤ b
+    → length (units_from src 0 a) ≤ length (units_from src 0 b)
+units_grow src a b h = omega (arith, units_parts src a b h)
+
+pub units_cover : (src : List ℕ) (a b n : ℕ) → a ≤ b → n ≤ length (units_from src a (b - a))
+    → length (units_from src 0 a) + n ≤ length (units_from src 0 b)
+units_cover src a b n h few = omega (arith, units_parts src a b h)
+
+-- units are stored after those before them
+module _ (src : List ℕ) (read n written after : ℕ) (old new : List ℕ)
+    (front : take written old ≡ units_from src 0 read)
+    (stored : take after new ≡ take written old ++ units_from src read n)
+    (within : after ≤ length new) where
+  pub stores_more : take after new ≡ units_from src 0 (read + n)
+  stores_more =
+      let place : 0 + read ≡ read = omega arith in
+      stored ∙ ap (λ z. z ++ units_from src read n) front
+      ∙ ap (λ i. units_from src 0 read ++ units_from src i n) (sym place)
+      ∙ sym (units_split src 0 read n)
+
+  pub stores_count : after ≡ length (units_from src 0 (read + n))
+  stores_count = omega (arith, length-take after new, ap length stores_more)
+
 -- units are written after those before them
 
-module _ (src : List ℕ) (read next written n : ℕ) (dst first ys : List ℕ)
+module _ (src : List ℕ) (read next written n : ℕ) (dst ys : List ℕ)
     (room : written + n ≤ length dst)
     (as_many : length ys ≡ n) (on : read ≤ next)
     (count : written ≡ length (units_from src 0 read))
     (front : take written dst ≡ units_from src 0 read)
-    (rest : drop written dst ≡ drop written first)
     (more : ys ≡ units_from src read (next - read)) where
   abbrev put : List ℕ
   put = put_mid written (written + n - written) dst ys
@@ -379,8 +443,9 @@ module _ (src : List ℕ) (read next written n : ℕ) (dst first ys : List ℕ)
       ∙ seam_take (written + n) (take written dst ++ ys) (drop n (drop written dst)) front_long
       ∙ units_are
 
-  pub writes_rest : drop (written + n) put ≡ drop (written + n) first
-  writes_rest =
-      ap (drop (written + n)) put_is
+  pub writes_rest : (m : ℕ) → written + n ≤ m → drop m put ≡ drop m dst
+  writes_rest m h =
+      dropped_beyond (written + n) m put dst h
+      (ap (drop (written + n)) put_is
       ∙ seam_drop (written + n) (take written dst ++ ys) (drop n (drop written dst)) front_long
-      ∙ ap (drop n) rest ∙ drop-drop n written first
+      ∙ drop-drop n written dst)

@@ -1,6 +1,6 @@
 //! Runs of ASCII bytes, sixteen at a time.
 
-ghost use Rattle.std.specs.Prelude.{◌≡◌, ◌≢◌, ◌≤◌, ◌<◌, ◌++◌, All, length, take, drop, slice_index};
+ghost use Rattle.std.specs.Prelude.{◌≡◌, ◌≢◌, ◌-◌, ◌≤◌, ◌<◌, ◌++◌, All, length, take, drop, slice_index};
 ghost use Rattle.std.specs.Prelude.{IsTrue};
 ghost use Rattle.enc_units.specs.Validity.{AreAscii};
 
@@ -58,7 +58,18 @@ fn ascii_steps(bytes: &[u8]) -> usize
     at
 }
 
+/// Returns whether there are sixteen bytes, and the last sixteen are ASCII.
+#[inline(always)]
+fn ends_as_ascii(bytes: &[u8]) -> bool
+    ensures enough { IsTrue result → 16 ≤ length bytes.now }
+    ensures ascii { IsTrue result → AreAscii (drop (length bytes.now - 16) bytes.now) }
+{
+    16 <= bytes.len() && are_ascii(u8x16::from_slice(&bytes[bytes.len() - 16..]))
+}
+
 /// Returns the length of the longest prefix that is ASCII.
+///
+/// If fewer than sixteen bytes follow the whole steps, the last sixteen are tested at once.
 #[inline(always)]
 pub fn ascii_len(bytes: &[u8]) -> usize
     ensures within { result ≤ length bytes.now }
@@ -66,6 +77,9 @@ pub fn ascii_len(bytes: &[u8]) -> usize
     ensures ends { result < length bytes.now → 0x80 ≤ slice_index bytes.now result }
 {
     let mut at = ascii_steps(bytes);
+    if bytes.len() - at < 16 && ends_as_ascii(bytes) {
+        return bytes.len();
+    }
     while at < bytes.len() && bytes[at] < 0x80 {
         at += 1;
     }

@@ -14,11 +14,15 @@ use crate::marked::MARKED;
 use std::simd::prelude::*;
 
 /// The length of the buffer.
-const BUFFER: usize = 304;
+const BUFFER: usize = 96;
 
 /// No bytes are read once there are more code units than this. The bytes read at once give at most
 /// sixteen.
-const ENOUGH: usize = 256;
+const ENOUGH: usize = 80;
+
+/// A number of bytes that give sixteen code units at least, which a store before them may
+/// overwrite.
+const TAIL: usize = 52;
 
 /// Returns the code unit that a byte gives, by the two after it.
 #[inline(always)]
@@ -118,7 +122,7 @@ fn marks_of(before: u8x16, bytes: u8x16) -> u64
 
 /// Returns the bytes at these places.
 #[inline(always)]
-fn pick(bytes: u8x16, places: u8x16) -> u8x16
+pub(crate) fn pick(bytes: u8x16, places: u8x16) -> u8x16
     requires { (k : ℕ) → k < 16 → slice_index places k < 16 }
     ensures { result ≡ map (λ place. slice_index bytes place) places }
 {
@@ -132,6 +136,7 @@ fn store_marked(buffer: &mut [u16], at: usize, units: u16x8, marks: u64) -> usiz
     requires { at + 8 ≤ length buffer.old }
     ensures bound { result ≤ at + 8 }
     ensures len { length buffer.new ≡ length buffer.old }
+    ensures rest { drop (at + 8) buffer.new ≡ drop (at + 8) buffer.old }
     ensures stored { take result buffer.new ≡ take at buffer.old ++ marked_code_units marks units }
 {
     let mask = (marks % 0x100) as usize;
@@ -148,6 +153,7 @@ fn store_sixteen(buffer: &mut [u16], end: usize, src: &[u8], at: usize) -> usize
     requires room { end + 16 ≤ length buffer.old }
     ensures bound { result ≤ end + 16 }
     ensures len { length buffer.new ≡ length buffer.old }
+    ensures rest { drop (end + 16) buffer.new ≡ drop (end + 16) buffer.old }
     ensures stored { take result buffer.new ≡ take end buffer.old ++ units_from src.now at 16 }
 {
     let before = u8x16::from_slice(&src[at - 2..]);
@@ -183,6 +189,7 @@ fn store_one(buffer: &mut [u16], end: usize, src: &[u8], at: usize) -> usize
     requires room { end < length buffer.old }
     ensures bound { result ≤ end + 1 }
     ensures len { length buffer.new ≡ length buffer.old }
+    ensures rest { drop (end + 1) buffer.new ≡ drop (end + 1) buffer.old }
     ensures stored { take result buffer.new ≡ take end buffer.old ++ unit_at src.now at }
 {
     if !gives(src, at) {
@@ -198,7 +205,7 @@ fn store_one(buffer: &mut [u16], end: usize, src: &[u8], at: usize) -> usize
 fn gather_units(buffer: &mut [u16], src: &[u8], from: usize, to: usize) -> (usize, usize)
     requires some { from < to }
     requires after { to + 2 ≤ length src.now }
-    requires buffer { length buffer.old ≡ 304 }
+    requires buffer { length buffer.old ≡ 96 }
     ensures some { from < result.0 }
     ensures within { result.0 ≤ to }
     ensures few { result.1 ≤ result.0 - from }
@@ -220,8 +227,39 @@ fn gather_units(buffer: &mut [u16], src: &[u8], from: usize, to: usize) -> (usiz
     (at, end)
 }
 
+/// Writes the UTF-16 of bytes in front of the last 52 of `len`, which are well-formed UTF-8, to the
+/// start of a slice. Returns the number of the bytes and that of the code units.
+///
+/// Code units after these may be overwritten, as far as the rest of the bytes give some.
+#[inline(always)]
+fn write_front(dst: &mut [u16], src: &[u8], len: usize) -> (usize, usize)
+    requires utf8 { IsWellFormedUtf8 (take len src.now) }
+    requires after { len + 2 ≤ length src.now }
+    requires room { len ≤ length dst.old }
+    ensures within { result.0 ≤ len }
+    ensures few { result.1 ≤ result.0 }
+    ensures len { length dst.new ≡ length dst.old }
+    ensures count { result.1 ≡ length (units_from src.now 0 result.0) }
+    ensures written { take result.1 dst.new ≡ units_from src.now 0 result.0 }
+    ensures rest { drop (length (units_from src.now 0 len)) dst.new
+        ≡ drop (length (units_from src.now 0 len)) dst.old }
+{
+    let mut read = 0;
+    let mut written = 0;
+    while TAIL + 16 <= len - read {
+        if read < 2 {
+            written = store_one(dst, written, src, read);
+            read += 1;
+        } else {
+            written = store_sixteen(dst, written, src, read);
+            read += 16;
+        }
+    }
+    (read, written)
+}
+
 /// Writes the UTF-16 of the first `len` bytes, which are well-formed UTF-8, to the start of a
-/// slice.
+/// slice: straight to the slice, and the last of them through a buffer.
 ///
 /// Returns the number of code units. The rest of the slice is unchanged.
 #[inline(never)]
@@ -234,9 +272,8 @@ pub(crate) fn write_units(dst: &mut [u16], src: &[u8], len: usize) -> usize
     ensures rest { drop result dst.new ≡ drop result dst.old }
     ensures gathers { GathersChars encode_utf16 IsUtf8Char src.now len [] (take result dst.new) }
 {
+    let (mut read, mut written) = write_front(dst, src, len);
     let mut buffer = [0; BUFFER];
-    let mut read = 0;
-    let mut written = 0;
     while read < len {
         let (next, end) = gather_units(&mut buffer, src, read, len);
         dst[written..written + end].copy_from_slice(&buffer[..end]);

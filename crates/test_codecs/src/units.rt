@@ -221,6 +221,10 @@ const ASCII: &[(&[u8], usize, usize)] = &[
     (b"\x61\x62\x0F\x63", 4, 2),
     (b"\x1B\x28\x42", 3, 0),
     (b"\xFF", 0, 0),
+    (b"Sixteen, sixteen, and an escape \x1B.", 34, 32),
+    (b"Sixteen bytes of \x0F and more of them.", 36, 17),
+    (b"Sixteen bytes and \x80, and sixteen bytes.", 18, 18),
+    (b"Sixteen bytes and eight.", 24, 24),
 ];
 
 #[test]
@@ -261,6 +265,27 @@ const SIGN_UNITS: [u16; 75] = [
     0x20, 0x43D, 0x435, 0x43C, 0x43D, 0x43E, 0x433, 0x43E, 0x20, 0x441, 0x43B, 0x43E, 0x432, 0x3A,
     0x20, 0xBF, 0x434, 0x430, 0x3F, 0x20, 0xDBFF, 0xDFFF,
 ];
+
+/// Puts the first `len` bytes, and compares the rest of the slice.
+fn compare_rest(rt: &impl Abort, len: usize) {
+    let mut dst = [7; 200];
+    let mut out = Utf16Slice::new(&mut dst);
+    let taken = out.put_utf8(&SIGNS.as_bytes()[..len]);
+    let written = out.len();
+    assert!(rt;
+        taken == len && dst[written..].iter().all(|unit| *unit == 7),
+        "{len} bytes"
+    );
+}
+
+#[test]
+fn utf_16_leaves_what_follows_its_text(rt: HostRuntime) {
+    for len in 0..SIGNS.len() {
+        if SIGNS.is_char_boundary(len) {
+            compare_rest(&rt, len);
+        }
+    }
+}
 
 #[test]
 fn long_utf_8_becomes_utf_16(rt: HostRuntime) {

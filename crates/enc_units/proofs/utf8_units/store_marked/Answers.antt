@@ -1,5 +1,7 @@
 use Rattle.std.proofs.Common.{◌%◌, arith}
 use Rattle.enc_units.proofs.MaskedUnitLemmas.{row_is, row_long, stores_marked}
+use lib.Lanes.{digits_l, number_l}
+use Rattle.enc_units.proofs.Utf8UnitsLemmas.{chunk_rest}
 use Rattle.enc_units.proofs.utf8_units.store_marked.Goals as goal
 
 pub pick-requires : goal.pick-requires
@@ -13,3 +15,7 @@ returns-clause-stored c =
     c.fits-units.1
     (row_long mask (omega arith)) (row_is mask (omega arith))
     c.pick.ensures
+
+pub returns-clause-rest : goal.returns-clause-rest
+returns-clause-rest c = chunk_rest c.args.at c.args.buffer.now
+    (digits_l 0x1_0000 8 (number_l 0x100 c.pick.result)) c.requires

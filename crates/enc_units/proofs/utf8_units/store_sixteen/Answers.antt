@@ -1,5 +1,5 @@
 use Rattle.std.proofs.Common.{◌≡◌, arith, length}
-use Rattle.enc_units.proofs.Utf8UnitsLemmas.{bits_here, given_here, stores_sixteen}
+use Rattle.enc_units.proofs.Utf8UnitsLemmas.{bits_here, given_here, stores_sixteen, sixteen_rest}
 use Rattle.enc_units.proofs.utf8_units.store_sixteen.Goals as goal
 
 pub returns-clause-stored : goal.returns-clause-stored
@@ -16,3 +16,9 @@ returns-clause-stored c =
     (given_here args.src.now args.at c.requires.after k below g))
     middle.ensures.stored
     c.store_marked.ensures.stored
+
+pub returns-clause-rest : goal.returns-clause-rest
+returns-clause-rest c =
+    let middle = c.store_marked-middle in
+    sixteen_rest c.args.end middle.result c.args.buffer.now middle.new.buffer
+    c.store_marked.new.buffer middle.ensures.bound middle.ensures.rest c.store_marked.ensures.rest
