@@ -1,8 +1,10 @@
-use Rattle.std.proofs.Common.{rules, ◌≡◌, []}
+use Rattle.std.proofs.Common.{rules, ◌≡◌, [], drop}
+use Rattle.std.proofs.lemmas.Result.{IfOk-weaker, on_err_weaker}
 use Rattle.enc_stream.specs.declared.encoding.TheConstants.{UTF_8}
 use Rattle.enc_reader.proofs.SourceLemmas.{on_err}
 use Rattle.recode_engine.proofs.SourceSinkLemmas.{AppendsContents-none}
 use Rattle.recode_engine.proofs.EncodingLemmas.{EncodesText-utf_8, StopsWithin-text}
+use Rattle.recode_engine.proofs.UnencodedLemmas.{EncodesText-ascii, HasEncoded-rest, StopsWithin-rest, rest_is_utf_8}
 use Rattle.recode_engine.proofs.engine.push_text.Goals as goal
 
 pub returns-in_err-push_all-clause-err : goal.returns-in_err-push_all-clause-err
