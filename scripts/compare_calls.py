@@ -2,9 +2,9 @@
 
 For scripts/compare-crate. OURS is the program of crates/compare_calls, which says how a line stands for a call. CRATE
 is the program of scripts/peer/src/bin/calls. It makes COUNT random and hostile lines and LENDING of one-shot calls that
-lend (with - they are those of standard input), and answers as OURS does. Compared are the result, the units read and written, the flag, the units, the encoding
-after the call, the length that the call's query returned before, the length of the Latin-1 prefix or whether an encoder
-had a pending state, and the units that the rest of the input gives.
+lend (with - they are those of standard input), and answers as OURS does. Compared are the result, the units read and
+written, the flag, the units, the encoding after the call, the length that the call's query returned before, the length
+of the Latin-1 prefix or whether an encoder had a pending state, and the units that the rest of the input gives.
 
 Where the two differ by design, or where the crate has a fault, a rule says so. Each line comes under one of RULES or
 differs. Of the first lines that differ the smallest that was found is shown. FAULTS has a line for each fault; one that
@@ -408,8 +408,8 @@ def lines_of(crate, how):
     if how == ["-"]:
         return sys.stdin
     seed, *counts = how
-    kinds = zip(("lines", "lending"), counts, strict=True)
-    programs = [subprocess.Popen([crate, kind, seed, count], stdout=subprocess.PIPE, text=True) for kind, count in kinds]
+    commands = [[crate, kind, seed, count] for kind, count in zip(("lines", "lending"), counts, strict=True)]
+    programs = [subprocess.Popen(it, stdout=subprocess.PIPE, text=True) for it in commands]
     return itertools.chain.from_iterable(it.stdout for it in programs)
 
 

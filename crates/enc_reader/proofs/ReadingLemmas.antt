@@ -374,6 +374,19 @@ module _ {old new : DecoderState} (filled at : ℕ) {xs ys : List ℕ} {ended : 
       (IsTurn-call old new src ended room result read wrote replaced waits decodes going
       (some_left filled at xs ended within_filled w tested) roomy waiting text_or_end)
 
+-- Where all bytes are decoded the buffer has room.
+pub room_left : (filled at : ℕ) (xs : List ℕ) → at ≤ filled → filled ≤ length xs → 0 < length xs
+    → take (filled - at) (drop at xs) ≡ [] → filled - at < length xs
+room_left filled at xs h w some none = omega (
+  arith,
+  h,
+  w,
+  some,
+  ap length none,
+  length-take (filled - at) (drop at xs),
+  length-drop at xs,
+)
+
 pub opposite : (a b : Bool) → not a ≡ b → a ≡ not b
 opposite true b negated = ap not negated
 opposite false b negated = ap not negated

@@ -25,7 +25,7 @@ pub record IsTurn (old new : ReaderState) (wrote : List ℕ) (replaced waits : B
   pub waiting : waits ≡ true → IsWaiting new
   pub text_or_end : waits ≡ false → wrote ≡ [] → has_finished new.decoder ≡ true
 
--- A chunk is pulled if every byte is decoded. Nothing is handed out.
+-- A chunk is pulled if the buffer lacks bytes. Nothing is handed out.
 pub record FillsBuffer (remaining_before remaining_after : Option (List ℕ))
     (old new : ReaderState) : Type 0 where
   pub bytes : List ℕ

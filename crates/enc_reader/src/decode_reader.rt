@@ -145,7 +145,7 @@ pub struct DecodeReader<'a, R: Source> {
     reader: &'a mut R,
     decoder: Decoder,
     input: &'a mut [u8],
-    // the bytes of `input` that the source has returned last, and how many of them are decoded
+    // the number of bytes of `input` that the source has returned, and how many of them are decoded
     filled: usize,
     at: usize,
     // whether the source is at its end

@@ -197,7 +197,7 @@ fn answer_lending_bytes(encoding: &'static Encoding, call: &Call) -> String {
 }
 
 /// The answer of a one-shot call.
-fn one_shot(result: &str, read: usize, bytes: &[u8], replaced: bool, used: &Encoding) -> String {
+fn one_shot(result: &str, read: usize, bytes: &[u8], replaced: bool, used: &'static Encoding) -> String {
     let (result, written, replaced) = (String::from(result), bytes.len(), Some(replaced));
     Answer { result, read, written, replaced, units: hex(bytes) }.written_with(used.name(), None, "-", "-")
 }

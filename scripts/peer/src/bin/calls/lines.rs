@@ -44,7 +44,8 @@ pub fn lending_line(random: &mut Random) -> String {
 /// ASCII, which may have an escape or a shift.
 fn ascii(random: &mut Random) -> Vec<u8> {
     let length = random.below(100);
-    (0..length).map(|_| if random.below(200) == 0 { random.below(0x80) as u8 } else { b' ' + random.below(95) as u8 }).collect()
+    let byte = |_| if random.below(200) == 0 { random.below(0x80) as u8 } else { b' ' + random.below(95) as u8 };
+    (0..length).map(byte).collect()
 }
 
 /// A line, of a decoder or of an encoder.
