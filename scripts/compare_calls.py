@@ -1,10 +1,10 @@
-"""Compares single calls with those of the Rust crate encoding_rs: compare_calls.py OURS CRATE SEED COUNT | -
+"""Compares single calls with those of the Rust crate encoding_rs: compare_calls.py OURS CRATE SEED COUNT LENDING | -
 
 For scripts/compare-crate. OURS is the program of crates/compare_calls, which says how a line stands for a call. CRATE
-is the program of scripts/peer/src/bin/calls. It makes COUNT random and hostile lines (with - they are those of standard
-input), and answers as OURS does. Compared are the result, the units read and written, the flag, the units, the encoding
-after the call, the length that the call's query returned before, the length of the Latin-1 prefix or whether an encoder
-had a pending state, and the units that the rest of the input gives.
+is the program of scripts/peer/src/bin/calls. It makes COUNT random and hostile lines and LENDING of one-shot calls that
+lend (with - they are those of standard input), and answers as OURS does. Compared are the result, the units read and
+written, the flag, the units, the encoding after the call, the length that the call's query returned before, the length
+of the Latin-1 prefix or whether an encoder had a pending state, and the units that the rest of the input gives.
 
 Where the two differ by design, or where the crate has a fault, a rule says so. Each line comes under one of RULES or
 differs. Of the first lines that differ the smallest that was found is shown. FAULTS has a line for each fault; one that
@@ -31,7 +31,8 @@ AHEAD = "OutputFull at one place of UTF-16, where the crate has read the code un
 PANIC = "the crate panics, in less room than it asks for or where U+FFFD does not fit"
 LOST = "the crate loses the lead byte that it holds"
 SPLIT = "the crate takes a pair of surrogates at the end of the room for two without a partner"
-RULES = (ALIKE, EARLIER, PENDING, HELD_MARK, AHEAD, PANIC, LOST, SPLIT)
+LENT = "one-shot calls that lend, alike in text, flag and encoding, and borrowed where the crate's `Cow` is"
+RULES = (ALIKE, EARLIER, PENDING, HELD_MARK, AHEAD, PANIC, LOST, SPLIT, LENT)
 
 OTHER_LENGTHS = "other lengths, as the tables have them"
 BYTE_80 = "a Latin-1 prefix that the crate ends at byte 80 of Shift_JIS"
@@ -98,6 +99,10 @@ class Line:
     @property
     def decodes(self):
         return self.direction == "decode"
+
+    @property
+    def lends(self):
+        return self.direction in ("lend", "lend-text")
 
     @property
     def replaces(self):
@@ -278,7 +283,7 @@ def is_needless(line, ours):
 
 def agree_beside(line, ours, crate):
     """Whether the library needs its OutputFull and, unless the crate panics, the queries and the encodings agree."""
-    if is_needless(line, ours):
+    if line.lends or is_needless(line, ours):
         return False
     agree = crate is None or (has_lengths(line, ours, crate) and ours.encoding == crate.encoding)
     return agree and None not in notes_of(line, ours, crate)
@@ -286,6 +291,8 @@ def agree_beside(line, ours, crate):
 
 def rule_of(line, ours, crate):
     """The rule by which two answers agree, or none."""
+    if line.lends:
+        return LENT if ours == crate else None
     if not agree_beside(line, ours, crate):
         return None
     if crate is None:
@@ -400,8 +407,10 @@ def lines_of(crate, how):
     """The lines of standard input, or random and hostile ones that the crate's program makes."""
     if how == ["-"]:
         return sys.stdin
-    seed, count = how
-    return subprocess.Popen([crate, "lines", seed, count], stdout=subprocess.PIPE, text=True).stdout
+    seed, *counts = how
+    commands = [[crate, kind, seed, count] for kind, count in zip(("lines", "lending"), counts, strict=True)]
+    programs = [subprocess.Popen(it, stdout=subprocess.PIPE, text=True) for it in commands]
+    return itertools.chain.from_iterable(it.stdout for it in programs)
 
 
 def main(words):
@@ -424,7 +433,7 @@ def main(words):
         counts[None] += 1
     total, differ = sum(counts.values()), counts[None]
     print(f"compare-crate: {total - differ} calls alike or apart by a rule, {differ} differ")
-    return int(differ > 0 or total == 0 or (len(how) == 2 and total != int(how[1])))
+    return int(differ > 0 or total == 0 or (how != ["-"] and total != sum(map(int, how[1:]))))
 
 
 if __name__ == "__main__":

@@ -26,13 +26,19 @@ const UNITS: usize = 32768;
 /// The greatest number of bytes of the code units of a call.
 const UNIT_BYTES: usize = 131072;
 
-/// Puts the code units of some bytes into a slice, and returns their number.
+/// Puts the code units of some bytes of UTF-16LE into a slice, and returns their number.
 fn units_of(bytes: &[u8], units: &mut [u16]) -> usize
     ensures { result ≤ length units.new }
 {
     let count = (bytes.len() / 2).min(units.len());
-    for i in 0..count {
-        units[i] = bytes[2 * i] as u16 + bytes[2 * i + 1] as u16 * 0x100;
+    let mut at = 0;
+    while 8 <= count - at {
+        u16x8::from_le_bytes(u8x16::from_slice(&bytes[2 * at..])).copy_to_slice(&mut units[at..]);
+        at += 8;
+    }
+    while at < count {
+        units[at] = bytes[2 * at] as u16 + bytes[2 * at + 1] as u16 * 0x100;
+        at += 1;
     }
     count
 }

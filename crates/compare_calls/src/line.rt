@@ -6,10 +6,21 @@ use crate::LENGTH;
 use encoding_rs::{BomHandling, Encoding};
 use std::alloc::{AllocError, Global};
 
-/// A line: a call of a new decoder or encoder, and the input that it gets before.
+/// What a line calls.
+#[derive(Clone, Copy, PartialEq, Eq)]
+pub enum Callee {
+    Decoder,
+    Encoder,
+    /// A one-shot call of a decoder that lends.
+    LendingDecoder,
+    /// The one-shot call of an encoder that lends.
+    LendingEncoder,
+}
+
+/// A line: a call, and the input that a new decoder or encoder gets before.
 #[derive(Drop)]
 pub struct Line {
-    pub decodes: bool,
+    pub callee: Callee,
     pub encoding: Encoding,
     /// The byte order marks that a decoder looks for.
     pub marks: BomHandling,
@@ -101,10 +112,20 @@ fn marks_of(word: &str) -> BomHandling {
     }
 }
 
+/// Returns what the first word of a line calls.
+fn callee_of(word: &str) -> Callee {
+    match word {
+        "decode" => Callee::Decoder,
+        "lend" => Callee::LendingDecoder,
+        "lend-text" => Callee::LendingEncoder,
+        _ => Callee::Encoder,
+    }
+}
+
 /// Reads a line. `None` if a word is missing, a label is unknown or a room is no number.
 pub(crate) fn line_of(alloc: Global, line: &str) -> Result<Option<Line>, AllocError> {
     let mut words = line.split_ascii_whitespace();
-    let (Some(direction), Some(label), Some(marks), Some(before), Some(chunk)) = (
+    let (Some(callee), Some(label), Some(marks), Some(before), Some(chunk)) = (
         words.next(),
         words.next(),
         words.next(),
@@ -128,7 +149,7 @@ pub(crate) fn line_of(alloc: Global, line: &str) -> Result<Option<Line>, AllocEr
         return Ok(None);
     };
     Ok(Some(Line {
-        decodes: direction == "decode",
+        callee: callee_of(callee),
         encoding,
         marks: marks_of(marks),
         before: bytes_of(alloc, before)?,

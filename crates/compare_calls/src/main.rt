@@ -1,8 +1,8 @@
 //! Makes the single calls that standard input lists, for scripts/compare-crate.
 //!
-//! A line is a call of a new decoder or encoder. It has nine words:
+//! A line is a call of a new decoder or encoder, or a one-shot call that lends. It has nine words:
 //!
-//! - `decode` or `encode`, and a label;
+//! - `decode` or `encode`, or `lend` or `lend-text` for one-shot calls of both, and a label;
 //! - `sniff`, `remove` or `off`: the byte order marks that a decoder looks for;
 //! - the input of a call before, without `last`, and the input of the call, both in hexadecimal or
 //!   `-`: bytes to decode, UTF-8 or code units in UTF-16BE to encode;
@@ -14,17 +14,22 @@
 //! the call's query returned before, how many bytes of its input were Latin-1 then or whether the
 //! encoder had a pending state, and the units that the rest of the input gives, in a call with
 //! `last` and with replacement. `-` stands for none. A line that is no call has the answer `?`.
+//!
+//! A one-shot call gets the input of the call alone. It writes UTF-8, with `replace` or, if no byte
+//! order mark is looked for, with `report`. Its result is `Borrowed`, `Owned` or `None`, its query 0.
 #![tactic(auto)]
 
 ghost use Rattle.std.specs.Prelude.{◌≡◌, ◌≤◌, false, length};
 ghost use Rattle.encoding_rs.specs.Decoding.{has_finished};
 
 mod answer;
+mod lending;
 mod line;
 
 use answer::{Answer, write_bytes, write_units};
 use encoding_rs::{BomHandling, CoderResult, Decoder, Encoder};
-use line::{Call, Line, line_of};
+use lending::{answer_lending, answer_lending_bytes};
+use line::{Call, Callee, Line, line_of};
 use std::io::{self, BufRead, BufReader, BufWriter, Write};
 
 /// The greatest number of units that a call reads or writes.
@@ -203,10 +208,15 @@ fn main(rt: HostRuntime) -> io::Result<()> {
         units: [0; LENGTH],
     };
     for line in BufReader::new(rt.alloc(), rt.stdin())?.lines(rt.alloc()) {
-        match line_of(rt.alloc(), line?.as_str())? {
-            None => writeln!(out, "?")?,
-            Some(line) if line.decodes => answer_decoding(&line, &mut buffers, &mut out)?,
-            Some(line) => answer_encoding(&line, &mut buffers, &mut out)?,
+        let Some(line) = line_of(rt.alloc(), line?.as_str())? else {
+            writeln!(out, "?")?;
+            continue;
+        };
+        match line.callee {
+            Callee::Decoder => answer_decoding(&line, &mut buffers, &mut out)?,
+            Callee::Encoder => answer_encoding(&line, &mut buffers, &mut out)?,
+            Callee::LendingDecoder => answer_lending(rt.alloc(), &line, &mut out)?,
+            Callee::LendingEncoder => answer_lending_bytes(rt.alloc(), &line, &mut out)?,
         }
     }
     out.flush()

@@ -1,48 +1,24 @@
--- ASCII that is handed out where it was read, and a read after a chunk was pulled.
-use Rattle.std.proofs.Common.{◌≡◌, ℕ, suc, ◌+◌, ◌-◌, ◌≤◌, inl, inr, Bool, true, false, ◌||◌, List, [], ◌∷◌, ◌++◌}
+-- Text that is handed out where it was read, and a read after a chunk was pulled.
+use Rattle.std.proofs.Common.{◌≡◌, ℕ, ◌+◌, ◌-◌, ◌≤◌, inl, inr, Bool, true, false, ◌||◌, List, [], ◌++◌}
 use Rattle.std.proofs.Common.{length, take, drop, Option, refl, ap, ◌∙◌, sym, subst, arith, IsUtf8, append_assoc}
 use Rattle.std.proofs.Common.{length-append}
 use Rattle.std.proofs.Math.ListN.{length-drop}
 use Rattle.std.proofs.lemmas.List.{length-take, take-append-drop, take-take}
+use Rattle.std.proofs.lemmas.Str.{chars_from_encodes}
 use Rattle.std.specs.Char.{encode_utf8}
 use Rattle.enc_units.specs.Output.{AreScalars, units_of_text}
-use Rattle.enc_units.specs.Validity.{AreAscii}
-use Rattle.enc_units.proofs.ScalarLemmas.{ascii_scalars}
-use Rattle.enc_units.proofs.Utf8SliceLemmas.{ascii_units}
-use Rattle.enc_decoder.specs.declared.byte_codec.Kind.TheVariants.{Valid}
-use Rattle.enc_decoder.specs.Sequence.{Sequence, sequence_text, any_malformed}
-use Rattle.enc_decoder.specs.Segmentation.{Rule, sequences_of}
-use Rattle.enc_codec.specs.Properties.{IsAsciiCompatible}
+use Rattle.enc_units.proofs.Utf8CharsLemmas.{their_units}
+use Rattle.enc_decoder.specs.Segmentation.{sequences_of}
 use Rattle.enc_stream.specs.LifeCycle.{phase_of, mark_in, encoding_of_mark_or, sequences_in}
 use Rattle.enc_stream.specs.Encodings.{rule_of}
 use Rattle.enc_stream.specs.Decoding.{DecoderState, has_finished, has_ended, remaining_sequences}
 use Rattle.enc_stream.specs.Latin1.{DecoderMayBeLatin1}
+use Rattle.enc_stream.proofs.OwnTextLemmas.{HasOwnText, has_own_text, own, own_first, own_text, own_utf_8, own_valid}
 use Rattle.enc_reader.specs.Source.{IsExhausted}
 use Rattle.enc_reader.specs.Reading.{ReaderState, ReadsOwed, HandsOut, FailsToRead, owed_sequences}
 use Rattle.enc_reader.specs.Turn.{FillsBuffer, IsOwnText}
 use Rattle.enc_reader.proofs.SourceLemmas.{ConsumesRemaining-none}
 use Rattle.enc_reader.proofs.ReadingLemmas.{ReadsOwed-none, ReadsOwed-then, before_end, left_of, handed_utf_8}
-
--- the sequences of ASCII bytes
-abbrev own : List ℕ → List Sequence
-own [] = []
-own (b ∷ bs) = record { bytes = b ∷ []; text = b ∷ []; kind = Valid; set = 0 } ∷ own bs
-
-own_text : (bs : List ℕ) → sequence_text (own bs) ≡ bs
-own_text [] = refl
-own_text (b ∷ bs) = ap (λ x. b ∷ x) (own_text bs)
-
-own_valid : (bs : List ℕ) → any_malformed (own bs) ≡ false
-own_valid [] = refl
-own_valid (b ∷ bs) = own_valid bs
-
-own_first : (rule : Rule) → IsAsciiCompatible rule → (bs z : List ℕ) → AreAscii bs
-    → sequences_of rule 0 (bs ++ z) ≡ own bs ++ sequences_of rule 0 z
-own_first rule is_compatible [] z are_ascii = refl
-own_first rule is_compatible (b ∷ bs) z are_ascii =
-    is_compatible b (are_ascii 0 0 (omega arith)) (bs ++ z)
-    ∙ ap (λ ss. record { bytes = b ∷ []; text = b ∷ []; kind = Valid; set = 0 } ∷ ss)
-    (own_first rule is_compatible bs z (λ k d h. are_ascii (suc k) d (omega arith)))
 
 module _ (d : DecoderState) (may_be_latin1 : DecoderMayBeLatin1 d) where
   between_sequences : (y : List ℕ) → remaining_sequences d y ≡ sequences_of (rule_of d.encoding) 0 y
@@ -67,29 +43,38 @@ module _ (d : DecoderState) (src : List ℕ) (ended : Bool) (n : ℕ) (within : 
   abbrev after : ReaderState
   after = record { decoder = d; unread = drop n src; ended = ended }
 
-  comes_first : (z : List ℕ) → owed_sequences before z ≡ own (take n src) ++ owed_sequences after z
+  has : HasOwnText (rule_of d.encoding) (take n src)
+  has = has_own_text d.encoding (take n src) is_own.own
+
+  comes_first : (z : List ℕ) → owed_sequences before z ≡ own has.text ++ owed_sequences after z
   comes_first z =
       between_sequences d is_own.between (src ++ z)
       ∙ ap (λ x. sequences_of (rule_of d.encoding) 0 (x ++ z)) (sym (take-append-drop n src))
       ∙ ap (sequences_of (rule_of d.encoding) 0) (append_assoc (take n src) (drop n src) z)
-      ∙ own_first (rule_of d.encoding) is_own.compatible (take n src) (drop n src ++ z) is_own.ascii
-      ∙ ap (λ ss. own (take n src) ++ ss)
-      (sym (between_sequences d is_own.between (drop n src ++ z)))
+      ∙ ap (λ x. sequences_of (rule_of d.encoding) 0 (x ++ (drop n src ++ z))) (sym has.encoded)
+      ∙ own_first (rule_of d.encoding) has.text (drop n src ++ z) has.each
+      ∙ ap (λ ss. own has.text ++ ss) (sym (between_sequences d is_own.between (drop n src ++ z)))
+
+  scalars : AreScalars has.text
+  scalars =
+      let utf_8 = own_utf_8 d.encoding (take n src) is_own.own in
+      subst AreScalars
+      (chars_from_encodes utf_8.0 (take n src) utf_8 utf_8.1.1
+      ∙ sym (chars_from_encodes has.text (take n src) utf_8 has.encoded)) utf_8.1.0
 
   pub ReadsOwed-lent : (source : Option (List ℕ))
       → ReadsOwed source source before after [] (take n src) false
   ReadsOwed-lent source = record {
     given = ConsumesRemaining-none source;
     none_after = λ e. (refl, e);
-    done = own (take n src);
+    done = own has.text;
     residual = λ z h. comes_first z;
     encoding = λ z h. no_mark d is_own.between (d.pending ++ (drop n src ++ z))
         ∙ sym (no_mark d is_own.between (d.pending ++ (src ++ z)));
-    scalars = subst AreScalars (sym (own_text (take n src)))
-        (ascii_scalars (take n src) is_own.ascii);
-    text = sym (ascii_units (take n src) is_own.ascii)
-        ∙ ap (units_of_text encode_utf8) (sym (own_text (take n src)));
-    flag = sym (own_valid (take n src));
+    scalars = subst AreScalars (sym (own_text has.text)) scalars;
+    text = sym has.encoded ∙ sym (their_units has.text)
+        ∙ ap (units_of_text encode_utf8) (sym (own_text has.text));
+    flag = sym (own_valid has.text);
     nearer =
         let going = unfinished d is_own.between in
         omega (

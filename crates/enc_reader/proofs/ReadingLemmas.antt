@@ -3,7 +3,7 @@ use Rattle.std.proofs.Common.{◌≡◌, ℕ, ◌+◌, ◌-◌, ◌*◌, ◌<◌
 use Rattle.std.proofs.Common.{length, take, drop, Option, refl, ap, ◌∙◌, sym, subst, arith, append_assoc, append-nil}
 use Rattle.std.proofs.Common.{length-append, if◌then◌else◌, IsUtf8, ◌&&◌, not, nat_eq, drop-drop}
 use Rattle.std.proofs.Math.ListN.{length-drop}
-use Rattle.std.proofs.Math.Seq.{drop-length}
+use Rattle.std.proofs.Math.Seq.{drop-length, take-add}
 use Rattle.std.proofs.lemmas.Bool.Decides.{nat_tests}
 use Rattle.std.proofs.lemmas.List.{drop-take, length-take}
 use Rattle.std.proofs.lemmas.Bool.{false≢true}
@@ -18,7 +18,7 @@ use Rattle.enc_decoder.proofs.SequenceLemmas.{units-append, any_malformed-append
 use Rattle.enc_units.specs.declared.coder_result.CoderResult.{CoderResult}
 use Rattle.enc_units.specs.declared.coder_result.CoderResult.TheVariants.{InputEmpty, OutputFull}
 use Rattle.enc_units.specs.Results.{decoder_result_of}
-use Rattle.enc_stream.specs.Decoding.{DecoderState, has_finished, DecodesReplacing}
+use Rattle.enc_stream.specs.Decoding.{DecoderState, has_finished, remaining_sequences, DecodesReplacing}
 use Rattle.enc_stream.proofs.WholeEncodingLemmas.{still_ahead}
 use Rattle.enc_stream.proofs.DecoderProgressLemmas.{nearer}
 use Rattle.enc_stream.proofs.EndOfInputLemmas.{finishes, none_left, only_put}
@@ -91,32 +91,65 @@ pub before_end : (s : ReaderState) → has_finished s.decoder ≡ false
     → distance_to_end s ≡ 1 + (2 * length s.unread + length s.decoder.pending)
 before_end s f = ap (λ b. if b then 0 else 1 + (2 * length s.unread + length s.decoder.pending)) f
 
--- A chunk that is pulled into a reader which has nothing to decode: all is owed that was owed.
-pub ReadsOwed-pull : (t₀ t₁ : Option (List ℕ)) (s : ReaderState) (x : List ℕ) (ended : Bool)
-    → IsWaiting s → ConsumesRemaining t₀ t₁ x
-    → ReadsOwed t₀ t₁ s (record { decoder = s.decoder; unread = x; ended = ended }) x [] false
-ReadsOwed-pull t₀ t₁ s x ended waits t =
-    let now : ReaderState = record { decoder = s.decoder; unread = x; ended = ended } in
+-- numbers that a test finds different
+not_all : (at filled : ℕ) → nat_eq at filled ≡ false → ¬ (at ≡ filled)
+not_all at filled h = grind (arith, nat_tests)
+
+-- A chunk that is pulled after the unread bytes: all is owed that was owed.
+ReadsOwed-pull : (t₀ t₁ : Option (List ℕ)) (s : ReaderState) (x : List ℕ) (ended : Bool)
+    → s.ended ≡ false → has_finished s.decoder ≡ false → ConsumesRemaining t₀ t₁ x
+    → ReadsOwed t₀ t₁ s (record { decoder = s.decoder; unread = s.unread ++ x; ended = ended }) x []
+    false
+ReadsOwed-pull t₀ t₁ s x ended not_ended going t =
+    let now : ReaderState = record {
+      decoder = s.decoder;
+      unread = s.unread ++ x;
+      ended = ended;
+    } in
     record {
       given = t;
-      none_after = λ e. absurd (false≢true (sym waits.not_ended ∙ e));
+      none_after = λ e. absurd (false≢true (sym not_ended ∙ e));
       done = [];
-      residual = λ z h. ap (λ u.
-          owed_sequences (record { decoder = s.decoder; unread = u; ended = false }) (x ++ z))
-          waits.unread;
+      residual = λ z h. ap (remaining_sequences s.decoder) (sym (append_assoc s.unread x z));
       encoding = λ z h. ap (λ u.
-          owed_encoding (record { decoder = s.decoder; unread = u; ended = false }) (x ++ z))
-          (sym waits.unread);
+          owed_encoding (record { decoder = s.decoder; unread = []; ended = false }) u)
+          (append_assoc s.unread x z);
       scalars = refl;
       text = refl;
       flag = refl;
       nearer = omega (
         arith,
-        before_end s waits.going,
-        before_end now waits.going,
-        ap length
-            waits.unread,
+        before_end s going,
+        before_end now going,
+        length-append s.unread x,
       );
+    }
+
+-- the same, by places in the buffer: `held` bytes are unread, and n more are pulled after them
+pub PullsChunk-after : {t₀ t₁ : Option (List ℕ)} {d : DecoderState} (held n : ℕ)
+    {xs ys : List ℕ}
+    → has_finished d ≡ false → take held ys ≡ xs → n ≤ length ys - held
+    → ConsumesRemaining t₀ t₁ (take n (drop held ys))
+    → PullsChunk t₀ t₁ (record { decoder = d; unread = xs; ended = false })
+    (record { decoder = d; unread = take (held + n) ys; ended = nat_eq n 0 })
+PullsChunk-after {t₀} {t₁} {d} held n {xs} {ys} going held_are bound given =
+    let unread : take (held + n) ys ≡ xs ++ take n (drop held ys) =
+    take-add held n ys ∙ ap (λ u. u ++ take n (drop held ys)) held_are in
+    record {
+      bytes = take n (drop held ys);
+      reads = subst (λ u. ReadsOwed t₀ t₁ (record { decoder = d; unread = xs; ended = false })
+          (record { decoder = d; unread = u; ended = nat_eq n 0 }) (take n (drop held ys)) [] false)
+          (sym unread)
+          (ReadsOwed-pull t₀ t₁ (record { decoder = d; unread = xs; ended = false })
+          (take n (drop held ys)) (nat_eq n 0) refl going given);
+      some = λ e. let nonzero : n ≡ 0 → ⊥ = not_all n 0 e in
+          omega (
+            arith,
+            nonzero,
+            bound,
+            length-take n (drop held ys),
+            length-drop held ys,
+          );
     }
 
 -- a call of the decoder, which is offered what is unread, with room for any character
@@ -303,9 +336,6 @@ left_of filled at read xs h r =
     ∙ drop-take read (filled - (at + read)) (drop at xs)
     ∙ ap (take (filled - (at + read))) (drop-drop read at xs)
 
-not_all : (at filled : ℕ) → nat_eq at filled ≡ false → ¬ (at ≡ filled)
-not_all at filled h = grind (arith, nat_tests)
-
 some_left : (filled at : ℕ) (xs : List ℕ) (ended : Bool) → at ≤ filled → filled ≤ length xs
     → (nat_eq at filled && not ended) ≡ false → ended ≡ false
     → 1 ≤ length (take (filled - at) (drop at xs))
@@ -343,6 +373,19 @@ module _ {old new : DecoderState} (filled at : ℕ) {xs ys : List ℕ} {ended : 
       (record { decoder = new; unread = u; ended = ended }) wrote replaced waits) left
       (IsTurn-call old new src ended room result read wrote replaced waits decodes going
       (some_left filled at xs ended within_filled w tested) roomy waiting text_or_end)
+
+-- Where all bytes are decoded the buffer has room.
+pub room_left : (filled at : ℕ) (xs : List ℕ) → at ≤ filled → filled ≤ length xs → 0 < length xs
+    → take (filled - at) (drop at xs) ≡ [] → filled - at < length xs
+room_left filled at xs h w some none = omega (
+  arith,
+  h,
+  w,
+  some,
+  ap length none,
+  length-take (filled - at) (drop at xs),
+  length-drop at xs,
+)
 
 pub opposite : (a b : Bool) → not a ≡ b → a ≡ not b
 opposite true b negated = ap not negated

@@ -1,10 +1,8 @@
 -- The steps of a read: pulling a chunk from the source, and a turn of the decoder.
 use Rattle.std.specs.Prelude.{◌≡◌, ℕ, ◌<◌, Bool, true, false, List, [], length, Option}
-use Rattle.enc_units.specs.Validity.{AreAscii}
-use Rattle.enc_codec.specs.Properties.{IsAsciiCompatible}
-use Rattle.enc_stream.specs.Encodings.{rule_of}
 use Rattle.enc_stream.specs.Decoding.{DecoderState, has_finished}
 use Rattle.enc_stream.specs.Latin1.{DecoderMayBeLatin1}
+use Rattle.enc_stream.specs.OwnText.{AreTheirOwnText}
 use Rattle.enc_reader.specs.Reading.{ReaderState, ReadsOwed}
 
 -- The reader has nothing to decode, and its source is not at its end.
@@ -27,15 +25,13 @@ pub record IsTurn (old new : ReaderState) (wrote : List ℕ) (replaced waits : B
   pub waiting : waits ≡ true → IsWaiting new
   pub text_or_end : waits ≡ false → wrote ≡ [] → has_finished new.decoder ≡ true
 
--- A chunk is pulled if every byte is decoded. Nothing is handed out.
+-- A chunk is pulled if the buffer lacks bytes. Nothing is handed out.
 pub record FillsBuffer (remaining_before remaining_after : Option (List ℕ))
     (old new : ReaderState) : Type 0 where
   pub bytes : List ℕ
   pub reads : ReadsOwed remaining_before remaining_after old new bytes [] false
 
--- ASCII bytes that come next, to a decoder between two sequences of an ASCII-compatible encoding.
--- They are their own text.
+-- Bytes that come next, to a decoder between two sequences, and are their own text.
 pub record IsOwnText (d : DecoderState) (bytes : List ℕ) : Type 0 where
   pub between : DecoderMayBeLatin1 d
-  pub compatible : IsAsciiCompatible (rule_of d.encoding)
-  pub ascii : AreAscii bytes
+  pub own : AreTheirOwnText d.encoding bytes

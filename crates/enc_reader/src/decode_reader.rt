@@ -6,15 +6,16 @@ ghost use Rattle.std.specs.Prelude.{None, IfOk, OnOk, OnErr, IsErrOf, unwrap_or,
 ghost use Rattle.enc_stream.specs.declared.bom.BomHandling.TheVariants.{Sniff};
 ghost use Rattle.enc_stream.specs.declared.encoding.TheConstants.{UTF_8};
 ghost use Rattle.std.specs.Char.{encode_utf8};
+ghost use Rattle.std.specs.Io.KnownBytes.{IsAtEnd};
+ghost use Rattle.enc_stream.specs.Latin1.{DecoderMayBeLatin1};
 ghost use Rattle.enc_stream.specs.Decoding.{has_finished, AnswersDecodeReplacing};
-ghost use Rattle.enc_reader.specs.Source.{IsExhausted};
+ghost use Rattle.enc_reader.specs.Source.{ConsumesRemaining, IsExhausted};
 ghost use Rattle.std.proofs.Props.{props};
 
 use crate::source::Source;
-use enc_stream::laws::ascii_compatible_decode_ascii;
 use enc_stream::{CoderResult, Decoder, Encoding, UTF_8};
 
-/// The least number of ASCII bytes that are lent. Fewer are decoded together with those that
+/// The least number of bytes that are lent. Fewer are decoded together with those that
 /// follow, since a caller writes each text by itself.
 const LEAST_LENT: usize = 4096;
 
@@ -93,6 +94,45 @@ fn decode_between(
     decoder.decode_to_utf8(&input[at..filled], dst, last)
 }
 
+/// Moves the bytes of `input` from `at` to `filled` to its start.
+fn move_to_start(input: &mut [u8], at: usize, filled: usize)
+    requires before { at ≤ filled }
+    requires within { filled ≤ length input.old }
+    ensures moved { take (filled - at) input.new ≡ take (filled - at) (drop at input.old) }
+    ensures length { length input.new ≡ length input.old }
+{
+    input.copy_within(at..filled, 0);
+}
+
+/// Reads the next bytes of a source into `input`, after its first `held` bytes, which stay. Returns
+/// their number, as [`Source::pull`] does.
+fn pull_after<R: Source>(reader: &mut R, input: &mut [u8], held: usize) -> Result<usize, ()>
+    requires going { R.has_failed reader.old ≡ false }
+    requires room { held < length input.old }
+    ensures held { take held input.new ≡ take held input.old }
+    ensures length { length input.new ≡ length input.old }
+    ensures bound { IfOk result (λ n. n ≤ length input.old - held) }
+    ensures bytes { IfOk result (λ n. ConsumesRemaining (R.remaining reader.old)
+        (R.remaining reader.new) (take n (drop held input.new))) }
+    ensures end { IfOk result (λ n. n ≡ 0 → IsAtEnd (R.remaining reader.new)) }
+    ensures ok { OnOk result (R.has_failed reader.new ≡ R.has_failed reader.old) }
+    ensures none_given { OnErr result (R.remaining reader.new ≡ R.remaining reader.old) }
+    ensures err { OnErr result (R.has_failed reader.new ≡ true) }
+{
+    reader.pull(&mut input[held..])
+}
+
+/// Returns whether the bytes are the start of a character in UTF-8, by the first of them, and other
+/// bytes of it are to follow.
+fn is_cut(bytes: &[u8]) -> bool {
+    match bytes.first() {
+        Some(0xC2..=0xDF) => bytes.len() < 2,
+        Some(0xE0..=0xEF) => bytes.len() < 3,
+        Some(0xF0..=0xF4) => bytes.len() < 4,
+        _ => false,
+    }
+}
+
 /// Reads a source of bytes as text, a chunk at a time (Encoding Standard 6, "decode").
 ///
 /// It writes UTF-8 into buffers of any size from four bytes on, with U+FFFD for each malformed
@@ -105,7 +145,7 @@ pub struct DecodeReader<'a, R: Source> {
     reader: &'a mut R,
     decoder: Decoder,
     input: &'a mut [u8],
-    // the bytes of `input` that the source has returned last, and how many of them are decoded
+    // the number of bytes of `input` that the source has returned, and how many of them are decoded
     filled: usize,
     at: usize,
     // whether the source is at its end
@@ -126,7 +166,7 @@ impl<'a, R: Source> DecodeReader<'a, R> {
     ghost use Rattle.enc_stream.specs.Decoding.{whole_encoding, whole_sequences};
     ghost use Rattle.enc_reader.specs.Reading.{FailsToRead, HandsOut, IsReaderAtEnd, fresh_reader};
     ghost use Rattle.enc_reader.specs.Reading.{owed_sequences, owed_encoding};
-    ghost use Rattle.enc_reader.specs.Turn.{FillsBuffer, IsOwnText, IsTurn, IsWaiting, PullsChunk};
+    ghost use Rattle.enc_reader.specs.Turn.{FillsBuffer, IsOwnText, IsTurn, PullsChunk};
     ghost use Rattle.enc_reader.specs.Reader.{IsAtHand, handed_text, state_of, written_len};
 
     /// Returns a reader of `reader`, through the buffer `input`.
@@ -164,10 +204,11 @@ impl<'a, R: Source> DecodeReader<'a, R> {
         }
     }
 
-    /// Reads the next chunk into the buffer, whose bytes are all decoded. After an `Err`, which is
-    /// `Reader`, the source has failed.
+    /// Reads the next chunk into the buffer, after the bytes that are not decoded, which move to its
+    /// start. After an `Err`, which is `Reader`, the source has failed.
     fn pull(&mut self) -> Result<(), ReadFault>
-        requires waiting { IsWaiting (state_of self.old) }
+        requires not_ended { self.old.ended ≡ false }
+        requires room { self.old.filled - self.old.at < length self.old.input.now }
         requires going { self.old.failed ≡ false }
         ensures ok { OnOk result (PullsChunk (R.remaining self.old.reader.now)
             (R.remaining self.new.reader.now) (state_of self.old) (state_of self.new)) }
@@ -183,12 +224,14 @@ impl<'a, R: Source> DecodeReader<'a, R> {
         ensures had_errors { self.new.had_errors ≡ self.old.had_errors }
         ensures same_reader { self.new.reader.ghost_name ≡ self.old.reader.ghost_name }
     {
-        let Ok(n) = self.reader.pull(self.input) else {
+        move_to_start(self.input, self.at, self.filled);
+        self.filled -= self.at;
+        self.at = 0;
+        let Ok(n) = pull_after(self.reader, self.input, self.filled) else {
             self.failed = true;
             return Err(ReadFault::Reader);
         };
-        self.at = 0;
-        self.filled = n;
+        self.filled += n;
         self.ended = n == 0;
         Ok(())
     }
@@ -283,8 +326,31 @@ impl<'a, R: Source> DecodeReader<'a, R> {
         Ok(turn.written)
     }
 
-    /// Reads the next chunk if all bytes before are decoded and the source is not at its end. After
-    /// an `Err`, which is `Reader`, the source has failed.
+    /// Returns whether the decoder is between two sequences, and no byte order mark may come.
+    fn is_between(&self) -> bool
+        ensures { result ≡ true → DecoderMayBeLatin1 (state_of self.now).decoder }
+    {
+        self.decoder.latin1_byte_compatible_up_to(&[]).is_some()
+    }
+
+    /// Returns whether no sequence is in the buffer whole: every byte is decoded, or the rest is cut
+    /// within a character of UTF-8. It may be false for a rest that fills the buffer.
+    fn lacks_bytes(&self) -> bool
+        ensures room { result ≡ true
+            → self.now.filled - self.now.at < length self.now.input.now }
+    {
+        if self.at == self.filled {
+            return true;
+        }
+        let unread = &self.input[self.at..self.filled];
+        unread.len() < self.input.len()
+            && is_cut(unread)
+            && self.decoder.encoding() == UTF_8
+            && self.is_between()
+    }
+
+    /// Reads the next chunk if the buffer lacks bytes and the source is not at its end. After an
+    /// `Err`, which is `Reader`, the source has failed.
     fn fill(&mut self) -> Result<(), ReadFault>
         requires going { self.old.failed ≡ false }
         ensures ok { OnOk result (FillsBuffer (R.remaining self.old.reader.now)
@@ -300,37 +366,41 @@ impl<'a, R: Source> DecodeReader<'a, R> {
         ensures had_errors { self.new.had_errors ≡ self.old.had_errors }
         ensures same_reader { self.new.reader.ghost_name ≡ self.old.reader.ghost_name }
     {
-        if (self.at == self.filled) & !self.ended {
+        if !self.ended && self.lacks_bytes() {
             self.pull()?;
         }
         Ok(())
     }
 
-    /// Returns the number of unread bytes at the front that are ASCII and their own text.
+    /// Returns the number of unread bytes at the front that are their own text.
     ///
-    /// It is 0 in an encoding that is not ASCII-compatible, while a byte order mark may come, and
-    /// within a sequence.
-    fn ascii_ahead(&self) -> usize
+    /// In UTF-8 they are well-formed, and in another ASCII-compatible encoding they are ASCII. It is
+    /// 0 in other encodings, while a byte order mark may come, and within a sequence.
+    fn text_ahead(&self) -> usize
         ensures within { result ≤ self.now.filled - self.now.at }
         ensures own { 0 < result → IsOwnText (state_of self.now).decoder
             (take result (state_of self.now).unread) }
     {
-        let encoding = self.decoder.encoding();
-        ascii_compatible_decode_ascii(encoding);
-        if !encoding.is_ascii_compatible() {
+        if !self.is_between() {
             return 0;
         }
-        match self.decoder.latin1_byte_compatible_up_to(&[]) {
-            None => 0,
-            Some(_) => Encoding::ascii_valid_up_to(&self.input[self.at..self.filled]),
+        let encoding = self.decoder.encoding();
+        let unread = &self.input[self.at..self.filled];
+        if encoding == UTF_8 {
+            return Encoding::utf8_valid_up_to(unread);
         }
+        if encoding.is_ascii_compatible() {
+            return Encoding::ascii_valid_up_to(unread);
+        }
+        0
     }
 
-    /// Hands out the next text as [`DecodeReader::read_str`] does, but lends long ASCII.
+    /// Hands out the next text as [`DecodeReader::read_str`] does, but lends long bytes that are
+    /// their own text.
     ///
-    /// Lent text stays in the reader's own buffer, and is not copied. [`DecodeReader::text`]
-    /// returns the text, until the next read. It is empty only at the end. At least 4096 bytes are
-    /// lent, and only if an ASCII-compatible encoding decodes them to themselves; `dst` is
+    /// These are well-formed in UTF-8, and ASCII in another ASCII-compatible encoding. Lent text
+    /// stays in the reader's own buffer, and is not copied. [`DecodeReader::text`] returns the text,
+    /// until the next read. It is empty only at the end. At least 4096 bytes are lent; `dst` is
     /// unchanged then. Errors are those of `read_str`. Takes no memory. Condition: `dst` has at
     /// least four bytes.
     pub fn read_or_lend(&mut self, dst: &mut [u8]) -> Result<HandedText, ReadFault>
@@ -365,7 +435,7 @@ impl<'a, R: Source> DecodeReader<'a, R> {
             return Err(ReadFault::Failed);
         }
         self.fill()?;
-        let len = self.ascii_ahead();
+        let len = self.text_ahead();
         if len >= LEAST_LENT {
             self.at += len;
             return Ok(HandedText { len, lent: true });

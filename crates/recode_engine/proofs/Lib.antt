@@ -1,3 +1,4 @@
 pub mod SourceSinkLemmas
 pub mod EncodingLemmas
+pub mod UnencodedLemmas
 pub mod RunLemmas

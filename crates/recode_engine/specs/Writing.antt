@@ -1,5 +1,5 @@
 -- The result of several calls of an encoder, and the bytes that a sink has taken of it.
-use Rattle.std.specs.Prelude.{◌≡◌, ℕ, ◌≤◌, Bool, true, List, [], ◌++◌, Option}
+use Rattle.std.specs.Prelude.{◌≡◌, ℕ, ◌<◌, ◌≤◌, Bool, true, List, [], ◌∷◌, ◌++◌, Option, Some}
 use Rattle.enc_encoder.specs.declared.character_set.CharacterSet.TheVariants.{Ascii}
 use Rattle.enc_encoder.specs.Text.{bytes_of_text, with_references}
 use Rattle.enc_encoder.specs.Unmappable.{any_unmappable}
@@ -39,6 +39,12 @@ pub record StopsWithin (owed : List ℕ → List ℕ) (text : List ℕ) (last : 
   pub unwritten : (z : List ℕ) → (last ≡ true → z ≡ []) → List ℕ
   pub prefix : (z : List ℕ) (h : last ≡ true → z ≡ []) → owed (text ++ z) ≡ wrote ++ unwritten z h
   pub taken : AppendsContents taken_before taken_after wrote
+
+-- An encoder writes each ASCII character as its byte, with no escape sequence before it.
+pub record WritesAsciiAsItself (state : EncoderState) : Type 0 where
+  pub in_ascii : state.set ≡ Ascii
+  pub bytes : (c : ℕ) → c < 0x80 → (raw_state state).rule.bytes c ≡ Some (c ∷ [])
+  pub has : (c : ℕ) → c < 0x80 → (raw_state state).rule.has Ascii c ≡ true
 
 -- UTF-8 needs no room: its text is written as it is, with no character set but ASCII and no
 -- character barred. In other encodings 14 bytes let each call make progress.

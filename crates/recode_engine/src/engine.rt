@@ -1,17 +1,24 @@
 //! Recoding a source into a sink.
 
-ghost use Rattle.std.specs.Prelude.{◌≡◌, ◌<◌, ◌≤◌, length, [], true, false, chars, IsUtf8};
+ghost use Rattle.std.specs.Prelude.{◌≡◌, ◌<◌, ◌≤◌, length, take, [], true, false, chars, IsUtf8};
 ghost use Rattle.std.specs.Prelude.{IfOk, IfErr, OnOk, OnErr};
 ghost use Rattle.enc_encoder.specs.declared.character_set.CharacterSet.TheVariants.{Ascii};
 ghost use Rattle.enc_stream.specs.declared.encoding.TheConstants.{UTF_8};
 ghost use Rattle.enc_stream.specs.Encoder.{fresh_encoder};
 ghost use Rattle.recode_engine.specs.Sink.{AppendsContents, AppendsPrefix};
+ghost use Rattle.enc_units.specs.Validity.{AreAscii};
 ghost use Rattle.recode_engine.specs.Writing.{CanWrite, HasEncoded, StopsWithin, bytes_from_state};
+ghost use Rattle.recode_engine.specs.Writing.{WritesAsciiAsItself};
 ghost use Rattle.recode_engine.specs.Run.{IsRecodeRun, side};
 
 use crate::sink::Sink;
 use enc_reader::{DecodeReader, Source};
+use enc_stream::laws::ascii_compatible_encode_ascii;
 use enc_stream::{CoderResult, Encoder, Encoding, UTF_8};
+
+/// The least number of ASCII bytes that are written without being encoded. Fewer are encoded
+/// together with the characters that follow, since a push may be a system call.
+const LEAST_UNENCODED: usize = 4096;
 
 /// The side of a run that has failed.
 #[derive(PartialEq, Eq, Debug, Drop)]
@@ -90,8 +97,28 @@ fn push_encoded<W: Sink>(
     }
 }
 
-/// Writes a text in UTF-8: as it is if the output encoding is UTF-8, and otherwise encoded; with
-/// `last`, to the end of the text.
+/// Returns the length in bytes of the start of a text that is written without being encoded.
+///
+/// That is ASCII, if the encoding is ASCII-compatible and no escape sequence is due. It is 0 if
+/// there are fewer than [`LEAST_UNENCODED`] bytes.
+fn unencoded_len(encoder: &Encoder, text: &[u8]) -> usize
+    ensures within { result ≤ length text.now }
+    ensures ascii { AreAscii (take result text.now) }
+    ensures own { 0 < result → WritesAsciiAsItself encoder.now }
+{
+    let encoding = encoder.encoding();
+    ascii_compatible_encode_ascii(encoding);
+    if encoder.has_pending_state() || !encoding.is_ascii_compatible() {
+        return 0;
+    }
+    let len = Encoding::ascii_valid_up_to(text);
+    if len < LEAST_UNENCODED { 0 } else { len }
+}
+
+/// Writes a text in UTF-8, to the end of the text with `last`.
+///
+/// It is written as it is if the output encoding is UTF-8. Otherwise long ASCII at its start is, if
+/// the encoding has ASCII as itself, and the rest is encoded.
 ///
 /// Returns whether a reference was written. After an `Err`, which is `Write`, the sink has failed
 /// and has taken a prefix of the bytes.
@@ -119,10 +146,12 @@ fn push_text<W: Sink>(
         push_all(writer, text)?;
         return Ok(false);
     }
+    let len = unencoded_len(encoder, text);
+    push_all(writer, &text[..len])?;
     push_encoded(
         encoder,
         writer,
-        unsafe { str::from_utf8_unchecked(text) },
+        unsafe { str::from_utf8_unchecked(&text[len..]) },
         output,
         last,
     )

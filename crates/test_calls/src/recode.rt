@@ -1,6 +1,7 @@
 //! Worked examples of `recode_engine`: rows of bytes in one encoding and in another, devices that
-//! fail and the calls that they get, labels and statuses.
+//! fail and the calls that they get, long ASCII that is handed on, labels and statuses.
 
 mod devices;
+mod handed_on;
 mod labels;
 mod runs;

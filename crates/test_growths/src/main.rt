@@ -13,7 +13,7 @@
 mod rows;
 
 use encoding_rs::{UTF_8, UTF_16LE, WINDOWS_1252};
-use rows::{DECODE_RUN, DECODED, ENCODE_RUN, ENCODED};
+use rows::{DECODE_RUN, DECODED, ENCODE_RUN, ENCODED, LENT, LENT_BYTES};
 use std::alloc::Global;
 use std::io::Read;
 use std::test::Fail;
@@ -21,6 +21,7 @@ use test_support::growths::{
     Call, compare_decode, compare_decode_run, compare_empty, compare_empty_text, compare_encode,
     compare_encode_run, grow,
 };
+use test_support::lent_growths::{compare_lent_bytes, compare_lent_text};
 
 /// The growth of the program that is refused.
 const REFUSED: usize = 40;
@@ -43,6 +44,36 @@ fn compare_empty_inputs(alloc: Global, growths: usize) -> Result<bool, Fail> {
     Ok(false)
 }
 
+/// Makes the call that lends of this name after some growths: that of a row of [`DECODED`] or
+/// [`ENCODED`] if `_lending` follows its name. Returns whether memory was refused to it, or `None`
+/// if no call has the name.
+fn compare_lending(alloc: Global, name: &str, growths: usize) -> Result<Option<bool>, Fail> {
+    for (own, row) in LENT {
+        if *own == name {
+            return Ok(Some(compare_lent_text(alloc, row, true, growths)?));
+        }
+    }
+    for (own, row) in LENT_BYTES {
+        if *own == name {
+            return Ok(Some(compare_lent_bytes(alloc, row, true, growths)?));
+        }
+    }
+    let Some(name) = name.strip_suffix("_lending") else {
+        return Ok(None);
+    };
+    for (own, row) in DECODED {
+        if *own == name {
+            return Ok(Some(compare_lent_text(alloc, row, false, growths)?));
+        }
+    }
+    for (own, row) in ENCODED {
+        if *own == name {
+            return Ok(Some(compare_lent_bytes(alloc, row, false, growths)?));
+        }
+    }
+    Ok(None)
+}
+
 /// Makes the call of this name after some growths. Returns whether memory was refused to it.
 fn compare(alloc: Global, name: &str, growths: usize) -> Result<bool, Fail> {
     for (own, row) in DECODED {
@@ -54,6 +85,9 @@ fn compare(alloc: Global, name: &str, growths: usize) -> Result<bool, Fail> {
         if *own == name {
             return compare_encode(alloc, row, growths);
         }
+    }
+    if let Some(is_refused) = compare_lending(alloc, name, growths)? {
+        return Ok(is_refused);
     }
     match name {
         "a_run_of_decode_calls" => compare_decode_run(alloc, &DECODE_RUN, growths),

@@ -161,6 +161,87 @@ pub const ENCODED: &[(&str, EncodeRow)] = &[
     ),
 ];
 
+/// ASCII.
+const ASCII: Pattern = Pattern {
+    front: b"",
+    unit: b"letters123",
+    units: 1_000,
+};
+
+/// UTF-8 after its byte order mark.
+const MARKED_UTF_8: Pattern = Pattern {
+    front: b"\xEF\xBB\xBFaaaaaaa",
+    unit: b"len \xE2\x82\xAC\xC3\xA9d",
+    units: 999,
+};
+
+/// Its text.
+const UNMARKED_UTF_8: Pattern = Pattern {
+    front: b"aaaaaaa",
+    unit: b"len \xE2\x82\xAC\xC3\xA9d",
+    units: 999,
+};
+
+/// One-shot calls of decoders that lend, on input that is its own text. Its other calls are those of
+/// [`DECODED`].
+pub const LENT: &[(&str, DecodeRow)] = &[
+    (
+        "decode_lending_its_text",
+        DecodeRow {
+            call: Call::Decode,
+            encoding: WINDOWS_1252,
+            bytes: MARKED_UTF_8,
+            text: UNMARKED_UTF_8,
+            used: UTF_8,
+            is_malformed: false,
+        },
+    ),
+    (
+        "decode_with_bom_removal_lending_its_text",
+        DecodeRow {
+            call: Call::WithBomRemoval,
+            encoding: UTF_8,
+            bytes: MARKED_UTF_8,
+            text: UNMARKED_UTF_8,
+            used: UTF_8,
+            is_malformed: false,
+        },
+    ),
+    (
+        "decode_without_bom_handling_lending_its_text",
+        DecodeRow {
+            call: Call::WithoutBomHandling,
+            encoding: ISO_2022_JP,
+            bytes: ASCII,
+            text: ASCII,
+            used: ISO_2022_JP,
+            is_malformed: false,
+        },
+    ),
+    (
+        "decode_without_bom_handling_and_without_replacement_lending_its_text",
+        DecodeRow {
+            call: Call::WithoutBomHandlingAndWithoutReplacement,
+            encoding: SHIFT_JIS,
+            bytes: ASCII,
+            text: ASCII,
+            used: SHIFT_JIS,
+            is_malformed: false,
+        },
+    ),
+];
+
+/// The one-shot call of an encoder that lends, on a text whose bytes are its own.
+pub const LENT_BYTES: &[(&str, EncodeRow)] = &[(
+    "encode_lending_its_bytes",
+    EncodeRow {
+        encoding: SHIFT_JIS,
+        text: ASCII,
+        bytes: ASCII,
+        has_references: false,
+    },
+)];
+
 /// A run of two calls: the first one into UTF-16, up to a malformed byte, which it reports; and one
 /// into UTF-8.
 pub const DECODE_RUN: DecodeRunRow = DecodeRunRow {

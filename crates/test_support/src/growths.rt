@@ -55,7 +55,7 @@ fn is_pattern(bytes: &[u8], want: &Pattern) -> bool {
 }
 
 /// Compares bytes with those of the pattern.
-fn compare(bytes: &[u8], want: &Pattern) -> Result<(), Fail> {
+pub(crate) fn compare(bytes: &[u8], want: &Pattern) -> Result<(), Fail> {
     if is_pattern(bytes, want) {
         return Ok(());
     }
@@ -79,7 +79,7 @@ pub fn grow(alloc: Global, times: usize) -> Result<(), Fail> {
 }
 
 /// The bytes of a pattern. It grows a number of times, at least once.
-fn input_of(alloc: Global, pattern: &Pattern, growths: usize) -> Result<Vec<u8>, Fail> {
+pub(crate) fn input_of(alloc: Global, pattern: &Pattern, growths: usize) -> Result<Vec<u8>, Fail> {
     if length_of(pattern) != LONG {
         return Err(Fail::new("a pattern has another length"));
     }
@@ -167,7 +167,7 @@ pub struct DecodeRow {
 }
 
 /// The case of a row.
-fn case_of(encoding: Encoding, input: &Pattern) -> Case<'static> {
+pub(crate) fn case_of(encoding: Encoding, input: &Pattern) -> Case<'static> {
     Case {
         name: encoding.name(),
         input: input.unit,

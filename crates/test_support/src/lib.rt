@@ -12,5 +12,6 @@ pub mod devices;
 pub mod encoding;
 pub mod encodings;
 pub mod growths;
+pub mod lent_growths;
 pub mod reading;
 pub mod recoding;

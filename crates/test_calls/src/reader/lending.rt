@@ -1,7 +1,7 @@
-//! Reads that lend long stretches of ASCII in place of copying them.
+//! Reads that lend long stretches of text in place of copying them.
 
-use enc_reader::{DecodeReader, FromRead};
-use encoding_rs::{Encoding, WINDOWS_1252};
+use enc_reader::{DecodeReader, FromRead, Source};
+use encoding_rs::{Encoding, UTF_8, WINDOWS_1252};
 use std::alloc::Global;
 use std::test::Fail;
 use test_support::encodings::table;
@@ -37,6 +37,59 @@ fn lends_ascii_where_it_was_read(rt: HostRuntime) -> Result<(), Fail> {
         assert!(rt; want.len() <= 6 || part == before);
     }
     assert!(rt; !reader.had_errors());
+    Ok(())
+}
+
+/// Returns whether two texts are the same.
+fn are_same(text: &[u8], want: &[u8]) -> bool {
+    text == want
+}
+
+/// Reads once: the text is lent, and is the first `len` bytes of `rest`. Returns those after it.
+fn lent<'a, R: Source>(
+    reader: &mut DecodeReader<'_, R>,
+    rest: &'a [u8],
+    len: usize,
+) -> Result<&'a [u8], Fail> {
+    let Some((want, after)) = rest.split_at_checked(len) else {
+        return Err("too little text is left".into());
+    };
+    let mut part = [0; 6];
+    let Ok(handed) = reader.read_or_lend(&mut part) else {
+        return Err("the source can't be read".into());
+    };
+    if part != [0; 6] || !are_same(reader.text(&part, handed), want) {
+        return Err("another text is handed out".into());
+    }
+    Ok(after)
+}
+
+#[test]
+fn lends_utf_8_where_it_was_read(rt: HostRuntime) -> Result<(), Fail> {
+    let mut bytes = Vec::new(rt.alloc());
+    bytes.extend_from_slice("éab".as_bytes())?;
+    for _ in 0..7000 {
+        bytes.extend_from_slice("日".as_bytes())?;
+    }
+    let text = bytes.as_slice();
+    let mut source = FromRead::new(&text[..text.len() - 1]);
+    let mut input = [0; 8192];
+    let mut reader = DecodeReader::new(&mut source, Some(UTF_8), &mut input);
+    // the four bytes after which no byte order mark can come
+    compare_read(&mut reader, Ok(4), "éab".as_bytes())?;
+    // chunks that end after one byte, two bytes and two bytes of a character: the rest is in the
+    // next one, and the last character is cut
+    let mut rest = &text[4..];
+    for len in [8187, 8190, 4620] {
+        rest = lent(&mut reader, rest, len)?;
+    }
+    let mut part = [0; 6];
+    let Ok(handed) = reader.read_or_lend(&mut part) else {
+        return Err("the source can't be read".into());
+    };
+    assert!(rt; are_same(reader.text(&part, handed), "\u{FFFD}".as_bytes()));
+    compare_read(&mut reader, Ok(0), b"")?;
+    assert!(rt; reader.had_errors());
     Ok(())
 }
 

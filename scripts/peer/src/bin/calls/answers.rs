@@ -1,5 +1,6 @@
 //! The crate's answers to lines, in the form of crates/compare_calls.
 use encoding_rs::{CoderResult, Decoder, DecoderResult, Encoder, EncoderResult, Encoding};
+use std::borrow::Cow;
 use std::panic::{catch_unwind, AssertUnwindSafe};
 
 /// The greatest number of units that a call reads or writes.
@@ -39,16 +40,19 @@ struct Offer<'a> {
 pub fn answer(line: &str) -> String {
     match call_of(line) {
         None => String::from("?"),
-        Some((decodes, encoding, call)) => {
-            let made = catch_unwind(AssertUnwindSafe(|| {
-                if decodes { answer_decoding(encoding, &call) } else { answer_encoding(encoding, &call) }
+        Some((direction, encoding, call)) => {
+            let made = catch_unwind(AssertUnwindSafe(|| match direction {
+                "decode" => answer_decoding(encoding, &call),
+                "lend" => answer_lending(encoding, &call),
+                "lend-text" => answer_lending_bytes(encoding, &call),
+                _ => answer_encoding(encoding, &call),
             }));
             made.unwrap_or_else(|_| String::from("panic"))
         }
     }
 }
 
-fn call_of(line: &str) -> Option<(bool, &'static Encoding, Call<'_>)> {
+fn call_of(line: &str) -> Option<(&str, &'static Encoding, Call<'_>)> {
     let words: Vec<&str> = line.split_ascii_whitespace().collect();
     let [direction, label, marks, before, chunk, room, last, units, mode] = words[..] else { return None };
     let call = Call {
@@ -60,7 +64,7 @@ fn call_of(line: &str) -> Option<(bool, &'static Encoding, Call<'_>)> {
         utf16: units == "utf16",
         replaces: mode == "replace",
     };
-    Some((direction == "decode", Encoding::for_label(label.as_bytes())?, call))
+    Some((direction, Encoding::for_label(label.as_bytes())?, call))
 }
 
 /// The bytes of hexadecimal digits, and none of `-`.
@@ -152,6 +156,50 @@ fn encode(encoder: &mut Encoder, offer: Offer) -> Answer {
     };
     answer.units = hex(&bytes[..answer.written]);
     answer
+}
+
+/// Makes a one-shot call of a decoder, which may lend its input.
+fn answer_lending(encoding: &'static Encoding, call: &Call) -> String {
+    let src = &call.chunk;
+    let (text, used, replaced) = match (call.marks, call.replaces) {
+        ("sniff", _) => {
+            let (text, used, replaced) = encoding.decode(src);
+            (Some(text), used, replaced)
+        }
+        ("remove", _) => {
+            let (text, replaced) = encoding.decode_with_bom_removal(src);
+            (Some(text), encoding, replaced)
+        }
+        (_, true) => {
+            let (text, replaced) = encoding.decode_without_bom_handling(src);
+            (Some(text), encoding, replaced)
+        }
+        (_, false) => {
+            let text = encoding.decode_without_bom_handling_and_without_replacement(src);
+            let replaced = text.is_none();
+            (text, encoding, replaced)
+        }
+    };
+    let (result, bytes) = match &text {
+        Some(Cow::Borrowed(text)) => ("Borrowed", text.as_bytes()),
+        Some(Cow::Owned(text)) => ("Owned", text.as_bytes()),
+        None => ("None", &b""[..]),
+    };
+    one_shot(result, src.len(), bytes, replaced, used)
+}
+
+/// Makes the one-shot call of an encoder, which may lend its text.
+fn answer_lending_bytes(encoding: &'static Encoding, call: &Call) -> String {
+    let text = std::str::from_utf8(&call.chunk).unwrap_or("");
+    let (bytes, used, replaced) = encoding.encode(text);
+    let result = if matches!(bytes, Cow::Borrowed(_)) { "Borrowed" } else { "Owned" };
+    one_shot(result, text.len(), &bytes, replaced, used)
+}
+
+/// The answer of a one-shot call.
+fn one_shot(result: &str, read: usize, bytes: &[u8], replaced: bool, used: &'static Encoding) -> String {
+    let (result, written, replaced) = (String::from(result), bytes.len(), Some(replaced));
+    Answer { result, read, written, replaced, units: hex(bytes) }.written_with(used.name(), None, "-", "-")
 }
 
 fn of_replacing((result, read, written, replaced): (CoderResult, usize, usize, bool)) -> Answer {

@@ -19,9 +19,38 @@ const SINGLE: [&str; 27] = [
     "windows-1256", "windows-1257", "windows-1258", "x-mac-cyrillic",
 ];
 
+/// The name of an encoding, most often of one for each codec.
+fn name(random: &mut Random) -> &'static str {
+    *if random.below(6) == 0 { random.pick(&SINGLE) } else { random.pick(&CODECS) }
+}
+
+/// A line of a one-shot call that lends, of a decoder or of an encoder. Every second input is ASCII but for its end.
+pub fn lending_line(random: &mut Random) -> String {
+    let name = name(random);
+    let Some(encoding) = Encoding::for_label(name.as_bytes()) else { return String::from("?") };
+    let front = if random.below(2) == 0 { ascii(random) } else { Vec::new() };
+    let (direction, marks, rest) = if random.below(5) < 3 {
+        let rest = if random.below(2) == 0 { chunk(encoding, random) } else { fed(encoding, random) };
+        ("lend", *random.pick(&["sniff", "remove", "off"]), rest)
+    } else {
+        ("lend-text", "off", text(encoding, false, random, 20))
+    };
+    let rest = if random.below(2) == 0 { Vec::new() } else { rest };
+    let mark: &[u8] = if random.below(4) == 0 && direction == "lend" { *random.pick(MARKS) } else { b"" };
+    let mode = *random.pick(&["replace", "report"]);
+    format!("{direction} {name} {marks} - {} 0 last utf8 {mode}", hex(&[mark, &front, &rest].concat()))
+}
+
+/// ASCII, which may have an escape or a shift.
+fn ascii(random: &mut Random) -> Vec<u8> {
+    let length = random.below(100);
+    let byte = |_| if random.below(200) == 0 { random.below(0x80) as u8 } else { b' ' + random.below(95) as u8 };
+    (0..length).map(byte).collect()
+}
+
 /// A line, of a decoder or of an encoder.
 pub fn line(random: &mut Random) -> String {
-    let name = *if random.below(6) == 0 { random.pick(&SINGLE) } else { random.pick(&CODECS) };
+    let name = name(random);
     let Some(encoding) = Encoding::for_label(name.as_bytes()) else { return String::from("?") };
     let utf16 = random.below(2) == 0;
     let (direction, marks, before, chunk) = if random.below(5) < 3 {

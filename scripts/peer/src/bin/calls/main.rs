@@ -1,4 +1,5 @@
 //! calls lines SEED COUNT: writes random and hostile lines of single calls, in the form of crates/compare_calls.
+//! calls lending SEED COUNT: writes such lines of one-shot calls that lend.
 //! calls answers: writes the answers of the Rust crate encoding_rs to the lines of standard input.
 //! calls fuzz OURS: makes the call of standard input by the crate and by OURS, a build of crates/compare_calls.
 //! calls seeds FOLDER, calls kept PATH..: write inputs of a fuzzer to begin with, and lines of those that it has kept.
@@ -15,11 +16,13 @@ fn main() -> io::Result<ExitCode> {
     let words: Vec<&str> = arguments.iter().map(String::as_str).collect();
     let mut out = BufWriter::new(io::stdout().lock());
     match words[..] {
-        ["lines", seed, count] => {
+        [kind @ ("lines" | "lending"), seed, count] => {
             let (Ok(seed), Ok(count)) = (seed.parse(), count.parse::<usize>()) else { return Ok(ExitCode::from(2)) };
-            let mut random = Random::new(seed, "calls");
+            let (name, line): (_, fn(&mut Random) -> String) =
+                if kind == "lines" { ("calls", lines::line) } else { ("lending", lines::lending_line) };
+            let mut random = Random::new(seed, name);
             for _ in 0..count {
-                writeln!(out, "{}", lines::line(&mut random))?;
+                writeln!(out, "{}", line(&mut random))?;
             }
         }
         ["answers"] => {

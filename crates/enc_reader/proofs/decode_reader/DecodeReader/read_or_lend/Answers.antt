@@ -5,23 +5,23 @@ use Rattle.enc_reader.proofs.decode_reader.DecodeReader.read_or_lend.Goals as go
 pub returns-then-len-ge-LEAST_LENT-clause-ok : goal.returns-then-len-ge-LEAST_LENT-clause-ok
 returns-then-len-ge-LEAST_LENT-clause-ok g c =
     let after_fill = c.fill.new.self in
-    let some : 0 < c.ascii_ahead-len.result = omega arith in
+    let some : 0 < c.text_ahead-len.result = omega arith in
     rw c.fill.ensures.had_errors
     (HandsOut-filled c.in_ok-fill.ensures.ok
-    (HandsOut-chunk _ _ after_fill.filled after_fill.at c.ascii_ahead-len.result
+    (HandsOut-chunk _ _ after_fill.filled after_fill.at c.text_ahead-len.result
     after_fill.input.now _ _
-    after_fill.decoded after_fill.within c.ascii_ahead-len.ensures.within
-    (c.ascii_ahead-len.ensures.own some) after_fill.exhausted))
+    after_fill.decoded after_fill.within c.text_ahead-len.ensures.within
+    (c.text_ahead-len.ensures.own some) after_fill.exhausted))
 
 pub returns-then-len-ge-LEAST_LENT-clause-utf_8 : goal.returns-then-len-ge-LEAST_LENT-clause-utf_8
 returns-then-len-ge-LEAST_LENT-clause-utf_8 g c =
     let after_fill = c.fill.new.self in
-    let some : 0 < c.ascii_ahead-len.result = omega arith in
+    let some : 0 < c.text_ahead-len.result = omega arith in
     handed_is_utf_8
-    (HandsOut-chunk _ _ after_fill.filled after_fill.at c.ascii_ahead-len.result
+    (HandsOut-chunk _ _ after_fill.filled after_fill.at c.text_ahead-len.result
     after_fill.input.now _
-    after_fill.had_errors after_fill.decoded after_fill.within c.ascii_ahead-len.ensures.within
-    (c.ascii_ahead-len.ensures.own some) after_fill.exhausted)
+    after_fill.had_errors after_fill.decoded after_fill.within c.text_ahead-len.ensures.within
+    (c.text_ahead-len.ensures.own some) after_fill.exhausted)
 
 pub returns-in_err-len-clause-reader_fault : goal.returns-in_err-len-clause-reader_fault
 returns-in_err-len-clause-reader_fault g c =

@@ -1,0 +1,89 @@
+//! One-shot calls that lend, and their answers.
+
+use crate::answer::write_bytes;
+use crate::line::Line;
+use encoding_rs::{BomHandling, Encoding, OneShotError};
+use std::alloc::Global;
+use std::borrow::{CowSlice, CowStr};
+use std::io::{self, Write};
+
+/// The answer of a decoder: the text, the encoding that was used, and whether something was
+/// malformed.
+type Answer<'a> = (Option<CowStr<'a>>, Encoding, bool);
+
+/// Makes the call of a line on its input.
+fn lend<'a>(alloc: Global, line: &Line, src: &'a [u8]) -> Result<Answer<'a>, OneShotError> {
+    let encoding = line.encoding;
+    let answer = match (line.marks, line.call().replaces) {
+        (BomHandling::Sniff, _) => {
+            return match encoding.decode_lending(alloc, src) {
+                Ok((text, used, had_errors)) => Ok((Some(text), used, had_errors)),
+                Err(error) => Err(error),
+            };
+        }
+        (BomHandling::Remove, _) => encoding.decode_with_bom_removal_lending(alloc, src),
+        (BomHandling::Off, true) => encoding.decode_without_bom_handling_lending(alloc, src),
+        (BomHandling::Off, false) => {
+            return match encoding.decode_without_bom_handling_and_without_replacement_lending(
+                alloc,
+                src,
+            ) {
+                Ok(Some(text)) => Ok((Some(text), encoding, false)),
+                Ok(None) => Ok((None, encoding, true)),
+                Err(error) => Err(error),
+            };
+        }
+    };
+    match answer {
+        Ok((text, had_errors)) => Ok((Some(text), encoding, had_errors)),
+        Err(error) => Err(error),
+    }
+}
+
+/// Writes the answer of a call that has read `read` bytes and written `bytes`, if it has.
+fn write_answer<W: Write>(
+    out: &mut W,
+    (result, read, bytes): (&str, usize, &[u8]),
+    encoding: Encoding,
+    replaced: bool,
+) -> io::Result<()> {
+    write!(out, "{result} {read} {} {replaced} ", bytes.len())?;
+    write_bytes(out, bytes)?;
+    writeln!(out, " {} 0 - -", encoding.name())
+}
+
+/// Makes a one-shot call of a decoder, and writes its answer: `?` if there is no memory.
+pub(crate) fn answer_lending<W: Write>(alloc: Global, line: &Line, out: &mut W) -> io::Result<()> {
+    let src = line.call().src;
+    let len = src.len();
+    match lend(alloc, line, src) {
+        Ok((Some(CowStr::Borrowed(text)), used, replaced)) => {
+            write_answer(out, ("Borrowed", len, text.as_bytes()), used, replaced)
+        }
+        Ok((Some(CowStr::Owned(text)), used, replaced)) => {
+            write_answer(out, ("Owned", len, text.as_bytes()), used, replaced)
+        }
+        Ok((None, used, replaced)) => write_answer(out, ("None", len, b""), used, replaced),
+        Err(_) => writeln!(out, "?"),
+    }
+}
+
+/// Makes the one-shot call of an encoder, and writes its answer: `?` if there is no memory. Bytes
+/// that are no UTF-8 stand for no text.
+pub(crate) fn answer_lending_bytes<W: Write>(
+    alloc: Global,
+    line: &Line,
+    out: &mut W,
+) -> io::Result<()> {
+    let text = str::from_utf8(line.call().src).unwrap_or("");
+    let len = text.len();
+    match line.encoding.encode_lending(alloc, text) {
+        Ok((CowSlice::Borrowed(bytes), used, replaced)) => {
+            write_answer(out, ("Borrowed", len, bytes), used, replaced)
+        }
+        Ok((CowSlice::Owned(bytes), used, replaced)) => {
+            write_answer(out, ("Owned", len, &bytes), used, replaced)
+        }
+        Err(_) => writeln!(out, "?"),
+    }
+}
