@@ -1,6 +1,6 @@
 //! The bytes of characters, as the loops over runs look them up.
 
-ghost use Rattle.std.specs.Prelude.{ℕ, ◌≤◌, List, IfSome, IsTrue, take};
+ghost use Rattle.std.specs.Prelude.{ℕ, ◌<◌, ◌≤◌, List, [], ◌∷◌, IfSome, IsTrue, take};
 ghost use Rattle.enc_units.specs.Bytes.{byte_list};
 ghost use Rattle.enc_units.specs.Mappings.{AreWrittenAsThemselves, IsWrittenAsItself, KeepsAscii};
 
@@ -41,5 +41,29 @@ pub trait Mapping: Copy {
     {
         let _mapping = self;
         false
+    }
+
+    /// Returns whether [`Mapping::unit_byte`] has most characters of most texts, or false, as it
+    /// does by default.
+    ///
+    /// Takes no memory.
+    #[inline(always)]
+    fn has_unit_bytes(self) -> bool {
+        let _mapping = self;
+        false
+    }
+
+    /// Returns the byte of a character below U+0800, ASCII included, if its bytes are that one byte,
+    /// or 0, as it does by default.
+    ///
+    /// Takes no memory. Condition: it is below U+0800.
+    #[inline(always)]
+    fn unit_byte(self, unit: u16) -> u8
+        requires { unit < 0x800 }
+        ensures { 0 < result → means self (result ∷ []) unit }
+    {
+        let _mapping = self;
+        let _unit = unit;
+        0
     }
 }
