@@ -1,0 +1,5 @@
+use Rattle.enc_units.proofs.Utf8BytesLemmas.{lanes_are}
+use Rattle.enc_units.proofs.utf8_bytes.lanes_at.Goals as goal
+
+pub returns : goal.returns
+returns c = lanes_are c.args.src.now c.args.from _ _ c.units_of.ensures c.leads_of.ensures

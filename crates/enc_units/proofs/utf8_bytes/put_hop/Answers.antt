@@ -1,0 +1,21 @@
+use Rattle.std.proofs.Common.{arith}
+use Rattle.enc_units.proofs.Utf8BytesLemmas.{front_written, ascii_here, writes_on}
+use Rattle.enc_units.proofs.utf8_bytes.put_hop.Goals as goal
+
+pub put_short-requires-clause-utf8 : goal.put_short-requires-clause-utf8
+put_short-requires-clause-utf8 g c =
+    let ascii = c.ascii_from-ascii.ensures in
+    (front_written c.requires.keeps c.requires.utf8 c.requires.lanes
+    (omega (arith, ascii.bound)) (omega (arith, ascii.bound))
+    (ascii_here c.args.src.now c.args.from _ c.args.lanes c.requires.lanes
+    (omega (arith, ascii.bound)) ascii.ascii) (omega (arith, ascii.bound))
+    c.put_wide_lanes.ensures).utf8
+
+pub returns-clause-writes : goal.returns-clause-writes
+returns-clause-writes g c =
+    let ascii = c.ascii_from-ascii.ensures in
+    writes_on (front_written c.requires.keeps c.requires.utf8 c.requires.lanes
+    (omega (arith, ascii.bound)) (omega (arith, ascii.bound))
+    (ascii_here c.args.src.now c.args.from _ c.args.lanes c.requires.lanes
+    (omega (arith, ascii.bound)) ascii.ascii) (omega (arith, ascii.bound))
+    c.put_wide_lanes.ensures) c.put_short-read.ensures.writes

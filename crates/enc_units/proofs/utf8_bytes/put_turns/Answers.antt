@@ -1,0 +1,28 @@
+use Rattle.std.proofs.Common.{◌∙◌, refl, arith}
+use Rattle.enc_units.proofs.Utf8BytesLemmas.{writes_none, writes_on}
+use Rattle.enc_units.proofs.utf8_bytes.put_turns.Goals as goal
+
+pub loop-read-init : goal.loop-read-init
+loop-read-init g c = (
+  omega arith,
+  omega arith,
+  refl,
+  writes_none c.requires.within c.requires.utf8 c.requires.room,
+)
+
+pub put_turn-requires-clause-utf8 : goal.put_turn-requires-clause-utf8
+put_turn-requires-clause-utf8 g c = c.loop-read.invariant.3.utf8
+
+pub loop-read-preserved : goal.loop-read-preserved
+loop-read-preserved g c =
+    let invariant = c.loop-read.invariant in
+    let turn = c.put_turn-more.ensures in
+    let both = writes_on invariant.3 turn.writes in (
+      omega (arith, both.within),
+      omega (arith, both.writes.fits, turn.len, invariant.2),
+      turn.len ∙ invariant.2,
+      both,
+    )
+
+pub returns-clause-writes : goal.returns-clause-writes
+returns-clause-writes g c = writes_on c.loop-read.invariant.3 c.put_turn-more.ensures.writes
