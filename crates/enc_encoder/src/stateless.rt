@@ -37,11 +37,12 @@ pub trait Repertoire: Copy {
     }
 
     /// Returns the byte of a character below U+0800, ASCII included, if its bytes are that one byte,
-    /// or 0, as it does by default.
+    /// or 0, as it does by default. U+07FF has none.
     #[inline(always)]
     fn unit_byte(self, unit: u16) -> u8
         requires { unit < 0x800 }
-        ensures { 0 < result → bytes_for self unit ≡ Some (result ∷ []) }
+        ensures bytes { 0 < result → bytes_for self unit ≡ Some (result ∷ []) }
+        ensures last { unit ≡ 0x7FF → result ≡ 0 }
     {
         let _repertoire = self;
         let _unit = unit;

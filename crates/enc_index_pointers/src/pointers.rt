@@ -111,7 +111,7 @@ pub fn single_byte(index: SingleByteIndex, c: char) -> Option<u32>
 
 /// Returns the byte of a character below U+0800 in a legacy single-byte encoding, or 0.
 ///
-/// It is the character itself in ASCII, and 0x80 and the index pointer beyond ASCII. 0 if there is
+/// It is the character itself in ASCII, and 0x80 and the index pointer beyond ASCII. U+07FF has
 /// none. One load. Takes no memory. Condition: the character is below U+0800.
 #[inline(always)]
 pub fn single_byte_of_unit(index: SingleByteIndex, unit: u16) -> u8
@@ -119,6 +119,7 @@ pub fn single_byte_of_unit(index: SingleByteIndex, unit: u16) -> u8
     ensures ascii { unit < 0x80 → 0 < result → result ≡ unit }
     ensures others { 0x80 ≤ unit → 0 < result
         → (0x80 ≤ result) × (single_byte_pointer index unit ≡ Some (result - 0x80)) }
+    ensures last { unit ≡ 0x7FF → result ≡ 0 }
 {
     let from = index.number() * 0x800;
     byte_in(&SINGLE_BYTE_DIRECT[from..from + 0x800], unit)

@@ -91,6 +91,11 @@ const WRITTEN: &[(Encoding, &str, &[u8])] = &[
         "sixty-four and more ASCII characters stand before and after\u{E}, a shift",
         b"sixty-four and more ASCII characters stand before and after&#65533;, a shift",
     ),
+    (
+        WINDOWS_1252,
+        "here are forty-seven ASCII characters in front é, and then come ASCII characters again",
+        b"here are forty-seven ASCII characters in front \xE9, and then come ASCII characters again",
+    ),
     // the one character that gb18030 does not have
     (
         GB18030,
