@@ -1,12 +1,12 @@
 -- Characters of UTF-8 that are written as one byte each.
-use Rattle.std.proofs.Common.{◌≡◌, ◌∙◌, ℕ, zero, suc, ◌+◌, ◌*◌, ◌/◌, ◌%◌, ◌^◌, ◌<◌, ◌≤◌, Bool, true, false, ◌&&◌, ◌==◌}
-use Rattle.std.proofs.Common.{cond, ltb, eqb-true, List, [], ◌∷◌, ◌++◌, map, length, take, drop, get_or}
-use Rattle.std.proofs.Common.{replicate, refl, ap, sym, subst, arith, length-drop, drop-drop, chars, IsUtf8, inl, inr}
+use Rattle.std.proofs.Common.{◌≡◌, ◌∙◌, ℕ, zero, suc, ◌+◌, ◌*◌, ◌/◌, ◌%◌, ◌^◌, ◌<◌, ◌≤◌, Bool, true, false, ◌&&◌}
+use Rattle.std.proofs.Common.{cond, eqb, ltb, eqb-true, List, [], ◌∷◌, ◌++◌, map, length, take, drop, get_or}
+use Rattle.std.proofs.Common.{replicate, refl, ap, sym, subst, arith, length-drop, drop-drop, chars, IsUtf8, inl, inr, min}
 use Rattle.std.proofs.Math.ListN.{set}
 use Rattle.std.proofs.Math.Nat.{div-div-eq-div-mul}
 use Rattle.std.proofs.lemmas.Bool.{and_parts, cases_lt}
 use Rattle.std.proofs.lemmas.Bool.Decides.{nat_tests}
-use Rattle.std.proofs.lemmas.List.{get_or-drop, length-take-le, take-take}
+use Rattle.std.proofs.lemmas.List.{get_or-drop, get_or-map, length-take-le, take-take}
 use Rattle.std.proofs.lemmas.Nat.{pow-add}
 use Rattle.std.proofs.lemmas.Simd.{get_or-chunk, map-map, zip2_of_maps, splat_is_map, pick_l_whole}
 use Rattle.std.proofs.lemmas.Str.{encode_ascii}
@@ -14,7 +14,7 @@ use Rattle.std.specs.Char.{encode_utf8}
 use Rattle.std.specs.List.{range_with_len}
 use lib.Lanes.{zip2, top, sel_l, put_chunk}
 use Rattle.enc_units.specs.declared.ends.TheConstants.{ENDS}
-use Rattle.enc_units.specs.Mappings.{IsFirstUtf8Char, KeepsAscii, WritesMapped}
+use Rattle.enc_units.specs.Mappings.{IsFirstUtf8Char, AreWrittenAsThemselves, KeepsAscii, WritesMapped}
 use Rattle.enc_units.specs.Pairs.{four_ends, end_after}
 use Rattle.enc_units.specs.Utf8Bytes.{short_unit, lead_bit, AreLanesOf, WritesUtf8}
 use Rattle.enc_units.specs.Validity.{AreAscii}
@@ -25,7 +25,6 @@ use Rattle.enc_units.proofs.Utf8Lanes.{top_flag}
 use Rattle.enc_units.proofs.Utf8MappedLemmas.{front, at_front, first_is, below_most, own_front}
 use Rattle.enc_units.proofs.Utf8UnitLanes.{IsLanes, lane_at, widened, splat_lanes, sum_lanes, product_lanes, below_lanes}
 use Rattle.enc_units.proofs.Utf8UnitLanes.{chosen_lanes}
-use Rattle.enc_units.proofs.WriteLoopLemmas.{Written, further}
 
 -- what sixteen bytes begin
 
@@ -57,20 +56,34 @@ module _ (xs ys : List ℕ) (la : length xs ≡ 16) (lb : length ys ≡ 16) wher
 pub short_is : (a b : ℕ) → a < 0x100 → b < 0x100 → short a b ≡ short_unit a b
 short_is a b la lb = grind (arith, nat_tests)
 
-pub lanes_are : (src : List ℕ) (from : ℕ) (units : List ℕ) (leads : ℕ)
+pub lanes_are : (src : List ℕ) (from : ℕ) (units clamped : List ℕ) (leads : ℕ)
     → ((k : ℕ) → k < 16 → get_or units k 0 ≡ short_unit (get_or (take 16 (drop from src)) k 0)
     (get_or (take 16 (drop (from + 1) src)) k 0))
+    → length units ≡ 16
+    → clamped ≡ map (λ u. min u 0x7FF) units
     → ((k : ℕ) → k < 16 → leads / 2 ^ k % 2 ≡ lead_bit (get_or (take 16 (drop from src)) k 0))
-    → AreLanesOf src from units leads
-lanes_are src from units leads are_units are_leads = record {
+    → AreLanesOf src from clamped leads
+lanes_are src from units clamped leads are_units long are_clamped are_leads = record {
   unit = λ k l.
       let here = get_or-chunk from 16 src k 0 l in
       let place : from + 1 + k ≡ from + k + 1 = omega arith in
       let after = get_or-chunk (from + 1) 16 src k 0 l ∙ ap (λ j. get_or src j 0) place in
-      are_units k l ∙ ap (λ a. short_unit a (get_or (take 16 (drop (from + 1) src)) k 0)) here
-      ∙ ap (short_unit (get_or src (from + k) 0)) after;
+      let unit = are_units k l
+      ∙ ap (λ a. short_unit a (get_or (take 16 (drop (from + 1) src)) k 0)) here
+      ∙ ap (short_unit (get_or src (from + k) 0)) after in
+      ap (λ us. get_or us k 0) are_clamped
+      ∙ get_or-map (λ u. min u 0x7FF) units k 0 0 (omega (arith, long, l))
+      ∙ ap (λ u. min u 0x7FF) unit;
   lead = λ k l. are_leads k l ∙ ap lead_bit (get_or-chunk from 16 src k 0 l);
 }
+
+-- a clamped character with a byte is the character itself, where U+07FF has none
+unclamped : (unit place byte : ℕ) → place ≡ min unit 0x7FF → 0 < byte
+    → (place ≡ 0x7FF → byte ≡ 0) → (unit < 0x800) × (place ≡ unit)
+unclamped unit place byte is some last = elim (cases_lt unit 0x7FF) [
+  | inl low ↦ (omega (arith, low), omega (arith, is, low))
+  | inr high ↦ absurd (omega (arith, some, last (omega (arith, is, high))))
+]
 
 -- the ends of four characters, by the lead bytes
 
@@ -87,7 +100,8 @@ follows m (a ∷ []) = false
 follows m (a ∷ b ∷ []) = false
 follows m (a ∷ b ∷ c ∷ []) = false
 follows m (a ∷ b ∷ c ∷ d ∷ es) =
-    a == next_end m 0 && (b == next_end m a && (c == next_end m b && d == next_end m c))
+    eqb a (next_end m 0)
+    && (eqb b (next_end m a) && (eqb c (next_end m b) && eqb d (next_end m c)))
 
 unfoldable all_follow : ℕ → List (List ℕ) → Bool
 all_follow m [] = true
@@ -114,17 +128,27 @@ row_follows (row ∷ rows) m (suc i) n ok l e =
 
 -- the four tests of a row
 module _ (m a b c d : ℕ) (es : List ℕ) (h : follows m (a ∷ b ∷ c ∷ d ∷ es) ≡ true) where
-  from_first : (a == next_end m 0 ≡ true)
-      × (b == next_end m a && (c == next_end m b && d == next_end m c) ≡ true)
+  abbrev is_a : Bool
+  is_a = eqb a (next_end m 0)
+
+  abbrev is_b : Bool
+  is_b = eqb b (next_end m a)
+
+  abbrev is_c : Bool
+  is_c = eqb c (next_end m b)
+
+  abbrev is_d : Bool
+  is_d = eqb d (next_end m c)
+
+  from_first : (is_a ≡ true) × (is_b && (is_c && is_d) ≡ true)
   unfolding follows
-  from_first = and_parts (a == next_end m 0)
-      (b == next_end m a && (c == next_end m b && d == next_end m c)) h
+  from_first = and_parts is_a (is_b && (is_c && is_d)) h
 
-  from_second : (b == next_end m a ≡ true) × (c == next_end m b && d == next_end m c ≡ true)
-  from_second = and_parts (b == next_end m a) (c == next_end m b && d == next_end m c) from_first.1
+  from_second : (is_b ≡ true) × (is_c && is_d ≡ true)
+  from_second = and_parts is_b (is_c && is_d) from_first.1
 
-  from_third : (c == next_end m b ≡ true) × (d == next_end m c ≡ true)
-  from_third = and_parts (c == next_end m b) (d == next_end m c) from_second.1
+  from_third : (is_c ≡ true) × (is_d ≡ true)
+  from_third = and_parts is_c is_d from_second.1
 
 row_steps : (m : ℕ) (row : List ℕ) → follows m row ≡ true → (k : ℕ) → k < 4
     → end_after row (suc k) ≡ next_end m (end_after row k)
@@ -192,7 +216,7 @@ short_first bs utf8 some below =
     elim (cases_lt begins.c 0x80) [
       | inl one ↦
           let code = encode_ascii begins.c one in
-          let first = at_front bs begins.c begins.rest _ begins.is code 0 0 in
+          let first : b ≡ begins.c = at_front bs begins.c begins.rest _ begins.is code 0 0 in
           let unit : begins.c ≡ short_unit b c = grind (arith, nat_tests, first, one) in
           let width : 1 ≡ 1 + lead_bit b = grind (arith, nat_tests, first, one) in
           is_first bs begins.c 1 _ _ unit width
@@ -200,8 +224,10 @@ short_first bs utf8 some below =
       | inr more ↦ elim (cases_lt begins.c 0x800) [
         | inl low ↦
             let code = utf8_two begins.c more low in
-            let first = at_front bs begins.c begins.rest _ begins.is code 0 0 in
-            let second = at_front bs begins.c begins.rest _ begins.is code 1 0 in
+            let first : b ≡ 192 + begins.c / 64 =
+            at_front bs begins.c begins.rest _ begins.is code 0 0 in
+            let second : c ≡ 128 + begins.c % 64 =
+            at_front bs begins.c begins.rest _ begins.is code 1 0 in
             let unit : begins.c ≡ short_unit b c =
             grind (arith, nat_tests, first, second, more, low) in
             let width : 2 ≡ 1 + lead_bit b = grind (arith, nat_tests, first, low) in
@@ -210,15 +236,19 @@ short_first bs utf8 some below =
         | inr above ↦ elim (cases_lt begins.c 0x10000) [
           | inl near ↦
               let code = utf8_three begins.c above near in
-              let first = at_front bs begins.c begins.rest _ begins.is code 0 0 in
-              let second = at_front bs begins.c begins.rest _ begins.is code 1 0 in
+              let first : b ≡ 224 + begins.c / 4096 =
+              at_front bs begins.c begins.rest _ begins.is code 0 0 in
+              let second : c ≡ 128 + begins.c / 64 % 64 =
+              at_front bs begins.c begins.rest _ begins.is code 1 0 in
               let unit : short_unit b c ≡ (b * 0x40 + c + 0xCF80) % 0x1_0000 =
               grind (arith, nat_tests, first) in
               absurd (omega (arith, unit, first, second, below, above, near))
           | inr far ↦
               let code = utf8_four begins.c far in
-              let first = at_front bs begins.c begins.rest _ begins.is code 0 0 in
-              let second = at_front bs begins.c begins.rest _ begins.is code 1 0 in
+              let first : b ≡ 240 + begins.c / 262144 =
+              at_front bs begins.c begins.rest _ begins.is code 0 0 in
+              let second : c ≡ 128 + begins.c / 4096 % 64 =
+              at_front bs begins.c begins.rest _ begins.is code 1 0 in
               let most = below_most begins.c begins.scalar in
               let unit : short_unit b c ≡ (b * 0x40 + c + 0xCF80) % 0x1_0000 =
               grind (arith, nat_tests, first) in
@@ -241,7 +271,7 @@ first_at src at unit utf8 within is below =
     ∙ ap (short_unit (get_or src at 0)) second ∙ sym is in
     is_first (drop at src) _ _ _ _ unit_is (ap (λ a. 1 + lead_bit a) first)
     (short_first (drop at src) utf8 (omega (arith, length-drop at src, within))
-    (omega (arith, unit_is, below)))
+    (subst (λ x. x < 0x800) (sym unit_is) below))
 
 -- characters one after another
 
@@ -312,7 +342,8 @@ module _ {Means : List ℕ → ℕ → Type 0} {src : List ℕ} {from : ℕ} whe
       let rest = drop from src in
       let few : n ≤ length rest = omega (arith, within, length-drop from src) in
       let long : length (take n rest) ≡ n = length-take-le n rest few in
-      let own = λ k d l. (ascii k d l, keeps _ (ascii k d l)) in
+      let own : AreWrittenAsThemselves Means (take n rest) =
+      λ k d l. (ascii k d l, keeps _ (ascii k d l)) in
       let begins = own_front Means n rest utf8 few own in
       let later : drop (length (take n rest)) rest ≡ drop (from + n) src =
       ap (λ k. drop k rest) long ∙ drop-drop n from src in
@@ -340,22 +371,29 @@ pub four_further : {Means : List ℕ → ℕ → Type 0} {src units ends first d
     → count < 4 → read ≡ end_after ends count → read < 8 → place + read < 16
     → from + place + read < length src
     → WritesUtf8 Means src (from + place) first dst at read count
-    → get_or units (place + read) 0 < 0x800 → Means (byte ∷ []) (get_or units (place + read) 0)
+    → 0 < byte → Means (byte ∷ []) (get_or units (place + read) 0)
+    → (get_or units (place + read) 0 ≡ 0x7FF → byte ≡ 0)
     → at + count < length dst
     → WritesUtf8 Means src (from + place) first (set dst (at + count) byte) at (get_or ends count 0)
     (count + 1)
 four_further {Means} {src} {units} {ends} {first} {dst} {from} {leads} {place} {read} {count} {at}
-    {byte} lanes ends_are l e few here inside writes below means room =
+    {byte} lanes ends_are l e few here inside writes some means last room =
     let same : from + (place + read) ≡ from + place + read = omega arith in
-    let unit_is = subst (λ p. get_or units (place + read) 0
-    ≡ short_unit (get_or src p 0) (get_or src (p + 1) 0)) same (lanes.unit (place + read) here) in
+    let unit = get_or units (place + read) 0 in
+    let char = short_unit (get_or src (from + place + read) 0)
+    (get_or src (from + place + read + 1) 0) in
+    let clamped : unit ≡ min char 0x7FF = subst (λ p. unit
+    ≡ min (short_unit (get_or src p 0) (get_or src (p + 1) 0)) 0x7FF) same
+    (lanes.unit (place + read) here) in
+    let char_is = unclamped char unit byte clamped some last in
     let lead_is = lanes.lead (place + read) here
     ∙ ap (λ p. lead_bit (get_or src p 0)) same in
     let next : get_or ends count 0 ≡ read + (1 + lead_bit (get_or src (from + place + read) 0)) =
     omega (arith, end_is leads place count read ends ends_are l e few, lead_is) in
     subst (λ n. WritesUtf8 Means src (from + place) first (set dst (at + count) byte) at n
     (count + 1)) (sym next)
-    (writes_on writes (writes_one writes.utf8 inside unit_is below means room))
+    (writes_on writes (writes_one writes.utf8 inside char_is.1
+    (omega (arith, char_is.0, char_is.1)) means room))
 
 -- 64 bytes, and the ASCII in front of them
 
@@ -379,13 +417,31 @@ ascii_here src from n lanes is few ascii =
     subst (λ k. AreAscii (take n (drop k src))) same
     (ascii_loaded src from 0 n lanes is (omega (arith, few)) ascii)
 
--- with these characters the loop over a text goes on
-pub lanes_further : {Means : List ℕ → ℕ → Type 0} {src first dst dst' : List ℕ}
-    {from read at n m : ℕ} → Written chars IsUtf8 Means src first from dst read at
-    → WritesUtf8 Means src read dst dst' at n m
-    → Written chars IsUtf8 Means src first from dst' (read + n) (at + m)
-lanes_further {dst' = dst'} {n = n} {m = m} written lanes =
-    further written dst' n m lanes.within lanes.utf8 lanes.writes
+-- from the front of a text
+
+module _ {Means : List ℕ → ℕ → Type 0} {src : List ℕ} where
+  pub turn_on : {before mid after : List ℕ} {at n m k j : ℕ}
+      → WritesUtf8 Means src 0 before mid at n m
+      → WritesUtf8 Means src n mid after (at + m) k j
+      → WritesUtf8 Means src 0 before after at (n + k) (m + j)
+  turn_on {before} {mid} {after} {at} {n} {m} {k} {j} first then_more =
+      let place : n ≡ 0 + n = omega arith in
+      writes_on first (subst (λ x. WritesUtf8 Means src x mid after (at + m) k j) place then_more)
+
+  module _ {before after : List ℕ} {at n m : ℕ}
+      (writes : WritesUtf8 Means src 0 before after at n m) where
+    place : 0 + n ≡ n
+    place = omega arith
+
+    pub front_within : n ≤ length src
+    front_within = omega (arith, writes.within)
+
+    pub front_utf8 : IsUtf8 (drop n src)
+    front_utf8 = subst (λ k. IsUtf8 (drop k src)) place writes.utf8
+
+    pub front_writes : WritesMapped Means (chars src) (chars (drop n src)) before after at m
+    front_writes = subst (λ k. WritesMapped Means (chars src) (chars (drop k src)) before after at
+        m) place writes.writes
 
 -- the first of 64 lanes are stored
 

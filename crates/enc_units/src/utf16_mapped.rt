@@ -81,7 +81,7 @@ fn put_ascii<M: Mapping>(mapping: M, src: &[u16], dst: &mut [u8], at: usize) -> 
 
 /// Returns sixteen code units, with U+07FF in place of those above it.
 #[inline(always)]
-fn clamped(units: Simd<u16, 16>) -> [u16; 16]
+pub(crate) fn clamped(units: Simd<u16, 16>) -> [u16; 16]
     ensures { result ≡ map (λ u. min u 0x7FF) units }
 {
     let last = Simd::<u16, 16>::splat(0x7FF);

@@ -1,15 +1,16 @@
 //! Characters of one byte each, read from UTF-8 by lanes, with no branch on the length of their
 //! UTF-8.
 
-ghost use Rattle.std.specs.Prelude.{◌≡◌, ℕ, ◌+◌, ◌/◌, ◌%◌, ◌^◌, ◌<◌, ◌≤◌, ◌++◌, length, take, drop};
+ghost use Rattle.std.specs.Prelude.{◌≡◌, ℕ, ◌+◌, ◌/◌, ◌%◌, ◌^◌, ◌<◌, ◌≤◌, ◌++◌, length, take, drop, chars};
 ghost use Rattle.std.specs.Prelude.{slice_index, IsTrue, IsUtf8};
-ghost use Rattle.enc_units.specs.Mappings.{KeepsAscii};
+ghost use Rattle.enc_units.specs.Mappings.{KeepsAscii, WritesMapped};
 ghost use Rattle.enc_units.specs.Utf8Bytes.{short_unit, lead_bit, AreLanesOf, WritesUtf8};
 
 use crate::ascii::are_all_ascii;
 use crate::mapping::Mapping;
 use crate::pairs::ends_of;
 use crate::single_bytes::ascii_from;
+use crate::utf16_mapped::clamped;
 use std::simd::prelude::*;
 
 /// The number of bytes loaded at once.
@@ -24,7 +25,8 @@ const PLACES: [u8; 64] = [
     48, 49, 50, 51, 52, 53, 54, 55, 56, 57, 58, 59, 60, 61, 62, 63,
 ];
 
-/// The characters that sixteen bytes begin, as code units, and a bit for each lead byte.
+/// The characters that sixteen bytes begin, U+07FF in place of those above it, and a bit for each
+/// lead byte.
 #[derive(Clone, Copy)]
 struct Lanes {
     units: [u16; 16],
@@ -61,7 +63,7 @@ fn lanes_at(src: &[u8], from: usize) -> Lanes
     let first = u8x16::from_slice(&src[from..]);
     let second = u8x16::from_slice(&src[from + 1..]);
     Lanes {
-        units: units_of(first, second).to_array(),
+        units: clamped(units_of(first, second)),
         leads: leads_of(first),
     }
 }
@@ -93,16 +95,13 @@ fn put_four<M: Mapping>(
     ensures writes { WritesUtf8 (M.means mapping) src.now (from + place) dst.old dst.new at result.0
         result.1 }
 {
-    let _text = (src, from);
+    let _text = src;
+    let _start = from;
     let ends = ends_of(lanes.leads >> place as u64);
     let mut read = 0;
     let mut count = 0;
     while count < 4 {
-        let unit = lanes.units[place + read];
-        if unit >= 0x800 {
-            return (read, count, false);
-        }
-        let byte = mapping.unit_byte(unit);
+        let byte = mapping.unit_byte(lanes.units[place + read]);
         if byte == 0 {
             return (read, count, false);
         }
@@ -152,6 +151,8 @@ fn put_sixteen<M: Mapping>(
     requires text { from + 33 ≤ length src.now }
     requires utf8 { IsUtf8 (drop from src.now) }
     requires room { at + 16 ≤ length dst.old }
+    ensures read { result.0 ≤ 32 }
+    ensures written { result.1 ≤ 16 }
     ensures some { IsTrue result.2 → 0 < result.0 }
     ensures len { length dst.new ≡ length dst.old }
     ensures writes { WritesUtf8 (M.means mapping) src.now from dst.old dst.new at result.0 result.1 }
@@ -161,6 +162,32 @@ fn put_sixteen<M: Mapping>(
         return (first, count, false);
     }
     let (second, more, is_whole) = put_eight(mapping, src, from + first, dst, at + count);
+    (first + second, count + more, is_whole)
+}
+
+/// Does the same for 32 characters.
+#[inline(always)]
+fn put_dense<M: Mapping>(
+    mapping: M,
+    src: &[u8],
+    from: usize,
+    dst: &mut [u8],
+    at: usize,
+) -> (usize, usize, bool)
+    requires text { from + 65 ≤ length src.now }
+    requires utf8 { IsUtf8 (drop from src.now) }
+    requires room { at + 32 ≤ length dst.old }
+    ensures read { result.0 ≤ 64 }
+    ensures written { result.1 ≤ 32 }
+    ensures some { IsTrue result.2 → 0 < result.0 }
+    ensures len { length dst.new ≡ length dst.old }
+    ensures writes { WritesUtf8 (M.means mapping) src.now from dst.old dst.new at result.0 result.1 }
+{
+    let (first, count, is_whole) = put_sixteen(mapping, src, from, dst, at);
+    if !is_whole {
+        return (first, count, false);
+    }
+    let (second, more, is_whole) = put_sixteen(mapping, src, from + first, dst, at + count);
     (first + second, count + more, is_whole)
 }
 
@@ -203,6 +230,8 @@ fn put_short<M: Mapping>(
     requires text { from + 1 < length src.now }
     requires utf8 { IsUtf8 (drop from src.now) }
     requires room { at < length dst.old }
+    ensures read { result.0 ≤ 2 }
+    ensures written { result.1 ≤ 1 }
     ensures len { length dst.new ≡ length dst.old }
     ensures writes { WritesUtf8 (M.means mapping) src.now from dst.old dst.new at result.0 result.1 }
 {
@@ -248,6 +277,8 @@ fn put_hop<M: Mapping>(
     requires text { from + 65 ≤ length src.now }
     requires utf8 { IsUtf8 (drop from src.now) }
     requires room { at + 64 ≤ length dst.old }
+    ensures read { result.0 ≤ 65 }
+    ensures written { result.1 ≤ 64 }
     ensures some { IsTrue result.2 → 0 < result.0 }
     ensures len { length dst.new ≡ length dst.old }
     ensures writes { WritesUtf8 (M.means mapping) src.now from dst.old dst.new at result.0 result.1 }
@@ -264,8 +295,8 @@ fn are_dense(lanes: u8x64) -> bool {
     lanes.simd_ge(u8x64::splat(0x80)).to_bitmask().count_ones() > 16
 }
 
-/// Writes the bytes of sixteen characters, or up to the first character beyond ASCII of 64 bytes,
-/// or 64 bytes if they are all ASCII.
+/// Writes 64 bytes if they are all ASCII, or the bytes of 32 characters if many are not, or those
+/// up to the first character beyond ASCII.
 ///
 /// Returns the numbers of bytes read and written, and whether more may follow.
 #[inline(always)]
@@ -280,6 +311,8 @@ fn put_turn<M: Mapping>(
     requires text { from + 65 ≤ length src.now }
     requires utf8 { IsUtf8 (drop from src.now) }
     requires room { at + 64 ≤ length dst.old }
+    ensures read { result.0 ≤ 65 }
+    ensures written { result.1 ≤ 64 }
     ensures some { IsTrue result.2 → 0 < result.0 }
     ensures len { length dst.new ≡ length dst.old }
     ensures writes { WritesUtf8 (M.means mapping) src.now from dst.old dst.new at result.0 result.1 }
@@ -290,63 +323,57 @@ fn put_turn<M: Mapping>(
         return (LANES, LANES, true);
     }
     if are_dense(lanes) {
-        return put_sixteen(mapping, src, from, dst, at);
+        return put_dense(mapping, src, from, dst, at);
     }
     put_hop(mapping, src, from, dst, at, lanes)
 }
 
-/// Writes the bytes of characters in turns, while 65 bytes and room for 64 are left.
+/// Writes the bytes of the first characters in turns, while 65 bytes and room for 64 are left.
+///
+/// Returns the numbers of bytes read and written.
 #[inline(never)]
-fn put_turns<M: Mapping>(
-    mapping: M,
-    src: &[u8],
-    from: usize,
-    dst: &mut [u8],
-    at: usize,
-) -> (usize, usize)
+fn put_turns<M: Mapping>(mapping: M, src: &[u8], dst: &mut [u8], at: usize) -> (usize, usize)
     requires keeps { KeepsAscii (M.means mapping) }
-    requires within { from ≤ length src.now }
-    requires utf8 { IsUtf8 (drop from src.now) }
+    requires utf8 { IsUtf8 src.now }
     requires room { at ≤ length dst.old }
-    ensures len { length dst.new ≡ length dst.old }
-    ensures writes { WritesUtf8 (M.means mapping) src.now from dst.old dst.new at result.0 result.1 }
+    ensures writes { WritesUtf8 (M.means mapping) src.now 0 dst.old dst.new at result.0 result.1 }
 {
     let mut read = 0;
     let mut written = 0;
-    while LANES < src.len() - from - read && LANES <= dst.len() - at - written {
-        let (more, count, is_whole) = put_turn(mapping, src, from + read, dst, at + written);
+    while LANES < src.len() - read && LANES <= dst.len() - at - written {
+        let (more, count, goes_on) = put_turn(mapping, src, read, dst, at + written);
         read += more;
         written += count;
-        if !is_whole {
+        if !goes_on {
             break;
         }
     }
     (read, written)
 }
 
-/// Writes the bytes of characters of UTF-8 from `from` on to a slice, if it pays: where more than
-/// 64 bytes are left, and most characters have a byte by [`Mapping::unit_byte`].
+/// Writes the bytes of the first characters of UTF-8 to a slice, from `at` on, if it pays: where
+/// more than 64 bytes are left, and [`Mapping::unit_byte`] has most characters.
 ///
 /// Returns the numbers of bytes read and written. It stops at a character without such a byte.
 #[inline(always)]
 pub(crate) fn put_by_lanes<M: Mapping>(
     mapping: M,
     src: &[u8],
-    from: usize,
     dst: &mut [u8],
     at: usize,
 ) -> (usize, usize)
-    requires within { from ≤ length src.now }
-    requires utf8 { IsUtf8 (drop from src.now) }
+    requires utf8 { IsUtf8 src.now }
     requires room { at ≤ length dst.old }
-    ensures len { length dst.new ≡ length dst.old }
-    ensures writes { WritesUtf8 (M.means mapping) src.now from dst.old dst.new at result.0 result.1 }
+    ensures within { result.0 ≤ length src.now }
+    ensures utf8 { IsUtf8 (drop result.0 src.now) }
+    ensures writes { WritesMapped (M.means mapping) (chars src.now) (chars (drop result.0 src.now))
+        dst.old dst.new at result.1 }
 {
-    if !mapping.has_unit_bytes() || src.len() - from <= LANES {
+    if !mapping.has_unit_bytes() || src.len() <= LANES {
         return (0, 0);
     }
     if !mapping.keeps_ascii() {
         return (0, 0);
     }
-    put_turns(mapping, src, from, dst, at)
+    put_turns(mapping, src, dst, at)
 }

@@ -6,6 +6,7 @@ ghost use Rattle.enc_units.specs.Mappings.{IsFirstUtf8Char, WritesMapped, Writes
 use crate::ascii::copy_strides;
 use crate::mapped_bytes::{MOST_BYTES, put_bytes, put_lanes};
 use crate::mapping::Mapping;
+use crate::utf8_bytes::put_by_lanes;
 use std::simd::prelude::*;
 
 /// A character of UTF-8 and the number of its bytes.

@@ -15,4 +15,4 @@ returns-clause-writes g c =
     subst (λ n. WritesUtf8 (g.M.Mapping.means c.args.mapping) c.args.src.now c.args.from
     c.args.dst.now _ c.args.at n 1) (sym c.short_len.ensures)
     (writes_one c.requires.utf8 (omega arith) c.unit_at-unit.ensures (omega arith)
-    (c.unit_byte-byte.ensures (omega arith)) (omega arith))
+    (c.unit_byte-byte.ensures.means (omega arith)) (omega arith))

@@ -1,5 +1,5 @@
 use Rattle.std.proofs.Common.{◌∙◌, refl, arith}
-use Rattle.enc_units.proofs.Utf8BytesLemmas.{writes_none, writes_on}
+use Rattle.enc_units.proofs.Utf8BytesLemmas.{writes_none, turn_on, front_within, front_utf8}
 use Rattle.enc_units.proofs.utf8_bytes.put_turns.Goals as goal
 
 pub loop-read-init : goal.loop-read-init
@@ -7,22 +7,22 @@ loop-read-init g c = (
   omega arith,
   omega arith,
   refl,
-  writes_none c.requires.within c.requires.utf8 c.requires.room,
+  writes_none (omega arith) c.requires.utf8 c.requires.room,
 )
 
 pub put_turn-requires-clause-utf8 : goal.put_turn-requires-clause-utf8
-put_turn-requires-clause-utf8 g c = c.loop-read.invariant.3.utf8
+put_turn-requires-clause-utf8 g c = front_utf8 c.loop-read.invariant.3
 
 pub loop-read-preserved : goal.loop-read-preserved
 loop-read-preserved g c =
     let invariant = c.loop-read.invariant in
     let turn = c.put_turn-more.ensures in
-    let both = writes_on invariant.3 turn.writes in (
-      omega (arith, both.within),
+    let both = turn_on invariant.3 turn.writes in (
+      front_within both,
       omega (arith, both.writes.fits, turn.len, invariant.2),
       turn.len ∙ invariant.2,
       both,
     )
 
 pub returns-clause-writes : goal.returns-clause-writes
-returns-clause-writes g c = writes_on c.loop-read.invariant.3 c.put_turn-more.ensures.writes
+returns-clause-writes g c = turn_on c.loop-read.invariant.3 c.put_turn-more.ensures.writes
