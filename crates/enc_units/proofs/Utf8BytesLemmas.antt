@@ -121,7 +121,8 @@ unfolding all_follow
 row_follows [] m i n ok l e = absurd (omega arith)
 row_follows (row ∷ rows) m zero n ok l e =
     let same : m ≡ n = omega arith in
-    subst (λ k. follows k row ≡ true) same (and_parts (follows m row) (all_follow (suc m) rows) ok).0
+    subst (λ k. follows k row ≡ true) same
+    (and_parts (follows m row) (all_follow (suc m) rows) ok).0
 row_follows (row ∷ rows) m (suc i) n ok l e =
     row_follows rows (suc m) i n (and_parts (follows m row) (all_follow (suc m) rows) ok).1
     (omega arith) (omega arith)

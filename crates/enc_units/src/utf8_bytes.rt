@@ -16,6 +16,10 @@ use std::simd::prelude::*;
 /// The number of bytes loaded at once.
 const LANES: usize = 64;
 
+/// A run has this number of bytes before lanes are loaded: one that ends at its first characters
+/// would pay for them.
+const SETTLED: usize = 16;
+
 /// The numbers of 64 lanes.
 #[rattlefmt::skip]
 const PLACES: [u8; 64] = [
@@ -76,14 +80,14 @@ fn lanes_at(src: &[u8], from: usize) -> Lanes
 #[inline(always)]
 fn put_four<M: Mapping>(
     mapping: M,
-    lanes: Lanes,
+    lanes: &Lanes,
     place: usize,
     src: &[u8],
     from: usize,
     dst: &mut [u8],
     at: usize,
 ) -> (usize, usize, bool)
-    requires lanes { AreLanesOf src.now from lanes.units lanes.leads }
+    requires lanes { AreLanesOf src.now from lanes.now.units lanes.now.leads }
     requires place { place ≤ 8 }
     requires text { from + 16 ≤ length src.now }
     requires utf8 { IsUtf8 (drop (from + place) src.now) }
@@ -128,14 +132,15 @@ fn put_eight<M: Mapping>(
     ensures written { result.1 ≤ 8 }
     ensures some { IsTrue result.2 → 0 < result.0 }
     ensures len { length dst.new ≡ length dst.old }
-    ensures writes { WritesUtf8 (M.means mapping) src.now from dst.old dst.new at result.0 result.1 }
+    ensures writes { WritesUtf8 (M.means mapping) src.now from dst.old dst.new at result.0
+        result.1 }
 {
     let lanes = lanes_at(src, from);
-    let (first, count, is_whole) = put_four(mapping, lanes, 0, src, from, dst, at);
+    let (first, count, is_whole) = put_four(mapping, &lanes, 0, src, from, dst, at);
     if !is_whole {
         return (first, count, false);
     }
-    let (second, more, is_whole) = put_four(mapping, lanes, first, src, from, dst, at + count);
+    let (second, more, is_whole) = put_four(mapping, &lanes, first, src, from, dst, at + count);
     (first + second, count + more, is_whole)
 }
 
@@ -155,7 +160,8 @@ fn put_sixteen<M: Mapping>(
     ensures written { result.1 ≤ 16 }
     ensures some { IsTrue result.2 → 0 < result.0 }
     ensures len { length dst.new ≡ length dst.old }
-    ensures writes { WritesUtf8 (M.means mapping) src.now from dst.old dst.new at result.0 result.1 }
+    ensures writes { WritesUtf8 (M.means mapping) src.now from dst.old dst.new at result.0
+        result.1 }
 {
     let (first, count, is_whole) = put_eight(mapping, src, from, dst, at);
     if !is_whole {
@@ -181,7 +187,8 @@ fn put_dense<M: Mapping>(
     ensures written { result.1 ≤ 32 }
     ensures some { IsTrue result.2 → 0 < result.0 }
     ensures len { length dst.new ≡ length dst.old }
-    ensures writes { WritesUtf8 (M.means mapping) src.now from dst.old dst.new at result.0 result.1 }
+    ensures writes { WritesUtf8 (M.means mapping) src.now from dst.old dst.new at result.0
+        result.1 }
 {
     let (first, count, is_whole) = put_sixteen(mapping, src, from, dst, at);
     if !is_whole {
@@ -233,7 +240,8 @@ fn put_short<M: Mapping>(
     ensures read { result.0 ≤ 2 }
     ensures written { result.1 ≤ 1 }
     ensures len { length dst.new ≡ length dst.old }
-    ensures writes { WritesUtf8 (M.means mapping) src.now from dst.old dst.new at result.0 result.1 }
+    ensures writes { WritesUtf8 (M.means mapping) src.now from dst.old dst.new at result.0
+        result.1 }
 {
     let unit = unit_at(src[from], src[from + 1]);
     if unit >= 0x800 {
@@ -281,7 +289,8 @@ fn put_hop<M: Mapping>(
     ensures written { result.1 ≤ 64 }
     ensures some { IsTrue result.2 → 0 < result.0 }
     ensures len { length dst.new ≡ length dst.old }
-    ensures writes { WritesUtf8 (M.means mapping) src.now from dst.old dst.new at result.0 result.1 }
+    ensures writes { WritesUtf8 (M.means mapping) src.now from dst.old dst.new at result.0
+        result.1 }
 {
     let ascii = ascii_from(lanes, 0, 63);
     put_wide_lanes(dst, at, lanes, ascii);
@@ -315,7 +324,8 @@ fn put_turn<M: Mapping>(
     ensures written { result.1 ≤ 64 }
     ensures some { IsTrue result.2 → 0 < result.0 }
     ensures len { length dst.new ≡ length dst.old }
-    ensures writes { WritesUtf8 (M.means mapping) src.now from dst.old dst.new at result.0 result.1 }
+    ensures writes { WritesUtf8 (M.means mapping) src.now from dst.old dst.new at result.0
+        result.1 }
 {
     let lanes = u8x64::from_slice(&src[from..]);
     if are_all_ascii(lanes) {
@@ -352,12 +362,14 @@ fn put_turns<M: Mapping>(mapping: M, src: &[u8], dst: &mut [u8], at: usize) -> (
 }
 
 /// Writes the bytes of the first characters of UTF-8 to a slice, from `at` on, if it pays: where
-/// more than 64 bytes are left, and [`Mapping::unit_byte`] has most characters.
+/// `done` bytes of the run are some already, more than 64 are left, and [`Mapping::unit_byte`] has
+/// most characters.
 ///
 /// Returns the numbers of bytes read and written. It stops at a character without such a byte.
 #[inline(always)]
 pub(crate) fn put_by_lanes<M: Mapping>(
     mapping: M,
+    done: usize,
     src: &[u8],
     dst: &mut [u8],
     at: usize,
@@ -369,7 +381,7 @@ pub(crate) fn put_by_lanes<M: Mapping>(
     ensures writes { WritesMapped (M.means mapping) (chars src.now) (chars (drop result.0 src.now))
         dst.old dst.new at result.1 }
 {
-    if !mapping.has_unit_bytes() || src.len() <= LANES {
+    if !mapping.has_unit_bytes() || done < SETTLED || src.len() <= LANES {
         return (0, 0);
     }
     if !mapping.keeps_ascii() {

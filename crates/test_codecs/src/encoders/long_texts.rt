@@ -98,8 +98,8 @@ const WRITTEN: &[(Encoding, &str, &[u8])] = &[
     ),
     (
         WINDOWS_1252,
-        "é comes first, and after it more than sixty-four ASCII characters, written at once",
-        b"\xE9 comes first, and after it more than sixty-four ASCII characters, written at once",
+        "sixteen and more é and then sixty-four and more ASCII characters, which come together",
+        b"sixteen and more \xE9 and then sixty-four and more ASCII characters, which come together",
     ),
     // the one character that gb18030 does not have
     (
