@@ -110,6 +110,15 @@ unit_further {Means} {src} {first} {dst} {at} {count} byte written within low me
     ∙ ap (λ x. x ∷ utf16_lossy_chars (drop 1 rest)) here) means refl (omega arith)
     (put_one (at + count) dst (byte ∷ []) 1 refl (omega arith) room))
 
+-- sixteen units that are ASCII are their own lower bytes
+pub sixteen_low : (us lanes : List ℕ) (n : ℕ) → n ≤ 16 → 16 ≤ n → AreAscii (take n (take 16 us))
+    → lanes ≡ map (λ u. u % 0x80) (take 16 us) → AreAscii (take 16 us) × (lanes ≡ take 16 us)
+sixteen_low us lanes n most all are e =
+    let sixteen : n ≡ 16 = omega (arith, most, all) in
+    let whole = subst AreAscii (take-take 16 16 us (omega arith))
+    (subst (λ k. AreAscii (take k (take 16 us))) sixteen are) in
+    (whole, e ∙ low_bytes (take 16 us) whole)
+
 -- clamped units
 
 pub selected : (n m : ℕ) (us : List ℕ) → length us ≡ n

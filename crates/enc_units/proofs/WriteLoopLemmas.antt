@@ -151,6 +151,20 @@ module _ {chars_in : List ℕ → List ℕ} {Ok : List ℕ → Type 0} {Means : 
       bytes (f
       ∙ ap (λ x. c ∷ chars_in x) after) m e l o)
 
+-- one run after another
+pub joined : (chars_in : List ℕ → List ℕ) {Means : List ℕ → ℕ → Type 0}
+    {src rest before mid after : List ℕ} {at n m j k : ℕ}
+    → WritesMapped Means (chars_in src) (chars_in (drop n src)) before mid at j
+    → rest ≡ drop n src
+    → WritesMapped Means (chars_in rest) (chars_in (drop m rest)) mid after (at + j) k
+    → WritesMapped Means (chars_in src) (chars_in (drop (n + m) src)) before after at (j + k)
+joined chars_in {Means} {src} {rest} {before} {mid} {after} {at} {n} {m} {j} {k} one e more =
+    let back : drop m rest ≡ drop (n + m) src = ap (drop m) e ∙ drop-drop m n src in
+    maps_both Means (chars_in src) (chars_in (drop n src)) (chars_in (drop (n + m) src)) before mid
+    after at j k one
+    (subst (λ z. WritesMapped Means (chars_in z) (chars_in (drop (n + m) src)) mid after (at + j) k) e
+    (subst (λ z. WritesMapped Means (chars_in rest) (chars_in z) mid after (at + j) k) back more))
+
 -- the loop begins
 pub begins : {chars_in : List ℕ → List ℕ} {Ok : List ℕ → Type 0} {Means : List ℕ → ℕ → Type 0}
     {src first : List ℕ} {from : ℕ} → from ≤ length first → Ok src

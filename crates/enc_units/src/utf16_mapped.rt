@@ -1,7 +1,7 @@
 //! Runs of mapped characters, read from UTF-16.
 
 ghost use Rattle.std.specs.Prelude.{◌≡◌, ◌+◌, ◌%◌, ◌<◌, ◌≤◌, ◌++◌, map, length, take, drop};
-ghost use Rattle.std.specs.Prelude.{min, slice_index};
+ghost use Rattle.std.specs.Prelude.{min, slice_index, IsTrue};
 ghost use Rattle.std.specs.Char.Utf16.{utf16_lossy_chars};
 ghost use Rattle.enc_units.specs.Mappings.{WritesMapped, WritesThemselves};
 ghost use Rattle.enc_units.specs.Validity.{AreAscii};
@@ -62,12 +62,8 @@ fn copy_sixteens(src: &[u16], dst: &mut [u8], most: usize) -> usize
 fn put_ascii<M: Mapping>(mapping: M, src: &[u16], dst: &mut [u8], at: usize) -> usize
     requires sixteen { 16 ≤ length src.now }
     requires room { at + 16 ≤ length dst.old }
-    ensures bound { result ≤ 16 }
-    ensures own { WritesThemselves (M.means mapping) src.now dst.old dst.new at result }
+    ensures { WritesThemselves (M.means mapping) src.now dst.old dst.new at result }
 {
-    if src[0] >= 0x80 {
-        return 0;
-    }
     let units = Simd::<u16, 16>::from_slice(src);
     let lanes = low_bytes(units);
     let len = mapping.ascii_len(lanes).min(ascii_units(units));
@@ -111,22 +107,6 @@ fn put_units<M: Mapping>(mapping: M, src: &[u16], dst: &mut [u8], at: usize) -> 
     16
 }
 
-/// Writes the bytes of the first of sixteen code units: those that are ASCII, or that have one byte
-/// by [`Mapping::unit_byte`]. Returns their number.
-#[inline(always)]
-fn put_front<M: Mapping>(mapping: M, src: &[u16], dst: &mut [u8], at: usize) -> usize
-    requires sixteen { 16 ≤ length src.now }
-    requires room { at + 16 ≤ length dst.old }
-    ensures bound { result ≤ 16 }
-    ensures writes { WritesMapped (M.means mapping) (utf16_lossy_chars src.now)
-        (utf16_lossy_chars (drop result src.now)) dst.old dst.new at result }
-{
-    if mapping.has_unit_bytes() {
-        return put_units(mapping, src, dst, at);
-    }
-    put_ascii(mapping, src, dst, at)
-}
-
 /// Writes the first code unit if it is ASCII written as itself, and returns 1, or writes nothing
 /// and returns 0. Condition: it is ASCII.
 #[inline(always)]
@@ -144,6 +124,27 @@ fn put_own<M: Mapping>(mapping: M, src: &[u16], dst: &mut [u8], at: usize) -> us
     1
 }
 
+/// Writes the bytes of the first character, which is beyond ASCII.
+///
+/// Returns the numbers of code units read and of bytes written, which are 0 if the character ends a
+/// run.
+#[inline(always)]
+fn put_beyond<M: Mapping>(mapping: M, src: &[u16], dst: &mut [u8], at: usize) -> (usize, usize)
+    requires beyond { 0x80 ≤ slice_index src.now 0 }
+    requires room { at + 4 ≤ length dst.old }
+    ensures within { result.0 ≤ length src.now }
+    ensures writes { WritesMapped (M.means mapping) (utf16_lossy_chars src.now)
+        (utf16_lossy_chars (drop result.0 src.now)) dst.old dst.new at result.1 }
+{
+    let Some((c, width)) = first(src) else {
+        return (0, 0);
+    };
+    let Some(bytes) = mapping.bytes_in_run(c) else {
+        return (0, 0);
+    };
+    (width, put_bytes(dst, at, bytes))
+}
+
 /// Writes the bytes of the first character.
 ///
 /// Returns the numbers of code units read and of bytes written, which are 0 if the character ends a
@@ -156,17 +157,11 @@ fn put_char<M: Mapping>(mapping: M, src: &[u16], dst: &mut [u8], at: usize) -> (
     ensures writes { WritesMapped (M.means mapping) (utf16_lossy_chars src.now)
         (utf16_lossy_chars (drop result.0 src.now)) dst.old dst.new at result.1 }
 {
-    if src[0] < 0x80 {
-        let len = put_own(mapping, src, dst, at);
-        return (len, len);
+    if src[0] >= 0x80 {
+        return put_beyond(mapping, src, dst, at);
     }
-    let Some((c, width)) = first(src) else {
-        return (0, 0);
-    };
-    let Some(bytes) = mapping.bytes_in_run(c) else {
-        return (0, 0);
-    };
-    (width, put_bytes(dst, at, bytes))
+    let len = put_own(mapping, src, dst, at);
+    (len, len)
 }
 
 /// Writes long ASCII in front in whole steps of sixteen, if all of ASCII is written as itself.
@@ -186,6 +181,61 @@ fn put_strides<M: Mapping>(mapping: M, src: &[u16], dst: &mut [u8], at: usize) -
     }
     let most = src.len().min(dst.len() - at);
     copy_sixteens(src, &mut dst[at..], most)
+}
+
+/// Writes the bytes of sixteen code units by [`Mapping::unit_byte`], and long ASCII after them, or
+/// the bytes of fewer in front and of the character after them.
+///
+/// Returns the numbers of code units read and of bytes written, and whether the run goes on.
+#[inline(always)]
+fn put_looked_up<M: Mapping>(
+    mapping: M,
+    src: &[u16],
+    dst: &mut [u8],
+    at: usize,
+) -> (usize, usize, bool)
+    requires sixteen { 16 ≤ length src.now }
+    requires room { at + 19 ≤ length dst.old }
+    ensures within { result.0 ≤ length src.now }
+    ensures some { IsTrue result.2 → 0 < result.0 }
+    ensures writes { WritesMapped (M.means mapping) (utf16_lossy_chars src.now)
+        (utf16_lossy_chars (drop result.0 src.now)) dst.old dst.new at result.1 }
+{
+    let len = put_units(mapping, src, dst, at);
+    if len == 16 {
+        let more = put_strides(mapping, &src[16..], dst, at + 16);
+        return (16 + more, 16 + more, true);
+    }
+    let (width, count) = put_char(mapping, &src[len..], dst, at + len);
+    (len + width, len + count, width > 0)
+}
+
+/// Writes the ASCII in front that is written as itself, of sixteen code units, and long ASCII after
+/// them, or the bytes of the first character, if it is beyond ASCII.
+///
+/// Returns the same as [`put_looked_up`].
+#[inline(always)]
+fn put_turn<M: Mapping>(mapping: M, src: &[u16], dst: &mut [u8], at: usize) -> (usize, usize, bool)
+    requires sixteen { 16 ≤ length src.now }
+    requires room { at + 19 ≤ length dst.old }
+    ensures within { result.0 ≤ length src.now }
+    ensures some { IsTrue result.2 → 0 < result.0 }
+    ensures writes { WritesMapped (M.means mapping) (utf16_lossy_chars src.now)
+        (utf16_lossy_chars (drop result.0 src.now)) dst.old dst.new at result.1 }
+{
+    if mapping.has_unit_bytes() {
+        return put_looked_up(mapping, src, dst, at);
+    }
+    if src[0] >= 0x80 {
+        let (width, count) = put_beyond(mapping, src, dst, at);
+        return (width, count, width > 0);
+    }
+    let len = put_ascii(mapping, src, dst, at);
+    if len == 16 {
+        let more = put_strides(mapping, &src[16..], dst, at + 16);
+        return (16 + more, 16 + more, true);
+    }
+    (len, len, len > 0)
 }
 
 /// Writes the bytes of the first characters of UTF-16 to a slice, from `from` on.
@@ -208,19 +258,10 @@ pub(crate) fn write_utf16<M: Mapping>(
     let last_sixteen = src.len().saturating_sub(15);
     let last_room = dst.len().saturating_sub(14 + MOST_BYTES);
     'sixteens: while read < last_sixteen && at < last_room {
-        let len = put_front(mapping, &src[read..], dst, at);
+        let (len, count, goes_on) = put_turn(mapping, &src[read..], dst, at);
         read += len;
-        at += len;
-        if len == 16 {
-            let more = put_strides(mapping, &src[read..], dst, at);
-            read += more;
-            at += more;
-            continue;
-        }
-        let (width, count) = put_char(mapping, &src[read..], dst, at);
-        read += width;
         at += count;
-        if width == 0 {
+        if !goes_on {
             return (read, at - from);
         }
     }

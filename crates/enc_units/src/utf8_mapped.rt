@@ -54,15 +54,11 @@ pub(crate) fn found_at(src: &[u8], at: usize) -> Found
 ///
 /// Returns the number of bytes. It is 0 if the first is written otherwise.
 #[inline(always)]
-fn put_front<M: Mapping>(mapping: M, src: &[u8], dst: &mut [u8], at: usize) -> usize
+fn put_ascii<M: Mapping>(mapping: M, src: &[u8], dst: &mut [u8], at: usize) -> usize
     requires sixteen { 16 ≤ length src.now }
     requires room { at + 16 ≤ length dst.old }
-    ensures bound { result ≤ 16 }
-    ensures own { WritesThemselves (M.means mapping) src.now dst.old dst.new at result }
+    ensures { WritesThemselves (M.means mapping) src.now dst.old dst.new at result }
 {
-    if src[0] >= 0x80 {
-        return 0;
-    }
     let lanes = u8x16::from_slice(src);
     let len = mapping.ascii_len(lanes);
     if len < 16 {
@@ -88,6 +84,27 @@ fn put_own<M: Mapping>(mapping: M, src: &[u8], dst: &mut [u8], at: usize) -> usi
     1
 }
 
+/// Writes the bytes of the first character, which is beyond ASCII.
+///
+/// Returns the numbers of bytes read and written, which are 0 if the character ends a run.
+#[inline(always)]
+fn put_beyond<M: Mapping>(mapping: M, src: &[u8], dst: &mut [u8], at: usize) -> (usize, usize)
+    requires some { 1 ≤ length src.now }
+    requires utf8 { IsUtf8 src.now }
+    requires beyond { 0x80 ≤ slice_index src.now 0 }
+    requires room { at + 4 ≤ length dst.old }
+    ensures within { result.0 ≤ length src.now }
+    ensures utf8 { IsUtf8 (drop result.0 src.now) }
+    ensures writes { WritesMapped (M.means mapping) (chars src.now) (chars (drop result.0 src.now))
+        dst.old dst.new at result.1 }
+{
+    let found = found_at(src, 0);
+    let Some(bytes) = mapping.bytes_in_run(found.c) else {
+        return (0, 0);
+    };
+    (found.width, put_bytes(dst, at, bytes))
+}
+
 /// Writes the bytes of the first character.
 ///
 /// Returns the numbers of bytes read and written, which are 0 if the character ends a run.
@@ -101,15 +118,11 @@ fn put_char<M: Mapping>(mapping: M, src: &[u8], dst: &mut [u8], at: usize) -> (u
     ensures writes { WritesMapped (M.means mapping) (chars src.now) (chars (drop result.0 src.now))
         dst.old dst.new at result.1 }
 {
-    if src[0] < 0x80 {
-        let len = put_own(mapping, src, dst, at);
-        return (len, len);
+    if src[0] >= 0x80 {
+        return put_beyond(mapping, src, dst, at);
     }
-    let found = found_at(src, 0);
-    let Some(bytes) = mapping.bytes_in_run(found.c) else {
-        return (0, 0);
-    };
-    (found.width, put_bytes(dst, at, bytes))
+    let len = put_own(mapping, src, dst, at);
+    (len, len)
 }
 
 /// Writes the ASCII in front in whole steps of 64, if all of ASCII is written as itself.
@@ -129,6 +142,27 @@ fn put_strides<M: Mapping>(mapping: M, src: &[u8], dst: &mut [u8], at: usize) ->
     }
     let most = src.len().min(dst.len() - at);
     copy_strides(src, &mut dst[at..], most)
+}
+
+/// Writes the ASCII in front that is written as itself, of sixteen bytes, or the bytes of the first
+/// character, if it is beyond ASCII.
+///
+/// Returns the numbers of bytes read and written, which are 0 if the first character ends a run.
+#[inline(always)]
+fn put_turn<M: Mapping>(mapping: M, src: &[u8], dst: &mut [u8], at: usize) -> (usize, usize)
+    requires sixteen { 16 ≤ length src.now }
+    requires utf8 { IsUtf8 src.now }
+    requires room { at + 16 ≤ length dst.old }
+    ensures within { result.0 ≤ length src.now }
+    ensures utf8 { IsUtf8 (drop result.0 src.now) }
+    ensures writes { WritesMapped (M.means mapping) (chars src.now) (chars (drop result.0 src.now))
+        dst.old dst.new at result.1 }
+{
+    if src[0] >= 0x80 {
+        return put_beyond(mapping, src, dst, at);
+    }
+    let len = put_ascii(mapping, src, dst, at);
+    (len, len)
 }
 
 /// Writes the bytes of the first characters of UTF-8 to a slice, from `from` on.
@@ -151,18 +185,12 @@ pub(crate) fn write_utf8<M: Mapping>(
     let mut read = put_strides(mapping, src, dst, from);
     let mut at = from + read;
     let last_sixteen = src.len().saturating_sub(15);
-    let last_room = dst.len().saturating_sub(14 + MOST_BYTES);
+    let last_room = dst.len().saturating_sub(15);
     'sixteens: while read < last_sixteen && at < last_room {
-        let len = put_front(mapping, &src[read..], dst, at);
+        let (len, count) = put_turn(mapping, &src[read..], dst, at);
         read += len;
-        at += len;
-        if len == 16 {
-            continue;
-        }
-        let (width, count) = put_char(mapping, &src[read..], dst, at);
-        read += width;
         at += count;
-        if width == 0 {
+        if len == 0 {
             return (read, at - from);
         }
     }

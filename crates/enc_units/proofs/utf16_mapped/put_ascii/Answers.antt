@@ -5,8 +5,8 @@ use Rattle.enc_units.proofs.Utf16MappedLemmas.{own_lanes, low_lanes_long}
 use Rattle.enc_units.proofs.WriteLoopLemmas.{front_stored, all_stored}
 use Rattle.enc_units.proofs.utf16_mapped.put_ascii.Goals as goal
 
-pub returns-then-len-lt16-clause-own : goal.returns-then-len-lt16-clause-own
-returns-then-len-lt16-clause-own g c =
+pub returns-then-len-lt16 : goal.returns-then-len-lt16
+returns-then-len-lt16 g c =
     front_stored (g.M.Mapping.means c.args.mapping) c.args.at _ _
     (own_lanes _ _ c.args.src.now _ (omega (arith, c.min-len.ensures))
     c.ascii_units.ensures.bound c.low_bytes-lanes.ensures c.ascii_units.ensures.ascii)
@@ -16,8 +16,8 @@ returns-then-len-lt16-clause-own g c =
     (omega (arith, c.requires.room, c.min-len.ensures, c.ascii_units.ensures.bound))
     c.put_lanes.ensures
 
-pub returns-clause-own : goal.returns-clause-own
-returns-clause-own g c =
+pub returns : goal.returns
+returns g c =
     let fit = c.requires.sixteen in
     all_stored (g.M.Mapping.means c.args.mapping) c.args.src.now c.args.dst.now c.args.at 16 _
     (low_lanes_long c.args.src.now _ c.low_bytes-lanes.ensures fit) fit c.requires.room
