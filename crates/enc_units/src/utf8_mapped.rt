@@ -7,6 +7,7 @@ use crate::ascii::copy_strides;
 use crate::mapped_bytes::{MOST_BYTES, put_bytes, put_lanes};
 use crate::mapping::Mapping;
 use crate::utf8_bytes::put_by_lanes;
+use crate::utf8_bytes::put_by_lanes;
 use std::simd::prelude::*;
 
 /// A character of UTF-8 and the number of its bytes.
@@ -193,6 +194,9 @@ pub(crate) fn write_utf8<M: Mapping>(
         if len == 0 {
             return (read, at - from);
         }
+        let (len, count) = put_by_lanes(mapping, read, &src[read..], dst, at);
+        read += len;
+        at += count;
     }
     let end = dst.len().saturating_sub(MOST_BYTES - 1);
     'ones: while read < src.len() && at < end {

@@ -1,3 +1,4 @@
+use Rattle.std.proofs.Common.{◌+◌}
 use Rattle.enc_units.proofs.Utf8MappedLemmas.{own_front}
 use Rattle.enc_units.proofs.WriteLoopLemmas.{begins_after, rest_is, more_further}
 use Rattle.enc_units.proofs.utf8_mapped.write_utf8.Goals as goal
@@ -11,8 +12,11 @@ sixteens-init g c =
 pub sixteens-preserved : goal.sixteens-preserved
 sixteens-preserved g c =
     let turn = c.put_turn-len.ensures in
-    more_further c.sixteens.invariant (rest_is c.sixteens.read c.args.src.now) turn.within turn.utf8
-    turn.writes
+    let lanes = c.put_by_lanes-len.ensures in
+    let after = more_further c.sixteens.invariant (rest_is c.sixteens.read c.args.src.now)
+    turn.within turn.utf8 turn.writes in
+    more_further after (rest_is (c.sixteens.read + c.put_turn-len.result.0) c.args.src.now)
+    lanes.within lanes.utf8 lanes.writes
 
 pub returns-then-len-eq0-clause-writes : goal.returns-then-len-eq0-clause-writes
 returns-then-len-eq0-clause-writes g c =
