@@ -6,7 +6,7 @@ use Rattle.std.proofs.Math.ListN.{set}
 use Rattle.std.proofs.Math.Nat.{div-div-eq-div-mul}
 use Rattle.std.proofs.lemmas.Bool.{and_parts, cases_lt}
 use Rattle.std.proofs.lemmas.Bool.Decides.{nat_tests}
-use Rattle.std.proofs.lemmas.List.{get_or-drop, get_or-map, length-take-le, take-take}
+use Rattle.std.proofs.lemmas.List.{get_or-drop, length-take-le, take-take}
 use Rattle.std.proofs.lemmas.Nat.{pow-add}
 use Rattle.std.proofs.lemmas.Simd.{get_or-chunk, map-map, zip2_of_maps, splat_is_map, pick_l_whole}
 use Rattle.std.proofs.lemmas.Str.{encode_ascii}
@@ -56,14 +56,19 @@ module _ (xs ys : List ℕ) (la : length xs ≡ 16) (lb : length ys ≡ 16) wher
 pub short_is : (a b : ℕ) → a < 0x100 → b < 0x100 → short a b ≡ short_unit a b
 short_is a b la lb = grind (arith, nat_tests)
 
+clamped_at : (us : List ℕ) (k : ℕ) → get_or (map (λ u. min u 0x7FF) us) k 0
+    ≡ min (get_or us k 0) 0x7FF
+clamped_at [] k = refl
+clamped_at (u ∷ us) zero = refl
+clamped_at (u ∷ us) (suc k) = clamped_at us k
+
 pub lanes_are : (src : List ℕ) (from : ℕ) (units clamped : List ℕ) (leads : ℕ)
     → ((k : ℕ) → k < 16 → get_or units k 0 ≡ short_unit (get_or (take 16 (drop from src)) k 0)
     (get_or (take 16 (drop (from + 1) src)) k 0))
-    → length units ≡ 16
     → clamped ≡ map (λ u. min u 0x7FF) units
     → ((k : ℕ) → k < 16 → leads / 2 ^ k % 2 ≡ lead_bit (get_or (take 16 (drop from src)) k 0))
     → AreLanesOf src from clamped leads
-lanes_are src from units clamped leads are_units long are_clamped are_leads = record {
+lanes_are src from units clamped leads are_units are_clamped are_leads = record {
   unit = λ k l.
       let here = get_or-chunk from 16 src k 0 l in
       let place : from + 1 + k ≡ from + k + 1 = omega arith in
@@ -72,7 +77,7 @@ lanes_are src from units clamped leads are_units long are_clamped are_leads = re
       ∙ ap (λ a. short_unit a (get_or (take 16 (drop (from + 1) src)) k 0)) here
       ∙ ap (short_unit (get_or src (from + k) 0)) after in
       ap (λ us. get_or us k 0) are_clamped
-      ∙ get_or-map (λ u. min u 0x7FF) units k 0 0 (omega (arith, long, l))
+      ∙ clamped_at units k
       ∙ ap (λ u. min u 0x7FF) unit;
   lead = λ k l. are_leads k l ∙ ap lead_bit (get_or-chunk from 16 src k 0 l);
 }
@@ -313,14 +318,14 @@ module _ {Means : List ℕ → ℕ → Type 0} {src : List ℕ} {from : ℕ} whe
       subst (λ k. WritesUtf8 Means src k before after at n m) same writes
 
   -- one character
-  pub writes_one : {before : List ℕ} {at unit byte : ℕ} → IsUtf8 (drop from src)
+  pub writes_one : (byte : ℕ) {before : List ℕ} {at unit : ℕ} → IsUtf8 (drop from src)
       → from < length src
       → unit ≡ short_unit (get_or src from 0) (get_or src (from + 1) 0) → unit < 0x800
       → Means (byte ∷ []) unit
       → at < length before
       → WritesUtf8 Means src from before (set before at byte) at
       (1 + lead_bit (get_or src from 0)) 1
-  writes_one {before} {at} {unit} {byte} utf8 within is below means room =
+  writes_one byte {before} {at} {unit} utf8 within is below means room =
       let first = first_at src from unit utf8 within is below in
       let n = 1 + lead_bit (get_or src from 0) in
       let after : drop n (drop from src) ≡ drop (from + n) src = drop-drop n from src in
@@ -366,8 +371,9 @@ next_bounds leads place k read ends is l e few =
     let next = end_is leads place k read ends is l e few in
     (omega (arith, next), omega (arith, next))
 
-pub four_further : {Means : List ℕ → ℕ → Type 0} {src units ends first dst : List ℕ}
-    {from leads place read count at byte : ℕ} → AreLanesOf src from units leads
+pub four_further : (place : ℕ) {Means : List ℕ → ℕ → Type 0}
+    {src units ends first dst : List ℕ} {from leads read count at byte : ℕ}
+    → AreLanesOf src from units leads
     → ends ≡ four_ends (leads / 2 ^ place)
     → count < 4 → read ≡ end_after ends count → read < 8 → place + read < 16
     → from + place + read < length src
@@ -377,7 +383,7 @@ pub four_further : {Means : List ℕ → ℕ → Type 0} {src units ends first d
     → at + count < length dst
     → WritesUtf8 Means src (from + place) first (set dst (at + count) byte) at (get_or ends count 0)
     (count + 1)
-four_further {Means} {src} {units} {ends} {first} {dst} {from} {leads} {place} {read} {count} {at}
+four_further place {Means} {src} {units} {ends} {first} {dst} {from} {leads} {read} {count} {at}
     {byte} lanes ends_are l e few here inside writes some means last room =
     let same : from + (place + read) ≡ from + place + read = omega arith in
     let unit = get_or units (place + read) 0 in
@@ -393,7 +399,7 @@ four_further {Means} {src} {units} {ends} {first} {dst} {from} {leads} {place} {
     omega (arith, end_is leads place count read ends ends_are l e few, lead_is) in
     subst (λ n. WritesUtf8 Means src (from + place) first (set dst (at + count) byte) at n
     (count + 1)) (sym next)
-    (writes_on writes (writes_one writes.utf8 inside char_is.1
+    (writes_on writes (writes_one byte writes.utf8 inside char_is.1
     (omega (arith, char_is.0, char_is.1)) means room))
 
 -- 64 bytes, and the ASCII in front of them

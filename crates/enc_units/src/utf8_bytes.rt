@@ -346,7 +346,7 @@ fn put_turns<M: Mapping>(mapping: M, src: &[u8], dst: &mut [u8], at: usize) -> (
     requires keeps { KeepsAscii (M.means mapping) }
     requires utf8 { IsUtf8 src.now }
     requires room { at ≤ length dst.old }
-    ensures writes { WritesUtf8 (M.means mapping) src.now 0 dst.old dst.new at result.0 result.1 }
+    ensures { WritesUtf8 (M.means mapping) src.now 0 dst.old dst.new at result.0 result.1 }
 {
     let mut read = 0;
     let mut written = 0;

@@ -7,7 +7,6 @@ use crate::ascii::copy_strides;
 use crate::mapped_bytes::{MOST_BYTES, put_bytes, put_lanes};
 use crate::mapping::Mapping;
 use crate::utf8_bytes::put_by_lanes;
-use crate::utf8_bytes::put_by_lanes;
 use std::simd::prelude::*;
 
 /// A character of UTF-8 and the number of its bytes.

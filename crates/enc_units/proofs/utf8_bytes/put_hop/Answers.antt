@@ -2,8 +2,8 @@ use Rattle.std.proofs.Common.{arith}
 use Rattle.enc_units.proofs.Utf8BytesLemmas.{front_written, ascii_here, writes_on}
 use Rattle.enc_units.proofs.utf8_bytes.put_hop.Goals as goal
 
-pub put_short-requires-clause-utf8 : goal.put_short-requires-clause-utf8
-put_short-requires-clause-utf8 g c =
+pub put_short-read-requires-clause-utf8 : goal.put_short-read-requires-clause-utf8
+put_short-read-requires-clause-utf8 g c =
     let ascii = c.ascii_from-ascii.ensures in
     (front_written c.requires.keeps c.requires.utf8 c.requires.lanes
     (omega (arith, ascii.bound)) (omega (arith, ascii.bound))

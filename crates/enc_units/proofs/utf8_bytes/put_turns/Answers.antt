@@ -10,8 +10,8 @@ loop-read-init g c = (
   writes_none (omega arith) c.requires.utf8 c.requires.room,
 )
 
-pub put_turn-requires-clause-utf8 : goal.put_turn-requires-clause-utf8
-put_turn-requires-clause-utf8 g c = front_utf8 c.loop-read.invariant.3
+pub put_turn-more-requires-clause-utf8 : goal.put_turn-more-requires-clause-utf8
+put_turn-more-requires-clause-utf8 g c = front_utf8 c.loop-read.invariant.3
 
 pub loop-read-preserved : goal.loop-read-preserved
 loop-read-preserved g c =
@@ -24,5 +24,5 @@ loop-read-preserved g c =
       both,
     )
 
-pub returns-clause-writes : goal.returns-clause-writes
-returns-clause-writes g c = turn_on c.loop-read.invariant.3 c.put_turn-more.ensures.writes
+pub returns-then-not-goes_on : goal.returns-then-not-goes_on
+returns-then-not-goes_on g c = turn_on c.loop-read.invariant.3 c.put_turn-more.ensures.writes
