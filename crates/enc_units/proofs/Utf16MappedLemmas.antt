@@ -1,9 +1,12 @@
 -- Runs of characters that are read from UTF-16.
 use Rattle.std.proofs.Common.{◌≡◌, ℕ, zero, suc, ◌%◌, ◌<◌, ◌≤◌, false, List, [], ◌∷◌, ◌++◌, length, get_or, map, take}
 use Rattle.std.proofs.Common.{drop, refl, ap, ◌∙◌, sym, subst, arith, nat_le, nat_lt, ◌&&◌}
-use Rattle.std.proofs.Common.{take-append-drop}
+use Rattle.std.proofs.Common.{take-append-drop, min, cond, ltb, lt-ltb, le-ltb, replicate, inl, inr, ◌+◌, get_or-take, set}
+use Rattle.std.proofs.lemmas.Bool.{cases_lt, cond-true, cond-false}
+use lib.Lanes.{sel_l}
+use Rattle.enc_units.proofs.WriteLoopLemmas.{Written}
 use Rattle.std.proofs.lemmas.Bool.Decides.{nat_tests}
-use Rattle.std.proofs.lemmas.List.{length-map, length-take-le, take-take}
+use Rattle.std.proofs.lemmas.List.{length-map, length-take-le, take-take, get_or-map}
 use Rattle.std.specs.Char.Utf16.{utf16_lossy_chars}
 use Rattle.enc_units.specs.Mappings.{AreWrittenAsThemselves}
 use Rattle.enc_units.specs.Surrogates.{lossy_unit_char}
