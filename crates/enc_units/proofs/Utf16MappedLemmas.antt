@@ -1,12 +1,11 @@
 -- Runs of characters that are read from UTF-16.
-use Rattle.std.proofs.Common.{◌≡◌, ℕ, zero, suc, ◌%◌, ◌<◌, ◌≤◌, false, List, [], ◌∷◌, ◌++◌, length, get_or, map, take}
+use Rattle.std.proofs.Common.{◌≡◌, ℕ, zero, suc, ◌+◌, ◌%◌, ◌<◌, ◌≤◌, false, List, [], ◌∷◌, ◌++◌, length, get_or, map, take}
 use Rattle.std.proofs.Common.{drop, refl, ap, ◌∙◌, sym, subst, arith, nat_le, nat_lt, ◌&&◌}
-use Rattle.std.proofs.Common.{take-append-drop, min, cond, ltb, lt-ltb, le-ltb, replicate, inl, inr, ◌+◌, get_or-take, set}
+use Rattle.std.proofs.Common.{take-append-drop, set, replicate, ltb, lt-ltb, le-ltb, cond, min, length-drop, length-take, inl, inr}
 use Rattle.std.proofs.lemmas.Bool.{cases_lt, cond-true, cond-false}
-use lib.Lanes.{sel_l}
-use Rattle.enc_units.proofs.WriteLoopLemmas.{Written}
 use Rattle.std.proofs.lemmas.Bool.Decides.{nat_tests}
-use Rattle.std.proofs.lemmas.List.{length-map, length-take-le, take-take, get_or-map}
+use Rattle.std.proofs.lemmas.List.{length-map, length-take-le, take-take, get_or-drop, get_or-take, get_or-map}
+use lib.Lanes.{sel_l}
 use Rattle.std.specs.Char.Utf16.{utf16_lossy_chars}
 use Rattle.enc_units.specs.Mappings.{AreWrittenAsThemselves}
 use Rattle.enc_units.specs.Surrogates.{lossy_unit_char}
@@ -14,7 +13,8 @@ use Rattle.enc_units.specs.Validity.{AreAscii}
 use Rattle.enc_units.proofs.AsciiLemmas.{one_ascii}
 use Rattle.enc_units.proofs.CharsLemmas.{lossy_lone}
 use Rattle.enc_units.proofs.LaneLemmas.{all_fewer}
-use Rattle.enc_units.proofs.WriteLoopLemmas.{HasFront}
+use Rattle.enc_units.proofs.MappingLemmas.{put_one}
+use Rattle.enc_units.proofs.WriteLoopLemmas.{HasFront, Written, one_further}
 
 -- no condition: surrogates without their partners are read as U+FFFD
 abbrev pub Any : List ℕ → Type 0
@@ -137,18 +137,25 @@ selected (suc n) m (u ∷ us) e =
     ap (λ x. x ∷ sel_l (map (λ u. ltb u m) us) us (replicate n m)) least
     ∙ ap (λ x. min u m ∷ x) (selected n m us (omega arith))
 
+clamped_at : (us places : List ℕ) (count : ℕ) → places ≡ map (λ u. min u 0x7FF) (take 16 us)
+    → 16 ≤ length us → count < 16 → get_or places count 0 ≡ min (get_or us count 0) 0x7FF
+clamped_at us places count are long few =
+    ap (λ ps. get_or ps count 0) are
+    ∙ get_or-map (λ u. min u 0x7FF) (take 16 us) count 0 0 (omega (arith, length-take 16 us))
+    ∙ ap (λ u. min u 0x7FF) (get_or-take 16 us count 0 few)
+
+pub clamped_low : (us places : List ℕ) (count : ℕ) → places ≡ map (λ u. min u 0x7FF) (take 16 us)
+    → 16 ≤ length us → count < 16 → get_or places count 0 < 0x800
+clamped_low us places count are long few = omega (arith, clamped_at us places count are long few)
+
 -- a clamped unit that has a byte is the unit itself, where 0x7FF has none
 pub unclamped : (us places : List ℕ) (count byte : ℕ)
     → places ≡ map (λ u. min u 0x7FF) (take 16 us) → 16 ≤ length us → count < 16
     → (get_or places count 0 ≡ 0x7FF → byte ≡ 0) → (byte ≡ 0 → ⊥)
     → (get_or us count 0 < 0x800) × (get_or places count 0 ≡ get_or us count 0)
 unclamped us places count byte are long few last some =
-    let taken : get_or (take 16 us) count 0 ≡ get_or us count 0 = get_or-take 16 us count 0 few in
-    let place : get_or places count 0 ≡ min (get_or us count 0) 0x7FF =
-    ap (λ ps. get_or ps count 0) are
-    ∙ get_or-map (λ u. min u 0x7FF) (take 16 us) count 0 0
-    (omega (arith, length-take 16 us)) ∙ ap (λ u. min u 0x7FF) taken in
+    let place = clamped_at us places count are long few in
     elim (cases_lt (get_or us count 0) 0x7FF) [
-      | inl low ↦ (omega arith, omega (arith, place))
-      | inr high ↦ absurd (some (last (omega (arith, place))))
+      | inl low ↦ (omega (arith, low), omega (arith, place, low))
+      | inr high ↦ absurd (some (last (omega (arith, place, high))))
     ]

@@ -152,13 +152,13 @@ module _ {chars_in : List ℕ → List ℕ} {Ok : List ℕ → Type 0} {Means : 
       ∙ ap (λ x. c ∷ chars_in x) after) m e l o)
 
 -- one run after another
-pub joined : (chars_in : List ℕ → List ℕ) {Means : List ℕ → ℕ → Type 0}
-    {src rest before mid after : List ℕ} {at n m j k : ℕ}
+pub joined : (chars_in : List ℕ → List ℕ) {Means : List ℕ → ℕ → Type 0} (n m : ℕ)
+    {src rest before mid after : List ℕ} {at j k : ℕ}
     → WritesMapped Means (chars_in src) (chars_in (drop n src)) before mid at j
     → rest ≡ drop n src
     → WritesMapped Means (chars_in rest) (chars_in (drop m rest)) mid after (at + j) k
     → WritesMapped Means (chars_in src) (chars_in (drop (n + m) src)) before after at (j + k)
-joined chars_in {Means} {src} {rest} {before} {mid} {after} {at} {n} {m} {j} {k} one e more =
+joined chars_in {Means} n m {src} {rest} {before} {mid} {after} {at} {j} {k} one e more =
     let back : drop m rest ≡ drop (n + m) src = ap (drop m) e ∙ drop-drop m n src in
     maps_both Means (chars_in src) (chars_in (drop n src)) (chars_in (drop (n + m) src)) before mid
     after at j k one

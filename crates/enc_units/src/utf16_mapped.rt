@@ -203,8 +203,8 @@ fn put_looked_up<M: Mapping>(
 {
     let len = put_units(mapping, src, dst, at);
     if len == 16 {
-        let more = put_strides(mapping, &src[16..], dst, at + 16);
-        return (16 + more, 16 + more, true);
+        let more = put_strides(mapping, &src[len..], dst, at + len);
+        return (len + more, len + more, true);
     }
     let (width, count) = put_char(mapping, &src[len..], dst, at + len);
     (len + width, len + count, width > 0)
@@ -232,8 +232,8 @@ fn put_turn<M: Mapping>(mapping: M, src: &[u16], dst: &mut [u8], at: usize) -> (
     }
     let len = put_ascii(mapping, src, dst, at);
     if len == 16 {
-        let more = put_strides(mapping, &src[16..], dst, at + 16);
-        return (16 + more, 16 + more, true);
+        let more = put_strides(mapping, &src[len..], dst, at + len);
+        return (len + more, len + more, true);
     }
     (len, len, len > 0)
 }
@@ -271,7 +271,7 @@ pub(crate) fn write_utf16<M: Mapping>(
         read += width;
         at += count;
         if width == 0 {
-            break;
+            return (read, at - from);
         }
     }
     (read, at - from)

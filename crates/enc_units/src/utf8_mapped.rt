@@ -203,7 +203,7 @@ pub(crate) fn write_utf8<M: Mapping>(
         read += width;
         at += count;
         if width == 0 {
-            break;
+            return (read, at - from);
         }
     }
     (read, at - from)

@@ -7,9 +7,9 @@ pub returns-then-len-eq16-clause-writes : goal.returns-then-len-eq16-clause-writ
 returns-then-len-eq16-clause-writes g c =
     let first = c.put_ascii-len.ensures in
     let own = c.put_strides-more.ensures in
-    joined utf16_lossy_chars
+    joined utf16_lossy_chars _ _
     (front_mapped first (own_front (g.M.Mapping.means c.args.mapping) _ _ first.within first.ascii))
-    (rest_is 16 c.args.src.now)
+    (rest_is _ c.args.src.now)
     (front_mapped own (own_front (g.M.Mapping.means c.args.mapping) _ _ own.within own.ascii))
 
 pub returns-clause-writes : goal.returns-clause-writes

@@ -1,6 +1,6 @@
 use Rattle.std.proofs.Common.{ℕ, ◌+◌, ◌∷◌, [], arith, subst, sym}
 use Rattle.std.specs.Char.Utf16.{utf16_lossy_chars}
-use Rattle.enc_units.proofs.Utf16MappedLemmas.{Any, unit_further, unclamped}
+use Rattle.enc_units.proofs.Utf16MappedLemmas.{Any, unit_further, clamped_low, unclamped}
 use Rattle.enc_units.proofs.WriteLoopLemmas.{Written, begins}
 use Rattle.enc_units.proofs.utf16_mapped.put_units.Goals as goal
 
@@ -11,6 +11,11 @@ loop-count-init g c = (
       c.args.dst.now c.args.at c.args.dst.now 0 k) (omega arith)
       (begins (omega arith) tt),
 )
+
+pub unit_byte-byte-requires : goal.unit_byte-byte-requires
+unit_byte-byte-requires g c =
+    clamped_low c.args.src.now _ c.loop-count.count c.clamped-places.ensures c.requires.sixteen
+    (omega arith)
 
 pub loop-count-preserved : goal.loop-count-preserved
 loop-count-preserved g c =

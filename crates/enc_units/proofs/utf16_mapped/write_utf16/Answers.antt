@@ -25,3 +25,9 @@ ones-preserved g c =
     let one = c.put_char-width.ensures in
     more_further c.ones.invariant (rest_is c.ones.read c.args.src.now) one.within tt
     one.writes
+
+pub returns-then-width-eq0-clause-writes : goal.returns-then-width-eq0-clause-writes
+returns-then-width-eq0-clause-writes g c =
+    let one = c.put_char-width.ensures in
+    (more_further c.ones.invariant (rest_is c.ones.read c.args.src.now) one.within tt
+    one.writes).writes

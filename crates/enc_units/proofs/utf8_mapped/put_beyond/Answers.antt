@@ -1,5 +1,5 @@
 use Rattle.std.proofs.Common.{chars, drop, arith}
-use Rattle.enc_units.proofs.MappingLemmas.{maps_none, maps_one}
+use Rattle.enc_units.proofs.MappingLemmas.{maps_one}
 use Rattle.enc_units.proofs.utf8_mapped.put_beyond.Goals as goal
 
 pub returns-clause-writes : goal.returns-clause-writes
