@@ -20,12 +20,6 @@ not_barred b c l =
     let low : nat_le 0x80 c ≡ false = grind (arith, nat_tests) in
     ap (λ t. contains_char b c && t) low ∙ and_false (contains_char b c)
 
--- an empty list bars no character
-pub none_barred : (b : List ℕ) (bytes : ℕ → Option (List ℕ)) (c : ℕ) → length b ≡ 0
-    → bytes_unless_barred b bytes c ≡ bytes c
-none_barred [] bytes c none = refl
-none_barred (x ∷ b) bytes c none = absurd (omega (arith, none))
-
 few_if : (t : Bool) (x : Option (List ℕ)) → AreAtMostFour x → AreAtMostFour (if t then None else x)
 few_if true x h = tt
 few_if false x h = h

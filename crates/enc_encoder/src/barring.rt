@@ -105,19 +105,6 @@ impl<R: Repertoire> Repertoire for Barring<R> {
         self.repertoire.bytes_beyond_ascii(c)
     }
 
-    #[inline(always)]
-    fn has_unit_bytes(self) -> bool {
-        self.barred.is_empty() && self.repertoire.has_unit_bytes()
-    }
-
-    #[inline(always)]
-    fn unit_byte(self, unit: u16) -> u8 {
-        if !self.barred.is_empty() {
-            return 0;
-        }
-        self.repertoire.unit_byte(unit)
-    }
-
     fn byte_lengths(self) -> ByteLengths {
         self.repertoire.byte_lengths()
     }
