@@ -3,6 +3,7 @@ pub mod RepertoireLemmas
 pub mod Iso2022JpLemmas
 pub mod Iso2022JpEnough
 mod KatakanaLemmas
+mod UnitByteLemmas
 pub mod PrivateUseLemmas
 pub mod LawfulLemmas
 pub mod EnoughLemmas

@@ -1,6 +1,6 @@
 //! Encoders of encodings without escape sequences.
 
-ghost use Rattle.std.specs.Prelude.{◌≡◌, ◌≤◌, ℕ, Option, List};
+ghost use Rattle.std.specs.Prelude.{◌≡◌, ◌<◌, ◌≤◌, ℕ, Option, Some, List, [], ◌∷◌};
 ghost use Rattle.enc_encoder.specs.CharLaw.{AreBytesOf};
 ghost use Rattle.enc_encoder.specs.Stateless.{WritesAscii, WritesAtMostFour, KeepsLengths};
 ghost use Rattle.enc_encoder.specs.declared.byte_lengths.ByteLengths.{ByteLengths};
@@ -27,6 +27,27 @@ pub trait Repertoire: Copy {
     fn bytes_beyond_ascii(self, c: char) -> Option<Bytes>
         requires { 0x80 ≤ c }
         ensures { AreBytesOf (bytes_for self c) result };
+
+    /// Returns whether [`Repertoire::unit_byte`] has most characters of most texts, or false, as it
+    /// does by default.
+    #[inline(always)]
+    fn has_unit_bytes(self) -> bool {
+        let _repertoire = self;
+        false
+    }
+
+    /// Returns the byte of a character below U+0800, ASCII included, if its bytes are that one byte,
+    /// or 0, as it does by default. U+07FF has none.
+    #[inline(always)]
+    fn unit_byte(self, unit: u16) -> u8
+        requires { unit < 0x800 }
+        ensures bytes { 0 < result → bytes_for self unit ≡ Some (result ∷ []) }
+        ensures last { unit ≡ 0x7FF → result ≡ 0 }
+    {
+        let _repertoire = self;
+        let _unit = unit;
+        0
+    }
 
     /// Returns the formulas for the lengths to allocate.
     fn byte_lengths(self) -> ByteLengths
@@ -85,6 +106,16 @@ impl<R: Repertoire> Mapping for StatelessEncoder<R> {
     fn keeps_ascii(self) -> bool {
         self.repertoire.laws();
         true
+    }
+
+    #[inline(always)]
+    fn has_unit_bytes(self) -> bool {
+        self.repertoire.has_unit_bytes()
+    }
+
+    #[inline(always)]
+    fn unit_byte(self, unit: u16) -> u8 {
+        self.repertoire.unit_byte(unit)
     }
 }
 

@@ -8,4 +8,6 @@ mod look_up;
 mod pages;
 mod pointers;
 
-pub use pointers::{big5, euc_kr, gb18030, gb18030_ranges, jis0208, shift_jis, single_byte};
+pub use pointers::{
+    big5, euc_kr, gb18030, gb18030_ranges, jis0208, shift_jis, single_byte, single_byte_of_unit,
+};

@@ -1,6 +1,6 @@
 //! Tables of pointers by characters, in two levels: the page of each 64 code points, and the pages.
 
-ghost use Rattle.std.specs.Prelude.{◌≡◌, ◌≤◌, ◌<◌, IfSome};
+ghost use Rattle.std.specs.Prelude.{◌≡◌, ◌≤◌, ◌<◌, IfSome, get_or, length};
 ghost use Rattle.enc_index_pointers.specs.Pages.{pointer_in_pages};
 
 /// Returns the pointer of a character, if it is below `bound`.
@@ -45,4 +45,14 @@ pub(crate) fn pointer_in_bytes(page_of: &[u8], pointers: &[u8], bound: u32, c: c
         return Some(pointer);
     }
     None
+}
+
+/// Returns the byte of a code unit in a table. The table is a slice, so that a loop keeps its
+/// address.
+#[inline(always)]
+pub(crate) fn byte_in(bytes: &[u8], unit: u16) -> u8
+    requires { unit < length bytes.now }
+    ensures { result ≡ get_or bytes.now unit 0 }
+{
+    bytes[unit as usize]
 }

@@ -8,3 +8,4 @@ pub mod gb18030;
 pub mod gb18030_ranges;
 pub mod jis0208;
 pub mod single_byte;
+pub mod single_byte_direct;

@@ -6,12 +6,12 @@
 //!
 //! Rows by index are written by scripts/make-codecs from data/codecs.txt.
 
-ghost use Rattle.std.specs.Prelude.{◌≡◌, ◌<◌, IfSome};
+ghost use Rattle.std.specs.Prelude.{◌≡◌, ◌-◌, ◌<◌, ◌≤◌, Some, IfSome};
 ghost use Rattle.enc_index_pointers.specs.Pointers.{big5_pointer, euc_kr_pointer, gb18030_pointer};
 ghost use Rattle.enc_index_pointers.specs.Pointers.{gb18030_ranges_pointer, jis0208_pointer};
 ghost use Rattle.enc_index_pointers.specs.Pointers.{shift_jis_pointer, single_byte_pointer};
 
-use crate::look_up::{pointer_in, pointer_in_bytes};
+use crate::look_up::{byte_in, pointer_in, pointer_in_bytes};
 use crate::pages::big5::{BIG5_PAGE_OF, BIG5_POINTERS};
 use crate::pages::euc_kr::{EUC_KR_PAGE_OF, EUC_KR_POINTERS};
 use crate::pages::gb18030::{GB18030_PAGE_OF, GB18030_POINTERS};
@@ -20,6 +20,7 @@ use crate::pages::jis0208::{
     JIS0208_PAGE_OF, JIS0208_POINTERS, SHIFT_JIS_PAGE_OF, SHIFT_JIS_POINTERS,
 };
 use crate::pages::single_byte::{SINGLE_BYTE_PAGE_OF, SINGLE_BYTE_POINTERS};
+use crate::pages::single_byte_direct::SINGLE_BYTE_DIRECT;
 use enc_index::{SingleByteIndex, run_with};
 
 /// Returns the index Big5 pointer, or `None` if there is none.
@@ -106,4 +107,20 @@ pub fn single_byte(index: SingleByteIndex, c: char) -> Option<u32>
         128,
         c,
     )
+}
+
+/// Returns the byte of a character below U+0800 in a legacy single-byte encoding, or 0.
+///
+/// It is the character itself in ASCII, and 0x80 and the index pointer beyond ASCII. U+07FF has
+/// none. One load. Takes no memory. Condition: the character is below U+0800.
+#[inline(always)]
+pub fn single_byte_of_unit(index: SingleByteIndex, unit: u16) -> u8
+    requires { unit < 0x800 }
+    ensures ascii { unit < 0x80 → 0 < result → result ≡ unit }
+    ensures others { 0x80 ≤ unit → 0 < result
+        → (0x80 ≤ result) × (single_byte_pointer index unit ≡ Some (result - 0x80)) }
+    ensures last { unit ≡ 0x7FF → result ≡ 0 }
+{
+    let from = index.number() * 0x800;
+    byte_in(&SINGLE_BYTE_DIRECT[from..from + 0x800], unit)
 }

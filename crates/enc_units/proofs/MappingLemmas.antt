@@ -209,40 +209,43 @@ chosen_is n =
     (get_or lane_numbers k 0) n) 255 0) (range_with_len 0 16)
     ∙ ap (λ g. map g (range_with_len 0 16)) (λ i k. top_flag (ltb (get_or lane_numbers k 0) n) i)
 
-blended : (n : ℕ) (a b : List ℕ) → length a ≡ 16 → length b ≡ 16
-    → sel_l (chosen n) a b ≡ take n a ++ drop n b
-blended n a b is_sixteen m =
-    ap (λ z. sel_l z a b) (chosen_is n)
-    ∙ ap (λ k. sel_l (map (λ k. ltb k n) (range_with_len 0 k)) a b) (sym is_sixteen)
-    ∙ some_front 0 n n a b (omega arith) (is_sixteen ∙ sym m)
-
--- the chosen lanes are stored where the others were
-pub stored_blend : (at n : ℕ) (old a : List ℕ) → at + 16 ≤ length old → n ≤ 16 → length a ≡ 16
-    → put_chunk at old (sel_l (chosen n) a (take 16 (drop at old))) ≡ take at old
+-- the first n of m lanes are stored where the others were
+pub stored_front : (m at n : ℕ) (flags : List Bool) (old a : List ℕ)
+    → flags ≡ map (λ k. ltb k n) (range_with_len 0 m)
+    → at + m ≤ length old → n ≤ m → length a ≡ m
+    → put_chunk at old (sel_l flags a (take m (drop at old))) ≡ take at old
     ++ (take n a ++ drop (at + n) old)
-stored_blend at n old a h k is_sixteen =
+stored_front m at n flags old a is h k as_many =
     let old_rest = drop at old in
-    let old_lanes = take 16 old_rest in
-    let long : length old_lanes ≡ 16 = omega (arith, length-take 16 old_rest, length-drop at old) in
+    let old_lanes = take m old_rest in
+    let long : length old_lanes ≡ m = omega (arith, length-take m old_rest, length-drop at old) in
     let ys = take n a ++ drop n old_lanes in
-    let ys_long : length ys ≡ 16 = omega (
+    let blended : sel_l flags a old_lanes ≡ ys = ap (λ z. sel_l z a old_lanes) is
+    ∙ ap (λ j. sel_l (map (λ k. ltb k n) (range_with_len 0 j)) a old_lanes) (sym as_many)
+    ∙ some_front 0 n n a old_lanes (omega arith) (as_many ∙ sym long) in
+    let ys_long : length ys ≡ m = omega (
       arith,
       length-append (take n a)
           (drop n old_lanes),
       length-take n a,
       length-drop n old_lanes,
-      is_sixteen,
+      as_many,
       long,
     ) in
-    let whole : drop n old_lanes ++ drop 16 old_rest ≡ drop n old_rest =
-    sym (drop-append-le n old_lanes (drop 16 old_rest) (omega arith))
-    ∙ ap (drop n) (take-append-drop 16 old_rest) in
-    ap (put_chunk at old) (blended n a old_lanes is_sixteen long)
+    let whole : drop n old_lanes ++ drop m old_rest ≡ drop n old_rest =
+    sym (drop-append-le n old_lanes (drop m old_rest) (omega arith))
+    ∙ ap (drop n) (take-append-drop m old_rest) in
+    ap (put_chunk at old) blended
     ∙ put_chunk_is at old ys (omega arith)
-    ∙ ap (λ m. take at old ++ (ys ++ drop m old_rest)) ys_long
+    ∙ ap (λ j. take at old ++ (ys ++ drop j old_rest)) ys_long
     ∙ ap (λ z. take at old ++ z)
-    (append_assoc (take n a) (drop n old_lanes) (drop 16 old_rest)
+    (append_assoc (take n a) (drop n old_lanes) (drop m old_rest)
     ∙ ap (λ z. take n a ++ z) (whole ∙ drop-drop n at old))
+
+pub stored_blend : (at n : ℕ) (old a : List ℕ) → at + 16 ≤ length old → n ≤ 16 → length a ≡ 16
+    → put_chunk at old (sel_l (chosen n) a (take 16 (drop at old))) ≡ take at old
+    ++ (take n a ++ drop (at + n) old)
+stored_blend at n old a = stored_front 16 at n (chosen n) old a (chosen_is n)
 
 -- all lanes are stored
 pub stored_whole : (m at : ℕ) (old a : List ℕ) → at + m ≤ length old → length a ≡ m

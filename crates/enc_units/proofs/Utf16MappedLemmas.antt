@@ -1,9 +1,11 @@
 -- Runs of characters that are read from UTF-16.
-use Rattle.std.proofs.Common.{◌≡◌, ℕ, zero, suc, ◌%◌, ◌<◌, ◌≤◌, false, List, [], ◌∷◌, ◌++◌, length, get_or, map, take}
+use Rattle.std.proofs.Common.{◌≡◌, ℕ, zero, suc, ◌+◌, ◌%◌, ◌<◌, ◌≤◌, false, List, [], ◌∷◌, ◌++◌, length, get_or, map, take}
 use Rattle.std.proofs.Common.{drop, refl, ap, ◌∙◌, sym, subst, arith, nat_le, nat_lt, ◌&&◌}
-use Rattle.std.proofs.Common.{take-append-drop}
+use Rattle.std.proofs.Common.{take-append-drop, set, replicate, ltb, lt-ltb, le-ltb, cond, min, length-drop, length-take, inl, inr}
+use Rattle.std.proofs.lemmas.Bool.{cases_lt, cond-true, cond-false}
 use Rattle.std.proofs.lemmas.Bool.Decides.{nat_tests}
-use Rattle.std.proofs.lemmas.List.{length-map, length-take-le, take-take}
+use Rattle.std.proofs.lemmas.List.{length-map, length-take-le, take-take, get_or-drop, get_or-take, get_or-map}
+use lib.Lanes.{sel_l}
 use Rattle.std.specs.Char.Utf16.{utf16_lossy_chars}
 use Rattle.enc_units.specs.Mappings.{AreWrittenAsThemselves}
 use Rattle.enc_units.specs.Surrogates.{lossy_unit_char}
@@ -11,13 +13,14 @@ use Rattle.enc_units.specs.Validity.{AreAscii}
 use Rattle.enc_units.proofs.AsciiLemmas.{one_ascii}
 use Rattle.enc_units.proofs.CharsLemmas.{lossy_lone}
 use Rattle.enc_units.proofs.LaneLemmas.{all_fewer}
-use Rattle.enc_units.proofs.WriteLoopLemmas.{HasFront}
+use Rattle.enc_units.proofs.MappingLemmas.{put_one}
+use Rattle.enc_units.proofs.WriteLoopLemmas.{HasFront, Written, one_further}
 
 -- no condition: surrogates without their partners are read as U+FFFD
 abbrev pub Any : List ℕ → Type 0
 Any us = Unit {0}
 
-low_unit : (u : ℕ) → u < 0x80 → lossy_unit_char u ≡ u
+low_unit : (u : ℕ) → u < 0x800 → lossy_unit_char u ≡ u
 low_unit u h = let low : (nat_le 0xD800 u && nat_lt u 0xE000) ≡ false = grind (arith, nat_tests) in
     rw low refl
 
@@ -27,11 +30,11 @@ lossy_ascii [] rest are_ascii = refl
 lossy_ascii (u ∷ us) rest are_ascii =
     let is_ascii = are_ascii 0 0 (omega arith) in
     lossy_lone u (us ++ rest) (λ p. omega (arith, p.0, is_ascii))
-    ∙ ap (λ x. x ∷ utf16_lossy_chars (us ++ rest)) (low_unit u is_ascii)
+    ∙ ap (λ x. x ∷ utf16_lossy_chars (us ++ rest)) (low_unit u (omega (arith, is_ascii)))
     ∙ ap (λ x. u ∷ x) (lossy_ascii us rest (λ k d l. are_ascii (suc k) d (omega arith)))
 
 -- units below 0x80 are their own lower bytes
-low_bytes : (us : List ℕ) → AreAscii us → map (λ u. u % 0x80) us ≡ us
+pub low_bytes : (us : List ℕ) → AreAscii us → map (λ u. u % 0x80) us ≡ us
 low_bytes [] are_ascii = refl
 low_bytes (u ∷ us) are_ascii =
     let is_ascii = are_ascii 0 0 (omega arith) in
@@ -80,5 +83,79 @@ pub first_ascii : (us : List ℕ) → 1 ≤ length us → get_or us 0 0 < 0x80
 first_ascii [] some low = absurd (omega (arith, some))
 first_ascii (u ∷ us) some low =
     let chars_are = lossy_lone u us (λ p. omega (arith, p.0, low))
-    ∙ ap (λ x. x ∷ utf16_lossy_chars us) (low_unit u low) in
+    ∙ ap (λ x. x ∷ utf16_lossy_chars us) (low_unit u (omega (arith, low))) in
     subst (λ cs. AreAscii (take 1 cs)) (sym chars_are) (one_ascii u low)
+
+-- a first code unit below U+0800 is the first character
+own_unit : (us : List ℕ) → 1 ≤ length us → get_or us 0 0 < 0x800
+    → utf16_lossy_chars us ≡ get_or us 0 0 ∷ utf16_lossy_chars (drop 1 us)
+own_unit [] some low = absurd (omega (arith, some))
+own_unit (u ∷ us) some low =
+    lossy_lone u us (λ p. omega (arith, p.0, low))
+    ∙ ap (λ x. x ∷ utf16_lossy_chars us) (low_unit u low)
+
+-- its byte is written
+pub unit_further : {Means : List ℕ → ℕ → Type 0} {src first dst : List ℕ} {at count : ℕ} (byte : ℕ)
+    → Written utf16_lossy_chars Any Means src first at dst count (at + count)
+    → count < length src → get_or src count 0 < 0x800 → Means (byte ∷ []) (get_or src count 0)
+    → at + count < length dst
+    → Written utf16_lossy_chars Any Means src first at (set dst (at + count) byte) (count + 1)
+    (at + (count + 1))
+unit_further {Means} {src} {first} {dst} {at} {count} byte written within low means room =
+    let rest = drop count src in
+    let here : get_or rest 0 0 ≡ get_or src count 0 =
+    get_or-drop count src 0 0 ∙ ap (λ k. get_or src k 0) (omega arith) in
+    let some : 1 ≤ length rest = omega (arith, length-drop count src) in
+    subst (λ k. Written utf16_lossy_chars Any Means src first at (set dst (at + count) byte)
+    (count + 1) k) (omega arith)
+    (one_further written (byte ∷ []) 1 some tt
+    (own_unit rest some (omega (arith, here))
+    ∙ ap (λ x. x ∷ utf16_lossy_chars (drop 1 rest)) here) means refl (omega arith)
+    (put_one (at + count) dst (byte ∷ []) 1 refl (omega arith) room))
+
+-- sixteen units that are ASCII are their own lower bytes
+pub sixteen_low : (us lanes : List ℕ) (n : ℕ) → n ≤ 16 → 16 ≤ n → AreAscii (take n (take 16 us))
+    → lanes ≡ map (λ u. u % 0x80) (take 16 us) → AreAscii (take 16 us) × (lanes ≡ take 16 us)
+sixteen_low us lanes n most all are e =
+    let sixteen : n ≡ 16 = omega (arith, most, all) in
+    let whole = subst AreAscii (take-take 16 16 us (omega arith))
+    (subst (λ k. AreAscii (take k (take 16 us))) sixteen are) in
+    (whole, e ∙ low_bytes (take 16 us) whole)
+
+-- clamped units
+
+pub selected : (n m : ℕ) (us : List ℕ) → length us ≡ n
+    → sel_l (map (λ u. ltb u m) us) us (replicate n m) ≡ map (λ u. min u m) us
+selected zero m [] e = refl
+selected zero m (u ∷ us) e = absurd (omega arith)
+selected (suc n) m [] e = absurd (omega arith)
+selected (suc n) m (u ∷ us) e =
+    let least : cond (ltb u m) u m ≡ min u m = elim (cases_lt u m) [
+      | inl l ↦ cond-true _ _ _ (lt-ltb u m l) ∙ omega arith
+      | inr l ↦ cond-false _ _ _ (le-ltb u m l) ∙ omega arith
+    ] in
+    ap (λ x. x ∷ sel_l (map (λ u. ltb u m) us) us (replicate n m)) least
+    ∙ ap (λ x. min u m ∷ x) (selected n m us (omega arith))
+
+clamped_at : (us places : List ℕ) (count : ℕ) → places ≡ map (λ u. min u 0x7FF) (take 16 us)
+    → 16 ≤ length us → count < 16 → get_or places count 0 ≡ min (get_or us count 0) 0x7FF
+clamped_at us places count are long few =
+    ap (λ ps. get_or ps count 0) are
+    ∙ get_or-map (λ u. min u 0x7FF) (take 16 us) count 0 0 (omega (arith, length-take 16 us))
+    ∙ ap (λ u. min u 0x7FF) (get_or-take 16 us count 0 few)
+
+pub clamped_low : (us places : List ℕ) (count : ℕ) → places ≡ map (λ u. min u 0x7FF) (take 16 us)
+    → 16 ≤ length us → count < 16 → get_or places count 0 < 0x800
+clamped_low us places count are long few = omega (arith, clamped_at us places count are long few)
+
+-- a clamped unit that has a byte is the unit itself, where 0x7FF has none
+pub unclamped : (us places : List ℕ) (count byte : ℕ)
+    → places ≡ map (λ u. min u 0x7FF) (take 16 us) → 16 ≤ length us → count < 16
+    → (get_or places count 0 ≡ 0x7FF → byte ≡ 0) → (byte ≡ 0 → ⊥)
+    → (get_or us count 0 < 0x800) × (get_or places count 0 ≡ get_or us count 0)
+unclamped us places count byte are long few last some =
+    let place = clamped_at us places count are long few in
+    elim (cases_lt (get_or us count 0) 0x7FF) [
+      | inl low ↦ (omega (arith, low), omega (arith, place, low))
+      | inr high ↦ absurd (some (last (omega (arith, place, high))))
+    ]

@@ -16,13 +16,13 @@ use Rattle.enc_units.proofs.GatherLemmas.{utf8_two, utf8_three, utf8_four}
 use Rattle.enc_units.proofs.WriteLoopLemmas.{HasFront}
 
 -- a character and its UTF-8 in front
-record Front (bs : List ℕ) : Type 0 where
-  c : ℕ
-  rest : List ℕ
-  is : bs ≡ encode_utf8 c ++ rest
-  scalar : IsScalar c
+pub record Front (bs : List ℕ) : Type 0 where
+  pub c : ℕ
+  pub rest : List ℕ
+  pub is : bs ≡ encode_utf8 c ++ rest
+  pub scalar : IsScalar c
 
-front : (bs : List ℕ) → IsUtf8 bs → 0 < length bs → Front bs
+pub front : (bs : List ℕ) → IsUtf8 bs → 0 < length bs → Front bs
 front bs utf8 h = by utf8.0 utf8.1.0 utf8.1.1
   where
     by : (cs : List ℕ) → all_scalars cs ≡ true → encode_utf8_all cs ≡ bs → Front bs
@@ -35,7 +35,7 @@ front bs utf8 h = by utf8.0 utf8.1.0 utf8.1.1
           scalar = (and_parts _ _ s).0;
         }
 
-at_front : (bs : List ℕ) (c : ℕ) (rest code : List ℕ) → bs ≡ encode_utf8 c ++ rest
+pub at_front : (bs : List ℕ) (c : ℕ) (rest code : List ℕ) → bs ≡ encode_utf8 c ++ rest
     → encode_utf8 c ≡ code
     → (i d : ℕ) → get_or bs i d ≡ get_or (code ++ rest) i d
 at_front bs c rest code e f i d = ap (λ x. get_or x i d) (e ∙ ap (λ x. x ++ rest) f)
@@ -46,7 +46,7 @@ pub record IsFirst (bs : List ℕ) (c n : ℕ) : Type 0 where
   pub beyond : 0x80 ≤ c
   pub first : IsFirstUtf8Char bs c n
 
-first_is : (bs : List ℕ) (c : ℕ) (rest code : List ℕ) → IsUtf8 bs → bs ≡ encode_utf8 c ++ rest
+pub first_is : (bs : List ℕ) (c : ℕ) (rest code : List ℕ) → IsUtf8 bs → bs ≡ encode_utf8 c ++ rest
     → encode_utf8 c ≡ code → IsFirstUtf8Char bs c (length code)
 first_is bs c rest code utf8 is_front f =
     let is : bs ≡ code ++ rest = is_front ∙ ap (λ x. x ++ rest) f in
@@ -58,7 +58,7 @@ first_is bs c rest code utf8 is_front f =
       chars = chars_past_char bs rest c utf8 is_front ∙ ap (λ x. c ∷ chars x) (sym after);
     }
 
-below_most : (c : ℕ) → IsScalar c → c < 0x11_0000
+pub below_most : (c : ℕ) → IsScalar c → c < 0x11_0000
 below_most c h = grind (arith, nat_tests)
 
 module _ (bs : List ℕ) (utf8 : IsUtf8 bs) where

@@ -125,6 +125,18 @@ module _ {chars_in : List ℕ → List ℕ} {Ok : List ℕ → Type 0} {Means : 
       ascii_further (length-take-le n (drop read src) front.within) front.fits (begins front)
       front.ascii front.onto
 
+  -- with more characters
+  pub more_further : {rest dst' : List ℕ} {n k : ℕ} → rest ≡ drop read src → n ≤ length rest
+      → Ok (drop n rest)
+      → WritesMapped Means (chars_in rest) (chars_in (drop n rest)) dst dst' at k
+      → IsWritten dst' (read + n) (at + k)
+  more_further {rest = rest} {dst' = dst'} {n = n} {k = k} e l ok writes_more =
+      let after : drop n rest ≡ drop (read + n) src = ap (drop n) e ∙ drop-drop n read src in
+      further dst' n k (omega (arith, written.within, l, ap length e, length-drop read src))
+      (subst Ok after ok)
+      (subst (λ z. WritesMapped Means (chars_in z) (chars_in (drop (read + n) src)) dst dst' at k) e
+      (subst (λ z. WritesMapped Means (chars_in rest) (chars_in z) dst dst' at k) after writes_more))
+
   -- with the bytes of one character
   pub one_further : (bytes : List ℕ) (n : ℕ) {dst' : List ℕ} {c k : ℕ} → n ≤ length (drop read src)
       → Ok (drop n (drop read src))
@@ -138,6 +150,20 @@ module _ {chars_in : List ℕ → List ℕ} {Ok : List ℕ → Type 0} {Means : 
       (maps_one Means (chars_in (drop read src)) (chars_in (drop (read + n) src)) dst dst' at k c
       bytes (f
       ∙ ap (λ x. c ∷ chars_in x) after) m e l o)
+
+-- one run after another
+pub joined : (chars_in : List ℕ → List ℕ) {Means : List ℕ → ℕ → Type 0} (n m : ℕ)
+    {src rest before mid after : List ℕ} {at j k : ℕ}
+    → WritesMapped Means (chars_in src) (chars_in (drop n src)) before mid at j
+    → rest ≡ drop n src
+    → WritesMapped Means (chars_in rest) (chars_in (drop m rest)) mid after (at + j) k
+    → WritesMapped Means (chars_in src) (chars_in (drop (n + m) src)) before after at (j + k)
+joined chars_in {Means} n m {src} {rest} {before} {mid} {after} {at} {j} {k} one e more =
+    let back : drop m rest ≡ drop (n + m) src = ap (drop m) e ∙ drop-drop m n src in
+    maps_both Means (chars_in src) (chars_in (drop n src)) (chars_in (drop (n + m) src)) before mid
+    after at j k one
+    (subst (λ z. WritesMapped Means (chars_in z) (chars_in (drop (n + m) src)) mid after (at + j) k) e
+    (subst (λ z. WritesMapped Means (chars_in rest) (chars_in z) mid after (at + j) k) back more))
 
 -- the loop begins
 pub begins : {chars_in : List ℕ → List ℕ} {Ok : List ℕ → Type 0} {Means : List ℕ → ℕ → Type 0}
@@ -165,9 +191,20 @@ begins_after {chars_in} {Ok} {Means} {src} {first} {dst} {from} {n} fits ok own 
     subst (λ k. Written chars_in Ok Means src first from dst k (from + n)) (omega arith)
     (own_further start refl own (λ z. front))
 
--- nothing is written
-pub nothing_written : {Means : List ℕ → ℕ → Type 0} {src before after : List ℕ} {at n : ℕ}
-    → WritesThemselves Means src before after at n → n ≡ 0 → after ≡ before
-nothing_written {src = src} {before = before} {at = at} own e =
-    own.onto ∙ ap (λ k. take at before ++ (take k src ++ drop (at + k) before)) e
-    ∙ ap (λ m. take at before ++ drop m before) (omega arith) ∙ take-append-drop at before
+-- the code units after the ASCII in front
+pub front_ok : {chars_in : List ℕ → List ℕ} {Ok : List ℕ → Type 0} {Means : List ℕ → ℕ → Type 0}
+    {src before after : List ℕ} {at n : ℕ}
+    → WritesThemselves Means src before after at n → HasFront chars_in Ok src (take n src)
+    → Ok (drop n src)
+front_ok {chars_in} {Ok} {Means} {src} {before} {after} {at} {n} own front =
+    subst (λ k. Ok (drop k src)) (length-take-le n src own.within) front.ok
+
+-- the ASCII in front is written as characters
+pub front_mapped : {chars_in : List ℕ → List ℕ} {Ok : List ℕ → Type 0} {Means : List ℕ → ℕ → Type 0}
+    {src before after : List ℕ} {at n : ℕ}
+    → WritesThemselves Means src before after at n → HasFront chars_in Ok src (take n src)
+    → WritesMapped Means (chars_in src) (chars_in (drop n src)) before after at n
+front_mapped {chars_in} {Ok} {Means} {src} {before} {after} {at} {n} own front =
+    let long = length-take-le n src own.within in
+    maps_ascii Means (chars_in src) (chars_in (drop n src)) before after at n (take n src) own.ascii
+    (front.chars ∙ ap (λ k. take n src ++ chars_in (drop k src)) long) (sym long) own.fits own.onto

@@ -1,6 +1,6 @@
 //! The bytes of characters, as the loops over runs look them up.
 
-ghost use Rattle.std.specs.Prelude.{ℕ, ◌≤◌, List, IfSome, IsTrue, take};
+ghost use Rattle.std.specs.Prelude.{ℕ, ◌≡◌, ◌<◌, ◌≤◌, List, [], ◌∷◌, IfSome, IsTrue, take};
 ghost use Rattle.enc_units.specs.Bytes.{byte_list};
 ghost use Rattle.enc_units.specs.Mappings.{AreWrittenAsThemselves, IsWrittenAsItself, KeepsAscii};
 
@@ -41,5 +41,31 @@ pub trait Mapping: Copy {
     {
         let _mapping = self;
         false
+    }
+
+    /// Returns whether [`Mapping::unit_byte`] has most characters of most texts, or false, as it
+    /// does by default.
+    ///
+    /// Takes no memory.
+    #[inline(always)]
+    fn has_unit_bytes(self) -> bool {
+        let _mapping = self;
+        false
+    }
+
+    /// Returns the byte of a character below U+0800, ASCII included, if its bytes are that one byte,
+    /// or 0, as it does by default.
+    ///
+    /// U+07FF has none, so that it can stand for all characters from U+0800 on. Takes no memory.
+    /// Condition: the character is below U+0800.
+    #[inline(always)]
+    fn unit_byte(self, unit: u16) -> u8
+        requires { unit < 0x800 }
+        ensures means { 0 < result → means self (result ∷ []) unit }
+        ensures last { unit ≡ 0x7FF → result ≡ 0 }
+    {
+        let _mapping = self;
+        let _unit = unit;
+        0
     }
 }

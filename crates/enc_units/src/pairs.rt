@@ -21,7 +21,7 @@ const UNITS_STEP: usize = 16;
 
 /// Returns the offsets at which four characters end, by which of the bytes are the lead of a pair.
 #[inline(always)]
-fn ends_of(leads: u64) -> [u8; 4]
+pub(crate) fn ends_of(leads: u64) -> [u8; 4]
     ensures { result ≡ four_ends leads }
 {
     ENDS[(leads % 0x100) as usize]

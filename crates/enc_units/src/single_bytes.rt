@@ -60,7 +60,7 @@ fn store_bytes<P: Pieces>(
 /// Returns how many of 64 bytes from `from` on come before the first that is not ASCII, and at most
 /// `most`.
 #[inline(always)]
-fn ascii_from(lanes: u8x64, from: usize, most: usize) -> usize
+pub(crate) fn ascii_from(lanes: u8x64, from: usize, most: usize) -> usize
     requires { from + most < 64 }
     ensures bound { result ≤ most }
     ensures ascii { AreAscii (take result (drop from lanes)) }

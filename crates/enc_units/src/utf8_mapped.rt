@@ -1,24 +1,24 @@
 //! Runs of mapped characters, read from UTF-8.
 
 ghost use Rattle.std.specs.Prelude.{◌≡◌, ◌+◌, ◌<◌, ◌≤◌, length, drop, chars, IsUtf8, slice_index};
-ghost use Rattle.std.specs.Prelude.{IsTrue};
 ghost use Rattle.enc_units.specs.Mappings.{IsFirstUtf8Char, WritesMapped, WritesThemselves};
 
 use crate::ascii::copy_strides;
 use crate::mapped_bytes::{MOST_BYTES, put_bytes, put_lanes};
 use crate::mapping::Mapping;
+use crate::utf8_bytes::put_by_lanes;
 use std::simd::prelude::*;
 
 /// A character of UTF-8 and the number of its bytes.
 #[derive(Clone, Copy)]
-struct Found {
-    c: char,
-    width: usize,
+pub(crate) struct Found {
+    pub(crate) c: char,
+    pub(crate) width: usize,
 }
 
 /// Returns the character beyond ASCII that begins at `at` (Unicode Standard 3.9, table 3-6).
 #[inline(always)]
-fn found_at(src: &[u8], at: usize) -> Found
+pub(crate) fn found_at(src: &[u8], at: usize) -> Found
     requires within { at < length src.now }
     requires utf8 { IsUtf8 (drop at src.now) }
     requires beyond { 0x80 ≤ slice_index src.now at }
@@ -50,29 +50,15 @@ fn found_at(src: &[u8], at: usize) -> Found
     }
 }
 
-/// Writes the ASCII in front that is written as itself: of sixteen bytes if they fit, or of one.
+/// Writes the ASCII in front that is written as itself, of sixteen bytes.
 ///
 /// Returns the number of bytes. It is 0 if the first is written otherwise.
 #[inline(always)]
-fn put_ascii<M: Mapping>(
-    mapping: M,
-    src: &[u8],
-    dst: &mut [u8],
-    at: usize,
-    sixteen_fit: bool,
-) -> usize
-    requires some { 1 ≤ length src.now }
-    requires room { at < length dst.old }
-    requires sixteen { IsTrue sixteen_fit → (16 ≤ length src.now) × (at + 16 ≤ length dst.old) }
+fn put_ascii<M: Mapping>(mapping: M, src: &[u8], dst: &mut [u8], at: usize) -> usize
+    requires sixteen { 16 ≤ length src.now }
+    requires room { at + 16 ≤ length dst.old }
     ensures { WritesThemselves (M.means mapping) src.now dst.old dst.new at result }
 {
-    if !sixteen_fit {
-        if !mapping.is_own(src[0]) {
-            return 0;
-        }
-        dst[at] = src[0];
-        return 1;
-    }
     let lanes = u8x16::from_slice(src);
     let len = mapping.ascii_len(lanes);
     if len < 16 {
@@ -81,6 +67,62 @@ fn put_ascii<M: Mapping>(
     }
     lanes.copy_to_slice(&mut dst[at..]);
     16
+}
+
+/// Writes the first byte if it is ASCII written as itself, and returns 1, or writes nothing and
+/// returns 0.
+#[inline(always)]
+fn put_own<M: Mapping>(mapping: M, src: &[u8], dst: &mut [u8], at: usize) -> usize
+    requires some { 1 ≤ length src.now }
+    requires room { at < length dst.old }
+    ensures { WritesThemselves (M.means mapping) src.now dst.old dst.new at result }
+{
+    if !mapping.is_own(src[0]) {
+        return 0;
+    }
+    dst[at] = src[0];
+    1
+}
+
+/// Writes the bytes of the first character, which is beyond ASCII.
+///
+/// Returns the numbers of bytes read and written, which are 0 if the character ends a run.
+#[inline(always)]
+fn put_beyond<M: Mapping>(mapping: M, src: &[u8], dst: &mut [u8], at: usize) -> (usize, usize)
+    requires some { 1 ≤ length src.now }
+    requires utf8 { IsUtf8 src.now }
+    requires beyond { 0x80 ≤ slice_index src.now 0 }
+    requires room { at + 4 ≤ length dst.old }
+    ensures within { result.0 ≤ length src.now }
+    ensures utf8 { IsUtf8 (drop result.0 src.now) }
+    ensures writes { WritesMapped (M.means mapping) (chars src.now) (chars (drop result.0 src.now))
+        dst.old dst.new at result.1 }
+{
+    let found = found_at(src, 0);
+    let Some(bytes) = mapping.bytes_in_run(found.c) else {
+        return (0, 0);
+    };
+    (found.width, put_bytes(dst, at, bytes))
+}
+
+/// Writes the bytes of the first character.
+///
+/// Returns the numbers of bytes read and written, which are 0 if the character ends a run.
+#[inline(always)]
+fn put_char<M: Mapping>(mapping: M, src: &[u8], dst: &mut [u8], at: usize) -> (usize, usize)
+    requires some { 1 ≤ length src.now }
+    requires utf8 { IsUtf8 src.now }
+    requires room { at + 4 ≤ length dst.old }
+    ensures within { result.0 ≤ length src.now }
+    ensures utf8 { IsUtf8 (drop result.0 src.now) }
+    ensures writes { WritesMapped (M.means mapping) (chars src.now) (chars (drop result.0 src.now))
+        dst.old dst.new at result.1 }
+{
+    if src[0] >= 0x80 {
+        return put_beyond(mapping, src, dst, at);
+    }
+    let len = put_own(mapping, src, dst, at);
+    (len, len)
 }
 
 /// Writes the ASCII in front in whole steps of 64, if all of ASCII is written as itself.
@@ -100,6 +142,27 @@ fn put_strides<M: Mapping>(mapping: M, src: &[u8], dst: &mut [u8], at: usize) ->
     }
     let most = src.len().min(dst.len() - at);
     copy_strides(src, &mut dst[at..], most)
+}
+
+/// Writes the ASCII in front that is written as itself, of sixteen bytes, or the bytes of the first
+/// character, if it is beyond ASCII.
+///
+/// Returns the numbers of bytes read and written, which are 0 if the first character ends a run.
+#[inline(always)]
+fn put_turn<M: Mapping>(mapping: M, src: &[u8], dst: &mut [u8], at: usize) -> (usize, usize)
+    requires sixteen { 16 ≤ length src.now }
+    requires utf8 { IsUtf8 src.now }
+    requires room { at + 16 ≤ length dst.old }
+    ensures within { result.0 ≤ length src.now }
+    ensures utf8 { IsUtf8 (drop result.0 src.now) }
+    ensures writes { WritesMapped (M.means mapping) (chars src.now) (chars (drop result.0 src.now))
+        dst.old dst.new at result.1 }
+{
+    if src[0] >= 0x80 {
+        return put_beyond(mapping, src, dst, at);
+    }
+    let len = put_ascii(mapping, src, dst, at);
+    (len, len)
 }
 
 /// Writes the bytes of the first characters of UTF-8 to a slice, from `from` on.
@@ -123,24 +186,25 @@ pub(crate) fn write_utf8<M: Mapping>(
     let mut at = from + read;
     let last_sixteen = src.len().saturating_sub(15);
     let last_room = dst.len().saturating_sub(15);
-    let end = dst.len().saturating_sub(MOST_BYTES - 1);
-    while read < src.len() && at < end {
-        if src[read] < 0x80 {
-            let sixteen_fit = read < last_sixteen && at < last_room;
-            let len = put_ascii(mapping, &src[read..], dst, at, sixteen_fit);
-            if len == 0 {
-                break;
-            }
-            read += len;
-            at += len;
-            continue;
+    'sixteens: while read < last_sixteen && at < last_room {
+        let (len, count) = put_turn(mapping, &src[read..], dst, at);
+        read += len;
+        at += count;
+        if len == 0 {
+            return (read, at - from);
         }
-        let found = found_at(src, read);
-        let Some(bytes) = mapping.bytes_in_run(found.c) else {
-            break;
-        };
-        at += put_bytes(dst, at, bytes);
-        read += found.width;
+        let (len, count) = put_by_lanes(mapping, read, &src[read..], dst, at);
+        read += len;
+        at += count;
+    }
+    let end = dst.len().saturating_sub(MOST_BYTES - 1);
+    'ones: while read < src.len() && at < end {
+        let (width, count) = put_char(mapping, &src[read..], dst, at);
+        read += width;
+        at += count;
+        if width == 0 {
+            return (read, at - from);
+        }
     }
     (read, at - from)
 }

@@ -228,3 +228,16 @@ fn finds_pointers_of_single_bytes(rt: HostRuntime) {
         );
     }
 }
+
+/// By Python's codecs. U+07FF stands for characters that the table does not have.
+#[test]
+fn finds_bytes_of_units(rt: HostRuntime) {
+    assert!(rt; pointers::single_byte_of_unit(SingleByteIndex::Ibm866, 0x7F) == 0x7F);
+    assert!(rt; pointers::single_byte_of_unit(SingleByteIndex::Ibm866, 0x410) == 0x80);
+    assert!(rt; pointers::single_byte_of_unit(SingleByteIndex::Koi8R, 0x430) == 0xC1);
+    assert!(rt; pointers::single_byte_of_unit(SingleByteIndex::Windows1251, 0x452) == 0x90);
+    assert!(rt; pointers::single_byte_of_unit(SingleByteIndex::Windows1252, 0xE9) == 0xE9);
+    assert!(rt; pointers::single_byte_of_unit(SingleByteIndex::Windows1252, 0x452) == 0);
+    assert!(rt; pointers::single_byte_of_unit(SingleByteIndex::XMacCyrillic, 0x44F) == 0xDF);
+    assert!(rt; pointers::single_byte_of_unit(SingleByteIndex::XMacCyrillic, 0x7FF) == 0);
+}

@@ -6,7 +6,7 @@ ghost use Rattle.enc_encode.specs.SingleByte.{single_byte_of_pointer as byte_of_
 
 use enc_encoder::{Barring, ByteLengths, Repertoire, StatelessEncoder, one};
 use enc_index::SingleByteIndex;
-use enc_index_pointers::single_byte;
+use enc_index_pointers::{single_byte, single_byte_of_unit};
 use enc_units::Bytes;
 
 /// A legacy single-byte encoding (Encoding Standard 9): ASCII, and the characters of its index.
@@ -42,6 +42,17 @@ impl Repertoire for SingleByte {
             Some(pointer) => Some(upper(pointer)),
             None => None,
         }
+    }
+
+    #[inline(always)]
+    fn has_unit_bytes(self) -> bool {
+        let _index = self.index;
+        true
+    }
+
+    #[inline(always)]
+    fn unit_byte(self, unit: u16) -> u8 {
+        single_byte_of_unit(self.index, unit)
     }
 
     fn byte_lengths(self) -> ByteLengths {

@@ -1,23 +1,37 @@
-use Rattle.std.proofs.Common.{arith}
+use Rattle.std.proofs.Common.{◌+◌}
 use Rattle.enc_units.proofs.Utf8MappedLemmas.{own_front}
-use Rattle.enc_units.proofs.WriteLoopLemmas.{begins_after, rest_is, own_further, one_further}
+use Rattle.enc_units.proofs.WriteLoopLemmas.{begins_after, rest_is, more_further}
 use Rattle.enc_units.proofs.utf8_mapped.write_utf8.Goals as goal
 
-pub loop-read-init : goal.loop-read-init
-loop-read-init g c =
+pub sixteens-init : goal.sixteens-init
+sixteens-init g c =
     let own = c.put_strides-read.ensures in
     begins_after c.requires.within c.requires.utf8 own
     (own_front (g.M.Mapping.means c.args.mapping) _ _ c.requires.utf8 own.within own.ascii)
 
-pub loop-read-preserved-then-src-read-lt128 : goal.loop-read-preserved-then-src-read-lt128
-loop-read-preserved-then-src-read-lt128 g c =
-    own_further c.loop-read.invariant (rest_is c.loop-read.read c.args.src.now)
-    c.put_ascii-len.ensures
-    (λ own. own_front (g.M.Mapping.means c.args.mapping) _ _ c.loop-read.invariant.ok own.within
-    own.ascii)
+pub sixteens-preserved : goal.sixteens-preserved
+sixteens-preserved g c =
+    let turn = c.put_turn-len.ensures in
+    let lanes = c.put_by_lanes-len.ensures in
+    let after = more_further c.sixteens.invariant (rest_is c.sixteens.read c.args.src.now)
+    turn.within turn.utf8 turn.writes in
+    more_further after (rest_is (c.sixteens.read + c.put_turn-len.result.0) c.args.src.now)
+    lanes.within lanes.utf8 lanes.writes
 
-pub loop-read-preserved : goal.loop-read-preserved
-loop-read-preserved g c =
-    let first = c.found_at-found.ensures.first in
-    one_further c.loop-read.invariant _ _ first.within first.utf8 first.chars c.in-Some.ensures
-    c.put_bytes-at.ensures.count (omega arith) c.put_bytes-at.ensures.put
+pub returns-then-len-eq0-clause-writes : goal.returns-then-len-eq0-clause-writes
+returns-then-len-eq0-clause-writes g c =
+    let turn = c.put_turn-len.ensures in
+    (more_further c.sixteens.invariant (rest_is c.sixteens.read c.args.src.now) turn.within turn.utf8
+    turn.writes).writes
+
+pub ones-preserved : goal.ones-preserved
+ones-preserved g c =
+    let one = c.put_char-width.ensures in
+    more_further c.ones.invariant (rest_is c.ones.read c.args.src.now) one.within one.utf8
+    one.writes
+
+pub returns-then-width-eq0-clause-writes : goal.returns-then-width-eq0-clause-writes
+returns-then-width-eq0-clause-writes g c =
+    let one = c.put_char-width.ensures in
+    (more_further c.ones.invariant (rest_is c.ones.read c.args.src.now) one.within one.utf8
+    one.writes).writes
