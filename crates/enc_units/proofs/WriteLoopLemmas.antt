@@ -1,6 +1,6 @@
 -- The invariant of a loop that writes the bytes of the characters of an input, UTF-8 or UTF-16.
 use Rattle.std.proofs.Common.{◌≡◌, ℕ, ◌+◌, ◌-◌, ◌≤◌, List, ◌∷◌, ◌++◌, length, take, drop, ap, ◌∙◌, sym, subst}
-use Rattle.std.proofs.Common.{arith, length-drop, drop-drop, append_assoc, take-append-drop, refl}
+use Rattle.std.proofs.Common.{arith, length-drop, drop-drop, append_assoc, refl}
 use Rattle.std.proofs.lemmas.List.{length-take-le, take_all}
 use lib.Lanes.{put_chunk}
 use Rattle.enc_units.specs.Mappings.{WritesMapped, WritesThemselves, KeepsAscii, AreWrittenAsThemselves}

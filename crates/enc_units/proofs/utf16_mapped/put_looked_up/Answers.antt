@@ -1,4 +1,3 @@
-use Rattle.std.proofs.Common.{arith}
 use Rattle.std.specs.Char.Utf16.{utf16_lossy_chars}
 use Rattle.enc_units.proofs.Utf16MappedLemmas.{own_front}
 use Rattle.enc_units.proofs.WriteLoopLemmas.{rest_is, front_mapped, joined}

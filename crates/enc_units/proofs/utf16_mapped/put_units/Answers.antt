@@ -1,4 +1,4 @@
-use Rattle.std.proofs.Common.{ℕ, ◌+◌, ◌∷◌, [], arith, subst, sym}
+use Rattle.std.proofs.Common.{ℕ, ◌∷◌, [], arith, subst}
 use Rattle.std.specs.Char.Utf16.{utf16_lossy_chars}
 use Rattle.enc_units.proofs.Utf16MappedLemmas.{Any, unit_further, clamped_low, unclamped}
 use Rattle.enc_units.proofs.WriteLoopLemmas.{Written, begins}
