@@ -217,11 +217,7 @@ fn unit_at(first: u8, second: u8) -> u16
 fn short_len(first: u8) -> usize
     ensures { result ≡ 1 + lead_bit first }
 {
-    if first < 0xC0 {
-        1
-    } else {
-        2
-    }
+    if first < 0xC0 { 1 } else { 2 }
 }
 
 /// Writes the byte of the character at `from`. Returns the numbers of bytes read and written. Both
