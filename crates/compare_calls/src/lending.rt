@@ -25,8 +25,7 @@ fn lend<'a>(alloc: Global, line: &Line, src: &'a [u8]) -> Result<Answer<'a>, One
         (BomHandling::Off, true) => encoding.decode_without_bom_handling_lending(alloc, src),
         (BomHandling::Off, false) => {
             return match encoding.decode_without_bom_handling_and_without_replacement_lending(
-                alloc,
-                src,
+                alloc, src,
             ) {
                 Ok(Some(text)) => Ok((Some(text), encoding, false)),
                 Ok(None) => Ok((None, encoding, true)),

@@ -125,23 +125,31 @@ ReadsOwed-pull t₀ t₁ s x ended not_ended going t =
       );
     }
 
+pub still_going : (finished ended : Bool) → (finished ≡ true → ended ≡ true) → ended ≡ false
+    → finished ≡ false
+still_going true ended seen not_ended = absurd (false≢true (sym not_ended ∙ seen refl))
+still_going false ended seen not_ended = refl
+
 -- the same, by places in the buffer: `held` bytes are unread, and n more are pulled after them
-pub PullsChunk-after : {t₀ t₁ : Option (List ℕ)} {d : DecoderState} (held n : ℕ)
-    {xs ys : List ℕ}
-    → has_finished d ≡ false → take held ys ≡ xs → n ≤ length ys - held
+pub PullsChunk-after : {t₀ t₁ : Option (List ℕ)} {d : DecoderState} {ended : Bool} {xs : List ℕ}
+    (held n : ℕ) (ys : List ℕ)
+    → ended ≡ false → has_finished d ≡ false → take held ys ≡ xs → n ≤ length ys - held
     → ConsumesRemaining t₀ t₁ (take n (drop held ys))
-    → PullsChunk t₀ t₁ (record { decoder = d; unread = xs; ended = false })
-    (record { decoder = d; unread = take (held + n) ys; ended = nat_eq n 0 })
-PullsChunk-after {t₀} {t₁} {d} held n {xs} {ys} going held_are bound given =
-    let unread : take (held + n) ys ≡ xs ++ take n (drop held ys) =
-    take-add held n ys ∙ ap (λ u. u ++ take n (drop held ys)) held_are in
+    → PullsChunk t₀ t₁ (record { decoder = d; unread = xs; ended = ended })
+    (record { decoder = d; unread = take (held + n - 0) (drop 0 ys); ended = nat_eq n 0 })
+PullsChunk-after {t₀ = t₀} {t₁ = t₁} {d = d} {ended = ended} {xs = xs} held n ys not_ended going
+    held_are bound given =
+    let before : ReaderState = record { decoder = d; unread = xs; ended = ended } in
+    let bytes : List ℕ = take n (drop held ys) in
+    let all : held + n - 0 ≡ held + n = omega arith in
+    let unread : take (held + n - 0) (drop 0 ys) ≡ xs ++ bytes =
+    ap (λ k. take k ys) all ∙ take-add held n ys ∙ ap (λ u. u ++ bytes) held_are in
     record {
-      bytes = take n (drop held ys);
-      reads = subst (λ u. ReadsOwed t₀ t₁ (record { decoder = d; unread = xs; ended = false })
-          (record { decoder = d; unread = u; ended = nat_eq n 0 }) (take n (drop held ys)) [] false)
+      bytes = bytes;
+      reads = subst (λ u. ReadsOwed t₀ t₁ before
+          (record { decoder = d; unread = u; ended = nat_eq n 0 }) bytes [] false)
           (sym unread)
-          (ReadsOwed-pull t₀ t₁ (record { decoder = d; unread = xs; ended = false })
-          (take n (drop held ys)) (nat_eq n 0) refl going given);
+          (ReadsOwed-pull t₀ t₁ before bytes (nat_eq n 0) not_ended going given);
       some = λ e. let nonzero : n ≡ 0 → ⊥ = not_all n 0 e in
           omega (
             arith,

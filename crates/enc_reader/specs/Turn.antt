@@ -1,8 +1,11 @@
 -- The steps of a read: pulling a chunk from the source, and a turn of the decoder.
-use Rattle.std.specs.Prelude.{◌≡◌, ℕ, ◌<◌, Bool, true, false, List, [], length, Option}
+use Rattle.std.specs.Prelude.{◌≡◌, ℕ, ◌<◌, ◌⊎◌, Bool, true, false, List, [], length, Option}
+use Rattle.enc_units.specs.Validity.{IsWellFormedUtf8, AreAscii}
+use Rattle.enc_codec.specs.Properties.{IsAsciiCompatible}
+use Rattle.enc_stream.specs.declared.encoding.TheConstants.{UTF_8}
+use Rattle.enc_stream.specs.Encodings.{rule_of}
 use Rattle.enc_stream.specs.Decoding.{DecoderState, has_finished}
 use Rattle.enc_stream.specs.Latin1.{DecoderMayBeLatin1}
-use Rattle.enc_stream.specs.OwnText.{AreTheirOwnText}
 use Rattle.enc_reader.specs.Reading.{ReaderState, ReadsOwed}
 
 -- The reader has nothing to decode, and its source is not at its end.
@@ -31,7 +34,14 @@ pub record FillsBuffer (remaining_before remaining_after : Option (List ℕ))
   pub bytes : List ℕ
   pub reads : ReadsOwed remaining_before remaining_after old new bytes [] false
 
+-- These bytes are their own text to a decoder between two sequences: in UTF-8 if they are
+-- well-formed, and in an ASCII-compatible encoding if they are ASCII.
+abbrev pub AreOwnBytes : DecoderState → List ℕ → Type 0
+AreOwnBytes d bytes =
+    ((d.encoding ≡ UTF_8) × IsWellFormedUtf8 bytes)
+    ⊎ (IsAsciiCompatible (rule_of d.encoding) × AreAscii bytes)
+
 -- Bytes that come next, to a decoder between two sequences, and are their own text.
 pub record IsOwnText (d : DecoderState) (bytes : List ℕ) : Type 0 where
   pub between : DecoderMayBeLatin1 d
-  pub own : AreTheirOwnText d.encoding bytes
+  pub own : AreOwnBytes d bytes

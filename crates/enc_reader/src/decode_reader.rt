@@ -13,6 +13,7 @@ ghost use Rattle.enc_reader.specs.Source.{ConsumesRemaining, IsExhausted};
 ghost use Rattle.std.proofs.Props.{props};
 
 use crate::source::Source;
+use enc_stream::laws::ascii_compatible_decode_ascii;
 use enc_stream::{CoderResult, Decoder, Encoding, UTF_8};
 
 /// The least number of bytes that are lent. Fewer are decoded together with those that
@@ -389,6 +390,7 @@ impl<'a, R: Source> DecodeReader<'a, R> {
         if encoding == UTF_8 {
             return Encoding::utf8_valid_up_to(unread);
         }
+        ascii_compatible_decode_ascii(encoding);
         if encoding.is_ascii_compatible() {
             return Encoding::ascii_valid_up_to(unread);
         }

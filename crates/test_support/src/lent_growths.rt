@@ -1,9 +1,7 @@
 //! One-shot calls that lend, each made a second time if memory is refused to the first.
 
 use crate::cases::expect;
-use crate::growths::{
-    Call, DecodeRow, EncodeRow, case_of, compare, input_of,
-};
+use crate::growths::{Call, DecodeRow, EncodeRow, case_of, compare, input_of};
 use encoding_rs::{Encoding, OneShotError};
 use std::alloc::Global;
 use std::borrow::{CowSlice, CowStr};
@@ -31,8 +29,7 @@ fn lend_text<'a>(
         Call::WithoutBomHandling => encoding.decode_without_bom_handling_lending(alloc, bytes),
         Call::WithoutBomHandlingAndWithoutReplacement => {
             return match encoding.decode_without_bom_handling_and_without_replacement_lending(
-                alloc,
-                bytes,
+                alloc, bytes,
             ) {
                 Ok(Some(text)) => Ok((Some(text), encoding, false)),
                 Ok(None) => Ok((None, encoding, true)),

@@ -37,12 +37,27 @@ type Row = (
 const ROWS: &[Row] = &[
     (WINDOWS_1252, (b"", b""), (b"", b""), false),
     (WINDOWS_1252, (b"a", b"\xC3\xA9"), (b"a", b"\xE9"), false),
-    (WINDOWS_1252, (b"\xC3\xA9", b"\xC3\xA9b"), (b"\xE9", b"\xE9b"), false),
+    (
+        WINDOWS_1252,
+        (b"\xC3\xA9", b"\xC3\xA9b"),
+        (b"\xE9", b"\xE9b"),
+        false,
+    ),
     (WINDOWS_1251, (b"", b"\xC3\xA9"), (b"", b"&#233;"), true),
     (SHIFT_JIS, (b"", b"\xE6\x97\xA5"), (b"", b"\x93\xFA"), false),
-    (GB18030, (b"", b"\xEF\xBF\xBD"), (b"", b"\x84\x31\xA4\x37"), false),
+    (
+        GB18030,
+        (b"", b"\xEF\xBF\xBD"),
+        (b"", b"\x84\x31\xA4\x37"),
+        false,
+    ),
     (UTF_16LE, (b"", b"\xC3\xA9"), (b"", b"\xC3\xA9"), false),
-    (ISO_2022_JP, (b"a\x0E", b"\x1B"), (b"a&#65533;", b"&#65533;"), true),
+    (
+        ISO_2022_JP,
+        (b"a\x0E", b"\x1B"),
+        (b"a&#65533;", b"&#65533;"),
+        true,
+    ),
     (
         ISO_2022_JP,
         (b"\xE6\x97\xA5", b"\xC2\xA5"),

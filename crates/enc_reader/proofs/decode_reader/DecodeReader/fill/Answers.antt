@@ -13,5 +13,5 @@ returns-in_err-pull-clause-err g c =
     (FailsToRead-pull failed.none_given failed.err failed.same unended
     (reader.going c.requires.going))
 
-pub returns-else-self-clause-ok : goal.returns-else-self-clause-ok
-returns-else-self-clause-ok g c = record { bytes = []; reads = ReadsOwed-none _ _ }
+pub returns-else-not-self-clause-ok : goal.returns-else-not-self-clause-ok
+returns-else-not-self-clause-ok g c = record { bytes = []; reads = ReadsOwed-none _ _ }

@@ -1,0 +1,12 @@
+use Rattle.std.proofs.Common.{arith, ◌-◌, ◌∙◌}
+use Rattle.enc_reader.proofs.ReadingLemmas.{PullsChunk-after, still_going}
+use Rattle.enc_reader.proofs.decode_reader.DecodeReader.pull.Goals as goal
+
+pub returns-clause-ok : goal.returns-clause-ok
+returns-clause-ok g c =
+    let reader = c.args.self.now in
+    PullsChunk-after (reader.filled - reader.at) c.in-Ok.n c.pull_after.new.input
+    c.requires.not_ended
+    (still_going _ _ reader.seen c.requires.not_ended)
+    (c.pull_after.ensures.held ∙ c.move_to_start.ensures.moved)
+    (omega (arith, c.in-Ok.ensures.bound, c.pull_after.ensures.length)) c.in-Ok.ensures.bytes
