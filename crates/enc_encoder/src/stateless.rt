@@ -36,8 +36,8 @@ pub trait Repertoire: Copy {
         false
     }
 
-    /// Returns the byte of a character below U+0800, ASCII included, if its bytes are that one byte,
-    /// or 0, as it does by default. U+07FF has none.
+    /// Returns the byte of a character below U+0800, ASCII included, if its bytes are that one
+    /// byte, or 0, as it does by default. U+07FF has none.
     #[inline(always)]
     fn unit_byte(self, unit: u16) -> u8
         requires { unit < 0x800 }

@@ -135,7 +135,8 @@ module _ {chars_in : List ℕ → List ℕ} {Ok : List ℕ → Type 0} {Means : 
       further dst' n k (omega (arith, written.within, l, ap length e, length-drop read src))
       (subst Ok after ok)
       (subst (λ z. WritesMapped Means (chars_in z) (chars_in (drop (read + n) src)) dst dst' at k) e
-      (subst (λ z. WritesMapped Means (chars_in rest) (chars_in z) dst dst' at k) after writes_more))
+      (subst (λ z. WritesMapped Means (chars_in rest) (chars_in z) dst dst' at k) after
+      writes_more))
 
   -- with the bytes of one character
   pub one_further : (bytes : List ℕ) (n : ℕ) {dst' : List ℕ} {c k : ℕ} → n ≤ length (drop read src)
@@ -162,8 +163,8 @@ joined chars_in {Means} n m {src} {rest} {before} {mid} {after} {at} {j} {k} one
     let back : drop m rest ≡ drop (n + m) src = ap (drop m) e ∙ drop-drop m n src in
     maps_both Means (chars_in src) (chars_in (drop n src)) (chars_in (drop (n + m) src)) before mid
     after at j k one
-    (subst (λ z. WritesMapped Means (chars_in z) (chars_in (drop (n + m) src)) mid after (at + j) k) e
-    (subst (λ z. WritesMapped Means (chars_in rest) (chars_in z) mid after (at + j) k) back more))
+    (subst (λ z. WritesMapped Means (chars_in z) (chars_in (drop (n + m) src)) mid after (at + j) k)
+    e (subst (λ z. WritesMapped Means (chars_in rest) (chars_in z) mid after (at + j) k) back more))
 
 -- the loop begins
 pub begins : {chars_in : List ℕ → List ℕ} {Ok : List ℕ → Type 0} {Means : List ℕ → ℕ → Type 0}

@@ -53,8 +53,8 @@ pub trait Mapping: Copy {
         false
     }
 
-    /// Returns the byte of a character below U+0800, ASCII included, if its bytes are that one byte,
-    /// or 0, as it does by default.
+    /// Returns the byte of a character below U+0800, ASCII included, if its bytes are that one
+    /// byte, or 0, as it does by default.
     ///
     /// U+07FF has none, so that it can stand for all characters from U+0800 on. Takes no memory.
     /// Condition: the character is below U+0800.

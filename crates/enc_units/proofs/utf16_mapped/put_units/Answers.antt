@@ -24,6 +24,6 @@ loop-count-preserved g c =
     c.clamped-places.ensures c.requires.sixteen (omega arith) found.last c.if-byte-eq0.false in (
       omega arith,
       unit_further c.unit_byte-byte.result c.loop-count.invariant.1 (omega arith) own.0
-          (subst (λ (u : ℕ). g.M.Mapping.means c.args.mapping (c.unit_byte-byte.result ∷ []) u) own.1
-          (found.means (omega arith))) (omega arith),
+          (subst (λ (u : ℕ). g.M.Mapping.means c.args.mapping (c.unit_byte-byte.result ∷ []) u)
+          own.1 (found.means (omega arith))) (omega arith),
     )
