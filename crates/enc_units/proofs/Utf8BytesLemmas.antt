@@ -10,7 +10,6 @@ use Rattle.std.proofs.lemmas.List.{get_or-drop, length-take-le, take-take}
 use Rattle.std.proofs.lemmas.Nat.{pow-add}
 use Rattle.std.proofs.lemmas.Simd.{get_or-chunk, map-map, zip2_of_maps, splat_is_map, pick_l_whole}
 use Rattle.std.proofs.lemmas.Str.{encode_ascii}
-use Rattle.std.specs.Char.{encode_utf8}
 use Rattle.std.specs.List.{range_with_len}
 use lib.Lanes.{zip2, top, sel_l, put_chunk}
 use Rattle.enc_units.specs.declared.ends.TheConstants.{ENDS}

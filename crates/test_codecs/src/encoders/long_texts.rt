@@ -150,32 +150,28 @@ fn one_call_writes_what_fits_of_a_long_text(rt: HostRuntime) -> Result<(), Fail>
     Ok(())
 }
 
-/// Texts with an unmappable character, and the number of bytes before it.
-const UNMAPPABLE: &[(&str, usize)] = &[
-    (
-        "abc日 and then forty and more ASCII characters in one call",
-        3,
-    ),
-    (
-        "sixteen and more日 and then more than sixty-four ASCII characters follow in the same call",
-        16,
-    ),
-    (
-        "sixteen and more of ASCII日 and then more than sixty-four ASCII characters follow it",
-        25,
-    ),
-];
-
 #[test]
 fn bytes_after_those_written_stay(rt: HostRuntime) {
+    let text = "abc日 and then forty and more ASCII characters in one call";
     let stop = EncoderResult::Unmappable('日');
-    for (text, count) in UNMAPPABLE {
-        let mut bytes = [0xFF; 128];
-        let done = WINDOWS_1252
-            .new_encoder()
-            .encode_from_utf8_without_replacement(text, &mut bytes, true);
-        assert!(rt; done == (stop, *count + 3, *count));
-        assert!(rt; bytes[..*count] == text.as_bytes()[..*count]);
-        assert!(rt; bytes[*count..].iter().all(|byte| *byte == 0xFF));
-    }
+    let mut bytes = [0xFF; 64];
+    let done = WINDOWS_1252
+        .new_encoder()
+        .encode_from_utf8_without_replacement(text, &mut bytes, true);
+    assert!(rt; done == (stop, 6, 3) && &bytes[..3] == b"abc".as_slice());
+    assert!(rt; bytes[3..].iter().all(|byte| *byte == 0xFF));
+}
+
+#[test]
+fn bytes_after_a_run_by_lanes_stay(rt: HostRuntime) {
+    let text =
+        "sixteen and more of ASCII日 and then more than sixty-four ASCII characters follow it";
+    let stop = EncoderResult::Unmappable('日');
+    let mut bytes = [0xFF; 128];
+    let done = WINDOWS_1252
+        .new_encoder()
+        .encode_from_utf8_without_replacement(text, &mut bytes, true);
+    assert!(rt; done == (stop, 28, 25));
+    assert!(rt; &bytes[..25] == b"sixteen and more of ASCII".as_slice());
+    assert!(rt; bytes[25..].iter().all(|byte| *byte == 0xFF));
 }

@@ -1,5 +1,4 @@
 use Rattle.std.proofs.Common.{◌≡◌, ◌+◌, arith, drop, subst, IsUtf8}
-use Rattle.enc_units.specs.Utf8Bytes.{WritesUtf8}
 use Rattle.enc_units.proofs.Utf8BytesLemmas.{from_start, writes_on}
 use Rattle.enc_units.proofs.utf8_bytes.put_eight.Goals as goal
 
