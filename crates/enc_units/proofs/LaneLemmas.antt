@@ -1,6 +1,6 @@
 -- How many of sixteen lanes come before the first that passes a test.
 use Rattle.std.proofs.Common.{◌≡◌, ℕ, zero, suc, ◌+◌, ◌-◌, ◌*◌, ◌/◌, ◌%◌, ◌^◌, ◌<◌, ◌≤◌, ◌≢◌, Bool, true, false, not}
-use Rattle.std.proofs.Common.{◌||◌, take-add, ◌++◌, leb, cond, eqb, List, [], ◌∷◌, map, length, get_or}
+use Rattle.std.proofs.Common.{◌||◌, take-add, leb, cond, eqb, List, [], ◌∷◌, map, length, get_or}
 use Rattle.std.proofs.Common.{replicate, take, drop, ap, ◌∙◌, sym, subst, arith, length-take, inl, inr}
 use Rattle.std.specs.Prelude.{All}
 use Rattle.std.specs.List.{prefix_len}

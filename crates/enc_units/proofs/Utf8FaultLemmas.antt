@@ -2,7 +2,7 @@
 use Rattle.std.proofs.Common.{◌≡◌, ℕ, zero, suc, ◌+◌, ◌-◌, ◌*◌, ◌/◌, ◌%◌, ◌^◌, ◌<◌, ◌≤◌, ◌⊎◌, Bool, true, false, not}
 use Rattle.std.proofs.Common.{◌||◌, ◌&&◌, if◌then◌else◌, cond, eqb, leb, ltb, le-leb, leb-true, ltb-true, eqb-true}
 use Rattle.std.proofs.Common.{eq-eqb, List, map, length, get_or, replicate, take, bit_and, bit_or, bit_xor, refl, ap}
-use Rattle.std.proofs.Common.{◌∙◌, sym, subst, arith, inl, inr, w8, ◌∷◌, ◌++◌, drop, length-drop, length-append}
+use Rattle.std.proofs.Common.{◌∙◌, sym, subst, arith, inl, inr, ◌∷◌, ◌++◌, drop, length-drop, length-append}
 use Rattle.std.proofs.lemmas.Bool.{and_parts, or_cases, cases_lt, not-false}
 use Rattle.std.proofs.lemmas.Bool.Decides.{nat_tests}
 use Rattle.std.proofs.lemmas.List.{get_or-map, get_or-replicate, length-map, get_or-drop, get_or-take, take_all}
@@ -12,8 +12,7 @@ use Rattle.std.proofs.lemmas.Simd.{get_or-chunk, get_or-zip2, length-replicate, 
 use Rattle.std.proofs.lemmas.Simd.{pick_l-range_with_len}
 use Rattle.std.specs.Int.Bits.{or_add_and, xor_assoc, xor_self, xor_zero_l, xor_zero_r}
 use Rattle.std.specs.List.{range_with_len}
-use lib.Lanes.{zip2, mask_l, top, chunk, sel_l, pick_l, Each1}
-use mir.Val.{Fits}
+use lib.Lanes.{zip2, mask_l, top, chunk, sel_l, pick_l}
 use Rattle.enc_units.specs.declared.utf8_faults.TheConstants.{FIRST_UPPER, FIRST_LOWER, SECOND_UPPER}
 use Rattle.enc_units.specs.Utf8Run.{CanFollowBytes, CanFollowBytesAt, IsCharBoundaryAfter, ArePairFaults}
 use Rattle.enc_units.specs.Validity.{IsWellFormedUtf8}

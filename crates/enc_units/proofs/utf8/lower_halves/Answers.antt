@@ -1,4 +1,4 @@
-use Rattle.std.proofs.Common.{◌%◌, ◌∙◌, get_or, bit_and, arith}
+use Rattle.std.proofs.Common.{◌∙◌, get_or, bit_and, arith}
 use Rattle.std.proofs.lemmas.Nat.{and_mask}
 use Rattle.enc_units.proofs.Utf8FaultLemmas.{splat_lane}
 use Rattle.enc_units.proofs.utf8.lower_halves.Goals as goal

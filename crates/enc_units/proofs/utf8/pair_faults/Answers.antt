@@ -1,4 +1,4 @@
-use Rattle.std.proofs.Common.{◌≡◌, ◌∙◌, length, arith}
+use Rattle.std.proofs.Common.{◌≡◌, length, arith}
 use Rattle.enc_units.proofs.Utf8FaultLemmas.{pair_lane}
 use Rattle.enc_units.proofs.Utf8UnitLanes.{lane_bound}
 use Rattle.enc_units.proofs.utf8.pair_faults.Goals as goal

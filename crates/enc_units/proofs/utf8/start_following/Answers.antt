@@ -1,4 +1,4 @@
-use Rattle.std.proofs.Common.{◌+◌, ◌-◌, ◌≤◌, length, inl, inr, arith}
+use Rattle.std.proofs.Common.{◌+◌, ◌-◌, length, inl, inr, arith}
 use Rattle.std.proofs.lemmas.Bool.{cases_lt}
 use Rattle.enc_units.proofs.Utf8FaultLemmas.{follow_after, follow_all}
 use Rattle.enc_units.proofs.utf8.start_following.Goals as goal

@@ -1,4 +1,4 @@
-use Rattle.std.proofs.Common.{◌/◌, ◌^◌, ◌∙◌, arith}
+use Rattle.std.proofs.Common.{◌/◌, ◌^◌, arith}
 use Rattle.enc_units.proofs.Utf8FaultLemmas.{splat_lane}
 use Rattle.enc_units.proofs.Utf8UnitLanes.{lane_bound}
 use Rattle.enc_units.proofs.utf8.upper_halves.Goals as goal

@@ -1,5 +1,5 @@
-use Rattle.std.proofs.Common.{◌≡◌, ◌∙◌, ◌+◌, ◌-◌, ◌≤◌, ◌++◌, length, take, ap, sym, arith, append-nil}
-use Rattle.enc_units.specs.Utf8Units.{unit_at, units_from}
+use Rattle.std.proofs.Common.{◌∙◌, ◌+◌, ◌≤◌, ◌++◌, length, take, ap, sym, arith, append-nil}
+use Rattle.enc_units.specs.Utf8Units.{unit_at}
 use Rattle.enc_units.proofs.Utf8CountLemmas.{enough_units}
 use Rattle.enc_units.proofs.Utf8UnitsLemmas.{dropped_beyond, stores_count, stores_more, units_cover}
 use Rattle.enc_units.proofs.Utf8UnitsLemmas.{units_few}

@@ -1,5 +1,5 @@
 use Rattle.std.proofs.Common.{arith}
-use Rattle.enc_units.proofs.LaneLemmas.{unshifted_one, unshifted_longest}
+use Rattle.enc_units.proofs.LaneLemmas.{unshifted_one}
 use Rattle.enc_units.proofs.validity.iso_2022_jp_ascii_valid_up_to.Goals as goal
 
 pub loop-at-preserved : goal.loop-at-preserved
