@@ -42,11 +42,11 @@ fn lend<'a>(alloc: Global, line: &Line, src: &'a [u8]) -> Result<Answer<'a>, One
 /// Writes the answer of a call that has read `read` bytes and written `bytes`, if it has.
 fn write_answer<W: Write>(
     out: &mut W,
-    (result, read, bytes): (&str, usize, &[u8]),
+    (kind, read, bytes): (&str, usize, &[u8]),
     encoding: Encoding,
     replaced: bool,
 ) -> io::Result<()> {
-    write!(out, "{result} {read} {} {replaced} ", bytes.len())?;
+    write!(out, "{kind} {read} {} {replaced} ", bytes.len())?;
     write_bytes(out, bytes)?;
     writeln!(out, " {} 0 - -", encoding.name())
 }

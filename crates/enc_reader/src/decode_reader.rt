@@ -3,6 +3,7 @@
 ghost use Rattle.std.specs.Prelude.{◌≡◌, ◌↔◌, ◌-◌, ◌<◌, ◌≤◌, length, take, drop, [], true, false};
 ghost use Rattle.std.specs.Prelude.{IsUtf8, Option, Some};
 ghost use Rattle.std.specs.Prelude.{None, IfOk, OnOk, OnErr, IsErrOf, unwrap_or, IfErr};
+ghost use Rattle.enc_units.specs.Validity.{IsWellFormedUtf8};
 ghost use Rattle.enc_stream.specs.declared.bom.BomHandling.TheVariants.{Sniff};
 ghost use Rattle.enc_stream.specs.declared.encoding.TheConstants.{UTF_8};
 ghost use Rattle.std.specs.Char.{encode_utf8};
@@ -132,6 +133,18 @@ fn is_cut(bytes: &[u8]) -> bool {
         Some(0xF0..=0xF4) => bytes.len() < 4,
         _ => false,
     }
+}
+
+/// Returns the length of the longest prefix that is well-formed UTF-8, sooner if all is ASCII.
+fn utf_8_len(bytes: &[u8]) -> usize
+    ensures within { result ≤ length bytes.now }
+    ensures utf_8 { IsWellFormedUtf8 (take result bytes.now) }
+{
+    let ascii = Encoding::ascii_valid_up_to(bytes);
+    if ascii == bytes.len() {
+        return ascii;
+    }
+    Encoding::utf8_valid_up_to(bytes)
 }
 
 /// Reads a source of bytes as text, a chunk at a time (Encoding Standard 6, "decode").
@@ -388,7 +401,7 @@ impl<'a, R: Source> DecodeReader<'a, R> {
         let encoding = self.decoder.encoding();
         let unread = &self.input[self.at..self.filled];
         if encoding == UTF_8 {
-            return Encoding::utf8_valid_up_to(unread);
+            return utf_8_len(unread);
         }
         ascii_compatible_decode_ascii(encoding);
         if encoding.is_ascii_compatible() {
