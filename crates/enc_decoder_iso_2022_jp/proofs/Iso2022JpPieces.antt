@@ -6,8 +6,9 @@ use Rattle.std.proofs.lemmas.List.{take-append-drop}
 use Rattle.std.proofs.lemmas.Bool.{lt-ltb, ne_eqb}
 use Rattle.std.specs.Prelude.{◌≢◌}
 use Rattle.std.specs.Option.{IfSome}
-use Rattle.enc_units.specs.Output.{Output}
-use Rattle.enc_units.specs.Pieces.{PutsPieces}
+use Rattle.enc_units.specs.Output.{Output, with_appended, units_of_text}
+use Rattle.enc_units.specs.Pieces.{PutsPieces, piece_chars}
+use Rattle.enc_units.proofs.OutputLemmas.{with_appended-nil}
 use Rattle.enc_units.specs.Mappings.{AreWrittenAsThemselves}
 use Rattle.enc_units.specs.Validity.{AreIso2022JpAscii}
 use Rattle.enc_decoder.specs.declared.byte_codec.Kind.TheVariants.{Skipped}
@@ -26,7 +27,7 @@ use Rattle.enc_decoder_iso_2022_jp.specs.Iso2022JpState.{escape_bytes, escape_se
 use Rattle.enc_decoder_iso_2022_jp.specs.Iso2022JpState.{iso_2022_jp_state as jp_state}
 use Rattle.enc_decoder.specs.Taking.{TakesRun, IsWholeChar}
 use Rattle.enc_decoder.proofs.SegmentationLemmas.{sequences_of-head}
-use Rattle.enc_decoder.proofs.TakingLemmas.{front, takes_both}
+use Rattle.enc_decoder.proofs.TakingLemmas.{front, takes_both, takes_none}
 use Rattle.enc_decoder.proofs.PieceLemmas.{takes_pieces, three_of}
 use Rattle.enc_decoder.proofs.FirstSequenceLemmas.{true_or_false}
 use Rattle.enc_decoder_iso_2022_jp.proofs.Iso2022JpLemmas.{skipped_escape}
@@ -190,6 +191,18 @@ takes_escape units_of c n e {src} {rest} {more} {before} {after} held next back 
     (subst (λ z. TakesRun units_of jp_state (state_with_held (escape_set e) None) n z more before
     after) back
     run_taken))
+
+-- No piece is taken, of whatever bytes.
+pub takes_no_pieces : {units_of : ℕ → List ℕ} {Means : List ℕ → ℕ → Type 0} (c : Iso2022JpState)
+    (src : List ℕ) {rest : List ℕ} {n : ℕ} {before after : Output}
+    → PutsPieces units_of Means before after rest n → n ≡ 0
+    → TakesRun units_of jp_state c c src 0 before after
+takes_no_pieces {units_of} c src {before = before} puts none =
+    let no_text = sym puts.reads.chars ∙ ap piece_chars (puts.reads.none none) in
+    subst (λ (o : Output). TakesRun units_of jp_state c c src 0 before o)
+    (sym (puts.written ∙ ap (λ t. with_appended before (units_of_text units_of t)) no_text
+    ∙ with_appended-nil before))
+    (takes_none units_of jp_state c src before)
 
 -- A run is taken, and another after it.
 pub takes_run_after : {units_of : ℕ → List ℕ} {c m n : Iso2022JpState} {src rest : List ℕ}

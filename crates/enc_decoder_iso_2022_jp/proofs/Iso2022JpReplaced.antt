@@ -5,7 +5,6 @@ use Rattle.std.proofs.lemmas.Bool.{and_parts, cond-true, cond-false}
 use Rattle.std.specs.Char.{IsScalar}
 use Rattle.enc_index.specs.Grid.{HasWord}
 use Rattle.enc_index.proofs.GridEntries.{grid_tests, is_word, is_unit, word_found, unit_found}
-use Rattle.enc_index.proofs.GridTests.{Found}
 use Rattle.enc_units.specs.Pairs.{MeansWord, MeansUnit}
 use Rattle.enc_decoder.specs.declared.byte_codec.Kind.TheVariants.{Valid, Malformed}
 use Rattle.enc_decoder.specs.Taking.{IsReplacedChar}
@@ -98,7 +97,7 @@ module _ (kind : ℕ → ℕ → Bool) where
       subst (λ k. entry_ok (replaced_ascii_char k) (get_or gs i 0) ≡ true) same_byte
       (entries_ok-at gs (b + 1) i rest (omega arith))
 
-  entry_found : (found : Option ℕ) (g : ℕ) → entry_ok found g ≡ true → 0 < g → Found kind found g
+  entry_found : (found : Option ℕ) (g : ℕ) → entry_ok found g ≡ true → 0 < g → Found found g
   unfolding entry_ok
   entry_found None g ok some =
       let none : g ≡ 0 = eqb-true g 0 ok in
@@ -106,7 +105,7 @@ module _ (kind : ℕ → ℕ → Bool) where
   entry_found (Some c) g ok some = (c, refl, ok)
 
   found_at : (gs : List ℕ) (b : ℕ) → entries_ok 0 gs ≡ true → b < length gs → 0 < get_or gs b 0
-      → Found kind (replaced_ascii_char b) (get_or gs b 0)
+      → Found (replaced_ascii_char b) (get_or gs b 0)
   found_at gs b ok within some =
       let from_zero : 0 + b ≡ b = omega arith in
       entry_found (replaced_ascii_char b) (get_or gs b 0)

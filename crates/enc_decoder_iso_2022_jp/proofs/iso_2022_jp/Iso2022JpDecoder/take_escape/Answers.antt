@@ -1,6 +1,7 @@
 use Rattle.std.proofs.Common.{None, ◌∙◌, ap, arith}
-use Rattle.enc_decoder_iso_2022_jp.specs.Iso2022JpState.{state_with_held}
-use Rattle.enc_decoder_iso_2022_jp.proofs.Iso2022JpPieces.{takes_escape}
+use Rattle.enc_decoder_iso_2022_jp.specs.Iso2022JpState.{state_with_held, iso_2022_jp_state}
+use Rattle.enc_decoder_iso_2022_jp.proofs.Iso2022JpPieces.{takes_escape, takes_no_pieces}
+use Rattle.enc_decoder.proofs.TakingLemmas.{takes_none}
 use Rattle.enc_decoder_iso_2022_jp.proofs.iso_2022_jp.Iso2022JpDecoder.take_escape.Goals as goal
 
 pub returns-clause-run : goal.returns-clause-run
@@ -10,3 +11,12 @@ returns-clause-run g c =
     c.split_at.ensures.back
     c.in-Some.ensures
     (omega (arith, c.if-taken-eq0.false)) c.put_pieces-taken.ensures
+
+pub returns-in_default-clause-run : goal.returns-in_default-clause-run
+returns-in_default-clause-run g c =
+    takes_none g.U.Units.units_of iso_2022_jp_state c.args.self c.args.src.now
+    (g.U.Units.output c.args.out.now)
+
+pub returns-then-taken-eq0-clause-run : goal.returns-then-taken-eq0-clause-run
+returns-then-taken-eq0-clause-run g c =
+    takes_no_pieces c.args.self c.args.src.now c.put_pieces-taken.ensures c.if-taken-eq0.true

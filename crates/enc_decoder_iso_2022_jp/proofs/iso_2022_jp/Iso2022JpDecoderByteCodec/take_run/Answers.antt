@@ -1,8 +1,19 @@
 use Rattle.std.proofs.Common.{◌∙◌, ap, sym, arith}
 use Rattle.enc_decoder_iso_2022_jp.specs.Iso2022JpState.{Iso2022JpState, bytes_of_held, iso_2022_jp_state}
 use Rattle.enc_decoder.proofs.PieceLemmas.{takes_pieces}
+use Rattle.enc_decoder.proofs.TakingLemmas.{takes_none}
 use Rattle.enc_decoder_iso_2022_jp.proofs.Iso2022JpPieces.{takes_run_after}
 use Rattle.enc_decoder_iso_2022_jp.proofs.iso_2022_jp.Iso2022JpDecoderByteCodec.take_run.Goals as goal
+
+pub returns-in_default : goal.returns-in_default
+returns-in_default g c =
+    takes_none g.U.Units.units_of iso_2022_jp_state c.args.self c.args.src.now
+    (g.U.Units.output c.args.out.now)
+
+pub returns-then-not-is_seven_bit : goal.returns-then-not-is_seven_bit
+returns-then-not-is_seven_bit g c =
+    takes_none g.U.Units.units_of iso_2022_jp_state c.args.self c.args.src.now
+    (g.U.Units.output c.args.out.now)
 
 pub loop-state-init : goal.loop-state-init
 loop-state-init g c =
