@@ -11,7 +11,8 @@ use Rattle.enc_decoder.specs.CodecState.{CodecState}
 use Rattle.enc_decoder.specs.Taking.{TakesSequences, TakesRun, IsWholeChar, IsReplacedChar}
 
 -- the sequences of pieces, each of its kind
-abbrev whole : (rule : Rule) (set : ℕ) (ps : List Piece) → EachMeansChar (IsReplacedChar rule set) ps
+abbrev whole : (rule : Rule) (set : ℕ) (ps : List Piece)
+    → EachMeansChar (IsReplacedChar rule set) ps
     → List Sequence
 whole rule set [] mean = []
 whole rule set (p ∷ ps) mean =
@@ -102,11 +103,11 @@ pub takes_pieces : {C : Type 0} (units_of : ℕ → List ℕ) (state : C → Cod
     → PutsPieces units_of (IsWholeChar (state c).rule (state c).set) before after src n
     → TakesRun units_of state c c src n before after
 takes_pieces units_of state c src n before after none_pending puts =
-    let v = state c in
+    let value = state c in
     let pieces = puts.reads.pieces in
     record {
-      run = takes_each v none_pending puts (as_replaced v.rule v.set pieces puts.reads.mean);
-      none_malformed = whole_valid v.rule v.set pieces puts.reads.mean;
+      run = takes_each value none_pending puts (as_replaced value.rule value.set pieces puts.reads.mean);
+      none_malformed = whole_valid value.rule value.set pieces puts.reads.mean;
     }
 
 -- the bytes that a piece of one byte has, or of two

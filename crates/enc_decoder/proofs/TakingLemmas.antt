@@ -128,7 +128,8 @@ module _ {C : Type 0} {units_of : ℕ → List ℕ} {state : C → CodecState} (
       );
       none_malformed = any_malformed-append writing.progress.done t.run.taken
           ∙ rw (writing.progress.none_malformed, t.none_malformed) refl;
-      scalars = scalars_of-append writing.progress.done t.run.taken writing.progress.scalars t.run.scalars;
+      scalars = scalars_of-append writing.progress.done t.run.taken writing.progress.scalars
+      t.run.scalars;
       undetermined = inr (none_determined (remainder_of v).sequences
           (remainder_of (state n)).sequences
           (take (read + took) src) done (residual some)
@@ -219,7 +220,8 @@ takes_both units_of state c m n src read more before mid after rest e takes_run 
           ∙ sym (take-add read more src);
       first = λ w. ap (remainder_of (state c)).sequences (ap (λ z. z ++ w) (take-add read more src)
           ∙ append_assoc (take read src) bytes w)
-          ∙ takes_run.run.first (bytes ++ w) ∙ ap (λ ss. takes_run.run.taken ++ ss) (takes_more.run.first w)
+          ∙ takes_run.run.first (bytes ++ w)
+          ∙ ap (λ ss. takes_run.run.taken ++ ss) (takes_more.run.first w)
           ∙ sym (append_assoc takes_run.run.taken takes_more.run.taken
           ((remainder_of (state n)).sequences w));
       next_state =
@@ -247,7 +249,8 @@ takes_both units_of state c m n src read more before mid after rest e takes_run 
         | inr r ↦ sym (ap (λ (s : CodecState). s.pending) takes_run.run.next_state)
             ∙ takes_more.run.none_pending (omega arith)
       ];
-      none_taken = λ z. ap (λ ss. ss ++ takes_more.run.taken) (takes_run.run.none_taken (omega arith))
+      none_taken = λ z. ap (λ ss. ss ++ takes_more.run.taken)
+      (takes_run.run.none_taken (omega arith))
           ∙ takes_more.run.none_taken (omega arith);
       };
       none_malformed = any_malformed-append takes_run.run.taken takes_more.run.taken

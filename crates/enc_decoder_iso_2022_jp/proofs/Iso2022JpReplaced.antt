@@ -1,5 +1,6 @@
 -- Bytes in ASCII in error mode "replacement", and the tables of their texts.
-use Rattle.std.proofs.Common.{◌≡◌, ◌∙◌, ℕ, zero, suc, ◌+◌, ◌<◌, Bool, true, ◌&&◌, ◌==◌, eqb, Option, Some, None, List, []}
+use Rattle.std.proofs.Common.{◌≡◌, ◌∙◌, ℕ, zero, suc, ◌+◌, ◌<◌, Bool, true, ◌&&◌, ◌==◌, eqb, Option, Some, None, List}
+use Rattle.std.proofs.Common.{[]}
 use Rattle.std.proofs.Common.{◌∷◌, length, take, drop, get_or, refl, sym, subst, arith, inl, inr, eqb-true, false}
 use Rattle.std.proofs.lemmas.Bool.{and_parts, cond-true, cond-false}
 use Rattle.std.specs.Char.{IsScalar}

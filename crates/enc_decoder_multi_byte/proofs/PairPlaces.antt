@@ -57,7 +57,8 @@ euc_kr_found : (a b c place : ℕ)
 euc_kr_found a b c place is e =
     let at = found EucKr is_euc_kr_lead is_euc_kr_trail euc_kr_row none_further euc_kr_column a b
     c place is (euc_kr_small b) e in
-    let same : euc_kr_pair_pointer a b ≡ (euc_kr_row a + 0) * 190 + euc_kr_column b = omega arith in (
+    let same : euc_kr_pair_pointer a b ≡ (euc_kr_row a + 0) * 190 + euc_kr_column b =
+    omega arith in (
       at.lead,
       ap text_of_char (cond-true (is_euc_kr_trail b) (euc_kr_at (euc_kr_pair_pointer a b)) None
           at.trail
@@ -72,7 +73,8 @@ pub euc_kr_place : (a b : ℕ) {row column place : ℕ}
 euc_kr_place a b {row} {column} {place} r k p =
     record {
       within = rw (p, r, k) (grind (arith, nat_tests));
-      char = λ c e. euc_kr_found a b c place (omega (arith, p, r, k, euc_kr_rows a, euc_kr_columns b)) e;
+      char = λ c e. euc_kr_found a b c place
+      (omega (arith, p, r, k, euc_kr_rows a, euc_kr_columns b)) e;
     }
 
 -- gb18030
@@ -89,7 +91,8 @@ gb18030_rows a = grind (arith, nat_tests)
 
 gb18030_columns : (b : ℕ)
     → number_in 0x40 0x7E 0 b (number_in 0x80 0xFE 63 b 190)
-    ≡ column_place Gb18030 is_gb18030_lead is_gb18030_trail gb18030_row none_further gb18030_column b
+    ≡ column_place Gb18030 is_gb18030_lead is_gb18030_trail gb18030_row none_further gb18030_column
+    b
 gb18030_columns b = grind (arith, nat_tests)
 
 gb18030_small : (b : ℕ) → is_gb18030_trail b ≡ true → gb18030_column b < 190
@@ -99,8 +102,10 @@ no_digit : (b : ℕ) → is_gb18030_trail b ≡ true → is_digit b ≡ false
 no_digit b t = grind (arith, nat_tests)
 
 gb18030_found : (a b c place : ℕ)
-    → place ≡ row_place Gb18030 is_gb18030_lead is_gb18030_trail gb18030_row none_further gb18030_column a
-    + column_place Gb18030 is_gb18030_lead is_gb18030_trail gb18030_row none_further gb18030_column b
+    → place ≡ row_place Gb18030 is_gb18030_lead is_gb18030_trail gb18030_row none_further
+    gb18030_column a
+    + column_place Gb18030 is_gb18030_lead is_gb18030_trail gb18030_row none_further gb18030_column
+    b
     → grid_char Gb18030 place ≡ Some c
     → IsCharPair gb18030_prefix a b c
 gb18030_found a b c place is e =
@@ -125,7 +130,8 @@ pub gb18030_place : (a b : ℕ) {row column place : ℕ}
 gb18030_place a b {row} {column} {place} r k p =
     record {
       within = rw (p, r, k) (grind (arith, nat_tests));
-      char = λ c e. gb18030_found a b c place (omega (arith, p, r, k, gb18030_rows a, gb18030_columns b)) e;
+      char = λ c e. gb18030_found a b c place
+      (omega (arith, p, r, k, gb18030_rows a, gb18030_columns b)) e;
     }
 
 -- Big5
@@ -240,7 +246,8 @@ pub euc_jp_place : (a b : ℕ) {row column place : ℕ}
 euc_jp_place a b {row} {column} {place} r k p =
     record {
       within = rw (p, r, k) (grind (arith, nat_tests));
-      char = λ c e. euc_jp_found a b c place (omega (arith, p, r, k, euc_jp_rows a, euc_jp_columns b)) e;
+      char = λ c e. euc_jp_found a b c place
+      (omega (arith, p, r, k, euc_jp_rows a, euc_jp_columns b)) e;
     }
 
 -- Shift_JIS: two rows of the index to a lead, and none of the private use area
@@ -263,7 +270,8 @@ abbrev shift_jis_column : ℕ → ℕ
 shift_jis_column b = trail_number b % 94
 
 shift_jis_rows : (a : ℕ)
-    → number_in 0x81 0x9F 0 a (number_in 0xE0 0xEF 31 a (number_in 0xFA 0xFC 57 a 60)) * 2 ≡ cond (has_rows a) (shift_jis_row a) 120
+    → number_in 0x81 0x9F 0 a (number_in 0xE0 0xEF 31 a (number_in 0xFA 0xFC 57 a 60)) * 2
+    ≡ cond (has_rows a) (shift_jis_row a) 120
 shift_jis_rows a = grind (arith, nat_tests)
 
 shift_jis_columns : (b : ℕ)
@@ -284,7 +292,8 @@ not_private : (a b : ℕ) → has_rows a ≡ true → is_shift_jis_trail b ≡ t
 not_private a b t u = grind (arith, nat_tests)
 
 shift_jis_found : (a b c place : ℕ)
-    → place ≡ row_place Jis0208 has_rows is_shift_jis_trail shift_jis_row second_row shift_jis_column a
+    → place ≡ row_place Jis0208 has_rows is_shift_jis_trail shift_jis_row second_row
+    shift_jis_column a
     + column_place Jis0208 has_rows is_shift_jis_trail shift_jis_row second_row shift_jis_column b
     → grid_char Jis0208 place ≡ Some c
     → IsLeadPair is_shift_jis_lead shift_jis_pair_text a b c
@@ -310,5 +319,6 @@ pub shift_jis_place : (a b : ℕ) {row column place : ℕ}
 shift_jis_place a b {row} {column} {place} r k p =
     record {
       within = rw (p, r, k) (grind (arith, nat_tests));
-      char = λ c e. shift_jis_found a b c place (omega (arith, p, r, k, shift_jis_rows a, shift_jis_columns b)) e;
+      char = λ c e. shift_jis_found a b c place
+      (omega (arith, p, r, k, shift_jis_rows a, shift_jis_columns b)) e;
     }

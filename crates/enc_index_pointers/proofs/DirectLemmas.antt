@@ -1,5 +1,5 @@
--- A table of the bytes of the first characters has ASCII as itself, and for others the pointers that
--- the pages have, by a test that goes through the table once.
+-- A table of the bytes of the first characters has ASCII as itself, and for others the pointers
+-- that the pages have, by a test that goes through the table once.
 use Rattle.std.proofs.Common.{◌≡◌, ℕ, ◌+◌, ◌*◌, ◌/◌, ◌%◌, ◌^◌, ◌<◌, ◌≤◌, Bool, true, ◌==◌, ap, ◌∙◌, sym, subst, cond}
 use Rattle.std.proofs.Common.{◌&&◌, nat_lt, nat_le, List, get_or, length, arith, eqb-true, lt-ltb, le-ltb, leb-true}
 use Rattle.std.proofs.lemmas.Bool.{cond-true, cond-false, and_parts}
@@ -29,7 +29,8 @@ module _ (m k : ℕ) (page_of pointers bytes : List ℕ)
   byte c = get_or bytes c 0
 
   passes : (c : ℕ) → c < length bytes
-      → byte_ok k (plant (length pointers) k page_of) m (plant 0xFFFF m pointers) (length pointers) c
+      → byte_ok k (plant (length pointers) k page_of) m (plant 0xFFFF m pointers) (length pointers)
+      c
       (byte c) ≡ true
   unfolding direct_ok
   passes c l = all_at-at _ 0 0 bytes c (and_parts _ _ (and_parts _ _ ok).1).1 l

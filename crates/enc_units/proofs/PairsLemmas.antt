@@ -49,7 +49,8 @@ unfolding rows_ok
 row_is_ok mask [] ok i l = absurd (omega arith)
 row_is_ok mask (row ∷ rows) ok zero l =
     let same : mask ≡ mask + 0 = omega arith in
-    subst (λ m. row_ok m row ≡ true) same (and_parts (row_ok mask row) (rows_ok (mask + 1) rows) ok).0
+    subst (λ m. row_ok m row ≡ true) same
+    (and_parts (row_ok mask row) (rows_ok (mask + 1) rows) ok).0
 row_is_ok mask (row ∷ rows) ok (suc i) l =
     let same : mask + 1 + i ≡ mask + suc i = omega arith in
     subst (λ m. row_ok m (get_or rows i []) ≡ true) same
@@ -144,7 +145,8 @@ module _ (Means : List ℕ → ℕ → Type 0) (src : List ℕ) (leads read next
   two_front =
       ap (take 2) (drop-cons src read 0 (omega arith)
       ∙ ap (λ z. first ∷ z) (drop-cons src (suc read) 0 (omega arith)))
-      ∙ ap (λ b. first ∷ b ∷ []) (sym (get_or_drop 1 read src ∙ ap (λ k. get_or src k 0) next_place))
+      ∙ ap (λ b. first ∷ b ∷ []) (sym (get_or_drop 1 read src
+      ∙ ap (λ k. get_or src k 0) next_place))
     where
       next_place : 1 + read ≡ suc read
       next_place = omega arith
@@ -252,7 +254,8 @@ module _ (StandsFor : ℕ → List ℕ → Type 0) (places : List ℕ) (leads : 
       subst (λ b. Stands (get_or places i 0) (has_bit leads i) (get_or (drop read src) i 0) b)
       second_is
       (subst (λ a. Stands (get_or places i 0) (has_bit leads i) a
-      (get_or (take 16 (drop (read + 1) src)) i 0)) (get_or-take 16 (drop read src) i 0 l) (are i l))
+      (get_or (take 16 (drop (read + 1) src)) i 0)) (get_or-take 16 (drop read src) i 0 l)
+      (are i l))
     where
       same : read + 1 + i ≡ read + (1 + i)
       same = omega arith

@@ -1,7 +1,8 @@
 -- Characters of UTF-8 that are written as one byte each.
 use Rattle.std.proofs.Common.{◌≡◌, ◌∙◌, ℕ, zero, suc, ◌+◌, ◌*◌, ◌/◌, ◌%◌, ◌^◌, ◌<◌, ◌≤◌, Bool, true, false, ◌&&◌}
 use Rattle.std.proofs.Common.{cond, eqb, ltb, eqb-true, List, [], ◌∷◌, ◌++◌, map, length, take, drop, get_or}
-use Rattle.std.proofs.Common.{replicate, refl, ap, sym, subst, arith, length-drop, drop-drop, chars, IsUtf8, inl, inr, min}
+use Rattle.std.proofs.Common.{replicate, refl, ap, sym, subst, arith, length-drop, drop-drop, chars, IsUtf8, inl, inr}
+use Rattle.std.proofs.Common.{min}
 use Rattle.std.proofs.Math.ListN.{set}
 use Rattle.std.proofs.Math.Nat.{div-div-eq-div-mul}
 use Rattle.std.proofs.lemmas.Bool.{and_parts, cases_lt}
@@ -22,7 +23,8 @@ use Rattle.enc_units.proofs.GatherLemmas.{utf8_two, utf8_three, utf8_four}
 use Rattle.enc_units.proofs.MappingLemmas.{maps_none, maps_both, maps_one, maps_ascii, put_one, stored_front}
 use Rattle.enc_units.proofs.Utf8Lanes.{top_flag}
 use Rattle.enc_units.proofs.Utf8MappedLemmas.{front, at_front, first_is, below_most, own_front}
-use Rattle.enc_units.proofs.Utf8UnitLanes.{IsLanes, lane_at, widened, splat_lanes, sum_lanes, product_lanes, below_lanes}
+use Rattle.enc_units.proofs.Utf8UnitLanes.{IsLanes, lane_at, widened, splat_lanes, sum_lanes, product_lanes}
+use Rattle.enc_units.proofs.Utf8UnitLanes.{below_lanes}
 use Rattle.enc_units.proofs.Utf8UnitLanes.{chosen_lanes}
 
 -- what sixteen bytes begin
@@ -198,10 +200,10 @@ pub end_is : (leads place k read : ℕ) (ends : List ℕ) → ends ≡ four_ends
     → read ≡ end_after ends k → read < 8
     → get_or ends k 0 ≡ read + 1 + bit_at leads (place + read)
 end_is leads place k read ends is l e few =
-    let m = leads / 2 ^ place % 0x100 in
-    let row : follows m ends ≡ true = subst (λ r. follows m r ≡ true) (sym is)
-    (row_follows ENDS 0 m m ends_follow (omega (arith, ends_count)) (omega arith)) in
-    subst (λ x. get_or ends k 0 ≡ next_end m x) (sym e) (row_steps m ends row k l)
+    let mask = leads / 2 ^ place % 0x100 in
+    let row : follows mask ends ≡ true = subst (λ r. follows mask r ≡ true) (sym is)
+    (row_follows ENDS 0 mask mask ends_follow (omega (arith, ends_count)) (omega arith)) in
+    subst (λ x. get_or ends k 0 ≡ next_end mask x) (sym e) (row_steps mask ends row k l)
     ∙ ap (λ x. read + 1 + x) (placed_bit leads place read few)
 
 -- the first character, if it has one byte or two
@@ -216,46 +218,46 @@ pub short_first : (bs : List ℕ) → IsUtf8 bs → 0 < length bs
     → IsFirstUtf8Char bs (short_unit (get_or bs 0 0) (get_or bs 1 0)) (1 + lead_bit (get_or bs 0 0))
 short_first bs utf8 some below =
     let begins = front bs utf8 some in
-    let b = get_or bs 0 0 in
-    let c = get_or bs 1 0 in
+    let lead = get_or bs 0 0 in
+    let trail = get_or bs 1 0 in
     elim (cases_lt begins.c 0x80) [
       | inl one ↦
           let code = encode_ascii begins.c one in
-          let first : b ≡ begins.c = at_front bs begins.c begins.rest _ begins.is code 0 0 in
-          let unit : begins.c ≡ short_unit b c = grind (arith, nat_tests, first, one) in
-          let width : 1 ≡ 1 + lead_bit b = grind (arith, nat_tests, first, one) in
+          let first : lead ≡ begins.c = at_front bs begins.c begins.rest _ begins.is code 0 0 in
+          let unit : begins.c ≡ short_unit lead trail = grind (arith, nat_tests, first, one) in
+          let width : 1 ≡ 1 + lead_bit lead = grind (arith, nat_tests, first, one) in
           is_first bs begins.c 1 _ _ unit width
           (first_is bs begins.c begins.rest _ utf8 begins.is code)
       | inr more ↦ elim (cases_lt begins.c 0x800) [
         | inl low ↦
             let code = utf8_two begins.c more low in
-            let first : b ≡ 192 + begins.c / 64 =
+            let first : lead ≡ 192 + begins.c / 64 =
             at_front bs begins.c begins.rest _ begins.is code 0 0 in
-            let second : c ≡ 128 + begins.c % 64 =
+            let second : trail ≡ 128 + begins.c % 64 =
             at_front bs begins.c begins.rest _ begins.is code 1 0 in
-            let unit : begins.c ≡ short_unit b c =
+            let unit : begins.c ≡ short_unit lead trail =
             grind (arith, nat_tests, first, second, more, low) in
-            let width : 2 ≡ 1 + lead_bit b = grind (arith, nat_tests, first, low) in
+            let width : 2 ≡ 1 + lead_bit lead = grind (arith, nat_tests, first, low) in
             is_first bs begins.c 2 _ _ unit width
             (first_is bs begins.c begins.rest _ utf8 begins.is code)
         | inr above ↦ elim (cases_lt begins.c 0x10000) [
           | inl near ↦
               let code = utf8_three begins.c above near in
-              let first : b ≡ 224 + begins.c / 4096 =
+              let first : lead ≡ 224 + begins.c / 4096 =
               at_front bs begins.c begins.rest _ begins.is code 0 0 in
-              let second : c ≡ 128 + begins.c / 64 % 64 =
+              let second : trail ≡ 128 + begins.c / 64 % 64 =
               at_front bs begins.c begins.rest _ begins.is code 1 0 in
-              let unit : short_unit b c ≡ (b * 0x40 + c + 0xCF80) % 0x1_0000 =
+              let unit : short_unit lead trail ≡ (lead * 0x40 + trail + 0xCF80) % 0x1_0000 =
               grind (arith, nat_tests, first) in
               absurd (omega (arith, unit, first, second, below, above, near))
           | inr far ↦
               let code = utf8_four begins.c far in
-              let first : b ≡ 240 + begins.c / 262144 =
+              let first : lead ≡ 240 + begins.c / 262144 =
               at_front bs begins.c begins.rest _ begins.is code 0 0 in
-              let second : c ≡ 128 + begins.c / 4096 % 64 =
+              let second : trail ≡ 128 + begins.c / 4096 % 64 =
               at_front bs begins.c begins.rest _ begins.is code 1 0 in
               let most = below_most begins.c begins.scalar in
-              let unit : short_unit b c ≡ (b * 0x40 + c + 0xCF80) % 0x1_0000 =
+              let unit : short_unit lead trail ≡ (lead * 0x40 + trail + 0xCF80) % 0x1_0000 =
               grind (arith, nat_tests, first) in
               absurd (omega (arith, unit, first, second, below, far, most))
         ]
@@ -326,12 +328,12 @@ module _ {Means : List ℕ → ℕ → Type 0} {src : List ℕ} {from : ℕ} whe
       (1 + lead_bit (get_or src from 0)) 1
   writes_one byte {before} {at} {unit} utf8 within is below means room =
       let first = first_at src from unit utf8 within is below in
-      let n = 1 + lead_bit (get_or src from 0) in
-      let after : drop n (drop from src) ≡ drop (from + n) src = drop-drop n from src in
+      let width = 1 + lead_bit (get_or src from 0) in
+      let after : drop width (drop from src) ≡ drop (from + width) src = drop-drop width from src in
       record {
         within = omega (arith, first.within, length-drop from src, within);
         utf8 = subst IsUtf8 after first.utf8;
-        writes = maps_one Means (chars (drop from src)) (chars (drop (from + n) src)) before
+        writes = maps_one Means (chars (drop from src)) (chars (drop (from + width) src)) before
             (set before at byte) at 1 unit (byte ∷ [])
             (first.chars ∙ ap (λ z. unit ∷ chars z) after) means refl (omega (arith, room))
             (put_one at before (byte ∷ []) 1 refl (omega arith) room);

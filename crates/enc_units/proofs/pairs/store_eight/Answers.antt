@@ -14,5 +14,6 @@ returns-clause-gathers g c src long are =
     gathers_then
     (c.store_four-first.ensures.gathers src (omega (arith, long)) (λ i l. are i (omega arith)))
     (c.store_four-second.ensures.gathers (drop first src)
-    (omega (arith, long, few, length-drop first src)) (places_after (g.P.Pieces.stands_for c.args.pieces) c.args.places.now c.args.leads src first few
+    (omega (arith, long, few, length-drop first src))
+    (places_after (g.P.Pieces.stands_for c.args.pieces) c.args.places.now c.args.leads src first few
     are))

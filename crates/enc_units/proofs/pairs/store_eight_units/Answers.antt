@@ -12,7 +12,9 @@ returns-clause-gathers g c src long are =
     let first = c.store_four_units-first.result.0 in
     let few = c.store_four_units-first.ensures.read in
     gathers_then
-    (c.store_four_units-first.ensures.gathers src (omega (arith, long)) (λ i l. are i (omega arith)))
+    (c.store_four_units-first.ensures.gathers src (omega (arith, long))
+    (λ i l. are i (omega arith)))
     (c.store_four_units-second.ensures.gathers (drop first src)
-    (omega (arith, long, few, length-drop first src)) (places_after (g.P.Pieces.stands_for c.args.pieces) c.args.places.now c.args.leads src first few
+    (omega (arith, long, few, length-drop first src))
+    (places_after (g.P.Pieces.stands_for c.args.pieces) c.args.places.now c.args.leads src first few
     are))

@@ -21,7 +21,8 @@ sixteens-preserved g c =
 pub returns-then-len-eq0-clause-writes : goal.returns-then-len-eq0-clause-writes
 returns-then-len-eq0-clause-writes g c =
     let turn = c.put_turn-len.ensures in
-    (more_further c.sixteens.invariant (rest_is c.sixteens.read c.args.src.now) turn.within turn.utf8
+    (more_further c.sixteens.invariant (rest_is c.sixteens.read c.args.src.now) turn.within
+    turn.utf8
     turn.writes).writes
 
 pub ones-preserved : goal.ones-preserved

@@ -33,7 +33,8 @@ loop-written-preserved-then-are_ascii g c =
           (take-take 16 16 rest (omega arith)))),
     )
 
-pub store_eight_units-more-requires-clause-places : goal.store_eight_units-more-requires-clause-places
+pub store_eight_units-more-requires-clause-places :
+    goal.store_eight_units-more-requires-clause-places
 store_eight_units-more-requires-clause-places g c i l = (_, c.in-Some.ensures i l)
 
 pub returns-in_default-piece-clause-gathers : goal.returns-in_default-piece-clause-gathers
