@@ -9,6 +9,7 @@ use Rattle.std.specs.Option.{IfSome}
 use Rattle.enc_units.specs.Output.{Output, with_appended, units_of_text}
 use Rattle.enc_units.specs.Pieces.{PutsPieces, piece_chars}
 use Rattle.enc_units.proofs.OutputLemmas.{with_appended-nil}
+use Rattle.enc_units.proofs.PiecesLemmas.{puts_wider}
 use Rattle.enc_units.specs.Mappings.{AreWrittenAsThemselves}
 use Rattle.enc_units.specs.Validity.{AreIso2022JpAscii}
 use Rattle.enc_decoder.specs.declared.byte_codec.Kind.TheVariants.{Skipped}
@@ -25,10 +26,10 @@ use Rattle.enc_decoder_iso_2022_jp.specs.Iso2022Jp.{two_byte_char, iso_2022_jp_r
 use Rattle.enc_decoder_iso_2022_jp.specs.Iso2022JpState.{Iso2022JpState, state_with_held, intermediate_byte}
 use Rattle.enc_decoder_iso_2022_jp.specs.Iso2022JpState.{escape_bytes, escape_set, bytes_of_held, StandsAlone}
 use Rattle.enc_decoder_iso_2022_jp.specs.Iso2022JpState.{iso_2022_jp_state as jp_state}
-use Rattle.enc_decoder.specs.Taking.{TakesRun, IsWholeChar}
+use Rattle.enc_decoder.specs.Taking.{TakesSequences, TakesRun, IsWholeChar, IsReplacedChar}
 use Rattle.enc_decoder.proofs.SegmentationLemmas.{sequences_of-head}
 use Rattle.enc_decoder.proofs.TakingLemmas.{front, takes_both, takes_none}
-use Rattle.enc_decoder.proofs.PieceLemmas.{takes_pieces, three_of}
+use Rattle.enc_decoder.proofs.PieceLemmas.{takes_pieces, takes_replaced, three_of}
 use Rattle.enc_decoder.proofs.FirstSequenceLemmas.{true_or_false}
 use Rattle.enc_decoder_iso_2022_jp.proofs.Iso2022JpLemmas.{skipped_escape}
 use Rattle.enc_decoder_iso_2022_jp.proofs.Iso2022JpRule.{is_escape_byte, other_front}
@@ -203,6 +204,17 @@ takes_no_pieces {units_of} c src {before = before} puts none =
     (sym (puts.written ∙ ap (λ t. with_appended before (units_of_text units_of t)) no_text
     ∙ with_appended-nil before))
     (takes_none units_of jp_state c src before)
+
+-- Bytes in ASCII are sequences, malformed ones included.
+pub takes_in_ascii : {units_of : ℕ → List ℕ} {c : Iso2022JpState} {src front : List ℕ} {m n : ℕ}
+    {before after : Output}
+    → c ≡ state_with_held Ascii None → front ≡ take m src
+    → PutsPieces units_of (IsReplacedChar jp_rule 0) before after front n
+    → TakesSequences units_of (jp_state c) (jp_state c) src n before after
+takes_in_ascii {units_of} {c} {src} {front} {m} {n} {before} {after} in_ascii is_front puts =
+    subst (λ (d : Iso2022JpState). TakesSequences units_of (jp_state d) (jp_state d) src n before
+    after) (sym in_ascii)
+    (takes_replaced (jp_state (state_with_held Ascii None)) refl (puts_wider m is_front puts))
 
 -- A run is taken, and another after it.
 pub takes_run_after : {units_of : ℕ → List ℕ} {c m n : Iso2022JpState} {src rest : List ℕ}

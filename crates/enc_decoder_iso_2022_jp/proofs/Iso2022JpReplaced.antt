@@ -76,6 +76,11 @@ means_unit b unit is_char is_scalar =
 -- the entries of all bytes, by a test
 
 module _ (kind : ℕ → ℕ → Bool) where
+  -- there is a text, and the entry is right for it
+  abbrev Found : Option ℕ → ℕ → Type 0
+  Found found g = (c : ℕ) × (found ≡ Some c) × (kind c g ≡ true)
+
+  -- the entry of a byte, which is 0 if the byte has no text
   unfoldable entry_ok : Option ℕ → ℕ → Bool
   entry_ok None g = g == 0
   entry_ok (Some c) g = kind c g
