@@ -1,4 +1,4 @@
-use Rattle.std.proofs.Common.{◌∙◌, ap}
+use Rattle.std.proofs.Common.{◌∙◌, ap, get_or}
 use Rattle.std.proofs.lemmas.Simd.{get_or-replicate}
 use Rattle.enc_units.specs.Places.{number_in}
 use Rattle.enc_decoder_multi_byte.proofs.PairPlaces.{euc_kr_place}
@@ -7,7 +7,6 @@ use Rattle.enc_decoder_multi_byte.proofs.euc_kr.EucKrDoubleByte.pair_places.Goal
 pub returns : goal.returns
 returns c i l =
     euc_kr_place _ _
-    (c.numbers_in-rows.ensures i l ∙ ap (number_in 0x81 0xFE 0 _) (get_or-replicate 16 i 126 0 l))
-    (c.numbers_in-columns.ensures i l ∙ ap (number_in 0x41 0xFE 0 _)
-    (get_or-replicate 16 i 190 0 l))
+    (c.numbers_in-rows.ensures i l ∙ ap (number_in 0x81 0xFE 0 (get_or c.args.first i 0)) (get_or-replicate 16 i 126 0 l))
+    (c.numbers_in-columns.ensures i l ∙ ap (number_in 0x41 0xFE 0 (get_or c.args.second i 0)) (get_or-replicate 16 i 190 0 l))
     (c.places_at.ensures i l)
