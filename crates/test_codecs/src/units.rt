@@ -119,6 +119,14 @@ const OTHERS: [u8; 11] = [
     0x41, 0x80, 0xBF, 0xC1, 0xC3, 0xE0, 0xED, 0xF0, 0xF4, 0xF5, 0xFF,
 ];
 
+/// The length of the well-formed UTF-8 at the front, by the standard library.
+fn valid_len(src: &[u8]) -> usize {
+    match str::from_utf8(src) {
+        Ok(text) => text.len(),
+        Err(error) => error.valid_up_to(),
+    }
+}
+
 #[test]
 fn well_formed_utf_8_ends_before_what_is_malformed(rt: HostRuntime) {
     let text = TEXT.as_bytes();
@@ -129,8 +137,9 @@ fn well_formed_utf_8_ends_before_what_is_malformed(rt: HostRuntime) {
             src[at] = other;
             let mut dst = [0; 200];
             let taken = Utf8Slice::new(&mut dst).put_utf8(&src);
+            let valid = utf8_valid_up_to(&src);
             assert!(rt;
-                taken == utf8_valid_up_to(&src) && &dst[..taken] == &src[..taken],
+                taken == valid_len(&src) && valid == taken && &dst[..taken] == &src[..taken],
                 "{other} at {at}"
             );
         }
