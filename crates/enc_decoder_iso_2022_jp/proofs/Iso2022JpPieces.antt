@@ -206,12 +206,12 @@ takes_no_pieces {units_of} c src {before = before} puts none =
     (takes_none units_of jp_state c src before)
 
 -- Bytes in ASCII are sequences, malformed ones included.
-pub takes_in_ascii : {units_of : ℕ → List ℕ} {c : Iso2022JpState} {src front : List ℕ} {m n : ℕ}
-    {before after : Output}
+pub takes_in_ascii : {units_of : ℕ → List ℕ} {c : Iso2022JpState} {src front : List ℕ} (m : ℕ)
+    {n : ℕ} {before after : Output}
     → c ≡ state_with_held Ascii None → front ≡ take m src
     → PutsPieces units_of (IsReplacedChar jp_rule 0) before after front n
     → TakesSequences units_of (jp_state c) (jp_state c) src n before after
-takes_in_ascii {units_of} {c} {src} {front} {m} {n} {before} {after} in_ascii is_front puts =
+takes_in_ascii {units_of} {c} {src} {front} m {n} {before} {after} in_ascii is_front puts =
     subst (λ (d : Iso2022JpState). TakesSequences units_of (jp_state d) (jp_state d) src n before
     after) (sym in_ascii)
     (takes_replaced (jp_state (state_with_held Ascii None)) refl (puts_wider m is_front puts))

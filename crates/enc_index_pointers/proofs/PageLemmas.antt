@@ -32,7 +32,7 @@ unfoldable pub all_at : (ℕ → ℕ → Bool) → ℕ → List ℕ → Bool
 all_at test p [] = true
 all_at test p (t ∷ ts) = test p t && all_at test (p + 1) ts
 
-all_at-at : (test : ℕ → ℕ → Bool) (d p : ℕ) (ts : List ℕ) (i : ℕ) → all_at test p ts ≡ true
+pub all_at-at : (test : ℕ → ℕ → Bool) (d p : ℕ) (ts : List ℕ) (i : ℕ) → all_at test p ts ≡ true
     → i < length ts
     → test (p + i) (get_or ts i d) ≡ true
 unfolding all_at

@@ -110,7 +110,7 @@ single_byte_pages index c =
 
 -- the byte of a character, in the table of the index with the number n
 module _ (index : SingleByteIndex) (n b c : ℕ) (is_number : n ≡ table_number index)
-    (is_entry : b ≡ get_or (bytes_of n) c 0) (within : c < length (bytes_of n)) where
+    (is_entry : b ≡ get_or (bytes_of n) c 0) where
   direct : direct_ok 14 10 (page_of index) SINGLE_BYTE_POINTERS (bytes_of n) ≡ true
   direct = subst (λ k. direct_ok 14 10 (page_of index) SINGLE_BYTE_POINTERS (bytes_of k) ≡ true)
       (sym is_number) (parts index).direct
@@ -120,14 +120,14 @@ module _ (index : SingleByteIndex) (n b c : ℕ) (is_number : n ≡ table_number
 
   pub ascii_byte : c < 0x80 → 0 < b → b ≡ c
   ascii_byte low h = is_entry
-      ∙ own_byte 14 10 (page_of index) SINGLE_BYTE_POINTERS (bytes_of n) direct c within low (some h)
+      ∙ own_byte 14 10 (page_of index) SINGLE_BYTE_POINTERS (bytes_of n) direct c low (some h)
 
   pub pointer_byte : 0x80 ≤ c → 0 < b → b < 0x100
       → (0x80 ≤ b) × (single_byte_pointer index c ≡ Some (b - 0x80))
   pointer_byte high h fits =
       let number = number_in_pages (page_of index) SINGLE_BYTE_POINTERS c in
       let paged = is_entry ∙ paged_byte 14 10 (page_of index) SINGLE_BYTE_POINTERS (bytes_of n) direct
-      c within high (some h) in
+      c high (some h) in
       let few : number < 128 = omega (arith, paged, fits) in
       let less : number ≡ b - 0x80 = omega (arith, paged) in (
         omega (arith, paged),

@@ -3,5 +3,5 @@ use Rattle.enc_decoder_iso_2022_jp.proofs.iso_2022_jp.Iso2022JpDecoderRawDecoder
 
 pub returns : goal.returns
 returns g c =
-    takes_in_ascii (c.is_in_ascii.ensures c.if-not-is_in_ascii.false) c.split_at.ensures.front
+    takes_in_ascii _ (c.is_in_ascii.ensures c.if-not-is_in_ascii.false) c.split_at.ensures.front
     c.put_run.ensures
