@@ -218,8 +218,8 @@ impl<'a, R: Source> DecodeReader<'a, R> {
         }
     }
 
-    /// Reads the next chunk into the buffer, after the bytes that are not decoded, which move to its
-    /// start. After an `Err`, which is `Reader`, the source has failed.
+    /// Reads the next chunk into the buffer, after the bytes that are not decoded, which move to
+    /// its start. After an `Err`, which is `Reader`, the source has failed.
     fn pull(&mut self) -> Result<(), ReadFault>
         requires not_ended { self.old.ended ≡ false }
         requires room { self.old.filled - self.old.at < length self.old.input.now }
@@ -347,8 +347,8 @@ impl<'a, R: Source> DecodeReader<'a, R> {
         self.decoder.latin1_byte_compatible_up_to(&[]).is_some()
     }
 
-    /// Returns whether no sequence is in the buffer whole: every byte is decoded, or the rest is cut
-    /// within a character of UTF-8. It may be false for a rest that fills the buffer.
+    /// Returns whether no sequence is in the buffer whole: every byte is decoded, or the rest is
+    /// cut within a character of UTF-8. It may be false for a rest that fills the buffer.
     fn lacks_bytes(&self) -> bool
         ensures room { result ≡ true
             → self.now.filled - self.now.at < length self.now.input.now }
@@ -388,8 +388,8 @@ impl<'a, R: Source> DecodeReader<'a, R> {
 
     /// Returns the number of unread bytes at the front that are their own text.
     ///
-    /// In UTF-8 they are well-formed, and in another ASCII-compatible encoding they are ASCII. It is
-    /// 0 in other encodings, while a byte order mark may come, and within a sequence.
+    /// In UTF-8 they are well-formed, and in another ASCII-compatible encoding they are ASCII. It
+    /// is 0 in other encodings, while a byte order mark may come, and within a sequence.
     fn text_ahead(&self) -> usize
         ensures within { result ≤ self.now.filled - self.now.at }
         ensures own { 0 < result → IsOwnText (state_of self.now).decoder
@@ -414,9 +414,9 @@ impl<'a, R: Source> DecodeReader<'a, R> {
     /// their own text.
     ///
     /// These are well-formed in UTF-8, and ASCII in another ASCII-compatible encoding. Lent text
-    /// stays in the reader's own buffer, and is not copied. [`DecodeReader::text`] returns the text,
-    /// until the next read. It is empty only at the end. At least 4096 bytes are lent; `dst` is
-    /// unchanged then. Errors are those of `read_str`. Takes no memory. Condition: `dst` has at
+    /// stays in the reader's own buffer, and is not copied. [`DecodeReader::text`] returns the
+    /// text, until the next read. It is empty only at the end. At least 4096 bytes are lent; `dst`
+    /// is unchanged then. Errors are those of `read_str`. Takes no memory. Condition: `dst` has at
     /// least four bytes.
     pub fn read_or_lend(&mut self, dst: &mut [u8]) -> Result<HandedText, ReadFault>
         requires { 4 ≤ length dst.old }

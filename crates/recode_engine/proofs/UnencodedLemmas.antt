@@ -1,7 +1,7 @@
 -- ASCII at the start of a text that is written without being encoded, and the rest of the text.
 use Rattle.std.proofs.Common.{◌≡◌, ℕ, zero, suc, ◌-◌, ◌<◌, ◌≤◌, Bool, true, false, not, ◌||◌, is_some, Option, List, []}
-use Rattle.std.proofs.Common.{◌∷◌, ◌++◌, length, take, drop, refl, ap, ◌∙◌, sym, subst, arith, append_assoc, chars, IsUtf8}
-use Rattle.std.proofs.Common.{if◌then◌else◌}
+use Rattle.std.proofs.Common.{◌∷◌, ◌++◌, length, take, drop, refl, ap, ◌∙◌, sym, subst, arith, append_assoc, chars}
+use Rattle.std.proofs.Common.{IsUtf8, if◌then◌else◌}
 use Rattle.std.proofs.Math.ListN.{length-drop}
 use Rattle.std.proofs.lemmas.List.{take-append-drop, take_all}
 use Rattle.std.proofs.lemmas.Str.{chars-append, chars_from_encodes, IsUtf8-drop, IsCharBoundary-from_take}
@@ -48,7 +48,8 @@ module _ (s : EncoderState) (writes : WritesAsciiAsItself s) where
   same_after u v (c ∷ t) same_set =
       ap (λ set. escape_before rule set c
       ++ (list_or_empty (rule.bytes c) ++ bytes_after_text rule Ascii (u ++ c ∷ []) t)) same_set
-      ∙ ap (λ x. escape_before rule (rule.set_after Ascii v) c ++ (list_or_empty (rule.bytes c) ++ x))
+      ∙ ap (λ x. escape_before rule (rule.set_after Ascii v) c
+      ++ (list_or_empty (rule.bytes c) ++ x))
       (same_after (u ++ c ∷ []) (v ++ c ∷ []) t
       (lawful.set_after_more Ascii u c ∙ ap (λ set. set_for rule set c) same_set
       ∙ sym (lawful.set_after_more Ascii v c)))
@@ -129,7 +130,8 @@ EncodesText-ascii s text rest n last are_ascii own is_rest =
 module _ {a b : EncoderState} {text rest : List ℕ} {last : Bool} {k₀ k₁ k₂ : Option (List ℕ)}
     {wrote : List ℕ}
     (first : EncodesText a b text rest last wrote false) (taken : AppendsContents k₀ k₁ wrote) where
-  pub HasEncoded-rest : {c : EncoderState} {replaced : Bool} → HasEncoded b c rest [] last k₁ k₂ replaced
+  pub HasEncoded-rest : {c : EncoderState} {replaced : Bool}
+      → HasEncoded b c rest [] last k₁ k₂ replaced
       → HasEncoded a c text [] last k₀ k₂ replaced
   HasEncoded-rest {c = c} {replaced = replaced} then_rest = record {
     wrote = wrote ++ then_rest.wrote;
