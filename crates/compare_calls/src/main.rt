@@ -16,8 +16,8 @@
 //! `last` and with replacement. `-` stands for none. A line that is no call has the answer `?`.
 //!
 //! A one-shot call gets the input of the call alone. It writes UTF-8, with `replace` or, if no byte
-//! order mark is looked for, with `report`. Its result is `Borrowed`, `Owned` or `None`, its query
-//! 0.
+//! order mark is looked for, with `report`. Its result is `Borrowed`, `Owned` or `None`, and
+//! its query is 0.
 #![tactic(auto)]
 
 ghost use Rattle.std.specs.Prelude.{◌≡◌, ◌≤◌, false, length};

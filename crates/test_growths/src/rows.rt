@@ -182,8 +182,8 @@ const UNMARKED_UTF_8: Pattern = Pattern {
     units: 999,
 };
 
-/// One-shot calls of decoders that lend, on input that is its own text. Its other calls are those
-/// of [`DECODED`].
+/// One-shot calls of decoders that lend, on input that is its own text. On other input they are
+/// made by the rows of [`DECODED`].
 pub const LENT: &[(&str, DecodeRow)] = &[
     (
         "decode_lending_its_text",

@@ -67,7 +67,7 @@ fn lent<'a, R: Source>(
 #[test]
 fn lends_utf_8_where_it_was_read(rt: HostRuntime) -> Result<(), Fail> {
     let mut bytes = Vec::new(rt.alloc());
-    bytes.extend_from_slice("éab".as_bytes())?;
+    bytes.extend_from_slice("éabc".as_bytes())?;
     for _ in 0..7000 {
         bytes.extend_from_slice("日".as_bytes())?;
     }
@@ -77,10 +77,10 @@ fn lends_utf_8_where_it_was_read(rt: HostRuntime) -> Result<(), Fail> {
     let mut reader = DecodeReader::new(&mut source, Some(UTF_8), &mut input);
     // the four bytes after which no byte order mark can come
     compare_read(&mut reader, Ok(4), "éab".as_bytes())?;
-    // chunks that end after one byte, two bytes and two bytes of a character: the rest is in the
-    // next one, and the last character is cut
+    // chunks of which the second ends after two bytes of a character, whose rest is in the next
+    // one. The last character is cut
     let mut rest = &text[4..];
-    for len in [8187, 8190, 4620] {
+    for len in [8188, 8190, 4620] {
         rest = lent(&mut reader, rest, len)?;
     }
     let mut part = [0; 6];
