@@ -8,7 +8,8 @@ returns-clause-ascii c low some =
 
 pub returns-clause-others : goal.returns-clause-others
 returns-clause-others c high some =
-    pointer_byte c.args.index _ _ c.args.unit c.number-from.ensures.which c.byte_in.ensures high some
+    pointer_byte c.args.index _ _ c.args.unit c.number-from.ensures.which c.byte_in.ensures high
+    some
     (omega arith)
 
 pub returns-clause-last : goal.returns-clause-last

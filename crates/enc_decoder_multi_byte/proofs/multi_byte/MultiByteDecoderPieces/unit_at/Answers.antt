@@ -12,5 +12,6 @@ returns g c some bytes at =
     record {
       scalar = is_unit.1;
       means = at.char c.unit.result
-          (subst (λ grid. grid_char grid c.args.place ≡ Some c.unit.result) c.grid.ensures is_unit.0);
+          (subst (λ grid. grid_char grid c.args.place ≡ Some c.unit.result) c.grid.ensures
+          is_unit.0);
     }
