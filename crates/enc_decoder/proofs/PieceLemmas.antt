@@ -107,7 +107,7 @@ takes_pieces units_of state c src n before after none_pending puts =
     let pieces = puts.reads.pieces in
     record {
       run = takes_each value none_pending puts
-      (as_replaced value.rule value.set pieces puts.reads.mean);
+          (as_replaced value.rule value.set pieces puts.reads.mean);
       none_malformed = whole_valid value.rule value.set pieces puts.reads.mean;
     }
 

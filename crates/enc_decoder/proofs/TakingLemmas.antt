@@ -129,7 +129,7 @@ module _ {C : Type 0} {units_of : ℕ → List ℕ} {state : C → CodecState} (
       none_malformed = any_malformed-append writing.progress.done t.run.taken
           ∙ rw (writing.progress.none_malformed, t.none_malformed) refl;
       scalars = scalars_of-append writing.progress.done t.run.taken writing.progress.scalars
-      t.run.scalars;
+          t.run.scalars;
       undetermined = inr (none_determined (remainder_of v).sequences
           (remainder_of (state n)).sequences
           (take (read + took) src) done (residual some)
@@ -212,46 +212,47 @@ takes_both units_of state c m n src read more before mid after rest e takes_run 
     let both = units-append units_of takes_run.run.taken takes_more.run.taken in
     record {
       run = record {
-      taken = takes_run.run.taken ++ takes_more.run.taken;
-      within = omega (arith, takes_run.run.within, takes_more.run.within, length-drop read src);
-      bytes = sequence_bytes-append takes_run.run.taken takes_more.run.taken
-          ∙ ap (λ z. z ++ sequence_bytes takes_more.run.taken) takes_run.run.bytes
-          ∙ ap (λ z. take read src ++ z) takes_more.run.bytes
-          ∙ sym (take-add read more src);
-      first = λ w. ap (remainder_of (state c)).sequences (ap (λ z. z ++ w) (take-add read more src)
-          ∙ append_assoc (take read src) bytes w)
-          ∙ takes_run.run.first (bytes ++ w)
-          ∙ ap (λ ss. takes_run.run.taken ++ ss) (takes_more.run.first w)
-          ∙ sym (append_assoc takes_run.run.taken takes_more.run.taken
-          ((remainder_of (state n)).sequences w));
-      next_state =
-          takes_more.run.next_state ∙ ap
-          (λ (s : CodecState). record s { set = set_after s.set takes_more.run.taken })
-          takes_run.run.next_state
-          ∙ ap (λ k. record (state c) { set = k })
-          (sym (set_after-append (state c).set takes_run.run.taken takes_more.run.taken));
-      scalars = scalars_of-append takes_run.run.taken takes_more.run.taken takes_run.run.scalars
-          takes_more.run.scalars;
-      fits = omega (
-        arith,
-        ap length both,
-        length-append first_units more_units,
-        takes_run.run.fits,
-        takes_more.run.fits,
-        room_left before mid first_units takes_run.run.written,
-      );
-      written =
-          takes_more.run.written ∙ ap (λ o. with_appended o more_units) takes_run.run.written
-          ∙ with_appended-with_appended before first_units more_units
-          ∙ ap (with_appended before) (sym both);
-      none_pending = λ h. elim (cases_lt 0 read) [
-        | inl r ↦ takes_run.run.none_pending r
-        | inr r ↦ sym (ap (λ (s : CodecState). s.pending) takes_run.run.next_state)
-            ∙ takes_more.run.none_pending (omega arith)
-      ];
-      none_taken = λ z. ap (λ ss. ss ++ takes_more.run.taken)
-      (takes_run.run.none_taken (omega arith))
-          ∙ takes_more.run.none_taken (omega arith);
+        taken = takes_run.run.taken ++ takes_more.run.taken;
+        within = omega (arith, takes_run.run.within, takes_more.run.within, length-drop read src);
+        bytes = sequence_bytes-append takes_run.run.taken takes_more.run.taken
+            ∙ ap (λ z. z ++ sequence_bytes takes_more.run.taken) takes_run.run.bytes
+            ∙ ap (λ z. take read src ++ z) takes_more.run.bytes
+            ∙ sym (take-add read more src);
+        first = λ w. ap (remainder_of (state c)).sequences
+            (ap (λ z. z ++ w) (take-add read more src)
+            ∙ append_assoc (take read src) bytes w)
+            ∙ takes_run.run.first (bytes ++ w)
+            ∙ ap (λ ss. takes_run.run.taken ++ ss) (takes_more.run.first w)
+            ∙ sym (append_assoc takes_run.run.taken takes_more.run.taken
+            ((remainder_of (state n)).sequences w));
+        next_state =
+            takes_more.run.next_state ∙ ap
+            (λ (s : CodecState). record s { set = set_after s.set takes_more.run.taken })
+            takes_run.run.next_state
+            ∙ ap (λ k. record (state c) { set = k })
+            (sym (set_after-append (state c).set takes_run.run.taken takes_more.run.taken));
+        scalars = scalars_of-append takes_run.run.taken takes_more.run.taken takes_run.run.scalars
+            takes_more.run.scalars;
+        fits = omega (
+          arith,
+          ap length both,
+          length-append first_units more_units,
+          takes_run.run.fits,
+          takes_more.run.fits,
+          room_left before mid first_units takes_run.run.written,
+        );
+        written =
+            takes_more.run.written ∙ ap (λ o. with_appended o more_units) takes_run.run.written
+            ∙ with_appended-with_appended before first_units more_units
+            ∙ ap (with_appended before) (sym both);
+        none_pending = λ h. elim (cases_lt 0 read) [
+          | inl r ↦ takes_run.run.none_pending r
+          | inr r ↦ sym (ap (λ (s : CodecState). s.pending) takes_run.run.next_state)
+              ∙ takes_more.run.none_pending (omega arith)
+        ];
+        none_taken = λ z. ap (λ ss. ss ++ takes_more.run.taken)
+            (takes_run.run.none_taken (omega arith))
+            ∙ takes_more.run.none_taken (omega arith);
       };
       none_malformed = any_malformed-append takes_run.run.taken takes_more.run.taken
           ∙ rw (takes_run.none_malformed, takes_more.none_malformed) refl;

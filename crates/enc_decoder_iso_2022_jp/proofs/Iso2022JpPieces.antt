@@ -151,23 +151,24 @@ after_escape units_of s e n src more before after is_alone some taken =
     let bytes = take more (drop 3 src) in
     record {
       run = record {
-      taken = skipped e ∷ taken.run.taken;
-      within = omega (arith, some, taken.run.within, length-drop 3 src);
-      bytes = ap (λ z. escape_bytes e ++ z) taken.run.bytes ∙ ap (λ x. x ++ bytes) (sym three)
-          ∙ sym (take-add 3 more src);
-      first = λ y. ap (sequences_of jp_rule (set_number s)) (ap (λ x. x ++ y) (take-add 3 more src)
-          ∙ append_assoc (take 3 src) bytes y
-          ∙ ap (λ x. x ++ (bytes ++ y)) three)
-          ∙ skipped_escape (set_number s) e (bytes ++ y)
-          (ap (λ x. designated_set (x ++ y)) begins.1
-          ∙ other_front is_alone.byte (begins.0 ++ y) is_alone.other)
-          ∙ ap (λ ss. skipped e ∷ ss) (taken.run.first y);
-      next_state = taken.run.next_state;
-      scalars = taken.run.scalars;
-      fits = taken.run.fits;
-      written = taken.run.written;
-      none_pending = λ _. refl;
-      none_taken = λ z. absurd (omega arith);
+        taken = skipped e ∷ taken.run.taken;
+        within = omega (arith, some, taken.run.within, length-drop 3 src);
+        bytes = ap (λ z. escape_bytes e ++ z) taken.run.bytes ∙ ap (λ x. x ++ bytes) (sym three)
+            ∙ sym (take-add 3 more src);
+        first = λ y. ap (sequences_of jp_rule (set_number s))
+            (ap (λ x. x ++ y) (take-add 3 more src)
+            ∙ append_assoc (take 3 src) bytes y
+            ∙ ap (λ x. x ++ (bytes ++ y)) three)
+            ∙ skipped_escape (set_number s) e (bytes ++ y)
+            (ap (λ x. designated_set (x ++ y)) begins.1
+            ∙ other_front is_alone.byte (begins.0 ++ y) is_alone.other)
+            ∙ ap (λ ss. skipped e ∷ ss) (taken.run.first y);
+        next_state = taken.run.next_state;
+        scalars = taken.run.scalars;
+        fits = taken.run.fits;
+        written = taken.run.written;
+        none_pending = λ _. refl;
+        none_taken = λ z. absurd (omega arith);
       };
       none_malformed = taken.none_malformed;
     }

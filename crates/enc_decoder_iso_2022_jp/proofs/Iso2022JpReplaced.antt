@@ -30,12 +30,16 @@ ascii_alone b = refl
 -- a byte that begins no escape sequence is one sequence
 byte_alone : (b : ℕ) (found : Option ℕ) → found ≡ one_byte_char Ascii b → eqb b 0x1B ≡ false
     → IsReplacedChar jp_rule (set_number Ascii) (b ∷ []) (char_or_replacement found)
-byte_alone b None is_char no_escape =
-    (Malformed, λ y. sequences_of-head jp_rule (set_number Ascii) b y _
-    (alone Ascii b None is_char (no_lead b) no_escape y))
-byte_alone b (Some c) is_char no_escape =
-    (Valid, λ y. sequences_of-head jp_rule (set_number Ascii) b y _
-    (alone Ascii b (Some c) is_char (no_lead b) no_escape y))
+byte_alone b None is_char no_escape = (
+  Malformed,
+  λ y. sequences_of-head jp_rule (set_number Ascii) b y _
+      (alone Ascii b None is_char (no_lead b) no_escape y),
+)
+byte_alone b (Some c) is_char no_escape = (
+  Valid,
+  λ y. sequences_of-head jp_rule (set_number Ascii) b y _
+      (alone Ascii b (Some c) is_char (no_lead b) no_escape y),
+)
 
 none_is_some : (c : ℕ) → None ≡ Some c → ⊥
 none_is_some c e = cc

@@ -74,7 +74,7 @@ euc_kr_place a b {row} {column} {place} r k p =
     record {
       within = rw (p, r, k) (grind (arith, nat_tests));
       char = λ c e. euc_kr_found a b c place
-      (omega (arith, p, r, k, euc_kr_rows a, euc_kr_columns b)) e;
+          (omega (arith, p, r, k, euc_kr_rows a, euc_kr_columns b)) e;
     }
 
 -- gb18030
@@ -131,7 +131,7 @@ gb18030_place a b {row} {column} {place} r k p =
     record {
       within = rw (p, r, k) (grind (arith, nat_tests));
       char = λ c e. gb18030_found a b c place
-      (omega (arith, p, r, k, gb18030_rows a, gb18030_columns b)) e;
+          (omega (arith, p, r, k, gb18030_rows a, gb18030_columns b)) e;
     }
 
 -- Big5
@@ -247,7 +247,7 @@ euc_jp_place a b {row} {column} {place} r k p =
     record {
       within = rw (p, r, k) (grind (arith, nat_tests));
       char = λ c e. euc_jp_found a b c place
-      (omega (arith, p, r, k, euc_jp_rows a, euc_jp_columns b)) e;
+          (omega (arith, p, r, k, euc_jp_rows a, euc_jp_columns b)) e;
     }
 
 -- Shift_JIS: two rows of the index to a lead, and none of the private use area
@@ -320,5 +320,5 @@ shift_jis_place a b {row} {column} {place} r k p =
     record {
       within = rw (p, r, k) (grind (arith, nat_tests));
       char = λ c e. shift_jis_found a b c place
-      (omega (arith, p, r, k, shift_jis_rows a, shift_jis_columns b)) e;
+          (omega (arith, p, r, k, shift_jis_rows a, shift_jis_columns b)) e;
     }

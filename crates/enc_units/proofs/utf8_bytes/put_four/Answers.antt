@@ -29,7 +29,7 @@ loop-count-preserved g c =
       omega (arith, invariant.3, bounds.1),
       length-set c.loop-count.dst _ c.unit_byte-byte.result ∙ invariant.4,
       four_further c.args.place c.requires.lanes ends_are c.loop-count-test.true invariant.1
-      (omega arith)
+          (omega arith)
           (omega arith) (omega arith) invariant.5
           (omega arith) (c.unit_byte-byte.ensures.means (omega arith)) c.unit_byte-byte.ensures.last
           (omega arith),

@@ -25,7 +25,7 @@ loop-out-preserved g c =
     (c.put.ensures.written (c.put.ensures.fits ∙ room)) in
     record {
       turning = takes bytes _ turning c.split_at-in-loop-out.ensures.back
-      c.replace_run-read.ensures;
+          c.replace_run-read.ensures;
       rule = c.decode-result.ensures.rule ∙ c.loop-out.invariant.rule;
       formulas = c.decode-result.ensures.formulas ∙ c.loop-out.invariant.formulas;
     }
