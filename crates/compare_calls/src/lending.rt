@@ -51,19 +51,35 @@ fn write_answer<W: Write>(
     writeln!(out, " {} 0 - -", encoding.name())
 }
 
+/// Returns whether a text is borrowed or owned, in a word.
+fn kind_of_text(text: &CowStr<'_>) -> &'static str {
+    match text {
+        CowStr::Borrowed(_) => "Borrowed",
+        CowStr::Owned(_) => "Owned",
+    }
+}
+
+/// Returns whether bytes are borrowed or owned, in a word.
+fn kind_of_bytes(bytes: &CowSlice<'_, u8>) -> &'static str {
+    match bytes {
+        CowSlice::Borrowed(_) => "Borrowed",
+        CowSlice::Owned(_) => "Owned",
+    }
+}
+
 /// Makes a one-shot call of a decoder, and writes its answer: `?` if there is no memory.
 pub(crate) fn answer_lending<W: Write>(alloc: Global, line: &Line, out: &mut W) -> io::Result<()> {
     let src = line.call().src;
     let len = src.len();
-    match lend(alloc, line, src) {
-        Ok((Some(CowStr::Borrowed(text)), used, replaced)) => {
-            write_answer(out, ("Borrowed", len, text.as_bytes()), used, replaced)
+    let Ok((text, used, replaced)) = lend(alloc, line, src) else {
+        return writeln!(out, "?");
+    };
+    match text {
+        Some(lent) => {
+            let kind = kind_of_text(&lent);
+            write_answer(out, (kind, len, lent.as_bytes()), used, replaced)
         }
-        Ok((Some(CowStr::Owned(text)), used, replaced)) => {
-            write_answer(out, ("Owned", len, text.as_bytes()), used, replaced)
-        }
-        Ok((None, used, replaced)) => write_answer(out, ("None", len, b""), used, replaced),
-        Err(_) => writeln!(out, "?"),
+        None => write_answer(out, ("None", len, b""), used, replaced),
     }
 }
 
@@ -76,13 +92,9 @@ pub(crate) fn answer_lending_bytes<W: Write>(
 ) -> io::Result<()> {
     let text = str::from_utf8(line.call().src).unwrap_or("");
     let len = text.len();
-    match line.encoding.encode_lending(alloc, text) {
-        Ok((CowSlice::Borrowed(bytes), used, replaced)) => {
-            write_answer(out, ("Borrowed", len, bytes), used, replaced)
-        }
-        Ok((CowSlice::Owned(bytes), used, replaced)) => {
-            write_answer(out, ("Owned", len, &bytes), used, replaced)
-        }
-        Err(_) => writeln!(out, "?"),
-    }
+    let Ok((bytes, used, replaced)) = line.encoding.encode_lending(alloc, text) else {
+        return writeln!(out, "?");
+    };
+    let kind = kind_of_bytes(&bytes);
+    write_answer(out, (kind, len, &bytes), used, replaced)
 }
