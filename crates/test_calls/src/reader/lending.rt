@@ -66,20 +66,23 @@ fn lent<'a, R: Source>(
 
 #[test]
 fn lends_utf_8_where_it_was_read(rt: HostRuntime) -> Result<(), Fail> {
-    let mut bytes = Vec::new(rt.alloc());
-    bytes.extend_from_slice("éabc".as_bytes())?;
-    for _ in 0..7000 {
-        bytes.extend_from_slice("日".as_bytes())?;
+    let mut text = Vec::new(rt.alloc());
+    text.extend_from_slice(b"c")?;
+    for _ in 0..6999 {
+        text.extend_from_slice("日".as_bytes())?;
     }
-    let text = bytes.as_slice();
-    let mut source = FromRead::new(&text[..text.len() - 1]);
+    let mut bytes = Vec::new(rt.alloc());
+    bytes.extend_from_slice("éab".as_bytes())?;
+    bytes.extend_from_slice(text.as_slice())?;
+    bytes.extend_from_slice(b"\xE6\x97")?;
+    let mut source = FromRead::new(bytes.as_slice());
     let mut input = [0; 8192];
     let mut reader = DecodeReader::new(&mut source, Some(UTF_8), &mut input);
     // the four bytes after which no byte order mark can come
     compare_read(&mut reader, Ok(4), "éab".as_bytes())?;
-    // chunks of which the second ends after two bytes of a character, whose rest is in the next
-    // one. The last character is cut
-    let mut rest = &text[4..];
+    // the second of these chunks ends after two bytes of a character, whose third is in the next.
+    // The last character is cut
+    let mut rest = text.as_slice();
     for len in [8188, 8190, 4620] {
         rest = lent(&mut reader, rest, len)?;
     }
