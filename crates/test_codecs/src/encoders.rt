@@ -52,10 +52,17 @@ const WINDOWS_1257_ROWS: &[EncoderRow] = &[
     ("ā\u{3042}z", b"\xE2&#12354;z"),
 ];
 
-const X_USER_DEFINED_ROWS: &[EncoderRow] = &[(
-    "a\u{F780}\u{F7FF}\u{80}\u{F800}\u{F77F}",
-    b"a\x80\xFF&#128;&#63488;&#63359;",
-)];
+const X_USER_DEFINED_ROWS: &[EncoderRow] = &[
+    (
+        "a\u{F780}\u{F7FF}\u{80}\u{F800}\u{F77F}",
+        b"a\x80\xFF&#128;&#63488;&#63359;",
+    ),
+    // references of each length
+    (
+        "\u{3E7}\u{3E8}\u{270F}\u{2710}\u{1869F}\u{186A0}\u{F4240}\u{10FFFF}",
+        b"&#999;&#1000;&#9999;&#10000;&#99999;&#100000;&#1000000;&#1114111;",
+    ),
+];
 
 #[test]
 fn encodes_single_bytes(rt: HostRuntime) -> Result<(), Fail> {
