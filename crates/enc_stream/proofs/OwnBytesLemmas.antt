@@ -1,18 +1,18 @@
 -- Text that is encoded as itself: each of its characters is written as its UTF-8, in ASCII.
-use Rattle.std.proofs.Common.{◌≡◌, ℕ, suc, ◌<◌, true, false, List, [], ◌∷◌, ◌++◌, length, refl, ap, ◌∙◌, sym, subst}
-use Rattle.std.proofs.Common.{arith, inl, inr, chars, nat_lt, Bool, not, ◌||◌, ◌==◌, is_some, Some, if◌then◌else◌}
+use Rattle.std.proofs.Common.{◌≡◌, ℕ, suc, ◌<◌, true, false, List, [], ◌∷◌, ◌++◌, refl, ap, ◌∙◌, sym, subst}
+use Rattle.std.proofs.Common.{arith, inl, inr, chars, nat_lt, not, ◌||◌, ◌==◌, is_some, Some, if◌then◌else◌}
 use Rattle.std.specs.Prelude.{All, ◌≢◌}
 use Rattle.std.specs.Char.{encode_utf8}
 use Rattle.std.specs.Str.{IsUtf8, encode_utf8_all}
 use Rattle.std.proofs.lemmas.Bool.Decides.{nat_tests}
 use Rattle.std.proofs.lemmas.Str.{encode_ascii, encodes-chars, chars_from_encodes}
-use Rattle.enc_units.specs.Validity.{AreAscii, AreIso2022JpAscii}
+use Rattle.enc_units.specs.Validity.{AreAscii}
 use Rattle.enc_encoder.specs.declared.character_set.CharacterSet.TheVariants.{Ascii}
 use Rattle.enc_encoder.specs.EncoderRule.{EncoderRule, IsLawfulEncoderRule, set_for}
 use Rattle.enc_encoder.specs.Text.{escape_sequence, escape_at_end, escape_before, list_or_empty, bytes_after_text}
 use Rattle.enc_encoder.specs.Text.{with_reference, with_references}
 use Rattle.enc_encoder.specs.Unmappable.{any_unmappable}
-use Rattle.enc_encode.specs.Iso2022Jp.{has_class, class_of, is_shift, iso_2022_jp_bytes}
+use Rattle.enc_encode.specs.Iso2022Jp.{has_class, class_of, iso_2022_jp_bytes}
 use Rattle.enc_decoder_iso_2022_jp.proofs.Iso2022JpLemmas.{differs}
 use Rattle.enc_stream.specs.declared.encoding.Encoding.{Encoding}
 use Rattle.enc_stream.specs.declared.encoding.TheConstants.{UTF_8, ISO_2022_JP}

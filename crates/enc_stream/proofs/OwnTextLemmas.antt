@@ -10,7 +10,7 @@ use Rattle.std.proofs.lemmas.Bool.Decides.{nat_tests}
 use Rattle.std.proofs.lemmas.List.{take_all}
 use Rattle.std.proofs.lemmas.Str.{encode_ascii}
 use Rattle.enc_units.specs.Output.{units_of_text}
-use Rattle.enc_units.specs.Validity.{IsLongestPrefix, IsWellFormedUtf8, AreAscii, AreIso2022JpAscii}
+use Rattle.enc_units.specs.Validity.{IsLongestPrefix, AreAscii, AreIso2022JpAscii}
 use Rattle.enc_units.proofs.ScalarLemmas.{ascii_scalars}
 use Rattle.enc_units.proofs.Utf8CharsLemmas.{their_units}
 use Rattle.enc_units.proofs.Utf8SliceLemmas.{ascii_units}
@@ -34,7 +34,7 @@ use Rattle.enc_stream.specs.LifeCycle.{encoding_of_mark_or}
 use Rattle.enc_stream.specs.MarkLaws.{bytes_after_mark}
 use Rattle.enc_stream.specs.Encodings.{rule_of}
 use Rattle.enc_stream.specs.Encoder.{is_utf_8}
-use Rattle.enc_stream.specs.Decoding.{whole_encoding, whole_utf_8, whole_malformed, whole_sequences}
+use Rattle.enc_stream.specs.Decoding.{whole_encoding, whole_utf_8, whole_malformed}
 use Rattle.enc_stream.specs.OneShot.{utf_8_without_replacement}
 use Rattle.enc_stream.specs.OwnText.{AreTheirOwnText, IsItsOwnText, unmarked_bytes}
 use Rattle.enc_stream.specs.Properties.{is_ascii_compatible}

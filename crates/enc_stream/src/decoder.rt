@@ -83,6 +83,32 @@ fn removal_start(id: EncodingId) -> LifeCycle
     }
 }
 
+/// The start of the life cycle of a decoder that looks for the byte order marks of `handling`.
+fn first_life(encoding: Encoding, handling: BomHandling) -> LifeCycle
+    ensures { result ≡ start_life handling encoding.id }
+{
+    match handling {
+        BomHandling::Off => LifeCycle::Converting,
+        BomHandling::Sniff => LifeCycle::AtStart,
+        BomHandling::Remove => removal_start(encoding.id),
+    }
+}
+
+/// Returns the length in bytes to allocate for the UTF-8 of a whole input, without replacement.
+///
+/// It is that of a decoder at the start, which it does not make. Takes no memory.
+pub(crate) fn whole_length(
+    encoding: Encoding,
+    handling: BomHandling,
+    byte_length: usize,
+) -> Option<usize>
+    ensures { result ≡
+        max_length query.Utf8Reporting (fresh_decoder handling encoding) byte_length }
+{
+    let formulas = codec_of(encoding).text_lengths();
+    Query::Utf8Reporting.max_length(first_life(encoding, handling), formulas, byte_length, 0)
+}
+
 impl Encoding {
     /// Returns a decoder that looks for all three byte order marks (Encoding Standard 6, "decode").
     ///
@@ -120,15 +146,10 @@ impl Decoder {
     pub(crate) fn start(encoding: Encoding, handling: BomHandling) -> Decoder
         ensures { result ≡ fresh_decoder handling encoding }
     {
-        let life = match handling {
-            BomHandling::Off => LifeCycle::Converting,
-            BomHandling::Sniff => LifeCycle::AtStart,
-            BomHandling::Remove => removal_start(encoding.id),
-        };
         Decoder {
             encoding,
             codec: codec_of(encoding).new_decoder(),
-            life,
+            life: first_life(encoding, handling),
         }
     }
 

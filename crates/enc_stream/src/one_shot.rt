@@ -17,7 +17,7 @@ ghost use Rattle.enc_stream.specs.OneShot.{IsTooLong, IsTooLongToEncode};
 ghost use Rattle.enc_stream.specs.OneShot.{MayLackMemory, MayLackMemoryToEncode};
 
 use crate::bom::BomHandling;
-use crate::decoder::Decoder;
+use crate::decoder::{Decoder, whole_length};
 use crate::encoding::Encoding;
 use crate::own_text::{encodes_as_itself, own_text};
 use enc_units::{CoderResult, DecoderResult};
@@ -196,8 +196,7 @@ fn copy_own_text(
     if bytes.is_empty() {
         return Ok(empty_text(alloc));
     }
-    let decoder = Decoder::start(encoding, handling);
-    match decoder.max_utf8_buffer_length_without_replacement(bytes.len()) {
+    match whole_length(encoding, handling, bytes.len()) {
         Some(_) => copy_text(alloc, text),
         None => Err(OneShotError::TooLong),
     }

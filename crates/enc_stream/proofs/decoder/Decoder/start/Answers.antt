@@ -1,4 +1,4 @@
-use Rattle.std.proofs.Common.{◌≡◌, ◌∙◌, [], refl, ap, sym}
+use Rattle.std.proofs.Common.{◌≡◌, ◌∙◌, [], refl, ap}
 use Rattle.enc_names.specs.declared.encoding_id.EncodingId.{EncodingId}
 use Rattle.enc_names.specs.declared.encoding_id.EncodingId.TheVariants.{Utf8, Utf16be, Utf16le}
 use Rattle.enc_decoder.specs.Segmentation.{Rule}
@@ -9,7 +9,6 @@ use Rattle.enc_stream.specs.declared.life_cycle.LifeCycle.{LifeCycle}
 use Rattle.enc_stream.specs.declared.encoding.Encoding.{Encoding}
 use Rattle.enc_stream.specs.LifeCycle.{held_mark_bytes}
 use Rattle.enc_stream.specs.Decoding.{decoder_state_of, fresh_decoder, start_life, removal_start}
-use Rattle.enc_stream.proofs.decoder.Decoder.start.Goals.{in-Off, in-Sniff, in-Remove}
 use Rattle.enc_stream.proofs.decoder.Decoder.start.Goals as goal
 
 -- at the start no byte of a byte order mark is held
@@ -32,20 +31,10 @@ is_fresh : (handling : BomHandling) (e : Encoding) (life : LifeCycle) (rule : Ru
     → decoder_state_of e life (initial_state rule) ≡ fresh_decoder handling e
 is_fresh handling e life rule at_start = rw at_start (rw (none_at_start handling e.id) refl)
 
-start_of : (handling arm : BomHandling) (id : EncodingId) (life : LifeCycle) → handling ≡ arm
-    → life ≡ start_life arm id → life ≡ start_life handling id
-start_of handling arm id life is_arm at_start = at_start ∙ ap (λ it. start_life it id) (sym is_arm)
-
 pub returns : goal.returns
 returns c =
     let args = c.args in
-    let life = c.match-handling.life in
-    ap (λ codec. decoder_state_of args.encoding life codec) c.new_decoder.ensures.state
-    ∙ is_fresh args.handling args.encoding life (codec_rule c.codec_of.result)
-    (elim c.match-handling.branch [
-      | in-Off w ↦ start_of args.handling Off args.encoding.id life w.in-Off.is w.life-is
-      | in-Sniff w ↦ start_of args.handling Sniff args.encoding.id life w.in-Sniff.is w.life-is
-      | in-Remove w ↦
-          start_of args.handling Remove args.encoding.id life w.in-Remove.is
-          (w.life-is ∙ w.removal_start-life.ensures)
-    ])
+    ap (λ codec. decoder_state_of args.encoding c.first_life.result codec)
+    c.new_decoder.ensures.state
+    ∙ is_fresh args.handling args.encoding c.first_life.result (codec_rule c.codec_of.result)
+    c.first_life.ensures
