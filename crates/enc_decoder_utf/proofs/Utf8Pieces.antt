@@ -13,7 +13,7 @@ use Rattle.enc_decoder_utf.specs.Utf8.{sequence_len, is_second_byte, is_continua
 use Rattle.enc_decoder.specs.Taking.{IsWholeChar}
 use Rattle.enc_decoder_utf.proofs.Utf8Lemmas.{one_valid, two_valid, three_valid, four_valid}
 
-valued : (bytes : List ℕ) (c : ℕ) → c ≡ scalar_of bytes
+pub valued : (bytes : List ℕ) (c : ℕ) → c ≡ scalar_of bytes
     → IsWholeChar utf_8_rule 0 bytes (scalar_of bytes) → IsWholeChar utf_8_rule 0 bytes c
 valued bytes c e p y = p y
     ∙ ap (λ x. record { bytes = bytes; text = x ∷ []; kind = Valid; set = 0 }

@@ -9,7 +9,7 @@ ghost use Rattle.enc_decoder.specs.CodecLaw.{HandlesByte};
 
 use enc_decoder::{
     ByteCodec, Emission, HandlerResult, Kind, Pending, RawDecoder, Text, TextLengths, latin1_up_to,
-    run,
+    replace_each, run,
 };
 use enc_units::{DecoderResult, Units};
 use std::marker::Model;
@@ -228,6 +228,46 @@ impl ByteCodec for Utf8Decoder {
         }
     }
 
+    #[inline(always)]
+    fn replaced_char(self, src: &[u8], at: usize) -> Option<(char, usize)> {
+        let first = src[at];
+        let len = sequence_len(first);
+        if len == 0 {
+            return Some(('\u{FFFD}', 1));
+        }
+        if len == 1 {
+            return Some((first as char, 1));
+        }
+        if at + 1 >= src.len() {
+            return None;
+        }
+        let second = src[at + 1];
+        if !is_second_byte(first, second) {
+            return Some(('\u{FFFD}', 1));
+        }
+        if len == 2 {
+            return Some((two_byte_char(first, second), 2));
+        }
+        if at + 2 >= src.len() {
+            return None;
+        }
+        let third = src[at + 2];
+        if !is_continuation(third) {
+            return Some(('\u{FFFD}', 2));
+        }
+        if len == 3 {
+            return Some((three_byte_char(first, second, third), 3));
+        }
+        if at + 3 >= src.len() {
+            return None;
+        }
+        let fourth = src[at + 3];
+        if !is_continuation(fourth) {
+            return Some(('\u{FFFD}', 3));
+        }
+        Some((four_byte_char(first, second, third, fourth), 4))
+    }
+
     fn next_step(self, byte: u8) -> HandlerResult<Utf8Decoder> {
         match self.pending {
             Pending::Nothing => step_first(byte),
@@ -271,6 +311,11 @@ impl RawDecoder for Utf8Decoder {
         fault_room: bool,
     ) -> (DecoderResult, usize) {
         run(self, src, out, last, fault_room)
+    }
+
+    #[inline(always)]
+    fn replace_run<U: Units>(&self, src: &[u8], out: &mut U) -> usize {
+        replace_each(*self, src, out)
     }
 
     fn held(&self) -> usize {
