@@ -1,5 +1,5 @@
 -- Malformed sequences of a multi-byte encoding at a place, by two bytes there.
-use Rattle.std.proofs.Common.{◌≡◌, ℕ, ◌+◌, ◌<◌, ◌≤◌, zero, suc, List, [], ◌∷◌, length, get_or, arith, inl, inr}
+use Rattle.std.proofs.Common.{ℕ, ◌+◌, ◌<◌, ◌≤◌, zero, suc, List, [], ◌∷◌, length, get_or, arith, inl, inr}
 use Rattle.enc_decoder.specs.declared.byte_codec.Kind.TheVariants as kinds
 use Rattle.enc_decoder.specs.declared.byte_codec.Text.TheVariants.{One}
 use Rattle.enc_decoder.specs.Taking.{IsReplacedCharAt}

@@ -1,5 +1,6 @@
 -- The sequences of UTF-8 at a place, by the bytes there: characters, and malformed ones with U+FFFD.
-use Rattle.std.proofs.Common.{◌≡◌, ℕ, ◌+◌, ◌<◌, ◌≤◌, true, false, List, [], ◌∷◌, length, get_or, arith}
+use Rattle.std.proofs.Common.{◌≡◌, ℕ, ◌+◌, ◌<◌, ◌≤◌, true, false, List, [], ◌∷◌, length, get_or, arith, nat_le}
+use Rattle.std.proofs.lemmas.Bool.Decides.{nat_tests}
 use Rattle.enc_decoder.specs.declared.byte_codec.Kind.TheVariants.{Valid, Malformed}
 use Rattle.enc_decoder.specs.Taking.{IsReplacedCharAt}
 use Rattle.enc_decoder.proofs.PieceLemmas.{one_of, two_of, three_of, four_of}
@@ -8,6 +9,27 @@ use Rattle.enc_decoder_utf.specs.Utf8.{sequence_len, is_second_byte, is_continua
 use Rattle.enc_decoder_utf.proofs.Utf8Lemmas.{none_malformed, one_valid, one_malformed, two_valid, two_malformed}
 use Rattle.enc_decoder_utf.proofs.Utf8Lemmas.{three_valid, three_malformed, four_valid}
 use Rattle.enc_decoder_utf.proofs.Utf8Pieces.{valued}
+
+-- the length of a sequence, by its first byte
+
+pub none_len : (b : ℕ) → 0x80 ≤ b → nat_le 2 (sequence_len b) ≡ false → sequence_len b ≡ 0
+unfolding sequence_len
+none_len b beyond no_lead = grind (arith, nat_tests)
+
+pub two_or_more : (b : ℕ) → nat_le 2 (sequence_len b) ≡ true → 2 ≤ sequence_len b
+two_or_more b leads = grind (arith, nat_tests)
+
+pub two_len : (b : ℕ) → nat_le 2 (sequence_len b) ≡ true → b < 0xE0 → sequence_len b ≡ 2
+unfolding sequence_len
+two_len b leads below = grind (arith, nat_tests)
+
+pub three_or_more : (b : ℕ) → nat_le 2 (sequence_len b) ≡ true → 0xE0 ≤ b → 3 ≤ sequence_len b
+unfolding sequence_len
+three_or_more b leads from = grind (arith, nat_tests)
+
+pub four_len : (b : ℕ) → nat_le 2 (sequence_len b) ≡ true → 0xF0 ≤ b → sequence_len b ≡ 4
+unfolding sequence_len
+four_len b leads from = grind (arith, nat_tests)
 
 module _ (src : List ℕ) (at : ℕ) where
   abbrev first : ℕ

@@ -1,6 +1,6 @@
 //! The UTF-8 codec (Encoding Standard 8.1.1).
 
-ghost use Rattle.std.specs.Prelude.{◌≡◌, ◌<◌, [], ◌∷◌, true, false, IsTrue};
+ghost use Rattle.std.specs.Prelude.{◌≡◌, ◌<◌, [], ◌∷◌, true, false, nat_le, IsTrue};
 ghost use Rattle.enc_decoder_utf.specs.Utf8.{sequence_len as len_by_lead};
 ghost use Rattle.enc_decoder_utf.specs.Utf8.{is_second_byte as second_follows};
 ghost use Rattle.enc_decoder_utf.specs.Utf8.{is_continuation as continues, scalar_of};
@@ -60,6 +60,14 @@ pub fn sequence_len(lead: u8) -> u8
         0xF0..=0xF4 => 4,
         _ => 0,
     }
+}
+
+/// Returns whether a byte leads a sequence of two bytes or more.
+#[tactic(auto, unfolding(crate::specs::Utf8::sequence_len))]
+fn is_lead(byte: u8) -> bool
+    ensures { result ≡ nat_le 2 (len_by_lead byte) }
+{
+    byte >= 0xC2 && byte <= 0xF4
 }
 
 /// Returns whether a byte may be the second of a sequence with this lead byte.
@@ -231,12 +239,11 @@ impl ByteCodec for Utf8Decoder {
     #[inline(always)]
     fn replaced_char(self, src: &[u8], at: usize) -> Option<(char, usize)> {
         let first = src[at];
-        let len = sequence_len(first);
-        if len == 0 {
-            return Some(('\u{FFFD}', 1));
-        }
-        if len == 1 {
+        if first < 0x80 {
             return Some((first as char, 1));
+        }
+        if !is_lead(first) {
+            return Some(('\u{FFFD}', 1));
         }
         if at + 1 >= src.len() {
             return None;
@@ -245,7 +252,7 @@ impl ByteCodec for Utf8Decoder {
         if !is_second_byte(first, second) {
             return Some(('\u{FFFD}', 1));
         }
-        if len == 2 {
+        if first < 0xE0 {
             return Some((two_byte_char(first, second), 2));
         }
         if at + 2 >= src.len() {
@@ -255,7 +262,7 @@ impl ByteCodec for Utf8Decoder {
         if !is_continuation(third) {
             return Some(('\u{FFFD}', 2));
         }
-        if len == 3 {
+        if first < 0xF0 {
             return Some((three_byte_char(first, second, third), 3));
         }
         if at + 3 >= src.len() {

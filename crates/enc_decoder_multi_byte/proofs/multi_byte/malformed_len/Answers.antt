@@ -7,9 +7,9 @@ returns-in-Malformed g c = inl (sym c.classify.ensures ∙ c.in-Malformed.is)
 pub classify-requires-2 : goal.classify-requires-2
 classify-requires-2 g c = (sym c.classify.ensures ∙ c.in-Incomplete.is, tt)
 
-pub returns-in-Malformed-2 : goal.returns-in-Malformed-2
-returns-in-Malformed-2 g c =
+pub returns-in-Malformed-classify : goal.returns-in-Malformed-classify
+returns-in-Malformed-classify g c =
     inr (
       sym c.classify.ensures ∙ c.in-Incomplete.is,
-      sym c.classify-2.ensures ∙ c.in-Malformed-2.is,
+      sym c.classify-2.ensures ∙ c.in-Malformed-classify.is,
     )
