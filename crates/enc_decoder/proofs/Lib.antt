@@ -11,6 +11,7 @@ pub mod EmissionLemmas
 pub mod FirstSequenceLemmas
 pub mod TakingLemmas
 pub mod PieceLemmas
+pub mod ReplacedCharLemmas
 pub mod Latin1Lemmas
 pub mod NeedLemmas
 pub mod EnoughLemmas

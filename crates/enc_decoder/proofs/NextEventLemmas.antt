@@ -10,8 +10,7 @@ use Rattle.enc_decoder.specs.Remainder.{AreFirstSequences, Determines, IsUndeter
 use Rattle.enc_decoder.specs.CodecState.{CodecState, remainder_of}
 use Rattle.enc_decoder.specs.CodecLaw.{MayFollowRead, taken_bytes, text_chars, IsNextSequence}
 use Rattle.enc_decoder.proofs.DecodeProgressLemmas.{Progress}
-use Rattle.enc_decoder.proofs.SegmentationLemmas.{goes_on}
-use Rattle.enc_decoder.proofs.DeterminedLemmas.{begins_after, determines_fewer}
+use Rattle.enc_decoder.proofs.SegmentationLemmas.{none_further}
 
 pub takes_or : (b : Bool) → (b ≡ true) ⊎ (b ≡ false)
 takes_or b = elim b as (λ b. (b ≡ true) ⊎ (b ≡ false)) [ true ↦ inl refl | false ↦ inr refl ]
@@ -108,11 +107,6 @@ pub not_shown_yet : {units_of : ℕ → List ℕ} (v now : CodecState) {src : Li
     → IsUndetermined (remainder_of now).sequences
     → (q : Sequence) → Determines (remainder_of v).sequences (take read src)
     (progress.done ++ q ∷ []) → ⊥
-not_shown_yet v now {src} {read = read} progress r u q determines = u q (λ z are_bytes.
-    let done_first = determines_fewer (remainder_of v).sequences (take read src) progress.done
-    (q ∷ []) determines z
-    are_bytes in
-    begins_after progress.done (q ∷ []) ((remainder_of now).sequences z)
-    ((remainder_of v).sequences (take read src ++ z))
-    (goes_on v now (take read src) z progress.done r progress.set progress.accounted done_first)
-    (determines z are_bytes))
+not_shown_yet v now {src} {read = read} progress same_rule undetermined =
+    none_further v now (take read src) progress.done same_rule progress.set progress.accounted
+    undetermined

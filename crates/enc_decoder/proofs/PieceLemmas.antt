@@ -76,7 +76,7 @@ takes_each {units_of} v {src} {n} {before} {after} none_pending puts mean =
       within = reads.within;
       bytes = whole_bytes v.rule v.set reads.pieces mean ∙ reads.bytes;
       first =
-          λ y. ap (λ q. sequences_of v.rule v.set (q ++ (take n src ++ y))) none_pending
+          λ y _. ap (λ q. sequences_of v.rule v.set (q ++ (take n src ++ y))) none_pending
           ∙ ap (λ x. sequences_of v.rule v.set (x ++ y)) (sym reads.bytes)
           ∙ whole_first v.rule v.set reads.pieces mean y
           ∙ ap (λ q. ss ++ sequences_of v.rule v.set (q ++ y)) (sym none_pending);

@@ -3,8 +3,9 @@ use Rattle.std.proofs.Common.{◌≡◌, ℕ, zero, suc, List, [], ◌∷◌, �
 use Rattle.std.proofs.lemmas.List.{append_cancel_left, take-append-drop}
 use Rattle.enc_decoder.specs.Sequence.{Sequence, sequence_bytes, set_after}
 use Rattle.enc_decoder.specs.Segmentation.{Rule, Head, head_sequence, sequences_after, sequences_of, IsSegmentation}
-use Rattle.enc_decoder.specs.Remainder.{AreFirstSequences}
+use Rattle.enc_decoder.specs.Remainder.{AreFirstSequences, Determines, IsUndetermined}
 use Rattle.enc_decoder.specs.CodecState.{CodecState, remainder_of}
+use Rattle.enc_decoder.proofs.DeterminedLemmas.{begins_after, determines_fewer}
 
 -- the sequences after k bytes are those of the rest
 pub sequences_after-drop : (rule : Rule) (set k : ℕ) (z : List ℕ)
@@ -91,6 +92,18 @@ goes_on v w x y done r s p first =
     ∙ append_assoc (sequence_bytes done) w.pending y)
     ∙ ap (λ n. sequences_of v.rule n (w.pending ++ y)) (sym s)
     ∙ ap (λ (t : Rule). sequences_of t w.set (w.pending ++ y)) (sym r))
+
+-- the bytes before determine no more than the sequences done, if none is determined after them
+pub none_further : (v w : CodecState) (x : List ℕ) (done : List Sequence) → w.rule ≡ v.rule
+    → w.set ≡ set_after v.set done → v.pending ++ x ≡ sequence_bytes done ++ w.pending
+    → IsUndetermined (remainder_of w).sequences
+    → (s : Sequence) → Determines (remainder_of v).sequences x (done ++ s ∷ []) → ⊥
+none_further v w x done same_rule set_is parts undetermined s determines =
+    undetermined s (λ z are_bytes.
+    let done_first = determines_fewer (remainder_of v).sequences x done (s ∷ []) determines z
+    are_bytes in
+    begins_after done (s ∷ []) ((remainder_of w).sequences z) ((remainder_of v).sequences (x ++ z))
+    (goes_on v w x z done same_rule set_is parts done_first) (determines z are_bytes))
 
 -- the sequences, joined, are the bytes
 

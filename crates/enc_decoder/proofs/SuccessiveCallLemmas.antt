@@ -1,9 +1,9 @@
 -- Successive calls are one call: what a loop keeps that goes on after each malformed sequence.
 use Rattle.std.proofs.Common.{◌≡◌, ℕ, ◌+◌, ◌-◌, ◌<◌, ◌≤◌, Bool, true, false, List, [], ◌∷◌, ◌++◌, length, take, drop}
 use Rattle.std.proofs.Common.{refl, ap, ◌∙◌, sym, arith, append_assoc, ◌||◌, inl, inr, subst, ◌⊎◌, drop-drop}
-use Rattle.std.proofs.Common.{length-drop}
+use Rattle.std.proofs.Common.{length-drop, get_or}
 use Rattle.std.proofs.lemmas.Bool.{false≢true, cases_lt}
-use Rattle.std.proofs.lemmas.List.{append-nil, take-append-drop, length-append}
+use Rattle.std.proofs.lemmas.List.{append-nil, take-append-drop, length-append, take_more}
 use Rattle.enc_units.specs.declared.decoder_result.DecoderResult.TheVariants.{InputEmpty, OutputFull, Malformed}
 use Rattle.enc_units.specs.Output.{Output, AreScalars, units_of_text}
 use Rattle.enc_decoder.specs.Sequence.{Sequence, sequence_bytes, sequence_text, is_malformed, is_repeated_escape}
@@ -15,8 +15,10 @@ use Rattle.enc_decoder.specs.Taking.{TakesSequences}
 use Rattle.enc_decoder.proofs.SequenceLemmas.{sequence_bytes-append, units-append, any_malformed-append}
 use Rattle.enc_decoder.proofs.SequenceLemmas.{set_after-append, units-one, scalars_of-append, scalars_of-one, or_false}
 use Rattle.enc_decoder.proofs.SequenceLemmas.{or_true}
-use Rattle.enc_decoder.proofs.DeterminedLemmas.{begins_after, determines_fewer, determined_at, none_determined}
+use Rattle.enc_decoder.proofs.SegmentationLemmas as segmentation
+use Rattle.enc_decoder.proofs.DeterminedLemmas.{begins_after, determines_fewer, determined_at}
 use Rattle.enc_decoder.proofs.EmissionLemmas.{nothing_pending}
+use Rattle.enc_decoder.proofs.TakingLemmas.{rest_may_follow}
 use Rattle.enc_decoder.proofs.ByteLemmas.{bytes-append, bytes-take, bytes-drop, determines_by_more}
 use Rattle.std.proofs.Math.Seq.{take-add}
 
@@ -455,7 +457,7 @@ module _ {units_of : ℕ → List ℕ} {old : Remainder} {src : List ℕ} (bytes
   come_first z =
       ap now_at.sequences (ap (λ x. x ++ z) (sym (take-append-drop n unread))
       ∙ append_assoc (take n unread) (drop n unread) z)
-      ∙ run.first (drop n unread ++ z)
+      ∙ run.first (drop n unread ++ z) (rest_may_follow unread n z)
 
   accounted_in : v.pending ++ take n unread ≡ sequence_bytes run.taken ++ v.pending
   accounted_in = elim (cases_lt 0 n) [
@@ -470,11 +472,30 @@ module _ {units_of : ℕ → List ℕ} {old : Remainder} {src : List ℕ} (bytes
         ∙ sym (ap (λ ss. sequence_bytes ss ++ v.pending) (run.none_taken none_read))
   ]
 
+  set_in : v.set ≡ set_after v.set run.taken
+  set_in = ap (λ (s : CodecState). s.set) run.next_state
+
+  goes_on_in : (y : List ℕ) → AreFirstSequences run.taken (now_at.sequences (take n unread ++ y))
+      → now_at.sequences (take n unread ++ y) ≡ run.taken ++ now_at.sequences y
+  goes_on_in y first =
+      segmentation.goes_on v v (take n unread) y run.taken refl set_in accounted_in first
+
+  -- one byte more determines them
+  shown_next_in : n < length unread
+      → Determines now_at.sequences (take (n + 1) unread) run.taken
+  shown_next_in more z _ =
+      let next = get_or unread n 0 in (
+        now_at.sequences (next ∷ z),
+        ap now_at.sequences (ap (λ x. x ++ z) (take_more unread n 0 more)
+            ∙ append_assoc (take n unread) (next ∷ []) z)
+            ∙ run.first (next ∷ z) (λ _. (z, refl)),
+      )
+
   none_after_in : (n ≡ 0)
       ⊎ ((s : Sequence) → Determines now_at.sequences (take n unread) (run.taken ++ s ∷ []) → ⊥)
   none_after_in = elim (cases_lt 0 n) [
     | inl some ↦
-        inr (none_determined now_at.sequences now_at.sequences (take n unread) run.taken run.first
+        inr (segmentation.none_further v v (take n unread) run.taken refl set_in accounted_in
         (nothing_pending v (run.none_pending some)))
     | inr none ↦ inl (omega arith)
   ]
@@ -485,10 +506,10 @@ module _ {units_of : ℕ → List ℕ} {old : Remainder} {src : List ℕ} (bytes
     done = turned.done ++ run.taken;
     within = within_on bytes turned n run.within;
     residual = residual_on bytes turned now_at n run.taken (λ z _. come_first z);
-    goes_on = λ y b. goes_on_after bytes turned now_at n run.taken false (λ y _ _. run.first y) y
-        (λ e. absurd (false≢true e)) b;
+    goes_on = λ y b. goes_on_after bytes turned now_at n run.taken false
+        (λ y _ first. goes_on_in y first) y (λ e. absurd (false≢true e)) b;
     accounted = accounted_on bytes turned now_at n run.taken accounted_in;
-    set = set_on bytes turned now_at run.taken (ap (λ (s : CodecState). s.set) run.next_state);
+    set = set_on bytes turned now_at run.taken set_in;
     text = text_on bytes turned (units_of_text units_of (sequence_text run.taken)) run.taken refl;
     scalars = scalars_of-append turned.done run.taken turned.scalars run.scalars;
     fits = fits_on bytes turned (units_of_text units_of (sequence_text run.taken))
@@ -498,9 +519,7 @@ module _ {units_of : ℕ → List ℕ} {old : Remainder} {src : List ℕ} (bytes
     determined = determined_on bytes turned last run.taken turned.determined
         (determined_at last now_at.sequences unread run.taken
         (λ z _. (now_at.sequences (drop n unread ++ z), come_first z)));
-    shown_next = λ h. shown_on bytes turned n run.taken (omega arith)
-        (determines_by_more now_at.sequences unread n (n + 1) run.taken
-        (bytes-drop read src bytes) (omega arith)
-        (λ z _. (now_at.sequences z, run.first z)));
+    shown_next = λ more. shown_on bytes turned n run.taken (omega arith)
+        (shown_next_in (omega (arith, length-drop read src)));
     none_after = none_after_on bytes turned n run.taken none_after_in;
   }

@@ -1,18 +1,18 @@
 -- A run that is taken at once carries a call on.
 use Rattle.std.proofs.Common.{◌≡◌, ℕ, zero, suc, ◌+◌, ◌<◌, ◌≤◌, Bool, true, false, List, [], ◌∷◌, ◌++◌, length, take}
 use Rattle.std.proofs.Common.{drop, refl, ap, ◌∙◌, sym, subst, arith, append_assoc, append-nil, length-append}
-use Rattle.std.proofs.Common.{length-drop, take-add, drop-cons, inl, inr}
+use Rattle.std.proofs.Common.{length-drop, take-add, drop-cons, get_or-drop, inl, inr}
 use Rattle.std.proofs.lemmas.Bool.{cases_lt}
 use Rattle.enc_units.specs.Output.{Output, with_appended, units_of_text}
 use Rattle.enc_units.proofs.OutputLemmas.{with_appended-nil, with_appended-with_appended, room_left}
 use Rattle.enc_decoder.specs.Sequence.{Sequence, sequence_bytes, sequence_text, set_after}
 use Rattle.enc_decoder.specs.CodecState.{CodecState, remainder_of}
-use Rattle.enc_decoder.specs.CodecLaw.{MayFollowRead, IsNextSequence, taken_bytes}
+use Rattle.enc_decoder.specs.CodecLaw.{MayFollow, MayFollowRead, IsNextSequence, taken_bytes}
 use Rattle.enc_decoder.specs.declared.byte_codec.Emission.{Emission}
 use Rattle.enc_decoder.specs.Taking.{TakesSequences, TakesRun}
 use Rattle.enc_decoder.proofs.SequenceLemmas.{sequence_bytes-append, units-append, any_malformed-append}
 use Rattle.enc_decoder.proofs.SequenceLemmas.{set_after-append, scalars_of-append}
-use Rattle.enc_decoder.proofs.DeterminedLemmas.{none_determined}
+use Rattle.enc_decoder.proofs.SegmentationLemmas.{none_further}
 use Rattle.enc_decoder.proofs.EmissionLemmas.{nothing_pending}
 use Rattle.enc_decoder.proofs.DecodeProgressLemmas.{Writing}
 
@@ -20,6 +20,29 @@ pub front : (k : ℕ) (xs : List ℕ) (b : ℕ) (zs : List ℕ) → 0 < k → xs
     × (take k xs ≡ b ∷ z)
 front zero xs b zs h e = absurd (omega arith)
 front (suc k) xs b zs h e = (take k zs, ap (take (suc k)) e)
+
+-- What may follow the first bytes: the others, with anything after them.
+pub rest_may_follow : (src : List ℕ) (n : ℕ) (z : List ℕ) → MayFollow src n (drop n src ++ z)
+rest_may_follow src n z more = (drop (suc n) src ++ z, ap (λ x. x ++ z) (drop-cons src n 0 more))
+
+-- What may follow two parts of the bytes may follow the second of them, and the second with it may
+-- follow the first.
+
+pub follows_second : (src : List ℕ) (read more : ℕ) (y : List ℕ) → MayFollow src (read + more) y
+    → MayFollow (drop read src) more y
+follows_second src read more y may_follow there =
+    let begins = may_follow (omega (arith, length-drop read src)) in
+    (begins.0, begins.1 ∙ ap (λ b. b ∷ begins.0) (sym (get_or-drop read src more 0)))
+
+pub follows_first : (src : List ℕ) (read more : ℕ) (y : List ℕ) → MayFollow src (read + more) y
+    → MayFollow src read (take more (drop read src) ++ y)
+follows_first src read zero y may_follow =
+    let same_place : read + 0 ≡ read = omega arith in
+    subst (λ k. MayFollow src k y) same_place may_follow
+follows_first src read (suc more) y may_follow = λ there. (
+  take more (drop (suc read) src) ++ y,
+  ap (λ x. take (suc more) x ++ y) (drop-cons src read 0 there),
+)
 
 -- Where a call is once a run is taken: no more is pending than before.
 pub record Ahead {C : Type 0} (units_of : ℕ → List ℕ) (state : C → CodecState) (v : CodecState)
@@ -80,15 +103,22 @@ module _ {C : Type 0} {units_of : ℕ → List ℕ} {state : C → CodecState} (
   pending_after : 0 < took → (state n).pending ≡ []
   pending_after h = ap (λ (s : CodecState). s.pending) t.run.next_state ∙ t.run.none_pending h
 
-  residual : 0 < took → (y : List ℕ)
+  residual : 0 < took → (y : List ℕ) → MayFollow src (read + took) y
       → (remainder_of v).sequences (take (read + took) src ++ y) ≡ done
       ++ (remainder_of (state n)).sequences y
-  residual h y =
+  residual h y may_follow =
       ap (remainder_of v).sequences
       (ap (λ x. x ++ y) (take-add read took src) ∙ append_assoc (take read src) bytes y)
       ∙ writing.progress.residual (bytes ++ y) (follows h y)
-      ∙ ap (λ ss. writing.progress.done ++ ss) (t.run.first y)
+      ∙ ap (λ ss. writing.progress.done ++ ss)
+      (t.run.first y (follows_second src read took y may_follow))
       ∙ sym (append_assoc writing.progress.done t.run.taken ((remainder_of (state n)).sequences y))
+
+  set_is : (state n).set ≡ set_after v.set done
+  set_is =
+      ap (λ (s : CodecState). s.set) t.run.next_state
+      ∙ ap (λ x. set_after x t.run.taken) writing.progress.set
+      ∙ sym (set_after-append v.set writing.progress.done t.run.taken)
 
   accounted : 0 < took →
       v.pending ++ take (read + took) src ≡ sequence_bytes done ++ (state n).pending
@@ -103,20 +133,19 @@ module _ {C : Type 0} {units_of : ℕ → List ℕ} {state : C → CodecState} (
       ∙ sym (append-nil (sequence_bytes done))
       ∙ ap (λ q. sequence_bytes done ++ q) (sym (pending_after some))
 
-  goes : 0 < took → Writing units_of (remainder_of v) src last before then (read + took)
+  goes : (state c).rule ≡ v.rule → 0 < took
+      → Writing units_of (remainder_of v) src last before then (read + took)
       (remainder_of (state n))
-  goes some = record {
+  goes same some = record {
     wrote = writing.wrote ++ units;
     onto = t.run.written ∙ ap (λ o. with_appended o units) writing.onto
         ∙ with_appended-with_appended before writing.wrote units;
     progress = record {
       done = done;
       within = omega (arith, t.run.within, length-drop read src, writing.progress.within);
-      residual = λ y _. residual some y;
+      residual = λ y follows. residual some y follows.more;
       accounted = accounted some;
-      set = ap (λ (s : CodecState). s.set) t.run.next_state
-          ∙ ap (λ x. set_after x t.run.taken) writing.progress.set
-          ∙ sym (set_after-append v.set writing.progress.done t.run.taken);
+      set = set_is;
       text = ap (λ x. x ++ units) writing.progress.text
           ∙ sym (units-append units_of writing.progress.done t.run.taken);
       fits = omega (
@@ -130,21 +159,21 @@ module _ {C : Type 0} {units_of : ℕ → List ℕ} {state : C → CodecState} (
           ∙ rw (writing.progress.none_malformed, t.none_malformed) refl;
       scalars = scalars_of-append writing.progress.done t.run.taken writing.progress.scalars
           t.run.scalars;
-      undetermined = inr (none_determined (remainder_of v).sequences
-          (remainder_of (state n)).sequences
-          (take (read + took) src) done (residual some)
+      undetermined = inr (none_further v (state n) (take (read + took) src) done
+          (ap (λ (s : CodecState). s.rule) t.run.next_state ∙ same) set_is (accounted some)
           (nothing_pending (state n) (pending_after some)));
     };
   }
 
-  takes : Writing units_of (remainder_of v) src last before then (read + took)
+  takes : (state c).rule ≡ v.rule
+      → Writing units_of (remainder_of v) src last before then (read + took)
       (remainder_of (state n))
-  takes = elim (cases_lt 0 took) [ inl h ↦ goes h | inr h ↦ stays (omega arith) ]
+  takes same = elim (cases_lt 0 took) [ inl h ↦ goes same h | inr h ↦ stays (omega arith) ]
 
   pub ahead : (state c).rule ≡ v.rule
       → Ahead units_of state v c n src last before then (read + took)
   ahead same = record {
-    writing = takes;
+    writing = takes same;
     rule = ap (λ (s : CodecState). s.rule) t.run.next_state ∙ same;
     pending = ap (λ (s : CodecState). length s.pending) t.run.next_state;
     within = omega (arith, t.run.within, length-drop read src, writing.progress.within);
@@ -182,7 +211,7 @@ takes_nothing units_of v src o = record {
   taken = [];
   within = omega arith;
   bytes = refl;
-  first = λ y. refl;
+  first = λ y _. refl;
   next_state = refl;
   scalars = refl;
   fits = omega arith;
@@ -218,11 +247,12 @@ takes_both units_of state c m n src read more before mid after rest e takes_run 
             ∙ ap (λ z. z ++ sequence_bytes takes_more.run.taken) takes_run.run.bytes
             ∙ ap (λ z. take read src ++ z) takes_more.run.bytes
             ∙ sym (take-add read more src);
-        first = λ w. ap (remainder_of (state c)).sequences
+        first = λ w may_follow. ap (remainder_of (state c)).sequences
             (ap (λ z. z ++ w) (take-add read more src)
             ∙ append_assoc (take read src) bytes w)
-            ∙ takes_run.run.first (bytes ++ w)
-            ∙ ap (λ ss. takes_run.run.taken ++ ss) (takes_more.run.first w)
+            ∙ takes_run.run.first (bytes ++ w) (follows_first src read more w may_follow)
+            ∙ ap (λ ss. takes_run.run.taken ++ ss)
+            (takes_more.run.first w (follows_second src read more w may_follow))
             ∙ sym (append_assoc takes_run.run.taken takes_more.run.taken
             ((remainder_of (state n)).sequences w));
         next_state =

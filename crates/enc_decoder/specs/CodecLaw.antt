@@ -72,9 +72,14 @@ abbrev pub IsNextAtEnd : {C : Type 0} → (C → CodecState) → C → Option (E
 IsNextAtEnd state c None = (state c).pending ≡ []
 IsNextAtEnd state c (Some s) = IsNextSequence state c (λ y. y ≡ []) [] s × (s.takes_byte ≡ false)
 
+-- the bytes that may follow the first `read` bytes of `src`: if it has a byte there, they begin with
+-- that
+abbrev pub MayFollow : List ℕ → ℕ → List ℕ → Type 0
+MayFollow src read y = read < length src → BeginsWithByte (slice_index src read) y
+
 -- the bytes that may follow those that a call has read so far
 pub record MayFollowRead (src : List ℕ) (read : ℕ) (last : Bool) (y : List ℕ) : Type 0 where
-  pub more : read < length src → BeginsWithByte (slice_index src read) y
+  pub more : MayFollow src read y
   pub ended : length src ≤ read → last ≡ true → y ≡ []
 
 -- the next event of a call

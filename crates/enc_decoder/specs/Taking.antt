@@ -1,17 +1,22 @@
 -- Whole sequences that a codec takes at once.
-use Rattle.std.specs.Prelude.{◌≡◌, ℕ, ◌<◌, ◌≤◌, false, List, [], ◌∷◌, ◌++◌, length, take}
+use Rattle.std.specs.Prelude.{◌≡◌, ℕ, ◌+◌, ◌<◌, ◌≤◌, false, List, [], ◌∷◌, ◌++◌, length, take, drop}
 use Rattle.enc_units.specs.Output.{Output, AreScalars, with_appended, units_of_text}
 use Rattle.enc_decoder.specs.Sequence.{Sequence, sequence_bytes, sequence_text, any_malformed, set_after}
 use Rattle.enc_decoder.specs.declared.byte_codec.Kind.{Kind}
 use Rattle.enc_decoder.specs.declared.byte_codec.Kind.TheVariants.{Valid}
 use Rattle.enc_decoder.specs.Segmentation.{Rule, sequences_of}
 use Rattle.enc_decoder.specs.CodecState.{CodecState, remainder_of}
+use Rattle.enc_decoder.specs.CodecLaw.{MayFollow}
+
+-- These bytes are a sequence of this kind if y follows them, and its text is one character.
+abbrev pub IsSequenceBefore : List ℕ → Kind → Rule → ℕ → List ℕ → ℕ → Type 0
+IsSequenceBefore y kind rule set bytes c =
+    sequences_of rule set (bytes ++ y)
+    ≡ record { bytes = bytes; text = c ∷ []; kind = kind; set = set } ∷ sequences_of rule set y
 
 -- These bytes are a sequence of this kind whatever follows them, and its text is one character.
 abbrev pub IsWholeSequence : Kind → Rule → ℕ → List ℕ → ℕ → Type 0
-IsWholeSequence kind rule set bytes c = (y : List ℕ)
-    → sequences_of rule set (bytes ++ y)
-    ≡ record { bytes = bytes; text = c ∷ []; kind = kind; set = set } ∷ sequences_of rule set y
+IsWholeSequence kind rule set bytes c = (y : List ℕ) → IsSequenceBefore y kind rule set bytes c
 
 -- These bytes are a character, whatever follows them.
 abbrev pub IsWholeChar : Rule → ℕ → List ℕ → ℕ → Type 0
@@ -21,14 +26,21 @@ IsWholeChar rule set bytes c = IsWholeSequence Valid rule set bytes c
 abbrev pub IsReplacedChar : Rule → ℕ → List ℕ → ℕ → Type 0
 IsReplacedChar rule set bytes c = (kind : Kind) × IsWholeSequence kind rule set bytes c
 
--- Whole sequences: their text is put out, and the codec continues after them. They come first
--- whatever follows them. While a byte is pending, there are none.
+-- The n bytes of `src` from `at` on are a character, or malformed with U+FFFD for it. They
+-- determine that, or the byte after them does: in UTF-8, C3 is malformed if 41 follows it.
+pub record IsReplacedCharAt (rule : Rule) (set : ℕ) (src : List ℕ) (at n c : ℕ) : Type 0 where
+  pub kind : Kind
+  pub first : (y : List ℕ) → MayFollow src (at + n) y
+      → IsSequenceBefore y kind rule set (take n (drop at src)) c
+
+-- Whole sequences: their text is put out, and the codec continues after them. Their bytes determine
+-- them, or the byte after those does. While a byte is pending, there are none.
 pub record TakesSequences (units_of : ℕ → List ℕ) (old new : CodecState) (src : List ℕ) (read : ℕ)
     (before after : Output) : Type 0 where
   pub taken : List Sequence
   pub within : read ≤ length src
   pub bytes : sequence_bytes taken ≡ take read src
-  pub first : (y : List ℕ)
+  pub first : (y : List ℕ) → MayFollow src read y
       → (remainder_of old).sequences (take read src ++ y) ≡ taken ++ (remainder_of new).sequences y
   pub next_state : new ≡ record old { set = set_after old.set taken }
   pub scalars : AreScalars (sequence_text taken)

@@ -1,9 +1,9 @@
 //! Decoders that take one byte at a time.
 
-ghost use Rattle.std.specs.Prelude.{◌≡◌, length, IsTrue};
+ghost use Rattle.std.specs.Prelude.{◌≡◌, ◌<◌, ◌≤◌, length, drop, IfSome, IsTrue};
 ghost use Rattle.enc_decoder.specs.CodecState.{CodecState};
 ghost use Rattle.enc_decoder.specs.CodecLaw.{HandlesByte, IsNextOfPending, IsNextAtEnd, lone_fault};
-ghost use Rattle.enc_decoder.specs.Taking.{TakesRun};
+ghost use Rattle.enc_decoder.specs.Taking.{TakesRun, IsReplacedCharAt};
 ghost use Rattle.enc_decoder.specs.declared.byte_codec.HandlerResult.TheVariants as steps;
 ghost use Rattle.enc_decoder.specs.Sequence.{is_malformed as malformed_kind};
 
@@ -102,6 +102,25 @@ pub trait ByteCodec: Copy {
     {
         let _byte = (self, byte);
         false
+    }
+
+    /// Returns the text of the sequence that begins at `at`, if nothing is pending there, and its
+    /// length in bytes, at least one.
+    ///
+    /// The text of a malformed one is U+FFFD. `None` if it is not one character, if it designates
+    /// another character set, or if more than the byte after it is needed to determine it. It may
+    /// be `None` for any other too. Takes no memory.
+    #[inline(always)]
+    fn replaced_char(self, src: &[u8], at: usize) -> Option<(char, usize)>
+        requires { at < length src.now }
+        ensures some { IfSome result (λ p. 0 < p.1) }
+        ensures within { IfSome result (λ p. p.1 ≤ length (drop at src.now)) }
+        ensures first { IfSome result
+            (λ p. IsReplacedCharAt (state self).rule (state self).set src.now at p.1 p.0) }
+    {
+        let _bytes = src;
+        let _place = (self, at);
+        None
     }
 
     /// Returns the effect of the next byte.

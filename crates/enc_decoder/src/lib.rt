@@ -8,6 +8,7 @@ mod latin1;
 mod machine;
 mod pending;
 mod raw_decoder;
+mod replaced;
 mod text_lengths;
 
 pub use byte_codec::{ByteCodec, Emission, HandlerResult, Kind, Text};
@@ -16,4 +17,5 @@ pub use latin1::latin1_up_to;
 pub use machine::{report_or_run, run};
 pub use pending::Pending;
 pub use raw_decoder::RawDecoder;
+pub use replaced::replace_each;
 pub use text_lengths::TextLengths;

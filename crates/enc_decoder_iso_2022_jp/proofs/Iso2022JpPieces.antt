@@ -28,7 +28,7 @@ use Rattle.enc_decoder_iso_2022_jp.specs.Iso2022JpState.{escape_bytes, escape_se
 use Rattle.enc_decoder_iso_2022_jp.specs.Iso2022JpState.{iso_2022_jp_state as jp_state}
 use Rattle.enc_decoder.specs.Taking.{TakesSequences, TakesRun, IsWholeChar, IsReplacedChar}
 use Rattle.enc_decoder.proofs.SegmentationLemmas.{sequences_of-head}
-use Rattle.enc_decoder.proofs.TakingLemmas.{front, takes_both, takes_none}
+use Rattle.enc_decoder.proofs.TakingLemmas.{front, follows_second, takes_both, takes_none}
 use Rattle.enc_decoder.proofs.PieceLemmas.{takes_pieces, takes_replaced, three_of}
 use Rattle.enc_decoder.proofs.FirstSequenceLemmas.{true_or_false}
 use Rattle.enc_decoder_iso_2022_jp.proofs.Iso2022JpLemmas.{skipped_escape}
@@ -155,14 +155,15 @@ after_escape units_of s e n src more before after is_alone some taken =
         within = omega (arith, some, taken.run.within, length-drop 3 src);
         bytes = ap (λ z. escape_bytes e ++ z) taken.run.bytes ∙ ap (λ x. x ++ bytes) (sym three)
             ∙ sym (take-add 3 more src);
-        first = λ y. ap (sequences_of jp_rule (set_number s))
+        first = λ y may_follow. ap (sequences_of jp_rule (set_number s))
             (ap (λ x. x ++ y) (take-add 3 more src)
             ∙ append_assoc (take 3 src) bytes y
             ∙ ap (λ x. x ++ (bytes ++ y)) three)
             ∙ skipped_escape (set_number s) e (bytes ++ y)
             (ap (λ x. designated_set (x ++ y)) begins.1
             ∙ other_front is_alone.byte (begins.0 ++ y) is_alone.other)
-            ∙ ap (λ ss. skipped e ∷ ss) (taken.run.first y);
+            ∙ ap (λ ss. skipped e ∷ ss)
+            (taken.run.first y (follows_second src 3 more y may_follow));
         next_state = taken.run.next_state;
         scalars = taken.run.scalars;
         fits = taken.run.fits;

@@ -7,4 +7,5 @@ pub mod PairPlaces
 pub mod EucJpLemmas
 pub mod Gb18030Lemmas
 pub mod MultiBytePieces
+pub mod MultiByteReplaced
 pub mod MultiByteEnough

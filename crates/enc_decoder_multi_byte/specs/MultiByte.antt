@@ -1,6 +1,6 @@
 -- Legacy multi-byte encodings without escape sequences (Encoding Standard 10 to 13), by the kinds
 -- of prefixes.
-use Rattle.std.specs.Prelude.{◌≡◌, ◌≢◌, ℕ, ◌-◌, ◌<◌, ◌≤◌, List, [], ◌∷◌, ◌++◌, length}
+use Rattle.std.specs.Prelude.{◌≡◌, ◌≢◌, ℕ, ◌-◌, ◌<◌, ◌≤◌, ◌⊎◌, List, [], ◌∷◌, ◌++◌, length}
 use Rattle.enc_decoder.specs.declared.byte_codec.Text.{Text}
 use Rattle.enc_decoder.specs.declared.byte_codec.Text.TheVariants.{One}
 use Rattle.enc_decoder.specs.declared.byte_codec.Kind.TheVariants.{Valid}
@@ -59,6 +59,11 @@ pub record ArePrefixes (prefix : List ℕ → Prefix) : Type 0 where
   pub short : (front : List ℕ) → prefix front ≡ Incomplete → length front ≤ 3
   pub can_be_malformed : (front : List ℕ) → 0 < length front → prefix front ≡ Incomplete
       → CanBeMalformed prefix front
+
+-- the first n of two bytes are malformed: of the first by itself, or since the second follows it
+abbrev pub IsMalformedFront : (List ℕ → Prefix) → ℕ → ℕ → ℕ → Type 0
+IsMalformedFront prefix lead b n = (prefix (lead ∷ []) ≡ Malformed n)
+    ⊎ ((prefix (lead ∷ []) ≡ Incomplete) × (prefix (lead ∷ b ∷ []) ≡ Malformed n))
 
 -- an ASCII byte is the character with its number
 abbrev pub HasAscii : (List ℕ → Prefix) → Type 0

@@ -8,11 +8,11 @@ ghost use Rattle.enc_decoder.specs.Taking.{IsWholeChar};
 ghost use Rattle.enc_decoder.specs.CodecLaw.{HandlesByte, IsNextOfPending, IsNextAtEnd};
 ghost use Rattle.enc_decoder_multi_byte.specs.MultiByte.{multi_byte_state, AreIncomplete};
 ghost use Rattle.enc_decoder_multi_byte.specs.MultiByte.{ArePrefixes, HasAscii, IsCharPair};
-ghost use Rattle.enc_decoder_multi_byte.specs.MultiByte.{multi_byte_rule};
+ghost use Rattle.enc_decoder_multi_byte.specs.MultiByte.{multi_byte_rule, IsMalformedFront};
 
 use enc_decoder::{
     ByteCodec, Emission, HandlerResult, Kind, Pending, RawDecoder, Text, TextLengths, latin1_up_to,
-    run,
+    replace_each, run,
 };
 use enc_index::Grid;
 use enc_units::{DecoderResult, Pieces, Places, Units, put_run};
@@ -221,6 +221,23 @@ fn malformed<E: MultiByte>(
     }
 }
 
+/// Returns how many of two bytes are a malformed sequence. `None` if they begin with another
+/// sequence, or if a third byte is needed to determine that.
+#[inline(always)]
+fn malformed_len<E: MultiByte>(lead: u8, byte: u8) -> Option<u8>
+    ensures { IfSome result (IsMalformedFront E.prefix lead byte) }
+{
+    match E::classify(Pending::Nothing, lead) {
+        Prefix::Complete(_) => return None,
+        Prefix::Malformed(len) => return Some(len),
+        Prefix::Incomplete => {}
+    }
+    match E::classify(Pending::One(lead), byte) {
+        Prefix::Malformed(len) => Some(len),
+        _ => None,
+    }
+}
+
 impl<E: MultiByte> Pieces for MultiByteDecoder<E> {
     ghost use Rattle.enc_decoder_multi_byte.specs.MultiByte.{multi_byte_rule};
     ghost use Rattle.enc_decoder.specs.Taking.{IsWholeChar};
@@ -294,6 +311,19 @@ impl<E: MultiByte> ByteCodec for MultiByteDecoder<E> {
         }
     }
 
+    #[inline(always)]
+    fn replaced_char(self, src: &[u8], at: usize) -> Option<(char, usize)> {
+        E::laws();
+        if let Some(found) = self.piece(src, at) {
+            return Some(found);
+        }
+        if at + 1 >= src.len() {
+            return None;
+        }
+        let len = malformed_len::<E>(src[at], src[at + 1])?;
+        Some(('\u{FFFD}', len as usize))
+    }
+
     fn next_step(self, byte: u8) -> HandlerResult<MultiByteDecoder<E>> {
         match self.shown_first() {
             Some(shown) => HandlerResult::Emit(shown),
@@ -336,6 +366,15 @@ impl<E: MultiByte> RawDecoder for MultiByteDecoder<E> {
     ) -> (DecoderResult, usize) {
         E::laws();
         run(self, src, out, last, fault_room)
+    }
+
+    /// Where runs of random bytes are long, it takes none.
+    #[inline(always)]
+    fn replace_run<U: Units>(&self, src: &[u8], out: &mut U) -> usize {
+        if E::few() == 0 {
+            return 0;
+        }
+        replace_each(*self, src, out)
     }
 
     fn held(&self) -> usize {

@@ -13,13 +13,13 @@ use Rattle.enc_decoder_utf.specs.Utf8.{sequence_len, is_second_byte, is_continua
 use Rattle.enc_decoder.specs.Taking.{IsWholeChar}
 use Rattle.enc_decoder_utf.proofs.Utf8Lemmas.{one_valid, two_valid, three_valid, four_valid}
 
-valued : (bytes : List ℕ) (c : ℕ) → c ≡ scalar_of bytes
+pub valued : (bytes : List ℕ) (c : ℕ) → c ≡ scalar_of bytes
     → IsWholeChar utf_8_rule 0 bytes (scalar_of bytes) → IsWholeChar utf_8_rule 0 bytes c
 valued bytes c e p y = p y
     ∙ ap (λ x. record { bytes = bytes; text = x ∷ []; kind = Valid; set = 0 }
     ∷ sequences_of utf_8_rule 0 y) (sym e)
 
-one_len : (b : ℕ) → b < 0x80 → sequence_len b ≡ 1
+pub one_len : (b : ℕ) → b < 0x80 → sequence_len b ≡ 1
 unfolding sequence_len
 one_len b h = grind arith
 
@@ -27,7 +27,7 @@ two_len : (b : ℕ) → 0xC2 ≤ b → b < 0xE0 → sequence_len b ≡ 2
 unfolding sequence_len
 two_len b h k = grind arith
 
-three_len : (b : ℕ) → 0xE0 ≤ b → b < 0xF0 → sequence_len b ≡ 3
+pub three_len : (b : ℕ) → 0xE0 ≤ b → b < 0xF0 → sequence_len b ≡ 3
 unfolding sequence_len
 three_len b h k = grind arith
 

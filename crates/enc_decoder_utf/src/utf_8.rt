@@ -1,6 +1,6 @@
 //! The UTF-8 codec (Encoding Standard 8.1.1).
 
-ghost use Rattle.std.specs.Prelude.{◌≡◌, ◌<◌, [], ◌∷◌, true, false, IsTrue};
+ghost use Rattle.std.specs.Prelude.{◌≡◌, ◌<◌, [], ◌∷◌, true, false, nat_le, IsTrue};
 ghost use Rattle.enc_decoder_utf.specs.Utf8.{sequence_len as len_by_lead};
 ghost use Rattle.enc_decoder_utf.specs.Utf8.{is_second_byte as second_follows};
 ghost use Rattle.enc_decoder_utf.specs.Utf8.{is_continuation as continues, scalar_of};
@@ -9,7 +9,7 @@ ghost use Rattle.enc_decoder.specs.CodecLaw.{HandlesByte};
 
 use enc_decoder::{
     ByteCodec, Emission, HandlerResult, Kind, Pending, RawDecoder, Text, TextLengths, latin1_up_to,
-    run,
+    replace_each, run,
 };
 use enc_units::{DecoderResult, Units};
 use std::marker::Model;
@@ -60,6 +60,14 @@ pub fn sequence_len(lead: u8) -> u8
         0xF0..=0xF4 => 4,
         _ => 0,
     }
+}
+
+/// Returns whether a byte leads a sequence of two bytes or more.
+#[tactic(auto, unfolding(crate::specs::Utf8::sequence_len))]
+fn is_lead(byte: u8) -> bool
+    ensures { result ≡ nat_le 2 (len_by_lead byte) }
+{
+    byte >= 0xC2 && byte <= 0xF4
 }
 
 /// Returns whether a byte may be the second of a sequence with this lead byte.
@@ -228,6 +236,45 @@ impl ByteCodec for Utf8Decoder {
         }
     }
 
+    #[inline(always)]
+    fn replaced_char(self, src: &[u8], at: usize) -> Option<(char, usize)> {
+        let first = src[at];
+        if first < 0x80 {
+            return Some((first as char, 1));
+        }
+        if !is_lead(first) {
+            return Some(('\u{FFFD}', 1));
+        }
+        if at + 1 >= src.len() {
+            return None;
+        }
+        let second = src[at + 1];
+        if !is_second_byte(first, second) {
+            return Some(('\u{FFFD}', 1));
+        }
+        if first < 0xE0 {
+            return Some((two_byte_char(first, second), 2));
+        }
+        if at + 2 >= src.len() {
+            return None;
+        }
+        let third = src[at + 2];
+        if !is_continuation(third) {
+            return Some(('\u{FFFD}', 2));
+        }
+        if first < 0xF0 {
+            return Some((three_byte_char(first, second, third), 3));
+        }
+        if at + 3 >= src.len() {
+            return None;
+        }
+        let fourth = src[at + 3];
+        if !is_continuation(fourth) {
+            return Some(('\u{FFFD}', 3));
+        }
+        Some((four_byte_char(first, second, third, fourth), 4))
+    }
+
     fn next_step(self, byte: u8) -> HandlerResult<Utf8Decoder> {
         match self.pending {
             Pending::Nothing => step_first(byte),
@@ -271,6 +318,11 @@ impl RawDecoder for Utf8Decoder {
         fault_room: bool,
     ) -> (DecoderResult, usize) {
         run(self, src, out, last, fault_room)
+    }
+
+    #[inline(always)]
+    fn replace_run<U: Units>(&self, src: &[u8], out: &mut U) -> usize {
+        replace_each(*self, src, out)
     }
 
     fn held(&self) -> usize {
