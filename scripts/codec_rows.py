@@ -218,9 +218,8 @@ ROWS = {
         "src/variant.rt": [Rows("decoders", own=("Utf16", "SingleByte", "Gb18030", "Replacement"))],
         "specs/Codecs.antt": [Rows("codecs", "CD", own=("Gbk",), kinds=("lengths",))],
         "specs/Variant.antt": [Rows("decoders", "CD")],
-        "proofs/EnoughLemmas.antt": [Rows("codecs", "C")],
-        "proofs/MarkByteLemmas.antt": [Rows("codecs of bytes", lead=0xEF)],
-        "proofs/PropertyLemmas.antt": [Rows("codecs of bytes", own=("ShiftJis", "Gb18030"), kinds=("numbers",))],
+        "proofs/CodecLaws.antt": [Rows("codecs", "C", lead=0xEF)],
+        "proofs/PropertyLemmas.antt": [Rows("codecs of bytes", own=("ShiftJis", "Gb18030"))],
         "proofs/variant/VariantDecoderRawDecoder/decode/Answers.antt": [Rows("codecs of pairs")],
         "proofs/variant/VariantDecoderRawDecoder/decode_replacing/Answers.antt": [Rows("codecs of pairs")],
         "proofs/variant/VariantDecoderRawDecoder/text_lengths/Answers.antt": [Rows("codecs of pairs")],
@@ -243,10 +242,6 @@ ROWS = {
     },
     "enc_round_trip": {
         "proofs/RoundTripLemmas.antt": [Rows("codecs", "CD", own=GB18030_TWICE)],
-    },
-    "enc_stream": {
-        "proofs/EncodingLemmas.antt": [Rows("codecs", "C")],
-        "proofs/PropertyLemmas.antt": [Rows("codecs", "CD", own=("Gbk",))],
     },
     "test_calls": {
         "src/outputs.rt": [Rows("codecs", none=("SingleByte", "Gbk", "Replacement"))],
