@@ -91,7 +91,6 @@ class Item:
         if "section" in kinds and encoding:
             found["section"] = f"({encoding.section})"
         if "lengths" in kinds and self.codec:
-            found["text lengths"] = f"lengths.{self.codec.text_lengths}"
             found["byte lengths"] = f"lengths.{self.codec.byte_lengths}"
         if "numbers" in kinds and index:
             found |= {"length": str(index.length), "rows": str(index.rows), "width": str(index.width)}
@@ -216,7 +215,7 @@ ROWS = {
         "src/choice.rt": [Rows("codecs", own=("Utf16Be", "Utf16Le", "SingleByte", "Gbk"))],
         "src/lib.rt": [Rows("decoders", "CD")],
         "src/variant.rt": [Rows("decoders", own=("Utf16", "SingleByte", "Gb18030", "Replacement"))],
-        "specs/Codecs.antt": [Rows("codecs", "CD", own=("Gbk",), kinds=("lengths",))],
+        "specs/Codecs.antt": [Rows("codecs", "CD", own=("Gbk",))],
         "specs/Variant.antt": [Rows("decoders", "CD")],
         "proofs/CodecLaws.antt": [Rows("codecs", "C", lead=0xEF)],
         "proofs/PropertyLemmas.antt": [Rows("codecs of bytes", own=("ShiftJis", "Gb18030"))],
