@@ -17,7 +17,6 @@ class Codec(NamedTuple):
     decoder: str
     encoder: str
     recipe: str
-    text_lengths: str
     byte_lengths: str
 
 

@@ -91,7 +91,6 @@ class Item:
         if "section" in kinds and encoding:
             found["section"] = f"({encoding.section})"
         if "lengths" in kinds and self.codec:
-            found["text lengths"] = f"lengths.{self.codec.text_lengths}"
             found["byte lengths"] = f"lengths.{self.codec.byte_lengths}"
         if "numbers" in kinds and index:
             found |= {"length": str(index.length), "rows": str(index.rows), "width": str(index.width)}
@@ -216,11 +215,10 @@ ROWS = {
         "src/choice.rt": [Rows("codecs", own=("Utf16Be", "Utf16Le", "SingleByte", "Gbk"))],
         "src/lib.rt": [Rows("decoders", "CD")],
         "src/variant.rt": [Rows("decoders", own=("Utf16", "SingleByte", "Gb18030", "Replacement"))],
-        "specs/Codecs.antt": [Rows("codecs", "CD", own=("Gbk",), kinds=("lengths",))],
+        "specs/Codecs.antt": [Rows("codecs", "CD", own=("Gbk",))],
         "specs/Variant.antt": [Rows("decoders", "CD")],
-        "proofs/EnoughLemmas.antt": [Rows("codecs", "C")],
-        "proofs/MarkByteLemmas.antt": [Rows("codecs of bytes", lead=0xEF)],
-        "proofs/PropertyLemmas.antt": [Rows("codecs of bytes", own=("ShiftJis", "Gb18030"), kinds=("numbers",))],
+        "proofs/CodecLaws.antt": [Rows("codecs", "C", lead=0xEF)],
+        "proofs/PropertyLemmas.antt": [Rows("codecs of bytes", own=("ShiftJis", "Gb18030"))],
         "proofs/variant/VariantDecoderRawDecoder/decode/Answers.antt": [Rows("codecs of pairs")],
         "proofs/variant/VariantDecoderRawDecoder/decode_replacing/Answers.antt": [Rows("codecs of pairs")],
         "proofs/variant/VariantDecoderRawDecoder/text_lengths/Answers.antt": [Rows("codecs of pairs")],
@@ -243,10 +241,6 @@ ROWS = {
     },
     "enc_round_trip": {
         "proofs/RoundTripLemmas.antt": [Rows("codecs", "CD", own=GB18030_TWICE)],
-    },
-    "enc_stream": {
-        "proofs/EncodingLemmas.antt": [Rows("codecs", "C")],
-        "proofs/PropertyLemmas.antt": [Rows("codecs", "CD", own=("Gbk",))],
     },
     "test_calls": {
         "src/outputs.rt": [Rows("codecs", none=("SingleByte", "Gbk", "Replacement"))],

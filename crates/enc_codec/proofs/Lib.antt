@@ -1,3 +1,3 @@
 pub mod PropertyLemmas
-pub mod EnoughLemmas
 pub mod MarkByteLemmas
+pub mod CodecLaws

@@ -1,5 +1,4 @@
 -- A pending BB needs no lookahead, by the rule of each codec.
--- Rows by codec are written by scripts/make-codecs from data/codecs.txt.
 use Rattle.std.proofs.Common.{◌≡◌, ℕ, Bool, true, false, Option, Some, None, List, [], ◌∷◌, refl, ap}
 use Rattle.std.proofs.Common.{◌∙◌, sym, arith, inl, inr}
 use Rattle.enc_decoder.specs.declared.byte_codec.Text.{Text}
@@ -13,11 +12,6 @@ use Rattle.enc_decoder_multi_byte.specs.declared.multi_byte.Prefix.{Prefix}
 use Rattle.enc_decoder_multi_byte.specs.declared.multi_byte.Prefix.TheVariants.{Incomplete}
 use Rattle.enc_decoder_multi_byte.specs.DoubleByte.{trail_prefix}
 use Rattle.enc_decoder_multi_byte.specs.MultiByte.{multi_byte_rule, prefix_head}
-use Rattle.enc_decoder_multi_byte.specs.Big5.{big5_prefix}
-use Rattle.enc_decoder_multi_byte.specs.EucKr.{euc_kr_prefix}
-use Rattle.enc_decoder_multi_byte.specs.ShiftJis.{shift_jis_prefix}
-use Rattle.enc_decoder_multi_byte.specs.EucJp.{euc_jp_prefix}
-use Rattle.enc_decoder_multi_byte.specs.Gb18030.{gb18030_prefix}
 use Rattle.enc_decoder_iso_2022_jp.specs.Iso2022Jp.{iso_2022_jp_rule, is_lead_byte, one_byte_char}
 use Rattle.enc_codec.specs.Properties.{DeterminesBbByItself}
 
@@ -52,7 +46,7 @@ one_byte_shows_bb character z e y = (
     alone set (Some c) = refl
 
 -- where EF leads, BB is its trail, or is malformed with it
-multi_byte_shows_bb : (prefix : List ℕ → Prefix) (text : Option Text)
+pub multi_byte_shows_bb : (prefix : List ℕ → Prefix) (text : Option Text)
     → prefix (0xEF ∷ []) ≡ Incomplete → prefix (0xEF ∷ 0xBB ∷ []) ≡ trail_prefix 1 0xBB text
     → DeterminesBbByItself (multi_byte_rule prefix)
 unfolding multi_byte_rule
@@ -68,21 +62,6 @@ multi_byte_shows_bb prefix text f g z e y = absurd (two text (sym first ∙ e))
         → (prefix_head prefix 0 (0xEF ∷ 0xBB ∷ []) (trail_prefix 1 0xBB t) z).more ≡ 0 → ⊥
     two None h = cc
     two (Some t) h = cc
-
-pub big5_shows_bb : DeterminesBbByItself (multi_byte_rule big5_prefix)
-big5_shows_bb = multi_byte_shows_bb big5_prefix _ refl refl
-
-pub euc_kr_shows_bb : DeterminesBbByItself (multi_byte_rule euc_kr_prefix)
-euc_kr_shows_bb = multi_byte_shows_bb euc_kr_prefix _ refl refl
-
-pub shift_jis_shows_bb : DeterminesBbByItself (multi_byte_rule shift_jis_prefix)
-shift_jis_shows_bb = multi_byte_shows_bb shift_jis_prefix _ refl refl
-
-pub euc_jp_shows_bb : DeterminesBbByItself (multi_byte_rule euc_jp_prefix)
-euc_jp_shows_bb = multi_byte_shows_bb euc_jp_prefix _ refl refl
-
-pub gb18030_shows_bb : DeterminesBbByItself (multi_byte_rule gb18030_prefix)
-gb18030_shows_bb = multi_byte_shows_bb gb18030_prefix _ refl refl
 
 -- in ASCII both are malformed, each by itself
 pub iso_2022_jp_shows_bb : DeterminesBbByItself iso_2022_jp_rule

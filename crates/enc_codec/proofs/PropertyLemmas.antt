@@ -1,4 +1,4 @@
--- Which rules are ASCII-compatible, and which are single-byte.
+-- Which rules are ASCII-compatible, which are single-byte, and which have sequences without a text.
 -- Rows by codec are written by scripts/make-codecs from data/codecs.txt.
 use Rattle.std.proofs.Common.{◌≡◌, ℕ, ◌<◌, Bool, true, false, Option, Some, None, List, [], ◌∷◌, length, refl, ap, ◌∙◌}
 use Rattle.std.proofs.Common.{sym, subst, arith}
@@ -9,6 +9,7 @@ use Rattle.enc_decoder.specs.declared.byte_codec.Text.TheVariants.{One}
 use Rattle.enc_decoder.specs.Sequence.{Sequence}
 use Rattle.enc_decoder.specs.Segmentation.{Head, Rule, one_byte_head, head_sequence, sequences_after, sequences_of}
 use Rattle.enc_decoder.specs.Remainder.{AreBytes}
+use Rattle.enc_decoder.specs.RuleLaws.{HasTexts}
 use Rattle.enc_decoder.proofs.SegmentationLemmas.{sequences_of-cons}
 use Rattle.enc_decoder_utf.specs.Utf8.{sequence_len, is_second_byte, is_continuation, utf_8_rule}
 use Rattle.enc_decoder_utf.specs.Utf16.{code_unit, is_lead_surrogate, is_trail_surrogate, utf_16_rule}
@@ -109,7 +110,7 @@ pub multi_byte_is_ascii_compatible : (prefix : List ℕ → Prefix) → HasAscii
 multi_byte_is_ascii_compatible prefix h b l = complete_one prefix b b (h b l)
 
 -- (a lead, and a byte that is malformed with it)
-multi_byte_is_not_single_byte : (prefix : List ℕ → Prefix) (lead : ℕ) → lead < 256
+pub multi_byte_is_not_single_byte : (prefix : List ℕ → Prefix) (lead : ℕ) → lead < 256
     → prefix (lead ∷ []) ≡ Incomplete
     → prefix (lead ∷ 0xFF ∷ []) ≡ Malformed 2 → ¬ (IsSingleByte (multi_byte_rule prefix))
 unfolding multi_byte_rule
@@ -152,27 +153,11 @@ gb18030_has_ascii b l =
     first_alone (is_gb18030_lead b) (gb18030_single_char b) b (grind (arith, nat_tests))
     (cond-true _ _ _ (lt-ltb b 0x80 l))
 
-pub big5_is_not_single_byte : ¬ (IsSingleByte (multi_byte_rule big5_prefix))
-big5_is_not_single_byte =
-    multi_byte_is_not_single_byte big5_prefix 0x81 (omega arith) refl refl
-
-pub euc_kr_is_not_single_byte : ¬ (IsSingleByte (multi_byte_rule euc_kr_prefix))
-euc_kr_is_not_single_byte =
-    multi_byte_is_not_single_byte euc_kr_prefix 0x81 (omega arith) refl refl
-
-pub shift_jis_is_not_single_byte : ¬ (IsSingleByte (multi_byte_rule shift_jis_prefix))
-shift_jis_is_not_single_byte =
-    multi_byte_is_not_single_byte shift_jis_prefix 0x81 (omega arith) refl refl
-
-pub euc_jp_is_not_single_byte : ¬ (IsSingleByte (multi_byte_rule euc_jp_prefix))
-euc_jp_is_not_single_byte =
-    multi_byte_is_not_single_byte euc_jp_prefix 0xA1 (omega arith) refl refl
-
-pub gb18030_is_not_single_byte : ¬ (IsSingleByte (multi_byte_rule gb18030_prefix))
-gb18030_is_not_single_byte =
-    multi_byte_is_not_single_byte gb18030_prefix 0x81 (omega arith) refl refl
-
 -- ISO-2022-JP, in which an escape sequence is skipped, and 1B by itself is malformed
+
+pub iso_2022_jp_lacks_texts : ¬ (HasTexts iso_2022_jp_rule)
+unfolding iso_2022_jp_rule
+iso_2022_jp_lacks_texts h = h 0 0x1B (0x28 ∷ 0x42 ∷ []) refl
 
 pub iso_2022_jp_is_not_ascii_compatible : ¬ (IsAsciiCompatible iso_2022_jp_rule)
 unfolding iso_2022_jp_rule
@@ -185,6 +170,10 @@ iso_2022_jp_is_not_single_byte =
     (omega arith, (omega arith, (omega arith, tt))) (λ e. cc)
 
 -- replacement, whose second byte has no text
+
+pub replacement_lacks_texts : ¬ (HasTexts replacement_rule)
+unfolding replacement_rule
+replacement_lacks_texts h = h 1 0x61 [] refl
 
 pub replacement_is_not_ascii_compatible : ¬ (IsAsciiCompatible replacement_rule)
 unfolding replacement_rule

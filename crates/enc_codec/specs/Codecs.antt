@@ -1,6 +1,6 @@
--- The rule of each codec's decoder, and its formulas for lengths.
+-- The rule of each codec's decoder, and what is known of it: its formulas for lengths, and properties.
 -- Rows by codec are written by scripts/make-codecs from data/codecs.txt.
-use Rattle.std.specs.Prelude.{true, false, []}
+use Rattle.std.specs.Prelude.{Bool, true, false, []}
 use Rattle.enc_index.specs.declared.codec.Codec.{Codec}
 use Rattle.enc_index.specs.declared.codec.Codec.TheVariants.{Utf8, Utf16Be, Utf16Le, SingleByte, Big5, EucKr, ShiftJis}
 use Rattle.enc_index.specs.declared.codec.Codec.TheVariants.{EucJp, Gbk, Gb18030, Iso2022Jp, XUserDefined, Replacement}
@@ -40,18 +40,83 @@ codec_rule Iso2022Jp = iso_2022_jp_rule
 abbrev pub initial_state : Rule → CodecState
 initial_state rule = record { rule = rule; set = 0; pending = [] }
 
+-- What the crates above know of a codec beside its rule: the formulas for lengths to allocate,
+-- whether each sequence has a text, whether some byte is a valid sequence by itself, and whether the
+-- rule is ASCII-compatible and single-byte. `KeepsCodecLaws` says when this is true of a rule.
+pub record CodecFacts : Type 0 where
+  pub formulas : TextLengths
+  pub has_texts : Bool
+  pub has_bytes : Bool
+  pub ascii_compatible : Bool
+  pub single_byte : Bool
+
+-- the facts of each family, and of the codecs that are in none
+
+abbrev pub utf_8_facts : CodecFacts
+utf_8_facts = record {
+  formulas = lengths.Utf8;
+  has_texts = true;
+  has_bytes = true;
+  ascii_compatible = true;
+  single_byte = false;
+}
+
+abbrev pub utf_16_facts : CodecFacts
+utf_16_facts = record {
+  formulas = lengths.Utf16;
+  has_texts = true;
+  has_bytes = false;
+  ascii_compatible = false;
+  single_byte = false;
+}
+
+abbrev pub one_byte_facts : CodecFacts
+one_byte_facts = record {
+  formulas = lengths.OneByte;
+  has_texts = true;
+  has_bytes = true;
+  ascii_compatible = true;
+  single_byte = true;
+}
+
+abbrev pub multi_byte_facts : CodecFacts
+multi_byte_facts = record {
+  formulas = lengths.MultiByte;
+  has_texts = true;
+  has_bytes = true;
+  ascii_compatible = true;
+  single_byte = false;
+}
+
+abbrev pub replacement_facts : CodecFacts
+replacement_facts = record {
+  formulas = lengths.Replacement;
+  has_texts = false;
+  has_bytes = false;
+  ascii_compatible = false;
+  single_byte = false;
+}
+
+abbrev pub iso_2022_jp_facts : CodecFacts
+iso_2022_jp_facts = record {
+  formulas = lengths.MultiByte;
+  has_texts = false;
+  has_bytes = true;
+  ascii_compatible = false;
+  single_byte = false;
+}
+
+-- Most codecs are of legacy multi-byte encodings.
+abbrev pub codec_facts : Codec → CodecFacts
+codec_facts Utf8 = utf_8_facts
+codec_facts Utf16Be = utf_16_facts
+codec_facts Utf16Le = utf_16_facts
+codec_facts (SingleByte index) = one_byte_facts
+codec_facts XUserDefined = one_byte_facts
+codec_facts Replacement = replacement_facts
+codec_facts Iso2022Jp = iso_2022_jp_facts
+codec_facts _ = multi_byte_facts
+
 -- the formulas for lengths to allocate
 abbrev pub codec_lengths : Codec → TextLengths
-codec_lengths Utf8 = lengths.Utf8
-codec_lengths Utf16Be = lengths.Utf16
-codec_lengths Utf16Le = lengths.Utf16
-codec_lengths (SingleByte index) = lengths.OneByte
-codec_lengths Big5 = lengths.MultiByte
-codec_lengths EucKr = lengths.MultiByte
-codec_lengths ShiftJis = lengths.MultiByte
-codec_lengths EucJp = lengths.MultiByte
-codec_lengths Gbk = lengths.MultiByte
-codec_lengths Gb18030 = lengths.MultiByte
-codec_lengths XUserDefined = lengths.OneByte
-codec_lengths Replacement = lengths.Replacement
-codec_lengths Iso2022Jp = lengths.MultiByte
+codec_lengths c = (codec_facts c).formulas

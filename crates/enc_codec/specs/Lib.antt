@@ -1,3 +1,4 @@
 pub mod Variant
 pub mod Codecs
 pub mod Properties
+pub mod CodecLaws

@@ -12,8 +12,7 @@ use Rattle.enc_encoder.proofs.BarringLemmas.{except_writes_ascii}
 use Rattle.enc_encode.proofs.RepertoireLemmas.{utf_8_writes_ascii}
 use Rattle.enc_index.specs.declared.codec.Codec.{Codec}
 use Rattle.enc_index.specs.declared.codec.Codec.TheVariants as codec
-use Rattle.enc_names.specs.CodecProperties.{ascii_compatible_by_codec}
-use Rattle.enc_names.proofs.CodecPropertyLemmas.{listed_ascii}
+use Rattle.enc_codec.specs.Codecs.{codec_facts}
 use Rattle.enc_encoder.specs.declared.character_set.CharacterSet.TheVariants.{Ascii, Roman, Jis0208}
 use Rattle.enc_encoder.specs.declared.character_set.CharacterSet.{CharacterSet}
 use Rattle.enc_units.specs.declared.encoder_result.EncoderResult.{EncoderResult}
@@ -29,6 +28,7 @@ use Rattle.enc_names.specs.EncodingTable.{codec_by_id, output_by_id}
 use Rattle.enc_stream.specs.Encodings.{rule_or_utf_8, output_rule}
 use Rattle.enc_stream.specs.Properties.{output_encoding_of, is_ascii_compatible}
 use Rattle.enc_stream.specs.Encoder.{EncoderState, EncodesChunk, is_utf_8, maps_every_character, html_mode_in}
+use Rattle.enc_stream.proofs.PropertyLemmas.{listed_ascii}
 
 has_encoder_by_id : (id : EncodingId)
     → is_some (encoder_rule (codec_by_id (output_by_id id))) ≡ true
@@ -72,7 +72,7 @@ record WritesAsciiPlainly (rule : EncoderRule) : Type 0 where
   pub bytes : WritesAscii rule.bytes
   pub set : (c : ℕ) → rule.has Ascii c ≡ true
 
-writes_ascii : (c : Codec) → ascii_compatible_by_codec c ≡ true
+writes_ascii : (c : Codec) → (codec_facts c).ascii_compatible ≡ true
     → WritesAsciiPlainly (rule_or_utf_8 (encoder_rule c))
 writes_ascii codec.Utf8 h = record { bytes = utf_8_writes_ascii; set = λ c. refl }
 writes_ascii codec.Utf16Be h = cc

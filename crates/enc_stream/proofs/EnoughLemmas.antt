@@ -20,7 +20,6 @@ use Rattle.enc_decoder.specs.Need.{needed_units, NeedExceeds, IsEnoughForCodec, 
 use Rattle.enc_decoder.proofs.NeedLemmas.{at_end}
 use Rattle.enc_decoder.proofs.EnoughLemmas.{same_some}
 use Rattle.enc_codec.specs.Codecs.{codec_lengths, initial_state}
-use Rattle.enc_codec.proofs.EnoughLemmas.{codec_enough}
 use Rattle.enc_names.specs.declared.encoding_id.EncodingId.{EncodingId}
 use Rattle.enc_stream.specs.declared.encoding.Encoding.{Encoding}
 use Rattle.enc_stream.specs.declared.lengths.Query.{Query}
@@ -38,6 +37,7 @@ use Rattle.enc_stream.specs.Decoding.{DecoderState, remaining_sequences, decoder
 use Rattle.enc_stream.specs.Decoding.{decoder_state_of, unread_bytes, HeldBytesMatchCodec, LooksForOwnMark}
 use Rattle.enc_stream.specs.Lengths.{formula_length, life_cycle_length, max_length, idle_length, length_with_mark}
 use Rattle.enc_stream.specs.Lengths.{length_at, IsForMode, query_units, IsEnoughRoom}
+use Rattle.enc_stream.proofs.EncodingLemmas.{laws_of}
 
 -- Formulas fall with the number of bytes.
 
@@ -184,7 +184,7 @@ module _ (q : Query) (mode : DecodeErrorMode) (asks : IsForMode q mode) (e : Enc
       → AreFirstSequences front (sequences_of (rule_of e) 0 bytes) → ⊥
   own_text bytes a n few fits t f b =
       never_more q mode asks front formulas (initial_state (rule_of e))
-      (codec_enough (codec_by_id e.id)) bytes a n 0
+      (laws_of e).enough bytes a n 0
       few fits (omega (arith, fits)) f b
       (less_needed q mode asks front few answer t passes)
 
@@ -197,7 +197,7 @@ module _ (q : Query) (mode : DecodeErrorMode) (asks : IsForMode q mode) (e : Enc
       let dropped = length-drop (length m.bytes) bytes in
       never_more q mode asks front (codec_lengths (codec_by_id m.encoding.id))
       (initial_state (rule_of m.encoding))
-      (codec_enough (codec_by_id m.encoding.id))
+      (laws_of m.encoding).enough
       (drop (length m.bytes) bytes) (are_bytes_drop (length m.bytes) bytes a) n 0 few
       (omega (arith, fits, dropped))
       (omega (arith, fits, dropped)) f b

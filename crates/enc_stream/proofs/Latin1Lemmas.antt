@@ -11,7 +11,8 @@ use Rattle.enc_stream.specs.declared.life_cycle.LifeCycle.TheVariants.{Convertin
 use Rattle.enc_stream.specs.Encodings.{rule_of}
 use Rattle.enc_stream.specs.Decoding.{decoder_state_of}
 use Rattle.enc_stream.specs.Latin1.{has_byte_characters, DecoderMayBeLatin1, AnswersDecoderLatin1}
-use Rattle.enc_stream.proofs.EncodingLemmas.{DecidesBytes, decides_bytes}
+use Rattle.enc_codec.specs.CodecLaws.{DecidesBytes}
+use Rattle.enc_stream.proofs.EncodingLemmas.{laws_of}
 
 has_some : (has : Bool) (rule : Rule) → DecidesBytes has rule → has ≡ true
     → ¬ (HasNoByteSequences rule)
@@ -25,7 +26,7 @@ some_has false rule t n = absurd (n t)
 
 module _ (e : Encoding) (codec : CodecState) (same_rule : rule_of e ≡ codec.rule) where
   by_bytes : DecidesBytes (has_byte_characters e.id) codec.rule
-  by_bytes = subst (DecidesBytes (has_byte_characters e.id)) same_rule (decides_bytes e)
+  by_bytes = subst (DecidesBytes (has_byte_characters e.id)) same_rule (laws_of e).bytes
 
   as_codec : DecoderMayBeLatin1 (decoder_state_of e Converting codec) → CodecMay codec
   as_codec may_be_latin1 = record {

@@ -1,0 +1,156 @@
+-- Every codec keeps its laws: the one proof that goes through all decoders.
+-- Rows by codec are written by scripts/make-codecs from data/codecs.txt.
+use Rattle.std.proofs.Common.{◌≡◌, ℕ, ◌<◌, Bool, true, false, Option, Some, List, [], ◌∷◌, refl, arith}
+use Rattle.enc_index.specs.Runs.{single_byte_runs}
+use Rattle.enc_index.specs.declared.codec.Codec.{Codec}
+use Rattle.enc_index.specs.declared.codec.Codec.TheVariants.{Utf8, Utf16Be, Utf16Le, SingleByte, Big5, EucKr, ShiftJis}
+use Rattle.enc_index.specs.declared.codec.Codec.TheVariants.{EucJp, Gbk, Gb18030, Iso2022Jp, XUserDefined, Replacement}
+use Rattle.enc_decoder.specs.declared.byte_codec.Text.{Text}
+use Rattle.enc_decoder.specs.declared.byte_codec.Text.TheVariants.{One}
+use Rattle.enc_decoder.specs.declared.pending.Pending.TheVariants.{Nothing}
+use Rattle.enc_decoder.specs.declared.text_lengths.TextLengths.TheVariants as lengths
+use Rattle.enc_decoder.specs.Need.{AreEnoughForCodec}
+use Rattle.enc_decoder_utf.specs.Utf16.{utf_16_rule}
+use Rattle.enc_decoder_utf.proofs.Utf8Rule.{utf_8_has_texts, utf_8_is_lawful, utf_8_has_bytes}
+use Rattle.enc_decoder_utf.proofs.Utf8Enough.{utf_8_enough}
+use Rattle.enc_decoder_utf.proofs.Utf16Rule.{utf_16_has_texts, utf_16_is_lawful, utf_16_has_no_bytes}
+use Rattle.enc_decoder_utf.proofs.Utf16Enough.{utf_16_enough}
+use Rattle.enc_decoder_single_byte.specs.OneByte.{one_byte_rule, x_user_defined_char}
+use Rattle.enc_decoder_single_byte.proofs.OneByteLemmas.{one_byte_has_texts, one_byte_is_lawful, one_byte_has_bytes}
+use Rattle.enc_decoder_single_byte.proofs.EnoughLemmas.{single_byte_enough, x_user_defined_enough, replacement_enough}
+use Rattle.enc_decoder_single_byte.proofs.ReplacementLemmas.{replacement_is_lawful, replacement_has_no_bytes}
+use Rattle.enc_decoder_multi_byte.specs.declared.multi_byte.Prefix.{Prefix}
+use Rattle.enc_decoder_multi_byte.specs.declared.multi_byte.Prefix.TheVariants.{Malformed, Incomplete}
+use Rattle.enc_decoder_multi_byte.specs.MultiByte.{multi_byte_rule, ArePrefixes, HasAscii}
+use Rattle.enc_decoder_multi_byte.specs.DoubleByte.{trail_prefix}
+use Rattle.enc_decoder_multi_byte.specs.Big5.{big5_prefix}
+use Rattle.enc_decoder_multi_byte.specs.EucKr.{euc_kr_prefix}
+use Rattle.enc_decoder_multi_byte.specs.ShiftJis.{shift_jis_prefix}
+use Rattle.enc_decoder_multi_byte.specs.EucJp.{euc_jp_prefix}
+use Rattle.enc_decoder_multi_byte.specs.Gb18030.{gb18030_prefix}
+use Rattle.enc_decoder_multi_byte.proofs.DoubleByteLemmas.{double_byte_laws}
+use Rattle.enc_decoder_multi_byte.proofs.PairLemmas.{big5_pairs, euc_kr_pairs, shift_jis_pairs}
+use Rattle.enc_decoder_multi_byte.proofs.EucJpLemmas.{euc_jp_laws}
+use Rattle.enc_decoder_multi_byte.proofs.Gb18030Lemmas.{gb18030_laws}
+use Rattle.enc_decoder_multi_byte.proofs.MultiByteEnough.{multi_bytes_enough}
+use Rattle.enc_decoder_multi_byte.proofs.MultiByteRule.{multi_byte_has_texts, multi_byte_is_lawful}
+use Rattle.enc_decoder_multi_byte.proofs.MultiByteRule.{multi_byte_has_bytes}
+use Rattle.enc_decoder_iso_2022_jp.proofs.Iso2022JpEnough.{iso_2022_jp_enough}
+use Rattle.enc_decoder_iso_2022_jp.proofs.Iso2022JpRule.{iso_2022_jp_is_lawful, iso_2022_jp_has_bytes}
+use Rattle.enc_codec.specs.Codecs.{codec_rule, codec_facts, initial_state, utf_16_facts, one_byte_facts}
+use Rattle.enc_codec.specs.Codecs.{multi_byte_facts}
+use Rattle.enc_codec.specs.CodecLaws.{KeepsCodecLaws}
+use Rattle.enc_codec.specs.Properties.{DeterminesBbByItself}
+use Rattle.enc_codec.proofs.PropertyLemmas.{utf_8_is_ascii_compatible, utf_8_is_not_single_byte}
+use Rattle.enc_codec.proofs.PropertyLemmas.{utf_16_is_not_ascii_compatible, utf_16_is_not_single_byte}
+use Rattle.enc_codec.proofs.PropertyLemmas.{one_byte_is_ascii_compatible, single_byte_ascii, x_user_defined_ascii}
+use Rattle.enc_codec.proofs.PropertyLemmas.{one_byte_is_single_byte, multi_byte_is_ascii_compatible}
+use Rattle.enc_codec.proofs.PropertyLemmas.{multi_byte_is_not_single_byte, big5_has_ascii, euc_kr_has_ascii}
+use Rattle.enc_codec.proofs.PropertyLemmas.{shift_jis_has_ascii, euc_jp_has_ascii, gb18030_has_ascii}
+use Rattle.enc_codec.proofs.PropertyLemmas.{iso_2022_jp_lacks_texts, iso_2022_jp_is_not_ascii_compatible}
+use Rattle.enc_codec.proofs.PropertyLemmas.{iso_2022_jp_is_not_single_byte, replacement_lacks_texts}
+use Rattle.enc_codec.proofs.PropertyLemmas.{replacement_is_not_ascii_compatible, replacement_is_not_single_byte}
+use Rattle.enc_codec.proofs.MarkByteLemmas.{utf_8_shows_bb, utf_16_shows_bb, one_byte_shows_bb, multi_byte_shows_bb}
+use Rattle.enc_codec.proofs.MarkByteLemmas.{iso_2022_jp_shows_bb, replacement_shows_bb}
+
+-- the laws of each family
+
+utf_16_keeps_laws : (big : Bool)
+    → AreEnoughForCodec lengths.Utf16 (initial_state (utf_16_rule big))
+    → KeepsCodecLaws (utf_16_rule big) utf_16_facts
+utf_16_keeps_laws big enough = record {
+  lawful = utf_16_is_lawful big;
+  enough = enough;
+  texts = utf_16_has_texts big;
+  bytes = utf_16_has_no_bytes big;
+  ascii = utf_16_is_not_ascii_compatible big;
+  single = utf_16_is_not_single_byte big;
+  bb = utf_16_shows_bb big;
+}
+
+one_byte_keeps_laws : (character : ℕ → Option ℕ) → ((b : ℕ) → b < 0x80 → character b ≡ Some b)
+    → AreEnoughForCodec lengths.OneByte (initial_state (one_byte_rule character))
+    → KeepsCodecLaws (one_byte_rule character) one_byte_facts
+one_byte_keeps_laws character has_ascii enough = record {
+  lawful = one_byte_is_lawful character;
+  enough = enough;
+  texts = one_byte_has_texts character;
+  bytes = one_byte_has_bytes character 0x61 0x61 (has_ascii 0x61 (omega arith));
+  ascii = one_byte_is_ascii_compatible character has_ascii;
+  single = one_byte_is_single_byte character;
+  bb = one_byte_shows_bb character;
+}
+
+-- by a lead, with which FF is malformed
+keeps_laws_by_lead : (prefix : List ℕ → Prefix) (lead : ℕ) → ArePrefixes prefix → HasAscii prefix
+    → lead < 256 → prefix (lead ∷ []) ≡ Incomplete → prefix (lead ∷ 0xFF ∷ []) ≡ Malformed 2
+    → DeterminesBbByItself (multi_byte_rule prefix)
+    → KeepsCodecLaws (multi_byte_rule prefix) multi_byte_facts
+keeps_laws_by_lead prefix lead are_prefixes has_ascii is_byte leads breaks bb = record {
+  lawful = multi_byte_is_lawful prefix are_prefixes;
+  enough = multi_bytes_enough prefix are_prefixes [];
+  texts = multi_byte_has_texts prefix are_prefixes;
+  bytes = multi_byte_has_bytes prefix 0x61 (One 0x61) (has_ascii 0x61 (omega arith));
+  ascii = multi_byte_is_ascii_compatible prefix has_ascii;
+  single = multi_byte_is_not_single_byte prefix lead is_byte leads breaks;
+  bb = bb;
+}
+
+-- if EF leads
+multi_byte_keeps_laws : (prefix : List ℕ → Prefix) (text : Option Text) → ArePrefixes prefix
+    → HasAscii prefix → prefix (0xEF ∷ []) ≡ Incomplete
+    → prefix (0xEF ∷ 0xFF ∷ []) ≡ Malformed 2
+    → prefix (0xEF ∷ 0xBB ∷ []) ≡ trail_prefix 1 0xBB text
+    → KeepsCodecLaws (multi_byte_rule prefix) multi_byte_facts
+multi_byte_keeps_laws prefix text are_prefixes has_ascii leads breaks with_bb =
+    keeps_laws_by_lead prefix 0xEF are_prefixes has_ascii (omega arith) leads breaks
+    (multi_byte_shows_bb prefix text leads with_bb)
+
+pub codec_laws : (c : Codec) → KeepsCodecLaws (codec_rule c) (codec_facts c)
+codec_laws Utf8 = record {
+  lawful = utf_8_is_lawful;
+  enough = utf_8_enough _ refl;
+  texts = utf_8_has_texts;
+  bytes = utf_8_has_bytes;
+  ascii = utf_8_is_ascii_compatible;
+  single = utf_8_is_not_single_byte;
+  bb = utf_8_shows_bb;
+}
+codec_laws Utf16Be =
+    utf_16_keeps_laws true (utf_16_enough (record { big_endian = true; pending = Nothing }) refl)
+codec_laws Utf16Le =
+    utf_16_keeps_laws false (utf_16_enough (record { big_endian = false; pending = Nothing }) refl)
+codec_laws (SingleByte index) =
+    one_byte_keeps_laws _ (single_byte_ascii _) (single_byte_enough (single_byte_runs index))
+codec_laws Big5 =
+    multi_byte_keeps_laws big5_prefix _ (double_byte_laws _ _ _ big5_pairs) big5_has_ascii refl refl refl
+codec_laws EucKr =
+    multi_byte_keeps_laws euc_kr_prefix _ (double_byte_laws _ _ _ euc_kr_pairs) euc_kr_has_ascii refl refl refl
+codec_laws ShiftJis =
+    multi_byte_keeps_laws shift_jis_prefix _ (double_byte_laws _ _ _ shift_jis_pairs) shift_jis_has_ascii refl refl refl
+codec_laws EucJp =
+    multi_byte_keeps_laws euc_jp_prefix _ euc_jp_laws euc_jp_has_ascii refl refl refl
+codec_laws Gbk =
+    multi_byte_keeps_laws gb18030_prefix _ gb18030_laws gb18030_has_ascii refl refl refl
+codec_laws Gb18030 =
+    multi_byte_keeps_laws gb18030_prefix _ gb18030_laws gb18030_has_ascii refl refl refl
+codec_laws XUserDefined =
+    one_byte_keeps_laws x_user_defined_char x_user_defined_ascii x_user_defined_enough
+codec_laws Replacement = record {
+  lawful = replacement_is_lawful;
+  enough = replacement_enough false;
+  texts = replacement_lacks_texts;
+  bytes = replacement_has_no_bytes;
+  ascii = replacement_is_not_ascii_compatible;
+  single = replacement_is_not_single_byte;
+  bb = replacement_shows_bb;
+}
+codec_laws Iso2022Jp = record {
+  lawful = iso_2022_jp_is_lawful;
+  enough = iso_2022_jp_enough _ refl;
+  texts = iso_2022_jp_lacks_texts;
+  bytes = iso_2022_jp_has_bytes;
+  ascii = iso_2022_jp_is_not_ascii_compatible;
+  single = iso_2022_jp_is_not_single_byte;
+  bb = iso_2022_jp_shows_bb;
+}
