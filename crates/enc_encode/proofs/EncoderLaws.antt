@@ -29,7 +29,7 @@ stateless formulas bytes laws = record {
   lawful = stateless_is_lawful bytes laws.ascii laws.few;
   enough = λ b s may_be_in.
       let in_set : CharacterSet → RawEncoderState =
-          λ t. record { rule = stateless_rule (bytes_unless_barred b bytes); set = t } in
+      λ t. record { rule = stateless_rule (bytes_unless_barred b bytes); set = t } in
       subst (λ t. AreEnoughForEncoder formulas (in_set t)) (sym (may_be_in (λ c. refl)))
       (stateless_enough formulas (bytes_unless_barred b bytes) (except_keeps b formulas bytes laws.lengths));
   ascii = λ stays. laws.ascii;
@@ -68,5 +68,5 @@ pub enough_of : (b : List ℕ) (c : Codec) (v : VariantEncoder)
     })
 enough_of b c v rule_is =
     let stays : StaysInAscii (output_facts c).rule → StaysInAscii (variant_encoder_state v).rule =
-        λ all ch. ap (λ (r : EncoderRule). r.has Ascii ch) rule_is ∙ all ch in
+    λ all ch. ap (λ (r : EncoderRule). r.has Ascii ch) rule_is ∙ all ch in
     (encoder_laws c).enough b (variant_encoder_state v).set (λ all. may_be_in v (stays all))

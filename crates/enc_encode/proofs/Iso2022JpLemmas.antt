@@ -118,7 +118,8 @@ itself c r =
 
 pub most_iso_2022_jp : (c : ℕ) → size (iso_2022_jp_bytes c) ≤ 2
 most_iso_2022_jp c =
-    up_to_if 2 (nat_lt c 0x80) _ _ (up_to_if 2 (is_shift c) None (Some (c ∷ [])) (omega arith) (omega arith))
+    up_to_if 2 (nat_lt c 0x80) _ _
+    (up_to_if 2 (is_shift c) None (Some (c ∷ [])) (omega arith) (omega arith))
     (up_to_if 2 (c == 0xA5) (Some (0x5C ∷ [])) _ (omega arith)
     (up_to_if 2 (c == 0x203E) (Some (0x7E ∷ [])) _ (omega arith)
     (up_to_by 2 jis0208_pair_bytes (jis0208_pointer (lookup_char c)) (λ n. omega arith))))
