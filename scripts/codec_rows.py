@@ -231,13 +231,8 @@ ROWS = {
         "specs/Encoders.antt": [Rows("codecs", "CD", own=GB18030_TWICE, kinds=("lengths",))],
         "specs/Lib.antt": [Rows("encoders", none=("XUserDefined",))],
         "specs/Variant.antt": [Rows("encoders", "CD", own=("Gb18030",))],
-        "proofs/EnoughLemmas.antt": [
-            Rows("encoders", own=("Iso2022Jp",), skip="enough_if_any"),
-            Rows("codecs", "CD", own=GB18030_TWICE, kinds=("lengths",), skip="stateless_of"),
-        ],
-        "proofs/FourByteLemmas.antt": [Rows("encoders", "C", own=("ShiftJis",), none=("Utf8",))],
-        "proofs/LawfulLemmas.antt": [Rows("codecs", "CD", own=GB18030_TWICE)],
-        "proofs/RepertoireLemmas.antt": [Rows("encoders", "CD", own=("Gb18030",), none=("Iso2022Jp",))],
+        "proofs/EncoderLaws.antt": [Rows("codecs", "CD", own=GB18030_TWICE)],
+        "proofs/RepertoireLaws.antt": [Rows("encoders", "C", own=("ShiftJis",), none=("Iso2022Jp",))],
     },
     "enc_round_trip": {
         "proofs/RoundTripLemmas.antt": [Rows("codecs", "CD", own=GB18030_TWICE)],

@@ -11,7 +11,7 @@ use Rattle.enc_encoder.specs.Steps.{first_written_char}
 use Rattle.enc_encoder.specs.Need.{AreEnoughForEncoder}
 use Rattle.enc_encode.specs.Iso2022Jp.{iso_2022_jp_encoder_rule, iso_2022_jp_bytes, iso_2022_jp_encoder_state}
 use Rattle.enc_encoder.proofs.SizeLemmas.{size}
-use Rattle.enc_encode.proofs.FourByteLemmas.{most_iso_2022_jp, most_ascii_iso_2022_jp}
+use Rattle.enc_encode.proofs.Iso2022JpLemmas.{most_iso_2022_jp, most_ascii_iso_2022_jp}
 use Rattle.enc_encoder.specs.Barring.{barring_rule}
 use Rattle.enc_encoder.proofs.BarringLemmas.{fewer}
 use Rattle.enc_encoder.proofs.EnoughLemmas.{within_utf_8, within_utf_16, bounded, three_before}

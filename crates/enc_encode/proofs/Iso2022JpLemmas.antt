@@ -1,5 +1,6 @@
--- The sets of ISO-2022-JP, read backward and carried forward.
-use Rattle.std.proofs.Common.{◌≡◌, ℕ, ◌<◌, Bool, true, false, ◌==◌, ◌||◌, nat_lt, Option, Some, None, List}
+-- The rule of ISO-2022-JP is lawful: its sets, read backward and carried forward, and two bytes at
+-- most.
+use Rattle.std.proofs.Common.{◌≡◌, ℕ, ◌<◌, ◌≤◌, Bool, true, false, ◌==◌, ◌||◌, nat_lt, Option, Some, None, List}
 use Rattle.std.proofs.Common.{[], ◌∷◌, ◌++◌, reverse, refl, ap, ◌∙◌, sym, arith, if◌then◌else◌}
 use Rattle.std.proofs.lemmas.List.{reverse-append}
 use Rattle.std.proofs.lemmas.Bool.Decides.{nat_tests}
@@ -10,8 +11,9 @@ use Rattle.enc_encode.specs.declared.encoders.iso_2022_jp.CharClass.TheVariants 
 use Rattle.enc_encoder.specs.EncoderRule.{IsLawfulEncoderRule, IsReferenceCharacter, set_for}
 use Rattle.enc_encode.specs.Iso2022Jp.{class_of, has_class, set_of_class, last_class_after, last_non_neutral_class}
 use Rattle.enc_encode.specs.Iso2022Jp.{stays_in_roman, set_after_class, set_after_reversed, is_shift, iso_2022_jp_bytes}
-use Rattle.enc_encode.specs.Iso2022Jp.{iso_2022_jp_encoder_rule}
-use Rattle.enc_encode.proofs.FourByteLemmas.{few_iso_2022_jp}
+use Rattle.enc_encode.specs.Iso2022Jp.{lookup_char, jis0208_pair_bytes, iso_2022_jp_encoder_rule}
+use Rattle.enc_index_pointers.specs.Pointers.{jis0208_pointer}
+use Rattle.enc_encoder.proofs.SizeLemmas.{size, up_to_if, up_to_by, few_if_up_to}
 
 is_roman : CharacterSet → Bool
 is_roman Ascii = false
@@ -112,6 +114,21 @@ itself c r =
     let is_low : nat_lt c 0x80 ≡ true = grind (arith, nat_tests) in
     rw (is_low, not_shift) refl
 
+-- at most two bytes, and of ASCII one
+
+pub most_iso_2022_jp : (c : ℕ) → size (iso_2022_jp_bytes c) ≤ 2
+most_iso_2022_jp c =
+    up_to_if 2 (nat_lt c 0x80) _ _
+    (up_to_if 2 (is_shift c) None (Some (c ∷ [])) (omega arith) (omega arith))
+    (up_to_if 2 (c == 0xA5) (Some (0x5C ∷ [])) _ (omega arith)
+    (up_to_if 2 (c == 0x203E) (Some (0x7E ∷ [])) _ (omega arith)
+    (up_to_by 2 jis0208_pair_bytes (jis0208_pointer (lookup_char c)) (λ n. omega arith))))
+
+pub most_ascii_iso_2022_jp : (c : ℕ) → c < 0x80 → size (iso_2022_jp_bytes c) ≤ 1
+most_ascii_iso_2022_jp c l =
+    let low : nat_lt c 0x80 ≡ true = grind (arith, nat_tests) in
+    rw low (up_to_if 1 (is_shift c) None (Some (c ∷ [])) (omega arith) (omega arith))
+
 pub iso_2022_jp_is_lawful : IsLawfulEncoderRule iso_2022_jp_encoder_rule
 iso_2022_jp_is_lawful = record {
   designates = λ c. own (class_of c);
@@ -119,5 +136,5 @@ iso_2022_jp_is_lawful = record {
   set_after_more = set_after_more;
   references = itself;
   one_set = λ s c r. ap (has_class s) (neutral c r);
-  few = few_iso_2022_jp;
+  few = λ c. few_if_up_to 2 (iso_2022_jp_bytes c) (omega arith) (most_iso_2022_jp c);
 }

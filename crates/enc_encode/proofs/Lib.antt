@@ -1,9 +1,7 @@
-pub mod FourByteLemmas
-pub mod RepertoireLemmas
+pub mod RepertoireLaws
 pub mod Iso2022JpLemmas
 pub mod Iso2022JpEnough
 mod KatakanaLemmas
 mod UnitByteLemmas
 pub mod PrivateUseLemmas
-pub mod LawfulLemmas
-pub mod EnoughLemmas
+pub mod EncoderLaws

@@ -1,6 +1,7 @@
--- The rule of each encoding's encoder, if it has one (Encoding Standard 4.3, "get an encoder").
+-- The rule and the formulas of each encoding's encoder, if it has one (Encoding Standard 4.3, "get an
+-- encoder").
 -- Rows by codec are written by scripts/make-codecs from data/codecs.txt.
-use Rattle.std.specs.Prelude.{true, false, Option, Some, None}
+use Rattle.std.specs.Prelude.{ℕ, true, false, Option, Some, None, List, option_map}
 use Rattle.enc_index.specs.declared.codec.Codec.{Codec}
 use Rattle.enc_index.specs.declared.codec.Codec.TheVariants.{Utf8, Utf16Be, Utf16Le, SingleByte, Big5, EucKr, ShiftJis}
 use Rattle.enc_index.specs.declared.codec.Codec.TheVariants.{EucJp, Gbk, Gb18030, Iso2022Jp, XUserDefined, Replacement}
@@ -17,34 +18,44 @@ use Rattle.enc_encode.specs.EucJp.{euc_jp_bytes}
 use Rattle.enc_encode.specs.Gb18030.{gb18030_bytes}
 use Rattle.enc_encode.specs.Iso2022Jp.{iso_2022_jp_encoder_rule}
 
--- If a caller bars the characters b, the rule is `barring_rule b` of this.
-abbrev pub encoder_rule : Codec → Option EncoderRule
-encoder_rule Utf8 = Some (stateless_rule utf_8_bytes)
-encoder_rule Utf16Be = None
-encoder_rule Utf16Le = None
-encoder_rule (SingleByte index) = Some (stateless_rule (single_byte_bytes index))
-encoder_rule Big5 = Some (stateless_rule big5_bytes)
-encoder_rule EucKr = Some (stateless_rule euc_kr_bytes)
-encoder_rule ShiftJis = Some (stateless_rule shift_jis_bytes)
-encoder_rule EucJp = Some (stateless_rule euc_jp_bytes)
-encoder_rule Gbk = Some (stateless_rule (gb18030_bytes true))
-encoder_rule Gb18030 = Some (stateless_rule (gb18030_bytes false))
-encoder_rule XUserDefined = Some (stateless_rule x_user_defined_bytes)
-encoder_rule Replacement = None
-encoder_rule Iso2022Jp = Some iso_2022_jp_encoder_rule
+-- the rule of an encoder, and its formulas for lengths to allocate
+pub record EncoderFacts : Type 0 where
+  pub rule : EncoderRule
+  pub formulas : ByteLengths
 
--- The formulas for lengths to allocate. Without an encoder the output encoding is UTF-8.
+-- without escape sequences: the formulas, and the bytes of each character
+abbrev pub stateless_facts : ByteLengths → (ℕ → Option (List ℕ)) → EncoderFacts
+stateless_facts formulas bytes = record { rule = stateless_rule bytes; formulas = formulas }
+
+-- the facts of a codec's encoder, if it has one
+abbrev pub encoder_facts : Codec → Option EncoderFacts
+encoder_facts Utf8 = Some (stateless_facts lengths.Utf8 utf_8_bytes)
+encoder_facts Utf16Be = None
+encoder_facts Utf16Le = None
+encoder_facts (SingleByte index) = Some (stateless_facts lengths.OneByte (single_byte_bytes index))
+encoder_facts Big5 = Some (stateless_facts lengths.TwoBytes big5_bytes)
+encoder_facts EucKr = Some (stateless_facts lengths.TwoBytes euc_kr_bytes)
+encoder_facts ShiftJis = Some (stateless_facts lengths.TwoBytes shift_jis_bytes)
+encoder_facts EucJp = Some (stateless_facts lengths.TwoBytes euc_jp_bytes)
+encoder_facts Gbk = Some (stateless_facts lengths.TwoBytes (gb18030_bytes true))
+encoder_facts Gb18030 = Some (stateless_facts lengths.Gb18030 (gb18030_bytes false))
+encoder_facts XUserDefined = Some (stateless_facts lengths.OneByte x_user_defined_bytes)
+encoder_facts Replacement = None
+encoder_facts Iso2022Jp = Some (record { rule = iso_2022_jp_encoder_rule; formulas = lengths.Iso2022Jp })
+
+-- The rule alone. If a caller bars the characters b, the rule is `barring_rule b` of this.
+abbrev pub encoder_rule : Codec → Option EncoderRule
+encoder_rule c = option_map (λ (f : EncoderFacts). f.rule) (encoder_facts c)
+
+-- facts, or UTF-8's if there are none
+abbrev pub facts_or_utf_8 : Option EncoderFacts → EncoderFacts
+facts_or_utf_8 None = stateless_facts lengths.Utf8 utf_8_bytes
+facts_or_utf_8 (Some f) = f
+
+-- the facts of the output encoding: UTF-8's if the codec has no encoder
+abbrev pub output_facts : Codec → EncoderFacts
+output_facts c = facts_or_utf_8 (encoder_facts c)
+
+-- the formulas for lengths to allocate in the output encoding
 abbrev pub encoder_lengths : Codec → ByteLengths
-encoder_lengths Utf8 = lengths.Utf8
-encoder_lengths Utf16Be = lengths.Utf8
-encoder_lengths Utf16Le = lengths.Utf8
-encoder_lengths (SingleByte index) = lengths.OneByte
-encoder_lengths Big5 = lengths.TwoBytes
-encoder_lengths EucKr = lengths.TwoBytes
-encoder_lengths ShiftJis = lengths.TwoBytes
-encoder_lengths EucJp = lengths.TwoBytes
-encoder_lengths Gbk = lengths.TwoBytes
-encoder_lengths Gb18030 = lengths.Gb18030
-encoder_lengths XUserDefined = lengths.OneByte
-encoder_lengths Replacement = lengths.Utf8
-encoder_lengths Iso2022Jp = lengths.Iso2022Jp
+encoder_lengths c = (output_facts c).formulas

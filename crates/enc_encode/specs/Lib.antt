@@ -11,4 +11,5 @@ pub mod PrivateUse
 pub mod Gb18030
 pub mod Iso2022Jp
 pub mod Encoders
+pub mod EncoderLaws
 pub mod Variant

@@ -5,7 +5,8 @@ use Rattle.std.proofs.lemmas.Bool.Decides.{nat_tests}
 use Rattle.enc_encoder.specs.declared.byte_lengths.ByteLengths.{ByteLengths}
 use Rattle.enc_encoder.specs.declared.character_set.CharacterSet.TheVariants.{Ascii}
 use Rattle.enc_encoder.specs.EncoderRule.{EncoderRule, RawEncoderState, IsLawfulEncoderRule, AreAtMostFour}
-use Rattle.enc_encoder.specs.Stateless.{WritesAscii, WritesAtMostFour, KeepsLengths, stateless_rule, stateless_state}
+use Rattle.enc_encoder.specs.Stateless.{WritesAscii, WritesAtMostFour, KeepsLengths, IsLawfulRepertoire}
+use Rattle.enc_encoder.specs.Stateless.{stateless_rule, stateless_state}
 use Rattle.enc_encoder.specs.Barring.{contains_char, is_barred, are_beyond_ascii, bytes_unless_barred, barring_rule}
 use Rattle.enc_encoder.proofs.SizeLemmas.{size}
 use Rattle.enc_encoder.proofs.StatelessLemmas.{of_references_is_ascii}
@@ -46,6 +47,14 @@ pub except_keeps : (b : List ℕ) (lengths : ByteLengths) (bytes : ℕ → Optio
 except_keeps b lengths bytes keeps_lengths = record {
   by_utf_8 = λ c. omega (arith, fewer b bytes c, keeps_lengths.by_utf_8 c);
   by_utf_16 = λ c. omega (arith, fewer b bytes c, keeps_lengths.by_utf_16 c);
+}
+
+pub except_is_lawful : (b : List ℕ) (lengths : ByteLengths) (bytes : ℕ → Option (List ℕ))
+    → IsLawfulRepertoire lengths bytes → IsLawfulRepertoire lengths (bytes_unless_barred b bytes)
+except_is_lawful b lengths bytes laws = record {
+  ascii = except_writes_ascii b bytes laws.ascii;
+  few = except_writes_few b bytes laws.few;
+  lengths = except_keeps b lengths bytes laws.lengths;
 }
 
 -- of the rule of any encoding

@@ -26,13 +26,6 @@ pub up_to_ascii : (n : ℕ) (others : ℕ → Option (List ℕ)) (c : ℕ) → 1
 up_to_ascii n others c l h =
     up_to_if n (nat_lt c 0x80) (Some (c ∷ [])) (others c) (omega (arith, l)) h
 
--- ASCII, and all others by a pointer
-pub up_to_by_pointer : (n : ℕ) (pair : ℕ → List ℕ) (pointer : ℕ → Option ℕ) (c : ℕ) → 1 ≤ n
-    → ((i : ℕ) → length (pair i) ≤ n)
-    → size (with_ascii (λ c. bytes_of_pointer pair (pointer c)) c) ≤ n
-up_to_by_pointer n pair pointer c l h = up_to_ascii n (λ c. bytes_of_pointer pair (pointer c)) c l
-    (up_to_by n pair (pointer c) h)
-
 -- no more than four
 
 pub few_if_up_to : (n : ℕ) (b : Option (List ℕ)) → n ≤ 4 → size b ≤ n → AreAtMostFour b

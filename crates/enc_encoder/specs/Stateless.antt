@@ -40,6 +40,12 @@ pub record KeepsLengths (lengths : ByteLengths) (bytes : ℕ → Option (List �
       → length (list_or_empty (bytes c))
       ≤ max_bytes_per_utf_16_unit lengths * length (encode_utf16 c)
 
+-- the law of a repertoire, which each encoding without escape sequences keeps
+pub record IsLawfulRepertoire (formulas : ByteLengths) (bytes : ℕ → Option (List ℕ)) : Type 0 where
+  pub ascii : WritesAscii bytes
+  pub few : WritesAtMostFour bytes
+  pub lengths : KeepsLengths formulas bytes
+
 -- ASCII as itself, and all other characters by `others`
 abbrev pub with_ascii : (ℕ → Option (List ℕ)) → ℕ → Option (List ℕ)
 with_ascii others c = if nat_lt c 0x80 then Some (c ∷ []) else others c

@@ -109,7 +109,7 @@ impl<R: Repertoire> Repertoire for Barring<R> {
         self.repertoire.byte_lengths()
     }
 
-    #[tactic(auto, using(crate::proofs::BarringLemmas::except_writes_ascii, crate::proofs::BarringLemmas::except_writes_few, crate::proofs::BarringLemmas::except_keeps))]
+    #[tactic(auto, using(crate::proofs::BarringLemmas::except_is_lawful))]
     fn laws(self) {
         self.repertoire.laws();
     }

@@ -2,7 +2,7 @@
 
 ghost use Rattle.std.specs.Prelude.{◌≡◌, ◌<◌, ◌≤◌, ℕ, Option, Some, List, [], ◌∷◌};
 ghost use Rattle.enc_encoder.specs.CharLaw.{AreBytesOf};
-ghost use Rattle.enc_encoder.specs.Stateless.{WritesAscii, WritesAtMostFour, KeepsLengths};
+ghost use Rattle.enc_encoder.specs.Stateless.{IsLawfulRepertoire};
 ghost use Rattle.enc_encoder.specs.declared.byte_lengths.ByteLengths.{ByteLengths};
 
 use crate::barring::Barring;
@@ -58,9 +58,7 @@ pub trait Repertoire: Copy {
     /// ASCII is written as itself, and no character has more than four bytes, or more than the
     /// formulas have for its code units.
     fn laws(self)
-        ensures ascii { WritesAscii (bytes_for self) }
-        ensures few { WritesAtMostFour (bytes_for self) }
-        ensures lengths { KeepsLengths (lengths self) (bytes_for self) };
+        ensures { IsLawfulRepertoire (lengths self) (bytes_for self) };
 }
 
 /// The encoder of an encoding without escape sequences. It keeps nothing between two calls.

@@ -7,9 +7,7 @@ use Rattle.std.proofs.Math.Seq.{drop-append_seam}
 use Rattle.enc_encoder.specs.EncoderRule.{EncoderRule, RawEncoderState, is_escape_due}
 use Rattle.enc_encoder.specs.Barring.{barring_rule}
 use Rattle.enc_encoder.specs.Stateless.{WritesAscii}
-use Rattle.enc_encoder.proofs.StatelessLemmas.{with_ascii_writes_ascii}
 use Rattle.enc_encoder.proofs.BarringLemmas.{except_writes_ascii}
-use Rattle.enc_encode.proofs.RepertoireLemmas.{utf_8_writes_ascii}
 use Rattle.enc_index.specs.declared.codec.Codec.{Codec}
 use Rattle.enc_index.specs.declared.codec.Codec.TheVariants as codec
 use Rattle.enc_codec.specs.Codecs.{codec_facts}
@@ -20,7 +18,9 @@ use Rattle.enc_units.specs.declared.encoder_result.EncoderResult.TheVariants.{In
 use Rattle.enc_encoder.specs.Steps.{Step}
 use Rattle.enc_encoder.specs.ErrorMode.{EncodeErrorMode, Fatal, Html, MapsEveryCharacter, EncoderCallInMode}
 use Rattle.enc_encoder.specs.ErrorMode.{StopsInMode, is_nothing_left}
-use Rattle.enc_encode.specs.Encoders.{encoder_rule}
+use Rattle.enc_encode.specs.Encoders.{EncoderFacts, encoder_facts, encoder_rule, facts_or_utf_8, output_facts}
+use Rattle.enc_encode.specs.EncoderLaws.{StaysInAscii}
+use Rattle.enc_encode.proofs.EncoderLaws.{encoder_laws}
 use Rattle.enc_names.specs.declared.encoding_id.EncodingId.{EncodingId}
 use Rattle.enc_names.specs.declared.encoding_id.EncodingId.TheVariants.{Utf8}
 use Rattle.enc_stream.specs.declared.encoding.Encoding.{Encoding}
@@ -66,35 +66,39 @@ maps_all [] e rule r h =
     subst MapsEveryCharacter (sym (r ∙ ap rule_by_id (utf_8_has e.id h))) (λ c. refl)
 maps_all (x ∷ b) e rule r h = cc
 
--- An ASCII-compatible encoding writes each ASCII character as itself, and has no escape sequence.
+-- An encoding writes by the rule of its facts.
 
-record WritesAsciiPlainly (rule : EncoderRule) : Type 0 where
-  pub bytes : WritesAscii rule.bytes
-  pub set : (c : ℕ) → rule.has Ascii c ≡ true
+rule_of_found : (found : Option EncoderFacts)
+    → (facts_or_utf_8 found).rule
+    ≡ rule_or_utf_8 (option_map (λ (facts : EncoderFacts). facts.rule) found)
+rule_of_found None = refl
+rule_of_found (Some facts) = refl
 
-writes_ascii : (c : Codec) → (codec_facts c).ascii_compatible ≡ true
-    → WritesAsciiPlainly (rule_or_utf_8 (encoder_rule c))
-writes_ascii codec.Utf8 h = record { bytes = utf_8_writes_ascii; set = λ c. refl }
-writes_ascii codec.Utf16Be h = cc
-writes_ascii codec.Utf16Le h = cc
-writes_ascii codec.Replacement h = cc
-writes_ascii codec.Iso2022Jp h = cc
-writes_ascii _ h = record { bytes = with_ascii_writes_ascii _; set = λ c. refl }
+pub rule_of_facts : (c : Codec) → (output_facts c).rule ≡ rule_or_utf_8 (encoder_rule c)
+rule_of_facts c = rule_of_found (encoder_facts c)
+
+-- An ASCII-compatible encoding has no escape sequence, and writes each ASCII character as itself.
+
+stays_in_ascii : (c : Codec) → (codec_facts c).ascii_compatible ≡ true
+    → StaysInAscii (output_facts c).rule
+stays_in_ascii codec.Iso2022Jp compatible = cc
+stays_in_ascii _ compatible = λ c. refl
 
 module _ (encoding : Encoding) (compatible : is_ascii_compatible encoding ≡ true) where
-  plainly : WritesAsciiPlainly (rule_by_id encoding.id)
-  unfolding rule_by_id
-  plainly = writes_ascii (codec_by_id encoding.id) (listed_ascii encoding.id ∙ compatible)
+  stays : StaysInAscii (output_facts (codec_by_id encoding.id)).rule
+  stays = stays_in_ascii (codec_by_id encoding.id) (listed_ascii encoding.id ∙ compatible)
 
   pub ascii_bytes : (b : List ℕ) → WritesAscii (output_rule b encoding).bytes
-  unfolding rule_by_id
   ascii_bytes b =
-      except_writes_ascii b (rule_or_utf_8 (encoder_rule (codec_by_id encoding.id))).bytes
-      plainly.bytes
+      let of_encoding = codec_by_id encoding.id in
+      except_writes_ascii b (rule_or_utf_8 (encoder_rule of_encoding)).bytes
+      (subst (λ (rule : EncoderRule). WritesAscii rule.bytes) (rule_of_facts of_encoding)
+      ((encoder_laws of_encoding).ascii stays))
 
   pub ascii_set : (b : List ℕ) (c : ℕ) → (output_rule b encoding).has Ascii c ≡ true
-  unfolding rule_by_id
-  ascii_set b c = plainly.set c
+  ascii_set b c =
+      subst (λ (rule : EncoderRule). rule.has Ascii c ≡ true)
+      (rule_of_facts (codec_by_id encoding.id)) (stays c)
 
 -- a call that has ended the text leaves ASCII designated
 

@@ -11,15 +11,13 @@ use Rattle.enc_encoder.specs.EncoderRule.{EncoderRule, RawEncoderState}
 use Rattle.enc_encoder.specs.Lengths.{from_utf_8_length, from_utf_16_length}
 use Rattle.enc_encoder.specs.Need.{AreEnoughForEncoder}
 use Rattle.enc_encoder.specs.Steps.{step_chars}
-use Rattle.enc_encoder.specs.Stateless.{KeepsLengths}
 use Rattle.enc_encoder.specs.Barring.{barring_rule}
-use Rattle.enc_encode.specs.Utf8.{utf_8_bytes}
 use Rattle.enc_encoder.proofs.EnoughLemmas.{plus_is}
-use Rattle.enc_encode.proofs.RepertoireLemmas.{keeps_utf_8}
 use Rattle.enc_encode.specs.declared.variant.VariantEncoder.{VariantEncoder}
 use Rattle.enc_encode.specs.Encoders.{encoder_rule, encoder_lengths}
 use Rattle.enc_encode.specs.Variant.{variant_encoder_state}
-use Rattle.enc_encode.proofs.EnoughLemmas.{IsEnoughIfAny, enough_if_any, by_lengths}
+use Rattle.enc_encode.proofs.EncoderLaws.{enough_of}
+use Rattle.enc_stream.proofs.EncoderLemmas.{rule_of_facts}
 use Rattle.enc_encoder.specs.ErrorMode.{Fatal}
 use Rattle.enc_encoder.proofs.NeedInModeLemmas.{reporting_meets_need, reads_all}
 use Rattle.enc_stream.specs.Encodings.{rule_or_utf_8}
@@ -57,22 +55,7 @@ into_by_need {units_of} {old} {new} {src} {last} {before} {after} {result} {read
     subst (λ (n : ℕ). EncodesByNeed units_of old new src last (length before) result read n) count
     (by_need made.encodes)
 
--- the lengths of the encoding that is written, which is UTF-8 where it has no encoder, are enough
-or_enough : (b : List ℕ) (lengths : ByteLengths) (found : Option EncoderRule)
-    → IsEnoughIfAny lengths found
-    → (v : VariantEncoder) → (variant_encoder_state v).rule ≡ barring_rule b (rule_or_utf_8 found)
-    → AreEnoughForEncoder lengths (variant_encoder_state v)
-or_enough b lengths None of_utf_8 v rule_is =
-    by_lengths lengths utf_8_bytes
-    (subst (λ (x : ByteLengths). KeepsLengths x utf_8_bytes) (sym of_utf_8) keeps_utf_8) b v rule_is
-or_enough b lengths (Some rule) enough v rule_is = enough b v rule_is
-
 -- the length that a query answers is enough for its calls
-
-with_rule : (v : RawEncoderState) (rule : EncoderRule) → v.rule ≡ rule
-    → v ≡ record { rule = rule; set = v.set }
-with_rule v rule r = let made : EncoderRule
-    → RawEncoderState = λ e. record { rule = e; set = v.set } in ap made r
 
 pub enough_in : (b : List ℕ) (c : Codec) (v : VariantEncoder)
     → (variant_encoder_state v).rule ≡ barring_rule b (rule_or_utf_8 (encoder_rule c))
@@ -81,9 +64,12 @@ pub enough_in : (b : List ℕ) (c : Codec) (v : VariantEncoder)
       set = (variant_encoder_state v).set;
     })
 enough_in b c v rule_is =
-    subst (AreEnoughForEncoder (encoder_lengths c))
-    (with_rule (variant_encoder_state v) (barring_rule b (rule_or_utf_8 (encoder_rule c))) rule_is)
-    (or_enough b (encoder_lengths c) (encoder_rule c) (enough_if_any c) v rule_is)
+    let of_rule : EncoderRule → RawEncoderState = λ rule. record {
+      rule = barring_rule b rule;
+      set = (variant_encoder_state v).set;
+    } in
+    subst (λ rule. AreEnoughForEncoder (encoder_lengths c) (of_rule rule)) (rule_of_facts c)
+    (enough_of b c v (rule_is ∙ ap (barring_rule b) (sym (rule_of_facts c))))
 
 module _ (lengths : ByteLengths) (v : EncoderState)
     (enough : AreEnoughForEncoder lengths (raw_state v)) (n : ℕ) where

@@ -1,32 +1,25 @@
 -- Texts with references in the place of unmappable characters.
 use Rattle.std.proofs.Common.{◌≡◌, ℕ, false, not, ◌||◌, is_some, Option, Some, None, List, [], ◌∷◌, ◌++◌, inl, refl, ap}
-use Rattle.std.proofs.Common.{sym, ◌∙◌, append_assoc}
+use Rattle.std.proofs.Common.{sym, ◌∙◌, append_assoc, subst}
 use Rattle.enc_encoder.specs.EncoderRule.{EncoderRule, IsLawfulEncoderRule}
 use Rattle.enc_encoder.specs.Text.{reference, with_reference, with_references}
-use Rattle.enc_encode.specs.Utf8.{utf_8_bytes}
-use Rattle.enc_encoder.proofs.StatelessLemmas.{stateless_is_lawful}
-use Rattle.enc_encode.proofs.RepertoireLemmas.{utf_8_writes_ascii}
-use Rattle.enc_encode.proofs.FourByteLemmas.{few_utf_8}
 use Rattle.enc_encoder.proofs.BarringLemmas.{barring_is_lawful}
 use Rattle.enc_encoder.proofs.TextLemmas.{AreOfReferences, reference_is}
 use Rattle.enc_encode.specs.Encoders.{encoder_rule}
-use Rattle.enc_encode.proofs.LawfulLemmas.{IsLawfulIfAny, lawful_if_any}
+use Rattle.enc_encode.proofs.EncoderLaws.{encoder_laws}
 use Rattle.enc_encoder.specs.Unmappable.{any_unmappable}
 use Rattle.enc_encoder.proofs.UnmappableLemmas.{any_unmappable-append}
 use Rattle.enc_stream.specs.declared.encoding.Encoding.{Encoding}
 use Rattle.enc_names.specs.EncodingTable.{codec_by_id}
 use Rattle.enc_stream.specs.Encodings.{rule_or_utf_8, output_rule}
-
-or_lawful : (found : Option EncoderRule) → IsLawfulIfAny found
-    → IsLawfulEncoderRule (rule_or_utf_8 found)
-or_lawful None h = stateless_is_lawful utf_8_bytes utf_8_writes_ascii few_utf_8
-or_lawful (Some e) h = h
+use Rattle.enc_stream.proofs.EncoderLemmas.{rule_of_facts}
 
 -- what holds of the rule of every encoder, whatever is barred
 pub lawful_of : (b : List ℕ) (e : Encoding) → IsLawfulEncoderRule (output_rule b e)
 lawful_of b e =
-    barring_is_lawful b (rule_or_utf_8 (encoder_rule (codec_by_id e.id)))
-    (or_lawful (encoder_rule (codec_by_id e.id)) (lawful_if_any (codec_by_id e.id)))
+    let codec = codec_by_id e.id in
+    barring_is_lawful b (rule_or_utf_8 (encoder_rule codec))
+    (subst IsLawfulEncoderRule (rule_of_facts codec) (encoder_laws codec).lawful)
 
 with_references-append : (e : EncoderRule) (a b : List ℕ)
     → with_references e (a ++ b) ≡ with_references e a ++ with_references e b

@@ -54,6 +54,6 @@ impl Repertoire for Big5 {
         ByteLengths::TwoBytes
     }
 
-    #[tactic(auto, using(enc_encoder::proofs::StatelessLemmas::with_ascii_writes_ascii, crate::proofs::FourByteLemmas::few_big5, crate::proofs::RepertoireLemmas::keeps_big5))]
+    #[tactic(auto, using(crate::proofs::RepertoireLaws::big5))]
     fn laws(self) {}
 }

@@ -55,6 +55,6 @@ impl Repertoire for EucJp {
         ByteLengths::TwoBytes
     }
 
-    #[tactic(auto, using(enc_encoder::proofs::StatelessLemmas::with_ascii_writes_ascii, crate::proofs::FourByteLemmas::few_euc_jp, crate::proofs::RepertoireLemmas::keeps_euc_jp))]
+    #[tactic(auto, using(crate::proofs::RepertoireLaws::euc_jp))]
     fn laws(self) {}
 }

@@ -44,6 +44,6 @@ impl Repertoire for EucKr {
         ByteLengths::TwoBytes
     }
 
-    #[tactic(auto, using(enc_encoder::proofs::StatelessLemmas::with_ascii_writes_ascii, crate::proofs::FourByteLemmas::few_euc_kr, crate::proofs::RepertoireLemmas::keeps_euc_kr))]
+    #[tactic(auto, using(crate::proofs::RepertoireLaws::euc_kr))]
     fn laws(self) {}
 }

@@ -147,6 +147,5 @@ impl Repertoire for Gb18030 {
         }
     }
 
-    #[tactic(auto, using(enc_encoder::proofs::StatelessLemmas::with_ascii_writes_ascii, crate::proofs::FourByteLemmas::few_gb18030, crate::proofs::RepertoireLemmas::keeps_gb18030))]
     fn laws(self) {}
 }

@@ -77,6 +77,6 @@ impl Repertoire for ShiftJis {
         ByteLengths::TwoBytes
     }
 
-    #[tactic(auto, using(enc_encoder::proofs::StatelessLemmas::with_ascii_writes_ascii, crate::proofs::FourByteLemmas::few_shift_jis, crate::proofs::RepertoireLemmas::keeps_shift_jis))]
+    #[tactic(auto, using(crate::proofs::RepertoireLaws::shift_jis))]
     fn laws(self) {}
 }

@@ -59,6 +59,5 @@ impl Repertoire for SingleByte {
         ByteLengths::OneByte
     }
 
-    #[tactic(auto, using(enc_encoder::proofs::StatelessLemmas::with_ascii_writes_ascii, crate::proofs::FourByteLemmas::few_single_byte, crate::proofs::RepertoireLemmas::keeps_single_byte))]
     fn laws(self) {}
 }

@@ -42,6 +42,6 @@ impl Repertoire for Utf8 {
         ByteLengths::Utf8
     }
 
-    #[tactic(auto, using(crate::proofs::RepertoireLemmas::utf_8_writes_ascii, crate::proofs::FourByteLemmas::few_utf_8, crate::proofs::RepertoireLemmas::keeps_utf_8))]
+    #[tactic(auto, using(crate::proofs::RepertoireLaws::utf_8))]
     fn laws(self) {}
 }

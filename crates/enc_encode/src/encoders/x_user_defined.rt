@@ -31,6 +31,6 @@ impl Repertoire for XUserDefined {
         ByteLengths::OneByte
     }
 
-    #[tactic(auto, using(enc_encoder::proofs::StatelessLemmas::with_ascii_writes_ascii, crate::proofs::FourByteLemmas::few_x_user_defined, crate::proofs::RepertoireLemmas::keeps_x_user_defined))]
+    #[tactic(auto, using(crate::proofs::RepertoireLaws::x_user_defined))]
     fn laws(self) {}
 }
