@@ -1,4 +1,5 @@
--- The sequences of UTF-8 at a place, by the bytes there: characters, and malformed ones with U+FFFD.
+-- The sequences of UTF-8 at a place, by the bytes there: characters, and malformed ones with
+-- U+FFFD.
 use Rattle.std.proofs.Common.{◌≡◌, ℕ, ◌+◌, ◌<◌, ◌≤◌, true, false, List, [], ◌∷◌, length, get_or, arith, nat_le}
 use Rattle.std.proofs.lemmas.Bool.Decides.{nat_tests}
 use Rattle.enc_decoder.specs.declared.byte_codec.Kind.TheVariants.{Valid, Malformed}
