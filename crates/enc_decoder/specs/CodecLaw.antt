@@ -73,7 +73,7 @@ IsNextAtEnd state c None = (state c).pending ≡ []
 IsNextAtEnd state c (Some s) = IsNextSequence state c (λ y. y ≡ []) [] s × (s.takes_byte ≡ false)
 
 -- the bytes that may follow the first `read` bytes of `src`: if it has a byte there, they begin
--- with that
+-- with that byte
 abbrev pub MayFollow : List ℕ → ℕ → List ℕ → Type 0
 MayFollow src read y = read < length src → BeginsWithByte (slice_index src read) y
 

@@ -26,11 +26,11 @@ fn replace_some<C: ByteCodec, U: Units>(codec: C, src: &[u8], out: &mut U) -> us
         let Some((character, len)) = codec.replaced_char(src, at) else {
             return at;
         };
+        calm = if character == '\u{FFFD}' { 0 } else { calm + 1 };
         if !out.put(character) {
             return at;
         }
         at += len;
-        calm = if character == '\u{FFFD}' { 0 } else { calm + 1 };
     }
     at
 }

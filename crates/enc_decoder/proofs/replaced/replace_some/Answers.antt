@@ -18,10 +18,3 @@ loop-at-preserved g c =
     let was_put = c.if-not-put.false in
     one_more _ c.requires c.loop-at.invariant found.some found.within found.first (search rules)
     (sym c.put.ensures.fits ∙ was_put) (c.put.ensures.written was_put)
-
-pub loop-at-preserved-then-character-eq65533 : goal.loop-at-preserved-then-character-eq65533
-loop-at-preserved-then-character-eq65533 g c =
-    let found = c.in-Some.ensures in
-    let was_put = c.if-not-put.false in
-    one_more _ c.requires c.loop-at.invariant found.some found.within found.first (search rules)
-    (sym c.put.ensures.fits ∙ was_put) (c.put.ensures.written was_put)
