@@ -1,12 +1,12 @@
 -- Two bytes have the place of their character in the grid of jis0208.
-use Rattle.std.proofs.Common.{◌≡◌, ◌∙◌, ℕ, ◌+◌, ◌-◌, ◌*◌, ◌/◌, ◌%◌, ◌^◌, ◌<◌, ◌==◌, Bool, true, false, cond, Some}
-use Rattle.std.proofs.Common.{None, refl, ap}
+use Rattle.std.proofs.Common.{◌≡◌, ◌∙◌, ℕ, ◌+◌, ◌-◌, ◌*◌, ◌<◌, ◌==◌, true, false, cond, Some}
+use Rattle.std.proofs.Common.{None, ap}
 use Rattle.std.proofs.Common.{sym, subst, arith, replicate}
 use Rattle.std.proofs.lemmas.Bool.{cond-true}
 use Rattle.std.proofs.lemmas.Bool.Decides.{nat_tests}
 use Rattle.std.proofs.lemmas.Simd.{bit_mask_l, get_or-replicate}
 use Rattle.enc_index.specs.declared.grid.Grid.TheVariants.{Jis0208}
-use Rattle.enc_index.specs.Grid.{grid_char, grid_len, IsPlaceOf}
+use Rattle.enc_index.specs.Grid.{grid_char, IsPlaceOf}
 use Rattle.enc_index.specs.Runs.{jis0208_at}
 use Rattle.enc_index.proofs.PlaceLemmas.{row_place, column_place, found, places_of}
 use Rattle.enc_units.specs.Pairs.{byte_or_pair}

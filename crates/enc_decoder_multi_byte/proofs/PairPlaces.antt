@@ -7,7 +7,7 @@ use Rattle.std.proofs.lemmas.Bool.{cond-true, cond-false, ne_eqb}
 use Rattle.std.proofs.lemmas.Bool.Decides.{nat_tests}
 use Rattle.enc_decoder.specs.declared.byte_codec.Text.TheVariants.{One}
 use Rattle.enc_index.specs.declared.grid.Grid.TheVariants.{EucKr, Gb18030, Big5, Jis0208}
-use Rattle.enc_index.specs.Grid.{grid_char, grid_len, IsPlaceOf}
+use Rattle.enc_index.specs.Grid.{grid_char, IsPlaceOf}
 use Rattle.enc_index.specs.Runs.{runs_of, euc_kr_at, gb18030_at, big5_at, jis0208_at}
 use Rattle.enc_index.proofs.PlaceLemmas.{row_place, column_place, found, some_none}
 use Rattle.enc_units.specs.Places.{number_in}

@@ -1,5 +1,5 @@
 -- The byte of a character below U+0800 in a legacy single-byte encoding.
-use Rattle.std.proofs.Common.{◌≡◌, ℕ, ◌+◌, ◌-◌, ◌<◌, ◌≤◌, Some, List, [], ◌∷◌, ap, ◌∙◌, sym, arith}
+use Rattle.std.proofs.Common.{◌≡◌, ℕ, ◌+◌, ◌-◌, ◌<◌, ◌≤◌, Some, [], ◌∷◌, ap, ◌∙◌, sym, arith}
 use Rattle.std.proofs.Common.{lt-ltb, le-ltb, inl, inr}
 use Rattle.std.proofs.lemmas.Bool.{cond-true, cond-false, cases_lt}
 use Rattle.enc_index.specs.declared.single_byte_index.SingleByteIndex.{SingleByteIndex}
