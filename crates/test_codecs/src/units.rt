@@ -142,6 +142,9 @@ fn well_formed_utf_8_ends_before_what_is_malformed(rt: HostRuntime) {
                 taken == valid_len(&src) && valid == taken && &dst[..taken] == &src[..taken],
                 "{other} at {at}"
             );
+            // (without its last character, and with nothing after it)
+            let front = &src[..143];
+            assert!(rt; utf8_valid_up_to(front) == valid_len(front), "{other} at {at}");
         }
     }
 }
@@ -278,12 +281,11 @@ const SIGN_UNITS: [u16; 75] = [
 #[test]
 fn utf_16_leaves_what_follows_its_text(rt: HostRuntime) {
     let mut dst = [7; 200];
-    let text = "ééééééééééééééééééééééééééééééééééééééééééééééééé";
+    let text = "éééééééééééééééééééééééééééééééééééééééééééééééééé";
     let taken = Utf16Slice::new(&mut dst).put_utf8(text.as_bytes());
-    assert!(rt; taken == 98);
-    assert!(rt; (dst[0], dst[48]) == (0xE9, 0xE9));
-    assert!(rt; (dst[49], dst[50]) == (7, 7));
-    assert!(rt; (dst[51], dst[52]) == (7, 7));
+    assert!(rt; taken == 100);
+    assert!(rt; (dst[0], dst[49]) == (0xE9, 0xE9));
+    assert!(rt; dst[50..].iter().all(|unit| *unit == 7));
 }
 
 #[test]

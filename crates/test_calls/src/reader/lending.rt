@@ -68,8 +68,10 @@ fn lent<'a, R: Source>(
 fn lends_utf_8_where_it_was_read(rt: HostRuntime) -> Result<(), Fail> {
     let mut text = Vec::new(rt.alloc());
     text.extend_from_slice(b"c")?;
-    for _ in 0..6999 {
-        text.extend_from_slice("日".as_bytes())?;
+    // the character that is cut is not the one at the start of its chunk
+    for i in 0..6999 {
+        let character = if i % 4 < 2 { "日" } else { "本" };
+        text.extend_from_slice(character.as_bytes())?;
     }
     let mut bytes = Vec::new(rt.alloc());
     bytes.extend_from_slice("éab".as_bytes())?;

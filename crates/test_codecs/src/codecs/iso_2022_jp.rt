@@ -290,6 +290,29 @@ fn cuts_and_rooms_change_no_run(rt: HostRuntime) -> Result<(), Fail> {
     compare(rt.alloc(), RUNS)
 }
 
+/// Long runs with malformed bytes, which one call writes at once where the character set is ASCII:
+/// 0x80 among ASCII, and many malformed bytes in Roman, where 0x5C is the yen sign.
+const LONG_RUNS: &[(&[u8], &str)] = &[
+    (
+        b"sixteen and more bytes \x80 before sixteen and sixteen and more bytes",
+        "sixteen and more bytes \u{FFFD} before sixteen and sixteen and more bytes",
+    ),
+    (
+        b"\x1B(J\xFF\\\xFF\\\xFF\\\xFF\\\xFF\\\xFF\\\xFF\\\xFF\\\xFF\\\xFF\\\xFF\\\xFF\\\xFF\\",
+        "\u{FFFD}¥\u{FFFD}¥\u{FFFD}¥\u{FFFD}¥\u{FFFD}¥\u{FFFD}¥\u{FFFD}¥\u{FFFD}¥\u{FFFD}¥\
+            \u{FFFD}¥\u{FFFD}¥\u{FFFD}¥\u{FFFD}¥",
+    ),
+];
+
+#[test]
+fn one_call_decodes_a_long_run(rt: HostRuntime) -> Result<(), Fail> {
+    for (bytes, want) in LONG_RUNS {
+        let (text, _, had_errors) = ISO_2022_JP.decode(rt.alloc(), bytes)?;
+        assert!(rt; text.as_str() == *want && had_errors);
+    }
+    Ok(())
+}
+
 #[test]
 fn the_decoder_decodes_each_set(rt: HostRuntime) -> Result<(), Fail> {
     end(&mut Iso2022JpDecoder::new(), b"\x5C\x7E", "\\~")?;

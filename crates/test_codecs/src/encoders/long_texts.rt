@@ -101,6 +101,21 @@ const WRITTEN: &[(Encoding, &str, &[u8])] = &[
         "sixteen and more é and then sixty-four and more ASCII characters, which come together",
         b"sixteen and more \xE9 and then sixty-four and more ASCII characters, which come together",
     ),
+    (
+        WINDOWS_1251,
+        "Съешь же ещё этих мягких французских булок №1, да выпей чаю, \
+            и ещё раз: съешь же их «не спеша», по-русски",
+        b"\xD1\xFA\xE5\xF8\xFC \xE6\xE5 \xE5\xF9\xB8 \xFD\xF2\xE8\xF5 \xEC\xFF\xE3\xEA\xE8\xF5 \
+            \xF4\xF0\xE0\xED\xF6\xF3\xE7\xF1\xEA\xE8\xF5 \xE1\xF3\xEB\xEE\xEA \xB91, \xE4\xE0 \xE2\xFB\xEF\xE5\xE9 \xF7\xE0\xFE, \
+            \xE8 \xE5\xF9\xB8 \xF0\xE0\xE7: \xF1\xFA\xE5\xF8\xFC \xE6\xE5 \xE8\xF5 \
+            \xAB\xED\xE5 \xF1\xEF\xE5\xF8\xE0\xBB, \xEF\xEE-\xF0\xF3\xF1\xF1\xEA\xE8",
+    ),
+    (
+        WINDOWS_1251,
+        "съешь же ещё этих мягких 日 булок, да выпей чаю, и ещё раз",
+        b"\xF1\xFA\xE5\xF8\xFC \xE6\xE5 \xE5\xF9\xB8 \xFD\xF2\xE8\xF5 \xEC\xFF\xE3\xEA\xE8\xF5 \
+            &#26085; \xE1\xF3\xEB\xEE\xEA, \xE4\xE0 \xE2\xFB\xEF\xE5\xE9 \xF7\xE0\xFE, \xE8 \xE5\xF9\xB8 \xF0\xE0\xE7",
+    ),
     // the one character that gb18030 does not have
     (
         GB18030,
