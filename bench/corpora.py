@@ -13,7 +13,7 @@ import os
 import random
 import re
 
-import packages
+import programs
 
 RELEASE = "bookworm"
 
@@ -64,6 +64,10 @@ class Corpus:
         self.name = slug(f"{way} {self.title}")
         self.text = slug(f"decode {self.title}") if self.is_decoded else self.name
 
+    def ends(self, label):
+        """The labels from and to which it is recoded, by a program with this label for its encoding."""
+        return ("utf-8", label) if self.way == "encode" else (label, "utf-8")
+
 
 def slug(title):
     """The title in lowercase, with a hyphen for each run of characters but letters and digits."""
@@ -108,14 +112,14 @@ for way in ("encode", "from-units"):
 
 def unpacked(package):
     """The folder of a package of texts."""
-    [folder] = packages.unpacked(RELEASE, package)
+    [folder] = programs.unpacked(RELEASE, package)
     return folder
 
 
 def sources():
     """The packages that the texts come from, with their versions."""
     names = [GUIDE, REFERENCE, *CATALOGS, *sorted(set(MANUALS.values()))]
-    return ", ".join(f"{name} {packages.field(unpacked(name), 'Version')}" for name in names)
+    return ", ".join(f"{name} {programs.field(unpacked(name), 'Version')}" for name in names)
 
 
 def running_lines(language):

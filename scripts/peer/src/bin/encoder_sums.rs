@@ -1,4 +1,5 @@
-//! Writes for each encoding two sums over what the Rust crate encodes single characters to, without replacement and with it:
+//! Writes for each encoding, in a row as crates/test_codecs/src/encoders/sums.rt has it, two sums over what the Rust crate
+//! encodes single characters to, without replacement and with it:
 //! every character of the Basic Multilingual Plane and each 97th of the others, and in Big5 every one of plane 2.
 //! scripts/compare-crate builds and runs it.
 //!
@@ -50,12 +51,18 @@ fn add_replaced(sum: u64, encoding: &'static Encoding, character: char) -> u64 {
     add(sum, if had_unmappables { 0x200 } else { 0x100 })
 }
 
+/// A sum as the tests write it.
+fn grouped(sum: u64) -> String {
+    let digits = format!("{sum:016X}");
+    format!("0x{}_{}_{}_{}", &digits[..4], &digits[4..8], &digits[8..12], &digits[12..])
+}
+
 fn main() {
     for name in NAMES {
         let encoding = Encoding::for_label(name.as_bytes()).expect("a name is a label");
         let characters = || (0..=0x10_FFFF).filter_map(char::from_u32).filter(|c| is_tried(encoding, *c));
         let reported = characters().fold(OFFSET_BASIS, |sum, c| add_character(sum, encoding, c));
         let replaced = characters().fold(OFFSET_BASIS, |sum, c| add_replaced(sum, encoding, c));
-        println!("{name} {reported:#018X} {replaced:#018X}");
+        println!("({}, {}, {})", name.replace('-', "_").to_uppercase(), grouped(reported), grouped(replaced));
     }
 }

@@ -1,0 +1,90 @@
+"""The programs that scripts run: those of crates, and those over packages of Debian.
+
+programs.py CRATE [NAMED]            prints the path of the crate's program, or of the one that is named
+programs.py --peer SOURCES FOLDER    builds SOURCES over the Rust crate encoding_rs, and prints the folder of its
+                                     programs and the crate's version
+programs.py --install COMMAND PACKAGE    installs a package if the command is missing
+"""
+
+import os
+import re
+import shutil
+import subprocess
+import sys
+
+from common import TOP, give_up, read, run_quietly
+
+# The cache of corpora and peers.
+CACHE = os.environ.get("BENCH_CACHE") or os.path.expanduser("~/.cache/recode-bench")
+# The arguments with which a program that wants some runs on no input.
+ARGUMENTS = {
+    "recode": ["utf-8", "utf-8"], "bench_utf16": ["encode", "utf-8"],
+    "bench_calls": ["to-utf8", "utf-8", "16", "80", "1"],
+}
+# The packages of the Rust crate and of its dependency.
+CRATES = {"trixie": "librust-encoding-rs-dev", "bookworm": "librust-cfg-if-dev"}
+
+
+def program(crate, named=None, top=TOP):
+    """A program that is built already, or that of a crate, which is proved and built by a run on no input."""
+    if not named:
+        run_quietly(["rt", "run", "--", *ARGUMENTS.get(crate, [])], cwd=f"{top}/crates/{crate}")
+    return os.path.abspath(named or f"{top}/crates/{crate}/out/{crate}")
+
+
+def recoded(recode, ends, data, stderr=None):
+    """The status of recode from an encoding to another on some bytes, and what it writes."""
+    ran = subprocess.run([recode, *ends], input=data, stdout=subprocess.PIPE, stderr=stderr, check=False)
+    return ran.returncode, ran.stdout
+
+
+def unpacked(suite, *names, source=False):
+    """The folder of each package of a suite, or of its sources, by scripts/unpacked."""
+    words = [f"{TOP}/scripts/unpacked", *["--source"] * source, suite, *names]
+    ran = subprocess.run(words, capture_output=True, text=True, check=False)
+    return give_up(ran.stderr.strip().split("\n")[-1]) if ran.returncode else ran.stdout.splitlines()
+
+
+def field(folder, name):
+    """A field of a package that is unpacked."""
+    return re.search(f"^{name}: (.*)$", read(f"{folder}/control"), re.M)[1]
+
+
+def install(command, package):
+    """Installs what holds a command, if the command is missing."""
+    for step in (f"apt-get install -y {package}", f"apt-get update && apt-get install -y {package}"):
+        if not shutil.which(command):
+            subprocess.run(step, shell=True, stdin=subprocess.DEVNULL, capture_output=True, check=False)
+    if not shutil.which(command):
+        give_up(f"lacks {command}, and apt-get could not install {package}")
+
+
+def build_peer(sources, room):
+    """Builds programs over the Rust crate, with no network and outside the repository."""
+    install("cargo", "cargo")
+    shutil.rmtree(f"{room}/crates", ignore_errors=True)
+    os.makedirs(f"{room}/crates")
+    for suite, package in CRATES.items():
+        [folder] = unpacked(suite, package)
+        for it in os.scandir(f"{folder}/usr/share/cargo/registry"):
+            os.symlink(it.path, f"{room}/crates/{it.name}")
+    shutil.copytree(f"{TOP}/{sources}", f"{room}/peer", dirs_exist_ok=True)
+    run_quietly(
+        ["cargo", "build", "--release", "--offline", "--target-dir", f"{room}/peer/target", "--config",
+         'source.crates-io.replace-with="packaged"', "--config", f'source.packaged.directory="{room}/crates"'],
+        cwd=f"{room}/peer")
+    version = re.search(r'name = "encoding_rs"\nversion = "([^"]*)"', read(f"{room}/peer/Cargo.lock"))[1]
+    return f"{room}/peer/target/release", version
+
+
+def main(how, *words):
+    if how == "--install":
+        install(*words)
+    elif how == "--peer":
+        print(*build_peer(*words))
+    else:
+        print(program(how, *words))
+
+
+if __name__ == "__main__":
+    main(*sys.argv[1:])
