@@ -1,11 +1,11 @@
 """The list of encodings in data/encodings.txt. For the scripts that go through them."""
 
-import os
 import re
 import sys
 from typing import NamedTuple
 
-TOP = os.path.dirname(os.path.dirname(os.path.abspath(__file__)))
+from common import TOP, read  # noqa: F401 (others import TOP from here)
+
 LIST = "data/encodings.txt"
 PROPERTIES = ("ascii-compatible", "single-byte", "writes-utf-8")
 
@@ -63,28 +63,21 @@ def fault_of(encoding):
     return f"no such property: {unknown[0]}" if unknown else None
 
 
-def twice(words):
-    """The words that stand in a list more than once."""
-    return sorted({it for it in words if words.count(it) > 1})
-
-
 def check(encodings):
     """Ends the script if the list can't be right."""
     for encoding in encodings:
-        fault = fault_of(encoding)
-        if fault:
+        if fault := fault_of(encoding):
             refuse(f"{encoding.name}: {fault}")
     for words in ([it.name for it in encodings], [it.ident for it in encodings], labels_of(encodings)):
-        if twice(words):
-            refuse(f"twice: {', '.join(twice(words))}")
+        if twice := sorted({it for it in words if words.count(it) > 1}):
+            refuse(f"twice: {', '.join(twice)}")
     if not any(it.constant == "UTF_8" for it in encodings):
         refuse("no UTF_8")
 
 
 def read_list():
     """The encodings, in the order of the list."""
-    with open(os.path.join(TOP, LIST), encoding="utf-8") as file:
-        lines = [line for line in file if line.strip() and not line.startswith("#")]
+    lines = [line for line in read(LIST).splitlines() if line.strip() and not line.startswith("#")]
     try:
         encodings = [encoding_of(line) for line in lines]
     except ValueError:
