@@ -13,12 +13,12 @@ after it are of definitions that the clause cites, of facts that those cite, or 
 
 import fnmatch
 import functools
-import glob
 import os
 import re
 from dataclasses import dataclass
 
-from tree import CRATES, crates, read
+from common import crates, paths, read
+from sources import blocks as blocks_of_specs
 
 CLAIMS = "docs/PROVED.md"
 
@@ -31,7 +31,6 @@ UNLABELLED = "its clause"
 CONTRACT = re.compile(r"\n +(?=(?:requires|ensures) )|\{\}?\n|;\n")
 CLAUSE = re.compile(r"\s*(?://.*\s+)*(requires|ensures) (\w+ )?(?=\{)")
 LABEL = re.compile(r"(?:`(\w+)`|(its clause|every clause))(?: \((.*?)\))?")
-DEFINITION = re.compile(r"(?:(?:abbrev|unfoldable|pub|record|data) )+(?!mod |use )([^\s:({]+)")
 
 
 @dataclass(eq=False)
@@ -84,8 +83,8 @@ def blocks(text):
 
 def sources(crate):
     """The sources of a crate, but tables of data, each with the name of its module."""
-    paths = glob.glob(f"{CRATES}/{crate}/src/**/*.rt", recursive=True)
-    return [(os.path.basename(path)[:-3], read(path)) for path in paths if not re.search("/(data|pages)/", path)]
+    those = [it for it in paths(f"crates/{crate}/src/**/*.rt") if not re.search("/(data|pages)/", it)]
+    return [(os.path.basename(it)[:-3], read(it)) for it in those]
 
 
 def passed_on(modules):
@@ -118,13 +117,10 @@ def functions():
 def definitions():
     """The definitions in specs, each with the names in it and the fields that it has."""
     found = {}
-    for path in glob.glob(f"{CRATES}/*/specs/*.antt"):
-        text = re.sub(r"--.*", "", read(path))
-        for part in re.split(r"^(?=(?:abbrev|unfoldable|pub|record|data|use) )", text, flags=re.M):
-            if head := DEFINITION.match(part):
-                names, fields = found.setdefault(head[1], (set(), set()))
-                names.update(re.findall(r"\w+", part))
-                fields.update(re.findall(r"^ +pub (\w+) :", part, re.M))
+    for name, block in (it for path in paths("crates/*/specs/*.antt") for it in blocks_of_specs(path).items()):
+        names, fields = found.setdefault(name, (set(), set()))
+        names.update(re.findall(r"\w+", re.sub(r"--.*", "", block)))
+        fields.update(re.findall(r"^ +pub (\w+) :", block, re.M))
     return found
 
 
@@ -201,8 +197,8 @@ class Claims:
 @functools.cache
 def words():
     """The words of the crates' sources and specs, and the names of the crates."""
-    paths = glob.glob(f"{CRATES}/*/src/*.rt") + glob.glob(f"{CRATES}/*/specs/*.antt")
-    return set(crates()).union(*(re.findall(r"\w+", read(path)) for path in paths))
+    files = paths("crates/*/src/*.rt") + paths("crates/*/specs/*.antt")
+    return set(crates()).union(*(re.findall(r"\w+", read(it)) for it in files))
 
 
 def unknown(text):

@@ -5,37 +5,30 @@ Names are found by the `use` lines of the file that cites them. A line of a defi
 a comment.
 """
 
-import functools
-import glob
 import os
 import re
-from dataclasses import dataclass
+from typing import NamedTuple
 
 from claims import contract
-from tree import TOP, crates, decoders, read
+from common import crates, is_there, paths, read
+from places import decoders
+from sources import blocks, counted
 
 RUN = "crates/encoding_rs/src/run.rt"
 ENCODE_RUN = "crates/encoding_rs/src/encode_run.rt"
 LABELS = "crates/enc_stream/src/labels.rt"
 CODECS = "crates/enc_codec/specs/Codecs.antt"
 
-HEAD = re.compile(r"(?:(?:abbrev|unfoldable|pub|record|data) )+(?!mod |use )([^\s:({]+)")
 WORD = re.compile(r"[^\W\d][\w']*(?:-[\w']+)*|\w+")
 TYPE = r"^(?:pub(?:\(crate\))? )?(?:enum|struct) {}\b.*?(?:;$|^\}})"
 
 
-@dataclass(frozen=True)
-class Definition:
+class Definition(NamedTuple):
     """A definition or a type of the code: its file, its name and its number of lines."""
 
     path: str
     name: str
     lines: int
-
-
-def counted(block, comment):
-    """How many lines of a block are neither blank nor a comment."""
-    return sum(bool(line.strip()) and not line.strip().startswith(comment) for line in block.splitlines())
 
 
 def imports(text):
@@ -48,24 +41,11 @@ def imports(text):
     return found
 
 
-@functools.cache
-def blocks(path):
-    """The definitions of a spec file, by name, as texts."""
-    found, name = {}, None
-    for line in read(path).splitlines():
-        if head := HEAD.match(line):
-            name = head[1]
-            found[name] = ""
-        if name and not line.startswith(("use ", "pub use ", "pub mod ", "--")):
-            found[name] += line + "\n"
-    return found
-
-
 def spec_file(module):
     """The file of a module of definitions, passed on by another crate or not. None for the standard library's."""
     crate, _, rest = module.partition(".specs.")
     path = f"crates/{crate}/specs/{rest}.antt"
-    if crate not in crates() or os.path.exists(f"{TOP}/{path}"):
+    if crate not in crates() or is_there(path):
         return path if crate in crates() else None
     passed = re.search(rf"^pub use Rattle\.(\w+)\.specs\.{rest}$", read(f"crates/{crate}/specs/Lib.antt"), re.M)
     return passed and spec_file(f"{passed[1]}.specs.{rest}")
@@ -122,22 +102,10 @@ def add(path, name, found, closed):
     found[it] = found.pop(it)
 
 
-def lines_of(path):
-    """The lines of a file that are neither blank nor a comment nor an import."""
-    code = re.sub(r"^(?:pub |ghost )*use [^{\n]*(?:\{[^}]*\})?.*$|^pub mod .*$", "", read(path), flags=re.M)
-    return counted(code, "--" if path.endswith(".antt") else "//")
-
-
-def is_written(path):
-    """Whether a script writes the whole file."""
-    return bool(re.search(r"^(?://!|--) Written by scripts/", read(path), re.M))
-
-
 def runs():
     """The number of runs of all indexes."""
-    paths = glob.glob(f"{TOP}/crates/enc_index/src/data/*.rt")
-    constants = [it for path in paths for it in re.findall(r"_RUNS: .*?= &\[(.*?)\];", read(path), re.S)]
-    return sum(it.count("(") for it in constants)
+    text = "".join(map(read, paths("crates/enc_index/src/data/*.rt")))
+    return sum(it.count("(") for it in re.findall(r"_RUNS: .*?= &\[(.*?)\];", text, re.S))
 
 
 def clauses_of(source, function):

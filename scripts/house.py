@@ -1,17 +1,17 @@
 """The rules of CONTRIBUTING.md ("House rules", "Names") that can be counted. For scripts/documents."""
 
-import glob
-import os
 import re
 
-from closure import is_written
 from codec_rows import FILES
-from tree import TOP, read
+from common import paths, read
+from sources import blocks, is_written
 
 # The most lines of a file, and the most columns of a line; of an import, and in files with rows that a script writes.
 MOST_LINES, MOST_COLUMNS, MOST_OF_ROWS = 799, 100, 120
 # The most parameters of a lemma, and of a module, each by itself, and the most `_` side by side.
 MOST_PARAMETERS, MOST_HOLES = 19, 5
+# The most names that two spec files may share.
+MOST_SHARED = 11
 
 HOLES = re.compile(rf"(?<=\s)_(?:\s+_){{{MOST_HOLES},}}(?=[\s,)\]])")
 # The head of a lemma or a module, and a group of its parameters.
@@ -25,8 +25,7 @@ WHOLE_LINE = re.compile(r" *#\[tactic\(|(?:pub )?use [^{]*$")
 
 def sources():
     """The sources that are written by hand, or have rows that a script writes."""
-    paths = (it for kind in ("rt", "antt") for it in glob.glob(f"{TOP}/crates/*/*/**/*.{kind}", recursive=True))
-    found = (os.path.relpath(it, TOP) for it in paths)
+    found = paths("crates/*/*/**/*.rt") + paths("crates/*/*/**/*.antt")
     return sorted(it for it in found if "/out/" not in it and not is_written(it))
 
 
@@ -73,6 +72,18 @@ def unnamed(path, text):
             if len(re.findall(rf"(?<![\w.]){it[1]}(?!\w)", block[0])) > 2:
                 found.append((block.start() + it.start(), f"`{it[1]}` is cited more than once, and has one letter"))
     return [f"{path}:{line_at(text, place)}: {what}" for place, what in found]
+
+
+def names_out_of_date():
+    """Shared names that CONTRIBUTING.md doesn't list with a reason, and what it lists beside them."""
+    files, listed = {}, re.findall(r"^- shared: `([^`]+)`: \S", read("CONTRIBUTING.md"), re.M)
+    for path in paths("crates/*/specs/*.antt"):
+        for name in blocks(path):
+            files.setdefault(name, []).append(path)
+    shared = {name: those for name, those in files.items() if len(those) > 1}
+    found = [f"{', '.join(those)}: {name} is defined in each" for name, those in shared.items() if name not in listed]
+    found += [f"CONTRIBUTING.md: {name} is not shared" for name in listed if name not in shared]
+    return found + [f"CONTRIBUTING.md: more than {MOST_SHARED} shared names"] * (len(listed) > MOST_SHARED)
 
 
 def broken_rules():

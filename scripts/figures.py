@@ -1,0 +1,147 @@
+"""The figures of documents that can be counted, and the tables of them. For scripts/documents."""
+
+import os
+import re
+
+import claims
+import closure
+from common import crates, differing, paths, read
+from edit_list import edits_of, equal_of, files_of_gate
+from encoding_list import labels_of, read_list
+from places import decoders
+from sources import headline, is_written, lines_of, specs_of, tests_of
+
+FROM, TO = "<!-- scripts/documents writes from here -->", "<!-- to here -->"
+# The folders of sources, by their names in docs/VERIFY.md, with what is said of each.
+FOLDERS = {
+    "definitions": ("specs", "`specs/`, without imports"),
+    "code": ("src", "`src/` of libraries and programs: contracts and tables too"),
+    "proofs": ("proofs", "`proofs/`, without imports; some have rows that scripts write"),
+}
+
+
+def table(rows):
+    """A table of numbers: what each is of, the number, and where it is from."""
+    return "| | Number | Where |\n|---|---|---|\n" + "".join(f"| {' | '.join(map(str, it))} |\n" for it in rows)
+
+
+def listed(numbers):
+    return ", ".join(f"{number} in `{name}`" for name, number in numbers.items() if number)
+
+
+def of_gate():
+    """The table of docs/GATE.md."""
+    every = {crate: edits_of(crate) for crate in crates()}
+    edits = [it for those in every.values() for it in those]
+    tests = {crate: tests_of(crate) for crate in crates()}
+    single, calls = sum("/must-fail/" in it.path for it in edits), sum(bool(it.call) for it in edits)
+    shown, equal = sum(bool(it.shown) for it in edits), sum(len(equal_of(it)) for it in crates())
+    groups, codecs = sum(len(files_of_gate(it)) for it in crates()), sum(len(it.codecs) for it in decoders())
+    by_crate = listed({crate: len(those) for crate, those in every.items()})
+    why = f"{len(edits) - shown} edits say why no run shows them; {equal} changes in `equal/` mean the same"
+    return table([
+        ("crates", len(every), f"`crates.txt`; {codecs} codecs, of {len(decoders())} decoders"),
+        ("edits", len(edits), f"{by_crate}; `rt ci` tries {single} singly and {calls} in {groups} groups"),
+        ("shown by a run", shown, why),
+        ("tests", sum(tests.values()), listed(tests)),
+    ])
+
+
+def lines_in(folder, test):
+    """The lines of a folder of the test crates, or of the others: all, and those of files that scripts write."""
+    files = [it for it in paths(f"crates/*/{folder}/**/*.*") if it.startswith("crates/test_") == test]
+    return sum(map(lines_of, files)), sum(map(lines_of, filter(is_written, files)))
+
+
+def of_verify():
+    """The table of numbers of docs/VERIFY.md."""
+    sizes, clauses = closure.sizes(), [len(it.clauses) for it in claims.functions() if it.clauses]
+    call, core = sizes["clause `run`"], sizes["core"]
+    lines, types = map(sum, zip(*(size for part, size in sizes.items() if part != "labels")))
+    less = f"without clause `run` {lines - call[0]} and {types - call[1]}; for UTF-8 alone {core[0]} and {core[1]}"
+    of_encoding = closure.sizes_under(closure.ENCODE_RUN, "encode_run")
+    edits, tests = sum(len(edits_of(it)) for it in crates()), sum(tests_of(it) for it in crates())
+    in_folders = {name: (*lines_in(folder, False), said) for name, (folder, said) in FOLDERS.items()}
+    return table([
+        ("definitions under `decode_run`", f"{lines} lines, and {types} of types", less),
+        ("definitions under `encode_run`", "{} lines, and {} of types".format(*of_encoding), "some are in the table"),
+        ("runs of the indexes: pointers and code points", closure.runs(), "`crates/enc_index/src/data/`"),
+        *((f"{name} in all", f"{every} lines, {written} in files that scripts write", said)
+          for name, (every, written, said) in in_folders.items()),
+        ("functions that state a contract", f"{len(clauses)}, by {sum(clauses)} clauses", "`src/`"),
+        ("edits; tests", f"{edits}; {tests}, of {lines_in('src', True)[0]} lines",
+         "[GATE.md](GATE.md), which also has the time of the gate"),
+    ])
+
+
+def with_tables(path, *tables):
+    """A document with these tables between its marks."""
+    rest = iter(tables)
+    return re.sub(f"{FROM}\n.*?{TO}", lambda _: f"{FROM}\n{next(rest)}{TO}", read(path), flags=re.S)
+
+
+def counts():
+    """The numbers of the tree that stand in sentences: by document, the words before and after each."""
+    encodings, indexes = len(read_list()), len(paths("data/indexes/index-*.txt"))
+    labels, with_encoder = len(labels_of(read_list())), sum(not it.writes_utf_8 for it in read_list())
+    return {
+        "README.md": [("for the ", " encodings of the", encodings), ("encoders for the ", " that have one", with_encoder)],
+        "docs/PROVED.md": [
+            ("There are ", " labels", labels), ("Each of the ", " labels", labels), ("each of the ", " encodings", encodings),
+            ("All ", " indexes", indexes),
+        ],
+        "data/README.md": [
+            ("the ", " encodings of the", encodings), ("their ", " labels", labels), ("the ", " indexes", indexes),
+        ],
+    }
+
+
+def with_counts(path):
+    """A document with the numbers of the tree."""
+    text = read(path)
+    for before, after, number in counts()[path]:
+        text = re.sub(rf"({before})\d+({after})", rf"\g<1>{number}\g<2>", text)
+    return text
+
+
+def without_count(path):
+    """The sentences of `counts` that a document doesn't have."""
+    missing = [it for it in counts().get(path, []) if not re.search(rf"{it[0]}\d+{it[1]}", read(path))]
+    return [f"{path}: no words {before}NUMBER{after}" for before, after, _ in missing]
+
+
+def definitions():
+    """docs/DEFINITIONS.md: a row for each spec file."""
+    rows = [(crate, it) for crate in crates() for it in specs_of(crate)]
+    return """\
+# Definitions
+
+The files of `crates/*/specs/`, lowest crate first, each with the sentence that heads it. Each definition has a name
+of its own, so a search for the name in `crates/*/specs/` finds it. `scripts/documents` writes this file.
+
+| Crate | File | Defines |
+|---|---|---|
+""" + "".join(f"| {crate} | [{os.path.basename(it)[:-5]}](../{it}) | {headline(it)} |\n" for crate, it in rows)
+
+
+def written():
+    """The documents with figures, by path: what is written there, and the text."""
+    return {
+        "docs/GATE.md": ("numbers", with_tables("docs/GATE.md", of_gate())),
+        "docs/VERIFY.md": ("tables", with_tables("docs/VERIFY.md", closure.table(), of_verify())),
+        **{path: ("numbers", with_counts(path)) for path in counts()},
+        "docs/DEFINITIONS.md": ("spec files", definitions()),
+    }
+
+
+def without_headline():
+    return [f"{it}: no headline" for crate in crates() for it in specs_of(crate) if not headline(it)]
+
+
+def out_of_date():
+    """The documents whose figures are others now."""
+    found = []
+    for path, (what, text) in written().items():
+        found += without_count(path)
+        found += [f"{it}: the {what} are others now: run scripts/documents" for it in differing({path: text})]
+    return found

@@ -1,0 +1,47 @@
+"""The files, tests and crates that documents name. For scripts/documents."""
+
+import os
+import re
+
+from common import crates, paths, read
+from edit_list import file_of_test
+
+# Folders whose name begins a path of the repository, and words that begin one below crates.
+ROOTS = ("crates/", "docs/", "scripts/", "data/", "bench/", "completions/", ".ci/")
+BELOW = re.compile(r"\b((?:enc|recode|conformance|test)\w*/(?:src|specs|proofs|must-fail|edits|equal)/[\w./-]*\w)")
+ANY = re.compile(r"NAME|Name|WHAT|\bname(?![a-z])")
+
+
+def is_any_there(path):
+    """Whether a file or folder is there. NAME, Name, name and WHAT stand for any."""
+    return bool(paths(ANY.sub("*", path)))
+
+
+def named_in(document):
+    """The paths that a document names: targets of links, and words that look like one, but what is built."""
+    text = re.sub(r"<!--.*?-->", "", read(document), flags=re.S)
+    links = [it for it in re.findall(r"\]\(([^)#\s]+)", text) if "://" not in it]
+    words = [it.rstrip(".") for it in re.findall(r"(?<![\w/.$])([\w.-]+(?:/[\w.-]+)+/?)", text)]
+    named = [it for it in words if it.startswith(ROOTS) and "/out/" not in it]
+    named += [f"crates/{it}" for it in BELOW.findall(text)]
+    return [(it, os.path.join(os.path.dirname(document), it)) for it in links] + [(it, it) for it in named]
+
+
+def dead_paths():
+    """The paths that documents name and that are not there."""
+    documents = sorted(paths("*.md") + paths("*/*.md"))
+    named = [(document, *it) for document in documents for it in named_in(document)]
+    return [f"{document}: no {it}" for document, it, path in named if not is_any_there(path)]
+
+
+def missing_tests():
+    """The tests that docs/DIFFERENCES.md names and the test crates lack."""
+    named = re.findall(r"`(test_\w+)::([\w:]+)::(\w+)`", read("docs/DIFFERENCES.md"))
+    missing = [it for it in named if not file_of_test("::".join(it))]
+    return [f"docs/DIFFERENCES.md: no test {name} in crates/{crate}/src/{module.replace('::', '/')}.rt"
+            for crate, module, name in missing]
+
+
+def crates_without_a_row():
+    text = read("ARCHITECTURE.md")
+    return [f"ARCHITECTURE.md: no row of {it}" for it in crates() if not re.search(rf"^\|.*`{it}`", text, re.M)]
