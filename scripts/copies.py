@@ -17,7 +17,7 @@ def link(file, to):
 def copy_crates(room, is_left):
     """Copies the crates to a room, without the entries of a crate that are left, and what `rt` wants beside them."""
     def left(at, names):
-        return filter(is_left, names) if os.path.dirname(at) == f"{TOP}/crates" else []
+        return set(filter(is_left, names)) if os.path.dirname(at) == f"{TOP}/crates" else set()
 
     shutil.copytree(f"{TOP}/crates", f"{room}/crates", ignore=left)
     for name in ("crates.txt", "HANDLES"):
