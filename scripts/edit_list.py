@@ -1,16 +1,21 @@
-"""The edits of the crates: what their files say, and which functions they change. For scripts/edits, witnesses.py and scripts/documents."""
+"""The edits of the crates: what their files say, which functions they change, and which can be tried at once.
 
-import glob
+For scripts/edits, witnesses.py and scripts/documents.
+"""
+
+import functools
 import os
 import re
 from typing import NamedTuple
 
-TOP = os.path.dirname(os.path.dirname(os.path.abspath(__file__)))
+from common import crates, differing, is_there, paths, read
 
 FUNCTION = re.compile(r"^(\s*)(?:pub(?:\([a-z]+\))?\s+)?(?:const\s+)?fn\s+(\w+)")
 OWNER = re.compile(r"(?:unsafe )?impl\b|(?:pub )?trait\b")
 TEST = re.compile(r"^#\[test\]\nfn (\w+)\(", re.M)
 
+# The most edits in a file of the gate, which shows of them only that one is refused.
+MOST_IN_GATE = 10
 # The lines of an edit that say more than its pairs: what they are for, and how each begins.
 LINES = {"call": "# call: ", "shown": "# shown by: ", "reason": "# not shown: ", "same": "# same by: "}
 
@@ -72,17 +77,12 @@ class Edit:
         return bool(self.places) and all(it.name for it in self.places)
 
 
-def read(path):
-    with open(path, encoding="utf-8") as it:
-        return it.read()
-
-
 def apply(crate, pairs):
     """The texts of the files that these pairs change, by path. A ValueError where an old text does not stand there once."""
     texts = {}
     for file, old, new in pairs:
         texts.setdefault(file, None)
-        text = read(f"{TOP}/crates/{crate}/{file}") if texts[file] is None else texts[file]
+        text = read(f"crates/{crate}/{file}") if texts[file] is None else texts[file]
         if not old or text.count(old) != 1:
             raise ValueError(f"{old!r} stands {text.count(old) if old else 0} times in {file}")
         texts[file] = text.replace(old, new)
@@ -96,7 +96,7 @@ def places_of(edit):
     apply(edit.crate, edit.pairs)
     found = []
     for number, pair in enumerate(edit.pairs):
-        before = apply(edit.crate, edit.pairs[:number]).get(pair.file) or read(f"{TOP}/crates/{edit.crate}/{pair.file}")
+        before = apply(edit.crate, edit.pairs[:number]).get(pair.file) or read(f"crates/{edit.crate}/{pair.file}")
         # (an old text may begin with the blanks of its line)
         start = before.index(pair.old) + len(pair.old) - len(pair.old.lstrip())
         found.append(place_at(pair.file, before.split("\n"), before.count("\n", 0, start)))
@@ -130,24 +130,21 @@ def lines_of(text, place):
     return 0, 0
 
 
-def crates():
-    """The crates, each with the libraries that it names."""
-    return {name: words.split() for name, words in re.findall(r"^(\w+) *:(.*)$", read(f"{TOP}/crates.txt"), re.M)}
-
-
 def files_of_gate(crate):
-    return sorted(glob.glob(f"{TOP}/crates/{crate}/must-fail/calls_*.edit"))
+    return paths(f"crates/{crate}/must-fail/calls_*.edit")
 
 
+@functools.cache
 def edits_of(crate):
     """The edits of a crate: those that stand singly in must-fail, and those of edits."""
-    paths = [it for part in ("must-fail", "edits") for it in sorted(glob.glob(f"{TOP}/crates/{crate}/{part}/*.edit"))]
-    return [Edit(crate, it) for it in paths if it not in files_of_gate(crate)]
+    files = paths(f"crates/{crate}/must-fail/*.edit") + paths(f"crates/{crate}/edits/*.edit")
+    return [Edit(crate, it) for it in files if it not in files_of_gate(crate)]
 
 
+@functools.cache
 def equal_of(crate):
     """The changes of a crate that mean the same."""
-    return [Edit(crate, it) for it in sorted(glob.glob(f"{TOP}/crates/{crate}/equal/*.edit"))]
+    return [Edit(crate, it) for it in paths(f"crates/{crate}/equal/*.edit")]
 
 
 def file_of_test(name):
@@ -155,12 +152,12 @@ def file_of_test(name):
     crate, *modules = name.split("::")
     test = modules.pop() if modules else ""
     path = f"crates/{crate}/src/{'/'.join(modules) or 'lib'}.rt"
-    return path if os.path.isfile(f"{TOP}/{path}") and test in TEST.findall(read(f"{TOP}/{path}")) else ""
+    return path if is_there(path) and test in TEST.findall(read(path)) else ""
 
 
 def is_program(name):
     """Whether a crate is a program that says by a file what it prints."""
-    return all(os.path.isfile(f"{TOP}/crates/{name}/{it}") for it in ("src/main.rt", "stdout"))
+    return all(is_there(f"crates/{name}/{it}") for it in ("src/main.rt", "stdout"))
 
 
 def fault_of_witness(edit):
@@ -175,3 +172,55 @@ def fault_of_witness(edit):
 def fault_of_same(edit):
     """What is wrong with the line of a change that means the same, or nothing."""
     return "" if edit.same and file_of_test(edit.same) else f"there is no test {edit.same or 'that it names'}"
+
+
+def faults_before(edits, fault_of):
+    """What is wrong with edits before any runs, by path."""
+    found = {it.path: it.fault and f"BAD EDIT: {it.fault}" or fault_of(it) for it in edits}
+    return {path: fault for path, fault in found.items() if fault}
+
+
+def fits(group, edit, most):
+    """Whether an edit can be tried with those of a group: it changes other functions, and all can be applied."""
+    if len(group) >= most or not edit.is_of_functions or not group[0].is_of_functions:
+        return False
+    if {it for other in group for it in other.places} & {*edit.places}:
+        return False
+    try:
+        return bool(apply(edit.crate, [it for other in [*group, edit] for it in other.pairs]))
+    except ValueError:
+        return False
+
+
+def groups_of(edits, most):
+    """The edits of a crate in groups that can be tried at once. Those that are not of functions are each in one of their own."""
+    groups = []
+    for edit in edits:
+        group = next((it for it in groups if fits(it, edit, most)), None)
+        if group:
+            group.append(edit)
+        else:
+            groups.append([edit])
+    return groups
+
+
+def gate():
+    """The files of must-fail that stand for many edits, by path: one for each group of the edits that name a call."""
+    files = {}
+    for crate in crates():
+        edits = [it for it in edits_of(crate) if it.call and not it.fault]
+        for number, group in enumerate(groups_of(edits, MOST_IN_GATE), 1):
+            members = "".join(f"\n# edit: {it.name}\n{it.text_to_refuse}" for it in group)
+            files[f"crates/{crate}/must-fail/calls_{number}.edit"] = f"# written by scripts/edits --gate from crates/{crate}/edits\n{members}"
+    return files
+
+
+def out_of_date():
+    """What is wrong with the files of must-fail that stand for many edits, and with the edits themselves."""
+    wanted = gate()
+    others = [path for path, text in wanted.items() if differing({path: text})]
+    others += [it for crate in crates() for it in files_of_gate(crate) if it not in wanted]
+    faults = faults_before([it for crate in crates() for it in edits_of(crate)], fault_of_witness)
+    faults |= faults_before([it for crate in crates() for it in equal_of(crate)], fault_of_same)
+    found = [f"{path}: run scripts/edits --gate" for path in others]
+    return found + [f"{path}: {fault}" for path, fault in faults.items()]

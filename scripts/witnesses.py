@@ -12,15 +12,15 @@ of an edit that changes them too only the rest is made. An edit whose wrong body
 moved or lent in both, say) is tried by itself too.
 """
 
-import glob
 import os
 import re
-import shutil
 import subprocess
-import tempfile
 from concurrent.futures import ThreadPoolExecutor
 
-from edit_list import FUNCTION, OWNER, TEST, TOP, apply, crates, edits_of, equal_of, fault_of_same, fault_of_witness, file_of_test, is_program, read
+import copies
+from common import crates, paths, read, read_bytes, write
+from edit_list import (
+    FUNCTION, OWNER, TEST, apply, edits_of, equal_of, fault_of_same, fault_of_witness, faults_before, file_of_test, is_program)
 
 # Runs side by side. One takes 2 GB.
 LANES = max(1, min(3, os.cpu_count() - 1))
@@ -95,7 +95,7 @@ def bodies_of(edit):
             continue
         if "const fn" in place.head:
             return None
-        before = read(f"{TOP}/crates/{edit.crate}/{place.file}")
+        before = read(f"crates/{edit.crate}/{place.file}")
         old = body_of(before, place.name, place.owner, place.head)
         new = body_of(after[place.file], place.name, place.owner, place.head)
         if not old or not new:
@@ -108,35 +108,23 @@ def is_all(edit, bodies, after):
     """Whether these bodies are all that an edit changes."""
     made = {}
     for place, body in bodies.items():
-        text = made.get(place.file) or read(f"{TOP}/crates/{edit.crate}/{place.file}")
+        text = made.get(place.file) or read(f"crates/{edit.crate}/{place.file}")
         begin, end = body_of(text, place.name, place.owner, place.head)
         made[place.file] = text[:begin] + body + text[end:]
     return made == after
 
 
-class Copy:
-    """A copy of the sources of the crates, in a room of its own."""
+class Copy(copies.Copy):
+    """A copy of the sources of the crates."""
 
-    def __enter__(self):
-        self.room = tempfile.mkdtemp(prefix="witnesses-")
-        keep = ("src", "specs", "c", "stdin", "stdout")
-        leave = lambda at, names: [it for it in names if it not in keep] if os.path.dirname(at) == f"{TOP}/crates" else []
-        shutil.copytree(f"{TOP}/crates", f"{self.room}/crates", ignore=leave)
-        for name in ("crates.txt", "HANDLES"):
-            shutil.copy(f"{TOP}/{name}", self.room)
-        os.mkdir(f"{self.room}/.git")
-        return self
-
-    def __exit__(self, *_):
-        shutil.rmtree(self.room, ignore_errors=True)
+    def __init__(self):
+        super().__init__(lambda it: it not in ("src", "specs", "c", "stdin", "stdout"))
 
     def read(self, path):
         return read(f"{self.room}/{path}")
 
     def write(self, path, text):
-        os.makedirs(os.path.dirname(f"{self.room}/{path}"), exist_ok=True)
-        with open(f"{self.room}/{path}", "w", encoding="utf-8") as it:
-            it.write(text)
+        write(f"{self.room}/{path}", text)
 
     def make(self, edit):
         """Makes all that an edit changes and that runs."""
@@ -145,14 +133,13 @@ class Copy:
 
     def leave_out_tests(self, crate, but=""):
         """Takes the tests out of a crate, but that of a name: a build of few is quick."""
-        for path in glob.glob(f"{self.room}/crates/{crate}/src/**/*.rt", recursive=True):
-            text = read(path)
-            modules = os.path.relpath(path, f"{self.room}/crates/{crate}/src")[: -len(".rt")].replace("/", "::")
+        for path in paths(f"crates/{crate}/src/**/*.rt"):
+            text, modules = self.read(path), "::".join(path[: -len(".rt")].split("/")[3:])
             for name in TEST.findall(text):
                 if but not in (f"{crate}::{modules}::{name}", f"{crate}::{name}"):
                     begin = re.search(rf"^(?:(?:///|#\[).*\n)*fn {name}\(", text, re.M).start()
                     text = text[:begin] + text[body_of(text, name, "", f"fn {name}(")[1] + 2 :]
-            self.write(os.path.relpath(path, self.room), text)
+            self.write(path, text)
 
     def run(self, crate, *words):
         """What `rt try` says of a crate, what the program prints, and the status."""
@@ -167,6 +154,7 @@ class Switched(Copy):
     """A copy in which numbers say which bodies count, and tests that set them stand beside those that are named."""
 
     def __init__(self, numbered, others):
+        super().__init__()
         self.numbered, self.others = numbered, others
 
     def __enter__(self):
@@ -271,8 +259,7 @@ def run_singly(edit, witness):
             said, printed, _ = copy.run(witness)
             if NO_BUILD.search(said):
                 return None, first_error(said)
-            with open(f"{TOP}/crates/{witness}/stdout", "rb") as it:
-                return printed == it.read() and bool(ENDED.search(said)), ""
+            return printed == read_bytes(f"crates/{witness}/stdout") and bool(ENDED.search(said)), ""
         crate, name = witness.split("::", 1)
         copy.leave_out_tests(crate, witness)
         said, _, _ = copy.run(crate, "--test", "--seconds", str(SECONDS), "--", name)
@@ -320,12 +307,6 @@ class Runs:
         if self.passed[edit.path] != wanted:
             return f"NOT SHOWN: {witness} passes" if self.passed[edit.path] else f"NOT THE SAME: {witness} does not pass"
         return ""
-
-
-def faults_before(edits, fault_of):
-    """What is wrong with edits before any runs, by path."""
-    found = {it.path: it.fault and f"BAD EDIT: {it.fault}" or fault_of(it) for it in edits}
-    return {path: fault for path, fault in found.items() if fault}
 
 
 def run_all(names):
