@@ -18,7 +18,7 @@ import re
 from dataclasses import dataclass
 
 from common import crates, paths, read
-from sources import blocks as blocks_of_specs
+from sources import blocks as blocks_of_specs, end_of_group
 
 CLAIMS = "docs/PROVED.md"
 
@@ -49,23 +49,13 @@ class Function:
         return f"{self.owner or self.crate}::{self.name}"
 
 
-def in_braces(text, start):
-    """The text in the braces that open at a place, and the place after them."""
-    depth = 0
-    for at in range(start, len(text)):
-        depth += {"{": 1, "}": -1}.get(text[at], 0)
-        if depth == 0:
-            return text[start + 1 : at], at + 1
-    raise ValueError("a brace is not closed")
-
-
 def contract(text, start):
     """The conditions and the clauses of the function whose signature begins at a place."""
     found = {"requires": {}, "ensures": {}}
     at = CONTRACT.search(text, start).start()
     while clause := CLAUSE.match(text, at):
-        said, at = in_braces(text, clause.end())
-        found[clause[1]][(clause[2] or UNLABELLED).strip()] = said
+        begin, at = clause.end() + 1, end_of_group(text, clause.end() + 1)
+        found[clause[1]][(clause[2] or UNLABELLED).strip()] = text[begin : at - 1]
     return found["requires"], found["ensures"]
 
 

@@ -98,6 +98,11 @@ def pairs_of(encodings):
     return sorted(pairs, key=lambda pair: (len(pair[0]), pair[0][::-1]))
 
 
+def label_of(codec):
+    """The label of the first encoding of a codec."""
+    return next(it.name.lower() for it in read_list() if it.codec == codec)
+
+
 def single_byte_of(encodings):
     """The legacy single-byte encodings: those that have an index."""
     return [it for it in encodings if it.index]

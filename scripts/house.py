@@ -4,7 +4,7 @@ import re
 
 from codec_rows import FILES
 from common import paths, read
-from sources import blocks, is_written
+from sources import blocks, end_of_group, is_written
 
 # The most lines of a file, and the most columns of a line; of an import, and in files with rows that a script writes.
 MOST_LINES, MOST_COLUMNS, MOST_OF_ROWS = 799, 100, 120
@@ -42,15 +42,6 @@ def wide_lines(path, text):
 
 def line_at(text, place):
     return text.count("\n", 0, place) + 1
-
-
-def end_of_group(text, at):
-    """The place after the bracket that closes a group, which is open at a place."""
-    depth = 1
-    while depth and at < len(text):
-        depth += (text[at] in "({") - (text[at] in ")}")
-        at += 1
-    return at
 
 
 def parameters(text, at):

@@ -27,6 +27,15 @@ def specs_of(crate):
     return [it for it in paths(f"crates/{crate}/specs/*.antt") if not it.endswith("/Lib.antt")]
 
 
+def end_of_group(text, at):
+    """The place after the bracket that closes a group, which is open at a place."""
+    depth = 1
+    while depth and at < len(text):
+        depth += (text[at] in "({") - (text[at] in ")}")
+        at += 1
+    return at
+
+
 def headline(spec):
     """The first sentence of the comment that heads a spec file."""
     comment = re.match(r"(?:-- .*\n)*", read(spec))[0]

@@ -9,7 +9,7 @@ from typing import NamedTuple
 
 from codec_list import read_lists, sequences_of
 from common import read
-from encoding_list import read_list
+from encoding_list import label_of, read_list
 
 LIST = "data/texts.txt"
 ENGLISH = "The quick brown fox jumps over the lazy dog, 1234567890 times."
@@ -31,8 +31,7 @@ class Text(NamedTuple):
         return f"{ENGLISH}\n{self.text}\n"
 
 
-ENCODINGS = read_list()
-WRITTEN = {it.name.lower() for it in ENCODINGS if not it.writes_utf_8}
+WRITTEN = {it.name.lower() for it in read_list() if not it.writes_utf_8}
 ROWS = [re.split(" {2,}", it) for it in read(LIST).splitlines() if not it.startswith("#")]
 TEXTS = {label: Text(codec, text, alone.strip("-"), label in WRITTEN) for label, codec, text, alone in ROWS}
 
@@ -41,8 +40,7 @@ TEXTS = {label: Text(codec, text, alone.strip("-"), label in WRITTEN) for label,
 BYTES = {"x-user-defined": ASCII | {chr(0xF700 + it): bytes([it]) for it in range(0x80, 0x100)}}
 TEXTS["x-user-defined"] = Text("", "".join([*BYTES["x-user-defined"]][0x80:]), "", True)
 for pairs in read_lists().pairs:
-    name = next(it.name.lower() for it in ENCODINGS if it.codec == pairs.decoder)
-    if name not in TEXTS:
+    if (name := label_of(pairs.decoder)) not in TEXTS:
         BYTES[name] = ASCII | {character: data for data, character in reversed(sequences_of(pairs)) if character}
         TEXTS[name] = Text("", "".join(character for character, _ in pairs.characters), "", True)
 
