@@ -9,7 +9,8 @@ use std::test::Fail;
 const TEXTS: &[&str] = &[
     "plain ASCII, more than sixty-four characters of it, so that it is copied at once, é",
     "Съешь же ещё этих мягких французских булок №1, да выпей чаю, и ещё раз: съешь же их",
-    "人人生而自由，在尊严和权利上一律平等。他们赋有理性和良心，并应以兄弟关系的精神相对待。人人有资格享有一切权利和自由",
+    "人人生而自由，在尊严和权利上一律平等。他们赋有理性和良心，并应以兄弟关系的精神相对待。人人有资格享有一切权利和自由，\
+        人人生而自由，在尊严和权利上一律平等。他们赋有理性和良心，并应以兄弟关系的精神相对待。人人有资格享有一切权利和自由",
     "💩𠀀😀𝄞 and then é日💩ш😀, a pair \u{10FFFF} among others, and some more text: 日本語のテキスト, жжжж 한국어 ḁ",
 ];
 
@@ -21,10 +22,13 @@ fn a_long_text_is_written_as_it_is(rt: HostRuntime) -> Result<(), Fail> {
                 utf16,
                 replace: false,
                 offer: text.len(),
-                room: 256,
+                room: 512,
             };
             let report = encode_run(rt.alloc(), UTF_8, *text, &[call])?;
-            assert!(rt; report.finished && report.bytes.as_slice() == text.as_bytes(), "{text}");
+            assert!(rt;
+                report.finished && report.bytes.as_slice() == text.as_bytes(),
+                "{text}"
+            );
         }
     }
     Ok(())
