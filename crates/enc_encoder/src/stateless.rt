@@ -1,6 +1,7 @@
 //! Encoders of encodings without escape sequences.
 
-ghost use Rattle.std.specs.Prelude.{◌≡◌, ◌<◌, ◌≤◌, ℕ, Option, Some, List, [], ◌∷◌};
+ghost use Rattle.std.specs.Prelude.{◌≡◌, ◌<◌, ◌≤◌, ℕ, Option, Some, List, [], ◌∷◌, IsTrue};
+ghost use Rattle.std.specs.Char.{encode_utf8};
 ghost use Rattle.enc_encoder.specs.CharLaw.{AreBytesOf};
 ghost use Rattle.enc_encoder.specs.Stateless.{IsLawfulRepertoire};
 ghost use Rattle.enc_encoder.specs.declared.byte_lengths.ByteLengths.{ByteLengths};
@@ -27,6 +28,15 @@ pub trait Repertoire: Copy {
     fn bytes_beyond_ascii(self, c: char) -> Option<Bytes>
         requires { 0x80 ≤ c }
         ensures { AreBytesOf (bytes_for self c) result };
+
+    /// Returns whether every character is written as its UTF-8, or false, as it does by default.
+    #[inline(always)]
+    fn is_utf8(self) -> bool
+        ensures { IsTrue result → (c : ℕ) → bytes_for self c ≡ Some (encode_utf8 c) }
+    {
+        let _repertoire = self;
+        false
+    }
 
     /// Returns whether [`Repertoire::unit_byte`] has most characters of most texts, or false, as it
     /// does by default.
@@ -104,6 +114,11 @@ impl<R: Repertoire> Mapping for StatelessEncoder<R> {
     fn keeps_ascii(self) -> bool {
         self.repertoire.laws();
         true
+    }
+
+    #[inline(always)]
+    fn is_utf8(self) -> bool {
+        self.repertoire.is_utf8()
     }
 
     #[inline(always)]

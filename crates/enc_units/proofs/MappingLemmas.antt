@@ -6,12 +6,15 @@ use Rattle.std.proofs.Common.{take-append-drop}
 use Rattle.std.proofs.Math.ListN.{set}
 use Rattle.std.proofs.lemmas.List.{length-take-le, drop-append-le, take_all, set_split, set_at}
 use Rattle.std.proofs.lemmas.Simd.{map-map, put_chunk_is}
+use Rattle.std.specs.Char.{encode_utf8}
 use Rattle.std.specs.List.{range_with_len}
+use Rattle.std.proofs.lemmas.Bool.{and_parts}
 use lib.Lanes.{zip2, top, sel_l, put_chunk}
 use Rattle.std.proofs.Math.Seq.{take-append_seam}
 use Rattle.std.proofs.lemmas.Slice.{drop-append-drop}
 use Rattle.enc_units.specs.Pieces.{Piece, piece_bytes, piece_chars, EachMeansChar}
-use Rattle.enc_units.specs.Mappings.{WritesMapped, AreWrittenAsThemselves}
+use Rattle.enc_units.specs.Mappings.{WritesMapped, AreWrittenAsThemselves, AreWrittenAsUtf8}
+use Rattle.enc_units.specs.Output.{AreScalars, units_of_text}
 use Rattle.enc_units.proofs.Utf8Lanes.{below, top_flag}
 
 piece_bytes-append : (ps qs : List Piece)
@@ -159,6 +162,45 @@ module _ (Means : List ℕ → ℕ → Type 0) where
     fits = f;
     onto = o ∙ ap (λ z. take at before ++ (z ++ drop (at + n) before)) (sym (their_bytes bs));
   }
+
+  -- every character, where each is written as its UTF-8
+
+  abbrev utf8_pieces : List ℕ → List Piece
+  utf8_pieces [] = []
+  utf8_pieces (c ∷ cs) = record { bytes = encode_utf8 c; char = c } ∷ utf8_pieces cs
+
+  utf8_pieces_bytes : (cs : List ℕ)
+      → piece_bytes (utf8_pieces cs) ≡ units_of_text encode_utf8 cs
+  utf8_pieces_bytes [] = refl
+  utf8_pieces_bytes (c ∷ cs) = ap (λ z. encode_utf8 c ++ z) (utf8_pieces_bytes cs)
+
+  utf8_pieces_chars : (cs : List ℕ) → piece_chars (utf8_pieces cs) ≡ cs
+  utf8_pieces_chars [] = refl
+  utf8_pieces_chars (c ∷ cs) = ap (λ z. c ∷ z) (utf8_pieces_chars cs)
+
+  utf8_pieces_mean : AreWrittenAsUtf8 Means → (cs : List ℕ) → AreScalars cs
+      → EachMeansChar Means (utf8_pieces cs)
+  utf8_pieces_mean utf8 [] are_scalars = tt
+  utf8_pieces_mean utf8 (c ∷ cs) are_scalars =
+      let parts = and_parts _ _ are_scalars in (utf8 c parts.0, utf8_pieces_mean utf8 cs parts.1)
+
+  pub maps_utf8 : {src rest bytes before after : List ℕ} {at n : ℕ} → AreWrittenAsUtf8 Means
+      → (text : List ℕ) → AreScalars text → src ≡ text ++ rest
+      → bytes ≡ units_of_text encode_utf8 text
+      → n ≡ length bytes → at + n ≤ length before
+      → after ≡ take at before ++ (bytes ++ drop (at + n) before)
+      → WritesMapped Means src rest before after at n
+  maps_utf8 {rest = rest} {before = before} {at = at} {n = n} utf8 text scalars reads written count
+      fits onto =
+      let bytes_are = written ∙ sym (utf8_pieces_bytes text) in
+      record {
+        pieces = utf8_pieces text;
+        reads = reads ∙ ap (λ z. z ++ rest) (sym (utf8_pieces_chars text));
+        mean = utf8_pieces_mean utf8 text scalars;
+        count = count ∙ ap length bytes_are;
+        fits = fits;
+        onto = onto ∙ ap (λ z. take at before ++ (z ++ drop (at + n) before)) bytes_are;
+      }
 
   -- the slice keeps its length
   pub same_length : (src rest before after : List ℕ) (at n : ℕ)

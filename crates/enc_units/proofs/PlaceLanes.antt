@@ -1,12 +1,12 @@
 -- The places of sixteen bytes, in lanes.
-use Rattle.std.proofs.Common.{◌≡◌, ℕ, ◌+◌, ◌-◌, ◌*◌, ◌/◌, ◌%◌, ◌^◌, ◌<◌, ◌≤◌, ◌==◌, ◌&&◌, Bool, true, false, cond}
-use Rattle.std.proofs.Common.{leb, nat_le, List, map, length, get_or, replicate, refl, ap, ◌∙◌, sym, arith, inl, inr}
+use Rattle.std.proofs.Common.{◌≡◌, ℕ, ◌+◌, ◌-◌, ◌*◌, ◌%◌, ◌^◌, ◌<◌, ◌≤◌, ◌==◌, Bool, true, false, cond}
+use Rattle.std.proofs.Common.{leb, List, map, length, get_or, ap, ◌∙◌, sym, arith, inl, inr}
 use Rattle.std.proofs.lemmas.Bool.{cases_lt}
 use Rattle.std.proofs.lemmas.Bool.Decides.{nat_tests}
 use Rattle.std.proofs.lemmas.Simd.{map-map, pick_l_whole}
 use Rattle.std.proofs.Math.Nat.{mul-le-mul_right}
 use Rattle.std.specs.List.{range_with_len}
-use lib.Lanes.{zip2, mask_l, top, sel_l}
+use lib.Lanes.{mask_l, top, sel_l}
 use Rattle.enc_units.specs.Places.{has_bit, number_in}
 use Rattle.enc_units.proofs.Utf8Lanes.{IsFlags, at_least, flag_bit, top_flag}
 use Rattle.enc_units.proofs.Utf8UnitLanes.{IsLanes, lane_at, widened, splat_lanes, by_op, sum_lanes}

@@ -15,6 +15,8 @@ use Rattle.enc_units.proofs.AsciiLemmas.{one_ascii}
 use Rattle.enc_units.proofs.CharsLemmas.{lossy_lone}
 use Rattle.enc_units.proofs.LaneLemmas.{all_fewer}
 use Rattle.enc_units.proofs.MappingLemmas.{put_one}
+use Rattle.enc_units.proofs.ScalarLemmas.{ascii_scalars}
+use Rattle.enc_units.proofs.Utf16TextLemmas.{lossy_scalars}
 use Rattle.enc_units.proofs.WriteLoopLemmas.{HasFront, Written, one_further}
 
 -- no condition: surrogates without their partners are read as U+FFFD
@@ -24,15 +26,6 @@ Any us = Unit {0}
 low_unit : (u : ℕ) → u < 0x800 → lossy_unit_char u ≡ u
 low_unit u h = let low : (nat_le 0xD800 u && nat_lt u 0xE000) ≡ false = grind (arith, nat_tests) in
     rw low refl
-
-lossy_ascii : (us rest : List ℕ) → AreAscii us
-    → utf16_lossy_chars (us ++ rest) ≡ us ++ utf16_lossy_chars rest
-lossy_ascii [] rest are_ascii = refl
-lossy_ascii (u ∷ us) rest are_ascii =
-    let is_ascii = are_ascii 0 0 (omega arith) in
-    lossy_lone u (us ++ rest) (λ p. omega (arith, p.0, is_ascii))
-    ∙ ap (λ x. x ∷ utf16_lossy_chars (us ++ rest)) (low_unit u (omega (arith, is_ascii)))
-    ∙ ap (λ x. u ∷ x) (lossy_ascii us rest (λ k d l. are_ascii (suc k) d (omega arith)))
 
 -- units below 0x80 are their own lower bytes
 pub low_bytes : (us : List ℕ) → AreAscii us → map (λ u. u % 0x80) us ≡ us
@@ -74,7 +67,8 @@ own_front Means n us h a =
       within = omega (arith, long);
       ok = tt;
       chars = ap utf16_lossy_chars (sym (take-append-drop n us))
-          ∙ lossy_ascii (take n us) (drop n us) (λ k d l. (a k d l).0)
+          ∙ lossy_scalars (take n us) (drop n us)
+          (ascii_scalars (take n us) (λ k d l. (a k d l).0))
           ∙ ap (λ k. take n us ++ utf16_lossy_chars (drop k us)) (sym long);
     }
 

@@ -5,13 +5,17 @@ use Rattle.std.proofs.Common.{take-append-drop, chars, IsUtf8, inl, inr}
 use Rattle.std.proofs.lemmas.Bool.{and_parts, cases_lt}
 use Rattle.std.proofs.lemmas.Bool.Decides.{nat_tests}
 use Rattle.std.proofs.lemmas.List.{get_or-drop, length-take-le}
-use Rattle.std.proofs.lemmas.Str.{chars_past_char, IsUtf8-past_char, encode_ascii}
+use Rattle.std.proofs.lemmas.Str.{chars_past_char, IsUtf8-past_char, encode_ascii, IsUtf8-take}
+use Rattle.std.proofs.lemmas.Str.{scalars-chars, chars-append, encodes-chars}
 use Rattle.std.proofs.Math.Seq.{drop-append_seam}
 use Rattle.std.specs.Char.{IsScalar, encode_utf8}
-use Rattle.std.specs.Str.{all_scalars, encode_utf8_all}
-use Rattle.enc_units.specs.Mappings.{IsFirstUtf8Char, AreWrittenAsThemselves}
+use Rattle.std.specs.Str.{all_scalars, encode_utf8_all, IsCharBoundary}
+use Rattle.enc_units.specs.Mappings.{IsFirstUtf8Char, AreWrittenAsThemselves, AreWrittenAsUtf8}
+use Rattle.enc_units.specs.Mappings.{WritesMapped}
 use Rattle.enc_units.specs.Validity.{AreAscii}
 use Rattle.enc_units.proofs.AsciiLemmas.{one_ascii}
+use Rattle.enc_units.proofs.MappingLemmas.{maps_utf8}
+use Rattle.enc_units.proofs.Utf8CharsLemmas.{their_units}
 use Rattle.enc_units.proofs.GatherLemmas.{utf8_two, utf8_three, utf8_four}
 use Rattle.enc_units.proofs.WriteLoopLemmas.{HasFront}
 
@@ -243,3 +247,16 @@ first_ascii (b ∷ bs) utf8 some low =
     let is_front : b ∷ bs ≡ encode_utf8 b ++ bs = ap (λ x. x ++ bs) (sym (encode_ascii b low)) in
     subst (λ cs. AreAscii (take 1 cs)) (sym (chars_past_char (b ∷ bs) bs b utf8 is_front))
     (one_ascii b low)
+
+-- whole characters in front are copied, where each is written as its UTF-8
+pub maps_copied : {Means : List ℕ → ℕ → Type 0} {text before after : List ℕ} {at n : ℕ}
+    → AreWrittenAsUtf8 Means → IsUtf8 text → IsCharBoundary text n → at + n ≤ length before
+    → after ≡ take at before ++ (take n text ++ drop (at + n) before)
+    → WritesMapped Means (chars text) (chars (drop n text)) before after at n
+maps_copied {Means} {text} {n = n} utf8 is_utf8 boundary fits onto =
+    let front = take n text in
+    let front_is_utf8 = IsUtf8-take text n is_utf8 boundary in
+    maps_utf8 Means utf8 (chars front) (scalars-chars front front_is_utf8)
+    (ap chars (sym (take-append-drop n text)) ∙ chars-append front (drop n text) front_is_utf8)
+    (sym (their_units (chars front) ∙ encodes-chars front front_is_utf8))
+    (sym (length-take-le n text boundary.0)) fits onto

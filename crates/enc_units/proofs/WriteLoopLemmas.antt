@@ -51,6 +51,15 @@ ascii_copied at n before src new keeps within read room are_ascii copied = recor
       ∙ ap (λ z. take at before ++ (take n src ++ z)) (drop-drop n at before);
 }
 
+-- bytes are copied
+pub copied_onto : (at n : ℕ) (before : List ℕ) {new bytes : List ℕ} → new ≡ bytes
+    → put_mid at (at + n - at) before new ≡ take at before ++ (bytes ++ drop (at + n) before)
+copied_onto at n before {new} {bytes} copied =
+    let part : at + n - at ≡ n = omega arith in
+    ap (λ z. take at before ++ (z ++ drop (at + n - at) (drop at before))) copied
+    ∙ ap (λ k. take at before ++ (bytes ++ drop k (drop at before))) part
+    ∙ ap (λ z. take at before ++ (bytes ++ z)) (drop-drop n at before)
+
 -- code units begin with units that are characters by themselves, and those after them are
 -- well-formed
 pub record HasFront (chars_in : List ℕ → List ℕ) (Ok : List ℕ → Type 0)

@@ -1,5 +1,6 @@
 -- The bytes of characters, looked up and written in runs.
 use Rattle.std.specs.Prelude.{◌≡◌, ℕ, ◌+◌, ◌<◌, ◌≤◌, All, List, [], ◌∷◌, ◌++◌, length, take, drop, chars, IsUtf8}
+use Rattle.std.specs.Char.{IsScalar, encode_utf8}
 use Rattle.enc_units.specs.Pieces.{Piece, piece_bytes, piece_chars, EachMeansChar}
 
 -- an ASCII character whose byte is its number
@@ -13,6 +14,10 @@ AreWrittenAsThemselves Means = All (IsWrittenAsItself Means)
 -- all of ASCII is written as itself
 abbrev pub KeepsAscii : (List ℕ → ℕ → Type 0) → Type 0
 KeepsAscii Means = (b : ℕ) → b < 0x80 → Means (b ∷ []) b
+
+-- every character is written as its UTF-8
+abbrev pub AreWrittenAsUtf8 : (List ℕ → ℕ → Type 0) → Type 0
+AreWrittenAsUtf8 Means = (c : ℕ) → IsScalar c → Means (encode_utf8 c) c
 
 -- The first n code units are ASCII that is written as itself, and they are written to a slice, from
 -- `at` on. All other bytes of the slice are unchanged.

@@ -1,5 +1,5 @@
 -- The places of sixteen bytes in a table with rows of pairs.
-use Rattle.std.specs.Prelude.{◌≡◌, ℕ, ◌+◌, ◌-◌, ◌/◌, ◌%◌, ◌^◌, ◌<◌, ◌==◌, ◌&&◌, nat_le, Bool, List, slice_index}
+use Rattle.std.specs.Prelude.{ℕ, ◌+◌, ◌-◌, ◌/◌, ◌%◌, ◌^◌, ◌<◌, ◌==◌, ◌&&◌, nat_le, Bool, List, slice_index}
 use Rattle.std.specs.Prelude.{if◌then◌else◌}
 use Rattle.enc_units.specs.Pairs.{byte_or_pair}
 

@@ -15,7 +15,7 @@ use crate::pieces::Pieces;
 use std::simd::prelude::*;
 
 /// At most this number of bytes is stored at once: eight code units, and a character after them.
-const STEP: usize = 36;
+pub(crate) const STEP: usize = 36;
 
 /// At most this number of code units is stored at once.
 const UNITS_STEP: usize = 16;
@@ -34,7 +34,7 @@ fn units_in(bytes: u8x16, big_endian: bool) -> u16x8
 
 /// Returns whether all of eight code units are ASCII.
 #[inline(always)]
-fn are_ascii_units(units: u16x8) -> bool
+pub(crate) fn are_ascii_units(units: u16x8) -> bool
     ensures { IsTrue result → AreAscii units }
 {
     units.simd_ge(u16x8::splat(0x80)).to_bitmask() == 0
@@ -54,7 +54,7 @@ fn are_scalars(units: u16x8) -> bool
 
 /// Returns how many of eight code units come before the first surrogate.
 #[inline(always)]
-fn units_before_surrogate(units: u16x8) -> usize
+pub(crate) fn units_before_surrogate(units: u16x8) -> usize
     ensures bound { result ≤ 8 }
     ensures scalars { AreScalars (take result units) }
     ensures alone { (n : ℕ) → units_of_text encode_utf16 (take n units) ≡ take n units }
@@ -100,7 +100,7 @@ fn rests(units: u16x8) -> u16x8
 /// Returns the UTF-8 of each code unit as a word: its bytes, the first lowest, and their number in
 /// the highest byte.
 #[inline(always)]
-fn words_of(units: u16x8) -> [u32; 8]
+pub(crate) fn words_of(units: u16x8) -> [u32; 8]
     ensures bound { All (λ word. word / 0x1000000 ≤ 4) result }
     ensures utf8 { (n : ℕ) → bytes_of_words (take n result)
         ≡ units_of_text encode_utf8 (take n units) }
@@ -112,7 +112,7 @@ fn words_of(units: u16x8) -> [u32; 8]
 /// Stores the bytes of the first `len` words after the first `at` bytes of a buffer. Returns their
 /// end.
 #[inline(always)]
-fn store_words(buffer: &mut [u8], at: usize, words: [u32; 8], len: usize) -> usize
+pub(crate) fn store_words(buffer: &mut [u8], at: usize, words: [u32; 8], len: usize) -> usize
     requires room { at + 32 ≤ length buffer.old }
     requires len { len ≤ 8 }
     requires words { All (λ word. word / 0x1000000 ≤ 4) words }

@@ -3,6 +3,7 @@
 ghost use Rattle.std.specs.Prelude.{ℕ, ◌≡◌, ◌<◌, ◌≤◌, List, [], ◌∷◌, IfSome, IsTrue, take};
 ghost use Rattle.enc_units.specs.Bytes.{byte_list};
 ghost use Rattle.enc_units.specs.Mappings.{AreWrittenAsThemselves, IsWrittenAsItself, KeepsAscii};
+ghost use Rattle.enc_units.specs.Mappings.{AreWrittenAsUtf8};
 
 use crate::bytes::Bytes;
 use std::simd::prelude::*;
@@ -38,6 +39,17 @@ pub trait Mapping: Copy {
     #[inline(always)]
     fn keeps_ascii(self) -> bool
         ensures { IsTrue result → KeepsAscii (means self) }
+    {
+        let _mapping = self;
+        false
+    }
+
+    /// Returns whether every character is written as its UTF-8, or false, as it does by default.
+    ///
+    /// Takes no memory.
+    #[inline(always)]
+    fn is_utf8(self) -> bool
+        ensures { IsTrue result → AreWrittenAsUtf8 (means self) }
     {
         let _mapping = self;
         false

@@ -9,6 +9,7 @@ ghost use Rattle.enc_units.specs.Validity.{AreAscii};
 use crate::mapped_bytes::{MOST_BYTES, put_bytes, put_lanes};
 use crate::mapping::Mapping;
 use crate::utf16_chars::first;
+use crate::utf16_text::put_text;
 use std::simd::prelude::*;
 
 /// Returns how many of sixteen code units come before the first that is not ASCII.
@@ -264,6 +265,9 @@ pub(crate) fn write_utf16<M: Mapping>(
         if !goes_on {
             return (read, at - from);
         }
+        let (len, count) = put_text(mapping, &src[read..], dst, at);
+        read += len;
+        at += count;
     }
     let end = dst.len().saturating_sub(MOST_BYTES - 1);
     'ones: while read < src.len() && at < end {

@@ -14,6 +14,7 @@ mod queries;
 mod references;
 mod runs;
 mod sums;
+mod utf_8;
 
 use encoding_rs::{
     BIG5, EUC_JP, EUC_KR, EncoderResult, Encoding, GB18030, GBK, ISO_2022_JP, REPLACEMENT,

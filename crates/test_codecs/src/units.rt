@@ -144,7 +144,10 @@ fn well_formed_utf_8_ends_before_what_is_malformed(rt: HostRuntime) {
             );
             // (without its last character, and with nothing after it)
             let front = &src[..143];
-            assert!(rt; utf8_valid_up_to(front) == valid_len(front), "{other} at {at}");
+            assert!(rt;
+                utf8_valid_up_to(front) == valid_len(front),
+                "{other} at {at}"
+            );
         }
     }
 }

@@ -38,6 +38,11 @@ impl Repertoire for Utf8 {
         Some(utf8_bytes(c))
     }
 
+    #[inline(always)]
+    fn is_utf8(self) -> bool {
+        true
+    }
+
     fn byte_lengths(self) -> ByteLengths {
         ByteLengths::Utf8
     }

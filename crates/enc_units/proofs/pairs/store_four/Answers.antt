@@ -1,4 +1,4 @@
-use Rattle.std.proofs.Common.{ℕ, ◌+◌, ◌%◌, ◌/◌, ◌^◌, get_or, ◌≡◌, ◌∙◌, refl, arith}
+use Rattle.std.proofs.Common.{◌+◌, ◌%◌, ◌/◌, ◌^◌, get_or, ◌≡◌, ◌∙◌, refl, arith}
 use Rattle.enc_units.proofs.GatherLemmas.{gathers_nothing}
 use Rattle.enc_units.proofs.PairsLemmas.{goes_up, end_goes, end_next, gathers_word, place_of_next}
 use Rattle.enc_units.proofs.pairs.store_four.Goals as goal

@@ -1,4 +1,4 @@
-use Rattle.std.proofs.Common.{ℕ, ◌+◌, ◌%◌, ◌/◌, ◌^◌, get_or, ◌≡◌, ◌∙◌, refl, arith, length-set}
+use Rattle.std.proofs.Common.{◌+◌, ◌%◌, ◌/◌, ◌^◌, get_or, ◌≡◌, ◌∙◌, refl, arith, length-set}
 use Rattle.std.proofs.lemmas.List.{take_more_set}
 use Rattle.enc_units.proofs.GatherLemmas.{gathers_nothing}
 use Rattle.enc_units.proofs.PairsLemmas.{goes_up, end_goes, end_next, gathers_unit, place_of_next}

@@ -11,8 +11,10 @@ sixteens-init g c =
 pub sixteens-preserved : goal.sixteens-preserved
 sixteens-preserved g c =
     let turn = c.put_turn-len.ensures in
-    more_further c.sixteens.invariant (rest_is c.sixteens.read c.args.src.now) turn.within tt
-    turn.writes
+    let text = c.put_text-len.ensures in
+    more_further
+    (more_further c.sixteens.invariant (rest_is c.sixteens.read c.args.src.now) turn.within tt
+    turn.writes) (rest_is _ c.args.src.now) text.within tt text.writes
 
 pub returns-then-not-goes_on-clause-writes : goal.returns-then-not-goes_on-clause-writes
 returns-then-not-goes_on-clause-writes g c =

@@ -1,0 +1,112 @@
+-- UTF-16 that is written as UTF-8.
+use Rattle.std.proofs.Common.{◌≡◌, ℕ, ◌+◌, ◌-◌, ◌≤◌, false, List, [], ◌∷◌, ◌++◌, length, take, drop, refl, ap, ◌∙◌, sym}
+use Rattle.std.proofs.Common.{arith, subst, nat_le, nat_lt, ◌&&◌, append_assoc, append-nil, length-drop, drop-drop}
+use Rattle.std.proofs.Common.{take-append-drop}
+use Rattle.std.proofs.lemmas.Bool.{and_parts}
+use Rattle.std.proofs.lemmas.Bool.Decides.{nat_tests}
+use Rattle.std.proofs.lemmas.List.{take-take}
+use Rattle.std.specs.Char.{IsScalar, encode_utf8}
+use Rattle.std.specs.Char.Utf16.{utf16_lossy_chars}
+use Rattle.enc_units.specs.CodeUnits.{bytes_of_words}
+use Rattle.enc_units.specs.Mappings.{AreWrittenAsUtf8, WritesMapped}
+use Rattle.enc_units.specs.Output.{AreScalars, units_of_text}
+use Rattle.enc_units.specs.Surrogates.{lossy_unit_char, IsSurrogatePair, IsFirstUtf16Char}
+use Rattle.enc_units.specs.Utf16Text.{AreUtf8OfUnits}
+use Rattle.enc_units.proofs.CharsLemmas.{lossy_lone}
+use Rattle.enc_units.proofs.MappingLemmas.{maps_utf8}
+use Rattle.enc_units.proofs.PiecesLemmas.{units-append}
+use Rattle.enc_units.proofs.ScalarLemmas.{one_scalar, scalars-append}
+
+-- a code unit that is no surrogate is a character by itself
+
+scalar_unit : (u : ℕ) → IsScalar u → lossy_unit_char u ≡ u
+scalar_unit u is_scalar =
+    let none : (nat_le 0xD800 u && nat_lt u 0xE000) ≡ false = grind (arith, nat_tests) in
+    rw none refl
+
+no_pair : (u v : ℕ) → IsScalar u → IsSurrogatePair u v → ⊥
+no_pair u v is_scalar pair = grind (arith, nat_tests)
+
+pub lossy_scalars : (us rest : List ℕ) → AreScalars us
+    → utf16_lossy_chars (us ++ rest) ≡ us ++ utf16_lossy_chars rest
+lossy_scalars [] rest are_scalars = refl
+lossy_scalars (u ∷ us) rest are_scalars =
+    let parts = and_parts _ _ are_scalars in
+    lossy_lone u (us ++ rest) (no_pair u _ parts.0)
+    ∙ ap (λ x. x ∷ utf16_lossy_chars (us ++ rest)) (scalar_unit u parts.0)
+    ∙ ap (λ x. u ∷ x) (lossy_scalars us rest parts.1)
+
+-- characters that are read, and their UTF-8
+
+pub text_none : (us : List ℕ) → AreUtf8OfUnits us 0 []
+text_none us = record {
+  within = omega arith;
+  text = [];
+  scalars = refl;
+  reads = refl;
+  written = refl;
+}
+
+pub text_then : {us front more : List ℕ} {a n : ℕ} → AreUtf8OfUnits us a front
+    → AreUtf8OfUnits (drop a us) n more → AreUtf8OfUnits us (a + n) (front ++ more)
+text_then {us} {front} {more} {a} {n} first others = record {
+  within = omega (arith, first.within, others.within, length-drop a us);
+  text = first.text ++ others.text;
+  scalars = scalars-append first.text others.text first.scalars others.scalars;
+  reads = first.reads ∙ ap (λ z. first.text ++ z) others.reads
+      ∙ sym (append_assoc first.text others.text (utf16_lossy_chars (drop n (drop a us))))
+      ∙ ap (λ z. (first.text ++ others.text) ++ utf16_lossy_chars z) (drop-drop n a us);
+  written = ap (λ z. z ++ more) first.written
+      ∙ ap (λ z. units_of_text encode_utf8 first.text ++ z) others.written
+      ∙ sym (units-append encode_utf8 first.text others.text);
+}
+
+-- the first n code units, none of which is a surrogate
+pub text_units : (n : ℕ) {us units : List ℕ} → n ≤ 8 → 8 ≤ length us → units ≡ take 8 us
+    → AreScalars (take n units)
+    → AreUtf8OfUnits us n (units_of_text encode_utf8 (take n units))
+text_units n {us} {units} few long are_units are_scalars =
+    let front : take n units ≡ take n us = ap (take n) are_units ∙ take-take n 8 us few in
+    record {
+      within = omega arith;
+      text = take n units;
+      scalars = are_scalars;
+      reads = ap utf16_lossy_chars (sym (take-append-drop n us))
+          ∙ ap (λ z. utf16_lossy_chars (z ++ drop n us)) (sym front)
+          ∙ lossy_scalars (take n units) (drop n us) are_scalars;
+      written = refl;
+    }
+
+pub text_one : {us : List ℕ} {c n : ℕ} → IsFirstUtf16Char us c n → IsScalar c
+    → AreUtf8OfUnits us n (encode_utf8 c)
+text_one {us} {c} {n} first is_scalar = record {
+  within = first.within;
+  text = c ∷ [];
+  scalars = one_scalar c is_scalar;
+  reads = first.chars;
+  written = sym (append-nil (encode_utf8 c));
+}
+
+-- in a buffer
+pub text_stored : {us before bytes after : List ℕ} {a n : ℕ} → AreUtf8OfUnits us a before
+    → AreUtf8OfUnits (drop a us) n bytes → after ≡ before ++ bytes → AreUtf8OfUnits us (a + n) after
+text_stored {us} {a = a} {n = n} first others stored =
+    subst (AreUtf8OfUnits us (a + n)) (sym stored) (text_then first others)
+
+-- in a buffer, where they are stored as words
+pub text_words : (n : ℕ) {us units before after : List ℕ} {a : ℕ} (words : List ℕ)
+    → AreUtf8OfUnits us a before → n ≤ 8 → 8 ≤ length us - a → units ≡ take 8 (drop a us)
+    → AreScalars (take n units)
+    → bytes_of_words (take n words) ≡ units_of_text encode_utf8 (take n units)
+    → after ≡ before ++ bytes_of_words (take n words) → AreUtf8OfUnits us (a + n) after
+text_words n {us} {before = before} {a = a} words first few long are_units are_scalars utf8 stored =
+    text_stored first (text_units n few (omega (arith, length-drop a us)) are_units are_scalars)
+    (stored ∙ ap (λ z. before ++ z) utf8)
+
+-- they are written to a slice
+pub maps_text : {Means : List ℕ → ℕ → Type 0} {us bytes before after : List ℕ} {at n k : ℕ}
+    → AreWrittenAsUtf8 Means → AreUtf8OfUnits us n bytes → k ≡ length bytes
+    → at + k ≤ length before → after ≡ take at before ++ (bytes ++ drop (at + k) before)
+    → WritesMapped Means (utf16_lossy_chars us) (utf16_lossy_chars (drop n us)) before after at k
+maps_text {Means} utf8 text count fits onto =
+    maps_utf8 Means utf8 text.text text.scalars text.reads text.written count fits onto
