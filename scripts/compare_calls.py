@@ -17,6 +17,7 @@ import re
 import subprocess
 import sys
 from dataclasses import dataclass, replace
+from typing import NamedTuple
 
 # The number of lines that are compared at a time, and of those that differ and are shown.
 BATCH, SHOWN = 100_000, 5
@@ -172,23 +173,22 @@ def hexed(data):
     return data.hex().upper() or "-"
 
 
-class Programs:
-    """Both programs."""
+class Programs(NamedTuple):
+    """The commands of both programs."""
 
-    def __init__(self, ours, crate):
-        self.ours, self.crate = [ours], [crate, "answers"]
+    ours: list
+    crate: list
 
-    @staticmethod
-    def answers(program, lines):
-        text = "".join(f"{it}\n" for it in lines).encode()
-        return subprocess.run(program, input=text, stdout=subprocess.PIPE, check=True).stdout.decode().splitlines()
 
-    def of_ours(self, lines):
-        return [Answer.of(it) for it in self.answers(self.ours, lines)]
+def said(program, lines):
+    """What a program says to lines."""
+    text = "".join(f"{it}\n" for it in lines)
+    return subprocess.run(program, input=text, stdout=subprocess.PIPE, check=True, text=True).stdout.splitlines()
 
-    def of_crate(self, lines):
-        """The crate's answers. None where it panics."""
-        return [None if it == "panic" else Answer.of(it) for it in self.answers(self.crate, lines)]
+
+def answers(program, lines):
+    """The answers of a program to lines. None where it panics."""
+    return [None if it == "panic" else Answer.of(it) for it in said(program, lines)]
 
 
 def length(line, lengths):
@@ -342,11 +342,11 @@ def agrees_as(rule, other, ours, crate):
 
 def judge(programs, lines):
     """The rule of each line, or none, and the notes on all."""
-    ours, crate = programs.of_ours(lines), programs.of_crate(lines)
+    ours, crate = answers(programs.ours, lines), answers(programs.crate, lines)
     rules = [rule_of(*it) for it in zip(lines, ours, crate, strict=True)]
     open_lines = [at for at, rule in enumerate(rules) if not rule and agree_beside(lines[at], ours[at], crate[at])]
     others = [(at, *it) for at in open_lines for it in other_lines(lines[at], crate[at])]
-    for (at, rule, line), answer in zip(others, programs.of_ours([it[2] for it in others]), strict=True):
+    for (at, rule, line), answer in zip(others, answers(programs.ours, [it[2] for it in others]), strict=True):
         if agrees_as(rule, line, answer, crate[at]):
             rules[at] = rule
     notes = collections.Counter(note for it in zip(lines, ours, crate) for note in notes_of(*it))
@@ -377,14 +377,14 @@ def show(programs, line):
     line = smallest(programs, line)
     print(f"  differs: {line}")
     for name, program in (("the library", programs.ours), ("the crate", programs.crate)):
-        print(f"    {name}: {programs.answers(program, [line])[0]}")
+        print(f"    {name}: {said(program, [line])[0]}")
 
 
 def mended(programs):
     """The lines of FAULTS that no longer show their fault."""
     lines = [Line.of(it) for _, it in FAULTS]
-    answers = zip(lines, programs.of_ours(lines), programs.of_crate(lines), strict=True)
-    shown = [(rule, *notes_of(*it)) for rule, it in zip(judge(programs, lines)[0], answers, strict=True)]
+    both = zip(lines, answers(programs.ours, lines), answers(programs.crate, lines), strict=True)
+    shown = [(rule, *notes_of(*it)) for rule, it in zip(judge(programs, lines)[0], both, strict=True)]
     return [line for (fault, line), found in zip(FAULTS, shown, strict=True) if fault not in found]
 
 
@@ -392,15 +392,9 @@ def in_room(programs, texts):
     """Lines. Where the room is `+N`, it is N more than the library's query returns."""
     lines = [Line.of(it) for it in texts]
     above = [at for at, it in enumerate(texts) if it.split()[5].startswith("+")]
-    for at, answer in zip(above, programs.of_ours([lines[at] for at in above]), strict=True):
+    for at, answer in zip(above, answers(programs.ours, [lines[at] for at in above]), strict=True):
         lines[at] = replace(lines[at], room=answer.query + lines[at].room)
     return lines
-
-
-def batches(made):
-    """Lines, in batches."""
-    while texts := list(itertools.islice(made, BATCH)):
-        yield texts
 
 
 def lines_of(crate, how):
@@ -415,8 +409,9 @@ def lines_of(crate, how):
 
 def main(words):
     ours, crate, *how = words
-    programs, counts, notes, shown = Programs(ours, crate), collections.Counter(), collections.Counter(), 0
-    for texts in batches(lines_of(crate, how)):
+    programs, made, shown = Programs([ours], [crate, "answers"]), iter(lines_of(crate, how)), 0
+    counts, notes = collections.Counter(), collections.Counter()
+    while texts := list(itertools.islice(made, BATCH)):
         lines = in_room(programs, texts)
         rules, more = judge(programs, lines)
         counts.update(rules)
