@@ -204,6 +204,7 @@ def groups_of(edits, most):
     return groups
 
 
+@functools.cache
 def gate():
     """The files of must-fail that stand for many edits, by path: one for each group of the edits that name a call."""
     files = {}

@@ -6,13 +6,13 @@ import re
 import claims
 import closure
 from common import crates, differing, paths, read
-from edit_list import edits_of, equal_of, files_of_gate
+from edit_list import edits_of, equal_of, gate
 from encoding_list import labels_of, read_list
 from places import decoders
 from sources import headline, is_written, lines_of, specs_of, tests_of
 
 FROM, TO = "<!-- scripts/documents writes from here -->", "<!-- to here -->"
-# The folders of sources, by their names in docs/VERIFY.md, with what is said of each.
+# The folders of sources, by their names in docs/VERIFY.md, with the text beside the number of each.
 FOLDERS = {
     "definitions": ("specs", "`specs/`, without imports"),
     "code": ("src", "`src/` of libraries and programs: contracts and tables too"),
@@ -36,7 +36,7 @@ def of_gate():
     tests = {crate: tests_of(crate) for crate in crates()}
     single, calls = sum("/must-fail/" in it.path for it in edits), sum(bool(it.call) for it in edits)
     shown, equal = sum(bool(it.shown) for it in edits), sum(len(equal_of(it)) for it in crates())
-    groups, codecs = sum(len(files_of_gate(it)) for it in crates()), sum(len(it.codecs) for it in decoders())
+    groups, codecs = len(gate()), sum(len(it.codecs) for it in decoders())
     by_crate = listed({crate: len(those) for crate, those in every.items()})
     why = f"{len(edits) - shown} edits say why no run shows them; {equal} changes in `equal/` mean the same"
     return table([
@@ -83,12 +83,12 @@ def with_tables(path, *tables):
 def counts():
     """The numbers of the tree that stand in sentences: by document, the words before and after each."""
     encodings, indexes = len(read_list()), len(paths("data/indexes/index-*.txt"))
-    labels, with_encoder = len(labels_of(read_list())), sum(not it.writes_utf_8 for it in read_list())
+    labels, encoders = len(labels_of(read_list())), sum(not it.writes_utf_8 for it in read_list())
     return {
-        "README.md": [("for the ", " encodings of the", encodings), ("encoders for the ", " that have one", with_encoder)],
+        "README.md": [("for the ", " encodings of the", encodings), ("encoders for the ", " that have one", encoders)],
         "docs/PROVED.md": [
-            ("There are ", " labels", labels), ("Each of the ", " labels", labels), ("each of the ", " encodings", encodings),
-            ("All ", " indexes", indexes),
+            ("There are ", " labels", labels), ("Each of the ", " labels", labels),
+            ("each of the ", " encodings", encodings), ("All ", " indexes", indexes),
         ],
         "data/README.md": [
             ("the ", " encodings of the", encodings), ("their ", " labels", labels), ("the ", " indexes", indexes),
@@ -125,7 +125,7 @@ of its own, so a search for the name in `crates/*/specs/` finds it. `scripts/doc
 
 
 def written():
-    """The documents with figures, by path: what is written there, and the text."""
+    """The documents with figures, by path: the kind of figures, and the text."""
     return {
         "docs/GATE.md": ("numbers", with_tables("docs/GATE.md", of_gate())),
         "docs/VERIFY.md": ("tables", with_tables("docs/VERIFY.md", closure.table(), of_verify())),

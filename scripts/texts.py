@@ -1,7 +1,7 @@
 """Text in each encoding, by its label: that of data/texts.txt, and of encodings that Python doesn't know.
 
-texts.py    prints rows of data/texts.txt for scripts/command-lines: the function there that compares them, the label, and
-            the text and its bytes as formats of printf
+texts.py    prints rows of data/texts.txt for scripts/command-lines: the function there that compares them, the label,
+            and the text and its bytes as formats of printf
 """
 
 import re
