@@ -37,7 +37,7 @@ def commands_of_simdutf(corpus, simdutf):
 
 
 def commands(corpus, programs):
-    """The command of each program on a corpus. Random bytes are for those alone that replace what is malformed."""
+    """The command of each program on a corpus. Random bytes are for those alone that replace malformed sequences."""
     beside = commands_of_simdutf(corpus, programs["simdutf"])
     if corpus.way in ("to-units", "from-units"):
         how, ends = "decode" if corpus.is_decoded else "encode", [corpus.label, "--utf16"]

@@ -61,7 +61,7 @@ text_then {us} {front} {more} {a} {n} first others = record {
       ∙ sym (units-append encode_utf8 first.text others.text);
 }
 
--- the first n code units, none of which is a surrogate
+-- the first n code units, where none is a surrogate
 pub text_units : (n : ℕ) {us units : List ℕ} → n ≤ 8 → 8 ≤ length us → units ≡ take 8 us
     → AreScalars (take n units)
     → AreUtf8OfUnits us n (units_of_text encode_utf8 (take n units))

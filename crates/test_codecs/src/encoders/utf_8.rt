@@ -55,7 +55,7 @@ fn whole_characters_are_written_where_not_all_fit(rt: HostRuntime) -> Result<(),
     Ok(())
 }
 
-/// Code units of which four, in the midst of others, are no characters: two high surrogates, the
+/// Code units; four in the midst of others are no characters: two high surrogates, the
 /// second before a character, and two low ones.
 const LONE: [u16; 64] = [
     0x44F, 0x44F, 0x44F, 0x44F, 0x44F, 0x44F, 0x44F, 0x44F, 0x44F, 0xD83D, 0xD83D, 0xDCA9, 0x44F,
