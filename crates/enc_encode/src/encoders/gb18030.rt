@@ -59,7 +59,7 @@ fn four_bytes(pointer: u32) -> Bytes
 }
 
 /// Returns the four bytes of a character, by the ranges.
-#[inline(never)]
+#[inline(always)]
 fn by_ranges(c: char) -> Option<Bytes>
     ensures { AreBytesOf (bytes_of_pointer gb18030_four_bytes (gb18030_ranges_pointer c)) result }
 {
@@ -84,6 +84,7 @@ fn two_or_four_bytes(is_gbk: bool, c: char) -> Option<Bytes>
 }
 
 /// Returns the two bytes of a character, if a row has it.
+#[inline(always)]
 fn row_bytes(rows: &[(char, u8, u8)], c: char) -> Option<Bytes>
     ensures { AreBytesOf (wanted_row_bytes rows.now c) result }
 {
@@ -97,7 +98,7 @@ fn row_bytes(rows: &[(char, u8, u8)], c: char) -> Option<Bytes>
 }
 
 /// Returns the bytes of a character from U+E5E5 on, where some have rows beside the index.
-#[inline(never)]
+#[inline(always)]
 #[tactic(auto, using(crate::proofs::PrivateUseLemmas::by_row))]
 fn private_use_bytes(is_gbk: bool, c: char) -> Option<Bytes>
     requires { 0xE5E5 ≤ c }
@@ -127,6 +128,8 @@ impl Repertoire for Gb18030 {
 
     ghost lengths = { λ r. gb18030_lengths r.is_gbk };
 
+    /// It is inlined as a whole: bytes that a function out of line returns are in memory, and a run
+    /// would then keep those of each character there.
     #[inline(always)]
     #[tactic(auto, using(crate::proofs::PrivateUseLemmas::by_index))]
     fn bytes_beyond_ascii(self, c: char) -> Option<Bytes> {
