@@ -1,26 +1,6 @@
-use Rattle.std.proofs.Common.{arith}
-use Rattle.enc_units.proofs.PiecesLemmas.{then_rest, same_then}
-use Rattle.enc_units.proofs.GatherLemmas.{puts_gathered}
+use Rattle.enc_units.proofs.PiecesLemmas.{then_rest}
 use Rattle.enc_units.proofs.utf8_slice.Utf8Slice.append_gathered.Goals as goal
 
-pub returns-then-not-append : goal.returns-then-not-append
-returns-then-not-append g c =
-    same_then (c.append.ensures.unchanged c.if-not-append.true) c.loop-at.invariant
-
-pub loop-at-preserved : goal.loop-at-preserved
-loop-at-preserved g c =
-    let appended = c.append.ensures in
-    then_rest c.split_at.ensures.back c.loop-at.invariant
-    (puts_gathered c.gather-read.ensures.gathers
-    (omega (arith, appended.fits c.if-not-append.false))
-    (appended.written c.if-not-append.false))
-
-pub loop-at-preserved-then-begins_as_ascii : goal.loop-at-preserved-then-begins_as_ascii
-loop-at-preserved-then-begins_as_ascii g c =
-    let appended = c.append.ensures in
-    then_rest c.split_at-in-loop-at.ensures.back
-    (then_rest c.split_at.ensures.back c.loop-at.invariant
-    (puts_gathered c.gather-read.ensures.gathers
-    (omega (arith, appended.fits c.if-not-append.false))
-    (appended.written c.if-not-append.false)))
-    c.append_ascii_of-at-then-begins_as_ascii.ensures
+pub returns : goal.returns
+returns g c =
+    then_rest c.split_at.ensures.back c.append_ascii_of-at.ensures c.append_turns.ensures

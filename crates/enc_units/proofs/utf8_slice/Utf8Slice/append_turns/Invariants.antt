@@ -2,7 +2,7 @@ use Rattle.std.proofs.Common.{◌-◌, length}
 use Rattle.std.specs.Char.{encode_utf8}
 use Rattle.enc_units.specs.Output.{borrowed_output}
 use Rattle.enc_units.specs.Pieces.{PutsPieces}
-use Rattle.enc_units.proofs.utf8_slice.Utf8Slice.append_gathered.Given as goal
+use Rattle.enc_units.proofs.utf8_slice.Utf8Slice.append_turns.Given as goal
 
 abbrev pub invariant-loop-at : goal.invariant-loop-at
 invariant-loop-at g l =
