@@ -17,6 +17,7 @@ use Rattle.enc_units.specs.Mappings.{AreWrittenAsThemselves}
 use Rattle.enc_units.specs.Gathering.{GathersChars}
 use Rattle.enc_units.specs.Pairs.{MeansWord, MeansUnit}
 use Rattle.enc_units.proofs.PiecesLemmas.{reads_none, reads_then, reads_one, reads_own, own_ascii, units-append}
+use Rattle.enc_units.proofs.PiecesLemmas.{then_rest}
 use Rattle.enc_units.proofs.UnitsLemmas.{one_unit}
 use Rattle.enc_units.proofs.ScalarLemmas.{one_scalar, scalars-append, ascii_scalars}
 
@@ -192,3 +193,13 @@ puts_gathered {before = before} gathers f e = record {
   fits = omega (arith, ap length gathers.written);
   written = e ∙ ap (with_appended before) gathers.written;
 }
+
+-- the same after what is put out already, where the rest is a list of its own
+module _ {units_of : ℕ → List ℕ} {Means : List ℕ → ℕ → Type 0} {before mid after : Output}
+    {src rest units : List ℕ}
+    {a n : ℕ} where
+  pub then_gathered : rest ≡ drop a src → PutsPieces units_of Means before mid src a
+      → GathersChars units_of Means rest n [] units
+      → length units ≤ mid.room → after ≡ with_appended mid units
+      → PutsPieces units_of Means before after src (a + n)
+  then_gathered e p gathers f w = then_rest e p (puts_gathered gathers f w)
