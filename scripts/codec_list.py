@@ -20,6 +20,22 @@ class Codec(NamedTuple):
     byte_lengths: str
 
 
+class Named:
+    """The names of something in sources, by its name."""
+
+    @property
+    def constant(self):
+        return self.name.upper().replace("-", "_")
+
+    @property
+    def module(self):
+        return self.name.replace("-", "_")
+
+    @property
+    def ident(self):
+        return "".join(part.capitalize() for part in self.name.split("-"))
+
+
 class Index(NamedTuple):
     """A line `index`."""
 
@@ -28,7 +44,8 @@ class Index(NamedTuple):
     size: str
     number: str
     grid: str
-    users: str
+
+    constant, module, ident = Named.constant, Named.module, Named.ident
 
     @property
     def rows(self):
@@ -48,18 +65,35 @@ class Index(NamedTuple):
         return self.grid == "grid"
 
     @property
-    def constant(self):
-        return self.name.upper().replace("-", "_")
+    def planes(self):
+        """The variant of `Planes`."""
+        return "All" if self.number == "u32" else "Basic"
+
+
+class LookUp(NamedTuple):
+    """A line `lookup`."""
+
+    name: str
+    index: str
+    users: str
+    counting: str
+    by_last: str
+
+    constant, module, ident = Named.constant, Named.module, Named.ident
+
+    def counts(self, pointer):
+        """Whether a pointer counts."""
+        numbers = [int(it) for it in re.findall(r"\d+", self.counting)]
+        if self.counting.startswith("from"):
+            return pointer >= numbers[0]
+        if self.counting.startswith("below"):
+            return pointer < numbers[0]
+        return not numbers or not numbers[0] <= pointer <= numbers[1]
 
     @property
-    def ident(self):
-        """Its variant of `List`."""
-        return "".join(part.capitalize() for part in self.name.split("-"))
-
-    @property
-    def lookups(self):
-        """The look-ups of encoders: the constant of each, and the encodings that it is for."""
-        return [tuple(it.split(" for ")) for it in self.users.split(", ")] if self.users != "-" else []
+    def last_of(self):
+        """The code points of which the last pointer counts."""
+        return [int(it, 16) for it in self.by_last.split(" ")] if self.by_last != "-" else []
 
 
 class Pairs(NamedTuple):
@@ -84,6 +118,7 @@ class Lists(NamedTuple):
 
     codecs: list
     indexes: list
+    lookups: list
     pairs: list
 
 
@@ -122,6 +157,9 @@ def check(lists):
     for index in lists.indexes:
         if not os.path.exists(os.path.join(TOP, f"data/indexes/index-{index.name}.txt")):
             refuse(f"no data/indexes/index-{index.name}.txt")
+    for lookup in lists.lookups:
+        if lookup.index not in indexes:
+            refuse(f"lookup {lookup.name}: no index {lookup.index}")
     for pairs in lists.pairs:
         if pairs.decoder not in decoders or pairs.index not in indexes:
             refuse(f"pairs {pairs.decoder}: no such decoder, or no index {pairs.index}")
@@ -132,7 +170,7 @@ def check(lists):
 
 def read_lists():
     """The codecs, indexes and pairs, each in the order of the list."""
-    kinds = {"codec": Codec, "index": Index, "pairs": Pairs}
+    kinds = {"codec": Codec, "index": Index, "lookup": LookUp, "pairs": Pairs}
     found = {kind: [] for kind in kinds}
     with open(os.path.join(TOP, LIST), encoding="utf-8") as file:
         for line in file:
@@ -142,7 +180,7 @@ def read_lists():
             if kind not in kinds or len(words) != len(kinds[kind]._fields):
                 refuse(f"not a line of {', '.join(kinds)}: {line.strip()}")
             found[kind].append(kinds[kind](*words))
-    lists = Lists(found["codec"], found["index"], found["pairs"])
+    lists = Lists(*found.values())
     check(lists)
     return lists
 

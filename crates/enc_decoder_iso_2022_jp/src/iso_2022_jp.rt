@@ -2,8 +2,8 @@
 
 ghost use Rattle.std.specs.Prelude.{◌≡◌, ℕ, ◌+◌, ◌-◌, ◌<◌, ◌≤◌, true, false, Option, IfSome};
 ghost use Rattle.std.specs.Prelude.{IfNone, IsTrue, List, [], ◌∷◌};
+ghost use Rattle.enc_index.specs.DoubleByteIndexes.{jis0208_shape};
 ghost use Rattle.enc_index.specs.Grid.{ArePairPlaces};
-ghost use Rattle.enc_index.specs.declared.grid.Grid.TheVariants as grids;
 ghost use Rattle.enc_decoder_iso_2022_jp.specs.Iso2022Jp.{set_of_escape_bytes};
 ghost use Rattle.enc_decoder_iso_2022_jp.specs.Iso2022Jp.{ascii_char as char_in_ascii};
 ghost use Rattle.enc_decoder_iso_2022_jp.specs.Iso2022Jp.{roman_char as char_in_roman};
@@ -25,7 +25,8 @@ use enc_decoder::{
     ByteCodec, Emission, HandlerResult, Kind, RawDecoder, Text, TextLengths, latin1_up_to,
     report_or_run,
 };
-use enc_index::{Grid, List};
+use enc_index::DoubleByteIndex;
+use enc_index::indexes::Jis0208Index;
 use enc_units::{
     DecoderResult, Pieces, Places, Units, numbers_in, places_at, put_run, unshifted_len,
 };
@@ -279,7 +280,7 @@ fn char_of_pair(lead: u8, byte: u8) -> Option<char>
     if !is_jis0208_byte(byte) {
         return None;
     }
-    List::Jis0208.at((lead as u32 - 0x21) * 94 + (byte as u32 - 0x21))
+    Jis0208Index::at((lead as u32 - 0x21) * 94 + (byte as u32 - 0x21))
 }
 
 /// Returns whether characters have two bytes.
@@ -293,11 +294,12 @@ fn has_pairs(set: CharacterSet) -> bool
     }
 }
 
-/// Returns the place in the grid of jis0208 of each of sixteen bytes with the byte after it.
+/// Returns the place in index jis0208 of each of sixteen bytes with the byte after it.
 #[inline(always)]
 fn pair_places(first: u8x16, second: u8x16) -> u16x16
-    ensures { ArePairPlaces grids.Jis0208 IsJis0208Pair result first second }
+    ensures { ArePairPlaces jis0208_shape IsJis0208Pair result first second }
 {
+    Jis0208Index::laws();
     let rows = numbers_in(first, 0x21, 0x7E, 0, u8x16::splat(120));
     let columns = numbers_in(second, 0x21, 0x7E, 0, u8x16::splat(94));
     places_at(rows, columns, 95)
@@ -552,14 +554,14 @@ fn step_started(
 }
 
 impl Pieces for Iso2022JpDecoder {
-    ghost use Rattle.enc_index.specs.declared.grid.Grid.TheVariants as grids;
+    ghost use Rattle.enc_index.specs.DoubleByteIndexes.{jis0208_shape};
     ghost use Rattle.enc_index.specs.Grid.{IsPlaceOf};
     ghost use Rattle.enc_decoder_iso_2022_jp.specs.Iso2022Jp.{set_number, iso_2022_jp_rule};
     ghost use Rattle.enc_decoder.specs.Taking.{IsWholeChar};
 
     ghost means = { λ d. IsWholeChar iso_2022_jp_rule (set_number d.set) };
 
-    ghost stands_for = { λ d place bytes. IsPlaceOf grids.Jis0208
+    ghost stands_for = { λ d place bytes. IsPlaceOf jis0208_shape
         (IsWholeChar iso_2022_jp_rule (set_number d.set) bytes) place };
 
     #[inline(always)]
@@ -608,13 +610,13 @@ impl Pieces for Iso2022JpDecoder {
     #[inline(always)]
     fn word_at(self, place: u16) -> u32 {
         let _set = self.set;
-        Grid::Jis0208.word(place as usize)
+        Jis0208Index::word(place as usize)
     }
 
     #[inline(always)]
     fn unit_at(self, place: u16) -> u16 {
         let _set = self.set;
-        Grid::Jis0208.unit(place as usize)
+        Jis0208Index::unit(place as usize)
     }
 }
 

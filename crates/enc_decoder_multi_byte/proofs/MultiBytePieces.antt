@@ -4,8 +4,7 @@ use Rattle.std.proofs.lemmas.Bool.Decides.{nat_tests}
 use Rattle.enc_decoder.specs.declared.byte_codec.Kind.TheVariants.{Valid}
 use Rattle.enc_decoder.specs.declared.byte_codec.Text.TheVariants.{One}
 use Rattle.enc_decoder.specs.Taking.{IsWholeChar}
-use Rattle.enc_index.specs.declared.grid.Grid.{Grid}
-use Rattle.enc_index.specs.Grid.{IsPlaceOf}
+use Rattle.enc_index.specs.Grid.{Shape, IsPlaceOf}
 use Rattle.enc_index.proofs.GridLemmas.{grid_char-of_ascii}
 use Rattle.enc_index.proofs.PlaceLemmas.{places_of, same_some}
 use Rattle.enc_units.specs.Pairs.{byte_or_pair}
@@ -28,11 +27,11 @@ complete_two prefix a b c u e y =
     (settles_complete prefix (a ∷ b ∷ []) (One c) (omega arith) e)
 
 -- the place of a byte: that of the pair that it leads, and its own number if it is ASCII
-module _ (grid : Grid) (prefix : List ℕ → Prefix) (a b pair : ℕ) (ascii : HasAscii prefix)
-    (of_pair : IsPlaceOf grid (IsCharPair prefix a b) pair) where
+module _ (shape : Shape) (prefix : List ℕ → Prefix) (a b pair : ℕ) (ascii : HasAscii prefix)
+    (of_pair : IsPlaceOf shape (IsCharPair prefix a b) pair) where
   abbrev IsPlace : Bool → ℕ → Type 0
   IsPlace leads place =
-      IsPlaceOf grid (IsWholeChar (multi_byte_rule prefix) 0 (byte_or_pair leads a b)) place
+      IsPlaceOf shape (IsWholeChar (multi_byte_rule prefix) 0 (byte_or_pair leads a b)) place
 
   either_place : (t : Bool) → nat_le 0x80 a ≡ t → IsPlace t (cond t pair a)
   either_place true e = places_of of_pair (λ c p. complete_two prefix a b c p.first p.both)
@@ -41,7 +40,7 @@ module _ (grid : Grid) (prefix : List ℕ → Prefix) (a b pair : ℕ) (ascii : 
       record {
         within = omega arith;
         char = λ c has. subst (IsWholeChar (multi_byte_rule prefix) 0 (a ∷ []))
-            (same_some a c (sym (grid_char-of_ascii grid a low) ∙ has))
+            (same_some a c (sym (grid_char-of_ascii shape a low) ∙ has))
             (complete_one prefix a a (ascii a low));
       }
 

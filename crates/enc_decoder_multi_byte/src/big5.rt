@@ -6,7 +6,8 @@ ghost use Rattle.enc_decoder_multi_byte.specs.Big5.{is_big5_trail, big5_pointer_
 use crate::double_byte::{Double, DoubleByte, text_of};
 use crate::multi_byte::MultiByteDecoder;
 use enc_decoder::Text;
-use enc_index::{Grid, List};
+use enc_index::DoubleByteIndex;
+use enc_index::indexes::Big5Index;
 use enc_units::{numbers_in, places_at};
 use std::simd::prelude::*;
 
@@ -38,12 +39,11 @@ fn text_at(pointer: u32) -> Option<Text>
         1135 => Some(Text::Two('\u{CA}', '\u{30C}')),
         1164 => Some(Text::Two('\u{EA}', '\u{304}')),
         1166 => Some(Text::Two('\u{EA}', '\u{30C}')),
-        _ => text_of(List::Big5.at(pointer)),
+        _ => text_of(Big5Index::at(pointer)),
     }
 }
 
 impl DoubleByte for Big5 {
-    ghost use Rattle.enc_index.specs.declared.grid.Grid.TheVariants as grids;
     ghost use Rattle.enc_decoder_multi_byte.specs.Big5.{is_big5_lead, big5_single_char};
     ghost use Rattle.enc_decoder_multi_byte.specs.Big5.{big5_pair_text};
 
@@ -74,14 +74,11 @@ impl DoubleByte for Big5 {
         text_at((lead as u32 - 0x81) * 157 + (trail as u32 - offset))
     }
 
-    ghost pairs_in = { grids.Big5 };
-
-    fn grid() -> Grid {
-        Grid::Big5
-    }
+    type Index = Big5Index;
 
     #[inline(always)]
     fn pair_places(first: u8x16, second: u8x16) -> u16x16 {
+        Big5Index::laws();
         let rows = numbers_in(first, 0x81, 0xFE, 0, u8x16::splat(126));
         let upper = numbers_in(second, 0xA1, 0xFE, 63, u8x16::splat(157));
         let columns = numbers_in(second, 0x40, 0x7E, 0, upper);

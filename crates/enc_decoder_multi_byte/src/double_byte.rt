@@ -1,7 +1,6 @@
 //! The legacy encodings with characters of one byte and two.
 
 ghost use Rattle.std.specs.Prelude.{◌≡◌, ℕ, ◌+◌, ◌<◌, Bool, Option, Some, true, false};
-ghost use Rattle.enc_index.specs.declared.grid.Grid.{Grid};
 ghost use Rattle.enc_index.specs.Grid.{ArePairPlaces};
 ghost use Rattle.enc_decoder.specs.declared.byte_codec.Text.{Text};
 ghost use Rattle.enc_decoder_multi_byte.specs.DoubleByte.{text_of_char, first_prefix, trail_prefix};
@@ -9,7 +8,7 @@ ghost use Rattle.enc_decoder_multi_byte.specs.DoubleByte.{ArePairs, IsLeadPair};
 
 use crate::multi_byte::{MultiByte, Prefix};
 use enc_decoder::{Pending, Text};
-use enc_index::Grid;
+use enc_index::DoubleByteIndex;
 use std::marker::PhantomData;
 use std::simd::prelude::*;
 
@@ -39,18 +38,14 @@ pub trait DoubleByte: Copy {
         requires { leads lead ≡ true }
         ensures { result ≡ pairs lead trail };
 
-    // the grid in which pairs are looked up
-    ghost pairs_in: { Grid };
+    /// The index in which pairs are looked up.
+    type Index: DoubleByteIndex;
 
-    /// Returns the grid in which pairs are looked up.
-    fn grid() -> Grid
-        ensures { result ≡ pairs_in };
-
-    /// Returns the place in the grid of each of sixteen bytes with the byte after it.
+    /// Returns the place in the index of each of sixteen bytes with the byte after it.
     ///
     /// A character there is theirs, and the first byte is a lead byte.
     fn pair_places(first: u8x16, second: u8x16) -> u16x16
-        ensures { ArePairPlaces pairs_in (IsLeadPair leads pairs) result first second };
+        ensures { ArePairPlaces Self.Index.shape (IsLeadPair leads pairs) result first second };
 
     /// The laws of all single bytes and all pairs. The call does nothing.
     fn laws()
@@ -129,11 +124,7 @@ impl<D: DoubleByte> MultiByte for Double<D> {
         }
     }
 
-    ghost pairs_in = { D.pairs_in };
-
-    fn grid() -> Grid {
-        D::grid()
-    }
+    type Index = D::Index;
 
     #[inline(always)]
     fn pair_places(first: u8x16, second: u8x16) -> u16x16 {

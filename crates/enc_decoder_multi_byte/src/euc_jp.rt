@@ -10,7 +10,8 @@ use crate::double_byte::{classify_first, classify_trail, text_of};
 use crate::katakana::katakana;
 use crate::multi_byte::{MultiByte, MultiByteDecoder, Prefix};
 use enc_decoder::Pending;
-use enc_index::{Grid, List};
+use enc_index::{DoubleByteIndex, List};
+use enc_index::indexes::Jis0208Index;
 use enc_units::{numbers_in, places_at};
 use std::simd::prelude::*;
 
@@ -67,7 +68,7 @@ fn pair(lead: u8, trail: u8) -> Option<char>
         };
     }
     if is_euc_byte(lead) && is_euc_byte(trail) {
-        List::Jis0208.at(pointer(lead, trail))
+        Jis0208Index::at(pointer(lead, trail))
     } else {
         None
     }
@@ -96,7 +97,6 @@ fn read_second(lead: u8, byte: u8) -> Prefix
 }
 
 impl MultiByte for EucJp {
-    ghost use Rattle.enc_index.specs.declared.grid.Grid.TheVariants as grids;
     ghost use Rattle.enc_decoder_multi_byte.specs.EucJp.{euc_jp_prefix};
 
     ghost prefix = { euc_jp_prefix };
@@ -116,14 +116,11 @@ impl MultiByte for EucJp {
         pair(lead, byte)
     }
 
-    ghost pairs_in = { grids.Jis0208 };
-
-    fn grid() -> Grid {
-        Grid::Jis0208
-    }
+    type Index = Jis0208Index;
 
     #[inline(always)]
     fn pair_places(first: u8x16, second: u8x16) -> u16x16 {
+        Jis0208Index::laws();
         let rows = numbers_in(first, 0xA1, 0xFE, 0, u8x16::splat(120));
         let columns = numbers_in(second, 0xA1, 0xFE, 0, u8x16::splat(94));
         places_at(rows, columns, 95)

@@ -5,7 +5,8 @@ ghost use Rattle.std.specs.Prelude.{Option};
 use crate::double_byte::{Double, DoubleByte, text_of};
 use crate::multi_byte::MultiByteDecoder;
 use enc_decoder::Text;
-use enc_index::{Grid, List};
+use enc_index::DoubleByteIndex;
+use enc_index::indexes::EucKrIndex;
 use enc_units::{numbers_in, places_at};
 use std::simd::prelude::*;
 
@@ -17,7 +18,6 @@ pub struct EucKr;
 pub type EucKrDecoder = MultiByteDecoder<Double<EucKr>>;
 
 impl DoubleByte for EucKr {
-    ghost use Rattle.enc_index.specs.declared.grid.Grid.TheVariants as grids;
     ghost use Rattle.enc_decoder_multi_byte.specs.EucKr.{is_euc_kr_lead, euc_kr_single_char};
     ghost use Rattle.enc_decoder_multi_byte.specs.EucKr.{euc_kr_pair_text};
 
@@ -43,17 +43,14 @@ impl DoubleByte for EucKr {
         if trail < 0x41 || trail > 0xFE {
             return None;
         }
-        text_of(List::EucKr.at((lead as u32 - 0x81) * 190 + (trail as u32 - 0x41)))
+        text_of(EucKrIndex::at((lead as u32 - 0x81) * 190 + (trail as u32 - 0x41)))
     }
 
-    ghost pairs_in = { grids.EucKr };
-
-    fn grid() -> Grid {
-        Grid::EucKr
-    }
+    type Index = EucKrIndex;
 
     #[inline(always)]
     fn pair_places(first: u8x16, second: u8x16) -> u16x16 {
+        EucKrIndex::laws();
         let rows = numbers_in(first, 0x81, 0xFE, 0, u8x16::splat(126));
         let columns = numbers_in(second, 0x41, 0xFE, 0, u8x16::splat(190));
         places_at(rows, columns, 191)

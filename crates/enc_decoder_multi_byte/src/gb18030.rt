@@ -9,7 +9,8 @@ ghost use Rattle.enc_decoder_multi_byte.specs.Gb18030.{ranges_code_point, gb1803
 use crate::double_byte::{classify_first, classify_trail, text_of};
 use crate::multi_byte::{MultiByte, MultiByteDecoder, Prefix};
 use enc_decoder::{Pending, Text};
-use enc_index::{Grid, List};
+use enc_index::{DoubleByteIndex, List};
+use enc_index::indexes::Gb18030Index;
 use enc_units::{numbers_in, places_at};
 use std::simd::prelude::*;
 
@@ -65,7 +66,7 @@ fn pair(lead: u8, trail: u8) -> Option<char>
         return None;
     }
     let offset = if trail < 0x7F { 0x40 } else { 0x41 };
-    List::Gb18030.at((lead as u32 - 0x81) * 190 + (trail as u32 - offset))
+    Gb18030Index::at((lead as u32 - 0x81) * 190 + (trail as u32 - offset))
 }
 
 /// Returns the character of a pointer of four bytes.
@@ -132,7 +133,6 @@ fn read_fourth(first: u8, second: u8, third: u8, byte: u8) -> Prefix
 }
 
 impl MultiByte for Gb18030 {
-    ghost use Rattle.enc_index.specs.declared.grid.Grid.TheVariants as grids;
     ghost use Rattle.enc_decoder_multi_byte.specs.Gb18030.{gb18030_prefix};
 
     ghost prefix = { gb18030_prefix };
@@ -160,14 +160,11 @@ impl MultiByte for Gb18030 {
         pair(lead, byte)
     }
 
-    ghost pairs_in = { grids.Gb18030 };
-
-    fn grid() -> Grid {
-        Grid::Gb18030
-    }
+    type Index = Gb18030Index;
 
     #[inline(always)]
     fn pair_places(first: u8x16, second: u8x16) -> u16x16 {
+        Gb18030Index::laws();
         let rows = numbers_in(first, 0x81, 0xFE, 0, u8x16::splat(126));
         let upper = numbers_in(second, 0x80, 0xFE, 63, u8x16::splat(190));
         let columns = numbers_in(second, 0x40, 0x7E, 0, upper);

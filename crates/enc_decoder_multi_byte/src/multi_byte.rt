@@ -14,7 +14,7 @@ use enc_decoder::{
     ByteCodec, Emission, HandlerResult, Kind, Pending, RawDecoder, Text, TextLengths, latin1_up_to,
     replace_each, run,
 };
-use enc_index::Grid;
+use enc_index::DoubleByteIndex;
 use enc_units::{DecoderResult, Pieces, Places, Units, put_run};
 use std::marker::PhantomData;
 use std::simd::prelude::*;
@@ -32,7 +32,6 @@ pub enum Prefix {
 
 /// A legacy multi-byte encoding without escape sequences, by the kinds of prefixes.
 pub trait MultiByte: Copy {
-    ghost use Rattle.enc_index.specs.declared.grid.Grid.{Grid};
     ghost use Rattle.enc_decoder_multi_byte.specs.declared.multi_byte.Prefix.{Prefix};
 
     // the kind of a prefix, if all shorter ones are incomplete
@@ -56,18 +55,14 @@ pub trait MultiByte: Copy {
     fn pair_char(lead: u8, byte: u8) -> Option<char>
         ensures { IfSome result (λ c. IsCharPair prefix lead byte c) };
 
-    // the grid in which pairs are looked up
-    ghost pairs_in: { Grid };
+    /// The index in which pairs are looked up.
+    type Index: DoubleByteIndex;
 
-    /// Returns the grid in which pairs are looked up.
-    fn grid() -> Grid
-        ensures { result ≡ pairs_in };
-
-    /// Returns the place in the grid of each of sixteen bytes with the byte after it.
+    /// Returns the place in the index of each of sixteen bytes with the byte after it.
     ///
     /// A character there is theirs, and the first byte is none by itself.
     fn pair_places(first: u8x16, second: u8x16) -> u16x16
-        ensures { ArePairPlaces pairs_in (IsCharPair prefix) result first second };
+        ensures { ArePairPlaces Self.Index.shape (IsCharPair prefix) result first second };
 
     /// The laws of all prefixes. The call does nothing.
     fn laws()
@@ -245,7 +240,7 @@ impl<E: MultiByte> Pieces for MultiByteDecoder<E> {
 
     ghost means = { λ _. IsWholeChar (multi_byte_rule E.prefix) 0 };
 
-    ghost stands_for = { λ _ place bytes. IsPlaceOf E.pairs_in
+    ghost stands_for = { λ _ place bytes. IsPlaceOf E.Index.shape
         (IsWholeChar (multi_byte_rule E.prefix) 0 bytes) place };
 
     #[inline(always)]
@@ -288,12 +283,12 @@ impl<E: MultiByte> Pieces for MultiByteDecoder<E> {
 
     #[inline(always)]
     fn word_at(self, place: u16) -> u32 {
-        E::grid().word(place as usize)
+        E::Index::word(place as usize)
     }
 
     #[inline(always)]
     fn unit_at(self, place: u16) -> u16 {
-        E::grid().unit(place as usize)
+        E::Index::unit(place as usize)
     }
 }
 

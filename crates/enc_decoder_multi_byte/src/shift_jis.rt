@@ -7,7 +7,8 @@ use crate::double_byte::{Double, DoubleByte, text_of};
 use crate::katakana::katakana;
 use crate::multi_byte::MultiByteDecoder;
 use enc_decoder::Text;
-use enc_index::{Grid, List};
+use enc_index::DoubleByteIndex;
+use enc_index::indexes::Jis0208Index;
 use enc_units::{numbers_in, places_at};
 use std::simd::prelude::*;
 
@@ -35,12 +36,11 @@ fn character_at(pointer: u32) -> Option<char>
 {
     match pointer {
         8836..=10715 => char::from_u32(0xE000 + (pointer - 8836)),
-        _ => List::Jis0208.at(pointer),
+        _ => Jis0208Index::at(pointer),
     }
 }
 
 impl DoubleByte for ShiftJis {
-    ghost use Rattle.enc_index.specs.declared.grid.Grid.TheVariants as grids;
     ghost use Rattle.enc_decoder_multi_byte.specs.ShiftJis.{is_shift_jis_lead};
     ghost use Rattle.enc_decoder_multi_byte.specs.ShiftJis.{shift_jis_single_char};
     ghost use Rattle.enc_decoder_multi_byte.specs.ShiftJis.{shift_jis_pair_text};
@@ -72,15 +72,12 @@ impl DoubleByte for ShiftJis {
         text_of(character_at((lead as u32 - first) * 188 + (trail as u32 - offset)))
     }
 
-    ghost pairs_in = { grids.Jis0208 };
-
-    fn grid() -> Grid {
-        Grid::Jis0208
-    }
+    type Index = Jis0208Index;
 
     /// A lead byte has two rows of the grid, and one of the private use area has none.
     #[inline(always)]
     fn pair_places(first: u8x16, second: u8x16) -> u16x16 {
+        Jis0208Index::laws();
         let last = numbers_in(first, 0xFA, 0xFC, 57, u8x16::splat(60));
         let upper = numbers_in(first, 0xE0, 0xEF, 31, last);
         let rows = numbers_in(first, 0x81, 0x9F, 0, upper);

@@ -1,11 +1,10 @@
 -- The places of two bytes in the grids have their characters.
-use Rattle.std.proofs.Common.{◌≡◌, ◌∙◌, ℕ, suc, zero, ◌+◌, ◌-◌, ◌*◌, ◌<◌, ◌≤◌, Bool, true, false, cond, ◌&&◌, ◌==◌}
-use Rattle.std.proofs.Common.{nat_lt, lt-ltb, le-ltb, Option, Some, None}
-use Rattle.std.proofs.Common.{List, [], ◌∷◌, length, get_or, refl, ap, sym, arith, inl, inr, eqb-true}
-use Rattle.std.proofs.lemmas.Bool.{and_parts, cond-true, cond-false, cases_lt}
-use Rattle.enc_index.specs.declared.grid.Grid.{Grid}
-use Rattle.enc_index.specs.Grid.{grid_char, grid_rows, grid_width, IsPlaceOf}
-use Rattle.enc_index.proofs.GridLemmas.{pointer_char, grid_char-of_column, grid_char-of_last, grid_char-of_empty}
+use Rattle.std.proofs.Common.{◌≡◌, ◌∙◌, ℕ, ◌+◌, ◌*◌, ◌<◌, ◌≤◌, Bool, true, false, cond, Option, Some, None, refl}
+use Rattle.std.proofs.Common.{ap, sym, arith, inl, inr}
+use Rattle.std.proofs.lemmas.Bool.{cond-true, cases_lt}
+use Rattle.std.proofs.Math.Nat.{mul-le-mul_right}
+use Rattle.enc_index.specs.Grid.{Shape, HasNoMore, IsPlaceOf, pointer_char, grid_char}
+use Rattle.enc_index.proofs.GridLemmas.{grid_char-of_column, grid_char-of_last, grid_char-of_empty}
 
 pub same_some : (b c : ℕ) → Some b ≡ Some c → b ≡ c
 same_some b c e = cc
@@ -14,81 +13,83 @@ pub some_none : (A : Option ℕ) (c : ℕ) → A ≡ None → A ≡ Some c → �
 some_none A c e f = cc
 
 -- which case of a choice it is, by a bound that the other passes
-below : (t : Bool) (x most : ℕ) → cond t x most < most → t ≡ true
+pub below : (t : Bool) (x most : ℕ) → cond t x most < most → t ≡ true
 below true x most h = refl
 below false x most h = absurd (omega arith)
 
-record Stands (grid : Grid) (row column c : ℕ) : Type 0 where
-  in_rows : row < grid_rows grid
-  in_columns : column < grid_width grid
-  is : pointer_char grid (row * grid_width grid + column) ≡ Some c
+at_most : (t : Bool) (x most : ℕ) → (t ≡ true → x < most) → cond t x most ≤ most
+at_most true x most h = omega (arith, h refl)
+at_most false x most h = omega arith
 
--- a character at a row and a column is that of their pointer
-stands : (grid : Grid) (row column c : ℕ) → column ≤ grid_width grid
-    → grid_char grid (256 + row * (grid_width grid + 1) + column) ≡ Some c
-    → Stands grid row column c
-stands grid row column c l has_char =
-    let place = 256 + row * (grid_width grid + 1) + column in
-    elim (cases_lt row (grid_rows grid)) [
-      | inr past ↦ absurd (some_none _ c (grid_char-of_empty grid row column past l) has_char)
-      | inl r ↦ elim (cases_lt column (grid_width grid)) [
-        | inl within_width ↦ record {
-          in_rows = r;
-          in_columns = within_width;
-          is = sym (grid_char-of_column grid row column within_width) ∙ has_char;
-        }
+-- at a row and a column there is the character of their pointer
+pub record Stands (shape : Shape) (row column c : ℕ) : Type 0 where
+  pub in_rows : row < shape.rows
+  pub in_columns : column < shape.width
+  pub is : pointer_char shape (row * shape.width + column) ≡ Some c
+
+module _ (shape : Shape) (no_more : HasNoMore shape) where
+  stands : (row column c : ℕ) → column ≤ shape.width
+      → grid_char shape (256 + row * (shape.width + 1) + column) ≡ Some c
+      → Stands shape row column c
+  stands row column c l has_char =
+      elim (cases_lt row shape.rows) [
         | inr past ↦
-            let last : column ≡ grid_width grid = omega arith in
-            absurd (some_none _ c (ap (λ k. grid_char grid (256 + row * (grid_width grid + 1) + k))
-            last
-            ∙ grid_char-of_last grid row) has_char)
+            absurd
+            (some_none _ c (grid_char-of_empty shape no_more row column past l) has_char)
+        | inl r ↦ elim (cases_lt column shape.width) [
+          | inl within_width ↦ record {
+            in_rows = r;
+            in_columns = within_width;
+            is = sym (grid_char-of_column shape row column within_width) ∙ has_char;
+          }
+          | inr past ↦
+              let last : column ≡ shape.width = omega arith in
+              absurd (some_none _ c
+              (ap (λ k. grid_char shape (256 + row * (shape.width + 1) + k)) last
+              ∙ grid_char-of_last shape row) has_char)
+        ]
       ]
-    ]
 
--- the rows of leads, and of each trail its column and how many rows it is further
-module _ (grid : Grid) (is_lead is_trail : ℕ → Bool) (row extra column : ℕ → ℕ) where
-  abbrev pub row_place : ℕ → ℕ
-  row_place a = 256 + cond (is_lead a) (row a) (grid_rows grid) * (grid_width grid + 1)
-
-  abbrev pub column_place : ℕ → ℕ
-  column_place b = extra b * (grid_width grid + 1) + cond (is_trail b) (column b) (grid_width grid)
-
-  pub record Found (a b c : ℕ) : Type 0 where
-    pub lead : is_lead a ≡ true
-    pub trail : is_trail b ≡ true
-    pub is : pointer_char grid ((row a + extra b) * grid_width grid + column b) ≡ Some c
-
-  pub found : (a b c place : ℕ) → place ≡ row_place a + column_place b
-      → (is_trail b ≡ true → column b < grid_width grid)
-      → grid_char grid place ≡ Some c → Found a b c
-  found a b c place e small g =
-      let chosen_row = cond (is_lead a) (row a) (grid_rows grid) in
-      let chosen_column = cond (is_trail b) (column b) (grid_width grid) in
-      let at : place ≡ 256 + (chosen_row + extra b) * (grid_width grid + 1) + chosen_column =
-      omega arith in
-      let row_and_column = stands grid (chosen_row + extra b) chosen_column c
-      (bounded (is_trail b) small)
-      (ap (grid_char grid) (sym at) ∙ g) in
-      let lead = below (is_lead a) (row a) (grid_rows grid)
-      (omega (arith, row_and_column.in_rows)) in
-      let trail = below (is_trail b) (column b) (grid_width grid) row_and_column.in_columns in
+  -- The place at a row and a column. Each may be one after the last, and a row two.
+  pub place_at : {P : ℕ → Type 0} (row column : ℕ) {place : ℕ}
+      → place ≡ 256 + row * (shape.width + 1) + column
+      → row < shape.rows + 2
+      → column ≤ shape.width
+      → ((c : ℕ) → Stands shape row column c → P c)
+      → IsPlaceOf shape P place
+  place_at row column {place} is few small means =
+      let rows_before : row * (shape.width + 1) ≤ (shape.rows + 1) * (shape.width + 1) =
+      mul-le-mul_right (shape.width + 1) (omega arith) in
       record {
-        lead = lead;
-        trail = trail;
-        is =
-            sym (ap (λ p. pointer_char grid p)
-            (ap (λ x. (x + extra b) * grid_width grid + chosen_column) (cond-true _ _ _ lead)
-            ∙ ap (λ x. (row a + extra b) * grid_width grid + x) (cond-true _ _ _ trail)))
-            ∙ row_and_column.is;
+        within = omega (arith, is, rows_before);
+        char = λ c e. means c (stands row column c small (ap (grid_char shape) (sym is) ∙ e));
       }
-    where
-      bounded : (t : Bool) → (t ≡ true → column b < grid_width grid)
-          → cond t (column b) (grid_width grid) ≤ grid_width grid
-      bounded true h = omega (arith, h refl)
-      bounded false h = omega arith
+
+  -- the place of two bytes whose lead has the row x, if it leads, and whose trail the column y
+  pub pair_place : {P : ℕ → Type 0} (leads trails : Bool) (x y : ℕ) {row column place : ℕ}
+      → row ≡ cond leads x shape.rows
+      → column ≡ cond trails y shape.width
+      → place ≡ 256 + row * (shape.width + 1) + column
+      → (leads ≡ true → x < shape.rows)
+      → (trails ≡ true → y < shape.width)
+      → ((c : ℕ) → leads ≡ true → trails ≡ true
+          → pointer_char shape (x * shape.width + y) ≡ Some c → P c)
+      → IsPlaceOf shape P place
+  pair_place leads trails x y {row} {column} row_is column_is place_is few small means =
+      place_at row column place_is (omega (arith, row_is, at_most leads x shape.rows few))
+      (omega (arith, column_is, at_most trails y shape.width small))
+      (λ c at.
+      let lead = below leads x shape.rows (omega (arith, row_is, at.in_rows)) in
+      let trail = below trails y shape.width (omega (arith, column_is, at.in_columns)) in
+      let row_of_lead : row ≡ x = row_is ∙ cond-true leads x shape.rows lead in
+      let column_of_trail : column ≡ y = column_is ∙ cond-true trails y shape.width trail in
+      means c lead trail
+      (sym (ap (λ r. pointer_char shape (r * shape.width + column)) row_of_lead
+      ∙ ap (λ k. pointer_char shape (x * shape.width + k)) column_of_trail)
+      ∙ at.is))
 
 -- places of a property are places of one that follows from it
-pub places_of : {grid : Grid} {P Q : ℕ → Type 0} {place : ℕ} → IsPlaceOf grid P place
+pub places_of : {shape : Shape} {P Q : ℕ → Type 0} {place : ℕ} → IsPlaceOf shape P place
     → ((c : ℕ) → P c → Q c)
-    → IsPlaceOf grid Q place
+    → IsPlaceOf shape Q place
 places_of at h = record { within = at.within; char = λ c e. h c (at.char c e) }

@@ -1,21 +1,11 @@
 -- The tables of the single-byte indexes have what their runs say.
--- Rows by index are written by scripts/make-codecs from data/encodings.txt.
 use Rattle.std.proofs.Common.{◌≡◌, ◌∙◌, ℕ, ◌+◌, ◌-◌, ◌*◌, ◌<◌, ◌≤◌, Bool, true, ◌&&◌, Option, Some, List, drop}
 use Rattle.std.proofs.Common.{get_or, slice_range, refl, sym, subst, arith}
 use Rattle.std.proofs.lemmas.Bool.{and_parts}
 use Rattle.std.specs.Char.{IsScalar}
 use Rattle.enc_index.specs.declared.table.Planes.TheVariants.{Basic}
 use Rattle.enc_index.specs.declared.single_byte_index.SingleByteIndex.{SingleByteIndex}
-use Rattle.enc_index.specs.declared.single_byte_index.SingleByteIndex.TheVariants.{Ibm866, Iso88592, Iso88593, Iso88594}
-use Rattle.enc_index.specs.declared.single_byte_index.SingleByteIndex.TheVariants.{Iso88595, Iso88596, Iso88597}
-use Rattle.enc_index.specs.declared.single_byte_index.SingleByteIndex.TheVariants.{Iso88598, Iso885910, Iso885913}
-use Rattle.enc_index.specs.declared.single_byte_index.SingleByteIndex.TheVariants.{Iso885914, Iso885915, Iso885916}
-use Rattle.enc_index.specs.declared.single_byte_index.SingleByteIndex.TheVariants.{Koi8R, Koi8U, Macintosh, Windows874}
-use Rattle.enc_index.specs.declared.single_byte_index.SingleByteIndex.TheVariants.{Windows1250, Windows1251}
-use Rattle.enc_index.specs.declared.single_byte_index.SingleByteIndex.TheVariants.{Windows1252, Windows1253}
-use Rattle.enc_index.specs.declared.single_byte_index.SingleByteIndex.TheVariants.{Windows1254, Windows1255}
-use Rattle.enc_index.specs.declared.single_byte_index.SingleByteIndex.TheVariants.{Windows1256, Windows1257}
-use Rattle.enc_index.specs.declared.single_byte_index.SingleByteIndex.TheVariants.{Windows1258, XMacCyrillic}
+use Rattle.enc_index.specs.declared.single_byte_index.SingleByteIndex.TheVariants.{Ibm866}
 use Rattle.enc_index.specs.declared.data.single_byte.TheConstants.{SINGLE_BYTE_TABLE}
 use Rattle.enc_index.specs.declared.data.single_byte_words.TheConstants.{SINGLE_BYTE_WORDS, SINGLE_BYTE_UNITS}
 use Rattle.enc_index.specs.Grid.{HasWord}
@@ -53,32 +43,7 @@ tables_ok index = runs_ok index
 all_tables : (index : SingleByteIndex) → tables_ok index ≡ true
 unfolding tests grid_tests runs_ok tables_ok
 all_tables Ibm866 = refl
-all_tables Iso88592 = refl
-all_tables Iso88593 = refl
-all_tables Iso88594 = refl
-all_tables Iso88595 = refl
-all_tables Iso88596 = refl
-all_tables Iso88597 = refl
-all_tables Iso88598 = refl
-all_tables Iso885910 = refl
-all_tables Iso885913 = refl
-all_tables Iso885914 = refl
-all_tables Iso885915 = refl
-all_tables Iso885916 = refl
-all_tables Koi8R = refl
-all_tables Koi8U = refl
-all_tables Macintosh = refl
-all_tables Windows874 = refl
-all_tables Windows1250 = refl
-all_tables Windows1251 = refl
-all_tables Windows1252 = refl
-all_tables Windows1253 = refl
-all_tables Windows1254 = refl
-all_tables Windows1255 = refl
-all_tables Windows1256 = refl
-all_tables Windows1257 = refl
-all_tables Windows1258 = refl
-all_tables XMacCyrillic = refl
+all_tables _ = refl
 
 pub single_byte_table : (index : SingleByteIndex) (p : ℕ)
     → entry_character Basic (get_or (table_of index) p 0)

@@ -1,8 +1,9 @@
 -- A table of code points has what the runs say, by a test that goes through both once.
 use Rattle.std.proofs.Common.{◌≡◌, ℕ, zero, suc, ◌+◌, ◌-◌, ◌<◌, ◌≤◌, Bool, true, false, refl, sym, ap, ◌∙◌, subst, cond}
-use Rattle.std.proofs.Common.{◌&&◌, ◌==◌, nat_lt, List, [], ◌∷◌, get_or, None, arith, inl, inr, eqb-true, le-leb}
-use Rattle.std.proofs.Common.{lt-ltb, le-ltb}
+use Rattle.std.proofs.Common.{◌&&◌, ◌==◌, nat_lt, List, [], ◌∷◌, get_or, length, Option, None, arith, inl, inr, eqb-true}
+use Rattle.std.proofs.Common.{le-leb, lt-ltb, le-ltb}
 use Rattle.std.proofs.lemmas.Bool.{cond-true, cond-false, and_parts, and_left, and_right, and_from, cases_lt, lt-leb}
+use Rattle.std.proofs.lemmas.List.{get_or_past}
 use Rattle.enc_index.specs.declared.table.Planes.{Planes}
 use Rattle.enc_index.specs.Index.{Run, index_at, entry_character}
 use Rattle.enc_index.specs.Search.{are_ascending_runs}
@@ -148,3 +149,11 @@ module _ (planes : Planes) where
   table_ok-true runs table up ok p =
       entry_character-index_at table 0 runs (ascending-going 0 runs up) ok p
       ∙ ap (index_at planes runs) (omega arith)
+
+-- past the end of a table no pointer has a character
+pub entry_character-past : (planes : Planes) (ts : List ℕ) (character : Option ℕ) (p : ℕ)
+    → entry_character planes (get_or ts p 0) ≡ character
+    → length ts ≤ p
+    → character ≡ None
+entry_character-past planes ts character p e l =
+    sym e ∙ ap (entry_character planes) (get_or_past ts p 0 l)

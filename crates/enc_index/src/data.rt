@@ -1,6 +1,6 @@
 //! The index data, which scripts/make-indexes writes from data/indexes.
 //!
-//! Rows by index are written by scripts/make-codecs from data/codecs.txt.
+//! Written by scripts/make-indexes from data/templates: change the text there, and not this file.
 
 pub mod big5;
 pub mod big5_grid;

@@ -4,14 +4,16 @@
 
 mod codec;
 mod data;
-mod grid;
+mod double_byte_index;
+pub mod indexes;
 mod list;
 mod search;
+mod single_byte_chars;
 mod single_byte_index;
 mod table;
 
 pub use codec::Codec;
-pub use grid::Grid;
+pub use double_byte_index::DoubleByteIndex;
 pub use list::List;
 pub use search::run_with;
 pub use single_byte_index::SingleByteIndex;

@@ -1,20 +1,17 @@
 //! The indexes by name (Encoding Standard 5).
 //!
-//! Rows by index are written by scripts/make-codecs from data/codecs.txt.
+//! Written by scripts/make-indexes from data/templates: change the text there, and not this file.
 
 ghost use Rattle.std.specs.Prelude.{◌≡◌};
 ghost use Rattle.enc_index.specs.Index.{index_at};
 ghost use Rattle.enc_index.specs.Runs.{planes_of, runs_of};
 
-use crate::data::big5::{BIG5_RUNS, BIG5_TABLE};
-use crate::data::euc_kr::{EUC_KR_RUNS, EUC_KR_TABLE};
-use crate::data::gb18030::{GB18030_RUNS, GB18030_TABLE};
-use crate::data::gb18030_ranges::GB18030_RANGES_RUNS;
-use crate::data::jis0208::{JIS0208_RUNS, JIS0208_TABLE};
-use crate::data::jis0212::{JIS0212_RUNS, JIS0212_TABLE};
+use crate::data;
+use crate::double_byte_index::DoubleByteIndex;
+use crate::indexes;
 use crate::search::character_among;
 use crate::single_byte_index::SingleByteIndex;
-use crate::table::{Planes, character_in, character_in_all};
+use crate::table::{Planes, character_in};
 
 /// An index, by its name: entries, which are pairs of a pointer and the code point of a character.
 ///
@@ -29,14 +26,14 @@ pub enum List {
     Big5,
     /// Index EUC-KR.
     EucKr,
-    /// Index gb18030, for two bytes.
+    /// Index gb18030.
     Gb18030,
-    /// Index gb18030 ranges, for four bytes.
-    Gb18030Ranges,
     /// Index jis0208.
     Jis0208,
     /// Index jis0212.
     Jis0212,
+    /// Index gb18030 ranges, for four bytes.
+    Gb18030Ranges,
 }
 
 impl List {
@@ -51,12 +48,14 @@ impl List {
     {
         match *self {
             List::SingleByte(index) => index.at(pointer),
-            List::Big5 => character_in_all(&BIG5_TABLE, pointer),
-            List::EucKr => character_in(&EUC_KR_TABLE, pointer),
-            List::Gb18030 => character_in(&GB18030_TABLE, pointer),
-            List::Gb18030Ranges => character_among(Planes::All, GB18030_RANGES_RUNS, pointer),
-            List::Jis0208 => character_in(&JIS0208_TABLE, pointer),
-            List::Jis0212 => character_in(&JIS0212_TABLE, pointer),
+            List::Big5 => indexes::Big5Index::at(pointer),
+            List::EucKr => indexes::EucKrIndex::at(pointer),
+            List::Gb18030 => indexes::Gb18030Index::at(pointer),
+            List::Jis0208 => indexes::Jis0208Index::at(pointer),
+            List::Jis0212 => character_in(&data::jis0212::JIS0212_TABLE, pointer),
+            List::Gb18030Ranges => {
+                character_among(Planes::All, data::gb18030_ranges::GB18030_RANGES_RUNS, pointer)
+            }
         }
     }
 
@@ -66,12 +65,12 @@ impl List {
     {
         match *self {
             List::SingleByte(index) => index.runs(),
-            List::Big5 => BIG5_RUNS,
-            List::EucKr => EUC_KR_RUNS,
-            List::Gb18030 => GB18030_RUNS,
-            List::Gb18030Ranges => GB18030_RANGES_RUNS,
-            List::Jis0208 => JIS0208_RUNS,
-            List::Jis0212 => JIS0212_RUNS,
+            List::Big5 => data::big5::BIG5_RUNS,
+            List::EucKr => data::euc_kr::EUC_KR_RUNS,
+            List::Gb18030 => data::gb18030::GB18030_RUNS,
+            List::Jis0208 => data::jis0208::JIS0208_RUNS,
+            List::Jis0212 => data::jis0212::JIS0212_RUNS,
+            List::Gb18030Ranges => data::gb18030_ranges::GB18030_RANGES_RUNS,
         }
     }
 
@@ -80,8 +79,13 @@ impl List {
         ensures { result ≡ planes_of self.now }
     {
         match *self {
-            List::Big5 | List::Gb18030Ranges => Planes::All,
-            _ => Planes::Basic,
+            List::SingleByte(_) => Planes::Basic,
+            List::Big5 => Planes::All,
+            List::EucKr => Planes::Basic,
+            List::Gb18030 => Planes::Basic,
+            List::Jis0208 => Planes::Basic,
+            List::Jis0212 => Planes::Basic,
+            List::Gb18030Ranges => Planes::All,
         }
     }
 }

@@ -1,26 +1,13 @@
 //! The indexes of the legacy single-byte encodings by name (Encoding Standard 9, "index
 //! single-byte").
 //!
-//! Rows by index are written by scripts/make-codecs from data/encodings.txt.
+//! Written by scripts/make-indexes from data/templates: change the text there, and not this file.
 
-ghost use Rattle.std.specs.Prelude.{◌≡◌, ◌-◌, ◌<◌, ◌≤◌, Some};
-ghost use Rattle.std.specs.Char.{IsScalar};
-ghost use Rattle.enc_index.specs.Grid.{HasWord};
-ghost use Rattle.enc_index.specs.Index.{index_at};
+ghost use Rattle.std.specs.Prelude.{◌≡◌, ◌<◌};
 ghost use Rattle.enc_index.specs.Runs.{single_byte_runs};
 ghost use Rattle.enc_index.specs.SingleByteTables.{table_number};
-ghost use Rattle.enc_index.specs.declared.table.Planes.TheVariants.{Basic};
 
-use crate::data::single_byte::{
-    IBM866_RUNS, ISO_8859_2_RUNS, ISO_8859_3_RUNS, ISO_8859_4_RUNS, ISO_8859_5_RUNS,
-    ISO_8859_6_RUNS, ISO_8859_7_RUNS, ISO_8859_8_RUNS, ISO_8859_10_RUNS, ISO_8859_13_RUNS,
-    ISO_8859_14_RUNS, ISO_8859_15_RUNS, ISO_8859_16_RUNS, KOI8_R_RUNS, KOI8_U_RUNS, MACINTOSH_RUNS,
-    SINGLE_BYTE_TABLE, WINDOWS_874_RUNS, WINDOWS_1250_RUNS, WINDOWS_1251_RUNS, WINDOWS_1252_RUNS,
-    WINDOWS_1253_RUNS, WINDOWS_1254_RUNS, WINDOWS_1255_RUNS, WINDOWS_1256_RUNS, WINDOWS_1257_RUNS,
-    WINDOWS_1258_RUNS, X_MAC_CYRILLIC_RUNS,
-};
-use crate::data::single_byte_words::{SINGLE_BYTE_UNITS, SINGLE_BYTE_WORDS};
-use crate::table::{character_in, unit_in, word_in};
+use crate::data::single_byte;
 
 /// The index of a legacy single-byte encoding, by its name.
 ///
@@ -84,78 +71,38 @@ pub enum SingleByteIndex {
 }
 
 impl SingleByteIndex {
-    /// Returns the character of a pointer, by the first run that has it.
-    ///
-    /// `None` if it is unmapped, as every one from 128 on. One load from a table. Takes no memory.
-    #[inline(always)]
-    pub fn at(self, pointer: u32) -> Option<char>
-        ensures { result ≡ index_at Basic (single_byte_runs self) pointer }
-    {
-        let from = self.number() * 128;
-        character_in(&SINGLE_BYTE_TABLE[from..from + 128], pointer)
-    }
-
-    /// Returns the UTF-8 of a byte's character, as a word.
-    ///
-    /// A byte below 0x80 is ASCII. The word has the bytes, the first lowest, and their number in
-    /// the highest byte. 0 if the byte's pointer is unmapped. One load. Takes no memory.
-    #[inline(always)]
-    pub fn word(self, byte: u8) -> u32
-        ensures ascii { byte < 0x80 → 0 < result → HasWord (Some byte) result }
-        ensures others { 0x80 ≤ byte → 0 < result
-            → HasWord (index_at Basic (single_byte_runs self) (byte - 0x80)) result }
-    {
-        let from = self.number() * 256;
-        word_in(&SINGLE_BYTE_WORDS[from..from + 256], byte)
-    }
-
-    /// Returns the UTF-16 code unit of a byte's character.
-    ///
-    /// 0 if the byte's pointer is unmapped. For byte 0 it is the code unit of U+0000, which is 0
-    /// too. One load. Takes no memory.
-    #[inline(always)]
-    pub fn unit(self, byte: u8) -> u16
-        ensures ascii { byte < 0x80 → 0 < result → (Some byte ≡ Some result) × IsScalar result }
-        ensures others { 0x80 ≤ byte → 0 < result
-            → (index_at Basic (single_byte_runs self) (byte - 0x80) ≡ Some result)
-            × IsScalar result }
-    {
-        let from = self.number() * 256;
-        unit_in(&SINGLE_BYTE_UNITS[from..from + 256], byte)
-    }
-
     /// Returns its runs, in the order of their pointers. Takes no memory.
     pub fn runs(self) -> &'static [(u32, u32, u32)]
         ensures { result.now ≡ single_byte_runs self }
     {
         match self {
-            SingleByteIndex::Ibm866 => IBM866_RUNS,
-            SingleByteIndex::Iso88592 => ISO_8859_2_RUNS,
-            SingleByteIndex::Iso88593 => ISO_8859_3_RUNS,
-            SingleByteIndex::Iso88594 => ISO_8859_4_RUNS,
-            SingleByteIndex::Iso88595 => ISO_8859_5_RUNS,
-            SingleByteIndex::Iso88596 => ISO_8859_6_RUNS,
-            SingleByteIndex::Iso88597 => ISO_8859_7_RUNS,
-            SingleByteIndex::Iso88598 => ISO_8859_8_RUNS,
-            SingleByteIndex::Iso885910 => ISO_8859_10_RUNS,
-            SingleByteIndex::Iso885913 => ISO_8859_13_RUNS,
-            SingleByteIndex::Iso885914 => ISO_8859_14_RUNS,
-            SingleByteIndex::Iso885915 => ISO_8859_15_RUNS,
-            SingleByteIndex::Iso885916 => ISO_8859_16_RUNS,
-            SingleByteIndex::Koi8R => KOI8_R_RUNS,
-            SingleByteIndex::Koi8U => KOI8_U_RUNS,
-            SingleByteIndex::Macintosh => MACINTOSH_RUNS,
-            SingleByteIndex::Windows874 => WINDOWS_874_RUNS,
-            SingleByteIndex::Windows1250 => WINDOWS_1250_RUNS,
-            SingleByteIndex::Windows1251 => WINDOWS_1251_RUNS,
-            SingleByteIndex::Windows1252 => WINDOWS_1252_RUNS,
-            SingleByteIndex::Windows1253 => WINDOWS_1253_RUNS,
-            SingleByteIndex::Windows1254 => WINDOWS_1254_RUNS,
-            SingleByteIndex::Windows1255 => WINDOWS_1255_RUNS,
-            SingleByteIndex::Windows1256 => WINDOWS_1256_RUNS,
-            SingleByteIndex::Windows1257 => WINDOWS_1257_RUNS,
-            SingleByteIndex::Windows1258 => WINDOWS_1258_RUNS,
-            SingleByteIndex::XMacCyrillic => X_MAC_CYRILLIC_RUNS,
+            SingleByteIndex::Ibm866 => single_byte::IBM866_RUNS,
+            SingleByteIndex::Iso88592 => single_byte::ISO_8859_2_RUNS,
+            SingleByteIndex::Iso88593 => single_byte::ISO_8859_3_RUNS,
+            SingleByteIndex::Iso88594 => single_byte::ISO_8859_4_RUNS,
+            SingleByteIndex::Iso88595 => single_byte::ISO_8859_5_RUNS,
+            SingleByteIndex::Iso88596 => single_byte::ISO_8859_6_RUNS,
+            SingleByteIndex::Iso88597 => single_byte::ISO_8859_7_RUNS,
+            SingleByteIndex::Iso88598 => single_byte::ISO_8859_8_RUNS,
+            SingleByteIndex::Iso885910 => single_byte::ISO_8859_10_RUNS,
+            SingleByteIndex::Iso885913 => single_byte::ISO_8859_13_RUNS,
+            SingleByteIndex::Iso885914 => single_byte::ISO_8859_14_RUNS,
+            SingleByteIndex::Iso885915 => single_byte::ISO_8859_15_RUNS,
+            SingleByteIndex::Iso885916 => single_byte::ISO_8859_16_RUNS,
+            SingleByteIndex::Koi8R => single_byte::KOI8_R_RUNS,
+            SingleByteIndex::Koi8U => single_byte::KOI8_U_RUNS,
+            SingleByteIndex::Macintosh => single_byte::MACINTOSH_RUNS,
+            SingleByteIndex::Windows874 => single_byte::WINDOWS_874_RUNS,
+            SingleByteIndex::Windows1250 => single_byte::WINDOWS_1250_RUNS,
+            SingleByteIndex::Windows1251 => single_byte::WINDOWS_1251_RUNS,
+            SingleByteIndex::Windows1252 => single_byte::WINDOWS_1252_RUNS,
+            SingleByteIndex::Windows1253 => single_byte::WINDOWS_1253_RUNS,
+            SingleByteIndex::Windows1254 => single_byte::WINDOWS_1254_RUNS,
+            SingleByteIndex::Windows1255 => single_byte::WINDOWS_1255_RUNS,
+            SingleByteIndex::Windows1256 => single_byte::WINDOWS_1256_RUNS,
+            SingleByteIndex::Windows1257 => single_byte::WINDOWS_1257_RUNS,
+            SingleByteIndex::Windows1258 => single_byte::WINDOWS_1258_RUNS,
+            SingleByteIndex::XMacCyrillic => single_byte::X_MAC_CYRILLIC_RUNS,
         }
     }
 

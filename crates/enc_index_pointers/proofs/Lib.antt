@@ -1,7 +1,6 @@
 mod BelowLemmas
 mod Computing
 mod DirectLemmas
-pub mod MultiBytePages
 mod PageLemmas
 mod RangeLemmas
 mod RangePointers

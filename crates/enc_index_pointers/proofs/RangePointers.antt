@@ -10,7 +10,7 @@ use Rattle.enc_index.specs.Runs.{runs_of, gb18030_ranges_at}
 use Rattle.enc_index.specs.Search.{are_ascending_runs, run_with_pointer}
 use Rattle.enc_index_pointers.specs.Pointers.{first_below, is_character, is_ranges_pointer, gb18030_ranges_pointer}
 use Rattle.enc_index_pointers.proofs.BelowLemmas.{first_below-None, first_below-Some}
-use Rattle.enc_index.proofs.MultiByteTables.{gb18030_ranges_ascends}
+use Rattle.enc_index.proofs.RangesAscend.{gb18030_ranges_ascends}
 use Rattle.enc_index_pointers.proofs.RangeLemmas.{by_code_point, are_ranges, IsPointerOf, pointer_in_run, sound}
 use Rattle.enc_index_pointers.proofs.RangeLemmas.{complete}
 use Rattle.enc_index_pointers.proofs.Computing.{tests}

@@ -1,21 +1,11 @@
 -- The pages of pointers give each character's pointer in the single-byte indexes, and the table of
 -- the first characters has their bytes.
--- Rows by index are written by scripts/make-codecs from data/encodings.txt.
 use Rattle.std.proofs.Common.{◌≡◌, ℕ, ◌+◌, ◌-◌, ◌*◌, ◌<◌, ◌≤◌, Bool, true, ◌&&◌, refl, sym, ap, ◌∙◌, subst, List}
 use Rattle.std.proofs.Common.{get_or, length, slice_range, Some, arith, lt-ltb}
 use Rattle.std.proofs.lemmas.Bool.{and_parts, cond-true}
 use Rattle.enc_index.specs.declared.table.Planes.TheVariants.{Basic}
 use Rattle.enc_index.specs.declared.single_byte_index.SingleByteIndex.{SingleByteIndex}
-use Rattle.enc_index.specs.declared.single_byte_index.SingleByteIndex.TheVariants.{Ibm866, Iso88592, Iso88593, Iso88594}
-use Rattle.enc_index.specs.declared.single_byte_index.SingleByteIndex.TheVariants.{Iso88595, Iso88596, Iso88597}
-use Rattle.enc_index.specs.declared.single_byte_index.SingleByteIndex.TheVariants.{Iso88598, Iso885910, Iso885913}
-use Rattle.enc_index.specs.declared.single_byte_index.SingleByteIndex.TheVariants.{Iso885914, Iso885915, Iso885916}
-use Rattle.enc_index.specs.declared.single_byte_index.SingleByteIndex.TheVariants.{Koi8R, Koi8U, Macintosh, Windows874}
-use Rattle.enc_index.specs.declared.single_byte_index.SingleByteIndex.TheVariants.{Windows1250, Windows1251}
-use Rattle.enc_index.specs.declared.single_byte_index.SingleByteIndex.TheVariants.{Windows1252, Windows1253}
-use Rattle.enc_index.specs.declared.single_byte_index.SingleByteIndex.TheVariants.{Windows1254, Windows1255}
-use Rattle.enc_index.specs.declared.single_byte_index.SingleByteIndex.TheVariants.{Windows1256, Windows1257}
-use Rattle.enc_index.specs.declared.single_byte_index.SingleByteIndex.TheVariants.{Windows1258, XMacCyrillic}
+use Rattle.enc_index.specs.declared.single_byte_index.SingleByteIndex.TheVariants.{Ibm866}
 use Rattle.enc_index.specs.Index.{index_at}
 use Rattle.enc_index.specs.Runs.{single_byte_runs}
 use Rattle.enc_index.specs.SingleByteTables.{table_number}
@@ -47,32 +37,7 @@ pointers_ok index =
 all_pages : (index : SingleByteIndex) → pointers_ok index ≡ true
 unfolding tests pointers_ok
 all_pages Ibm866 = refl
-all_pages Iso88592 = refl
-all_pages Iso88593 = refl
-all_pages Iso88594 = refl
-all_pages Iso88595 = refl
-all_pages Iso88596 = refl
-all_pages Iso88597 = refl
-all_pages Iso88598 = refl
-all_pages Iso885910 = refl
-all_pages Iso885913 = refl
-all_pages Iso885914 = refl
-all_pages Iso885915 = refl
-all_pages Iso885916 = refl
-all_pages Koi8R = refl
-all_pages Koi8U = refl
-all_pages Macintosh = refl
-all_pages Windows874 = refl
-all_pages Windows1250 = refl
-all_pages Windows1251 = refl
-all_pages Windows1252 = refl
-all_pages Windows1253 = refl
-all_pages Windows1254 = refl
-all_pages Windows1255 = refl
-all_pages Windows1256 = refl
-all_pages Windows1257 = refl
-all_pages Windows1258 = refl
-all_pages XMacCyrillic = refl
+all_pages _ = refl
 
 -- what the three tests say of an index
 record Parts (index : SingleByteIndex) : Type 0 where

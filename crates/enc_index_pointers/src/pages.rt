@@ -1,11 +1,12 @@
 //! The pages of pointers, which scripts/make-indexes writes from data/indexes.
 //!
-//! Rows by index are written by scripts/make-codecs from data/codecs.txt.
+//! Written by scripts/make-indexes from data/templates: change the text there, and not this file.
 
 pub mod big5;
 pub mod euc_kr;
 pub mod gb18030;
 pub mod gb18030_ranges;
 pub mod jis0208;
+pub mod shift_jis;
 pub mod single_byte;
 pub mod single_byte_direct;

@@ -1,10 +1,10 @@
--- Rows by index are written by scripts/make-codecs from data/codecs.txt.
+-- Written by scripts/make-indexes from data/templates: change the text there, and not this file.
 use Rattle.std.proofs.Common.{◌≡◌, ◌∙◌, ℕ, ap, sym}
 use Rattle.enc_index.specs.declared.list.List.{List as Index}
 use Rattle.enc_index.specs.Index.{index_at}
 use Rattle.enc_index.specs.Runs.{planes_of, runs_of}
-use Rattle.enc_index.proofs.MultiByteTables.{big5_table, euc_kr_table, gb18030_table, gb18030_ranges_ascends}
-use Rattle.enc_index.proofs.MultiByteTables.{jis0208_table, jis0212_table}
+use Rattle.enc_index.proofs.RangesAscend.{gb18030_ranges_ascends}
+use Rattle.enc_index.proofs.Tables.Jis0212.{table as jis0212_table}
 use Rattle.enc_index.proofs.list.List.at.Goals as goal
 
 -- an arm's index is the one that was asked
@@ -23,26 +23,24 @@ unfolding runs_of
 returns-in-SingleByte c = c.at.ensures ∙ of_index _ _ c.args.pointer c.in-SingleByte.is
 
 pub returns-in-Big5 : goal.returns-in-Big5
-returns-in-Big5 c = c.character_in_all.ensures ∙ big5_table c.args.pointer
-    ∙ of_index _ _ c.args.pointer c.in-Big5.is
+returns-in-Big5 c =
+    c.at-in-Big5.ensures ∙ of_index _ _ c.args.pointer c.in-Big5.is
 
 pub returns-in-EucKr : goal.returns-in-EucKr
-returns-in-EucKr c = c.character_in.ensures ∙ euc_kr_table c.args.pointer
-    ∙ of_index _ _ c.args.pointer c.in-EucKr.is
+returns-in-EucKr c =
+    c.at-in-EucKr.ensures ∙ of_index _ _ c.args.pointer c.in-EucKr.is
 
 pub returns-in-Gb18030 : goal.returns-in-Gb18030
 returns-in-Gb18030 c =
-    c.character_in-in-Gb18030.ensures ∙ gb18030_table c.args.pointer
-    ∙ of_index _ _ c.args.pointer c.in-Gb18030.is
+    c.at-in-Gb18030.ensures ∙ of_index _ _ c.args.pointer c.in-Gb18030.is
 
 pub returns-in-Jis0208 : goal.returns-in-Jis0208
 returns-in-Jis0208 c =
-    c.character_in-in-Jis0208.ensures ∙ jis0208_table c.args.pointer
-    ∙ of_index _ _ c.args.pointer c.in-Jis0208.is
+    c.at-in-Jis0208.ensures ∙ of_index _ _ c.args.pointer c.in-Jis0208.is
 
 pub returns-in-Jis0212 : goal.returns-in-Jis0212
 returns-in-Jis0212 c =
-    c.character_in-in-Jis0212.ensures ∙ jis0212_table c.args.pointer
+    c.character_in.ensures ∙ jis0212_table c.args.pointer
     ∙ of_index _ _ c.args.pointer c.in-Jis0212.is
 
 pub returns-in-Gb18030Ranges : goal.returns-in-Gb18030Ranges

@@ -1,4 +1,4 @@
--- Rows by index are written by scripts/make-codecs from data/codecs.txt.
+-- Written by scripts/make-indexes from data/templates: change the text there, and not this file.
 use Rattle.std.proofs.Common.{◌∙◌, ap, sym}
 use Rattle.enc_index.specs.Runs.{runs_of}
 use Rattle.enc_index.proofs.list.List.runs.Goals as goal
@@ -19,10 +19,6 @@ pub returns-in-Gb18030 : goal.returns-in-Gb18030
 unfolding runs_of
 returns-in-Gb18030 c = sym (ap runs_of c.in-Gb18030.is)
 
-pub returns-in-Gb18030Ranges : goal.returns-in-Gb18030Ranges
-unfolding runs_of
-returns-in-Gb18030Ranges c = sym (ap runs_of c.in-Gb18030Ranges.is)
-
 pub returns-in-Jis0208 : goal.returns-in-Jis0208
 unfolding runs_of
 returns-in-Jis0208 c = sym (ap runs_of c.in-Jis0208.is)
@@ -30,3 +26,7 @@ returns-in-Jis0208 c = sym (ap runs_of c.in-Jis0208.is)
 pub returns-in-Jis0212 : goal.returns-in-Jis0212
 unfolding runs_of
 returns-in-Jis0212 c = sym (ap runs_of c.in-Jis0212.is)
+
+pub returns-in-Gb18030Ranges : goal.returns-in-Gb18030Ranges
+unfolding runs_of
+returns-in-Gb18030Ranges c = sym (ap runs_of c.in-Gb18030Ranges.is)

@@ -1,0 +1,6 @@
+-- Written by scripts/make-indexes from data/templates: change the text there, and not this file.
+pub mod Big5
+pub mod EucKr
+pub mod Gb18030
+pub mod Jis0208
+pub mod Jis0212

@@ -1,0 +1,52 @@
+-- The table of index jis0208 has what its runs say, and a grid has what the table says.
+-- Written by scripts/make-indexes from data/templates: change the text there, and not this file.
+use Rattle.std.proofs.Common.{◌≡◌, ℕ, true, refl, get_or}
+use Rattle.std.proofs.Common.{◌<◌, Some}
+use Rattle.std.specs.Char.{IsScalar}
+use Rattle.enc_index.specs.declared.table.Planes.TheVariants.{Basic}
+use Rattle.enc_index.specs.declared.list.List.TheVariants.{Jis0208}
+use Rattle.enc_index.specs.declared.data.jis0208.TheConstants.{JIS0208_TABLE}
+use Rattle.enc_index.specs.declared.data.jis0208_grid.TheConstants.{JIS0208_WORDS, JIS0208_UNITS}
+use Rattle.enc_index.specs.DoubleByteIndexes.{jis0208_shape}
+use Rattle.enc_index.specs.Grid.{HasNoMore, HasWord, grid_char}
+use Rattle.enc_index.specs.Index.{entry_character}
+use Rattle.enc_index.specs.Runs.{runs_of, jis0208_at}
+use Rattle.enc_index.specs.Search.{are_ascending_runs}
+use Rattle.enc_index.proofs.Computing.{tests}
+use Rattle.enc_index.proofs.GridEntries.{grid_tests, is_word, is_unit, word_found, unit_found}
+use Rattle.enc_index.proofs.GridLemmas.{grid_ok, found}
+use Rattle.enc_index.proofs.TableLemmas.{entry_character-past}
+use Rattle.enc_index.proofs.TableLemmas.{table_ok, table_ok-true}
+
+runs_ascend : are_ascending_runs 0 (runs_of Jis0208) ≡ true
+unfolding tests
+runs_ascend = refl
+
+table_fits : table_ok 0 (runs_of Jis0208) JIS0208_TABLE ≡ true
+unfolding tests
+table_fits = refl
+
+pub table : (p : ℕ) → entry_character Basic (get_or JIS0208_TABLE p 0) ≡ jis0208_at p
+table = table_ok-true Basic (runs_of Jis0208) JIS0208_TABLE runs_ascend table_fits
+
+pub has_no_more : HasNoMore jis0208_shape
+has_no_more p past = entry_character-past Basic JIS0208_TABLE _ p (table p) past
+
+words_fit : grid_ok is_word jis0208_shape JIS0208_TABLE JIS0208_WORDS ≡ true
+unfolding grid_tests
+words_fit = refl
+
+pub word : (place : ℕ) → 0 < get_or JIS0208_WORDS place 0
+    → HasWord (grid_char jis0208_shape place) (get_or JIS0208_WORDS place 0)
+word place some = word_found _ _
+    (found is_word jis0208_shape JIS0208_TABLE JIS0208_WORDS table words_fit place some)
+
+units_fit : grid_ok is_unit jis0208_shape JIS0208_TABLE JIS0208_UNITS ≡ true
+unfolding grid_tests
+units_fit = refl
+
+pub unit : (place : ℕ) → 0 < get_or JIS0208_UNITS place 0
+    → (grid_char jis0208_shape place ≡ Some (get_or JIS0208_UNITS place 0))
+    × IsScalar (get_or JIS0208_UNITS place 0)
+unit place some = unit_found _ _
+    (found is_unit jis0208_shape JIS0208_TABLE JIS0208_UNITS table units_fit place some)
