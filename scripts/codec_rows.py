@@ -1,11 +1,10 @@
 """The files that have a row for each codec or index, and the words in which rows differ. For scripts/make-codecs."""
 
-import os
 import re
 from typing import NamedTuple
 
-from codec_list import byte_ranges, bytes_in, read_lists
-from encoding_list import TOP, read_list
+from codec_list import bytes_in, read_lists
+from encoding_list import read_list
 
 LISTS = read_lists()
 # The encoding of an identifier, or of a codec.
@@ -26,28 +25,6 @@ def constant_of(ident):
     if ident in INDEXES:
         return INDEXES[ident].constant
     return re.sub(r"(?<=[a-z])(?=[A-Z0-9])", "_", ident).upper()
-
-
-def column(trails):
-    """The column of a trail b: less the first trail, in one range of trails or in two."""
-    (low, high), *more = byte_ranges(trails)
-    if not more:
-        return f"b - 0x{low:X}"
-    return f"b - cond (nat_lt b 0x{high + 1:X}) 0x{low:X} 0x{more[0][0] - (high + 1 - low):X}"
-
-
-def depth(length):
-    """How often a list of this length is halved."""
-    return (length - 1).bit_length()
-
-
-def depths_of(index):
-    """The depths of the table of an index, of its pages and of their list, by the texts that they are made from."""
-    with open(os.path.join(TOP, f"data/indexes/index-{index.name}.txt"), encoding="ascii") as file:
-        numbers = [int(line.split()[1], 16) for line in file if line[0].isdigit()]
-    pages, page_of = 64 * (1 + len({it // 64 for it in numbers})), max(numbers) // 64 + 1
-    last = f"{depth(pages)} {depth(page_of)}"
-    return {"depths": f"{index.length} {depth(index.length)} {last} ", "depths of pages": f"{index.length} {last} "}
 
 
 def samples_of(pairs):
@@ -84,20 +61,10 @@ class Item:
         """The words of some kinds. Names are always among them."""
         found = {"Name": self.ident, "NAME": self.constant, "name": self.constant.lower(), "title": self.title}
         encoding, pairs = ENCODINGS.get(self.ident), PAIRS.get(self.ident)
-        index = next((it for it in LISTS.indexes if pairs and it.name == pairs.index), INDEXES.get(self.ident))
-        if "place" in kinds and self.ident in SINGLE_BYTE:
-            place = SINGLE_BYTE.index(self.ident)
-            found |= {"arm": f"=> {place},", "value": f"= {place}"}
         if "section" in kinds and encoding:
             found["section"] = f"({encoding.section})"
         if "lengths" in kinds and self.codec:
             found["byte lengths"] = f"lengths.{self.codec.byte_lengths}"
-        if "numbers" in kinds and index:
-            found |= {"length": str(index.length), "rows": str(index.rows), "width": str(index.width)}
-        if "depths" in kinds and index:
-            found |= depths_of(index)
-        if "numbers" in kinds and pairs:
-            found |= {"lead": f"0x{byte_ranges(pairs.leads)[0][0]:X}", "column": column(pairs.trails)}
         if "samples" in kinds:
             found |= samples_of(pairs) if pairs else {}
             found |= {"label": f'"{encoding.name.lower()}"'} if encoding else {}
@@ -115,7 +82,7 @@ def pattern_of(kind, word):
     """Where a word of a kind stands."""
     if kind in ("Name", "NAME", "name"):
         return f"{word}{END}"
-    return rf"\b{word}\b" if kind in ("length", "rows", "width", "lead") else re.escape(word)
+    return re.escape(word)
 
 
 def items_of(rows):
@@ -136,8 +103,7 @@ ORDERS = {
     "encodings": [it.ident for it in read_list()],
     "single-byte indexes": SINGLE_BYTE,
     "indexes": [it.ident for it in LISTS.indexes],
-    "grids": [it.ident for it in LISTS.indexes if it.has_grid],
-    "look-ups": [it.ident for it in LISTS.indexes if it.lookups],
+    "look-ups": [it.ident for it in LISTS.indexes if it.name in {lookup.index for lookup in LISTS.lookups}],
 }
 
 
@@ -166,10 +132,7 @@ class Rows(NamedTuple):
         return not any(lacks) and item.ident not in self.own and (not item.recipe or item.recipe in self.recipes)
 
 
-OF_BASIC_PLANE = Rows("indexes", own=("Big5",))
 SINGLE = Rows("single-byte indexes", model="Koi8U")
-PLACES_OF_SINGLE = Rows("single-byte indexes", model="Koi8U", kinds=("place",))
-PLAIN_LOOKUPS = Rows("look-ups", own=("Big5", "Gb18030", "Jis0208"), kinds=("numbers", "depths"))
 GB18030_TWICE = ("Gbk", "Gb18030")
 
 # The multi-byte codecs of the standard beside the model. Their rows of tests have characters and edges of their own.
@@ -180,31 +143,6 @@ OTHER_INDEXES = ("Big5", "Gb18030", "Jis0208", "Jis0212")
 ROWS = {
     "enc_index": {
         "src/codec.rt": [Rows("codecs", "CD", own=("Gbk",), kinds=("section",))],
-        "src/data.rt": [Rows("indexes", own=("Jis0212",))],
-        "src/grid.rt": [Rows("grids", kinds=("numbers",))],
-        "src/list.rt": [Rows("indexes", own=("Big5", "Gb18030"))],
-        "src/single_byte_index.rt": [PLACES_OF_SINGLE],
-        "specs/Grid.antt": [Rows("grids", kinds=("numbers",))],
-        "specs/Runs.antt": [OF_BASIC_PLANE, SINGLE],
-        "specs/MultiByteTables.antt": [Rows("look-ups")],
-        "specs/SingleByteTables.antt": [PLACES_OF_SINGLE],
-        "proofs/MultiByteTables.antt": [OF_BASIC_PLANE],
-        "proofs/SingleByteLemmas.antt": [SINGLE],
-        "proofs/GridTables.antt": [Rows("grids")],
-        "proofs/GridLemmas.antt": [Rows("grids", own=("Big5",))],
-        "proofs/grid/Grid/unit/Answers.antt": [Rows("grids")],
-        "proofs/grid/Grid/word/Answers.antt": [Rows("grids")],
-        "proofs/list/List/at/Answers.antt": [Rows("indexes", own=("Big5", "EucKr"), model="Gb18030")],
-        "proofs/list/List/runs/Answers.antt": [Rows("indexes")],
-        "proofs/single_byte_index/SingleByteIndex/runs/Answers.antt": [SINGLE],
-    },
-    "enc_index_pointers": {
-        "src/lib.rt": [Rows("look-ups")],
-        "src/pages.rt": [Rows("look-ups")],
-        "src/pointers.rt": [PLAIN_LOOKUPS],
-        "specs/Pointers.antt": [PLAIN_LOOKUPS],
-        "proofs/MultiBytePages.antt": [PLAIN_LOOKUPS],
-        "proofs/SingleBytePages.antt": [SINGLE],
     },
     "enc_decoder_multi_byte": {
         "src/lib.rt": [Rows("codecs of bytes")],
@@ -250,9 +188,6 @@ ROWS = {
         "src/codecs.rt": [Rows("codecs of bytes")],
         "src/codecs/single_byte.rt": [SINGLE],
         "src/decoders.rt": [Rows("codecs of bytes", own=OTHERS, none=("Gb18030",), kinds=("samples",))],
-        "src/indexes.rt": [
-            Rows("indexes", "C", OTHER_INDEXES, (), ("samples",), skip="Grid::|Planes::|EUC_KR|euc_kr"),
-        ],
         "src/encoders/queries.rt": [Rows("encoders of bytes", own=("Gb18030",))],
         "src/encoders/barred.rt": [
             Rows("encoders of bytes", own=("ShiftJis", "Gb18030"), none=("Big5", "EucJp"), kinds=("samples",)),
@@ -282,13 +217,9 @@ FILES = {
     for path, rows in files.items()
 }
 
-# The numbers of encodings and indexes in sources, by the words before and after each.
+# The numbers of encodings in sources, by the words before and after each.
 OF_EACH = len(read_list())
 COUNTS = {
-    "crates/enc_index/src/single_byte_index.rt": [
-        ("from 0 to ", ", in the order", len(SINGLE_BYTE) - 1),
-        ("result < ", " }", len(SINGLE_BYTE)),
-    ],
     "crates/enc_stream/src/properties.rt": [
         ("True for the ", " legacy single-byte", sum(bool(it.index) for it in read_list())),
     ],
@@ -296,11 +227,6 @@ COUNTS = {
         ("`encoding_rs`: ", " encodings", OF_EACH),
         ("CONSTANTS.len() == ", ")", OF_EACH),
     ],
-}
-
-# Files that are a row by themselves.
-WHOLE = {
-    "crates/enc_index_pointers/proofs/pointers/euc_kr/Answers.antt": Rows("look-ups"),
 }
 
 # Documents that name each of some kind in a sentence, after the name of the one before.

@@ -11,7 +11,8 @@ use crate::double_byte_index::DoubleByteIndex;
 use crate::indexes;
 use crate::search::character_among;
 use crate::single_byte_index::SingleByteIndex;
-use crate::table::{Planes, character_in};
+use crate::table;
+use crate::table::Planes;
 
 /// An index, by its name: entries, which are pairs of a pointer and the code point of a character.
 ///
@@ -52,7 +53,7 @@ impl List {
             List::EucKr => indexes::EucKrIndex::at(pointer),
             List::Gb18030 => indexes::Gb18030Index::at(pointer),
             List::Jis0208 => indexes::Jis0208Index::at(pointer),
-            List::Jis0212 => character_in(&data::jis0212::JIS0212_TABLE, pointer),
+            List::Jis0212 => table::character_in(&data::jis0212::JIS0212_TABLE, pointer),
             List::Gb18030Ranges => {
                 character_among(Planes::All, data::gb18030_ranges::GB18030_RANGES_RUNS, pointer)
             }

@@ -1,5 +1,4 @@
 -- The pointers of characters (Encoding Standard 5, "index pointer", and those of single encodings).
--- Rows by index are written by scripts/make-codecs from data/codecs.txt.
 use Rattle.std.specs.Prelude.{ℕ, zero, suc, Bool, true, false, ◌&&◌, ◌||◌, ◌==◌, not, nat_le, Option, Some, None}
 use Rattle.std.specs.Prelude.{if◌then◌else◌}
 use Rattle.enc_index.specs.declared.table.Planes.TheVariants.{Basic}
