@@ -73,7 +73,7 @@ module _ (shape : Shape) (no_more : HasNoMore shape) where
       → (leads ≡ true → x < shape.rows)
       → (trails ≡ true → y < shape.width)
       → ((c : ℕ) → leads ≡ true → trails ≡ true
-          → pointer_char shape (x * shape.width + y) ≡ Some c → P c)
+      → pointer_char shape (x * shape.width + y) ≡ Some c → P c)
       → IsPlaceOf shape P place
   pair_place leads trails x y {row} {column} row_is column_is place_is few small means =
       place_at row column place_is (omega (arith, row_is, at_most leads x shape.rows few))

@@ -6,13 +6,11 @@ ghost use Rattle.std.specs.Prelude.{◌≡◌};
 ghost use Rattle.enc_index.specs.Index.{index_at};
 ghost use Rattle.enc_index.specs.Runs.{planes_of, runs_of};
 
-use crate::data;
 use crate::double_byte_index::DoubleByteIndex;
-use crate::indexes;
 use crate::search::character_among;
 use crate::single_byte_index::SingleByteIndex;
-use crate::table;
 use crate::table::Planes;
+use crate::{data, indexes, table};
 
 /// An index, by its name: entries, which are pairs of a pointer and the code point of a character.
 ///
@@ -55,7 +53,11 @@ impl List {
             List::Jis0208 => indexes::Jis0208Index::at(pointer),
             List::Jis0212 => table::character_in(&data::jis0212::JIS0212_TABLE, pointer),
             List::Gb18030Ranges => {
-                character_among(Planes::All, data::gb18030_ranges::GB18030_RANGES_RUNS, pointer)
+                character_among(
+                    Planes::All,
+                    data::gb18030_ranges::GB18030_RANGES_RUNS,
+                    pointer,
+                )
             }
         }
     }
