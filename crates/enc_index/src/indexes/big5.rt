@@ -16,11 +16,13 @@ impl DoubleByteIndex for Big5Index {
     ghost shape = { big5_shape };
 
     #[inline(always)]
+    #[tactic(auto, using(crate::proofs::Tables::Big5::table))]
     fn at(pointer: u32) -> Option<char> {
         character_in_all(&BIG5_TABLE, pointer)
     }
 
     #[inline(always)]
+    #[tactic(auto, using(crate::proofs::Tables::Big5::word))]
     fn word(place: usize) -> u32 {
         BIG5_WORDS[place]
     }

@@ -16,11 +16,13 @@ impl DoubleByteIndex for EucKrIndex {
     ghost shape = { euc_kr_shape };
 
     #[inline(always)]
+    #[tactic(auto, using(crate::proofs::Tables::EucKr::table))]
     fn at(pointer: u32) -> Option<char> {
         character_in(&EUC_KR_TABLE, pointer)
     }
 
     #[inline(always)]
+    #[tactic(auto, using(crate::proofs::Tables::EucKr::word))]
     fn word(place: usize) -> u32 {
         EUC_KR_WORDS[place]
     }

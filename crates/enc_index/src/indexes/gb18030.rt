@@ -16,11 +16,13 @@ impl DoubleByteIndex for Gb18030Index {
     ghost shape = { gb18030_shape };
 
     #[inline(always)]
+    #[tactic(auto, using(crate::proofs::Tables::Gb18030::table))]
     fn at(pointer: u32) -> Option<char> {
         character_in(&GB18030_TABLE, pointer)
     }
 
     #[inline(always)]
+    #[tactic(auto, using(crate::proofs::Tables::Gb18030::word))]
     fn word(place: usize) -> u32 {
         GB18030_WORDS[place]
     }

@@ -16,11 +16,13 @@ impl DoubleByteIndex for Jis0208Index {
     ghost shape = { jis0208_shape };
 
     #[inline(always)]
+    #[tactic(auto, using(crate::proofs::Tables::Jis0208::table))]
     fn at(pointer: u32) -> Option<char> {
         character_in(&JIS0208_TABLE, pointer)
     }
 
     #[inline(always)]
+    #[tactic(auto, using(crate::proofs::Tables::Jis0208::word))]
     fn word(place: usize) -> u32 {
         JIS0208_WORDS[place]
     }

@@ -22,22 +22,6 @@ pub returns-in-SingleByte : goal.returns-in-SingleByte
 unfolding runs_of
 returns-in-SingleByte c = c.at.ensures ∙ of_index _ _ c.args.pointer c.in-SingleByte.is
 
-pub returns-in-Big5 : goal.returns-in-Big5
-returns-in-Big5 c =
-    c.at-in-Big5.ensures ∙ of_index _ _ c.args.pointer c.in-Big5.is
-
-pub returns-in-EucKr : goal.returns-in-EucKr
-returns-in-EucKr c =
-    c.at-in-EucKr.ensures ∙ of_index _ _ c.args.pointer c.in-EucKr.is
-
-pub returns-in-Gb18030 : goal.returns-in-Gb18030
-returns-in-Gb18030 c =
-    c.at-in-Gb18030.ensures ∙ of_index _ _ c.args.pointer c.in-Gb18030.is
-
-pub returns-in-Jis0208 : goal.returns-in-Jis0208
-returns-in-Jis0208 c =
-    c.at-in-Jis0208.ensures ∙ of_index _ _ c.args.pointer c.in-Jis0208.is
-
 pub returns-in-Jis0212 : goal.returns-in-Jis0212
 returns-in-Jis0212 c =
     c.character_in.ensures ∙ jis0212_table c.args.pointer

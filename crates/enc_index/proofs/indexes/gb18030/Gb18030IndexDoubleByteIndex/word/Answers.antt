@@ -1,6 +1,0 @@
--- Written by scripts/make-indexes from data/templates: change the text there, and not this file.
-use Rattle.enc_index.proofs.Tables.Gb18030.{word}
-use Rattle.enc_index.proofs.indexes.gb18030.Gb18030IndexDoubleByteIndex.word.Goals as goal
-
-pub returns : goal.returns
-returns c = word c.args.place
