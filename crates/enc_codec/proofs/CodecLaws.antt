@@ -81,30 +81,18 @@ one_byte_keeps_laws character has_ascii enough = record {
   bb = one_byte_shows_bb character;
 }
 
--- by a lead, with which FF is malformed
-keeps_laws_by_lead : (prefix : List ℕ → Prefix) (lead : ℕ) → ArePrefixes prefix → HasAscii prefix
-    → lead < 256 → prefix (lead ∷ []) ≡ Incomplete → prefix (lead ∷ 0xFF ∷ []) ≡ Malformed 2
+multi_byte_keeps_laws : (prefix : List ℕ → Prefix) → ArePrefixes prefix
     → DeterminesBbByItself (multi_byte_rule prefix)
     → KeepsCodecLaws (multi_byte_rule prefix) multi_byte_facts
-keeps_laws_by_lead prefix lead are_prefixes has_ascii is_byte leads breaks bb = record {
-  lawful = multi_byte_is_lawful prefix are_prefixes;
-  enough = multi_bytes_enough prefix are_prefixes [];
-  texts = multi_byte_has_texts prefix are_prefixes;
-  bytes = multi_byte_has_bytes prefix 0x61 (One 0x61) (has_ascii 0x61 (omega arith));
-  ascii = multi_byte_is_ascii_compatible prefix has_ascii;
-  single = multi_byte_is_not_single_byte prefix lead is_byte leads breaks;
+multi_byte_keeps_laws prefix laws bb = record {
+  lawful = multi_byte_is_lawful prefix laws;
+  enough = multi_bytes_enough prefix laws [];
+  texts = multi_byte_has_texts prefix laws;
+  bytes = multi_byte_has_bytes prefix 0x61 (One 0x61) (laws.ascii 0x61 (omega arith));
+  ascii = multi_byte_is_ascii_compatible prefix laws.ascii;
+  single = multi_byte_is_not_single_byte prefix laws;
   bb = bb;
 }
-
--- if EF leads
-multi_byte_keeps_laws : (prefix : List ℕ → Prefix) (text : Option Text) → ArePrefixes prefix
-    → HasAscii prefix → prefix (0xEF ∷ []) ≡ Incomplete
-    → prefix (0xEF ∷ 0xFF ∷ []) ≡ Malformed 2
-    → prefix (0xEF ∷ 0xBB ∷ []) ≡ trail_prefix 1 0xBB text
-    → KeepsCodecLaws (multi_byte_rule prefix) multi_byte_facts
-multi_byte_keeps_laws prefix text are_prefixes has_ascii leads breaks with_bb =
-    keeps_laws_by_lead prefix 0xEF are_prefixes has_ascii (omega arith) leads breaks
-    (multi_byte_shows_bb prefix text leads with_bb)
 
 pub codec_laws : (c : Codec) → KeepsCodecLaws (codec_rule c) (codec_facts c)
 codec_laws Utf8 = record {
@@ -123,17 +111,17 @@ codec_laws Utf16Le =
 codec_laws (SingleByte index) =
     one_byte_keeps_laws _ (single_byte_ascii _) (single_byte_enough (single_byte_runs index))
 codec_laws Big5 =
-    multi_byte_keeps_laws big5_prefix _ (double_byte_laws _ _ _ big5_pairs) big5_has_ascii refl refl refl
+    multi_byte_keeps_laws big5_prefix (double_byte_laws _ _ _ big5_pairs) (multi_byte_shows_bb big5_prefix _ refl refl)
 codec_laws EucKr =
-    multi_byte_keeps_laws euc_kr_prefix _ (double_byte_laws _ _ _ euc_kr_pairs) euc_kr_has_ascii refl refl refl
+    multi_byte_keeps_laws euc_kr_prefix (double_byte_laws _ _ _ euc_kr_pairs) (multi_byte_shows_bb euc_kr_prefix _ refl refl)
 codec_laws ShiftJis =
-    multi_byte_keeps_laws shift_jis_prefix _ (double_byte_laws _ _ _ shift_jis_pairs) shift_jis_has_ascii refl refl refl
+    multi_byte_keeps_laws shift_jis_prefix (double_byte_laws _ _ _ shift_jis_pairs) (multi_byte_shows_bb shift_jis_prefix _ refl refl)
 codec_laws EucJp =
-    multi_byte_keeps_laws euc_jp_prefix _ euc_jp_laws euc_jp_has_ascii refl refl refl
+    multi_byte_keeps_laws euc_jp_prefix euc_jp_laws (multi_byte_shows_bb euc_jp_prefix _ refl refl)
 codec_laws Gbk =
-    multi_byte_keeps_laws gb18030_prefix _ gb18030_laws gb18030_has_ascii refl refl refl
+    multi_byte_keeps_laws gb18030_prefix gb18030_laws (multi_byte_shows_bb gb18030_prefix _ refl refl)
 codec_laws Gb18030 =
-    multi_byte_keeps_laws gb18030_prefix _ gb18030_laws gb18030_has_ascii refl refl refl
+    multi_byte_keeps_laws gb18030_prefix gb18030_laws (multi_byte_shows_bb gb18030_prefix _ refl refl)
 codec_laws XUserDefined =
     one_byte_keeps_laws x_user_defined_char x_user_defined_ascii x_user_defined_enough
 codec_laws Replacement = record {

@@ -1,5 +1,4 @@
 -- Which rules are ASCII-compatible, which are single-byte, and which have sequences without a text.
--- Rows by codec are written by scripts/make-codecs from data/codecs.txt.
 use Rattle.std.proofs.Common.{◌≡◌, ℕ, ◌<◌, Bool, true, false, Option, Some, None, List, [], ◌∷◌, length, refl, ap, ◌∙◌}
 use Rattle.std.proofs.Common.{sym, subst, arith}
 use Rattle.std.proofs.lemmas.Bool.{cond-true, lt-ltb}
@@ -19,13 +18,7 @@ use Rattle.enc_decoder_single_byte.specs.Replacement.{replacement_rule}
 use Rattle.enc_decoder_single_byte.proofs.OneByteLemmas.{one_byte_piece}
 use Rattle.enc_decoder_multi_byte.specs.declared.multi_byte.Prefix.{Prefix}
 use Rattle.enc_decoder_multi_byte.specs.declared.multi_byte.Prefix.TheVariants.{Complete, Malformed, Incomplete}
-use Rattle.enc_decoder_multi_byte.specs.DoubleByte.{first_prefix, single_prefix}
-use Rattle.enc_decoder_multi_byte.specs.MultiByte.{multi_byte_rule, prefix_head, HasAscii}
-use Rattle.enc_decoder_multi_byte.specs.Big5.{is_big5_lead, big5_prefix}
-use Rattle.enc_decoder_multi_byte.specs.EucKr.{is_euc_kr_lead, euc_kr_prefix}
-use Rattle.enc_decoder_multi_byte.specs.ShiftJis.{is_shift_jis_lead, shift_jis_single_char, shift_jis_prefix}
-use Rattle.enc_decoder_multi_byte.specs.EucJp.{is_euc_jp_lead, euc_jp_prefix}
-use Rattle.enc_decoder_multi_byte.specs.Gb18030.{is_gb18030_lead, gb18030_single_char, gb18030_prefix}
+use Rattle.enc_decoder_multi_byte.specs.MultiByte.{multi_byte_rule, prefix_head, HasAscii, ArePrefixes}
 use Rattle.enc_decoder_multi_byte.proofs.MultiBytePieces.{complete_one}
 use Rattle.enc_decoder_iso_2022_jp.specs.Iso2022Jp.{iso_2022_jp_rule}
 use Rattle.enc_codec.specs.Properties.{IsAsciiCompatible, IsByteWithText, IsSingleByte}
@@ -109,49 +102,31 @@ pub multi_byte_is_ascii_compatible : (prefix : List ℕ → Prefix) → HasAscii
     → IsAsciiCompatible (multi_byte_rule prefix)
 multi_byte_is_ascii_compatible prefix h b l = complete_one prefix b b (h b l)
 
--- (a lead, and a byte that is malformed with it)
-pub multi_byte_is_not_single_byte : (prefix : List ℕ → Prefix) (lead : ℕ) → lead < 256
-    → prefix (lead ∷ []) ≡ Incomplete
-    → prefix (lead ∷ 0xFF ∷ []) ≡ Malformed 2 → ¬ (IsSingleByte (multi_byte_rule prefix))
-unfolding multi_byte_rule
-multi_byte_is_not_single_byte prefix lead l e f =
-    let head_is : prefix_head prefix 0 (lead ∷ []) (prefix (lead ∷ [])) (0xFF ∷ [])
-    ≡ prefix_head prefix 0 (lead ∷ 0xFF ∷ []) (Malformed 2) [] =
-    ap (λ r. prefix_head prefix 0 (lead ∷ []) r (0xFF ∷ [])) e
-    ∙ ap (λ r. prefix_head prefix 0 (lead ∷ 0xFF ∷ []) r []) f in
-    more_bytes (multi_byte_rule prefix) lead (0xFF ∷ []) (l, (omega arith, tt))
-    (λ o. let one_byte = subst (λ (t : Head). length (head_sequence t lead (0xFF ∷ [])).bytes ≡ 1)
-    head_is o in
-    cc)
-
-first_alone : (leads : Bool) (single : Option ℕ) (b : ℕ) → leads ≡ false → single ≡ Some b
-    → first_prefix leads single ≡ Complete (One b)
-first_alone leads single b n e = ap (λ t. first_prefix t single) n ∙ ap single_prefix e
-
-pub big5_has_ascii : HasAscii big5_prefix
-big5_has_ascii b l =
-    first_alone (is_big5_lead b) _ b (grind (arith, nat_tests))
-    (cond-true _ _ _ (lt-ltb b 0x80 l))
-
-pub euc_kr_has_ascii : HasAscii euc_kr_prefix
-euc_kr_has_ascii b l =
-    first_alone (is_euc_kr_lead b) _ b (grind (arith, nat_tests))
-    (cond-true _ _ _ (lt-ltb b 0x80 l))
-
-pub shift_jis_has_ascii : HasAscii shift_jis_prefix
-shift_jis_has_ascii b l =
-    first_alone (is_shift_jis_lead b) (shift_jis_single_char b) b (grind (arith, nat_tests))
-    (grind (arith, nat_tests))
-
-pub euc_jp_has_ascii : HasAscii euc_jp_prefix
-euc_jp_has_ascii b l =
-    first_alone (is_euc_jp_lead b) _ b (grind (arith, nat_tests))
-    (cond-true _ _ _ (lt-ltb b 0x80 l))
-
-pub gb18030_has_ascii : HasAscii gb18030_prefix
-gb18030_has_ascii b l =
-    first_alone (is_gb18030_lead b) (gb18030_single_char b) b (grind (arith, nat_tests))
-    (cond-true _ _ _ (lt-ltb b 0x80 l))
+-- a lead, and a byte that is malformed with it
+pub multi_byte_is_not_single_byte : (prefix : List ℕ → Prefix) → ArePrefixes prefix
+    → ¬ (IsSingleByte (multi_byte_rule prefix))
+multi_byte_is_not_single_byte prefix laws =
+    let lead = laws.lead in
+    let broken = laws.can_be_malformed (lead ∷ []) (omega arith) laws.leads.incomplete in
+    let len_is_two : broken.len ≡ 2 =
+    let bounds = laws.malformed (lead ∷ broken.byte ∷ []) broken.len broken.malformed in
+    let other = broken.other in omega (arith, bounds.0, bounds.1) in
+    by_pair prefix lead broken.byte laws.leads.is_byte broken.is_byte laws.leads.incomplete
+    (broken.malformed ∙ ap Malformed len_is_two)
+  where
+    by_pair : (prefix : List ℕ → Prefix) (lead b : ℕ) → lead < 256 → b < 256
+        → prefix (lead ∷ []) ≡ Incomplete → prefix (lead ∷ b ∷ []) ≡ Malformed 2
+        → ¬ (IsSingleByte (multi_byte_rule prefix))
+    unfolding multi_byte_rule
+    by_pair prefix lead b l m e f =
+        let head_is : prefix_head prefix 0 (lead ∷ []) (prefix (lead ∷ [])) (b ∷ [])
+        ≡ prefix_head prefix 0 (lead ∷ b ∷ []) (Malformed 2) [] =
+        ap (λ r. prefix_head prefix 0 (lead ∷ []) r (b ∷ [])) e
+        ∙ ap (λ r. prefix_head prefix 0 (lead ∷ b ∷ []) r []) f in
+        more_bytes (multi_byte_rule prefix) lead (b ∷ []) (l, (m, tt))
+        (λ o. let one_byte = subst (λ (t : Head). length (head_sequence t lead (b ∷ [])).bytes ≡ 1)
+        head_is o in
+        cc)
 
 -- ISO-2022-JP, in which an escape sequence is skipped, and 1B by itself is malformed
 

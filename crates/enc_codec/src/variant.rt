@@ -38,6 +38,25 @@ pub enum VariantDecoder {
     Iso2022Jp(Iso2022JpDecoder),
 }
 
+/// A call of the decoder in it.
+macro_rules! by_decoder {
+    ($any:expr, $decoder:ident => $call:expr) => {
+        match $any {
+            VariantDecoder::Utf8($decoder) => $call,
+            VariantDecoder::Utf16($decoder) => $call,
+            VariantDecoder::SingleByte($decoder) => $call,
+            VariantDecoder::Big5($decoder) => $call,
+            VariantDecoder::EucKr($decoder) => $call,
+            VariantDecoder::ShiftJis($decoder) => $call,
+            VariantDecoder::EucJp($decoder) => $call,
+            VariantDecoder::Gb18030($decoder) => $call,
+            VariantDecoder::XUserDefined($decoder) => $call,
+            VariantDecoder::Replacement($decoder) => $call,
+            VariantDecoder::Iso2022Jp($decoder) => $call,
+        }
+    };
+}
+
 impl RawDecoder for VariantDecoder {
     ghost use Rattle.enc_codec.specs.Variant.{variant_decoder_state, variant_decoder_lengths};
 
@@ -52,19 +71,7 @@ impl RawDecoder for VariantDecoder {
         last: bool,
         fault_room: bool,
     ) -> (DecoderResult, usize) {
-        match self {
-            VariantDecoder::Utf8(decoder) => decoder.decode(src, out, last, fault_room),
-            VariantDecoder::Utf16(decoder) => decoder.decode(src, out, last, fault_room),
-            VariantDecoder::SingleByte(decoder) => decoder.decode(src, out, last, fault_room),
-            VariantDecoder::Big5(decoder) => decoder.decode(src, out, last, fault_room),
-            VariantDecoder::EucKr(decoder) => decoder.decode(src, out, last, fault_room),
-            VariantDecoder::ShiftJis(decoder) => decoder.decode(src, out, last, fault_room),
-            VariantDecoder::EucJp(decoder) => decoder.decode(src, out, last, fault_room),
-            VariantDecoder::Gb18030(decoder) => decoder.decode(src, out, last, fault_room),
-            VariantDecoder::XUserDefined(decoder) => decoder.decode(src, out, last, fault_room),
-            VariantDecoder::Replacement(decoder) => decoder.decode(src, out, last, fault_room),
-            VariantDecoder::Iso2022Jp(decoder) => decoder.decode(src, out, last, fault_room),
-        }
+        by_decoder!(self, decoder => decoder.decode(src, out, last, fault_room))
     }
 
     fn decode_replacing<U: Units>(
@@ -73,66 +80,18 @@ impl RawDecoder for VariantDecoder {
         out: &mut U,
         last: bool,
     ) -> (DecoderResult, usize, bool) {
-        match self {
-            VariantDecoder::Utf8(decoder) => decoder.decode_replacing(src, out, last),
-            VariantDecoder::Utf16(decoder) => decoder.decode_replacing(src, out, last),
-            VariantDecoder::SingleByte(decoder) => decoder.decode_replacing(src, out, last),
-            VariantDecoder::Big5(decoder) => decoder.decode_replacing(src, out, last),
-            VariantDecoder::EucKr(decoder) => decoder.decode_replacing(src, out, last),
-            VariantDecoder::ShiftJis(decoder) => decoder.decode_replacing(src, out, last),
-            VariantDecoder::EucJp(decoder) => decoder.decode_replacing(src, out, last),
-            VariantDecoder::Gb18030(decoder) => decoder.decode_replacing(src, out, last),
-            VariantDecoder::XUserDefined(decoder) => decoder.decode_replacing(src, out, last),
-            VariantDecoder::Replacement(decoder) => decoder.decode_replacing(src, out, last),
-            VariantDecoder::Iso2022Jp(decoder) => decoder.decode_replacing(src, out, last),
-        }
+        by_decoder!(self, decoder => decoder.decode_replacing(src, out, last))
     }
 
     fn held(&self) -> usize {
-        match self {
-            VariantDecoder::Utf8(decoder) => decoder.held(),
-            VariantDecoder::Utf16(decoder) => decoder.held(),
-            VariantDecoder::SingleByte(decoder) => decoder.held(),
-            VariantDecoder::Big5(decoder) => decoder.held(),
-            VariantDecoder::EucKr(decoder) => decoder.held(),
-            VariantDecoder::ShiftJis(decoder) => decoder.held(),
-            VariantDecoder::EucJp(decoder) => decoder.held(),
-            VariantDecoder::Gb18030(decoder) => decoder.held(),
-            VariantDecoder::XUserDefined(decoder) => decoder.held(),
-            VariantDecoder::Replacement(decoder) => decoder.held(),
-            VariantDecoder::Iso2022Jp(decoder) => decoder.held(),
-        }
+        by_decoder!(self, decoder => decoder.held())
     }
 
     fn latin1_byte_compatible_up_to(&self, bytes: &[u8]) -> Option<usize> {
-        match self {
-            VariantDecoder::Utf8(decoder) => decoder.latin1_byte_compatible_up_to(bytes),
-            VariantDecoder::Utf16(decoder) => decoder.latin1_byte_compatible_up_to(bytes),
-            VariantDecoder::SingleByte(decoder) => decoder.latin1_byte_compatible_up_to(bytes),
-            VariantDecoder::Big5(decoder) => decoder.latin1_byte_compatible_up_to(bytes),
-            VariantDecoder::EucKr(decoder) => decoder.latin1_byte_compatible_up_to(bytes),
-            VariantDecoder::ShiftJis(decoder) => decoder.latin1_byte_compatible_up_to(bytes),
-            VariantDecoder::EucJp(decoder) => decoder.latin1_byte_compatible_up_to(bytes),
-            VariantDecoder::Gb18030(decoder) => decoder.latin1_byte_compatible_up_to(bytes),
-            VariantDecoder::XUserDefined(decoder) => decoder.latin1_byte_compatible_up_to(bytes),
-            VariantDecoder::Replacement(decoder) => decoder.latin1_byte_compatible_up_to(bytes),
-            VariantDecoder::Iso2022Jp(decoder) => decoder.latin1_byte_compatible_up_to(bytes),
-        }
+        by_decoder!(self, decoder => decoder.latin1_byte_compatible_up_to(bytes))
     }
 
     fn text_lengths(&self) -> TextLengths {
-        match self {
-            VariantDecoder::Utf8(decoder) => decoder.text_lengths(),
-            VariantDecoder::Utf16(decoder) => decoder.text_lengths(),
-            VariantDecoder::SingleByte(decoder) => decoder.text_lengths(),
-            VariantDecoder::Big5(decoder) => decoder.text_lengths(),
-            VariantDecoder::EucKr(decoder) => decoder.text_lengths(),
-            VariantDecoder::ShiftJis(decoder) => decoder.text_lengths(),
-            VariantDecoder::EucJp(decoder) => decoder.text_lengths(),
-            VariantDecoder::Gb18030(decoder) => decoder.text_lengths(),
-            VariantDecoder::XUserDefined(decoder) => decoder.text_lengths(),
-            VariantDecoder::Replacement(decoder) => decoder.text_lengths(),
-            VariantDecoder::Iso2022Jp(decoder) => decoder.text_lengths(),
-        }
+        by_decoder!(self, decoder => decoder.text_lengths())
     }
 }

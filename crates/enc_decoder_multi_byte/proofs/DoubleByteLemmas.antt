@@ -1,6 +1,6 @@
 -- What single bytes and trails make of the bytes in front, for all legacy multi-byte encodings.
 use Rattle.std.proofs.Common.{◌≡◌, ◌≢◌, ℕ, ◌+◌, ◌<◌, ◌≤◌, Bool, true, false, cond, nat_lt, Option, Some, None, List, []}
-use Rattle.std.proofs.Common.{◌∷◌, length, refl, ap, arith, subst}
+use Rattle.std.proofs.Common.{◌∷◌, length, refl, ap, ◌∙◌, arith, subst}
 use Rattle.enc_decoder.specs.declared.byte_codec.Text.{Text}
 use Rattle.enc_decoder.specs.declared.byte_codec.Text.TheVariants.{One}
 use Rattle.enc_decoder_multi_byte.specs.declared.multi_byte.Prefix.{Prefix}
@@ -42,6 +42,16 @@ pub first_malformed : (leads : Bool) (c : Option ℕ) (n : ℕ) → first_prefix
     → n ≡ 1
 first_malformed true c n e = cc
 first_malformed false c n e = single_malformed c n e
+
+-- a byte that is no lead is the character that it has, and a lead needs another byte
+
+pub first_alone : (leads : Bool) (single : Option ℕ) (b : ℕ) → leads ≡ false → single ≡ Some b
+    → first_prefix leads single ≡ Complete (One b)
+first_alone leads single b n e = ap (λ t. first_prefix t single) n ∙ ap single_prefix e
+
+pub first_leads : (leads : Bool) (single : Option ℕ) → leads ≡ true
+    → first_prefix leads single ≡ Incomplete
+first_leads leads single e = ap (λ t. first_prefix t single) e
 
 -- a character of a single byte is of the Basic Multilingual Plane
 
@@ -97,11 +107,17 @@ unless_malformed false r n e = e
 
 -- encodings of one byte and two
 pub double_byte_laws : (is_lead : ℕ → Bool) (single : ℕ → Option ℕ) (pair : ℕ → ℕ → Option Text)
-    → ArePairs single pair
+    → ArePairs is_lead single pair
     → ArePrefixes (double_byte_prefix is_lead single pair)
 double_byte_laws is_lead single pair laws =
     record {
       nothing = refl;
+      ascii = λ b l. first_alone (is_lead b) (single b) b (laws.ascii b l).0 (laws.ascii b l).1;
+      lead = laws.lead;
+      leads = record {
+        is_byte = laws.is_byte;
+        incomplete = first_leads (is_lead laws.lead) (single laws.lead) laws.leads;
+      };
       texts = texts;
       alone = λ b text e.
           first_is_basic (is_lead b) (single b) text (laws.basic b) e;

@@ -1,6 +1,8 @@
 -- What the bytes in front can be in EUC-JP.
 use Rattle.std.proofs.Common.{◌≡◌, ℕ, ◌<◌, ◌≤◌, Bool, true, false, cond, ◌&&◌, ◌==◌, Option, None, List, [], ◌∷◌}
 use Rattle.std.proofs.Common.{length, refl, ◌∙◌, arith}
+use Rattle.std.proofs.lemmas.Bool.{cond-true, lt-ltb}
+use Rattle.std.proofs.lemmas.Bool.Decides.{nat_tests}
 use Rattle.enc_decoder.specs.declared.byte_codec.Text.{Text}
 use Rattle.enc_decoder_multi_byte.specs.declared.multi_byte.Prefix.{Prefix}
 use Rattle.enc_decoder_multi_byte.specs.declared.multi_byte.Prefix.TheVariants.{Complete, Malformed, Incomplete}
@@ -9,6 +11,7 @@ use Rattle.enc_decoder_multi_byte.specs.MultiByte.{CanBeMalformed, ArePrefixes}
 use Rattle.enc_decoder_multi_byte.specs.EucJp.{is_euc_byte, is_euc_jp_lead, euc_jp_single_char, euc_jp_pair_char}
 use Rattle.enc_decoder_multi_byte.specs.EucJp.{euc_jp_triple_char, euc_jp_prefix}
 use Rattle.enc_decoder_multi_byte.proofs.DoubleByteLemmas.{first_is_basic, ascii_is_basic, char_is_text, first_is_text}
+use Rattle.enc_decoder_multi_byte.proofs.DoubleByteLemmas.{first_alone}
 use Rattle.enc_decoder_multi_byte.proofs.DoubleByteLemmas.{first_malformed, trail_text, trail_malformed, trail_finished}
 use Rattle.enc_decoder_multi_byte.proofs.DoubleByteLemmas.{trail_can_be_malformed, unless_complete, unless_malformed}
 
@@ -79,6 +82,10 @@ can_be_malformed (a ∷ b ∷ c ∷ z) s e =
 pub euc_jp_laws : ArePrefixes euc_jp_prefix
 euc_jp_laws = record {
   nothing = refl;
+  ascii = λ b l. first_alone (is_euc_jp_lead b) _ b (grind (arith, nat_tests))
+      (cond-true _ _ _ (lt-ltb b 0x80 l));
+  lead = 0x8E;
+  leads = record { is_byte = omega arith; incomplete = refl };
   texts = texts;
   alone = λ b text e.
       first_is_basic (is_euc_jp_lead b) (euc_jp_single_char b) text (ascii_is_basic b) e;

@@ -8,11 +8,12 @@ use Rattle.std.specs.Char.Escape.{encode_utf16}
 use Rattle.enc_decoder.specs.declared.byte_codec.Text.{Text}
 use Rattle.enc_decoder.specs.declared.byte_codec.Text.TheVariants.{Two}
 use Rattle.enc_decoder_multi_byte.specs.DoubleByte.{IsPairText, ArePairs}
-use Rattle.enc_decoder_multi_byte.specs.Big5.{big5_single_char, is_big5_trail, big5_pair_pointer, big5_pointer_text}
-use Rattle.enc_decoder_multi_byte.specs.Big5.{big5_pair_text}
-use Rattle.enc_decoder_multi_byte.specs.EucKr.{euc_kr_single_char, euc_kr_pair_text}
-use Rattle.enc_decoder_multi_byte.specs.ShiftJis.{shift_jis_single_char, shift_jis_pair_text}
+use Rattle.enc_decoder_multi_byte.specs.Big5.{is_big5_lead, big5_single_char, is_big5_trail, big5_pair_pointer}
+use Rattle.enc_decoder_multi_byte.specs.Big5.{big5_pointer_text, big5_pair_text}
+use Rattle.enc_decoder_multi_byte.specs.EucKr.{is_euc_kr_lead, euc_kr_single_char, euc_kr_pair_text}
+use Rattle.enc_decoder_multi_byte.specs.ShiftJis.{is_shift_jis_lead, shift_jis_single_char, shift_jis_pair_text}
 use Rattle.enc_decoder_multi_byte.proofs.DoubleByteLemmas.{char_is_text, ascii_is_basic}
+use Rattle.std.proofs.lemmas.Bool.{cond-true, lt-ltb}
 use Rattle.std.proofs.lemmas.Bool.Decides.{nat_tests}
 
 abbrev IsTextOf : Option Text → Type 0
@@ -61,11 +62,23 @@ pair_is_text a b =
     (char_is_text _)))))
     (λ text e. cc)
 
-pub big5_pairs : ArePairs big5_single_char big5_pair_text
-big5_pairs = record { basic = ascii_is_basic; texts = pair_is_text; no_trail = λ a. refl }
+pub big5_pairs : ArePairs is_big5_lead big5_single_char big5_pair_text
+big5_pairs = record {
+  ascii = λ b l. (grind (arith, nat_tests), cond-true _ _ _ (lt-ltb b 0x80 l));
+  lead = 0x81;
+  is_byte = omega arith;
+  leads = refl;
+  basic = ascii_is_basic;
+  texts = pair_is_text;
+  no_trail = λ a. refl;
+}
 
-pub euc_kr_pairs : ArePairs euc_kr_single_char euc_kr_pair_text
+pub euc_kr_pairs : ArePairs is_euc_kr_lead euc_kr_single_char euc_kr_pair_text
 euc_kr_pairs = record {
+  ascii = λ b l. (grind (arith, nat_tests), cond-true _ _ _ (lt-ltb b 0x80 l));
+  lead = 0x81;
+  is_byte = omega arith;
+  leads = refl;
   basic = ascii_is_basic;
   texts = λ a b. char_is_text _;
   no_trail = λ a.
@@ -75,8 +88,12 @@ euc_kr_pairs = record {
 single_is_basic : (b c : ℕ) → shift_jis_single_char b ≡ Some c → c < 0x1_0000
 single_is_basic b c e = grind (arith, nat_tests)
 
-pub shift_jis_pairs : ArePairs shift_jis_single_char shift_jis_pair_text
+pub shift_jis_pairs : ArePairs is_shift_jis_lead shift_jis_single_char shift_jis_pair_text
 shift_jis_pairs = record {
+  ascii = λ b l. (grind (arith, nat_tests), grind (arith, nat_tests));
+  lead = 0x81;
+  is_byte = omega arith;
+  leads = refl;
   basic = single_is_basic;
   texts = λ a b. char_is_text _;
   no_trail = λ a.

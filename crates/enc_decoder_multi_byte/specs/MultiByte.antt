@@ -49,9 +49,21 @@ pub record CanBeMalformed (prefix : List ℕ → Prefix) (front : List ℕ) : Ty
   pub malformed : prefix (front ++ byte ∷ []) ≡ Malformed len
   pub other : len ≢ length front
 
+-- an ASCII byte is the character with its number
+abbrev pub HasAscii : (List ℕ → Prefix) → Type 0
+HasAscii prefix = (b : ℕ) → b < 0x80 → prefix (b ∷ []) ≡ Complete (One b)
+
+-- a byte after which another is needed
+pub record IsLead (prefix : List ℕ → Prefix) (byte : ℕ) : Type 0 where
+  pub is_byte : byte < 256
+  pub incomplete : prefix (byte ∷ []) ≡ Incomplete
+
 -- The laws of prefixes in each of these encodings.
 pub record ArePrefixes (prefix : List ℕ → Prefix) : Type 0 where
   pub nothing : prefix [] ≡ Incomplete
+  pub ascii : HasAscii prefix
+  pub lead : ℕ
+  pub leads : IsLead prefix lead
   pub texts : (front : List ℕ) (text : Text) → prefix front ≡ Complete text → IsPairText text
   pub alone : (b : ℕ) (text : Text) → prefix (b ∷ []) ≡ Complete text → IsBmpText (text_chars text)
   pub malformed : (front : List ℕ) (n : ℕ) → prefix front ≡ Malformed n → (0 < n)
@@ -64,10 +76,6 @@ pub record ArePrefixes (prefix : List ℕ → Prefix) : Type 0 where
 abbrev pub IsMalformedFront : (List ℕ → Prefix) → ℕ → ℕ → ℕ → Type 0
 IsMalformedFront prefix lead b n = (prefix (lead ∷ []) ≡ Malformed n)
     ⊎ ((prefix (lead ∷ []) ≡ Incomplete) × (prefix (lead ∷ b ∷ []) ≡ Malformed n))
-
--- an ASCII byte is the character with its number
-abbrev pub HasAscii : (List ℕ → Prefix) → Type 0
-HasAscii prefix = (b : ℕ) → b < 0x80 → prefix (b ∷ []) ≡ Complete (One b)
 
 -- two bytes are a character, and the first of them is none by itself
 pub record IsCharPair (prefix : List ℕ → Prefix) (lead b c : ℕ) : Type 0 where

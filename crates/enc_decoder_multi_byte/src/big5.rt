@@ -87,6 +87,4 @@ impl DoubleByte for Big5 {
 
     #[tactic(auto, using(crate::proofs::PairLemmas::big5_pairs))]
     fn laws() {}
-
-    fn ascii() {}
 }

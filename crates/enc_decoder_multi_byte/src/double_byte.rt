@@ -47,13 +47,9 @@ pub trait DoubleByte: Copy {
     fn pair_places(first: u8x16, second: u8x16) -> u16x16
         ensures { ArePairPlaces Self.Index.shape (IsLeadPair leads pairs) result first second };
 
-    /// The laws of all single bytes and all pairs. The call does nothing.
+    /// The laws of all leads, single bytes and pairs. The call does nothing.
     fn laws()
-        ensures { ArePairs singles pairs };
-
-    /// An ASCII byte is no lead byte, and is the character with its number. The call does nothing.
-    fn ascii()
-        ensures { (b : ℕ) → b < 0x80 → (leads b ≡ false) × (singles b ≡ Some b) };
+        ensures { ArePairs leads singles pairs };
 }
 
 /// Such an encoding, as one of the multi-byte encodings.
@@ -133,9 +129,5 @@ impl<D: DoubleByte> MultiByte for Double<D> {
 
     fn laws() {
         D::laws();
-    }
-
-    fn ascii() {
-        D::ascii();
     }
 }

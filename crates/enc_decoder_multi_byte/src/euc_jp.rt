@@ -10,8 +10,8 @@ use crate::double_byte::{classify_first, classify_trail, text_of};
 use crate::katakana::katakana;
 use crate::multi_byte::{MultiByte, MultiByteDecoder, Prefix};
 use enc_decoder::Pending;
-use enc_index::{DoubleByteIndex, List};
 use enc_index::indexes::Jis0208Index;
+use enc_index::{DoubleByteIndex, List};
 use enc_units::{numbers_in, places_at};
 use std::simd::prelude::*;
 
@@ -128,6 +128,4 @@ impl MultiByte for EucJp {
 
     #[tactic(auto, using(crate::proofs::EucJpLemmas::euc_jp_laws))]
     fn laws() {}
-
-    fn ascii() {}
 }

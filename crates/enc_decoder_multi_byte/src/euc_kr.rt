@@ -58,6 +58,4 @@ impl DoubleByte for EucKr {
 
     #[tactic(auto, using(crate::proofs::PairLemmas::euc_kr_pairs))]
     fn laws() {}
-
-    fn ascii() {}
 }

@@ -9,8 +9,8 @@ ghost use Rattle.enc_decoder_multi_byte.specs.Gb18030.{ranges_code_point, gb1803
 use crate::double_byte::{classify_first, classify_trail, text_of};
 use crate::multi_byte::{MultiByte, MultiByteDecoder, Prefix};
 use enc_decoder::{Pending, Text};
-use enc_index::{DoubleByteIndex, List};
 use enc_index::indexes::Gb18030Index;
+use enc_index::{DoubleByteIndex, List};
 use enc_units::{numbers_in, places_at};
 use std::simd::prelude::*;
 
@@ -173,6 +173,4 @@ impl MultiByte for Gb18030 {
 
     #[tactic(auto, using(crate::proofs::Gb18030Lemmas::gb18030_laws))]
     fn laws() {}
-
-    fn ascii() {}
 }

@@ -7,7 +7,7 @@ ghost use Rattle.enc_decoder.specs.Pending.{bytes_of_pending};
 ghost use Rattle.enc_decoder.specs.Taking.{IsWholeChar};
 ghost use Rattle.enc_decoder.specs.CodecLaw.{HandlesByte, IsNextOfPending, IsNextAtEnd};
 ghost use Rattle.enc_decoder_multi_byte.specs.MultiByte.{multi_byte_state, AreIncomplete};
-ghost use Rattle.enc_decoder_multi_byte.specs.MultiByte.{ArePrefixes, HasAscii, IsCharPair};
+ghost use Rattle.enc_decoder_multi_byte.specs.MultiByte.{ArePrefixes, IsCharPair};
 ghost use Rattle.enc_decoder_multi_byte.specs.MultiByte.{multi_byte_rule, IsMalformedFront};
 
 use enc_decoder::{
@@ -67,10 +67,6 @@ pub trait MultiByte: Copy {
     /// The laws of all prefixes. The call does nothing.
     fn laws()
         ensures { ArePrefixes prefix };
-
-    /// An ASCII byte is the character with its number. The call does nothing.
-    fn ascii()
-        ensures { HasAscii prefix };
 }
 
 /// The decoder of a legacy multi-byte encoding without escape sequences.
@@ -247,7 +243,7 @@ impl<E: MultiByte> Pieces for MultiByteDecoder<E> {
     fn piece(self, src: &[u8], at: usize) -> Option<(char, usize)> {
         let lead = src[at];
         if lead < 0x80 {
-            E::ascii();
+            E::laws();
             return Some((lead as char, 1));
         }
         if at + 1 < src.len() {
@@ -262,7 +258,7 @@ impl<E: MultiByte> Pieces for MultiByteDecoder<E> {
     }
 
     fn has_ascii(self) -> bool {
-        E::ascii();
+        E::laws();
         true
     }
 
@@ -277,7 +273,7 @@ impl<E: MultiByte> Pieces for MultiByteDecoder<E> {
     /// Bytes from 0x80 on lead a pair, and those below are ASCII.
     #[inline(always)]
     fn places(self, first: u8x16, second: u8x16) -> Option<Places> {
-        E::ascii();
+        E::laws();
         Some(Places::with_ascii(E::pair_places(first, second), first))
     }
 
@@ -377,7 +373,7 @@ impl<E: MultiByte> RawDecoder for MultiByteDecoder<E> {
     }
 
     fn latin1_byte_compatible_up_to(&self, bytes: &[u8]) -> Option<usize> {
-        E::ascii();
+        E::laws();
         latin1_up_to(*self, bytes)
     }
 

@@ -89,6 +89,4 @@ impl DoubleByte for ShiftJis {
 
     #[tactic(auto, using(crate::proofs::PairLemmas::shift_jis_pairs))]
     fn laws() {}
-
-    fn ascii() {}
 }

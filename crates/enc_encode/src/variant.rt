@@ -37,6 +37,23 @@ pub enum VariantEncoder {
     Iso2022Jp(Iso2022JpEncoder),
 }
 
+/// A call of the encoder in it.
+macro_rules! by_encoder {
+    ($any:expr, $encoder:ident => $call:expr) => {
+        match $any {
+            VariantEncoder::Utf8($encoder) => $call,
+            VariantEncoder::SingleByte($encoder) => $call,
+            VariantEncoder::Big5($encoder) => $call,
+            VariantEncoder::EucKr($encoder) => $call,
+            VariantEncoder::ShiftJis($encoder) => $call,
+            VariantEncoder::EucJp($encoder) => $call,
+            VariantEncoder::Gb18030($encoder) => $call,
+            VariantEncoder::XUserDefined($encoder) => $call,
+            VariantEncoder::Iso2022Jp($encoder) => $call,
+        }
+    };
+}
+
 impl RawEncoder for VariantEncoder {
     ghost use Rattle.enc_encode.specs.Variant.{variant_encoder_state, variant_encoder_lengths};
 
@@ -50,44 +67,14 @@ impl RawEncoder for VariantEncoder {
         dst: &mut [u8],
         last: bool,
     ) -> (EncoderResult, usize, usize) {
-        match self {
-            VariantEncoder::Utf8(encoder) => encoder.encode(src, dst, last),
-            VariantEncoder::SingleByte(encoder) => encoder.encode(src, dst, last),
-            VariantEncoder::Big5(encoder) => encoder.encode(src, dst, last),
-            VariantEncoder::EucKr(encoder) => encoder.encode(src, dst, last),
-            VariantEncoder::ShiftJis(encoder) => encoder.encode(src, dst, last),
-            VariantEncoder::EucJp(encoder) => encoder.encode(src, dst, last),
-            VariantEncoder::Gb18030(encoder) => encoder.encode(src, dst, last),
-            VariantEncoder::XUserDefined(encoder) => encoder.encode(src, dst, last),
-            VariantEncoder::Iso2022Jp(encoder) => encoder.encode(src, dst, last),
-        }
+        by_encoder!(self, encoder => encoder.encode(src, dst, last))
     }
 
     fn has_pending_state(&self) -> bool {
-        match self {
-            VariantEncoder::Utf8(encoder) => encoder.has_pending_state(),
-            VariantEncoder::SingleByte(encoder) => encoder.has_pending_state(),
-            VariantEncoder::Big5(encoder) => encoder.has_pending_state(),
-            VariantEncoder::EucKr(encoder) => encoder.has_pending_state(),
-            VariantEncoder::ShiftJis(encoder) => encoder.has_pending_state(),
-            VariantEncoder::EucJp(encoder) => encoder.has_pending_state(),
-            VariantEncoder::Gb18030(encoder) => encoder.has_pending_state(),
-            VariantEncoder::XUserDefined(encoder) => encoder.has_pending_state(),
-            VariantEncoder::Iso2022Jp(encoder) => encoder.has_pending_state(),
-        }
+        by_encoder!(self, encoder => encoder.has_pending_state())
     }
 
     fn byte_lengths(&self) -> ByteLengths {
-        match self {
-            VariantEncoder::Utf8(encoder) => encoder.byte_lengths(),
-            VariantEncoder::SingleByte(encoder) => encoder.byte_lengths(),
-            VariantEncoder::Big5(encoder) => encoder.byte_lengths(),
-            VariantEncoder::EucKr(encoder) => encoder.byte_lengths(),
-            VariantEncoder::ShiftJis(encoder) => encoder.byte_lengths(),
-            VariantEncoder::EucJp(encoder) => encoder.byte_lengths(),
-            VariantEncoder::Gb18030(encoder) => encoder.byte_lengths(),
-            VariantEncoder::XUserDefined(encoder) => encoder.byte_lengths(),
-            VariantEncoder::Iso2022Jp(encoder) => encoder.byte_lengths(),
-        }
+        by_encoder!(self, encoder => encoder.byte_lengths())
     }
 }

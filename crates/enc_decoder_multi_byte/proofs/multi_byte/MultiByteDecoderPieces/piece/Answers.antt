@@ -7,7 +7,7 @@ use Rattle.enc_decoder_multi_byte.proofs.multi_byte.MultiByteDecoderPieces.piece
 pub returns-then-lead-lt128-clause-means : goal.returns-then-lead-lt128-clause-means
 returns-then-lead-lt128-clause-means g c =
     same_piece _ 0 _ _ _ (one_of c.args.src.now c.args.at c.requires)
-    (complete_one g.E.MultiByte.prefix _ _ (c.ascii.ensures _ c.if-lead-lt128.true))
+    (complete_one g.E.MultiByte.prefix _ _ (c.laws.ensures.ascii _ c.if-lead-lt128.true))
 
 pub returns-in-Some-clause-means : goal.returns-in-Some-clause-means
 returns-in-Some-clause-means g c =

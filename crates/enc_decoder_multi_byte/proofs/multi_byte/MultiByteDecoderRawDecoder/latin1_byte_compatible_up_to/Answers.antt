@@ -4,4 +4,4 @@ use Rattle.enc_decoder_multi_byte.proofs.multi_byte.MultiByteDecoderRawDecoder.l
 
 pub latin1_up_to-requires-clause-has_bytes : goal.latin1_up_to-requires-clause-has_bytes
 latin1_up_to-requires-clause-has_bytes g c =
-    multi_byte_has_bytes g.E.MultiByte.prefix 0x61 _ (c.ascii.ensures 0x61 (omega arith))
+    multi_byte_has_bytes g.E.MultiByte.prefix 0x61 _ (c.laws.ensures.ascii 0x61 (omega arith))
