@@ -156,7 +156,6 @@ ROWS = {
         "specs/Codecs.antt": [Rows("codecs", "CD", own=("Gbk",))],
         "specs/Variant.antt": [Rows("decoders", "CD")],
         "proofs/CodecLaws.antt": [Rows("codecs", "C", lead=0xEF)],
-        "proofs/PropertyLemmas.antt": [Rows("codecs of bytes", own=("ShiftJis", "Gb18030"))],
         "proofs/variant/VariantDecoderRawDecoder/decode/Answers.antt": [Rows("codecs of pairs")],
         "proofs/variant/VariantDecoderRawDecoder/decode_replacing/Answers.antt": [Rows("codecs of pairs")],
         "proofs/variant/VariantDecoderRawDecoder/text_lengths/Answers.antt": [Rows("codecs of pairs")],

@@ -1,11 +1,10 @@
 -- Every codec keeps its laws: the one proof that goes through all decoders.
 -- Rows by codec are written by scripts/make-codecs from data/codecs.txt.
-use Rattle.std.proofs.Common.{◌≡◌, ℕ, ◌<◌, Bool, true, false, Option, Some, List, [], ◌∷◌, refl, arith}
+use Rattle.std.proofs.Common.{◌≡◌, ℕ, ◌<◌, Bool, true, false, Option, Some, List, [], refl, arith}
 use Rattle.enc_index.specs.Runs.{single_byte_runs}
 use Rattle.enc_index.specs.declared.codec.Codec.{Codec}
 use Rattle.enc_index.specs.declared.codec.Codec.TheVariants.{Utf8, Utf16Be, Utf16Le, SingleByte, Big5, EucKr, ShiftJis}
 use Rattle.enc_index.specs.declared.codec.Codec.TheVariants.{EucJp, Gbk, Gb18030, Iso2022Jp, XUserDefined, Replacement}
-use Rattle.enc_decoder.specs.declared.byte_codec.Text.{Text}
 use Rattle.enc_decoder.specs.declared.byte_codec.Text.TheVariants.{One}
 use Rattle.enc_decoder.specs.declared.pending.Pending.TheVariants.{Nothing}
 use Rattle.enc_decoder.specs.declared.text_lengths.TextLengths.TheVariants as lengths
@@ -20,9 +19,7 @@ use Rattle.enc_decoder_single_byte.proofs.OneByteLemmas.{one_byte_has_texts, one
 use Rattle.enc_decoder_single_byte.proofs.EnoughLemmas.{single_byte_enough, x_user_defined_enough, replacement_enough}
 use Rattle.enc_decoder_single_byte.proofs.ReplacementLemmas.{replacement_is_lawful, replacement_has_no_bytes}
 use Rattle.enc_decoder_multi_byte.specs.declared.multi_byte.Prefix.{Prefix}
-use Rattle.enc_decoder_multi_byte.specs.declared.multi_byte.Prefix.TheVariants.{Malformed, Incomplete}
-use Rattle.enc_decoder_multi_byte.specs.MultiByte.{multi_byte_rule, ArePrefixes, HasAscii}
-use Rattle.enc_decoder_multi_byte.specs.DoubleByte.{trail_prefix}
+use Rattle.enc_decoder_multi_byte.specs.MultiByte.{multi_byte_rule, ArePrefixes}
 use Rattle.enc_decoder_multi_byte.specs.Big5.{big5_prefix}
 use Rattle.enc_decoder_multi_byte.specs.EucKr.{euc_kr_prefix}
 use Rattle.enc_decoder_multi_byte.specs.ShiftJis.{shift_jis_prefix}
@@ -45,8 +42,7 @@ use Rattle.enc_codec.proofs.PropertyLemmas.{utf_8_is_ascii_compatible, utf_8_is_
 use Rattle.enc_codec.proofs.PropertyLemmas.{utf_16_is_not_ascii_compatible, utf_16_is_not_single_byte}
 use Rattle.enc_codec.proofs.PropertyLemmas.{one_byte_is_ascii_compatible, single_byte_ascii, x_user_defined_ascii}
 use Rattle.enc_codec.proofs.PropertyLemmas.{one_byte_is_single_byte, multi_byte_is_ascii_compatible}
-use Rattle.enc_codec.proofs.PropertyLemmas.{multi_byte_is_not_single_byte, big5_has_ascii, euc_kr_has_ascii}
-use Rattle.enc_codec.proofs.PropertyLemmas.{shift_jis_has_ascii, euc_jp_has_ascii, gb18030_has_ascii}
+use Rattle.enc_codec.proofs.PropertyLemmas.{multi_byte_is_not_single_byte}
 use Rattle.enc_codec.proofs.PropertyLemmas.{iso_2022_jp_lacks_texts, iso_2022_jp_is_not_ascii_compatible}
 use Rattle.enc_codec.proofs.PropertyLemmas.{iso_2022_jp_is_not_single_byte, replacement_lacks_texts}
 use Rattle.enc_codec.proofs.PropertyLemmas.{replacement_is_not_ascii_compatible, replacement_is_not_single_byte}
@@ -111,11 +107,14 @@ codec_laws Utf16Le =
 codec_laws (SingleByte index) =
     one_byte_keeps_laws _ (single_byte_ascii _) (single_byte_enough (single_byte_runs index))
 codec_laws Big5 =
-    multi_byte_keeps_laws big5_prefix (double_byte_laws _ _ _ big5_pairs) (multi_byte_shows_bb big5_prefix _ refl refl)
+    multi_byte_keeps_laws big5_prefix (double_byte_laws _ _ _ big5_pairs)
+    (multi_byte_shows_bb big5_prefix _ refl refl)
 codec_laws EucKr =
-    multi_byte_keeps_laws euc_kr_prefix (double_byte_laws _ _ _ euc_kr_pairs) (multi_byte_shows_bb euc_kr_prefix _ refl refl)
+    multi_byte_keeps_laws euc_kr_prefix (double_byte_laws _ _ _ euc_kr_pairs)
+    (multi_byte_shows_bb euc_kr_prefix _ refl refl)
 codec_laws ShiftJis =
-    multi_byte_keeps_laws shift_jis_prefix (double_byte_laws _ _ _ shift_jis_pairs) (multi_byte_shows_bb shift_jis_prefix _ refl refl)
+    multi_byte_keeps_laws shift_jis_prefix (double_byte_laws _ _ _ shift_jis_pairs)
+    (multi_byte_shows_bb shift_jis_prefix _ refl refl)
 codec_laws EucJp =
     multi_byte_keeps_laws euc_jp_prefix euc_jp_laws (multi_byte_shows_bb euc_jp_prefix _ refl refl)
 codec_laws Gbk =

@@ -1,10 +1,8 @@
 -- Which rules are ASCII-compatible, which are single-byte, and which have sequences without a text.
 use Rattle.std.proofs.Common.{◌≡◌, ℕ, ◌<◌, Bool, true, false, Option, Some, None, List, [], ◌∷◌, length, refl, ap, ◌∙◌}
-use Rattle.std.proofs.Common.{sym, subst, arith}
+use Rattle.std.proofs.Common.{sym, subst, arith, zero, suc, ◌≤◌}
 use Rattle.std.proofs.lemmas.Bool.{cond-true, lt-ltb}
-use Rattle.std.proofs.lemmas.Bool.Decides.{nat_tests}
 use Rattle.std.specs.List.{AllByRecursion}
-use Rattle.enc_decoder.specs.declared.byte_codec.Text.TheVariants.{One}
 use Rattle.enc_decoder.specs.Sequence.{Sequence}
 use Rattle.enc_decoder.specs.Segmentation.{Head, Rule, one_byte_head, head_sequence, sequences_after, sequences_of}
 use Rattle.enc_decoder.specs.Remainder.{AreBytes}
@@ -17,7 +15,7 @@ use Rattle.enc_decoder_single_byte.specs.OneByte.{one_byte_rule, single_byte_cha
 use Rattle.enc_decoder_single_byte.specs.Replacement.{replacement_rule}
 use Rattle.enc_decoder_single_byte.proofs.OneByteLemmas.{one_byte_piece}
 use Rattle.enc_decoder_multi_byte.specs.declared.multi_byte.Prefix.{Prefix}
-use Rattle.enc_decoder_multi_byte.specs.declared.multi_byte.Prefix.TheVariants.{Complete, Malformed, Incomplete}
+use Rattle.enc_decoder_multi_byte.specs.declared.multi_byte.Prefix.TheVariants.{Malformed, Incomplete}
 use Rattle.enc_decoder_multi_byte.specs.MultiByte.{multi_byte_rule, prefix_head, HasAscii, ArePrefixes}
 use Rattle.enc_decoder_multi_byte.proofs.MultiBytePieces.{complete_one}
 use Rattle.enc_decoder_iso_2022_jp.specs.Iso2022Jp.{iso_2022_jp_rule}
@@ -102,31 +100,38 @@ pub multi_byte_is_ascii_compatible : (prefix : List ℕ → Prefix) → HasAscii
     → IsAsciiCompatible (multi_byte_rule prefix)
 multi_byte_is_ascii_compatible prefix h b l = complete_one prefix b b (h b l)
 
--- a lead, and a byte that is malformed with it
+-- by a lead, and a byte that is malformed with it
+
+broken_pair : (prefix : List ℕ → Prefix) (lead b : ℕ) → lead < 256 → b < 256
+    → prefix (lead ∷ []) ≡ Incomplete → prefix (lead ∷ b ∷ []) ≡ Malformed 2
+    → ¬ (IsSingleByte (multi_byte_rule prefix))
+unfolding multi_byte_rule
+broken_pair prefix lead b l m e f =
+    let head_is : prefix_head prefix 0 (lead ∷ []) (prefix (lead ∷ [])) (b ∷ [])
+    ≡ prefix_head prefix 0 (lead ∷ b ∷ []) (Malformed 2) [] =
+    ap (λ r. prefix_head prefix 0 (lead ∷ []) r (b ∷ [])) e
+    ∙ ap (λ r. prefix_head prefix 0 (lead ∷ b ∷ []) r []) f in
+    more_bytes (multi_byte_rule prefix) lead (b ∷ []) (l, (m, tt))
+    (λ o. let one_byte = subst (λ (t : Head). length (head_sequence t lead (b ∷ [])).bytes ≡ 1)
+    head_is o in
+    cc)
+
 pub multi_byte_is_not_single_byte : (prefix : List ℕ → Prefix) → ArePrefixes prefix
     → ¬ (IsSingleByte (multi_byte_rule prefix))
 multi_byte_is_not_single_byte prefix laws =
     let lead = laws.lead in
     let broken = laws.can_be_malformed (lead ∷ []) (omega arith) laws.leads.incomplete in
-    let len_is_two : broken.len ≡ 2 =
     let bounds = laws.malformed (lead ∷ broken.byte ∷ []) broken.len broken.malformed in
-    let other = broken.other in omega (arith, bounds.0, bounds.1) in
-    by_pair prefix lead broken.byte laws.leads.is_byte broken.is_byte laws.leads.incomplete
+    let other : broken.len ≡ 1 → ⊥ = broken.other in
+    let len_is_two : broken.len ≡ 2 = two broken.len bounds.0 bounds.1 other in
+    broken_pair prefix lead broken.byte laws.leads.is_byte broken.is_byte laws.leads.incomplete
     (broken.malformed ∙ ap Malformed len_is_two)
   where
-    by_pair : (prefix : List ℕ → Prefix) (lead b : ℕ) → lead < 256 → b < 256
-        → prefix (lead ∷ []) ≡ Incomplete → prefix (lead ∷ b ∷ []) ≡ Malformed 2
-        → ¬ (IsSingleByte (multi_byte_rule prefix))
-    unfolding multi_byte_rule
-    by_pair prefix lead b l m e f =
-        let head_is : prefix_head prefix 0 (lead ∷ []) (prefix (lead ∷ [])) (b ∷ [])
-        ≡ prefix_head prefix 0 (lead ∷ b ∷ []) (Malformed 2) [] =
-        ap (λ r. prefix_head prefix 0 (lead ∷ []) r (b ∷ [])) e
-        ∙ ap (λ r. prefix_head prefix 0 (lead ∷ b ∷ []) r []) f in
-        more_bytes (multi_byte_rule prefix) lead (b ∷ []) (l, (m, tt))
-        (λ o. let one_byte = subst (λ (t : Head). length (head_sequence t lead (b ∷ [])).bytes ≡ 1)
-        head_is o in
-        cc)
+    two : (n : ℕ) → 0 < n → n ≤ 2 → (n ≡ 1 → ⊥) → n ≡ 2
+    two zero some few other = omega (arith, some)
+    two (suc zero) some few other = absurd (other refl)
+    two (suc (suc zero)) some few other = refl
+    two (suc (suc (suc n))) some few other = omega (arith, few)
 
 -- ISO-2022-JP, in which an escape sequence is skipped, and 1B by itself is malformed
 

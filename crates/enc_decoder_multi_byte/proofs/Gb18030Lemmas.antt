@@ -10,8 +10,8 @@ use Rattle.enc_decoder_multi_byte.specs.DoubleByte.{text_of_char, IsPairText}
 use Rattle.enc_decoder_multi_byte.specs.MultiByte.{CanBeMalformed, ArePrefixes}
 use Rattle.enc_decoder_multi_byte.specs.Gb18030.{is_gb18030_lead, is_digit, gb18030_single_char, gb18030_pair_char}
 use Rattle.enc_decoder_multi_byte.specs.Gb18030.{ranges_code_point, four_byte_pointer, four_byte_prefix, gb18030_prefix}
-use Rattle.enc_decoder_multi_byte.proofs.DoubleByteLemmas.{first_alone, first_is_basic, one_is_text, char_is_text, first_is_text}
-use Rattle.enc_decoder_multi_byte.proofs.DoubleByteLemmas.{first_malformed, trail_text, trail_malformed}
+use Rattle.enc_decoder_multi_byte.proofs.DoubleByteLemmas.{first_alone, first_is_basic, one_is_text, char_is_text}
+use Rattle.enc_decoder_multi_byte.proofs.DoubleByteLemmas.{first_is_text, first_malformed, trail_text, trail_malformed}
 use Rattle.enc_decoder_multi_byte.proofs.DoubleByteLemmas.{unless_complete, unless_malformed}
 
 -- four bytes
@@ -113,7 +113,8 @@ single_is_basic b c e = grind (arith, nat_tests)
 pub gb18030_laws : ArePrefixes gb18030_prefix
 gb18030_laws = record {
   nothing = refl;
-  ascii = λ b l. first_alone (is_gb18030_lead b) (gb18030_single_char b) b (grind (arith, nat_tests))
+  ascii = λ b l.
+      first_alone (is_gb18030_lead b) (gb18030_single_char b) b (grind (arith, nat_tests))
       (cond-true _ _ _ (lt-ltb b 0x80 l));
   lead = 0x81;
   leads = record { is_byte = omega arith; incomplete = refl };

@@ -42,18 +42,19 @@ pub record IsPairText (text : Text) : Type 0 where
   pub some : text_chars text ≢ []
   pub small : IsSmallText (text_chars text)
 
--- The laws of leads, single bytes and pairs: an ASCII byte is no lead, and is the character with its
--- number; there is a lead; single bytes are characters of the Basic Multilingual Plane, pairs have
--- small texts, and FF is no trail byte.
-pub record ArePairs (is_lead : ℕ → Bool) (single : ℕ → Option ℕ) (pair : ℕ → ℕ → Option Text) : Type 0
-  where
-    pub ascii : (b : ℕ) → b < 0x80 → (is_lead b ≡ false) × (single b ≡ Some b)
-    pub lead : ℕ
-    pub is_byte : lead < 256
-    pub leads : is_lead lead ≡ true
-    pub basic : (b c : ℕ) → single b ≡ Some c → c < 0x1_0000
-    pub texts : (a b : ℕ) (text : Text) → pair a b ≡ Some text → IsPairText text
-    pub no_trail : (a : ℕ) → pair a 0xFF ≡ None
+-- The laws of leads, single bytes and pairs: an ASCII byte is no lead, and is the character with
+-- its number; there is a lead; single bytes are characters of the Basic Multilingual Plane, pairs
+-- have small texts, and FF is no trail byte.
+pub record ArePairs
+    (is_lead : ℕ → Bool) (single : ℕ → Option ℕ) (pair : ℕ → ℕ → Option Text)
+    : Type 0 where
+  pub ascii : (b : ℕ) → b < 0x80 → (is_lead b ≡ false) × (single b ≡ Some b)
+  pub lead : ℕ
+  pub is_byte : lead < 256
+  pub leads : is_lead lead ≡ true
+  pub basic : (b c : ℕ) → single b ≡ Some c → c < 0x1_0000
+  pub texts : (a b : ℕ) (text : Text) → pair a b ≡ Some text → IsPairText text
+  pub no_trail : (a : ℕ) → pair a 0xFF ≡ None
 
 -- a lead byte and the byte after it are one character
 abbrev pub IsLeadPair : (ℕ → Bool) → (ℕ → ℕ → Option Text) → ℕ → ℕ → ℕ → Type 0

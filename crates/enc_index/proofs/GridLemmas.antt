@@ -117,7 +117,8 @@ module _ (kind : ℕ → ℕ → Bool) (shape : Shape) (ts gs : List ℕ)
             let entry = entry_ok-found kind planes code_point (get_or (drop 256 gs) cell 0) fits
             there in
             let column = grid_char-of_column shape r c low in
-            let char = subst (λ k. grid_char shape k ≡ pointer_char shape pointer) (sym e) column in (
+            let char =
+            subst (λ k. grid_char shape k ≡ pointer_char shape pointer) (sym e) column in (
               code_point,
               char ∙ sym (table pointer) ∙ entry.0,
               subst (λ g. kind code_point g ≡ true) here entry.1,

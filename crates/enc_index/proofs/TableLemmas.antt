@@ -1,7 +1,7 @@
 -- A table of code points has what the runs say, by a test that goes through both once.
-use Rattle.std.proofs.Common.{◌≡◌, ℕ, zero, suc, ◌+◌, ◌-◌, ◌<◌, ◌≤◌, Bool, true, false, refl, sym, ap, ◌∙◌, subst, cond}
-use Rattle.std.proofs.Common.{◌&&◌, ◌==◌, nat_lt, List, [], ◌∷◌, get_or, length, Option, None, arith, inl, inr, eqb-true}
-use Rattle.std.proofs.Common.{le-leb, lt-ltb, le-ltb}
+use Rattle.std.proofs.Common.{◌≡◌, ℕ, zero, suc, ◌+◌, ◌-◌, ◌<◌, ◌≤◌, Bool, true, false, refl, sym, ap, ◌∙◌, subst}
+use Rattle.std.proofs.Common.{cond, ◌&&◌, ◌==◌, nat_lt, List, [], ◌∷◌, get_or, length, Option, None, arith, inl, inr}
+use Rattle.std.proofs.Common.{eqb-true, le-leb, lt-ltb, le-ltb}
 use Rattle.std.proofs.lemmas.Bool.{cond-true, cond-false, and_parts, and_left, and_right, and_from, cases_lt, lt-leb}
 use Rattle.std.proofs.lemmas.List.{get_or_past}
 use Rattle.enc_index.specs.declared.table.Planes.{Planes}

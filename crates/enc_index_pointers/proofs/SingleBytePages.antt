@@ -91,8 +91,9 @@ module _ (index : SingleByteIndex) (n b c : ℕ) (is_number : n ≡ table_number
       → (0x80 ≤ b) × (single_byte_pointer index c ≡ Some (b - 0x80))
   pointer_byte high h fits =
       let number = number_in_pages (page_of index) SINGLE_BYTE_POINTERS c in
-      let paged = is_entry ∙ paged_byte 14 10 (page_of index) SINGLE_BYTE_POINTERS (bytes_of n) direct
-      c high (some h) in
+      let paged =
+      is_entry ∙ paged_byte 14 10 (page_of index) SINGLE_BYTE_POINTERS (bytes_of n) direct c high
+      (some h) in
       let few : number < 128 = omega (arith, paged, fits) in
       let less : number ≡ b - 0x80 = omega (arith, paged) in (
         omega (arith, paged),

@@ -1,4 +1,4 @@
--- The table of index gb18030 has what its runs say, and a grid has what the table says.
+-- The table of index gb18030 agrees with its runs, and a grid with its table.
 -- Written by scripts/make-indexes from data/templates: change the text there, and not this file.
 use Rattle.std.proofs.Common.{◌≡◌, ℕ, true, refl, get_or}
 use Rattle.std.proofs.Common.{◌<◌, Some}
