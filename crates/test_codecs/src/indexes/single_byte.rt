@@ -23,7 +23,10 @@ const POINTERS: &[(SingleByteIndex, char, Option<u32>)] = &[
 #[test]
 fn have_characters_and_pointers(rt: HostRuntime) {
     for (index, pointer, want) in CHARACTERS {
-        assert!(rt; List::SingleByte(*index).at(*pointer) == *want, "at {pointer}");
+        assert!(rt;
+            List::SingleByte(*index).at(*pointer) == *want,
+            "at {pointer}"
+        );
     }
     for (index, character, want) in POINTERS {
         assert!(rt; single_byte(*index, *character) == *want, "{character}");
