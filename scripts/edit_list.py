@@ -8,14 +8,12 @@ import os
 import re
 from typing import NamedTuple
 
-from common import crates, differing, is_there, paths, read
+from common import crates, is_there, paths, read
 
 FUNCTION = re.compile(r"^(\s*)(?:pub(?:\([a-z]+\))?\s+)?(?:const\s+)?fn\s+(\w+)")
 OWNER = re.compile(r"(?:unsafe )?impl\b|(?:pub )?trait\b")
 TEST = re.compile(r"^#\[test\]\nfn (\w+)\(", re.M)
 
-# The most edits in a file of the gate, which shows of them only that one is refused.
-MOST_IN_GATE = 10
 # The lines of an edit that say more than its pairs: what they are for, and how each begins.
 LINES = {"call": "# call: ", "shown": "# shown by: ", "reason": "# not shown: ", "same": "# same by: "}
 
@@ -66,11 +64,6 @@ class Edit:
     @property
     def label(self):
         return f"{self.crate}/{self.name}"
-
-    @property
-    def text_to_refuse(self):
-        """Its text without the lines on its witness, of which a proof takes no notice."""
-        return re.sub(f"^(?:{LINES['shown']}|{LINES['reason']}).*\n", "", self.text, flags=re.M)
 
     @property
     def is_of_functions(self):
@@ -130,15 +123,11 @@ def lines_of(text, place):
     return 0, 0
 
 
-def files_of_gate(crate):
-    return paths(f"crates/{crate}/must-fail/calls_*.edit")
-
-
 @functools.cache
 def edits_of(crate):
     """The edits of a crate: those that stand singly in must-fail, and those of edits."""
     files = paths(f"crates/{crate}/must-fail/*.edit") + paths(f"crates/{crate}/edits/*.edit")
-    return [Edit(crate, it) for it in files if it not in files_of_gate(crate)]
+    return [Edit(crate, it) for it in files]
 
 
 @functools.cache
@@ -204,24 +193,8 @@ def groups_of(edits, most):
     return groups
 
 
-@functools.cache
-def gate():
-    """The files of must-fail that stand for many edits, by path: one for each group of the edits that name a call."""
-    files = {}
-    for crate in crates():
-        edits = [it for it in edits_of(crate) if it.call and not it.fault]
-        for number, group in enumerate(groups_of(edits, MOST_IN_GATE), 1):
-            members = "".join(f"\n# edit: {it.name}\n{it.text_to_refuse}" for it in group)
-            files[f"crates/{crate}/must-fail/calls_{number}.edit"] = f"# written by scripts/edits --gate from crates/{crate}/edits\n{members}"
-    return files
-
-
 def out_of_date():
-    """What is wrong with the files of must-fail that stand for many edits, and with the edits themselves."""
-    wanted = gate()
-    others = [path for path, text in wanted.items() if differing({path: text})]
-    others += [it for crate in crates() for it in files_of_gate(crate) if it not in wanted]
+    """What is wrong with the edits."""
     faults = faults_before([it for crate in crates() for it in edits_of(crate)], fault_of_witness)
     faults |= faults_before([it for crate in crates() for it in equal_of(crate)], fault_of_same)
-    found = [f"{path}: run scripts/edits --gate" for path in others]
-    return found + [f"{path}: {fault}" for path, fault in faults.items()]
+    return [f"{path}: {fault}" for path, fault in faults.items()]

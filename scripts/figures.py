@@ -6,7 +6,7 @@ import re
 import claims
 import closure
 from common import crates, differing, paths, read
-from edit_list import edits_of, equal_of, gate
+from edit_list import edits_of, equal_of
 from encoding_list import labels_of, read_list
 from places import decoders
 from sources import headline, is_written, lines_of, specs_of, tests_of
@@ -36,12 +36,12 @@ def of_gate():
     tests = {crate: tests_of(crate) for crate in crates()}
     single, calls = sum("/must-fail/" in it.path for it in edits), sum(bool(it.call) for it in edits)
     shown, equal = sum(bool(it.shown) for it in edits), sum(len(equal_of(it)) for it in crates())
-    groups, codecs = len(gate()), sum(len(it.codecs) for it in decoders())
+    codecs = sum(len(it.codecs) for it in decoders())
     by_crate = listed({crate: len(those) for crate, those in every.items()})
     why = f"{len(edits) - shown} edits say why no run shows them; {equal} changes in `equal/` mean the same"
     return table([
         ("crates", len(every), f"`crates.txt`; {codecs} codecs, of {len(decoders())} decoders"),
-        ("edits", len(edits), f"{by_crate}; `rt ci` tries {single} singly and {calls} in {groups} groups"),
+        ("edits", len(edits), f"{by_crate}; {calls} name a call; `rt ci` tries {single}"),
         ("shown by a run", shown, why),
         ("tests", sum(tests.values()), listed(tests)),
     ])
