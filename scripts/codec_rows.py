@@ -193,20 +193,18 @@ ROWS = {
         ],
         "src/encoders/long_texts.rt": [Rows("encoders of bytes", own=OTHERS)],
         "src/encoders/references.rt": [Rows("encoders of bytes", own=OTHERS, kinds=("samples",))],
-    },
-    "test_surface": {
-        "src/codecs.rt": [
+        "src/surface/codecs.rt": [
             Rows("codecs", "C", OTHERS, ("SingleByte",), ("samples",), skip="VariantDecoder|Decoder::new|List::"),
             Rows("decoders", "C", OTHERS, kinds=("samples",), skip="VariantDecoder|Codec::|List::"),
             Rows("decoders", skip="Codec::|Decoder::new|List::"),
             Rows("indexes", "C", OTHER_INDEXES, kinds=("samples",), skip="Decoder|Codec::"),
         ],
-        "src/encoders.rt": [
+        "src/surface/encoders.rt": [
             Rows("encoders", "C", OTHERS, kinds=("samples",), skip="VariantEncoder|Codec::"),
             Rows("encoders", skip="Codec::|Encoder::new"),
             Rows("codecs with encoders", "C", OTHERS, ("SingleByte",), ("samples",), skip="Encoder::"),
         ],
-        "src/encodings/constants.rt": [Rows("encodings", model="Koi8U")],
+        "src/surface/encodings/constants.rt": [Rows("encodings", model="Koi8U")],
     },
 }
 OF_ENCODERS = ("enc_encode", "enc_round_trip")
@@ -222,7 +220,7 @@ COUNTS = {
     "crates/enc_stream/src/properties.rt": [
         ("True for the ", " legacy single-byte", sum(bool(it.index) for it in read_list())),
     ],
-    "crates/test_surface/src/encodings/constants.rt": [
+    "crates/test_codecs/src/surface/encodings/constants.rt": [
         ("`encoding_rs`: ", " encodings", OF_EACH),
         ("CONSTANTS.len() == ", ")", OF_EACH),
     ],

@@ -1,5 +1,5 @@
 //! Tests of each decoder and encoder, with every split of its input and every small output buffer;
-//! of index look-ups, and of outputs.
+//! of index look-ups, and of outputs; and of each public item, by its path (`surface`).
 //!
 //! Each codec has a module in `codecs` with a table of rows. One call runs the rows through the
 //! `Encoding` and through the codec's `RawDecoder`. `encoders` has texts and their bytes, with
@@ -16,5 +16,7 @@ mod decoders;
 mod encoders;
 #[cfg(test)]
 mod indexes;
+#[cfg(test)]
+mod surface;
 #[cfg(test)]
 mod units;

@@ -1,5 +1,0 @@
-use Rattle.std.proofs.Common.{◌≡◌, length}
-use Rattle.example_mail_part.proofs.decode_body.Given as goal
-
-abbrev pub invariant-pieces : goal.invariant-pieces
-invariant-pieces g l = length l.text ≡ 1460

@@ -1,0 +1,225 @@
+//! The items of `enc_codec`: decoders by encoding, the trait that they share, and the indexes.
+//!
+//! Rows by codec are written by scripts/make-codecs from data/codecs.txt.
+
+use crate::surface::derives::{are_equal, copies, debug_text};
+use enc_codec::*;
+use enc_units::Utf8Slice;
+use std::process::Abort;
+use std::test::Fail;
+
+#[test]
+fn results_of_decoders_are_compared_and_printed(rt: HostRuntime) -> Result<(), Fail> {
+    let (one, two) = (
+        DecoderResult::Malformed(1, 0),
+        DecoderResult::Malformed(2, 0),
+    );
+    assert!(rt; are_equal(&one, &one) && !are_equal(&one, &two));
+    assert!(rt; !are_equal(&DecoderResult::InputEmpty, &DecoderResult::OutputFull));
+    assert!(rt; debug_text(rt.alloc(), &one)?.as_str() == "Malformed(1, 0)");
+    Ok(())
+}
+
+/// Each item of the trait `RawDecoder`, on a decoder of UTF-8: a character in two parts, and a
+/// malformed byte.
+fn decode_in_parts<D: RawDecoder>(rt: &impl Abort, start: D) {
+    let mut decoder: D = start;
+    let mut dst: [u8; 8] = [0; 8];
+    let mut out = Utf8Slice::new(&mut dst);
+    let answer: (DecoderResult, usize) = decoder.decode(b"\xE2", &mut out, false, false);
+    assert!(rt; answer == (DecoderResult::InputEmpty, 1));
+    let held: usize = decoder.held();
+    let utf_8: Option<usize> = decoder.max_utf8_buffer_length(2);
+    let reporting: Option<usize> = decoder.max_utf8_buffer_length_without_replacement(2);
+    let utf_16: Option<usize> = decoder.max_utf16_buffer_length(2);
+    assert!(rt; (held, utf_8, reporting, utf_16) == (1, Some(12), Some(6), Some(4)));
+    // no byte stands for itself while one is held
+    let latin1: (Option<usize>, Option<usize>) = (
+        start.latin1_byte_compatible_up_to(b"ab\xC3\xA9"),
+        decoder.latin1_byte_compatible_up_to(b"ab"),
+    );
+    assert!(rt; latin1 == (Some(2), None));
+    let answer: (DecoderResult, usize, bool) = decoder.decode_replacing(
+        b"\x82\xAC\xFF",
+        &mut out,
+        true,
+    );
+    assert!(rt; answer == (DecoderResult::InputEmpty, 3, true));
+    assert!(rt; &dst[..6] == "€\u{FFFD}".as_bytes());
+}
+
+#[test]
+fn a_decoder_holds_the_bytes_of_an_open_sequence(rt: HostRuntime) {
+    decode_in_parts(&rt, Utf8Decoder::new());
+    decode_in_parts(&rt, VariantDecoder::Utf8(Utf8Decoder::new()));
+}
+
+#[test]
+fn a_malformed_byte_is_reported_with_room_for_its_character(rt: HostRuntime) {
+    let mut decoder = Utf8Decoder::new();
+    let mut dst: [u8; 2] = [0; 2];
+    let mut out = Utf8Slice::new(&mut dst);
+    let with_room = decoder.decode(b"\xFF", &mut out, true, true);
+    assert!(rt; with_room == (DecoderResult::OutputFull, 0));
+    let without = decoder.decode(b"\xFF", &mut out, true, false);
+    assert!(rt; without == (DecoderResult::Malformed(1, 0), 1));
+}
+
+/// Decodes some bytes by a new decoder: this is their text.
+fn decode_text<D: RawDecoder>(rt: &impl Abort, mut decoder: D, bytes: &[u8], text: &str) {
+    let mut dst: [u8; 8] = [0; 8];
+    let mut out = Utf8Slice::new(&mut dst);
+    let answer = decoder.decode(bytes, &mut out, true, false);
+    assert!(rt; answer == (DecoderResult::InputEmpty, bytes.len()));
+    assert!(rt; out.len() == text.len());
+    assert!(rt; dst.as_slice().starts_with(text.as_bytes()));
+}
+
+/// Decodes some bytes by each of two copies of a decoder: both give this text.
+fn decode_all<D: RawDecoder>(
+    rt: &impl Abort,
+    start: D,
+    bytes: &[u8],
+    text: &str,
+) -> Result<(), Fail> {
+    let (first, second) = copies(start)?;
+    decode_text(rt, first, bytes, text);
+    decode_text(rt, second, bytes, text);
+    Ok(())
+}
+
+/// The index of windows-1252.
+const WINDOWS_1252: SingleByteIndex = SingleByteIndex::Windows1252;
+
+#[test]
+fn each_decoder_decodes_its_encoding(rt: HostRuntime) -> Result<(), Fail> {
+    decode_all(&rt, Utf8Decoder::new(), b"\xE2\x82\xAC", "€")?;
+    decode_all(&rt, Utf16Decoder::new(true), b"\x20\xAC", "€")?;
+    decode_all(&rt, Utf16Decoder::new(false), b"\xAC\x20", "€")?;
+    decode_all(&rt, SingleByteDecoder::new(WINDOWS_1252), b"\x80", "€")?;
+    decode_all(&rt, XUserDefinedDecoder::new(), b"\x80", "\u{F780}")?;
+    decode_all(&rt, ReplacementDecoder::new(), b"", "")?;
+    decode_all(&rt, Big5Decoder::new(), b"\xA4\x40", "一")?;
+    decode_all(&rt, EucKrDecoder::new(), b"\xB0\xA1", "가")?;
+    decode_all(&rt, ShiftJisDecoder::new(), b"\x83\x6E", "ハ")?;
+    decode_all(&rt, EucJpDecoder::new(), b"\x8F\xB0\xA1", "丂")?;
+    decode_all(&rt, Gb18030Decoder::new(), b"\xB0\xA1\x80", "啊€")?;
+    decode_all(&rt, Iso2022JpDecoder::new(), b"\x1B(J\x5C", "¥")
+}
+
+/// The name of a decoder's variant.
+fn variant_name(decoder: &VariantDecoder) -> &'static str {
+    match decoder {
+        VariantDecoder::Utf8(_) => "Utf8",
+        VariantDecoder::Utf16(_) => "Utf16",
+        VariantDecoder::SingleByte(_) => "SingleByte",
+        VariantDecoder::XUserDefined(_) => "XUserDefined",
+        VariantDecoder::Replacement(_) => "Replacement",
+        VariantDecoder::Big5(_) => "Big5",
+        VariantDecoder::EucKr(_) => "EucKr",
+        VariantDecoder::ShiftJis(_) => "ShiftJis",
+        VariantDecoder::EucJp(_) => "EucJp",
+        VariantDecoder::Gb18030(_) => "Gb18030",
+        VariantDecoder::Iso2022Jp(_) => "Iso2022Jp",
+    }
+}
+
+/// Each codec, its decoder's variant, bytes of its encoding, and their text.
+const CODECS: &[(Codec, &str, &[u8], &str)] = &[
+    (Codec::Utf8, "Utf8", b"\xE2\x82\xAC", "€"),
+    (Codec::Utf16Be, "Utf16", b"\x20\xAC", "€"),
+    (Codec::Utf16Le, "Utf16", b"\xAC\x20", "€"),
+    (Codec::SingleByte(WINDOWS_1252), "SingleByte", b"\x80", "€"),
+    (Codec::XUserDefined, "XUserDefined", b"\x80", "\u{F780}"),
+    (Codec::Replacement, "Replacement", b"", ""),
+    (Codec::Big5, "Big5", b"\xA4\x40", "一"),
+    (Codec::EucKr, "EucKr", b"\xB0\xA1", "가"),
+    (Codec::ShiftJis, "ShiftJis", b"\x83\x6E", "ハ"),
+    (Codec::EucJp, "EucJp", b"\x8F\xB0\xA1", "丂"),
+    (Codec::Gbk, "Gb18030", b"\xB0\xA1\x80", "啊€"),
+    (Codec::Gb18030, "Gb18030", b"\xB0\xA1\x80", "啊€"),
+    (Codec::Iso2022Jp, "Iso2022Jp", b"\x1B(J\x5C", "¥"),
+];
+
+#[test]
+fn each_codec_has_a_decoder(rt: HostRuntime) -> Result<(), Fail> {
+    for (codec, name, bytes, text) in CODECS {
+        let (codec, _) = copies(*codec)?;
+        let decoder: VariantDecoder = codec.new_decoder();
+        assert!(rt; variant_name(&decoder) == *name);
+        assert!(rt; codec.text_lengths().utf8(5, 0) == decoder.max_utf8_buffer_length(5));
+        decode_all(&rt, decoder, *bytes, *text)?;
+    }
+    Ok(())
+}
+
+/// Each index, a pointer that it has, and the character.
+const LISTS: &[(List, u32, char)] = &[
+    (List::SingleByte(WINDOWS_1252), 0, '€'),
+    (List::Big5, 5495, '一'),
+    (List::EucKr, 9026, '가'),
+    (List::Gb18030, 9026, '啊'),
+    (List::Gb18030Ranges, 189_000, '\u{10000}'),
+    (List::Jis0208, 1485, '一'),
+    (List::Jis0212, 1410, '丂'),
+];
+
+#[test]
+fn each_index_has_characters_by_pointer(rt: HostRuntime) -> Result<(), Fail> {
+    for (list, pointer, want) in LISTS {
+        let (list, _) = copies(*list)?;
+        let character: Option<char> = list.at(*pointer);
+        let runs: &'static [(u32, u32, u32)] = list.runs();
+        let run = runs
+            .iter()
+            .find(|run| run.0 <= *pointer && *pointer <= run.1);
+        let Some((first, _, number)) = run else {
+            return Err("no run has the pointer".into());
+        };
+        let offset = pointer.wrapping_sub(*first);
+        assert!(rt; number.wrapping_add(offset) == *want as u32);
+        assert!(rt; (character, list.at(u32::MAX)) == (Some(*want), None));
+    }
+    Ok(())
+}
+
+/// Each index of a legacy single-byte encoding, with the character of byte E4, by Python's codecs.
+const SINGLE_BYTE_INDEXES: &[(SingleByteIndex, char)] = &[
+    (SingleByteIndex::Ibm866, 'ф'),
+    (SingleByteIndex::Iso88592, 'ä'),
+    (SingleByteIndex::Iso88593, 'ä'),
+    (SingleByteIndex::Iso88594, 'ä'),
+    (SingleByteIndex::Iso88595, 'ф'),
+    (SingleByteIndex::Iso88596, 'ل'),
+    (SingleByteIndex::Iso88597, 'δ'),
+    (SingleByteIndex::Iso88598, 'ה'),
+    (SingleByteIndex::Iso885910, 'ä'),
+    (SingleByteIndex::Iso885913, 'ä'),
+    (SingleByteIndex::Iso885914, 'ä'),
+    (SingleByteIndex::Iso885915, 'ä'),
+    (SingleByteIndex::Iso885916, 'ä'),
+    (SingleByteIndex::Koi8R, 'Д'),
+    (SingleByteIndex::Koi8U, 'Д'),
+    (SingleByteIndex::Macintosh, '‰'),
+    (SingleByteIndex::Windows874, 'ไ'),
+    (SingleByteIndex::Windows1250, 'ä'),
+    (SingleByteIndex::Windows1251, 'д'),
+    (SingleByteIndex::Windows1252, 'ä'),
+    (SingleByteIndex::Windows1253, 'δ'),
+    (SingleByteIndex::Windows1254, 'ä'),
+    (SingleByteIndex::Windows1255, 'ה'),
+    (SingleByteIndex::Windows1256, 'ن'),
+    (SingleByteIndex::Windows1257, 'ä'),
+    (SingleByteIndex::Windows1258, 'ä'),
+    (SingleByteIndex::XMacCyrillic, 'д'),
+];
+
+#[test]
+fn each_single_byte_index_has_a_character_of_byte_e4(rt: HostRuntime) -> Result<(), Fail> {
+    for (index, want) in SINGLE_BYTE_INDEXES {
+        let (index, _) = copies(*index)?;
+        let character: Option<char> = index.at(0xE4 - 0x80);
+        assert!(rt; character == Some(*want));
+    }
+    Ok(())
+}

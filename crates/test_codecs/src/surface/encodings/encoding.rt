@@ -1,0 +1,108 @@
+//! `Encoding`: look-ups, properties, valid prefixes, and what it makes.
+
+use crate::surface::derives::{are_equal, copies, debug_text, hash_of};
+use encoding_rs::{
+    Decoder, Encoder, Encoding, ISO_2022_JP, REPLACEMENT, SHIFT_JIS, UTF_8, UTF_16BE, UTF_16LE,
+    WINDOWS_1252, X_USER_DEFINED, laws,
+};
+use std::hash::{DefaultHasher, Hasher};
+use std::test::Fail;
+
+#[test]
+fn an_encoding_is_copied_compared_hashed_and_printed(rt: HostRuntime) -> Result<(), Fail> {
+    let (first, second) = copies(UTF_8)?;
+    assert!(rt; are_equal(&first, &second) && hash_of(&first) == hash_of(&second));
+    assert!(rt; !are_equal(&UTF_8, &SHIFT_JIS) && hash_of(&UTF_8) != hash_of(&SHIFT_JIS));
+    let text = debug_text(rt.alloc(), &UTF_8)?;
+    assert!(rt; text.as_str().starts_with("Encoding {"));
+    Ok(())
+}
+
+#[test]
+fn equal_encodings_are_the_same_and_hash_alike(rt: HostRuntime) {
+    let is_same: bool = laws::equal_are_the_same(UTF_8, UTF_8);
+    assert!(rt; is_same && !laws::equal_are_the_same(UTF_8, SHIFT_JIS));
+    let (mut first, mut second) = (DefaultHasher::new(), DefaultHasher::new());
+    laws::equal_hash_alike(UTF_8, UTF_8, &mut first, &mut second);
+    assert!(rt; first.finish() == second.finish());
+    laws::equal_hash_alike(SHIFT_JIS, SHIFT_JIS, &mut first, &mut second);
+    assert!(rt; first.finish() == second.finish());
+}
+
+/// The laws of constants, ASCII and slices, which are calls that do nothing.
+#[test]
+fn laws_are_called_for_what_they_state() {
+    laws::constants_have_their_names();
+    laws::ascii_compatible_encode_ascii(SHIFT_JIS);
+    laws::slices_are_bytes(b"a");
+}
+
+#[test]
+fn an_encoding_is_found_by_label_or_byte_order_mark(rt: HostRuntime) {
+    let found: Option<Encoding> = Encoding::for_label(b" \tSJIS\r\n");
+    assert!(rt; found == Some(SHIFT_JIS));
+    assert!(rt; Encoding::for_label(b"bogus") == None);
+    let found: Option<Encoding> = Encoding::for_label_no_replacement(b"latin1");
+    assert!(rt; found == Some(WINDOWS_1252));
+    assert!(rt; Encoding::for_label(b"hz-gb-2312") == Some(REPLACEMENT));
+    assert!(rt; Encoding::for_label_no_replacement(b"hz-gb-2312") == None);
+    let found: Option<(Encoding, usize)> = Encoding::for_bom(b"\xEF\xBB\xBFa");
+    assert!(rt; found == Some((UTF_8, 3)));
+    assert!(rt; Encoding::for_bom(b"\xFE\xFF") == Some((UTF_16BE, 2)));
+    assert!(rt; Encoding::for_bom(b"\xFF\xFE") == Some((UTF_16LE, 2)));
+    assert!(rt; Encoding::for_bom(b"\xEF\xBB") == None);
+}
+
+/// An encoding, its name and output encoding, and whether it encodes everything, is
+/// ASCII-compatible and is single-byte.
+type Properties = (Encoding, &'static str, Encoding, [bool; 3]);
+
+#[rattlefmt::skip]
+const PROPERTIES: &[Properties] = &[
+    (UTF_8, "UTF-8", UTF_8, [true, true, false]),
+    (UTF_16LE, "UTF-16LE", UTF_8, [true, false, false]),
+    (REPLACEMENT, "replacement", UTF_8, [true, false, false]),
+    (WINDOWS_1252, "windows-1252", WINDOWS_1252, [false, true, true]),
+    (X_USER_DEFINED, "x-user-defined", X_USER_DEFINED, [false, true, true]),
+    (SHIFT_JIS, "Shift_JIS", SHIFT_JIS, [false, true, false]),
+    (ISO_2022_JP, "ISO-2022-JP", ISO_2022_JP, [false, false, false]),
+];
+
+#[test]
+fn an_encoding_has_its_properties(rt: HostRuntime) {
+    for (encoding, want_name, want_output, want) in PROPERTIES {
+        let name: &'static str = encoding.name();
+        let output: Encoding = encoding.output_encoding();
+        assert!(rt; (name, output) == (*want_name, *want_output));
+        let properties: [bool; 3] = [
+            encoding.can_encode_everything(),
+            encoding.is_ascii_compatible(),
+            encoding.is_single_byte(),
+        ];
+        assert!(rt; properties == *want, "{name}");
+    }
+}
+
+#[test]
+fn prefixes_are_valid_up_to_a_byte(rt: HostRuntime) {
+    let utf_8: usize = Encoding::utf8_valid_up_to(b"a\xC3\xA9\xED\xA0\x80");
+    let ascii: usize = Encoding::ascii_valid_up_to(b"a\x1B\x80");
+    let iso_2022_jp: usize = Encoding::iso_2022_jp_ascii_valid_up_to(b"a\x1B\x80");
+    assert!(rt; (utf_8, ascii, iso_2022_jp) == (3, 2, 1));
+}
+
+#[test]
+fn an_encoding_makes_decoders_and_encoders(rt: HostRuntime) {
+    let sniffing: Decoder = UTF_16BE.new_decoder();
+    let removing: Decoder = UTF_16BE.new_decoder_with_bom_removal();
+    let plain: Decoder = UTF_16BE.new_decoder_without_bom_handling();
+    for decoder in [sniffing, removing, plain] {
+        assert!(rt; decoder.encoding() == UTF_16BE);
+    }
+    let encoder: Encoder = UTF_16BE.new_encoder();
+    assert!(rt; encoder.encoding() == UTF_8);
+    let is_allowed: bool = Encoding::barred_ok(&['é', '\u{80}']);
+    assert!(rt; is_allowed && Encoding::barred_ok(&[]) && !Encoding::barred_ok(&['a']));
+    let encoder: Encoder = SHIFT_JIS.new_encoder_barring(&['ハ']);
+    assert!(rt; encoder.encoding() == SHIFT_JIS);
+}

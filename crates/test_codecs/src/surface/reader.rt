@@ -1,0 +1,79 @@
+//! The items of `enc_reader`: sources of bytes, and a reader of their text.
+
+use crate::surface::derives::{are_equal, debug_text};
+use enc_reader::{DecodeReader, FromRead, HandedText, ReadFault, Source};
+use encoding_rs::{Encoding, UTF_8, WINDOWS_1252};
+use std::io;
+use std::io::{ErrorKind, Read};
+use std::process::Abort;
+use std::test::Fail;
+
+#[test]
+fn faults_of_a_reader_are_compared_and_printed(rt: HostRuntime) -> Result<(), Fail> {
+    assert!(rt; are_equal(&ReadFault::Reader, &ReadFault::Reader));
+    assert!(rt; !are_equal(&ReadFault::Reader, &ReadFault::Failed));
+    assert!(rt; (ReadFault::Reader as u8, ReadFault::Failed as u8) == (1, 2));
+    let text = debug_text(rt.alloc(), &ReadFault::Failed)?;
+    assert!(rt; text.as_str() == "Failed");
+    Ok(())
+}
+
+/// A reader whose every read fails.
+#[derive(Clone, Copy)]
+struct Broken;
+
+impl Read for Broken {
+    fn read(&mut self, _buf: &mut [u8]) -> io::Result<usize> {
+        Err(io::Error::from(ErrorKind::BrokenPipe))
+    }
+}
+
+/// Each item of the trait `Source`: a pull into two bytes.
+fn pull_once<S: Source>(rt: &impl Abort, source: &mut S, want: (Result<usize, ()>, bool)) {
+    assert!(rt; !source.failed());
+    let mut buf: [u8; 2] = [0; 2];
+    let answer: Result<usize, ()> = source.pull(&mut buf);
+    let has_failed: bool = source.failed();
+    assert!(rt; (answer, has_failed) == want);
+}
+
+#[test]
+fn a_source_gives_bytes_until_it_fails(rt: HostRuntime) {
+    let mut source: FromRead<&[u8]> = FromRead::new(b"abc".as_slice());
+    pull_once(&rt, &mut source, (Ok(2), false));
+    pull_once(&rt, &mut source, (Ok(1), false));
+    pull_once(&rt, &mut source, (Ok(0), false));
+    pull_once(&rt, &mut FromRead::new(Broken), (Err(()), true));
+}
+
+#[test]
+fn a_reader_hands_out_text(rt: HostRuntime) -> Result<(), Fail> {
+    let mut source = FromRead::new(b"\xEF\xBB\xBFa\xFF".as_slice());
+    let mut input: [u8; 8] = [0; 8];
+    let mut reader = DecodeReader::new(&mut source, Some(WINDOWS_1252), &mut input);
+    let (encoding, had_errors): (Encoding, bool) = (reader.encoding(), reader.had_errors());
+    assert!(rt; (encoding, had_errors) == (WINDOWS_1252, false));
+    let mut dst: [u8; 4] = [0; 4];
+    let answer: Result<usize, ReadFault> = reader.read_str(&mut dst);
+    assert!(rt; answer == Ok(4));
+    assert!(rt; dst.as_slice() == "a\u{FFFD}".as_bytes());
+    assert!(rt; (reader.encoding(), reader.had_errors()) == (UTF_8, true));
+    let answer: Result<HandedText, ReadFault> = reader.read_or_lend(&mut dst);
+    let Ok(handed) = answer else {
+        return Err("the source can't be read".into());
+    };
+    // the end
+    let text: &[u8] = reader.text(&dst, handed);
+    assert!(rt; text == b"".as_slice());
+    Ok(())
+}
+
+#[test]
+fn a_reader_reports_a_fault_once(rt: HostRuntime) {
+    let mut source = FromRead::new(Broken);
+    let mut input: [u8; 8] = [0; 8];
+    let mut reader = DecodeReader::new(&mut source, None, &mut input);
+    assert!(rt; reader.read_str(&mut [0; 4]) == Err(ReadFault::Reader));
+    assert!(rt; reader.read_str(&mut [0; 4]) == Err(ReadFault::Failed));
+    assert!(rt; (reader.encoding(), reader.had_errors()) == (UTF_8, false));
+}
