@@ -26,7 +26,7 @@ fn is_valid(alloc: Global, encoding: Encoding, bytes: &[u8]) -> io::Result<bool>
 
 /// Writes a line for a file: its encoding, which of the three determines it, and whether the file
 /// is valid in it. Without a mark or a label it is windows-1252.
-pub fn run(rt: &HostRuntime, file: &str, label: &str) -> io::Result<()> {
+pub(crate) fn run(rt: &HostRuntime, file: &str, label: &str) -> io::Result<()> {
     let bytes = fs::read(rt, file)?;
     let (encoding, origin) = detect(&bytes, label);
     let verdict = if is_valid(rt.alloc(), encoding, &bytes)? {

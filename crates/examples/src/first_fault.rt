@@ -66,7 +66,7 @@ fn decode_all<R: Read>(
 
 /// Writes the text of an input, with U+FFFD for each malformed sequence, and then the line and
 /// column of the first, counted from 1, columns in characters.
-pub fn run<R: Read, W: Write>(
+pub(crate) fn run<R: Read, W: Write>(
     alloc: Global,
     label: &str,
     input: &mut R,

@@ -32,10 +32,10 @@ fn write_text<W: Write>(
     Ok(())
 }
 
-/// Writes fields, of which the input has one a line as `NAME=VALUE` in UTF-8, as
+/// Reads fields, `NAME=VALUE` a line in UTF-8, and writes them as
 /// application/x-www-form-urlencoded in the output encoding of a label. An unmappable character
 /// becomes a decimal reference, as `&#26085;`, whose characters are percent-encoded too.
-pub fn run<R: Read, W: Write>(
+pub(crate) fn run<R: Read, W: Write>(
     alloc: Global,
     label: &str,
     input: &mut R,

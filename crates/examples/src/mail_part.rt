@@ -64,7 +64,7 @@ fn decode_body<R: Read, W: Write>(
 /// Reads header fields, each on one line, an empty line and a body. Writes the text of the body,
 /// and then its encoding and whether a sequence was malformed. If the header names no encoding, it
 /// is windows-1252, one of whose labels is us-ascii.
-pub fn run<R: Read, W: Write>(alloc: Global, input: &mut R, out: &mut W) -> io::Result<()> {
+pub(crate) fn run<R: Read, W: Write>(alloc: Global, input: &mut R, out: &mut W) -> io::Result<()> {
     let mut input = BufReader::with_capacity(alloc, CHUNK, input)?;
     let encoding = read_header(alloc, &mut input)?;
     let had_errors = decode_body(&mut input, encoding, out)?;
