@@ -1,5 +1,5 @@
 # Completes the labels of recode in bash: the names of encodings, and then the other labels.
-# Written by scripts/make-encodings from data/encodings.txt: change that list and run the script, and not this file.
+# Written by scripts/make-sources from data/templates: change the text there, and not this file.
 _recode_labels='
     utf-8 ibm866 iso-8859-2 iso-8859-3 iso-8859-4 iso-8859-5 iso-8859-6 iso-8859-7 iso-8859-8
     iso-8859-8-i iso-8859-10 iso-8859-13 iso-8859-14 iso-8859-15 iso-8859-16 koi8-r koi8-u macintosh

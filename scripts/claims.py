@@ -17,8 +17,10 @@ import os
 import re
 from dataclasses import dataclass
 
+import edit_list
+from closure import contract, meant
 from common import crates, paths, read
-from sources import blocks as blocks_of_specs, end_of_group
+from sources import blocks
 
 CLAIMS = "docs/PROVED.md"
 
@@ -26,10 +28,6 @@ CLAIMS = "docs/PROVED.md"
 CRATES_CLAIMED = ("enc_stream", "encoding_rs", "enc_reader", "recode_engine")
 TRAITS_CLAIMED = ("Units", "Chars", "RawDecoder", "RawEncoder", "Source", "Sink")
 
-UNLABELLED = "its clause"
-
-CONTRACT = re.compile(r"\n +(?=(?:requires|ensures) )|\{\}?\n|;\n")
-CLAUSE = re.compile(r"\s*(?://.*\s+)*(requires|ensures) (\w+ )?(?=\{)")
 LABEL = re.compile(r"(?:`(\w+)`|(its clause|every clause))(?: \((.*?)\))?")
 
 
@@ -37,6 +35,7 @@ LABEL = re.compile(r"(?:`(\w+)`|(its clause|every clause))(?: \((.*?)\))?")
 class Function:
     """A function: its type or trait, the names that may qualify it, and what each condition and clause says."""
 
+    path: str
     name: str
     crate: str
     owner: str
@@ -49,53 +48,30 @@ class Function:
         return f"{self.owner or self.crate}::{self.name}"
 
 
-def contract(text, start):
-    """The conditions and the clauses of the function whose signature begins at a place."""
-    found = {"requires": {}, "ensures": {}}
-    at = CONTRACT.search(text, start).start()
-    while clause := CLAUSE.match(text, at):
-        begin, at = clause.end() + 1, end_of_group(text, clause.end() + 1)
-        found[clause[1]][(clause[2] or UNLABELLED).strip()] = text[begin : at - 1]
-    return found["requires"], found["ensures"]
-
-
-def blocks(text):
-    """Each impl and trait: where it begins, its type or trait, and whether its functions are those of a trait."""
-    found = []
-    for it in re.finditer(r"^(?:pub(?:\(crate\))? )?(impl|trait)\b([^{]*)\{", text, re.M):
-        head = it[2]
-        while "<" in head:
-            head = re.sub(r"<[^<>]*>", "", head)
-        *of_trait, owner = re.split(r"\bfor\b", head)
-        found.append((it.start(), re.search(r"\w+", owner)[0], it[1] == "trait" or bool(of_trait)))
-    return found
-
-
-def sources(crate):
-    """The sources of a crate, but tables of data, each with the name of its module."""
-    those = [it for it in paths(f"crates/{crate}/src/**/*.rt") if not re.search("/(data|pages)/", it)]
-    return [(os.path.basename(it)[:-3], read(it)) for it in those]
-
-
-def passed_on(modules):
-    """The public modules of a crate, each with the names that it passes on."""
-    public = {"lib", *re.findall(r"^pub mod (\w+)", dict(modules).get("lib", ""), re.M)}
-    uses = {name: re.findall(r"^pub use ([^;]*);", text, re.M) for name, text in modules if name in public}
-    return {name: set(re.findall(r"\w+", " ".join(those))) for name, those in uses.items()}
+def owner_of(head):
+    """The type or the trait of a head line, if any, and whether its functions are those of a trait."""
+    while "<" in head:
+        head = re.sub(r"<[^<>]*>", "", head)
+    found = re.search(r".*\b(impl|trait|for)\b\W*(\w+)", head)
+    return (found[2], found[1] != "impl") if found else (None, False)
 
 
 def functions_of(crate):
-    """The functions of a crate, but those that are public within it alone."""
-    modules = sources(crate)
-    shown = passed_on(modules)
-    for module, text in modules:
-        all_blocks = blocks(text)
-        for it in re.finditer(r"^( {4})?(pub )?(?:unsafe )?fn (\w+)", text, re.M):
-            name, within = it[3], [block for block in all_blocks if it[1] and block[0] < it.start()]
-            _, owner, of_trait = within[-1] if within else (0, None, False)
-            through = {public for public, names in shown.items() if (owner or name) in names or public == module}
-            public = bool((it[2] or of_trait) and through)
-            yield Function(name, crate, owner, public, {crate, module, owner, *through}, *contract(text, it.start()))
+    """The functions of a crate, but those that are public within it alone, and those of tables of data."""
+    files = [it for it in paths(f"crates/{crate}/src/**/*.rt") if not re.search("/(data|pages)/", it)]
+    modules = {os.path.basename(it)[:-3]: read(it) for it in files}
+    # the public modules, each with the names that it passes on
+    public = {"lib", *re.findall(r"^pub mod (\w+)", modules.get("lib", ""), re.M)}
+    uses = {it: " ".join(re.findall(r"^pub use ([^;]*);", modules.get(it, ""), re.M)) for it in public}
+    shown = {it: set(re.findall(r"\w+", names)) for it, names in uses.items()}
+    for path in files:
+        module = os.path.basename(path)[:-3]
+        for place, (_, begin, _, _) in edit_list.functions(path, read(path)):
+            name, (owner, of_trait) = place.name, owner_of(place.owner)
+            through = {it for it, names in shown.items() if (owner or name) in names or it == module}
+            is_public, names = (place.head.startswith("pub") or of_trait) and through, {crate, module, owner, *through}
+            if place.head.startswith(("fn ", "pub fn ")):
+                yield Function(path, name, crate, owner, bool(is_public), names, *contract(read(path), begin))
 
 
 @functools.cache
@@ -103,33 +79,17 @@ def functions():
     return [it for crate in crates() for it in functions_of(crate)]
 
 
-@functools.cache
-def definitions():
-    """The definitions in specs, each with the names in it and the fields that it has."""
-    found = {}
-    for name, block in (it for path in paths("crates/*/specs/*.antt") for it in blocks_of_specs(path).items()):
-        names, fields = found.setdefault(name, (set(), set()))
-        names.update(re.findall(r"\w+", re.sub(r"--.*", "", block)))
-        fields.update(re.findall(r"^ +pub (\w+) :", block, re.M))
-    return found
-
-
-@functools.cache
-def renamed():
-    """The names that sources give to definitions of other names."""
-    texts = [text for crate in crates() for _, text in sources(crate)]
-    return {new: old for text in texts for old, new in re.findall(r"(\w+) as (\w+)", text)}
-
-
-def cited(said):
-    """The definitions that a clause cites, the facts (in capitals) that those cite, and the fields of all."""
-    reached, waiting = set(), {renamed().get(it, it) for it in re.findall(r"\w+", said)}
+def cited(said, path):
+    """The definitions that a clause of a file cites, the facts (in capitals) that those cite, and the fields of all."""
+    reached, waiting = {}, [meant(it, path) for it in re.findall(r"\w+", said)]
     while waiting:
-        name = waiting.pop()
-        if name in definitions() and name not in reached:
-            reached.add(name)
-            waiting |= {it for it in definitions()[name][0] if it[0].isupper()}
-    return reached.union(*(definitions()[it][1] for it in reached))
+        it = waiting.pop()
+        if it and it.path.endswith(".antt") and it.name not in reached:
+            block = blocks(it.path)[it.name]
+            reached[it.name] = re.findall(r"^ +pub (\w+) :", block, re.M)
+            names = re.findall(r"\b[A-Z]\w*", re.sub(r"--.*", "", block))
+            waiting += [meant(name, it.path) for name in names]
+    return {*reached}.union(*reached.values())
 
 
 def named(path, before):
@@ -180,21 +140,16 @@ class Claims:
                 if said is None:
                     self.wrong.append(f"{function} has no clause {it}")
                 elif names:
-                    lacking = set(re.findall(r"`(.+?)`", names)) - cited(said)
+                    lacking = set(re.findall(r"`(.+?)`", names)) - cited(said, function.path)
                     self.wrong += [f"{it} of {function} has no {name}" for name in sorted(lacking)]
 
 
-@functools.cache
-def words():
-    """The words of the crates' sources and specs, and the names of the crates."""
-    files = paths("crates/*/src/*.rt") + paths("crates/*/specs/*.antt")
-    return set(crates()).union(*(re.findall(r"\w+", read(it)) for it in files))
-
-
 def unknown(text):
-    """The names in a text that no source has."""
+    """The names in a text that no source and no spec has, and no crate."""
+    files = paths("crates/*/src/*.rt") + paths("crates/*/specs/*.antt")
+    known = set(crates()).union(*(re.findall(r"\w+", read(it)) for it in files))
     names = re.findall(r"`([A-Za-z_]\w*(?:::\w+)*)`", text)
-    return [it for it in dict.fromkeys(names) if not words().issuperset(it.split("::"))]
+    return [it for it in dict.fromkeys(names) if not known.issuperset(it.split("::"))]
 
 
 def out_of_date():

@@ -5,20 +5,22 @@ Names are found by the `use` lines of the file that cites them. A line of a defi
 a comment.
 """
 
+import functools
 import os
 import re
 from typing import NamedTuple
 
-from claims import contract
 from common import crates, is_there, paths, read
 from places import decoders
-from sources import blocks, counted
+from sources import blocks, counted, end_of_group
 
 RUN = "crates/encoding_rs/src/run.rt"
 ENCODE_RUN = "crates/encoding_rs/src/encode_run.rt"
 LABELS = "crates/enc_stream/src/labels.rt"
 CODECS = "crates/enc_codec/specs/Codecs.antt"
 
+CONTRACT = re.compile(r"\n +(?=(?:requires|ensures) )|\{\}?\n|;\n")
+CLAUSE = re.compile(r"\s*(?://.*\s+)*(requires|ensures) (\w+ )?(?=\{)")
 WORD = re.compile(r"[^\W\d][\w']*(?:-[\w']+)*|\w+")
 TYPE = r"^(?:pub(?:\(crate\))? )?(?:enum|struct) {}\b.*?(?:;$|^\}})"
 
@@ -31,10 +33,12 @@ class Definition(NamedTuple):
     lines: int
 
 
-def imports(text):
-    """The names that `use` lines bring in, each with the module and the name there."""
+@functools.cache
+def imports(path):
+    """The names that `use` lines of a file bring in, each with the module and the name there."""
+    text = read(path)
     found = {local: (module, local) for module, local in re.findall(r"^use Rattle\.(\S+) as (\w+)$", text, re.M)}
-    for module, names in re.findall(r"^(?:ghost )?use Rattle\.([\w.]+?)\.\{(.*?)\}", text, re.M | re.S):
+    for module, names in re.findall(r"^ *(?:ghost )?use Rattle\.([\w.]+?)\.\{(.*?)\}", text, re.M | re.S):
         for it in names.split(","):
             name, _, local = it.strip().partition(" as ")
             found[local or name] = (module, name)
@@ -52,54 +56,57 @@ def spec_file(module):
 
 
 def declared(module):
-    """A type of the code, by its module of declarations. None for constants, which are data."""
+    """A type of the code, by its module of declarations. None for constants, which are data, and the library's."""
     crate, path = re.match(r"(\w+)\.specs\.declared\.(.*)", module).groups()
     words = [it for it in path.split(".") if it != "TheVariants"]
-    if words[-1] == "TheConstants":
+    if words[-1] == "TheConstants" or crate not in crates():
         return None
     source = f"crates/{crate}/src/{'/'.join(words[:-1])}.rt"
     block = re.search(TYPE.format(words[-1]), read(source), re.M | re.S)
     return Definition(source, words[-1], counted(block[0], ("//", "#[")))
 
 
-def cited(text, path, found, own="", closed=()):
+def defined(path, name):
+    """The definition of a name, which may be a constructor of it."""
+    those = blocks(path)
+    if name not in those:
+        name = next(it for it, block in those.items() if re.search(rf"^ +{name} :", block, re.M))
+    return Definition(path, name, counted(those[name], "--"))
+
+
+def meant(word, path):
+    """The definition or the type that a word in a file stands for, or None."""
+    if path.endswith(".antt") and word in blocks(path):
+        return defined(path, word)
+    module, name = imports(path).get(word, ("", ""))
+    if ".declared." in module:
+        return declared(module)
+    file = module and spec_file(module)
+    return defined(file, name) if file else None
+
+
+def cited(text, path, found, closed=()):
     """Adds to `found` the definitions whose names a text of a file cites, after those that they rest on.
 
     What the definitions `closed` rest on is left out.
     """
-    names, here = imports(read(path)), blocks(path) if path.endswith(".antt") else {}
     for word in dict.fromkeys(WORD.findall(text)):
-        if word != own and word in here:
-            add(path, word, found, closed)
-        elif word in names:
-            add_imported(*names[word], found, closed)
+        it = meant(word, path)
+        if it and it not in found:
+            found[it] = None
+            if it.path.endswith(".antt") and it.name not in closed:
+                cited(blocks(it.path)[it.name], it.path, found, closed)
+            found[it] = found.pop(it)
 
 
-def add_imported(module, name, found, closed):
-    if ".declared." in module:
-        if it := declared(module):
-            found.setdefault(it, None)
-    elif path := spec_file(module):
-        add(path, name, found, closed)
-
-
-def owner(path, name):
-    """The definition of a name, which may be a constructor of it."""
-    if name in blocks(path):
-        return name
-    return next(it for it, block in blocks(path).items() if re.search(rf"^ +{name} :", block, re.M))
-
-
-def add(path, name, found, closed):
-    name = owner(path, name)
-    block = blocks(path)[name]
-    it = Definition(path, name, counted(block, "--"))
-    if it in found:
-        return
-    found[it] = None
-    if name not in closed:
-        cited(block, path, found, name, closed)
-    found[it] = found.pop(it)
+def contract(text, start):
+    """The conditions and the clauses of the function whose signature begins at a place."""
+    found = {"requires": {}, "ensures": {}}
+    at = CONTRACT.search(text, start).start()
+    while clause := CLAUSE.match(text, at):
+        begin, at = clause.end() + 1, end_of_group(text, clause.end() + 1)
+        found[clause[1]][(clause[2] or "its clause").strip()] = text[begin : at - 1]
+    return found["requires"], found["ensures"]
 
 
 def runs():
@@ -114,41 +121,37 @@ def clauses_of(source, function):
     return contract(text, text.index(f"pub fn {function}("))[1]
 
 
-def sizes_under(source, function):
-    """The lines of definitions and of types that a function's clauses rest on."""
-    found = {}
-    for said in clauses_of(source, function).values():
-        cited(said, source, found)
-    return size(found)
-
-
 def size(items):
     """The lines of definitions and of types."""
     return [sum(it.lines for it in items if it.path.endswith(end)) for end in (".antt", ".rt")]
 
 
+def sizes_under(source, function):
+    """The lines of definitions and of types that a function's clauses rest on."""
+    found = {}
+    cited(" ".join(clauses_of(source, function).values()), source, found)
+    return size(found)
+
+
+def texts():
+    """The parts of what `run::decode_run` rests on, and labels: each with the text that needs it, and its file."""
+    clauses = clauses_of(RUN, "decode_run")
+    yield "core", " ".join(said for name, said in clauses.items() if name != "run"), RUN
+    for it in decoders():
+        head = rf"^codec_rule \(?(?:codec\.)?(?:{'|'.join(it.codecs)})\b"
+        rows = re.findall(rf"{head}.*?=(.*)", blocks(CODECS)["codec_rule"], re.M)
+        yield "core" if it.name == "Utf8" else it.name, "\n".join(rows), CODECS
+    yield "clause `run`", clauses["run"], RUN
+    yield "labels", " ".join(clauses_of(LABELS, "for_label").values()), LABELS
+
+
 def parts():
-    """The definitions that `run::decode_run` rests on, by the part that first needs them, and those of labels."""
-    clauses, found = clauses_of(RUN, "decode_run"), {}
-    for name, said in clauses.items():
-        if name != "run":
-            cited(said, RUN, found, closed=("codec_rule",))
-    _, *rows = blocks(CODECS)["codec_rule"].splitlines()
-    sections = {"core": []}
-    for decoder in decoders():
-        for row in rows:
-            if re.match(rf"codec_rule \(?({'|'.join(decoder.codecs)})\b", row):
-                cited(row.partition("=")[2], CODECS, found)
-        taken = {it for those in sections.values() for it in those}
-        name = "core" if decoder.name == "Utf8" else decoder.name
-        sections[name] = [it for it in found if it not in taken]
-    for name, source, said in (
-        ("clause `run`", RUN, clauses["run"]),
-        ("labels", LABELS, " ".join(clauses_of(LABELS, "for_label").values())),
-    ):
+    """The definitions of each part: those that no part before it needs."""
+    found, sections = {}, {}
+    for name, text, source in texts():
         taken = set(found)
-        cited(said, source, found)
-        sections[name] = [it for it in found if it not in taken]
+        cited(text, source, found, closed=("codec_rule",))
+        sections[name] = sections.get(name, []) + [it for it in found if it not in taken]
     return sections
 
 
@@ -160,20 +163,17 @@ def row(part, items):
     return f"| {part} | {', '.join(files)} | {sum(lines.values())} | {', '.join(names)} |\n"
 
 
-def split(items):
-    """The definitions of each crate, lowest first, and then the types of the code."""
-    of_crates = {name: [] for name in (*crates(), "types")}
-    for it in items:
-        of_crates[it.path.split("/")[1] if it.path.endswith(".antt") else "types"].append(it)
-    return [those for those in of_crates.values() if those]
-
-
 def table():
-    """The table of docs/VERIFY.md: a row for each codec, and of the other parts one for each crate."""
+    """The table of docs/VERIFY.md: a row for each codec, and of the other parts one for each crate, lowest first, and one
+    for the types of the code."""
     rows = "| Part | Files, with lines | Lines | Definitions |\n|---|---|---|---|\n"
+    codecs, order = {it.name for it in decoders()}, list(crates())
     for part, items in parts().items():
-        groups = [items] if part in {it.name for it in decoders()} else split(items)
-        rows += "".join(row(part, those) for those in groups)
+        of_crates = {}
+        for it in items:
+            is_own = part not in codecs and it.path.endswith(".antt")
+            of_crates.setdefault(order.index(it.path.split("/")[1]) if is_own else len(order), []).append(it)
+        rows += "".join(row(part, those) for _, those in sorted(of_crates.items()))
     return rows
 
 

@@ -1,5 +1,6 @@
-"""What scripts share: the files of the repository, its crates, and commands."""
+"""What scripts share: the files of the repository, its crates, commands, and copies of crates in which they run."""
 
+import contextlib
 import functools
 import glob
 import os
@@ -7,6 +8,7 @@ import re
 import shutil
 import subprocess
 import sys
+import tempfile
 
 TOP = os.path.dirname(os.path.dirname(os.path.abspath(__file__)))
 NAME = os.path.basename(sys.argv[0])
@@ -20,8 +22,7 @@ def is_there(path):
 
 def read(path):
     """The text of a file, by its path from the top."""
-    with open(os.path.join(TOP, path), encoding="utf-8", newline="") as file:
-        return file.read()
+    return read_bytes(path).decode()
 
 
 def read_bytes(path):
@@ -75,3 +76,38 @@ def run_quietly(words, **options):
         sys.stderr.write(said[-4000:])
         give_up(f"failed: {' '.join(words)}", 3)
     return said
+
+
+def link(file, to):
+    """A second name of a file, or a copy of it on another file system."""
+    try:
+        os.link(file, to)
+    except OSError:
+        shutil.copy2(file, to)
+
+
+def share(crate, to, parts, copy=link):
+    """Has what runs left of a crate in another checkout too."""
+    for part in parts:
+        if os.path.isdir(f"{crate}/out/{part}"):
+            shutil.rmtree(f"{to}/out/{part}", ignore_errors=True)
+            shutil.copytree(f"{crate}/out/{part}", f"{to}/out/{part}", copy_function=copy)
+
+
+def copy_crates(room, is_left):
+    """Copies the crates to a room, without the entries of a crate that are left, and what `rt` wants beside them."""
+    def left(at, names):
+        return set(filter(is_left, names)) if os.path.dirname(at) == f"{TOP}/crates" else set()
+
+    shutil.copytree(f"{TOP}/crates", f"{room}/crates", ignore=left)
+    for name in ("crates.txt", "HANDLES"):
+        shutil.copy(f"{TOP}/{name}", room)
+    os.mkdir(f"{room}/.git")
+
+
+@contextlib.contextmanager
+def copied(is_left):
+    """The room of a copy of the crates, which is gone after its use."""
+    with tempfile.TemporaryDirectory(prefix="copy-", ignore_cleanup_errors=True) as room:
+        copy_crates(room, is_left)
+        yield room

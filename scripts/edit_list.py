@@ -10,8 +10,10 @@ from typing import NamedTuple
 
 from common import crates, is_there, paths, read
 
-FUNCTION = re.compile(r"^(\s*)(?:pub(?:\([a-z]+\))?\s+)?(?:const\s+)?fn\s+(\w+)")
-OWNER = re.compile(r"(?:unsafe )?impl\b|(?:pub )?trait\b")
+# The head line of an impl or a trait, and that of a function, with its attributes.
+HEAD = re.compile(
+    r"^(?:(?P<owner>(?:unsafe )?impl\b[^{\n]*|(?:pub(?:\(crate\))? )?trait\b[^{\n]*)|(?P<attributes>(?: *#\[.*\n)*)"
+    r"(?P<head>(?P<indent> *)(?:pub(?:\([a-z]+\))? +)?(?:const +)?fn +(?P<name>\w+)[^{\n]*\{?))", re.M)
 TEST = re.compile(r"^#\[test\]\nfn (\w+)\(", re.M)
 
 # The lines of an edit that say more than its pairs: what they are for, and how each begins.
@@ -44,38 +46,26 @@ class Edit:
 
     def __init__(self, crate, path):
         self.crate, self.path, self.name = crate, path, os.path.basename(path)[: -len(".edit")]
-        self.pairs, self.fault = [], ""
-        self.text = read(path)
+        self.text, self.pairs, self.fault, self.label = read(path), [], "", f"{crate}/{self.name}"
         said = {what: re.findall(f"^{begin}(.*)$", self.text, re.M) for what, begin in LINES.items()}
         self.call, self.shown, self.reason, self.same = (" ".join(said[what]).strip() for what in LINES)
-        file = old = ""
-        for line in self.text.split("\n"):
-            if line.startswith("file: "):
-                file = line[len("file: ") :].strip()
-            elif line.startswith("old: "):
-                old = line[len("old: ") :]
-            elif line.startswith("new:"):
-                self.pairs.append(Pair(file, old, line[len("new:") :].removeprefix(" ")))
+        now = {"file": "", "old": ""}
+        for what, text in re.findall("^(file|old|new):(.*)$", self.text, re.M):
+            now[what] = text.strip() if what == "file" else text.removeprefix(" ")
+            if what == "new":
+                self.pairs.append(Pair(**now))
         try:
             self.places = places_of(self)
         except (OSError, ValueError) as error:
             self.places, self.fault = [], f"it can't be applied: {error}"
-
-    @property
-    def label(self):
-        return f"{self.crate}/{self.name}"
-
-    @property
-    def is_of_functions(self):
-        return bool(self.places) and all(it.name for it in self.places)
+        self.is_of_functions = bool(self.places) and all(it.name for it in self.places)
 
 
 def apply(crate, pairs):
     """The texts of the files that these pairs change, by path. A ValueError where an old text does not stand there once."""
     texts = {}
     for file, old, new in pairs:
-        texts.setdefault(file, None)
-        text = read(f"crates/{crate}/{file}") if texts[file] is None else texts[file]
+        text = texts.get(file) or read(f"crates/{crate}/{file}")
         if not old or text.count(old) != 1:
             raise ValueError(f"{old!r} stands {text.count(old) if old else 0} times in {file}")
         texts[file] = text.replace(old, new)
@@ -88,39 +78,37 @@ def places_of(edit):
         raise ValueError("it has no pair")
     apply(edit.crate, edit.pairs)
     found = []
-    for number, pair in enumerate(edit.pairs):
-        before = apply(edit.crate, edit.pairs[:number]).get(pair.file) or read(f"crates/{edit.crate}/{pair.file}")
+    for number, (file, old, _) in enumerate(edit.pairs):
+        before = apply(edit.crate, edit.pairs[:number]).get(file) or read(f"crates/{edit.crate}/{file}")
         # (an old text may begin with the blanks of its line)
-        start = before.index(pair.old) + len(pair.old) - len(pair.old.lstrip())
-        found.append(place_at(pair.file, before.split("\n"), before.count("\n", 0, start)))
+        found.append(place_at(file, before, before.index(old) + len(old) - len(old.lstrip())))
     return list(dict.fromkeys(found))
 
 
-def place_at(file, lines, at):
-    """The place of a line."""
-    for number in range(at, -1, -1):
-        head = FUNCTION.match(lines[number])
-        if head and f"{head[1]}}}" in lines[number + 1 : at]:
-            return Place(file)
-        if head:
-            # (two impls of a file may have a method of one name)
-            owner = next((it for it in lines[number::-1] if OWNER.match(it)), "") if head[1] else ""
-            return Place(file, head[2], owner.split("{")[0].strip(), lines[number].strip())
-    return Place(file)
-
-
-def lines_of(text, place):
-    """The first and the last line of the function of a place, from 1, with its attributes: a goal of all of it is reported there."""
-    lines = text.split("\n")
-    for at, line in enumerate(lines):
-        head = FUNCTION.match(line)
-        if not head or place_at(place.file, lines, at) != place:
+def functions(file, text):
+    """The functions of a source, as places: where its attributes, its head line and its body begin, and it ends."""
+    owner = ""
+    for it in HEAD.finditer(text):
+        if it["owner"]:
+            owner = it["owner"].strip()
             continue
-        end = next((it for it in range(at + 1, len(lines)) if lines[it] == f"{head[1]}}}"), len(lines) - 1)
-        while at > 0 and lines[at - 1].lstrip().startswith("#["):
-            at -= 1
-        return at + 1, end + 1
-    return 0, 0
+        begin, indent = it.start("head"), it["indent"]
+        end = (text.find(f"\n{indent}}}\n", begin) + 1 or len(text)) + len(indent)
+        opens = re.compile(rf"^{indent}(?:\).*)?\{{$", re.M).search(text, begin, end)
+        body = it.end("head") if it["head"].endswith("{") or not opens else opens.end()
+        # (two impls of a file may have a method of one name)
+        yield Place(file, it["name"], owner if indent else "", it["head"].strip()), (it.start(), begin, body, end)
+
+
+def place_at(file, text, at):
+    """What stands at an index of a text: the last function that begins before it, if it ends after it."""
+    before = [(place, end) for place, (_, begin, _, end) in functions(file, text) if begin <= at]
+    return before[-1][0] if before and at <= before[-1][1] else Place(file)
+
+
+def ends_of(text, place):
+    """Where the attributes, the head line and the body of a function begin and it ends, or None if it is not there."""
+    return next((ends for it, ends in functions(place.file, text) if it == place), None)
 
 
 @functools.cache
@@ -149,24 +137,16 @@ def is_program(name):
     return all(is_there(f"crates/{name}/{it}") for it in ("src/main.rt", "stdout"))
 
 
-def fault_of_witness(edit):
-    """What is wrong with the lines of a wrong change that name its witness, or nothing."""
+def fault_of(edit):
+    """What is wrong with an edit before it runs, with the lines that name its witness too, or nothing."""
+    if edit.fault:
+        return f"BAD EDIT: {edit.fault}"
+    if "/equal/" in edit.path:
+        return "" if edit.same and file_of_test(edit.same) else f"there is no test {edit.same or 'that it names'}"
     if bool(edit.shown) == bool(edit.reason):
         return f"it has {'both' if edit.shown else 'neither'} of '{LINES['shown'].strip()}' and '{LINES['reason'].strip()}'"
-    if edit.shown and not file_of_test(edit.shown) and not is_program(edit.shown):
-        return f"there is no test and no program {edit.shown}"
-    return ""
-
-
-def fault_of_same(edit):
-    """What is wrong with the line of a change that means the same, or nothing."""
-    return "" if edit.same and file_of_test(edit.same) else f"there is no test {edit.same or 'that it names'}"
-
-
-def faults_before(edits, fault_of):
-    """What is wrong with edits before any runs, by path."""
-    found = {it.path: it.fault and f"BAD EDIT: {it.fault}" or fault_of(it) for it in edits}
-    return {path: fault for path, fault in found.items() if fault}
+    is_there_one = not edit.shown or file_of_test(edit.shown) or is_program(edit.shown)
+    return "" if is_there_one else f"there is no test and no program {edit.shown}"
 
 
 def fits(group, edit, most):
@@ -185,16 +165,14 @@ def groups_of(edits, most):
     """The edits of a crate in groups that can be tried at once. Those that are not of functions are each in one of their own."""
     groups = []
     for edit in edits:
-        group = next((it for it in groups if fits(it, edit, most)), None)
-        if group:
-            group.append(edit)
-        else:
-            groups.append([edit])
+        group = next((it for it in groups if fits(it, edit, most)), [])
+        if not group:
+            groups.append(group)
+        group.append(edit)
     return groups
 
 
 def out_of_date():
     """What is wrong with the edits."""
-    faults = faults_before([it for crate in crates() for it in edits_of(crate)], fault_of_witness)
-    faults |= faults_before([it for crate in crates() for it in equal_of(crate)], fault_of_same)
-    return [f"{path}: {fault}" for path, fault in faults.items()]
+    every = [it for of in (edits_of, equal_of) for crate in crates() for it in of(crate)]
+    return [f"{it.path}: {fault}" for it in every if (fault := fault_of(it))]

@@ -1,5 +1,6 @@
 """The figures of documents that can be counted, and the tables of them. For scripts/documents."""
 
+import functools
 import os
 import re
 
@@ -7,7 +8,7 @@ import claims
 import closure
 from common import crates, differing, paths, read
 from edit_list import edits_of, equal_of
-from encoding_list import labels_of, read_list
+from lists import encodings, labels_of
 from places import decoders
 from sources import headline, is_written, lines_of, specs_of, tests_of
 
@@ -31,18 +32,16 @@ def listed(numbers):
 
 def of_gate():
     """The table of docs/GATE.md."""
-    every = {crate: edits_of(crate) for crate in crates()}
+    every, tests = {it: edits_of(it) for it in crates()}, {it: tests_of(it) for it in crates()}
     edits = [it for those in every.values() for it in those]
-    tests = {crate: tests_of(crate) for crate in crates()}
     single, calls = sum("/must-fail/" in it.path for it in edits), sum(bool(it.call) for it in edits)
     shown, equal = sum(bool(it.shown) for it in edits), sum(len(equal_of(it)) for it in crates())
-    codecs = sum(len(it.codecs) for it in decoders())
-    by_crate = listed({crate: len(those) for crate, those in every.items()})
-    why = f"{len(edits) - shown} edits say why no run shows them; {equal} changes in `equal/` mean the same"
+    codecs, by_crate = sum(len(it.codecs) for it in decoders()), {it: len(those) for it, those in every.items()}
     return table([
         ("crates", len(every), f"`crates.txt`; {codecs} codecs, of {len(decoders())} decoders"),
-        ("edits", len(edits), f"{by_crate}; {calls} name a call; `rt ci` tries {single}"),
-        ("shown by a run", shown, why),
+        ("edits", len(edits), f"{listed(by_crate)}; {calls} name a call; `rt ci` tries {single}"),
+        ("shown by a run", shown,
+         f"{len(edits) - shown} edits say why no run shows them; {equal} changes in `equal/` mean the same"),
         ("tests", sum(tests.values()), listed(tests)),
     ])
 
@@ -80,34 +79,30 @@ def with_tables(path, *tables):
     return re.sub(f"{FROM}\n.*?{TO}", lambda _: f"{FROM}\n{next(rest)}{TO}", read(path), flags=re.S)
 
 
+@functools.cache
 def counts():
     """The numbers of the tree that stand in sentences: by document, the words before and after each."""
-    encodings, indexes = len(read_list()), len(paths("data/indexes/index-*.txt"))
-    labels, encoders = len(labels_of(read_list())), sum(not it.writes_utf_8 for it in read_list())
+    every, indexes = encodings(), len(paths("data/indexes/index-*.txt"))
+    labels, encoders = len(labels_of(every)), sum(not it.writes_utf_8 for it in every)
     return {
-        "README.md": [("for the ", " encodings of the", encodings), ("encoders for the ", " that have one", encoders)],
+        "README.md": [("for the ", " encodings of the", len(every)), ("encoders for the ", " that have one", encoders)],
         "docs/PROVED.md": [
             ("There are ", " labels", labels), ("Each of the ", " labels", labels),
-            ("each of the ", " encodings", encodings), ("All ", " indexes", indexes),
+            ("each of the ", " encodings", len(every)), ("All ", " indexes", indexes),
         ],
         "data/README.md": [
-            ("the ", " encodings of the", encodings), ("their ", " labels", labels), ("the ", " indexes", indexes),
+            ("the ", " encodings of the", len(every)), ("their ", " labels", labels), ("the ", " indexes", indexes),
         ],
     }
 
 
 def with_counts(path):
-    """A document with the numbers of the tree."""
-    text = read(path)
+    """A document with the numbers of the tree, and the sentences of `counts` that it doesn't have."""
+    text, missing = read(path), []
     for before, after, number in counts()[path]:
-        text = re.sub(rf"({before})\d+({after})", rf"\g<1>{number}\g<2>", text)
-    return text
-
-
-def without_count(path):
-    """The sentences of `counts` that a document doesn't have."""
-    missing = [it for it in counts().get(path, []) if not re.search(rf"{it[0]}\d+{it[1]}", read(path))]
-    return [f"{path}: no words {before}NUMBER{after}" for before, after, _ in missing]
+        text, found = re.subn(rf"({before})\d+({after})", rf"\g<1>{number}\g<2>", text)
+        missing += [f"{path}: no words {before}NUMBER{after}"] * (not found)
+    return text, missing
 
 
 def definitions():
@@ -129,19 +124,15 @@ def written():
     return {
         "docs/GATE.md": ("numbers", with_tables("docs/GATE.md", of_gate())),
         "docs/VERIFY.md": ("tables", with_tables("docs/VERIFY.md", closure.table(), of_verify())),
-        **{path: ("numbers", with_counts(path)) for path in counts()},
+        **{path: ("numbers", with_counts(path)[0]) for path in counts()},
         "docs/DEFINITIONS.md": ("spec files", definitions()),
     }
 
 
-def without_headline():
-    return [f"{it}: no headline" for crate in crates() for it in specs_of(crate) if not headline(it)]
-
-
 def out_of_date():
-    """The documents whose figures are others now."""
-    found = []
+    """The spec files without a headline, and the documents whose figures are others now."""
+    found = [f"{it}: no headline" for crate in crates() for it in specs_of(crate) if not headline(it)]
     for path, (what, text) in written().items():
-        found += without_count(path)
+        found += with_counts(path)[1] if path in counts() else []
         found += [f"{it}: the {what} are others now: run scripts/documents" for it in differing({path: text})]
     return found

@@ -2,12 +2,11 @@
 
 import re
 
-from codec_rows import FILES
 from common import paths, read
 from sources import blocks, end_of_group, is_written
 
-# The most lines of a file, and the most columns of a line; of an import, and in files with rows that a script writes.
-MOST_LINES, MOST_COLUMNS, MOST_OF_ROWS = 799, 100, 120
+# The most lines of a file, and the most columns of a line, and of an import.
+MOST_LINES, MOST_COLUMNS, MOST_OF_IMPORTS = 799, 100, 120
 # The most parameters of a lemma, and of a module, each by itself, and the most `_` side by side.
 MOST_PARAMETERS, MOST_HOLES = 19, 5
 # The most names that two spec files may share.
@@ -24,19 +23,19 @@ WHOLE_LINE = re.compile(r" *#\[tactic\(|(?:pub )?use [^{]*$")
 
 
 def sources():
-    """The sources that are written by hand, or have rows that a script writes."""
+    """The sources that are written by hand."""
     found = paths("crates/*/*/**/*.rt") + paths("crates/*/*/**/*.antt")
     return sorted(it for it in found if "/out/" not in it and not is_written(it))
 
 
-def is_wide(path, line):
+def is_wide(line):
     """Whether a line has too many columns."""
-    most = MOST_OF_ROWS if path in FILES or IMPORT.match(line) else MOST_COLUMNS
+    most = MOST_OF_IMPORTS if IMPORT.match(line) else MOST_COLUMNS
     return len(line) > most and not WHOLE_LINE.match(line)
 
 
 def wide_lines(path, text):
-    found = (at for at, line in enumerate(text.split("\n"), 1) if is_wide(path, line))
+    found = (at for at, line in enumerate(text.split("\n"), 1) if is_wide(line))
     return [f"{path}:{at}: a line of too many columns" for at in found]
 
 

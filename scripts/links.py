@@ -1,4 +1,4 @@
-"""The files, tests and crates that documents name. For scripts/documents."""
+"""The files, folders and tests that documents name. For scripts/documents."""
 
 import os
 import re
@@ -9,12 +9,8 @@ from edit_list import file_of_test
 # Folders whose name begins a path of the repository, and words that begin one below crates.
 ROOTS = ("crates/", "docs/", "scripts/", "data/", "bench/", "completions/", ".ci/")
 BELOW = re.compile(r"\b((?:enc|recode|conformance|test)\w*/(?:src|specs|proofs|must-fail|edits|equal)/[\w./-]*\w)")
+# What stands for any name.
 ANY = re.compile(r"NAME|Name|WHAT|\bname(?![a-z])")
-
-
-def is_any_there(path):
-    """Whether a file or folder is there. NAME, Name, name and WHAT stand for any."""
-    return bool(paths(ANY.sub("*", path)))
 
 
 def named_in(document):
@@ -31,7 +27,7 @@ def dead_paths():
     """The paths that documents name and that are not there."""
     documents = sorted(paths("*.md") + paths("*/*.md"))
     named = [(document, *it) for document in documents for it in named_in(document)]
-    return [f"{document}: no {it}" for document, it, path in named if not is_any_there(path)]
+    return [f"{document}: no {it}" for document, it, path in named if not paths(ANY.sub("*", path))]
 
 
 def missing_tests():

@@ -5,10 +5,9 @@ import os
 import re
 from typing import NamedTuple
 
-from codec_list import read_lists
 from common import crates, is_there, paths, read
 from edit_list import edits_of
-from encoding_list import read_list
+from lists import constant_of, encodings, lists
 
 # Codecs whose rule, and encoders whose bytes, are in a spec file of another name.
 RULE_OF = {"SingleByte": "OneByte", "XUserDefined": "OneByte"}
@@ -32,7 +31,7 @@ def decoders():
     families = [it for it in crates()["enc_codec"] if "enc_decoder" in crates()[it]]
     modules = [(family, os.path.basename(it)[:-3]) for family in families for it in paths(f"crates/{family}/src/*.rt")]
     found, by_name = [], {}
-    for codec in read_lists().codecs:
+    for codec in lists().codecs:
         by_name.setdefault(codec.decoder, []).append(codec)
     for name, codecs in by_name.items():
         those = [it for it in modules if it[1].replace("_", "") == name.lower()]
@@ -58,14 +57,15 @@ def lacking_of(decoder):
     if not module:
         return ["no file of its name in src/ of a family's crate"]
     wanted = [f"crates/{crate}/specs/{RULE_OF.get(name, name)}.antt", f"crates/test_codecs/src/codecs/{module}.rt"]
+    wanted += [f"crates/test_support/src/samples/{constant_of(it).lower()}.rt" for it in codecs]
     missing = [it for it in wanted if not is_there(it)] + without_edit(crate, f"src/{module}.rt")
     return missing + (lacking_of_encoder(encoder, module) if encoder != "-" else []) + unsaid({
         "crates/enc_index/src/codec.rt": [rf"^    {it}\b" for it in codecs],
         "crates/enc_codec/src/variant.rt": [rf"VariantDecoder::{name}\b"],
         "crates/enc_codec/specs/Variant.antt": [rf"\b{name}\b"],
-        "crates/enc_codec/specs/Codecs.antt": [rf"\bcodec_rule [(]?{it}\b" for it in codecs],
+        "crates/enc_codec/specs/Codecs.antt": [rf"\bcodec_rule [(]?codec\.{it}\b" for it in codecs],
         "crates/enc_codec/src/lib.rt": [rf"\b{name}Decoder\b"],
-        "crates/enc_encode/specs/Encoders.antt": [rf"\bencoder_facts [(]?{it}\b" for it in codecs],
+        "crates/enc_encode/specs/Encoders.antt": [rf"\bencoder_facts [(]?codec\.{it}\b" for it in codecs],
         "crates/enc_encode/src/choice.rt": [rf"\bCodec::{it}\b" for it in codecs],
         "docs/PROVED.md": [rf"`{name}Decoder`"],
         "ARCHITECTURE.md": [rf"\b{module}\b"],
@@ -85,7 +85,7 @@ def lacking_of_encoder(encoder, module):
 def lacking():
     """The places that codecs lack, and the encodings that have no text for tests."""
     found = [f"{decoder.name}: {it}" for decoder in decoders() for it in lacking_of(decoder)]
-    sampled = {it.decoder for it in read_lists().pairs if it.characters}
+    sampled = {it.decoder for it in lists().pairs if it.characters}
     texts = (read("data/texts.txt") + read("scripts/command-lines")).lower()
-    others = [it.name for it in read_list() if it.codec not in sampled]
+    others = [it.name for it in encodings() if it.codec not in sampled]
     return found + [f"{it}: no text in data/texts.txt" for it in others if not re.search(rf"\b{it.lower()}\b", texts)]

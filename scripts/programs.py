@@ -12,7 +12,7 @@ import shutil
 import subprocess
 import sys
 
-from common import TOP, give_up, read, run_quietly
+from common import TOP, give_up, read, run, run_quietly
 
 # The cache of corpora and peers.
 CACHE = os.environ.get("BENCH_CACHE") or os.path.expanduser("~/.cache/recode-bench")
@@ -30,6 +30,14 @@ def program(crate, named=None, top=TOP):
     if not named:
         run_quietly(["rt", "run", "--", *ARGUMENTS.get(crate, [])], cwd=f"{top}/crates/{crate}")
     return os.path.abspath(named or f"{top}/crates/{crate}/out/{crate}")
+
+
+def built(crate, named=None):
+    """A program that is named, or that of a crate as `rt ci` has built it."""
+    path = os.path.abspath(named or f"{TOP}/crates/{crate}/out/{crate}")
+    if not os.access(path, os.X_OK):
+        give_up(f"there is no program {path}: rt ci builds it", 1)
+    return path
 
 
 def recoded(recode, ends, data, stderr=None):
@@ -54,7 +62,7 @@ def install(command, package):
     """Installs what holds a command, if the command is missing."""
     for step in (f"apt-get install -y {package}", f"apt-get update && apt-get install -y {package}"):
         if not shutil.which(command):
-            subprocess.run(step, shell=True, stdin=subprocess.DEVNULL, capture_output=True, check=False)
+            run(step, shell=True)
     if not shutil.which(command):
         give_up(f"lacks {command}, and apt-get could not install {package}")
 
@@ -77,14 +85,11 @@ def build_peer(sources, room):
     return f"{room}/peer/target/release", version
 
 
-def main(how, *words):
+if __name__ == "__main__":
+    how, *words = sys.argv[1:]
     if how == "--install":
         install(*words)
     elif how == "--peer":
         print(*build_peer(*words))
     else:
         print(program(how, *words))
-
-
-if __name__ == "__main__":
-    main(*sys.argv[1:])

@@ -1,15 +1,10 @@
-"""Text in each encoding, by its label: that of data/texts.txt, and of encodings that Python doesn't know.
-
-texts.py    prints rows of data/texts.txt for scripts/command-lines: the function there that compares them, the label,
-            and the text and its bytes as formats of printf
-"""
+"""Text in each encoding, by its label: that of data/texts.txt, and of encodings that Python doesn't know."""
 
 import re
 from typing import NamedTuple
 
-from codec_list import read_lists, sequences_of
 from common import read
-from encoding_list import label_of, read_list
+from lists import encodings, label_of, lists
 
 LIST = "data/texts.txt"
 ENGLISH = "The quick brown fox jumps over the lazy dog, 1234567890 times."
@@ -31,7 +26,7 @@ class Text(NamedTuple):
         return f"{ENGLISH}\n{self.text}\n"
 
 
-WRITTEN = {it.name.lower() for it in read_list() if not it.writes_utf_8}
+WRITTEN = {it.name.lower() for it in encodings() if not it.writes_utf_8}
 ROWS = [re.split(" {2,}", it) for it in read(LIST).splitlines() if not it.startswith("#")]
 TEXTS = {label: Text(codec, text, alone.strip("-"), label in WRITTEN) for label, codec, text, alone in ROWS}
 
@@ -39,9 +34,9 @@ TEXTS = {label: Text(codec, text, alone.strip("-"), label in WRITTEN) for label,
 # is that of data/codecs.txt.
 BYTES = {"x-user-defined": ASCII | {chr(0xF700 + it): bytes([it]) for it in range(0x80, 0x100)}}
 TEXTS["x-user-defined"] = Text("", "".join([*BYTES["x-user-defined"]][0x80:]), "", True)
-for pairs in read_lists().pairs:
+for pairs in lists().pairs:
     if (name := label_of(pairs.decoder)) not in TEXTS:
-        BYTES[name] = ASCII | {character: data for data, character in reversed(sequences_of(pairs)) if character}
+        BYTES[name] = ASCII | {character: data for data, character in reversed(pairs.sequences) if character}
         TEXTS[name] = Text("", "".join(character for character, _ in pairs.characters), "", True)
 
 
@@ -56,18 +51,3 @@ def has(label, character):
         return bool(encode(label, character)) and all(character.encode(it).decode(it) == character for it in codecs)
     except (KeyError, UnicodeError):
         return False
-
-
-def print_lines():
-    def escaped(data):
-        return "".join(f"\\x{byte:02x}" for byte in data)
-
-    for label, _, _, _ in ROWS:
-        it = TEXTS[label]
-        texts = [("line" if it.is_written else "from_line", it.lines()), ("from_line", it.decoded_alone)]
-        for function, text in texts[: 1 + bool(it.decoded_alone)]:
-            print(function, label, escaped(text.encode()), escaped(encode(label, text)))
-
-
-if __name__ == "__main__":
-    print_lines()

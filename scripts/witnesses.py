@@ -17,10 +17,8 @@ import re
 import subprocess
 from concurrent.futures import ThreadPoolExecutor
 
-import copies
-from common import crates, paths, read, read_bytes, write
-from edit_list import (
-    FUNCTION, OWNER, TEST, apply, edits_of, equal_of, fault_of_same, fault_of_witness, faults_before, file_of_test, is_program)
+from common import copied, is_there, paths, read, read_bytes, write
+from edit_list import apply, edits_of, ends_of, equal_of, fault_of, file_of_test, is_program
 
 # Runs side by side. One takes 2 GB.
 LANES = max(1, min(3, os.cpu_count() - 1))
@@ -55,6 +53,8 @@ PREFIX = "counts_for_edit_"
 
 RAN = re.compile(rf"^test (?:\S+::)?{PREFIX}(\d+)(?:_(\d+))? \.\.\. (\w+)", re.M)
 ERROR = re.compile(r"^(\S+\.rt):(\d+):\d+: error", re.M)
+TESTS = re.compile(
+    r"^(?:(?:///|#\[)[^\n]*\n)*#\[test\]\nfn (?P<name>\w+)(?P<head>\([^\n]*\n)(?P<body>.*?)^\}\n", re.M | re.S)
 # The last line of a build that made nothing, and of a program that ended as it should.
 NO_BUILD = re.compile(r"^run=none ", re.M)
 ENDED = re.compile(r"^run=ended status=0 ", re.M)
@@ -66,59 +66,37 @@ def is_ghost(pair):
     return pair.file.startswith("specs/") or pair.old.lstrip().startswith("ghost ")
 
 
-def body_of(text, name, owner, head):
-    """Where the body of a function begins and ends in a text, within its braces; nothing where it is not there."""
-    start, at_owner = 0, ""
-    for line in text.split("\n"):
-        if OWNER.match(line):
-            at_owner = line.split("{")[0].strip()
-        found = FUNCTION.match(line)
-        if found and found[2] == name and line.strip().startswith(head) and (not found[1] or at_owner == owner):
-            end = text.index(f"\n{found[1]}}}\n", start) + 1
-            alone = text.find(f"\n{found[1]}{{\n", start, end)
-            if alone >= 0:
-                return alone + len(found[1]) + 2, end
-            return text.index("{" if head.endswith("{") else "{\n", start, end) + 1, end
-        start += len(line) + 1
-    return None
-
-
 def bodies_of(edit):
     """The bodies that an edit changes, by place: each with the text that takes its place; nothing where it changes more."""
     pairs = [it for it in edit.pairs if not is_ghost(it)]
     files = {it.file for it in pairs}
     if not pairs or any(not file.endswith(".rt") for file in files):
         return None
-    bodies, after = {}, apply(edit.crate, pairs)
+    bodies, made, after = {}, {it: read(f"crates/{edit.crate}/{it}") for it in files}, apply(edit.crate, pairs)
     for place in edit.places:
-        if place.file not in files or not place.name:
-            continue
-        if "const fn" in place.head:
-            return None
-        before = read(f"crates/{edit.crate}/{place.file}")
-        old = body_of(before, place.name, place.owner, place.head)
-        new = body_of(after[place.file], place.name, place.owner, place.head)
-        if not old or not new:
-            return None
-        bodies[place] = after[place.file][slice(*new)]
-    return bodies if is_all(edit, bodies, after) else None
+        if place.file in files and place.name:
+            old, new = ends_of(made[place.file], place), ends_of(after[place.file], place)
+            if "const fn" in place.head or not old or not new:
+                return None
+            bodies[place] = after[place.file][new[2] : new[3]]
+            made[place.file] = made[place.file][: old[2]] + bodies[place] + made[place.file][old[3] :]
+    return bodies if made == after else None
 
 
-def is_all(edit, bodies, after):
-    """Whether these bodies are all that an edit changes."""
-    made = {}
-    for place, body in bodies.items():
-        text = made.get(place.file) or read(f"crates/{edit.crate}/{place.file}")
-        begin, end = body_of(text, place.name, place.owner, place.head)
-        made[place.file] = text[:begin] + body + text[end:]
-    return made == after
+def place_of_test(test):
+    return file_of_test(test), test.split("::")[-1]
 
 
-class Copy(copies.Copy):
-    """A copy of the sources of the crates."""
+def is_left(name):
+    """Whether a copy lacks what has this name in a crate."""
+    return name not in ("src", "specs", "c", "stdin", "stdout")
 
-    def __init__(self):
-        super().__init__(lambda it: it not in ("src", "specs", "c", "stdin", "stdout"))
+
+class Copy:
+    """A copy of the sources of the crates, in a room."""
+
+    def __init__(self, room):
+        self.room = room
 
     def read(self, path):
         return read(f"{self.room}/{path}")
@@ -126,95 +104,72 @@ class Copy(copies.Copy):
     def write(self, path, text):
         write(f"{self.room}/{path}", text)
 
-    def make(self, edit):
-        """Makes all that an edit changes and that runs."""
-        for file, text in apply(edit.crate, [it for it in edit.pairs if not is_ghost(it)]).items():
-            self.write(f"crates/{edit.crate}/{file}", text)
-
-    def leave_out_tests(self, crate, but=""):
-        """Takes the tests out of a crate, but that of a name: a build of few is quick."""
+    def replace_tests(self, crate, by):
+        """Has a text in place of each test of a crate, by its place, or none: a build of few is quick."""
         for path in paths(f"crates/{crate}/src/**/*.rt"):
-            text, modules = self.read(path), "::".join(path[: -len(".rt")].split("/")[3:])
-            for name in TEST.findall(text):
-                if but not in (f"{crate}::{modules}::{name}", f"{crate}::{name}"):
-                    begin = re.search(rf"^(?:(?:///|#\[).*\n)*fn {name}\(", text, re.M).start()
-                    text = text[:begin] + text[body_of(text, name, "", f"fn {name}(")[1] + 2 :]
-            self.write(path, text)
+            self.write(path, TESTS.sub(lambda it: by((path, it["name"]), it), self.read(path)))
 
     def run(self, crate, *words):
-        """What `rt try` says of a crate, what the program prints, and the status."""
+        """What `rt try` says of a crate, and what the program prints."""
         where = f"{self.room}/crates/{crate}"
-        given = open(f"{where}/stdin", "rb") if os.path.isfile(f"{where}/stdin") else subprocess.DEVNULL
-        how = {"stdin": given, "stdout": subprocess.PIPE, "stderr": subprocess.PIPE, "env": {**os.environ, "RT_ALLOW_C": SWITCH}}
-        ran = subprocess.run(["rt", "try", *words], cwd=where, **how)
-        return (ran.stdout + ran.stderr).decode(errors="replace"), ran.stdout, ran.returncode
+        given = read_bytes(f"{where}/stdin") if is_there(f"{where}/stdin") else b""
+        env = {**os.environ, "RT_ALLOW_C": SWITCH}
+        ran = subprocess.run(["rt", "try", *words], cwd=where, input=given, capture_output=True, env=env)
+        return (ran.stdout + ran.stderr).decode(errors="replace"), ran.stdout
+
+    def run_tests(self, crate, name):
+        """What the tests of a crate say whose names have this."""
+        return self.run(crate, "--test", "--seconds", str(SECONDS), "--", name)[0]
 
 
 class Switched(Copy):
     """A copy in which numbers say which bodies count, and tests that set them stand beside those that are named."""
 
-    def __init__(self, numbered, others):
-        super().__init__()
-        self.numbered, self.others = numbered, others
-
-    def __enter__(self):
-        super().__enter__()
+    def __init__(self, room, numbered, others):
+        super().__init__(room)
+        # the tests that edits name, each with the numbers of these, and other tests, which get a control alone
+        self.tests = {it: [] for it in others}
+        for number, (_, test) in numbered.items():
+            self.tests.setdefault(test, []).append(number)
+        self.places = [place_of_test(it) for it in self.tests]
+        self.crates = sorted({test.split("::")[0] for test in self.tests})
         self.write(f"crates/{SWITCH}/src/lib.rt", SWITCH_SOURCE)
         self.write(f"crates/{SWITCH}/c/switch.c", SWITCH_C)
         lines = re.sub(r"^(\w+) *:", rf"\1: {SWITCH}", self.read("crates.txt"), flags=re.M)
         self.write("crates.txt", f"{SWITCH}:\n{lines}")
-        for number, (edit, _) in self.numbered.items():
+        for number, (edit, _) in numbered.items():
             self.switch(edit, number)
-        wrappers = self.wrappers()
-        for crate in {crate_of(test) for test in self.tests()}:
-            self.leave_out_tests(crate)
-        for path, text in wrappers.items():
-            self.write(path, self.read(path) + text)
-        return self
+        for crate in self.crates:
+            self.replace_tests(crate, self.wrappers)
 
     def switch(self, edit, number):
         """Has the bodies of an edit stand before those that are there."""
         for place, body in bodies_of(edit).items():
             path = f"crates/{edit.crate}/{place.file}"
             text = self.read(path)
-            at, _ = body_of(text, place.name, place.owner, place.head)
+            at = ends_of(text, place)[2]
             wrong = f"\nif {SWITCH}::is_on({number}) {{ {BEGINS} {number}\nreturn {{{body}}};\n}} {ENDS} {number}\n"
             self.write(path, text[:at] + wrong + text[at:])
 
-    def tests(self):
-        """The tests that edits name, each with the numbers of these, and other tests, which get a control alone."""
-        found = {it: [] for it in self.others}
-        for number, (_, test) in self.numbered.items():
-            found.setdefault(test, []).append(number)
-        return found
-
-    def wrappers(self):
-        """The tests that set a number, by file: one for each number, and one for none. No function may call a test, so each has its body."""
-        found = {}
-        for at, (test, numbers) in enumerate(self.tests().items()):
-            path, name = file_of_test(test), test.split("::")[-1]
-            text = self.read(path)
-            head = re.search(rf"^#\[test\]\nfn {name}(\(.*\{{)$", text, re.M)
-            body = text[head.end() : body_of(text, name, "", f"fn {name}(")[1]]
-            for number, of in [*((number, "") for number in numbers), (0, f"_{at}")]:
-                wrapper = f"\n#[test]\nfn {PREFIX}{number}{of}{head[1]}\n{SWITCH}::set({number});{body}}}\n"
-                found[path] = found.get(path, "") + wrapper
-        return found
+    def wrappers(self, place, test):
+        """The tests that set a number, in place of a test: one for each number, and one for none. No function may call a
+        test, so each has its body."""
+        those = [it for it, own in zip(enumerate(self.tests.values()), self.places) if own == place]
+        named = [(number, "") for _, numbers in those for number in numbers] + [(0, f"_{at}") for at, _ in those]
+        return "".join(
+            f"#[test]\nfn {PREFIX}{number}{of}{test['head']}{SWITCH}::set({number});\n{test['body']}}}\n\n"
+            for number, of in named)
 
     def edits_at(self, crate, said):
         """The numbers of the edits at whose bodies a build had errors."""
         found = set()
         for path, line in ERROR.findall(said):
-            file = path if os.path.isabs(path) else f"{self.room}/crates/{crate}/{path}"
+            file = os.path.join(f"{self.room}/crates/{crate}", path)
             before = read(file).split("\n")[: int(line)] if os.path.isfile(file) else []
             marks = [it for it in before if BEGINS in it or ENDS in it]
             if marks and BEGINS in marks[-1]:
                 found.add(int(marks[-1].split()[-1]))
         return found
-
-
-def crate_of(test):
-    return test.split("::")[0]
 
 
 def first_error(said):
@@ -223,66 +178,52 @@ def first_error(said):
     return next((it for it in lines if "error" in it), lines[-1])
 
 
-def try_tests(copy, name):
-    """What the tests of a crate say, of those that set a number."""
-    return copy.run(name, "--test", "--seconds", str(SECONDS), "--", PREFIX)[0]
-
-
-def run_together(numbered, others):
-    """How the tests of these edits ended, True where one passed, by number; those of the controls, of other tests too; the edits that can't
-    stand beside others; and why some tests did not run."""
-    apart = []
-    while numbered:
-        with Switched(numbered, others) as copy:
-            names = sorted({crate_of(test) for test in copy.tests()})
-            with ThreadPoolExecutor(LANES) as pool:
-                said = dict(zip(names, pool.map(lambda it: try_tests(copy, it), names)))
-            tests = list(copy.tests())
-            bad = set().union(*(copy.edits_at(name, text) for name, text in said.items()))
-        if not bad:
-            ran = [it for text in said.values() for it in RAN.findall(text)]
-            passed = {int(number): how == "ok" for number, of, how in ran if not of}
-            controls = {tests[int(of)]: how == "ok" for _, of, how in ran if of}
-            lost = "; ".join(first_error(it) for it in said.values() if NO_BUILD.search(it))
-            return passed, controls, apart, lost
-        apart += [numbered[number] for number in bad]
-        numbered = {number: it for number, it in numbered.items() if number not in bad}
-    return {}, {}, apart, ""
-
-
 def run_singly(edit, witness):
-    """Whether the test or the program of an edit passes in a copy with the edit alone, or with none; and what is said where neither is known."""
-    with Copy() as copy:
-        if edit:
-            copy.make(edit)
+    """Whether a test or a program passes in a copy with an edit alone, or with none, or what is said if it didn't run."""
+    with copied(is_left) as room:
+        copy = Copy(room)
+        for file, text in apply(edit.crate, [it for it in edit.pairs if not is_ghost(it)]).items() if edit else ():
+            copy.write(f"crates/{edit.crate}/{file}", text)
         if is_program(witness):
-            said, printed, _ = copy.run(witness)
-            if NO_BUILD.search(said):
-                return None, first_error(said)
-            return printed == read_bytes(f"crates/{witness}/stdout") and bool(ENDED.search(said)), ""
+            said, printed = copy.run(witness)
+            passes = printed == read_bytes(f"crates/{witness}/stdout") and bool(ENDED.search(said))
+            return first_error(said) if NO_BUILD.search(said) else passes
         crate, name = witness.split("::", 1)
-        copy.leave_out_tests(crate, witness)
-        said, _, _ = copy.run(crate, "--test", "--seconds", str(SECONDS), "--", name)
+        place = place_of_test(witness)
+        copy.replace_tests(crate, lambda at, it: it[0] if at == place else "")
+        said = copy.run_tests(crate, name)
     how = re.search(rf"^test {name} \.\.\. (\w+)", said, re.M)
-    return (how[1] == "ok", "") if how else (None, first_error(said))
+    return how[1] == "ok" if how else first_error(said)
 
 
 class Runs:
-    """The runs of edits and of changes that mean the same: what each has for a witness, and how that ended."""
+    """The runs of edits and of changes that mean the same, each with its witness: by the edit, whether that passed, or
+    why it did not run; and by the witness, the control: whether it passes with nothing changed."""
 
     def __init__(self, edits):
-        self.passed, self.controls, self.lost = {}, {}, {}
-        of_tests = [(edit, it) for edit, it in edits if not is_program(it) and bodies_of(edit)]
+        self.ended, self.controls = {}, {}
+        of_tests = [it for it in edits if not is_program(it[1]) and bodies_of(it[0])]
         apart = [it for it in edits if it not in of_tests]
-        numbered = dict(enumerate(of_tests, 1))
-        others = dict.fromkeys(it for _, it in apart if not is_program(it)) if numbered else {}
-        passed, self.controls, more, why = run_together(numbered, list(others))
-        for number, (edit, _) in numbered.items():
-            if number in passed:
-                self.passed[edit.path] = passed[number]
-            elif (edit, _) not in more:
-                self.lost[edit.path] = why or "its test did not run"
-        self.run_apart(apart + more)
+        others = dict.fromkeys(it for _, it in apart if not is_program(it))
+        self.run_apart(apart + self.run_together(dict(enumerate(of_tests, 1)), others))
+
+    def run_together(self, numbered, others):
+        """Runs numbered edits in one copy, with the controls of other tests too. Returns those that can't stand there."""
+        if not numbered:
+            return []
+        with copied(is_left) as room, ThreadPoolExecutor(LANES) as pool:
+            copy = Switched(room, numbered, others)
+            said = list(pool.map(lambda it: copy.run_tests(it, PREFIX), copy.crates))
+            bad, tests = set().union(*map(copy.edits_at, copy.crates, said)), list(copy.tests)
+        if bad:
+            left = {number: it for number, it in numbered.items() if number not in bad}
+            return [numbered[it] for it in bad] + self.run_together(left, others)
+        ran = [it for text in said for it in RAN.findall(text)]
+        passed = {int(number): how == "ok" for number, of, how in ran if not of}
+        self.controls = {tests[int(of)]: how == "ok" for _, of, how in ran if of}
+        lost = "; ".join(first_error(it) for it in said if NO_BUILD.search(it)) or "its test did not run"
+        self.ended = {edit: passed.get(number, lost) for number, (edit, _) in numbered.items()}
+        return []
 
     def run_apart(self, edits):
         """Runs each of these by itself, and each witness that has no control yet with nothing changed."""
@@ -290,45 +231,34 @@ class Runs:
         tries = [*edits, *bare]
         with ThreadPoolExecutor(LANES) as pool:
             ended = list(pool.map(lambda it: run_singly(*it), tries))
-        for (edit, witness), (passed, why) in zip(tries, ended):
-            if not edit:
-                self.controls[witness] = bool(passed)
-            elif passed is None:
-                self.lost[edit.path] = why
-            else:
-                self.passed[edit.path] = passed
+        self.ended |= {edit: how for (edit, _), how in zip(tries, ended) if edit}
+        self.controls |= {witness: how is True for (edit, witness), how in zip(tries, ended) if not edit}
 
     def fault_of(self, edit, witness, wanted):
         """Why a run does not show what is wanted of an edit: that its witness passes, or that it does not. Nothing where it does."""
-        if edit.path in self.lost:
-            return f"NOT RUN: {self.lost[edit.path]}"
+        ended = self.ended[edit]
+        if isinstance(ended, str):
+            return f"NOT RUN: {ended}"
         if not self.controls.get(witness):
             return f"NOT SHOWN: {witness} does not pass with nothing changed"
-        if self.passed[edit.path] != wanted:
-            return f"NOT SHOWN: {witness} passes" if self.passed[edit.path] else f"NOT THE SAME: {witness} does not pass"
+        if ended != wanted:
+            return f"NOT SHOWN: {witness} passes" if ended else f"NOT THE SAME: {witness} does not pass"
         return ""
 
 
 def run_all(names):
-    """Runs the witnesses of the edits of these crates, or of all, and says of each how it went. The status."""
-    those = [it for it in crates() if it in names or not names]
-    edits, same = [it for name in those for it in edits_of(name)], [it for name in those for it in equal_of(name)]
-    faults = faults_before(edits, fault_of_witness) | faults_before(same, fault_of_same)
-    shown = [it for it in edits if it.path not in faults and it.shown]
-    equal = [it for it in same if it.path not in faults]
-    runs = Runs([*((it, it.shown) for it in shown), *((it, it.same) for it in equal)])
-    faults |= {it.path: why for it in shown if (why := runs.fault_of(it, it.shown, False))}
-    faults |= {it.path: why for it in equal if (why := runs.fault_of(it, it.same, True))}
+    """Runs the witnesses of the edits of these crates, and says of each how it went. The status."""
+    edits, same = [it for name in names for it in edits_of(name)], [it for name in names for it in equal_of(name)]
+    faults = {it: fault for it in [*edits, *same] if (fault := fault_of(it))}
+    # each edit that runs, with its witness, and whether that has to pass
+    wanted = [(it, it.shown, False) for it in edits if it.shown] + [(it, it.same, True) for it in same]
+    wanted = [it for it in wanted if it[0] not in faults]
+    runs = Runs([it[:2] for it in wanted])
+    faults |= {it[0]: why for it in wanted if (why := runs.fault_of(*it))}
     for it in [*edits, *same]:
-        print(f"{it.label}: {faults.get(it.path) or said_of(it)}")
-    counts = [sum(it.path not in faults and bool(it.shown) == by for it in edits) for by in (True, False)]
-    without = sum(it.path in faults for it in edits)
-    print(f"{counts[0]} shown, {counts[1]} not shown for a reason, {without} without either")
+        how = f"the same by {it.same}" if it.same else f"shown by {it.shown}" if it.shown else f"not shown: {it.reason}"
+        print(f"{it.label}: {faults.get(it, how)}")
+    shown, reasoned = (sum(it not in faults and bool(it.shown) == by for it in edits) for by in (True, False))
+    without = len(edits) - shown - reasoned
+    print(f"{shown} shown, {reasoned} not shown for a reason, {without} without either")
     return 1 if faults else 0
-
-
-def said_of(edit):
-    """What to say of an edit that is as it must be."""
-    if edit.same:
-        return f"the same by {edit.same}"
-    return f"shown by {edit.shown}" if edit.shown else f"not shown: {edit.reason}"

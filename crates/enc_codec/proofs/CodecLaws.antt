@@ -1,10 +1,9 @@
 -- Every codec keeps its laws: the one proof that goes through all decoders.
--- Rows by codec are written by scripts/make-codecs from data/codecs.txt.
+-- Written by scripts/make-sources from data/templates: change the text there, and not this file.
 use Rattle.std.proofs.Common.{◌≡◌, ℕ, ◌<◌, Bool, true, false, Option, Some, List, [], refl, arith}
 use Rattle.enc_index.specs.Runs.{single_byte_runs}
 use Rattle.enc_index.specs.declared.codec.Codec.{Codec}
-use Rattle.enc_index.specs.declared.codec.Codec.TheVariants.{Utf8, Utf16Be, Utf16Le, SingleByte, Big5, EucKr, ShiftJis}
-use Rattle.enc_index.specs.declared.codec.Codec.TheVariants.{EucJp, Gbk, Gb18030, Iso2022Jp, XUserDefined, Replacement}
+use Rattle.enc_index.specs.declared.codec.Codec.TheVariants as codec
 use Rattle.enc_decoder.specs.declared.byte_codec.Text.TheVariants.{One}
 use Rattle.enc_decoder.specs.declared.pending.Pending.TheVariants.{Nothing}
 use Rattle.enc_decoder.specs.declared.text_lengths.TextLengths.TheVariants as lengths
@@ -25,10 +24,11 @@ use Rattle.enc_decoder_multi_byte.specs.EucKr.{euc_kr_prefix}
 use Rattle.enc_decoder_multi_byte.specs.ShiftJis.{shift_jis_prefix}
 use Rattle.enc_decoder_multi_byte.specs.EucJp.{euc_jp_prefix}
 use Rattle.enc_decoder_multi_byte.specs.Gb18030.{gb18030_prefix}
-use Rattle.enc_decoder_multi_byte.proofs.DoubleByteLemmas.{double_byte_laws}
-use Rattle.enc_decoder_multi_byte.proofs.PairLemmas.{big5_pairs, euc_kr_pairs, shift_jis_pairs}
-use Rattle.enc_decoder_multi_byte.proofs.EucJpLemmas.{euc_jp_laws}
-use Rattle.enc_decoder_multi_byte.proofs.Gb18030Lemmas.{gb18030_laws}
+use Rattle.enc_decoder_multi_byte.proofs.Laws.Big5 as big5
+use Rattle.enc_decoder_multi_byte.proofs.Laws.EucKr as euc_kr
+use Rattle.enc_decoder_multi_byte.proofs.Laws.ShiftJis as shift_jis
+use Rattle.enc_decoder_multi_byte.proofs.Laws.EucJp as euc_jp
+use Rattle.enc_decoder_multi_byte.proofs.Laws.Gb18030 as gb18030
 use Rattle.enc_decoder_multi_byte.proofs.MultiByteEnough.{multi_bytes_enough}
 use Rattle.enc_decoder_multi_byte.proofs.MultiByteRule.{multi_byte_has_texts, multi_byte_is_lawful}
 use Rattle.enc_decoder_multi_byte.proofs.MultiByteRule.{multi_byte_has_bytes}
@@ -91,7 +91,7 @@ multi_byte_keeps_laws prefix laws bb = record {
 }
 
 pub codec_laws : (c : Codec) → KeepsCodecLaws (codec_rule c) (codec_facts c)
-codec_laws Utf8 = record {
+codec_laws codec.Utf8 = record {
   lawful = utf_8_is_lawful;
   enough = utf_8_enough _ refl;
   texts = utf_8_has_texts;
@@ -100,30 +100,33 @@ codec_laws Utf8 = record {
   single = utf_8_is_not_single_byte;
   bb = utf_8_shows_bb;
 }
-codec_laws Utf16Be =
+codec_laws codec.Utf16Be =
     utf_16_keeps_laws true (utf_16_enough (record { big_endian = true; pending = Nothing }) refl)
-codec_laws Utf16Le =
+codec_laws codec.Utf16Le =
     utf_16_keeps_laws false (utf_16_enough (record { big_endian = false; pending = Nothing }) refl)
-codec_laws (SingleByte index) =
+codec_laws (codec.SingleByte index) =
     one_byte_keeps_laws _ (single_byte_ascii _) (single_byte_enough (single_byte_runs index))
-codec_laws Big5 =
-    multi_byte_keeps_laws big5_prefix (double_byte_laws _ _ _ big5_pairs)
+codec_laws codec.Big5 =
+    multi_byte_keeps_laws big5_prefix big5.laws
     (multi_byte_shows_bb big5_prefix _ refl refl)
-codec_laws EucKr =
-    multi_byte_keeps_laws euc_kr_prefix (double_byte_laws _ _ _ euc_kr_pairs)
+codec_laws codec.EucKr =
+    multi_byte_keeps_laws euc_kr_prefix euc_kr.laws
     (multi_byte_shows_bb euc_kr_prefix _ refl refl)
-codec_laws ShiftJis =
-    multi_byte_keeps_laws shift_jis_prefix (double_byte_laws _ _ _ shift_jis_pairs)
+codec_laws codec.ShiftJis =
+    multi_byte_keeps_laws shift_jis_prefix shift_jis.laws
     (multi_byte_shows_bb shift_jis_prefix _ refl refl)
-codec_laws EucJp =
-    multi_byte_keeps_laws euc_jp_prefix euc_jp_laws (multi_byte_shows_bb euc_jp_prefix _ refl refl)
-codec_laws Gbk =
-    multi_byte_keeps_laws gb18030_prefix gb18030_laws (multi_byte_shows_bb gb18030_prefix _ refl refl)
-codec_laws Gb18030 =
-    multi_byte_keeps_laws gb18030_prefix gb18030_laws (multi_byte_shows_bb gb18030_prefix _ refl refl)
-codec_laws XUserDefined =
+codec_laws codec.EucJp =
+    multi_byte_keeps_laws euc_jp_prefix euc_jp.laws
+    (multi_byte_shows_bb euc_jp_prefix _ refl refl)
+codec_laws codec.Gbk =
+    multi_byte_keeps_laws gb18030_prefix gb18030.laws
+    (multi_byte_shows_bb gb18030_prefix _ refl refl)
+codec_laws codec.Gb18030 =
+    multi_byte_keeps_laws gb18030_prefix gb18030.laws
+    (multi_byte_shows_bb gb18030_prefix _ refl refl)
+codec_laws codec.XUserDefined =
     one_byte_keeps_laws x_user_defined_char x_user_defined_ascii x_user_defined_enough
-codec_laws Replacement = record {
+codec_laws codec.Replacement = record {
   lawful = replacement_is_lawful;
   enough = replacement_enough false;
   texts = replacement_lacks_texts;
@@ -132,7 +135,7 @@ codec_laws Replacement = record {
   single = replacement_is_not_single_byte;
   bb = replacement_shows_bb;
 }
-codec_laws Iso2022Jp = record {
+codec_laws codec.Iso2022Jp = record {
   lawful = iso_2022_jp_is_lawful;
   enough = iso_2022_jp_enough _ refl;
   texts = iso_2022_jp_lacks_texts;

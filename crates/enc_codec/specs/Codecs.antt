@@ -1,9 +1,8 @@
 -- The rule of each codec's decoder, and what is known of it: its formulas for lengths, and properties.
--- Rows by codec are written by scripts/make-codecs from data/codecs.txt.
+-- Written by scripts/make-sources from data/templates: change the text there, and not this file.
 use Rattle.std.specs.Prelude.{Bool, true, false, []}
 use Rattle.enc_index.specs.declared.codec.Codec.{Codec}
-use Rattle.enc_index.specs.declared.codec.Codec.TheVariants.{Utf8, Utf16Be, Utf16Le, SingleByte, Big5, EucKr, ShiftJis}
-use Rattle.enc_index.specs.declared.codec.Codec.TheVariants.{EucJp, Gbk, Gb18030, Iso2022Jp, XUserDefined, Replacement}
+use Rattle.enc_index.specs.declared.codec.Codec.TheVariants as codec
 use Rattle.enc_index.specs.Runs.{single_byte_runs}
 use Rattle.enc_decoder.specs.Segmentation.{Rule}
 use Rattle.enc_decoder.specs.CodecState.{CodecState}
@@ -22,19 +21,19 @@ use Rattle.enc_decoder_single_byte.specs.Replacement.{replacement_rule}
 use Rattle.enc_decoder_iso_2022_jp.specs.Iso2022Jp.{iso_2022_jp_rule}
 
 abbrev pub codec_rule : Codec → Rule
-codec_rule Utf8 = utf_8_rule
-codec_rule Utf16Be = utf_16_rule true
-codec_rule Utf16Le = utf_16_rule false
-codec_rule (SingleByte index) = one_byte_rule (single_byte_char (single_byte_runs index))
-codec_rule Big5 = multi_byte_rule big5_prefix
-codec_rule EucKr = multi_byte_rule euc_kr_prefix
-codec_rule ShiftJis = multi_byte_rule shift_jis_prefix
-codec_rule EucJp = multi_byte_rule euc_jp_prefix
-codec_rule Gbk = multi_byte_rule gb18030_prefix
-codec_rule Gb18030 = multi_byte_rule gb18030_prefix
-codec_rule XUserDefined = one_byte_rule x_user_defined_char
-codec_rule Replacement = replacement_rule
-codec_rule Iso2022Jp = iso_2022_jp_rule
+codec_rule codec.Utf8 = utf_8_rule
+codec_rule codec.Utf16Be = utf_16_rule true
+codec_rule codec.Utf16Le = utf_16_rule false
+codec_rule (codec.SingleByte index) = one_byte_rule (single_byte_char (single_byte_runs index))
+codec_rule codec.Big5 = multi_byte_rule big5_prefix
+codec_rule codec.EucKr = multi_byte_rule euc_kr_prefix
+codec_rule codec.ShiftJis = multi_byte_rule shift_jis_prefix
+codec_rule codec.EucJp = multi_byte_rule euc_jp_prefix
+codec_rule codec.Gbk = multi_byte_rule gb18030_prefix
+codec_rule codec.Gb18030 = multi_byte_rule gb18030_prefix
+codec_rule codec.XUserDefined = one_byte_rule x_user_defined_char
+codec_rule codec.Replacement = replacement_rule
+codec_rule codec.Iso2022Jp = iso_2022_jp_rule
 
 -- a decoder of this rule that has read nothing
 abbrev pub initial_state : Rule → CodecState
@@ -108,13 +107,13 @@ iso_2022_jp_facts = record {
 
 -- Most codecs are of legacy multi-byte encodings.
 abbrev pub codec_facts : Codec → CodecFacts
-codec_facts Utf8 = utf_8_facts
-codec_facts Utf16Be = utf_16_facts
-codec_facts Utf16Le = utf_16_facts
-codec_facts (SingleByte index) = one_byte_facts
-codec_facts XUserDefined = one_byte_facts
-codec_facts Replacement = replacement_facts
-codec_facts Iso2022Jp = iso_2022_jp_facts
+codec_facts codec.Utf8 = utf_8_facts
+codec_facts codec.Utf16Be = utf_16_facts
+codec_facts codec.Utf16Le = utf_16_facts
+codec_facts (codec.SingleByte index) = one_byte_facts
+codec_facts codec.XUserDefined = one_byte_facts
+codec_facts codec.Replacement = replacement_facts
+codec_facts codec.Iso2022Jp = iso_2022_jp_facts
 codec_facts _ = multi_byte_facts
 
 -- the formulas for lengths to allocate

@@ -1,9 +1,7 @@
 -- The state of a decoder of any encoding, and its formulas for lengths.
--- Rows by codec are written by scripts/make-codecs from data/codecs.txt.
+-- Written by scripts/make-sources from data/templates: change the text there, and not this file.
 use Rattle.enc_codec.specs.declared.variant.VariantDecoder.{VariantDecoder}
-use Rattle.enc_codec.specs.declared.variant.VariantDecoder.TheVariants.{Utf8, Utf16, SingleByte, Big5, EucKr, ShiftJis}
-use Rattle.enc_codec.specs.declared.variant.VariantDecoder.TheVariants.{EucJp, Gb18030, Iso2022Jp, XUserDefined}
-use Rattle.enc_codec.specs.declared.variant.VariantDecoder.TheVariants.{Replacement}
+use Rattle.enc_codec.specs.declared.variant.VariantDecoder.TheVariants as decoder
 use Rattle.enc_decoder.specs.CodecState.{CodecState}
 use Rattle.enc_decoder.specs.declared.text_lengths.TextLengths.{TextLengths}
 use Rattle.enc_decoder.specs.declared.text_lengths.TextLengths.TheVariants as lengths
@@ -22,28 +20,28 @@ use Rattle.enc_decoder_single_byte.specs.Replacement.{replacement_state}
 use Rattle.enc_decoder_iso_2022_jp.specs.Iso2022JpState.{iso_2022_jp_state}
 
 abbrev pub variant_decoder_state : VariantDecoder → CodecState
-variant_decoder_state (Utf8 d) = utf_8_state d
-variant_decoder_state (Utf16 d) = utf_16_state d
-variant_decoder_state (SingleByte d) = single_byte_state (single_byte_runs d.index)
-variant_decoder_state (Big5 d) = multi_byte_state big5_prefix (bytes_of_pending d.pending)
-variant_decoder_state (EucKr d) = multi_byte_state euc_kr_prefix (bytes_of_pending d.pending)
-variant_decoder_state (ShiftJis d) = multi_byte_state shift_jis_prefix (bytes_of_pending d.pending)
-variant_decoder_state (EucJp d) = multi_byte_state euc_jp_prefix (bytes_of_pending d.pending)
-variant_decoder_state (Gb18030 d) = multi_byte_state gb18030_prefix (bytes_of_pending d.pending)
-variant_decoder_state (XUserDefined d) = x_user_defined_state
-variant_decoder_state (Replacement d) = replacement_state d
-variant_decoder_state (Iso2022Jp d) = iso_2022_jp_state d
+variant_decoder_state (decoder.Utf8 d) = utf_8_state d
+variant_decoder_state (decoder.Utf16 d) = utf_16_state d
+variant_decoder_state (decoder.SingleByte d) = single_byte_state (single_byte_runs d.index)
+variant_decoder_state (decoder.Big5 d) = multi_byte_state big5_prefix (bytes_of_pending d.pending)
+variant_decoder_state (decoder.EucKr d) = multi_byte_state euc_kr_prefix (bytes_of_pending d.pending)
+variant_decoder_state (decoder.ShiftJis d) = multi_byte_state shift_jis_prefix (bytes_of_pending d.pending)
+variant_decoder_state (decoder.EucJp d) = multi_byte_state euc_jp_prefix (bytes_of_pending d.pending)
+variant_decoder_state (decoder.Gb18030 d) = multi_byte_state gb18030_prefix (bytes_of_pending d.pending)
+variant_decoder_state (decoder.XUserDefined d) = x_user_defined_state
+variant_decoder_state (decoder.Replacement d) = replacement_state d
+variant_decoder_state (decoder.Iso2022Jp d) = iso_2022_jp_state d
 
 -- its formulas for lengths to allocate
 abbrev pub variant_decoder_lengths : VariantDecoder → TextLengths
-variant_decoder_lengths (Utf8 d) = lengths.Utf8
-variant_decoder_lengths (Utf16 d) = lengths.Utf16
-variant_decoder_lengths (SingleByte d) = lengths.OneByte
-variant_decoder_lengths (Big5 d) = lengths.MultiByte
-variant_decoder_lengths (EucKr d) = lengths.MultiByte
-variant_decoder_lengths (ShiftJis d) = lengths.MultiByte
-variant_decoder_lengths (EucJp d) = lengths.MultiByte
-variant_decoder_lengths (Gb18030 d) = lengths.MultiByte
-variant_decoder_lengths (XUserDefined d) = lengths.OneByte
-variant_decoder_lengths (Replacement d) = lengths.Replacement
-variant_decoder_lengths (Iso2022Jp d) = lengths.MultiByte
+variant_decoder_lengths (decoder.Utf8 d) = lengths.Utf8
+variant_decoder_lengths (decoder.Utf16 d) = lengths.Utf16
+variant_decoder_lengths (decoder.SingleByte d) = lengths.OneByte
+variant_decoder_lengths (decoder.Big5 d) = lengths.MultiByte
+variant_decoder_lengths (decoder.EucKr d) = lengths.MultiByte
+variant_decoder_lengths (decoder.ShiftJis d) = lengths.MultiByte
+variant_decoder_lengths (decoder.EucJp d) = lengths.MultiByte
+variant_decoder_lengths (decoder.Gb18030 d) = lengths.MultiByte
+variant_decoder_lengths (decoder.XUserDefined d) = lengths.OneByte
+variant_decoder_lengths (decoder.Replacement d) = lengths.Replacement
+variant_decoder_lengths (decoder.Iso2022Jp d) = lengths.MultiByte

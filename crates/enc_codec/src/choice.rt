@@ -1,6 +1,6 @@
 //! The codecs of the encodings.
 //!
-//! Rows by codec are written by scripts/make-codecs from data/codecs.txt.
+//! Written by scripts/make-sources from data/templates: change the text there, and not this file.
 
 ghost use Rattle.std.specs.Prelude.{◌≡◌};
 ghost use Rattle.enc_codec.specs.Codecs.{codec_rule, codec_lengths, initial_state};

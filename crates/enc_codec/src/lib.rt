@@ -1,6 +1,6 @@
 //! The codec of an encoding, and a decoder that is any of them.
 //!
-//! Rows by codec are written by scripts/make-codecs from data/codecs.txt.
+//! Written by scripts/make-sources from data/templates: change the text there, and not this file.
 #![tactic(auto)]
 
 mod choice;

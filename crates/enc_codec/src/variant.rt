@@ -1,6 +1,6 @@
 //! A decoder of any encoding.
 //!
-//! Rows by codec are written by scripts/make-codecs from data/codecs.txt.
+//! Written by scripts/make-sources from data/templates: change the text there, and not this file.
 
 use enc_decoder::{RawDecoder, TextLengths};
 use enc_decoder_iso_2022_jp::Iso2022JpDecoder;

@@ -1,6 +1,6 @@
 //! The characters of bytes in ASCII, with U+FFFD for malformed ones (Encoding Standard 12.2.1).
 //!
-//! Written by scripts/make-indexes: change the script and run it, and not this file.
+//! Written by scripts/make-sources: change the script and run it, and not this file.
 
 /// The UTF-8 of each byte: first byte lowest, number of bytes highest. 0 for none.
 #[rattlefmt::skip]

@@ -2,10 +2,9 @@ pub mod MultiByteLemmas
 pub mod MultiByteRule
 pub mod MultiByteComes
 pub mod DoubleByteLemmas
-pub mod PairLemmas
-pub mod PairPlaces
-pub mod EucJpLemmas
-pub mod Gb18030Lemmas
+pub mod Laws
+pub mod PlaceNumbers
+pub mod Places
 pub mod MultiBytePieces
 pub mod MultiByteReplaced
 pub mod MultiByteEnough

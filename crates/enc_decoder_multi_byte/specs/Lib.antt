@@ -1,9 +1,9 @@
--- Rows by codec are written by scripts/make-codecs from data/codecs.txt.
+-- Written by scripts/make-sources from data/templates: change the text there, and not this file.
 pub mod MultiByte
 pub mod DoubleByte
-pub mod EucKr
-pub mod Big5
 pub mod Katakana
+pub mod Big5
+pub mod EucKr
 pub mod ShiftJis
 pub mod EucJp
 pub mod Gb18030

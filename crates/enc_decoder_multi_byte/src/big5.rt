@@ -85,6 +85,6 @@ impl DoubleByte for Big5 {
         places_at(rows, columns, 158)
     }
 
-    #[tactic(auto, using(crate::proofs::PairLemmas::big5_pairs))]
+    #[tactic(auto, using(crate::proofs::Laws::Big5::pairs))]
     fn laws() {}
 }

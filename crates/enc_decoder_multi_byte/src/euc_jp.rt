@@ -126,6 +126,6 @@ impl MultiByte for EucJp {
         places_at(rows, columns, 95)
     }
 
-    #[tactic(auto, using(crate::proofs::EucJpLemmas::euc_jp_laws))]
+    #[tactic(auto, using(crate::proofs::Laws::EucJp::laws))]
     fn laws() {}
 }

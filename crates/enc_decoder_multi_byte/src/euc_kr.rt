@@ -56,6 +56,6 @@ impl DoubleByte for EucKr {
         places_at(rows, columns, 191)
     }
 
-    #[tactic(auto, using(crate::proofs::PairLemmas::euc_kr_pairs))]
+    #[tactic(auto, using(crate::proofs::Laws::EucKr::pairs))]
     fn laws() {}
 }

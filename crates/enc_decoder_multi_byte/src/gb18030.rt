@@ -171,6 +171,6 @@ impl MultiByte for Gb18030 {
         places_at(rows, columns, 191)
     }
 
-    #[tactic(auto, using(crate::proofs::Gb18030Lemmas::gb18030_laws))]
+    #[tactic(auto, using(crate::proofs::Laws::Gb18030::laws))]
     fn laws() {}
 }

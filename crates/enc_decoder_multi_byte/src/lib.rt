@@ -1,7 +1,6 @@
-//! Decoders of the legacy multi-byte encodings without escape sequences: Big5, EUC-KR, Shift_JIS,
-//! EUC-JP, gb18030.
+//! Decoders of the legacy multi-byte encodings without escape sequences.
 //!
-//! Rows by codec are written by scripts/make-codecs from data/codecs.txt.
+//! Written by scripts/make-sources from data/templates: change the text there, and not this file.
 #![tactic(auto)]
 
 mod big5;

@@ -87,6 +87,6 @@ impl DoubleByte for ShiftJis {
         places_at(rows, columns, 190)
     }
 
-    #[tactic(auto, using(crate::proofs::PairLemmas::shift_jis_pairs))]
+    #[tactic(auto, using(crate::proofs::Laws::ShiftJis::pairs))]
     fn laws() {}
 }

@@ -1,6 +1,6 @@
 //! The characters of bytes in x-user-defined (Encoding Standard 14.5).
 //!
-//! Written by scripts/make-indexes: change the script and run it, and not this file.
+//! Written by scripts/make-sources: change the script and run it, and not this file.
 
 /// The UTF-8 of each byte: first byte lowest, number of bytes highest.
 #[rattlefmt::skip]

@@ -1,5 +1,5 @@
 -- Every encoder keeps the law.
--- Rows by codec are written by scripts/make-codecs from data/codecs.txt.
+-- Written by scripts/make-sources from data/templates: change the text there, and not this file.
 use Rattle.std.proofs.Common.{◌≡◌, ℕ, true, false, Option, List, refl, ap, sym, ◌∙◌, subst}
 use Rattle.std.proofs.lemmas.Bool.{false≢true}
 use Rattle.enc_index.specs.declared.codec.Codec.{Codec}
@@ -20,6 +20,7 @@ use Rattle.enc_encode.specs.Encoders.{stateless_facts, output_facts, encoder_len
 use Rattle.enc_encode.specs.EncoderLaws.{StaysInAscii, MayBeIn, KeepsEncoderLaws}
 use Rattle.enc_encode.specs.Variant.{variant_encoder_state}
 use Rattle.enc_encode.proofs.RepertoireLaws as repertoire
+use Rattle.enc_encode.proofs.PlainRepertoires as plain
 use Rattle.enc_encode.proofs.Iso2022JpLemmas.{iso_2022_jp_is_lawful}
 use Rattle.enc_encode.proofs.Iso2022JpEnough.{iso_2022_jp_enough}
 
@@ -41,7 +42,7 @@ encoder_laws codec.Utf16Be = stateless _ _ repertoire.utf_8
 encoder_laws codec.Utf16Le = stateless _ _ repertoire.utf_8
 encoder_laws (codec.SingleByte index) = stateless _ _ (repertoire.single_byte index)
 encoder_laws codec.Big5 = stateless _ _ repertoire.big5
-encoder_laws codec.EucKr = stateless _ _ repertoire.euc_kr
+encoder_laws codec.EucKr = stateless _ _ plain.euc_kr
 encoder_laws codec.ShiftJis = stateless _ _ repertoire.shift_jis
 encoder_laws codec.EucJp = stateless _ _ repertoire.euc_jp
 encoder_laws codec.Gbk = stateless _ _ (repertoire.gb18030 true)

@@ -1,4 +1,5 @@
 pub mod RepertoireLaws
+pub mod PlainRepertoires
 pub mod Iso2022JpLemmas
 pub mod Iso2022JpEnough
 mod KatakanaLemmas

@@ -1,10 +1,9 @@
 -- The rule and the formulas of each encoding's encoder, if it has one (Encoding Standard 4.3, "get an
 -- encoder").
--- Rows by codec are written by scripts/make-codecs from data/codecs.txt.
+-- Written by scripts/make-sources from data/templates: change the text there, and not this file.
 use Rattle.std.specs.Prelude.{ℕ, true, false, Option, Some, None, List, option_map}
 use Rattle.enc_index.specs.declared.codec.Codec.{Codec}
-use Rattle.enc_index.specs.declared.codec.Codec.TheVariants.{Utf8, Utf16Be, Utf16Le, SingleByte, Big5, EucKr, ShiftJis}
-use Rattle.enc_index.specs.declared.codec.Codec.TheVariants.{EucJp, Gbk, Gb18030, Iso2022Jp, XUserDefined, Replacement}
+use Rattle.enc_index.specs.declared.codec.Codec.TheVariants as codec
 use Rattle.enc_encoder.specs.EncoderRule.{EncoderRule}
 use Rattle.enc_encoder.specs.declared.byte_lengths.ByteLengths.{ByteLengths}
 use Rattle.enc_encoder.specs.declared.byte_lengths.ByteLengths.TheVariants as lengths
@@ -29,19 +28,19 @@ stateless_facts formulas bytes = record { rule = stateless_rule bytes; formulas 
 
 -- the facts of a codec's encoder, if it has one
 abbrev pub encoder_facts : Codec → Option EncoderFacts
-encoder_facts Utf8 = Some (stateless_facts lengths.Utf8 utf_8_bytes)
-encoder_facts Utf16Be = None
-encoder_facts Utf16Le = None
-encoder_facts (SingleByte index) = Some (stateless_facts lengths.OneByte (single_byte_bytes index))
-encoder_facts Big5 = Some (stateless_facts lengths.TwoBytes big5_bytes)
-encoder_facts EucKr = Some (stateless_facts lengths.TwoBytes euc_kr_bytes)
-encoder_facts ShiftJis = Some (stateless_facts lengths.TwoBytes shift_jis_bytes)
-encoder_facts EucJp = Some (stateless_facts lengths.TwoBytes euc_jp_bytes)
-encoder_facts Gbk = Some (stateless_facts lengths.TwoBytes (gb18030_bytes true))
-encoder_facts Gb18030 = Some (stateless_facts lengths.Gb18030 (gb18030_bytes false))
-encoder_facts XUserDefined = Some (stateless_facts lengths.OneByte x_user_defined_bytes)
-encoder_facts Replacement = None
-encoder_facts Iso2022Jp = Some (record { rule = iso_2022_jp_encoder_rule; formulas = lengths.Iso2022Jp })
+encoder_facts codec.Utf8 = Some (stateless_facts lengths.Utf8 utf_8_bytes)
+encoder_facts codec.Utf16Be = None
+encoder_facts codec.Utf16Le = None
+encoder_facts (codec.SingleByte index) = Some (stateless_facts lengths.OneByte (single_byte_bytes index))
+encoder_facts codec.Big5 = Some (stateless_facts lengths.TwoBytes big5_bytes)
+encoder_facts codec.EucKr = Some (stateless_facts lengths.TwoBytes euc_kr_bytes)
+encoder_facts codec.ShiftJis = Some (stateless_facts lengths.TwoBytes shift_jis_bytes)
+encoder_facts codec.EucJp = Some (stateless_facts lengths.TwoBytes euc_jp_bytes)
+encoder_facts codec.Gbk = Some (stateless_facts lengths.TwoBytes (gb18030_bytes true))
+encoder_facts codec.Gb18030 = Some (stateless_facts lengths.Gb18030 (gb18030_bytes false))
+encoder_facts codec.XUserDefined = Some (stateless_facts lengths.OneByte x_user_defined_bytes)
+encoder_facts codec.Replacement = None
+encoder_facts codec.Iso2022Jp = Some (record { rule = iso_2022_jp_encoder_rule; formulas = lengths.Iso2022Jp })
 
 -- The rule alone. If a caller bars the characters b, the rule is `barring_rule b` of this.
 abbrev pub encoder_rule : Codec → Option EncoderRule

@@ -1,13 +1,13 @@
--- Rows by codec are written by scripts/make-codecs from data/codecs.txt.
+-- Written by scripts/make-sources from data/templates: change the text there, and not this file.
 pub mod Utf8
 pub mod SingleByte
 pub mod Japanese
 pub mod Katakana
+pub mod PrivateUse
+pub mod Big5
+pub mod EucKr
 pub mod ShiftJis
 pub mod EucJp
-pub mod EucKr
-pub mod Big5
-pub mod PrivateUse
 pub mod Gb18030
 pub mod Iso2022Jp
 pub mod Encoders

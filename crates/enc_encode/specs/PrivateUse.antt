@@ -1,5 +1,5 @@
 -- Characters of private use in gb18030 (Encoding Standard 10.2.2, "gb18030 encoder", step 5).
--- Written by scripts/make-indexes from data/gb18030-private-use.txt.
+-- Written by scripts/make-sources from data/gb18030-private-use.txt.
 use Rattle.std.specs.Prelude.{ℕ, List, [], ◌∷◌}
 
 -- code points, each with its two bytes

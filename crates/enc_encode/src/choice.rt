@@ -1,6 +1,6 @@
 //! The encoders of the encodings.
 //!
-//! Rows by codec are written by scripts/make-codecs from data/codecs.txt.
+//! Written by scripts/make-sources from data/templates: change the text there, and not this file.
 
 ghost use Rattle.std.specs.Prelude.{◌≡◌, Some, is_some, true, option_map};
 ghost use Rattle.enc_encoder.specs.Barring.{are_beyond_ascii, barring_rule};
@@ -8,17 +8,17 @@ ghost use Rattle.enc_encoder.specs.declared.character_set.CharacterSet.TheVarian
 ghost use Rattle.enc_encode.specs.Encoders.{encoder_rule, encoder_lengths};
 ghost use Rattle.enc_encode.specs.Variant.{variant_encoder_state, variant_encoder_lengths};
 
-use crate::encoders::big5::{Big5, Big5Encoder};
-use crate::encoders::euc_jp::{EucJp, EucJpEncoder};
-use crate::encoders::euc_kr::{EucKr, EucKrEncoder};
-use crate::encoders::gb18030::{Gb18030, Gb18030Encoder};
+use crate::encoders::big5::Big5;
+use crate::encoders::euc_jp::EucJp;
+use crate::encoders::euc_kr::EucKr;
+use crate::encoders::gb18030::Gb18030;
 use crate::encoders::iso_2022_jp::Iso2022JpEncoder;
-use crate::encoders::shift_jis::{ShiftJis, ShiftJisEncoder};
-use crate::encoders::single_byte::{SingleByte, SingleByteEncoder};
-use crate::encoders::utf_8::{Utf8, Utf8Encoder};
-use crate::encoders::x_user_defined::{XUserDefined, XUserDefinedEncoder};
+use crate::encoders::shift_jis::ShiftJis;
+use crate::encoders::single_byte::SingleByte;
+use crate::encoders::utf_8::Utf8;
+use crate::encoders::x_user_defined::XUserDefined;
 use crate::variant::VariantEncoder;
-use enc_encoder::{Barring, ByteLengths};
+use enc_encoder::{Barring, ByteLengths, Repertoire, StatelessEncoder};
 use enc_index::Codec;
 
 /// Returns whether an encoding has an encoder: all except UTF-16BE, UTF-16LE and replacement.
@@ -33,12 +33,12 @@ pub fn has_encoder(codec: Codec) -> bool
     }
 }
 
-/// Returns the encoder of gb18030, or of GBK.
-fn new_gb18030(is_gbk: bool, barred: &'static [char]) -> Gb18030Encoder
-    ensures is_gbk { result.repertoire.repertoire.is_gbk ≡ is_gbk }
+/// Returns the encoder of a repertoire without some characters.
+fn barring<R: Repertoire>(repertoire: R, barred: &'static [char]) -> StatelessEncoder<Barring<R>>
+    ensures repertoire { result.repertoire.repertoire ≡ repertoire }
     ensures barred { result.repertoire.barred.now ≡ barred.now }
 {
-    Gb18030Encoder::new(Barring::new(Gb18030 { is_gbk }, barred))
+    StatelessEncoder::new(Barring::new(repertoire, barred))
 }
 
 /// Returns an encoder at the start of a text, with barred characters.
@@ -55,26 +55,18 @@ pub fn new_encoder(codec: Codec, barred: &'static [char]) -> VariantEncoder
     ensures lengths { variant_encoder_lengths result ≡ encoder_lengths codec }
 {
     match codec {
+        Codec::Utf8 => VariantEncoder::Utf8(barring(Utf8, barred)),
         Codec::SingleByte(index) => {
-            let repertoire = Barring::new(SingleByte { index }, barred);
-            VariantEncoder::SingleByte(SingleByteEncoder::new(repertoire))
+            VariantEncoder::SingleByte(barring(SingleByte { index }, barred))
         }
-        Codec::Big5 => VariantEncoder::Big5(Big5Encoder::new(Barring::new(Big5, barred))),
-        Codec::EucKr => VariantEncoder::EucKr(EucKrEncoder::new(Barring::new(EucKr, barred))),
-        Codec::ShiftJis => {
-            VariantEncoder::ShiftJis(ShiftJisEncoder::new(Barring::new(ShiftJis, barred)))
-        }
-        Codec::EucJp => VariantEncoder::EucJp(EucJpEncoder::new(Barring::new(EucJp, barred))),
-        Codec::Gbk => VariantEncoder::Gb18030(new_gb18030(true, barred)),
-        Codec::Gb18030 => VariantEncoder::Gb18030(new_gb18030(false, barred)),
-        Codec::XUserDefined => {
-            VariantEncoder::XUserDefined(XUserDefinedEncoder::new(Barring::new(
-                XUserDefined,
-                barred,
-            )))
-        }
+        Codec::Big5 => VariantEncoder::Big5(barring(Big5, barred)),
+        Codec::EucKr => VariantEncoder::EucKr(barring(EucKr, barred)),
+        Codec::ShiftJis => VariantEncoder::ShiftJis(barring(ShiftJis, barred)),
+        Codec::EucJp => VariantEncoder::EucJp(barring(EucJp, barred)),
+        Codec::Gbk => VariantEncoder::Gb18030(barring(Gb18030 { is_gbk: true }, barred)),
+        Codec::Gb18030 => VariantEncoder::Gb18030(barring(Gb18030 { is_gbk: false }, barred)),
+        Codec::XUserDefined => VariantEncoder::XUserDefined(barring(XUserDefined, barred)),
         Codec::Iso2022Jp => VariantEncoder::Iso2022Jp(Iso2022JpEncoder::new(barred)),
-        Codec::Utf8 => VariantEncoder::Utf8(Utf8Encoder::new(Barring::new(Utf8, barred))),
         Codec::Utf16Be | Codec::Utf16Le | Codec::Replacement => unreachable!(),
     }
 }

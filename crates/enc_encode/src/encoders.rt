@@ -1,6 +1,6 @@
 //! The encoders, each by the bytes of its characters.
 //!
-//! Rows by codec are written by scripts/make-codecs from data/codecs.txt.
+//! Written by scripts/make-sources from data/templates: change the text there, and not this file.
 
 pub mod big5;
 pub mod euc_jp;

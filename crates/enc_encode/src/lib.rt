@@ -1,7 +1,7 @@
-//! The nine encoders, each by the bytes of its characters, the encoder of an encoding, and an
-//! encoder that is any of them.
+//! The encoders, each by the bytes of its characters, the encoder of an encoding, and an encoder that
+//! is any of them.
 //!
-//! Rows by codec are written by scripts/make-codecs from data/codecs.txt.
+//! Written by scripts/make-sources from data/templates: change the text there, and not this file.
 #![tactic(auto)]
 
 mod choice;

@@ -1,6 +1,6 @@
 //! An encoder of any encoding.
 //!
-//! Rows by codec are written by scripts/make-codecs from data/codecs.txt.
+//! Written by scripts/make-sources from data/templates: change the text there, and not this file.
 
 use crate::encoders::big5::Big5Encoder;
 use crate::encoders::euc_jp::EucJpEncoder;

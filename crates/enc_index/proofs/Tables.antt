@@ -1,4 +1,4 @@
--- Written by scripts/make-indexes from data/templates: change the text there, and not this file.
+-- Written by scripts/make-sources from data/templates: change the text there, and not this file.
 pub mod Big5
 pub mod EucKr
 pub mod Gb18030

@@ -1,5 +1,5 @@
 -- The double-byte indexes by their rows, and their code points by pointer.
--- Written by scripts/make-indexes from data/templates: change the text there, and not this file.
+-- Written by scripts/make-sources from data/templates: change the text there, and not this file.
 use Rattle.std.specs.Prelude.{ℕ, List}
 use Rattle.enc_index.specs.declared.table.Planes.TheVariants.{Basic, All}
 use Rattle.enc_index.specs.declared.list.List.TheVariants as index

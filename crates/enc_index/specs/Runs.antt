@@ -1,6 +1,6 @@
 -- The indexes by name (Encoding Standard 5). Their runs don't unfold: no proof of an encoding reads
 -- an entry.
--- Written by scripts/make-indexes from data/templates: change the text there, and not this file.
+-- Written by scripts/make-sources from data/templates: change the text there, and not this file.
 use Rattle.std.specs.Prelude.{ℕ, Option, List}
 use Rattle.enc_index.specs.declared.table.Planes.{Planes}
 use Rattle.enc_index.specs.declared.table.Planes.TheVariants.{Basic, All}

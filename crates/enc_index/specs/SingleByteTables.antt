@@ -1,5 +1,5 @@
 -- The numbers of the single-byte indexes, by which their tables follow one another.
--- Written by scripts/make-indexes from data/templates: change the text there, and not this file.
+-- Written by scripts/make-sources from data/templates: change the text there, and not this file.
 use Rattle.std.specs.Prelude.{ℕ}
 use Rattle.enc_index.specs.declared.single_byte_index.SingleByteIndex.{SingleByteIndex}
 use Rattle.enc_index.specs.declared.single_byte_index.SingleByteIndex.TheVariants as index

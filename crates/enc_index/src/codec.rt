@@ -1,6 +1,6 @@
 //! The codecs of encodings, by name.
 //!
-//! Rows by codec are written by scripts/make-codecs from data/codecs.txt.
+//! Written by scripts/make-sources from data/templates: change the text there, and not this file.
 
 use crate::single_byte_index::SingleByteIndex;
 

@@ -1,6 +1,6 @@
-//! The index data, which scripts/make-indexes writes from data/indexes.
+//! The index data, which scripts/make-sources writes from data/indexes.
 //!
-//! Written by scripts/make-indexes from data/templates: change the text there, and not this file.
+//! Written by scripts/make-sources from data/templates: change the text there, and not this file.
 
 pub mod big5;
 pub mod big5_grid;

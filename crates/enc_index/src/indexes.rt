@@ -1,6 +1,6 @@
 //! The double-byte indexes as types (Encoding Standard 5).
 //!
-//! Written by scripts/make-indexes from data/templates: change the text there, and not this file.
+//! Written by scripts/make-sources from data/templates: change the text there, and not this file.
 
 mod big5;
 mod euc_kr;

@@ -1,6 +1,6 @@
 //! The indexes by name (Encoding Standard 5).
 //!
-//! Written by scripts/make-indexes from data/templates: change the text there, and not this file.
+//! Written by scripts/make-sources from data/templates: change the text there, and not this file.
 
 ghost use Rattle.std.specs.Prelude.{◌≡◌};
 ghost use Rattle.enc_index.specs.Index.{index_at};

@@ -1,7 +1,7 @@
 //! The indexes of the legacy single-byte encodings by name (Encoding Standard 9, "index
 //! single-byte").
 //!
-//! Written by scripts/make-indexes from data/templates: change the text there, and not this file.
+//! Written by scripts/make-sources from data/templates: change the text there, and not this file.
 
 ghost use Rattle.std.specs.Prelude.{◌≡◌, ◌<◌};
 ghost use Rattle.enc_index.specs.Runs.{single_byte_runs};

@@ -1,7 +1,7 @@
 //! The pointers of characters in the indexes of the Encoding Standard (5), as encoders look them
 //! up, in constant time, proved equal to the indexes' entries.
 //!
-//! Written by scripts/make-indexes from data/templates: change the text there, and not this file.
+//! Written by scripts/make-sources from data/templates: change the text there, and not this file.
 #![tactic(auto)]
 
 mod look_up;

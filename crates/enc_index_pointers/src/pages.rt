@@ -1,6 +1,6 @@
-//! The pages of pointers, which scripts/make-indexes writes from data/indexes.
+//! The pages of pointers, which scripts/make-sources writes from data/indexes.
 //!
-//! Written by scripts/make-indexes from data/templates: change the text there, and not this file.
+//! Written by scripts/make-sources from data/templates: change the text there, and not this file.
 
 pub mod big5;
 pub mod euc_kr;

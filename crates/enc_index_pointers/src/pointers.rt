@@ -1,7 +1,7 @@
 //! The look-ups of encoders: the pointers of characters in the indexes (Encoding Standard 5, "index
 //! pointer").
 //!
-//! Written by scripts/make-indexes from data/templates: change the text there, and not this file.
+//! Written by scripts/make-sources from data/templates: change the text there, and not this file.
 
 pub mod big5;
 pub mod euc_kr;

@@ -1,6 +1,6 @@
 -- The table of labels: shorter ones first, and those of one length by their bytes from the last to the first.
 --
--- Written by scripts/make-encodings from data/encodings.txt: change that list and run the script, and not this file.
+-- Written by scripts/make-sources from data/templates: change the text there, and not this file.
 use Rattle.std.specs.Prelude.{ℕ, List, ◌++◌}
 use Rattle.enc_names.specs.Words.{words}
 

@@ -1,7 +1,6 @@
 //! The identifiers of the encodings.
 //!
-//! Written by scripts/make-encodings from data/encodings.txt:
-//! change that list and run the script, and not this file.
+//! Written by scripts/make-sources from data/templates: change the text there, and not this file.
 
 /// The encodings, by their names.
 #[derive(Clone, Copy, PartialEq, Eq, Hash, Debug)]

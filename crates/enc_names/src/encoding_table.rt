@@ -1,7 +1,6 @@
 //! The table of encodings: their names, codecs and properties, and the encodings of labels.
 //!
-//! Written by scripts/make-encodings from data/encodings.txt:
-//! change that list and run the script, and not this file.
+//! Written by scripts/make-sources from data/templates: change the text there, and not this file.
 
 ghost use Rattle.std.specs.Prelude.{◌≡◌};
 ghost use Rattle.enc_names.specs.EncodingTable.{codec_by_id, name_by_id, output_by_id};

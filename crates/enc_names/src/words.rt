@@ -1,7 +1,6 @@
 //! The labels of all encodings (Encoding Standard 4.2).
 //!
-//! Written by scripts/make-encodings from data/encodings.txt:
-//! change that list and run the script, and not this file.
+//! Written by scripts/make-sources from data/templates: change the text there, and not this file.
 
 /// The length in bytes of the longest label.
 pub(crate) const LONGEST: usize = 19;

@@ -2,7 +2,7 @@
 use Rattle.std.specs.Prelude.{◌≡◌, ℕ, ◌<◌, ◌⊎◌, Bool, true, false, List, [], length, Option}
 use Rattle.enc_units.specs.Validity.{IsWellFormedUtf8, AreAscii}
 use Rattle.enc_codec.specs.Properties.{IsAsciiCompatible}
-use Rattle.enc_stream.specs.declared.encoding.TheConstants.{UTF_8}
+use Rattle.enc_stream.specs.declared.constants.TheConstants.{UTF_8}
 use Rattle.enc_stream.specs.Encodings.{rule_of}
 use Rattle.enc_stream.specs.Decoding.{DecoderState, has_finished}
 use Rattle.enc_stream.specs.Latin1.{DecoderMayBeLatin1}

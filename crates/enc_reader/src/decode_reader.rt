@@ -5,7 +5,7 @@ ghost use Rattle.std.specs.Prelude.{IsUtf8, Option, Some};
 ghost use Rattle.std.specs.Prelude.{None, IfOk, OnOk, OnErr, IsErrOf, unwrap_or, IfErr};
 ghost use Rattle.enc_units.specs.Validity.{IsWellFormedUtf8};
 ghost use Rattle.enc_stream.specs.declared.bom.BomHandling.TheVariants.{Sniff};
-ghost use Rattle.enc_stream.specs.declared.encoding.TheConstants.{UTF_8};
+ghost use Rattle.enc_stream.specs.declared.constants.TheConstants.{UTF_8};
 ghost use Rattle.std.specs.Char.{encode_utf8};
 ghost use Rattle.std.specs.Io.KnownBytes.{IsAtEnd};
 ghost use Rattle.enc_stream.specs.Latin1.{DecoderMayBeLatin1};

@@ -1,5 +1,5 @@
 -- Characters that gb18030 reads back as others (Encoding Standard 10.2.2, step 5; 10.2.1).
--- Written by scripts/make-indexes from data/gb18030-private-use.txt.
+-- Written by scripts/make-sources from data/gb18030-private-use.txt.
 use Rattle.std.specs.Prelude.{ℕ, List, [], ◌∷◌}
 
 -- code points, each with that of its bytes in index gb18030

@@ -15,7 +15,7 @@ use Rattle.enc_encoder.specs.Unmappable.{any_unmappable}
 use Rattle.enc_encode.specs.Iso2022Jp.{has_class, class_of, iso_2022_jp_bytes}
 use Rattle.enc_decoder_iso_2022_jp.proofs.Iso2022JpLemmas.{differs}
 use Rattle.enc_stream.specs.declared.encoding.Encoding.{Encoding}
-use Rattle.enc_stream.specs.declared.encoding.TheConstants.{UTF_8, ISO_2022_JP}
+use Rattle.enc_stream.specs.declared.constants.TheConstants.{UTF_8, ISO_2022_JP}
 use Rattle.enc_stream.specs.Encodings.{output_rule}
 use Rattle.enc_stream.specs.Encoder.{whole_bytes}
 use Rattle.enc_stream.specs.OwnText.{AreTheirOwnText}

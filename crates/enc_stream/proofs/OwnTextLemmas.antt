@@ -28,7 +28,7 @@ use Rattle.enc_decoder_iso_2022_jp.proofs.Iso2022JpPieces.{alone_piece}
 use Rattle.enc_stream.specs.declared.bom.BomHandling.{BomHandling}
 use Rattle.enc_stream.specs.declared.bom.BomHandling.TheVariants.{Off}
 use Rattle.enc_stream.specs.declared.encoding.Encoding.{Encoding}
-use Rattle.enc_stream.specs.declared.encoding.TheConstants.{UTF_8, ISO_2022_JP}
+use Rattle.enc_stream.specs.declared.constants.TheConstants.{UTF_8, ISO_2022_JP}
 use Rattle.enc_stream.specs.Bom.{Mark, marks_looked_for, find_mark, sequences_by_mark}
 use Rattle.enc_stream.specs.LifeCycle.{encoding_of_mark_or}
 use Rattle.enc_stream.specs.MarkLaws.{bytes_after_mark}

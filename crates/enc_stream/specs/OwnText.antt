@@ -9,7 +9,7 @@ use Rattle.std.specs.Vec.{vec_capacity}
 use Rattle.enc_units.specs.Validity.{IsWellFormedUtf8, AreAscii, AreIso2022JpAscii}
 use Rattle.enc_stream.specs.declared.bom.BomHandling.{BomHandling}
 use Rattle.enc_stream.specs.declared.encoding.Encoding.{Encoding}
-use Rattle.enc_stream.specs.declared.encoding.TheConstants.{UTF_8, ISO_2022_JP}
+use Rattle.enc_stream.specs.declared.constants.TheConstants.{UTF_8, ISO_2022_JP}
 use Rattle.enc_stream.specs.Bom.{marks_looked_for, find_mark}
 use Rattle.enc_stream.specs.MarkLaws.{bytes_after_mark}
 use Rattle.enc_stream.specs.Decoding.{whole_encoding}

@@ -1,13 +1,12 @@
 //! Laws that name each label and each constant.
 //!
-//! Written by scripts/make-encodings from data/encodings.txt:
-//! change that list and run the script, and not this file.
+//! Written by scripts/make-sources from data/templates: change the text there, and not this file.
 
 ghost use Rattle.std.specs.Prelude.{◌≡◌, Some, map, length, codes};
 ghost use Rattle.enc_stream.specs.Labels.{label_pairs, encoding_of_label};
 ghost use Rattle.enc_stream.specs.Names.{name_of};
 
-use crate::encoding::*;
+use crate::constants::*;
 
 /// There are 228 labels. Each names the one encoding that it is paired with.
 pub fn labels_name_one_encoding()

@@ -1,6 +1,6 @@
 //! The ends of characters of one and two bytes.
 //!
-//! Written by scripts/make-indexes: change the script and run it, and not this file.
+//! Written by scripts/make-sources: change the script and run it, and not this file.
 
 /// The offsets at which four characters end, by a mask of the lead bytes among eight bytes.
 #[rattlefmt::skip]

@@ -1,6 +1,6 @@
 //! The places of marked code units.
 //!
-//! Written by scripts/make-indexes: change the script and run it, and not this file.
+//! Written by scripts/make-sources: change the script and run it, and not this file.
 
 /// The numbers of the bytes of eight code units that a mask marks: sixteen, the rest 0.
 #[rattlefmt::skip]

@@ -1,6 +1,6 @@
 //! The faults of two bytes in UTF-8, by their halves. A pair has those that all three tables have.
 //!
-//! Written by scripts/make-indexes: change the script and run it, and not this file.
+//! Written by scripts/make-sources: change the script and run it, and not this file.
 //!
 //! | Bit | The bytes |
 //! |---|---|

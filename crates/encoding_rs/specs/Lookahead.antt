@@ -6,7 +6,7 @@ use Rattle.enc_decoder.specs.declared.byte_codec.Kind.TheVariants.{Valid, Skippe
 use Rattle.enc_decoder.specs.Segmentation.{Rule}
 use Rattle.enc_stream.specs.declared.bom.BomHandling.{BomHandling}
 use Rattle.enc_stream.specs.declared.encoding.Encoding.{Encoding}
-use Rattle.enc_stream.specs.declared.encoding.TheConstants.{REPLACEMENT, ISO_2022_JP}
+use Rattle.enc_stream.specs.declared.constants.TheConstants.{REPLACEMENT, ISO_2022_JP}
 use Rattle.enc_stream.specs.Bom.{Mark, marks_looked_for, find_mark}
 use Rattle.enc_stream.specs.Encodings.{rule_of}
 use Rattle.enc_stream.specs.LifeCycle.{encoding_of_mark_or}

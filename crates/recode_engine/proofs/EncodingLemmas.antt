@@ -18,7 +18,7 @@ use Rattle.enc_units.specs.Results.{encoder_result_of}
 use Rattle.enc_encoder.specs.Unmappable.{any_unmappable}
 use Rattle.enc_encoder.proofs.UnmappableLemmas.{any_reported_is, any_unmappable-append}
 use Rattle.enc_stream.specs.declared.encoding.Encoding.{Encoding}
-use Rattle.enc_stream.specs.declared.encoding.TheConstants.{UTF_8}
+use Rattle.enc_stream.specs.declared.constants.TheConstants.{UTF_8}
 use Rattle.enc_stream.specs.Encodings.{output_rule}
 use Rattle.enc_stream.specs.Encoder.{EncoderState, EncodesInto, raw_state, html_mode}
 use Rattle.recode_engine.specs.Sink.{AppendsContents, AppendsPrefix}

@@ -3,7 +3,7 @@ use Rattle.std.specs.Prelude.{◌≡◌, ℕ, ◌<◌, ◌≤◌, Bool, true, Li
 use Rattle.enc_encoder.specs.declared.character_set.CharacterSet.TheVariants.{Ascii}
 use Rattle.enc_encoder.specs.Text.{bytes_of_text, with_references}
 use Rattle.enc_encoder.specs.Unmappable.{any_unmappable}
-use Rattle.enc_stream.specs.declared.encoding.TheConstants.{UTF_8}
+use Rattle.enc_stream.specs.declared.constants.TheConstants.{UTF_8}
 use Rattle.enc_stream.specs.Encoder.{EncoderState, raw_state}
 use Rattle.recode_engine.specs.Sink.{AppendsContents}
 

@@ -3,7 +3,7 @@
 ghost use Rattle.std.specs.Prelude.{◌≡◌, ◌<◌, ◌≤◌, length, take, [], true, false, chars, IsUtf8};
 ghost use Rattle.std.specs.Prelude.{IfOk, IfErr, OnOk, OnErr};
 ghost use Rattle.enc_encoder.specs.declared.character_set.CharacterSet.TheVariants.{Ascii};
-ghost use Rattle.enc_stream.specs.declared.encoding.TheConstants.{UTF_8};
+ghost use Rattle.enc_stream.specs.declared.constants.TheConstants.{UTF_8};
 ghost use Rattle.enc_stream.specs.Encoder.{fresh_encoder};
 ghost use Rattle.recode_engine.specs.Sink.{AppendsContents, AppendsPrefix};
 ghost use Rattle.enc_units.specs.Validity.{AreAscii};

@@ -1,77 +1,21 @@
 //! Texts of some 1,500 bytes, in which one call decodes many characters at once: ASCII among
 //! characters of every length, in chunks and rooms of many sizes. Expected values are by Python's
 //! codecs.
+//!
+//! The repeated words are those of the samples. The rows of single calls are by kinds of runs.
 
 use encoding_rs::run::{BomHandling, DecodeCall, decode_run};
-use encoding_rs::{
-    BIG5, CoderResult, EUC_JP, EUC_KR, Encoding, GB18030, GBK, ISO_2022_JP, SHIFT_JIS, UTF_8,
-    UTF_16BE, UTF_16LE, WINDOWS_1251, WINDOWS_1252, WINDOWS_1253,
-};
+use encoding_rs::{CoderResult, Encoding, UTF_16LE, WINDOWS_1252, WINDOWS_1253};
 use std::alloc::Global;
 use std::process::Abort;
 use std::test::Fail;
+use test_support::samples::{Decoded, samples};
 
 /// How many times each text is repeated.
 const TIMES: usize = 64;
 
 /// More calls than any text here takes.
 const MOST_CALLS: usize = 8192;
-
-/// An encoding, the bytes of a text, and the text.
-type Row = (Encoding, &'static [u8], &'static str);
-
-const ROWS: &[Row] = &[
-    (
-        UTF_8,
-        b"a\xC3\xA9\xE2\x82\xAC\xF0\x9F\x92\xA9 \xE6\x97\xA5\xE6\x9C\xAC\xE8\xAA\x9E \
-            \xD0\xB4\xD0\xB0",
-        "aé€💩 日本語 да",
-    ),
-    (
-        UTF_16LE,
-        b"a\x00\xE9\x00\xAC =\xD8\xA9\xDC \x00\xE5e,g\x9E\x8A \x004\x040\x04",
-        "aé€💩 日本語 да",
-    ),
-    (
-        UTF_16BE,
-        b"\x00a\x00\xE9 \xAC\xD8=\xDC\xA9\x00 e\xE5g,\x8A\x9E\x00 \x044\x040",
-        "aé€💩 日本語 да",
-    ),
-    (
-        WINDOWS_1252,
-        b"d\xE9j\xE0 vu 12 \x80 abcdefghijkl",
-        "déjà vu 12 € abcdefghijkl",
-    ),
-    (WINDOWS_1251, b"\xE4\xE0 vu \x88", "да vu €"),
-    (
-        EUC_KR,
-        b"\xB0\xA1\xB3\xAA abc \xC7\xD1\xB1\xDB \x8Cc",
-        "가나 abc 한글 똠",
-    ),
-    (
-        SHIFT_JIS,
-        b"\x93\xFA\x96{\x8C\xEA abc \xB1\xB2\x81B",
-        "日本語 abc ｱｲ。",
-    ),
-    (
-        EUC_JP,
-        b"\xC6\xFC\xCB\xDC\xB8\xEC abc \x8E\xB1\x8F\xB0\xA1",
-        "日本語 abc ｱ丂",
-    ),
-    (
-        ISO_2022_JP,
-        b"\x1B$BF|K\\8lF|K\\8lF|K\\8lF|K\\8lF|K\\8lF|K\\8lF|K\\8lF|K\\8lF|K\\8l\
-            F|K\\8lF|K\\8lF|K\\8l\x1B(B abc ",
-        "日本語日本語日本語日本語日本語日本語日本語日本語日本語日本語日本語日本語 abc ",
-    ),
-    (
-        GB18030,
-        b"\xD6\xD0\xCE\xC4 abc \xA1\xA3\xA2\xE3\x810\x810",
-        "中文 abc 。€\u{80}",
-    ),
-    (GBK, b"\xD6\xD0\xCE\xC4 abc \xA1\xA3\x80", "中文 abc 。€"),
-    (BIG5, b"\xA4\xA4\xA4\xE5 abc \x88b\xA1C", "中文 abc Ê\u{304}。"),
-];
 
 /// The number of bytes that each call gets, and of code units that it has room for.
 const CALLS: &[(usize, usize)] = &[
@@ -83,15 +27,14 @@ const CALLS: &[(usize, usize)] = &[
     (7, 40),
 ];
 
-/// Decodes each text, repeated, in calls of this size, into UTF-8 or UTF-16.
-fn decode_row(
+/// Decodes words, repeated, in calls of this size, into UTF-8 or UTF-16.
+fn decode_words(
     rt: &impl Abort,
     alloc: Global,
-    row: &Row,
+    (encoding, (bytes, text)): (Encoding, Decoded),
     utf16: bool,
     (offer, room): (usize, usize),
 ) -> Result<(), Fail> {
-    let (encoding, bytes, text) = *row;
     let mut src = Vec::new(alloc);
     let mut want = String::new(alloc);
     for _ in 0..TIMES {
@@ -116,12 +59,24 @@ fn decode_row(
     Ok(())
 }
 
+/// Decodes words in calls of each size, into UTF-8 and UTF-16.
+fn decode_in_each_size(
+    rt: &impl Abort,
+    alloc: Global,
+    words: (Encoding, Decoded),
+) -> Result<(), Fail> {
+    for size in CALLS {
+        decode_words(rt, alloc, words, false, *size)?;
+        decode_words(rt, alloc, words, true, *size)?;
+    }
+    Ok(())
+}
+
 #[test]
 fn long_texts_are_read_as_their_characters(rt: HostRuntime) -> Result<(), Fail> {
-    for row in ROWS {
-        for size in CALLS {
-            decode_row(&rt, rt.alloc(), row, false, *size)?;
-            decode_row(&rt, rt.alloc(), row, true, *size)?;
+    for sample in samples() {
+        for words in sample.words {
+            decode_in_each_size(&rt, rt.alloc(), (sample.encoding, *words))?;
         }
     }
     Ok(())

@@ -1,7 +1,7 @@
 //! The outputs of a decoder (UTF-16, `str` and `String`), runs of calls into several of them, and
 //! Latin-1 prefixes. Expected values are by hand from the Encoding Standard.
 //!
-//! Rows by codec are written by scripts/make-codecs from data/codecs.txt.
+//! Long runs are of all samples. The other rows are by what a call meets, and not by codec.
 
 use encoding_rs::run::{BomHandling, DecodeCall, decode_run};
 use encoding_rs::*;
@@ -13,6 +13,7 @@ use test_support::decoding::{
     run_chunks, run_cut,
 };
 use test_support::encodings::table;
+use test_support::samples::samples;
 
 const EMPTY: DecoderResult = DecoderResult::InputEmpty;
 
@@ -493,28 +494,11 @@ fn compare_long(
     Ok(())
 }
 
-/// An encoding of each codec that has characters of its own; of the single-byte ones, one that is
-/// full and one that is not.
-const OF_EACH_CODEC: &[Encoding] = &[
-    UTF_8,
-    UTF_16BE,
-    UTF_16LE,
-    WINDOWS_1252,
-    WINDOWS_1257,
-    X_USER_DEFINED,
-    BIG5,
-    EUC_KR,
-    SHIFT_JIS,
-    EUC_JP,
-    GB18030,
-    ISO_2022_JP,
-];
-
 #[test]
 fn long_runs_come_to_what_single_bytes_come_to(rt: HostRuntime) -> Result<(), Fail> {
     let bytes = long_input(rt.alloc())?;
-    for encoding in OF_EACH_CODEC {
-        compare_long(&rt, rt.alloc(), *encoding, bytes.as_slice())?;
+    for sample in samples() {
+        compare_long(&rt, rt.alloc(), sample.encoding, bytes.as_slice())?;
     }
     Ok(())
 }

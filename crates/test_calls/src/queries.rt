@@ -1,18 +1,20 @@
 //! Length queries of decoders, with the formulas of their codecs computed by hand: in every state,
 //! and at the greatest lengths that have an answer.
 //!
-//! Rows by codec are written by scripts/make-codecs from data/codecs.txt.
+//! Those of decoders that look for no byte order mark are of the samples. The rows here are by the
+//! bytes of marks, and not by codec.
 
 use encoding_rs::run::BomHandling;
 use encoding_rs::{
-    BIG5, CoderResult, Decoder, DecoderResult, EUC_JP, EUC_KR, Encoding, GB18030, GBK, ISO_2022_JP,
-    KOI8_R, REPLACEMENT, SHIFT_JIS, UTF_8, UTF_16BE, UTF_16LE, WINDOWS_1252, X_USER_DEFINED,
+    CoderResult, Decoder, DecoderResult, Encoding, KOI8_R, REPLACEMENT, SHIFT_JIS, UTF_8, UTF_16BE,
+    UTF_16LE, WINDOWS_1252, X_USER_DEFINED,
 };
 use std::process::Abort;
 use std::test::Fail;
 use test_support::decoding::{
     Call, ReportingCall, make_calls_of, make_reporting_calls_of, new_decoder,
 };
+use test_support::samples::{DecoderLengths, Limit, samples};
 
 const EMPTY: CoderResult = CoderResult::InputEmpty;
 
@@ -26,15 +28,12 @@ const REMOVE: BomHandling = BomHandling::Remove;
 
 const MAX: usize = usize::MAX;
 
-/// The lengths for calls into UTF-8 with replacement, for those without, and for calls into UTF-16.
-type Lengths = (Option<usize>, Option<usize>, Option<usize>);
-
 /// An encoding, the byte order marks looked for, and the bytes read; then a number of bytes, and
 /// the lengths for these.
-type QueryRow = (Encoding, BomHandling, &'static [u8], usize, Lengths);
+type QueryRow = (Encoding, BomHandling, &'static [u8], usize, DecoderLengths);
 
 /// Returns the lengths of a decoder for `bytes` more bytes.
-fn lengths(rt: &impl Abort, decoder: &Decoder, bytes: usize) -> Lengths {
+fn lengths(rt: &impl Abort, decoder: &Decoder, bytes: usize) -> DecoderLengths {
     assert!(rt; !decoder.is_finished());
     (
         decoder.max_utf8_buffer_length(bytes),
@@ -57,65 +56,24 @@ fn decoder_after(
     decoder
 }
 
-/// Compares a decoder's lengths with each row.
-fn compare_lengths(rt: &impl Abort, rows: &[QueryRow]) {
-    for (encoding, handling, bytes, more, want) in rows {
-        let decoder = decoder_after(rt, (*encoding, *handling), bytes);
-        let answers = lengths(rt, &decoder, *more);
-        assert!(rt; answers == *want, "{encoding:?} {bytes:?} {more}");
-    }
+/// Compares a decoder's lengths with a row.
+fn compare_lengths(rt: &impl Abort, row: &QueryRow) {
+    let (encoding, handling, bytes, more, want) = *row;
+    let decoder = decoder_after(rt, (encoding, handling), bytes);
+    let answers = lengths(rt, &decoder, more);
+    assert!(rt; answers == want, "{encoding:?} {bytes:?} {more}");
 }
-
-const OWN_ROWS: &[QueryRow] = &[
-    (UTF_8, OFF, b"", 0, (Some(3), Some(3), Some(1))),
-    (UTF_8, OFF, b"", 2, (Some(9), Some(5), Some(3))),
-    (UTF_8, OFF, b"\xE2", 2, (Some(12), Some(6), Some(4))),
-    (UTF_8, OFF, b"\xF0\x9F\x92", 1, (Some(15), Some(7), Some(5))),
-    (UTF_16LE, OFF, b"", 0, (Some(1), Some(1), Some(1))),
-    (UTF_16LE, OFF, b"", 3, (Some(7), Some(7), Some(3))),
-    (UTF_16LE, OFF, b"\x3D", 0, (Some(4), Some(4), Some(2))),
-    (
-        UTF_16LE,
-        OFF,
-        b"\x3D\xD8\xA9",
-        1,
-        (Some(7), Some(7), Some(3)),
-    ),
-    (UTF_16BE, OFF, b"", 4, (Some(7), Some(7), Some(3))),
-    (UTF_16BE, OFF, b"\xD8\x3D", 1, (Some(7), Some(7), Some(3))),
-    (WINDOWS_1252, OFF, b"", 0, (Some(0), Some(0), Some(0))),
-    (WINDOWS_1252, OFF, b"\xE9", 5, (Some(15), Some(15), Some(5))),
-    (KOI8_R, OFF, b"", 5, (Some(15), Some(15), Some(5))),
-    (X_USER_DEFINED, OFF, b"", 5, (Some(15), Some(15), Some(5))),
-    (REPLACEMENT, OFF, b"", 0, (Some(3), Some(3), Some(1))),
-    (REPLACEMENT, OFF, b"\x41", 9, (Some(3), Some(3), Some(1))),
-    (BIG5, OFF, b"\xA4", 2, (Some(9), Some(9), Some(3))),
-    (EUC_KR, OFF, b"\xB0", 2, (Some(9), Some(9), Some(3))),
-    (SHIFT_JIS, OFF, b"\x83", 2, (Some(9), Some(9), Some(3))),
-    (EUC_JP, OFF, b"\x8F\xB0", 2, (Some(12), Some(12), Some(4))),
-    (GBK, OFF, b"\x81\x30", 2, (Some(12), Some(12), Some(4))),
-    (
-        GB18030,
-        OFF,
-        b"\x81\x30\x81",
-        1,
-        (Some(12), Some(12), Some(4)),
-    ),
-    (GB18030, OFF, b"", 4, (Some(12), Some(12), Some(4))),
-    (ISO_2022_JP, OFF, b"", 4, (Some(12), Some(12), Some(4))),
-    (ISO_2022_JP, OFF, b"\x1B", 1, (Some(6), Some(6), Some(2))),
-    (
-        ISO_2022_JP,
-        OFF,
-        b"\x1B\x28\x4A",
-        1,
-        (Some(12), Some(12), Some(4)),
-    ),
-];
 
 #[test]
 fn each_codec_has_its_formulas(rt: HostRuntime) {
-    compare_lengths(&rt, OWN_ROWS);
+    for sample in samples() {
+        for (bytes, more, want) in sample.decoder_lengths {
+            compare_lengths(&rt, &(sample.encoding, OFF, *bytes, *more, *want));
+        }
+    }
+    // a single-byte encoding without a sample
+    let want = (Some(15), Some(15), Some(5));
+    compare_lengths(&rt, &(KOI8_R, OFF, b"", 5, want));
 }
 
 const MARK_ROWS: &[QueryRow] = &[
@@ -197,97 +155,15 @@ const MARK_ROWS: &[QueryRow] = &[
 
 #[test]
 fn a_mark_that_may_come_counts(rt: HostRuntime) {
-    compare_lengths(&rt, MARK_ROWS);
+    for row in MARK_ROWS {
+        compare_lengths(&rt, row);
+    }
 }
 
-/// The greatest number of bytes that has a length, and this length.
-type Limit = (usize, usize);
-
-/// The limit for each of the calls of `Lengths`.
+/// The limit for each of the calls of `DecoderLengths`.
 type LimitRow = (Encoding, BomHandling, &'static [u8], (Limit, Limit, Limit));
 
 const LIMIT_ROWS: &[LimitRow] = &[
-    (
-        UTF_8,
-        OFF,
-        b"",
-        (
-            (6_148_914_691_236_517_204, MAX),
-            (MAX - 3, MAX),
-            (MAX - 1, MAX),
-        ),
-    ),
-    (
-        UTF_8,
-        OFF,
-        b"\xE2",
-        (
-            (6_148_914_691_236_517_203, MAX),
-            (MAX - 4, MAX),
-            (MAX - 2, MAX),
-        ),
-    ),
-    (
-        UTF_16LE,
-        OFF,
-        b"",
-        (
-            (12_297_829_382_473_034_408, MAX - 2),
-            (12_297_829_382_473_034_408, MAX - 2),
-            (MAX - 1, 9_223_372_036_854_775_808),
-        ),
-    ),
-    (
-        UTF_16BE,
-        OFF,
-        b"\xD8",
-        (
-            (12_297_829_382_473_034_407, MAX - 2),
-            (12_297_829_382_473_034_407, MAX - 2),
-            (MAX - 2, 9_223_372_036_854_775_808),
-        ),
-    ),
-    (
-        WINDOWS_1252,
-        OFF,
-        b"",
-        (
-            (6_148_914_691_236_517_205, MAX),
-            (6_148_914_691_236_517_205, MAX),
-            (MAX, MAX),
-        ),
-    ),
-    (
-        X_USER_DEFINED,
-        OFF,
-        b"",
-        (
-            (6_148_914_691_236_517_205, MAX),
-            (6_148_914_691_236_517_205, MAX),
-            (MAX, MAX),
-        ),
-    ),
-    (REPLACEMENT, OFF, b"", ((MAX, 3), (MAX, 3), (MAX, 1))),
-    (
-        SHIFT_JIS,
-        OFF,
-        b"",
-        (
-            (6_148_914_691_236_517_205, MAX),
-            (6_148_914_691_236_517_205, MAX),
-            (MAX, MAX),
-        ),
-    ),
-    (
-        GB18030,
-        OFF,
-        b"\x81\x30\x81",
-        (
-            (6_148_914_691_236_517_202, MAX),
-            (6_148_914_691_236_517_202, MAX),
-            (MAX - 3, MAX),
-        ),
-    ),
     (
         WINDOWS_1252,
         SNIFF,
@@ -379,6 +255,15 @@ fn compare_limits(rt: &impl Abort, decoder: &Decoder, limits: (Limit, Limit, Lim
 
 #[test]
 fn no_length_passes_the_greatest_number(rt: HostRuntime) {
+    for sample in samples() {
+        for (bytes, limits) in sample.decoder_limits {
+            compare_limits(
+                &rt,
+                &decoder_after(&rt, (sample.encoding, OFF), bytes),
+                *limits,
+            );
+        }
+    }
     for (encoding, handling, bytes, limits) in LIMIT_ROWS {
         let decoder = decoder_after(&rt, (*encoding, *handling), bytes);
         compare_limits(&rt, &decoder, *limits);

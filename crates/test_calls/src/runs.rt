@@ -2,7 +2,7 @@
 //! once. Its answer has to be that for single bytes, in any room. The texts are by hand from the
 //! Encoding Standard.
 //!
-//! Rows by codec are written by scripts/make-codecs from data/codecs.txt.
+//! The other bytes are those of the samples.
 
 use encoding_rs::run::BomHandling;
 use encoding_rs::*;
@@ -12,6 +12,7 @@ use std::test::Fail;
 use test_support::decoding::{
     ALL_OUTPUTS, Input, MOST_ROOM, Output, Use, compare_offers, make_calls, new_decoder,
 };
+use test_support::samples::{Among, Sample, samples};
 
 /// The length of each input here, in bytes.
 const LENGTH: usize = 40;
@@ -204,141 +205,65 @@ fn around(
     Ok(made)
 }
 
-/// Bytes among units of a text.
-#[derive(Clone, Copy)]
-struct Among<'a> {
-    encoding: Encoding,
-    /// The bytes of the character a in the encoding.
-    unit: &'a [u8],
-    bytes: &'a [u8],
-    /// Their text, and the number of malformed sequences in them.
-    text: &'a str,
-    malformed: usize,
-}
-
-/// Compares them at each offset among as many a's as make the length.
-fn compare_places(rt: &impl Abort, alloc: Global, among: &Among<'_>) -> Result<(), Fail> {
-    let units = LENGTH
-        .saturating_sub(among.bytes.len())
-        .checked_div(among.unit.len())
+/// Compares bytes at each offset among as many a's as make the length.
+fn compare_places(
+    rt: &impl Abort,
+    alloc: Global,
+    sample: &Sample,
+    (bytes, text, malformed): Among,
+) -> Result<(), Fail> {
+    let letter = sample.letter;
+    let letters = LENGTH
+        .saturating_sub(bytes.len())
+        .checked_div(letter.len())
         .unwrap_or(0);
-    assert!(rt; units > 0);
-    for front in 0..units + 1 {
-        let back = units.saturating_sub(front);
-        let bytes = around(alloc, among.unit, front, among.bytes, back)?;
-        let text = around(alloc, b"a", front, among.text.as_bytes(), back)?;
-        let places = [(front.saturating_mul(among.unit.len()), among.malformed)];
+    assert!(rt; letters > 0);
+    for front in 0..letters + 1 {
+        let back = letters.saturating_sub(front);
+        let src = around(alloc, letter, front, bytes, back)?;
+        let want = around(alloc, b"a", front, text.as_bytes(), back)?;
+        let places = [(front.saturating_mul(letter.len()), malformed)];
         let input = Input {
-            bytes: bytes.as_slice(),
-            text: text.as_slice(),
-            malformed: if among.malformed > 0 { &places } else { &[] },
-            room: among.text.len().max(1),
+            bytes: src.as_slice(),
+            text: want.as_slice(),
+            malformed: if malformed > 0 { &places } else { &[] },
+            room: text.len().max(1),
         };
-        compare_rooms(rt, alloc, among.encoding, &input)?;
+        compare_rooms(rt, alloc, sample.encoding, &input)?;
     }
     Ok(())
 }
 
-const BYTES: &[(Encoding, &str, usize)] = &[
-    (UTF_8, "\u{FFFD}", 1),
-    (WINDOWS_1252, "€", 0),
-    (X_USER_DEFINED, "\u{F780}", 0),
-    (BIG5, "\u{FFFD}", 1),
-    (EUC_KR, "\u{FFFD}", 1),
-    (SHIFT_JIS, "\u{80}", 0),
-    (EUC_JP, "\u{FFFD}", 1),
-    (GB18030, "€", 0),
-];
-
 #[test]
-fn a_byte_among_ascii_is_met_at_each_place(rt: HostRuntime) -> Result<(), Fail> {
-    for (encoding, text, malformed) in BYTES {
-        let among = Among {
-            encoding: *encoding,
-            unit: b"a",
-            bytes: b"\x80",
-            text,
-            malformed: *malformed,
-        };
-        compare_places(&rt, rt.alloc(), &among)?;
+fn a_character_among_letters_is_met_at_each_place(rt: HostRuntime) -> Result<(), Fail> {
+    for sample in samples() {
+        for (bytes, text) in sample.characters {
+            compare_places(&rt, rt.alloc(), &sample, (*bytes, *text, 0))?;
+        }
     }
     Ok(())
 }
 
-const CHARACTERS: &[(Encoding, &[u8], &str)] = &[
-    (UTF_8, b"\xC3\xA9", "é"),
-    (UTF_8, b"\xE2\x82\xAC", "€"),
-    (UTF_8, b"\xF0\x9F\x92\xA9", "💩"),
-    (BIG5, b"\xA4\x40", "一"),
-    (EUC_KR, b"\xB0\xA1", "가"),
-    (SHIFT_JIS, b"\x83\x6E", "ハ"),
-    (EUC_JP, b"\x8F\xB0\xA1", "丂"),
-    (GB18030, b"\xD6\xD0", "中"),
-    (GB18030, b"\x90\x30\x81\x30", "\u{10000}"),
-];
-
 #[test]
-fn a_character_among_ascii_is_met_at_each_place(rt: HostRuntime) -> Result<(), Fail> {
-    for (encoding, bytes, text) in CHARACTERS {
-        let among = Among {
-            encoding: *encoding,
-            unit: b"a",
-            bytes,
-            text,
-            malformed: 0,
-        };
-        compare_places(&rt, rt.alloc(), &among)?;
+fn a_malformed_sequence_among_letters_is_met_at_each_place(rt: HostRuntime) -> Result<(), Fail> {
+    for sample in samples() {
+        if sample.letter.is_empty() {
+            continue;
+        }
+        for bytes in sample.malformed {
+            let among = (*bytes, "\u{FFFD}", bytes.len());
+            compare_places(&rt, rt.alloc(), &sample, among)?;
+        }
     }
     Ok(())
 }
 
-const SURROGATES: &[(Encoding, &[u8], &[u8], &str, usize)] = &[
-    (UTF_16LE, b"a\0", b"\x3D\xD8", "\u{FFFD}", 2),
-    (UTF_16LE, b"a\0", b"\xA9\xDC", "\u{FFFD}", 2),
-    (UTF_16LE, b"a\0", b"\x3D\xD8\xA9\xDC", "💩", 0),
-    (UTF_16BE, b"\0a", b"\xD8\x3D", "\u{FFFD}", 2),
-    (UTF_16BE, b"\0a", b"\xDC\xA9", "\u{FFFD}", 2),
-    (UTF_16BE, b"\0a", b"\xD8\x3D\xDC\xA9", "💩", 0),
-];
-
 #[test]
-fn a_surrogate_among_units_is_met_at_each_place(rt: HostRuntime) -> Result<(), Fail> {
-    for (encoding, unit, bytes, text, malformed) in SURROGATES {
-        let among = Among {
-            encoding: *encoding,
-            unit,
-            bytes,
-            text,
-            malformed: *malformed,
-        };
-        compare_places(&rt, rt.alloc(), &among)?;
-    }
-    Ok(())
-}
-
-const ESCAPES: &[(&[u8], &str, usize)] = &[
-    // to the Roman set and to katakana, and back
-    (b"\x1B(J\\\x1B(B", "¥", 0),
-    (b"\x1B(I1\x1B(B", "ｱ", 0),
-    // to JIS X 0208 and back
-    (b"\x1B$B$\"\x1B(B", "あ", 0),
-    // to the Roman set, where it stays
-    (b"\x1B(J", "", 0),
-    // no escape sequence
-    (b"\x1B", "\u{FFFD}", 1),
-];
-
-#[test]
-fn an_escape_among_ascii_is_met_at_each_place(rt: HostRuntime) -> Result<(), Fail> {
-    for (bytes, text, malformed) in ESCAPES {
-        let among = Among {
-            encoding: ISO_2022_JP,
-            unit: b"a",
-            bytes,
-            text,
-            malformed: *malformed,
-        };
-        compare_places(&rt, rt.alloc(), &among)?;
+fn another_sequence_among_letters_is_met_at_each_place(rt: HostRuntime) -> Result<(), Fail> {
+    for sample in samples() {
+        for among in sample.others {
+            compare_places(&rt, rt.alloc(), &sample, *among)?;
+        }
     }
     Ok(())
 }

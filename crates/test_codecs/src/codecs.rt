@@ -1,6 +1,6 @@
-//! The examples of each codec, in a module of its own.
+//! The examples of each codec, in a module of its decoder.
 //!
-//! Rows by codec are written by scripts/make-codecs from data/codecs.txt.
+//! Written by scripts/make-sources from data/templates: change the text there, and not this file.
 
 mod big5;
 mod euc_jp;

@@ -1,45 +1,54 @@
 //! The decoders of codecs by name: their calls without replacement, the bytes that they hold, and
-//! their length queries. Expected values are by hand from the Encoding Standard (8 to 14) and from
-//! the formulas of the codecs.
-//!
-//! Rows by codec are written by scripts/make-codecs from data/codecs.txt.
+//! their length queries. The rows are those of the samples.
 
-use enc_codec::{Codec, DecoderResult, NewDecoder, RawDecoder, SingleByteIndex, VariantDecoder};
+use enc_codec::{Codec, DecoderResult, NewDecoder, RawDecoder, VariantDecoder};
 use enc_units::Utf8Slice;
 use std::process::Abort;
 use std::test::Fail;
 use test_support::decoding::raw_calls::{end, hold};
+use test_support::samples::{Decoded, DecoderLengthsRow, samples};
 
 #[test]
 fn each_codec_decodes_a_character(rt: HostRuntime) -> Result<(), Fail> {
-    end(&mut Codec::Utf8.new_decoder(), &[0xC3, 0xA9], "é")?;
-    end(&mut Codec::Utf16Be.new_decoder(), &[0x00, 0xE9], "é")?;
-    end(&mut Codec::Utf16Le.new_decoder(), &[0xE9, 0x00], "é")?;
-    let mut decoder = Codec::SingleByte(SingleByteIndex::Windows1252).new_decoder();
-    end(&mut decoder, &[0xE9], "é")?;
-    end(&mut Codec::XUserDefined.new_decoder(), &[0xE9], "\u{F7E9}")?;
-    let mut decoder = Codec::Iso2022Jp.new_decoder();
-    end(&mut decoder, b"\x1B(J\x5C", "¥")
+    for sample in samples() {
+        for (bytes, text) in sample.characters {
+            end(&mut sample.codec.new_decoder(), bytes, text)?;
+        }
+    }
+    Ok(())
 }
 
-/// The decoder holds each of the bytes.
-fn hold_three(rt: &impl Abort, mut decoder: VariantDecoder, bytes: [u8; 3]) -> Result<(), Fail> {
+/// Passes the bytes of a character one by one. The decoder holds each but the last, and then has
+/// the character.
+fn decode_in_turn(
+    rt: &impl Abort,
+    mut decoder: VariantDecoder,
+    (bytes, text): Decoded,
+) -> Result<(), Fail> {
     assert!(rt; decoder.held() == 0);
-    hold(&mut decoder, &bytes[..1], 1)?;
-    hold(&mut decoder, &bytes[1..2], 2)?;
-    hold(&mut decoder, &bytes[2..], 3)
+    let Some((last, front)) = bytes.split_last() else {
+        return Err("a character has no bytes".into());
+    };
+    let mut held = 0_usize;
+    for byte in front {
+        held = held.saturating_add(1);
+        hold(&mut decoder, &[*byte], held)?;
+    }
+    end(&mut decoder, &[*last], text)
 }
 
 #[test]
 fn counts_what_it_holds(rt: HostRuntime) -> Result<(), Fail> {
-    hold_three(&rt, Codec::Utf8.new_decoder(), [0xF0, 0x9F, 0x92])?;
-    hold_three(&rt, Codec::Utf16Be.new_decoder(), [0xD8, 0x3D, 0xDC])?;
-    hold_three(&rt, Codec::Utf16Le.new_decoder(), [0x3D, 0xD8, 0xA9])?;
-    hold_three(&rt, Codec::Iso2022Jp.new_decoder(), [0x1B, 0x28, 0x42])
+    for sample in samples() {
+        for character in sample.characters {
+            decode_in_turn(&rt, sample.codec.new_decoder(), *character)?;
+        }
+    }
+    Ok(())
 }
 
-/// Makes a call with malformed bytes, which reports them, or returns that U+FFFD does not fit. It
-/// writes nothing.
+/// Makes a call with a malformed sequence, which reports it, or returns that U+FFFD does not fit.
+/// It writes nothing.
 fn call_with_malformed(
     rt: &impl Abort,
     codec: Codec,
@@ -52,88 +61,52 @@ fn call_with_malformed(
     let mut out = Utf8Slice::new(&mut dst[..room]);
     let mut decoder = codec.new_decoder();
     let outcome = decoder.decode(src, &mut out, true, fault_room);
-    assert!(rt; outcome == want);
+    assert!(rt; outcome == want, "{src:?} {room} {fault_room}");
     assert!(rt; out.len() == 0);
+}
+
+/// A malformed sequence is reported at its last byte: with `fault_room` where U+FFFD fits, and
+/// without it in any room.
+fn report_malformed(rt: &impl Abort, codec: Codec, src: &[u8]) {
+    assert!(rt; 0 < src.len() && src.len() <= 4, "{src:?}");
+    let whole = (DecoderResult::Malformed(src.len() as u8, 0), src.len());
+    let full = (DecoderResult::OutputFull, src.len().saturating_sub(1));
+    call_with_malformed(rt, codec, src, (2, true), full);
+    call_with_malformed(rt, codec, src, (3, true), whole);
+    call_with_malformed(rt, codec, src, (0, false), whole);
+    call_with_malformed(rt, codec, src, (4, false), whole);
 }
 
 #[test]
 fn reports_where_the_replacement_fits(rt: HostRuntime) {
-    let full = DecoderResult::OutputFull;
-    let one = (DecoderResult::Malformed(1, 0), 1);
-    for (codec, byte) in [
-        (Codec::Utf8, 0xFF),
-        (Codec::Replacement, 0x41),
-        (Codec::Iso2022Jp, 0x0E),
-    ] {
-        call_with_malformed(&rt, codec, &[byte], (2, true), (full, 0));
-        call_with_malformed(&rt, codec, &[byte], (3, true), one);
-        call_with_malformed(&rt, codec, &[byte], (0, false), one);
+    for sample in samples() {
+        for src in sample.malformed {
+            report_malformed(&rt, sample.codec, src);
+        }
     }
-    call_with_malformed(&rt, Codec::Replacement, &[0xE9], (4, false), one);
-    let two = (DecoderResult::Malformed(2, 0), 2);
-    call_with_malformed(&rt, Codec::Utf16Le, &[0x00, 0xDC], (2, true), (full, 1));
-    call_with_malformed(&rt, Codec::Utf16Le, &[0x00, 0xDC], (3, true), two);
 }
 
-/// The lengths for calls into UTF-8 with replacement, for those without, and for calls into UTF-16.
-type Lengths = (Option<usize>, Option<usize>, Option<usize>);
-
-/// A codec and the bytes that its decoder has read; then a number of bytes, and the lengths for
-/// these.
-type LengthsRow = (Codec, &'static [u8], usize, Lengths);
-
-const LENGTHS_ROWS: &[LengthsRow] = &[
-    (Codec::Utf8, b"", 2, (Some(9), Some(5), Some(3))),
-    (Codec::Utf8, b"\xE2", 2, (Some(12), Some(6), Some(4))),
-    (
-        Codec::Utf16Be,
-        b"\xD8\x3D\xDC",
-        1,
-        (Some(7), Some(7), Some(3)),
-    ),
-    (Codec::Utf16Le, b"", 3, (Some(7), Some(7), Some(3))),
-    (
-        Codec::SingleByte(SingleByteIndex::Windows1252),
-        b"",
-        5,
-        (Some(15), Some(15), Some(5)),
-    ),
-    (Codec::XUserDefined, b"", 5, (Some(15), Some(15), Some(5))),
-    (Codec::Replacement, b"", 9, (Some(3), Some(3), Some(1))),
-    (Codec::Big5, b"\xA4", 2, (Some(9), Some(9), Some(3))),
-    (Codec::EucKr, b"\xB0", 2, (Some(9), Some(9), Some(3))),
-    (Codec::ShiftJis, b"\x83", 2, (Some(9), Some(9), Some(3))),
-    (Codec::EucJp, b"\x8F\xB0", 2, (Some(12), Some(12), Some(4))),
-    (Codec::Gbk, b"\x81\x30", 2, (Some(12), Some(12), Some(4))),
-    (
-        Codec::Gb18030,
-        b"\x81\x30\x81",
-        1,
-        (Some(12), Some(12), Some(4)),
-    ),
-    (
-        Codec::Iso2022Jp,
-        b"\x1B\x28\x4A",
-        1,
-        (Some(12), Some(12), Some(4)),
-    ),
-    (Codec::Utf8, b"\xE2", usize::MAX, (None, None, None)),
-    (Codec::Iso2022Jp, b"\x1B", usize::MAX, (None, None, None)),
-];
+/// Compares the lengths of a decoder that has read the bytes of a row.
+fn compare_lengths(rt: &impl Abort, codec: Codec, row: &DecoderLengthsRow) {
+    let (bytes, more, want) = *row;
+    let mut decoder = codec.new_decoder();
+    let mut buffer = [0; 16];
+    let mut out = Utf8Slice::new(&mut buffer);
+    let (result, read, _) = decoder.decode_replacing(bytes, &mut out, false);
+    assert!(rt; (result, read) == (DecoderResult::InputEmpty, bytes.len()));
+    let answers = (
+        decoder.max_utf8_buffer_length(more),
+        decoder.max_utf8_buffer_length_without_replacement(more),
+        decoder.max_utf16_buffer_length(more),
+    );
+    assert!(rt; answers == want, "{bytes:?} {more}");
+}
 
 #[test]
 fn decoders_by_themselves_tell_lengths(rt: HostRuntime) {
-    for (codec, bytes, more, want) in LENGTHS_ROWS {
-        let mut decoder = codec.new_decoder();
-        let mut buffer = [0; 16];
-        let mut out = Utf8Slice::new(&mut buffer);
-        let (result, read) = decoder.decode(bytes, &mut out, false, false);
-        assert!(rt; (result, read) == (DecoderResult::InputEmpty, bytes.len()));
-        let answers = (
-            decoder.max_utf8_buffer_length(*more),
-            decoder.max_utf8_buffer_length_without_replacement(*more),
-            decoder.max_utf16_buffer_length(*more),
-        );
-        assert!(rt; answers == *want, "{bytes:?} {more}");
+    for sample in samples() {
+        for row in sample.decoder_lengths {
+            compare_lengths(&rt, sample.codec, row);
+        }
     }
 }

@@ -1,10 +1,9 @@
-//! The encoders (Encoding Standard 8 to 14): rows of texts and bytes, single calls, and a sum over
-//! the answers for single characters in every encoding.
+//! The encoders (Encoding Standard 8 to 14): the texts of samples and their bytes, single calls,
+//! and a sum over the answers for single characters in every encoding.
 //!
-//! The bytes of texts are those of Python's codecs (cp932, euc_jp, cp949, big5hkscs, gb18030,
-//! iso2022_jp), of Node's TextEncoder for UTF-8, and by hand from the standard's encoders where
-//! these differ: U+00A5, U+203E and U+2212 in the Japanese encodings, references, and where escape
-//! sequences stand.
+//! The bytes of single calls are those of Python's codecs, of Node's TextEncoder for UTF-8, and by
+//! hand from the standard's encoders, for references, and where escape sequences stand. Rows of
+//! single calls are by what a call meets, and not by codec.
 
 mod barred;
 mod long_texts;
@@ -16,140 +15,55 @@ mod runs;
 mod sums;
 mod utf_8;
 
-use encoding_rs::{
-    BIG5, EUC_JP, EUC_KR, EncoderResult, Encoding, GB18030, GBK, ISO_2022_JP, REPLACEMENT,
-    SHIFT_JIS, UTF_8, UTF_16BE, UTF_16LE, WINDOWS_1252, WINDOWS_1257, X_USER_DEFINED,
-};
+use encoding_rs::{EncoderResult, Encoding, GB18030, ISO_2022_JP, SHIFT_JIS, UTF_8, WINDOWS_1252};
+use std::alloc::Global;
 use std::test::Fail;
 use test_support::encoding::call_rows::{EncoderCall, make_call_from_utf16, make_encoder_calls};
-use test_support::encoding::runs::{EncoderRow, compare_encoded};
+use test_support::encoding::runs::compare_encoded;
+use test_support::samples::{Sample, samples};
 
 const EMPTY: EncoderResult = EncoderResult::InputEmpty;
 
 const FULL: EncoderResult = EncoderResult::OutputFull;
 
-const UTF_8_ROWS: &[EncoderRow] = &[
-    ("", b""),
-    ("aé€💩", b"a\xC3\xA9\xE2\x82\xAC\xF0\x9F\x92\xA9"),
-    (
-        "\u{0}\u{7F}\u{80}\u{FFFF}\u{10FFFF}",
-        b"\x00\x7F\xC2\x80\xEF\xBF\xBF\xF4\x8F\xBF\xBF",
-    ),
-];
+/// Runs the texts of a sample in every cut and way, and through one-shot calls.
+fn compare_texts(alloc: Global, sample: &Sample) -> Result<(), Fail> {
+    compare_encoded(alloc, sample.encoding, &[sample.text])?;
+    compare_encoded(alloc, sample.encoding, sample.mappable)?;
+    compare_encoded(alloc, sample.encoding, sample.unmappable)
+}
 
 #[test]
 fn encodes_utf_8(rt: HostRuntime) -> Result<(), Fail> {
-    for encoding in [UTF_8, UTF_16BE, UTF_16LE, REPLACEMENT] {
-        let encoder = encoding.new_encoder();
-        assert!(rt; encoder.encoding() == UTF_8);
+    for sample in samples() {
+        let encoder = sample.encoding.new_encoder();
+        assert!(rt; encoder.encoding() == sample.encoding.output_encoding());
         assert!(rt; !encoder.has_pending_state());
-        compare_encoded(rt.alloc(), encoding, UTF_8_ROWS)?;
+        if sample.encoding.output_encoding() == UTF_8 {
+            compare_texts(rt.alloc(), &sample)?;
+        }
     }
     Ok(())
 }
 
-const WINDOWS_1257_ROWS: &[EncoderRow] = &[
-    ("abc€ä", b"abc\x80\xE4"),
-    ("ā\u{3042}z", b"\xE2&#12354;z"),
-];
-
-const X_USER_DEFINED_ROWS: &[EncoderRow] = &[
-    (
-        "a\u{F780}\u{F7FF}\u{80}\u{F800}\u{F77F}",
-        b"a\x80\xFF&#128;&#63488;&#63359;",
-    ),
-    // references of each length
-    (
-        "\u{3E7}\u{3E8}\u{270F}\u{2710}\u{1869F}\u{186A0}\u{F4240}\u{10FFFF}",
-        b"&#999;&#1000;&#9999;&#10000;&#99999;&#100000;&#1000000;&#1114111;",
-    ),
-];
-
 #[test]
 fn encodes_single_bytes(rt: HostRuntime) -> Result<(), Fail> {
-    assert!(rt; WINDOWS_1252.new_encoder().encoding() == WINDOWS_1252);
-    compare_encoded(rt.alloc(), WINDOWS_1257, WINDOWS_1257_ROWS)?;
-    compare_encoded(
-        rt.alloc(),
-        WINDOWS_1252,
-        &[("é\u{81}\u{152}💩", b"\xE9\x81\x8C&#128169;")],
-    )?;
-    compare_encoded(rt.alloc(), X_USER_DEFINED, X_USER_DEFINED_ROWS)
+    for sample in samples() {
+        if sample.encoding.is_single_byte() {
+            compare_texts(rt.alloc(), &sample)?;
+        }
+    }
+    Ok(())
 }
 
-const SHIFT_JIS_ROWS: &[EncoderRow] = &[
-    ("\u{2212}\u{4E00}", b"\x81\x7C\x88\xEA"),
-    ("a\u{80}\u{A5}\u{203E}\u{FF61}\u{FF9F}", b"a\x80\\~\xA1\xDF"),
-    // NEC's and IBM's rows: the first pointer outside of the range that NEC selected
-    ("①纊黑犱", b"\x87@\xFA\\\xFCK\xFB["),
-    ("日本\u{E000}가", b"\x93\xFA\x96{&#57344;&#44032;"),
-];
-
-const EUC_JP_ROWS: &[EncoderRow] = &[
-    ("a\u{A5}\u{203E}\u{2212}", b"a\\~\xA1\xDD"),
-    ("\u{FF61}\u{FF9F}日本", b"\x8E\xA1\x8E\xDF\xC6\xFC\xCB\xDC"),
-    // in index jis0212 alone
-    ("丂\u{80}", b"&#19970;&#128;"),
-];
-
-const ISO_2022_JP_ROWS: &[EncoderRow] = &[
-    ("\u{A5}\u{3041}a", b"\x1B(J\\\x1B$B$!\x1B(Ba"),
-    ("\u{A5}\\", b"\x1B(J\\\x1B(B\\"),
-    ("\u{FF71}", b"\x1B$B%\"\x1B(B"),
-    ("\u{203E}a~\u{A5}", b"\x1B(J~a\x1B(B~\x1B(J\\\x1B(B"),
-    (
-        "\u{3041}\u{FFFF}\u{3041}",
-        b"\x1B$B$!\x1B(B&#65535;\x1B$B$!\x1B(B",
-    ),
-    ("\u{A5}\u{1F4A9}", b"\x1B(J\\&#128169;\x1B(B"),
-    ("\u{1B}a\u{E}\u{F}", b"&#65533;a&#65533;&#65533;"),
-    ("日本\u{2212}", b"\x1B$BF|K\\!]\x1B(B"),
-];
-
 #[test]
-fn encodes_japanese(rt: HostRuntime) -> Result<(), Fail> {
-    compare_encoded(rt.alloc(), SHIFT_JIS, SHIFT_JIS_ROWS)?;
-    compare_encoded(rt.alloc(), EUC_JP, EUC_JP_ROWS)?;
-    compare_encoded(rt.alloc(), ISO_2022_JP, ISO_2022_JP_ROWS)
-}
-
-const EUC_KR_ROWS: &[EncoderRow] = &[("a가힣갂", b"a\xB0\xA1\xC6R\x81A"), ("丂", b"&#19970;")];
-
-const BIG5_ROWS: &[EncoderRow] = &[
-    ("一十卅", b"\xA4@\xA4Q\xA4\xCA"),
-    (
-        "\u{2550}\u{255E}\u{2561}\u{256A}",
-        b"\xF9\xF9\xF9\xE9\xF9\xEB\xF9\xEA",
-    ),
-    // U+43F0 is only among the Hong Kong additions at the front
-    ("\u{43F0}𠕇", b"&#17392;\xFA@"),
-];
-
-#[test]
-fn encodes_korean_and_big5(rt: HostRuntime) -> Result<(), Fail> {
-    compare_encoded(rt.alloc(), EUC_KR, EUC_KR_ROWS)?;
-    compare_encoded(rt.alloc(), BIG5, BIG5_ROWS)
-}
-
-const GB18030_ROWS: &[EncoderRow] = &[
-    ("€啊", b"\xA2\xE3\xB0\xA1"),
-    (
-        "\u{80}\u{10000}\u{10FFFF}",
-        b"\x810\x810\x900\x810\xE32\x9A5",
-    ),
-    ("\u{E7C7}\u{E5E5}", b"\x815\xF47&#58853;"),
-    ("\u{FFFF}", b"\x841\xA49"),
-];
-
-const GBK_ROWS: &[EncoderRow] = &[
-    ("€啊", b"\x80\xB0\xA1"),
-    ("\u{80}\u{E5E5}𐀀", b"&#128;&#58853;&#65536;"),
-];
-
-#[test]
-fn encodes_chinese(rt: HostRuntime) -> Result<(), Fail> {
-    compare_encoded(rt.alloc(), GB18030, GB18030_ROWS)?;
-    compare_encoded(rt.alloc(), GBK, GBK_ROWS)
+fn encodes_more_bytes(rt: HostRuntime) -> Result<(), Fail> {
+    for sample in samples() {
+        if !sample.encoding.is_single_byte() && !sample.encoding.can_encode_everything() {
+            compare_texts(rt.alloc(), &sample)?;
+        }
+    }
+    Ok(())
 }
 
 /// The calls of one encoder in each row.

@@ -2,6 +2,8 @@
 //! pointers are computed by hand from the bytes of Python's codecs; those of U+7E8A, U+E7C7 and the
 //! ends of the indexes are the Encoding Standard's. Places are computed by hand from pointers: 256,
 //! the row times the row's places, and the column.
+//!
+//! Written by scripts/make-sources from data/templates: change the text there, and not this file.
 
 mod big5;
 mod euc_kr;

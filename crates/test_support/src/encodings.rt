@@ -1,7 +1,6 @@
 //! All encodings. A test that runs over `table()` takes in every encoding.
 //!
-//! Written by scripts/make-encodings from data/encodings.txt:
-//! change that list and run the script, and not this file.
+//! Written by scripts/make-sources from data/templates: change the text there, and not this file.
 
 use encoding_rs::*;
 

@@ -1,5 +1,5 @@
-//! Helpers of the test crates: the table of all encodings, the forms of rows, devices driven by
-//! steps, and runs of rows over decoders and encoders.
+//! Helpers of the test crates: the table of all encodings, the samples of all codecs, the forms of
+//! rows, devices driven by steps, and runs of rows over decoders and encoders.
 //!
 //! It is a library so that its functions are proved once, and stay proved while rows change. A
 //! library may not abort: a helper returns a `Fail` that names the case if a row does not hold, and
@@ -15,3 +15,4 @@ pub mod growths;
 pub mod lent_growths;
 pub mod reading;
 pub mod recoding;
+pub mod samples;

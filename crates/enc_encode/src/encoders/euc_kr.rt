@@ -44,6 +44,6 @@ impl Repertoire for EucKr {
         ByteLengths::TwoBytes
     }
 
-    #[tactic(auto, using(crate::proofs::RepertoireLaws::euc_kr))]
+    #[tactic(auto, using(crate::proofs::PlainRepertoires::euc_kr))]
     fn laws(self) {}
 }

@@ -1,6 +1,6 @@
 //! Characters of private use in gb18030 and GBK (Encoding Standard 10.2.2).
 //!
-//! Written by scripts/make-indexes from data/gb18030-private-use.txt:
+//! Written by scripts/make-sources from data/gb18030-private-use.txt:
 //! change that text and run the script, and not this file.
 
 /// A character and its two bytes a row. Index gb18030 has other characters at these bytes.

@@ -1,5 +1,5 @@
 -- The table of index Big5 agrees with its runs, and a grid with its table.
--- Written by scripts/make-indexes from data/templates: change the text there, and not this file.
+-- Written by scripts/make-sources from data/templates: change the text there, and not this file.
 use Rattle.std.proofs.Common.{◌≡◌, ℕ, true, refl, get_or}
 use Rattle.std.proofs.Common.{◌<◌, Some}
 use Rattle.std.specs.Char.{IsScalar}

@@ -1,6 +1,6 @@
 //! Index EUC-KR as a grid (Encoding Standard 5).
 //!
-//! Written by scripts/make-indexes from data/indexes/index-euc-kr.txt:
+//! Written by scripts/make-sources from data/indexes/index-euc-kr.txt:
 //! change that text and run the script, and not this file.
 //!
 //! A grid has 256 places for single bytes, then the rows of the index with an empty place after

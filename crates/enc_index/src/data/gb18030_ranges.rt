@@ -1,6 +1,6 @@
 //! Index gb18030 ranges (Encoding Standard 5).
 //!
-//! Written by scripts/make-indexes from data/indexes/index-gb18030-ranges.txt:
+//! Written by scripts/make-sources from data/indexes/index-gb18030-ranges.txt:
 //! change that text and run the script, and not this file.
 //!
 //! Each run is its first pointer, its last pointer, and the code point of the first. The code

@@ -1,6 +1,6 @@
 //! Index jis0208 as a grid (Encoding Standard 5).
 //!
-//! Written by scripts/make-indexes from data/indexes/index-jis0208.txt:
+//! Written by scripts/make-sources from data/indexes/index-jis0208.txt:
 //! change that text and run the script, and not this file.
 //!
 //! A grid has 256 places for single bytes, then the rows of the index with an empty place after

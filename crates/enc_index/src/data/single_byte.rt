@@ -1,6 +1,6 @@
 //! The indexes of the legacy single-byte encodings (Encoding Standard 9, "index single-byte").
 //!
-//! Written by scripts/make-indexes from data/indexes:
+//! Written by scripts/make-sources from data/indexes:
 //! change that text and run the script, and not this file.
 //!
 //! Each run is its first pointer, its last pointer, and the code point of the first. The code

@@ -1,6 +1,6 @@
 //! The characters of bytes in the legacy single-byte encodings (Encoding Standard 9.1).
 //!
-//! Written by scripts/make-indexes from data/indexes:
+//! Written by scripts/make-sources from data/indexes:
 //! change that text and run the script, and not this file.
 
 /// The UTF-8 of 256 bytes for each index: first byte lowest, number of bytes highest. 0 for none.

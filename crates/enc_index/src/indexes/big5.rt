@@ -1,6 +1,6 @@
 //! Index Big5 as a type.
 //!
-//! Written by scripts/make-indexes from data/templates: change the text there, and not this file.
+//! Written by scripts/make-sources from data/templates: change the text there, and not this file.
 
 use crate::data::big5::BIG5_TABLE;
 use crate::data::big5_grid::{BIG5_UNITS, BIG5_WORDS};

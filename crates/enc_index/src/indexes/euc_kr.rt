@@ -1,6 +1,6 @@
 //! Index EUC-KR as a type.
 //!
-//! Written by scripts/make-indexes from data/templates: change the text there, and not this file.
+//! Written by scripts/make-sources from data/templates: change the text there, and not this file.
 
 use crate::data::euc_kr::EUC_KR_TABLE;
 use crate::data::euc_kr_grid::{EUC_KR_UNITS, EUC_KR_WORDS};

@@ -1,6 +1,6 @@
 //! Index gb18030 as a type.
 //!
-//! Written by scripts/make-indexes from data/templates: change the text there, and not this file.
+//! Written by scripts/make-sources from data/templates: change the text there, and not this file.
 
 use crate::data::gb18030::GB18030_TABLE;
 use crate::data::gb18030_grid::{GB18030_UNITS, GB18030_WORDS};

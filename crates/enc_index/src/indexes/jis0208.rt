@@ -1,6 +1,6 @@
 //! Index jis0208 as a type.
 //!
-//! Written by scripts/make-indexes from data/templates: change the text there, and not this file.
+//! Written by scripts/make-sources from data/templates: change the text there, and not this file.
 
 use crate::data::jis0208::JIS0208_TABLE;
 use crate::data::jis0208_grid::{JIS0208_UNITS, JIS0208_WORDS};

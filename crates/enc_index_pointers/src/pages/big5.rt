@@ -1,6 +1,6 @@
 //! Pointers in index Big5 (Encoding Standard 5), for Big5.
 //!
-//! Written by scripts/make-indexes from data/indexes/index-big5.txt:
+//! Written by scripts/make-sources from data/indexes/index-big5.txt:
 //! change that text and run the script, and not this file.
 
 /// The page of each 64 code points.

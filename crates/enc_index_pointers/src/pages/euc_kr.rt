@@ -1,6 +1,6 @@
 //! Pointers in index EUC-KR (Encoding Standard 5), for EUC-KR.
 //!
-//! Written by scripts/make-indexes from data/indexes/index-euc-kr.txt:
+//! Written by scripts/make-sources from data/indexes/index-euc-kr.txt:
 //! change that text and run the script, and not this file.
 
 /// The page of each 64 code points.

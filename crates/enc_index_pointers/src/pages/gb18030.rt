@@ -1,6 +1,6 @@
 //! Pointers in index gb18030 (Encoding Standard 5), for GBK and gb18030.
 //!
-//! Written by scripts/make-indexes from data/indexes/index-gb18030.txt:
+//! Written by scripts/make-sources from data/indexes/index-gb18030.txt:
 //! change that text and run the script, and not this file.
 
 /// The page of each 64 code points.

@@ -1,6 +1,6 @@
 //! Pointers in index gb18030 ranges (Encoding Standard 5).
 //!
-//! Written by scripts/make-indexes from data/indexes/index-gb18030-ranges.txt:
+//! Written by scripts/make-sources from data/indexes/index-gb18030-ranges.txt:
 //! change that text and run the script, and not this file.
 
 /// The ranges without the pointer 7457: first and last code point, and the first one's pointer.

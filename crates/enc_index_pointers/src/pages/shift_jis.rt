@@ -1,6 +1,6 @@
 //! Pointers in index jis0208 (Encoding Standard 5), for Shift_JIS.
 //!
-//! Written by scripts/make-indexes from data/indexes/index-jis0208.txt:
+//! Written by scripts/make-sources from data/indexes/index-jis0208.txt:
 //! change that text and run the script, and not this file.
 
 /// The page of each 64 code points.

@@ -1,6 +1,6 @@
 //! Pointers in the indexes of the legacy single-byte encodings (Encoding Standard 9, "index single-byte").
 //!
-//! Written by scripts/make-indexes from data/indexes:
+//! Written by scripts/make-sources from data/indexes:
 //! change that text and run the script, and not this file.
 
 /// The page of each 64 code points, 1024 for each index.

@@ -1,6 +1,6 @@
 //! The bytes of characters in the legacy single-byte encodings (Encoding Standard 9.2).
 //!
-//! Written by scripts/make-indexes from data/indexes:
+//! Written by scripts/make-sources from data/indexes:
 //! change that text and run the script, and not this file.
 
 /// The byte of each character below U+0800, 2048 for each index, and 0 for none.

@@ -1,6 +1,6 @@
 //! Pointers in index Big5 (Encoding Standard 5, "index pointer"), for Big5.
 //!
-//! Written by scripts/make-indexes from data/templates: change the text there, and not this file.
+//! Written by scripts/make-sources from data/templates: change the text there, and not this file.
 
 ghost use Rattle.std.specs.Prelude.{◌≡◌, ◌<◌, IfSome};
 ghost use Rattle.enc_index_pointers.specs.Pointers.{big5_pointer};

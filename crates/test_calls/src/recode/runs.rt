@@ -1,17 +1,21 @@
 //! Runs of `recode_engine::run`: values from outside, and devices that fail at each of their calls.
 //!
-//! Rows by codec are written by scripts/make-codecs from data/codecs.txt.
+//! Lines and texts of each codec are those of the samples. The rows here are by labels, by what is
+//! malformed or unmappable, and by devices.
 
 use encoding_rs::*;
 use recode_engine::{FromRead, FromWrite, RecodeFault, Sink, Source, run};
 use std::alloc::Global;
+use std::process::Abort;
 use std::test::Fail;
 use test_support::devices::{ALL_BYTES, BYTE, Step, StepReader, StepWriter};
+use test_support::encoding::runs::EncoderRow;
 use test_support::encodings::table;
 use test_support::recoding::{
     CutRow, FAULT, INTERRUPTED, NOTHING, READS, Ran, compare_read_faults, compare_write_faults,
     run_by, run_whole,
 };
+use test_support::samples::{Sample, samples};
 
 /// Inputs of UTF-8, their text, and whether something is replaced.
 const WHOLE: &[(&[u8], &[u8], bool)] = &[
@@ -273,15 +277,15 @@ fn recode_bytes(alloc: Global, (from, to): (&str, &str), input: &[u8]) -> Result
 }
 
 /// Two labels, a line in the first encoding, its text, and whether something is replaced.
-const LINES: &[(&str, &str, &[u8], &str, bool)] = &[
-    ("windows-1251", "utf-8", b"\xCF\xF0\xE8", "При", false),
-    (
-        "windows-1252",
-        "utf-8",
-        b"\x93caf\xE9\x94 \x80\xA05",
-        "“café” €\u{A0}5",
-        false,
-    ),
+type Line = (
+    &'static str,
+    &'static str,
+    &'static [u8],
+    &'static str,
+    bool,
+);
+
+const LINES: &[Line] = &[
     ("iso-8859-15", "utf-8", b"c\xBDur, \xA45", "cœur, €5", false),
     (
         "iso-8859-5",
@@ -297,62 +301,35 @@ const LINES: &[(&str, &str, &[u8], &str, bool)] = &[
         "Привет",
         false,
     ),
-    (
-        "utf-8",
-        "utf-8",
-        b"na\xC3\xAFve \xE2\x82\xAC5 \xF0\x9F\x92\xA9",
-        "naïve €5 💩",
-        false,
-    ),
-    (
-        "utf-16le",
-        "utf-8",
-        b"\x1F\x04\x40\x04\x3D\xD8\xA9\xDC",
-        "Пр💩",
-        false,
-    ),
-    (
-        "utf-16be",
-        "utf-8",
-        b"\x04\x1F\x04\x40\xD8\x3D\xDC\xA9",
-        "Пр💩",
-        false,
-    ),
-    (
-        "x-user-defined",
-        "utf-8",
-        b"a\x80\xFF",
-        "a\u{F780}\u{F7FF}",
-        false,
-    ),
-    // the lines of the next seven are of Python's codecs
-    (
-        "shift_jis",
-        "utf-8",
-        b"\x93\xFA\x96\x7B\x8C\xEA",
-        "日本語",
-        false,
-    ),
-    ("euc-jp", "utf-8", b"\xC6\xFC\xCB\xDC\xB8\xEC", "日本語", false),
+    // an escape sequence at the end
     ("iso-2022-jp", "utf-8", b"\x1B$BF|K\\8l\x1B(B", "日本語", false),
-    ("big5", "utf-8", b"\xB7\x66\x9D\xF2", "搭𨋢", false),
-    ("euc-kr", "utf-8", b"\xC7\xD1\x94\xEE", "한뷁", false),
-    ("gbk", "utf-8", b"\xC6\xBD\xB5\xC8", "平等", false),
-    ("gb18030", "utf-8", b"\xC6\xBD\x95\x32\x82\x36", "平𠀀", false),
     ("CP866 ", " Utf8", b"\x8F", "П", false),
     ("latin1", "utf-16", b"\xE9", "é", false),
     ("utf-8", "utf-8", b"a\xFF", "a\u{FFFD}", true),
     ("utf-16be", "utf-8", b"\x00a\xDC\x00", "a\u{FFFD}", true),
 ];
 
+/// Recodes a line to UTF-8.
+fn compare_line(rt: &impl Abort, alloc: Global, line: Line) -> Result<(), Fail> {
+    let (from, to, input, want, is_replaced) = line;
+    let ran = recode_bytes(alloc, (from, to), input)?;
+    assert!(rt;
+        ran.written.as_slice() == want.as_bytes() && ran.outcome == Ok(is_replaced),
+        "of {from}"
+    );
+    Ok(())
+}
+
 #[test]
 fn recodes_a_line_of_each_kind_of_encoding(rt: HostRuntime) -> Result<(), Fail> {
-    for (from, to, input, want, is_replaced) in LINES {
-        let ran = recode_bytes(rt.alloc(), (*from, *to), *input)?;
-        assert!(rt;
-            ran.written.as_slice() == want.as_bytes() && ran.outcome == Ok(*is_replaced),
-            "of {from}"
-        );
+    for sample in samples() {
+        let from = sample.encoding.name();
+        for (bytes, text) in sample.words {
+            compare_line(&rt, rt.alloc(), (from, "utf-8", *bytes, *text, false))?;
+        }
+    }
+    for line in LINES {
+        compare_line(&rt, rt.alloc(), *line)?;
     }
     Ok(())
 }
@@ -425,38 +402,6 @@ fn joins_a_mark_that_comes_in_parts(rt: HostRuntime) -> Result<(), Fail> {
     Ok(())
 }
 
-/// A text, the label of an encoding, its bytes there, and whether something is replaced. The bytes
-/// of mappable characters are of Python's codecs.
-type TextRow = (&'static str, &'static str, &'static [u8], bool);
-
-/// Texts in other encodings than UTF-8.
-const TEXTS: &[TextRow] = &[
-    ("aｱ日é", "shift_jis", b"a\xB1\x93\xFA&#233;", true),
-    ("aｱ日", "euc-jp", b"a\x8E\xB1\xC6\xFC", false),
-    (
-        "日é語",
-        "iso-2022-jp",
-        b"\x1B$BF|\x1B(B&#233;\x1B$B8l\x1B(B",
-        true,
-    ),
-    ("a\u{E}", "iso-2022-jp", b"a&#65533;", true),
-    ("\u{A5}a", "iso-2022-jp", b"\x1B(J\\a\x1B(B", false),
-    ("搭é", "big5", b"\xB7\x66&#233;", true),
-    ("한뷁", "euc-kr", b"\xC7\xD1\x94\xEE", false),
-    ("平€💩", "gbk", b"\xC6\xBD\x80&#128169;", true),
-    (
-        "平€𠀀\u{E5E5}",
-        "gb18030",
-        b"\xC6\xBD\xA2\xE3\x95\x32\x82\x36&#58853;",
-        true,
-    ),
-    ("Пр€é", "windows-1251", b"\xCF\xF0\x88&#233;", true),
-    ("a\u{F780}é", "x-user-defined", b"a\x80&#233;", true),
-    ("é", "utf-16be", b"\xC3\xA9", false),
-    ("é", "utf-16le", b"\xC3\xA9", false),
-    ("", "shift_jis", b"", false),
-];
-
 /// Two labels, an input of the first encoding, its bytes in the second, and whether something is
 /// replaced.
 type Row = (
@@ -511,14 +456,36 @@ const INPUTS: &[Row] = &[
     ),
 ];
 
+/// Recodes texts from UTF-8 to an encoding.
+fn compare_texts(
+    rt: &impl Abort,
+    alloc: Global,
+    to: Encoding,
+    (rows, is_replaced): (&[EncoderRow], bool),
+) -> Result<(), Fail> {
+    let name = to.name();
+    for (text, want) in rows {
+        let ran = run_whole(alloc, (UTF_8, to), (*text).as_bytes())?;
+        assert!(rt;
+            ran.written.as_slice() == *want && ran.outcome == Ok(is_replaced),
+            "{text} to {name}"
+        );
+    }
+    Ok(())
+}
+
+/// Recodes the texts of a sample from UTF-8 to its encoding.
+fn compare_sample(rt: &impl Abort, alloc: Global, sample: &Sample) -> Result<(), Fail> {
+    let to = sample.encoding;
+    compare_texts(rt, alloc, to, (&[sample.text], false))?;
+    compare_texts(rt, alloc, to, (sample.mappable, false))?;
+    compare_texts(rt, alloc, to, (sample.unmappable, true))
+}
+
 #[test]
 fn writes_other_encodings(rt: HostRuntime) -> Result<(), Fail> {
-    for (text, to, want, is_replaced) in TEXTS {
-        let ran = recode_bytes(rt.alloc(), ("utf-8", *to), (*text).as_bytes())?;
-        assert!(rt;
-            ran.written.as_slice() == *want && ran.outcome == Ok(*is_replaced),
-            "{text} to {to}"
-        );
+    for sample in samples() {
+        compare_sample(&rt, rt.alloc(), &sample)?;
     }
     for (from, to, input, want, is_replaced) in INPUTS {
         let ran = recode_bytes(rt.alloc(), (*from, *to), *input)?;

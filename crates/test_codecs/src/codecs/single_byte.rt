@@ -1,17 +1,10 @@
-//! The legacy single-byte encodings (Encoding Standard 9).
-//!
-//! Rows by index are written by scripts/make-codecs from data/encodings.txt.
+//! The legacy single-byte encodings (Encoding Standard 9). They have one codec, and each encoding
+//! has its row in `single_byte_tables`.
 
-use crate::codecs::single_byte_tables::*;
+use crate::codecs::single_byte_tables::TABLES;
 use enc_codec::{DecoderResult, RawDecoder, SingleByteDecoder, SingleByteIndex};
 use enc_units::Utf8Slice;
-use encoding_rs::{
-    CoderResult, Encoding, IBM866, ISO_8859_2, ISO_8859_3, ISO_8859_4, ISO_8859_5, ISO_8859_6,
-    ISO_8859_7, ISO_8859_8, ISO_8859_8_I, ISO_8859_10, ISO_8859_13, ISO_8859_14, ISO_8859_15,
-    ISO_8859_16, KOI8_R, KOI8_U, MACINTOSH, WINDOWS_874, WINDOWS_1250, WINDOWS_1251, WINDOWS_1252,
-    WINDOWS_1253, WINDOWS_1254, WINDOWS_1255, WINDOWS_1256, WINDOWS_1257, WINDOWS_1258,
-    X_MAC_CYRILLIC,
-};
+use encoding_rs::{CoderResult, Encoding, IBM866, WINDOWS_1252, WINDOWS_1257};
 use std::process::Abort;
 use std::test::Fail;
 use test_support::decoding::raw_calls::end;
@@ -43,37 +36,6 @@ fn compare_bytes(rt: &impl Abort, encoding: Encoding, high: &[char; 128]) {
         compare_byte(rt, encoding, byte, want);
     }
 }
-
-const TABLES: &[(Encoding, &[char; 128])] = &[
-    (IBM866, &IBM866_HIGH),
-    (ISO_8859_2, &ISO_8859_2_HIGH),
-    (ISO_8859_3, &ISO_8859_3_HIGH),
-    (ISO_8859_4, &ISO_8859_4_HIGH),
-    (ISO_8859_5, &ISO_8859_5_HIGH),
-    (ISO_8859_6, &ISO_8859_6_HIGH),
-    (ISO_8859_7, &ISO_8859_7_HIGH),
-    (ISO_8859_8, &ISO_8859_8_HIGH),
-    (ISO_8859_8_I, &ISO_8859_8_HIGH),
-    (ISO_8859_10, &ISO_8859_10_HIGH),
-    (ISO_8859_13, &ISO_8859_13_HIGH),
-    (ISO_8859_14, &ISO_8859_14_HIGH),
-    (ISO_8859_15, &ISO_8859_15_HIGH),
-    (ISO_8859_16, &ISO_8859_16_HIGH),
-    (KOI8_R, &KOI8_R_HIGH),
-    (KOI8_U, &KOI8_U_HIGH),
-    (MACINTOSH, &MACINTOSH_HIGH),
-    (WINDOWS_874, &WINDOWS_874_HIGH),
-    (WINDOWS_1250, &WINDOWS_1250_HIGH),
-    (WINDOWS_1251, &WINDOWS_1251_HIGH),
-    (WINDOWS_1252, &WINDOWS_1252_HIGH),
-    (WINDOWS_1253, &WINDOWS_1253_HIGH),
-    (WINDOWS_1254, &WINDOWS_1254_HIGH),
-    (WINDOWS_1255, &WINDOWS_1255_HIGH),
-    (WINDOWS_1256, &WINDOWS_1256_HIGH),
-    (WINDOWS_1257, &WINDOWS_1257_HIGH),
-    (WINDOWS_1258, &WINDOWS_1258_HIGH),
-    (X_MAC_CYRILLIC, &X_MAC_CYRILLIC_HIGH),
-];
 
 #[test]
 fn bytes_agree_with_another_converter(rt: HostRuntime) {

@@ -7,8 +7,42 @@
 //! undefined. So are the bytes from 80 to 9F that it leaves undefined in windows-874 and
 //! windows-1250 to windows-1258: they are the control characters of the same number.
 
+use encoding_rs::*;
+
+/// Each encoding with the characters of its upper bytes.
+pub const TABLES: &[(Encoding, &[char; 128])] = &[
+    (IBM866, &IBM866_HIGH),
+    (ISO_8859_2, &ISO_8859_2_HIGH),
+    (ISO_8859_3, &ISO_8859_3_HIGH),
+    (ISO_8859_4, &ISO_8859_4_HIGH),
+    (ISO_8859_5, &ISO_8859_5_HIGH),
+    (ISO_8859_6, &ISO_8859_6_HIGH),
+    (ISO_8859_7, &ISO_8859_7_HIGH),
+    (ISO_8859_8, &ISO_8859_8_HIGH),
+    (ISO_8859_8_I, &ISO_8859_8_HIGH),
+    (ISO_8859_10, &ISO_8859_10_HIGH),
+    (ISO_8859_13, &ISO_8859_13_HIGH),
+    (ISO_8859_14, &ISO_8859_14_HIGH),
+    (ISO_8859_15, &ISO_8859_15_HIGH),
+    (ISO_8859_16, &ISO_8859_16_HIGH),
+    (KOI8_R, &KOI8_R_HIGH),
+    (KOI8_U, &KOI8_U_HIGH),
+    (MACINTOSH, &MACINTOSH_HIGH),
+    (WINDOWS_874, &WINDOWS_874_HIGH),
+    (WINDOWS_1250, &WINDOWS_1250_HIGH),
+    (WINDOWS_1251, &WINDOWS_1251_HIGH),
+    (WINDOWS_1252, &WINDOWS_1252_HIGH),
+    (WINDOWS_1253, &WINDOWS_1253_HIGH),
+    (WINDOWS_1254, &WINDOWS_1254_HIGH),
+    (WINDOWS_1255, &WINDOWS_1255_HIGH),
+    (WINDOWS_1256, &WINDOWS_1256_HIGH),
+    (WINDOWS_1257, &WINDOWS_1257_HIGH),
+    (WINDOWS_1258, &WINDOWS_1258_HIGH),
+    (X_MAC_CYRILLIC, &X_MAC_CYRILLIC_HIGH),
+];
+
 #[rattlefmt::skip]
-pub const IBM866_HIGH: [char; 128] = [
+const IBM866_HIGH: [char; 128] = [
     '\u{410}', '\u{411}', '\u{412}', '\u{413}', '\u{414}', '\u{415}', '\u{416}', '\u{417}',
     '\u{418}', '\u{419}', '\u{41A}', '\u{41B}', '\u{41C}', '\u{41D}', '\u{41E}', '\u{41F}',
     '\u{420}', '\u{421}', '\u{422}', '\u{423}', '\u{424}', '\u{425}', '\u{426}', '\u{427}',
@@ -28,7 +62,7 @@ pub const IBM866_HIGH: [char; 128] = [
 ];
 
 #[rattlefmt::skip]
-pub const ISO_8859_2_HIGH: [char; 128] = [
+const ISO_8859_2_HIGH: [char; 128] = [
     '\u{80}', '\u{81}', '\u{82}', '\u{83}', '\u{84}', '\u{85}', '\u{86}', '\u{87}',
     '\u{88}', '\u{89}', '\u{8A}', '\u{8B}', '\u{8C}', '\u{8D}', '\u{8E}', '\u{8F}',
     '\u{90}', '\u{91}', '\u{92}', '\u{93}', '\u{94}', '\u{95}', '\u{96}', '\u{97}',
@@ -48,7 +82,7 @@ pub const ISO_8859_2_HIGH: [char; 128] = [
 ];
 
 #[rattlefmt::skip]
-pub const ISO_8859_3_HIGH: [char; 128] = [
+const ISO_8859_3_HIGH: [char; 128] = [
     '\u{80}', '\u{81}', '\u{82}', '\u{83}', '\u{84}', '\u{85}', '\u{86}', '\u{87}',
     '\u{88}', '\u{89}', '\u{8A}', '\u{8B}', '\u{8C}', '\u{8D}', '\u{8E}', '\u{8F}',
     '\u{90}', '\u{91}', '\u{92}', '\u{93}', '\u{94}', '\u{95}', '\u{96}', '\u{97}',
@@ -68,7 +102,7 @@ pub const ISO_8859_3_HIGH: [char; 128] = [
 ];
 
 #[rattlefmt::skip]
-pub const ISO_8859_4_HIGH: [char; 128] = [
+const ISO_8859_4_HIGH: [char; 128] = [
     '\u{80}', '\u{81}', '\u{82}', '\u{83}', '\u{84}', '\u{85}', '\u{86}', '\u{87}',
     '\u{88}', '\u{89}', '\u{8A}', '\u{8B}', '\u{8C}', '\u{8D}', '\u{8E}', '\u{8F}',
     '\u{90}', '\u{91}', '\u{92}', '\u{93}', '\u{94}', '\u{95}', '\u{96}', '\u{97}',
@@ -88,7 +122,7 @@ pub const ISO_8859_4_HIGH: [char; 128] = [
 ];
 
 #[rattlefmt::skip]
-pub const ISO_8859_5_HIGH: [char; 128] = [
+const ISO_8859_5_HIGH: [char; 128] = [
     '\u{80}', '\u{81}', '\u{82}', '\u{83}', '\u{84}', '\u{85}', '\u{86}', '\u{87}',
     '\u{88}', '\u{89}', '\u{8A}', '\u{8B}', '\u{8C}', '\u{8D}', '\u{8E}', '\u{8F}',
     '\u{90}', '\u{91}', '\u{92}', '\u{93}', '\u{94}', '\u{95}', '\u{96}', '\u{97}',
@@ -108,7 +142,7 @@ pub const ISO_8859_5_HIGH: [char; 128] = [
 ];
 
 #[rattlefmt::skip]
-pub const ISO_8859_6_HIGH: [char; 128] = [
+const ISO_8859_6_HIGH: [char; 128] = [
     '\u{80}', '\u{81}', '\u{82}', '\u{83}', '\u{84}', '\u{85}', '\u{86}', '\u{87}',
     '\u{88}', '\u{89}', '\u{8A}', '\u{8B}', '\u{8C}', '\u{8D}', '\u{8E}', '\u{8F}',
     '\u{90}', '\u{91}', '\u{92}', '\u{93}', '\u{94}', '\u{95}', '\u{96}', '\u{97}',
@@ -128,7 +162,7 @@ pub const ISO_8859_6_HIGH: [char; 128] = [
 ];
 
 #[rattlefmt::skip]
-pub const ISO_8859_7_HIGH: [char; 128] = [
+const ISO_8859_7_HIGH: [char; 128] = [
     '\u{80}', '\u{81}', '\u{82}', '\u{83}', '\u{84}', '\u{85}', '\u{86}', '\u{87}',
     '\u{88}', '\u{89}', '\u{8A}', '\u{8B}', '\u{8C}', '\u{8D}', '\u{8E}', '\u{8F}',
     '\u{90}', '\u{91}', '\u{92}', '\u{93}', '\u{94}', '\u{95}', '\u{96}', '\u{97}',
@@ -148,7 +182,7 @@ pub const ISO_8859_7_HIGH: [char; 128] = [
 ];
 
 #[rattlefmt::skip]
-pub const ISO_8859_8_HIGH: [char; 128] = [
+const ISO_8859_8_HIGH: [char; 128] = [
     '\u{80}', '\u{81}', '\u{82}', '\u{83}', '\u{84}', '\u{85}', '\u{86}', '\u{87}',
     '\u{88}', '\u{89}', '\u{8A}', '\u{8B}', '\u{8C}', '\u{8D}', '\u{8E}', '\u{8F}',
     '\u{90}', '\u{91}', '\u{92}', '\u{93}', '\u{94}', '\u{95}', '\u{96}', '\u{97}',
@@ -168,7 +202,7 @@ pub const ISO_8859_8_HIGH: [char; 128] = [
 ];
 
 #[rattlefmt::skip]
-pub const ISO_8859_10_HIGH: [char; 128] = [
+const ISO_8859_10_HIGH: [char; 128] = [
     '\u{80}', '\u{81}', '\u{82}', '\u{83}', '\u{84}', '\u{85}', '\u{86}', '\u{87}',
     '\u{88}', '\u{89}', '\u{8A}', '\u{8B}', '\u{8C}', '\u{8D}', '\u{8E}', '\u{8F}',
     '\u{90}', '\u{91}', '\u{92}', '\u{93}', '\u{94}', '\u{95}', '\u{96}', '\u{97}',
@@ -188,7 +222,7 @@ pub const ISO_8859_10_HIGH: [char; 128] = [
 ];
 
 #[rattlefmt::skip]
-pub const ISO_8859_13_HIGH: [char; 128] = [
+const ISO_8859_13_HIGH: [char; 128] = [
     '\u{80}', '\u{81}', '\u{82}', '\u{83}', '\u{84}', '\u{85}', '\u{86}', '\u{87}',
     '\u{88}', '\u{89}', '\u{8A}', '\u{8B}', '\u{8C}', '\u{8D}', '\u{8E}', '\u{8F}',
     '\u{90}', '\u{91}', '\u{92}', '\u{93}', '\u{94}', '\u{95}', '\u{96}', '\u{97}',
@@ -208,7 +242,7 @@ pub const ISO_8859_13_HIGH: [char; 128] = [
 ];
 
 #[rattlefmt::skip]
-pub const ISO_8859_14_HIGH: [char; 128] = [
+const ISO_8859_14_HIGH: [char; 128] = [
     '\u{80}', '\u{81}', '\u{82}', '\u{83}', '\u{84}', '\u{85}', '\u{86}', '\u{87}',
     '\u{88}', '\u{89}', '\u{8A}', '\u{8B}', '\u{8C}', '\u{8D}', '\u{8E}', '\u{8F}',
     '\u{90}', '\u{91}', '\u{92}', '\u{93}', '\u{94}', '\u{95}', '\u{96}', '\u{97}',
@@ -228,7 +262,7 @@ pub const ISO_8859_14_HIGH: [char; 128] = [
 ];
 
 #[rattlefmt::skip]
-pub const ISO_8859_15_HIGH: [char; 128] = [
+const ISO_8859_15_HIGH: [char; 128] = [
     '\u{80}', '\u{81}', '\u{82}', '\u{83}', '\u{84}', '\u{85}', '\u{86}', '\u{87}',
     '\u{88}', '\u{89}', '\u{8A}', '\u{8B}', '\u{8C}', '\u{8D}', '\u{8E}', '\u{8F}',
     '\u{90}', '\u{91}', '\u{92}', '\u{93}', '\u{94}', '\u{95}', '\u{96}', '\u{97}',
@@ -248,7 +282,7 @@ pub const ISO_8859_15_HIGH: [char; 128] = [
 ];
 
 #[rattlefmt::skip]
-pub const ISO_8859_16_HIGH: [char; 128] = [
+const ISO_8859_16_HIGH: [char; 128] = [
     '\u{80}', '\u{81}', '\u{82}', '\u{83}', '\u{84}', '\u{85}', '\u{86}', '\u{87}',
     '\u{88}', '\u{89}', '\u{8A}', '\u{8B}', '\u{8C}', '\u{8D}', '\u{8E}', '\u{8F}',
     '\u{90}', '\u{91}', '\u{92}', '\u{93}', '\u{94}', '\u{95}', '\u{96}', '\u{97}',
@@ -268,7 +302,7 @@ pub const ISO_8859_16_HIGH: [char; 128] = [
 ];
 
 #[rattlefmt::skip]
-pub const KOI8_R_HIGH: [char; 128] = [
+const KOI8_R_HIGH: [char; 128] = [
     '\u{2500}', '\u{2502}', '\u{250C}', '\u{2510}', '\u{2514}', '\u{2518}', '\u{251C}', '\u{2524}',
     '\u{252C}', '\u{2534}', '\u{253C}', '\u{2580}', '\u{2584}', '\u{2588}', '\u{258C}', '\u{2590}',
     '\u{2591}', '\u{2592}', '\u{2593}', '\u{2320}', '\u{25A0}', '\u{2219}', '\u{221A}', '\u{2248}',
@@ -288,7 +322,7 @@ pub const KOI8_R_HIGH: [char; 128] = [
 ];
 
 #[rattlefmt::skip]
-pub const KOI8_U_HIGH: [char; 128] = [
+const KOI8_U_HIGH: [char; 128] = [
     '\u{2500}', '\u{2502}', '\u{250C}', '\u{2510}', '\u{2514}', '\u{2518}', '\u{251C}', '\u{2524}',
     '\u{252C}', '\u{2534}', '\u{253C}', '\u{2580}', '\u{2584}', '\u{2588}', '\u{258C}', '\u{2590}',
     '\u{2591}', '\u{2592}', '\u{2593}', '\u{2320}', '\u{25A0}', '\u{2219}', '\u{221A}', '\u{2248}',
@@ -308,7 +342,7 @@ pub const KOI8_U_HIGH: [char; 128] = [
 ];
 
 #[rattlefmt::skip]
-pub const MACINTOSH_HIGH: [char; 128] = [
+const MACINTOSH_HIGH: [char; 128] = [
     '\u{C4}', '\u{C5}', '\u{C7}', '\u{C9}', '\u{D1}', '\u{D6}', '\u{DC}', '\u{E1}',
     '\u{E0}', '\u{E2}', '\u{E4}', '\u{E3}', '\u{E5}', '\u{E7}', '\u{E9}', '\u{E8}',
     '\u{EA}', '\u{EB}', '\u{ED}', '\u{EC}', '\u{EE}', '\u{EF}', '\u{F1}', '\u{F3}',
@@ -328,7 +362,7 @@ pub const MACINTOSH_HIGH: [char; 128] = [
 ];
 
 #[rattlefmt::skip]
-pub const WINDOWS_874_HIGH: [char; 128] = [
+const WINDOWS_874_HIGH: [char; 128] = [
     '\u{20AC}', '\u{81}', '\u{82}', '\u{83}', '\u{84}', '\u{2026}', '\u{86}', '\u{87}',
     '\u{88}', '\u{89}', '\u{8A}', '\u{8B}', '\u{8C}', '\u{8D}', '\u{8E}', '\u{8F}',
     '\u{90}', '\u{2018}', '\u{2019}', '\u{201C}', '\u{201D}', '\u{2022}', '\u{2013}', '\u{2014}',
@@ -348,7 +382,7 @@ pub const WINDOWS_874_HIGH: [char; 128] = [
 ];
 
 #[rattlefmt::skip]
-pub const WINDOWS_1250_HIGH: [char; 128] = [
+const WINDOWS_1250_HIGH: [char; 128] = [
     '\u{20AC}', '\u{81}', '\u{201A}', '\u{83}', '\u{201E}', '\u{2026}', '\u{2020}', '\u{2021}',
     '\u{88}', '\u{2030}', '\u{160}', '\u{2039}', '\u{15A}', '\u{164}', '\u{17D}', '\u{179}',
     '\u{90}', '\u{2018}', '\u{2019}', '\u{201C}', '\u{201D}', '\u{2022}', '\u{2013}', '\u{2014}',
@@ -368,7 +402,7 @@ pub const WINDOWS_1250_HIGH: [char; 128] = [
 ];
 
 #[rattlefmt::skip]
-pub const WINDOWS_1251_HIGH: [char; 128] = [
+const WINDOWS_1251_HIGH: [char; 128] = [
     '\u{402}', '\u{403}', '\u{201A}', '\u{453}', '\u{201E}', '\u{2026}', '\u{2020}', '\u{2021}',
     '\u{20AC}', '\u{2030}', '\u{409}', '\u{2039}', '\u{40A}', '\u{40C}', '\u{40B}', '\u{40F}',
     '\u{452}', '\u{2018}', '\u{2019}', '\u{201C}', '\u{201D}', '\u{2022}', '\u{2013}', '\u{2014}',
@@ -388,7 +422,7 @@ pub const WINDOWS_1251_HIGH: [char; 128] = [
 ];
 
 #[rattlefmt::skip]
-pub const WINDOWS_1252_HIGH: [char; 128] = [
+const WINDOWS_1252_HIGH: [char; 128] = [
     '\u{20AC}', '\u{81}', '\u{201A}', '\u{192}', '\u{201E}', '\u{2026}', '\u{2020}', '\u{2021}',
     '\u{2C6}', '\u{2030}', '\u{160}', '\u{2039}', '\u{152}', '\u{8D}', '\u{17D}', '\u{8F}',
     '\u{90}', '\u{2018}', '\u{2019}', '\u{201C}', '\u{201D}', '\u{2022}', '\u{2013}', '\u{2014}',
@@ -408,7 +442,7 @@ pub const WINDOWS_1252_HIGH: [char; 128] = [
 ];
 
 #[rattlefmt::skip]
-pub const WINDOWS_1253_HIGH: [char; 128] = [
+const WINDOWS_1253_HIGH: [char; 128] = [
     '\u{20AC}', '\u{81}', '\u{201A}', '\u{192}', '\u{201E}', '\u{2026}', '\u{2020}', '\u{2021}',
     '\u{88}', '\u{2030}', '\u{8A}', '\u{2039}', '\u{8C}', '\u{8D}', '\u{8E}', '\u{8F}',
     '\u{90}', '\u{2018}', '\u{2019}', '\u{201C}', '\u{201D}', '\u{2022}', '\u{2013}', '\u{2014}',
@@ -428,7 +462,7 @@ pub const WINDOWS_1253_HIGH: [char; 128] = [
 ];
 
 #[rattlefmt::skip]
-pub const WINDOWS_1254_HIGH: [char; 128] = [
+const WINDOWS_1254_HIGH: [char; 128] = [
     '\u{20AC}', '\u{81}', '\u{201A}', '\u{192}', '\u{201E}', '\u{2026}', '\u{2020}', '\u{2021}',
     '\u{2C6}', '\u{2030}', '\u{160}', '\u{2039}', '\u{152}', '\u{8D}', '\u{8E}', '\u{8F}',
     '\u{90}', '\u{2018}', '\u{2019}', '\u{201C}', '\u{201D}', '\u{2022}', '\u{2013}', '\u{2014}',
@@ -448,7 +482,7 @@ pub const WINDOWS_1254_HIGH: [char; 128] = [
 ];
 
 #[rattlefmt::skip]
-pub const WINDOWS_1255_HIGH: [char; 128] = [
+const WINDOWS_1255_HIGH: [char; 128] = [
     '\u{20AC}', '\u{81}', '\u{201A}', '\u{192}', '\u{201E}', '\u{2026}', '\u{2020}', '\u{2021}',
     '\u{2C6}', '\u{2030}', '\u{8A}', '\u{2039}', '\u{8C}', '\u{8D}', '\u{8E}', '\u{8F}',
     '\u{90}', '\u{2018}', '\u{2019}', '\u{201C}', '\u{201D}', '\u{2022}', '\u{2013}', '\u{2014}',
@@ -468,7 +502,7 @@ pub const WINDOWS_1255_HIGH: [char; 128] = [
 ];
 
 #[rattlefmt::skip]
-pub const WINDOWS_1256_HIGH: [char; 128] = [
+const WINDOWS_1256_HIGH: [char; 128] = [
     '\u{20AC}', '\u{67E}', '\u{201A}', '\u{192}', '\u{201E}', '\u{2026}', '\u{2020}', '\u{2021}',
     '\u{2C6}', '\u{2030}', '\u{679}', '\u{2039}', '\u{152}', '\u{686}', '\u{698}', '\u{688}',
     '\u{6AF}', '\u{2018}', '\u{2019}', '\u{201C}', '\u{201D}', '\u{2022}', '\u{2013}', '\u{2014}',
@@ -488,7 +522,7 @@ pub const WINDOWS_1256_HIGH: [char; 128] = [
 ];
 
 #[rattlefmt::skip]
-pub const WINDOWS_1257_HIGH: [char; 128] = [
+const WINDOWS_1257_HIGH: [char; 128] = [
     '\u{20AC}', '\u{81}', '\u{201A}', '\u{83}', '\u{201E}', '\u{2026}', '\u{2020}', '\u{2021}',
     '\u{88}', '\u{2030}', '\u{8A}', '\u{2039}', '\u{8C}', '\u{A8}', '\u{2C7}', '\u{B8}',
     '\u{90}', '\u{2018}', '\u{2019}', '\u{201C}', '\u{201D}', '\u{2022}', '\u{2013}', '\u{2014}',
@@ -508,7 +542,7 @@ pub const WINDOWS_1257_HIGH: [char; 128] = [
 ];
 
 #[rattlefmt::skip]
-pub const WINDOWS_1258_HIGH: [char; 128] = [
+const WINDOWS_1258_HIGH: [char; 128] = [
     '\u{20AC}', '\u{81}', '\u{201A}', '\u{192}', '\u{201E}', '\u{2026}', '\u{2020}', '\u{2021}',
     '\u{2C6}', '\u{2030}', '\u{8A}', '\u{2039}', '\u{152}', '\u{8D}', '\u{8E}', '\u{8F}',
     '\u{90}', '\u{2018}', '\u{2019}', '\u{201C}', '\u{201D}', '\u{2022}', '\u{2013}', '\u{2014}',
@@ -528,7 +562,7 @@ pub const WINDOWS_1258_HIGH: [char; 128] = [
 ];
 
 #[rattlefmt::skip]
-pub const X_MAC_CYRILLIC_HIGH: [char; 128] = [
+const X_MAC_CYRILLIC_HIGH: [char; 128] = [
     '\u{410}', '\u{411}', '\u{412}', '\u{413}', '\u{414}', '\u{415}', '\u{416}', '\u{417}',
     '\u{418}', '\u{419}', '\u{41A}', '\u{41B}', '\u{41C}', '\u{41D}', '\u{41E}', '\u{41F}',
     '\u{420}', '\u{421}', '\u{422}', '\u{423}', '\u{424}', '\u{425}', '\u{426}', '\u{427}',

@@ -4,16 +4,20 @@
 //! The bytes are those of the Encoding Standard's encoders, with a reference by hand for each
 //! barred character.
 //!
-//! Rows by codec are written by scripts/make-codecs from data/codecs.txt.
+//! The texts are those of the samples. The rows of calls are by what a call meets, and not by
+//! codec.
 
 use encoding_rs::run::{EncodeCall, encode_run_barring};
 use encoding_rs::*;
+use std::alloc::Global;
+use std::process::Abort;
 use std::test::Fail;
 use test_support::encoding::call_rows::{
     EncoderCall, ReplacingCall, make_encoder_calls, make_replacing_calls,
 };
-use test_support::encoding::runs::{EncoderRow, compare_cuts};
+use test_support::encoding::runs::compare_cuts;
 use test_support::encoding::ways::{Asked, encoder_of};
+use test_support::samples::{BarredRow, samples};
 
 const EMPTY: CoderResult = CoderResult::InputEmpty;
 
@@ -101,40 +105,12 @@ fn half_of_a_pair_is_barred(rt: HostRuntime) -> Result<(), Fail> {
     Ok(())
 }
 
-/// Texts with characters that are barred in them.
-const TEXTS: &[(Asked, EncoderRow)] = &[
-    ((UTF_8, &['💩']), ("a💩", b"a&#128169;")),
-    (
-        (UTF_16LE, &['é', '💩']),
-        ("é€💩", b"&#233;\xE2\x82\xAC&#128169;"),
-    ),
-    ((WINDOWS_1252, &['é']), ("aé€", b"a&#233;\x80")),
-    ((EUC_KR, &['가']), ("가a", b"&#44032;a")),
-    // the wide form of a half-width letter is another character
-    ((SHIFT_JIS, &['ｱ']), ("ｱア", b"&#65393;\x83A")),
-    ((SHIFT_JIS, &['ア']), ("ｱア", b"\xB1&#12450;")),
-    ((ISO_2022_JP, &['ア']), ("ｱア", b"\x1B$B%\"\x1B(B&#12450;")),
-    (
-        (ISO_2022_JP, &['\u{2212}']),
-        ("\u{3041}\u{2212}", b"\x1B$B$!\x1B(B&#8722;"),
-    ),
-    (
-        (ISO_2022_JP, &['\u{FF0D}']),
-        ("\u{2212}", b"\x1B$B!]\x1B(B"),
-    ),
-    // U+E5E5 is barred from these two in any case
-    ((GB18030, &[]), ("\u{E5E5}", b"&#58853;")),
-    ((GBK, &[]), ("\u{E5E5}", b"&#58853;")),
-    (
-        (GB18030, &['€']),
-        ("\u{E5E5}€中", b"&#58853;&#8364;\xD6\xD0"),
-    ),
-];
-
 #[test]
 fn cuts_and_rooms_change_no_barred_text(rt: HostRuntime) -> Result<(), Fail> {
-    for (asked, row) in TEXTS {
-        compare_cuts(rt.alloc(), *asked, row)?;
+    for sample in samples() {
+        for (barred, row) in sample.barred {
+            compare_cuts(rt.alloc(), (sample.encoding, *barred), row)?;
+        }
     }
     Ok(())
 }
@@ -156,24 +132,37 @@ fn a_run_bars_characters(rt: HostRuntime) -> Result<(), Fail> {
     Ok(())
 }
 
+/// Encodes a text by runs of calls of each kind.
+fn compare_runs(
+    rt: &impl Abort,
+    alloc: Global,
+    encoding: Encoding,
+    row: &BarredRow,
+) -> Result<(), Fail> {
+    let (barred, (text, bytes)) = *row;
+    for number in 0..8_usize {
+        let call = EncodeCall {
+            utf16: number % 2 == 1,
+            replace: number % 4 < 2,
+            offer: (number / 4).saturating_add(1),
+            room: 14,
+        };
+        assert!(rt; Encoding::barred_ok(barred));
+        let report = encode_run_barring(alloc, encoding, barred, text, &[call; 8])?;
+        assert!(rt;
+            report.finished && report.bytes.as_slice() == bytes,
+            "{text} {number}"
+        );
+        assert!(rt; report.unmappables.is_empty() || !call.replace);
+    }
+    Ok(())
+}
+
 #[test]
 fn a_run_bars_them_in_every_cut(rt: HostRuntime) -> Result<(), Fail> {
-    for ((encoding, barred), (text, bytes)) in TEXTS {
-        for number in 0..8_usize {
-            let call = EncodeCall {
-                utf16: number % 2 == 1,
-                replace: number % 4 < 2,
-                offer: (number / 4).saturating_add(1),
-                room: 14,
-            };
-            let barred = *barred;
-            assert!(rt; Encoding::barred_ok(barred));
-            let report = encode_run_barring(rt.alloc(), *encoding, barred, text, &[call; 8])?;
-            assert!(rt;
-                report.finished && report.bytes.as_slice() == *bytes,
-                "{text} {number}"
-            );
-            assert!(rt; report.unmappables.is_empty() || !call.replace);
+    for sample in samples() {
+        for row in sample.barred {
+            compare_runs(&rt, rt.alloc(), sample.encoding, row)?;
         }
     }
     Ok(())

@@ -2,54 +2,21 @@
 //! the encoding has, and among them some that it does not have, of every length in UTF-8 and
 //! UTF-16.
 //!
-//! Rows by codec are written by scripts/make-codecs from data/codecs.txt.
+//! The rows for single calls are by what stands among ASCII, in encodings of each kind of run.
 
 use encoding_rs::run::{EncodeCall, EncodeReport, RunError, encode_run};
 use encoding_rs::{
-    BIG5, EUC_JP, EUC_KR, EncoderResult, Encoding, GB18030, GBK, ISO_2022_JP, SHIFT_JIS, UTF_8,
-    WINDOWS_1251, WINDOWS_1252, X_USER_DEFINED,
+    EncoderResult, Encoding, GB18030, ISO_2022_JP, SHIFT_JIS, WINDOWS_1251, WINDOWS_1252,
 };
 use std::alloc::Global;
 use std::test::Fail;
 use test_support::encoding::runs::compare_long;
-
-const LATIN: &str =
-    "The quick brown fox jumps déjà, œuvre naïve 日 Łódź café — 12 €! 💩 ÀÉÎÕÜ end of this line.";
-
-const CYRILLIC: &str =
-    "Съешь же ещё этих мягких French rolls, 16 of them или больше é да выпей чаю 💩 №1 конец.";
-
-const USER_DEFINED: &str =
-    "sixteen of ASCII \u{F780}\u{F7FF}\u{F79A}\u{F7C0}\u{F7E1}é日💩\u{F781}\u{F782} \
-        and some more ASCII text\u{F7AA}";
-
-const JAPANESE: &str =
-    "いろはにほへと and some ASCII here ちりぬるを ｱｲｳ ¥5‾~\\ − 日本語가漢字 €💩 カタカナ\u{1B}\u{E} 終わりました。";
-
-const CHINESE: &str = "人人生而自由，在尊严和权利上 are equal in ASCII €乂𠀀\u{E5E5}\u{E7C7} 一律平等。他们赋有理性 é💩 结束。";
-
-const TRADITIONAL: &str = "人人生而自由，在尊嚴和權利上 are equal in ASCII 十卅═𨋢 é💩가 一律平等。他們賦有理性 結束。";
-
-const KOREAN: &str = "모든 인간은 태어날 때부터 free and equal in ASCII 똠방각하 자유로우며 é💩丂 그 존엄과 권리에 있어.";
-
-const LONG_TEXTS: &[(Encoding, &str)] = &[
-    (WINDOWS_1252, LATIN),
-    (WINDOWS_1251, CYRILLIC),
-    (X_USER_DEFINED, USER_DEFINED),
-    (UTF_8, CHINESE),
-    (SHIFT_JIS, JAPANESE),
-    (EUC_JP, JAPANESE),
-    (ISO_2022_JP, JAPANESE),
-    (GB18030, CHINESE),
-    (GBK, CHINESE),
-    (BIG5, TRADITIONAL),
-    (EUC_KR, KOREAN),
-];
+use test_support::samples::samples;
 
 #[test]
 fn long_texts_are_written_as_their_characters(rt: HostRuntime) -> Result<(), Fail> {
-    for (encoding, text) in LONG_TEXTS {
-        compare_long(rt.alloc(), *encoding, text)?;
+    for sample in samples() {
+        compare_long(rt.alloc(), sample.encoding, sample.long_text)?;
     }
     Ok(())
 }
@@ -94,7 +61,8 @@ const WRITTEN: &[(Encoding, &str, &[u8])] = &[
     (
         WINDOWS_1252,
         "here are forty-seven ASCII characters in front é, and then come ASCII characters again",
-        b"here are forty-seven ASCII characters in front \xE9, and then come ASCII characters again",
+        b"here are forty-seven ASCII characters in front \xE9, \
+            and then come ASCII characters again",
     ),
     (
         WINDOWS_1252,

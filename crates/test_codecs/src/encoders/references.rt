@@ -4,12 +4,13 @@
 //! The answers are by hand from the room that a call keeps free, and the bytes from the Encoding
 //! Standard's encoders.
 //!
-//! Rows by codec are written by scripts/make-codecs from data/codecs.txt.
+//! The rows of calls are by what a call has room for, and not by codec.
 
 use encoding_rs::*;
 use std::test::Fail;
 use test_support::encoding::call_rows::{ReplacingCall, make_replacing_calls};
-use test_support::encoding::runs::{EncoderRow, compare_encoded, compare_ways};
+use test_support::encoding::runs::compare_ways;
+use test_support::samples::samples;
 
 const EMPTY: CoderResult = CoderResult::InputEmpty;
 
@@ -137,23 +138,6 @@ fn keeps_room_back_for_references(rt: HostRuntime) -> Result<(), Fail> {
     Ok(())
 }
 
-/// Texts in which references are next to each other, next to escape sequences, and at the end.
-const TEXTS: &[(Encoding, EncoderRow)] = &[
-    (ISO_2022_JP, ("\u{3041}\u{FFFF}", b"\x1B$B$!\x1B(B&#65535;")),
-    (ISO_2022_JP, ("💩\u{3041}", b"&#128169;\x1B$B$!\x1B(B")),
-    (SHIFT_JIS, ("a💩b", b"a&#128169;b")),
-    (WINDOWS_1252, ("\u{100}\u{10FFFF}a", b"&#256;&#1114111;a")),
-    (UTF_8, ("a💩", b"a\xF0\x9F\x92\xA9")),
-];
-
-#[test]
-fn cuts_and_rooms_change_no_reference(rt: HostRuntime) -> Result<(), Fail> {
-    for (encoding, row) in TEXTS {
-        compare_encoded(rt.alloc(), *encoding, &[*row])?;
-    }
-    Ok(())
-}
-
 const HALVES: [(&[u16], bool); 2] = [(&[0xD83D], false), (&[0xDCA9], true)];
 
 #[test]
@@ -168,14 +152,10 @@ fn halves_of_a_pair_have_a_reference_each(rt: HostRuntime) {
     }
 }
 
-/// A text of each encoding, with one unmappable character, unless the encoding can encode
-/// everything.
+/// A text of each legacy single-byte encoding, with one unmappable character. They have one codec,
+/// and the samples have three of them alone.
 #[rattlefmt::skip]
-const MIXED: [(Encoding, &str); 40] = [
-    (UTF_8, "aé€💩"),
-    (REPLACEMENT, "aé€💩"),
-    (UTF_16BE, "aé€💩"),
-    (UTF_16LE, "aé€💩"),
+const MIXED: [(Encoding, &str); 28] = [
     (IBM866, "aЖ💩я"),
     (ISO_8859_2, "ař€ů"),
     (ISO_8859_3, "aĥ€ŭ"),
@@ -204,20 +184,22 @@ const MIXED: [(Encoding, &str); 40] = [
     (WINDOWS_1257, "aį💩€"),
     (WINDOWS_1258, "a₫ř€"),
     (X_MAC_CYRILLIC, "aї💩€"),
-    (X_USER_DEFINED, "a\u{F780}\u{80}\u{F7FF}"),
-    (GBK, "a中💩€"),
-    (GB18030, "a中\u{E5E5}𠀀"),
-    (BIG5, "a中💩一"),
-    (EUC_JP, "aあ丂ｱ"),
-    (ISO_2022_JP, "aあ💩日"),
-    (SHIFT_JIS, "aあ💩ｱ"),
-    (EUC_KR, "a가💩뷁"),
 ];
 
 #[test]
 fn references_are_those_of_reports(rt: HostRuntime) -> Result<(), Fail> {
     for (encoding, text) in MIXED {
         compare_ways(rt.alloc(), encoding, text)?;
+    }
+    for sample in samples() {
+        let texts = if sample.encoding.can_encode_everything() {
+            sample.mappable
+        } else {
+            sample.unmappable
+        };
+        for (text, _) in texts {
+            compare_ways(rt.alloc(), sample.encoding, text)?;
+        }
     }
     Ok(())
 }

@@ -4,7 +4,10 @@
 use encoding_rs::run::{EncodeCall, encode_run};
 use encoding_rs::*;
 use std::alloc::{AllocError, Global};
+use std::process::Abort;
 use std::test::Fail;
+use test_support::encoding::runs::EncoderRow;
+use test_support::samples::samples;
 
 const TWO_CALLS: &[EncodeCall] = &[
     EncodeCall {
@@ -46,36 +49,38 @@ fn mixed_calls(alloc: Global, count: usize) -> Result<Vec<EncodeCall>, AllocErro
     Ok(calls)
 }
 
-/// Texts, their number of characters, and their bytes.
-const TEXTS: &[(Encoding, &str, usize, &[u8])] = &[
-    (
-        ISO_2022_JP,
-        "\u{A5}💩\u{3041}\u{FFFF}a",
-        5,
-        b"\x1B(J\\&#128169;\x1B$B$!\x1B(B&#65535;a",
-    ),
-    (GB18030, "a\u{E5E5}𐀀€", 4, b"a&#58853;\x900\x810\xA2\xE3"),
-    (
-        WINDOWS_1252,
-        "\u{100}\u{10FFFF}é",
-        3,
-        b"&#256;&#1114111;\xE9",
-    ),
-    (UTF_16LE, "a💩é", 3, b"a\xF0\x9F\x92\xA9\xC3\xA9"),
-];
+/// Encodes a text by such calls, from each of the first six on.
+fn compare_mixed(
+    rt: &impl Abort,
+    alloc: Global,
+    (encoding, calls): (Encoding, &[EncodeCall]),
+    (text, bytes): EncoderRow,
+) -> Result<(), Fail> {
+    for first in 0..6 {
+        let (_, rest) = calls.split_at(first.min(calls.len()));
+        let report = encode_run(alloc, encoding, text, rest)?;
+        assert!(rt;
+            report.finished
+                && report.bytes.as_slice() == bytes
+                && report.read == text.chars().count(),
+            "{encoding:?} {text} {first}"
+        );
+        assert!(rt; report.had_unmappables == !encoding.can_encode_everything());
+    }
+    Ok(())
+}
 
 #[test]
 fn mixed_calls_come_to_the_whole_text(rt: HostRuntime) -> Result<(), Fail> {
     let calls = mixed_calls(rt.alloc(), 120)?;
-    for (encoding, text, count, bytes) in TEXTS {
-        for first in 0..6 {
-            let (_, rest) = calls.split_at(first.min(calls.len()));
-            let report = encode_run(rt.alloc(), *encoding, text, rest)?;
-            assert!(rt;
-                report.finished && report.bytes.as_slice() == *bytes && report.read == *count,
-                "{encoding:?} {first}"
-            );
-            assert!(rt; report.had_unmappables == !encoding.can_encode_everything());
+    for sample in samples() {
+        let texts = if sample.encoding.can_encode_everything() {
+            sample.mappable
+        } else {
+            sample.unmappable
+        };
+        for row in texts {
+            compare_mixed(&rt, rt.alloc(), (sample.encoding, &calls), *row)?;
         }
     }
     Ok(())

@@ -1,12 +1,17 @@
 //! The items of `enc_codec`: decoders by encoding, the trait that they share, and the indexes.
 //!
-//! Rows by codec are written by scripts/make-codecs from data/codecs.txt.
+//! The bytes and texts are those of the samples. Each decoder has its line in `types`, and each
+//! single-byte index its row here.
 
+mod types;
+
+use crate::surface::codecs::types::{variant_name, variant_of};
 use crate::surface::derives::{are_equal, copies, debug_text};
 use enc_codec::*;
 use enc_units::Utf8Slice;
 use std::process::Abort;
 use std::test::Fail;
+use test_support::samples::{Pointer, Sample, samples};
 
 #[test]
 fn results_of_decoders_are_compared_and_printed(rt: HostRuntime) -> Result<(), Fail> {
@@ -88,97 +93,52 @@ fn decode_all<D: RawDecoder>(
     Ok(())
 }
 
-/// The index of windows-1252.
-const WINDOWS_1252: SingleByteIndex = SingleByteIndex::Windows1252;
-
-#[test]
-fn each_decoder_decodes_its_encoding(rt: HostRuntime) -> Result<(), Fail> {
-    decode_all(&rt, Utf8Decoder::new(), b"\xE2\x82\xAC", "€")?;
-    decode_all(&rt, Utf16Decoder::new(true), b"\x20\xAC", "€")?;
-    decode_all(&rt, Utf16Decoder::new(false), b"\xAC\x20", "€")?;
-    decode_all(&rt, SingleByteDecoder::new(WINDOWS_1252), b"\x80", "€")?;
-    decode_all(&rt, XUserDefinedDecoder::new(), b"\x80", "\u{F780}")?;
-    decode_all(&rt, ReplacementDecoder::new(), b"", "")?;
-    decode_all(&rt, Big5Decoder::new(), b"\xA4\x40", "一")?;
-    decode_all(&rt, EucKrDecoder::new(), b"\xB0\xA1", "가")?;
-    decode_all(&rt, ShiftJisDecoder::new(), b"\x83\x6E", "ハ")?;
-    decode_all(&rt, EucJpDecoder::new(), b"\x8F\xB0\xA1", "丂")?;
-    decode_all(&rt, Gb18030Decoder::new(), b"\xB0\xA1\x80", "啊€")?;
-    decode_all(&rt, Iso2022JpDecoder::new(), b"\x1B(J\x5C", "¥")
-}
-
-/// The name of a decoder's variant.
-fn variant_name(decoder: &VariantDecoder) -> &'static str {
-    match decoder {
-        VariantDecoder::Utf8(_) => "Utf8",
-        VariantDecoder::Utf16(_) => "Utf16",
-        VariantDecoder::SingleByte(_) => "SingleByte",
-        VariantDecoder::XUserDefined(_) => "XUserDefined",
-        VariantDecoder::Replacement(_) => "Replacement",
-        VariantDecoder::Big5(_) => "Big5",
-        VariantDecoder::EucKr(_) => "EucKr",
-        VariantDecoder::ShiftJis(_) => "ShiftJis",
-        VariantDecoder::EucJp(_) => "EucJp",
-        VariantDecoder::Gb18030(_) => "Gb18030",
-        VariantDecoder::Iso2022Jp(_) => "Iso2022Jp",
-    }
-}
-
-/// Each codec, its decoder's variant, bytes of its encoding, and their text.
-const CODECS: &[(Codec, &str, &[u8], &str)] = &[
-    (Codec::Utf8, "Utf8", b"\xE2\x82\xAC", "€"),
-    (Codec::Utf16Be, "Utf16", b"\x20\xAC", "€"),
-    (Codec::Utf16Le, "Utf16", b"\xAC\x20", "€"),
-    (Codec::SingleByte(WINDOWS_1252), "SingleByte", b"\x80", "€"),
-    (Codec::XUserDefined, "XUserDefined", b"\x80", "\u{F780}"),
-    (Codec::Replacement, "Replacement", b"", ""),
-    (Codec::Big5, "Big5", b"\xA4\x40", "一"),
-    (Codec::EucKr, "EucKr", b"\xB0\xA1", "가"),
-    (Codec::ShiftJis, "ShiftJis", b"\x83\x6E", "ハ"),
-    (Codec::EucJp, "EucJp", b"\x8F\xB0\xA1", "丂"),
-    (Codec::Gbk, "Gb18030", b"\xB0\xA1\x80", "啊€"),
-    (Codec::Gb18030, "Gb18030", b"\xB0\xA1\x80", "啊€"),
-    (Codec::Iso2022Jp, "Iso2022Jp", b"\x1B(J\x5C", "¥"),
-];
-
-#[test]
-fn each_codec_has_a_decoder(rt: HostRuntime) -> Result<(), Fail> {
-    for (codec, name, bytes, text) in CODECS {
-        let (codec, _) = copies(*codec)?;
-        let decoder: VariantDecoder = codec.new_decoder();
-        assert!(rt; variant_name(&decoder) == *name);
-        assert!(rt; codec.text_lengths().utf8(5, 0) == decoder.max_utf8_buffer_length(5));
-        decode_all(&rt, decoder, *bytes, *text)?;
+/// Decodes nothing, and the characters of a sample, each by two copies of a decoder.
+pub(crate) fn decode_sample<D: RawDecoder>(
+    rt: &impl Abort,
+    start: D,
+    sample: &Sample,
+) -> Result<(), Fail> {
+    decode_all(rt, start, b"", "")?;
+    for (bytes, text) in sample.characters {
+        decode_all(rt, start, bytes, text)?;
     }
     Ok(())
 }
 
-/// Each index, a pointer that it has, and the character.
-const LISTS: &[(List, u32, char)] = &[
-    (List::SingleByte(WINDOWS_1252), 0, '€'),
-    (List::Big5, 5495, '一'),
-    (List::EucKr, 9026, '가'),
-    (List::Gb18030, 9026, '啊'),
-    (List::Gb18030Ranges, 189_000, '\u{10000}'),
-    (List::Jis0208, 1485, '一'),
-    (List::Jis0212, 1410, '丂'),
-];
+#[test]
+fn each_codec_has_a_decoder(rt: HostRuntime) -> Result<(), Fail> {
+    for sample in samples() {
+        let (codec, _) = copies(sample.codec)?;
+        let decoder: VariantDecoder = codec.new_decoder();
+        assert!(rt; variant_name(&decoder) == variant_of(codec));
+        assert!(rt; codec.text_lengths().utf8(5, 0) == decoder.max_utf8_buffer_length(5));
+        decode_sample(&rt, decoder, &sample)?;
+    }
+    Ok(())
+}
+
+/// An index has a character at a pointer, in one of its runs, and none at the greatest number.
+fn compare_pointer(rt: &impl Abort, (list, pointer, want): Pointer) -> Result<(), Fail> {
+    let (list, _) = copies(list)?;
+    let character: Option<char> = list.at(pointer);
+    let runs: &'static [(u32, u32, u32)] = list.runs();
+    let run = runs.iter().find(|run| run.0 <= pointer && pointer <= run.1);
+    let Some((first, _, number)) = run else {
+        return Err("no run has the pointer".into());
+    };
+    let offset = pointer.wrapping_sub(*first);
+    assert!(rt; number.wrapping_add(offset) == want as u32);
+    assert!(rt; (character, list.at(u32::MAX)) == (Some(want), None));
+    Ok(())
+}
 
 #[test]
 fn each_index_has_characters_by_pointer(rt: HostRuntime) -> Result<(), Fail> {
-    for (list, pointer, want) in LISTS {
-        let (list, _) = copies(*list)?;
-        let character: Option<char> = list.at(*pointer);
-        let runs: &'static [(u32, u32, u32)] = list.runs();
-        let run = runs
-            .iter()
-            .find(|run| run.0 <= *pointer && *pointer <= run.1);
-        let Some((first, _, number)) = run else {
-            return Err("no run has the pointer".into());
-        };
-        let offset = pointer.wrapping_sub(*first);
-        assert!(rt; number.wrapping_add(offset) == *want as u32);
-        assert!(rt; (character, list.at(u32::MAX)) == (Some(*want), None));
+    for sample in samples() {
+        for pointer in sample.pointers {
+            compare_pointer(&rt, *pointer)?;
+        }
     }
     Ok(())
 }

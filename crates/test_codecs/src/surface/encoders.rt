@@ -1,18 +1,18 @@
 //! The items of `enc_encode`: encoders by encoding, and the trait that they share.
 //!
-//! Rows by codec are written by scripts/make-codecs from data/codecs.txt.
+//! The texts and bytes are those of the samples. Each encoder has its line in `types`.
+
+mod types;
 
 use crate::surface::derives::{are_equal, debug_text};
-use enc_codec::SingleByteIndex;
+use crate::surface::encoders::types::{variant_name, variant_of};
 use enc_encode::{
-    Barring, Big5, Big5Encoder, Codec, EncoderResult, EucJp, EucJpEncoder, EucKr, EucKrEncoder,
-    Gb18030, Gb18030Encoder, Iso2022JpEncoder, RawEncoder, ShiftJis, ShiftJisEncoder, SingleByte,
-    SingleByteEncoder, Utf8, Utf8Encoder, VariantEncoder, XUserDefined, XUserDefinedEncoder,
-    has_encoder, new_encoder,
+    Codec, EncoderResult, Iso2022JpEncoder, RawEncoder, VariantEncoder, has_encoder, new_encoder,
 };
 use enc_units::{Utf8Chars, Utf16Chars};
 use std::process::Abort;
 use std::test::Fail;
+use test_support::samples::{Sample, samples};
 
 #[test]
 fn results_of_encoders_are_compared_and_printed(rt: HostRuntime) -> Result<(), Fail> {
@@ -52,8 +52,13 @@ fn an_encoder_keeps_its_character_set(rt: HostRuntime) {
     encode_in_parts(&rt, &mut Iso2022JpEncoder::new(&[]));
 }
 
-/// Encodes a text by a new encoder: these are its bytes.
-fn encode_all<E: RawEncoder + Drop>(rt: &impl Abort, mut encoder: E, text: &str, bytes: &[u8]) {
+/// Encodes the short text of a sample by a new encoder.
+pub(crate) fn encode_sample<E: RawEncoder + Drop>(
+    rt: &impl Abort,
+    mut encoder: E,
+    sample: &Sample,
+) {
+    let (text, bytes) = sample.text;
     let mut dst: [u8; 8] = [0; 8];
     let answer = encoder.encode(&mut Utf8Chars::new(text), &mut dst, true);
     let want = (EncoderResult::InputEmpty, text.len(), bytes.len());
@@ -61,72 +66,23 @@ fn encode_all<E: RawEncoder + Drop>(rt: &impl Abort, mut encoder: E, text: &str,
     assert!(rt; dst.as_slice().starts_with(bytes));
 }
 
-/// The index of windows-1252.
-const WINDOWS_1252: SingleByteIndex = SingleByteIndex::Windows1252;
-
-const SINGLE_BYTE: SingleByte = SingleByte {
-    index: WINDOWS_1252,
-};
-
-const GBK: Gb18030 = Gb18030 { is_gbk: true };
-
-const GB18030: Gb18030 = Gb18030 { is_gbk: false };
-
-#[test]
-#[rattlefmt::skip]
-fn each_encoder_encodes_its_encoding(rt: HostRuntime) {
-    encode_all(&rt, Utf8Encoder::new(Barring::new(Utf8, &[])), "€", b"\xE2\x82\xAC");
-    encode_all(&rt, SingleByteEncoder::new(Barring::new(SINGLE_BYTE, &[])), "€", b"\x80");
-    encode_all(&rt, XUserDefinedEncoder::new(Barring::new(XUserDefined, &[])), "\u{F780}", b"\x80");
-    encode_all(&rt, Big5Encoder::new(Barring::new(Big5, &[])), "一", b"\xA4\x40");
-    encode_all(&rt, EucKrEncoder::new(Barring::new(EucKr, &[])), "가", b"\xB0\xA1");
-    encode_all(&rt, ShiftJisEncoder::new(Barring::new(ShiftJis, &[])), "一", b"\x88\xEA");
-    encode_all(&rt, EucJpEncoder::new(Barring::new(EucJp, &[])), "一", b"\xB0\xEC");
-    encode_all(&rt, Gb18030Encoder::new(Barring::new(GBK, &[])), "€", b"\x80");
-    encode_all(&rt, Gb18030Encoder::new(Barring::new(GB18030, &[])), "€", b"\xA2\xE3");
-    encode_all(&rt, Iso2022JpEncoder::new(&[]), "¥", b"\x1B(J\x5C\x1B(B");
+/// The encoder of a codec is the variant of this name.
+fn compare_variant(rt: &impl Abort, sample: &Sample, name: &str) {
+    let codec: Codec = sample.codec;
+    let is_there: bool = has_encoder(codec);
+    assert!(rt; is_there);
+    let encoder: VariantEncoder = new_encoder(codec, &[]);
+    assert!(rt; variant_name(&encoder) == name);
+    encode_sample(rt, encoder, sample);
 }
-
-/// The name of an encoder's variant.
-fn variant_name(encoder: &VariantEncoder) -> &'static str {
-    match encoder {
-        VariantEncoder::Utf8(_) => "Utf8",
-        VariantEncoder::SingleByte(_) => "SingleByte",
-        VariantEncoder::XUserDefined(_) => "XUserDefined",
-        VariantEncoder::Big5(_) => "Big5",
-        VariantEncoder::EucKr(_) => "EucKr",
-        VariantEncoder::ShiftJis(_) => "ShiftJis",
-        VariantEncoder::EucJp(_) => "EucJp",
-        VariantEncoder::Gb18030(_) => "Gb18030",
-        VariantEncoder::Iso2022Jp(_) => "Iso2022Jp",
-    }
-}
-
-/// Each codec with an encoder: the encoder's variant, a text, and its bytes.
-const CODECS: &[(Codec, &str, &str, &[u8])] = &[
-    (Codec::Utf8, "Utf8", "€", b"\xE2\x82\xAC"),
-    (Codec::SingleByte(WINDOWS_1252), "SingleByte", "€", b"\x80"),
-    (Codec::XUserDefined, "XUserDefined", "\u{F780}", b"\x80"),
-    (Codec::Big5, "Big5", "一", b"\xA4\x40"),
-    (Codec::EucKr, "EucKr", "가", b"\xB0\xA1"),
-    (Codec::ShiftJis, "ShiftJis", "一", b"\x88\xEA"),
-    (Codec::EucJp, "EucJp", "一", b"\xB0\xEC"),
-    (Codec::Gbk, "Gb18030", "€", b"\x80"),
-    (Codec::Gb18030, "Gb18030", "€", b"\xA2\xE3"),
-    (Codec::Iso2022Jp, "Iso2022Jp", "¥", b"\x1B(J\x5C\x1B(B"),
-];
 
 #[test]
 fn each_codec_but_three_has_an_encoder(rt: HostRuntime) {
-    for (codec, name, text, bytes) in CODECS {
-        let is_there: bool = has_encoder(*codec);
-        assert!(rt; is_there);
-        let encoder: VariantEncoder = new_encoder(*codec, &[]);
-        assert!(rt; variant_name(&encoder) == *name);
-        encode_all(&rt, encoder, *text, *bytes);
-    }
-    for codec in [Codec::Utf16Be, Codec::Utf16Le, Codec::Replacement] {
-        assert!(rt; !has_encoder(codec));
+    for sample in samples() {
+        match variant_of(sample.codec) {
+            Some(name) => compare_variant(&rt, &sample, name),
+            None => assert!(rt; !has_encoder(sample.codec)),
+        }
     }
 }
 

@@ -1,4 +1,4 @@
--- Rows by codec are written by scripts/make-codecs from data/codecs.txt.
+-- Written by scripts/make-sources from data/templates: change the text there, and not this file.
 use Rattle.enc_codec.proofs.variant.VariantDecoderRawDecoder.decode_replacing.Goals as goal
 
 pub returns-in-Big5-clause-lawful : goal.returns-in-Big5-clause-lawful

@@ -1,4 +1,4 @@
--- Rows by codec are written by scripts/make-codecs from data/codecs.txt.
+-- Written by scripts/make-sources from data/templates: change the text there, and not this file.
 use Rattle.enc_codec.proofs.variant.VariantDecoderRawDecoder.text_lengths.Goals as goal
 
 pub returns-in-Big5-clause-enough : goal.returns-in-Big5-clause-enough

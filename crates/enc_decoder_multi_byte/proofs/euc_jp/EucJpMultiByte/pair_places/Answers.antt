@@ -1,12 +1,12 @@
 use Rattle.std.proofs.Common.{◌∙◌, ap, get_or}
 use Rattle.std.proofs.lemmas.Simd.{get_or-replicate}
 use Rattle.enc_units.specs.Places.{number_in}
-use Rattle.enc_decoder_multi_byte.proofs.PairPlaces.{euc_jp_place}
+use Rattle.enc_decoder_multi_byte.proofs.Places.EucJp.{place}
 use Rattle.enc_decoder_multi_byte.proofs.euc_jp.EucJpMultiByte.pair_places.Goals as goal
 
 pub returns : goal.returns
 returns c i l =
-    euc_jp_place c.laws.ensures (get_or c.args.first i 0) (get_or c.args.second i 0)
+    place c.laws.ensures (get_or c.args.first i 0) (get_or c.args.second i 0)
     (c.numbers_in-rows.ensures i l
     ∙ ap (number_in 0xA1 0xFE 0 (get_or c.args.first i 0)) (get_or-replicate 16 i 120 0 l))
     (c.numbers_in-columns.ensures i l

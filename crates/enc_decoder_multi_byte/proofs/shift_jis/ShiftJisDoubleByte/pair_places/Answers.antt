@@ -1,12 +1,12 @@
 use Rattle.std.proofs.Common.{◌∙◌, ap, get_or}
 use Rattle.std.proofs.lemmas.Simd.{get_or-replicate}
 use Rattle.enc_units.specs.Places.{number_in}
-use Rattle.enc_decoder_multi_byte.proofs.PairPlaces.{shift_jis_place}
+use Rattle.enc_decoder_multi_byte.proofs.Places.ShiftJis.{place}
 use Rattle.enc_decoder_multi_byte.proofs.shift_jis.ShiftJisDoubleByte.pair_places.Goals as goal
 
 pub returns : goal.returns
 returns c i l =
-    shift_jis_place c.laws.ensures (get_or c.args.first i 0) (get_or c.args.second i 0)
+    place c.laws.ensures (get_or c.args.first i 0) (get_or c.args.second i 0)
     (c.numbers_in-rows.ensures i l
     ∙ ap (number_in 0x81 0x9F 0 (get_or c.args.first i 0)) (c.numbers_in-upper.ensures i l
     ∙ ap (number_in 0xE0 0xEF 31 (get_or c.args.first i 0)) (c.numbers_in-last.ensures i l

@@ -1,4 +1,4 @@
--- Written by scripts/make-indexes from data/templates: change the text there, and not this file.
+-- Written by scripts/make-sources from data/templates: change the text there, and not this file.
 use Rattle.std.proofs.Common.{◌≡◌, ◌∙◌, ℕ, ap, sym}
 use Rattle.enc_index.specs.declared.list.List.{List as Index}
 use Rattle.enc_index.specs.Index.{index_at}

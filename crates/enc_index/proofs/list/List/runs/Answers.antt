@@ -1,4 +1,4 @@
--- Written by scripts/make-indexes from data/templates: change the text there, and not this file.
+-- Written by scripts/make-sources from data/templates: change the text there, and not this file.
 use Rattle.std.proofs.Common.{◌∙◌, ap, sym}
 use Rattle.enc_index.specs.Runs.{runs_of}
 use Rattle.enc_index.proofs.list.List.runs.Goals as goal

@@ -1,5 +1,5 @@
 -- No answer reads an entry. (Search would, for more than a minute.)
--- Written by scripts/make-indexes from data/templates: change the text there, and not this file.
+-- Written by scripts/make-sources from data/templates: change the text there, and not this file.
 use Rattle.std.proofs.Common.{ap, sym}
 use Rattle.enc_index.specs.Runs.{single_byte_runs}
 use Rattle.enc_index.proofs.single_byte_index.SingleByteIndex.runs.Goals as goal

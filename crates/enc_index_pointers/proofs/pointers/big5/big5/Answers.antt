@@ -1,4 +1,4 @@
--- Written by scripts/make-indexes from data/templates: change the text there, and not this file.
+-- Written by scripts/make-sources from data/templates: change the text there, and not this file.
 use Rattle.std.proofs.Common.{◌≡◌, ◌∙◌, true, refl}
 use Rattle.enc_index.specs.declared.table.Planes.TheVariants.{All}
 use Rattle.enc_index.specs.DoubleByteIndexes.{big5_entries}

@@ -1,4 +1,4 @@
--- Written by scripts/make-indexes from data/templates: change the text there, and not this file.
+-- Written by scripts/make-sources from data/templates: change the text there, and not this file.
 use Rattle.enc_index.proofs.Tables.Big5.{unit}
 use Rattle.enc_index.proofs.indexes.big5.Big5IndexDoubleByteIndex.unit.Goals as goal
 

@@ -1,0 +1,95 @@
+-- What the bytes in front can be in EUC-JP.
+use Rattle.std.proofs.Common.{◌≡◌, ℕ, ◌<◌, ◌≤◌, Bool, true, false, cond, ◌&&◌, ◌==◌, Option, None, List, [], ◌∷◌}
+use Rattle.std.proofs.Common.{length, refl, ◌∙◌, arith}
+use Rattle.std.proofs.lemmas.Bool.{cond-true, lt-ltb}
+use Rattle.std.proofs.lemmas.Bool.Decides.{nat_tests}
+use Rattle.enc_decoder.specs.declared.byte_codec.Text.{Text}
+use Rattle.enc_decoder_multi_byte.specs.declared.multi_byte.Prefix.{Prefix}
+use Rattle.enc_decoder_multi_byte.specs.declared.multi_byte.Prefix.TheVariants.{Complete, Malformed, Incomplete}
+use Rattle.enc_decoder_multi_byte.specs.DoubleByte.{text_of_char, IsPairText}
+use Rattle.enc_decoder_multi_byte.specs.MultiByte.{CanBeMalformed, ArePrefixes}
+use Rattle.enc_decoder_multi_byte.specs.EucJp.{is_euc_byte, is_euc_jp_lead, euc_jp_single_char, euc_jp_pair_char}
+use Rattle.enc_decoder_multi_byte.specs.EucJp.{euc_jp_triple_char, euc_jp_prefix}
+use Rattle.enc_decoder_multi_byte.proofs.DoubleByteLemmas.{first_is_basic, ascii_is_basic, char_is_text, first_is_text}
+use Rattle.enc_decoder_multi_byte.proofs.DoubleByteLemmas.{first_alone}
+use Rattle.enc_decoder_multi_byte.proofs.DoubleByteLemmas.{first_malformed, trail_text, trail_malformed, trail_finished}
+use Rattle.enc_decoder_multi_byte.proofs.DoubleByteLemmas.{trail_can_be_malformed, unless_complete, unless_malformed}
+
+texts : (front : List ℕ) (text : Text) → euc_jp_prefix front ≡ Complete text → IsPairText text
+texts [] text complete = cc
+texts (a ∷ []) text complete = first_is_text (is_euc_jp_lead a) (euc_jp_single_char a) text complete
+texts (a ∷ b ∷ []) text complete =
+    char_is_text (euc_jp_pair_char a b) text
+    (trail_text 1 b _ text (unless_complete (a == 0x8F && is_euc_byte b) _ text complete))
+texts (a ∷ b ∷ c ∷ z) text complete =
+    char_is_text (euc_jp_triple_char b c) text (trail_text 2 c _ text complete)
+
+malformed : (front : List ℕ) (n : ℕ) → euc_jp_prefix front ≡ Malformed n → (0 < n)
+    × (n ≤ length front)
+malformed [] n is_malformed = cc
+malformed (a ∷ []) n is_malformed =
+    let len_is_one = first_malformed (is_euc_jp_lead a) (euc_jp_single_char a) n is_malformed in
+    (omega arith, omega arith)
+malformed (a ∷ b ∷ []) n is_malformed =
+    let form = trail_malformed 1 b (text_of_char (euc_jp_pair_char a b)) n
+    (unless_malformed (a == 0x8F && is_euc_byte b) _ n is_malformed) in
+    (omega (arith, form.0), omega (arith, form.1))
+malformed (a ∷ b ∷ c ∷ z) n is_malformed =
+    let form = trail_malformed 2 c (text_of_char (euc_jp_triple_char b c)) n is_malformed in
+    (omega (arith, form.0), omega (arith, form.1))
+
+short : (front : List ℕ) → euc_jp_prefix front ≡ Incomplete → length front ≤ 3
+short [] e = omega arith
+short (a ∷ []) e = omega arith
+short (a ∷ b ∷ []) e = omega arith
+short (a ∷ b ∷ c ∷ z) e = absurd (trail_finished 2 c (text_of_char (euc_jp_triple_char b c)) e)
+
+-- FF is no trail of any lead
+
+no_char : (s t : Bool) (c : Option ℕ) → text_of_char (cond s None (cond (t && false) c None)) ≡ None
+no_char true t c = refl
+no_char false true c = refl
+no_char false false c = refl
+
+no_more : (t : Bool) (r : Prefix) → cond (t && false) Incomplete r ≡ r
+no_more true r = refl
+no_more false r = refl
+
+pair_can_be_malformed : (a : ℕ) → euc_jp_prefix (a ∷ 0xFF ∷ []) ≡ Malformed 2
+pair_can_be_malformed a = no_more (a == 0x8F) _
+    ∙ trail_can_be_malformed 1 _ (no_char (a == 0x8E) (is_euc_byte a) _)
+
+can_be_malformed : (front : List ℕ) → 0 < length front → euc_jp_prefix front ≡ Incomplete
+    → CanBeMalformed euc_jp_prefix front
+can_be_malformed [] s e = absurd (omega arith)
+can_be_malformed (a ∷ []) s e = record {
+  byte = 0xFF;
+  is_byte = omega arith;
+  len = 2;
+  malformed = pair_can_be_malformed a;
+  other = λ f. omega arith;
+}
+can_be_malformed (a ∷ b ∷ []) s e = record {
+  byte = 0xFF;
+  is_byte = omega arith;
+  len = 3;
+  malformed = refl;
+  other = λ f. omega arith;
+}
+can_be_malformed (a ∷ b ∷ c ∷ z) s e =
+    absurd (trail_finished 2 c (text_of_char (euc_jp_triple_char b c)) e)
+
+pub laws : ArePrefixes euc_jp_prefix
+laws = record {
+  nothing = refl;
+  ascii = λ b l. first_alone (is_euc_jp_lead b) _ b (grind (arith, nat_tests))
+      (cond-true _ _ _ (lt-ltb b 0x80 l));
+  lead = 0x8E;
+  leads = record { is_byte = omega arith; incomplete = refl };
+  texts = texts;
+  alone = λ b text e.
+      first_is_basic (is_euc_jp_lead b) (euc_jp_single_char b) text (ascii_is_basic b) e;
+  malformed = malformed;
+  short = short;
+  can_be_malformed = can_be_malformed;
+}
