@@ -3,9 +3,6 @@
 A word is a text, and a list has words for each of its items. Both have the names by which data/templates call them.
 """
 
-import functools
-import re
-
 from common import paths, read
 from lists import byte_ranges, constant_of, first_of, encodings, labels_of, lists, pairs_of, snake_of
 from tables import BY, DATA, INDEXES, NO_POINTER, PAGE, PAGES, SINGLE_BYTE, pages_of, pointers_of, sources
@@ -54,10 +51,8 @@ def words_of_encoding(it):
 
 
 def pattern(those):
-    """The pattern of an arm for these encodings, as rt fmt lays it out."""
-    words = [f"Self::{it.ident}" for it in those]
-    line = " | ".join(words)
-    return line if len(line) <= 80 else "\n            | ".join(words)
+    """The pattern of an arm for these encodings."""
+    return " | ".join(f"Self::{it.ident}" for it in those)
 
 
 def taken_labels():
@@ -78,7 +73,6 @@ def of_encodings():
         "those_that_write_utf_8": pattern([it for it in every if it.writes_utf_8]),
         "those_not_ascii_compatible": pattern([it for it in every if not it.is_ascii_compatible]),
         "those_not_single_byte": pattern([it for it in every if not it.is_single_byte]),
-        "single_byte_count": sum(bool(it.index) for it in every),
     }
 
 
@@ -107,15 +101,6 @@ def words_of_codec(it):
         "arguments": ARGUMENTS.get(it.name, ""), "sample": samples_of(it.name)[0],
         "encoder_name": f'Some("{it.encoder}")' if it.encoder != "-" else "None",
     }
-
-
-def natural(word):
-    """The order of names in an import, as rt fmt has it: numbers by their value, and _ before letters."""
-    return [(0, int(it), "") if it.isdigit() else (1, 0, it.replace("_", " ")) for it in re.findall(r"\d+|\D+", word)]
-
-
-def by_name(items):
-    return sorted(items, key=lambda it: natural(it["name"]))
 
 
 def each_once(every, which):
@@ -147,15 +132,14 @@ def of_codecs():
     decoders, encoders = with_titles(multi, "Decoder"), with_titles(multi, "Encoder")
     of_pairs = {it.name for it in lists().codecs if it.recipe == "C"}
     samples = [call for it in every for call in samples_of(it)]
-    two_bytes = [it for it in encoders if it["lengths"] == "TwoBytes"]
     return {
         "codecs": list(every.values()), "samples": [{"call": it} for it in samples], "sample_count": len(samples),
         "decoders": [{"Name": it["Decoder"], "name": it["decoder"]} for it in each_once(every.values(), "Decoder")],
         "encoders": [{"Name": it["Encoder"]} for it in each_once(every.values(), "Encoder")],
-        "multi_byte_codecs": multi, "multi_byte_decoders": decoders, "multi_byte_decoders_by_name": by_name(decoders),
+        "multi_byte_codecs": multi, "multi_byte_decoders": decoders,
         "double_byte_decoders": [it for it in decoders if it["Name"] in of_pairs],
-        "multi_byte_encoders": encoders, "multi_byte_encoders_by_name": by_name(encoders),
-        "double_byte_encoders": two_bytes, "double_byte_encoders_by_name": by_name(two_bytes),
+        "multi_byte_encoders": encoders,
+        "double_byte_encoders": [it for it in encoders if it["lengths"] == "TwoBytes"],
         "plain_pairs": [words_of_pairs(it, every[it.decoder]) for it in lists().pairs if it.is_plain],
     }
 
@@ -195,7 +179,7 @@ def words_of_lookup(it):
 def modules_in(folder, made):
     """The modules of the files of a folder, each as a word."""
     names = (it.removeprefix(f"{folder}/").removesuffix(".rt") for it in made if it.startswith(f"{folder}/"))
-    return [{"module": it} for it in sorted(set(names), key=natural)]
+    return [{"module": it} for it in sorted(set(names))]
 
 
 def of_indexes():
