@@ -3,23 +3,13 @@
 A word is a text, and a list has words for each of its items. Both have the names by which data/templates call them.
 """
 
+import textwrap
+
 from common import paths, read
 from lists import byte_ranges, constant_of, first_of, encodings, labels_of, lists, pairs_of, snake_of
 from tables import BY, DATA, INDEXES, NO_POINTER, PAGE, PAGES, SINGLE_BYTE, pages_of, pointers_of, sources
 
 POINTERS = "crates/enc_index_pointers/src/pointers"
-
-
-def wrapped(words, indent, separator, end, width=100):
-    """Words in lines: `separator` stands between two, and `end` at the end of each line but the last."""
-    lines, line = [], ""
-    for word in words:
-        longer = f"{line}{separator}{word}" if line else word
-        if line and len(indent) + len(longer) + len(end) > width:
-            lines.append(line)
-            longer = word
-        line = longer
-    return (end + "\n").join(indent + it for it in [*lines, line])
 
 
 def names_of(ident, constant):
@@ -31,7 +21,7 @@ def names_of(ident, constant):
 
 def words_of_labels(labels):
     """Labels as the words of a definition."""
-    lines = wrapped(labels, "", " ", "", 88).split("\n")
+    lines = textwrap.wrap(" ".join(labels), 88, break_on_hyphens=False)
     if len(lines) == 1:
         return f' words "{lines[0]}"'
     return "\n    " + "\n    ++ ".join(f'words "{line}"' for line in lines)
@@ -59,7 +49,8 @@ def taken_labels():
     """The labels that recode takes, in lines: names of encodings in lower case first, and then the others."""
     taken = [it for it in encodings() if it.codec != "Replacement"]
     names = [it.name.lower() for it in taken]
-    return wrapped(names + [it for it in labels_of(taken) if it not in names], "    ", " ", "")
+    every = " ".join(names + [it for it in labels_of(taken) if it not in names])
+    return textwrap.indent(textwrap.fill(every, 96, break_on_hyphens=False), "    ")
 
 
 def of_encodings():
