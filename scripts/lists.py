@@ -41,14 +41,6 @@ class Encoding(NamedTuple):
         return ident_of(self.constant.split("_"))
 
     @property
-    def is_ascii_compatible(self):
-        return "ascii-compatible" in self.properties
-
-    @property
-    def is_single_byte(self):
-        return "single-byte" in self.properties
-
-    @property
     def writes_utf_8(self):
         return "writes-utf-8" in self.properties
 
@@ -91,10 +83,6 @@ class Index(NamedTuple):
     constant, module, ident = Named.constant, Named.module, Named.ident
 
     @property
-    def text(self):
-        return f"data/indexes/index-{self.name}.txt"
-
-    @property
     def rows(self):
         return int(self.size.split(" x ")[0])
 
@@ -106,10 +94,6 @@ class Index(NamedTuple):
     def length(self):
         """The number of its pointers."""
         return self.rows * self.width
-
-    @property
-    def has_grid(self):
-        return self.grid == "grid"
 
     @property
     def planes(self):
@@ -168,8 +152,7 @@ class Pairs(NamedTuple):
     @property
     def sequences(self):
         """Each two bytes with their character, or None, by the leads, the trails and the index."""
-        lines = (line.split() for line in read(f"data/indexes/index-{self.index}.txt").splitlines() if line[0].isdigit())
-        characters = {int(line[0]): chr(int(line[1], 16)) for line in lines}
+        characters = by_pointer(self.index)
         both = [bytes([lead, trail]) for lead in bytes_in(self.leads) for trail in bytes_in(self.trails)]
         return [(data, characters.get(pointer)) for pointer, data in enumerate(both)]
 
@@ -195,6 +178,28 @@ def bytes_in(text):
 
 def lines_of(path):
     return [line.strip() for line in read(path).splitlines() if line.strip() and not line.startswith("#")]
+
+
+def rows_of(path, *bases):
+    """The numbers of each line of a text, whose first ones ascend."""
+    rows = [tuple(int(number, base) for number, base in zip(line.split(), bases)) for line in lines_of(path)]
+    if any(later[0] <= earlier[0] for earlier, later in zip(rows, rows[1:])):
+        refuse(path, "the first numbers of lines don't ascend")
+    return rows
+
+
+def text_of(index):
+    return f"data/indexes/index-{index}.txt"
+
+
+def entries_of(index):
+    """The entries of an index: pointers with their code points."""
+    return rows_of(text_of(index), 10, 16)
+
+
+def by_pointer(index):
+    """The characters of an index by their pointers."""
+    return {pointer: chr(code_point) for pointer, code_point in entries_of(index)}
 
 
 def encoding_of(line):
@@ -271,8 +276,8 @@ def check(lists):
         refuse(CODECS, f"{name}: an encoding of {ENCODINGS} and a line codec have it, or neither")
     decoders, indexes = {it.decoder for it in lists.codecs}, {it.name: it for it in lists.indexes}
     for index in lists.indexes:
-        if not is_there(index.text):
-            refuse(CODECS, f"no {index.text}")
+        if not is_there(text_of(index.name)):
+            refuse(CODECS, f"no {text_of(index.name)}")
     for lookup in lists.lookups:
         if lookup.index not in indexes:
             refuse(CODECS, f"lookup {lookup.name}: no index {lookup.index}")

@@ -12,8 +12,7 @@
   gb18030 writes with two bytes beside its index.
 """
 
-from common import give_up, read
-from lists import lists, single_byte
+from lists import entries_of, lists, rows_of, single_byte, text_of
 
 BY = "Written by scripts/make-sources"
 DATA, PAGES = "crates/enc_index/src/data", "crates/enc_index_pointers/src/pages"
@@ -37,24 +36,6 @@ SINGLE_BYTE = [it for it in single_byte() if it.index == it.ident]
 
 
 # The entries of indexes, and what follows from them.
-
-
-def rows_of(path, *bases):
-    """The numbers of each line of a text, whose first ones ascend."""
-    lines = (line.split("#")[0].split() for line in read(path).splitlines())
-    rows = [tuple(int(number, base) for number, base in zip(line, bases)) for line in lines if line]
-    if any(later[0] <= earlier[0] for earlier, later in zip(rows, rows[1:])):
-        give_up(f"{path}: the first numbers of lines don't ascend")
-    return rows
-
-
-def text_of(name):
-    return f"data/indexes/index-{name}.txt"
-
-
-def entries_of(name):
-    """The entries of an index: pointers with their code points."""
-    return rows_of(text_of(name), 10, 16)
 
 
 def runs_of(entries):
@@ -154,7 +135,9 @@ def lines_of(items, each):
 
 
 def items_text(doc, declaration, items, each):
-    return f"/// {doc}\n#[rattlefmt::skip]\n{declaration} = &[\n" + lines_of(items, each) + "];\n"
+    """A list of data: of a slice, where its type says so, and else of an array."""
+    opens = "&[" if "&[" in declaration else "["
+    return f"/// {doc}\n#[rattlefmt::skip]\n{declaration} = {opens}\n" + lines_of(items, each) + "];\n"
 
 
 def runs_text(doc, constant, runs):
@@ -165,8 +148,7 @@ def runs_text(doc, constant, runs):
 def array_text(doc, constant, number, numbers, visible="pub", digits=None):
     digits = digits or {"u8": 2, "u16": 4, "u32": 5}[number]
     items = [f"0x{value:0{digits}X}" for value in numbers]
-    head = f"/// {doc}\n#[rattlefmt::skip]\n{visible} static {constant}: [{number}; {len(numbers)}] = [\n"
-    return head + lines_of(items, NUMBERS_A_LINE) + "];\n"
+    return items_text(doc, f"{visible} static {constant}: [{number}; {len(numbers)}]", items, NUMBERS_A_LINE)
 
 
 def words_and_units(constant, characters, of_words, of_units, visible="pub"):
@@ -274,7 +256,7 @@ def single_byte_sources():
 def data():
     """The sources of data, by path."""
     made = {f"{DATA}/{it.module}.rt": table_source(it) for it in lists().indexes}
-    made |= {f"{DATA}/{it.module}_grid.rt": grid_source(it) for it in lists().indexes if it.has_grid}
+    made |= {f"{DATA}/{it.module}_grid.rt": grid_source(it) for it in lists().indexes if it.grid == "grid"}
     made |= {f"{PAGES}/{it.module}.rt": pages_source(it) for it in lists().lookups}
     runs = runs_text("The runs of index gb18030 ranges.", "GB18030_RANGES_RUNS", ranges())
     title = "Index gb18030 ranges (Encoding Standard 5)."
@@ -298,8 +280,8 @@ def ends_of(mask):
 def ends_source():
     rows = [str(ends_of(mask)) for mask in range(256)]
     doc = "The offsets at which four characters end, by a mask of the lead bytes among eight bytes."
-    head = f"/// {doc}\n#[rattlefmt::skip]\npub(crate) static ENDS: [[u8; 4]; 256] = [\n"
-    return source("The ends of characters of one and two bytes.", "", [head + lines_of(rows, 32) + "];\n"])
+    ends = items_text(doc, "pub(crate) static ENDS: [[u8; 4]; 256]", rows, 32)
+    return source("The ends of characters of one and two bytes.", "", [ends])
 
 
 def marked_of(mask):
@@ -332,8 +314,7 @@ FAULTS = [
 def halves_text(doc, constant, halves):
     """The faults that a byte with each half may have part in."""
     faults = [sum(1 << bit for bit, has in enumerate(halves) if half in has) for half in range(0x10)]
-    head = f"/// {doc}\n#[rattlefmt::skip]\npub(crate) const {constant}: [u8; 16] = [\n"
-    return head + lines_of([f"0x{value:02X}" for value in faults], 16) + "];\n"
+    return items_text(doc, f"pub(crate) const {constant}: [u8; 16]", [f"0x{value:02X}" for value in faults], 16)
 
 
 def utf8_faults_source():

@@ -35,7 +35,8 @@ def words_of_encoding(it):
         "codec_in_spec": f"codec.{it.codec}" + (f" index.{it.index}" if it.index else ""),
         "Output": "Utf8" if it.writes_utf_8 else it.ident,
         "OUTPUT": "UTF_8" if it.writes_utf_8 else it.constant,
-        "ascii_compatible": str(it.is_ascii_compatible).lower(), "single_byte": str(it.is_single_byte).lower(),
+        "ascii_compatible": str("ascii-compatible" in it.properties).lower(),
+        "single_byte": str("single-byte" in it.properties).lower(),
         "labels": " ".join(it.labels), "words_of_labels": words_of_labels(it.labels),
     }
 
@@ -62,8 +63,8 @@ def of_encodings():
         "labels_in_order": by_label, "label_count": len(by_label), "longest_label": max(map(len, ordered)),
         "words_in_order": words_of_labels(ordered), "taken_labels": taken_labels(),
         "those_that_write_utf_8": pattern([it for it in every if it.writes_utf_8]),
-        "those_not_ascii_compatible": pattern([it for it in every if not it.is_ascii_compatible]),
-        "those_not_single_byte": pattern([it for it in every if not it.is_single_byte]),
+        "those_not_ascii_compatible": pattern([it for it in every if "ascii-compatible" not in it.properties]),
+        "those_not_single_byte": pattern([it for it in every if "single-byte" not in it.properties]),
     }
 
 
@@ -147,7 +148,7 @@ def words_of_index(it):
     """The words of an index. The list `grid` has it if it has a grid."""
     character_in = "character_in" if it.planes == "Basic" else "character_in_all"
     more = {"title": it.title, "rows": it.rows, "width": it.width, "planes": it.planes, "character_in": character_in}
-    return names_of(it.ident, it.constant) | more | {"grid": [{}] if it.has_grid else []}
+    return names_of(it.ident, it.constant) | more | {"grid": [{}] if it.grid == "grid" else []}
 
 
 def words_of_lookup(it):
