@@ -13,6 +13,8 @@ import tempfile
 TOP = os.path.dirname(os.path.dirname(os.path.abspath(__file__)))
 NAME = os.path.basename(sys.argv[0])
 os.environ["PATH"] += ":/usr/local/bin"
+# (scripts take modules of bench/ too)
+sys.path.append(f"{TOP}/bench")
 sys.stdout.reconfigure(line_buffering=True)
 
 
@@ -94,20 +96,20 @@ def share(crate, to, parts, copy=link):
             shutil.copytree(f"{crate}/out/{part}", f"{to}/out/{part}", copy_function=copy)
 
 
-def copy_crates(room, is_left):
+def copy_crates(room, left):
     """Copies the crates to a room, without the entries of a crate that are left, and what `rt` wants beside them."""
-    def left(at, names):
-        return set(filter(is_left, names)) if os.path.dirname(at) == f"{TOP}/crates" else set()
+    def ignored(at, names):
+        return {*left}.intersection(names) if os.path.dirname(at) == f"{TOP}/crates" else set()
 
-    shutil.copytree(f"{TOP}/crates", f"{room}/crates", ignore=left)
+    shutil.copytree(f"{TOP}/crates", f"{room}/crates", ignore=ignored)
     for name in ("crates.txt", "HANDLES"):
         shutil.copy(f"{TOP}/{name}", room)
     os.mkdir(f"{room}/.git")
 
 
 @contextlib.contextmanager
-def copied(is_left):
+def copied(left):
     """The room of a copy of the crates, which is gone after its use."""
     with tempfile.TemporaryDirectory(prefix="copy-", ignore_cleanup_errors=True) as room:
-        copy_crates(room, is_left)
+        copy_crates(room, left)
         yield room

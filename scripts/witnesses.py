@@ -24,6 +24,8 @@ from edit_list import apply, edits_of, ends_of, equal_of, fault_of, file_of_test
 LANES = max(1, min(3, os.cpu_count() - 1))
 # The seconds that a test may take.
 SECONDS = 60
+# What a copy lacks of a crate.
+LEFT = ("out", "proofs", "edits", "must-fail", "equal", "args", "status", "data")
 SWITCH = "switch"
 SWITCH_SOURCE = """//! A number that says which body counts.
 #![tactic(auto)]
@@ -85,11 +87,6 @@ def bodies_of(edit):
 
 def place_of_test(test):
     return file_of_test(test), test.split("::")[-1]
-
-
-def is_left(name):
-    """Whether a copy lacks what has this name in a crate."""
-    return name not in ("src", "specs", "c", "stdin", "stdout")
 
 
 class Copy:
@@ -180,7 +177,7 @@ def first_error(said):
 
 def run_singly(edit, witness):
     """Whether a test or a program passes in a copy with an edit alone, or with none, or what is said if it didn't run."""
-    with copied(is_left) as room:
+    with copied(LEFT) as room:
         copy = Copy(room)
         for file, text in apply(edit.crate, [it for it in edit.pairs if not is_ghost(it)]).items() if edit else ():
             copy.write(f"crates/{edit.crate}/{file}", text)
@@ -211,7 +208,7 @@ class Runs:
         """Runs numbered edits in one copy, with the controls of other tests too. Returns those that can't stand there."""
         if not numbered:
             return []
-        with copied(is_left) as room, ThreadPoolExecutor(LANES) as pool:
+        with copied(LEFT) as room, ThreadPoolExecutor(LANES) as pool:
             copy = Switched(room, numbered, others)
             said = list(pool.map(lambda it: copy.run_tests(it, PREFIX), copy.crates))
             bad, tests = set().union(*map(copy.edits_at, copy.crates, said)), list(copy.tests)
