@@ -62,6 +62,14 @@ def give_up(text, status=2):
     sys.exit(status)
 
 
+def report(faults, said):
+    """Says what is wrong, and in a last line how it went. The status."""
+    for it in faults:
+        print(f"{NAME}: {it}", file=sys.stderr)
+    print(f"{NAME}: {said}")
+    return 1 if faults else 0
+
+
 def run(words, **options):
     """Runs a command on no input. What it writes, and its status."""
     how = {"stdin": subprocess.DEVNULL, "stdout": subprocess.PIPE, "stderr": subprocess.STDOUT, "errors": "replace"}
