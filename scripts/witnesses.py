@@ -95,16 +95,11 @@ class Copy:
     def __init__(self, room):
         self.room = room
 
-    def read(self, path):
-        return read(f"{self.room}/{path}")
-
-    def write(self, path, text):
-        write(f"{self.room}/{path}", text)
-
     def replace_tests(self, crate, by):
         """Has a text in place of each test of a crate, by its place, or none: a build of few is quick."""
         for path in paths(f"crates/{crate}/src/**/*.rt"):
-            self.write(path, TESTS.sub(lambda it: by((path, it["name"]), it), self.read(path)))
+            file = f"{self.room}/{path}"
+            write(file, TESTS.sub(lambda it: by((path, it["name"]), it), read(file)))
 
     def run(self, crate, *words):
         """What `rt try` says of a crate, and what the program prints."""
@@ -130,10 +125,10 @@ class Switched(Copy):
             self.tests.setdefault(test, []).append(number)
         self.places = [place_of_test(it) for it in self.tests]
         self.crates = sorted({test.split("::")[0] for test in self.tests})
-        self.write(f"crates/{SWITCH}/src/lib.rt", SWITCH_SOURCE)
-        self.write(f"crates/{SWITCH}/c/switch.c", SWITCH_C)
-        lines = re.sub(r"^(\w+) *:", rf"\1: {SWITCH}", self.read("crates.txt"), flags=re.M)
-        self.write("crates.txt", f"{SWITCH}:\n{lines}")
+        write(f"{room}/crates/{SWITCH}/src/lib.rt", SWITCH_SOURCE)
+        write(f"{room}/crates/{SWITCH}/c/switch.c", SWITCH_C)
+        lines = re.sub(r"^(\w+) *:", rf"\1: {SWITCH}", read(f"{room}/crates.txt"), flags=re.M)
+        write(f"{room}/crates.txt", f"{SWITCH}:\n{lines}")
         for number, (edit, _) in numbered.items():
             self.switch(edit, number)
         for crate in self.crates:
@@ -142,11 +137,11 @@ class Switched(Copy):
     def switch(self, edit, number):
         """Has the bodies of an edit stand before those that are there."""
         for place, body in bodies_of(edit).items():
-            path = f"crates/{edit.crate}/{place.file}"
-            text = self.read(path)
+            path = f"{self.room}/crates/{edit.crate}/{place.file}"
+            text = read(path)
             at = ends_of(text, place)[2]
             wrong = f"\nif {SWITCH}::is_on({number}) {{ {BEGINS} {number}\nreturn {{{body}}};\n}} {ENDS} {number}\n"
-            self.write(path, text[:at] + wrong + text[at:])
+            write(path, text[:at] + wrong + text[at:])
 
     def wrappers(self, place, test):
         """The tests that set a number, in place of a test: one for each number, and one for none. No function may call a
@@ -180,7 +175,7 @@ def run_singly(edit, witness):
     with copied(LEFT) as room:
         copy = Copy(room)
         for file, text in apply(edit.crate, [it for it in edit.pairs if not is_ghost(it)]).items() if edit else ():
-            copy.write(f"crates/{edit.crate}/{file}", text)
+            write(f"{room}/crates/{edit.crate}/{file}", text)
         if is_program(witness):
             said, printed = copy.run(witness)
             passes = printed == read_bytes(f"crates/{witness}/stdout") and bool(ENDED.search(said))
