@@ -28,15 +28,14 @@ def sources():
     return sorted(it for it in found if "/out/" not in it and not is_written(it))
 
 
-def is_wide(line):
-    """Whether a line has too many columns."""
-    most = MOST_OF_IMPORTS if IMPORT.match(line) else MOST_COLUMNS
-    return len(line) > most and not WHOLE_LINE.match(line)
-
-
 def wide_lines(path, text):
-    found = (at for at, line in enumerate(text.split("\n"), 1) if is_wide(line))
-    return [f"{path}:{at}: a line of too many columns" for at in found]
+    """The lines that have too many columns."""
+    found = []
+    for at, line in enumerate(text.split("\n"), 1):
+        most = MOST_OF_IMPORTS if IMPORT.match(line) else MOST_COLUMNS
+        if len(line) > most and not WHOLE_LINE.match(line):
+            found.append(f"{path}:{at}: a line of too many columns")
+    return found
 
 
 def line_at(text, place):
