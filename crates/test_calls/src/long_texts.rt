@@ -9,7 +9,7 @@ use encoding_rs::{CoderResult, Encoding, UTF_16LE, WINDOWS_1252, WINDOWS_1253};
 use std::alloc::Global;
 use std::process::Abort;
 use std::test::Fail;
-use test_support::samples::{Decoded, samples};
+use test_support::samples::{Decoded, Sample, samples};
 
 /// How many times each text is repeated.
 const TIMES: usize = 64;
@@ -72,12 +72,18 @@ fn decode_in_each_size(
     Ok(())
 }
 
+/// Decodes the words of a sample.
+fn decode_sample(rt: &impl Abort, alloc: Global, sample: &Sample) -> Result<(), Fail> {
+    for words in sample.words {
+        decode_in_each_size(rt, alloc, (sample.encoding, *words))?;
+    }
+    Ok(())
+}
+
 #[test]
 fn long_texts_are_read_as_their_characters(rt: HostRuntime) -> Result<(), Fail> {
     for sample in samples() {
-        for words in sample.words {
-            decode_in_each_size(&rt, rt.alloc(), (sample.encoding, *words))?;
-        }
+        decode_sample(&rt, rt.alloc(), &sample)?;
     }
     Ok(())
 }

@@ -14,7 +14,7 @@ use std::test::Fail;
 use test_support::decoding::{
     Call, ReportingCall, make_calls_of, make_reporting_calls_of, new_decoder,
 };
-use test_support::samples::{DecoderLengths, Limit, samples};
+use test_support::samples::{DecoderLengths, Limit, Sample, samples};
 
 const EMPTY: CoderResult = CoderResult::InputEmpty;
 
@@ -64,12 +64,17 @@ fn compare_lengths(rt: &impl Abort, row: &QueryRow) {
     assert!(rt; answers == want, "{encoding:?} {bytes:?} {more}");
 }
 
+/// Compares the lengths of a sample.
+fn compare_lengths_of(rt: &impl Abort, sample: &Sample) {
+    for (bytes, more, want) in sample.decoder_lengths {
+        compare_lengths(rt, &(sample.encoding, OFF, *bytes, *more, *want));
+    }
+}
+
 #[test]
 fn each_codec_has_its_formulas(rt: HostRuntime) {
     for sample in samples() {
-        for (bytes, more, want) in sample.decoder_lengths {
-            compare_lengths(&rt, &(sample.encoding, OFF, *bytes, *more, *want));
-        }
+        compare_lengths_of(&rt, &sample);
     }
     // a single-byte encoding without a sample
     let want = (Some(15), Some(15), Some(5));
@@ -253,16 +258,18 @@ fn compare_limits(rt: &impl Abort, decoder: &Decoder, limits: (Limit, Limit, Lim
     }
 }
 
+/// Compares the limits of a sample.
+fn compare_limits_of(rt: &impl Abort, sample: &Sample) {
+    for (bytes, limits) in sample.decoder_limits {
+        let decoder = decoder_after(rt, (sample.encoding, OFF), bytes);
+        compare_limits(rt, &decoder, *limits);
+    }
+}
+
 #[test]
 fn no_length_passes_the_greatest_number(rt: HostRuntime) {
     for sample in samples() {
-        for (bytes, limits) in sample.decoder_limits {
-            compare_limits(
-                &rt,
-                &decoder_after(&rt, (sample.encoding, OFF), bytes),
-                *limits,
-            );
-        }
+        compare_limits_of(&rt, &sample);
     }
     for (encoding, handling, bytes, limits) in LIMIT_ROWS {
         let decoder = decoder_after(&rt, (*encoding, *handling), bytes);

@@ -6,14 +6,20 @@ use enc_units::Utf8Slice;
 use std::process::Abort;
 use std::test::Fail;
 use test_support::decoding::raw_calls::{end, hold};
-use test_support::samples::{Decoded, DecoderLengthsRow, samples};
+use test_support::samples::{Decoded, DecoderLengthsRow, Sample, samples};
+
+/// Decodes each character of a sample in one call.
+fn decode_at_once(sample: &Sample) -> Result<(), Fail> {
+    for (bytes, text) in sample.characters {
+        end(&mut sample.codec.new_decoder(), bytes, text)?;
+    }
+    Ok(())
+}
 
 #[test]
 fn each_codec_decodes_a_character(rt: HostRuntime) -> Result<(), Fail> {
     for sample in samples() {
-        for (bytes, text) in sample.characters {
-            end(&mut sample.codec.new_decoder(), bytes, text)?;
-        }
+        decode_at_once(&sample)?;
     }
     Ok(())
 }
@@ -37,12 +43,18 @@ fn decode_in_turn(
     end(&mut decoder, &[*last], text)
 }
 
+/// Decodes each character of a sample byte by byte.
+fn decode_byte_by_byte(rt: &impl Abort, sample: &Sample) -> Result<(), Fail> {
+    for character in sample.characters {
+        decode_in_turn(rt, sample.codec.new_decoder(), *character)?;
+    }
+    Ok(())
+}
+
 #[test]
 fn counts_what_it_holds(rt: HostRuntime) -> Result<(), Fail> {
     for sample in samples() {
-        for character in sample.characters {
-            decode_in_turn(&rt, sample.codec.new_decoder(), *character)?;
-        }
+        decode_byte_by_byte(&rt, &sample)?;
     }
     Ok(())
 }
@@ -77,12 +89,17 @@ fn report_malformed(rt: &impl Abort, codec: Codec, src: &[u8]) {
     call_with_malformed(rt, codec, src, (4, false), whole);
 }
 
+/// The same for each malformed sequence of a sample.
+fn report_each_malformed(rt: &impl Abort, sample: &Sample) {
+    for src in sample.malformed {
+        report_malformed(rt, sample.codec, src);
+    }
+}
+
 #[test]
 fn reports_where_the_replacement_fits(rt: HostRuntime) {
     for sample in samples() {
-        for src in sample.malformed {
-            report_malformed(&rt, sample.codec, src);
-        }
+        report_each_malformed(&rt, &sample);
     }
 }
 
@@ -102,11 +119,16 @@ fn compare_lengths(rt: &impl Abort, codec: Codec, row: &DecoderLengthsRow) {
     assert!(rt; answers == want, "{bytes:?} {more}");
 }
 
+/// Compares the lengths of a sample.
+fn compare_lengths_of(rt: &impl Abort, sample: &Sample) {
+    for row in sample.decoder_lengths {
+        compare_lengths(rt, sample.codec, row);
+    }
+}
+
 #[test]
 fn decoders_by_themselves_tell_lengths(rt: HostRuntime) {
     for sample in samples() {
-        for row in sample.decoder_lengths {
-            compare_lengths(&rt, sample.codec, row);
-        }
+        compare_lengths_of(&rt, &sample);
     }
 }

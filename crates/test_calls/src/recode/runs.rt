@@ -320,13 +320,19 @@ fn compare_line(rt: &impl Abort, alloc: Global, line: Line) -> Result<(), Fail> 
     Ok(())
 }
 
+/// Recodes the words of a sample to UTF-8.
+fn compare_words(rt: &impl Abort, alloc: Global, sample: &Sample) -> Result<(), Fail> {
+    let from = sample.encoding.name();
+    for (bytes, text) in sample.words {
+        compare_line(rt, alloc, (from, "utf-8", *bytes, *text, false))?;
+    }
+    Ok(())
+}
+
 #[test]
 fn recodes_a_line_of_each_kind_of_encoding(rt: HostRuntime) -> Result<(), Fail> {
     for sample in samples() {
-        let from = sample.encoding.name();
-        for (bytes, text) in sample.words {
-            compare_line(&rt, rt.alloc(), (from, "utf-8", *bytes, *text, false))?;
-        }
+        compare_words(&rt, rt.alloc(), &sample)?;
     }
     for line in LINES {
         compare_line(&rt, rt.alloc(), *line)?;

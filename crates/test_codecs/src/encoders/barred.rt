@@ -17,7 +17,7 @@ use test_support::encoding::call_rows::{
 };
 use test_support::encoding::runs::compare_cuts;
 use test_support::encoding::ways::{Asked, encoder_of};
-use test_support::samples::{BarredRow, samples};
+use test_support::samples::{BarredRow, Sample, samples};
 
 const EMPTY: CoderResult = CoderResult::InputEmpty;
 
@@ -105,12 +105,18 @@ fn half_of_a_pair_is_barred(rt: HostRuntime) -> Result<(), Fail> {
     Ok(())
 }
 
+/// Encodes the texts of a sample with barred characters, in cuts.
+fn compare_cuts_of(alloc: Global, sample: &Sample) -> Result<(), Fail> {
+    for (barred, row) in sample.barred {
+        compare_cuts(alloc, (sample.encoding, *barred), row)?;
+    }
+    Ok(())
+}
+
 #[test]
 fn cuts_and_rooms_change_no_barred_text(rt: HostRuntime) -> Result<(), Fail> {
     for sample in samples() {
-        for (barred, row) in sample.barred {
-            compare_cuts(rt.alloc(), (sample.encoding, *barred), row)?;
-        }
+        compare_cuts_of(rt.alloc(), &sample)?;
     }
     Ok(())
 }
@@ -158,12 +164,18 @@ fn compare_runs(
     Ok(())
 }
 
+/// The same for each text of a sample with barred characters.
+fn compare_runs_of(rt: &impl Abort, alloc: Global, sample: &Sample) -> Result<(), Fail> {
+    for row in sample.barred {
+        compare_runs(rt, alloc, sample.encoding, row)?;
+    }
+    Ok(())
+}
+
 #[test]
 fn a_run_bars_them_in_every_cut(rt: HostRuntime) -> Result<(), Fail> {
     for sample in samples() {
-        for row in sample.barred {
-            compare_runs(&rt, rt.alloc(), sample.encoding, row)?;
-        }
+        compare_runs_of(&rt, rt.alloc(), &sample)?;
     }
     Ok(())
 }

@@ -7,9 +7,10 @@
 //! The rows of calls are by what a call has room for, and not by codec.
 
 use encoding_rs::*;
+use std::alloc::Global;
 use std::test::Fail;
 use test_support::encoding::call_rows::{ReplacingCall, make_replacing_calls};
-use test_support::encoding::runs::compare_ways;
+use test_support::encoding::runs::{EncoderRow, compare_ways};
 use test_support::samples::samples;
 
 const EMPTY: CoderResult = CoderResult::InputEmpty;
@@ -186,19 +187,25 @@ const MIXED: [(Encoding, &str); 28] = [
     (X_MAC_CYRILLIC, "aї💩€"),
 ];
 
+/// Encodes each text with references, and by its reports.
+fn compare_each(alloc: Global, encoding: Encoding, rows: &[EncoderRow]) -> Result<(), Fail> {
+    for (text, _) in rows {
+        compare_ways(alloc, encoding, text)?;
+    }
+    Ok(())
+}
+
 #[test]
 fn references_are_those_of_reports(rt: HostRuntime) -> Result<(), Fail> {
     for (encoding, text) in MIXED {
         compare_ways(rt.alloc(), encoding, text)?;
     }
     for sample in samples() {
-        let texts = if sample.encoding.can_encode_everything() {
-            sample.mappable
+        let encoding = sample.encoding;
+        if encoding.can_encode_everything() {
+            compare_each(rt.alloc(), encoding, sample.mappable)?;
         } else {
-            sample.unmappable
-        };
-        for (text, _) in texts {
-            compare_ways(rt.alloc(), sample.encoding, text)?;
+            compare_each(rt.alloc(), encoding, sample.unmappable)?;
         }
     }
     Ok(())

@@ -70,17 +70,28 @@ fn compare_mixed(
     Ok(())
 }
 
+/// Encodes each text of an encoding by mixed calls.
+fn compare_each(
+    rt: &impl Abort,
+    alloc: Global,
+    (encoding, calls): (Encoding, &[EncodeCall]),
+    rows: &[EncoderRow],
+) -> Result<(), Fail> {
+    for row in rows {
+        compare_mixed(rt, alloc, (encoding, calls), *row)?;
+    }
+    Ok(())
+}
+
 #[test]
 fn mixed_calls_come_to_the_whole_text(rt: HostRuntime) -> Result<(), Fail> {
     let calls = mixed_calls(rt.alloc(), 120)?;
     for sample in samples() {
-        let texts = if sample.encoding.can_encode_everything() {
-            sample.mappable
+        let encoding = sample.encoding;
+        if encoding.can_encode_everything() {
+            compare_each(&rt, rt.alloc(), (encoding, &calls), sample.mappable)?;
         } else {
-            sample.unmappable
-        };
-        for row in texts {
-            compare_mixed(&rt, rt.alloc(), (sample.encoding, &calls), *row)?;
+            compare_each(&rt, rt.alloc(), (encoding, &calls), sample.unmappable)?;
         }
     }
     Ok(())

@@ -133,12 +133,18 @@ fn compare_pointer(rt: &impl Abort, (list, pointer, want): Pointer) -> Result<()
     Ok(())
 }
 
+/// Compares the pointers of a sample.
+fn compare_pointers(rt: &impl Abort, sample: &Sample) -> Result<(), Fail> {
+    for pointer in sample.pointers {
+        compare_pointer(rt, *pointer)?;
+    }
+    Ok(())
+}
+
 #[test]
 fn each_index_has_characters_by_pointer(rt: HostRuntime) -> Result<(), Fail> {
     for sample in samples() {
-        for pointer in sample.pointers {
-            compare_pointer(&rt, *pointer)?;
-        }
+        compare_pointers(&rt, &sample)?;
     }
     Ok(())
 }
