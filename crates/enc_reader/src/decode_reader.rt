@@ -14,8 +14,9 @@ ghost use Rattle.enc_reader.specs.Source.{ConsumesRemaining, IsExhausted};
 ghost use Rattle.std.proofs.Props.{props};
 
 use crate::source::Source;
+use enc_stream::constants::UTF_8;
 use enc_stream::laws::ascii_compatible_decode_ascii;
-use enc_stream::{CoderResult, Decoder, Encoding, UTF_8};
+use enc_stream::{CoderResult, Decoder, Encoding};
 
 /// The least number of bytes that are lent. Fewer are decoded together with those that
 /// follow, since a caller writes each text by itself.

@@ -3,7 +3,8 @@
 ghost use Rattle.std.specs.Prelude.{◌≡◌, ◌≤◌, length, IfSome};
 ghost use Rattle.enc_stream.specs.Bom.{bom_of};
 
-use crate::encoding::{Encoding, UTF_8, UTF_16BE, UTF_16LE};
+use crate::constants::{UTF_8, UTF_16BE, UTF_16LE};
+use crate::encoding::Encoding;
 
 /// The byte order marks that a decoder looks for.
 #[derive(Clone, Copy)]

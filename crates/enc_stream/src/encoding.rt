@@ -3,7 +3,6 @@
 ghost use Rattle.std.specs.Prelude.{◌≡◌};
 ghost use Rattle.enc_names.specs.EncodingTable.{codec_by_id};
 
-pub use crate::constants::*;
 use enc_index::Codec;
 use enc_names::EncodingId;
 

@@ -3,7 +3,8 @@
 ghost use Rattle.std.specs.Prelude.{◌≡◌};
 ghost use Rattle.enc_stream.specs.Labels.{encoding_of_label, encoding_of_label_no_replacement};
 
-use crate::encoding::{Encoding, REPLACEMENT};
+use crate::constants::REPLACEMENT;
+use crate::encoding::Encoding;
 use enc_names::EncodingId;
 
 impl Encoding {

@@ -7,7 +7,8 @@ ghost use Rattle.enc_encoder.specs.declared.character_set.CharacterSet.TheVarian
 ghost use Rattle.enc_stream.specs.Encodings.{rule_of, output_rule};
 ghost use Rattle.enc_stream.specs.Properties.{is_ascii_compatible, is_single_byte};
 
-use crate::encoding::{Encoding, ISO_8859_8, ISO_8859_8_I};
+use crate::constants::{ISO_8859_8, ISO_8859_8_I};
+use crate::encoding::Encoding;
 pub use crate::table_laws::{
     constants_have_their_names, labels_name_one_encoding, second_constants_are_equal,
 };

@@ -24,7 +24,6 @@ mod text;
 mod validity;
 
 pub use bom::BomHandling;
-pub use constants::*;
 pub use decoder::Decoder;
 pub use enc_units::{CoderResult, DecoderResult, EncoderResult};
 pub use encoder::Encoder;

@@ -5,7 +5,8 @@ ghost use Rattle.std.specs.Prelude.{◌≡◌, if◌then◌else◌};
 ghost use Rattle.enc_stream.specs.LifeCycle.{phase_of, awaits_mark as awaits, held_mark_bytes};
 ghost use Rattle.enc_stream.specs.Sniffing.{IsMarkByte};
 
-use crate::encoding::{Encoding, UTF_8, UTF_16BE, UTF_16LE};
+use crate::constants::{UTF_8, UTF_16BE, UTF_16LE};
+use crate::encoding::Encoding;
 
 /// Where a decoder is in its life cycle.
 #[derive(Clone, Copy)]

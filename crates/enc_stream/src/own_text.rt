@@ -8,7 +8,8 @@ ghost use Rattle.enc_stream.specs.OwnText.{AreTheirOwnText, IsItsOwnText};
 ghost use Rattle.enc_stream.specs.OwnText.{mark_looked_for, unmarked_bytes};
 
 use crate::bom::BomHandling;
-use crate::encoding::{Encoding, ISO_2022_JP, UTF_8};
+use crate::constants::{ISO_2022_JP, UTF_8};
+use crate::encoding::Encoding;
 use enc_units::{ascii_valid_up_to, iso_2022_jp_ascii_valid_up_to, utf8_valid_up_to};
 
 /// Returns whether two encodings are the same.

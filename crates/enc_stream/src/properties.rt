@@ -6,7 +6,8 @@ ghost use Rattle.enc_stream.specs.Names.{name_of};
 ghost use Rattle.enc_stream.specs.Properties.{output_encoding_of};
 ghost use Rattle.enc_stream.specs.Properties.{is_ascii_compatible, is_single_byte};
 
-use crate::encoding::{Encoding, UTF_8};
+use crate::constants::UTF_8;
+use crate::encoding::Encoding;
 
 impl Encoding {
     /// Returns its name (Encoding Standard 4.2), which is one of its labels. Takes no memory.

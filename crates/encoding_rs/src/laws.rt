@@ -31,14 +31,13 @@ ghost use Rattle.enc_round_trip.specs.RoundTrip.{char_read_back, any_read_as_oth
 ghost use Rattle.enc_units.specs.Output.{AreScalars};
 ghost use Rattle.enc_units.specs.Validity.{IsWellFormedUtf8};
 
+use enc_stream::constants::{EUC_JP, GB18030, GBK, ISO_2022_JP, REPLACEMENT, SHIFT_JIS, UTF_8};
 pub use enc_stream::laws::{
     ascii_compatible_decode_ascii, ascii_compatible_encode_ascii, constants_have_their_names,
     iso_8859_8_differs, labels_name_one_encoding, second_constants_are_equal,
     single_byte_decode_bytes,
 };
-use enc_stream::{
-    BomHandling, EUC_JP, Encoding, GB18030, GBK, ISO_2022_JP, REPLACEMENT, SHIFT_JIS, UTF_8,
-};
+use enc_stream::{BomHandling, Encoding};
 use std::hash::{Hash, Hasher};
 
 /// In UTF-8 every sequence has a text: a character, or U+FFFD for a malformed one.

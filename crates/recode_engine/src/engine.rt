@@ -13,8 +13,9 @@ ghost use Rattle.recode_engine.specs.Run.{IsRecodeRun, side};
 
 use crate::sink::Sink;
 use enc_reader::{DecodeReader, Source};
+use enc_stream::constants::UTF_8;
 use enc_stream::laws::ascii_compatible_encode_ascii;
-use enc_stream::{CoderResult, Encoder, Encoding, UTF_8};
+use enc_stream::{CoderResult, Encoder, Encoding};
 
 /// The least number of ASCII bytes that are written without being encoded. Fewer are encoded
 /// together with the characters that follow, since a push may be a system call.
