@@ -2,7 +2,7 @@
 //! "html").
 
 ghost use Rattle.std.specs.Prelude.{◌≡◌, ◌+◌, ◌-◌, ◌≤◌, length, take, drop};
-ghost use Rattle.enc_encoder.specs.Replacing.{EncodesAfter, result_when_full};
+ghost use Rattle.enc_encoder.specs.Replacing.{result_when_full};
 ghost use Rattle.enc_encoder.specs.ErrorMode.{EncoderCallInMode, Html, is_nothing_left};
 ghost use Rattle.enc_units.specs.Results.{encoder_result_of};
 
@@ -25,25 +25,6 @@ fn full_result<E: RawEncoder, C: Chars>(encoder: &E, src: &C, last: bool) -> Cod
             }
         }
     }
-}
-
-/// Encodes to the part of a slice after the bytes written, up to a limit.
-fn encode_after<E: RawEncoder, C: Chars>(
-    encoder: &mut E,
-    src: &mut C,
-    dst: &mut [u8],
-    written: usize,
-    limit: usize,
-    last: bool,
-) -> (EncoderResult, usize)
-    requires below { written ≤ limit }
-    requires within { limit ≤ length dst.old }
-    ensures { EncodesAfter
-        (E.state encoder.old) (E.state encoder.new) (C.rest src.old) (C.rest src.new) last
-        (limit - written) written dst.old dst.new result.0 result.1 }
-{
-    let (result, _, wrote) = encoder.encode(src, &mut dst[written..limit], last);
-    (result, wrote)
 }
 
 /// Encodes a chunk, with a decimal reference for each unmappable character.
@@ -74,7 +55,7 @@ pub fn encode_replacing<E: RawEncoder, C: Chars>(
     let mut written = 0;
     let mut replaced = false;
     loop {
-        let (result, wrote) = encode_after(encoder, src, dst, written, limit, last);
+        let (result, _, wrote) = encoder.encode(src, &mut dst[written..limit], last);
         written += wrote;
         match result {
             EncoderResult::InputEmpty => {

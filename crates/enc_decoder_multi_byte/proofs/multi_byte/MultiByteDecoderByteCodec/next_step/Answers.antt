@@ -38,6 +38,7 @@ pub returns-in-Incomplete : goal.returns-in-Incomplete
 returns-in-Incomplete g c =
     waits g.E.MultiByte.prefix c.laws.ensures
     (λ d. multi_byte_state g.E.MultiByte.prefix (bytes_of_pending d.pending))
-    c.args.self _ _ refl c.args.byte (c.in_default.ensures.incomplete refl) (sym c.classify.ensures ∙ c.in-Incomplete.is)
+    c.args.self _ _ refl c.args.byte (c.in_default.ensures.incomplete refl)
+    (sym c.classify.ensures ∙ c.in-Incomplete.is)
     (ap (multi_byte_state g.E.MultiByte.prefix)
     (ap bytes_of_pending c.holding.ensures ∙ c.with.ensures))
