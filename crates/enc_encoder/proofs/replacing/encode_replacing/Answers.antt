@@ -15,7 +15,7 @@ returns-then-dst-lt-LONGEST_REFERENCE-clause-call g c =
       kept = 10;
     })
     c.if-dst-lt-LONGEST_REFERENCE.true _ c.full_result.ensures in
-    stopped.call
+    rw c.if-maps_all.false stopped.call
 
 pub loop-src-init : goal.loop-src-init
 loop-src-init g c = begin _
@@ -27,7 +27,7 @@ returns-in-InputEmpty g c =
     let stopped = stop_empty g.C.Chars.units_of c.loop-src.invariant
     c.if-dst-lt-LONGEST_REFERENCE.false
     c.unread-unread.ensures encoded c.unread.ensures in
-    record { within = stopped.within; rest = stopped.slice_stays; call = stopped.call }
+    record { within = stopped.within; rest = stopped.slice_stays; call = rw c.if-maps_all.false stopped.call }
 
 pub overflow_sub-result-in-OutputFull : goal.overflow_sub-result-in-OutputFull
 overflow_sub-result-in-OutputFull g c =
@@ -43,7 +43,7 @@ returns-in-OutputFull g c =
     let stopped = stop_full g.C.Chars.units_of c.loop-src.invariant
     c.if-dst-lt-LONGEST_REFERENCE.false
     c.unread-unread.ensures encoded c.unread-in-OutputFull.ensures in
-    record { within = stopped.within; rest = stopped.slice_stays; call = stopped.call }
+    record { within = stopped.within; rest = stopped.slice_stays; call = rw c.if-maps_all.false stopped.call }
 
 pub overflow_sub-result-then-written-limit : goal.overflow_sub-result-then-written-limit
 overflow_sub-result-then-written-limit g c =
@@ -62,7 +62,7 @@ returns-then-written-limit g c =
     c.unread-unread.ensures encoded put.len put.onto c.if-written-limit.true put.bound
     c.full_result-stop.ensures
     c.unread-then-written-limit.ensures in
-    record { within = stopped.within; rest = stopped.slice_stays; call = stopped.call }
+    record { within = stopped.within; rest = stopped.slice_stays; call = rw c.if-maps_all.false stopped.call }
 
 pub loop-src-preserved : goal.loop-src-preserved
 loop-src-preserved g c =
