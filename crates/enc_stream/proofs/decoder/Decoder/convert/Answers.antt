@@ -87,7 +87,8 @@ invariant_of-self-2 g c =
       | in-Mark w ↦ rw w.self-inside-is w.self-in-Mark.invariant.0.0
       | in-Text w ↦ rw w.self-inside-is c.self.invariant.0.0
     ] in
-    let formulas : HasFormulasOf inside.encoding inside.life (variant_decoder_lengths inside.codec) =
+    let formulas : HasFormulasOf inside.encoding inside.life
+    (variant_decoder_lengths inside.codec) =
     elim c.match-sniffed.branch [
       | in-Mark w ↦ rw w.self-inside-is w.self-in-Mark.invariant.1
       | in-Text w ↦

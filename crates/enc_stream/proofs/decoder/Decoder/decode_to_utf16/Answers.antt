@@ -8,7 +8,8 @@ unreported-requires c = reports_none two_units c.convert-result.ensures
 
 pub returns-clause-call : goal.returns-clause-call
 returns-clause-call c =
-    rw c.unreported.ensures (over_slice two_units c.convert-result.ensures (rw c.new-units.ensures.len refl)
+    rw c.unreported.ensures (over_slice two_units c.convert-result.ensures
+    (rw c.new-units.ensures.len refl)
     (rw (c.new-units.ensures.now, c.new-units.ensures.len) (omega arith)) (search rules))
 
 pub returns-clause-read : goal.returns-clause-read

@@ -9,7 +9,8 @@ unreported-requires c = reports_none four_bytes c.convert-result.ensures
 
 pub returns-clause-call : goal.returns-clause-call
 returns-clause-call c =
-    rw c.unreported.ensures (over_slice four_bytes c.convert-result.ensures (rw c.new-out.ensures.len refl)
+    rw c.unreported.ensures (over_slice four_bytes c.convert-result.ensures
+    (rw c.new-out.ensures.len refl)
     (rw (c.new-out.ensures.now, c.new-out.ensures.len) (omega arith)) (search rules))
 
 pub returns-clause-read : goal.returns-clause-read
