@@ -2,7 +2,7 @@
 
 ghost use Rattle.std.specs.Prelude.{◌≡◌, ℕ, ◌+◌, ◌-◌, ◌≤◌, ◌++◌, length};
 ghost use Rattle.enc_decoder.specs.CodecState.{remainder_of};
-ghost use Rattle.enc_decoder.specs.Call.{DecoderCallInto, reaches_end as ends};
+ghost use Rattle.enc_decoder.specs.Call.{reaches_end as ends};
 ghost use Rattle.enc_decoder.specs.Converting.{PrefixedCallInto, ReadsHeldFirst, shifted_result};
 ghost use Rattle.enc_decoder.specs.Replacing.{decode_error_mode};
 
@@ -22,28 +22,6 @@ pub struct Converted {
     pub replaced: bool,
 }
 
-/// Decodes until all is read, the next sequence does not fit, or, without replacement, one is
-/// malformed.
-fn decode_any<D: RawDecoder, U: Units>(
-    codec: &mut D,
-    src: &[u8],
-    out: &mut U,
-    last: bool,
-    replace: bool,
-) -> (DecoderResult, usize, bool)
-    ensures call { DecoderCallInto U.units_of (remainder_of (D.state codec.old))
-        (remainder_of (D.state codec.new)) src.now last (decode_error_mode replace)
-        (U.output out.old) (U.output out.new) result.0 result.1 result.2 }
-    ensures rule { (D.state codec.new).rule ≡ (D.state codec.old).rule }
-    ensures formulas { D.formulas codec.new ≡ D.formulas codec.old }
-{
-    if replace {
-        return codec.decode_replacing(src, out, last);
-    }
-    let (stop, read) = codec.decode(src, out, last, false);
-    (stop, read, false)
-}
-
 /// Decodes the held bytes and then those of `src`, as if they came together. Takes no memory.
 pub fn convert<D: RawDecoder, U: Units>(
     codec: &mut D,
@@ -61,39 +39,36 @@ pub fn convert<D: RawDecoder, U: Units>(
     ensures rule { (D.state codec.new).rule ≡ (D.state codec.old).rule }
     ensures formulas { D.formulas codec.new ≡ D.formulas codec.old }
 {
-    if held.is_empty() {
-        let (result, read, replaced) = decode_any(codec, src, out, last, replace);
-        return Converted {
-            result,
-            left: 0,
-            read,
-            replaced,
+    let mut had = false;
+    if !held.is_empty() {
+        let alone = src.is_empty();
+        let (result, given, replaced) = if replace {
+            codec.decode_replacing(held, out, alone & last)
+        } else {
+            let (result, given) = codec.decode(held, out, alone & last, false);
+            (result, given, false)
         };
+        if alone | (result != DecoderResult::InputEmpty) {
+            return Converted {
+                result,
+                left: held.len() - given,
+                read: 0,
+                replaced,
+            };
+        }
+        had = replaced;
     }
-    if src.is_empty() {
-        let (result, given, replaced) = decode_any(codec, held, out, last, replace);
-        return Converted {
-            result,
-            left: held.len() - given,
-            read: 0,
-            replaced,
-        };
-    }
-    let (result, given, replaced) = decode_any(codec, held, out, false, replace);
-    if result != DecoderResult::InputEmpty {
-        return Converted {
-            result,
-            left: held.len() - given,
-            read: 0,
-            replaced,
-        };
-    }
-    let (result, read, also) = decode_any(codec, src, out, last, replace);
+    let (result, read, replaced) = if replace {
+        codec.decode_replacing(src, out, last)
+    } else {
+        let (result, read) = codec.decode(src, out, last, false);
+        (result, read, false)
+    };
     Converted {
         result,
         left: 0,
         read,
-        replaced: replaced | also,
+        replaced: had | replaced,
     }
 }
 

@@ -5,7 +5,7 @@ ghost use Rattle.std.specs.Prelude.{IfSome, IsNone};
 ghost use Rattle.enc_index.specs.Grid.{ArePairPlaces};
 ghost use Rattle.enc_decoder.specs.Pending.{bytes_of_pending};
 ghost use Rattle.enc_decoder.specs.Taking.{IsWholeChar};
-ghost use Rattle.enc_decoder.specs.CodecLaw.{HandlesByte, IsNextOfPending, IsNextAtEnd};
+ghost use Rattle.enc_decoder.specs.CodecLaw.{IsNextOfPending};
 ghost use Rattle.enc_decoder_multi_byte.specs.MultiByte.{multi_byte_state, AreIncomplete};
 ghost use Rattle.enc_decoder_multi_byte.specs.MultiByte.{ArePrefixes, IsCharPair};
 ghost use Rattle.enc_decoder_multi_byte.specs.MultiByte.{multi_byte_rule, IsMalformedFront};
@@ -115,41 +115,6 @@ impl<E: MultiByte> MultiByteDecoder<E> {
             }
         }
         None
-    }
-
-    /// Returns the effect of the byte after an incomplete prefix.
-    fn step(self, byte: u8) -> HandlerResult<MultiByteDecoder<E>>
-        requires { AreIncomplete E.prefix [] (bytes_of_pending self.pending) }
-        ensures { HandlesByte (λ d. multi_byte_state E.prefix (bytes_of_pending d.pending)) self
-            byte result }
-    {
-        E::laws();
-        match E::classify(self.pending, byte) {
-            Prefix::Complete(text) => {
-                let len = self.pending.len() + 1;
-                HandlerResult::Emit(complete(text, len, true, Pending::Nothing))
-            }
-            Prefix::Malformed(len) => {
-                let takes_byte = len > self.pending.len();
-                HandlerResult::Emit(malformed(len, takes_byte, self.pending.skip(len)))
-            }
-            Prefix::Incomplete => HandlerResult::Continue(MultiByteDecoder::holding(
-                self.pending.with(byte),
-            )),
-        }
-    }
-
-    /// Returns the sequence at the end of the input: an incomplete prefix is malformed as a whole.
-    fn left_over(self) -> Option<Emission<MultiByteDecoder<E>>>
-        requires { AreIncomplete E.prefix [] (bytes_of_pending self.pending) }
-        ensures { IsNextAtEnd (λ d. multi_byte_state E.prefix (bytes_of_pending d.pending)) self
-            result }
-    {
-        E::laws();
-        match self.pending {
-            Pending::Nothing => None,
-            pending => Some(malformed(pending.len(), false, Pending::Nothing)),
-        }
     }
 
     /// Returns a decoder with these pending bytes.
@@ -316,9 +281,22 @@ impl<E: MultiByte> ByteCodec for MultiByteDecoder<E> {
     }
 
     fn next_step(self, byte: u8) -> HandlerResult<MultiByteDecoder<E>> {
-        match self.shown_first() {
-            Some(shown) => HandlerResult::Emit(shown),
-            None => self.step(byte),
+        E::laws();
+        if let Some(shown) = self.shown_first() {
+            return HandlerResult::Emit(shown);
+        }
+        match E::classify(self.pending, byte) {
+            Prefix::Complete(text) => {
+                let len = self.pending.len() + 1;
+                HandlerResult::Emit(complete(text, len, true, Pending::Nothing))
+            }
+            Prefix::Malformed(len) => {
+                let takes_byte = len > self.pending.len();
+                HandlerResult::Emit(malformed(len, takes_byte, self.pending.skip(len)))
+            }
+            Prefix::Incomplete => HandlerResult::Continue(MultiByteDecoder::holding(
+                self.pending.with(byte),
+            )),
         }
     }
 
@@ -327,10 +305,15 @@ impl<E: MultiByte> ByteCodec for MultiByteDecoder<E> {
         self.shown_first()
     }
 
+    /// An incomplete prefix is malformed as a whole.
     fn at_end(self) -> Option<Emission<MultiByteDecoder<E>>> {
-        match self.shown_first() {
-            Some(shown) => Some(shown),
-            None => self.left_over(),
+        E::laws();
+        if let Some(shown) = self.shown_first() {
+            return Some(shown);
+        }
+        match self.pending {
+            Pending::Nothing => None,
+            pending => Some(malformed(pending.len(), false, Pending::Nothing)),
         }
     }
 

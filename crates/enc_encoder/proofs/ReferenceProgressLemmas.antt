@@ -1,7 +1,10 @@
 -- How far a call that puts references has come, and its turns.
 use Rattle.std.proofs.Common.{◌≡◌, ℕ, ◌+◌, ◌-◌, ◌<◌, ◌≤◌, inl, inr, Bool, true, false, ◌||◌, is_some, Option, List, []}
 use Rattle.std.proofs.Common.{◌∷◌, ◌++◌, length, take, drop, refl, ap, ◌∙◌, sym, subst, arith, append_assoc, append-nil}
-use Rattle.std.proofs.Common.{length-append}
+use Rattle.std.proofs.Common.{length-append, length-drop}
+use Rattle.std.proofs.lemmas.List.{length-take}
+use Rattle.std.proofs.lemmas.Slice.{take-put_mid, drop-put_mid}
+use borrow.Rule.Slice.PartMut.{put_mid}
 use Rattle.enc_units.specs.Output.{units_of_text}
 use Rattle.enc_units.specs.declared.coder_result.CoderResult.{CoderResult}
 use Rattle.enc_units.specs.declared.coder_result.CoderResult.TheVariants as stop
@@ -11,7 +14,7 @@ use Rattle.enc_encoder.specs.EncoderRule.{RawEncoderState}
 use Rattle.enc_encoder.specs.Text.{KeepsText, reference, reference_after, bytes_of_text, with_references}
 use Rattle.enc_encoder.specs.Steps.{Step, steps_from_state, step_chars, step_bytes, any_reported, set_after_steps}
 use Rattle.enc_encoder.specs.Steps.{bytes_with_references}
-use Rattle.enc_encoder.specs.Call.{EncoderCall}
+use Rattle.enc_encoder.specs.Call.{EncoderCall, EncoderCallInto}
 use Rattle.enc_encoder.proofs.EncodeProgressLemmas.{units_read, fewer_units}
 use Rattle.enc_encoder.proofs.StepLemmas.{step_chars-append, step_bytes-one, any_reported-append}
 use Rattle.enc_encoder.proofs.StepLemmas.{set_after_steps-append}
@@ -22,7 +25,7 @@ use Rattle.enc_units.specs.Results.{encoder_result_of}
 use Rattle.enc_encoder.specs.Replacing.{EncodesAfter, result_when_full}
 use Rattle.enc_encoder.proofs.ReferenceStopLemmas.{FitsBefore, AllBefore, fits-append, before-append, all_fit}
 use Rattle.enc_encoder.proofs.ReferenceStopLemmas.{unreported_before, none_left}
-use Rattle.enc_encoder.proofs.SliceLemmas.{wrote_is, onto_after, rest_stays}
+use Rattle.enc_encoder.proofs.SliceLemmas.{onto_part, wrote_is, onto_after, rest_stays}
 
 -- the same call with its room counted otherwise
 pub with_room : {old new : RawEncoderState} {src rest : List ℕ} {last : Bool} {room room' : ℕ}
@@ -112,6 +115,40 @@ pub record CallOnto (units_of : ℕ → List ℕ) (offer : Offer) (end : Place) 
   pub call : EncoderCallInMode units_of (Html offer.kept) offer.state end.state offer.src end.rest
       offer.last
       (length offer.slice) result read (take end.written end.slice) end.replaced
+
+-- a call of the raw encoder on the part of a slice from `start` to `limit`
+pub encodes_part : {units_of : ℕ → List ℕ} {old new : RawEncoderState} {src rest : List ℕ}
+    {last : Bool} {slice part : List ℕ} {start limit : ℕ} {result : EncoderResult}
+    {read written : ℕ}
+    → EncoderCallInto units_of old new src rest last (take (limit - start) (drop start slice)) part
+    result read written
+    → KeepsText old new src rest last result (take written part)
+    → start ≤ limit → limit ≤ length slice
+    → EncodesAfter old new src rest last (limit - start) start slice
+    (put_mid start (limit - start) slice part) result written
+encodes_part {old = old} {new} {src} {rest} {last} {slice} {part} {start} {limit} {result}
+    {written = written} encoded text below within =
+    let room : length (take (limit - start) (drop start slice)) ≡ limit - start =
+    rw (length-take, length-drop) (omega (arith, below, within)) in
+    let fits = encoded.call.fits in
+    let size : length part ≡ limit - start =
+    ap length encoded.onto
+    ∙ rw (length-append, length-drop, room) (omega (arith, encoded.count, fits, room)) in
+    record {
+      wrote = encoded.wrote;
+      count = encoded.count;
+      onto =
+          onto_part start limit written slice encoded.wrote part _ encoded.count below within
+          (omega (arith, encoded.count, fits, room)) encoded.onto
+          (take-put_mid start (limit - start) slice part _ refl (omega (arith, below, within)))
+          (drop-put_mid start (limit - start) slice part _ (omega (arith, size))
+          (omega (arith, below, within)) size);
+      call = with_room room encoded.call;
+      text = subst (λ (w : List ℕ). KeepsText old new src rest last result w)
+          (wrote_is (take (limit - start) (drop start slice)) part encoded.wrote written
+          encoded.count encoded.onto)
+          text;
+    }
 
 -- a call of the raw encoder from a place on, which writes n bytes
 abbrev pub EncodesFrom : Offer → Place → RawEncoderState → List ℕ → List ℕ → EncoderResult → ℕ

@@ -3,7 +3,7 @@
 ghost use Rattle.std.specs.Prelude.{◌≡◌, ℕ, ◌+◌, ◌-◌, ◌<◌, ◌≤◌, ◌++◌, length, take, drop};
 ghost use Rattle.std.specs.Prelude.{IsTrue, IsFalse};
 ghost use Rattle.enc_units.specs.Bytes.{byte_list};
-ghost use Rattle.enc_encoder.specs.CharLaw.{HandlesCharacter, IsStepAtEnd, IsNextStepOfCall};
+ghost use Rattle.enc_encoder.specs.CharLaw.{IsStepAtEnd, IsNextStepOfCall};
 ghost use Rattle.enc_encoder.specs.Call.{EncoderCallInto};
 ghost use Rattle.enc_encoder.specs.EncoderRule.{IsLawfulEncoderRule};
 ghost use Rattle.enc_encoder.specs.Runs.{WritesRun};
@@ -15,18 +15,6 @@ use crate::character_set::CharacterSet;
 use crate::transition::Transition;
 use crate::transitions::{first_written_char, take_char, take_escape};
 use enc_units::{Bytes, Chars, EncoderResult};
-
-/// Returns the first step for the next character.
-#[inline(always)]
-fn next_step<E: CharEncoder>(encoder: E, c: char) -> Transition<E>
-    ensures { HandlesCharacter E.state encoder c result }
-{
-    let found = encoder.bytes(c);
-    match encoder.escape_before(first_written_char(c, found)) {
-        Some(next) => take_escape(next, next.set()),
-        None => take_char(encoder, encoder.reported(c), found),
-    }
-}
 
 /// Returns the step at the end of the text, if there is one.
 fn step_at_end<E: CharEncoder>(encoder: E) -> Option<Transition<E>>
@@ -43,9 +31,13 @@ fn step_at_end<E: CharEncoder>(encoder: E) -> Option<Transition<E>>
 fn what_comes<E: CharEncoder, C: Chars>(encoder: E, src: &C, last: bool) -> Option<Transition<E>>
     ensures { IsNextStepOfCall E.state encoder (C.rest src.now) last result }
 {
-    match src.peek() {
-        Some((c, _)) => Some(next_step(encoder, c)),
-        None => { if last { step_at_end(encoder) } else { None } }
+    let Some((c, _)) = src.peek() else {
+        return if last { step_at_end(encoder) } else { None };
+    };
+    let found = encoder.bytes(c);
+    match encoder.escape_before(first_written_char(c, found)) {
+        Some(next) => Some(take_escape(next, next.set())),
+        None => Some(take_char(encoder, encoder.reported(c), found)),
     }
 }
 

@@ -1,5 +1,6 @@
 -- What a full output says of a decoder.
 use Rattle.std.proofs.Common.{◌≡◌, ℕ, ◌+◌, ◌-◌, ◌<◌, ◌≤◌, Bool, true, false, List, [], ◌∷◌, ◌++◌, length, take, drop}
+use Rattle.std.proofs.lemmas.Bool.{false≢true}
 use Rattle.std.proofs.Common.{refl, ap, ◌∙◌, sym, arith, append_assoc, length-append, subst, Option, Some, None}
 use Rattle.std.specs.Prelude.{if◌then◌else◌}
 use Rattle.std.proofs.lemmas.List.{append-nil}
@@ -22,7 +23,7 @@ use Rattle.enc_units.specs.Output.{Output, DetermineTexts, units_of_text}
 use Rattle.enc_decoder.specs.Sequence.{Sequence, sequence_bytes, sequence_text, set_after}
 use Rattle.enc_decoder.specs.Segmentation.{Rule, sequences_of}
 use Rattle.enc_decoder.specs.Remainder.{AreFirstSequences, AreDetermined}
-use Rattle.enc_decoder.specs.Call.{DecodeErrorMode, Fatal}
+use Rattle.enc_decoder.specs.Call.{Replacement, DecodeErrorMode, Fatal}
 use Rattle.enc_decoder.specs.RuleLaws.{HasTexts, HasSmallTexts}
 use Rattle.enc_decoder_utf.specs.Utf8.{utf_8_rule}
 use Rattle.enc_decoder_utf.specs.Utf16.{utf_16_rule}
@@ -389,17 +390,25 @@ converts_into {units_of} {mode} {old} {new} {src} {last} {before} {result} {read
     }
 
 -- a call that reports replaces nothing
-pub reports_into : {units_of : ℕ → List ℕ} {old new : DecoderState} {src : List ℕ} {last : Bool}
-    {before after : Output} {result : DecoderResult} {read : ℕ} {replaced : Bool}
-    → DetermineTexts units_of → PendingAreHeldBytes old → has_finished old ≡ false
-    → DecodesInto units_of (Fatal false) old new src last before after result read replaced
-    → AnswersDecodeInto units_of (Fatal false) old new src last before after result read false
-reports_into {units_of} {old} {new} {src} {last} {before} {after} {result} {read} determine
-    pending_are_held going
-    decodes =
-    subst (AnswersDecodeInto units_of (Fatal false) old new src last before after result read)
-    (decodes.decodes.call.none_replaced refl)
-    (converts_into determine pending_are_held going decodes)
+pub reports : {units_of : ℕ → List ℕ} {least : ℕ} {old new : DecoderState} {src : List ℕ}
+    {last : Bool} {room : ℕ} {result : DecoderResult} {read : ℕ} {wrote : List ℕ} {replaced : Bool}
+    → AnswersDecode units_of least (Fatal false) old new src last room result read wrote replaced
+    → AnswersDecode units_of least (Fatal false) old new src last room result read wrote false
+reports {units_of} {least} {old} {new} {src} {last} {room} {result} {read} {wrote} answers =
+    subst (AnswersDecode units_of least (Fatal false) old new src last room result read wrote)
+    (answers.decodes.call.none_replaced refl) answers
+
+-- a call that replaces reports nothing
+pub reports_none : {units_of : ℕ → List ℕ} {least : ℕ} {old new : DecoderState} {src : List ℕ}
+    {last : Bool} {before after : Output} {result : DecoderResult} {read : ℕ} {replaced : Bool}
+    → TakesSmallTexts units_of least
+    → AnswersDecodeInto units_of Replacement old new src last before after result read replaced
+    → (l a : ℕ) → result ≡ Malformed l a → ⊥
+reports_none {units_of} {least} {old} {new} {src} {last} {before} {read = read} {replaced} takes
+    answers l a is =
+    let reported = subst (λ r. AnswersDecode units_of least Replacement old new src last before.room
+    r read answers.wrote replaced) is (answers.converts least takes) in
+    false≢true (sym reported.decodes.call.stops.not_replaced)
 
 -- A call over an output that is empty as yet.
 pub over_slice : {units_of : ℕ → List ℕ} {least : ℕ} {mode : DecodeErrorMode}

@@ -1,6 +1,6 @@
 //! Decoders.
 
-ghost use Rattle.std.specs.Prelude.{◌≡◌, ◌-◌, ◌≤◌, true, false, length, take, drop, IfSome};
+ghost use Rattle.std.specs.Prelude.{◌≡◌, ℕ, ◌-◌, ◌≤◌, true, false, length, take, drop, IfSome};
 ghost use Rattle.std.specs.Char.{encode_utf8};
 ghost use Rattle.std.specs.Char.Escape.{encode_utf16};
 ghost use Rattle.std.specs.String.{string_bytes, string_len, string_capacity};
@@ -12,13 +12,11 @@ ghost use Rattle.enc_units.specs.Rest.{without_continuations};
 ghost use Rattle.enc_stream.specs.Latin1.{AnswersDecoderLatin1};
 ghost use Rattle.enc_stream.specs.Lengths.{max_length, IsForMode, query_units, IsEnoughRoom};
 ghost use Rattle.enc_stream.specs.declared.lengths.Query.TheVariants as query;
-ghost use Rattle.enc_stream.specs.Sniffing.{HasNoMark};
 ghost use Rattle.enc_units.specs.Results.{decoder_result_of};
 ghost use Rattle.enc_decoder.specs.Replacing.{decode_error_mode};
 ghost use Rattle.enc_stream.specs.Decoding.{fresh_decoder, has_finished, start_life};
-ghost use Rattle.enc_stream.specs.Decoding.{PendingAreHeldBytes, DecodesInto, AnswersDecodeInto};
-ghost use Rattle.enc_stream.specs.Decoding.{AnswersDecodeReplacing, AnswersDecodeReporting};
-ghost use Rattle.enc_stream.specs.Decoding.{LeavesFewerBytes};
+ghost use Rattle.enc_stream.specs.Decoding.{AnswersDecodeInto, AnswersDecodeReplacing};
+ghost use Rattle.enc_stream.specs.Decoding.{AnswersDecodeReporting, LeavesFewerBytes};
 
 use crate::bom::BomHandling;
 use crate::encoding::{Encoding, codec_of};
@@ -68,6 +66,18 @@ impl fmt::Debug for Decoder {
             .field("encoding", &self.encoding)
             .field("finished", &self.is_finished())
             .finish()
+    }
+}
+
+/// Returns why a call with replacement stopped, which reports nothing.
+fn unreported(stop: DecoderResult) -> CoderResult
+    requires { (l a : ℕ) → stop ≡ DecoderResult.Malformed l a → ⊥ }
+    ensures { decoder_result_of result ≡ stop }
+{
+    match stop {
+        DecoderResult::InputEmpty => CoderResult::InputEmpty,
+        DecoderResult::OutputFull => CoderResult::OutputFull,
+        DecoderResult::Malformed(_, _) => unreachable!(),
     }
 }
 
@@ -241,23 +251,6 @@ impl Decoder {
         }
     }
 
-    /// Decodes text that no byte order mark precedes.
-    #[inline(always)]
-    fn convert_text<U: Units>(
-        &mut self,
-        src: &[u8],
-        out: &mut U,
-        last: bool,
-        replace: bool,
-    ) -> (DecoderResult, usize, bool)
-        requires open { has_finished self.old ≡ false }
-        requires text { HasNoMark self.old.life src.now last }
-        ensures call { DecodesInto U.units_of (decode_error_mode replace) self.old self.new src.now
-            last (U.output out.old) (U.output out.new) result.0 result.1 result.2 }
-    {
-        convert_text(&mut self.life, &mut self.codec, src, out, last, replace)
-    }
-
     /// Decodes until all input is read, the next sequence does not fit, or, without replacement,
     /// one is malformed.
     fn convert<U: Units>(
@@ -268,65 +261,29 @@ impl Decoder {
         replace: bool,
     ) -> (DecoderResult, usize, bool)
         requires { has_finished self.old ≡ false }
-        ensures call { DecodesInto U.units_of (decode_error_mode replace) self.old self.new src.now
+        ensures { AnswersDecodeInto U.units_of (decode_error_mode replace) self.old self.new src.now
             last (U.output out.old) (U.output out.new) result.0 result.1 result.2 }
-        ensures held { PendingAreHeldBytes self.old }
     {
+        U::laws();
         let (sniffed, len) = sniff(self.life, src, last);
         let (_, rest) = src.split_at(len);
         match sniffed {
             Sniffed::Open(life) => {
                 self.life = life;
-                (DecoderResult::InputEmpty, len, false)
+                return (DecoderResult::InputEmpty, len, false);
             }
-            Sniffed::Mark(encoding) => {
-                *self = Decoder::start(encoding, BomHandling::Off);
-                let (result, read, replaced) = self.convert_text(rest, out, last, replace);
-                (result, len + read, replaced)
-            }
-            Sniffed::Text(life) => {
-                self.life = life;
-                let (result, read, replaced) = self.convert_text(rest, out, last, replace);
-                (result, len + read, replaced)
-            }
+            Sniffed::Mark(encoding) => *self = Decoder::start(encoding, BomHandling::Off),
+            Sniffed::Text(life) => self.life = life,
         }
-    }
-
-    /// Decodes until all input is read or the next sequence does not fit, with U+FFFD for each
-    /// malformed sequence.
-    fn convert_replacing<U: Units>(
-        &mut self,
-        src: &[u8],
-        out: &mut U,
-        last: bool,
-    ) -> (CoderResult, usize, bool)
-        requires { has_finished self.old ≡ false }
-        ensures { AnswersDecodeInto U.units_of Replacement self.old self.new src.now last
-            (U.output out.old) (U.output out.new) (decoder_result_of result.0) result.1 result.2 }
-    {
-        U::laws();
-        let (result, read, replaced) = self.convert(src, out, last, true);
-        match result {
-            DecoderResult::InputEmpty => (CoderResult::InputEmpty, read, replaced),
-            DecoderResult::OutputFull => (CoderResult::OutputFull, read, replaced),
-            DecoderResult::Malformed(_, _) => unreachable!(),
-        }
-    }
-
-    /// Decodes until all input is read, the next sequence does not fit, or one is malformed.
-    fn convert_reporting<U: Units>(
-        &mut self,
-        src: &[u8],
-        out: &mut U,
-        last: bool,
-    ) -> (DecoderResult, usize)
-        requires { has_finished self.old ≡ false }
-        ensures { AnswersDecodeInto U.units_of (Fatal false) self.old self.new src.now last
-            (U.output out.old) (U.output out.new) result.0 result.1 false }
-    {
-        U::laws();
-        let (result, read, _) = self.convert(src, out, last, false);
-        (result, read)
+        let (result, read, replaced) = convert_text(
+            &mut self.life,
+            &mut self.codec,
+            rest,
+            out,
+            last,
+            replace,
+        );
+        (result, len + read, replaced)
     }
 
     /// Decodes a chunk of input into UTF-8, with replacement.
@@ -362,8 +319,8 @@ impl Decoder {
             LeavesFewerBytes self.old self.new src.now result.1 }
     {
         let mut out = Utf8Slice::new(dst);
-        let (result, read, replaced) = self.convert_replacing(src, &mut out, last);
-        (result, read, out.len(), replaced)
+        let (result, read, replaced) = self.convert(src, &mut out, last, true);
+        (unreported(result), read, out.len(), replaced)
     }
 
     /// Decodes a chunk of input into UTF-8, without replacement: up to a malformed sequence.
@@ -398,7 +355,7 @@ impl Decoder {
             LeavesFewerBytes self.old self.new src.now result.1 }
     {
         let mut out = Utf8Slice::new(dst);
-        let (result, read) = self.convert_reporting(src, &mut out, last);
+        let (result, read, _) = self.convert(src, &mut out, last, false);
         (result, read, out.len())
     }
 
@@ -427,8 +384,8 @@ impl Decoder {
             LeavesFewerBytes self.old self.new src.now result.1 }
     {
         let mut units = Utf16Slice::new(dst);
-        let (result, read, replaced) = self.convert_replacing(src, &mut units, last);
-        (result, read, units.len(), replaced)
+        let (result, read, replaced) = self.convert(src, &mut units, last, true);
+        (unreported(result), read, units.len(), replaced)
     }
 
     /// Decodes a chunk of input into UTF-16, without replacement.
@@ -456,7 +413,7 @@ impl Decoder {
             LeavesFewerBytes self.old self.new src.now result.1 }
     {
         let mut units = Utf16Slice::new(dst);
-        let (result, read) = self.convert_reporting(src, &mut units, last);
+        let (result, read, _) = self.convert(src, &mut units, last, false);
         (result, read, units.len())
     }
 
@@ -549,7 +506,8 @@ impl Decoder {
             LeavesFewerBytes self.old self.new src.now result.1 }
     {
         let mut tail = StringTail::new(dst);
-        self.convert_replacing(src, &mut tail, last)
+        let (result, read, replaced) = self.convert(src, &mut tail, last, true);
+        (unreported(result), read, replaced)
     }
 
     /// Decodes a chunk of input and appends its text to a String, without replacement.
@@ -580,6 +538,7 @@ impl Decoder {
             LeavesFewerBytes self.old self.new src.now result.1 }
     {
         let mut tail = StringTail::new(dst);
-        self.convert_reporting(src, &mut tail, last)
+        let (result, read, _) = self.convert(src, &mut tail, last, false);
+        (result, read)
     }
 }

@@ -22,9 +22,9 @@ ghost use Rattle.enc_stream.specs.Need.{EncodesByNeed, IsEnoughForEncoding, IsEn
 
 use crate::encoding::{Encoding, codec_of};
 use enc_encode::{ByteLengths, RawEncoder, VariantEncoder, byte_lengths, new_encoder};
-use enc_encoder::{LONGEST_REFERENCE, encode_mappable, encode_replacing, encode_reporting};
+use enc_encoder::{LONGEST_REFERENCE, encode_replacing, encode_reporting};
 use enc_names::EncodingId;
-use enc_units::{Chars, CoderResult, EncoderResult, Utf8Chars, Utf16Chars};
+use enc_units::{CoderResult, EncoderResult, Utf8Chars, Utf16Chars};
 use std::fmt;
 use std::marker::Model;
 
@@ -212,36 +212,6 @@ impl Encoder {
             .checked_add(self.kept())
     }
 
-    /// Encodes the characters of an input, up to an unmappable one.
-    fn encode_reporting<C: Chars>(
-        &mut self,
-        src: &mut C,
-        dst: &mut [u8],
-        last: bool,
-    ) -> (EncoderResult, usize, usize)
-        ensures { EncodesInto C.units_of Fatal self.old self.new (C.rest src.old) last
-            dst.old dst.new result.0 result.1 result.2 false }
-    {
-        encode_reporting(&mut self.raw, src, dst, last)
-    }
-
-    /// Encodes the characters of an input, with a decimal reference for each unmappable one.
-    fn encode_replacing<C: Chars>(
-        &mut self,
-        src: &mut C,
-        dst: &mut [u8],
-        last: bool,
-    ) -> (CoderResult, usize, usize, bool)
-        ensures { EncodesInto C.units_of (html_mode self.old) self.old self.new (C.rest src.old)
-            last dst.old dst.new (encoder_result_of result.0) result.1 result.2 result.3 }
-    {
-        if self.maps_every_character() {
-            let (stop, read, written) = encode_mappable(&mut self.raw, src, dst, last);
-            return (stop, read, written, false);
-        }
-        encode_replacing(&mut self.raw, src, dst, last)
-    }
-
     /// Encodes a chunk of text, with replacement.
     ///
     /// That is error mode "html" of Encoding Standard 4.1: a decimal reference is written for each
@@ -282,8 +252,9 @@ impl Encoder {
             LeavesFewerSteps self.old self.new last
             (chars src.now) (chars (drop result.1 src.now)) }
     {
+        let maps_all = self.maps_every_character();
         let mut chars = Utf8Chars::new(src);
-        self.encode_replacing(&mut chars, dst, last)
+        encode_replacing(&mut self.raw, &mut chars, dst, last, maps_all)
     }
 
     /// Encodes a chunk of UTF-16, with replacement.
@@ -311,8 +282,9 @@ impl Encoder {
             LeavesFewerSteps self.old self.new last
             (utf16_lossy_chars src.now) (utf16_lossy_chars (drop result.1 src.now)) }
     {
+        let maps_all = self.maps_every_character();
         let mut units = Utf16Chars::new(src);
-        self.encode_replacing(&mut units, dst, last)
+        encode_replacing(&mut self.raw, &mut units, dst, last, maps_all)
     }
 
     /// Encodes a chunk of text and appends its bytes to a Vec, with replacement.
@@ -426,7 +398,7 @@ impl Encoder {
             (chars src.now) (chars (drop result.1 src.now)) }
     {
         let mut chars = Utf8Chars::new(src);
-        self.encode_reporting(&mut chars, dst, last)
+        encode_reporting(&mut self.raw, &mut chars, dst, last)
     }
 
     /// Encodes a chunk of UTF-16, without replacement.
@@ -452,6 +424,6 @@ impl Encoder {
             (utf16_lossy_chars src.now) (utf16_lossy_chars (drop result.1 src.now)) }
     {
         let mut units = Utf16Chars::new(src);
-        self.encode_reporting(&mut units, dst, last)
+        encode_reporting(&mut self.raw, &mut units, dst, last)
     }
 }

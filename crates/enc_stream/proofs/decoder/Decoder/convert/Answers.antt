@@ -1,10 +1,55 @@
-use Rattle.std.proofs.Common.{refl, sym, ◌∙◌, ap, subst, take}
+use Rattle.std.proofs.Common.{◌≡◌, ℕ, List, [], Some, refl, sym, ◌∙◌, ap, subst, take}
+use Rattle.std.proofs.lemmas.Bool.{false≢true}
 use Rattle.std.proofs.Math.Seq.{take-length}
+use Rattle.enc_codec.specs.Variant.{variant_decoder_state, variant_decoder_lengths}
 use Rattle.enc_decoder.proofs.ByteLemmas.{bytes_of_slice}
 use Rattle.enc_stream.specs.Sniffing.{ExtendsHeldMark}
+use Rattle.enc_names.specs.declared.encoding_id.EncodingId.{EncodingId}
+use Rattle.enc_stream.specs.declared.life_cycle.LifeCycle.{LifeCycle}
+use Rattle.enc_stream.specs.declared.life_cycle.LifeCycle.TheVariants.{AtStart, AtUtf8Start, AtUtf16BeStart}
+use Rattle.enc_stream.specs.declared.life_cycle.LifeCycle.TheVariants.{AtUtf16LeStart, SeenUtf8First, SeenUtf8Second}
+use Rattle.enc_stream.specs.declared.life_cycle.LifeCycle.TheVariants.{SeenUtf16BeFirst, SeenUtf16LeFirst}
+use Rattle.enc_stream.specs.declared.life_cycle.LifeCycle.TheVariants.{ConvertingWithPendingBb, Converting, Finished}
+use Rattle.enc_stream.specs.LifeCycle.{life_at_prefix, mark_prefixes}
+use Rattle.enc_stream.specs.Decoding.{DecoderState, HasFormulasOf, LooksForOwnMark}
+use Rattle.enc_stream.specs.Encodings.{rule_of}
 use Rattle.enc_stream.proofs.HeldMarkLemmas.{shows_held}
+use Rattle.enc_stream.proofs.OutputFullLemmas.{converts_into}
 use Rattle.enc_stream.proofs.AfterMarkLemmas.{all_held, awaiting_goes_on, after_a_mark, after_text}
 use Rattle.enc_stream.proofs.decoder.Decoder.convert.Goals as goal
+use Rattle.enc_stream.proofs.decoder.Decoder.convert.Goals.{in-Mark, in-Text}
+
+-- a state that has read nothing changes to no other one without a byte
+in_front : (life now : LifeCycle) → life_at_prefix (mark_prefixes life) [] ≡ Some now → life ≡ now
+in_front AtStart now at_front = cc
+in_front AtUtf8Start now at_front = cc
+in_front AtUtf16BeStart now at_front = cc
+in_front AtUtf16LeStart now at_front = cc
+in_front SeenUtf8First now at_front = cc
+in_front SeenUtf8Second now at_front = cc
+in_front SeenUtf16BeFirst now at_front = cc
+in_front SeenUtf16LeFirst now at_front = cc
+in_front ConvertingWithPendingBb now at_front = cc
+in_front Converting now at_front = cc
+in_front Finished now at_front = cc
+
+-- the bytes that a search holds do not change which byte order mark is looked for
+own_stays : (id : EncodingId) (life now : LifeCycle) {x : List ℕ} → ExtendsHeldMark life now x
+    → LooksForOwnMark id life → LooksForOwnMark id now
+own_stays id life AtUtf8Start extends own =
+    subst (LooksForOwnMark id) (in_front life AtUtf8Start (extends.states [])) own
+own_stays id life AtUtf16BeStart extends own =
+    subst (LooksForOwnMark id) (in_front life AtUtf16BeStart (extends.states [])) own
+own_stays id life AtUtf16LeStart extends own =
+    subst (LooksForOwnMark id) (in_front life AtUtf16LeStart (extends.states [])) own
+own_stays id life AtStart extends own = tt
+own_stays id life SeenUtf8First extends own = tt
+own_stays id life SeenUtf8Second extends own = tt
+own_stays id life SeenUtf16BeFirst extends own = tt
+own_stays id life SeenUtf16LeFirst extends own = tt
+own_stays id life ConvertingWithPendingBb extends own = tt
+own_stays id life Converting extends own = tt
+own_stays id life Finished extends own = tt
 
 pub returns-in-Open : goal.returns-in-Open
 returns-in-Open g c =
@@ -13,35 +58,72 @@ returns-in-Open g c =
     subst (ExtendsHeldMark c.self.inside.life c.in-Open.life)
     (sym (ap (λ n. take n c.args.src.now) sniffed.0
     ∙ take-length c.args.src.now)) sniffed.3 in
-    record {
-      call = rw (← c.self.view_is, sniffed.1)
-          (all_held _ _ _ c.self.invariant.0.1 c.sniff-sniffed.ensures.within extends
-          (sym extends.awaits ∙ sniffed.2)
-          (awaiting_goes_on _ sniffed.2) sniffed.0);
-      held = rw (← c.self.view_is) (shows_held _ _ _ c.self.invariant.0.1);
-    }
+    converts_into c.laws.ensures (rw (← c.self.view_is) (shows_held _ _ _ c.self.invariant.0.1))
+    c.requires
+    (rw (← c.self.view_is, sniffed.1)
+    (all_held _ _ _ c.self.invariant.0.1 c.sniff-sniffed.ensures.within extends
+    (sym extends.awaits ∙ sniffed.2)
+    (awaiting_goes_on _ sniffed.2) sniffed.0))
 
-pub returns-in-Mark : goal.returns-in-Mark
-returns-in-Mark g c =
-    let completes = rw c.in-Mark.is at c.sniff-sniffed.ensures.sniffed in
-    record {
-      call =
-          rw (← c.self.view_is) (after_a_mark _ _ _ c.self.invariant.0.1
+pub convert_text-result-requires-clause-text : goal.convert_text-result-requires-clause-text
+convert_text-result-requires-clause-text g c = elim c.match-sniffed.branch [
+  | in-Mark w ↦
+      let fresh : w.self-in-Mark.inside.life ≡ Converting =
+      ap (λ (d : DecoderState). d.life) (w.self-in-Mark.view_is ∙ w.start.ensures) in
+      rw (w.self-inside-is, fresh) (record {
+        rules_out = λ b z e. record { no_mark = λ y. refl; no_front = λ y. refl };
+        ends = λ e awaits. absurd (false≢true awaits);
+      })
+  | in-Text w ↦
+      let sniffed = rw w.in-Text.is at c.sniff-sniffed.ensures.sniffed in
+      rw (w.self-inside-is, c.split_at.ensures.back) sniffed.1
+]
+
+pub invariant_of-self-2 : goal.invariant_of-self-2
+invariant_of-self-2 g c =
+    let inside = c.match-sniffed.self-inside in
+    let rule : rule_of inside.encoding ≡ (variant_decoder_state inside.codec).rule =
+    elim c.match-sniffed.branch [
+      | in-Mark w ↦ rw w.self-inside-is w.self-in-Mark.invariant.0.0
+      | in-Text w ↦ rw w.self-inside-is c.self.invariant.0.0
+    ] in
+    let formulas : HasFormulasOf inside.encoding inside.life
+    (variant_decoder_lengths inside.codec) =
+    elim c.match-sniffed.branch [
+      | in-Mark w ↦ rw w.self-inside-is w.self-in-Mark.invariant.1
+      | in-Text w ↦
+          let sniffed = rw w.in-Text.is at c.sniff-sniffed.ensures.sniffed in
+          rw w.self-inside-is (
+            c.self.invariant.1.0,
+            own_stays _ _ _ sniffed.0 c.self.invariant.1.1,
+          )
+    ] in (
+      (rule ∙ sym c.convert_text-result.ensures.rule, c.convert_text-result.ensures.holds),
+      (
+        formulas.0 ∙ sym c.convert_text-result.ensures.formulas,
+        c.convert_text-result.ensures.own _ formulas.1,
+      ),
+    )
+
+pub returns : goal.returns
+returns g c =
+    let inside = c.match-sniffed.self-inside in
+    converts_into c.laws.ensures (rw (← c.self.view_is) (shows_held _ _ _ c.self.invariant.0.1))
+    c.requires (elim c.match-sniffed.branch [
+      | in-Mark w ↦
+          let completes = rw w.in-Mark.is at c.sniff-sniffed.ensures.sniffed in
+          let rest = rw w.self-inside-is at (c.convert_text-result.ensures.call
+          w.self-in-Mark.inside.encoding (rw w.self-inside-is w.self-in-Mark.invariant.0.0)) in
+          rw (w.self-inside-is, ← c.self.view_is) (after_a_mark _ _ _ c.self.invariant.0.1
           c.sniff-sniffed.ensures.within completes
           (bytes_of_slice _ c.type_inv.src)
-          (rw (c.split_at.ensures.back, c.self-in-Mark.view_is, c.start.ensures) at
-          c.convert_text-result.ensures.call));
-      held = rw (← c.self.view_is) (shows_held _ _ _ c.self.invariant.0.1);
-    }
-
-pub returns-in-Text : goal.returns-in-Text
-returns-in-Text g c =
-    let sniffed = rw c.in-Text.is at c.sniff-sniffed.ensures.sniffed in
-    record {
-      call =
-          rw (← c.self.view_is) (after_text _ _ _ _ c.self.invariant.0.1
+          (rw (c.split_at.ensures.back, w.self-in-Mark.view_is, w.start.ensures) at rest))
+      | in-Text w ↦
+          let sniffed = rw w.in-Text.is at c.sniff-sniffed.ensures.sniffed in
+          let rest = rw w.self-inside-is at (c.convert_text-result.ensures.call
+          c.self.inside.encoding (rw w.self-inside-is c.self.invariant.0.0)) in
+          rw (w.self-inside-is, ← c.self.view_is) (after_text _ _ _ _ c.self.invariant.0.1
           c.sniff-sniffed.ensures.within sniffed.0 refl
           (bytes_of_slice _ c.type_inv.src)
-          (rw c.split_at.ensures.back at c.convert_text-result-in-Text.ensures.call));
-      held = rw (← c.self.view_is) (shows_held _ _ _ c.self.invariant.0.1);
-    }
+          (rw c.split_at.ensures.back at rest))
+    ])

@@ -1,12 +1,12 @@
 use Rattle.std.proofs.Common.{refl, arith, rules}
 use Rattle.enc_stream.proofs.EndOfInputLemmas.{has_finished_by}
-use Rattle.enc_stream.proofs.OutputFullLemmas.{over_slice, two_units}
+use Rattle.enc_stream.proofs.OutputFullLemmas.{over_slice, reports, two_units}
 use Rattle.enc_stream.proofs.decoder.Decoder.decode_to_utf16_without_replacement.Goals as goal
 
 pub returns-clause-call : goal.returns-clause-call
 returns-clause-call c =
-    over_slice two_units c.convert_reporting-result.ensures (rw c.new-units.ensures.len refl)
-    (rw (c.new-units.ensures.now, c.new-units.ensures.len) (omega arith)) (search rules)
+    reports (over_slice two_units c.convert-result.ensures (rw c.new-units.ensures.len refl)
+    (rw (c.new-units.ensures.now, c.new-units.ensures.len) (omega arith)) (search rules))
 
 pub returns-clause-read : goal.returns-clause-read
 returns-clause-read c = (returns-clause-call c).decodes.call.within

@@ -1,13 +1,13 @@
 use Rattle.std.proofs.Common.{refl, arith, rules}
 use Rattle.enc_units.proofs.AsciiPrefixLemmas.{text_utf8}
 use Rattle.enc_stream.proofs.EndOfInputLemmas.{has_finished_by}
-use Rattle.enc_stream.proofs.OutputFullLemmas.{over_slice, four_bytes}
+use Rattle.enc_stream.proofs.OutputFullLemmas.{over_slice, reports, four_bytes}
 use Rattle.enc_stream.proofs.decoder.Decoder.decode_to_utf8_without_replacement.Goals as goal
 
 pub returns-clause-call : goal.returns-clause-call
 returns-clause-call c =
-    over_slice four_bytes c.convert_reporting-result.ensures (rw c.new-out.ensures.len refl)
-    (rw (c.new-out.ensures.now, c.new-out.ensures.len) (omega arith)) (search rules)
+    reports (over_slice four_bytes c.convert-result.ensures (rw c.new-out.ensures.len refl)
+    (rw (c.new-out.ensures.now, c.new-out.ensures.len) (omega arith)) (search rules))
 
 pub returns-clause-read : goal.returns-clause-read
 returns-clause-read c = (returns-clause-call c).decodes.call.within

@@ -2,14 +2,14 @@ use Rattle.std.proofs.Common.{ap, refl}
 use Rattle.enc_decoder.specs.Pending.{bytes_of_pending}
 use Rattle.enc_decoder_multi_byte.specs.MultiByte.{multi_byte_state}
 use Rattle.enc_decoder_multi_byte.proofs.MultiByteComes.{at_most_three, some_pending, left_over}
-use Rattle.enc_decoder_multi_byte.proofs.multi_byte.MultiByteDecoder.left_over.Goals as goal
+use Rattle.enc_decoder_multi_byte.proofs.multi_byte.MultiByteDecoderByteCodec.at_end.Goals as goal
 
-pub returns-in_default : goal.returns-in_default
-returns-in_default g c =
+pub returns-in_default-pending : goal.returns-in_default-pending
+returns-in_default-pending g c =
     rw c.malformed.ensures.is
     (left_over g.E.MultiByte.prefix c.laws.ensures
     (λ d. multi_byte_state g.E.MultiByte.prefix (bytes_of_pending d.pending))
-    c.args.self c.malformed.result.next _ refl _ c.requires
-    (some_pending c.args.self.pending c.in_default.not-Nothing)
+    c.args.self c.malformed.result.next _ refl _ (c.in_default.ensures.incomplete refl)
+    (some_pending c.args.self.pending c.in_default-pending.not-Nothing)
     (at_most_three c.args.self.pending) c.len.ensures
     (ap (λ p. multi_byte_state g.E.MultiByte.prefix (bytes_of_pending p)) c.malformed.ensures.next))
