@@ -1,7 +1,7 @@
 use Rattle.std.proofs.Common.{take, subst, eqb-true}
 use Rattle.std.proofs.lemmas.List.{take-take}
 use Rattle.enc_units.specs.Mappings.{AreWrittenAsThemselves}
-use Rattle.enc_units.proofs.pieces.begins_with_own.Goals as goal
+use Rattle.enc_units.proofs.unit_slice.begins_with_own.Goals as goal
 
 pub returns-then-src-ge16-clause-own : goal.returns-then-src-ge16-clause-own
 returns-then-src-ge16-clause-own g c h =

@@ -1,5 +1,8 @@
-use Rattle.enc_units.proofs.PiecesLemmas.{then_rest, then_one, same_then}
-use Rattle.enc_units.proofs.utf8_slice.Utf8Slice.append_each.Goals as goal
+use Rattle.enc_units.proofs.PiecesLemmas.{start, then_rest, then_one, same_then}
+use Rattle.enc_units.proofs.unit_slice.append_each.Goals as goal
+
+pub loop-at-init : goal.loop-at-init
+loop-at-init g c = start
 
 pub loop-at-preserved-then-own-gt0 : goal.loop-at-preserved-then-own-gt0
 loop-at-preserved-then-own-gt0 g c =
@@ -17,9 +20,9 @@ returns-then-not-append_char g c =
 pub loop-at-preserved : goal.loop-at-preserved
 loop-at-preserved g c =
     let found = c.in-Some.ensures in
-    let appended = c.append_char.ensures in
-    let was_appended = c.if-not-append_char.false in
+    let written = c.append_char.ensures in
+    let was_written = c.if-not-append_char.false in
     then_one _
     (then_rest c.split_at.ensures.back c.loop-at.invariant c.append_own-own.ensures)
-    found.some found.within found.means appended.scalar appended.fits was_appended
-    (appended.written was_appended)
+    found.some found.within found.means written.scalar written.fits was_written
+    (written.written was_written)

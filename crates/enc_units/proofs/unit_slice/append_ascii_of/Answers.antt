@@ -1,5 +1,5 @@
 use Rattle.enc_units.proofs.PiecesLemmas.{start, ascii_pieces}
-use Rattle.enc_units.proofs.utf8_slice.Utf8Slice.append_ascii_of.Goals as goal
+use Rattle.enc_units.proofs.unit_slice.append_ascii_of.Goals as goal
 
 pub returns-then-not-has_ascii : goal.returns-then-not-has_ascii
 returns-then-not-has_ascii g c = start
