@@ -1,10 +1,9 @@
 //! Slices of code units that take characters one by one, and ASCII in runs.
 
-ghost use Rattle.std.specs.Prelude.{◌≡◌, ℕ, ◌≤◌, List, length, take, nat_le, IsTrue, IsFalse};
+ghost use Rattle.std.specs.Prelude.{◌≡◌, ℕ, List, length, nat_le, IsTrue, IsFalse};
 ghost use Rattle.std.specs.Char.{IsScalar};
 ghost use Rattle.enc_units.specs.AsciiRun.{PutsAscii};
 ghost use Rattle.enc_units.specs.Output.{Output, with_appended};
-ghost use Rattle.enc_units.specs.Mappings.{AreWrittenAsThemselves};
 ghost use Rattle.enc_units.specs.Pieces.{PutsPieces};
 
 use crate::gather::Gather;
@@ -45,16 +44,6 @@ pub(crate) fn append_ascii_of<U: UnitSlice, G: Gather>(out: &mut U, by: &G, src:
     out.append_ascii(src)
 }
 
-/// Returns whether the first sixteen bytes are the ASCII characters with their numbers, as far as
-/// `own_len` finds.
-#[inline(always)]
-fn begins_with_own<P: Pieces>(pieces: P, src: &[u8]) -> bool
-    ensures within { IsTrue result → 16 ≤ length src.now }
-    ensures own { IsTrue result → AreWrittenAsThemselves (P.means pieces) (take 16 src.now) }
-{
-    src.len() >= 16 && pieces.own_len(u8x16::from_slice(src)) == 16
-}
-
 /// Writes ASCII characters from the front. Returns their length in bytes.
 ///
 /// They are as many as fit, and at most sixteen if not all ASCII bytes are characters.
@@ -66,10 +55,14 @@ fn append_own<U: UnitSlice, P: Pieces>(out: &mut U, pieces: P, src: &[u8]) -> us
     if pieces.has_ascii() {
         return out.append_ascii(src);
     }
-    if !begins_with_own(pieces, src) {
+    if src.len() < 16 {
         return 0;
     }
-    out.append_ascii(&src[..16])
+    let own = pieces.own_len(u8x16::from_slice(src));
+    if own == 0 {
+        return 0;
+    }
+    out.append_ascii(&src[..own])
 }
 
 /// Writes the characters at the front one by one, but ASCII in runs. Returns their length in bytes.
