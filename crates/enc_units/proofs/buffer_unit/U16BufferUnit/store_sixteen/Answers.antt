@@ -12,4 +12,5 @@ returns-clause-stored c =
     ap (λ z. take (c.args.at + 16) (put_chunk c.args.at buffer z)) (map-id bytes)
     ∙ stored_lanes c.args.at 16 buffer bytes (omega (arith, c.fits-ascii.0)) (omega arith)
     ∙ ap (λ z. take c.args.at buffer ++ z)
-    (take_all 16 bytes (omega (arith, c.fits-ascii.0)) ∙ sym (ascii_units_16 bytes c.requires.are_ascii))
+    (take_all 16 bytes (omega (arith, c.fits-ascii.0))
+    ∙ sym (ascii_units_16 bytes c.requires.are_ascii))

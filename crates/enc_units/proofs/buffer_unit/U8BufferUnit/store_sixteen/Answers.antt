@@ -10,4 +10,5 @@ returns-clause-stored c =
     let buffer = c.args.buffer.now in
     stored_lanes c.args.at 16 buffer bytes (omega (arith, c.fits-ascii.0)) (omega arith)
     ∙ ap (λ z. take c.args.at buffer ++ z)
-    (take_all 16 bytes (omega (arith, c.fits-ascii.0)) ∙ sym (ascii_units bytes c.requires.are_ascii))
+    (take_all 16 bytes (omega (arith, c.fits-ascii.0))
+    ∙ sym (ascii_units bytes c.requires.are_ascii))
