@@ -102,24 +102,27 @@ whole_four a z s e =
 
 -- the head of the rule, by whether the sequence is whole
 
-pub whole_head : (b : ℕ) (z : List ℕ) → well_formed_tail_len b z + 1 ≡ sequence_len b
-    → utf_8_rule 0 b z ≡ record {
-      more = well_formed_tail_len b z;
-      text = scalar_of (b ∷ take (well_formed_tail_len b z) z) ∷ [];
-      kind = Valid;
-      set = 0;
-    }
-whole_head b z e = valid_head b z (well_formed_tail_len b z) refl (grind (arith, nat_tests))
+module _ (lead : ℕ) (rest : List ℕ) {more len : ℕ} {after : List ℕ} (next : after ≡ drop 1 rest)
+    (reach : more ≡ well_formed_tail_len lead after) (by_lead : len ≡ sequence_len lead) where
+  pub whole_front : more + 1 ≡ len
+      → utf_8_rule 0 lead (drop 1 rest) ≡ record {
+        more = more;
+        text = scalar_of (lead ∷ take (well_formed_tail_len lead after) after) ∷ [];
+        kind = Valid;
+        set = 0;
+      }
+  whole_front e =
+      rw (sym next, sym reach) (valid_head lead after more (sym reach) (grind (arith, nat_tests)))
 
-pub malformed_first : (b : ℕ) (z : List ℕ) → (well_formed_tail_len b z + 1 ≡ sequence_len b → ⊥)
-    → utf_8_rule 0 b z ≡ record {
-      more = well_formed_tail_len b z;
-      text = 0xFFFD ∷ [];
-      kind = Malformed;
-      set = 0;
-    }
-malformed_first b z e =
-    malformed_head b z (well_formed_tail_len b z) refl (grind (arith, nat_tests))
+  pub malformed_front : (more + 1 ≡ len → ⊥)
+      → utf_8_rule 0 lead (drop 1 rest) ≡ record {
+        more = more;
+        text = 0xFFFD ∷ [];
+        kind = Malformed;
+        set = 0;
+      }
+  malformed_front e =
+      rw (sym next) (malformed_head lead after more (sym reach) (grind (arith, nat_tests)))
 
 -- no sequence changes the designated character set
 

@@ -122,6 +122,19 @@ pub gathers_ascii : {units_of : ℕ → List ℕ} {Means : List ℕ → ℕ → 
 gathers_ascii {Means = Means} {src = src} {n = n} h alone w are_ascii e =
     gathers_own alone w (own_ascii Means (take n src) h are_ascii) e
 
+-- the same, where the code units are those of the text
+pub gathers_kept_ascii : {units_of : ℕ → List ℕ} {Means : List ℕ → ℕ → Type 0} {src : List ℕ}
+    {n : ℕ} {before after : List ℕ}
+    → ((b : ℕ) → b < 0x80 → Means (b ∷ []) b) → n ≤ length src → AreAscii (take n src)
+    → after ≡ before ++ units_of_text units_of (take n src)
+    → GathersChars units_of Means src n before after
+gathers_kept_ascii {Means = Means} {src = src} {n = n} h w are_ascii e = record {
+  text = take n src;
+  scalars = ascii_scalars (take n src) are_ascii;
+  reads = reads_own Means src n w (own_ascii Means (take n src) h are_ascii);
+  written = e;
+}
+
 pub gathers_one : {units_of : ℕ → List ℕ} {Means : List ℕ → ℕ → Type 0} {src : List ℕ} {n : ℕ}
     (c : ℕ)
     {before after : List ℕ}

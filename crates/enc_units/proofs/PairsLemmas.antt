@@ -7,15 +7,12 @@ use Rattle.std.proofs.lemmas.Bool.Decides.{nat_tests}
 use Rattle.std.proofs.lemmas.List.{get_or-take}
 use Rattle.std.proofs.Math.Nat.{div-div-eq-div-mul}
 use Rattle.std.proofs.lemmas.Nat.{pow-add}
-use Rattle.std.specs.Char.{IsScalar, encode_utf8}
-use Rattle.std.specs.Char.Escape.{encode_utf16}
-use Rattle.std.specs.Int.{w32, to_le_bytes}
+use Rattle.std.specs.Char.{IsScalar}
 use Rattle.enc_units.specs.declared.ends.TheConstants.{ENDS}
-use Rattle.enc_units.specs.Gathering.{GathersChars}
-use Rattle.enc_units.specs.Pairs.{byte_or_pair, MeansWord, MeansUnit, four_ends, end_after}
+use Rattle.enc_units.specs.Gathering.{GathersChars, StoresChar}
+use Rattle.enc_units.specs.Pairs.{byte_or_pair, four_ends, end_after}
 use Rattle.enc_units.specs.Places.{has_bit, ArePlaces}
 use Rattle.enc_units.proofs.GatherLemmas.{gathers_then, gathers_one, get_or_drop}
-use Rattle.enc_units.proofs.UnitsLemmas.{one_unit}
 
 -- a character that begins at a ends at b: it has two bytes if the bit of its first is set
 abbrev pub goes : ℕ → ℕ → ℕ → Bool
@@ -183,24 +180,13 @@ module _ (Means : List ℕ → ℕ → Type 0) (src : List ℕ) (leads read next
       (omega (arith, up.1, length-drop read src)) s
       (subst (λ z. Means z c) (sym (front_is (has_bit leads read) refl)) m) w))
 
-  -- one more character, as a word
-  pub gathers_word : {word : ℕ} {before mid after : List ℕ}
-      → MeansWord Means (byte_or_pair (has_bit leads read) first second) word
-      → GathersChars encode_utf8 Means src read before mid
-      → after ≡ mid ++ take (word / 0x100_0000) (to_le_bytes w32 word)
-      → GathersChars encode_utf8 Means src next before after
-  gathers_word {before = before} {mid = mid} {after = after} means p w =
-      gathers_front encode_utf8 means.char before mid after means.scalar means.means p
-      (w ∙ ap (λ z. mid ++ z) means.utf8)
-
-  -- one more character, as a code unit
-  pub gathers_unit : {unit : ℕ} {before mid after : List ℕ} → unit < 0x1_0000
-      → MeansUnit Means (byte_or_pair (has_bit leads read) first second) unit
-      → GathersChars encode_utf16 Means src read before mid → after ≡ mid ++ unit ∷ []
-      → GathersChars encode_utf16 Means src next before after
-  gathers_unit {unit} {before} {mid} {after} l means p w =
-      gathers_front encode_utf16 unit before mid after means.scalar means.means p
-      (w ∙ ap (λ z. mid ++ z) (sym (one_unit unit l)))
+  -- one more character
+  pub gathers_stored : {units_of : ℕ → List ℕ} {before mid after : List ℕ}
+      → StoresChar units_of Means (byte_or_pair (has_bit leads read) first second) mid after
+      → GathersChars units_of Means src read before mid
+      → GathersChars units_of Means src next before after
+  gathers_stored {units_of} {before} {mid} {after} one p =
+      gathers_front units_of one.char before mid after one.scalar one.means p one.stored
 
 -- places
 

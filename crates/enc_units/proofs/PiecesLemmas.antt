@@ -4,11 +4,12 @@ use Rattle.std.proofs.Common.{sym, subst, arith, append_assoc, append-nil, lengt
 use Rattle.std.proofs.Common.{length-take, Bool}
 use Rattle.std.proofs.lemmas.Bool.Decides.{nat_tests}
 use Rattle.std.proofs.lemmas.List.{take-take}
+use Rattle.std.proofs.lemmas.List.Elements.{All-take}
 use Rattle.std.specs.Char.{IsScalar}
 use Rattle.enc_units.specs.Output.{Output, with_appended, units_of_text}
 use Rattle.enc_units.specs.Validity.{AreAscii}
 use Rattle.enc_units.specs.AsciiRun.{PutsAscii}
-use Rattle.enc_units.specs.Mappings.{AreWrittenAsThemselves}
+use Rattle.enc_units.specs.Mappings.{AreWrittenAsThemselves, IsWrittenAsItself}
 use Rattle.enc_units.specs.Pieces.{Piece, piece_bytes, piece_chars, EachMeansChar, ReadsPieces, PutsPieces}
 use Rattle.enc_units.proofs.OutputLemmas.{with_appended-nil, with_appended-with_appended, room_left}
 use Rattle.enc_units.proofs.ScalarLemmas.{one_scalar, scalars-append, ascii_scalars}
@@ -175,24 +176,6 @@ ascii_pieces {Means = Means} {src = src} {n = n} h puts = record {
   written = puts.written;
 }
 
--- bytes that are the ASCII characters with their numbers
-pub own_pieces : {units_of : ℕ → List ℕ} {Means : List ℕ → ℕ → Type 0} {before after : Output}
-    {src : List ℕ} {n : ℕ}
-    → ((bs : List ℕ) → AreAscii bs → units_of_text units_of bs ≡ bs) → n ≤ length src
-    → AreWrittenAsThemselves Means (take n src) → n ≤ before.room
-    → after ≡ with_appended before (take n src)
-    → PutsPieces units_of Means before after src n
-own_pieces {Means = Means} {before = before} {src = src} {n = n} alone w own f e =
-    let are_ascii : AreAscii (take n src) = λ k d l. (own k d l).0 in
-    let units = alone (take n src) are_ascii in
-    record {
-      text = take n src;
-      scalars = ascii_scalars (take n src) are_ascii;
-      reads = reads_own Means src n w own;
-      fits = omega (arith, ap length units, length-take n src);
-      written = e ∙ ap (with_appended before) (sym units);
-    }
-
 -- one piece
 pub one_piece : {units_of : ℕ → List ℕ} {Means : List ℕ → ℕ → Type 0} {before after : Output}
     {src : List ℕ} {n : ℕ}
@@ -255,6 +238,21 @@ puts_wider {Means = Means} {src = src} m {n} e puts = record {
   fits = puts.fits;
   written = puts.written;
 }
+
+-- bytes among the first m, which are the ASCII characters with their numbers
+pub own_pieces : {units_of : ℕ → List ℕ} {Means : List ℕ → ℕ → Type 0} {before after : Output}
+    {src : List ℕ} (m : ℕ) {n : ℕ}
+    → AreWrittenAsThemselves Means (take m src) → PutsAscii units_of before after (take m src) n
+    → PutsPieces units_of Means before after src n
+own_pieces {Means = Means} {src = src} m {n} own puts =
+    let front = take m src in
+    puts_wider m refl record {
+      text = take n front;
+      scalars = ascii_scalars (take n front) puts.ascii;
+      reads = reads_own Means front n puts.within (All-take (IsWrittenAsItself Means) n front own);
+      fits = puts.fits;
+      written = puts.written;
+    }
 
 -- a piece that was found is put out after them
 module _ {units_of : ℕ → List ℕ} {Means : List ℕ → ℕ → Type 0} {before mid after : Output}

@@ -1,15 +1,19 @@
 -- What an output in UTF-8 shows.
 use Rattle.std.proofs.Common.{◌≡◌, ℕ, suc, ◌+◌, ◌-◌, ◌≤◌, List, [], ◌∷◌, ◌++◌, length, take, drop, refl, ap, ◌∙◌, sym}
-use Rattle.std.proofs.Common.{arith, append_assoc, append-nil, length-append, length-take, length-drop}
+use Rattle.std.proofs.Common.{◌<◌, inl, inr, arith, append_assoc, append-nil, length-append, length-take, length-drop}
+use Rattle.std.proofs.lemmas.Bool.{cases_lt}
 use Rattle.std.proofs.lemmas.List.{take_all}
 use Rattle.std.proofs.lemmas.Str.{encode_ascii}
 use Rattle.std.proofs.Math.ListN.{drop_of_length-le}
 use Rattle.std.proofs.Math.Seq.{take-append_seam, drop-append_seam}
 use Rattle.std.specs.Borrow.{GName}
+use Rattle.std.specs.Prelude.{slice_index}
 use Rattle.std.specs.Char.{encode_utf8}
 use borrow.Rule.Slice.PartMut.{put_mid}
+use Rattle.enc_units.specs.AsciiRun.{PutsAscii}
 use Rattle.enc_units.specs.Output.{with_appended, units_of_text, slice_output}
 use Rattle.enc_units.specs.Validity.{AreAscii}
+use Rattle.enc_units.proofs.AsciiLemmas.{ascii_one}
 use Rattle.enc_units.proofs.OutputLemmas.{same_output}
 
 -- ASCII bytes are their own code units
@@ -73,6 +77,46 @@ module _ (len n : ℕ) (dst src new : List ℕ) (borrow : GName) (within : len �
       (ap (drop (len + n)) whole
       ∙ seam_drop (len + n) (take len dst ++ take n src) (drop n (drop len dst)) long
       ∙ ap (λ m. drop m (drop len dst)) (omega (arith, length-take n src)))
+
+-- ASCII at the front, as much as fits, is stored after the first elements of a slice
+module _ (len n : ℕ) (dst src new : List ℕ) (borrow : GName) (within : len ≤ length dst)
+    (read : n ≤ length src) where
+  abbrev rest : List ℕ
+  rest = take (length dst - len) (drop len dst)
+
+  rest_long : length rest ≡ length dst - len
+  rest_long = omega (
+    arith,
+    length-take (length dst - len) (drop len dst),
+    length-drop len dst,
+  )
+
+  pub puts_ascii : {units_of : ℕ → List ℕ}
+      → ((bs : List ℕ) → AreAscii bs → units_of_text units_of bs ≡ bs)
+      → n ≤ length rest → AreAscii (take n src)
+      → (n < length src → n < length rest → 0x80 ≤ slice_index src n)
+      → new ≡ take n src ++ drop n rest
+      → PutsAscii units_of (slice_output len dst borrow)
+      (slice_output (len + n) (put_mid len (length dst - len) dst new) borrow) src n
+  puts_ascii alone fits ascii ends stored =
+      let units = alone (take n src) ascii in
+      let room : n ≤ length dst - len = omega (arith, fits, rest_long) in
+      record {
+        within = read;
+        ascii = ascii;
+        fits = omega (arith, ap length units, length-take n src, room);
+        written = grown len n dst src new borrow within read room stored
+            ∙ ap (with_appended (slice_output len dst borrow)) (sym units);
+        longest = λ more low. elim (cases_lt n (length dst - len)) [
+          | inl l ↦ absurd (omega (arith, ends more (omega (arith, rest_long, l)), low))
+          | inr g ↦ omega (
+            arith,
+            ap length (alone (take (n + 1) src) (ascii_one n src ascii more low)),
+            length-take (n + 1) src,
+            g,
+          )
+        ];
+      }
 
 -- the same where as many bytes take the place of those there
 module _ (len n : ℕ) (dst ys : List ℕ) (borrow : GName) (within : len + n ≤ length dst)

@@ -20,7 +20,7 @@ pub(crate) const SHORT: usize = 64;
 pub(crate) const BUFFER: usize = 304;
 
 /// The length of a buffer of code units.
-pub(crate) const UNITS_BUFFER: usize = 144;
+pub(crate) const UNITS_BUFFER: usize = 164;
 
 /// A turn writes at most this number of bytes, if characters are collected one by one.
 const STEP: usize = 16;

@@ -149,16 +149,6 @@ pub trait Pieces: Copy {
     }
 }
 
-/// Returns whether the first sixteen bytes are the ASCII characters with their numbers, as far as
-/// `own_len` finds.
-#[inline(always)]
-pub(crate) fn begins_with_own<P: Pieces>(pieces: P, src: &[u8]) -> bool
-    ensures within { IsTrue result → 16 ≤ length src.now }
-    ensures own { IsTrue result → AreWrittenAsThemselves (P.means pieces) (take 16 src.now) }
-{
-    src.len() >= 16 && pieces.own_len(u8x16::from_slice(src)) == 16
-}
-
 /// Writes characters from the front of `src`, as `put_pieces` of the output does.
 ///
 /// Returns their length in bytes. Takes no memory. It is a function of its own, so that the loop

@@ -11,8 +11,9 @@ use crate::code_units::CodeUnits;
 use crate::gather::{Gather, SHORT, UNITS_BUFFER};
 use crate::laws::utf_16_units_determine_a_text;
 use crate::pairs::Pairs;
-use crate::pieces::{Pieces, begins_with_own};
+use crate::pieces::Pieces;
 use crate::single_bytes::SingleBytes;
+use crate::unit_slice::{UnitSlice, append_ascii_of, append_each};
 use crate::units::Units;
 use crate::utf8::{char_len, utf8_front};
 use crate::utf8_pieces::Utf8Pieces;
@@ -52,41 +53,6 @@ impl<'a> Utf16Slice<'a> {
         self.len
     }
 
-    /// Writes a character and returns true, or writes nothing and returns false if it does not fit.
-    ///
-    /// One code unit is a case by itself, so that the compiler knows how many it stores.
-    #[inline(always)]
-    fn append(&mut self, c: char) -> bool
-        ensures fits { result ≡ nat_le (length (encode_utf16 c))
-            (length self.old.dst.now - self.old.len) }
-        ensures scalar { IsScalar c }
-        ensures written { IsTrue result
-            → borrowed_output self.new.len self.new.dst ≡ with_appended
-            (borrowed_output self.old.len self.old.dst) (encode_utf16 c) }
-        ensures unchanged { IsFalse result
-            → borrowed_output self.new.len self.new.dst
-            ≡ borrowed_output self.old.len self.old.dst }
-    {
-        let scalar = c as u32;
-        if scalar < 0x10000 {
-            return self.append_units(&[scalar as u16]);
-        }
-        let mut units = [0; 2];
-        let text = c.encode_utf16(&mut units);
-        self.append_units(text)
-    }
-
-    /// Writes the ASCII at the front, as much as fits, and returns its length.
-    #[inline(always)]
-    fn append_ascii(&mut self, src: &[u8]) -> usize
-        ensures { PutsAscii encode_utf16 (borrowed_output self.old.len self.old.dst)
-            (borrowed_output self.new.len self.new.dst) src.now result }
-    {
-        let len = widen_ascii(src, &mut self.dst[self.len..]);
-        self.len += len;
-        len
-    }
-
     /// Writes code units and returns true, or writes nothing and returns false if they do not fit.
     #[inline(always)]
     fn append_units(&mut self, units: &[u16]) -> bool
@@ -107,20 +73,6 @@ impl<'a> Utf16Slice<'a> {
         true
     }
 
-    /// Writes the ASCII at the front, as much as fits, if ASCII bytes are characters. Returns its
-    /// length.
-    #[inline(always)]
-    fn append_ascii_of<G: Gather>(&mut self, by: &G, src: &[u8]) -> usize
-        ensures { PutsPieces encode_utf16 (G.means by.now)
-            (borrowed_output self.old.len self.old.dst)
-            (borrowed_output self.new.len self.new.dst) src.now result }
-    {
-        if !by.has_ascii() {
-            return 0;
-        }
-        self.append_ascii(src)
-    }
-
     /// Writes ASCII, and characters collected in a buffer, until none are found. Returns their
     /// length in bytes.
     #[inline(always)]
@@ -133,7 +85,7 @@ impl<'a> Utf16Slice<'a> {
         let mut at = 0;
         loop {
             let (_, rest) = src.split_at(at);
-            at += self.append_ascii_of(by, rest);
+            at += append_ascii_of(self, by, rest);
             let (_, unread) = src.split_at(at);
             let (read, written) = by.gather_units(buffer, self.dst.len() - self.len, unread);
             if read == 0 {
@@ -193,7 +145,7 @@ impl<'a> Utf16Slice<'a> {
     /// Writes the character at the front, if it is well-formed UTF-8 and fits. Returns its length
     /// in bytes.
     #[inline(always)]
-    fn append_char(&mut self, src: &[u8]) -> usize
+    fn append_first(&mut self, src: &[u8]) -> usize
         ensures { PutsPieces encode_utf16 IsUtf8Char (borrowed_output self.old.len self.old.dst)
             (borrowed_output self.new.len self.new.dst) src.now result }
     {
@@ -203,7 +155,7 @@ impl<'a> Utf16Slice<'a> {
         let Some((character, len)) = (Utf8Pieces {}).piece(src, 0) else {
             return 0;
         };
-        if !self.append(character) {
+        if !self.append_char(character) {
             return 0;
         }
         len
@@ -217,7 +169,7 @@ impl<'a> Utf16Slice<'a> {
             (borrowed_output self.new.len self.new.dst) src.now result }
     {
         if is_nearly_ascii(src) {
-            return self.append_char(src);
+            return self.append_first(src);
         }
         self.append_part(src)
     }
@@ -236,64 +188,35 @@ impl<'a> Utf16Slice<'a> {
             at += taken;
             let (_, next) = src.split_at(at);
             if taken == 0 {
-                return at + self.append_each(Utf8Pieces {}, next);
+                return at + append_each(self, Utf8Pieces {}, next);
             }
             at += self.append_ascii(next);
         }
     }
+}
 
-    /// Writes ASCII characters from the front. Returns their length in bytes.
-    ///
-    /// They are as many as fit, or sixteen if not all ASCII bytes are characters.
+impl<'a> UnitSlice for Utf16Slice<'a> {
+    ghost units_of = { encode_utf16 };
+
+    ghost output = { λ s. borrowed_output s.len s.dst };
+
+    /// One code unit is a case by itself, so that the compiler knows how many it stores.
     #[inline(always)]
-    fn append_own<P: Pieces>(&mut self, pieces: P, src: &[u8]) -> usize
-        ensures { PutsPieces encode_utf16 (P.means pieces)
-            (borrowed_output self.old.len self.old.dst)
-            (borrowed_output self.new.len self.new.dst) src.now result }
-    {
-        if pieces.has_ascii() {
-            return self.append_ascii(src);
+    fn append_char(&mut self, c: char) -> bool {
+        let scalar = c as u32;
+        if scalar < 0x10000 {
+            return self.append_units(&[scalar as u16]);
         }
-        if !begins_with_own(pieces, src) {
-            return 0;
-        }
-        let mut units = [0; 16];
-        u8x16::from_slice(src)
-            .cast::<u16>()
-            .copy_to_slice(&mut units);
-        if !self.append_units(&units) {
-            return 0;
-        }
-        16
+        let mut units = [0; 2];
+        let text = c.encode_utf16(&mut units);
+        self.append_units(text)
     }
 
-    /// Writes the characters at the front one by one, but ASCII in runs. Returns their length in
-    /// bytes.
-    ///
-    /// It stops where no character is known to begin, or the next one does not fit.
     #[inline(always)]
-    fn append_each<P: Pieces>(&mut self, pieces: P, src: &[u8]) -> usize
-        ensures { PutsPieces encode_utf16 (P.means pieces)
-            (borrowed_output self.old.len self.old.dst)
-            (borrowed_output self.new.len self.new.dst) src.now result }
-    {
-        let mut at = 0;
-        while at < src.len() {
-            let (_, rest) = src.split_at(at);
-            let own = self.append_own(pieces, rest);
-            at += own;
-            if own > 0 {
-                continue;
-            }
-            let Some((character, len)) = pieces.piece(src, at) else {
-                return at;
-            };
-            if !self.append(character) {
-                return at;
-            }
-            at += len;
-        }
-        at
+    fn append_ascii(&mut self, src: &[u8]) -> usize {
+        let len = widen_ascii(src, &mut self.dst[self.len..]);
+        self.len += len;
+        len
     }
 }
 
@@ -324,7 +247,7 @@ impl<'a> Units for Utf16Slice<'a> {
 
     #[inline(always)]
     fn put(&mut self, c: char) -> bool {
-        self.append(c)
+        self.append_char(c)
     }
 
     #[inline(always)]
@@ -347,6 +270,6 @@ impl<'a> Units for Utf16Slice<'a> {
     fn put_pieces<P: Pieces>(&mut self, pieces: P, src: &[u8]) -> usize {
         let at = self.append_run(pieces, src);
         let (_, rest) = src.split_at(at);
-        at + self.append_each(pieces, rest)
+        at + append_each(self, pieces, rest)
     }
 }

@@ -1,44 +1,35 @@
 use Rattle.std.proofs.Common.{◌+◌, ◌%◌, ◌/◌, ◌^◌, get_or, ◌≡◌, ◌∙◌, refl, arith}
 use Rattle.enc_units.proofs.GatherLemmas.{gathers_nothing}
-use Rattle.enc_units.proofs.PairsLemmas.{goes_up, end_goes, end_next, gathers_word, place_of_next}
+use Rattle.enc_units.proofs.PairsLemmas.{goes_up, end_goes, end_next, gathers_stored, place_of_next}
 use Rattle.enc_units.proofs.pairs.store_four.Goals as goal
 
 pub loop-count-init : goal.loop-count-init
 loop-count-init g c =
     (omega arith, refl, omega arith, omega arith, refl, λ src long are. gathers_nothing refl)
 
-pub word_at-word-requires : goal.word_at-word-requires
-word_at-word-requires g c =
+pub store_place-requires-clause-place : goal.store_place-requires-clause-place
+store_place-requires-clause-place g c =
     c.requires.places (c.args.from + c.loop-count.read) (omega (arith, c.loop-count.invariant.2))
-
-pub store_word-end-requires-clause-bound : goal.store_word-end-requires-clause-bound
-store_word-end-requires-clause-bound g c =
-    let known = c.requires.places (c.args.from + c.loop-count.read)
-    (omega (arith, c.loop-count.invariant.2)) in
-    (c.word_at-word.ensures (omega arith) known.0 known.1).bound
 
 pub loop-count-preserved : goal.loop-count-preserved
 loop-count-preserved g c =
     let invariant = c.loop-count.invariant in
     let read = c.loop-count.read in
-    let stored = c.store_word-end.ensures in
+    let stored = c.in-Some.ensures in
     let next : get_or c.ends_of-ends.result c.loop-count.count 0
     ≡ c.loop-count.read + 1 + c.args.leads / 2 ^ c.loop-count.read % 2 =
     end_goes c.args.leads c.loop-count.count _ _ c.ends_of-ends.ensures c.loop-count-test.true
     invariant.1 (omega (arith, invariant.2)) in
-    let up = goes_up (c.args.leads / 2 ^ read) next in
-    let known = c.requires.places (c.args.from + read) (omega (arith, invariant.2)) in
-    let is_word = c.word_at-word.ensures (omega arith) known.0 known.1 in (
+    let up = goes_up (c.args.leads / 2 ^ read) next in (
       omega arith,
       end_next c.ends_of-ends.result c.loop-count.count,
       omega (arith, invariant.2, up.1),
-      omega (arith, invariant.3, stored.end, is_word.bound),
+      omega (arith, invariant.3, stored.bound),
       stored.len ∙ invariant.4,
-      λ src long are. gathers_word _ src c.args.leads read _ next
+      λ src long are. gathers_stored _ src c.args.leads read _ next
           (omega (arith, invariant.2, long))
-          (c.word_at-word.ensures (omega arith) _
+          (stored.stored _
           (place_of_next (g.P.Pieces.stands_for c.args.pieces) c.args.places.now c.args.leads src
           c.args.from read (omega (arith, invariant.2)) are))
-          (invariant.5 src long are)
-          stored.stored,
+          (invariant.5 src long are),
     )
